@@ -1,0 +1,3 @@
+-- The definitions of the bit reader.
+pub mod Bits
+pub mod BitLists

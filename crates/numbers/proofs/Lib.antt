@@ -1,0 +1,3 @@
+-- Laws about the definitions of numbers, for the crates above.
+pub mod OrderLaws
+pub mod LeastLaws

@@ -1,0 +1,61 @@
+// Small functions on unsigned numbers that the other crates share.
+ghost use mathlib.Core.Path.{_≡_};
+ghost use mathlib.Core.Bool.{xor};
+ghost use Prim.Native.Nat.{_-_, _≤_, min, max};
+ghost use Rattle.numbers.specs.Numbers.{distance, minus, flag};
+
+// A number as its sign and its size.
+pub struct Signed {
+    pub negative: bool,
+    pub size: u32,
+}
+
+// |a - b|
+pub fn distance(a: u32, b: u32) -> u32
+    ensures { λ r. ⌜ r ≡ distance a b ⌝ }
+{
+    if a < b { b - a } else { a - b }
+}
+
+// a - b
+pub fn difference(a: u32, b: u32) -> Signed
+    ensures { λ r. ⌜ r ≡ minus a b ⌝ }
+{
+    Signed {
+        negative: a < b,
+        size: distance(a, b),
+    }
+}
+
+pub fn larger(a: u32, b: u32) -> u32
+    ensures { λ r. ⌜ r ≡ max a b ⌝ }
+{
+    if a < b { b } else { a }
+}
+
+pub fn smaller(a: u32, b: u32) -> u32
+    ensures { λ r. ⌜ (r ≡ min a b) × (r ≤ a) ⌝ }
+{
+    if a < b { a } else { b }
+}
+
+// a - b, or 0 where b is more.
+pub fn saturating_sub(a: u32, b: u32) -> u32
+    ensures { λ r. ⌜ r ≡ a - b ⌝ }
+{
+    if a < b { 0 } else { a - b }
+}
+
+// A test as a number, so that tests can be added without a branch.
+pub fn flag(b: bool) -> u32
+    ensures { λ r. ⌜ (r ≡ flag b) × (r ≤ 1) ⌝ }
+{
+    b as u32
+}
+
+// One of the two holds and the other does not.
+pub fn differ(a: bool, b: bool) -> bool
+    ensures { λ r. ⌜ r ≡ xor a b ⌝ }
+{
+    if a { !b } else { b }
+}

@@ -1,0 +1,2 @@
+-- Laws about the definitions of prediction.
+pub mod PredictionLaws

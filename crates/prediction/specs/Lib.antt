@@ -1,0 +1,2 @@
+-- The definitions of the prediction.
+pub mod Predictions

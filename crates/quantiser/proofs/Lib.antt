@@ -1,0 +1,3 @@
+-- Laws about the definitions of quantiser.
+pub mod QuantiserLaws
+pub mod GradientLaws

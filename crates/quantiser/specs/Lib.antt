@@ -1,0 +1,2 @@
+-- The definitions of the quantisers.
+pub mod Quantisers

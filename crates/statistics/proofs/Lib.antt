@@ -1,0 +1,2 @@
+-- Laws about the definitions of statistics.
+pub mod RecordLaws

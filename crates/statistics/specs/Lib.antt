@@ -1,0 +1,2 @@
+-- The definitions of the adaptive statistics.
+pub mod Statistics

@@ -1,0 +1,47 @@
+// The adaptive statistics: a record gives the number k of a code's low bits, and each residual changes it.
+ghost use mathlib.Core.Path.{_≡_};
+ghost use Prim.Native.Nat.{_+_, _-_, _*_, _^_, _≤_, _<_};
+ghost use Rattle.numbers.specs.Numbers.{leastFrom};
+ghost use Rattle.statistics.specs.Statistics.{enough, kOf, updated, largestResidual, InRange};
+
+// The sizes of the residuals so far, and their number; both are halved when 64 are counted.
+pub struct Record {
+    pub sum: u32,
+    pub n: u32,
+}
+
+// The least number from k on, capped at 15, with n * 2^k >= sum. n is not 0, so that a sum of 0 counts as 1.
+fn k_from(sum: u32, n: u32, k: u32) -> u32
+    requires { ⌜ (k ≤ 15) × ((1 ≤ n) × (n ≤ 64)) ⌝ }
+    ensures { λ r. ⌜ r ≡ leastFrom (15 - k) (enough sum n) k ⌝ }
+{
+    if k == 15 {
+        return 15;
+    }
+    if sum <= n << k {
+        return k;
+    }
+    k_from(sum, n, k + 1)
+}
+
+impl Record {
+    // The k of the record.
+    pub fn k(self) -> u32
+        requires { ⌜ (1 ≤ self .n) × (self .n ≤ 64) ⌝ }
+        ensures { λ r. ⌜ (r ≡ kOf self) × (r ≤ 15) ⌝ }
+    {
+        k_from(self.sum, self.n, 0)
+    }
+
+    // The record after a residual of that size. `halved` is 1 where both are to be halved, so that there is no branch.
+    pub fn update(self, size: u32) -> Record
+        requires { ⌜ InRange self × (size ≤ largestResidual) ⌝ }
+        ensures { λ t. ⌜ (t ≡ updated self size) × InRange t ⌝ }
+    {
+        let halved = numbers::flag(self.n == 64);
+        Record {
+            sum: (self.sum + size) >> halved,
+            n: (self.n >> halved) + 1,
+        }
+    }
+}
