@@ -1,6 +1,6 @@
 // Small functions on unsigned numbers that the other crates share.
 ghost use mathlib.Core.Path.{_≡_};
-ghost use mathlib.Core.Bool.{xor};
+ghost use mathlib.Core.Bool.{cond, xor};
 ghost use Prim.Native.Nat.{_-_, _≤_, min, max};
 ghost use Rattle.numbers.specs.Numbers.{distance, minus, flag};
 
@@ -51,6 +51,13 @@ pub fn flag(b: bool) -> u32
     ensures { λ r. ⌜ (r ≡ flag b) × (r ≤ 1) ⌝ }
 {
     b as u32
+}
+
+// One of two numbers that are both at hand: LLVM makes a conditional move of it and no branch.
+pub fn pick(test: bool, a: u32, b: u32) -> u32
+    ensures { λ r. ⌜ r ≡ cond test a b ⌝ }
+{
+    if test { a } else { b }
 }
 
 // One of the two holds and the other does not.

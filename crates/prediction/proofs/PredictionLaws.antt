@@ -10,14 +10,19 @@ use Rattle.numbers.proofs.OrderLaws.{split, cond-le}
 use Rattle.prediction.specs.Predictions.{most, droppedOf, evenPrediction, extreme, oddPrediction}
 
 -- a is more than both others exactly where it is more than the larger of them
-pub most-true : (a b c : ℕ) → max b c < a → most a b c ≡ true
-most-true a b c h = rw (lt-ltb b a (omega arith), lt-ltb c a (omega arith))
-
-pub most-false : (a b c : ℕ) → a ≤ max b c → most a b c ≡ false
-most-false a b c h =
+pub most-is : (a b c : ℕ) → ltb (max b c) a ≡ most a b c
+most-is a b c =
     split a b
-    (λ k. rw (le-ltb b a k))
-    (λ k. rw (lt-ltb b a k, le-ltb c a (omega arith)))
+    (λ h. rw (le-ltb (max b c) a (omega arith), le-ltb b a h))
+    (λ h. split a c
+    (λ k. rw (le-ltb (max b c) a (omega arith), lt-ltb b a h, le-ltb c a k))
+    (λ k. rw (lt-ltb (max b c) a (omega arith), lt-ltb b a h, lt-ltb c a k)))
+
+-- what is dropped is one of the three
+pub dropped-le : (rf rc rd : ℕ) (s t : Bool) → cond s rc (cond t rd rf) ≤ rf + rc + rd
+dropped-le rf rc rd true t = omega arith
+dropped-le rf rc rd false true = omega arith
+dropped-le rf rc rd false false = omega arith
 
 -- one of three is dropped, and what is left of the three is at most twice their bound
 kept-le : (m rf rc rd : ℕ) (s t : Bool) → rf ≤ m → rc ≤ m → rd ≤ m → rf + rc + rd - cond s rc (cond t rd rf) ≤ 2 * m

@@ -11,17 +11,12 @@ pub struct Context {
     pub second: Signed,
 }
 
-// The one of rf, rc and rd that is left out; f, c and d are their distances from rb.
+// The one of rf, rc and rd that is left out; f, c and d are their distances from rb. Which one it is cannot be foretold, so there is no branch.
 fn dropped(rf: u32, rc: u32, rd: u32, f: u32, c: u32, d: u32) -> u32
     ensures { λ r. ⌜ (r ≡ droppedOf rf rc rd f c d) × (r ≤ rf + rc + rd) ⌝ }
 {
-    if numbers::larger(f, d) < c {
-        return rc;
-    }
-    if numbers::larger(f, c) < d {
-        return rd;
-    }
-    rf
+    let other = numbers::pick(numbers::larger(f, c) < d, rd, rf);
+    numbers::pick(numbers::larger(f, d) < c, rc, other)
 }
 
 fn even_prediction(rf: u32, rc: u32, rb: u32, rd: u32) -> u32
@@ -56,10 +51,8 @@ fn odd_prediction(ra: u32, rg: u32, rb: u32, rc: u32, rd: u32) -> u32
     requires { ⌜ (ra < 2 ^ 16) × ((rg < 2 ^ 16) × (rb < 2 ^ 16)) ⌝ }
     ensures { λ r. ⌜ (r ≡ oddPrediction ra rg rb rc rd) × (r < 2 ^ 16) ⌝ }
 {
-    if is_extreme(rb, rc, rd) {
-        return (ra + rg + 2 * rb) / 4;
-    }
-    (ra + rg) / 2
+    let beyond = (ra + rg + 2 * rb) / 4;
+    numbers::pick(is_extreme(rb, rc, rd), beyond, (ra + rg) / 2)
 }
 
 // The context of a sample at an odd position.

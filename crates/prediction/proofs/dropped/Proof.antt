@@ -1,34 +1,24 @@
 -- `prediction::dropped` meets its contract: a number is strictly the most where it is above the larger of the others. Assumes nothing.
 use borrow.Author.Needs.{needs}
+use mathlib.Core.Bool.{cond}
 use mathlib.Core.Path.{_≡_}
-use Prim.Native.Nat.{ℕ, _≤_, _<_, max}
-use native.Mathlib.Omega.{arith}
+use Prim.Native.Nat.{ℕ, _+_, _≤_, max}
+use lib.Dec.{ltb}
 use Rattle.prediction.specs.Predictions.{most, droppedOf}
-use Rattle.prediction.proofs.PredictionLaws.{most-true, most-false}
+use Rattle.prediction.proofs.PredictionLaws.{most-is, dropped-le}
 use Rattle.prediction.proofs.dropped.Statement.{statement}
 use Rattle.prediction.proofs.dropped.Tie as tie
 
-drops-rc : (rf rc rd f c d m : ℕ) → m ≡ max f d → m < c → rc ≡ droppedOf rf rc rd f c d
-drops-rc rf rc rd f c d m e h = rw (most-true c f d (omega arith))
-
-drops-rd : (rf rc rd f c d m n : ℕ) → m ≡ max f d → c ≤ m → n ≡ max f c → n < d → rd ≡ droppedOf rf rc rd f c d
-drops-rd rf rc rd f c d m n e h g k = rw (most-false c f d (omega arith), most-true d f c (omega arith))
-
-drops-rf : (rf rc rd f c d m n : ℕ) → m ≡ max f d → c ≤ m → n ≡ max f c → d ≤ n → rf ≡ droppedOf rf rc rd f c d
-drops-rf rf rc rd f c d m n e h g k = rw (most-false c f d (omega arith), most-false d f c (omega arith))
+picked : (rf rc rd f c d m n x r : ℕ) → m ≡ max f c → x ≡ cond (ltb m d) rd rf → n ≡ max f d → r ≡ cond (ltb n c) rc x
+    → (r ≡ droppedOf rf rc rd f c d) × (r ≤ rf + rc + rd)
+picked rf rc rd f c d m n x r em ex en er =
+    let e : r ≡ droppedOf rf rc rd f c d = rw (er, ex, em, en, most-is d f c, most-is c f d) in
+    (e, rw e (dropped-le rf rc rd (most c f d) (most d f c)))
 
 returns : tie.Need-returns
-returns c = (drops-rc _ _ _ _ _ _ _ (c .before .larger .ensures) (c .if1 .taken), search needs)
-
-returns-2 : tie.Need-returns-2
-returns-2 c =
-    let b = c .before .before in
-    (drops-rd _ _ _ _ _ _ _ _ (b .before .larger .ensures) (b .if1 .left) (c .before .larger2 .ensures) (c .if2 .taken), search needs)
-
-returns-3 : tie.Need-returns-3
-returns-3 c =
-    let b = c .before .before in
-    (drops-rf _ _ _ _ _ _ _ _ (b .before .larger .ensures) (b .if1 .left) (c .before .larger2 .ensures) (c .if2 .left), search needs)
+returns c =
+    picked _ _ _ _ _ _ _ _ _ _ (c .before .before .before .larger .ensures) (c .before .before .pick .ensures) (c .before .larger2 .ensures) (c .pick2 .ensures)
 
 pub dropped-spec : {M : Type 1} → statement M
-dropped-spec = tie.close (tie.spec (λ c κs. search needs) returns (λ c κs. search needs) returns-2 returns-3)
+dropped-spec =
+    tie.close (tie.spec (λ c κs. search needs) (λ c κs. search needs) (λ c κs. search needs) (λ c κs. search needs) returns)

@@ -1,0 +1,69 @@
+-- The worked cases that are marked for proof, as one table of equations on the definitions. Assumes nothing.
+use mathlib.Core.Bool.{Bool, true, false}
+use mathlib.Core.List.{List, [], _∷_}
+use mathlib.Core.Path.{_≡_}
+use Prim.Native.Nat.{ℕ}
+use Rattle.numbers.specs.declared.Signed.{Signed}
+use Rattle.statistics.specs.Statistics.{kOf, updated}
+use Rattle.statistics.specs.declared.Record.{Record}
+use Rattle.quantiser.specs.Quantisers.{mainOf, flatOf, startSum, levelOf, gradientOf}
+use Rattle.prediction.specs.Predictions.{evenPrediction, oddPrediction}
+use Rattle.code.specs.Codes.{codeAt}
+use Rattle.code.specs.Samples.{sampleOf}
+use Rattle.code.specs.Tight.{isTight}
+use Rattle.code.specs.declared.Code.{Code}
+use Rattle.code.specs.declared.Coded.{Coded}
+use Rattle.code.specs.declared.Coded.the-variants.{Read}
+
+abbrev pub stat : ℕ → ℕ → Record
+stat sum n = record { sum = sum; n = n }
+
+abbrev pub plus : ℕ → Signed
+plus n = record { negative = false; size = n }
+
+abbrev pub minus : ℕ → Signed
+minus n = record { negative = true; size = n }
+
+-- case h: a one bit and eight ones, then zeros
+abbrev pub bytes-h : List ℕ
+bytes-h = 0xFF ∷ 0x80 ∷ []
+
+abbrev pub code-h : Code
+code-h = record { zeros = 0; value = 255; after = record { 0 = 9 } }
+
+-- case i: 41 zeros, a one bit, 14 zeros
+abbrev pub bytes-i : List ℕ
+bytes-i = 0 ∷ 0 ∷ 0 ∷ 0 ∷ 0 ∷ 0x40 ∷ 0 ∷ []
+
+abbrev pub code-i : Code
+code-i = record { zeros = 41; value = 1; after = record { 0 = 56 } }
+
+pub record Cases : Type 0 where
+  -- (a) k
+  pub a₁ : kOf (stat 256 1) ≡ 8
+  pub a₂ : kOf (stat 256 3) ≡ 7
+  pub a₃ : kOf (stat 0 64) ≡ 0
+  -- (b) an update by a residual of size 3
+  pub b : updated (stat 10 64) 3 ≡ stat 6 33
+  -- (c) levels, base 0
+  pub c₁ : levelOf 0 (plus 17) ≡ plus 1
+  pub c₂ : levelOf 0 (plus 18) ≡ plus 2
+  pub c₃ : levelOf 0 (minus 276) ≡ minus 4
+  -- (d) the flat quantisers at 14 bits
+  pub d₁ : ((flatOf 14 1) .total ≡ 16384) × ((flatOf 14 1) .limit ≡ 41) × (startSum (flatOf 14 1) ≡ 256)
+  pub d₂ : ((flatOf 14 2) .total ≡ 5462) × ((flatOf 14 2) .limit ≡ 42) × (startSum (flatOf 14 2) ≡ 85)
+  pub d₃ : ((flatOf 14 3) .total ≡ 3278) × ((flatOf 14 3) .limit ≡ 43) × (startSum (flatOf 14 3) ≡ 51)
+  -- (e), (f) even positions: rf rc rb rd
+  pub e : evenPrediction 10 20 12 13 ≡ 11
+  pub f : evenPrediction 12 20 10 20 ≡ 15
+  -- (g) odd positions: ra rg rb rc rd
+  pub g₁ : oddPrediction 10 20 30 5 6 ≡ 22
+  pub g₂ : oddPrediction 10 20 30 30 6 ≡ 15
+  -- (h) 14 bits, lossless: limit 41, raw 14; prediction and gradient 0, k 8
+  pub h₀ : ((mainOf 14 0) .limit ≡ 41) × ((mainOf 14 0) .raw ≡ 14) × ((mainOf 14 0) .total ≡ 16384)
+  pub h₁ : codeAt bytes-h 0 8 41 14 ≡ Read code-h
+  pub h₂ : sampleOf 16383 0 16384 ((gradientOf 0 9 (plus 0) (plus 0)) .negative) 0 255 ≡ 16256
+  -- (i) there, a long code that is not tight
+  pub i₁ : codeAt bytes-i 0 8 41 14 ≡ Read code-i
+  pub i₂ : sampleOf 16383 0 16384 ((gradientOf 0 9 (plus 0) (plus 0)) .negative) 0 1 ≡ 16383
+  pub i₃ : isTight 16383 8 41 code-i ≡ false

@@ -1,0 +1,4 @@
+-- Laws about the definitions of code, for its own proofs and for those of the crates above.
+pub mod CodeLaws
+pub mod SampleLaws
+pub mod TightLaws

@@ -1,0 +1,88 @@
+-- `code::read_any` meets its contract, by the run of zeros. Its one bit stands inside the block, so that no sum wraps. Assumes nothing.
+use borrow.Author.Needs.{needs}
+use mathlib.Core.Path.{_≡_, sym, _∙_}
+use mathlib.Core.List.{List}
+use Prim.Native.Nat.{ℕ, _+_, _*_, _%_, _^_, _≤_, _<_}
+use native.Mathlib.Omega.{arith}
+use lib.ListN.{length}
+use Rattle.bits.specs.Bits.{bitsAt, zeroRun}
+use Rattle.bits.specs.declared.ZeroRun.the-variants.{One}
+use Rattle.bits.proofs.RunLaws.{run-inside}
+use Rattle.code.specs.Codes.{codeAt}
+use Rattle.code.specs.declared.Coded.the-variants.{Read}
+use Rattle.code.proofs.CodeLaws.{code-none, code-short, code-long, short-lt, long-le, shifted}
+use Rattle.code.proofs.read_any.Statement.{statement}
+use Rattle.code.proofs.read_any.Tie as tie
+
+module _ (s : List ℕ) (p k limit raw z low : ℕ) (run : zeroRun s p ≡ One z) where
+  short : k ≤ 15 → limit < 64 → z < limit → low ≡ bitsAt s (p + z + 1) k
+      → Read (record { zeros = z; value = (z * 2 ^ k) % 2 ^ 32 + low; after = record { 0 = p + z + 1 + k } }) ≡ codeAt s p k limit raw
+  short hk hl h e = rw (shifted z k (omega arith) hk, e) (sym (code-short s p k limit raw z run h))
+
+  short-fits : k ≤ 15 → limit < 64 → z < limit → low ≡ bitsAt s (p + z + 1) k → (z * 2 ^ k) % 2 ^ 32 + low < 2 ^ 32
+  short-fits hk hl h e = omega (arith, shifted z k (omega arith) hk, short-lt s p k limit raw z hk hl h)
+
+  long : limit ≤ z → low ≡ bitsAt s (p + z + 1) raw
+      → Read (record { zeros = z; value = low + 1; after = record { 0 = p + z + 1 + raw } }) ≡ codeAt s p k limit raw
+  long h e = rw e (sym (code-long s p k limit raw z run h))
+
+-- what is known once the run is
+run-of : (c : tie.After-struct-known) → zeroRun (c .before .before .before .before .before .before .args .s .now) (c .before .before .before .before .before .before .args .at .0) ≡ One (c .before .before .run .given .0 .0)
+run-of c = sym (c .before .before .before .before .zero-run .ensures) ∙ c .before .before .run .given .1
+
+inside : (c : tie.After-struct-known) → c .before .before .before .before .before .before .args .at .0 + c .before .before .run .given .0 .0 < 8 * length (c .before .before .before .before .before .before .args .s .now)
+inside c = run-inside _ _ _ (run-of c)
+
+returns : tie.Need-returns
+returns c = sym (code-none _ _ _ _ _ (sym (c .before .before .zero-run .ensures) ∙ c .enum-told .given .1))
+
+add-from : tie.Need-add-from
+add-from c = omega (arith, inside c)
+
+add-from-2 : tie.Need-add-from-2
+add-from-2 c = omega (arith, inside c)
+
+add-t16 : tie.Need-add-t16
+add-t16 c =
+    let s = c .before .before .before .before .before .before .before .before in
+    record { fits = short-fits _ _ (s .args .k) (s .args .limit) (s .args .raw) _ _ (run-of (c .before .before)) (s .pre .1 .0) (s .pre .1 .1 .0) (c .before .if1 .taken) (c .peek .ensures) }
+
+add-t18 : tie.Need-add-t18
+add-t18 c = omega (arith, inside (c .before .before))
+
+returns-2 : tie.Need-returns-2
+returns-2 c =
+    let s = c .before .before .before .before .before .before .before .before in
+    short _ _ _ _ _ _ _ (run-of (c .before .before)) (s .pre .1 .0) (s .pre .1 .1 .0) (c .before .if1 .taken) (c .peek .ensures)
+
+add-t21 : tie.Need-add-t21
+add-t21 c =
+    let s = c .before .before .before .before .before .before .before .before in
+    omega (arith, c .peek2 .ensures, long-le (s .args .s .now) (s .args .at .0) (s .args .k) (s .args .limit) (s .args .raw) (c .before .before .before .before .run .given .0 .0) (s .pre .1 .1 .1))
+
+add-t22 : tie.Need-add-t22
+add-t22 c = omega (arith, inside (c .before .before))
+
+returns-3 : tie.Need-returns-3
+returns-3 c = long _ _ _ _ _ _ _ (run-of (c .before .before)) (c .before .if1 .left) (c .peek2 .ensures)
+
+pub read-any-spec : {M : Type 1} → statement M
+read-any-spec =
+    tie.close
+    (tie.spec
+    (λ c κs. search needs)
+    (λ c. search needs)
+    (λ c. search needs)
+    returns
+    add-from
+    add-from-2
+    (λ c κs. search needs)
+    (λ c. search needs)
+    (λ c. search needs)
+    add-t16
+    add-t18
+    returns-2
+    (λ c κs. search needs)
+    add-t21
+    add-t22
+    returns-3)

@@ -1,0 +1,35 @@
+-- One code of a block, at a bit position. Assumes nothing.
+use mathlib.Core.Bool.{cond}
+use mathlib.Core.List.{List}
+use Prim.Native.Nat.{ℕ, _+_, _*_, _^_, _≤_, _<_}
+use lib.Dec.{ltb}
+use lib.ListN.{length}
+use Rattle.bits.specs.Bits.{bitsAt, zeroRun}
+use Rattle.bits.specs.declared.ZeroRun.{ZeroRun}
+use Rattle.bits.specs.declared.ZeroRun.the-variants.{One, None}
+use Rattle.code.specs.declared.Code.{Code}
+use Rattle.code.specs.declared.Coded.{Coded}
+use Rattle.code.specs.declared.Coded.the-variants.{Read, Truncated}
+
+-- after z zeros and a one bit. Below limit the code is short: z·2^k + the next k bits
+abbrev pub shortCode : List ℕ → ℕ → ℕ → ℕ → Code
+shortCode s p k z =
+    record { zeros = z; value = z * 2 ^ k + bitsAt s (p + z + 1) k; after = record { 0 = p + z + 1 + k } }
+
+-- otherwise it is long: the next raw bits + 1
+abbrev pub longCode : List ℕ → ℕ → ℕ → ℕ → Code
+longCode s p raw z =
+    record { zeros = z; value = bitsAt s (p + z + 1) raw + 1; after = record { 0 = p + z + 1 + raw } }
+
+abbrev pub codeAfter : List ℕ → ℕ → ℕ → ℕ → ℕ → ZeroRun → Coded
+codeAfter s p k limit raw (One z) = cond (ltb z limit) (Read (shortCode s p k z)) (Read (longCode s p raw z))
+codeAfter s p k limit raw None = Truncated
+
+-- the code at p: zeros are counted up to a one bit; where none is left in the block's bytes, the line is truncated
+unfoldable pub codeAt : List ℕ → ℕ → ℕ → ℕ → ℕ → Coded
+codeAt s p k limit raw = codeAfter s p k limit raw (zeroRun s p)
+
+-- how large a code that is read can be, and how far after the block's end it can reach
+abbrev pub Bounds : List ℕ → Coded → Type 0
+Bounds s (Read c) = (c .value < 63 * 2 ^ 15) × (c .after .0 ≤ 8 * length s + 16)
+Bounds s Truncated = Unit {0}

@@ -1,0 +1,49 @@
+-- The other way, lossless: the residual and the code below 2^bits of a wanted sample, and the bits of a tight code. Assumes nothing.
+use mathlib.Core.Bool.{Bool, true, false, cond, _&&_}
+use mathlib.Core.List.{List, _∷_, _++_}
+use Prim.Native.Nat.{ℕ, suc, _+_, _-_, _*_, _/_, _%_, _^_}
+use lib.Dec.{leb, ltb, eqb}
+use lib.ListN.{replicate}
+use Rattle.numbers.specs.declared.Signed.{Signed}
+use Rattle.bits.specs.BitLists.{binary}
+use Rattle.code.specs.declared.Code.{Code}
+
+-- how far it is from u up to v, where 0 follows M: (v − u) modulo M + 1
+unfoldable pub stepsUp : ℕ → ℕ → ℕ → ℕ
+stepsUp M u v = cond (leb u v) (v - u) (v + suc M - u)
+
+-- the residual that leads d steps up, modulo M + 1: d, or the M + 1 − d steps down where that is less
+unfoldable pub residualUp : ℕ → ℕ → Signed
+residualUp M d =
+    cond (leb (2 * d) M) (record { negative = false; size = d }) (record { negative = true; size = suc M - d })
+
+-- the residual that gives the sample v at a prediction, under a gradient with that sign
+unfoldable pub residualFor : ℕ → Bool → ℕ → ℕ → Signed
+residualFor M negative prediction v = residualUp M (cond negative (stepsUp M v prediction) (stepsUp M prediction v))
+
+-- the code of a residual: twice its size, less 1 if it is negative
+unfoldable pub codeOfResidual : Signed → ℕ
+codeOfResidual r = cond (r .negative) (2 * r .size - 1) (2 * r .size)
+
+-- the code below 2^bits that gives the sample v
+unfoldable pub codeFor : ℕ → Bool → ℕ → ℕ → ℕ
+codeFor M negative prediction v = codeOfResidual (residualFor M negative prediction v)
+
+-- z zeros, a one, and n in as many bits as k says
+abbrev pub runThen : ℕ → ℕ → ℕ → List Bool
+runThen z k n = replicate z false ++ true ∷ binary k n
+
+-- the bits of a tight code: ⌊code/2^k⌋ zeros, a one and k bits if that is below limit, else exactly limit zeros, a one and code − 1 in raw bits
+unfoldable pub codeBits : ℕ → ℕ → ℕ → ℕ → List Bool
+codeBits k limit raw code =
+    cond (ltb (code / 2 ^ k) limit) (runThen (code / 2 ^ k) k (code % 2 ^ k)) (runThen limit raw (code - 1))
+
+-- how many bits that is
+unfoldable pub codeLength : ℕ → ℕ → ℕ → ℕ → ℕ
+codeLength k limit raw code = cond (ltb (code / 2 ^ k) limit) (code / 2 ^ k + 1 + k) (limit + 1 + raw)
+
+-- whether a code that was read is tight: below 2^bits, and long only where the short form does not fit, with exactly limit zeros
+unfoldable pub isTight : ℕ → ℕ → ℕ → Code → Bool
+isTight M k limit c =
+    leb (c .value) M
+    && cond (ltb (c .zeros) limit) true (eqb (c .zeros) limit && leb limit (c .value / 2 ^ k))

@@ -1,0 +1,156 @@
+// One code of a block, and the sample that it gives.
+ghost use mathlib.Core.Path.{_≡_};
+ghost use mathlib.Core.Bool.{cond};
+ghost use Prim.Native.Nat.{_*_, _^_, _≤_, _<_};
+ghost use lib.Dec.{ltb};
+ghost use lib.ListN.{length};
+ghost use Rattle.code.specs.Codes.{codeAt, Bounds};
+ghost use Rattle.code.specs.Samples.{choiceOf, residualOf, wrap, Moved, sampleOf};
+use bits::BitPosition;
+use bits::ZeroRun;
+
+// A code that was read: the zeros before its one bit, its value, and the position after it. It is long if the zeros reach the limit.
+pub struct Code {
+    pub zeros: u64,
+    pub value: u32,
+    pub after: BitPosition,
+}
+
+pub enum Coded {
+    Read(Code),
+    // No one bit is left in the block's bytes.
+    Truncated,
+}
+
+// The code at `at`, however long its zero run is and however near the end it stands. It is kept out of the fast reader.
+fn read_any(s: &[u8], at: BitPosition, k: u32, limit: u32, raw: u32) -> Coded
+    requires { ⌜ (length (now s) < 2 ^ 32) × ((k ≤ 15) × ((limit < 64) × (raw ≤ 16))) ⌝ }
+    ensures { λ r. ⌜ r ≡ codeAt (now (s .entry)) (at .0) k limit raw ⌝ }
+{
+    let run = bits::zero_run(s, at);
+    let ZeroRun::One(zeros) = run else {
+        return Coded::Truncated;
+    };
+    let from = at.0 + zeros + 1;
+    if zeros < limit as u64 {
+        let low = bits::peek(s, BitPosition(from), k);
+        return Coded::Read(Code {
+            zeros,
+            value: ((zeros as u32) << k) + low,
+            after: BitPosition(from + k as u64),
+        });
+    }
+    let low = bits::peek(s, BitPosition(from), raw);
+    Coded::Read(Code {
+        zeros,
+        value: low + 1,
+        after: BitPosition(from + raw as u64),
+    })
+}
+
+// The code at `at`. In the common case its zeros, its one bit and its low bits stand in one window of 57 bits. The slow reader has two
+// calls here, so that LLVM does not take it into this function.
+pub fn read_code(s: &[u8], at: BitPosition, k: u32, limit: u32, raw: u32) -> Coded
+    requires { ⌜ (length (now s) < 2 ^ 32) × ((k ≤ 15) × ((limit < 64) × (raw ≤ 16))) ⌝ }
+    ensures { λ r. ⌜ (r ≡ codeAt (now (s .entry)) (at .0) k limit raw) × Bounds (now (s .entry)) r ⌝ }
+{
+    if bits::has_window(s, at) {
+        let w = bits::top_bits(s, at);
+        // At most 41 zeros: with the one bit and 15 low bits they are in the window.
+        if w >= 0x40_0000 {
+            let zeros = u64::leading_zeros(w);
+            if zeros < limit {
+                let used = zeros + 1 + k;
+                let low = (w >> (64 - used)) as u32 - (1 << k);
+                return Coded::Read(Code {
+                    zeros: zeros as u64,
+                    value: (zeros << k) + low,
+                    after: BitPosition(at.0 + used as u64),
+                });
+            }
+        }
+        return read_any(s, at, k, limit, raw);
+    }
+    read_any(s, at, k, limit, raw)
+}
+
+// The flatness from which on a quantiser is passed over: the main one is used where all three are.
+fn first_bound(base: u32) -> u32
+    ensures { λ r. ⌜ r ≡ cond (ltb base 1) 0 6 ⌝ }
+{
+    if base < 1 { 0 } else { 6 }
+}
+
+fn second_bound(base: u32) -> u32
+    ensures { λ r. ⌜ r ≡ cond (ltb base 2) (cond (ltb base 1) 0 6) 7 ⌝ }
+{
+    if base < 2 { first_bound(base) } else { 7 }
+}
+
+fn third_bound(base: u32) -> u32
+    ensures { λ r. ⌜ r ≡ cond (ltb base 3) (cond (ltb base 2) (cond (ltb base 1) 0 6) 7) 8 ⌝ }
+{
+    if base < 3 { second_bound(base) } else { 8 }
+}
+
+// The quantiser of a sample in a line with that base: 0 the main one, 1 to 3 a flat one. The bounds that its flatness has reached are
+// counted without a branch.
+pub fn choice(base: u32, flatness: u32) -> u32
+    ensures { λ r. ⌜ (r ≡ choiceOf base flatness) × (r ≤ 3) ⌝ }
+{
+    let first = numbers::flag(first_bound(base) <= flatness);
+    let second = numbers::flag(second_bound(base) <= flatness);
+    let third = numbers::flag(third_bound(base) <= flatness);
+    (first + second + third + 1) % 4
+}
+
+// The size of a code's residual.
+pub fn residual_size(code: u32) -> u32
+    requires { ⌜ code < 63 * 2 ^ 15 ⌝ }
+    ensures { λ r. ⌜ (r ≡ (residualOf code) .size) × (r ≤ 63 * 2 ^ 14) ⌝ }
+{
+    (code + 1) / 2
+}
+
+// a - b, wrapped around once where it lies outside of -q..m + q, and clamped to 0..m.
+fn wrap(m: u32, q: u32, span: u32, a: u32, b: u32) -> u32
+    requires { ⌜ (m < 2 ^ 16) × ((q < 256) × ((span < 2 ^ 30) × ((a < 2 ^ 30) × (b < 2 ^ 30)))) ⌝ }
+    ensures { λ r. ⌜ (r ≡ wrap m q span a b) × (r ≤ m) ⌝ }
+{
+    if a + q < b {
+        return numbers::smaller(m, numbers::saturating_sub(a + span, b));
+    }
+    if m + q + b < a {
+        return numbers::smaller(m, numbers::saturating_sub(a, b + span));
+    }
+    numbers::smaller(m, numbers::saturating_sub(a, b))
+}
+
+// p - d or p + d; below 0 it wraps to a number that is larger than any sample.
+fn moved(minus: bool, p: u32, d: u32) -> u32
+    requires { ⌜ (p < 2 ^ 16) × (d < 2 ^ 30) ⌝ }
+    ensures { λ r. ⌜ Moved minus p d r ⌝ }
+{
+    if minus {
+        return std::num::wrapping_sub_u32(p, d);
+    }
+    p + d
+}
+
+// The sample of a prediction and a code. A sample in 0..m, the common case, is tested first.
+pub fn sample(m: u32, base: u32, total: u32, negative: bool, prediction: u32, code: u32) -> u32
+    requires { ⌜ (m < 2 ^ 16) × ((base < 256) × ((total ≤ 2 ^ 16) × ((prediction < 2 ^ 16) × (code < 63 * 2 ^ 15)))) ⌝ }
+    ensures { λ r. ⌜ (r ≡ sampleOf m base total negative prediction code) × (r ≤ m) ⌝ }
+{
+    let step = 2 * base + 1;
+    let minus = numbers::differ(negative, code % 2 == 1);
+    let d = residual_size(code) * step;
+    let x = moved(minus, prediction, d);
+    if x <= m {
+        return x;
+    }
+    if minus {
+        return wrap(m, base, total * step, prediction, d);
+    }
+    wrap(m, base, total * step, prediction + d, 0)
+}
