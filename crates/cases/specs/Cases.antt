@@ -29,14 +29,14 @@ abbrev pub bytes-h : List ℕ
 bytes-h = 0xFF ∷ 0x80 ∷ []
 
 abbrev pub code-h : Code
-code-h = record { zeros = 0; value = 255; after = record { 0 = 9 } }
+code-h = record { zeros = 0; value = 255; minimal = true; after = record { 0 = 9 } }
 
 -- case i: 41 zeros, a one bit, 14 zeros
 abbrev pub bytes-i : List ℕ
 bytes-i = 0 ∷ 0 ∷ 0 ∷ 0 ∷ 0 ∷ 0x40 ∷ 0 ∷ []
 
 abbrev pub code-i : Code
-code-i = record { zeros = 41; value = 1; after = record { 0 = 56 } }
+code-i = record { zeros = 41; value = 1; minimal = false; after = record { 0 = 56 } }
 
 pub record Cases : Type 0 where
   -- (a) k
@@ -66,4 +66,4 @@ pub record Cases : Type 0 where
   -- (i) there, a long code that is not tight
   pub i₁ : codeAt bytes-i 0 8 41 14 ≡ Read code-i
   pub i₂ : sampleOf 16383 0 16384 ((gradientOf 0 9 (plus 0) (plus 0)) .negative) 0 1 ≡ 16383
-  pub i₃ : isTight 16383 8 41 code-i ≡ false
+  pub i₃ : isTight 16383 code-i ≡ false

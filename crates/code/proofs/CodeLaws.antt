@@ -25,7 +25,7 @@ module _ (s : List ℕ) (p k limit raw : ℕ) where
   unfolding codeAt
   code-short z e h = rw (e, lt-ltb z limit h)
 
-  pub code-long : (z : ℕ) → zeroRun s p ≡ One z → limit ≤ z → codeAt s p k limit raw ≡ Read (longCode s p raw z)
+  pub code-long : (z : ℕ) → zeroRun s p ≡ One z → limit ≤ z → codeAt s p k limit raw ≡ Read (longCode s p k limit raw z)
   unfolding codeAt
   code-long z e h = rw (e, le-ltb z limit h)
 
@@ -33,7 +33,7 @@ module _ (s : List ℕ) (p k limit raw : ℕ) where
   pub code-cases {ℓ} : {X : Type ℓ}
       → (zeroRun s p ≡ None → codeAt s p k limit raw ≡ Truncated → X)
       → ((z : ℕ) → zeroRun s p ≡ One z → z < limit → codeAt s p k limit raw ≡ Read (shortCode s p k z) → X)
-      → ((z : ℕ) → zeroRun s p ≡ One z → limit ≤ z → codeAt s p k limit raw ≡ Read (longCode s p raw z) → X)
+      → ((z : ℕ) → zeroRun s p ≡ One z → limit ≤ z → codeAt s p k limit raw ≡ Read (longCode s p k limit raw z) → X)
       → X
   code-cases {X = X} none short long = go (zeroRun s p) refl
     where

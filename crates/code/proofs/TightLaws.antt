@@ -53,18 +53,19 @@ both : (a b : Bool) → (a && b) ≡ true → (a ≡ true) × (b ≡ true)
 both true b e = (refl, e)
 both false b e = absurd (false≢true e)
 
--- what a tight code is: up to M, and where it is long, with exactly limit zeros and not fit for the short form
-module _ (M k limit : ℕ) (x : Code) where
-  pub tight-small : isTight M k limit x ≡ true → x .value ≤ M
-  unfolding isTight
-  tight-small t = leb-true (x .value) M (both (leb (x .value) M) _ t .0)
+-- a tight code is up to M
+pub tight-small : (M : ℕ) (x : Code) → isTight M x ≡ true → x .value ≤ M
+unfolding isTight
+tight-small M x t = leb-true (x .value) M (both (leb (x .value) M) (x .minimal) t .0)
 
-  pub tight-long : limit ≤ x .zeros → isTight M k limit x ≡ true → (x .zeros ≡ limit) × (limit ≤ x .value / 2 ^ k)
-  unfolding isTight
-  tight-long h t =
-      let u : (eqb (x .zeros) limit && leb limit (x .value / 2 ^ k)) ≡ true = rw (le-ltb (x .zeros) limit h) at (both (leb (x .value) M) _ t .1) in
-      let b = both (eqb (x .zeros) limit) (leb limit (x .value / 2 ^ k)) u in
-      (eqb-true (x .zeros) limit (b .0), leb-true limit (x .value / 2 ^ k) (b .1))
+-- where it is long, it has exactly limit zeros and does not fit the short form
+pub tight-long : (M : ℕ) (s : List ℕ) (p k limit raw z : ℕ) → isTight M (longCode s p k limit raw z) ≡ true
+    → (z ≡ limit) × (limit ≤ longCode s p k limit raw z .value / 2 ^ k)
+unfolding isTight
+tight-long M s p k limit raw z t =
+    let x : Code = longCode s p k limit raw z in
+    let b = both (eqb z limit) (leb limit (x .value / 2 ^ k)) (both (leb (x .value) M) (x .minimal) t .1) in
+    (eqb-true z limit (b .0), leb-true limit (x .value / 2 ^ k) (b .1))
 
 -- a run of z and the number v in n bits stand at p, and rest follows them
 record Found (s : List ℕ) (p z n v : ℕ) (rest : List Bool) : Type 0 where
@@ -95,7 +96,7 @@ module _ (M : ℕ) (s : List ℕ) (p k limit raw : ℕ) where
     pub read : codeAt s p k limit raw ≡ Read code
     pub value : code .value ≡ c
     pub after : code .after .0 ≡ p + codeLength k limit raw c
-    pub tight : isTight M k limit code ≡ true
+    pub tight : isTight M code ≡ true
     pub rest-after : drop (code .after .0) (bitsOf s) ≡ rest
 
   back-short : (c : ℕ) (rest : List Bool) → c ≤ M → c / 2 ^ k < limit → Found s p (c / 2 ^ k) k (c % 2 ^ k) rest → ReadBack c rest
@@ -108,7 +109,7 @@ module _ (M : ℕ) (s : List ℕ) (p k limit raw : ℕ) where
         read = code-short s p k limit raw z (f .run) l;
         value = v;
         after = omega (arith, short-length k limit raw c l);
-        tight = rw (v, le-leb c M h, lt-ltb z limit l);
+        tight = rw (v, le-leb c M h);
         rest-after = f .after;
       }
 
@@ -117,11 +118,11 @@ module _ (M : ℕ) (s : List ℕ) (p k limit raw : ℕ) where
   back-long c rest h l u f =
       let v : bitsAt s (p + limit + 1) raw + 1 ≡ c = rw (f .bits) (omega (arith, shr-le c k)) in
       record {
-        code = longCode s p raw limit;
+        code = longCode s p k limit raw limit;
         read = code-long s p k limit raw limit (f .run) (le-refl limit);
         value = v;
         after = omega (arith, long-length k limit raw c u);
-        tight = rw (v, le-leb c M h, le-ltb limit limit (le-refl limit), eq-eqb limit limit refl, le-leb limit (c / 2 ^ k) u);
+        tight = rw (v, le-leb c M h, eq-eqb limit limit refl, le-leb limit (c / 2 ^ k) u);
         rest-after = f .after;
       }
 
@@ -151,8 +152,8 @@ module _ (M : ℕ) (s : List ℕ) (p k limit raw : ℕ) where
         after = omega (arith, short-length k limit raw (z * 2 ^ k + b) short);
       }
 
-  stands-long : (z : ℕ) → zeroRun s p ≡ One z → z ≡ limit → limit ≤ longCode s p raw z .value / 2 ^ k → longCode s p raw z .value ≤ M
-      → p + z + 1 + raw ≤ 8 * length s → Stands (longCode s p raw z)
+  stands-long : (z : ℕ) → zeroRun s p ≡ One z → z ≡ limit → limit ≤ longCode s p k limit raw z .value / 2 ^ k → longCode s p k limit raw z .value ≤ M
+      → p + z + 1 + raw ≤ 8 * length s → Stands (longCode s p k limit raw z)
   stands-long z run e u m i =
       let b : ℕ = bitsAt s (p + z + 1) raw in
       let one : b + 1 - 1 ≡ b = omega arith in
@@ -163,18 +164,18 @@ module _ (M : ℕ) (s : List ℕ) (p k limit raw : ℕ) where
       }
 
   -- a tight code that was read inside the block stands there as its own bits
-  pub stands-there : (x : Code) → codeAt s p k limit raw ≡ Read x → isTight M k limit x ≡ true → x .after .0 ≤ 8 * length s → Stands x
+  pub stands-there : (x : Code) → codeAt s p k limit raw ≡ Read x → isTight M x ≡ true → x .after .0 ≤ 8 * length s → Stands x
   stands-there x e t =
       code-cases s p k limit raw {X = Inside x → Stands x}
       (λ r g. let no : _≡_ {A = ℕ} 0 1 = cc in absurd (omega arith))
       (λ z r h g.
       let is : shortCode s p k z ≡ x = cc in
-      subst (λ (y : Code). isTight M k limit y ≡ true → Inside y → Stands y) is
-      (λ a i. stands-short z r h (tight-small M k limit (shortCode s p k z) a) i) t)
+      subst (λ (y : Code). isTight M y ≡ true → Inside y → Stands y) is
+      (λ a i. stands-short z r h (tight-small M (shortCode s p k z) a) i) t)
       (λ z r h g.
-      let is : longCode s p raw z ≡ x = cc in
-      subst (λ (y : Code). isTight M k limit y ≡ true → Inside y → Stands y) is
-      (λ a i. let l = tight-long M k limit (longCode s p raw z) h a in stands-long z r (l .0) (l .1) (tight-small M k limit (longCode s p raw z) a) i) t)
+      let is : longCode s p k limit raw z ≡ x = cc in
+      subst (λ (y : Code). isTight M y ≡ true → Inside y → Stands y) is
+      (λ a i. let l = tight-long M s p k limit raw z a in stands-long z r (l .0) (l .1) (tight-small M (longCode s p k limit raw z) a) i) t)
     where
       Inside : Code → Type 0
       Inside y = y .after .0 ≤ 8 * length s

@@ -2,7 +2,7 @@
 use mathlib.Core.Bool.{Bool, true, false, cond, _&&_}
 use mathlib.Core.List.{List, _∷_, _++_}
 use Prim.Native.Nat.{ℕ, suc, _+_, _-_, _*_, _/_, _%_, _^_}
-use lib.Dec.{leb, ltb, eqb}
+use lib.Dec.{leb, ltb}
 use lib.ListN.{replicate}
 use Rattle.numbers.specs.declared.Signed.{Signed}
 use Rattle.bits.specs.BitLists.{binary}
@@ -42,8 +42,6 @@ codeBits k limit raw code =
 unfoldable pub codeLength : ℕ → ℕ → ℕ → ℕ → ℕ
 codeLength k limit raw code = cond (ltb (code / 2 ^ k) limit) (code / 2 ^ k + 1 + k) (limit + 1 + raw)
 
--- whether a code that was read is tight: below 2^bits, and long only where the short form does not fit, with exactly limit zeros
-unfoldable pub isTight : ℕ → ℕ → ℕ → Code → Bool
-isTight M k limit c =
-    leb (c .value) M
-    && cond (ltb (c .zeros) limit) true (eqb (c .zeros) limit && leb limit (c .value / 2 ^ k))
+-- whether a code that was read is tight: below 2^bits, and minimal
+unfoldable pub isTight : ℕ → Code → Bool
+isTight M c = leb (c .value) M && c .minimal

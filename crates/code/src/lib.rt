@@ -1,18 +1,21 @@
 // One code of a block, and the sample that it gives.
 ghost use mathlib.Core.Path.{_≡_};
-ghost use mathlib.Core.Bool.{cond};
-ghost use Prim.Native.Nat.{_*_, _^_, _≤_, _<_};
-ghost use lib.Dec.{ltb};
+ghost use mathlib.Core.Bool.{cond, _&&_};
+ghost use Prim.Native.Nat.{_*_, _/_, _^_, _≤_, _<_};
+ghost use lib.Dec.{leb, ltb, eqb};
 ghost use lib.ListN.{length};
 ghost use Rattle.code.specs.Codes.{codeAt, Bounds};
 ghost use Rattle.code.specs.Samples.{choiceOf, residualOf, wrap, Moved, sampleOf};
+ghost use Rattle.code.specs.Tight.{isTight};
 use bits::BitPosition;
 use bits::ZeroRun;
 
-// A code that was read: the zeros before its one bit, its value, and the position after it. It is long if the zeros reach the limit.
+// A code that was read: the zeros before its one bit, its value, whether it has no bit that it could do without, and the position after it.
+// It is long if the zeros reach the limit.
 pub struct Code {
     pub zeros: u64,
     pub value: u32,
+    pub minimal: bool,
     pub after: BitPosition,
 }
 
@@ -20,6 +23,17 @@ pub enum Coded {
     Read(Code),
     // No one bit is left in the block's bytes.
     Truncated,
+}
+
+// Whether a long code with so many zeros is needed for that value: a short code would have as many zeros or more.
+fn is_needed(k: u32, limit: u32, zeros: u64, value: u32) -> bool
+    requires { ⌜ k ≤ 15 ⌝ }
+    ensures { λ r. ⌜ r ≡ (eqb zeros limit && leb limit (value / 2 ^ k)) ⌝ }
+{
+    if zeros == limit as u64 {
+        return limit <= (value >> k);
+    }
+    false
 }
 
 // The code at `at`, however long its zero run is and however near the end it stands. It is kept out of the fast reader.
@@ -37,13 +51,15 @@ fn read_any(s: &[u8], at: BitPosition, k: u32, limit: u32, raw: u32) -> Coded
         return Coded::Read(Code {
             zeros,
             value: ((zeros as u32) << k) + low,
+            minimal: true,
             after: BitPosition(from + k as u64),
         });
     }
-    let low = bits::peek(s, BitPosition(from), raw);
+    let value = bits::peek(s, BitPosition(from), raw) + 1;
     Coded::Read(Code {
         zeros,
-        value: low + 1,
+        value,
+        minimal: is_needed(k, limit, zeros, value),
         after: BitPosition(from + raw as u64),
     })
 }
@@ -65,6 +81,7 @@ pub fn read_code(s: &[u8], at: BitPosition, k: u32, limit: u32, raw: u32) -> Cod
                 return Coded::Read(Code {
                     zeros: zeros as u64,
                     value: (zeros << k) + low,
+                    minimal: true,
                     after: BitPosition(at.0 + used as u64),
                 });
             }
@@ -153,4 +170,11 @@ pub fn sample(m: u32, base: u32, total: u32, negative: bool, prediction: u32, co
         return wrap(m, base, total * step, prediction, d);
     }
     wrap(m, base, total * step, prediction + d, 0)
+}
+
+// Whether a code is tight.
+pub fn is_tight(m: u32, code: Code) -> bool
+    ensures { λ r. ⌜ r ≡ isTight m code ⌝ }
+{
+    (code.value <= m) & code.minimal
 }

@@ -1,9 +1,11 @@
 -- `code::read_any` meets its contract, by the run of zeros. Its one bit stands inside the block, so that no sum wraps. Assumes nothing.
 use borrow.Author.Needs.{needs}
+use mathlib.Core.Bool.{Bool, true, _&&_}
 use mathlib.Core.Path.{_≡_, sym, _∙_}
 use mathlib.Core.List.{List}
-use Prim.Native.Nat.{ℕ, _+_, _*_, _%_, _^_, _≤_, _<_}
+use Prim.Native.Nat.{ℕ, _+_, _*_, _/_, _%_, _^_, _≤_, _<_}
 use native.Mathlib.Omega.{arith}
+use lib.Dec.{leb, eqb}
 use lib.ListN.{length}
 use Rattle.bits.specs.Bits.{bitsAt, zeroRun}
 use Rattle.bits.specs.declared.ZeroRun.the-variants.{One}
@@ -16,15 +18,15 @@ use Rattle.code.proofs.read_any.Tie as tie
 
 module _ (s : List ℕ) (p k limit raw z low : ℕ) (run : zeroRun s p ≡ One z) where
   short : k ≤ 15 → limit < 64 → z < limit → low ≡ bitsAt s (p + z + 1) k
-      → Read (record { zeros = z; value = (z * 2 ^ k) % 2 ^ 32 + low; after = record { 0 = p + z + 1 + k } }) ≡ codeAt s p k limit raw
+      → Read (record { zeros = z; value = (z * 2 ^ k) % 2 ^ 32 + low; minimal = true; after = record { 0 = p + z + 1 + k } }) ≡ codeAt s p k limit raw
   short hk hl h e = rw (shifted z k (omega arith) hk, e) (sym (code-short s p k limit raw z run h))
 
   short-fits : k ≤ 15 → limit < 64 → z < limit → low ≡ bitsAt s (p + z + 1) k → (z * 2 ^ k) % 2 ^ 32 + low < 2 ^ 32
   short-fits hk hl h e = omega (arith, shifted z k (omega arith) hk, short-lt s p k limit raw z hk hl h)
 
-  long : limit ≤ z → low ≡ bitsAt s (p + z + 1) raw
-      → Read (record { zeros = z; value = low + 1; after = record { 0 = p + z + 1 + raw } }) ≡ codeAt s p k limit raw
-  long h e = rw e (sym (code-long s p k limit raw z run h))
+  long : (n : Bool) → limit ≤ z → low ≡ bitsAt s (p + z + 1) raw → n ≡ (eqb z limit && leb limit ((low + 1) / 2 ^ k))
+      → Read (record { zeros = z; value = low + 1; minimal = n; after = record { 0 = p + z + 1 + raw } }) ≡ codeAt s p k limit raw
+  long n h e f = rw (f, e) (sym (code-long s p k limit raw z run h))
 
 -- what is known once the run is
 run-of : (c : tie.After-struct-known) → zeroRun (c .before .before .before .before .before .before .args .s .now) (c .before .before .before .before .before .before .args .at .0) ≡ One (c .before .before .run .given .0 .0)
@@ -55,16 +57,16 @@ returns-2 c =
     let s = c .before .before .before .before .before .before .before .before in
     short _ _ _ _ _ _ _ (run-of (c .before .before)) (s .pre .1 .0) (s .pre .1 .1 .0) (c .before .if1 .taken) (c .peek .ensures)
 
-add-t21 : tie.Need-add-t21
-add-t21 c =
+add-value : tie.Need-add-value
+add-value c =
     let s = c .before .before .before .before .before .before .before .before in
     omega (arith, c .peek2 .ensures, long-le (s .args .s .now) (s .args .at .0) (s .args .k) (s .args .limit) (s .args .raw) (c .before .before .before .before .run .given .0 .0) (s .pre .1 .1 .1))
 
 add-t22 : tie.Need-add-t22
-add-t22 c = omega (arith, inside (c .before .before))
+add-t22 c = omega (arith, inside (c .before .before .before))
 
 returns-3 : tie.Need-returns-3
-returns-3 c = long _ _ _ _ _ _ _ (run-of (c .before .before)) (c .before .if1 .left) (c .peek2 .ensures)
+returns-3 c = long _ _ _ _ _ _ _ (run-of (c .before .before .before)) (c .is-needed .result) (c .before .before .if1 .left) (c .before .peek2 .ensures) (c .is-needed .ensures)
 
 pub read-any-spec : {M : Type 1} → statement M
 read-any-spec =
@@ -83,6 +85,7 @@ read-any-spec =
     add-t18
     returns-2
     (λ c κs. search needs)
-    add-t21
+    add-value
+    (λ c κs. search needs)
     add-t22
     returns-3)

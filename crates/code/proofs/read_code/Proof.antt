@@ -2,6 +2,7 @@
 -- Assumes nothing.
 use borrow.Author.Needs.{needs}
 use borrow.Author.Tests.{leb-true}
+use mathlib.Core.Bool.{true}
 use mathlib.Core.Path.{_≡_, sym, _∙_}
 use mathlib.Core.List.{List}
 use Prim.Native.Nat.{ℕ, _+_, _-_, _*_, _/_, _%_, _^_, _≤_, _<_}
@@ -48,7 +49,7 @@ window s p k w e h hk =
     }
 
 module _ (s : List ℕ) (p k limit raw w z : ℕ) (i : Window s p k w z) (hk : k ≤ 15) (hl : limit < 64) (h : z < limit) where
-  is : Read (record { zeros = z; value = (z * 2 ^ k) % 2 ^ 32 + (w / 2 ^ (64 - (z + 1 + k)) - (1 * 2 ^ k) % 2 ^ 32); after = record { 0 = p + (z + 1 + k) } })
+  is : Read (record { zeros = z; value = (z * 2 ^ k) % 2 ^ 32 + (w / 2 ^ (64 - (z + 1 + k)) - (1 * 2 ^ k) % 2 ^ 32); minimal = true; after = record { 0 = p + (z + 1 + k) } })
       ≡ codeAt s p k limit raw
   is =
       let low : w / 2 ^ (64 - (z + 1 + k)) - (1 * 2 ^ k) % 2 ^ 32 ≡ bitsAt s (p + z + 1) k = omega (arith, i .top, i .one) in
