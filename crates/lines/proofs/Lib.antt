@@ -1,0 +1,2 @@
+-- Laws about the colour lines.
+pub mod LineLaws

@@ -1,0 +1,2 @@
+-- The definitions of the colour lines between passes.
+pub mod ColourLines

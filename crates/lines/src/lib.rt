@@ -1,0 +1,63 @@
+// The colour lines of a block between passes: guards, and the turn to the next line.
+ghost use mathlib.Core.Path.{_≡_};
+ghost use Prim.Native.Nat.{_+_, _*_, _≤_, _<_};
+ghost use lib.ListN.{length, replicate};
+ghost use Rattle.lines.specs.ColourLines.{guarded, moved, turned};
+
+// Where a colour line begins, with its left guard.
+fn start_of(w: usize, line: usize) -> usize
+    requires { ⌜ (w ≤ 512) × (line ≤ 17) ⌝ }
+    ensures { λ r. ⌜ (r ≡ line * (w + 2)) × (r + (w + 2) ≤ 18 * (w + 2)) ⌝ }
+{
+    line * (w + 2)
+}
+
+// The guards of line l, from the line above it.
+pub fn set_guards(lines: &mut [u16], w: usize, l: usize)
+    requires { ⌜ (w ≤ 512) × ((1 ≤ l) × ((l ≤ 17) × (18 * (w + 2) ≤ length (now lines)))) ⌝ }
+    ensures { λ _. ⌜ now (lines .exit) ≡ guarded w l (now (lines .entry)) ⌝ }
+{
+    let above = start_of(w, l - 1);
+    let here = start_of(w, l);
+    lines[here] = lines[above + 1];
+    lines[here + (w + 1)] = lines[above + w];
+}
+
+// One line becomes another, further up.
+fn move_line(lines: &mut [u16], w: usize, from: usize, to: usize)
+    requires { ⌜ (w ≤ 512) × ((to < from) × ((from ≤ 17) × (18 * (w + 2) ≤ length (now lines)))) ⌝ }
+    ensures { λ _. ⌜ now (lines .exit) ≡ moved w from to (now (lines .entry)) ⌝ }
+{
+    let s = w + 2;
+    let source = start_of(w, from);
+    let target = start_of(w, to);
+    let mut j = 0usize;
+    while j < s {
+        lines[target + j] = lines[source + j];
+        j += 1;
+    }
+}
+
+// The turn to the next line.
+pub fn turn(lines: &mut [u16], w: usize)
+    requires { ⌜ (w ≤ 512) × (18 * (w + 2) ≤ length (now lines)) ⌝ }
+    ensures { λ _. ⌜ now (lines .exit) ≡ turned w (now (lines .entry)) ⌝ }
+{
+    move_line(lines, w, 3, 0);
+    move_line(lines, w, 4, 1);
+    move_line(lines, w, 11, 5);
+    move_line(lines, w, 12, 6);
+    move_line(lines, w, 16, 13);
+    move_line(lines, w, 17, 14);
+}
+
+// All samples 0.
+pub fn clear(lines: &mut [u16])
+    ensures { λ _. ⌜ now (lines .exit) ≡ replicate (length (now (lines .entry))) 0 ⌝ }
+{
+    let mut i = 0usize;
+    while i < lines.len() {
+        lines[i] = 0;
+        i += 1;
+    }
+}
