@@ -1,0 +1,16 @@
+-- `map::place_in` meets its contract. Assumes nothing.
+use borrow.Author.Needs.{needs}
+use Rattle.map.specs.Places.{placeIn}
+use Rattle.map.proofs.place_in.Statement.{statement}
+use Rattle.map.proofs.place_in.Tie as tie
+
+returns : tie.Need-returns
+unfolding placeIn
+returns c = simp (c .wide .ensures, c .before .before .if1 .taken) (c .before .before .before .pre .1 _ (c .before .before .before .pre .0))
+
+returns-2 : tie.Need-returns-2
+unfolding placeIn
+returns-2 c = simp (c .if1 .left)
+
+pub place-in-spec : {M : Type 1} → statement M
+place-in-spec = tie.close (tie.spec (λ c. search needs) (λ c. search needs) (λ c κs. search needs) returns returns-2)
