@@ -9,10 +9,11 @@ use Rattle.prediction.specs.Predictions.{evenPrediction, oddPrediction}
 use Rattle.code.specs.Codes.{codeAt}
 use Rattle.code.specs.Samples.{residualOf, wrap, sampleOf}
 use Rattle.code.specs.Tight.{isTight}
+use Rattle.map.specs.Places.{xtransPlace}
 use Rattle.cases.specs.Cases.{Cases}
 
 pub cases-hold : Cases
-unfolding bitAt bitsAt zeros zeroRun leastFrom kOf updated totalOf rawOf quantiserOf startSum levelSize levelOf gradientOf evenPrediction oddPrediction codeAt residualOf wrap sampleOf isTight xor
+unfolding bitAt bitsAt zeros zeroRun leastFrom kOf updated totalOf rawOf quantiserOf startSum levelSize levelOf gradientOf evenPrediction oddPrediction codeAt residualOf wrap sampleOf isTight xtransPlace xor
 cases-hold =
     record {
       a₁ = refl;
@@ -35,4 +36,6 @@ cases-hold =
       i₁ = refl;
       i₂ = refl;
       i₃ = refl;
+      j₁ = (refl, refl, refl, refl, refl, refl);
+      j₂ = refl;
     }

@@ -14,6 +14,7 @@ use Rattle.code.specs.Tight.{isTight}
 use Rattle.code.specs.declared.Code.{Code}
 use Rattle.code.specs.declared.Coded.{Coded}
 use Rattle.code.specs.declared.Coded.the-variants.{Read}
+use Rattle.map.specs.Places.{xtransPlace}
 
 abbrev pub stat : ℕ → ℕ → Record
 stat sum n = record { sum = sum; n = n }
@@ -67,3 +68,6 @@ pub record Cases : Type 0 where
   pub i₁ : codeAt bytes-i 0 8 41 14 ≡ Read code-i
   pub i₂ : sampleOf 16383 0 16384 ((gradientOf 0 9 (plus 0) (plus 0)) .negative) 0 1 ≡ 16383
   pub i₃ : isTight 16383 code-i ≡ false
+  -- (j) X-Trans places
+  pub j₁ : (xtransPlace 0 ≡ 0) × (xtransPlace 1 ≡ 1) × (xtransPlace 2 ≡ 1) × (xtransPlace 3 ≡ 2) × (xtransPlace 4 ≡ 3) × (xtransPlace 5 ≡ 3)
+  pub j₂ : xtransPlace 767 ≡ 511

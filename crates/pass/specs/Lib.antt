@@ -1,0 +1,3 @@
+-- The definitions of a pass.
+pub mod Steps
+pub mod Readings
