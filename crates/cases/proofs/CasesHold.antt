@@ -10,10 +10,12 @@ use Rattle.code.specs.Codes.{codeAt}
 use Rattle.code.specs.Samples.{residualOf, wrap, sampleOf}
 use Rattle.code.specs.Tight.{isTight}
 use Rattle.map.specs.Places.{xtransPlace}
+use Rattle.stream.specs.Headers.{headerOf, kindRules, sizeRules, countRules, parseOf}
+use Rattle.stream.specs.Streams.{rowStart, openOf, sizesBefore, rangeOf}
 use Rattle.cases.specs.Cases.{Cases}
 
 pub cases-hold : Cases
-unfolding bitAt bitsAt zeros zeroRun leastFrom kOf updated totalOf rawOf quantiserOf startSum levelSize levelOf gradientOf evenPrediction oddPrediction codeAt residualOf wrap sampleOf isTight xtransPlace xor
+unfolding bitAt bitsAt zeros zeroRun leastFrom kOf updated totalOf rawOf quantiserOf startSum levelSize levelOf gradientOf evenPrediction oddPrediction codeAt residualOf wrap sampleOf isTight xtransPlace xor headerOf kindRules sizeRules countRules parseOf rowStart openOf sizesBefore rangeOf
 cases-hold =
     record {
       a₁ = refl;
@@ -38,4 +40,9 @@ cases-hold =
       i₃ = refl;
       j₁ = (refl, refl, refl, refl, refl, refl);
       j₂ = refl;
+      k₁ = refl;
+      k₂ = (refl, refl);
+      l₁ = refl;
+      l₂ = refl;
+      l₃ = (refl, refl);
     }

@@ -1,6 +1,6 @@
 -- The worked cases that are marked for proof, as one table of equations on the definitions. Assumes nothing.
 use mathlib.Core.Bool.{Bool, true, false}
-use mathlib.Core.List.{List, [], _∷_}
+use mathlib.Core.List.{List, [], _∷_, _++_}
 use mathlib.Core.Path.{_≡_}
 use Prim.Native.Nat.{ℕ}
 use Rattle.numbers.specs.declared.Signed.{Signed}
@@ -15,6 +15,13 @@ use Rattle.code.specs.declared.Code.{Code}
 use Rattle.code.specs.declared.Coded.{Coded}
 use Rattle.code.specs.declared.Coded.the-variants.{Read}
 use Rattle.map.specs.Places.{xtransPlace}
+use Rattle.stream.specs.Headers.{parseOf}
+use Rattle.stream.specs.Streams.{openOf, rangeOf}
+use Rattle.stream.specs.Refusals.{numberOf}
+use Rattle.stream.specs.declared.FujiHeader.{FujiHeader}
+use Rattle.stream.specs.declared.Parsed.the-variants as Parsing
+use Rattle.stream.specs.declared.Ranged.the-variants as Range
+use Rattle.stream.specs.declared.Refusal.the-variants.{BadHeader, ShortSizes}
 
 abbrev pub stat : ℕ → ℕ → Record
 stat sum n = record { sum = sum; n = n }
@@ -38,6 +45,25 @@ bytes-i = 0 ∷ 0 ∷ 0 ∷ 0 ∷ 0 ∷ 0x40 ∷ 0 ∷ []
 
 abbrev pub code-i : Code
 code-i = record { zeros = 41; value = 1; minimal = false; after = record { 0 = 56 } }
+
+-- cases k and l: a header, with that depth
+abbrev pub bytes-k : ℕ → List ℕ
+bytes-k bits =
+    0x49 ∷ 0x53 ∷ 0x01 ∷ 0x00 ∷ bits ∷ 0x00 ∷ 0x06 ∷ 0x03 ∷ 0x00 ∷ 0x03 ∷ 0x00 ∷ 0x03 ∷ 0x00 ∷ 0x01 ∷ 0x00 ∷ 0x01 ∷ []
+
+abbrev pub header-k : FujiHeader
+header-k =
+    record {
+      lossless = true;
+      xtrans = false;
+      bits = 14;
+      height = 6;
+      «rounded_width» = 768;
+      width = 768;
+      «block_size» = 768;
+      blocks = 1;
+      lines = 1;
+    }
 
 pub record Cases : Type 0 where
   -- (a) k
@@ -71,3 +97,10 @@ pub record Cases : Type 0 where
   -- (j) X-Trans places
   pub j₁ : (xtransPlace 0 ≡ 0) × (xtransPlace 1 ≡ 1) × (xtransPlace 2 ≡ 1) × (xtransPlace 3 ≡ 2) × (xtransPlace 4 ≡ 3) × (xtransPlace 5 ≡ 3)
   pub j₂ : xtransPlace 767 ≡ 511
+  -- (k) a header that parses; byte 4 as 0D is refusal 2
+  pub k₁ : parseOf (bytes-k 0x0E) ≡ Parsing.Header header-k
+  pub k₂ : (parseOf (bytes-k 0x0D) ≡ Parsing.Refused BadHeader) × (numberOf BadHeader ≡ 2)
+  -- (l) that header with 4 zero bytes opens, and its block has no bytes, at the stream's end; with 3 bytes it is refusal 3
+  pub l₁ : openOf (bytes-k 0x0E ++ 0 ∷ 0 ∷ 0 ∷ 0 ∷ []) ≡ Parsing.Header header-k
+  pub l₂ : rangeOf (bytes-k 0x0E ++ 0 ∷ 0 ∷ 0 ∷ 0 ∷ []) 0 ≡ Range.At (record { 0 = 20 }) 0
+  pub l₃ : (openOf (bytes-k 0x0E ++ 0 ∷ 0 ∷ 0 ∷ []) ≡ Parsing.Refused ShortSizes) × (numberOf ShortSizes ≡ 3)

@@ -1,0 +1,50 @@
+-- `stream::FujiHeader::parse` meets its contract, by the three ways in which bytes parse. Assumes nothing.
+use borrow.Author.Needs.{needs}
+use mathlib.Core.Bool.{Bool, true, false, _&&_}
+use mathlib.Core.List.{List}
+use mathlib.Core.Path.{_≡_, sym, _∙_}
+use Prim.Native.Nat.{ℕ, _≤_}
+use lib.ListN.{length}
+use Rattle.stream.specs.Headers.{headerOf, kindRules, sizeRules, countRules, allRules, parseOf}
+use Rattle.stream.specs.declared.FujiHeader.{FujiHeader}
+use Rattle.stream.specs.declared.Parsed.the-variants.{Header, Refused}
+use Rattle.stream.specs.declared.Refusal.the-variants.{BadHeader}
+use Rattle.stream.proofs.HeaderLaws.{parse-short, parse-bad, parse-good}
+use Rattle.stream.proofs.FujiHeader.parse.Statement.{statement}
+use Rattle.stream.proofs.FujiHeader.parse.Tie as tie
+
+-- the three tests on the header that was read are those of all rules
+module _ (d : List ℕ) (h : FujiHeader) (k s n : Bool) (eh : h ≡ headerOf d) (ek : k ≡ kindRules d) (es : s ≡ sizeRules h) (en : n ≡ countRules h) where
+  rules : (k && s && n) ≡ allRules d
+  rules = rw (ek, es, en, eh)
+
+  good : 16 ≤ length d → (k && s && n) ≡ true → Header h ≡ parseOf d
+  good l t = rw eh (sym (parse-good d l (sym rules ∙ t)))
+
+  bad : 16 ≤ length d → (k && s && n) ≡ false → Refused BadHeader ≡ parseOf d
+  bad l t = sym (parse-bad d l (sym rules ∙ t))
+
+returns : tie.Need-returns
+returns c = sym (parse-short _ (c .if1 .taken))
+
+returns-2 : tie.Need-returns-2
+returns-2 c =
+    let b = c .before .before .before in
+    good _ _ _ _ _ (b .before .read-header .ensures) (b .keeps-kind-rules .ensures) (c .before .before .keeps-size-rules .ensures) (c .before .keeps-count-rules .ensures) (search needs) (c .if2 .taken)
+
+returns-3 : tie.Need-returns-3
+returns-3 c =
+    let b = c .before .before .before in
+    bad _ _ _ _ _ (b .before .read-header .ensures) (b .keeps-kind-rules .ensures) (c .before .before .keeps-size-rules .ensures) (c .before .keeps-count-rules .ensures) (search needs) (c .if2 .left)
+
+pub parse-spec : {M : Type 1} → statement M
+parse-spec =
+    tie.close
+    (tie.spec
+    returns
+    (λ c κs. search needs)
+    (λ c κs. search needs)
+    (λ c κs. search needs)
+    (λ c κs. search needs)
+    returns-2
+    returns-3)

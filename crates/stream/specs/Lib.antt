@@ -1,0 +1,4 @@
+-- The definitions of streams and of the refusals.
+pub mod Refusals
+pub mod Headers
+pub mod Streams

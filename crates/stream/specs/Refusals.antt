@@ -1,0 +1,40 @@
+-- The refusals: the number of each, and the values that it names. Assumes nothing.
+use Prim.Native.Nat.{ℕ}
+use mathlib.Core.List.{List, [], _∷_}
+use Rattle.stream.specs.declared.Refusal.{Refusal}
+use Rattle.stream.specs.declared.Refusal.the-variants.{ShortHeader, BadHeader, ShortSizes, ShortBases, NoBlock, WrongSize, OutsideImage, Lossy, WrongCount, ShortScratch, AboveLargest, NotPredicted, ShortOutput, Truncated, NotTight}
+
+abbrev pub numberOf : Refusal → ℕ
+numberOf ShortHeader = 1
+numberOf BadHeader = 2
+numberOf ShortSizes = 3
+numberOf (ShortBases block) = 4
+numberOf NoBlock = 5
+numberOf WrongSize = 6
+numberOf OutsideImage = 7
+numberOf Lossy = 8
+numberOf WrongCount = 9
+numberOf ShortScratch = 10
+numberOf (AboveLargest index) = 11
+numberOf (NotPredicted index) = 12
+numberOf ShortOutput = 13
+numberOf (Truncated block line) = 14
+numberOf (NotTight line) = 15
+
+-- the values that a refusal names: a block, an index of a sample, a block and its line, or a line
+abbrev pub valuesOf : Refusal → List ℕ
+valuesOf ShortHeader = []
+valuesOf BadHeader = []
+valuesOf ShortSizes = []
+valuesOf (ShortBases block) = block ∷ []
+valuesOf NoBlock = []
+valuesOf WrongSize = []
+valuesOf OutsideImage = []
+valuesOf Lossy = []
+valuesOf WrongCount = []
+valuesOf ShortScratch = []
+valuesOf (AboveLargest index) = index ∷ []
+valuesOf (NotPredicted index) = index ∷ []
+valuesOf ShortOutput = []
+valuesOf (Truncated block line) = block ∷ line ∷ []
+valuesOf (NotTight line) = line ∷ []
