@@ -1,17 +1,16 @@
 -- `pass::pass` meets its contract: after each turn the steps of the turns so far are read. Assumes nothing.
 use borrow.Author.Needs.{needs}
-use mathlib.Core.Bool.{Bool, not, _&&_}
 use mathlib.Core.Logic.{⊎-elim}
 use mathlib.Core.Option.{some}
-use mathlib.Core.Path.{_≡_, refl, sym, ap, _∙_}
-use Prim.Native.Nat.{ℕ, _+_, _-_, _*_, _/_, _%_, _^_, _≤_, _<_}
+use mathlib.Core.Path.{_≡_, refl, _∙_}
+use Prim.Native.Nat.{_+_, _-_, _/_, _%_, _≤_}
 use native.Mathlib.Omega.{arith}
 use lib.ListN.{length}
-use Rattle.pass.specs.Steps.{evenSteps, oddSteps, turnSteps, upto}
-use Rattle.pass.specs.Readings.{Reading, reads, readPass, zipRecords, SetInRange, quantisersOf}
-use Rattle.pass.specs.declared.Quantisers.{Quantisers}
-use Rattle.pass.proofs.StepLaws.{evenPart, oddPart, evens-here, evens-over, odds-here, odds-not-yet, turn-more, evens-cut-off, odds-cut-off, all-read, was-cut-off, was-at, reading-met, range-met, passed-cut-off, passed}
+use Rattle.pass.specs.Steps.{turnSteps, upto}
+use Rattle.pass.specs.Readings.{Reading, zipRecords, SetInRange}
 use Rattle.pass.proofs.TableLaws.{are-quantisers}
+use Rattle.pass.proofs.StepLaws.{StepsGive, no-steps, evenPart, evens-here, evens-over, odds-here, odds-not-yet, turn-more, evens-cut-off, odds-cut-off, all-read}
+use Rattle.pass.proofs.SiteLaws.{held, met, steps-met, ranges-met, length-met, pair-was-cut-off, pair-was-at, passed-cut-off, passed}
 use Rattle.pass.proofs.pass.Statement.{statement}
 use Rattle.pass.proofs.pass.Tie as tie
 
@@ -21,69 +20,70 @@ Inv-loop block tight-before lines₀ w plan bits sums₀ ns₀ totals raws limit
     × (p ≤ w + 8)
     × (length lines ≡ length lines₀)
     × SetInRange (zipRecords sums ns)
-    × (reads bits base w block (upto (turnSteps w plan) (p / 2)) (record { lines = lines₀; set = zipRecords sums₀ ns₀; at = at₀; tight = tight₀ }) ≡ some (record { lines = lines; set = zipRecords sums ns; at = at; tight = tight }))
+    × StepsGive bits base w block (upto (turnSteps w plan) (p / 2)) (held lines₀ sums₀ ns₀ at₀ tight₀) (some (held lines sums ns at tight))
 
 abbrev μ-loop : tie.MeasureT-loop
 μ-loop block tight-before lines₀ w plan bits sums₀ ns₀ totals raws limits base at₀ tight₀ p₀ lines sums ns at tight p = w + 8 - p
 
 loop-holds : tie.Need-loop-holds Inv-loop μ-loop
-unfolding upto reads
-loop-holds c = (refl, omega arith, refl, c .before .before .before .before .before .before .before .pre .1 .1 .1, refl)
+unfolding upto
+loop-holds c = (refl, omega arith, refl, c .before .before .before .before .before .before .before .pre .1 .1 .1, no-steps)
+
+abbrev entry : tie.In-loop Inv-loop μ-loop → tie.Start Inv-loop μ-loop
+entry c = c .before .before .before .before .before .before .before .before .before
 
 -- ---- the even position
 
 even-pair-requires : tie.Need-even-pair-requires Inv-loop μ-loop
 even-pair-requires c κs =
-    let s = c .before .before .before .before .before .before .before .before .before .before .before .before .before .before .before .before in
-    let i = c .before .before .before .before .before .before .before .before .loop .inv in
-    let d = s .pre .1 .1 .0 in (
-      (s .pre .0 .0, (s .pre .0 .1 .1 .0, (c .before .before .before .before .before .before .if1 .taken, i .0))),
-      ((omega (arith, s .pre .1 .0 .0, i .2), s .pre .1 .0 .1), ((d .0, (d .1 .0, are-quantisers _ _ (d .1 .1))), i .3)),
+    let p = entry (c .before .before .before .before .before .before .before) .pre in
+    let l = c .before .before .before .before .before .before .before .before .loop .inv in
+    let d = p .1 .1 .0 in (
+      (p .0 .0, (p .0 .1 .1 .0, (c .before .before .before .before .before .before .if1 .taken, l .0))),
+      ((omega (arith, p .1 .0 .0, l .2), p .1 .0 .1), ((d .0, (d .1 .0, are-quantisers _ _ (d .1 .1))), l .3)),
     )
-
-same-length : tie.Need-same-length Inv-loop μ-loop
-same-length c = c .before .before .before .before .even-pair .kept .1 .1 .1 .0 ∙ c .before .before .before .before .before .before .before .before .before .before .before .before .before .loop .inv .2
 
 returns : tie.Need-returns Inv-loop μ-loop
 returns c =
-    let s = c .before .before .before .before .before .before .before .before .before .before .before .before .before .before .before .before .before .before .before .before .before in
+    let s = entry (c .before .before .before .before .before .before .before .before .before .before .before .before) in
     let l = c .before .before .before .before .before .before .before .before .before .before .before .before .before .loop .inv in
     let e = c .before .before .before .before .even-pair .ensures in (
-      passed-cut-off _ _ _ (evens-cut-off _ _ _ _ _ _ _ _ (l .4) (l .0) (s .pre .0 .1 .1 .1) (c .before .before .before .before .before .before .before .before .before .before .before .if1 .taken) (was-cut-off _ _ _ _ _ (e .0) (c .enum-told .given .1))) refl,
+      passed-cut-off _ _ _
+          (evens-cut-off (s .args .plan) _ (l .4) (l .0) (s .pre .0 .1 .1 .1) (c .before .before .before .before .before .before .before .before .before .before .before .if1 .taken)
+          (pair-was-cut-off _ _ _ _ _ _ _ _ _ (e .0) (c .enum-told .given .1)))
+          refl,
       e .1,
     )
 
--- what was read before the turn, and after its even position
-abbrev head : tie.Joined1 Inv-loop μ-loop → Reading
-head c =
-    let l = c .before .before .loop in
-    record { lines = l .lines; set = zipRecords (l .sums) (l .ns); at = l .at; tight = l .tight }
+-- ---- where the two ways past it meet
 
 abbrev middle : tie.Joined1 Inv-loop μ-loop → Reading
-middle c =
-    record { lines = c .if1 .lines; set = zipRecords (c .if1 .sums) (c .if1 .ns); at = c .if1 .at; tight = c .if1 .tight }
+middle c = held (c .if1 .lines) (c .if1 .sums) (c .if1 .ns) (c .if1 .at) (c .if1 .tight)
 
-abbrev entry : tie.Joined1 Inv-loop μ-loop → tie.Start Inv-loop μ-loop
-entry c = c .before .before .before .before .before .before .before .before .before .before
-
-record Evens (c : tie.Joined1 Inv-loop μ-loop) : Type 0 where
-  read : reads (entry c .args .bits) (entry c .args .qs .base) (entry c .args .w) (entry c .args .block .now) (evenPart (entry c .args .w) (entry c .args .plan) (c .before .before .loop .p)) (head c) ≡ some (middle c)
+record Met (c : tie.Joined1 Inv-loop μ-loop) : Type 0 where
+  read : let a = entry (c .before) .args in let l = c .before .before .loop in
+      StepsGive (a .bits) (a .qs .base) (a .w) (a .block .now) (evenPart (a .w) (a .plan) (l .p)) (held (l .lines) (l .sums) (l .ns) (l .at) (l .tight)) (some (middle c))
   in-range : SetInRange (middle c .set)
-  same : length (c .if1 .lines) ≡ length (entry c .args .lines .now)
+  same : length (middle c .lines) ≡ length (entry (c .before) .args .lines .now)
 
-evens : (c : tie.Joined1 Inv-loop μ-loop) → Evens c
+evens : (c : tie.Joined1 Inv-loop μ-loop) → Met c
 evens c =
+    let P = entry (c .before) .args .plan in
     let l = c .before .before .loop .inv in
     ⊎-elim
-    (λ w. record {
-      read = reading-met _ _ _ _ _ _ _ _ _ _ (w .13) (w .14) (w .15) (w .16) (w .17) _ (evens-here _ _ _ _ (entry c .args .plan) _ _ (w .0 .taken) ∙ was-at _ _ _ _ _ _ _ (w .7 .ensures .0) (w .11 .given .1));
-      in-range = range-met _ _ _ _ _ _ _ _ _ _ (w .13) (w .14) (w .15) (w .16) (w .17) (w .7 .ensures .1);
-      same = ap length (w .13) ∙ (w .7 .kept .1 .1 .1 .0 ∙ l .2);
+    (λ w.
+    let m = met (w .13) (w .14) (w .15) (w .16) (w .17) in
+    record {
+      read = steps-met m (evens-here P _ (w .0 .taken) (pair-was-at _ _ _ _ _ _ _ _ _ (w .7 .ensures .0) (w .11 .given .1)));
+      in-range = ranges-met m (w .7 .ensures .1);
+      same = length-met m ∙ (w .7 .kept .1 .1 .1 .0 ∙ l .2);
     })
-    (λ w. record {
-      read = reading-met _ _ _ _ _ _ _ _ _ _ (w .1) (w .2) (w .3) (w .4) (w .5) _ (evens-over _ _ _ _ (entry c .args .plan) _ _ (w .0 .left));
-      in-range = range-met _ _ _ _ _ _ _ _ _ _ (w .1) (w .2) (w .3) (w .4) (w .5) (l .3);
-      same = ap length (w .1) ∙ l .2;
+    (λ w.
+    let m = met (w .1) (w .2) (w .3) (w .4) (w .5) in
+    record {
+      read = steps-met m (evens-over P _ (w .0 .left));
+      in-range = ranges-met m (l .3);
+      same = length-met m ∙ l .2;
     })
     (c .if1 .came)
 
@@ -91,25 +91,25 @@ evens c =
 
 odd-pair-requires : tie.Need-odd-pair-requires Inv-loop μ-loop
 odd-pair-requires c κs =
-    let s = c .before .before .before .before .before .before .before .before .before .before .before .before .before .before .before .before .before in
-    let l = c .before .before .before .before .before .before .before .before .before .loop .inv in
-    let e = evens (c .before .before .before .before .before .before .before) in
-    let d = s .pre .1 .1 .0 in
-    let t = c .before .before .before .before .before .before .before .before .loop-test .taken in
-    let f = c .before .before .before .before .before .before .if2 .taken in (
-      (s .pre .0 .0, (s .pre .0 .1 .1 .0, (omega (arith, t, f, s .pre .0 .1 .1 .1, l .0), omega (arith, f, l .0)))),
-      ((omega (arith, s .pre .1 .0 .0, e .same), s .pre .1 .0 .1), ((d .0, (d .1 .0, are-quantisers _ _ (d .1 .1))), e .in-range)),
+    let j = c .before .before .before .before .before .before .before in
+    let p = entry (j .before) .pre in
+    let even = j .before .before .loop .inv .0 in
+    let from = c .before .before .before .before .before .before .if2 .taken in
+    let d = p .1 .1 .0 in (
+      (p .0 .0, (p .0 .1 .1 .0, (omega (arith, j .before .loop-test .taken, from, p .0 .1 .1 .1, even), omega (arith, from, even)))),
+      ((omega (arith, p .1 .0 .0, evens j .same), p .1 .0 .1), ((d .0, (d .1 .0, are-quantisers _ _ (d .1 .1))), evens j .in-range)),
     )
-
-same-length-2 : tie.Need-same-length-2 Inv-loop μ-loop
-same-length-2 c = c .before .before .before .before .odd-pair .kept .1 .1 .1 .0 ∙ evens (c .before .before .before .before .before .before .before .before .before .before .before .before) .same
 
 returns-2 : tie.Need-returns-2 Inv-loop μ-loop
 returns-2 c =
-    let s = c .before .before .before .before .before .before .before .before .before .before .before .before .before .before .before .before .before .before .before .before .before .before in
-    let l = c .before .before .before .before .before .before .before .before .before .before .before .before .before .before .loop .inv in
+    let j = c .before .before .before .before .before .before .before .before .before .before .before .before in
+    let s = entry (j .before) in
+    let l = j .before .before .loop .inv in
     let e = c .before .before .before .before .odd-pair .ensures in (
-      passed-cut-off _ _ _ (odds-cut-off _ _ _ _ _ _ _ _ (l .4) (l .0) _ (s .pre .0 .1 .1 .1) (c .before .before .before .before .before .before .before .before .before .before .before .before .before .loop-test .taken) (c .before .before .before .before .before .before .before .before .before .before .before .if2 .taken) (evens (c .before .before .before .before .before .before .before .before .before .before .before .before) .read) (was-cut-off _ _ _ _ _ (e .0) (c .enum-told2 .given .1))) refl,
+      passed-cut-off _ _ _
+          (odds-cut-off (s .args .plan) _ (l .4) (l .0) (s .pre .0 .1 .1 .1) (j .before .loop-test .taken) (c .before .before .before .before .before .before .before .before .before .before .before .if2 .taken) (evens j .read)
+          (pair-was-cut-off _ _ _ _ _ _ _ _ _ (e .0) (c .enum-told2 .given .1)))
+          refl,
       e .1,
     )
 
@@ -117,35 +117,31 @@ returns-2 c =
 
 loop-again : tie.Need-loop-again Inv-loop μ-loop
 loop-again c =
-    let s = c .before .before .before .before .before .before .before .before .before .before .before in
+    let s = entry (c .before .before) in
     let l = c .before .before .before .loop .inv in
+    let test = c .before .before .loop-test .taken in
     let e = evens (c .before) in
     ⊎-elim
-    (λ w. (
+    (λ w. let m = met (w .13) (w .14) (w .15) (w .16) (w .17) in (
       omega (arith, l .0),
-      omega (arith, l .0, c .before .before .loop-test .taken, s .pre .0 .1 .1 .1),
-      ap length (w .13) ∙ (w .7 .kept .1 .1 .1 .0 ∙ e .same),
-      range-met _ _ _ _ _ _ _ _ _ _ (w .13) (w .14) (w .15) (w .16) (w .17) (w .7 .ensures .1),
-      turn-more _ _ _ _ _ _ _ _ (l .4) (l .0) _ _ (e .read) (reading-met _ _ _ _ _ _ _ _ _ _ (w .13) (w .14) (w .15) (w .16) (w .17) _ (odds-here _ _ _ _ (s .args .plan) _ _ (w .0 .taken) ∙ was-at _ _ _ _ _ _ _ (w .7 .ensures .0) (w .11 .given .1))),
+      omega (arith, l .0, test, s .pre .0 .1 .1 .1),
+      length-met m ∙ (w .7 .kept .1 .1 .1 .0 ∙ e .same),
+      ranges-met m (w .7 .ensures .1),
+      turn-more (s .args .plan) _ (l .4) (l .0) (e .read) (steps-met m (odds-here (s .args .plan) _ (w .0 .taken) (pair-was-at _ _ _ _ _ _ _ _ _ (w .7 .ensures .0) (w .11 .given .1)))),
     ))
-    (λ w. (
+    (λ w. let m = met (w .1) (w .2) (w .3) (w .4) (w .5) in (
       omega (arith, l .0),
-      omega (arith, l .0, c .before .before .loop-test .taken, s .pre .0 .1 .1 .1),
-      ap length (w .1) ∙ e .same,
-      range-met _ _ _ _ _ _ _ _ _ _ (w .1) (w .2) (w .3) (w .4) (w .5) (e .in-range),
-      turn-more _ _ _ _ _ _ _ _ (l .4) (l .0) _ _ (e .read) (reading-met _ _ _ _ _ _ _ _ _ _ (w .1) (w .2) (w .3) (w .4) (w .5) _ (odds-not-yet _ _ _ _ (s .args .plan) _ _ (w .0 .left))),
+      omega (arith, l .0, test, s .pre .0 .1 .1 .1),
+      length-met m ∙ e .same,
+      ranges-met m (e .in-range),
+      turn-more (s .args .plan) _ (l .4) (l .0) (e .read) (steps-met m (odds-not-yet (s .args .plan) _ (w .0 .left))),
     ))
     (c .if2 .came)
-
--- ---- the end
-
-same-length-3 : tie.Need-same-length-3 Inv-loop μ-loop
-same-length-3 c = c .before .loop .inv .2
 
 returns-3 : tie.Need-returns-3 Inv-loop μ-loop
 returns-3 c =
     let l = c .before .loop .inv in
-    (passed _ _ _ _ _ (all-read _ _ _ _ _ _ _ _ (l .4) (l .0) (omega (arith, l .1, c .loop-test .left))), l .3)
+    (passed _ _ _ _ _ (all-read _ _ (l .4) (l .0) (omega (arith, l .1, c .loop-test .left))), l .3)
 
 pub pass-spec : {M : Type 1} → statement M
 pass-spec =
@@ -158,16 +154,16 @@ pass-spec =
     even-pair-requires
     (λ c. search needs)
     (λ c. search needs)
-    same-length
+    (λ c. c .before .before .before .before .even-pair .kept .1 .1 .1 .0 ∙ c .before .before .before .before .before .before .before .before .before .before .before .before .before .loop .inv .2)
     returns
     (λ c. search needs)
     odd-pair-requires
     (λ c. search needs)
     (λ c. search needs)
-    same-length-2
+    (λ c. c .before .before .before .before .odd-pair .kept .1 .1 .1 .0 ∙ evens (c .before .before .before .before .before .before .before .before .before .before .before .before) .same)
     returns-2
     (λ c. search needs)
     (λ c. search needs)
     loop-again
-    same-length-3
+    (λ c. c .before .loop .inv .2)
     returns-3)

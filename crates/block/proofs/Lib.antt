@@ -1,0 +1,10 @@
+-- What the proofs share: the record in the borrow checker's tables, what a tool derives, and the laws of the definitions.
+pub mod Element
+pub mod derived
+pub mod TableLaws
+pub mod SetLaws
+pub mod RangeLaws
+pub mod RunLaws
+pub mod LineLaws
+pub mod BlockLaws
+pub mod ImageLaws

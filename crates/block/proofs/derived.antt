@@ -1,0 +1,11 @@
+pub mod clear_records
+pub mod fetch
+pub mod line
+pub mod load_set
+pub mod read_lines
+pub mod restart
+pub mod restart_main
+pub mod start_records
+pub mod store_set
+pub mod update
+pub mod walk

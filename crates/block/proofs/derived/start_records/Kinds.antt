@@ -1,0 +1,14 @@
+-- Written by tools/lend.py from Rattle's derivation of the twin of `block`; not edited by hand. Assumes nothing.
+use Rattle.block.proofs.Element
+use borrow.Fn.Kinds
+use borrow.Kind.MutSlice
+use borrow.Table.Referent
+use denote.Array
+use mathlib.Core.List
+use mir.Syntax
+
+abbrev pub ps : List.List (Kinds.PK 1)
+ps = List._∷_ (MutSlice.pMutS (Element.type) 0 tt) (List._∷_ (Kinds.pNum Syntax.w32) (List._∷_ (Kinds.pNum Syntax.w32) List.[]))
+
+abbrev pub r : Kinds.RK 1
+r = Kinds.rUnit

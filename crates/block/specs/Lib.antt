@@ -1,0 +1,3 @@
+-- The definitions of a block.
+pub mod Records
+pub mod Blocks

@@ -1,0 +1,399 @@
+// A block: six passes make a line, and lines make a block. The 336 records are lent as a slice of records; only `fetch` and `update` touch an
+// element, and the functions that pass the slice on are proved through derivations that a tool writes (docs/LENT-RECORDS.md).
+ghost use mathlib.Core.Path.{_≡_};
+ghost use mathlib.Core.Bool.{cond, _&&_};
+ghost use Prim.Native.Nat.{_+_, _*_, _%_, _^_, _≤_, _<_};
+ghost use lib.Dec.{ltb, eqb};
+ghost use lib.ListN.{length, getD, set};
+ghost use Rattle.lines.specs.ColourLines.{zeroLines};
+ghost use Rattle.map.specs.Places.{widthOf, ArePlaces, Fits};
+ghost use Rattle.pass.specs.Readings.{noRecord, recordsOf, SetInRange, quantisersOf, Depth};
+ghost use Rattle.block.specs.Records.{startRecord, startRecords, restartedMain, baseOf, isRestarted, setOf, putSet, clearRecords};
+ghost use Rattle.block.specs.Blocks.{AllInRange, readLine, IsLined, Shown, shownLines, IsWalked};
+use bits::BitPosition;
+use map::Part;
+use pass::Quantisers;
+use pass::Set;
+use quantiser::Quantiser;
+use statistics::Record;
+
+pub struct Form {
+    pub bits: u32,
+    pub xtrans: bool,
+}
+
+// A line that was read, with the position after it; or that it is truncated.
+pub struct Lined {
+    pub ok: bool,
+    pub tight: bool,
+    pub at: BitPosition,
+}
+
+// All lines were read, up to this bit, and so many of them, from the first on, have only tight codes; or this line is the first that is
+// truncated.
+pub struct Walked {
+    pub ok: bool,
+    pub line: usize,
+    pub at: BitPosition,
+    pub tight_lines: usize,
+}
+
+pub fn width(xtrans: bool) -> usize
+    ensures { λ r. ⌜ r ≡ widthOf xtrans ⌝ }
+{
+    if xtrans { 512 } else { 384 }
+}
+
+fn wide(x: u8) -> u32
+    ensures { λ r. ⌜ (r ≡ x) × (r < 256) ⌝ }
+{
+    x as u32
+}
+
+// The base of line n; a lossless block has none, and base 0 in each line.
+fn base_of(bases: &[u8], n: usize) -> u32
+    ensures { λ r. ⌜ (r ≡ baseOf (now (bases .entry)) n) × (r < 256) ⌝ }
+{
+    if n < bases.len() {
+        return wide(bases[n]);
+    }
+    0
+}
+
+fn is_restarted(bases: &[u8], n: usize) -> bool
+    ensures { λ r. ⌜ r ≡ isRestarted (now (bases .entry)) n ⌝ }
+{
+    if n == 0 {
+        return true;
+    }
+    base_of(bases, n) != base_of(bases, n - 1)
+}
+
+fn quantisers_of(bits: u32, base: u32) -> Quantisers
+    requires { ⌜ Depth bits × (base < 256) ⌝ }
+    ensures { λ r. ⌜ r ≡ quantisersOf bits base ⌝ }
+{
+    let m = Quantiser::main(bits, base);
+    let a = Quantiser::flat(bits, 1);
+    let b = Quantiser::flat(bits, 2);
+    let c = Quantiser::flat(bits, 3);
+    Quantisers {
+        base,
+        totals: [m.total, a.total, b.total, c.total],
+        raws: [m.raw, a.raw, b.raw, c.raw],
+        limits: [m.limit, a.limit, b.limit, c.limit],
+    }
+}
+
+// What record j starts with.
+fn start_record(bits: u32, base: u32, j: usize) -> Record
+    requires { ⌜ Depth bits × (base < 256) ⌝ }
+    ensures { λ r. ⌜ r ≡ startRecord bits base j ⌝ }
+{
+    let place = j % 56;
+    if place < 41 {
+        let q = Quantiser::main(bits, base);
+        return Record {
+            sum: q.start_sum(),
+            n: 1,
+        };
+    }
+    let q = Quantiser::flat(bits, ((place - 41) / 5 + 1) as u32);
+    Record {
+        sum: q.start_sum(),
+        n: 1,
+    }
+}
+
+// A record as it is, or what it starts with if it belongs to the main quantiser.
+fn restarted_record(old: Record, bits: u32, base: u32, j: usize) -> Record
+    requires { ⌜ Depth bits × (base < 256) ⌝ }
+    ensures { λ r. ⌜ r ≡ cond (ltb (j % 56) 41) (startRecord bits base j) old ⌝ }
+{
+    if j % 56 < 41 {
+        return start_record(bits, base, j);
+    }
+    old
+}
+
+// Whether more bits are consumed than the block has, and seven.
+fn is_past(block: &[u8], at: BitPosition) -> bool
+    requires { ⌜ length (now block) < 2 ^ 32 ⌝ }
+    ensures { λ r. ⌜ r ≡ ltb (8 * length (now (block .entry)) + 7) (at .0) ⌝ }
+{
+    let end = 8 * (block.len() as u64) + 7;
+    end < at.0
+}
+
+// How many lines have only tight codes, after line n.
+fn tight_count(m: usize, n: usize, tight: bool) -> usize
+    requires { ⌜ (m ≤ n) × (n < 2 ^ 16) ⌝ }
+    ensures { λ r. ⌜ (r ≡ cond (eqb m n && tight) (n + 1) m) × (r ≤ n + 1) ⌝ }
+{
+    if tight {
+        if m == n {
+            return n + 1;
+        }
+    }
+    m
+}
+
+fn cleared() -> Record
+    ensures { λ r. ⌜ r ≡ record { sum = 0; n = 1 } ⌝ }
+{
+    Record { sum: 0, n: 1 }
+}
+
+// ---- the lent records: the two functions that touch an element
+
+// twin: cleared()
+pub fn fetch(rs: &mut [Record], i: usize) -> Record
+    requires { ⌜ i < length (now rs) ⌝ }
+    ensures { λ r. ⌜ (r ≡ getD (now (rs .entry)) i noRecord) × (now (rs .exit) ≡ now (rs .entry)) ⌝ }
+{
+    rs[i]
+}
+
+pub fn update(rs: &mut [Record], i: usize, r: Record)
+    requires { ⌜ i < length (now rs) ⌝ }
+    ensures { λ _. ⌜ now (rs .exit) ≡ set (now (rs .entry)) i r ⌝ }
+{
+    rs[i] = r;
+}
+
+// ---- the functions that pass the slice on
+
+// All records start.
+fn start_records(rs: &mut [Record], bits: u32, base: u32)
+    requires { ⌜ (length (now rs) ≡ 336) × (Depth bits × (base < 256)) ⌝ }
+    ensures { λ _. ⌜ now (rs .exit) ≡ startRecords bits base ⌝ }
+{
+    let mut j: usize = 0;
+    while j < 336 {
+        let r = start_record(bits, base, j);
+        update(rs, j, r);
+        j = j + 1;
+    }
+}
+
+// The main records start anew.
+fn restart_main(rs: &mut [Record], bits: u32, base: u32)
+    requires { ⌜ (length (now rs) ≡ 336) × (Depth bits × (base < 256)) ⌝ }
+    ensures { λ _. ⌜ now (rs .exit) ≡ restartedMain bits base (now (rs .entry)) ⌝ }
+{
+    let mut j: usize = 0;
+    while j < 336 {
+        let old = fetch(rs, j);
+        let r = restarted_record(old, bits, base, j);
+        update(rs, j, r);
+        j = j + 1;
+    }
+}
+
+// The main records start anew where that is wanted.
+fn restart(rs: &mut [Record], bits: u32, base: u32, wanted: bool)
+    requires { ⌜ (length (now rs) ≡ 336) × (Depth bits × (base < 256)) ⌝ }
+    ensures { λ _. ⌜ now (rs .exit) ≡ cond wanted (restartedMain bits base (now (rs .entry))) (now (rs .entry)) ⌝ }
+{
+    if wanted {
+        restart_main(rs, bits, base);
+    }
+}
+
+// All records as scratch is left.
+fn clear_records(rs: &mut [Record])
+    requires { ⌜ length (now rs) ≡ 336 ⌝ }
+    ensures { λ _. ⌜ now (rs .exit) ≡ clearRecords ⌝ }
+{
+    let mut j: usize = 0;
+    while j < 336 {
+        update(rs, j, cleared());
+        j = j + 1;
+    }
+}
+
+// twin: Set { sums: [0; 112], ns: [0; 112] }
+// Set g, for a pass.
+fn load_set(rs: &mut [Record], g: usize) -> Set
+    requires { ⌜ (length (now rs) ≡ 336) × (g < 3) ⌝ }
+    ensures { λ r. ⌜ (recordsOf r ≡ setOf g (now (rs .entry))) × (now (rs .exit) ≡ now (rs .entry)) ⌝ }
+{
+    let mut sums = [0u32; 112];
+    let mut ns = [0u32; 112];
+    let mut i: usize = 0;
+    while i < 112 {
+        let r = fetch(rs, 112 * g + i);
+        sums[i] = r.sum;
+        ns[i] = r.n;
+        i = i + 1;
+    }
+    Set { sums, ns }
+}
+
+// Set g, after a pass.
+fn store_set(rs: &mut [Record], g: usize, set: Set)
+    requires { ⌜ (length (now rs) ≡ 336) × (g < 3) ⌝ }
+    ensures { λ _. ⌜ now (rs .exit) ≡ putSet g (recordsOf set) (now (rs .entry)) ⌝ }
+{
+    let sums = set.sums;
+    let ns = set.ns;
+    let mut i: usize = 0;
+    while i < 112 {
+        let r = Record {
+            sum: sums[i],
+            n: ns[i],
+        };
+        update(rs, 112 * g + i, r);
+        i = i + 1;
+    }
+}
+
+// twin: Lined { ok: false, tight: false, at: BitPosition(0) }
+// One line: six passes, each on the records of its set.
+fn line(
+    block: &[u8],
+    from: BitPosition,
+    tight_before: bool,
+    lines: &mut [u16],
+    rs: &mut [Record],
+    form: Form,
+    qs: Quantisers,
+) -> Lined
+    requires { ⌜ (length (now block) < 2 ^ 32) × ((length (now lines) ≡ 18 * (widthOf (form .xtrans) + 2)) × (length (now rs) ≡ 336)) ⌝ }
+    requires { ⌜ Depth (form .bits) × ((qs .base < 256) × (qs ≡ quantisersOf (form .bits) (qs .base))) ⌝ }
+    requires { ⌜ AllInRange (now rs) ⌝ }
+    ensures { λ r. ⌜ IsLined (readLine form (qs .base) (now (block .entry)) (record { lines = now (lines .entry); records = now (rs .entry); at = from; tight = «tight_before» })) (now (lines .exit)) (now (rs .exit)) r × AllInRange (now (rs .exit)) ⌝ }
+{
+    let bits = form.bits;
+    let xtrans = form.xtrans;
+    let w = width(xtrans);
+    let mut at = from;
+    let mut tight = tight_before;
+    let mut i: usize = 0;
+    while i < 6 {
+        let p = pass::plan_at(i, xtrans);
+        lines::set_guards(lines, w, p.first);
+        lines::set_guards(lines, w, p.second);
+        let set = load_set(rs, p.set);
+        let done = pass::pass(block, at, tight, lines, set, w, p, qs, bits);
+        let ok = done.ok;
+        if !ok {
+            return Lined {
+                ok: false,
+                tight,
+                at,
+            };
+        }
+        let new = done.set;
+        store_set(rs, p.set, new);
+        at = done.at;
+        tight = done.tight;
+        i = i + 1;
+    }
+    if is_past(block, at) {
+        return Lined {
+            ok: false,
+            tight,
+            at,
+        };
+    }
+    Lined {
+        ok: true,
+        tight,
+        at,
+    }
+}
+
+// twin: Walked { ok: false, line: 0, at: BitPosition(0), tight_lines: 0 }
+// The first `count` lines of a block, each put into the image as soon as it is read. Scratch is left as it is then.
+fn read_lines(
+    block: &[u8],
+    bases: &[u8],
+    lines: &mut [u16],
+    rs: &mut [Record],
+    image: &mut [u16],
+    form: Form,
+    places: &[u16; 768],
+    tile: [u8; 36],
+    part: Part,
+    count: usize,
+) -> Walked
+    requires { ⌜ (length (now block) < 2 ^ 32) × ((length (now lines) ≡ 18 * (widthOf (form .xtrans) + 2)) × (length (now rs) ≡ 336)) ⌝ }
+    requires { ⌜ Depth (form .bits) × (count < 2 ^ 16) ⌝ }
+    requires { ⌜ ArePlaces (now places) × Fits part (now image) ⌝ }
+    ensures { λ r. ⌜ IsWalked form (now (bases .entry)) (now (block .entry)) count r × Shown form (now (bases .entry)) (now (block .entry)) tile part (shownLines r count) (now (image .entry)) (now (image .exit)) ⌝ }
+{
+    let bits = form.bits;
+    let xtrans = form.xtrans;
+    let w = width(xtrans);
+    lines::clear(lines);
+    start_records(rs, bits, base_of(bases, 0));
+    let mut at = BitPosition(0);
+    let mut tight = true;
+    let mut tight_lines: usize = 0;
+    let mut n: usize = 0;
+    while n < count {
+        lines::turn(lines, w);
+        let base = base_of(bases, n);
+        restart(rs, bits, base, is_restarted(bases, n));
+        let got = line(block, at, tight, lines, rs, form, quantisers_of(bits, base));
+        let ok = got.ok;
+        if !ok {
+            return Walked {
+                ok: false,
+                line: n,
+                at,
+                tight_lines,
+            };
+        }
+        at = got.at;
+        tight = got.tight;
+        tight_lines = tight_count(tight_lines, n, tight);
+        map::emit_line(lines, image, w, xtrans, places, tile, part, n);
+        n = n + 1;
+    }
+    Walked {
+        ok: true,
+        line: count,
+        at,
+        tight_lines,
+    }
+}
+
+// twin: Walked { ok: false, line: 0, at: BitPosition(0), tight_lines: 0 }
+// A walk over the first `count` lines of a block: the one reading that decoding and the tight reading share. Lines that are read go to the
+// part of the image; whoever wants none gives an empty part. Scratch is cleared afterwards, whatever it held before.
+pub fn walk(
+    block: &[u8],
+    bases: &[u8],
+    lines: &mut [u16],
+    rs: &mut [Record],
+    image: &mut [u16],
+    form: Form,
+    places: &[u16; 768],
+    tile: [u8; 36],
+    part: Part,
+    count: usize,
+) -> Walked
+    requires { ⌜ (length (now block) < 2 ^ 32) × ((length (now lines) ≡ 18 * (widthOf (form .xtrans) + 2)) × (length (now rs) ≡ 336)) ⌝ }
+    requires { ⌜ Depth (form .bits) × (count < 2 ^ 16) ⌝ }
+    requires { ⌜ ArePlaces (now places) × Fits part (now image) ⌝ }
+    ensures { λ r. ⌜ IsWalked form (now (bases .entry)) (now (block .entry)) count r × Shown form (now (bases .entry)) (now (block .entry)) tile part (shownLines r count) (now (image .entry)) (now (image .exit)) ⌝ }
+    ensures { λ _. ⌜ (now (lines .exit) ≡ zeroLines (widthOf (form .xtrans))) × (now (rs .exit) ≡ clearRecords) ⌝ }
+{
+    let walked = read_lines(
+        block,
+        bases,
+        lines,
+        rs,
+        image,
+        form,
+        places,
+        tile,
+        part,
+        count,
+    );
+    lines::clear(lines);
+    clear_records(rs);
+    walked
+}
