@@ -2,12 +2,13 @@
 """Proofs for functions over forms that the borrow checker does not cover: a lent slice of structs, `&[S]` and `&mut [S]`, and
 a lent struct that holds a slice, `&'s mut P<'a>` with `struct P<'a> { data: &'a [u8], .. }`.
 
-  lend.py CRATE [--record S] [--pump P] [--touch f,g] [--walked f,g] [--carry f,g,+h] [--only f,..]
+  lend.py CRATE [--record S] [--pump P] [--touch f,g] [--walked f,g] [--carry f,g,+h] [--own f] [--only f,..]
 
 Run it in the repository's root, where `rt check` proves the crates that CRATE depends on. All functions stand in CRATE's lib.rt.
   --touch    they read or write an element of a `[S]`
   --carry    they pass the slice, or the lent P, on: any code that would be covered if S were a plain array. A cycle: +f+g
   --walked   they are over P and proved by walks (proofs/F/Proof.antt is the author's); a carrier may call those with `&mut P`
+  --own      they have a local array of S, and lend it to a carrier
   --only     does some of --carry alone ('touch' for --touch)
 The borrow checker's rules hold of every element type, and only its front refuses a struct. So for each function the tool
   1. writes a twin of the crate in target/lend, in which `[S]` is `[[u32; N]]` (N is SIZE, 2) and P<'a> is `[&'a [u8]; 1]`. In a
@@ -26,12 +27,12 @@ needed where the result is (), a bool or an integer.  WIDTH (200) is the width o
 import argparse, os, re, shutil, subprocess, sys
 ap = argparse.ArgumentParser()
 ap.add_argument("crate")
-for o in ("record", "pump", "touch", "walked", "carry", "only"):
+for o in ("record", "pump", "touch", "walked", "carry", "own", "only"):
     ap.add_argument("--" + o, default="")
 a = ap.parse_args()
 crate, S, PUMP = a.crate, a.record, a.pump
 lst = lambda s: [x for x in s.split(",") if x]
-touch, walked, carrys, only = lst(a.touch), lst(a.walked), lst(a.carry), lst(a.only)
+touch, walked, carrys, owns, only = lst(a.touch), lst(a.walked), lst(a.carry), lst(a.own), lst(a.only)
 SIZE, WIDTH = os.environ.get("SIZE", "2"), int(os.environ.get("WIDTH", "200"))
 ARR = f"[u32; {SIZE}]"
 work, base, P = "target/lend", f"crates/{crate}/proofs", f"Rattle.{crate}.proofs"
@@ -40,7 +41,7 @@ src = open(f"crates/{crate}/src/lib.rt").read()
 def members(f):
     return f.split("+")[1:] if f.startswith("+") else [f]
 listed = touch + walked + [g for f in carrys for g in members(f)]
-moved = touch + carrys                                         # their Lts and Tie stand below Proof
+moved = touch + carrys + owns                                  # their Lts and Tie stand below Proof
 
 # ---- the twin's text
 item = re.compile(r"(?:^// twin: (?P<expr>[^\n]*)\n)?(?:^//[^\n]*\n)*^(?P<head>(?:pub )?fn (?P<name>\w+)[^{]*?(?:\n    (?:requires|ensures)[^\n]*)*)\s*\{\n(?P<body>.*?)\n\}\n", re.S | re.M)
@@ -79,6 +80,21 @@ def twin_carry(f):
     if S:
         t = re.sub(r"(&(?:'\w+ )?(?:mut )?)\[" + S + r"\]", r"\1[" + ARR + "]", t)
     return trivial(t)
+
+def twin_own(f):
+    """S is the array by value too: f has a local array of S, which it lends."""
+    out = []
+    body = next(m["body"] for m in item.finditer(src) if m["name"] == f)
+    for m in item.finditer(src):
+        if m["name"] == f:
+            out.append(m["head"] + "\n{\n" + m["body"] + "\n}\n")
+        elif re.search(r"(?<![\w:])" + m["name"] + r"\(", body):
+            out.append(m["head"] + "\n{\n" + dummy(m) + "\n}\n")
+    uses = "".join(re.findall(r"^use [^\n]*\n", src, flags=re.M))
+    uses = re.sub(r"\b" + S + r", ?", "", uses)
+    structs = "".join(re.findall(r"^pub struct \w+ \{\n.*?^\}\n", src, flags=re.S | re.M))
+    text = structs + "\n".join(out)
+    return trivial(uses + re.sub(r"\b" + S + r"\b", ARR, text))
 
 def generate(text, out):
     d = f"{work}/{out}"
@@ -125,6 +141,8 @@ record_patterns = [
     ("{borrow.Rule.Array.Whole}.mem-arr 𝓤 H A W " + T + " " + SIZE, "Element.in-mem 𝓤 H A W"),
     ("{borrow.Rule.Array.Whole}.arr-mem 𝓤 H A W " + T + f" {SIZE} tt", "Element.of-mem 𝓤 H A W"),
     ("{borrow.Rule.Array.Rows}.arrF " + T + f" {SIZE} 0", "Element.row"),
+    ("({denote.Array}.array-lawful 𝓤 H A W " + T + " ({denote.Plain}.uint-lawful 𝓤 H A W {mir.Syntax}.w32) " + SIZE + ")", "(Element.lawful 𝓤 H A W)"),
+    ("{borrow.Kind.Array}.arr-reads 𝓤 H A W " + ELEM, "Element.reads 𝓤 H A W"),
     (A2, "Element.held"),
     ("{denote.Array}.Array " + T + " " + SIZE, "Element.type"),
 ]
@@ -142,6 +160,7 @@ def patterns(text):
     out = []
     if S:
         out.append((ref + r"\(" + pat(nm(A2)) + r"\)", r"\1 Element.behind"))            # behind a reference: its bare name
+        out.append((ref + r"\(" + pat(nm("{mir.Syntax}.tyArray")) + r"\s+\(" + pat(nm(A2)) + r"\)\s+(\d+)\)", r"\1 (" + nm("{mir.Syntax}") + r".tyArray Element.behind \2)"))
         out += [(pat(nm(x)), y) for x, y in record_patterns]
         out.append((r"(\(λ x\. x\)\s+)List\.\[\](\s+\(λ x\. Unit\))", r"\1Element.past\2"))    # what lies past the end
     if PUMP:
@@ -258,5 +277,8 @@ for f in carrys:
         for g in walked:
             if os.path.isdir(f"{root}/{g}"):
                 place_caller(g, root)
+for f in owns:
+    if not only or f in only:
+        place(f, generate(twin_own(f), "own-" + f), "own-" + f)
 lent = sorted(d[:-5] for d in os.listdir(f"{base}/derived") if d.endswith(".antt"))
 put(f"{base}/derived.antt", "".join(f"pub mod {d}\n" for d in lent))

@@ -3,6 +3,7 @@
 --     param, result       a parameter and a result of it, by value
 --     row                 a local that holds one.  room, in-mem, of-mem: the local is room, its memory, and back
 --     copies              it is Copy
+--     lawful, reads       the laws of its values; an element of a local array
 --     past                what a read past the end of a slice would stand for
 -- Assumes nothing, but that the laws take `Given`.
 use mathlib.Core.Path.{refl}
@@ -17,6 +18,9 @@ use denote.Memory.{pointee}
 use denote.Exit
 use denote.Struct.Declared
 use denote.Struct.Laws as L
+use denote.Struct.Struct.{layout}
+use denote.Laws.{Lawful}
+use borrow.Struct.Reads.{reads-struct}
 use Prim.Native.Nat.{ℕ}
 use borrow.Fn.Kind
 use borrow.Kind.Value
@@ -88,3 +92,9 @@ module _ {M : Type 1} (𝓤 : URA M) (H : Heap 𝓤) (A : Atoms 𝓤) (W : Given
 
   pub yields : Yields.Yields 𝓤 H A (λ ρ. Unit) held row row type (λ x. x) (λ x. x)
   yields = Yields.yields-copy 𝓤 H A W (λ ρ. Unit) type refl (copies .copy 𝓤 H A W) row (λ x. x) (λ x. x) (λ ρ told. in-mem ρ) (λ ρ told. of-mem ρ)
+
+  abbrev pub lawful : Lawful 𝓤 H A type
+  lawful = L.lawful Record.the-type Laws.the-laws 𝓤 H A W
+
+  abbrev pub reads : Reads.ReadsAs 𝓤 H A row (layout (Declared.shape Record.the-type)) (L.val Record.the-type Laws.the-laws)
+  reads = reads-struct 𝓤 H A W Record.the-type Laws.the-laws

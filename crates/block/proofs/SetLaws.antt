@@ -5,7 +5,7 @@ use Prim.Native.Nat.{ℕ, _+_, _-_, _*_, _≤_, _<_}
 use native.Mathlib.Numerals.{add-one}
 use native.Mathlib.Omega.{arith}
 use lib.ListN.{length, getD, set, take, drop, length-drop}
-use lib.Seq.{take-all, take-suc, take-suc-set, getD-drop, getD-take, paste, paste-suc, length-paste}
+use lib.Seq.{take-all, take-suc, take-suc-set, getD-drop, getD-take, paste, paste-suc}
 use Rattle.statistics.specs.declared.Record.{Record}
 use Rattle.pass.specs.Readings.{zipRecords, noRecord}
 use Rattle.pass.proofs.ZipLaws.{zip-length, zip-getD, zip-set}
@@ -52,12 +52,8 @@ pub store-done : (rs l : List Record) (g : ℕ) (new : List Record) (i : ℕ) �
 unfolding putSet
 store-done rs l g new i ge le k = let e : i ≡ 112 = omega arith in rw e at k
 
--- ---- lengths and entries
+-- ---- entries
 
 pub set-getD : (g j : ℕ) (rs : List Record) → j < 112 → getD (setOf g rs) j noRecord ≡ getD rs (112 * g + j) noRecord
 unfolding setOf
 set-getD g j rs h = getD-take 112 (drop (112 * g) rs) j noRecord h ∙ getD-drop (112 * g) rs j noRecord
-
-pub put-length : (g : ℕ) (new rs : List Record) → g < 3 → length rs ≡ 336 → 112 ≤ length new → length (putSet g new rs) ≡ 336
-unfolding putSet
-put-length g new rs h long full = length-paste rs (112 * g) new 112 (omega arith) full ∙ long

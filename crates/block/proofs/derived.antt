@@ -9,3 +9,4 @@ pub mod start_records
 pub mod store_set
 pub mod update
 pub mod walk
+pub mod walk_alone

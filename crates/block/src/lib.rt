@@ -1,5 +1,5 @@
 // A block: six passes make a line, and lines make a block. The 336 records are lent as a slice of records; only `fetch` and `update` touch an
-// element, and the functions that pass the slice on are proved through derivations that a tool writes (docs/LENT-RECORDS.md).
+// element, and the functions that pass the slice on are proved through derivations that a tool writes (tools/README.md).
 ghost use mathlib.Core.Path.{_≡_};
 ghost use mathlib.Core.Bool.{cond, _&&_};
 ghost use Prim.Native.Nat.{_+_, _*_, _%_, _^_, _≤_, _<_};
@@ -138,6 +138,7 @@ fn tight_count(m: usize, n: usize, tight: bool) -> usize
     m
 }
 
+// twin: [0; 2]
 fn cleared() -> Record
     ensures { λ r. ⌜ r ≡ record { sum = 0; n = 1 } ⌝ }
 {
@@ -396,4 +397,37 @@ pub fn walk(
     lines::clear(lines);
     clear_records(rs);
     walked
+}
+
+// twin: Walked { ok: false, line: 0, at: BitPosition(0), tight_lines: 0 }
+// A walk with scratch of its own, for whoever has none to lend.
+pub fn walk_alone(
+    block: &[u8],
+    bases: &[u8],
+    image: &mut [u16],
+    form: Form,
+    tile: [u8; 36],
+    part: Part,
+    count: usize,
+) -> Walked
+    requires { ⌜ (length (now block) < 2 ^ 32) × (Depth (form .bits) × (count < 2 ^ 16)) ⌝ }
+    requires { ⌜ Fits part (now image) ⌝ }
+    ensures { λ r. ⌜ IsWalked form (now (bases .entry)) (now (block .entry)) count r × Shown form (now (bases .entry)) (now (block .entry)) tile part (shownLines r count) (now (image .entry)) (now (image .exit)) ⌝ }
+{
+    let places = map::xtrans_places();
+    let mut lines = [0u16; 9252];
+    let mut rs = [cleared(); 336];
+    let used = 18 * (width(form.xtrans) + 2);
+    walk(
+        block,
+        bases,
+        &mut lines[0..used],
+        &mut rs,
+        image,
+        form,
+        &places,
+        tile,
+        part,
+        count,
+    )
 }

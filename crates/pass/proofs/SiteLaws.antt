@@ -19,7 +19,7 @@ use Rattle.code.specs.declared.Code.{Code}
 use Rattle.code.specs.declared.Coded.{Coded}
 use Rattle.code.specs.declared.Coded.the-variants.{Read, Truncated}
 use Rattle.pass.specs.Steps.{Step, stepAt}
-use Rattle.pass.specs.Readings.{evenAt, oddAt, contextAt, lookOf, slotOf, Reading, taken, codeOf, readStep, reads, zipRecords, SetInRange, recordsOf, AreQuantisers, Depth, IsPair, IsPassed}
+use Rattle.pass.specs.Readings.{evenAt, oddAt, contextAt, usedQuantiser, lookOf, slotOf, Reading, noRecord, taken, codeOf, readStep, reads, zipRecords, SetInRange, recordsOf, AreQuantisers, Depth, IsPair, IsPassed}
 use Rattle.pass.specs.declared.Look.{Look}
 use Rattle.pass.specs.declared.Set.{Set}
 use Rattle.pass.specs.declared.Pair.{Pair}
@@ -102,19 +102,31 @@ module _ {bits q W line p : ℕ} {lines sums ns totals raws limits : List ℕ} {
   pub site-stored : {new : Record} → InRange new → SetInRange (zipRecords (set sums j (new .sum)) (set ns j (new .n)))
   site-stored {new} g = stored-in-range sums ns (t .ranges) j new g
 
+  -- the record, and the numbers of the quantiser
+  old-is : getD (zipRecords sums ns) j noRecord ≡ recordAt sums ns j
+  old-is = record-is sums ns (t .ranges) j (t .small)
+
+  used-total : getD totals (h .choice) 0 ≡ (usedQuantiser bits q (h .choice)) .total
+  used-total = total-is bits q totals raws limits (t .quantisers) (h .choice) (t .four)
+
+  used-raw : getD raws (h .choice) 0 ≡ (usedQuantiser bits q (h .choice)) .raw
+  used-raw = raw-is bits q totals raws limits (t .quantisers) (h .choice) (t .four)
+
+  used-limit : getD limits (h .choice) 0 ≡ (usedQuantiser bits q (h .choice)) .limit
+  used-limit = limit-is bits q totals raws limits (t .quantisers) (h .choice) (t .four)
+
   -- the step, by the answer of the reader
   site-got : (s : List ℕ) (coded : Bool) (at : BitPosition) (tight : Bool) (k : ℕ) (got : Coded) → coded ≡ true → k ≡ kOf (recordAt sums ns j)
       → got ≡ codeAt s (at .0) k (getD limits (h .choice) 0) (getD raws (h .choice) 0)
       → readStep bits q W s (stepAt line p coded) (held lines sums ns at tight) ≡ taken bits q i j x h (held lines sums ns at tight) got
   unfolding readStep
   site-got s coded at tight k got ec ek eg =
-      rw (eg, ek, limit-is bits q totals raws limits (t .quantisers) (h .choice) (t .four), raw-is bits q totals raws limits (t .quantisers) (h .choice) (t .four), ← record-is sums ns (t .ranges) j (t .small), ec, t .slot, t .look, t .placed .context, t .placed .place)
+      rw (eg, ek, used-limit, used-raw, ← old-is, ec, t .slot, t .look, t .placed .context, t .placed .place)
 
   module _ {s : List ℕ} {coded : Bool} {at : BitPosition} {tight : Bool} {k : ℕ} {got : Coded} (ec : coded ≡ true) (ek : k ≡ kOf (recordAt sums ns j))
       (eg : got ≡ codeAt s (at .0) k (getD limits (h .choice) 0) (getD raws (h .choice) 0)) where
     pub site-cut-off : got ≡ Truncated → StepGives bits q W s (stepAt line p coded) (held lines sums ns at tight) none
-    site-cut-off e =
-        record { is = site-got s coded at tight k got ec ek eg ∙ ap (λ (g : Coded). taken bits q i j x h (held lines sums ns at tight) g) e }
+    site-cut-off e = let g = site-got s coded at tight k got ec ek eg in record { is = g ∙ (rw e) }
 
     pub site-read : {c : Code} {m v : ℕ} {new : Record} {good : Bool} → got ≡ Read c → m ≡ largest bits
         → v ≡ sampleOf m (h .base) (getD totals (h .choice) 0) (h .negative) (x .prediction) (c .value)
@@ -122,9 +134,8 @@ module _ {bits q W line p : ℕ} {lines sums ns totals raws limits : List ℕ} {
         → StepGives bits q W s (stepAt line p coded) (held lines sums ns at tight)
         (some (held (set lines (i + 1) v) (set sums j (new .sum)) (set ns j (new .n)) (c .after) (tight && good)))
     site-read {new = new} e em ev et eq =
-        record {
-          is = site-got s coded at tight k got ec ek eg ∙ (ap (λ (g : Coded). taken bits q i j x h (held lines sums ns at tight) g) e ∙ (rw (record-is sums ns (t .ranges) j (t .small), zip-set sums ns j new, et, ev, eq, em, total-is bits q totals raws limits (t .quantisers) (h .choice) (t .four))));
-        }
+        let g = site-got s coded at tight k got ec ek eg in
+        record { is = g ∙ (rw (e, old-is, zip-set sums ns j new, et, ev, eq, em, used-total)) }
 
 -- ---- where two ways meet, the same lists have other names
 

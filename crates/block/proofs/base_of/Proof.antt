@@ -9,20 +9,4 @@ returns-2 : tie.Need-returns-2
 returns-2 c = (sym (List·getD-eq-default (c .before .before .args .bases .now) 0 (c .if1 .left)), search needs)
 
 pub base-of-spec : {M : Type 1} → statement M
-base-of-spec =
-    tie.close
-    (tie.spec
-    (λ
-    c.
-    search
-    needs)
-    (λ
-    c
-    κs.
-    search
-    needs)
-    (λ
-    c.
-    search
-    needs)
-    returns-2)
+base-of-spec = tie.close (tie.spec (λ c. search needs) (λ c κs. search needs) (λ c. search needs) returns-2)

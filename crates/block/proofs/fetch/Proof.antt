@@ -5,18 +5,4 @@ use Rattle.block.proofs.fetch.Statement.{statement}
 use Rattle.block.proofs.fetch.Proof.derived.Tie as tie
 
 pub fetch-spec : {M : Type 1} → statement M
-fetch-spec =
-    tie.close
-    (tie.spec
-    (λ
-    c.
-    search
-    needs)
-    (λ
-    c.
-    search
-    needs)
-    (λ
-    c.
-    search
-    needs))
+fetch-spec = tie.close (tie.spec (λ c. search needs) (λ c. search needs) (λ c. search needs))

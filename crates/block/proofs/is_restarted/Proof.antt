@@ -11,22 +11,4 @@ returns-2 : tie.Need-returns-2
 returns-2 c = simp (ne-eqb _ _ (c .before .before .if1 .left), c .before .base-of .ensures .0, c .base-of2 .ensures .0)
 
 pub is-restarted-spec : {M : Type 1} → statement M
-is-restarted-spec =
-    tie.close
-    (tie.spec
-    returns
-    (λ
-    c
-    κs.
-    search
-    needs)
-    (λ
-    c.
-    search
-    needs)
-    (λ
-    c
-    κs.
-    search
-    needs)
-    returns-2)
+is-restarted-spec = tie.close (tie.spec returns (λ c κs. search needs) (λ c. search needs) (λ c κs. search needs) returns-2)

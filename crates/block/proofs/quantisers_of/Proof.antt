@@ -26,27 +26,4 @@ returns : tie.Need-returns
 returns c = made _ _ _ _ _ _ (c .before .before .before .main .ensures .0) (c .before .before .flat .ensures .0) (c .before .flat2 .ensures .0) (c .flat3 .ensures .0)
 
 pub quantisers-of-spec : {M : Type 1} → statement M
-quantisers-of-spec =
-    tie.close
-    (tie.spec
-    (λ
-    c
-    κs.
-    search
-    needs)
-    (λ
-    c
-    κs.
-    search
-    needs)
-    (λ
-    c
-    κs.
-    search
-    needs)
-    (λ
-    c
-    κs.
-    search
-    needs)
-    returns)
+quantisers-of-spec = tie.close (tie.spec (λ c κs. search needs) (λ c κs. search needs) (λ c κs. search needs) (λ c κs. search needs) returns)

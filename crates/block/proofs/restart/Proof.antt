@@ -11,16 +11,4 @@ returns-2 : tie.Need-returns-2
 returns-2 c = rw (c .if1 .left)
 
 pub restart-spec : {M : Type 1} → statement M
-restart-spec =
-    tie.close
-    (tie.spec
-    (λ
-    c.
-    search
-    needs)
-    (λ
-    c.
-    search
-    needs)
-    returns
-    returns-2)
+restart-spec = tie.close (tie.spec (λ c. search needs) (λ c. search needs) returns returns-2)

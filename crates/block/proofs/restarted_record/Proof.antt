@@ -11,13 +11,4 @@ returns-2 : tie.Need-returns-2
 returns-2 c = simp (le-ltb _ _ (c .if1 .left))
 
 pub restarted-record-spec : {M : Type 1} → statement M
-restarted-record-spec =
-    tie.close
-    (tie.spec
-    (λ
-    c
-    κs.
-    search
-    needs)
-    returns
-    returns-2)
+restarted-record-spec = tie.close (tie.spec (λ c κs. search needs) returns returns-2)

@@ -15,13 +15,4 @@ returns-3 : tie.Need-returns-3
 returns-3 c = (simp (c .if1 .left, and-false), search needs)
 
 pub tight-count-spec : {M : Type 1} → statement M
-tight-count-spec =
-    tie.close
-    (tie.spec
-    (λ
-    c.
-    search
-    needs)
-    returns
-    returns-2
-    returns-3)
+tight-count-spec = tie.close (tie.spec (λ c. search needs) returns returns-2 returns-3)

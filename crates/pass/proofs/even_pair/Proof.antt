@@ -161,8 +161,9 @@ settle-requires-2 : tie.Need-settle-requires-2
 settle-requires-2 c κs =
     let r = c .before .before .before .before in
     let h = looked-2 r in
+    let x = asked-2 h .before .even-context2 .ensures .1 in
     let b = rw (c .before .before .got2 .given .1) at (r .read-code2 .ensures .1) in (
-      (begun h .before .before .before .before .before .largest .ensures .1, (h .look-of2 .ensures .1 .1 .0, (site-total (second h), (asked-2 h .before .even-context2 .ensures .1 .prediction, b .0)))),
+      (begun h .before .before .before .before .before .largest .ensures .1, (h .look-of2 .ensures .1 .1 .0, (site-total (second h), (x .prediction, b .0)))),
       site-record (second h),
     )
 
@@ -171,10 +172,13 @@ returns-3 c =
     let r = c .before .before .before .before .before .before .before in
     let h = looked-2 r in
     let coded = sym (asked-2 h .has-code2 .ensures) ∙ h .before .if2 .taken in
-    let new = c .before .before .settle2 .ensures in
-    let read = site-read (second h) coded (r .before .before .before .k2 .ensures .0) (r .read-code2 .ensures .0)
-    (c .before .before .before .before .before .got2 .given .1) (begun h .before .before .before .before .before .largest .ensures .0) (new .0) (new .1 .0) (c .is-tight2 .ensures) in
-    (pair-at _ _ _ (two-steps (one (begun h) .read) read), site-stored (second h) (new .1 .1))
+    let new = c .before .before .settle2 .ensures in (
+      pair-at _ _ _
+          (two-steps (one (begun h) .read)
+          (site-read (second h) coded (r .before .before .before .k2 .ensures .0) (r .read-code2 .ensures .0)
+          (c .before .before .before .before .before .got2 .given .1) (begun h .before .before .before .before .before .largest .ensures .0) (new .0) (new .1 .0) (c .is-tight2 .ensures))),
+      site-stored (second h) (new .1 .1),
+    )
 
 returns-4 : tie.Need-returns-4
 returns-4 c =

@@ -36,7 +36,10 @@ returns-2 c =
     let i = c .before .before .before .before .choice in
     let u = c .before .before .before .used-base in
     let a = c .before .before .before .before .before .before .before .args in
-    let e = made (a .base) _ _ _ _ _ (a .x) (c .before .gradient2 .result) (c .before .before .before .before .before .flatness .ensures) (i .ensures .0) (u .ensures .0) (c .before .before .used-weight .ensures .0) (c .before .gradient2 .ensures .0) (c .place-of .ensures) in
+    let f = c .before .before .before .before .before .flatness in
+    let w = c .before .before .used-weight in
+    let g = c .before .gradient2 in
+    let e = made (a .base) _ _ _ _ _ (a .x) (g .result) (f .ensures) (i .ensures .0) (u .ensures .0) (w .ensures .0) (g .ensures .0) (c .place-of .ensures) in
     (e, (i .ensures .1, (u .ensures .1, omega (arith, place-lt (a .base) (a .x), ap (λ (h : Look). h .place) e))))
 
 pub look-of-spec : {M : Type 1} → statement M

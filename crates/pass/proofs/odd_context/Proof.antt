@@ -23,7 +23,8 @@ returns c =
     let two = three .before .before in
     let one = two .before .before in
     let a = one .before .before .before .args in
-    (made _ (a .s) (a .i) _ _ _ _ _ _ (one .wide .ensures .0) (two .wide2 .ensures .0) (three .wide3 .ensures .0) (four .wide4 .ensures .0) (five .wide5 .ensures .0) (c .odd .ensures .0), c .odd .ensures .1)
+    let e = made _ (a .s) (a .i) _ _ _ _ _ _ (one .wide .ensures .0) (two .wide2 .ensures .0) (three .wide3 .ensures .0) (four .wide4 .ensures .0) (five .wide5 .ensures .0) in
+    (e (c .odd .ensures .0), c .odd .ensures .1)
 
 pub odd-context-spec : {M : Type 1} → statement M
 odd-context-spec =

@@ -28,7 +28,8 @@ first c =
     site-odd odd (placed-odd odd (c .before .before .before .left-of .ensures .0) (c .before .odd-context .ensures .0)) (c .look-of .ensures) (p .1 .1 .1) (p .1 .1 .0)
 
 -- it goes inside of the lines
-room : (c : tie.After-look-of) → (c .before .before .before .left-of .result + 1 < length (entry c .args .lines .now)) × (c .before .before .before .left-of .result + 1 < 2 ^ 14) × (c .look-of .result .place + 56 < 112)
+room : (c : tie.After-look-of)
+    → (c .before .before .before .left-of .result + 1 < length (entry c .args .lines .now)) × (c .before .before .before .left-of .result + 1 < 2 ^ 14) × (c .look-of .result .place + 56 < 112)
 room c =
     let p = entry c .pre in
     let i = c .before .before .before .left-of .ensures .1 .1 in
@@ -123,7 +124,8 @@ second c =
     let odd = p .0 .1 .1 .1 in
     site-odd odd (placed-odd odd (c .before .before .before .left-of2 .ensures .0) (c .before .odd-context2 .ensures .0)) (c .look-of2 .ensures) (in-range (one c)) (p .1 .1 .0)
 
-room-2 : (c : tie.After-look-of2) → (c .before .before .before .left-of2 .result + 1 < length (lines₁ (one c))) × (c .before .before .before .left-of2 .result + 1 < 2 ^ 14) × (c .look-of2 .result .place + 56 < 112)
+room-2 : (c : tie.After-look-of2)
+    → (c .before .before .before .left-of2 .result + 1 < length (lines₁ (one c))) × (c .before .before .before .left-of2 .result + 1 < 2 ^ 14) × (c .look-of2 .result .place + 56 < 112)
 room-2 c =
     let p = entry (begun c) .pre in
     let i = c .before .before .before .left-of2 .ensures .1 .1 in
@@ -157,10 +159,13 @@ returns-3 : tie.Need-returns-3
 returns-3 c =
     let r = c .before .before .before .before .before .before .before in
     let h = looked-2 r in
-    let new = c .before .before .settle2 .ensures in
-    let read = site-read (second h) refl (r .before .before .before .k2 .ensures .0) (r .read-code2 .ensures .0)
-    (c .before .before .before .before .before .got2 .given .1) (begun h .before .before .before .before .largest .ensures .0) (new .0) (new .1 .0) (c .is-tight2 .ensures) in
-    (pair-at _ _ _ (two-steps (first-read (one h)) read), site-stored (second h) (new .1 .1))
+    let new = c .before .before .settle2 .ensures in (
+      pair-at _ _ _
+          (two-steps (first-read (one h))
+          (site-read (second h) refl (r .before .before .before .k2 .ensures .0) (r .read-code2 .ensures .0)
+          (c .before .before .before .before .before .got2 .given .1) (begun h .before .before .before .before .largest .ensures .0) (new .0) (new .1 .0) (c .is-tight2 .ensures))),
+      site-stored (second h) (new .1 .1),
+    )
 
 pub odd-pair-spec : {M : Type 1} → statement M
 odd-pair-spec =

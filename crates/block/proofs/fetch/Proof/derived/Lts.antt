@@ -88,40 +88,62 @@ abbrev pub body : Syntax.Body
 body = b8
 
 abbrev pub t0 : List.List Row.Entry
-t0 = List._∷_ (0, Rows'.any-gone (Element.held)) (List._∷_ ( 1, Mut.mslice (Element.type) (Syntax.tyRef (Syntax.named 0) Syntax.mut Element.behind) 0, ) (List._∷_ (2, Rows'.sc-here (Row.sInt
-    Syntax.w64)) (List._∷_ ( 3, Rows'.any-gone (Syntax.tyInt Syntax.w64), ) (List._∷_ (4, Rows'.any-gone Syntax.tyPtr) (List._∷_ ( 5, Rows'.any-gone (Element.held), ) List.[])))))
+t0 = List._∷_ (0, Rows'.any-gone (Element.held)) (List._∷_ (1, Mut.mslice (Element.type) (Syntax.tyRef (Syntax.named 0) Syntax.mut Element.behind) 0) (List._∷_ (
+  2,
+  Rows'.sc-here (Row.sInt
+      Syntax.w64),
+) (List._∷_ (3, Rows'.any-gone (Syntax.tyInt Syntax.w64)) (List._∷_ (4, Rows'.any-gone Syntax.tyPtr) (List._∷_ (5, Rows'.any-gone (Element.held)) List.[])))))
 
 abbrev pub t1 : List.List Row.Entry
-t1 = List._∷_ (0, Element.row) (List._∷_ ( 1, Mut.mslice (Element.type) (Syntax.tyRef (Syntax.named 0) Syntax.mut Element.behind) 0, ) (List._∷_ (2, Rows'.any-gone (Syntax.tyInt Syntax.w64)) (List._∷_
-    ( 3, Rows'.any-gone (Syntax.tyInt Syntax.w64), ) (List._∷_ (4, Rows'.any-gone Syntax.tyPtr) (List._∷_ ( 5, Rows'.any-gone (Element.held), ) List.[])))))
+t1 = List._∷_ (0, Element.row) (List._∷_ (1, Mut.mslice (Element.type) (Syntax.tyRef (Syntax.named 0) Syntax.mut Element.behind) 0) (List._∷_ (2, Rows'.any-gone (Syntax.tyInt Syntax.w64)) (List._∷_
+    (3, Rows'.any-gone (Syntax.tyInt Syntax.w64)) (List._∷_ (4, Rows'.any-gone Syntax.tyPtr) (List._∷_ (5, Rows'.any-gone (Element.held)) List.[])))))
 
 abbrev pub t2 : List.List Row.Entry
-t2 = List._∷_ (0, Rows'.any-gone (Element.held)) (List._∷_ ( 1, Mut.mslice (Element.type) (Syntax.tyRef (Syntax.named 0) Syntax.mut Element.behind) 0, ) (List._∷_ (2, Rows'.sc-here (Row.sInt
-    Syntax.w64)) (List._∷_ ( 3, Rows'.sc-here (Row.sInt Syntax.w64), ) (List._∷_ (4, Rows'.any-gone Syntax.tyPtr) (List._∷_ ( 5, Rows'.any-gone (Element.held), ) List.[])))))
+t2 = List._∷_ (0, Rows'.any-gone (Element.held)) (List._∷_ (1, Mut.mslice (Element.type) (Syntax.tyRef (Syntax.named 0) Syntax.mut Element.behind) 0) (List._∷_ (
+  2,
+  Rows'.sc-here (Row.sInt
+      Syntax.w64),
+) (List._∷_ (3, Rows'.sc-here (Row.sInt Syntax.w64)) (List._∷_ (4, Rows'.any-gone Syntax.tyPtr) (List._∷_ (5, Rows'.any-gone (Element.held)) List.[])))))
 
 abbrev pub t3 : List.List Row.Entry
-t3 = List._∷_ (0, Rows'.any-gone (Element.held)) (List._∷_ ( 1, Mut.mslice (Element.type) (Syntax.tyRef (Syntax.named 0) Syntax.mut Element.behind) 0, ) (List._∷_ (2, Rows'.sc-here (Row.sInt
-    Syntax.w64)) (List._∷_ ( 3, Rows'.sc-here (Row.sInt Syntax.w64), ) (List._∷_ (4, Rows'.sc-here Row.sPtr) (List._∷_ ( 5, Rows'.any-gone (Element.held), ) List.[])))))
+t3 = List._∷_ (0, Rows'.any-gone (Element.held)) (List._∷_ (1, Mut.mslice (Element.type) (Syntax.tyRef (Syntax.named 0) Syntax.mut Element.behind) 0) (List._∷_ (
+  2,
+  Rows'.sc-here (Row.sInt
+      Syntax.w64),
+) (List._∷_ (3, Rows'.sc-here (Row.sInt Syntax.w64)) (List._∷_ (4, Rows'.sc-here Row.sPtr) (List._∷_ (5, Rows'.any-gone (Element.held)) List.[])))))
 
 abbrev pub t4 : List.List Row.Entry
-t4 = List._∷_ (0, Rows'.any-gone (Element.held)) (List._∷_ ( 1, Mut.mslice (Element.type) (Syntax.tyRef (Syntax.named 0) Syntax.mut Element.behind) 0, ) (List._∷_ (2, Rows'.sc-here (Row.sInt
-    Syntax.w64)) (List._∷_ ( 3, Rows'.sc-here (Row.sInt Syntax.w64), ) (List._∷_ (4, Rows'.sc-here Row.sPtr) (List._∷_ ( 5, Element.row, ) List.[])))))
+t4 = List._∷_ (0, Rows'.any-gone (Element.held)) (List._∷_ (1, Mut.mslice (Element.type) (Syntax.tyRef (Syntax.named 0) Syntax.mut Element.behind) 0) (List._∷_ (
+  2,
+  Rows'.sc-here (Row.sInt
+      Syntax.w64),
+) (List._∷_ (3, Rows'.sc-here (Row.sInt Syntax.w64)) (List._∷_ (4, Rows'.sc-here Row.sPtr) (List._∷_ (5, Element.row) List.[])))))
 
 abbrev pub t5 : List.List Row.Entry
-t5 = List._∷_ (0, Rows'.any-gone (Element.held)) (List._∷_ ( 1, Mut.mslice (Element.type) (Syntax.tyRef (Syntax.named 0) Syntax.mut Element.behind) 0, ) (List._∷_ (2, Rows'.sc-here (Row.sInt
-    Syntax.w64)) (List._∷_ ( 3, Rows'.any-gone (Syntax.tyInt Syntax.w64), ) (List._∷_ (4, Rows'.sc-here Row.sPtr) (List._∷_ ( 5, Element.row, ) List.[])))))
+t5 = List._∷_ (0, Rows'.any-gone (Element.held)) (List._∷_ (1, Mut.mslice (Element.type) (Syntax.tyRef (Syntax.named 0) Syntax.mut Element.behind) 0) (List._∷_ (
+  2,
+  Rows'.sc-here (Row.sInt
+      Syntax.w64),
+) (List._∷_ (3, Rows'.any-gone (Syntax.tyInt Syntax.w64)) (List._∷_ (4, Rows'.sc-here Row.sPtr) (List._∷_ (5, Element.row) List.[])))))
 
 abbrev pub t6 : List.List Row.Entry
-t6 = List._∷_ (0, Rows'.any-gone (Element.held)) (List._∷_ ( 1, Mut.mslice (Element.type) (Syntax.tyRef (Syntax.named 0) Syntax.mut Element.behind) 0, ) (List._∷_ (2, Rows'.sc-here (Row.sInt
-    Syntax.w64)) (List._∷_ ( 3, Rows'.any-gone (Syntax.tyInt Syntax.w64), ) (List._∷_ (4, Rows'.any-gone Syntax.tyPtr) (List._∷_ ( 5, Element.row, ) List.[])))))
+t6 = List._∷_ (0, Rows'.any-gone (Element.held)) (List._∷_ (1, Mut.mslice (Element.type) (Syntax.tyRef (Syntax.named 0) Syntax.mut Element.behind) 0) (List._∷_ (
+  2,
+  Rows'.sc-here (Row.sInt
+      Syntax.w64),
+) (List._∷_ (3, Rows'.any-gone (Syntax.tyInt Syntax.w64)) (List._∷_ (4, Rows'.any-gone Syntax.tyPtr) (List._∷_ (5, Element.row) List.[])))))
 
 abbrev pub t7 : List.List Row.Entry
-t7 = List._∷_ (0, Element.row) (List._∷_ ( 1, Mut.mslice (Element.type) (Syntax.tyRef (Syntax.named 0) Syntax.mut Element.behind) 0, ) (List._∷_ (2, Rows'.sc-here (Row.sInt Syntax.w64)) (List._∷_ ( 3,
-    Rows'.any-gone (Syntax.tyInt Syntax.w64), ) (List._∷_ (4, Rows'.any-gone Syntax.tyPtr) (List._∷_ ( 5, Element.row, ) List.[])))))
+t7 = List._∷_ (0, Element.row) (List._∷_ (1, Mut.mslice (Element.type) (Syntax.tyRef (Syntax.named 0) Syntax.mut Element.behind) 0) (List._∷_ (2, Rows'.sc-here (Row.sInt Syntax.w64)) (List._∷_ (
+  3,
+  Rows'.any-gone (Syntax.tyInt Syntax.w64),
+) (List._∷_ (4, Rows'.any-gone Syntax.tyPtr) (List._∷_ (5, Element.row) List.[])))))
 
 abbrev pub t8 : List.List Row.Entry
-t8 = List._∷_ (0, Element.row) (List._∷_ ( 1, Mut.mslice (Element.type) (Syntax.tyRef (Syntax.named 0) Syntax.mut Element.behind) 0, ) (List._∷_ (2, Rows'.sc-here (Row.sInt Syntax.w64)) (List._∷_ ( 3,
-    Rows'.any-gone (Syntax.tyInt Syntax.w64), ) (List._∷_ (4, Rows'.any-gone Syntax.tyPtr) (List._∷_ ( 5, Rows'.any-gone (Element.held), ) List.[])))))
+t8 = List._∷_ (0, Element.row) (List._∷_ (1, Mut.mslice (Element.type) (Syntax.tyRef (Syntax.named 0) Syntax.mut Element.behind) 0) (List._∷_ (2, Rows'.sc-here (Row.sInt Syntax.w64)) (List._∷_ (
+  3,
+  Rows'.any-gone (Syntax.tyInt Syntax.w64),
+) (List._∷_ (4, Rows'.any-gone Syntax.tyPtr) (List._∷_ (5, Rows'.any-gone (Element.held)) List.[])))))
 
 abbrev pub T0 : Row.Cx
 T0 = record { locals = t0; slots = List.[] }
@@ -290,13 +312,18 @@ module _ where
           d7 : Typed.Typed 𝓤 H A 𝓣 E G2 b7 Δ0 at7
           d7 = Typed.s-seq 𝓤 H A W 𝓣 E G2 G3 b1 b6 Δ0 (Typed.ask s1) at6 (Scalar.t-op2 𝓤 H A W E 𝓣 G2 Syntax.offset (Scalar.oFld 1 (List._∷_ (Syntax.field 0) List.[]) (Syntax.tyRef (Syntax.named 0)
               Syntax.mut Element.behind) 0 Reads.ptrVal) (Scalar.oAt 3 (Syntax.tyInt Syntax.w64) (Row.valS (Row.sInt Syntax.w64))) 4 (Rows'.sc-here Row.sPtr) Syntax.tyPtr (Row.valS Row.sPtr) (Row.sPtr
-              .of) ( Mut.reads-mslice-ptr 𝓤 H A W (Element.type) (Syntax.tyRef (Syntax.named 0) Syntax.mut Element.behind) 0 0 Path'.refl, Path'.refl, ) (Scalar.reads-sc 𝓤 H A W (Row.sInt Syntax.w64),
-              Path'.refl) (Reads.room-gone 𝓤 H A Syntax.tyPtr) (Scalar.holds-sc 𝓤 H A W Row.sPtr) Path'.refl (λ u. Path'.refl) λ u. tt) d6
+              .of) (Mut.reads-mslice-ptr 𝓤 H A W (Element.type) (Syntax.tyRef (Syntax.named 0) Syntax.mut Element.behind) 0 0 Path'.refl, Path'.refl) (
+                Scalar.reads-sc 𝓤 H A W (Row.sInt Syntax.w64),
+                Path'.refl,
+              ) (Reads.room-gone 𝓤 H A Syntax.tyPtr) (Scalar.holds-sc 𝓤 H A W Row.sPtr) Path'.refl (λ u. Path'.refl) λ u. tt) d6
 
           d8 : Typed.Typed 𝓤 H A 𝓣 E G0 b8 Δ0 at8
           d8 = Typed.s-seq 𝓤 H A W 𝓣 E G0 G2 b0 b7 Δ0 (Typed.ask s0) at7 (Scalar.t-op2 𝓤 H A W E 𝓣 G0 (Syntax.mul Syntax.unsigned) (Scalar.oAt 2 (Syntax.tyInt Syntax.w64) (Row.valS (Row.sInt
-              Syntax.w64))) (Scalar.oInt Syntax.w64 8) 3 (Rows'.sc-here (Row.sInt Syntax.w64)) (Syntax.tyInt Syntax.w64) (Row.valS (Row.sInt Syntax.w64)) (Row.sInt Syntax.w64 .of) (Scalar.reads-sc 𝓤 H A W
-              (Row.sInt Syntax.w64), Path'.refl) tt (Reads.room-gone 𝓤 H A (Syntax.tyInt Syntax.w64)) (Scalar.holds-sc 𝓤 H A W (Row.sInt Syntax.w64)) Path'.refl (λ u. Path'.refl) λ u. tt) d7
+              Syntax.w64))) (Scalar.oInt Syntax.w64 8) 3 (Rows'.sc-here (Row.sInt Syntax.w64)) (Syntax.tyInt Syntax.w64) (Row.valS (Row.sInt Syntax.w64)) (Row.sInt Syntax.w64 .of) (
+                Scalar.reads-sc 𝓤 H A W
+                    (Row.sInt Syntax.w64),
+                Path'.refl,
+              ) tt (Reads.room-gone 𝓤 H A (Syntax.tyInt Syntax.w64)) (Scalar.holds-sc 𝓤 H A W (Row.sInt Syntax.w64)) Path'.refl (λ u. Path'.refl) λ u. tt) d7
 
           pub typed : Typed.Typed 𝓤 H A 𝓣 E (Function.Γin 1 ps r xs m κs qs) b8 (Function.Δret 1 ps r xs m κs qs) Φ
           typed = d8
@@ -317,8 +344,12 @@ module _ where
       m0 = λ κs args. (tt, Enter.partsP κs 1 ps xs (dens κs args))
 
       abbrev W0 : (κs : Lifetimes.Lfts 1) → (args : Args κs) → Typed.Want O0
-      W0 = λ κs args. ( λ u. ⊥, tt, λ u. Enter.Fixs κs 1 ps xs (dens κs args) (u .1) × Post· κs (dens κs args) (Function.resV r κs (u .0)) (Clauses.atExit (Kinds.endedOf 1 ps r) κs (dens κs args)
-          (Enter.lastsP κs 1 ps xs (dens κs args) (u .1))), )
+      W0 = λ κs args. (
+        λ u. ⊥,
+        tt,
+        λ u. Enter.Fixs κs 1 ps xs (dens κs args) (u .1) × Post· κs (dens κs args) (Function.resV r κs (u .0)) (Clauses.atExit (Kinds.endedOf 1 ps r) κs (dens κs args)
+            (Enter.lastsP κs 1 ps xs (dens κs args) (u .1))),
+      )
 
       pub record Start : Type 0 where
         pub κs : Lifetimes.Lfts 1
@@ -372,12 +403,12 @@ module _ where
 
       module _ (mul-result : Need-mul-result) (slice-copy-out-result : Need-slice-copy-out-result) (returns : Need-returns) where
         pub laid : (c : Start) → at8 (W0 (c .κs) (c .args)) (m0 (c .κs) (c .args))
-        laid = λ c. ( mul-result c, ( tt, ( (Path'.refl, Path'.refl, slice-copy-out-result c), λ g. ( (Path'.refl, (tt, tt)), returns record { before = c; result = record { given = g } }, ), ), ), )
+        laid = λ c. (mul-result c, (tt, ((Path'.refl, Path'.refl, slice-copy-out-result c), λ g. ((Path'.refl, (tt, tt)), returns record { before = c; result = record { given = g } }))))
 
         module _ (κs : Lifetimes.Lfts 1) (qs : Lifetimes.Shares 1) where
           pub asked : (a : Kinds.Dens κs ps) → (good : Kinds.GoodsP κs ps a) → (pre : Pre· κs a) → (bs : List.List Nat.ℕ) → Φ (Any.wantQ 1 ps r xs m κs qs a (Post· κs a)) (Function.init 1 ps r xs m κs
               qs a)
-          asked = λ a good pre bs. laid record { κs = κs; args = record { rs = a .0; i = a .1 .0 }; good = good; fits = record { i = record { fits = good .1 .0 .1 } }; pre = pre; }
+          asked = λ a good pre bs. laid record { κs = κs; args = record { rs = a .0; i = a .1 .0 }; good = good; fits = record { i = record { fits = good .1 .0 .1 } }; pre = pre }
 
         module _ {M : Type 1} (𝓤 : URA.URA M) (H : Wp.Heap 𝓤) (A : Atoms.Atoms 𝓤) (W : Kit.Given 𝓤 H A) (𝓣 : Wp.Tables 𝓤 H) where
           pub spec : Statement.Triple 𝓤 (Wp.WpFn 𝓤 H (𝓣 .C) (𝓣 .Λ) (Function.fnOf 1 ps r xs m hs body)) (Function.plainOf 𝓤 H A 1 ps r Pre· Post·)

@@ -80,21 +80,66 @@ use types.Kit
 
 abbrev pub ps : List.List (Kinds.PK 6)
 ps = List._∷_ (ShrSlice.pShrS (Referent.rtF (Referent.fInt Syntax.w8)) 0 tt) (List._∷_ (ShrSlice.pShrS (Referent.rtF (Referent.fInt Syntax.w8)) 1 tt) (List._∷_ (MutSlice.pMutS (Referent.rtF
-    (Referent.fInt Syntax.w16)) 2 tt) (List._∷_ (MutSlice.pMutS (Element.type) 3 tt) (List._∷_ (MutSlice.pMutS (Referent.rtF (Referent.fInt Syntax.w16)) 4 tt) (List._∷_ (Value.pVal record { ty =
-    Declared.row Form.the-type; one = Path'.refl; val = Laws'6.val Form.the-type Laws'.the-laws; tells = Laws'6.tells Form.the-type Laws'.the-laws; still = Laws'6.still Form.the-type Laws'.the-copy
-    Exit.yes; row = Rows'.whole (Declared.row Form.the-type); rd = λ x. x; mk = λ x. x; } λ M 𝓤 H A W. record { copies = Laws'6.copy Form.the-type Laws'.the-copy 𝓤 H A W; lawful = Laws'6.lawful
-    Form.the-type Laws'.the-laws 𝓤 H A W; makes = Laws'6.makes Form.the-type Laws'.the-plain 𝓤 H A; in-mem = Local.mem-whole 𝓤 H A W (Declared.row Form.the-type); of-mem = Local.whole-mem 𝓤 H A W
-    (Declared.row Form.the-type); }) (List._∷_ (ShrRef.pShr (Array'.Array (Referent.rtF (Referent.fInt Syntax.w16)) 768) 5 tt) (List._∷_ (Array.pArr (Array.eInt Syntax.w8) (Array.eInt-laws Syntax.w8) 36)
-    (List._∷_ (Value.pVal record { ty = Declared.row Part.the-type; one = Path'.refl; val = Laws'6.val Part.the-type Laws'4.the-laws; tells = Laws'6.tells Part.the-type Laws'4.the-laws; still =
-    Laws'6.still Part.the-type Laws'4.the-copy Exit.yes; row = Rows'.whole (Declared.row Part.the-type); rd = λ x. x; mk = λ x. x; } λ M 𝓤 H A W. record { copies = Laws'6.copy Part.the-type
-    Laws'4.the-copy 𝓤 H A W; lawful = Laws'6.lawful Part.the-type Laws'4.the-laws 𝓤 H A W; makes = Laws'6.makes Part.the-type Laws'4.the-plain 𝓤 H A; in-mem = Local.mem-whole 𝓤 H A W (Declared.row
-    Part.the-type); of-mem = Local.whole-mem 𝓤 H A W (Declared.row Part.the-type); }) (List._∷_ (Num.pNum Syntax.w64) List.[])))))))))
+    (Referent.fInt Syntax.w16)) 2 tt) (List._∷_ (MutSlice.pMutS (Element.type) 3 tt) (List._∷_ (MutSlice.pMutS (Referent.rtF (Referent.fInt Syntax.w16)) 4 tt) (List._∷_ (Value.pVal record {
+      ty =
+          Declared.row Form.the-type;
+      one = Path'.refl;
+      val = Laws'6.val Form.the-type Laws'.the-laws;
+      tells = Laws'6.tells Form.the-type Laws'.the-laws;
+      still = Laws'6.still Form.the-type Laws'.the-copy
+          Exit.yes;
+      row = Rows'.whole (Declared.row Form.the-type);
+      rd = λ x. x;
+      mk = λ x. x;
+    } λ M 𝓤 H A W. record {
+      copies = Laws'6.copy Form.the-type Laws'.the-copy 𝓤 H A W;
+      lawful = Laws'6.lawful
+          Form.the-type Laws'.the-laws 𝓤 H A W;
+      makes = Laws'6.makes Form.the-type Laws'.the-plain 𝓤 H A;
+      in-mem = Local.mem-whole 𝓤 H A W (Declared.row Form.the-type);
+      of-mem = Local.whole-mem 𝓤 H A W
+          (Declared.row Form.the-type);
+    }) (List._∷_ (ShrRef.pShr (Array'.Array (Referent.rtF (Referent.fInt Syntax.w16)) 768) 5 tt) (List._∷_ (Array.pArr (Array.eInt Syntax.w8) (Array.eInt-laws Syntax.w8) 36)
+    (List._∷_ (Value.pVal record {
+      ty = Declared.row Part.the-type;
+      one = Path'.refl;
+      val = Laws'6.val Part.the-type Laws'4.the-laws;
+      tells = Laws'6.tells Part.the-type Laws'4.the-laws;
+      still =
+          Laws'6.still Part.the-type Laws'4.the-copy Exit.yes;
+      row = Rows'.whole (Declared.row Part.the-type);
+      rd = λ x. x;
+      mk = λ x. x;
+    } λ M 𝓤 H A W. record {
+      copies = Laws'6.copy Part.the-type
+          Laws'4.the-copy 𝓤 H A W;
+      lawful = Laws'6.lawful Part.the-type Laws'4.the-laws 𝓤 H A W;
+      makes = Laws'6.makes Part.the-type Laws'4.the-plain 𝓤 H A;
+      in-mem = Local.mem-whole 𝓤 H A W (Declared.row
+          Part.the-type);
+      of-mem = Local.whole-mem 𝓤 H A W (Declared.row Part.the-type);
+    }) (List._∷_ (Num.pNum Syntax.w64) List.[])))))))))
 
 abbrev pub r : Kinds.RK 6
-r = Value.rVal record { ty = Declared.row Walked.the-type; one = Path'.refl; val = Laws'6.val Walked.the-type Laws'3.the-laws; tells = Laws'6.tells Walked.the-type Laws'3.the-laws; still =
-    Laws'6.still Walked.the-type Laws'3.the-copy Exit.yes; row = Rows'.whole (Declared.row Walked.the-type); rd = λ x. x; mk = λ x. x; } λ M 𝓤 H A W. record { copies = Laws'6.copy Walked.the-type
-    Laws'3.the-copy 𝓤 H A W; lawful = Laws'6.lawful Walked.the-type Laws'3.the-laws 𝓤 H A W; makes = Laws'6.makes Walked.the-type Laws'3.the-plain 𝓤 H A; in-mem = Local.mem-whole 𝓤 H A W (Declared.row
-    Walked.the-type); of-mem = Local.whole-mem 𝓤 H A W (Declared.row Walked.the-type); }
+r = Value.rVal record {
+  ty = Declared.row Walked.the-type;
+  one = Path'.refl;
+  val = Laws'6.val Walked.the-type Laws'3.the-laws;
+  tells = Laws'6.tells Walked.the-type Laws'3.the-laws;
+  still =
+      Laws'6.still Walked.the-type Laws'3.the-copy Exit.yes;
+  row = Rows'.whole (Declared.row Walked.the-type);
+  rd = λ x. x;
+  mk = λ x. x;
+} λ M 𝓤 H A W. record {
+  copies = Laws'6.copy Walked.the-type
+      Laws'3.the-copy 𝓤 H A W;
+  lawful = Laws'6.lawful Walked.the-type Laws'3.the-laws 𝓤 H A W;
+  makes = Laws'6.makes Walked.the-type Laws'3.the-plain 𝓤 H A;
+  in-mem = Local.mem-whole 𝓤 H A W (Declared.row
+      Walked.the-type);
+  of-mem = Local.whole-mem 𝓤 H A W (Declared.row Walked.the-type);
+}
 
 abbrev pub xs : List.List Syntax.Ty
 xs = List._∷_ (Syntax.tyInt Syntax.w32) (List._∷_ Syntax.tyBool (List._∷_ (Syntax.tyInt Syntax.w64) (List._∷_ (Syntax.tyStruct (List._∷_ 98 (List._∷_ 105 (List._∷_ 116 (List._∷_ 115 (List._∷_ 58
@@ -168,30 +213,103 @@ abbrev pub ps·7 : List.List (Kinds.PK 0)
 ps·7 = List._∷_ (Num.pNum Syntax.w32) (List._∷_ (Num.pNum Syntax.w32) List.[])
 
 abbrev pub r·7 : Kinds.RK 0
-r·7 = Value.rVal record { ty = Declared.row Quantisers.the-type; one = Path'.refl; val = Laws'6.val Quantisers.the-type Laws'5.the-laws; tells = Laws'6.tells Quantisers.the-type Laws'5.the-laws; still
-    = Laws'6.still Quantisers.the-type Laws'5.the-copy Exit.yes; row = Rows'.whole (Declared.row Quantisers.the-type); rd = λ x. x; mk = λ x. x; } λ M 𝓤 H A W. record { copies = Laws'6.copy
-    Quantisers.the-type Laws'5.the-copy 𝓤 H A W; lawful = Laws'6.lawful Quantisers.the-type Laws'5.the-laws 𝓤 H A W; makes = Laws'6.makes Quantisers.the-type Laws'5.the-plain 𝓤 H A; in-mem =
-    Local.mem-whole 𝓤 H A W (Declared.row Quantisers.the-type); of-mem = Local.whole-mem 𝓤 H A W (Declared.row Quantisers.the-type); }
+r·7 = Value.rVal record {
+  ty = Declared.row Quantisers.the-type;
+  one = Path'.refl;
+  val = Laws'6.val Quantisers.the-type Laws'5.the-laws;
+  tells = Laws'6.tells Quantisers.the-type Laws'5.the-laws;
+  still
+      = Laws'6.still Quantisers.the-type Laws'5.the-copy Exit.yes;
+  row = Rows'.whole (Declared.row Quantisers.the-type);
+  rd = λ x. x;
+  mk = λ x. x;
+} λ M 𝓤 H A W. record {
+  copies = Laws'6.copy
+      Quantisers.the-type Laws'5.the-copy 𝓤 H A W;
+  lawful = Laws'6.lawful Quantisers.the-type Laws'5.the-laws 𝓤 H A W;
+  makes = Laws'6.makes Quantisers.the-type Laws'5.the-plain 𝓤 H A;
+  in-mem =
+      Local.mem-whole 𝓤 H A W (Declared.row Quantisers.the-type);
+  of-mem = Local.whole-mem 𝓤 H A W (Declared.row Quantisers.the-type);
+}
 
 abbrev pub ps·8 : List.List (Kinds.PK 3)
-ps·8 = List._∷_ (ShrSlice.pShrS (Referent.rtF (Referent.fInt Syntax.w8)) 0 tt) (List._∷_ (Value.pVal record { ty = Declared.row BitPosition.the-type; one = Path'.refl; val = Laws'6.val
-    BitPosition.the-type Laws.the-laws; tells = Laws'6.tells BitPosition.the-type Laws.the-laws; still = Laws'6.still BitPosition.the-type Laws.the-copy Exit.yes; row = Rows'.whole (Declared.row
-    BitPosition.the-type); rd = λ x. x; mk = λ x. x; } λ M 𝓤 H A W. record { copies = Laws'6.copy BitPosition.the-type Laws.the-copy 𝓤 H A W; lawful = Laws'6.lawful BitPosition.the-type Laws.the-laws 𝓤 H
-    A W; makes = Laws'6.makes BitPosition.the-type Laws.the-plain 𝓤 H A; in-mem = Local.mem-whole 𝓤 H A W (Declared.row BitPosition.the-type); of-mem = Local.whole-mem 𝓤 H A W (Declared.row
-    BitPosition.the-type); }) (List._∷_ Bool.pBool (List._∷_ (MutSlice.pMutS (Referent.rtF (Referent.fInt Syntax.w16)) 1 tt) (List._∷_ (MutSlice.pMutS (Element.type) 2 tt) (List._∷_ (Value.pVal record {
-    ty = Declared.row Form.the-type; one = Path'.refl; val = Laws'6.val Form.the-type Laws'.the-laws; tells = Laws'6.tells Form.the-type Laws'.the-laws; still = Laws'6.still Form.the-type Laws'.the-copy
-    Exit.yes; row = Rows'.whole (Declared.row Form.the-type); rd = λ x. x; mk = λ x. x; } λ M 𝓤 H A W. record { copies = Laws'6.copy Form.the-type Laws'.the-copy 𝓤 H A W; lawful = Laws'6.lawful
-    Form.the-type Laws'.the-laws 𝓤 H A W; makes = Laws'6.makes Form.the-type Laws'.the-plain 𝓤 H A; in-mem = Local.mem-whole 𝓤 H A W (Declared.row Form.the-type); of-mem = Local.whole-mem 𝓤 H A W
-    (Declared.row Form.the-type); }) (List._∷_ (Value.pVal record { ty = Declared.row Quantisers.the-type; one = Path'.refl; val = Laws'6.val Quantisers.the-type Laws'5.the-laws; tells = Laws'6.tells
-    Quantisers.the-type Laws'5.the-laws; still = Laws'6.still Quantisers.the-type Laws'5.the-copy Exit.yes; row = Rows'.whole (Declared.row Quantisers.the-type); rd = λ x. x; mk = λ x. x; } λ M 𝓤 H A W.
-    record { copies = Laws'6.copy Quantisers.the-type Laws'5.the-copy 𝓤 H A W; lawful = Laws'6.lawful Quantisers.the-type Laws'5.the-laws 𝓤 H A W; makes = Laws'6.makes Quantisers.the-type Laws'5.the-plain
-    𝓤 H A; in-mem = Local.mem-whole 𝓤 H A W (Declared.row Quantisers.the-type); of-mem = Local.whole-mem 𝓤 H A W (Declared.row Quantisers.the-type); }) List.[]))))))
+ps·8 = List._∷_ (ShrSlice.pShrS (Referent.rtF (Referent.fInt Syntax.w8)) 0 tt) (List._∷_ (Value.pVal record {
+  ty = Declared.row BitPosition.the-type;
+  one = Path'.refl;
+  val = Laws'6.val
+      BitPosition.the-type Laws.the-laws;
+  tells = Laws'6.tells BitPosition.the-type Laws.the-laws;
+  still = Laws'6.still BitPosition.the-type Laws.the-copy Exit.yes;
+  row = Rows'.whole (Declared.row
+      BitPosition.the-type);
+  rd = λ x. x;
+  mk = λ x. x;
+} λ M 𝓤 H A W. record {
+  copies = Laws'6.copy BitPosition.the-type Laws.the-copy 𝓤 H A W;
+  lawful = Laws'6.lawful BitPosition.the-type Laws.the-laws 𝓤 H
+      A W;
+  makes = Laws'6.makes BitPosition.the-type Laws.the-plain 𝓤 H A;
+  in-mem = Local.mem-whole 𝓤 H A W (Declared.row BitPosition.the-type);
+  of-mem = Local.whole-mem 𝓤 H A W (Declared.row
+      BitPosition.the-type);
+}) (List._∷_ Bool.pBool (List._∷_ (MutSlice.pMutS (Referent.rtF (Referent.fInt Syntax.w16)) 1 tt) (List._∷_ (MutSlice.pMutS (Element.type) 2 tt) (List._∷_ (Value.pVal record {
+  ty = Declared.row Form.the-type;
+  one = Path'.refl;
+  val = Laws'6.val Form.the-type Laws'.the-laws;
+  tells = Laws'6.tells Form.the-type Laws'.the-laws;
+  still = Laws'6.still Form.the-type Laws'.the-copy
+      Exit.yes;
+  row = Rows'.whole (Declared.row Form.the-type);
+  rd = λ x. x;
+  mk = λ x. x;
+} λ M 𝓤 H A W. record {
+  copies = Laws'6.copy Form.the-type Laws'.the-copy 𝓤 H A W;
+  lawful = Laws'6.lawful
+      Form.the-type Laws'.the-laws 𝓤 H A W;
+  makes = Laws'6.makes Form.the-type Laws'.the-plain 𝓤 H A;
+  in-mem = Local.mem-whole 𝓤 H A W (Declared.row Form.the-type);
+  of-mem = Local.whole-mem 𝓤 H A W
+      (Declared.row Form.the-type);
+}) (List._∷_ (Value.pVal record {
+  ty = Declared.row Quantisers.the-type;
+  one = Path'.refl;
+  val = Laws'6.val Quantisers.the-type Laws'5.the-laws;
+  tells = Laws'6.tells
+      Quantisers.the-type Laws'5.the-laws;
+  still = Laws'6.still Quantisers.the-type Laws'5.the-copy Exit.yes;
+  row = Rows'.whole (Declared.row Quantisers.the-type);
+  rd = λ x. x;
+  mk = λ x. x;
+} λ M 𝓤 H A W.
+    record {
+      copies = Laws'6.copy Quantisers.the-type Laws'5.the-copy 𝓤 H A W;
+      lawful = Laws'6.lawful Quantisers.the-type Laws'5.the-laws 𝓤 H A W;
+      makes = Laws'6.makes Quantisers.the-type Laws'5.the-plain
+          𝓤 H A;
+      in-mem = Local.mem-whole 𝓤 H A W (Declared.row Quantisers.the-type);
+      of-mem = Local.whole-mem 𝓤 H A W (Declared.row Quantisers.the-type);
+    }) List.[]))))))
 
 abbrev pub r·8 : Kinds.RK 3
-r·8 = Value.rVal record { ty = Declared.row Lined.the-type; one = Path'.refl; val = Laws'6.val Lined.the-type Laws''.the-laws; tells = Laws'6.tells Lined.the-type Laws''.the-laws; still = Laws'6.still
-    Lined.the-type Laws''.the-copy Exit.yes; row = Rows'.whole (Declared.row Lined.the-type); rd = λ x. x; mk = λ x. x; } λ M 𝓤 H A W. record { copies = Laws'6.copy Lined.the-type Laws''.the-copy 𝓤 H A W;
-    lawful = Laws'6.lawful Lined.the-type Laws''.the-laws 𝓤 H A W; makes = Laws'6.makes Lined.the-type Laws''.the-plain 𝓤 H A; in-mem = Local.mem-whole 𝓤 H A W (Declared.row Lined.the-type); of-mem =
-    Local.whole-mem 𝓤 H A W (Declared.row Lined.the-type); }
+r·8 = Value.rVal record {
+  ty = Declared.row Lined.the-type;
+  one = Path'.refl;
+  val = Laws'6.val Lined.the-type Laws''.the-laws;
+  tells = Laws'6.tells Lined.the-type Laws''.the-laws;
+  still = Laws'6.still
+      Lined.the-type Laws''.the-copy Exit.yes;
+  row = Rows'.whole (Declared.row Lined.the-type);
+  rd = λ x. x;
+  mk = λ x. x;
+} λ M 𝓤 H A W. record {
+  copies = Laws'6.copy Lined.the-type Laws''.the-copy 𝓤 H A W;
+  lawful = Laws'6.lawful Lined.the-type Laws''.the-laws 𝓤 H A W;
+  makes = Laws'6.makes Lined.the-type Laws''.the-plain 𝓤 H A;
+  in-mem = Local.mem-whole 𝓤 H A W (Declared.row Lined.the-type);
+  of-mem =
+      Local.whole-mem 𝓤 H A W (Declared.row Lined.the-type);
+}
 
 abbrev pub ps·9 : List.List (Kinds.PK 0)
 ps·9 = List._∷_ (Num.pNum Syntax.w64) (List._∷_ (Num.pNum Syntax.w64) (List._∷_ Bool.pBool List.[]))
@@ -202,10 +320,25 @@ r·9 = Num.rNum Syntax.w64
 abbrev pub ps·10 : List.List (Kinds.PK 3)
 ps·10 = List._∷_ (ShrSlice.pShrS (Referent.rtF (Referent.fInt Syntax.w16)) 0 tt) (List._∷_ (MutSlice.pMutS (Referent.rtF (Referent.fInt Syntax.w16)) 1 tt) (List._∷_ (Num.pNum Syntax.w64) (List._∷_
     Bool.pBool (List._∷_ (ShrRef.pShr (Array'.Array (Referent.rtF (Referent.fInt Syntax.w16)) 768) 2 tt) (List._∷_ (Array.pArr (Array.eInt Syntax.w8) (Array.eInt-laws Syntax.w8) 36) (List._∷_ (Value.pVal
-    record { ty = Declared.row Part.the-type; one = Path'.refl; val = Laws'6.val Part.the-type Laws'4.the-laws; tells = Laws'6.tells Part.the-type Laws'4.the-laws; still = Laws'6.still Part.the-type
-    Laws'4.the-copy Exit.yes; row = Rows'.whole (Declared.row Part.the-type); rd = λ x. x; mk = λ x. x; } λ M 𝓤 H A W. record { copies = Laws'6.copy Part.the-type Laws'4.the-copy 𝓤 H A W; lawful =
-    Laws'6.lawful Part.the-type Laws'4.the-laws 𝓤 H A W; makes = Laws'6.makes Part.the-type Laws'4.the-plain 𝓤 H A; in-mem = Local.mem-whole 𝓤 H A W (Declared.row Part.the-type); of-mem = Local.whole-mem
-    𝓤 H A W (Declared.row Part.the-type); }) (List._∷_ (Num.pNum Syntax.w64) List.[])))))))
+    record {
+      ty = Declared.row Part.the-type;
+      one = Path'.refl;
+      val = Laws'6.val Part.the-type Laws'4.the-laws;
+      tells = Laws'6.tells Part.the-type Laws'4.the-laws;
+      still = Laws'6.still Part.the-type
+          Laws'4.the-copy Exit.yes;
+      row = Rows'.whole (Declared.row Part.the-type);
+      rd = λ x. x;
+      mk = λ x. x;
+    } λ M 𝓤 H A W. record {
+      copies = Laws'6.copy Part.the-type Laws'4.the-copy 𝓤 H A W;
+      lawful =
+          Laws'6.lawful Part.the-type Laws'4.the-laws 𝓤 H A W;
+      makes = Laws'6.makes Part.the-type Laws'4.the-plain 𝓤 H A;
+      in-mem = Local.mem-whole 𝓤 H A W (Declared.row Part.the-type);
+      of-mem = Local.whole-mem
+          𝓤 H A W (Declared.row Part.the-type);
+    }) (List._∷_ (Num.pNum Syntax.w64) List.[])))))))
 
 abbrev pub r·10 : Kinds.RK 3
 r·10 = Unit'.rUnit
@@ -528,1161 +661,2951 @@ Claims = Kinds.In 0 ps·0 × Kinds.Out 0 ps·0 r·0 × Kinds.In 1 ps·1 × Kinds
     Kinds.Out 0 ps·9 r·9 × Kinds.In 3 ps·10 × Kinds.Out 3 ps·10 r·10
 
 abbrev pub t0 : List.List Row.Entry
-t0 = List._∷_ ( 0, Rows'.any-gone (Syntax.tyStruct (List._∷_ 98 (List._∷_ 108 (List._∷_ 111 (List._∷_ 99 (List._∷_ 107 (List._∷_ 58 (List._∷_ 58 (List._∷_ 87 (List._∷_ 97 (List._∷_ 108 (List._∷_ 107
-    (List._∷_ 101 (List._∷_ 100 List.[]))))))))))))) (Syntax.tcons Syntax.tyBool (Syntax.tcons (Syntax.tyInt Syntax.w64) (Syntax.tcons (Syntax.tyStruct (List._∷_ 98 (List._∷_ 105 (List._∷_ 116 (List._∷_
-    115 (List._∷_ 58 (List._∷_ 58 (List._∷_ 66 (List._∷_ 105 (List._∷_ 116 (List._∷_ 80 (List._∷_ 111 (List._∷_ 115 (List._∷_ 105 (List._∷_ 116 (List._∷_ 105 (List._∷_ 111 (List._∷_ 110
-    List.[]))))))))))))))))) (Syntax.tcons (Syntax.tyInt Syntax.w64) Syntax.tnil)) (Syntax.tcons (Syntax.tyInt Syntax.w64) Syntax.tnil))))), ) (List._∷_ ( 1, Rows'.sslice (Referent.rtF (Referent.fInt
-    Syntax.w8)) (Syntax.tyRef (Syntax.named 0) Syntax.imm (Syntax.tyInt Syntax.w8)) 0, ) (List._∷_ ( 2, Rows'.sslice (Referent.rtF (Referent.fInt Syntax.w8)) (Syntax.tyRef (Syntax.named 1) Syntax.imm
-    (Syntax.tyInt Syntax.w8)) 1, ) (List._∷_ ( 3, Mut.mslice (Referent.rtF (Referent.fInt Syntax.w16)) (Syntax.tyRef (Syntax.named 2) Syntax.mut (Syntax.tyInt Syntax.w16)) 2, ) (List._∷_ ( 4, Mut.mslice
-    (Element.type) (Syntax.tyRef (Syntax.named 3) Syntax.mut Element.behind) 3, ) (List._∷_ ( 5, Mut.mslice (Referent.rtF (Referent.fInt Syntax.w16)) (Syntax.tyRef (Syntax.named 4) Syntax.mut
-    (Syntax.tyInt Syntax.w16)) 4, ) (List._∷_ (6, Rows'.whole (Declared.row Form.the-type)) (List._∷_ ( 7, Rows'.sref (Array'.Array (Referent.rtF (Referent.fInt Syntax.w16)) 768) (Syntax.tyRef
-    (Syntax.named 5) Syntax.imm (Syntax.tyArray (Syntax.tyInt Syntax.w16) 768)) 5, ) (List._∷_ (8, Rows.arrF (Referent.rtF (Referent.fInt Syntax.w8)) 36 0) (List._∷_ ( 9, Rows'.whole (Declared.row
-    Part.the-type), ) (List._∷_ (10, Rows'.sc-here (Row.sInt Syntax.w64)) (List._∷_ ( 11, Rows'.any-gone (Syntax.tyInt Syntax.w32), ) (List._∷_ (12, Rows'.any-gone Syntax.tyBool) (List._∷_ ( 13,
-    Rows'.any-gone (Syntax.tyInt Syntax.w64), ) (List._∷_ ( 14, Rows'.any-gone (Syntax.tyStruct (List._∷_ 98 (List._∷_ 105 (List._∷_ 116 (List._∷_ 115 (List._∷_ 58 (List._∷_ 58 (List._∷_ 66 (List._∷_ 105
-    (List._∷_ 116 (List._∷_ 80 (List._∷_ 111 (List._∷_ 115 (List._∷_ 105 (List._∷_ 116 (List._∷_ 105 (List._∷_ 111 (List._∷_ 110 List.[]))))))))))))))))) (Syntax.tcons (Syntax.tyInt Syntax.w64)
-    Syntax.tnil)), ) (List._∷_ (15, Rows'.any-gone Syntax.tyBool) List.[])))))))))))))))
+t0 = List._∷_ (
+  0,
+  Rows'.any-gone (Syntax.tyStruct (List._∷_ 98 (List._∷_ 108 (List._∷_ 111 (List._∷_ 99 (List._∷_ 107 (List._∷_ 58 (List._∷_ 58 (List._∷_ 87 (List._∷_ 97 (List._∷_ 108 (List._∷_ 107
+      (List._∷_ 101 (List._∷_ 100 List.[]))))))))))))) (Syntax.tcons Syntax.tyBool (Syntax.tcons (Syntax.tyInt Syntax.w64) (Syntax.tcons (Syntax.tyStruct (List._∷_ 98 (List._∷_ 105 (List._∷_ 116 (List._∷_
+      115 (List._∷_ 58 (List._∷_ 58 (List._∷_ 66 (List._∷_ 105 (List._∷_ 116 (List._∷_ 80 (List._∷_ 111 (List._∷_ 115 (List._∷_ 105 (List._∷_ 116 (List._∷_ 105 (List._∷_ 111 (List._∷_ 110
+      List.[]))))))))))))))))) (Syntax.tcons (Syntax.tyInt Syntax.w64) Syntax.tnil)) (Syntax.tcons (Syntax.tyInt Syntax.w64) Syntax.tnil))))),
+) (List._∷_ (
+  1,
+  Rows'.sslice (Referent.rtF (Referent.fInt
+      Syntax.w8)) (Syntax.tyRef (Syntax.named 0) Syntax.imm (Syntax.tyInt Syntax.w8)) 0,
+) (List._∷_ (
+  2,
+  Rows'.sslice (Referent.rtF (Referent.fInt Syntax.w8)) (Syntax.tyRef (Syntax.named 1) Syntax.imm
+      (Syntax.tyInt Syntax.w8)) 1,
+) (List._∷_ (3, Mut.mslice (Referent.rtF (Referent.fInt Syntax.w16)) (Syntax.tyRef (Syntax.named 2) Syntax.mut (Syntax.tyInt Syntax.w16)) 2) (List._∷_ (
+  4,
+  Mut.mslice
+      (Element.type) (Syntax.tyRef (Syntax.named 3) Syntax.mut Element.behind) 3,
+) (List._∷_ (
+  5,
+  Mut.mslice (Referent.rtF (Referent.fInt Syntax.w16)) (Syntax.tyRef (Syntax.named 4) Syntax.mut
+      (Syntax.tyInt Syntax.w16)) 4,
+) (List._∷_ (6, Rows'.whole (Declared.row Form.the-type)) (List._∷_ (
+  7,
+  Rows'.sref (Array'.Array (Referent.rtF (Referent.fInt Syntax.w16)) 768) (Syntax.tyRef
+      (Syntax.named 5) Syntax.imm (Syntax.tyArray (Syntax.tyInt Syntax.w16) 768)) 5,
+) (List._∷_ (8, Rows.arrF (Referent.rtF (Referent.fInt Syntax.w8)) 36 0) (List._∷_ (
+  9,
+  Rows'.whole (Declared.row
+      Part.the-type),
+) (List._∷_ (10, Rows'.sc-here (Row.sInt Syntax.w64)) (List._∷_ (11, Rows'.any-gone (Syntax.tyInt Syntax.w32)) (List._∷_ (12, Rows'.any-gone Syntax.tyBool) (List._∷_ (
+  13,
+  Rows'.any-gone (Syntax.tyInt Syntax.w64),
+) (List._∷_ (
+  14,
+  Rows'.any-gone (Syntax.tyStruct (List._∷_ 98 (List._∷_ 105 (List._∷_ 116 (List._∷_ 115 (List._∷_ 58 (List._∷_ 58 (List._∷_ 66 (List._∷_ 105
+      (List._∷_ 116 (List._∷_ 80 (List._∷_ 111 (List._∷_ 115 (List._∷_ 105 (List._∷_ 116 (List._∷_ 105 (List._∷_ 111 (List._∷_ 110 List.[]))))))))))))))))) (Syntax.tcons (Syntax.tyInt Syntax.w64)
+      Syntax.tnil)),
+) (List._∷_ (15, Rows'.any-gone Syntax.tyBool) List.[])))))))))))))))
 
 abbrev pub t1 : List.List Row.Entry
-t1 = List._∷_ (16, Rows'.any-gone (Syntax.tyInt Syntax.w64)) (List._∷_ ( 17, Rows'.any-gone (Syntax.tyInt Syntax.w64), ) (List._∷_ (18, Rows'.any-gone (Syntax.tyInt Syntax.w32)) (List._∷_ ( 19,
-    Rows'.any-gone (Syntax.tyStruct (List._∷_ 98 (List._∷_ 108 (List._∷_ 111 (List._∷_ 99 (List._∷_ 107 (List._∷_ 58 (List._∷_ 58 (List._∷_ 76 (List._∷_ 105 (List._∷_ 110 (List._∷_ 101 (List._∷_ 100
-    List.[])))))))))))) (Syntax.tcons Syntax.tyBool (Syntax.tcons Syntax.tyBool (Syntax.tcons (Syntax.tyStruct (List._∷_ 98 (List._∷_ 105 (List._∷_ 116 (List._∷_ 115 (List._∷_ 58 (List._∷_ 58 (List._∷_ 66
-    (List._∷_ 105 (List._∷_ 116 (List._∷_ 80 (List._∷_ 111 (List._∷_ 115 (List._∷_ 105 (List._∷_ 116 (List._∷_ 105 (List._∷_ 111 (List._∷_ 110 List.[]))))))))))))))))) (Syntax.tcons (Syntax.tyInt
-    Syntax.w64) Syntax.tnil)) Syntax.tnil)))), ) (List._∷_ (20, Rows'.any-gone Syntax.tyBool) (List._∷_ (21, Rows'.any-gone Syntax.tyUnit) (List._∷_ ( 22, Rows'.any-gone (Syntax.tyRef Syntax.erased
-    Syntax.mut (Syntax.tyInt Syntax.w16)), ) (List._∷_ ( 23, Rows'.any-gone (Syntax.tyStruct (List._∷_ 38 (List._∷_ 91 (List._∷_ 93 List.[]))) (Syntax.tcons (Syntax.tyRef Syntax.erased Syntax.mut
-    (Syntax.tyInt Syntax.w16)) (Syntax.tcons (Syntax.tyInt Syntax.w64) Syntax.tnil))), ) (List._∷_ ( 24, Rows'.any-gone (Syntax.tyRef Syntax.erased Syntax.mut Element.behind), ) (List._∷_ ( 25,
-    Rows'.any-gone (Syntax.tyStruct (List._∷_ 38 (List._∷_ 91 (List._∷_ 93 List.[]))) (Syntax.tcons (Syntax.tyRef Syntax.erased Syntax.mut Element.behind) (Syntax.tcons (Syntax.tyInt Syntax.w64)
-    Syntax.tnil))), ) (List._∷_ (26, Rows'.any-gone (Syntax.tyInt Syntax.w32)) (List._∷_ ( 27, Rows'.any-gone Syntax.tyBool, ) (List._∷_ (28, Rows'.any-gone Syntax.tyUnit) (List._∷_ ( 29, Rows'.any-gone
-    (Syntax.tyRef Syntax.erased Syntax.mut (Syntax.tyInt Syntax.w16)), ) (List._∷_ ( 30, Rows'.any-gone (Syntax.tyStruct (List._∷_ 38 (List._∷_ 91 (List._∷_ 93 List.[]))) (Syntax.tcons (Syntax.tyRef
-    Syntax.erased Syntax.mut (Syntax.tyInt Syntax.w16)) (Syntax.tcons (Syntax.tyInt Syntax.w64) Syntax.tnil))), ) (List._∷_ ( 31, Rows'.any-gone (Syntax.tyRef Syntax.erased Syntax.mut Element.behind), )
+t1 = List._∷_ (16, Rows'.any-gone (Syntax.tyInt Syntax.w64)) (List._∷_ (17, Rows'.any-gone (Syntax.tyInt Syntax.w64)) (List._∷_ (18, Rows'.any-gone (Syntax.tyInt Syntax.w32)) (List._∷_ (
+  19,
+  Rows'.any-gone (Syntax.tyStruct (List._∷_ 98 (List._∷_ 108 (List._∷_ 111 (List._∷_ 99 (List._∷_ 107 (List._∷_ 58 (List._∷_ 58 (List._∷_ 76 (List._∷_ 105 (List._∷_ 110 (List._∷_ 101 (List._∷_ 100
+      List.[])))))))))))) (Syntax.tcons Syntax.tyBool (Syntax.tcons Syntax.tyBool (Syntax.tcons (Syntax.tyStruct (List._∷_ 98 (List._∷_ 105 (List._∷_ 116 (List._∷_ 115 (List._∷_ 58 (List._∷_ 58 (List._∷_ 66
+      (List._∷_ 105 (List._∷_ 116 (List._∷_ 80 (List._∷_ 111 (List._∷_ 115 (List._∷_ 105 (List._∷_ 116 (List._∷_ 105 (List._∷_ 111 (List._∷_ 110 List.[]))))))))))))))))) (Syntax.tcons (Syntax.tyInt
+      Syntax.w64) Syntax.tnil)) Syntax.tnil)))),
+) (List._∷_ (20, Rows'.any-gone Syntax.tyBool) (List._∷_ (21, Rows'.any-gone Syntax.tyUnit) (List._∷_ (
+  22,
+  Rows'.any-gone (Syntax.tyRef Syntax.erased
+      Syntax.mut (Syntax.tyInt Syntax.w16)),
+) (List._∷_ (
+  23,
+  Rows'.any-gone (Syntax.tyStruct (List._∷_ 38 (List._∷_ 91 (List._∷_ 93 List.[]))) (Syntax.tcons (Syntax.tyRef Syntax.erased Syntax.mut
+      (Syntax.tyInt Syntax.w16)) (Syntax.tcons (Syntax.tyInt Syntax.w64) Syntax.tnil))),
+) (List._∷_ (24, Rows'.any-gone (Syntax.tyRef Syntax.erased Syntax.mut Element.behind)) (List._∷_ (
+  25,
+  Rows'.any-gone (Syntax.tyStruct (List._∷_ 38 (List._∷_ 91 (List._∷_ 93 List.[]))) (Syntax.tcons (Syntax.tyRef Syntax.erased Syntax.mut Element.behind) (Syntax.tcons (Syntax.tyInt Syntax.w64)
+      Syntax.tnil))),
+) (List._∷_ (26, Rows'.any-gone (Syntax.tyInt Syntax.w32)) (List._∷_ (27, Rows'.any-gone Syntax.tyBool) (List._∷_ (28, Rows'.any-gone Syntax.tyUnit) (List._∷_ (
+  29,
+  Rows'.any-gone
+      (Syntax.tyRef Syntax.erased Syntax.mut (Syntax.tyInt Syntax.w16)),
+) (List._∷_ (
+  30,
+  Rows'.any-gone (Syntax.tyStruct (List._∷_ 38 (List._∷_ 91 (List._∷_ 93 List.[]))) (Syntax.tcons (Syntax.tyRef
+      Syntax.erased Syntax.mut (Syntax.tyInt Syntax.w16)) (Syntax.tcons (Syntax.tyInt Syntax.w64) Syntax.tnil))),
+) (List._∷_ (31, Rows'.any-gone (Syntax.tyRef Syntax.erased Syntax.mut Element.behind))
     List.[])))))))))))))))
 
 abbrev pub t2 : List.List Row.Entry
-t2 = List._∷_ ( 32, Rows'.any-gone (Syntax.tyStruct (List._∷_ 38 (List._∷_ 91 (List._∷_ 93 List.[]))) (Syntax.tcons (Syntax.tyRef Syntax.erased Syntax.mut Element.behind) (Syntax.tcons (Syntax.tyInt
-    Syntax.w64) Syntax.tnil))), ) (List._∷_ ( 33, Rows'.any-gone (Syntax.tyRef Syntax.erased Syntax.mut (Syntax.tyInt Syntax.w16)), ) (List._∷_ ( 34, Rows'.any-gone (Syntax.tyStruct (List._∷_ 38 (List._∷_
-    91 (List._∷_ 93 List.[]))) (Syntax.tcons (Syntax.tyRef Syntax.erased Syntax.mut (Syntax.tyInt Syntax.w16)) (Syntax.tcons (Syntax.tyInt Syntax.w64) Syntax.tnil))), ) (List._∷_ ( 35, Rows'.any-gone
-    (Syntax.tyRef Syntax.erased Syntax.mut Element.behind), ) (List._∷_ ( 36, Rows'.any-gone (Syntax.tyStruct (List._∷_ 38 (List._∷_ 91 (List._∷_ 93 List.[]))) (Syntax.tcons (Syntax.tyRef Syntax.erased
-    Syntax.mut Element.behind) (Syntax.tcons (Syntax.tyInt Syntax.w64) Syntax.tnil))), ) (List._∷_ ( 37, Rows'.any-gone (Syntax.tyStruct (List._∷_ 112 (List._∷_ 97 (List._∷_ 115 (List._∷_ 115 (List._∷_ 58
-    (List._∷_ 58 (List._∷_ 81 (List._∷_ 117 (List._∷_ 97 (List._∷_ 110 (List._∷_ 116 (List._∷_ 105 (List._∷_ 115 (List._∷_ 101 (List._∷_ 114 (List._∷_ 115 List.[])))))))))))))))) (Syntax.tcons
-    (Syntax.tyInt Syntax.w32) (Syntax.tcons (Syntax.tyArray (Syntax.tyInt Syntax.w32) 4) (Syntax.tcons (Syntax.tyArray (Syntax.tyInt Syntax.w32) 4) (Syntax.tcons (Syntax.tyArray (Syntax.tyInt Syntax.w32)
-    4) Syntax.tnil))))), ) (List._∷_ ( 38, Rows'.any-gone (Syntax.tyRef Syntax.erased Syntax.imm (Syntax.tyInt Syntax.w16)), ) (List._∷_ ( 39, Rows'.any-gone (Syntax.tyStruct (List._∷_ 38 (List._∷_ 91
-    (List._∷_ 93 List.[]))) (Syntax.tcons (Syntax.tyRef Syntax.erased Syntax.imm (Syntax.tyInt Syntax.w16)) (Syntax.tcons (Syntax.tyInt Syntax.w64) Syntax.tnil))), ) (List._∷_ ( 40, Rows'.any-gone
-    (Syntax.tyRef Syntax.erased Syntax.mut (Syntax.tyInt Syntax.w16)), ) (List._∷_ ( 41, Rows'.any-gone (Syntax.tyStruct (List._∷_ 38 (List._∷_ 91 (List._∷_ 93 List.[]))) (Syntax.tcons (Syntax.tyRef
-    Syntax.erased Syntax.mut (Syntax.tyInt Syntax.w16)) (Syntax.tcons (Syntax.tyInt Syntax.w64) Syntax.tnil))), ) List.[])))))))))
+t2 = List._∷_ (
+  32,
+  Rows'.any-gone (Syntax.tyStruct (List._∷_ 38 (List._∷_ 91 (List._∷_ 93 List.[]))) (Syntax.tcons (Syntax.tyRef Syntax.erased Syntax.mut Element.behind) (Syntax.tcons (Syntax.tyInt
+      Syntax.w64) Syntax.tnil))),
+) (List._∷_ (33, Rows'.any-gone (Syntax.tyRef Syntax.erased Syntax.mut (Syntax.tyInt Syntax.w16))) (List._∷_ (
+  34,
+  Rows'.any-gone (Syntax.tyStruct (List._∷_ 38 (List._∷_
+      91 (List._∷_ 93 List.[]))) (Syntax.tcons (Syntax.tyRef Syntax.erased Syntax.mut (Syntax.tyInt Syntax.w16)) (Syntax.tcons (Syntax.tyInt Syntax.w64) Syntax.tnil))),
+) (List._∷_ (
+  35,
+  Rows'.any-gone
+      (Syntax.tyRef Syntax.erased Syntax.mut Element.behind),
+) (List._∷_ (
+  36,
+  Rows'.any-gone (Syntax.tyStruct (List._∷_ 38 (List._∷_ 91 (List._∷_ 93 List.[]))) (Syntax.tcons (Syntax.tyRef Syntax.erased
+      Syntax.mut Element.behind) (Syntax.tcons (Syntax.tyInt Syntax.w64) Syntax.tnil))),
+) (List._∷_ (
+  37,
+  Rows'.any-gone (Syntax.tyStruct (List._∷_ 112 (List._∷_ 97 (List._∷_ 115 (List._∷_ 115 (List._∷_ 58
+      (List._∷_ 58 (List._∷_ 81 (List._∷_ 117 (List._∷_ 97 (List._∷_ 110 (List._∷_ 116 (List._∷_ 105 (List._∷_ 115 (List._∷_ 101 (List._∷_ 114 (List._∷_ 115 List.[])))))))))))))))) (Syntax.tcons
+      (Syntax.tyInt Syntax.w32) (Syntax.tcons (Syntax.tyArray (Syntax.tyInt Syntax.w32) 4) (Syntax.tcons (Syntax.tyArray (Syntax.tyInt Syntax.w32) 4) (Syntax.tcons (Syntax.tyArray (Syntax.tyInt Syntax.w32)
+      4) Syntax.tnil))))),
+) (List._∷_ (38, Rows'.any-gone (Syntax.tyRef Syntax.erased Syntax.imm (Syntax.tyInt Syntax.w16))) (List._∷_ (
+  39,
+  Rows'.any-gone (Syntax.tyStruct (List._∷_ 38 (List._∷_ 91
+      (List._∷_ 93 List.[]))) (Syntax.tcons (Syntax.tyRef Syntax.erased Syntax.imm (Syntax.tyInt Syntax.w16)) (Syntax.tcons (Syntax.tyInt Syntax.w64) Syntax.tnil))),
+) (List._∷_ (
+  40,
+  Rows'.any-gone
+      (Syntax.tyRef Syntax.erased Syntax.mut (Syntax.tyInt Syntax.w16)),
+) (List._∷_ (
+  41,
+  Rows'.any-gone (Syntax.tyStruct (List._∷_ 38 (List._∷_ 91 (List._∷_ 93 List.[]))) (Syntax.tcons (Syntax.tyRef
+      Syntax.erased Syntax.mut (Syntax.tyInt Syntax.w16)) (Syntax.tcons (Syntax.tyInt Syntax.w64) Syntax.tnil))),
+) List.[])))))))))
 
 abbrev pub t3 : List.List Row.Entry
-t3 = List._∷_ (0, Rows'.whole (Declared.row Walked.the-type)) (List._∷_ ( 1, Rows'.sslice (Referent.rtF (Referent.fInt Syntax.w8)) (Syntax.tyRef (Syntax.named 0) Syntax.imm (Syntax.tyInt Syntax.w8))
-    0, ) (List._∷_ ( 2, Rows'.sslice (Referent.rtF (Referent.fInt Syntax.w8)) (Syntax.tyRef (Syntax.named 1) Syntax.imm (Syntax.tyInt Syntax.w8)) 1, ) (List._∷_ ( 3, Mut.mslice (Referent.rtF
-    (Referent.fInt Syntax.w16)) (Syntax.tyRef (Syntax.named 2) Syntax.mut (Syntax.tyInt Syntax.w16)) 2, ) (List._∷_ ( 4, Mut.mslice (Element.type) (Syntax.tyRef (Syntax.named 3) Syntax.mut Element.behind)
-    3, ) (List._∷_ ( 5, Mut.mslice (Referent.rtF (Referent.fInt Syntax.w16)) (Syntax.tyRef (Syntax.named 4) Syntax.mut (Syntax.tyInt Syntax.w16)) 4, ) (List._∷_ ( 6, Rows'.any-gone (Syntax.tyStruct
-    (List._∷_ 98 (List._∷_ 108 (List._∷_ 111 (List._∷_ 99 (List._∷_ 107 (List._∷_ 58 (List._∷_ 58 (List._∷_ 70 (List._∷_ 111 (List._∷_ 114 (List._∷_ 109 List.[]))))))))))) (Syntax.tcons (Syntax.tyInt
-    Syntax.w32) (Syntax.tcons Syntax.tyBool Syntax.tnil))), ) (List._∷_ ( 7, Rows'.sref (Array'.Array (Referent.rtF (Referent.fInt Syntax.w16)) 768) (Syntax.tyRef (Syntax.named 5) Syntax.imm
-    (Syntax.tyArray (Syntax.tyInt Syntax.w16) 768)) 5, ) (List._∷_ (8, Rows'.any-gone (Syntax.tyArray (Syntax.tyInt Syntax.w8) 36)) (List._∷_ ( 9, Rows'.any-gone (Syntax.tyStruct (List._∷_ 109 (List._∷_
-    97 (List._∷_ 112 (List._∷_ 58 (List._∷_ 58 (List._∷_ 80 (List._∷_ 97 (List._∷_ 114 (List._∷_ 116 List.[]))))))))) (Syntax.tcons (Syntax.tyInt Syntax.w64) (Syntax.tcons (Syntax.tyInt Syntax.w64)
-    (Syntax.tcons (Syntax.tyInt Syntax.w64) (Syntax.tcons (Syntax.tyInt Syntax.w64) (Syntax.tcons (Syntax.tyInt Syntax.w64) (Syntax.tcons (Syntax.tyInt Syntax.w64) Syntax.tnil))))))), ) (List._∷_ (10,
-    Rows'.any-gone (Syntax.tyInt Syntax.w64)) (List._∷_ ( 11, Rows'.any-gone (Syntax.tyInt Syntax.w32), ) (List._∷_ (12, Rows'.any-gone Syntax.tyBool) (List._∷_ ( 13, Rows'.any-gone (Syntax.tyInt
-    Syntax.w64), ) (List._∷_ ( 14, Rows'.any-gone (Syntax.tyStruct (List._∷_ 98 (List._∷_ 105 (List._∷_ 116 (List._∷_ 115 (List._∷_ 58 (List._∷_ 58 (List._∷_ 66 (List._∷_ 105 (List._∷_ 116 (List._∷_ 80
-    (List._∷_ 111 (List._∷_ 115 (List._∷_ 105 (List._∷_ 116 (List._∷_ 105 (List._∷_ 111 (List._∷_ 110 List.[]))))))))))))))))) (Syntax.tcons (Syntax.tyInt Syntax.w64) Syntax.tnil)), ) (List._∷_ (15,
-    Rows'.any-gone Syntax.tyBool) List.[])))))))))))))))
+t3 = List._∷_ (0, Rows'.whole (Declared.row Walked.the-type)) (List._∷_ (
+  1,
+  Rows'.sslice (Referent.rtF (Referent.fInt Syntax.w8)) (Syntax.tyRef (Syntax.named 0) Syntax.imm (Syntax.tyInt Syntax.w8))
+      0,
+) (List._∷_ (2, Rows'.sslice (Referent.rtF (Referent.fInt Syntax.w8)) (Syntax.tyRef (Syntax.named 1) Syntax.imm (Syntax.tyInt Syntax.w8)) 1) (List._∷_ (
+  3,
+  Mut.mslice (Referent.rtF
+      (Referent.fInt Syntax.w16)) (Syntax.tyRef (Syntax.named 2) Syntax.mut (Syntax.tyInt Syntax.w16)) 2,
+) (List._∷_ (
+  4,
+  Mut.mslice (Element.type) (Syntax.tyRef (Syntax.named 3) Syntax.mut Element.behind)
+      3,
+) (List._∷_ (5, Mut.mslice (Referent.rtF (Referent.fInt Syntax.w16)) (Syntax.tyRef (Syntax.named 4) Syntax.mut (Syntax.tyInt Syntax.w16)) 4) (List._∷_ (
+  6,
+  Rows'.any-gone (Syntax.tyStruct
+      (List._∷_ 98 (List._∷_ 108 (List._∷_ 111 (List._∷_ 99 (List._∷_ 107 (List._∷_ 58 (List._∷_ 58 (List._∷_ 70 (List._∷_ 111 (List._∷_ 114 (List._∷_ 109 List.[]))))))))))) (Syntax.tcons (Syntax.tyInt
+      Syntax.w32) (Syntax.tcons Syntax.tyBool Syntax.tnil))),
+) (List._∷_ (
+  7,
+  Rows'.sref (Array'.Array (Referent.rtF (Referent.fInt Syntax.w16)) 768) (Syntax.tyRef (Syntax.named 5) Syntax.imm
+      (Syntax.tyArray (Syntax.tyInt Syntax.w16) 768)) 5,
+) (List._∷_ (8, Rows'.any-gone (Syntax.tyArray (Syntax.tyInt Syntax.w8) 36)) (List._∷_ (
+  9,
+  Rows'.any-gone (Syntax.tyStruct (List._∷_ 109 (List._∷_
+      97 (List._∷_ 112 (List._∷_ 58 (List._∷_ 58 (List._∷_ 80 (List._∷_ 97 (List._∷_ 114 (List._∷_ 116 List.[]))))))))) (Syntax.tcons (Syntax.tyInt Syntax.w64) (Syntax.tcons (Syntax.tyInt Syntax.w64)
+      (Syntax.tcons (Syntax.tyInt Syntax.w64) (Syntax.tcons (Syntax.tyInt Syntax.w64) (Syntax.tcons (Syntax.tyInt Syntax.w64) (Syntax.tcons (Syntax.tyInt Syntax.w64) Syntax.tnil))))))),
+) (List._∷_ (
+  10,
+  Rows'.any-gone (Syntax.tyInt Syntax.w64),
+) (List._∷_ (11, Rows'.any-gone (Syntax.tyInt Syntax.w32)) (List._∷_ (12, Rows'.any-gone Syntax.tyBool) (List._∷_ (
+  13,
+  Rows'.any-gone (Syntax.tyInt
+      Syntax.w64),
+) (List._∷_ (
+  14,
+  Rows'.any-gone (Syntax.tyStruct (List._∷_ 98 (List._∷_ 105 (List._∷_ 116 (List._∷_ 115 (List._∷_ 58 (List._∷_ 58 (List._∷_ 66 (List._∷_ 105 (List._∷_ 116 (List._∷_ 80
+      (List._∷_ 111 (List._∷_ 115 (List._∷_ 105 (List._∷_ 116 (List._∷_ 105 (List._∷_ 111 (List._∷_ 110 List.[]))))))))))))))))) (Syntax.tcons (Syntax.tyInt Syntax.w64) Syntax.tnil)),
+) (List._∷_ (
+  15,
+  Rows'.any-gone Syntax.tyBool,
+) List.[])))))))))))))))
 
 abbrev pub t4 : List.List Row.Entry
-t4 = List._∷_ ( 0, Rows'.any-gone (Syntax.tyStruct (List._∷_ 98 (List._∷_ 108 (List._∷_ 111 (List._∷_ 99 (List._∷_ 107 (List._∷_ 58 (List._∷_ 58 (List._∷_ 87 (List._∷_ 97 (List._∷_ 108 (List._∷_ 107
-    (List._∷_ 101 (List._∷_ 100 List.[]))))))))))))) (Syntax.tcons Syntax.tyBool (Syntax.tcons (Syntax.tyInt Syntax.w64) (Syntax.tcons (Syntax.tyStruct (List._∷_ 98 (List._∷_ 105 (List._∷_ 116 (List._∷_
-    115 (List._∷_ 58 (List._∷_ 58 (List._∷_ 66 (List._∷_ 105 (List._∷_ 116 (List._∷_ 80 (List._∷_ 111 (List._∷_ 115 (List._∷_ 105 (List._∷_ 116 (List._∷_ 105 (List._∷_ 111 (List._∷_ 110
-    List.[]))))))))))))))))) (Syntax.tcons (Syntax.tyInt Syntax.w64) Syntax.tnil)) (Syntax.tcons (Syntax.tyInt Syntax.w64) Syntax.tnil))))), ) (List._∷_ ( 1, Rows'.sslice (Referent.rtF (Referent.fInt
-    Syntax.w8)) (Syntax.tyRef (Syntax.named 0) Syntax.imm (Syntax.tyInt Syntax.w8)) 0, ) (List._∷_ ( 2, Rows'.sslice (Referent.rtF (Referent.fInt Syntax.w8)) (Syntax.tyRef (Syntax.named 1) Syntax.imm
-    (Syntax.tyInt Syntax.w8)) 1, ) (List._∷_ ( 3, Mut.mslice (Referent.rtF (Referent.fInt Syntax.w16)) (Syntax.tyRef (Syntax.named 2) Syntax.mut (Syntax.tyInt Syntax.w16)) 2, ) (List._∷_ ( 4, Mut.mslice
-    (Element.type) (Syntax.tyRef (Syntax.named 3) Syntax.mut Element.behind) 3, ) (List._∷_ ( 5, Mut.mslice (Referent.rtF (Referent.fInt Syntax.w16)) (Syntax.tyRef (Syntax.named 4) Syntax.mut
-    (Syntax.tyInt Syntax.w16)) 4, ) (List._∷_ (6, Rows'.whole (Declared.row Form.the-type)) (List._∷_ ( 7, Rows'.sref (Array'.Array (Referent.rtF (Referent.fInt Syntax.w16)) 768) (Syntax.tyRef
-    (Syntax.named 5) Syntax.imm (Syntax.tyArray (Syntax.tyInt Syntax.w16) 768)) 5, ) (List._∷_ (8, Rows.arrF (Referent.rtF (Referent.fInt Syntax.w8)) 36 0) (List._∷_ ( 9, Rows'.whole (Declared.row
-    Part.the-type), ) (List._∷_ (10, Rows'.sc-here (Row.sInt Syntax.w64)) (List._∷_ ( 11, Rows'.sc-here (Row.sInt Syntax.w32), ) (List._∷_ (12, Rows'.any-gone Syntax.tyBool) (List._∷_ ( 13, Rows'.any-gone
-    (Syntax.tyInt Syntax.w64), ) (List._∷_ ( 14, Rows'.any-gone (Syntax.tyStruct (List._∷_ 98 (List._∷_ 105 (List._∷_ 116 (List._∷_ 115 (List._∷_ 58 (List._∷_ 58 (List._∷_ 66 (List._∷_ 105 (List._∷_ 116
-    (List._∷_ 80 (List._∷_ 111 (List._∷_ 115 (List._∷_ 105 (List._∷_ 116 (List._∷_ 105 (List._∷_ 111 (List._∷_ 110 List.[]))))))))))))))))) (Syntax.tcons (Syntax.tyInt Syntax.w64) Syntax.tnil)), )
+t4 = List._∷_ (
+  0,
+  Rows'.any-gone (Syntax.tyStruct (List._∷_ 98 (List._∷_ 108 (List._∷_ 111 (List._∷_ 99 (List._∷_ 107 (List._∷_ 58 (List._∷_ 58 (List._∷_ 87 (List._∷_ 97 (List._∷_ 108 (List._∷_ 107
+      (List._∷_ 101 (List._∷_ 100 List.[]))))))))))))) (Syntax.tcons Syntax.tyBool (Syntax.tcons (Syntax.tyInt Syntax.w64) (Syntax.tcons (Syntax.tyStruct (List._∷_ 98 (List._∷_ 105 (List._∷_ 116 (List._∷_
+      115 (List._∷_ 58 (List._∷_ 58 (List._∷_ 66 (List._∷_ 105 (List._∷_ 116 (List._∷_ 80 (List._∷_ 111 (List._∷_ 115 (List._∷_ 105 (List._∷_ 116 (List._∷_ 105 (List._∷_ 111 (List._∷_ 110
+      List.[]))))))))))))))))) (Syntax.tcons (Syntax.tyInt Syntax.w64) Syntax.tnil)) (Syntax.tcons (Syntax.tyInt Syntax.w64) Syntax.tnil))))),
+) (List._∷_ (
+  1,
+  Rows'.sslice (Referent.rtF (Referent.fInt
+      Syntax.w8)) (Syntax.tyRef (Syntax.named 0) Syntax.imm (Syntax.tyInt Syntax.w8)) 0,
+) (List._∷_ (
+  2,
+  Rows'.sslice (Referent.rtF (Referent.fInt Syntax.w8)) (Syntax.tyRef (Syntax.named 1) Syntax.imm
+      (Syntax.tyInt Syntax.w8)) 1,
+) (List._∷_ (3, Mut.mslice (Referent.rtF (Referent.fInt Syntax.w16)) (Syntax.tyRef (Syntax.named 2) Syntax.mut (Syntax.tyInt Syntax.w16)) 2) (List._∷_ (
+  4,
+  Mut.mslice
+      (Element.type) (Syntax.tyRef (Syntax.named 3) Syntax.mut Element.behind) 3,
+) (List._∷_ (
+  5,
+  Mut.mslice (Referent.rtF (Referent.fInt Syntax.w16)) (Syntax.tyRef (Syntax.named 4) Syntax.mut
+      (Syntax.tyInt Syntax.w16)) 4,
+) (List._∷_ (6, Rows'.whole (Declared.row Form.the-type)) (List._∷_ (
+  7,
+  Rows'.sref (Array'.Array (Referent.rtF (Referent.fInt Syntax.w16)) 768) (Syntax.tyRef
+      (Syntax.named 5) Syntax.imm (Syntax.tyArray (Syntax.tyInt Syntax.w16) 768)) 5,
+) (List._∷_ (8, Rows.arrF (Referent.rtF (Referent.fInt Syntax.w8)) 36 0) (List._∷_ (
+  9,
+  Rows'.whole (Declared.row
+      Part.the-type),
+) (List._∷_ (10, Rows'.sc-here (Row.sInt Syntax.w64)) (List._∷_ (11, Rows'.sc-here (Row.sInt Syntax.w32)) (List._∷_ (12, Rows'.any-gone Syntax.tyBool) (List._∷_ (
+  13,
+  Rows'.any-gone
+      (Syntax.tyInt Syntax.w64),
+) (List._∷_ (
+  14,
+  Rows'.any-gone (Syntax.tyStruct (List._∷_ 98 (List._∷_ 105 (List._∷_ 116 (List._∷_ 115 (List._∷_ 58 (List._∷_ 58 (List._∷_ 66 (List._∷_ 105 (List._∷_ 116
+      (List._∷_ 80 (List._∷_ 111 (List._∷_ 115 (List._∷_ 105 (List._∷_ 116 (List._∷_ 105 (List._∷_ 111 (List._∷_ 110 List.[]))))))))))))))))) (Syntax.tcons (Syntax.tyInt Syntax.w64) Syntax.tnil)),
+)
     (List._∷_ (15, Rows'.any-gone Syntax.tyBool) List.[])))))))))))))))
 
 abbrev pub t5 : List.List Row.Entry
-t5 = List._∷_ ( 0, Rows'.any-gone (Syntax.tyStruct (List._∷_ 98 (List._∷_ 108 (List._∷_ 111 (List._∷_ 99 (List._∷_ 107 (List._∷_ 58 (List._∷_ 58 (List._∷_ 87 (List._∷_ 97 (List._∷_ 108 (List._∷_ 107
-    (List._∷_ 101 (List._∷_ 100 List.[]))))))))))))) (Syntax.tcons Syntax.tyBool (Syntax.tcons (Syntax.tyInt Syntax.w64) (Syntax.tcons (Syntax.tyStruct (List._∷_ 98 (List._∷_ 105 (List._∷_ 116 (List._∷_
-    115 (List._∷_ 58 (List._∷_ 58 (List._∷_ 66 (List._∷_ 105 (List._∷_ 116 (List._∷_ 80 (List._∷_ 111 (List._∷_ 115 (List._∷_ 105 (List._∷_ 116 (List._∷_ 105 (List._∷_ 111 (List._∷_ 110
-    List.[]))))))))))))))))) (Syntax.tcons (Syntax.tyInt Syntax.w64) Syntax.tnil)) (Syntax.tcons (Syntax.tyInt Syntax.w64) Syntax.tnil))))), ) (List._∷_ ( 1, Rows'.sslice (Referent.rtF (Referent.fInt
-    Syntax.w8)) (Syntax.tyRef (Syntax.named 0) Syntax.imm (Syntax.tyInt Syntax.w8)) 0, ) (List._∷_ ( 2, Rows'.sslice (Referent.rtF (Referent.fInt Syntax.w8)) (Syntax.tyRef (Syntax.named 1) Syntax.imm
-    (Syntax.tyInt Syntax.w8)) 1, ) (List._∷_ ( 3, Mut.mslice (Referent.rtF (Referent.fInt Syntax.w16)) (Syntax.tyRef (Syntax.named 2) Syntax.mut (Syntax.tyInt Syntax.w16)) 2, ) (List._∷_ ( 4, Mut.mslice
-    (Element.type) (Syntax.tyRef (Syntax.named 3) Syntax.mut Element.behind) 3, ) (List._∷_ ( 5, Mut.mslice (Referent.rtF (Referent.fInt Syntax.w16)) (Syntax.tyRef (Syntax.named 4) Syntax.mut
-    (Syntax.tyInt Syntax.w16)) 4, ) (List._∷_ (6, Rows'.whole (Declared.row Form.the-type)) (List._∷_ ( 7, Rows'.sref (Array'.Array (Referent.rtF (Referent.fInt Syntax.w16)) 768) (Syntax.tyRef
-    (Syntax.named 5) Syntax.imm (Syntax.tyArray (Syntax.tyInt Syntax.w16) 768)) 5, ) (List._∷_ (8, Rows.arrF (Referent.rtF (Referent.fInt Syntax.w8)) 36 0) (List._∷_ ( 9, Rows'.whole (Declared.row
-    Part.the-type), ) (List._∷_ (10, Rows'.sc-here (Row.sInt Syntax.w64)) (List._∷_ ( 11, Rows'.sc-here (Row.sInt Syntax.w32), ) (List._∷_ (12, Rows'.sc-here Row.sBool) (List._∷_ ( 13, Rows'.any-gone
-    (Syntax.tyInt Syntax.w64), ) (List._∷_ ( 14, Rows'.any-gone (Syntax.tyStruct (List._∷_ 98 (List._∷_ 105 (List._∷_ 116 (List._∷_ 115 (List._∷_ 58 (List._∷_ 58 (List._∷_ 66 (List._∷_ 105 (List._∷_ 116
-    (List._∷_ 80 (List._∷_ 111 (List._∷_ 115 (List._∷_ 105 (List._∷_ 116 (List._∷_ 105 (List._∷_ 111 (List._∷_ 110 List.[]))))))))))))))))) (Syntax.tcons (Syntax.tyInt Syntax.w64) Syntax.tnil)), )
+t5 = List._∷_ (
+  0,
+  Rows'.any-gone (Syntax.tyStruct (List._∷_ 98 (List._∷_ 108 (List._∷_ 111 (List._∷_ 99 (List._∷_ 107 (List._∷_ 58 (List._∷_ 58 (List._∷_ 87 (List._∷_ 97 (List._∷_ 108 (List._∷_ 107
+      (List._∷_ 101 (List._∷_ 100 List.[]))))))))))))) (Syntax.tcons Syntax.tyBool (Syntax.tcons (Syntax.tyInt Syntax.w64) (Syntax.tcons (Syntax.tyStruct (List._∷_ 98 (List._∷_ 105 (List._∷_ 116 (List._∷_
+      115 (List._∷_ 58 (List._∷_ 58 (List._∷_ 66 (List._∷_ 105 (List._∷_ 116 (List._∷_ 80 (List._∷_ 111 (List._∷_ 115 (List._∷_ 105 (List._∷_ 116 (List._∷_ 105 (List._∷_ 111 (List._∷_ 110
+      List.[]))))))))))))))))) (Syntax.tcons (Syntax.tyInt Syntax.w64) Syntax.tnil)) (Syntax.tcons (Syntax.tyInt Syntax.w64) Syntax.tnil))))),
+) (List._∷_ (
+  1,
+  Rows'.sslice (Referent.rtF (Referent.fInt
+      Syntax.w8)) (Syntax.tyRef (Syntax.named 0) Syntax.imm (Syntax.tyInt Syntax.w8)) 0,
+) (List._∷_ (
+  2,
+  Rows'.sslice (Referent.rtF (Referent.fInt Syntax.w8)) (Syntax.tyRef (Syntax.named 1) Syntax.imm
+      (Syntax.tyInt Syntax.w8)) 1,
+) (List._∷_ (3, Mut.mslice (Referent.rtF (Referent.fInt Syntax.w16)) (Syntax.tyRef (Syntax.named 2) Syntax.mut (Syntax.tyInt Syntax.w16)) 2) (List._∷_ (
+  4,
+  Mut.mslice
+      (Element.type) (Syntax.tyRef (Syntax.named 3) Syntax.mut Element.behind) 3,
+) (List._∷_ (
+  5,
+  Mut.mslice (Referent.rtF (Referent.fInt Syntax.w16)) (Syntax.tyRef (Syntax.named 4) Syntax.mut
+      (Syntax.tyInt Syntax.w16)) 4,
+) (List._∷_ (6, Rows'.whole (Declared.row Form.the-type)) (List._∷_ (
+  7,
+  Rows'.sref (Array'.Array (Referent.rtF (Referent.fInt Syntax.w16)) 768) (Syntax.tyRef
+      (Syntax.named 5) Syntax.imm (Syntax.tyArray (Syntax.tyInt Syntax.w16) 768)) 5,
+) (List._∷_ (8, Rows.arrF (Referent.rtF (Referent.fInt Syntax.w8)) 36 0) (List._∷_ (
+  9,
+  Rows'.whole (Declared.row
+      Part.the-type),
+) (List._∷_ (10, Rows'.sc-here (Row.sInt Syntax.w64)) (List._∷_ (11, Rows'.sc-here (Row.sInt Syntax.w32)) (List._∷_ (12, Rows'.sc-here Row.sBool) (List._∷_ (
+  13,
+  Rows'.any-gone
+      (Syntax.tyInt Syntax.w64),
+) (List._∷_ (
+  14,
+  Rows'.any-gone (Syntax.tyStruct (List._∷_ 98 (List._∷_ 105 (List._∷_ 116 (List._∷_ 115 (List._∷_ 58 (List._∷_ 58 (List._∷_ 66 (List._∷_ 105 (List._∷_ 116
+      (List._∷_ 80 (List._∷_ 111 (List._∷_ 115 (List._∷_ 105 (List._∷_ 116 (List._∷_ 105 (List._∷_ 111 (List._∷_ 110 List.[]))))))))))))))))) (Syntax.tcons (Syntax.tyInt Syntax.w64) Syntax.tnil)),
+)
     (List._∷_ (15, Rows'.any-gone Syntax.tyBool) List.[])))))))))))))))
 
 abbrev pub t6 : List.List Row.Entry
-t6 = List._∷_ ( 0, Rows'.any-gone (Syntax.tyStruct (List._∷_ 98 (List._∷_ 108 (List._∷_ 111 (List._∷_ 99 (List._∷_ 107 (List._∷_ 58 (List._∷_ 58 (List._∷_ 87 (List._∷_ 97 (List._∷_ 108 (List._∷_ 107
-    (List._∷_ 101 (List._∷_ 100 List.[]))))))))))))) (Syntax.tcons Syntax.tyBool (Syntax.tcons (Syntax.tyInt Syntax.w64) (Syntax.tcons (Syntax.tyStruct (List._∷_ 98 (List._∷_ 105 (List._∷_ 116 (List._∷_
-    115 (List._∷_ 58 (List._∷_ 58 (List._∷_ 66 (List._∷_ 105 (List._∷_ 116 (List._∷_ 80 (List._∷_ 111 (List._∷_ 115 (List._∷_ 105 (List._∷_ 116 (List._∷_ 105 (List._∷_ 111 (List._∷_ 110
-    List.[]))))))))))))))))) (Syntax.tcons (Syntax.tyInt Syntax.w64) Syntax.tnil)) (Syntax.tcons (Syntax.tyInt Syntax.w64) Syntax.tnil))))), ) (List._∷_ ( 1, Rows'.sslice (Referent.rtF (Referent.fInt
-    Syntax.w8)) (Syntax.tyRef (Syntax.named 0) Syntax.imm (Syntax.tyInt Syntax.w8)) 0, ) (List._∷_ ( 2, Rows'.sslice (Referent.rtF (Referent.fInt Syntax.w8)) (Syntax.tyRef (Syntax.named 1) Syntax.imm
-    (Syntax.tyInt Syntax.w8)) 1, ) (List._∷_ ( 3, Mut.mslice (Referent.rtF (Referent.fInt Syntax.w16)) (Syntax.tyRef (Syntax.named 2) Syntax.mut (Syntax.tyInt Syntax.w16)) 2, ) (List._∷_ ( 4, Mut.mslice
-    (Element.type) (Syntax.tyRef (Syntax.named 3) Syntax.mut Element.behind) 3, ) (List._∷_ ( 5, Mut.mslice (Referent.rtF (Referent.fInt Syntax.w16)) (Syntax.tyRef (Syntax.named 4) Syntax.mut
-    (Syntax.tyInt Syntax.w16)) 4, ) (List._∷_ (6, Rows'.whole (Declared.row Form.the-type)) (List._∷_ ( 7, Rows'.sref (Array'.Array (Referent.rtF (Referent.fInt Syntax.w16)) 768) (Syntax.tyRef
-    (Syntax.named 5) Syntax.imm (Syntax.tyArray (Syntax.tyInt Syntax.w16) 768)) 5, ) (List._∷_ (8, Rows.arrF (Referent.rtF (Referent.fInt Syntax.w8)) 36 0) (List._∷_ ( 9, Rows'.whole (Declared.row
-    Part.the-type), ) (List._∷_ (10, Rows'.sc-here (Row.sInt Syntax.w64)) (List._∷_ ( 11, Rows'.sc-here (Row.sInt Syntax.w32), ) (List._∷_ (12, Rows'.sc-here Row.sBool) (List._∷_ (13, Rows'.sc-here
-    (Row.sInt Syntax.w64)) (List._∷_ ( 14, Rows'.any-gone (Syntax.tyStruct (List._∷_ 98 (List._∷_ 105 (List._∷_ 116 (List._∷_ 115 (List._∷_ 58 (List._∷_ 58 (List._∷_ 66 (List._∷_ 105 (List._∷_ 116
-    (List._∷_ 80 (List._∷_ 111 (List._∷_ 115 (List._∷_ 105 (List._∷_ 116 (List._∷_ 105 (List._∷_ 111 (List._∷_ 110 List.[]))))))))))))))))) (Syntax.tcons (Syntax.tyInt Syntax.w64) Syntax.tnil)), )
+t6 = List._∷_ (
+  0,
+  Rows'.any-gone (Syntax.tyStruct (List._∷_ 98 (List._∷_ 108 (List._∷_ 111 (List._∷_ 99 (List._∷_ 107 (List._∷_ 58 (List._∷_ 58 (List._∷_ 87 (List._∷_ 97 (List._∷_ 108 (List._∷_ 107
+      (List._∷_ 101 (List._∷_ 100 List.[]))))))))))))) (Syntax.tcons Syntax.tyBool (Syntax.tcons (Syntax.tyInt Syntax.w64) (Syntax.tcons (Syntax.tyStruct (List._∷_ 98 (List._∷_ 105 (List._∷_ 116 (List._∷_
+      115 (List._∷_ 58 (List._∷_ 58 (List._∷_ 66 (List._∷_ 105 (List._∷_ 116 (List._∷_ 80 (List._∷_ 111 (List._∷_ 115 (List._∷_ 105 (List._∷_ 116 (List._∷_ 105 (List._∷_ 111 (List._∷_ 110
+      List.[]))))))))))))))))) (Syntax.tcons (Syntax.tyInt Syntax.w64) Syntax.tnil)) (Syntax.tcons (Syntax.tyInt Syntax.w64) Syntax.tnil))))),
+) (List._∷_ (
+  1,
+  Rows'.sslice (Referent.rtF (Referent.fInt
+      Syntax.w8)) (Syntax.tyRef (Syntax.named 0) Syntax.imm (Syntax.tyInt Syntax.w8)) 0,
+) (List._∷_ (
+  2,
+  Rows'.sslice (Referent.rtF (Referent.fInt Syntax.w8)) (Syntax.tyRef (Syntax.named 1) Syntax.imm
+      (Syntax.tyInt Syntax.w8)) 1,
+) (List._∷_ (3, Mut.mslice (Referent.rtF (Referent.fInt Syntax.w16)) (Syntax.tyRef (Syntax.named 2) Syntax.mut (Syntax.tyInt Syntax.w16)) 2) (List._∷_ (
+  4,
+  Mut.mslice
+      (Element.type) (Syntax.tyRef (Syntax.named 3) Syntax.mut Element.behind) 3,
+) (List._∷_ (
+  5,
+  Mut.mslice (Referent.rtF (Referent.fInt Syntax.w16)) (Syntax.tyRef (Syntax.named 4) Syntax.mut
+      (Syntax.tyInt Syntax.w16)) 4,
+) (List._∷_ (6, Rows'.whole (Declared.row Form.the-type)) (List._∷_ (
+  7,
+  Rows'.sref (Array'.Array (Referent.rtF (Referent.fInt Syntax.w16)) 768) (Syntax.tyRef
+      (Syntax.named 5) Syntax.imm (Syntax.tyArray (Syntax.tyInt Syntax.w16) 768)) 5,
+) (List._∷_ (8, Rows.arrF (Referent.rtF (Referent.fInt Syntax.w8)) 36 0) (List._∷_ (
+  9,
+  Rows'.whole (Declared.row
+      Part.the-type),
+) (List._∷_ (10, Rows'.sc-here (Row.sInt Syntax.w64)) (List._∷_ (11, Rows'.sc-here (Row.sInt Syntax.w32)) (List._∷_ (12, Rows'.sc-here Row.sBool) (List._∷_ (
+  13,
+  Rows'.sc-here
+      (Row.sInt Syntax.w64),
+) (List._∷_ (
+  14,
+  Rows'.any-gone (Syntax.tyStruct (List._∷_ 98 (List._∷_ 105 (List._∷_ 116 (List._∷_ 115 (List._∷_ 58 (List._∷_ 58 (List._∷_ 66 (List._∷_ 105 (List._∷_ 116
+      (List._∷_ 80 (List._∷_ 111 (List._∷_ 115 (List._∷_ 105 (List._∷_ 116 (List._∷_ 105 (List._∷_ 111 (List._∷_ 110 List.[]))))))))))))))))) (Syntax.tcons (Syntax.tyInt Syntax.w64) Syntax.tnil)),
+)
     (List._∷_ (15, Rows'.any-gone Syntax.tyBool) List.[])))))))))))))))
 
 abbrev pub t7 : List.List Row.Entry
-t7 = List._∷_ ( 0, Rows'.any-gone (Syntax.tyStruct (List._∷_ 98 (List._∷_ 108 (List._∷_ 111 (List._∷_ 99 (List._∷_ 107 (List._∷_ 58 (List._∷_ 58 (List._∷_ 87 (List._∷_ 97 (List._∷_ 108 (List._∷_ 107
-    (List._∷_ 101 (List._∷_ 100 List.[]))))))))))))) (Syntax.tcons Syntax.tyBool (Syntax.tcons (Syntax.tyInt Syntax.w64) (Syntax.tcons (Syntax.tyStruct (List._∷_ 98 (List._∷_ 105 (List._∷_ 116 (List._∷_
-    115 (List._∷_ 58 (List._∷_ 58 (List._∷_ 66 (List._∷_ 105 (List._∷_ 116 (List._∷_ 80 (List._∷_ 111 (List._∷_ 115 (List._∷_ 105 (List._∷_ 116 (List._∷_ 105 (List._∷_ 111 (List._∷_ 110
-    List.[]))))))))))))))))) (Syntax.tcons (Syntax.tyInt Syntax.w64) Syntax.tnil)) (Syntax.tcons (Syntax.tyInt Syntax.w64) Syntax.tnil))))), ) (List._∷_ ( 1, Rows'.sslice (Referent.rtF (Referent.fInt
-    Syntax.w8)) (Syntax.tyRef (Syntax.named 0) Syntax.imm (Syntax.tyInt Syntax.w8)) 0, ) (List._∷_ ( 2, Rows'.sslice (Referent.rtF (Referent.fInt Syntax.w8)) (Syntax.tyRef (Syntax.named 1) Syntax.imm
-    (Syntax.tyInt Syntax.w8)) 1, ) (List._∷_ ( 3, Relend.mslice-owed (Referent.rtF (Referent.fInt Syntax.w16)) (Syntax.tyRef (Syntax.named 2) Syntax.mut (Syntax.tyInt Syntax.w16)) 2 6 Row.off, ) (List._∷_
-    ( 4, Mut.mslice (Element.type) (Syntax.tyRef (Syntax.named 3) Syntax.mut Element.behind) 3, ) (List._∷_ ( 5, Mut.mslice (Referent.rtF (Referent.fInt Syntax.w16)) (Syntax.tyRef (Syntax.named 4)
-    Syntax.mut (Syntax.tyInt Syntax.w16)) 4, ) (List._∷_ (6, Rows'.whole (Declared.row Form.the-type)) (List._∷_ ( 7, Rows'.sref (Array'.Array (Referent.rtF (Referent.fInt Syntax.w16)) 768) (Syntax.tyRef
-    (Syntax.named 5) Syntax.imm (Syntax.tyArray (Syntax.tyInt Syntax.w16) 768)) 5, ) (List._∷_ (8, Rows.arrF (Referent.rtF (Referent.fInt Syntax.w8)) 36 0) (List._∷_ ( 9, Rows'.whole (Declared.row
-    Part.the-type), ) (List._∷_ (10, Rows'.sc-here (Row.sInt Syntax.w64)) (List._∷_ ( 11, Rows'.sc-here (Row.sInt Syntax.w32), ) (List._∷_ (12, Rows'.sc-here Row.sBool) (List._∷_ (13, Rows'.sc-here
-    (Row.sInt Syntax.w64)) (List._∷_ ( 14, Rows'.any-gone (Syntax.tyStruct (List._∷_ 98 (List._∷_ 105 (List._∷_ 116 (List._∷_ 115 (List._∷_ 58 (List._∷_ 58 (List._∷_ 66 (List._∷_ 105 (List._∷_ 116
-    (List._∷_ 80 (List._∷_ 111 (List._∷_ 115 (List._∷_ 105 (List._∷_ 116 (List._∷_ 105 (List._∷_ 111 (List._∷_ 110 List.[]))))))))))))))))) (Syntax.tcons (Syntax.tyInt Syntax.w64) Syntax.tnil)), )
+t7 = List._∷_ (
+  0,
+  Rows'.any-gone (Syntax.tyStruct (List._∷_ 98 (List._∷_ 108 (List._∷_ 111 (List._∷_ 99 (List._∷_ 107 (List._∷_ 58 (List._∷_ 58 (List._∷_ 87 (List._∷_ 97 (List._∷_ 108 (List._∷_ 107
+      (List._∷_ 101 (List._∷_ 100 List.[]))))))))))))) (Syntax.tcons Syntax.tyBool (Syntax.tcons (Syntax.tyInt Syntax.w64) (Syntax.tcons (Syntax.tyStruct (List._∷_ 98 (List._∷_ 105 (List._∷_ 116 (List._∷_
+      115 (List._∷_ 58 (List._∷_ 58 (List._∷_ 66 (List._∷_ 105 (List._∷_ 116 (List._∷_ 80 (List._∷_ 111 (List._∷_ 115 (List._∷_ 105 (List._∷_ 116 (List._∷_ 105 (List._∷_ 111 (List._∷_ 110
+      List.[]))))))))))))))))) (Syntax.tcons (Syntax.tyInt Syntax.w64) Syntax.tnil)) (Syntax.tcons (Syntax.tyInt Syntax.w64) Syntax.tnil))))),
+) (List._∷_ (
+  1,
+  Rows'.sslice (Referent.rtF (Referent.fInt
+      Syntax.w8)) (Syntax.tyRef (Syntax.named 0) Syntax.imm (Syntax.tyInt Syntax.w8)) 0,
+) (List._∷_ (
+  2,
+  Rows'.sslice (Referent.rtF (Referent.fInt Syntax.w8)) (Syntax.tyRef (Syntax.named 1) Syntax.imm
+      (Syntax.tyInt Syntax.w8)) 1,
+) (List._∷_ (3, Relend.mslice-owed (Referent.rtF (Referent.fInt Syntax.w16)) (Syntax.tyRef (Syntax.named 2) Syntax.mut (Syntax.tyInt Syntax.w16)) 2 6 Row.off) (List._∷_
+    (4, Mut.mslice (Element.type) (Syntax.tyRef (Syntax.named 3) Syntax.mut Element.behind) 3) (List._∷_ (
+      5,
+      Mut.mslice (Referent.rtF (Referent.fInt Syntax.w16)) (Syntax.tyRef (Syntax.named 4)
+          Syntax.mut (Syntax.tyInt Syntax.w16)) 4,
+    ) (List._∷_ (6, Rows'.whole (Declared.row Form.the-type)) (List._∷_ (
+      7,
+      Rows'.sref (Array'.Array (Referent.rtF (Referent.fInt Syntax.w16)) 768) (Syntax.tyRef
+          (Syntax.named 5) Syntax.imm (Syntax.tyArray (Syntax.tyInt Syntax.w16) 768)) 5,
+    ) (List._∷_ (8, Rows.arrF (Referent.rtF (Referent.fInt Syntax.w8)) 36 0) (List._∷_ (
+      9,
+      Rows'.whole (Declared.row
+          Part.the-type),
+    ) (List._∷_ (10, Rows'.sc-here (Row.sInt Syntax.w64)) (List._∷_ (11, Rows'.sc-here (Row.sInt Syntax.w32)) (List._∷_ (12, Rows'.sc-here Row.sBool) (List._∷_ (
+      13,
+      Rows'.sc-here
+          (Row.sInt Syntax.w64),
+    ) (List._∷_ (
+      14,
+      Rows'.any-gone (Syntax.tyStruct (List._∷_ 98 (List._∷_ 105 (List._∷_ 116 (List._∷_ 115 (List._∷_ 58 (List._∷_ 58 (List._∷_ 66 (List._∷_ 105 (List._∷_ 116
+          (List._∷_ 80 (List._∷_ 111 (List._∷_ 115 (List._∷_ 105 (List._∷_ 116 (List._∷_ 105 (List._∷_ 111 (List._∷_ 110 List.[]))))))))))))))))) (Syntax.tcons (Syntax.tyInt Syntax.w64) Syntax.tnil)),
+    )
     (List._∷_ (15, Rows'.any-gone Syntax.tyBool) List.[])))))))))))))))
 
 abbrev pub t8 : List.List Row.Entry
-t8 = List._∷_ (16, Rows'.any-gone (Syntax.tyInt Syntax.w64)) (List._∷_ ( 17, Rows'.any-gone (Syntax.tyInt Syntax.w64), ) (List._∷_ (18, Rows'.any-gone (Syntax.tyInt Syntax.w32)) (List._∷_ ( 19,
-    Rows'.any-gone (Syntax.tyStruct (List._∷_ 98 (List._∷_ 108 (List._∷_ 111 (List._∷_ 99 (List._∷_ 107 (List._∷_ 58 (List._∷_ 58 (List._∷_ 76 (List._∷_ 105 (List._∷_ 110 (List._∷_ 101 (List._∷_ 100
-    List.[])))))))))))) (Syntax.tcons Syntax.tyBool (Syntax.tcons Syntax.tyBool (Syntax.tcons (Syntax.tyStruct (List._∷_ 98 (List._∷_ 105 (List._∷_ 116 (List._∷_ 115 (List._∷_ 58 (List._∷_ 58 (List._∷_ 66
-    (List._∷_ 105 (List._∷_ 116 (List._∷_ 80 (List._∷_ 111 (List._∷_ 115 (List._∷_ 105 (List._∷_ 116 (List._∷_ 105 (List._∷_ 111 (List._∷_ 110 List.[]))))))))))))))))) (Syntax.tcons (Syntax.tyInt
-    Syntax.w64) Syntax.tnil)) Syntax.tnil)))), ) (List._∷_ (20, Rows'.any-gone Syntax.tyBool) (List._∷_ (21, Rows'.any-gone Syntax.tyUnit) (List._∷_ ( 22, Relend.msptr (Referent.rtF (Referent.fInt
-    Syntax.w16)) (Syntax.tyRef Syntax.erased Syntax.mut (Syntax.tyInt Syntax.w16)) 6, ) (List._∷_ ( 23, Rows'.any-gone (Syntax.tyStruct (List._∷_ 38 (List._∷_ 91 (List._∷_ 93 List.[]))) (Syntax.tcons
-    (Syntax.tyRef Syntax.erased Syntax.mut (Syntax.tyInt Syntax.w16)) (Syntax.tcons (Syntax.tyInt Syntax.w64) Syntax.tnil))), ) (List._∷_ ( 24, Rows'.any-gone (Syntax.tyRef Syntax.erased Syntax.mut
-    Element.behind), ) (List._∷_ ( 25, Rows'.any-gone (Syntax.tyStruct (List._∷_ 38 (List._∷_ 91 (List._∷_ 93 List.[]))) (Syntax.tcons (Syntax.tyRef Syntax.erased Syntax.mut Element.behind) (Syntax.tcons
-    (Syntax.tyInt Syntax.w64) Syntax.tnil))), ) (List._∷_ (26, Rows'.any-gone (Syntax.tyInt Syntax.w32)) (List._∷_ ( 27, Rows'.any-gone Syntax.tyBool, ) (List._∷_ (28, Rows'.any-gone Syntax.tyUnit)
-    (List._∷_ ( 29, Rows'.any-gone (Syntax.tyRef Syntax.erased Syntax.mut (Syntax.tyInt Syntax.w16)), ) (List._∷_ ( 30, Rows'.any-gone (Syntax.tyStruct (List._∷_ 38 (List._∷_ 91 (List._∷_ 93 List.[])))
-    (Syntax.tcons (Syntax.tyRef Syntax.erased Syntax.mut (Syntax.tyInt Syntax.w16)) (Syntax.tcons (Syntax.tyInt Syntax.w64) Syntax.tnil))), ) (List._∷_ ( 31, Rows'.any-gone (Syntax.tyRef Syntax.erased
-    Syntax.mut Element.behind), ) List.[])))))))))))))))
+t8 = List._∷_ (16, Rows'.any-gone (Syntax.tyInt Syntax.w64)) (List._∷_ (17, Rows'.any-gone (Syntax.tyInt Syntax.w64)) (List._∷_ (18, Rows'.any-gone (Syntax.tyInt Syntax.w32)) (List._∷_ (
+  19,
+  Rows'.any-gone (Syntax.tyStruct (List._∷_ 98 (List._∷_ 108 (List._∷_ 111 (List._∷_ 99 (List._∷_ 107 (List._∷_ 58 (List._∷_ 58 (List._∷_ 76 (List._∷_ 105 (List._∷_ 110 (List._∷_ 101 (List._∷_ 100
+      List.[])))))))))))) (Syntax.tcons Syntax.tyBool (Syntax.tcons Syntax.tyBool (Syntax.tcons (Syntax.tyStruct (List._∷_ 98 (List._∷_ 105 (List._∷_ 116 (List._∷_ 115 (List._∷_ 58 (List._∷_ 58 (List._∷_ 66
+      (List._∷_ 105 (List._∷_ 116 (List._∷_ 80 (List._∷_ 111 (List._∷_ 115 (List._∷_ 105 (List._∷_ 116 (List._∷_ 105 (List._∷_ 111 (List._∷_ 110 List.[]))))))))))))))))) (Syntax.tcons (Syntax.tyInt
+      Syntax.w64) Syntax.tnil)) Syntax.tnil)))),
+) (List._∷_ (20, Rows'.any-gone Syntax.tyBool) (List._∷_ (21, Rows'.any-gone Syntax.tyUnit) (List._∷_ (
+  22,
+  Relend.msptr (Referent.rtF (Referent.fInt
+      Syntax.w16)) (Syntax.tyRef Syntax.erased Syntax.mut (Syntax.tyInt Syntax.w16)) 6,
+) (List._∷_ (
+  23,
+  Rows'.any-gone (Syntax.tyStruct (List._∷_ 38 (List._∷_ 91 (List._∷_ 93 List.[]))) (Syntax.tcons
+      (Syntax.tyRef Syntax.erased Syntax.mut (Syntax.tyInt Syntax.w16)) (Syntax.tcons (Syntax.tyInt Syntax.w64) Syntax.tnil))),
+) (List._∷_ (
+  24,
+  Rows'.any-gone (Syntax.tyRef Syntax.erased Syntax.mut
+      Element.behind),
+) (List._∷_ (
+  25,
+  Rows'.any-gone (Syntax.tyStruct (List._∷_ 38 (List._∷_ 91 (List._∷_ 93 List.[]))) (Syntax.tcons (Syntax.tyRef Syntax.erased Syntax.mut Element.behind) (Syntax.tcons
+      (Syntax.tyInt Syntax.w64) Syntax.tnil))),
+) (List._∷_ (26, Rows'.any-gone (Syntax.tyInt Syntax.w32)) (List._∷_ (27, Rows'.any-gone Syntax.tyBool) (List._∷_ (28, Rows'.any-gone Syntax.tyUnit)
+    (List._∷_ (29, Rows'.any-gone (Syntax.tyRef Syntax.erased Syntax.mut (Syntax.tyInt Syntax.w16))) (List._∷_ (
+      30,
+      Rows'.any-gone (Syntax.tyStruct (List._∷_ 38 (List._∷_ 91 (List._∷_ 93 List.[])))
+          (Syntax.tcons (Syntax.tyRef Syntax.erased Syntax.mut (Syntax.tyInt Syntax.w16)) (Syntax.tcons (Syntax.tyInt Syntax.w64) Syntax.tnil))),
+    ) (List._∷_ (
+      31,
+      Rows'.any-gone (Syntax.tyRef Syntax.erased
+          Syntax.mut Element.behind),
+    ) List.[])))))))))))))))
 
 abbrev pub t9 : List.List Row.Entry
-t9 = List._∷_ (16, Rows'.any-gone (Syntax.tyInt Syntax.w64)) (List._∷_ ( 17, Rows'.any-gone (Syntax.tyInt Syntax.w64), ) (List._∷_ (18, Rows'.any-gone (Syntax.tyInt Syntax.w32)) (List._∷_ ( 19,
-    Rows'.any-gone (Syntax.tyStruct (List._∷_ 98 (List._∷_ 108 (List._∷_ 111 (List._∷_ 99 (List._∷_ 107 (List._∷_ 58 (List._∷_ 58 (List._∷_ 76 (List._∷_ 105 (List._∷_ 110 (List._∷_ 101 (List._∷_ 100
-    List.[])))))))))))) (Syntax.tcons Syntax.tyBool (Syntax.tcons Syntax.tyBool (Syntax.tcons (Syntax.tyStruct (List._∷_ 98 (List._∷_ 105 (List._∷_ 116 (List._∷_ 115 (List._∷_ 58 (List._∷_ 58 (List._∷_ 66
-    (List._∷_ 105 (List._∷_ 116 (List._∷_ 80 (List._∷_ 111 (List._∷_ 115 (List._∷_ 105 (List._∷_ 116 (List._∷_ 105 (List._∷_ 111 (List._∷_ 110 List.[]))))))))))))))))) (Syntax.tcons (Syntax.tyInt
-    Syntax.w64) Syntax.tnil)) Syntax.tnil)))), ) (List._∷_ (20, Rows'.any-gone Syntax.tyBool) (List._∷_ (21, Rows'.any-gone Syntax.tyUnit) (List._∷_ ( 22, Rows'.any-gone (Syntax.tyRef Syntax.erased
-    Syntax.mut (Syntax.tyInt Syntax.w16)), ) (List._∷_ ( 23, Mut.mslice (Referent.rtF (Referent.fInt Syntax.w16)) (Syntax.tyRef Syntax.erased Syntax.mut (Syntax.tyInt Syntax.w16)) 6, ) (List._∷_ ( 24,
-    Rows'.any-gone (Syntax.tyRef Syntax.erased Syntax.mut Element.behind), ) (List._∷_ ( 25, Rows'.any-gone (Syntax.tyStruct (List._∷_ 38 (List._∷_ 91 (List._∷_ 93 List.[]))) (Syntax.tcons (Syntax.tyRef
-    Syntax.erased Syntax.mut Element.behind) (Syntax.tcons (Syntax.tyInt Syntax.w64) Syntax.tnil))), ) (List._∷_ (26, Rows'.any-gone (Syntax.tyInt Syntax.w32)) (List._∷_ ( 27, Rows'.any-gone
-    Syntax.tyBool, ) (List._∷_ (28, Rows'.any-gone Syntax.tyUnit) (List._∷_ ( 29, Rows'.any-gone (Syntax.tyRef Syntax.erased Syntax.mut (Syntax.tyInt Syntax.w16)), ) (List._∷_ ( 30, Rows'.any-gone
-    (Syntax.tyStruct (List._∷_ 38 (List._∷_ 91 (List._∷_ 93 List.[]))) (Syntax.tcons (Syntax.tyRef Syntax.erased Syntax.mut (Syntax.tyInt Syntax.w16)) (Syntax.tcons (Syntax.tyInt Syntax.w64)
-    Syntax.tnil))), ) (List._∷_ ( 31, Rows'.any-gone (Syntax.tyRef Syntax.erased Syntax.mut Element.behind), ) List.[])))))))))))))))
+t9 = List._∷_ (16, Rows'.any-gone (Syntax.tyInt Syntax.w64)) (List._∷_ (17, Rows'.any-gone (Syntax.tyInt Syntax.w64)) (List._∷_ (18, Rows'.any-gone (Syntax.tyInt Syntax.w32)) (List._∷_ (
+  19,
+  Rows'.any-gone (Syntax.tyStruct (List._∷_ 98 (List._∷_ 108 (List._∷_ 111 (List._∷_ 99 (List._∷_ 107 (List._∷_ 58 (List._∷_ 58 (List._∷_ 76 (List._∷_ 105 (List._∷_ 110 (List._∷_ 101 (List._∷_ 100
+      List.[])))))))))))) (Syntax.tcons Syntax.tyBool (Syntax.tcons Syntax.tyBool (Syntax.tcons (Syntax.tyStruct (List._∷_ 98 (List._∷_ 105 (List._∷_ 116 (List._∷_ 115 (List._∷_ 58 (List._∷_ 58 (List._∷_ 66
+      (List._∷_ 105 (List._∷_ 116 (List._∷_ 80 (List._∷_ 111 (List._∷_ 115 (List._∷_ 105 (List._∷_ 116 (List._∷_ 105 (List._∷_ 111 (List._∷_ 110 List.[]))))))))))))))))) (Syntax.tcons (Syntax.tyInt
+      Syntax.w64) Syntax.tnil)) Syntax.tnil)))),
+) (List._∷_ (20, Rows'.any-gone Syntax.tyBool) (List._∷_ (21, Rows'.any-gone Syntax.tyUnit) (List._∷_ (
+  22,
+  Rows'.any-gone (Syntax.tyRef Syntax.erased
+      Syntax.mut (Syntax.tyInt Syntax.w16)),
+) (List._∷_ (23, Mut.mslice (Referent.rtF (Referent.fInt Syntax.w16)) (Syntax.tyRef Syntax.erased Syntax.mut (Syntax.tyInt Syntax.w16)) 6) (List._∷_ (
+  24,
+  Rows'.any-gone (Syntax.tyRef Syntax.erased Syntax.mut Element.behind),
+) (List._∷_ (
+  25,
+  Rows'.any-gone (Syntax.tyStruct (List._∷_ 38 (List._∷_ 91 (List._∷_ 93 List.[]))) (Syntax.tcons (Syntax.tyRef
+      Syntax.erased Syntax.mut Element.behind) (Syntax.tcons (Syntax.tyInt Syntax.w64) Syntax.tnil))),
+) (List._∷_ (26, Rows'.any-gone (Syntax.tyInt Syntax.w32)) (List._∷_ (
+  27,
+  Rows'.any-gone
+      Syntax.tyBool,
+) (List._∷_ (28, Rows'.any-gone Syntax.tyUnit) (List._∷_ (29, Rows'.any-gone (Syntax.tyRef Syntax.erased Syntax.mut (Syntax.tyInt Syntax.w16))) (List._∷_ (
+  30,
+  Rows'.any-gone
+      (Syntax.tyStruct (List._∷_ 38 (List._∷_ 91 (List._∷_ 93 List.[]))) (Syntax.tcons (Syntax.tyRef Syntax.erased Syntax.mut (Syntax.tyInt Syntax.w16)) (Syntax.tcons (Syntax.tyInt Syntax.w64)
+      Syntax.tnil))),
+) (List._∷_ (31, Rows'.any-gone (Syntax.tyRef Syntax.erased Syntax.mut Element.behind)) List.[])))))))))))))))
 
 abbrev pub t10 : List.List Row.Entry
-t10 = List._∷_ (16, Rows'.any-gone (Syntax.tyInt Syntax.w64)) (List._∷_ ( 17, Rows'.any-gone (Syntax.tyInt Syntax.w64), ) (List._∷_ (18, Rows'.any-gone (Syntax.tyInt Syntax.w32)) (List._∷_ ( 19,
-    Rows'.any-gone (Syntax.tyStruct (List._∷_ 98 (List._∷_ 108 (List._∷_ 111 (List._∷_ 99 (List._∷_ 107 (List._∷_ 58 (List._∷_ 58 (List._∷_ 76 (List._∷_ 105 (List._∷_ 110 (List._∷_ 101 (List._∷_ 100
-    List.[])))))))))))) (Syntax.tcons Syntax.tyBool (Syntax.tcons Syntax.tyBool (Syntax.tcons (Syntax.tyStruct (List._∷_ 98 (List._∷_ 105 (List._∷_ 116 (List._∷_ 115 (List._∷_ 58 (List._∷_ 58 (List._∷_ 66
-    (List._∷_ 105 (List._∷_ 116 (List._∷_ 80 (List._∷_ 111 (List._∷_ 115 (List._∷_ 105 (List._∷_ 116 (List._∷_ 105 (List._∷_ 111 (List._∷_ 110 List.[]))))))))))))))))) (Syntax.tcons (Syntax.tyInt
-    Syntax.w64) Syntax.tnil)) Syntax.tnil)))), ) (List._∷_ (20, Rows'.any-gone Syntax.tyBool) (List._∷_ (21, Rows'.sc-here Row.sUnit) (List._∷_ ( 22, Rows'.any-gone (Syntax.tyRef Syntax.erased Syntax.mut
-    (Syntax.tyInt Syntax.w16)), ) (List._∷_ ( 23, Mut.msleft (Referent.rtF (Referent.fInt Syntax.w16)) (Syntax.tyRef Syntax.erased Syntax.mut (Syntax.tyInt Syntax.w16)), ) (List._∷_ ( 24, Rows'.any-gone
-    (Syntax.tyRef Syntax.erased Syntax.mut Element.behind), ) (List._∷_ ( 25, Rows'.any-gone (Syntax.tyStruct (List._∷_ 38 (List._∷_ 91 (List._∷_ 93 List.[]))) (Syntax.tcons (Syntax.tyRef Syntax.erased
-    Syntax.mut Element.behind) (Syntax.tcons (Syntax.tyInt Syntax.w64) Syntax.tnil))), ) (List._∷_ (26, Rows'.any-gone (Syntax.tyInt Syntax.w32)) (List._∷_ ( 27, Rows'.any-gone Syntax.tyBool, ) (List._∷_
-    (28, Rows'.any-gone Syntax.tyUnit) (List._∷_ ( 29, Rows'.any-gone (Syntax.tyRef Syntax.erased Syntax.mut (Syntax.tyInt Syntax.w16)), ) (List._∷_ ( 30, Rows'.any-gone (Syntax.tyStruct (List._∷_ 38
-    (List._∷_ 91 (List._∷_ 93 List.[]))) (Syntax.tcons (Syntax.tyRef Syntax.erased Syntax.mut (Syntax.tyInt Syntax.w16)) (Syntax.tcons (Syntax.tyInt Syntax.w64) Syntax.tnil))), ) (List._∷_ ( 31,
-    Rows'.any-gone (Syntax.tyRef Syntax.erased Syntax.mut Element.behind), ) List.[])))))))))))))))
+t10 = List._∷_ (16, Rows'.any-gone (Syntax.tyInt Syntax.w64)) (List._∷_ (17, Rows'.any-gone (Syntax.tyInt Syntax.w64)) (List._∷_ (18, Rows'.any-gone (Syntax.tyInt Syntax.w32)) (List._∷_ (
+  19,
+  Rows'.any-gone (Syntax.tyStruct (List._∷_ 98 (List._∷_ 108 (List._∷_ 111 (List._∷_ 99 (List._∷_ 107 (List._∷_ 58 (List._∷_ 58 (List._∷_ 76 (List._∷_ 105 (List._∷_ 110 (List._∷_ 101 (List._∷_ 100
+      List.[])))))))))))) (Syntax.tcons Syntax.tyBool (Syntax.tcons Syntax.tyBool (Syntax.tcons (Syntax.tyStruct (List._∷_ 98 (List._∷_ 105 (List._∷_ 116 (List._∷_ 115 (List._∷_ 58 (List._∷_ 58 (List._∷_ 66
+      (List._∷_ 105 (List._∷_ 116 (List._∷_ 80 (List._∷_ 111 (List._∷_ 115 (List._∷_ 105 (List._∷_ 116 (List._∷_ 105 (List._∷_ 111 (List._∷_ 110 List.[]))))))))))))))))) (Syntax.tcons (Syntax.tyInt
+      Syntax.w64) Syntax.tnil)) Syntax.tnil)))),
+) (List._∷_ (20, Rows'.any-gone Syntax.tyBool) (List._∷_ (21, Rows'.sc-here Row.sUnit) (List._∷_ (
+  22,
+  Rows'.any-gone (Syntax.tyRef Syntax.erased Syntax.mut
+      (Syntax.tyInt Syntax.w16)),
+) (List._∷_ (23, Mut.msleft (Referent.rtF (Referent.fInt Syntax.w16)) (Syntax.tyRef Syntax.erased Syntax.mut (Syntax.tyInt Syntax.w16))) (List._∷_ (
+  24,
+  Rows'.any-gone
+      (Syntax.tyRef Syntax.erased Syntax.mut Element.behind),
+) (List._∷_ (
+  25,
+  Rows'.any-gone (Syntax.tyStruct (List._∷_ 38 (List._∷_ 91 (List._∷_ 93 List.[]))) (Syntax.tcons (Syntax.tyRef Syntax.erased
+      Syntax.mut Element.behind) (Syntax.tcons (Syntax.tyInt Syntax.w64) Syntax.tnil))),
+) (List._∷_ (26, Rows'.any-gone (Syntax.tyInt Syntax.w32)) (List._∷_ (27, Rows'.any-gone Syntax.tyBool) (List._∷_
+    (28, Rows'.any-gone Syntax.tyUnit) (List._∷_ (29, Rows'.any-gone (Syntax.tyRef Syntax.erased Syntax.mut (Syntax.tyInt Syntax.w16))) (List._∷_ (
+      30,
+      Rows'.any-gone (Syntax.tyStruct (List._∷_ 38
+          (List._∷_ 91 (List._∷_ 93 List.[]))) (Syntax.tcons (Syntax.tyRef Syntax.erased Syntax.mut (Syntax.tyInt Syntax.w16)) (Syntax.tcons (Syntax.tyInt Syntax.w64) Syntax.tnil))),
+    ) (List._∷_ (
+      31,
+      Rows'.any-gone (Syntax.tyRef Syntax.erased Syntax.mut Element.behind),
+    ) List.[])))))))))))))))
 
 abbrev pub t11 : List.List Row.Entry
-t11 = List._∷_ (16, Rows'.any-gone (Syntax.tyInt Syntax.w64)) (List._∷_ ( 17, Rows'.any-gone (Syntax.tyInt Syntax.w64), ) (List._∷_ (18, Rows'.any-gone (Syntax.tyInt Syntax.w32)) (List._∷_ ( 19,
-    Rows'.any-gone (Syntax.tyStruct (List._∷_ 98 (List._∷_ 108 (List._∷_ 111 (List._∷_ 99 (List._∷_ 107 (List._∷_ 58 (List._∷_ 58 (List._∷_ 76 (List._∷_ 105 (List._∷_ 110 (List._∷_ 101 (List._∷_ 100
-    List.[])))))))))))) (Syntax.tcons Syntax.tyBool (Syntax.tcons Syntax.tyBool (Syntax.tcons (Syntax.tyStruct (List._∷_ 98 (List._∷_ 105 (List._∷_ 116 (List._∷_ 115 (List._∷_ 58 (List._∷_ 58 (List._∷_ 66
-    (List._∷_ 105 (List._∷_ 116 (List._∷_ 80 (List._∷_ 111 (List._∷_ 115 (List._∷_ 105 (List._∷_ 116 (List._∷_ 105 (List._∷_ 111 (List._∷_ 110 List.[]))))))))))))))))) (Syntax.tcons (Syntax.tyInt
-    Syntax.w64) Syntax.tnil)) Syntax.tnil)))), ) (List._∷_ (20, Rows'.any-gone Syntax.tyBool) (List._∷_ (21, Rows'.any-gone Syntax.tyUnit) (List._∷_ ( 22, Rows'.any-gone (Syntax.tyRef Syntax.erased
-    Syntax.mut (Syntax.tyInt Syntax.w16)), ) (List._∷_ ( 23, Mut.msleft (Referent.rtF (Referent.fInt Syntax.w16)) (Syntax.tyRef Syntax.erased Syntax.mut (Syntax.tyInt Syntax.w16)), ) (List._∷_ ( 24,
-    Rows'.any-gone (Syntax.tyRef Syntax.erased Syntax.mut Element.behind), ) (List._∷_ ( 25, Rows'.any-gone (Syntax.tyStruct (List._∷_ 38 (List._∷_ 91 (List._∷_ 93 List.[]))) (Syntax.tcons (Syntax.tyRef
-    Syntax.erased Syntax.mut Element.behind) (Syntax.tcons (Syntax.tyInt Syntax.w64) Syntax.tnil))), ) (List._∷_ (26, Rows'.any-gone (Syntax.tyInt Syntax.w32)) (List._∷_ ( 27, Rows'.any-gone
-    Syntax.tyBool, ) (List._∷_ (28, Rows'.any-gone Syntax.tyUnit) (List._∷_ ( 29, Rows'.any-gone (Syntax.tyRef Syntax.erased Syntax.mut (Syntax.tyInt Syntax.w16)), ) (List._∷_ ( 30, Rows'.any-gone
-    (Syntax.tyStruct (List._∷_ 38 (List._∷_ 91 (List._∷_ 93 List.[]))) (Syntax.tcons (Syntax.tyRef Syntax.erased Syntax.mut (Syntax.tyInt Syntax.w16)) (Syntax.tcons (Syntax.tyInt Syntax.w64)
-    Syntax.tnil))), ) (List._∷_ ( 31, Rows'.any-gone (Syntax.tyRef Syntax.erased Syntax.mut Element.behind), ) List.[])))))))))))))))
+t11 = List._∷_ (16, Rows'.any-gone (Syntax.tyInt Syntax.w64)) (List._∷_ (17, Rows'.any-gone (Syntax.tyInt Syntax.w64)) (List._∷_ (18, Rows'.any-gone (Syntax.tyInt Syntax.w32)) (List._∷_ (
+  19,
+  Rows'.any-gone (Syntax.tyStruct (List._∷_ 98 (List._∷_ 108 (List._∷_ 111 (List._∷_ 99 (List._∷_ 107 (List._∷_ 58 (List._∷_ 58 (List._∷_ 76 (List._∷_ 105 (List._∷_ 110 (List._∷_ 101 (List._∷_ 100
+      List.[])))))))))))) (Syntax.tcons Syntax.tyBool (Syntax.tcons Syntax.tyBool (Syntax.tcons (Syntax.tyStruct (List._∷_ 98 (List._∷_ 105 (List._∷_ 116 (List._∷_ 115 (List._∷_ 58 (List._∷_ 58 (List._∷_ 66
+      (List._∷_ 105 (List._∷_ 116 (List._∷_ 80 (List._∷_ 111 (List._∷_ 115 (List._∷_ 105 (List._∷_ 116 (List._∷_ 105 (List._∷_ 111 (List._∷_ 110 List.[]))))))))))))))))) (Syntax.tcons (Syntax.tyInt
+      Syntax.w64) Syntax.tnil)) Syntax.tnil)))),
+) (List._∷_ (20, Rows'.any-gone Syntax.tyBool) (List._∷_ (21, Rows'.any-gone Syntax.tyUnit) (List._∷_ (
+  22,
+  Rows'.any-gone (Syntax.tyRef Syntax.erased
+      Syntax.mut (Syntax.tyInt Syntax.w16)),
+) (List._∷_ (23, Mut.msleft (Referent.rtF (Referent.fInt Syntax.w16)) (Syntax.tyRef Syntax.erased Syntax.mut (Syntax.tyInt Syntax.w16))) (List._∷_ (
+  24,
+  Rows'.any-gone (Syntax.tyRef Syntax.erased Syntax.mut Element.behind),
+) (List._∷_ (
+  25,
+  Rows'.any-gone (Syntax.tyStruct (List._∷_ 38 (List._∷_ 91 (List._∷_ 93 List.[]))) (Syntax.tcons (Syntax.tyRef
+      Syntax.erased Syntax.mut Element.behind) (Syntax.tcons (Syntax.tyInt Syntax.w64) Syntax.tnil))),
+) (List._∷_ (26, Rows'.any-gone (Syntax.tyInt Syntax.w32)) (List._∷_ (
+  27,
+  Rows'.any-gone
+      Syntax.tyBool,
+) (List._∷_ (28, Rows'.any-gone Syntax.tyUnit) (List._∷_ (29, Rows'.any-gone (Syntax.tyRef Syntax.erased Syntax.mut (Syntax.tyInt Syntax.w16))) (List._∷_ (
+  30,
+  Rows'.any-gone
+      (Syntax.tyStruct (List._∷_ 38 (List._∷_ 91 (List._∷_ 93 List.[]))) (Syntax.tcons (Syntax.tyRef Syntax.erased Syntax.mut (Syntax.tyInt Syntax.w16)) (Syntax.tcons (Syntax.tyInt Syntax.w64)
+      Syntax.tnil))),
+) (List._∷_ (31, Rows'.any-gone (Syntax.tyRef Syntax.erased Syntax.mut Element.behind)) List.[])))))))))))))))
 
 abbrev pub t12 : List.List Row.Entry
-t12 = List._∷_ ( 0, Rows'.any-gone (Syntax.tyStruct (List._∷_ 98 (List._∷_ 108 (List._∷_ 111 (List._∷_ 99 (List._∷_ 107 (List._∷_ 58 (List._∷_ 58 (List._∷_ 87 (List._∷_ 97 (List._∷_ 108 (List._∷_ 107
-    (List._∷_ 101 (List._∷_ 100 List.[]))))))))))))) (Syntax.tcons Syntax.tyBool (Syntax.tcons (Syntax.tyInt Syntax.w64) (Syntax.tcons (Syntax.tyStruct (List._∷_ 98 (List._∷_ 105 (List._∷_ 116 (List._∷_
-    115 (List._∷_ 58 (List._∷_ 58 (List._∷_ 66 (List._∷_ 105 (List._∷_ 116 (List._∷_ 80 (List._∷_ 111 (List._∷_ 115 (List._∷_ 105 (List._∷_ 116 (List._∷_ 105 (List._∷_ 111 (List._∷_ 110
-    List.[]))))))))))))))))) (Syntax.tcons (Syntax.tyInt Syntax.w64) Syntax.tnil)) (Syntax.tcons (Syntax.tyInt Syntax.w64) Syntax.tnil))))), ) (List._∷_ ( 1, Rows'.sslice (Referent.rtF (Referent.fInt
-    Syntax.w8)) (Syntax.tyRef (Syntax.named 0) Syntax.imm (Syntax.tyInt Syntax.w8)) 0, ) (List._∷_ ( 2, Rows'.sslice (Referent.rtF (Referent.fInt Syntax.w8)) (Syntax.tyRef (Syntax.named 1) Syntax.imm
-    (Syntax.tyInt Syntax.w8)) 1, ) (List._∷_ ( 3, Mut.mslice (Referent.rtF (Referent.fInt Syntax.w16)) (Syntax.tyRef (Syntax.named 2) Syntax.mut (Syntax.tyInt Syntax.w16)) 2, ) (List._∷_ ( 4,
-    Relend.mslice-owed (Element.type) (Syntax.tyRef (Syntax.named 3) Syntax.mut Element.behind) 3 7 Row.off, ) (List._∷_ ( 5, Mut.mslice (Referent.rtF (Referent.fInt Syntax.w16)) (Syntax.tyRef
-    (Syntax.named 4) Syntax.mut (Syntax.tyInt Syntax.w16)) 4, ) (List._∷_ (6, Rows'.whole (Declared.row Form.the-type)) (List._∷_ ( 7, Rows'.sref (Array'.Array (Referent.rtF (Referent.fInt Syntax.w16))
-    768) (Syntax.tyRef (Syntax.named 5) Syntax.imm (Syntax.tyArray (Syntax.tyInt Syntax.w16) 768)) 5, ) (List._∷_ (8, Rows.arrF (Referent.rtF (Referent.fInt Syntax.w8)) 36 0) (List._∷_ ( 9, Rows'.whole
-    (Declared.row Part.the-type), ) (List._∷_ (10, Rows'.sc-here (Row.sInt Syntax.w64)) (List._∷_ ( 11, Rows'.sc-here (Row.sInt Syntax.w32), ) (List._∷_ (12, Rows'.sc-here Row.sBool) (List._∷_ (13,
-    Rows'.sc-here (Row.sInt Syntax.w64)) (List._∷_ ( 14, Rows'.any-gone (Syntax.tyStruct (List._∷_ 98 (List._∷_ 105 (List._∷_ 116 (List._∷_ 115 (List._∷_ 58 (List._∷_ 58 (List._∷_ 66 (List._∷_ 105
-    (List._∷_ 116 (List._∷_ 80 (List._∷_ 111 (List._∷_ 115 (List._∷_ 105 (List._∷_ 116 (List._∷_ 105 (List._∷_ 111 (List._∷_ 110 List.[]))))))))))))))))) (Syntax.tcons (Syntax.tyInt Syntax.w64)
-    Syntax.tnil)), ) (List._∷_ (15, Rows'.any-gone Syntax.tyBool) List.[])))))))))))))))
+t12 = List._∷_ (
+  0,
+  Rows'.any-gone (Syntax.tyStruct (List._∷_ 98 (List._∷_ 108 (List._∷_ 111 (List._∷_ 99 (List._∷_ 107 (List._∷_ 58 (List._∷_ 58 (List._∷_ 87 (List._∷_ 97 (List._∷_ 108 (List._∷_ 107
+      (List._∷_ 101 (List._∷_ 100 List.[]))))))))))))) (Syntax.tcons Syntax.tyBool (Syntax.tcons (Syntax.tyInt Syntax.w64) (Syntax.tcons (Syntax.tyStruct (List._∷_ 98 (List._∷_ 105 (List._∷_ 116 (List._∷_
+      115 (List._∷_ 58 (List._∷_ 58 (List._∷_ 66 (List._∷_ 105 (List._∷_ 116 (List._∷_ 80 (List._∷_ 111 (List._∷_ 115 (List._∷_ 105 (List._∷_ 116 (List._∷_ 105 (List._∷_ 111 (List._∷_ 110
+      List.[]))))))))))))))))) (Syntax.tcons (Syntax.tyInt Syntax.w64) Syntax.tnil)) (Syntax.tcons (Syntax.tyInt Syntax.w64) Syntax.tnil))))),
+) (List._∷_ (
+  1,
+  Rows'.sslice (Referent.rtF (Referent.fInt
+      Syntax.w8)) (Syntax.tyRef (Syntax.named 0) Syntax.imm (Syntax.tyInt Syntax.w8)) 0,
+) (List._∷_ (
+  2,
+  Rows'.sslice (Referent.rtF (Referent.fInt Syntax.w8)) (Syntax.tyRef (Syntax.named 1) Syntax.imm
+      (Syntax.tyInt Syntax.w8)) 1,
+) (List._∷_ (3, Mut.mslice (Referent.rtF (Referent.fInt Syntax.w16)) (Syntax.tyRef (Syntax.named 2) Syntax.mut (Syntax.tyInt Syntax.w16)) 2) (List._∷_ (
+  4,
+  Relend.mslice-owed (Element.type) (Syntax.tyRef (Syntax.named 3) Syntax.mut Element.behind) 3 7 Row.off,
+) (List._∷_ (
+  5,
+  Mut.mslice (Referent.rtF (Referent.fInt Syntax.w16)) (Syntax.tyRef
+      (Syntax.named 4) Syntax.mut (Syntax.tyInt Syntax.w16)) 4,
+) (List._∷_ (6, Rows'.whole (Declared.row Form.the-type)) (List._∷_ (
+  7,
+  Rows'.sref (Array'.Array (Referent.rtF (Referent.fInt Syntax.w16))
+      768) (Syntax.tyRef (Syntax.named 5) Syntax.imm (Syntax.tyArray (Syntax.tyInt Syntax.w16) 768)) 5,
+) (List._∷_ (8, Rows.arrF (Referent.rtF (Referent.fInt Syntax.w8)) 36 0) (List._∷_ (
+  9,
+  Rows'.whole
+      (Declared.row Part.the-type),
+) (List._∷_ (10, Rows'.sc-here (Row.sInt Syntax.w64)) (List._∷_ (11, Rows'.sc-here (Row.sInt Syntax.w32)) (List._∷_ (12, Rows'.sc-here Row.sBool) (List._∷_ (
+  13,
+  Rows'.sc-here (Row.sInt Syntax.w64),
+) (List._∷_ (
+  14,
+  Rows'.any-gone (Syntax.tyStruct (List._∷_ 98 (List._∷_ 105 (List._∷_ 116 (List._∷_ 115 (List._∷_ 58 (List._∷_ 58 (List._∷_ 66 (List._∷_ 105
+      (List._∷_ 116 (List._∷_ 80 (List._∷_ 111 (List._∷_ 115 (List._∷_ 105 (List._∷_ 116 (List._∷_ 105 (List._∷_ 111 (List._∷_ 110 List.[]))))))))))))))))) (Syntax.tcons (Syntax.tyInt Syntax.w64)
+      Syntax.tnil)),
+) (List._∷_ (15, Rows'.any-gone Syntax.tyBool) List.[])))))))))))))))
 
 abbrev pub t13 : List.List Row.Entry
-t13 = List._∷_ (16, Rows'.any-gone (Syntax.tyInt Syntax.w64)) (List._∷_ ( 17, Rows'.any-gone (Syntax.tyInt Syntax.w64), ) (List._∷_ (18, Rows'.any-gone (Syntax.tyInt Syntax.w32)) (List._∷_ ( 19,
-    Rows'.any-gone (Syntax.tyStruct (List._∷_ 98 (List._∷_ 108 (List._∷_ 111 (List._∷_ 99 (List._∷_ 107 (List._∷_ 58 (List._∷_ 58 (List._∷_ 76 (List._∷_ 105 (List._∷_ 110 (List._∷_ 101 (List._∷_ 100
-    List.[])))))))))))) (Syntax.tcons Syntax.tyBool (Syntax.tcons Syntax.tyBool (Syntax.tcons (Syntax.tyStruct (List._∷_ 98 (List._∷_ 105 (List._∷_ 116 (List._∷_ 115 (List._∷_ 58 (List._∷_ 58 (List._∷_ 66
-    (List._∷_ 105 (List._∷_ 116 (List._∷_ 80 (List._∷_ 111 (List._∷_ 115 (List._∷_ 105 (List._∷_ 116 (List._∷_ 105 (List._∷_ 111 (List._∷_ 110 List.[]))))))))))))))))) (Syntax.tcons (Syntax.tyInt
-    Syntax.w64) Syntax.tnil)) Syntax.tnil)))), ) (List._∷_ (20, Rows'.any-gone Syntax.tyBool) (List._∷_ (21, Rows'.any-gone Syntax.tyUnit) (List._∷_ ( 22, Rows'.any-gone (Syntax.tyRef Syntax.erased
-    Syntax.mut (Syntax.tyInt Syntax.w16)), ) (List._∷_ ( 23, Rows'.any-gone (Syntax.tyStruct (List._∷_ 38 (List._∷_ 91 (List._∷_ 93 List.[]))) (Syntax.tcons (Syntax.tyRef Syntax.erased Syntax.mut
-    (Syntax.tyInt Syntax.w16)) (Syntax.tcons (Syntax.tyInt Syntax.w64) Syntax.tnil))), ) (List._∷_ ( 24, Relend.msptr (Element.type) (Syntax.tyRef Syntax.erased Syntax.mut Element.behind) 7, ) (List._∷_ (
-    25, Rows'.any-gone (Syntax.tyStruct (List._∷_ 38 (List._∷_ 91 (List._∷_ 93 List.[]))) (Syntax.tcons (Syntax.tyRef Syntax.erased Syntax.mut Element.behind) (Syntax.tcons (Syntax.tyInt Syntax.w64)
-    Syntax.tnil))), ) (List._∷_ (26, Rows'.any-gone (Syntax.tyInt Syntax.w32)) (List._∷_ ( 27, Rows'.any-gone Syntax.tyBool, ) (List._∷_ (28, Rows'.any-gone Syntax.tyUnit) (List._∷_ ( 29, Rows'.any-gone
-    (Syntax.tyRef Syntax.erased Syntax.mut (Syntax.tyInt Syntax.w16)), ) (List._∷_ ( 30, Rows'.any-gone (Syntax.tyStruct (List._∷_ 38 (List._∷_ 91 (List._∷_ 93 List.[]))) (Syntax.tcons (Syntax.tyRef
-    Syntax.erased Syntax.mut (Syntax.tyInt Syntax.w16)) (Syntax.tcons (Syntax.tyInt Syntax.w64) Syntax.tnil))), ) (List._∷_ ( 31, Rows'.any-gone (Syntax.tyRef Syntax.erased Syntax.mut Element.behind), )
+t13 = List._∷_ (16, Rows'.any-gone (Syntax.tyInt Syntax.w64)) (List._∷_ (17, Rows'.any-gone (Syntax.tyInt Syntax.w64)) (List._∷_ (18, Rows'.any-gone (Syntax.tyInt Syntax.w32)) (List._∷_ (
+  19,
+  Rows'.any-gone (Syntax.tyStruct (List._∷_ 98 (List._∷_ 108 (List._∷_ 111 (List._∷_ 99 (List._∷_ 107 (List._∷_ 58 (List._∷_ 58 (List._∷_ 76 (List._∷_ 105 (List._∷_ 110 (List._∷_ 101 (List._∷_ 100
+      List.[])))))))))))) (Syntax.tcons Syntax.tyBool (Syntax.tcons Syntax.tyBool (Syntax.tcons (Syntax.tyStruct (List._∷_ 98 (List._∷_ 105 (List._∷_ 116 (List._∷_ 115 (List._∷_ 58 (List._∷_ 58 (List._∷_ 66
+      (List._∷_ 105 (List._∷_ 116 (List._∷_ 80 (List._∷_ 111 (List._∷_ 115 (List._∷_ 105 (List._∷_ 116 (List._∷_ 105 (List._∷_ 111 (List._∷_ 110 List.[]))))))))))))))))) (Syntax.tcons (Syntax.tyInt
+      Syntax.w64) Syntax.tnil)) Syntax.tnil)))),
+) (List._∷_ (20, Rows'.any-gone Syntax.tyBool) (List._∷_ (21, Rows'.any-gone Syntax.tyUnit) (List._∷_ (
+  22,
+  Rows'.any-gone (Syntax.tyRef Syntax.erased
+      Syntax.mut (Syntax.tyInt Syntax.w16)),
+) (List._∷_ (
+  23,
+  Rows'.any-gone (Syntax.tyStruct (List._∷_ 38 (List._∷_ 91 (List._∷_ 93 List.[]))) (Syntax.tcons (Syntax.tyRef Syntax.erased Syntax.mut
+      (Syntax.tyInt Syntax.w16)) (Syntax.tcons (Syntax.tyInt Syntax.w64) Syntax.tnil))),
+) (List._∷_ (24, Relend.msptr (Element.type) (Syntax.tyRef Syntax.erased Syntax.mut Element.behind) 7) (List._∷_ (
+  25,
+  Rows'.any-gone (Syntax.tyStruct (List._∷_ 38 (List._∷_ 91 (List._∷_ 93 List.[]))) (Syntax.tcons (Syntax.tyRef Syntax.erased Syntax.mut Element.behind) (Syntax.tcons (Syntax.tyInt Syntax.w64)
+      Syntax.tnil))),
+) (List._∷_ (26, Rows'.any-gone (Syntax.tyInt Syntax.w32)) (List._∷_ (27, Rows'.any-gone Syntax.tyBool) (List._∷_ (28, Rows'.any-gone Syntax.tyUnit) (List._∷_ (
+  29,
+  Rows'.any-gone
+      (Syntax.tyRef Syntax.erased Syntax.mut (Syntax.tyInt Syntax.w16)),
+) (List._∷_ (
+  30,
+  Rows'.any-gone (Syntax.tyStruct (List._∷_ 38 (List._∷_ 91 (List._∷_ 93 List.[]))) (Syntax.tcons (Syntax.tyRef
+      Syntax.erased Syntax.mut (Syntax.tyInt Syntax.w16)) (Syntax.tcons (Syntax.tyInt Syntax.w64) Syntax.tnil))),
+) (List._∷_ (31, Rows'.any-gone (Syntax.tyRef Syntax.erased Syntax.mut Element.behind))
     List.[])))))))))))))))
 
 abbrev pub t14 : List.List Row.Entry
-t14 = List._∷_ (16, Rows'.any-gone (Syntax.tyInt Syntax.w64)) (List._∷_ ( 17, Rows'.any-gone (Syntax.tyInt Syntax.w64), ) (List._∷_ (18, Rows'.any-gone (Syntax.tyInt Syntax.w32)) (List._∷_ ( 19,
-    Rows'.any-gone (Syntax.tyStruct (List._∷_ 98 (List._∷_ 108 (List._∷_ 111 (List._∷_ 99 (List._∷_ 107 (List._∷_ 58 (List._∷_ 58 (List._∷_ 76 (List._∷_ 105 (List._∷_ 110 (List._∷_ 101 (List._∷_ 100
-    List.[])))))))))))) (Syntax.tcons Syntax.tyBool (Syntax.tcons Syntax.tyBool (Syntax.tcons (Syntax.tyStruct (List._∷_ 98 (List._∷_ 105 (List._∷_ 116 (List._∷_ 115 (List._∷_ 58 (List._∷_ 58 (List._∷_ 66
-    (List._∷_ 105 (List._∷_ 116 (List._∷_ 80 (List._∷_ 111 (List._∷_ 115 (List._∷_ 105 (List._∷_ 116 (List._∷_ 105 (List._∷_ 111 (List._∷_ 110 List.[]))))))))))))))))) (Syntax.tcons (Syntax.tyInt
-    Syntax.w64) Syntax.tnil)) Syntax.tnil)))), ) (List._∷_ (20, Rows'.any-gone Syntax.tyBool) (List._∷_ (21, Rows'.any-gone Syntax.tyUnit) (List._∷_ ( 22, Rows'.any-gone (Syntax.tyRef Syntax.erased
-    Syntax.mut (Syntax.tyInt Syntax.w16)), ) (List._∷_ ( 23, Rows'.any-gone (Syntax.tyStruct (List._∷_ 38 (List._∷_ 91 (List._∷_ 93 List.[]))) (Syntax.tcons (Syntax.tyRef Syntax.erased Syntax.mut
-    (Syntax.tyInt Syntax.w16)) (Syntax.tcons (Syntax.tyInt Syntax.w64) Syntax.tnil))), ) (List._∷_ ( 24, Rows'.any-gone (Syntax.tyRef Syntax.erased Syntax.mut Element.behind), ) (List._∷_ ( 25, Mut.mslice
-    (Element.type) (Syntax.tyRef Syntax.erased Syntax.mut Element.behind) 7, ) (List._∷_ (26, Rows'.any-gone (Syntax.tyInt Syntax.w32)) (List._∷_ ( 27, Rows'.any-gone Syntax.tyBool, ) (List._∷_ (28,
-    Rows'.any-gone Syntax.tyUnit) (List._∷_ ( 29, Rows'.any-gone (Syntax.tyRef Syntax.erased Syntax.mut (Syntax.tyInt Syntax.w16)), ) (List._∷_ ( 30, Rows'.any-gone (Syntax.tyStruct (List._∷_ 38 (List._∷_
-    91 (List._∷_ 93 List.[]))) (Syntax.tcons (Syntax.tyRef Syntax.erased Syntax.mut (Syntax.tyInt Syntax.w16)) (Syntax.tcons (Syntax.tyInt Syntax.w64) Syntax.tnil))), ) (List._∷_ ( 31, Rows'.any-gone
-    (Syntax.tyRef Syntax.erased Syntax.mut Element.behind), ) List.[])))))))))))))))
+t14 = List._∷_ (16, Rows'.any-gone (Syntax.tyInt Syntax.w64)) (List._∷_ (17, Rows'.any-gone (Syntax.tyInt Syntax.w64)) (List._∷_ (18, Rows'.any-gone (Syntax.tyInt Syntax.w32)) (List._∷_ (
+  19,
+  Rows'.any-gone (Syntax.tyStruct (List._∷_ 98 (List._∷_ 108 (List._∷_ 111 (List._∷_ 99 (List._∷_ 107 (List._∷_ 58 (List._∷_ 58 (List._∷_ 76 (List._∷_ 105 (List._∷_ 110 (List._∷_ 101 (List._∷_ 100
+      List.[])))))))))))) (Syntax.tcons Syntax.tyBool (Syntax.tcons Syntax.tyBool (Syntax.tcons (Syntax.tyStruct (List._∷_ 98 (List._∷_ 105 (List._∷_ 116 (List._∷_ 115 (List._∷_ 58 (List._∷_ 58 (List._∷_ 66
+      (List._∷_ 105 (List._∷_ 116 (List._∷_ 80 (List._∷_ 111 (List._∷_ 115 (List._∷_ 105 (List._∷_ 116 (List._∷_ 105 (List._∷_ 111 (List._∷_ 110 List.[]))))))))))))))))) (Syntax.tcons (Syntax.tyInt
+      Syntax.w64) Syntax.tnil)) Syntax.tnil)))),
+) (List._∷_ (20, Rows'.any-gone Syntax.tyBool) (List._∷_ (21, Rows'.any-gone Syntax.tyUnit) (List._∷_ (
+  22,
+  Rows'.any-gone (Syntax.tyRef Syntax.erased
+      Syntax.mut (Syntax.tyInt Syntax.w16)),
+) (List._∷_ (
+  23,
+  Rows'.any-gone (Syntax.tyStruct (List._∷_ 38 (List._∷_ 91 (List._∷_ 93 List.[]))) (Syntax.tcons (Syntax.tyRef Syntax.erased Syntax.mut
+      (Syntax.tyInt Syntax.w16)) (Syntax.tcons (Syntax.tyInt Syntax.w64) Syntax.tnil))),
+) (List._∷_ (24, Rows'.any-gone (Syntax.tyRef Syntax.erased Syntax.mut Element.behind)) (List._∷_ (
+  25,
+  Mut.mslice
+      (Element.type) (Syntax.tyRef Syntax.erased Syntax.mut Element.behind) 7,
+) (List._∷_ (26, Rows'.any-gone (Syntax.tyInt Syntax.w32)) (List._∷_ (27, Rows'.any-gone Syntax.tyBool) (List._∷_ (
+  28,
+  Rows'.any-gone Syntax.tyUnit,
+) (List._∷_ (29, Rows'.any-gone (Syntax.tyRef Syntax.erased Syntax.mut (Syntax.tyInt Syntax.w16))) (List._∷_ (
+  30,
+  Rows'.any-gone (Syntax.tyStruct (List._∷_ 38 (List._∷_
+      91 (List._∷_ 93 List.[]))) (Syntax.tcons (Syntax.tyRef Syntax.erased Syntax.mut (Syntax.tyInt Syntax.w16)) (Syntax.tcons (Syntax.tyInt Syntax.w64) Syntax.tnil))),
+) (List._∷_ (
+  31,
+  Rows'.any-gone
+      (Syntax.tyRef Syntax.erased Syntax.mut Element.behind),
+) List.[])))))))))))))))
 
 abbrev pub t15 : List.List Row.Entry
-t15 = List._∷_ (16, Rows'.any-gone (Syntax.tyInt Syntax.w64)) (List._∷_ ( 17, Rows'.any-gone (Syntax.tyInt Syntax.w64), ) (List._∷_ (18, Rows'.any-gone (Syntax.tyInt Syntax.w32)) (List._∷_ ( 19,
-    Rows'.any-gone (Syntax.tyStruct (List._∷_ 98 (List._∷_ 108 (List._∷_ 111 (List._∷_ 99 (List._∷_ 107 (List._∷_ 58 (List._∷_ 58 (List._∷_ 76 (List._∷_ 105 (List._∷_ 110 (List._∷_ 101 (List._∷_ 100
-    List.[])))))))))))) (Syntax.tcons Syntax.tyBool (Syntax.tcons Syntax.tyBool (Syntax.tcons (Syntax.tyStruct (List._∷_ 98 (List._∷_ 105 (List._∷_ 116 (List._∷_ 115 (List._∷_ 58 (List._∷_ 58 (List._∷_ 66
-    (List._∷_ 105 (List._∷_ 116 (List._∷_ 80 (List._∷_ 111 (List._∷_ 115 (List._∷_ 105 (List._∷_ 116 (List._∷_ 105 (List._∷_ 111 (List._∷_ 110 List.[]))))))))))))))))) (Syntax.tcons (Syntax.tyInt
-    Syntax.w64) Syntax.tnil)) Syntax.tnil)))), ) (List._∷_ (20, Rows'.any-gone Syntax.tyBool) (List._∷_ (21, Rows'.any-gone Syntax.tyUnit) (List._∷_ ( 22, Rows'.any-gone (Syntax.tyRef Syntax.erased
-    Syntax.mut (Syntax.tyInt Syntax.w16)), ) (List._∷_ ( 23, Rows'.any-gone (Syntax.tyStruct (List._∷_ 38 (List._∷_ 91 (List._∷_ 93 List.[]))) (Syntax.tcons (Syntax.tyRef Syntax.erased Syntax.mut
-    (Syntax.tyInt Syntax.w16)) (Syntax.tcons (Syntax.tyInt Syntax.w64) Syntax.tnil))), ) (List._∷_ ( 24, Rows'.any-gone (Syntax.tyRef Syntax.erased Syntax.mut Element.behind), ) (List._∷_ ( 25, Mut.mslice
-    (Element.type) (Syntax.tyRef Syntax.erased Syntax.mut Element.behind) 7, ) (List._∷_ (26, Rows'.sc-here (Row.sInt Syntax.w32)) (List._∷_ ( 27, Rows'.any-gone Syntax.tyBool, ) (List._∷_ (28,
-    Rows'.any-gone Syntax.tyUnit) (List._∷_ ( 29, Rows'.any-gone (Syntax.tyRef Syntax.erased Syntax.mut (Syntax.tyInt Syntax.w16)), ) (List._∷_ ( 30, Rows'.any-gone (Syntax.tyStruct (List._∷_ 38 (List._∷_
-    91 (List._∷_ 93 List.[]))) (Syntax.tcons (Syntax.tyRef Syntax.erased Syntax.mut (Syntax.tyInt Syntax.w16)) (Syntax.tcons (Syntax.tyInt Syntax.w64) Syntax.tnil))), ) (List._∷_ ( 31, Rows'.any-gone
-    (Syntax.tyRef Syntax.erased Syntax.mut Element.behind), ) List.[])))))))))))))))
+t15 = List._∷_ (16, Rows'.any-gone (Syntax.tyInt Syntax.w64)) (List._∷_ (17, Rows'.any-gone (Syntax.tyInt Syntax.w64)) (List._∷_ (18, Rows'.any-gone (Syntax.tyInt Syntax.w32)) (List._∷_ (
+  19,
+  Rows'.any-gone (Syntax.tyStruct (List._∷_ 98 (List._∷_ 108 (List._∷_ 111 (List._∷_ 99 (List._∷_ 107 (List._∷_ 58 (List._∷_ 58 (List._∷_ 76 (List._∷_ 105 (List._∷_ 110 (List._∷_ 101 (List._∷_ 100
+      List.[])))))))))))) (Syntax.tcons Syntax.tyBool (Syntax.tcons Syntax.tyBool (Syntax.tcons (Syntax.tyStruct (List._∷_ 98 (List._∷_ 105 (List._∷_ 116 (List._∷_ 115 (List._∷_ 58 (List._∷_ 58 (List._∷_ 66
+      (List._∷_ 105 (List._∷_ 116 (List._∷_ 80 (List._∷_ 111 (List._∷_ 115 (List._∷_ 105 (List._∷_ 116 (List._∷_ 105 (List._∷_ 111 (List._∷_ 110 List.[]))))))))))))))))) (Syntax.tcons (Syntax.tyInt
+      Syntax.w64) Syntax.tnil)) Syntax.tnil)))),
+) (List._∷_ (20, Rows'.any-gone Syntax.tyBool) (List._∷_ (21, Rows'.any-gone Syntax.tyUnit) (List._∷_ (
+  22,
+  Rows'.any-gone (Syntax.tyRef Syntax.erased
+      Syntax.mut (Syntax.tyInt Syntax.w16)),
+) (List._∷_ (
+  23,
+  Rows'.any-gone (Syntax.tyStruct (List._∷_ 38 (List._∷_ 91 (List._∷_ 93 List.[]))) (Syntax.tcons (Syntax.tyRef Syntax.erased Syntax.mut
+      (Syntax.tyInt Syntax.w16)) (Syntax.tcons (Syntax.tyInt Syntax.w64) Syntax.tnil))),
+) (List._∷_ (24, Rows'.any-gone (Syntax.tyRef Syntax.erased Syntax.mut Element.behind)) (List._∷_ (
+  25,
+  Mut.mslice
+      (Element.type) (Syntax.tyRef Syntax.erased Syntax.mut Element.behind) 7,
+) (List._∷_ (26, Rows'.sc-here (Row.sInt Syntax.w32)) (List._∷_ (27, Rows'.any-gone Syntax.tyBool) (List._∷_ (
+  28,
+  Rows'.any-gone Syntax.tyUnit,
+) (List._∷_ (29, Rows'.any-gone (Syntax.tyRef Syntax.erased Syntax.mut (Syntax.tyInt Syntax.w16))) (List._∷_ (
+  30,
+  Rows'.any-gone (Syntax.tyStruct (List._∷_ 38 (List._∷_
+      91 (List._∷_ 93 List.[]))) (Syntax.tcons (Syntax.tyRef Syntax.erased Syntax.mut (Syntax.tyInt Syntax.w16)) (Syntax.tcons (Syntax.tyInt Syntax.w64) Syntax.tnil))),
+) (List._∷_ (
+  31,
+  Rows'.any-gone
+      (Syntax.tyRef Syntax.erased Syntax.mut Element.behind),
+) List.[])))))))))))))))
 
 abbrev pub t16 : List.List Row.Entry
-t16 = List._∷_ (16, Rows'.any-gone (Syntax.tyInt Syntax.w64)) (List._∷_ ( 17, Rows'.any-gone (Syntax.tyInt Syntax.w64), ) (List._∷_ (18, Rows'.any-gone (Syntax.tyInt Syntax.w32)) (List._∷_ ( 19,
-    Rows'.any-gone (Syntax.tyStruct (List._∷_ 98 (List._∷_ 108 (List._∷_ 111 (List._∷_ 99 (List._∷_ 107 (List._∷_ 58 (List._∷_ 58 (List._∷_ 76 (List._∷_ 105 (List._∷_ 110 (List._∷_ 101 (List._∷_ 100
-    List.[])))))))))))) (Syntax.tcons Syntax.tyBool (Syntax.tcons Syntax.tyBool (Syntax.tcons (Syntax.tyStruct (List._∷_ 98 (List._∷_ 105 (List._∷_ 116 (List._∷_ 115 (List._∷_ 58 (List._∷_ 58 (List._∷_ 66
-    (List._∷_ 105 (List._∷_ 116 (List._∷_ 80 (List._∷_ 111 (List._∷_ 115 (List._∷_ 105 (List._∷_ 116 (List._∷_ 105 (List._∷_ 111 (List._∷_ 110 List.[]))))))))))))))))) (Syntax.tcons (Syntax.tyInt
-    Syntax.w64) Syntax.tnil)) Syntax.tnil)))), ) (List._∷_ (20, Rows'.any-gone Syntax.tyBool) (List._∷_ (21, Rows'.sc-here Row.sUnit) (List._∷_ ( 22, Rows'.any-gone (Syntax.tyRef Syntax.erased Syntax.mut
-    (Syntax.tyInt Syntax.w16)), ) (List._∷_ ( 23, Rows'.any-gone (Syntax.tyStruct (List._∷_ 38 (List._∷_ 91 (List._∷_ 93 List.[]))) (Syntax.tcons (Syntax.tyRef Syntax.erased Syntax.mut (Syntax.tyInt
-    Syntax.w16)) (Syntax.tcons (Syntax.tyInt Syntax.w64) Syntax.tnil))), ) (List._∷_ ( 24, Rows'.any-gone (Syntax.tyRef Syntax.erased Syntax.mut Element.behind), ) (List._∷_ ( 25, Mut.msleft
-    (Element.type) (Syntax.tyRef Syntax.erased Syntax.mut Element.behind), ) (List._∷_ (26, Rows'.sc-here (Row.sInt Syntax.w32)) (List._∷_ ( 27, Rows'.any-gone Syntax.tyBool, ) (List._∷_ (28,
-    Rows'.any-gone Syntax.tyUnit) (List._∷_ ( 29, Rows'.any-gone (Syntax.tyRef Syntax.erased Syntax.mut (Syntax.tyInt Syntax.w16)), ) (List._∷_ ( 30, Rows'.any-gone (Syntax.tyStruct (List._∷_ 38 (List._∷_
-    91 (List._∷_ 93 List.[]))) (Syntax.tcons (Syntax.tyRef Syntax.erased Syntax.mut (Syntax.tyInt Syntax.w16)) (Syntax.tcons (Syntax.tyInt Syntax.w64) Syntax.tnil))), ) (List._∷_ ( 31, Rows'.any-gone
-    (Syntax.tyRef Syntax.erased Syntax.mut Element.behind), ) List.[])))))))))))))))
+t16 = List._∷_ (16, Rows'.any-gone (Syntax.tyInt Syntax.w64)) (List._∷_ (17, Rows'.any-gone (Syntax.tyInt Syntax.w64)) (List._∷_ (18, Rows'.any-gone (Syntax.tyInt Syntax.w32)) (List._∷_ (
+  19,
+  Rows'.any-gone (Syntax.tyStruct (List._∷_ 98 (List._∷_ 108 (List._∷_ 111 (List._∷_ 99 (List._∷_ 107 (List._∷_ 58 (List._∷_ 58 (List._∷_ 76 (List._∷_ 105 (List._∷_ 110 (List._∷_ 101 (List._∷_ 100
+      List.[])))))))))))) (Syntax.tcons Syntax.tyBool (Syntax.tcons Syntax.tyBool (Syntax.tcons (Syntax.tyStruct (List._∷_ 98 (List._∷_ 105 (List._∷_ 116 (List._∷_ 115 (List._∷_ 58 (List._∷_ 58 (List._∷_ 66
+      (List._∷_ 105 (List._∷_ 116 (List._∷_ 80 (List._∷_ 111 (List._∷_ 115 (List._∷_ 105 (List._∷_ 116 (List._∷_ 105 (List._∷_ 111 (List._∷_ 110 List.[]))))))))))))))))) (Syntax.tcons (Syntax.tyInt
+      Syntax.w64) Syntax.tnil)) Syntax.tnil)))),
+) (List._∷_ (20, Rows'.any-gone Syntax.tyBool) (List._∷_ (21, Rows'.sc-here Row.sUnit) (List._∷_ (
+  22,
+  Rows'.any-gone (Syntax.tyRef Syntax.erased Syntax.mut
+      (Syntax.tyInt Syntax.w16)),
+) (List._∷_ (
+  23,
+  Rows'.any-gone (Syntax.tyStruct (List._∷_ 38 (List._∷_ 91 (List._∷_ 93 List.[]))) (Syntax.tcons (Syntax.tyRef Syntax.erased Syntax.mut (Syntax.tyInt
+      Syntax.w16)) (Syntax.tcons (Syntax.tyInt Syntax.w64) Syntax.tnil))),
+) (List._∷_ (24, Rows'.any-gone (Syntax.tyRef Syntax.erased Syntax.mut Element.behind)) (List._∷_ (
+  25,
+  Mut.msleft
+      (Element.type) (Syntax.tyRef Syntax.erased Syntax.mut Element.behind),
+) (List._∷_ (26, Rows'.sc-here (Row.sInt Syntax.w32)) (List._∷_ (27, Rows'.any-gone Syntax.tyBool) (List._∷_ (
+  28,
+  Rows'.any-gone Syntax.tyUnit,
+) (List._∷_ (29, Rows'.any-gone (Syntax.tyRef Syntax.erased Syntax.mut (Syntax.tyInt Syntax.w16))) (List._∷_ (
+  30,
+  Rows'.any-gone (Syntax.tyStruct (List._∷_ 38 (List._∷_
+      91 (List._∷_ 93 List.[]))) (Syntax.tcons (Syntax.tyRef Syntax.erased Syntax.mut (Syntax.tyInt Syntax.w16)) (Syntax.tcons (Syntax.tyInt Syntax.w64) Syntax.tnil))),
+) (List._∷_ (
+  31,
+  Rows'.any-gone
+      (Syntax.tyRef Syntax.erased Syntax.mut Element.behind),
+) List.[])))))))))))))))
 
 abbrev pub t17 : List.List Row.Entry
-t17 = List._∷_ (16, Rows'.any-gone (Syntax.tyInt Syntax.w64)) (List._∷_ ( 17, Rows'.any-gone (Syntax.tyInt Syntax.w64), ) (List._∷_ (18, Rows'.any-gone (Syntax.tyInt Syntax.w32)) (List._∷_ ( 19,
-    Rows'.any-gone (Syntax.tyStruct (List._∷_ 98 (List._∷_ 108 (List._∷_ 111 (List._∷_ 99 (List._∷_ 107 (List._∷_ 58 (List._∷_ 58 (List._∷_ 76 (List._∷_ 105 (List._∷_ 110 (List._∷_ 101 (List._∷_ 100
-    List.[])))))))))))) (Syntax.tcons Syntax.tyBool (Syntax.tcons Syntax.tyBool (Syntax.tcons (Syntax.tyStruct (List._∷_ 98 (List._∷_ 105 (List._∷_ 116 (List._∷_ 115 (List._∷_ 58 (List._∷_ 58 (List._∷_ 66
-    (List._∷_ 105 (List._∷_ 116 (List._∷_ 80 (List._∷_ 111 (List._∷_ 115 (List._∷_ 105 (List._∷_ 116 (List._∷_ 105 (List._∷_ 111 (List._∷_ 110 List.[]))))))))))))))))) (Syntax.tcons (Syntax.tyInt
-    Syntax.w64) Syntax.tnil)) Syntax.tnil)))), ) (List._∷_ (20, Rows'.any-gone Syntax.tyBool) (List._∷_ (21, Rows'.any-gone Syntax.tyUnit) (List._∷_ ( 22, Rows'.any-gone (Syntax.tyRef Syntax.erased
-    Syntax.mut (Syntax.tyInt Syntax.w16)), ) (List._∷_ ( 23, Rows'.any-gone (Syntax.tyStruct (List._∷_ 38 (List._∷_ 91 (List._∷_ 93 List.[]))) (Syntax.tcons (Syntax.tyRef Syntax.erased Syntax.mut
-    (Syntax.tyInt Syntax.w16)) (Syntax.tcons (Syntax.tyInt Syntax.w64) Syntax.tnil))), ) (List._∷_ ( 24, Rows'.any-gone (Syntax.tyRef Syntax.erased Syntax.mut Element.behind), ) (List._∷_ ( 25, Mut.msleft
-    (Element.type) (Syntax.tyRef Syntax.erased Syntax.mut Element.behind), ) (List._∷_ (26, Rows'.sc-here (Row.sInt Syntax.w32)) (List._∷_ ( 27, Rows'.any-gone Syntax.tyBool, ) (List._∷_ (28,
-    Rows'.any-gone Syntax.tyUnit) (List._∷_ ( 29, Rows'.any-gone (Syntax.tyRef Syntax.erased Syntax.mut (Syntax.tyInt Syntax.w16)), ) (List._∷_ ( 30, Rows'.any-gone (Syntax.tyStruct (List._∷_ 38 (List._∷_
-    91 (List._∷_ 93 List.[]))) (Syntax.tcons (Syntax.tyRef Syntax.erased Syntax.mut (Syntax.tyInt Syntax.w16)) (Syntax.tcons (Syntax.tyInt Syntax.w64) Syntax.tnil))), ) (List._∷_ ( 31, Rows'.any-gone
-    (Syntax.tyRef Syntax.erased Syntax.mut Element.behind), ) List.[])))))))))))))))
+t17 = List._∷_ (16, Rows'.any-gone (Syntax.tyInt Syntax.w64)) (List._∷_ (17, Rows'.any-gone (Syntax.tyInt Syntax.w64)) (List._∷_ (18, Rows'.any-gone (Syntax.tyInt Syntax.w32)) (List._∷_ (
+  19,
+  Rows'.any-gone (Syntax.tyStruct (List._∷_ 98 (List._∷_ 108 (List._∷_ 111 (List._∷_ 99 (List._∷_ 107 (List._∷_ 58 (List._∷_ 58 (List._∷_ 76 (List._∷_ 105 (List._∷_ 110 (List._∷_ 101 (List._∷_ 100
+      List.[])))))))))))) (Syntax.tcons Syntax.tyBool (Syntax.tcons Syntax.tyBool (Syntax.tcons (Syntax.tyStruct (List._∷_ 98 (List._∷_ 105 (List._∷_ 116 (List._∷_ 115 (List._∷_ 58 (List._∷_ 58 (List._∷_ 66
+      (List._∷_ 105 (List._∷_ 116 (List._∷_ 80 (List._∷_ 111 (List._∷_ 115 (List._∷_ 105 (List._∷_ 116 (List._∷_ 105 (List._∷_ 111 (List._∷_ 110 List.[]))))))))))))))))) (Syntax.tcons (Syntax.tyInt
+      Syntax.w64) Syntax.tnil)) Syntax.tnil)))),
+) (List._∷_ (20, Rows'.any-gone Syntax.tyBool) (List._∷_ (21, Rows'.any-gone Syntax.tyUnit) (List._∷_ (
+  22,
+  Rows'.any-gone (Syntax.tyRef Syntax.erased
+      Syntax.mut (Syntax.tyInt Syntax.w16)),
+) (List._∷_ (
+  23,
+  Rows'.any-gone (Syntax.tyStruct (List._∷_ 38 (List._∷_ 91 (List._∷_ 93 List.[]))) (Syntax.tcons (Syntax.tyRef Syntax.erased Syntax.mut
+      (Syntax.tyInt Syntax.w16)) (Syntax.tcons (Syntax.tyInt Syntax.w64) Syntax.tnil))),
+) (List._∷_ (24, Rows'.any-gone (Syntax.tyRef Syntax.erased Syntax.mut Element.behind)) (List._∷_ (
+  25,
+  Mut.msleft
+      (Element.type) (Syntax.tyRef Syntax.erased Syntax.mut Element.behind),
+) (List._∷_ (26, Rows'.sc-here (Row.sInt Syntax.w32)) (List._∷_ (27, Rows'.any-gone Syntax.tyBool) (List._∷_ (
+  28,
+  Rows'.any-gone Syntax.tyUnit,
+) (List._∷_ (29, Rows'.any-gone (Syntax.tyRef Syntax.erased Syntax.mut (Syntax.tyInt Syntax.w16))) (List._∷_ (
+  30,
+  Rows'.any-gone (Syntax.tyStruct (List._∷_ 38 (List._∷_
+      91 (List._∷_ 93 List.[]))) (Syntax.tcons (Syntax.tyRef Syntax.erased Syntax.mut (Syntax.tyInt Syntax.w16)) (Syntax.tcons (Syntax.tyInt Syntax.w64) Syntax.tnil))),
+) (List._∷_ (
+  31,
+  Rows'.any-gone
+      (Syntax.tyRef Syntax.erased Syntax.mut Element.behind),
+) List.[])))))))))))))))
 
 abbrev pub t18 : List.List Row.Entry
-t18 = List._∷_ (16, Rows'.any-gone (Syntax.tyInt Syntax.w64)) (List._∷_ ( 17, Rows'.any-gone (Syntax.tyInt Syntax.w64), ) (List._∷_ (18, Rows'.any-gone (Syntax.tyInt Syntax.w32)) (List._∷_ ( 19,
-    Rows'.any-gone (Syntax.tyStruct (List._∷_ 98 (List._∷_ 108 (List._∷_ 111 (List._∷_ 99 (List._∷_ 107 (List._∷_ 58 (List._∷_ 58 (List._∷_ 76 (List._∷_ 105 (List._∷_ 110 (List._∷_ 101 (List._∷_ 100
-    List.[])))))))))))) (Syntax.tcons Syntax.tyBool (Syntax.tcons Syntax.tyBool (Syntax.tcons (Syntax.tyStruct (List._∷_ 98 (List._∷_ 105 (List._∷_ 116 (List._∷_ 115 (List._∷_ 58 (List._∷_ 58 (List._∷_ 66
-    (List._∷_ 105 (List._∷_ 116 (List._∷_ 80 (List._∷_ 111 (List._∷_ 115 (List._∷_ 105 (List._∷_ 116 (List._∷_ 105 (List._∷_ 111 (List._∷_ 110 List.[]))))))))))))))))) (Syntax.tcons (Syntax.tyInt
-    Syntax.w64) Syntax.tnil)) Syntax.tnil)))), ) (List._∷_ (20, Rows'.any-gone Syntax.tyBool) (List._∷_ (21, Rows'.any-gone Syntax.tyUnit) (List._∷_ ( 22, Rows'.any-gone (Syntax.tyRef Syntax.erased
-    Syntax.mut (Syntax.tyInt Syntax.w16)), ) (List._∷_ ( 23, Rows'.any-gone (Syntax.tyStruct (List._∷_ 38 (List._∷_ 91 (List._∷_ 93 List.[]))) (Syntax.tcons (Syntax.tyRef Syntax.erased Syntax.mut
-    (Syntax.tyInt Syntax.w16)) (Syntax.tcons (Syntax.tyInt Syntax.w64) Syntax.tnil))), ) (List._∷_ ( 24, Rows'.any-gone (Syntax.tyRef Syntax.erased Syntax.mut Element.behind), ) (List._∷_ ( 25, Mut.msleft
-    (Element.type) (Syntax.tyRef Syntax.erased Syntax.mut Element.behind), ) (List._∷_ (26, Rows'.any-gone (Syntax.tyInt Syntax.w32)) (List._∷_ ( 27, Rows'.any-gone Syntax.tyBool, ) (List._∷_ (28,
-    Rows'.any-gone Syntax.tyUnit) (List._∷_ ( 29, Rows'.any-gone (Syntax.tyRef Syntax.erased Syntax.mut (Syntax.tyInt Syntax.w16)), ) (List._∷_ ( 30, Rows'.any-gone (Syntax.tyStruct (List._∷_ 38 (List._∷_
-    91 (List._∷_ 93 List.[]))) (Syntax.tcons (Syntax.tyRef Syntax.erased Syntax.mut (Syntax.tyInt Syntax.w16)) (Syntax.tcons (Syntax.tyInt Syntax.w64) Syntax.tnil))), ) (List._∷_ ( 31, Rows'.any-gone
-    (Syntax.tyRef Syntax.erased Syntax.mut Element.behind), ) List.[])))))))))))))))
+t18 = List._∷_ (16, Rows'.any-gone (Syntax.tyInt Syntax.w64)) (List._∷_ (17, Rows'.any-gone (Syntax.tyInt Syntax.w64)) (List._∷_ (18, Rows'.any-gone (Syntax.tyInt Syntax.w32)) (List._∷_ (
+  19,
+  Rows'.any-gone (Syntax.tyStruct (List._∷_ 98 (List._∷_ 108 (List._∷_ 111 (List._∷_ 99 (List._∷_ 107 (List._∷_ 58 (List._∷_ 58 (List._∷_ 76 (List._∷_ 105 (List._∷_ 110 (List._∷_ 101 (List._∷_ 100
+      List.[])))))))))))) (Syntax.tcons Syntax.tyBool (Syntax.tcons Syntax.tyBool (Syntax.tcons (Syntax.tyStruct (List._∷_ 98 (List._∷_ 105 (List._∷_ 116 (List._∷_ 115 (List._∷_ 58 (List._∷_ 58 (List._∷_ 66
+      (List._∷_ 105 (List._∷_ 116 (List._∷_ 80 (List._∷_ 111 (List._∷_ 115 (List._∷_ 105 (List._∷_ 116 (List._∷_ 105 (List._∷_ 111 (List._∷_ 110 List.[]))))))))))))))))) (Syntax.tcons (Syntax.tyInt
+      Syntax.w64) Syntax.tnil)) Syntax.tnil)))),
+) (List._∷_ (20, Rows'.any-gone Syntax.tyBool) (List._∷_ (21, Rows'.any-gone Syntax.tyUnit) (List._∷_ (
+  22,
+  Rows'.any-gone (Syntax.tyRef Syntax.erased
+      Syntax.mut (Syntax.tyInt Syntax.w16)),
+) (List._∷_ (
+  23,
+  Rows'.any-gone (Syntax.tyStruct (List._∷_ 38 (List._∷_ 91 (List._∷_ 93 List.[]))) (Syntax.tcons (Syntax.tyRef Syntax.erased Syntax.mut
+      (Syntax.tyInt Syntax.w16)) (Syntax.tcons (Syntax.tyInt Syntax.w64) Syntax.tnil))),
+) (List._∷_ (24, Rows'.any-gone (Syntax.tyRef Syntax.erased Syntax.mut Element.behind)) (List._∷_ (
+  25,
+  Mut.msleft
+      (Element.type) (Syntax.tyRef Syntax.erased Syntax.mut Element.behind),
+) (List._∷_ (26, Rows'.any-gone (Syntax.tyInt Syntax.w32)) (List._∷_ (27, Rows'.any-gone Syntax.tyBool) (List._∷_ (
+  28,
+  Rows'.any-gone Syntax.tyUnit,
+) (List._∷_ (29, Rows'.any-gone (Syntax.tyRef Syntax.erased Syntax.mut (Syntax.tyInt Syntax.w16))) (List._∷_ (
+  30,
+  Rows'.any-gone (Syntax.tyStruct (List._∷_ 38 (List._∷_
+      91 (List._∷_ 93 List.[]))) (Syntax.tcons (Syntax.tyRef Syntax.erased Syntax.mut (Syntax.tyInt Syntax.w16)) (Syntax.tcons (Syntax.tyInt Syntax.w64) Syntax.tnil))),
+) (List._∷_ (
+  31,
+  Rows'.any-gone
+      (Syntax.tyRef Syntax.erased Syntax.mut Element.behind),
+) List.[])))))))))))))))
 
 abbrev pub t19 : List.List Row.Entry
-t19 = List._∷_ ( 0, Rows'.any-gone (Syntax.tyStruct (List._∷_ 98 (List._∷_ 108 (List._∷_ 111 (List._∷_ 99 (List._∷_ 107 (List._∷_ 58 (List._∷_ 58 (List._∷_ 87 (List._∷_ 97 (List._∷_ 108 (List._∷_ 107
-    (List._∷_ 101 (List._∷_ 100 List.[]))))))))))))) (Syntax.tcons Syntax.tyBool (Syntax.tcons (Syntax.tyInt Syntax.w64) (Syntax.tcons (Syntax.tyStruct (List._∷_ 98 (List._∷_ 105 (List._∷_ 116 (List._∷_
-    115 (List._∷_ 58 (List._∷_ 58 (List._∷_ 66 (List._∷_ 105 (List._∷_ 116 (List._∷_ 80 (List._∷_ 111 (List._∷_ 115 (List._∷_ 105 (List._∷_ 116 (List._∷_ 105 (List._∷_ 111 (List._∷_ 110
-    List.[]))))))))))))))))) (Syntax.tcons (Syntax.tyInt Syntax.w64) Syntax.tnil)) (Syntax.tcons (Syntax.tyInt Syntax.w64) Syntax.tnil))))), ) (List._∷_ ( 1, Rows'.sslice (Referent.rtF (Referent.fInt
-    Syntax.w8)) (Syntax.tyRef (Syntax.named 0) Syntax.imm (Syntax.tyInt Syntax.w8)) 0, ) (List._∷_ ( 2, Rows'.sslice (Referent.rtF (Referent.fInt Syntax.w8)) (Syntax.tyRef (Syntax.named 1) Syntax.imm
-    (Syntax.tyInt Syntax.w8)) 1, ) (List._∷_ ( 3, Mut.mslice (Referent.rtF (Referent.fInt Syntax.w16)) (Syntax.tyRef (Syntax.named 2) Syntax.mut (Syntax.tyInt Syntax.w16)) 2, ) (List._∷_ ( 4, Mut.mslice
-    (Element.type) (Syntax.tyRef (Syntax.named 3) Syntax.mut Element.behind) 3, ) (List._∷_ ( 5, Mut.mslice (Referent.rtF (Referent.fInt Syntax.w16)) (Syntax.tyRef (Syntax.named 4) Syntax.mut
-    (Syntax.tyInt Syntax.w16)) 4, ) (List._∷_ (6, Rows'.whole (Declared.row Form.the-type)) (List._∷_ ( 7, Rows'.sref (Array'.Array (Referent.rtF (Referent.fInt Syntax.w16)) 768) (Syntax.tyRef
-    (Syntax.named 5) Syntax.imm (Syntax.tyArray (Syntax.tyInt Syntax.w16) 768)) 5, ) (List._∷_ (8, Rows.arrF (Referent.rtF (Referent.fInt Syntax.w8)) 36 0) (List._∷_ ( 9, Rows'.whole (Declared.row
-    Part.the-type), ) (List._∷_ (10, Rows'.sc-here (Row.sInt Syntax.w64)) (List._∷_ ( 11, Rows'.sc-here (Row.sInt Syntax.w32), ) (List._∷_ (12, Rows'.sc-here Row.sBool) (List._∷_ (13, Rows'.sc-here
-    (Row.sInt Syntax.w64)) (List._∷_ ( 14, Rows'.whole (Declared.row (Apart.apartT BitPosition.the-type)), ) (List._∷_ (15, Rows'.any-gone Syntax.tyBool) List.[])))))))))))))))
+t19 = List._∷_ (
+  0,
+  Rows'.any-gone (Syntax.tyStruct (List._∷_ 98 (List._∷_ 108 (List._∷_ 111 (List._∷_ 99 (List._∷_ 107 (List._∷_ 58 (List._∷_ 58 (List._∷_ 87 (List._∷_ 97 (List._∷_ 108 (List._∷_ 107
+      (List._∷_ 101 (List._∷_ 100 List.[]))))))))))))) (Syntax.tcons Syntax.tyBool (Syntax.tcons (Syntax.tyInt Syntax.w64) (Syntax.tcons (Syntax.tyStruct (List._∷_ 98 (List._∷_ 105 (List._∷_ 116 (List._∷_
+      115 (List._∷_ 58 (List._∷_ 58 (List._∷_ 66 (List._∷_ 105 (List._∷_ 116 (List._∷_ 80 (List._∷_ 111 (List._∷_ 115 (List._∷_ 105 (List._∷_ 116 (List._∷_ 105 (List._∷_ 111 (List._∷_ 110
+      List.[]))))))))))))))))) (Syntax.tcons (Syntax.tyInt Syntax.w64) Syntax.tnil)) (Syntax.tcons (Syntax.tyInt Syntax.w64) Syntax.tnil))))),
+) (List._∷_ (
+  1,
+  Rows'.sslice (Referent.rtF (Referent.fInt
+      Syntax.w8)) (Syntax.tyRef (Syntax.named 0) Syntax.imm (Syntax.tyInt Syntax.w8)) 0,
+) (List._∷_ (
+  2,
+  Rows'.sslice (Referent.rtF (Referent.fInt Syntax.w8)) (Syntax.tyRef (Syntax.named 1) Syntax.imm
+      (Syntax.tyInt Syntax.w8)) 1,
+) (List._∷_ (3, Mut.mslice (Referent.rtF (Referent.fInt Syntax.w16)) (Syntax.tyRef (Syntax.named 2) Syntax.mut (Syntax.tyInt Syntax.w16)) 2) (List._∷_ (
+  4,
+  Mut.mslice
+      (Element.type) (Syntax.tyRef (Syntax.named 3) Syntax.mut Element.behind) 3,
+) (List._∷_ (
+  5,
+  Mut.mslice (Referent.rtF (Referent.fInt Syntax.w16)) (Syntax.tyRef (Syntax.named 4) Syntax.mut
+      (Syntax.tyInt Syntax.w16)) 4,
+) (List._∷_ (6, Rows'.whole (Declared.row Form.the-type)) (List._∷_ (
+  7,
+  Rows'.sref (Array'.Array (Referent.rtF (Referent.fInt Syntax.w16)) 768) (Syntax.tyRef
+      (Syntax.named 5) Syntax.imm (Syntax.tyArray (Syntax.tyInt Syntax.w16) 768)) 5,
+) (List._∷_ (8, Rows.arrF (Referent.rtF (Referent.fInt Syntax.w8)) 36 0) (List._∷_ (
+  9,
+  Rows'.whole (Declared.row
+      Part.the-type),
+) (List._∷_ (10, Rows'.sc-here (Row.sInt Syntax.w64)) (List._∷_ (11, Rows'.sc-here (Row.sInt Syntax.w32)) (List._∷_ (12, Rows'.sc-here Row.sBool) (List._∷_ (
+  13,
+  Rows'.sc-here
+      (Row.sInt Syntax.w64),
+) (List._∷_ (14, Rows'.whole (Declared.row (Apart.apartT BitPosition.the-type))) (List._∷_ (15, Rows'.any-gone Syntax.tyBool) List.[])))))))))))))))
 
 abbrev pub t20 : List.List Row.Entry
-t20 = List._∷_ ( 0, Rows'.any-gone (Syntax.tyStruct (List._∷_ 98 (List._∷_ 108 (List._∷_ 111 (List._∷_ 99 (List._∷_ 107 (List._∷_ 58 (List._∷_ 58 (List._∷_ 87 (List._∷_ 97 (List._∷_ 108 (List._∷_ 107
-    (List._∷_ 101 (List._∷_ 100 List.[]))))))))))))) (Syntax.tcons Syntax.tyBool (Syntax.tcons (Syntax.tyInt Syntax.w64) (Syntax.tcons (Syntax.tyStruct (List._∷_ 98 (List._∷_ 105 (List._∷_ 116 (List._∷_
-    115 (List._∷_ 58 (List._∷_ 58 (List._∷_ 66 (List._∷_ 105 (List._∷_ 116 (List._∷_ 80 (List._∷_ 111 (List._∷_ 115 (List._∷_ 105 (List._∷_ 116 (List._∷_ 105 (List._∷_ 111 (List._∷_ 110
-    List.[]))))))))))))))))) (Syntax.tcons (Syntax.tyInt Syntax.w64) Syntax.tnil)) (Syntax.tcons (Syntax.tyInt Syntax.w64) Syntax.tnil))))), ) (List._∷_ ( 1, Rows'.sslice (Referent.rtF (Referent.fInt
-    Syntax.w8)) (Syntax.tyRef (Syntax.named 0) Syntax.imm (Syntax.tyInt Syntax.w8)) 0, ) (List._∷_ ( 2, Rows'.sslice (Referent.rtF (Referent.fInt Syntax.w8)) (Syntax.tyRef (Syntax.named 1) Syntax.imm
-    (Syntax.tyInt Syntax.w8)) 1, ) (List._∷_ ( 3, Mut.mslice (Referent.rtF (Referent.fInt Syntax.w16)) (Syntax.tyRef (Syntax.named 2) Syntax.mut (Syntax.tyInt Syntax.w16)) 2, ) (List._∷_ ( 4, Mut.mslice
-    (Element.type) (Syntax.tyRef (Syntax.named 3) Syntax.mut Element.behind) 3, ) (List._∷_ ( 5, Mut.mslice (Referent.rtF (Referent.fInt Syntax.w16)) (Syntax.tyRef (Syntax.named 4) Syntax.mut
-    (Syntax.tyInt Syntax.w16)) 4, ) (List._∷_ (6, Rows'.whole (Declared.row Form.the-type)) (List._∷_ ( 7, Rows'.sref (Array'.Array (Referent.rtF (Referent.fInt Syntax.w16)) 768) (Syntax.tyRef
-    (Syntax.named 5) Syntax.imm (Syntax.tyArray (Syntax.tyInt Syntax.w16) 768)) 5, ) (List._∷_ (8, Rows.arrF (Referent.rtF (Referent.fInt Syntax.w8)) 36 0) (List._∷_ ( 9, Rows'.whole (Declared.row
-    Part.the-type), ) (List._∷_ (10, Rows'.sc-here (Row.sInt Syntax.w64)) (List._∷_ ( 11, Rows'.sc-here (Row.sInt Syntax.w32), ) (List._∷_ (12, Rows'.sc-here Row.sBool) (List._∷_ (13, Rows'.sc-here
-    (Row.sInt Syntax.w64)) (List._∷_ ( 14, Rows'.whole (Declared.row (Apart.apartT BitPosition.the-type)), ) (List._∷_ (15, Rows'.sc-here Row.sBool) List.[])))))))))))))))
+t20 = List._∷_ (
+  0,
+  Rows'.any-gone (Syntax.tyStruct (List._∷_ 98 (List._∷_ 108 (List._∷_ 111 (List._∷_ 99 (List._∷_ 107 (List._∷_ 58 (List._∷_ 58 (List._∷_ 87 (List._∷_ 97 (List._∷_ 108 (List._∷_ 107
+      (List._∷_ 101 (List._∷_ 100 List.[]))))))))))))) (Syntax.tcons Syntax.tyBool (Syntax.tcons (Syntax.tyInt Syntax.w64) (Syntax.tcons (Syntax.tyStruct (List._∷_ 98 (List._∷_ 105 (List._∷_ 116 (List._∷_
+      115 (List._∷_ 58 (List._∷_ 58 (List._∷_ 66 (List._∷_ 105 (List._∷_ 116 (List._∷_ 80 (List._∷_ 111 (List._∷_ 115 (List._∷_ 105 (List._∷_ 116 (List._∷_ 105 (List._∷_ 111 (List._∷_ 110
+      List.[]))))))))))))))))) (Syntax.tcons (Syntax.tyInt Syntax.w64) Syntax.tnil)) (Syntax.tcons (Syntax.tyInt Syntax.w64) Syntax.tnil))))),
+) (List._∷_ (
+  1,
+  Rows'.sslice (Referent.rtF (Referent.fInt
+      Syntax.w8)) (Syntax.tyRef (Syntax.named 0) Syntax.imm (Syntax.tyInt Syntax.w8)) 0,
+) (List._∷_ (
+  2,
+  Rows'.sslice (Referent.rtF (Referent.fInt Syntax.w8)) (Syntax.tyRef (Syntax.named 1) Syntax.imm
+      (Syntax.tyInt Syntax.w8)) 1,
+) (List._∷_ (3, Mut.mslice (Referent.rtF (Referent.fInt Syntax.w16)) (Syntax.tyRef (Syntax.named 2) Syntax.mut (Syntax.tyInt Syntax.w16)) 2) (List._∷_ (
+  4,
+  Mut.mslice
+      (Element.type) (Syntax.tyRef (Syntax.named 3) Syntax.mut Element.behind) 3,
+) (List._∷_ (
+  5,
+  Mut.mslice (Referent.rtF (Referent.fInt Syntax.w16)) (Syntax.tyRef (Syntax.named 4) Syntax.mut
+      (Syntax.tyInt Syntax.w16)) 4,
+) (List._∷_ (6, Rows'.whole (Declared.row Form.the-type)) (List._∷_ (
+  7,
+  Rows'.sref (Array'.Array (Referent.rtF (Referent.fInt Syntax.w16)) 768) (Syntax.tyRef
+      (Syntax.named 5) Syntax.imm (Syntax.tyArray (Syntax.tyInt Syntax.w16) 768)) 5,
+) (List._∷_ (8, Rows.arrF (Referent.rtF (Referent.fInt Syntax.w8)) 36 0) (List._∷_ (
+  9,
+  Rows'.whole (Declared.row
+      Part.the-type),
+) (List._∷_ (10, Rows'.sc-here (Row.sInt Syntax.w64)) (List._∷_ (11, Rows'.sc-here (Row.sInt Syntax.w32)) (List._∷_ (12, Rows'.sc-here Row.sBool) (List._∷_ (
+  13,
+  Rows'.sc-here
+      (Row.sInt Syntax.w64),
+) (List._∷_ (14, Rows'.whole (Declared.row (Apart.apartT BitPosition.the-type))) (List._∷_ (15, Rows'.sc-here Row.sBool) List.[])))))))))))))))
 
 abbrev pub t21 : List.List Row.Entry
-t21 = List._∷_ (16, Rows'.sc-here (Row.sInt Syntax.w64)) (List._∷_ ( 17, Rows'.any-gone (Syntax.tyInt Syntax.w64), ) (List._∷_ (18, Rows'.any-gone (Syntax.tyInt Syntax.w32)) (List._∷_ ( 19,
-    Rows'.any-gone (Syntax.tyStruct (List._∷_ 98 (List._∷_ 108 (List._∷_ 111 (List._∷_ 99 (List._∷_ 107 (List._∷_ 58 (List._∷_ 58 (List._∷_ 76 (List._∷_ 105 (List._∷_ 110 (List._∷_ 101 (List._∷_ 100
-    List.[])))))))))))) (Syntax.tcons Syntax.tyBool (Syntax.tcons Syntax.tyBool (Syntax.tcons (Syntax.tyStruct (List._∷_ 98 (List._∷_ 105 (List._∷_ 116 (List._∷_ 115 (List._∷_ 58 (List._∷_ 58 (List._∷_ 66
-    (List._∷_ 105 (List._∷_ 116 (List._∷_ 80 (List._∷_ 111 (List._∷_ 115 (List._∷_ 105 (List._∷_ 116 (List._∷_ 105 (List._∷_ 111 (List._∷_ 110 List.[]))))))))))))))))) (Syntax.tcons (Syntax.tyInt
-    Syntax.w64) Syntax.tnil)) Syntax.tnil)))), ) (List._∷_ (20, Rows'.any-gone Syntax.tyBool) (List._∷_ (21, Rows'.any-gone Syntax.tyUnit) (List._∷_ ( 22, Rows'.any-gone (Syntax.tyRef Syntax.erased
-    Syntax.mut (Syntax.tyInt Syntax.w16)), ) (List._∷_ ( 23, Rows'.any-gone (Syntax.tyStruct (List._∷_ 38 (List._∷_ 91 (List._∷_ 93 List.[]))) (Syntax.tcons (Syntax.tyRef Syntax.erased Syntax.mut
-    (Syntax.tyInt Syntax.w16)) (Syntax.tcons (Syntax.tyInt Syntax.w64) Syntax.tnil))), ) (List._∷_ ( 24, Rows'.any-gone (Syntax.tyRef Syntax.erased Syntax.mut Element.behind), ) (List._∷_ ( 25,
-    Rows'.any-gone (Syntax.tyStruct (List._∷_ 38 (List._∷_ 91 (List._∷_ 93 List.[]))) (Syntax.tcons (Syntax.tyRef Syntax.erased Syntax.mut Element.behind) (Syntax.tcons (Syntax.tyInt Syntax.w64)
-    Syntax.tnil))), ) (List._∷_ (26, Rows'.any-gone (Syntax.tyInt Syntax.w32)) (List._∷_ ( 27, Rows'.any-gone Syntax.tyBool, ) (List._∷_ (28, Rows'.any-gone Syntax.tyUnit) (List._∷_ ( 29, Rows'.any-gone
-    (Syntax.tyRef Syntax.erased Syntax.mut (Syntax.tyInt Syntax.w16)), ) (List._∷_ ( 30, Rows'.any-gone (Syntax.tyStruct (List._∷_ 38 (List._∷_ 91 (List._∷_ 93 List.[]))) (Syntax.tcons (Syntax.tyRef
-    Syntax.erased Syntax.mut (Syntax.tyInt Syntax.w16)) (Syntax.tcons (Syntax.tyInt Syntax.w64) Syntax.tnil))), ) (List._∷_ ( 31, Rows'.any-gone (Syntax.tyRef Syntax.erased Syntax.mut Element.behind), )
+t21 = List._∷_ (16, Rows'.sc-here (Row.sInt Syntax.w64)) (List._∷_ (17, Rows'.any-gone (Syntax.tyInt Syntax.w64)) (List._∷_ (18, Rows'.any-gone (Syntax.tyInt Syntax.w32)) (List._∷_ (
+  19,
+  Rows'.any-gone (Syntax.tyStruct (List._∷_ 98 (List._∷_ 108 (List._∷_ 111 (List._∷_ 99 (List._∷_ 107 (List._∷_ 58 (List._∷_ 58 (List._∷_ 76 (List._∷_ 105 (List._∷_ 110 (List._∷_ 101 (List._∷_ 100
+      List.[])))))))))))) (Syntax.tcons Syntax.tyBool (Syntax.tcons Syntax.tyBool (Syntax.tcons (Syntax.tyStruct (List._∷_ 98 (List._∷_ 105 (List._∷_ 116 (List._∷_ 115 (List._∷_ 58 (List._∷_ 58 (List._∷_ 66
+      (List._∷_ 105 (List._∷_ 116 (List._∷_ 80 (List._∷_ 111 (List._∷_ 115 (List._∷_ 105 (List._∷_ 116 (List._∷_ 105 (List._∷_ 111 (List._∷_ 110 List.[]))))))))))))))))) (Syntax.tcons (Syntax.tyInt
+      Syntax.w64) Syntax.tnil)) Syntax.tnil)))),
+) (List._∷_ (20, Rows'.any-gone Syntax.tyBool) (List._∷_ (21, Rows'.any-gone Syntax.tyUnit) (List._∷_ (
+  22,
+  Rows'.any-gone (Syntax.tyRef Syntax.erased
+      Syntax.mut (Syntax.tyInt Syntax.w16)),
+) (List._∷_ (
+  23,
+  Rows'.any-gone (Syntax.tyStruct (List._∷_ 38 (List._∷_ 91 (List._∷_ 93 List.[]))) (Syntax.tcons (Syntax.tyRef Syntax.erased Syntax.mut
+      (Syntax.tyInt Syntax.w16)) (Syntax.tcons (Syntax.tyInt Syntax.w64) Syntax.tnil))),
+) (List._∷_ (24, Rows'.any-gone (Syntax.tyRef Syntax.erased Syntax.mut Element.behind)) (List._∷_ (
+  25,
+  Rows'.any-gone (Syntax.tyStruct (List._∷_ 38 (List._∷_ 91 (List._∷_ 93 List.[]))) (Syntax.tcons (Syntax.tyRef Syntax.erased Syntax.mut Element.behind) (Syntax.tcons (Syntax.tyInt Syntax.w64)
+      Syntax.tnil))),
+) (List._∷_ (26, Rows'.any-gone (Syntax.tyInt Syntax.w32)) (List._∷_ (27, Rows'.any-gone Syntax.tyBool) (List._∷_ (28, Rows'.any-gone Syntax.tyUnit) (List._∷_ (
+  29,
+  Rows'.any-gone
+      (Syntax.tyRef Syntax.erased Syntax.mut (Syntax.tyInt Syntax.w16)),
+) (List._∷_ (
+  30,
+  Rows'.any-gone (Syntax.tyStruct (List._∷_ 38 (List._∷_ 91 (List._∷_ 93 List.[]))) (Syntax.tcons (Syntax.tyRef
+      Syntax.erased Syntax.mut (Syntax.tyInt Syntax.w16)) (Syntax.tcons (Syntax.tyInt Syntax.w64) Syntax.tnil))),
+) (List._∷_ (31, Rows'.any-gone (Syntax.tyRef Syntax.erased Syntax.mut Element.behind))
     List.[])))))))))))))))
 
 abbrev pub t22 : List.List Row.Entry
-t22 = List._∷_ (16, Rows'.sc-here (Row.sInt Syntax.w64)) (List._∷_ ( 17, Rows'.sc-here (Row.sInt Syntax.w64), ) (List._∷_ (18, Rows'.any-gone (Syntax.tyInt Syntax.w32)) (List._∷_ ( 19, Rows'.any-gone
-    (Syntax.tyStruct (List._∷_ 98 (List._∷_ 108 (List._∷_ 111 (List._∷_ 99 (List._∷_ 107 (List._∷_ 58 (List._∷_ 58 (List._∷_ 76 (List._∷_ 105 (List._∷_ 110 (List._∷_ 101 (List._∷_ 100 List.[]))))))))))))
-    (Syntax.tcons Syntax.tyBool (Syntax.tcons Syntax.tyBool (Syntax.tcons (Syntax.tyStruct (List._∷_ 98 (List._∷_ 105 (List._∷_ 116 (List._∷_ 115 (List._∷_ 58 (List._∷_ 58 (List._∷_ 66 (List._∷_ 105
-    (List._∷_ 116 (List._∷_ 80 (List._∷_ 111 (List._∷_ 115 (List._∷_ 105 (List._∷_ 116 (List._∷_ 105 (List._∷_ 111 (List._∷_ 110 List.[]))))))))))))))))) (Syntax.tcons (Syntax.tyInt Syntax.w64)
-    Syntax.tnil)) Syntax.tnil)))), ) (List._∷_ (20, Rows'.any-gone Syntax.tyBool) (List._∷_ (21, Rows'.any-gone Syntax.tyUnit) (List._∷_ ( 22, Rows'.any-gone (Syntax.tyRef Syntax.erased Syntax.mut
-    (Syntax.tyInt Syntax.w16)), ) (List._∷_ ( 23, Rows'.any-gone (Syntax.tyStruct (List._∷_ 38 (List._∷_ 91 (List._∷_ 93 List.[]))) (Syntax.tcons (Syntax.tyRef Syntax.erased Syntax.mut (Syntax.tyInt
-    Syntax.w16)) (Syntax.tcons (Syntax.tyInt Syntax.w64) Syntax.tnil))), ) (List._∷_ ( 24, Rows'.any-gone (Syntax.tyRef Syntax.erased Syntax.mut Element.behind), ) (List._∷_ ( 25, Rows'.any-gone
-    (Syntax.tyStruct (List._∷_ 38 (List._∷_ 91 (List._∷_ 93 List.[]))) (Syntax.tcons (Syntax.tyRef Syntax.erased Syntax.mut Element.behind) (Syntax.tcons (Syntax.tyInt Syntax.w64) Syntax.tnil))), )
-    (List._∷_ (26, Rows'.any-gone (Syntax.tyInt Syntax.w32)) (List._∷_ ( 27, Rows'.any-gone Syntax.tyBool, ) (List._∷_ (28, Rows'.any-gone Syntax.tyUnit) (List._∷_ ( 29, Rows'.any-gone (Syntax.tyRef
-    Syntax.erased Syntax.mut (Syntax.tyInt Syntax.w16)), ) (List._∷_ ( 30, Rows'.any-gone (Syntax.tyStruct (List._∷_ 38 (List._∷_ 91 (List._∷_ 93 List.[]))) (Syntax.tcons (Syntax.tyRef Syntax.erased
-    Syntax.mut (Syntax.tyInt Syntax.w16)) (Syntax.tcons (Syntax.tyInt Syntax.w64) Syntax.tnil))), ) (List._∷_ ( 31, Rows'.any-gone (Syntax.tyRef Syntax.erased Syntax.mut Element.behind), )
+t22 = List._∷_ (16, Rows'.sc-here (Row.sInt Syntax.w64)) (List._∷_ (17, Rows'.sc-here (Row.sInt Syntax.w64)) (List._∷_ (18, Rows'.any-gone (Syntax.tyInt Syntax.w32)) (List._∷_ (
+  19,
+  Rows'.any-gone
+      (Syntax.tyStruct (List._∷_ 98 (List._∷_ 108 (List._∷_ 111 (List._∷_ 99 (List._∷_ 107 (List._∷_ 58 (List._∷_ 58 (List._∷_ 76 (List._∷_ 105 (List._∷_ 110 (List._∷_ 101 (List._∷_ 100 List.[]))))))))))))
+      (Syntax.tcons Syntax.tyBool (Syntax.tcons Syntax.tyBool (Syntax.tcons (Syntax.tyStruct (List._∷_ 98 (List._∷_ 105 (List._∷_ 116 (List._∷_ 115 (List._∷_ 58 (List._∷_ 58 (List._∷_ 66 (List._∷_ 105
+      (List._∷_ 116 (List._∷_ 80 (List._∷_ 111 (List._∷_ 115 (List._∷_ 105 (List._∷_ 116 (List._∷_ 105 (List._∷_ 111 (List._∷_ 110 List.[]))))))))))))))))) (Syntax.tcons (Syntax.tyInt Syntax.w64)
+      Syntax.tnil)) Syntax.tnil)))),
+) (List._∷_ (20, Rows'.any-gone Syntax.tyBool) (List._∷_ (21, Rows'.any-gone Syntax.tyUnit) (List._∷_ (
+  22,
+  Rows'.any-gone (Syntax.tyRef Syntax.erased Syntax.mut
+      (Syntax.tyInt Syntax.w16)),
+) (List._∷_ (
+  23,
+  Rows'.any-gone (Syntax.tyStruct (List._∷_ 38 (List._∷_ 91 (List._∷_ 93 List.[]))) (Syntax.tcons (Syntax.tyRef Syntax.erased Syntax.mut (Syntax.tyInt
+      Syntax.w16)) (Syntax.tcons (Syntax.tyInt Syntax.w64) Syntax.tnil))),
+) (List._∷_ (24, Rows'.any-gone (Syntax.tyRef Syntax.erased Syntax.mut Element.behind)) (List._∷_ (
+  25,
+  Rows'.any-gone
+      (Syntax.tyStruct (List._∷_ 38 (List._∷_ 91 (List._∷_ 93 List.[]))) (Syntax.tcons (Syntax.tyRef Syntax.erased Syntax.mut Element.behind) (Syntax.tcons (Syntax.tyInt Syntax.w64) Syntax.tnil))),
+)
+    (List._∷_ (26, Rows'.any-gone (Syntax.tyInt Syntax.w32)) (List._∷_ (27, Rows'.any-gone Syntax.tyBool) (List._∷_ (28, Rows'.any-gone Syntax.tyUnit) (List._∷_ (
+      29,
+      Rows'.any-gone (Syntax.tyRef
+          Syntax.erased Syntax.mut (Syntax.tyInt Syntax.w16)),
+    ) (List._∷_ (
+      30,
+      Rows'.any-gone (Syntax.tyStruct (List._∷_ 38 (List._∷_ 91 (List._∷_ 93 List.[]))) (Syntax.tcons (Syntax.tyRef Syntax.erased
+          Syntax.mut (Syntax.tyInt Syntax.w16)) (Syntax.tcons (Syntax.tyInt Syntax.w64) Syntax.tnil))),
+    ) (List._∷_ (31, Rows'.any-gone (Syntax.tyRef Syntax.erased Syntax.mut Element.behind))
     List.[])))))))))))))))
 
 abbrev pub t23 : List.List Row.Entry
-t23 = List._∷_ ( 0, Rows'.any-gone (Syntax.tyStruct (List._∷_ 98 (List._∷_ 108 (List._∷_ 111 (List._∷_ 99 (List._∷_ 107 (List._∷_ 58 (List._∷_ 58 (List._∷_ 87 (List._∷_ 97 (List._∷_ 108 (List._∷_ 107
-    (List._∷_ 101 (List._∷_ 100 List.[]))))))))))))) (Syntax.tcons Syntax.tyBool (Syntax.tcons (Syntax.tyInt Syntax.w64) (Syntax.tcons (Syntax.tyStruct (List._∷_ 98 (List._∷_ 105 (List._∷_ 116 (List._∷_
-    115 (List._∷_ 58 (List._∷_ 58 (List._∷_ 66 (List._∷_ 105 (List._∷_ 116 (List._∷_ 80 (List._∷_ 111 (List._∷_ 115 (List._∷_ 105 (List._∷_ 116 (List._∷_ 105 (List._∷_ 111 (List._∷_ 110
-    List.[]))))))))))))))))) (Syntax.tcons (Syntax.tyInt Syntax.w64) Syntax.tnil)) (Syntax.tcons (Syntax.tyInt Syntax.w64) Syntax.tnil))))), ) (List._∷_ ( 1, Rows'.sslice (Referent.rtF (Referent.fInt
-    Syntax.w8)) (Syntax.tyRef (Syntax.named 0) Syntax.imm (Syntax.tyInt Syntax.w8)) 0, ) (List._∷_ ( 2, Rows'.sslice (Referent.rtF (Referent.fInt Syntax.w8)) (Syntax.tyRef (Syntax.named 1) Syntax.imm
-    (Syntax.tyInt Syntax.w8)) 1, ) (List._∷_ ( 3, Mut.mslice (Referent.rtF (Referent.fInt Syntax.w16)) (Syntax.tyRef (Syntax.named 2) Syntax.mut (Syntax.tyInt Syntax.w16)) 2, ) (List._∷_ ( 4, Mut.mslice
-    (Element.type) (Syntax.tyRef (Syntax.named 3) Syntax.mut Element.behind) 3, ) (List._∷_ ( 5, Mut.mslice (Referent.rtF (Referent.fInt Syntax.w16)) (Syntax.tyRef (Syntax.named 4) Syntax.mut
-    (Syntax.tyInt Syntax.w16)) 4, ) (List._∷_ ( 6, Rows'.any-gone (Syntax.tyStruct (List._∷_ 98 (List._∷_ 108 (List._∷_ 111 (List._∷_ 99 (List._∷_ 107 (List._∷_ 58 (List._∷_ 58 (List._∷_ 70 (List._∷_ 111
-    (List._∷_ 114 (List._∷_ 109 List.[]))))))))))) (Syntax.tcons (Syntax.tyInt Syntax.w32) (Syntax.tcons Syntax.tyBool Syntax.tnil))), ) (List._∷_ ( 7, Rows'.sref (Array'.Array (Referent.rtF
-    (Referent.fInt Syntax.w16)) 768) (Syntax.tyRef (Syntax.named 5) Syntax.imm (Syntax.tyArray (Syntax.tyInt Syntax.w16) 768)) 5, ) (List._∷_ (8, Rows'.any-gone (Syntax.tyArray (Syntax.tyInt Syntax.w8)
-    36)) (List._∷_ ( 9, Rows'.any-gone (Syntax.tyStruct (List._∷_ 109 (List._∷_ 97 (List._∷_ 112 (List._∷_ 58 (List._∷_ 58 (List._∷_ 80 (List._∷_ 97 (List._∷_ 114 (List._∷_ 116 List.[])))))))))
-    (Syntax.tcons (Syntax.tyInt Syntax.w64) (Syntax.tcons (Syntax.tyInt Syntax.w64) (Syntax.tcons (Syntax.tyInt Syntax.w64) (Syntax.tcons (Syntax.tyInt Syntax.w64) (Syntax.tcons (Syntax.tyInt Syntax.w64)
-    (Syntax.tcons (Syntax.tyInt Syntax.w64) Syntax.tnil))))))), ) (List._∷_ (10, Rows'.sc-here (Row.sInt Syntax.w64)) (List._∷_ ( 11, Rows'.sc-here (Row.sInt Syntax.w32), ) (List._∷_ (12, Rows'.sc-here
-    Row.sBool) (List._∷_ (13, Rows'.sc-here (Row.sInt Syntax.w64)) (List._∷_ ( 14, Rows'.whole (Declared.row BitPosition.the-type), ) (List._∷_ (15, Rows'.sc-here Row.sBool) List.[])))))))))))))))
+t23 = List._∷_ (
+  0,
+  Rows'.any-gone (Syntax.tyStruct (List._∷_ 98 (List._∷_ 108 (List._∷_ 111 (List._∷_ 99 (List._∷_ 107 (List._∷_ 58 (List._∷_ 58 (List._∷_ 87 (List._∷_ 97 (List._∷_ 108 (List._∷_ 107
+      (List._∷_ 101 (List._∷_ 100 List.[]))))))))))))) (Syntax.tcons Syntax.tyBool (Syntax.tcons (Syntax.tyInt Syntax.w64) (Syntax.tcons (Syntax.tyStruct (List._∷_ 98 (List._∷_ 105 (List._∷_ 116 (List._∷_
+      115 (List._∷_ 58 (List._∷_ 58 (List._∷_ 66 (List._∷_ 105 (List._∷_ 116 (List._∷_ 80 (List._∷_ 111 (List._∷_ 115 (List._∷_ 105 (List._∷_ 116 (List._∷_ 105 (List._∷_ 111 (List._∷_ 110
+      List.[]))))))))))))))))) (Syntax.tcons (Syntax.tyInt Syntax.w64) Syntax.tnil)) (Syntax.tcons (Syntax.tyInt Syntax.w64) Syntax.tnil))))),
+) (List._∷_ (
+  1,
+  Rows'.sslice (Referent.rtF (Referent.fInt
+      Syntax.w8)) (Syntax.tyRef (Syntax.named 0) Syntax.imm (Syntax.tyInt Syntax.w8)) 0,
+) (List._∷_ (
+  2,
+  Rows'.sslice (Referent.rtF (Referent.fInt Syntax.w8)) (Syntax.tyRef (Syntax.named 1) Syntax.imm
+      (Syntax.tyInt Syntax.w8)) 1,
+) (List._∷_ (3, Mut.mslice (Referent.rtF (Referent.fInt Syntax.w16)) (Syntax.tyRef (Syntax.named 2) Syntax.mut (Syntax.tyInt Syntax.w16)) 2) (List._∷_ (
+  4,
+  Mut.mslice
+      (Element.type) (Syntax.tyRef (Syntax.named 3) Syntax.mut Element.behind) 3,
+) (List._∷_ (
+  5,
+  Mut.mslice (Referent.rtF (Referent.fInt Syntax.w16)) (Syntax.tyRef (Syntax.named 4) Syntax.mut
+      (Syntax.tyInt Syntax.w16)) 4,
+) (List._∷_ (
+  6,
+  Rows'.any-gone (Syntax.tyStruct (List._∷_ 98 (List._∷_ 108 (List._∷_ 111 (List._∷_ 99 (List._∷_ 107 (List._∷_ 58 (List._∷_ 58 (List._∷_ 70 (List._∷_ 111
+      (List._∷_ 114 (List._∷_ 109 List.[]))))))))))) (Syntax.tcons (Syntax.tyInt Syntax.w32) (Syntax.tcons Syntax.tyBool Syntax.tnil))),
+) (List._∷_ (
+  7,
+  Rows'.sref (Array'.Array (Referent.rtF
+      (Referent.fInt Syntax.w16)) 768) (Syntax.tyRef (Syntax.named 5) Syntax.imm (Syntax.tyArray (Syntax.tyInt Syntax.w16) 768)) 5,
+) (List._∷_ (
+  8,
+  Rows'.any-gone (Syntax.tyArray (Syntax.tyInt Syntax.w8)
+      36),
+) (List._∷_ (
+  9,
+  Rows'.any-gone (Syntax.tyStruct (List._∷_ 109 (List._∷_ 97 (List._∷_ 112 (List._∷_ 58 (List._∷_ 58 (List._∷_ 80 (List._∷_ 97 (List._∷_ 114 (List._∷_ 116 List.[])))))))))
+      (Syntax.tcons (Syntax.tyInt Syntax.w64) (Syntax.tcons (Syntax.tyInt Syntax.w64) (Syntax.tcons (Syntax.tyInt Syntax.w64) (Syntax.tcons (Syntax.tyInt Syntax.w64) (Syntax.tcons (Syntax.tyInt Syntax.w64)
+      (Syntax.tcons (Syntax.tyInt Syntax.w64) Syntax.tnil))))))),
+) (List._∷_ (10, Rows'.sc-here (Row.sInt Syntax.w64)) (List._∷_ (11, Rows'.sc-here (Row.sInt Syntax.w32)) (List._∷_ (
+  12,
+  Rows'.sc-here
+      Row.sBool,
+) (List._∷_ (13, Rows'.sc-here (Row.sInt Syntax.w64)) (List._∷_ (14, Rows'.whole (Declared.row BitPosition.the-type)) (List._∷_ (15, Rows'.sc-here Row.sBool) List.[])))))))))))))))
 
 abbrev pub t24 : List.List Row.Entry
-t24 = List._∷_ ( 0, Rows'.any-gone (Syntax.tyStruct (List._∷_ 98 (List._∷_ 108 (List._∷_ 111 (List._∷_ 99 (List._∷_ 107 (List._∷_ 58 (List._∷_ 58 (List._∷_ 87 (List._∷_ 97 (List._∷_ 108 (List._∷_ 107
-    (List._∷_ 101 (List._∷_ 100 List.[]))))))))))))) (Syntax.tcons Syntax.tyBool (Syntax.tcons (Syntax.tyInt Syntax.w64) (Syntax.tcons (Syntax.tyStruct (List._∷_ 98 (List._∷_ 105 (List._∷_ 116 (List._∷_
-    115 (List._∷_ 58 (List._∷_ 58 (List._∷_ 66 (List._∷_ 105 (List._∷_ 116 (List._∷_ 80 (List._∷_ 111 (List._∷_ 115 (List._∷_ 105 (List._∷_ 116 (List._∷_ 105 (List._∷_ 111 (List._∷_ 110
-    List.[]))))))))))))))))) (Syntax.tcons (Syntax.tyInt Syntax.w64) Syntax.tnil)) (Syntax.tcons (Syntax.tyInt Syntax.w64) Syntax.tnil))))), ) (List._∷_ ( 1, Rows'.sslice (Referent.rtF (Referent.fInt
-    Syntax.w8)) (Syntax.tyRef (Syntax.named 0) Syntax.imm (Syntax.tyInt Syntax.w8)) 0, ) (List._∷_ ( 2, Rows'.sslice (Referent.rtF (Referent.fInt Syntax.w8)) (Syntax.tyRef (Syntax.named 1) Syntax.imm
-    (Syntax.tyInt Syntax.w8)) 1, ) (List._∷_ ( 3, Mut.mslice (Referent.rtF (Referent.fInt Syntax.w16)) (Syntax.tyRef (Syntax.named 2) Syntax.mut (Syntax.tyInt Syntax.w16)) 2, ) (List._∷_ ( 4, Mut.mslice
-    (Element.type) (Syntax.tyRef (Syntax.named 3) Syntax.mut Element.behind) 3, ) (List._∷_ ( 5, Mut.mslice (Referent.rtF (Referent.fInt Syntax.w16)) (Syntax.tyRef (Syntax.named 4) Syntax.mut
-    (Syntax.tyInt Syntax.w16)) 4, ) (List._∷_ (6, Rows'.whole (Declared.row Form.the-type)) (List._∷_ ( 7, Rows'.sref (Array'.Array (Referent.rtF (Referent.fInt Syntax.w16)) 768) (Syntax.tyRef
-    (Syntax.named 5) Syntax.imm (Syntax.tyArray (Syntax.tyInt Syntax.w16) 768)) 5, ) (List._∷_ (8, Rows.arrF (Referent.rtF (Referent.fInt Syntax.w8)) 36 0) (List._∷_ ( 9, Rows'.whole (Declared.row
-    Part.the-type), ) (List._∷_ (10, Rows'.sc-here (Row.sInt Syntax.w64)) (List._∷_ ( 11, Rows'.sc-here (Row.sInt Syntax.w32), ) (List._∷_ (12, Rows'.sc-here Row.sBool) (List._∷_ (13, Rows'.sc-here
-    (Row.sInt Syntax.w64)) (List._∷_ ( 14, Rows'.whole (Declared.row BitPosition.the-type), ) (List._∷_ (15, Rows'.sc-here Row.sBool) List.[])))))))))))))))
+t24 = List._∷_ (
+  0,
+  Rows'.any-gone (Syntax.tyStruct (List._∷_ 98 (List._∷_ 108 (List._∷_ 111 (List._∷_ 99 (List._∷_ 107 (List._∷_ 58 (List._∷_ 58 (List._∷_ 87 (List._∷_ 97 (List._∷_ 108 (List._∷_ 107
+      (List._∷_ 101 (List._∷_ 100 List.[]))))))))))))) (Syntax.tcons Syntax.tyBool (Syntax.tcons (Syntax.tyInt Syntax.w64) (Syntax.tcons (Syntax.tyStruct (List._∷_ 98 (List._∷_ 105 (List._∷_ 116 (List._∷_
+      115 (List._∷_ 58 (List._∷_ 58 (List._∷_ 66 (List._∷_ 105 (List._∷_ 116 (List._∷_ 80 (List._∷_ 111 (List._∷_ 115 (List._∷_ 105 (List._∷_ 116 (List._∷_ 105 (List._∷_ 111 (List._∷_ 110
+      List.[]))))))))))))))))) (Syntax.tcons (Syntax.tyInt Syntax.w64) Syntax.tnil)) (Syntax.tcons (Syntax.tyInt Syntax.w64) Syntax.tnil))))),
+) (List._∷_ (
+  1,
+  Rows'.sslice (Referent.rtF (Referent.fInt
+      Syntax.w8)) (Syntax.tyRef (Syntax.named 0) Syntax.imm (Syntax.tyInt Syntax.w8)) 0,
+) (List._∷_ (
+  2,
+  Rows'.sslice (Referent.rtF (Referent.fInt Syntax.w8)) (Syntax.tyRef (Syntax.named 1) Syntax.imm
+      (Syntax.tyInt Syntax.w8)) 1,
+) (List._∷_ (3, Mut.mslice (Referent.rtF (Referent.fInt Syntax.w16)) (Syntax.tyRef (Syntax.named 2) Syntax.mut (Syntax.tyInt Syntax.w16)) 2) (List._∷_ (
+  4,
+  Mut.mslice
+      (Element.type) (Syntax.tyRef (Syntax.named 3) Syntax.mut Element.behind) 3,
+) (List._∷_ (
+  5,
+  Mut.mslice (Referent.rtF (Referent.fInt Syntax.w16)) (Syntax.tyRef (Syntax.named 4) Syntax.mut
+      (Syntax.tyInt Syntax.w16)) 4,
+) (List._∷_ (6, Rows'.whole (Declared.row Form.the-type)) (List._∷_ (
+  7,
+  Rows'.sref (Array'.Array (Referent.rtF (Referent.fInt Syntax.w16)) 768) (Syntax.tyRef
+      (Syntax.named 5) Syntax.imm (Syntax.tyArray (Syntax.tyInt Syntax.w16) 768)) 5,
+) (List._∷_ (8, Rows.arrF (Referent.rtF (Referent.fInt Syntax.w8)) 36 0) (List._∷_ (
+  9,
+  Rows'.whole (Declared.row
+      Part.the-type),
+) (List._∷_ (10, Rows'.sc-here (Row.sInt Syntax.w64)) (List._∷_ (11, Rows'.sc-here (Row.sInt Syntax.w32)) (List._∷_ (12, Rows'.sc-here Row.sBool) (List._∷_ (
+  13,
+  Rows'.sc-here
+      (Row.sInt Syntax.w64),
+) (List._∷_ (14, Rows'.whole (Declared.row BitPosition.the-type)) (List._∷_ (15, Rows'.sc-here Row.sBool) List.[])))))))))))))))
 
 abbrev pub t25 : List.List Row.Entry
-t25 = List._∷_ (16, Rows'.sc-here (Row.sInt Syntax.w64)) (List._∷_ ( 17, Rows'.sc-here (Row.sInt Syntax.w64), ) (List._∷_ (18, Rows'.any-gone (Syntax.tyInt Syntax.w32)) (List._∷_ ( 19, Rows'.any-gone
-    (Syntax.tyStruct (List._∷_ 98 (List._∷_ 108 (List._∷_ 111 (List._∷_ 99 (List._∷_ 107 (List._∷_ 58 (List._∷_ 58 (List._∷_ 76 (List._∷_ 105 (List._∷_ 110 (List._∷_ 101 (List._∷_ 100 List.[]))))))))))))
-    (Syntax.tcons Syntax.tyBool (Syntax.tcons Syntax.tyBool (Syntax.tcons (Syntax.tyStruct (List._∷_ 98 (List._∷_ 105 (List._∷_ 116 (List._∷_ 115 (List._∷_ 58 (List._∷_ 58 (List._∷_ 66 (List._∷_ 105
-    (List._∷_ 116 (List._∷_ 80 (List._∷_ 111 (List._∷_ 115 (List._∷_ 105 (List._∷_ 116 (List._∷_ 105 (List._∷_ 111 (List._∷_ 110 List.[]))))))))))))))))) (Syntax.tcons (Syntax.tyInt Syntax.w64)
-    Syntax.tnil)) Syntax.tnil)))), ) (List._∷_ (20, Rows'.any-gone Syntax.tyBool) (List._∷_ (21, Rows'.any-gone Syntax.tyUnit) (List._∷_ ( 22, Rows'.any-gone (Syntax.tyRef Syntax.erased Syntax.mut
-    (Syntax.tyInt Syntax.w16)), ) (List._∷_ ( 23, Rows'.any-gone (Syntax.tyStruct (List._∷_ 38 (List._∷_ 91 (List._∷_ 93 List.[]))) (Syntax.tcons (Syntax.tyRef Syntax.erased Syntax.mut (Syntax.tyInt
-    Syntax.w16)) (Syntax.tcons (Syntax.tyInt Syntax.w64) Syntax.tnil))), ) (List._∷_ ( 24, Rows'.any-gone (Syntax.tyRef Syntax.erased Syntax.mut Element.behind), ) (List._∷_ ( 25, Rows'.any-gone
-    (Syntax.tyStruct (List._∷_ 38 (List._∷_ 91 (List._∷_ 93 List.[]))) (Syntax.tcons (Syntax.tyRef Syntax.erased Syntax.mut Element.behind) (Syntax.tcons (Syntax.tyInt Syntax.w64) Syntax.tnil))), )
-    (List._∷_ (26, Rows'.any-gone (Syntax.tyInt Syntax.w32)) (List._∷_ ( 27, Rows'.sc-here Row.sBool, ) (List._∷_ (28, Rows'.any-gone Syntax.tyUnit) (List._∷_ ( 29, Rows'.any-gone (Syntax.tyRef
-    Syntax.erased Syntax.mut (Syntax.tyInt Syntax.w16)), ) (List._∷_ ( 30, Rows'.any-gone (Syntax.tyStruct (List._∷_ 38 (List._∷_ 91 (List._∷_ 93 List.[]))) (Syntax.tcons (Syntax.tyRef Syntax.erased
-    Syntax.mut (Syntax.tyInt Syntax.w16)) (Syntax.tcons (Syntax.tyInt Syntax.w64) Syntax.tnil))), ) (List._∷_ ( 31, Rows'.any-gone (Syntax.tyRef Syntax.erased Syntax.mut Element.behind), )
+t25 = List._∷_ (16, Rows'.sc-here (Row.sInt Syntax.w64)) (List._∷_ (17, Rows'.sc-here (Row.sInt Syntax.w64)) (List._∷_ (18, Rows'.any-gone (Syntax.tyInt Syntax.w32)) (List._∷_ (
+  19,
+  Rows'.any-gone
+      (Syntax.tyStruct (List._∷_ 98 (List._∷_ 108 (List._∷_ 111 (List._∷_ 99 (List._∷_ 107 (List._∷_ 58 (List._∷_ 58 (List._∷_ 76 (List._∷_ 105 (List._∷_ 110 (List._∷_ 101 (List._∷_ 100 List.[]))))))))))))
+      (Syntax.tcons Syntax.tyBool (Syntax.tcons Syntax.tyBool (Syntax.tcons (Syntax.tyStruct (List._∷_ 98 (List._∷_ 105 (List._∷_ 116 (List._∷_ 115 (List._∷_ 58 (List._∷_ 58 (List._∷_ 66 (List._∷_ 105
+      (List._∷_ 116 (List._∷_ 80 (List._∷_ 111 (List._∷_ 115 (List._∷_ 105 (List._∷_ 116 (List._∷_ 105 (List._∷_ 111 (List._∷_ 110 List.[]))))))))))))))))) (Syntax.tcons (Syntax.tyInt Syntax.w64)
+      Syntax.tnil)) Syntax.tnil)))),
+) (List._∷_ (20, Rows'.any-gone Syntax.tyBool) (List._∷_ (21, Rows'.any-gone Syntax.tyUnit) (List._∷_ (
+  22,
+  Rows'.any-gone (Syntax.tyRef Syntax.erased Syntax.mut
+      (Syntax.tyInt Syntax.w16)),
+) (List._∷_ (
+  23,
+  Rows'.any-gone (Syntax.tyStruct (List._∷_ 38 (List._∷_ 91 (List._∷_ 93 List.[]))) (Syntax.tcons (Syntax.tyRef Syntax.erased Syntax.mut (Syntax.tyInt
+      Syntax.w16)) (Syntax.tcons (Syntax.tyInt Syntax.w64) Syntax.tnil))),
+) (List._∷_ (24, Rows'.any-gone (Syntax.tyRef Syntax.erased Syntax.mut Element.behind)) (List._∷_ (
+  25,
+  Rows'.any-gone
+      (Syntax.tyStruct (List._∷_ 38 (List._∷_ 91 (List._∷_ 93 List.[]))) (Syntax.tcons (Syntax.tyRef Syntax.erased Syntax.mut Element.behind) (Syntax.tcons (Syntax.tyInt Syntax.w64) Syntax.tnil))),
+)
+    (List._∷_ (26, Rows'.any-gone (Syntax.tyInt Syntax.w32)) (List._∷_ (27, Rows'.sc-here Row.sBool) (List._∷_ (28, Rows'.any-gone Syntax.tyUnit) (List._∷_ (
+      29,
+      Rows'.any-gone (Syntax.tyRef
+          Syntax.erased Syntax.mut (Syntax.tyInt Syntax.w16)),
+    ) (List._∷_ (
+      30,
+      Rows'.any-gone (Syntax.tyStruct (List._∷_ 38 (List._∷_ 91 (List._∷_ 93 List.[]))) (Syntax.tcons (Syntax.tyRef Syntax.erased
+          Syntax.mut (Syntax.tyInt Syntax.w16)) (Syntax.tcons (Syntax.tyInt Syntax.w64) Syntax.tnil))),
+    ) (List._∷_ (31, Rows'.any-gone (Syntax.tyRef Syntax.erased Syntax.mut Element.behind))
     List.[])))))))))))))))
 
 abbrev pub t26 : List.List Row.Entry
-t26 = List._∷_ ( 0, Rows'.any-gone (Syntax.tyStruct (List._∷_ 98 (List._∷_ 108 (List._∷_ 111 (List._∷_ 99 (List._∷_ 107 (List._∷_ 58 (List._∷_ 58 (List._∷_ 87 (List._∷_ 97 (List._∷_ 108 (List._∷_ 107
-    (List._∷_ 101 (List._∷_ 100 List.[]))))))))))))) (Syntax.tcons Syntax.tyBool (Syntax.tcons (Syntax.tyInt Syntax.w64) (Syntax.tcons (Syntax.tyStruct (List._∷_ 98 (List._∷_ 105 (List._∷_ 116 (List._∷_
-    115 (List._∷_ 58 (List._∷_ 58 (List._∷_ 66 (List._∷_ 105 (List._∷_ 116 (List._∷_ 80 (List._∷_ 111 (List._∷_ 115 (List._∷_ 105 (List._∷_ 116 (List._∷_ 105 (List._∷_ 111 (List._∷_ 110
-    List.[]))))))))))))))))) (Syntax.tcons (Syntax.tyInt Syntax.w64) Syntax.tnil)) (Syntax.tcons (Syntax.tyInt Syntax.w64) Syntax.tnil))))), ) (List._∷_ ( 1, Rows'.sslice (Referent.rtF (Referent.fInt
-    Syntax.w8)) (Syntax.tyRef (Syntax.named 0) Syntax.imm (Syntax.tyInt Syntax.w8)) 0, ) (List._∷_ ( 2, Rows'.sslice (Referent.rtF (Referent.fInt Syntax.w8)) (Syntax.tyRef (Syntax.named 1) Syntax.imm
-    (Syntax.tyInt Syntax.w8)) 1, ) (List._∷_ ( 3, Mut.mslice (Referent.rtF (Referent.fInt Syntax.w16)) (Syntax.tyRef (Syntax.named 2) Syntax.mut (Syntax.tyInt Syntax.w16)) 2, ) (List._∷_ ( 4, Mut.mslice
-    (Element.type) (Syntax.tyRef (Syntax.named 3) Syntax.mut Element.behind) 3, ) (List._∷_ ( 5, Mut.mslice (Referent.rtF (Referent.fInt Syntax.w16)) (Syntax.tyRef (Syntax.named 4) Syntax.mut
-    (Syntax.tyInt Syntax.w16)) 4, ) (List._∷_ ( 6, Rows'.any-gone (Syntax.tyStruct (List._∷_ 98 (List._∷_ 108 (List._∷_ 111 (List._∷_ 99 (List._∷_ 107 (List._∷_ 58 (List._∷_ 58 (List._∷_ 70 (List._∷_ 111
-    (List._∷_ 114 (List._∷_ 109 List.[]))))))))))) (Syntax.tcons (Syntax.tyInt Syntax.w32) (Syntax.tcons Syntax.tyBool Syntax.tnil))), ) (List._∷_ ( 7, Rows'.sref (Array'.Array (Referent.rtF
-    (Referent.fInt Syntax.w16)) 768) (Syntax.tyRef (Syntax.named 5) Syntax.imm (Syntax.tyArray (Syntax.tyInt Syntax.w16) 768)) 5, ) (List._∷_ (8, Rows.arrF (Referent.rtF (Referent.fInt Syntax.w8)) 36 0)
-    (List._∷_ ( 9, Rows'.whole (Declared.row Part.the-type), ) (List._∷_ (10, Rows'.sc-here (Row.sInt Syntax.w64)) (List._∷_ ( 11, Rows'.sc-here (Row.sInt Syntax.w32), ) (List._∷_ (12, Rows'.sc-here
-    Row.sBool) (List._∷_ (13, Rows'.sc-here (Row.sInt Syntax.w64)) (List._∷_ ( 14, Rows'.whole (Declared.row BitPosition.the-type), ) (List._∷_ (15, Rows'.sc-here Row.sBool) List.[])))))))))))))))
+t26 = List._∷_ (
+  0,
+  Rows'.any-gone (Syntax.tyStruct (List._∷_ 98 (List._∷_ 108 (List._∷_ 111 (List._∷_ 99 (List._∷_ 107 (List._∷_ 58 (List._∷_ 58 (List._∷_ 87 (List._∷_ 97 (List._∷_ 108 (List._∷_ 107
+      (List._∷_ 101 (List._∷_ 100 List.[]))))))))))))) (Syntax.tcons Syntax.tyBool (Syntax.tcons (Syntax.tyInt Syntax.w64) (Syntax.tcons (Syntax.tyStruct (List._∷_ 98 (List._∷_ 105 (List._∷_ 116 (List._∷_
+      115 (List._∷_ 58 (List._∷_ 58 (List._∷_ 66 (List._∷_ 105 (List._∷_ 116 (List._∷_ 80 (List._∷_ 111 (List._∷_ 115 (List._∷_ 105 (List._∷_ 116 (List._∷_ 105 (List._∷_ 111 (List._∷_ 110
+      List.[]))))))))))))))))) (Syntax.tcons (Syntax.tyInt Syntax.w64) Syntax.tnil)) (Syntax.tcons (Syntax.tyInt Syntax.w64) Syntax.tnil))))),
+) (List._∷_ (
+  1,
+  Rows'.sslice (Referent.rtF (Referent.fInt
+      Syntax.w8)) (Syntax.tyRef (Syntax.named 0) Syntax.imm (Syntax.tyInt Syntax.w8)) 0,
+) (List._∷_ (
+  2,
+  Rows'.sslice (Referent.rtF (Referent.fInt Syntax.w8)) (Syntax.tyRef (Syntax.named 1) Syntax.imm
+      (Syntax.tyInt Syntax.w8)) 1,
+) (List._∷_ (3, Mut.mslice (Referent.rtF (Referent.fInt Syntax.w16)) (Syntax.tyRef (Syntax.named 2) Syntax.mut (Syntax.tyInt Syntax.w16)) 2) (List._∷_ (
+  4,
+  Mut.mslice
+      (Element.type) (Syntax.tyRef (Syntax.named 3) Syntax.mut Element.behind) 3,
+) (List._∷_ (
+  5,
+  Mut.mslice (Referent.rtF (Referent.fInt Syntax.w16)) (Syntax.tyRef (Syntax.named 4) Syntax.mut
+      (Syntax.tyInt Syntax.w16)) 4,
+) (List._∷_ (
+  6,
+  Rows'.any-gone (Syntax.tyStruct (List._∷_ 98 (List._∷_ 108 (List._∷_ 111 (List._∷_ 99 (List._∷_ 107 (List._∷_ 58 (List._∷_ 58 (List._∷_ 70 (List._∷_ 111
+      (List._∷_ 114 (List._∷_ 109 List.[]))))))))))) (Syntax.tcons (Syntax.tyInt Syntax.w32) (Syntax.tcons Syntax.tyBool Syntax.tnil))),
+) (List._∷_ (
+  7,
+  Rows'.sref (Array'.Array (Referent.rtF
+      (Referent.fInt Syntax.w16)) 768) (Syntax.tyRef (Syntax.named 5) Syntax.imm (Syntax.tyArray (Syntax.tyInt Syntax.w16) 768)) 5,
+) (List._∷_ (8, Rows.arrF (Referent.rtF (Referent.fInt Syntax.w8)) 36 0)
+    (List._∷_ (9, Rows'.whole (Declared.row Part.the-type)) (List._∷_ (10, Rows'.sc-here (Row.sInt Syntax.w64)) (List._∷_ (11, Rows'.sc-here (Row.sInt Syntax.w32)) (List._∷_ (
+      12,
+      Rows'.sc-here
+          Row.sBool,
+    ) (List._∷_ (13, Rows'.sc-here (Row.sInt Syntax.w64)) (List._∷_ (14, Rows'.whole (Declared.row BitPosition.the-type)) (List._∷_ (15, Rows'.sc-here Row.sBool) List.[])))))))))))))))
 
 abbrev pub t27 : List.List Row.Entry
-t27 = List._∷_ ( 0, Rows'.any-gone (Syntax.tyStruct (List._∷_ 98 (List._∷_ 108 (List._∷_ 111 (List._∷_ 99 (List._∷_ 107 (List._∷_ 58 (List._∷_ 58 (List._∷_ 87 (List._∷_ 97 (List._∷_ 108 (List._∷_ 107
-    (List._∷_ 101 (List._∷_ 100 List.[]))))))))))))) (Syntax.tcons Syntax.tyBool (Syntax.tcons (Syntax.tyInt Syntax.w64) (Syntax.tcons (Syntax.tyStruct (List._∷_ 98 (List._∷_ 105 (List._∷_ 116 (List._∷_
-    115 (List._∷_ 58 (List._∷_ 58 (List._∷_ 66 (List._∷_ 105 (List._∷_ 116 (List._∷_ 80 (List._∷_ 111 (List._∷_ 115 (List._∷_ 105 (List._∷_ 116 (List._∷_ 105 (List._∷_ 111 (List._∷_ 110
-    List.[]))))))))))))))))) (Syntax.tcons (Syntax.tyInt Syntax.w64) Syntax.tnil)) (Syntax.tcons (Syntax.tyInt Syntax.w64) Syntax.tnil))))), ) (List._∷_ ( 1, Rows'.sslice (Referent.rtF (Referent.fInt
-    Syntax.w8)) (Syntax.tyRef (Syntax.named 0) Syntax.imm (Syntax.tyInt Syntax.w8)) 0, ) (List._∷_ ( 2, Rows'.sslice (Referent.rtF (Referent.fInt Syntax.w8)) (Syntax.tyRef (Syntax.named 1) Syntax.imm
-    (Syntax.tyInt Syntax.w8)) 1, ) (List._∷_ ( 3, Mut.mslice (Referent.rtF (Referent.fInt Syntax.w16)) (Syntax.tyRef (Syntax.named 2) Syntax.mut (Syntax.tyInt Syntax.w16)) 2, ) (List._∷_ ( 4, Mut.mslice
-    (Element.type) (Syntax.tyRef (Syntax.named 3) Syntax.mut Element.behind) 3, ) (List._∷_ ( 5, Mut.mslice (Referent.rtF (Referent.fInt Syntax.w16)) (Syntax.tyRef (Syntax.named 4) Syntax.mut
-    (Syntax.tyInt Syntax.w16)) 4, ) (List._∷_ ( 6, Rows'.any-gone (Syntax.tyStruct (List._∷_ 98 (List._∷_ 108 (List._∷_ 111 (List._∷_ 99 (List._∷_ 107 (List._∷_ 58 (List._∷_ 58 (List._∷_ 70 (List._∷_ 111
-    (List._∷_ 114 (List._∷_ 109 List.[]))))))))))) (Syntax.tcons (Syntax.tyInt Syntax.w32) (Syntax.tcons Syntax.tyBool Syntax.tnil))), ) (List._∷_ ( 7, Rows'.sref (Array'.Array (Referent.rtF
-    (Referent.fInt Syntax.w16)) 768) (Syntax.tyRef (Syntax.named 5) Syntax.imm (Syntax.tyArray (Syntax.tyInt Syntax.w16) 768)) 5, ) (List._∷_ (8, Rows'.any-gone (Syntax.tyArray (Syntax.tyInt Syntax.w8)
-    36)) (List._∷_ ( 9, Rows'.whole (Declared.row Part.the-type), ) (List._∷_ (10, Rows'.sc-here (Row.sInt Syntax.w64)) (List._∷_ ( 11, Rows'.sc-here (Row.sInt Syntax.w32), ) (List._∷_ (12, Rows'.sc-here
-    Row.sBool) (List._∷_ (13, Rows'.sc-here (Row.sInt Syntax.w64)) (List._∷_ ( 14, Rows'.whole (Declared.row BitPosition.the-type), ) (List._∷_ (15, Rows'.sc-here Row.sBool) List.[])))))))))))))))
+t27 = List._∷_ (
+  0,
+  Rows'.any-gone (Syntax.tyStruct (List._∷_ 98 (List._∷_ 108 (List._∷_ 111 (List._∷_ 99 (List._∷_ 107 (List._∷_ 58 (List._∷_ 58 (List._∷_ 87 (List._∷_ 97 (List._∷_ 108 (List._∷_ 107
+      (List._∷_ 101 (List._∷_ 100 List.[]))))))))))))) (Syntax.tcons Syntax.tyBool (Syntax.tcons (Syntax.tyInt Syntax.w64) (Syntax.tcons (Syntax.tyStruct (List._∷_ 98 (List._∷_ 105 (List._∷_ 116 (List._∷_
+      115 (List._∷_ 58 (List._∷_ 58 (List._∷_ 66 (List._∷_ 105 (List._∷_ 116 (List._∷_ 80 (List._∷_ 111 (List._∷_ 115 (List._∷_ 105 (List._∷_ 116 (List._∷_ 105 (List._∷_ 111 (List._∷_ 110
+      List.[]))))))))))))))))) (Syntax.tcons (Syntax.tyInt Syntax.w64) Syntax.tnil)) (Syntax.tcons (Syntax.tyInt Syntax.w64) Syntax.tnil))))),
+) (List._∷_ (
+  1,
+  Rows'.sslice (Referent.rtF (Referent.fInt
+      Syntax.w8)) (Syntax.tyRef (Syntax.named 0) Syntax.imm (Syntax.tyInt Syntax.w8)) 0,
+) (List._∷_ (
+  2,
+  Rows'.sslice (Referent.rtF (Referent.fInt Syntax.w8)) (Syntax.tyRef (Syntax.named 1) Syntax.imm
+      (Syntax.tyInt Syntax.w8)) 1,
+) (List._∷_ (3, Mut.mslice (Referent.rtF (Referent.fInt Syntax.w16)) (Syntax.tyRef (Syntax.named 2) Syntax.mut (Syntax.tyInt Syntax.w16)) 2) (List._∷_ (
+  4,
+  Mut.mslice
+      (Element.type) (Syntax.tyRef (Syntax.named 3) Syntax.mut Element.behind) 3,
+) (List._∷_ (
+  5,
+  Mut.mslice (Referent.rtF (Referent.fInt Syntax.w16)) (Syntax.tyRef (Syntax.named 4) Syntax.mut
+      (Syntax.tyInt Syntax.w16)) 4,
+) (List._∷_ (
+  6,
+  Rows'.any-gone (Syntax.tyStruct (List._∷_ 98 (List._∷_ 108 (List._∷_ 111 (List._∷_ 99 (List._∷_ 107 (List._∷_ 58 (List._∷_ 58 (List._∷_ 70 (List._∷_ 111
+      (List._∷_ 114 (List._∷_ 109 List.[]))))))))))) (Syntax.tcons (Syntax.tyInt Syntax.w32) (Syntax.tcons Syntax.tyBool Syntax.tnil))),
+) (List._∷_ (
+  7,
+  Rows'.sref (Array'.Array (Referent.rtF
+      (Referent.fInt Syntax.w16)) 768) (Syntax.tyRef (Syntax.named 5) Syntax.imm (Syntax.tyArray (Syntax.tyInt Syntax.w16) 768)) 5,
+) (List._∷_ (
+  8,
+  Rows'.any-gone (Syntax.tyArray (Syntax.tyInt Syntax.w8)
+      36),
+) (List._∷_ (9, Rows'.whole (Declared.row Part.the-type)) (List._∷_ (10, Rows'.sc-here (Row.sInt Syntax.w64)) (List._∷_ (11, Rows'.sc-here (Row.sInt Syntax.w32)) (List._∷_ (
+  12,
+  Rows'.sc-here
+      Row.sBool,
+) (List._∷_ (13, Rows'.sc-here (Row.sInt Syntax.w64)) (List._∷_ (14, Rows'.whole (Declared.row BitPosition.the-type)) (List._∷_ (15, Rows'.sc-here Row.sBool) List.[])))))))))))))))
 
 abbrev pub t28 : List.List Row.Entry
-t28 = List._∷_ ( 0, Rows'.any-gone (Syntax.tyStruct (List._∷_ 98 (List._∷_ 108 (List._∷_ 111 (List._∷_ 99 (List._∷_ 107 (List._∷_ 58 (List._∷_ 58 (List._∷_ 87 (List._∷_ 97 (List._∷_ 108 (List._∷_ 107
-    (List._∷_ 101 (List._∷_ 100 List.[]))))))))))))) (Syntax.tcons Syntax.tyBool (Syntax.tcons (Syntax.tyInt Syntax.w64) (Syntax.tcons (Syntax.tyStruct (List._∷_ 98 (List._∷_ 105 (List._∷_ 116 (List._∷_
-    115 (List._∷_ 58 (List._∷_ 58 (List._∷_ 66 (List._∷_ 105 (List._∷_ 116 (List._∷_ 80 (List._∷_ 111 (List._∷_ 115 (List._∷_ 105 (List._∷_ 116 (List._∷_ 105 (List._∷_ 111 (List._∷_ 110
-    List.[]))))))))))))))))) (Syntax.tcons (Syntax.tyInt Syntax.w64) Syntax.tnil)) (Syntax.tcons (Syntax.tyInt Syntax.w64) Syntax.tnil))))), ) (List._∷_ ( 1, Rows'.sslice (Referent.rtF (Referent.fInt
-    Syntax.w8)) (Syntax.tyRef (Syntax.named 0) Syntax.imm (Syntax.tyInt Syntax.w8)) 0, ) (List._∷_ ( 2, Rows'.sslice (Referent.rtF (Referent.fInt Syntax.w8)) (Syntax.tyRef (Syntax.named 1) Syntax.imm
-    (Syntax.tyInt Syntax.w8)) 1, ) (List._∷_ ( 3, Relend.mslice-owed (Referent.rtF (Referent.fInt Syntax.w16)) (Syntax.tyRef (Syntax.named 2) Syntax.mut (Syntax.tyInt Syntax.w16)) 2 8 Row.off, ) (List._∷_
-    ( 4, Mut.mslice (Element.type) (Syntax.tyRef (Syntax.named 3) Syntax.mut Element.behind) 3, ) (List._∷_ ( 5, Mut.mslice (Referent.rtF (Referent.fInt Syntax.w16)) (Syntax.tyRef (Syntax.named 4)
-    Syntax.mut (Syntax.tyInt Syntax.w16)) 4, ) (List._∷_ (6, Rows'.whole (Declared.row Form.the-type)) (List._∷_ ( 7, Rows'.sref (Array'.Array (Referent.rtF (Referent.fInt Syntax.w16)) 768) (Syntax.tyRef
-    (Syntax.named 5) Syntax.imm (Syntax.tyArray (Syntax.tyInt Syntax.w16) 768)) 5, ) (List._∷_ (8, Rows.arrF (Referent.rtF (Referent.fInt Syntax.w8)) 36 0) (List._∷_ ( 9, Rows'.whole (Declared.row
-    Part.the-type), ) (List._∷_ (10, Rows'.sc-here (Row.sInt Syntax.w64)) (List._∷_ ( 11, Rows'.sc-here (Row.sInt Syntax.w32), ) (List._∷_ (12, Rows'.sc-here Row.sBool) (List._∷_ (13, Rows'.sc-here
-    (Row.sInt Syntax.w64)) (List._∷_ ( 14, Rows'.whole (Declared.row BitPosition.the-type), ) (List._∷_ (15, Rows'.sc-here Row.sBool) List.[])))))))))))))))
+t28 = List._∷_ (
+  0,
+  Rows'.any-gone (Syntax.tyStruct (List._∷_ 98 (List._∷_ 108 (List._∷_ 111 (List._∷_ 99 (List._∷_ 107 (List._∷_ 58 (List._∷_ 58 (List._∷_ 87 (List._∷_ 97 (List._∷_ 108 (List._∷_ 107
+      (List._∷_ 101 (List._∷_ 100 List.[]))))))))))))) (Syntax.tcons Syntax.tyBool (Syntax.tcons (Syntax.tyInt Syntax.w64) (Syntax.tcons (Syntax.tyStruct (List._∷_ 98 (List._∷_ 105 (List._∷_ 116 (List._∷_
+      115 (List._∷_ 58 (List._∷_ 58 (List._∷_ 66 (List._∷_ 105 (List._∷_ 116 (List._∷_ 80 (List._∷_ 111 (List._∷_ 115 (List._∷_ 105 (List._∷_ 116 (List._∷_ 105 (List._∷_ 111 (List._∷_ 110
+      List.[]))))))))))))))))) (Syntax.tcons (Syntax.tyInt Syntax.w64) Syntax.tnil)) (Syntax.tcons (Syntax.tyInt Syntax.w64) Syntax.tnil))))),
+) (List._∷_ (
+  1,
+  Rows'.sslice (Referent.rtF (Referent.fInt
+      Syntax.w8)) (Syntax.tyRef (Syntax.named 0) Syntax.imm (Syntax.tyInt Syntax.w8)) 0,
+) (List._∷_ (
+  2,
+  Rows'.sslice (Referent.rtF (Referent.fInt Syntax.w8)) (Syntax.tyRef (Syntax.named 1) Syntax.imm
+      (Syntax.tyInt Syntax.w8)) 1,
+) (List._∷_ (3, Relend.mslice-owed (Referent.rtF (Referent.fInt Syntax.w16)) (Syntax.tyRef (Syntax.named 2) Syntax.mut (Syntax.tyInt Syntax.w16)) 2 8 Row.off) (List._∷_
+    (4, Mut.mslice (Element.type) (Syntax.tyRef (Syntax.named 3) Syntax.mut Element.behind) 3) (List._∷_ (
+      5,
+      Mut.mslice (Referent.rtF (Referent.fInt Syntax.w16)) (Syntax.tyRef (Syntax.named 4)
+          Syntax.mut (Syntax.tyInt Syntax.w16)) 4,
+    ) (List._∷_ (6, Rows'.whole (Declared.row Form.the-type)) (List._∷_ (
+      7,
+      Rows'.sref (Array'.Array (Referent.rtF (Referent.fInt Syntax.w16)) 768) (Syntax.tyRef
+          (Syntax.named 5) Syntax.imm (Syntax.tyArray (Syntax.tyInt Syntax.w16) 768)) 5,
+    ) (List._∷_ (8, Rows.arrF (Referent.rtF (Referent.fInt Syntax.w8)) 36 0) (List._∷_ (
+      9,
+      Rows'.whole (Declared.row
+          Part.the-type),
+    ) (List._∷_ (10, Rows'.sc-here (Row.sInt Syntax.w64)) (List._∷_ (11, Rows'.sc-here (Row.sInt Syntax.w32)) (List._∷_ (12, Rows'.sc-here Row.sBool) (List._∷_ (
+      13,
+      Rows'.sc-here
+          (Row.sInt Syntax.w64),
+    ) (List._∷_ (14, Rows'.whole (Declared.row BitPosition.the-type)) (List._∷_ (15, Rows'.sc-here Row.sBool) List.[])))))))))))))))
 
 abbrev pub t29 : List.List Row.Entry
-t29 = List._∷_ (16, Rows'.sc-here (Row.sInt Syntax.w64)) (List._∷_ ( 17, Rows'.sc-here (Row.sInt Syntax.w64), ) (List._∷_ (18, Rows'.any-gone (Syntax.tyInt Syntax.w32)) (List._∷_ ( 19, Rows'.any-gone
-    (Syntax.tyStruct (List._∷_ 98 (List._∷_ 108 (List._∷_ 111 (List._∷_ 99 (List._∷_ 107 (List._∷_ 58 (List._∷_ 58 (List._∷_ 76 (List._∷_ 105 (List._∷_ 110 (List._∷_ 101 (List._∷_ 100 List.[]))))))))))))
-    (Syntax.tcons Syntax.tyBool (Syntax.tcons Syntax.tyBool (Syntax.tcons (Syntax.tyStruct (List._∷_ 98 (List._∷_ 105 (List._∷_ 116 (List._∷_ 115 (List._∷_ 58 (List._∷_ 58 (List._∷_ 66 (List._∷_ 105
-    (List._∷_ 116 (List._∷_ 80 (List._∷_ 111 (List._∷_ 115 (List._∷_ 105 (List._∷_ 116 (List._∷_ 105 (List._∷_ 111 (List._∷_ 110 List.[]))))))))))))))))) (Syntax.tcons (Syntax.tyInt Syntax.w64)
-    Syntax.tnil)) Syntax.tnil)))), ) (List._∷_ (20, Rows'.any-gone Syntax.tyBool) (List._∷_ (21, Rows'.any-gone Syntax.tyUnit) (List._∷_ ( 22, Rows'.any-gone (Syntax.tyRef Syntax.erased Syntax.mut
-    (Syntax.tyInt Syntax.w16)), ) (List._∷_ ( 23, Rows'.any-gone (Syntax.tyStruct (List._∷_ 38 (List._∷_ 91 (List._∷_ 93 List.[]))) (Syntax.tcons (Syntax.tyRef Syntax.erased Syntax.mut (Syntax.tyInt
-    Syntax.w16)) (Syntax.tcons (Syntax.tyInt Syntax.w64) Syntax.tnil))), ) (List._∷_ ( 24, Rows'.any-gone (Syntax.tyRef Syntax.erased Syntax.mut Element.behind), ) (List._∷_ ( 25, Rows'.any-gone
-    (Syntax.tyStruct (List._∷_ 38 (List._∷_ 91 (List._∷_ 93 List.[]))) (Syntax.tcons (Syntax.tyRef Syntax.erased Syntax.mut Element.behind) (Syntax.tcons (Syntax.tyInt Syntax.w64) Syntax.tnil))), )
-    (List._∷_ (26, Rows'.any-gone (Syntax.tyInt Syntax.w32)) (List._∷_ ( 27, Rows'.any-gone Syntax.tyBool, ) (List._∷_ (28, Rows'.any-gone Syntax.tyUnit) (List._∷_ ( 29, Relend.msptr (Referent.rtF
-    (Referent.fInt Syntax.w16)) (Syntax.tyRef Syntax.erased Syntax.mut (Syntax.tyInt Syntax.w16)) 8, ) (List._∷_ ( 30, Rows'.any-gone (Syntax.tyStruct (List._∷_ 38 (List._∷_ 91 (List._∷_ 93 List.[])))
-    (Syntax.tcons (Syntax.tyRef Syntax.erased Syntax.mut (Syntax.tyInt Syntax.w16)) (Syntax.tcons (Syntax.tyInt Syntax.w64) Syntax.tnil))), ) (List._∷_ ( 31, Rows'.any-gone (Syntax.tyRef Syntax.erased
-    Syntax.mut Element.behind), ) List.[])))))))))))))))
+t29 = List._∷_ (16, Rows'.sc-here (Row.sInt Syntax.w64)) (List._∷_ (17, Rows'.sc-here (Row.sInt Syntax.w64)) (List._∷_ (18, Rows'.any-gone (Syntax.tyInt Syntax.w32)) (List._∷_ (
+  19,
+  Rows'.any-gone
+      (Syntax.tyStruct (List._∷_ 98 (List._∷_ 108 (List._∷_ 111 (List._∷_ 99 (List._∷_ 107 (List._∷_ 58 (List._∷_ 58 (List._∷_ 76 (List._∷_ 105 (List._∷_ 110 (List._∷_ 101 (List._∷_ 100 List.[]))))))))))))
+      (Syntax.tcons Syntax.tyBool (Syntax.tcons Syntax.tyBool (Syntax.tcons (Syntax.tyStruct (List._∷_ 98 (List._∷_ 105 (List._∷_ 116 (List._∷_ 115 (List._∷_ 58 (List._∷_ 58 (List._∷_ 66 (List._∷_ 105
+      (List._∷_ 116 (List._∷_ 80 (List._∷_ 111 (List._∷_ 115 (List._∷_ 105 (List._∷_ 116 (List._∷_ 105 (List._∷_ 111 (List._∷_ 110 List.[]))))))))))))))))) (Syntax.tcons (Syntax.tyInt Syntax.w64)
+      Syntax.tnil)) Syntax.tnil)))),
+) (List._∷_ (20, Rows'.any-gone Syntax.tyBool) (List._∷_ (21, Rows'.any-gone Syntax.tyUnit) (List._∷_ (
+  22,
+  Rows'.any-gone (Syntax.tyRef Syntax.erased Syntax.mut
+      (Syntax.tyInt Syntax.w16)),
+) (List._∷_ (
+  23,
+  Rows'.any-gone (Syntax.tyStruct (List._∷_ 38 (List._∷_ 91 (List._∷_ 93 List.[]))) (Syntax.tcons (Syntax.tyRef Syntax.erased Syntax.mut (Syntax.tyInt
+      Syntax.w16)) (Syntax.tcons (Syntax.tyInt Syntax.w64) Syntax.tnil))),
+) (List._∷_ (24, Rows'.any-gone (Syntax.tyRef Syntax.erased Syntax.mut Element.behind)) (List._∷_ (
+  25,
+  Rows'.any-gone
+      (Syntax.tyStruct (List._∷_ 38 (List._∷_ 91 (List._∷_ 93 List.[]))) (Syntax.tcons (Syntax.tyRef Syntax.erased Syntax.mut Element.behind) (Syntax.tcons (Syntax.tyInt Syntax.w64) Syntax.tnil))),
+)
+    (List._∷_ (26, Rows'.any-gone (Syntax.tyInt Syntax.w32)) (List._∷_ (27, Rows'.any-gone Syntax.tyBool) (List._∷_ (28, Rows'.any-gone Syntax.tyUnit) (List._∷_ (
+      29,
+      Relend.msptr (Referent.rtF
+          (Referent.fInt Syntax.w16)) (Syntax.tyRef Syntax.erased Syntax.mut (Syntax.tyInt Syntax.w16)) 8,
+    ) (List._∷_ (
+      30,
+      Rows'.any-gone (Syntax.tyStruct (List._∷_ 38 (List._∷_ 91 (List._∷_ 93 List.[])))
+          (Syntax.tcons (Syntax.tyRef Syntax.erased Syntax.mut (Syntax.tyInt Syntax.w16)) (Syntax.tcons (Syntax.tyInt Syntax.w64) Syntax.tnil))),
+    ) (List._∷_ (
+      31,
+      Rows'.any-gone (Syntax.tyRef Syntax.erased
+          Syntax.mut Element.behind),
+    ) List.[])))))))))))))))
 
 abbrev pub t30 : List.List Row.Entry
-t30 = List._∷_ (16, Rows'.sc-here (Row.sInt Syntax.w64)) (List._∷_ ( 17, Rows'.sc-here (Row.sInt Syntax.w64), ) (List._∷_ (18, Rows'.any-gone (Syntax.tyInt Syntax.w32)) (List._∷_ ( 19, Rows'.any-gone
-    (Syntax.tyStruct (List._∷_ 98 (List._∷_ 108 (List._∷_ 111 (List._∷_ 99 (List._∷_ 107 (List._∷_ 58 (List._∷_ 58 (List._∷_ 76 (List._∷_ 105 (List._∷_ 110 (List._∷_ 101 (List._∷_ 100 List.[]))))))))))))
-    (Syntax.tcons Syntax.tyBool (Syntax.tcons Syntax.tyBool (Syntax.tcons (Syntax.tyStruct (List._∷_ 98 (List._∷_ 105 (List._∷_ 116 (List._∷_ 115 (List._∷_ 58 (List._∷_ 58 (List._∷_ 66 (List._∷_ 105
-    (List._∷_ 116 (List._∷_ 80 (List._∷_ 111 (List._∷_ 115 (List._∷_ 105 (List._∷_ 116 (List._∷_ 105 (List._∷_ 111 (List._∷_ 110 List.[]))))))))))))))))) (Syntax.tcons (Syntax.tyInt Syntax.w64)
-    Syntax.tnil)) Syntax.tnil)))), ) (List._∷_ (20, Rows'.any-gone Syntax.tyBool) (List._∷_ (21, Rows'.any-gone Syntax.tyUnit) (List._∷_ ( 22, Rows'.any-gone (Syntax.tyRef Syntax.erased Syntax.mut
-    (Syntax.tyInt Syntax.w16)), ) (List._∷_ ( 23, Rows'.any-gone (Syntax.tyStruct (List._∷_ 38 (List._∷_ 91 (List._∷_ 93 List.[]))) (Syntax.tcons (Syntax.tyRef Syntax.erased Syntax.mut (Syntax.tyInt
-    Syntax.w16)) (Syntax.tcons (Syntax.tyInt Syntax.w64) Syntax.tnil))), ) (List._∷_ ( 24, Rows'.any-gone (Syntax.tyRef Syntax.erased Syntax.mut Element.behind), ) (List._∷_ ( 25, Rows'.any-gone
-    (Syntax.tyStruct (List._∷_ 38 (List._∷_ 91 (List._∷_ 93 List.[]))) (Syntax.tcons (Syntax.tyRef Syntax.erased Syntax.mut Element.behind) (Syntax.tcons (Syntax.tyInt Syntax.w64) Syntax.tnil))), )
-    (List._∷_ (26, Rows'.any-gone (Syntax.tyInt Syntax.w32)) (List._∷_ ( 27, Rows'.any-gone Syntax.tyBool, ) (List._∷_ (28, Rows'.any-gone Syntax.tyUnit) (List._∷_ ( 29, Rows'.any-gone (Syntax.tyRef
-    Syntax.erased Syntax.mut (Syntax.tyInt Syntax.w16)), ) (List._∷_ ( 30, Mut.mslice (Referent.rtF (Referent.fInt Syntax.w16)) (Syntax.tyRef Syntax.erased Syntax.mut (Syntax.tyInt Syntax.w16)) 8, )
-    (List._∷_ ( 31, Rows'.any-gone (Syntax.tyRef Syntax.erased Syntax.mut Element.behind), ) List.[])))))))))))))))
+t30 = List._∷_ (16, Rows'.sc-here (Row.sInt Syntax.w64)) (List._∷_ (17, Rows'.sc-here (Row.sInt Syntax.w64)) (List._∷_ (18, Rows'.any-gone (Syntax.tyInt Syntax.w32)) (List._∷_ (
+  19,
+  Rows'.any-gone
+      (Syntax.tyStruct (List._∷_ 98 (List._∷_ 108 (List._∷_ 111 (List._∷_ 99 (List._∷_ 107 (List._∷_ 58 (List._∷_ 58 (List._∷_ 76 (List._∷_ 105 (List._∷_ 110 (List._∷_ 101 (List._∷_ 100 List.[]))))))))))))
+      (Syntax.tcons Syntax.tyBool (Syntax.tcons Syntax.tyBool (Syntax.tcons (Syntax.tyStruct (List._∷_ 98 (List._∷_ 105 (List._∷_ 116 (List._∷_ 115 (List._∷_ 58 (List._∷_ 58 (List._∷_ 66 (List._∷_ 105
+      (List._∷_ 116 (List._∷_ 80 (List._∷_ 111 (List._∷_ 115 (List._∷_ 105 (List._∷_ 116 (List._∷_ 105 (List._∷_ 111 (List._∷_ 110 List.[]))))))))))))))))) (Syntax.tcons (Syntax.tyInt Syntax.w64)
+      Syntax.tnil)) Syntax.tnil)))),
+) (List._∷_ (20, Rows'.any-gone Syntax.tyBool) (List._∷_ (21, Rows'.any-gone Syntax.tyUnit) (List._∷_ (
+  22,
+  Rows'.any-gone (Syntax.tyRef Syntax.erased Syntax.mut
+      (Syntax.tyInt Syntax.w16)),
+) (List._∷_ (
+  23,
+  Rows'.any-gone (Syntax.tyStruct (List._∷_ 38 (List._∷_ 91 (List._∷_ 93 List.[]))) (Syntax.tcons (Syntax.tyRef Syntax.erased Syntax.mut (Syntax.tyInt
+      Syntax.w16)) (Syntax.tcons (Syntax.tyInt Syntax.w64) Syntax.tnil))),
+) (List._∷_ (24, Rows'.any-gone (Syntax.tyRef Syntax.erased Syntax.mut Element.behind)) (List._∷_ (
+  25,
+  Rows'.any-gone
+      (Syntax.tyStruct (List._∷_ 38 (List._∷_ 91 (List._∷_ 93 List.[]))) (Syntax.tcons (Syntax.tyRef Syntax.erased Syntax.mut Element.behind) (Syntax.tcons (Syntax.tyInt Syntax.w64) Syntax.tnil))),
+)
+    (List._∷_ (26, Rows'.any-gone (Syntax.tyInt Syntax.w32)) (List._∷_ (27, Rows'.any-gone Syntax.tyBool) (List._∷_ (28, Rows'.any-gone Syntax.tyUnit) (List._∷_ (
+      29,
+      Rows'.any-gone (Syntax.tyRef
+          Syntax.erased Syntax.mut (Syntax.tyInt Syntax.w16)),
+    ) (List._∷_ (30, Mut.mslice (Referent.rtF (Referent.fInt Syntax.w16)) (Syntax.tyRef Syntax.erased Syntax.mut (Syntax.tyInt Syntax.w16)) 8)
+    (List._∷_ (31, Rows'.any-gone (Syntax.tyRef Syntax.erased Syntax.mut Element.behind)) List.[])))))))))))))))
 
 abbrev pub t31 : List.List Row.Entry
-t31 = List._∷_ (16, Rows'.sc-here (Row.sInt Syntax.w64)) (List._∷_ ( 17, Rows'.sc-here (Row.sInt Syntax.w64), ) (List._∷_ (18, Rows'.any-gone (Syntax.tyInt Syntax.w32)) (List._∷_ ( 19, Rows'.any-gone
-    (Syntax.tyStruct (List._∷_ 98 (List._∷_ 108 (List._∷_ 111 (List._∷_ 99 (List._∷_ 107 (List._∷_ 58 (List._∷_ 58 (List._∷_ 76 (List._∷_ 105 (List._∷_ 110 (List._∷_ 101 (List._∷_ 100 List.[]))))))))))))
-    (Syntax.tcons Syntax.tyBool (Syntax.tcons Syntax.tyBool (Syntax.tcons (Syntax.tyStruct (List._∷_ 98 (List._∷_ 105 (List._∷_ 116 (List._∷_ 115 (List._∷_ 58 (List._∷_ 58 (List._∷_ 66 (List._∷_ 105
-    (List._∷_ 116 (List._∷_ 80 (List._∷_ 111 (List._∷_ 115 (List._∷_ 105 (List._∷_ 116 (List._∷_ 105 (List._∷_ 111 (List._∷_ 110 List.[]))))))))))))))))) (Syntax.tcons (Syntax.tyInt Syntax.w64)
-    Syntax.tnil)) Syntax.tnil)))), ) (List._∷_ (20, Rows'.any-gone Syntax.tyBool) (List._∷_ (21, Rows'.any-gone Syntax.tyUnit) (List._∷_ ( 22, Rows'.any-gone (Syntax.tyRef Syntax.erased Syntax.mut
-    (Syntax.tyInt Syntax.w16)), ) (List._∷_ ( 23, Rows'.any-gone (Syntax.tyStruct (List._∷_ 38 (List._∷_ 91 (List._∷_ 93 List.[]))) (Syntax.tcons (Syntax.tyRef Syntax.erased Syntax.mut (Syntax.tyInt
-    Syntax.w16)) (Syntax.tcons (Syntax.tyInt Syntax.w64) Syntax.tnil))), ) (List._∷_ ( 24, Rows'.any-gone (Syntax.tyRef Syntax.erased Syntax.mut Element.behind), ) (List._∷_ ( 25, Rows'.any-gone
-    (Syntax.tyStruct (List._∷_ 38 (List._∷_ 91 (List._∷_ 93 List.[]))) (Syntax.tcons (Syntax.tyRef Syntax.erased Syntax.mut Element.behind) (Syntax.tcons (Syntax.tyInt Syntax.w64) Syntax.tnil))), )
-    (List._∷_ (26, Rows'.any-gone (Syntax.tyInt Syntax.w32)) (List._∷_ ( 27, Rows'.any-gone Syntax.tyBool, ) (List._∷_ (28, Rows'.sc-here Row.sUnit) (List._∷_ ( 29, Rows'.any-gone (Syntax.tyRef
-    Syntax.erased Syntax.mut (Syntax.tyInt Syntax.w16)), ) (List._∷_ ( 30, Mut.msleft (Referent.rtF (Referent.fInt Syntax.w16)) (Syntax.tyRef Syntax.erased Syntax.mut (Syntax.tyInt Syntax.w16)), )
-    (List._∷_ ( 31, Rows'.any-gone (Syntax.tyRef Syntax.erased Syntax.mut Element.behind), ) List.[])))))))))))))))
+t31 = List._∷_ (16, Rows'.sc-here (Row.sInt Syntax.w64)) (List._∷_ (17, Rows'.sc-here (Row.sInt Syntax.w64)) (List._∷_ (18, Rows'.any-gone (Syntax.tyInt Syntax.w32)) (List._∷_ (
+  19,
+  Rows'.any-gone
+      (Syntax.tyStruct (List._∷_ 98 (List._∷_ 108 (List._∷_ 111 (List._∷_ 99 (List._∷_ 107 (List._∷_ 58 (List._∷_ 58 (List._∷_ 76 (List._∷_ 105 (List._∷_ 110 (List._∷_ 101 (List._∷_ 100 List.[]))))))))))))
+      (Syntax.tcons Syntax.tyBool (Syntax.tcons Syntax.tyBool (Syntax.tcons (Syntax.tyStruct (List._∷_ 98 (List._∷_ 105 (List._∷_ 116 (List._∷_ 115 (List._∷_ 58 (List._∷_ 58 (List._∷_ 66 (List._∷_ 105
+      (List._∷_ 116 (List._∷_ 80 (List._∷_ 111 (List._∷_ 115 (List._∷_ 105 (List._∷_ 116 (List._∷_ 105 (List._∷_ 111 (List._∷_ 110 List.[]))))))))))))))))) (Syntax.tcons (Syntax.tyInt Syntax.w64)
+      Syntax.tnil)) Syntax.tnil)))),
+) (List._∷_ (20, Rows'.any-gone Syntax.tyBool) (List._∷_ (21, Rows'.any-gone Syntax.tyUnit) (List._∷_ (
+  22,
+  Rows'.any-gone (Syntax.tyRef Syntax.erased Syntax.mut
+      (Syntax.tyInt Syntax.w16)),
+) (List._∷_ (
+  23,
+  Rows'.any-gone (Syntax.tyStruct (List._∷_ 38 (List._∷_ 91 (List._∷_ 93 List.[]))) (Syntax.tcons (Syntax.tyRef Syntax.erased Syntax.mut (Syntax.tyInt
+      Syntax.w16)) (Syntax.tcons (Syntax.tyInt Syntax.w64) Syntax.tnil))),
+) (List._∷_ (24, Rows'.any-gone (Syntax.tyRef Syntax.erased Syntax.mut Element.behind)) (List._∷_ (
+  25,
+  Rows'.any-gone
+      (Syntax.tyStruct (List._∷_ 38 (List._∷_ 91 (List._∷_ 93 List.[]))) (Syntax.tcons (Syntax.tyRef Syntax.erased Syntax.mut Element.behind) (Syntax.tcons (Syntax.tyInt Syntax.w64) Syntax.tnil))),
+)
+    (List._∷_ (26, Rows'.any-gone (Syntax.tyInt Syntax.w32)) (List._∷_ (27, Rows'.any-gone Syntax.tyBool) (List._∷_ (28, Rows'.sc-here Row.sUnit) (List._∷_ (
+      29,
+      Rows'.any-gone (Syntax.tyRef
+          Syntax.erased Syntax.mut (Syntax.tyInt Syntax.w16)),
+    ) (List._∷_ (30, Mut.msleft (Referent.rtF (Referent.fInt Syntax.w16)) (Syntax.tyRef Syntax.erased Syntax.mut (Syntax.tyInt Syntax.w16)))
+    (List._∷_ (31, Rows'.any-gone (Syntax.tyRef Syntax.erased Syntax.mut Element.behind)) List.[])))))))))))))))
 
 abbrev pub t32 : List.List Row.Entry
-t32 = List._∷_ (16, Rows'.sc-here (Row.sInt Syntax.w64)) (List._∷_ ( 17, Rows'.sc-here (Row.sInt Syntax.w64), ) (List._∷_ (18, Rows'.any-gone (Syntax.tyInt Syntax.w32)) (List._∷_ ( 19, Rows'.any-gone
-    (Syntax.tyStruct (List._∷_ 98 (List._∷_ 108 (List._∷_ 111 (List._∷_ 99 (List._∷_ 107 (List._∷_ 58 (List._∷_ 58 (List._∷_ 76 (List._∷_ 105 (List._∷_ 110 (List._∷_ 101 (List._∷_ 100 List.[]))))))))))))
-    (Syntax.tcons Syntax.tyBool (Syntax.tcons Syntax.tyBool (Syntax.tcons (Syntax.tyStruct (List._∷_ 98 (List._∷_ 105 (List._∷_ 116 (List._∷_ 115 (List._∷_ 58 (List._∷_ 58 (List._∷_ 66 (List._∷_ 105
-    (List._∷_ 116 (List._∷_ 80 (List._∷_ 111 (List._∷_ 115 (List._∷_ 105 (List._∷_ 116 (List._∷_ 105 (List._∷_ 111 (List._∷_ 110 List.[]))))))))))))))))) (Syntax.tcons (Syntax.tyInt Syntax.w64)
-    Syntax.tnil)) Syntax.tnil)))), ) (List._∷_ (20, Rows'.any-gone Syntax.tyBool) (List._∷_ (21, Rows'.any-gone Syntax.tyUnit) (List._∷_ ( 22, Rows'.any-gone (Syntax.tyRef Syntax.erased Syntax.mut
-    (Syntax.tyInt Syntax.w16)), ) (List._∷_ ( 23, Rows'.any-gone (Syntax.tyStruct (List._∷_ 38 (List._∷_ 91 (List._∷_ 93 List.[]))) (Syntax.tcons (Syntax.tyRef Syntax.erased Syntax.mut (Syntax.tyInt
-    Syntax.w16)) (Syntax.tcons (Syntax.tyInt Syntax.w64) Syntax.tnil))), ) (List._∷_ ( 24, Rows'.any-gone (Syntax.tyRef Syntax.erased Syntax.mut Element.behind), ) (List._∷_ ( 25, Rows'.any-gone
-    (Syntax.tyStruct (List._∷_ 38 (List._∷_ 91 (List._∷_ 93 List.[]))) (Syntax.tcons (Syntax.tyRef Syntax.erased Syntax.mut Element.behind) (Syntax.tcons (Syntax.tyInt Syntax.w64) Syntax.tnil))), )
-    (List._∷_ (26, Rows'.any-gone (Syntax.tyInt Syntax.w32)) (List._∷_ ( 27, Rows'.any-gone Syntax.tyBool, ) (List._∷_ (28, Rows'.any-gone Syntax.tyUnit) (List._∷_ ( 29, Rows'.any-gone (Syntax.tyRef
-    Syntax.erased Syntax.mut (Syntax.tyInt Syntax.w16)), ) (List._∷_ ( 30, Mut.msleft (Referent.rtF (Referent.fInt Syntax.w16)) (Syntax.tyRef Syntax.erased Syntax.mut (Syntax.tyInt Syntax.w16)), )
-    (List._∷_ ( 31, Rows'.any-gone (Syntax.tyRef Syntax.erased Syntax.mut Element.behind), ) List.[])))))))))))))))
+t32 = List._∷_ (16, Rows'.sc-here (Row.sInt Syntax.w64)) (List._∷_ (17, Rows'.sc-here (Row.sInt Syntax.w64)) (List._∷_ (18, Rows'.any-gone (Syntax.tyInt Syntax.w32)) (List._∷_ (
+  19,
+  Rows'.any-gone
+      (Syntax.tyStruct (List._∷_ 98 (List._∷_ 108 (List._∷_ 111 (List._∷_ 99 (List._∷_ 107 (List._∷_ 58 (List._∷_ 58 (List._∷_ 76 (List._∷_ 105 (List._∷_ 110 (List._∷_ 101 (List._∷_ 100 List.[]))))))))))))
+      (Syntax.tcons Syntax.tyBool (Syntax.tcons Syntax.tyBool (Syntax.tcons (Syntax.tyStruct (List._∷_ 98 (List._∷_ 105 (List._∷_ 116 (List._∷_ 115 (List._∷_ 58 (List._∷_ 58 (List._∷_ 66 (List._∷_ 105
+      (List._∷_ 116 (List._∷_ 80 (List._∷_ 111 (List._∷_ 115 (List._∷_ 105 (List._∷_ 116 (List._∷_ 105 (List._∷_ 111 (List._∷_ 110 List.[]))))))))))))))))) (Syntax.tcons (Syntax.tyInt Syntax.w64)
+      Syntax.tnil)) Syntax.tnil)))),
+) (List._∷_ (20, Rows'.any-gone Syntax.tyBool) (List._∷_ (21, Rows'.any-gone Syntax.tyUnit) (List._∷_ (
+  22,
+  Rows'.any-gone (Syntax.tyRef Syntax.erased Syntax.mut
+      (Syntax.tyInt Syntax.w16)),
+) (List._∷_ (
+  23,
+  Rows'.any-gone (Syntax.tyStruct (List._∷_ 38 (List._∷_ 91 (List._∷_ 93 List.[]))) (Syntax.tcons (Syntax.tyRef Syntax.erased Syntax.mut (Syntax.tyInt
+      Syntax.w16)) (Syntax.tcons (Syntax.tyInt Syntax.w64) Syntax.tnil))),
+) (List._∷_ (24, Rows'.any-gone (Syntax.tyRef Syntax.erased Syntax.mut Element.behind)) (List._∷_ (
+  25,
+  Rows'.any-gone
+      (Syntax.tyStruct (List._∷_ 38 (List._∷_ 91 (List._∷_ 93 List.[]))) (Syntax.tcons (Syntax.tyRef Syntax.erased Syntax.mut Element.behind) (Syntax.tcons (Syntax.tyInt Syntax.w64) Syntax.tnil))),
+)
+    (List._∷_ (26, Rows'.any-gone (Syntax.tyInt Syntax.w32)) (List._∷_ (27, Rows'.any-gone Syntax.tyBool) (List._∷_ (28, Rows'.any-gone Syntax.tyUnit) (List._∷_ (
+      29,
+      Rows'.any-gone (Syntax.tyRef
+          Syntax.erased Syntax.mut (Syntax.tyInt Syntax.w16)),
+    ) (List._∷_ (30, Mut.msleft (Referent.rtF (Referent.fInt Syntax.w16)) (Syntax.tyRef Syntax.erased Syntax.mut (Syntax.tyInt Syntax.w16)))
+    (List._∷_ (31, Rows'.any-gone (Syntax.tyRef Syntax.erased Syntax.mut Element.behind)) List.[])))))))))))))))
 
 abbrev pub t33 : List.List Row.Entry
-t33 = List._∷_ (16, Rows'.sc-here (Row.sInt Syntax.w64)) (List._∷_ ( 17, Rows'.sc-here (Row.sInt Syntax.w64), ) (List._∷_ (18, Rows'.sc-here (Row.sInt Syntax.w32)) (List._∷_ ( 19, Rows'.any-gone
-    (Syntax.tyStruct (List._∷_ 98 (List._∷_ 108 (List._∷_ 111 (List._∷_ 99 (List._∷_ 107 (List._∷_ 58 (List._∷_ 58 (List._∷_ 76 (List._∷_ 105 (List._∷_ 110 (List._∷_ 101 (List._∷_ 100 List.[]))))))))))))
-    (Syntax.tcons Syntax.tyBool (Syntax.tcons Syntax.tyBool (Syntax.tcons (Syntax.tyStruct (List._∷_ 98 (List._∷_ 105 (List._∷_ 116 (List._∷_ 115 (List._∷_ 58 (List._∷_ 58 (List._∷_ 66 (List._∷_ 105
-    (List._∷_ 116 (List._∷_ 80 (List._∷_ 111 (List._∷_ 115 (List._∷_ 105 (List._∷_ 116 (List._∷_ 105 (List._∷_ 111 (List._∷_ 110 List.[]))))))))))))))))) (Syntax.tcons (Syntax.tyInt Syntax.w64)
-    Syntax.tnil)) Syntax.tnil)))), ) (List._∷_ (20, Rows'.any-gone Syntax.tyBool) (List._∷_ (21, Rows'.any-gone Syntax.tyUnit) (List._∷_ ( 22, Rows'.any-gone (Syntax.tyRef Syntax.erased Syntax.mut
-    (Syntax.tyInt Syntax.w16)), ) (List._∷_ ( 23, Rows'.any-gone (Syntax.tyStruct (List._∷_ 38 (List._∷_ 91 (List._∷_ 93 List.[]))) (Syntax.tcons (Syntax.tyRef Syntax.erased Syntax.mut (Syntax.tyInt
-    Syntax.w16)) (Syntax.tcons (Syntax.tyInt Syntax.w64) Syntax.tnil))), ) (List._∷_ ( 24, Rows'.any-gone (Syntax.tyRef Syntax.erased Syntax.mut Element.behind), ) (List._∷_ ( 25, Rows'.any-gone
-    (Syntax.tyStruct (List._∷_ 38 (List._∷_ 91 (List._∷_ 93 List.[]))) (Syntax.tcons (Syntax.tyRef Syntax.erased Syntax.mut Element.behind) (Syntax.tcons (Syntax.tyInt Syntax.w64) Syntax.tnil))), )
-    (List._∷_ (26, Rows'.any-gone (Syntax.tyInt Syntax.w32)) (List._∷_ ( 27, Rows'.any-gone Syntax.tyBool, ) (List._∷_ (28, Rows'.any-gone Syntax.tyUnit) (List._∷_ ( 29, Rows'.any-gone (Syntax.tyRef
-    Syntax.erased Syntax.mut (Syntax.tyInt Syntax.w16)), ) (List._∷_ ( 30, Rows'.any-gone (Syntax.tyStruct (List._∷_ 38 (List._∷_ 91 (List._∷_ 93 List.[]))) (Syntax.tcons (Syntax.tyRef Syntax.erased
-    Syntax.mut (Syntax.tyInt Syntax.w16)) (Syntax.tcons (Syntax.tyInt Syntax.w64) Syntax.tnil))), ) (List._∷_ ( 31, Rows'.any-gone (Syntax.tyRef Syntax.erased Syntax.mut Element.behind), )
+t33 = List._∷_ (16, Rows'.sc-here (Row.sInt Syntax.w64)) (List._∷_ (17, Rows'.sc-here (Row.sInt Syntax.w64)) (List._∷_ (18, Rows'.sc-here (Row.sInt Syntax.w32)) (List._∷_ (
+  19,
+  Rows'.any-gone
+      (Syntax.tyStruct (List._∷_ 98 (List._∷_ 108 (List._∷_ 111 (List._∷_ 99 (List._∷_ 107 (List._∷_ 58 (List._∷_ 58 (List._∷_ 76 (List._∷_ 105 (List._∷_ 110 (List._∷_ 101 (List._∷_ 100 List.[]))))))))))))
+      (Syntax.tcons Syntax.tyBool (Syntax.tcons Syntax.tyBool (Syntax.tcons (Syntax.tyStruct (List._∷_ 98 (List._∷_ 105 (List._∷_ 116 (List._∷_ 115 (List._∷_ 58 (List._∷_ 58 (List._∷_ 66 (List._∷_ 105
+      (List._∷_ 116 (List._∷_ 80 (List._∷_ 111 (List._∷_ 115 (List._∷_ 105 (List._∷_ 116 (List._∷_ 105 (List._∷_ 111 (List._∷_ 110 List.[]))))))))))))))))) (Syntax.tcons (Syntax.tyInt Syntax.w64)
+      Syntax.tnil)) Syntax.tnil)))),
+) (List._∷_ (20, Rows'.any-gone Syntax.tyBool) (List._∷_ (21, Rows'.any-gone Syntax.tyUnit) (List._∷_ (
+  22,
+  Rows'.any-gone (Syntax.tyRef Syntax.erased Syntax.mut
+      (Syntax.tyInt Syntax.w16)),
+) (List._∷_ (
+  23,
+  Rows'.any-gone (Syntax.tyStruct (List._∷_ 38 (List._∷_ 91 (List._∷_ 93 List.[]))) (Syntax.tcons (Syntax.tyRef Syntax.erased Syntax.mut (Syntax.tyInt
+      Syntax.w16)) (Syntax.tcons (Syntax.tyInt Syntax.w64) Syntax.tnil))),
+) (List._∷_ (24, Rows'.any-gone (Syntax.tyRef Syntax.erased Syntax.mut Element.behind)) (List._∷_ (
+  25,
+  Rows'.any-gone
+      (Syntax.tyStruct (List._∷_ 38 (List._∷_ 91 (List._∷_ 93 List.[]))) (Syntax.tcons (Syntax.tyRef Syntax.erased Syntax.mut Element.behind) (Syntax.tcons (Syntax.tyInt Syntax.w64) Syntax.tnil))),
+)
+    (List._∷_ (26, Rows'.any-gone (Syntax.tyInt Syntax.w32)) (List._∷_ (27, Rows'.any-gone Syntax.tyBool) (List._∷_ (28, Rows'.any-gone Syntax.tyUnit) (List._∷_ (
+      29,
+      Rows'.any-gone (Syntax.tyRef
+          Syntax.erased Syntax.mut (Syntax.tyInt Syntax.w16)),
+    ) (List._∷_ (
+      30,
+      Rows'.any-gone (Syntax.tyStruct (List._∷_ 38 (List._∷_ 91 (List._∷_ 93 List.[]))) (Syntax.tcons (Syntax.tyRef Syntax.erased
+          Syntax.mut (Syntax.tyInt Syntax.w16)) (Syntax.tcons (Syntax.tyInt Syntax.w64) Syntax.tnil))),
+    ) (List._∷_ (31, Rows'.any-gone (Syntax.tyRef Syntax.erased Syntax.mut Element.behind))
     List.[])))))))))))))))
 
 abbrev pub t34 : List.List Row.Entry
-t34 = List._∷_ ( 0, Rows'.any-gone (Syntax.tyStruct (List._∷_ 98 (List._∷_ 108 (List._∷_ 111 (List._∷_ 99 (List._∷_ 107 (List._∷_ 58 (List._∷_ 58 (List._∷_ 87 (List._∷_ 97 (List._∷_ 108 (List._∷_ 107
-    (List._∷_ 101 (List._∷_ 100 List.[]))))))))))))) (Syntax.tcons Syntax.tyBool (Syntax.tcons (Syntax.tyInt Syntax.w64) (Syntax.tcons (Syntax.tyStruct (List._∷_ 98 (List._∷_ 105 (List._∷_ 116 (List._∷_
-    115 (List._∷_ 58 (List._∷_ 58 (List._∷_ 66 (List._∷_ 105 (List._∷_ 116 (List._∷_ 80 (List._∷_ 111 (List._∷_ 115 (List._∷_ 105 (List._∷_ 116 (List._∷_ 105 (List._∷_ 111 (List._∷_ 110
-    List.[]))))))))))))))))) (Syntax.tcons (Syntax.tyInt Syntax.w64) Syntax.tnil)) (Syntax.tcons (Syntax.tyInt Syntax.w64) Syntax.tnil))))), ) (List._∷_ ( 1, Rows'.sslice (Referent.rtF (Referent.fInt
-    Syntax.w8)) (Syntax.tyRef (Syntax.named 0) Syntax.imm (Syntax.tyInt Syntax.w8)) 0, ) (List._∷_ ( 2, Rows'.sslice (Referent.rtF (Referent.fInt Syntax.w8)) (Syntax.tyRef (Syntax.named 1) Syntax.imm
-    (Syntax.tyInt Syntax.w8)) 1, ) (List._∷_ ( 3, Mut.mslice (Referent.rtF (Referent.fInt Syntax.w16)) (Syntax.tyRef (Syntax.named 2) Syntax.mut (Syntax.tyInt Syntax.w16)) 2, ) (List._∷_ ( 4,
-    Relend.mslice-owed (Element.type) (Syntax.tyRef (Syntax.named 3) Syntax.mut Element.behind) 3 9 Row.off, ) (List._∷_ ( 5, Mut.mslice (Referent.rtF (Referent.fInt Syntax.w16)) (Syntax.tyRef
-    (Syntax.named 4) Syntax.mut (Syntax.tyInt Syntax.w16)) 4, ) (List._∷_ (6, Rows'.whole (Declared.row Form.the-type)) (List._∷_ ( 7, Rows'.sref (Array'.Array (Referent.rtF (Referent.fInt Syntax.w16))
-    768) (Syntax.tyRef (Syntax.named 5) Syntax.imm (Syntax.tyArray (Syntax.tyInt Syntax.w16) 768)) 5, ) (List._∷_ (8, Rows.arrF (Referent.rtF (Referent.fInt Syntax.w8)) 36 0) (List._∷_ ( 9, Rows'.whole
-    (Declared.row Part.the-type), ) (List._∷_ (10, Rows'.sc-here (Row.sInt Syntax.w64)) (List._∷_ ( 11, Rows'.sc-here (Row.sInt Syntax.w32), ) (List._∷_ (12, Rows'.sc-here Row.sBool) (List._∷_ (13,
-    Rows'.sc-here (Row.sInt Syntax.w64)) (List._∷_ ( 14, Rows'.whole (Declared.row BitPosition.the-type), ) (List._∷_ (15, Rows'.sc-here Row.sBool) List.[])))))))))))))))
+t34 = List._∷_ (
+  0,
+  Rows'.any-gone (Syntax.tyStruct (List._∷_ 98 (List._∷_ 108 (List._∷_ 111 (List._∷_ 99 (List._∷_ 107 (List._∷_ 58 (List._∷_ 58 (List._∷_ 87 (List._∷_ 97 (List._∷_ 108 (List._∷_ 107
+      (List._∷_ 101 (List._∷_ 100 List.[]))))))))))))) (Syntax.tcons Syntax.tyBool (Syntax.tcons (Syntax.tyInt Syntax.w64) (Syntax.tcons (Syntax.tyStruct (List._∷_ 98 (List._∷_ 105 (List._∷_ 116 (List._∷_
+      115 (List._∷_ 58 (List._∷_ 58 (List._∷_ 66 (List._∷_ 105 (List._∷_ 116 (List._∷_ 80 (List._∷_ 111 (List._∷_ 115 (List._∷_ 105 (List._∷_ 116 (List._∷_ 105 (List._∷_ 111 (List._∷_ 110
+      List.[]))))))))))))))))) (Syntax.tcons (Syntax.tyInt Syntax.w64) Syntax.tnil)) (Syntax.tcons (Syntax.tyInt Syntax.w64) Syntax.tnil))))),
+) (List._∷_ (
+  1,
+  Rows'.sslice (Referent.rtF (Referent.fInt
+      Syntax.w8)) (Syntax.tyRef (Syntax.named 0) Syntax.imm (Syntax.tyInt Syntax.w8)) 0,
+) (List._∷_ (
+  2,
+  Rows'.sslice (Referent.rtF (Referent.fInt Syntax.w8)) (Syntax.tyRef (Syntax.named 1) Syntax.imm
+      (Syntax.tyInt Syntax.w8)) 1,
+) (List._∷_ (3, Mut.mslice (Referent.rtF (Referent.fInt Syntax.w16)) (Syntax.tyRef (Syntax.named 2) Syntax.mut (Syntax.tyInt Syntax.w16)) 2) (List._∷_ (
+  4,
+  Relend.mslice-owed (Element.type) (Syntax.tyRef (Syntax.named 3) Syntax.mut Element.behind) 3 9 Row.off,
+) (List._∷_ (
+  5,
+  Mut.mslice (Referent.rtF (Referent.fInt Syntax.w16)) (Syntax.tyRef
+      (Syntax.named 4) Syntax.mut (Syntax.tyInt Syntax.w16)) 4,
+) (List._∷_ (6, Rows'.whole (Declared.row Form.the-type)) (List._∷_ (
+  7,
+  Rows'.sref (Array'.Array (Referent.rtF (Referent.fInt Syntax.w16))
+      768) (Syntax.tyRef (Syntax.named 5) Syntax.imm (Syntax.tyArray (Syntax.tyInt Syntax.w16) 768)) 5,
+) (List._∷_ (8, Rows.arrF (Referent.rtF (Referent.fInt Syntax.w8)) 36 0) (List._∷_ (
+  9,
+  Rows'.whole
+      (Declared.row Part.the-type),
+) (List._∷_ (10, Rows'.sc-here (Row.sInt Syntax.w64)) (List._∷_ (11, Rows'.sc-here (Row.sInt Syntax.w32)) (List._∷_ (12, Rows'.sc-here Row.sBool) (List._∷_ (
+  13,
+  Rows'.sc-here (Row.sInt Syntax.w64),
+) (List._∷_ (14, Rows'.whole (Declared.row BitPosition.the-type)) (List._∷_ (15, Rows'.sc-here Row.sBool) List.[])))))))))))))))
 
 abbrev pub t35 : List.List Row.Entry
-t35 = List._∷_ (16, Rows'.sc-here (Row.sInt Syntax.w64)) (List._∷_ ( 17, Rows'.sc-here (Row.sInt Syntax.w64), ) (List._∷_ (18, Rows'.sc-here (Row.sInt Syntax.w32)) (List._∷_ ( 19, Rows'.any-gone
-    (Syntax.tyStruct (List._∷_ 98 (List._∷_ 108 (List._∷_ 111 (List._∷_ 99 (List._∷_ 107 (List._∷_ 58 (List._∷_ 58 (List._∷_ 76 (List._∷_ 105 (List._∷_ 110 (List._∷_ 101 (List._∷_ 100 List.[]))))))))))))
-    (Syntax.tcons Syntax.tyBool (Syntax.tcons Syntax.tyBool (Syntax.tcons (Syntax.tyStruct (List._∷_ 98 (List._∷_ 105 (List._∷_ 116 (List._∷_ 115 (List._∷_ 58 (List._∷_ 58 (List._∷_ 66 (List._∷_ 105
-    (List._∷_ 116 (List._∷_ 80 (List._∷_ 111 (List._∷_ 115 (List._∷_ 105 (List._∷_ 116 (List._∷_ 105 (List._∷_ 111 (List._∷_ 110 List.[]))))))))))))))))) (Syntax.tcons (Syntax.tyInt Syntax.w64)
-    Syntax.tnil)) Syntax.tnil)))), ) (List._∷_ (20, Rows'.any-gone Syntax.tyBool) (List._∷_ (21, Rows'.any-gone Syntax.tyUnit) (List._∷_ ( 22, Rows'.any-gone (Syntax.tyRef Syntax.erased Syntax.mut
-    (Syntax.tyInt Syntax.w16)), ) (List._∷_ ( 23, Rows'.any-gone (Syntax.tyStruct (List._∷_ 38 (List._∷_ 91 (List._∷_ 93 List.[]))) (Syntax.tcons (Syntax.tyRef Syntax.erased Syntax.mut (Syntax.tyInt
-    Syntax.w16)) (Syntax.tcons (Syntax.tyInt Syntax.w64) Syntax.tnil))), ) (List._∷_ ( 24, Rows'.any-gone (Syntax.tyRef Syntax.erased Syntax.mut Element.behind), ) (List._∷_ ( 25, Rows'.any-gone
-    (Syntax.tyStruct (List._∷_ 38 (List._∷_ 91 (List._∷_ 93 List.[]))) (Syntax.tcons (Syntax.tyRef Syntax.erased Syntax.mut Element.behind) (Syntax.tcons (Syntax.tyInt Syntax.w64) Syntax.tnil))), )
-    (List._∷_ (26, Rows'.any-gone (Syntax.tyInt Syntax.w32)) (List._∷_ ( 27, Rows'.any-gone Syntax.tyBool, ) (List._∷_ (28, Rows'.any-gone Syntax.tyUnit) (List._∷_ ( 29, Rows'.any-gone (Syntax.tyRef
-    Syntax.erased Syntax.mut (Syntax.tyInt Syntax.w16)), ) (List._∷_ ( 30, Rows'.any-gone (Syntax.tyStruct (List._∷_ 38 (List._∷_ 91 (List._∷_ 93 List.[]))) (Syntax.tcons (Syntax.tyRef Syntax.erased
-    Syntax.mut (Syntax.tyInt Syntax.w16)) (Syntax.tcons (Syntax.tyInt Syntax.w64) Syntax.tnil))), ) (List._∷_ ( 31, Relend.msptr (Element.type) (Syntax.tyRef Syntax.erased Syntax.mut Element.behind) 9, )
+t35 = List._∷_ (16, Rows'.sc-here (Row.sInt Syntax.w64)) (List._∷_ (17, Rows'.sc-here (Row.sInt Syntax.w64)) (List._∷_ (18, Rows'.sc-here (Row.sInt Syntax.w32)) (List._∷_ (
+  19,
+  Rows'.any-gone
+      (Syntax.tyStruct (List._∷_ 98 (List._∷_ 108 (List._∷_ 111 (List._∷_ 99 (List._∷_ 107 (List._∷_ 58 (List._∷_ 58 (List._∷_ 76 (List._∷_ 105 (List._∷_ 110 (List._∷_ 101 (List._∷_ 100 List.[]))))))))))))
+      (Syntax.tcons Syntax.tyBool (Syntax.tcons Syntax.tyBool (Syntax.tcons (Syntax.tyStruct (List._∷_ 98 (List._∷_ 105 (List._∷_ 116 (List._∷_ 115 (List._∷_ 58 (List._∷_ 58 (List._∷_ 66 (List._∷_ 105
+      (List._∷_ 116 (List._∷_ 80 (List._∷_ 111 (List._∷_ 115 (List._∷_ 105 (List._∷_ 116 (List._∷_ 105 (List._∷_ 111 (List._∷_ 110 List.[]))))))))))))))))) (Syntax.tcons (Syntax.tyInt Syntax.w64)
+      Syntax.tnil)) Syntax.tnil)))),
+) (List._∷_ (20, Rows'.any-gone Syntax.tyBool) (List._∷_ (21, Rows'.any-gone Syntax.tyUnit) (List._∷_ (
+  22,
+  Rows'.any-gone (Syntax.tyRef Syntax.erased Syntax.mut
+      (Syntax.tyInt Syntax.w16)),
+) (List._∷_ (
+  23,
+  Rows'.any-gone (Syntax.tyStruct (List._∷_ 38 (List._∷_ 91 (List._∷_ 93 List.[]))) (Syntax.tcons (Syntax.tyRef Syntax.erased Syntax.mut (Syntax.tyInt
+      Syntax.w16)) (Syntax.tcons (Syntax.tyInt Syntax.w64) Syntax.tnil))),
+) (List._∷_ (24, Rows'.any-gone (Syntax.tyRef Syntax.erased Syntax.mut Element.behind)) (List._∷_ (
+  25,
+  Rows'.any-gone
+      (Syntax.tyStruct (List._∷_ 38 (List._∷_ 91 (List._∷_ 93 List.[]))) (Syntax.tcons (Syntax.tyRef Syntax.erased Syntax.mut Element.behind) (Syntax.tcons (Syntax.tyInt Syntax.w64) Syntax.tnil))),
+)
+    (List._∷_ (26, Rows'.any-gone (Syntax.tyInt Syntax.w32)) (List._∷_ (27, Rows'.any-gone Syntax.tyBool) (List._∷_ (28, Rows'.any-gone Syntax.tyUnit) (List._∷_ (
+      29,
+      Rows'.any-gone (Syntax.tyRef
+          Syntax.erased Syntax.mut (Syntax.tyInt Syntax.w16)),
+    ) (List._∷_ (
+      30,
+      Rows'.any-gone (Syntax.tyStruct (List._∷_ 38 (List._∷_ 91 (List._∷_ 93 List.[]))) (Syntax.tcons (Syntax.tyRef Syntax.erased
+          Syntax.mut (Syntax.tyInt Syntax.w16)) (Syntax.tcons (Syntax.tyInt Syntax.w64) Syntax.tnil))),
+    ) (List._∷_ (31, Relend.msptr (Element.type) (Syntax.tyRef Syntax.erased Syntax.mut Element.behind) 9)
     List.[])))))))))))))))
 
 abbrev pub t36 : List.List Row.Entry
-t36 = List._∷_ ( 32, Mut.mslice (Element.type) (Syntax.tyRef Syntax.erased Syntax.mut Element.behind) 9, ) (List._∷_ ( 33, Rows'.any-gone (Syntax.tyRef Syntax.erased Syntax.mut (Syntax.tyInt
-    Syntax.w16)), ) (List._∷_ ( 34, Rows'.any-gone (Syntax.tyStruct (List._∷_ 38 (List._∷_ 91 (List._∷_ 93 List.[]))) (Syntax.tcons (Syntax.tyRef Syntax.erased Syntax.mut (Syntax.tyInt Syntax.w16))
-    (Syntax.tcons (Syntax.tyInt Syntax.w64) Syntax.tnil))), ) (List._∷_ ( 35, Rows'.any-gone (Syntax.tyRef Syntax.erased Syntax.mut Element.behind), ) (List._∷_ ( 36, Rows'.any-gone (Syntax.tyStruct
-    (List._∷_ 38 (List._∷_ 91 (List._∷_ 93 List.[]))) (Syntax.tcons (Syntax.tyRef Syntax.erased Syntax.mut Element.behind) (Syntax.tcons (Syntax.tyInt Syntax.w64) Syntax.tnil))), ) (List._∷_ ( 37,
-    Rows'.any-gone (Syntax.tyStruct (List._∷_ 112 (List._∷_ 97 (List._∷_ 115 (List._∷_ 115 (List._∷_ 58 (List._∷_ 58 (List._∷_ 81 (List._∷_ 117 (List._∷_ 97 (List._∷_ 110 (List._∷_ 116 (List._∷_ 105
-    (List._∷_ 115 (List._∷_ 101 (List._∷_ 114 (List._∷_ 115 List.[])))))))))))))))) (Syntax.tcons (Syntax.tyInt Syntax.w32) (Syntax.tcons (Syntax.tyArray (Syntax.tyInt Syntax.w32) 4) (Syntax.tcons
-    (Syntax.tyArray (Syntax.tyInt Syntax.w32) 4) (Syntax.tcons (Syntax.tyArray (Syntax.tyInt Syntax.w32) 4) Syntax.tnil))))), ) (List._∷_ ( 38, Rows'.any-gone (Syntax.tyRef Syntax.erased Syntax.imm
-    (Syntax.tyInt Syntax.w16)), ) (List._∷_ ( 39, Rows'.any-gone (Syntax.tyStruct (List._∷_ 38 (List._∷_ 91 (List._∷_ 93 List.[]))) (Syntax.tcons (Syntax.tyRef Syntax.erased Syntax.imm (Syntax.tyInt
-    Syntax.w16)) (Syntax.tcons (Syntax.tyInt Syntax.w64) Syntax.tnil))), ) (List._∷_ ( 40, Rows'.any-gone (Syntax.tyRef Syntax.erased Syntax.mut (Syntax.tyInt Syntax.w16)), ) (List._∷_ ( 41,
-    Rows'.any-gone (Syntax.tyStruct (List._∷_ 38 (List._∷_ 91 (List._∷_ 93 List.[]))) (Syntax.tcons (Syntax.tyRef Syntax.erased Syntax.mut (Syntax.tyInt Syntax.w16)) (Syntax.tcons (Syntax.tyInt
-    Syntax.w64) Syntax.tnil))), ) List.[])))))))))
+t36 = List._∷_ (32, Mut.mslice (Element.type) (Syntax.tyRef Syntax.erased Syntax.mut Element.behind) 9) (List._∷_ (
+  33,
+  Rows'.any-gone (Syntax.tyRef Syntax.erased Syntax.mut (Syntax.tyInt
+      Syntax.w16)),
+) (List._∷_ (
+  34,
+  Rows'.any-gone (Syntax.tyStruct (List._∷_ 38 (List._∷_ 91 (List._∷_ 93 List.[]))) (Syntax.tcons (Syntax.tyRef Syntax.erased Syntax.mut (Syntax.tyInt Syntax.w16))
+      (Syntax.tcons (Syntax.tyInt Syntax.w64) Syntax.tnil))),
+) (List._∷_ (35, Rows'.any-gone (Syntax.tyRef Syntax.erased Syntax.mut Element.behind)) (List._∷_ (
+  36,
+  Rows'.any-gone (Syntax.tyStruct
+      (List._∷_ 38 (List._∷_ 91 (List._∷_ 93 List.[]))) (Syntax.tcons (Syntax.tyRef Syntax.erased Syntax.mut Element.behind) (Syntax.tcons (Syntax.tyInt Syntax.w64) Syntax.tnil))),
+) (List._∷_ (
+  37,
+  Rows'.any-gone (Syntax.tyStruct (List._∷_ 112 (List._∷_ 97 (List._∷_ 115 (List._∷_ 115 (List._∷_ 58 (List._∷_ 58 (List._∷_ 81 (List._∷_ 117 (List._∷_ 97 (List._∷_ 110 (List._∷_ 116 (List._∷_ 105
+      (List._∷_ 115 (List._∷_ 101 (List._∷_ 114 (List._∷_ 115 List.[])))))))))))))))) (Syntax.tcons (Syntax.tyInt Syntax.w32) (Syntax.tcons (Syntax.tyArray (Syntax.tyInt Syntax.w32) 4) (Syntax.tcons
+      (Syntax.tyArray (Syntax.tyInt Syntax.w32) 4) (Syntax.tcons (Syntax.tyArray (Syntax.tyInt Syntax.w32) 4) Syntax.tnil))))),
+) (List._∷_ (
+  38,
+  Rows'.any-gone (Syntax.tyRef Syntax.erased Syntax.imm
+      (Syntax.tyInt Syntax.w16)),
+) (List._∷_ (
+  39,
+  Rows'.any-gone (Syntax.tyStruct (List._∷_ 38 (List._∷_ 91 (List._∷_ 93 List.[]))) (Syntax.tcons (Syntax.tyRef Syntax.erased Syntax.imm (Syntax.tyInt
+      Syntax.w16)) (Syntax.tcons (Syntax.tyInt Syntax.w64) Syntax.tnil))),
+) (List._∷_ (40, Rows'.any-gone (Syntax.tyRef Syntax.erased Syntax.mut (Syntax.tyInt Syntax.w16))) (List._∷_ (
+  41,
+  Rows'.any-gone (Syntax.tyStruct (List._∷_ 38 (List._∷_ 91 (List._∷_ 93 List.[]))) (Syntax.tcons (Syntax.tyRef Syntax.erased Syntax.mut (Syntax.tyInt Syntax.w16)) (Syntax.tcons (Syntax.tyInt
+      Syntax.w64) Syntax.tnil))),
+) List.[])))))))))
 
 abbrev pub t37 : List.List Row.Entry
-t37 = List._∷_ (16, Rows'.sc-here (Row.sInt Syntax.w64)) (List._∷_ ( 17, Rows'.sc-here (Row.sInt Syntax.w64), ) (List._∷_ (18, Rows'.sc-here (Row.sInt Syntax.w32)) (List._∷_ ( 19, Rows'.any-gone
-    (Syntax.tyStruct (List._∷_ 98 (List._∷_ 108 (List._∷_ 111 (List._∷_ 99 (List._∷_ 107 (List._∷_ 58 (List._∷_ 58 (List._∷_ 76 (List._∷_ 105 (List._∷_ 110 (List._∷_ 101 (List._∷_ 100 List.[]))))))))))))
-    (Syntax.tcons Syntax.tyBool (Syntax.tcons Syntax.tyBool (Syntax.tcons (Syntax.tyStruct (List._∷_ 98 (List._∷_ 105 (List._∷_ 116 (List._∷_ 115 (List._∷_ 58 (List._∷_ 58 (List._∷_ 66 (List._∷_ 105
-    (List._∷_ 116 (List._∷_ 80 (List._∷_ 111 (List._∷_ 115 (List._∷_ 105 (List._∷_ 116 (List._∷_ 105 (List._∷_ 111 (List._∷_ 110 List.[]))))))))))))))))) (Syntax.tcons (Syntax.tyInt Syntax.w64)
-    Syntax.tnil)) Syntax.tnil)))), ) (List._∷_ (20, Rows'.any-gone Syntax.tyBool) (List._∷_ (21, Rows'.any-gone Syntax.tyUnit) (List._∷_ ( 22, Rows'.any-gone (Syntax.tyRef Syntax.erased Syntax.mut
-    (Syntax.tyInt Syntax.w16)), ) (List._∷_ ( 23, Rows'.any-gone (Syntax.tyStruct (List._∷_ 38 (List._∷_ 91 (List._∷_ 93 List.[]))) (Syntax.tcons (Syntax.tyRef Syntax.erased Syntax.mut (Syntax.tyInt
-    Syntax.w16)) (Syntax.tcons (Syntax.tyInt Syntax.w64) Syntax.tnil))), ) (List._∷_ ( 24, Rows'.any-gone (Syntax.tyRef Syntax.erased Syntax.mut Element.behind), ) (List._∷_ ( 25, Rows'.any-gone
-    (Syntax.tyStruct (List._∷_ 38 (List._∷_ 91 (List._∷_ 93 List.[]))) (Syntax.tcons (Syntax.tyRef Syntax.erased Syntax.mut Element.behind) (Syntax.tcons (Syntax.tyInt Syntax.w64) Syntax.tnil))), )
-    (List._∷_ (26, Rows'.any-gone (Syntax.tyInt Syntax.w32)) (List._∷_ ( 27, Rows'.sc-here Row.sBool, ) (List._∷_ (28, Rows'.any-gone Syntax.tyUnit) (List._∷_ ( 29, Rows'.any-gone (Syntax.tyRef
-    Syntax.erased Syntax.mut (Syntax.tyInt Syntax.w16)), ) (List._∷_ ( 30, Rows'.any-gone (Syntax.tyStruct (List._∷_ 38 (List._∷_ 91 (List._∷_ 93 List.[]))) (Syntax.tcons (Syntax.tyRef Syntax.erased
-    Syntax.mut (Syntax.tyInt Syntax.w16)) (Syntax.tcons (Syntax.tyInt Syntax.w64) Syntax.tnil))), ) (List._∷_ ( 31, Rows'.any-gone (Syntax.tyRef Syntax.erased Syntax.mut Element.behind), )
+t37 = List._∷_ (16, Rows'.sc-here (Row.sInt Syntax.w64)) (List._∷_ (17, Rows'.sc-here (Row.sInt Syntax.w64)) (List._∷_ (18, Rows'.sc-here (Row.sInt Syntax.w32)) (List._∷_ (
+  19,
+  Rows'.any-gone
+      (Syntax.tyStruct (List._∷_ 98 (List._∷_ 108 (List._∷_ 111 (List._∷_ 99 (List._∷_ 107 (List._∷_ 58 (List._∷_ 58 (List._∷_ 76 (List._∷_ 105 (List._∷_ 110 (List._∷_ 101 (List._∷_ 100 List.[]))))))))))))
+      (Syntax.tcons Syntax.tyBool (Syntax.tcons Syntax.tyBool (Syntax.tcons (Syntax.tyStruct (List._∷_ 98 (List._∷_ 105 (List._∷_ 116 (List._∷_ 115 (List._∷_ 58 (List._∷_ 58 (List._∷_ 66 (List._∷_ 105
+      (List._∷_ 116 (List._∷_ 80 (List._∷_ 111 (List._∷_ 115 (List._∷_ 105 (List._∷_ 116 (List._∷_ 105 (List._∷_ 111 (List._∷_ 110 List.[]))))))))))))))))) (Syntax.tcons (Syntax.tyInt Syntax.w64)
+      Syntax.tnil)) Syntax.tnil)))),
+) (List._∷_ (20, Rows'.any-gone Syntax.tyBool) (List._∷_ (21, Rows'.any-gone Syntax.tyUnit) (List._∷_ (
+  22,
+  Rows'.any-gone (Syntax.tyRef Syntax.erased Syntax.mut
+      (Syntax.tyInt Syntax.w16)),
+) (List._∷_ (
+  23,
+  Rows'.any-gone (Syntax.tyStruct (List._∷_ 38 (List._∷_ 91 (List._∷_ 93 List.[]))) (Syntax.tcons (Syntax.tyRef Syntax.erased Syntax.mut (Syntax.tyInt
+      Syntax.w16)) (Syntax.tcons (Syntax.tyInt Syntax.w64) Syntax.tnil))),
+) (List._∷_ (24, Rows'.any-gone (Syntax.tyRef Syntax.erased Syntax.mut Element.behind)) (List._∷_ (
+  25,
+  Rows'.any-gone
+      (Syntax.tyStruct (List._∷_ 38 (List._∷_ 91 (List._∷_ 93 List.[]))) (Syntax.tcons (Syntax.tyRef Syntax.erased Syntax.mut Element.behind) (Syntax.tcons (Syntax.tyInt Syntax.w64) Syntax.tnil))),
+)
+    (List._∷_ (26, Rows'.any-gone (Syntax.tyInt Syntax.w32)) (List._∷_ (27, Rows'.sc-here Row.sBool) (List._∷_ (28, Rows'.any-gone Syntax.tyUnit) (List._∷_ (
+      29,
+      Rows'.any-gone (Syntax.tyRef
+          Syntax.erased Syntax.mut (Syntax.tyInt Syntax.w16)),
+    ) (List._∷_ (
+      30,
+      Rows'.any-gone (Syntax.tyStruct (List._∷_ 38 (List._∷_ 91 (List._∷_ 93 List.[]))) (Syntax.tcons (Syntax.tyRef Syntax.erased
+          Syntax.mut (Syntax.tyInt Syntax.w16)) (Syntax.tcons (Syntax.tyInt Syntax.w64) Syntax.tnil))),
+    ) (List._∷_ (31, Rows'.any-gone (Syntax.tyRef Syntax.erased Syntax.mut Element.behind))
     List.[])))))))))))))))
 
 abbrev pub t38 : List.List Row.Entry
-t38 = List._∷_ (16, Rows'.sc-here (Row.sInt Syntax.w64)) (List._∷_ ( 17, Rows'.sc-here (Row.sInt Syntax.w64), ) (List._∷_ (18, Rows'.sc-here (Row.sInt Syntax.w32)) (List._∷_ ( 19, Rows'.any-gone
-    (Syntax.tyStruct (List._∷_ 98 (List._∷_ 108 (List._∷_ 111 (List._∷_ 99 (List._∷_ 107 (List._∷_ 58 (List._∷_ 58 (List._∷_ 76 (List._∷_ 105 (List._∷_ 110 (List._∷_ 101 (List._∷_ 100 List.[]))))))))))))
-    (Syntax.tcons Syntax.tyBool (Syntax.tcons Syntax.tyBool (Syntax.tcons (Syntax.tyStruct (List._∷_ 98 (List._∷_ 105 (List._∷_ 116 (List._∷_ 115 (List._∷_ 58 (List._∷_ 58 (List._∷_ 66 (List._∷_ 105
-    (List._∷_ 116 (List._∷_ 80 (List._∷_ 111 (List._∷_ 115 (List._∷_ 105 (List._∷_ 116 (List._∷_ 105 (List._∷_ 111 (List._∷_ 110 List.[]))))))))))))))))) (Syntax.tcons (Syntax.tyInt Syntax.w64)
-    Syntax.tnil)) Syntax.tnil)))), ) (List._∷_ (20, Rows'.any-gone Syntax.tyBool) (List._∷_ (21, Rows'.any-gone Syntax.tyUnit) (List._∷_ ( 22, Rows'.any-gone (Syntax.tyRef Syntax.erased Syntax.mut
-    (Syntax.tyInt Syntax.w16)), ) (List._∷_ ( 23, Rows'.any-gone (Syntax.tyStruct (List._∷_ 38 (List._∷_ 91 (List._∷_ 93 List.[]))) (Syntax.tcons (Syntax.tyRef Syntax.erased Syntax.mut (Syntax.tyInt
-    Syntax.w16)) (Syntax.tcons (Syntax.tyInt Syntax.w64) Syntax.tnil))), ) (List._∷_ ( 24, Rows'.any-gone (Syntax.tyRef Syntax.erased Syntax.mut Element.behind), ) (List._∷_ ( 25, Rows'.any-gone
-    (Syntax.tyStruct (List._∷_ 38 (List._∷_ 91 (List._∷_ 93 List.[]))) (Syntax.tcons (Syntax.tyRef Syntax.erased Syntax.mut Element.behind) (Syntax.tcons (Syntax.tyInt Syntax.w64) Syntax.tnil))), )
-    (List._∷_ (26, Rows'.any-gone (Syntax.tyInt Syntax.w32)) (List._∷_ ( 27, Rows'.sc-here Row.sBool, ) (List._∷_ (28, Rows'.sc-here Row.sUnit) (List._∷_ ( 29, Rows'.any-gone (Syntax.tyRef Syntax.erased
-    Syntax.mut (Syntax.tyInt Syntax.w16)), ) (List._∷_ ( 30, Rows'.any-gone (Syntax.tyStruct (List._∷_ 38 (List._∷_ 91 (List._∷_ 93 List.[]))) (Syntax.tcons (Syntax.tyRef Syntax.erased Syntax.mut
-    (Syntax.tyInt Syntax.w16)) (Syntax.tcons (Syntax.tyInt Syntax.w64) Syntax.tnil))), ) (List._∷_ ( 31, Rows'.any-gone (Syntax.tyRef Syntax.erased Syntax.mut Element.behind), ) List.[])))))))))))))))
+t38 = List._∷_ (16, Rows'.sc-here (Row.sInt Syntax.w64)) (List._∷_ (17, Rows'.sc-here (Row.sInt Syntax.w64)) (List._∷_ (18, Rows'.sc-here (Row.sInt Syntax.w32)) (List._∷_ (
+  19,
+  Rows'.any-gone
+      (Syntax.tyStruct (List._∷_ 98 (List._∷_ 108 (List._∷_ 111 (List._∷_ 99 (List._∷_ 107 (List._∷_ 58 (List._∷_ 58 (List._∷_ 76 (List._∷_ 105 (List._∷_ 110 (List._∷_ 101 (List._∷_ 100 List.[]))))))))))))
+      (Syntax.tcons Syntax.tyBool (Syntax.tcons Syntax.tyBool (Syntax.tcons (Syntax.tyStruct (List._∷_ 98 (List._∷_ 105 (List._∷_ 116 (List._∷_ 115 (List._∷_ 58 (List._∷_ 58 (List._∷_ 66 (List._∷_ 105
+      (List._∷_ 116 (List._∷_ 80 (List._∷_ 111 (List._∷_ 115 (List._∷_ 105 (List._∷_ 116 (List._∷_ 105 (List._∷_ 111 (List._∷_ 110 List.[]))))))))))))))))) (Syntax.tcons (Syntax.tyInt Syntax.w64)
+      Syntax.tnil)) Syntax.tnil)))),
+) (List._∷_ (20, Rows'.any-gone Syntax.tyBool) (List._∷_ (21, Rows'.any-gone Syntax.tyUnit) (List._∷_ (
+  22,
+  Rows'.any-gone (Syntax.tyRef Syntax.erased Syntax.mut
+      (Syntax.tyInt Syntax.w16)),
+) (List._∷_ (
+  23,
+  Rows'.any-gone (Syntax.tyStruct (List._∷_ 38 (List._∷_ 91 (List._∷_ 93 List.[]))) (Syntax.tcons (Syntax.tyRef Syntax.erased Syntax.mut (Syntax.tyInt
+      Syntax.w16)) (Syntax.tcons (Syntax.tyInt Syntax.w64) Syntax.tnil))),
+) (List._∷_ (24, Rows'.any-gone (Syntax.tyRef Syntax.erased Syntax.mut Element.behind)) (List._∷_ (
+  25,
+  Rows'.any-gone
+      (Syntax.tyStruct (List._∷_ 38 (List._∷_ 91 (List._∷_ 93 List.[]))) (Syntax.tcons (Syntax.tyRef Syntax.erased Syntax.mut Element.behind) (Syntax.tcons (Syntax.tyInt Syntax.w64) Syntax.tnil))),
+)
+    (List._∷_ (26, Rows'.any-gone (Syntax.tyInt Syntax.w32)) (List._∷_ (27, Rows'.sc-here Row.sBool) (List._∷_ (28, Rows'.sc-here Row.sUnit) (List._∷_ (
+      29,
+      Rows'.any-gone (Syntax.tyRef Syntax.erased
+          Syntax.mut (Syntax.tyInt Syntax.w16)),
+    ) (List._∷_ (
+      30,
+      Rows'.any-gone (Syntax.tyStruct (List._∷_ 38 (List._∷_ 91 (List._∷_ 93 List.[]))) (Syntax.tcons (Syntax.tyRef Syntax.erased Syntax.mut
+          (Syntax.tyInt Syntax.w16)) (Syntax.tcons (Syntax.tyInt Syntax.w64) Syntax.tnil))),
+    ) (List._∷_ (31, Rows'.any-gone (Syntax.tyRef Syntax.erased Syntax.mut Element.behind)) List.[])))))))))))))))
 
 abbrev pub t39 : List.List Row.Entry
-t39 = List._∷_ ( 32, Mut.msleft (Element.type) (Syntax.tyRef Syntax.erased Syntax.mut Element.behind), ) (List._∷_ ( 33, Rows'.any-gone (Syntax.tyRef Syntax.erased Syntax.mut (Syntax.tyInt
-    Syntax.w16)), ) (List._∷_ ( 34, Rows'.any-gone (Syntax.tyStruct (List._∷_ 38 (List._∷_ 91 (List._∷_ 93 List.[]))) (Syntax.tcons (Syntax.tyRef Syntax.erased Syntax.mut (Syntax.tyInt Syntax.w16))
-    (Syntax.tcons (Syntax.tyInt Syntax.w64) Syntax.tnil))), ) (List._∷_ ( 35, Rows'.any-gone (Syntax.tyRef Syntax.erased Syntax.mut Element.behind), ) (List._∷_ ( 36, Rows'.any-gone (Syntax.tyStruct
-    (List._∷_ 38 (List._∷_ 91 (List._∷_ 93 List.[]))) (Syntax.tcons (Syntax.tyRef Syntax.erased Syntax.mut Element.behind) (Syntax.tcons (Syntax.tyInt Syntax.w64) Syntax.tnil))), ) (List._∷_ ( 37,
-    Rows'.any-gone (Syntax.tyStruct (List._∷_ 112 (List._∷_ 97 (List._∷_ 115 (List._∷_ 115 (List._∷_ 58 (List._∷_ 58 (List._∷_ 81 (List._∷_ 117 (List._∷_ 97 (List._∷_ 110 (List._∷_ 116 (List._∷_ 105
-    (List._∷_ 115 (List._∷_ 101 (List._∷_ 114 (List._∷_ 115 List.[])))))))))))))))) (Syntax.tcons (Syntax.tyInt Syntax.w32) (Syntax.tcons (Syntax.tyArray (Syntax.tyInt Syntax.w32) 4) (Syntax.tcons
-    (Syntax.tyArray (Syntax.tyInt Syntax.w32) 4) (Syntax.tcons (Syntax.tyArray (Syntax.tyInt Syntax.w32) 4) Syntax.tnil))))), ) (List._∷_ ( 38, Rows'.any-gone (Syntax.tyRef Syntax.erased Syntax.imm
-    (Syntax.tyInt Syntax.w16)), ) (List._∷_ ( 39, Rows'.any-gone (Syntax.tyStruct (List._∷_ 38 (List._∷_ 91 (List._∷_ 93 List.[]))) (Syntax.tcons (Syntax.tyRef Syntax.erased Syntax.imm (Syntax.tyInt
-    Syntax.w16)) (Syntax.tcons (Syntax.tyInt Syntax.w64) Syntax.tnil))), ) (List._∷_ ( 40, Rows'.any-gone (Syntax.tyRef Syntax.erased Syntax.mut (Syntax.tyInt Syntax.w16)), ) (List._∷_ ( 41,
-    Rows'.any-gone (Syntax.tyStruct (List._∷_ 38 (List._∷_ 91 (List._∷_ 93 List.[]))) (Syntax.tcons (Syntax.tyRef Syntax.erased Syntax.mut (Syntax.tyInt Syntax.w16)) (Syntax.tcons (Syntax.tyInt
-    Syntax.w64) Syntax.tnil))), ) List.[])))))))))
+t39 = List._∷_ (32, Mut.msleft (Element.type) (Syntax.tyRef Syntax.erased Syntax.mut Element.behind)) (List._∷_ (
+  33,
+  Rows'.any-gone (Syntax.tyRef Syntax.erased Syntax.mut (Syntax.tyInt
+      Syntax.w16)),
+) (List._∷_ (
+  34,
+  Rows'.any-gone (Syntax.tyStruct (List._∷_ 38 (List._∷_ 91 (List._∷_ 93 List.[]))) (Syntax.tcons (Syntax.tyRef Syntax.erased Syntax.mut (Syntax.tyInt Syntax.w16))
+      (Syntax.tcons (Syntax.tyInt Syntax.w64) Syntax.tnil))),
+) (List._∷_ (35, Rows'.any-gone (Syntax.tyRef Syntax.erased Syntax.mut Element.behind)) (List._∷_ (
+  36,
+  Rows'.any-gone (Syntax.tyStruct
+      (List._∷_ 38 (List._∷_ 91 (List._∷_ 93 List.[]))) (Syntax.tcons (Syntax.tyRef Syntax.erased Syntax.mut Element.behind) (Syntax.tcons (Syntax.tyInt Syntax.w64) Syntax.tnil))),
+) (List._∷_ (
+  37,
+  Rows'.any-gone (Syntax.tyStruct (List._∷_ 112 (List._∷_ 97 (List._∷_ 115 (List._∷_ 115 (List._∷_ 58 (List._∷_ 58 (List._∷_ 81 (List._∷_ 117 (List._∷_ 97 (List._∷_ 110 (List._∷_ 116 (List._∷_ 105
+      (List._∷_ 115 (List._∷_ 101 (List._∷_ 114 (List._∷_ 115 List.[])))))))))))))))) (Syntax.tcons (Syntax.tyInt Syntax.w32) (Syntax.tcons (Syntax.tyArray (Syntax.tyInt Syntax.w32) 4) (Syntax.tcons
+      (Syntax.tyArray (Syntax.tyInt Syntax.w32) 4) (Syntax.tcons (Syntax.tyArray (Syntax.tyInt Syntax.w32) 4) Syntax.tnil))))),
+) (List._∷_ (
+  38,
+  Rows'.any-gone (Syntax.tyRef Syntax.erased Syntax.imm
+      (Syntax.tyInt Syntax.w16)),
+) (List._∷_ (
+  39,
+  Rows'.any-gone (Syntax.tyStruct (List._∷_ 38 (List._∷_ 91 (List._∷_ 93 List.[]))) (Syntax.tcons (Syntax.tyRef Syntax.erased Syntax.imm (Syntax.tyInt
+      Syntax.w16)) (Syntax.tcons (Syntax.tyInt Syntax.w64) Syntax.tnil))),
+) (List._∷_ (40, Rows'.any-gone (Syntax.tyRef Syntax.erased Syntax.mut (Syntax.tyInt Syntax.w16))) (List._∷_ (
+  41,
+  Rows'.any-gone (Syntax.tyStruct (List._∷_ 38 (List._∷_ 91 (List._∷_ 93 List.[]))) (Syntax.tcons (Syntax.tyRef Syntax.erased Syntax.mut (Syntax.tyInt Syntax.w16)) (Syntax.tcons (Syntax.tyInt
+      Syntax.w64) Syntax.tnil))),
+) List.[])))))))))
 
 abbrev pub t40 : List.List Row.Entry
-t40 = List._∷_ (16, Rows'.sc-here (Row.sInt Syntax.w64)) (List._∷_ ( 17, Rows'.sc-here (Row.sInt Syntax.w64), ) (List._∷_ (18, Rows'.sc-here (Row.sInt Syntax.w32)) (List._∷_ ( 19, Rows'.any-gone
-    (Syntax.tyStruct (List._∷_ 98 (List._∷_ 108 (List._∷_ 111 (List._∷_ 99 (List._∷_ 107 (List._∷_ 58 (List._∷_ 58 (List._∷_ 76 (List._∷_ 105 (List._∷_ 110 (List._∷_ 101 (List._∷_ 100 List.[]))))))))))))
-    (Syntax.tcons Syntax.tyBool (Syntax.tcons Syntax.tyBool (Syntax.tcons (Syntax.tyStruct (List._∷_ 98 (List._∷_ 105 (List._∷_ 116 (List._∷_ 115 (List._∷_ 58 (List._∷_ 58 (List._∷_ 66 (List._∷_ 105
-    (List._∷_ 116 (List._∷_ 80 (List._∷_ 111 (List._∷_ 115 (List._∷_ 105 (List._∷_ 116 (List._∷_ 105 (List._∷_ 111 (List._∷_ 110 List.[]))))))))))))))))) (Syntax.tcons (Syntax.tyInt Syntax.w64)
-    Syntax.tnil)) Syntax.tnil)))), ) (List._∷_ (20, Rows'.any-gone Syntax.tyBool) (List._∷_ (21, Rows'.any-gone Syntax.tyUnit) (List._∷_ ( 22, Rows'.any-gone (Syntax.tyRef Syntax.erased Syntax.mut
-    (Syntax.tyInt Syntax.w16)), ) (List._∷_ ( 23, Rows'.any-gone (Syntax.tyStruct (List._∷_ 38 (List._∷_ 91 (List._∷_ 93 List.[]))) (Syntax.tcons (Syntax.tyRef Syntax.erased Syntax.mut (Syntax.tyInt
-    Syntax.w16)) (Syntax.tcons (Syntax.tyInt Syntax.w64) Syntax.tnil))), ) (List._∷_ ( 24, Rows'.any-gone (Syntax.tyRef Syntax.erased Syntax.mut Element.behind), ) (List._∷_ ( 25, Rows'.any-gone
-    (Syntax.tyStruct (List._∷_ 38 (List._∷_ 91 (List._∷_ 93 List.[]))) (Syntax.tcons (Syntax.tyRef Syntax.erased Syntax.mut Element.behind) (Syntax.tcons (Syntax.tyInt Syntax.w64) Syntax.tnil))), )
-    (List._∷_ (26, Rows'.any-gone (Syntax.tyInt Syntax.w32)) (List._∷_ ( 27, Rows'.any-gone Syntax.tyBool, ) (List._∷_ (28, Rows'.sc-here Row.sUnit) (List._∷_ ( 29, Rows'.any-gone (Syntax.tyRef
-    Syntax.erased Syntax.mut (Syntax.tyInt Syntax.w16)), ) (List._∷_ ( 30, Rows'.any-gone (Syntax.tyStruct (List._∷_ 38 (List._∷_ 91 (List._∷_ 93 List.[]))) (Syntax.tcons (Syntax.tyRef Syntax.erased
-    Syntax.mut (Syntax.tyInt Syntax.w16)) (Syntax.tcons (Syntax.tyInt Syntax.w64) Syntax.tnil))), ) (List._∷_ ( 31, Rows'.any-gone (Syntax.tyRef Syntax.erased Syntax.mut Element.behind), )
+t40 = List._∷_ (16, Rows'.sc-here (Row.sInt Syntax.w64)) (List._∷_ (17, Rows'.sc-here (Row.sInt Syntax.w64)) (List._∷_ (18, Rows'.sc-here (Row.sInt Syntax.w32)) (List._∷_ (
+  19,
+  Rows'.any-gone
+      (Syntax.tyStruct (List._∷_ 98 (List._∷_ 108 (List._∷_ 111 (List._∷_ 99 (List._∷_ 107 (List._∷_ 58 (List._∷_ 58 (List._∷_ 76 (List._∷_ 105 (List._∷_ 110 (List._∷_ 101 (List._∷_ 100 List.[]))))))))))))
+      (Syntax.tcons Syntax.tyBool (Syntax.tcons Syntax.tyBool (Syntax.tcons (Syntax.tyStruct (List._∷_ 98 (List._∷_ 105 (List._∷_ 116 (List._∷_ 115 (List._∷_ 58 (List._∷_ 58 (List._∷_ 66 (List._∷_ 105
+      (List._∷_ 116 (List._∷_ 80 (List._∷_ 111 (List._∷_ 115 (List._∷_ 105 (List._∷_ 116 (List._∷_ 105 (List._∷_ 111 (List._∷_ 110 List.[]))))))))))))))))) (Syntax.tcons (Syntax.tyInt Syntax.w64)
+      Syntax.tnil)) Syntax.tnil)))),
+) (List._∷_ (20, Rows'.any-gone Syntax.tyBool) (List._∷_ (21, Rows'.any-gone Syntax.tyUnit) (List._∷_ (
+  22,
+  Rows'.any-gone (Syntax.tyRef Syntax.erased Syntax.mut
+      (Syntax.tyInt Syntax.w16)),
+) (List._∷_ (
+  23,
+  Rows'.any-gone (Syntax.tyStruct (List._∷_ 38 (List._∷_ 91 (List._∷_ 93 List.[]))) (Syntax.tcons (Syntax.tyRef Syntax.erased Syntax.mut (Syntax.tyInt
+      Syntax.w16)) (Syntax.tcons (Syntax.tyInt Syntax.w64) Syntax.tnil))),
+) (List._∷_ (24, Rows'.any-gone (Syntax.tyRef Syntax.erased Syntax.mut Element.behind)) (List._∷_ (
+  25,
+  Rows'.any-gone
+      (Syntax.tyStruct (List._∷_ 38 (List._∷_ 91 (List._∷_ 93 List.[]))) (Syntax.tcons (Syntax.tyRef Syntax.erased Syntax.mut Element.behind) (Syntax.tcons (Syntax.tyInt Syntax.w64) Syntax.tnil))),
+)
+    (List._∷_ (26, Rows'.any-gone (Syntax.tyInt Syntax.w32)) (List._∷_ (27, Rows'.any-gone Syntax.tyBool) (List._∷_ (28, Rows'.sc-here Row.sUnit) (List._∷_ (
+      29,
+      Rows'.any-gone (Syntax.tyRef
+          Syntax.erased Syntax.mut (Syntax.tyInt Syntax.w16)),
+    ) (List._∷_ (
+      30,
+      Rows'.any-gone (Syntax.tyStruct (List._∷_ 38 (List._∷_ 91 (List._∷_ 93 List.[]))) (Syntax.tcons (Syntax.tyRef Syntax.erased
+          Syntax.mut (Syntax.tyInt Syntax.w16)) (Syntax.tcons (Syntax.tyInt Syntax.w64) Syntax.tnil))),
+    ) (List._∷_ (31, Rows'.any-gone (Syntax.tyRef Syntax.erased Syntax.mut Element.behind))
     List.[])))))))))))))))
 
 abbrev pub t41 : List.List Row.Entry
-t41 = List._∷_ ( 0, Rows'.any-gone (Syntax.tyStruct (List._∷_ 98 (List._∷_ 108 (List._∷_ 111 (List._∷_ 99 (List._∷_ 107 (List._∷_ 58 (List._∷_ 58 (List._∷_ 87 (List._∷_ 97 (List._∷_ 108 (List._∷_ 107
-    (List._∷_ 101 (List._∷_ 100 List.[]))))))))))))) (Syntax.tcons Syntax.tyBool (Syntax.tcons (Syntax.tyInt Syntax.w64) (Syntax.tcons (Syntax.tyStruct (List._∷_ 98 (List._∷_ 105 (List._∷_ 116 (List._∷_
-    115 (List._∷_ 58 (List._∷_ 58 (List._∷_ 66 (List._∷_ 105 (List._∷_ 116 (List._∷_ 80 (List._∷_ 111 (List._∷_ 115 (List._∷_ 105 (List._∷_ 116 (List._∷_ 105 (List._∷_ 111 (List._∷_ 110
-    List.[]))))))))))))))))) (Syntax.tcons (Syntax.tyInt Syntax.w64) Syntax.tnil)) (Syntax.tcons (Syntax.tyInt Syntax.w64) Syntax.tnil))))), ) (List._∷_ ( 1, Rows'.sslice (Referent.rtF (Referent.fInt
-    Syntax.w8)) (Syntax.tyRef (Syntax.named 0) Syntax.imm (Syntax.tyInt Syntax.w8)) 0, ) (List._∷_ ( 2, Rows'.sslice (Referent.rtF (Referent.fInt Syntax.w8)) (Syntax.tyRef (Syntax.named 1) Syntax.imm
-    (Syntax.tyInt Syntax.w8)) 1, ) (List._∷_ ( 3, Relend.mslice-owed (Referent.rtF (Referent.fInt Syntax.w16)) (Syntax.tyRef (Syntax.named 2) Syntax.mut (Syntax.tyInt Syntax.w16)) 2 10 Row.off, )
-    (List._∷_ ( 4, Mut.mslice (Element.type) (Syntax.tyRef (Syntax.named 3) Syntax.mut Element.behind) 3, ) (List._∷_ ( 5, Mut.mslice (Referent.rtF (Referent.fInt Syntax.w16)) (Syntax.tyRef (Syntax.named
-    4) Syntax.mut (Syntax.tyInt Syntax.w16)) 4, ) (List._∷_ (6, Rows'.whole (Declared.row Form.the-type)) (List._∷_ ( 7, Rows'.sref (Array'.Array (Referent.rtF (Referent.fInt Syntax.w16)) 768)
-    (Syntax.tyRef (Syntax.named 5) Syntax.imm (Syntax.tyArray (Syntax.tyInt Syntax.w16) 768)) 5, ) (List._∷_ (8, Rows.arrF (Referent.rtF (Referent.fInt Syntax.w8)) 36 0) (List._∷_ ( 9, Rows'.whole
-    (Declared.row Part.the-type), ) (List._∷_ (10, Rows'.sc-here (Row.sInt Syntax.w64)) (List._∷_ ( 11, Rows'.sc-here (Row.sInt Syntax.w32), ) (List._∷_ (12, Rows'.sc-here Row.sBool) (List._∷_ (13,
-    Rows'.sc-here (Row.sInt Syntax.w64)) (List._∷_ ( 14, Rows'.whole (Declared.row BitPosition.the-type), ) (List._∷_ (15, Rows'.sc-here Row.sBool) List.[])))))))))))))))
+t41 = List._∷_ (
+  0,
+  Rows'.any-gone (Syntax.tyStruct (List._∷_ 98 (List._∷_ 108 (List._∷_ 111 (List._∷_ 99 (List._∷_ 107 (List._∷_ 58 (List._∷_ 58 (List._∷_ 87 (List._∷_ 97 (List._∷_ 108 (List._∷_ 107
+      (List._∷_ 101 (List._∷_ 100 List.[]))))))))))))) (Syntax.tcons Syntax.tyBool (Syntax.tcons (Syntax.tyInt Syntax.w64) (Syntax.tcons (Syntax.tyStruct (List._∷_ 98 (List._∷_ 105 (List._∷_ 116 (List._∷_
+      115 (List._∷_ 58 (List._∷_ 58 (List._∷_ 66 (List._∷_ 105 (List._∷_ 116 (List._∷_ 80 (List._∷_ 111 (List._∷_ 115 (List._∷_ 105 (List._∷_ 116 (List._∷_ 105 (List._∷_ 111 (List._∷_ 110
+      List.[]))))))))))))))))) (Syntax.tcons (Syntax.tyInt Syntax.w64) Syntax.tnil)) (Syntax.tcons (Syntax.tyInt Syntax.w64) Syntax.tnil))))),
+) (List._∷_ (
+  1,
+  Rows'.sslice (Referent.rtF (Referent.fInt
+      Syntax.w8)) (Syntax.tyRef (Syntax.named 0) Syntax.imm (Syntax.tyInt Syntax.w8)) 0,
+) (List._∷_ (
+  2,
+  Rows'.sslice (Referent.rtF (Referent.fInt Syntax.w8)) (Syntax.tyRef (Syntax.named 1) Syntax.imm
+      (Syntax.tyInt Syntax.w8)) 1,
+) (List._∷_ (3, Relend.mslice-owed (Referent.rtF (Referent.fInt Syntax.w16)) (Syntax.tyRef (Syntax.named 2) Syntax.mut (Syntax.tyInt Syntax.w16)) 2 10 Row.off)
+    (List._∷_ (4, Mut.mslice (Element.type) (Syntax.tyRef (Syntax.named 3) Syntax.mut Element.behind) 3) (List._∷_ (
+      5,
+      Mut.mslice (Referent.rtF (Referent.fInt Syntax.w16)) (Syntax.tyRef (Syntax.named
+          4) Syntax.mut (Syntax.tyInt Syntax.w16)) 4,
+    ) (List._∷_ (6, Rows'.whole (Declared.row Form.the-type)) (List._∷_ (
+      7,
+      Rows'.sref (Array'.Array (Referent.rtF (Referent.fInt Syntax.w16)) 768)
+          (Syntax.tyRef (Syntax.named 5) Syntax.imm (Syntax.tyArray (Syntax.tyInt Syntax.w16) 768)) 5,
+    ) (List._∷_ (8, Rows.arrF (Referent.rtF (Referent.fInt Syntax.w8)) 36 0) (List._∷_ (
+      9,
+      Rows'.whole
+          (Declared.row Part.the-type),
+    ) (List._∷_ (10, Rows'.sc-here (Row.sInt Syntax.w64)) (List._∷_ (11, Rows'.sc-here (Row.sInt Syntax.w32)) (List._∷_ (12, Rows'.sc-here Row.sBool) (List._∷_ (
+      13,
+      Rows'.sc-here (Row.sInt Syntax.w64),
+    ) (List._∷_ (14, Rows'.whole (Declared.row BitPosition.the-type)) (List._∷_ (15, Rows'.sc-here Row.sBool) List.[])))))))))))))))
 
 abbrev pub t42 : List.List Row.Entry
-t42 = List._∷_ ( 32, Rows'.any-gone (Syntax.tyStruct (List._∷_ 38 (List._∷_ 91 (List._∷_ 93 List.[]))) (Syntax.tcons (Syntax.tyRef Syntax.erased Syntax.mut Element.behind) (Syntax.tcons (Syntax.tyInt
-    Syntax.w64) Syntax.tnil))), ) (List._∷_ ( 33, Relend.msptr (Referent.rtF (Referent.fInt Syntax.w16)) (Syntax.tyRef Syntax.erased Syntax.mut (Syntax.tyInt Syntax.w16)) 10, ) (List._∷_ ( 34,
-    Rows'.any-gone (Syntax.tyStruct (List._∷_ 38 (List._∷_ 91 (List._∷_ 93 List.[]))) (Syntax.tcons (Syntax.tyRef Syntax.erased Syntax.mut (Syntax.tyInt Syntax.w16)) (Syntax.tcons (Syntax.tyInt
-    Syntax.w64) Syntax.tnil))), ) (List._∷_ ( 35, Rows'.any-gone (Syntax.tyRef Syntax.erased Syntax.mut Element.behind), ) (List._∷_ ( 36, Rows'.any-gone (Syntax.tyStruct (List._∷_ 38 (List._∷_ 91
-    (List._∷_ 93 List.[]))) (Syntax.tcons (Syntax.tyRef Syntax.erased Syntax.mut Element.behind) (Syntax.tcons (Syntax.tyInt Syntax.w64) Syntax.tnil))), ) (List._∷_ ( 37, Rows'.any-gone (Syntax.tyStruct
-    (List._∷_ 112 (List._∷_ 97 (List._∷_ 115 (List._∷_ 115 (List._∷_ 58 (List._∷_ 58 (List._∷_ 81 (List._∷_ 117 (List._∷_ 97 (List._∷_ 110 (List._∷_ 116 (List._∷_ 105 (List._∷_ 115 (List._∷_ 101 (List._∷_
-    114 (List._∷_ 115 List.[])))))))))))))))) (Syntax.tcons (Syntax.tyInt Syntax.w32) (Syntax.tcons (Syntax.tyArray (Syntax.tyInt Syntax.w32) 4) (Syntax.tcons (Syntax.tyArray (Syntax.tyInt Syntax.w32) 4)
-    (Syntax.tcons (Syntax.tyArray (Syntax.tyInt Syntax.w32) 4) Syntax.tnil))))), ) (List._∷_ ( 38, Rows'.any-gone (Syntax.tyRef Syntax.erased Syntax.imm (Syntax.tyInt Syntax.w16)), ) (List._∷_ ( 39,
-    Rows'.any-gone (Syntax.tyStruct (List._∷_ 38 (List._∷_ 91 (List._∷_ 93 List.[]))) (Syntax.tcons (Syntax.tyRef Syntax.erased Syntax.imm (Syntax.tyInt Syntax.w16)) (Syntax.tcons (Syntax.tyInt
-    Syntax.w64) Syntax.tnil))), ) (List._∷_ ( 40, Rows'.any-gone (Syntax.tyRef Syntax.erased Syntax.mut (Syntax.tyInt Syntax.w16)), ) (List._∷_ ( 41, Rows'.any-gone (Syntax.tyStruct (List._∷_ 38 (List._∷_
-    91 (List._∷_ 93 List.[]))) (Syntax.tcons (Syntax.tyRef Syntax.erased Syntax.mut (Syntax.tyInt Syntax.w16)) (Syntax.tcons (Syntax.tyInt Syntax.w64) Syntax.tnil))), ) List.[])))))))))
+t42 = List._∷_ (
+  32,
+  Rows'.any-gone (Syntax.tyStruct (List._∷_ 38 (List._∷_ 91 (List._∷_ 93 List.[]))) (Syntax.tcons (Syntax.tyRef Syntax.erased Syntax.mut Element.behind) (Syntax.tcons (Syntax.tyInt
+      Syntax.w64) Syntax.tnil))),
+) (List._∷_ (33, Relend.msptr (Referent.rtF (Referent.fInt Syntax.w16)) (Syntax.tyRef Syntax.erased Syntax.mut (Syntax.tyInt Syntax.w16)) 10) (List._∷_ (
+  34,
+  Rows'.any-gone (Syntax.tyStruct (List._∷_ 38 (List._∷_ 91 (List._∷_ 93 List.[]))) (Syntax.tcons (Syntax.tyRef Syntax.erased Syntax.mut (Syntax.tyInt Syntax.w16)) (Syntax.tcons (Syntax.tyInt
+      Syntax.w64) Syntax.tnil))),
+) (List._∷_ (35, Rows'.any-gone (Syntax.tyRef Syntax.erased Syntax.mut Element.behind)) (List._∷_ (
+  36,
+  Rows'.any-gone (Syntax.tyStruct (List._∷_ 38 (List._∷_ 91
+      (List._∷_ 93 List.[]))) (Syntax.tcons (Syntax.tyRef Syntax.erased Syntax.mut Element.behind) (Syntax.tcons (Syntax.tyInt Syntax.w64) Syntax.tnil))),
+) (List._∷_ (
+  37,
+  Rows'.any-gone (Syntax.tyStruct
+      (List._∷_ 112 (List._∷_ 97 (List._∷_ 115 (List._∷_ 115 (List._∷_ 58 (List._∷_ 58 (List._∷_ 81 (List._∷_ 117 (List._∷_ 97 (List._∷_ 110 (List._∷_ 116 (List._∷_ 105 (List._∷_ 115 (List._∷_ 101 (List._∷_
+      114 (List._∷_ 115 List.[])))))))))))))))) (Syntax.tcons (Syntax.tyInt Syntax.w32) (Syntax.tcons (Syntax.tyArray (Syntax.tyInt Syntax.w32) 4) (Syntax.tcons (Syntax.tyArray (Syntax.tyInt Syntax.w32) 4)
+      (Syntax.tcons (Syntax.tyArray (Syntax.tyInt Syntax.w32) 4) Syntax.tnil))))),
+) (List._∷_ (38, Rows'.any-gone (Syntax.tyRef Syntax.erased Syntax.imm (Syntax.tyInt Syntax.w16))) (List._∷_ (
+  39,
+  Rows'.any-gone (Syntax.tyStruct (List._∷_ 38 (List._∷_ 91 (List._∷_ 93 List.[]))) (Syntax.tcons (Syntax.tyRef Syntax.erased Syntax.imm (Syntax.tyInt Syntax.w16)) (Syntax.tcons (Syntax.tyInt
+      Syntax.w64) Syntax.tnil))),
+) (List._∷_ (40, Rows'.any-gone (Syntax.tyRef Syntax.erased Syntax.mut (Syntax.tyInt Syntax.w16))) (List._∷_ (
+  41,
+  Rows'.any-gone (Syntax.tyStruct (List._∷_ 38 (List._∷_
+      91 (List._∷_ 93 List.[]))) (Syntax.tcons (Syntax.tyRef Syntax.erased Syntax.mut (Syntax.tyInt Syntax.w16)) (Syntax.tcons (Syntax.tyInt Syntax.w64) Syntax.tnil))),
+) List.[])))))))))
 
 abbrev pub t43 : List.List Row.Entry
-t43 = List._∷_ ( 32, Rows'.any-gone (Syntax.tyStruct (List._∷_ 38 (List._∷_ 91 (List._∷_ 93 List.[]))) (Syntax.tcons (Syntax.tyRef Syntax.erased Syntax.mut Element.behind) (Syntax.tcons (Syntax.tyInt
-    Syntax.w64) Syntax.tnil))), ) (List._∷_ ( 33, Rows'.any-gone (Syntax.tyRef Syntax.erased Syntax.mut (Syntax.tyInt Syntax.w16)), ) (List._∷_ ( 34, Mut.mslice (Referent.rtF (Referent.fInt Syntax.w16))
-    (Syntax.tyRef Syntax.erased Syntax.mut (Syntax.tyInt Syntax.w16)) 10, ) (List._∷_ ( 35, Rows'.any-gone (Syntax.tyRef Syntax.erased Syntax.mut Element.behind), ) (List._∷_ ( 36, Rows'.any-gone
-    (Syntax.tyStruct (List._∷_ 38 (List._∷_ 91 (List._∷_ 93 List.[]))) (Syntax.tcons (Syntax.tyRef Syntax.erased Syntax.mut Element.behind) (Syntax.tcons (Syntax.tyInt Syntax.w64) Syntax.tnil))), )
-    (List._∷_ ( 37, Rows'.any-gone (Syntax.tyStruct (List._∷_ 112 (List._∷_ 97 (List._∷_ 115 (List._∷_ 115 (List._∷_ 58 (List._∷_ 58 (List._∷_ 81 (List._∷_ 117 (List._∷_ 97 (List._∷_ 110 (List._∷_ 116
-    (List._∷_ 105 (List._∷_ 115 (List._∷_ 101 (List._∷_ 114 (List._∷_ 115 List.[])))))))))))))))) (Syntax.tcons (Syntax.tyInt Syntax.w32) (Syntax.tcons (Syntax.tyArray (Syntax.tyInt Syntax.w32) 4)
-    (Syntax.tcons (Syntax.tyArray (Syntax.tyInt Syntax.w32) 4) (Syntax.tcons (Syntax.tyArray (Syntax.tyInt Syntax.w32) 4) Syntax.tnil))))), ) (List._∷_ ( 38, Rows'.any-gone (Syntax.tyRef Syntax.erased
-    Syntax.imm (Syntax.tyInt Syntax.w16)), ) (List._∷_ ( 39, Rows'.any-gone (Syntax.tyStruct (List._∷_ 38 (List._∷_ 91 (List._∷_ 93 List.[]))) (Syntax.tcons (Syntax.tyRef Syntax.erased Syntax.imm
-    (Syntax.tyInt Syntax.w16)) (Syntax.tcons (Syntax.tyInt Syntax.w64) Syntax.tnil))), ) (List._∷_ ( 40, Rows'.any-gone (Syntax.tyRef Syntax.erased Syntax.mut (Syntax.tyInt Syntax.w16)), ) (List._∷_ ( 41,
-    Rows'.any-gone (Syntax.tyStruct (List._∷_ 38 (List._∷_ 91 (List._∷_ 93 List.[]))) (Syntax.tcons (Syntax.tyRef Syntax.erased Syntax.mut (Syntax.tyInt Syntax.w16)) (Syntax.tcons (Syntax.tyInt
-    Syntax.w64) Syntax.tnil))), ) List.[])))))))))
+t43 = List._∷_ (
+  32,
+  Rows'.any-gone (Syntax.tyStruct (List._∷_ 38 (List._∷_ 91 (List._∷_ 93 List.[]))) (Syntax.tcons (Syntax.tyRef Syntax.erased Syntax.mut Element.behind) (Syntax.tcons (Syntax.tyInt
+      Syntax.w64) Syntax.tnil))),
+) (List._∷_ (33, Rows'.any-gone (Syntax.tyRef Syntax.erased Syntax.mut (Syntax.tyInt Syntax.w16))) (List._∷_ (
+  34,
+  Mut.mslice (Referent.rtF (Referent.fInt Syntax.w16))
+      (Syntax.tyRef Syntax.erased Syntax.mut (Syntax.tyInt Syntax.w16)) 10,
+) (List._∷_ (35, Rows'.any-gone (Syntax.tyRef Syntax.erased Syntax.mut Element.behind)) (List._∷_ (
+  36,
+  Rows'.any-gone
+      (Syntax.tyStruct (List._∷_ 38 (List._∷_ 91 (List._∷_ 93 List.[]))) (Syntax.tcons (Syntax.tyRef Syntax.erased Syntax.mut Element.behind) (Syntax.tcons (Syntax.tyInt Syntax.w64) Syntax.tnil))),
+)
+    (List._∷_ (
+      37,
+      Rows'.any-gone (Syntax.tyStruct (List._∷_ 112 (List._∷_ 97 (List._∷_ 115 (List._∷_ 115 (List._∷_ 58 (List._∷_ 58 (List._∷_ 81 (List._∷_ 117 (List._∷_ 97 (List._∷_ 110 (List._∷_ 116
+          (List._∷_ 105 (List._∷_ 115 (List._∷_ 101 (List._∷_ 114 (List._∷_ 115 List.[])))))))))))))))) (Syntax.tcons (Syntax.tyInt Syntax.w32) (Syntax.tcons (Syntax.tyArray (Syntax.tyInt Syntax.w32) 4)
+          (Syntax.tcons (Syntax.tyArray (Syntax.tyInt Syntax.w32) 4) (Syntax.tcons (Syntax.tyArray (Syntax.tyInt Syntax.w32) 4) Syntax.tnil))))),
+    ) (List._∷_ (
+      38,
+      Rows'.any-gone (Syntax.tyRef Syntax.erased
+          Syntax.imm (Syntax.tyInt Syntax.w16)),
+    ) (List._∷_ (
+      39,
+      Rows'.any-gone (Syntax.tyStruct (List._∷_ 38 (List._∷_ 91 (List._∷_ 93 List.[]))) (Syntax.tcons (Syntax.tyRef Syntax.erased Syntax.imm
+          (Syntax.tyInt Syntax.w16)) (Syntax.tcons (Syntax.tyInt Syntax.w64) Syntax.tnil))),
+    ) (List._∷_ (40, Rows'.any-gone (Syntax.tyRef Syntax.erased Syntax.mut (Syntax.tyInt Syntax.w16))) (List._∷_ (
+      41,
+      Rows'.any-gone (Syntax.tyStruct (List._∷_ 38 (List._∷_ 91 (List._∷_ 93 List.[]))) (Syntax.tcons (Syntax.tyRef Syntax.erased Syntax.mut (Syntax.tyInt Syntax.w16)) (Syntax.tcons (Syntax.tyInt
+          Syntax.w64) Syntax.tnil))),
+    ) List.[])))))))))
 
 abbrev pub t44 : List.List Row.Entry
-t44 = List._∷_ ( 0, Rows'.any-gone (Syntax.tyStruct (List._∷_ 98 (List._∷_ 108 (List._∷_ 111 (List._∷_ 99 (List._∷_ 107 (List._∷_ 58 (List._∷_ 58 (List._∷_ 87 (List._∷_ 97 (List._∷_ 108 (List._∷_ 107
-    (List._∷_ 101 (List._∷_ 100 List.[]))))))))))))) (Syntax.tcons Syntax.tyBool (Syntax.tcons (Syntax.tyInt Syntax.w64) (Syntax.tcons (Syntax.tyStruct (List._∷_ 98 (List._∷_ 105 (List._∷_ 116 (List._∷_
-    115 (List._∷_ 58 (List._∷_ 58 (List._∷_ 66 (List._∷_ 105 (List._∷_ 116 (List._∷_ 80 (List._∷_ 111 (List._∷_ 115 (List._∷_ 105 (List._∷_ 116 (List._∷_ 105 (List._∷_ 111 (List._∷_ 110
-    List.[]))))))))))))))))) (Syntax.tcons (Syntax.tyInt Syntax.w64) Syntax.tnil)) (Syntax.tcons (Syntax.tyInt Syntax.w64) Syntax.tnil))))), ) (List._∷_ ( 1, Rows'.sslice (Referent.rtF (Referent.fInt
-    Syntax.w8)) (Syntax.tyRef (Syntax.named 0) Syntax.imm (Syntax.tyInt Syntax.w8)) 0, ) (List._∷_ ( 2, Rows'.sslice (Referent.rtF (Referent.fInt Syntax.w8)) (Syntax.tyRef (Syntax.named 1) Syntax.imm
-    (Syntax.tyInt Syntax.w8)) 1, ) (List._∷_ ( 3, Relend.mslice-owed (Referent.rtF (Referent.fInt Syntax.w16)) (Syntax.tyRef (Syntax.named 2) Syntax.mut (Syntax.tyInt Syntax.w16)) 2 10 Row.off, )
-    (List._∷_ ( 4, Relend.mslice-owed (Element.type) (Syntax.tyRef (Syntax.named 3) Syntax.mut Element.behind) 3 11 Row.off, ) (List._∷_ ( 5, Mut.mslice (Referent.rtF (Referent.fInt Syntax.w16))
-    (Syntax.tyRef (Syntax.named 4) Syntax.mut (Syntax.tyInt Syntax.w16)) 4, ) (List._∷_ (6, Rows'.whole (Declared.row Form.the-type)) (List._∷_ ( 7, Rows'.sref (Array'.Array (Referent.rtF (Referent.fInt
-    Syntax.w16)) 768) (Syntax.tyRef (Syntax.named 5) Syntax.imm (Syntax.tyArray (Syntax.tyInt Syntax.w16) 768)) 5, ) (List._∷_ (8, Rows.arrF (Referent.rtF (Referent.fInt Syntax.w8)) 36 0) (List._∷_ ( 9,
-    Rows'.whole (Declared.row Part.the-type), ) (List._∷_ (10, Rows'.sc-here (Row.sInt Syntax.w64)) (List._∷_ ( 11, Rows'.sc-here (Row.sInt Syntax.w32), ) (List._∷_ (12, Rows'.sc-here Row.sBool) (List._∷_
-    (13, Rows'.sc-here (Row.sInt Syntax.w64)) (List._∷_ ( 14, Rows'.whole (Declared.row BitPosition.the-type), ) (List._∷_ (15, Rows'.sc-here Row.sBool) List.[])))))))))))))))
+t44 = List._∷_ (
+  0,
+  Rows'.any-gone (Syntax.tyStruct (List._∷_ 98 (List._∷_ 108 (List._∷_ 111 (List._∷_ 99 (List._∷_ 107 (List._∷_ 58 (List._∷_ 58 (List._∷_ 87 (List._∷_ 97 (List._∷_ 108 (List._∷_ 107
+      (List._∷_ 101 (List._∷_ 100 List.[]))))))))))))) (Syntax.tcons Syntax.tyBool (Syntax.tcons (Syntax.tyInt Syntax.w64) (Syntax.tcons (Syntax.tyStruct (List._∷_ 98 (List._∷_ 105 (List._∷_ 116 (List._∷_
+      115 (List._∷_ 58 (List._∷_ 58 (List._∷_ 66 (List._∷_ 105 (List._∷_ 116 (List._∷_ 80 (List._∷_ 111 (List._∷_ 115 (List._∷_ 105 (List._∷_ 116 (List._∷_ 105 (List._∷_ 111 (List._∷_ 110
+      List.[]))))))))))))))))) (Syntax.tcons (Syntax.tyInt Syntax.w64) Syntax.tnil)) (Syntax.tcons (Syntax.tyInt Syntax.w64) Syntax.tnil))))),
+) (List._∷_ (
+  1,
+  Rows'.sslice (Referent.rtF (Referent.fInt
+      Syntax.w8)) (Syntax.tyRef (Syntax.named 0) Syntax.imm (Syntax.tyInt Syntax.w8)) 0,
+) (List._∷_ (
+  2,
+  Rows'.sslice (Referent.rtF (Referent.fInt Syntax.w8)) (Syntax.tyRef (Syntax.named 1) Syntax.imm
+      (Syntax.tyInt Syntax.w8)) 1,
+) (List._∷_ (3, Relend.mslice-owed (Referent.rtF (Referent.fInt Syntax.w16)) (Syntax.tyRef (Syntax.named 2) Syntax.mut (Syntax.tyInt Syntax.w16)) 2 10 Row.off)
+    (List._∷_ (4, Relend.mslice-owed (Element.type) (Syntax.tyRef (Syntax.named 3) Syntax.mut Element.behind) 3 11 Row.off) (List._∷_ (
+      5,
+      Mut.mslice (Referent.rtF (Referent.fInt Syntax.w16))
+          (Syntax.tyRef (Syntax.named 4) Syntax.mut (Syntax.tyInt Syntax.w16)) 4,
+    ) (List._∷_ (6, Rows'.whole (Declared.row Form.the-type)) (List._∷_ (
+      7,
+      Rows'.sref (Array'.Array (Referent.rtF (Referent.fInt
+          Syntax.w16)) 768) (Syntax.tyRef (Syntax.named 5) Syntax.imm (Syntax.tyArray (Syntax.tyInt Syntax.w16) 768)) 5,
+    ) (List._∷_ (8, Rows.arrF (Referent.rtF (Referent.fInt Syntax.w8)) 36 0) (List._∷_ (
+      9,
+      Rows'.whole (Declared.row Part.the-type),
+    ) (List._∷_ (10, Rows'.sc-here (Row.sInt Syntax.w64)) (List._∷_ (11, Rows'.sc-here (Row.sInt Syntax.w32)) (List._∷_ (12, Rows'.sc-here Row.sBool) (List._∷_
+    (13, Rows'.sc-here (Row.sInt Syntax.w64)) (List._∷_ (14, Rows'.whole (Declared.row BitPosition.the-type)) (List._∷_ (15, Rows'.sc-here Row.sBool) List.[])))))))))))))))
 
 abbrev pub t45 : List.List Row.Entry
-t45 = List._∷_ ( 32, Rows'.any-gone (Syntax.tyStruct (List._∷_ 38 (List._∷_ 91 (List._∷_ 93 List.[]))) (Syntax.tcons (Syntax.tyRef Syntax.erased Syntax.mut Element.behind) (Syntax.tcons (Syntax.tyInt
-    Syntax.w64) Syntax.tnil))), ) (List._∷_ ( 33, Rows'.any-gone (Syntax.tyRef Syntax.erased Syntax.mut (Syntax.tyInt Syntax.w16)), ) (List._∷_ ( 34, Mut.mslice (Referent.rtF (Referent.fInt Syntax.w16))
-    (Syntax.tyRef Syntax.erased Syntax.mut (Syntax.tyInt Syntax.w16)) 10, ) (List._∷_ ( 35, Relend.msptr (Element.type) (Syntax.tyRef Syntax.erased Syntax.mut Element.behind) 11, ) (List._∷_ ( 36,
-    Rows'.any-gone (Syntax.tyStruct (List._∷_ 38 (List._∷_ 91 (List._∷_ 93 List.[]))) (Syntax.tcons (Syntax.tyRef Syntax.erased Syntax.mut Element.behind) (Syntax.tcons (Syntax.tyInt Syntax.w64)
-    Syntax.tnil))), ) (List._∷_ ( 37, Rows'.any-gone (Syntax.tyStruct (List._∷_ 112 (List._∷_ 97 (List._∷_ 115 (List._∷_ 115 (List._∷_ 58 (List._∷_ 58 (List._∷_ 81 (List._∷_ 117 (List._∷_ 97 (List._∷_ 110
-    (List._∷_ 116 (List._∷_ 105 (List._∷_ 115 (List._∷_ 101 (List._∷_ 114 (List._∷_ 115 List.[])))))))))))))))) (Syntax.tcons (Syntax.tyInt Syntax.w32) (Syntax.tcons (Syntax.tyArray (Syntax.tyInt
-    Syntax.w32) 4) (Syntax.tcons (Syntax.tyArray (Syntax.tyInt Syntax.w32) 4) (Syntax.tcons (Syntax.tyArray (Syntax.tyInt Syntax.w32) 4) Syntax.tnil))))), ) (List._∷_ ( 38, Rows'.any-gone (Syntax.tyRef
-    Syntax.erased Syntax.imm (Syntax.tyInt Syntax.w16)), ) (List._∷_ ( 39, Rows'.any-gone (Syntax.tyStruct (List._∷_ 38 (List._∷_ 91 (List._∷_ 93 List.[]))) (Syntax.tcons (Syntax.tyRef Syntax.erased
-    Syntax.imm (Syntax.tyInt Syntax.w16)) (Syntax.tcons (Syntax.tyInt Syntax.w64) Syntax.tnil))), ) (List._∷_ ( 40, Rows'.any-gone (Syntax.tyRef Syntax.erased Syntax.mut (Syntax.tyInt Syntax.w16)), )
-    (List._∷_ ( 41, Rows'.any-gone (Syntax.tyStruct (List._∷_ 38 (List._∷_ 91 (List._∷_ 93 List.[]))) (Syntax.tcons (Syntax.tyRef Syntax.erased Syntax.mut (Syntax.tyInt Syntax.w16)) (Syntax.tcons
-    (Syntax.tyInt Syntax.w64) Syntax.tnil))), ) List.[])))))))))
+t45 = List._∷_ (
+  32,
+  Rows'.any-gone (Syntax.tyStruct (List._∷_ 38 (List._∷_ 91 (List._∷_ 93 List.[]))) (Syntax.tcons (Syntax.tyRef Syntax.erased Syntax.mut Element.behind) (Syntax.tcons (Syntax.tyInt
+      Syntax.w64) Syntax.tnil))),
+) (List._∷_ (33, Rows'.any-gone (Syntax.tyRef Syntax.erased Syntax.mut (Syntax.tyInt Syntax.w16))) (List._∷_ (
+  34,
+  Mut.mslice (Referent.rtF (Referent.fInt Syntax.w16))
+      (Syntax.tyRef Syntax.erased Syntax.mut (Syntax.tyInt Syntax.w16)) 10,
+) (List._∷_ (35, Relend.msptr (Element.type) (Syntax.tyRef Syntax.erased Syntax.mut Element.behind) 11) (List._∷_ (
+  36,
+  Rows'.any-gone (Syntax.tyStruct (List._∷_ 38 (List._∷_ 91 (List._∷_ 93 List.[]))) (Syntax.tcons (Syntax.tyRef Syntax.erased Syntax.mut Element.behind) (Syntax.tcons (Syntax.tyInt Syntax.w64)
+      Syntax.tnil))),
+) (List._∷_ (
+  37,
+  Rows'.any-gone (Syntax.tyStruct (List._∷_ 112 (List._∷_ 97 (List._∷_ 115 (List._∷_ 115 (List._∷_ 58 (List._∷_ 58 (List._∷_ 81 (List._∷_ 117 (List._∷_ 97 (List._∷_ 110
+      (List._∷_ 116 (List._∷_ 105 (List._∷_ 115 (List._∷_ 101 (List._∷_ 114 (List._∷_ 115 List.[])))))))))))))))) (Syntax.tcons (Syntax.tyInt Syntax.w32) (Syntax.tcons (Syntax.tyArray (Syntax.tyInt
+      Syntax.w32) 4) (Syntax.tcons (Syntax.tyArray (Syntax.tyInt Syntax.w32) 4) (Syntax.tcons (Syntax.tyArray (Syntax.tyInt Syntax.w32) 4) Syntax.tnil))))),
+) (List._∷_ (
+  38,
+  Rows'.any-gone (Syntax.tyRef
+      Syntax.erased Syntax.imm (Syntax.tyInt Syntax.w16)),
+) (List._∷_ (
+  39,
+  Rows'.any-gone (Syntax.tyStruct (List._∷_ 38 (List._∷_ 91 (List._∷_ 93 List.[]))) (Syntax.tcons (Syntax.tyRef Syntax.erased
+      Syntax.imm (Syntax.tyInt Syntax.w16)) (Syntax.tcons (Syntax.tyInt Syntax.w64) Syntax.tnil))),
+) (List._∷_ (40, Rows'.any-gone (Syntax.tyRef Syntax.erased Syntax.mut (Syntax.tyInt Syntax.w16)))
+    (List._∷_ (
+      41,
+      Rows'.any-gone (Syntax.tyStruct (List._∷_ 38 (List._∷_ 91 (List._∷_ 93 List.[]))) (Syntax.tcons (Syntax.tyRef Syntax.erased Syntax.mut (Syntax.tyInt Syntax.w16)) (Syntax.tcons
+          (Syntax.tyInt Syntax.w64) Syntax.tnil))),
+    ) List.[])))))))))
 
 abbrev pub t46 : List.List Row.Entry
-t46 = List._∷_ ( 32, Rows'.any-gone (Syntax.tyStruct (List._∷_ 38 (List._∷_ 91 (List._∷_ 93 List.[]))) (Syntax.tcons (Syntax.tyRef Syntax.erased Syntax.mut Element.behind) (Syntax.tcons (Syntax.tyInt
-    Syntax.w64) Syntax.tnil))), ) (List._∷_ ( 33, Rows'.any-gone (Syntax.tyRef Syntax.erased Syntax.mut (Syntax.tyInt Syntax.w16)), ) (List._∷_ ( 34, Mut.mslice (Referent.rtF (Referent.fInt Syntax.w16))
-    (Syntax.tyRef Syntax.erased Syntax.mut (Syntax.tyInt Syntax.w16)) 10, ) (List._∷_ ( 35, Rows'.any-gone (Syntax.tyRef Syntax.erased Syntax.mut Element.behind), ) (List._∷_ ( 36, Mut.mslice
-    (Element.type) (Syntax.tyRef Syntax.erased Syntax.mut Element.behind) 11, ) (List._∷_ ( 37, Rows'.any-gone (Syntax.tyStruct (List._∷_ 112 (List._∷_ 97 (List._∷_ 115 (List._∷_ 115 (List._∷_ 58
-    (List._∷_ 58 (List._∷_ 81 (List._∷_ 117 (List._∷_ 97 (List._∷_ 110 (List._∷_ 116 (List._∷_ 105 (List._∷_ 115 (List._∷_ 101 (List._∷_ 114 (List._∷_ 115 List.[])))))))))))))))) (Syntax.tcons
-    (Syntax.tyInt Syntax.w32) (Syntax.tcons (Syntax.tyArray (Syntax.tyInt Syntax.w32) 4) (Syntax.tcons (Syntax.tyArray (Syntax.tyInt Syntax.w32) 4) (Syntax.tcons (Syntax.tyArray (Syntax.tyInt Syntax.w32)
-    4) Syntax.tnil))))), ) (List._∷_ ( 38, Rows'.any-gone (Syntax.tyRef Syntax.erased Syntax.imm (Syntax.tyInt Syntax.w16)), ) (List._∷_ ( 39, Rows'.any-gone (Syntax.tyStruct (List._∷_ 38 (List._∷_ 91
-    (List._∷_ 93 List.[]))) (Syntax.tcons (Syntax.tyRef Syntax.erased Syntax.imm (Syntax.tyInt Syntax.w16)) (Syntax.tcons (Syntax.tyInt Syntax.w64) Syntax.tnil))), ) (List._∷_ ( 40, Rows'.any-gone
-    (Syntax.tyRef Syntax.erased Syntax.mut (Syntax.tyInt Syntax.w16)), ) (List._∷_ ( 41, Rows'.any-gone (Syntax.tyStruct (List._∷_ 38 (List._∷_ 91 (List._∷_ 93 List.[]))) (Syntax.tcons (Syntax.tyRef
-    Syntax.erased Syntax.mut (Syntax.tyInt Syntax.w16)) (Syntax.tcons (Syntax.tyInt Syntax.w64) Syntax.tnil))), ) List.[])))))))))
+t46 = List._∷_ (
+  32,
+  Rows'.any-gone (Syntax.tyStruct (List._∷_ 38 (List._∷_ 91 (List._∷_ 93 List.[]))) (Syntax.tcons (Syntax.tyRef Syntax.erased Syntax.mut Element.behind) (Syntax.tcons (Syntax.tyInt
+      Syntax.w64) Syntax.tnil))),
+) (List._∷_ (33, Rows'.any-gone (Syntax.tyRef Syntax.erased Syntax.mut (Syntax.tyInt Syntax.w16))) (List._∷_ (
+  34,
+  Mut.mslice (Referent.rtF (Referent.fInt Syntax.w16))
+      (Syntax.tyRef Syntax.erased Syntax.mut (Syntax.tyInt Syntax.w16)) 10,
+) (List._∷_ (35, Rows'.any-gone (Syntax.tyRef Syntax.erased Syntax.mut Element.behind)) (List._∷_ (
+  36,
+  Mut.mslice
+      (Element.type) (Syntax.tyRef Syntax.erased Syntax.mut Element.behind) 11,
+) (List._∷_ (
+  37,
+  Rows'.any-gone (Syntax.tyStruct (List._∷_ 112 (List._∷_ 97 (List._∷_ 115 (List._∷_ 115 (List._∷_ 58
+      (List._∷_ 58 (List._∷_ 81 (List._∷_ 117 (List._∷_ 97 (List._∷_ 110 (List._∷_ 116 (List._∷_ 105 (List._∷_ 115 (List._∷_ 101 (List._∷_ 114 (List._∷_ 115 List.[])))))))))))))))) (Syntax.tcons
+      (Syntax.tyInt Syntax.w32) (Syntax.tcons (Syntax.tyArray (Syntax.tyInt Syntax.w32) 4) (Syntax.tcons (Syntax.tyArray (Syntax.tyInt Syntax.w32) 4) (Syntax.tcons (Syntax.tyArray (Syntax.tyInt Syntax.w32)
+      4) Syntax.tnil))))),
+) (List._∷_ (38, Rows'.any-gone (Syntax.tyRef Syntax.erased Syntax.imm (Syntax.tyInt Syntax.w16))) (List._∷_ (
+  39,
+  Rows'.any-gone (Syntax.tyStruct (List._∷_ 38 (List._∷_ 91
+      (List._∷_ 93 List.[]))) (Syntax.tcons (Syntax.tyRef Syntax.erased Syntax.imm (Syntax.tyInt Syntax.w16)) (Syntax.tcons (Syntax.tyInt Syntax.w64) Syntax.tnil))),
+) (List._∷_ (
+  40,
+  Rows'.any-gone
+      (Syntax.tyRef Syntax.erased Syntax.mut (Syntax.tyInt Syntax.w16)),
+) (List._∷_ (
+  41,
+  Rows'.any-gone (Syntax.tyStruct (List._∷_ 38 (List._∷_ 91 (List._∷_ 93 List.[]))) (Syntax.tcons (Syntax.tyRef
+      Syntax.erased Syntax.mut (Syntax.tyInt Syntax.w16)) (Syntax.tcons (Syntax.tyInt Syntax.w64) Syntax.tnil))),
+) List.[])))))))))
 
 abbrev pub t47 : List.List Row.Entry
-t47 = List._∷_ ( 32, Rows'.any-gone (Syntax.tyStruct (List._∷_ 38 (List._∷_ 91 (List._∷_ 93 List.[]))) (Syntax.tcons (Syntax.tyRef Syntax.erased Syntax.mut Element.behind) (Syntax.tcons (Syntax.tyInt
-    Syntax.w64) Syntax.tnil))), ) (List._∷_ ( 33, Rows'.any-gone (Syntax.tyRef Syntax.erased Syntax.mut (Syntax.tyInt Syntax.w16)), ) (List._∷_ ( 34, Mut.mslice (Referent.rtF (Referent.fInt Syntax.w16))
-    (Syntax.tyRef Syntax.erased Syntax.mut (Syntax.tyInt Syntax.w16)) 10, ) (List._∷_ ( 35, Rows'.any-gone (Syntax.tyRef Syntax.erased Syntax.mut Element.behind), ) (List._∷_ ( 36, Mut.mslice
-    (Element.type) (Syntax.tyRef Syntax.erased Syntax.mut Element.behind) 11, ) (List._∷_ (37, Rows'.whole (Declared.row Quantisers.the-type)) (List._∷_ ( 38, Rows'.any-gone (Syntax.tyRef Syntax.erased
-    Syntax.imm (Syntax.tyInt Syntax.w16)), ) (List._∷_ ( 39, Rows'.any-gone (Syntax.tyStruct (List._∷_ 38 (List._∷_ 91 (List._∷_ 93 List.[]))) (Syntax.tcons (Syntax.tyRef Syntax.erased Syntax.imm
-    (Syntax.tyInt Syntax.w16)) (Syntax.tcons (Syntax.tyInt Syntax.w64) Syntax.tnil))), ) (List._∷_ ( 40, Rows'.any-gone (Syntax.tyRef Syntax.erased Syntax.mut (Syntax.tyInt Syntax.w16)), ) (List._∷_ ( 41,
-    Rows'.any-gone (Syntax.tyStruct (List._∷_ 38 (List._∷_ 91 (List._∷_ 93 List.[]))) (Syntax.tcons (Syntax.tyRef Syntax.erased Syntax.mut (Syntax.tyInt Syntax.w16)) (Syntax.tcons (Syntax.tyInt
-    Syntax.w64) Syntax.tnil))), ) List.[])))))))))
+t47 = List._∷_ (
+  32,
+  Rows'.any-gone (Syntax.tyStruct (List._∷_ 38 (List._∷_ 91 (List._∷_ 93 List.[]))) (Syntax.tcons (Syntax.tyRef Syntax.erased Syntax.mut Element.behind) (Syntax.tcons (Syntax.tyInt
+      Syntax.w64) Syntax.tnil))),
+) (List._∷_ (33, Rows'.any-gone (Syntax.tyRef Syntax.erased Syntax.mut (Syntax.tyInt Syntax.w16))) (List._∷_ (
+  34,
+  Mut.mslice (Referent.rtF (Referent.fInt Syntax.w16))
+      (Syntax.tyRef Syntax.erased Syntax.mut (Syntax.tyInt Syntax.w16)) 10,
+) (List._∷_ (35, Rows'.any-gone (Syntax.tyRef Syntax.erased Syntax.mut Element.behind)) (List._∷_ (
+  36,
+  Mut.mslice
+      (Element.type) (Syntax.tyRef Syntax.erased Syntax.mut Element.behind) 11,
+) (List._∷_ (37, Rows'.whole (Declared.row Quantisers.the-type)) (List._∷_ (
+  38,
+  Rows'.any-gone (Syntax.tyRef Syntax.erased
+      Syntax.imm (Syntax.tyInt Syntax.w16)),
+) (List._∷_ (
+  39,
+  Rows'.any-gone (Syntax.tyStruct (List._∷_ 38 (List._∷_ 91 (List._∷_ 93 List.[]))) (Syntax.tcons (Syntax.tyRef Syntax.erased Syntax.imm
+      (Syntax.tyInt Syntax.w16)) (Syntax.tcons (Syntax.tyInt Syntax.w64) Syntax.tnil))),
+) (List._∷_ (40, Rows'.any-gone (Syntax.tyRef Syntax.erased Syntax.mut (Syntax.tyInt Syntax.w16))) (List._∷_ (
+  41,
+  Rows'.any-gone (Syntax.tyStruct (List._∷_ 38 (List._∷_ 91 (List._∷_ 93 List.[]))) (Syntax.tcons (Syntax.tyRef Syntax.erased Syntax.mut (Syntax.tyInt Syntax.w16)) (Syntax.tcons (Syntax.tyInt
+      Syntax.w64) Syntax.tnil))),
+) List.[])))))))))
 
 abbrev pub t48 : List.List Row.Entry
-t48 = List._∷_ (16, Rows'.sc-here (Row.sInt Syntax.w64)) (List._∷_ ( 17, Rows'.sc-here (Row.sInt Syntax.w64), ) (List._∷_ (18, Rows'.sc-here (Row.sInt Syntax.w32)) (List._∷_ ( 19, Rows'.whole
-    (Declared.row Lined.the-type), ) (List._∷_ (20, Rows'.any-gone Syntax.tyBool) (List._∷_ (21, Rows'.any-gone Syntax.tyUnit) (List._∷_ ( 22, Rows'.any-gone (Syntax.tyRef Syntax.erased Syntax.mut
-    (Syntax.tyInt Syntax.w16)), ) (List._∷_ ( 23, Rows'.any-gone (Syntax.tyStruct (List._∷_ 38 (List._∷_ 91 (List._∷_ 93 List.[]))) (Syntax.tcons (Syntax.tyRef Syntax.erased Syntax.mut (Syntax.tyInt
-    Syntax.w16)) (Syntax.tcons (Syntax.tyInt Syntax.w64) Syntax.tnil))), ) (List._∷_ ( 24, Rows'.any-gone (Syntax.tyRef Syntax.erased Syntax.mut Element.behind), ) (List._∷_ ( 25, Rows'.any-gone
-    (Syntax.tyStruct (List._∷_ 38 (List._∷_ 91 (List._∷_ 93 List.[]))) (Syntax.tcons (Syntax.tyRef Syntax.erased Syntax.mut Element.behind) (Syntax.tcons (Syntax.tyInt Syntax.w64) Syntax.tnil))), )
-    (List._∷_ (26, Rows'.any-gone (Syntax.tyInt Syntax.w32)) (List._∷_ ( 27, Rows'.any-gone Syntax.tyBool, ) (List._∷_ (28, Rows'.any-gone Syntax.tyUnit) (List._∷_ ( 29, Rows'.any-gone (Syntax.tyRef
-    Syntax.erased Syntax.mut (Syntax.tyInt Syntax.w16)), ) (List._∷_ ( 30, Rows'.any-gone (Syntax.tyStruct (List._∷_ 38 (List._∷_ 91 (List._∷_ 93 List.[]))) (Syntax.tcons (Syntax.tyRef Syntax.erased
-    Syntax.mut (Syntax.tyInt Syntax.w16)) (Syntax.tcons (Syntax.tyInt Syntax.w64) Syntax.tnil))), ) (List._∷_ ( 31, Rows'.any-gone (Syntax.tyRef Syntax.erased Syntax.mut Element.behind), )
+t48 = List._∷_ (16, Rows'.sc-here (Row.sInt Syntax.w64)) (List._∷_ (17, Rows'.sc-here (Row.sInt Syntax.w64)) (List._∷_ (18, Rows'.sc-here (Row.sInt Syntax.w32)) (List._∷_ (
+  19,
+  Rows'.whole
+      (Declared.row Lined.the-type),
+) (List._∷_ (20, Rows'.any-gone Syntax.tyBool) (List._∷_ (21, Rows'.any-gone Syntax.tyUnit) (List._∷_ (
+  22,
+  Rows'.any-gone (Syntax.tyRef Syntax.erased Syntax.mut
+      (Syntax.tyInt Syntax.w16)),
+) (List._∷_ (
+  23,
+  Rows'.any-gone (Syntax.tyStruct (List._∷_ 38 (List._∷_ 91 (List._∷_ 93 List.[]))) (Syntax.tcons (Syntax.tyRef Syntax.erased Syntax.mut (Syntax.tyInt
+      Syntax.w16)) (Syntax.tcons (Syntax.tyInt Syntax.w64) Syntax.tnil))),
+) (List._∷_ (24, Rows'.any-gone (Syntax.tyRef Syntax.erased Syntax.mut Element.behind)) (List._∷_ (
+  25,
+  Rows'.any-gone
+      (Syntax.tyStruct (List._∷_ 38 (List._∷_ 91 (List._∷_ 93 List.[]))) (Syntax.tcons (Syntax.tyRef Syntax.erased Syntax.mut Element.behind) (Syntax.tcons (Syntax.tyInt Syntax.w64) Syntax.tnil))),
+)
+    (List._∷_ (26, Rows'.any-gone (Syntax.tyInt Syntax.w32)) (List._∷_ (27, Rows'.any-gone Syntax.tyBool) (List._∷_ (28, Rows'.any-gone Syntax.tyUnit) (List._∷_ (
+      29,
+      Rows'.any-gone (Syntax.tyRef
+          Syntax.erased Syntax.mut (Syntax.tyInt Syntax.w16)),
+    ) (List._∷_ (
+      30,
+      Rows'.any-gone (Syntax.tyStruct (List._∷_ 38 (List._∷_ 91 (List._∷_ 93 List.[]))) (Syntax.tcons (Syntax.tyRef Syntax.erased
+          Syntax.mut (Syntax.tyInt Syntax.w16)) (Syntax.tcons (Syntax.tyInt Syntax.w64) Syntax.tnil))),
+    ) (List._∷_ (31, Rows'.any-gone (Syntax.tyRef Syntax.erased Syntax.mut Element.behind))
     List.[])))))))))))))))
 
 abbrev pub t49 : List.List Row.Entry
-t49 = List._∷_ ( 32, Rows'.any-gone (Syntax.tyStruct (List._∷_ 38 (List._∷_ 91 (List._∷_ 93 List.[]))) (Syntax.tcons (Syntax.tyRef Syntax.erased Syntax.mut Element.behind) (Syntax.tcons (Syntax.tyInt
-    Syntax.w64) Syntax.tnil))), ) (List._∷_ ( 33, Rows'.any-gone (Syntax.tyRef Syntax.erased Syntax.mut (Syntax.tyInt Syntax.w16)), ) (List._∷_ ( 34, Mut.msleft (Referent.rtF (Referent.fInt Syntax.w16))
-    (Syntax.tyRef Syntax.erased Syntax.mut (Syntax.tyInt Syntax.w16)), ) (List._∷_ ( 35, Rows'.any-gone (Syntax.tyRef Syntax.erased Syntax.mut Element.behind), ) (List._∷_ ( 36, Mut.msleft (Element.type)
-    (Syntax.tyRef Syntax.erased Syntax.mut Element.behind), ) (List._∷_ (37, Rows'.whole (Declared.row Quantisers.the-type)) (List._∷_ ( 38, Rows'.any-gone (Syntax.tyRef Syntax.erased Syntax.imm
-    (Syntax.tyInt Syntax.w16)), ) (List._∷_ ( 39, Rows'.any-gone (Syntax.tyStruct (List._∷_ 38 (List._∷_ 91 (List._∷_ 93 List.[]))) (Syntax.tcons (Syntax.tyRef Syntax.erased Syntax.imm (Syntax.tyInt
-    Syntax.w16)) (Syntax.tcons (Syntax.tyInt Syntax.w64) Syntax.tnil))), ) (List._∷_ ( 40, Rows'.any-gone (Syntax.tyRef Syntax.erased Syntax.mut (Syntax.tyInt Syntax.w16)), ) (List._∷_ ( 41,
-    Rows'.any-gone (Syntax.tyStruct (List._∷_ 38 (List._∷_ 91 (List._∷_ 93 List.[]))) (Syntax.tcons (Syntax.tyRef Syntax.erased Syntax.mut (Syntax.tyInt Syntax.w16)) (Syntax.tcons (Syntax.tyInt
-    Syntax.w64) Syntax.tnil))), ) List.[])))))))))
+t49 = List._∷_ (
+  32,
+  Rows'.any-gone (Syntax.tyStruct (List._∷_ 38 (List._∷_ 91 (List._∷_ 93 List.[]))) (Syntax.tcons (Syntax.tyRef Syntax.erased Syntax.mut Element.behind) (Syntax.tcons (Syntax.tyInt
+      Syntax.w64) Syntax.tnil))),
+) (List._∷_ (33, Rows'.any-gone (Syntax.tyRef Syntax.erased Syntax.mut (Syntax.tyInt Syntax.w16))) (List._∷_ (
+  34,
+  Mut.msleft (Referent.rtF (Referent.fInt Syntax.w16))
+      (Syntax.tyRef Syntax.erased Syntax.mut (Syntax.tyInt Syntax.w16)),
+) (List._∷_ (35, Rows'.any-gone (Syntax.tyRef Syntax.erased Syntax.mut Element.behind)) (List._∷_ (
+  36,
+  Mut.msleft (Element.type)
+      (Syntax.tyRef Syntax.erased Syntax.mut Element.behind),
+) (List._∷_ (37, Rows'.whole (Declared.row Quantisers.the-type)) (List._∷_ (
+  38,
+  Rows'.any-gone (Syntax.tyRef Syntax.erased Syntax.imm
+      (Syntax.tyInt Syntax.w16)),
+) (List._∷_ (
+  39,
+  Rows'.any-gone (Syntax.tyStruct (List._∷_ 38 (List._∷_ 91 (List._∷_ 93 List.[]))) (Syntax.tcons (Syntax.tyRef Syntax.erased Syntax.imm (Syntax.tyInt
+      Syntax.w16)) (Syntax.tcons (Syntax.tyInt Syntax.w64) Syntax.tnil))),
+) (List._∷_ (40, Rows'.any-gone (Syntax.tyRef Syntax.erased Syntax.mut (Syntax.tyInt Syntax.w16))) (List._∷_ (
+  41,
+  Rows'.any-gone (Syntax.tyStruct (List._∷_ 38 (List._∷_ 91 (List._∷_ 93 List.[]))) (Syntax.tcons (Syntax.tyRef Syntax.erased Syntax.mut (Syntax.tyInt Syntax.w16)) (Syntax.tcons (Syntax.tyInt
+      Syntax.w64) Syntax.tnil))),
+) List.[])))))))))
 
 abbrev pub t50 : List.List Row.Entry
-t50 = List._∷_ ( 32, Rows'.any-gone (Syntax.tyStruct (List._∷_ 38 (List._∷_ 91 (List._∷_ 93 List.[]))) (Syntax.tcons (Syntax.tyRef Syntax.erased Syntax.mut Element.behind) (Syntax.tcons (Syntax.tyInt
-    Syntax.w64) Syntax.tnil))), ) (List._∷_ ( 33, Rows'.any-gone (Syntax.tyRef Syntax.erased Syntax.mut (Syntax.tyInt Syntax.w16)), ) (List._∷_ ( 34, Mut.msleft (Referent.rtF (Referent.fInt Syntax.w16))
-    (Syntax.tyRef Syntax.erased Syntax.mut (Syntax.tyInt Syntax.w16)), ) (List._∷_ ( 35, Rows'.any-gone (Syntax.tyRef Syntax.erased Syntax.mut Element.behind), ) (List._∷_ ( 36, Mut.msleft (Element.type)
-    (Syntax.tyRef Syntax.erased Syntax.mut Element.behind), ) (List._∷_ ( 37, Rows'.any-gone (Syntax.tyStruct (List._∷_ 112 (List._∷_ 97 (List._∷_ 115 (List._∷_ 115 (List._∷_ 58 (List._∷_ 58 (List._∷_ 81
-    (List._∷_ 117 (List._∷_ 97 (List._∷_ 110 (List._∷_ 116 (List._∷_ 105 (List._∷_ 115 (List._∷_ 101 (List._∷_ 114 (List._∷_ 115 List.[])))))))))))))))) (Syntax.tcons (Syntax.tyInt Syntax.w32)
-    (Syntax.tcons (Syntax.tyArray (Syntax.tyInt Syntax.w32) 4) (Syntax.tcons (Syntax.tyArray (Syntax.tyInt Syntax.w32) 4) (Syntax.tcons (Syntax.tyArray (Syntax.tyInt Syntax.w32) 4) Syntax.tnil))))), )
-    (List._∷_ ( 38, Rows'.any-gone (Syntax.tyRef Syntax.erased Syntax.imm (Syntax.tyInt Syntax.w16)), ) (List._∷_ ( 39, Rows'.any-gone (Syntax.tyStruct (List._∷_ 38 (List._∷_ 91 (List._∷_ 93 List.[])))
-    (Syntax.tcons (Syntax.tyRef Syntax.erased Syntax.imm (Syntax.tyInt Syntax.w16)) (Syntax.tcons (Syntax.tyInt Syntax.w64) Syntax.tnil))), ) (List._∷_ ( 40, Rows'.any-gone (Syntax.tyRef Syntax.erased
-    Syntax.mut (Syntax.tyInt Syntax.w16)), ) (List._∷_ ( 41, Rows'.any-gone (Syntax.tyStruct (List._∷_ 38 (List._∷_ 91 (List._∷_ 93 List.[]))) (Syntax.tcons (Syntax.tyRef Syntax.erased Syntax.mut
-    (Syntax.tyInt Syntax.w16)) (Syntax.tcons (Syntax.tyInt Syntax.w64) Syntax.tnil))), ) List.[])))))))))
+t50 = List._∷_ (
+  32,
+  Rows'.any-gone (Syntax.tyStruct (List._∷_ 38 (List._∷_ 91 (List._∷_ 93 List.[]))) (Syntax.tcons (Syntax.tyRef Syntax.erased Syntax.mut Element.behind) (Syntax.tcons (Syntax.tyInt
+      Syntax.w64) Syntax.tnil))),
+) (List._∷_ (33, Rows'.any-gone (Syntax.tyRef Syntax.erased Syntax.mut (Syntax.tyInt Syntax.w16))) (List._∷_ (
+  34,
+  Mut.msleft (Referent.rtF (Referent.fInt Syntax.w16))
+      (Syntax.tyRef Syntax.erased Syntax.mut (Syntax.tyInt Syntax.w16)),
+) (List._∷_ (35, Rows'.any-gone (Syntax.tyRef Syntax.erased Syntax.mut Element.behind)) (List._∷_ (
+  36,
+  Mut.msleft (Element.type)
+      (Syntax.tyRef Syntax.erased Syntax.mut Element.behind),
+) (List._∷_ (
+  37,
+  Rows'.any-gone (Syntax.tyStruct (List._∷_ 112 (List._∷_ 97 (List._∷_ 115 (List._∷_ 115 (List._∷_ 58 (List._∷_ 58 (List._∷_ 81
+      (List._∷_ 117 (List._∷_ 97 (List._∷_ 110 (List._∷_ 116 (List._∷_ 105 (List._∷_ 115 (List._∷_ 101 (List._∷_ 114 (List._∷_ 115 List.[])))))))))))))))) (Syntax.tcons (Syntax.tyInt Syntax.w32)
+      (Syntax.tcons (Syntax.tyArray (Syntax.tyInt Syntax.w32) 4) (Syntax.tcons (Syntax.tyArray (Syntax.tyInt Syntax.w32) 4) (Syntax.tcons (Syntax.tyArray (Syntax.tyInt Syntax.w32) 4) Syntax.tnil))))),
+)
+    (List._∷_ (38, Rows'.any-gone (Syntax.tyRef Syntax.erased Syntax.imm (Syntax.tyInt Syntax.w16))) (List._∷_ (
+      39,
+      Rows'.any-gone (Syntax.tyStruct (List._∷_ 38 (List._∷_ 91 (List._∷_ 93 List.[])))
+          (Syntax.tcons (Syntax.tyRef Syntax.erased Syntax.imm (Syntax.tyInt Syntax.w16)) (Syntax.tcons (Syntax.tyInt Syntax.w64) Syntax.tnil))),
+    ) (List._∷_ (
+      40,
+      Rows'.any-gone (Syntax.tyRef Syntax.erased
+          Syntax.mut (Syntax.tyInt Syntax.w16)),
+    ) (List._∷_ (
+      41,
+      Rows'.any-gone (Syntax.tyStruct (List._∷_ 38 (List._∷_ 91 (List._∷_ 93 List.[]))) (Syntax.tcons (Syntax.tyRef Syntax.erased Syntax.mut
+          (Syntax.tyInt Syntax.w16)) (Syntax.tcons (Syntax.tyInt Syntax.w64) Syntax.tnil))),
+    ) List.[])))))))))
 
 abbrev pub t51 : List.List Row.Entry
-t51 = List._∷_ ( 0, Rows'.any-gone (Syntax.tyStruct (List._∷_ 98 (List._∷_ 108 (List._∷_ 111 (List._∷_ 99 (List._∷_ 107 (List._∷_ 58 (List._∷_ 58 (List._∷_ 87 (List._∷_ 97 (List._∷_ 108 (List._∷_ 107
-    (List._∷_ 101 (List._∷_ 100 List.[]))))))))))))) (Syntax.tcons Syntax.tyBool (Syntax.tcons (Syntax.tyInt Syntax.w64) (Syntax.tcons (Syntax.tyStruct (List._∷_ 98 (List._∷_ 105 (List._∷_ 116 (List._∷_
-    115 (List._∷_ 58 (List._∷_ 58 (List._∷_ 66 (List._∷_ 105 (List._∷_ 116 (List._∷_ 80 (List._∷_ 111 (List._∷_ 115 (List._∷_ 105 (List._∷_ 116 (List._∷_ 105 (List._∷_ 111 (List._∷_ 110
-    List.[]))))))))))))))))) (Syntax.tcons (Syntax.tyInt Syntax.w64) Syntax.tnil)) (Syntax.tcons (Syntax.tyInt Syntax.w64) Syntax.tnil))))), ) (List._∷_ ( 1, Rows'.sslice (Referent.rtF (Referent.fInt
-    Syntax.w8)) (Syntax.tyRef (Syntax.named 0) Syntax.imm (Syntax.tyInt Syntax.w8)) 0, ) (List._∷_ ( 2, Rows'.sslice (Referent.rtF (Referent.fInt Syntax.w8)) (Syntax.tyRef (Syntax.named 1) Syntax.imm
-    (Syntax.tyInt Syntax.w8)) 1, ) (List._∷_ ( 3, Mut.mslice (Referent.rtF (Referent.fInt Syntax.w16)) (Syntax.tyRef (Syntax.named 2) Syntax.mut (Syntax.tyInt Syntax.w16)) 2, ) (List._∷_ ( 4,
-    Relend.mslice-owed (Element.type) (Syntax.tyRef (Syntax.named 3) Syntax.mut Element.behind) 3 11 Row.off, ) (List._∷_ ( 5, Mut.mslice (Referent.rtF (Referent.fInt Syntax.w16)) (Syntax.tyRef
-    (Syntax.named 4) Syntax.mut (Syntax.tyInt Syntax.w16)) 4, ) (List._∷_ (6, Rows'.whole (Declared.row Form.the-type)) (List._∷_ ( 7, Rows'.sref (Array'.Array (Referent.rtF (Referent.fInt Syntax.w16))
-    768) (Syntax.tyRef (Syntax.named 5) Syntax.imm (Syntax.tyArray (Syntax.tyInt Syntax.w16) 768)) 5, ) (List._∷_ (8, Rows.arrF (Referent.rtF (Referent.fInt Syntax.w8)) 36 0) (List._∷_ ( 9, Rows'.whole
-    (Declared.row Part.the-type), ) (List._∷_ (10, Rows'.sc-here (Row.sInt Syntax.w64)) (List._∷_ ( 11, Rows'.sc-here (Row.sInt Syntax.w32), ) (List._∷_ (12, Rows'.sc-here Row.sBool) (List._∷_ (13,
-    Rows'.sc-here (Row.sInt Syntax.w64)) (List._∷_ ( 14, Rows'.whole (Declared.row BitPosition.the-type), ) (List._∷_ (15, Rows'.sc-here Row.sBool) List.[])))))))))))))))
+t51 = List._∷_ (
+  0,
+  Rows'.any-gone (Syntax.tyStruct (List._∷_ 98 (List._∷_ 108 (List._∷_ 111 (List._∷_ 99 (List._∷_ 107 (List._∷_ 58 (List._∷_ 58 (List._∷_ 87 (List._∷_ 97 (List._∷_ 108 (List._∷_ 107
+      (List._∷_ 101 (List._∷_ 100 List.[]))))))))))))) (Syntax.tcons Syntax.tyBool (Syntax.tcons (Syntax.tyInt Syntax.w64) (Syntax.tcons (Syntax.tyStruct (List._∷_ 98 (List._∷_ 105 (List._∷_ 116 (List._∷_
+      115 (List._∷_ 58 (List._∷_ 58 (List._∷_ 66 (List._∷_ 105 (List._∷_ 116 (List._∷_ 80 (List._∷_ 111 (List._∷_ 115 (List._∷_ 105 (List._∷_ 116 (List._∷_ 105 (List._∷_ 111 (List._∷_ 110
+      List.[]))))))))))))))))) (Syntax.tcons (Syntax.tyInt Syntax.w64) Syntax.tnil)) (Syntax.tcons (Syntax.tyInt Syntax.w64) Syntax.tnil))))),
+) (List._∷_ (
+  1,
+  Rows'.sslice (Referent.rtF (Referent.fInt
+      Syntax.w8)) (Syntax.tyRef (Syntax.named 0) Syntax.imm (Syntax.tyInt Syntax.w8)) 0,
+) (List._∷_ (
+  2,
+  Rows'.sslice (Referent.rtF (Referent.fInt Syntax.w8)) (Syntax.tyRef (Syntax.named 1) Syntax.imm
+      (Syntax.tyInt Syntax.w8)) 1,
+) (List._∷_ (3, Mut.mslice (Referent.rtF (Referent.fInt Syntax.w16)) (Syntax.tyRef (Syntax.named 2) Syntax.mut (Syntax.tyInt Syntax.w16)) 2) (List._∷_ (
+  4,
+  Relend.mslice-owed (Element.type) (Syntax.tyRef (Syntax.named 3) Syntax.mut Element.behind) 3 11 Row.off,
+) (List._∷_ (
+  5,
+  Mut.mslice (Referent.rtF (Referent.fInt Syntax.w16)) (Syntax.tyRef
+      (Syntax.named 4) Syntax.mut (Syntax.tyInt Syntax.w16)) 4,
+) (List._∷_ (6, Rows'.whole (Declared.row Form.the-type)) (List._∷_ (
+  7,
+  Rows'.sref (Array'.Array (Referent.rtF (Referent.fInt Syntax.w16))
+      768) (Syntax.tyRef (Syntax.named 5) Syntax.imm (Syntax.tyArray (Syntax.tyInt Syntax.w16) 768)) 5,
+) (List._∷_ (8, Rows.arrF (Referent.rtF (Referent.fInt Syntax.w8)) 36 0) (List._∷_ (
+  9,
+  Rows'.whole
+      (Declared.row Part.the-type),
+) (List._∷_ (10, Rows'.sc-here (Row.sInt Syntax.w64)) (List._∷_ (11, Rows'.sc-here (Row.sInt Syntax.w32)) (List._∷_ (12, Rows'.sc-here Row.sBool) (List._∷_ (
+  13,
+  Rows'.sc-here (Row.sInt Syntax.w64),
+) (List._∷_ (14, Rows'.whole (Declared.row BitPosition.the-type)) (List._∷_ (15, Rows'.sc-here Row.sBool) List.[])))))))))))))))
 
 abbrev pub t52 : List.List Row.Entry
-t52 = List._∷_ ( 32, Rows'.any-gone (Syntax.tyStruct (List._∷_ 38 (List._∷_ 91 (List._∷_ 93 List.[]))) (Syntax.tcons (Syntax.tyRef Syntax.erased Syntax.mut Element.behind) (Syntax.tcons (Syntax.tyInt
-    Syntax.w64) Syntax.tnil))), ) (List._∷_ ( 33, Rows'.any-gone (Syntax.tyRef Syntax.erased Syntax.mut (Syntax.tyInt Syntax.w16)), ) (List._∷_ ( 34, Rows'.any-gone (Syntax.tyStruct (List._∷_ 38 (List._∷_
-    91 (List._∷_ 93 List.[]))) (Syntax.tcons (Syntax.tyRef Syntax.erased Syntax.mut (Syntax.tyInt Syntax.w16)) (Syntax.tcons (Syntax.tyInt Syntax.w64) Syntax.tnil))), ) (List._∷_ ( 35, Rows'.any-gone
-    (Syntax.tyRef Syntax.erased Syntax.mut Element.behind), ) (List._∷_ ( 36, Mut.msleft (Element.type) (Syntax.tyRef Syntax.erased Syntax.mut Element.behind), ) (List._∷_ ( 37, Rows'.any-gone
-    (Syntax.tyStruct (List._∷_ 112 (List._∷_ 97 (List._∷_ 115 (List._∷_ 115 (List._∷_ 58 (List._∷_ 58 (List._∷_ 81 (List._∷_ 117 (List._∷_ 97 (List._∷_ 110 (List._∷_ 116 (List._∷_ 105 (List._∷_ 115
-    (List._∷_ 101 (List._∷_ 114 (List._∷_ 115 List.[])))))))))))))))) (Syntax.tcons (Syntax.tyInt Syntax.w32) (Syntax.tcons (Syntax.tyArray (Syntax.tyInt Syntax.w32) 4) (Syntax.tcons (Syntax.tyArray
-    (Syntax.tyInt Syntax.w32) 4) (Syntax.tcons (Syntax.tyArray (Syntax.tyInt Syntax.w32) 4) Syntax.tnil))))), ) (List._∷_ ( 38, Rows'.any-gone (Syntax.tyRef Syntax.erased Syntax.imm (Syntax.tyInt
-    Syntax.w16)), ) (List._∷_ ( 39, Rows'.any-gone (Syntax.tyStruct (List._∷_ 38 (List._∷_ 91 (List._∷_ 93 List.[]))) (Syntax.tcons (Syntax.tyRef Syntax.erased Syntax.imm (Syntax.tyInt Syntax.w16))
-    (Syntax.tcons (Syntax.tyInt Syntax.w64) Syntax.tnil))), ) (List._∷_ ( 40, Rows'.any-gone (Syntax.tyRef Syntax.erased Syntax.mut (Syntax.tyInt Syntax.w16)), ) (List._∷_ ( 41, Rows'.any-gone
-    (Syntax.tyStruct (List._∷_ 38 (List._∷_ 91 (List._∷_ 93 List.[]))) (Syntax.tcons (Syntax.tyRef Syntax.erased Syntax.mut (Syntax.tyInt Syntax.w16)) (Syntax.tcons (Syntax.tyInt Syntax.w64)
-    Syntax.tnil))), ) List.[])))))))))
+t52 = List._∷_ (
+  32,
+  Rows'.any-gone (Syntax.tyStruct (List._∷_ 38 (List._∷_ 91 (List._∷_ 93 List.[]))) (Syntax.tcons (Syntax.tyRef Syntax.erased Syntax.mut Element.behind) (Syntax.tcons (Syntax.tyInt
+      Syntax.w64) Syntax.tnil))),
+) (List._∷_ (33, Rows'.any-gone (Syntax.tyRef Syntax.erased Syntax.mut (Syntax.tyInt Syntax.w16))) (List._∷_ (
+  34,
+  Rows'.any-gone (Syntax.tyStruct (List._∷_ 38 (List._∷_
+      91 (List._∷_ 93 List.[]))) (Syntax.tcons (Syntax.tyRef Syntax.erased Syntax.mut (Syntax.tyInt Syntax.w16)) (Syntax.tcons (Syntax.tyInt Syntax.w64) Syntax.tnil))),
+) (List._∷_ (
+  35,
+  Rows'.any-gone
+      (Syntax.tyRef Syntax.erased Syntax.mut Element.behind),
+) (List._∷_ (36, Mut.msleft (Element.type) (Syntax.tyRef Syntax.erased Syntax.mut Element.behind)) (List._∷_ (
+  37,
+  Rows'.any-gone
+      (Syntax.tyStruct (List._∷_ 112 (List._∷_ 97 (List._∷_ 115 (List._∷_ 115 (List._∷_ 58 (List._∷_ 58 (List._∷_ 81 (List._∷_ 117 (List._∷_ 97 (List._∷_ 110 (List._∷_ 116 (List._∷_ 105 (List._∷_ 115
+      (List._∷_ 101 (List._∷_ 114 (List._∷_ 115 List.[])))))))))))))))) (Syntax.tcons (Syntax.tyInt Syntax.w32) (Syntax.tcons (Syntax.tyArray (Syntax.tyInt Syntax.w32) 4) (Syntax.tcons (Syntax.tyArray
+      (Syntax.tyInt Syntax.w32) 4) (Syntax.tcons (Syntax.tyArray (Syntax.tyInt Syntax.w32) 4) Syntax.tnil))))),
+) (List._∷_ (
+  38,
+  Rows'.any-gone (Syntax.tyRef Syntax.erased Syntax.imm (Syntax.tyInt
+      Syntax.w16)),
+) (List._∷_ (
+  39,
+  Rows'.any-gone (Syntax.tyStruct (List._∷_ 38 (List._∷_ 91 (List._∷_ 93 List.[]))) (Syntax.tcons (Syntax.tyRef Syntax.erased Syntax.imm (Syntax.tyInt Syntax.w16))
+      (Syntax.tcons (Syntax.tyInt Syntax.w64) Syntax.tnil))),
+) (List._∷_ (40, Rows'.any-gone (Syntax.tyRef Syntax.erased Syntax.mut (Syntax.tyInt Syntax.w16))) (List._∷_ (
+  41,
+  Rows'.any-gone
+      (Syntax.tyStruct (List._∷_ 38 (List._∷_ 91 (List._∷_ 93 List.[]))) (Syntax.tcons (Syntax.tyRef Syntax.erased Syntax.mut (Syntax.tyInt Syntax.w16)) (Syntax.tcons (Syntax.tyInt Syntax.w64)
+      Syntax.tnil))),
+) List.[])))))))))
 
 abbrev pub t53 : List.List Row.Entry
-t53 = List._∷_ (16, Rows'.sc-here (Row.sInt Syntax.w64)) (List._∷_ ( 17, Rows'.sc-here (Row.sInt Syntax.w64), ) (List._∷_ (18, Rows'.sc-here (Row.sInt Syntax.w32)) (List._∷_ ( 19, Rows'.whole
-    (Declared.row Lined.the-type), ) (List._∷_ (20, Rows'.sc-here Row.sBool) (List._∷_ (21, Rows'.any-gone Syntax.tyUnit) (List._∷_ ( 22, Rows'.any-gone (Syntax.tyRef Syntax.erased Syntax.mut
-    (Syntax.tyInt Syntax.w16)), ) (List._∷_ ( 23, Rows'.any-gone (Syntax.tyStruct (List._∷_ 38 (List._∷_ 91 (List._∷_ 93 List.[]))) (Syntax.tcons (Syntax.tyRef Syntax.erased Syntax.mut (Syntax.tyInt
-    Syntax.w16)) (Syntax.tcons (Syntax.tyInt Syntax.w64) Syntax.tnil))), ) (List._∷_ ( 24, Rows'.any-gone (Syntax.tyRef Syntax.erased Syntax.mut Element.behind), ) (List._∷_ ( 25, Rows'.any-gone
-    (Syntax.tyStruct (List._∷_ 38 (List._∷_ 91 (List._∷_ 93 List.[]))) (Syntax.tcons (Syntax.tyRef Syntax.erased Syntax.mut Element.behind) (Syntax.tcons (Syntax.tyInt Syntax.w64) Syntax.tnil))), )
-    (List._∷_ (26, Rows'.any-gone (Syntax.tyInt Syntax.w32)) (List._∷_ ( 27, Rows'.any-gone Syntax.tyBool, ) (List._∷_ (28, Rows'.any-gone Syntax.tyUnit) (List._∷_ ( 29, Rows'.any-gone (Syntax.tyRef
-    Syntax.erased Syntax.mut (Syntax.tyInt Syntax.w16)), ) (List._∷_ ( 30, Rows'.any-gone (Syntax.tyStruct (List._∷_ 38 (List._∷_ 91 (List._∷_ 93 List.[]))) (Syntax.tcons (Syntax.tyRef Syntax.erased
-    Syntax.mut (Syntax.tyInt Syntax.w16)) (Syntax.tcons (Syntax.tyInt Syntax.w64) Syntax.tnil))), ) (List._∷_ ( 31, Rows'.any-gone (Syntax.tyRef Syntax.erased Syntax.mut Element.behind), )
+t53 = List._∷_ (16, Rows'.sc-here (Row.sInt Syntax.w64)) (List._∷_ (17, Rows'.sc-here (Row.sInt Syntax.w64)) (List._∷_ (18, Rows'.sc-here (Row.sInt Syntax.w32)) (List._∷_ (
+  19,
+  Rows'.whole
+      (Declared.row Lined.the-type),
+) (List._∷_ (20, Rows'.sc-here Row.sBool) (List._∷_ (21, Rows'.any-gone Syntax.tyUnit) (List._∷_ (
+  22,
+  Rows'.any-gone (Syntax.tyRef Syntax.erased Syntax.mut
+      (Syntax.tyInt Syntax.w16)),
+) (List._∷_ (
+  23,
+  Rows'.any-gone (Syntax.tyStruct (List._∷_ 38 (List._∷_ 91 (List._∷_ 93 List.[]))) (Syntax.tcons (Syntax.tyRef Syntax.erased Syntax.mut (Syntax.tyInt
+      Syntax.w16)) (Syntax.tcons (Syntax.tyInt Syntax.w64) Syntax.tnil))),
+) (List._∷_ (24, Rows'.any-gone (Syntax.tyRef Syntax.erased Syntax.mut Element.behind)) (List._∷_ (
+  25,
+  Rows'.any-gone
+      (Syntax.tyStruct (List._∷_ 38 (List._∷_ 91 (List._∷_ 93 List.[]))) (Syntax.tcons (Syntax.tyRef Syntax.erased Syntax.mut Element.behind) (Syntax.tcons (Syntax.tyInt Syntax.w64) Syntax.tnil))),
+)
+    (List._∷_ (26, Rows'.any-gone (Syntax.tyInt Syntax.w32)) (List._∷_ (27, Rows'.any-gone Syntax.tyBool) (List._∷_ (28, Rows'.any-gone Syntax.tyUnit) (List._∷_ (
+      29,
+      Rows'.any-gone (Syntax.tyRef
+          Syntax.erased Syntax.mut (Syntax.tyInt Syntax.w16)),
+    ) (List._∷_ (
+      30,
+      Rows'.any-gone (Syntax.tyStruct (List._∷_ 38 (List._∷_ 91 (List._∷_ 93 List.[]))) (Syntax.tcons (Syntax.tyRef Syntax.erased
+          Syntax.mut (Syntax.tyInt Syntax.w16)) (Syntax.tcons (Syntax.tyInt Syntax.w64) Syntax.tnil))),
+    ) (List._∷_ (31, Rows'.any-gone (Syntax.tyRef Syntax.erased Syntax.mut Element.behind))
     List.[])))))))))))))))
 
 abbrev pub t54 : List.List Row.Entry
-t54 = List._∷_ (16, Rows'.sc-here (Row.sInt Syntax.w64)) (List._∷_ ( 17, Rows'.sc-here (Row.sInt Syntax.w64), ) (List._∷_ (18, Rows'.sc-here (Row.sInt Syntax.w32)) (List._∷_ ( 19, Rows'.whole
-    (Declared.row Lined.the-type), ) (List._∷_ (20, Rows'.sc-here Row.sBool) (List._∷_ (21, Rows'.any-gone Syntax.tyUnit) (List._∷_ ( 22, Rows'.any-gone (Syntax.tyRef Syntax.erased Syntax.mut
-    (Syntax.tyInt Syntax.w16)), ) (List._∷_ ( 23, Rows'.any-gone (Syntax.tyStruct (List._∷_ 38 (List._∷_ 91 (List._∷_ 93 List.[]))) (Syntax.tcons (Syntax.tyRef Syntax.erased Syntax.mut (Syntax.tyInt
-    Syntax.w16)) (Syntax.tcons (Syntax.tyInt Syntax.w64) Syntax.tnil))), ) (List._∷_ ( 24, Rows'.any-gone (Syntax.tyRef Syntax.erased Syntax.mut Element.behind), ) (List._∷_ ( 25, Rows'.any-gone
-    (Syntax.tyStruct (List._∷_ 38 (List._∷_ 91 (List._∷_ 93 List.[]))) (Syntax.tcons (Syntax.tyRef Syntax.erased Syntax.mut Element.behind) (Syntax.tcons (Syntax.tyInt Syntax.w64) Syntax.tnil))), )
-    (List._∷_ (26, Rows'.any-gone (Syntax.tyInt Syntax.w32)) (List._∷_ ( 27, Rows'.sc-here Row.sBool, ) (List._∷_ (28, Rows'.any-gone Syntax.tyUnit) (List._∷_ ( 29, Rows'.any-gone (Syntax.tyRef
-    Syntax.erased Syntax.mut (Syntax.tyInt Syntax.w16)), ) (List._∷_ ( 30, Rows'.any-gone (Syntax.tyStruct (List._∷_ 38 (List._∷_ 91 (List._∷_ 93 List.[]))) (Syntax.tcons (Syntax.tyRef Syntax.erased
-    Syntax.mut (Syntax.tyInt Syntax.w16)) (Syntax.tcons (Syntax.tyInt Syntax.w64) Syntax.tnil))), ) (List._∷_ ( 31, Rows'.any-gone (Syntax.tyRef Syntax.erased Syntax.mut Element.behind), )
+t54 = List._∷_ (16, Rows'.sc-here (Row.sInt Syntax.w64)) (List._∷_ (17, Rows'.sc-here (Row.sInt Syntax.w64)) (List._∷_ (18, Rows'.sc-here (Row.sInt Syntax.w32)) (List._∷_ (
+  19,
+  Rows'.whole
+      (Declared.row Lined.the-type),
+) (List._∷_ (20, Rows'.sc-here Row.sBool) (List._∷_ (21, Rows'.any-gone Syntax.tyUnit) (List._∷_ (
+  22,
+  Rows'.any-gone (Syntax.tyRef Syntax.erased Syntax.mut
+      (Syntax.tyInt Syntax.w16)),
+) (List._∷_ (
+  23,
+  Rows'.any-gone (Syntax.tyStruct (List._∷_ 38 (List._∷_ 91 (List._∷_ 93 List.[]))) (Syntax.tcons (Syntax.tyRef Syntax.erased Syntax.mut (Syntax.tyInt
+      Syntax.w16)) (Syntax.tcons (Syntax.tyInt Syntax.w64) Syntax.tnil))),
+) (List._∷_ (24, Rows'.any-gone (Syntax.tyRef Syntax.erased Syntax.mut Element.behind)) (List._∷_ (
+  25,
+  Rows'.any-gone
+      (Syntax.tyStruct (List._∷_ 38 (List._∷_ 91 (List._∷_ 93 List.[]))) (Syntax.tcons (Syntax.tyRef Syntax.erased Syntax.mut Element.behind) (Syntax.tcons (Syntax.tyInt Syntax.w64) Syntax.tnil))),
+)
+    (List._∷_ (26, Rows'.any-gone (Syntax.tyInt Syntax.w32)) (List._∷_ (27, Rows'.sc-here Row.sBool) (List._∷_ (28, Rows'.any-gone Syntax.tyUnit) (List._∷_ (
+      29,
+      Rows'.any-gone (Syntax.tyRef
+          Syntax.erased Syntax.mut (Syntax.tyInt Syntax.w16)),
+    ) (List._∷_ (
+      30,
+      Rows'.any-gone (Syntax.tyStruct (List._∷_ 38 (List._∷_ 91 (List._∷_ 93 List.[]))) (Syntax.tcons (Syntax.tyRef Syntax.erased
+          Syntax.mut (Syntax.tyInt Syntax.w16)) (Syntax.tcons (Syntax.tyInt Syntax.w64) Syntax.tnil))),
+    ) (List._∷_ (31, Rows'.any-gone (Syntax.tyRef Syntax.erased Syntax.mut Element.behind))
     List.[])))))))))))))))
 
 abbrev pub t55 : List.List Row.Entry
-t55 = List._∷_ (16, Rows'.sc-here (Row.sInt Syntax.w64)) (List._∷_ ( 17, Rows'.sc-here (Row.sInt Syntax.w64), ) (List._∷_ (18, Rows'.sc-here (Row.sInt Syntax.w32)) (List._∷_ ( 19, Rows'.any-gone
-    (Syntax.tyStruct (List._∷_ 98 (List._∷_ 108 (List._∷_ 111 (List._∷_ 99 (List._∷_ 107 (List._∷_ 58 (List._∷_ 58 (List._∷_ 76 (List._∷_ 105 (List._∷_ 110 (List._∷_ 101 (List._∷_ 100 List.[]))))))))))))
-    (Syntax.tcons Syntax.tyBool (Syntax.tcons Syntax.tyBool (Syntax.tcons (Syntax.tyStruct (List._∷_ 98 (List._∷_ 105 (List._∷_ 116 (List._∷_ 115 (List._∷_ 58 (List._∷_ 58 (List._∷_ 66 (List._∷_ 105
-    (List._∷_ 116 (List._∷_ 80 (List._∷_ 111 (List._∷_ 115 (List._∷_ 105 (List._∷_ 116 (List._∷_ 105 (List._∷_ 111 (List._∷_ 110 List.[]))))))))))))))))) (Syntax.tcons (Syntax.tyInt Syntax.w64)
-    Syntax.tnil)) Syntax.tnil)))), ) (List._∷_ (20, Rows'.sc-here Row.sBool) (List._∷_ (21, Rows'.any-gone Syntax.tyUnit) (List._∷_ ( 22, Rows'.any-gone (Syntax.tyRef Syntax.erased Syntax.mut
-    (Syntax.tyInt Syntax.w16)), ) (List._∷_ ( 23, Rows'.any-gone (Syntax.tyStruct (List._∷_ 38 (List._∷_ 91 (List._∷_ 93 List.[]))) (Syntax.tcons (Syntax.tyRef Syntax.erased Syntax.mut (Syntax.tyInt
-    Syntax.w16)) (Syntax.tcons (Syntax.tyInt Syntax.w64) Syntax.tnil))), ) (List._∷_ ( 24, Rows'.any-gone (Syntax.tyRef Syntax.erased Syntax.mut Element.behind), ) (List._∷_ ( 25, Rows'.any-gone
-    (Syntax.tyStruct (List._∷_ 38 (List._∷_ 91 (List._∷_ 93 List.[]))) (Syntax.tcons (Syntax.tyRef Syntax.erased Syntax.mut Element.behind) (Syntax.tcons (Syntax.tyInt Syntax.w64) Syntax.tnil))), )
-    (List._∷_ (26, Rows'.any-gone (Syntax.tyInt Syntax.w32)) (List._∷_ ( 27, Rows'.sc-here Row.sBool, ) (List._∷_ (28, Rows'.any-gone Syntax.tyUnit) (List._∷_ ( 29, Rows'.any-gone (Syntax.tyRef
-    Syntax.erased Syntax.mut (Syntax.tyInt Syntax.w16)), ) (List._∷_ ( 30, Rows'.any-gone (Syntax.tyStruct (List._∷_ 38 (List._∷_ 91 (List._∷_ 93 List.[]))) (Syntax.tcons (Syntax.tyRef Syntax.erased
-    Syntax.mut (Syntax.tyInt Syntax.w16)) (Syntax.tcons (Syntax.tyInt Syntax.w64) Syntax.tnil))), ) (List._∷_ ( 31, Rows'.any-gone (Syntax.tyRef Syntax.erased Syntax.mut Element.behind), )
+t55 = List._∷_ (16, Rows'.sc-here (Row.sInt Syntax.w64)) (List._∷_ (17, Rows'.sc-here (Row.sInt Syntax.w64)) (List._∷_ (18, Rows'.sc-here (Row.sInt Syntax.w32)) (List._∷_ (
+  19,
+  Rows'.any-gone
+      (Syntax.tyStruct (List._∷_ 98 (List._∷_ 108 (List._∷_ 111 (List._∷_ 99 (List._∷_ 107 (List._∷_ 58 (List._∷_ 58 (List._∷_ 76 (List._∷_ 105 (List._∷_ 110 (List._∷_ 101 (List._∷_ 100 List.[]))))))))))))
+      (Syntax.tcons Syntax.tyBool (Syntax.tcons Syntax.tyBool (Syntax.tcons (Syntax.tyStruct (List._∷_ 98 (List._∷_ 105 (List._∷_ 116 (List._∷_ 115 (List._∷_ 58 (List._∷_ 58 (List._∷_ 66 (List._∷_ 105
+      (List._∷_ 116 (List._∷_ 80 (List._∷_ 111 (List._∷_ 115 (List._∷_ 105 (List._∷_ 116 (List._∷_ 105 (List._∷_ 111 (List._∷_ 110 List.[]))))))))))))))))) (Syntax.tcons (Syntax.tyInt Syntax.w64)
+      Syntax.tnil)) Syntax.tnil)))),
+) (List._∷_ (20, Rows'.sc-here Row.sBool) (List._∷_ (21, Rows'.any-gone Syntax.tyUnit) (List._∷_ (
+  22,
+  Rows'.any-gone (Syntax.tyRef Syntax.erased Syntax.mut
+      (Syntax.tyInt Syntax.w16)),
+) (List._∷_ (
+  23,
+  Rows'.any-gone (Syntax.tyStruct (List._∷_ 38 (List._∷_ 91 (List._∷_ 93 List.[]))) (Syntax.tcons (Syntax.tyRef Syntax.erased Syntax.mut (Syntax.tyInt
+      Syntax.w16)) (Syntax.tcons (Syntax.tyInt Syntax.w64) Syntax.tnil))),
+) (List._∷_ (24, Rows'.any-gone (Syntax.tyRef Syntax.erased Syntax.mut Element.behind)) (List._∷_ (
+  25,
+  Rows'.any-gone
+      (Syntax.tyStruct (List._∷_ 38 (List._∷_ 91 (List._∷_ 93 List.[]))) (Syntax.tcons (Syntax.tyRef Syntax.erased Syntax.mut Element.behind) (Syntax.tcons (Syntax.tyInt Syntax.w64) Syntax.tnil))),
+)
+    (List._∷_ (26, Rows'.any-gone (Syntax.tyInt Syntax.w32)) (List._∷_ (27, Rows'.sc-here Row.sBool) (List._∷_ (28, Rows'.any-gone Syntax.tyUnit) (List._∷_ (
+      29,
+      Rows'.any-gone (Syntax.tyRef
+          Syntax.erased Syntax.mut (Syntax.tyInt Syntax.w16)),
+    ) (List._∷_ (
+      30,
+      Rows'.any-gone (Syntax.tyStruct (List._∷_ 38 (List._∷_ 91 (List._∷_ 93 List.[]))) (Syntax.tcons (Syntax.tyRef Syntax.erased
+          Syntax.mut (Syntax.tyInt Syntax.w16)) (Syntax.tcons (Syntax.tyInt Syntax.w64) Syntax.tnil))),
+    ) (List._∷_ (31, Rows'.any-gone (Syntax.tyRef Syntax.erased Syntax.mut Element.behind))
     List.[])))))))))))))))
 
 abbrev pub t56 : List.List Row.Entry
-t56 = List._∷_ (16, Rows'.sc-here (Row.sInt Syntax.w64)) (List._∷_ ( 17, Rows'.sc-here (Row.sInt Syntax.w64), ) (List._∷_ (18, Rows'.sc-here (Row.sInt Syntax.w32)) (List._∷_ ( 19, Rows'.any-gone
-    (Syntax.tyStruct (List._∷_ 98 (List._∷_ 108 (List._∷_ 111 (List._∷_ 99 (List._∷_ 107 (List._∷_ 58 (List._∷_ 58 (List._∷_ 76 (List._∷_ 105 (List._∷_ 110 (List._∷_ 101 (List._∷_ 100 List.[]))))))))))))
-    (Syntax.tcons Syntax.tyBool (Syntax.tcons Syntax.tyBool (Syntax.tcons (Syntax.tyStruct (List._∷_ 98 (List._∷_ 105 (List._∷_ 116 (List._∷_ 115 (List._∷_ 58 (List._∷_ 58 (List._∷_ 66 (List._∷_ 105
-    (List._∷_ 116 (List._∷_ 80 (List._∷_ 111 (List._∷_ 115 (List._∷_ 105 (List._∷_ 116 (List._∷_ 105 (List._∷_ 111 (List._∷_ 110 List.[]))))))))))))))))) (Syntax.tcons (Syntax.tyInt Syntax.w64)
-    Syntax.tnil)) Syntax.tnil)))), ) (List._∷_ (20, Rows'.sc-here Row.sBool) (List._∷_ (21, Rows'.any-gone Syntax.tyUnit) (List._∷_ ( 22, Rows'.any-gone (Syntax.tyRef Syntax.erased Syntax.mut
-    (Syntax.tyInt Syntax.w16)), ) (List._∷_ ( 23, Rows'.any-gone (Syntax.tyStruct (List._∷_ 38 (List._∷_ 91 (List._∷_ 93 List.[]))) (Syntax.tcons (Syntax.tyRef Syntax.erased Syntax.mut (Syntax.tyInt
-    Syntax.w16)) (Syntax.tcons (Syntax.tyInt Syntax.w64) Syntax.tnil))), ) (List._∷_ ( 24, Rows'.any-gone (Syntax.tyRef Syntax.erased Syntax.mut Element.behind), ) (List._∷_ ( 25, Rows'.any-gone
-    (Syntax.tyStruct (List._∷_ 38 (List._∷_ 91 (List._∷_ 93 List.[]))) (Syntax.tcons (Syntax.tyRef Syntax.erased Syntax.mut Element.behind) (Syntax.tcons (Syntax.tyInt Syntax.w64) Syntax.tnil))), )
-    (List._∷_ (26, Rows'.any-gone (Syntax.tyInt Syntax.w32)) (List._∷_ ( 27, Rows'.any-gone Syntax.tyBool, ) (List._∷_ (28, Rows'.any-gone Syntax.tyUnit) (List._∷_ ( 29, Rows'.any-gone (Syntax.tyRef
-    Syntax.erased Syntax.mut (Syntax.tyInt Syntax.w16)), ) (List._∷_ ( 30, Rows'.any-gone (Syntax.tyStruct (List._∷_ 38 (List._∷_ 91 (List._∷_ 93 List.[]))) (Syntax.tcons (Syntax.tyRef Syntax.erased
-    Syntax.mut (Syntax.tyInt Syntax.w16)) (Syntax.tcons (Syntax.tyInt Syntax.w64) Syntax.tnil))), ) (List._∷_ ( 31, Rows'.any-gone (Syntax.tyRef Syntax.erased Syntax.mut Element.behind), )
+t56 = List._∷_ (16, Rows'.sc-here (Row.sInt Syntax.w64)) (List._∷_ (17, Rows'.sc-here (Row.sInt Syntax.w64)) (List._∷_ (18, Rows'.sc-here (Row.sInt Syntax.w32)) (List._∷_ (
+  19,
+  Rows'.any-gone
+      (Syntax.tyStruct (List._∷_ 98 (List._∷_ 108 (List._∷_ 111 (List._∷_ 99 (List._∷_ 107 (List._∷_ 58 (List._∷_ 58 (List._∷_ 76 (List._∷_ 105 (List._∷_ 110 (List._∷_ 101 (List._∷_ 100 List.[]))))))))))))
+      (Syntax.tcons Syntax.tyBool (Syntax.tcons Syntax.tyBool (Syntax.tcons (Syntax.tyStruct (List._∷_ 98 (List._∷_ 105 (List._∷_ 116 (List._∷_ 115 (List._∷_ 58 (List._∷_ 58 (List._∷_ 66 (List._∷_ 105
+      (List._∷_ 116 (List._∷_ 80 (List._∷_ 111 (List._∷_ 115 (List._∷_ 105 (List._∷_ 116 (List._∷_ 105 (List._∷_ 111 (List._∷_ 110 List.[]))))))))))))))))) (Syntax.tcons (Syntax.tyInt Syntax.w64)
+      Syntax.tnil)) Syntax.tnil)))),
+) (List._∷_ (20, Rows'.sc-here Row.sBool) (List._∷_ (21, Rows'.any-gone Syntax.tyUnit) (List._∷_ (
+  22,
+  Rows'.any-gone (Syntax.tyRef Syntax.erased Syntax.mut
+      (Syntax.tyInt Syntax.w16)),
+) (List._∷_ (
+  23,
+  Rows'.any-gone (Syntax.tyStruct (List._∷_ 38 (List._∷_ 91 (List._∷_ 93 List.[]))) (Syntax.tcons (Syntax.tyRef Syntax.erased Syntax.mut (Syntax.tyInt
+      Syntax.w16)) (Syntax.tcons (Syntax.tyInt Syntax.w64) Syntax.tnil))),
+) (List._∷_ (24, Rows'.any-gone (Syntax.tyRef Syntax.erased Syntax.mut Element.behind)) (List._∷_ (
+  25,
+  Rows'.any-gone
+      (Syntax.tyStruct (List._∷_ 38 (List._∷_ 91 (List._∷_ 93 List.[]))) (Syntax.tcons (Syntax.tyRef Syntax.erased Syntax.mut Element.behind) (Syntax.tcons (Syntax.tyInt Syntax.w64) Syntax.tnil))),
+)
+    (List._∷_ (26, Rows'.any-gone (Syntax.tyInt Syntax.w32)) (List._∷_ (27, Rows'.any-gone Syntax.tyBool) (List._∷_ (28, Rows'.any-gone Syntax.tyUnit) (List._∷_ (
+      29,
+      Rows'.any-gone (Syntax.tyRef
+          Syntax.erased Syntax.mut (Syntax.tyInt Syntax.w16)),
+    ) (List._∷_ (
+      30,
+      Rows'.any-gone (Syntax.tyStruct (List._∷_ 38 (List._∷_ 91 (List._∷_ 93 List.[]))) (Syntax.tcons (Syntax.tyRef Syntax.erased
+          Syntax.mut (Syntax.tyInt Syntax.w16)) (Syntax.tcons (Syntax.tyInt Syntax.w64) Syntax.tnil))),
+    ) (List._∷_ (31, Rows'.any-gone (Syntax.tyRef Syntax.erased Syntax.mut Element.behind))
     List.[])))))))))))))))
 
 abbrev pub t57 : List.List Row.Entry
-t57 = List._∷_ (0, Rows'.whole (Declared.row (Apart.apartT Walked.the-type))) (List._∷_ ( 1, Rows'.sslice (Referent.rtF (Referent.fInt Syntax.w8)) (Syntax.tyRef (Syntax.named 0) Syntax.imm
-    (Syntax.tyInt Syntax.w8)) 0, ) (List._∷_ ( 2, Rows'.sslice (Referent.rtF (Referent.fInt Syntax.w8)) (Syntax.tyRef (Syntax.named 1) Syntax.imm (Syntax.tyInt Syntax.w8)) 1, ) (List._∷_ ( 3, Mut.mslice
-    (Referent.rtF (Referent.fInt Syntax.w16)) (Syntax.tyRef (Syntax.named 2) Syntax.mut (Syntax.tyInt Syntax.w16)) 2, ) (List._∷_ ( 4, Mut.mslice (Element.type) (Syntax.tyRef (Syntax.named 3) Syntax.mut
-    Element.behind) 3, ) (List._∷_ ( 5, Mut.mslice (Referent.rtF (Referent.fInt Syntax.w16)) (Syntax.tyRef (Syntax.named 4) Syntax.mut (Syntax.tyInt Syntax.w16)) 4, ) (List._∷_ ( 6, Rows'.any-gone
-    (Syntax.tyStruct (List._∷_ 98 (List._∷_ 108 (List._∷_ 111 (List._∷_ 99 (List._∷_ 107 (List._∷_ 58 (List._∷_ 58 (List._∷_ 70 (List._∷_ 111 (List._∷_ 114 (List._∷_ 109 List.[]))))))))))) (Syntax.tcons
-    (Syntax.tyInt Syntax.w32) (Syntax.tcons Syntax.tyBool Syntax.tnil))), ) (List._∷_ ( 7, Rows'.sref (Array'.Array (Referent.rtF (Referent.fInt Syntax.w16)) 768) (Syntax.tyRef (Syntax.named 5) Syntax.imm
-    (Syntax.tyArray (Syntax.tyInt Syntax.w16) 768)) 5, ) (List._∷_ (8, Rows'.any-gone (Syntax.tyArray (Syntax.tyInt Syntax.w8) 36)) (List._∷_ ( 9, Rows'.any-gone (Syntax.tyStruct (List._∷_ 109 (List._∷_
-    97 (List._∷_ 112 (List._∷_ 58 (List._∷_ 58 (List._∷_ 80 (List._∷_ 97 (List._∷_ 114 (List._∷_ 116 List.[]))))))))) (Syntax.tcons (Syntax.tyInt Syntax.w64) (Syntax.tcons (Syntax.tyInt Syntax.w64)
-    (Syntax.tcons (Syntax.tyInt Syntax.w64) (Syntax.tcons (Syntax.tyInt Syntax.w64) (Syntax.tcons (Syntax.tyInt Syntax.w64) (Syntax.tcons (Syntax.tyInt Syntax.w64) Syntax.tnil))))))), ) (List._∷_ (10,
-    Rows'.sc-here (Row.sInt Syntax.w64)) (List._∷_ ( 11, Rows'.sc-here (Row.sInt Syntax.w32), ) (List._∷_ (12, Rows'.sc-here Row.sBool) (List._∷_ (13, Rows'.sc-here (Row.sInt Syntax.w64)) (List._∷_ ( 14,
-    Rows'.whole (Declared.row BitPosition.the-type), ) (List._∷_ (15, Rows'.sc-here Row.sBool) List.[])))))))))))))))
+t57 = List._∷_ (0, Rows'.whole (Declared.row (Apart.apartT Walked.the-type))) (List._∷_ (
+  1,
+  Rows'.sslice (Referent.rtF (Referent.fInt Syntax.w8)) (Syntax.tyRef (Syntax.named 0) Syntax.imm
+      (Syntax.tyInt Syntax.w8)) 0,
+) (List._∷_ (2, Rows'.sslice (Referent.rtF (Referent.fInt Syntax.w8)) (Syntax.tyRef (Syntax.named 1) Syntax.imm (Syntax.tyInt Syntax.w8)) 1) (List._∷_ (
+  3,
+  Mut.mslice
+      (Referent.rtF (Referent.fInt Syntax.w16)) (Syntax.tyRef (Syntax.named 2) Syntax.mut (Syntax.tyInt Syntax.w16)) 2,
+) (List._∷_ (
+  4,
+  Mut.mslice (Element.type) (Syntax.tyRef (Syntax.named 3) Syntax.mut
+      Element.behind) 3,
+) (List._∷_ (5, Mut.mslice (Referent.rtF (Referent.fInt Syntax.w16)) (Syntax.tyRef (Syntax.named 4) Syntax.mut (Syntax.tyInt Syntax.w16)) 4) (List._∷_ (
+  6,
+  Rows'.any-gone
+      (Syntax.tyStruct (List._∷_ 98 (List._∷_ 108 (List._∷_ 111 (List._∷_ 99 (List._∷_ 107 (List._∷_ 58 (List._∷_ 58 (List._∷_ 70 (List._∷_ 111 (List._∷_ 114 (List._∷_ 109 List.[]))))))))))) (Syntax.tcons
+      (Syntax.tyInt Syntax.w32) (Syntax.tcons Syntax.tyBool Syntax.tnil))),
+) (List._∷_ (
+  7,
+  Rows'.sref (Array'.Array (Referent.rtF (Referent.fInt Syntax.w16)) 768) (Syntax.tyRef (Syntax.named 5) Syntax.imm
+      (Syntax.tyArray (Syntax.tyInt Syntax.w16) 768)) 5,
+) (List._∷_ (8, Rows'.any-gone (Syntax.tyArray (Syntax.tyInt Syntax.w8) 36)) (List._∷_ (
+  9,
+  Rows'.any-gone (Syntax.tyStruct (List._∷_ 109 (List._∷_
+      97 (List._∷_ 112 (List._∷_ 58 (List._∷_ 58 (List._∷_ 80 (List._∷_ 97 (List._∷_ 114 (List._∷_ 116 List.[]))))))))) (Syntax.tcons (Syntax.tyInt Syntax.w64) (Syntax.tcons (Syntax.tyInt Syntax.w64)
+      (Syntax.tcons (Syntax.tyInt Syntax.w64) (Syntax.tcons (Syntax.tyInt Syntax.w64) (Syntax.tcons (Syntax.tyInt Syntax.w64) (Syntax.tcons (Syntax.tyInt Syntax.w64) Syntax.tnil))))))),
+) (List._∷_ (
+  10,
+  Rows'.sc-here (Row.sInt Syntax.w64),
+) (List._∷_ (11, Rows'.sc-here (Row.sInt Syntax.w32)) (List._∷_ (12, Rows'.sc-here Row.sBool) (List._∷_ (13, Rows'.sc-here (Row.sInt Syntax.w64)) (List._∷_ (
+  14,
+  Rows'.whole (Declared.row BitPosition.the-type),
+) (List._∷_ (15, Rows'.sc-here Row.sBool) List.[])))))))))))))))
 
 abbrev pub t58 : List.List Row.Entry
-t58 = List._∷_ (0, Rows'.whole (Declared.row (Apart.apartT Walked.the-type))) (List._∷_ ( 1, Rows'.sslice (Referent.rtF (Referent.fInt Syntax.w8)) (Syntax.tyRef (Syntax.named 0) Syntax.imm
-    (Syntax.tyInt Syntax.w8)) 0, ) (List._∷_ ( 2, Rows'.sslice (Referent.rtF (Referent.fInt Syntax.w8)) (Syntax.tyRef (Syntax.named 1) Syntax.imm (Syntax.tyInt Syntax.w8)) 1, ) (List._∷_ ( 3, Mut.mslice
-    (Referent.rtF (Referent.fInt Syntax.w16)) (Syntax.tyRef (Syntax.named 2) Syntax.mut (Syntax.tyInt Syntax.w16)) 2, ) (List._∷_ ( 4, Mut.mslice (Element.type) (Syntax.tyRef (Syntax.named 3) Syntax.mut
-    Element.behind) 3, ) (List._∷_ ( 5, Mut.mslice (Referent.rtF (Referent.fInt Syntax.w16)) (Syntax.tyRef (Syntax.named 4) Syntax.mut (Syntax.tyInt Syntax.w16)) 4, ) (List._∷_ ( 6, Rows'.any-gone
-    (Syntax.tyStruct (List._∷_ 98 (List._∷_ 108 (List._∷_ 111 (List._∷_ 99 (List._∷_ 107 (List._∷_ 58 (List._∷_ 58 (List._∷_ 70 (List._∷_ 111 (List._∷_ 114 (List._∷_ 109 List.[]))))))))))) (Syntax.tcons
-    (Syntax.tyInt Syntax.w32) (Syntax.tcons Syntax.tyBool Syntax.tnil))), ) (List._∷_ ( 7, Rows'.sref (Array'.Array (Referent.rtF (Referent.fInt Syntax.w16)) 768) (Syntax.tyRef (Syntax.named 5) Syntax.imm
-    (Syntax.tyArray (Syntax.tyInt Syntax.w16) 768)) 5, ) (List._∷_ (8, Rows'.any-gone (Syntax.tyArray (Syntax.tyInt Syntax.w8) 36)) (List._∷_ ( 9, Rows'.any-gone (Syntax.tyStruct (List._∷_ 109 (List._∷_
-    97 (List._∷_ 112 (List._∷_ 58 (List._∷_ 58 (List._∷_ 80 (List._∷_ 97 (List._∷_ 114 (List._∷_ 116 List.[]))))))))) (Syntax.tcons (Syntax.tyInt Syntax.w64) (Syntax.tcons (Syntax.tyInt Syntax.w64)
-    (Syntax.tcons (Syntax.tyInt Syntax.w64) (Syntax.tcons (Syntax.tyInt Syntax.w64) (Syntax.tcons (Syntax.tyInt Syntax.w64) (Syntax.tcons (Syntax.tyInt Syntax.w64) Syntax.tnil))))))), ) (List._∷_ (10,
-    Rows'.sc-here (Row.sInt Syntax.w64)) (List._∷_ ( 11, Rows'.sc-here (Row.sInt Syntax.w32), ) (List._∷_ (12, Rows'.sc-here Row.sBool) (List._∷_ (13, Rows'.sc-here (Row.sInt Syntax.w64)) (List._∷_ ( 14,
-    Rows'.any-gone (Syntax.tyStruct (List._∷_ 98 (List._∷_ 105 (List._∷_ 116 (List._∷_ 115 (List._∷_ 58 (List._∷_ 58 (List._∷_ 66 (List._∷_ 105 (List._∷_ 116 (List._∷_ 80 (List._∷_ 111 (List._∷_ 115
-    (List._∷_ 105 (List._∷_ 116 (List._∷_ 105 (List._∷_ 111 (List._∷_ 110 List.[]))))))))))))))))) (Syntax.tcons (Syntax.tyInt Syntax.w64) Syntax.tnil)), ) (List._∷_ (15, Rows'.sc-here Row.sBool)
+t58 = List._∷_ (0, Rows'.whole (Declared.row (Apart.apartT Walked.the-type))) (List._∷_ (
+  1,
+  Rows'.sslice (Referent.rtF (Referent.fInt Syntax.w8)) (Syntax.tyRef (Syntax.named 0) Syntax.imm
+      (Syntax.tyInt Syntax.w8)) 0,
+) (List._∷_ (2, Rows'.sslice (Referent.rtF (Referent.fInt Syntax.w8)) (Syntax.tyRef (Syntax.named 1) Syntax.imm (Syntax.tyInt Syntax.w8)) 1) (List._∷_ (
+  3,
+  Mut.mslice
+      (Referent.rtF (Referent.fInt Syntax.w16)) (Syntax.tyRef (Syntax.named 2) Syntax.mut (Syntax.tyInt Syntax.w16)) 2,
+) (List._∷_ (
+  4,
+  Mut.mslice (Element.type) (Syntax.tyRef (Syntax.named 3) Syntax.mut
+      Element.behind) 3,
+) (List._∷_ (5, Mut.mslice (Referent.rtF (Referent.fInt Syntax.w16)) (Syntax.tyRef (Syntax.named 4) Syntax.mut (Syntax.tyInt Syntax.w16)) 4) (List._∷_ (
+  6,
+  Rows'.any-gone
+      (Syntax.tyStruct (List._∷_ 98 (List._∷_ 108 (List._∷_ 111 (List._∷_ 99 (List._∷_ 107 (List._∷_ 58 (List._∷_ 58 (List._∷_ 70 (List._∷_ 111 (List._∷_ 114 (List._∷_ 109 List.[]))))))))))) (Syntax.tcons
+      (Syntax.tyInt Syntax.w32) (Syntax.tcons Syntax.tyBool Syntax.tnil))),
+) (List._∷_ (
+  7,
+  Rows'.sref (Array'.Array (Referent.rtF (Referent.fInt Syntax.w16)) 768) (Syntax.tyRef (Syntax.named 5) Syntax.imm
+      (Syntax.tyArray (Syntax.tyInt Syntax.w16) 768)) 5,
+) (List._∷_ (8, Rows'.any-gone (Syntax.tyArray (Syntax.tyInt Syntax.w8) 36)) (List._∷_ (
+  9,
+  Rows'.any-gone (Syntax.tyStruct (List._∷_ 109 (List._∷_
+      97 (List._∷_ 112 (List._∷_ 58 (List._∷_ 58 (List._∷_ 80 (List._∷_ 97 (List._∷_ 114 (List._∷_ 116 List.[]))))))))) (Syntax.tcons (Syntax.tyInt Syntax.w64) (Syntax.tcons (Syntax.tyInt Syntax.w64)
+      (Syntax.tcons (Syntax.tyInt Syntax.w64) (Syntax.tcons (Syntax.tyInt Syntax.w64) (Syntax.tcons (Syntax.tyInt Syntax.w64) (Syntax.tcons (Syntax.tyInt Syntax.w64) Syntax.tnil))))))),
+) (List._∷_ (
+  10,
+  Rows'.sc-here (Row.sInt Syntax.w64),
+) (List._∷_ (11, Rows'.sc-here (Row.sInt Syntax.w32)) (List._∷_ (12, Rows'.sc-here Row.sBool) (List._∷_ (13, Rows'.sc-here (Row.sInt Syntax.w64)) (List._∷_ (
+  14,
+  Rows'.any-gone (Syntax.tyStruct (List._∷_ 98 (List._∷_ 105 (List._∷_ 116 (List._∷_ 115 (List._∷_ 58 (List._∷_ 58 (List._∷_ 66 (List._∷_ 105 (List._∷_ 116 (List._∷_ 80 (List._∷_ 111 (List._∷_ 115
+      (List._∷_ 105 (List._∷_ 116 (List._∷_ 105 (List._∷_ 111 (List._∷_ 110 List.[]))))))))))))))))) (Syntax.tcons (Syntax.tyInt Syntax.w64) Syntax.tnil)),
+) (List._∷_ (15, Rows'.sc-here Row.sBool)
     List.[])))))))))))))))
 
 abbrev pub t59 : List.List Row.Entry
-t59 = List._∷_ (0, Rows'.whole (Declared.row (Apart.apartT Walked.the-type))) (List._∷_ ( 1, Rows'.sslice (Referent.rtF (Referent.fInt Syntax.w8)) (Syntax.tyRef (Syntax.named 0) Syntax.imm
-    (Syntax.tyInt Syntax.w8)) 0, ) (List._∷_ ( 2, Rows'.sslice (Referent.rtF (Referent.fInt Syntax.w8)) (Syntax.tyRef (Syntax.named 1) Syntax.imm (Syntax.tyInt Syntax.w8)) 1, ) (List._∷_ ( 3, Mut.mslice
-    (Referent.rtF (Referent.fInt Syntax.w16)) (Syntax.tyRef (Syntax.named 2) Syntax.mut (Syntax.tyInt Syntax.w16)) 2, ) (List._∷_ ( 4, Mut.mslice (Element.type) (Syntax.tyRef (Syntax.named 3) Syntax.mut
-    Element.behind) 3, ) (List._∷_ ( 5, Mut.mslice (Referent.rtF (Referent.fInt Syntax.w16)) (Syntax.tyRef (Syntax.named 4) Syntax.mut (Syntax.tyInt Syntax.w16)) 4, ) (List._∷_ ( 6, Rows'.any-gone
-    (Syntax.tyStruct (List._∷_ 98 (List._∷_ 108 (List._∷_ 111 (List._∷_ 99 (List._∷_ 107 (List._∷_ 58 (List._∷_ 58 (List._∷_ 70 (List._∷_ 111 (List._∷_ 114 (List._∷_ 109 List.[]))))))))))) (Syntax.tcons
-    (Syntax.tyInt Syntax.w32) (Syntax.tcons Syntax.tyBool Syntax.tnil))), ) (List._∷_ ( 7, Rows'.sref (Array'.Array (Referent.rtF (Referent.fInt Syntax.w16)) 768) (Syntax.tyRef (Syntax.named 5) Syntax.imm
-    (Syntax.tyArray (Syntax.tyInt Syntax.w16) 768)) 5, ) (List._∷_ (8, Rows'.any-gone (Syntax.tyArray (Syntax.tyInt Syntax.w8) 36)) (List._∷_ ( 9, Rows'.any-gone (Syntax.tyStruct (List._∷_ 109 (List._∷_
-    97 (List._∷_ 112 (List._∷_ 58 (List._∷_ 58 (List._∷_ 80 (List._∷_ 97 (List._∷_ 114 (List._∷_ 116 List.[]))))))))) (Syntax.tcons (Syntax.tyInt Syntax.w64) (Syntax.tcons (Syntax.tyInt Syntax.w64)
-    (Syntax.tcons (Syntax.tyInt Syntax.w64) (Syntax.tcons (Syntax.tyInt Syntax.w64) (Syntax.tcons (Syntax.tyInt Syntax.w64) (Syntax.tcons (Syntax.tyInt Syntax.w64) Syntax.tnil))))))), ) (List._∷_ (10,
-    Rows'.any-gone (Syntax.tyInt Syntax.w64)) (List._∷_ ( 11, Rows'.sc-here (Row.sInt Syntax.w32), ) (List._∷_ (12, Rows'.sc-here Row.sBool) (List._∷_ (13, Rows'.sc-here (Row.sInt Syntax.w64)) (List._∷_ (
-    14, Rows'.any-gone (Syntax.tyStruct (List._∷_ 98 (List._∷_ 105 (List._∷_ 116 (List._∷_ 115 (List._∷_ 58 (List._∷_ 58 (List._∷_ 66 (List._∷_ 105 (List._∷_ 116 (List._∷_ 80 (List._∷_ 111 (List._∷_ 115
-    (List._∷_ 105 (List._∷_ 116 (List._∷_ 105 (List._∷_ 111 (List._∷_ 110 List.[]))))))))))))))))) (Syntax.tcons (Syntax.tyInt Syntax.w64) Syntax.tnil)), ) (List._∷_ (15, Rows'.sc-here Row.sBool)
+t59 = List._∷_ (0, Rows'.whole (Declared.row (Apart.apartT Walked.the-type))) (List._∷_ (
+  1,
+  Rows'.sslice (Referent.rtF (Referent.fInt Syntax.w8)) (Syntax.tyRef (Syntax.named 0) Syntax.imm
+      (Syntax.tyInt Syntax.w8)) 0,
+) (List._∷_ (2, Rows'.sslice (Referent.rtF (Referent.fInt Syntax.w8)) (Syntax.tyRef (Syntax.named 1) Syntax.imm (Syntax.tyInt Syntax.w8)) 1) (List._∷_ (
+  3,
+  Mut.mslice
+      (Referent.rtF (Referent.fInt Syntax.w16)) (Syntax.tyRef (Syntax.named 2) Syntax.mut (Syntax.tyInt Syntax.w16)) 2,
+) (List._∷_ (
+  4,
+  Mut.mslice (Element.type) (Syntax.tyRef (Syntax.named 3) Syntax.mut
+      Element.behind) 3,
+) (List._∷_ (5, Mut.mslice (Referent.rtF (Referent.fInt Syntax.w16)) (Syntax.tyRef (Syntax.named 4) Syntax.mut (Syntax.tyInt Syntax.w16)) 4) (List._∷_ (
+  6,
+  Rows'.any-gone
+      (Syntax.tyStruct (List._∷_ 98 (List._∷_ 108 (List._∷_ 111 (List._∷_ 99 (List._∷_ 107 (List._∷_ 58 (List._∷_ 58 (List._∷_ 70 (List._∷_ 111 (List._∷_ 114 (List._∷_ 109 List.[]))))))))))) (Syntax.tcons
+      (Syntax.tyInt Syntax.w32) (Syntax.tcons Syntax.tyBool Syntax.tnil))),
+) (List._∷_ (
+  7,
+  Rows'.sref (Array'.Array (Referent.rtF (Referent.fInt Syntax.w16)) 768) (Syntax.tyRef (Syntax.named 5) Syntax.imm
+      (Syntax.tyArray (Syntax.tyInt Syntax.w16) 768)) 5,
+) (List._∷_ (8, Rows'.any-gone (Syntax.tyArray (Syntax.tyInt Syntax.w8) 36)) (List._∷_ (
+  9,
+  Rows'.any-gone (Syntax.tyStruct (List._∷_ 109 (List._∷_
+      97 (List._∷_ 112 (List._∷_ 58 (List._∷_ 58 (List._∷_ 80 (List._∷_ 97 (List._∷_ 114 (List._∷_ 116 List.[]))))))))) (Syntax.tcons (Syntax.tyInt Syntax.w64) (Syntax.tcons (Syntax.tyInt Syntax.w64)
+      (Syntax.tcons (Syntax.tyInt Syntax.w64) (Syntax.tcons (Syntax.tyInt Syntax.w64) (Syntax.tcons (Syntax.tyInt Syntax.w64) (Syntax.tcons (Syntax.tyInt Syntax.w64) Syntax.tnil))))))),
+) (List._∷_ (
+  10,
+  Rows'.any-gone (Syntax.tyInt Syntax.w64),
+) (List._∷_ (11, Rows'.sc-here (Row.sInt Syntax.w32)) (List._∷_ (12, Rows'.sc-here Row.sBool) (List._∷_ (13, Rows'.sc-here (Row.sInt Syntax.w64)) (List._∷_ (
+  14,
+  Rows'.any-gone (Syntax.tyStruct (List._∷_ 98 (List._∷_ 105 (List._∷_ 116 (List._∷_ 115 (List._∷_ 58 (List._∷_ 58 (List._∷_ 66 (List._∷_ 105 (List._∷_ 116 (List._∷_ 80 (List._∷_ 111 (List._∷_ 115
+      (List._∷_ 105 (List._∷_ 116 (List._∷_ 105 (List._∷_ 111 (List._∷_ 110 List.[]))))))))))))))))) (Syntax.tcons (Syntax.tyInt Syntax.w64) Syntax.tnil)),
+) (List._∷_ (15, Rows'.sc-here Row.sBool)
     List.[])))))))))))))))
 
 abbrev pub t60 : List.List Row.Entry
-t60 = List._∷_ (0, Rows'.whole (Declared.row (Apart.apartT Walked.the-type))) (List._∷_ ( 1, Rows'.sslice (Referent.rtF (Referent.fInt Syntax.w8)) (Syntax.tyRef (Syntax.named 0) Syntax.imm
-    (Syntax.tyInt Syntax.w8)) 0, ) (List._∷_ ( 2, Rows'.sslice (Referent.rtF (Referent.fInt Syntax.w8)) (Syntax.tyRef (Syntax.named 1) Syntax.imm (Syntax.tyInt Syntax.w8)) 1, ) (List._∷_ ( 3, Mut.mslice
-    (Referent.rtF (Referent.fInt Syntax.w16)) (Syntax.tyRef (Syntax.named 2) Syntax.mut (Syntax.tyInt Syntax.w16)) 2, ) (List._∷_ ( 4, Mut.mslice (Element.type) (Syntax.tyRef (Syntax.named 3) Syntax.mut
-    Element.behind) 3, ) (List._∷_ ( 5, Mut.mslice (Referent.rtF (Referent.fInt Syntax.w16)) (Syntax.tyRef (Syntax.named 4) Syntax.mut (Syntax.tyInt Syntax.w16)) 4, ) (List._∷_ ( 6, Rows'.any-gone
-    (Syntax.tyStruct (List._∷_ 98 (List._∷_ 108 (List._∷_ 111 (List._∷_ 99 (List._∷_ 107 (List._∷_ 58 (List._∷_ 58 (List._∷_ 70 (List._∷_ 111 (List._∷_ 114 (List._∷_ 109 List.[]))))))))))) (Syntax.tcons
-    (Syntax.tyInt Syntax.w32) (Syntax.tcons Syntax.tyBool Syntax.tnil))), ) (List._∷_ ( 7, Rows'.sref (Array'.Array (Referent.rtF (Referent.fInt Syntax.w16)) 768) (Syntax.tyRef (Syntax.named 5) Syntax.imm
-    (Syntax.tyArray (Syntax.tyInt Syntax.w16) 768)) 5, ) (List._∷_ (8, Rows'.any-gone (Syntax.tyArray (Syntax.tyInt Syntax.w8) 36)) (List._∷_ ( 9, Rows'.any-gone (Syntax.tyStruct (List._∷_ 109 (List._∷_
-    97 (List._∷_ 112 (List._∷_ 58 (List._∷_ 58 (List._∷_ 80 (List._∷_ 97 (List._∷_ 114 (List._∷_ 116 List.[]))))))))) (Syntax.tcons (Syntax.tyInt Syntax.w64) (Syntax.tcons (Syntax.tyInt Syntax.w64)
-    (Syntax.tcons (Syntax.tyInt Syntax.w64) (Syntax.tcons (Syntax.tyInt Syntax.w64) (Syntax.tcons (Syntax.tyInt Syntax.w64) (Syntax.tcons (Syntax.tyInt Syntax.w64) Syntax.tnil))))))), ) (List._∷_ (10,
-    Rows'.any-gone (Syntax.tyInt Syntax.w64)) (List._∷_ ( 11, Rows'.any-gone (Syntax.tyInt Syntax.w32), ) (List._∷_ (12, Rows'.sc-here Row.sBool) (List._∷_ (13, Rows'.sc-here (Row.sInt Syntax.w64))
-    (List._∷_ ( 14, Rows'.any-gone (Syntax.tyStruct (List._∷_ 98 (List._∷_ 105 (List._∷_ 116 (List._∷_ 115 (List._∷_ 58 (List._∷_ 58 (List._∷_ 66 (List._∷_ 105 (List._∷_ 116 (List._∷_ 80 (List._∷_ 111
-    (List._∷_ 115 (List._∷_ 105 (List._∷_ 116 (List._∷_ 105 (List._∷_ 111 (List._∷_ 110 List.[]))))))))))))))))) (Syntax.tcons (Syntax.tyInt Syntax.w64) Syntax.tnil)), ) (List._∷_ (15, Rows'.sc-here
-    Row.sBool) List.[])))))))))))))))
+t60 = List._∷_ (0, Rows'.whole (Declared.row (Apart.apartT Walked.the-type))) (List._∷_ (
+  1,
+  Rows'.sslice (Referent.rtF (Referent.fInt Syntax.w8)) (Syntax.tyRef (Syntax.named 0) Syntax.imm
+      (Syntax.tyInt Syntax.w8)) 0,
+) (List._∷_ (2, Rows'.sslice (Referent.rtF (Referent.fInt Syntax.w8)) (Syntax.tyRef (Syntax.named 1) Syntax.imm (Syntax.tyInt Syntax.w8)) 1) (List._∷_ (
+  3,
+  Mut.mslice
+      (Referent.rtF (Referent.fInt Syntax.w16)) (Syntax.tyRef (Syntax.named 2) Syntax.mut (Syntax.tyInt Syntax.w16)) 2,
+) (List._∷_ (
+  4,
+  Mut.mslice (Element.type) (Syntax.tyRef (Syntax.named 3) Syntax.mut
+      Element.behind) 3,
+) (List._∷_ (5, Mut.mslice (Referent.rtF (Referent.fInt Syntax.w16)) (Syntax.tyRef (Syntax.named 4) Syntax.mut (Syntax.tyInt Syntax.w16)) 4) (List._∷_ (
+  6,
+  Rows'.any-gone
+      (Syntax.tyStruct (List._∷_ 98 (List._∷_ 108 (List._∷_ 111 (List._∷_ 99 (List._∷_ 107 (List._∷_ 58 (List._∷_ 58 (List._∷_ 70 (List._∷_ 111 (List._∷_ 114 (List._∷_ 109 List.[]))))))))))) (Syntax.tcons
+      (Syntax.tyInt Syntax.w32) (Syntax.tcons Syntax.tyBool Syntax.tnil))),
+) (List._∷_ (
+  7,
+  Rows'.sref (Array'.Array (Referent.rtF (Referent.fInt Syntax.w16)) 768) (Syntax.tyRef (Syntax.named 5) Syntax.imm
+      (Syntax.tyArray (Syntax.tyInt Syntax.w16) 768)) 5,
+) (List._∷_ (8, Rows'.any-gone (Syntax.tyArray (Syntax.tyInt Syntax.w8) 36)) (List._∷_ (
+  9,
+  Rows'.any-gone (Syntax.tyStruct (List._∷_ 109 (List._∷_
+      97 (List._∷_ 112 (List._∷_ 58 (List._∷_ 58 (List._∷_ 80 (List._∷_ 97 (List._∷_ 114 (List._∷_ 116 List.[]))))))))) (Syntax.tcons (Syntax.tyInt Syntax.w64) (Syntax.tcons (Syntax.tyInt Syntax.w64)
+      (Syntax.tcons (Syntax.tyInt Syntax.w64) (Syntax.tcons (Syntax.tyInt Syntax.w64) (Syntax.tcons (Syntax.tyInt Syntax.w64) (Syntax.tcons (Syntax.tyInt Syntax.w64) Syntax.tnil))))))),
+) (List._∷_ (
+  10,
+  Rows'.any-gone (Syntax.tyInt Syntax.w64),
+) (List._∷_ (11, Rows'.any-gone (Syntax.tyInt Syntax.w32)) (List._∷_ (12, Rows'.sc-here Row.sBool) (List._∷_ (13, Rows'.sc-here (Row.sInt Syntax.w64))
+    (List._∷_ (
+      14,
+      Rows'.any-gone (Syntax.tyStruct (List._∷_ 98 (List._∷_ 105 (List._∷_ 116 (List._∷_ 115 (List._∷_ 58 (List._∷_ 58 (List._∷_ 66 (List._∷_ 105 (List._∷_ 116 (List._∷_ 80 (List._∷_ 111
+          (List._∷_ 115 (List._∷_ 105 (List._∷_ 116 (List._∷_ 105 (List._∷_ 111 (List._∷_ 110 List.[]))))))))))))))))) (Syntax.tcons (Syntax.tyInt Syntax.w64) Syntax.tnil)),
+    ) (List._∷_ (
+      15,
+      Rows'.sc-here
+          Row.sBool,
+    ) List.[])))))))))))))))
 
 abbrev pub t61 : List.List Row.Entry
-t61 = List._∷_ (0, Rows'.whole (Declared.row (Apart.apartT Walked.the-type))) (List._∷_ ( 1, Rows'.sslice (Referent.rtF (Referent.fInt Syntax.w8)) (Syntax.tyRef (Syntax.named 0) Syntax.imm
-    (Syntax.tyInt Syntax.w8)) 0, ) (List._∷_ ( 2, Rows'.sslice (Referent.rtF (Referent.fInt Syntax.w8)) (Syntax.tyRef (Syntax.named 1) Syntax.imm (Syntax.tyInt Syntax.w8)) 1, ) (List._∷_ ( 3, Mut.mslice
-    (Referent.rtF (Referent.fInt Syntax.w16)) (Syntax.tyRef (Syntax.named 2) Syntax.mut (Syntax.tyInt Syntax.w16)) 2, ) (List._∷_ ( 4, Mut.mslice (Element.type) (Syntax.tyRef (Syntax.named 3) Syntax.mut
-    Element.behind) 3, ) (List._∷_ ( 5, Mut.mslice (Referent.rtF (Referent.fInt Syntax.w16)) (Syntax.tyRef (Syntax.named 4) Syntax.mut (Syntax.tyInt Syntax.w16)) 4, ) (List._∷_ ( 6, Rows'.any-gone
-    (Syntax.tyStruct (List._∷_ 98 (List._∷_ 108 (List._∷_ 111 (List._∷_ 99 (List._∷_ 107 (List._∷_ 58 (List._∷_ 58 (List._∷_ 70 (List._∷_ 111 (List._∷_ 114 (List._∷_ 109 List.[]))))))))))) (Syntax.tcons
-    (Syntax.tyInt Syntax.w32) (Syntax.tcons Syntax.tyBool Syntax.tnil))), ) (List._∷_ ( 7, Rows'.sref (Array'.Array (Referent.rtF (Referent.fInt Syntax.w16)) 768) (Syntax.tyRef (Syntax.named 5) Syntax.imm
-    (Syntax.tyArray (Syntax.tyInt Syntax.w16) 768)) 5, ) (List._∷_ (8, Rows'.any-gone (Syntax.tyArray (Syntax.tyInt Syntax.w8) 36)) (List._∷_ ( 9, Rows'.any-gone (Syntax.tyStruct (List._∷_ 109 (List._∷_
-    97 (List._∷_ 112 (List._∷_ 58 (List._∷_ 58 (List._∷_ 80 (List._∷_ 97 (List._∷_ 114 (List._∷_ 116 List.[]))))))))) (Syntax.tcons (Syntax.tyInt Syntax.w64) (Syntax.tcons (Syntax.tyInt Syntax.w64)
-    (Syntax.tcons (Syntax.tyInt Syntax.w64) (Syntax.tcons (Syntax.tyInt Syntax.w64) (Syntax.tcons (Syntax.tyInt Syntax.w64) (Syntax.tcons (Syntax.tyInt Syntax.w64) Syntax.tnil))))))), ) (List._∷_ (10,
-    Rows'.any-gone (Syntax.tyInt Syntax.w64)) (List._∷_ ( 11, Rows'.any-gone (Syntax.tyInt Syntax.w32), ) (List._∷_ (12, Rows'.any-gone Syntax.tyBool) (List._∷_ ( 13, Rows'.sc-here (Row.sInt Syntax.w64),
-    ) (List._∷_ ( 14, Rows'.any-gone (Syntax.tyStruct (List._∷_ 98 (List._∷_ 105 (List._∷_ 116 (List._∷_ 115 (List._∷_ 58 (List._∷_ 58 (List._∷_ 66 (List._∷_ 105 (List._∷_ 116 (List._∷_ 80 (List._∷_ 111
-    (List._∷_ 115 (List._∷_ 105 (List._∷_ 116 (List._∷_ 105 (List._∷_ 111 (List._∷_ 110 List.[]))))))))))))))))) (Syntax.tcons (Syntax.tyInt Syntax.w64) Syntax.tnil)), ) (List._∷_ (15, Rows'.sc-here
-    Row.sBool) List.[])))))))))))))))
+t61 = List._∷_ (0, Rows'.whole (Declared.row (Apart.apartT Walked.the-type))) (List._∷_ (
+  1,
+  Rows'.sslice (Referent.rtF (Referent.fInt Syntax.w8)) (Syntax.tyRef (Syntax.named 0) Syntax.imm
+      (Syntax.tyInt Syntax.w8)) 0,
+) (List._∷_ (2, Rows'.sslice (Referent.rtF (Referent.fInt Syntax.w8)) (Syntax.tyRef (Syntax.named 1) Syntax.imm (Syntax.tyInt Syntax.w8)) 1) (List._∷_ (
+  3,
+  Mut.mslice
+      (Referent.rtF (Referent.fInt Syntax.w16)) (Syntax.tyRef (Syntax.named 2) Syntax.mut (Syntax.tyInt Syntax.w16)) 2,
+) (List._∷_ (
+  4,
+  Mut.mslice (Element.type) (Syntax.tyRef (Syntax.named 3) Syntax.mut
+      Element.behind) 3,
+) (List._∷_ (5, Mut.mslice (Referent.rtF (Referent.fInt Syntax.w16)) (Syntax.tyRef (Syntax.named 4) Syntax.mut (Syntax.tyInt Syntax.w16)) 4) (List._∷_ (
+  6,
+  Rows'.any-gone
+      (Syntax.tyStruct (List._∷_ 98 (List._∷_ 108 (List._∷_ 111 (List._∷_ 99 (List._∷_ 107 (List._∷_ 58 (List._∷_ 58 (List._∷_ 70 (List._∷_ 111 (List._∷_ 114 (List._∷_ 109 List.[]))))))))))) (Syntax.tcons
+      (Syntax.tyInt Syntax.w32) (Syntax.tcons Syntax.tyBool Syntax.tnil))),
+) (List._∷_ (
+  7,
+  Rows'.sref (Array'.Array (Referent.rtF (Referent.fInt Syntax.w16)) 768) (Syntax.tyRef (Syntax.named 5) Syntax.imm
+      (Syntax.tyArray (Syntax.tyInt Syntax.w16) 768)) 5,
+) (List._∷_ (8, Rows'.any-gone (Syntax.tyArray (Syntax.tyInt Syntax.w8) 36)) (List._∷_ (
+  9,
+  Rows'.any-gone (Syntax.tyStruct (List._∷_ 109 (List._∷_
+      97 (List._∷_ 112 (List._∷_ 58 (List._∷_ 58 (List._∷_ 80 (List._∷_ 97 (List._∷_ 114 (List._∷_ 116 List.[]))))))))) (Syntax.tcons (Syntax.tyInt Syntax.w64) (Syntax.tcons (Syntax.tyInt Syntax.w64)
+      (Syntax.tcons (Syntax.tyInt Syntax.w64) (Syntax.tcons (Syntax.tyInt Syntax.w64) (Syntax.tcons (Syntax.tyInt Syntax.w64) (Syntax.tcons (Syntax.tyInt Syntax.w64) Syntax.tnil))))))),
+) (List._∷_ (
+  10,
+  Rows'.any-gone (Syntax.tyInt Syntax.w64),
+) (List._∷_ (11, Rows'.any-gone (Syntax.tyInt Syntax.w32)) (List._∷_ (12, Rows'.any-gone Syntax.tyBool) (List._∷_ (
+  13,
+  Rows'.sc-here (Row.sInt Syntax.w64),
+) (List._∷_ (
+  14,
+  Rows'.any-gone (Syntax.tyStruct (List._∷_ 98 (List._∷_ 105 (List._∷_ 116 (List._∷_ 115 (List._∷_ 58 (List._∷_ 58 (List._∷_ 66 (List._∷_ 105 (List._∷_ 116 (List._∷_ 80 (List._∷_ 111
+      (List._∷_ 115 (List._∷_ 105 (List._∷_ 116 (List._∷_ 105 (List._∷_ 111 (List._∷_ 110 List.[]))))))))))))))))) (Syntax.tcons (Syntax.tyInt Syntax.w64) Syntax.tnil)),
+) (List._∷_ (
+  15,
+  Rows'.sc-here
+      Row.sBool,
+) List.[])))))))))))))))
 
 abbrev pub t62 : List.List Row.Entry
-t62 = List._∷_ (0, Rows'.whole (Declared.row (Apart.apartT Walked.the-type))) (List._∷_ ( 1, Rows'.sslice (Referent.rtF (Referent.fInt Syntax.w8)) (Syntax.tyRef (Syntax.named 0) Syntax.imm
-    (Syntax.tyInt Syntax.w8)) 0, ) (List._∷_ ( 2, Rows'.sslice (Referent.rtF (Referent.fInt Syntax.w8)) (Syntax.tyRef (Syntax.named 1) Syntax.imm (Syntax.tyInt Syntax.w8)) 1, ) (List._∷_ ( 3, Mut.mslice
-    (Referent.rtF (Referent.fInt Syntax.w16)) (Syntax.tyRef (Syntax.named 2) Syntax.mut (Syntax.tyInt Syntax.w16)) 2, ) (List._∷_ ( 4, Mut.mslice (Element.type) (Syntax.tyRef (Syntax.named 3) Syntax.mut
-    Element.behind) 3, ) (List._∷_ ( 5, Mut.mslice (Referent.rtF (Referent.fInt Syntax.w16)) (Syntax.tyRef (Syntax.named 4) Syntax.mut (Syntax.tyInt Syntax.w16)) 4, ) (List._∷_ ( 6, Rows'.any-gone
-    (Syntax.tyStruct (List._∷_ 98 (List._∷_ 108 (List._∷_ 111 (List._∷_ 99 (List._∷_ 107 (List._∷_ 58 (List._∷_ 58 (List._∷_ 70 (List._∷_ 111 (List._∷_ 114 (List._∷_ 109 List.[]))))))))))) (Syntax.tcons
-    (Syntax.tyInt Syntax.w32) (Syntax.tcons Syntax.tyBool Syntax.tnil))), ) (List._∷_ ( 7, Rows'.sref (Array'.Array (Referent.rtF (Referent.fInt Syntax.w16)) 768) (Syntax.tyRef (Syntax.named 5) Syntax.imm
-    (Syntax.tyArray (Syntax.tyInt Syntax.w16) 768)) 5, ) (List._∷_ (8, Rows'.any-gone (Syntax.tyArray (Syntax.tyInt Syntax.w8) 36)) (List._∷_ ( 9, Rows'.any-gone (Syntax.tyStruct (List._∷_ 109 (List._∷_
-    97 (List._∷_ 112 (List._∷_ 58 (List._∷_ 58 (List._∷_ 80 (List._∷_ 97 (List._∷_ 114 (List._∷_ 116 List.[]))))))))) (Syntax.tcons (Syntax.tyInt Syntax.w64) (Syntax.tcons (Syntax.tyInt Syntax.w64)
-    (Syntax.tcons (Syntax.tyInt Syntax.w64) (Syntax.tcons (Syntax.tyInt Syntax.w64) (Syntax.tcons (Syntax.tyInt Syntax.w64) (Syntax.tcons (Syntax.tyInt Syntax.w64) Syntax.tnil))))))), ) (List._∷_ (10,
-    Rows'.any-gone (Syntax.tyInt Syntax.w64)) (List._∷_ ( 11, Rows'.any-gone (Syntax.tyInt Syntax.w32), ) (List._∷_ (12, Rows'.any-gone Syntax.tyBool) (List._∷_ ( 13, Rows'.any-gone (Syntax.tyInt
-    Syntax.w64), ) (List._∷_ ( 14, Rows'.any-gone (Syntax.tyStruct (List._∷_ 98 (List._∷_ 105 (List._∷_ 116 (List._∷_ 115 (List._∷_ 58 (List._∷_ 58 (List._∷_ 66 (List._∷_ 105 (List._∷_ 116 (List._∷_ 80
-    (List._∷_ 111 (List._∷_ 115 (List._∷_ 105 (List._∷_ 116 (List._∷_ 105 (List._∷_ 111 (List._∷_ 110 List.[]))))))))))))))))) (Syntax.tcons (Syntax.tyInt Syntax.w64) Syntax.tnil)), ) (List._∷_ (15,
-    Rows'.sc-here Row.sBool) List.[])))))))))))))))
+t62 = List._∷_ (0, Rows'.whole (Declared.row (Apart.apartT Walked.the-type))) (List._∷_ (
+  1,
+  Rows'.sslice (Referent.rtF (Referent.fInt Syntax.w8)) (Syntax.tyRef (Syntax.named 0) Syntax.imm
+      (Syntax.tyInt Syntax.w8)) 0,
+) (List._∷_ (2, Rows'.sslice (Referent.rtF (Referent.fInt Syntax.w8)) (Syntax.tyRef (Syntax.named 1) Syntax.imm (Syntax.tyInt Syntax.w8)) 1) (List._∷_ (
+  3,
+  Mut.mslice
+      (Referent.rtF (Referent.fInt Syntax.w16)) (Syntax.tyRef (Syntax.named 2) Syntax.mut (Syntax.tyInt Syntax.w16)) 2,
+) (List._∷_ (
+  4,
+  Mut.mslice (Element.type) (Syntax.tyRef (Syntax.named 3) Syntax.mut
+      Element.behind) 3,
+) (List._∷_ (5, Mut.mslice (Referent.rtF (Referent.fInt Syntax.w16)) (Syntax.tyRef (Syntax.named 4) Syntax.mut (Syntax.tyInt Syntax.w16)) 4) (List._∷_ (
+  6,
+  Rows'.any-gone
+      (Syntax.tyStruct (List._∷_ 98 (List._∷_ 108 (List._∷_ 111 (List._∷_ 99 (List._∷_ 107 (List._∷_ 58 (List._∷_ 58 (List._∷_ 70 (List._∷_ 111 (List._∷_ 114 (List._∷_ 109 List.[]))))))))))) (Syntax.tcons
+      (Syntax.tyInt Syntax.w32) (Syntax.tcons Syntax.tyBool Syntax.tnil))),
+) (List._∷_ (
+  7,
+  Rows'.sref (Array'.Array (Referent.rtF (Referent.fInt Syntax.w16)) 768) (Syntax.tyRef (Syntax.named 5) Syntax.imm
+      (Syntax.tyArray (Syntax.tyInt Syntax.w16) 768)) 5,
+) (List._∷_ (8, Rows'.any-gone (Syntax.tyArray (Syntax.tyInt Syntax.w8) 36)) (List._∷_ (
+  9,
+  Rows'.any-gone (Syntax.tyStruct (List._∷_ 109 (List._∷_
+      97 (List._∷_ 112 (List._∷_ 58 (List._∷_ 58 (List._∷_ 80 (List._∷_ 97 (List._∷_ 114 (List._∷_ 116 List.[]))))))))) (Syntax.tcons (Syntax.tyInt Syntax.w64) (Syntax.tcons (Syntax.tyInt Syntax.w64)
+      (Syntax.tcons (Syntax.tyInt Syntax.w64) (Syntax.tcons (Syntax.tyInt Syntax.w64) (Syntax.tcons (Syntax.tyInt Syntax.w64) (Syntax.tcons (Syntax.tyInt Syntax.w64) Syntax.tnil))))))),
+) (List._∷_ (
+  10,
+  Rows'.any-gone (Syntax.tyInt Syntax.w64),
+) (List._∷_ (11, Rows'.any-gone (Syntax.tyInt Syntax.w32)) (List._∷_ (12, Rows'.any-gone Syntax.tyBool) (List._∷_ (
+  13,
+  Rows'.any-gone (Syntax.tyInt
+      Syntax.w64),
+) (List._∷_ (
+  14,
+  Rows'.any-gone (Syntax.tyStruct (List._∷_ 98 (List._∷_ 105 (List._∷_ 116 (List._∷_ 115 (List._∷_ 58 (List._∷_ 58 (List._∷_ 66 (List._∷_ 105 (List._∷_ 116 (List._∷_ 80
+      (List._∷_ 111 (List._∷_ 115 (List._∷_ 105 (List._∷_ 116 (List._∷_ 105 (List._∷_ 111 (List._∷_ 110 List.[]))))))))))))))))) (Syntax.tcons (Syntax.tyInt Syntax.w64) Syntax.tnil)),
+) (List._∷_ (
+  15,
+  Rows'.sc-here Row.sBool,
+) List.[])))))))))))))))
 
 abbrev pub t63 : List.List Row.Entry
-t63 = List._∷_ (0, Rows'.whole (Declared.row (Apart.apartT Walked.the-type))) (List._∷_ ( 1, Rows'.sslice (Referent.rtF (Referent.fInt Syntax.w8)) (Syntax.tyRef (Syntax.named 0) Syntax.imm
-    (Syntax.tyInt Syntax.w8)) 0, ) (List._∷_ ( 2, Rows'.sslice (Referent.rtF (Referent.fInt Syntax.w8)) (Syntax.tyRef (Syntax.named 1) Syntax.imm (Syntax.tyInt Syntax.w8)) 1, ) (List._∷_ ( 3, Mut.mslice
-    (Referent.rtF (Referent.fInt Syntax.w16)) (Syntax.tyRef (Syntax.named 2) Syntax.mut (Syntax.tyInt Syntax.w16)) 2, ) (List._∷_ ( 4, Mut.mslice (Element.type) (Syntax.tyRef (Syntax.named 3) Syntax.mut
-    Element.behind) 3, ) (List._∷_ ( 5, Mut.mslice (Referent.rtF (Referent.fInt Syntax.w16)) (Syntax.tyRef (Syntax.named 4) Syntax.mut (Syntax.tyInt Syntax.w16)) 4, ) (List._∷_ ( 6, Rows'.any-gone
-    (Syntax.tyStruct (List._∷_ 98 (List._∷_ 108 (List._∷_ 111 (List._∷_ 99 (List._∷_ 107 (List._∷_ 58 (List._∷_ 58 (List._∷_ 70 (List._∷_ 111 (List._∷_ 114 (List._∷_ 109 List.[]))))))))))) (Syntax.tcons
-    (Syntax.tyInt Syntax.w32) (Syntax.tcons Syntax.tyBool Syntax.tnil))), ) (List._∷_ ( 7, Rows'.sref (Array'.Array (Referent.rtF (Referent.fInt Syntax.w16)) 768) (Syntax.tyRef (Syntax.named 5) Syntax.imm
-    (Syntax.tyArray (Syntax.tyInt Syntax.w16) 768)) 5, ) (List._∷_ (8, Rows'.any-gone (Syntax.tyArray (Syntax.tyInt Syntax.w8) 36)) (List._∷_ ( 9, Rows'.any-gone (Syntax.tyStruct (List._∷_ 109 (List._∷_
-    97 (List._∷_ 112 (List._∷_ 58 (List._∷_ 58 (List._∷_ 80 (List._∷_ 97 (List._∷_ 114 (List._∷_ 116 List.[]))))))))) (Syntax.tcons (Syntax.tyInt Syntax.w64) (Syntax.tcons (Syntax.tyInt Syntax.w64)
-    (Syntax.tcons (Syntax.tyInt Syntax.w64) (Syntax.tcons (Syntax.tyInt Syntax.w64) (Syntax.tcons (Syntax.tyInt Syntax.w64) (Syntax.tcons (Syntax.tyInt Syntax.w64) Syntax.tnil))))))), ) (List._∷_ (10,
-    Rows'.any-gone (Syntax.tyInt Syntax.w64)) (List._∷_ ( 11, Rows'.any-gone (Syntax.tyInt Syntax.w32), ) (List._∷_ (12, Rows'.any-gone Syntax.tyBool) (List._∷_ ( 13, Rows'.any-gone (Syntax.tyInt
-    Syntax.w64), ) (List._∷_ ( 14, Rows'.any-gone (Syntax.tyStruct (List._∷_ 98 (List._∷_ 105 (List._∷_ 116 (List._∷_ 115 (List._∷_ 58 (List._∷_ 58 (List._∷_ 66 (List._∷_ 105 (List._∷_ 116 (List._∷_ 80
-    (List._∷_ 111 (List._∷_ 115 (List._∷_ 105 (List._∷_ 116 (List._∷_ 105 (List._∷_ 111 (List._∷_ 110 List.[]))))))))))))))))) (Syntax.tcons (Syntax.tyInt Syntax.w64) Syntax.tnil)), ) (List._∷_ (15,
-    Rows'.any-gone Syntax.tyBool) List.[])))))))))))))))
+t63 = List._∷_ (0, Rows'.whole (Declared.row (Apart.apartT Walked.the-type))) (List._∷_ (
+  1,
+  Rows'.sslice (Referent.rtF (Referent.fInt Syntax.w8)) (Syntax.tyRef (Syntax.named 0) Syntax.imm
+      (Syntax.tyInt Syntax.w8)) 0,
+) (List._∷_ (2, Rows'.sslice (Referent.rtF (Referent.fInt Syntax.w8)) (Syntax.tyRef (Syntax.named 1) Syntax.imm (Syntax.tyInt Syntax.w8)) 1) (List._∷_ (
+  3,
+  Mut.mslice
+      (Referent.rtF (Referent.fInt Syntax.w16)) (Syntax.tyRef (Syntax.named 2) Syntax.mut (Syntax.tyInt Syntax.w16)) 2,
+) (List._∷_ (
+  4,
+  Mut.mslice (Element.type) (Syntax.tyRef (Syntax.named 3) Syntax.mut
+      Element.behind) 3,
+) (List._∷_ (5, Mut.mslice (Referent.rtF (Referent.fInt Syntax.w16)) (Syntax.tyRef (Syntax.named 4) Syntax.mut (Syntax.tyInt Syntax.w16)) 4) (List._∷_ (
+  6,
+  Rows'.any-gone
+      (Syntax.tyStruct (List._∷_ 98 (List._∷_ 108 (List._∷_ 111 (List._∷_ 99 (List._∷_ 107 (List._∷_ 58 (List._∷_ 58 (List._∷_ 70 (List._∷_ 111 (List._∷_ 114 (List._∷_ 109 List.[]))))))))))) (Syntax.tcons
+      (Syntax.tyInt Syntax.w32) (Syntax.tcons Syntax.tyBool Syntax.tnil))),
+) (List._∷_ (
+  7,
+  Rows'.sref (Array'.Array (Referent.rtF (Referent.fInt Syntax.w16)) 768) (Syntax.tyRef (Syntax.named 5) Syntax.imm
+      (Syntax.tyArray (Syntax.tyInt Syntax.w16) 768)) 5,
+) (List._∷_ (8, Rows'.any-gone (Syntax.tyArray (Syntax.tyInt Syntax.w8) 36)) (List._∷_ (
+  9,
+  Rows'.any-gone (Syntax.tyStruct (List._∷_ 109 (List._∷_
+      97 (List._∷_ 112 (List._∷_ 58 (List._∷_ 58 (List._∷_ 80 (List._∷_ 97 (List._∷_ 114 (List._∷_ 116 List.[]))))))))) (Syntax.tcons (Syntax.tyInt Syntax.w64) (Syntax.tcons (Syntax.tyInt Syntax.w64)
+      (Syntax.tcons (Syntax.tyInt Syntax.w64) (Syntax.tcons (Syntax.tyInt Syntax.w64) (Syntax.tcons (Syntax.tyInt Syntax.w64) (Syntax.tcons (Syntax.tyInt Syntax.w64) Syntax.tnil))))))),
+) (List._∷_ (
+  10,
+  Rows'.any-gone (Syntax.tyInt Syntax.w64),
+) (List._∷_ (11, Rows'.any-gone (Syntax.tyInt Syntax.w32)) (List._∷_ (12, Rows'.any-gone Syntax.tyBool) (List._∷_ (
+  13,
+  Rows'.any-gone (Syntax.tyInt
+      Syntax.w64),
+) (List._∷_ (
+  14,
+  Rows'.any-gone (Syntax.tyStruct (List._∷_ 98 (List._∷_ 105 (List._∷_ 116 (List._∷_ 115 (List._∷_ 58 (List._∷_ 58 (List._∷_ 66 (List._∷_ 105 (List._∷_ 116 (List._∷_ 80
+      (List._∷_ 111 (List._∷_ 115 (List._∷_ 105 (List._∷_ 116 (List._∷_ 105 (List._∷_ 111 (List._∷_ 110 List.[]))))))))))))))))) (Syntax.tcons (Syntax.tyInt Syntax.w64) Syntax.tnil)),
+) (List._∷_ (
+  15,
+  Rows'.any-gone Syntax.tyBool,
+) List.[])))))))))))))))
 
 abbrev pub t64 : List.List Row.Entry
-t64 = List._∷_ (16, Rows'.any-gone (Syntax.tyInt Syntax.w64)) (List._∷_ ( 17, Rows'.sc-here (Row.sInt Syntax.w64), ) (List._∷_ (18, Rows'.sc-here (Row.sInt Syntax.w32)) (List._∷_ ( 19, Rows'.any-gone
-    (Syntax.tyStruct (List._∷_ 98 (List._∷_ 108 (List._∷_ 111 (List._∷_ 99 (List._∷_ 107 (List._∷_ 58 (List._∷_ 58 (List._∷_ 76 (List._∷_ 105 (List._∷_ 110 (List._∷_ 101 (List._∷_ 100 List.[]))))))))))))
-    (Syntax.tcons Syntax.tyBool (Syntax.tcons Syntax.tyBool (Syntax.tcons (Syntax.tyStruct (List._∷_ 98 (List._∷_ 105 (List._∷_ 116 (List._∷_ 115 (List._∷_ 58 (List._∷_ 58 (List._∷_ 66 (List._∷_ 105
-    (List._∷_ 116 (List._∷_ 80 (List._∷_ 111 (List._∷_ 115 (List._∷_ 105 (List._∷_ 116 (List._∷_ 105 (List._∷_ 111 (List._∷_ 110 List.[]))))))))))))))))) (Syntax.tcons (Syntax.tyInt Syntax.w64)
-    Syntax.tnil)) Syntax.tnil)))), ) (List._∷_ (20, Rows'.sc-here Row.sBool) (List._∷_ (21, Rows'.any-gone Syntax.tyUnit) (List._∷_ ( 22, Rows'.any-gone (Syntax.tyRef Syntax.erased Syntax.mut
-    (Syntax.tyInt Syntax.w16)), ) (List._∷_ ( 23, Rows'.any-gone (Syntax.tyStruct (List._∷_ 38 (List._∷_ 91 (List._∷_ 93 List.[]))) (Syntax.tcons (Syntax.tyRef Syntax.erased Syntax.mut (Syntax.tyInt
-    Syntax.w16)) (Syntax.tcons (Syntax.tyInt Syntax.w64) Syntax.tnil))), ) (List._∷_ ( 24, Rows'.any-gone (Syntax.tyRef Syntax.erased Syntax.mut Element.behind), ) (List._∷_ ( 25, Rows'.any-gone
-    (Syntax.tyStruct (List._∷_ 38 (List._∷_ 91 (List._∷_ 93 List.[]))) (Syntax.tcons (Syntax.tyRef Syntax.erased Syntax.mut Element.behind) (Syntax.tcons (Syntax.tyInt Syntax.w64) Syntax.tnil))), )
-    (List._∷_ (26, Rows'.any-gone (Syntax.tyInt Syntax.w32)) (List._∷_ ( 27, Rows'.any-gone Syntax.tyBool, ) (List._∷_ (28, Rows'.any-gone Syntax.tyUnit) (List._∷_ ( 29, Rows'.any-gone (Syntax.tyRef
-    Syntax.erased Syntax.mut (Syntax.tyInt Syntax.w16)), ) (List._∷_ ( 30, Rows'.any-gone (Syntax.tyStruct (List._∷_ 38 (List._∷_ 91 (List._∷_ 93 List.[]))) (Syntax.tcons (Syntax.tyRef Syntax.erased
-    Syntax.mut (Syntax.tyInt Syntax.w16)) (Syntax.tcons (Syntax.tyInt Syntax.w64) Syntax.tnil))), ) (List._∷_ ( 31, Rows'.any-gone (Syntax.tyRef Syntax.erased Syntax.mut Element.behind), )
+t64 = List._∷_ (16, Rows'.any-gone (Syntax.tyInt Syntax.w64)) (List._∷_ (17, Rows'.sc-here (Row.sInt Syntax.w64)) (List._∷_ (18, Rows'.sc-here (Row.sInt Syntax.w32)) (List._∷_ (
+  19,
+  Rows'.any-gone
+      (Syntax.tyStruct (List._∷_ 98 (List._∷_ 108 (List._∷_ 111 (List._∷_ 99 (List._∷_ 107 (List._∷_ 58 (List._∷_ 58 (List._∷_ 76 (List._∷_ 105 (List._∷_ 110 (List._∷_ 101 (List._∷_ 100 List.[]))))))))))))
+      (Syntax.tcons Syntax.tyBool (Syntax.tcons Syntax.tyBool (Syntax.tcons (Syntax.tyStruct (List._∷_ 98 (List._∷_ 105 (List._∷_ 116 (List._∷_ 115 (List._∷_ 58 (List._∷_ 58 (List._∷_ 66 (List._∷_ 105
+      (List._∷_ 116 (List._∷_ 80 (List._∷_ 111 (List._∷_ 115 (List._∷_ 105 (List._∷_ 116 (List._∷_ 105 (List._∷_ 111 (List._∷_ 110 List.[]))))))))))))))))) (Syntax.tcons (Syntax.tyInt Syntax.w64)
+      Syntax.tnil)) Syntax.tnil)))),
+) (List._∷_ (20, Rows'.sc-here Row.sBool) (List._∷_ (21, Rows'.any-gone Syntax.tyUnit) (List._∷_ (
+  22,
+  Rows'.any-gone (Syntax.tyRef Syntax.erased Syntax.mut
+      (Syntax.tyInt Syntax.w16)),
+) (List._∷_ (
+  23,
+  Rows'.any-gone (Syntax.tyStruct (List._∷_ 38 (List._∷_ 91 (List._∷_ 93 List.[]))) (Syntax.tcons (Syntax.tyRef Syntax.erased Syntax.mut (Syntax.tyInt
+      Syntax.w16)) (Syntax.tcons (Syntax.tyInt Syntax.w64) Syntax.tnil))),
+) (List._∷_ (24, Rows'.any-gone (Syntax.tyRef Syntax.erased Syntax.mut Element.behind)) (List._∷_ (
+  25,
+  Rows'.any-gone
+      (Syntax.tyStruct (List._∷_ 38 (List._∷_ 91 (List._∷_ 93 List.[]))) (Syntax.tcons (Syntax.tyRef Syntax.erased Syntax.mut Element.behind) (Syntax.tcons (Syntax.tyInt Syntax.w64) Syntax.tnil))),
+)
+    (List._∷_ (26, Rows'.any-gone (Syntax.tyInt Syntax.w32)) (List._∷_ (27, Rows'.any-gone Syntax.tyBool) (List._∷_ (28, Rows'.any-gone Syntax.tyUnit) (List._∷_ (
+      29,
+      Rows'.any-gone (Syntax.tyRef
+          Syntax.erased Syntax.mut (Syntax.tyInt Syntax.w16)),
+    ) (List._∷_ (
+      30,
+      Rows'.any-gone (Syntax.tyStruct (List._∷_ 38 (List._∷_ 91 (List._∷_ 93 List.[]))) (Syntax.tcons (Syntax.tyRef Syntax.erased
+          Syntax.mut (Syntax.tyInt Syntax.w16)) (Syntax.tcons (Syntax.tyInt Syntax.w64) Syntax.tnil))),
+    ) (List._∷_ (31, Rows'.any-gone (Syntax.tyRef Syntax.erased Syntax.mut Element.behind))
     List.[])))))))))))))))
 
 abbrev pub t65 : List.List Row.Entry
-t65 = List._∷_ (16, Rows'.any-gone (Syntax.tyInt Syntax.w64)) (List._∷_ ( 17, Rows'.any-gone (Syntax.tyInt Syntax.w64), ) (List._∷_ (18, Rows'.sc-here (Row.sInt Syntax.w32)) (List._∷_ ( 19,
-    Rows'.any-gone (Syntax.tyStruct (List._∷_ 98 (List._∷_ 108 (List._∷_ 111 (List._∷_ 99 (List._∷_ 107 (List._∷_ 58 (List._∷_ 58 (List._∷_ 76 (List._∷_ 105 (List._∷_ 110 (List._∷_ 101 (List._∷_ 100
-    List.[])))))))))))) (Syntax.tcons Syntax.tyBool (Syntax.tcons Syntax.tyBool (Syntax.tcons (Syntax.tyStruct (List._∷_ 98 (List._∷_ 105 (List._∷_ 116 (List._∷_ 115 (List._∷_ 58 (List._∷_ 58 (List._∷_ 66
-    (List._∷_ 105 (List._∷_ 116 (List._∷_ 80 (List._∷_ 111 (List._∷_ 115 (List._∷_ 105 (List._∷_ 116 (List._∷_ 105 (List._∷_ 111 (List._∷_ 110 List.[]))))))))))))))))) (Syntax.tcons (Syntax.tyInt
-    Syntax.w64) Syntax.tnil)) Syntax.tnil)))), ) (List._∷_ (20, Rows'.sc-here Row.sBool) (List._∷_ (21, Rows'.any-gone Syntax.tyUnit) (List._∷_ ( 22, Rows'.any-gone (Syntax.tyRef Syntax.erased Syntax.mut
-    (Syntax.tyInt Syntax.w16)), ) (List._∷_ ( 23, Rows'.any-gone (Syntax.tyStruct (List._∷_ 38 (List._∷_ 91 (List._∷_ 93 List.[]))) (Syntax.tcons (Syntax.tyRef Syntax.erased Syntax.mut (Syntax.tyInt
-    Syntax.w16)) (Syntax.tcons (Syntax.tyInt Syntax.w64) Syntax.tnil))), ) (List._∷_ ( 24, Rows'.any-gone (Syntax.tyRef Syntax.erased Syntax.mut Element.behind), ) (List._∷_ ( 25, Rows'.any-gone
-    (Syntax.tyStruct (List._∷_ 38 (List._∷_ 91 (List._∷_ 93 List.[]))) (Syntax.tcons (Syntax.tyRef Syntax.erased Syntax.mut Element.behind) (Syntax.tcons (Syntax.tyInt Syntax.w64) Syntax.tnil))), )
-    (List._∷_ (26, Rows'.any-gone (Syntax.tyInt Syntax.w32)) (List._∷_ ( 27, Rows'.any-gone Syntax.tyBool, ) (List._∷_ (28, Rows'.any-gone Syntax.tyUnit) (List._∷_ ( 29, Rows'.any-gone (Syntax.tyRef
-    Syntax.erased Syntax.mut (Syntax.tyInt Syntax.w16)), ) (List._∷_ ( 30, Rows'.any-gone (Syntax.tyStruct (List._∷_ 38 (List._∷_ 91 (List._∷_ 93 List.[]))) (Syntax.tcons (Syntax.tyRef Syntax.erased
-    Syntax.mut (Syntax.tyInt Syntax.w16)) (Syntax.tcons (Syntax.tyInt Syntax.w64) Syntax.tnil))), ) (List._∷_ ( 31, Rows'.any-gone (Syntax.tyRef Syntax.erased Syntax.mut Element.behind), )
+t65 = List._∷_ (16, Rows'.any-gone (Syntax.tyInt Syntax.w64)) (List._∷_ (17, Rows'.any-gone (Syntax.tyInt Syntax.w64)) (List._∷_ (18, Rows'.sc-here (Row.sInt Syntax.w32)) (List._∷_ (
+  19,
+  Rows'.any-gone (Syntax.tyStruct (List._∷_ 98 (List._∷_ 108 (List._∷_ 111 (List._∷_ 99 (List._∷_ 107 (List._∷_ 58 (List._∷_ 58 (List._∷_ 76 (List._∷_ 105 (List._∷_ 110 (List._∷_ 101 (List._∷_ 100
+      List.[])))))))))))) (Syntax.tcons Syntax.tyBool (Syntax.tcons Syntax.tyBool (Syntax.tcons (Syntax.tyStruct (List._∷_ 98 (List._∷_ 105 (List._∷_ 116 (List._∷_ 115 (List._∷_ 58 (List._∷_ 58 (List._∷_ 66
+      (List._∷_ 105 (List._∷_ 116 (List._∷_ 80 (List._∷_ 111 (List._∷_ 115 (List._∷_ 105 (List._∷_ 116 (List._∷_ 105 (List._∷_ 111 (List._∷_ 110 List.[]))))))))))))))))) (Syntax.tcons (Syntax.tyInt
+      Syntax.w64) Syntax.tnil)) Syntax.tnil)))),
+) (List._∷_ (20, Rows'.sc-here Row.sBool) (List._∷_ (21, Rows'.any-gone Syntax.tyUnit) (List._∷_ (
+  22,
+  Rows'.any-gone (Syntax.tyRef Syntax.erased Syntax.mut
+      (Syntax.tyInt Syntax.w16)),
+) (List._∷_ (
+  23,
+  Rows'.any-gone (Syntax.tyStruct (List._∷_ 38 (List._∷_ 91 (List._∷_ 93 List.[]))) (Syntax.tcons (Syntax.tyRef Syntax.erased Syntax.mut (Syntax.tyInt
+      Syntax.w16)) (Syntax.tcons (Syntax.tyInt Syntax.w64) Syntax.tnil))),
+) (List._∷_ (24, Rows'.any-gone (Syntax.tyRef Syntax.erased Syntax.mut Element.behind)) (List._∷_ (
+  25,
+  Rows'.any-gone
+      (Syntax.tyStruct (List._∷_ 38 (List._∷_ 91 (List._∷_ 93 List.[]))) (Syntax.tcons (Syntax.tyRef Syntax.erased Syntax.mut Element.behind) (Syntax.tcons (Syntax.tyInt Syntax.w64) Syntax.tnil))),
+)
+    (List._∷_ (26, Rows'.any-gone (Syntax.tyInt Syntax.w32)) (List._∷_ (27, Rows'.any-gone Syntax.tyBool) (List._∷_ (28, Rows'.any-gone Syntax.tyUnit) (List._∷_ (
+      29,
+      Rows'.any-gone (Syntax.tyRef
+          Syntax.erased Syntax.mut (Syntax.tyInt Syntax.w16)),
+    ) (List._∷_ (
+      30,
+      Rows'.any-gone (Syntax.tyStruct (List._∷_ 38 (List._∷_ 91 (List._∷_ 93 List.[]))) (Syntax.tcons (Syntax.tyRef Syntax.erased
+          Syntax.mut (Syntax.tyInt Syntax.w16)) (Syntax.tcons (Syntax.tyInt Syntax.w64) Syntax.tnil))),
+    ) (List._∷_ (31, Rows'.any-gone (Syntax.tyRef Syntax.erased Syntax.mut Element.behind))
     List.[])))))))))))))))
 
 abbrev pub t66 : List.List Row.Entry
-t66 = List._∷_ (16, Rows'.any-gone (Syntax.tyInt Syntax.w64)) (List._∷_ ( 17, Rows'.any-gone (Syntax.tyInt Syntax.w64), ) (List._∷_ (18, Rows'.any-gone (Syntax.tyInt Syntax.w32)) (List._∷_ ( 19,
-    Rows'.any-gone (Syntax.tyStruct (List._∷_ 98 (List._∷_ 108 (List._∷_ 111 (List._∷_ 99 (List._∷_ 107 (List._∷_ 58 (List._∷_ 58 (List._∷_ 76 (List._∷_ 105 (List._∷_ 110 (List._∷_ 101 (List._∷_ 100
-    List.[])))))))))))) (Syntax.tcons Syntax.tyBool (Syntax.tcons Syntax.tyBool (Syntax.tcons (Syntax.tyStruct (List._∷_ 98 (List._∷_ 105 (List._∷_ 116 (List._∷_ 115 (List._∷_ 58 (List._∷_ 58 (List._∷_ 66
-    (List._∷_ 105 (List._∷_ 116 (List._∷_ 80 (List._∷_ 111 (List._∷_ 115 (List._∷_ 105 (List._∷_ 116 (List._∷_ 105 (List._∷_ 111 (List._∷_ 110 List.[]))))))))))))))))) (Syntax.tcons (Syntax.tyInt
-    Syntax.w64) Syntax.tnil)) Syntax.tnil)))), ) (List._∷_ (20, Rows'.sc-here Row.sBool) (List._∷_ (21, Rows'.any-gone Syntax.tyUnit) (List._∷_ ( 22, Rows'.any-gone (Syntax.tyRef Syntax.erased Syntax.mut
-    (Syntax.tyInt Syntax.w16)), ) (List._∷_ ( 23, Rows'.any-gone (Syntax.tyStruct (List._∷_ 38 (List._∷_ 91 (List._∷_ 93 List.[]))) (Syntax.tcons (Syntax.tyRef Syntax.erased Syntax.mut (Syntax.tyInt
-    Syntax.w16)) (Syntax.tcons (Syntax.tyInt Syntax.w64) Syntax.tnil))), ) (List._∷_ ( 24, Rows'.any-gone (Syntax.tyRef Syntax.erased Syntax.mut Element.behind), ) (List._∷_ ( 25, Rows'.any-gone
-    (Syntax.tyStruct (List._∷_ 38 (List._∷_ 91 (List._∷_ 93 List.[]))) (Syntax.tcons (Syntax.tyRef Syntax.erased Syntax.mut Element.behind) (Syntax.tcons (Syntax.tyInt Syntax.w64) Syntax.tnil))), )
-    (List._∷_ (26, Rows'.any-gone (Syntax.tyInt Syntax.w32)) (List._∷_ ( 27, Rows'.any-gone Syntax.tyBool, ) (List._∷_ (28, Rows'.any-gone Syntax.tyUnit) (List._∷_ ( 29, Rows'.any-gone (Syntax.tyRef
-    Syntax.erased Syntax.mut (Syntax.tyInt Syntax.w16)), ) (List._∷_ ( 30, Rows'.any-gone (Syntax.tyStruct (List._∷_ 38 (List._∷_ 91 (List._∷_ 93 List.[]))) (Syntax.tcons (Syntax.tyRef Syntax.erased
-    Syntax.mut (Syntax.tyInt Syntax.w16)) (Syntax.tcons (Syntax.tyInt Syntax.w64) Syntax.tnil))), ) (List._∷_ ( 31, Rows'.any-gone (Syntax.tyRef Syntax.erased Syntax.mut Element.behind), )
+t66 = List._∷_ (16, Rows'.any-gone (Syntax.tyInt Syntax.w64)) (List._∷_ (17, Rows'.any-gone (Syntax.tyInt Syntax.w64)) (List._∷_ (18, Rows'.any-gone (Syntax.tyInt Syntax.w32)) (List._∷_ (
+  19,
+  Rows'.any-gone (Syntax.tyStruct (List._∷_ 98 (List._∷_ 108 (List._∷_ 111 (List._∷_ 99 (List._∷_ 107 (List._∷_ 58 (List._∷_ 58 (List._∷_ 76 (List._∷_ 105 (List._∷_ 110 (List._∷_ 101 (List._∷_ 100
+      List.[])))))))))))) (Syntax.tcons Syntax.tyBool (Syntax.tcons Syntax.tyBool (Syntax.tcons (Syntax.tyStruct (List._∷_ 98 (List._∷_ 105 (List._∷_ 116 (List._∷_ 115 (List._∷_ 58 (List._∷_ 58 (List._∷_ 66
+      (List._∷_ 105 (List._∷_ 116 (List._∷_ 80 (List._∷_ 111 (List._∷_ 115 (List._∷_ 105 (List._∷_ 116 (List._∷_ 105 (List._∷_ 111 (List._∷_ 110 List.[]))))))))))))))))) (Syntax.tcons (Syntax.tyInt
+      Syntax.w64) Syntax.tnil)) Syntax.tnil)))),
+) (List._∷_ (20, Rows'.sc-here Row.sBool) (List._∷_ (21, Rows'.any-gone Syntax.tyUnit) (List._∷_ (
+  22,
+  Rows'.any-gone (Syntax.tyRef Syntax.erased Syntax.mut
+      (Syntax.tyInt Syntax.w16)),
+) (List._∷_ (
+  23,
+  Rows'.any-gone (Syntax.tyStruct (List._∷_ 38 (List._∷_ 91 (List._∷_ 93 List.[]))) (Syntax.tcons (Syntax.tyRef Syntax.erased Syntax.mut (Syntax.tyInt
+      Syntax.w16)) (Syntax.tcons (Syntax.tyInt Syntax.w64) Syntax.tnil))),
+) (List._∷_ (24, Rows'.any-gone (Syntax.tyRef Syntax.erased Syntax.mut Element.behind)) (List._∷_ (
+  25,
+  Rows'.any-gone
+      (Syntax.tyStruct (List._∷_ 38 (List._∷_ 91 (List._∷_ 93 List.[]))) (Syntax.tcons (Syntax.tyRef Syntax.erased Syntax.mut Element.behind) (Syntax.tcons (Syntax.tyInt Syntax.w64) Syntax.tnil))),
+)
+    (List._∷_ (26, Rows'.any-gone (Syntax.tyInt Syntax.w32)) (List._∷_ (27, Rows'.any-gone Syntax.tyBool) (List._∷_ (28, Rows'.any-gone Syntax.tyUnit) (List._∷_ (
+      29,
+      Rows'.any-gone (Syntax.tyRef
+          Syntax.erased Syntax.mut (Syntax.tyInt Syntax.w16)),
+    ) (List._∷_ (
+      30,
+      Rows'.any-gone (Syntax.tyStruct (List._∷_ 38 (List._∷_ 91 (List._∷_ 93 List.[]))) (Syntax.tcons (Syntax.tyRef Syntax.erased
+          Syntax.mut (Syntax.tyInt Syntax.w16)) (Syntax.tcons (Syntax.tyInt Syntax.w64) Syntax.tnil))),
+    ) (List._∷_ (31, Rows'.any-gone (Syntax.tyRef Syntax.erased Syntax.mut Element.behind))
     List.[])))))))))))))))
 
 abbrev pub t67 : List.List Row.Entry
-t67 = List._∷_ ( 0, Rows'.any-gone (Syntax.tyStruct (List._∷_ 98 (List._∷_ 108 (List._∷_ 111 (List._∷_ 99 (List._∷_ 107 (List._∷_ 58 (List._∷_ 58 (List._∷_ 87 (List._∷_ 97 (List._∷_ 108 (List._∷_ 107
-    (List._∷_ 101 (List._∷_ 100 List.[]))))))))))))) (Syntax.tcons Syntax.tyBool (Syntax.tcons (Syntax.tyInt Syntax.w64) (Syntax.tcons (Syntax.tyStruct (List._∷_ 98 (List._∷_ 105 (List._∷_ 116 (List._∷_
-    115 (List._∷_ 58 (List._∷_ 58 (List._∷_ 66 (List._∷_ 105 (List._∷_ 116 (List._∷_ 80 (List._∷_ 111 (List._∷_ 115 (List._∷_ 105 (List._∷_ 116 (List._∷_ 105 (List._∷_ 111 (List._∷_ 110
-    List.[]))))))))))))))))) (Syntax.tcons (Syntax.tyInt Syntax.w64) Syntax.tnil)) (Syntax.tcons (Syntax.tyInt Syntax.w64) Syntax.tnil))))), ) (List._∷_ ( 1, Rows'.sslice (Referent.rtF (Referent.fInt
-    Syntax.w8)) (Syntax.tyRef (Syntax.named 0) Syntax.imm (Syntax.tyInt Syntax.w8)) 0, ) (List._∷_ ( 2, Rows'.sslice (Referent.rtF (Referent.fInt Syntax.w8)) (Syntax.tyRef (Syntax.named 1) Syntax.imm
-    (Syntax.tyInt Syntax.w8)) 1, ) (List._∷_ ( 3, Mut.mslice (Referent.rtF (Referent.fInt Syntax.w16)) (Syntax.tyRef (Syntax.named 2) Syntax.mut (Syntax.tyInt Syntax.w16)) 2, ) (List._∷_ ( 4, Mut.mslice
-    (Element.type) (Syntax.tyRef (Syntax.named 3) Syntax.mut Element.behind) 3, ) (List._∷_ ( 5, Mut.mslice (Referent.rtF (Referent.fInt Syntax.w16)) (Syntax.tyRef (Syntax.named 4) Syntax.mut
-    (Syntax.tyInt Syntax.w16)) 4, ) (List._∷_ (6, Rows'.whole (Declared.row Form.the-type)) (List._∷_ ( 7, Rows'.sref (Array'.Array (Referent.rtF (Referent.fInt Syntax.w16)) 768) (Syntax.tyRef
-    (Syntax.named 5) Syntax.imm (Syntax.tyArray (Syntax.tyInt Syntax.w16) 768)) 5, ) (List._∷_ (8, Rows.arrF (Referent.rtF (Referent.fInt Syntax.w8)) 36 0) (List._∷_ ( 9, Rows'.whole (Declared.row
-    Part.the-type), ) (List._∷_ (10, Rows'.sc-here (Row.sInt Syntax.w64)) (List._∷_ ( 11, Rows'.sc-here (Row.sInt Syntax.w32), ) (List._∷_ (12, Rows'.sc-here Row.sBool) (List._∷_ (13, Rows'.sc-here
-    (Row.sInt Syntax.w64)) (List._∷_ ( 14, Rows'.any-gone (Syntax.tyStruct (List._∷_ 98 (List._∷_ 105 (List._∷_ 116 (List._∷_ 115 (List._∷_ 58 (List._∷_ 58 (List._∷_ 66 (List._∷_ 105 (List._∷_ 116
-    (List._∷_ 80 (List._∷_ 111 (List._∷_ 115 (List._∷_ 105 (List._∷_ 116 (List._∷_ 105 (List._∷_ 111 (List._∷_ 110 List.[]))))))))))))))))) (Syntax.tcons (Syntax.tyInt Syntax.w64) Syntax.tnil)), )
+t67 = List._∷_ (
+  0,
+  Rows'.any-gone (Syntax.tyStruct (List._∷_ 98 (List._∷_ 108 (List._∷_ 111 (List._∷_ 99 (List._∷_ 107 (List._∷_ 58 (List._∷_ 58 (List._∷_ 87 (List._∷_ 97 (List._∷_ 108 (List._∷_ 107
+      (List._∷_ 101 (List._∷_ 100 List.[]))))))))))))) (Syntax.tcons Syntax.tyBool (Syntax.tcons (Syntax.tyInt Syntax.w64) (Syntax.tcons (Syntax.tyStruct (List._∷_ 98 (List._∷_ 105 (List._∷_ 116 (List._∷_
+      115 (List._∷_ 58 (List._∷_ 58 (List._∷_ 66 (List._∷_ 105 (List._∷_ 116 (List._∷_ 80 (List._∷_ 111 (List._∷_ 115 (List._∷_ 105 (List._∷_ 116 (List._∷_ 105 (List._∷_ 111 (List._∷_ 110
+      List.[]))))))))))))))))) (Syntax.tcons (Syntax.tyInt Syntax.w64) Syntax.tnil)) (Syntax.tcons (Syntax.tyInt Syntax.w64) Syntax.tnil))))),
+) (List._∷_ (
+  1,
+  Rows'.sslice (Referent.rtF (Referent.fInt
+      Syntax.w8)) (Syntax.tyRef (Syntax.named 0) Syntax.imm (Syntax.tyInt Syntax.w8)) 0,
+) (List._∷_ (
+  2,
+  Rows'.sslice (Referent.rtF (Referent.fInt Syntax.w8)) (Syntax.tyRef (Syntax.named 1) Syntax.imm
+      (Syntax.tyInt Syntax.w8)) 1,
+) (List._∷_ (3, Mut.mslice (Referent.rtF (Referent.fInt Syntax.w16)) (Syntax.tyRef (Syntax.named 2) Syntax.mut (Syntax.tyInt Syntax.w16)) 2) (List._∷_ (
+  4,
+  Mut.mslice
+      (Element.type) (Syntax.tyRef (Syntax.named 3) Syntax.mut Element.behind) 3,
+) (List._∷_ (
+  5,
+  Mut.mslice (Referent.rtF (Referent.fInt Syntax.w16)) (Syntax.tyRef (Syntax.named 4) Syntax.mut
+      (Syntax.tyInt Syntax.w16)) 4,
+) (List._∷_ (6, Rows'.whole (Declared.row Form.the-type)) (List._∷_ (
+  7,
+  Rows'.sref (Array'.Array (Referent.rtF (Referent.fInt Syntax.w16)) 768) (Syntax.tyRef
+      (Syntax.named 5) Syntax.imm (Syntax.tyArray (Syntax.tyInt Syntax.w16) 768)) 5,
+) (List._∷_ (8, Rows.arrF (Referent.rtF (Referent.fInt Syntax.w8)) 36 0) (List._∷_ (
+  9,
+  Rows'.whole (Declared.row
+      Part.the-type),
+) (List._∷_ (10, Rows'.sc-here (Row.sInt Syntax.w64)) (List._∷_ (11, Rows'.sc-here (Row.sInt Syntax.w32)) (List._∷_ (12, Rows'.sc-here Row.sBool) (List._∷_ (
+  13,
+  Rows'.sc-here
+      (Row.sInt Syntax.w64),
+) (List._∷_ (
+  14,
+  Rows'.any-gone (Syntax.tyStruct (List._∷_ 98 (List._∷_ 105 (List._∷_ 116 (List._∷_ 115 (List._∷_ 58 (List._∷_ 58 (List._∷_ 66 (List._∷_ 105 (List._∷_ 116
+      (List._∷_ 80 (List._∷_ 111 (List._∷_ 115 (List._∷_ 105 (List._∷_ 116 (List._∷_ 105 (List._∷_ 111 (List._∷_ 110 List.[]))))))))))))))))) (Syntax.tcons (Syntax.tyInt Syntax.w64) Syntax.tnil)),
+)
     (List._∷_ (15, Rows'.sc-here Row.sBool) List.[])))))))))))))))
 
 abbrev pub t68 : List.List Row.Entry
-t68 = List._∷_ ( 0, Rows'.any-gone (Syntax.tyStruct (List._∷_ 98 (List._∷_ 108 (List._∷_ 111 (List._∷_ 99 (List._∷_ 107 (List._∷_ 58 (List._∷_ 58 (List._∷_ 87 (List._∷_ 97 (List._∷_ 108 (List._∷_ 107
-    (List._∷_ 101 (List._∷_ 100 List.[]))))))))))))) (Syntax.tcons Syntax.tyBool (Syntax.tcons (Syntax.tyInt Syntax.w64) (Syntax.tcons (Syntax.tyStruct (List._∷_ 98 (List._∷_ 105 (List._∷_ 116 (List._∷_
-    115 (List._∷_ 58 (List._∷_ 58 (List._∷_ 66 (List._∷_ 105 (List._∷_ 116 (List._∷_ 80 (List._∷_ 111 (List._∷_ 115 (List._∷_ 105 (List._∷_ 116 (List._∷_ 105 (List._∷_ 111 (List._∷_ 110
-    List.[]))))))))))))))))) (Syntax.tcons (Syntax.tyInt Syntax.w64) Syntax.tnil)) (Syntax.tcons (Syntax.tyInt Syntax.w64) Syntax.tnil))))), ) (List._∷_ ( 1, Rows'.sslice (Referent.rtF (Referent.fInt
-    Syntax.w8)) (Syntax.tyRef (Syntax.named 0) Syntax.imm (Syntax.tyInt Syntax.w8)) 0, ) (List._∷_ ( 2, Rows'.sslice (Referent.rtF (Referent.fInt Syntax.w8)) (Syntax.tyRef (Syntax.named 1) Syntax.imm
-    (Syntax.tyInt Syntax.w8)) 1, ) (List._∷_ ( 3, Mut.mslice (Referent.rtF (Referent.fInt Syntax.w16)) (Syntax.tyRef (Syntax.named 2) Syntax.mut (Syntax.tyInt Syntax.w16)) 2, ) (List._∷_ ( 4, Mut.mslice
-    (Element.type) (Syntax.tyRef (Syntax.named 3) Syntax.mut Element.behind) 3, ) (List._∷_ ( 5, Mut.mslice (Referent.rtF (Referent.fInt Syntax.w16)) (Syntax.tyRef (Syntax.named 4) Syntax.mut
-    (Syntax.tyInt Syntax.w16)) 4, ) (List._∷_ (6, Rows'.whole (Declared.row Form.the-type)) (List._∷_ ( 7, Rows'.sref (Array'.Array (Referent.rtF (Referent.fInt Syntax.w16)) 768) (Syntax.tyRef
-    (Syntax.named 5) Syntax.imm (Syntax.tyArray (Syntax.tyInt Syntax.w16) 768)) 5, ) (List._∷_ (8, Rows.arrF (Referent.rtF (Referent.fInt Syntax.w8)) 36 0) (List._∷_ ( 9, Rows'.whole (Declared.row
-    Part.the-type), ) (List._∷_ (10, Rows'.sc-here (Row.sInt Syntax.w64)) (List._∷_ ( 11, Rows'.sc-here (Row.sInt Syntax.w32), ) (List._∷_ (12, Rows'.sc-here Row.sBool) (List._∷_ (13, Rows'.sc-here
-    (Row.sInt Syntax.w64)) (List._∷_ ( 14, Rows'.whole (Declared.row BitPosition.the-type), ) (List._∷_ (15, Rows'.any-gone Syntax.tyBool) List.[])))))))))))))))
+t68 = List._∷_ (
+  0,
+  Rows'.any-gone (Syntax.tyStruct (List._∷_ 98 (List._∷_ 108 (List._∷_ 111 (List._∷_ 99 (List._∷_ 107 (List._∷_ 58 (List._∷_ 58 (List._∷_ 87 (List._∷_ 97 (List._∷_ 108 (List._∷_ 107
+      (List._∷_ 101 (List._∷_ 100 List.[]))))))))))))) (Syntax.tcons Syntax.tyBool (Syntax.tcons (Syntax.tyInt Syntax.w64) (Syntax.tcons (Syntax.tyStruct (List._∷_ 98 (List._∷_ 105 (List._∷_ 116 (List._∷_
+      115 (List._∷_ 58 (List._∷_ 58 (List._∷_ 66 (List._∷_ 105 (List._∷_ 116 (List._∷_ 80 (List._∷_ 111 (List._∷_ 115 (List._∷_ 105 (List._∷_ 116 (List._∷_ 105 (List._∷_ 111 (List._∷_ 110
+      List.[]))))))))))))))))) (Syntax.tcons (Syntax.tyInt Syntax.w64) Syntax.tnil)) (Syntax.tcons (Syntax.tyInt Syntax.w64) Syntax.tnil))))),
+) (List._∷_ (
+  1,
+  Rows'.sslice (Referent.rtF (Referent.fInt
+      Syntax.w8)) (Syntax.tyRef (Syntax.named 0) Syntax.imm (Syntax.tyInt Syntax.w8)) 0,
+) (List._∷_ (
+  2,
+  Rows'.sslice (Referent.rtF (Referent.fInt Syntax.w8)) (Syntax.tyRef (Syntax.named 1) Syntax.imm
+      (Syntax.tyInt Syntax.w8)) 1,
+) (List._∷_ (3, Mut.mslice (Referent.rtF (Referent.fInt Syntax.w16)) (Syntax.tyRef (Syntax.named 2) Syntax.mut (Syntax.tyInt Syntax.w16)) 2) (List._∷_ (
+  4,
+  Mut.mslice
+      (Element.type) (Syntax.tyRef (Syntax.named 3) Syntax.mut Element.behind) 3,
+) (List._∷_ (
+  5,
+  Mut.mslice (Referent.rtF (Referent.fInt Syntax.w16)) (Syntax.tyRef (Syntax.named 4) Syntax.mut
+      (Syntax.tyInt Syntax.w16)) 4,
+) (List._∷_ (6, Rows'.whole (Declared.row Form.the-type)) (List._∷_ (
+  7,
+  Rows'.sref (Array'.Array (Referent.rtF (Referent.fInt Syntax.w16)) 768) (Syntax.tyRef
+      (Syntax.named 5) Syntax.imm (Syntax.tyArray (Syntax.tyInt Syntax.w16) 768)) 5,
+) (List._∷_ (8, Rows.arrF (Referent.rtF (Referent.fInt Syntax.w8)) 36 0) (List._∷_ (
+  9,
+  Rows'.whole (Declared.row
+      Part.the-type),
+) (List._∷_ (10, Rows'.sc-here (Row.sInt Syntax.w64)) (List._∷_ (11, Rows'.sc-here (Row.sInt Syntax.w32)) (List._∷_ (12, Rows'.sc-here Row.sBool) (List._∷_ (
+  13,
+  Rows'.sc-here
+      (Row.sInt Syntax.w64),
+) (List._∷_ (14, Rows'.whole (Declared.row BitPosition.the-type)) (List._∷_ (15, Rows'.any-gone Syntax.tyBool) List.[])))))))))))))))
 
 abbrev pub t69 : List.List Row.Entry
-t69 = List._∷_ ( 0, Rows'.any-gone (Syntax.tyStruct (List._∷_ 98 (List._∷_ 108 (List._∷_ 111 (List._∷_ 99 (List._∷_ 107 (List._∷_ 58 (List._∷_ 58 (List._∷_ 87 (List._∷_ 97 (List._∷_ 108 (List._∷_ 107
-    (List._∷_ 101 (List._∷_ 100 List.[]))))))))))))) (Syntax.tcons Syntax.tyBool (Syntax.tcons (Syntax.tyInt Syntax.w64) (Syntax.tcons (Syntax.tyStruct (List._∷_ 98 (List._∷_ 105 (List._∷_ 116 (List._∷_
-    115 (List._∷_ 58 (List._∷_ 58 (List._∷_ 66 (List._∷_ 105 (List._∷_ 116 (List._∷_ 80 (List._∷_ 111 (List._∷_ 115 (List._∷_ 105 (List._∷_ 116 (List._∷_ 105 (List._∷_ 111 (List._∷_ 110
-    List.[]))))))))))))))))) (Syntax.tcons (Syntax.tyInt Syntax.w64) Syntax.tnil)) (Syntax.tcons (Syntax.tyInt Syntax.w64) Syntax.tnil))))), ) (List._∷_ ( 1, Rows'.sslice (Referent.rtF (Referent.fInt
-    Syntax.w8)) (Syntax.tyRef (Syntax.named 0) Syntax.imm (Syntax.tyInt Syntax.w8)) 0, ) (List._∷_ ( 2, Rows'.sslice (Referent.rtF (Referent.fInt Syntax.w8)) (Syntax.tyRef (Syntax.named 1) Syntax.imm
-    (Syntax.tyInt Syntax.w8)) 1, ) (List._∷_ ( 3, Reshare.mslice-owedS (Referent.rtF (Referent.fInt Syntax.w16)) (Syntax.tyRef (Syntax.named 2) Syntax.mut (Syntax.tyInt Syntax.w16)) 2 12 Row.off, )
-    (List._∷_ ( 4, Mut.mslice (Element.type) (Syntax.tyRef (Syntax.named 3) Syntax.mut Element.behind) 3, ) (List._∷_ ( 5, Mut.mslice (Referent.rtF (Referent.fInt Syntax.w16)) (Syntax.tyRef (Syntax.named
-    4) Syntax.mut (Syntax.tyInt Syntax.w16)) 4, ) (List._∷_ (6, Rows'.whole (Declared.row Form.the-type)) (List._∷_ ( 7, Rows'.sref (Array'.Array (Referent.rtF (Referent.fInt Syntax.w16)) 768)
-    (Syntax.tyRef (Syntax.named 5) Syntax.imm (Syntax.tyArray (Syntax.tyInt Syntax.w16) 768)) 5, ) (List._∷_ (8, Rows.arrF (Referent.rtF (Referent.fInt Syntax.w8)) 36 0) (List._∷_ ( 9, Rows'.whole
-    (Declared.row Part.the-type), ) (List._∷_ (10, Rows'.sc-here (Row.sInt Syntax.w64)) (List._∷_ ( 11, Rows'.sc-here (Row.sInt Syntax.w32), ) (List._∷_ (12, Rows'.sc-here Row.sBool) (List._∷_ (13,
-    Rows'.sc-here (Row.sInt Syntax.w64)) (List._∷_ ( 14, Rows'.whole (Declared.row BitPosition.the-type), ) (List._∷_ (15, Rows'.sc-here Row.sBool) List.[])))))))))))))))
+t69 = List._∷_ (
+  0,
+  Rows'.any-gone (Syntax.tyStruct (List._∷_ 98 (List._∷_ 108 (List._∷_ 111 (List._∷_ 99 (List._∷_ 107 (List._∷_ 58 (List._∷_ 58 (List._∷_ 87 (List._∷_ 97 (List._∷_ 108 (List._∷_ 107
+      (List._∷_ 101 (List._∷_ 100 List.[]))))))))))))) (Syntax.tcons Syntax.tyBool (Syntax.tcons (Syntax.tyInt Syntax.w64) (Syntax.tcons (Syntax.tyStruct (List._∷_ 98 (List._∷_ 105 (List._∷_ 116 (List._∷_
+      115 (List._∷_ 58 (List._∷_ 58 (List._∷_ 66 (List._∷_ 105 (List._∷_ 116 (List._∷_ 80 (List._∷_ 111 (List._∷_ 115 (List._∷_ 105 (List._∷_ 116 (List._∷_ 105 (List._∷_ 111 (List._∷_ 110
+      List.[]))))))))))))))))) (Syntax.tcons (Syntax.tyInt Syntax.w64) Syntax.tnil)) (Syntax.tcons (Syntax.tyInt Syntax.w64) Syntax.tnil))))),
+) (List._∷_ (
+  1,
+  Rows'.sslice (Referent.rtF (Referent.fInt
+      Syntax.w8)) (Syntax.tyRef (Syntax.named 0) Syntax.imm (Syntax.tyInt Syntax.w8)) 0,
+) (List._∷_ (
+  2,
+  Rows'.sslice (Referent.rtF (Referent.fInt Syntax.w8)) (Syntax.tyRef (Syntax.named 1) Syntax.imm
+      (Syntax.tyInt Syntax.w8)) 1,
+) (List._∷_ (3, Reshare.mslice-owedS (Referent.rtF (Referent.fInt Syntax.w16)) (Syntax.tyRef (Syntax.named 2) Syntax.mut (Syntax.tyInt Syntax.w16)) 2 12 Row.off)
+    (List._∷_ (4, Mut.mslice (Element.type) (Syntax.tyRef (Syntax.named 3) Syntax.mut Element.behind) 3) (List._∷_ (
+      5,
+      Mut.mslice (Referent.rtF (Referent.fInt Syntax.w16)) (Syntax.tyRef (Syntax.named
+          4) Syntax.mut (Syntax.tyInt Syntax.w16)) 4,
+    ) (List._∷_ (6, Rows'.whole (Declared.row Form.the-type)) (List._∷_ (
+      7,
+      Rows'.sref (Array'.Array (Referent.rtF (Referent.fInt Syntax.w16)) 768)
+          (Syntax.tyRef (Syntax.named 5) Syntax.imm (Syntax.tyArray (Syntax.tyInt Syntax.w16) 768)) 5,
+    ) (List._∷_ (8, Rows.arrF (Referent.rtF (Referent.fInt Syntax.w8)) 36 0) (List._∷_ (
+      9,
+      Rows'.whole
+          (Declared.row Part.the-type),
+    ) (List._∷_ (10, Rows'.sc-here (Row.sInt Syntax.w64)) (List._∷_ (11, Rows'.sc-here (Row.sInt Syntax.w32)) (List._∷_ (12, Rows'.sc-here Row.sBool) (List._∷_ (
+      13,
+      Rows'.sc-here (Row.sInt Syntax.w64),
+    ) (List._∷_ (14, Rows'.whole (Declared.row BitPosition.the-type)) (List._∷_ (15, Rows'.sc-here Row.sBool) List.[])))))))))))))))
 
 abbrev pub t70 : List.List Row.Entry
-t70 = List._∷_ ( 32, Rows'.any-gone (Syntax.tyStruct (List._∷_ 38 (List._∷_ 91 (List._∷_ 93 List.[]))) (Syntax.tcons (Syntax.tyRef Syntax.erased Syntax.mut Element.behind) (Syntax.tcons (Syntax.tyInt
-    Syntax.w64) Syntax.tnil))), ) (List._∷_ ( 33, Rows'.any-gone (Syntax.tyRef Syntax.erased Syntax.mut (Syntax.tyInt Syntax.w16)), ) (List._∷_ ( 34, Rows'.any-gone (Syntax.tyStruct (List._∷_ 38 (List._∷_
-    91 (List._∷_ 93 List.[]))) (Syntax.tcons (Syntax.tyRef Syntax.erased Syntax.mut (Syntax.tyInt Syntax.w16)) (Syntax.tcons (Syntax.tyInt Syntax.w64) Syntax.tnil))), ) (List._∷_ ( 35, Rows'.any-gone
-    (Syntax.tyRef Syntax.erased Syntax.mut Element.behind), ) (List._∷_ ( 36, Rows'.any-gone (Syntax.tyStruct (List._∷_ 38 (List._∷_ 91 (List._∷_ 93 List.[]))) (Syntax.tcons (Syntax.tyRef Syntax.erased
-    Syntax.mut Element.behind) (Syntax.tcons (Syntax.tyInt Syntax.w64) Syntax.tnil))), ) (List._∷_ ( 37, Rows'.any-gone (Syntax.tyStruct (List._∷_ 112 (List._∷_ 97 (List._∷_ 115 (List._∷_ 115 (List._∷_ 58
-    (List._∷_ 58 (List._∷_ 81 (List._∷_ 117 (List._∷_ 97 (List._∷_ 110 (List._∷_ 116 (List._∷_ 105 (List._∷_ 115 (List._∷_ 101 (List._∷_ 114 (List._∷_ 115 List.[])))))))))))))))) (Syntax.tcons
-    (Syntax.tyInt Syntax.w32) (Syntax.tcons (Syntax.tyArray (Syntax.tyInt Syntax.w32) 4) (Syntax.tcons (Syntax.tyArray (Syntax.tyInt Syntax.w32) 4) (Syntax.tcons (Syntax.tyArray (Syntax.tyInt Syntax.w32)
-    4) Syntax.tnil))))), ) (List._∷_ ( 38, Relend.ssptr (Referent.rtF (Referent.fInt Syntax.w16)) (Syntax.tyRef Syntax.erased Syntax.imm (Syntax.tyInt Syntax.w16)) 12, ) (List._∷_ ( 39, Rows'.any-gone
-    (Syntax.tyStruct (List._∷_ 38 (List._∷_ 91 (List._∷_ 93 List.[]))) (Syntax.tcons (Syntax.tyRef Syntax.erased Syntax.imm (Syntax.tyInt Syntax.w16)) (Syntax.tcons (Syntax.tyInt Syntax.w64)
-    Syntax.tnil))), ) (List._∷_ ( 40, Rows'.any-gone (Syntax.tyRef Syntax.erased Syntax.mut (Syntax.tyInt Syntax.w16)), ) (List._∷_ ( 41, Rows'.any-gone (Syntax.tyStruct (List._∷_ 38 (List._∷_ 91
-    (List._∷_ 93 List.[]))) (Syntax.tcons (Syntax.tyRef Syntax.erased Syntax.mut (Syntax.tyInt Syntax.w16)) (Syntax.tcons (Syntax.tyInt Syntax.w64) Syntax.tnil))), ) List.[])))))))))
+t70 = List._∷_ (
+  32,
+  Rows'.any-gone (Syntax.tyStruct (List._∷_ 38 (List._∷_ 91 (List._∷_ 93 List.[]))) (Syntax.tcons (Syntax.tyRef Syntax.erased Syntax.mut Element.behind) (Syntax.tcons (Syntax.tyInt
+      Syntax.w64) Syntax.tnil))),
+) (List._∷_ (33, Rows'.any-gone (Syntax.tyRef Syntax.erased Syntax.mut (Syntax.tyInt Syntax.w16))) (List._∷_ (
+  34,
+  Rows'.any-gone (Syntax.tyStruct (List._∷_ 38 (List._∷_
+      91 (List._∷_ 93 List.[]))) (Syntax.tcons (Syntax.tyRef Syntax.erased Syntax.mut (Syntax.tyInt Syntax.w16)) (Syntax.tcons (Syntax.tyInt Syntax.w64) Syntax.tnil))),
+) (List._∷_ (
+  35,
+  Rows'.any-gone
+      (Syntax.tyRef Syntax.erased Syntax.mut Element.behind),
+) (List._∷_ (
+  36,
+  Rows'.any-gone (Syntax.tyStruct (List._∷_ 38 (List._∷_ 91 (List._∷_ 93 List.[]))) (Syntax.tcons (Syntax.tyRef Syntax.erased
+      Syntax.mut Element.behind) (Syntax.tcons (Syntax.tyInt Syntax.w64) Syntax.tnil))),
+) (List._∷_ (
+  37,
+  Rows'.any-gone (Syntax.tyStruct (List._∷_ 112 (List._∷_ 97 (List._∷_ 115 (List._∷_ 115 (List._∷_ 58
+      (List._∷_ 58 (List._∷_ 81 (List._∷_ 117 (List._∷_ 97 (List._∷_ 110 (List._∷_ 116 (List._∷_ 105 (List._∷_ 115 (List._∷_ 101 (List._∷_ 114 (List._∷_ 115 List.[])))))))))))))))) (Syntax.tcons
+      (Syntax.tyInt Syntax.w32) (Syntax.tcons (Syntax.tyArray (Syntax.tyInt Syntax.w32) 4) (Syntax.tcons (Syntax.tyArray (Syntax.tyInt Syntax.w32) 4) (Syntax.tcons (Syntax.tyArray (Syntax.tyInt Syntax.w32)
+      4) Syntax.tnil))))),
+) (List._∷_ (38, Relend.ssptr (Referent.rtF (Referent.fInt Syntax.w16)) (Syntax.tyRef Syntax.erased Syntax.imm (Syntax.tyInt Syntax.w16)) 12) (List._∷_ (
+  39,
+  Rows'.any-gone
+      (Syntax.tyStruct (List._∷_ 38 (List._∷_ 91 (List._∷_ 93 List.[]))) (Syntax.tcons (Syntax.tyRef Syntax.erased Syntax.imm (Syntax.tyInt Syntax.w16)) (Syntax.tcons (Syntax.tyInt Syntax.w64)
+      Syntax.tnil))),
+) (List._∷_ (40, Rows'.any-gone (Syntax.tyRef Syntax.erased Syntax.mut (Syntax.tyInt Syntax.w16))) (List._∷_ (
+  41,
+  Rows'.any-gone (Syntax.tyStruct (List._∷_ 38 (List._∷_ 91
+      (List._∷_ 93 List.[]))) (Syntax.tcons (Syntax.tyRef Syntax.erased Syntax.mut (Syntax.tyInt Syntax.w16)) (Syntax.tcons (Syntax.tyInt Syntax.w64) Syntax.tnil))),
+) List.[])))))))))
 
 abbrev pub t71 : List.List Row.Entry
-t71 = List._∷_ ( 32, Rows'.any-gone (Syntax.tyStruct (List._∷_ 38 (List._∷_ 91 (List._∷_ 93 List.[]))) (Syntax.tcons (Syntax.tyRef Syntax.erased Syntax.mut Element.behind) (Syntax.tcons (Syntax.tyInt
-    Syntax.w64) Syntax.tnil))), ) (List._∷_ ( 33, Rows'.any-gone (Syntax.tyRef Syntax.erased Syntax.mut (Syntax.tyInt Syntax.w16)), ) (List._∷_ ( 34, Rows'.any-gone (Syntax.tyStruct (List._∷_ 38 (List._∷_
-    91 (List._∷_ 93 List.[]))) (Syntax.tcons (Syntax.tyRef Syntax.erased Syntax.mut (Syntax.tyInt Syntax.w16)) (Syntax.tcons (Syntax.tyInt Syntax.w64) Syntax.tnil))), ) (List._∷_ ( 35, Rows'.any-gone
-    (Syntax.tyRef Syntax.erased Syntax.mut Element.behind), ) (List._∷_ ( 36, Rows'.any-gone (Syntax.tyStruct (List._∷_ 38 (List._∷_ 91 (List._∷_ 93 List.[]))) (Syntax.tcons (Syntax.tyRef Syntax.erased
-    Syntax.mut Element.behind) (Syntax.tcons (Syntax.tyInt Syntax.w64) Syntax.tnil))), ) (List._∷_ ( 37, Rows'.any-gone (Syntax.tyStruct (List._∷_ 112 (List._∷_ 97 (List._∷_ 115 (List._∷_ 115 (List._∷_ 58
-    (List._∷_ 58 (List._∷_ 81 (List._∷_ 117 (List._∷_ 97 (List._∷_ 110 (List._∷_ 116 (List._∷_ 105 (List._∷_ 115 (List._∷_ 101 (List._∷_ 114 (List._∷_ 115 List.[])))))))))))))))) (Syntax.tcons
-    (Syntax.tyInt Syntax.w32) (Syntax.tcons (Syntax.tyArray (Syntax.tyInt Syntax.w32) 4) (Syntax.tcons (Syntax.tyArray (Syntax.tyInt Syntax.w32) 4) (Syntax.tcons (Syntax.tyArray (Syntax.tyInt Syntax.w32)
-    4) Syntax.tnil))))), ) (List._∷_ ( 38, Rows'.any-gone (Syntax.tyRef Syntax.erased Syntax.imm (Syntax.tyInt Syntax.w16)), ) (List._∷_ ( 39, Rows'.sslice (Referent.rtF (Referent.fInt Syntax.w16))
-    (Syntax.tyRef Syntax.erased Syntax.imm (Syntax.tyInt Syntax.w16)) 12, ) (List._∷_ ( 40, Rows'.any-gone (Syntax.tyRef Syntax.erased Syntax.mut (Syntax.tyInt Syntax.w16)), ) (List._∷_ ( 41,
-    Rows'.any-gone (Syntax.tyStruct (List._∷_ 38 (List._∷_ 91 (List._∷_ 93 List.[]))) (Syntax.tcons (Syntax.tyRef Syntax.erased Syntax.mut (Syntax.tyInt Syntax.w16)) (Syntax.tcons (Syntax.tyInt
-    Syntax.w64) Syntax.tnil))), ) List.[])))))))))
+t71 = List._∷_ (
+  32,
+  Rows'.any-gone (Syntax.tyStruct (List._∷_ 38 (List._∷_ 91 (List._∷_ 93 List.[]))) (Syntax.tcons (Syntax.tyRef Syntax.erased Syntax.mut Element.behind) (Syntax.tcons (Syntax.tyInt
+      Syntax.w64) Syntax.tnil))),
+) (List._∷_ (33, Rows'.any-gone (Syntax.tyRef Syntax.erased Syntax.mut (Syntax.tyInt Syntax.w16))) (List._∷_ (
+  34,
+  Rows'.any-gone (Syntax.tyStruct (List._∷_ 38 (List._∷_
+      91 (List._∷_ 93 List.[]))) (Syntax.tcons (Syntax.tyRef Syntax.erased Syntax.mut (Syntax.tyInt Syntax.w16)) (Syntax.tcons (Syntax.tyInt Syntax.w64) Syntax.tnil))),
+) (List._∷_ (
+  35,
+  Rows'.any-gone
+      (Syntax.tyRef Syntax.erased Syntax.mut Element.behind),
+) (List._∷_ (
+  36,
+  Rows'.any-gone (Syntax.tyStruct (List._∷_ 38 (List._∷_ 91 (List._∷_ 93 List.[]))) (Syntax.tcons (Syntax.tyRef Syntax.erased
+      Syntax.mut Element.behind) (Syntax.tcons (Syntax.tyInt Syntax.w64) Syntax.tnil))),
+) (List._∷_ (
+  37,
+  Rows'.any-gone (Syntax.tyStruct (List._∷_ 112 (List._∷_ 97 (List._∷_ 115 (List._∷_ 115 (List._∷_ 58
+      (List._∷_ 58 (List._∷_ 81 (List._∷_ 117 (List._∷_ 97 (List._∷_ 110 (List._∷_ 116 (List._∷_ 105 (List._∷_ 115 (List._∷_ 101 (List._∷_ 114 (List._∷_ 115 List.[])))))))))))))))) (Syntax.tcons
+      (Syntax.tyInt Syntax.w32) (Syntax.tcons (Syntax.tyArray (Syntax.tyInt Syntax.w32) 4) (Syntax.tcons (Syntax.tyArray (Syntax.tyInt Syntax.w32) 4) (Syntax.tcons (Syntax.tyArray (Syntax.tyInt Syntax.w32)
+      4) Syntax.tnil))))),
+) (List._∷_ (38, Rows'.any-gone (Syntax.tyRef Syntax.erased Syntax.imm (Syntax.tyInt Syntax.w16))) (List._∷_ (
+  39,
+  Rows'.sslice (Referent.rtF (Referent.fInt Syntax.w16))
+      (Syntax.tyRef Syntax.erased Syntax.imm (Syntax.tyInt Syntax.w16)) 12,
+) (List._∷_ (40, Rows'.any-gone (Syntax.tyRef Syntax.erased Syntax.mut (Syntax.tyInt Syntax.w16))) (List._∷_ (
+  41,
+  Rows'.any-gone (Syntax.tyStruct (List._∷_ 38 (List._∷_ 91 (List._∷_ 93 List.[]))) (Syntax.tcons (Syntax.tyRef Syntax.erased Syntax.mut (Syntax.tyInt Syntax.w16)) (Syntax.tcons (Syntax.tyInt
+      Syntax.w64) Syntax.tnil))),
+) List.[])))))))))
 
 abbrev pub t72 : List.List Row.Entry
-t72 = List._∷_ ( 0, Rows'.any-gone (Syntax.tyStruct (List._∷_ 98 (List._∷_ 108 (List._∷_ 111 (List._∷_ 99 (List._∷_ 107 (List._∷_ 58 (List._∷_ 58 (List._∷_ 87 (List._∷_ 97 (List._∷_ 108 (List._∷_ 107
-    (List._∷_ 101 (List._∷_ 100 List.[]))))))))))))) (Syntax.tcons Syntax.tyBool (Syntax.tcons (Syntax.tyInt Syntax.w64) (Syntax.tcons (Syntax.tyStruct (List._∷_ 98 (List._∷_ 105 (List._∷_ 116 (List._∷_
-    115 (List._∷_ 58 (List._∷_ 58 (List._∷_ 66 (List._∷_ 105 (List._∷_ 116 (List._∷_ 80 (List._∷_ 111 (List._∷_ 115 (List._∷_ 105 (List._∷_ 116 (List._∷_ 105 (List._∷_ 111 (List._∷_ 110
-    List.[]))))))))))))))))) (Syntax.tcons (Syntax.tyInt Syntax.w64) Syntax.tnil)) (Syntax.tcons (Syntax.tyInt Syntax.w64) Syntax.tnil))))), ) (List._∷_ ( 1, Rows'.sslice (Referent.rtF (Referent.fInt
-    Syntax.w8)) (Syntax.tyRef (Syntax.named 0) Syntax.imm (Syntax.tyInt Syntax.w8)) 0, ) (List._∷_ ( 2, Rows'.sslice (Referent.rtF (Referent.fInt Syntax.w8)) (Syntax.tyRef (Syntax.named 1) Syntax.imm
-    (Syntax.tyInt Syntax.w8)) 1, ) (List._∷_ ( 3, Reshare.mslice-owedS (Referent.rtF (Referent.fInt Syntax.w16)) (Syntax.tyRef (Syntax.named 2) Syntax.mut (Syntax.tyInt Syntax.w16)) 2 12 Row.off, )
-    (List._∷_ ( 4, Mut.mslice (Element.type) (Syntax.tyRef (Syntax.named 3) Syntax.mut Element.behind) 3, ) (List._∷_ ( 5, Relend.mslice-owed (Referent.rtF (Referent.fInt Syntax.w16)) (Syntax.tyRef
-    (Syntax.named 4) Syntax.mut (Syntax.tyInt Syntax.w16)) 4 13 Row.off, ) (List._∷_ (6, Rows'.whole (Declared.row Form.the-type)) (List._∷_ ( 7, Rows'.sref (Array'.Array (Referent.rtF (Referent.fInt
-    Syntax.w16)) 768) (Syntax.tyRef (Syntax.named 5) Syntax.imm (Syntax.tyArray (Syntax.tyInt Syntax.w16) 768)) 5, ) (List._∷_ (8, Rows.arrF (Referent.rtF (Referent.fInt Syntax.w8)) 36 0) (List._∷_ ( 9,
-    Rows'.whole (Declared.row Part.the-type), ) (List._∷_ (10, Rows'.sc-here (Row.sInt Syntax.w64)) (List._∷_ ( 11, Rows'.sc-here (Row.sInt Syntax.w32), ) (List._∷_ (12, Rows'.sc-here Row.sBool) (List._∷_
-    (13, Rows'.sc-here (Row.sInt Syntax.w64)) (List._∷_ ( 14, Rows'.whole (Declared.row BitPosition.the-type), ) (List._∷_ (15, Rows'.sc-here Row.sBool) List.[])))))))))))))))
+t72 = List._∷_ (
+  0,
+  Rows'.any-gone (Syntax.tyStruct (List._∷_ 98 (List._∷_ 108 (List._∷_ 111 (List._∷_ 99 (List._∷_ 107 (List._∷_ 58 (List._∷_ 58 (List._∷_ 87 (List._∷_ 97 (List._∷_ 108 (List._∷_ 107
+      (List._∷_ 101 (List._∷_ 100 List.[]))))))))))))) (Syntax.tcons Syntax.tyBool (Syntax.tcons (Syntax.tyInt Syntax.w64) (Syntax.tcons (Syntax.tyStruct (List._∷_ 98 (List._∷_ 105 (List._∷_ 116 (List._∷_
+      115 (List._∷_ 58 (List._∷_ 58 (List._∷_ 66 (List._∷_ 105 (List._∷_ 116 (List._∷_ 80 (List._∷_ 111 (List._∷_ 115 (List._∷_ 105 (List._∷_ 116 (List._∷_ 105 (List._∷_ 111 (List._∷_ 110
+      List.[]))))))))))))))))) (Syntax.tcons (Syntax.tyInt Syntax.w64) Syntax.tnil)) (Syntax.tcons (Syntax.tyInt Syntax.w64) Syntax.tnil))))),
+) (List._∷_ (
+  1,
+  Rows'.sslice (Referent.rtF (Referent.fInt
+      Syntax.w8)) (Syntax.tyRef (Syntax.named 0) Syntax.imm (Syntax.tyInt Syntax.w8)) 0,
+) (List._∷_ (
+  2,
+  Rows'.sslice (Referent.rtF (Referent.fInt Syntax.w8)) (Syntax.tyRef (Syntax.named 1) Syntax.imm
+      (Syntax.tyInt Syntax.w8)) 1,
+) (List._∷_ (3, Reshare.mslice-owedS (Referent.rtF (Referent.fInt Syntax.w16)) (Syntax.tyRef (Syntax.named 2) Syntax.mut (Syntax.tyInt Syntax.w16)) 2 12 Row.off)
+    (List._∷_ (4, Mut.mslice (Element.type) (Syntax.tyRef (Syntax.named 3) Syntax.mut Element.behind) 3) (List._∷_ (
+      5,
+      Relend.mslice-owed (Referent.rtF (Referent.fInt Syntax.w16)) (Syntax.tyRef
+          (Syntax.named 4) Syntax.mut (Syntax.tyInt Syntax.w16)) 4 13 Row.off,
+    ) (List._∷_ (6, Rows'.whole (Declared.row Form.the-type)) (List._∷_ (
+      7,
+      Rows'.sref (Array'.Array (Referent.rtF (Referent.fInt
+          Syntax.w16)) 768) (Syntax.tyRef (Syntax.named 5) Syntax.imm (Syntax.tyArray (Syntax.tyInt Syntax.w16) 768)) 5,
+    ) (List._∷_ (8, Rows.arrF (Referent.rtF (Referent.fInt Syntax.w8)) 36 0) (List._∷_ (
+      9,
+      Rows'.whole (Declared.row Part.the-type),
+    ) (List._∷_ (10, Rows'.sc-here (Row.sInt Syntax.w64)) (List._∷_ (11, Rows'.sc-here (Row.sInt Syntax.w32)) (List._∷_ (12, Rows'.sc-here Row.sBool) (List._∷_
+    (13, Rows'.sc-here (Row.sInt Syntax.w64)) (List._∷_ (14, Rows'.whole (Declared.row BitPosition.the-type)) (List._∷_ (15, Rows'.sc-here Row.sBool) List.[])))))))))))))))
 
 abbrev pub t73 : List.List Row.Entry
-t73 = List._∷_ ( 32, Rows'.any-gone (Syntax.tyStruct (List._∷_ 38 (List._∷_ 91 (List._∷_ 93 List.[]))) (Syntax.tcons (Syntax.tyRef Syntax.erased Syntax.mut Element.behind) (Syntax.tcons (Syntax.tyInt
-    Syntax.w64) Syntax.tnil))), ) (List._∷_ ( 33, Rows'.any-gone (Syntax.tyRef Syntax.erased Syntax.mut (Syntax.tyInt Syntax.w16)), ) (List._∷_ ( 34, Rows'.any-gone (Syntax.tyStruct (List._∷_ 38 (List._∷_
-    91 (List._∷_ 93 List.[]))) (Syntax.tcons (Syntax.tyRef Syntax.erased Syntax.mut (Syntax.tyInt Syntax.w16)) (Syntax.tcons (Syntax.tyInt Syntax.w64) Syntax.tnil))), ) (List._∷_ ( 35, Rows'.any-gone
-    (Syntax.tyRef Syntax.erased Syntax.mut Element.behind), ) (List._∷_ ( 36, Rows'.any-gone (Syntax.tyStruct (List._∷_ 38 (List._∷_ 91 (List._∷_ 93 List.[]))) (Syntax.tcons (Syntax.tyRef Syntax.erased
-    Syntax.mut Element.behind) (Syntax.tcons (Syntax.tyInt Syntax.w64) Syntax.tnil))), ) (List._∷_ ( 37, Rows'.any-gone (Syntax.tyStruct (List._∷_ 112 (List._∷_ 97 (List._∷_ 115 (List._∷_ 115 (List._∷_ 58
-    (List._∷_ 58 (List._∷_ 81 (List._∷_ 117 (List._∷_ 97 (List._∷_ 110 (List._∷_ 116 (List._∷_ 105 (List._∷_ 115 (List._∷_ 101 (List._∷_ 114 (List._∷_ 115 List.[])))))))))))))))) (Syntax.tcons
-    (Syntax.tyInt Syntax.w32) (Syntax.tcons (Syntax.tyArray (Syntax.tyInt Syntax.w32) 4) (Syntax.tcons (Syntax.tyArray (Syntax.tyInt Syntax.w32) 4) (Syntax.tcons (Syntax.tyArray (Syntax.tyInt Syntax.w32)
-    4) Syntax.tnil))))), ) (List._∷_ ( 38, Rows'.any-gone (Syntax.tyRef Syntax.erased Syntax.imm (Syntax.tyInt Syntax.w16)), ) (List._∷_ ( 39, Rows'.sslice (Referent.rtF (Referent.fInt Syntax.w16))
-    (Syntax.tyRef Syntax.erased Syntax.imm (Syntax.tyInt Syntax.w16)) 12, ) (List._∷_ ( 40, Relend.msptr (Referent.rtF (Referent.fInt Syntax.w16)) (Syntax.tyRef Syntax.erased Syntax.mut (Syntax.tyInt
-    Syntax.w16)) 13, ) (List._∷_ ( 41, Rows'.any-gone (Syntax.tyStruct (List._∷_ 38 (List._∷_ 91 (List._∷_ 93 List.[]))) (Syntax.tcons (Syntax.tyRef Syntax.erased Syntax.mut (Syntax.tyInt Syntax.w16))
-    (Syntax.tcons (Syntax.tyInt Syntax.w64) Syntax.tnil))), ) List.[])))))))))
+t73 = List._∷_ (
+  32,
+  Rows'.any-gone (Syntax.tyStruct (List._∷_ 38 (List._∷_ 91 (List._∷_ 93 List.[]))) (Syntax.tcons (Syntax.tyRef Syntax.erased Syntax.mut Element.behind) (Syntax.tcons (Syntax.tyInt
+      Syntax.w64) Syntax.tnil))),
+) (List._∷_ (33, Rows'.any-gone (Syntax.tyRef Syntax.erased Syntax.mut (Syntax.tyInt Syntax.w16))) (List._∷_ (
+  34,
+  Rows'.any-gone (Syntax.tyStruct (List._∷_ 38 (List._∷_
+      91 (List._∷_ 93 List.[]))) (Syntax.tcons (Syntax.tyRef Syntax.erased Syntax.mut (Syntax.tyInt Syntax.w16)) (Syntax.tcons (Syntax.tyInt Syntax.w64) Syntax.tnil))),
+) (List._∷_ (
+  35,
+  Rows'.any-gone
+      (Syntax.tyRef Syntax.erased Syntax.mut Element.behind),
+) (List._∷_ (
+  36,
+  Rows'.any-gone (Syntax.tyStruct (List._∷_ 38 (List._∷_ 91 (List._∷_ 93 List.[]))) (Syntax.tcons (Syntax.tyRef Syntax.erased
+      Syntax.mut Element.behind) (Syntax.tcons (Syntax.tyInt Syntax.w64) Syntax.tnil))),
+) (List._∷_ (
+  37,
+  Rows'.any-gone (Syntax.tyStruct (List._∷_ 112 (List._∷_ 97 (List._∷_ 115 (List._∷_ 115 (List._∷_ 58
+      (List._∷_ 58 (List._∷_ 81 (List._∷_ 117 (List._∷_ 97 (List._∷_ 110 (List._∷_ 116 (List._∷_ 105 (List._∷_ 115 (List._∷_ 101 (List._∷_ 114 (List._∷_ 115 List.[])))))))))))))))) (Syntax.tcons
+      (Syntax.tyInt Syntax.w32) (Syntax.tcons (Syntax.tyArray (Syntax.tyInt Syntax.w32) 4) (Syntax.tcons (Syntax.tyArray (Syntax.tyInt Syntax.w32) 4) (Syntax.tcons (Syntax.tyArray (Syntax.tyInt Syntax.w32)
+      4) Syntax.tnil))))),
+) (List._∷_ (38, Rows'.any-gone (Syntax.tyRef Syntax.erased Syntax.imm (Syntax.tyInt Syntax.w16))) (List._∷_ (
+  39,
+  Rows'.sslice (Referent.rtF (Referent.fInt Syntax.w16))
+      (Syntax.tyRef Syntax.erased Syntax.imm (Syntax.tyInt Syntax.w16)) 12,
+) (List._∷_ (
+  40,
+  Relend.msptr (Referent.rtF (Referent.fInt Syntax.w16)) (Syntax.tyRef Syntax.erased Syntax.mut (Syntax.tyInt
+      Syntax.w16)) 13,
+) (List._∷_ (
+  41,
+  Rows'.any-gone (Syntax.tyStruct (List._∷_ 38 (List._∷_ 91 (List._∷_ 93 List.[]))) (Syntax.tcons (Syntax.tyRef Syntax.erased Syntax.mut (Syntax.tyInt Syntax.w16))
+      (Syntax.tcons (Syntax.tyInt Syntax.w64) Syntax.tnil))),
+) List.[])))))))))
 
 abbrev pub t74 : List.List Row.Entry
-t74 = List._∷_ ( 32, Rows'.any-gone (Syntax.tyStruct (List._∷_ 38 (List._∷_ 91 (List._∷_ 93 List.[]))) (Syntax.tcons (Syntax.tyRef Syntax.erased Syntax.mut Element.behind) (Syntax.tcons (Syntax.tyInt
-    Syntax.w64) Syntax.tnil))), ) (List._∷_ ( 33, Rows'.any-gone (Syntax.tyRef Syntax.erased Syntax.mut (Syntax.tyInt Syntax.w16)), ) (List._∷_ ( 34, Rows'.any-gone (Syntax.tyStruct (List._∷_ 38 (List._∷_
-    91 (List._∷_ 93 List.[]))) (Syntax.tcons (Syntax.tyRef Syntax.erased Syntax.mut (Syntax.tyInt Syntax.w16)) (Syntax.tcons (Syntax.tyInt Syntax.w64) Syntax.tnil))), ) (List._∷_ ( 35, Rows'.any-gone
-    (Syntax.tyRef Syntax.erased Syntax.mut Element.behind), ) (List._∷_ ( 36, Rows'.any-gone (Syntax.tyStruct (List._∷_ 38 (List._∷_ 91 (List._∷_ 93 List.[]))) (Syntax.tcons (Syntax.tyRef Syntax.erased
-    Syntax.mut Element.behind) (Syntax.tcons (Syntax.tyInt Syntax.w64) Syntax.tnil))), ) (List._∷_ ( 37, Rows'.any-gone (Syntax.tyStruct (List._∷_ 112 (List._∷_ 97 (List._∷_ 115 (List._∷_ 115 (List._∷_ 58
-    (List._∷_ 58 (List._∷_ 81 (List._∷_ 117 (List._∷_ 97 (List._∷_ 110 (List._∷_ 116 (List._∷_ 105 (List._∷_ 115 (List._∷_ 101 (List._∷_ 114 (List._∷_ 115 List.[])))))))))))))))) (Syntax.tcons
-    (Syntax.tyInt Syntax.w32) (Syntax.tcons (Syntax.tyArray (Syntax.tyInt Syntax.w32) 4) (Syntax.tcons (Syntax.tyArray (Syntax.tyInt Syntax.w32) 4) (Syntax.tcons (Syntax.tyArray (Syntax.tyInt Syntax.w32)
-    4) Syntax.tnil))))), ) (List._∷_ ( 38, Rows'.any-gone (Syntax.tyRef Syntax.erased Syntax.imm (Syntax.tyInt Syntax.w16)), ) (List._∷_ ( 39, Rows'.sslice (Referent.rtF (Referent.fInt Syntax.w16))
-    (Syntax.tyRef Syntax.erased Syntax.imm (Syntax.tyInt Syntax.w16)) 12, ) (List._∷_ ( 40, Rows'.any-gone (Syntax.tyRef Syntax.erased Syntax.mut (Syntax.tyInt Syntax.w16)), ) (List._∷_ ( 41, Mut.mslice
-    (Referent.rtF (Referent.fInt Syntax.w16)) (Syntax.tyRef Syntax.erased Syntax.mut (Syntax.tyInt Syntax.w16)) 13, ) List.[])))))))))
+t74 = List._∷_ (
+  32,
+  Rows'.any-gone (Syntax.tyStruct (List._∷_ 38 (List._∷_ 91 (List._∷_ 93 List.[]))) (Syntax.tcons (Syntax.tyRef Syntax.erased Syntax.mut Element.behind) (Syntax.tcons (Syntax.tyInt
+      Syntax.w64) Syntax.tnil))),
+) (List._∷_ (33, Rows'.any-gone (Syntax.tyRef Syntax.erased Syntax.mut (Syntax.tyInt Syntax.w16))) (List._∷_ (
+  34,
+  Rows'.any-gone (Syntax.tyStruct (List._∷_ 38 (List._∷_
+      91 (List._∷_ 93 List.[]))) (Syntax.tcons (Syntax.tyRef Syntax.erased Syntax.mut (Syntax.tyInt Syntax.w16)) (Syntax.tcons (Syntax.tyInt Syntax.w64) Syntax.tnil))),
+) (List._∷_ (
+  35,
+  Rows'.any-gone
+      (Syntax.tyRef Syntax.erased Syntax.mut Element.behind),
+) (List._∷_ (
+  36,
+  Rows'.any-gone (Syntax.tyStruct (List._∷_ 38 (List._∷_ 91 (List._∷_ 93 List.[]))) (Syntax.tcons (Syntax.tyRef Syntax.erased
+      Syntax.mut Element.behind) (Syntax.tcons (Syntax.tyInt Syntax.w64) Syntax.tnil))),
+) (List._∷_ (
+  37,
+  Rows'.any-gone (Syntax.tyStruct (List._∷_ 112 (List._∷_ 97 (List._∷_ 115 (List._∷_ 115 (List._∷_ 58
+      (List._∷_ 58 (List._∷_ 81 (List._∷_ 117 (List._∷_ 97 (List._∷_ 110 (List._∷_ 116 (List._∷_ 105 (List._∷_ 115 (List._∷_ 101 (List._∷_ 114 (List._∷_ 115 List.[])))))))))))))))) (Syntax.tcons
+      (Syntax.tyInt Syntax.w32) (Syntax.tcons (Syntax.tyArray (Syntax.tyInt Syntax.w32) 4) (Syntax.tcons (Syntax.tyArray (Syntax.tyInt Syntax.w32) 4) (Syntax.tcons (Syntax.tyArray (Syntax.tyInt Syntax.w32)
+      4) Syntax.tnil))))),
+) (List._∷_ (38, Rows'.any-gone (Syntax.tyRef Syntax.erased Syntax.imm (Syntax.tyInt Syntax.w16))) (List._∷_ (
+  39,
+  Rows'.sslice (Referent.rtF (Referent.fInt Syntax.w16))
+      (Syntax.tyRef Syntax.erased Syntax.imm (Syntax.tyInt Syntax.w16)) 12,
+) (List._∷_ (40, Rows'.any-gone (Syntax.tyRef Syntax.erased Syntax.mut (Syntax.tyInt Syntax.w16))) (List._∷_ (
+  41,
+  Mut.mslice
+      (Referent.rtF (Referent.fInt Syntax.w16)) (Syntax.tyRef Syntax.erased Syntax.mut (Syntax.tyInt Syntax.w16)) 13,
+) List.[])))))))))
 
 abbrev pub t75 : List.List Row.Entry
-t75 = List._∷_ (16, Rows'.sc-here (Row.sInt Syntax.w64)) (List._∷_ ( 17, Rows'.sc-here (Row.sInt Syntax.w64), ) (List._∷_ (18, Rows'.sc-here (Row.sInt Syntax.w32)) (List._∷_ ( 19, Rows'.any-gone
-    (Syntax.tyStruct (List._∷_ 98 (List._∷_ 108 (List._∷_ 111 (List._∷_ 99 (List._∷_ 107 (List._∷_ 58 (List._∷_ 58 (List._∷_ 76 (List._∷_ 105 (List._∷_ 110 (List._∷_ 101 (List._∷_ 100 List.[]))))))))))))
-    (Syntax.tcons Syntax.tyBool (Syntax.tcons Syntax.tyBool (Syntax.tcons (Syntax.tyStruct (List._∷_ 98 (List._∷_ 105 (List._∷_ 116 (List._∷_ 115 (List._∷_ 58 (List._∷_ 58 (List._∷_ 66 (List._∷_ 105
-    (List._∷_ 116 (List._∷_ 80 (List._∷_ 111 (List._∷_ 115 (List._∷_ 105 (List._∷_ 116 (List._∷_ 105 (List._∷_ 111 (List._∷_ 110 List.[]))))))))))))))))) (Syntax.tcons (Syntax.tyInt Syntax.w64)
-    Syntax.tnil)) Syntax.tnil)))), ) (List._∷_ (20, Rows'.sc-here Row.sBool) (List._∷_ (21, Rows'.any-gone Syntax.tyUnit) (List._∷_ ( 22, Rows'.any-gone (Syntax.tyRef Syntax.erased Syntax.mut
-    (Syntax.tyInt Syntax.w16)), ) (List._∷_ ( 23, Rows'.any-gone (Syntax.tyStruct (List._∷_ 38 (List._∷_ 91 (List._∷_ 93 List.[]))) (Syntax.tcons (Syntax.tyRef Syntax.erased Syntax.mut (Syntax.tyInt
-    Syntax.w16)) (Syntax.tcons (Syntax.tyInt Syntax.w64) Syntax.tnil))), ) (List._∷_ ( 24, Rows'.any-gone (Syntax.tyRef Syntax.erased Syntax.mut Element.behind), ) (List._∷_ ( 25, Rows'.any-gone
-    (Syntax.tyStruct (List._∷_ 38 (List._∷_ 91 (List._∷_ 93 List.[]))) (Syntax.tcons (Syntax.tyRef Syntax.erased Syntax.mut Element.behind) (Syntax.tcons (Syntax.tyInt Syntax.w64) Syntax.tnil))), )
-    (List._∷_ (26, Rows'.any-gone (Syntax.tyInt Syntax.w32)) (List._∷_ ( 27, Rows'.any-gone Syntax.tyBool, ) (List._∷_ (28, Rows'.sc-here Row.sUnit) (List._∷_ ( 29, Rows'.any-gone (Syntax.tyRef
-    Syntax.erased Syntax.mut (Syntax.tyInt Syntax.w16)), ) (List._∷_ ( 30, Rows'.any-gone (Syntax.tyStruct (List._∷_ 38 (List._∷_ 91 (List._∷_ 93 List.[]))) (Syntax.tcons (Syntax.tyRef Syntax.erased
-    Syntax.mut (Syntax.tyInt Syntax.w16)) (Syntax.tcons (Syntax.tyInt Syntax.w64) Syntax.tnil))), ) (List._∷_ ( 31, Rows'.any-gone (Syntax.tyRef Syntax.erased Syntax.mut Element.behind), )
+t75 = List._∷_ (16, Rows'.sc-here (Row.sInt Syntax.w64)) (List._∷_ (17, Rows'.sc-here (Row.sInt Syntax.w64)) (List._∷_ (18, Rows'.sc-here (Row.sInt Syntax.w32)) (List._∷_ (
+  19,
+  Rows'.any-gone
+      (Syntax.tyStruct (List._∷_ 98 (List._∷_ 108 (List._∷_ 111 (List._∷_ 99 (List._∷_ 107 (List._∷_ 58 (List._∷_ 58 (List._∷_ 76 (List._∷_ 105 (List._∷_ 110 (List._∷_ 101 (List._∷_ 100 List.[]))))))))))))
+      (Syntax.tcons Syntax.tyBool (Syntax.tcons Syntax.tyBool (Syntax.tcons (Syntax.tyStruct (List._∷_ 98 (List._∷_ 105 (List._∷_ 116 (List._∷_ 115 (List._∷_ 58 (List._∷_ 58 (List._∷_ 66 (List._∷_ 105
+      (List._∷_ 116 (List._∷_ 80 (List._∷_ 111 (List._∷_ 115 (List._∷_ 105 (List._∷_ 116 (List._∷_ 105 (List._∷_ 111 (List._∷_ 110 List.[]))))))))))))))))) (Syntax.tcons (Syntax.tyInt Syntax.w64)
+      Syntax.tnil)) Syntax.tnil)))),
+) (List._∷_ (20, Rows'.sc-here Row.sBool) (List._∷_ (21, Rows'.any-gone Syntax.tyUnit) (List._∷_ (
+  22,
+  Rows'.any-gone (Syntax.tyRef Syntax.erased Syntax.mut
+      (Syntax.tyInt Syntax.w16)),
+) (List._∷_ (
+  23,
+  Rows'.any-gone (Syntax.tyStruct (List._∷_ 38 (List._∷_ 91 (List._∷_ 93 List.[]))) (Syntax.tcons (Syntax.tyRef Syntax.erased Syntax.mut (Syntax.tyInt
+      Syntax.w16)) (Syntax.tcons (Syntax.tyInt Syntax.w64) Syntax.tnil))),
+) (List._∷_ (24, Rows'.any-gone (Syntax.tyRef Syntax.erased Syntax.mut Element.behind)) (List._∷_ (
+  25,
+  Rows'.any-gone
+      (Syntax.tyStruct (List._∷_ 38 (List._∷_ 91 (List._∷_ 93 List.[]))) (Syntax.tcons (Syntax.tyRef Syntax.erased Syntax.mut Element.behind) (Syntax.tcons (Syntax.tyInt Syntax.w64) Syntax.tnil))),
+)
+    (List._∷_ (26, Rows'.any-gone (Syntax.tyInt Syntax.w32)) (List._∷_ (27, Rows'.any-gone Syntax.tyBool) (List._∷_ (28, Rows'.sc-here Row.sUnit) (List._∷_ (
+      29,
+      Rows'.any-gone (Syntax.tyRef
+          Syntax.erased Syntax.mut (Syntax.tyInt Syntax.w16)),
+    ) (List._∷_ (
+      30,
+      Rows'.any-gone (Syntax.tyStruct (List._∷_ 38 (List._∷_ 91 (List._∷_ 93 List.[]))) (Syntax.tcons (Syntax.tyRef Syntax.erased
+          Syntax.mut (Syntax.tyInt Syntax.w16)) (Syntax.tcons (Syntax.tyInt Syntax.w64) Syntax.tnil))),
+    ) (List._∷_ (31, Rows'.any-gone (Syntax.tyRef Syntax.erased Syntax.mut Element.behind))
     List.[])))))))))))))))
 
 abbrev pub t76 : List.List Row.Entry
-t76 = List._∷_ ( 32, Rows'.any-gone (Syntax.tyStruct (List._∷_ 38 (List._∷_ 91 (List._∷_ 93 List.[]))) (Syntax.tcons (Syntax.tyRef Syntax.erased Syntax.mut Element.behind) (Syntax.tcons (Syntax.tyInt
-    Syntax.w64) Syntax.tnil))), ) (List._∷_ ( 33, Rows'.any-gone (Syntax.tyRef Syntax.erased Syntax.mut (Syntax.tyInt Syntax.w16)), ) (List._∷_ ( 34, Rows'.any-gone (Syntax.tyStruct (List._∷_ 38 (List._∷_
-    91 (List._∷_ 93 List.[]))) (Syntax.tcons (Syntax.tyRef Syntax.erased Syntax.mut (Syntax.tyInt Syntax.w16)) (Syntax.tcons (Syntax.tyInt Syntax.w64) Syntax.tnil))), ) (List._∷_ ( 35, Rows'.any-gone
-    (Syntax.tyRef Syntax.erased Syntax.mut Element.behind), ) (List._∷_ ( 36, Rows'.any-gone (Syntax.tyStruct (List._∷_ 38 (List._∷_ 91 (List._∷_ 93 List.[]))) (Syntax.tcons (Syntax.tyRef Syntax.erased
-    Syntax.mut Element.behind) (Syntax.tcons (Syntax.tyInt Syntax.w64) Syntax.tnil))), ) (List._∷_ ( 37, Rows'.any-gone (Syntax.tyStruct (List._∷_ 112 (List._∷_ 97 (List._∷_ 115 (List._∷_ 115 (List._∷_ 58
-    (List._∷_ 58 (List._∷_ 81 (List._∷_ 117 (List._∷_ 97 (List._∷_ 110 (List._∷_ 116 (List._∷_ 105 (List._∷_ 115 (List._∷_ 101 (List._∷_ 114 (List._∷_ 115 List.[])))))))))))))))) (Syntax.tcons
-    (Syntax.tyInt Syntax.w32) (Syntax.tcons (Syntax.tyArray (Syntax.tyInt Syntax.w32) 4) (Syntax.tcons (Syntax.tyArray (Syntax.tyInt Syntax.w32) 4) (Syntax.tcons (Syntax.tyArray (Syntax.tyInt Syntax.w32)
-    4) Syntax.tnil))))), ) (List._∷_ ( 38, Rows'.any-gone (Syntax.tyRef Syntax.erased Syntax.imm (Syntax.tyInt Syntax.w16)), ) (List._∷_ ( 39, Rows'.sslice (Referent.rtF (Referent.fInt Syntax.w16))
-    (Syntax.tyRef Syntax.erased Syntax.imm (Syntax.tyInt Syntax.w16)) 12, ) (List._∷_ ( 40, Rows'.any-gone (Syntax.tyRef Syntax.erased Syntax.mut (Syntax.tyInt Syntax.w16)), ) (List._∷_ ( 41, Mut.msleft
-    (Referent.rtF (Referent.fInt Syntax.w16)) (Syntax.tyRef Syntax.erased Syntax.mut (Syntax.tyInt Syntax.w16)), ) List.[])))))))))
+t76 = List._∷_ (
+  32,
+  Rows'.any-gone (Syntax.tyStruct (List._∷_ 38 (List._∷_ 91 (List._∷_ 93 List.[]))) (Syntax.tcons (Syntax.tyRef Syntax.erased Syntax.mut Element.behind) (Syntax.tcons (Syntax.tyInt
+      Syntax.w64) Syntax.tnil))),
+) (List._∷_ (33, Rows'.any-gone (Syntax.tyRef Syntax.erased Syntax.mut (Syntax.tyInt Syntax.w16))) (List._∷_ (
+  34,
+  Rows'.any-gone (Syntax.tyStruct (List._∷_ 38 (List._∷_
+      91 (List._∷_ 93 List.[]))) (Syntax.tcons (Syntax.tyRef Syntax.erased Syntax.mut (Syntax.tyInt Syntax.w16)) (Syntax.tcons (Syntax.tyInt Syntax.w64) Syntax.tnil))),
+) (List._∷_ (
+  35,
+  Rows'.any-gone
+      (Syntax.tyRef Syntax.erased Syntax.mut Element.behind),
+) (List._∷_ (
+  36,
+  Rows'.any-gone (Syntax.tyStruct (List._∷_ 38 (List._∷_ 91 (List._∷_ 93 List.[]))) (Syntax.tcons (Syntax.tyRef Syntax.erased
+      Syntax.mut Element.behind) (Syntax.tcons (Syntax.tyInt Syntax.w64) Syntax.tnil))),
+) (List._∷_ (
+  37,
+  Rows'.any-gone (Syntax.tyStruct (List._∷_ 112 (List._∷_ 97 (List._∷_ 115 (List._∷_ 115 (List._∷_ 58
+      (List._∷_ 58 (List._∷_ 81 (List._∷_ 117 (List._∷_ 97 (List._∷_ 110 (List._∷_ 116 (List._∷_ 105 (List._∷_ 115 (List._∷_ 101 (List._∷_ 114 (List._∷_ 115 List.[])))))))))))))))) (Syntax.tcons
+      (Syntax.tyInt Syntax.w32) (Syntax.tcons (Syntax.tyArray (Syntax.tyInt Syntax.w32) 4) (Syntax.tcons (Syntax.tyArray (Syntax.tyInt Syntax.w32) 4) (Syntax.tcons (Syntax.tyArray (Syntax.tyInt Syntax.w32)
+      4) Syntax.tnil))))),
+) (List._∷_ (38, Rows'.any-gone (Syntax.tyRef Syntax.erased Syntax.imm (Syntax.tyInt Syntax.w16))) (List._∷_ (
+  39,
+  Rows'.sslice (Referent.rtF (Referent.fInt Syntax.w16))
+      (Syntax.tyRef Syntax.erased Syntax.imm (Syntax.tyInt Syntax.w16)) 12,
+) (List._∷_ (40, Rows'.any-gone (Syntax.tyRef Syntax.erased Syntax.mut (Syntax.tyInt Syntax.w16))) (List._∷_ (
+  41,
+  Mut.msleft
+      (Referent.rtF (Referent.fInt Syntax.w16)) (Syntax.tyRef Syntax.erased Syntax.mut (Syntax.tyInt Syntax.w16)),
+) List.[])))))))))
 
 abbrev pub t77 : List.List Row.Entry
-t77 = List._∷_ ( 32, Rows'.any-gone (Syntax.tyStruct (List._∷_ 38 (List._∷_ 91 (List._∷_ 93 List.[]))) (Syntax.tcons (Syntax.tyRef Syntax.erased Syntax.mut Element.behind) (Syntax.tcons (Syntax.tyInt
-    Syntax.w64) Syntax.tnil))), ) (List._∷_ ( 33, Rows'.any-gone (Syntax.tyRef Syntax.erased Syntax.mut (Syntax.tyInt Syntax.w16)), ) (List._∷_ ( 34, Rows'.any-gone (Syntax.tyStruct (List._∷_ 38 (List._∷_
-    91 (List._∷_ 93 List.[]))) (Syntax.tcons (Syntax.tyRef Syntax.erased Syntax.mut (Syntax.tyInt Syntax.w16)) (Syntax.tcons (Syntax.tyInt Syntax.w64) Syntax.tnil))), ) (List._∷_ ( 35, Rows'.any-gone
-    (Syntax.tyRef Syntax.erased Syntax.mut Element.behind), ) (List._∷_ ( 36, Rows'.any-gone (Syntax.tyStruct (List._∷_ 38 (List._∷_ 91 (List._∷_ 93 List.[]))) (Syntax.tcons (Syntax.tyRef Syntax.erased
-    Syntax.mut Element.behind) (Syntax.tcons (Syntax.tyInt Syntax.w64) Syntax.tnil))), ) (List._∷_ ( 37, Rows'.any-gone (Syntax.tyStruct (List._∷_ 112 (List._∷_ 97 (List._∷_ 115 (List._∷_ 115 (List._∷_ 58
-    (List._∷_ 58 (List._∷_ 81 (List._∷_ 117 (List._∷_ 97 (List._∷_ 110 (List._∷_ 116 (List._∷_ 105 (List._∷_ 115 (List._∷_ 101 (List._∷_ 114 (List._∷_ 115 List.[])))))))))))))))) (Syntax.tcons
-    (Syntax.tyInt Syntax.w32) (Syntax.tcons (Syntax.tyArray (Syntax.tyInt Syntax.w32) 4) (Syntax.tcons (Syntax.tyArray (Syntax.tyInt Syntax.w32) 4) (Syntax.tcons (Syntax.tyArray (Syntax.tyInt Syntax.w32)
-    4) Syntax.tnil))))), ) (List._∷_ ( 38, Rows'.any-gone (Syntax.tyRef Syntax.erased Syntax.imm (Syntax.tyInt Syntax.w16)), ) (List._∷_ ( 39, Rows'.any-gone (Syntax.tyStruct (List._∷_ 38 (List._∷_ 91
-    (List._∷_ 93 List.[]))) (Syntax.tcons (Syntax.tyRef Syntax.erased Syntax.imm (Syntax.tyInt Syntax.w16)) (Syntax.tcons (Syntax.tyInt Syntax.w64) Syntax.tnil))), ) (List._∷_ ( 40, Rows'.any-gone
-    (Syntax.tyRef Syntax.erased Syntax.mut (Syntax.tyInt Syntax.w16)), ) (List._∷_ ( 41, Mut.msleft (Referent.rtF (Referent.fInt Syntax.w16)) (Syntax.tyRef Syntax.erased Syntax.mut (Syntax.tyInt
-    Syntax.w16)), ) List.[])))))))))
+t77 = List._∷_ (
+  32,
+  Rows'.any-gone (Syntax.tyStruct (List._∷_ 38 (List._∷_ 91 (List._∷_ 93 List.[]))) (Syntax.tcons (Syntax.tyRef Syntax.erased Syntax.mut Element.behind) (Syntax.tcons (Syntax.tyInt
+      Syntax.w64) Syntax.tnil))),
+) (List._∷_ (33, Rows'.any-gone (Syntax.tyRef Syntax.erased Syntax.mut (Syntax.tyInt Syntax.w16))) (List._∷_ (
+  34,
+  Rows'.any-gone (Syntax.tyStruct (List._∷_ 38 (List._∷_
+      91 (List._∷_ 93 List.[]))) (Syntax.tcons (Syntax.tyRef Syntax.erased Syntax.mut (Syntax.tyInt Syntax.w16)) (Syntax.tcons (Syntax.tyInt Syntax.w64) Syntax.tnil))),
+) (List._∷_ (
+  35,
+  Rows'.any-gone
+      (Syntax.tyRef Syntax.erased Syntax.mut Element.behind),
+) (List._∷_ (
+  36,
+  Rows'.any-gone (Syntax.tyStruct (List._∷_ 38 (List._∷_ 91 (List._∷_ 93 List.[]))) (Syntax.tcons (Syntax.tyRef Syntax.erased
+      Syntax.mut Element.behind) (Syntax.tcons (Syntax.tyInt Syntax.w64) Syntax.tnil))),
+) (List._∷_ (
+  37,
+  Rows'.any-gone (Syntax.tyStruct (List._∷_ 112 (List._∷_ 97 (List._∷_ 115 (List._∷_ 115 (List._∷_ 58
+      (List._∷_ 58 (List._∷_ 81 (List._∷_ 117 (List._∷_ 97 (List._∷_ 110 (List._∷_ 116 (List._∷_ 105 (List._∷_ 115 (List._∷_ 101 (List._∷_ 114 (List._∷_ 115 List.[])))))))))))))))) (Syntax.tcons
+      (Syntax.tyInt Syntax.w32) (Syntax.tcons (Syntax.tyArray (Syntax.tyInt Syntax.w32) 4) (Syntax.tcons (Syntax.tyArray (Syntax.tyInt Syntax.w32) 4) (Syntax.tcons (Syntax.tyArray (Syntax.tyInt Syntax.w32)
+      4) Syntax.tnil))))),
+) (List._∷_ (38, Rows'.any-gone (Syntax.tyRef Syntax.erased Syntax.imm (Syntax.tyInt Syntax.w16))) (List._∷_ (
+  39,
+  Rows'.any-gone (Syntax.tyStruct (List._∷_ 38 (List._∷_ 91
+      (List._∷_ 93 List.[]))) (Syntax.tcons (Syntax.tyRef Syntax.erased Syntax.imm (Syntax.tyInt Syntax.w16)) (Syntax.tcons (Syntax.tyInt Syntax.w64) Syntax.tnil))),
+) (List._∷_ (
+  40,
+  Rows'.any-gone
+      (Syntax.tyRef Syntax.erased Syntax.mut (Syntax.tyInt Syntax.w16)),
+) (List._∷_ (
+  41,
+  Mut.msleft (Referent.rtF (Referent.fInt Syntax.w16)) (Syntax.tyRef Syntax.erased Syntax.mut (Syntax.tyInt
+      Syntax.w16)),
+) List.[])))))))))
 
 abbrev pub t78 : List.List Row.Entry
-t78 = List._∷_ ( 0, Rows'.any-gone (Syntax.tyStruct (List._∷_ 98 (List._∷_ 108 (List._∷_ 111 (List._∷_ 99 (List._∷_ 107 (List._∷_ 58 (List._∷_ 58 (List._∷_ 87 (List._∷_ 97 (List._∷_ 108 (List._∷_ 107
-    (List._∷_ 101 (List._∷_ 100 List.[]))))))))))))) (Syntax.tcons Syntax.tyBool (Syntax.tcons (Syntax.tyInt Syntax.w64) (Syntax.tcons (Syntax.tyStruct (List._∷_ 98 (List._∷_ 105 (List._∷_ 116 (List._∷_
-    115 (List._∷_ 58 (List._∷_ 58 (List._∷_ 66 (List._∷_ 105 (List._∷_ 116 (List._∷_ 80 (List._∷_ 111 (List._∷_ 115 (List._∷_ 105 (List._∷_ 116 (List._∷_ 105 (List._∷_ 111 (List._∷_ 110
-    List.[]))))))))))))))))) (Syntax.tcons (Syntax.tyInt Syntax.w64) Syntax.tnil)) (Syntax.tcons (Syntax.tyInt Syntax.w64) Syntax.tnil))))), ) (List._∷_ ( 1, Rows'.sslice (Referent.rtF (Referent.fInt
-    Syntax.w8)) (Syntax.tyRef (Syntax.named 0) Syntax.imm (Syntax.tyInt Syntax.w8)) 0, ) (List._∷_ ( 2, Rows'.sslice (Referent.rtF (Referent.fInt Syntax.w8)) (Syntax.tyRef (Syntax.named 1) Syntax.imm
-    (Syntax.tyInt Syntax.w8)) 1, ) (List._∷_ ( 3, Mut.mslice (Referent.rtF (Referent.fInt Syntax.w16)) (Syntax.tyRef (Syntax.named 2) Syntax.mut (Syntax.tyInt Syntax.w16)) 2, ) (List._∷_ ( 4, Mut.mslice
-    (Element.type) (Syntax.tyRef (Syntax.named 3) Syntax.mut Element.behind) 3, ) (List._∷_ ( 5, Relend.mslice-owed (Referent.rtF (Referent.fInt Syntax.w16)) (Syntax.tyRef (Syntax.named 4) Syntax.mut
-    (Syntax.tyInt Syntax.w16)) 4 13 Row.off, ) (List._∷_ (6, Rows'.whole (Declared.row Form.the-type)) (List._∷_ ( 7, Rows'.sref (Array'.Array (Referent.rtF (Referent.fInt Syntax.w16)) 768) (Syntax.tyRef
-    (Syntax.named 5) Syntax.imm (Syntax.tyArray (Syntax.tyInt Syntax.w16) 768)) 5, ) (List._∷_ (8, Rows.arrF (Referent.rtF (Referent.fInt Syntax.w8)) 36 0) (List._∷_ ( 9, Rows'.whole (Declared.row
-    Part.the-type), ) (List._∷_ (10, Rows'.sc-here (Row.sInt Syntax.w64)) (List._∷_ ( 11, Rows'.sc-here (Row.sInt Syntax.w32), ) (List._∷_ (12, Rows'.sc-here Row.sBool) (List._∷_ (13, Rows'.sc-here
-    (Row.sInt Syntax.w64)) (List._∷_ ( 14, Rows'.whole (Declared.row BitPosition.the-type), ) (List._∷_ (15, Rows'.sc-here Row.sBool) List.[])))))))))))))))
+t78 = List._∷_ (
+  0,
+  Rows'.any-gone (Syntax.tyStruct (List._∷_ 98 (List._∷_ 108 (List._∷_ 111 (List._∷_ 99 (List._∷_ 107 (List._∷_ 58 (List._∷_ 58 (List._∷_ 87 (List._∷_ 97 (List._∷_ 108 (List._∷_ 107
+      (List._∷_ 101 (List._∷_ 100 List.[]))))))))))))) (Syntax.tcons Syntax.tyBool (Syntax.tcons (Syntax.tyInt Syntax.w64) (Syntax.tcons (Syntax.tyStruct (List._∷_ 98 (List._∷_ 105 (List._∷_ 116 (List._∷_
+      115 (List._∷_ 58 (List._∷_ 58 (List._∷_ 66 (List._∷_ 105 (List._∷_ 116 (List._∷_ 80 (List._∷_ 111 (List._∷_ 115 (List._∷_ 105 (List._∷_ 116 (List._∷_ 105 (List._∷_ 111 (List._∷_ 110
+      List.[]))))))))))))))))) (Syntax.tcons (Syntax.tyInt Syntax.w64) Syntax.tnil)) (Syntax.tcons (Syntax.tyInt Syntax.w64) Syntax.tnil))))),
+) (List._∷_ (
+  1,
+  Rows'.sslice (Referent.rtF (Referent.fInt
+      Syntax.w8)) (Syntax.tyRef (Syntax.named 0) Syntax.imm (Syntax.tyInt Syntax.w8)) 0,
+) (List._∷_ (
+  2,
+  Rows'.sslice (Referent.rtF (Referent.fInt Syntax.w8)) (Syntax.tyRef (Syntax.named 1) Syntax.imm
+      (Syntax.tyInt Syntax.w8)) 1,
+) (List._∷_ (3, Mut.mslice (Referent.rtF (Referent.fInt Syntax.w16)) (Syntax.tyRef (Syntax.named 2) Syntax.mut (Syntax.tyInt Syntax.w16)) 2) (List._∷_ (
+  4,
+  Mut.mslice
+      (Element.type) (Syntax.tyRef (Syntax.named 3) Syntax.mut Element.behind) 3,
+) (List._∷_ (
+  5,
+  Relend.mslice-owed (Referent.rtF (Referent.fInt Syntax.w16)) (Syntax.tyRef (Syntax.named 4) Syntax.mut
+      (Syntax.tyInt Syntax.w16)) 4 13 Row.off,
+) (List._∷_ (6, Rows'.whole (Declared.row Form.the-type)) (List._∷_ (
+  7,
+  Rows'.sref (Array'.Array (Referent.rtF (Referent.fInt Syntax.w16)) 768) (Syntax.tyRef
+      (Syntax.named 5) Syntax.imm (Syntax.tyArray (Syntax.tyInt Syntax.w16) 768)) 5,
+) (List._∷_ (8, Rows.arrF (Referent.rtF (Referent.fInt Syntax.w8)) 36 0) (List._∷_ (
+  9,
+  Rows'.whole (Declared.row
+      Part.the-type),
+) (List._∷_ (10, Rows'.sc-here (Row.sInt Syntax.w64)) (List._∷_ (11, Rows'.sc-here (Row.sInt Syntax.w32)) (List._∷_ (12, Rows'.sc-here Row.sBool) (List._∷_ (
+  13,
+  Rows'.sc-here
+      (Row.sInt Syntax.w64),
+) (List._∷_ (14, Rows'.whole (Declared.row BitPosition.the-type)) (List._∷_ (15, Rows'.sc-here Row.sBool) List.[])))))))))))))))
 
 abbrev pub t79 : List.List Row.Entry
-t79 = List._∷_ (16, Rows'.sc-here (Row.sInt Syntax.w64)) (List._∷_ ( 17, Rows'.sc-here (Row.sInt Syntax.w64), ) (List._∷_ (18, Rows'.any-gone (Syntax.tyInt Syntax.w32)) (List._∷_ ( 19, Rows'.any-gone
-    (Syntax.tyStruct (List._∷_ 98 (List._∷_ 108 (List._∷_ 111 (List._∷_ 99 (List._∷_ 107 (List._∷_ 58 (List._∷_ 58 (List._∷_ 76 (List._∷_ 105 (List._∷_ 110 (List._∷_ 101 (List._∷_ 100 List.[]))))))))))))
-    (Syntax.tcons Syntax.tyBool (Syntax.tcons Syntax.tyBool (Syntax.tcons (Syntax.tyStruct (List._∷_ 98 (List._∷_ 105 (List._∷_ 116 (List._∷_ 115 (List._∷_ 58 (List._∷_ 58 (List._∷_ 66 (List._∷_ 105
-    (List._∷_ 116 (List._∷_ 80 (List._∷_ 111 (List._∷_ 115 (List._∷_ 105 (List._∷_ 116 (List._∷_ 105 (List._∷_ 111 (List._∷_ 110 List.[]))))))))))))))))) (Syntax.tcons (Syntax.tyInt Syntax.w64)
-    Syntax.tnil)) Syntax.tnil)))), ) (List._∷_ (20, Rows'.sc-here Row.sBool) (List._∷_ (21, Rows'.any-gone Syntax.tyUnit) (List._∷_ ( 22, Rows'.any-gone (Syntax.tyRef Syntax.erased Syntax.mut
-    (Syntax.tyInt Syntax.w16)), ) (List._∷_ ( 23, Rows'.any-gone (Syntax.tyStruct (List._∷_ 38 (List._∷_ 91 (List._∷_ 93 List.[]))) (Syntax.tcons (Syntax.tyRef Syntax.erased Syntax.mut (Syntax.tyInt
-    Syntax.w16)) (Syntax.tcons (Syntax.tyInt Syntax.w64) Syntax.tnil))), ) (List._∷_ ( 24, Rows'.any-gone (Syntax.tyRef Syntax.erased Syntax.mut Element.behind), ) (List._∷_ ( 25, Rows'.any-gone
-    (Syntax.tyStruct (List._∷_ 38 (List._∷_ 91 (List._∷_ 93 List.[]))) (Syntax.tcons (Syntax.tyRef Syntax.erased Syntax.mut Element.behind) (Syntax.tcons (Syntax.tyInt Syntax.w64) Syntax.tnil))), )
-    (List._∷_ (26, Rows'.any-gone (Syntax.tyInt Syntax.w32)) (List._∷_ ( 27, Rows'.any-gone Syntax.tyBool, ) (List._∷_ (28, Rows'.any-gone Syntax.tyUnit) (List._∷_ ( 29, Rows'.any-gone (Syntax.tyRef
-    Syntax.erased Syntax.mut (Syntax.tyInt Syntax.w16)), ) (List._∷_ ( 30, Rows'.any-gone (Syntax.tyStruct (List._∷_ 38 (List._∷_ 91 (List._∷_ 93 List.[]))) (Syntax.tcons (Syntax.tyRef Syntax.erased
-    Syntax.mut (Syntax.tyInt Syntax.w16)) (Syntax.tcons (Syntax.tyInt Syntax.w64) Syntax.tnil))), ) (List._∷_ ( 31, Rows'.any-gone (Syntax.tyRef Syntax.erased Syntax.mut Element.behind), )
+t79 = List._∷_ (16, Rows'.sc-here (Row.sInt Syntax.w64)) (List._∷_ (17, Rows'.sc-here (Row.sInt Syntax.w64)) (List._∷_ (18, Rows'.any-gone (Syntax.tyInt Syntax.w32)) (List._∷_ (
+  19,
+  Rows'.any-gone
+      (Syntax.tyStruct (List._∷_ 98 (List._∷_ 108 (List._∷_ 111 (List._∷_ 99 (List._∷_ 107 (List._∷_ 58 (List._∷_ 58 (List._∷_ 76 (List._∷_ 105 (List._∷_ 110 (List._∷_ 101 (List._∷_ 100 List.[]))))))))))))
+      (Syntax.tcons Syntax.tyBool (Syntax.tcons Syntax.tyBool (Syntax.tcons (Syntax.tyStruct (List._∷_ 98 (List._∷_ 105 (List._∷_ 116 (List._∷_ 115 (List._∷_ 58 (List._∷_ 58 (List._∷_ 66 (List._∷_ 105
+      (List._∷_ 116 (List._∷_ 80 (List._∷_ 111 (List._∷_ 115 (List._∷_ 105 (List._∷_ 116 (List._∷_ 105 (List._∷_ 111 (List._∷_ 110 List.[]))))))))))))))))) (Syntax.tcons (Syntax.tyInt Syntax.w64)
+      Syntax.tnil)) Syntax.tnil)))),
+) (List._∷_ (20, Rows'.sc-here Row.sBool) (List._∷_ (21, Rows'.any-gone Syntax.tyUnit) (List._∷_ (
+  22,
+  Rows'.any-gone (Syntax.tyRef Syntax.erased Syntax.mut
+      (Syntax.tyInt Syntax.w16)),
+) (List._∷_ (
+  23,
+  Rows'.any-gone (Syntax.tyStruct (List._∷_ 38 (List._∷_ 91 (List._∷_ 93 List.[]))) (Syntax.tcons (Syntax.tyRef Syntax.erased Syntax.mut (Syntax.tyInt
+      Syntax.w16)) (Syntax.tcons (Syntax.tyInt Syntax.w64) Syntax.tnil))),
+) (List._∷_ (24, Rows'.any-gone (Syntax.tyRef Syntax.erased Syntax.mut Element.behind)) (List._∷_ (
+  25,
+  Rows'.any-gone
+      (Syntax.tyStruct (List._∷_ 38 (List._∷_ 91 (List._∷_ 93 List.[]))) (Syntax.tcons (Syntax.tyRef Syntax.erased Syntax.mut Element.behind) (Syntax.tcons (Syntax.tyInt Syntax.w64) Syntax.tnil))),
+)
+    (List._∷_ (26, Rows'.any-gone (Syntax.tyInt Syntax.w32)) (List._∷_ (27, Rows'.any-gone Syntax.tyBool) (List._∷_ (28, Rows'.any-gone Syntax.tyUnit) (List._∷_ (
+      29,
+      Rows'.any-gone (Syntax.tyRef
+          Syntax.erased Syntax.mut (Syntax.tyInt Syntax.w16)),
+    ) (List._∷_ (
+      30,
+      Rows'.any-gone (Syntax.tyStruct (List._∷_ 38 (List._∷_ 91 (List._∷_ 93 List.[]))) (Syntax.tcons (Syntax.tyRef Syntax.erased
+          Syntax.mut (Syntax.tyInt Syntax.w16)) (Syntax.tcons (Syntax.tyInt Syntax.w64) Syntax.tnil))),
+    ) (List._∷_ (31, Rows'.any-gone (Syntax.tyRef Syntax.erased Syntax.mut Element.behind))
     List.[])))))))))))))))
 
 abbrev pub t80 : List.List Row.Entry
-t80 = List._∷_ (0, Rows'.whole (Declared.row (Apart.apartT Walked.the-type))) (List._∷_ ( 1, Rows'.sslice (Referent.rtF (Referent.fInt Syntax.w8)) (Syntax.tyRef (Syntax.named 0) Syntax.imm
-    (Syntax.tyInt Syntax.w8)) 0, ) (List._∷_ ( 2, Rows'.sslice (Referent.rtF (Referent.fInt Syntax.w8)) (Syntax.tyRef (Syntax.named 1) Syntax.imm (Syntax.tyInt Syntax.w8)) 1, ) (List._∷_ ( 3, Mut.mslice
-    (Referent.rtF (Referent.fInt Syntax.w16)) (Syntax.tyRef (Syntax.named 2) Syntax.mut (Syntax.tyInt Syntax.w16)) 2, ) (List._∷_ ( 4, Mut.mslice (Element.type) (Syntax.tyRef (Syntax.named 3) Syntax.mut
-    Element.behind) 3, ) (List._∷_ ( 5, Mut.mslice (Referent.rtF (Referent.fInt Syntax.w16)) (Syntax.tyRef (Syntax.named 4) Syntax.mut (Syntax.tyInt Syntax.w16)) 4, ) (List._∷_ ( 6, Rows'.any-gone
-    (Syntax.tyStruct (List._∷_ 98 (List._∷_ 108 (List._∷_ 111 (List._∷_ 99 (List._∷_ 107 (List._∷_ 58 (List._∷_ 58 (List._∷_ 70 (List._∷_ 111 (List._∷_ 114 (List._∷_ 109 List.[]))))))))))) (Syntax.tcons
-    (Syntax.tyInt Syntax.w32) (Syntax.tcons Syntax.tyBool Syntax.tnil))), ) (List._∷_ ( 7, Rows'.sref (Array'.Array (Referent.rtF (Referent.fInt Syntax.w16)) 768) (Syntax.tyRef (Syntax.named 5) Syntax.imm
-    (Syntax.tyArray (Syntax.tyInt Syntax.w16) 768)) 5, ) (List._∷_ (8, Rows'.any-gone (Syntax.tyArray (Syntax.tyInt Syntax.w8) 36)) (List._∷_ ( 9, Rows'.any-gone (Syntax.tyStruct (List._∷_ 109 (List._∷_
-    97 (List._∷_ 112 (List._∷_ 58 (List._∷_ 58 (List._∷_ 80 (List._∷_ 97 (List._∷_ 114 (List._∷_ 116 List.[]))))))))) (Syntax.tcons (Syntax.tyInt Syntax.w64) (Syntax.tcons (Syntax.tyInt Syntax.w64)
-    (Syntax.tcons (Syntax.tyInt Syntax.w64) (Syntax.tcons (Syntax.tyInt Syntax.w64) (Syntax.tcons (Syntax.tyInt Syntax.w64) (Syntax.tcons (Syntax.tyInt Syntax.w64) Syntax.tnil))))))), ) (List._∷_ (10,
-    Rows'.sc-here (Row.sInt Syntax.w64)) (List._∷_ ( 11, Rows'.any-gone (Syntax.tyInt Syntax.w32), ) (List._∷_ (12, Rows'.sc-here Row.sBool) (List._∷_ (13, Rows'.sc-here (Row.sInt Syntax.w64)) (List._∷_ (
-    14, Rows'.whole (Declared.row BitPosition.the-type), ) (List._∷_ (15, Rows'.sc-here Row.sBool) List.[])))))))))))))))
+t80 = List._∷_ (0, Rows'.whole (Declared.row (Apart.apartT Walked.the-type))) (List._∷_ (
+  1,
+  Rows'.sslice (Referent.rtF (Referent.fInt Syntax.w8)) (Syntax.tyRef (Syntax.named 0) Syntax.imm
+      (Syntax.tyInt Syntax.w8)) 0,
+) (List._∷_ (2, Rows'.sslice (Referent.rtF (Referent.fInt Syntax.w8)) (Syntax.tyRef (Syntax.named 1) Syntax.imm (Syntax.tyInt Syntax.w8)) 1) (List._∷_ (
+  3,
+  Mut.mslice
+      (Referent.rtF (Referent.fInt Syntax.w16)) (Syntax.tyRef (Syntax.named 2) Syntax.mut (Syntax.tyInt Syntax.w16)) 2,
+) (List._∷_ (
+  4,
+  Mut.mslice (Element.type) (Syntax.tyRef (Syntax.named 3) Syntax.mut
+      Element.behind) 3,
+) (List._∷_ (5, Mut.mslice (Referent.rtF (Referent.fInt Syntax.w16)) (Syntax.tyRef (Syntax.named 4) Syntax.mut (Syntax.tyInt Syntax.w16)) 4) (List._∷_ (
+  6,
+  Rows'.any-gone
+      (Syntax.tyStruct (List._∷_ 98 (List._∷_ 108 (List._∷_ 111 (List._∷_ 99 (List._∷_ 107 (List._∷_ 58 (List._∷_ 58 (List._∷_ 70 (List._∷_ 111 (List._∷_ 114 (List._∷_ 109 List.[]))))))))))) (Syntax.tcons
+      (Syntax.tyInt Syntax.w32) (Syntax.tcons Syntax.tyBool Syntax.tnil))),
+) (List._∷_ (
+  7,
+  Rows'.sref (Array'.Array (Referent.rtF (Referent.fInt Syntax.w16)) 768) (Syntax.tyRef (Syntax.named 5) Syntax.imm
+      (Syntax.tyArray (Syntax.tyInt Syntax.w16) 768)) 5,
+) (List._∷_ (8, Rows'.any-gone (Syntax.tyArray (Syntax.tyInt Syntax.w8) 36)) (List._∷_ (
+  9,
+  Rows'.any-gone (Syntax.tyStruct (List._∷_ 109 (List._∷_
+      97 (List._∷_ 112 (List._∷_ 58 (List._∷_ 58 (List._∷_ 80 (List._∷_ 97 (List._∷_ 114 (List._∷_ 116 List.[]))))))))) (Syntax.tcons (Syntax.tyInt Syntax.w64) (Syntax.tcons (Syntax.tyInt Syntax.w64)
+      (Syntax.tcons (Syntax.tyInt Syntax.w64) (Syntax.tcons (Syntax.tyInt Syntax.w64) (Syntax.tcons (Syntax.tyInt Syntax.w64) (Syntax.tcons (Syntax.tyInt Syntax.w64) Syntax.tnil))))))),
+) (List._∷_ (
+  10,
+  Rows'.sc-here (Row.sInt Syntax.w64),
+) (List._∷_ (11, Rows'.any-gone (Syntax.tyInt Syntax.w32)) (List._∷_ (12, Rows'.sc-here Row.sBool) (List._∷_ (13, Rows'.sc-here (Row.sInt Syntax.w64)) (List._∷_ (
+  14,
+  Rows'.whole (Declared.row BitPosition.the-type),
+) (List._∷_ (15, Rows'.sc-here Row.sBool) List.[])))))))))))))))
 
 abbrev pub t81 : List.List Row.Entry
-t81 = List._∷_ (0, Rows'.whole (Declared.row (Apart.apartT Walked.the-type))) (List._∷_ ( 1, Rows'.sslice (Referent.rtF (Referent.fInt Syntax.w8)) (Syntax.tyRef (Syntax.named 0) Syntax.imm
-    (Syntax.tyInt Syntax.w8)) 0, ) (List._∷_ ( 2, Rows'.sslice (Referent.rtF (Referent.fInt Syntax.w8)) (Syntax.tyRef (Syntax.named 1) Syntax.imm (Syntax.tyInt Syntax.w8)) 1, ) (List._∷_ ( 3, Mut.mslice
-    (Referent.rtF (Referent.fInt Syntax.w16)) (Syntax.tyRef (Syntax.named 2) Syntax.mut (Syntax.tyInt Syntax.w16)) 2, ) (List._∷_ ( 4, Mut.mslice (Element.type) (Syntax.tyRef (Syntax.named 3) Syntax.mut
-    Element.behind) 3, ) (List._∷_ ( 5, Mut.mslice (Referent.rtF (Referent.fInt Syntax.w16)) (Syntax.tyRef (Syntax.named 4) Syntax.mut (Syntax.tyInt Syntax.w16)) 4, ) (List._∷_ ( 6, Rows'.any-gone
-    (Syntax.tyStruct (List._∷_ 98 (List._∷_ 108 (List._∷_ 111 (List._∷_ 99 (List._∷_ 107 (List._∷_ 58 (List._∷_ 58 (List._∷_ 70 (List._∷_ 111 (List._∷_ 114 (List._∷_ 109 List.[]))))))))))) (Syntax.tcons
-    (Syntax.tyInt Syntax.w32) (Syntax.tcons Syntax.tyBool Syntax.tnil))), ) (List._∷_ ( 7, Rows'.sref (Array'.Array (Referent.rtF (Referent.fInt Syntax.w16)) 768) (Syntax.tyRef (Syntax.named 5) Syntax.imm
-    (Syntax.tyArray (Syntax.tyInt Syntax.w16) 768)) 5, ) (List._∷_ (8, Rows'.any-gone (Syntax.tyArray (Syntax.tyInt Syntax.w8) 36)) (List._∷_ ( 9, Rows'.any-gone (Syntax.tyStruct (List._∷_ 109 (List._∷_
-    97 (List._∷_ 112 (List._∷_ 58 (List._∷_ 58 (List._∷_ 80 (List._∷_ 97 (List._∷_ 114 (List._∷_ 116 List.[]))))))))) (Syntax.tcons (Syntax.tyInt Syntax.w64) (Syntax.tcons (Syntax.tyInt Syntax.w64)
-    (Syntax.tcons (Syntax.tyInt Syntax.w64) (Syntax.tcons (Syntax.tyInt Syntax.w64) (Syntax.tcons (Syntax.tyInt Syntax.w64) (Syntax.tcons (Syntax.tyInt Syntax.w64) Syntax.tnil))))))), ) (List._∷_ (10,
-    Rows'.sc-here (Row.sInt Syntax.w64)) (List._∷_ ( 11, Rows'.any-gone (Syntax.tyInt Syntax.w32), ) (List._∷_ (12, Rows'.any-gone Syntax.tyBool) (List._∷_ ( 13, Rows'.sc-here (Row.sInt Syntax.w64), )
-    (List._∷_ (14, Rows'.whole (Declared.row BitPosition.the-type)) (List._∷_ ( 15, Rows'.sc-here Row.sBool, ) List.[])))))))))))))))
+t81 = List._∷_ (0, Rows'.whole (Declared.row (Apart.apartT Walked.the-type))) (List._∷_ (
+  1,
+  Rows'.sslice (Referent.rtF (Referent.fInt Syntax.w8)) (Syntax.tyRef (Syntax.named 0) Syntax.imm
+      (Syntax.tyInt Syntax.w8)) 0,
+) (List._∷_ (2, Rows'.sslice (Referent.rtF (Referent.fInt Syntax.w8)) (Syntax.tyRef (Syntax.named 1) Syntax.imm (Syntax.tyInt Syntax.w8)) 1) (List._∷_ (
+  3,
+  Mut.mslice
+      (Referent.rtF (Referent.fInt Syntax.w16)) (Syntax.tyRef (Syntax.named 2) Syntax.mut (Syntax.tyInt Syntax.w16)) 2,
+) (List._∷_ (
+  4,
+  Mut.mslice (Element.type) (Syntax.tyRef (Syntax.named 3) Syntax.mut
+      Element.behind) 3,
+) (List._∷_ (5, Mut.mslice (Referent.rtF (Referent.fInt Syntax.w16)) (Syntax.tyRef (Syntax.named 4) Syntax.mut (Syntax.tyInt Syntax.w16)) 4) (List._∷_ (
+  6,
+  Rows'.any-gone
+      (Syntax.tyStruct (List._∷_ 98 (List._∷_ 108 (List._∷_ 111 (List._∷_ 99 (List._∷_ 107 (List._∷_ 58 (List._∷_ 58 (List._∷_ 70 (List._∷_ 111 (List._∷_ 114 (List._∷_ 109 List.[]))))))))))) (Syntax.tcons
+      (Syntax.tyInt Syntax.w32) (Syntax.tcons Syntax.tyBool Syntax.tnil))),
+) (List._∷_ (
+  7,
+  Rows'.sref (Array'.Array (Referent.rtF (Referent.fInt Syntax.w16)) 768) (Syntax.tyRef (Syntax.named 5) Syntax.imm
+      (Syntax.tyArray (Syntax.tyInt Syntax.w16) 768)) 5,
+) (List._∷_ (8, Rows'.any-gone (Syntax.tyArray (Syntax.tyInt Syntax.w8) 36)) (List._∷_ (
+  9,
+  Rows'.any-gone (Syntax.tyStruct (List._∷_ 109 (List._∷_
+      97 (List._∷_ 112 (List._∷_ 58 (List._∷_ 58 (List._∷_ 80 (List._∷_ 97 (List._∷_ 114 (List._∷_ 116 List.[]))))))))) (Syntax.tcons (Syntax.tyInt Syntax.w64) (Syntax.tcons (Syntax.tyInt Syntax.w64)
+      (Syntax.tcons (Syntax.tyInt Syntax.w64) (Syntax.tcons (Syntax.tyInt Syntax.w64) (Syntax.tcons (Syntax.tyInt Syntax.w64) (Syntax.tcons (Syntax.tyInt Syntax.w64) Syntax.tnil))))))),
+) (List._∷_ (
+  10,
+  Rows'.sc-here (Row.sInt Syntax.w64),
+) (List._∷_ (11, Rows'.any-gone (Syntax.tyInt Syntax.w32)) (List._∷_ (12, Rows'.any-gone Syntax.tyBool) (List._∷_ (13, Rows'.sc-here (Row.sInt Syntax.w64))
+    (List._∷_ (14, Rows'.whole (Declared.row BitPosition.the-type)) (List._∷_ (15, Rows'.sc-here Row.sBool) List.[])))))))))))))))
 
 abbrev pub t82 : List.List Row.Entry
-t82 = List._∷_ (0, Rows'.whole (Declared.row (Apart.apartT Walked.the-type))) (List._∷_ ( 1, Rows'.sslice (Referent.rtF (Referent.fInt Syntax.w8)) (Syntax.tyRef (Syntax.named 0) Syntax.imm
-    (Syntax.tyInt Syntax.w8)) 0, ) (List._∷_ ( 2, Rows'.sslice (Referent.rtF (Referent.fInt Syntax.w8)) (Syntax.tyRef (Syntax.named 1) Syntax.imm (Syntax.tyInt Syntax.w8)) 1, ) (List._∷_ ( 3, Mut.mslice
-    (Referent.rtF (Referent.fInt Syntax.w16)) (Syntax.tyRef (Syntax.named 2) Syntax.mut (Syntax.tyInt Syntax.w16)) 2, ) (List._∷_ ( 4, Mut.mslice (Element.type) (Syntax.tyRef (Syntax.named 3) Syntax.mut
-    Element.behind) 3, ) (List._∷_ ( 5, Mut.mslice (Referent.rtF (Referent.fInt Syntax.w16)) (Syntax.tyRef (Syntax.named 4) Syntax.mut (Syntax.tyInt Syntax.w16)) 4, ) (List._∷_ ( 6, Rows'.any-gone
-    (Syntax.tyStruct (List._∷_ 98 (List._∷_ 108 (List._∷_ 111 (List._∷_ 99 (List._∷_ 107 (List._∷_ 58 (List._∷_ 58 (List._∷_ 70 (List._∷_ 111 (List._∷_ 114 (List._∷_ 109 List.[]))))))))))) (Syntax.tcons
-    (Syntax.tyInt Syntax.w32) (Syntax.tcons Syntax.tyBool Syntax.tnil))), ) (List._∷_ ( 7, Rows'.sref (Array'.Array (Referent.rtF (Referent.fInt Syntax.w16)) 768) (Syntax.tyRef (Syntax.named 5) Syntax.imm
-    (Syntax.tyArray (Syntax.tyInt Syntax.w16) 768)) 5, ) (List._∷_ (8, Rows'.any-gone (Syntax.tyArray (Syntax.tyInt Syntax.w8) 36)) (List._∷_ ( 9, Rows'.any-gone (Syntax.tyStruct (List._∷_ 109 (List._∷_
-    97 (List._∷_ 112 (List._∷_ 58 (List._∷_ 58 (List._∷_ 80 (List._∷_ 97 (List._∷_ 114 (List._∷_ 116 List.[]))))))))) (Syntax.tcons (Syntax.tyInt Syntax.w64) (Syntax.tcons (Syntax.tyInt Syntax.w64)
-    (Syntax.tcons (Syntax.tyInt Syntax.w64) (Syntax.tcons (Syntax.tyInt Syntax.w64) (Syntax.tcons (Syntax.tyInt Syntax.w64) (Syntax.tcons (Syntax.tyInt Syntax.w64) Syntax.tnil))))))), ) (List._∷_ (10,
-    Rows'.sc-here (Row.sInt Syntax.w64)) (List._∷_ ( 11, Rows'.any-gone (Syntax.tyInt Syntax.w32), ) (List._∷_ (12, Rows'.any-gone Syntax.tyBool) (List._∷_ ( 13, Rows'.any-gone (Syntax.tyInt Syntax.w64),
-    ) (List._∷_ (14, Rows'.whole (Declared.row BitPosition.the-type)) (List._∷_ ( 15, Rows'.sc-here Row.sBool, ) List.[])))))))))))))))
+t82 = List._∷_ (0, Rows'.whole (Declared.row (Apart.apartT Walked.the-type))) (List._∷_ (
+  1,
+  Rows'.sslice (Referent.rtF (Referent.fInt Syntax.w8)) (Syntax.tyRef (Syntax.named 0) Syntax.imm
+      (Syntax.tyInt Syntax.w8)) 0,
+) (List._∷_ (2, Rows'.sslice (Referent.rtF (Referent.fInt Syntax.w8)) (Syntax.tyRef (Syntax.named 1) Syntax.imm (Syntax.tyInt Syntax.w8)) 1) (List._∷_ (
+  3,
+  Mut.mslice
+      (Referent.rtF (Referent.fInt Syntax.w16)) (Syntax.tyRef (Syntax.named 2) Syntax.mut (Syntax.tyInt Syntax.w16)) 2,
+) (List._∷_ (
+  4,
+  Mut.mslice (Element.type) (Syntax.tyRef (Syntax.named 3) Syntax.mut
+      Element.behind) 3,
+) (List._∷_ (5, Mut.mslice (Referent.rtF (Referent.fInt Syntax.w16)) (Syntax.tyRef (Syntax.named 4) Syntax.mut (Syntax.tyInt Syntax.w16)) 4) (List._∷_ (
+  6,
+  Rows'.any-gone
+      (Syntax.tyStruct (List._∷_ 98 (List._∷_ 108 (List._∷_ 111 (List._∷_ 99 (List._∷_ 107 (List._∷_ 58 (List._∷_ 58 (List._∷_ 70 (List._∷_ 111 (List._∷_ 114 (List._∷_ 109 List.[]))))))))))) (Syntax.tcons
+      (Syntax.tyInt Syntax.w32) (Syntax.tcons Syntax.tyBool Syntax.tnil))),
+) (List._∷_ (
+  7,
+  Rows'.sref (Array'.Array (Referent.rtF (Referent.fInt Syntax.w16)) 768) (Syntax.tyRef (Syntax.named 5) Syntax.imm
+      (Syntax.tyArray (Syntax.tyInt Syntax.w16) 768)) 5,
+) (List._∷_ (8, Rows'.any-gone (Syntax.tyArray (Syntax.tyInt Syntax.w8) 36)) (List._∷_ (
+  9,
+  Rows'.any-gone (Syntax.tyStruct (List._∷_ 109 (List._∷_
+      97 (List._∷_ 112 (List._∷_ 58 (List._∷_ 58 (List._∷_ 80 (List._∷_ 97 (List._∷_ 114 (List._∷_ 116 List.[]))))))))) (Syntax.tcons (Syntax.tyInt Syntax.w64) (Syntax.tcons (Syntax.tyInt Syntax.w64)
+      (Syntax.tcons (Syntax.tyInt Syntax.w64) (Syntax.tcons (Syntax.tyInt Syntax.w64) (Syntax.tcons (Syntax.tyInt Syntax.w64) (Syntax.tcons (Syntax.tyInt Syntax.w64) Syntax.tnil))))))),
+) (List._∷_ (
+  10,
+  Rows'.sc-here (Row.sInt Syntax.w64),
+) (List._∷_ (11, Rows'.any-gone (Syntax.tyInt Syntax.w32)) (List._∷_ (12, Rows'.any-gone Syntax.tyBool) (List._∷_ (
+  13,
+  Rows'.any-gone (Syntax.tyInt Syntax.w64),
+) (List._∷_ (14, Rows'.whole (Declared.row BitPosition.the-type)) (List._∷_ (15, Rows'.sc-here Row.sBool) List.[])))))))))))))))
 
 abbrev pub t83 : List.List Row.Entry
-t83 = List._∷_ (0, Rows'.whole (Declared.row (Apart.apartT Walked.the-type))) (List._∷_ ( 1, Rows'.sslice (Referent.rtF (Referent.fInt Syntax.w8)) (Syntax.tyRef (Syntax.named 0) Syntax.imm
-    (Syntax.tyInt Syntax.w8)) 0, ) (List._∷_ ( 2, Rows'.sslice (Referent.rtF (Referent.fInt Syntax.w8)) (Syntax.tyRef (Syntax.named 1) Syntax.imm (Syntax.tyInt Syntax.w8)) 1, ) (List._∷_ ( 3, Mut.mslice
-    (Referent.rtF (Referent.fInt Syntax.w16)) (Syntax.tyRef (Syntax.named 2) Syntax.mut (Syntax.tyInt Syntax.w16)) 2, ) (List._∷_ ( 4, Mut.mslice (Element.type) (Syntax.tyRef (Syntax.named 3) Syntax.mut
-    Element.behind) 3, ) (List._∷_ ( 5, Mut.mslice (Referent.rtF (Referent.fInt Syntax.w16)) (Syntax.tyRef (Syntax.named 4) Syntax.mut (Syntax.tyInt Syntax.w16)) 4, ) (List._∷_ ( 6, Rows'.any-gone
-    (Syntax.tyStruct (List._∷_ 98 (List._∷_ 108 (List._∷_ 111 (List._∷_ 99 (List._∷_ 107 (List._∷_ 58 (List._∷_ 58 (List._∷_ 70 (List._∷_ 111 (List._∷_ 114 (List._∷_ 109 List.[]))))))))))) (Syntax.tcons
-    (Syntax.tyInt Syntax.w32) (Syntax.tcons Syntax.tyBool Syntax.tnil))), ) (List._∷_ ( 7, Rows'.sref (Array'.Array (Referent.rtF (Referent.fInt Syntax.w16)) 768) (Syntax.tyRef (Syntax.named 5) Syntax.imm
-    (Syntax.tyArray (Syntax.tyInt Syntax.w16) 768)) 5, ) (List._∷_ (8, Rows'.any-gone (Syntax.tyArray (Syntax.tyInt Syntax.w8) 36)) (List._∷_ ( 9, Rows'.any-gone (Syntax.tyStruct (List._∷_ 109 (List._∷_
-    97 (List._∷_ 112 (List._∷_ 58 (List._∷_ 58 (List._∷_ 80 (List._∷_ 97 (List._∷_ 114 (List._∷_ 116 List.[]))))))))) (Syntax.tcons (Syntax.tyInt Syntax.w64) (Syntax.tcons (Syntax.tyInt Syntax.w64)
-    (Syntax.tcons (Syntax.tyInt Syntax.w64) (Syntax.tcons (Syntax.tyInt Syntax.w64) (Syntax.tcons (Syntax.tyInt Syntax.w64) (Syntax.tcons (Syntax.tyInt Syntax.w64) Syntax.tnil))))))), ) (List._∷_ (10,
-    Rows'.sc-here (Row.sInt Syntax.w64)) (List._∷_ ( 11, Rows'.any-gone (Syntax.tyInt Syntax.w32), ) (List._∷_ (12, Rows'.any-gone Syntax.tyBool) (List._∷_ ( 13, Rows'.any-gone (Syntax.tyInt Syntax.w64),
-    ) (List._∷_ ( 14, Rows'.any-gone (Syntax.tyStruct (List._∷_ 98 (List._∷_ 105 (List._∷_ 116 (List._∷_ 115 (List._∷_ 58 (List._∷_ 58 (List._∷_ 66 (List._∷_ 105 (List._∷_ 116 (List._∷_ 80 (List._∷_ 111
-    (List._∷_ 115 (List._∷_ 105 (List._∷_ 116 (List._∷_ 105 (List._∷_ 111 (List._∷_ 110 List.[]))))))))))))))))) (Syntax.tcons (Syntax.tyInt Syntax.w64) Syntax.tnil)), ) (List._∷_ (15, Rows'.sc-here
-    Row.sBool) List.[])))))))))))))))
+t83 = List._∷_ (0, Rows'.whole (Declared.row (Apart.apartT Walked.the-type))) (List._∷_ (
+  1,
+  Rows'.sslice (Referent.rtF (Referent.fInt Syntax.w8)) (Syntax.tyRef (Syntax.named 0) Syntax.imm
+      (Syntax.tyInt Syntax.w8)) 0,
+) (List._∷_ (2, Rows'.sslice (Referent.rtF (Referent.fInt Syntax.w8)) (Syntax.tyRef (Syntax.named 1) Syntax.imm (Syntax.tyInt Syntax.w8)) 1) (List._∷_ (
+  3,
+  Mut.mslice
+      (Referent.rtF (Referent.fInt Syntax.w16)) (Syntax.tyRef (Syntax.named 2) Syntax.mut (Syntax.tyInt Syntax.w16)) 2,
+) (List._∷_ (
+  4,
+  Mut.mslice (Element.type) (Syntax.tyRef (Syntax.named 3) Syntax.mut
+      Element.behind) 3,
+) (List._∷_ (5, Mut.mslice (Referent.rtF (Referent.fInt Syntax.w16)) (Syntax.tyRef (Syntax.named 4) Syntax.mut (Syntax.tyInt Syntax.w16)) 4) (List._∷_ (
+  6,
+  Rows'.any-gone
+      (Syntax.tyStruct (List._∷_ 98 (List._∷_ 108 (List._∷_ 111 (List._∷_ 99 (List._∷_ 107 (List._∷_ 58 (List._∷_ 58 (List._∷_ 70 (List._∷_ 111 (List._∷_ 114 (List._∷_ 109 List.[]))))))))))) (Syntax.tcons
+      (Syntax.tyInt Syntax.w32) (Syntax.tcons Syntax.tyBool Syntax.tnil))),
+) (List._∷_ (
+  7,
+  Rows'.sref (Array'.Array (Referent.rtF (Referent.fInt Syntax.w16)) 768) (Syntax.tyRef (Syntax.named 5) Syntax.imm
+      (Syntax.tyArray (Syntax.tyInt Syntax.w16) 768)) 5,
+) (List._∷_ (8, Rows'.any-gone (Syntax.tyArray (Syntax.tyInt Syntax.w8) 36)) (List._∷_ (
+  9,
+  Rows'.any-gone (Syntax.tyStruct (List._∷_ 109 (List._∷_
+      97 (List._∷_ 112 (List._∷_ 58 (List._∷_ 58 (List._∷_ 80 (List._∷_ 97 (List._∷_ 114 (List._∷_ 116 List.[]))))))))) (Syntax.tcons (Syntax.tyInt Syntax.w64) (Syntax.tcons (Syntax.tyInt Syntax.w64)
+      (Syntax.tcons (Syntax.tyInt Syntax.w64) (Syntax.tcons (Syntax.tyInt Syntax.w64) (Syntax.tcons (Syntax.tyInt Syntax.w64) (Syntax.tcons (Syntax.tyInt Syntax.w64) Syntax.tnil))))))),
+) (List._∷_ (
+  10,
+  Rows'.sc-here (Row.sInt Syntax.w64),
+) (List._∷_ (11, Rows'.any-gone (Syntax.tyInt Syntax.w32)) (List._∷_ (12, Rows'.any-gone Syntax.tyBool) (List._∷_ (
+  13,
+  Rows'.any-gone (Syntax.tyInt Syntax.w64),
+) (List._∷_ (
+  14,
+  Rows'.any-gone (Syntax.tyStruct (List._∷_ 98 (List._∷_ 105 (List._∷_ 116 (List._∷_ 115 (List._∷_ 58 (List._∷_ 58 (List._∷_ 66 (List._∷_ 105 (List._∷_ 116 (List._∷_ 80 (List._∷_ 111
+      (List._∷_ 115 (List._∷_ 105 (List._∷_ 116 (List._∷_ 105 (List._∷_ 111 (List._∷_ 110 List.[]))))))))))))))))) (Syntax.tcons (Syntax.tyInt Syntax.w64) Syntax.tnil)),
+) (List._∷_ (
+  15,
+  Rows'.sc-here
+      Row.sBool,
+) List.[])))))))))))))))
 
 abbrev pub t84 : List.List Row.Entry
-t84 = List._∷_ (0, Rows'.whole (Declared.row (Apart.apartT Walked.the-type))) (List._∷_ ( 1, Rows'.sslice (Referent.rtF (Referent.fInt Syntax.w8)) (Syntax.tyRef (Syntax.named 0) Syntax.imm
-    (Syntax.tyInt Syntax.w8)) 0, ) (List._∷_ ( 2, Rows'.sslice (Referent.rtF (Referent.fInt Syntax.w8)) (Syntax.tyRef (Syntax.named 1) Syntax.imm (Syntax.tyInt Syntax.w8)) 1, ) (List._∷_ ( 3, Mut.mslice
-    (Referent.rtF (Referent.fInt Syntax.w16)) (Syntax.tyRef (Syntax.named 2) Syntax.mut (Syntax.tyInt Syntax.w16)) 2, ) (List._∷_ ( 4, Mut.mslice (Element.type) (Syntax.tyRef (Syntax.named 3) Syntax.mut
-    Element.behind) 3, ) (List._∷_ ( 5, Mut.mslice (Referent.rtF (Referent.fInt Syntax.w16)) (Syntax.tyRef (Syntax.named 4) Syntax.mut (Syntax.tyInt Syntax.w16)) 4, ) (List._∷_ ( 6, Rows'.any-gone
-    (Syntax.tyStruct (List._∷_ 98 (List._∷_ 108 (List._∷_ 111 (List._∷_ 99 (List._∷_ 107 (List._∷_ 58 (List._∷_ 58 (List._∷_ 70 (List._∷_ 111 (List._∷_ 114 (List._∷_ 109 List.[]))))))))))) (Syntax.tcons
-    (Syntax.tyInt Syntax.w32) (Syntax.tcons Syntax.tyBool Syntax.tnil))), ) (List._∷_ ( 7, Rows'.sref (Array'.Array (Referent.rtF (Referent.fInt Syntax.w16)) 768) (Syntax.tyRef (Syntax.named 5) Syntax.imm
-    (Syntax.tyArray (Syntax.tyInt Syntax.w16) 768)) 5, ) (List._∷_ (8, Rows'.any-gone (Syntax.tyArray (Syntax.tyInt Syntax.w8) 36)) (List._∷_ ( 9, Rows'.any-gone (Syntax.tyStruct (List._∷_ 109 (List._∷_
-    97 (List._∷_ 112 (List._∷_ 58 (List._∷_ 58 (List._∷_ 80 (List._∷_ 97 (List._∷_ 114 (List._∷_ 116 List.[]))))))))) (Syntax.tcons (Syntax.tyInt Syntax.w64) (Syntax.tcons (Syntax.tyInt Syntax.w64)
-    (Syntax.tcons (Syntax.tyInt Syntax.w64) (Syntax.tcons (Syntax.tyInt Syntax.w64) (Syntax.tcons (Syntax.tyInt Syntax.w64) (Syntax.tcons (Syntax.tyInt Syntax.w64) Syntax.tnil))))))), ) (List._∷_ (10,
-    Rows'.sc-here (Row.sInt Syntax.w64)) (List._∷_ ( 11, Rows'.any-gone (Syntax.tyInt Syntax.w32), ) (List._∷_ (12, Rows'.any-gone Syntax.tyBool) (List._∷_ ( 13, Rows'.any-gone (Syntax.tyInt Syntax.w64),
-    ) (List._∷_ ( 14, Rows'.any-gone (Syntax.tyStruct (List._∷_ 98 (List._∷_ 105 (List._∷_ 116 (List._∷_ 115 (List._∷_ 58 (List._∷_ 58 (List._∷_ 66 (List._∷_ 105 (List._∷_ 116 (List._∷_ 80 (List._∷_ 111
-    (List._∷_ 115 (List._∷_ 105 (List._∷_ 116 (List._∷_ 105 (List._∷_ 111 (List._∷_ 110 List.[]))))))))))))))))) (Syntax.tcons (Syntax.tyInt Syntax.w64) Syntax.tnil)), ) (List._∷_ (15, Rows'.any-gone
-    Syntax.tyBool) List.[])))))))))))))))
+t84 = List._∷_ (0, Rows'.whole (Declared.row (Apart.apartT Walked.the-type))) (List._∷_ (
+  1,
+  Rows'.sslice (Referent.rtF (Referent.fInt Syntax.w8)) (Syntax.tyRef (Syntax.named 0) Syntax.imm
+      (Syntax.tyInt Syntax.w8)) 0,
+) (List._∷_ (2, Rows'.sslice (Referent.rtF (Referent.fInt Syntax.w8)) (Syntax.tyRef (Syntax.named 1) Syntax.imm (Syntax.tyInt Syntax.w8)) 1) (List._∷_ (
+  3,
+  Mut.mslice
+      (Referent.rtF (Referent.fInt Syntax.w16)) (Syntax.tyRef (Syntax.named 2) Syntax.mut (Syntax.tyInt Syntax.w16)) 2,
+) (List._∷_ (
+  4,
+  Mut.mslice (Element.type) (Syntax.tyRef (Syntax.named 3) Syntax.mut
+      Element.behind) 3,
+) (List._∷_ (5, Mut.mslice (Referent.rtF (Referent.fInt Syntax.w16)) (Syntax.tyRef (Syntax.named 4) Syntax.mut (Syntax.tyInt Syntax.w16)) 4) (List._∷_ (
+  6,
+  Rows'.any-gone
+      (Syntax.tyStruct (List._∷_ 98 (List._∷_ 108 (List._∷_ 111 (List._∷_ 99 (List._∷_ 107 (List._∷_ 58 (List._∷_ 58 (List._∷_ 70 (List._∷_ 111 (List._∷_ 114 (List._∷_ 109 List.[]))))))))))) (Syntax.tcons
+      (Syntax.tyInt Syntax.w32) (Syntax.tcons Syntax.tyBool Syntax.tnil))),
+) (List._∷_ (
+  7,
+  Rows'.sref (Array'.Array (Referent.rtF (Referent.fInt Syntax.w16)) 768) (Syntax.tyRef (Syntax.named 5) Syntax.imm
+      (Syntax.tyArray (Syntax.tyInt Syntax.w16) 768)) 5,
+) (List._∷_ (8, Rows'.any-gone (Syntax.tyArray (Syntax.tyInt Syntax.w8) 36)) (List._∷_ (
+  9,
+  Rows'.any-gone (Syntax.tyStruct (List._∷_ 109 (List._∷_
+      97 (List._∷_ 112 (List._∷_ 58 (List._∷_ 58 (List._∷_ 80 (List._∷_ 97 (List._∷_ 114 (List._∷_ 116 List.[]))))))))) (Syntax.tcons (Syntax.tyInt Syntax.w64) (Syntax.tcons (Syntax.tyInt Syntax.w64)
+      (Syntax.tcons (Syntax.tyInt Syntax.w64) (Syntax.tcons (Syntax.tyInt Syntax.w64) (Syntax.tcons (Syntax.tyInt Syntax.w64) (Syntax.tcons (Syntax.tyInt Syntax.w64) Syntax.tnil))))))),
+) (List._∷_ (
+  10,
+  Rows'.sc-here (Row.sInt Syntax.w64),
+) (List._∷_ (11, Rows'.any-gone (Syntax.tyInt Syntax.w32)) (List._∷_ (12, Rows'.any-gone Syntax.tyBool) (List._∷_ (
+  13,
+  Rows'.any-gone (Syntax.tyInt Syntax.w64),
+) (List._∷_ (
+  14,
+  Rows'.any-gone (Syntax.tyStruct (List._∷_ 98 (List._∷_ 105 (List._∷_ 116 (List._∷_ 115 (List._∷_ 58 (List._∷_ 58 (List._∷_ 66 (List._∷_ 105 (List._∷_ 116 (List._∷_ 80 (List._∷_ 111
+      (List._∷_ 115 (List._∷_ 105 (List._∷_ 116 (List._∷_ 105 (List._∷_ 111 (List._∷_ 110 List.[]))))))))))))))))) (Syntax.tcons (Syntax.tyInt Syntax.w64) Syntax.tnil)),
+) (List._∷_ (
+  15,
+  Rows'.any-gone
+      Syntax.tyBool,
+) List.[])))))))))))))))
 
 abbrev pub t85 : List.List Row.Entry
-t85 = List._∷_ (16, Rows'.any-gone (Syntax.tyInt Syntax.w64)) (List._∷_ ( 17, Rows'.sc-here (Row.sInt Syntax.w64), ) (List._∷_ (18, Rows'.any-gone (Syntax.tyInt Syntax.w32)) (List._∷_ ( 19,
-    Rows'.any-gone (Syntax.tyStruct (List._∷_ 98 (List._∷_ 108 (List._∷_ 111 (List._∷_ 99 (List._∷_ 107 (List._∷_ 58 (List._∷_ 58 (List._∷_ 76 (List._∷_ 105 (List._∷_ 110 (List._∷_ 101 (List._∷_ 100
-    List.[])))))))))))) (Syntax.tcons Syntax.tyBool (Syntax.tcons Syntax.tyBool (Syntax.tcons (Syntax.tyStruct (List._∷_ 98 (List._∷_ 105 (List._∷_ 116 (List._∷_ 115 (List._∷_ 58 (List._∷_ 58 (List._∷_ 66
-    (List._∷_ 105 (List._∷_ 116 (List._∷_ 80 (List._∷_ 111 (List._∷_ 115 (List._∷_ 105 (List._∷_ 116 (List._∷_ 105 (List._∷_ 111 (List._∷_ 110 List.[]))))))))))))))))) (Syntax.tcons (Syntax.tyInt
-    Syntax.w64) Syntax.tnil)) Syntax.tnil)))), ) (List._∷_ (20, Rows'.any-gone Syntax.tyBool) (List._∷_ (21, Rows'.any-gone Syntax.tyUnit) (List._∷_ ( 22, Rows'.any-gone (Syntax.tyRef Syntax.erased
-    Syntax.mut (Syntax.tyInt Syntax.w16)), ) (List._∷_ ( 23, Rows'.any-gone (Syntax.tyStruct (List._∷_ 38 (List._∷_ 91 (List._∷_ 93 List.[]))) (Syntax.tcons (Syntax.tyRef Syntax.erased Syntax.mut
-    (Syntax.tyInt Syntax.w16)) (Syntax.tcons (Syntax.tyInt Syntax.w64) Syntax.tnil))), ) (List._∷_ ( 24, Rows'.any-gone (Syntax.tyRef Syntax.erased Syntax.mut Element.behind), ) (List._∷_ ( 25,
-    Rows'.any-gone (Syntax.tyStruct (List._∷_ 38 (List._∷_ 91 (List._∷_ 93 List.[]))) (Syntax.tcons (Syntax.tyRef Syntax.erased Syntax.mut Element.behind) (Syntax.tcons (Syntax.tyInt Syntax.w64)
-    Syntax.tnil))), ) (List._∷_ (26, Rows'.any-gone (Syntax.tyInt Syntax.w32)) (List._∷_ ( 27, Rows'.any-gone Syntax.tyBool, ) (List._∷_ (28, Rows'.any-gone Syntax.tyUnit) (List._∷_ ( 29, Rows'.any-gone
-    (Syntax.tyRef Syntax.erased Syntax.mut (Syntax.tyInt Syntax.w16)), ) (List._∷_ ( 30, Rows'.any-gone (Syntax.tyStruct (List._∷_ 38 (List._∷_ 91 (List._∷_ 93 List.[]))) (Syntax.tcons (Syntax.tyRef
-    Syntax.erased Syntax.mut (Syntax.tyInt Syntax.w16)) (Syntax.tcons (Syntax.tyInt Syntax.w64) Syntax.tnil))), ) (List._∷_ ( 31, Rows'.any-gone (Syntax.tyRef Syntax.erased Syntax.mut Element.behind), )
+t85 = List._∷_ (16, Rows'.any-gone (Syntax.tyInt Syntax.w64)) (List._∷_ (17, Rows'.sc-here (Row.sInt Syntax.w64)) (List._∷_ (18, Rows'.any-gone (Syntax.tyInt Syntax.w32)) (List._∷_ (
+  19,
+  Rows'.any-gone (Syntax.tyStruct (List._∷_ 98 (List._∷_ 108 (List._∷_ 111 (List._∷_ 99 (List._∷_ 107 (List._∷_ 58 (List._∷_ 58 (List._∷_ 76 (List._∷_ 105 (List._∷_ 110 (List._∷_ 101 (List._∷_ 100
+      List.[])))))))))))) (Syntax.tcons Syntax.tyBool (Syntax.tcons Syntax.tyBool (Syntax.tcons (Syntax.tyStruct (List._∷_ 98 (List._∷_ 105 (List._∷_ 116 (List._∷_ 115 (List._∷_ 58 (List._∷_ 58 (List._∷_ 66
+      (List._∷_ 105 (List._∷_ 116 (List._∷_ 80 (List._∷_ 111 (List._∷_ 115 (List._∷_ 105 (List._∷_ 116 (List._∷_ 105 (List._∷_ 111 (List._∷_ 110 List.[]))))))))))))))))) (Syntax.tcons (Syntax.tyInt
+      Syntax.w64) Syntax.tnil)) Syntax.tnil)))),
+) (List._∷_ (20, Rows'.any-gone Syntax.tyBool) (List._∷_ (21, Rows'.any-gone Syntax.tyUnit) (List._∷_ (
+  22,
+  Rows'.any-gone (Syntax.tyRef Syntax.erased
+      Syntax.mut (Syntax.tyInt Syntax.w16)),
+) (List._∷_ (
+  23,
+  Rows'.any-gone (Syntax.tyStruct (List._∷_ 38 (List._∷_ 91 (List._∷_ 93 List.[]))) (Syntax.tcons (Syntax.tyRef Syntax.erased Syntax.mut
+      (Syntax.tyInt Syntax.w16)) (Syntax.tcons (Syntax.tyInt Syntax.w64) Syntax.tnil))),
+) (List._∷_ (24, Rows'.any-gone (Syntax.tyRef Syntax.erased Syntax.mut Element.behind)) (List._∷_ (
+  25,
+  Rows'.any-gone (Syntax.tyStruct (List._∷_ 38 (List._∷_ 91 (List._∷_ 93 List.[]))) (Syntax.tcons (Syntax.tyRef Syntax.erased Syntax.mut Element.behind) (Syntax.tcons (Syntax.tyInt Syntax.w64)
+      Syntax.tnil))),
+) (List._∷_ (26, Rows'.any-gone (Syntax.tyInt Syntax.w32)) (List._∷_ (27, Rows'.any-gone Syntax.tyBool) (List._∷_ (28, Rows'.any-gone Syntax.tyUnit) (List._∷_ (
+  29,
+  Rows'.any-gone
+      (Syntax.tyRef Syntax.erased Syntax.mut (Syntax.tyInt Syntax.w16)),
+) (List._∷_ (
+  30,
+  Rows'.any-gone (Syntax.tyStruct (List._∷_ 38 (List._∷_ 91 (List._∷_ 93 List.[]))) (Syntax.tcons (Syntax.tyRef
+      Syntax.erased Syntax.mut (Syntax.tyInt Syntax.w16)) (Syntax.tcons (Syntax.tyInt Syntax.w64) Syntax.tnil))),
+) (List._∷_ (31, Rows'.any-gone (Syntax.tyRef Syntax.erased Syntax.mut Element.behind))
     List.[])))))))))))))))
 
 abbrev pub T0 : Row.Cx
@@ -2080,7 +4003,7 @@ module _ (claims· : Claims) where
       Syntax.w16)) (Syntax.tyRef Syntax.erased Syntax.mut (Syntax.tyInt Syntax.w16)) (λ x. x) (Scalar.oFld 3 (List._∷_ (Syntax.field 1) List.[]) (Syntax.tyInt Syntax.w64) 8 λ v. Shared.lenV (v .0))
 
   abbrev s10 : (bs : List.List Nat.ℕ) → Typed.Both T11 T12
-  s10 = λ bs. Call.callB ps·1 r·1 (claims· .2) (claims· .3) T11 ( record { pos = 23; ty = Syntax.tyRef Syntax.erased Syntax.mut (Syntax.tyInt Syntax.w16); ref = λ x. x; }, tt, ) 21 (List._∷_ 6
+  s10 = λ bs. Call.callB ps·1 r·1 (claims· .2) (claims· .3) T11 (record { pos = 23; ty = Syntax.tyRef Syntax.erased Syntax.mut (Syntax.tyInt Syntax.w16); ref = λ x. x }, tt) 21 (List._∷_ 6
       List.[]) Syntax.tyUnit
 
   abbrev s11 : (bs : List.List Nat.ℕ) → Typed.Mo T12 → Typed.Mo T13
@@ -2101,12 +4024,20 @@ module _ (claims· : Claims) where
       Element.behind) (λ x. x) (Scalar.oFld 4 (List._∷_ (Syntax.field 1) List.[]) (Syntax.tyInt Syntax.w64) 8 λ v. Shared.lenV (v .0))
 
   abbrev s19 : (bs : List.List Nat.ℕ) → Typed.Both T20 T21
-  s19 = λ bs. Call.callB ps·2 r·2 (claims· .4) (claims· .5) T20 ( record { pos = 2; ty = Syntax.tyRef (Syntax.named 1) Syntax.imm (Syntax.tyInt Syntax.w8); ref = λ x. x; }, (Num.vLit 0, tt), ) 26
+  s19 = λ bs. Call.callB ps·2 r·2 (claims· .4) (claims· .5) T20 (record { pos = 2; ty = Syntax.tyRef (Syntax.named 1) Syntax.imm (Syntax.tyInt Syntax.w8); ref = λ x. x }, (Num.vLit 0, tt)) 26
       (List._∷_ 1 List.[]) (Syntax.tyInt Syntax.w32)
 
   abbrev s20 : (bs : List.List Nat.ℕ) → Typed.Both T21 T22
-  s20 = λ bs. Call.callB ps·3 r·3 (claims· .6) (claims· .7) T21 ( record { pos = 25; ty = Syntax.tyRef Syntax.erased Syntax.mut Element.behind; ref = λ x. x; }, (Num.vAt 11 λ x. x, (Num.vAt 26 λ x. x,
-      tt)), ) 21 (List._∷_ 7 List.[]) Syntax.tyUnit
+  s20 = λ bs. Call.callB ps·3 r·3 (claims· .6) (claims· .7) T21 (
+    record { pos = 25; ty = Syntax.tyRef Syntax.erased Syntax.mut Element.behind; ref = λ x. x },
+    (
+      Num.vAt 11 λ x. x,
+      (
+        Num.vAt 26 λ x. x,
+        tt,
+      ),
+    ),
+  ) 21 (List._∷_ 7 List.[]) Syntax.tyUnit
 
   abbrev s21 : (bs : List.List Nat.ℕ) → Typed.Mo T22 → Typed.Mo T23
   s21 = λ bs. Scalar.n-room T22 21 Syntax.tyUnit
@@ -2163,7 +4094,7 @@ module _ (claims· : Claims) where
       Syntax.w16)) (Syntax.tyRef Syntax.erased Syntax.mut (Syntax.tyInt Syntax.w16)) (λ x. x) (Scalar.oFld 3 (List._∷_ (Syntax.field 1) List.[]) (Syntax.tyInt Syntax.w64) 8 λ v. Shared.lenV (v .0))
 
   abbrev s40 : (bs : List.List Nat.ℕ) → Typed.Both T43 T44
-  s40 = λ bs. Call.callB ps·4 r·4 (claims· .8) (claims· .9) T43 ( record { pos = 30; ty = Syntax.tyRef Syntax.erased Syntax.mut (Syntax.tyInt Syntax.w16); ref = λ x. x; }, (Num.vAt 13 λ x. x, tt), )
+  s40 = λ bs. Call.callB ps·4 r·4 (claims· .8) (claims· .9) T43 (record { pos = 30; ty = Syntax.tyRef Syntax.erased Syntax.mut (Syntax.tyInt Syntax.w16); ref = λ x. x }, (Num.vAt 13 λ x. x, tt))
       28 (List._∷_ 8 List.[]) Syntax.tyUnit
 
   abbrev s41 : (bs : List.List Nat.ℕ) → Typed.Mo T44 → Typed.Mo T45
@@ -2177,7 +4108,7 @@ module _ (claims· : Claims) where
   s44 = λ bs. Know.k-sl-known (Referent.fInt Syntax.w16) T47 3 2 (Syntax.tyRef (Syntax.named 2) Syntax.mut (Syntax.tyInt Syntax.w16)) Row.off 0 λ x. x
 
   abbrev s46 : (bs : List.List Nat.ℕ) → Typed.Both T48 T50
-  s46 = λ bs. Call.callB ps·2 r·2 (claims· .4) (claims· .5) T48 ( record { pos = 2; ty = Syntax.tyRef (Syntax.named 1) Syntax.imm (Syntax.tyInt Syntax.w8); ref = λ x. x; }, (Num.vAt 17 λ x. x, tt), )
+  s46 = λ bs. Call.callB ps·2 r·2 (claims· .4) (claims· .5) T48 (record { pos = 2; ty = Syntax.tyRef (Syntax.named 1) Syntax.imm (Syntax.tyInt Syntax.w8); ref = λ x. x }, (Num.vAt 17 λ x. x, tt))
       18 (List._∷_ 1 List.[]) (Syntax.tyInt Syntax.w32)
 
   abbrev s48 : (bs : List.List Nat.ℕ) → Typed.Gives T50 T52
@@ -2188,12 +4119,23 @@ module _ (claims· : Claims) where
       Element.behind) (λ x. x) (Scalar.oFld 4 (List._∷_ (Syntax.field 1) List.[]) (Syntax.tyInt Syntax.w64) 8 λ v. Shared.lenV (v .0))
 
   abbrev s50 : (bs : List.List Nat.ℕ) → Typed.Both T53 T54
-  s50 = λ bs. Call.callB ps·5 r·5 (claims· .10) (claims· .11) T53 ( record { pos = 2; ty = Syntax.tyRef (Syntax.named 1) Syntax.imm (Syntax.tyInt Syntax.w8); ref = λ x. x; }, (Num.vAt 17 λ x. x, tt),
-      ) 27 (List._∷_ 1 List.[]) Syntax.tyBool
+  s50 = λ bs. Call.callB ps·5 r·5 (claims· .10) (claims· .11) T53 (
+    record { pos = 2; ty = Syntax.tyRef (Syntax.named 1) Syntax.imm (Syntax.tyInt Syntax.w8); ref = λ x. x },
+    (Num.vAt 17 λ x. x, tt),
+  ) 27 (List._∷_ 1 List.[]) Syntax.tyBool
 
   abbrev s51 : (bs : List.List Nat.ℕ) → Typed.Both T54 T55
-  s51 = λ bs. Call.callB ps·6 r·6 (claims· .12) (claims· .13) T54 ( record { pos = 32; ty = Syntax.tyRef Syntax.erased Syntax.mut Element.behind; ref = λ x. x; }, (Num.vAt 11 λ x. x, (Num.vAt 18 λ x.
-      x, (Bool.bAt 27 λ x. x, tt))), ) 28 (List._∷_ 9 List.[]) Syntax.tyUnit
+  s51 = λ bs. Call.callB ps·6 r·6 (claims· .12) (claims· .13) T54 (
+    record { pos = 32; ty = Syntax.tyRef Syntax.erased Syntax.mut Element.behind; ref = λ x. x },
+    (
+      Num.vAt 11 λ x. x,
+      (
+        Num.vAt 18 λ x.
+            x,
+        (Bool.bAt 27 λ x. x, tt),
+      ),
+    ),
+  ) 28 (List._∷_ 9 List.[]) Syntax.tyUnit
 
   abbrev s52 : (bs : List.List Nat.ℕ) → Typed.Mo T55 → Typed.Mo T56
   s52 = λ bs. Scalar.n-room T55 27 Syntax.tyBool
@@ -2220,16 +4162,39 @@ module _ (claims· : Claims) where
       Element.behind) (λ x. x) (Scalar.oFld 4 (List._∷_ (Syntax.field 1) List.[]) (Syntax.tyInt Syntax.w64) 8 λ v. Shared.lenV (v .0))
 
   abbrev s63 : (bs : List.List Nat.ℕ) → Typed.Both T66 T67
-  s63 = λ bs. Call.callB ps·7 r·7 (claims· .14) (claims· .15) T66 ( Num.vAt 11 λ x. x, (Num.vAt 18 λ x. x, tt), ) 37 List.[] (Syntax.tyStruct (List._∷_ 112 (List._∷_ 97 (List._∷_ 115 (List._∷_ 115
+  s63 = λ bs. Call.callB ps·7 r·7 (claims· .14) (claims· .15) T66 (Num.vAt 11 λ x. x, (Num.vAt 18 λ x. x, tt)) 37 List.[] (Syntax.tyStruct (List._∷_ 112 (List._∷_ 97 (List._∷_ 115 (List._∷_ 115
       (List._∷_ 58 (List._∷_ 58 (List._∷_ 81 (List._∷_ 117 (List._∷_ 97 (List._∷_ 110 (List._∷_ 116 (List._∷_ 105 (List._∷_ 115 (List._∷_ 101 (List._∷_ 114 (List._∷_ 115 List.[]))))))))))))))))
       (Syntax.tcons (Syntax.tyInt Syntax.w32) (Syntax.tcons (Syntax.tyArray (Syntax.tyInt Syntax.w32) 4) (Syntax.tcons (Syntax.tyArray (Syntax.tyInt Syntax.w32) 4) (Syntax.tcons (Syntax.tyArray
       (Syntax.tyInt Syntax.w32) 4) Syntax.tnil)))))
 
   abbrev s64 : (bs : List.List Nat.ℕ) → Typed.Both T67 T68
-  s64 = λ bs. Call.callB ps·8 r·8 (claims· .16) (claims· .17) T67 ( record { pos = 1; ty = Syntax.tyRef (Syntax.named 0) Syntax.imm (Syntax.tyInt Syntax.w8); ref = λ x. x; }, ( record { pos = 14; st =
-      List.[]; d = 0; at = λ x. x }, ( Bool.bAt 15 λ x. x, ( record { pos = 34; ty = Syntax.tyRef Syntax.erased Syntax.mut (Syntax.tyInt Syntax.w16); ref = λ x. x; }, ( record { pos = 36; ty =
-      Syntax.tyRef Syntax.erased Syntax.mut Element.behind; ref = λ x. x; }, ( record { pos = 6; st = List.[]; d = 0; at = λ x. x }, (record { pos = 37; st = List.[]; d = 0; at = λ x. x }, tt), ), ), ),
-      ), ), ) 19 (List._∷_ 0 (List._∷_ 10 (List._∷_ 11 List.[]))) (Syntax.tyStruct (List._∷_ 98 (List._∷_ 108 (List._∷_ 111 (List._∷_ 99 (List._∷_ 107 (List._∷_ 58 (List._∷_ 58 (List._∷_ 76 (List._∷_ 105
+  s64 = λ bs. Call.callB ps·8 r·8 (claims· .16) (claims· .17) T67 (
+    record { pos = 1; ty = Syntax.tyRef (Syntax.named 0) Syntax.imm (Syntax.tyInt Syntax.w8); ref = λ x. x },
+    (
+      record {
+        pos = 14;
+        st =
+            List.[];
+        d = 0;
+        at = λ x. x;
+      },
+      (
+        Bool.bAt 15 λ x. x,
+        (
+          record { pos = 34; ty = Syntax.tyRef Syntax.erased Syntax.mut (Syntax.tyInt Syntax.w16); ref = λ x. x },
+          (
+            record {
+              pos = 36;
+              ty =
+                  Syntax.tyRef Syntax.erased Syntax.mut Element.behind;
+              ref = λ x. x;
+            },
+            (record { pos = 6; st = List.[]; d = 0; at = λ x. x }, (record { pos = 37; st = List.[]; d = 0; at = λ x. x }, tt)),
+          ),
+        ),
+      ),
+    ),
+  ) 19 (List._∷_ 0 (List._∷_ 10 (List._∷_ 11 List.[]))) (Syntax.tyStruct (List._∷_ 98 (List._∷_ 108 (List._∷_ 111 (List._∷_ 99 (List._∷_ 107 (List._∷_ 58 (List._∷_ 58 (List._∷_ 76 (List._∷_ 105
       (List._∷_ 110 (List._∷_ 101 (List._∷_ 100 List.[])))))))))))) (Syntax.tcons Syntax.tyBool (Syntax.tcons Syntax.tyBool (Syntax.tcons (Syntax.tyStruct (List._∷_ 98 (List._∷_ 105 (List._∷_ 116
       (List._∷_ 115 (List._∷_ 58 (List._∷_ 58 (List._∷_ 66 (List._∷_ 105 (List._∷_ 116 (List._∷_ 80 (List._∷_ 111 (List._∷_ 115 (List._∷_ 105 (List._∷_ 116 (List._∷_ 105 (List._∷_ 111 (List._∷_ 110
       List.[]))))))))))))))))) (Syntax.tcons (Syntax.tyInt Syntax.w64) Syntax.tnil)) Syntax.tnil))))
@@ -2277,8 +4242,16 @@ module _ (claims· : Claims) where
   s79 = λ bs. Scalar.n-room T83 27 Syntax.tyBool
 
   abbrev s80 : (bs : List.List Nat.ℕ) → Typed.Mo T84 → Typed.Mo T85
-  s80 = λ bs. Make.n-struct-make (Apart.apartT Walked.the-type) T84 0 λ m. ( Bool'.false, ( m .1 .1 .1 .1 .1 .1 .1 .1 .1 .1 .1 .1 .1 .1 .1 .1 .1 .0, ( m .1 .1 .1 .1 .1 .1 .1 .1 .1 .1 .1 .1 .1 .1 .0,
-      (m .1 .1 .1 .1 .1 .1 .1 .1 .1 .1 .1 .1 .1 .1 .1 .1 .0, tt), ), ), )
+  s80 = λ bs. Make.n-struct-make (Apart.apartT Walked.the-type) T84 0 λ m. (
+    Bool'.false,
+    (
+      m .1 .1 .1 .1 .1 .1 .1 .1 .1 .1 .1 .1 .1 .1 .1 .1 .1 .0,
+      (
+        m .1 .1 .1 .1 .1 .1 .1 .1 .1 .1 .1 .1 .1 .1 .0,
+        (m .1 .1 .1 .1 .1 .1 .1 .1 .1 .1 .1 .1 .1 .1 .1 .1 .0, tt),
+      ),
+    ),
+  )
 
   abbrev s81 : (bs : List.List Nat.ℕ) → Typed.Mo T85 → Typed.Mo T86
   s81 = λ bs. Scalar.n-room T85 14 (Syntax.tyStruct (List._∷_ 98 (List._∷_ 105 (List._∷_ 116 (List._∷_ 115 (List._∷_ 58 (List._∷_ 58 (List._∷_ 66 (List._∷_ 105 (List._∷_ 116 (List._∷_ 80 (List._∷_ 111
@@ -2326,7 +4299,9 @@ module _ (claims· : Claims) where
 
   abbrev s95 : (bs : List.List Nat.ℕ) → Typed.Both T79 T100
   s95 = λ bs. WayStmt.k-way-copy-out T79 (Row.out 19 (T79 .locals)) (λ u. Row.drop 19 (T79 .locals) u) 14 (Rows'.whole (Declared.row BitPosition.the-type)) (λ u. At.getAt (Lined.the-type .parts) 2
-      (Lined.struct .as-values (u .1 .1 .1 .1 .1 .1 .1 .1 .1 .1 .1 .1 .1 .1 .1 .1 .1 .1 .1 .0))) (λ T′. record { locals = Row.setRow 19 (19, Rows'.whole (Declared.row Lined.the-type)) T′; slots = List.[];
+      (Lined.struct .as-values (u .1 .1 .1 .1 .1 .1 .1 .1 .1 .1 .1 .1 .1 .1 .1 .1 .1 .1 .1 .0))) (λ T′. record {
+        locals = Row.setRow 19 (19, Rows'.whole (Declared.row Lined.the-type)) T′;
+        slots = List.[];
       }) (λ u T′ m′. Row.set 19 (19, Rows'.whole (Declared.row Lined.the-type)) (u .1 .1 .1 .1 .1 .1 .1 .1 .1 .1 .1 .1 .1 .1 .1 .1 .1 .1 .1 .0) T′ m′) (λ u. Unit) λ u. Unit
 
   abbrev s96 : (bs : List.List Nat.ℕ) → Typed.Mo T100 → Typed.Mo T101
@@ -2339,7 +4314,7 @@ module _ (claims· : Claims) where
       (Syntax.tcons (Syntax.tyInt Syntax.w64) Syntax.tnil)) Syntax.tnil))))
 
   abbrev s98 : (bs : List.List Nat.ℕ) → Typed.Both T102 T103
-  s98 = λ bs. Call.callB ps·9 r·9 (claims· .18) (claims· .19) T102 ( Num.vAt 16 λ x. x, (Num.vAt 17 λ x. x, (Bool.bAt 15 λ x. x, tt)), ) 16 List.[] (Syntax.tyInt Syntax.w64)
+  s98 = λ bs. Call.callB ps·9 r·9 (claims· .18) (claims· .19) T102 (Num.vAt 16 λ x. x, (Num.vAt 17 λ x. x, (Bool.bAt 15 λ x. x, tt))) 16 List.[] (Syntax.tyInt Syntax.w64)
 
   abbrev s100 : (bs : List.List Nat.ℕ) → Typed.Gives T103 T105
   s100 = λ bs. Reshare.k-sl-reshare (Referent.rtF (Referent.fInt Syntax.w16)) T103 3 38 2 12 (Syntax.tyRef (Syntax.named 2) Syntax.mut (Syntax.tyInt Syntax.w16)) (Syntax.tyRef Syntax.erased Syntax.imm
@@ -2360,10 +4335,40 @@ module _ (claims· : Claims) where
       (v .0))
 
   abbrev s105 : (bs : List.List Nat.ℕ) → Typed.Both T109 T110
-  s105 = λ bs. Call.callB ps·10 r·10 (claims· .20) (claims· .21) T109 ( record { pos = 39; ty = Syntax.tyRef Syntax.erased Syntax.imm (Syntax.tyInt Syntax.w16); ref = λ x. x; }, ( record { pos = 41;
-      ty = Syntax.tyRef Syntax.erased Syntax.mut (Syntax.tyInt Syntax.w16); ref = λ x. x; }, ( Num.vAt 13 λ x. x, ( Bool.bAt 12 λ x. x, ( record { pos = 7; ty = Syntax.tyRef (Syntax.named 5) Syntax.imm
-      (Syntax.tyArray (Syntax.tyInt Syntax.w16) 768); ref = λ x. x; }, ( record { pos = 8; st = List.[]; d = 0; at = λ x. x }, (record { pos = 9; st = List.[]; d = 0; at = λ x. x }, (Num.vAt 17 λ x. x,
-      tt)), ), ), ), ), ), ) 28 (List._∷_ 12 (List._∷_ 13 (List._∷_ 5 List.[]))) Syntax.tyUnit
+  s105 = λ bs. Call.callB ps·10 r·10 (claims· .20) (claims· .21) T109 (
+    record { pos = 39; ty = Syntax.tyRef Syntax.erased Syntax.imm (Syntax.tyInt Syntax.w16); ref = λ x. x },
+    (
+      record {
+        pos = 41;
+        ty = Syntax.tyRef Syntax.erased Syntax.mut (Syntax.tyInt Syntax.w16);
+        ref = λ x. x;
+      },
+      (
+        Num.vAt 13 λ x. x,
+        (
+          Bool.bAt 12 λ x. x,
+          (
+            record {
+              pos = 7;
+              ty = Syntax.tyRef (Syntax.named 5) Syntax.imm
+                  (Syntax.tyArray (Syntax.tyInt Syntax.w16) 768);
+              ref = λ x. x;
+            },
+            (
+              record { pos = 8; st = List.[]; d = 0; at = λ x. x },
+              (
+                record { pos = 9; st = List.[]; d = 0; at = λ x. x },
+                (
+                  Num.vAt 17 λ x. x,
+                  tt,
+                ),
+              ),
+            ),
+          ),
+        ),
+      ),
+    ),
+  ) 28 (List._∷_ 12 (List._∷_ 13 (List._∷_ 5 List.[]))) Syntax.tyUnit
 
   abbrev s106 : (bs : List.List Nat.ℕ) → Typed.Mo T110 → Typed.Mo T111
   s106 = λ bs. Scalar.n-room T110 39 (Syntax.tyStruct (List._∷_ 38 (List._∷_ 91 (List._∷_ 93 List.[]))) (Syntax.tcons (Syntax.tyRef Syntax.erased Syntax.imm (Syntax.tyInt Syntax.w16)) (Syntax.tcons
@@ -2393,8 +4398,20 @@ module _ (claims· : Claims) where
   s117 = λ bs. Scalar.n-room T121 20 Syntax.tyBool
 
   abbrev s118 : (bs : List.List Nat.ℕ) → Typed.Mo T32 → Typed.Mo T123
-  s118 = λ bs. Make.n-struct-make (Apart.apartT Walked.the-type) T32 0 λ m. ( Bool'.true, ( m .1 .1 .1 .1 .1 .1 .1 .1 .1 .1 .0, ( m .1 .1 .1 .1 .1 .1 .1 .1 .1 .1 .1 .1 .1 .1 .0, (m .1 .1 .1 .1 .1 .1
-      .1 .1 .1 .1 .1 .1 .1 .1 .1 .1 .0, tt), ), ), )
+  s118 = λ bs. Make.n-struct-make (Apart.apartT Walked.the-type) T32 0 λ m. (
+    Bool'.true,
+    (
+      m .1 .1 .1 .1 .1 .1 .1 .1 .1 .1 .0,
+      (
+        m .1 .1 .1 .1 .1 .1 .1 .1 .1 .1 .1 .1 .1 .1 .0,
+        (
+          m .1 .1 .1 .1 .1 .1
+              .1 .1 .1 .1 .1 .1 .1 .1 .1 .1 .0,
+          tt,
+        ),
+      ),
+    ),
+  )
 
   abbrev s119 : (bs : List.List Nat.ℕ) → Typed.Mo T123 → Typed.Mo T124
   s119 = λ bs. Scalar.n-room T123 11 (Syntax.tyInt Syntax.w32)
@@ -2426,12 +4443,22 @@ module _ (claims· : Claims) where
 
   abbrev put0 : List.List (Referent.rtF (Referent.fInt Syntax.w16) .Denot) × List.List (Element.type .Denot) × List.List (Referent.rtF (Referent.fInt Syntax.w16) .Denot) × Rows'.whole (Declared.row
       BitPosition.the-type) .Mod × Rows'.sc-here Row.sBool .Mod × Rows'.sc-here (Row.sInt Syntax.w64) .Mod × Rows'.sc-here (Row.sInt Syntax.w64) .Mod → Typed.Mo T33 → Typed.Mo T33
-  put0 = λ vs u. Row.set 17 (17, Rows'.sc-here (Row.sInt Syntax.w64)) (vs .6) (T33 .locals) (Row.set 16 (16, Rows'.sc-here (Row.sInt Syntax.w64)) (vs .5) (T33 .locals) (Row.set 15 ( 15, Rows'.sc-here
-      Row.sBool, ) (vs .4) (T33 .locals) (Row.set 14 (14, Rows'.whole (Declared.row BitPosition.the-type)) (vs .3) (T33 .locals) (Row.set 5 ( 5, Mut.mslice (Referent.rtF (Referent.fInt Syntax.w16))
-      (Syntax.tyRef (Syntax.named 4) Syntax.mut (Syntax.tyInt Syntax.w16)) 4, ) record { ptr = Row.get 5 (T33 .locals) u .ptr; name = Row.get 5 (T33 .locals) u .name; now = vs .2; } (T33 .locals) (Row.set
-      4 ( 4, Mut.mslice (Element.type) (Syntax.tyRef (Syntax.named 3) Syntax.mut Element.behind) 3, ) record { ptr = Row.get 4 (T33 .locals) u .ptr; name = Row.get 4 (T33 .locals) u .name; now = vs .1; }
-      (T33 .locals) (Row.set 3 ( 3, Mut.mslice (Referent.rtF (Referent.fInt Syntax.w16)) (Syntax.tyRef (Syntax.named 2) Syntax.mut (Syntax.tyInt Syntax.w16)) 2, ) record { ptr = Row.get 3 (T33 .locals) u
-      .ptr; name = Row.get 3 (T33 .locals) u .name; now = vs .0; } (T33 .locals) u))))))
+  put0 = λ vs u. Row.set 17 (17, Rows'.sc-here (Row.sInt Syntax.w64)) (vs .6) (T33 .locals) (Row.set 16 (16, Rows'.sc-here (Row.sInt Syntax.w64)) (vs .5) (T33 .locals) (Row.set 15 (
+    15,
+    Rows'.sc-here
+        Row.sBool,
+  ) (vs .4) (T33 .locals) (Row.set 14 (14, Rows'.whole (Declared.row BitPosition.the-type)) (vs .3) (T33 .locals) (Row.set 5 (
+    5,
+    Mut.mslice (Referent.rtF (Referent.fInt Syntax.w16))
+        (Syntax.tyRef (Syntax.named 4) Syntax.mut (Syntax.tyInt Syntax.w16)) 4,
+  ) record { ptr = Row.get 5 (T33 .locals) u .ptr; name = Row.get 5 (T33 .locals) u .name; now = vs .2 } (T33 .locals) (Row.set
+      4 (4, Mut.mslice (Element.type) (Syntax.tyRef (Syntax.named 3) Syntax.mut Element.behind) 3) record { ptr = Row.get 4 (T33 .locals) u .ptr; name = Row.get 4 (T33 .locals) u .name; now = vs .1 }
+      (T33 .locals) (Row.set 3 (3, Mut.mslice (Referent.rtF (Referent.fInt Syntax.w16)) (Syntax.tyRef (Syntax.named 2) Syntax.mut (Syntax.tyInt Syntax.w16)) 2) record {
+        ptr = Row.get 3 (T33 .locals) u
+            .ptr;
+        name = Row.get 3 (T33 .locals) u .name;
+        now = vs .0;
+      } (T33 .locals) u))))))
 
   module _ (Pre· : (κs : Lifetimes.Lfts 6) → Kinds.Dens κs ps → Type 0) (Post· : (κs : Lifetimes.Lfts 6) → (a : Kinds.Dens κs ps) → Kinds.Plain 6 ps r κs) where
     module _ (M : Type 1) where
@@ -2878,812 +4905,1416 @@ module _ (claims· : Claims) where
 
       module _ (κs : Lifetimes.Lfts 6) (qs : Lifetimes.Shares 6) where
         abbrev g7 : List.List Row.Entry
-        g7 = List._∷_ ( 0, Rows'.any-gone (Syntax.tyStruct (List._∷_ 98 (List._∷_ 108 (List._∷_ 111 (List._∷_ 99 (List._∷_ 107 (List._∷_ 58 (List._∷_ 58 (List._∷_ 87 (List._∷_ 97 (List._∷_ 108
-            (List._∷_ 107 (List._∷_ 101 (List._∷_ 100 List.[]))))))))))))) (Syntax.tcons Syntax.tyBool (Syntax.tcons (Syntax.tyInt Syntax.w64) (Syntax.tcons (Syntax.tyStruct (List._∷_ 98 (List._∷_ 105
-            (List._∷_ 116 (List._∷_ 115 (List._∷_ 58 (List._∷_ 58 (List._∷_ 66 (List._∷_ 105 (List._∷_ 116 (List._∷_ 80 (List._∷_ 111 (List._∷_ 115 (List._∷_ 105 (List._∷_ 116 (List._∷_ 105 (List._∷_ 111
-            (List._∷_ 110 List.[]))))))))))))))))) (Syntax.tcons (Syntax.tyInt Syntax.w64) Syntax.tnil)) (Syntax.tcons (Syntax.tyInt Syntax.w64) Syntax.tnil))))), ) (List._∷_ ( 1, Rows'.sslice
-            (Referent.rtF (Referent.fInt Syntax.w8)) (Syntax.tyRef (Syntax.named 0) Syntax.imm (Syntax.tyInt Syntax.w8)) 0, ) (List._∷_ ( 2, Rows'.sslice (Referent.rtF (Referent.fInt Syntax.w8))
-            (Syntax.tyRef (Syntax.named 1) Syntax.imm (Syntax.tyInt Syntax.w8)) 1, ) (List._∷_ ( 3, Relend.mslice-owed (Referent.rtF (Referent.fInt Syntax.w16)) (Syntax.tyRef (Syntax.named 2) Syntax.mut
-            (Syntax.tyInt Syntax.w16)) 2 6 (Row.lease (κs .1 .1 .0) (qs .1 .1 .0)), ) (List._∷_ ( 4, Mut.mslice (Element.type) (Syntax.tyRef (Syntax.named 3) Syntax.mut Element.behind) 3, ) (List._∷_ ( 5,
-            Mut.mslice (Referent.rtF (Referent.fInt Syntax.w16)) (Syntax.tyRef (Syntax.named 4) Syntax.mut (Syntax.tyInt Syntax.w16)) 4, ) (List._∷_ (6, Rows'.whole (Declared.row Form.the-type)) (List._∷_
-            ( 7, Rows'.sref (Array'.Array (Referent.rtF (Referent.fInt Syntax.w16)) 768) (Syntax.tyRef (Syntax.named 5) Syntax.imm (Syntax.tyArray (Syntax.tyInt Syntax.w16) 768)) 5, ) (List._∷_ (8,
-            Rows.arrF (Referent.rtF (Referent.fInt Syntax.w8)) 36 0) (List._∷_ ( 9, Rows'.whole (Declared.row Part.the-type), ) (List._∷_ (10, Rows'.sc-here (Row.sInt Syntax.w64)) (List._∷_ ( 11,
-            Rows'.sc-here (Row.sInt Syntax.w32), ) (List._∷_ (12, Rows'.sc-here Row.sBool) (List._∷_ ( 13, Rows'.sc-here (Row.sInt Syntax.w64), ) (List._∷_ ( 14, Rows'.any-gone (Syntax.tyStruct (List._∷_
-            98 (List._∷_ 105 (List._∷_ 116 (List._∷_ 115 (List._∷_ 58 (List._∷_ 58 (List._∷_ 66 (List._∷_ 105 (List._∷_ 116 (List._∷_ 80 (List._∷_ 111 (List._∷_ 115 (List._∷_ 105 (List._∷_ 116 (List._∷_
-            105 (List._∷_ 111 (List._∷_ 110 List.[]))))))))))))))))) (Syntax.tcons (Syntax.tyInt Syntax.w64) Syntax.tnil)), ) (List._∷_ (15, Rows'.any-gone Syntax.tyBool) List.[])))))))))))))))
+        g7 = List._∷_ (
+          0,
+          Rows'.any-gone (Syntax.tyStruct (List._∷_ 98 (List._∷_ 108 (List._∷_ 111 (List._∷_ 99 (List._∷_ 107 (List._∷_ 58 (List._∷_ 58 (List._∷_ 87 (List._∷_ 97 (List._∷_ 108
+              (List._∷_ 107 (List._∷_ 101 (List._∷_ 100 List.[]))))))))))))) (Syntax.tcons Syntax.tyBool (Syntax.tcons (Syntax.tyInt Syntax.w64) (Syntax.tcons (Syntax.tyStruct (List._∷_ 98 (List._∷_ 105
+              (List._∷_ 116 (List._∷_ 115 (List._∷_ 58 (List._∷_ 58 (List._∷_ 66 (List._∷_ 105 (List._∷_ 116 (List._∷_ 80 (List._∷_ 111 (List._∷_ 115 (List._∷_ 105 (List._∷_ 116 (List._∷_ 105 (List._∷_ 111
+              (List._∷_ 110 List.[]))))))))))))))))) (Syntax.tcons (Syntax.tyInt Syntax.w64) Syntax.tnil)) (Syntax.tcons (Syntax.tyInt Syntax.w64) Syntax.tnil))))),
+        ) (List._∷_ (
+          1,
+          Rows'.sslice
+              (Referent.rtF (Referent.fInt Syntax.w8)) (Syntax.tyRef (Syntax.named 0) Syntax.imm (Syntax.tyInt Syntax.w8)) 0,
+        ) (List._∷_ (
+          2,
+          Rows'.sslice (Referent.rtF (Referent.fInt Syntax.w8))
+              (Syntax.tyRef (Syntax.named 1) Syntax.imm (Syntax.tyInt Syntax.w8)) 1,
+        ) (List._∷_ (
+          3,
+          Relend.mslice-owed (Referent.rtF (Referent.fInt Syntax.w16)) (Syntax.tyRef (Syntax.named 2) Syntax.mut
+              (Syntax.tyInt Syntax.w16)) 2 6 (Row.lease (κs .1 .1 .0) (qs .1 .1 .0)),
+        ) (List._∷_ (4, Mut.mslice (Element.type) (Syntax.tyRef (Syntax.named 3) Syntax.mut Element.behind) 3) (List._∷_ (
+          5,
+          Mut.mslice (Referent.rtF (Referent.fInt Syntax.w16)) (Syntax.tyRef (Syntax.named 4) Syntax.mut (Syntax.tyInt Syntax.w16)) 4,
+        ) (List._∷_ (6, Rows'.whole (Declared.row Form.the-type)) (List._∷_
+            (7, Rows'.sref (Array'.Array (Referent.rtF (Referent.fInt Syntax.w16)) 768) (Syntax.tyRef (Syntax.named 5) Syntax.imm (Syntax.tyArray (Syntax.tyInt Syntax.w16) 768)) 5) (List._∷_ (
+              8,
+              Rows.arrF (Referent.rtF (Referent.fInt Syntax.w8)) 36 0,
+            ) (List._∷_ (9, Rows'.whole (Declared.row Part.the-type)) (List._∷_ (10, Rows'.sc-here (Row.sInt Syntax.w64)) (List._∷_ (
+              11,
+              Rows'.sc-here (Row.sInt Syntax.w32),
+            ) (List._∷_ (12, Rows'.sc-here Row.sBool) (List._∷_ (13, Rows'.sc-here (Row.sInt Syntax.w64)) (List._∷_ (
+              14,
+              Rows'.any-gone (Syntax.tyStruct (List._∷_
+                  98 (List._∷_ 105 (List._∷_ 116 (List._∷_ 115 (List._∷_ 58 (List._∷_ 58 (List._∷_ 66 (List._∷_ 105 (List._∷_ 116 (List._∷_ 80 (List._∷_ 111 (List._∷_ 115 (List._∷_ 105 (List._∷_ 116 (List._∷_
+                  105 (List._∷_ 111 (List._∷_ 110 List.[]))))))))))))))))) (Syntax.tcons (Syntax.tyInt Syntax.w64) Syntax.tnil)),
+            ) (List._∷_ (15, Rows'.any-gone Syntax.tyBool) List.[])))))))))))))))
 
         abbrev g12 : List.List Row.Entry
-        g12 = List._∷_ ( 0, Rows'.any-gone (Syntax.tyStruct (List._∷_ 98 (List._∷_ 108 (List._∷_ 111 (List._∷_ 99 (List._∷_ 107 (List._∷_ 58 (List._∷_ 58 (List._∷_ 87 (List._∷_ 97 (List._∷_ 108
-            (List._∷_ 107 (List._∷_ 101 (List._∷_ 100 List.[]))))))))))))) (Syntax.tcons Syntax.tyBool (Syntax.tcons (Syntax.tyInt Syntax.w64) (Syntax.tcons (Syntax.tyStruct (List._∷_ 98 (List._∷_ 105
-            (List._∷_ 116 (List._∷_ 115 (List._∷_ 58 (List._∷_ 58 (List._∷_ 66 (List._∷_ 105 (List._∷_ 116 (List._∷_ 80 (List._∷_ 111 (List._∷_ 115 (List._∷_ 105 (List._∷_ 116 (List._∷_ 105 (List._∷_ 111
-            (List._∷_ 110 List.[]))))))))))))))))) (Syntax.tcons (Syntax.tyInt Syntax.w64) Syntax.tnil)) (Syntax.tcons (Syntax.tyInt Syntax.w64) Syntax.tnil))))), ) (List._∷_ ( 1, Rows'.sslice
-            (Referent.rtF (Referent.fInt Syntax.w8)) (Syntax.tyRef (Syntax.named 0) Syntax.imm (Syntax.tyInt Syntax.w8)) 0, ) (List._∷_ ( 2, Rows'.sslice (Referent.rtF (Referent.fInt Syntax.w8))
-            (Syntax.tyRef (Syntax.named 1) Syntax.imm (Syntax.tyInt Syntax.w8)) 1, ) (List._∷_ ( 3, Mut.mslice (Referent.rtF (Referent.fInt Syntax.w16)) (Syntax.tyRef (Syntax.named 2) Syntax.mut
-            (Syntax.tyInt Syntax.w16)) 2, ) (List._∷_ ( 4, Relend.mslice-owed (Element.type) (Syntax.tyRef (Syntax.named 3) Syntax.mut Element.behind) 3 7 (Row.lease (κs .1 .1 .1 .0) (qs .1 .1 .1 .0)), )
-            (List._∷_ ( 5, Mut.mslice (Referent.rtF (Referent.fInt Syntax.w16)) (Syntax.tyRef (Syntax.named 4) Syntax.mut (Syntax.tyInt Syntax.w16)) 4, ) (List._∷_ (6, Rows'.whole (Declared.row
-            Form.the-type)) (List._∷_ ( 7, Rows'.sref (Array'.Array (Referent.rtF (Referent.fInt Syntax.w16)) 768) (Syntax.tyRef (Syntax.named 5) Syntax.imm (Syntax.tyArray (Syntax.tyInt Syntax.w16) 768))
-            5, ) (List._∷_ (8, Rows.arrF (Referent.rtF (Referent.fInt Syntax.w8)) 36 0) (List._∷_ ( 9, Rows'.whole (Declared.row Part.the-type), ) (List._∷_ (10, Rows'.sc-here (Row.sInt Syntax.w64))
-            (List._∷_ ( 11, Rows'.sc-here (Row.sInt Syntax.w32), ) (List._∷_ (12, Rows'.sc-here Row.sBool) (List._∷_ ( 13, Rows'.sc-here (Row.sInt Syntax.w64), ) (List._∷_ ( 14, Rows'.any-gone
-            (Syntax.tyStruct (List._∷_ 98 (List._∷_ 105 (List._∷_ 116 (List._∷_ 115 (List._∷_ 58 (List._∷_ 58 (List._∷_ 66 (List._∷_ 105 (List._∷_ 116 (List._∷_ 80 (List._∷_ 111 (List._∷_ 115 (List._∷_
-            105 (List._∷_ 116 (List._∷_ 105 (List._∷_ 111 (List._∷_ 110 List.[]))))))))))))))))) (Syntax.tcons (Syntax.tyInt Syntax.w64) Syntax.tnil)), ) (List._∷_ (15, Rows'.any-gone Syntax.tyBool)
+        g12 = List._∷_ (
+          0,
+          Rows'.any-gone (Syntax.tyStruct (List._∷_ 98 (List._∷_ 108 (List._∷_ 111 (List._∷_ 99 (List._∷_ 107 (List._∷_ 58 (List._∷_ 58 (List._∷_ 87 (List._∷_ 97 (List._∷_ 108
+              (List._∷_ 107 (List._∷_ 101 (List._∷_ 100 List.[]))))))))))))) (Syntax.tcons Syntax.tyBool (Syntax.tcons (Syntax.tyInt Syntax.w64) (Syntax.tcons (Syntax.tyStruct (List._∷_ 98 (List._∷_ 105
+              (List._∷_ 116 (List._∷_ 115 (List._∷_ 58 (List._∷_ 58 (List._∷_ 66 (List._∷_ 105 (List._∷_ 116 (List._∷_ 80 (List._∷_ 111 (List._∷_ 115 (List._∷_ 105 (List._∷_ 116 (List._∷_ 105 (List._∷_ 111
+              (List._∷_ 110 List.[]))))))))))))))))) (Syntax.tcons (Syntax.tyInt Syntax.w64) Syntax.tnil)) (Syntax.tcons (Syntax.tyInt Syntax.w64) Syntax.tnil))))),
+        ) (List._∷_ (
+          1,
+          Rows'.sslice
+              (Referent.rtF (Referent.fInt Syntax.w8)) (Syntax.tyRef (Syntax.named 0) Syntax.imm (Syntax.tyInt Syntax.w8)) 0,
+        ) (List._∷_ (
+          2,
+          Rows'.sslice (Referent.rtF (Referent.fInt Syntax.w8))
+              (Syntax.tyRef (Syntax.named 1) Syntax.imm (Syntax.tyInt Syntax.w8)) 1,
+        ) (List._∷_ (
+          3,
+          Mut.mslice (Referent.rtF (Referent.fInt Syntax.w16)) (Syntax.tyRef (Syntax.named 2) Syntax.mut
+              (Syntax.tyInt Syntax.w16)) 2,
+        ) (List._∷_ (4, Relend.mslice-owed (Element.type) (Syntax.tyRef (Syntax.named 3) Syntax.mut Element.behind) 3 7 (Row.lease (κs .1 .1 .1 .0) (qs .1 .1 .1 .0)))
+            (List._∷_ (5, Mut.mslice (Referent.rtF (Referent.fInt Syntax.w16)) (Syntax.tyRef (Syntax.named 4) Syntax.mut (Syntax.tyInt Syntax.w16)) 4) (List._∷_ (
+              6,
+              Rows'.whole (Declared.row
+                  Form.the-type),
+            ) (List._∷_ (
+              7,
+              Rows'.sref (Array'.Array (Referent.rtF (Referent.fInt Syntax.w16)) 768) (Syntax.tyRef (Syntax.named 5) Syntax.imm (Syntax.tyArray (Syntax.tyInt Syntax.w16) 768))
+                  5,
+            ) (List._∷_ (8, Rows.arrF (Referent.rtF (Referent.fInt Syntax.w8)) 36 0) (List._∷_ (9, Rows'.whole (Declared.row Part.the-type)) (List._∷_ (10, Rows'.sc-here (Row.sInt Syntax.w64))
+            (List._∷_ (11, Rows'.sc-here (Row.sInt Syntax.w32)) (List._∷_ (12, Rows'.sc-here Row.sBool) (List._∷_ (13, Rows'.sc-here (Row.sInt Syntax.w64)) (List._∷_ (
+              14,
+              Rows'.any-gone
+                  (Syntax.tyStruct (List._∷_ 98 (List._∷_ 105 (List._∷_ 116 (List._∷_ 115 (List._∷_ 58 (List._∷_ 58 (List._∷_ 66 (List._∷_ 105 (List._∷_ 116 (List._∷_ 80 (List._∷_ 111 (List._∷_ 115 (List._∷_
+                  105 (List._∷_ 116 (List._∷_ 105 (List._∷_ 111 (List._∷_ 110 List.[]))))))))))))))))) (Syntax.tcons (Syntax.tyInt Syntax.w64) Syntax.tnil)),
+            ) (List._∷_ (15, Rows'.any-gone Syntax.tyBool)
             List.[])))))))))))))))
 
         abbrev g28 : List.List Row.Entry
-        g28 = List._∷_ ( 0, Rows'.any-gone (Syntax.tyStruct (List._∷_ 98 (List._∷_ 108 (List._∷_ 111 (List._∷_ 99 (List._∷_ 107 (List._∷_ 58 (List._∷_ 58 (List._∷_ 87 (List._∷_ 97 (List._∷_ 108
-            (List._∷_ 107 (List._∷_ 101 (List._∷_ 100 List.[]))))))))))))) (Syntax.tcons Syntax.tyBool (Syntax.tcons (Syntax.tyInt Syntax.w64) (Syntax.tcons (Syntax.tyStruct (List._∷_ 98 (List._∷_ 105
-            (List._∷_ 116 (List._∷_ 115 (List._∷_ 58 (List._∷_ 58 (List._∷_ 66 (List._∷_ 105 (List._∷_ 116 (List._∷_ 80 (List._∷_ 111 (List._∷_ 115 (List._∷_ 105 (List._∷_ 116 (List._∷_ 105 (List._∷_ 111
-            (List._∷_ 110 List.[]))))))))))))))))) (Syntax.tcons (Syntax.tyInt Syntax.w64) Syntax.tnil)) (Syntax.tcons (Syntax.tyInt Syntax.w64) Syntax.tnil))))), ) (List._∷_ ( 1, Rows'.sslice
-            (Referent.rtF (Referent.fInt Syntax.w8)) (Syntax.tyRef (Syntax.named 0) Syntax.imm (Syntax.tyInt Syntax.w8)) 0, ) (List._∷_ ( 2, Rows'.sslice (Referent.rtF (Referent.fInt Syntax.w8))
-            (Syntax.tyRef (Syntax.named 1) Syntax.imm (Syntax.tyInt Syntax.w8)) 1, ) (List._∷_ ( 3, Relend.mslice-owed (Referent.rtF (Referent.fInt Syntax.w16)) (Syntax.tyRef (Syntax.named 2) Syntax.mut
-            (Syntax.tyInt Syntax.w16)) 2 8 (Row.lease (κs .1 .1 .0) (qs .1 .1 .0)), ) (List._∷_ ( 4, Mut.mslice (Element.type) (Syntax.tyRef (Syntax.named 3) Syntax.mut Element.behind) 3, ) (List._∷_ ( 5,
-            Mut.mslice (Referent.rtF (Referent.fInt Syntax.w16)) (Syntax.tyRef (Syntax.named 4) Syntax.mut (Syntax.tyInt Syntax.w16)) 4, ) (List._∷_ (6, Rows'.whole (Declared.row Form.the-type)) (List._∷_
-            ( 7, Rows'.sref (Array'.Array (Referent.rtF (Referent.fInt Syntax.w16)) 768) (Syntax.tyRef (Syntax.named 5) Syntax.imm (Syntax.tyArray (Syntax.tyInt Syntax.w16) 768)) 5, ) (List._∷_ (8,
-            Rows.arrF (Referent.rtF (Referent.fInt Syntax.w8)) 36 0) (List._∷_ ( 9, Rows'.whole (Declared.row Part.the-type), ) (List._∷_ (10, Rows'.sc-here (Row.sInt Syntax.w64)) (List._∷_ ( 11,
-            Rows'.sc-here (Row.sInt Syntax.w32), ) (List._∷_ (12, Rows'.sc-here Row.sBool) (List._∷_ ( 13, Rows'.sc-here (Row.sInt Syntax.w64), ) (List._∷_ (14, Rows'.whole (Declared.row
-            BitPosition.the-type)) (List._∷_ ( 15, Rows'.sc-here Row.sBool, ) List.[])))))))))))))))
+        g28 = List._∷_ (
+          0,
+          Rows'.any-gone (Syntax.tyStruct (List._∷_ 98 (List._∷_ 108 (List._∷_ 111 (List._∷_ 99 (List._∷_ 107 (List._∷_ 58 (List._∷_ 58 (List._∷_ 87 (List._∷_ 97 (List._∷_ 108
+              (List._∷_ 107 (List._∷_ 101 (List._∷_ 100 List.[]))))))))))))) (Syntax.tcons Syntax.tyBool (Syntax.tcons (Syntax.tyInt Syntax.w64) (Syntax.tcons (Syntax.tyStruct (List._∷_ 98 (List._∷_ 105
+              (List._∷_ 116 (List._∷_ 115 (List._∷_ 58 (List._∷_ 58 (List._∷_ 66 (List._∷_ 105 (List._∷_ 116 (List._∷_ 80 (List._∷_ 111 (List._∷_ 115 (List._∷_ 105 (List._∷_ 116 (List._∷_ 105 (List._∷_ 111
+              (List._∷_ 110 List.[]))))))))))))))))) (Syntax.tcons (Syntax.tyInt Syntax.w64) Syntax.tnil)) (Syntax.tcons (Syntax.tyInt Syntax.w64) Syntax.tnil))))),
+        ) (List._∷_ (
+          1,
+          Rows'.sslice
+              (Referent.rtF (Referent.fInt Syntax.w8)) (Syntax.tyRef (Syntax.named 0) Syntax.imm (Syntax.tyInt Syntax.w8)) 0,
+        ) (List._∷_ (
+          2,
+          Rows'.sslice (Referent.rtF (Referent.fInt Syntax.w8))
+              (Syntax.tyRef (Syntax.named 1) Syntax.imm (Syntax.tyInt Syntax.w8)) 1,
+        ) (List._∷_ (
+          3,
+          Relend.mslice-owed (Referent.rtF (Referent.fInt Syntax.w16)) (Syntax.tyRef (Syntax.named 2) Syntax.mut
+              (Syntax.tyInt Syntax.w16)) 2 8 (Row.lease (κs .1 .1 .0) (qs .1 .1 .0)),
+        ) (List._∷_ (4, Mut.mslice (Element.type) (Syntax.tyRef (Syntax.named 3) Syntax.mut Element.behind) 3) (List._∷_ (
+          5,
+          Mut.mslice (Referent.rtF (Referent.fInt Syntax.w16)) (Syntax.tyRef (Syntax.named 4) Syntax.mut (Syntax.tyInt Syntax.w16)) 4,
+        ) (List._∷_ (6, Rows'.whole (Declared.row Form.the-type)) (List._∷_
+            (7, Rows'.sref (Array'.Array (Referent.rtF (Referent.fInt Syntax.w16)) 768) (Syntax.tyRef (Syntax.named 5) Syntax.imm (Syntax.tyArray (Syntax.tyInt Syntax.w16) 768)) 5) (List._∷_ (
+              8,
+              Rows.arrF (Referent.rtF (Referent.fInt Syntax.w8)) 36 0,
+            ) (List._∷_ (9, Rows'.whole (Declared.row Part.the-type)) (List._∷_ (10, Rows'.sc-here (Row.sInt Syntax.w64)) (List._∷_ (
+              11,
+              Rows'.sc-here (Row.sInt Syntax.w32),
+            ) (List._∷_ (12, Rows'.sc-here Row.sBool) (List._∷_ (13, Rows'.sc-here (Row.sInt Syntax.w64)) (List._∷_ (
+              14,
+              Rows'.whole (Declared.row
+                  BitPosition.the-type),
+            ) (List._∷_ (15, Rows'.sc-here Row.sBool) List.[])))))))))))))))
 
         abbrev g34 : List.List Row.Entry
-        g34 = List._∷_ ( 0, Rows'.any-gone (Syntax.tyStruct (List._∷_ 98 (List._∷_ 108 (List._∷_ 111 (List._∷_ 99 (List._∷_ 107 (List._∷_ 58 (List._∷_ 58 (List._∷_ 87 (List._∷_ 97 (List._∷_ 108
-            (List._∷_ 107 (List._∷_ 101 (List._∷_ 100 List.[]))))))))))))) (Syntax.tcons Syntax.tyBool (Syntax.tcons (Syntax.tyInt Syntax.w64) (Syntax.tcons (Syntax.tyStruct (List._∷_ 98 (List._∷_ 105
-            (List._∷_ 116 (List._∷_ 115 (List._∷_ 58 (List._∷_ 58 (List._∷_ 66 (List._∷_ 105 (List._∷_ 116 (List._∷_ 80 (List._∷_ 111 (List._∷_ 115 (List._∷_ 105 (List._∷_ 116 (List._∷_ 105 (List._∷_ 111
-            (List._∷_ 110 List.[]))))))))))))))))) (Syntax.tcons (Syntax.tyInt Syntax.w64) Syntax.tnil)) (Syntax.tcons (Syntax.tyInt Syntax.w64) Syntax.tnil))))), ) (List._∷_ ( 1, Rows'.sslice
-            (Referent.rtF (Referent.fInt Syntax.w8)) (Syntax.tyRef (Syntax.named 0) Syntax.imm (Syntax.tyInt Syntax.w8)) 0, ) (List._∷_ ( 2, Rows'.sslice (Referent.rtF (Referent.fInt Syntax.w8))
-            (Syntax.tyRef (Syntax.named 1) Syntax.imm (Syntax.tyInt Syntax.w8)) 1, ) (List._∷_ ( 3, Mut.mslice (Referent.rtF (Referent.fInt Syntax.w16)) (Syntax.tyRef (Syntax.named 2) Syntax.mut
-            (Syntax.tyInt Syntax.w16)) 2, ) (List._∷_ ( 4, Relend.mslice-owed (Element.type) (Syntax.tyRef (Syntax.named 3) Syntax.mut Element.behind) 3 9 (Row.lease (κs .1 .1 .1 .0) (qs .1 .1 .1 .0)), )
-            (List._∷_ ( 5, Mut.mslice (Referent.rtF (Referent.fInt Syntax.w16)) (Syntax.tyRef (Syntax.named 4) Syntax.mut (Syntax.tyInt Syntax.w16)) 4, ) (List._∷_ (6, Rows'.whole (Declared.row
-            Form.the-type)) (List._∷_ ( 7, Rows'.sref (Array'.Array (Referent.rtF (Referent.fInt Syntax.w16)) 768) (Syntax.tyRef (Syntax.named 5) Syntax.imm (Syntax.tyArray (Syntax.tyInt Syntax.w16) 768))
-            5, ) (List._∷_ (8, Rows.arrF (Referent.rtF (Referent.fInt Syntax.w8)) 36 0) (List._∷_ ( 9, Rows'.whole (Declared.row Part.the-type), ) (List._∷_ (10, Rows'.sc-here (Row.sInt Syntax.w64))
-            (List._∷_ ( 11, Rows'.sc-here (Row.sInt Syntax.w32), ) (List._∷_ (12, Rows'.sc-here Row.sBool) (List._∷_ ( 13, Rows'.sc-here (Row.sInt Syntax.w64), ) (List._∷_ (14, Rows'.whole (Declared.row
-            BitPosition.the-type)) (List._∷_ ( 15, Rows'.sc-here Row.sBool, ) List.[])))))))))))))))
+        g34 = List._∷_ (
+          0,
+          Rows'.any-gone (Syntax.tyStruct (List._∷_ 98 (List._∷_ 108 (List._∷_ 111 (List._∷_ 99 (List._∷_ 107 (List._∷_ 58 (List._∷_ 58 (List._∷_ 87 (List._∷_ 97 (List._∷_ 108
+              (List._∷_ 107 (List._∷_ 101 (List._∷_ 100 List.[]))))))))))))) (Syntax.tcons Syntax.tyBool (Syntax.tcons (Syntax.tyInt Syntax.w64) (Syntax.tcons (Syntax.tyStruct (List._∷_ 98 (List._∷_ 105
+              (List._∷_ 116 (List._∷_ 115 (List._∷_ 58 (List._∷_ 58 (List._∷_ 66 (List._∷_ 105 (List._∷_ 116 (List._∷_ 80 (List._∷_ 111 (List._∷_ 115 (List._∷_ 105 (List._∷_ 116 (List._∷_ 105 (List._∷_ 111
+              (List._∷_ 110 List.[]))))))))))))))))) (Syntax.tcons (Syntax.tyInt Syntax.w64) Syntax.tnil)) (Syntax.tcons (Syntax.tyInt Syntax.w64) Syntax.tnil))))),
+        ) (List._∷_ (
+          1,
+          Rows'.sslice
+              (Referent.rtF (Referent.fInt Syntax.w8)) (Syntax.tyRef (Syntax.named 0) Syntax.imm (Syntax.tyInt Syntax.w8)) 0,
+        ) (List._∷_ (
+          2,
+          Rows'.sslice (Referent.rtF (Referent.fInt Syntax.w8))
+              (Syntax.tyRef (Syntax.named 1) Syntax.imm (Syntax.tyInt Syntax.w8)) 1,
+        ) (List._∷_ (
+          3,
+          Mut.mslice (Referent.rtF (Referent.fInt Syntax.w16)) (Syntax.tyRef (Syntax.named 2) Syntax.mut
+              (Syntax.tyInt Syntax.w16)) 2,
+        ) (List._∷_ (4, Relend.mslice-owed (Element.type) (Syntax.tyRef (Syntax.named 3) Syntax.mut Element.behind) 3 9 (Row.lease (κs .1 .1 .1 .0) (qs .1 .1 .1 .0)))
+            (List._∷_ (5, Mut.mslice (Referent.rtF (Referent.fInt Syntax.w16)) (Syntax.tyRef (Syntax.named 4) Syntax.mut (Syntax.tyInt Syntax.w16)) 4) (List._∷_ (
+              6,
+              Rows'.whole (Declared.row
+                  Form.the-type),
+            ) (List._∷_ (
+              7,
+              Rows'.sref (Array'.Array (Referent.rtF (Referent.fInt Syntax.w16)) 768) (Syntax.tyRef (Syntax.named 5) Syntax.imm (Syntax.tyArray (Syntax.tyInt Syntax.w16) 768))
+                  5,
+            ) (List._∷_ (8, Rows.arrF (Referent.rtF (Referent.fInt Syntax.w8)) 36 0) (List._∷_ (9, Rows'.whole (Declared.row Part.the-type)) (List._∷_ (10, Rows'.sc-here (Row.sInt Syntax.w64))
+            (List._∷_ (11, Rows'.sc-here (Row.sInt Syntax.w32)) (List._∷_ (12, Rows'.sc-here Row.sBool) (List._∷_ (13, Rows'.sc-here (Row.sInt Syntax.w64)) (List._∷_ (
+              14,
+              Rows'.whole (Declared.row
+                  BitPosition.the-type),
+            ) (List._∷_ (15, Rows'.sc-here Row.sBool) List.[])))))))))))))))
 
         abbrev g41 : List.List Row.Entry
-        g41 = List._∷_ ( 0, Rows'.any-gone (Syntax.tyStruct (List._∷_ 98 (List._∷_ 108 (List._∷_ 111 (List._∷_ 99 (List._∷_ 107 (List._∷_ 58 (List._∷_ 58 (List._∷_ 87 (List._∷_ 97 (List._∷_ 108
-            (List._∷_ 107 (List._∷_ 101 (List._∷_ 100 List.[]))))))))))))) (Syntax.tcons Syntax.tyBool (Syntax.tcons (Syntax.tyInt Syntax.w64) (Syntax.tcons (Syntax.tyStruct (List._∷_ 98 (List._∷_ 105
-            (List._∷_ 116 (List._∷_ 115 (List._∷_ 58 (List._∷_ 58 (List._∷_ 66 (List._∷_ 105 (List._∷_ 116 (List._∷_ 80 (List._∷_ 111 (List._∷_ 115 (List._∷_ 105 (List._∷_ 116 (List._∷_ 105 (List._∷_ 111
-            (List._∷_ 110 List.[]))))))))))))))))) (Syntax.tcons (Syntax.tyInt Syntax.w64) Syntax.tnil)) (Syntax.tcons (Syntax.tyInt Syntax.w64) Syntax.tnil))))), ) (List._∷_ ( 1, Rows'.sslice
-            (Referent.rtF (Referent.fInt Syntax.w8)) (Syntax.tyRef (Syntax.named 0) Syntax.imm (Syntax.tyInt Syntax.w8)) 0, ) (List._∷_ ( 2, Rows'.sslice (Referent.rtF (Referent.fInt Syntax.w8))
-            (Syntax.tyRef (Syntax.named 1) Syntax.imm (Syntax.tyInt Syntax.w8)) 1, ) (List._∷_ ( 3, Relend.mslice-owed (Referent.rtF (Referent.fInt Syntax.w16)) (Syntax.tyRef (Syntax.named 2) Syntax.mut
-            (Syntax.tyInt Syntax.w16)) 2 10 (Row.lease (κs .1 .1 .0) (qs .1 .1 .0)), ) (List._∷_ ( 4, Mut.mslice (Element.type) (Syntax.tyRef (Syntax.named 3) Syntax.mut Element.behind) 3, ) (List._∷_ (
-            5, Mut.mslice (Referent.rtF (Referent.fInt Syntax.w16)) (Syntax.tyRef (Syntax.named 4) Syntax.mut (Syntax.tyInt Syntax.w16)) 4, ) (List._∷_ (6, Rows'.whole (Declared.row Form.the-type))
-            (List._∷_ ( 7, Rows'.sref (Array'.Array (Referent.rtF (Referent.fInt Syntax.w16)) 768) (Syntax.tyRef (Syntax.named 5) Syntax.imm (Syntax.tyArray (Syntax.tyInt Syntax.w16) 768)) 5, ) (List._∷_
-            (8, Rows.arrF (Referent.rtF (Referent.fInt Syntax.w8)) 36 0) (List._∷_ ( 9, Rows'.whole (Declared.row Part.the-type), ) (List._∷_ (10, Rows'.sc-here (Row.sInt Syntax.w64)) (List._∷_ ( 11,
-            Rows'.sc-here (Row.sInt Syntax.w32), ) (List._∷_ (12, Rows'.sc-here Row.sBool) (List._∷_ ( 13, Rows'.sc-here (Row.sInt Syntax.w64), ) (List._∷_ (14, Rows'.whole (Declared.row
-            BitPosition.the-type)) (List._∷_ ( 15, Rows'.sc-here Row.sBool, ) List.[])))))))))))))))
+        g41 = List._∷_ (
+          0,
+          Rows'.any-gone (Syntax.tyStruct (List._∷_ 98 (List._∷_ 108 (List._∷_ 111 (List._∷_ 99 (List._∷_ 107 (List._∷_ 58 (List._∷_ 58 (List._∷_ 87 (List._∷_ 97 (List._∷_ 108
+              (List._∷_ 107 (List._∷_ 101 (List._∷_ 100 List.[]))))))))))))) (Syntax.tcons Syntax.tyBool (Syntax.tcons (Syntax.tyInt Syntax.w64) (Syntax.tcons (Syntax.tyStruct (List._∷_ 98 (List._∷_ 105
+              (List._∷_ 116 (List._∷_ 115 (List._∷_ 58 (List._∷_ 58 (List._∷_ 66 (List._∷_ 105 (List._∷_ 116 (List._∷_ 80 (List._∷_ 111 (List._∷_ 115 (List._∷_ 105 (List._∷_ 116 (List._∷_ 105 (List._∷_ 111
+              (List._∷_ 110 List.[]))))))))))))))))) (Syntax.tcons (Syntax.tyInt Syntax.w64) Syntax.tnil)) (Syntax.tcons (Syntax.tyInt Syntax.w64) Syntax.tnil))))),
+        ) (List._∷_ (
+          1,
+          Rows'.sslice
+              (Referent.rtF (Referent.fInt Syntax.w8)) (Syntax.tyRef (Syntax.named 0) Syntax.imm (Syntax.tyInt Syntax.w8)) 0,
+        ) (List._∷_ (
+          2,
+          Rows'.sslice (Referent.rtF (Referent.fInt Syntax.w8))
+              (Syntax.tyRef (Syntax.named 1) Syntax.imm (Syntax.tyInt Syntax.w8)) 1,
+        ) (List._∷_ (
+          3,
+          Relend.mslice-owed (Referent.rtF (Referent.fInt Syntax.w16)) (Syntax.tyRef (Syntax.named 2) Syntax.mut
+              (Syntax.tyInt Syntax.w16)) 2 10 (Row.lease (κs .1 .1 .0) (qs .1 .1 .0)),
+        ) (List._∷_ (4, Mut.mslice (Element.type) (Syntax.tyRef (Syntax.named 3) Syntax.mut Element.behind) 3) (List._∷_ (
+          5,
+          Mut.mslice (Referent.rtF (Referent.fInt Syntax.w16)) (Syntax.tyRef (Syntax.named 4) Syntax.mut (Syntax.tyInt Syntax.w16)) 4,
+        ) (List._∷_ (6, Rows'.whole (Declared.row Form.the-type))
+            (List._∷_ (7, Rows'.sref (Array'.Array (Referent.rtF (Referent.fInt Syntax.w16)) 768) (Syntax.tyRef (Syntax.named 5) Syntax.imm (Syntax.tyArray (Syntax.tyInt Syntax.w16) 768)) 5) (List._∷_
+            (8, Rows.arrF (Referent.rtF (Referent.fInt Syntax.w8)) 36 0) (List._∷_ (9, Rows'.whole (Declared.row Part.the-type)) (List._∷_ (10, Rows'.sc-here (Row.sInt Syntax.w64)) (List._∷_ (
+              11,
+              Rows'.sc-here (Row.sInt Syntax.w32),
+            ) (List._∷_ (12, Rows'.sc-here Row.sBool) (List._∷_ (13, Rows'.sc-here (Row.sInt Syntax.w64)) (List._∷_ (
+              14,
+              Rows'.whole (Declared.row
+                  BitPosition.the-type),
+            ) (List._∷_ (15, Rows'.sc-here Row.sBool) List.[])))))))))))))))
 
         abbrev g44 : List.List Row.Entry
-        g44 = List._∷_ ( 0, Rows'.any-gone (Syntax.tyStruct (List._∷_ 98 (List._∷_ 108 (List._∷_ 111 (List._∷_ 99 (List._∷_ 107 (List._∷_ 58 (List._∷_ 58 (List._∷_ 87 (List._∷_ 97 (List._∷_ 108
-            (List._∷_ 107 (List._∷_ 101 (List._∷_ 100 List.[]))))))))))))) (Syntax.tcons Syntax.tyBool (Syntax.tcons (Syntax.tyInt Syntax.w64) (Syntax.tcons (Syntax.tyStruct (List._∷_ 98 (List._∷_ 105
-            (List._∷_ 116 (List._∷_ 115 (List._∷_ 58 (List._∷_ 58 (List._∷_ 66 (List._∷_ 105 (List._∷_ 116 (List._∷_ 80 (List._∷_ 111 (List._∷_ 115 (List._∷_ 105 (List._∷_ 116 (List._∷_ 105 (List._∷_ 111
-            (List._∷_ 110 List.[]))))))))))))))))) (Syntax.tcons (Syntax.tyInt Syntax.w64) Syntax.tnil)) (Syntax.tcons (Syntax.tyInt Syntax.w64) Syntax.tnil))))), ) (List._∷_ ( 1, Rows'.sslice
-            (Referent.rtF (Referent.fInt Syntax.w8)) (Syntax.tyRef (Syntax.named 0) Syntax.imm (Syntax.tyInt Syntax.w8)) 0, ) (List._∷_ ( 2, Rows'.sslice (Referent.rtF (Referent.fInt Syntax.w8))
-            (Syntax.tyRef (Syntax.named 1) Syntax.imm (Syntax.tyInt Syntax.w8)) 1, ) (List._∷_ ( 3, Relend.mslice-owed (Referent.rtF (Referent.fInt Syntax.w16)) (Syntax.tyRef (Syntax.named 2) Syntax.mut
-            (Syntax.tyInt Syntax.w16)) 2 10 (Row.lease (κs .1 .1 .0) (qs .1 .1 .0)), ) (List._∷_ ( 4, Relend.mslice-owed (Element.type) (Syntax.tyRef (Syntax.named 3) Syntax.mut Element.behind) 3 11
-            (Row.lease (κs .1 .1 .1 .0) (qs .1 .1 .1 .0)), ) (List._∷_ ( 5, Mut.mslice (Referent.rtF (Referent.fInt Syntax.w16)) (Syntax.tyRef (Syntax.named 4) Syntax.mut (Syntax.tyInt Syntax.w16)) 4, )
-            (List._∷_ (6, Rows'.whole (Declared.row Form.the-type)) (List._∷_ ( 7, Rows'.sref (Array'.Array (Referent.rtF (Referent.fInt Syntax.w16)) 768) (Syntax.tyRef (Syntax.named 5) Syntax.imm
-            (Syntax.tyArray (Syntax.tyInt Syntax.w16) 768)) 5, ) (List._∷_ (8, Rows.arrF (Referent.rtF (Referent.fInt Syntax.w8)) 36 0) (List._∷_ ( 9, Rows'.whole (Declared.row Part.the-type), ) (List._∷_
-            (10, Rows'.sc-here (Row.sInt Syntax.w64)) (List._∷_ ( 11, Rows'.sc-here (Row.sInt Syntax.w32), ) (List._∷_ (12, Rows'.sc-here Row.sBool) (List._∷_ ( 13, Rows'.sc-here (Row.sInt Syntax.w64), )
-            (List._∷_ (14, Rows'.whole (Declared.row BitPosition.the-type)) (List._∷_ ( 15, Rows'.sc-here Row.sBool, ) List.[])))))))))))))))
+        g44 = List._∷_ (
+          0,
+          Rows'.any-gone (Syntax.tyStruct (List._∷_ 98 (List._∷_ 108 (List._∷_ 111 (List._∷_ 99 (List._∷_ 107 (List._∷_ 58 (List._∷_ 58 (List._∷_ 87 (List._∷_ 97 (List._∷_ 108
+              (List._∷_ 107 (List._∷_ 101 (List._∷_ 100 List.[]))))))))))))) (Syntax.tcons Syntax.tyBool (Syntax.tcons (Syntax.tyInt Syntax.w64) (Syntax.tcons (Syntax.tyStruct (List._∷_ 98 (List._∷_ 105
+              (List._∷_ 116 (List._∷_ 115 (List._∷_ 58 (List._∷_ 58 (List._∷_ 66 (List._∷_ 105 (List._∷_ 116 (List._∷_ 80 (List._∷_ 111 (List._∷_ 115 (List._∷_ 105 (List._∷_ 116 (List._∷_ 105 (List._∷_ 111
+              (List._∷_ 110 List.[]))))))))))))))))) (Syntax.tcons (Syntax.tyInt Syntax.w64) Syntax.tnil)) (Syntax.tcons (Syntax.tyInt Syntax.w64) Syntax.tnil))))),
+        ) (List._∷_ (
+          1,
+          Rows'.sslice
+              (Referent.rtF (Referent.fInt Syntax.w8)) (Syntax.tyRef (Syntax.named 0) Syntax.imm (Syntax.tyInt Syntax.w8)) 0,
+        ) (List._∷_ (
+          2,
+          Rows'.sslice (Referent.rtF (Referent.fInt Syntax.w8))
+              (Syntax.tyRef (Syntax.named 1) Syntax.imm (Syntax.tyInt Syntax.w8)) 1,
+        ) (List._∷_ (
+          3,
+          Relend.mslice-owed (Referent.rtF (Referent.fInt Syntax.w16)) (Syntax.tyRef (Syntax.named 2) Syntax.mut
+              (Syntax.tyInt Syntax.w16)) 2 10 (Row.lease (κs .1 .1 .0) (qs .1 .1 .0)),
+        ) (List._∷_ (
+          4,
+          Relend.mslice-owed (Element.type) (Syntax.tyRef (Syntax.named 3) Syntax.mut Element.behind) 3 11
+              (Row.lease (κs .1 .1 .1 .0) (qs .1 .1 .1 .0)),
+        ) (List._∷_ (5, Mut.mslice (Referent.rtF (Referent.fInt Syntax.w16)) (Syntax.tyRef (Syntax.named 4) Syntax.mut (Syntax.tyInt Syntax.w16)) 4)
+            (List._∷_ (6, Rows'.whole (Declared.row Form.the-type)) (List._∷_ (
+              7,
+              Rows'.sref (Array'.Array (Referent.rtF (Referent.fInt Syntax.w16)) 768) (Syntax.tyRef (Syntax.named 5) Syntax.imm
+                  (Syntax.tyArray (Syntax.tyInt Syntax.w16) 768)) 5,
+            ) (List._∷_ (8, Rows.arrF (Referent.rtF (Referent.fInt Syntax.w8)) 36 0) (List._∷_ (9, Rows'.whole (Declared.row Part.the-type)) (List._∷_
+            (10, Rows'.sc-here (Row.sInt Syntax.w64)) (List._∷_ (11, Rows'.sc-here (Row.sInt Syntax.w32)) (List._∷_ (12, Rows'.sc-here Row.sBool) (List._∷_ (13, Rows'.sc-here (Row.sInt Syntax.w64))
+            (List._∷_ (14, Rows'.whole (Declared.row BitPosition.the-type)) (List._∷_ (15, Rows'.sc-here Row.sBool) List.[])))))))))))))))
 
         abbrev g51 : List.List Row.Entry
-        g51 = List._∷_ ( 0, Rows'.any-gone (Syntax.tyStruct (List._∷_ 98 (List._∷_ 108 (List._∷_ 111 (List._∷_ 99 (List._∷_ 107 (List._∷_ 58 (List._∷_ 58 (List._∷_ 87 (List._∷_ 97 (List._∷_ 108
-            (List._∷_ 107 (List._∷_ 101 (List._∷_ 100 List.[]))))))))))))) (Syntax.tcons Syntax.tyBool (Syntax.tcons (Syntax.tyInt Syntax.w64) (Syntax.tcons (Syntax.tyStruct (List._∷_ 98 (List._∷_ 105
-            (List._∷_ 116 (List._∷_ 115 (List._∷_ 58 (List._∷_ 58 (List._∷_ 66 (List._∷_ 105 (List._∷_ 116 (List._∷_ 80 (List._∷_ 111 (List._∷_ 115 (List._∷_ 105 (List._∷_ 116 (List._∷_ 105 (List._∷_ 111
-            (List._∷_ 110 List.[]))))))))))))))))) (Syntax.tcons (Syntax.tyInt Syntax.w64) Syntax.tnil)) (Syntax.tcons (Syntax.tyInt Syntax.w64) Syntax.tnil))))), ) (List._∷_ ( 1, Rows'.sslice
-            (Referent.rtF (Referent.fInt Syntax.w8)) (Syntax.tyRef (Syntax.named 0) Syntax.imm (Syntax.tyInt Syntax.w8)) 0, ) (List._∷_ ( 2, Rows'.sslice (Referent.rtF (Referent.fInt Syntax.w8))
-            (Syntax.tyRef (Syntax.named 1) Syntax.imm (Syntax.tyInt Syntax.w8)) 1, ) (List._∷_ ( 3, Mut.mslice (Referent.rtF (Referent.fInt Syntax.w16)) (Syntax.tyRef (Syntax.named 2) Syntax.mut
-            (Syntax.tyInt Syntax.w16)) 2, ) (List._∷_ ( 4, Relend.mslice-owed (Element.type) (Syntax.tyRef (Syntax.named 3) Syntax.mut Element.behind) 3 11 (Row.lease (κs .1 .1 .1 .0) (qs .1 .1 .1 .0)), )
-            (List._∷_ ( 5, Mut.mslice (Referent.rtF (Referent.fInt Syntax.w16)) (Syntax.tyRef (Syntax.named 4) Syntax.mut (Syntax.tyInt Syntax.w16)) 4, ) (List._∷_ (6, Rows'.whole (Declared.row
-            Form.the-type)) (List._∷_ ( 7, Rows'.sref (Array'.Array (Referent.rtF (Referent.fInt Syntax.w16)) 768) (Syntax.tyRef (Syntax.named 5) Syntax.imm (Syntax.tyArray (Syntax.tyInt Syntax.w16) 768))
-            5, ) (List._∷_ (8, Rows.arrF (Referent.rtF (Referent.fInt Syntax.w8)) 36 0) (List._∷_ ( 9, Rows'.whole (Declared.row Part.the-type), ) (List._∷_ (10, Rows'.sc-here (Row.sInt Syntax.w64))
-            (List._∷_ ( 11, Rows'.sc-here (Row.sInt Syntax.w32), ) (List._∷_ (12, Rows'.sc-here Row.sBool) (List._∷_ ( 13, Rows'.sc-here (Row.sInt Syntax.w64), ) (List._∷_ (14, Rows'.whole (Declared.row
-            BitPosition.the-type)) (List._∷_ ( 15, Rows'.sc-here Row.sBool, ) List.[])))))))))))))))
+        g51 = List._∷_ (
+          0,
+          Rows'.any-gone (Syntax.tyStruct (List._∷_ 98 (List._∷_ 108 (List._∷_ 111 (List._∷_ 99 (List._∷_ 107 (List._∷_ 58 (List._∷_ 58 (List._∷_ 87 (List._∷_ 97 (List._∷_ 108
+              (List._∷_ 107 (List._∷_ 101 (List._∷_ 100 List.[]))))))))))))) (Syntax.tcons Syntax.tyBool (Syntax.tcons (Syntax.tyInt Syntax.w64) (Syntax.tcons (Syntax.tyStruct (List._∷_ 98 (List._∷_ 105
+              (List._∷_ 116 (List._∷_ 115 (List._∷_ 58 (List._∷_ 58 (List._∷_ 66 (List._∷_ 105 (List._∷_ 116 (List._∷_ 80 (List._∷_ 111 (List._∷_ 115 (List._∷_ 105 (List._∷_ 116 (List._∷_ 105 (List._∷_ 111
+              (List._∷_ 110 List.[]))))))))))))))))) (Syntax.tcons (Syntax.tyInt Syntax.w64) Syntax.tnil)) (Syntax.tcons (Syntax.tyInt Syntax.w64) Syntax.tnil))))),
+        ) (List._∷_ (
+          1,
+          Rows'.sslice
+              (Referent.rtF (Referent.fInt Syntax.w8)) (Syntax.tyRef (Syntax.named 0) Syntax.imm (Syntax.tyInt Syntax.w8)) 0,
+        ) (List._∷_ (
+          2,
+          Rows'.sslice (Referent.rtF (Referent.fInt Syntax.w8))
+              (Syntax.tyRef (Syntax.named 1) Syntax.imm (Syntax.tyInt Syntax.w8)) 1,
+        ) (List._∷_ (
+          3,
+          Mut.mslice (Referent.rtF (Referent.fInt Syntax.w16)) (Syntax.tyRef (Syntax.named 2) Syntax.mut
+              (Syntax.tyInt Syntax.w16)) 2,
+        ) (List._∷_ (4, Relend.mslice-owed (Element.type) (Syntax.tyRef (Syntax.named 3) Syntax.mut Element.behind) 3 11 (Row.lease (κs .1 .1 .1 .0) (qs .1 .1 .1 .0)))
+            (List._∷_ (5, Mut.mslice (Referent.rtF (Referent.fInt Syntax.w16)) (Syntax.tyRef (Syntax.named 4) Syntax.mut (Syntax.tyInt Syntax.w16)) 4) (List._∷_ (
+              6,
+              Rows'.whole (Declared.row
+                  Form.the-type),
+            ) (List._∷_ (
+              7,
+              Rows'.sref (Array'.Array (Referent.rtF (Referent.fInt Syntax.w16)) 768) (Syntax.tyRef (Syntax.named 5) Syntax.imm (Syntax.tyArray (Syntax.tyInt Syntax.w16) 768))
+                  5,
+            ) (List._∷_ (8, Rows.arrF (Referent.rtF (Referent.fInt Syntax.w8)) 36 0) (List._∷_ (9, Rows'.whole (Declared.row Part.the-type)) (List._∷_ (10, Rows'.sc-here (Row.sInt Syntax.w64))
+            (List._∷_ (11, Rows'.sc-here (Row.sInt Syntax.w32)) (List._∷_ (12, Rows'.sc-here Row.sBool) (List._∷_ (13, Rows'.sc-here (Row.sInt Syntax.w64)) (List._∷_ (
+              14,
+              Rows'.whole (Declared.row
+                  BitPosition.the-type),
+            ) (List._∷_ (15, Rows'.sc-here Row.sBool) List.[])))))))))))))))
 
         abbrev g69 : List.List Row.Entry
-        g69 = List._∷_ ( 0, Rows'.any-gone (Syntax.tyStruct (List._∷_ 98 (List._∷_ 108 (List._∷_ 111 (List._∷_ 99 (List._∷_ 107 (List._∷_ 58 (List._∷_ 58 (List._∷_ 87 (List._∷_ 97 (List._∷_ 108
-            (List._∷_ 107 (List._∷_ 101 (List._∷_ 100 List.[]))))))))))))) (Syntax.tcons Syntax.tyBool (Syntax.tcons (Syntax.tyInt Syntax.w64) (Syntax.tcons (Syntax.tyStruct (List._∷_ 98 (List._∷_ 105
-            (List._∷_ 116 (List._∷_ 115 (List._∷_ 58 (List._∷_ 58 (List._∷_ 66 (List._∷_ 105 (List._∷_ 116 (List._∷_ 80 (List._∷_ 111 (List._∷_ 115 (List._∷_ 105 (List._∷_ 116 (List._∷_ 105 (List._∷_ 111
-            (List._∷_ 110 List.[]))))))))))))))))) (Syntax.tcons (Syntax.tyInt Syntax.w64) Syntax.tnil)) (Syntax.tcons (Syntax.tyInt Syntax.w64) Syntax.tnil))))), ) (List._∷_ ( 1, Rows'.sslice
-            (Referent.rtF (Referent.fInt Syntax.w8)) (Syntax.tyRef (Syntax.named 0) Syntax.imm (Syntax.tyInt Syntax.w8)) 0, ) (List._∷_ ( 2, Rows'.sslice (Referent.rtF (Referent.fInt Syntax.w8))
-            (Syntax.tyRef (Syntax.named 1) Syntax.imm (Syntax.tyInt Syntax.w8)) 1, ) (List._∷_ ( 3, Reshare.mslice-owedS (Referent.rtF (Referent.fInt Syntax.w16)) (Syntax.tyRef (Syntax.named 2) Syntax.mut
-            (Syntax.tyInt Syntax.w16)) 2 12 (Row.lease (κs .1 .1 .0) (qs .1 .1 .0)), ) (List._∷_ ( 4, Mut.mslice (Element.type) (Syntax.tyRef (Syntax.named 3) Syntax.mut Element.behind) 3, ) (List._∷_ (
-            5, Mut.mslice (Referent.rtF (Referent.fInt Syntax.w16)) (Syntax.tyRef (Syntax.named 4) Syntax.mut (Syntax.tyInt Syntax.w16)) 4, ) (List._∷_ (6, Rows'.whole (Declared.row Form.the-type))
-            (List._∷_ ( 7, Rows'.sref (Array'.Array (Referent.rtF (Referent.fInt Syntax.w16)) 768) (Syntax.tyRef (Syntax.named 5) Syntax.imm (Syntax.tyArray (Syntax.tyInt Syntax.w16) 768)) 5, ) (List._∷_
-            (8, Rows.arrF (Referent.rtF (Referent.fInt Syntax.w8)) 36 0) (List._∷_ ( 9, Rows'.whole (Declared.row Part.the-type), ) (List._∷_ (10, Rows'.sc-here (Row.sInt Syntax.w64)) (List._∷_ ( 11,
-            Rows'.sc-here (Row.sInt Syntax.w32), ) (List._∷_ (12, Rows'.sc-here Row.sBool) (List._∷_ ( 13, Rows'.sc-here (Row.sInt Syntax.w64), ) (List._∷_ (14, Rows'.whole (Declared.row
-            BitPosition.the-type)) (List._∷_ ( 15, Rows'.sc-here Row.sBool, ) List.[])))))))))))))))
+        g69 = List._∷_ (
+          0,
+          Rows'.any-gone (Syntax.tyStruct (List._∷_ 98 (List._∷_ 108 (List._∷_ 111 (List._∷_ 99 (List._∷_ 107 (List._∷_ 58 (List._∷_ 58 (List._∷_ 87 (List._∷_ 97 (List._∷_ 108
+              (List._∷_ 107 (List._∷_ 101 (List._∷_ 100 List.[]))))))))))))) (Syntax.tcons Syntax.tyBool (Syntax.tcons (Syntax.tyInt Syntax.w64) (Syntax.tcons (Syntax.tyStruct (List._∷_ 98 (List._∷_ 105
+              (List._∷_ 116 (List._∷_ 115 (List._∷_ 58 (List._∷_ 58 (List._∷_ 66 (List._∷_ 105 (List._∷_ 116 (List._∷_ 80 (List._∷_ 111 (List._∷_ 115 (List._∷_ 105 (List._∷_ 116 (List._∷_ 105 (List._∷_ 111
+              (List._∷_ 110 List.[]))))))))))))))))) (Syntax.tcons (Syntax.tyInt Syntax.w64) Syntax.tnil)) (Syntax.tcons (Syntax.tyInt Syntax.w64) Syntax.tnil))))),
+        ) (List._∷_ (
+          1,
+          Rows'.sslice
+              (Referent.rtF (Referent.fInt Syntax.w8)) (Syntax.tyRef (Syntax.named 0) Syntax.imm (Syntax.tyInt Syntax.w8)) 0,
+        ) (List._∷_ (
+          2,
+          Rows'.sslice (Referent.rtF (Referent.fInt Syntax.w8))
+              (Syntax.tyRef (Syntax.named 1) Syntax.imm (Syntax.tyInt Syntax.w8)) 1,
+        ) (List._∷_ (
+          3,
+          Reshare.mslice-owedS (Referent.rtF (Referent.fInt Syntax.w16)) (Syntax.tyRef (Syntax.named 2) Syntax.mut
+              (Syntax.tyInt Syntax.w16)) 2 12 (Row.lease (κs .1 .1 .0) (qs .1 .1 .0)),
+        ) (List._∷_ (4, Mut.mslice (Element.type) (Syntax.tyRef (Syntax.named 3) Syntax.mut Element.behind) 3) (List._∷_ (
+          5,
+          Mut.mslice (Referent.rtF (Referent.fInt Syntax.w16)) (Syntax.tyRef (Syntax.named 4) Syntax.mut (Syntax.tyInt Syntax.w16)) 4,
+        ) (List._∷_ (6, Rows'.whole (Declared.row Form.the-type))
+            (List._∷_ (7, Rows'.sref (Array'.Array (Referent.rtF (Referent.fInt Syntax.w16)) 768) (Syntax.tyRef (Syntax.named 5) Syntax.imm (Syntax.tyArray (Syntax.tyInt Syntax.w16) 768)) 5) (List._∷_
+            (8, Rows.arrF (Referent.rtF (Referent.fInt Syntax.w8)) 36 0) (List._∷_ (9, Rows'.whole (Declared.row Part.the-type)) (List._∷_ (10, Rows'.sc-here (Row.sInt Syntax.w64)) (List._∷_ (
+              11,
+              Rows'.sc-here (Row.sInt Syntax.w32),
+            ) (List._∷_ (12, Rows'.sc-here Row.sBool) (List._∷_ (13, Rows'.sc-here (Row.sInt Syntax.w64)) (List._∷_ (
+              14,
+              Rows'.whole (Declared.row
+                  BitPosition.the-type),
+            ) (List._∷_ (15, Rows'.sc-here Row.sBool) List.[])))))))))))))))
 
         abbrev g72 : List.List Row.Entry
-        g72 = List._∷_ ( 0, Rows'.any-gone (Syntax.tyStruct (List._∷_ 98 (List._∷_ 108 (List._∷_ 111 (List._∷_ 99 (List._∷_ 107 (List._∷_ 58 (List._∷_ 58 (List._∷_ 87 (List._∷_ 97 (List._∷_ 108
-            (List._∷_ 107 (List._∷_ 101 (List._∷_ 100 List.[]))))))))))))) (Syntax.tcons Syntax.tyBool (Syntax.tcons (Syntax.tyInt Syntax.w64) (Syntax.tcons (Syntax.tyStruct (List._∷_ 98 (List._∷_ 105
-            (List._∷_ 116 (List._∷_ 115 (List._∷_ 58 (List._∷_ 58 (List._∷_ 66 (List._∷_ 105 (List._∷_ 116 (List._∷_ 80 (List._∷_ 111 (List._∷_ 115 (List._∷_ 105 (List._∷_ 116 (List._∷_ 105 (List._∷_ 111
-            (List._∷_ 110 List.[]))))))))))))))))) (Syntax.tcons (Syntax.tyInt Syntax.w64) Syntax.tnil)) (Syntax.tcons (Syntax.tyInt Syntax.w64) Syntax.tnil))))), ) (List._∷_ ( 1, Rows'.sslice
-            (Referent.rtF (Referent.fInt Syntax.w8)) (Syntax.tyRef (Syntax.named 0) Syntax.imm (Syntax.tyInt Syntax.w8)) 0, ) (List._∷_ ( 2, Rows'.sslice (Referent.rtF (Referent.fInt Syntax.w8))
-            (Syntax.tyRef (Syntax.named 1) Syntax.imm (Syntax.tyInt Syntax.w8)) 1, ) (List._∷_ ( 3, Reshare.mslice-owedS (Referent.rtF (Referent.fInt Syntax.w16)) (Syntax.tyRef (Syntax.named 2) Syntax.mut
-            (Syntax.tyInt Syntax.w16)) 2 12 (Row.lease (κs .1 .1 .0) (qs .1 .1 .0)), ) (List._∷_ ( 4, Mut.mslice (Element.type) (Syntax.tyRef (Syntax.named 3) Syntax.mut Element.behind) 3, ) (List._∷_ (
-            5, Relend.mslice-owed (Referent.rtF (Referent.fInt Syntax.w16)) (Syntax.tyRef (Syntax.named 4) Syntax.mut (Syntax.tyInt Syntax.w16)) 4 13 (Row.lease (κs .1 .1 .1 .1 .0) (qs .1 .1 .1 .1 .0)), )
-            (List._∷_ (6, Rows'.whole (Declared.row Form.the-type)) (List._∷_ ( 7, Rows'.sref (Array'.Array (Referent.rtF (Referent.fInt Syntax.w16)) 768) (Syntax.tyRef (Syntax.named 5) Syntax.imm
-            (Syntax.tyArray (Syntax.tyInt Syntax.w16) 768)) 5, ) (List._∷_ (8, Rows.arrF (Referent.rtF (Referent.fInt Syntax.w8)) 36 0) (List._∷_ ( 9, Rows'.whole (Declared.row Part.the-type), ) (List._∷_
-            (10, Rows'.sc-here (Row.sInt Syntax.w64)) (List._∷_ ( 11, Rows'.sc-here (Row.sInt Syntax.w32), ) (List._∷_ (12, Rows'.sc-here Row.sBool) (List._∷_ ( 13, Rows'.sc-here (Row.sInt Syntax.w64), )
-            (List._∷_ (14, Rows'.whole (Declared.row BitPosition.the-type)) (List._∷_ ( 15, Rows'.sc-here Row.sBool, ) List.[])))))))))))))))
+        g72 = List._∷_ (
+          0,
+          Rows'.any-gone (Syntax.tyStruct (List._∷_ 98 (List._∷_ 108 (List._∷_ 111 (List._∷_ 99 (List._∷_ 107 (List._∷_ 58 (List._∷_ 58 (List._∷_ 87 (List._∷_ 97 (List._∷_ 108
+              (List._∷_ 107 (List._∷_ 101 (List._∷_ 100 List.[]))))))))))))) (Syntax.tcons Syntax.tyBool (Syntax.tcons (Syntax.tyInt Syntax.w64) (Syntax.tcons (Syntax.tyStruct (List._∷_ 98 (List._∷_ 105
+              (List._∷_ 116 (List._∷_ 115 (List._∷_ 58 (List._∷_ 58 (List._∷_ 66 (List._∷_ 105 (List._∷_ 116 (List._∷_ 80 (List._∷_ 111 (List._∷_ 115 (List._∷_ 105 (List._∷_ 116 (List._∷_ 105 (List._∷_ 111
+              (List._∷_ 110 List.[]))))))))))))))))) (Syntax.tcons (Syntax.tyInt Syntax.w64) Syntax.tnil)) (Syntax.tcons (Syntax.tyInt Syntax.w64) Syntax.tnil))))),
+        ) (List._∷_ (
+          1,
+          Rows'.sslice
+              (Referent.rtF (Referent.fInt Syntax.w8)) (Syntax.tyRef (Syntax.named 0) Syntax.imm (Syntax.tyInt Syntax.w8)) 0,
+        ) (List._∷_ (
+          2,
+          Rows'.sslice (Referent.rtF (Referent.fInt Syntax.w8))
+              (Syntax.tyRef (Syntax.named 1) Syntax.imm (Syntax.tyInt Syntax.w8)) 1,
+        ) (List._∷_ (
+          3,
+          Reshare.mslice-owedS (Referent.rtF (Referent.fInt Syntax.w16)) (Syntax.tyRef (Syntax.named 2) Syntax.mut
+              (Syntax.tyInt Syntax.w16)) 2 12 (Row.lease (κs .1 .1 .0) (qs .1 .1 .0)),
+        ) (List._∷_ (4, Mut.mslice (Element.type) (Syntax.tyRef (Syntax.named 3) Syntax.mut Element.behind) 3) (List._∷_ (
+          5,
+          Relend.mslice-owed (Referent.rtF (Referent.fInt Syntax.w16)) (Syntax.tyRef (Syntax.named 4) Syntax.mut (Syntax.tyInt Syntax.w16)) 4 13 (Row.lease (κs .1 .1 .1 .1 .0) (qs .1 .1 .1 .1 .0)),
+        )
+            (List._∷_ (6, Rows'.whole (Declared.row Form.the-type)) (List._∷_ (
+              7,
+              Rows'.sref (Array'.Array (Referent.rtF (Referent.fInt Syntax.w16)) 768) (Syntax.tyRef (Syntax.named 5) Syntax.imm
+                  (Syntax.tyArray (Syntax.tyInt Syntax.w16) 768)) 5,
+            ) (List._∷_ (8, Rows.arrF (Referent.rtF (Referent.fInt Syntax.w8)) 36 0) (List._∷_ (9, Rows'.whole (Declared.row Part.the-type)) (List._∷_
+            (10, Rows'.sc-here (Row.sInt Syntax.w64)) (List._∷_ (11, Rows'.sc-here (Row.sInt Syntax.w32)) (List._∷_ (12, Rows'.sc-here Row.sBool) (List._∷_ (13, Rows'.sc-here (Row.sInt Syntax.w64))
+            (List._∷_ (14, Rows'.whole (Declared.row BitPosition.the-type)) (List._∷_ (15, Rows'.sc-here Row.sBool) List.[])))))))))))))))
 
         abbrev g78 : List.List Row.Entry
-        g78 = List._∷_ ( 0, Rows'.any-gone (Syntax.tyStruct (List._∷_ 98 (List._∷_ 108 (List._∷_ 111 (List._∷_ 99 (List._∷_ 107 (List._∷_ 58 (List._∷_ 58 (List._∷_ 87 (List._∷_ 97 (List._∷_ 108
-            (List._∷_ 107 (List._∷_ 101 (List._∷_ 100 List.[]))))))))))))) (Syntax.tcons Syntax.tyBool (Syntax.tcons (Syntax.tyInt Syntax.w64) (Syntax.tcons (Syntax.tyStruct (List._∷_ 98 (List._∷_ 105
-            (List._∷_ 116 (List._∷_ 115 (List._∷_ 58 (List._∷_ 58 (List._∷_ 66 (List._∷_ 105 (List._∷_ 116 (List._∷_ 80 (List._∷_ 111 (List._∷_ 115 (List._∷_ 105 (List._∷_ 116 (List._∷_ 105 (List._∷_ 111
-            (List._∷_ 110 List.[]))))))))))))))))) (Syntax.tcons (Syntax.tyInt Syntax.w64) Syntax.tnil)) (Syntax.tcons (Syntax.tyInt Syntax.w64) Syntax.tnil))))), ) (List._∷_ ( 1, Rows'.sslice
-            (Referent.rtF (Referent.fInt Syntax.w8)) (Syntax.tyRef (Syntax.named 0) Syntax.imm (Syntax.tyInt Syntax.w8)) 0, ) (List._∷_ ( 2, Rows'.sslice (Referent.rtF (Referent.fInt Syntax.w8))
-            (Syntax.tyRef (Syntax.named 1) Syntax.imm (Syntax.tyInt Syntax.w8)) 1, ) (List._∷_ ( 3, Mut.mslice (Referent.rtF (Referent.fInt Syntax.w16)) (Syntax.tyRef (Syntax.named 2) Syntax.mut
-            (Syntax.tyInt Syntax.w16)) 2, ) (List._∷_ ( 4, Mut.mslice (Element.type) (Syntax.tyRef (Syntax.named 3) Syntax.mut Element.behind) 3, ) (List._∷_ ( 5, Relend.mslice-owed (Referent.rtF
-            (Referent.fInt Syntax.w16)) (Syntax.tyRef (Syntax.named 4) Syntax.mut (Syntax.tyInt Syntax.w16)) 4 13 (Row.lease (κs .1 .1 .1 .1 .0) (qs .1 .1 .1 .1 .0)), ) (List._∷_ (6, Rows'.whole
-            (Declared.row Form.the-type)) (List._∷_ ( 7, Rows'.sref (Array'.Array (Referent.rtF (Referent.fInt Syntax.w16)) 768) (Syntax.tyRef (Syntax.named 5) Syntax.imm (Syntax.tyArray (Syntax.tyInt
-            Syntax.w16) 768)) 5, ) (List._∷_ (8, Rows.arrF (Referent.rtF (Referent.fInt Syntax.w8)) 36 0) (List._∷_ ( 9, Rows'.whole (Declared.row Part.the-type), ) (List._∷_ (10, Rows'.sc-here (Row.sInt
-            Syntax.w64)) (List._∷_ ( 11, Rows'.sc-here (Row.sInt Syntax.w32), ) (List._∷_ (12, Rows'.sc-here Row.sBool) (List._∷_ ( 13, Rows'.sc-here (Row.sInt Syntax.w64), ) (List._∷_ (14, Rows'.whole
-            (Declared.row BitPosition.the-type)) (List._∷_ ( 15, Rows'.sc-here Row.sBool, ) List.[])))))))))))))))
+        g78 = List._∷_ (
+          0,
+          Rows'.any-gone (Syntax.tyStruct (List._∷_ 98 (List._∷_ 108 (List._∷_ 111 (List._∷_ 99 (List._∷_ 107 (List._∷_ 58 (List._∷_ 58 (List._∷_ 87 (List._∷_ 97 (List._∷_ 108
+              (List._∷_ 107 (List._∷_ 101 (List._∷_ 100 List.[]))))))))))))) (Syntax.tcons Syntax.tyBool (Syntax.tcons (Syntax.tyInt Syntax.w64) (Syntax.tcons (Syntax.tyStruct (List._∷_ 98 (List._∷_ 105
+              (List._∷_ 116 (List._∷_ 115 (List._∷_ 58 (List._∷_ 58 (List._∷_ 66 (List._∷_ 105 (List._∷_ 116 (List._∷_ 80 (List._∷_ 111 (List._∷_ 115 (List._∷_ 105 (List._∷_ 116 (List._∷_ 105 (List._∷_ 111
+              (List._∷_ 110 List.[]))))))))))))))))) (Syntax.tcons (Syntax.tyInt Syntax.w64) Syntax.tnil)) (Syntax.tcons (Syntax.tyInt Syntax.w64) Syntax.tnil))))),
+        ) (List._∷_ (
+          1,
+          Rows'.sslice
+              (Referent.rtF (Referent.fInt Syntax.w8)) (Syntax.tyRef (Syntax.named 0) Syntax.imm (Syntax.tyInt Syntax.w8)) 0,
+        ) (List._∷_ (
+          2,
+          Rows'.sslice (Referent.rtF (Referent.fInt Syntax.w8))
+              (Syntax.tyRef (Syntax.named 1) Syntax.imm (Syntax.tyInt Syntax.w8)) 1,
+        ) (List._∷_ (
+          3,
+          Mut.mslice (Referent.rtF (Referent.fInt Syntax.w16)) (Syntax.tyRef (Syntax.named 2) Syntax.mut
+              (Syntax.tyInt Syntax.w16)) 2,
+        ) (List._∷_ (4, Mut.mslice (Element.type) (Syntax.tyRef (Syntax.named 3) Syntax.mut Element.behind) 3) (List._∷_ (
+          5,
+          Relend.mslice-owed (Referent.rtF
+              (Referent.fInt Syntax.w16)) (Syntax.tyRef (Syntax.named 4) Syntax.mut (Syntax.tyInt Syntax.w16)) 4 13 (Row.lease (κs .1 .1 .1 .1 .0) (qs .1 .1 .1 .1 .0)),
+        ) (List._∷_ (
+          6,
+          Rows'.whole
+              (Declared.row Form.the-type),
+        ) (List._∷_ (
+          7,
+          Rows'.sref (Array'.Array (Referent.rtF (Referent.fInt Syntax.w16)) 768) (Syntax.tyRef (Syntax.named 5) Syntax.imm (Syntax.tyArray (Syntax.tyInt
+              Syntax.w16) 768)) 5,
+        ) (List._∷_ (8, Rows.arrF (Referent.rtF (Referent.fInt Syntax.w8)) 36 0) (List._∷_ (9, Rows'.whole (Declared.row Part.the-type)) (List._∷_ (
+          10,
+          Rows'.sc-here (Row.sInt
+              Syntax.w64),
+        ) (List._∷_ (11, Rows'.sc-here (Row.sInt Syntax.w32)) (List._∷_ (12, Rows'.sc-here Row.sBool) (List._∷_ (13, Rows'.sc-here (Row.sInt Syntax.w64)) (List._∷_ (
+          14,
+          Rows'.whole
+              (Declared.row BitPosition.the-type),
+        ) (List._∷_ (15, Rows'.sc-here Row.sBool) List.[])))))))))))))))
 
         abbrev G0 : Row.Cx
-        G0 = record { locals = List._++_ t0 (List._++_ t1 t2); slots = List._∷_ (Row.lease (κs .0) (qs .0)) (List._∷_ (Row.lease (κs .1 .0) (qs .1 .0)) (List._∷_ (Row.lease (κs .1 .1 .0) (qs .1 .1
-            .0)) (List._∷_ (Row.lease (κs .1 .1 .1 .0) (qs .1 .1 .1 .0)) (List._∷_ (Row.lease (κs .1 .1 .1 .1 .0) (qs .1 .1 .1 .1 .0)) (List._∷_ (Row.lease (κs .1 .1 .1 .1 .1 .0) (qs .1 .1 .1 .1 .1 .0))
-            (List._∷_ Row.off (List._∷_ Row.off (List._∷_ Row.off (List._∷_ Row.off (List._∷_ Row.off (List._∷_ Row.off (List._∷_ Row.off (List._∷_ Row.off List.[]))))))))))))); }
+        G0 = record {
+          locals = List._++_ t0 (List._++_ t1 t2);
+          slots = List._∷_ (Row.lease (κs .0) (qs .0)) (List._∷_ (Row.lease (κs .1 .0) (qs .1 .0)) (List._∷_ (Row.lease (κs .1 .1 .0) (qs .1 .1
+              .0)) (List._∷_ (Row.lease (κs .1 .1 .1 .0) (qs .1 .1 .1 .0)) (List._∷_ (Row.lease (κs .1 .1 .1 .1 .0) (qs .1 .1 .1 .1 .0)) (List._∷_ (Row.lease (κs .1 .1 .1 .1 .1 .0) (qs .1 .1 .1 .1 .1 .0))
+              (List._∷_ Row.off (List._∷_ Row.off (List._∷_ Row.off (List._∷_ Row.off (List._∷_ Row.off (List._∷_ Row.off (List._∷_ Row.off (List._∷_ Row.off List.[])))))))))))));
+        }
 
         abbrev G1 : Row.Cx
-        G1 = record { locals = List._++_ t3 (List._++_ t1 t2); slots = List._∷_ (Row.lease (κs .0) (qs .0)) (List._∷_ (Row.lease (κs .1 .0) (qs .1 .0)) (List._∷_ (Row.lease (κs .1 .1 .0) (qs .1 .1
-            .0)) (List._∷_ (Row.lease (κs .1 .1 .1 .0) (qs .1 .1 .1 .0)) (List._∷_ (Row.lease (κs .1 .1 .1 .1 .0) (qs .1 .1 .1 .1 .0)) (List._∷_ (Row.lease (κs .1 .1 .1 .1 .1 .0) (qs .1 .1 .1 .1 .1 .0))
-            (List._∷_ Row.off (List._∷_ Row.off (List._∷_ Row.off (List._∷_ Row.off (List._∷_ Row.off (List._∷_ Row.off (List._∷_ Row.off (List._∷_ Row.off List.[]))))))))))))); }
+        G1 = record {
+          locals = List._++_ t3 (List._++_ t1 t2);
+          slots = List._∷_ (Row.lease (κs .0) (qs .0)) (List._∷_ (Row.lease (κs .1 .0) (qs .1 .0)) (List._∷_ (Row.lease (κs .1 .1 .0) (qs .1 .1
+              .0)) (List._∷_ (Row.lease (κs .1 .1 .1 .0) (qs .1 .1 .1 .0)) (List._∷_ (Row.lease (κs .1 .1 .1 .1 .0) (qs .1 .1 .1 .1 .0)) (List._∷_ (Row.lease (κs .1 .1 .1 .1 .1 .0) (qs .1 .1 .1 .1 .1 .0))
+              (List._∷_ Row.off (List._∷_ Row.off (List._∷_ Row.off (List._∷_ Row.off (List._∷_ Row.off (List._∷_ Row.off (List._∷_ Row.off (List._∷_ Row.off List.[])))))))))))));
+        }
 
         abbrev G2 : Row.Cx
-        G2 = record { locals = List._++_ t0 (List._++_ t1 t2); slots = List._∷_ (Row.lease (κs .0) (qs .0)) (List._∷_ (Row.lease (κs .1 .0) (qs .1 .0)) (List._∷_ (Row.lease (κs .1 .1 .0) (qs .1 .1
-            .0)) (List._∷_ (Row.lease (κs .1 .1 .1 .0) (qs .1 .1 .1 .0)) (List._∷_ (Row.lease (κs .1 .1 .1 .1 .0) (qs .1 .1 .1 .1 .0)) (List._∷_ (Row.lease (κs .1 .1 .1 .1 .1 .0) (qs .1 .1 .1 .1 .1 .0))
-            (List._∷_ Row.off (List._∷_ Row.off (List._∷_ Row.off (List._∷_ Row.off (List._∷_ Row.off (List._∷_ Row.off (List._∷_ Row.off (List._∷_ Row.off List.[]))))))))))))); }
+        G2 = record {
+          locals = List._++_ t0 (List._++_ t1 t2);
+          slots = List._∷_ (Row.lease (κs .0) (qs .0)) (List._∷_ (Row.lease (κs .1 .0) (qs .1 .0)) (List._∷_ (Row.lease (κs .1 .1 .0) (qs .1 .1
+              .0)) (List._∷_ (Row.lease (κs .1 .1 .1 .0) (qs .1 .1 .1 .0)) (List._∷_ (Row.lease (κs .1 .1 .1 .1 .0) (qs .1 .1 .1 .1 .0)) (List._∷_ (Row.lease (κs .1 .1 .1 .1 .1 .0) (qs .1 .1 .1 .1 .1 .0))
+              (List._∷_ Row.off (List._∷_ Row.off (List._∷_ Row.off (List._∷_ Row.off (List._∷_ Row.off (List._∷_ Row.off (List._∷_ Row.off (List._∷_ Row.off List.[])))))))))))));
+        }
 
         abbrev G3 : Row.Cx
-        G3 = record { locals = List._++_ t0 (List._++_ t1 t2); slots = List._∷_ (Row.lease (κs .0) (qs .0)) (List._∷_ (Row.lease (κs .1 .0) (qs .1 .0)) (List._∷_ (Row.lease (κs .1 .1 .0) (qs .1 .1
-            .0)) (List._∷_ (Row.lease (κs .1 .1 .1 .0) (qs .1 .1 .1 .0)) (List._∷_ (Row.lease (κs .1 .1 .1 .1 .0) (qs .1 .1 .1 .1 .0)) (List._∷_ (Row.lease (κs .1 .1 .1 .1 .1 .0) (qs .1 .1 .1 .1 .1 .0))
-            (List._∷_ Row.off (List._∷_ Row.off (List._∷_ Row.off (List._∷_ Row.off (List._∷_ Row.off (List._∷_ Row.off (List._∷_ Row.off (List._∷_ Row.off List.[]))))))))))))); }
+        G3 = record {
+          locals = List._++_ t0 (List._++_ t1 t2);
+          slots = List._∷_ (Row.lease (κs .0) (qs .0)) (List._∷_ (Row.lease (κs .1 .0) (qs .1 .0)) (List._∷_ (Row.lease (κs .1 .1 .0) (qs .1 .1
+              .0)) (List._∷_ (Row.lease (κs .1 .1 .1 .0) (qs .1 .1 .1 .0)) (List._∷_ (Row.lease (κs .1 .1 .1 .1 .0) (qs .1 .1 .1 .1 .0)) (List._∷_ (Row.lease (κs .1 .1 .1 .1 .1 .0) (qs .1 .1 .1 .1 .1 .0))
+              (List._∷_ Row.off (List._∷_ Row.off (List._∷_ Row.off (List._∷_ Row.off (List._∷_ Row.off (List._∷_ Row.off (List._∷_ Row.off (List._∷_ Row.off List.[])))))))))))));
+        }
 
         abbrev G4 : Row.Cx
-        G4 = record { locals = List._++_ t0 (List._++_ t1 t2); slots = List._∷_ (Row.lease (κs .0) (qs .0)) (List._∷_ (Row.lease (κs .1 .0) (qs .1 .0)) (List._∷_ (Row.lease (κs .1 .1 .0) (qs .1 .1
-            .0)) (List._∷_ (Row.lease (κs .1 .1 .1 .0) (qs .1 .1 .1 .0)) (List._∷_ (Row.lease (κs .1 .1 .1 .1 .0) (qs .1 .1 .1 .1 .0)) (List._∷_ (Row.lease (κs .1 .1 .1 .1 .1 .0) (qs .1 .1 .1 .1 .1 .0))
-            (List._∷_ Row.off (List._∷_ Row.off (List._∷_ Row.off (List._∷_ Row.off (List._∷_ Row.off (List._∷_ Row.off (List._∷_ Row.off (List._∷_ Row.off List.[]))))))))))))); }
+        G4 = record {
+          locals = List._++_ t0 (List._++_ t1 t2);
+          slots = List._∷_ (Row.lease (κs .0) (qs .0)) (List._∷_ (Row.lease (κs .1 .0) (qs .1 .0)) (List._∷_ (Row.lease (κs .1 .1 .0) (qs .1 .1
+              .0)) (List._∷_ (Row.lease (κs .1 .1 .1 .0) (qs .1 .1 .1 .0)) (List._∷_ (Row.lease (κs .1 .1 .1 .1 .0) (qs .1 .1 .1 .1 .0)) (List._∷_ (Row.lease (κs .1 .1 .1 .1 .1 .0) (qs .1 .1 .1 .1 .1 .0))
+              (List._∷_ Row.off (List._∷_ Row.off (List._∷_ Row.off (List._∷_ Row.off (List._∷_ Row.off (List._∷_ Row.off (List._∷_ Row.off (List._∷_ Row.off List.[])))))))))))));
+        }
 
         abbrev G5 : Row.Cx
-        G5 = record { locals = List._++_ t0 (List._++_ t1 t2); slots = List._∷_ (Row.lease (κs .0) (qs .0)) (List._∷_ (Row.lease (κs .1 .0) (qs .1 .0)) (List._∷_ (Row.lease (κs .1 .1 .0) (qs .1 .1
-            .0)) (List._∷_ (Row.lease (κs .1 .1 .1 .0) (qs .1 .1 .1 .0)) (List._∷_ (Row.lease (κs .1 .1 .1 .1 .0) (qs .1 .1 .1 .1 .0)) (List._∷_ (Row.lease (κs .1 .1 .1 .1 .1 .0) (qs .1 .1 .1 .1 .1 .0))
-            (List._∷_ Row.off (List._∷_ Row.off (List._∷_ Row.off (List._∷_ Row.off (List._∷_ Row.off (List._∷_ Row.off (List._∷_ Row.off (List._∷_ Row.off List.[]))))))))))))); }
+        G5 = record {
+          locals = List._++_ t0 (List._++_ t1 t2);
+          slots = List._∷_ (Row.lease (κs .0) (qs .0)) (List._∷_ (Row.lease (κs .1 .0) (qs .1 .0)) (List._∷_ (Row.lease (κs .1 .1 .0) (qs .1 .1
+              .0)) (List._∷_ (Row.lease (κs .1 .1 .1 .0) (qs .1 .1 .1 .0)) (List._∷_ (Row.lease (κs .1 .1 .1 .1 .0) (qs .1 .1 .1 .1 .0)) (List._∷_ (Row.lease (κs .1 .1 .1 .1 .1 .0) (qs .1 .1 .1 .1 .1 .0))
+              (List._∷_ Row.off (List._∷_ Row.off (List._∷_ Row.off (List._∷_ Row.off (List._∷_ Row.off (List._∷_ Row.off (List._∷_ Row.off (List._∷_ Row.off List.[])))))))))))));
+        }
 
         abbrev G6 : Row.Cx
-        G6 = record { locals = List._++_ t4 (List._++_ t1 t2); slots = List._∷_ (Row.lease (κs .0) (qs .0)) (List._∷_ (Row.lease (κs .1 .0) (qs .1 .0)) (List._∷_ (Row.lease (κs .1 .1 .0) (qs .1 .1
-            .0)) (List._∷_ (Row.lease (κs .1 .1 .1 .0) (qs .1 .1 .1 .0)) (List._∷_ (Row.lease (κs .1 .1 .1 .1 .0) (qs .1 .1 .1 .1 .0)) (List._∷_ (Row.lease (κs .1 .1 .1 .1 .1 .0) (qs .1 .1 .1 .1 .1 .0))
-            (List._∷_ Row.off (List._∷_ Row.off (List._∷_ Row.off (List._∷_ Row.off (List._∷_ Row.off (List._∷_ Row.off (List._∷_ Row.off (List._∷_ Row.off List.[]))))))))))))); }
+        G6 = record {
+          locals = List._++_ t4 (List._++_ t1 t2);
+          slots = List._∷_ (Row.lease (κs .0) (qs .0)) (List._∷_ (Row.lease (κs .1 .0) (qs .1 .0)) (List._∷_ (Row.lease (κs .1 .1 .0) (qs .1 .1
+              .0)) (List._∷_ (Row.lease (κs .1 .1 .1 .0) (qs .1 .1 .1 .0)) (List._∷_ (Row.lease (κs .1 .1 .1 .1 .0) (qs .1 .1 .1 .1 .0)) (List._∷_ (Row.lease (κs .1 .1 .1 .1 .1 .0) (qs .1 .1 .1 .1 .1 .0))
+              (List._∷_ Row.off (List._∷_ Row.off (List._∷_ Row.off (List._∷_ Row.off (List._∷_ Row.off (List._∷_ Row.off (List._∷_ Row.off (List._∷_ Row.off List.[])))))))))))));
+        }
 
         abbrev G7 : Row.Cx
-        G7 = record { locals = List._++_ t5 (List._++_ t1 t2); slots = List._∷_ (Row.lease (κs .0) (qs .0)) (List._∷_ (Row.lease (κs .1 .0) (qs .1 .0)) (List._∷_ (Row.lease (κs .1 .1 .0) (qs .1 .1
-            .0)) (List._∷_ (Row.lease (κs .1 .1 .1 .0) (qs .1 .1 .1 .0)) (List._∷_ (Row.lease (κs .1 .1 .1 .1 .0) (qs .1 .1 .1 .1 .0)) (List._∷_ (Row.lease (κs .1 .1 .1 .1 .1 .0) (qs .1 .1 .1 .1 .1 .0))
-            (List._∷_ Row.off (List._∷_ Row.off (List._∷_ Row.off (List._∷_ Row.off (List._∷_ Row.off (List._∷_ Row.off (List._∷_ Row.off (List._∷_ Row.off List.[]))))))))))))); }
+        G7 = record {
+          locals = List._++_ t5 (List._++_ t1 t2);
+          slots = List._∷_ (Row.lease (κs .0) (qs .0)) (List._∷_ (Row.lease (κs .1 .0) (qs .1 .0)) (List._∷_ (Row.lease (κs .1 .1 .0) (qs .1 .1
+              .0)) (List._∷_ (Row.lease (κs .1 .1 .1 .0) (qs .1 .1 .1 .0)) (List._∷_ (Row.lease (κs .1 .1 .1 .1 .0) (qs .1 .1 .1 .1 .0)) (List._∷_ (Row.lease (κs .1 .1 .1 .1 .1 .0) (qs .1 .1 .1 .1 .1 .0))
+              (List._∷_ Row.off (List._∷_ Row.off (List._∷_ Row.off (List._∷_ Row.off (List._∷_ Row.off (List._∷_ Row.off (List._∷_ Row.off (List._∷_ Row.off List.[])))))))))))));
+        }
 
         abbrev G8 : Row.Cx
-        G8 = record { locals = List._++_ t6 (List._++_ t1 t2); slots = List._∷_ (Row.lease (κs .0) (qs .0)) (List._∷_ (Row.lease (κs .1 .0) (qs .1 .0)) (List._∷_ (Row.lease (κs .1 .1 .0) (qs .1 .1
-            .0)) (List._∷_ (Row.lease (κs .1 .1 .1 .0) (qs .1 .1 .1 .0)) (List._∷_ (Row.lease (κs .1 .1 .1 .1 .0) (qs .1 .1 .1 .1 .0)) (List._∷_ (Row.lease (κs .1 .1 .1 .1 .1 .0) (qs .1 .1 .1 .1 .1 .0))
-            (List._∷_ Row.off (List._∷_ Row.off (List._∷_ Row.off (List._∷_ Row.off (List._∷_ Row.off (List._∷_ Row.off (List._∷_ Row.off (List._∷_ Row.off List.[]))))))))))))); }
+        G8 = record {
+          locals = List._++_ t6 (List._++_ t1 t2);
+          slots = List._∷_ (Row.lease (κs .0) (qs .0)) (List._∷_ (Row.lease (κs .1 .0) (qs .1 .0)) (List._∷_ (Row.lease (κs .1 .1 .0) (qs .1 .1
+              .0)) (List._∷_ (Row.lease (κs .1 .1 .1 .0) (qs .1 .1 .1 .0)) (List._∷_ (Row.lease (κs .1 .1 .1 .1 .0) (qs .1 .1 .1 .1 .0)) (List._∷_ (Row.lease (κs .1 .1 .1 .1 .1 .0) (qs .1 .1 .1 .1 .1 .0))
+              (List._∷_ Row.off (List._∷_ Row.off (List._∷_ Row.off (List._∷_ Row.off (List._∷_ Row.off (List._∷_ Row.off (List._∷_ Row.off (List._∷_ Row.off List.[])))))))))))));
+        }
 
         abbrev G9 : Row.Cx
-        G9 = record { locals = List._++_ t6 (List._++_ t1 t2); slots = List._∷_ (Row.lease (κs .0) (qs .0)) (List._∷_ (Row.lease (κs .1 .0) (qs .1 .0)) (List._∷_ (Row.lease (κs .1 .1 .0) (qs .1 .1
-            .0)) (List._∷_ (Row.lease (κs .1 .1 .1 .0) (qs .1 .1 .1 .0)) (List._∷_ (Row.lease (κs .1 .1 .1 .1 .0) (qs .1 .1 .1 .1 .0)) (List._∷_ (Row.lease (κs .1 .1 .1 .1 .1 .0) (qs .1 .1 .1 .1 .1 .0))
-            (List._∷_ Row.alive (List._∷_ Row.off (List._∷_ Row.off (List._∷_ Row.off (List._∷_ Row.off (List._∷_ Row.off (List._∷_ Row.off (List._∷_ Row.off List.[]))))))))))))); }
+        G9 = record {
+          locals = List._++_ t6 (List._++_ t1 t2);
+          slots = List._∷_ (Row.lease (κs .0) (qs .0)) (List._∷_ (Row.lease (κs .1 .0) (qs .1 .0)) (List._∷_ (Row.lease (κs .1 .1 .0) (qs .1 .1
+              .0)) (List._∷_ (Row.lease (κs .1 .1 .1 .0) (qs .1 .1 .1 .0)) (List._∷_ (Row.lease (κs .1 .1 .1 .1 .0) (qs .1 .1 .1 .1 .0)) (List._∷_ (Row.lease (κs .1 .1 .1 .1 .1 .0) (qs .1 .1 .1 .1 .1 .0))
+              (List._∷_ Row.alive (List._∷_ Row.off (List._∷_ Row.off (List._∷_ Row.off (List._∷_ Row.off (List._∷_ Row.off (List._∷_ Row.off (List._∷_ Row.off List.[])))))))))))));
+        }
 
         abbrev G10 : Row.Cx
-        G10 = record { locals = List._++_ g7 (List._++_ t8 t2); slots = List._∷_ (Row.lease (κs .0) (qs .0)) (List._∷_ (Row.lease (κs .1 .0) (qs .1 .0)) (List._∷_ Row.off (List._∷_ (Row.lease (κs .1
-            .1 .1 .0) (qs .1 .1 .1 .0)) (List._∷_ (Row.lease (κs .1 .1 .1 .1 .0) (qs .1 .1 .1 .1 .0)) (List._∷_ (Row.lease (κs .1 .1 .1 .1 .1 .0) (qs .1 .1 .1 .1 .1 .0)) (List._∷_ Row.alive (List._∷_
-            Row.off (List._∷_ Row.off (List._∷_ Row.off (List._∷_ Row.off (List._∷_ Row.off (List._∷_ Row.off (List._∷_ Row.off List.[]))))))))))))); }
+        G10 = record {
+          locals = List._++_ g7 (List._++_ t8 t2);
+          slots = List._∷_ (Row.lease (κs .0) (qs .0)) (List._∷_ (Row.lease (κs .1 .0) (qs .1 .0)) (List._∷_ Row.off (List._∷_ (Row.lease (κs .1
+              .1 .1 .0) (qs .1 .1 .1 .0)) (List._∷_ (Row.lease (κs .1 .1 .1 .1 .0) (qs .1 .1 .1 .1 .0)) (List._∷_ (Row.lease (κs .1 .1 .1 .1 .1 .0) (qs .1 .1 .1 .1 .1 .0)) (List._∷_ Row.alive (List._∷_
+              Row.off (List._∷_ Row.off (List._∷_ Row.off (List._∷_ Row.off (List._∷_ Row.off (List._∷_ Row.off (List._∷_ Row.off List.[])))))))))))));
+        }
 
         abbrev G11 : Row.Cx
-        G11 = record { locals = List._++_ g7 (List._++_ t9 t2); slots = List._∷_ (Row.lease (κs .0) (qs .0)) (List._∷_ (Row.lease (κs .1 .0) (qs .1 .0)) (List._∷_ Row.off (List._∷_ (Row.lease (κs .1
-            .1 .1 .0) (qs .1 .1 .1 .0)) (List._∷_ (Row.lease (κs .1 .1 .1 .1 .0) (qs .1 .1 .1 .1 .0)) (List._∷_ (Row.lease (κs .1 .1 .1 .1 .1 .0) (qs .1 .1 .1 .1 .1 .0)) (List._∷_ Row.alive (List._∷_
-            Row.off (List._∷_ Row.off (List._∷_ Row.off (List._∷_ Row.off (List._∷_ Row.off (List._∷_ Row.off (List._∷_ Row.off List.[]))))))))))))); }
+        G11 = record {
+          locals = List._++_ g7 (List._++_ t9 t2);
+          slots = List._∷_ (Row.lease (κs .0) (qs .0)) (List._∷_ (Row.lease (κs .1 .0) (qs .1 .0)) (List._∷_ Row.off (List._∷_ (Row.lease (κs .1
+              .1 .1 .0) (qs .1 .1 .1 .0)) (List._∷_ (Row.lease (κs .1 .1 .1 .1 .0) (qs .1 .1 .1 .1 .0)) (List._∷_ (Row.lease (κs .1 .1 .1 .1 .1 .0) (qs .1 .1 .1 .1 .1 .0)) (List._∷_ Row.alive (List._∷_
+              Row.off (List._∷_ Row.off (List._∷_ Row.off (List._∷_ Row.off (List._∷_ Row.off (List._∷_ Row.off (List._∷_ Row.off List.[])))))))))))));
+        }
 
         abbrev G12 : Row.Cx
-        G12 = record { locals = List._++_ g7 (List._++_ t10 t2); slots = List._∷_ (Row.lease (κs .0) (qs .0)) (List._∷_ (Row.lease (κs .1 .0) (qs .1 .0)) (List._∷_ Row.off (List._∷_ (Row.lease (κs .1
-            .1 .1 .0) (qs .1 .1 .1 .0)) (List._∷_ (Row.lease (κs .1 .1 .1 .1 .0) (qs .1 .1 .1 .1 .0)) (List._∷_ (Row.lease (κs .1 .1 .1 .1 .1 .0) (qs .1 .1 .1 .1 .1 .0)) (List._∷_ Row.alive (List._∷_
-            Row.off (List._∷_ Row.off (List._∷_ Row.off (List._∷_ Row.off (List._∷_ Row.off (List._∷_ Row.off (List._∷_ Row.off List.[]))))))))))))); }
+        G12 = record {
+          locals = List._++_ g7 (List._++_ t10 t2);
+          slots = List._∷_ (Row.lease (κs .0) (qs .0)) (List._∷_ (Row.lease (κs .1 .0) (qs .1 .0)) (List._∷_ Row.off (List._∷_ (Row.lease (κs .1
+              .1 .1 .0) (qs .1 .1 .1 .0)) (List._∷_ (Row.lease (κs .1 .1 .1 .1 .0) (qs .1 .1 .1 .1 .0)) (List._∷_ (Row.lease (κs .1 .1 .1 .1 .1 .0) (qs .1 .1 .1 .1 .1 .0)) (List._∷_ Row.alive (List._∷_
+              Row.off (List._∷_ Row.off (List._∷_ Row.off (List._∷_ Row.off (List._∷_ Row.off (List._∷_ Row.off (List._∷_ Row.off List.[])))))))))))));
+        }
 
         abbrev G13 : Row.Cx
-        G13 = record { locals = List._++_ g7 (List._++_ t11 t2); slots = List._∷_ (Row.lease (κs .0) (qs .0)) (List._∷_ (Row.lease (κs .1 .0) (qs .1 .0)) (List._∷_ Row.off (List._∷_ (Row.lease (κs .1
-            .1 .1 .0) (qs .1 .1 .1 .0)) (List._∷_ (Row.lease (κs .1 .1 .1 .1 .0) (qs .1 .1 .1 .1 .0)) (List._∷_ (Row.lease (κs .1 .1 .1 .1 .1 .0) (qs .1 .1 .1 .1 .1 .0)) (List._∷_ Row.alive (List._∷_
-            Row.off (List._∷_ Row.off (List._∷_ Row.off (List._∷_ Row.off (List._∷_ Row.off (List._∷_ Row.off (List._∷_ Row.off List.[]))))))))))))); }
+        G13 = record {
+          locals = List._++_ g7 (List._++_ t11 t2);
+          slots = List._∷_ (Row.lease (κs .0) (qs .0)) (List._∷_ (Row.lease (κs .1 .0) (qs .1 .0)) (List._∷_ Row.off (List._∷_ (Row.lease (κs .1
+              .1 .1 .0) (qs .1 .1 .1 .0)) (List._∷_ (Row.lease (κs .1 .1 .1 .1 .0) (qs .1 .1 .1 .1 .0)) (List._∷_ (Row.lease (κs .1 .1 .1 .1 .1 .0) (qs .1 .1 .1 .1 .1 .0)) (List._∷_ Row.alive (List._∷_
+              Row.off (List._∷_ Row.off (List._∷_ Row.off (List._∷_ Row.off (List._∷_ Row.off (List._∷_ Row.off (List._∷_ Row.off List.[])))))))))))));
+        }
 
         abbrev G14 : Row.Cx
-        G14 = record { locals = List._++_ g7 (List._++_ t11 t2); slots = List._∷_ (Row.lease (κs .0) (qs .0)) (List._∷_ (Row.lease (κs .1 .0) (qs .1 .0)) (List._∷_ Row.off (List._∷_ (Row.lease (κs .1
-            .1 .1 .0) (qs .1 .1 .1 .0)) (List._∷_ (Row.lease (κs .1 .1 .1 .1 .0) (qs .1 .1 .1 .1 .0)) (List._∷_ (Row.lease (κs .1 .1 .1 .1 .1 .0) (qs .1 .1 .1 .1 .1 .0)) (List._∷_ Row.dead (List._∷_
-            Row.off (List._∷_ Row.off (List._∷_ Row.off (List._∷_ Row.off (List._∷_ Row.off (List._∷_ Row.off (List._∷_ Row.off List.[]))))))))))))); }
+        G14 = record {
+          locals = List._++_ g7 (List._++_ t11 t2);
+          slots = List._∷_ (Row.lease (κs .0) (qs .0)) (List._∷_ (Row.lease (κs .1 .0) (qs .1 .0)) (List._∷_ Row.off (List._∷_ (Row.lease (κs .1
+              .1 .1 .0) (qs .1 .1 .1 .0)) (List._∷_ (Row.lease (κs .1 .1 .1 .1 .0) (qs .1 .1 .1 .1 .0)) (List._∷_ (Row.lease (κs .1 .1 .1 .1 .1 .0) (qs .1 .1 .1 .1 .1 .0)) (List._∷_ Row.dead (List._∷_
+              Row.off (List._∷_ Row.off (List._∷_ Row.off (List._∷_ Row.off (List._∷_ Row.off (List._∷_ Row.off (List._∷_ Row.off List.[])))))))))))));
+        }
 
         abbrev G15 : Row.Cx
-        G15 = record { locals = List._++_ t6 (List._++_ t1 t2); slots = List._∷_ (Row.lease (κs .0) (qs .0)) (List._∷_ (Row.lease (κs .1 .0) (qs .1 .0)) (List._∷_ (Row.lease (κs .1 .1 .0) (qs .1 .1
-            .0)) (List._∷_ (Row.lease (κs .1 .1 .1 .0) (qs .1 .1 .1 .0)) (List._∷_ (Row.lease (κs .1 .1 .1 .1 .0) (qs .1 .1 .1 .1 .0)) (List._∷_ (Row.lease (κs .1 .1 .1 .1 .1 .0) (qs .1 .1 .1 .1 .1 .0))
-            (List._∷_ Row.dead (List._∷_ Row.off (List._∷_ Row.off (List._∷_ Row.off (List._∷_ Row.off (List._∷_ Row.off (List._∷_ Row.off (List._∷_ Row.off List.[]))))))))))))); }
+        G15 = record {
+          locals = List._++_ t6 (List._++_ t1 t2);
+          slots = List._∷_ (Row.lease (κs .0) (qs .0)) (List._∷_ (Row.lease (κs .1 .0) (qs .1 .0)) (List._∷_ (Row.lease (κs .1 .1 .0) (qs .1 .1
+              .0)) (List._∷_ (Row.lease (κs .1 .1 .1 .0) (qs .1 .1 .1 .0)) (List._∷_ (Row.lease (κs .1 .1 .1 .1 .0) (qs .1 .1 .1 .1 .0)) (List._∷_ (Row.lease (κs .1 .1 .1 .1 .1 .0) (qs .1 .1 .1 .1 .1 .0))
+              (List._∷_ Row.dead (List._∷_ Row.off (List._∷_ Row.off (List._∷_ Row.off (List._∷_ Row.off (List._∷_ Row.off (List._∷_ Row.off (List._∷_ Row.off List.[])))))))))))));
+        }
 
         abbrev G16 : Row.Cx
-        G16 = record { locals = List._++_ t6 (List._++_ t1 t2); slots = List._∷_ (Row.lease (κs .0) (qs .0)) (List._∷_ (Row.lease (κs .1 .0) (qs .1 .0)) (List._∷_ (Row.lease (κs .1 .1 .0) (qs .1 .1
-            .0)) (List._∷_ (Row.lease (κs .1 .1 .1 .0) (qs .1 .1 .1 .0)) (List._∷_ (Row.lease (κs .1 .1 .1 .1 .0) (qs .1 .1 .1 .1 .0)) (List._∷_ (Row.lease (κs .1 .1 .1 .1 .1 .0) (qs .1 .1 .1 .1 .1 .0))
-            (List._∷_ Row.dead (List._∷_ Row.off (List._∷_ Row.off (List._∷_ Row.off (List._∷_ Row.off (List._∷_ Row.off (List._∷_ Row.off (List._∷_ Row.off List.[]))))))))))))); }
+        G16 = record {
+          locals = List._++_ t6 (List._++_ t1 t2);
+          slots = List._∷_ (Row.lease (κs .0) (qs .0)) (List._∷_ (Row.lease (κs .1 .0) (qs .1 .0)) (List._∷_ (Row.lease (κs .1 .1 .0) (qs .1 .1
+              .0)) (List._∷_ (Row.lease (κs .1 .1 .1 .0) (qs .1 .1 .1 .0)) (List._∷_ (Row.lease (κs .1 .1 .1 .1 .0) (qs .1 .1 .1 .1 .0)) (List._∷_ (Row.lease (κs .1 .1 .1 .1 .1 .0) (qs .1 .1 .1 .1 .1 .0))
+              (List._∷_ Row.dead (List._∷_ Row.off (List._∷_ Row.off (List._∷_ Row.off (List._∷_ Row.off (List._∷_ Row.off (List._∷_ Row.off (List._∷_ Row.off List.[])))))))))))));
+        }
 
         abbrev G17 : Row.Cx
-        G17 = record { locals = List._++_ t6 (List._++_ t1 t2); slots = List._∷_ (Row.lease (κs .0) (qs .0)) (List._∷_ (Row.lease (κs .1 .0) (qs .1 .0)) (List._∷_ (Row.lease (κs .1 .1 .0) (qs .1 .1
-            .0)) (List._∷_ (Row.lease (κs .1 .1 .1 .0) (qs .1 .1 .1 .0)) (List._∷_ (Row.lease (κs .1 .1 .1 .1 .0) (qs .1 .1 .1 .1 .0)) (List._∷_ (Row.lease (κs .1 .1 .1 .1 .1 .0) (qs .1 .1 .1 .1 .1 .0))
-            (List._∷_ Row.off (List._∷_ Row.off (List._∷_ Row.off (List._∷_ Row.off (List._∷_ Row.off (List._∷_ Row.off (List._∷_ Row.off (List._∷_ Row.off List.[]))))))))))))); }
+        G17 = record {
+          locals = List._++_ t6 (List._++_ t1 t2);
+          slots = List._∷_ (Row.lease (κs .0) (qs .0)) (List._∷_ (Row.lease (κs .1 .0) (qs .1 .0)) (List._∷_ (Row.lease (κs .1 .1 .0) (qs .1 .1
+              .0)) (List._∷_ (Row.lease (κs .1 .1 .1 .0) (qs .1 .1 .1 .0)) (List._∷_ (Row.lease (κs .1 .1 .1 .1 .0) (qs .1 .1 .1 .1 .0)) (List._∷_ (Row.lease (κs .1 .1 .1 .1 .1 .0) (qs .1 .1 .1 .1 .1 .0))
+              (List._∷_ Row.off (List._∷_ Row.off (List._∷_ Row.off (List._∷_ Row.off (List._∷_ Row.off (List._∷_ Row.off (List._∷_ Row.off (List._∷_ Row.off List.[])))))))))))));
+        }
 
         abbrev G18 : Row.Cx
-        G18 = record { locals = List._++_ t6 (List._++_ t1 t2); slots = List._∷_ (Row.lease (κs .0) (qs .0)) (List._∷_ (Row.lease (κs .1 .0) (qs .1 .0)) (List._∷_ (Row.lease (κs .1 .1 .0) (qs .1 .1
-            .0)) (List._∷_ (Row.lease (κs .1 .1 .1 .0) (qs .1 .1 .1 .0)) (List._∷_ (Row.lease (κs .1 .1 .1 .1 .0) (qs .1 .1 .1 .1 .0)) (List._∷_ (Row.lease (κs .1 .1 .1 .1 .1 .0) (qs .1 .1 .1 .1 .1 .0))
-            (List._∷_ Row.off (List._∷_ Row.alive (List._∷_ Row.off (List._∷_ Row.off (List._∷_ Row.off (List._∷_ Row.off (List._∷_ Row.off (List._∷_ Row.off List.[]))))))))))))); }
+        G18 = record {
+          locals = List._++_ t6 (List._++_ t1 t2);
+          slots = List._∷_ (Row.lease (κs .0) (qs .0)) (List._∷_ (Row.lease (κs .1 .0) (qs .1 .0)) (List._∷_ (Row.lease (κs .1 .1 .0) (qs .1 .1
+              .0)) (List._∷_ (Row.lease (κs .1 .1 .1 .0) (qs .1 .1 .1 .0)) (List._∷_ (Row.lease (κs .1 .1 .1 .1 .0) (qs .1 .1 .1 .1 .0)) (List._∷_ (Row.lease (κs .1 .1 .1 .1 .1 .0) (qs .1 .1 .1 .1 .1 .0))
+              (List._∷_ Row.off (List._∷_ Row.alive (List._∷_ Row.off (List._∷_ Row.off (List._∷_ Row.off (List._∷_ Row.off (List._∷_ Row.off (List._∷_ Row.off List.[])))))))))))));
+        }
 
         abbrev G19 : Row.Cx
-        G19 = record { locals = List._++_ g12 (List._++_ t13 t2); slots = List._∷_ (Row.lease (κs .0) (qs .0)) (List._∷_ (Row.lease (κs .1 .0) (qs .1 .0)) (List._∷_ (Row.lease (κs .1 .1 .0) (qs .1 .1
-            .0)) (List._∷_ Row.off (List._∷_ (Row.lease (κs .1 .1 .1 .1 .0) (qs .1 .1 .1 .1 .0)) (List._∷_ (Row.lease (κs .1 .1 .1 .1 .1 .0) (qs .1 .1 .1 .1 .1 .0)) (List._∷_ Row.off (List._∷_ Row.alive
-            (List._∷_ Row.off (List._∷_ Row.off (List._∷_ Row.off (List._∷_ Row.off (List._∷_ Row.off (List._∷_ Row.off List.[]))))))))))))); }
+        G19 = record {
+          locals = List._++_ g12 (List._++_ t13 t2);
+          slots = List._∷_ (Row.lease (κs .0) (qs .0)) (List._∷_ (Row.lease (κs .1 .0) (qs .1 .0)) (List._∷_ (Row.lease (κs .1 .1 .0) (qs .1 .1
+              .0)) (List._∷_ Row.off (List._∷_ (Row.lease (κs .1 .1 .1 .1 .0) (qs .1 .1 .1 .1 .0)) (List._∷_ (Row.lease (κs .1 .1 .1 .1 .1 .0) (qs .1 .1 .1 .1 .1 .0)) (List._∷_ Row.off (List._∷_ Row.alive
+              (List._∷_ Row.off (List._∷_ Row.off (List._∷_ Row.off (List._∷_ Row.off (List._∷_ Row.off (List._∷_ Row.off List.[])))))))))))));
+        }
 
         abbrev G20 : Row.Cx
-        G20 = record { locals = List._++_ g12 (List._++_ t14 t2); slots = List._∷_ (Row.lease (κs .0) (qs .0)) (List._∷_ (Row.lease (κs .1 .0) (qs .1 .0)) (List._∷_ (Row.lease (κs .1 .1 .0) (qs .1 .1
-            .0)) (List._∷_ Row.off (List._∷_ (Row.lease (κs .1 .1 .1 .1 .0) (qs .1 .1 .1 .1 .0)) (List._∷_ (Row.lease (κs .1 .1 .1 .1 .1 .0) (qs .1 .1 .1 .1 .1 .0)) (List._∷_ Row.off (List._∷_ Row.alive
-            (List._∷_ Row.off (List._∷_ Row.off (List._∷_ Row.off (List._∷_ Row.off (List._∷_ Row.off (List._∷_ Row.off List.[]))))))))))))); }
+        G20 = record {
+          locals = List._++_ g12 (List._++_ t14 t2);
+          slots = List._∷_ (Row.lease (κs .0) (qs .0)) (List._∷_ (Row.lease (κs .1 .0) (qs .1 .0)) (List._∷_ (Row.lease (κs .1 .1 .0) (qs .1 .1
+              .0)) (List._∷_ Row.off (List._∷_ (Row.lease (κs .1 .1 .1 .1 .0) (qs .1 .1 .1 .1 .0)) (List._∷_ (Row.lease (κs .1 .1 .1 .1 .1 .0) (qs .1 .1 .1 .1 .1 .0)) (List._∷_ Row.off (List._∷_ Row.alive
+              (List._∷_ Row.off (List._∷_ Row.off (List._∷_ Row.off (List._∷_ Row.off (List._∷_ Row.off (List._∷_ Row.off List.[])))))))))))));
+        }
 
         abbrev G21 : Row.Cx
-        G21 = record { locals = List._++_ g12 (List._++_ t15 t2); slots = List._∷_ (Row.lease (κs .0) (qs .0)) (List._∷_ (Row.lease (κs .1 .0) (qs .1 .0)) (List._∷_ (Row.lease (κs .1 .1 .0) (qs .1 .1
-            .0)) (List._∷_ Row.off (List._∷_ (Row.lease (κs .1 .1 .1 .1 .0) (qs .1 .1 .1 .1 .0)) (List._∷_ (Row.lease (κs .1 .1 .1 .1 .1 .0) (qs .1 .1 .1 .1 .1 .0)) (List._∷_ Row.off (List._∷_ Row.alive
-            (List._∷_ Row.off (List._∷_ Row.off (List._∷_ Row.off (List._∷_ Row.off (List._∷_ Row.off (List._∷_ Row.off List.[]))))))))))))); }
+        G21 = record {
+          locals = List._++_ g12 (List._++_ t15 t2);
+          slots = List._∷_ (Row.lease (κs .0) (qs .0)) (List._∷_ (Row.lease (κs .1 .0) (qs .1 .0)) (List._∷_ (Row.lease (κs .1 .1 .0) (qs .1 .1
+              .0)) (List._∷_ Row.off (List._∷_ (Row.lease (κs .1 .1 .1 .1 .0) (qs .1 .1 .1 .1 .0)) (List._∷_ (Row.lease (κs .1 .1 .1 .1 .1 .0) (qs .1 .1 .1 .1 .1 .0)) (List._∷_ Row.off (List._∷_ Row.alive
+              (List._∷_ Row.off (List._∷_ Row.off (List._∷_ Row.off (List._∷_ Row.off (List._∷_ Row.off (List._∷_ Row.off List.[])))))))))))));
+        }
 
         abbrev G22 : Row.Cx
-        G22 = record { locals = List._++_ g12 (List._++_ t16 t2); slots = List._∷_ (Row.lease (κs .0) (qs .0)) (List._∷_ (Row.lease (κs .1 .0) (qs .1 .0)) (List._∷_ (Row.lease (κs .1 .1 .0) (qs .1 .1
-            .0)) (List._∷_ Row.off (List._∷_ (Row.lease (κs .1 .1 .1 .1 .0) (qs .1 .1 .1 .1 .0)) (List._∷_ (Row.lease (κs .1 .1 .1 .1 .1 .0) (qs .1 .1 .1 .1 .1 .0)) (List._∷_ Row.off (List._∷_ Row.alive
-            (List._∷_ Row.off (List._∷_ Row.off (List._∷_ Row.off (List._∷_ Row.off (List._∷_ Row.off (List._∷_ Row.off List.[]))))))))))))); }
+        G22 = record {
+          locals = List._++_ g12 (List._++_ t16 t2);
+          slots = List._∷_ (Row.lease (κs .0) (qs .0)) (List._∷_ (Row.lease (κs .1 .0) (qs .1 .0)) (List._∷_ (Row.lease (κs .1 .1 .0) (qs .1 .1
+              .0)) (List._∷_ Row.off (List._∷_ (Row.lease (κs .1 .1 .1 .1 .0) (qs .1 .1 .1 .1 .0)) (List._∷_ (Row.lease (κs .1 .1 .1 .1 .1 .0) (qs .1 .1 .1 .1 .1 .0)) (List._∷_ Row.off (List._∷_ Row.alive
+              (List._∷_ Row.off (List._∷_ Row.off (List._∷_ Row.off (List._∷_ Row.off (List._∷_ Row.off (List._∷_ Row.off List.[])))))))))))));
+        }
 
         abbrev G23 : Row.Cx
-        G23 = record { locals = List._++_ g12 (List._++_ t17 t2); slots = List._∷_ (Row.lease (κs .0) (qs .0)) (List._∷_ (Row.lease (κs .1 .0) (qs .1 .0)) (List._∷_ (Row.lease (κs .1 .1 .0) (qs .1 .1
-            .0)) (List._∷_ Row.off (List._∷_ (Row.lease (κs .1 .1 .1 .1 .0) (qs .1 .1 .1 .1 .0)) (List._∷_ (Row.lease (κs .1 .1 .1 .1 .1 .0) (qs .1 .1 .1 .1 .1 .0)) (List._∷_ Row.off (List._∷_ Row.alive
-            (List._∷_ Row.off (List._∷_ Row.off (List._∷_ Row.off (List._∷_ Row.off (List._∷_ Row.off (List._∷_ Row.off List.[]))))))))))))); }
+        G23 = record {
+          locals = List._++_ g12 (List._++_ t17 t2);
+          slots = List._∷_ (Row.lease (κs .0) (qs .0)) (List._∷_ (Row.lease (κs .1 .0) (qs .1 .0)) (List._∷_ (Row.lease (κs .1 .1 .0) (qs .1 .1
+              .0)) (List._∷_ Row.off (List._∷_ (Row.lease (κs .1 .1 .1 .1 .0) (qs .1 .1 .1 .1 .0)) (List._∷_ (Row.lease (κs .1 .1 .1 .1 .1 .0) (qs .1 .1 .1 .1 .1 .0)) (List._∷_ Row.off (List._∷_ Row.alive
+              (List._∷_ Row.off (List._∷_ Row.off (List._∷_ Row.off (List._∷_ Row.off (List._∷_ Row.off (List._∷_ Row.off List.[])))))))))))));
+        }
 
         abbrev G24 : Row.Cx
-        G24 = record { locals = List._++_ g12 (List._++_ t18 t2); slots = List._∷_ (Row.lease (κs .0) (qs .0)) (List._∷_ (Row.lease (κs .1 .0) (qs .1 .0)) (List._∷_ (Row.lease (κs .1 .1 .0) (qs .1 .1
-            .0)) (List._∷_ Row.off (List._∷_ (Row.lease (κs .1 .1 .1 .1 .0) (qs .1 .1 .1 .1 .0)) (List._∷_ (Row.lease (κs .1 .1 .1 .1 .1 .0) (qs .1 .1 .1 .1 .1 .0)) (List._∷_ Row.off (List._∷_ Row.alive
-            (List._∷_ Row.off (List._∷_ Row.off (List._∷_ Row.off (List._∷_ Row.off (List._∷_ Row.off (List._∷_ Row.off List.[]))))))))))))); }
+        G24 = record {
+          locals = List._++_ g12 (List._++_ t18 t2);
+          slots = List._∷_ (Row.lease (κs .0) (qs .0)) (List._∷_ (Row.lease (κs .1 .0) (qs .1 .0)) (List._∷_ (Row.lease (κs .1 .1 .0) (qs .1 .1
+              .0)) (List._∷_ Row.off (List._∷_ (Row.lease (κs .1 .1 .1 .1 .0) (qs .1 .1 .1 .1 .0)) (List._∷_ (Row.lease (κs .1 .1 .1 .1 .1 .0) (qs .1 .1 .1 .1 .1 .0)) (List._∷_ Row.off (List._∷_ Row.alive
+              (List._∷_ Row.off (List._∷_ Row.off (List._∷_ Row.off (List._∷_ Row.off (List._∷_ Row.off (List._∷_ Row.off List.[])))))))))))));
+        }
 
         abbrev G25 : Row.Cx
-        G25 = record { locals = List._++_ g12 (List._++_ t18 t2); slots = List._∷_ (Row.lease (κs .0) (qs .0)) (List._∷_ (Row.lease (κs .1 .0) (qs .1 .0)) (List._∷_ (Row.lease (κs .1 .1 .0) (qs .1 .1
-            .0)) (List._∷_ Row.off (List._∷_ (Row.lease (κs .1 .1 .1 .1 .0) (qs .1 .1 .1 .1 .0)) (List._∷_ (Row.lease (κs .1 .1 .1 .1 .1 .0) (qs .1 .1 .1 .1 .1 .0)) (List._∷_ Row.off (List._∷_ Row.dead
-            (List._∷_ Row.off (List._∷_ Row.off (List._∷_ Row.off (List._∷_ Row.off (List._∷_ Row.off (List._∷_ Row.off List.[]))))))))))))); }
+        G25 = record {
+          locals = List._++_ g12 (List._++_ t18 t2);
+          slots = List._∷_ (Row.lease (κs .0) (qs .0)) (List._∷_ (Row.lease (κs .1 .0) (qs .1 .0)) (List._∷_ (Row.lease (κs .1 .1 .0) (qs .1 .1
+              .0)) (List._∷_ Row.off (List._∷_ (Row.lease (κs .1 .1 .1 .1 .0) (qs .1 .1 .1 .1 .0)) (List._∷_ (Row.lease (κs .1 .1 .1 .1 .1 .0) (qs .1 .1 .1 .1 .1 .0)) (List._∷_ Row.off (List._∷_ Row.dead
+              (List._∷_ Row.off (List._∷_ Row.off (List._∷_ Row.off (List._∷_ Row.off (List._∷_ Row.off (List._∷_ Row.off List.[])))))))))))));
+        }
 
         abbrev G26 : Row.Cx
-        G26 = record { locals = List._++_ t6 (List._++_ t1 t2); slots = List._∷_ (Row.lease (κs .0) (qs .0)) (List._∷_ (Row.lease (κs .1 .0) (qs .1 .0)) (List._∷_ (Row.lease (κs .1 .1 .0) (qs .1 .1
-            .0)) (List._∷_ (Row.lease (κs .1 .1 .1 .0) (qs .1 .1 .1 .0)) (List._∷_ (Row.lease (κs .1 .1 .1 .1 .0) (qs .1 .1 .1 .1 .0)) (List._∷_ (Row.lease (κs .1 .1 .1 .1 .1 .0) (qs .1 .1 .1 .1 .1 .0))
-            (List._∷_ Row.off (List._∷_ Row.dead (List._∷_ Row.off (List._∷_ Row.off (List._∷_ Row.off (List._∷_ Row.off (List._∷_ Row.off (List._∷_ Row.off List.[]))))))))))))); }
+        G26 = record {
+          locals = List._++_ t6 (List._++_ t1 t2);
+          slots = List._∷_ (Row.lease (κs .0) (qs .0)) (List._∷_ (Row.lease (κs .1 .0) (qs .1 .0)) (List._∷_ (Row.lease (κs .1 .1 .0) (qs .1 .1
+              .0)) (List._∷_ (Row.lease (κs .1 .1 .1 .0) (qs .1 .1 .1 .0)) (List._∷_ (Row.lease (κs .1 .1 .1 .1 .0) (qs .1 .1 .1 .1 .0)) (List._∷_ (Row.lease (κs .1 .1 .1 .1 .1 .0) (qs .1 .1 .1 .1 .1 .0))
+              (List._∷_ Row.off (List._∷_ Row.dead (List._∷_ Row.off (List._∷_ Row.off (List._∷_ Row.off (List._∷_ Row.off (List._∷_ Row.off (List._∷_ Row.off List.[])))))))))))));
+        }
 
         abbrev G27 : Row.Cx
-        G27 = record { locals = List._++_ t6 (List._++_ t1 t2); slots = List._∷_ (Row.lease (κs .0) (qs .0)) (List._∷_ (Row.lease (κs .1 .0) (qs .1 .0)) (List._∷_ (Row.lease (κs .1 .1 .0) (qs .1 .1
-            .0)) (List._∷_ (Row.lease (κs .1 .1 .1 .0) (qs .1 .1 .1 .0)) (List._∷_ (Row.lease (κs .1 .1 .1 .1 .0) (qs .1 .1 .1 .1 .0)) (List._∷_ (Row.lease (κs .1 .1 .1 .1 .1 .0) (qs .1 .1 .1 .1 .1 .0))
-            (List._∷_ Row.off (List._∷_ Row.off (List._∷_ Row.off (List._∷_ Row.off (List._∷_ Row.off (List._∷_ Row.off (List._∷_ Row.off (List._∷_ Row.off List.[]))))))))))))); }
+        G27 = record {
+          locals = List._++_ t6 (List._++_ t1 t2);
+          slots = List._∷_ (Row.lease (κs .0) (qs .0)) (List._∷_ (Row.lease (κs .1 .0) (qs .1 .0)) (List._∷_ (Row.lease (κs .1 .1 .0) (qs .1 .1
+              .0)) (List._∷_ (Row.lease (κs .1 .1 .1 .0) (qs .1 .1 .1 .0)) (List._∷_ (Row.lease (κs .1 .1 .1 .1 .0) (qs .1 .1 .1 .1 .0)) (List._∷_ (Row.lease (κs .1 .1 .1 .1 .1 .0) (qs .1 .1 .1 .1 .1 .0))
+              (List._∷_ Row.off (List._∷_ Row.off (List._∷_ Row.off (List._∷_ Row.off (List._∷_ Row.off (List._∷_ Row.off (List._∷_ Row.off (List._∷_ Row.off List.[])))))))))))));
+        }
 
         abbrev G28 : Row.Cx
-        G28 = record { locals = List._++_ t19 (List._++_ t1 t2); slots = List._∷_ (Row.lease (κs .0) (qs .0)) (List._∷_ (Row.lease (κs .1 .0) (qs .1 .0)) (List._∷_ (Row.lease (κs .1 .1 .0) (qs .1 .1
-            .0)) (List._∷_ (Row.lease (κs .1 .1 .1 .0) (qs .1 .1 .1 .0)) (List._∷_ (Row.lease (κs .1 .1 .1 .1 .0) (qs .1 .1 .1 .1 .0)) (List._∷_ (Row.lease (κs .1 .1 .1 .1 .1 .0) (qs .1 .1 .1 .1 .1 .0))
-            (List._∷_ Row.off (List._∷_ Row.off (List._∷_ Row.off (List._∷_ Row.off (List._∷_ Row.off (List._∷_ Row.off (List._∷_ Row.off (List._∷_ Row.off List.[]))))))))))))); }
+        G28 = record {
+          locals = List._++_ t19 (List._++_ t1 t2);
+          slots = List._∷_ (Row.lease (κs .0) (qs .0)) (List._∷_ (Row.lease (κs .1 .0) (qs .1 .0)) (List._∷_ (Row.lease (κs .1 .1 .0) (qs .1 .1
+              .0)) (List._∷_ (Row.lease (κs .1 .1 .1 .0) (qs .1 .1 .1 .0)) (List._∷_ (Row.lease (κs .1 .1 .1 .1 .0) (qs .1 .1 .1 .1 .0)) (List._∷_ (Row.lease (κs .1 .1 .1 .1 .1 .0) (qs .1 .1 .1 .1 .1 .0))
+              (List._∷_ Row.off (List._∷_ Row.off (List._∷_ Row.off (List._∷_ Row.off (List._∷_ Row.off (List._∷_ Row.off (List._∷_ Row.off (List._∷_ Row.off List.[])))))))))))));
+        }
 
         abbrev G29 : Row.Cx
-        G29 = record { locals = List._++_ t20 (List._++_ t1 t2); slots = List._∷_ (Row.lease (κs .0) (qs .0)) (List._∷_ (Row.lease (κs .1 .0) (qs .1 .0)) (List._∷_ (Row.lease (κs .1 .1 .0) (qs .1 .1
-            .0)) (List._∷_ (Row.lease (κs .1 .1 .1 .0) (qs .1 .1 .1 .0)) (List._∷_ (Row.lease (κs .1 .1 .1 .1 .0) (qs .1 .1 .1 .1 .0)) (List._∷_ (Row.lease (κs .1 .1 .1 .1 .1 .0) (qs .1 .1 .1 .1 .1 .0))
-            (List._∷_ Row.off (List._∷_ Row.off (List._∷_ Row.off (List._∷_ Row.off (List._∷_ Row.off (List._∷_ Row.off (List._∷_ Row.off (List._∷_ Row.off List.[]))))))))))))); }
+        G29 = record {
+          locals = List._++_ t20 (List._++_ t1 t2);
+          slots = List._∷_ (Row.lease (κs .0) (qs .0)) (List._∷_ (Row.lease (κs .1 .0) (qs .1 .0)) (List._∷_ (Row.lease (κs .1 .1 .0) (qs .1 .1
+              .0)) (List._∷_ (Row.lease (κs .1 .1 .1 .0) (qs .1 .1 .1 .0)) (List._∷_ (Row.lease (κs .1 .1 .1 .1 .0) (qs .1 .1 .1 .1 .0)) (List._∷_ (Row.lease (κs .1 .1 .1 .1 .1 .0) (qs .1 .1 .1 .1 .1 .0))
+              (List._∷_ Row.off (List._∷_ Row.off (List._∷_ Row.off (List._∷_ Row.off (List._∷_ Row.off (List._∷_ Row.off (List._∷_ Row.off (List._∷_ Row.off List.[])))))))))))));
+        }
 
         abbrev G30 : Row.Cx
-        G30 = record { locals = List._++_ t20 (List._++_ t21 t2); slots = List._∷_ (Row.lease (κs .0) (qs .0)) (List._∷_ (Row.lease (κs .1 .0) (qs .1 .0)) (List._∷_ (Row.lease (κs .1 .1 .0) (qs .1 .1
-            .0)) (List._∷_ (Row.lease (κs .1 .1 .1 .0) (qs .1 .1 .1 .0)) (List._∷_ (Row.lease (κs .1 .1 .1 .1 .0) (qs .1 .1 .1 .1 .0)) (List._∷_ (Row.lease (κs .1 .1 .1 .1 .1 .0) (qs .1 .1 .1 .1 .1 .0))
-            (List._∷_ Row.off (List._∷_ Row.off (List._∷_ Row.off (List._∷_ Row.off (List._∷_ Row.off (List._∷_ Row.off (List._∷_ Row.off (List._∷_ Row.off List.[]))))))))))))); }
+        G30 = record {
+          locals = List._++_ t20 (List._++_ t21 t2);
+          slots = List._∷_ (Row.lease (κs .0) (qs .0)) (List._∷_ (Row.lease (κs .1 .0) (qs .1 .0)) (List._∷_ (Row.lease (κs .1 .1 .0) (qs .1 .1
+              .0)) (List._∷_ (Row.lease (κs .1 .1 .1 .0) (qs .1 .1 .1 .0)) (List._∷_ (Row.lease (κs .1 .1 .1 .1 .0) (qs .1 .1 .1 .1 .0)) (List._∷_ (Row.lease (κs .1 .1 .1 .1 .1 .0) (qs .1 .1 .1 .1 .1 .0))
+              (List._∷_ Row.off (List._∷_ Row.off (List._∷_ Row.off (List._∷_ Row.off (List._∷_ Row.off (List._∷_ Row.off (List._∷_ Row.off (List._∷_ Row.off List.[])))))))))))));
+        }
 
         abbrev G31 : Row.Cx
-        G31 = record { locals = List._++_ t20 (List._++_ t22 t2); slots = List._∷_ (Row.lease (κs .0) (qs .0)) (List._∷_ (Row.lease (κs .1 .0) (qs .1 .0)) (List._∷_ (Row.lease (κs .1 .1 .0) (qs .1 .1
-            .0)) (List._∷_ (Row.lease (κs .1 .1 .1 .0) (qs .1 .1 .1 .0)) (List._∷_ (Row.lease (κs .1 .1 .1 .1 .0) (qs .1 .1 .1 .1 .0)) (List._∷_ (Row.lease (κs .1 .1 .1 .1 .1 .0) (qs .1 .1 .1 .1 .1 .0))
-            (List._∷_ Row.off (List._∷_ Row.off (List._∷_ Row.off (List._∷_ Row.off (List._∷_ Row.off (List._∷_ Row.off (List._∷_ Row.off (List._∷_ Row.off List.[]))))))))))))); }
+        G31 = record {
+          locals = List._++_ t20 (List._++_ t22 t2);
+          slots = List._∷_ (Row.lease (κs .0) (qs .0)) (List._∷_ (Row.lease (κs .1 .0) (qs .1 .0)) (List._∷_ (Row.lease (κs .1 .1 .0) (qs .1 .1
+              .0)) (List._∷_ (Row.lease (κs .1 .1 .1 .0) (qs .1 .1 .1 .0)) (List._∷_ (Row.lease (κs .1 .1 .1 .1 .0) (qs .1 .1 .1 .1 .0)) (List._∷_ (Row.lease (κs .1 .1 .1 .1 .1 .0) (qs .1 .1 .1 .1 .1 .0))
+              (List._∷_ Row.off (List._∷_ Row.off (List._∷_ Row.off (List._∷_ Row.off (List._∷_ Row.off (List._∷_ Row.off (List._∷_ Row.off (List._∷_ Row.off List.[])))))))))))));
+        }
 
         abbrev G32 : Row.Cx
-        G32 = record { locals = List._++_ t23 (List._++_ t22 t2); slots = List._∷_ (Row.lease (κs .0) (qs .0)) (List._∷_ (Row.lease (κs .1 .0) (qs .1 .0)) (List._∷_ (Row.lease (κs .1 .1 .0) (qs .1 .1
-            .0)) (List._∷_ (Row.lease (κs .1 .1 .1 .0) (qs .1 .1 .1 .0)) (List._∷_ (Row.lease (κs .1 .1 .1 .1 .0) (qs .1 .1 .1 .1 .0)) (List._∷_ (Row.lease (κs .1 .1 .1 .1 .1 .0) (qs .1 .1 .1 .1 .1 .0))
-            (List._∷_ Row.off (List._∷_ Row.off (List._∷_ Row.off (List._∷_ Row.off (List._∷_ Row.off (List._∷_ Row.off (List._∷_ Row.off (List._∷_ Row.off List.[]))))))))))))); }
+        G32 = record {
+          locals = List._++_ t23 (List._++_ t22 t2);
+          slots = List._∷_ (Row.lease (κs .0) (qs .0)) (List._∷_ (Row.lease (κs .1 .0) (qs .1 .0)) (List._∷_ (Row.lease (κs .1 .1 .0) (qs .1 .1
+              .0)) (List._∷_ (Row.lease (κs .1 .1 .1 .0) (qs .1 .1 .1 .0)) (List._∷_ (Row.lease (κs .1 .1 .1 .1 .0) (qs .1 .1 .1 .1 .0)) (List._∷_ (Row.lease (κs .1 .1 .1 .1 .1 .0) (qs .1 .1 .1 .1 .1 .0))
+              (List._∷_ Row.off (List._∷_ Row.off (List._∷_ Row.off (List._∷_ Row.off (List._∷_ Row.off (List._∷_ Row.off (List._∷_ Row.off (List._∷_ Row.off List.[])))))))))))));
+        }
 
         abbrev G33 : Row.Cx
-        G33 = record { locals = List._++_ t24 (List._++_ t22 t2); slots = List._∷_ (Row.lease (κs .0) (qs .0)) (List._∷_ (Row.lease (κs .1 .0) (qs .1 .0)) (List._∷_ (Row.lease (κs .1 .1 .0) (qs .1 .1
-            .0)) (List._∷_ (Row.lease (κs .1 .1 .1 .0) (qs .1 .1 .1 .0)) (List._∷_ (Row.lease (κs .1 .1 .1 .1 .0) (qs .1 .1 .1 .1 .0)) (List._∷_ (Row.lease (κs .1 .1 .1 .1 .1 .0) (qs .1 .1 .1 .1 .1 .0))
-            (List._∷_ Row.off (List._∷_ Row.off (List._∷_ Row.off (List._∷_ Row.off (List._∷_ Row.off (List._∷_ Row.off (List._∷_ Row.off (List._∷_ Row.off List.[]))))))))))))); }
+        G33 = record {
+          locals = List._++_ t24 (List._++_ t22 t2);
+          slots = List._∷_ (Row.lease (κs .0) (qs .0)) (List._∷_ (Row.lease (κs .1 .0) (qs .1 .0)) (List._∷_ (Row.lease (κs .1 .1 .0) (qs .1 .1
+              .0)) (List._∷_ (Row.lease (κs .1 .1 .1 .0) (qs .1 .1 .1 .0)) (List._∷_ (Row.lease (κs .1 .1 .1 .1 .0) (qs .1 .1 .1 .1 .0)) (List._∷_ (Row.lease (κs .1 .1 .1 .1 .1 .0) (qs .1 .1 .1 .1 .1 .0))
+              (List._∷_ Row.off (List._∷_ Row.off (List._∷_ Row.off (List._∷_ Row.off (List._∷_ Row.off (List._∷_ Row.off (List._∷_ Row.off (List._∷_ Row.off List.[])))))))))))));
+        }
 
         abbrev G34 : Row.Cx
-        G34 = record { locals = List._++_ t24 (List._++_ t25 t2); slots = List._∷_ (Row.lease (κs .0) (qs .0)) (List._∷_ (Row.lease (κs .1 .0) (qs .1 .0)) (List._∷_ (Row.lease (κs .1 .1 .0) (qs .1 .1
-            .0)) (List._∷_ (Row.lease (κs .1 .1 .1 .0) (qs .1 .1 .1 .0)) (List._∷_ (Row.lease (κs .1 .1 .1 .1 .0) (qs .1 .1 .1 .1 .0)) (List._∷_ (Row.lease (κs .1 .1 .1 .1 .1 .0) (qs .1 .1 .1 .1 .1 .0))
-            (List._∷_ Row.off (List._∷_ Row.off (List._∷_ Row.off (List._∷_ Row.off (List._∷_ Row.off (List._∷_ Row.off (List._∷_ Row.off (List._∷_ Row.off List.[]))))))))))))); }
+        G34 = record {
+          locals = List._++_ t24 (List._++_ t25 t2);
+          slots = List._∷_ (Row.lease (κs .0) (qs .0)) (List._∷_ (Row.lease (κs .1 .0) (qs .1 .0)) (List._∷_ (Row.lease (κs .1 .1 .0) (qs .1 .1
+              .0)) (List._∷_ (Row.lease (κs .1 .1 .1 .0) (qs .1 .1 .1 .0)) (List._∷_ (Row.lease (κs .1 .1 .1 .1 .0) (qs .1 .1 .1 .1 .0)) (List._∷_ (Row.lease (κs .1 .1 .1 .1 .1 .0) (qs .1 .1 .1 .1 .1 .0))
+              (List._∷_ Row.off (List._∷_ Row.off (List._∷_ Row.off (List._∷_ Row.off (List._∷_ Row.off (List._∷_ Row.off (List._∷_ Row.off (List._∷_ Row.off List.[])))))))))))));
+        }
 
         abbrev G35 : Row.Cx
-        G35 = record { locals = List._++_ t24 (List._++_ t22 t2); slots = List._∷_ (Row.lease (κs .0) (qs .0)) (List._∷_ (Row.lease (κs .1 .0) (qs .1 .0)) (List._∷_ (Row.lease (κs .1 .1 .0) (qs .1 .1
-            .0)) (List._∷_ (Row.lease (κs .1 .1 .1 .0) (qs .1 .1 .1 .0)) (List._∷_ (Row.lease (κs .1 .1 .1 .1 .0) (qs .1 .1 .1 .1 .0)) (List._∷_ (Row.lease (κs .1 .1 .1 .1 .1 .0) (qs .1 .1 .1 .1 .1 .0))
-            (List._∷_ Row.off (List._∷_ Row.off (List._∷_ Row.off (List._∷_ Row.off (List._∷_ Row.off (List._∷_ Row.off (List._∷_ Row.off (List._∷_ Row.off List.[]))))))))))))); }
+        G35 = record {
+          locals = List._++_ t24 (List._++_ t22 t2);
+          slots = List._∷_ (Row.lease (κs .0) (qs .0)) (List._∷_ (Row.lease (κs .1 .0) (qs .1 .0)) (List._∷_ (Row.lease (κs .1 .1 .0) (qs .1 .1
+              .0)) (List._∷_ (Row.lease (κs .1 .1 .1 .0) (qs .1 .1 .1 .0)) (List._∷_ (Row.lease (κs .1 .1 .1 .1 .0) (qs .1 .1 .1 .1 .0)) (List._∷_ (Row.lease (κs .1 .1 .1 .1 .1 .0) (qs .1 .1 .1 .1 .1 .0))
+              (List._∷_ Row.off (List._∷_ Row.off (List._∷_ Row.off (List._∷_ Row.off (List._∷_ Row.off (List._∷_ Row.off (List._∷_ Row.off (List._∷_ Row.off List.[])))))))))))));
+        }
 
         abbrev G36 : Row.Cx
-        G36 = record { locals = List._++_ t24 (List._++_ t22 t2); slots = List._∷_ (Row.lease (κs .0) (qs .0)) (List._∷_ (Row.lease (κs .1 .0) (qs .1 .0)) (List._∷_ (Row.lease (κs .1 .1 .0) (qs .1 .1
-            .0)) (List._∷_ (Row.lease (κs .1 .1 .1 .0) (qs .1 .1 .1 .0)) (List._∷_ (Row.lease (κs .1 .1 .1 .1 .0) (qs .1 .1 .1 .1 .0)) (List._∷_ (Row.lease (κs .1 .1 .1 .1 .1 .0) (qs .1 .1 .1 .1 .1 .0))
-            (List._∷_ Row.off (List._∷_ Row.off (List._∷_ Row.off (List._∷_ Row.off (List._∷_ Row.off (List._∷_ Row.off (List._∷_ Row.off (List._∷_ Row.off List.[]))))))))))))); }
+        G36 = record {
+          locals = List._++_ t24 (List._++_ t22 t2);
+          slots = List._∷_ (Row.lease (κs .0) (qs .0)) (List._∷_ (Row.lease (κs .1 .0) (qs .1 .0)) (List._∷_ (Row.lease (κs .1 .1 .0) (qs .1 .1
+              .0)) (List._∷_ (Row.lease (κs .1 .1 .1 .0) (qs .1 .1 .1 .0)) (List._∷_ (Row.lease (κs .1 .1 .1 .1 .0) (qs .1 .1 .1 .1 .0)) (List._∷_ (Row.lease (κs .1 .1 .1 .1 .1 .0) (qs .1 .1 .1 .1 .1 .0))
+              (List._∷_ Row.off (List._∷_ Row.off (List._∷_ Row.off (List._∷_ Row.off (List._∷_ Row.off (List._∷_ Row.off (List._∷_ Row.off (List._∷_ Row.off List.[])))))))))))));
+        }
 
         abbrev G37 : Row.Cx
-        G37 = record { locals = List._++_ t26 (List._++_ t25 t2); slots = List._∷_ (Row.lease (κs .0) (qs .0)) (List._∷_ (Row.lease (κs .1 .0) (qs .1 .0)) (List._∷_ (Row.lease (κs .1 .1 .0) (qs .1 .1
-            .0)) (List._∷_ (Row.lease (κs .1 .1 .1 .0) (qs .1 .1 .1 .0)) (List._∷_ (Row.lease (κs .1 .1 .1 .1 .0) (qs .1 .1 .1 .1 .0)) (List._∷_ (Row.lease (κs .1 .1 .1 .1 .1 .0) (qs .1 .1 .1 .1 .1 .0))
-            (List._∷_ Row.off (List._∷_ Row.off (List._∷_ Row.off (List._∷_ Row.off (List._∷_ Row.off (List._∷_ Row.off (List._∷_ Row.off (List._∷_ Row.off List.[]))))))))))))); }
+        G37 = record {
+          locals = List._++_ t26 (List._++_ t25 t2);
+          slots = List._∷_ (Row.lease (κs .0) (qs .0)) (List._∷_ (Row.lease (κs .1 .0) (qs .1 .0)) (List._∷_ (Row.lease (κs .1 .1 .0) (qs .1 .1
+              .0)) (List._∷_ (Row.lease (κs .1 .1 .1 .0) (qs .1 .1 .1 .0)) (List._∷_ (Row.lease (κs .1 .1 .1 .1 .0) (qs .1 .1 .1 .1 .0)) (List._∷_ (Row.lease (κs .1 .1 .1 .1 .1 .0) (qs .1 .1 .1 .1 .1 .0))
+              (List._∷_ Row.off (List._∷_ Row.off (List._∷_ Row.off (List._∷_ Row.off (List._∷_ Row.off (List._∷_ Row.off (List._∷_ Row.off (List._∷_ Row.off List.[])))))))))))));
+        }
 
         abbrev G38 : Row.Cx
-        G38 = record { locals = List._++_ t27 (List._++_ t25 t2); slots = List._∷_ (Row.lease (κs .0) (qs .0)) (List._∷_ (Row.lease (κs .1 .0) (qs .1 .0)) (List._∷_ (Row.lease (κs .1 .1 .0) (qs .1 .1
-            .0)) (List._∷_ (Row.lease (κs .1 .1 .1 .0) (qs .1 .1 .1 .0)) (List._∷_ (Row.lease (κs .1 .1 .1 .1 .0) (qs .1 .1 .1 .1 .0)) (List._∷_ (Row.lease (κs .1 .1 .1 .1 .1 .0) (qs .1 .1 .1 .1 .1 .0))
-            (List._∷_ Row.off (List._∷_ Row.off (List._∷_ Row.off (List._∷_ Row.off (List._∷_ Row.off (List._∷_ Row.off (List._∷_ Row.off (List._∷_ Row.off List.[]))))))))))))); }
+        G38 = record {
+          locals = List._++_ t27 (List._++_ t25 t2);
+          slots = List._∷_ (Row.lease (κs .0) (qs .0)) (List._∷_ (Row.lease (κs .1 .0) (qs .1 .0)) (List._∷_ (Row.lease (κs .1 .1 .0) (qs .1 .1
+              .0)) (List._∷_ (Row.lease (κs .1 .1 .1 .0) (qs .1 .1 .1 .0)) (List._∷_ (Row.lease (κs .1 .1 .1 .1 .0) (qs .1 .1 .1 .1 .0)) (List._∷_ (Row.lease (κs .1 .1 .1 .1 .1 .0) (qs .1 .1 .1 .1 .1 .0))
+              (List._∷_ Row.off (List._∷_ Row.off (List._∷_ Row.off (List._∷_ Row.off (List._∷_ Row.off (List._∷_ Row.off (List._∷_ Row.off (List._∷_ Row.off List.[])))))))))))));
+        }
 
         abbrev G39 : Row.Cx
-        G39 = record { locals = List._++_ t23 (List._++_ t25 t2); slots = List._∷_ (Row.lease (κs .0) (qs .0)) (List._∷_ (Row.lease (κs .1 .0) (qs .1 .0)) (List._∷_ (Row.lease (κs .1 .1 .0) (qs .1 .1
-            .0)) (List._∷_ (Row.lease (κs .1 .1 .1 .0) (qs .1 .1 .1 .0)) (List._∷_ (Row.lease (κs .1 .1 .1 .1 .0) (qs .1 .1 .1 .1 .0)) (List._∷_ (Row.lease (κs .1 .1 .1 .1 .1 .0) (qs .1 .1 .1 .1 .1 .0))
-            (List._∷_ Row.off (List._∷_ Row.off (List._∷_ Row.off (List._∷_ Row.off (List._∷_ Row.off (List._∷_ Row.off (List._∷_ Row.off (List._∷_ Row.off List.[]))))))))))))); }
+        G39 = record {
+          locals = List._++_ t23 (List._++_ t25 t2);
+          slots = List._∷_ (Row.lease (κs .0) (qs .0)) (List._∷_ (Row.lease (κs .1 .0) (qs .1 .0)) (List._∷_ (Row.lease (κs .1 .1 .0) (qs .1 .1
+              .0)) (List._∷_ (Row.lease (κs .1 .1 .1 .0) (qs .1 .1 .1 .0)) (List._∷_ (Row.lease (κs .1 .1 .1 .1 .0) (qs .1 .1 .1 .1 .0)) (List._∷_ (Row.lease (κs .1 .1 .1 .1 .1 .0) (qs .1 .1 .1 .1 .1 .0))
+              (List._∷_ Row.off (List._∷_ Row.off (List._∷_ Row.off (List._∷_ Row.off (List._∷_ Row.off (List._∷_ Row.off (List._∷_ Row.off (List._∷_ Row.off List.[])))))))))))));
+        }
 
         abbrev G40 : Row.Cx
-        G40 = record { locals = List._++_ t23 (List._++_ t22 t2); slots = List._∷_ (Row.lease (κs .0) (qs .0)) (List._∷_ (Row.lease (κs .1 .0) (qs .1 .0)) (List._∷_ (Row.lease (κs .1 .1 .0) (qs .1 .1
-            .0)) (List._∷_ (Row.lease (κs .1 .1 .1 .0) (qs .1 .1 .1 .0)) (List._∷_ (Row.lease (κs .1 .1 .1 .1 .0) (qs .1 .1 .1 .1 .0)) (List._∷_ (Row.lease (κs .1 .1 .1 .1 .1 .0) (qs .1 .1 .1 .1 .1 .0))
-            (List._∷_ Row.off (List._∷_ Row.off (List._∷_ Row.off (List._∷_ Row.off (List._∷_ Row.off (List._∷_ Row.off (List._∷_ Row.off (List._∷_ Row.off List.[]))))))))))))); }
+        G40 = record {
+          locals = List._++_ t23 (List._++_ t22 t2);
+          slots = List._∷_ (Row.lease (κs .0) (qs .0)) (List._∷_ (Row.lease (κs .1 .0) (qs .1 .0)) (List._∷_ (Row.lease (κs .1 .1 .0) (qs .1 .1
+              .0)) (List._∷_ (Row.lease (κs .1 .1 .1 .0) (qs .1 .1 .1 .0)) (List._∷_ (Row.lease (κs .1 .1 .1 .1 .0) (qs .1 .1 .1 .1 .0)) (List._∷_ (Row.lease (κs .1 .1 .1 .1 .1 .0) (qs .1 .1 .1 .1 .1 .0))
+              (List._∷_ Row.off (List._∷_ Row.off (List._∷_ Row.off (List._∷_ Row.off (List._∷_ Row.off (List._∷_ Row.off (List._∷_ Row.off (List._∷_ Row.off List.[])))))))))))));
+        }
 
         abbrev G41 : Row.Cx
-        G41 = record { locals = List._++_ t24 (List._++_ t22 t2); slots = List._∷_ (Row.lease (κs .0) (qs .0)) (List._∷_ (Row.lease (κs .1 .0) (qs .1 .0)) (List._∷_ (Row.lease (κs .1 .1 .0) (qs .1 .1
-            .0)) (List._∷_ (Row.lease (κs .1 .1 .1 .0) (qs .1 .1 .1 .0)) (List._∷_ (Row.lease (κs .1 .1 .1 .1 .0) (qs .1 .1 .1 .1 .0)) (List._∷_ (Row.lease (κs .1 .1 .1 .1 .1 .0) (qs .1 .1 .1 .1 .1 .0))
-            (List._∷_ Row.off (List._∷_ Row.off (List._∷_ Row.alive (List._∷_ Row.off (List._∷_ Row.off (List._∷_ Row.off (List._∷_ Row.off (List._∷_ Row.off List.[]))))))))))))); }
+        G41 = record {
+          locals = List._++_ t24 (List._++_ t22 t2);
+          slots = List._∷_ (Row.lease (κs .0) (qs .0)) (List._∷_ (Row.lease (κs .1 .0) (qs .1 .0)) (List._∷_ (Row.lease (κs .1 .1 .0) (qs .1 .1
+              .0)) (List._∷_ (Row.lease (κs .1 .1 .1 .0) (qs .1 .1 .1 .0)) (List._∷_ (Row.lease (κs .1 .1 .1 .1 .0) (qs .1 .1 .1 .1 .0)) (List._∷_ (Row.lease (κs .1 .1 .1 .1 .1 .0) (qs .1 .1 .1 .1 .1 .0))
+              (List._∷_ Row.off (List._∷_ Row.off (List._∷_ Row.alive (List._∷_ Row.off (List._∷_ Row.off (List._∷_ Row.off (List._∷_ Row.off (List._∷_ Row.off List.[])))))))))))));
+        }
 
         abbrev G42 : Row.Cx
-        G42 = record { locals = List._++_ g28 (List._++_ t29 t2); slots = List._∷_ (Row.lease (κs .0) (qs .0)) (List._∷_ (Row.lease (κs .1 .0) (qs .1 .0)) (List._∷_ Row.off (List._∷_ (Row.lease (κs .1
-            .1 .1 .0) (qs .1 .1 .1 .0)) (List._∷_ (Row.lease (κs .1 .1 .1 .1 .0) (qs .1 .1 .1 .1 .0)) (List._∷_ (Row.lease (κs .1 .1 .1 .1 .1 .0) (qs .1 .1 .1 .1 .1 .0)) (List._∷_ Row.off (List._∷_
-            Row.off (List._∷_ Row.alive (List._∷_ Row.off (List._∷_ Row.off (List._∷_ Row.off (List._∷_ Row.off (List._∷_ Row.off List.[]))))))))))))); }
+        G42 = record {
+          locals = List._++_ g28 (List._++_ t29 t2);
+          slots = List._∷_ (Row.lease (κs .0) (qs .0)) (List._∷_ (Row.lease (κs .1 .0) (qs .1 .0)) (List._∷_ Row.off (List._∷_ (Row.lease (κs .1
+              .1 .1 .0) (qs .1 .1 .1 .0)) (List._∷_ (Row.lease (κs .1 .1 .1 .1 .0) (qs .1 .1 .1 .1 .0)) (List._∷_ (Row.lease (κs .1 .1 .1 .1 .1 .0) (qs .1 .1 .1 .1 .1 .0)) (List._∷_ Row.off (List._∷_
+              Row.off (List._∷_ Row.alive (List._∷_ Row.off (List._∷_ Row.off (List._∷_ Row.off (List._∷_ Row.off (List._∷_ Row.off List.[])))))))))))));
+        }
 
         abbrev G43 : Row.Cx
-        G43 = record { locals = List._++_ g28 (List._++_ t30 t2); slots = List._∷_ (Row.lease (κs .0) (qs .0)) (List._∷_ (Row.lease (κs .1 .0) (qs .1 .0)) (List._∷_ Row.off (List._∷_ (Row.lease (κs .1
-            .1 .1 .0) (qs .1 .1 .1 .0)) (List._∷_ (Row.lease (κs .1 .1 .1 .1 .0) (qs .1 .1 .1 .1 .0)) (List._∷_ (Row.lease (κs .1 .1 .1 .1 .1 .0) (qs .1 .1 .1 .1 .1 .0)) (List._∷_ Row.off (List._∷_
-            Row.off (List._∷_ Row.alive (List._∷_ Row.off (List._∷_ Row.off (List._∷_ Row.off (List._∷_ Row.off (List._∷_ Row.off List.[]))))))))))))); }
+        G43 = record {
+          locals = List._++_ g28 (List._++_ t30 t2);
+          slots = List._∷_ (Row.lease (κs .0) (qs .0)) (List._∷_ (Row.lease (κs .1 .0) (qs .1 .0)) (List._∷_ Row.off (List._∷_ (Row.lease (κs .1
+              .1 .1 .0) (qs .1 .1 .1 .0)) (List._∷_ (Row.lease (κs .1 .1 .1 .1 .0) (qs .1 .1 .1 .1 .0)) (List._∷_ (Row.lease (κs .1 .1 .1 .1 .1 .0) (qs .1 .1 .1 .1 .1 .0)) (List._∷_ Row.off (List._∷_
+              Row.off (List._∷_ Row.alive (List._∷_ Row.off (List._∷_ Row.off (List._∷_ Row.off (List._∷_ Row.off (List._∷_ Row.off List.[])))))))))))));
+        }
 
         abbrev G44 : Row.Cx
-        G44 = record { locals = List._++_ g28 (List._++_ t31 t2); slots = List._∷_ (Row.lease (κs .0) (qs .0)) (List._∷_ (Row.lease (κs .1 .0) (qs .1 .0)) (List._∷_ Row.off (List._∷_ (Row.lease (κs .1
-            .1 .1 .0) (qs .1 .1 .1 .0)) (List._∷_ (Row.lease (κs .1 .1 .1 .1 .0) (qs .1 .1 .1 .1 .0)) (List._∷_ (Row.lease (κs .1 .1 .1 .1 .1 .0) (qs .1 .1 .1 .1 .1 .0)) (List._∷_ Row.off (List._∷_
-            Row.off (List._∷_ Row.alive (List._∷_ Row.off (List._∷_ Row.off (List._∷_ Row.off (List._∷_ Row.off (List._∷_ Row.off List.[]))))))))))))); }
+        G44 = record {
+          locals = List._++_ g28 (List._++_ t31 t2);
+          slots = List._∷_ (Row.lease (κs .0) (qs .0)) (List._∷_ (Row.lease (κs .1 .0) (qs .1 .0)) (List._∷_ Row.off (List._∷_ (Row.lease (κs .1
+              .1 .1 .0) (qs .1 .1 .1 .0)) (List._∷_ (Row.lease (κs .1 .1 .1 .1 .0) (qs .1 .1 .1 .1 .0)) (List._∷_ (Row.lease (κs .1 .1 .1 .1 .1 .0) (qs .1 .1 .1 .1 .1 .0)) (List._∷_ Row.off (List._∷_
+              Row.off (List._∷_ Row.alive (List._∷_ Row.off (List._∷_ Row.off (List._∷_ Row.off (List._∷_ Row.off (List._∷_ Row.off List.[])))))))))))));
+        }
 
         abbrev G45 : Row.Cx
-        G45 = record { locals = List._++_ g28 (List._++_ t32 t2); slots = List._∷_ (Row.lease (κs .0) (qs .0)) (List._∷_ (Row.lease (κs .1 .0) (qs .1 .0)) (List._∷_ Row.off (List._∷_ (Row.lease (κs .1
-            .1 .1 .0) (qs .1 .1 .1 .0)) (List._∷_ (Row.lease (κs .1 .1 .1 .1 .0) (qs .1 .1 .1 .1 .0)) (List._∷_ (Row.lease (κs .1 .1 .1 .1 .1 .0) (qs .1 .1 .1 .1 .1 .0)) (List._∷_ Row.off (List._∷_
-            Row.off (List._∷_ Row.alive (List._∷_ Row.off (List._∷_ Row.off (List._∷_ Row.off (List._∷_ Row.off (List._∷_ Row.off List.[]))))))))))))); }
+        G45 = record {
+          locals = List._++_ g28 (List._++_ t32 t2);
+          slots = List._∷_ (Row.lease (κs .0) (qs .0)) (List._∷_ (Row.lease (κs .1 .0) (qs .1 .0)) (List._∷_ Row.off (List._∷_ (Row.lease (κs .1
+              .1 .1 .0) (qs .1 .1 .1 .0)) (List._∷_ (Row.lease (κs .1 .1 .1 .1 .0) (qs .1 .1 .1 .1 .0)) (List._∷_ (Row.lease (κs .1 .1 .1 .1 .1 .0) (qs .1 .1 .1 .1 .1 .0)) (List._∷_ Row.off (List._∷_
+              Row.off (List._∷_ Row.alive (List._∷_ Row.off (List._∷_ Row.off (List._∷_ Row.off (List._∷_ Row.off (List._∷_ Row.off List.[])))))))))))));
+        }
 
         abbrev G46 : Row.Cx
-        G46 = record { locals = List._++_ g28 (List._++_ t32 t2); slots = List._∷_ (Row.lease (κs .0) (qs .0)) (List._∷_ (Row.lease (κs .1 .0) (qs .1 .0)) (List._∷_ Row.off (List._∷_ (Row.lease (κs .1
-            .1 .1 .0) (qs .1 .1 .1 .0)) (List._∷_ (Row.lease (κs .1 .1 .1 .1 .0) (qs .1 .1 .1 .1 .0)) (List._∷_ (Row.lease (κs .1 .1 .1 .1 .1 .0) (qs .1 .1 .1 .1 .1 .0)) (List._∷_ Row.off (List._∷_
-            Row.off (List._∷_ Row.dead (List._∷_ Row.off (List._∷_ Row.off (List._∷_ Row.off (List._∷_ Row.off (List._∷_ Row.off List.[]))))))))))))); }
+        G46 = record {
+          locals = List._++_ g28 (List._++_ t32 t2);
+          slots = List._∷_ (Row.lease (κs .0) (qs .0)) (List._∷_ (Row.lease (κs .1 .0) (qs .1 .0)) (List._∷_ Row.off (List._∷_ (Row.lease (κs .1
+              .1 .1 .0) (qs .1 .1 .1 .0)) (List._∷_ (Row.lease (κs .1 .1 .1 .1 .0) (qs .1 .1 .1 .1 .0)) (List._∷_ (Row.lease (κs .1 .1 .1 .1 .1 .0) (qs .1 .1 .1 .1 .1 .0)) (List._∷_ Row.off (List._∷_
+              Row.off (List._∷_ Row.dead (List._∷_ Row.off (List._∷_ Row.off (List._∷_ Row.off (List._∷_ Row.off (List._∷_ Row.off List.[])))))))))))));
+        }
 
         abbrev G47 : Row.Cx
-        G47 = record { locals = List._++_ t24 (List._++_ t22 t2); slots = List._∷_ (Row.lease (κs .0) (qs .0)) (List._∷_ (Row.lease (κs .1 .0) (qs .1 .0)) (List._∷_ (Row.lease (κs .1 .1 .0) (qs .1 .1
-            .0)) (List._∷_ (Row.lease (κs .1 .1 .1 .0) (qs .1 .1 .1 .0)) (List._∷_ (Row.lease (κs .1 .1 .1 .1 .0) (qs .1 .1 .1 .1 .0)) (List._∷_ (Row.lease (κs .1 .1 .1 .1 .1 .0) (qs .1 .1 .1 .1 .1 .0))
-            (List._∷_ Row.off (List._∷_ Row.off (List._∷_ Row.dead (List._∷_ Row.off (List._∷_ Row.off (List._∷_ Row.off (List._∷_ Row.off (List._∷_ Row.off List.[]))))))))))))); }
+        G47 = record {
+          locals = List._++_ t24 (List._++_ t22 t2);
+          slots = List._∷_ (Row.lease (κs .0) (qs .0)) (List._∷_ (Row.lease (κs .1 .0) (qs .1 .0)) (List._∷_ (Row.lease (κs .1 .1 .0) (qs .1 .1
+              .0)) (List._∷_ (Row.lease (κs .1 .1 .1 .0) (qs .1 .1 .1 .0)) (List._∷_ (Row.lease (κs .1 .1 .1 .1 .0) (qs .1 .1 .1 .1 .0)) (List._∷_ (Row.lease (κs .1 .1 .1 .1 .1 .0) (qs .1 .1 .1 .1 .1 .0))
+              (List._∷_ Row.off (List._∷_ Row.off (List._∷_ Row.dead (List._∷_ Row.off (List._∷_ Row.off (List._∷_ Row.off (List._∷_ Row.off (List._∷_ Row.off List.[])))))))))))));
+        }
 
         abbrev G48 : Row.Cx
-        G48 = record { locals = List._++_ t24 (List._++_ t22 t2); slots = List._∷_ (Row.lease (κs .0) (qs .0)) (List._∷_ (Row.lease (κs .1 .0) (qs .1 .0)) (List._∷_ (Row.lease (κs .1 .1 .0) (qs .1 .1
-            .0)) (List._∷_ (Row.lease (κs .1 .1 .1 .0) (qs .1 .1 .1 .0)) (List._∷_ (Row.lease (κs .1 .1 .1 .1 .0) (qs .1 .1 .1 .1 .0)) (List._∷_ (Row.lease (κs .1 .1 .1 .1 .1 .0) (qs .1 .1 .1 .1 .1 .0))
-            (List._∷_ Row.off (List._∷_ Row.off (List._∷_ Row.dead (List._∷_ Row.off (List._∷_ Row.off (List._∷_ Row.off (List._∷_ Row.off (List._∷_ Row.off List.[]))))))))))))); }
+        G48 = record {
+          locals = List._++_ t24 (List._++_ t22 t2);
+          slots = List._∷_ (Row.lease (κs .0) (qs .0)) (List._∷_ (Row.lease (κs .1 .0) (qs .1 .0)) (List._∷_ (Row.lease (κs .1 .1 .0) (qs .1 .1
+              .0)) (List._∷_ (Row.lease (κs .1 .1 .1 .0) (qs .1 .1 .1 .0)) (List._∷_ (Row.lease (κs .1 .1 .1 .1 .0) (qs .1 .1 .1 .1 .0)) (List._∷_ (Row.lease (κs .1 .1 .1 .1 .1 .0) (qs .1 .1 .1 .1 .1 .0))
+              (List._∷_ Row.off (List._∷_ Row.off (List._∷_ Row.dead (List._∷_ Row.off (List._∷_ Row.off (List._∷_ Row.off (List._∷_ Row.off (List._∷_ Row.off List.[])))))))))))));
+        }
 
         abbrev G49 : Row.Cx
-        G49 = record { locals = List._++_ t24 (List._++_ t22 t2); slots = List._∷_ (Row.lease (κs .0) (qs .0)) (List._∷_ (Row.lease (κs .1 .0) (qs .1 .0)) (List._∷_ (Row.lease (κs .1 .1 .0) (qs .1 .1
-            .0)) (List._∷_ (Row.lease (κs .1 .1 .1 .0) (qs .1 .1 .1 .0)) (List._∷_ (Row.lease (κs .1 .1 .1 .1 .0) (qs .1 .1 .1 .1 .0)) (List._∷_ (Row.lease (κs .1 .1 .1 .1 .1 .0) (qs .1 .1 .1 .1 .1 .0))
-            (List._∷_ Row.off (List._∷_ Row.off (List._∷_ Row.off (List._∷_ Row.off (List._∷_ Row.off (List._∷_ Row.off (List._∷_ Row.off (List._∷_ Row.off List.[]))))))))))))); }
+        G49 = record {
+          locals = List._++_ t24 (List._++_ t22 t2);
+          slots = List._∷_ (Row.lease (κs .0) (qs .0)) (List._∷_ (Row.lease (κs .1 .0) (qs .1 .0)) (List._∷_ (Row.lease (κs .1 .1 .0) (qs .1 .1
+              .0)) (List._∷_ (Row.lease (κs .1 .1 .1 .0) (qs .1 .1 .1 .0)) (List._∷_ (Row.lease (κs .1 .1 .1 .1 .0) (qs .1 .1 .1 .1 .0)) (List._∷_ (Row.lease (κs .1 .1 .1 .1 .1 .0) (qs .1 .1 .1 .1 .1 .0))
+              (List._∷_ Row.off (List._∷_ Row.off (List._∷_ Row.off (List._∷_ Row.off (List._∷_ Row.off (List._∷_ Row.off (List._∷_ Row.off (List._∷_ Row.off List.[])))))))))))));
+        }
 
         abbrev G50 : Row.Cx
-        G50 = record { locals = List._++_ t24 (List._++_ t33 t2); slots = List._∷_ (Row.lease (κs .0) (qs .0)) (List._∷_ (Row.lease (κs .1 .0) (qs .1 .0)) (List._∷_ (Row.lease (κs .1 .1 .0) (qs .1 .1
-            .0)) (List._∷_ (Row.lease (κs .1 .1 .1 .0) (qs .1 .1 .1 .0)) (List._∷_ (Row.lease (κs .1 .1 .1 .1 .0) (qs .1 .1 .1 .1 .0)) (List._∷_ (Row.lease (κs .1 .1 .1 .1 .1 .0) (qs .1 .1 .1 .1 .1 .0))
-            (List._∷_ Row.off (List._∷_ Row.off (List._∷_ Row.off (List._∷_ Row.off (List._∷_ Row.off (List._∷_ Row.off (List._∷_ Row.off (List._∷_ Row.off List.[]))))))))))))); }
+        G50 = record {
+          locals = List._++_ t24 (List._++_ t33 t2);
+          slots = List._∷_ (Row.lease (κs .0) (qs .0)) (List._∷_ (Row.lease (κs .1 .0) (qs .1 .0)) (List._∷_ (Row.lease (κs .1 .1 .0) (qs .1 .1
+              .0)) (List._∷_ (Row.lease (κs .1 .1 .1 .0) (qs .1 .1 .1 .0)) (List._∷_ (Row.lease (κs .1 .1 .1 .1 .0) (qs .1 .1 .1 .1 .0)) (List._∷_ (Row.lease (κs .1 .1 .1 .1 .1 .0) (qs .1 .1 .1 .1 .1 .0))
+              (List._∷_ Row.off (List._∷_ Row.off (List._∷_ Row.off (List._∷_ Row.off (List._∷_ Row.off (List._∷_ Row.off (List._∷_ Row.off (List._∷_ Row.off List.[])))))))))))));
+        }
 
         abbrev G51 : Row.Cx
-        G51 = record { locals = List._++_ t24 (List._++_ t33 t2); slots = List._∷_ (Row.lease (κs .0) (qs .0)) (List._∷_ (Row.lease (κs .1 .0) (qs .1 .0)) (List._∷_ (Row.lease (κs .1 .1 .0) (qs .1 .1
-            .0)) (List._∷_ (Row.lease (κs .1 .1 .1 .0) (qs .1 .1 .1 .0)) (List._∷_ (Row.lease (κs .1 .1 .1 .1 .0) (qs .1 .1 .1 .1 .0)) (List._∷_ (Row.lease (κs .1 .1 .1 .1 .1 .0) (qs .1 .1 .1 .1 .1 .0))
-            (List._∷_ Row.off (List._∷_ Row.off (List._∷_ Row.off (List._∷_ Row.alive (List._∷_ Row.off (List._∷_ Row.off (List._∷_ Row.off (List._∷_ Row.off List.[]))))))))))))); }
+        G51 = record {
+          locals = List._++_ t24 (List._++_ t33 t2);
+          slots = List._∷_ (Row.lease (κs .0) (qs .0)) (List._∷_ (Row.lease (κs .1 .0) (qs .1 .0)) (List._∷_ (Row.lease (κs .1 .1 .0) (qs .1 .1
+              .0)) (List._∷_ (Row.lease (κs .1 .1 .1 .0) (qs .1 .1 .1 .0)) (List._∷_ (Row.lease (κs .1 .1 .1 .1 .0) (qs .1 .1 .1 .1 .0)) (List._∷_ (Row.lease (κs .1 .1 .1 .1 .1 .0) (qs .1 .1 .1 .1 .1 .0))
+              (List._∷_ Row.off (List._∷_ Row.off (List._∷_ Row.off (List._∷_ Row.alive (List._∷_ Row.off (List._∷_ Row.off (List._∷_ Row.off (List._∷_ Row.off List.[])))))))))))));
+        }
 
         abbrev G52 : Row.Cx
-        G52 = record { locals = List._++_ g34 (List._++_ t35 t2); slots = List._∷_ (Row.lease (κs .0) (qs .0)) (List._∷_ (Row.lease (κs .1 .0) (qs .1 .0)) (List._∷_ (Row.lease (κs .1 .1 .0) (qs .1 .1
-            .0)) (List._∷_ Row.off (List._∷_ (Row.lease (κs .1 .1 .1 .1 .0) (qs .1 .1 .1 .1 .0)) (List._∷_ (Row.lease (κs .1 .1 .1 .1 .1 .0) (qs .1 .1 .1 .1 .1 .0)) (List._∷_ Row.off (List._∷_ Row.off
-            (List._∷_ Row.off (List._∷_ Row.alive (List._∷_ Row.off (List._∷_ Row.off (List._∷_ Row.off (List._∷_ Row.off List.[]))))))))))))); }
+        G52 = record {
+          locals = List._++_ g34 (List._++_ t35 t2);
+          slots = List._∷_ (Row.lease (κs .0) (qs .0)) (List._∷_ (Row.lease (κs .1 .0) (qs .1 .0)) (List._∷_ (Row.lease (κs .1 .1 .0) (qs .1 .1
+              .0)) (List._∷_ Row.off (List._∷_ (Row.lease (κs .1 .1 .1 .1 .0) (qs .1 .1 .1 .1 .0)) (List._∷_ (Row.lease (κs .1 .1 .1 .1 .1 .0) (qs .1 .1 .1 .1 .1 .0)) (List._∷_ Row.off (List._∷_ Row.off
+              (List._∷_ Row.off (List._∷_ Row.alive (List._∷_ Row.off (List._∷_ Row.off (List._∷_ Row.off (List._∷_ Row.off List.[])))))))))))));
+        }
 
         abbrev G53 : Row.Cx
-        G53 = record { locals = List._++_ g34 (List._++_ t33 t36); slots = List._∷_ (Row.lease (κs .0) (qs .0)) (List._∷_ (Row.lease (κs .1 .0) (qs .1 .0)) (List._∷_ (Row.lease (κs .1 .1 .0) (qs .1 .1
-            .0)) (List._∷_ Row.off (List._∷_ (Row.lease (κs .1 .1 .1 .1 .0) (qs .1 .1 .1 .1 .0)) (List._∷_ (Row.lease (κs .1 .1 .1 .1 .1 .0) (qs .1 .1 .1 .1 .1 .0)) (List._∷_ Row.off (List._∷_ Row.off
-            (List._∷_ Row.off (List._∷_ Row.alive (List._∷_ Row.off (List._∷_ Row.off (List._∷_ Row.off (List._∷_ Row.off List.[]))))))))))))); }
+        G53 = record {
+          locals = List._++_ g34 (List._++_ t33 t36);
+          slots = List._∷_ (Row.lease (κs .0) (qs .0)) (List._∷_ (Row.lease (κs .1 .0) (qs .1 .0)) (List._∷_ (Row.lease (κs .1 .1 .0) (qs .1 .1
+              .0)) (List._∷_ Row.off (List._∷_ (Row.lease (κs .1 .1 .1 .1 .0) (qs .1 .1 .1 .1 .0)) (List._∷_ (Row.lease (κs .1 .1 .1 .1 .1 .0) (qs .1 .1 .1 .1 .1 .0)) (List._∷_ Row.off (List._∷_ Row.off
+              (List._∷_ Row.off (List._∷_ Row.alive (List._∷_ Row.off (List._∷_ Row.off (List._∷_ Row.off (List._∷_ Row.off List.[])))))))))))));
+        }
 
         abbrev G54 : Row.Cx
-        G54 = record { locals = List._++_ g34 (List._++_ t37 t36); slots = List._∷_ (Row.lease (κs .0) (qs .0)) (List._∷_ (Row.lease (κs .1 .0) (qs .1 .0)) (List._∷_ (Row.lease (κs .1 .1 .0) (qs .1 .1
-            .0)) (List._∷_ Row.off (List._∷_ (Row.lease (κs .1 .1 .1 .1 .0) (qs .1 .1 .1 .1 .0)) (List._∷_ (Row.lease (κs .1 .1 .1 .1 .1 .0) (qs .1 .1 .1 .1 .1 .0)) (List._∷_ Row.off (List._∷_ Row.off
-            (List._∷_ Row.off (List._∷_ Row.alive (List._∷_ Row.off (List._∷_ Row.off (List._∷_ Row.off (List._∷_ Row.off List.[]))))))))))))); }
+        G54 = record {
+          locals = List._++_ g34 (List._++_ t37 t36);
+          slots = List._∷_ (Row.lease (κs .0) (qs .0)) (List._∷_ (Row.lease (κs .1 .0) (qs .1 .0)) (List._∷_ (Row.lease (κs .1 .1 .0) (qs .1 .1
+              .0)) (List._∷_ Row.off (List._∷_ (Row.lease (κs .1 .1 .1 .1 .0) (qs .1 .1 .1 .1 .0)) (List._∷_ (Row.lease (κs .1 .1 .1 .1 .1 .0) (qs .1 .1 .1 .1 .1 .0)) (List._∷_ Row.off (List._∷_ Row.off
+              (List._∷_ Row.off (List._∷_ Row.alive (List._∷_ Row.off (List._∷_ Row.off (List._∷_ Row.off (List._∷_ Row.off List.[])))))))))))));
+        }
 
         abbrev G55 : Row.Cx
-        G55 = record { locals = List._++_ g34 (List._++_ t38 t39); slots = List._∷_ (Row.lease (κs .0) (qs .0)) (List._∷_ (Row.lease (κs .1 .0) (qs .1 .0)) (List._∷_ (Row.lease (κs .1 .1 .0) (qs .1 .1
-            .0)) (List._∷_ Row.off (List._∷_ (Row.lease (κs .1 .1 .1 .1 .0) (qs .1 .1 .1 .1 .0)) (List._∷_ (Row.lease (κs .1 .1 .1 .1 .1 .0) (qs .1 .1 .1 .1 .1 .0)) (List._∷_ Row.off (List._∷_ Row.off
-            (List._∷_ Row.off (List._∷_ Row.alive (List._∷_ Row.off (List._∷_ Row.off (List._∷_ Row.off (List._∷_ Row.off List.[]))))))))))))); }
+        G55 = record {
+          locals = List._++_ g34 (List._++_ t38 t39);
+          slots = List._∷_ (Row.lease (κs .0) (qs .0)) (List._∷_ (Row.lease (κs .1 .0) (qs .1 .0)) (List._∷_ (Row.lease (κs .1 .1 .0) (qs .1 .1
+              .0)) (List._∷_ Row.off (List._∷_ (Row.lease (κs .1 .1 .1 .1 .0) (qs .1 .1 .1 .1 .0)) (List._∷_ (Row.lease (κs .1 .1 .1 .1 .1 .0) (qs .1 .1 .1 .1 .1 .0)) (List._∷_ Row.off (List._∷_ Row.off
+              (List._∷_ Row.off (List._∷_ Row.alive (List._∷_ Row.off (List._∷_ Row.off (List._∷_ Row.off (List._∷_ Row.off List.[])))))))))))));
+        }
 
         abbrev G56 : Row.Cx
-        G56 = record { locals = List._++_ g34 (List._++_ t40 t39); slots = List._∷_ (Row.lease (κs .0) (qs .0)) (List._∷_ (Row.lease (κs .1 .0) (qs .1 .0)) (List._∷_ (Row.lease (κs .1 .1 .0) (qs .1 .1
-            .0)) (List._∷_ Row.off (List._∷_ (Row.lease (κs .1 .1 .1 .1 .0) (qs .1 .1 .1 .1 .0)) (List._∷_ (Row.lease (κs .1 .1 .1 .1 .1 .0) (qs .1 .1 .1 .1 .1 .0)) (List._∷_ Row.off (List._∷_ Row.off
-            (List._∷_ Row.off (List._∷_ Row.alive (List._∷_ Row.off (List._∷_ Row.off (List._∷_ Row.off (List._∷_ Row.off List.[]))))))))))))); }
+        G56 = record {
+          locals = List._++_ g34 (List._++_ t40 t39);
+          slots = List._∷_ (Row.lease (κs .0) (qs .0)) (List._∷_ (Row.lease (κs .1 .0) (qs .1 .0)) (List._∷_ (Row.lease (κs .1 .1 .0) (qs .1 .1
+              .0)) (List._∷_ Row.off (List._∷_ (Row.lease (κs .1 .1 .1 .1 .0) (qs .1 .1 .1 .1 .0)) (List._∷_ (Row.lease (κs .1 .1 .1 .1 .1 .0) (qs .1 .1 .1 .1 .1 .0)) (List._∷_ Row.off (List._∷_ Row.off
+              (List._∷_ Row.off (List._∷_ Row.alive (List._∷_ Row.off (List._∷_ Row.off (List._∷_ Row.off (List._∷_ Row.off List.[])))))))))))));
+        }
 
         abbrev G57 : Row.Cx
-        G57 = record { locals = List._++_ g34 (List._++_ t33 t39); slots = List._∷_ (Row.lease (κs .0) (qs .0)) (List._∷_ (Row.lease (κs .1 .0) (qs .1 .0)) (List._∷_ (Row.lease (κs .1 .1 .0) (qs .1 .1
-            .0)) (List._∷_ Row.off (List._∷_ (Row.lease (κs .1 .1 .1 .1 .0) (qs .1 .1 .1 .1 .0)) (List._∷_ (Row.lease (κs .1 .1 .1 .1 .1 .0) (qs .1 .1 .1 .1 .1 .0)) (List._∷_ Row.off (List._∷_ Row.off
-            (List._∷_ Row.off (List._∷_ Row.alive (List._∷_ Row.off (List._∷_ Row.off (List._∷_ Row.off (List._∷_ Row.off List.[]))))))))))))); }
+        G57 = record {
+          locals = List._++_ g34 (List._++_ t33 t39);
+          slots = List._∷_ (Row.lease (κs .0) (qs .0)) (List._∷_ (Row.lease (κs .1 .0) (qs .1 .0)) (List._∷_ (Row.lease (κs .1 .1 .0) (qs .1 .1
+              .0)) (List._∷_ Row.off (List._∷_ (Row.lease (κs .1 .1 .1 .1 .0) (qs .1 .1 .1 .1 .0)) (List._∷_ (Row.lease (κs .1 .1 .1 .1 .1 .0) (qs .1 .1 .1 .1 .1 .0)) (List._∷_ Row.off (List._∷_ Row.off
+              (List._∷_ Row.off (List._∷_ Row.alive (List._∷_ Row.off (List._∷_ Row.off (List._∷_ Row.off (List._∷_ Row.off List.[])))))))))))));
+        }
 
         abbrev G58 : Row.Cx
-        G58 = record { locals = List._++_ g34 (List._++_ t33 t39); slots = List._∷_ (Row.lease (κs .0) (qs .0)) (List._∷_ (Row.lease (κs .1 .0) (qs .1 .0)) (List._∷_ (Row.lease (κs .1 .1 .0) (qs .1 .1
-            .0)) (List._∷_ Row.off (List._∷_ (Row.lease (κs .1 .1 .1 .1 .0) (qs .1 .1 .1 .1 .0)) (List._∷_ (Row.lease (κs .1 .1 .1 .1 .1 .0) (qs .1 .1 .1 .1 .1 .0)) (List._∷_ Row.off (List._∷_ Row.off
-            (List._∷_ Row.off (List._∷_ Row.dead (List._∷_ Row.off (List._∷_ Row.off (List._∷_ Row.off (List._∷_ Row.off List.[]))))))))))))); }
+        G58 = record {
+          locals = List._++_ g34 (List._++_ t33 t39);
+          slots = List._∷_ (Row.lease (κs .0) (qs .0)) (List._∷_ (Row.lease (κs .1 .0) (qs .1 .0)) (List._∷_ (Row.lease (κs .1 .1 .0) (qs .1 .1
+              .0)) (List._∷_ Row.off (List._∷_ (Row.lease (κs .1 .1 .1 .1 .0) (qs .1 .1 .1 .1 .0)) (List._∷_ (Row.lease (κs .1 .1 .1 .1 .1 .0) (qs .1 .1 .1 .1 .1 .0)) (List._∷_ Row.off (List._∷_ Row.off
+              (List._∷_ Row.off (List._∷_ Row.dead (List._∷_ Row.off (List._∷_ Row.off (List._∷_ Row.off (List._∷_ Row.off List.[])))))))))))));
+        }
 
         abbrev G59 : Row.Cx
-        G59 = record { locals = List._++_ t24 (List._++_ t33 t2); slots = List._∷_ (Row.lease (κs .0) (qs .0)) (List._∷_ (Row.lease (κs .1 .0) (qs .1 .0)) (List._∷_ (Row.lease (κs .1 .1 .0) (qs .1 .1
-            .0)) (List._∷_ (Row.lease (κs .1 .1 .1 .0) (qs .1 .1 .1 .0)) (List._∷_ (Row.lease (κs .1 .1 .1 .1 .0) (qs .1 .1 .1 .1 .0)) (List._∷_ (Row.lease (κs .1 .1 .1 .1 .1 .0) (qs .1 .1 .1 .1 .1 .0))
-            (List._∷_ Row.off (List._∷_ Row.off (List._∷_ Row.off (List._∷_ Row.dead (List._∷_ Row.off (List._∷_ Row.off (List._∷_ Row.off (List._∷_ Row.off List.[]))))))))))))); }
+        G59 = record {
+          locals = List._++_ t24 (List._++_ t33 t2);
+          slots = List._∷_ (Row.lease (κs .0) (qs .0)) (List._∷_ (Row.lease (κs .1 .0) (qs .1 .0)) (List._∷_ (Row.lease (κs .1 .1 .0) (qs .1 .1
+              .0)) (List._∷_ (Row.lease (κs .1 .1 .1 .0) (qs .1 .1 .1 .0)) (List._∷_ (Row.lease (κs .1 .1 .1 .1 .0) (qs .1 .1 .1 .1 .0)) (List._∷_ (Row.lease (κs .1 .1 .1 .1 .1 .0) (qs .1 .1 .1 .1 .1 .0))
+              (List._∷_ Row.off (List._∷_ Row.off (List._∷_ Row.off (List._∷_ Row.dead (List._∷_ Row.off (List._∷_ Row.off (List._∷_ Row.off (List._∷_ Row.off List.[])))))))))))));
+        }
 
         abbrev G60 : Row.Cx
-        G60 = record { locals = List._++_ t24 (List._++_ t33 t2); slots = List._∷_ (Row.lease (κs .0) (qs .0)) (List._∷_ (Row.lease (κs .1 .0) (qs .1 .0)) (List._∷_ (Row.lease (κs .1 .1 .0) (qs .1 .1
-            .0)) (List._∷_ (Row.lease (κs .1 .1 .1 .0) (qs .1 .1 .1 .0)) (List._∷_ (Row.lease (κs .1 .1 .1 .1 .0) (qs .1 .1 .1 .1 .0)) (List._∷_ (Row.lease (κs .1 .1 .1 .1 .1 .0) (qs .1 .1 .1 .1 .1 .0))
-            (List._∷_ Row.off (List._∷_ Row.off (List._∷_ Row.off (List._∷_ Row.off (List._∷_ Row.off (List._∷_ Row.off (List._∷_ Row.off (List._∷_ Row.off List.[]))))))))))))); }
+        G60 = record {
+          locals = List._++_ t24 (List._++_ t33 t2);
+          slots = List._∷_ (Row.lease (κs .0) (qs .0)) (List._∷_ (Row.lease (κs .1 .0) (qs .1 .0)) (List._∷_ (Row.lease (κs .1 .1 .0) (qs .1 .1
+              .0)) (List._∷_ (Row.lease (κs .1 .1 .1 .0) (qs .1 .1 .1 .0)) (List._∷_ (Row.lease (κs .1 .1 .1 .1 .0) (qs .1 .1 .1 .1 .0)) (List._∷_ (Row.lease (κs .1 .1 .1 .1 .1 .0) (qs .1 .1 .1 .1 .1 .0))
+              (List._∷_ Row.off (List._∷_ Row.off (List._∷_ Row.off (List._∷_ Row.off (List._∷_ Row.off (List._∷_ Row.off (List._∷_ Row.off (List._∷_ Row.off List.[])))))))))))));
+        }
 
         abbrev G61 : Row.Cx
-        G61 = record { locals = List._++_ t24 (List._++_ t33 t2); slots = List._∷_ (Row.lease (κs .0) (qs .0)) (List._∷_ (Row.lease (κs .1 .0) (qs .1 .0)) (List._∷_ (Row.lease (κs .1 .1 .0) (qs .1 .1
-            .0)) (List._∷_ (Row.lease (κs .1 .1 .1 .0) (qs .1 .1 .1 .0)) (List._∷_ (Row.lease (κs .1 .1 .1 .1 .0) (qs .1 .1 .1 .1 .0)) (List._∷_ (Row.lease (κs .1 .1 .1 .1 .1 .0) (qs .1 .1 .1 .1 .1 .0))
-            (List._∷_ Row.off (List._∷_ Row.off (List._∷_ Row.off (List._∷_ Row.off (List._∷_ Row.alive (List._∷_ Row.off (List._∷_ Row.off (List._∷_ Row.off List.[]))))))))))))); }
+        G61 = record {
+          locals = List._++_ t24 (List._++_ t33 t2);
+          slots = List._∷_ (Row.lease (κs .0) (qs .0)) (List._∷_ (Row.lease (κs .1 .0) (qs .1 .0)) (List._∷_ (Row.lease (κs .1 .1 .0) (qs .1 .1
+              .0)) (List._∷_ (Row.lease (κs .1 .1 .1 .0) (qs .1 .1 .1 .0)) (List._∷_ (Row.lease (κs .1 .1 .1 .1 .0) (qs .1 .1 .1 .1 .0)) (List._∷_ (Row.lease (κs .1 .1 .1 .1 .1 .0) (qs .1 .1 .1 .1 .1 .0))
+              (List._∷_ Row.off (List._∷_ Row.off (List._∷_ Row.off (List._∷_ Row.off (List._∷_ Row.alive (List._∷_ Row.off (List._∷_ Row.off (List._∷_ Row.off List.[])))))))))))));
+        }
 
         abbrev G62 : Row.Cx
-        G62 = record { locals = List._++_ g41 (List._++_ t33 t42); slots = List._∷_ (Row.lease (κs .0) (qs .0)) (List._∷_ (Row.lease (κs .1 .0) (qs .1 .0)) (List._∷_ Row.off (List._∷_ (Row.lease (κs
-            .1 .1 .1 .0) (qs .1 .1 .1 .0)) (List._∷_ (Row.lease (κs .1 .1 .1 .1 .0) (qs .1 .1 .1 .1 .0)) (List._∷_ (Row.lease (κs .1 .1 .1 .1 .1 .0) (qs .1 .1 .1 .1 .1 .0)) (List._∷_ Row.off (List._∷_
-            Row.off (List._∷_ Row.off (List._∷_ Row.off (List._∷_ Row.alive (List._∷_ Row.off (List._∷_ Row.off (List._∷_ Row.off List.[]))))))))))))); }
+        G62 = record {
+          locals = List._++_ g41 (List._++_ t33 t42);
+          slots = List._∷_ (Row.lease (κs .0) (qs .0)) (List._∷_ (Row.lease (κs .1 .0) (qs .1 .0)) (List._∷_ Row.off (List._∷_ (Row.lease (κs
+              .1 .1 .1 .0) (qs .1 .1 .1 .0)) (List._∷_ (Row.lease (κs .1 .1 .1 .1 .0) (qs .1 .1 .1 .1 .0)) (List._∷_ (Row.lease (κs .1 .1 .1 .1 .1 .0) (qs .1 .1 .1 .1 .1 .0)) (List._∷_ Row.off (List._∷_
+              Row.off (List._∷_ Row.off (List._∷_ Row.off (List._∷_ Row.alive (List._∷_ Row.off (List._∷_ Row.off (List._∷_ Row.off List.[])))))))))))));
+        }
 
         abbrev G63 : Row.Cx
-        G63 = record { locals = List._++_ g41 (List._++_ t33 t43); slots = List._∷_ (Row.lease (κs .0) (qs .0)) (List._∷_ (Row.lease (κs .1 .0) (qs .1 .0)) (List._∷_ Row.off (List._∷_ (Row.lease (κs
-            .1 .1 .1 .0) (qs .1 .1 .1 .0)) (List._∷_ (Row.lease (κs .1 .1 .1 .1 .0) (qs .1 .1 .1 .1 .0)) (List._∷_ (Row.lease (κs .1 .1 .1 .1 .1 .0) (qs .1 .1 .1 .1 .1 .0)) (List._∷_ Row.off (List._∷_
-            Row.off (List._∷_ Row.off (List._∷_ Row.off (List._∷_ Row.alive (List._∷_ Row.off (List._∷_ Row.off (List._∷_ Row.off List.[]))))))))))))); }
+        G63 = record {
+          locals = List._++_ g41 (List._++_ t33 t43);
+          slots = List._∷_ (Row.lease (κs .0) (qs .0)) (List._∷_ (Row.lease (κs .1 .0) (qs .1 .0)) (List._∷_ Row.off (List._∷_ (Row.lease (κs
+              .1 .1 .1 .0) (qs .1 .1 .1 .0)) (List._∷_ (Row.lease (κs .1 .1 .1 .1 .0) (qs .1 .1 .1 .1 .0)) (List._∷_ (Row.lease (κs .1 .1 .1 .1 .1 .0) (qs .1 .1 .1 .1 .1 .0)) (List._∷_ Row.off (List._∷_
+              Row.off (List._∷_ Row.off (List._∷_ Row.off (List._∷_ Row.alive (List._∷_ Row.off (List._∷_ Row.off (List._∷_ Row.off List.[])))))))))))));
+        }
 
         abbrev G64 : Row.Cx
-        G64 = record { locals = List._++_ g41 (List._++_ t33 t43); slots = List._∷_ (Row.lease (κs .0) (qs .0)) (List._∷_ (Row.lease (κs .1 .0) (qs .1 .0)) (List._∷_ Row.off (List._∷_ (Row.lease (κs
-            .1 .1 .1 .0) (qs .1 .1 .1 .0)) (List._∷_ (Row.lease (κs .1 .1 .1 .1 .0) (qs .1 .1 .1 .1 .0)) (List._∷_ (Row.lease (κs .1 .1 .1 .1 .1 .0) (qs .1 .1 .1 .1 .1 .0)) (List._∷_ Row.off (List._∷_
-            Row.off (List._∷_ Row.off (List._∷_ Row.off (List._∷_ Row.alive (List._∷_ Row.alive (List._∷_ Row.off (List._∷_ Row.off List.[]))))))))))))); }
+        G64 = record {
+          locals = List._++_ g41 (List._++_ t33 t43);
+          slots = List._∷_ (Row.lease (κs .0) (qs .0)) (List._∷_ (Row.lease (κs .1 .0) (qs .1 .0)) (List._∷_ Row.off (List._∷_ (Row.lease (κs
+              .1 .1 .1 .0) (qs .1 .1 .1 .0)) (List._∷_ (Row.lease (κs .1 .1 .1 .1 .0) (qs .1 .1 .1 .1 .0)) (List._∷_ (Row.lease (κs .1 .1 .1 .1 .1 .0) (qs .1 .1 .1 .1 .1 .0)) (List._∷_ Row.off (List._∷_
+              Row.off (List._∷_ Row.off (List._∷_ Row.off (List._∷_ Row.alive (List._∷_ Row.alive (List._∷_ Row.off (List._∷_ Row.off List.[])))))))))))));
+        }
 
         abbrev G65 : Row.Cx
-        G65 = record { locals = List._++_ g44 (List._++_ t33 t45); slots = List._∷_ (Row.lease (κs .0) (qs .0)) (List._∷_ (Row.lease (κs .1 .0) (qs .1 .0)) (List._∷_ Row.off (List._∷_ Row.off
-            (List._∷_ (Row.lease (κs .1 .1 .1 .1 .0) (qs .1 .1 .1 .1 .0)) (List._∷_ (Row.lease (κs .1 .1 .1 .1 .1 .0) (qs .1 .1 .1 .1 .1 .0)) (List._∷_ Row.off (List._∷_ Row.off (List._∷_ Row.off
-            (List._∷_ Row.off (List._∷_ Row.alive (List._∷_ Row.alive (List._∷_ Row.off (List._∷_ Row.off List.[]))))))))))))); }
+        G65 = record {
+          locals = List._++_ g44 (List._++_ t33 t45);
+          slots = List._∷_ (Row.lease (κs .0) (qs .0)) (List._∷_ (Row.lease (κs .1 .0) (qs .1 .0)) (List._∷_ Row.off (List._∷_ Row.off
+              (List._∷_ (Row.lease (κs .1 .1 .1 .1 .0) (qs .1 .1 .1 .1 .0)) (List._∷_ (Row.lease (κs .1 .1 .1 .1 .1 .0) (qs .1 .1 .1 .1 .1 .0)) (List._∷_ Row.off (List._∷_ Row.off (List._∷_ Row.off
+              (List._∷_ Row.off (List._∷_ Row.alive (List._∷_ Row.alive (List._∷_ Row.off (List._∷_ Row.off List.[])))))))))))));
+        }
 
         abbrev G66 : Row.Cx
-        G66 = record { locals = List._++_ g44 (List._++_ t33 t46); slots = List._∷_ (Row.lease (κs .0) (qs .0)) (List._∷_ (Row.lease (κs .1 .0) (qs .1 .0)) (List._∷_ Row.off (List._∷_ Row.off
-            (List._∷_ (Row.lease (κs .1 .1 .1 .1 .0) (qs .1 .1 .1 .1 .0)) (List._∷_ (Row.lease (κs .1 .1 .1 .1 .1 .0) (qs .1 .1 .1 .1 .1 .0)) (List._∷_ Row.off (List._∷_ Row.off (List._∷_ Row.off
-            (List._∷_ Row.off (List._∷_ Row.alive (List._∷_ Row.alive (List._∷_ Row.off (List._∷_ Row.off List.[]))))))))))))); }
+        G66 = record {
+          locals = List._++_ g44 (List._++_ t33 t46);
+          slots = List._∷_ (Row.lease (κs .0) (qs .0)) (List._∷_ (Row.lease (κs .1 .0) (qs .1 .0)) (List._∷_ Row.off (List._∷_ Row.off
+              (List._∷_ (Row.lease (κs .1 .1 .1 .1 .0) (qs .1 .1 .1 .1 .0)) (List._∷_ (Row.lease (κs .1 .1 .1 .1 .1 .0) (qs .1 .1 .1 .1 .1 .0)) (List._∷_ Row.off (List._∷_ Row.off (List._∷_ Row.off
+              (List._∷_ Row.off (List._∷_ Row.alive (List._∷_ Row.alive (List._∷_ Row.off (List._∷_ Row.off List.[])))))))))))));
+        }
 
         abbrev G67 : Row.Cx
-        G67 = record { locals = List._++_ g44 (List._++_ t33 t47); slots = List._∷_ (Row.lease (κs .0) (qs .0)) (List._∷_ (Row.lease (κs .1 .0) (qs .1 .0)) (List._∷_ Row.off (List._∷_ Row.off
-            (List._∷_ (Row.lease (κs .1 .1 .1 .1 .0) (qs .1 .1 .1 .1 .0)) (List._∷_ (Row.lease (κs .1 .1 .1 .1 .1 .0) (qs .1 .1 .1 .1 .1 .0)) (List._∷_ Row.off (List._∷_ Row.off (List._∷_ Row.off
-            (List._∷_ Row.off (List._∷_ Row.alive (List._∷_ Row.alive (List._∷_ Row.off (List._∷_ Row.off List.[]))))))))))))); }
+        G67 = record {
+          locals = List._++_ g44 (List._++_ t33 t47);
+          slots = List._∷_ (Row.lease (κs .0) (qs .0)) (List._∷_ (Row.lease (κs .1 .0) (qs .1 .0)) (List._∷_ Row.off (List._∷_ Row.off
+              (List._∷_ (Row.lease (κs .1 .1 .1 .1 .0) (qs .1 .1 .1 .1 .0)) (List._∷_ (Row.lease (κs .1 .1 .1 .1 .1 .0) (qs .1 .1 .1 .1 .1 .0)) (List._∷_ Row.off (List._∷_ Row.off (List._∷_ Row.off
+              (List._∷_ Row.off (List._∷_ Row.alive (List._∷_ Row.alive (List._∷_ Row.off (List._∷_ Row.off List.[])))))))))))));
+        }
 
         abbrev G68 : Row.Cx
-        G68 = record { locals = List._++_ g44 (List._++_ t48 t49); slots = List._∷_ (Row.lease (κs .0) (qs .0)) (List._∷_ (Row.lease (κs .1 .0) (qs .1 .0)) (List._∷_ Row.off (List._∷_ Row.off
-            (List._∷_ (Row.lease (κs .1 .1 .1 .1 .0) (qs .1 .1 .1 .1 .0)) (List._∷_ (Row.lease (κs .1 .1 .1 .1 .1 .0) (qs .1 .1 .1 .1 .1 .0)) (List._∷_ Row.off (List._∷_ Row.off (List._∷_ Row.off
-            (List._∷_ Row.off (List._∷_ Row.alive (List._∷_ Row.alive (List._∷_ Row.off (List._∷_ Row.off List.[]))))))))))))); }
+        G68 = record {
+          locals = List._++_ g44 (List._++_ t48 t49);
+          slots = List._∷_ (Row.lease (κs .0) (qs .0)) (List._∷_ (Row.lease (κs .1 .0) (qs .1 .0)) (List._∷_ Row.off (List._∷_ Row.off
+              (List._∷_ (Row.lease (κs .1 .1 .1 .1 .0) (qs .1 .1 .1 .1 .0)) (List._∷_ (Row.lease (κs .1 .1 .1 .1 .1 .0) (qs .1 .1 .1 .1 .1 .0)) (List._∷_ Row.off (List._∷_ Row.off (List._∷_ Row.off
+              (List._∷_ Row.off (List._∷_ Row.alive (List._∷_ Row.alive (List._∷_ Row.off (List._∷_ Row.off List.[])))))))))))));
+        }
 
         abbrev G69 : Row.Cx
-        G69 = record { locals = List._++_ g44 (List._++_ t48 t50); slots = List._∷_ (Row.lease (κs .0) (qs .0)) (List._∷_ (Row.lease (κs .1 .0) (qs .1 .0)) (List._∷_ Row.off (List._∷_ Row.off
-            (List._∷_ (Row.lease (κs .1 .1 .1 .1 .0) (qs .1 .1 .1 .1 .0)) (List._∷_ (Row.lease (κs .1 .1 .1 .1 .1 .0) (qs .1 .1 .1 .1 .1 .0)) (List._∷_ Row.off (List._∷_ Row.off (List._∷_ Row.off
-            (List._∷_ Row.off (List._∷_ Row.alive (List._∷_ Row.alive (List._∷_ Row.off (List._∷_ Row.off List.[]))))))))))))); }
+        G69 = record {
+          locals = List._++_ g44 (List._++_ t48 t50);
+          slots = List._∷_ (Row.lease (κs .0) (qs .0)) (List._∷_ (Row.lease (κs .1 .0) (qs .1 .0)) (List._∷_ Row.off (List._∷_ Row.off
+              (List._∷_ (Row.lease (κs .1 .1 .1 .1 .0) (qs .1 .1 .1 .1 .0)) (List._∷_ (Row.lease (κs .1 .1 .1 .1 .1 .0) (qs .1 .1 .1 .1 .1 .0)) (List._∷_ Row.off (List._∷_ Row.off (List._∷_ Row.off
+              (List._∷_ Row.off (List._∷_ Row.alive (List._∷_ Row.alive (List._∷_ Row.off (List._∷_ Row.off List.[])))))))))))));
+        }
 
         abbrev G70 : Row.Cx
-        G70 = record { locals = List._++_ g44 (List._++_ t48 t50); slots = List._∷_ (Row.lease (κs .0) (qs .0)) (List._∷_ (Row.lease (κs .1 .0) (qs .1 .0)) (List._∷_ Row.off (List._∷_ Row.off
-            (List._∷_ (Row.lease (κs .1 .1 .1 .1 .0) (qs .1 .1 .1 .1 .0)) (List._∷_ (Row.lease (κs .1 .1 .1 .1 .1 .0) (qs .1 .1 .1 .1 .1 .0)) (List._∷_ Row.off (List._∷_ Row.off (List._∷_ Row.off
-            (List._∷_ Row.off (List._∷_ Row.dead (List._∷_ Row.alive (List._∷_ Row.off (List._∷_ Row.off List.[]))))))))))))); }
+        G70 = record {
+          locals = List._++_ g44 (List._++_ t48 t50);
+          slots = List._∷_ (Row.lease (κs .0) (qs .0)) (List._∷_ (Row.lease (κs .1 .0) (qs .1 .0)) (List._∷_ Row.off (List._∷_ Row.off
+              (List._∷_ (Row.lease (κs .1 .1 .1 .1 .0) (qs .1 .1 .1 .1 .0)) (List._∷_ (Row.lease (κs .1 .1 .1 .1 .1 .0) (qs .1 .1 .1 .1 .1 .0)) (List._∷_ Row.off (List._∷_ Row.off (List._∷_ Row.off
+              (List._∷_ Row.off (List._∷_ Row.dead (List._∷_ Row.alive (List._∷_ Row.off (List._∷_ Row.off List.[])))))))))))));
+        }
 
         abbrev G71 : Row.Cx
-        G71 = record { locals = List._++_ g51 (List._++_ t48 t52); slots = List._∷_ (Row.lease (κs .0) (qs .0)) (List._∷_ (Row.lease (κs .1 .0) (qs .1 .0)) (List._∷_ (Row.lease (κs .1 .1 .0) (qs .1 .1
-            .0)) (List._∷_ Row.off (List._∷_ (Row.lease (κs .1 .1 .1 .1 .0) (qs .1 .1 .1 .1 .0)) (List._∷_ (Row.lease (κs .1 .1 .1 .1 .1 .0) (qs .1 .1 .1 .1 .1 .0)) (List._∷_ Row.off (List._∷_ Row.off
-            (List._∷_ Row.off (List._∷_ Row.off (List._∷_ Row.dead (List._∷_ Row.alive (List._∷_ Row.off (List._∷_ Row.off List.[]))))))))))))); }
+        G71 = record {
+          locals = List._++_ g51 (List._++_ t48 t52);
+          slots = List._∷_ (Row.lease (κs .0) (qs .0)) (List._∷_ (Row.lease (κs .1 .0) (qs .1 .0)) (List._∷_ (Row.lease (κs .1 .1 .0) (qs .1 .1
+              .0)) (List._∷_ Row.off (List._∷_ (Row.lease (κs .1 .1 .1 .1 .0) (qs .1 .1 .1 .1 .0)) (List._∷_ (Row.lease (κs .1 .1 .1 .1 .1 .0) (qs .1 .1 .1 .1 .1 .0)) (List._∷_ Row.off (List._∷_ Row.off
+              (List._∷_ Row.off (List._∷_ Row.off (List._∷_ Row.dead (List._∷_ Row.alive (List._∷_ Row.off (List._∷_ Row.off List.[])))))))))))));
+        }
 
         abbrev G72 : Row.Cx
-        G72 = record { locals = List._++_ g51 (List._++_ t48 t52); slots = List._∷_ (Row.lease (κs .0) (qs .0)) (List._∷_ (Row.lease (κs .1 .0) (qs .1 .0)) (List._∷_ (Row.lease (κs .1 .1 .0) (qs .1 .1
-            .0)) (List._∷_ Row.off (List._∷_ (Row.lease (κs .1 .1 .1 .1 .0) (qs .1 .1 .1 .1 .0)) (List._∷_ (Row.lease (κs .1 .1 .1 .1 .1 .0) (qs .1 .1 .1 .1 .1 .0)) (List._∷_ Row.off (List._∷_ Row.off
-            (List._∷_ Row.off (List._∷_ Row.off (List._∷_ Row.dead (List._∷_ Row.alive (List._∷_ Row.off (List._∷_ Row.off List.[]))))))))))))); }
+        G72 = record {
+          locals = List._++_ g51 (List._++_ t48 t52);
+          slots = List._∷_ (Row.lease (κs .0) (qs .0)) (List._∷_ (Row.lease (κs .1 .0) (qs .1 .0)) (List._∷_ (Row.lease (κs .1 .1 .0) (qs .1 .1
+              .0)) (List._∷_ Row.off (List._∷_ (Row.lease (κs .1 .1 .1 .1 .0) (qs .1 .1 .1 .1 .0)) (List._∷_ (Row.lease (κs .1 .1 .1 .1 .1 .0) (qs .1 .1 .1 .1 .1 .0)) (List._∷_ Row.off (List._∷_ Row.off
+              (List._∷_ Row.off (List._∷_ Row.off (List._∷_ Row.dead (List._∷_ Row.alive (List._∷_ Row.off (List._∷_ Row.off List.[])))))))))))));
+        }
 
         abbrev G73 : Row.Cx
-        G73 = record { locals = List._++_ g51 (List._++_ t48 t52); slots = List._∷_ (Row.lease (κs .0) (qs .0)) (List._∷_ (Row.lease (κs .1 .0) (qs .1 .0)) (List._∷_ (Row.lease (κs .1 .1 .0) (qs .1 .1
-            .0)) (List._∷_ Row.off (List._∷_ (Row.lease (κs .1 .1 .1 .1 .0) (qs .1 .1 .1 .1 .0)) (List._∷_ (Row.lease (κs .1 .1 .1 .1 .1 .0) (qs .1 .1 .1 .1 .1 .0)) (List._∷_ Row.off (List._∷_ Row.off
-            (List._∷_ Row.off (List._∷_ Row.off (List._∷_ Row.off (List._∷_ Row.alive (List._∷_ Row.off (List._∷_ Row.off List.[]))))))))))))); }
+        G73 = record {
+          locals = List._++_ g51 (List._++_ t48 t52);
+          slots = List._∷_ (Row.lease (κs .0) (qs .0)) (List._∷_ (Row.lease (κs .1 .0) (qs .1 .0)) (List._∷_ (Row.lease (κs .1 .1 .0) (qs .1 .1
+              .0)) (List._∷_ Row.off (List._∷_ (Row.lease (κs .1 .1 .1 .1 .0) (qs .1 .1 .1 .1 .0)) (List._∷_ (Row.lease (κs .1 .1 .1 .1 .1 .0) (qs .1 .1 .1 .1 .1 .0)) (List._∷_ Row.off (List._∷_ Row.off
+              (List._∷_ Row.off (List._∷_ Row.off (List._∷_ Row.off (List._∷_ Row.alive (List._∷_ Row.off (List._∷_ Row.off List.[])))))))))))));
+        }
 
         abbrev G74 : Row.Cx
-        G74 = record { locals = List._++_ g51 (List._++_ t48 t52); slots = List._∷_ (Row.lease (κs .0) (qs .0)) (List._∷_ (Row.lease (κs .1 .0) (qs .1 .0)) (List._∷_ (Row.lease (κs .1 .1 .0) (qs .1 .1
-            .0)) (List._∷_ Row.off (List._∷_ (Row.lease (κs .1 .1 .1 .1 .0) (qs .1 .1 .1 .1 .0)) (List._∷_ (Row.lease (κs .1 .1 .1 .1 .1 .0) (qs .1 .1 .1 .1 .1 .0)) (List._∷_ Row.off (List._∷_ Row.off
-            (List._∷_ Row.off (List._∷_ Row.off (List._∷_ Row.off (List._∷_ Row.dead (List._∷_ Row.off (List._∷_ Row.off List.[]))))))))))))); }
+        G74 = record {
+          locals = List._++_ g51 (List._++_ t48 t52);
+          slots = List._∷_ (Row.lease (κs .0) (qs .0)) (List._∷_ (Row.lease (κs .1 .0) (qs .1 .0)) (List._∷_ (Row.lease (κs .1 .1 .0) (qs .1 .1
+              .0)) (List._∷_ Row.off (List._∷_ (Row.lease (κs .1 .1 .1 .1 .0) (qs .1 .1 .1 .1 .0)) (List._∷_ (Row.lease (κs .1 .1 .1 .1 .1 .0) (qs .1 .1 .1 .1 .1 .0)) (List._∷_ Row.off (List._∷_ Row.off
+              (List._∷_ Row.off (List._∷_ Row.off (List._∷_ Row.off (List._∷_ Row.dead (List._∷_ Row.off (List._∷_ Row.off List.[])))))))))))));
+        }
 
         abbrev G75 : Row.Cx
-        G75 = record { locals = List._++_ t24 (List._++_ t48 t2); slots = List._∷_ (Row.lease (κs .0) (qs .0)) (List._∷_ (Row.lease (κs .1 .0) (qs .1 .0)) (List._∷_ (Row.lease (κs .1 .1 .0) (qs .1 .1
-            .0)) (List._∷_ (Row.lease (κs .1 .1 .1 .0) (qs .1 .1 .1 .0)) (List._∷_ (Row.lease (κs .1 .1 .1 .1 .0) (qs .1 .1 .1 .1 .0)) (List._∷_ (Row.lease (κs .1 .1 .1 .1 .1 .0) (qs .1 .1 .1 .1 .1 .0))
-            (List._∷_ Row.off (List._∷_ Row.off (List._∷_ Row.off (List._∷_ Row.off (List._∷_ Row.off (List._∷_ Row.dead (List._∷_ Row.off (List._∷_ Row.off List.[]))))))))))))); }
+        G75 = record {
+          locals = List._++_ t24 (List._++_ t48 t2);
+          slots = List._∷_ (Row.lease (κs .0) (qs .0)) (List._∷_ (Row.lease (κs .1 .0) (qs .1 .0)) (List._∷_ (Row.lease (κs .1 .1 .0) (qs .1 .1
+              .0)) (List._∷_ (Row.lease (κs .1 .1 .1 .0) (qs .1 .1 .1 .0)) (List._∷_ (Row.lease (κs .1 .1 .1 .1 .0) (qs .1 .1 .1 .1 .0)) (List._∷_ (Row.lease (κs .1 .1 .1 .1 .1 .0) (qs .1 .1 .1 .1 .1 .0))
+              (List._∷_ Row.off (List._∷_ Row.off (List._∷_ Row.off (List._∷_ Row.off (List._∷_ Row.off (List._∷_ Row.dead (List._∷_ Row.off (List._∷_ Row.off List.[])))))))))))));
+        }
 
         abbrev G76 : Row.Cx
-        G76 = record { locals = List._++_ t24 (List._++_ t48 t2); slots = List._∷_ (Row.lease (κs .0) (qs .0)) (List._∷_ (Row.lease (κs .1 .0) (qs .1 .0)) (List._∷_ (Row.lease (κs .1 .1 .0) (qs .1 .1
-            .0)) (List._∷_ (Row.lease (κs .1 .1 .1 .0) (qs .1 .1 .1 .0)) (List._∷_ (Row.lease (κs .1 .1 .1 .1 .0) (qs .1 .1 .1 .1 .0)) (List._∷_ (Row.lease (κs .1 .1 .1 .1 .1 .0) (qs .1 .1 .1 .1 .1 .0))
-            (List._∷_ Row.off (List._∷_ Row.off (List._∷_ Row.off (List._∷_ Row.off (List._∷_ Row.off (List._∷_ Row.off (List._∷_ Row.off (List._∷_ Row.off List.[]))))))))))))); }
+        G76 = record {
+          locals = List._++_ t24 (List._++_ t48 t2);
+          slots = List._∷_ (Row.lease (κs .0) (qs .0)) (List._∷_ (Row.lease (κs .1 .0) (qs .1 .0)) (List._∷_ (Row.lease (κs .1 .1 .0) (qs .1 .1
+              .0)) (List._∷_ (Row.lease (κs .1 .1 .1 .0) (qs .1 .1 .1 .0)) (List._∷_ (Row.lease (κs .1 .1 .1 .1 .0) (qs .1 .1 .1 .1 .0)) (List._∷_ (Row.lease (κs .1 .1 .1 .1 .1 .0) (qs .1 .1 .1 .1 .1 .0))
+              (List._∷_ Row.off (List._∷_ Row.off (List._∷_ Row.off (List._∷_ Row.off (List._∷_ Row.off (List._∷_ Row.off (List._∷_ Row.off (List._∷_ Row.off List.[])))))))))))));
+        }
 
         abbrev G77 : Row.Cx
-        G77 = record { locals = List._++_ t24 (List._++_ t53 t2); slots = List._∷_ (Row.lease (κs .0) (qs .0)) (List._∷_ (Row.lease (κs .1 .0) (qs .1 .0)) (List._∷_ (Row.lease (κs .1 .1 .0) (qs .1 .1
-            .0)) (List._∷_ (Row.lease (κs .1 .1 .1 .0) (qs .1 .1 .1 .0)) (List._∷_ (Row.lease (κs .1 .1 .1 .1 .0) (qs .1 .1 .1 .1 .0)) (List._∷_ (Row.lease (κs .1 .1 .1 .1 .1 .0) (qs .1 .1 .1 .1 .1 .0))
-            (List._∷_ Row.off (List._∷_ Row.off (List._∷_ Row.off (List._∷_ Row.off (List._∷_ Row.off (List._∷_ Row.off (List._∷_ Row.off (List._∷_ Row.off List.[]))))))))))))); }
+        G77 = record {
+          locals = List._++_ t24 (List._++_ t53 t2);
+          slots = List._∷_ (Row.lease (κs .0) (qs .0)) (List._∷_ (Row.lease (κs .1 .0) (qs .1 .0)) (List._∷_ (Row.lease (κs .1 .1 .0) (qs .1 .1
+              .0)) (List._∷_ (Row.lease (κs .1 .1 .1 .0) (qs .1 .1 .1 .0)) (List._∷_ (Row.lease (κs .1 .1 .1 .1 .0) (qs .1 .1 .1 .1 .0)) (List._∷_ (Row.lease (κs .1 .1 .1 .1 .1 .0) (qs .1 .1 .1 .1 .1 .0))
+              (List._∷_ Row.off (List._∷_ Row.off (List._∷_ Row.off (List._∷_ Row.off (List._∷_ Row.off (List._∷_ Row.off (List._∷_ Row.off (List._∷_ Row.off List.[])))))))))))));
+        }
 
         abbrev G78 : Row.Cx
-        G78 = record { locals = List._++_ t24 (List._++_ t54 t2); slots = List._∷_ (Row.lease (κs .0) (qs .0)) (List._∷_ (Row.lease (κs .1 .0) (qs .1 .0)) (List._∷_ (Row.lease (κs .1 .1 .0) (qs .1 .1
-            .0)) (List._∷_ (Row.lease (κs .1 .1 .1 .0) (qs .1 .1 .1 .0)) (List._∷_ (Row.lease (κs .1 .1 .1 .1 .0) (qs .1 .1 .1 .1 .0)) (List._∷_ (Row.lease (κs .1 .1 .1 .1 .1 .0) (qs .1 .1 .1 .1 .1 .0))
-            (List._∷_ Row.off (List._∷_ Row.off (List._∷_ Row.off (List._∷_ Row.off (List._∷_ Row.off (List._∷_ Row.off (List._∷_ Row.off (List._∷_ Row.off List.[]))))))))))))); }
+        G78 = record {
+          locals = List._++_ t24 (List._++_ t54 t2);
+          slots = List._∷_ (Row.lease (κs .0) (qs .0)) (List._∷_ (Row.lease (κs .1 .0) (qs .1 .0)) (List._∷_ (Row.lease (κs .1 .1 .0) (qs .1 .1
+              .0)) (List._∷_ (Row.lease (κs .1 .1 .1 .0) (qs .1 .1 .1 .0)) (List._∷_ (Row.lease (κs .1 .1 .1 .1 .0) (qs .1 .1 .1 .1 .0)) (List._∷_ (Row.lease (κs .1 .1 .1 .1 .1 .0) (qs .1 .1 .1 .1 .1 .0))
+              (List._∷_ Row.off (List._∷_ Row.off (List._∷_ Row.off (List._∷_ Row.off (List._∷_ Row.off (List._∷_ Row.off (List._∷_ Row.off (List._∷_ Row.off List.[])))))))))))));
+        }
 
         abbrev G79 : Row.Cx
-        G79 = record { locals = List._++_ t6 (List._++_ t53 t2); slots = List._∷_ (Row.lease (κs .0) (qs .0)) (List._∷_ (Row.lease (κs .1 .0) (qs .1 .0)) (List._∷_ (Row.lease (κs .1 .1 .0) (qs .1 .1
-            .0)) (List._∷_ (Row.lease (κs .1 .1 .1 .0) (qs .1 .1 .1 .0)) (List._∷_ (Row.lease (κs .1 .1 .1 .1 .0) (qs .1 .1 .1 .1 .0)) (List._∷_ (Row.lease (κs .1 .1 .1 .1 .1 .0) (qs .1 .1 .1 .1 .1 .0))
-            (List._∷_ Row.off (List._∷_ Row.off (List._∷_ Row.off (List._∷_ Row.off (List._∷_ Row.off (List._∷_ Row.off (List._∷_ Row.off (List._∷_ Row.off List.[]))))))))))))); }
+        G79 = record {
+          locals = List._++_ t6 (List._++_ t53 t2);
+          slots = List._∷_ (Row.lease (κs .0) (qs .0)) (List._∷_ (Row.lease (κs .1 .0) (qs .1 .0)) (List._∷_ (Row.lease (κs .1 .1 .0) (qs .1 .1
+              .0)) (List._∷_ (Row.lease (κs .1 .1 .1 .0) (qs .1 .1 .1 .0)) (List._∷_ (Row.lease (κs .1 .1 .1 .1 .0) (qs .1 .1 .1 .1 .0)) (List._∷_ (Row.lease (κs .1 .1 .1 .1 .1 .0) (qs .1 .1 .1 .1 .1 .0))
+              (List._∷_ Row.off (List._∷_ Row.off (List._∷_ Row.off (List._∷_ Row.off (List._∷_ Row.off (List._∷_ Row.off (List._∷_ Row.off (List._∷_ Row.off List.[])))))))))))));
+        }
 
         abbrev G80 : Row.Cx
-        G80 = record { locals = List._++_ t26 (List._++_ t54 t2); slots = List._∷_ (Row.lease (κs .0) (qs .0)) (List._∷_ (Row.lease (κs .1 .0) (qs .1 .0)) (List._∷_ (Row.lease (κs .1 .1 .0) (qs .1 .1
-            .0)) (List._∷_ (Row.lease (κs .1 .1 .1 .0) (qs .1 .1 .1 .0)) (List._∷_ (Row.lease (κs .1 .1 .1 .1 .0) (qs .1 .1 .1 .1 .0)) (List._∷_ (Row.lease (κs .1 .1 .1 .1 .1 .0) (qs .1 .1 .1 .1 .1 .0))
-            (List._∷_ Row.off (List._∷_ Row.off (List._∷_ Row.off (List._∷_ Row.off (List._∷_ Row.off (List._∷_ Row.off (List._∷_ Row.off (List._∷_ Row.off List.[]))))))))))))); }
+        G80 = record {
+          locals = List._++_ t26 (List._++_ t54 t2);
+          slots = List._∷_ (Row.lease (κs .0) (qs .0)) (List._∷_ (Row.lease (κs .1 .0) (qs .1 .0)) (List._∷_ (Row.lease (κs .1 .1 .0) (qs .1 .1
+              .0)) (List._∷_ (Row.lease (κs .1 .1 .1 .0) (qs .1 .1 .1 .0)) (List._∷_ (Row.lease (κs .1 .1 .1 .1 .0) (qs .1 .1 .1 .1 .0)) (List._∷_ (Row.lease (κs .1 .1 .1 .1 .1 .0) (qs .1 .1 .1 .1 .1 .0))
+              (List._∷_ Row.off (List._∷_ Row.off (List._∷_ Row.off (List._∷_ Row.off (List._∷_ Row.off (List._∷_ Row.off (List._∷_ Row.off (List._∷_ Row.off List.[])))))))))))));
+        }
 
         abbrev G81 : Row.Cx
-        G81 = record { locals = List._++_ t27 (List._++_ t54 t2); slots = List._∷_ (Row.lease (κs .0) (qs .0)) (List._∷_ (Row.lease (κs .1 .0) (qs .1 .0)) (List._∷_ (Row.lease (κs .1 .1 .0) (qs .1 .1
-            .0)) (List._∷_ (Row.lease (κs .1 .1 .1 .0) (qs .1 .1 .1 .0)) (List._∷_ (Row.lease (κs .1 .1 .1 .1 .0) (qs .1 .1 .1 .1 .0)) (List._∷_ (Row.lease (κs .1 .1 .1 .1 .1 .0) (qs .1 .1 .1 .1 .1 .0))
-            (List._∷_ Row.off (List._∷_ Row.off (List._∷_ Row.off (List._∷_ Row.off (List._∷_ Row.off (List._∷_ Row.off (List._∷_ Row.off (List._∷_ Row.off List.[]))))))))))))); }
+        G81 = record {
+          locals = List._++_ t27 (List._++_ t54 t2);
+          slots = List._∷_ (Row.lease (κs .0) (qs .0)) (List._∷_ (Row.lease (κs .1 .0) (qs .1 .0)) (List._∷_ (Row.lease (κs .1 .1 .0) (qs .1 .1
+              .0)) (List._∷_ (Row.lease (κs .1 .1 .1 .0) (qs .1 .1 .1 .0)) (List._∷_ (Row.lease (κs .1 .1 .1 .1 .0) (qs .1 .1 .1 .1 .0)) (List._∷_ (Row.lease (κs .1 .1 .1 .1 .1 .0) (qs .1 .1 .1 .1 .1 .0))
+              (List._∷_ Row.off (List._∷_ Row.off (List._∷_ Row.off (List._∷_ Row.off (List._∷_ Row.off (List._∷_ Row.off (List._∷_ Row.off (List._∷_ Row.off List.[])))))))))))));
+        }
 
         abbrev G82 : Row.Cx
-        G82 = record { locals = List._++_ t23 (List._++_ t54 t2); slots = List._∷_ (Row.lease (κs .0) (qs .0)) (List._∷_ (Row.lease (κs .1 .0) (qs .1 .0)) (List._∷_ (Row.lease (κs .1 .1 .0) (qs .1 .1
-            .0)) (List._∷_ (Row.lease (κs .1 .1 .1 .0) (qs .1 .1 .1 .0)) (List._∷_ (Row.lease (κs .1 .1 .1 .1 .0) (qs .1 .1 .1 .1 .0)) (List._∷_ (Row.lease (κs .1 .1 .1 .1 .1 .0) (qs .1 .1 .1 .1 .1 .0))
-            (List._∷_ Row.off (List._∷_ Row.off (List._∷_ Row.off (List._∷_ Row.off (List._∷_ Row.off (List._∷_ Row.off (List._∷_ Row.off (List._∷_ Row.off List.[]))))))))))))); }
+        G82 = record {
+          locals = List._++_ t23 (List._++_ t54 t2);
+          slots = List._∷_ (Row.lease (κs .0) (qs .0)) (List._∷_ (Row.lease (κs .1 .0) (qs .1 .0)) (List._∷_ (Row.lease (κs .1 .1 .0) (qs .1 .1
+              .0)) (List._∷_ (Row.lease (κs .1 .1 .1 .0) (qs .1 .1 .1 .0)) (List._∷_ (Row.lease (κs .1 .1 .1 .1 .0) (qs .1 .1 .1 .1 .0)) (List._∷_ (Row.lease (κs .1 .1 .1 .1 .1 .0) (qs .1 .1 .1 .1 .1 .0))
+              (List._∷_ Row.off (List._∷_ Row.off (List._∷_ Row.off (List._∷_ Row.off (List._∷_ Row.off (List._∷_ Row.off (List._∷_ Row.off (List._∷_ Row.off List.[])))))))))))));
+        }
 
         abbrev G83 : Row.Cx
-        G83 = record { locals = List._++_ t23 (List._++_ t55 t2); slots = List._∷_ (Row.lease (κs .0) (qs .0)) (List._∷_ (Row.lease (κs .1 .0) (qs .1 .0)) (List._∷_ (Row.lease (κs .1 .1 .0) (qs .1 .1
-            .0)) (List._∷_ (Row.lease (κs .1 .1 .1 .0) (qs .1 .1 .1 .0)) (List._∷_ (Row.lease (κs .1 .1 .1 .1 .0) (qs .1 .1 .1 .1 .0)) (List._∷_ (Row.lease (κs .1 .1 .1 .1 .1 .0) (qs .1 .1 .1 .1 .1 .0))
-            (List._∷_ Row.off (List._∷_ Row.off (List._∷_ Row.off (List._∷_ Row.off (List._∷_ Row.off (List._∷_ Row.off (List._∷_ Row.off (List._∷_ Row.off List.[]))))))))))))); }
+        G83 = record {
+          locals = List._++_ t23 (List._++_ t55 t2);
+          slots = List._∷_ (Row.lease (κs .0) (qs .0)) (List._∷_ (Row.lease (κs .1 .0) (qs .1 .0)) (List._∷_ (Row.lease (κs .1 .1 .0) (qs .1 .1
+              .0)) (List._∷_ (Row.lease (κs .1 .1 .1 .0) (qs .1 .1 .1 .0)) (List._∷_ (Row.lease (κs .1 .1 .1 .1 .0) (qs .1 .1 .1 .1 .0)) (List._∷_ (Row.lease (κs .1 .1 .1 .1 .1 .0) (qs .1 .1 .1 .1 .1 .0))
+              (List._∷_ Row.off (List._∷_ Row.off (List._∷_ Row.off (List._∷_ Row.off (List._∷_ Row.off (List._∷_ Row.off (List._∷_ Row.off (List._∷_ Row.off List.[])))))))))))));
+        }
 
         abbrev G84 : Row.Cx
-        G84 = record { locals = List._++_ t23 (List._++_ t56 t2); slots = List._∷_ (Row.lease (κs .0) (qs .0)) (List._∷_ (Row.lease (κs .1 .0) (qs .1 .0)) (List._∷_ (Row.lease (κs .1 .1 .0) (qs .1 .1
-            .0)) (List._∷_ (Row.lease (κs .1 .1 .1 .0) (qs .1 .1 .1 .0)) (List._∷_ (Row.lease (κs .1 .1 .1 .1 .0) (qs .1 .1 .1 .1 .0)) (List._∷_ (Row.lease (κs .1 .1 .1 .1 .1 .0) (qs .1 .1 .1 .1 .1 .0))
-            (List._∷_ Row.off (List._∷_ Row.off (List._∷_ Row.off (List._∷_ Row.off (List._∷_ Row.off (List._∷_ Row.off (List._∷_ Row.off (List._∷_ Row.off List.[]))))))))))))); }
+        G84 = record {
+          locals = List._++_ t23 (List._++_ t56 t2);
+          slots = List._∷_ (Row.lease (κs .0) (qs .0)) (List._∷_ (Row.lease (κs .1 .0) (qs .1 .0)) (List._∷_ (Row.lease (κs .1 .1 .0) (qs .1 .1
+              .0)) (List._∷_ (Row.lease (κs .1 .1 .1 .0) (qs .1 .1 .1 .0)) (List._∷_ (Row.lease (κs .1 .1 .1 .1 .0) (qs .1 .1 .1 .1 .0)) (List._∷_ (Row.lease (κs .1 .1 .1 .1 .1 .0) (qs .1 .1 .1 .1 .1 .0))
+              (List._∷_ Row.off (List._∷_ Row.off (List._∷_ Row.off (List._∷_ Row.off (List._∷_ Row.off (List._∷_ Row.off (List._∷_ Row.off (List._∷_ Row.off List.[])))))))))))));
+        }
 
         abbrev G85 : Row.Cx
-        G85 = record { locals = List._++_ t57 (List._++_ t56 t2); slots = List._∷_ (Row.lease (κs .0) (qs .0)) (List._∷_ (Row.lease (κs .1 .0) (qs .1 .0)) (List._∷_ (Row.lease (κs .1 .1 .0) (qs .1 .1
-            .0)) (List._∷_ (Row.lease (κs .1 .1 .1 .0) (qs .1 .1 .1 .0)) (List._∷_ (Row.lease (κs .1 .1 .1 .1 .0) (qs .1 .1 .1 .1 .0)) (List._∷_ (Row.lease (κs .1 .1 .1 .1 .1 .0) (qs .1 .1 .1 .1 .1 .0))
-            (List._∷_ Row.off (List._∷_ Row.off (List._∷_ Row.off (List._∷_ Row.off (List._∷_ Row.off (List._∷_ Row.off (List._∷_ Row.off (List._∷_ Row.off List.[]))))))))))))); }
+        G85 = record {
+          locals = List._++_ t57 (List._++_ t56 t2);
+          slots = List._∷_ (Row.lease (κs .0) (qs .0)) (List._∷_ (Row.lease (κs .1 .0) (qs .1 .0)) (List._∷_ (Row.lease (κs .1 .1 .0) (qs .1 .1
+              .0)) (List._∷_ (Row.lease (κs .1 .1 .1 .0) (qs .1 .1 .1 .0)) (List._∷_ (Row.lease (κs .1 .1 .1 .1 .0) (qs .1 .1 .1 .1 .0)) (List._∷_ (Row.lease (κs .1 .1 .1 .1 .1 .0) (qs .1 .1 .1 .1 .1 .0))
+              (List._∷_ Row.off (List._∷_ Row.off (List._∷_ Row.off (List._∷_ Row.off (List._∷_ Row.off (List._∷_ Row.off (List._∷_ Row.off (List._∷_ Row.off List.[])))))))))))));
+        }
 
         abbrev G86 : Row.Cx
-        G86 = record { locals = List._++_ t58 (List._++_ t56 t2); slots = List._∷_ (Row.lease (κs .0) (qs .0)) (List._∷_ (Row.lease (κs .1 .0) (qs .1 .0)) (List._∷_ (Row.lease (κs .1 .1 .0) (qs .1 .1
-            .0)) (List._∷_ (Row.lease (κs .1 .1 .1 .0) (qs .1 .1 .1 .0)) (List._∷_ (Row.lease (κs .1 .1 .1 .1 .0) (qs .1 .1 .1 .1 .0)) (List._∷_ (Row.lease (κs .1 .1 .1 .1 .1 .0) (qs .1 .1 .1 .1 .1 .0))
-            (List._∷_ Row.off (List._∷_ Row.off (List._∷_ Row.off (List._∷_ Row.off (List._∷_ Row.off (List._∷_ Row.off (List._∷_ Row.off (List._∷_ Row.off List.[]))))))))))))); }
+        G86 = record {
+          locals = List._++_ t58 (List._++_ t56 t2);
+          slots = List._∷_ (Row.lease (κs .0) (qs .0)) (List._∷_ (Row.lease (κs .1 .0) (qs .1 .0)) (List._∷_ (Row.lease (κs .1 .1 .0) (qs .1 .1
+              .0)) (List._∷_ (Row.lease (κs .1 .1 .1 .0) (qs .1 .1 .1 .0)) (List._∷_ (Row.lease (κs .1 .1 .1 .1 .0) (qs .1 .1 .1 .1 .0)) (List._∷_ (Row.lease (κs .1 .1 .1 .1 .1 .0) (qs .1 .1 .1 .1 .1 .0))
+              (List._∷_ Row.off (List._∷_ Row.off (List._∷_ Row.off (List._∷_ Row.off (List._∷_ Row.off (List._∷_ Row.off (List._∷_ Row.off (List._∷_ Row.off List.[])))))))))))));
+        }
 
         abbrev G87 : Row.Cx
-        G87 = record { locals = List._++_ t59 (List._++_ t56 t2); slots = List._∷_ (Row.lease (κs .0) (qs .0)) (List._∷_ (Row.lease (κs .1 .0) (qs .1 .0)) (List._∷_ (Row.lease (κs .1 .1 .0) (qs .1 .1
-            .0)) (List._∷_ (Row.lease (κs .1 .1 .1 .0) (qs .1 .1 .1 .0)) (List._∷_ (Row.lease (κs .1 .1 .1 .1 .0) (qs .1 .1 .1 .1 .0)) (List._∷_ (Row.lease (κs .1 .1 .1 .1 .1 .0) (qs .1 .1 .1 .1 .1 .0))
-            (List._∷_ Row.off (List._∷_ Row.off (List._∷_ Row.off (List._∷_ Row.off (List._∷_ Row.off (List._∷_ Row.off (List._∷_ Row.off (List._∷_ Row.off List.[]))))))))))))); }
+        G87 = record {
+          locals = List._++_ t59 (List._++_ t56 t2);
+          slots = List._∷_ (Row.lease (κs .0) (qs .0)) (List._∷_ (Row.lease (κs .1 .0) (qs .1 .0)) (List._∷_ (Row.lease (κs .1 .1 .0) (qs .1 .1
+              .0)) (List._∷_ (Row.lease (κs .1 .1 .1 .0) (qs .1 .1 .1 .0)) (List._∷_ (Row.lease (κs .1 .1 .1 .1 .0) (qs .1 .1 .1 .1 .0)) (List._∷_ (Row.lease (κs .1 .1 .1 .1 .1 .0) (qs .1 .1 .1 .1 .1 .0))
+              (List._∷_ Row.off (List._∷_ Row.off (List._∷_ Row.off (List._∷_ Row.off (List._∷_ Row.off (List._∷_ Row.off (List._∷_ Row.off (List._∷_ Row.off List.[])))))))))))));
+        }
 
         abbrev G88 : Row.Cx
-        G88 = record { locals = List._++_ t60 (List._++_ t56 t2); slots = List._∷_ (Row.lease (κs .0) (qs .0)) (List._∷_ (Row.lease (κs .1 .0) (qs .1 .0)) (List._∷_ (Row.lease (κs .1 .1 .0) (qs .1 .1
-            .0)) (List._∷_ (Row.lease (κs .1 .1 .1 .0) (qs .1 .1 .1 .0)) (List._∷_ (Row.lease (κs .1 .1 .1 .1 .0) (qs .1 .1 .1 .1 .0)) (List._∷_ (Row.lease (κs .1 .1 .1 .1 .1 .0) (qs .1 .1 .1 .1 .1 .0))
-            (List._∷_ Row.off (List._∷_ Row.off (List._∷_ Row.off (List._∷_ Row.off (List._∷_ Row.off (List._∷_ Row.off (List._∷_ Row.off (List._∷_ Row.off List.[]))))))))))))); }
+        G88 = record {
+          locals = List._++_ t60 (List._++_ t56 t2);
+          slots = List._∷_ (Row.lease (κs .0) (qs .0)) (List._∷_ (Row.lease (κs .1 .0) (qs .1 .0)) (List._∷_ (Row.lease (κs .1 .1 .0) (qs .1 .1
+              .0)) (List._∷_ (Row.lease (κs .1 .1 .1 .0) (qs .1 .1 .1 .0)) (List._∷_ (Row.lease (κs .1 .1 .1 .1 .0) (qs .1 .1 .1 .1 .0)) (List._∷_ (Row.lease (κs .1 .1 .1 .1 .1 .0) (qs .1 .1 .1 .1 .1 .0))
+              (List._∷_ Row.off (List._∷_ Row.off (List._∷_ Row.off (List._∷_ Row.off (List._∷_ Row.off (List._∷_ Row.off (List._∷_ Row.off (List._∷_ Row.off List.[])))))))))))));
+        }
 
         abbrev G89 : Row.Cx
-        G89 = record { locals = List._++_ t61 (List._++_ t56 t2); slots = List._∷_ (Row.lease (κs .0) (qs .0)) (List._∷_ (Row.lease (κs .1 .0) (qs .1 .0)) (List._∷_ (Row.lease (κs .1 .1 .0) (qs .1 .1
-            .0)) (List._∷_ (Row.lease (κs .1 .1 .1 .0) (qs .1 .1 .1 .0)) (List._∷_ (Row.lease (κs .1 .1 .1 .1 .0) (qs .1 .1 .1 .1 .0)) (List._∷_ (Row.lease (κs .1 .1 .1 .1 .1 .0) (qs .1 .1 .1 .1 .1 .0))
-            (List._∷_ Row.off (List._∷_ Row.off (List._∷_ Row.off (List._∷_ Row.off (List._∷_ Row.off (List._∷_ Row.off (List._∷_ Row.off (List._∷_ Row.off List.[]))))))))))))); }
+        G89 = record {
+          locals = List._++_ t61 (List._++_ t56 t2);
+          slots = List._∷_ (Row.lease (κs .0) (qs .0)) (List._∷_ (Row.lease (κs .1 .0) (qs .1 .0)) (List._∷_ (Row.lease (κs .1 .1 .0) (qs .1 .1
+              .0)) (List._∷_ (Row.lease (κs .1 .1 .1 .0) (qs .1 .1 .1 .0)) (List._∷_ (Row.lease (κs .1 .1 .1 .1 .0) (qs .1 .1 .1 .1 .0)) (List._∷_ (Row.lease (κs .1 .1 .1 .1 .1 .0) (qs .1 .1 .1 .1 .1 .0))
+              (List._∷_ Row.off (List._∷_ Row.off (List._∷_ Row.off (List._∷_ Row.off (List._∷_ Row.off (List._∷_ Row.off (List._∷_ Row.off (List._∷_ Row.off List.[])))))))))))));
+        }
 
         abbrev G90 : Row.Cx
-        G90 = record { locals = List._++_ t62 (List._++_ t56 t2); slots = List._∷_ (Row.lease (κs .0) (qs .0)) (List._∷_ (Row.lease (κs .1 .0) (qs .1 .0)) (List._∷_ (Row.lease (κs .1 .1 .0) (qs .1 .1
-            .0)) (List._∷_ (Row.lease (κs .1 .1 .1 .0) (qs .1 .1 .1 .0)) (List._∷_ (Row.lease (κs .1 .1 .1 .1 .0) (qs .1 .1 .1 .1 .0)) (List._∷_ (Row.lease (κs .1 .1 .1 .1 .1 .0) (qs .1 .1 .1 .1 .1 .0))
-            (List._∷_ Row.off (List._∷_ Row.off (List._∷_ Row.off (List._∷_ Row.off (List._∷_ Row.off (List._∷_ Row.off (List._∷_ Row.off (List._∷_ Row.off List.[]))))))))))))); }
+        G90 = record {
+          locals = List._++_ t62 (List._++_ t56 t2);
+          slots = List._∷_ (Row.lease (κs .0) (qs .0)) (List._∷_ (Row.lease (κs .1 .0) (qs .1 .0)) (List._∷_ (Row.lease (κs .1 .1 .0) (qs .1 .1
+              .0)) (List._∷_ (Row.lease (κs .1 .1 .1 .0) (qs .1 .1 .1 .0)) (List._∷_ (Row.lease (κs .1 .1 .1 .1 .0) (qs .1 .1 .1 .1 .0)) (List._∷_ (Row.lease (κs .1 .1 .1 .1 .1 .0) (qs .1 .1 .1 .1 .1 .0))
+              (List._∷_ Row.off (List._∷_ Row.off (List._∷_ Row.off (List._∷_ Row.off (List._∷_ Row.off (List._∷_ Row.off (List._∷_ Row.off (List._∷_ Row.off List.[])))))))))))));
+        }
 
         abbrev G91 : Row.Cx
-        G91 = record { locals = List._++_ t63 (List._++_ t56 t2); slots = List._∷_ (Row.lease (κs .0) (qs .0)) (List._∷_ (Row.lease (κs .1 .0) (qs .1 .0)) (List._∷_ (Row.lease (κs .1 .1 .0) (qs .1 .1
-            .0)) (List._∷_ (Row.lease (κs .1 .1 .1 .0) (qs .1 .1 .1 .0)) (List._∷_ (Row.lease (κs .1 .1 .1 .1 .0) (qs .1 .1 .1 .1 .0)) (List._∷_ (Row.lease (κs .1 .1 .1 .1 .1 .0) (qs .1 .1 .1 .1 .1 .0))
-            (List._∷_ Row.off (List._∷_ Row.off (List._∷_ Row.off (List._∷_ Row.off (List._∷_ Row.off (List._∷_ Row.off (List._∷_ Row.off (List._∷_ Row.off List.[]))))))))))))); }
+        G91 = record {
+          locals = List._++_ t63 (List._++_ t56 t2);
+          slots = List._∷_ (Row.lease (κs .0) (qs .0)) (List._∷_ (Row.lease (κs .1 .0) (qs .1 .0)) (List._∷_ (Row.lease (κs .1 .1 .0) (qs .1 .1
+              .0)) (List._∷_ (Row.lease (κs .1 .1 .1 .0) (qs .1 .1 .1 .0)) (List._∷_ (Row.lease (κs .1 .1 .1 .1 .0) (qs .1 .1 .1 .1 .0)) (List._∷_ (Row.lease (κs .1 .1 .1 .1 .1 .0) (qs .1 .1 .1 .1 .1 .0))
+              (List._∷_ Row.off (List._∷_ Row.off (List._∷_ Row.off (List._∷_ Row.off (List._∷_ Row.off (List._∷_ Row.off (List._∷_ Row.off (List._∷_ Row.off List.[])))))))))))));
+        }
 
         abbrev G92 : Row.Cx
-        G92 = record { locals = List._++_ t63 (List._++_ t64 t2); slots = List._∷_ (Row.lease (κs .0) (qs .0)) (List._∷_ (Row.lease (κs .1 .0) (qs .1 .0)) (List._∷_ (Row.lease (κs .1 .1 .0) (qs .1 .1
-            .0)) (List._∷_ (Row.lease (κs .1 .1 .1 .0) (qs .1 .1 .1 .0)) (List._∷_ (Row.lease (κs .1 .1 .1 .1 .0) (qs .1 .1 .1 .1 .0)) (List._∷_ (Row.lease (κs .1 .1 .1 .1 .1 .0) (qs .1 .1 .1 .1 .1 .0))
-            (List._∷_ Row.off (List._∷_ Row.off (List._∷_ Row.off (List._∷_ Row.off (List._∷_ Row.off (List._∷_ Row.off (List._∷_ Row.off (List._∷_ Row.off List.[]))))))))))))); }
+        G92 = record {
+          locals = List._++_ t63 (List._++_ t64 t2);
+          slots = List._∷_ (Row.lease (κs .0) (qs .0)) (List._∷_ (Row.lease (κs .1 .0) (qs .1 .0)) (List._∷_ (Row.lease (κs .1 .1 .0) (qs .1 .1
+              .0)) (List._∷_ (Row.lease (κs .1 .1 .1 .0) (qs .1 .1 .1 .0)) (List._∷_ (Row.lease (κs .1 .1 .1 .1 .0) (qs .1 .1 .1 .1 .0)) (List._∷_ (Row.lease (κs .1 .1 .1 .1 .1 .0) (qs .1 .1 .1 .1 .1 .0))
+              (List._∷_ Row.off (List._∷_ Row.off (List._∷_ Row.off (List._∷_ Row.off (List._∷_ Row.off (List._∷_ Row.off (List._∷_ Row.off (List._∷_ Row.off List.[])))))))))))));
+        }
 
         abbrev G93 : Row.Cx
-        G93 = record { locals = List._++_ t63 (List._++_ t65 t2); slots = List._∷_ (Row.lease (κs .0) (qs .0)) (List._∷_ (Row.lease (κs .1 .0) (qs .1 .0)) (List._∷_ (Row.lease (κs .1 .1 .0) (qs .1 .1
-            .0)) (List._∷_ (Row.lease (κs .1 .1 .1 .0) (qs .1 .1 .1 .0)) (List._∷_ (Row.lease (κs .1 .1 .1 .1 .0) (qs .1 .1 .1 .1 .0)) (List._∷_ (Row.lease (κs .1 .1 .1 .1 .1 .0) (qs .1 .1 .1 .1 .1 .0))
-            (List._∷_ Row.off (List._∷_ Row.off (List._∷_ Row.off (List._∷_ Row.off (List._∷_ Row.off (List._∷_ Row.off (List._∷_ Row.off (List._∷_ Row.off List.[]))))))))))))); }
+        G93 = record {
+          locals = List._++_ t63 (List._++_ t65 t2);
+          slots = List._∷_ (Row.lease (κs .0) (qs .0)) (List._∷_ (Row.lease (κs .1 .0) (qs .1 .0)) (List._∷_ (Row.lease (κs .1 .1 .0) (qs .1 .1
+              .0)) (List._∷_ (Row.lease (κs .1 .1 .1 .0) (qs .1 .1 .1 .0)) (List._∷_ (Row.lease (κs .1 .1 .1 .1 .0) (qs .1 .1 .1 .1 .0)) (List._∷_ (Row.lease (κs .1 .1 .1 .1 .1 .0) (qs .1 .1 .1 .1 .1 .0))
+              (List._∷_ Row.off (List._∷_ Row.off (List._∷_ Row.off (List._∷_ Row.off (List._∷_ Row.off (List._∷_ Row.off (List._∷_ Row.off (List._∷_ Row.off List.[])))))))))))));
+        }
 
         abbrev G94 : Row.Cx
-        G94 = record { locals = List._++_ t63 (List._++_ t66 t2); slots = List._∷_ (Row.lease (κs .0) (qs .0)) (List._∷_ (Row.lease (κs .1 .0) (qs .1 .0)) (List._∷_ (Row.lease (κs .1 .1 .0) (qs .1 .1
-            .0)) (List._∷_ (Row.lease (κs .1 .1 .1 .0) (qs .1 .1 .1 .0)) (List._∷_ (Row.lease (κs .1 .1 .1 .1 .0) (qs .1 .1 .1 .1 .0)) (List._∷_ (Row.lease (κs .1 .1 .1 .1 .1 .0) (qs .1 .1 .1 .1 .1 .0))
-            (List._∷_ Row.off (List._∷_ Row.off (List._∷_ Row.off (List._∷_ Row.off (List._∷_ Row.off (List._∷_ Row.off (List._∷_ Row.off (List._∷_ Row.off List.[]))))))))))))); }
+        G94 = record {
+          locals = List._++_ t63 (List._++_ t66 t2);
+          slots = List._∷_ (Row.lease (κs .0) (qs .0)) (List._∷_ (Row.lease (κs .1 .0) (qs .1 .0)) (List._∷_ (Row.lease (κs .1 .1 .0) (qs .1 .1
+              .0)) (List._∷_ (Row.lease (κs .1 .1 .1 .0) (qs .1 .1 .1 .0)) (List._∷_ (Row.lease (κs .1 .1 .1 .1 .0) (qs .1 .1 .1 .1 .0)) (List._∷_ (Row.lease (κs .1 .1 .1 .1 .1 .0) (qs .1 .1 .1 .1 .1 .0))
+              (List._∷_ Row.off (List._∷_ Row.off (List._∷_ Row.off (List._∷_ Row.off (List._∷_ Row.off (List._∷_ Row.off (List._∷_ Row.off (List._∷_ Row.off List.[])))))))))))));
+        }
 
         abbrev G95 : Row.Cx
-        G95 = record { locals = List._++_ t63 (List._++_ t1 t2); slots = List._∷_ (Row.lease (κs .0) (qs .0)) (List._∷_ (Row.lease (κs .1 .0) (qs .1 .0)) (List._∷_ (Row.lease (κs .1 .1 .0) (qs .1 .1
-            .0)) (List._∷_ (Row.lease (κs .1 .1 .1 .0) (qs .1 .1 .1 .0)) (List._∷_ (Row.lease (κs .1 .1 .1 .1 .0) (qs .1 .1 .1 .1 .0)) (List._∷_ (Row.lease (κs .1 .1 .1 .1 .1 .0) (qs .1 .1 .1 .1 .1 .0))
-            (List._∷_ Row.off (List._∷_ Row.off (List._∷_ Row.off (List._∷_ Row.off (List._∷_ Row.off (List._∷_ Row.off (List._∷_ Row.off (List._∷_ Row.off List.[]))))))))))))); }
+        G95 = record {
+          locals = List._++_ t63 (List._++_ t1 t2);
+          slots = List._∷_ (Row.lease (κs .0) (qs .0)) (List._∷_ (Row.lease (κs .1 .0) (qs .1 .0)) (List._∷_ (Row.lease (κs .1 .1 .0) (qs .1 .1
+              .0)) (List._∷_ (Row.lease (κs .1 .1 .1 .0) (qs .1 .1 .1 .0)) (List._∷_ (Row.lease (κs .1 .1 .1 .1 .0) (qs .1 .1 .1 .1 .0)) (List._∷_ (Row.lease (κs .1 .1 .1 .1 .1 .0) (qs .1 .1 .1 .1 .1 .0))
+              (List._∷_ Row.off (List._∷_ Row.off (List._∷_ Row.off (List._∷_ Row.off (List._∷_ Row.off (List._∷_ Row.off (List._∷_ Row.off (List._∷_ Row.off List.[])))))))))))));
+        }
 
         abbrev G96 : Row.Cx
-        G96 = record { locals = List._++_ t3 (List._++_ t1 t2); slots = List._∷_ (Row.lease (κs .0) (qs .0)) (List._∷_ (Row.lease (κs .1 .0) (qs .1 .0)) (List._∷_ (Row.lease (κs .1 .1 .0) (qs .1 .1
-            .0)) (List._∷_ (Row.lease (κs .1 .1 .1 .0) (qs .1 .1 .1 .0)) (List._∷_ (Row.lease (κs .1 .1 .1 .1 .0) (qs .1 .1 .1 .1 .0)) (List._∷_ (Row.lease (κs .1 .1 .1 .1 .1 .0) (qs .1 .1 .1 .1 .1 .0))
-            (List._∷_ Row.off (List._∷_ Row.off (List._∷_ Row.off (List._∷_ Row.off (List._∷_ Row.off (List._∷_ Row.off (List._∷_ Row.off (List._∷_ Row.off List.[]))))))))))))); }
+        G96 = record {
+          locals = List._++_ t3 (List._++_ t1 t2);
+          slots = List._∷_ (Row.lease (κs .0) (qs .0)) (List._∷_ (Row.lease (κs .1 .0) (qs .1 .0)) (List._∷_ (Row.lease (κs .1 .1 .0) (qs .1 .1
+              .0)) (List._∷_ (Row.lease (κs .1 .1 .1 .0) (qs .1 .1 .1 .0)) (List._∷_ (Row.lease (κs .1 .1 .1 .1 .0) (qs .1 .1 .1 .1 .0)) (List._∷_ (Row.lease (κs .1 .1 .1 .1 .1 .0) (qs .1 .1 .1 .1 .1 .0))
+              (List._∷_ Row.off (List._∷_ Row.off (List._∷_ Row.off (List._∷_ Row.off (List._∷_ Row.off (List._∷_ Row.off (List._∷_ Row.off (List._∷_ Row.off List.[])))))))))))));
+        }
 
         abbrev G97 : Row.Cx
-        G97 = record { locals = List._++_ t67 (List._++_ t54 t2); slots = List._∷_ (Row.lease (κs .0) (qs .0)) (List._∷_ (Row.lease (κs .1 .0) (qs .1 .0)) (List._∷_ (Row.lease (κs .1 .1 .0) (qs .1 .1
-            .0)) (List._∷_ (Row.lease (κs .1 .1 .1 .0) (qs .1 .1 .1 .0)) (List._∷_ (Row.lease (κs .1 .1 .1 .1 .0) (qs .1 .1 .1 .1 .0)) (List._∷_ (Row.lease (κs .1 .1 .1 .1 .1 .0) (qs .1 .1 .1 .1 .1 .0))
-            (List._∷_ Row.off (List._∷_ Row.off (List._∷_ Row.off (List._∷_ Row.off (List._∷_ Row.off (List._∷_ Row.off (List._∷_ Row.off (List._∷_ Row.off List.[]))))))))))))); }
+        G97 = record {
+          locals = List._++_ t67 (List._++_ t54 t2);
+          slots = List._∷_ (Row.lease (κs .0) (qs .0)) (List._∷_ (Row.lease (κs .1 .0) (qs .1 .0)) (List._∷_ (Row.lease (κs .1 .1 .0) (qs .1 .1
+              .0)) (List._∷_ (Row.lease (κs .1 .1 .1 .0) (qs .1 .1 .1 .0)) (List._∷_ (Row.lease (κs .1 .1 .1 .1 .0) (qs .1 .1 .1 .1 .0)) (List._∷_ (Row.lease (κs .1 .1 .1 .1 .1 .0) (qs .1 .1 .1 .1 .1 .0))
+              (List._∷_ Row.off (List._∷_ Row.off (List._∷_ Row.off (List._∷_ Row.off (List._∷_ Row.off (List._∷_ Row.off (List._∷_ Row.off (List._∷_ Row.off List.[])))))))))))));
+        }
 
         abbrev G98 : Row.Cx
-        G98 = record { locals = List._++_ t6 (List._++_ t54 t2); slots = List._∷_ (Row.lease (κs .0) (qs .0)) (List._∷_ (Row.lease (κs .1 .0) (qs .1 .0)) (List._∷_ (Row.lease (κs .1 .1 .0) (qs .1 .1
-            .0)) (List._∷_ (Row.lease (κs .1 .1 .1 .0) (qs .1 .1 .1 .0)) (List._∷_ (Row.lease (κs .1 .1 .1 .1 .0) (qs .1 .1 .1 .1 .0)) (List._∷_ (Row.lease (κs .1 .1 .1 .1 .1 .0) (qs .1 .1 .1 .1 .1 .0))
-            (List._∷_ Row.off (List._∷_ Row.off (List._∷_ Row.off (List._∷_ Row.off (List._∷_ Row.off (List._∷_ Row.off (List._∷_ Row.off (List._∷_ Row.off List.[]))))))))))))); }
+        G98 = record {
+          locals = List._++_ t6 (List._++_ t54 t2);
+          slots = List._∷_ (Row.lease (κs .0) (qs .0)) (List._∷_ (Row.lease (κs .1 .0) (qs .1 .0)) (List._∷_ (Row.lease (κs .1 .1 .0) (qs .1 .1
+              .0)) (List._∷_ (Row.lease (κs .1 .1 .1 .0) (qs .1 .1 .1 .0)) (List._∷_ (Row.lease (κs .1 .1 .1 .1 .0) (qs .1 .1 .1 .1 .0)) (List._∷_ (Row.lease (κs .1 .1 .1 .1 .1 .0) (qs .1 .1 .1 .1 .1 .0))
+              (List._∷_ Row.off (List._∷_ Row.off (List._∷_ Row.off (List._∷_ Row.off (List._∷_ Row.off (List._∷_ Row.off (List._∷_ Row.off (List._∷_ Row.off List.[])))))))))))));
+        }
 
         abbrev G99 : Row.Cx
-        G99 = record { locals = List._++_ t6 (List._++_ t53 t2); slots = List._∷_ (Row.lease (κs .0) (qs .0)) (List._∷_ (Row.lease (κs .1 .0) (qs .1 .0)) (List._∷_ (Row.lease (κs .1 .1 .0) (qs .1 .1
-            .0)) (List._∷_ (Row.lease (κs .1 .1 .1 .0) (qs .1 .1 .1 .0)) (List._∷_ (Row.lease (κs .1 .1 .1 .1 .0) (qs .1 .1 .1 .1 .0)) (List._∷_ (Row.lease (κs .1 .1 .1 .1 .1 .0) (qs .1 .1 .1 .1 .1 .0))
-            (List._∷_ Row.off (List._∷_ Row.off (List._∷_ Row.off (List._∷_ Row.off (List._∷_ Row.off (List._∷_ Row.off (List._∷_ Row.off (List._∷_ Row.off List.[]))))))))))))); }
+        G99 = record {
+          locals = List._++_ t6 (List._++_ t53 t2);
+          slots = List._∷_ (Row.lease (κs .0) (qs .0)) (List._∷_ (Row.lease (κs .1 .0) (qs .1 .0)) (List._∷_ (Row.lease (κs .1 .1 .0) (qs .1 .1
+              .0)) (List._∷_ (Row.lease (κs .1 .1 .1 .0) (qs .1 .1 .1 .0)) (List._∷_ (Row.lease (κs .1 .1 .1 .1 .0) (qs .1 .1 .1 .1 .0)) (List._∷_ (Row.lease (κs .1 .1 .1 .1 .1 .0) (qs .1 .1 .1 .1 .1 .0))
+              (List._∷_ Row.off (List._∷_ Row.off (List._∷_ Row.off (List._∷_ Row.off (List._∷_ Row.off (List._∷_ Row.off (List._∷_ Row.off (List._∷_ Row.off List.[])))))))))))));
+        }
 
         abbrev G100 : Row.Cx
-        G100 = record { locals = List._++_ t68 (List._++_ t53 t2); slots = List._∷_ (Row.lease (κs .0) (qs .0)) (List._∷_ (Row.lease (κs .1 .0) (qs .1 .0)) (List._∷_ (Row.lease (κs .1 .1 .0) (qs .1 .1
-            .0)) (List._∷_ (Row.lease (κs .1 .1 .1 .0) (qs .1 .1 .1 .0)) (List._∷_ (Row.lease (κs .1 .1 .1 .1 .0) (qs .1 .1 .1 .1 .0)) (List._∷_ (Row.lease (κs .1 .1 .1 .1 .1 .0) (qs .1 .1 .1 .1 .1 .0))
-            (List._∷_ Row.off (List._∷_ Row.off (List._∷_ Row.off (List._∷_ Row.off (List._∷_ Row.off (List._∷_ Row.off (List._∷_ Row.off (List._∷_ Row.off List.[]))))))))))))); }
+        G100 = record {
+          locals = List._++_ t68 (List._++_ t53 t2);
+          slots = List._∷_ (Row.lease (κs .0) (qs .0)) (List._∷_ (Row.lease (κs .1 .0) (qs .1 .0)) (List._∷_ (Row.lease (κs .1 .1 .0) (qs .1 .1
+              .0)) (List._∷_ (Row.lease (κs .1 .1 .1 .0) (qs .1 .1 .1 .0)) (List._∷_ (Row.lease (κs .1 .1 .1 .1 .0) (qs .1 .1 .1 .1 .0)) (List._∷_ (Row.lease (κs .1 .1 .1 .1 .1 .0) (qs .1 .1 .1 .1 .1 .0))
+              (List._∷_ Row.off (List._∷_ Row.off (List._∷_ Row.off (List._∷_ Row.off (List._∷_ Row.off (List._∷_ Row.off (List._∷_ Row.off (List._∷_ Row.off List.[])))))))))))));
+        }
 
         abbrev G101 : Row.Cx
-        G101 = record { locals = List._++_ t24 (List._++_ t53 t2); slots = List._∷_ (Row.lease (κs .0) (qs .0)) (List._∷_ (Row.lease (κs .1 .0) (qs .1 .0)) (List._∷_ (Row.lease (κs .1 .1 .0) (qs .1 .1
-            .0)) (List._∷_ (Row.lease (κs .1 .1 .1 .0) (qs .1 .1 .1 .0)) (List._∷_ (Row.lease (κs .1 .1 .1 .1 .0) (qs .1 .1 .1 .1 .0)) (List._∷_ (Row.lease (κs .1 .1 .1 .1 .1 .0) (qs .1 .1 .1 .1 .1 .0))
-            (List._∷_ Row.off (List._∷_ Row.off (List._∷_ Row.off (List._∷_ Row.off (List._∷_ Row.off (List._∷_ Row.off (List._∷_ Row.off (List._∷_ Row.off List.[]))))))))))))); }
+        G101 = record {
+          locals = List._++_ t24 (List._++_ t53 t2);
+          slots = List._∷_ (Row.lease (κs .0) (qs .0)) (List._∷_ (Row.lease (κs .1 .0) (qs .1 .0)) (List._∷_ (Row.lease (κs .1 .1 .0) (qs .1 .1
+              .0)) (List._∷_ (Row.lease (κs .1 .1 .1 .0) (qs .1 .1 .1 .0)) (List._∷_ (Row.lease (κs .1 .1 .1 .1 .0) (qs .1 .1 .1 .1 .0)) (List._∷_ (Row.lease (κs .1 .1 .1 .1 .1 .0) (qs .1 .1 .1 .1 .1 .0))
+              (List._∷_ Row.off (List._∷_ Row.off (List._∷_ Row.off (List._∷_ Row.off (List._∷_ Row.off (List._∷_ Row.off (List._∷_ Row.off (List._∷_ Row.off List.[])))))))))))));
+        }
 
         abbrev G102 : Row.Cx
-        G102 = record { locals = List._++_ t24 (List._++_ t56 t2); slots = List._∷_ (Row.lease (κs .0) (qs .0)) (List._∷_ (Row.lease (κs .1 .0) (qs .1 .0)) (List._∷_ (Row.lease (κs .1 .1 .0) (qs .1 .1
-            .0)) (List._∷_ (Row.lease (κs .1 .1 .1 .0) (qs .1 .1 .1 .0)) (List._∷_ (Row.lease (κs .1 .1 .1 .1 .0) (qs .1 .1 .1 .1 .0)) (List._∷_ (Row.lease (κs .1 .1 .1 .1 .1 .0) (qs .1 .1 .1 .1 .1 .0))
-            (List._∷_ Row.off (List._∷_ Row.off (List._∷_ Row.off (List._∷_ Row.off (List._∷_ Row.off (List._∷_ Row.off (List._∷_ Row.off (List._∷_ Row.off List.[]))))))))))))); }
+        G102 = record {
+          locals = List._++_ t24 (List._++_ t56 t2);
+          slots = List._∷_ (Row.lease (κs .0) (qs .0)) (List._∷_ (Row.lease (κs .1 .0) (qs .1 .0)) (List._∷_ (Row.lease (κs .1 .1 .0) (qs .1 .1
+              .0)) (List._∷_ (Row.lease (κs .1 .1 .1 .0) (qs .1 .1 .1 .0)) (List._∷_ (Row.lease (κs .1 .1 .1 .1 .0) (qs .1 .1 .1 .1 .0)) (List._∷_ (Row.lease (κs .1 .1 .1 .1 .1 .0) (qs .1 .1 .1 .1 .1 .0))
+              (List._∷_ Row.off (List._∷_ Row.off (List._∷_ Row.off (List._∷_ Row.off (List._∷_ Row.off (List._∷_ Row.off (List._∷_ Row.off (List._∷_ Row.off List.[])))))))))))));
+        }
 
         abbrev G103 : Row.Cx
-        G103 = record { locals = List._++_ t24 (List._++_ t56 t2); slots = List._∷_ (Row.lease (κs .0) (qs .0)) (List._∷_ (Row.lease (κs .1 .0) (qs .1 .0)) (List._∷_ (Row.lease (κs .1 .1 .0) (qs .1 .1
-            .0)) (List._∷_ (Row.lease (κs .1 .1 .1 .0) (qs .1 .1 .1 .0)) (List._∷_ (Row.lease (κs .1 .1 .1 .1 .0) (qs .1 .1 .1 .1 .0)) (List._∷_ (Row.lease (κs .1 .1 .1 .1 .1 .0) (qs .1 .1 .1 .1 .1 .0))
-            (List._∷_ Row.off (List._∷_ Row.off (List._∷_ Row.off (List._∷_ Row.off (List._∷_ Row.off (List._∷_ Row.off (List._∷_ Row.off (List._∷_ Row.off List.[]))))))))))))); }
+        G103 = record {
+          locals = List._++_ t24 (List._++_ t56 t2);
+          slots = List._∷_ (Row.lease (κs .0) (qs .0)) (List._∷_ (Row.lease (κs .1 .0) (qs .1 .0)) (List._∷_ (Row.lease (κs .1 .1 .0) (qs .1 .1
+              .0)) (List._∷_ (Row.lease (κs .1 .1 .1 .0) (qs .1 .1 .1 .0)) (List._∷_ (Row.lease (κs .1 .1 .1 .1 .0) (qs .1 .1 .1 .1 .0)) (List._∷_ (Row.lease (κs .1 .1 .1 .1 .1 .0) (qs .1 .1 .1 .1 .1 .0))
+              (List._∷_ Row.off (List._∷_ Row.off (List._∷_ Row.off (List._∷_ Row.off (List._∷_ Row.off (List._∷_ Row.off (List._∷_ Row.off (List._∷_ Row.off List.[])))))))))))));
+        }
 
         abbrev G104 : Row.Cx
-        G104 = record { locals = List._++_ t24 (List._++_ t56 t2); slots = List._∷_ (Row.lease (κs .0) (qs .0)) (List._∷_ (Row.lease (κs .1 .0) (qs .1 .0)) (List._∷_ (Row.lease (κs .1 .1 .0) (qs .1 .1
-            .0)) (List._∷_ (Row.lease (κs .1 .1 .1 .0) (qs .1 .1 .1 .0)) (List._∷_ (Row.lease (κs .1 .1 .1 .1 .0) (qs .1 .1 .1 .1 .0)) (List._∷_ (Row.lease (κs .1 .1 .1 .1 .1 .0) (qs .1 .1 .1 .1 .1 .0))
-            (List._∷_ Row.off (List._∷_ Row.off (List._∷_ Row.off (List._∷_ Row.off (List._∷_ Row.off (List._∷_ Row.off (List._∷_ Row.alive (List._∷_ Row.off List.[]))))))))))))); }
+        G104 = record {
+          locals = List._++_ t24 (List._++_ t56 t2);
+          slots = List._∷_ (Row.lease (κs .0) (qs .0)) (List._∷_ (Row.lease (κs .1 .0) (qs .1 .0)) (List._∷_ (Row.lease (κs .1 .1 .0) (qs .1 .1
+              .0)) (List._∷_ (Row.lease (κs .1 .1 .1 .0) (qs .1 .1 .1 .0)) (List._∷_ (Row.lease (κs .1 .1 .1 .1 .0) (qs .1 .1 .1 .1 .0)) (List._∷_ (Row.lease (κs .1 .1 .1 .1 .1 .0) (qs .1 .1 .1 .1 .1 .0))
+              (List._∷_ Row.off (List._∷_ Row.off (List._∷_ Row.off (List._∷_ Row.off (List._∷_ Row.off (List._∷_ Row.off (List._∷_ Row.alive (List._∷_ Row.off List.[])))))))))))));
+        }
 
         abbrev G105 : Row.Cx
-        G105 = record { locals = List._++_ g69 (List._++_ t56 t70); slots = List._∷_ (Row.lease (κs .0) (qs .0)) (List._∷_ (Row.lease (κs .1 .0) (qs .1 .0)) (List._∷_ Row.off (List._∷_ (Row.lease (κs
-            .1 .1 .1 .0) (qs .1 .1 .1 .0)) (List._∷_ (Row.lease (κs .1 .1 .1 .1 .0) (qs .1 .1 .1 .1 .0)) (List._∷_ (Row.lease (κs .1 .1 .1 .1 .1 .0) (qs .1 .1 .1 .1 .1 .0)) (List._∷_ Row.off (List._∷_
-            Row.off (List._∷_ Row.off (List._∷_ Row.off (List._∷_ Row.off (List._∷_ Row.off (List._∷_ Row.alive (List._∷_ Row.off List.[]))))))))))))); }
+        G105 = record {
+          locals = List._++_ g69 (List._++_ t56 t70);
+          slots = List._∷_ (Row.lease (κs .0) (qs .0)) (List._∷_ (Row.lease (κs .1 .0) (qs .1 .0)) (List._∷_ Row.off (List._∷_ (Row.lease (κs
+              .1 .1 .1 .0) (qs .1 .1 .1 .0)) (List._∷_ (Row.lease (κs .1 .1 .1 .1 .0) (qs .1 .1 .1 .1 .0)) (List._∷_ (Row.lease (κs .1 .1 .1 .1 .1 .0) (qs .1 .1 .1 .1 .1 .0)) (List._∷_ Row.off (List._∷_
+              Row.off (List._∷_ Row.off (List._∷_ Row.off (List._∷_ Row.off (List._∷_ Row.off (List._∷_ Row.alive (List._∷_ Row.off List.[])))))))))))));
+        }
 
         abbrev G106 : Row.Cx
-        G106 = record { locals = List._++_ g69 (List._++_ t56 t71); slots = List._∷_ (Row.lease (κs .0) (qs .0)) (List._∷_ (Row.lease (κs .1 .0) (qs .1 .0)) (List._∷_ Row.off (List._∷_ (Row.lease (κs
-            .1 .1 .1 .0) (qs .1 .1 .1 .0)) (List._∷_ (Row.lease (κs .1 .1 .1 .1 .0) (qs .1 .1 .1 .1 .0)) (List._∷_ (Row.lease (κs .1 .1 .1 .1 .1 .0) (qs .1 .1 .1 .1 .1 .0)) (List._∷_ Row.off (List._∷_
-            Row.off (List._∷_ Row.off (List._∷_ Row.off (List._∷_ Row.off (List._∷_ Row.off (List._∷_ Row.alive (List._∷_ Row.off List.[]))))))))))))); }
+        G106 = record {
+          locals = List._++_ g69 (List._++_ t56 t71);
+          slots = List._∷_ (Row.lease (κs .0) (qs .0)) (List._∷_ (Row.lease (κs .1 .0) (qs .1 .0)) (List._∷_ Row.off (List._∷_ (Row.lease (κs
+              .1 .1 .1 .0) (qs .1 .1 .1 .0)) (List._∷_ (Row.lease (κs .1 .1 .1 .1 .0) (qs .1 .1 .1 .1 .0)) (List._∷_ (Row.lease (κs .1 .1 .1 .1 .1 .0) (qs .1 .1 .1 .1 .1 .0)) (List._∷_ Row.off (List._∷_
+              Row.off (List._∷_ Row.off (List._∷_ Row.off (List._∷_ Row.off (List._∷_ Row.off (List._∷_ Row.alive (List._∷_ Row.off List.[])))))))))))));
+        }
 
         abbrev G107 : Row.Cx
-        G107 = record { locals = List._++_ g69 (List._++_ t56 t71); slots = List._∷_ (Row.lease (κs .0) (qs .0)) (List._∷_ (Row.lease (κs .1 .0) (qs .1 .0)) (List._∷_ Row.off (List._∷_ (Row.lease (κs
-            .1 .1 .1 .0) (qs .1 .1 .1 .0)) (List._∷_ (Row.lease (κs .1 .1 .1 .1 .0) (qs .1 .1 .1 .1 .0)) (List._∷_ (Row.lease (κs .1 .1 .1 .1 .1 .0) (qs .1 .1 .1 .1 .1 .0)) (List._∷_ Row.off (List._∷_
-            Row.off (List._∷_ Row.off (List._∷_ Row.off (List._∷_ Row.off (List._∷_ Row.off (List._∷_ Row.alive (List._∷_ Row.alive List.[]))))))))))))); }
+        G107 = record {
+          locals = List._++_ g69 (List._++_ t56 t71);
+          slots = List._∷_ (Row.lease (κs .0) (qs .0)) (List._∷_ (Row.lease (κs .1 .0) (qs .1 .0)) (List._∷_ Row.off (List._∷_ (Row.lease (κs
+              .1 .1 .1 .0) (qs .1 .1 .1 .0)) (List._∷_ (Row.lease (κs .1 .1 .1 .1 .0) (qs .1 .1 .1 .1 .0)) (List._∷_ (Row.lease (κs .1 .1 .1 .1 .1 .0) (qs .1 .1 .1 .1 .1 .0)) (List._∷_ Row.off (List._∷_
+              Row.off (List._∷_ Row.off (List._∷_ Row.off (List._∷_ Row.off (List._∷_ Row.off (List._∷_ Row.alive (List._∷_ Row.alive List.[])))))))))))));
+        }
 
         abbrev G108 : Row.Cx
-        G108 = record { locals = List._++_ g72 (List._++_ t56 t73); slots = List._∷_ (Row.lease (κs .0) (qs .0)) (List._∷_ (Row.lease (κs .1 .0) (qs .1 .0)) (List._∷_ Row.off (List._∷_ (Row.lease (κs
-            .1 .1 .1 .0) (qs .1 .1 .1 .0)) (List._∷_ Row.off (List._∷_ (Row.lease (κs .1 .1 .1 .1 .1 .0) (qs .1 .1 .1 .1 .1 .0)) (List._∷_ Row.off (List._∷_ Row.off (List._∷_ Row.off (List._∷_ Row.off
-            (List._∷_ Row.off (List._∷_ Row.off (List._∷_ Row.alive (List._∷_ Row.alive List.[]))))))))))))); }
+        G108 = record {
+          locals = List._++_ g72 (List._++_ t56 t73);
+          slots = List._∷_ (Row.lease (κs .0) (qs .0)) (List._∷_ (Row.lease (κs .1 .0) (qs .1 .0)) (List._∷_ Row.off (List._∷_ (Row.lease (κs
+              .1 .1 .1 .0) (qs .1 .1 .1 .0)) (List._∷_ Row.off (List._∷_ (Row.lease (κs .1 .1 .1 .1 .1 .0) (qs .1 .1 .1 .1 .1 .0)) (List._∷_ Row.off (List._∷_ Row.off (List._∷_ Row.off (List._∷_ Row.off
+              (List._∷_ Row.off (List._∷_ Row.off (List._∷_ Row.alive (List._∷_ Row.alive List.[])))))))))))));
+        }
 
         abbrev G109 : Row.Cx
-        G109 = record { locals = List._++_ g72 (List._++_ t56 t74); slots = List._∷_ (Row.lease (κs .0) (qs .0)) (List._∷_ (Row.lease (κs .1 .0) (qs .1 .0)) (List._∷_ Row.off (List._∷_ (Row.lease (κs
-            .1 .1 .1 .0) (qs .1 .1 .1 .0)) (List._∷_ Row.off (List._∷_ (Row.lease (κs .1 .1 .1 .1 .1 .0) (qs .1 .1 .1 .1 .1 .0)) (List._∷_ Row.off (List._∷_ Row.off (List._∷_ Row.off (List._∷_ Row.off
-            (List._∷_ Row.off (List._∷_ Row.off (List._∷_ Row.alive (List._∷_ Row.alive List.[]))))))))))))); }
+        G109 = record {
+          locals = List._++_ g72 (List._++_ t56 t74);
+          slots = List._∷_ (Row.lease (κs .0) (qs .0)) (List._∷_ (Row.lease (κs .1 .0) (qs .1 .0)) (List._∷_ Row.off (List._∷_ (Row.lease (κs
+              .1 .1 .1 .0) (qs .1 .1 .1 .0)) (List._∷_ Row.off (List._∷_ (Row.lease (κs .1 .1 .1 .1 .1 .0) (qs .1 .1 .1 .1 .1 .0)) (List._∷_ Row.off (List._∷_ Row.off (List._∷_ Row.off (List._∷_ Row.off
+              (List._∷_ Row.off (List._∷_ Row.off (List._∷_ Row.alive (List._∷_ Row.alive List.[])))))))))))));
+        }
 
         abbrev G110 : Row.Cx
-        G110 = record { locals = List._++_ g72 (List._++_ t75 t76); slots = List._∷_ (Row.lease (κs .0) (qs .0)) (List._∷_ (Row.lease (κs .1 .0) (qs .1 .0)) (List._∷_ Row.off (List._∷_ (Row.lease (κs
-            .1 .1 .1 .0) (qs .1 .1 .1 .0)) (List._∷_ Row.off (List._∷_ (Row.lease (κs .1 .1 .1 .1 .1 .0) (qs .1 .1 .1 .1 .1 .0)) (List._∷_ Row.off (List._∷_ Row.off (List._∷_ Row.off (List._∷_ Row.off
-            (List._∷_ Row.off (List._∷_ Row.off (List._∷_ Row.alive (List._∷_ Row.alive List.[]))))))))))))); }
+        G110 = record {
+          locals = List._++_ g72 (List._++_ t75 t76);
+          slots = List._∷_ (Row.lease (κs .0) (qs .0)) (List._∷_ (Row.lease (κs .1 .0) (qs .1 .0)) (List._∷_ Row.off (List._∷_ (Row.lease (κs
+              .1 .1 .1 .0) (qs .1 .1 .1 .0)) (List._∷_ Row.off (List._∷_ (Row.lease (κs .1 .1 .1 .1 .1 .0) (qs .1 .1 .1 .1 .1 .0)) (List._∷_ Row.off (List._∷_ Row.off (List._∷_ Row.off (List._∷_ Row.off
+              (List._∷_ Row.off (List._∷_ Row.off (List._∷_ Row.alive (List._∷_ Row.alive List.[])))))))))))));
+        }
 
         abbrev G111 : Row.Cx
-        G111 = record { locals = List._++_ g72 (List._++_ t75 t77); slots = List._∷_ (Row.lease (κs .0) (qs .0)) (List._∷_ (Row.lease (κs .1 .0) (qs .1 .0)) (List._∷_ Row.off (List._∷_ (Row.lease (κs
-            .1 .1 .1 .0) (qs .1 .1 .1 .0)) (List._∷_ Row.off (List._∷_ (Row.lease (κs .1 .1 .1 .1 .1 .0) (qs .1 .1 .1 .1 .1 .0)) (List._∷_ Row.off (List._∷_ Row.off (List._∷_ Row.off (List._∷_ Row.off
-            (List._∷_ Row.off (List._∷_ Row.off (List._∷_ Row.alive (List._∷_ Row.alive List.[]))))))))))))); }
+        G111 = record {
+          locals = List._++_ g72 (List._++_ t75 t77);
+          slots = List._∷_ (Row.lease (κs .0) (qs .0)) (List._∷_ (Row.lease (κs .1 .0) (qs .1 .0)) (List._∷_ Row.off (List._∷_ (Row.lease (κs
+              .1 .1 .1 .0) (qs .1 .1 .1 .0)) (List._∷_ Row.off (List._∷_ (Row.lease (κs .1 .1 .1 .1 .1 .0) (qs .1 .1 .1 .1 .1 .0)) (List._∷_ Row.off (List._∷_ Row.off (List._∷_ Row.off (List._∷_ Row.off
+              (List._∷_ Row.off (List._∷_ Row.off (List._∷_ Row.alive (List._∷_ Row.alive List.[])))))))))))));
+        }
 
         abbrev G112 : Row.Cx
-        G112 = record { locals = List._++_ g72 (List._++_ t56 t77); slots = List._∷_ (Row.lease (κs .0) (qs .0)) (List._∷_ (Row.lease (κs .1 .0) (qs .1 .0)) (List._∷_ Row.off (List._∷_ (Row.lease (κs
-            .1 .1 .1 .0) (qs .1 .1 .1 .0)) (List._∷_ Row.off (List._∷_ (Row.lease (κs .1 .1 .1 .1 .1 .0) (qs .1 .1 .1 .1 .1 .0)) (List._∷_ Row.off (List._∷_ Row.off (List._∷_ Row.off (List._∷_ Row.off
-            (List._∷_ Row.off (List._∷_ Row.off (List._∷_ Row.alive (List._∷_ Row.alive List.[]))))))))))))); }
+        G112 = record {
+          locals = List._++_ g72 (List._++_ t56 t77);
+          slots = List._∷_ (Row.lease (κs .0) (qs .0)) (List._∷_ (Row.lease (κs .1 .0) (qs .1 .0)) (List._∷_ Row.off (List._∷_ (Row.lease (κs
+              .1 .1 .1 .0) (qs .1 .1 .1 .0)) (List._∷_ Row.off (List._∷_ (Row.lease (κs .1 .1 .1 .1 .1 .0) (qs .1 .1 .1 .1 .1 .0)) (List._∷_ Row.off (List._∷_ Row.off (List._∷_ Row.off (List._∷_ Row.off
+              (List._∷_ Row.off (List._∷_ Row.off (List._∷_ Row.alive (List._∷_ Row.alive List.[])))))))))))));
+        }
 
         abbrev G113 : Row.Cx
-        G113 = record { locals = List._++_ g72 (List._++_ t56 t77); slots = List._∷_ (Row.lease (κs .0) (qs .0)) (List._∷_ (Row.lease (κs .1 .0) (qs .1 .0)) (List._∷_ Row.off (List._∷_ (Row.lease (κs
-            .1 .1 .1 .0) (qs .1 .1 .1 .0)) (List._∷_ Row.off (List._∷_ (Row.lease (κs .1 .1 .1 .1 .1 .0) (qs .1 .1 .1 .1 .1 .0)) (List._∷_ Row.off (List._∷_ Row.off (List._∷_ Row.off (List._∷_ Row.off
-            (List._∷_ Row.off (List._∷_ Row.off (List._∷_ Row.dead (List._∷_ Row.alive List.[]))))))))))))); }
+        G113 = record {
+          locals = List._++_ g72 (List._++_ t56 t77);
+          slots = List._∷_ (Row.lease (κs .0) (qs .0)) (List._∷_ (Row.lease (κs .1 .0) (qs .1 .0)) (List._∷_ Row.off (List._∷_ (Row.lease (κs
+              .1 .1 .1 .0) (qs .1 .1 .1 .0)) (List._∷_ Row.off (List._∷_ (Row.lease (κs .1 .1 .1 .1 .1 .0) (qs .1 .1 .1 .1 .1 .0)) (List._∷_ Row.off (List._∷_ Row.off (List._∷_ Row.off (List._∷_ Row.off
+              (List._∷_ Row.off (List._∷_ Row.off (List._∷_ Row.dead (List._∷_ Row.alive List.[])))))))))))));
+        }
 
         abbrev G114 : Row.Cx
-        G114 = record { locals = List._++_ g78 (List._++_ t56 t77); slots = List._∷_ (Row.lease (κs .0) (qs .0)) (List._∷_ (Row.lease (κs .1 .0) (qs .1 .0)) (List._∷_ (Row.lease (κs .1 .1 .0) (qs .1
-            .1 .0)) (List._∷_ (Row.lease (κs .1 .1 .1 .0) (qs .1 .1 .1 .0)) (List._∷_ Row.off (List._∷_ (Row.lease (κs .1 .1 .1 .1 .1 .0) (qs .1 .1 .1 .1 .1 .0)) (List._∷_ Row.off (List._∷_ Row.off
-            (List._∷_ Row.off (List._∷_ Row.off (List._∷_ Row.off (List._∷_ Row.off (List._∷_ Row.dead (List._∷_ Row.alive List.[]))))))))))))); }
+        G114 = record {
+          locals = List._++_ g78 (List._++_ t56 t77);
+          slots = List._∷_ (Row.lease (κs .0) (qs .0)) (List._∷_ (Row.lease (κs .1 .0) (qs .1 .0)) (List._∷_ (Row.lease (κs .1 .1 .0) (qs .1
+              .1 .0)) (List._∷_ (Row.lease (κs .1 .1 .1 .0) (qs .1 .1 .1 .0)) (List._∷_ Row.off (List._∷_ (Row.lease (κs .1 .1 .1 .1 .1 .0) (qs .1 .1 .1 .1 .1 .0)) (List._∷_ Row.off (List._∷_ Row.off
+              (List._∷_ Row.off (List._∷_ Row.off (List._∷_ Row.off (List._∷_ Row.off (List._∷_ Row.dead (List._∷_ Row.alive List.[])))))))))))));
+        }
 
         abbrev G115 : Row.Cx
-        G115 = record { locals = List._++_ g78 (List._++_ t56 t77); slots = List._∷_ (Row.lease (κs .0) (qs .0)) (List._∷_ (Row.lease (κs .1 .0) (qs .1 .0)) (List._∷_ (Row.lease (κs .1 .1 .0) (qs .1
-            .1 .0)) (List._∷_ (Row.lease (κs .1 .1 .1 .0) (qs .1 .1 .1 .0)) (List._∷_ Row.off (List._∷_ (Row.lease (κs .1 .1 .1 .1 .1 .0) (qs .1 .1 .1 .1 .1 .0)) (List._∷_ Row.off (List._∷_ Row.off
-            (List._∷_ Row.off (List._∷_ Row.off (List._∷_ Row.off (List._∷_ Row.off (List._∷_ Row.off (List._∷_ Row.alive List.[]))))))))))))); }
+        G115 = record {
+          locals = List._++_ g78 (List._++_ t56 t77);
+          slots = List._∷_ (Row.lease (κs .0) (qs .0)) (List._∷_ (Row.lease (κs .1 .0) (qs .1 .0)) (List._∷_ (Row.lease (κs .1 .1 .0) (qs .1
+              .1 .0)) (List._∷_ (Row.lease (κs .1 .1 .1 .0) (qs .1 .1 .1 .0)) (List._∷_ Row.off (List._∷_ (Row.lease (κs .1 .1 .1 .1 .1 .0) (qs .1 .1 .1 .1 .1 .0)) (List._∷_ Row.off (List._∷_ Row.off
+              (List._∷_ Row.off (List._∷_ Row.off (List._∷_ Row.off (List._∷_ Row.off (List._∷_ Row.off (List._∷_ Row.alive List.[])))))))))))));
+        }
 
         abbrev G116 : Row.Cx
-        G116 = record { locals = List._++_ g78 (List._++_ t56 t77); slots = List._∷_ (Row.lease (κs .0) (qs .0)) (List._∷_ (Row.lease (κs .1 .0) (qs .1 .0)) (List._∷_ (Row.lease (κs .1 .1 .0) (qs .1
-            .1 .0)) (List._∷_ (Row.lease (κs .1 .1 .1 .0) (qs .1 .1 .1 .0)) (List._∷_ Row.off (List._∷_ (Row.lease (κs .1 .1 .1 .1 .1 .0) (qs .1 .1 .1 .1 .1 .0)) (List._∷_ Row.off (List._∷_ Row.off
-            (List._∷_ Row.off (List._∷_ Row.off (List._∷_ Row.off (List._∷_ Row.off (List._∷_ Row.off (List._∷_ Row.dead List.[]))))))))))))); }
+        G116 = record {
+          locals = List._++_ g78 (List._++_ t56 t77);
+          slots = List._∷_ (Row.lease (κs .0) (qs .0)) (List._∷_ (Row.lease (κs .1 .0) (qs .1 .0)) (List._∷_ (Row.lease (κs .1 .1 .0) (qs .1
+              .1 .0)) (List._∷_ (Row.lease (κs .1 .1 .1 .0) (qs .1 .1 .1 .0)) (List._∷_ Row.off (List._∷_ (Row.lease (κs .1 .1 .1 .1 .1 .0) (qs .1 .1 .1 .1 .1 .0)) (List._∷_ Row.off (List._∷_ Row.off
+              (List._∷_ Row.off (List._∷_ Row.off (List._∷_ Row.off (List._∷_ Row.off (List._∷_ Row.off (List._∷_ Row.dead List.[])))))))))))));
+        }
 
         abbrev G117 : Row.Cx
-        G117 = record { locals = List._++_ t24 (List._++_ t56 t2); slots = List._∷_ (Row.lease (κs .0) (qs .0)) (List._∷_ (Row.lease (κs .1 .0) (qs .1 .0)) (List._∷_ (Row.lease (κs .1 .1 .0) (qs .1 .1
-            .0)) (List._∷_ (Row.lease (κs .1 .1 .1 .0) (qs .1 .1 .1 .0)) (List._∷_ (Row.lease (κs .1 .1 .1 .1 .0) (qs .1 .1 .1 .1 .0)) (List._∷_ (Row.lease (κs .1 .1 .1 .1 .1 .0) (qs .1 .1 .1 .1 .1 .0))
-            (List._∷_ Row.off (List._∷_ Row.off (List._∷_ Row.off (List._∷_ Row.off (List._∷_ Row.off (List._∷_ Row.off (List._∷_ Row.off (List._∷_ Row.dead List.[]))))))))))))); }
+        G117 = record {
+          locals = List._++_ t24 (List._++_ t56 t2);
+          slots = List._∷_ (Row.lease (κs .0) (qs .0)) (List._∷_ (Row.lease (κs .1 .0) (qs .1 .0)) (List._∷_ (Row.lease (κs .1 .1 .0) (qs .1 .1
+              .0)) (List._∷_ (Row.lease (κs .1 .1 .1 .0) (qs .1 .1 .1 .0)) (List._∷_ (Row.lease (κs .1 .1 .1 .1 .0) (qs .1 .1 .1 .1 .0)) (List._∷_ (Row.lease (κs .1 .1 .1 .1 .1 .0) (qs .1 .1 .1 .1 .1 .0))
+              (List._∷_ Row.off (List._∷_ Row.off (List._∷_ Row.off (List._∷_ Row.off (List._∷_ Row.off (List._∷_ Row.off (List._∷_ Row.off (List._∷_ Row.dead List.[])))))))))))));
+        }
 
         abbrev G118 : Row.Cx
-        G118 = record { locals = List._++_ t24 (List._++_ t56 t2); slots = List._∷_ (Row.lease (κs .0) (qs .0)) (List._∷_ (Row.lease (κs .1 .0) (qs .1 .0)) (List._∷_ (Row.lease (κs .1 .1 .0) (qs .1 .1
-            .0)) (List._∷_ (Row.lease (κs .1 .1 .1 .0) (qs .1 .1 .1 .0)) (List._∷_ (Row.lease (κs .1 .1 .1 .1 .0) (qs .1 .1 .1 .1 .0)) (List._∷_ (Row.lease (κs .1 .1 .1 .1 .1 .0) (qs .1 .1 .1 .1 .1 .0))
-            (List._∷_ Row.off (List._∷_ Row.off (List._∷_ Row.off (List._∷_ Row.off (List._∷_ Row.off (List._∷_ Row.off (List._∷_ Row.off (List._∷_ Row.dead List.[]))))))))))))); }
+        G118 = record {
+          locals = List._++_ t24 (List._++_ t56 t2);
+          slots = List._∷_ (Row.lease (κs .0) (qs .0)) (List._∷_ (Row.lease (κs .1 .0) (qs .1 .0)) (List._∷_ (Row.lease (κs .1 .1 .0) (qs .1 .1
+              .0)) (List._∷_ (Row.lease (κs .1 .1 .1 .0) (qs .1 .1 .1 .0)) (List._∷_ (Row.lease (κs .1 .1 .1 .1 .0) (qs .1 .1 .1 .1 .0)) (List._∷_ (Row.lease (κs .1 .1 .1 .1 .1 .0) (qs .1 .1 .1 .1 .1 .0))
+              (List._∷_ Row.off (List._∷_ Row.off (List._∷_ Row.off (List._∷_ Row.off (List._∷_ Row.off (List._∷_ Row.off (List._∷_ Row.off (List._∷_ Row.dead List.[])))))))))))));
+        }
 
         abbrev G119 : Row.Cx
-        G119 = record { locals = List._++_ t24 (List._++_ t56 t2); slots = List._∷_ (Row.lease (κs .0) (qs .0)) (List._∷_ (Row.lease (κs .1 .0) (qs .1 .0)) (List._∷_ (Row.lease (κs .1 .1 .0) (qs .1 .1
-            .0)) (List._∷_ (Row.lease (κs .1 .1 .1 .0) (qs .1 .1 .1 .0)) (List._∷_ (Row.lease (κs .1 .1 .1 .1 .0) (qs .1 .1 .1 .1 .0)) (List._∷_ (Row.lease (κs .1 .1 .1 .1 .1 .0) (qs .1 .1 .1 .1 .1 .0))
-            (List._∷_ Row.off (List._∷_ Row.off (List._∷_ Row.off (List._∷_ Row.off (List._∷_ Row.off (List._∷_ Row.off (List._∷_ Row.off (List._∷_ Row.off List.[]))))))))))))); }
+        G119 = record {
+          locals = List._++_ t24 (List._++_ t56 t2);
+          slots = List._∷_ (Row.lease (κs .0) (qs .0)) (List._∷_ (Row.lease (κs .1 .0) (qs .1 .0)) (List._∷_ (Row.lease (κs .1 .1 .0) (qs .1 .1
+              .0)) (List._∷_ (Row.lease (κs .1 .1 .1 .0) (qs .1 .1 .1 .0)) (List._∷_ (Row.lease (κs .1 .1 .1 .1 .0) (qs .1 .1 .1 .1 .0)) (List._∷_ (Row.lease (κs .1 .1 .1 .1 .1 .0) (qs .1 .1 .1 .1 .1 .0))
+              (List._∷_ Row.off (List._∷_ Row.off (List._∷_ Row.off (List._∷_ Row.off (List._∷_ Row.off (List._∷_ Row.off (List._∷_ Row.off (List._∷_ Row.off List.[])))))))))))));
+        }
 
         abbrev G120 : Row.Cx
-        G120 = record { locals = List._++_ t24 (List._++_ t56 t2); slots = List._∷_ (Row.lease (κs .0) (qs .0)) (List._∷_ (Row.lease (κs .1 .0) (qs .1 .0)) (List._∷_ (Row.lease (κs .1 .1 .0) (qs .1 .1
-            .0)) (List._∷_ (Row.lease (κs .1 .1 .1 .0) (qs .1 .1 .1 .0)) (List._∷_ (Row.lease (κs .1 .1 .1 .1 .0) (qs .1 .1 .1 .1 .0)) (List._∷_ (Row.lease (κs .1 .1 .1 .1 .1 .0) (qs .1 .1 .1 .1 .1 .0))
-            (List._∷_ Row.off (List._∷_ Row.off (List._∷_ Row.off (List._∷_ Row.off (List._∷_ Row.off (List._∷_ Row.off (List._∷_ Row.off (List._∷_ Row.off List.[]))))))))))))); }
+        G120 = record {
+          locals = List._++_ t24 (List._++_ t56 t2);
+          slots = List._∷_ (Row.lease (κs .0) (qs .0)) (List._∷_ (Row.lease (κs .1 .0) (qs .1 .0)) (List._∷_ (Row.lease (κs .1 .1 .0) (qs .1 .1
+              .0)) (List._∷_ (Row.lease (κs .1 .1 .1 .0) (qs .1 .1 .1 .0)) (List._∷_ (Row.lease (κs .1 .1 .1 .1 .0) (qs .1 .1 .1 .1 .0)) (List._∷_ (Row.lease (κs .1 .1 .1 .1 .1 .0) (qs .1 .1 .1 .1 .1 .0))
+              (List._∷_ Row.off (List._∷_ Row.off (List._∷_ Row.off (List._∷_ Row.off (List._∷_ Row.off (List._∷_ Row.off (List._∷_ Row.off (List._∷_ Row.off List.[])))))))))))));
+        }
 
         abbrev G121 : Row.Cx
-        G121 = record { locals = List._++_ t24 (List._++_ t79 t2); slots = List._∷_ (Row.lease (κs .0) (qs .0)) (List._∷_ (Row.lease (κs .1 .0) (qs .1 .0)) (List._∷_ (Row.lease (κs .1 .1 .0) (qs .1 .1
-            .0)) (List._∷_ (Row.lease (κs .1 .1 .1 .0) (qs .1 .1 .1 .0)) (List._∷_ (Row.lease (κs .1 .1 .1 .1 .0) (qs .1 .1 .1 .1 .0)) (List._∷_ (Row.lease (κs .1 .1 .1 .1 .1 .0) (qs .1 .1 .1 .1 .1 .0))
-            (List._∷_ Row.off (List._∷_ Row.off (List._∷_ Row.off (List._∷_ Row.off (List._∷_ Row.off (List._∷_ Row.off (List._∷_ Row.off (List._∷_ Row.off List.[]))))))))))))); }
+        G121 = record {
+          locals = List._++_ t24 (List._++_ t79 t2);
+          slots = List._∷_ (Row.lease (κs .0) (qs .0)) (List._∷_ (Row.lease (κs .1 .0) (qs .1 .0)) (List._∷_ (Row.lease (κs .1 .1 .0) (qs .1 .1
+              .0)) (List._∷_ (Row.lease (κs .1 .1 .1 .0) (qs .1 .1 .1 .0)) (List._∷_ (Row.lease (κs .1 .1 .1 .1 .0) (qs .1 .1 .1 .1 .0)) (List._∷_ (Row.lease (κs .1 .1 .1 .1 .1 .0) (qs .1 .1 .1 .1 .1 .0))
+              (List._∷_ Row.off (List._∷_ Row.off (List._∷_ Row.off (List._∷_ Row.off (List._∷_ Row.off (List._∷_ Row.off (List._∷_ Row.off (List._∷_ Row.off List.[])))))))))))));
+        }
 
         abbrev G122 : Row.Cx
-        G122 = record { locals = List._++_ t24 (List._++_ t22 t2); slots = List._∷_ (Row.lease (κs .0) (qs .0)) (List._∷_ (Row.lease (κs .1 .0) (qs .1 .0)) (List._∷_ (Row.lease (κs .1 .1 .0) (qs .1 .1
-            .0)) (List._∷_ (Row.lease (κs .1 .1 .1 .0) (qs .1 .1 .1 .0)) (List._∷_ (Row.lease (κs .1 .1 .1 .1 .0) (qs .1 .1 .1 .1 .0)) (List._∷_ (Row.lease (κs .1 .1 .1 .1 .1 .0) (qs .1 .1 .1 .1 .1 .0))
-            (List._∷_ Row.off (List._∷_ Row.off (List._∷_ Row.off (List._∷_ Row.off (List._∷_ Row.off (List._∷_ Row.off (List._∷_ Row.off (List._∷_ Row.off List.[]))))))))))))); }
+        G122 = record {
+          locals = List._++_ t24 (List._++_ t22 t2);
+          slots = List._∷_ (Row.lease (κs .0) (qs .0)) (List._∷_ (Row.lease (κs .1 .0) (qs .1 .0)) (List._∷_ (Row.lease (κs .1 .1 .0) (qs .1 .1
+              .0)) (List._∷_ (Row.lease (κs .1 .1 .1 .0) (qs .1 .1 .1 .0)) (List._∷_ (Row.lease (κs .1 .1 .1 .1 .0) (qs .1 .1 .1 .1 .0)) (List._∷_ (Row.lease (κs .1 .1 .1 .1 .1 .0) (qs .1 .1 .1 .1 .1 .0))
+              (List._∷_ Row.off (List._∷_ Row.off (List._∷_ Row.off (List._∷_ Row.off (List._∷_ Row.off (List._∷_ Row.off (List._∷_ Row.off (List._∷_ Row.off List.[])))))))))))));
+        }
 
         abbrev G123 : Row.Cx
-        G123 = record { locals = List._++_ t57 (List._++_ t22 t2); slots = List._∷_ (Row.lease (κs .0) (qs .0)) (List._∷_ (Row.lease (κs .1 .0) (qs .1 .0)) (List._∷_ (Row.lease (κs .1 .1 .0) (qs .1 .1
-            .0)) (List._∷_ (Row.lease (κs .1 .1 .1 .0) (qs .1 .1 .1 .0)) (List._∷_ (Row.lease (κs .1 .1 .1 .1 .0) (qs .1 .1 .1 .1 .0)) (List._∷_ (Row.lease (κs .1 .1 .1 .1 .1 .0) (qs .1 .1 .1 .1 .1 .0))
-            (List._∷_ Row.off (List._∷_ Row.off (List._∷_ Row.off (List._∷_ Row.off (List._∷_ Row.off (List._∷_ Row.off (List._∷_ Row.off (List._∷_ Row.off List.[]))))))))))))); }
+        G123 = record {
+          locals = List._++_ t57 (List._++_ t22 t2);
+          slots = List._∷_ (Row.lease (κs .0) (qs .0)) (List._∷_ (Row.lease (κs .1 .0) (qs .1 .0)) (List._∷_ (Row.lease (κs .1 .1 .0) (qs .1 .1
+              .0)) (List._∷_ (Row.lease (κs .1 .1 .1 .0) (qs .1 .1 .1 .0)) (List._∷_ (Row.lease (κs .1 .1 .1 .1 .0) (qs .1 .1 .1 .1 .0)) (List._∷_ (Row.lease (κs .1 .1 .1 .1 .1 .0) (qs .1 .1 .1 .1 .1 .0))
+              (List._∷_ Row.off (List._∷_ Row.off (List._∷_ Row.off (List._∷_ Row.off (List._∷_ Row.off (List._∷_ Row.off (List._∷_ Row.off (List._∷_ Row.off List.[])))))))))))));
+        }
 
         abbrev G124 : Row.Cx
-        G124 = record { locals = List._++_ t80 (List._++_ t22 t2); slots = List._∷_ (Row.lease (κs .0) (qs .0)) (List._∷_ (Row.lease (κs .1 .0) (qs .1 .0)) (List._∷_ (Row.lease (κs .1 .1 .0) (qs .1 .1
-            .0)) (List._∷_ (Row.lease (κs .1 .1 .1 .0) (qs .1 .1 .1 .0)) (List._∷_ (Row.lease (κs .1 .1 .1 .1 .0) (qs .1 .1 .1 .1 .0)) (List._∷_ (Row.lease (κs .1 .1 .1 .1 .1 .0) (qs .1 .1 .1 .1 .1 .0))
-            (List._∷_ Row.off (List._∷_ Row.off (List._∷_ Row.off (List._∷_ Row.off (List._∷_ Row.off (List._∷_ Row.off (List._∷_ Row.off (List._∷_ Row.off List.[]))))))))))))); }
+        G124 = record {
+          locals = List._++_ t80 (List._++_ t22 t2);
+          slots = List._∷_ (Row.lease (κs .0) (qs .0)) (List._∷_ (Row.lease (κs .1 .0) (qs .1 .0)) (List._∷_ (Row.lease (κs .1 .1 .0) (qs .1 .1
+              .0)) (List._∷_ (Row.lease (κs .1 .1 .1 .0) (qs .1 .1 .1 .0)) (List._∷_ (Row.lease (κs .1 .1 .1 .1 .0) (qs .1 .1 .1 .1 .0)) (List._∷_ (Row.lease (κs .1 .1 .1 .1 .1 .0) (qs .1 .1 .1 .1 .1 .0))
+              (List._∷_ Row.off (List._∷_ Row.off (List._∷_ Row.off (List._∷_ Row.off (List._∷_ Row.off (List._∷_ Row.off (List._∷_ Row.off (List._∷_ Row.off List.[])))))))))))));
+        }
 
         abbrev G125 : Row.Cx
-        G125 = record { locals = List._++_ t81 (List._++_ t22 t2); slots = List._∷_ (Row.lease (κs .0) (qs .0)) (List._∷_ (Row.lease (κs .1 .0) (qs .1 .0)) (List._∷_ (Row.lease (κs .1 .1 .0) (qs .1 .1
-            .0)) (List._∷_ (Row.lease (κs .1 .1 .1 .0) (qs .1 .1 .1 .0)) (List._∷_ (Row.lease (κs .1 .1 .1 .1 .0) (qs .1 .1 .1 .1 .0)) (List._∷_ (Row.lease (κs .1 .1 .1 .1 .1 .0) (qs .1 .1 .1 .1 .1 .0))
-            (List._∷_ Row.off (List._∷_ Row.off (List._∷_ Row.off (List._∷_ Row.off (List._∷_ Row.off (List._∷_ Row.off (List._∷_ Row.off (List._∷_ Row.off List.[]))))))))))))); }
+        G125 = record {
+          locals = List._++_ t81 (List._++_ t22 t2);
+          slots = List._∷_ (Row.lease (κs .0) (qs .0)) (List._∷_ (Row.lease (κs .1 .0) (qs .1 .0)) (List._∷_ (Row.lease (κs .1 .1 .0) (qs .1 .1
+              .0)) (List._∷_ (Row.lease (κs .1 .1 .1 .0) (qs .1 .1 .1 .0)) (List._∷_ (Row.lease (κs .1 .1 .1 .1 .0) (qs .1 .1 .1 .1 .0)) (List._∷_ (Row.lease (κs .1 .1 .1 .1 .1 .0) (qs .1 .1 .1 .1 .1 .0))
+              (List._∷_ Row.off (List._∷_ Row.off (List._∷_ Row.off (List._∷_ Row.off (List._∷_ Row.off (List._∷_ Row.off (List._∷_ Row.off (List._∷_ Row.off List.[])))))))))))));
+        }
 
         abbrev G126 : Row.Cx
-        G126 = record { locals = List._++_ t82 (List._++_ t22 t2); slots = List._∷_ (Row.lease (κs .0) (qs .0)) (List._∷_ (Row.lease (κs .1 .0) (qs .1 .0)) (List._∷_ (Row.lease (κs .1 .1 .0) (qs .1 .1
-            .0)) (List._∷_ (Row.lease (κs .1 .1 .1 .0) (qs .1 .1 .1 .0)) (List._∷_ (Row.lease (κs .1 .1 .1 .1 .0) (qs .1 .1 .1 .1 .0)) (List._∷_ (Row.lease (κs .1 .1 .1 .1 .1 .0) (qs .1 .1 .1 .1 .1 .0))
-            (List._∷_ Row.off (List._∷_ Row.off (List._∷_ Row.off (List._∷_ Row.off (List._∷_ Row.off (List._∷_ Row.off (List._∷_ Row.off (List._∷_ Row.off List.[]))))))))))))); }
+        G126 = record {
+          locals = List._++_ t82 (List._++_ t22 t2);
+          slots = List._∷_ (Row.lease (κs .0) (qs .0)) (List._∷_ (Row.lease (κs .1 .0) (qs .1 .0)) (List._∷_ (Row.lease (κs .1 .1 .0) (qs .1 .1
+              .0)) (List._∷_ (Row.lease (κs .1 .1 .1 .0) (qs .1 .1 .1 .0)) (List._∷_ (Row.lease (κs .1 .1 .1 .1 .0) (qs .1 .1 .1 .1 .0)) (List._∷_ (Row.lease (κs .1 .1 .1 .1 .1 .0) (qs .1 .1 .1 .1 .1 .0))
+              (List._∷_ Row.off (List._∷_ Row.off (List._∷_ Row.off (List._∷_ Row.off (List._∷_ Row.off (List._∷_ Row.off (List._∷_ Row.off (List._∷_ Row.off List.[])))))))))))));
+        }
 
         abbrev G127 : Row.Cx
-        G127 = record { locals = List._++_ t83 (List._++_ t22 t2); slots = List._∷_ (Row.lease (κs .0) (qs .0)) (List._∷_ (Row.lease (κs .1 .0) (qs .1 .0)) (List._∷_ (Row.lease (κs .1 .1 .0) (qs .1 .1
-            .0)) (List._∷_ (Row.lease (κs .1 .1 .1 .0) (qs .1 .1 .1 .0)) (List._∷_ (Row.lease (κs .1 .1 .1 .1 .0) (qs .1 .1 .1 .1 .0)) (List._∷_ (Row.lease (κs .1 .1 .1 .1 .1 .0) (qs .1 .1 .1 .1 .1 .0))
-            (List._∷_ Row.off (List._∷_ Row.off (List._∷_ Row.off (List._∷_ Row.off (List._∷_ Row.off (List._∷_ Row.off (List._∷_ Row.off (List._∷_ Row.off List.[]))))))))))))); }
+        G127 = record {
+          locals = List._++_ t83 (List._++_ t22 t2);
+          slots = List._∷_ (Row.lease (κs .0) (qs .0)) (List._∷_ (Row.lease (κs .1 .0) (qs .1 .0)) (List._∷_ (Row.lease (κs .1 .1 .0) (qs .1 .1
+              .0)) (List._∷_ (Row.lease (κs .1 .1 .1 .0) (qs .1 .1 .1 .0)) (List._∷_ (Row.lease (κs .1 .1 .1 .1 .0) (qs .1 .1 .1 .1 .0)) (List._∷_ (Row.lease (κs .1 .1 .1 .1 .1 .0) (qs .1 .1 .1 .1 .1 .0))
+              (List._∷_ Row.off (List._∷_ Row.off (List._∷_ Row.off (List._∷_ Row.off (List._∷_ Row.off (List._∷_ Row.off (List._∷_ Row.off (List._∷_ Row.off List.[])))))))))))));
+        }
 
         abbrev G128 : Row.Cx
-        G128 = record { locals = List._++_ t84 (List._++_ t22 t2); slots = List._∷_ (Row.lease (κs .0) (qs .0)) (List._∷_ (Row.lease (κs .1 .0) (qs .1 .0)) (List._∷_ (Row.lease (κs .1 .1 .0) (qs .1 .1
-            .0)) (List._∷_ (Row.lease (κs .1 .1 .1 .0) (qs .1 .1 .1 .0)) (List._∷_ (Row.lease (κs .1 .1 .1 .1 .0) (qs .1 .1 .1 .1 .0)) (List._∷_ (Row.lease (κs .1 .1 .1 .1 .1 .0) (qs .1 .1 .1 .1 .1 .0))
-            (List._∷_ Row.off (List._∷_ Row.off (List._∷_ Row.off (List._∷_ Row.off (List._∷_ Row.off (List._∷_ Row.off (List._∷_ Row.off (List._∷_ Row.off List.[]))))))))))))); }
+        G128 = record {
+          locals = List._++_ t84 (List._++_ t22 t2);
+          slots = List._∷_ (Row.lease (κs .0) (qs .0)) (List._∷_ (Row.lease (κs .1 .0) (qs .1 .0)) (List._∷_ (Row.lease (κs .1 .1 .0) (qs .1 .1
+              .0)) (List._∷_ (Row.lease (κs .1 .1 .1 .0) (qs .1 .1 .1 .0)) (List._∷_ (Row.lease (κs .1 .1 .1 .1 .0) (qs .1 .1 .1 .1 .0)) (List._∷_ (Row.lease (κs .1 .1 .1 .1 .1 .0) (qs .1 .1 .1 .1 .1 .0))
+              (List._∷_ Row.off (List._∷_ Row.off (List._∷_ Row.off (List._∷_ Row.off (List._∷_ Row.off (List._∷_ Row.off (List._∷_ Row.off (List._∷_ Row.off List.[])))))))))))));
+        }
 
         abbrev G129 : Row.Cx
-        G129 = record { locals = List._++_ t84 (List._++_ t85 t2); slots = List._∷_ (Row.lease (κs .0) (qs .0)) (List._∷_ (Row.lease (κs .1 .0) (qs .1 .0)) (List._∷_ (Row.lease (κs .1 .1 .0) (qs .1 .1
-            .0)) (List._∷_ (Row.lease (κs .1 .1 .1 .0) (qs .1 .1 .1 .0)) (List._∷_ (Row.lease (κs .1 .1 .1 .1 .0) (qs .1 .1 .1 .1 .0)) (List._∷_ (Row.lease (κs .1 .1 .1 .1 .1 .0) (qs .1 .1 .1 .1 .1 .0))
-            (List._∷_ Row.off (List._∷_ Row.off (List._∷_ Row.off (List._∷_ Row.off (List._∷_ Row.off (List._∷_ Row.off (List._∷_ Row.off (List._∷_ Row.off List.[]))))))))))))); }
+        G129 = record {
+          locals = List._++_ t84 (List._++_ t85 t2);
+          slots = List._∷_ (Row.lease (κs .0) (qs .0)) (List._∷_ (Row.lease (κs .1 .0) (qs .1 .0)) (List._∷_ (Row.lease (κs .1 .1 .0) (qs .1 .1
+              .0)) (List._∷_ (Row.lease (κs .1 .1 .1 .0) (qs .1 .1 .1 .0)) (List._∷_ (Row.lease (κs .1 .1 .1 .1 .0) (qs .1 .1 .1 .1 .0)) (List._∷_ (Row.lease (κs .1 .1 .1 .1 .1 .0) (qs .1 .1 .1 .1 .1 .0))
+              (List._∷_ Row.off (List._∷_ Row.off (List._∷_ Row.off (List._∷_ Row.off (List._∷_ Row.off (List._∷_ Row.off (List._∷_ Row.off (List._∷_ Row.off List.[])))))))))))));
+        }
 
         abbrev G130 : Row.Cx
-        G130 = record { locals = List._++_ t84 (List._++_ t1 t2); slots = List._∷_ (Row.lease (κs .0) (qs .0)) (List._∷_ (Row.lease (κs .1 .0) (qs .1 .0)) (List._∷_ (Row.lease (κs .1 .1 .0) (qs .1 .1
-            .0)) (List._∷_ (Row.lease (κs .1 .1 .1 .0) (qs .1 .1 .1 .0)) (List._∷_ (Row.lease (κs .1 .1 .1 .1 .0) (qs .1 .1 .1 .1 .0)) (List._∷_ (Row.lease (κs .1 .1 .1 .1 .1 .0) (qs .1 .1 .1 .1 .1 .0))
-            (List._∷_ Row.off (List._∷_ Row.off (List._∷_ Row.off (List._∷_ Row.off (List._∷_ Row.off (List._∷_ Row.off (List._∷_ Row.off (List._∷_ Row.off List.[]))))))))))))); }
+        G130 = record {
+          locals = List._++_ t84 (List._++_ t1 t2);
+          slots = List._∷_ (Row.lease (κs .0) (qs .0)) (List._∷_ (Row.lease (κs .1 .0) (qs .1 .0)) (List._∷_ (Row.lease (κs .1 .1 .0) (qs .1 .1
+              .0)) (List._∷_ (Row.lease (κs .1 .1 .1 .0) (qs .1 .1 .1 .0)) (List._∷_ (Row.lease (κs .1 .1 .1 .1 .0) (qs .1 .1 .1 .1 .0)) (List._∷_ (Row.lease (κs .1 .1 .1 .1 .1 .0) (qs .1 .1 .1 .1 .1 .0))
+              (List._∷_ Row.off (List._∷_ Row.off (List._∷_ Row.off (List._∷_ Row.off (List._∷_ Row.off (List._∷_ Row.off (List._∷_ Row.off (List._∷_ Row.off List.[])))))))))))));
+        }
 
         abbrev G131 : Row.Cx
-        G131 = record { locals = List._++_ t63 (List._++_ t1 t2); slots = List._∷_ (Row.lease (κs .0) (qs .0)) (List._∷_ (Row.lease (κs .1 .0) (qs .1 .0)) (List._∷_ (Row.lease (κs .1 .1 .0) (qs .1 .1
-            .0)) (List._∷_ (Row.lease (κs .1 .1 .1 .0) (qs .1 .1 .1 .0)) (List._∷_ (Row.lease (κs .1 .1 .1 .1 .0) (qs .1 .1 .1 .1 .0)) (List._∷_ (Row.lease (κs .1 .1 .1 .1 .1 .0) (qs .1 .1 .1 .1 .1 .0))
-            (List._∷_ Row.off (List._∷_ Row.off (List._∷_ Row.off (List._∷_ Row.off (List._∷_ Row.off (List._∷_ Row.off (List._∷_ Row.off (List._∷_ Row.off List.[]))))))))))))); }
+        G131 = record {
+          locals = List._++_ t63 (List._++_ t1 t2);
+          slots = List._∷_ (Row.lease (κs .0) (qs .0)) (List._∷_ (Row.lease (κs .1 .0) (qs .1 .0)) (List._∷_ (Row.lease (κs .1 .1 .0) (qs .1 .1
+              .0)) (List._∷_ (Row.lease (κs .1 .1 .1 .0) (qs .1 .1 .1 .0)) (List._∷_ (Row.lease (κs .1 .1 .1 .1 .0) (qs .1 .1 .1 .1 .0)) (List._∷_ (Row.lease (κs .1 .1 .1 .1 .1 .0) (qs .1 .1 .1 .1 .1 .0))
+              (List._∷_ Row.off (List._∷_ Row.off (List._∷_ Row.off (List._∷_ Row.off (List._∷_ Row.off (List._∷_ Row.off (List._∷_ Row.off (List._∷_ Row.off List.[])))))))))))));
+        }
 
         abbrev G132 : Row.Cx
-        G132 = record { locals = List._++_ t3 (List._++_ t1 t2); slots = List._∷_ (Row.lease (κs .0) (qs .0)) (List._∷_ (Row.lease (κs .1 .0) (qs .1 .0)) (List._∷_ (Row.lease (κs .1 .1 .0) (qs .1 .1
-            .0)) (List._∷_ (Row.lease (κs .1 .1 .1 .0) (qs .1 .1 .1 .0)) (List._∷_ (Row.lease (κs .1 .1 .1 .1 .0) (qs .1 .1 .1 .1 .0)) (List._∷_ (Row.lease (κs .1 .1 .1 .1 .1 .0) (qs .1 .1 .1 .1 .1 .0))
-            (List._∷_ Row.off (List._∷_ Row.off (List._∷_ Row.off (List._∷_ Row.off (List._∷_ Row.off (List._∷_ Row.off (List._∷_ Row.off (List._∷_ Row.off List.[]))))))))))))); }
+        G132 = record {
+          locals = List._++_ t3 (List._++_ t1 t2);
+          slots = List._∷_ (Row.lease (κs .0) (qs .0)) (List._∷_ (Row.lease (κs .1 .0) (qs .1 .0)) (List._∷_ (Row.lease (κs .1 .1 .0) (qs .1 .1
+              .0)) (List._∷_ (Row.lease (κs .1 .1 .1 .0) (qs .1 .1 .1 .0)) (List._∷_ (Row.lease (κs .1 .1 .1 .1 .0) (qs .1 .1 .1 .1 .0)) (List._∷_ (Row.lease (κs .1 .1 .1 .1 .1 .0) (qs .1 .1 .1 .1 .1 .0))
+              (List._∷_ Row.off (List._∷_ Row.off (List._∷_ Row.off (List._∷_ Row.off (List._∷_ Row.off (List._∷_ Row.off (List._∷_ Row.off (List._∷_ Row.off List.[])))))))))))));
+        }
 
         abbrev Δ0 : Typed.Outs
         Δ0 = record { next = Option.none; exits = List.[]; returns = Option.some G1 }
@@ -3793,15 +6424,49 @@ module _ (claims· : Claims) where
               (List._∷_ (Scalar.oBool Bool'.false) (List._∷_ (Scalar.oAt 17 (Syntax.tyInt Syntax.w64) (Row.valS (Row.sInt Syntax.w64))) (List._∷_ (Scalar.oAt 14 (Syntax.tyStruct (List._∷_ 98 (List._∷_ 105
               (List._∷_ 116 (List._∷_ 115 (List._∷_ 58 (List._∷_ 58 (List._∷_ 66 (List._∷_ 105 (List._∷_ 116 (List._∷_ 80 (List._∷_ 111 (List._∷_ 115 (List._∷_ 105 (List._∷_ 116 (List._∷_ 105 (List._∷_
               111 (List._∷_ 110 List.[]))))))))))))))))) (Syntax.tcons (Syntax.tyInt Syntax.w64) Syntax.tnil)) (Laws'6.val BitPosition.the-type Laws.the-laws)) (List._∷_ (Scalar.oAt 16 (Syntax.tyInt
-              Syntax.w64) (Row.valS (Row.sInt Syntax.w64))) List.[])))) (λ m. ( Bool'.false, ( m .1 .1 .1 .1 .1 .1 .1 .1 .1 .1 .1 .1 .1 .1 .1 .1 .1 .0, ( m .1 .1 .1 .1 .1 .1 .1 .1 .1 .1 .1 .1 .1 .1 .0, (m
-              .1 .1 .1 .1 .1 .1 .1 .1 .1 .1 .1 .1 .1 .1 .1 .1 .0, tt), ), ), )) (Reads'.room-gone 𝓤 H A (Syntax.tyStruct (List._∷_ 98 (List._∷_ 108 (List._∷_ 111 (List._∷_ 99 (List._∷_ 107 (List._∷_ 58
+              Syntax.w64) (Row.valS (Row.sInt Syntax.w64))) List.[])))) (λ m. (
+                Bool'.false,
+                (
+                  m .1 .1 .1 .1 .1 .1 .1 .1 .1 .1 .1 .1 .1 .1 .1 .1 .1 .0,
+                  (
+                    m .1 .1 .1 .1 .1 .1 .1 .1 .1 .1 .1 .1 .1 .1 .0,
+                    (
+                      m
+                          .1 .1 .1 .1 .1 .1 .1 .1 .1 .1 .1 .1 .1 .1 .1 .1 .0,
+                      tt,
+                    ),
+                  ),
+                ),
+              )) (Reads'.room-gone 𝓤 H A (Syntax.tyStruct (List._∷_ 98 (List._∷_ 108 (List._∷_ 111 (List._∷_ 99 (List._∷_ 107 (List._∷_ 58
               (List._∷_ 58 (List._∷_ 87 (List._∷_ 97 (List._∷_ 108 (List._∷_ 107 (List._∷_ 101 (List._∷_ 100 List.[]))))))))))))) (Syntax.tcons Syntax.tyBool (Syntax.tcons (Syntax.tyInt Syntax.w64)
               (Syntax.tcons (Syntax.tyStruct (List._∷_ 98 (List._∷_ 105 (List._∷_ 116 (List._∷_ 115 (List._∷_ 58 (List._∷_ 58 (List._∷_ 66 (List._∷_ 105 (List._∷_ 116 (List._∷_ 80 (List._∷_ 111 (List._∷_
               115 (List._∷_ 105 (List._∷_ 116 (List._∷_ 105 (List._∷_ 111 (List._∷_ 110 List.[]))))))))))))))))) (Syntax.tcons (Syntax.tyInt Syntax.w64) Syntax.tnil)) (Syntax.tcons (Syntax.tyInt
-              Syntax.w64) Syntax.tnil)))))) ( tt, ( (Scalar.reads-sc 𝓤 H A W (Row.sInt Syntax.w64), Path'.refl), ( (Reads.reads-struct 𝓤 H A W BitPosition.the-type Laws.the-laws, Path'.refl),
-              ((Scalar.reads-sc 𝓤 H A W (Row.sInt Syntax.w64), Path'.refl), tt), ), ), ) Path'.refl (λ u. Path'.refl) λ m. Make.is-wt (Apart.apartT Walked.the-type) Laws'3.the-laws ( Make.bool-wt, (
-              Make.u64-wt, ( Make.struct-wt BitPosition.the-type Laws.the-laws (Make.u64-wt, tt), (Make.u64-wt, tt), ), ), ) ( Bool'.false, ( m .1 .1 .1 .1 .1 .1 .1 .1 .1 .1 .1 .1 .1 .1 .1 .1 .1 .0, ( m
-              .1 .1 .1 .1 .1 .1 .1 .1 .1 .1 .1 .1 .1 .1 .0, (m .1 .1 .1 .1 .1 .1 .1 .1 .1 .1 .1 .1 .1 .1 .1 .1 .0, tt), ), ), )) d19
+              Syntax.w64) Syntax.tnil)))))) (
+                tt,
+                (
+                  (Scalar.reads-sc 𝓤 H A W (Row.sInt Syntax.w64), Path'.refl),
+                  (
+                    (Reads.reads-struct 𝓤 H A W BitPosition.the-type Laws.the-laws, Path'.refl),
+                    ((Scalar.reads-sc 𝓤 H A W (Row.sInt Syntax.w64), Path'.refl), tt),
+                  ),
+                ),
+              ) Path'.refl (λ u. Path'.refl) λ m. Make.is-wt (Apart.apartT Walked.the-type) Laws'3.the-laws (
+                Make.bool-wt,
+                (
+                  Make.u64-wt,
+                  (Make.struct-wt BitPosition.the-type Laws.the-laws (Make.u64-wt, tt), (Make.u64-wt, tt)),
+                ),
+              ) (
+                Bool'.false,
+                (
+                  m .1 .1 .1 .1 .1 .1 .1 .1 .1 .1 .1 .1 .1 .1 .1 .1 .1 .0,
+                  (
+                    m
+                        .1 .1 .1 .1 .1 .1 .1 .1 .1 .1 .1 .1 .1 .1 .0,
+                    (m .1 .1 .1 .1 .1 .1 .1 .1 .1 .1 .1 .1 .1 .1 .1 .1 .0, tt),
+                  ),
+                ),
+              )) d19
 
           d21 : Typed.Typed 𝓤 H A 𝓣 E G83 b36 Δ5 (at21 bs)
           d21 = Typed.g-pre 𝓤 H A W 𝓣 E G83 G84 b36 Δ5 (Typed.pass T83 T84 (s79 bs)) (at20 bs) (Scalar.g-room 𝓤 H A W E G83 27 Syntax.tyBool (Scalar.room-sc 𝓤 H A W Row.sBool)) d20
@@ -3900,27 +6565,82 @@ module _ (claims· : Claims) where
 
           d41 : Typed.Typed 𝓤 H A 𝓣 E G109 b48 Δ3 (at41 bs)
           d41 = Typed.s-seq 𝓤 H A W 𝓣 E G109 G110 b46 b47 Δ3 (Typed.both (s105 bs)) (at40 bs) (Plain.t-call-plain 𝓤 H A W 𝓣 3 ps·10 r·10 (claims· .20) (claims· .21) "map::emit_line" (known .10) E (λ
-              pos β. β) G109 ( record { pos = 39; ty = Syntax.tyRef Syntax.erased Syntax.imm (Syntax.tyInt Syntax.w16); ref = λ x. x; }, ( record { pos = 41; ty = Syntax.tyRef Syntax.erased Syntax.mut
-              (Syntax.tyInt Syntax.w16); ref = λ x. x; }, ( Num.vAt 13 λ x. x, ( Bool.bAt 12 λ x. x, ( record { pos = 7; ty = Syntax.tyRef (Syntax.named 5) Syntax.imm (Syntax.tyArray (Syntax.tyInt
-              Syntax.w16) 768); ref = λ x. x; }, ( record { pos = 8; st = List.[]; d = 0; at = λ x. x }, ( record { pos = 9; st = List.[]; d = 0; at = λ x. x }, (Num.vAt 17 λ x. x, tt), ), ), ), ), ), ),
-              ) 28 (List._∷_ 12 (List._∷_ 13 (List._∷_ 5 List.[]))) (Call.sub-id 𝓤 H A W (G109 .slots)) ( ShrSlice.spares-sslice 𝓤 H A W (Referent.rtF (Referent.fInt Syntax.w16)) (Syntax.tyRef
-              Syntax.erased Syntax.imm (Syntax.tyInt Syntax.w16)) 12, Shared.reads-sslice 𝓤 H A W (Referent.rtF (Referent.fInt Syntax.w16)) (Syntax.tyRef Syntax.erased Syntax.imm (Syntax.tyInt
-              Syntax.w16)) 12, Path'.refl, ( Reads'.as-is 𝓤 H A (Mut.mslice (Referent.rtF (Referent.fInt Syntax.w16)) (Syntax.tyRef Syntax.erased Syntax.mut (Syntax.tyInt Syntax.w16)) 13),
-              Mut.reads-mslice 𝓤 H A W (Referent.rtF (Referent.fInt Syntax.w16)) (Syntax.tyRef Syntax.erased Syntax.mut (Syntax.tyInt Syntax.w16)) 13, Path'.refl, ( (Scalar.reads-sc 𝓤 H A W (Row.sInt
-              Syntax.w64), Path'.refl), ( (Scalar.reads-sc 𝓤 H A W Row.sBool, Path'.refl), ( ShrRef.spares-sref 𝓤 H A W (Array'.Array (Referent.rtF (Referent.fInt Syntax.w16)) 768) (Syntax.tyRef
-              (Syntax.named 5) Syntax.imm (Syntax.tyArray (Syntax.tyInt Syntax.w16) 768)) 5, Reads'.reads-sref 𝓤 H A W (Array'.Array (Referent.rtF (Referent.fInt Syntax.w16)) 768) (Syntax.tyRef
-              (Syntax.named 5) Syntax.imm (Syntax.tyArray (Syntax.tyInt Syntax.w16) 768)) 5, Path'.refl, ( ( Array.arr-yields 𝓤 H A W (Array.eInt Syntax.w8) (Array.eInt-laws Syntax.w8) 36, Path'.refl, ),
-              ( ( Yields.yields-copy 𝓤 H A W (λ ρ. Unit) (Declared.row Part.the-type) Path'.refl (Copies.cStruct Part.the-type Laws'4.the-laws Laws'4.the-copy .copy 𝓤 H A W) (Rows'.whole (Declared.row
-              Part.the-type)) (λ x. x) (λ x. x) (λ ρ told. Local.mem-whole 𝓤 H A W (Declared.row Part.the-type) ρ) λ ρ told. Local.whole-mem 𝓤 H A W (Declared.row Part.the-type) ρ, Path'.refl, ),
-              ((Scalar.reads-sc 𝓤 H A W (Row.sInt Syntax.w64), Path'.refl), tt), ), ), ), ), ), ), ) (Reads'.room-gone 𝓤 H A Syntax.tyUnit) (tt, (tt, (tt, tt))) Path'.refl) d40
+              pos β. β) G109 (
+                record { pos = 39; ty = Syntax.tyRef Syntax.erased Syntax.imm (Syntax.tyInt Syntax.w16); ref = λ x. x },
+                (
+                  record {
+                    pos = 41;
+                    ty = Syntax.tyRef Syntax.erased Syntax.mut
+                        (Syntax.tyInt Syntax.w16);
+                    ref = λ x. x;
+                  },
+                  (
+                    Num.vAt 13 λ x. x,
+                    (
+                      Bool.bAt 12 λ x. x,
+                      (
+                        record {
+                          pos = 7;
+                          ty = Syntax.tyRef (Syntax.named 5) Syntax.imm (Syntax.tyArray (Syntax.tyInt
+                              Syntax.w16) 768);
+                          ref = λ x. x;
+                        },
+                        (record { pos = 8; st = List.[]; d = 0; at = λ x. x }, (record { pos = 9; st = List.[]; d = 0; at = λ x. x }, (Num.vAt 17 λ x. x, tt))),
+                      ),
+                    ),
+                  ),
+                ),
+              ) 28 (List._∷_ 12 (List._∷_ 13 (List._∷_ 5 List.[]))) (Call.sub-id 𝓤 H A W (G109 .slots)) (
+                ShrSlice.spares-sslice 𝓤 H A W (Referent.rtF (Referent.fInt Syntax.w16)) (Syntax.tyRef
+                    Syntax.erased Syntax.imm (Syntax.tyInt Syntax.w16)) 12,
+                Shared.reads-sslice 𝓤 H A W (Referent.rtF (Referent.fInt Syntax.w16)) (Syntax.tyRef Syntax.erased Syntax.imm (Syntax.tyInt
+                    Syntax.w16)) 12,
+                Path'.refl,
+                (
+                  Reads'.as-is 𝓤 H A (Mut.mslice (Referent.rtF (Referent.fInt Syntax.w16)) (Syntax.tyRef Syntax.erased Syntax.mut (Syntax.tyInt Syntax.w16)) 13),
+                  Mut.reads-mslice 𝓤 H A W (Referent.rtF (Referent.fInt Syntax.w16)) (Syntax.tyRef Syntax.erased Syntax.mut (Syntax.tyInt Syntax.w16)) 13,
+                  Path'.refl,
+                  (
+                    (
+                      Scalar.reads-sc 𝓤 H A W (Row.sInt
+                          Syntax.w64),
+                      Path'.refl,
+                    ),
+                    (
+                      (Scalar.reads-sc 𝓤 H A W Row.sBool, Path'.refl),
+                      (
+                        ShrRef.spares-sref 𝓤 H A W (Array'.Array (Referent.rtF (Referent.fInt Syntax.w16)) 768) (Syntax.tyRef
+                            (Syntax.named 5) Syntax.imm (Syntax.tyArray (Syntax.tyInt Syntax.w16) 768)) 5,
+                        Reads'.reads-sref 𝓤 H A W (Array'.Array (Referent.rtF (Referent.fInt Syntax.w16)) 768) (Syntax.tyRef
+                            (Syntax.named 5) Syntax.imm (Syntax.tyArray (Syntax.tyInt Syntax.w16) 768)) 5,
+                        Path'.refl,
+                        (
+                          (Array.arr-yields 𝓤 H A W (Array.eInt Syntax.w8) (Array.eInt-laws Syntax.w8) 36, Path'.refl),
+                          (
+                            (
+                              Yields.yields-copy 𝓤 H A W (λ ρ. Unit) (Declared.row Part.the-type) Path'.refl (Copies.cStruct Part.the-type Laws'4.the-laws Laws'4.the-copy .copy 𝓤 H A W) (Rows'.whole (Declared.row
+                                  Part.the-type)) (λ x. x) (λ x. x) (λ ρ told. Local.mem-whole 𝓤 H A W (Declared.row Part.the-type) ρ) λ ρ told. Local.whole-mem 𝓤 H A W (Declared.row Part.the-type) ρ,
+                              Path'.refl,
+                            ),
+                            ((Scalar.reads-sc 𝓤 H A W (Row.sInt Syntax.w64), Path'.refl), tt),
+                          ),
+                        ),
+                      ),
+                    ),
+                  ),
+                ),
+              ) (Reads'.room-gone 𝓤 H A Syntax.tyUnit) (tt, (tt, (tt, tt))) Path'.refl) d40
 
           d42 : Typed.Typed 𝓤 H A 𝓣 E G108 b49 Δ3 (at42 bs)
           d42 = Typed.s-seq 𝓤 H A W 𝓣 E G108 G109 b45 b48 Δ3 (Typed.ask (s104 bs)) (at41 bs) (Relend.t-sl-aggregate 𝓤 H A W E (Referent.rtF (Referent.fInt Syntax.w16)) 𝓣 (Relend.asMut (Referent.rtF
               (Referent.fInt Syntax.w16))) G108 40 41 13 (Syntax.tyRef Syntax.erased Syntax.mut (Syntax.tyInt Syntax.w16)) (Syntax.tyRef Syntax.erased Syntax.mut (Syntax.tyInt Syntax.w16)) (λ x. x)
               (Scalar.oFld 5 (List._∷_ (Syntax.field 1) List.[]) (Syntax.tyInt Syntax.w64) 8 λ v. Shared.lenV (v .0)) (Reads'.as-is 𝓤 H A (Relend.msptr (Referent.rtF (Referent.fInt Syntax.w16))
               (Syntax.tyRef Syntax.erased Syntax.mut (Syntax.tyInt Syntax.w16)) 13)) (Reads'.room-gone 𝓤 H A (Syntax.tyStruct (List._∷_ 38 (List._∷_ 91 (List._∷_ 93 List.[]))) (Syntax.tcons (Syntax.tyRef
-              Syntax.erased Syntax.mut (Syntax.tyInt Syntax.w16)) (Syntax.tcons (Syntax.tyInt Syntax.w64) Syntax.tnil)))) ( Relend.reads-owed-len 𝓤 H A W (Referent.rtF (Referent.fInt Syntax.w16))
-              (Syntax.tyRef (Syntax.named 4) Syntax.mut (Syntax.tyInt Syntax.w16)) 4 13 (Row.lease (κs .1 .1 .1 .1 .0) (qs .1 .1 .1 .1 .0)) 8 Path'.refl, Path'.refl, ) Path'.refl Path'.refl λ b o k. tt)
+              Syntax.erased Syntax.mut (Syntax.tyInt Syntax.w16)) (Syntax.tcons (Syntax.tyInt Syntax.w64) Syntax.tnil)))) (
+                Relend.reads-owed-len 𝓤 H A W (Referent.rtF (Referent.fInt Syntax.w16))
+                    (Syntax.tyRef (Syntax.named 4) Syntax.mut (Syntax.tyInt Syntax.w16)) 4 13 (Row.lease (κs .1 .1 .1 .1 .0) (qs .1 .1 .1 .1 .0)) 8 Path'.refl,
+                Path'.refl,
+              ) Path'.refl Path'.refl λ b o k. tt)
               d41
 
           d43 : Typed.Typed 𝓤 H A 𝓣 E G107 b50 Δ3 (at43 bs)
@@ -3930,17 +6650,129 @@ module _ (claims· : Claims) where
               Syntax.erased Syntax.mut (Syntax.tyInt Syntax.w16))) Path'.refl tt Path'.refl Path'.refl Path'.refl λ b o. tt) d42
 
           d44 : Typed.Typed 𝓤 H A 𝓣 E G106 b50 Δ3 (at44 bs)
-          d44 = Typed.g-pre 𝓤 H A W 𝓣 E G106 G107 b50 Δ3 (λ Ψ. Ψ) (at43 bs) (Lifetime.g-begin 𝓤 H A W E G106 13 ( tt, ( tt, ( tt, ( (tt, tt), ( tt, ( tt, ( tt, ( tt, ( tt, ( tt, ( tt, ( tt, ( tt, (
-              tt, ( tt, ( tt, ( tt, ( tt, ( tt, ( tt, ( tt, ( tt, ( tt, ( tt, ( tt, ( tt, ( tt, ( tt, ( tt, ( tt, ( tt, ( tt, ( tt, ( tt, ( tt, ( tt, ( tt, ( tt, ( tt, ( tt, ( tt, ( tt, tt, ), ), ), ), ),
-              ), ), ), ), ), ), ), ), ), ), ), ), ), ), ), ), ), ), ), ), ), ), ), ), ), ), ), ), ), ), ), ), ), ), ), ), )) d43
+          d44 = Typed.g-pre 𝓤 H A W 𝓣 E G106 G107 b50 Δ3 (λ Ψ. Ψ) (at43 bs) (Lifetime.g-begin 𝓤 H A W E G106 13 (
+            tt,
+            (
+              tt,
+              (
+                tt,
+                (
+                  (tt, tt),
+                  (
+                    tt,
+                    (
+                      tt,
+                      (
+                        tt,
+                        (
+                          tt,
+                          (
+                            tt,
+                            (
+                              tt,
+                              (
+                                tt,
+                                (
+                                  tt,
+                                  (
+                                    tt,
+                                    (
+                                      tt,
+                                      (
+                                        tt,
+                                        (
+                                          tt,
+                                          (
+                                            tt,
+                                            (
+                                              tt,
+                                              (
+                                                tt,
+                                                (
+                                                  tt,
+                                                  (
+                                                    tt,
+                                                    (
+                                                      tt,
+                                                      (
+                                                        tt,
+                                                        (
+                                                          tt,
+                                                          (
+                                                            tt,
+                                                            (
+                                                              tt,
+                                                              (
+                                                                tt,
+                                                                (
+                                                                  tt,
+                                                                  (
+                                                                    tt,
+                                                                    (
+                                                                      tt,
+                                                                      (
+                                                                        tt,
+                                                                        (
+                                                                          tt,
+                                                                          (
+                                                                            tt,
+                                                                            (
+                                                                              tt,
+                                                                              (
+                                                                                tt,
+                                                                                (
+                                                                                  tt,
+                                                                                  (
+                                                                                    tt,
+                                                                                    (tt, (tt, (tt, (tt, (tt, tt))))),
+                                                                                  ),
+                                                                                ),
+                                                                              ),
+                                                                            ),
+                                                                          ),
+                                                                        ),
+                                                                      ),
+                                                                    ),
+                                                                  ),
+                                                                ),
+                                                              ),
+                                                            ),
+                                                          ),
+                                                        ),
+                                                      ),
+                                                    ),
+                                                  ),
+                                                ),
+                                              ),
+                                            ),
+                                          ),
+                                        ),
+                                      ),
+                                    ),
+                                  ),
+                                ),
+                              ),
+                            ),
+                          ),
+                        ),
+                      ),
+                    ),
+                  ),
+                ),
+              ),
+            ),
+          )) d43
 
           d45 : Typed.Typed 𝓤 H A 𝓣 E G105 b51 Δ3 (at45 bs)
           d45 = Typed.s-seq 𝓤 H A W 𝓣 E G105 G106 b43 b50 Δ3 (Typed.ask (s101 bs)) (at44 bs) (Relend.t-sl-aggregate 𝓤 H A W E (Referent.rtF (Referent.fInt Syntax.w16)) 𝓣 (Relend.asShr (Referent.rtF
               (Referent.fInt Syntax.w16))) G105 38 39 12 (Syntax.tyRef Syntax.erased Syntax.imm (Syntax.tyInt Syntax.w16)) (Syntax.tyRef Syntax.erased Syntax.imm (Syntax.tyInt Syntax.w16)) (λ x. x)
               (Scalar.oFld 3 (List._∷_ (Syntax.field 1) List.[]) (Syntax.tyInt Syntax.w64) 8 λ v. Shared.lenV (v .0)) (Reads'.as-is 𝓤 H A (Relend.ssptr (Referent.rtF (Referent.fInt Syntax.w16))
               (Syntax.tyRef Syntax.erased Syntax.imm (Syntax.tyInt Syntax.w16)) 12)) (Reads'.room-gone 𝓤 H A (Syntax.tyStruct (List._∷_ 38 (List._∷_ 91 (List._∷_ 93 List.[]))) (Syntax.tcons (Syntax.tyRef
-              Syntax.erased Syntax.imm (Syntax.tyInt Syntax.w16)) (Syntax.tcons (Syntax.tyInt Syntax.w64) Syntax.tnil)))) ( Reshare.reads-owedS-len 𝓤 H A W (Referent.rtF (Referent.fInt Syntax.w16))
-              (Syntax.tyRef (Syntax.named 2) Syntax.mut (Syntax.tyInt Syntax.w16)) 2 12 (Row.lease (κs .1 .1 .0) (qs .1 .1 .0)) 8 Path'.refl, Path'.refl, ) Path'.refl Path'.refl λ b o k. tt) d44
+              Syntax.erased Syntax.imm (Syntax.tyInt Syntax.w16)) (Syntax.tcons (Syntax.tyInt Syntax.w64) Syntax.tnil)))) (
+                Reshare.reads-owedS-len 𝓤 H A W (Referent.rtF (Referent.fInt Syntax.w16))
+                    (Syntax.tyRef (Syntax.named 2) Syntax.mut (Syntax.tyInt Syntax.w16)) 2 12 (Row.lease (κs .1 .1 .0) (qs .1 .1 .0)) 8 Path'.refl,
+                Path'.refl,
+              ) Path'.refl Path'.refl λ b o k. tt) d44
 
           d46 : Typed.Typed 𝓤 H A 𝓣 E G104 b52 Δ3 (at46 bs)
           d46 = Typed.s-seq 𝓤 H A W 𝓣 E G104 G105 b42 b51 Δ3 (Typed.give (s100 bs)) (at45 bs) (Reshare.t-sl-reshare 𝓤 H A W E (Referent.rtF (Referent.fInt Syntax.w16)) 𝓣 G104 3 38 2 12 (Syntax.tyRef
@@ -3949,14 +6781,122 @@ module _ (claims· : Claims) where
               Syntax.imm (Syntax.tyInt Syntax.w16))) Path'.refl tt Path'.refl Path'.refl Path'.refl λ b o. tt) d45
 
           d47 : Typed.Typed 𝓤 H A 𝓣 E G103 b52 Δ3 (at47 bs)
-          d47 = Typed.g-pre 𝓤 H A W 𝓣 E G103 G104 b52 Δ3 (λ Ψ. Ψ) (at46 bs) (Lifetime.g-begin 𝓤 H A W E G103 12 ( tt, ( tt, ( tt, ( tt, ( tt, ( tt, ( tt, ( tt, ( tt, ( tt, ( tt, ( tt, ( tt, ( tt, (
-              tt, ( tt, ( tt, ( tt, ( tt, ( tt, ( tt, ( tt, ( tt, ( tt, ( tt, ( tt, ( tt, ( tt, ( tt, ( tt, ( tt, ( tt, ( tt, ( tt, ( tt, ( tt, ( tt, ( tt, ( tt, ( tt, ( tt, ( tt, tt, ), ), ), ), ), ), ),
-              ), ), ), ), ), ), ), ), ), ), ), ), ), ), ), ), ), ), ), ), ), ), ), ), ), ), ), ), ), ), ), ), ), ), )) d46
+          d47 = Typed.g-pre 𝓤 H A W 𝓣 E G103 G104 b52 Δ3 (λ Ψ. Ψ) (at46 bs) (Lifetime.g-begin 𝓤 H A W E G103 12 (
+            tt,
+            (
+              tt,
+              (
+                tt,
+                (
+                  tt,
+                  (
+                    tt,
+                    (
+                      tt,
+                      (
+                        tt,
+                        (
+                          tt,
+                          (
+                            tt,
+                            (
+                              tt,
+                              (
+                                tt,
+                                (
+                                  tt,
+                                  (
+                                    tt,
+                                    (
+                                      tt,
+                                      (
+                                        tt,
+                                        (
+                                          tt,
+                                          (
+                                            tt,
+                                            (
+                                              tt,
+                                              (
+                                                tt,
+                                                (
+                                                  tt,
+                                                  (
+                                                    tt,
+                                                    (
+                                                      tt,
+                                                      (
+                                                        tt,
+                                                        (
+                                                          tt,
+                                                          (
+                                                            tt,
+                                                            (
+                                                              tt,
+                                                              (
+                                                                tt,
+                                                                (
+                                                                  tt,
+                                                                  (
+                                                                    tt,
+                                                                    (
+                                                                      tt,
+                                                                      (
+                                                                        tt,
+                                                                        (
+                                                                          tt,
+                                                                          (
+                                                                            tt,
+                                                                            (
+                                                                              tt,
+                                                                              (
+                                                                                tt,
+                                                                                (tt, (tt, (tt, (tt, (tt, (tt, (tt, tt))))))),
+                                                                              ),
+                                                                            ),
+                                                                          ),
+                                                                        ),
+                                                                      ),
+                                                                    ),
+                                                                  ),
+                                                                ),
+                                                              ),
+                                                            ),
+                                                          ),
+                                                        ),
+                                                      ),
+                                                    ),
+                                                  ),
+                                                ),
+                                              ),
+                                            ),
+                                          ),
+                                        ),
+                                      ),
+                                    ),
+                                  ),
+                                ),
+                              ),
+                            ),
+                          ),
+                        ),
+                      ),
+                    ),
+                  ),
+                ),
+              ),
+            ),
+          )) d46
 
           d48 : Typed.Typed 𝓤 H A 𝓣 E G102 b53 Δ3 (at48 bs)
           d48 = Typed.s-seq 𝓤 H A W 𝓣 E G102 G103 b41 b52 Δ3 (Typed.both (s98 bs)) (at47 bs) (Plain.t-call-plain 𝓤 H A W 𝓣 0 ps·9 r·9 (claims· .18) (claims· .19) "block::tight_count" (known .9) E (λ
-              pos β. β) G102 (Num.vAt 16 λ x. x, (Num.vAt 17 λ x. x, (Bool.bAt 15 λ x. x, tt))) 16 List.[] (Call.sub-id 𝓤 H A W (G102 .slots)) ( (Scalar.reads-sc 𝓤 H A W (Row.sInt Syntax.w64),
-              Path'.refl), ( (Scalar.reads-sc 𝓤 H A W (Row.sInt Syntax.w64), Path'.refl), ((Scalar.reads-sc 𝓤 H A W Row.sBool, Path'.refl), tt), ), ) (Scalar.room-sc 𝓤 H A W (Row.sInt Syntax.w64)) tt
+              pos β. β) G102 (Num.vAt 16 λ x. x, (Num.vAt 17 λ x. x, (Bool.bAt 15 λ x. x, tt))) 16 List.[] (Call.sub-id 𝓤 H A W (G102 .slots)) (
+                (
+                  Scalar.reads-sc 𝓤 H A W (Row.sInt Syntax.w64),
+                  Path'.refl,
+                ),
+                ((Scalar.reads-sc 𝓤 H A W (Row.sInt Syntax.w64), Path'.refl), ((Scalar.reads-sc 𝓤 H A W Row.sBool, Path'.refl), tt)),
+              ) (Scalar.room-sc 𝓤 H A W (Row.sInt Syntax.w64)) tt
               Path'.refl) d47
 
           d49 : Typed.Typed 𝓤 H A 𝓣 E G101 b53 Δ3 (at49 bs)
@@ -3971,8 +6911,11 @@ module _ (claims· : Claims) where
 
           d50 : Typed.Typed 𝓤 H A 𝓣 E G100 b54 Δ3 (at50 bs)
           d50 = Typed.s-seq 𝓤 H A W 𝓣 E G100 G101 b40 b53 Δ3 (Typed.pass T100 T101 (s96 bs)) (at49 bs) (Scalar.t-use 𝓤 H A W E 𝓣 G100 (Scalar.oFld 19 (List._∷_ (Syntax.field 1) List.[]) Syntax.tyBool
-              1 (Reads.fieldV Lined.the-type Laws''.the-laws 1)) 15 (Rows'.sc-here Row.sBool) Syntax.tyBool (Row.valS Row.sBool) (Row.sBool .of) ( Reads.reads-field 𝓤 H A W Lined.the-type Laws''.the-laws
-              1 Syntax.tyBool 1 Path'.refl, Path'.refl, ) (Reads'.room-gone 𝓤 H A Syntax.tyBool) (Scalar.holds-sc 𝓤 H A W Row.sBool) Path'.refl (λ u. Path'.refl) λ u. tt) d49
+              1 (Reads.fieldV Lined.the-type Laws''.the-laws 1)) 15 (Rows'.sc-here Row.sBool) Syntax.tyBool (Row.valS Row.sBool) (Row.sBool .of) (
+                Reads.reads-field 𝓤 H A W Lined.the-type Laws''.the-laws
+                    1 Syntax.tyBool 1 Path'.refl,
+                Path'.refl,
+              ) (Reads'.room-gone 𝓤 H A Syntax.tyBool) (Scalar.holds-sc 𝓤 H A W Row.sBool) Path'.refl (λ u. Path'.refl) λ u. tt) d49
 
           d51 : Typed.Typed 𝓤 H A 𝓣 E G79 b55 Δ3 (at51 bs)
           d51 = Typed.s-seq 𝓤 H A W 𝓣 E G79 G100 b39 b54 Δ3 (Typed.both (s95 bs)) (at50 bs) (WayStmt.t-way-copy-out 𝓤 H A W E 𝓣 (Declared.row BitPosition.the-type) Path'.refl (Copies.cStruct
@@ -3981,9 +6924,18 @@ module _ (claims· : Claims) where
               (List._∷_ 105 (List._∷_ 116 (List._∷_ 105 (List._∷_ 111 (List._∷_ 110 List.[]))))))))))))))))) (Syntax.tcons (Syntax.tyInt Syntax.w64) Syntax.tnil)) (Syntax.tyStruct (List._∷_ 98 (List._∷_
               105 (List._∷_ 116 (List._∷_ 115 (List._∷_ 58 (List._∷_ 58 (List._∷_ 66 (List._∷_ 105 (List._∷_ 116 (List._∷_ 80 (List._∷_ 111 (List._∷_ 115 (List._∷_ 105 (List._∷_ 116 (List._∷_ 105
               (List._∷_ 111 (List._∷_ 110 List.[]))))))))))))))))) (Syntax.tcons (Syntax.tyInt Syntax.w64) Syntax.tnil)) 14 (Rows'.whole (Declared.row BitPosition.the-type)) (λ x. x) (λ u. At.getAt
-              (Lined.the-type .parts) 2 (Lined.struct .as-values (u .1 .1 .1 .1 .1 .1 .1 .1 .1 .1 .1 .1 .1 .1 .1 .1 .1 .1 .1 .0))) (λ u. ( Row.hd 0 (Row.tl (Row.tl (Row.tl (Row.tl (Row.tl (Row.tl (Row.tl
-              (Row.tl (Row.tl (Row.tl (Row.tl (Row.tl (Row.tl (Row.tl (Row.tl (Row.tl (Row.tl (Row.tl (Row.tl bs))))))))))))))))))), Nat._+_ 0 8, )) (λ T′. record { locals = Row.setRow 19 (19, Rows'.whole
-              (Declared.row Lined.the-type)) T′; slots = G79 .slots; }) (λ u T′ m′. Row.set 19 (19, Rows'.whole (Declared.row Lined.the-type)) (u .1 .1 .1 .1 .1 .1 .1 .1 .1 .1 .1 .1 .1 .1 .1 .1 .1 .1 .1
+              (Lined.the-type .parts) 2 (Lined.struct .as-values (u .1 .1 .1 .1 .1 .1 .1 .1 .1 .1 .1 .1 .1 .1 .1 .1 .1 .1 .1 .0))) (λ u. (
+                Row.hd 0 (Row.tl (Row.tl (Row.tl (Row.tl (Row.tl (Row.tl (Row.tl
+                    (Row.tl (Row.tl (Row.tl (Row.tl (Row.tl (Row.tl (Row.tl (Row.tl (Row.tl (Row.tl (Row.tl (Row.tl bs))))))))))))))))))),
+                Nat._+_ 0 8,
+              )) (λ T′. record {
+                locals = Row.setRow 19 (
+                  19,
+                  Rows'.whole
+                      (Declared.row Lined.the-type),
+                ) T′;
+                slots = G79 .slots;
+              }) (λ u T′ m′. Row.set 19 (19, Rows'.whole (Declared.row Lined.the-type)) (u .1 .1 .1 .1 .1 .1 .1 .1 .1 .1 .1 .1 .1 .1 .1 .1 .1 .1 .1
               .0) T′ m′) (λ u. Unit) (λ x. Unit) (Own.told-none 𝓤 H A (G79 .slots)) (DerefMove.learns-nothing 𝓤 H A (Declared.row BitPosition.the-type)) (λ ρ told u asked. Way'.w-partˢ 𝓤 H A W E
               (Declared.row Lined.the-type) (Declared.row BitPosition.the-type) (Syntax.tyStruct (List._∷_ 98 (List._∷_ 108 (List._∷_ 111 (List._∷_ 99 (List._∷_ 107 (List._∷_ 58 (List._∷_ 58 (List._∷_ 76
               (List._∷_ 105 (List._∷_ 110 (List._∷_ 101 (List._∷_ 100 List.[])))))))))))) (Syntax.tcons Syntax.tyBool (Syntax.tcons Syntax.tyBool (Syntax.tcons (Syntax.tyStruct (List._∷_ 98 (List._∷_ 105
@@ -3991,17 +6943,26 @@ module _ (claims· : Claims) where
               111 (List._∷_ 110 List.[]))))))))))))))))) (Syntax.tcons (Syntax.tyInt Syntax.w64) Syntax.tnil)) Syntax.tnil)))) (Syntax.tyStruct (List._∷_ 98 (List._∷_ 105 (List._∷_ 116 (List._∷_ 115
               (List._∷_ 58 (List._∷_ 58 (List._∷_ 66 (List._∷_ 105 (List._∷_ 116 (List._∷_ 80 (List._∷_ 111 (List._∷_ 115 (List._∷_ 105 (List._∷_ 116 (List._∷_ 105 (List._∷_ 111 (List._∷_ 110
               List.[]))))))))))))))))) (Syntax.tcons (Syntax.tyInt Syntax.w64) Syntax.tnil)) 2 8 (u .1 .1 .1 .1 .1 .1 .1 .1 .1 .1 .1 .1 .1 .1 .1 .1 .1 .1 .1 .0) (At.getAt (Lined.the-type .parts) 2
-              (Lined.struct .as-values (u .1 .1 .1 .1 .1 .1 .1 .1 .1 .1 .1 .1 .1 .1 .1 .1 .1 .1 .1 .0))) ( Row.hd 0 (Row.tl (Row.tl (Row.tl (Row.tl (Row.tl (Row.tl (Row.tl (Row.tl (Row.tl (Row.tl (Row.tl
-              (Row.tl (Row.tl (Row.tl (Row.tl (Row.tl (Row.tl (Row.tl (Row.tl bs))))))))))))))))))), 0, ) (Way.w-look 𝓤 H A W E (Way.w-local 𝓤 H A W E G79 ρ u (G79 .slots) 19 (Declared.row Lined.the-type)
+              (Lined.struct .as-values (u .1 .1 .1 .1 .1 .1 .1 .1 .1 .1 .1 .1 .1 .1 .1 .1 .1 .1 .1 .0))) (
+                Row.hd 0 (Row.tl (Row.tl (Row.tl (Row.tl (Row.tl (Row.tl (Row.tl (Row.tl (Row.tl (Row.tl (Row.tl
+                    (Row.tl (Row.tl (Row.tl (Row.tl (Row.tl (Row.tl (Row.tl (Row.tl bs))))))))))))))))))),
+                0,
+              ) (Way.w-look 𝓤 H A W E (Way.w-local 𝓤 H A W E G79 ρ u (G79 .slots) 19 (Declared.row Lined.the-type)
               (Rows'.whole (Declared.row Lined.the-type)) (λ x. x) (λ x. x) (u .1 .1 .1 .1 .1 .1 .1 .1 .1 .1 .1 .1 .1 .1 .1 .1 .1 .1 .1 .0) (Local.mem-whole 𝓤 H A W (Declared.row Lined.the-type) ρ (u .1
               .1 .1 .1 .1 .1 .1 .1 .1 .1 .1 .1 .1 .1 .1 .1 .1 .1 .1 .0) (Row.hd 0 (Row.tl (Row.tl (Row.tl (Row.tl (Row.tl (Row.tl (Row.tl (Row.tl (Row.tl (Row.tl (Row.tl (Row.tl (Row.tl (Row.tl (Row.tl
               (Row.tl (Row.tl (Row.tl (Row.tl bs))))))))))))))))))))) (Local.whole-mem 𝓤 H A W (Declared.row Lined.the-type) ρ (u .1 .1 .1 .1 .1 .1 .1 .1 .1 .1 .1 .1 .1 .1 .1 .1 .1 .1 .1 .0) (Row.hd 0
               (Row.tl (Row.tl (Row.tl (Row.tl (Row.tl (Row.tl (Row.tl (Row.tl (Row.tl (Row.tl (Row.tl (Row.tl (Row.tl (Row.tl (Row.tl (Row.tl (Row.tl (Row.tl (Row.tl bs))))))))))))))))))))))) Path'.refl λ
               q. Inner.cut-record 𝓤 H A q (Declared.row Lined.the-type) BitPosition.the-type 8 (u .1 .1 .1 .1 .1 .1 .1 .1 .1 .1 .1 .1 .1 .1 .1 .1 .1 .1 .1 .0) (u .1 .1 .1 .1 .1 .1 .1 .1 .1 .1 .1 .1 .1 .1
               .1 .1 .1 .1 .1 .0) (At.getAt (Lined.the-type .parts) 2 (Lined.struct .as-values (u .1 .1 .1 .1 .1 .1 .1 .1 .1 .1 .1 .1 .1 .1 .1 .1 .1 .1 .1 .0))) (At.getAt (Lined.the-type .parts) 2
-              (Lined.struct .as-values (u .1 .1 .1 .1 .1 .1 .1 .1 .1 .1 .1 .1 .1 .1 .1 .1 .1 .1 .1 .0))) ( Row.hd 0 (Row.tl (Row.tl (Row.tl (Row.tl (Row.tl (Row.tl (Row.tl (Row.tl (Row.tl (Row.tl (Row.tl
-              (Row.tl (Row.tl (Row.tl (Row.tl (Row.tl (Row.tl (Row.tl (Row.tl bs))))))))))))))))))), 0, ) (Behind.look-at 𝓤 H A W q Lined.the-type Laws''.the-laws 2 8 Path'.refl Path'.refl ( Row.hd 0
-              (Row.tl (Row.tl (Row.tl (Row.tl (Row.tl (Row.tl (Row.tl (Row.tl (Row.tl (Row.tl (Row.tl (Row.tl (Row.tl (Row.tl (Row.tl (Row.tl (Row.tl (Row.tl (Row.tl bs))))))))))))))))))), 0, ) (u .1 .1
+              (Lined.struct .as-values (u .1 .1 .1 .1 .1 .1 .1 .1 .1 .1 .1 .1 .1 .1 .1 .1 .1 .1 .1 .0))) (
+                Row.hd 0 (Row.tl (Row.tl (Row.tl (Row.tl (Row.tl (Row.tl (Row.tl (Row.tl (Row.tl (Row.tl (Row.tl
+                    (Row.tl (Row.tl (Row.tl (Row.tl (Row.tl (Row.tl (Row.tl (Row.tl bs))))))))))))))))))),
+                0,
+              ) (Behind.look-at 𝓤 H A W q Lined.the-type Laws''.the-laws 2 8 Path'.refl Path'.refl (
+                Row.hd 0
+                    (Row.tl (Row.tl (Row.tl (Row.tl (Row.tl (Row.tl (Row.tl (Row.tl (Row.tl (Row.tl (Row.tl (Row.tl (Row.tl (Row.tl (Row.tl (Row.tl (Row.tl (Row.tl (Row.tl bs))))))))))))))))))),
+                0,
+              ) (u .1 .1
               .1 .1 .1 .1 .1 .1 .1 .1 .1 .1 .1 .1 .1 .1 .1 .1 .1 .0) (Lined.struct .as-values (u .1 .1 .1 .1 .1 .1 .1 .1 .1 .1 .1 .1 .1 .1 .1 .1 .1 .1 .1 .0)) Path'.refl)) (Reads'.room-gone 𝓤 H A
               (Syntax.tyStruct (List._∷_ 98 (List._∷_ 105 (List._∷_ 116 (List._∷_ 115 (List._∷_ 58 (List._∷_ 58 (List._∷_ 66 (List._∷_ 105 (List._∷_ 116 (List._∷_ 80 (List._∷_ 111 (List._∷_ 115 (List._∷_
               105 (List._∷_ 116 (List._∷_ 105 (List._∷_ 111 (List._∷_ 110 List.[]))))))))))))))))) (Syntax.tcons (Syntax.tyInt Syntax.w64) Syntax.tnil))) (Yields.makes-mem 𝓤 H A W (λ ρ. Unit)
@@ -4018,8 +6979,11 @@ module _ (claims· : Claims) where
 
           d54 : Typed.Typed 𝓤 H A 𝓣 E G76 b58 Δ3 (at54 bs)
           d54 = Typed.s-seq 𝓤 H A W 𝓣 E G76 G77 b32 b57 Δ3 (Typed.pass T75 T77 (s73 bs)) (at53 bs) (Scalar.t-use 𝓤 H A W E 𝓣 G76 (Scalar.oFld 19 (List._∷_ (Syntax.field 0) List.[]) Syntax.tyBool 0
-              (Reads.fieldV Lined.the-type Laws''.the-laws 0)) 20 (Rows'.sc-here Row.sBool) Syntax.tyBool (Row.valS Row.sBool) (Row.sBool .of) ( Reads.reads-field 𝓤 H A W Lined.the-type Laws''.the-laws 0
-              Syntax.tyBool 0 Path'.refl, Path'.refl, ) (Reads'.room-gone 𝓤 H A Syntax.tyBool) (Scalar.holds-sc 𝓤 H A W Row.sBool) Path'.refl (λ u. Path'.refl) λ u. tt) d53
+              (Reads.fieldV Lined.the-type Laws''.the-laws 0)) 20 (Rows'.sc-here Row.sBool) Syntax.tyBool (Row.valS Row.sBool) (Row.sBool .of) (
+                Reads.reads-field 𝓤 H A W Lined.the-type Laws''.the-laws 0
+                    Syntax.tyBool 0 Path'.refl,
+                Path'.refl,
+              ) (Reads'.room-gone 𝓤 H A Syntax.tyBool) (Scalar.holds-sc 𝓤 H A W Row.sBool) Path'.refl (λ u. Path'.refl) λ u. tt) d53
 
           d55 : Typed.Typed 𝓤 H A 𝓣 E G75 b58 Δ3 (at55 bs)
           d55 = Typed.g-pre 𝓤 H A W 𝓣 E G75 G76 b58 Δ3 (λ Ψ. Ψ) (at54 bs) (Lifetime.g-forget 𝓤 H A W E G75 11 Row.dead Path'.refl) d54
@@ -4061,29 +7025,89 @@ module _ (claims· : Claims) where
 
           d63 : Typed.Typed 𝓤 H A 𝓣 E G67 b59 Δ3 (at63 bs)
           d63 = Typed.s-seq 𝓤 H A W 𝓣 E G67 G68 b31 b58 Δ3 (Typed.both (s64 bs)) (at62 bs) (Plain.t-call-plain 𝓤 H A W 𝓣 3 ps·8 r·8 (claims· .16) (claims· .17) "block::line" (known .8) E (λ pos β. β)
-              G67 ( record { pos = 1; ty = Syntax.tyRef (Syntax.named 0) Syntax.imm (Syntax.tyInt Syntax.w8); ref = λ x. x; }, ( record { pos = 14; st = List.[]; d = 0; at = λ x. x }, ( Bool.bAt 15 λ x.
-              x, ( record { pos = 34; ty = Syntax.tyRef Syntax.erased Syntax.mut (Syntax.tyInt Syntax.w16); ref = λ x. x; }, ( record { pos = 36; ty = Syntax.tyRef Syntax.erased Syntax.mut Element.behind;
-              ref = λ x. x; }, ( record { pos = 6; st = List.[]; d = 0; at = λ x. x }, (record { pos = 37; st = List.[]; d = 0; at = λ x. x }, tt), ), ), ), ), ), ) 19 (List._∷_ 0 (List._∷_ 10 (List._∷_
-              11 List.[]))) (Call.sub-id 𝓤 H A W (G67 .slots)) ( ShrSlice.spares-sslice 𝓤 H A W (Referent.rtF (Referent.fInt Syntax.w8)) (Syntax.tyRef (Syntax.named 0) Syntax.imm (Syntax.tyInt Syntax.w8))
-              0, Shared.reads-sslice 𝓤 H A W (Referent.rtF (Referent.fInt Syntax.w8)) (Syntax.tyRef (Syntax.named 0) Syntax.imm (Syntax.tyInt Syntax.w8)) 0, Path'.refl, ( ( Yields.yields-copy 𝓤 H A W (λ
-              ρ. Unit) (Declared.row BitPosition.the-type) Path'.refl (Copies.cStruct BitPosition.the-type Laws.the-laws Laws.the-copy .copy 𝓤 H A W) (Rows'.whole (Declared.row BitPosition.the-type)) (λ
-              x. x) (λ x. x) (λ ρ told. Local.mem-whole 𝓤 H A W (Declared.row BitPosition.the-type) ρ) λ ρ told. Local.whole-mem 𝓤 H A W (Declared.row BitPosition.the-type) ρ, Path'.refl, ), (
-              (Scalar.reads-sc 𝓤 H A W Row.sBool, Path'.refl), ( Reads'.as-is 𝓤 H A (Mut.mslice (Referent.rtF (Referent.fInt Syntax.w16)) (Syntax.tyRef Syntax.erased Syntax.mut (Syntax.tyInt Syntax.w16))
-              10), Mut.reads-mslice 𝓤 H A W (Referent.rtF (Referent.fInt Syntax.w16)) (Syntax.tyRef Syntax.erased Syntax.mut (Syntax.tyInt Syntax.w16)) 10, Path'.refl, ( Reads'.as-is 𝓤 H A (Mut.mslice
-              (Element.type) (Syntax.tyRef Syntax.erased Syntax.mut Element.behind) 11), Mut.reads-mslice 𝓤 H A W (Element.type) (Syntax.tyRef Syntax.erased Syntax.mut Element.behind) 11, Path'.refl, ( (
-              Yields.yields-copy 𝓤 H A W (λ ρ. Unit) (Declared.row Form.the-type) Path'.refl (Copies.cStruct Form.the-type Laws'.the-laws Laws'.the-copy .copy 𝓤 H A W) (Rows'.whole (Declared.row
-              Form.the-type)) (λ x. x) (λ x. x) (λ ρ told. Local.mem-whole 𝓤 H A W (Declared.row Form.the-type) ρ) λ ρ told. Local.whole-mem 𝓤 H A W (Declared.row Form.the-type) ρ, Path'.refl, ), ( (
-              Yields.yields-copy 𝓤 H A W (λ ρ. Unit) (Declared.row Quantisers.the-type) Path'.refl (Copies.cStruct Quantisers.the-type Laws'5.the-laws Laws'5.the-copy .copy 𝓤 H A W) (Rows'.whole
-              (Declared.row Quantisers.the-type)) (λ x. x) (λ x. x) (λ ρ told. Local.mem-whole 𝓤 H A W (Declared.row Quantisers.the-type) ρ) λ ρ told. Local.whole-mem 𝓤 H A W (Declared.row
-              Quantisers.the-type) ρ, Path'.refl, ), tt, ), ), ), ), ), ), ) (Reads'.room-gone 𝓤 H A (Syntax.tyStruct (List._∷_ 98 (List._∷_ 108 (List._∷_ 111 (List._∷_ 99 (List._∷_ 107 (List._∷_ 58
+              G67 (
+                record { pos = 1; ty = Syntax.tyRef (Syntax.named 0) Syntax.imm (Syntax.tyInt Syntax.w8); ref = λ x. x },
+                (
+                  record { pos = 14; st = List.[]; d = 0; at = λ x. x },
+                  (
+                    Bool.bAt 15 λ x.
+                        x,
+                    (
+                      record { pos = 34; ty = Syntax.tyRef Syntax.erased Syntax.mut (Syntax.tyInt Syntax.w16); ref = λ x. x },
+                      (
+                        record {
+                          pos = 36;
+                          ty = Syntax.tyRef Syntax.erased Syntax.mut Element.behind;
+                          ref = λ x. x;
+                        },
+                        (record { pos = 6; st = List.[]; d = 0; at = λ x. x }, (record { pos = 37; st = List.[]; d = 0; at = λ x. x }, tt)),
+                      ),
+                    ),
+                  ),
+                ),
+              ) 19 (List._∷_ 0 (List._∷_ 10 (List._∷_
+              11 List.[]))) (Call.sub-id 𝓤 H A W (G67 .slots)) (
+                ShrSlice.spares-sslice 𝓤 H A W (Referent.rtF (Referent.fInt Syntax.w8)) (Syntax.tyRef (Syntax.named 0) Syntax.imm (Syntax.tyInt Syntax.w8))
+                    0,
+                Shared.reads-sslice 𝓤 H A W (Referent.rtF (Referent.fInt Syntax.w8)) (Syntax.tyRef (Syntax.named 0) Syntax.imm (Syntax.tyInt Syntax.w8)) 0,
+                Path'.refl,
+                (
+                  (
+                    Yields.yields-copy 𝓤 H A W (λ
+                        ρ. Unit) (Declared.row BitPosition.the-type) Path'.refl (Copies.cStruct BitPosition.the-type Laws.the-laws Laws.the-copy .copy 𝓤 H A W) (Rows'.whole (Declared.row BitPosition.the-type)) (λ
+                        x. x) (λ x. x) (λ ρ told. Local.mem-whole 𝓤 H A W (Declared.row BitPosition.the-type) ρ) λ ρ told. Local.whole-mem 𝓤 H A W (Declared.row BitPosition.the-type) ρ,
+                    Path'.refl,
+                  ),
+                  (
+                    (Scalar.reads-sc 𝓤 H A W Row.sBool, Path'.refl),
+                    (
+                      Reads'.as-is 𝓤 H A (Mut.mslice (Referent.rtF (Referent.fInt Syntax.w16)) (Syntax.tyRef Syntax.erased Syntax.mut (Syntax.tyInt Syntax.w16))
+                          10),
+                      Mut.reads-mslice 𝓤 H A W (Referent.rtF (Referent.fInt Syntax.w16)) (Syntax.tyRef Syntax.erased Syntax.mut (Syntax.tyInt Syntax.w16)) 10,
+                      Path'.refl,
+                      (
+                        Reads'.as-is 𝓤 H A (Mut.mslice
+                            (Element.type) (Syntax.tyRef Syntax.erased Syntax.mut Element.behind) 11),
+                        Mut.reads-mslice 𝓤 H A W (Element.type) (Syntax.tyRef Syntax.erased Syntax.mut Element.behind) 11,
+                        Path'.refl,
+                        (
+                          (
+                            Yields.yields-copy 𝓤 H A W (λ ρ. Unit) (Declared.row Form.the-type) Path'.refl (Copies.cStruct Form.the-type Laws'.the-laws Laws'.the-copy .copy 𝓤 H A W) (Rows'.whole (Declared.row
+                                Form.the-type)) (λ x. x) (λ x. x) (λ ρ told. Local.mem-whole 𝓤 H A W (Declared.row Form.the-type) ρ) λ ρ told. Local.whole-mem 𝓤 H A W (Declared.row Form.the-type) ρ,
+                            Path'.refl,
+                          ),
+                          (
+                            (
+                              Yields.yields-copy 𝓤 H A W (λ ρ. Unit) (Declared.row Quantisers.the-type) Path'.refl (Copies.cStruct Quantisers.the-type Laws'5.the-laws Laws'5.the-copy .copy 𝓤 H A W) (Rows'.whole
+                                  (Declared.row Quantisers.the-type)) (λ x. x) (λ x. x) (λ ρ told. Local.mem-whole 𝓤 H A W (Declared.row Quantisers.the-type) ρ) λ ρ told. Local.whole-mem 𝓤 H A W (Declared.row
+                                  Quantisers.the-type) ρ,
+                              Path'.refl,
+                            ),
+                            tt,
+                          ),
+                        ),
+                      ),
+                    ),
+                  ),
+                ),
+              ) (Reads'.room-gone 𝓤 H A (Syntax.tyStruct (List._∷_ 98 (List._∷_ 108 (List._∷_ 111 (List._∷_ 99 (List._∷_ 107 (List._∷_ 58
               (List._∷_ 58 (List._∷_ 76 (List._∷_ 105 (List._∷_ 110 (List._∷_ 101 (List._∷_ 100 List.[])))))))))))) (Syntax.tcons Syntax.tyBool (Syntax.tcons Syntax.tyBool (Syntax.tcons (Syntax.tyStruct
               (List._∷_ 98 (List._∷_ 105 (List._∷_ 116 (List._∷_ 115 (List._∷_ 58 (List._∷_ 58 (List._∷_ 66 (List._∷_ 105 (List._∷_ 116 (List._∷_ 80 (List._∷_ 111 (List._∷_ 115 (List._∷_ 105 (List._∷_ 116
               (List._∷_ 105 (List._∷_ 111 (List._∷_ 110 List.[]))))))))))))))))) (Syntax.tcons (Syntax.tyInt Syntax.w64) Syntax.tnil)) Syntax.tnil))))) (tt, (tt, (tt, tt))) Path'.refl) d62
 
           d64 : Typed.Typed 𝓤 H A 𝓣 E G66 b60 Δ3 (at64 bs)
           d64 = Typed.s-seq 𝓤 H A W 𝓣 E G66 G67 b30 b59 Δ3 (Typed.both (s63 bs)) (at63 bs) (Plain.t-call-plain 𝓤 H A W 𝓣 0 ps·7 r·7 (claims· .14) (claims· .15) "block::quantisers_of" (known .7) E (λ
-              pos β. β) G66 (Num.vAt 11 λ x. x, (Num.vAt 18 λ x. x, tt)) 37 List.[] (Call.sub-id 𝓤 H A W (G66 .slots)) ( (Scalar.reads-sc 𝓤 H A W (Row.sInt Syntax.w32), Path'.refl), ((Scalar.reads-sc 𝓤 H
-              A W (Row.sInt Syntax.w32), Path'.refl), tt), ) (Reads'.room-gone 𝓤 H A (Syntax.tyStruct (List._∷_ 112 (List._∷_ 97 (List._∷_ 115 (List._∷_ 115 (List._∷_ 58 (List._∷_ 58 (List._∷_ 81
+              pos β. β) G66 (Num.vAt 11 λ x. x, (Num.vAt 18 λ x. x, tt)) 37 List.[] (Call.sub-id 𝓤 H A W (G66 .slots)) (
+                (Scalar.reads-sc 𝓤 H A W (Row.sInt Syntax.w32), Path'.refl),
+                (
+                  (
+                    Scalar.reads-sc 𝓤 H
+                        A W (Row.sInt Syntax.w32),
+                    Path'.refl,
+                  ),
+                  tt,
+                ),
+              ) (Reads'.room-gone 𝓤 H A (Syntax.tyStruct (List._∷_ 112 (List._∷_ 97 (List._∷_ 115 (List._∷_ 115 (List._∷_ 58 (List._∷_ 58 (List._∷_ 81
               (List._∷_ 117 (List._∷_ 97 (List._∷_ 110 (List._∷_ 116 (List._∷_ 105 (List._∷_ 115 (List._∷_ 101 (List._∷_ 114 (List._∷_ 115 List.[])))))))))))))))) (Syntax.tcons (Syntax.tyInt Syntax.w32)
               (Syntax.tcons (Syntax.tyArray (Syntax.tyInt Syntax.w32) 4) (Syntax.tcons (Syntax.tyArray (Syntax.tyInt Syntax.w32) 4) (Syntax.tcons (Syntax.tyArray (Syntax.tyInt Syntax.w32) 4)
               Syntax.tnil)))))) tt Path'.refl) d63
@@ -4092,8 +7116,11 @@ module _ (claims· : Claims) where
           d65 = Typed.s-seq 𝓤 H A W 𝓣 E G65 G66 b29 b60 Δ3 (Typed.ask (s62 bs)) (at64 bs) (Relend.t-sl-aggregate 𝓤 H A W E (Element.type) 𝓣 (Relend.asMut (Element.type)) G65 35 36 11 (Syntax.tyRef
               Syntax.erased Syntax.mut Element.behind) (Syntax.tyRef Syntax.erased Syntax.mut Element.behind) (λ x. x) (Scalar.oFld 4 (List._∷_ (Syntax.field 1) List.[]) (Syntax.tyInt Syntax.w64) 8 λ v.
               Shared.lenV (v .0)) (Reads'.as-is 𝓤 H A (Relend.msptr (Element.type) (Syntax.tyRef Syntax.erased Syntax.mut Element.behind) 11)) (Reads'.room-gone 𝓤 H A (Syntax.tyStruct (List._∷_ 38
-              (List._∷_ 91 (List._∷_ 93 List.[]))) (Syntax.tcons (Syntax.tyRef Syntax.erased Syntax.mut Element.behind) (Syntax.tcons (Syntax.tyInt Syntax.w64) Syntax.tnil)))) ( Relend.reads-owed-len 𝓤 H
-              A W (Element.type) (Syntax.tyRef (Syntax.named 3) Syntax.mut Element.behind) 3 11 (Row.lease (κs .1 .1 .1 .0) (qs .1 .1 .1 .0)) 8 Path'.refl, Path'.refl, ) Path'.refl Path'.refl λ b o k. tt)
+              (List._∷_ 91 (List._∷_ 93 List.[]))) (Syntax.tcons (Syntax.tyRef Syntax.erased Syntax.mut Element.behind) (Syntax.tcons (Syntax.tyInt Syntax.w64) Syntax.tnil)))) (
+                Relend.reads-owed-len 𝓤 H
+                    A W (Element.type) (Syntax.tyRef (Syntax.named 3) Syntax.mut Element.behind) 3 11 (Row.lease (κs .1 .1 .1 .0) (qs .1 .1 .1 .0)) 8 Path'.refl,
+                Path'.refl,
+              ) Path'.refl Path'.refl λ b o k. tt)
               d64
 
           d66 : Typed.Typed 𝓤 H A 𝓣 E G64 b62 Δ3 (at66 bs)
@@ -4102,17 +7129,123 @@ module _ (claims· : Claims) where
               (Syntax.named 3) Syntax.mut Element.behind) 3)) (Reads'.room-gone 𝓤 H A (Syntax.tyRef Syntax.erased Syntax.mut Element.behind)) Path'.refl tt Path'.refl Path'.refl Path'.refl λ b o. tt) d65
 
           d67 : Typed.Typed 𝓤 H A 𝓣 E G63 b62 Δ3 (at67 bs)
-          d67 = Typed.g-pre 𝓤 H A W 𝓣 E G63 G64 b62 Δ3 (λ Ψ. Ψ) (at66 bs) (Lifetime.g-begin 𝓤 H A W E G63 11 ( tt, ( tt, ( tt, ( (tt, tt), ( tt, ( tt, ( tt, ( tt, ( tt, ( tt, ( tt, ( tt, ( tt, ( tt, (
-              tt, ( tt, ( tt, ( tt, ( tt, ( tt, ( tt, ( tt, ( tt, ( tt, ( tt, ( tt, ( tt, ( tt, ( tt, ( tt, ( tt, ( tt, ( tt, ( tt, ( tt, ( tt, ( tt, ( tt, ( tt, ( tt, ( tt, ( tt, tt, ), ), ), ), ), ), ),
-              ), ), ), ), ), ), ), ), ), ), ), ), ), ), ), ), ), ), ), ), ), ), ), ), ), ), ), ), ), ), ), ), ), ), )) d66
+          d67 = Typed.g-pre 𝓤 H A W 𝓣 E G63 G64 b62 Δ3 (λ Ψ. Ψ) (at66 bs) (Lifetime.g-begin 𝓤 H A W E G63 11 (
+            tt,
+            (
+              tt,
+              (
+                tt,
+                (
+                  (tt, tt),
+                  (
+                    tt,
+                    (
+                      tt,
+                      (
+                        tt,
+                        (
+                          tt,
+                          (
+                            tt,
+                            (
+                              tt,
+                              (
+                                tt,
+                                (
+                                  tt,
+                                  (
+                                    tt,
+                                    (
+                                      tt,
+                                      (
+                                        tt,
+                                        (
+                                          tt,
+                                          (
+                                            tt,
+                                            (
+                                              tt,
+                                              (
+                                                tt,
+                                                (
+                                                  tt,
+                                                  (
+                                                    tt,
+                                                    (
+                                                      tt,
+                                                      (
+                                                        tt,
+                                                        (
+                                                          tt,
+                                                          (
+                                                            tt,
+                                                            (
+                                                              tt,
+                                                              (
+                                                                tt,
+                                                                (
+                                                                  tt,
+                                                                  (
+                                                                    tt,
+                                                                    (
+                                                                      tt,
+                                                                      (
+                                                                        tt,
+                                                                        (
+                                                                          tt,
+                                                                          (
+                                                                            tt,
+                                                                            (
+                                                                              tt,
+                                                                              (
+                                                                                tt,
+                                                                                (tt, (tt, (tt, (tt, (tt, (tt, (tt, tt))))))),
+                                                                              ),
+                                                                            ),
+                                                                          ),
+                                                                        ),
+                                                                      ),
+                                                                    ),
+                                                                  ),
+                                                                ),
+                                                              ),
+                                                            ),
+                                                          ),
+                                                        ),
+                                                      ),
+                                                    ),
+                                                  ),
+                                                ),
+                                              ),
+                                            ),
+                                          ),
+                                        ),
+                                      ),
+                                    ),
+                                  ),
+                                ),
+                              ),
+                            ),
+                          ),
+                        ),
+                      ),
+                    ),
+                  ),
+                ),
+              ),
+            ),
+          )) d66
 
           d68 : Typed.Typed 𝓤 H A 𝓣 E G62 b63 Δ3 (at68 bs)
           d68 = Typed.s-seq 𝓤 H A W 𝓣 E G62 G63 b27 b62 Δ3 (Typed.ask (s59 bs)) (at67 bs) (Relend.t-sl-aggregate 𝓤 H A W E (Referent.rtF (Referent.fInt Syntax.w16)) 𝓣 (Relend.asMut (Referent.rtF
               (Referent.fInt Syntax.w16))) G62 33 34 10 (Syntax.tyRef Syntax.erased Syntax.mut (Syntax.tyInt Syntax.w16)) (Syntax.tyRef Syntax.erased Syntax.mut (Syntax.tyInt Syntax.w16)) (λ x. x)
               (Scalar.oFld 3 (List._∷_ (Syntax.field 1) List.[]) (Syntax.tyInt Syntax.w64) 8 λ v. Shared.lenV (v .0)) (Reads'.as-is 𝓤 H A (Relend.msptr (Referent.rtF (Referent.fInt Syntax.w16))
               (Syntax.tyRef Syntax.erased Syntax.mut (Syntax.tyInt Syntax.w16)) 10)) (Reads'.room-gone 𝓤 H A (Syntax.tyStruct (List._∷_ 38 (List._∷_ 91 (List._∷_ 93 List.[]))) (Syntax.tcons (Syntax.tyRef
-              Syntax.erased Syntax.mut (Syntax.tyInt Syntax.w16)) (Syntax.tcons (Syntax.tyInt Syntax.w64) Syntax.tnil)))) ( Relend.reads-owed-len 𝓤 H A W (Referent.rtF (Referent.fInt Syntax.w16))
-              (Syntax.tyRef (Syntax.named 2) Syntax.mut (Syntax.tyInt Syntax.w16)) 2 10 (Row.lease (κs .1 .1 .0) (qs .1 .1 .0)) 8 Path'.refl, Path'.refl, ) Path'.refl Path'.refl λ b o k. tt) d67
+              Syntax.erased Syntax.mut (Syntax.tyInt Syntax.w16)) (Syntax.tcons (Syntax.tyInt Syntax.w64) Syntax.tnil)))) (
+                Relend.reads-owed-len 𝓤 H A W (Referent.rtF (Referent.fInt Syntax.w16))
+                    (Syntax.tyRef (Syntax.named 2) Syntax.mut (Syntax.tyInt Syntax.w16)) 2 10 (Row.lease (κs .1 .1 .0) (qs .1 .1 .0)) 8 Path'.refl,
+                Path'.refl,
+              ) Path'.refl Path'.refl λ b o k. tt) d67
 
           d69 : Typed.Typed 𝓤 H A 𝓣 E G61 b64 Δ3 (at69 bs)
           d69 = Typed.s-seq 𝓤 H A W 𝓣 E G61 G62 b26 b63 Δ3 (Typed.give (s58 bs)) (at68 bs) (Relend.t-sl-relend 𝓤 H A W E (Referent.rtF (Referent.fInt Syntax.w16)) 𝓣 G61 3 33 2 10 (Syntax.tyRef
@@ -4121,9 +7254,106 @@ module _ (claims· : Claims) where
               Syntax.mut (Syntax.tyInt Syntax.w16))) Path'.refl tt Path'.refl Path'.refl Path'.refl λ b o. tt) d68
 
           d70 : Typed.Typed 𝓤 H A 𝓣 E G60 b64 Δ3 (at70 bs)
-          d70 = Typed.g-pre 𝓤 H A W 𝓣 E G60 G61 b64 Δ3 (λ Ψ. Ψ) (at69 bs) (Lifetime.g-begin 𝓤 H A W E G60 10 ( tt, ( tt, ( tt, ( tt, ( tt, ( tt, ( tt, ( tt, ( tt, ( tt, ( tt, ( tt, ( tt, ( tt, ( tt, (
-              tt, ( tt, ( tt, ( tt, ( tt, ( tt, ( tt, ( tt, ( tt, ( tt, ( tt, ( tt, ( tt, ( tt, ( tt, ( tt, ( tt, ( tt, ( tt, ( tt, ( tt, ( tt, ( tt, ( tt, ( tt, ( tt, ( tt, tt, ), ), ), ), ), ), ), ), ),
-              ), ), ), ), ), ), ), ), ), ), ), ), ), ), ), ), ), ), ), ), ), ), ), ), ), ), ), ), ), ), ), ), )) d69
+          d70 = Typed.g-pre 𝓤 H A W 𝓣 E G60 G61 b64 Δ3 (λ Ψ. Ψ) (at69 bs) (Lifetime.g-begin 𝓤 H A W E G60 10 (
+            tt,
+            (
+              tt,
+              (
+                tt,
+                (
+                  tt,
+                  (
+                    tt,
+                    (
+                      tt,
+                      (
+                        tt,
+                        (
+                          tt,
+                          (
+                            tt,
+                            (
+                              tt,
+                              (
+                                tt,
+                                (
+                                  tt,
+                                  (
+                                    tt,
+                                    (
+                                      tt,
+                                      (
+                                        tt,
+                                        (
+                                          tt,
+                                          (
+                                            tt,
+                                            (
+                                              tt,
+                                              (
+                                                tt,
+                                                (
+                                                  tt,
+                                                  (
+                                                    tt,
+                                                    (
+                                                      tt,
+                                                      (
+                                                        tt,
+                                                        (
+                                                          tt,
+                                                          (
+                                                            tt,
+                                                            (
+                                                              tt,
+                                                              (
+                                                                tt,
+                                                                (
+                                                                  tt,
+                                                                  (
+                                                                    tt,
+                                                                    (
+                                                                      tt,
+                                                                      (
+                                                                        tt,
+                                                                        (
+                                                                          tt,
+                                                                          (
+                                                                            tt,
+                                                                            (tt, (tt, (tt, (tt, (tt, (tt, (tt, (tt, (tt, tt))))))))),
+                                                                          ),
+                                                                        ),
+                                                                      ),
+                                                                    ),
+                                                                  ),
+                                                                ),
+                                                              ),
+                                                            ),
+                                                          ),
+                                                        ),
+                                                      ),
+                                                    ),
+                                                  ),
+                                                ),
+                                              ),
+                                            ),
+                                          ),
+                                        ),
+                                      ),
+                                    ),
+                                  ),
+                                ),
+                              ),
+                            ),
+                          ),
+                        ),
+                      ),
+                    ),
+                  ),
+                ),
+              ),
+            ),
+          )) d69
 
           d71 : Typed.Typed 𝓤 H A 𝓣 E G59 b64 Δ3 (at71 bs)
           d71 = Typed.g-pre 𝓤 H A W 𝓣 E G59 G60 b64 Δ3 (λ Ψ. Ψ) (at70 bs) (Lifetime.g-forget 𝓤 H A W E G59 9 Row.dead Path'.refl) d70
@@ -4145,24 +7375,44 @@ module _ (claims· : Claims) where
 
           d76 : Typed.Typed 𝓤 H A 𝓣 E G54 b65 Δ3 (at76 bs)
           d76 = Typed.s-seq 𝓤 H A W 𝓣 E G54 G55 b25 b64 Δ3 (Typed.both (s51 bs)) (at75 bs) (Plain.t-call-plain 𝓤 H A W 𝓣 1 ps·6 r·6 (claims· .12) (claims· .13) "block::restart" (known .6) E (λ pos β.
-              β) G54 ( record { pos = 32; ty = Syntax.tyRef Syntax.erased Syntax.mut Element.behind; ref = λ x. x; }, (Num.vAt 11 λ x. x, (Num.vAt 18 λ x. x, (Bool.bAt 27 λ x. x, tt))), ) 28 (List._∷_ 9
-              List.[]) (Call.sub-id 𝓤 H A W (G54 .slots)) ( Reads'.as-is 𝓤 H A (Mut.mslice (Element.type) (Syntax.tyRef Syntax.erased Syntax.mut Element.behind) 9), Mut.reads-mslice 𝓤 H A W (Element.type)
-              (Syntax.tyRef Syntax.erased Syntax.mut Element.behind) 9, Path'.refl, ( (Scalar.reads-sc 𝓤 H A W (Row.sInt Syntax.w32), Path'.refl), ( (Scalar.reads-sc 𝓤 H A W (Row.sInt Syntax.w32),
-              Path'.refl), ((Scalar.reads-sc 𝓤 H A W Row.sBool, Path'.refl), tt), ), ), ) (Reads'.room-gone 𝓤 H A Syntax.tyUnit) (tt, tt) Path'.refl) d75
+              β) G54 (record { pos = 32; ty = Syntax.tyRef Syntax.erased Syntax.mut Element.behind; ref = λ x. x }, (Num.vAt 11 λ x. x, (Num.vAt 18 λ x. x, (Bool.bAt 27 λ x. x, tt)))) 28 (List._∷_ 9
+              List.[]) (Call.sub-id 𝓤 H A W (G54 .slots)) (
+                Reads'.as-is 𝓤 H A (Mut.mslice (Element.type) (Syntax.tyRef Syntax.erased Syntax.mut Element.behind) 9),
+                Mut.reads-mslice 𝓤 H A W (Element.type)
+                    (Syntax.tyRef Syntax.erased Syntax.mut Element.behind) 9,
+                Path'.refl,
+                (
+                  (Scalar.reads-sc 𝓤 H A W (Row.sInt Syntax.w32), Path'.refl),
+                  (
+                    (
+                      Scalar.reads-sc 𝓤 H A W (Row.sInt Syntax.w32),
+                      Path'.refl,
+                    ),
+                    ((Scalar.reads-sc 𝓤 H A W Row.sBool, Path'.refl), tt),
+                  ),
+                ),
+              ) (Reads'.room-gone 𝓤 H A Syntax.tyUnit) (tt, tt) Path'.refl) d75
 
           d77 : Typed.Typed 𝓤 H A 𝓣 E G53 b66 Δ3 (at77 bs)
           d77 = Typed.s-seq 𝓤 H A W 𝓣 E G53 G54 b24 b65 Δ3 (Typed.both (s50 bs)) (at76 bs) (Plain.t-call-plain 𝓤 H A W 𝓣 1 ps·5 r·5 (claims· .10) (claims· .11) "block::is_restarted" (known .5) E (λ
-              pos β. β) G53 ( record { pos = 2; ty = Syntax.tyRef (Syntax.named 1) Syntax.imm (Syntax.tyInt Syntax.w8); ref = λ x. x; }, (Num.vAt 17 λ x. x, tt), ) 27 (List._∷_ 1 List.[]) (Call.sub-id 𝓤 H
-              A W (G53 .slots)) ( ShrSlice.spares-sslice 𝓤 H A W (Referent.rtF (Referent.fInt Syntax.w8)) (Syntax.tyRef (Syntax.named 1) Syntax.imm (Syntax.tyInt Syntax.w8)) 1, Shared.reads-sslice 𝓤 H A W
-              (Referent.rtF (Referent.fInt Syntax.w8)) (Syntax.tyRef (Syntax.named 1) Syntax.imm (Syntax.tyInt Syntax.w8)) 1, Path'.refl, ((Scalar.reads-sc 𝓤 H A W (Row.sInt Syntax.w64), Path'.refl), tt),
+              pos β. β) G53 (record { pos = 2; ty = Syntax.tyRef (Syntax.named 1) Syntax.imm (Syntax.tyInt Syntax.w8); ref = λ x. x }, (Num.vAt 17 λ x. x, tt)) 27 (List._∷_ 1 List.[]) (Call.sub-id 𝓤 H
+              A W (G53 .slots)) (
+                ShrSlice.spares-sslice 𝓤 H A W (Referent.rtF (Referent.fInt Syntax.w8)) (Syntax.tyRef (Syntax.named 1) Syntax.imm (Syntax.tyInt Syntax.w8)) 1,
+                Shared.reads-sslice 𝓤 H A W
+                    (Referent.rtF (Referent.fInt Syntax.w8)) (Syntax.tyRef (Syntax.named 1) Syntax.imm (Syntax.tyInt Syntax.w8)) 1,
+                Path'.refl,
+                ((Scalar.reads-sc 𝓤 H A W (Row.sInt Syntax.w64), Path'.refl), tt),
               ) (Reads'.room-gone 𝓤 H A Syntax.tyBool) (tt, tt) Path'.refl) d76
 
           d78 : Typed.Typed 𝓤 H A 𝓣 E G52 b67 Δ3 (at78 bs)
           d78 = Typed.s-seq 𝓤 H A W 𝓣 E G52 G53 b23 b66 Δ3 (Typed.ask (s49 bs)) (at77 bs) (Relend.t-sl-aggregate 𝓤 H A W E (Element.type) 𝓣 (Relend.asMut (Element.type)) G52 31 32 9 (Syntax.tyRef
               Syntax.erased Syntax.mut Element.behind) (Syntax.tyRef Syntax.erased Syntax.mut Element.behind) (λ x. x) (Scalar.oFld 4 (List._∷_ (Syntax.field 1) List.[]) (Syntax.tyInt Syntax.w64) 8 λ v.
               Shared.lenV (v .0)) (Reads'.as-is 𝓤 H A (Relend.msptr (Element.type) (Syntax.tyRef Syntax.erased Syntax.mut Element.behind) 9)) (Reads'.room-gone 𝓤 H A (Syntax.tyStruct (List._∷_ 38
-              (List._∷_ 91 (List._∷_ 93 List.[]))) (Syntax.tcons (Syntax.tyRef Syntax.erased Syntax.mut Element.behind) (Syntax.tcons (Syntax.tyInt Syntax.w64) Syntax.tnil)))) ( Relend.reads-owed-len 𝓤 H
-              A W (Element.type) (Syntax.tyRef (Syntax.named 3) Syntax.mut Element.behind) 3 9 (Row.lease (κs .1 .1 .1 .0) (qs .1 .1 .1 .0)) 8 Path'.refl, Path'.refl, ) Path'.refl Path'.refl λ b o k. tt)
+              (List._∷_ 91 (List._∷_ 93 List.[]))) (Syntax.tcons (Syntax.tyRef Syntax.erased Syntax.mut Element.behind) (Syntax.tcons (Syntax.tyInt Syntax.w64) Syntax.tnil)))) (
+                Relend.reads-owed-len 𝓤 H
+                    A W (Element.type) (Syntax.tyRef (Syntax.named 3) Syntax.mut Element.behind) 3 9 (Row.lease (κs .1 .1 .1 .0) (qs .1 .1 .1 .0)) 8 Path'.refl,
+                Path'.refl,
+              ) Path'.refl Path'.refl λ b o k. tt)
               d77
 
           d79 : Typed.Typed 𝓤 H A 𝓣 E G51 b68 Δ3 (at79 bs)
@@ -4171,15 +7421,116 @@ module _ (claims· : Claims) where
               (Syntax.named 3) Syntax.mut Element.behind) 3)) (Reads'.room-gone 𝓤 H A (Syntax.tyRef Syntax.erased Syntax.mut Element.behind)) Path'.refl tt Path'.refl Path'.refl Path'.refl λ b o. tt) d78
 
           d80 : Typed.Typed 𝓤 H A 𝓣 E G50 b68 Δ3 (at80 bs)
-          d80 = Typed.g-pre 𝓤 H A W 𝓣 E G50 G51 b68 Δ3 (λ Ψ. Ψ) (at79 bs) (Lifetime.g-begin 𝓤 H A W E G50 9 ( tt, ( tt, ( tt, ( tt, ( tt, ( tt, ( tt, ( tt, ( tt, ( tt, ( tt, ( tt, ( tt, ( tt, ( tt, (
-              tt, ( tt, ( tt, ( tt, ( tt, ( tt, ( tt, ( tt, ( tt, ( tt, ( tt, ( tt, ( tt, ( tt, ( tt, ( tt, ( tt, ( tt, ( tt, ( tt, ( tt, ( tt, ( tt, ( tt, ( tt, ( tt, ( tt, tt, ), ), ), ), ), ), ), ), ),
-              ), ), ), ), ), ), ), ), ), ), ), ), ), ), ), ), ), ), ), ), ), ), ), ), ), ), ), ), ), ), ), ), )) d79
+          d80 = Typed.g-pre 𝓤 H A W 𝓣 E G50 G51 b68 Δ3 (λ Ψ. Ψ) (at79 bs) (Lifetime.g-begin 𝓤 H A W E G50 9 (
+            tt,
+            (
+              tt,
+              (
+                tt,
+                (
+                  tt,
+                  (
+                    tt,
+                    (
+                      tt,
+                      (
+                        tt,
+                        (
+                          tt,
+                          (
+                            tt,
+                            (
+                              tt,
+                              (
+                                tt,
+                                (
+                                  tt,
+                                  (
+                                    tt,
+                                    (
+                                      tt,
+                                      (
+                                        tt,
+                                        (
+                                          tt,
+                                          (
+                                            tt,
+                                            (
+                                              tt,
+                                              (
+                                                tt,
+                                                (
+                                                  tt,
+                                                  (
+                                                    tt,
+                                                    (
+                                                      tt,
+                                                      (
+                                                        tt,
+                                                        (
+                                                          tt,
+                                                          (
+                                                            tt,
+                                                            (
+                                                              tt,
+                                                              (
+                                                                tt,
+                                                                (
+                                                                  tt,
+                                                                  (
+                                                                    tt,
+                                                                    (
+                                                                      tt,
+                                                                      (
+                                                                        tt,
+                                                                        (
+                                                                          tt,
+                                                                          (
+                                                                            tt,
+                                                                            (tt, (tt, (tt, (tt, (tt, (tt, (tt, (tt, (tt, tt))))))))),
+                                                                          ),
+                                                                        ),
+                                                                      ),
+                                                                    ),
+                                                                  ),
+                                                                ),
+                                                              ),
+                                                            ),
+                                                          ),
+                                                        ),
+                                                      ),
+                                                    ),
+                                                  ),
+                                                ),
+                                              ),
+                                            ),
+                                          ),
+                                        ),
+                                      ),
+                                    ),
+                                  ),
+                                ),
+                              ),
+                            ),
+                          ),
+                        ),
+                      ),
+                    ),
+                  ),
+                ),
+              ),
+            ),
+          )) d79
 
           d81 : Typed.Typed 𝓤 H A 𝓣 E G49 b69 Δ3 (at81 bs)
           d81 = Typed.s-seq 𝓤 H A W 𝓣 E G49 G50 b21 b68 Δ3 (Typed.both (s46 bs)) (at80 bs) (Plain.t-call-plain 𝓤 H A W 𝓣 1 ps·2 r·2 (claims· .4) (claims· .5) "block::base_of" (known .2) E (λ pos β. β)
-              G49 ( record { pos = 2; ty = Syntax.tyRef (Syntax.named 1) Syntax.imm (Syntax.tyInt Syntax.w8); ref = λ x. x; }, (Num.vAt 17 λ x. x, tt), ) 18 (List._∷_ 1 List.[]) (Call.sub-id 𝓤 H A W (G49
-              .slots)) ( ShrSlice.spares-sslice 𝓤 H A W (Referent.rtF (Referent.fInt Syntax.w8)) (Syntax.tyRef (Syntax.named 1) Syntax.imm (Syntax.tyInt Syntax.w8)) 1, Shared.reads-sslice 𝓤 H A W
-              (Referent.rtF (Referent.fInt Syntax.w8)) (Syntax.tyRef (Syntax.named 1) Syntax.imm (Syntax.tyInt Syntax.w8)) 1, Path'.refl, ((Scalar.reads-sc 𝓤 H A W (Row.sInt Syntax.w64), Path'.refl), tt),
+              G49 (record { pos = 2; ty = Syntax.tyRef (Syntax.named 1) Syntax.imm (Syntax.tyInt Syntax.w8); ref = λ x. x }, (Num.vAt 17 λ x. x, tt)) 18 (List._∷_ 1 List.[]) (Call.sub-id 𝓤 H A W (G49
+              .slots)) (
+                ShrSlice.spares-sslice 𝓤 H A W (Referent.rtF (Referent.fInt Syntax.w8)) (Syntax.tyRef (Syntax.named 1) Syntax.imm (Syntax.tyInt Syntax.w8)) 1,
+                Shared.reads-sslice 𝓤 H A W
+                    (Referent.rtF (Referent.fInt Syntax.w8)) (Syntax.tyRef (Syntax.named 1) Syntax.imm (Syntax.tyInt Syntax.w8)) 1,
+                Path'.refl,
+                ((Scalar.reads-sc 𝓤 H A W (Row.sInt Syntax.w64), Path'.refl), tt),
               ) (Reads'.room-gone 𝓤 H A (Syntax.tyInt Syntax.w32)) (tt, tt) Path'.refl) d80
 
           d82 : Typed.Typed 𝓤 H A 𝓣 E G48 b69 Δ3 (at82 bs)
@@ -4204,9 +7555,13 @@ module _ (claims· : Claims) where
 
           d87 : Typed.Typed 𝓤 H A 𝓣 E G43 b70 Δ3 (at87 bs)
           d87 = Typed.s-seq 𝓤 H A W 𝓣 E G43 G44 b20 b69 Δ3 (Typed.both (s40 bs)) (at86 bs) (Plain.t-call-plain 𝓤 H A W 𝓣 1 ps·4 r·4 (claims· .8) (claims· .9) "lines::turn" (known .4) E (λ pos β. β)
-              G43 ( record { pos = 30; ty = Syntax.tyRef Syntax.erased Syntax.mut (Syntax.tyInt Syntax.w16); ref = λ x. x; }, (Num.vAt 13 λ x. x, tt), ) 28 (List._∷_ 8 List.[]) (Call.sub-id 𝓤 H A W (G43
-              .slots)) ( Reads'.as-is 𝓤 H A (Mut.mslice (Referent.rtF (Referent.fInt Syntax.w16)) (Syntax.tyRef Syntax.erased Syntax.mut (Syntax.tyInt Syntax.w16)) 8), Mut.reads-mslice 𝓤 H A W
-              (Referent.rtF (Referent.fInt Syntax.w16)) (Syntax.tyRef Syntax.erased Syntax.mut (Syntax.tyInt Syntax.w16)) 8, Path'.refl, ((Scalar.reads-sc 𝓤 H A W (Row.sInt Syntax.w64), Path'.refl), tt),
+              G43 (record { pos = 30; ty = Syntax.tyRef Syntax.erased Syntax.mut (Syntax.tyInt Syntax.w16); ref = λ x. x }, (Num.vAt 13 λ x. x, tt)) 28 (List._∷_ 8 List.[]) (Call.sub-id 𝓤 H A W (G43
+              .slots)) (
+                Reads'.as-is 𝓤 H A (Mut.mslice (Referent.rtF (Referent.fInt Syntax.w16)) (Syntax.tyRef Syntax.erased Syntax.mut (Syntax.tyInt Syntax.w16)) 8),
+                Mut.reads-mslice 𝓤 H A W
+                    (Referent.rtF (Referent.fInt Syntax.w16)) (Syntax.tyRef Syntax.erased Syntax.mut (Syntax.tyInt Syntax.w16)) 8,
+                Path'.refl,
+                ((Scalar.reads-sc 𝓤 H A W (Row.sInt Syntax.w64), Path'.refl), tt),
               ) (Reads'.room-gone 𝓤 H A Syntax.tyUnit) (tt, tt) Path'.refl) d86
 
           d88 : Typed.Typed 𝓤 H A 𝓣 E G42 b71 Δ3 (at88 bs)
@@ -4214,8 +7569,11 @@ module _ (claims· : Claims) where
               (Referent.fInt Syntax.w16))) G42 29 30 8 (Syntax.tyRef Syntax.erased Syntax.mut (Syntax.tyInt Syntax.w16)) (Syntax.tyRef Syntax.erased Syntax.mut (Syntax.tyInt Syntax.w16)) (λ x. x)
               (Scalar.oFld 3 (List._∷_ (Syntax.field 1) List.[]) (Syntax.tyInt Syntax.w64) 8 λ v. Shared.lenV (v .0)) (Reads'.as-is 𝓤 H A (Relend.msptr (Referent.rtF (Referent.fInt Syntax.w16))
               (Syntax.tyRef Syntax.erased Syntax.mut (Syntax.tyInt Syntax.w16)) 8)) (Reads'.room-gone 𝓤 H A (Syntax.tyStruct (List._∷_ 38 (List._∷_ 91 (List._∷_ 93 List.[]))) (Syntax.tcons (Syntax.tyRef
-              Syntax.erased Syntax.mut (Syntax.tyInt Syntax.w16)) (Syntax.tcons (Syntax.tyInt Syntax.w64) Syntax.tnil)))) ( Relend.reads-owed-len 𝓤 H A W (Referent.rtF (Referent.fInt Syntax.w16))
-              (Syntax.tyRef (Syntax.named 2) Syntax.mut (Syntax.tyInt Syntax.w16)) 2 8 (Row.lease (κs .1 .1 .0) (qs .1 .1 .0)) 8 Path'.refl, Path'.refl, ) Path'.refl Path'.refl λ b o k. tt) d87
+              Syntax.erased Syntax.mut (Syntax.tyInt Syntax.w16)) (Syntax.tcons (Syntax.tyInt Syntax.w64) Syntax.tnil)))) (
+                Relend.reads-owed-len 𝓤 H A W (Referent.rtF (Referent.fInt Syntax.w16))
+                    (Syntax.tyRef (Syntax.named 2) Syntax.mut (Syntax.tyInt Syntax.w16)) 2 8 (Row.lease (κs .1 .1 .0) (qs .1 .1 .0)) 8 Path'.refl,
+                Path'.refl,
+              ) Path'.refl Path'.refl λ b o k. tt) d87
 
           d89 : Typed.Typed 𝓤 H A 𝓣 E G41 b72 Δ3 (at89 bs)
           d89 = Typed.s-seq 𝓤 H A W 𝓣 E G41 G42 b18 b71 Δ3 (Typed.give (s38 bs)) (at88 bs) (Relend.t-sl-relend 𝓤 H A W E (Referent.rtF (Referent.fInt Syntax.w16)) 𝓣 G41 3 29 2 8 (Syntax.tyRef
@@ -4224,9 +7582,106 @@ module _ (claims· : Claims) where
               Syntax.mut (Syntax.tyInt Syntax.w16))) Path'.refl tt Path'.refl Path'.refl Path'.refl λ b o. tt) d88
 
           d90 : Typed.Typed 𝓤 H A 𝓣 E G35 b72 Δ3 (at90 bs)
-          d90 = Typed.g-pre 𝓤 H A W 𝓣 E G35 G41 b72 Δ3 (λ Ψ. Ψ) (at89 bs) (Lifetime.g-begin 𝓤 H A W E G35 8 ( tt, ( tt, ( tt, ( tt, ( tt, ( tt, ( tt, ( tt, ( tt, ( tt, ( tt, ( tt, ( tt, ( tt, ( tt, (
-              tt, ( tt, ( tt, ( tt, ( tt, ( tt, ( tt, ( tt, ( tt, ( tt, ( tt, ( tt, ( tt, ( tt, ( tt, ( tt, ( tt, ( tt, ( tt, ( tt, ( tt, ( tt, ( tt, ( tt, ( tt, ( tt, ( tt, tt, ), ), ), ), ), ), ), ), ),
-              ), ), ), ), ), ), ), ), ), ), ), ), ), ), ), ), ), ), ), ), ), ), ), ), ), ), ), ), ), ), ), ), )) d89
+          d90 = Typed.g-pre 𝓤 H A W 𝓣 E G35 G41 b72 Δ3 (λ Ψ. Ψ) (at89 bs) (Lifetime.g-begin 𝓤 H A W E G35 8 (
+            tt,
+            (
+              tt,
+              (
+                tt,
+                (
+                  tt,
+                  (
+                    tt,
+                    (
+                      tt,
+                      (
+                        tt,
+                        (
+                          tt,
+                          (
+                            tt,
+                            (
+                              tt,
+                              (
+                                tt,
+                                (
+                                  tt,
+                                  (
+                                    tt,
+                                    (
+                                      tt,
+                                      (
+                                        tt,
+                                        (
+                                          tt,
+                                          (
+                                            tt,
+                                            (
+                                              tt,
+                                              (
+                                                tt,
+                                                (
+                                                  tt,
+                                                  (
+                                                    tt,
+                                                    (
+                                                      tt,
+                                                      (
+                                                        tt,
+                                                        (
+                                                          tt,
+                                                          (
+                                                            tt,
+                                                            (
+                                                              tt,
+                                                              (
+                                                                tt,
+                                                                (
+                                                                  tt,
+                                                                  (
+                                                                    tt,
+                                                                    (
+                                                                      tt,
+                                                                      (
+                                                                        tt,
+                                                                        (
+                                                                          tt,
+                                                                          (
+                                                                            tt,
+                                                                            (tt, (tt, (tt, (tt, (tt, (tt, (tt, (tt, (tt, tt))))))))),
+                                                                          ),
+                                                                        ),
+                                                                      ),
+                                                                    ),
+                                                                  ),
+                                                                ),
+                                                              ),
+                                                            ),
+                                                          ),
+                                                        ),
+                                                      ),
+                                                    ),
+                                                  ),
+                                                ),
+                                              ),
+                                            ),
+                                          ),
+                                        ),
+                                      ),
+                                    ),
+                                  ),
+                                ),
+                              ),
+                            ),
+                          ),
+                        ),
+                      ),
+                    ),
+                  ),
+                ),
+              ),
+            ),
+          )) d89
 
           d91 : Typed.Typed 𝓤 H A 𝓣 E G34 b73 Δ3 (at91 bs)
           d91 = Typed.t-seq 𝓤 H A W 𝓣 E G34 G35 b17 b72 Δ3 (at7 bs) (at90 bs) d7 d90
@@ -4299,15 +7754,49 @@ module _ (claims· : Claims) where
               G32 0 (List._∷_ (Scalar.oBool Bool'.true) (List._∷_ (Scalar.oAt 10 (Syntax.tyInt Syntax.w64) (Row.valS (Row.sInt Syntax.w64))) (List._∷_ (Scalar.oAt 14 (Syntax.tyStruct (List._∷_ 98
               (List._∷_ 105 (List._∷_ 116 (List._∷_ 115 (List._∷_ 58 (List._∷_ 58 (List._∷_ 66 (List._∷_ 105 (List._∷_ 116 (List._∷_ 80 (List._∷_ 111 (List._∷_ 115 (List._∷_ 105 (List._∷_ 116 (List._∷_
               105 (List._∷_ 111 (List._∷_ 110 List.[]))))))))))))))))) (Syntax.tcons (Syntax.tyInt Syntax.w64) Syntax.tnil)) (Laws'6.val BitPosition.the-type Laws.the-laws)) (List._∷_ (Scalar.oAt 16
-              (Syntax.tyInt Syntax.w64) (Row.valS (Row.sInt Syntax.w64))) List.[])))) (λ m. ( Bool'.true, ( m .1 .1 .1 .1 .1 .1 .1 .1 .1 .1 .0, ( m .1 .1 .1 .1 .1 .1 .1 .1 .1 .1 .1 .1 .1 .1 .0, (m .1 .1
-              .1 .1 .1 .1 .1 .1 .1 .1 .1 .1 .1 .1 .1 .1 .0, tt), ), ), )) (Reads'.room-gone 𝓤 H A (Syntax.tyStruct (List._∷_ 98 (List._∷_ 108 (List._∷_ 111 (List._∷_ 99 (List._∷_ 107 (List._∷_ 58
+              (Syntax.tyInt Syntax.w64) (Row.valS (Row.sInt Syntax.w64))) List.[])))) (λ m. (
+                Bool'.true,
+                (
+                  m .1 .1 .1 .1 .1 .1 .1 .1 .1 .1 .0,
+                  (
+                    m .1 .1 .1 .1 .1 .1 .1 .1 .1 .1 .1 .1 .1 .1 .0,
+                    (
+                      m .1 .1
+                          .1 .1 .1 .1 .1 .1 .1 .1 .1 .1 .1 .1 .1 .1 .0,
+                      tt,
+                    ),
+                  ),
+                ),
+              )) (Reads'.room-gone 𝓤 H A (Syntax.tyStruct (List._∷_ 98 (List._∷_ 108 (List._∷_ 111 (List._∷_ 99 (List._∷_ 107 (List._∷_ 58
               (List._∷_ 58 (List._∷_ 87 (List._∷_ 97 (List._∷_ 108 (List._∷_ 107 (List._∷_ 101 (List._∷_ 100 List.[]))))))))))))) (Syntax.tcons Syntax.tyBool (Syntax.tcons (Syntax.tyInt Syntax.w64)
               (Syntax.tcons (Syntax.tyStruct (List._∷_ 98 (List._∷_ 105 (List._∷_ 116 (List._∷_ 115 (List._∷_ 58 (List._∷_ 58 (List._∷_ 66 (List._∷_ 105 (List._∷_ 116 (List._∷_ 80 (List._∷_ 111 (List._∷_
               115 (List._∷_ 105 (List._∷_ 116 (List._∷_ 105 (List._∷_ 111 (List._∷_ 110 List.[]))))))))))))))))) (Syntax.tcons (Syntax.tyInt Syntax.w64) Syntax.tnil)) (Syntax.tcons (Syntax.tyInt
-              Syntax.w64) Syntax.tnil)))))) ( tt, ( (Scalar.reads-sc 𝓤 H A W (Row.sInt Syntax.w64), Path'.refl), ( (Reads.reads-struct 𝓤 H A W BitPosition.the-type Laws.the-laws, Path'.refl),
-              ((Scalar.reads-sc 𝓤 H A W (Row.sInt Syntax.w64), Path'.refl), tt), ), ), ) Path'.refl (λ u. Path'.refl) λ m. Make.is-wt (Apart.apartT Walked.the-type) Laws'3.the-laws ( Make.bool-wt, (
-              Make.u64-wt, ( Make.struct-wt BitPosition.the-type Laws.the-laws (Make.u64-wt, tt), (Make.u64-wt, tt), ), ), ) ( Bool'.true, ( m .1 .1 .1 .1 .1 .1 .1 .1 .1 .1 .0, ( m .1 .1 .1 .1 .1 .1 .1 .1
-              .1 .1 .1 .1 .1 .1 .0, (m .1 .1 .1 .1 .1 .1 .1 .1 .1 .1 .1 .1 .1 .1 .1 .1 .0, tt), ), ), )) d105
+              Syntax.w64) Syntax.tnil)))))) (
+                tt,
+                (
+                  (Scalar.reads-sc 𝓤 H A W (Row.sInt Syntax.w64), Path'.refl),
+                  (
+                    (Reads.reads-struct 𝓤 H A W BitPosition.the-type Laws.the-laws, Path'.refl),
+                    ((Scalar.reads-sc 𝓤 H A W (Row.sInt Syntax.w64), Path'.refl), tt),
+                  ),
+                ),
+              ) Path'.refl (λ u. Path'.refl) λ m. Make.is-wt (Apart.apartT Walked.the-type) Laws'3.the-laws (
+                Make.bool-wt,
+                (
+                  Make.u64-wt,
+                  (Make.struct-wt BitPosition.the-type Laws.the-laws (Make.u64-wt, tt), (Make.u64-wt, tt)),
+                ),
+              ) (
+                Bool'.true,
+                (
+                  m .1 .1 .1 .1 .1 .1 .1 .1 .1 .1 .0,
+                  (
+                    m .1 .1 .1 .1 .1 .1 .1 .1
+                        .1 .1 .1 .1 .1 .1 .0,
+                    (m .1 .1 .1 .1 .1 .1 .1 .1 .1 .1 .1 .1 .1 .1 .1 .1 .0, tt),
+                  ),
+                ),
+              )) d105
 
           d107 : Typed.Typed 𝓤 H A 𝓣 E G31 b80 Δ0 (at107 bs)
           d107 = Typed.t-seq 𝓤 H A W 𝓣 E G31 G32 b76 b79 Δ0 (at95 bs) (at106 bs) d95 d106
@@ -4353,24 +7842,45 @@ module _ (claims· : Claims) where
 
           d117 : Typed.Typed 𝓤 H A 𝓣 E G21 b85 Δ0 (at117 bs)
           d117 = Typed.s-seq 𝓤 H A W 𝓣 E G21 G22 b9 b84 Δ0 (Typed.both (s20 bs)) (at116 bs) (Plain.t-call-plain 𝓤 H A W 𝓣 1 ps·3 r·3 (claims· .6) (claims· .7) "block::start_records" (known .3) E (λ
-              pos β. β) G21 ( record { pos = 25; ty = Syntax.tyRef Syntax.erased Syntax.mut Element.behind; ref = λ x. x; }, (Num.vAt 11 λ x. x, (Num.vAt 26 λ x. x, tt)), ) 21 (List._∷_ 7 List.[])
-              (Call.sub-id 𝓤 H A W (G21 .slots)) ( Reads'.as-is 𝓤 H A (Mut.mslice (Element.type) (Syntax.tyRef Syntax.erased Syntax.mut Element.behind) 7), Mut.reads-mslice 𝓤 H A W (Element.type)
-              (Syntax.tyRef Syntax.erased Syntax.mut Element.behind) 7, Path'.refl, ( (Scalar.reads-sc 𝓤 H A W (Row.sInt Syntax.w32), Path'.refl), ((Scalar.reads-sc 𝓤 H A W (Row.sInt Syntax.w32),
-              Path'.refl), tt), ), ) (Reads'.room-gone 𝓤 H A Syntax.tyUnit) (tt, tt) Path'.refl) d116
+              pos β. β) G21 (record { pos = 25; ty = Syntax.tyRef Syntax.erased Syntax.mut Element.behind; ref = λ x. x }, (Num.vAt 11 λ x. x, (Num.vAt 26 λ x. x, tt))) 21 (List._∷_ 7 List.[])
+              (Call.sub-id 𝓤 H A W (G21 .slots)) (
+                Reads'.as-is 𝓤 H A (Mut.mslice (Element.type) (Syntax.tyRef Syntax.erased Syntax.mut Element.behind) 7),
+                Mut.reads-mslice 𝓤 H A W (Element.type)
+                    (Syntax.tyRef Syntax.erased Syntax.mut Element.behind) 7,
+                Path'.refl,
+                (
+                  (Scalar.reads-sc 𝓤 H A W (Row.sInt Syntax.w32), Path'.refl),
+                  (
+                    (
+                      Scalar.reads-sc 𝓤 H A W (Row.sInt Syntax.w32),
+                      Path'.refl,
+                    ),
+                    tt,
+                  ),
+                ),
+              ) (Reads'.room-gone 𝓤 H A Syntax.tyUnit) (tt, tt) Path'.refl) d116
 
           d118 : Typed.Typed 𝓤 H A 𝓣 E G20 b86 Δ0 (at118 bs)
           d118 = Typed.s-seq 𝓤 H A W 𝓣 E G20 G21 b8 b85 Δ0 (Typed.both (s19 bs)) (at117 bs) (Plain.t-call-plain 𝓤 H A W 𝓣 1 ps·2 r·2 (claims· .4) (claims· .5) "block::base_of" (known .2) E (λ pos β.
-              β) G20 ( record { pos = 2; ty = Syntax.tyRef (Syntax.named 1) Syntax.imm (Syntax.tyInt Syntax.w8); ref = λ x. x; }, (Num.vLit 0, tt), ) 26 (List._∷_ 1 List.[]) (Call.sub-id 𝓤 H A W (G20
-              .slots)) ( ShrSlice.spares-sslice 𝓤 H A W (Referent.rtF (Referent.fInt Syntax.w8)) (Syntax.tyRef (Syntax.named 1) Syntax.imm (Syntax.tyInt Syntax.w8)) 1, Shared.reads-sslice 𝓤 H A W
-              (Referent.rtF (Referent.fInt Syntax.w8)) (Syntax.tyRef (Syntax.named 1) Syntax.imm (Syntax.tyInt Syntax.w8)) 1, Path'.refl, (tt, tt), ) (Reads'.room-gone 𝓤 H A (Syntax.tyInt Syntax.w32))
+              β) G20 (record { pos = 2; ty = Syntax.tyRef (Syntax.named 1) Syntax.imm (Syntax.tyInt Syntax.w8); ref = λ x. x }, (Num.vLit 0, tt)) 26 (List._∷_ 1 List.[]) (Call.sub-id 𝓤 H A W (G20
+              .slots)) (
+                ShrSlice.spares-sslice 𝓤 H A W (Referent.rtF (Referent.fInt Syntax.w8)) (Syntax.tyRef (Syntax.named 1) Syntax.imm (Syntax.tyInt Syntax.w8)) 1,
+                Shared.reads-sslice 𝓤 H A W
+                    (Referent.rtF (Referent.fInt Syntax.w8)) (Syntax.tyRef (Syntax.named 1) Syntax.imm (Syntax.tyInt Syntax.w8)) 1,
+                Path'.refl,
+                (tt, tt),
+              ) (Reads'.room-gone 𝓤 H A (Syntax.tyInt Syntax.w32))
               (tt, tt) Path'.refl) d117
 
           d119 : Typed.Typed 𝓤 H A 𝓣 E G19 b87 Δ0 (at119 bs)
           d119 = Typed.s-seq 𝓤 H A W 𝓣 E G19 G20 b7 b86 Δ0 (Typed.ask (s18 bs)) (at118 bs) (Relend.t-sl-aggregate 𝓤 H A W E (Element.type) 𝓣 (Relend.asMut (Element.type)) G19 24 25 7 (Syntax.tyRef
               Syntax.erased Syntax.mut Element.behind) (Syntax.tyRef Syntax.erased Syntax.mut Element.behind) (λ x. x) (Scalar.oFld 4 (List._∷_ (Syntax.field 1) List.[]) (Syntax.tyInt Syntax.w64) 8 λ v.
               Shared.lenV (v .0)) (Reads'.as-is 𝓤 H A (Relend.msptr (Element.type) (Syntax.tyRef Syntax.erased Syntax.mut Element.behind) 7)) (Reads'.room-gone 𝓤 H A (Syntax.tyStruct (List._∷_ 38
-              (List._∷_ 91 (List._∷_ 93 List.[]))) (Syntax.tcons (Syntax.tyRef Syntax.erased Syntax.mut Element.behind) (Syntax.tcons (Syntax.tyInt Syntax.w64) Syntax.tnil)))) ( Relend.reads-owed-len 𝓤 H
-              A W (Element.type) (Syntax.tyRef (Syntax.named 3) Syntax.mut Element.behind) 3 7 (Row.lease (κs .1 .1 .1 .0) (qs .1 .1 .1 .0)) 8 Path'.refl, Path'.refl, ) Path'.refl Path'.refl λ b o k. tt)
+              (List._∷_ 91 (List._∷_ 93 List.[]))) (Syntax.tcons (Syntax.tyRef Syntax.erased Syntax.mut Element.behind) (Syntax.tcons (Syntax.tyInt Syntax.w64) Syntax.tnil)))) (
+                Relend.reads-owed-len 𝓤 H
+                    A W (Element.type) (Syntax.tyRef (Syntax.named 3) Syntax.mut Element.behind) 3 7 (Row.lease (κs .1 .1 .1 .0) (qs .1 .1 .1 .0)) 8 Path'.refl,
+                Path'.refl,
+              ) Path'.refl Path'.refl λ b o k. tt)
               d118
 
           d120 : Typed.Typed 𝓤 H A 𝓣 E G18 b88 Δ0 (at120 bs)
@@ -4379,9 +7889,109 @@ module _ (claims· : Claims) where
               (Syntax.named 3) Syntax.mut Element.behind) 3)) (Reads'.room-gone 𝓤 H A (Syntax.tyRef Syntax.erased Syntax.mut Element.behind)) Path'.refl tt Path'.refl Path'.refl Path'.refl λ b o. tt) d119
 
           d121 : Typed.Typed 𝓤 H A 𝓣 E G17 b88 Δ0 (at121 bs)
-          d121 = Typed.g-pre 𝓤 H A W 𝓣 E G17 G18 b88 Δ0 (λ Ψ. Ψ) (at120 bs) (Lifetime.g-begin 𝓤 H A W E G17 7 ( tt, ( tt, ( tt, ( tt, ( tt, ( tt, ( tt, ( tt, ( tt, ( tt, ( tt, ( tt, ( tt, ( tt, ( tt,
-              ( tt, ( tt, ( tt, ( tt, ( tt, ( tt, ( tt, ( tt, ( tt, ( tt, ( tt, ( tt, ( tt, ( tt, ( tt, ( tt, ( tt, ( tt, ( tt, ( tt, ( tt, ( tt, ( tt, ( tt, ( tt, ( tt, ( tt, tt, ), ), ), ), ), ), ), ),
-              ), ), ), ), ), ), ), ), ), ), ), ), ), ), ), ), ), ), ), ), ), ), ), ), ), ), ), ), ), ), ), ), ), )) d120
+          d121 = Typed.g-pre 𝓤 H A W 𝓣 E G17 G18 b88 Δ0 (λ Ψ. Ψ) (at120 bs) (Lifetime.g-begin 𝓤 H A W E G17 7 (
+            tt,
+            (
+              tt,
+              (
+                tt,
+                (
+                  tt,
+                  (
+                    tt,
+                    (
+                      tt,
+                      (
+                        tt,
+                        (
+                          tt,
+                          (
+                            tt,
+                            (
+                              tt,
+                              (
+                                tt,
+                                (
+                                  tt,
+                                  (
+                                    tt,
+                                    (
+                                      tt,
+                                      (
+                                        tt,
+                                        (
+                                          tt,
+                                          (
+                                            tt,
+                                            (
+                                              tt,
+                                              (
+                                                tt,
+                                                (
+                                                  tt,
+                                                  (
+                                                    tt,
+                                                    (
+                                                      tt,
+                                                      (
+                                                        tt,
+                                                        (
+                                                          tt,
+                                                          (
+                                                            tt,
+                                                            (
+                                                              tt,
+                                                              (
+                                                                tt,
+                                                                (
+                                                                  tt,
+                                                                  (
+                                                                    tt,
+                                                                    (
+                                                                      tt,
+                                                                      (
+                                                                        tt,
+                                                                        (
+                                                                          tt,
+                                                                          (
+                                                                            tt,
+                                                                            (
+                                                                              tt,
+                                                                              (tt, (tt, (tt, (tt, (tt, (tt, (tt, (tt, tt)))))))),
+                                                                            ),
+                                                                          ),
+                                                                        ),
+                                                                      ),
+                                                                    ),
+                                                                  ),
+                                                                ),
+                                                              ),
+                                                            ),
+                                                          ),
+                                                        ),
+                                                      ),
+                                                    ),
+                                                  ),
+                                                ),
+                                              ),
+                                            ),
+                                          ),
+                                        ),
+                                      ),
+                                    ),
+                                  ),
+                                ),
+                              ),
+                            ),
+                          ),
+                        ),
+                      ),
+                    ),
+                  ),
+                ),
+              ),
+            ),
+          )) d120
 
           d122 : Typed.Typed 𝓤 H A 𝓣 E G16 b88 Δ0 (at122 bs)
           d122 = Typed.g-pre 𝓤 H A W 𝓣 E G16 G17 b88 Δ0 (λ Ψ. Ψ) (at121 bs) (Lifetime.g-forget 𝓤 H A W E G16 6 Row.dead Path'.refl) d121
@@ -4405,17 +8015,24 @@ module _ (claims· : Claims) where
 
           d127 : Typed.Typed 𝓤 H A 𝓣 E G11 b89 Δ0 (at127 bs)
           d127 = Typed.s-seq 𝓤 H A W 𝓣 E G11 G12 b5 b88 Δ0 (Typed.both (s10 bs)) (at126 bs) (Plain.t-call-plain 𝓤 H A W 𝓣 1 ps·1 r·1 (claims· .2) (claims· .3) "lines::clear" (known .1) E (λ pos β. β)
-              G11 ( record { pos = 23; ty = Syntax.tyRef Syntax.erased Syntax.mut (Syntax.tyInt Syntax.w16); ref = λ x. x; }, tt, ) 21 (List._∷_ 6 List.[]) (Call.sub-id 𝓤 H A W (G11 .slots)) (
-              Reads'.as-is 𝓤 H A (Mut.mslice (Referent.rtF (Referent.fInt Syntax.w16)) (Syntax.tyRef Syntax.erased Syntax.mut (Syntax.tyInt Syntax.w16)) 6), Mut.reads-mslice 𝓤 H A W (Referent.rtF
-              (Referent.fInt Syntax.w16)) (Syntax.tyRef Syntax.erased Syntax.mut (Syntax.tyInt Syntax.w16)) 6, Path'.refl, tt, ) (Reads'.room-gone 𝓤 H A Syntax.tyUnit) (tt, tt) Path'.refl) d126
+              G11 (record { pos = 23; ty = Syntax.tyRef Syntax.erased Syntax.mut (Syntax.tyInt Syntax.w16); ref = λ x. x }, tt) 21 (List._∷_ 6 List.[]) (Call.sub-id 𝓤 H A W (G11 .slots)) (
+                Reads'.as-is 𝓤 H A (Mut.mslice (Referent.rtF (Referent.fInt Syntax.w16)) (Syntax.tyRef Syntax.erased Syntax.mut (Syntax.tyInt Syntax.w16)) 6),
+                Mut.reads-mslice 𝓤 H A W (Referent.rtF
+                    (Referent.fInt Syntax.w16)) (Syntax.tyRef Syntax.erased Syntax.mut (Syntax.tyInt Syntax.w16)) 6,
+                Path'.refl,
+                tt,
+              ) (Reads'.room-gone 𝓤 H A Syntax.tyUnit) (tt, tt) Path'.refl) d126
 
           d128 : Typed.Typed 𝓤 H A 𝓣 E G10 b90 Δ0 (at128 bs)
           d128 = Typed.s-seq 𝓤 H A W 𝓣 E G10 G11 b4 b89 Δ0 (Typed.ask (s9 bs)) (at127 bs) (Relend.t-sl-aggregate 𝓤 H A W E (Referent.rtF (Referent.fInt Syntax.w16)) 𝓣 (Relend.asMut (Referent.rtF
               (Referent.fInt Syntax.w16))) G10 22 23 6 (Syntax.tyRef Syntax.erased Syntax.mut (Syntax.tyInt Syntax.w16)) (Syntax.tyRef Syntax.erased Syntax.mut (Syntax.tyInt Syntax.w16)) (λ x. x)
               (Scalar.oFld 3 (List._∷_ (Syntax.field 1) List.[]) (Syntax.tyInt Syntax.w64) 8 λ v. Shared.lenV (v .0)) (Reads'.as-is 𝓤 H A (Relend.msptr (Referent.rtF (Referent.fInt Syntax.w16))
               (Syntax.tyRef Syntax.erased Syntax.mut (Syntax.tyInt Syntax.w16)) 6)) (Reads'.room-gone 𝓤 H A (Syntax.tyStruct (List._∷_ 38 (List._∷_ 91 (List._∷_ 93 List.[]))) (Syntax.tcons (Syntax.tyRef
-              Syntax.erased Syntax.mut (Syntax.tyInt Syntax.w16)) (Syntax.tcons (Syntax.tyInt Syntax.w64) Syntax.tnil)))) ( Relend.reads-owed-len 𝓤 H A W (Referent.rtF (Referent.fInt Syntax.w16))
-              (Syntax.tyRef (Syntax.named 2) Syntax.mut (Syntax.tyInt Syntax.w16)) 2 6 (Row.lease (κs .1 .1 .0) (qs .1 .1 .0)) 8 Path'.refl, Path'.refl, ) Path'.refl Path'.refl λ b o k. tt) d127
+              Syntax.erased Syntax.mut (Syntax.tyInt Syntax.w16)) (Syntax.tcons (Syntax.tyInt Syntax.w64) Syntax.tnil)))) (
+                Relend.reads-owed-len 𝓤 H A W (Referent.rtF (Referent.fInt Syntax.w16))
+                    (Syntax.tyRef (Syntax.named 2) Syntax.mut (Syntax.tyInt Syntax.w16)) 2 6 (Row.lease (κs .1 .1 .0) (qs .1 .1 .0)) 8 Path'.refl,
+                Path'.refl,
+              ) Path'.refl Path'.refl λ b o k. tt) d127
 
           d129 : Typed.Typed 𝓤 H A 𝓣 E G9 b91 Δ0 (at129 bs)
           d129 = Typed.s-seq 𝓤 H A W 𝓣 E G9 G10 b3 b90 Δ0 (Typed.give (s8 bs)) (at128 bs) (Relend.t-sl-relend 𝓤 H A W E (Referent.rtF (Referent.fInt Syntax.w16)) 𝓣 G9 3 22 2 6 (Syntax.tyRef
@@ -4424,9 +8041,106 @@ module _ (claims· : Claims) where
               Syntax.mut (Syntax.tyInt Syntax.w16))) Path'.refl tt Path'.refl Path'.refl Path'.refl λ b o. tt) d128
 
           d130 : Typed.Typed 𝓤 H A 𝓣 E G8 b91 Δ0 (at130 bs)
-          d130 = Typed.g-pre 𝓤 H A W 𝓣 E G8 G9 b91 Δ0 (λ Ψ. Ψ) (at129 bs) (Lifetime.g-begin 𝓤 H A W E G8 6 ( tt, ( tt, ( tt, ( tt, ( tt, ( tt, ( tt, ( tt, ( tt, ( tt, ( tt, ( tt, ( tt, ( tt, ( tt, (
-              tt, ( tt, ( tt, ( tt, ( tt, ( tt, ( tt, ( tt, ( tt, ( tt, ( tt, ( tt, ( tt, ( tt, ( tt, ( tt, ( tt, ( tt, ( tt, ( tt, ( tt, ( tt, ( tt, ( tt, ( tt, ( tt, ( tt, tt, ), ), ), ), ), ), ), ), ),
-              ), ), ), ), ), ), ), ), ), ), ), ), ), ), ), ), ), ), ), ), ), ), ), ), ), ), ), ), ), ), ), ), )) d129
+          d130 = Typed.g-pre 𝓤 H A W 𝓣 E G8 G9 b91 Δ0 (λ Ψ. Ψ) (at129 bs) (Lifetime.g-begin 𝓤 H A W E G8 6 (
+            tt,
+            (
+              tt,
+              (
+                tt,
+                (
+                  tt,
+                  (
+                    tt,
+                    (
+                      tt,
+                      (
+                        tt,
+                        (
+                          tt,
+                          (
+                            tt,
+                            (
+                              tt,
+                              (
+                                tt,
+                                (
+                                  tt,
+                                  (
+                                    tt,
+                                    (
+                                      tt,
+                                      (
+                                        tt,
+                                        (
+                                          tt,
+                                          (
+                                            tt,
+                                            (
+                                              tt,
+                                              (
+                                                tt,
+                                                (
+                                                  tt,
+                                                  (
+                                                    tt,
+                                                    (
+                                                      tt,
+                                                      (
+                                                        tt,
+                                                        (
+                                                          tt,
+                                                          (
+                                                            tt,
+                                                            (
+                                                              tt,
+                                                              (
+                                                                tt,
+                                                                (
+                                                                  tt,
+                                                                  (
+                                                                    tt,
+                                                                    (
+                                                                      tt,
+                                                                      (
+                                                                        tt,
+                                                                        (
+                                                                          tt,
+                                                                          (
+                                                                            tt,
+                                                                            (tt, (tt, (tt, (tt, (tt, (tt, (tt, (tt, (tt, tt))))))))),
+                                                                          ),
+                                                                        ),
+                                                                      ),
+                                                                    ),
+                                                                  ),
+                                                                ),
+                                                              ),
+                                                            ),
+                                                          ),
+                                                        ),
+                                                      ),
+                                                    ),
+                                                  ),
+                                                ),
+                                              ),
+                                            ),
+                                          ),
+                                        ),
+                                      ),
+                                    ),
+                                  ),
+                                ),
+                              ),
+                            ),
+                          ),
+                        ),
+                      ),
+                    ),
+                  ),
+                ),
+              ),
+            ),
+          )) d129
 
           d131 : Typed.Typed 𝓤 H A 𝓣 E G7 b92 Δ0 (at131 bs)
           d131 = Typed.s-seq 𝓤 H A W 𝓣 E G7 G8 b2 b91 Δ0 (Typed.both (s6 bs)) (at130 bs) (Plain.t-call-plain 𝓤 H A W 𝓣 0 ps·0 r·0 (claims· .0) (claims· .1) "block::width" (known .0) E (λ pos β. β) G7
@@ -4435,13 +8149,18 @@ module _ (claims· : Claims) where
 
           d132 : Typed.Typed 𝓤 H A 𝓣 E G6 b93 Δ0 (at132 bs)
           d132 = Typed.s-seq 𝓤 H A W 𝓣 E G6 G7 b1 b92 Δ0 (Typed.pass T6 T7 (s5 bs)) (at131 bs) (Scalar.t-use 𝓤 H A W E 𝓣 G6 (Scalar.oFld 6 (List._∷_ (Syntax.field 1) List.[]) Syntax.tyBool 4
-              (Reads.fieldV Form.the-type Laws'.the-laws 1)) 12 (Rows'.sc-here Row.sBool) Syntax.tyBool (Row.valS Row.sBool) (Row.sBool .of) ( Reads.reads-field 𝓤 H A W Form.the-type Laws'.the-laws 1
-              Syntax.tyBool 4 Path'.refl, Path'.refl, ) (Reads'.room-gone 𝓤 H A Syntax.tyBool) (Scalar.holds-sc 𝓤 H A W Row.sBool) Path'.refl (λ u. Path'.refl) λ u. tt) d131
+              (Reads.fieldV Form.the-type Laws'.the-laws 1)) 12 (Rows'.sc-here Row.sBool) Syntax.tyBool (Row.valS Row.sBool) (Row.sBool .of) (
+                Reads.reads-field 𝓤 H A W Form.the-type Laws'.the-laws 1
+                    Syntax.tyBool 4 Path'.refl,
+                Path'.refl,
+              ) (Reads'.room-gone 𝓤 H A Syntax.tyBool) (Scalar.holds-sc 𝓤 H A W Row.sBool) Path'.refl (λ u. Path'.refl) λ u. tt) d131
 
           d133 : Typed.Typed 𝓤 H A 𝓣 E G5 b94 Δ0 (at133 bs)
           d133 = Typed.s-seq 𝓤 H A W 𝓣 E G5 G6 b0 b93 Δ0 (Typed.pass T5 T6 (s4 bs)) (at132 bs) (Scalar.t-use 𝓤 H A W E 𝓣 G5 (Scalar.oFld 6 (List._∷_ (Syntax.field 0) List.[]) (Syntax.tyInt Syntax.w32)
               0 (Reads.fieldV Form.the-type Laws'.the-laws 0)) 11 (Rows'.sc-here (Row.sInt Syntax.w32)) (Syntax.tyInt Syntax.w32) (Row.valS (Row.sInt Syntax.w32)) (Row.sInt Syntax.w32 .of) (
-              Reads.reads-field 𝓤 H A W Form.the-type Laws'.the-laws 0 (Syntax.tyInt Syntax.w32) 0 Path'.refl, Path'.refl, ) (Reads'.room-gone 𝓤 H A (Syntax.tyInt Syntax.w32)) (Scalar.holds-sc 𝓤 H A W
+                Reads.reads-field 𝓤 H A W Form.the-type Laws'.the-laws 0 (Syntax.tyInt Syntax.w32) 0 Path'.refl,
+                Path'.refl,
+              ) (Reads'.room-gone 𝓤 H A (Syntax.tyInt Syntax.w32)) (Scalar.holds-sc 𝓤 H A W
               (Row.sInt Syntax.w32)) Path'.refl (λ u. Path'.refl) λ u. tt) d132
 
           d134 : Typed.Typed 𝓤 H A 𝓣 E G4 b94 Δ0 (at134 bs)
@@ -4474,20 +8193,50 @@ module _ (claims· : Claims) where
           pub lines : Kinds.Den {n = 6} κs (MutSlice.pMutS (Referent.rtF (Referent.fInt Syntax.w16)) 2 tt)
           pub rs : Kinds.Den {n = 6} κs (MutSlice.pMutS (Element.type) 3 tt)
           pub image : Kinds.Den {n = 6} κs (MutSlice.pMutS (Referent.rtF (Referent.fInt Syntax.w16)) 4 tt)
-          pub form : Kinds.Den {n = 6} κs (Value.pVal record { ty = Declared.row Form.the-type; one = Path'.refl; val = Laws'6.val Form.the-type Laws'.the-laws; tells = Laws'6.tells Form.the-type
-              Laws'.the-laws; still = Laws'6.still Form.the-type Laws'.the-copy Exit.yes; row = Rows'.whole (Declared.row Form.the-type); rd = λ x. x; mk = λ x. x; } λ M 𝓤 H A W. record { copies =
-              Laws'6.copy Form.the-type Laws'.the-copy 𝓤 H A W; lawful = Laws'6.lawful Form.the-type Laws'.the-laws 𝓤 H A W; makes = Laws'6.makes Form.the-type Laws'.the-plain 𝓤 H A; in-mem =
-              Local.mem-whole 𝓤 H A W (Declared.row Form.the-type); of-mem = Local.whole-mem 𝓤 H A W (Declared.row Form.the-type); })
+          pub form : Kinds.Den {n = 6} κs (Value.pVal record {
+            ty = Declared.row Form.the-type;
+            one = Path'.refl;
+            val = Laws'6.val Form.the-type Laws'.the-laws;
+            tells = Laws'6.tells Form.the-type
+                Laws'.the-laws;
+            still = Laws'6.still Form.the-type Laws'.the-copy Exit.yes;
+            row = Rows'.whole (Declared.row Form.the-type);
+            rd = λ x. x;
+            mk = λ x. x;
+          } λ M 𝓤 H A W. record {
+            copies =
+                Laws'6.copy Form.the-type Laws'.the-copy 𝓤 H A W;
+            lawful = Laws'6.lawful Form.the-type Laws'.the-laws 𝓤 H A W;
+            makes = Laws'6.makes Form.the-type Laws'.the-plain 𝓤 H A;
+            in-mem =
+                Local.mem-whole 𝓤 H A W (Declared.row Form.the-type);
+            of-mem = Local.whole-mem 𝓤 H A W (Declared.row Form.the-type);
+          })
           pub places : Kinds.Den {n = 6} κs (ShrRef.pShr (Array'.Array (Referent.rtF (Referent.fInt Syntax.w16)) 768) 5 tt)
           pub tile : Kinds.Den {n = 6} κs (Array.pArr (Array.eInt Syntax.w8) (Array.eInt-laws Syntax.w8) 36)
-          pub part : Kinds.Den {n = 6} κs (Value.pVal record { ty = Declared.row Part.the-type; one = Path'.refl; val = Laws'6.val Part.the-type Laws'4.the-laws; tells = Laws'6.tells Part.the-type
-              Laws'4.the-laws; still = Laws'6.still Part.the-type Laws'4.the-copy Exit.yes; row = Rows'.whole (Declared.row Part.the-type); rd = λ x. x; mk = λ x. x; } λ M 𝓤 H A W. record { copies =
-              Laws'6.copy Part.the-type Laws'4.the-copy 𝓤 H A W; lawful = Laws'6.lawful Part.the-type Laws'4.the-laws 𝓤 H A W; makes = Laws'6.makes Part.the-type Laws'4.the-plain 𝓤 H A; in-mem =
-              Local.mem-whole 𝓤 H A W (Declared.row Part.the-type); of-mem = Local.whole-mem 𝓤 H A W (Declared.row Part.the-type); })
+          pub part : Kinds.Den {n = 6} κs (Value.pVal record {
+            ty = Declared.row Part.the-type;
+            one = Path'.refl;
+            val = Laws'6.val Part.the-type Laws'4.the-laws;
+            tells = Laws'6.tells Part.the-type
+                Laws'4.the-laws;
+            still = Laws'6.still Part.the-type Laws'4.the-copy Exit.yes;
+            row = Rows'.whole (Declared.row Part.the-type);
+            rd = λ x. x;
+            mk = λ x. x;
+          } λ M 𝓤 H A W. record {
+            copies =
+                Laws'6.copy Part.the-type Laws'4.the-copy 𝓤 H A W;
+            lawful = Laws'6.lawful Part.the-type Laws'4.the-laws 𝓤 H A W;
+            makes = Laws'6.makes Part.the-type Laws'4.the-plain 𝓤 H A;
+            in-mem =
+                Local.mem-whole 𝓤 H A W (Declared.row Part.the-type);
+            of-mem = Local.whole-mem 𝓤 H A W (Declared.row Part.the-type);
+          })
           pub count : Kinds.Den {n = 6} κs (Num.pNum Syntax.w64)
 
         abbrev pub dens : (a : Args) → Kinds.Dens κs ps
-        dens = λ a. ( a .block, ( a .bases, ( a .lines, ( a .rs, (a .image, (a .form, (a .places, (a .tile, (a .part, (a .count, tt)))))), ), ), ), )
+        dens = λ a. (a .block, (a .bases, (a .lines, (a .rs, (a .image, (a .form, (a .places, (a .tile, (a .part, (a .count, tt))))))))))
 
         module _ (args· : Args) where
           pub record Ranges : Type 0 where
@@ -4497,8 +8246,12 @@ module _ (claims· : Claims) where
       m0 = λ κs args blocks. (tt, Enter.partsP κs 1 ps xs (dens κs args))
 
       abbrev W0 : (κs : Lifetimes.Lfts 6) → (args : Args κs) → (blocks : List.List Nat.ℕ) → Typed.Want O0
-      W0 = λ κs args blocks. ( λ u. ⊥, tt, λ u. Enter.Fixs κs 1 ps xs (dens κs args) (u .1) × Post· κs (dens κs args) (Function.resV r κs (u .0)) (Clauses.atExit (Kinds.endedOf 6 ps r) κs (dens κs
-          args) (Enter.lastsP κs 1 ps xs (dens κs args) (u .1))), )
+      W0 = λ κs args blocks. (
+        λ u. ⊥,
+        tt,
+        λ u. Enter.Fixs κs 1 ps xs (dens κs args) (u .1) × Post· κs (dens κs args) (Function.resV r κs (u .0)) (Clauses.atExit (Kinds.endedOf 6 ps r) κs (dens κs
+            args) (Enter.lastsP κs 1 ps xs (dens κs args) (u .1))),
+      )
 
       pub record Start : Type 0 where
         pub κs : Lifetimes.Lfts 6
@@ -4598,7 +8351,7 @@ module _ (claims· : Claims) where
 
       module _ (before· : After-clear-arg) where
         abbrev pub After-clear·own : Type 0
-        After-clear·own = Called.Called ps·1 r·1 (claims· .3) T11 ( record { pos = 23; ty = Syntax.tyRef Syntax.erased Syntax.mut (Syntax.tyInt Syntax.w16); ref = λ x. x; }, tt, ) (m9 (before·
+        After-clear·own = Called.Called ps·1 r·1 (claims· .3) T11 (record { pos = 23; ty = Syntax.tyRef Syntax.erased Syntax.mut (Syntax.tyInt Syntax.w16); ref = λ x. x }, tt) (m9 (before·
             .before) (before· .clear-arg .given))
 
       pub record After-clear : Type 0 where
@@ -4606,7 +8359,7 @@ module _ (claims· : Claims) where
         pub clear : After-clear·own before
 
       abbrev pub After-clear·gave : (c : After-clear) → s10 (c .before .before .before .before .before .before .before .blocks) .gives (m9 (c .before .before) (c .before .clear-arg .given))
-      After-clear·gave = λ c. Called.given ps·1 r·1 (claims· .3) T11 ( record { pos = 23; ty = Syntax.tyRef Syntax.erased Syntax.mut (Syntax.tyInt Syntax.w16); ref = λ x. x; }, tt, ) (m9 (c .before
+      After-clear·gave = λ c. Called.given ps·1 r·1 (claims· .3) T11 (record { pos = 23; ty = Syntax.tyRef Syntax.erased Syntax.mut (Syntax.tyInt Syntax.w16); ref = λ x. x }, tt) (m9 (c .before
           .before) (c .before .clear-arg .given)) (c .clear)
 
       abbrev pub m11 : (before : After-clear-arg) → (given : s10 (before .before .before .before .before .before .before .blocks) .gives (m9 (before .before) (before .clear-arg .given))) → Typed.Mo
@@ -4663,7 +8416,7 @@ module _ (claims· : Claims) where
 
       module _ (before· : After-start-records-arg) where
         abbrev pub After-base-of·own : Type 0
-        After-base-of·own = Called.Called ps·2 r·2 (claims· .5) T20 ( record { pos = 2; ty = Syntax.tyRef (Syntax.named 1) Syntax.imm (Syntax.tyInt Syntax.w8); ref = λ x. x; }, (Num.vLit 0, tt), )
+        After-base-of·own = Called.Called ps·2 r·2 (claims· .5) T20 (record { pos = 2; ty = Syntax.tyRef (Syntax.named 1) Syntax.imm (Syntax.tyInt Syntax.w8); ref = λ x. x }, (Num.vLit 0, tt))
             (m15 (before· .before) (before· .start-records-arg .given))
 
       pub record After-base-of : Type 0 where
@@ -4672,7 +8425,7 @@ module _ (claims· : Claims) where
 
       abbrev pub After-base-of·gave : (c : After-base-of) → s19 (c .before .before .before .before .before .before .before .before .before .before .before .blocks) .gives (m15 (c .before .before) (c
           .before .start-records-arg .given))
-      After-base-of·gave = λ c. Called.given ps·2 r·2 (claims· .5) T20 ( record { pos = 2; ty = Syntax.tyRef (Syntax.named 1) Syntax.imm (Syntax.tyInt Syntax.w8); ref = λ x. x; }, (Num.vLit 0, tt), )
+      After-base-of·gave = λ c. Called.given ps·2 r·2 (claims· .5) T20 (record { pos = 2; ty = Syntax.tyRef (Syntax.named 1) Syntax.imm (Syntax.tyInt Syntax.w8); ref = λ x. x }, (Num.vLit 0, tt))
           (m15 (c .before .before) (c .before .start-records-arg .given)) (c .base-of)
 
       abbrev pub Need-start-records-requires : Type 0
@@ -4685,8 +8438,17 @@ module _ (claims· : Claims) where
 
       module _ (before· : After-base-of) where
         abbrev pub After-start-records·own : Type 0
-        After-start-records·own = Called.Called ps·3 r·3 (claims· .7) T21 ( record { pos = 25; ty = Syntax.tyRef Syntax.erased Syntax.mut Element.behind; ref = λ x. x; }, (Num.vAt 11 λ x. x, (Num.vAt
-            26 λ x. x, tt)), ) (m16 (before· .before) (After-base-of·gave before·))
+        After-start-records·own = Called.Called ps·3 r·3 (claims· .7) T21 (
+          record { pos = 25; ty = Syntax.tyRef Syntax.erased Syntax.mut Element.behind; ref = λ x. x },
+          (
+            Num.vAt 11 λ x. x,
+            (
+              Num.vAt
+                  26 λ x. x,
+              tt,
+            ),
+          ),
+        ) (m16 (before· .before) (After-base-of·gave before·))
 
       pub record After-start-records : Type 0 where
         pub before : After-base-of
@@ -4694,8 +8456,13 @@ module _ (claims· : Claims) where
 
       abbrev pub After-start-records·gave : (c : After-start-records) → s20 (c .before .before .before .before .before .before .before .before .before .before .before .before .blocks) .gives (m16 (c
           .before .before) (After-base-of·gave (c .before)))
-      After-start-records·gave = λ c. Called.given ps·3 r·3 (claims· .7) T21 ( record { pos = 25; ty = Syntax.tyRef Syntax.erased Syntax.mut Element.behind; ref = λ x. x; }, (Num.vAt 11 λ x. x,
-          (Num.vAt 26 λ x. x, tt)), ) (m16 (c .before .before) (After-base-of·gave (c .before))) (c .start-records)
+      After-start-records·gave = λ c. Called.given ps·3 r·3 (claims· .7) T21 (
+        record { pos = 25; ty = Syntax.tyRef Syntax.erased Syntax.mut Element.behind; ref = λ x. x },
+        (
+          Num.vAt 11 λ x. x,
+          (Num.vAt 26 λ x. x, tt),
+        ),
+      ) (m16 (c .before .before) (After-base-of·gave (c .before))) (c .start-records)
 
       abbrev pub m18 : (before : After-base-of) → (given : s20 (before .before .before .before .before .before .before .before .before .before .before .before .blocks) .gives (m16 (before .before)
           (After-base-of·gave before))) → Typed.Mo T23
@@ -4764,26 +8531,70 @@ module _ (claims· : Claims) where
       abbrev pub m26 : (before : After-rs) → (lines : List.List (Referent.rtF (Referent.fInt Syntax.w16) .Denot)) → (rs : List.List (Element.type .Denot)) → (image : List.List (Referent.rtF
           (Referent.fInt Syntax.w16) .Denot)) → (at : Rows'.whole (Declared.row BitPosition.the-type) .Mod) → (tight : Rows'.sc-here Row.sBool .Mod) → (tight-lines : Rows'.sc-here (Row.sInt Syntax.w64)
           .Mod) → (n : Rows'.sc-here (Row.sInt Syntax.w64) .Mod) → Typed.Mo T33
-      m26 = λ before lines rs image at tight tight-lines n. Row.set 17 ( 17, Rows'.sc-here (Row.sInt Syntax.w64), ) n (Row.setRow 16 (16, Rows'.sc-here (Row.sInt Syntax.w64)) (Row.setRow 15 ( 15,
-          Rows'.sc-here Row.sBool, ) (Row.setRow 14 (14, Rows'.whole (Declared.row BitPosition.the-type)) (Row.setRow 5 ( 5, Mut.mslice (Referent.rtF (Referent.fInt Syntax.w16)) (Syntax.tyRef
-          (Syntax.named 4) Syntax.mut (Syntax.tyInt Syntax.w16)) 4, ) (Row.setRow 4 ( 4, Mut.mslice (Element.type) (Syntax.tyRef (Syntax.named 3) Syntax.mut Element.behind) 3, ) (Row.setRow 3 ( 3,
-          Mut.mslice (Referent.rtF (Referent.fInt Syntax.w16)) (Syntax.tyRef (Syntax.named 2) Syntax.mut (Syntax.tyInt Syntax.w16)) 2, ) (T33 .locals))))))) (Row.set 16 (16, Rows'.sc-here (Row.sInt
-          Syntax.w64)) tight-lines (Row.setRow 15 ( 15, Rows'.sc-here Row.sBool, ) (Row.setRow 14 (14, Rows'.whole (Declared.row BitPosition.the-type)) (Row.setRow 5 ( 5, Mut.mslice (Referent.rtF
-          (Referent.fInt Syntax.w16)) (Syntax.tyRef (Syntax.named 4) Syntax.mut (Syntax.tyInt Syntax.w16)) 4, ) (Row.setRow 4 ( 4, Mut.mslice (Element.type) (Syntax.tyRef (Syntax.named 3) Syntax.mut
-          Element.behind) 3, ) (Row.setRow 3 ( 3, Mut.mslice (Referent.rtF (Referent.fInt Syntax.w16)) (Syntax.tyRef (Syntax.named 2) Syntax.mut (Syntax.tyInt Syntax.w16)) 2, ) (T33 .locals)))))) (Row.set
-          15 (15, Rows'.sc-here Row.sBool) tight (Row.setRow 14 ( 14, Rows'.whole (Declared.row BitPosition.the-type), ) (Row.setRow 5 ( 5, Mut.mslice (Referent.rtF (Referent.fInt Syntax.w16))
-          (Syntax.tyRef (Syntax.named 4) Syntax.mut (Syntax.tyInt Syntax.w16)) 4, ) (Row.setRow 4 ( 4, Mut.mslice (Element.type) (Syntax.tyRef (Syntax.named 3) Syntax.mut Element.behind) 3, ) (Row.setRow
-          3 ( 3, Mut.mslice (Referent.rtF (Referent.fInt Syntax.w16)) (Syntax.tyRef (Syntax.named 2) Syntax.mut (Syntax.tyInt Syntax.w16)) 2, ) (T33 .locals))))) (Row.set 14 (14, Rows'.whole (Declared.row
-          BitPosition.the-type)) at (Row.setRow 5 ( 5, Mut.mslice (Referent.rtF (Referent.fInt Syntax.w16)) (Syntax.tyRef (Syntax.named 4) Syntax.mut (Syntax.tyInt Syntax.w16)) 4, ) (Row.setRow 4 ( 4,
-          Mut.mslice (Element.type) (Syntax.tyRef (Syntax.named 3) Syntax.mut Element.behind) 3, ) (Row.setRow 3 ( 3, Mut.mslice (Referent.rtF (Referent.fInt Syntax.w16)) (Syntax.tyRef (Syntax.named 2)
-          Syntax.mut (Syntax.tyInt Syntax.w16)) 2, ) (T33 .locals)))) (Row.set 5 ( 5, Mut.mslice (Referent.rtF (Referent.fInt Syntax.w16)) (Syntax.tyRef (Syntax.named 4) Syntax.mut (Syntax.tyInt
-          Syntax.w16)) 4, ) record { ptr = Row.get 5 (T33 .locals) (m25 (before .before) (before .rs .given)) .ptr; name = Row.get 5 (T33 .locals) (m25 (before .before) (before .rs .given)) .name; now =
-          image; } (Row.setRow 4 ( 4, Mut.mslice (Element.type) (Syntax.tyRef (Syntax.named 3) Syntax.mut Element.behind) 3, ) (Row.setRow 3 ( 3, Mut.mslice (Referent.rtF (Referent.fInt Syntax.w16))
-          (Syntax.tyRef (Syntax.named 2) Syntax.mut (Syntax.tyInt Syntax.w16)) 2, ) (T33 .locals))) (Row.set 4 ( 4, Mut.mslice (Element.type) (Syntax.tyRef (Syntax.named 3) Syntax.mut Element.behind) 3, )
-          record { ptr = Row.get 4 (T33 .locals) (m25 (before .before) (before .rs .given)) .ptr; name = Row.get 4 (T33 .locals) (m25 (before .before) (before .rs .given)) .name; now = rs; } (Row.setRow 3
-          ( 3, Mut.mslice (Referent.rtF (Referent.fInt Syntax.w16)) (Syntax.tyRef (Syntax.named 2) Syntax.mut (Syntax.tyInt Syntax.w16)) 2, ) (T33 .locals)) (Row.set 3 ( 3, Mut.mslice (Referent.rtF
-          (Referent.fInt Syntax.w16)) (Syntax.tyRef (Syntax.named 2) Syntax.mut (Syntax.tyInt Syntax.w16)) 2, ) record { ptr = Row.get 3 (T33 .locals) (m25 (before .before) (before .rs .given)) .ptr; name
-          = Row.get 3 (T33 .locals) (m25 (before .before) (before .rs .given)) .name; now = lines; } (T33 .locals) (m25 (before .before) (before .rs .given))))))))
+      m26 = λ before lines rs image at tight tight-lines n. Row.set 17 (17, Rows'.sc-here (Row.sInt Syntax.w64)) n (Row.setRow 16 (16, Rows'.sc-here (Row.sInt Syntax.w64)) (Row.setRow 15 (
+        15,
+        Rows'.sc-here Row.sBool,
+      ) (Row.setRow 14 (14, Rows'.whole (Declared.row BitPosition.the-type)) (Row.setRow 5 (
+        5,
+        Mut.mslice (Referent.rtF (Referent.fInt Syntax.w16)) (Syntax.tyRef
+            (Syntax.named 4) Syntax.mut (Syntax.tyInt Syntax.w16)) 4,
+      ) (Row.setRow 4 (4, Mut.mslice (Element.type) (Syntax.tyRef (Syntax.named 3) Syntax.mut Element.behind) 3) (Row.setRow 3 (
+        3,
+        Mut.mslice (Referent.rtF (Referent.fInt Syntax.w16)) (Syntax.tyRef (Syntax.named 2) Syntax.mut (Syntax.tyInt Syntax.w16)) 2,
+      ) (T33 .locals))))))) (Row.set 16 (
+        16,
+        Rows'.sc-here (Row.sInt
+            Syntax.w64),
+      ) tight-lines (Row.setRow 15 (15, Rows'.sc-here Row.sBool) (Row.setRow 14 (14, Rows'.whole (Declared.row BitPosition.the-type)) (Row.setRow 5 (
+        5,
+        Mut.mslice (Referent.rtF
+            (Referent.fInt Syntax.w16)) (Syntax.tyRef (Syntax.named 4) Syntax.mut (Syntax.tyInt Syntax.w16)) 4,
+      ) (Row.setRow 4 (
+        4,
+        Mut.mslice (Element.type) (Syntax.tyRef (Syntax.named 3) Syntax.mut
+            Element.behind) 3,
+      ) (Row.setRow 3 (3, Mut.mslice (Referent.rtF (Referent.fInt Syntax.w16)) (Syntax.tyRef (Syntax.named 2) Syntax.mut (Syntax.tyInt Syntax.w16)) 2) (T33 .locals)))))) (Row.set
+          15 (15, Rows'.sc-here Row.sBool) tight (Row.setRow 14 (14, Rows'.whole (Declared.row BitPosition.the-type)) (Row.setRow 5 (
+            5,
+            Mut.mslice (Referent.rtF (Referent.fInt Syntax.w16))
+                (Syntax.tyRef (Syntax.named 4) Syntax.mut (Syntax.tyInt Syntax.w16)) 4,
+          ) (Row.setRow 4 (4, Mut.mslice (Element.type) (Syntax.tyRef (Syntax.named 3) Syntax.mut Element.behind) 3) (Row.setRow
+          3 (3, Mut.mslice (Referent.rtF (Referent.fInt Syntax.w16)) (Syntax.tyRef (Syntax.named 2) Syntax.mut (Syntax.tyInt Syntax.w16)) 2) (T33 .locals))))) (Row.set 14 (
+            14,
+            Rows'.whole (Declared.row
+                BitPosition.the-type),
+          ) at (Row.setRow 5 (5, Mut.mslice (Referent.rtF (Referent.fInt Syntax.w16)) (Syntax.tyRef (Syntax.named 4) Syntax.mut (Syntax.tyInt Syntax.w16)) 4) (Row.setRow 4 (
+            4,
+            Mut.mslice (Element.type) (Syntax.tyRef (Syntax.named 3) Syntax.mut Element.behind) 3,
+          ) (Row.setRow 3 (
+            3,
+            Mut.mslice (Referent.rtF (Referent.fInt Syntax.w16)) (Syntax.tyRef (Syntax.named 2)
+                Syntax.mut (Syntax.tyInt Syntax.w16)) 2,
+          ) (T33 .locals)))) (Row.set 5 (
+            5,
+            Mut.mslice (Referent.rtF (Referent.fInt Syntax.w16)) (Syntax.tyRef (Syntax.named 4) Syntax.mut (Syntax.tyInt
+                Syntax.w16)) 4,
+          ) record {
+            ptr = Row.get 5 (T33 .locals) (m25 (before .before) (before .rs .given)) .ptr;
+            name = Row.get 5 (T33 .locals) (m25 (before .before) (before .rs .given)) .name;
+            now =
+                image;
+          } (Row.setRow 4 (4, Mut.mslice (Element.type) (Syntax.tyRef (Syntax.named 3) Syntax.mut Element.behind) 3) (Row.setRow 3 (
+            3,
+            Mut.mslice (Referent.rtF (Referent.fInt Syntax.w16))
+                (Syntax.tyRef (Syntax.named 2) Syntax.mut (Syntax.tyInt Syntax.w16)) 2,
+          ) (T33 .locals))) (Row.set 4 (4, Mut.mslice (Element.type) (Syntax.tyRef (Syntax.named 3) Syntax.mut Element.behind) 3)
+          record { ptr = Row.get 4 (T33 .locals) (m25 (before .before) (before .rs .given)) .ptr; name = Row.get 4 (T33 .locals) (m25 (before .before) (before .rs .given)) .name; now = rs } (Row.setRow 3
+          (3, Mut.mslice (Referent.rtF (Referent.fInt Syntax.w16)) (Syntax.tyRef (Syntax.named 2) Syntax.mut (Syntax.tyInt Syntax.w16)) 2) (T33 .locals)) (Row.set 3 (
+            3,
+            Mut.mslice (Referent.rtF
+                (Referent.fInt Syntax.w16)) (Syntax.tyRef (Syntax.named 2) Syntax.mut (Syntax.tyInt Syntax.w16)) 2,
+          ) record {
+            ptr = Row.get 3 (T33 .locals) (m25 (before .before) (before .rs .given)) .ptr;
+            name
+                = Row.get 3 (T33 .locals) (m25 (before .before) (before .rs .given)) .name;
+            now = lines;
+          } (T33 .locals) (m25 (before .before) (before .rs .given))))))))
 
       abbrev W3 : (before : After-rs) → (lines : List.List (Referent.rtF (Referent.fInt Syntax.w16) .Denot)) → (rs : List.List (Element.type .Denot)) → (image : List.List (Referent.rtF (Referent.fInt
           Syntax.w16) .Denot)) → (at : Rows'.whole (Declared.row BitPosition.the-type) .Mod) → (tight : Rows'.sc-here Row.sBool .Mod) → (tight-lines : Rows'.sc-here (Row.sInt Syntax.w64) .Mod) → (n :
@@ -4895,7 +8706,7 @@ module _ (claims· : Claims) where
 
       module _ (before· : After-turn-arg) where
         abbrev pub After-turn·own : Type 0
-        After-turn·own = Called.Called ps·4 r·4 (claims· .9) T43 ( record { pos = 30; ty = Syntax.tyRef Syntax.erased Syntax.mut (Syntax.tyInt Syntax.w16); ref = λ x. x; }, (Num.vAt 13 λ x. x, tt), )
+        After-turn·own = Called.Called ps·4 r·4 (claims· .9) T43 (record { pos = 30; ty = Syntax.tyRef Syntax.erased Syntax.mut (Syntax.tyInt Syntax.w16); ref = λ x. x }, (Num.vAt 13 λ x. x, tt))
             (m34 (before· .before) (before· .turn-arg .given))
 
       pub record After-turn : Type 0 where
@@ -4904,8 +8715,10 @@ module _ (claims· : Claims) where
 
       abbrev pub After-turn·gave : (c : After-turn) → s40 (c .before .before .before .before .before .before .before .before .before .before .before .before .before .before .before .before .before
           .blocks) .gives (m34 (c .before .before) (c .before .turn-arg .given))
-      After-turn·gave = λ c. Called.given ps·4 r·4 (claims· .9) T43 ( record { pos = 30; ty = Syntax.tyRef Syntax.erased Syntax.mut (Syntax.tyInt Syntax.w16); ref = λ x. x; }, (Num.vAt 13 λ x. x, tt),
-          ) (m34 (c .before .before) (c .before .turn-arg .given)) (c .turn)
+      After-turn·gave = λ c. Called.given ps·4 r·4 (claims· .9) T43 (
+        record { pos = 30; ty = Syntax.tyRef Syntax.erased Syntax.mut (Syntax.tyInt Syntax.w16); ref = λ x. x },
+        (Num.vAt 13 λ x. x, tt),
+      ) (m34 (c .before .before) (c .before .turn-arg .given)) (c .turn)
 
       abbrev pub m36 : (before : After-turn-arg) → (given : s40 (before .before .before .before .before .before .before .before .before .before .before .before .before .before .before .before .before
           .blocks) .gives (m34 (before .before) (before .turn-arg .given))) → Typed.Mo T45
@@ -4950,8 +8763,13 @@ module _ (claims· : Claims) where
 
       module _ (before· : After-slice-known4) where
         abbrev pub After-base-of2·own : Type 0
-        After-base-of2·own = Called.Called ps·2 r·2 (claims· .5) T48 ( record { pos = 2; ty = Syntax.tyRef (Syntax.named 1) Syntax.imm (Syntax.tyInt Syntax.w8); ref = λ x. x; }, (Num.vAt 17 λ x. x,
-            tt), ) (m38 (before· .before) (before· .slice-known4 .given))
+        After-base-of2·own = Called.Called ps·2 r·2 (claims· .5) T48 (
+          record { pos = 2; ty = Syntax.tyRef (Syntax.named 1) Syntax.imm (Syntax.tyInt Syntax.w8); ref = λ x. x },
+          (
+            Num.vAt 17 λ x. x,
+            tt,
+          ),
+        ) (m38 (before· .before) (before· .slice-known4 .given))
 
       pub record After-base-of2 : Type 0 where
         pub before : After-slice-known4
@@ -4959,8 +8777,13 @@ module _ (claims· : Claims) where
 
       abbrev pub After-base-of2·gave : (c : After-base-of2) → s46 (c .before .before .before .before .before .before .before .before .before .before .before .before .before .before .before .before
           .before .before .before .before .blocks) .gives (m38 (c .before .before) (c .before .slice-known4 .given))
-      After-base-of2·gave = λ c. Called.given ps·2 r·2 (claims· .5) T48 ( record { pos = 2; ty = Syntax.tyRef (Syntax.named 1) Syntax.imm (Syntax.tyInt Syntax.w8); ref = λ x. x; }, (Num.vAt 17 λ x. x,
-          tt), ) (m38 (c .before .before) (c .before .slice-known4 .given)) (c .base-of2)
+      After-base-of2·gave = λ c. Called.given ps·2 r·2 (claims· .5) T48 (
+        record { pos = 2; ty = Syntax.tyRef (Syntax.named 1) Syntax.imm (Syntax.tyInt Syntax.w8); ref = λ x. x },
+        (
+          Num.vAt 17 λ x. x,
+          tt,
+        ),
+      ) (m38 (c .before .before) (c .before .slice-known4 .given)) (c .base-of2)
 
       abbrev pub m40 : (before : After-base-of2) → (given : s48 (before .before .before .before .before .before .before .before .before .before .before .before .before .before .before .before .before
           .before .before .before .before .blocks) .gives (m39 (before .before) (After-base-of2·gave before))) → Typed.Mo T52
@@ -4992,8 +8815,14 @@ module _ (claims· : Claims) where
 
       module _ (before· : After-restart-arg) where
         abbrev pub After-is-restarted·own : Type 0
-        After-is-restarted·own = Called.Called ps·5 r·5 (claims· .11) T53 ( record { pos = 2; ty = Syntax.tyRef (Syntax.named 1) Syntax.imm (Syntax.tyInt Syntax.w8); ref = λ x. x; }, (Num.vAt 17 λ x.
-            x, tt), ) (m41 (before· .before) (before· .restart-arg .given))
+        After-is-restarted·own = Called.Called ps·5 r·5 (claims· .11) T53 (
+          record { pos = 2; ty = Syntax.tyRef (Syntax.named 1) Syntax.imm (Syntax.tyInt Syntax.w8); ref = λ x. x },
+          (
+            Num.vAt 17 λ x.
+                x,
+            tt,
+          ),
+        ) (m41 (before· .before) (before· .restart-arg .given))
 
       pub record After-is-restarted : Type 0 where
         pub before : After-restart-arg
@@ -5001,8 +8830,14 @@ module _ (claims· : Claims) where
 
       abbrev pub After-is-restarted·gave : (c : After-is-restarted) → s50 (c .before .before .before .before .before .before .before .before .before .before .before .before .before .before .before
           .before .before .before .before .before .before .before .blocks) .gives (m41 (c .before .before) (c .before .restart-arg .given))
-      After-is-restarted·gave = λ c. Called.given ps·5 r·5 (claims· .11) T53 ( record { pos = 2; ty = Syntax.tyRef (Syntax.named 1) Syntax.imm (Syntax.tyInt Syntax.w8); ref = λ x. x; }, (Num.vAt 17 λ
-          x. x, tt), ) (m41 (c .before .before) (c .before .restart-arg .given)) (c .is-restarted)
+      After-is-restarted·gave = λ c. Called.given ps·5 r·5 (claims· .11) T53 (
+        record { pos = 2; ty = Syntax.tyRef (Syntax.named 1) Syntax.imm (Syntax.tyInt Syntax.w8); ref = λ x. x },
+        (
+          Num.vAt 17 λ
+              x. x,
+          tt,
+        ),
+      ) (m41 (c .before .before) (c .before .restart-arg .given)) (c .is-restarted)
 
       abbrev pub Need-restart-requires : Type 0
       Need-restart-requires = (c : After-is-restarted) → s51 (c .before .before .before .before .before .before .before .before .before .before .before .before .before .before .before .before .before
@@ -5015,8 +8850,17 @@ module _ (claims· : Claims) where
 
       module _ (before· : After-is-restarted) where
         abbrev pub After-restart·own : Type 0
-        After-restart·own = Called.Called ps·6 r·6 (claims· .13) T54 ( record { pos = 32; ty = Syntax.tyRef Syntax.erased Syntax.mut Element.behind; ref = λ x. x; }, (Num.vAt 11 λ x. x, (Num.vAt 18 λ
-            x. x, (Bool.bAt 27 λ x. x, tt))), ) (m42 (before· .before) (After-is-restarted·gave before·))
+        After-restart·own = Called.Called ps·6 r·6 (claims· .13) T54 (
+          record { pos = 32; ty = Syntax.tyRef Syntax.erased Syntax.mut Element.behind; ref = λ x. x },
+          (
+            Num.vAt 11 λ x. x,
+            (
+              Num.vAt 18 λ
+                  x. x,
+              (Bool.bAt 27 λ x. x, tt),
+            ),
+          ),
+        ) (m42 (before· .before) (After-is-restarted·gave before·))
 
       pub record After-restart : Type 0 where
         pub before : After-is-restarted
@@ -5024,8 +8868,17 @@ module _ (claims· : Claims) where
 
       abbrev pub After-restart·gave : (c : After-restart) → s51 (c .before .before .before .before .before .before .before .before .before .before .before .before .before .before .before .before
           .before .before .before .before .before .before .before .blocks) .gives (m42 (c .before .before) (After-is-restarted·gave (c .before)))
-      After-restart·gave = λ c. Called.given ps·6 r·6 (claims· .13) T54 ( record { pos = 32; ty = Syntax.tyRef Syntax.erased Syntax.mut Element.behind; ref = λ x. x; }, (Num.vAt 11 λ x. x, (Num.vAt 18
-          λ x. x, (Bool.bAt 27 λ x. x, tt))), ) (m42 (c .before .before) (After-is-restarted·gave (c .before))) (c .restart)
+      After-restart·gave = λ c. Called.given ps·6 r·6 (claims· .13) T54 (
+        record { pos = 32; ty = Syntax.tyRef Syntax.erased Syntax.mut Element.behind; ref = λ x. x },
+        (
+          Num.vAt 11 λ x. x,
+          (
+            Num.vAt 18
+                λ x. x,
+            (Bool.bAt 27 λ x. x, tt),
+          ),
+        ),
+      ) (m42 (c .before .before) (After-is-restarted·gave (c .before))) (c .restart)
 
       abbrev pub m44 : (before : After-is-restarted) → (given : s51 (before .before .before .before .before .before .before .before .before .before .before .before .before .before .before .before
           .before .before .before .before .before .before .before .blocks) .gives (m42 (before .before) (After-is-restarted·gave before))) → Typed.Mo T56
@@ -5100,7 +8953,7 @@ module _ (claims· : Claims) where
 
       module _ (before· : After-line-arg2) where
         abbrev pub After-quantisers-of·own : Type 0
-        After-quantisers-of·own = Called.Called ps·7 r·7 (claims· .15) T66 ( Num.vAt 11 λ x. x, (Num.vAt 18 λ x. x, tt), ) (m50 (before· .before) (before· .line-arg2 .given))
+        After-quantisers-of·own = Called.Called ps·7 r·7 (claims· .15) T66 (Num.vAt 11 λ x. x, (Num.vAt 18 λ x. x, tt)) (m50 (before· .before) (before· .line-arg2 .given))
 
       pub record After-quantisers-of : Type 0 where
         pub before : After-line-arg2
@@ -5108,7 +8961,7 @@ module _ (claims· : Claims) where
 
       abbrev pub After-quantisers-of·gave : (c : After-quantisers-of) → s63 (c .before .before .before .before .before .before .before .before .before .before .before .before .before .before .before
           .before .before .before .before .before .before .before .before .before .before .before .before .blocks) .gives (m50 (c .before .before) (c .before .line-arg2 .given))
-      After-quantisers-of·gave = λ c. Called.given ps·7 r·7 (claims· .15) T66 ( Num.vAt 11 λ x. x, (Num.vAt 18 λ x. x, tt), ) (m50 (c .before .before) (c .before .line-arg2 .given)) (c .quantisers-of)
+      After-quantisers-of·gave = λ c. Called.given ps·7 r·7 (claims· .15) T66 (Num.vAt 11 λ x. x, (Num.vAt 18 λ x. x, tt)) (m50 (c .before .before) (c .before .line-arg2 .given)) (c .quantisers-of)
 
       abbrev pub Need-line-requires : Type 0
       Need-line-requires = (c : After-quantisers-of) → s64 (c .before .before .before .before .before .before .before .before .before .before .before .before .before .before .before .before .before
@@ -5121,10 +8974,33 @@ module _ (claims· : Claims) where
 
       module _ (before· : After-quantisers-of) where
         abbrev pub After-line·own : Type 0
-        After-line·own = Called.Called ps·8 r·8 (claims· .17) T67 ( record { pos = 1; ty = Syntax.tyRef (Syntax.named 0) Syntax.imm (Syntax.tyInt Syntax.w8); ref = λ x. x; }, ( record { pos = 14; st =
-            List.[]; d = 0; at = λ x. x }, ( Bool.bAt 15 λ x. x, ( record { pos = 34; ty = Syntax.tyRef Syntax.erased Syntax.mut (Syntax.tyInt Syntax.w16); ref = λ x. x; }, ( record { pos = 36; ty =
-            Syntax.tyRef Syntax.erased Syntax.mut Element.behind; ref = λ x. x; }, ( record { pos = 6; st = List.[]; d = 0; at = λ x. x }, (record { pos = 37; st = List.[]; d = 0; at = λ x. x }, tt), ),
-            ), ), ), ), ) (m51 (before· .before) (After-quantisers-of·gave before·))
+        After-line·own = Called.Called ps·8 r·8 (claims· .17) T67 (
+          record { pos = 1; ty = Syntax.tyRef (Syntax.named 0) Syntax.imm (Syntax.tyInt Syntax.w8); ref = λ x. x },
+          (
+            record {
+              pos = 14;
+              st =
+                  List.[];
+              d = 0;
+              at = λ x. x;
+            },
+            (
+              Bool.bAt 15 λ x. x,
+              (
+                record { pos = 34; ty = Syntax.tyRef Syntax.erased Syntax.mut (Syntax.tyInt Syntax.w16); ref = λ x. x },
+                (
+                  record {
+                    pos = 36;
+                    ty =
+                        Syntax.tyRef Syntax.erased Syntax.mut Element.behind;
+                    ref = λ x. x;
+                  },
+                  (record { pos = 6; st = List.[]; d = 0; at = λ x. x }, (record { pos = 37; st = List.[]; d = 0; at = λ x. x }, tt)),
+                ),
+              ),
+            ),
+          ),
+        ) (m51 (before· .before) (After-quantisers-of·gave before·))
 
       pub record After-line : Type 0 where
         pub before : After-quantisers-of
@@ -5132,10 +9008,32 @@ module _ (claims· : Claims) where
 
       abbrev pub After-line·gave : (c : After-line) → s64 (c .before .before .before .before .before .before .before .before .before .before .before .before .before .before .before .before .before
           .before .before .before .before .before .before .before .before .before .before .before .blocks) .gives (m51 (c .before .before) (After-quantisers-of·gave (c .before)))
-      After-line·gave = λ c. Called.given ps·8 r·8 (claims· .17) T67 ( record { pos = 1; ty = Syntax.tyRef (Syntax.named 0) Syntax.imm (Syntax.tyInt Syntax.w8); ref = λ x. x; }, ( record { pos = 14;
-          st = List.[]; d = 0; at = λ x. x }, ( Bool.bAt 15 λ x. x, ( record { pos = 34; ty = Syntax.tyRef Syntax.erased Syntax.mut (Syntax.tyInt Syntax.w16); ref = λ x. x; }, ( record { pos = 36; ty =
-          Syntax.tyRef Syntax.erased Syntax.mut Element.behind; ref = λ x. x; }, ( record { pos = 6; st = List.[]; d = 0; at = λ x. x }, (record { pos = 37; st = List.[]; d = 0; at = λ x. x }, tt), ), ),
-          ), ), ), ) (m51 (c .before .before) (After-quantisers-of·gave (c .before))) (c .line)
+      After-line·gave = λ c. Called.given ps·8 r·8 (claims· .17) T67 (
+        record { pos = 1; ty = Syntax.tyRef (Syntax.named 0) Syntax.imm (Syntax.tyInt Syntax.w8); ref = λ x. x },
+        (
+          record {
+            pos = 14;
+            st = List.[];
+            d = 0;
+            at = λ x. x;
+          },
+          (
+            Bool.bAt 15 λ x. x,
+            (
+              record { pos = 34; ty = Syntax.tyRef Syntax.erased Syntax.mut (Syntax.tyInt Syntax.w16); ref = λ x. x },
+              (
+                record {
+                  pos = 36;
+                  ty =
+                      Syntax.tyRef Syntax.erased Syntax.mut Element.behind;
+                  ref = λ x. x;
+                },
+                (record { pos = 6; st = List.[]; d = 0; at = λ x. x }, (record { pos = 37; st = List.[]; d = 0; at = λ x. x }, tt)),
+              ),
+            ),
+          ),
+        ),
+      ) (m51 (c .before .before) (After-quantisers-of·gave (c .before))) (c .line)
 
       abbrev pub m53 : (before : After-quantisers-of) → (given : s64 (before .before .before .before .before .before .before .before .before .before .before .before .before .before .before .before
           .before .before .before .before .before .before .before .before .before .before .before .before .blocks) .gives (m51 (before .before) (After-quantisers-of·gave before))) → Typed.Mo T69
@@ -5383,7 +9281,7 @@ module _ (claims· : Claims) where
 
       module _ (before· : After-at) where
         abbrev pub After-tight-count·own : Type 0
-        After-tight-count·own = Called.Called ps·9 r·9 (claims· .19) T102 ( Num.vAt 16 λ x. x, (Num.vAt 17 λ x. x, (Bool.bAt 15 λ x. x, tt)), ) (m81 (before· .before) (before· .at .given))
+        After-tight-count·own = Called.Called ps·9 r·9 (claims· .19) T102 (Num.vAt 16 λ x. x, (Num.vAt 17 λ x. x, (Bool.bAt 15 λ x. x, tt))) (m81 (before· .before) (before· .at .given))
 
       pub record After-tight-count : Type 0 where
         pub before : After-at
@@ -5392,7 +9290,7 @@ module _ (claims· : Claims) where
       abbrev pub After-tight-count·gave : (c : After-tight-count) → s98 (c .before .before .before .before .before .before .before .before .before .before .before .before .before .before .before
           .before .before .before .before .before .before .before .before .before .before .before .before .before .before .before .before .before .before .before .blocks) .gives (m81 (c .before .before)
           (c .before .at .given))
-      After-tight-count·gave = λ c. Called.given ps·9 r·9 (claims· .19) T102 ( Num.vAt 16 λ x. x, (Num.vAt 17 λ x. x, (Bool.bAt 15 λ x. x, tt)), ) (m81 (c .before .before) (c .before .at .given)) (c
+      After-tight-count·gave = λ c. Called.given ps·9 r·9 (claims· .19) T102 (Num.vAt 16 λ x. x, (Num.vAt 17 λ x. x, (Bool.bAt 15 λ x. x, tt))) (m81 (c .before .before) (c .before .at .given)) (c
           .tight-count)
 
       abbrev pub m83 : (before : After-tight-count) → (given : s100 (before .before .before .before .before .before .before .before .before .before .before .before .before .before .before .before
@@ -5452,10 +9350,38 @@ module _ (claims· : Claims) where
 
       module _ (before· : After-emit-line-arg2) where
         abbrev pub After-emit-line·own : Type 0
-        After-emit-line·own = Called.Called ps·10 r·10 (claims· .21) T109 ( record { pos = 39; ty = Syntax.tyRef Syntax.erased Syntax.imm (Syntax.tyInt Syntax.w16); ref = λ x. x; }, ( record { pos =
-            41; ty = Syntax.tyRef Syntax.erased Syntax.mut (Syntax.tyInt Syntax.w16); ref = λ x. x; }, ( Num.vAt 13 λ x. x, ( Bool.bAt 12 λ x. x, ( record { pos = 7; ty = Syntax.tyRef (Syntax.named 5)
-            Syntax.imm (Syntax.tyArray (Syntax.tyInt Syntax.w16) 768); ref = λ x. x; }, ( record { pos = 8; st = List.[]; d = 0; at = λ x. x }, ( record { pos = 9; st = List.[]; d = 0; at = λ x. x },
-            (Num.vAt 17 λ x. x, tt), ), ), ), ), ), ), ) (m86 (before· .before) (before· .emit-line-arg2 .given))
+        After-emit-line·own = Called.Called ps·10 r·10 (claims· .21) T109 (
+          record { pos = 39; ty = Syntax.tyRef Syntax.erased Syntax.imm (Syntax.tyInt Syntax.w16); ref = λ x. x },
+          (
+            record {
+              pos =
+                  41;
+              ty = Syntax.tyRef Syntax.erased Syntax.mut (Syntax.tyInt Syntax.w16);
+              ref = λ x. x;
+            },
+            (
+              Num.vAt 13 λ x. x,
+              (
+                Bool.bAt 12 λ x. x,
+                (
+                  record {
+                    pos = 7;
+                    ty = Syntax.tyRef (Syntax.named 5)
+                        Syntax.imm (Syntax.tyArray (Syntax.tyInt Syntax.w16) 768);
+                    ref = λ x. x;
+                  },
+                  (
+                    record { pos = 8; st = List.[]; d = 0; at = λ x. x },
+                    (
+                      record { pos = 9; st = List.[]; d = 0; at = λ x. x },
+                      (Num.vAt 17 λ x. x, tt),
+                    ),
+                  ),
+                ),
+              ),
+            ),
+          ),
+        ) (m86 (before· .before) (before· .emit-line-arg2 .given))
 
       pub record After-emit-line : Type 0 where
         pub before : After-emit-line-arg2
@@ -5464,10 +9390,38 @@ module _ (claims· : Claims) where
       abbrev pub After-emit-line·gave : (c : After-emit-line) → s105 (c .before .before .before .before .before .before .before .before .before .before .before .before .before .before .before .before
           .before .before .before .before .before .before .before .before .before .before .before .before .before .before .before .before .before .before .before .before .before .blocks) .gives (m86 (c
           .before .before) (c .before .emit-line-arg2 .given))
-      After-emit-line·gave = λ c. Called.given ps·10 r·10 (claims· .21) T109 ( record { pos = 39; ty = Syntax.tyRef Syntax.erased Syntax.imm (Syntax.tyInt Syntax.w16); ref = λ x. x; }, ( record { pos
-          = 41; ty = Syntax.tyRef Syntax.erased Syntax.mut (Syntax.tyInt Syntax.w16); ref = λ x. x; }, ( Num.vAt 13 λ x. x, ( Bool.bAt 12 λ x. x, ( record { pos = 7; ty = Syntax.tyRef (Syntax.named 5)
-          Syntax.imm (Syntax.tyArray (Syntax.tyInt Syntax.w16) 768); ref = λ x. x; }, ( record { pos = 8; st = List.[]; d = 0; at = λ x. x }, ( record { pos = 9; st = List.[]; d = 0; at = λ x. x },
-          (Num.vAt 17 λ x. x, tt), ), ), ), ), ), ), ) (m86 (c .before .before) (c .before .emit-line-arg2 .given)) (c .emit-line)
+      After-emit-line·gave = λ c. Called.given ps·10 r·10 (claims· .21) T109 (
+        record { pos = 39; ty = Syntax.tyRef Syntax.erased Syntax.imm (Syntax.tyInt Syntax.w16); ref = λ x. x },
+        (
+          record {
+            pos
+                = 41;
+            ty = Syntax.tyRef Syntax.erased Syntax.mut (Syntax.tyInt Syntax.w16);
+            ref = λ x. x;
+          },
+          (
+            Num.vAt 13 λ x. x,
+            (
+              Bool.bAt 12 λ x. x,
+              (
+                record {
+                  pos = 7;
+                  ty = Syntax.tyRef (Syntax.named 5)
+                      Syntax.imm (Syntax.tyArray (Syntax.tyInt Syntax.w16) 768);
+                  ref = λ x. x;
+                },
+                (
+                  record { pos = 8; st = List.[]; d = 0; at = λ x. x },
+                  (
+                    record { pos = 9; st = List.[]; d = 0; at = λ x. x },
+                    (Num.vAt 17 λ x. x, tt),
+                  ),
+                ),
+              ),
+            ),
+          ),
+        ),
+      ) (m86 (c .before .before) (c .before .emit-line-arg2 .given)) (c .emit-line)
 
       abbrev pub m88 : (before : After-emit-line-arg2) → (given : s105 (before .before .before .before .before .before .before .before .before .before .before .before .before .before .before .before
           .before .before .before .before .before .before .before .before .before .before .before .before .before .before .before .before .before .before .before .before .before .blocks) .gives (m86
@@ -5752,16 +9706,36 @@ module _ (claims· : Claims) where
             .before .before .before .before .before .before .before .before .before .before .before .before .before .κs) (c .before .before .before .before .before .before .before .before .before .before
             .before .before .before .before .before .args) (c .before .before .before .before .before .before .before .before .before .before .before .before .before .before .before .blocks)) (m32 (c
             .before))
-        lay17 = λ c. ( ( Path'.refl, ( Path'.refl, ( MutSlice.fix-len (Row.get 3 (T132 .locals) (m105 (c .before)) .ptr) (Row.get 3 (T132 .locals) (m105 (c .before)) .name) (Row.get 3 (T132 .locals)
-            (m105 (c .before)) .now) (dens (c .before .before .before .before .before .before .before .before .before .before .before .before .before .before .before .κs) (c .before .before .before
-            .before .before .before .before .before .before .before .before .before .before .before .before .args) .1 .1 .0 .now) (same-length-4 record { before = c .before; loop-test = c .loop-test }), (
-            MutSlice.fix-len (Row.get 4 (T132 .locals) (m105 (c .before)) .ptr) (Row.get 4 (T132 .locals) (m105 (c .before)) .name) (Row.get 4 (T132 .locals) (m105 (c .before)) .now) (dens (c .before
-            .before .before .before .before .before .before .before .before .before .before .before .before .before .before .κs) (c .before .before .before .before .before .before .before .before .before
-            .before .before .before .before .before .before .args) .1 .1 .1 .0 .now) (same-length-5 record { before = c .before; loop-test = c .loop-test }), ( MutSlice.fix-len (Row.get 5 (T132 .locals)
-            (m105 (c .before)) .ptr) (Row.get 5 (T132 .locals) (m105 (c .before)) .name) (Row.get 5 (T132 .locals) (m105 (c .before)) .now) (dens (c .before .before .before .before .before .before .before
-            .before .before .before .before .before .before .before .before .κs) (c .before .before .before .before .before .before .before .before .before .before .before .before .before .before .before
-            .args) .1 .1 .1 .1 .0 .now) (same-length-6 record { before = c .before; loop-test = c .loop-test }), (tt, (Path'.refl, (tt, (tt, (tt, tt))))), ), ), ), ), ), returns-2 record { before = c
-            .before; loop-test = c .loop-test }, )
+        lay17 = λ c. (
+          (
+            Path'.refl,
+            (
+              Path'.refl,
+              (
+                MutSlice.fix-len (Row.get 3 (T132 .locals) (m105 (c .before)) .ptr) (Row.get 3 (T132 .locals) (m105 (c .before)) .name) (Row.get 3 (T132 .locals)
+                    (m105 (c .before)) .now) (dens (c .before .before .before .before .before .before .before .before .before .before .before .before .before .before .before .κs) (c .before .before .before
+                    .before .before .before .before .before .before .before .before .before .before .before .before .args) .1 .1 .0 .now) (same-length-4 record { before = c .before; loop-test = c .loop-test }),
+                (
+                  MutSlice.fix-len (Row.get 4 (T132 .locals) (m105 (c .before)) .ptr) (Row.get 4 (T132 .locals) (m105 (c .before)) .name) (Row.get 4 (T132 .locals) (m105 (c .before)) .now) (dens (c .before
+                      .before .before .before .before .before .before .before .before .before .before .before .before .before .before .κs) (c .before .before .before .before .before .before .before .before .before
+                      .before .before .before .before .before .before .args) .1 .1 .1 .0 .now) (same-length-5 record { before = c .before; loop-test = c .loop-test }),
+                  (
+                    MutSlice.fix-len (Row.get 5 (T132 .locals)
+                        (m105 (c .before)) .ptr) (Row.get 5 (T132 .locals) (m105 (c .before)) .name) (Row.get 5 (T132 .locals) (m105 (c .before)) .now) (dens (c .before .before .before .before .before .before .before
+                        .before .before .before .before .before .before .before .before .κs) (c .before .before .before .before .before .before .before .before .before .before .before .before .before .before .before
+                        .args) .1 .1 .1 .1 .0 .now) (same-length-6 record { before = c .before; loop-test = c .loop-test }),
+                    (tt, (Path'.refl, (tt, (tt, (tt, tt))))),
+                  ),
+                ),
+              ),
+            ),
+          ),
+          returns-2 record {
+            before = c
+                .before;
+            loop-test = c .loop-test;
+          },
+        )
 
         lay16 : (c : After-emit-line) → at40 (c .before .before .before .before .before .before .before .before .before .before .before .before .before .before .before .before .before .before .before
             .before .before .before .before .before .before .before .before .before .before .before .before .before .before .before .before .before .before .blocks) (W3 (c .before .before .before .before
@@ -5774,106 +9748,184 @@ module _ (claims· : Claims) where
             .loop .tight) (c .before .before .before .before .before .before .before .before .before .before .before .before .before .before .before .before .before .before .before .before .before .before
             .before .loop .tight-lines) (c .before .before .before .before .before .before .before .before .before .before .before .before .before .before .before .before .before .before .before .before
             .before .before .before .loop .n)) (m87 (c .before) (After-emit-line·gave c))
-        lay16 = λ c. ( Path'.refl, λ g. λ g'. ( add-n record { before = record { before = record { before = c .before; emit-line = c .emit-line }; image = record { given = g }; }; slice-known6 =
-            record { given = g' }; }, ( μ·0 (Row.get 1 (T33 .locals) (m25 (c .before .before .before .before .before .before .before .before .before .before .before .before .before .before .before .before
-            .before .before .before .before .before .before .before .before .before) (c .before .before .before .before .before .before .before .before .before .before .before .before .before .before
-            .before .before .before .before .before .before .before .before .before .before .rs .given)) .now) (Row.get 2 (T33 .locals) (m25 (c .before .before .before .before .before .before .before
-            .before .before .before .before .before .before .before .before .before .before .before .before .before .before .before .before .before .before) (c .before .before .before .before .before
-            .before .before .before .before .before .before .before .before .before .before .before .before .before .before .before .before .before .before .before .rs .given)) .now) (Row.get 3 (T33
-            .locals) (m25 (c .before .before .before .before .before .before .before .before .before .before .before .before .before .before .before .before .before .before .before .before .before .before
-            .before .before .before) (c .before .before .before .before .before .before .before .before .before .before .before .before .before .before .before .before .before .before .before .before
-            .before .before .before .before .rs .given)) .now) (Row.get 4 (T33 .locals) (m25 (c .before .before .before .before .before .before .before .before .before .before .before .before .before
-            .before .before .before .before .before .before .before .before .before .before .before .before) (c .before .before .before .before .before .before .before .before .before .before .before
-            .before .before .before .before .before .before .before .before .before .before .before .before .before .rs .given)) .now) (Row.get 5 (T33 .locals) (m25 (c .before .before .before .before
-            .before .before .before .before .before .before .before .before .before .before .before .before .before .before .before .before .before .before .before .before .before) (c .before .before
-            .before .before .before .before .before .before .before .before .before .before .before .before .before .before .before .before .before .before .before .before .before .before .rs .given))
-            .now) (Row.get 6 (T33 .locals) (m25 (c .before .before .before .before .before .before .before .before .before .before .before .before .before .before .before .before .before .before .before
-            .before .before .before .before .before .before) (c .before .before .before .before .before .before .before .before .before .before .before .before .before .before .before .before .before
-            .before .before .before .before .before .before .before .rs .given))) (Row.get 7 (T33 .locals) (m25 (c .before .before .before .before .before .before .before .before .before .before .before
-            .before .before .before .before .before .before .before .before .before .before .before .before .before .before) (c .before .before .before .before .before .before .before .before .before
-            .before .before .before .before .before .before .before .before .before .before .before .before .before .before .before .rs .given)) .now) (Row.get 8 (T33 .locals) (m25 (c .before .before
-            .before .before .before .before .before .before .before .before .before .before .before .before .before .before .before .before .before .before .before .before .before .before .before) (c
-            .before .before .before .before .before .before .before .before .before .before .before .before .before .before .before .before .before .before .before .before .before .before .before .before
-            .rs .given))) (Row.get 9 (T33 .locals) (m25 (c .before .before .before .before .before .before .before .before .before .before .before .before .before .before .before .before .before .before
-            .before .before .before .before .before .before .before) (c .before .before .before .before .before .before .before .before .before .before .before .before .before .before .before .before
-            .before .before .before .before .before .before .before .before .rs .given))) (Row.get 10 (T33 .locals) (m25 (c .before .before .before .before .before .before .before .before .before .before
-            .before .before .before .before .before .before .before .before .before .before .before .before .before .before .before) (c .before .before .before .before .before .before .before .before
-            .before .before .before .before .before .before .before .before .before .before .before .before .before .before .before .before .rs .given))) (Row.get 11 (T33 .locals) (m25 (c .before .before
-            .before .before .before .before .before .before .before .before .before .before .before .before .before .before .before .before .before .before .before .before .before .before .before) (c
-            .before .before .before .before .before .before .before .before .before .before .before .before .before .before .before .before .before .before .before .before .before .before .before .before
-            .rs .given))) (Row.get 12 (T33 .locals) (m25 (c .before .before .before .before .before .before .before .before .before .before .before .before .before .before .before .before .before .before
-            .before .before .before .before .before .before .before) (c .before .before .before .before .before .before .before .before .before .before .before .before .before .before .before .before
-            .before .before .before .before .before .before .before .before .rs .given))) (Row.get 13 (T33 .locals) (m25 (c .before .before .before .before .before .before .before .before .before .before
-            .before .before .before .before .before .before .before .before .before .before .before .before .before .before .before) (c .before .before .before .before .before .before .before .before
-            .before .before .before .before .before .before .before .before .before .before .before .before .before .before .before .before .rs .given))) (Row.get 14 (T33 .locals) (m25 (c .before .before
-            .before .before .before .before .before .before .before .before .before .before .before .before .before .before .before .before .before .before .before .before .before .before .before) (c
-            .before .before .before .before .before .before .before .before .before .before .before .before .before .before .before .before .before .before .before .before .before .before .before .before
-            .rs .given))) (Row.get 15 (T33 .locals) (m25 (c .before .before .before .before .before .before .before .before .before .before .before .before .before .before .before .before .before .before
-            .before .before .before .before .before .before .before) (c .before .before .before .before .before .before .before .before .before .before .before .before .before .before .before .before
-            .before .before .before .before .before .before .before .before .rs .given))) (Row.get 16 (T33 .locals) (m25 (c .before .before .before .before .before .before .before .before .before .before
-            .before .before .before .before .before .before .before .before .before .before .before .before .before .before .before) (c .before .before .before .before .before .before .before .before
-            .before .before .before .before .before .before .before .before .before .before .before .before .before .before .before .before .rs .given))) (Row.get 17 (T33 .locals) (m25 (c .before .before
-            .before .before .before .before .before .before .before .before .before .before .before .before .before .before .before .before .before .before .before .before .before .before .before) (c
-            .before .before .before .before .before .before .before .before .before .before .before .before .before .before .before .before .before .before .before .before .before .before .before .before
-            .rs .given))) (Row.get 3 (T33 .locals) (m95 record { before = record { before = c .before; emit-line = c .emit-line }; image = record { given = g }; } g') .now) (Row.get 4 (T33 .locals) (m95
-            record { before = record { before = c .before; emit-line = c .emit-line }; image = record { given = g }; } g') .now) (Row.get 5 (T33 .locals) (m95 record { before = record { before = c
-            .before; emit-line = c .emit-line }; image = record { given = g }; } g') .now) (Row.get 14 (T33 .locals) (m95 record { before = record { before = c .before; emit-line = c .emit-line }; image =
-            record { given = g }; } g')) (Row.get 15 (T33 .locals) (m95 record { before = record { before = c .before; emit-line = c .emit-line }; image = record { given = g }; } g')) (Row.get 16 (T33
-            .locals) (m95 record { before = record { before = c .before; emit-line = c .emit-line }; image = record { given = g }; } g')) (Row.get 17 (T33 .locals) (m95 record { before = record { before =
-            c .before; emit-line = c .emit-line }; image = record { given = g }; } g')), loop-less record { before = record { before = record { before = c .before; emit-line = c .emit-line }; image =
-            record { given = g }; }; slice-known6 = record { given = g' }; }, ( ( Row.get 3 (T33 .locals) (m95 record { before = record { before = c .before; emit-line = c .emit-line }; image = record {
-            given = g }; } g') .now, Row.get 4 (T33 .locals) (m95 record { before = record { before = c .before; emit-line = c .emit-line }; image = record { given = g }; } g') .now, Row.get 5 (T33
-            .locals) (m95 record { before = record { before = c .before; emit-line = c .emit-line }; image = record { given = g }; } g') .now, Row.get 14 (T33 .locals) (m95 record { before = record {
-            before = c .before; emit-line = c .emit-line }; image = record { given = g }; } g'), Row.get 15 (T33 .locals) (m95 record { before = record { before = c .before; emit-line = c .emit-line };
-            image = record { given = g }; } g'), Row.get 16 (T33 .locals) (m95 record { before = record { before = c .before; emit-line = c .emit-line }; image = record { given = g }; } g'), Row.get 17
-            (T33 .locals) (m95 record { before = record { before = c .before; emit-line = c .emit-line }; image = record { given = g }; } g'), ), Path'.refl {a = m95 record { before = record { before = c
-            .before; emit-line = c .emit-line }; image = record { given = g }; } g'}, loop-again record { before = record { before = record { before = c .before; emit-line = c .emit-line }; image = record
-            { given = g }; }; slice-known6 = record { given = g' }; }, Path'.refl {a = μ·0 (Row.get 1 (T33 .locals) (m25 (c .before .before .before .before .before .before .before .before .before .before
-            .before .before .before .before .before .before .before .before .before .before .before .before .before .before .before) (c .before .before .before .before .before .before .before .before
-            .before .before .before .before .before .before .before .before .before .before .before .before .before .before .before .before .rs .given)) .now) (Row.get 2 (T33 .locals) (m25 (c .before
-            .before .before .before .before .before .before .before .before .before .before .before .before .before .before .before .before .before .before .before .before .before .before .before .before)
-            (c .before .before .before .before .before .before .before .before .before .before .before .before .before .before .before .before .before .before .before .before .before .before .before
-            .before .rs .given)) .now) (Row.get 3 (T33 .locals) (m25 (c .before .before .before .before .before .before .before .before .before .before .before .before .before .before .before .before
-            .before .before .before .before .before .before .before .before .before) (c .before .before .before .before .before .before .before .before .before .before .before .before .before .before
-            .before .before .before .before .before .before .before .before .before .before .rs .given)) .now) (Row.get 4 (T33 .locals) (m25 (c .before .before .before .before .before .before .before
-            .before .before .before .before .before .before .before .before .before .before .before .before .before .before .before .before .before .before) (c .before .before .before .before .before
-            .before .before .before .before .before .before .before .before .before .before .before .before .before .before .before .before .before .before .before .rs .given)) .now) (Row.get 5 (T33
-            .locals) (m25 (c .before .before .before .before .before .before .before .before .before .before .before .before .before .before .before .before .before .before .before .before .before .before
-            .before .before .before) (c .before .before .before .before .before .before .before .before .before .before .before .before .before .before .before .before .before .before .before .before
-            .before .before .before .before .rs .given)) .now) (Row.get 6 (T33 .locals) (m25 (c .before .before .before .before .before .before .before .before .before .before .before .before .before
-            .before .before .before .before .before .before .before .before .before .before .before .before) (c .before .before .before .before .before .before .before .before .before .before .before
-            .before .before .before .before .before .before .before .before .before .before .before .before .before .rs .given))) (Row.get 7 (T33 .locals) (m25 (c .before .before .before .before .before
-            .before .before .before .before .before .before .before .before .before .before .before .before .before .before .before .before .before .before .before .before) (c .before .before .before
-            .before .before .before .before .before .before .before .before .before .before .before .before .before .before .before .before .before .before .before .before .before .rs .given)) .now)
-            (Row.get 8 (T33 .locals) (m25 (c .before .before .before .before .before .before .before .before .before .before .before .before .before .before .before .before .before .before .before .before
-            .before .before .before .before .before) (c .before .before .before .before .before .before .before .before .before .before .before .before .before .before .before .before .before .before
-            .before .before .before .before .before .before .rs .given))) (Row.get 9 (T33 .locals) (m25 (c .before .before .before .before .before .before .before .before .before .before .before .before
-            .before .before .before .before .before .before .before .before .before .before .before .before .before) (c .before .before .before .before .before .before .before .before .before .before
-            .before .before .before .before .before .before .before .before .before .before .before .before .before .before .rs .given))) (Row.get 10 (T33 .locals) (m25 (c .before .before .before .before
-            .before .before .before .before .before .before .before .before .before .before .before .before .before .before .before .before .before .before .before .before .before) (c .before .before
-            .before .before .before .before .before .before .before .before .before .before .before .before .before .before .before .before .before .before .before .before .before .before .rs .given)))
-            (Row.get 11 (T33 .locals) (m25 (c .before .before .before .before .before .before .before .before .before .before .before .before .before .before .before .before .before .before .before
-            .before .before .before .before .before .before) (c .before .before .before .before .before .before .before .before .before .before .before .before .before .before .before .before .before
-            .before .before .before .before .before .before .before .rs .given))) (Row.get 12 (T33 .locals) (m25 (c .before .before .before .before .before .before .before .before .before .before .before
-            .before .before .before .before .before .before .before .before .before .before .before .before .before .before) (c .before .before .before .before .before .before .before .before .before
-            .before .before .before .before .before .before .before .before .before .before .before .before .before .before .before .rs .given))) (Row.get 13 (T33 .locals) (m25 (c .before .before .before
-            .before .before .before .before .before .before .before .before .before .before .before .before .before .before .before .before .before .before .before .before .before .before) (c .before
-            .before .before .before .before .before .before .before .before .before .before .before .before .before .before .before .before .before .before .before .before .before .before .before .rs
-            .given))) (Row.get 14 (T33 .locals) (m25 (c .before .before .before .before .before .before .before .before .before .before .before .before .before .before .before .before .before .before
-            .before .before .before .before .before .before .before) (c .before .before .before .before .before .before .before .before .before .before .before .before .before .before .before .before
-            .before .before .before .before .before .before .before .before .rs .given))) (Row.get 15 (T33 .locals) (m25 (c .before .before .before .before .before .before .before .before .before .before
-            .before .before .before .before .before .before .before .before .before .before .before .before .before .before .before) (c .before .before .before .before .before .before .before .before
-            .before .before .before .before .before .before .before .before .before .before .before .before .before .before .before .before .rs .given))) (Row.get 16 (T33 .locals) (m25 (c .before .before
-            .before .before .before .before .before .before .before .before .before .before .before .before .before .before .before .before .before .before .before .before .before .before .before) (c
-            .before .before .before .before .before .before .before .before .before .before .before .before .before .before .before .before .before .before .before .before .before .before .before .before
-            .rs .given))) (Row.get 17 (T33 .locals) (m25 (c .before .before .before .before .before .before .before .before .before .before .before .before .before .before .before .before .before .before
-            .before .before .before .before .before .before .before) (c .before .before .before .before .before .before .before .before .before .before .before .before .before .before .before .before
-            .before .before .before .before .before .before .before .before .rs .given))) (Row.get 3 (T33 .locals) (m95 record { before = record { before = c .before; emit-line = c .emit-line }; image =
-            record { given = g }; } g') .now) (Row.get 4 (T33 .locals) (m95 record { before = record { before = c .before; emit-line = c .emit-line }; image = record { given = g }; } g') .now) (Row.get 5
-            (T33 .locals) (m95 record { before = record { before = c .before; emit-line = c .emit-line }; image = record { given = g }; } g') .now) (Row.get 14 (T33 .locals) (m95 record { before = record
-            { before = c .before; emit-line = c .emit-line }; image = record { given = g }; } g')) (Row.get 15 (T33 .locals) (m95 record { before = record { before = c .before; emit-line = c .emit-line };
-            image = record { given = g }; } g')) (Row.get 16 (T33 .locals) (m95 record { before = record { before = c .before; emit-line = c .emit-line }; image = record { given = g }; } g')) (Row.get 17
-            (T33 .locals) (m95 record { before = record { before = c .before; emit-line = c .emit-line }; image = record { given = g }; } g'))}, ), ), ), )
+        lay16 = λ c. (
+          Path'.refl,
+          λ g. λ g'. (
+            add-n record {
+              before = record { before = record { before = c .before; emit-line = c .emit-line }; image = record { given = g } };
+              slice-known6 =
+                  record { given = g' };
+            },
+            (
+              μ·0 (Row.get 1 (T33 .locals) (m25 (c .before .before .before .before .before .before .before .before .before .before .before .before .before .before .before .before
+                  .before .before .before .before .before .before .before .before .before) (c .before .before .before .before .before .before .before .before .before .before .before .before .before .before
+                  .before .before .before .before .before .before .before .before .before .before .rs .given)) .now) (Row.get 2 (T33 .locals) (m25 (c .before .before .before .before .before .before .before
+                  .before .before .before .before .before .before .before .before .before .before .before .before .before .before .before .before .before .before) (c .before .before .before .before .before
+                  .before .before .before .before .before .before .before .before .before .before .before .before .before .before .before .before .before .before .before .rs .given)) .now) (Row.get 3 (T33
+                  .locals) (m25 (c .before .before .before .before .before .before .before .before .before .before .before .before .before .before .before .before .before .before .before .before .before .before
+                  .before .before .before) (c .before .before .before .before .before .before .before .before .before .before .before .before .before .before .before .before .before .before .before .before
+                  .before .before .before .before .rs .given)) .now) (Row.get 4 (T33 .locals) (m25 (c .before .before .before .before .before .before .before .before .before .before .before .before .before
+                  .before .before .before .before .before .before .before .before .before .before .before .before) (c .before .before .before .before .before .before .before .before .before .before .before
+                  .before .before .before .before .before .before .before .before .before .before .before .before .before .rs .given)) .now) (Row.get 5 (T33 .locals) (m25 (c .before .before .before .before
+                  .before .before .before .before .before .before .before .before .before .before .before .before .before .before .before .before .before .before .before .before .before) (c .before .before
+                  .before .before .before .before .before .before .before .before .before .before .before .before .before .before .before .before .before .before .before .before .before .before .rs .given))
+                  .now) (Row.get 6 (T33 .locals) (m25 (c .before .before .before .before .before .before .before .before .before .before .before .before .before .before .before .before .before .before .before
+                  .before .before .before .before .before .before) (c .before .before .before .before .before .before .before .before .before .before .before .before .before .before .before .before .before
+                  .before .before .before .before .before .before .before .rs .given))) (Row.get 7 (T33 .locals) (m25 (c .before .before .before .before .before .before .before .before .before .before .before
+                  .before .before .before .before .before .before .before .before .before .before .before .before .before .before) (c .before .before .before .before .before .before .before .before .before
+                  .before .before .before .before .before .before .before .before .before .before .before .before .before .before .before .rs .given)) .now) (Row.get 8 (T33 .locals) (m25 (c .before .before
+                  .before .before .before .before .before .before .before .before .before .before .before .before .before .before .before .before .before .before .before .before .before .before .before) (c
+                  .before .before .before .before .before .before .before .before .before .before .before .before .before .before .before .before .before .before .before .before .before .before .before .before
+                  .rs .given))) (Row.get 9 (T33 .locals) (m25 (c .before .before .before .before .before .before .before .before .before .before .before .before .before .before .before .before .before .before
+                  .before .before .before .before .before .before .before) (c .before .before .before .before .before .before .before .before .before .before .before .before .before .before .before .before
+                  .before .before .before .before .before .before .before .before .rs .given))) (Row.get 10 (T33 .locals) (m25 (c .before .before .before .before .before .before .before .before .before .before
+                  .before .before .before .before .before .before .before .before .before .before .before .before .before .before .before) (c .before .before .before .before .before .before .before .before
+                  .before .before .before .before .before .before .before .before .before .before .before .before .before .before .before .before .rs .given))) (Row.get 11 (T33 .locals) (m25 (c .before .before
+                  .before .before .before .before .before .before .before .before .before .before .before .before .before .before .before .before .before .before .before .before .before .before .before) (c
+                  .before .before .before .before .before .before .before .before .before .before .before .before .before .before .before .before .before .before .before .before .before .before .before .before
+                  .rs .given))) (Row.get 12 (T33 .locals) (m25 (c .before .before .before .before .before .before .before .before .before .before .before .before .before .before .before .before .before .before
+                  .before .before .before .before .before .before .before) (c .before .before .before .before .before .before .before .before .before .before .before .before .before .before .before .before
+                  .before .before .before .before .before .before .before .before .rs .given))) (Row.get 13 (T33 .locals) (m25 (c .before .before .before .before .before .before .before .before .before .before
+                  .before .before .before .before .before .before .before .before .before .before .before .before .before .before .before) (c .before .before .before .before .before .before .before .before
+                  .before .before .before .before .before .before .before .before .before .before .before .before .before .before .before .before .rs .given))) (Row.get 14 (T33 .locals) (m25 (c .before .before
+                  .before .before .before .before .before .before .before .before .before .before .before .before .before .before .before .before .before .before .before .before .before .before .before) (c
+                  .before .before .before .before .before .before .before .before .before .before .before .before .before .before .before .before .before .before .before .before .before .before .before .before
+                  .rs .given))) (Row.get 15 (T33 .locals) (m25 (c .before .before .before .before .before .before .before .before .before .before .before .before .before .before .before .before .before .before
+                  .before .before .before .before .before .before .before) (c .before .before .before .before .before .before .before .before .before .before .before .before .before .before .before .before
+                  .before .before .before .before .before .before .before .before .rs .given))) (Row.get 16 (T33 .locals) (m25 (c .before .before .before .before .before .before .before .before .before .before
+                  .before .before .before .before .before .before .before .before .before .before .before .before .before .before .before) (c .before .before .before .before .before .before .before .before
+                  .before .before .before .before .before .before .before .before .before .before .before .before .before .before .before .before .rs .given))) (Row.get 17 (T33 .locals) (m25 (c .before .before
+                  .before .before .before .before .before .before .before .before .before .before .before .before .before .before .before .before .before .before .before .before .before .before .before) (c
+                  .before .before .before .before .before .before .before .before .before .before .before .before .before .before .before .before .before .before .before .before .before .before .before .before
+                  .rs .given))) (Row.get 3 (T33 .locals) (m95 record { before = record { before = c .before; emit-line = c .emit-line }; image = record { given = g } } g') .now) (Row.get 4 (T33 .locals) (m95
+                  record { before = record { before = c .before; emit-line = c .emit-line }; image = record { given = g } } g') .now) (Row.get 5 (T33 .locals) (m95 record {
+                    before = record {
+                      before = c
+                          .before;
+                      emit-line = c .emit-line;
+                    };
+                    image = record { given = g };
+                  } g') .now) (Row.get 14 (T33 .locals) (m95 record {
+                    before = record { before = c .before; emit-line = c .emit-line };
+                    image =
+                        record { given = g };
+                  } g')) (Row.get 15 (T33 .locals) (m95 record { before = record { before = c .before; emit-line = c .emit-line }; image = record { given = g } } g')) (Row.get 16 (T33
+                  .locals) (m95 record { before = record { before = c .before; emit-line = c .emit-line }; image = record { given = g } } g')) (Row.get 17 (T33 .locals) (m95 record {
+                    before = record {
+                      before =
+                          c .before;
+                      emit-line = c .emit-line;
+                    };
+                    image = record { given = g };
+                  } g')),
+              loop-less record {
+                before = record {
+                  before = record { before = c .before; emit-line = c .emit-line };
+                  image =
+                      record { given = g };
+                };
+                slice-known6 = record { given = g' };
+              },
+              (
+                (
+                  Row.get 3 (T33 .locals) (m95 record {
+                    before = record { before = c .before; emit-line = c .emit-line };
+                    image = record {
+                      given = g;
+                    };
+                  } g') .now,
+                  Row.get 4 (T33 .locals) (m95 record { before = record { before = c .before; emit-line = c .emit-line }; image = record { given = g } } g') .now,
+                  Row.get 5 (T33
+                      .locals) (m95 record { before = record { before = c .before; emit-line = c .emit-line }; image = record { given = g } } g') .now,
+                  Row.get 14 (T33 .locals) (m95 record {
+                    before = record {
+                      before = c .before;
+                      emit-line = c .emit-line;
+                    };
+                    image = record { given = g };
+                  } g'),
+                  Row.get 15 (T33 .locals) (m95 record {
+                    before = record { before = c .before; emit-line = c .emit-line };
+                    image = record { given = g };
+                  } g'),
+                  Row.get 16 (T33 .locals) (m95 record { before = record { before = c .before; emit-line = c .emit-line }; image = record { given = g } } g'),
+                  Row.get 17
+                      (T33 .locals) (m95 record { before = record { before = c .before; emit-line = c .emit-line }; image = record { given = g } } g'),
+                ),
+                Path'.refl {a = m95 record {
+                  before = record {
+                    before = c
+                        .before;
+                    emit-line = c .emit-line;
+                  };
+                  image = record { given = g };
+                } g'},
+                loop-again record {
+                  before = record {
+                    before = record { before = c .before; emit-line = c .emit-line };
+                    image = record
+                        { given = g };
+                  };
+                  slice-known6 = record { given = g' };
+                },
+                Path'.refl {a = μ·0 (Row.get 1 (T33 .locals) (m25 (c .before .before .before .before .before .before .before .before .before .before
+                    .before .before .before .before .before .before .before .before .before .before .before .before .before .before .before) (c .before .before .before .before .before .before .before .before
+                    .before .before .before .before .before .before .before .before .before .before .before .before .before .before .before .before .rs .given)) .now) (Row.get 2 (T33 .locals) (m25 (c .before
+                    .before .before .before .before .before .before .before .before .before .before .before .before .before .before .before .before .before .before .before .before .before .before .before .before)
+                    (c .before .before .before .before .before .before .before .before .before .before .before .before .before .before .before .before .before .before .before .before .before .before .before
+                    .before .rs .given)) .now) (Row.get 3 (T33 .locals) (m25 (c .before .before .before .before .before .before .before .before .before .before .before .before .before .before .before .before
+                    .before .before .before .before .before .before .before .before .before) (c .before .before .before .before .before .before .before .before .before .before .before .before .before .before
+                    .before .before .before .before .before .before .before .before .before .before .rs .given)) .now) (Row.get 4 (T33 .locals) (m25 (c .before .before .before .before .before .before .before
+                    .before .before .before .before .before .before .before .before .before .before .before .before .before .before .before .before .before .before) (c .before .before .before .before .before
+                    .before .before .before .before .before .before .before .before .before .before .before .before .before .before .before .before .before .before .before .rs .given)) .now) (Row.get 5 (T33
+                    .locals) (m25 (c .before .before .before .before .before .before .before .before .before .before .before .before .before .before .before .before .before .before .before .before .before .before
+                    .before .before .before) (c .before .before .before .before .before .before .before .before .before .before .before .before .before .before .before .before .before .before .before .before
+                    .before .before .before .before .rs .given)) .now) (Row.get 6 (T33 .locals) (m25 (c .before .before .before .before .before .before .before .before .before .before .before .before .before
+                    .before .before .before .before .before .before .before .before .before .before .before .before) (c .before .before .before .before .before .before .before .before .before .before .before
+                    .before .before .before .before .before .before .before .before .before .before .before .before .before .rs .given))) (Row.get 7 (T33 .locals) (m25 (c .before .before .before .before .before
+                    .before .before .before .before .before .before .before .before .before .before .before .before .before .before .before .before .before .before .before .before) (c .before .before .before
+                    .before .before .before .before .before .before .before .before .before .before .before .before .before .before .before .before .before .before .before .before .before .rs .given)) .now)
+                    (Row.get 8 (T33 .locals) (m25 (c .before .before .before .before .before .before .before .before .before .before .before .before .before .before .before .before .before .before .before .before
+                    .before .before .before .before .before) (c .before .before .before .before .before .before .before .before .before .before .before .before .before .before .before .before .before .before
+                    .before .before .before .before .before .before .rs .given))) (Row.get 9 (T33 .locals) (m25 (c .before .before .before .before .before .before .before .before .before .before .before .before
+                    .before .before .before .before .before .before .before .before .before .before .before .before .before) (c .before .before .before .before .before .before .before .before .before .before
+                    .before .before .before .before .before .before .before .before .before .before .before .before .before .before .rs .given))) (Row.get 10 (T33 .locals) (m25 (c .before .before .before .before
+                    .before .before .before .before .before .before .before .before .before .before .before .before .before .before .before .before .before .before .before .before .before) (c .before .before
+                    .before .before .before .before .before .before .before .before .before .before .before .before .before .before .before .before .before .before .before .before .before .before .rs .given)))
+                    (Row.get 11 (T33 .locals) (m25 (c .before .before .before .before .before .before .before .before .before .before .before .before .before .before .before .before .before .before .before
+                    .before .before .before .before .before .before) (c .before .before .before .before .before .before .before .before .before .before .before .before .before .before .before .before .before
+                    .before .before .before .before .before .before .before .rs .given))) (Row.get 12 (T33 .locals) (m25 (c .before .before .before .before .before .before .before .before .before .before .before
+                    .before .before .before .before .before .before .before .before .before .before .before .before .before .before) (c .before .before .before .before .before .before .before .before .before
+                    .before .before .before .before .before .before .before .before .before .before .before .before .before .before .before .rs .given))) (Row.get 13 (T33 .locals) (m25 (c .before .before .before
+                    .before .before .before .before .before .before .before .before .before .before .before .before .before .before .before .before .before .before .before .before .before .before) (c .before
+                    .before .before .before .before .before .before .before .before .before .before .before .before .before .before .before .before .before .before .before .before .before .before .before .rs
+                    .given))) (Row.get 14 (T33 .locals) (m25 (c .before .before .before .before .before .before .before .before .before .before .before .before .before .before .before .before .before .before
+                    .before .before .before .before .before .before .before) (c .before .before .before .before .before .before .before .before .before .before .before .before .before .before .before .before
+                    .before .before .before .before .before .before .before .before .rs .given))) (Row.get 15 (T33 .locals) (m25 (c .before .before .before .before .before .before .before .before .before .before
+                    .before .before .before .before .before .before .before .before .before .before .before .before .before .before .before) (c .before .before .before .before .before .before .before .before
+                    .before .before .before .before .before .before .before .before .before .before .before .before .before .before .before .before .rs .given))) (Row.get 16 (T33 .locals) (m25 (c .before .before
+                    .before .before .before .before .before .before .before .before .before .before .before .before .before .before .before .before .before .before .before .before .before .before .before) (c
+                    .before .before .before .before .before .before .before .before .before .before .before .before .before .before .before .before .before .before .before .before .before .before .before .before
+                    .rs .given))) (Row.get 17 (T33 .locals) (m25 (c .before .before .before .before .before .before .before .before .before .before .before .before .before .before .before .before .before .before
+                    .before .before .before .before .before .before .before) (c .before .before .before .before .before .before .before .before .before .before .before .before .before .before .before .before
+                    .before .before .before .before .before .before .before .before .rs .given))) (Row.get 3 (T33 .locals) (m95 record {
+                      before = record { before = c .before; emit-line = c .emit-line };
+                      image =
+                          record { given = g };
+                    } g') .now) (Row.get 4 (T33 .locals) (m95 record { before = record { before = c .before; emit-line = c .emit-line }; image = record { given = g } } g') .now) (Row.get 5
+                    (T33 .locals) (m95 record { before = record { before = c .before; emit-line = c .emit-line }; image = record { given = g } } g') .now) (Row.get 14 (T33 .locals) (m95 record {
+                      before = record
+                          { before = c .before; emit-line = c .emit-line };
+                      image = record { given = g };
+                    } g')) (Row.get 15 (T33 .locals) (m95 record {
+                      before = record { before = c .before; emit-line = c .emit-line };
+                      image = record { given = g };
+                    } g')) (Row.get 16 (T33 .locals) (m95 record { before = record { before = c .before; emit-line = c .emit-line }; image = record { given = g } } g')) (Row.get 17
+                    (T33 .locals) (m95 record { before = record { before = c .before; emit-line = c .emit-line }; image = record { given = g } } g'))},
+              ),
+            ),
+          ),
+        )
 
         lay15 : (c : After-tight-count) → at47 (c .before .before .before .before .before .before .before .before .before .before .before .before .before .before .before .before .before .before
             .before .before .before .before .before .before .before .before .before .before .before .before .before .before .before .before .blocks) (W3 (c .before .before .before .before .before .before
@@ -5885,13 +9937,67 @@ module _ (claims· : Claims) where
             .before .before .before .before .loop .tight) (c .before .before .before .before .before .before .before .before .before .before .before .before .before .before .before .before .before .before
             .before .before .loop .tight-lines) (c .before .before .before .before .before .before .before .before .before .before .before .before .before .before .before .before .before .before .before
             .before .loop .n)) (m82 (c .before) (After-tight-count·gave c))
-        lay15 = λ c. λ g. ( Path'.refl, λ g'. ( Path'.refl, ( emit-line-requires record { before = record { before = record { before = c .before; tight-count = c .tight-count }; emit-line-arg = record
-            { given = g }; }; emit-line-arg2 = record { given = g' }; }, λ g''. lay16 record { before = record { before = record { before = record { before = c .before; tight-count = c .tight-count };
-            emit-line-arg = record { given = g }; }; emit-line-arg2 = record { given = g' }; }; emit-line = Called.called ps·10 r·10 (claims· .21) T109 ( record { pos = 39; ty = Syntax.tyRef Syntax.erased
-            Syntax.imm (Syntax.tyInt Syntax.w16); ref = λ x. x; }, ( record { pos = 41; ty = Syntax.tyRef Syntax.erased Syntax.mut (Syntax.tyInt Syntax.w16); ref = λ x. x; }, ( Num.vAt 13 λ x. x, (
-            Bool.bAt 12 λ x. x, ( record { pos = 7; ty = Syntax.tyRef (Syntax.named 5) Syntax.imm (Syntax.tyArray (Syntax.tyInt Syntax.w16) 768); ref = λ x. x; }, ( record { pos = 8; st = List.[]; d = 0;
-            at = λ x. x }, ( record { pos = 9; st = List.[]; d = 0; at = λ x. x }, (Num.vAt 17 λ x. x, tt), ), ), ), ), ), ), ) (m86 record { before = record { before = c .before; tight-count = c
-            .tight-count }; emit-line-arg = record { given = g }; } g') g''; }, ), ), )
+        lay15 = λ c. λ g. (
+          Path'.refl,
+          λ g'. (
+            Path'.refl,
+            (
+              emit-line-requires record {
+                before = record {
+                  before = record { before = c .before; tight-count = c .tight-count };
+                  emit-line-arg = record
+                      { given = g };
+                };
+                emit-line-arg2 = record { given = g' };
+              },
+              λ g''. lay16 record {
+                before = record {
+                  before = record {
+                    before = record { before = c .before; tight-count = c .tight-count };
+                    emit-line-arg = record { given = g };
+                  };
+                  emit-line-arg2 = record { given = g' };
+                };
+                emit-line = Called.called ps·10 r·10 (claims· .21) T109 (
+                  record {
+                    pos = 39;
+                    ty = Syntax.tyRef Syntax.erased
+                        Syntax.imm (Syntax.tyInt Syntax.w16);
+                    ref = λ x. x;
+                  },
+                  (
+                    record { pos = 41; ty = Syntax.tyRef Syntax.erased Syntax.mut (Syntax.tyInt Syntax.w16); ref = λ x. x },
+                    (
+                      Num.vAt 13 λ x. x,
+                      (
+                        Bool.bAt 12 λ x. x,
+                        (
+                          record { pos = 7; ty = Syntax.tyRef (Syntax.named 5) Syntax.imm (Syntax.tyArray (Syntax.tyInt Syntax.w16) 768); ref = λ x. x },
+                          (
+                            record {
+                              pos = 8;
+                              st = List.[];
+                              d = 0;
+                              at = λ x. x;
+                            },
+                            (record { pos = 9; st = List.[]; d = 0; at = λ x. x }, (Num.vAt 17 λ x. x, tt)),
+                          ),
+                        ),
+                      ),
+                    ),
+                  ),
+                ) (m86 record {
+                  before = record {
+                    before = c .before;
+                    tight-count = c
+                        .tight-count;
+                  };
+                  emit-line-arg = record { given = g };
+                } g') g'';
+              },
+            ),
+          ),
+        )
 
         lay14 : (c : Else1) → at51 (c .before .before .before .before .before .before .before .before .before .before .before .before .before .before .before .before .before .before .before .before
             .before .before .before .before .before .before .before .before .before .before .before .before .blocks) (W3 (c .before .before .before .before .before .before .before .before .before .before
@@ -5902,9 +10008,29 @@ module _ (claims· : Claims) where
             .before .before .before .before .before .before .before .before .before .before .before .before .loop .tight) (c .before .before .before .before .before .before .before .before .before .before
             .before .before .before .before .before .before .before .before .loop .tight-lines) (c .before .before .before .before .before .before .before .before .before .before .before .before .before
             .before .before .before .before .before .loop .n)) (m78 (c .before))
-        lay14 = λ c. ( tt, λ g. ( tight-count-requires record { before = record { before = c .before; if1 = c .if1 }; at = record { given = g }; }, λ g'. lay15 record { before = record { before =
-            record { before = c .before; if1 = c .if1 }; at = record { given = g }; }; tight-count = Called.called ps·9 r·9 (claims· .19) T102 ( Num.vAt 16 λ x. x, (Num.vAt 17 λ x. x, (Bool.bAt 15 λ x. x,
-            tt)), ) (m81 record { before = c .before; if1 = c .if1 } g) g'; }, ), )
+        lay14 = λ c. (
+          tt,
+          λ g. (
+            tight-count-requires record { before = record { before = c .before; if1 = c .if1 }; at = record { given = g } },
+            λ g'. lay15 record {
+              before = record {
+                before =
+                    record { before = c .before; if1 = c .if1 };
+                at = record { given = g };
+              };
+              tight-count = Called.called ps·9 r·9 (claims· .19) T102 (
+                Num.vAt 16 λ x. x,
+                (
+                  Num.vAt 17 λ x. x,
+                  (
+                    Bool.bAt 15 λ x. x,
+                    tt,
+                  ),
+                ),
+              ) (m81 record { before = c .before; if1 = c .if1 } g) g';
+            },
+          ),
+        )
 
         lay13 : (c : After-line) → at62 (c .before .before .before .before .before .before .before .before .before .before .before .before .before .before .before .before .before .before .before
             .before .before .before .before .before .before .before .before .before .blocks) (W3 (c .before .before .before .before .before .before .before .before .before .before .before .before .before
@@ -5913,34 +10039,171 @@ module _ (claims· : Claims) where
             .before .loop .image) (c .before .before .before .before .before .before .before .before .before .before .before .before .before .before .loop .at) (c .before .before .before .before .before
             .before .before .before .before .before .before .before .before .before .loop .tight) (c .before .before .before .before .before .before .before .before .before .before .before .before .before
             .before .loop .tight-lines) (c .before .before .before .before .before .before .before .before .before .before .before .before .before .before .loop .n)) (m52 (c .before) (After-line·gave c))
-        lay13 = λ c. ( Path'.refl, λ g. λ g'. ( Path'.refl, λ g''. ( tt, ( λ taken. ( ( Path'.refl, ( Path'.refl, ( MutSlice.fix-len (Row.get 3 (T96 .locals) (m75 record { before = record { before =
-            record { before = record { before = c .before; line = c .line }; lines3 = record { given = g }; }; slice-known5 = record { given = g' }; }; rs3 = record { given = g'' }; }) .ptr) (Row.get 3
-            (T96 .locals) (m75 record { before = record { before = record { before = record { before = c .before; line = c .line }; lines3 = record { given = g }; }; slice-known5 = record { given = g' };
-            }; rs3 = record { given = g'' }; }) .name) (Row.get 3 (T96 .locals) (m75 record { before = record { before = record { before = record { before = c .before; line = c .line }; lines3 = record {
-            given = g }; }; slice-known5 = record { given = g' }; }; rs3 = record { given = g'' }; }) .now) (dens (c .before .before .before .before .before .before .before .before .before .before .before
-            .before .before .before .before .before .before .before .before .before .before .before .before .before .before .before .before .before .κs) (c .before .before .before .before .before .before
-            .before .before .before .before .before .before .before .before .before .before .before .before .before .before .before .before .before .before .before .before .before .before .args) .1 .1 .0
-            .now) (same-length record { before = record { before = record { before = record { before = record { before = c .before; line = c .line }; lines3 = record { given = g }; }; slice-known5 =
-            record { given = g' }; }; rs3 = record { given = g'' }; }; if1 = record { taken = taken }; }), ( MutSlice.fix-len (Row.get 4 (T96 .locals) (m75 record { before = record { before = record {
-            before = record { before = c .before; line = c .line }; lines3 = record { given = g }; }; slice-known5 = record { given = g' }; }; rs3 = record { given = g'' }; }) .ptr) (Row.get 4 (T96
-            .locals) (m75 record { before = record { before = record { before = record { before = c .before; line = c .line }; lines3 = record { given = g }; }; slice-known5 = record { given = g' }; };
-            rs3 = record { given = g'' }; }) .name) (Row.get 4 (T96 .locals) (m75 record { before = record { before = record { before = record { before = c .before; line = c .line }; lines3 = record {
-            given = g }; }; slice-known5 = record { given = g' }; }; rs3 = record { given = g'' }; }) .now) (dens (c .before .before .before .before .before .before .before .before .before .before .before
-            .before .before .before .before .before .before .before .before .before .before .before .before .before .before .before .before .before .κs) (c .before .before .before .before .before .before
-            .before .before .before .before .before .before .before .before .before .before .before .before .before .before .before .before .before .before .before .before .before .before .args) .1 .1 .1
-            .0 .now) (same-length-2 record { before = record { before = record { before = record { before = record { before = c .before; line = c .line }; lines3 = record { given = g }; }; slice-known5 =
-            record { given = g' }; }; rs3 = record { given = g'' }; }; if1 = record { taken = taken }; }), ( MutSlice.fix-len (Row.get 5 (T96 .locals) (m75 record { before = record { before = record {
-            before = record { before = c .before; line = c .line }; lines3 = record { given = g }; }; slice-known5 = record { given = g' }; }; rs3 = record { given = g'' }; }) .ptr) (Row.get 5 (T96
-            .locals) (m75 record { before = record { before = record { before = record { before = c .before; line = c .line }; lines3 = record { given = g }; }; slice-known5 = record { given = g' }; };
-            rs3 = record { given = g'' }; }) .name) (Row.get 5 (T96 .locals) (m75 record { before = record { before = record { before = record { before = c .before; line = c .line }; lines3 = record {
-            given = g }; }; slice-known5 = record { given = g' }; }; rs3 = record { given = g'' }; }) .now) (dens (c .before .before .before .before .before .before .before .before .before .before .before
-            .before .before .before .before .before .before .before .before .before .before .before .before .before .before .before .before .before .κs) (c .before .before .before .before .before .before
-            .before .before .before .before .before .before .before .before .before .before .before .before .before .before .before .before .before .before .before .before .before .before .args) .1 .1 .1
-            .1 .0 .now) (same-length-3 record { before = record { before = record { before = record { before = record { before = c .before; line = c .line }; lines3 = record { given = g }; }; slice-known5
-            = record { given = g' }; }; rs3 = record { given = g'' }; }; if1 = record { taken = taken }; }), (tt, (Path'.refl, (tt, (tt, (tt, tt))))), ), ), ), ), ), returns record { before = record {
-            before = record { before = record { before = record { before = c .before; line = c .line }; lines3 = record { given = g }; }; slice-known5 = record { given = g' }; }; rs3 = record { given =
-            g'' }; }; if1 = record { taken = taken }; }, ), λ left. lay14 record { before = record { before = record { before = record { before = record { before = c .before; line = c .line }; lines3 =
-            record { given = g }; }; slice-known5 = record { given = g' }; }; rs3 = record { given = g'' }; }; if1 = record { left = left }; }, ), ), ), )
+        lay13 = λ c. (
+          Path'.refl,
+          λ g. λ g'. (
+            Path'.refl,
+            λ g''. (
+              tt,
+              (
+                λ taken. (
+                  (
+                    Path'.refl,
+                    (
+                      Path'.refl,
+                      (
+                        MutSlice.fix-len (Row.get 3 (T96 .locals) (m75 record {
+                          before = record {
+                            before =
+                                record { before = record { before = c .before; line = c .line }; lines3 = record { given = g } };
+                            slice-known5 = record { given = g' };
+                          };
+                          rs3 = record { given = g'' };
+                        }) .ptr) (Row.get 3
+                            (T96 .locals) (m75 record {
+                              before = record {
+                                before = record { before = record { before = c .before; line = c .line }; lines3 = record { given = g } };
+                                slice-known5 = record { given = g' };
+                              };
+                              rs3 = record { given = g'' };
+                            }) .name) (Row.get 3 (T96 .locals) (m75 record {
+                              before = record {
+                                before = record {
+                                  before = record { before = c .before; line = c .line };
+                                  lines3 = record {
+                                    given = g;
+                                  };
+                                };
+                                slice-known5 = record { given = g' };
+                              };
+                              rs3 = record { given = g'' };
+                            }) .now) (dens (c .before .before .before .before .before .before .before .before .before .before .before
+                            .before .before .before .before .before .before .before .before .before .before .before .before .before .before .before .before .before .κs) (c .before .before .before .before .before .before
+                            .before .before .before .before .before .before .before .before .before .before .before .before .before .before .before .before .before .before .before .before .before .before .args) .1 .1 .0
+                            .now) (same-length record {
+                              before = record {
+                                before = record {
+                                  before = record { before = record { before = c .before; line = c .line }; lines3 = record { given = g } };
+                                  slice-known5 =
+                                      record { given = g' };
+                                };
+                                rs3 = record { given = g'' };
+                              };
+                              if1 = record { taken = taken };
+                            }),
+                        (
+                          MutSlice.fix-len (Row.get 4 (T96 .locals) (m75 record {
+                            before = record {
+                              before = record {
+                                before = record { before = c .before; line = c .line };
+                                lines3 = record { given = g };
+                              };
+                              slice-known5 = record { given = g' };
+                            };
+                            rs3 = record { given = g'' };
+                          }) .ptr) (Row.get 4 (T96
+                              .locals) (m75 record {
+                                before = record { before = record { before = record { before = c .before; line = c .line }; lines3 = record { given = g } }; slice-known5 = record { given = g' } };
+                                rs3 = record { given = g'' };
+                              }) .name) (Row.get 4 (T96 .locals) (m75 record {
+                                before = record {
+                                  before = record {
+                                    before = record { before = c .before; line = c .line };
+                                    lines3 = record {
+                                      given = g;
+                                    };
+                                  };
+                                  slice-known5 = record { given = g' };
+                                };
+                                rs3 = record { given = g'' };
+                              }) .now) (dens (c .before .before .before .before .before .before .before .before .before .before .before
+                              .before .before .before .before .before .before .before .before .before .before .before .before .before .before .before .before .before .κs) (c .before .before .before .before .before .before
+                              .before .before .before .before .before .before .before .before .before .before .before .before .before .before .before .before .before .before .before .before .before .before .args) .1 .1 .1
+                              .0 .now) (same-length-2 record {
+                                before = record {
+                                  before = record {
+                                    before = record { before = record { before = c .before; line = c .line }; lines3 = record { given = g } };
+                                    slice-known5 =
+                                        record { given = g' };
+                                  };
+                                  rs3 = record { given = g'' };
+                                };
+                                if1 = record { taken = taken };
+                              }),
+                          (
+                            MutSlice.fix-len (Row.get 5 (T96 .locals) (m75 record {
+                              before = record {
+                                before = record {
+                                  before = record { before = c .before; line = c .line };
+                                  lines3 = record { given = g };
+                                };
+                                slice-known5 = record { given = g' };
+                              };
+                              rs3 = record { given = g'' };
+                            }) .ptr) (Row.get 5 (T96
+                                .locals) (m75 record {
+                                  before = record { before = record { before = record { before = c .before; line = c .line }; lines3 = record { given = g } }; slice-known5 = record { given = g' } };
+                                  rs3 = record { given = g'' };
+                                }) .name) (Row.get 5 (T96 .locals) (m75 record {
+                                  before = record {
+                                    before = record {
+                                      before = record { before = c .before; line = c .line };
+                                      lines3 = record {
+                                        given = g;
+                                      };
+                                    };
+                                    slice-known5 = record { given = g' };
+                                  };
+                                  rs3 = record { given = g'' };
+                                }) .now) (dens (c .before .before .before .before .before .before .before .before .before .before .before
+                                .before .before .before .before .before .before .before .before .before .before .before .before .before .before .before .before .before .κs) (c .before .before .before .before .before .before
+                                .before .before .before .before .before .before .before .before .before .before .before .before .before .before .before .before .before .before .before .before .before .before .args) .1 .1 .1
+                                .1 .0 .now) (same-length-3 record {
+                                  before = record {
+                                    before = record {
+                                      before = record { before = record { before = c .before; line = c .line }; lines3 = record { given = g } };
+                                      slice-known5
+                                          = record { given = g' };
+                                    };
+                                    rs3 = record { given = g'' };
+                                  };
+                                  if1 = record { taken = taken };
+                                }),
+                            (tt, (Path'.refl, (tt, (tt, (tt, tt))))),
+                          ),
+                        ),
+                      ),
+                    ),
+                  ),
+                  returns record {
+                    before = record {
+                      before = record { before = record { before = record { before = c .before; line = c .line }; lines3 = record { given = g } }; slice-known5 = record { given = g' } };
+                      rs3 = record {
+                        given =
+                            g'';
+                      };
+                    };
+                    if1 = record { taken = taken };
+                  },
+                ),
+                λ left. lay14 record {
+                  before = record {
+                    before = record {
+                      before = record {
+                        before = record { before = c .before; line = c .line };
+                        lines3 =
+                            record { given = g };
+                      };
+                      slice-known5 = record { given = g' };
+                    };
+                    rs3 = record { given = g'' };
+                  };
+                  if1 = record { left = left };
+                },
+              ),
+            ),
+          ),
+        )
 
         lay12 : (c : After-quantisers-of) → at63 (c .before .before .before .before .before .before .before .before .before .before .before .before .before .before .before .before .before .before
             .before .before .before .before .before .before .before .before .before .blocks) (W3 (c .before .before .before .before .before .before .before .before .before .before .before .before .before
@@ -5949,11 +10212,41 @@ module _ (claims· : Claims) where
             .before .before .before .before .before .before .before .before .before .before .before .before .loop .at) (c .before .before .before .before .before .before .before .before .before .before
             .before .before .before .loop .tight) (c .before .before .before .before .before .before .before .before .before .before .before .before .before .loop .tight-lines) (c .before .before .before
             .before .before .before .before .before .before .before .before .before .before .loop .n)) (m51 (c .before) (After-quantisers-of·gave c))
-        lay12 = λ c. ( line-requires record { before = c .before; quantisers-of = c .quantisers-of }, λ g. lay13 record { before = record { before = c .before; quantisers-of = c .quantisers-of }; line
-            = Called.called ps·8 r·8 (claims· .17) T67 ( record { pos = 1; ty = Syntax.tyRef (Syntax.named 0) Syntax.imm (Syntax.tyInt Syntax.w8); ref = λ x. x; }, ( record { pos = 14; st = List.[]; d =
-            0; at = λ x. x }, ( Bool.bAt 15 λ x. x, ( record { pos = 34; ty = Syntax.tyRef Syntax.erased Syntax.mut (Syntax.tyInt Syntax.w16); ref = λ x. x; }, ( record { pos = 36; ty = Syntax.tyRef
-            Syntax.erased Syntax.mut Element.behind; ref = λ x. x; }, ( record { pos = 6; st = List.[]; d = 0; at = λ x. x }, (record { pos = 37; st = List.[]; d = 0; at = λ x. x }, tt), ), ), ), ), ), )
-            (m51 (c .before) (After-quantisers-of·gave c)) g; }, )
+        lay12 = λ c. (
+          line-requires record { before = c .before; quantisers-of = c .quantisers-of },
+          λ g. lay13 record {
+            before = record { before = c .before; quantisers-of = c .quantisers-of };
+            line
+                = Called.called ps·8 r·8 (claims· .17) T67 (
+                  record { pos = 1; ty = Syntax.tyRef (Syntax.named 0) Syntax.imm (Syntax.tyInt Syntax.w8); ref = λ x. x },
+                  (
+                    record {
+                      pos = 14;
+                      st = List.[];
+                      d =
+                          0;
+                      at = λ x. x;
+                    },
+                    (
+                      Bool.bAt 15 λ x. x,
+                      (
+                        record { pos = 34; ty = Syntax.tyRef Syntax.erased Syntax.mut (Syntax.tyInt Syntax.w16); ref = λ x. x },
+                        (
+                          record {
+                            pos = 36;
+                            ty = Syntax.tyRef
+                                Syntax.erased Syntax.mut Element.behind;
+                            ref = λ x. x;
+                          },
+                          (record { pos = 6; st = List.[]; d = 0; at = λ x. x }, (record { pos = 37; st = List.[]; d = 0; at = λ x. x }, tt)),
+                        ),
+                      ),
+                    ),
+                  ),
+                )
+                (m51 (c .before) (After-quantisers-of·gave c)) g;
+          },
+        )
 
         lay11 : (c : After-restart) → at75 (c .before .before .before .before .before .before .before .before .before .before .before .before .before .before .before .before .before .before .before
             .before .before .before .before .blocks) (W3 (c .before .before .before .before .before .before .before .before .before .before) (c .before .before .before .before .before .before .before
@@ -5961,44 +10254,143 @@ module _ (claims· : Claims) where
             .loop .image) (c .before .before .before .before .before .before .before .before .before .loop .at) (c .before .before .before .before .before .before .before .before .before .loop .tight) (c
             .before .before .before .before .before .before .before .before .before .loop .tight-lines) (c .before .before .before .before .before .before .before .before .before .loop .n)) (m43 (c
             .before) (After-restart·gave c))
-        lay11 = λ c. ( Path'.refl, λ g. λ g'. ( Path'.refl, λ g''. ( Path'.refl, ( quantisers-of-requires record { before = record { before = record { before = record { before = c .before; restart = c
-            .restart }; rs2 = record { given = g }; }; line-arg = record { given = g' }; }; line-arg2 = record { given = g'' }; }, λ g'3. lay12 record { before = record { before = record { before = record
-            { before = record { before = c .before; restart = c .restart }; rs2 = record { given = g }; }; line-arg = record { given = g' }; }; line-arg2 = record { given = g'' }; }; quantisers-of =
-            Called.called ps·7 r·7 (claims· .15) T66 ( Num.vAt 11 λ x. x, (Num.vAt 18 λ x. x, tt), ) (m50 record { before = record { before = record { before = c .before; restart = c .restart }; rs2 =
-            record { given = g }; }; line-arg = record { given = g' }; } g'') g'3; }, ), ), ), )
+        lay11 = λ c. (
+          Path'.refl,
+          λ g. λ g'. (
+            Path'.refl,
+            λ g''. (
+              Path'.refl,
+              (
+                quantisers-of-requires record {
+                  before = record {
+                    before = record {
+                      before = record {
+                        before = c .before;
+                        restart = c
+                            .restart;
+                      };
+                      rs2 = record { given = g };
+                    };
+                    line-arg = record { given = g' };
+                  };
+                  line-arg2 = record { given = g'' };
+                },
+                λ g'3. lay12 record {
+                  before = record {
+                    before = record {
+                      before = record
+                          { before = record { before = c .before; restart = c .restart }; rs2 = record { given = g } };
+                      line-arg = record { given = g' };
+                    };
+                    line-arg2 = record { given = g'' };
+                  };
+                  quantisers-of =
+                      Called.called ps·7 r·7 (claims· .15) T66 (Num.vAt 11 λ x. x, (Num.vAt 18 λ x. x, tt)) (m50 record {
+                        before = record {
+                          before = record { before = c .before; restart = c .restart };
+                          rs2 =
+                              record { given = g };
+                        };
+                        line-arg = record { given = g' };
+                      } g'') g'3;
+                },
+              ),
+            ),
+          ),
+        )
 
         lay10 : (c : After-is-restarted) → at76 (c .before .before .before .before .before .before .before .before .before .before .before .before .before .before .before .before .before .before
             .before .before .before .before .blocks) (W3 (c .before .before .before .before .before .before .before .before .before) (c .before .before .before .before .before .before .before .before
             .loop .lines) (c .before .before .before .before .before .before .before .before .loop .rs) (c .before .before .before .before .before .before .before .before .loop .image) (c .before .before
             .before .before .before .before .before .before .loop .at) (c .before .before .before .before .before .before .before .before .loop .tight) (c .before .before .before .before .before .before
             .before .before .loop .tight-lines) (c .before .before .before .before .before .before .before .before .loop .n)) (m42 (c .before) (After-is-restarted·gave c))
-        lay10 = λ c. ( restart-requires record { before = c .before; is-restarted = c .is-restarted }, λ g. lay11 record { before = record { before = c .before; is-restarted = c .is-restarted };
-            restart = Called.called ps·6 r·6 (claims· .13) T54 ( record { pos = 32; ty = Syntax.tyRef Syntax.erased Syntax.mut Element.behind; ref = λ x. x; }, (Num.vAt 11 λ x. x, (Num.vAt 18 λ x. x,
-            (Bool.bAt 27 λ x. x, tt))), ) (m42 (c .before) (After-is-restarted·gave c)) g; }, )
+        lay10 = λ c. (
+          restart-requires record { before = c .before; is-restarted = c .is-restarted },
+          λ g. lay11 record {
+            before = record { before = c .before; is-restarted = c .is-restarted };
+            restart = Called.called ps·6 r·6 (claims· .13) T54 (
+              record { pos = 32; ty = Syntax.tyRef Syntax.erased Syntax.mut Element.behind; ref = λ x. x },
+              (
+                Num.vAt 11 λ x. x,
+                (
+                  Num.vAt 18 λ x. x,
+                  (Bool.bAt 27 λ x. x, tt),
+                ),
+              ),
+            ) (m42 (c .before) (After-is-restarted·gave c)) g;
+          },
+        )
 
         lay9 : (c : After-base-of2) → at80 (c .before .before .before .before .before .before .before .before .before .before .before .before .before .before .before .before .before .before .before
             .before .blocks) (W3 (c .before .before .before .before .before .before .before) (c .before .before .before .before .before .before .loop .lines) (c .before .before .before .before .before
             .before .loop .rs) (c .before .before .before .before .before .before .loop .image) (c .before .before .before .before .before .before .loop .at) (c .before .before .before .before .before
             .before .loop .tight) (c .before .before .before .before .before .before .loop .tight-lines) (c .before .before .before .before .before .before .loop .n)) (m39 (c .before) (After-base-of2·gave
             c))
-        lay9 = λ c. λ g. ( Path'.refl, ( is-restarted-requires record { before = record { before = c .before; base-of2 = c .base-of2 }; restart-arg = record { given = g }; }, λ g'. lay10 record {
-            before = record { before = record { before = c .before; base-of2 = c .base-of2 }; restart-arg = record { given = g }; }; is-restarted = Called.called ps·5 r·5 (claims· .11) T53 ( record { pos
-            = 2; ty = Syntax.tyRef (Syntax.named 1) Syntax.imm (Syntax.tyInt Syntax.w8); ref = λ x. x; }, (Num.vAt 17 λ x. x, tt), ) (m41 record { before = c .before; base-of2 = c .base-of2 } g) g'; }, ),
-            )
+        lay9 = λ c. λ g. (
+          Path'.refl,
+          (
+            is-restarted-requires record { before = record { before = c .before; base-of2 = c .base-of2 }; restart-arg = record { given = g } },
+            λ g'. lay10 record {
+              before = record { before = record { before = c .before; base-of2 = c .base-of2 }; restart-arg = record { given = g } };
+              is-restarted = Called.called ps·5 r·5 (claims· .11) T53 (
+                record {
+                  pos
+                      = 2;
+                  ty = Syntax.tyRef (Syntax.named 1) Syntax.imm (Syntax.tyInt Syntax.w8);
+                  ref = λ x. x;
+                },
+                (Num.vAt 17 λ x. x, tt),
+              ) (m41 record { before = c .before; base-of2 = c .base-of2 } g) g';
+            },
+          ),
+        )
 
         lay8 : (c : After-turn) → at86 (c .before .before .before .before .before .before .before .before .before .before .before .before .before .before .before .before .before .blocks) (W3 (c
             .before .before .before .before) (c .before .before .before .loop .lines) (c .before .before .before .loop .rs) (c .before .before .before .loop .image) (c .before .before .before .loop .at)
             (c .before .before .before .loop .tight) (c .before .before .before .loop .tight-lines) (c .before .before .before .loop .n)) (m35 (c .before) (After-turn·gave c))
-        lay8 = λ c. ( Path'.refl, λ g. λ g'. ( base-of-requires-2 record { before = record { before = record { before = c .before; turn = c .turn }; lines2 = record { given = g }; }; slice-known4 =
-            record { given = g' }; }, λ g''. lay9 record { before = record { before = record { before = record { before = c .before; turn = c .turn }; lines2 = record { given = g }; }; slice-known4 =
-            record { given = g' }; }; base-of2 = Called.called ps·2 r·2 (claims· .5) T48 ( record { pos = 2; ty = Syntax.tyRef (Syntax.named 1) Syntax.imm (Syntax.tyInt Syntax.w8); ref = λ x. x; },
-            (Num.vAt 17 λ x. x, tt), ) (m38 record { before = record { before = c .before; turn = c .turn }; lines2 = record { given = g }; } g') g''; }, ), )
+        lay8 = λ c. (
+          Path'.refl,
+          λ g. λ g'. (
+            base-of-requires-2 record {
+              before = record { before = record { before = c .before; turn = c .turn }; lines2 = record { given = g } };
+              slice-known4 =
+                  record { given = g' };
+            },
+            λ g''. lay9 record {
+              before = record {
+                before = record { before = record { before = c .before; turn = c .turn }; lines2 = record { given = g } };
+                slice-known4 =
+                    record { given = g' };
+              };
+              base-of2 = Called.called ps·2 r·2 (claims· .5) T48 (
+                record { pos = 2; ty = Syntax.tyRef (Syntax.named 1) Syntax.imm (Syntax.tyInt Syntax.w8); ref = λ x. x },
+                (Num.vAt 17 λ x. x, tt),
+              ) (m38 record { before = record { before = c .before; turn = c .turn }; lines2 = record { given = g } } g') g'';
+            },
+          ),
+        )
 
         lay7 : (c : In-loop) → at90 (c .before .before .before .before .before .before .before .before .before .before .before .before .before .before .before .blocks) (W3 (c .before .before) (c
             .before .loop .lines) (c .before .loop .rs) (c .before .loop .image) (c .before .loop .at) (c .before .loop .tight) (c .before .loop .tight-lines) (c .before .loop .n)) (m28 (c .before))
-        lay7 = λ c. λ g. ( Path'.refl, ( turn-requires record { before = record { before = c .before; loop-test = c .loop-test }; turn-arg = record { given = g }; }, λ g'. lay8 record { before =
-            record { before = record { before = c .before; loop-test = c .loop-test }; turn-arg = record { given = g }; }; turn = Called.called ps·4 r·4 (claims· .9) T43 ( record { pos = 30; ty =
-            Syntax.tyRef Syntax.erased Syntax.mut (Syntax.tyInt Syntax.w16); ref = λ x. x; }, (Num.vAt 13 λ x. x, tt), ) (m34 record { before = c .before; loop-test = c .loop-test } g) g'; }, ), )
+        lay7 = λ c. λ g. (
+          Path'.refl,
+          (
+            turn-requires record { before = record { before = c .before; loop-test = c .loop-test }; turn-arg = record { given = g } },
+            λ g'. lay8 record {
+              before =
+                  record { before = record { before = c .before; loop-test = c .loop-test }; turn-arg = record { given = g } };
+              turn = Called.called ps·4 r·4 (claims· .9) T43 (
+                record {
+                  pos = 30;
+                  ty =
+                      Syntax.tyRef Syntax.erased Syntax.mut (Syntax.tyInt Syntax.w16);
+                  ref = λ x. x;
+                },
+                (Num.vAt 13 λ x. x, tt),
+              ) (m34 record { before = c .before; loop-test = c .loop-test } g) g';
+            },
+          ),
+        )
 
         lay6 : (c : After-loop) → at6 (c .before .before .before .before .before .before .before .before .before .before .before .before .before .before .before .blocks) (W4 (c .before .before) (c
             .before .loop .lines) (c .before .loop .rs) (c .before .loop .image) (c .before .loop .at) (c .before .loop .tight) (c .before .loop .tight-lines) (c .before .loop .n)) (m27 (c .before
@@ -6013,55 +10405,207 @@ module _ (claims· : Claims) where
         lay4 : (c : After-start-records) → at116 (c .before .before .before .before .before .before .before .before .before .before .before .before .blocks) (W0 (c .before .before .before .before
             .before .before .before .before .before .before .before .before .κs) (c .before .before .before .before .before .before .before .before .before .before .before .before .args) (c .before
             .before .before .before .before .before .before .before .before .before .before .before .blocks)) (m17 (c .before) (After-start-records·gave c))
-        lay4 = λ c. ( Path'.refl, λ g. ( ( ( Row.get 3 (T33 .locals) (m25 record { before = c .before; start-records = c .start-records; } g) .now, Row.get 4 (T33 .locals) (m25 record { before = c
-            .before; start-records = c .start-records; } g) .now, Row.get 5 (T33 .locals) (m25 record { before = c .before; start-records = c .start-records; } g) .now, Row.get 14 (T33 .locals) (m25
-            record { before = c .before; start-records = c .start-records; } g), Row.get 15 (T33 .locals) (m25 record { before = c .before; start-records = c .start-records; } g), Row.get 16 (T33 .locals)
-            (m25 record { before = c .before; start-records = c .start-records; } g), Row.get 17 (T33 .locals) (m25 record { before = c .before; start-records = c .start-records; } g), ), Path'.refl {a =
-            m25 record { before = c .before; start-records = c .start-records } g}, loop-holds record { before = record { before = c .before; start-records = c .start-records }; rs = record { given = g };
-            }, ), λ vs inv. ( tt, ( λ taken. lay5 record { before = record { before = record { before = record { before = c .before; start-records = c .start-records }; rs = record { given = g }; }; loop
-            = record { lines = vs .0; rs = vs .1; image = vs .2; at = vs .3; tight = vs .4; tight-lines = vs .5; n = vs .6; inv = inv; }; }; loop-test = record { taken = Tests.ltb-true (Row.get 17 (T33
-            .locals) (m26 record { before = record { before = c .before; start-records = c .start-records }; rs = record { given = g }; } (vs .0) (vs .1) (vs .2) (vs .3) (vs .4) (vs .5) (vs .6))) (Row.get
-            10 (T33 .locals) (m26 record { before = record { before = c .before; start-records = c .start-records; }; rs = record { given = g }; } (vs .0) (vs .1) (vs .2) (vs .3) (vs .4) (vs .5) (vs .6)))
-            taken; }; }, λ left. lay6 record { before = record { before = record { before = record { before = c .before; start-records = c .start-records }; rs = record { given = g }; }; loop = record {
-            lines = vs .0; rs = vs .1; image = vs .2; at = vs .3; tight = vs .4; tight-lines = vs .5; n = vs .6; inv = inv; }; }; loop-test = record { left = Tests.ltb-false (Row.get 17 (T33 .locals) (m26
-            record { before = record { before = c .before; start-records = c .start-records }; rs = record { given = g }; } (vs .0) (vs .1) (vs .2) (vs .3) (vs .4) (vs .5) (vs .6))) (Row.get 10 (T33
-            .locals) (m26 record { before = record { before = c .before; start-records = c .start-records; }; rs = record { given = g }; } (vs .0) (vs .1) (vs .2) (vs .3) (vs .4) (vs .5) (vs .6))) left;
-            }; }, ), ), ), )
+        lay4 = λ c. (
+          Path'.refl,
+          λ g. (
+            (
+              (
+                Row.get 3 (T33 .locals) (m25 record { before = c .before; start-records = c .start-records } g) .now,
+                Row.get 4 (T33 .locals) (m25 record {
+                  before = c
+                      .before;
+                  start-records = c .start-records;
+                } g) .now,
+                Row.get 5 (T33 .locals) (m25 record { before = c .before; start-records = c .start-records } g) .now,
+                Row.get 14 (T33 .locals) (m25
+                    record { before = c .before; start-records = c .start-records } g),
+                Row.get 15 (T33 .locals) (m25 record { before = c .before; start-records = c .start-records } g),
+                Row.get 16 (T33 .locals)
+                    (m25 record { before = c .before; start-records = c .start-records } g),
+                Row.get 17 (T33 .locals) (m25 record { before = c .before; start-records = c .start-records } g),
+              ),
+              Path'.refl {a =
+                  m25 record { before = c .before; start-records = c .start-records } g},
+              loop-holds record {
+                before = record { before = c .before; start-records = c .start-records };
+                rs = record { given = g };
+              },
+            ),
+            λ vs inv. (
+              tt,
+              (
+                λ taken. lay5 record {
+                  before = record {
+                    before = record { before = record { before = c .before; start-records = c .start-records }; rs = record { given = g } };
+                    loop
+                        = record { lines = vs .0; rs = vs .1; image = vs .2; at = vs .3; tight = vs .4; tight-lines = vs .5; n = vs .6; inv = inv };
+                  };
+                  loop-test = record {
+                    taken = Tests.ltb-true (Row.get 17 (T33
+                        .locals) (m26 record { before = record { before = c .before; start-records = c .start-records }; rs = record { given = g } } (vs .0) (vs .1) (vs .2) (vs .3) (vs .4) (vs .5) (vs .6))) (Row.get
+                        10 (T33 .locals) (m26 record { before = record { before = c .before; start-records = c .start-records }; rs = record { given = g } } (vs .0) (vs .1) (vs .2) (vs .3) (vs .4) (vs .5) (vs .6)))
+                        taken;
+                  };
+                },
+                λ left. lay6 record {
+                  before = record {
+                    before = record { before = record { before = c .before; start-records = c .start-records }; rs = record { given = g } };
+                    loop = record {
+                      lines = vs .0;
+                      rs = vs .1;
+                      image = vs .2;
+                      at = vs .3;
+                      tight = vs .4;
+                      tight-lines = vs .5;
+                      n = vs .6;
+                      inv = inv;
+                    };
+                  };
+                  loop-test = record {
+                    left = Tests.ltb-false (Row.get 17 (T33 .locals) (m26
+                        record { before = record { before = c .before; start-records = c .start-records }; rs = record { given = g } } (vs .0) (vs .1) (vs .2) (vs .3) (vs .4) (vs .5) (vs .6))) (Row.get 10 (T33
+                        .locals) (m26 record { before = record { before = c .before; start-records = c .start-records }; rs = record { given = g } } (vs .0) (vs .1) (vs .2) (vs .3) (vs .4) (vs .5) (vs .6))) left;
+                  };
+                },
+              ),
+            ),
+          ),
+        )
 
         lay3 : (c : After-base-of) → at117 (c .before .before .before .before .before .before .before .before .before .before .before .blocks) (W0 (c .before .before .before .before .before .before
             .before .before .before .before .before .κs) (c .before .before .before .before .before .before .before .before .before .before .before .args) (c .before .before .before .before .before
             .before .before .before .before .before .before .blocks)) (m16 (c .before) (After-base-of·gave c))
-        lay3 = λ c. ( start-records-requires record { before = c .before; base-of = c .base-of }, λ g. lay4 record { before = record { before = c .before; base-of = c .base-of }; start-records =
-            Called.called ps·3 r·3 (claims· .7) T21 ( record { pos = 25; ty = Syntax.tyRef Syntax.erased Syntax.mut Element.behind; ref = λ x. x; }, (Num.vAt 11 λ x. x, (Num.vAt 26 λ x. x, tt)), ) (m16 (c
-            .before) (After-base-of·gave c)) g; }, )
+        lay3 = λ c. (
+          start-records-requires record { before = c .before; base-of = c .base-of },
+          λ g. lay4 record {
+            before = record { before = c .before; base-of = c .base-of };
+            start-records =
+                Called.called ps·3 r·3 (claims· .7) T21 (record { pos = 25; ty = Syntax.tyRef Syntax.erased Syntax.mut Element.behind; ref = λ x. x }, (Num.vAt 11 λ x. x, (Num.vAt 26 λ x. x, tt))) (m16 (c
+                .before) (After-base-of·gave c)) g;
+          },
+        )
 
         lay2 : (c : After-clear) → at126 (c .before .before .before .before .before .before .before .blocks) (W0 (c .before .before .before .before .before .before .before .κs) (c .before .before
             .before .before .before .before .before .args) (c .before .before .before .before .before .before .before .blocks)) (m10 (c .before) (After-clear·gave c))
-        lay2 = λ c. ( Path'.refl, λ g. λ g'. λ g''. ( Path'.refl, ( base-of-requires record { before = record { before = record { before = record { before = c .before; clear = c .clear }; lines =
-            record { given = g }; }; slice-known3 = record { given = g' }; }; start-records-arg = record { given = g'' }; }, λ g'3. lay3 record { before = record { before = record { before = record {
-            before = record { before = c .before; clear = c .clear }; lines = record { given = g }; }; slice-known3 = record { given = g' }; }; start-records-arg = record { given = g'' }; }; base-of =
-            Called.called ps·2 r·2 (claims· .5) T20 ( record { pos = 2; ty = Syntax.tyRef (Syntax.named 1) Syntax.imm (Syntax.tyInt Syntax.w8); ref = λ x. x; }, (Num.vLit 0, tt), ) (m15 record { before =
-            record { before = record { before = c .before; clear = c .clear }; lines = record { given = g }; }; slice-known3 = record { given = g' }; } g'') g'3; }, ), ), )
+        lay2 = λ c. (
+          Path'.refl,
+          λ g. λ g'. λ g''. (
+            Path'.refl,
+            (
+              base-of-requires record {
+                before = record {
+                  before = record {
+                    before = record { before = c .before; clear = c .clear };
+                    lines =
+                        record { given = g };
+                  };
+                  slice-known3 = record { given = g' };
+                };
+                start-records-arg = record { given = g'' };
+              },
+              λ g'3. lay3 record {
+                before = record {
+                  before = record {
+                    before = record {
+                      before = record { before = c .before; clear = c .clear };
+                      lines = record { given = g };
+                    };
+                    slice-known3 = record { given = g' };
+                  };
+                  start-records-arg = record { given = g'' };
+                };
+                base-of =
+                    Called.called ps·2 r·2 (claims· .5) T20 (record { pos = 2; ty = Syntax.tyRef (Syntax.named 1) Syntax.imm (Syntax.tyInt Syntax.w8); ref = λ x. x }, (Num.vLit 0, tt)) (m15 record {
+                      before =
+                          record { before = record { before = c .before; clear = c .clear }; lines = record { given = g } };
+                      slice-known3 = record { given = g' };
+                    } g'') g'3;
+              },
+            ),
+          ),
+        )
 
         lay1 : (c : After-width) → at130 (c .before .before .before .before .before .blocks) (W0 (c .before .before .before .before .before .κs) (c .before .before .before .before .before .args) (c
             .before .before .before .before .before .blocks)) (m7 (c .before) (After-width·gave c))
-        lay1 = λ c. λ g. ( Path'.refl, ( clear-requires record { before = record { before = c .before; width = c .width }; clear-arg = record { given = g }; }, λ g'. lay2 record { before = record {
-            before = record { before = c .before; width = c .width }; clear-arg = record { given = g }; }; clear = Called.called ps·1 r·1 (claims· .3) T11 ( record { pos = 23; ty = Syntax.tyRef
-            Syntax.erased Syntax.mut (Syntax.tyInt Syntax.w16); ref = λ x. x; }, tt, ) (m9 record { before = c .before; width = c .width } g) g'; }, ), )
+        lay1 = λ c. λ g. (
+          Path'.refl,
+          (
+            clear-requires record { before = record { before = c .before; width = c .width }; clear-arg = record { given = g } },
+            λ g'. lay2 record {
+              before = record {
+                before = record { before = c .before; width = c .width };
+                clear-arg = record { given = g };
+              };
+              clear = Called.called ps·1 r·1 (claims· .3) T11 (
+                record {
+                  pos = 23;
+                  ty = Syntax.tyRef
+                      Syntax.erased Syntax.mut (Syntax.tyInt Syntax.w16);
+                  ref = λ x. x;
+                },
+                tt,
+              ) (m9 record { before = c .before; width = c .width } g) g';
+            },
+          ),
+        )
 
         pub laid : (c : Start) → at137 (c .blocks) (W0 (c .κs) (c .args) (c .blocks)) (m0 (c .κs) (c .args) (c .blocks))
-        laid = λ c. λ g. λ g'. λ g''. λ g'3. ( width-requires record { before = record { before = record { before = record { before = c; shared-slice-known = record { given = g } };
-            shared-slice-known2 = record { given = g' }; }; slice-known = record { given = g'' }; }; slice-known2 = record { given = g'3 }; }, λ g'4. lay1 record { before = record { before = record {
-            before = record { before = record { before = c; shared-slice-known = record { given = g } }; shared-slice-known2 = record { given = g' }; }; slice-known = record { given = g'' }; };
-            slice-known2 = record { given = g'3 }; }; width = Called.called ps·0 r·0 (claims· .1) T7 (Bool.bAt 12 λ x. x, tt) (m6 record { before = record { before = record { before = c;
-            shared-slice-known = record { given = g } }; shared-slice-known2 = record { given = g' }; }; slice-known = record { given = g'' }; } g'3) g'4; }, )
+        laid = λ c. λ g. λ g'. λ g''. λ g'3. (
+          width-requires record {
+            before = record {
+              before = record {
+                before = record { before = c; shared-slice-known = record { given = g } };
+                shared-slice-known2 = record { given = g' };
+              };
+              slice-known = record { given = g'' };
+            };
+            slice-known2 = record { given = g'3 };
+          },
+          λ g'4. lay1 record {
+            before = record {
+              before = record {
+                before = record { before = record { before = c; shared-slice-known = record { given = g } }; shared-slice-known2 = record { given = g' } };
+                slice-known = record { given = g'' };
+              };
+              slice-known2 = record { given = g'3 };
+            };
+            width = Called.called ps·0 r·0 (claims· .1) T7 (Bool.bAt 12 λ x. x, tt) (m6 record {
+              before = record {
+                before = record {
+                  before = c;
+                  shared-slice-known = record { given = g };
+                };
+                shared-slice-known2 = record { given = g' };
+              };
+              slice-known = record { given = g'' };
+            } g'3) g'4;
+          },
+        )
 
         module _ (κs : Lifetimes.Lfts 6) (qs : Lifetimes.Shares 6) where
           pub asked : (a : Kinds.Dens κs ps) → (good : Kinds.GoodsP κs ps a) → (pre : Pre· κs a) → (bs : List.List Nat.ℕ) → Φ bs (Any.wantQ 6 ps r xs m κs qs a (Post· κs a)) (Function.init 6 ps r xs m
               κs qs a)
-          asked = λ a good pre bs. laid record { κs = κs; args = record { block = a .0; bases = a .1 .0; lines = a .1 .1 .0; rs = a .1 .1 .1 .0; image = a .1 .1 .1 .1 .0; form = a .1 .1 .1 .1 .1 .0;
-              places = a .1 .1 .1 .1 .1 .1 .0; tile = a .1 .1 .1 .1 .1 .1 .1 .0; part = a .1 .1 .1 .1 .1 .1 .1 .1 .0; count = a .1 .1 .1 .1 .1 .1 .1 .1 .1 .0; }; blocks = bs; good = good; fits = record {
-              count = record { fits = good .1 .1 .1 .1 .1 .1 .1 .1 .1 .0 .1 } }; pre = pre; }
+          asked = λ a good pre bs. laid record {
+            κs = κs;
+            args = record {
+              block = a .0;
+              bases = a .1 .0;
+              lines = a .1 .1 .0;
+              rs = a .1 .1 .1 .0;
+              image = a .1 .1 .1 .1 .0;
+              form = a .1 .1 .1 .1 .1 .0;
+              places = a .1 .1 .1 .1 .1 .1 .0;
+              tile = a .1 .1 .1 .1 .1 .1 .1 .0;
+              part = a .1 .1 .1 .1 .1 .1 .1 .1 .0;
+              count = a .1 .1 .1 .1 .1 .1 .1 .1 .1 .0;
+            };
+            blocks = bs;
+            good = good;
+            fits = record {
+              count = record { fits = good .1 .1 .1 .1 .1 .1 .1 .1 .1 .0 .1 };
+            };
+            pre = pre;
+          }
 
         module _ {M : Type 1} (𝓤 : URA.URA M) (H : Wp.Heap 𝓤) (A : Atoms.Atoms 𝓤) (W : Kit.Given 𝓤 H A) (𝓣 : Wp.Tables 𝓤 H) (known0 : Plain.Known 𝓤 H A W 𝓣 0 ps·0 r·0 (claims· .0) (claims· .1)
             "block::width") (known1 : Plain.Known 𝓤 H A W 𝓣 1 ps·1 r·1 (claims· .2) (claims· .3) "lines::clear") (known2 : Plain.Known 𝓤 H A W 𝓣 1 ps·2 r·2 (claims· .4) (claims· .5) "block::base_of")
@@ -6070,5 +10614,16 @@ module _ (claims· : Claims) where
             Plain.Known 𝓤 H A W 𝓣 0 ps·7 r·7 (claims· .14) (claims· .15) "block::quantisers_of") (known8 : Plain.Known 𝓤 H A W 𝓣 3 ps·8 r·8 (claims· .16) (claims· .17) "block::line") (known9 : Plain.Known
             𝓤 H A W 𝓣 0 ps·9 r·9 (claims· .18) (claims· .19) "block::tight_count") (known10 : Plain.Known 𝓤 H A W 𝓣 3 ps·10 r·10 (claims· .20) (claims· .21) "map::emit_line") where
           pub spec : Statement.Triple 𝓤 (Wp.WpFn 𝓤 H (𝓣 .C) (𝓣 .Λ) (Function.fnOf 6 ps r xs m hs body)) (Function.plainOf 𝓤 H A 6 ps r Pre· Post·)
-          spec = Plain.t-fn-plain 𝓤 H A W 𝓣 6 ps r xs m hs body (λ κs qs bs. Φ bs) (λ κs qs bs bd. typed κs qs 𝓤 H A W 𝓣 ( known0, known1, known2, known3, known4, known5, known6, known7, known8,
-              known9, known10, ) bs bd) Pre· Post· asked
+          spec = Plain.t-fn-plain 𝓤 H A W 𝓣 6 ps r xs m hs body (λ κs qs bs. Φ bs) (λ κs qs bs bd. typed κs qs 𝓤 H A W 𝓣 (
+            known0,
+            known1,
+            known2,
+            known3,
+            known4,
+            known5,
+            known6,
+            known7,
+            known8,
+            known9,
+            known10,
+          ) bs bd) Pre· Post· asked

@@ -108,64 +108,115 @@ abbrev pub Claims : Type 1
 Claims = Kinds.In 1 ps·0 × Kinds.Out 1 ps·0 r·0
 
 abbrev pub t0 : List.List Row.Entry
-t0 = List._∷_ (0, Rows.any-gone Syntax.tyUnit) (List._∷_ ( 1, Mut.mslice (Element.type) (Syntax.tyRef (Syntax.named 0) Syntax.mut Element.behind) 0, ) (List._∷_ (2, Rows.sc-here (Row.sInt Syntax.w32))
-    (List._∷_ ( 3, Rows.sc-here (Row.sInt Syntax.w32), ) (List._∷_ (4, Rows.sc-here Row.sBool) (List._∷_ (5, Rows.any-gone Syntax.tyBool) (List._∷_ ( 6, Rows.any-gone Syntax.tyUnit, ) (List._∷_ ( 7,
-    Rows.any-gone (Syntax.tyRef Syntax.erased Syntax.mut Element.behind), ) (List._∷_ ( 8, Rows.any-gone (Syntax.tyStruct (List._∷_ 38 (List._∷_ 91 (List._∷_ 93 List.[]))) (Syntax.tcons (Syntax.tyRef
-    Syntax.erased Syntax.mut Element.behind) (Syntax.tcons (Syntax.tyInt Syntax.w64) Syntax.tnil))), ) List.[]))))))))
+t0 = List._∷_ (0, Rows.any-gone Syntax.tyUnit) (List._∷_ (1, Mut.mslice (Element.type) (Syntax.tyRef (Syntax.named 0) Syntax.mut Element.behind) 0) (List._∷_ (2, Rows.sc-here (Row.sInt Syntax.w32))
+    (List._∷_ (3, Rows.sc-here (Row.sInt Syntax.w32)) (List._∷_ (4, Rows.sc-here Row.sBool) (List._∷_ (5, Rows.any-gone Syntax.tyBool) (List._∷_ (6, Rows.any-gone Syntax.tyUnit) (List._∷_ (
+      7,
+      Rows.any-gone (Syntax.tyRef Syntax.erased Syntax.mut Element.behind),
+    ) (List._∷_ (
+      8,
+      Rows.any-gone (Syntax.tyStruct (List._∷_ 38 (List._∷_ 91 (List._∷_ 93 List.[]))) (Syntax.tcons (Syntax.tyRef
+          Syntax.erased Syntax.mut Element.behind) (Syntax.tcons (Syntax.tyInt Syntax.w64) Syntax.tnil))),
+    ) List.[]))))))))
 
 abbrev pub t1 : List.List Row.Entry
-t1 = List._∷_ (0, Rows.sc-here Row.sUnit) (List._∷_ ( 1, Mut.mslice (Element.type) (Syntax.tyRef (Syntax.named 0) Syntax.mut Element.behind) 0, ) (List._∷_ (2, Rows.any-gone (Syntax.tyInt Syntax.w32))
-    (List._∷_ ( 3, Rows.any-gone (Syntax.tyInt Syntax.w32), ) (List._∷_ (4, Rows.any-gone Syntax.tyBool) (List._∷_ (5, Rows.any-gone Syntax.tyBool) (List._∷_ (6, Rows.any-gone Syntax.tyUnit) (List._∷_ (
-    7, Rows.any-gone (Syntax.tyRef Syntax.erased Syntax.mut Element.behind), ) (List._∷_ ( 8, Rows.any-gone (Syntax.tyStruct (List._∷_ 38 (List._∷_ 91 (List._∷_ 93 List.[]))) (Syntax.tcons (Syntax.tyRef
-    Syntax.erased Syntax.mut Element.behind) (Syntax.tcons (Syntax.tyInt Syntax.w64) Syntax.tnil))), ) List.[]))))))))
+t1 = List._∷_ (0, Rows.sc-here Row.sUnit) (List._∷_ (1, Mut.mslice (Element.type) (Syntax.tyRef (Syntax.named 0) Syntax.mut Element.behind) 0) (List._∷_ (2, Rows.any-gone (Syntax.tyInt Syntax.w32))
+    (List._∷_ (3, Rows.any-gone (Syntax.tyInt Syntax.w32)) (List._∷_ (4, Rows.any-gone Syntax.tyBool) (List._∷_ (5, Rows.any-gone Syntax.tyBool) (List._∷_ (6, Rows.any-gone Syntax.tyUnit) (List._∷_ (
+      7,
+      Rows.any-gone (Syntax.tyRef Syntax.erased Syntax.mut Element.behind),
+    ) (List._∷_ (
+      8,
+      Rows.any-gone (Syntax.tyStruct (List._∷_ 38 (List._∷_ 91 (List._∷_ 93 List.[]))) (Syntax.tcons (Syntax.tyRef
+          Syntax.erased Syntax.mut Element.behind) (Syntax.tcons (Syntax.tyInt Syntax.w64) Syntax.tnil))),
+    ) List.[]))))))))
 
 abbrev pub t2 : List.List Row.Entry
-t2 = List._∷_ (0, Rows.any-gone Syntax.tyUnit) (List._∷_ ( 1, Mut.mslice (Element.type) (Syntax.tyRef (Syntax.named 0) Syntax.mut Element.behind) 0, ) (List._∷_ (2, Rows.sc-here (Row.sInt Syntax.w32))
-    (List._∷_ ( 3, Rows.sc-here (Row.sInt Syntax.w32), ) (List._∷_ (4, Rows.sc-here Row.sBool) (List._∷_ (5, Rows.sc-here Row.sBool) (List._∷_ ( 6, Rows.any-gone Syntax.tyUnit, ) (List._∷_ ( 7,
-    Rows.any-gone (Syntax.tyRef Syntax.erased Syntax.mut Element.behind), ) (List._∷_ ( 8, Rows.any-gone (Syntax.tyStruct (List._∷_ 38 (List._∷_ 91 (List._∷_ 93 List.[]))) (Syntax.tcons (Syntax.tyRef
-    Syntax.erased Syntax.mut Element.behind) (Syntax.tcons (Syntax.tyInt Syntax.w64) Syntax.tnil))), ) List.[]))))))))
+t2 = List._∷_ (0, Rows.any-gone Syntax.tyUnit) (List._∷_ (1, Mut.mslice (Element.type) (Syntax.tyRef (Syntax.named 0) Syntax.mut Element.behind) 0) (List._∷_ (2, Rows.sc-here (Row.sInt Syntax.w32))
+    (List._∷_ (3, Rows.sc-here (Row.sInt Syntax.w32)) (List._∷_ (4, Rows.sc-here Row.sBool) (List._∷_ (5, Rows.sc-here Row.sBool) (List._∷_ (6, Rows.any-gone Syntax.tyUnit) (List._∷_ (
+      7,
+      Rows.any-gone (Syntax.tyRef Syntax.erased Syntax.mut Element.behind),
+    ) (List._∷_ (
+      8,
+      Rows.any-gone (Syntax.tyStruct (List._∷_ 38 (List._∷_ 91 (List._∷_ 93 List.[]))) (Syntax.tcons (Syntax.tyRef
+          Syntax.erased Syntax.mut Element.behind) (Syntax.tcons (Syntax.tyInt Syntax.w64) Syntax.tnil))),
+    ) List.[]))))))))
 
 abbrev pub t3 : List.List Row.Entry
-t3 = List._∷_ (0, Rows.any-gone Syntax.tyUnit) (List._∷_ ( 1, Relend.mslice-owed (Element.type) (Syntax.tyRef (Syntax.named 0) Syntax.mut Element.behind) 0 1 Row.off, ) (List._∷_ (2, Rows.sc-here
-    (Row.sInt Syntax.w32)) (List._∷_ ( 3, Rows.sc-here (Row.sInt Syntax.w32), ) (List._∷_ (4, Rows.sc-here Row.sBool) (List._∷_ (5, Rows.any-gone Syntax.tyBool) (List._∷_ ( 6, Rows.any-gone Syntax.tyUnit,
-    ) (List._∷_ ( 7, Relend.msptr (Element.type) (Syntax.tyRef Syntax.erased Syntax.mut Element.behind) 1, ) (List._∷_ ( 8, Rows.any-gone (Syntax.tyStruct (List._∷_ 38 (List._∷_ 91 (List._∷_ 93 List.[])))
-    (Syntax.tcons (Syntax.tyRef Syntax.erased Syntax.mut Element.behind) (Syntax.tcons (Syntax.tyInt Syntax.w64) Syntax.tnil))), ) List.[]))))))))
+t3 = List._∷_ (0, Rows.any-gone Syntax.tyUnit) (List._∷_ (1, Relend.mslice-owed (Element.type) (Syntax.tyRef (Syntax.named 0) Syntax.mut Element.behind) 0 1 Row.off) (List._∷_ (
+  2,
+  Rows.sc-here
+      (Row.sInt Syntax.w32),
+) (List._∷_ (3, Rows.sc-here (Row.sInt Syntax.w32)) (List._∷_ (4, Rows.sc-here Row.sBool) (List._∷_ (5, Rows.any-gone Syntax.tyBool) (List._∷_ (
+  6,
+  Rows.any-gone Syntax.tyUnit,
+) (List._∷_ (7, Relend.msptr (Element.type) (Syntax.tyRef Syntax.erased Syntax.mut Element.behind) 1) (List._∷_ (
+  8,
+  Rows.any-gone (Syntax.tyStruct (List._∷_ 38 (List._∷_ 91 (List._∷_ 93 List.[])))
+      (Syntax.tcons (Syntax.tyRef Syntax.erased Syntax.mut Element.behind) (Syntax.tcons (Syntax.tyInt Syntax.w64) Syntax.tnil))),
+) List.[]))))))))
 
 abbrev pub t4 : List.List Row.Entry
-t4 = List._∷_ (0, Rows.any-gone Syntax.tyUnit) (List._∷_ ( 1, Relend.mslice-owed (Element.type) (Syntax.tyRef (Syntax.named 0) Syntax.mut Element.behind) 0 1 Row.off, ) (List._∷_ (2, Rows.sc-here
-    (Row.sInt Syntax.w32)) (List._∷_ ( 3, Rows.sc-here (Row.sInt Syntax.w32), ) (List._∷_ (4, Rows.sc-here Row.sBool) (List._∷_ (5, Rows.any-gone Syntax.tyBool) (List._∷_ ( 6, Rows.any-gone Syntax.tyUnit,
-    ) (List._∷_ ( 7, Rows.any-gone (Syntax.tyRef Syntax.erased Syntax.mut Element.behind), ) (List._∷_ ( 8, Mut.mslice (Element.type) (Syntax.tyRef Syntax.erased Syntax.mut Element.behind) 1, )
+t4 = List._∷_ (0, Rows.any-gone Syntax.tyUnit) (List._∷_ (1, Relend.mslice-owed (Element.type) (Syntax.tyRef (Syntax.named 0) Syntax.mut Element.behind) 0 1 Row.off) (List._∷_ (
+  2,
+  Rows.sc-here
+      (Row.sInt Syntax.w32),
+) (List._∷_ (3, Rows.sc-here (Row.sInt Syntax.w32)) (List._∷_ (4, Rows.sc-here Row.sBool) (List._∷_ (5, Rows.any-gone Syntax.tyBool) (List._∷_ (
+  6,
+  Rows.any-gone Syntax.tyUnit,
+) (List._∷_ (7, Rows.any-gone (Syntax.tyRef Syntax.erased Syntax.mut Element.behind)) (List._∷_ (8, Mut.mslice (Element.type) (Syntax.tyRef Syntax.erased Syntax.mut Element.behind) 1)
     List.[]))))))))
 
 abbrev pub t5 : List.List Row.Entry
-t5 = List._∷_ (0, Rows.any-gone Syntax.tyUnit) (List._∷_ ( 1, Relend.mslice-owed (Element.type) (Syntax.tyRef (Syntax.named 0) Syntax.mut Element.behind) 0 1 Row.off, ) (List._∷_ (2, Rows.sc-here
-    (Row.sInt Syntax.w32)) (List._∷_ ( 3, Rows.sc-here (Row.sInt Syntax.w32), ) (List._∷_ (4, Rows.sc-here Row.sBool) (List._∷_ (5, Rows.any-gone Syntax.tyBool) (List._∷_ ( 6, Rows.sc-here Row.sUnit, )
-    (List._∷_ ( 7, Rows.any-gone (Syntax.tyRef Syntax.erased Syntax.mut Element.behind), ) (List._∷_ ( 8, Mut.msleft (Element.type) (Syntax.tyRef Syntax.erased Syntax.mut Element.behind), )
+t5 = List._∷_ (0, Rows.any-gone Syntax.tyUnit) (List._∷_ (1, Relend.mslice-owed (Element.type) (Syntax.tyRef (Syntax.named 0) Syntax.mut Element.behind) 0 1 Row.off) (List._∷_ (
+  2,
+  Rows.sc-here
+      (Row.sInt Syntax.w32),
+) (List._∷_ (3, Rows.sc-here (Row.sInt Syntax.w32)) (List._∷_ (4, Rows.sc-here Row.sBool) (List._∷_ (5, Rows.any-gone Syntax.tyBool) (List._∷_ (6, Rows.sc-here Row.sUnit)
+    (List._∷_ (7, Rows.any-gone (Syntax.tyRef Syntax.erased Syntax.mut Element.behind)) (List._∷_ (8, Mut.msleft (Element.type) (Syntax.tyRef Syntax.erased Syntax.mut Element.behind))
     List.[]))))))))
 
 abbrev pub t6 : List.List Row.Entry
-t6 = List._∷_ (0, Rows.any-gone Syntax.tyUnit) (List._∷_ ( 1, Relend.mslice-owed (Element.type) (Syntax.tyRef (Syntax.named 0) Syntax.mut Element.behind) 0 1 Row.off, ) (List._∷_ (2, Rows.sc-here
-    (Row.sInt Syntax.w32)) (List._∷_ ( 3, Rows.sc-here (Row.sInt Syntax.w32), ) (List._∷_ (4, Rows.sc-here Row.sBool) (List._∷_ (5, Rows.any-gone Syntax.tyBool) (List._∷_ ( 6, Rows.any-gone Syntax.tyUnit,
-    ) (List._∷_ ( 7, Rows.any-gone (Syntax.tyRef Syntax.erased Syntax.mut Element.behind), ) (List._∷_ ( 8, Mut.msleft (Element.type) (Syntax.tyRef Syntax.erased Syntax.mut Element.behind), )
+t6 = List._∷_ (0, Rows.any-gone Syntax.tyUnit) (List._∷_ (1, Relend.mslice-owed (Element.type) (Syntax.tyRef (Syntax.named 0) Syntax.mut Element.behind) 0 1 Row.off) (List._∷_ (
+  2,
+  Rows.sc-here
+      (Row.sInt Syntax.w32),
+) (List._∷_ (3, Rows.sc-here (Row.sInt Syntax.w32)) (List._∷_ (4, Rows.sc-here Row.sBool) (List._∷_ (5, Rows.any-gone Syntax.tyBool) (List._∷_ (
+  6,
+  Rows.any-gone Syntax.tyUnit,
+) (List._∷_ (7, Rows.any-gone (Syntax.tyRef Syntax.erased Syntax.mut Element.behind)) (List._∷_ (8, Mut.msleft (Element.type) (Syntax.tyRef Syntax.erased Syntax.mut Element.behind))
     List.[]))))))))
 
 abbrev pub t7 : List.List Row.Entry
-t7 = List._∷_ (0, Rows.sc-here Row.sUnit) (List._∷_ ( 1, Mut.mslice (Element.type) (Syntax.tyRef (Syntax.named 0) Syntax.mut Element.behind) 0, ) (List._∷_ (2, Rows.sc-here (Row.sInt Syntax.w32))
-    (List._∷_ ( 3, Rows.sc-here (Row.sInt Syntax.w32), ) (List._∷_ (4, Rows.sc-here Row.sBool) (List._∷_ (5, Rows.any-gone Syntax.tyBool) (List._∷_ ( 6, Rows.any-gone Syntax.tyUnit, ) (List._∷_ ( 7,
-    Rows.any-gone (Syntax.tyRef Syntax.erased Syntax.mut Element.behind), ) (List._∷_ ( 8, Rows.any-gone (Syntax.tyStruct (List._∷_ 38 (List._∷_ 91 (List._∷_ 93 List.[]))) (Syntax.tcons (Syntax.tyRef
-    Syntax.erased Syntax.mut Element.behind) (Syntax.tcons (Syntax.tyInt Syntax.w64) Syntax.tnil))), ) List.[]))))))))
+t7 = List._∷_ (0, Rows.sc-here Row.sUnit) (List._∷_ (1, Mut.mslice (Element.type) (Syntax.tyRef (Syntax.named 0) Syntax.mut Element.behind) 0) (List._∷_ (2, Rows.sc-here (Row.sInt Syntax.w32))
+    (List._∷_ (3, Rows.sc-here (Row.sInt Syntax.w32)) (List._∷_ (4, Rows.sc-here Row.sBool) (List._∷_ (5, Rows.any-gone Syntax.tyBool) (List._∷_ (6, Rows.any-gone Syntax.tyUnit) (List._∷_ (
+      7,
+      Rows.any-gone (Syntax.tyRef Syntax.erased Syntax.mut Element.behind),
+    ) (List._∷_ (
+      8,
+      Rows.any-gone (Syntax.tyStruct (List._∷_ 38 (List._∷_ 91 (List._∷_ 93 List.[]))) (Syntax.tcons (Syntax.tyRef
+          Syntax.erased Syntax.mut Element.behind) (Syntax.tcons (Syntax.tyInt Syntax.w64) Syntax.tnil))),
+    ) List.[]))))))))
 
 abbrev pub t8 : List.List Row.Entry
-t8 = List._∷_ (0, Rows.sc-here Row.sUnit) (List._∷_ ( 1, Mut.mslice (Element.type) (Syntax.tyRef (Syntax.named 0) Syntax.mut Element.behind) 0, ) (List._∷_ (2, Rows.any-gone (Syntax.tyInt Syntax.w32))
-    (List._∷_ ( 3, Rows.sc-here (Row.sInt Syntax.w32), ) (List._∷_ (4, Rows.sc-here Row.sBool) (List._∷_ (5, Rows.any-gone Syntax.tyBool) (List._∷_ ( 6, Rows.any-gone Syntax.tyUnit, ) (List._∷_ ( 7,
-    Rows.any-gone (Syntax.tyRef Syntax.erased Syntax.mut Element.behind), ) (List._∷_ ( 8, Rows.any-gone (Syntax.tyStruct (List._∷_ 38 (List._∷_ 91 (List._∷_ 93 List.[]))) (Syntax.tcons (Syntax.tyRef
-    Syntax.erased Syntax.mut Element.behind) (Syntax.tcons (Syntax.tyInt Syntax.w64) Syntax.tnil))), ) List.[]))))))))
+t8 = List._∷_ (0, Rows.sc-here Row.sUnit) (List._∷_ (1, Mut.mslice (Element.type) (Syntax.tyRef (Syntax.named 0) Syntax.mut Element.behind) 0) (List._∷_ (2, Rows.any-gone (Syntax.tyInt Syntax.w32))
+    (List._∷_ (3, Rows.sc-here (Row.sInt Syntax.w32)) (List._∷_ (4, Rows.sc-here Row.sBool) (List._∷_ (5, Rows.any-gone Syntax.tyBool) (List._∷_ (6, Rows.any-gone Syntax.tyUnit) (List._∷_ (
+      7,
+      Rows.any-gone (Syntax.tyRef Syntax.erased Syntax.mut Element.behind),
+    ) (List._∷_ (
+      8,
+      Rows.any-gone (Syntax.tyStruct (List._∷_ 38 (List._∷_ 91 (List._∷_ 93 List.[]))) (Syntax.tcons (Syntax.tyRef
+          Syntax.erased Syntax.mut Element.behind) (Syntax.tcons (Syntax.tyInt Syntax.w64) Syntax.tnil))),
+    ) List.[]))))))))
 
 abbrev pub t9 : List.List Row.Entry
-t9 = List._∷_ (0, Rows.sc-here Row.sUnit) (List._∷_ ( 1, Mut.mslice (Element.type) (Syntax.tyRef (Syntax.named 0) Syntax.mut Element.behind) 0, ) (List._∷_ (2, Rows.any-gone (Syntax.tyInt Syntax.w32))
-    (List._∷_ ( 3, Rows.any-gone (Syntax.tyInt Syntax.w32), ) (List._∷_ (4, Rows.sc-here Row.sBool) (List._∷_ (5, Rows.any-gone Syntax.tyBool) (List._∷_ ( 6, Rows.any-gone Syntax.tyUnit, ) (List._∷_ ( 7,
-    Rows.any-gone (Syntax.tyRef Syntax.erased Syntax.mut Element.behind), ) (List._∷_ ( 8, Rows.any-gone (Syntax.tyStruct (List._∷_ 38 (List._∷_ 91 (List._∷_ 93 List.[]))) (Syntax.tcons (Syntax.tyRef
-    Syntax.erased Syntax.mut Element.behind) (Syntax.tcons (Syntax.tyInt Syntax.w64) Syntax.tnil))), ) List.[]))))))))
+t9 = List._∷_ (0, Rows.sc-here Row.sUnit) (List._∷_ (1, Mut.mslice (Element.type) (Syntax.tyRef (Syntax.named 0) Syntax.mut Element.behind) 0) (List._∷_ (2, Rows.any-gone (Syntax.tyInt Syntax.w32))
+    (List._∷_ (3, Rows.any-gone (Syntax.tyInt Syntax.w32)) (List._∷_ (4, Rows.sc-here Row.sBool) (List._∷_ (5, Rows.any-gone Syntax.tyBool) (List._∷_ (6, Rows.any-gone Syntax.tyUnit) (List._∷_ (
+      7,
+      Rows.any-gone (Syntax.tyRef Syntax.erased Syntax.mut Element.behind),
+    ) (List._∷_ (
+      8,
+      Rows.any-gone (Syntax.tyStruct (List._∷_ 38 (List._∷_ 91 (List._∷_ 93 List.[]))) (Syntax.tcons (Syntax.tyRef
+          Syntax.erased Syntax.mut Element.behind) (Syntax.tcons (Syntax.tyInt Syntax.w64) Syntax.tnil))),
+    ) List.[]))))))))
 
 abbrev pub T0 : Row.Cx
 T0 = record { locals = t0; slots = List.[] }
@@ -233,7 +284,7 @@ module _ (claims· : Claims) where
       x) (Scalar.oFld 1 (List._∷_ (Syntax.field 1) List.[]) (Syntax.tyInt Syntax.w64) 8 λ v. Shared.lenV (v .0))
 
   abbrev s5 : Typed.Both T7 T8
-  s5 = Call.callB ps·0 r·0 (claims· .0) (claims· .1) T7 ( record { pos = 8; ty = Syntax.tyRef Syntax.erased Syntax.mut Element.behind; ref = λ x. x; }, (Num.vAt 2 λ x. x, (Num.vAt 3 λ x. x, tt)), ) 6
+  s5 = Call.callB ps·0 r·0 (claims· .0) (claims· .1) T7 (record { pos = 8; ty = Syntax.tyRef Syntax.erased Syntax.mut Element.behind; ref = λ x. x }, (Num.vAt 2 λ x. x, (Num.vAt 3 λ x. x, tt))) 6
       (List._∷_ 1 List.[]) Syntax.tyUnit
 
   abbrev s6 : Typed.Mo T8 → Typed.Mo T9
@@ -318,46 +369,58 @@ module _ (claims· : Claims) where
 
       module _ (κs : Lifetimes.Lfts 1) (qs : Lifetimes.Shares 1) where
         abbrev g3 : List.List Row.Entry
-        g3 = List._∷_ (0, Rows.any-gone Syntax.tyUnit) (List._∷_ ( 1, Relend.mslice-owed (Element.type) (Syntax.tyRef (Syntax.named 0) Syntax.mut Element.behind) 0 1 (Row.lease (κs .0) (qs .0)), )
-            (List._∷_ (2, Rows.sc-here (Row.sInt Syntax.w32)) (List._∷_ ( 3, Rows.sc-here (Row.sInt Syntax.w32), ) (List._∷_ (4, Rows.sc-here Row.sBool) (List._∷_ (5, Rows.any-gone Syntax.tyBool)
-            (List._∷_ (6, Rows.any-gone Syntax.tyUnit) (List._∷_ ( 7, Relend.msptr (Element.type) (Syntax.tyRef Syntax.erased Syntax.mut Element.behind) 1, ) (List._∷_ ( 8, Rows.any-gone (Syntax.tyStruct
-            (List._∷_ 38 (List._∷_ 91 (List._∷_ 93 List.[]))) (Syntax.tcons (Syntax.tyRef Syntax.erased Syntax.mut Element.behind) (Syntax.tcons (Syntax.tyInt Syntax.w64) Syntax.tnil))), ) List.[]))))))))
+        g3 = List._∷_ (0, Rows.any-gone Syntax.tyUnit) (List._∷_ (1, Relend.mslice-owed (Element.type) (Syntax.tyRef (Syntax.named 0) Syntax.mut Element.behind) 0 1 (Row.lease (κs .0) (qs .0)))
+            (List._∷_ (2, Rows.sc-here (Row.sInt Syntax.w32)) (List._∷_ (3, Rows.sc-here (Row.sInt Syntax.w32)) (List._∷_ (4, Rows.sc-here Row.sBool) (List._∷_ (5, Rows.any-gone Syntax.tyBool)
+            (List._∷_ (6, Rows.any-gone Syntax.tyUnit) (List._∷_ (7, Relend.msptr (Element.type) (Syntax.tyRef Syntax.erased Syntax.mut Element.behind) 1) (List._∷_ (
+              8,
+              Rows.any-gone (Syntax.tyStruct
+                  (List._∷_ 38 (List._∷_ 91 (List._∷_ 93 List.[]))) (Syntax.tcons (Syntax.tyRef Syntax.erased Syntax.mut Element.behind) (Syntax.tcons (Syntax.tyInt Syntax.w64) Syntax.tnil))),
+            ) List.[]))))))))
 
         abbrev g4 : List.List Row.Entry
-        g4 = List._∷_ (0, Rows.any-gone Syntax.tyUnit) (List._∷_ ( 1, Relend.mslice-owed (Element.type) (Syntax.tyRef (Syntax.named 0) Syntax.mut Element.behind) 0 1 (Row.lease (κs .0) (qs .0)), )
-            (List._∷_ (2, Rows.sc-here (Row.sInt Syntax.w32)) (List._∷_ ( 3, Rows.sc-here (Row.sInt Syntax.w32), ) (List._∷_ (4, Rows.sc-here Row.sBool) (List._∷_ (5, Rows.any-gone Syntax.tyBool)
-            (List._∷_ (6, Rows.any-gone Syntax.tyUnit) (List._∷_ ( 7, Rows.any-gone (Syntax.tyRef Syntax.erased Syntax.mut Element.behind), ) (List._∷_ ( 8, Mut.mslice (Element.type) (Syntax.tyRef
-            Syntax.erased Syntax.mut Element.behind) 1, ) List.[]))))))))
+        g4 = List._∷_ (0, Rows.any-gone Syntax.tyUnit) (List._∷_ (1, Relend.mslice-owed (Element.type) (Syntax.tyRef (Syntax.named 0) Syntax.mut Element.behind) 0 1 (Row.lease (κs .0) (qs .0)))
+            (List._∷_ (2, Rows.sc-here (Row.sInt Syntax.w32)) (List._∷_ (3, Rows.sc-here (Row.sInt Syntax.w32)) (List._∷_ (4, Rows.sc-here Row.sBool) (List._∷_ (5, Rows.any-gone Syntax.tyBool)
+            (List._∷_ (6, Rows.any-gone Syntax.tyUnit) (List._∷_ (7, Rows.any-gone (Syntax.tyRef Syntax.erased Syntax.mut Element.behind)) (List._∷_ (
+              8,
+              Mut.mslice (Element.type) (Syntax.tyRef
+                  Syntax.erased Syntax.mut Element.behind) 1,
+            ) List.[]))))))))
 
         abbrev g5 : List.List Row.Entry
-        g5 = List._∷_ (0, Rows.any-gone Syntax.tyUnit) (List._∷_ ( 1, Relend.mslice-owed (Element.type) (Syntax.tyRef (Syntax.named 0) Syntax.mut Element.behind) 0 1 (Row.lease (κs .0) (qs .0)), )
-            (List._∷_ (2, Rows.sc-here (Row.sInt Syntax.w32)) (List._∷_ ( 3, Rows.sc-here (Row.sInt Syntax.w32), ) (List._∷_ (4, Rows.sc-here Row.sBool) (List._∷_ (5, Rows.any-gone Syntax.tyBool)
-            (List._∷_ (6, Rows.sc-here Row.sUnit) (List._∷_ ( 7, Rows.any-gone (Syntax.tyRef Syntax.erased Syntax.mut Element.behind), ) (List._∷_ ( 8, Mut.msleft (Element.type) (Syntax.tyRef
-            Syntax.erased Syntax.mut Element.behind), ) List.[]))))))))
+        g5 = List._∷_ (0, Rows.any-gone Syntax.tyUnit) (List._∷_ (1, Relend.mslice-owed (Element.type) (Syntax.tyRef (Syntax.named 0) Syntax.mut Element.behind) 0 1 (Row.lease (κs .0) (qs .0)))
+            (List._∷_ (2, Rows.sc-here (Row.sInt Syntax.w32)) (List._∷_ (3, Rows.sc-here (Row.sInt Syntax.w32)) (List._∷_ (4, Rows.sc-here Row.sBool) (List._∷_ (5, Rows.any-gone Syntax.tyBool)
+            (List._∷_ (6, Rows.sc-here Row.sUnit) (List._∷_ (7, Rows.any-gone (Syntax.tyRef Syntax.erased Syntax.mut Element.behind)) (List._∷_ (
+              8,
+              Mut.msleft (Element.type) (Syntax.tyRef
+                  Syntax.erased Syntax.mut Element.behind),
+            ) List.[]))))))))
 
         abbrev g6 : List.List Row.Entry
-        g6 = List._∷_ (0, Rows.any-gone Syntax.tyUnit) (List._∷_ ( 1, Relend.mslice-owed (Element.type) (Syntax.tyRef (Syntax.named 0) Syntax.mut Element.behind) 0 1 (Row.lease (κs .0) (qs .0)), )
-            (List._∷_ (2, Rows.sc-here (Row.sInt Syntax.w32)) (List._∷_ ( 3, Rows.sc-here (Row.sInt Syntax.w32), ) (List._∷_ (4, Rows.sc-here Row.sBool) (List._∷_ (5, Rows.any-gone Syntax.tyBool)
-            (List._∷_ (6, Rows.any-gone Syntax.tyUnit) (List._∷_ ( 7, Rows.any-gone (Syntax.tyRef Syntax.erased Syntax.mut Element.behind), ) (List._∷_ ( 8, Mut.msleft (Element.type) (Syntax.tyRef
-            Syntax.erased Syntax.mut Element.behind), ) List.[]))))))))
+        g6 = List._∷_ (0, Rows.any-gone Syntax.tyUnit) (List._∷_ (1, Relend.mslice-owed (Element.type) (Syntax.tyRef (Syntax.named 0) Syntax.mut Element.behind) 0 1 (Row.lease (κs .0) (qs .0)))
+            (List._∷_ (2, Rows.sc-here (Row.sInt Syntax.w32)) (List._∷_ (3, Rows.sc-here (Row.sInt Syntax.w32)) (List._∷_ (4, Rows.sc-here Row.sBool) (List._∷_ (5, Rows.any-gone Syntax.tyBool)
+            (List._∷_ (6, Rows.any-gone Syntax.tyUnit) (List._∷_ (7, Rows.any-gone (Syntax.tyRef Syntax.erased Syntax.mut Element.behind)) (List._∷_ (
+              8,
+              Mut.msleft (Element.type) (Syntax.tyRef
+                  Syntax.erased Syntax.mut Element.behind),
+            ) List.[]))))))))
 
         abbrev G0 : Row.Cx
-        G0 = record { locals = t0; slots = List._∷_ (Row.lease (κs .0) (qs .0)) (List._∷_ Row.off List.[]); }
+        G0 = record { locals = t0; slots = List._∷_ (Row.lease (κs .0) (qs .0)) (List._∷_ Row.off List.[]) }
 
         abbrev G1 : Row.Cx
-        G1 = record { locals = t1; slots = List._∷_ (Row.lease (κs .0) (qs .0)) (List._∷_ Row.off List.[]); }
+        G1 = record { locals = t1; slots = List._∷_ (Row.lease (κs .0) (qs .0)) (List._∷_ Row.off List.[]) }
 
         abbrev G2 : Row.Cx
-        G2 = record { locals = t2; slots = List._∷_ (Row.lease (κs .0) (qs .0)) (List._∷_ Row.off List.[]); }
+        G2 = record { locals = t2; slots = List._∷_ (Row.lease (κs .0) (qs .0)) (List._∷_ Row.off List.[]) }
 
         abbrev G3 : Row.Cx
-        G3 = record { locals = t0; slots = List._∷_ (Row.lease (κs .0) (qs .0)) (List._∷_ Row.off List.[]); }
+        G3 = record { locals = t0; slots = List._∷_ (Row.lease (κs .0) (qs .0)) (List._∷_ Row.off List.[]) }
 
         abbrev G4 : Row.Cx
-        G4 = record { locals = t0; slots = List._∷_ (Row.lease (κs .0) (qs .0)) (List._∷_ Row.off List.[]); }
+        G4 = record { locals = t0; slots = List._∷_ (Row.lease (κs .0) (qs .0)) (List._∷_ Row.off List.[]) }
 
         abbrev G5 : Row.Cx
-        G5 = record { locals = t0; slots = List._∷_ (Row.lease (κs .0) (qs .0)) (List._∷_ Row.alive List.[]); }
+        G5 = record { locals = t0; slots = List._∷_ (Row.lease (κs .0) (qs .0)) (List._∷_ Row.alive List.[]) }
 
         abbrev G6 : Row.Cx
         G6 = record { locals = g3; slots = List._∷_ Row.off (List._∷_ Row.alive List.[]) }
@@ -375,25 +438,25 @@ module _ (claims· : Claims) where
         G10 = record { locals = g6; slots = List._∷_ Row.off (List._∷_ Row.dead List.[]) }
 
         abbrev G11 : Row.Cx
-        G11 = record { locals = t0; slots = List._∷_ (Row.lease (κs .0) (qs .0)) (List._∷_ Row.dead List.[]); }
+        G11 = record { locals = t0; slots = List._∷_ (Row.lease (κs .0) (qs .0)) (List._∷_ Row.dead List.[]) }
 
         abbrev G12 : Row.Cx
-        G12 = record { locals = t0; slots = List._∷_ (Row.lease (κs .0) (qs .0)) (List._∷_ Row.off List.[]); }
+        G12 = record { locals = t0; slots = List._∷_ (Row.lease (κs .0) (qs .0)) (List._∷_ Row.off List.[]) }
 
         abbrev G13 : Row.Cx
-        G13 = record { locals = t0; slots = List._∷_ (Row.lease (κs .0) (qs .0)) (List._∷_ Row.off List.[]); }
+        G13 = record { locals = t0; slots = List._∷_ (Row.lease (κs .0) (qs .0)) (List._∷_ Row.off List.[]) }
 
         abbrev G14 : Row.Cx
-        G14 = record { locals = t7; slots = List._∷_ (Row.lease (κs .0) (qs .0)) (List._∷_ Row.off List.[]); }
+        G14 = record { locals = t7; slots = List._∷_ (Row.lease (κs .0) (qs .0)) (List._∷_ Row.off List.[]) }
 
         abbrev G15 : Row.Cx
-        G15 = record { locals = t8; slots = List._∷_ (Row.lease (κs .0) (qs .0)) (List._∷_ Row.off List.[]); }
+        G15 = record { locals = t8; slots = List._∷_ (Row.lease (κs .0) (qs .0)) (List._∷_ Row.off List.[]) }
 
         abbrev G16 : Row.Cx
-        G16 = record { locals = t9; slots = List._∷_ (Row.lease (κs .0) (qs .0)) (List._∷_ Row.off List.[]); }
+        G16 = record { locals = t9; slots = List._∷_ (Row.lease (κs .0) (qs .0)) (List._∷_ Row.off List.[]) }
 
         abbrev G17 : Row.Cx
-        G17 = record { locals = t1; slots = List._∷_ (Row.lease (κs .0) (qs .0)) (List._∷_ Row.off List.[]); }
+        G17 = record { locals = t1; slots = List._∷_ (Row.lease (κs .0) (qs .0)) (List._∷_ Row.off List.[]) }
 
         abbrev Δ0 : Typed.Outs
         Δ0 = record { next = Option.none; exits = List.[]; returns = Option.some G1 }
@@ -410,10 +473,24 @@ module _ (claims· : Claims) where
           d0 = Typed.s-typed 𝓤 H A W 𝓣 E G7 b3 Δ1 (λ Ψ. Typed.both s5 (Typed.pass T8 T9 s6 (Typed.both s8 Ψ))) tt (Typed.g-post 𝓤 H A W 𝓣 E G7 G11 G12 b3 (λ Ψ. Typed.both s5 (Typed.pass T8 T9 s6
               (Typed.both s8 Ψ))) (λ Ψ. Ψ) (Typed.g-post 𝓤 H A W 𝓣 E G7 G10 G11 b3 (λ Ψ. Typed.both s5 (Typed.pass T8 T9 s6 Ψ)) (Typed.both s8) (Typed.g-post 𝓤 H A W 𝓣 E G7 G9 G10 b3 (λ Ψ. Typed.both s5
               (Typed.pass T8 T9 s6 Ψ)) (λ Ψ. Ψ) (Typed.g-post 𝓤 H A W 𝓣 E G7 G8 G9 b3 (Typed.both s5) (Typed.pass T8 T9 s6) (Plain.t-call-plain 𝓤 H A W 𝓣 1 ps·0 r·0 (claims· .0) (claims· .1)
-              "block::restart_main" known E (λ pos β. β) G7 ( record { pos = 8; ty = Syntax.tyRef Syntax.erased Syntax.mut Element.behind; ref = λ x. x; }, (Num.vAt 2 λ x. x, (Num.vAt 3 λ x. x, tt)), ) 6
-              (List._∷_ 1 List.[]) (Call.sub-id 𝓤 H A W (G7 .slots)) ( Reads.as-is 𝓤 H A (Mut.mslice (Element.type) (Syntax.tyRef Syntax.erased Syntax.mut Element.behind) 1), Mut.reads-mslice 𝓤 H A W
-              (Element.type) (Syntax.tyRef Syntax.erased Syntax.mut Element.behind) 1, Path'.refl, ( (Scalar.reads-sc 𝓤 H A W (Row.sInt Syntax.w32), Path'.refl), ((Scalar.reads-sc 𝓤 H A W (Row.sInt
-              Syntax.w32), Path'.refl), tt), ), ) (Reads.room-gone 𝓤 H A Syntax.tyUnit) (tt, tt) Path'.refl) (Scalar.g-room 𝓤 H A W E G8 6 Syntax.tyUnit (Scalar.room-sc 𝓤 H A W Row.sUnit)))
+              "block::restart_main" known E (λ pos β. β) G7 (record { pos = 8; ty = Syntax.tyRef Syntax.erased Syntax.mut Element.behind; ref = λ x. x }, (Num.vAt 2 λ x. x, (Num.vAt 3 λ x. x, tt))) 6
+              (List._∷_ 1 List.[]) (Call.sub-id 𝓤 H A W (G7 .slots)) (
+                Reads.as-is 𝓤 H A (Mut.mslice (Element.type) (Syntax.tyRef Syntax.erased Syntax.mut Element.behind) 1),
+                Mut.reads-mslice 𝓤 H A W
+                    (Element.type) (Syntax.tyRef Syntax.erased Syntax.mut Element.behind) 1,
+                Path'.refl,
+                (
+                  (Scalar.reads-sc 𝓤 H A W (Row.sInt Syntax.w32), Path'.refl),
+                  (
+                    (
+                      Scalar.reads-sc 𝓤 H A W (Row.sInt
+                          Syntax.w32),
+                      Path'.refl,
+                    ),
+                    tt,
+                  ),
+                ),
+              ) (Reads.room-gone 𝓤 H A Syntax.tyUnit) (tt, tt) Path'.refl) (Scalar.g-room 𝓤 H A W E G8 6 Syntax.tyUnit (Scalar.room-sc 𝓤 H A W Row.sUnit)))
               (Lifetime.g-end 𝓤 H A W E G9 1 Path'.refl)) (Relend.g-back-sl 𝓤 H A W E (Element.type) G10 8 1 0 1 (Syntax.tyRef (Syntax.named 0) Syntax.mut Element.behind) (Syntax.tyRef Syntax.erased
               Syntax.mut Element.behind) (Row.lease (κs .0) (qs .0)) (λ x. x) (λ x. x) (Reads.as-is 𝓤 H A (Mut.msleft (Element.type) (Syntax.tyRef Syntax.erased Syntax.mut Element.behind))) (Reads.as-is 𝓤
               H A (Relend.mslice-owed (Element.type) (Syntax.tyRef (Syntax.named 0) Syntax.mut Element.behind) 0 1 (Row.lease (κs .0) (qs .0)))) Path'.refl Path'.refl)) (Lifetime.g-forget 𝓤 H A W E G11 1
@@ -423,8 +500,11 @@ module _ (claims· : Claims) where
           d1 = Typed.s-seq 𝓤 H A W 𝓣 E G6 G7 b2 b3 Δ1 (Typed.ask s4) at0 (Relend.t-sl-aggregate 𝓤 H A W E (Element.type) 𝓣 (Relend.asMut (Element.type)) G6 7 8 1 (Syntax.tyRef Syntax.erased Syntax.mut
               Element.behind) (Syntax.tyRef Syntax.erased Syntax.mut Element.behind) (λ x. x) (Scalar.oFld 1 (List._∷_ (Syntax.field 1) List.[]) (Syntax.tyInt Syntax.w64) 8 λ v. Shared.lenV (v .0))
               (Reads.as-is 𝓤 H A (Relend.msptr (Element.type) (Syntax.tyRef Syntax.erased Syntax.mut Element.behind) 1)) (Reads.room-gone 𝓤 H A (Syntax.tyStruct (List._∷_ 38 (List._∷_ 91 (List._∷_ 93
-              List.[]))) (Syntax.tcons (Syntax.tyRef Syntax.erased Syntax.mut Element.behind) (Syntax.tcons (Syntax.tyInt Syntax.w64) Syntax.tnil)))) ( Relend.reads-owed-len 𝓤 H A W (Element.type)
-              (Syntax.tyRef (Syntax.named 0) Syntax.mut Element.behind) 0 1 (Row.lease (κs .0) (qs .0)) 8 Path'.refl, Path'.refl, ) Path'.refl Path'.refl λ b o k. tt) d0
+              List.[]))) (Syntax.tcons (Syntax.tyRef Syntax.erased Syntax.mut Element.behind) (Syntax.tcons (Syntax.tyInt Syntax.w64) Syntax.tnil)))) (
+                Relend.reads-owed-len 𝓤 H A W (Element.type)
+                    (Syntax.tyRef (Syntax.named 0) Syntax.mut Element.behind) 0 1 (Row.lease (κs .0) (qs .0)) 8 Path'.refl,
+                Path'.refl,
+              ) Path'.refl Path'.refl λ b o k. tt) d0
 
           d2 : Typed.Typed 𝓤 H A 𝓣 E G5 b5 Δ1 at2
           d2 = Typed.s-seq 𝓤 H A W 𝓣 E G5 G6 b1 b4 Δ1 (Typed.give s3) at1 (Relend.t-sl-relend 𝓤 H A W E (Element.type) 𝓣 G5 1 7 0 1 (Syntax.tyRef (Syntax.named 0) Syntax.mut Element.behind)
@@ -432,7 +512,7 @@ module _ (claims· : Claims) where
               Element.behind) 0)) (Reads.room-gone 𝓤 H A (Syntax.tyRef Syntax.erased Syntax.mut Element.behind)) Path'.refl tt Path'.refl Path'.refl Path'.refl λ b o. tt) d1
 
           d3 : Typed.Typed 𝓤 H A 𝓣 E G4 b5 Δ1 at3
-          d3 = Typed.g-pre 𝓤 H A W 𝓣 E G4 G5 b5 Δ1 (λ Ψ. Ψ) at2 (Lifetime.g-begin 𝓤 H A W E G4 1 ( tt, (tt, (tt, (tt, (tt, (tt, (tt, (tt, (tt, tt)))))))), )) d2
+          d3 = Typed.g-pre 𝓤 H A W 𝓣 E G4 G5 b5 Δ1 (λ Ψ. Ψ) at2 (Lifetime.g-begin 𝓤 H A W E G4 1 (tt, (tt, (tt, (tt, (tt, (tt, (tt, (tt, (tt, tt)))))))))) d2
 
           d4 : Typed.Typed 𝓤 H A 𝓣 E G2 b5 Δ1 at4
           d4 = Typed.g-pre 𝓤 H A W 𝓣 E G2 G4 b5 Δ1 (Typed.pass T2 T4 s1) at3 (Scalar.g-room 𝓤 H A W E G2 5 Syntax.tyBool (Scalar.room-sc 𝓤 H A W Row.sBool)) d3
@@ -492,8 +572,12 @@ module _ (claims· : Claims) where
       m0 = λ κs args. (tt, Enter.partsP κs 1 ps xs (dens κs args))
 
       abbrev W0 : (κs : Lifetimes.Lfts 1) → (args : Args κs) → Typed.Want O0
-      W0 = λ κs args. ( λ u. ⊥, tt, λ u. Enter.Fixs κs 1 ps xs (dens κs args) (u .1) × Post· κs (dens κs args) (Function.resV r κs (u .0)) (Clauses.atExit (Kinds.endedOf 1 ps r) κs (dens κs args)
-          (Enter.lastsP κs 1 ps xs (dens κs args) (u .1))), )
+      W0 = λ κs args. (
+        λ u. ⊥,
+        tt,
+        λ u. Enter.Fixs κs 1 ps xs (dens κs args) (u .1) × Post· κs (dens κs args) (Function.resV r κs (u .0)) (Clauses.atExit (Kinds.endedOf 1 ps r) κs (dens κs args)
+            (Enter.lastsP κs 1 ps xs (dens κs args) (u .1))),
+      )
 
       pub record Start : Type 0 where
         pub κs : Lifetimes.Lfts 1
@@ -544,16 +628,34 @@ module _ (claims· : Claims) where
 
       module _ (before· : After-restart-main-arg) where
         abbrev pub After-restart-main·own : Type 0
-        After-restart-main·own = Called.Called ps·0 r·0 (claims· .1) T7 ( record { pos = 8; ty = Syntax.tyRef Syntax.erased Syntax.mut Element.behind; ref = λ x. x; }, (Num.vAt 2 λ x. x, (Num.vAt 3 λ
-            x. x, tt)), ) (m4 (before· .before) (before· .restart-main-arg .given))
+        After-restart-main·own = Called.Called ps·0 r·0 (claims· .1) T7 (
+          record { pos = 8; ty = Syntax.tyRef Syntax.erased Syntax.mut Element.behind; ref = λ x. x },
+          (
+            Num.vAt 2 λ x. x,
+            (
+              Num.vAt 3 λ
+                  x. x,
+              tt,
+            ),
+          ),
+        ) (m4 (before· .before) (before· .restart-main-arg .given))
 
       pub record After-restart-main : Type 0 where
         pub before : After-restart-main-arg
         pub restart-main : After-restart-main·own before
 
       abbrev pub After-restart-main·gave : (c : After-restart-main) → s5 .gives (m4 (c .before .before) (c .before .restart-main-arg .given))
-      After-restart-main·gave = λ c. Called.given ps·0 r·0 (claims· .1) T7 ( record { pos = 8; ty = Syntax.tyRef Syntax.erased Syntax.mut Element.behind; ref = λ x. x; }, (Num.vAt 2 λ x. x, (Num.vAt 3
-          λ x. x, tt)), ) (m4 (c .before .before) (c .before .restart-main-arg .given)) (c .restart-main)
+      After-restart-main·gave = λ c. Called.given ps·0 r·0 (claims· .1) T7 (
+        record { pos = 8; ty = Syntax.tyRef Syntax.erased Syntax.mut Element.behind; ref = λ x. x },
+        (
+          Num.vAt 2 λ x. x,
+          (
+            Num.vAt 3
+                λ x. x,
+            tt,
+          ),
+        ),
+      ) (m4 (c .before .before) (c .before .restart-main-arg .given)) (c .restart-main)
 
       abbrev pub m7 : (before : After-restart-main) → (given : s8 .gives (m6 (before .before) (After-restart-main·gave before))) → Typed.Mo T11
       m7 = λ before given. s8 .next (m6 (before .before) (After-restart-main·gave before)) given
@@ -617,24 +719,60 @@ module _ (claims· : Claims) where
 
       module _ (restart-main-requires : Need-restart-main-requires) (same-length : Need-same-length) (returns : Need-returns) (returns-2 : Need-returns-2) where
         lay2 : (c : Else1) → at12 (W0 (c .before .κs) (c .before .args)) (m8 (c .before))
-        lay2 = λ c. ( (Path'.refl, (tt, (tt, (tt, tt)))), returns-2 record { before = c .before; if1 = c .if1 }, )
+        lay2 = λ c. ((Path'.refl, (tt, (tt, (tt, tt)))), returns-2 record { before = c .before; if1 = c .if1 })
 
         lay1 : (c : After-rs) → at12 (W0 (c .before .before .before .before .κs) (c .before .before .before .before .args)) (m7 (c .before) (c .rs .given))
-        lay1 = λ c. ( ( MutSlice.fix-len (Row.get 1 (T17 .locals) (m12 (c .before) (c .rs .given)) .ptr) (Row.get 1 (T17 .locals) (m12 (c .before) (c .rs .given)) .name) (Row.get 1 (T17 .locals) (m12
-            (c .before) (c .rs .given)) .now) (dens (c .before .before .before .before .κs) (c .before .before .before .before .args) .0 .now) (same-length record { before = c .before; rs = c .rs }), (tt,
-            (tt, (tt, tt))), ), returns record { before = c .before; rs = c .rs }, )
+        lay1 = λ c. (
+          (
+            MutSlice.fix-len (Row.get 1 (T17 .locals) (m12 (c .before) (c .rs .given)) .ptr) (Row.get 1 (T17 .locals) (m12 (c .before) (c .rs .given)) .name) (Row.get 1 (T17 .locals) (m12
+                (c .before) (c .rs .given)) .now) (dens (c .before .before .before .before .κs) (c .before .before .before .before .args) .0 .now) (same-length record { before = c .before; rs = c .rs }),
+            (
+              tt,
+              (tt, (tt, tt)),
+            ),
+          ),
+          returns record { before = c .before; rs = c .rs },
+        )
 
         pub laid : (c : Start) → at14 (W0 (c .κs) (c .args)) (m0 (c .κs) (c .args))
-        laid = λ c. ( λ taken. λ g. ( Path'.refl, ( restart-main-requires record { before = record { before = c; if1 = record { taken = taken } }; restart-main-arg = record { given = g }; }, λ g'. (
-            Path'.refl, λ g''. lay1 record { before = record { before = record { before = record { before = c; if1 = record { taken = taken } }; restart-main-arg = record { given = g }; }; restart-main =
-            Called.called ps·0 r·0 (claims· .1) T7 ( record { pos = 8; ty = Syntax.tyRef Syntax.erased Syntax.mut Element.behind; ref = λ x. x; }, (Num.vAt 2 λ x. x, (Num.vAt 3 λ x. x, tt)), ) (m4 record
-            { before = c; if1 = record { taken = taken } } g) g'; }; rs = record { given = g'' }; }, ), ), ), λ left. lay2 record { before = c; if1 = record { left = left } }, )
+        laid = λ c. (
+          λ taken. λ g. (
+            Path'.refl,
+            (
+              restart-main-requires record { before = record { before = c; if1 = record { taken = taken } }; restart-main-arg = record { given = g } },
+              λ g'. (
+                Path'.refl,
+                λ g''. lay1 record {
+                  before = record {
+                    before = record { before = record { before = c; if1 = record { taken = taken } }; restart-main-arg = record { given = g } };
+                    restart-main =
+                        Called.called ps·0 r·0 (claims· .1) T7 (record { pos = 8; ty = Syntax.tyRef Syntax.erased Syntax.mut Element.behind; ref = λ x. x }, (Num.vAt 2 λ x. x, (Num.vAt 3 λ x. x, tt))) (m4 record
+                        { before = c; if1 = record { taken = taken } } g) g';
+                  };
+                  rs = record { given = g'' };
+                },
+              ),
+            ),
+          ),
+          λ left. lay2 record { before = c; if1 = record { left = left } },
+        )
 
         module _ (κs : Lifetimes.Lfts 1) (qs : Lifetimes.Shares 1) where
           pub asked : (a : Kinds.Dens κs ps) → (good : Kinds.GoodsP κs ps a) → (pre : Pre· κs a) → (bs : List.List Nat.ℕ) → Φ (Any.wantQ 1 ps r xs m κs qs a (Post· κs a)) (Function.init 1 ps r xs m κs
               qs a)
-          asked = λ a good pre bs. laid record { κs = κs; args = record { rs = a .0; bits = a .1 .0; base = a .1 .1 .0; wanted = a .1 .1 .1 .0; }; good = good; fits = record { bits = record { fits =
-              good .1 .0 .1 }; base = record { fits = good .1 .1 .0 .1 }; }; pre = pre; }
+          asked = λ a good pre bs. laid record {
+            κs = κs;
+            args = record { rs = a .0; bits = a .1 .0; base = a .1 .1 .0; wanted = a .1 .1 .1 .0 };
+            good = good;
+            fits = record {
+              bits = record {
+                fits =
+                    good .1 .0 .1;
+              };
+              base = record { fits = good .1 .1 .0 .1 };
+            };
+            pre = pre;
+          }
 
         module _ {M : Type 1} (𝓤 : URA.URA M) (H : Wp.Heap 𝓤) (A : Atoms.Atoms 𝓤) (W : Kit.Given 𝓤 H A) (𝓣 : Wp.Tables 𝓤 H) (known0 : Plain.Known 𝓤 H A W 𝓣 1 ps·0 r·0 (claims· .0) (claims· .1)
             "block::restart_main") where

@@ -65,16 +65,44 @@ abbrev pub ps·0 : List.List (Kinds.PK 0)
 ps·0 = List._∷_ (Num.pNum Syntax.w32) (List._∷_ (Num.pNum Syntax.w32) (List._∷_ (Num.pNum Syntax.w64) List.[]))
 
 abbrev pub r·0 : Kinds.RK 0
-r·0 = Value.rVal record { ty = Declared.row Record.the-type; one = Path'.refl; val = Laws'.val Record.the-type Laws.the-laws; tells = Laws'.tells Record.the-type Laws.the-laws; still = Laws'.still
-    Record.the-type Laws.the-copy Exit.yes; row = Rows.whole (Declared.row Record.the-type); rd = λ x. x; mk = λ x. x; } λ M 𝓤 H A W. record { copies = Laws'.copy Record.the-type Laws.the-copy 𝓤 H A W;
-    lawful = Laws'.lawful Record.the-type Laws.the-laws 𝓤 H A W; makes = Laws'.makes Record.the-type Laws.the-plain 𝓤 H A; in-mem = Local.mem-whole 𝓤 H A W (Declared.row Record.the-type); of-mem =
-    Local.whole-mem 𝓤 H A W (Declared.row Record.the-type); }
+r·0 = Value.rVal record {
+  ty = Declared.row Record.the-type;
+  one = Path'.refl;
+  val = Laws'.val Record.the-type Laws.the-laws;
+  tells = Laws'.tells Record.the-type Laws.the-laws;
+  still = Laws'.still
+      Record.the-type Laws.the-copy Exit.yes;
+  row = Rows.whole (Declared.row Record.the-type);
+  rd = λ x. x;
+  mk = λ x. x;
+} λ M 𝓤 H A W. record {
+  copies = Laws'.copy Record.the-type Laws.the-copy 𝓤 H A W;
+  lawful = Laws'.lawful Record.the-type Laws.the-laws 𝓤 H A W;
+  makes = Laws'.makes Record.the-type Laws.the-plain 𝓤 H A;
+  in-mem = Local.mem-whole 𝓤 H A W (Declared.row Record.the-type);
+  of-mem =
+      Local.whole-mem 𝓤 H A W (Declared.row Record.the-type);
+}
 
 abbrev pub ps·1 : List.List (Kinds.PK 1)
-ps·1 = List._∷_ (MutSlice.pMutS (Element.type) 0 tt) (List._∷_ (Num.pNum Syntax.w64) (List._∷_ (Value.pVal record { ty = Declared.row Record.the-type; one = Path'.refl; val = Laws'.val Record.the-type
-    Laws.the-laws; tells = Laws'.tells Record.the-type Laws.the-laws; still = Laws'.still Record.the-type Laws.the-copy Exit.yes; row = Rows.whole (Declared.row Record.the-type); rd = λ x. x; mk = λ x. x;
-    } λ M 𝓤 H A W. record { copies = Laws'.copy Record.the-type Laws.the-copy 𝓤 H A W; lawful = Laws'.lawful Record.the-type Laws.the-laws 𝓤 H A W; makes = Laws'.makes Record.the-type Laws.the-plain 𝓤 H
-    A; in-mem = Local.mem-whole 𝓤 H A W (Declared.row Record.the-type); of-mem = Local.whole-mem 𝓤 H A W (Declared.row Record.the-type); }) List.[]))
+ps·1 = List._∷_ (MutSlice.pMutS (Element.type) 0 tt) (List._∷_ (Num.pNum Syntax.w64) (List._∷_ (Value.pVal record {
+  ty = Declared.row Record.the-type;
+  one = Path'.refl;
+  val = Laws'.val Record.the-type
+      Laws.the-laws;
+  tells = Laws'.tells Record.the-type Laws.the-laws;
+  still = Laws'.still Record.the-type Laws.the-copy Exit.yes;
+  row = Rows.whole (Declared.row Record.the-type);
+  rd = λ x. x;
+  mk = λ x. x;
+} λ M 𝓤 H A W. record {
+  copies = Laws'.copy Record.the-type Laws.the-copy 𝓤 H A W;
+  lawful = Laws'.lawful Record.the-type Laws.the-laws 𝓤 H A W;
+  makes = Laws'.makes Record.the-type Laws.the-plain 𝓤 H
+      A;
+  in-mem = Local.mem-whole 𝓤 H A W (Declared.row Record.the-type);
+  of-mem = Local.whole-mem 𝓤 H A W (Declared.row Record.the-type);
+}) List.[]))
 
 abbrev pub r·1 : Kinds.RK 1
 r·1 = Unit'.rUnit
@@ -161,101 +189,217 @@ abbrev pub Claims : Type 1
 Claims = Kinds.In 0 ps·0 × Kinds.Out 0 ps·0 r·0 × Kinds.In 1 ps·1 × Kinds.Out 1 ps·1 r·1
 
 abbrev pub t0 : List.List Row.Entry
-t0 = List._∷_ (0, Rows.any-gone Syntax.tyUnit) (List._∷_ ( 1, Mut.mslice (Element.type) (Syntax.tyRef (Syntax.named 0) Syntax.mut Element.behind) 0, ) (List._∷_ (2, Rows.sc-here (Row.sInt Syntax.w32))
-    (List._∷_ ( 3, Rows.sc-here (Row.sInt Syntax.w32), ) (List._∷_ (4, Rows.any-gone (Syntax.tyInt Syntax.w64)) (List._∷_ ( 5, Rows.any-gone (Syntax.tyStruct (List._∷_ 115 (List._∷_ 116 (List._∷_ 97
-    (List._∷_ 116 (List._∷_ 105 (List._∷_ 115 (List._∷_ 116 (List._∷_ 105 (List._∷_ 99 (List._∷_ 115 (List._∷_ 58 (List._∷_ 58 (List._∷_ 82 (List._∷_ 101 (List._∷_ 99 (List._∷_ 111 (List._∷_ 114 (List._∷_
-    100 List.[])))))))))))))))))) (Syntax.tcons (Syntax.tyInt Syntax.w32) (Syntax.tcons (Syntax.tyInt Syntax.w32) Syntax.tnil))), ) (List._∷_ (6, Rows.any-gone Syntax.tyBool) (List._∷_ (7, Rows.any-gone
-    Syntax.tyUnit) (List._∷_ ( 8, Rows.any-gone (Syntax.tyRef Syntax.erased Syntax.mut Element.behind), ) (List._∷_ ( 9, Rows.any-gone (Syntax.tyStruct (List._∷_ 38 (List._∷_ 91 (List._∷_ 93 List.[])))
-    (Syntax.tcons (Syntax.tyRef Syntax.erased Syntax.mut Element.behind) (Syntax.tcons (Syntax.tyInt Syntax.w64) Syntax.tnil))), ) List.[])))))))))
+t0 = List._∷_ (0, Rows.any-gone Syntax.tyUnit) (List._∷_ (1, Mut.mslice (Element.type) (Syntax.tyRef (Syntax.named 0) Syntax.mut Element.behind) 0) (List._∷_ (2, Rows.sc-here (Row.sInt Syntax.w32))
+    (List._∷_ (3, Rows.sc-here (Row.sInt Syntax.w32)) (List._∷_ (4, Rows.any-gone (Syntax.tyInt Syntax.w64)) (List._∷_ (
+      5,
+      Rows.any-gone (Syntax.tyStruct (List._∷_ 115 (List._∷_ 116 (List._∷_ 97
+          (List._∷_ 116 (List._∷_ 105 (List._∷_ 115 (List._∷_ 116 (List._∷_ 105 (List._∷_ 99 (List._∷_ 115 (List._∷_ 58 (List._∷_ 58 (List._∷_ 82 (List._∷_ 101 (List._∷_ 99 (List._∷_ 111 (List._∷_ 114 (List._∷_
+          100 List.[])))))))))))))))))) (Syntax.tcons (Syntax.tyInt Syntax.w32) (Syntax.tcons (Syntax.tyInt Syntax.w32) Syntax.tnil))),
+    ) (List._∷_ (6, Rows.any-gone Syntax.tyBool) (List._∷_ (
+      7,
+      Rows.any-gone
+          Syntax.tyUnit,
+    ) (List._∷_ (8, Rows.any-gone (Syntax.tyRef Syntax.erased Syntax.mut Element.behind)) (List._∷_ (
+      9,
+      Rows.any-gone (Syntax.tyStruct (List._∷_ 38 (List._∷_ 91 (List._∷_ 93 List.[])))
+          (Syntax.tcons (Syntax.tyRef Syntax.erased Syntax.mut Element.behind) (Syntax.tcons (Syntax.tyInt Syntax.w64) Syntax.tnil))),
+    ) List.[])))))))))
 
 abbrev pub t1 : List.List Row.Entry
-t1 = List._∷_ (0, Rows.sc-here Row.sUnit) (List._∷_ ( 1, Mut.mslice (Element.type) (Syntax.tyRef (Syntax.named 0) Syntax.mut Element.behind) 0, ) (List._∷_ (2, Rows.any-gone (Syntax.tyInt Syntax.w32))
-    (List._∷_ ( 3, Rows.any-gone (Syntax.tyInt Syntax.w32), ) (List._∷_ (4, Rows.any-gone (Syntax.tyInt Syntax.w64)) (List._∷_ ( 5, Rows.any-gone (Syntax.tyStruct (List._∷_ 115 (List._∷_ 116 (List._∷_ 97
-    (List._∷_ 116 (List._∷_ 105 (List._∷_ 115 (List._∷_ 116 (List._∷_ 105 (List._∷_ 99 (List._∷_ 115 (List._∷_ 58 (List._∷_ 58 (List._∷_ 82 (List._∷_ 101 (List._∷_ 99 (List._∷_ 111 (List._∷_ 114 (List._∷_
-    100 List.[])))))))))))))))))) (Syntax.tcons (Syntax.tyInt Syntax.w32) (Syntax.tcons (Syntax.tyInt Syntax.w32) Syntax.tnil))), ) (List._∷_ (6, Rows.any-gone Syntax.tyBool) (List._∷_ (7, Rows.any-gone
-    Syntax.tyUnit) (List._∷_ ( 8, Rows.any-gone (Syntax.tyRef Syntax.erased Syntax.mut Element.behind), ) (List._∷_ ( 9, Rows.any-gone (Syntax.tyStruct (List._∷_ 38 (List._∷_ 91 (List._∷_ 93 List.[])))
-    (Syntax.tcons (Syntax.tyRef Syntax.erased Syntax.mut Element.behind) (Syntax.tcons (Syntax.tyInt Syntax.w64) Syntax.tnil))), ) List.[])))))))))
+t1 = List._∷_ (0, Rows.sc-here Row.sUnit) (List._∷_ (1, Mut.mslice (Element.type) (Syntax.tyRef (Syntax.named 0) Syntax.mut Element.behind) 0) (List._∷_ (2, Rows.any-gone (Syntax.tyInt Syntax.w32))
+    (List._∷_ (3, Rows.any-gone (Syntax.tyInt Syntax.w32)) (List._∷_ (4, Rows.any-gone (Syntax.tyInt Syntax.w64)) (List._∷_ (
+      5,
+      Rows.any-gone (Syntax.tyStruct (List._∷_ 115 (List._∷_ 116 (List._∷_ 97
+          (List._∷_ 116 (List._∷_ 105 (List._∷_ 115 (List._∷_ 116 (List._∷_ 105 (List._∷_ 99 (List._∷_ 115 (List._∷_ 58 (List._∷_ 58 (List._∷_ 82 (List._∷_ 101 (List._∷_ 99 (List._∷_ 111 (List._∷_ 114 (List._∷_
+          100 List.[])))))))))))))))))) (Syntax.tcons (Syntax.tyInt Syntax.w32) (Syntax.tcons (Syntax.tyInt Syntax.w32) Syntax.tnil))),
+    ) (List._∷_ (6, Rows.any-gone Syntax.tyBool) (List._∷_ (
+      7,
+      Rows.any-gone
+          Syntax.tyUnit,
+    ) (List._∷_ (8, Rows.any-gone (Syntax.tyRef Syntax.erased Syntax.mut Element.behind)) (List._∷_ (
+      9,
+      Rows.any-gone (Syntax.tyStruct (List._∷_ 38 (List._∷_ 91 (List._∷_ 93 List.[])))
+          (Syntax.tcons (Syntax.tyRef Syntax.erased Syntax.mut Element.behind) (Syntax.tcons (Syntax.tyInt Syntax.w64) Syntax.tnil))),
+    ) List.[])))))))))
 
 abbrev pub t2 : List.List Row.Entry
-t2 = List._∷_ (0, Rows.any-gone Syntax.tyUnit) (List._∷_ ( 1, Mut.mslice (Element.type) (Syntax.tyRef (Syntax.named 0) Syntax.mut Element.behind) 0, ) (List._∷_ (2, Rows.sc-here (Row.sInt Syntax.w32))
-    (List._∷_ ( 3, Rows.sc-here (Row.sInt Syntax.w32), ) (List._∷_ (4, Rows.sc-here (Row.sInt Syntax.w64)) (List._∷_ ( 5, Rows.any-gone (Syntax.tyStruct (List._∷_ 115 (List._∷_ 116 (List._∷_ 97 (List._∷_
-    116 (List._∷_ 105 (List._∷_ 115 (List._∷_ 116 (List._∷_ 105 (List._∷_ 99 (List._∷_ 115 (List._∷_ 58 (List._∷_ 58 (List._∷_ 82 (List._∷_ 101 (List._∷_ 99 (List._∷_ 111 (List._∷_ 114 (List._∷_ 100
-    List.[])))))))))))))))))) (Syntax.tcons (Syntax.tyInt Syntax.w32) (Syntax.tcons (Syntax.tyInt Syntax.w32) Syntax.tnil))), ) (List._∷_ (6, Rows.any-gone Syntax.tyBool) (List._∷_ (7, Rows.any-gone
-    Syntax.tyUnit) (List._∷_ ( 8, Rows.any-gone (Syntax.tyRef Syntax.erased Syntax.mut Element.behind), ) (List._∷_ ( 9, Rows.any-gone (Syntax.tyStruct (List._∷_ 38 (List._∷_ 91 (List._∷_ 93 List.[])))
-    (Syntax.tcons (Syntax.tyRef Syntax.erased Syntax.mut Element.behind) (Syntax.tcons (Syntax.tyInt Syntax.w64) Syntax.tnil))), ) List.[])))))))))
+t2 = List._∷_ (0, Rows.any-gone Syntax.tyUnit) (List._∷_ (1, Mut.mslice (Element.type) (Syntax.tyRef (Syntax.named 0) Syntax.mut Element.behind) 0) (List._∷_ (2, Rows.sc-here (Row.sInt Syntax.w32))
+    (List._∷_ (3, Rows.sc-here (Row.sInt Syntax.w32)) (List._∷_ (4, Rows.sc-here (Row.sInt Syntax.w64)) (List._∷_ (
+      5,
+      Rows.any-gone (Syntax.tyStruct (List._∷_ 115 (List._∷_ 116 (List._∷_ 97 (List._∷_
+          116 (List._∷_ 105 (List._∷_ 115 (List._∷_ 116 (List._∷_ 105 (List._∷_ 99 (List._∷_ 115 (List._∷_ 58 (List._∷_ 58 (List._∷_ 82 (List._∷_ 101 (List._∷_ 99 (List._∷_ 111 (List._∷_ 114 (List._∷_ 100
+          List.[])))))))))))))))))) (Syntax.tcons (Syntax.tyInt Syntax.w32) (Syntax.tcons (Syntax.tyInt Syntax.w32) Syntax.tnil))),
+    ) (List._∷_ (6, Rows.any-gone Syntax.tyBool) (List._∷_ (
+      7,
+      Rows.any-gone
+          Syntax.tyUnit,
+    ) (List._∷_ (8, Rows.any-gone (Syntax.tyRef Syntax.erased Syntax.mut Element.behind)) (List._∷_ (
+      9,
+      Rows.any-gone (Syntax.tyStruct (List._∷_ 38 (List._∷_ 91 (List._∷_ 93 List.[])))
+          (Syntax.tcons (Syntax.tyRef Syntax.erased Syntax.mut Element.behind) (Syntax.tcons (Syntax.tyInt Syntax.w64) Syntax.tnil))),
+    ) List.[])))))))))
 
 abbrev pub t3 : List.List Row.Entry
-t3 = List._∷_ (0, Rows.any-gone Syntax.tyUnit) (List._∷_ ( 1, Mut.mslice (Element.type) (Syntax.tyRef (Syntax.named 0) Syntax.mut Element.behind) 0, ) (List._∷_ (2, Rows.sc-here (Row.sInt Syntax.w32))
-    (List._∷_ ( 3, Rows.sc-here (Row.sInt Syntax.w32), ) (List._∷_ (4, Rows.sc-here (Row.sInt Syntax.w64)) (List._∷_ ( 5, Rows.any-gone (Syntax.tyStruct (List._∷_ 115 (List._∷_ 116 (List._∷_ 97 (List._∷_
-    116 (List._∷_ 105 (List._∷_ 115 (List._∷_ 116 (List._∷_ 105 (List._∷_ 99 (List._∷_ 115 (List._∷_ 58 (List._∷_ 58 (List._∷_ 82 (List._∷_ 101 (List._∷_ 99 (List._∷_ 111 (List._∷_ 114 (List._∷_ 100
-    List.[])))))))))))))))))) (Syntax.tcons (Syntax.tyInt Syntax.w32) (Syntax.tcons (Syntax.tyInt Syntax.w32) Syntax.tnil))), ) (List._∷_ (6, Rows.sc-here Row.sBool) (List._∷_ (7, Rows.any-gone
-    Syntax.tyUnit) (List._∷_ ( 8, Rows.any-gone (Syntax.tyRef Syntax.erased Syntax.mut Element.behind), ) (List._∷_ ( 9, Rows.any-gone (Syntax.tyStruct (List._∷_ 38 (List._∷_ 91 (List._∷_ 93 List.[])))
-    (Syntax.tcons (Syntax.tyRef Syntax.erased Syntax.mut Element.behind) (Syntax.tcons (Syntax.tyInt Syntax.w64) Syntax.tnil))), ) List.[])))))))))
+t3 = List._∷_ (0, Rows.any-gone Syntax.tyUnit) (List._∷_ (1, Mut.mslice (Element.type) (Syntax.tyRef (Syntax.named 0) Syntax.mut Element.behind) 0) (List._∷_ (2, Rows.sc-here (Row.sInt Syntax.w32))
+    (List._∷_ (3, Rows.sc-here (Row.sInt Syntax.w32)) (List._∷_ (4, Rows.sc-here (Row.sInt Syntax.w64)) (List._∷_ (
+      5,
+      Rows.any-gone (Syntax.tyStruct (List._∷_ 115 (List._∷_ 116 (List._∷_ 97 (List._∷_
+          116 (List._∷_ 105 (List._∷_ 115 (List._∷_ 116 (List._∷_ 105 (List._∷_ 99 (List._∷_ 115 (List._∷_ 58 (List._∷_ 58 (List._∷_ 82 (List._∷_ 101 (List._∷_ 99 (List._∷_ 111 (List._∷_ 114 (List._∷_ 100
+          List.[])))))))))))))))))) (Syntax.tcons (Syntax.tyInt Syntax.w32) (Syntax.tcons (Syntax.tyInt Syntax.w32) Syntax.tnil))),
+    ) (List._∷_ (6, Rows.sc-here Row.sBool) (List._∷_ (
+      7,
+      Rows.any-gone
+          Syntax.tyUnit,
+    ) (List._∷_ (8, Rows.any-gone (Syntax.tyRef Syntax.erased Syntax.mut Element.behind)) (List._∷_ (
+      9,
+      Rows.any-gone (Syntax.tyStruct (List._∷_ 38 (List._∷_ 91 (List._∷_ 93 List.[])))
+          (Syntax.tcons (Syntax.tyRef Syntax.erased Syntax.mut Element.behind) (Syntax.tcons (Syntax.tyInt Syntax.w64) Syntax.tnil))),
+    ) List.[])))))))))
 
 abbrev pub t4 : List.List Row.Entry
-t4 = List._∷_ (0, Rows.any-gone Syntax.tyUnit) (List._∷_ ( 1, Mut.mslice (Element.type) (Syntax.tyRef (Syntax.named 0) Syntax.mut Element.behind) 0, ) (List._∷_ (2, Rows.sc-here (Row.sInt Syntax.w32))
-    (List._∷_ ( 3, Rows.sc-here (Row.sInt Syntax.w32), ) (List._∷_ (4, Rows.sc-here (Row.sInt Syntax.w64)) (List._∷_ ( 5, Rows.whole (Declared.row Record.the-type), ) (List._∷_ (6, Rows.any-gone
-    Syntax.tyBool) (List._∷_ (7, Rows.any-gone Syntax.tyUnit) (List._∷_ ( 8, Rows.any-gone (Syntax.tyRef Syntax.erased Syntax.mut Element.behind), ) (List._∷_ ( 9, Rows.any-gone (Syntax.tyStruct (List._∷_
-    38 (List._∷_ 91 (List._∷_ 93 List.[]))) (Syntax.tcons (Syntax.tyRef Syntax.erased Syntax.mut Element.behind) (Syntax.tcons (Syntax.tyInt Syntax.w64) Syntax.tnil))), ) List.[])))))))))
+t4 = List._∷_ (0, Rows.any-gone Syntax.tyUnit) (List._∷_ (1, Mut.mslice (Element.type) (Syntax.tyRef (Syntax.named 0) Syntax.mut Element.behind) 0) (List._∷_ (2, Rows.sc-here (Row.sInt Syntax.w32))
+    (List._∷_ (3, Rows.sc-here (Row.sInt Syntax.w32)) (List._∷_ (4, Rows.sc-here (Row.sInt Syntax.w64)) (List._∷_ (5, Rows.whole (Declared.row Record.the-type)) (List._∷_ (
+      6,
+      Rows.any-gone
+          Syntax.tyBool,
+    ) (List._∷_ (7, Rows.any-gone Syntax.tyUnit) (List._∷_ (8, Rows.any-gone (Syntax.tyRef Syntax.erased Syntax.mut Element.behind)) (List._∷_ (
+      9,
+      Rows.any-gone (Syntax.tyStruct (List._∷_
+          38 (List._∷_ 91 (List._∷_ 93 List.[]))) (Syntax.tcons (Syntax.tyRef Syntax.erased Syntax.mut Element.behind) (Syntax.tcons (Syntax.tyInt Syntax.w64) Syntax.tnil))),
+    ) List.[])))))))))
 
 abbrev pub t5 : List.List Row.Entry
-t5 = List._∷_ (0, Rows.any-gone Syntax.tyUnit) (List._∷_ ( 1, Relend.mslice-owed (Element.type) (Syntax.tyRef (Syntax.named 0) Syntax.mut Element.behind) 0 1 Row.off, ) (List._∷_ (2, Rows.sc-here
-    (Row.sInt Syntax.w32)) (List._∷_ ( 3, Rows.sc-here (Row.sInt Syntax.w32), ) (List._∷_ (4, Rows.sc-here (Row.sInt Syntax.w64)) (List._∷_ ( 5, Rows.whole (Declared.row Record.the-type), ) (List._∷_ (6,
-    Rows.any-gone Syntax.tyBool) (List._∷_ (7, Rows.any-gone Syntax.tyUnit) (List._∷_ ( 8, Relend.msptr (Element.type) (Syntax.tyRef Syntax.erased Syntax.mut Element.behind) 1, ) (List._∷_ ( 9,
-    Rows.any-gone (Syntax.tyStruct (List._∷_ 38 (List._∷_ 91 (List._∷_ 93 List.[]))) (Syntax.tcons (Syntax.tyRef Syntax.erased Syntax.mut Element.behind) (Syntax.tcons (Syntax.tyInt Syntax.w64)
-    Syntax.tnil))), ) List.[])))))))))
+t5 = List._∷_ (0, Rows.any-gone Syntax.tyUnit) (List._∷_ (1, Relend.mslice-owed (Element.type) (Syntax.tyRef (Syntax.named 0) Syntax.mut Element.behind) 0 1 Row.off) (List._∷_ (
+  2,
+  Rows.sc-here
+      (Row.sInt Syntax.w32),
+) (List._∷_ (3, Rows.sc-here (Row.sInt Syntax.w32)) (List._∷_ (4, Rows.sc-here (Row.sInt Syntax.w64)) (List._∷_ (5, Rows.whole (Declared.row Record.the-type)) (List._∷_ (
+  6,
+  Rows.any-gone Syntax.tyBool,
+) (List._∷_ (7, Rows.any-gone Syntax.tyUnit) (List._∷_ (8, Relend.msptr (Element.type) (Syntax.tyRef Syntax.erased Syntax.mut Element.behind) 1) (List._∷_ (
+  9,
+  Rows.any-gone (Syntax.tyStruct (List._∷_ 38 (List._∷_ 91 (List._∷_ 93 List.[]))) (Syntax.tcons (Syntax.tyRef Syntax.erased Syntax.mut Element.behind) (Syntax.tcons (Syntax.tyInt Syntax.w64)
+      Syntax.tnil))),
+) List.[])))))))))
 
 abbrev pub t6 : List.List Row.Entry
-t6 = List._∷_ (0, Rows.any-gone Syntax.tyUnit) (List._∷_ ( 1, Relend.mslice-owed (Element.type) (Syntax.tyRef (Syntax.named 0) Syntax.mut Element.behind) 0 1 Row.off, ) (List._∷_ (2, Rows.sc-here
-    (Row.sInt Syntax.w32)) (List._∷_ ( 3, Rows.sc-here (Row.sInt Syntax.w32), ) (List._∷_ (4, Rows.sc-here (Row.sInt Syntax.w64)) (List._∷_ ( 5, Rows.whole (Declared.row Record.the-type), ) (List._∷_ (6,
-    Rows.any-gone Syntax.tyBool) (List._∷_ (7, Rows.any-gone Syntax.tyUnit) (List._∷_ ( 8, Rows.any-gone (Syntax.tyRef Syntax.erased Syntax.mut Element.behind), ) (List._∷_ ( 9, Mut.mslice (Element.type)
-    (Syntax.tyRef Syntax.erased Syntax.mut Element.behind) 1, ) List.[])))))))))
+t6 = List._∷_ (0, Rows.any-gone Syntax.tyUnit) (List._∷_ (1, Relend.mslice-owed (Element.type) (Syntax.tyRef (Syntax.named 0) Syntax.mut Element.behind) 0 1 Row.off) (List._∷_ (
+  2,
+  Rows.sc-here
+      (Row.sInt Syntax.w32),
+) (List._∷_ (3, Rows.sc-here (Row.sInt Syntax.w32)) (List._∷_ (4, Rows.sc-here (Row.sInt Syntax.w64)) (List._∷_ (5, Rows.whole (Declared.row Record.the-type)) (List._∷_ (
+  6,
+  Rows.any-gone Syntax.tyBool,
+) (List._∷_ (7, Rows.any-gone Syntax.tyUnit) (List._∷_ (8, Rows.any-gone (Syntax.tyRef Syntax.erased Syntax.mut Element.behind)) (List._∷_ (
+  9,
+  Mut.mslice (Element.type)
+      (Syntax.tyRef Syntax.erased Syntax.mut Element.behind) 1,
+) List.[])))))))))
 
 abbrev pub t7 : List.List Row.Entry
-t7 = List._∷_ (0, Rows.any-gone Syntax.tyUnit) (List._∷_ ( 1, Relend.mslice-owed (Element.type) (Syntax.tyRef (Syntax.named 0) Syntax.mut Element.behind) 0 1 Row.off, ) (List._∷_ (2, Rows.sc-here
-    (Row.sInt Syntax.w32)) (List._∷_ ( 3, Rows.sc-here (Row.sInt Syntax.w32), ) (List._∷_ (4, Rows.sc-here (Row.sInt Syntax.w64)) (List._∷_ ( 5, Rows.whole (Declared.row Record.the-type), ) (List._∷_ (6,
-    Rows.any-gone Syntax.tyBool) (List._∷_ (7, Rows.sc-here Row.sUnit) (List._∷_ ( 8, Rows.any-gone (Syntax.tyRef Syntax.erased Syntax.mut Element.behind), ) (List._∷_ ( 9, Mut.msleft (Element.type)
-    (Syntax.tyRef Syntax.erased Syntax.mut Element.behind), ) List.[])))))))))
+t7 = List._∷_ (0, Rows.any-gone Syntax.tyUnit) (List._∷_ (1, Relend.mslice-owed (Element.type) (Syntax.tyRef (Syntax.named 0) Syntax.mut Element.behind) 0 1 Row.off) (List._∷_ (
+  2,
+  Rows.sc-here
+      (Row.sInt Syntax.w32),
+) (List._∷_ (3, Rows.sc-here (Row.sInt Syntax.w32)) (List._∷_ (4, Rows.sc-here (Row.sInt Syntax.w64)) (List._∷_ (5, Rows.whole (Declared.row Record.the-type)) (List._∷_ (
+  6,
+  Rows.any-gone Syntax.tyBool,
+) (List._∷_ (7, Rows.sc-here Row.sUnit) (List._∷_ (8, Rows.any-gone (Syntax.tyRef Syntax.erased Syntax.mut Element.behind)) (List._∷_ (
+  9,
+  Mut.msleft (Element.type)
+      (Syntax.tyRef Syntax.erased Syntax.mut Element.behind),
+) List.[])))))))))
 
 abbrev pub t8 : List.List Row.Entry
-t8 = List._∷_ (0, Rows.any-gone Syntax.tyUnit) (List._∷_ ( 1, Relend.mslice-owed (Element.type) (Syntax.tyRef (Syntax.named 0) Syntax.mut Element.behind) 0 1 Row.off, ) (List._∷_ (2, Rows.sc-here
-    (Row.sInt Syntax.w32)) (List._∷_ ( 3, Rows.sc-here (Row.sInt Syntax.w32), ) (List._∷_ (4, Rows.sc-here (Row.sInt Syntax.w64)) (List._∷_ ( 5, Rows.any-gone (Syntax.tyStruct (List._∷_ 115 (List._∷_ 116
-    (List._∷_ 97 (List._∷_ 116 (List._∷_ 105 (List._∷_ 115 (List._∷_ 116 (List._∷_ 105 (List._∷_ 99 (List._∷_ 115 (List._∷_ 58 (List._∷_ 58 (List._∷_ 82 (List._∷_ 101 (List._∷_ 99 (List._∷_ 111 (List._∷_
-    114 (List._∷_ 100 List.[])))))))))))))))))) (Syntax.tcons (Syntax.tyInt Syntax.w32) (Syntax.tcons (Syntax.tyInt Syntax.w32) Syntax.tnil))), ) (List._∷_ (6, Rows.any-gone Syntax.tyBool) (List._∷_ (7,
-    Rows.sc-here Row.sUnit) (List._∷_ ( 8, Rows.any-gone (Syntax.tyRef Syntax.erased Syntax.mut Element.behind), ) (List._∷_ ( 9, Mut.msleft (Element.type) (Syntax.tyRef Syntax.erased Syntax.mut
-    Element.behind), ) List.[])))))))))
+t8 = List._∷_ (0, Rows.any-gone Syntax.tyUnit) (List._∷_ (1, Relend.mslice-owed (Element.type) (Syntax.tyRef (Syntax.named 0) Syntax.mut Element.behind) 0 1 Row.off) (List._∷_ (
+  2,
+  Rows.sc-here
+      (Row.sInt Syntax.w32),
+) (List._∷_ (3, Rows.sc-here (Row.sInt Syntax.w32)) (List._∷_ (4, Rows.sc-here (Row.sInt Syntax.w64)) (List._∷_ (
+  5,
+  Rows.any-gone (Syntax.tyStruct (List._∷_ 115 (List._∷_ 116
+      (List._∷_ 97 (List._∷_ 116 (List._∷_ 105 (List._∷_ 115 (List._∷_ 116 (List._∷_ 105 (List._∷_ 99 (List._∷_ 115 (List._∷_ 58 (List._∷_ 58 (List._∷_ 82 (List._∷_ 101 (List._∷_ 99 (List._∷_ 111 (List._∷_
+      114 (List._∷_ 100 List.[])))))))))))))))))) (Syntax.tcons (Syntax.tyInt Syntax.w32) (Syntax.tcons (Syntax.tyInt Syntax.w32) Syntax.tnil))),
+) (List._∷_ (6, Rows.any-gone Syntax.tyBool) (List._∷_ (
+  7,
+  Rows.sc-here Row.sUnit,
+) (List._∷_ (8, Rows.any-gone (Syntax.tyRef Syntax.erased Syntax.mut Element.behind)) (List._∷_ (
+  9,
+  Mut.msleft (Element.type) (Syntax.tyRef Syntax.erased Syntax.mut
+      Element.behind),
+) List.[])))))))))
 
 abbrev pub t9 : List.List Row.Entry
-t9 = List._∷_ (0, Rows.any-gone Syntax.tyUnit) (List._∷_ ( 1, Relend.mslice-owed (Element.type) (Syntax.tyRef (Syntax.named 0) Syntax.mut Element.behind) 0 1 Row.off, ) (List._∷_ (2, Rows.sc-here
-    (Row.sInt Syntax.w32)) (List._∷_ ( 3, Rows.sc-here (Row.sInt Syntax.w32), ) (List._∷_ (4, Rows.sc-here (Row.sInt Syntax.w64)) (List._∷_ ( 5, Rows.any-gone (Syntax.tyStruct (List._∷_ 115 (List._∷_ 116
-    (List._∷_ 97 (List._∷_ 116 (List._∷_ 105 (List._∷_ 115 (List._∷_ 116 (List._∷_ 105 (List._∷_ 99 (List._∷_ 115 (List._∷_ 58 (List._∷_ 58 (List._∷_ 82 (List._∷_ 101 (List._∷_ 99 (List._∷_ 111 (List._∷_
-    114 (List._∷_ 100 List.[])))))))))))))))))) (Syntax.tcons (Syntax.tyInt Syntax.w32) (Syntax.tcons (Syntax.tyInt Syntax.w32) Syntax.tnil))), ) (List._∷_ (6, Rows.any-gone Syntax.tyBool) (List._∷_ (7,
-    Rows.any-gone Syntax.tyUnit) (List._∷_ ( 8, Rows.any-gone (Syntax.tyRef Syntax.erased Syntax.mut Element.behind), ) (List._∷_ ( 9, Mut.msleft (Element.type) (Syntax.tyRef Syntax.erased Syntax.mut
-    Element.behind), ) List.[])))))))))
+t9 = List._∷_ (0, Rows.any-gone Syntax.tyUnit) (List._∷_ (1, Relend.mslice-owed (Element.type) (Syntax.tyRef (Syntax.named 0) Syntax.mut Element.behind) 0 1 Row.off) (List._∷_ (
+  2,
+  Rows.sc-here
+      (Row.sInt Syntax.w32),
+) (List._∷_ (3, Rows.sc-here (Row.sInt Syntax.w32)) (List._∷_ (4, Rows.sc-here (Row.sInt Syntax.w64)) (List._∷_ (
+  5,
+  Rows.any-gone (Syntax.tyStruct (List._∷_ 115 (List._∷_ 116
+      (List._∷_ 97 (List._∷_ 116 (List._∷_ 105 (List._∷_ 115 (List._∷_ 116 (List._∷_ 105 (List._∷_ 99 (List._∷_ 115 (List._∷_ 58 (List._∷_ 58 (List._∷_ 82 (List._∷_ 101 (List._∷_ 99 (List._∷_ 111 (List._∷_
+      114 (List._∷_ 100 List.[])))))))))))))))))) (Syntax.tcons (Syntax.tyInt Syntax.w32) (Syntax.tcons (Syntax.tyInt Syntax.w32) Syntax.tnil))),
+) (List._∷_ (6, Rows.any-gone Syntax.tyBool) (List._∷_ (
+  7,
+  Rows.any-gone Syntax.tyUnit,
+) (List._∷_ (8, Rows.any-gone (Syntax.tyRef Syntax.erased Syntax.mut Element.behind)) (List._∷_ (
+  9,
+  Mut.msleft (Element.type) (Syntax.tyRef Syntax.erased Syntax.mut
+      Element.behind),
+) List.[])))))))))
 
 abbrev pub t10 : List.List Row.Entry
-t10 = List._∷_ (0, Rows.sc-here Row.sUnit) (List._∷_ ( 1, Mut.mslice (Element.type) (Syntax.tyRef (Syntax.named 0) Syntax.mut Element.behind) 0, ) (List._∷_ (2, Rows.sc-here (Row.sInt Syntax.w32))
-    (List._∷_ ( 3, Rows.sc-here (Row.sInt Syntax.w32), ) (List._∷_ (4, Rows.sc-here (Row.sInt Syntax.w64)) (List._∷_ ( 5, Rows.any-gone (Syntax.tyStruct (List._∷_ 115 (List._∷_ 116 (List._∷_ 97 (List._∷_
-    116 (List._∷_ 105 (List._∷_ 115 (List._∷_ 116 (List._∷_ 105 (List._∷_ 99 (List._∷_ 115 (List._∷_ 58 (List._∷_ 58 (List._∷_ 82 (List._∷_ 101 (List._∷_ 99 (List._∷_ 111 (List._∷_ 114 (List._∷_ 100
-    List.[])))))))))))))))))) (Syntax.tcons (Syntax.tyInt Syntax.w32) (Syntax.tcons (Syntax.tyInt Syntax.w32) Syntax.tnil))), ) (List._∷_ (6, Rows.any-gone Syntax.tyBool) (List._∷_ (7, Rows.any-gone
-    Syntax.tyUnit) (List._∷_ ( 8, Rows.any-gone (Syntax.tyRef Syntax.erased Syntax.mut Element.behind), ) (List._∷_ ( 9, Rows.any-gone (Syntax.tyStruct (List._∷_ 38 (List._∷_ 91 (List._∷_ 93 List.[])))
-    (Syntax.tcons (Syntax.tyRef Syntax.erased Syntax.mut Element.behind) (Syntax.tcons (Syntax.tyInt Syntax.w64) Syntax.tnil))), ) List.[])))))))))
+t10 = List._∷_ (0, Rows.sc-here Row.sUnit) (List._∷_ (1, Mut.mslice (Element.type) (Syntax.tyRef (Syntax.named 0) Syntax.mut Element.behind) 0) (List._∷_ (2, Rows.sc-here (Row.sInt Syntax.w32))
+    (List._∷_ (3, Rows.sc-here (Row.sInt Syntax.w32)) (List._∷_ (4, Rows.sc-here (Row.sInt Syntax.w64)) (List._∷_ (
+      5,
+      Rows.any-gone (Syntax.tyStruct (List._∷_ 115 (List._∷_ 116 (List._∷_ 97 (List._∷_
+          116 (List._∷_ 105 (List._∷_ 115 (List._∷_ 116 (List._∷_ 105 (List._∷_ 99 (List._∷_ 115 (List._∷_ 58 (List._∷_ 58 (List._∷_ 82 (List._∷_ 101 (List._∷_ 99 (List._∷_ 111 (List._∷_ 114 (List._∷_ 100
+          List.[])))))))))))))))))) (Syntax.tcons (Syntax.tyInt Syntax.w32) (Syntax.tcons (Syntax.tyInt Syntax.w32) Syntax.tnil))),
+    ) (List._∷_ (6, Rows.any-gone Syntax.tyBool) (List._∷_ (
+      7,
+      Rows.any-gone
+          Syntax.tyUnit,
+    ) (List._∷_ (8, Rows.any-gone (Syntax.tyRef Syntax.erased Syntax.mut Element.behind)) (List._∷_ (
+      9,
+      Rows.any-gone (Syntax.tyStruct (List._∷_ 38 (List._∷_ 91 (List._∷_ 93 List.[])))
+          (Syntax.tcons (Syntax.tyRef Syntax.erased Syntax.mut Element.behind) (Syntax.tcons (Syntax.tyInt Syntax.w64) Syntax.tnil))),
+    ) List.[])))))))))
 
 abbrev pub t11 : List.List Row.Entry
-t11 = List._∷_ (0, Rows.sc-here Row.sUnit) (List._∷_ ( 1, Mut.mslice (Element.type) (Syntax.tyRef (Syntax.named 0) Syntax.mut Element.behind) 0, ) (List._∷_ (2, Rows.sc-here (Row.sInt Syntax.w32))
-    (List._∷_ ( 3, Rows.sc-here (Row.sInt Syntax.w32), ) (List._∷_ (4, Rows.any-gone (Syntax.tyInt Syntax.w64)) (List._∷_ ( 5, Rows.any-gone (Syntax.tyStruct (List._∷_ 115 (List._∷_ 116 (List._∷_ 97
-    (List._∷_ 116 (List._∷_ 105 (List._∷_ 115 (List._∷_ 116 (List._∷_ 105 (List._∷_ 99 (List._∷_ 115 (List._∷_ 58 (List._∷_ 58 (List._∷_ 82 (List._∷_ 101 (List._∷_ 99 (List._∷_ 111 (List._∷_ 114 (List._∷_
-    100 List.[])))))))))))))))))) (Syntax.tcons (Syntax.tyInt Syntax.w32) (Syntax.tcons (Syntax.tyInt Syntax.w32) Syntax.tnil))), ) (List._∷_ (6, Rows.any-gone Syntax.tyBool) (List._∷_ (7, Rows.any-gone
-    Syntax.tyUnit) (List._∷_ ( 8, Rows.any-gone (Syntax.tyRef Syntax.erased Syntax.mut Element.behind), ) (List._∷_ ( 9, Rows.any-gone (Syntax.tyStruct (List._∷_ 38 (List._∷_ 91 (List._∷_ 93 List.[])))
-    (Syntax.tcons (Syntax.tyRef Syntax.erased Syntax.mut Element.behind) (Syntax.tcons (Syntax.tyInt Syntax.w64) Syntax.tnil))), ) List.[])))))))))
+t11 = List._∷_ (0, Rows.sc-here Row.sUnit) (List._∷_ (1, Mut.mslice (Element.type) (Syntax.tyRef (Syntax.named 0) Syntax.mut Element.behind) 0) (List._∷_ (2, Rows.sc-here (Row.sInt Syntax.w32))
+    (List._∷_ (3, Rows.sc-here (Row.sInt Syntax.w32)) (List._∷_ (4, Rows.any-gone (Syntax.tyInt Syntax.w64)) (List._∷_ (
+      5,
+      Rows.any-gone (Syntax.tyStruct (List._∷_ 115 (List._∷_ 116 (List._∷_ 97
+          (List._∷_ 116 (List._∷_ 105 (List._∷_ 115 (List._∷_ 116 (List._∷_ 105 (List._∷_ 99 (List._∷_ 115 (List._∷_ 58 (List._∷_ 58 (List._∷_ 82 (List._∷_ 101 (List._∷_ 99 (List._∷_ 111 (List._∷_ 114 (List._∷_
+          100 List.[])))))))))))))))))) (Syntax.tcons (Syntax.tyInt Syntax.w32) (Syntax.tcons (Syntax.tyInt Syntax.w32) Syntax.tnil))),
+    ) (List._∷_ (6, Rows.any-gone Syntax.tyBool) (List._∷_ (
+      7,
+      Rows.any-gone
+          Syntax.tyUnit,
+    ) (List._∷_ (8, Rows.any-gone (Syntax.tyRef Syntax.erased Syntax.mut Element.behind)) (List._∷_ (
+      9,
+      Rows.any-gone (Syntax.tyStruct (List._∷_ 38 (List._∷_ 91 (List._∷_ 93 List.[])))
+          (Syntax.tcons (Syntax.tyRef Syntax.erased Syntax.mut Element.behind) (Syntax.tcons (Syntax.tyInt Syntax.w64) Syntax.tnil))),
+    ) List.[])))))))))
 
 abbrev pub t12 : List.List Row.Entry
-t12 = List._∷_ (0, Rows.sc-here Row.sUnit) (List._∷_ ( 1, Mut.mslice (Element.type) (Syntax.tyRef (Syntax.named 0) Syntax.mut Element.behind) 0, ) (List._∷_ (2, Rows.any-gone (Syntax.tyInt
-    Syntax.w32)) (List._∷_ ( 3, Rows.sc-here (Row.sInt Syntax.w32), ) (List._∷_ (4, Rows.any-gone (Syntax.tyInt Syntax.w64)) (List._∷_ ( 5, Rows.any-gone (Syntax.tyStruct (List._∷_ 115 (List._∷_ 116
-    (List._∷_ 97 (List._∷_ 116 (List._∷_ 105 (List._∷_ 115 (List._∷_ 116 (List._∷_ 105 (List._∷_ 99 (List._∷_ 115 (List._∷_ 58 (List._∷_ 58 (List._∷_ 82 (List._∷_ 101 (List._∷_ 99 (List._∷_ 111 (List._∷_
-    114 (List._∷_ 100 List.[])))))))))))))))))) (Syntax.tcons (Syntax.tyInt Syntax.w32) (Syntax.tcons (Syntax.tyInt Syntax.w32) Syntax.tnil))), ) (List._∷_ (6, Rows.any-gone Syntax.tyBool) (List._∷_ (7,
-    Rows.any-gone Syntax.tyUnit) (List._∷_ ( 8, Rows.any-gone (Syntax.tyRef Syntax.erased Syntax.mut Element.behind), ) (List._∷_ ( 9, Rows.any-gone (Syntax.tyStruct (List._∷_ 38 (List._∷_ 91 (List._∷_ 93
-    List.[]))) (Syntax.tcons (Syntax.tyRef Syntax.erased Syntax.mut Element.behind) (Syntax.tcons (Syntax.tyInt Syntax.w64) Syntax.tnil))), ) List.[])))))))))
+t12 = List._∷_ (0, Rows.sc-here Row.sUnit) (List._∷_ (1, Mut.mslice (Element.type) (Syntax.tyRef (Syntax.named 0) Syntax.mut Element.behind) 0) (List._∷_ (
+  2,
+  Rows.any-gone (Syntax.tyInt
+      Syntax.w32),
+) (List._∷_ (3, Rows.sc-here (Row.sInt Syntax.w32)) (List._∷_ (4, Rows.any-gone (Syntax.tyInt Syntax.w64)) (List._∷_ (
+  5,
+  Rows.any-gone (Syntax.tyStruct (List._∷_ 115 (List._∷_ 116
+      (List._∷_ 97 (List._∷_ 116 (List._∷_ 105 (List._∷_ 115 (List._∷_ 116 (List._∷_ 105 (List._∷_ 99 (List._∷_ 115 (List._∷_ 58 (List._∷_ 58 (List._∷_ 82 (List._∷_ 101 (List._∷_ 99 (List._∷_ 111 (List._∷_
+      114 (List._∷_ 100 List.[])))))))))))))))))) (Syntax.tcons (Syntax.tyInt Syntax.w32) (Syntax.tcons (Syntax.tyInt Syntax.w32) Syntax.tnil))),
+) (List._∷_ (6, Rows.any-gone Syntax.tyBool) (List._∷_ (
+  7,
+  Rows.any-gone Syntax.tyUnit,
+) (List._∷_ (8, Rows.any-gone (Syntax.tyRef Syntax.erased Syntax.mut Element.behind)) (List._∷_ (
+  9,
+  Rows.any-gone (Syntax.tyStruct (List._∷_ 38 (List._∷_ 91 (List._∷_ 93
+      List.[]))) (Syntax.tcons (Syntax.tyRef Syntax.erased Syntax.mut Element.behind) (Syntax.tcons (Syntax.tyInt Syntax.w64) Syntax.tnil))),
+) List.[])))))))))
 
 abbrev pub T0 : Row.Cx
 T0 = record { locals = t0; slots = List.[] }
@@ -354,7 +498,7 @@ module _ (claims· : Claims) where
   s3 = Scalar.n-room T4 6 Syntax.tyBool
 
   abbrev s4 : Typed.Both T5 T8
-  s4 = Call.callB ps·0 r·0 (claims· .0) (claims· .1) T5 ( Num.vAt 2 λ x. x, (Num.vAt 3 λ x. x, (Num.vAt 4 λ x. x, tt)), ) 5 List.[] (Syntax.tyStruct (List._∷_ 115 (List._∷_ 116 (List._∷_ 97 (List._∷_
+  s4 = Call.callB ps·0 r·0 (claims· .0) (claims· .1) T5 (Num.vAt 2 λ x. x, (Num.vAt 3 λ x. x, (Num.vAt 4 λ x. x, tt))) 5 List.[] (Syntax.tyStruct (List._∷_ 115 (List._∷_ 116 (List._∷_ 97 (List._∷_
       116 (List._∷_ 105 (List._∷_ 115 (List._∷_ 116 (List._∷_ 105 (List._∷_ 99 (List._∷_ 115 (List._∷_ 58 (List._∷_ 58 (List._∷_ 82 (List._∷_ 101 (List._∷_ 99 (List._∷_ 111 (List._∷_ 114 (List._∷_ 100
       List.[])))))))))))))))))) (Syntax.tcons (Syntax.tyInt Syntax.w32) (Syntax.tcons (Syntax.tyInt Syntax.w32) Syntax.tnil)))
 
@@ -366,8 +510,22 @@ module _ (claims· : Claims) where
       x) (Scalar.oFld 1 (List._∷_ (Syntax.field 1) List.[]) (Syntax.tyInt Syntax.w64) 8 λ v. Shared.lenV (v .0))
 
   abbrev s8 : Typed.Both T11 T12
-  s8 = Call.callB ps·1 r·1 (claims· .2) (claims· .3) T11 ( record { pos = 9; ty = Syntax.tyRef Syntax.erased Syntax.mut Element.behind; ref = λ x. x; }, (Num.vAt 4 λ x. x, (record { pos = 5; st =
-      List.[]; d = 0; at = λ x. x }, tt)), ) 7 (List._∷_ 1 List.[]) Syntax.tyUnit
+  s8 = Call.callB ps·1 r·1 (claims· .2) (claims· .3) T11 (
+    record { pos = 9; ty = Syntax.tyRef Syntax.erased Syntax.mut Element.behind; ref = λ x. x },
+    (
+      Num.vAt 4 λ x. x,
+      (
+        record {
+          pos = 5;
+          st =
+              List.[];
+          d = 0;
+          at = λ x. x;
+        },
+        tt,
+      ),
+    ),
+  ) 7 (List._∷_ 1 List.[]) Syntax.tyUnit
 
   abbrev s9 : Typed.Mo T12 → Typed.Mo T13
   s9 = Scalar.n-room T12 5 (Syntax.tyStruct (List._∷_ 115 (List._∷_ 116 (List._∷_ 97 (List._∷_ 116 (List._∷_ 105 (List._∷_ 115 (List._∷_ 116 (List._∷_ 105 (List._∷_ 99 (List._∷_ 115 (List._∷_ 58
@@ -397,8 +555,8 @@ module _ (claims· : Claims) where
   s18 = Scalar.n-room T21 3 (Syntax.tyInt Syntax.w32)
 
   abbrev put0 : List.List (Element.type .Denot) × Rows.sc-here (Row.sInt Syntax.w64) .Mod → Typed.Mo T2 → Typed.Mo T2
-  put0 = λ vs u. Row.set 4 (4, Rows.sc-here (Row.sInt Syntax.w64)) (vs .1) (T2 .locals) (Row.set 1 ( 1, Mut.mslice (Element.type) (Syntax.tyRef (Syntax.named 0) Syntax.mut Element.behind) 0, ) record
-      { ptr = Row.get 1 (T2 .locals) u .ptr; name = Row.get 1 (T2 .locals) u .name; now = vs .0; } (T2 .locals) u)
+  put0 = λ vs u. Row.set 4 (4, Rows.sc-here (Row.sInt Syntax.w64)) (vs .1) (T2 .locals) (Row.set 1 (1, Mut.mslice (Element.type) (Syntax.tyRef (Syntax.named 0) Syntax.mut Element.behind) 0) record
+      { ptr = Row.get 1 (T2 .locals) u .ptr; name = Row.get 1 (T2 .locals) u .name; now = vs .0 } (T2 .locals) u)
 
   module _ (Pre· : (κs : Lifetimes.Lfts 1) → Kinds.Dens κs ps → Type 0) (Post· : (κs : Lifetimes.Lfts 1) → (a : Kinds.Dens κs ps) → Kinds.Plain 1 ps r κs) where
     module _ (M : Type 1) where
@@ -499,69 +657,90 @@ module _ (claims· : Claims) where
 
       module _ (κs : Lifetimes.Lfts 1) (qs : Lifetimes.Shares 1) where
         abbrev g5 : List.List Row.Entry
-        g5 = List._∷_ (0, Rows.any-gone Syntax.tyUnit) (List._∷_ ( 1, Relend.mslice-owed (Element.type) (Syntax.tyRef (Syntax.named 0) Syntax.mut Element.behind) 0 1 (Row.lease (κs .0) (qs .0)), )
-            (List._∷_ (2, Rows.sc-here (Row.sInt Syntax.w32)) (List._∷_ ( 3, Rows.sc-here (Row.sInt Syntax.w32), ) (List._∷_ (4, Rows.sc-here (Row.sInt Syntax.w64)) (List._∷_ ( 5, Rows.whole (Declared.row
-            Record.the-type), ) (List._∷_ (6, Rows.any-gone Syntax.tyBool) (List._∷_ (7, Rows.any-gone Syntax.tyUnit) (List._∷_ ( 8, Relend.msptr (Element.type) (Syntax.tyRef Syntax.erased Syntax.mut
-            Element.behind) 1, ) (List._∷_ ( 9, Rows.any-gone (Syntax.tyStruct (List._∷_ 38 (List._∷_ 91 (List._∷_ 93 List.[]))) (Syntax.tcons (Syntax.tyRef Syntax.erased Syntax.mut Element.behind)
-            (Syntax.tcons (Syntax.tyInt Syntax.w64) Syntax.tnil))), ) List.[])))))))))
+        g5 = List._∷_ (0, Rows.any-gone Syntax.tyUnit) (List._∷_ (1, Relend.mslice-owed (Element.type) (Syntax.tyRef (Syntax.named 0) Syntax.mut Element.behind) 0 1 (Row.lease (κs .0) (qs .0)))
+            (List._∷_ (2, Rows.sc-here (Row.sInt Syntax.w32)) (List._∷_ (3, Rows.sc-here (Row.sInt Syntax.w32)) (List._∷_ (4, Rows.sc-here (Row.sInt Syntax.w64)) (List._∷_ (
+              5,
+              Rows.whole (Declared.row
+                  Record.the-type),
+            ) (List._∷_ (6, Rows.any-gone Syntax.tyBool) (List._∷_ (7, Rows.any-gone Syntax.tyUnit) (List._∷_ (
+              8,
+              Relend.msptr (Element.type) (Syntax.tyRef Syntax.erased Syntax.mut
+                  Element.behind) 1,
+            ) (List._∷_ (
+              9,
+              Rows.any-gone (Syntax.tyStruct (List._∷_ 38 (List._∷_ 91 (List._∷_ 93 List.[]))) (Syntax.tcons (Syntax.tyRef Syntax.erased Syntax.mut Element.behind)
+                  (Syntax.tcons (Syntax.tyInt Syntax.w64) Syntax.tnil))),
+            ) List.[])))))))))
 
         abbrev g6 : List.List Row.Entry
-        g6 = List._∷_ (0, Rows.any-gone Syntax.tyUnit) (List._∷_ ( 1, Relend.mslice-owed (Element.type) (Syntax.tyRef (Syntax.named 0) Syntax.mut Element.behind) 0 1 (Row.lease (κs .0) (qs .0)), )
-            (List._∷_ (2, Rows.sc-here (Row.sInt Syntax.w32)) (List._∷_ ( 3, Rows.sc-here (Row.sInt Syntax.w32), ) (List._∷_ (4, Rows.sc-here (Row.sInt Syntax.w64)) (List._∷_ ( 5, Rows.whole (Declared.row
-            Record.the-type), ) (List._∷_ (6, Rows.any-gone Syntax.tyBool) (List._∷_ (7, Rows.any-gone Syntax.tyUnit) (List._∷_ ( 8, Rows.any-gone (Syntax.tyRef Syntax.erased Syntax.mut Element.behind), )
-            (List._∷_ ( 9, Mut.mslice (Element.type) (Syntax.tyRef Syntax.erased Syntax.mut Element.behind) 1, ) List.[])))))))))
+        g6 = List._∷_ (0, Rows.any-gone Syntax.tyUnit) (List._∷_ (1, Relend.mslice-owed (Element.type) (Syntax.tyRef (Syntax.named 0) Syntax.mut Element.behind) 0 1 (Row.lease (κs .0) (qs .0)))
+            (List._∷_ (2, Rows.sc-here (Row.sInt Syntax.w32)) (List._∷_ (3, Rows.sc-here (Row.sInt Syntax.w32)) (List._∷_ (4, Rows.sc-here (Row.sInt Syntax.w64)) (List._∷_ (
+              5,
+              Rows.whole (Declared.row
+                  Record.the-type),
+            ) (List._∷_ (6, Rows.any-gone Syntax.tyBool) (List._∷_ (7, Rows.any-gone Syntax.tyUnit) (List._∷_ (8, Rows.any-gone (Syntax.tyRef Syntax.erased Syntax.mut Element.behind))
+            (List._∷_ (9, Mut.mslice (Element.type) (Syntax.tyRef Syntax.erased Syntax.mut Element.behind) 1) List.[])))))))))
 
         abbrev g7 : List.List Row.Entry
-        g7 = List._∷_ (0, Rows.any-gone Syntax.tyUnit) (List._∷_ ( 1, Relend.mslice-owed (Element.type) (Syntax.tyRef (Syntax.named 0) Syntax.mut Element.behind) 0 1 (Row.lease (κs .0) (qs .0)), )
-            (List._∷_ (2, Rows.sc-here (Row.sInt Syntax.w32)) (List._∷_ ( 3, Rows.sc-here (Row.sInt Syntax.w32), ) (List._∷_ (4, Rows.sc-here (Row.sInt Syntax.w64)) (List._∷_ ( 5, Rows.whole (Declared.row
-            Record.the-type), ) (List._∷_ (6, Rows.any-gone Syntax.tyBool) (List._∷_ (7, Rows.sc-here Row.sUnit) (List._∷_ ( 8, Rows.any-gone (Syntax.tyRef Syntax.erased Syntax.mut Element.behind), )
-            (List._∷_ ( 9, Mut.msleft (Element.type) (Syntax.tyRef Syntax.erased Syntax.mut Element.behind), ) List.[])))))))))
+        g7 = List._∷_ (0, Rows.any-gone Syntax.tyUnit) (List._∷_ (1, Relend.mslice-owed (Element.type) (Syntax.tyRef (Syntax.named 0) Syntax.mut Element.behind) 0 1 (Row.lease (κs .0) (qs .0)))
+            (List._∷_ (2, Rows.sc-here (Row.sInt Syntax.w32)) (List._∷_ (3, Rows.sc-here (Row.sInt Syntax.w32)) (List._∷_ (4, Rows.sc-here (Row.sInt Syntax.w64)) (List._∷_ (
+              5,
+              Rows.whole (Declared.row
+                  Record.the-type),
+            ) (List._∷_ (6, Rows.any-gone Syntax.tyBool) (List._∷_ (7, Rows.sc-here Row.sUnit) (List._∷_ (8, Rows.any-gone (Syntax.tyRef Syntax.erased Syntax.mut Element.behind))
+            (List._∷_ (9, Mut.msleft (Element.type) (Syntax.tyRef Syntax.erased Syntax.mut Element.behind)) List.[])))))))))
 
         abbrev g8 : List.List Row.Entry
-        g8 = List._∷_ (0, Rows.any-gone Syntax.tyUnit) (List._∷_ ( 1, Relend.mslice-owed (Element.type) (Syntax.tyRef (Syntax.named 0) Syntax.mut Element.behind) 0 1 (Row.lease (κs .0) (qs .0)), )
-            (List._∷_ (2, Rows.sc-here (Row.sInt Syntax.w32)) (List._∷_ ( 3, Rows.sc-here (Row.sInt Syntax.w32), ) (List._∷_ (4, Rows.sc-here (Row.sInt Syntax.w64)) (List._∷_ ( 5, Rows.any-gone
-            (Syntax.tyStruct (List._∷_ 115 (List._∷_ 116 (List._∷_ 97 (List._∷_ 116 (List._∷_ 105 (List._∷_ 115 (List._∷_ 116 (List._∷_ 105 (List._∷_ 99 (List._∷_ 115 (List._∷_ 58 (List._∷_ 58 (List._∷_
-            82 (List._∷_ 101 (List._∷_ 99 (List._∷_ 111 (List._∷_ 114 (List._∷_ 100 List.[])))))))))))))))))) (Syntax.tcons (Syntax.tyInt Syntax.w32) (Syntax.tcons (Syntax.tyInt Syntax.w32)
-            Syntax.tnil))), ) (List._∷_ (6, Rows.any-gone Syntax.tyBool) (List._∷_ (7, Rows.sc-here Row.sUnit) (List._∷_ ( 8, Rows.any-gone (Syntax.tyRef Syntax.erased Syntax.mut Element.behind), )
-            (List._∷_ ( 9, Mut.msleft (Element.type) (Syntax.tyRef Syntax.erased Syntax.mut Element.behind), ) List.[])))))))))
+        g8 = List._∷_ (0, Rows.any-gone Syntax.tyUnit) (List._∷_ (1, Relend.mslice-owed (Element.type) (Syntax.tyRef (Syntax.named 0) Syntax.mut Element.behind) 0 1 (Row.lease (κs .0) (qs .0)))
+            (List._∷_ (2, Rows.sc-here (Row.sInt Syntax.w32)) (List._∷_ (3, Rows.sc-here (Row.sInt Syntax.w32)) (List._∷_ (4, Rows.sc-here (Row.sInt Syntax.w64)) (List._∷_ (
+              5,
+              Rows.any-gone
+                  (Syntax.tyStruct (List._∷_ 115 (List._∷_ 116 (List._∷_ 97 (List._∷_ 116 (List._∷_ 105 (List._∷_ 115 (List._∷_ 116 (List._∷_ 105 (List._∷_ 99 (List._∷_ 115 (List._∷_ 58 (List._∷_ 58 (List._∷_
+                  82 (List._∷_ 101 (List._∷_ 99 (List._∷_ 111 (List._∷_ 114 (List._∷_ 100 List.[])))))))))))))))))) (Syntax.tcons (Syntax.tyInt Syntax.w32) (Syntax.tcons (Syntax.tyInt Syntax.w32)
+                  Syntax.tnil))),
+            ) (List._∷_ (6, Rows.any-gone Syntax.tyBool) (List._∷_ (7, Rows.sc-here Row.sUnit) (List._∷_ (8, Rows.any-gone (Syntax.tyRef Syntax.erased Syntax.mut Element.behind))
+            (List._∷_ (9, Mut.msleft (Element.type) (Syntax.tyRef Syntax.erased Syntax.mut Element.behind)) List.[])))))))))
 
         abbrev g9 : List.List Row.Entry
-        g9 = List._∷_ (0, Rows.any-gone Syntax.tyUnit) (List._∷_ ( 1, Relend.mslice-owed (Element.type) (Syntax.tyRef (Syntax.named 0) Syntax.mut Element.behind) 0 1 (Row.lease (κs .0) (qs .0)), )
-            (List._∷_ (2, Rows.sc-here (Row.sInt Syntax.w32)) (List._∷_ ( 3, Rows.sc-here (Row.sInt Syntax.w32), ) (List._∷_ (4, Rows.sc-here (Row.sInt Syntax.w64)) (List._∷_ ( 5, Rows.any-gone
-            (Syntax.tyStruct (List._∷_ 115 (List._∷_ 116 (List._∷_ 97 (List._∷_ 116 (List._∷_ 105 (List._∷_ 115 (List._∷_ 116 (List._∷_ 105 (List._∷_ 99 (List._∷_ 115 (List._∷_ 58 (List._∷_ 58 (List._∷_
-            82 (List._∷_ 101 (List._∷_ 99 (List._∷_ 111 (List._∷_ 114 (List._∷_ 100 List.[])))))))))))))))))) (Syntax.tcons (Syntax.tyInt Syntax.w32) (Syntax.tcons (Syntax.tyInt Syntax.w32)
-            Syntax.tnil))), ) (List._∷_ (6, Rows.any-gone Syntax.tyBool) (List._∷_ (7, Rows.any-gone Syntax.tyUnit) (List._∷_ ( 8, Rows.any-gone (Syntax.tyRef Syntax.erased Syntax.mut Element.behind), )
-            (List._∷_ ( 9, Mut.msleft (Element.type) (Syntax.tyRef Syntax.erased Syntax.mut Element.behind), ) List.[])))))))))
+        g9 = List._∷_ (0, Rows.any-gone Syntax.tyUnit) (List._∷_ (1, Relend.mslice-owed (Element.type) (Syntax.tyRef (Syntax.named 0) Syntax.mut Element.behind) 0 1 (Row.lease (κs .0) (qs .0)))
+            (List._∷_ (2, Rows.sc-here (Row.sInt Syntax.w32)) (List._∷_ (3, Rows.sc-here (Row.sInt Syntax.w32)) (List._∷_ (4, Rows.sc-here (Row.sInt Syntax.w64)) (List._∷_ (
+              5,
+              Rows.any-gone
+                  (Syntax.tyStruct (List._∷_ 115 (List._∷_ 116 (List._∷_ 97 (List._∷_ 116 (List._∷_ 105 (List._∷_ 115 (List._∷_ 116 (List._∷_ 105 (List._∷_ 99 (List._∷_ 115 (List._∷_ 58 (List._∷_ 58 (List._∷_
+                  82 (List._∷_ 101 (List._∷_ 99 (List._∷_ 111 (List._∷_ 114 (List._∷_ 100 List.[])))))))))))))))))) (Syntax.tcons (Syntax.tyInt Syntax.w32) (Syntax.tcons (Syntax.tyInt Syntax.w32)
+                  Syntax.tnil))),
+            ) (List._∷_ (6, Rows.any-gone Syntax.tyBool) (List._∷_ (7, Rows.any-gone Syntax.tyUnit) (List._∷_ (8, Rows.any-gone (Syntax.tyRef Syntax.erased Syntax.mut Element.behind))
+            (List._∷_ (9, Mut.msleft (Element.type) (Syntax.tyRef Syntax.erased Syntax.mut Element.behind)) List.[])))))))))
 
         abbrev G0 : Row.Cx
-        G0 = record { locals = t0; slots = List._∷_ (Row.lease (κs .0) (qs .0)) (List._∷_ Row.off List.[]); }
+        G0 = record { locals = t0; slots = List._∷_ (Row.lease (κs .0) (qs .0)) (List._∷_ Row.off List.[]) }
 
         abbrev G1 : Row.Cx
-        G1 = record { locals = t1; slots = List._∷_ (Row.lease (κs .0) (qs .0)) (List._∷_ Row.off List.[]); }
+        G1 = record { locals = t1; slots = List._∷_ (Row.lease (κs .0) (qs .0)) (List._∷_ Row.off List.[]) }
 
         abbrev G2 : Row.Cx
-        G2 = record { locals = t2; slots = List._∷_ (Row.lease (κs .0) (qs .0)) (List._∷_ Row.off List.[]); }
+        G2 = record { locals = t2; slots = List._∷_ (Row.lease (κs .0) (qs .0)) (List._∷_ Row.off List.[]) }
 
         abbrev G3 : Row.Cx
-        G3 = record { locals = t2; slots = List._∷_ (Row.lease (κs .0) (qs .0)) (List._∷_ Row.off List.[]); }
+        G3 = record { locals = t2; slots = List._∷_ (Row.lease (κs .0) (qs .0)) (List._∷_ Row.off List.[]) }
 
         abbrev G4 : Row.Cx
-        G4 = record { locals = t3; slots = List._∷_ (Row.lease (κs .0) (qs .0)) (List._∷_ Row.off List.[]); }
+        G4 = record { locals = t3; slots = List._∷_ (Row.lease (κs .0) (qs .0)) (List._∷_ Row.off List.[]) }
 
         abbrev G5 : Row.Cx
-        G5 = record { locals = t2; slots = List._∷_ (Row.lease (κs .0) (qs .0)) (List._∷_ Row.off List.[]); }
+        G5 = record { locals = t2; slots = List._∷_ (Row.lease (κs .0) (qs .0)) (List._∷_ Row.off List.[]) }
 
         abbrev G6 : Row.Cx
-        G6 = record { locals = t2; slots = List._∷_ (Row.lease (κs .0) (qs .0)) (List._∷_ Row.off List.[]); }
+        G6 = record { locals = t2; slots = List._∷_ (Row.lease (κs .0) (qs .0)) (List._∷_ Row.off List.[]) }
 
         abbrev G7 : Row.Cx
-        G7 = record { locals = t2; slots = List._∷_ (Row.lease (κs .0) (qs .0)) (List._∷_ Row.off List.[]); }
+        G7 = record { locals = t2; slots = List._∷_ (Row.lease (κs .0) (qs .0)) (List._∷_ Row.off List.[]) }
 
         abbrev G8 : Row.Cx
-        G8 = record { locals = t4; slots = List._∷_ (Row.lease (κs .0) (qs .0)) (List._∷_ Row.off List.[]); }
+        G8 = record { locals = t4; slots = List._∷_ (Row.lease (κs .0) (qs .0)) (List._∷_ Row.off List.[]) }
 
         abbrev G9 : Row.Cx
-        G9 = record { locals = t4; slots = List._∷_ (Row.lease (κs .0) (qs .0)) (List._∷_ Row.alive List.[]); }
+        G9 = record { locals = t4; slots = List._∷_ (Row.lease (κs .0) (qs .0)) (List._∷_ Row.alive List.[]) }
 
         abbrev G10 : Row.Cx
         G10 = record { locals = g5; slots = List._∷_ Row.off (List._∷_ Row.alive List.[]) }
@@ -582,25 +761,25 @@ module _ (claims· : Claims) where
         G15 = record { locals = g9; slots = List._∷_ Row.off (List._∷_ Row.dead List.[]) }
 
         abbrev G16 : Row.Cx
-        G16 = record { locals = t2; slots = List._∷_ (Row.lease (κs .0) (qs .0)) (List._∷_ Row.dead List.[]); }
+        G16 = record { locals = t2; slots = List._∷_ (Row.lease (κs .0) (qs .0)) (List._∷_ Row.dead List.[]) }
 
         abbrev G17 : Row.Cx
-        G17 = record { locals = t2; slots = List._∷_ (Row.lease (κs .0) (qs .0)) (List._∷_ Row.off List.[]); }
+        G17 = record { locals = t2; slots = List._∷_ (Row.lease (κs .0) (qs .0)) (List._∷_ Row.off List.[]) }
 
         abbrev G18 : Row.Cx
-        G18 = record { locals = t2; slots = List._∷_ (Row.lease (κs .0) (qs .0)) (List._∷_ Row.off List.[]); }
+        G18 = record { locals = t2; slots = List._∷_ (Row.lease (κs .0) (qs .0)) (List._∷_ Row.off List.[]) }
 
         abbrev G19 : Row.Cx
-        G19 = record { locals = t10; slots = List._∷_ (Row.lease (κs .0) (qs .0)) (List._∷_ Row.off List.[]); }
+        G19 = record { locals = t10; slots = List._∷_ (Row.lease (κs .0) (qs .0)) (List._∷_ Row.off List.[]) }
 
         abbrev G20 : Row.Cx
-        G20 = record { locals = t11; slots = List._∷_ (Row.lease (κs .0) (qs .0)) (List._∷_ Row.off List.[]); }
+        G20 = record { locals = t11; slots = List._∷_ (Row.lease (κs .0) (qs .0)) (List._∷_ Row.off List.[]) }
 
         abbrev G21 : Row.Cx
-        G21 = record { locals = t12; slots = List._∷_ (Row.lease (κs .0) (qs .0)) (List._∷_ Row.off List.[]); }
+        G21 = record { locals = t12; slots = List._∷_ (Row.lease (κs .0) (qs .0)) (List._∷_ Row.off List.[]) }
 
         abbrev G22 : Row.Cx
-        G22 = record { locals = t1; slots = List._∷_ (Row.lease (κs .0) (qs .0)) (List._∷_ Row.off List.[]); }
+        G22 = record { locals = t1; slots = List._∷_ (Row.lease (κs .0) (qs .0)) (List._∷_ Row.off List.[]) }
 
         abbrev Δ0 : Typed.Outs
         Δ0 = record { next = Option.none; exits = List.[]; returns = Option.some G1 }
@@ -639,8 +818,11 @@ module _ (claims· : Claims) where
 
           d5 : Typed.Typed 𝓤 H A 𝓣 E G17 b9 Δ3 at5
           d5 = Typed.s-typed 𝓤 H A W 𝓣 E G17 b9 Δ3 (Typed.ask s14) tt (Scalar.t-op2 𝓤 H A W E 𝓣 G17 (Syntax.add Syntax.unsigned) (Scalar.oAt 4 (Syntax.tyInt Syntax.w64) (Row.valS (Row.sInt
-              Syntax.w64))) (Scalar.oInt Syntax.w64 1) 4 (Rows.sc-here (Row.sInt Syntax.w64)) (Syntax.tyInt Syntax.w64) (Row.valS (Row.sInt Syntax.w64)) (Row.sInt Syntax.w64 .of) (Scalar.reads-sc 𝓤 H A W
-              (Row.sInt Syntax.w64), Path'.refl) tt (Scalar.room-sc 𝓤 H A W (Row.sInt Syntax.w64)) (Scalar.holds-sc 𝓤 H A W (Row.sInt Syntax.w64)) Path'.refl (λ u. Path'.refl) λ u. tt)
+              Syntax.w64))) (Scalar.oInt Syntax.w64 1) 4 (Rows.sc-here (Row.sInt Syntax.w64)) (Syntax.tyInt Syntax.w64) (Row.valS (Row.sInt Syntax.w64)) (Row.sInt Syntax.w64 .of) (
+                Scalar.reads-sc 𝓤 H A W
+                    (Row.sInt Syntax.w64),
+                Path'.refl,
+              ) tt (Scalar.room-sc 𝓤 H A W (Row.sInt Syntax.w64)) (Scalar.holds-sc 𝓤 H A W (Row.sInt Syntax.w64)) Path'.refl (λ u. Path'.refl) λ u. tt)
 
           d6 : Typed.Typed 𝓤 H A 𝓣 E G16 b9 Δ3 at6
           d6 = Typed.g-pre 𝓤 H A W 𝓣 E G16 G17 b9 Δ3 (λ Ψ. Ψ) at5 (Lifetime.g-forget 𝓤 H A W E G16 1 Row.dead Path'.refl) d5
@@ -665,20 +847,40 @@ module _ (claims· : Claims) where
               Syntax.tnil))) Path'.refl)) d9
 
           d11 : Typed.Typed 𝓤 H A 𝓣 E G11 b10 Δ3 at11
-          d11 = Typed.s-seq 𝓤 H A W 𝓣 E G11 G12 b8 b9 Δ3 (Typed.both s8) at10 (Plain.t-call-plain 𝓤 H A W 𝓣 1 ps·1 r·1 (claims· .2) (claims· .3) "block::update" (known .1) E (λ pos β. β) G11 ( record
-              { pos = 9; ty = Syntax.tyRef Syntax.erased Syntax.mut Element.behind; ref = λ x. x; }, (Num.vAt 4 λ x. x, (record { pos = 5; st = List.[]; d = 0; at = λ x. x }, tt)), ) 7 (List._∷_ 1
-              List.[]) (Call.sub-id 𝓤 H A W (G11 .slots)) ( Reads.as-is 𝓤 H A (Mut.mslice (Element.type) (Syntax.tyRef Syntax.erased Syntax.mut Element.behind) 1), Mut.reads-mslice 𝓤 H A W (Element.type)
-              (Syntax.tyRef Syntax.erased Syntax.mut Element.behind) 1, Path'.refl, ( (Scalar.reads-sc 𝓤 H A W (Row.sInt Syntax.w64), Path'.refl), ( ( Yields.yields-copy 𝓤 H A W (λ ρ. Unit) (Declared.row
-              Record.the-type) Path'.refl (Copies.cStruct Record.the-type Laws.the-laws Laws.the-copy .copy 𝓤 H A W) (Rows.whole (Declared.row Record.the-type)) (λ x. x) (λ x. x) (λ ρ told.
-              Local.mem-whole 𝓤 H A W (Declared.row Record.the-type) ρ) λ ρ told. Local.whole-mem 𝓤 H A W (Declared.row Record.the-type) ρ, Path'.refl, ), tt, ), ), ) (Reads.room-gone 𝓤 H A Syntax.tyUnit)
+          d11 = Typed.s-seq 𝓤 H A W 𝓣 E G11 G12 b8 b9 Δ3 (Typed.both s8) at10 (Plain.t-call-plain 𝓤 H A W 𝓣 1 ps·1 r·1 (claims· .2) (claims· .3) "block::update" (known .1) E (λ pos β. β) G11 (
+            record
+                { pos = 9; ty = Syntax.tyRef Syntax.erased Syntax.mut Element.behind; ref = λ x. x },
+            (Num.vAt 4 λ x. x, (record { pos = 5; st = List.[]; d = 0; at = λ x. x }, tt)),
+          ) 7 (List._∷_ 1
+              List.[]) (Call.sub-id 𝓤 H A W (G11 .slots)) (
+                Reads.as-is 𝓤 H A (Mut.mslice (Element.type) (Syntax.tyRef Syntax.erased Syntax.mut Element.behind) 1),
+                Mut.reads-mslice 𝓤 H A W (Element.type)
+                    (Syntax.tyRef Syntax.erased Syntax.mut Element.behind) 1,
+                Path'.refl,
+                (
+                  (Scalar.reads-sc 𝓤 H A W (Row.sInt Syntax.w64), Path'.refl),
+                  (
+                    (
+                      Yields.yields-copy 𝓤 H A W (λ ρ. Unit) (Declared.row
+                          Record.the-type) Path'.refl (Copies.cStruct Record.the-type Laws.the-laws Laws.the-copy .copy 𝓤 H A W) (Rows.whole (Declared.row Record.the-type)) (λ x. x) (λ x. x) (λ ρ told.
+                          Local.mem-whole 𝓤 H A W (Declared.row Record.the-type) ρ) λ ρ told. Local.whole-mem 𝓤 H A W (Declared.row Record.the-type) ρ,
+                      Path'.refl,
+                    ),
+                    tt,
+                  ),
+                ),
+              ) (Reads.room-gone 𝓤 H A Syntax.tyUnit)
               (tt, tt) Path'.refl) d10
 
           d12 : Typed.Typed 𝓤 H A 𝓣 E G10 b11 Δ3 at12
           d12 = Typed.s-seq 𝓤 H A W 𝓣 E G10 G11 b7 b10 Δ3 (Typed.ask s7) at11 (Relend.t-sl-aggregate 𝓤 H A W E (Element.type) 𝓣 (Relend.asMut (Element.type)) G10 8 9 1 (Syntax.tyRef Syntax.erased
               Syntax.mut Element.behind) (Syntax.tyRef Syntax.erased Syntax.mut Element.behind) (λ x. x) (Scalar.oFld 1 (List._∷_ (Syntax.field 1) List.[]) (Syntax.tyInt Syntax.w64) 8 λ v. Shared.lenV (v
               .0)) (Reads.as-is 𝓤 H A (Relend.msptr (Element.type) (Syntax.tyRef Syntax.erased Syntax.mut Element.behind) 1)) (Reads.room-gone 𝓤 H A (Syntax.tyStruct (List._∷_ 38 (List._∷_ 91 (List._∷_ 93
-              List.[]))) (Syntax.tcons (Syntax.tyRef Syntax.erased Syntax.mut Element.behind) (Syntax.tcons (Syntax.tyInt Syntax.w64) Syntax.tnil)))) ( Relend.reads-owed-len 𝓤 H A W (Element.type)
-              (Syntax.tyRef (Syntax.named 0) Syntax.mut Element.behind) 0 1 (Row.lease (κs .0) (qs .0)) 8 Path'.refl, Path'.refl, ) Path'.refl Path'.refl λ b o k. tt) d11
+              List.[]))) (Syntax.tcons (Syntax.tyRef Syntax.erased Syntax.mut Element.behind) (Syntax.tcons (Syntax.tyInt Syntax.w64) Syntax.tnil)))) (
+                Relend.reads-owed-len 𝓤 H A W (Element.type)
+                    (Syntax.tyRef (Syntax.named 0) Syntax.mut Element.behind) 0 1 (Row.lease (κs .0) (qs .0)) 8 Path'.refl,
+                Path'.refl,
+              ) Path'.refl Path'.refl λ b o k. tt) d11
 
           d13 : Typed.Typed 𝓤 H A 𝓣 E G9 b12 Δ3 at13
           d13 = Typed.s-seq 𝓤 H A W 𝓣 E G9 G10 b6 b11 Δ3 (Typed.give s6) at12 (Relend.t-sl-relend 𝓤 H A W E (Element.type) 𝓣 G9 1 8 0 1 (Syntax.tyRef (Syntax.named 0) Syntax.mut Element.behind)
@@ -686,12 +888,21 @@ module _ (claims· : Claims) where
               Element.behind) 0)) (Reads.room-gone 𝓤 H A (Syntax.tyRef Syntax.erased Syntax.mut Element.behind)) Path'.refl tt Path'.refl Path'.refl Path'.refl λ b o. tt) d12
 
           d14 : Typed.Typed 𝓤 H A 𝓣 E G8 b12 Δ3 at14
-          d14 = Typed.g-pre 𝓤 H A W 𝓣 E G8 G9 b12 Δ3 (λ Ψ. Ψ) at13 (Lifetime.g-begin 𝓤 H A W E G8 1 ( tt, (tt, (tt, (tt, (tt, (tt, (tt, (tt, (tt, (tt, tt))))))))), )) d13
+          d14 = Typed.g-pre 𝓤 H A W 𝓣 E G8 G9 b12 Δ3 (λ Ψ. Ψ) at13 (Lifetime.g-begin 𝓤 H A W E G8 1 (tt, (tt, (tt, (tt, (tt, (tt, (tt, (tt, (tt, (tt, tt))))))))))) d13
 
           d15 : Typed.Typed 𝓤 H A 𝓣 E G5 b13 Δ3 at15
           d15 = Typed.s-seq 𝓤 H A W 𝓣 E G5 G8 b5 b12 Δ3 (Typed.both s4) at14 (Plain.t-call-plain 𝓤 H A W 𝓣 0 ps·0 r·0 (claims· .0) (claims· .1) "block::start_record" (known .0) E (λ pos β. β) G5
-              (Num.vAt 2 λ x. x, (Num.vAt 3 λ x. x, (Num.vAt 4 λ x. x, tt))) 5 List.[] (Call.sub-id 𝓤 H A W (G5 .slots)) ( (Scalar.reads-sc 𝓤 H A W (Row.sInt Syntax.w32), Path'.refl), ( (Scalar.reads-sc 𝓤
-              H A W (Row.sInt Syntax.w32), Path'.refl), ((Scalar.reads-sc 𝓤 H A W (Row.sInt Syntax.w64), Path'.refl), tt), ), ) (Reads.room-gone 𝓤 H A (Syntax.tyStruct (List._∷_ 115 (List._∷_ 116
+              (Num.vAt 2 λ x. x, (Num.vAt 3 λ x. x, (Num.vAt 4 λ x. x, tt))) 5 List.[] (Call.sub-id 𝓤 H A W (G5 .slots)) (
+                (Scalar.reads-sc 𝓤 H A W (Row.sInt Syntax.w32), Path'.refl),
+                (
+                  (
+                    Scalar.reads-sc 𝓤
+                        H A W (Row.sInt Syntax.w32),
+                    Path'.refl,
+                  ),
+                  ((Scalar.reads-sc 𝓤 H A W (Row.sInt Syntax.w64), Path'.refl), tt),
+                ),
+              ) (Reads.room-gone 𝓤 H A (Syntax.tyStruct (List._∷_ 115 (List._∷_ 116
               (List._∷_ 97 (List._∷_ 116 (List._∷_ 105 (List._∷_ 115 (List._∷_ 116 (List._∷_ 105 (List._∷_ 99 (List._∷_ 115 (List._∷_ 58 (List._∷_ 58 (List._∷_ 82 (List._∷_ 101 (List._∷_ 99 (List._∷_ 111
               (List._∷_ 114 (List._∷_ 100 List.[])))))))))))))))))) (Syntax.tcons (Syntax.tyInt Syntax.w32) (Syntax.tcons (Syntax.tyInt Syntax.w32) Syntax.tnil)))) tt Path'.refl) d14
 
@@ -755,8 +966,12 @@ module _ (claims· : Claims) where
       m0 = λ κs args. (tt, Enter.partsP κs 1 ps xs (dens κs args))
 
       abbrev W0 : (κs : Lifetimes.Lfts 1) → (args : Args κs) → Typed.Want O0
-      W0 = λ κs args. ( λ u. ⊥, tt, λ u. Enter.Fixs κs 1 ps xs (dens κs args) (u .1) × Post· κs (dens κs args) (Function.resV r κs (u .0)) (Clauses.atExit (Kinds.endedOf 1 ps r) κs (dens κs args)
-          (Enter.lastsP κs 1 ps xs (dens κs args) (u .1))), )
+      W0 = λ κs args. (
+        λ u. ⊥,
+        tt,
+        λ u. Enter.Fixs κs 1 ps xs (dens κs args) (u .1) × Post· κs (dens κs args) (Function.resV r κs (u .0)) (Clauses.atExit (Kinds.endedOf 1 ps r) κs (dens κs args)
+            (Enter.lastsP κs 1 ps xs (dens κs args) (u .1))),
+      )
 
       pub record Start : Type 0 where
         pub κs : Lifetimes.Lfts 1
@@ -779,9 +994,13 @@ module _ (claims· : Claims) where
           (Row.get 4 (T2 .locals) (m1 (c .κs) (c .args))) (Row.get 1 (T2 .locals) (m1 (c .κs) (c .args)) .now) (Row.get 4 (T2 .locals) (m1 (c .κs) (c .args)))
 
       abbrev pub m2 : (before : Start) → (rs : List.List (Element.type .Denot)) → (j : Rows.sc-here (Row.sInt Syntax.w64) .Mod) → Typed.Mo T2
-      m2 = λ before rs j. Row.set 4 (4, Rows.sc-here (Row.sInt Syntax.w64)) j (Row.setRow 1 ( 1, Mut.mslice (Element.type) (Syntax.tyRef (Syntax.named 0) Syntax.mut Element.behind) 0, ) (T2 .locals))
-          (Row.set 1 ( 1, Mut.mslice (Element.type) (Syntax.tyRef (Syntax.named 0) Syntax.mut Element.behind) 0, ) record { ptr = Row.get 1 (T2 .locals) (m1 (before .κs) (before .args)) .ptr; name =
-          Row.get 1 (T2 .locals) (m1 (before .κs) (before .args)) .name; now = rs; } (T2 .locals) (m1 (before .κs) (before .args)))
+      m2 = λ before rs j. Row.set 4 (4, Rows.sc-here (Row.sInt Syntax.w64)) j (Row.setRow 1 (1, Mut.mslice (Element.type) (Syntax.tyRef (Syntax.named 0) Syntax.mut Element.behind) 0) (T2 .locals))
+          (Row.set 1 (1, Mut.mslice (Element.type) (Syntax.tyRef (Syntax.named 0) Syntax.mut Element.behind) 0) record {
+            ptr = Row.get 1 (T2 .locals) (m1 (before .κs) (before .args)) .ptr;
+            name =
+                Row.get 1 (T2 .locals) (m1 (before .κs) (before .args)) .name;
+            now = rs;
+          } (T2 .locals) (m1 (before .κs) (before .args)))
 
       abbrev W3 : (before : Start) → (rs : List.List (Element.type .Denot)) → (j : Rows.sc-here (Row.sInt Syntax.w64) .Mod) → Typed.Want O3
       W3 = λ before rs j. Typed.inLoop T2 O2 (Typed.Round T2 O2 put0 (λ u vs. Inv·0 (Row.get 1 (T2 .locals) u .now) (Row.get 2 (T2 .locals) u) (Row.get 3 (T2 .locals) u) (Row.get 4 (T2 .locals) u) (vs
@@ -835,14 +1054,14 @@ module _ (claims· : Claims) where
 
       module _ (before· : In-loop) where
         abbrev pub After-start-record·own : Type 0
-        After-start-record·own = Called.Called ps·0 r·0 (claims· .1) T5 ( Num.vAt 2 λ x. x, (Num.vAt 3 λ x. x, (Num.vAt 4 λ x. x, tt)), ) (m4 (before· .before))
+        After-start-record·own = Called.Called ps·0 r·0 (claims· .1) T5 (Num.vAt 2 λ x. x, (Num.vAt 3 λ x. x, (Num.vAt 4 λ x. x, tt))) (m4 (before· .before))
 
       pub record After-start-record : Type 0 where
         pub before : In-loop
         pub start-record : After-start-record·own before
 
       abbrev pub After-start-record·gave : (c : After-start-record) → s4 .gives (m4 (c .before .before))
-      After-start-record·gave = λ c. Called.given ps·0 r·0 (claims· .1) T5 ( Num.vAt 2 λ x. x, (Num.vAt 3 λ x. x, (Num.vAt 4 λ x. x, tt)), ) (m4 (c .before .before)) (c .start-record)
+      After-start-record·gave = λ c. Called.given ps·0 r·0 (claims· .1) T5 (Num.vAt 2 λ x. x, (Num.vAt 3 λ x. x, (Num.vAt 4 λ x. x, tt))) (m4 (c .before .before)) (c .start-record)
 
       abbrev pub m7 : (before : After-start-record) → (given : s6 .gives (m6 (before .before) (After-start-record·gave before))) → Typed.Mo T10
       m7 = λ before given. s6 .next (m6 (before .before) (After-start-record·gave before)) given
@@ -866,16 +1085,43 @@ module _ (claims· : Claims) where
 
       module _ (before· : After-update-arg) where
         abbrev pub After-update·own : Type 0
-        After-update·own = Called.Called ps·1 r·1 (claims· .3) T11 ( record { pos = 9; ty = Syntax.tyRef Syntax.erased Syntax.mut Element.behind; ref = λ x. x; }, (Num.vAt 4 λ x. x, (record { pos = 5;
-            st = List.[]; d = 0; at = λ x. x }, tt)), ) (m8 (before· .before) (before· .update-arg .given))
+        After-update·own = Called.Called ps·1 r·1 (claims· .3) T11 (
+          record { pos = 9; ty = Syntax.tyRef Syntax.erased Syntax.mut Element.behind; ref = λ x. x },
+          (
+            Num.vAt 4 λ x. x,
+            (
+              record {
+                pos = 5;
+                st = List.[];
+                d = 0;
+                at = λ x. x;
+              },
+              tt,
+            ),
+          ),
+        ) (m8 (before· .before) (before· .update-arg .given))
 
       pub record After-update : Type 0 where
         pub before : After-update-arg
         pub update : After-update·own before
 
       abbrev pub After-update·gave : (c : After-update) → s8 .gives (m8 (c .before .before) (c .before .update-arg .given))
-      After-update·gave = λ c. Called.given ps·1 r·1 (claims· .3) T11 ( record { pos = 9; ty = Syntax.tyRef Syntax.erased Syntax.mut Element.behind; ref = λ x. x; }, (Num.vAt 4 λ x. x, (record { pos =
-          5; st = List.[]; d = 0; at = λ x. x }, tt)), ) (m8 (c .before .before) (c .before .update-arg .given)) (c .update)
+      After-update·gave = λ c. Called.given ps·1 r·1 (claims· .3) T11 (
+        record { pos = 9; ty = Syntax.tyRef Syntax.erased Syntax.mut Element.behind; ref = λ x. x },
+        (
+          Num.vAt 4 λ x. x,
+          (
+            record {
+              pos =
+                  5;
+              st = List.[];
+              d = 0;
+              at = λ x. x;
+            },
+            tt,
+          ),
+        ),
+      ) (m8 (c .before .before) (c .before .update-arg .given)) (c .update)
 
       abbrev pub m10 : (before : After-update-arg) → (given : s8 .gives (m8 (before .before) (before .update-arg .given))) → Typed.Mo T13
       m10 = λ before given. s9 (m9 before given)
@@ -939,33 +1185,89 @@ module _ (claims· : Claims) where
       module _ (loop-holds : Need-loop-holds) (start-record-requires : Need-start-record-requires) (update-requires : Need-update-requires) (add-j : Need-add-j) (loop-less : Need-loop-less)
           (loop-again : Need-loop-again) (same-length : Need-same-length) (returns : Need-returns) where
         lay6 : (c : After-loop) → at24 (W0 (c .before .before .κs) (c .before .before .args)) (m5 (c .before))
-        lay6 = λ c. ( ( MutSlice.fix-len (Row.get 1 (T22 .locals) (m17 (c .before)) .ptr) (Row.get 1 (T22 .locals) (m17 (c .before)) .name) (Row.get 1 (T22 .locals) (m17 (c .before)) .now) (dens (c
-            .before .before .κs) (c .before .before .args) .0 .now) (same-length record { before = c .before; loop-test = c .loop-test }), (tt, (tt, tt)), ), returns record { before = c .before; loop-test
-            = c .loop-test }, )
+        lay6 = λ c. (
+          (
+            MutSlice.fix-len (Row.get 1 (T22 .locals) (m17 (c .before)) .ptr) (Row.get 1 (T22 .locals) (m17 (c .before)) .name) (Row.get 1 (T22 .locals) (m17 (c .before)) .now) (dens (c
+                .before .before .κs) (c .before .before .args) .0 .now) (same-length record { before = c .before; loop-test = c .loop-test }),
+            (tt, (tt, tt)),
+          ),
+          returns record {
+            before = c .before;
+            loop-test
+                = c .loop-test;
+          },
+        )
 
         lay5 : (c : After-update) → at10 (W3 (c .before .before .before .before .before) (c .before .before .before .before .loop .rs) (c .before .before .before .before .loop .j)) (m9 (c .before)
             (After-update·gave c))
-        lay5 = λ c. ( Path'.refl, λ g. ( add-j record { before = record { before = c .before; update = c .update }; rs = record { given = g }; }, ( μ·0 (Row.get 1 (T2 .locals) (m1 (c .before .before
-            .before .before .before .κs) (c .before .before .before .before .before .args)) .now) (Row.get 2 (T2 .locals) (m1 (c .before .before .before .before .before .κs) (c .before .before .before
-            .before .before .args))) (Row.get 3 (T2 .locals) (m1 (c .before .before .before .before .before .κs) (c .before .before .before .before .before .args))) (Row.get 4 (T2 .locals) (m1 (c .before
-            .before .before .before .before .κs) (c .before .before .before .before .before .args))) (Row.get 1 (T2 .locals) (m13 record { before = c .before; update = c .update } g) .now) (Row.get 4 (T2
-            .locals) (m13 record { before = c .before; update = c .update } g)), loop-less record { before = record { before = c .before; update = c .update }; rs = record { given = g }; }, ( ( Row.get 1
-            (T2 .locals) (m13 record { before = c .before; update = c .update } g) .now, Row.get 4 (T2 .locals) (m13 record { before = c .before; update = c .update } g), ), Path'.refl {a = m13 record {
-            before = c .before; update = c .update } g}, loop-again record { before = record { before = c .before; update = c .update }; rs = record { given = g }; }, Path'.refl {a = μ·0 (Row.get 1 (T2
-            .locals) (m1 (c .before .before .before .before .before .κs) (c .before .before .before .before .before .args)) .now) (Row.get 2 (T2 .locals) (m1 (c .before .before .before .before .before
-            .κs) (c .before .before .before .before .before .args))) (Row.get 3 (T2 .locals) (m1 (c .before .before .before .before .before .κs) (c .before .before .before .before .before .args)))
-            (Row.get 4 (T2 .locals) (m1 (c .before .before .before .before .before .κs) (c .before .before .before .before .before .args))) (Row.get 1 (T2 .locals) (m13 record { before = c .before; update
-            = c .update } g) .now) (Row.get 4 (T2 .locals) (m13 record { before = c .before; update = c .update } g))}, ), ), ), )
+        lay5 = λ c. (
+          Path'.refl,
+          λ g. (
+            add-j record { before = record { before = c .before; update = c .update }; rs = record { given = g } },
+            (
+              μ·0 (Row.get 1 (T2 .locals) (m1 (c .before .before
+                  .before .before .before .κs) (c .before .before .before .before .before .args)) .now) (Row.get 2 (T2 .locals) (m1 (c .before .before .before .before .before .κs) (c .before .before .before
+                  .before .before .args))) (Row.get 3 (T2 .locals) (m1 (c .before .before .before .before .before .κs) (c .before .before .before .before .before .args))) (Row.get 4 (T2 .locals) (m1 (c .before
+                  .before .before .before .before .κs) (c .before .before .before .before .before .args))) (Row.get 1 (T2 .locals) (m13 record { before = c .before; update = c .update } g) .now) (Row.get 4 (T2
+                  .locals) (m13 record { before = c .before; update = c .update } g)),
+              loop-less record { before = record { before = c .before; update = c .update }; rs = record { given = g } },
+              (
+                (
+                  Row.get 1
+                      (T2 .locals) (m13 record { before = c .before; update = c .update } g) .now,
+                  Row.get 4 (T2 .locals) (m13 record { before = c .before; update = c .update } g),
+                ),
+                Path'.refl {a = m13 record {
+                  before = c .before;
+                  update = c .update;
+                } g},
+                loop-again record { before = record { before = c .before; update = c .update }; rs = record { given = g } },
+                Path'.refl {a = μ·0 (Row.get 1 (T2
+                    .locals) (m1 (c .before .before .before .before .before .κs) (c .before .before .before .before .before .args)) .now) (Row.get 2 (T2 .locals) (m1 (c .before .before .before .before .before
+                    .κs) (c .before .before .before .before .before .args))) (Row.get 3 (T2 .locals) (m1 (c .before .before .before .before .before .κs) (c .before .before .before .before .before .args)))
+                    (Row.get 4 (T2 .locals) (m1 (c .before .before .before .before .before .κs) (c .before .before .before .before .before .args))) (Row.get 1 (T2 .locals) (m13 record {
+                      before = c .before;
+                      update
+                          = c .update;
+                    } g) .now) (Row.get 4 (T2 .locals) (m13 record { before = c .before; update = c .update } g))},
+              ),
+            ),
+          ),
+        )
 
         lay4 : (c : After-start-record) → at14 (W3 (c .before .before .before) (c .before .before .loop .rs) (c .before .before .loop .j)) (m6 (c .before) (After-start-record·gave c))
-        lay4 = λ c. λ g. ( Path'.refl, ( update-requires record { before = record { before = c .before; start-record = c .start-record }; update-arg = record { given = g }; }, λ g'. lay5 record {
-            before = record { before = record { before = c .before; start-record = c .start-record }; update-arg = record { given = g }; }; update = Called.called ps·1 r·1 (claims· .3) T11 ( record { pos
-            = 9; ty = Syntax.tyRef Syntax.erased Syntax.mut Element.behind; ref = λ x. x; }, (Num.vAt 4 λ x. x, (record { pos = 5; st = List.[]; d = 0; at = λ x. x }, tt)), ) (m8 record { before = c
-            .before; start-record = c .start-record } g) g'; }, ), )
+        lay4 = λ c. λ g. (
+          Path'.refl,
+          (
+            update-requires record { before = record { before = c .before; start-record = c .start-record }; update-arg = record { given = g } },
+            λ g'. lay5 record {
+              before = record { before = record { before = c .before; start-record = c .start-record }; update-arg = record { given = g } };
+              update = Called.called ps·1 r·1 (claims· .3) T11 (
+                record {
+                  pos
+                      = 9;
+                  ty = Syntax.tyRef Syntax.erased Syntax.mut Element.behind;
+                  ref = λ x. x;
+                },
+                (Num.vAt 4 λ x. x, (record { pos = 5; st = List.[]; d = 0; at = λ x. x }, tt)),
+              ) (m8 record {
+                before = c
+                    .before;
+                start-record = c .start-record;
+              } g) g';
+            },
+          ),
+        )
 
         lay3 : (c : In-loop) → at15 (W3 (c .before .before) (c .before .loop .rs) (c .before .loop .j)) (m4 (c .before))
-        lay3 = λ c. ( start-record-requires record { before = c .before; loop-test = c .loop-test }, λ g. lay4 record { before = record { before = c .before; loop-test = c .loop-test }; start-record =
-            Called.called ps·0 r·0 (claims· .1) T5 ( Num.vAt 2 λ x. x, (Num.vAt 3 λ x. x, (Num.vAt 4 λ x. x, tt)), ) (m4 (c .before)) g; }, )
+        lay3 = λ c. (
+          start-record-requires record { before = c .before; loop-test = c .loop-test },
+          λ g. lay4 record {
+            before = record { before = c .before; loop-test = c .loop-test };
+            start-record =
+                Called.called ps·0 r·0 (claims· .1) T5 (Num.vAt 2 λ x. x, (Num.vAt 3 λ x. x, (Num.vAt 4 λ x. x, tt))) (m4 (c .before)) g;
+          },
+        )
 
         lay2 : (c : After-loop) → at3 (W4 (c .before .before) (c .before .loop .rs) (c .before .loop .j)) (m3 (c .before .before) (c .before .loop .rs) (c .before .loop .j))
         lay2 = λ c. lay6 record { before = c .before; loop-test = c .loop-test }
@@ -974,16 +1276,43 @@ module _ (claims· : Claims) where
         lay1 = λ c. lay3 record { before = c .before; loop-test = c .loop-test }
 
         pub laid : (c : Start) → at26 (W0 (c .κs) (c .args)) (m0 (c .κs) (c .args))
-        laid = λ c. ( ( ( Row.get 1 (T2 .locals) (m1 (c .κs) (c .args)) .now, Row.get 4 (T2 .locals) (m1 (c .κs) (c .args)), ), Path'.refl {a = m1 (c .κs) (c .args)}, loop-holds c, ), λ vs inv. ( tt,
-            ( λ taken. lay1 record { before = record { before = c; loop = record { rs = vs .0; j = vs .1; inv = inv }; }; loop-test = record { taken = Tests.ltb-true (Row.get 4 (T2 .locals) (m2 c (vs .0)
-            (vs .1))) 336 taken; }; }, λ left. lay2 record { before = record { before = c; loop = record { rs = vs .0; j = vs .1; inv = inv }; }; loop-test = record { left = Tests.ltb-false (Row.get 4 (T2
-            .locals) (m2 c (vs .0) (vs .1))) 336 left; }; }, ), ), )
+        laid = λ c. (
+          ((Row.get 1 (T2 .locals) (m1 (c .κs) (c .args)) .now, Row.get 4 (T2 .locals) (m1 (c .κs) (c .args))), Path'.refl {a = m1 (c .κs) (c .args)}, loop-holds c),
+          λ vs inv. (
+            tt,
+            (
+              λ taken. lay1 record {
+                before = record { before = c; loop = record { rs = vs .0; j = vs .1; inv = inv } };
+                loop-test = record {
+                  taken = Tests.ltb-true (Row.get 4 (T2 .locals) (m2 c (vs .0)
+                      (vs .1))) 336 taken;
+                };
+              },
+              λ left. lay2 record {
+                before = record { before = c; loop = record { rs = vs .0; j = vs .1; inv = inv } };
+                loop-test = record {
+                  left = Tests.ltb-false (Row.get 4 (T2
+                      .locals) (m2 c (vs .0) (vs .1))) 336 left;
+                };
+              },
+            ),
+          ),
+        )
 
         module _ (κs : Lifetimes.Lfts 1) (qs : Lifetimes.Shares 1) where
           pub asked : (a : Kinds.Dens κs ps) → (good : Kinds.GoodsP κs ps a) → (pre : Pre· κs a) → (bs : List.List Nat.ℕ) → Φ (Any.wantQ 1 ps r xs m κs qs a (Post· κs a)) (Function.init 1 ps r xs m κs
               qs a)
-          asked = λ a good pre bs. laid record { κs = κs; args = record { rs = a .0; bits = a .1 .0; base = a .1 .1 .0 }; good = good; fits = record { bits = record { fits = good .1 .0 .1 }; base =
-              record { fits = good .1 .1 .0 .1 }; }; pre = pre; }
+          asked = λ a good pre bs. laid record {
+            κs = κs;
+            args = record { rs = a .0; bits = a .1 .0; base = a .1 .1 .0 };
+            good = good;
+            fits = record {
+              bits = record { fits = good .1 .0 .1 };
+              base =
+                  record { fits = good .1 .1 .0 .1 };
+            };
+            pre = pre;
+          }
 
         module _ {M : Type 1} (𝓤 : URA.URA M) (H : Wp.Heap 𝓤) (A : Atoms.Atoms 𝓤) (W : Kit.Given 𝓤 H A) (𝓣 : Wp.Tables 𝓤 H) (known0 : Plain.Known 𝓤 H A W 𝓣 0 ps·0 r·0 (claims· .0) (claims· .1)
             "block::start_record") (known1 : Plain.Known 𝓤 H A W 𝓣 1 ps·1 r·1 (claims· .2) (claims· .3) "block::update") where
