@@ -7,4 +7,5 @@ pub mod RangeLaws
 pub mod RunLaws
 pub mod LineLaws
 pub mod BlockLaws
+pub mod SampleLaws
 pub mod ImageLaws

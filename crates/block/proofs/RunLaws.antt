@@ -8,6 +8,13 @@ use native.Mathlib.Omega.{arith}
 use Rattle.pass.specs.Readings.{andThen}
 use Rattle.block.specs.Blocks.{runs}
 
+-- what holds after one thing, and is kept by the next, holds after both
+pub then-keeps : {A : Type 0} (Q : A → Type 0) (o : Option A) (g : A → Option A) (z : A) → ((y : A) → o ≡ some y → Q y)
+    → ((y : A) → Q y → g y ≡ some z → Q z) → andThen o g ≡ some z → Q z
+unfolding andThen
+then-keeps Q none g z first next e = let no : _≡_ {A = ℕ} 0 1 = cc in absurd (omega arith)
+then-keeps Q (some y) g z first next e = next y (first y refl) e
+
 module _ {A : Type 0} (f : ℕ → A → Option A) (r₀ : A) where
   pub runs-none : runs f 0 r₀ ≡ some r₀
   unfolding runs
@@ -27,3 +34,10 @@ module _ {A : Type 0} (f : ℕ → A → Option A) (r₀ : A) where
   runs-fail n t r h lt e =
       let g : n ≡ (t + 1) + (n - (t + 1)) = omega arith in
       rw g (runs-stay (t + 1) (n - (t + 1)) (runs-more t r h ∙ e))
+
+  -- what holds at the start, and is kept by each of them, holds after all of them
+  pub runs-keep : (Q : A → Type 0) → Q r₀ → ((i : ℕ) (r z : A) → Q r → f i r ≡ some z → Q z) → (n : ℕ) (z : A) → runs f n r₀ ≡ some z → Q z
+  unfolding runs
+  runs-keep Q start each zero z e = let same : r₀ ≡ z = cc in rw same at start
+  runs-keep Q start each (suc n) z e =
+      then-keeps Q (runs f n r₀) (λ y. f n y) z (λ y h. runs-keep Q start each n y h) (λ y q h. each n y z q h) e
