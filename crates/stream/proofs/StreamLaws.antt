@@ -11,10 +11,11 @@ use borrow.Author.Tests.{lt-ltb, le-ltb, ltb-false}
 use Rattle.numbers.proofs.LeastLaws.{least}
 use Rattle.numbers.proofs.OrderLaws.{split}
 use Rattle.stream.specs.Headers.{parseOf}
-use Rattle.stream.specs.Streams.{sizesEnd, sizeOf, rowLength, rowStart, isShort, firstShort, openIn, openOf, Opened, blockStart, cut, rangeIn, rangeOf, rowIn, rowOf, partOf, Inside}
+use Rattle.stream.specs.Streams.{sizesEnd, sizeOf, rowLength, rowStart, isShort, firstShort, openIn, openOf, Opened, blockStart, cut, rangeIn, rangeOf, rowIn, rowOf, partOf, Short, Inside}
 use Rattle.stream.specs.declared.FujiHeader.{FujiHeader}
 use Rattle.stream.specs.declared.Parsed.{Parsed}
 use Rattle.stream.specs.declared.Parsed.the-variants.{Header, Refused}
+use Rattle.stream.specs.declared.Ranged.{Ranged}
 use Rattle.stream.specs.declared.Ranged.the-variants as Range
 use Rattle.stream.specs.declared.Refusal.{Refusal}
 use Rattle.stream.specs.declared.Refusal.the-variants.{ShortSizes, ShortBases}
@@ -136,25 +137,10 @@ module _ (d : List ℕ) where
   taken-is : (n from : ℕ) → from + n ≤ length d → length (take n (drop from d)) ≡ n
   taken-is n from h = simp (length-take, length-drop) (omega arith)
 
-  size-lt : ((k : ℕ) → getD d k 0 < 256) → (b : ℕ) → sizeOf d b < 2 ^ 32
-  size-lt h b =
-      let i : ℕ = 16 + 4 * b in
-      omega (arith, h i, h (i + 1), h (i + 2), h (i + 3))
-
-  cut-lt : (from n : ℕ) → n < 2 ^ 32 → length (take (cut d (from + n) - cut d from) (drop (cut d from) d)) < 2 ^ 32
-  cut-lt from n h = omega (arith, taken-le (cut d (from + n) - cut d from) (cut d from))
-
-  -- a block is shorter than 2^32 bytes, since its size is
-  pub block-lt : ((k : ℕ) → getD d k 0 < 256) → (b : ℕ) → length (partOf d (rangeOf d b)) < 2 ^ 32
-  unfolding rangeOf
-  block-lt bytes b = go (openOf d)
-    where
-      go : (p : Parsed) → length (partOf d (rangeIn d b p)) < 2 ^ 32
-      go (Refused r) = lit< tt
-      go (Header h) =
-          split (h .blocks) b
-          (λ l. rw (le-ltb b (h .blocks) l) (lit< tt))
-          (λ l. rw (lt-ltb b (h .blocks) l) (cut-lt (blockStart d h b) (sizeOf d b) (size-lt bytes b)))
+  -- a part is no longer than its range
+  pub part-lt : (r : Ranged) → Short r → length (partOf d r) < 2 ^ 32
+  part-lt (Range.At from n) h = omega (arith, taken-le n (from .0))
+  part-lt (Range.Refused r) h = lit< tt
 
   -- a base row of a lossy stream has a byte for each line, and one of a lossless stream none
   module _ (h : FujiHeader) (b : ℕ) (e : openOf d ≡ Header h) where

@@ -2,7 +2,7 @@
 use mathlib.Core.Bool.{Bool, false, cond, not, _&&_}
 use mathlib.Core.List.{List, []}
 use mathlib.Core.Path.{_≡_}
-use Prim.Native.Nat.{ℕ, zero, suc, _+_, _-_, _*_, _/_, _≤_, _<_, min}
+use Prim.Native.Nat.{ℕ, zero, suc, _+_, _-_, _*_, _/_, _^_, _≤_, _<_, min}
 use lib.Dec.{ltb}
 use lib.ListN.{length, take, drop}
 use Rattle.numbers.specs.Numbers.{leastFrom}
@@ -95,6 +95,11 @@ rowOf d b = rowIn d b (openOf d)
 abbrev pub partOf : List ℕ → Ranged → List ℕ
 partOf d (Range.At from n) = take n (drop (from .0) d)
 partOf d (Range.Refused r) = []
+
+-- a range of less than 2^32 bytes, as a block's is, since its size has 4 bytes
+abbrev pub Short : Ranged → Type 0
+Short (Range.At from n) = n < 2 ^ 32
+Short (Range.Refused r) = Unit {0}
 
 -- a range that lies in the bytes
 abbrev pub Inside : List ℕ → Ranged → Type 0

@@ -3,7 +3,7 @@ ghost use mathlib.Core.Path.{_≡_};
 ghost use Prim.Native.Nat.{_+_, _*_, _^_, _≤_, _<_};
 ghost use lib.ListN.{length};
 ghost use Rattle.stream.specs.Headers.{byteAt, be16, headerOf, within, kindRules, sizeRules, countRules, parseOf, Ruled, widthAnswer};
-ghost use Rattle.stream.specs.Streams.{padded, sizeOf, rowLength, rowStart, firstShort, openIn, openOf, Opened, sizesBefore, blockStart, cut, rangeIn, rangeOf, rowIn, rowOf, partOf, Inside};
+ghost use Rattle.stream.specs.Streams.{padded, sizeOf, rowLength, rowStart, firstShort, openIn, openOf, Opened, sizesBefore, blockStart, cut, rangeIn, rangeOf, rowIn, rowOf, partOf, Short, Inside};
 use bits::ByteOffset;
 
 // Why a call is refused. specs/Refusals.antt gives each case its number.
@@ -307,7 +307,7 @@ fn block_start(d: &[u8], h: FujiHeader, b: usize) -> usize
 // The range of block b, if it is there.
 fn range_in(d: &[u8], h: FujiHeader, b: usize) -> Ranged
     requires { ⌜ Opened (now d) h ⌝ }
-    ensures { λ r. ⌜ r ≡ rangeIn (now (d .entry)) b (Parsed.Header h) ⌝ }
+    ensures { λ r. ⌜ (r ≡ rangeIn (now (d .entry)) b (Parsed.Header h)) × Short r ⌝ }
 {
     let blocks = h.blocks as usize;
     if blocks <= b {
@@ -322,7 +322,7 @@ fn range_in(d: &[u8], h: FujiHeader, b: usize) -> Ranged
 
 // Where block b lies in the stream.
 pub fn block_range(d: &[u8], b: usize) -> Ranged
-    ensures { λ r. ⌜ r ≡ rangeOf (now (d .entry)) b ⌝ }
+    ensures { λ r. ⌜ (r ≡ rangeOf (now (d .entry)) b) × Short r ⌝ }
 {
     let opened = open(d);
     match opened {
@@ -372,7 +372,7 @@ fn part(d: &[u8], r: Ranged) -> &[u8]
 
 // The bytes of block b; none if the call is refused, and `block_range` says why.
 pub fn block_bytes(d: &[u8], b: usize) -> &[u8]
-    ensures { λ r. ⌜ now r ≡ partOf (now (d .entry)) (rangeOf (now (d .entry)) b) ⌝ }
+    ensures { λ r. ⌜ (now r ≡ partOf (now (d .entry)) (rangeOf (now (d .entry)) b)) × (length (now r) < 2 ^ 32) ⌝ }
 {
     part(d, block_range(d, b))
 }

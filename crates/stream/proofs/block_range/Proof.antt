@@ -9,11 +9,12 @@ range-in-requires : tie.Need-range-in-requires
 range-in-requires c κs = opened _ _ (sym (c .before .before .before .open .ensures) ∙ c .before .opened2 .given .1)
 
 returns : tie.Need-returns
-returns c = sym (range-refused _ _ _ (sym (c .before .before .before .open .ensures) ∙ c .before .opened .given .1))
+returns c = (sym (range-refused _ _ _ (sym (c .before .before .before .open .ensures) ∙ c .before .opened .given .1)), tt)
 
 returns-2 : tie.Need-returns-2
 returns-2 c =
-    c .range-in .ensures ∙ sym (range-opened _ _ _ (sym (c .before .before .before .before .open .ensures) ∙ c .before .before .opened2 .given .1))
+    let e = sym (c .before .before .before .before .open .ensures) ∙ c .before .before .opened2 .given .1 in
+    (c .range-in .ensures .0 ∙ sym (range-opened _ _ _ e), c .range-in .ensures .1)
 
 pub block-range-spec : {M : Type 1} → statement M
 block-range-spec =

@@ -1,0 +1,2 @@
+-- The definitions of regions.
+pub mod Regions
