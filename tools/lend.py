@@ -71,7 +71,7 @@ def twin_carry(f):
     def one(m):
         if PUMP and re.search(r"(?<!mut )\b" + PUMP + r"\b", m["head"] + "\n" + (m["body"] if m["name"] not in listed else "")):
             return ""                                          # P by value: not in the twin
-        keep = m["name"] in members(f) or m["name"] not in listed
+        keep = m["name"] in members(f) or m["name"] not in listed + owns
         return m["head"] + "\n{\n" + (m["body"] if keep else dummy(m)) + "\n}\n"
     t = item.sub(one, src)
     if PUMP:

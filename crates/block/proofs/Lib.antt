@@ -8,4 +8,5 @@ pub mod RunLaws
 pub mod LineLaws
 pub mod BlockLaws
 pub mod SampleLaws
+pub mod DecodeLaws
 pub mod ImageLaws

@@ -1,4 +1,10 @@
 pub mod clear_records
+pub mod decode
+pub mod decode_blocks
+pub mod decode_in
+pub mod decode_region
+pub mod decode_touched
+pub mod decode_whole
 pub mod fetch
 pub mod line
 pub mod load_set

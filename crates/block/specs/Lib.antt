@@ -1,3 +1,4 @@
 -- The definitions of a block.
 pub mod Records
 pub mod Blocks
+pub mod Images

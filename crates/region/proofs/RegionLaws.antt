@@ -9,7 +9,7 @@ use borrow.Author.Tests.{le-ltb}
 use Rattle.map.specs.Places.{Fits}
 use Rattle.map.specs.declared.Part.{Part}
 use Rattle.stream.specs.declared.FujiHeader.{FujiHeader}
-use Rattle.region.specs.Regions.{rightOf, bottomOf, firstBlock, lastBlock, linesOf, spanOf, checkedOf, partIn, Accepted}
+use Rattle.region.specs.Regions.{blockOf, rightOf, bottomOf, firstBlock, lastBlock, linesOf, spanOf, checkedOf, partIn, Accepted}
 use Rattle.region.specs.declared.Rect.{Rect}
 use Rattle.region.specs.declared.Checked.the-variants.{Touched}
 use Rattle.region.proofs.CheckLaws.{room-decides, has-samples, says-touched}
@@ -17,10 +17,6 @@ use Rattle.region.proofs.CheckLaws.{room-decides, has-samples, says-tou
 -- entry i of the image lies in a part's columns
 abbrev pub InColumns : Part → ℕ → Type 0
 InColumns a i = (a .start ≤ i % a .stride) × (i % a .stride < a .start + (a .right - a .left))
-
--- the block of the picture that entry i shows
-abbrev pub blockOf : Rect → ℕ → ℕ
-blockOf r i = (r .x + i % r .width) / 768
 
 -- columns of the region, w of them from x on, that a block which starts at `first` has
 columns-fit : (x w right first : ℕ) → right ≡ x + w → first < right → first - x + (min (right - first) 768 - (x - first)) ≤ w

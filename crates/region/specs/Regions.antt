@@ -1,6 +1,6 @@
 -- Regions of the picture: which are refused, which blocks and lines the others need, and where a block's samples go. Assumes nothing.
 use mathlib.Core.Bool.{Bool, cond, _||_}
-use Prim.Native.Nat.{ℕ, _+_, _-_, _*_, _/_, _^_, _≤_, min}
+use Prim.Native.Nat.{ℕ, _+_, _-_, _*_, _/_, _%_, _^_, _≤_, min}
 use lib.Dec.{ltb, eqb}
 use Rattle.map.specs.declared.Part.{Part}
 use Rattle.stream.specs.Headers.{Ruled}
@@ -35,6 +35,10 @@ abbrev pub isEmpty : Rect → Bool
 isEmpty r = eqb (r .width) 0 || eqb (r .height) 0
 
 -- ---- what is read
+
+-- the block of the picture that entry i of the image comes from
+abbrev pub blockOf : Rect → ℕ → ℕ
+blockOf r i = (r .x + i % r .width) / 768
 
 -- the blocks that the region touches: from that of its first column to that of its last
 abbrev pub firstBlock : Rect → ℕ

@@ -1,0 +1,244 @@
+-- Decoding block by block: how many lines of a block are read, the answer, and the image. Assumes nothing.
+use borrow.Author.Tests.{ltb-true, ltb-false, lt-ltb, le-ltb, le-leb, leb-true, eqb-true, eqb-false}
+use mathlib.Core.Bool.{Bool, true, false, cond, _&&_}
+use mathlib.Core.List.{List}
+use mathlib.Core.Option.{none, some}
+use mathlib.Core.Path.{_≡_, refl, sym, _∙_}
+use Prim.Native.Nat.{ℕ, zero, suc, _+_, _-_, _*_, _/_, _≤_, _<_}
+use native.Mathlib.Nat.{add-zero, add-suc}
+use native.Mathlib.Omega.{arith}
+use lib.Dec.{ltb, leb, eqb}
+use lib.ListN.{getD}
+use Rattle.map.specs.Places.{widthOf, emittedSample}
+use Rattle.map.specs.declared.Part.{Part}
+use Rattle.map.proofs.PartLaws.{by-test}
+use Rattle.stream.specs.declared.FujiHeader.{FujiHeader}
+use Rattle.stream.specs.declared.Refusal.the-variants.{Truncated}
+use Rattle.region.specs.Regions.{blockOf, firstBlock, lastBlock, bottomOf, partIn, linesOf as lineCount, Accepted}
+use Rattle.region.specs.declared.Rect.{Rect}
+use Rattle.region.proofs.RegionLaws.{InColumns, one-block, row-inside}
+use Rattle.block.specs.Blocks.{State, lineAt, startState, readLines, linesOf, rowOf, columnOf, isShown, Shown, shownLines, IsWalked, ReadAll, CutAt, eitherOf}
+use Rattle.block.specs.Images.{formOf, bytesOf, basesOf, linesRead, readIn, lineOf, isDecoded, decodedSample, Pictured, orElse, answerOf}
+use Rattle.block.specs.declared.Form.{Form}
+use Rattle.block.specs.declared.Walked.{Walked}
+use Rattle.block.specs.declared.Decoded.{Decoded}
+use Rattle.block.specs.declared.Decoded.the-variants.{Done, Refused}
+use Rattle.block.proofs.RunLaws.{runs-stay}
+
+-- ---- how many lines are read
+
+module _ (F : Form) (bases s : List ℕ) where
+  -- after a truncated line no count of lines is read
+  stay-none : (t m : ℕ) → readLines F bases s t ≡ none → readLines F bases s (t + m) ≡ none
+  unfolding readLines
+  stay-none t m e = runs-stay (lineAt F bases s) (startState F bases) t m e
+
+  read-none : linesRead F bases s 0 ≡ 0
+  unfolding linesRead
+  read-none = refl
+
+  read-last : (n : ℕ) (z : State) → readLines F bases s (suc n) ≡ some z → linesRead F bases s (suc n) ≡ suc n
+  unfolding linesRead
+  read-last n z e = rw e
+
+  read-before : (n : ℕ) → readLines F bases s (suc n) ≡ none → linesRead F bases s (suc n) ≡ linesRead F bases s n
+  unfolding linesRead
+  read-before n e = rw e
+
+  -- all are read
+  all-read : (n : ℕ) (z : State) → readLines F bases s n ≡ some z → linesRead F bases s n ≡ n
+  all-read zero z e = read-none
+  all-read (suc n) z e = read-last n z e
+
+  -- or those before line m
+  some-read : (m : ℕ) (z : State) → readLines F bases s m ≡ some z → readLines F bases s (suc m) ≡ none
+      → (k : ℕ) → linesRead F bases s (m + k) ≡ m
+  some-read m z e cut zero = rw add-zero (all-read m z e)
+  some-read m z e cut (suc k) =
+      let f : suc m + k ≡ suc (m + k) = omega arith in
+      let fails : readLines F bases s (suc (m + k)) ≡ none = rw f at (stay-none (suc m) k cut) in
+      rw add-suc (read-before (m + k) fails ∙ some-read m z e cut k)
+
+  cut-lines : (m count : ℕ) (z : State) → suc m ≤ count → readLines F bases s m ≡ some z → readLines F bases s (suc m) ≡ none
+      → m ≡ linesRead F bases s count
+  cut-lines m count z l e cut =
+      let f : count ≡ m + (count - m) = omega arith in
+      rw f (sym (some-read m z e cut (count - m)))
+
+-- by what a walk answered
+lines-by : (F : Form) (bases s : List ℕ) (count : ℕ) (w : Walked) (ok : Bool) → eitherOf ok (ReadAll F bases s count w) (CutAt F bases s count w)
+    → cond ok count (w .line) ≡ linesRead F bases s count
+lines-by F bases s count w true p = sym (all-read F bases s count (p .end) (p .read))
+lines-by F bases s count w false p = cut-lines F bases s (w .line) count (p .before) (p .inside) (p .read) (p .cut)
+
+pub walked-lines : (F : Form) (bases s : List ℕ) (count : ℕ) (w : Walked) → IsWalked F bases s count w
+    → shownLines w count ≡ linesRead F bases s count
+walked-lines F bases s count w p = lines-by F bases s count w (w .ok) p
+
+-- ---- the answer
+
+pub answer-none : (d : List ℕ) (h : FujiHeader) (r : Rect) (b : ℕ) → b ≡ firstBlock r → Done ≡ answerOf d h r (b - firstBlock r)
+unfolding answerOf
+answer-none d h r b e = let f : b - firstBlock r ≡ 0 = omega arith in rw f
+
+-- a walk that was not cut read all lines, and one that was cut read fewer
+judged-by : (F : Form) (bases s : List ℕ) (count b : ℕ) (w : Walked) (ok : Bool) → eitherOf ok (ReadAll F bases s count w) (CutAt F bases s count w)
+    → cond ok Done (Refused (Truncated b (w .line)))
+    ≡ cond (ltb (linesRead F bases s count) count) (Refused (Truncated b (linesRead F bases s count))) Done
+judged-by F bases s count b w true p =
+    let e : linesRead F bases s count ≡ count = all-read F bases s count (p .end) (p .read) in
+    rw (e, le-ltb count count (omega arith))
+judged-by F bases s count b w false p =
+    let e : w .line ≡ linesRead F bases s count = lines-by F bases s count w false p in
+    rw (← e, lt-ltb (w .line) count (p .inside))
+
+answer-step : (d : List ℕ) (h : FujiHeader) (r : Rect) (n b : ℕ) → b ≡ firstBlock r + n → answerOf d h r (suc n)
+    ≡ orElse (answerOf d h r n) (cond (ltb (readIn d h r b) (lineCount r)) (Refused (Truncated b (readIn d h r b))) Done)
+unfolding answerOf
+answer-step d h r n b e = rw e
+
+pub answer-more : (d : List ℕ) (h : FujiHeader) (r : Rect) (b : ℕ) (w : Walked) (before after : Decoded) → firstBlock r ≤ b
+    → before ≡ answerOf d h r (b - firstBlock r) → IsWalked (formOf h) (basesOf d b) (bytesOf d b) (lineCount r) w
+    → after ≡ orElse before (cond (w .ok) Done (Refused (Truncated b (w .line)))) → after ≡ answerOf d h r (b + 1 - firstBlock r)
+answer-more d h r b w before after l e p f =
+    let n : b + 1 - firstBlock r ≡ suc (b - firstBlock r) = omega arith in
+    let j = judged-by (formOf h) (basesOf d b) (bytesOf d b) (lineCount r) b w (w .ok) p in
+    f ∙ rw (n, answer-step d h r (b - firstBlock r) b (omega arith), j, e)
+
+-- ---- tests
+
+-- two tests that follow from each other are the same
+same-test : (s t : Bool) → (s ≡ true → t ≡ true) → (t ≡ true → s ≡ true) → s ≡ t
+same-test true t f g = sym (f refl)
+same-test false true f g = g refl
+same-test false false f g = refl
+
+and-true : (s : Bool) → s && true ≡ s
+and-true true = refl
+and-true false = refl
+
+and-false : (s : Bool) → s && false ≡ false
+and-false true = refl
+and-false false = refl
+
+and-swap : (s t : Bool) → s && t ≡ t && s
+and-swap true t = sym (and-true t)
+and-swap false t = sym (and-false t)
+
+-- ---- which entries are decoded
+
+module _ (d : List ℕ) (h : FujiHeader) (r : Rect) (i : ℕ) where
+  -- none of a block that does not stand below e
+  not-decoded : (e : ℕ) → e ≤ blockOf r i → isDecoded d h r e i ≡ false
+  unfolding isDecoded
+  not-decoded e l = rw (le-ltb (blockOf r i) e l, and-false (ltb i (r .width * r .height)))
+
+  -- the others by their place and their line
+  is-decoded : (e : ℕ) → blockOf r i < e
+      → isDecoded d h r e i ≡ ltb i (r .width * r .height) && ltb (lineOf r i) (readIn d h r (blockOf r i))
+  unfolding isDecoded
+  is-decoded e l = rw (lt-ltb (blockOf r i) e l, and-true (ltb i (r .width * r .height)))
+
+pub pictured-none : (d : List ℕ) (h : FujiHeader) (r : Rect) (tile : List ℕ) (b : ℕ) (image : List ℕ) → b ≡ firstBlock r
+    → Pictured d h r tile b image image
+pictured-none d h r tile b image e = record { kept = refl; entries = λ i. rw (not-decoded d h r i b (omega arith)) }
+
+-- ---- which entries a part shows
+
+-- none outside its columns
+shown-outside : (a : Part) (n i : ℕ) → (InColumns a i → ⊥) → isShown a n i ≡ false
+unfolding isShown
+shown-outside a n i other =
+    let rows = ltb (rowOf a i) (6 * n) && ltb (rowOf a i) (a .bottom) in
+    by-test (leb (a .start) (columnOf a i))
+    (λ t. by-test (ltb (columnOf a i) (a .start + (a .right - a .left)))
+    (λ u. absurd (other (leb-true _ _ t, ltb-true _ _ u)))
+    (λ u. rw (u, and-false (rows && leb (a .start) (columnOf a i)))))
+    (λ t. rw (t, and-false rows))
+
+-- and those inside by their row
+shown-inside : (a : Part) (n i : ℕ) → InColumns a i → isShown a n i ≡ ltb (rowOf a i) (6 * n) && ltb (rowOf a i) (a .bottom)
+unfolding isShown
+shown-inside a n i c =
+    let rows = ltb (rowOf a i) (6 * n) && ltb (rowOf a i) (a .bottom) in
+    rw (le-leb _ _ (c .0), lt-ltb _ _ (c .1), and-true rows, and-true rows)
+
+-- a row is one of the first n lines exactly if its line is
+row-line : (row n : ℕ) → ltb row (6 * n) ≡ ltb (row / 6) n
+row-line row n =
+    same-test (ltb row (6 * n)) (ltb (row / 6) n)
+    (λ t. lt-ltb (row / 6) n (let l = ltb-true row (6 * n) t in omega arith))
+    (λ t. lt-ltb row (6 * n) (let l = ltb-true (row / 6) n t in omega arith))
+
+part-row : (r : Rect) (b i : ℕ) → rowOf (partIn r b) i ≡ r .y + i / r .width
+unfolding partIn
+part-row r b i = refl
+
+part-bottom : (r : Rect) (b : ℕ) → partIn r b .bottom ≡ bottomOf r
+unfolding partIn
+part-bottom r b = refl
+
+-- ---- the image, with one block more
+
+module _ (d : List ℕ) (h : FujiHeader) (r : Rect) (n i : ℕ) (ok : Accepted h r n) where
+  -- the rows of the region are those of the entries below width·height
+  row-place : ltb (r .y + i / r .width) (bottomOf r) ≡ ltb i (r .width * r .height)
+  row-place =
+      let e = row-inside h r n ok i in
+      same-test (ltb (r .y + i / r .width) (bottomOf r)) (ltb i (r .width * r .height))
+      (λ t. lt-ltb _ _ (e .0 (ltb-true _ _ t)))
+      (λ t. lt-ltb _ _ (e .1 (ltb-true _ _ t)))
+
+  -- an entry of block b is shown by its part exactly if it is decoded
+  of-block : (b : ℕ) → blockOf r i ≡ b → isShown (partIn r b) (readIn d h r b) i ≡ isDecoded d h r (b + 1) i
+  of-block b e =
+      shown-inside (partIn r b) (readIn d h r b) i (one-block h r n ok b i .1 (sym e))
+      ∙ rw (part-row r b i, part-bottom r b, row-place, row-line (r .y + i / r .width) (readIn d h r b))
+      (and-swap (ltb (lineOf r i) (readIn d h r b)) (ltb i (r .width * r .height)) ∙ sym (rw e at (is-decoded d h r i (b + 1) (omega arith))))
+
+  -- and an entry of another block is not shown
+  of-other : (b m : ℕ) → (blockOf r i ≡ b → ⊥) → isShown (partIn r b) m i ≡ false
+  of-other b m other = shown-outside (partIn r b) m i (λ c. other (sym (one-block h r n ok b i .0 c)))
+
+  other-decoded : (b : ℕ) → (blockOf r i ≡ b → ⊥) → isDecoded d h r (b + 1) i ≡ isDecoded d h r b i
+  other-decoded b other =
+      by-test (ltb (blockOf r i) b)
+      (λ t. let l = ltb-true _ _ t in is-decoded d h r i (b + 1) (omega arith) ∙ sym (is-decoded d h r i b l))
+      (λ t.
+      let l = ltb-false _ _ t in
+      let m : b + 1 ≤ blockOf r i = omega (arith, other) in
+      not-decoded d h r i (b + 1) m ∙ sym (not-decoded d h r i b l))
+
+module _ (d : List ℕ) (h : FujiHeader) (r : Rect) (tile : List ℕ) (b : ℕ) where
+  -- the sample that the part of block b shows
+  abbrev sample : ℕ → ℕ
+  sample i =
+      emittedSample (h .xtrans) (widthOf (h .xtrans)) tile
+      (linesOf (readLines (formOf h) (basesOf d b) (bytesOf d b) (suc (rowOf (partIn r b) i / 6)))) (partIn r b) i
+
+  same-sample : (i : ℕ) → blockOf r i ≡ b → sample i ≡ decodedSample d h r tile i
+  unfolding decodedSample
+  same-sample i e = rw (part-row r b i, e)
+
+  module _ (n : ℕ) (x y z : List ℕ) (ok : Accepted h r n) (done : Pictured d h r tile b x y)
+      (shown : Shown (formOf h) (basesOf d b) (bytesOf d b) tile (partIn r b) (readIn d h r b) y z) where
+    entry : (i : ℕ) → getD z i 0 ≡ cond (isDecoded d h r (b + 1) i) (decodedSample d h r tile i) (getD x i 0)
+    entry i =
+        by-test (eqb (blockOf r i) b)
+        (λ t.
+        let e : blockOf r i ≡ b = eqb-true _ _ t in
+        shown .entries i ∙ rw (of-block d h r n i ok b e, same-sample i e, done .entries i, not-decoded d h r i b (omega arith)))
+        (λ t.
+        let other = eqb-false (blockOf r i) b t in
+        shown .entries i ∙ rw (of-other d h r n i ok b (readIn d h r b) other, done .entries i, other-decoded d h r n i ok b other))
+
+    one-more : Pictured d h r tile (b + 1) x z
+    one-more = record { kept = shown .kept ∙ done .kept; entries = entry }
+
+pub pictured-more : (d : List ℕ) (h : FujiHeader) (r : Rect) (tile : List ℕ) (n b : ℕ) (a : Part) (w : Walked) (x y z : List ℕ)
+    → Accepted h r n → firstBlock r ≤ b → b ≤ lastBlock r → a ≡ partIn r b
+    → IsWalked (formOf h) (basesOf d b) (bytesOf d b) (lineCount r) w → Pictured d h r tile b x y
+    → Shown (formOf h) (basesOf d b) (bytesOf d b) tile a (shownLines w (lineCount r)) y z → Pictured d h r tile (b + 1) x z
+pictured-more d h r tile n b a w x y z ok l u e p done shown =
+    let m = walked-lines (formOf h) (basesOf d b) (bytesOf d b) (lineCount r) w p in
+    one-more d h r tile b n x y z ok done (rw (e, m) at shown)
