@@ -92,7 +92,7 @@ def twin_own(f):
             out.append(m["head"] + "\n{\n" + dummy(m) + "\n}\n")
     uses = "".join(re.findall(r"^use [^\n]*\n", src, flags=re.M))
     uses = re.sub(r"\b" + S + r", ?", "", uses)
-    structs = "".join(re.findall(r"^pub struct \w+ \{\n.*?^\}\n", src, flags=re.S | re.M))
+    structs = "".join(re.findall(r"^pub (?:struct|enum) \w+ \{\n.*?^\}\n", src, flags=re.S | re.M))
     text = structs + "\n".join(out)
     return trivial(uses + re.sub(r"\b" + S + r"\b", ARR, text))
 

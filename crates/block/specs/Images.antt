@@ -137,3 +137,10 @@ Left d r tile (reading h) image lines rs image' lines' rs' answer =
     let W = widthOf (h .xtrans) in
     (answer ≡ answerOf d h r (lastBlock r + 1 - firstBlock r)) × Pictured d h r tile (lastBlock r + 1) image image'
     × (lines' ≡ zeroLines W ++ drop (18 * (W + 2)) lines) × (rs' ≡ clearRecords ++ drop 336 rs)
+
+-- the same without scratch, for a call that has its own
+abbrev pub LeftImage : List ℕ → Rect → List ℕ → Beginning → (image image' : List ℕ) → Decoded → Type 0
+LeftImage d r tile (refused x) image image' answer = (answer ≡ Refused x) × (image' ≡ image)
+LeftImage d r tile nothing image image' answer = (answer ≡ Done) × (image' ≡ image)
+LeftImage d r tile (reading h) image image' answer =
+    (answer ≡ answerOf d h r (lastBlock r + 1 - firstBlock r)) × Pictured d h r tile (lastBlock r + 1) image image'

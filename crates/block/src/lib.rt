@@ -10,7 +10,7 @@ ghost use Rattle.map.specs.Places.{widthOf, ArePlaces, Fits};
 ghost use Rattle.pass.specs.Readings.{noRecord, recordsOf, SetInRange, quantisersOf, Depth};
 ghost use Rattle.block.specs.Records.{startRecord, startRecords, restartedMain, baseOf, isRestarted, setOf, putSet, clearRecords};
 ghost use Rattle.block.specs.Blocks.{AllInRange, readLine, IsLined, Shown, shownLines, IsWalked};
-ghost use Rattle.block.specs.Images.{Pictured, orElse, answerOf, withScratch, withRegion, regionBegins, wholeOf, isWhole, withSize, imageBegins, Left};
+ghost use Rattle.block.specs.Images.{Pictured, orElse, answerOf, withScratch, withRegion, regionBegins, wholeOf, isWhole, withSize, imageBegins, Left, LeftImage};
 ghost use Rattle.block.specs.declared.Decoded.the-variants.{Done, Refused};
 ghost use Rattle.stream.specs.Streams.{openOf};
 ghost use Rattle.stream.specs.declared.Parsed.the-variants.{Header};
@@ -640,4 +640,14 @@ pub fn decode(
         Parsed::Refused(x) => Decoded::Refused(x),
         Parsed::Header(h) => decode_whole(d, h, width, height, tile, image, lines, rs),
     }
+}
+
+// twin: Decoded::Done
+// `decode_region` with scratch of its own, for whoever has none to lend.
+pub fn decode_region_alone(d: &[u8], r: Rect, tile: [u8; 36], image: &mut [u16]) -> Decoded
+    ensures { λ a. ⌜ LeftImage (now (d .entry)) r tile (regionBegins (now (d .entry)) r (length (now (image .entry))) 9252 336) (now (image .entry)) (now (image .exit)) a ⌝ }
+{
+    let mut lines = [0u16; 9252];
+    let mut rs = [cleared(); 336];
+    decode_region(d, r, tile, image, &mut lines, &mut rs)
 }
