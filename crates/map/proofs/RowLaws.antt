@@ -75,11 +75,15 @@ unfolding sampleIndex AreStarts
 index-by xtrans W tile starts r q S = rw (S (q % 6) (mod-lt q (lit< tt)))
 
 -- where the sample of column q is read
-pub index-lt : (xtrans : Bool) (W : ℕ) (tile starts : List ℕ) (r q x : ℕ) → AreStarts tile r (W + 2) starts → W ≡ widthOf xtrans → r < 6 → q < 768 → x ≡ placeIn xtrans q
-    → getD starts (q % 6) 0 + x < 18 * (W + 2)
-index-lt xtrans W tile starts r q x S e hr hq ex =
+pub index-lt : (xtrans : Bool) (W : ℕ) (tile starts : List ℕ) (r q x c : ℕ) → c ≡ q % 6 → AreStarts tile r (W + 2) starts → W ≡ widthOf xtrans → r < 6 → q < 768 → x ≡ placeIn xtrans q
+    → getD starts c 0 + x < 18 * (W + 2)
+index-lt xtrans W tile starts r q x c ec S e hr hq ex =
     let i : sampleIndex xtrans W tile r q < 18 * (W + 2) = rw e (sample-inside xtrans tile r q hr hq) in
-    rw (ex, index-by xtrans W tile starts r q S) i
+    rw (ec, ex, index-by xtrans W tile starts r q S) i
+
+-- the next column of the tile
+pub column-next : (q : ℕ) → (q % 6 + 1) % 6 ≡ (q + 1) % 6
+column-next q = omega arith
 
 pub row-emitted : (xtrans : Bool) (W : ℕ) (tile lines starts : List ℕ) (r left right at : ℕ) (before after : List ℕ) → AreStarts tile r (W + 2) starts
     → Stored (sampleBy lines starts xtrans) left right at before after → RowEmitted xtrans W tile lines r left right at before after

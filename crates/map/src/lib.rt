@@ -1,6 +1,6 @@
 // From colour lines to the image.
 ghost use mathlib.Core.Path.{_≡_};
-ghost use Prim.Native.Nat.{_+_, _-_, _*_, _^_, _≤_, _<_};
+ghost use Prim.Native.Nat.{_+_, _-_, _*_, _%_, _^_, _≤_, _<_};
 ghost use lib.ListN.{length};
 ghost use Rattle.map.specs.Places.{widthOf, ArePlaces, placeIn, colourLine, emittedSample, RowEmitted, Emitted, Fits};
 ghost use Rattle.map.specs.Rows.{AreStarts, RowsPut};
@@ -848,6 +848,14 @@ fn starts_of(tile: [u8; 36], r: usize, s: usize) -> [usize; 6]
     ]
 }
 
+// The column of the tile after c, counted on where a division by 6 would cost more than all else.
+fn next_column(c: usize) -> usize
+    requires { ⌜ c < 6 ⌝ }
+    ensures { λ r. ⌜ r ≡ (c + 1) % 6 ⌝ }
+{
+    if c == 5 { 0 } else { c + 1 }
+}
+
 // Row r of a line, in the columns left to right of the block, to the image from `at` on.
 fn emit_row(
     lines: &[u16],
@@ -867,9 +875,11 @@ fn emit_row(
     ensures { λ _. ⌜ RowEmitted xtrans w tile (now (lines .entry)) r left right at (now (image .entry)) (now (image .exit)) ⌝ }
 {
     let starts = starts_of(tile, r, w + 2);
+    let mut column = left % 6;
     let mut p = left;
     while p < right {
-        image[at + (p - left)] = lines[starts[p % 6] + place_in(xtrans, places, p)];
+        image[at + (p - left)] = lines[starts[column] + place_in(xtrans, places, p)];
+        column = next_column(column);
         p += 1;
     }
 }
