@@ -46,8 +46,7 @@ shared-slice-read-image c =
 
 loop-again : tie.Need-loop-again Inv-loop μ-loop
 loop-again c =
-    let l = c .before .before .before .before .loop in
-    (
+    let l = c .before .before .before .before .loop in (
       search needs,
       search needs,
       stored-more _ _ _ _ _ _ _ (l .inv .2) (l .inv .0) (search needs) (rw (c .before .before .place-in .ensures, l .inv .3)),

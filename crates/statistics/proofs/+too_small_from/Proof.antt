@@ -56,4 +56,5 @@ pub +too-small-from-spec : {M : Type 1} → statement M
     (λ c. search needs)
     (λ c. (
       rw (c .before .flag .ensures .0) (too-small _ _ _ (c .too-small-from .result) (c .before .before .before .is-enough .result) (sym (c .before .before .before .is-enough .ensures)) (search needs) (c .too-small-from .ensures .0)),
-      search needs))
+      search needs,
+    ))
