@@ -1,0 +1,4 @@
+-- Laws about writing, and how it goes with reading.
+pub mod WriteLaws
+pub mod LosslessLaws
+pub mod StepTwins
