@@ -2,3 +2,4 @@
 pub mod WriteLaws
 pub mod LosslessLaws
 pub mod StepTwins
+pub mod PassTwins
