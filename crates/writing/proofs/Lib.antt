@@ -2,4 +2,6 @@
 pub mod WriteLaws
 pub mod LosslessLaws
 pub mod StepTwins
+pub mod ListTwins
+pub mod OrderLaws
 pub mod PassTwins
