@@ -5,3 +5,4 @@ pub mod StepTwins
 pub mod ListTwins
 pub mod OrderLaws
 pub mod PassTwins
+pub mod SetLaws
