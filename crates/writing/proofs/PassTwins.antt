@@ -20,19 +20,19 @@ use Rattle.writing.proofs.OrderLaws.{place-is, pass-all, all-pass, pass
 abbrev pub Holds : ℕ → List ℕ → ℕ → List ℕ → ℕ → Type 0
 Holds W t n lines l = (p : ℕ) → p < W → getD lines (l * (W + 2) + p + 1) 0 ≡ getD t (indexIn W n l p) 0
 
+-- lines of other passes are left as they are
+pub pass-leaves : (bits W : ℕ) (s : List ℕ) (P : Plan) (r z : Reading) (l p : ℕ) → W % 2 ≡ 0 → p < W → l ≢ P .first → l ≢ P .second → readPass bits 0 W s P r ≡ some z
+    → getD (z .lines) (l * (W + 2) + p + 1) 0 ≡ getD (r .lines) (l * (W + 2) + p + 1) 0
+unfolding readPass
+pass-leaves bits W s P r z l p even h a b e =
+    steps-leave bits 0 W s (l * (W + 2) + p + 1) (passSteps W P) r z
+    (pass-all W P even (λ m q. l * (W + 2) + p + 1 ≢ m * (W + 2) + q + 1)
+    (λ q k. (λ f. a (place-is W l p (P .first) q h k f .0), λ f. b (place-is W l p (P .second) q h k f .0)))) e
+
 module _ (bits W : ℕ) (s t : List ℕ) (n : ℕ) (low : 1 ≤ bits) (high : bits ≤ 16) (Q : Lossless bits) (P : Plan) (even : W % 2 ≡ 0) (in-range : PlanInRange P)
     (two : P .first ≢ P .second) (r : Reading) where
   in-lines : All (InLines W) (passSteps W P)
   in-lines = pass-all W P even (λ l p. (l ≤ 17) × (p < W)) (λ p h. ((in-range .1, h), (in-range .3, h)))
-
-  -- other lines are left as they are
-  pub pass-leaves : (z : Reading) (l p : ℕ) → p < W → l ≢ P .first → l ≢ P .second → readPass bits 0 W s P r ≡ some z
-      → getD (z .lines) (l * (W + 2) + p + 1) 0 ≡ getD (r .lines) (l * (W + 2) + p + 1) 0
-  unfolding readPass
-  pass-leaves z l p h a b e =
-      steps-leave bits 0 W s (l * (W + 2) + p + 1) (passSteps W P) r z
-      (pass-all W P even (λ m q. l * (W + 2) + p + 1 ≢ m * (W + 2) + q + 1)
-      (λ q k. (λ f. a (place-is W l p (P .first) q h k f .0), λ f. b (place-is W l p (P .second) q h k f .0)))) e
 
   pub record PassTwin (z : Reading) : Type 0 where
     pub read : readPass bits 0 W s P r ≡ some z

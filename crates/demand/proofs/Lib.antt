@@ -1,0 +1,5 @@
+-- The proof of demand 3.
+pub mod PlanLaws
+pub mod PassTwins
+pub mod LineTwins
+pub mod BlockTwins
