@@ -1,4 +1,5 @@
 -- A block, read and written. Assumes nothing.
+use mathlib.Core.Bool.{true}
 use mathlib.Core.List.{List, []}
 use mathlib.Core.Option.{Option, none, some}
 use mathlib.Core.Path.{_≡_, refl, sym, ap, _∙_}
@@ -11,7 +12,7 @@ use Rattle.quantiser.specs.Quantisers.{largest}
 use Rattle.pass.specs.Readings.{andThen}
 use Rattle.map.specs.Places.{widthOf}
 use Rattle.writing.proofs.StepTwins.{starts-cut}
-use Rattle.block.specs.Blocks.{State, runs, lineAt, startState, readLines, linesOf}
+use Rattle.block.specs.Blocks.{State, runs, lineAt, startState, readLines, linesOf, isTightState}
 use Rattle.block.specs.WrittenBlocks.{WriteState, repeats, writeLine, startWriting, writeLines}
 use Rattle.block.specs.declared.Form.{Form}
 use Rattle.block.proofs.RunLaws.{runs-keep}
@@ -90,13 +91,26 @@ module _ (F : Form) (low : 1 ≤ F .bits) (high : F .bits ≤ 16) (s t : List �
       let line = line-forward F low high s t n range y (lines-sound n y (A .read)) (A .clean) (rw (A .same) at after) in
       (line .0, one-more n y (line .0) A (line .1))
 
+  -- what was written up to a state, and that every state before it was tight
+  pub record LinesWritten (n : ℕ) (z : State) : Type 0 where
+    pub same : writeLines F t n ≡ writeStateOf s z
+    pub tight : (m : ℕ) → m ≤ n → isTightState (readLines F [] s m) ≡ true
+
   -- where n lines were read, their bits stand
-  pub lines-backward : (n : ℕ) (z : State) → readLines F [] s n ≡ some z → CleanState s z → LinesHold n → writeLines F t n ≡ writeStateOf s z
+  pub lines-backward : (n : ℕ) (z : State) → readLines F [] s n ≡ some z → CleanState s z → LinesHold n → LinesWritten n z
   unfolding readLines writeLines runs repeats start
-  lines-backward zero z e clean holds = let is : start ≡ z = cc in start-same ∙ ap (writeStateOf s) is
+  lines-backward zero z e clean holds =
+      let is : start ≡ z = cc in
+      record { same = start-same ∙ ap (writeStateOf s) is; tight = λ m h. let f : m ≡ 0 = omega arith in rw (f, e) (clean .tight) }
   lines-backward (suc n) z e clean holds =
       let f = last-of (lineAt F [] s) n start z e in
       let y : State = f .0 in
       let read : readLines F [] s (suc n) ≡ some z = e in
       let T : LineWritten F low high s t n y z = line-backward F low high s t n y z (lines-sound n y (f .1)) (f .2) clean (rw read at (holds n (omega arith))) in
-      rw (lines-backward n y (f .1) (T .clean) (λ m h. holds m (omega arith))) (T .same)
+      let A : LinesWritten n y = lines-backward n y (f .1) (T .clean) (λ m h. holds m (omega arith)) in
+      record {
+        same = rw (A .same) (T .same);
+        tight = λ m h. split (suc n) m
+            (λ k. let g : m ≡ suc n = omega arith in rw (g, read) (clean .tight))
+            (λ k. A .tight m (omega arith));
+      }

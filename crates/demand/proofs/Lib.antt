@@ -3,3 +3,6 @@ pub mod PlanLaws
 pub mod PassTwins
 pub mod LineTwins
 pub mod BlockTwins
+pub mod BlockLaws
+pub mod AnswerLaws
+pub mod DemandHolds
