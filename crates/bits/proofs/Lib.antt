@@ -2,3 +2,4 @@
 pub mod BitLaws
 pub mod RunLaws
 pub mod ListLaws
+pub mod PackLaws
