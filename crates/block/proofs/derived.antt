@@ -10,6 +10,10 @@ pub mod fetch
 pub mod line
 pub mod load_set
 pub mod read_lines
+pub mod read_tight
+pub mod read_tight_block
+pub mod read_tight_in
+pub mod read_tight_opened
 pub mod restart
 pub mod restart_main
 pub mod start_records

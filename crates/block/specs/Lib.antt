@@ -4,3 +4,4 @@ pub mod Blocks
 pub mod Images
 pub mod TightBlocks
 pub mod WrittenBlocks
+pub mod TightReadings
