@@ -2,3 +2,5 @@
 pub mod BitLaws
 pub mod RunLaws
 pub mod ListLaws
+pub mod PumpOwns
+pub mod PumpPeeks
