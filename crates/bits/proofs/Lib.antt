@@ -2,5 +2,6 @@
 pub mod BitLaws
 pub mod RunLaws
 pub mod ListLaws
+pub mod PackLaws
 pub mod PumpOwns
 pub mod PumpPeeks

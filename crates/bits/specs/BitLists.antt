@@ -1,8 +1,9 @@
 -- Bits as a list, in the order in which they are read: the view in which a tight block is described. Assumes nothing.
-use mathlib.Core.Bool.{Bool}
+use mathlib.Core.Bool.{Bool, cond}
 use mathlib.Core.List.{List, [], _∷_, _++_}
-use Prim.Native.Nat.{ℕ, zero, suc, _/_, _%_, _^_}
+use Prim.Native.Nat.{ℕ, zero, suc, _+_, _/_, _%_, _^_}
 use lib.Dec.{eqb}
+use lib.ListN.{length, drop}
 
 -- the k binary digits of n, most significant first
 unfoldable pub binary : ℕ → ℕ → List Bool
@@ -13,3 +14,21 @@ binary (suc k) n = eqb (n / 2 ^ k % 2) 1 ∷ binary k (n % 2 ^ k)
 unfoldable pub bitsOf : List ℕ → List Bool
 bitsOf [] = []
 bitsOf (x ∷ xs) = binary 8 x ++ bitsOf xs
+
+-- the number that the first k bits of a list make, zeros after its end
+unfoldable pub numberOf : ℕ → List Bool → ℕ
+numberOf zero l = 0
+numberOf (suc k) [] = 0
+numberOf (suc k) (b ∷ l) = cond b (2 ^ k) 0 + numberOf k l
+
+-- n bytes made of bits, zeros after their end
+unfoldable pub packed : ℕ → List Bool → List ℕ
+packed zero l = []
+packed (suc n) l = numberOf 8 l ∷ packed n (drop 8 l)
+
+-- the bytes of bits: as many as they need, with zeros in the last one's spare bits
+abbrev pub bytesFor : ℕ → ℕ
+bytesFor n = (n + 7) / 8
+
+unfoldable pub bytesOf : List Bool → List ℕ
+bytesOf l = packed (bytesFor (length l)) l

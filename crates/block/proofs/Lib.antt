@@ -8,5 +8,6 @@ pub mod RunLaws
 pub mod LineLaws
 pub mod BlockLaws
 pub mod SampleLaws
+pub mod WrittenLaws
 pub mod DecodeLaws
 pub mod ImageLaws

@@ -23,7 +23,7 @@ use Rattle.block.proofs.RunLaws.{then-keeps, runs-keep}
 
 -- ---- lists of numbers that are at most m
 
-zeros-le : (m n : ℕ) → AllLe m (replicate n 0)
+pub zeros-le : (m n : ℕ) → AllLe m (replicate n 0)
 zeros-le m zero j = omega arith
 zeros-le m (suc n) zero = omega arith
 zeros-le m (suc n) (suc j) = zeros-le m n j
@@ -54,7 +54,7 @@ paste-le m l at s n hl hs =
 
 -- ---- colour lines whose samples, guards too, are at most m
 
-guarded-le : (m W l : ℕ) (lines : List ℕ) → AllLe m lines → AllLe m (guarded W l lines)
+pub guarded-le : (m W l : ℕ) (lines : List ℕ) → AllLe m lines → AllLe m (guarded W l lines)
 unfolding guarded
 guarded-le m W l lines h =
     copied-le m (leftGuard W l lines) (l * (W + 2) + (W + 1)) ((l - 1) * (W + 2) + W) (copied-le m lines (l * (W + 2)) ((l - 1) * (W + 2) + 1) h)
@@ -63,7 +63,7 @@ moved-le : (m W from to : ℕ) (lines : List ℕ) → AllLe m lines → AllLe m 
 unfolding moved
 moved-le m W from to lines h = paste-le m lines (to * (W + 2)) (drop (from * (W + 2)) lines) (W + 2) h (drop-le m (from * (W + 2)) lines h)
 
-turned-le : (m W : ℕ) (lines : List ℕ) → AllLe m lines → AllLe m (turned W lines)
+pub turned-le : (m W : ℕ) (lines : List ℕ) → AllLe m lines → AllLe m (turned W lines)
 unfolding turned
 turned-le m W l h =
     moved-le m W 17 14 _ (moved-le m W 16 13 _ (moved-le m W 12 6 _ (moved-le m W 11 5 _ (moved-le m W 4 1 _ (moved-le m W 3 0 l h)))))

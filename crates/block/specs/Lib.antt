@@ -2,3 +2,5 @@
 pub mod Records
 pub mod Blocks
 pub mod Images
+pub mod TightBlocks
+pub mod WrittenBlocks

@@ -1,6 +1,6 @@
 -- The bits of tight codes: how many they are, that they are read back with anything after them, and that a tight code which is read stands
 -- there as its own bits. Assumes nothing.
-use mathlib.Core.Bool.{Bool, true, false, _&&_, false≢true}
+use mathlib.Core.Bool.{Bool, true, false, _&&_}
 use mathlib.Core.List.{List, _∷_, _++_, append-assoc}
 use mathlib.Core.Path.{_≡_, refl, sym, _∙_, subst}
 use Prim.Native.Nat.{ℕ, _+_, _-_, _*_, _/_, _%_, _^_, _≤_, _<_}
@@ -15,6 +15,7 @@ use Rattle.bits.specs.BitLists.{binary, bitsOf}
 use Rattle.bits.specs.declared.ZeroRun.the-variants.{One}
 use Rattle.bits.proofs.BitLaws.{bitsAt-lt}
 use Rattle.bits.proofs.ListLaws.{length-binary, run-there, run-after, run-bits, bits-there, bits-after, bits-next}
+use Rattle.numbers.proofs.BoolLaws.{both}
 use Rattle.numbers.proofs.OrderLaws.{split}
 use Rattle.code.specs.Codes.{shortCode, longCode, codeAt}
 use Rattle.code.specs.Tight.{runThen, codeBits, codeLength, isTight}
@@ -48,10 +49,6 @@ length-codeBits k limit raw c =
     split limit (c / 2 ^ k)
     (λ h. rw (bits-long k limit raw c h, long-length k limit raw c h) (length-run limit raw (c - 1)))
     (λ h. rw (bits-short k limit raw c h, short-length k limit raw c h) (length-run (c / 2 ^ k) k (c % 2 ^ k)))
-
-both : (a b : Bool) → (a && b) ≡ true → (a ≡ true) × (b ≡ true)
-both true b e = (refl, e)
-both false b e = absurd (false≢true e)
 
 -- a tight code is up to M
 pub tight-small : (M : ℕ) (x : Code) → isTight M x ≡ true → x .value ≤ M

@@ -26,6 +26,10 @@ pub line-le : (t r : ℕ) → r < 6 → colourLine t r ≤ 17
 unfolding colourLine
 line-le t r h = cond-le 17 (eqb t 0) _ _ (omega arith) (cond-le 17 (eqb t 2) _ _ (omega arith) (omega arith))
 
+-- and it ends inside the colour lines
+pub line-inside : (W t r : ℕ) → r < 6 → colourLine t r * (W + 2) + 1 + W ≤ 18 * (W + 2)
+line-inside W t r h = omega (arith, mul-le-mul-right (W + 2) (line-le t r h))
+
 -- a sample stands inside the colour lines
 pub sample-inside : (xtrans : Bool) (tile : List ℕ) (r p : ℕ) → r < 6 → p < 768 → sampleIndex xtrans (widthOf xtrans) tile r p < 18 * (widthOf xtrans + 2)
 unfolding sampleIndex

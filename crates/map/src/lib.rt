@@ -1,9 +1,9 @@
 // From colour lines to the image.
 ghost use mathlib.Core.Path.{_≡_};
-ghost use Prim.Native.Nat.{_+_, _-_, _*_, _^_, _≤_, _<_};
-ghost use lib.ListN.{length};
+ghost use Prim.Native.Nat.{_+_, _-_, _*_, _%_, _^_, _≤_, _<_};
+ghost use lib.ListN.{length, set};
 ghost use Rattle.map.specs.Places.{widthOf, ArePlaces, placeIn, colourLine, emittedSample, RowEmitted, Emitted, Fits};
-ghost use Rattle.map.specs.Rows.{AreStarts, RowsPut};
+ghost use Rattle.map.specs.Rows.{AreStarts, InLines, sampleBy, threePut, RowsPut};
 
 // The places of the 768 columns of an X-Trans block in their colour lines.
 const XTRANS_PLACES: [u16; 768] = [
@@ -848,6 +848,91 @@ fn starts_of(tile: [u8; 36], r: usize, s: usize) -> [usize; 6]
     ]
 }
 
+// The column of the tile after c, counted on: a division by 6 would cost more than all else.
+fn next_column(c: usize) -> usize
+    requires { ⌜ c < 6 ⌝ }
+    ensures { λ r. ⌜ r ≡ (c + 1) % 6 ⌝ }
+{
+    if c == 5 { 0 } else { c + 1 }
+}
+
+// The sample of column p of a block, by where the colour line of its column of the tile begins.
+fn sample_at(
+    lines: &[u16],
+    w: usize,
+    xtrans: bool,
+    places: &[u16; 768],
+    starts: &[usize; 6],
+    column: usize,
+    p: usize,
+) -> u16
+    requires { ⌜ (w ≡ widthOf xtrans) × ((18 * (w + 2) ≤ length (now lines)) × ArePlaces (now places)) ⌝ }
+    requires { ⌜ (column ≡ p % 6) × ((p < 768) × InLines w (now starts)) ⌝ }
+    ensures { λ r. ⌜ r ≡ sampleBy (now (lines .entry)) (now (starts .entry)) xtrans p ⌝ }
+{
+    lines[starts[column] + place_in(xtrans, places, p)]
+}
+
+// The sample of column p, to entry i of the image.
+fn emit_sample(
+    lines: &[u16],
+    image: &mut [u16],
+    i: usize,
+    w: usize,
+    xtrans: bool,
+    places: &[u16; 768],
+    starts: &[usize; 6],
+    column: usize,
+    p: usize,
+)
+    requires { ⌜ (w ≡ widthOf xtrans) × ((18 * (w + 2) ≤ length (now lines)) × ArePlaces (now places)) ⌝ }
+    requires { ⌜ (column ≡ p % 6) × ((p < 768) × ((i < length (now image)) × InLines w (now starts))) ⌝ }
+    ensures { λ _. ⌜ (now (image .exit) ≡ set (now (image .entry)) i (sampleBy (now (lines .entry)) (now (starts .entry)) xtrans p)) × (length (now (image .exit)) ≡ length (now (image .entry))) ⌝ }
+{
+    image[i] = sample_at(lines, w, xtrans, places, starts, column, p);
+}
+
+// The samples of three columns, to the image from i on.
+fn emit_three(
+    lines: &[u16],
+    image: &mut [u16],
+    i: usize,
+    w: usize,
+    xtrans: bool,
+    places: &[u16; 768],
+    starts: &[usize; 6],
+    column: usize,
+    p: usize,
+)
+    requires { ⌜ (w ≡ widthOf xtrans) × ((18 * (w + 2) ≤ length (now lines)) × ArePlaces (now places)) ⌝ }
+    requires { ⌜ (column ≡ p % 6) × ((column + 3 ≤ 6) × ((p + 3 ≤ 768) × ((i + 3 ≤ length (now image)) × InLines w (now starts)))) ⌝ }
+    ensures { λ _. ⌜ (now (image .exit) ≡ threePut (sampleBy (now (lines .entry)) (now (starts .entry)) xtrans) i p (now (image .entry))) × (length (now (image .exit)) ≡ length (now (image .entry))) ⌝ }
+{
+    emit_sample(lines, image, i, w, xtrans, places, starts, column, p);
+    emit_sample(
+        lines,
+        image,
+        i + 1,
+        w,
+        xtrans,
+        places,
+        starts,
+        column + 1,
+        p + 1,
+    );
+    emit_sample(
+        lines,
+        image,
+        i + 2,
+        w,
+        xtrans,
+        places,
+        starts,
+        column + 2,
+        p + 2,
+    );
+}
+
 // Row r of a line, in the columns left to right of the block, to the image from `at` on.
 fn emit_row(
     lines: &[u16],
@@ -867,10 +952,19 @@ fn emit_row(
     ensures { λ _. ⌜ RowEmitted xtrans w tile (now (lines .entry)) r left right at (now (image .entry)) (now (image .exit)) ⌝ }
 {
     let starts = starts_of(tile, r, w + 2);
+    let mut column = left % 6;
     let mut p = left;
     while p < right {
-        image[at + (p - left)] = lines[starts[p % 6] + place_in(xtrans, places, p)];
-        p += 1;
+        let i = at + (p - left);
+        if (column == 0) & (p + 6 <= right) {
+            emit_three(lines, image, i, w, xtrans, places, &starts, 0, p);
+            emit_three(lines, image, i + 3, w, xtrans, places, &starts, 3, p + 3);
+            p += 6;
+        } else {
+            emit_sample(lines, image, i, w, xtrans, places, &starts, column, p);
+            column = next_column(column);
+            p += 1;
+        }
     }
 }
 

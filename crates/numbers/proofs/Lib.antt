@@ -1,3 +1,4 @@
 -- Laws about the definitions of numbers, for the crates above.
 pub mod OrderLaws
 pub mod LeastLaws
+pub mod BoolLaws

@@ -5,6 +5,7 @@ use lib.Dec.{leb, ltb}
 use Rattle.numbers.specs.Numbers.{minus, up, down, leastFrom}
 use Rattle.numbers.specs.declared.Signed.{Signed}
 use Rattle.quantiser.specs.declared.Quantiser.{Quantiser}
+use Rattle.quantiser.specs.declared.Thresholds.{Thresholds}
 
 -- M, the largest sample
 abbrev pub largest : ℕ → ℕ
@@ -49,7 +50,11 @@ pub record Ranges (Q : Quantiser) : Type 0 where
 unfoldable pub startSum : Quantiser → ℕ
 startSum Q = max 2 ((Q .total + 32) / 64)
 
--- the size of the level of a difference of size m, by the thresholds q, 3q + 18, 5q + 67, 7q + 276
+-- the thresholds of base q: q, 3q + 18, 5q + 67, 7q + 276
+abbrev pub thresholdsOf : ℕ → Thresholds
+thresholdsOf q = record { base = q; second = 3 * q + 18; third = 5 * q + 67; fourth = 7 * q + 276 }
+
+-- the size of the level of a difference of size m by these thresholds
 unfoldable pub levelSize : ℕ → ℕ → ℕ
 levelSize q m =
     cond (leb m q) 0

@@ -3,7 +3,7 @@ ghost use mathlib.Core.Path.{_≡_};
 ghost use Prim.Native.Nat.{_+_, _-_, _*_, _^_, _≤_, _<_};
 ghost use lib.Dec.{leb};
 ghost use Rattle.numbers.specs.Numbers.{up, down, flag, leastFrom};
-ghost use Rattle.quantiser.specs.Quantisers.{largest, quantiserOf, mainOf, flatOf, Ranges, startSum, levelSize, levelOf, gradientOf};
+ghost use Rattle.quantiser.specs.Quantisers.{largest, quantiserOf, mainOf, flatOf, Ranges, startSum, thresholdsOf, levelSize, levelOf, gradientOf};
 use numbers::Signed;
 
 pub struct Quantiser {
@@ -75,6 +75,26 @@ impl Quantiser {
     }
 }
 
+// What the levels of a quantiser with that base go by. The first threshold is the base itself.
+pub struct Thresholds {
+    pub base: u32,
+    pub second: u32,
+    pub third: u32,
+    pub fourth: u32,
+}
+
+pub fn thresholds_of(base: u32) -> Thresholds
+    requires { ⌜ base < 256 ⌝ }
+    ensures { λ r. ⌜ r ≡ thresholdsOf base ⌝ }
+{
+    Thresholds {
+        base,
+        second: 3 * base + 18,
+        third: 5 * base + 67,
+        fourth: 7 * base + 276,
+    }
+}
+
 // 1 if m has reached the threshold, else 0.
 fn reached(threshold: u32, m: u32) -> u32
     ensures { λ r. ⌜ (r ≡ flag (leb threshold m)) × (r ≤ 1) ⌝ }
@@ -82,31 +102,36 @@ fn reached(threshold: u32, m: u32) -> u32
     numbers::flag(threshold <= m)
 }
 
-// The size of the level of a difference of size m: the thresholds that it has reached, counted without a branch.
-fn level_size(base: u32, m: u32) -> u32
-    requires { ⌜ base < 256 ⌝ }
-    ensures { λ r. ⌜ (r ≡ levelSize base m) × (r ≤ 4) ⌝ }
+// The size of the level of a difference of size m: the thresholds that it has reached, the first one passed, counted without a branch.
+fn level_size(t: Thresholds, m: u32) -> u32
+    requires { ⌜ (t .base < 256) × (t ≡ thresholdsOf (t .base)) ⌝ }
+    ensures { λ r. ⌜ (r ≡ levelSize (t .base) m) × (r ≤ 4) ⌝ }
 {
-    reached(base + 1, m)
-        + reached(3 * base + 18, m)
-        + reached(5 * base + 67, m)
-        + reached(7 * base + 276, m)
+    reached(t.base + 1, m) + reached(t.second, m) + reached(t.third, m) + reached(t.fourth, m)
 }
 
 // The level of a difference, plus 4, so that it is not negative.
-fn raised_level(base: u32, v: Signed) -> u32
-    requires { ⌜ base < 256 ⌝ }
-    ensures { λ r. ⌜ (r + down (levelOf base v) ≡ 4 + up (levelOf base v)) × (r ≤ 8) ⌝ }
+fn raised_level(t: Thresholds, v: Signed) -> u32
+    requires { ⌜ (t .base < 256) × (t ≡ thresholdsOf (t .base)) ⌝ }
+    ensures { λ r. ⌜ (r + down (levelOf (t .base) v) ≡ 4 + up (levelOf (t .base) v)) × (r ≤ 8) ⌝ }
 {
-    let size = level_size(base, v.size);
+    let size = level_size(t, v.size);
     if v.negative { 4 - size } else { 4 + size }
 }
 
-// The gradient. Both levels are raised by 4, so the sum is raised by 4 * weight + 4.
+// The gradient, for whoever has the thresholds at hand. Both levels are raised by 4, so the sum is raised by 4 * weight + 4.
+pub fn gradient_by(t: Thresholds, weight: u32, first: Signed, second: Signed) -> Signed
+    requires { ⌜ (t .base < 256) × ((t ≡ thresholdsOf (t .base)) × (weight ≤ 9)) ⌝ }
+    ensures { λ r. ⌜ (r ≡ gradientOf (t .base) weight first second) × (r .size ≤ 4 * weight + 4) ⌝ }
+{
+    let raised = weight * raised_level(t, first) + raised_level(t, second);
+    numbers::difference(raised, 4 * weight + 4)
+}
+
+// The gradient.
 pub fn gradient(base: u32, weight: u32, first: Signed, second: Signed) -> Signed
     requires { ⌜ (base < 256) × (weight ≤ 9) ⌝ }
     ensures { λ r. ⌜ (r ≡ gradientOf base weight first second) × (r .size ≤ 4 * weight + 4) ⌝ }
 {
-    let raised = weight * raised_level(base, first) + raised_level(base, second);
-    numbers::difference(raised, 4 * weight + 4)
+    gradient_by(thresholds_of(base), weight, first, second)
 }

@@ -1,13 +1,16 @@
 -- What k is, and the range that records keep. Assumes nothing.
-use mathlib.Core.Bool.{Bool, true, false, cond}
+use mathlib.Core.Bool.{Bool, true, false, cond, not}
 use mathlib.Core.Path.{_≡_, refl, subst}
-use Prim.Native.Nat.{ℕ, _+_, _*_, _/_, _^_, _≤_, _<_, max}
+use Prim.Native.Nat.{ℕ, _+_, _-_, _*_, _/_, _%_, _^_, _≤_, _<_, max}
+use native.Mathlib.Numerals.{add-one}
 use native.Mathlib.Omega.{arith}
-use native.Mathlib.Nat.{div-one}
+use native.Mathlib.Nat.{div-one, mul-pos, pow-succ'}
 use lib.Dec.{leb, eqb}
-use borrow.Author.Tests.{leb-true, leb-false, eqb-true, eqb-false}
+use lib.Pow.{shl-exact, pow-pos}
+use borrow.Author.Tests.{le-leb, lt-leb, leb-true, leb-false, eqb-true, eqb-false}
 use Rattle.numbers.specs.Numbers.{leastFrom, flag}
-use Rattle.numbers.proofs.LeastLaws.{least}
+use Rattle.numbers.proofs.LeastLaws.{least, least-here, least-next}
+use Rattle.numbers.proofs.OrderLaws.{split}
 use Rattle.statistics.specs.Statistics.{enough, kOf, updated, largestResidual, InRange}
 use Rattle.statistics.specs.declared.Record.{Record}
 
@@ -26,6 +29,36 @@ k-least t =
       before = λ j h. leb-false (max (t .sum) 1) (t .n * 2 ^ j) (L .before j (omega arith) h);
       holds = λ h. leb-true (max (t .sum) 1) (t .n * 2 ^ kOf t) (L .holds h);
     }
+
+-- the machine's shift loses nothing, and n·2^k reaches sum where it reaches max(sum, 1)
+pub shifted-enough : (sum n k : ℕ) → k < 15 → 1 ≤ n → n ≤ 64 → leb sum ((n * 2 ^ k) % 2 ^ 32) ≡ enough sum n k
+shifted-enough sum n k hk one most =
+    let e : (n * 2 ^ k) % 2 ^ 32 ≡ n * 2 ^ k = shl-exact {a = n} 7 k 32 (omega arith) (omega arith) in
+    let p : 0 < n * 2 ^ k = mul-pos one (pow-pos k) in
+    rw e
+    (split sum (n * 2 ^ k)
+    (λ h. rw (le-leb sum (n * 2 ^ k) h, le-leb (max sum 1) (n * 2 ^ k) (omega arith)))
+    (λ h. rw (lt-leb sum (n * 2 ^ k) h, lt-leb (max sum 1) (n * 2 ^ k) (omega arith))))
+
+-- what is enough at k is enough at k + 1
+pub enough-next : (sum n k : ℕ) → enough sum n k ≡ true → enough sum n (k + 1) ≡ true
+enough-next sum n k e =
+    let h : max sum 1 ≤ n * 2 ^ k = leb-true (max sum 1) (n * 2 ^ k) e in
+    let d : n * 2 ^ (k + 1) ≡ n * 2 ^ k + n * 2 ^ k = rw (add-one k, pow-succ' 2 k) (omega arith) in
+    le-leb (max sum 1) (n * 2 ^ (k + 1)) (omega arith)
+
+-- how many numbers are too small, from k on: k + 1 on tells, and whether k is enough
+pub too-small : (sum n k r : ℕ) (b : Bool) → enough sum n k ≡ b → k < 15 → r + (k + 1) ≡ leastFrom (15 - (k + 1)) (enough sum n) (k + 1)
+    → flag (not b) + r + k ≡ leastFrom (15 - k) (enough sum n) k
+too-small sum n k r true e lt h =
+    let f = least-here (15 - (k + 1)) (enough sum n) (k + 1) (enough-next sum n k e) in
+    let g = least-here (15 - k) (enough sum n) k e in
+    omega arith
+too-small sum n k r false e lt h =
+    let f : 15 - (k + 1) ≡ 15 - k - 1 = omega arith in
+    let g = least-next (15 - k) (enough sum n) k (omega arith) e in
+    let h' : r + (k + 1) ≡ leastFrom (15 - k - 1) (enough sum n) (k + 1) = rw f at h in
+    omega arith
 
 -- a start record, with a sum of at most 1024, is in range
 pub start-in-range : (s : ℕ) → s ≤ 1024 → InRange (record { sum = s; n = 1 })

@@ -10,18 +10,28 @@ pub struct Record {
     pub n: u32,
 }
 
-// The least number from k on, capped at 15, with n * 2^k >= sum. n is not 0, so that a sum of 0 counts as 1.
-fn k_from(sum: u32, n: u32, k: u32) -> u32
+// Whether n * 2^k reaches sum. n is not 0, so that a sum of 0 counts as 1.
+fn is_enough(sum: u32, n: u32, k: u32) -> bool
+    requires { ⌜ (k < 15) × ((1 ≤ n) × (n ≤ 64)) ⌝ }
+    ensures { λ r. ⌜ r ≡ enough sum n k ⌝ }
+{
+    sum <= n << k
+}
+
+// How many of the numbers from k to 14 are too small: k is tried, and then it calls itself on k + 1. Where the search ends cannot be foretold, so
+// that only every third number may end it; the numbers between are counted without a branch.
+fn too_small_from(sum: u32, n: u32, k: u32) -> u32
     requires { ⌜ (k ≤ 15) × ((1 ≤ n) × (n ≤ 64)) ⌝ }
-    ensures { λ r. ⌜ r ≡ leastFrom (15 - k) (enough sum n) k ⌝ }
+    ensures { λ r. ⌜ (r + k ≡ leastFrom (15 - k) (enough sum n) k) × (r + k ≤ 15) ⌝ }
 {
     if k == 15 {
-        return 15;
+        return 0;
     }
-    if sum <= n << k {
-        return k;
+    let enough = is_enough(sum, n, k);
+    if enough & (k % 3 == 0) {
+        return 0;
     }
-    k_from(sum, n, k + 1)
+    numbers::flag(!enough) + too_small_from(sum, n, k + 1)
 }
 
 impl Record {
@@ -30,7 +40,7 @@ impl Record {
         requires { ⌜ (1 ≤ self .n) × (self .n ≤ 64) ⌝ }
         ensures { λ r. ⌜ (r ≡ kOf self) × (r ≤ 15) ⌝ }
     {
-        k_from(self.sum, self.n, 0)
+        too_small_from(self.sum, self.n, 0)
     }
 
     // The record after a residual of that size. `halved` is 1 where both are to be halved, so that there is no branch.

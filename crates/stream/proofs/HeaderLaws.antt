@@ -1,5 +1,5 @@
 -- Which bytes parse, and what the rules give for a header that does. Assumes nothing.
-use mathlib.Core.Bool.{Bool, true, false, cond, _&&_, _||_, false≢true}
+use mathlib.Core.Bool.{Bool, true, false, cond, _&&_, _||_}
 use mathlib.Core.List.{List}
 use mathlib.Core.Path.{_≡_, refl}
 use Prim.Native.Nat.{ℕ, _-_, _/_, _%_, _≤_, _<_}
@@ -7,6 +7,7 @@ use native.Mathlib.Omega.{arith}
 use lib.Dec.{leb, ltb, eqb, lit≤}
 use lib.ListN.{length}
 use borrow.Author.Tests.{lt-ltb, le-ltb, ltb-false, leb-true, eqb-true}
+use Rattle.numbers.proofs.BoolLaws.{both}
 use Rattle.stream.specs.Headers.{byteAt, be16, headerOf, within, divides, kindRules, sizeRules, countRules, allRules, parseOf, Ruled}
 use Rattle.stream.specs.declared.FujiHeader.{FujiHeader}
 use Rattle.stream.specs.declared.Parsed.the-variants.{Header, Refused}
@@ -43,10 +44,6 @@ parsed d h = go (ltb (length d) 16) (allRules d) refl refl
     go false false l e g = absurd (let no : _≡_ {A = ℕ} 0 1 = cc in omega arith)
 
 -- each test of a chain that holds
-both : (a b : Bool) → (a && b) ≡ true → (a ≡ true) × (b ≡ true)
-both true b e = (refl, e)
-both false b e = absurd (false≢true e)
-
 four : (a b c d : Bool) → (a && b && c && d) ≡ true → (a ≡ true) × (b ≡ true) × (c ≡ true) × (d ≡ true)
 four a b c d e =
     let z = both (a && b && c) d e in

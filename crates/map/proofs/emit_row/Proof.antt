@@ -1,49 +1,83 @@
--- `map::emit_row` meets its contract. The invariant: the columns from left up to p are stored from `at` on; the measure: the columns left.
--- Assumes nothing.
+-- `map::emit_row` meets its contract. The invariant: the columns from left up to p are stored from `at` on, and `column` is p mod 6; the measure:
+-- the columns left. Assumes nothing.
 use borrow.Author.Needs.{needs}
-use mathlib.Core.Path.{_≡_}
-use Prim.Native.Nat.{_-_, _≤_}
+use mathlib.Core.Path.{_≡_, refl, _∙_}
+use Prim.Native.Nat.{_+_, _-_, _%_, _≤_}
 use native.Mathlib.Omega.{arith}
+use lib.Dec.{eqb, leb, lit≤}
+use borrow.Author.Tests.{eqb-true, leb-true}
+use Rattle.numbers.proofs.BoolLaws.{both}
+use Rattle.map.specs.Rows.{sampleBy}
 use Rattle.map.proofs.PlaceLaws.{width-le}
-use Rattle.map.proofs.RowLaws.{Stored, stored-none, stored-more, sampleBy, index-lt, row-emitted}
+use Rattle.map.proofs.RowLaws.{Stored, stored-none, stored-more, stored-three, starts-inside, column-next, row-emitted}
 use Rattle.map.proofs.emit_row.Statement.{statement}
 use Rattle.map.proofs.emit_row.Tie as tie
 
 abbrev Inv-loop : tie.InvT-loop
-Inv-loop lines image₀ at w xtrans places r left right starts p₀ image p =
-    (left ≤ p) × (p ≤ right) × Stored (sampleBy lines starts xtrans) left p at image₀ image
+Inv-loop lines image₀ at w xtrans places r left right starts column₀ p₀ image column p =
+    (left ≤ p) × (p ≤ right) × Stored (sampleBy lines starts xtrans) left p at image₀ image × (column ≡ p % 6)
 
 abbrev μ-loop : tie.MeasureT-loop
-μ-loop lines image₀ at w xtrans places r left right starts p₀ image p = right - p
+μ-loop lines image₀ at w xtrans places r left right starts column₀ p₀ image column p = right - p
 
 starts-of-requires : tie.Need-starts-of-requires Inv-loop μ-loop
 starts-of-requires c κs = (search needs, omega (arith, width-le (c .before .before .args .xtrans)))
 
 loop-holds : tie.Need-loop-holds Inv-loop μ-loop
-loop-holds c = (search needs, search needs, stored-none _ _ _ _)
+loop-holds c = (search needs, search needs, stored-none _ _ _ _, refl)
 
-add-image : tie.Need-add-image Inv-loop μ-loop
-add-image c =
-    let b = c .before .before .before in
-    let s = b .before .before .before in
-    omega (arith, index-lt _ _ _ _ _ (c .before .before .loop .p) _ (b .starts-of .ensures) (s .pre .0 .1 .0) (s .pre .0 .0) (omega arith) (c .place-in .ensures))
+emit-three-requires : tie.Need-emit-three-requires Inv-loop μ-loop
+emit-three-requires c κs =
+    let s = c .before .before .before .before .before .before .before .before in
+    let l = c .before .before .before .before .loop in
+    let t = both (eqb (l .column) 0) (leb (l .p + 6) (s .args .right)) (c .before .before .if1 .taken) in
+    let z = eqb-true (l .column) 0 (t .0) in
+    let y = leb-true (l .p + 6) (s .args .right) (t .1) in (
+      (s .pre .0 .1 .0, (search needs, search needs)),
+      (omega (arith, l .inv .3), (lit≤ tt, (omega arith, (omega (arith, l .inv .2 .kept), starts-inside (s .args .xtrans) (s .args .w) (s .args .tile) _ (s .args .r) (c .before .before .before .before .before .starts-of .ensures) (s .pre .0 .1 .0) (s .pre .0 .0))))),
+    )
 
-mul-image-2 : tie.Need-mul-image-2 Inv-loop μ-loop
-mul-image-2 c =
-    let b = c .before .before .before in
-    let s = b .before .before .before in
-    omega (arith, width-le (s .args .xtrans), index-lt _ _ _ _ _ (c .before .before .loop .p) _ (b .starts-of .ensures) (s .pre .0 .1 .0) (s .pre .0 .0) (omega arith) (c .place-in .ensures))
-
-shared-slice-read-image : tie.Need-shared-slice-read-image Inv-loop μ-loop
-shared-slice-read-image c =
-    let b = c .before .before .before .before in
-    let s = b .before .before .before in
-    omega (arith, index-lt _ _ _ _ _ (c .before .before .before .loop .p) _ (b .starts-of .ensures) (s .pre .0 .1 .0) (s .pre .0 .0) (omega arith) (c .before .place-in .ensures))
+emit-three-requires-2 : tie.Need-emit-three-requires-2 Inv-loop μ-loop
+emit-three-requires-2 c κs =
+    let s = c .before .before .before .before .before .before .before .before .before .before .before .before .before in
+    let l = c .before .before .before .before .before .before .before .before .before .loop in
+    let t = both (eqb (l .column) 0) (leb (l .p + 6) (s .args .right)) (c .before .before .before .before .before .before .before .if1 .taken) in
+    let z = eqb-true (l .column) 0 (t .0) in
+    let y = leb-true (l .p + 6) (s .args .right) (t .1) in (
+      (s .pre .0 .1 .0, (search needs, search needs)),
+      (omega (arith, l .inv .3), (lit≤ tt, (omega arith, (omega (arith, l .inv .2 .kept, c .before .before .before .before .emit-three .ensures .1), starts-inside (s .args .xtrans) (s .args .w) (s .args .tile) _ (s .args .r) (c .before .before .before .before .before .before .before .before .before .before .starts-of .ensures) (s .pre .0 .1 .0) (s .pre .0 .0))))),
+    )
 
 loop-again : tie.Need-loop-again Inv-loop μ-loop
 loop-again c =
-    let l = c .before .before .before .loop in
-    (search needs, search needs, stored-more _ _ _ _ _ _ _ (l .inv .2) (l .inv .0) (search needs) (rw (c .before .place-in .ensures)))
+    let s = c .before .before .before .before .before .before .before .before .before .before .before .before .before .before .before .before in
+    let l = c .before .before .before .before .before .before .before .before .before .before .before .before .loop in
+    let t = both (eqb (l .column) 0) (leb (l .p + 6) (s .args .right)) (c .before .before .before .before .before .before .before .before .before .before .if1 .taken) in
+    let z = eqb-true (l .column) 0 (t .0) in
+    let y = leb-true (l .p + 6) (s .args .right) (t .1) in
+    let a = stored-three _ _ _ _ (l .p) (l .p + 3) _ _ (l .inv .2) refl (l .inv .0) refl (omega (arith, l .inv .0)) in (
+      omega (arith, l .inv .0),
+      y,
+      rw (c .before .before .emit-three2 .ensures .0, c .before .before .before .before .before .before .before .emit-three .ensures .0) (stored-three _ _ _ _ (l .p + 3) (l .p + 6) _ _ a (omega arith) (omega (arith, l .inv .0)) (omega (arith, l .inv .0)) (omega (arith, l .inv .0))),
+      omega (arith, l .inv .3),
+    )
+
+emit-sample-requires : tie.Need-emit-sample-requires Inv-loop μ-loop
+emit-sample-requires c κs =
+    let s = c .before .before .before .before .before .before .before .before in
+    let l = c .before .before .before .before .loop in (
+      (s .pre .0 .1 .0, (search needs, search needs)),
+      (l .inv .3, (omega arith, (omega (arith, l .inv .2 .kept), starts-inside (s .args .xtrans) (s .args .w) (s .args .tile) _ (s .args .r) (c .before .before .before .before .before .starts-of .ensures) (s .pre .0 .1 .0) (s .pre .0 .0)))),
+    )
+
+loop-again-2 : tie.Need-loop-again-2 Inv-loop μ-loop
+loop-again-2 c =
+    let l = c .before .before .before .before .before .before .before .before .loop in (
+      omega (arith, l .inv .0),
+      omega arith,
+      rw (c .before .before .before .emit-sample .ensures .0) (stored-more _ _ _ _ _ _ _ (l .inv .2) (l .inv .0) (omega (arith, l .inv .0)) refl),
+      c .next-column .ensures ∙ rw (l .inv .3) (column-next (l .p)),
+    )
 
 returns : tie.Need-returns Inv-loop μ-loop
 returns c =
@@ -62,16 +96,18 @@ emit-row-spec =
     loop-holds
     (λ c. search needs)
     (λ c. search needs)
-    (λ c κs. search needs)
-    add-image
-    mul-image-2
-    shared-slice-read-image
+    (λ c. search needs)
+    emit-three-requires
     (λ c. search needs)
     (λ c. search needs)
-    (λ c. search needs)
-    (λ c. search needs)
+    emit-three-requires-2
     (λ c. search needs)
     (λ c. search needs)
     loop-again
+    emit-sample-requires
+    (λ c κs. search needs)
+    (λ c. search needs)
+    (λ c. search needs)
+    loop-again-2
     (λ c. search needs)
     returns)

@@ -1,41 +1,27 @@
--- `quantiser::gradient` meets its contract: both levels are raised by 4, and so the sum by 4 * weight + 4. Assumes nothing.
+-- `quantiser::gradient` meets its contract: it is the gradient by the thresholds of its base. Assumes nothing.
 use borrow.Author.Needs.{needs}
-use mathlib.Core.Path.{_≡_, ap, _∙_}
-use Prim.Native.Nat.{ℕ, _*_, _≤_}
-use native.Mathlib.Nat.{mul-le-mul}
+use mathlib.Core.Path.{_≡_, refl, ap, _∙_}
+use Prim.Native.Nat.{ℕ, _<_}
 use native.Mathlib.Omega.{arith}
 use Rattle.numbers.specs.declared.Signed.{Signed}
-use Rattle.quantiser.proofs.GradientLaws.{raised, gradient-le, level-le}
+use Rattle.quantiser.specs.Quantisers.{thresholdsOf, gradientOf}
+use Rattle.quantiser.specs.declared.Thresholds.{Thresholds}
 use Rattle.quantiser.proofs.gradient.Statement.{statement}
 use Rattle.quantiser.proofs.gradient.Tie as tie
 
-product : (w x : ℕ) → w ≤ 9 → x ≤ 8 → w * x ≤ 72
-product w x hw hx = mul-le-mul hw hx
+own : (t : Thresholds) (q : ℕ) → t ≡ thresholdsOf q → q < 256 → (t .base < 256) × (t ≡ thresholdsOf (t .base))
+own t q e h = rw e (h, refl)
 
-mul-raised : tie.Need-mul-raised
-mul-raised c = omega (arith, product (c .before .args .weight) (c .raised-level .result) (c .before .pre .1) (c .raised-level .ensures .1))
-
-add-raised : tie.Need-add-raised
-add-raised c =
-    let s = c .before .before in
-    omega (arith, product (s .args .weight) (c .before .raised-level .result) (s .pre .1) (c .before .raised-level .ensures .1))
+gradient-by-requires : tie.Need-gradient-by-requires
+gradient-by-requires c κs =
+    let o = own (c .thresholds-of .result) (c .before .args .base) (c .thresholds-of .ensures) (search needs) in
+    (o .0, (o .1, search needs))
 
 returns : tie.Need-returns
 returns c =
-    let a = c .before .before .before .args in
-    let e = c .difference .ensures ∙ raised (a .base) (a .weight) (a .first) (a .second) _ _ (c .before .before .raised-level .ensures .0) (c .before .raised-level2 .ensures .0) in
-    let l = gradient-le (a .base) (a .weight) 4 (a .first) (a .second) (level-le (a .base) (a .first .size)) (level-le (a .base) (a .second .size)) in
-    (e, omega (arith, ap (λ (x : Signed). x .size) e))
+    let b = ap (λ (x : Thresholds). x .base) (c .before .thresholds-of .ensures) in
+    let a = c .before .before .args in
+    (c .gradient-by .ensures .0 ∙ ap (λ (q : ℕ). gradientOf q (a .weight) (a .first) (a .second)) b, search needs)
 
 pub gradient-spec : {M : Type 1} → statement M
-gradient-spec =
-    tie.close
-    (tie.spec
-    (λ c κs. search needs)
-    mul-raised
-    (λ c κs. search needs)
-    add-raised
-    (λ c. search needs)
-    (λ c. search needs)
-    (λ c κs. search needs)
-    returns)
+gradient-spec = tie.close (tie.spec (λ c κs. search needs) gradient-by-requires returns)

@@ -1,15 +1,27 @@
 -- `quantiser::level_size` meets its contract: the level counts the thresholds that are reached. Assumes nothing.
 use borrow.Author.Needs.{needs}
+use mathlib.Core.Path.{_≡_, ap, _∙_}
+use Prim.Native.Nat.{ℕ, _+_}
 use native.Mathlib.Omega.{arith}
+use lib.Dec.{leb}
+use Rattle.numbers.specs.Numbers.{flag}
+use Rattle.quantiser.specs.Quantisers.{thresholdsOf, levelSize}
+use Rattle.quantiser.specs.declared.Thresholds.{Thresholds}
 use Rattle.quantiser.proofs.GradientLaws.{level-count}
 use Rattle.quantiser.proofs.level_size.Statement.{statement}
 use Rattle.quantiser.proofs.level_size.Tie as tie
 
+abbrev counted : Thresholds → ℕ → ℕ
+counted t m = flag (leb (t .base + 1) m) + flag (leb (t .second) m) + flag (leb (t .third) m) + flag (leb (t .fourth) m)
+
+count : (t : Thresholds) (m : ℕ) → t ≡ thresholdsOf (t .base) → counted t m ≡ levelSize (t .base) m
+count t m e = ap (λ (x : Thresholds). counted x m) e ∙ level-count (t .base) m
+
 returns : tie.Need-returns
 returns c =
-    let a = c .before .before .before .before .args in (
+    let b = c .before .before .before .before .before in (
       rw (c .before .before .before .reached .ensures .0, c .before .before .reached2 .ensures .0, c .before .reached3 .ensures .0, c .reached4 .ensures .0)
-          (level-count (a .base) (a .m)),
+          (count (b .args .t) (b .args .m) (b .pre .1)),
       search needs,
     )
 
@@ -19,15 +31,9 @@ level-size-spec =
     (tie.spec
     (λ c. search needs)
     (λ c κs. search needs)
-    (λ c. search needs)
-    (λ c. search needs)
     (λ c κs. search needs)
     (λ c. search needs)
-    (λ c. search needs)
-    (λ c. search needs)
     (λ c κs. search needs)
-    (λ c. search needs)
-    (λ c. search needs)
     (λ c. search needs)
     (λ c κs. search needs)
     (λ c. search needs)

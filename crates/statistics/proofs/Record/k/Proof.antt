@@ -1,7 +1,7 @@
 -- `statistics::Record::k` meets its contract: it is the search from 0 on. Assumes nothing.
 use borrow.Author.Needs.{needs}
 use mathlib.Core.Path.{_≡_, sym, _∙_}
-use Prim.Native.Nat.{ℕ, _≤_}
+use Prim.Native.Nat.{ℕ, _+_, _≤_}
 use native.Mathlib.Omega.{arith}
 use Rattle.numbers.specs.Numbers.{leastFrom}
 use Rattle.statistics.specs.Statistics.{enough, kOf}
@@ -10,15 +10,17 @@ use Rattle.statistics.proofs.RecordLaws.{k-least}
 use Rattle.statistics.proofs.Record.k.Statement.{statement}
 use Rattle.statistics.proofs.Record.k.Tie as tie
 
-found : (t : Record) (r : ℕ) → r ≡ leastFrom 15 (enough (t .sum) (t .n)) 0 → (r ≡ kOf t) × (r ≤ 15)
+found : (t : Record) (r : ℕ) → r + 0 ≡ leastFrom 15 (enough (t .sum) (t .n)) 0 → (r ≡ kOf t) × (r ≤ 15)
 unfolding kOf
-found t r e = (e, omega (arith, k-least t .capped))
+found t r e =
+    let f : r ≡ leastFrom 15 (enough (t .sum) (t .n)) 0 = omega arith in
+    (f, omega (arith, k-least t .capped))
 
-k-from-requires : tie.Need-k-from-requires
-k-from-requires c κs = search needs
+too-small-from-requires : tie.Need-too-small-from-requires
+too-small-from-requires c κs = search needs
 
 returns : tie.Need-returns
-returns c = found (c .before .args .self) (c .k-from .result) (c .k-from .ensures)
+returns c = found (c .before .args .self) (c .too-small-from .result) (c .too-small-from .ensures .0)
 
 pub k-spec : {M : Type 1} → statement M
-k-spec = tie.close (tie.spec k-from-requires returns)
+k-spec = tie.close (tie.spec too-small-from-requires returns)

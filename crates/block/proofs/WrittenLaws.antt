@@ -1,0 +1,77 @@
+-- Writing a block: bits are only added to, and the first wrong sample stays. Assumes nothing.
+use mathlib.Core.Bool.{Bool}
+use mathlib.Core.List.{List, [], _++_, append-nil}
+use mathlib.Core.Option.{none}
+use mathlib.Core.Path.{_≡_, refl, ap, _∙_}
+use Prim.Native.Nat.{ℕ, zero, suc}
+use native.Mathlib.Numerals.{add-one}
+use Rattle.map.specs.Places.{widthOf}
+use Rattle.pass.specs.Steps.{planOf, passSteps}
+use Rattle.pass.specs.declared.Plan.{Plan}
+use Rattle.writing.specs.Writings.{Writing, writePass}
+use Rattle.writing.proofs.WriteLaws.{pass-after, writes-right}
+use Rattle.block.specs.WrittenBlocks.{WriteState, repeats, enterWriting, leaveWriting, writePassAt, beforeWriting, writeLine, writeLines, startWriting}
+use Rattle.block.specs.declared.Form.{Form}
+
+-- bits that stand before those of a state, and a state with no bits yet
+abbrev pub afterBits : List Bool → WriteState → WriteState
+afterBits l r = record { lines = r .lines; records = r .records; bits = l ++ r .bits; wrong = r .wrong }
+
+abbrev pub afreshState : WriteState → WriteState
+afreshState r = record { lines = r .lines; records = r .records; bits = []; wrong = r .wrong }
+
+-- ---- things that are done one after the other
+
+module _ {A : Type 0} (f : ℕ → A → A) where
+  -- what each of them may be exchanged with, all of them may
+  pub repeats-after : (g : A → A) → ((i : ℕ) (r : A) → f i (g r) ≡ g (f i r)) → (n : ℕ) (r : A) → repeats f n (g r) ≡ g (repeats f n r)
+  unfolding repeats
+  repeats-after g each zero r = refl
+  repeats-after g each (suc n) r = rw (repeats-after g each n r) (each n (repeats f n r))
+
+  -- what each of them takes back, all of them do
+  pub repeats-back : (Q : A → Type 0) → ((i : ℕ) (r : A) → Q (f i r) → Q r) → (n : ℕ) (r : A) → Q (repeats f n r) → Q r
+  unfolding repeats
+  repeats-back Q each zero r q = q
+  repeats-back Q each (suc n) r q = repeats-back Q each n r (each n (repeats f n r) q)
+
+-- ---- passes and lines
+
+module _ (F : Form) (t : List ℕ) where
+  -- they add the same bits, whatever stands before
+  pub passAt-after : (n : ℕ) (l : List Bool) (i : ℕ) (r : WriteState) → writePassAt F t n i (afterBits l r) ≡ afterBits l (writePassAt F t n i r)
+  unfolding writePassAt
+  passAt-after n l i r =
+      let P : Plan = planOf (F .xtrans) i in
+      ap (leaveWriting P r) (pass-after (F .bits) (widthOf (F .xtrans)) t n l P (enterWriting F P r))
+
+  pub line-after : (l : List Bool) (n : ℕ) (r : WriteState) → writeLine F t n (afterBits l r) ≡ afterBits l (writeLine F t n r)
+  unfolding writeLine
+  line-after l n r = repeats-after (writePassAt F t n) (afterBits l) (passAt-after n l) 6 (beforeWriting F n r)
+
+  -- so what they write is what was there, and their own bits
+  pub passAt-adds : (n i : ℕ) (r : WriteState) → writePassAt F t n i r ≡ afterBits (r .bits) (writePassAt F t n i (afreshState r))
+  passAt-adds n i r =
+      let e : afterBits (r .bits) (afreshState r) ≡ r = rw (append-nil (r .bits)) in
+      rw e at (passAt-after n (r .bits) i (afreshState r))
+
+  pub line-adds : (n : ℕ) (r : WriteState) → writeLine F t n r ≡ afterBits (r .bits) (writeLine F t n (afreshState r))
+  line-adds n r =
+      let e : afterBits (r .bits) (afreshState r) ≡ r = rw (append-nil (r .bits)) in
+      rw e at (line-after (r .bits) n (afreshState r))
+
+  -- where no sample is wrong in the end, none was before
+  pub passAt-right : (n i : ℕ) (r : WriteState) → (writePassAt F t n i r) .wrong ≡ none → r .wrong ≡ none
+  unfolding writePassAt writePass
+  passAt-right n i r e =
+      let P : Plan = planOf (F .xtrans) i in
+      writes-right (F .bits) (widthOf (F .xtrans)) t n (passSteps (widthOf (F .xtrans)) P) (enterWriting F P r) e
+
+  pub line-right : (n : ℕ) (r : WriteState) → (writeLine F t n r) .wrong ≡ none → r .wrong ≡ none
+  unfolding writeLine
+  line-right n r e = repeats-back (writePassAt F t n) (λ (z : WriteState). z .wrong ≡ none) (passAt-right n) 6 (beforeWriting F n r) e
+
+  -- one line more
+  pub lines-more : (n : ℕ) → writeLines F t (suc n) ≡ writeLine F t n (writeLines F t n)
+  unfolding writeLines repeats
+  lines-more n = refl

@@ -1,0 +1,55 @@
+-- Tight blocks, lossless: what the tight reading accepts, and the set of colour lines that is read from a block. Assumes nothing.
+use mathlib.Core.Bool.{Bool, true, cond, _&&_}
+use mathlib.Core.List.{List, []}
+use mathlib.Core.Option.{Option, none, some}
+use mathlib.Core.Path.{_≡_}
+use Prim.Native.Nat.{ℕ, suc, _+_, _-_, _*_, _/_}
+use lib.Dec.{ltb, eqb}
+use lib.ListN.{length, getD}
+use Rattle.bits.specs.Bits.{bitsAt}
+use Rattle.bits.specs.BitLists.{bytesFor}
+use Rattle.map.specs.Places.{widthOf}
+use Rattle.stream.specs.declared.Refusal.the-variants.{Truncated, NotTight}
+use Rattle.writing.specs.Sets.{setSize, lineAt, colourLineAt, positionAt}
+use Rattle.block.specs.Records.{table}
+use Rattle.block.specs.Blocks.{State, readLines, linesOf, tightLines}
+use Rattle.block.specs.Images.{linesRead}
+use Rattle.block.specs.declared.Form.{Form}
+use Rattle.block.specs.declared.Decoded.{Decoded}
+use Rattle.block.specs.declared.Decoded.the-variants.{Done, Refused}
+
+-- the sample at index j of the set that is read from the block s: it stands in its colour line once its line of six rows is read
+abbrev pub readSample : Form → List ℕ → ℕ → ℕ
+readSample F s j =
+    let W = widthOf (F .xtrans) in
+    getD (linesOf (readLines F [] s (suc (lineAt W j)))) (colourLineAt W j * (W + 2) + positionAt W j + 1) 0
+
+-- the set of colour lines of a block: what the rules read at the places of a set
+unfoldable pub setRead : Form → ℕ → List ℕ → List ℕ
+setRead F lines s = table (readSample F s) (setSize (widthOf (F .xtrans)) lines)
+
+-- the tail of a tight block that is read up to a bit: the length is the bits rounded up to bytes, and spare bits are 0
+unfoldable pub isTail : List ℕ → ℕ → Bool
+isTail s at = eqb (length s) (bytesFor at) && eqb (bitsAt s at (8 * length s - at)) 0
+
+-- a tight block: all lines are read, each code is tight, and so is the tail
+pub record Tight (F : Form) (lines : ℕ) (s : List ℕ) : Type 0 where
+  pub end : State
+  pub read : readLines F [] s lines ≡ some end
+  pub codes : end .tight ≡ true
+  pub tail : isTail s (end .at .0) ≡ true
+
+-- the bit up to which lines were read
+abbrev pub bitsRead : Option State → ℕ
+bitsRead none = 0
+bitsRead (some r) = r .at .0
+
+-- the answer of the tight reading for block b with the bytes s: refusal 14 with the first truncated line, else refusal 15 with the line of the first code
+-- that is not tight, or with `lines` if only the tail is wrong
+unfoldable pub tightAnswer : Form → ℕ → ℕ → List ℕ → Decoded
+tightAnswer F b lines s =
+    let read = linesRead F [] s lines in
+    let tight = tightLines F [] s lines in
+    cond (ltb read lines) (Refused (Truncated b read))
+    (cond (ltb tight lines) (Refused (NotTight tight))
+    (cond (isTail s (bitsRead (readLines F [] s lines))) Done (Refused (NotTight lines))))

@@ -1,0 +1,82 @@
+-- The tight block of a set of colour lines: line after line, by the rules of reading, from the set's own samples. Assumes nothing.
+use mathlib.Core.Bool.{Bool, cond}
+use mathlib.Core.List.{List, []}
+use mathlib.Core.Option.{Option, none}
+use mathlib.Core.Path.{_≡_}
+use Prim.Native.Nat.{ℕ, zero, suc, _≤_}
+use lib.ListN.{length, getD}
+use Rattle.bits.specs.BitLists.{bytesOf}
+use Rattle.statistics.specs.declared.Record.{Record}
+use Rattle.quantiser.specs.Quantisers.{largest}
+use Rattle.pass.specs.Steps.{planOf}
+use Rattle.pass.specs.declared.Plan.{Plan}
+use Rattle.lines.specs.ColourLines.{zeroLines, guarded, turned}
+use Rattle.map.specs.Places.{widthOf}
+use Rattle.writing.specs.Sets.{setSize}
+use Rattle.writing.specs.Writings.{Writing, writePass}
+use Rattle.block.specs.Records.{startRecords, restartedMain, isRestarted, setOf, putSet}
+use Rattle.block.specs.declared.Form.{Form}
+
+-- what writing a block goes on: the colour lines, the records, the bits so far, and the first interpolated sample that is not its prediction
+pub record WriteState : Type 0 where
+  pub lines : List ℕ
+  pub records : List Record
+  pub bits : List Bool
+  pub wrong : Option ℕ
+
+-- f 0, f 1, .. one after the other, n of them
+unfoldable pub repeats : {A : Type 0} → (ℕ → A → A) → ℕ → A → A
+repeats f zero r = r
+repeats f (suc n) r = f n (repeats f n r)
+
+-- a pass goes on the records of its set, and on lines whose guards are set
+abbrev pub enterWriting : Form → Plan → WriteState → Writing
+enterWriting F P r =
+    record {
+      lines = guarded (widthOf (F .xtrans)) (P .second) (guarded (widthOf (F .xtrans)) (P .first) (r .lines));
+      set = setOf (P .set) (r .records);
+      bits = r .bits;
+      wrong = r .wrong;
+    }
+
+-- and its set goes back
+abbrev pub leaveWriting : Plan → WriteState → Writing → WriteState
+leaveWriting P r z = record { lines = z .lines; records = putSet (P .set) (z .set) (r .records); bits = z .bits; wrong = z .wrong }
+
+-- pass i of line n
+unfoldable pub writePassAt : Form → List ℕ → ℕ → ℕ → WriteState → WriteState
+writePassAt F t n i r =
+    let P = planOf (F .xtrans) i in
+    leaveWriting P r (writePass (F .bits) (widthOf (F .xtrans)) t n P (enterWriting F P r))
+
+-- before line n the colour lines are turned, and at line 0 the main records start anew
+abbrev pub beforeWriting : Form → ℕ → WriteState → WriteState
+beforeWriting F n r =
+    record {
+      lines = turned (widthOf (F .xtrans)) (r .lines);
+      records = cond (isRestarted [] n) (restartedMain (F .bits) 0 (r .records)) (r .records);
+      bits = r .bits;
+      wrong = r .wrong;
+    }
+
+-- line n: six passes
+unfoldable pub writeLine : Form → List ℕ → ℕ → WriteState → WriteState
+writeLine F t n r = repeats (writePassAt F t n) 6 (beforeWriting F n r)
+
+-- a block starts with lines of 0, start records, and no bits
+unfoldable pub startWriting : Form → WriteState
+startWriting F = record { lines = zeroLines (widthOf (F .xtrans)); records = startRecords (F .bits) 0; bits = []; wrong = none }
+
+-- the state after n lines
+unfoldable pub writeLines : Form → List ℕ → ℕ → WriteState
+writeLines F t n = repeats (writeLine F t) n (startWriting F)
+
+-- the tight block of the set t
+unfoldable pub tightBlock : Form → ℕ → List ℕ → List ℕ
+tightBlock F lines t = bytesOf ((writeLines F t lines) .bits)
+
+-- a set that fits: it has all samples, each in 0..M, and each interpolated position has its prediction
+pub record FitSet (F : Form) (lines : ℕ) (t : List ℕ) : Type 0 where
+  pub size : length t ≡ setSize (widthOf (F .xtrans)) lines
+  pub range : (j : ℕ) → getD t j 0 ≤ largest (F .bits)
+  pub predicted : (writeLines F t lines) .wrong ≡ none

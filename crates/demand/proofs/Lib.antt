@@ -1,0 +1,8 @@
+-- The proof of demand 3.
+pub mod PlanLaws
+pub mod PassTwins
+pub mod LineTwins
+pub mod BlockTwins
+pub mod BlockLaws
+pub mod AnswerLaws
+pub mod DemandHolds

@@ -1,0 +1,158 @@
+-- A pass of a block, read and written. Assumes nothing.
+use mathlib.Core.List.{List}
+use mathlib.Core.Logic.{_≢_}
+use mathlib.Core.Option.{Option, none, some}
+use mathlib.Core.Path.{_≡_, refl, sym, ap, _∙_}
+use Prim.Native.Nat.{ℕ, _+_, _-_, _*_, _/_, _%_, _≤_, _<_}
+use native.Mathlib.Omega.{arith}
+use lib.Arith.{digits-mod}
+use lib.ListN.{length, getD, set, take}
+use lib.Seq.{getD-set-other}
+use Rattle.bits.specs.BitLists.{bitsOf}
+use Rattle.quantiser.specs.Quantisers.{largest}
+use Rattle.pass.specs.Readings.{Reading, readPass}
+use Rattle.pass.specs.Steps.{planOf}
+use Rattle.pass.specs.declared.Plan.{Plan}
+use Rattle.pass.proofs.RangeLaws.{AllLe, Kept, pass-keeps}
+use Rattle.pass.proofs.ScheduleLaws.{plan-in-range}
+use Rattle.lines.specs.ColourLines.{leftGuard, guarded}
+use Rattle.lines.proofs.LineLaws.{length-guarded}
+use Rattle.map.specs.Places.{widthOf}
+use Rattle.writing.specs.Writings.{Writing, writePass}
+use Rattle.writing.proofs.LosslessLaws.{Lossless, lossless}
+use Rattle.writing.proofs.PassTwins.{Holds, pass-leaves, PassTwin, pass-forward, PassBack, pass-backward}
+use Rattle.writing.proofs.StepTwins.{Clean, Stored, Sound, writingOf}
+use Rattle.block.specs.Blocks.{State, enter, leave, passAt}
+use Rattle.block.specs.Records.{putSet}
+use Rattle.block.specs.WrittenBlocks.{WriteState, leaveWriting, writePassAt}
+use Rattle.block.specs.declared.Form.{Form}
+use Rattle.block.proofs.LineLaws.{width-in-range}
+use Rattle.block.proofs.SampleLaws.{guarded-le}
+use Rattle.demand.proofs.PlanLaws.{two-lines, NotOf}
+
+-- what writing goes on after a clean reading of s
+abbrev pub writeStateOf : List ℕ → State → WriteState
+writeStateOf s r = record { lines = r .lines; records = r .records; bits = take (r .at .0) (bitsOf s); wrong = none }
+
+abbrev pub CleanState : List ℕ → State → Type 0
+CleanState s r = Clean s (r .at .0) (r .tight)
+
+abbrev pub StoredState : List ℕ → WriteState → Type 0
+StoredState s w = Stored s (w .bits) (w .wrong)
+
+abbrev pub SoundState : Form → State → Type 0
+SoundState F r = Sound (F .bits) (widthOf (F .xtrans)) (r .lines)
+
+-- ---- guards
+
+-- no guard is a sample's place
+module _ (W l p m d : ℕ) (h : p < W) where
+  not-guard : d < W + 2 → d ≢ p + 1 → l * (W + 2) + p + 1 ≢ m * (W + 2) + d
+  not-guard k ne e =
+      let f : l * (W + 2) + (p + 1) ≡ m * (W + 2) + d = omega arith in
+      let a : p + 1 < W + 2 = omega arith in
+      ne (sym (digits-mod m k) ∙ ap (λ (z : ℕ). z % (W + 2)) (sym f) ∙ digits-mod l a)
+
+pub guard-leaves : (W l p m : ℕ) (lines : List ℕ) → p < W → getD (guarded W m lines) (l * (W + 2) + p + 1) 0 ≡ getD lines (l * (W + 2) + p + 1) 0
+unfolding guarded
+guard-leaves W l p m lines h =
+    getD-set-other (leftGuard W m lines) (m * (W + 2) + (W + 1)) (l * (W + 2) + p + 1) (getD (leftGuard W m lines) ((m - 1) * (W + 2) + W) 0) 0
+    (not-guard W l p m (W + 1) h (omega arith) (λ e. omega arith))
+    ∙ getD-set-other lines (m * (W + 2)) (l * (W + 2) + p + 1) (getD lines ((m - 1) * (W + 2) + 1) 0) 0
+    (λ e. not-guard W l p m 0 h (omega arith) (λ f. omega arith) (omega arith))
+
+guard-sound : (bits W m : ℕ) (lines : List ℕ) → Sound bits W lines → Sound bits W (guarded W m lines)
+guard-sound bits W m lines ok =
+    record { long = length-guarded W m lines ∙ ok .long; small = guarded-le (largest bits) W m lines (ok .small) }
+
+-- ---- pass i of a line
+
+module _ (F : Form) (low : 1 ≤ F .bits) (high : F .bits ≤ 16) (s : List ℕ) (i : ℕ) (r : State) (ok : SoundState F r) where
+  abbrev W : ℕ
+  W = widthOf (F .xtrans)
+
+  abbrev P : Plan
+  P = planOf (F .xtrans) i
+
+  abbrev entered : Reading
+  entered = enter F P r
+
+  abbrev left : Reading → State
+  left y = record { lines = y .lines; records = putSet (P .set) (y .set) (r .records); at = y .at; tight = y .tight }
+
+  sound : Sound (F .bits) W (entered .lines)
+  sound =
+      guard-sound (F .bits) W (P .second) (guarded W (P .first) (r .lines)) (guard-sound (F .bits) W (P .first) (r .lines) ok)
+
+  even : W % 2 ≡ 0
+  even = width-in-range (F .xtrans) W refl .2
+
+  -- a pass that was read, and one that is
+  pass-was : (z : State) → passAt F 0 s i r ≡ some z → (y : Reading) × (readPass (F .bits) 0 W s P entered ≡ some y) × (left y ≡ z)
+  unfolding passAt
+  pass-was z e = go (readPass (F .bits) 0 W s P entered) refl e
+    where
+      go : (o : Option Reading) → readPass (F .bits) 0 W s P entered ≡ o → leave P r o ≡ some z
+          → (y : Reading) × (readPass (F .bits) 0 W s P entered ≡ some y) × (left y ≡ z)
+      go none f g = let no : _≡_ {A = ℕ} 0 1 = cc in absurd (omega arith)
+      go (some y) f g = (y, f, cc)
+
+  pass-is : (y : Reading) → readPass (F .bits) 0 W s P entered ≡ some y → passAt F 0 s i r ≡ some (left y)
+  unfolding passAt
+  pass-is y e = rw e
+
+  -- it keeps the lines sound, and leaves those of other passes as they are
+  pub pass-sound : (z : State) → passAt F 0 s i r ≡ some z → SoundState F z
+  pass-sound z e =
+      let f = pass-was z e in
+      let k : Kept (F .bits) entered (f .0) = pass-keeps (F .bits) 0 W s high P entered (f .0) (f .1) in
+      let there : Sound (F .bits) W (f .0 .lines) = record { long = k .lines ∙ sound .long; small = k .samples (sound .small) } in
+      rw (← f .2) there
+
+  pub pass-keeps-others : (z : State) (l p : ℕ) → p < W → NotOf (F .xtrans) i l → passAt F 0 s i r ≡ some z
+      → getD (z .lines) (l * (W + 2) + p + 1) 0 ≡ getD (r .lines) (l * (W + 2) + p + 1) 0
+  pass-keeps-others z l p h ne e =
+      let f = pass-was z e in
+      rw (← f .2)
+      (pass-leaves (F .bits) W s P entered (f .0) l p even h (ne .0) (ne .1) (f .1)
+      ∙ guard-leaves W l p (P .second) (guarded W (P .first) (r .lines)) h
+      ∙ guard-leaves W l p (P .first) (r .lines) h)
+
+  -- ---- both ways, with the samples of line n of the set t
+
+  module _ (below : i < 6) (t : List ℕ) (n : ℕ) where
+    pub record PassRead (z : State) : Type 0 where
+      pub read : passAt F 0 s i r ≡ some z
+      pub clean : CleanState s z
+      pub same : writePassAt F t n i (writeStateOf s r) ≡ writeStateOf s z
+      pub first : Holds W t n (z .lines) (P .first)
+      pub second : Holds W t n (z .lines) (P .second)
+
+    pub record PassWritten (z : State) : Type 0 where
+      pub clean : CleanState s r
+      pub same : writePassAt F t n i (writeStateOf s r) ≡ writeStateOf s z
+
+    Q : Lossless (F .bits)
+    Q = lossless (F .bits) low high
+
+    pub passAt-forward : ((j : ℕ) → getD t j 0 ≤ largest (F .bits)) → CleanState s r → StoredState s (writePassAt F t n i (writeStateOf s r)) → (z : State) × PassRead z
+    unfolding writePassAt
+    passAt-forward range clean stored =
+        let one = pass-forward (F .bits) W s t n low high Q P even (plan-in-range (F .xtrans) i below .0) (two-lines (F .xtrans) i below) entered sound range clean stored in
+        let y : Reading = one .0 in
+        let T : PassTwin (F .bits) W s t n low high Q P even (plan-in-range (F .xtrans) i below .0) (two-lines (F .xtrans) i below) entered y = one .1 in
+        (left y, record { read = pass-is y (T .read); clean = T .clean; same = ap (leaveWriting P (writeStateOf s r)) (T .same); first = T .first; second = T .second })
+
+    pub passAt-backward : (z : State) → passAt F 0 s i r ≡ some z → CleanState s z → Holds W t n (z .lines) (P .first) → Holds W t n (z .lines) (P .second) → PassWritten z
+    unfolding writePassAt
+    passAt-backward z e clean first second =
+        let f = pass-was z e in
+        go (f .0) z (f .1) (f .2) clean first second
+      where
+        go : (y : Reading) (z : State) → readPass (F .bits) 0 W s P entered ≡ some y → left y ≡ z → CleanState s z → Holds W t n (z .lines) (P .first) → Holds W t n (z .lines) (P .second)
+            → PassWritten z
+        go y z f is clean first second =
+            let B : PassBack (F .bits) W s t n low high Q P even (plan-in-range (F .xtrans) i below .0) (two-lines (F .xtrans) i below) entered y =
+            pass-backward (F .bits) W s t n low high Q P even (plan-in-range (F .xtrans) i below .0) (two-lines (F .xtrans) i below) entered sound y f
+            (rw (← is) at clean) (rw (← is) at first) (rw (← is) at second) in
+            record { clean = B .clean; same = ap (leaveWriting P (writeStateOf s r)) (B .same) ∙ ap (writeStateOf s) is }

@@ -1,0 +1,114 @@
+-- Writing by itself: the two ways in which a step goes, steps that are put together, and bits that are only added to. Assumes nothing.
+use mathlib.Core.Bool.{Bool, true, false, cond}
+use mathlib.Core.List.{List, [], _∷_, _++_, append-assoc, append-nil}
+use mathlib.Core.Option.{Option, none, some}
+use mathlib.Core.Path.{_≡_, refl, sym, _∙_}
+use Prim.Native.Nat.{ℕ, _+_, _*_}
+use native.Mathlib.Omega.{arith}
+use lib.ListN.{getD}
+use Rattle.prediction.specs.declared.Context.{Context}
+use Rattle.pass.specs.Readings.{contextAt, lookOf, slotOf}
+use Rattle.pass.specs.Steps.{Step, upto, passSteps}
+use Rattle.pass.specs.declared.Look.{Look}
+use Rattle.pass.specs.declared.Plan.{Plan}
+use Rattle.writing.specs.Sets.{indexIn}
+use Rattle.writing.specs.Writings.{Writing, orSecond, pass-over, put-code, writeStep, writes, writePass}
+
+-- ---- one step
+
+-- one place before the sample of a step, its context, what its coding goes by, its record's place, its index in the set and the sample itself
+abbrev pub placeIn : ℕ → Step → ℕ
+placeIn W x = x .line * (W + 2) + x .position
+
+abbrev pub contextIn : ℕ → Step → List ℕ → Context
+contextIn W x lines = contextAt lines (W + 2) (placeIn W x) (x .position)
+
+abbrev pub lookIn : ℕ → Step → List ℕ → Look
+lookIn W x lines = lookOf 0 (contextIn W x lines)
+
+abbrev pub slotIn : ℕ → Step → List ℕ → ℕ
+slotIn W x lines = slotOf (x .position) ((lookIn W x lines) .place)
+
+abbrev pub wanted : ℕ → List ℕ → ℕ → Step → ℕ
+wanted W t n x = getD t (indexIn W n (x .line) (x .position)) 0
+
+module _ (bits W : ℕ) (t : List ℕ) (n : ℕ) (x : Step) (r : Writing) where
+  pub write-coded : x .coded ≡ true
+      → writeStep bits W t n x r
+      ≡ put-code bits (placeIn W x) (slotIn W x (r .lines)) (wanted W t n x) (contextIn W x (r .lines)) (lookIn W x (r .lines)) r
+  unfolding writeStep
+  write-coded e = rw e
+
+  pub write-interpolated : x .coded ≡ false
+      → writeStep bits W t n x r
+      ≡ pass-over (placeIn W x) (indexIn W n (x .line) (x .position)) (wanted W t n x) (contextIn W x (r .lines)) r
+  unfolding writeStep
+  write-interpolated e = rw e
+
+-- ---- bits that stand before those of a writing
+
+abbrev pub after : List Bool → Writing → Writing
+after l r = record { lines = r .lines; set = r .set; bits = l ++ r .bits; wrong = r .wrong }
+
+-- the same with no bits yet
+abbrev pub afresh : Writing → Writing
+afresh r = record { lines = r .lines; set = r .set; bits = []; wrong = r .wrong }
+
+module _ (bits W : ℕ) (t : List ℕ) (n : ℕ) (l : List Bool) where
+  -- a step adds the same bits, whatever stands before
+  pub step-after : (x : Step) (r : Writing) → writeStep bits W t n x (after l r) ≡ after l (writeStep bits W t n x r)
+  unfolding writeStep
+  step-after x r = go (x .coded)
+    where
+      c : Context
+      c = contextIn W x (r .lines)
+
+      put : Writing → Writing
+      put y = put-code bits (placeIn W x) (slotIn W x (r .lines)) (wanted W t n x) c (lookOf 0 c) y
+
+      pass : Writing → Writing
+      pass y = pass-over (placeIn W x) (indexIn W n (x .line) (x .position)) (wanted W t n x) c y
+
+      go : (b : Bool) → cond b (put (after l r)) (pass (after l r)) ≡ after l (cond b (put r) (pass r))
+      go true = rw (append-assoc l (r .bits) _)
+      go false = refl
+
+  pub writes-after : (k : List Step) (r : Writing) → writes bits W t n k (after l r) ≡ after l (writes bits W t n k r)
+  unfolding writes
+  writes-after [] r = refl
+  writes-after (x ∷ k) r = rw (step-after x r) (writes-after k (writeStep bits W t n x r))
+
+  pub pass-after : (P : Plan) (r : Writing) → writePass bits W t n P (after l r) ≡ after l (writePass bits W t n P r)
+  unfolding writePass
+  pass-after P r = writes-after (passSteps W P) r
+
+module _ (bits W : ℕ) (t : List ℕ) (n : ℕ) where
+  -- so what a list of steps writes is what was there, and the bits of the steps alone
+  pub writes-add : (k : List Step) (r : Writing) → writes bits W t n k r ≡ after (r .bits) (writes bits W t n k (afresh r))
+  writes-add k r =
+      let e : after (r .bits) (afresh r) ≡ r = rw (append-nil (r .bits)) in
+      rw e at (writes-after bits W t n (r .bits) k (afresh r))
+
+  -- the second part goes on where the first ends
+  pub writes-append : (k l : List Step) (r : Writing) → writes bits W t n (k ++ l) r ≡ writes bits W t n l (writes bits W t n k r)
+  unfolding writes
+  writes-append [] l r = refl
+  writes-append (x ∷ k) l r = writes-append k l (writeStep bits W t n x r)
+
+  -- ---- the first wrong sample stays
+
+  first-none : (a b : Option ℕ) → orSecond a b ≡ none → a ≡ none
+  first-none none b e = refl
+  first-none (some i) b e = e
+
+  pub step-right : (x : Step) (r : Writing) → (writeStep bits W t n x r) .wrong ≡ none → r .wrong ≡ none
+  step-right x r e = go (x .coded) refl
+    where
+      go : (b : Bool) → x .coded ≡ b → r .wrong ≡ none
+      go true c = rw (write-coded bits W t n x r c) at e
+      go false c = first-none (r .wrong) _ (rw (write-interpolated bits W t n x r c) at e)
+
+  pub writes-right : (k : List Step) (r : Writing) → (writes bits W t n k r) .wrong ≡ none → r .wrong ≡ none
+  unfolding writes
+  writes-right [] r e = e
+  writes-right (x ∷ k) r e = step-right x r (writes-right k (writeStep bits W t n x r) e)

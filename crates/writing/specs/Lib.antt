@@ -1,0 +1,3 @@
+-- The definitions of writing.
+pub mod Sets
+pub mod Writings

@@ -1,0 +1,1 @@
+// The definitions of writing: see specs/.
