@@ -5,3 +5,4 @@ pub mod ListLaws
 pub mod PackLaws
 pub mod PumpOwns
 pub mod PumpPeeks
+pub mod Held

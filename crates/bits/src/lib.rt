@@ -3,7 +3,7 @@ ghost use mathlib.Core.Path.{_≡_};
 ghost use Prim.Native.Nat.{_+_, _-_, _*_, _/_, _%_, _^_, _≤_, _<_, min};
 ghost use lib.Dec.{leb};
 ghost use lib.ListN.{length, getD};
-ghost use Rattle.bits.specs.Bits.{bitsAt, zeroRun, be32};
+ghost use Rattle.bits.specs.Bits.{bitsAt, zeroRun, afterRun, be32};
 ghost use Rattle.bits.specs.Pump.{ahead, aligned, nextBits, movedTo};
 
 // A place in a block, counted in bits from its start.
@@ -130,20 +130,13 @@ fn counted(n: u32) -> u32
     if 32 < n { 32 } else { n }
 }
 
-// The next n bits.
-pub fn peek(s: &[u8], at: BitPosition, n: u32) -> u32
-    requires { ⌜ n ≤ 32 ⌝ }
-    ensures { λ r. ⌜ r ≡ bitsAt (now (s .entry)) (at .0) n ⌝ }
-{
-    let w = window(s, at.byte());
-    (((w << (at.0 % 8)) >> 32) >> (32 - n)) as u32
-}
-
 // The next n bits, 32 at most.
 fn peek_at(s: &[u8], at: BitPosition, n: u32) -> u32
     ensures { λ r. ⌜ r ≡ bitsAt (now (s .entry)) (at .0) (min n 32) ⌝ }
 {
-    peek(s, at, counted(n))
+    let m = counted(n);
+    let w = window(s, at.byte());
+    (((w << (at.0 % 8)) >> 32) >> (32 - m)) as u32
 }
 
 // The position behind the next n bits, 32 at most.
@@ -154,7 +147,7 @@ fn past(at: BitPosition, n: u32) -> BitPosition
 }
 
 // The zero bits from `at` up to the next one bit of the block. Runs are counted in 64 bits: no run of a block is too long.
-pub fn zero_run(s: &[u8], at: BitPosition) -> ZeroRun
+fn zero_run(s: &[u8], at: BitPosition) -> ZeroRun
     requires { ⌜ length (now s) < 2 ^ 58 ⌝ }
     ensures { λ r. ⌜ r ≡ zeroRun (now (s .entry)) (at .0) ⌝ }
 {
@@ -168,6 +161,17 @@ pub fn zero_run(s: &[u8], at: BitPosition) -> ZeroRun
         q = (q / 8 + 8) * 8;
     }
     ZeroRun::None
+}
+
+// The position behind the one bit of a run, or `at` where there is none.
+fn after_run(at: BitPosition, run: ZeroRun) -> BitPosition
+    requires { ⌜ afterRun (at .0) run < 2 ^ 64 ⌝ }
+    ensures { λ r. ⌜ r .0 ≡ afterRun (at .0) run ⌝ }
+{
+    match run {
+        ZeroRun::One(zeros) => BitPosition(at.0 + zeros + 1),
+        ZeroRun::None => at,
+    }
 }
 
 // A reader of a block's bits: its bytes, and the position of the next bit. Its functions are thin: each takes it apart and calls a function
@@ -219,6 +223,19 @@ impl<'a> BitPumpMsb<'a> {
         v
     }
 
+    // twin: ZeroRun::None
+    // The zeros up to the next one bit, and moves on past that bit. Where none is left it stays.
+    pub fn zero_run(&mut self) -> ZeroRun
+        requires { ⌜ length (now (now self .«data»)) < 2 ^ 58 ⌝ }
+        ensures { λ r. ⌜ (r ≡ zeroRun (now (now (self .entry) .«data»)) (now (self .entry) .at .0)) × (now (self .exit) ≡ movedTo (now (self .entry)) (afterRun (now (self .entry) .at .0) r)) ⌝ }
+    {
+        let at = self.at;
+        let run = zero_run(self.data, at);
+        self.at = after_run(at, run);
+        run
+    }
+
+    // twin: BitPosition(0)
     // The bits before the next one, from the block's first on.
     pub fn bit_position(&self) -> BitPosition
         ensures { λ r. ⌜ r ≡ now (self .entry) .at ⌝ }
@@ -226,6 +243,7 @@ impl<'a> BitPumpMsb<'a> {
         self.at
     }
 
+    // twin: ByteOffset(0)
     // The bytes that they take, the last of them counted whole.
     pub fn byte_position(&self) -> ByteOffset
         ensures { λ r. ⌜ r .0 ≡ (now (self .entry) .at .0 + 7) / 8 ⌝ }
