@@ -93,7 +93,7 @@ def twin_carry(f):
             return ""
         keep = m["name"] in members(f) or m["name"] not in listed + owns
         return m["head"] + "\n{\n" + (m["body"] if keep else dummy(m)) + "\n}\n"
-    t = item.sub(one, src)
+    t = item.sub(one, src) + ("fn main() {}\n" if "main" in gone else "")
     if PUMP:
         t = re.sub(r"pub struct " + PUMP + r"<.*?\n\}\n", "", t, flags=re.S)
         t = re.sub(r"use " + HOME + "::" + PUMP + ";\n", "", t) + "".join(far.values())
@@ -210,7 +210,7 @@ def carry(text):
         text = re.sub(r"^use " + re.escape(f"{P}.{g}") + r"$", f"use {there} as {g}", text, flags=re.M)
         text = re.sub(re.escape(f"{P}.{g}.") + r"(Met|Symbol)\b", there + r".\1", text)
         text = text.replace(f'"{crate}::{g}"', f'"{HOME}::{PUMP}::{g}"')
-        text = re.sub(r"\bcalls-" + crate + "·" + calls + r"(?![\w-])", f"calls-{HOME}·{PUMP}·{calls}", text)
+        text = re.sub(r"\bcalls-" + crate.replace("_", "-") + "·" + calls + r"(?![\w-])", f"calls-{HOME}·{PUMP}·{calls}", text)
     for f in moved:
         for m in (["Tie"] + [f"Lts-{g}" for g in members(f)] if f.startswith("+") else ["Lts", "Tie"]):
             text = re.sub(re.escape(f"{P}.{f}.{m}") + r"(?![\w-])", f"{P}.{f}.Proof.derived.{m}", text)

@@ -5,4 +5,5 @@ pub mod ListLaws
 pub mod PackLaws
 pub mod PumpOwns
 pub mod PumpPeeks
+pub mod PumpLends
 pub mod Held
