@@ -9,6 +9,7 @@ Run it in the repository's root, where `rt check` proves the crates that CRATE d
   --carry    they pass the slice, or the lent P, on: any code that would be covered if S were a plain array. A cycle: +f+g
   --walked   they are over P and proved by walks (proofs/F/Proof.antt is the author's); a carrier may call those with `&mut P`
   --own      they have a local array of S, and lend it to a carrier
+  --pump     P, or HOME::P where it stands in another crate: then P's methods with `&self` and `&mut self` may be called
   --only     does some of --carry alone ('touch' for --touch)
 The borrow checker's rules hold of every element type, and only its front refuses a struct. So for each function the tool
   1. writes a twin of the crate in target/lend, in which `[S]` is `[[u32; N]]` (N is SIZE, 2) and P<'a> is `[&'a [u8]; 1]`. In a
@@ -30,13 +31,15 @@ ap.add_argument("crate")
 for o in ("record", "pump", "touch", "walked", "carry", "own", "only"):
     ap.add_argument("--" + o, default="")
 a = ap.parse_args()
-crate, S, PUMP = a.crate, a.record, a.pump
+crate, S = a.crate, a.record
+HOME, _, PUMP = a.pump.rpartition("::")
 lst = lambda s: [x for x in s.split(",") if x]
 touch, walked, carrys, owns, only = lst(a.touch), lst(a.walked), lst(a.carry), lst(a.own), lst(a.only)
 SIZE, WIDTH = os.environ.get("SIZE", "2"), int(os.environ.get("WIDTH", "200"))
 ARR = f"[u32; {SIZE}]"
 work, base, P = "target/lend", f"crates/{crate}/proofs", f"Rattle.{crate}.proofs"
-src = open(f"crates/{crate}/src/lib.rt").read()
+root_file = "main.rt" if os.path.exists(f"crates/{crate}/src/main.rt") else "lib.rt"
+src = open(f"crates/{crate}/src/{root_file}").read()
 
 def members(f):
     return f.split("+")[1:] if f.startswith("+") else [f]
@@ -63,19 +66,40 @@ def dummy(m):
         return "    0"
     sys.exit(f"write a line `// twin: EXPR` before {m['name']}: a value of {r}")
 
+def methods():
+    """The methods of P, which stands in HOME, as functions of the twin: P is the array there, and has none."""
+    text = open(f"crates/{HOME}/src/lib.rt").read()
+    types = "|".join(re.findall(r"^pub (?:struct|enum) (\w+)", text, flags=re.M))
+    there = lambda t: re.sub(r"\b(" + types + r")\b", HOME + r"::\1", t or "")
+    for m in re.finditer(r"(?:^    // twin: (?P<expr>[^\n]*)\n)?(?:^    //[^\n]*\n)*^    pub fn (?P<name>\w+)\(&(?P<mut>mut )?self(?P<args>[^)]*)\)(?P<rest>[^\n]*(?:\n        (?:requires|ensures)[^\n]*)*)\n    \{", text, flags=re.M):
+        head = f"pub fn {m['name']}<'s, 'a>(p: &'s {m['mut'] or ''}{PUMP}<'a>{there(m['args'])}){there(m['rest'])}"
+        yield m["name"], head + "\n{\n" + dummy({"expr": there(m["expr"]), "head": head, "name": m["name"]}) + "\n}\n"
+far = {g: t for g, t in methods() if re.search(r"\bp\." + g + r"\(", src)} if HOME else {}
+
 def twin_touch():
     ms = [m for m in item.finditer(src) if m["name"] in touch]
     return trivial("\n".join(re.sub(r"\b" + S + r"\b", ARR, m["head"] + "\n{\n" + m["body"] + "\n}\n") for m in ms))
 
 def twin_carry(f):
+    gone = set()                                               # P by value, or a call of such: not in the twin
+    while PUMP:
+        by_value = r"(?<!mut )\b" + PUMP + r"\b" + "".join(r"|\b" + g + r"\(" for g in gone)
+        more = {m["name"] for m in item.finditer(src) if re.search(by_value, m["head"] + "\n" + (m["body"] if m["name"] not in listed else ""))}
+        if more == gone:
+            break
+        gone = more
     def one(m):
-        if PUMP and re.search(r"(?<!mut )\b" + PUMP + r"\b", m["head"] + "\n" + (m["body"] if m["name"] not in listed else "")):
-            return ""                                          # P by value: not in the twin
+        if m["name"] in gone:
+            return ""
         keep = m["name"] in members(f) or m["name"] not in listed + owns
         return m["head"] + "\n{\n" + (m["body"] if keep else dummy(m)) + "\n}\n"
-    t = item.sub(one, src)
+    t = item.sub(one, src) + ("fn main() {}\n" if "main" in gone else "")
     if PUMP:
         t = re.sub(r"pub struct " + PUMP + r"<.*?\n\}\n", "", t, flags=re.S)
+        t = re.sub(r"use " + HOME + "::" + PUMP + ";\n", "", t) + "".join(far.values())
+        for g in far:
+            t = re.sub(r"\bp\." + g + r"\(\)", g + "(p)", t)
+            t = re.sub(r"\bp\." + g + r"\(", g + "(p, ", t)
         t = re.sub(PUMP + r"<('\w+)>", r"[&\1 [u8]; 1]", t)
     if S:
         t = re.sub(r"(&(?:'\w+ )?(?:mut )?)\[" + S + r"\]", r"\1[" + ARR + "]", t)
@@ -113,7 +137,7 @@ def generate(text, out):
             shutil.copytree(f"crates/{c}", f"{d}/crates/{c}")
     if os.path.isdir("target"):
         shutil.copytree("target", f"{d}/target", ignore=lambda p, n: ["lend"] if p == "target" else [])
-    open(f"{d}/crates/{crate}/src/lib.rt", "w").write(text)
+    open(f"{d}/crates/{crate}/src/{root_file}", "w").write(text)
     r = subprocess.run(["rt", "dev", crate, "--generated", "gen"], cwd=d, capture_output=True, text=True)
     open(f"{work}/{out}.log", "w").write(r.stdout + r.stderr)
     for l in (r.stdout + r.stderr).splitlines():
@@ -178,9 +202,15 @@ def patterns(text):
 def carry(text):
     for x, y in patterns(text):
         text = re.sub(x, y, text)
-    for g in listed:
+    for g in listed + list(far):
         for m in ("Kinds", "Reads"):
             text = re.sub(re.escape(f"{P}.{g}.{m}") + r"\b", f"{P}.derived.{g}.{m}", text)
+    for g in far:                                              # a method's own name, where the twin has a function
+        there, calls = f"Rattle.{HOME}.proofs.{PUMP}.{g}", g.replace("_", "-")
+        text = re.sub(r"^use " + re.escape(f"{P}.{g}") + r"$", f"use {there} as {g}", text, flags=re.M)
+        text = re.sub(re.escape(f"{P}.{g}.") + r"(Met|Symbol)\b", there + r".\1", text)
+        text = text.replace(f'"{crate}::{g}"', f'"{HOME}::{PUMP}::{g}"')
+        text = re.sub(r"\bcalls-" + crate.replace("_", "-") + "·" + calls + r"(?![\w-])", f"calls-{HOME}·{PUMP}·{calls}", text)
     for f in moved:
         for m in (["Tie"] + [f"Lts-{g}" for g in members(f)] if f.startswith("+") else ["Lts", "Tie"]):
             text = re.sub(re.escape(f"{P}.{f}.{m}") + r"(?![\w-])", f"{P}.{f}.Proof.derived.{m}", text)
@@ -188,7 +218,7 @@ def carry(text):
     first = next(i for i, l in enumerate(lines) if l.startswith("use "))
     for m in ("Element", "Held"):
         if m + "." in text:
-            lines.insert(first, f"use {P}.{m}")
+            lines.insert(first, f"use Rattle.{HOME}.proofs.{m}" if m == "Held" and HOME else f"use {P}.{m}")
     lines.insert(0, f"-- Written by tools/lend.py from Rattle's derivation of the twin of `{crate}`; not edited by hand. Assumes nothing.")
     return reflow(lines)
 
@@ -274,7 +304,7 @@ for f in carrys:
     if not only or f in only:
         root = generate(twin_carry(f), "twin-" + f)
         place(f, root, "twin-" + f)
-        for g in walked:
+        for g in walked + list(far):
             if os.path.isdir(f"{root}/{g}"):
                 place_caller(g, root)
 for f in owns:

@@ -3,3 +3,7 @@ pub mod BitLaws
 pub mod RunLaws
 pub mod ListLaws
 pub mod PackLaws
+pub mod PumpOwns
+pub mod PumpPeeks
+pub mod PumpLends
+pub mod Held

@@ -27,6 +27,11 @@ unfoldable pub zeroRun : List ℕ → ℕ → ZeroRun
 zeroRun s p =
     cond (ltb (zeros s p (8 * length s - p)) (8 * length s - p)) (One (zeros s p (8 * length s - p))) None
 
+-- the position behind the one bit of a run at p, or p where there is none
+abbrev pub afterRun : ℕ → ZeroRun → ℕ
+afterRun p (One z) = p + z + 1
+afterRun p None = p
+
 -- four bytes as one number, most significant first
 abbrev pub be32 : List ℕ → ℕ → ℕ
 be32 s i = getD s i 0 * 0x1000000 + getD s (i + 1) 0 * 0x10000 + getD s (i + 2) 0 * 0x100 + getD s (i + 3) 0

@@ -1,9 +1,10 @@
 // The bits of a block: most significant first, zeros after the end. There is no cache: eight bytes are loaded where the position stands.
 ghost use mathlib.Core.Path.{_≡_};
-ghost use Prim.Native.Nat.{_+_, _-_, _*_, _/_, _%_, _^_, _≤_, _<_};
+ghost use Prim.Native.Nat.{_+_, _-_, _*_, _/_, _%_, _^_, _≤_, _<_, min};
 ghost use lib.Dec.{leb};
 ghost use lib.ListN.{length, getD};
-ghost use Rattle.bits.specs.Bits.{bitsAt, zeroRun, be32};
+ghost use Rattle.bits.specs.Bits.{bitsAt, zeroRun, afterRun, be32};
+ghost use Rattle.bits.specs.Pump.{ahead, aligned, nextBits, movedTo};
 
 // A place in a block, counted in bits from its start.
 pub struct BitPosition(pub u64);
@@ -23,6 +24,31 @@ impl BitPosition {
         ensures { λ r. ⌜ r .0 ≡ self .0 / 8 ⌝ }
     {
         ByteOffset((self.0 / 8) as usize)
+    }
+
+    // The bytes that the bits before it take, the last of them counted whole.
+    pub fn bytes(self) -> ByteOffset
+        ensures { λ r. ⌜ r .0 ≡ (self .0 + 7) / 8 ⌝ }
+    {
+        ByteOffset((self.0 / 8 + (self.0 % 8 + 7) / 8) as usize)
+    }
+
+    // The position n bits on. Positions end at 2^64 - 1.
+    pub fn ahead(self, n: u32) -> BitPosition
+        ensures { λ r. ⌜ r .0 ≡ ahead (self .0) n ⌝ }
+    {
+        let last: u64 = 0xFFFF_FFFF_FFFF_FFFF;
+        if last - self.0 < n as u64 {
+            return BitPosition(last);
+        }
+        BitPosition(self.0 + n as u64)
+    }
+
+    // The position at which the next byte begins, or this one where a byte begins here.
+    pub fn aligned(self) -> BitPosition
+        ensures { λ r. ⌜ r .0 ≡ aligned (self .0) ⌝ }
+    {
+        self.ahead(((8 - self.0 % 8) % 8) as u32)
     }
 }
 
@@ -97,17 +123,31 @@ pub fn top_bits(s: &[u8], at: BitPosition) -> u64
     load64(s, from.0) << (at.0 % 8)
 }
 
-// The next n bits.
-pub fn peek(s: &[u8], at: BitPosition, n: u32) -> u32
-    requires { ⌜ n ≤ 32 ⌝ }
-    ensures { λ r. ⌜ r ≡ bitsAt (now (s .entry)) (at .0) n ⌝ }
+// A count of bits to read: 32 at most.
+fn counted(n: u32) -> u32
+    ensures { λ r. ⌜ (r ≡ min n 32) × (r ≤ 32) ⌝ }
 {
+    if 32 < n { 32 } else { n }
+}
+
+// The next n bits, 32 at most.
+fn peek_at(s: &[u8], at: BitPosition, n: u32) -> u32
+    ensures { λ r. ⌜ r ≡ bitsAt (now (s .entry)) (at .0) (min n 32) ⌝ }
+{
+    let m = counted(n);
     let w = window(s, at.byte());
-    (((w << (at.0 % 8)) >> 32) >> (32 - n)) as u32
+    (((w << (at.0 % 8)) >> 32) >> (32 - m)) as u32
+}
+
+// The position behind the next n bits, 32 at most.
+fn past(at: BitPosition, n: u32) -> BitPosition
+    ensures { λ r. ⌜ r .0 ≡ ahead (at .0) (min n 32) ⌝ }
+{
+    at.ahead(counted(n))
 }
 
 // The zero bits from `at` up to the next one bit of the block. Runs are counted in 64 bits: no run of a block is too long.
-pub fn zero_run(s: &[u8], at: BitPosition) -> ZeroRun
+fn zero_run(s: &[u8], at: BitPosition) -> ZeroRun
     requires { ⌜ length (now s) < 2 ^ 58 ⌝ }
     ensures { λ r. ⌜ r ≡ zeroRun (now (s .entry)) (at .0) ⌝ }
 {
@@ -121,4 +161,100 @@ pub fn zero_run(s: &[u8], at: BitPosition) -> ZeroRun
         q = (q / 8 + 8) * 8;
     }
     ZeroRun::None
+}
+
+// The position behind the one bit of a run, or `at` where there is none.
+fn after_run(at: BitPosition, run: ZeroRun) -> BitPosition
+    requires { ⌜ afterRun (at .0) run < 2 ^ 64 ⌝ }
+    ensures { λ r. ⌜ r .0 ≡ afterRun (at .0) run ⌝ }
+{
+    match run {
+        ZeroRun::One(zeros) => BitPosition(at.0 + zeros + 1),
+        ZeroRun::None => at,
+    }
+}
+
+// A reader of a block's bits: its bytes, and the position of the next bit. Its functions are thin: each takes it apart and calls a function
+// on the bytes and the position.
+pub struct BitPumpMsb<'a> {
+    pub data: &'a [u8],
+    pub at: BitPosition,
+}
+
+impl<'a> BitPumpMsb<'a> {
+    // A pump at the block's first bit.
+    pub fn new(data: &'a [u8]) -> Self
+        ensures { λ r. ⌜ (r .«data» ≡ «data» .entry) × (r .at .0 ≡ 0) ⌝ }
+    {
+        BitPumpMsb {
+            data,
+            at: BitPosition(0),
+        }
+    }
+
+    // A pump at any bit, past the block's end too.
+    pub fn at_bit(data: &'a [u8], at: BitPosition) -> Self
+        ensures { λ r. ⌜ (r .«data» ≡ «data» .entry) × (r .at ≡ at) ⌝ }
+    {
+        BitPumpMsb { data, at }
+    }
+
+    // The next n bits. A count above 32 is taken as 32.
+    pub fn peek(&self, n: u32) -> u32
+        ensures { λ r. ⌜ r ≡ nextBits (now (self .entry)) n ⌝ }
+    {
+        peek_at(self.data, self.at, n)
+    }
+
+    // Moves on by n bits, any number of them.
+    pub fn skip(&mut self, n: u32)
+        ensures { λ _. ⌜ now (self .exit) ≡ movedTo (now (self .entry)) (ahead (now (self .entry) .at .0) n) ⌝ }
+    {
+        self.at = self.at.ahead(n);
+    }
+
+    // The next n bits, and moves on past them. A count above 32 is taken as 32.
+    pub fn get(&mut self, n: u32) -> u32
+        ensures { λ r. ⌜ (r ≡ nextBits (now (self .entry)) n) × (now (self .exit) ≡ movedTo (now (self .entry)) (ahead (now (self .entry) .at .0) (min n 32))) ⌝ }
+    {
+        let at = self.at;
+        let v = peek_at(self.data, at, n);
+        self.at = past(at, n);
+        v
+    }
+
+    // twin: ZeroRun::None
+    // The zeros up to the next one bit, and moves on past that bit. Where none is left it stays.
+    pub fn zero_run(&mut self) -> ZeroRun
+        requires { ⌜ length (now (now self .«data»)) < 2 ^ 58 ⌝ }
+        ensures { λ r. ⌜ (r ≡ zeroRun (now (now (self .entry) .«data»)) (now (self .entry) .at .0)) × (now (self .exit) ≡ movedTo (now (self .entry)) (afterRun (now (self .entry) .at .0) r)) ⌝ }
+    {
+        let at = self.at;
+        let run = zero_run(self.data, at);
+        self.at = after_run(at, run);
+        run
+    }
+
+    // twin: BitPosition(0)
+    // The bits before the next one, from the block's first on.
+    pub fn bit_position(&self) -> BitPosition
+        ensures { λ r. ⌜ r ≡ now (self .entry) .at ⌝ }
+    {
+        self.at
+    }
+
+    // twin: ByteOffset(0)
+    // The bytes that they take, the last of them counted whole.
+    pub fn byte_position(&self) -> ByteOffset
+        ensures { λ r. ⌜ r .0 ≡ (now (self .entry) .at .0 + 7) / 8 ⌝ }
+    {
+        self.at.bytes()
+    }
+
+    // Moves on to where the next byte begins.
+    pub fn align_byte(&mut self)
+        ensures { λ _. ⌜ now (self .exit) ≡ movedTo (now (self .entry)) (aligned (now (self .entry) .at .0)) ⌝ }
+    {
+        self.at = self.at.aligned();
+    }
 }

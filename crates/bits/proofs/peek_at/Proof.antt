@@ -1,4 +1,4 @@
--- `bits::peek` meets its contract: the bits before and after the n are shifted out, by `bitsAt-window`. Assumes nothing.
+-- `bits::peek_at` meets its contract: the bits before and after the n are shifted out, by `bitsAt-window`. Assumes nothing.
 use borrow.Author.Needs.{needs}
 use mathlib.Core.Path.{_≡_}
 use mathlib.Core.List.{List}
@@ -8,14 +8,17 @@ use lib.Pow.{pow-mono}
 use mir.Facts.{fits-bits}
 use Rattle.bits.specs.Bits.{bitsAt}
 use Rattle.bits.proofs.BitLaws.{bitsAt-lt, bitsAt-window}
-use Rattle.bits.proofs.peek.Statement.{statement}
-use Rattle.bits.proofs.peek.Tie as tie
+use Rattle.bits.proofs.peek_at.Statement.{statement}
+use Rattle.bits.proofs.peek_at.Tie as tie
 
 peeked : (s : List ℕ) (p n i w : ℕ) → n ≤ 32 → i ≡ p / 8 → w ≡ bitsAt s (8 * i) 64 → (w * 2 ^ (p % 8)) % 2 ^ 64 / 2 ^ 32 / 2 ^ (32 - n) ≡ bitsAt s p n
 peeked s p n i w h ei ew = rw (ew, ei) (bitsAt-window s p n h)
 
 peeked-lt : (s : List ℕ) (p n i w : ℕ) → n ≤ 32 → i ≡ p / 8 → w ≡ bitsAt s (8 * i) 64 → (w * 2 ^ (p % 8)) % 2 ^ 64 / 2 ^ 32 / 2 ^ (32 - n) < 2 ^ 32
 peeked-lt s p n i w h ei ew = rw (peeked s p n i w h ei ew) (lt-of-lt-of-le (bitsAt-lt s p n) (pow-mono h))
+
+counted-requires : tie.Need-counted-requires
+counted-requires c κs = search needs
 
 byte-requires : tie.Need-byte-requires
 byte-requires c κs = search needs
@@ -37,16 +40,18 @@ shr-result c = search needs
 
 cast-result-2 : tie.Need-cast-result-2
 cast-result-2 c =
-    fits-bits 32 tt (peeked-lt _ _ _ _ _ (c .before .before .before .before .pre) (c .before .before .byte .ensures) (c .before .window .ensures))
+    fits-bits 32 tt (peeked-lt _ _ _ _ _ (c .before .before .before .counted .ensures .1) (c .before .before .byte .ensures) (c .before .window .ensures))
 
 returns : tie.Need-returns
 returns c =
-    peeked _ _ _ _ _ (c .before .before .before .before .pre) (c .before .before .byte .ensures) (c .before .window .ensures)
+    rw (← c .before .before .before .counted .ensures .0)
+    (peeked _ _ _ _ _ (c .before .before .before .counted .ensures .1) (c .before .before .byte .ensures) (c .before .window .ensures))
 
-pub peek-spec : {M : Type 1} → statement M
-peek-spec =
+pub peek-at-spec : {M : Type 1} → statement M
+peek-at-spec =
     tie.close
     (tie.spec
+    counted-requires
     byte-requires
     window-requires
     shl-result
