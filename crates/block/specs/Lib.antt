@@ -2,3 +2,4 @@
 pub mod Records
 pub mod Blocks
 pub mod Images
+pub mod Words
