@@ -47,7 +47,7 @@ struct Bits {
 }
 
 impl Bits {
-    fn put(&mut self, value: u32, n: u32) {
+    fn put(&mut self, value: u64, n: u32) {
         for i in (0..n).rev() {
             if self.used % 8 == 0 {
                 self.bytes.push(0);
@@ -105,7 +105,7 @@ impl Encoder<'_> {
         let zeros = (code >> k).min(limit);
         self.out.put(0, zeros as u32);
         self.out.put(1, 1);
-        if zeros < limit { self.out.put((code & ((1 << k) - 1)) as u32, k) } else { self.out.put((code - 1) as u32, raw) }
+        if zeros < limit { self.out.put((code & ((1 << k) - 1)) as u64, k) } else { self.out.put((code - 1) as u64, raw) }
     }
 
     fn sample(&mut self, set: usize, n: usize, line: usize, p: usize, interpolated: bool) {
