@@ -34,6 +34,24 @@ impl Header {
         }
     }
 
+    /// What the first 16 bytes say.
+    pub fn of(bytes: &[u8]) -> Option<Header> {
+        let d: &[u8; 16] = bytes.first_chunk()?;
+        let two = |i: usize| u16::from_be_bytes([d[i], d[i + 1]]);
+        Some(Header {
+            signature: two(0),
+            lossless: d[2],
+            raw_type: d[3],
+            bits: d[4],
+            height: two(5),
+            rounded_width: two(7),
+            width: two(9),
+            block_size: two(11),
+            blocks: d[13],
+            lines: two(14),
+        })
+    }
+
     pub fn bytes(&self) -> [u8; 16] {
         let mut out = [0; 16];
         out[2..5].copy_from_slice(&[self.lossless, self.raw_type, self.bits]);
@@ -75,16 +93,19 @@ pub fn stream(header: &Header, rows: &[Vec<u8>], blocks: &[Vec<u8>]) -> Vec<u8> 
 /// What a picture wants of block, line, colour line and position.
 pub type Wanted<'a> = &'a mut dyn FnMut(usize, usize, usize, usize) -> u16;
 
-/// A picture's stream, lossless if there are no rows.
+/// The blocks of a picture, lossless if there are no rows.
+pub fn blocks(header: &Header, rows: &[Vec<u8>], want: Wanted) -> Vec<Vec<u8>> {
+    let block = |b: usize| {
+        let row = rows.get(b).map_or(&[][..], |r| &r[..]);
+        let mut of_block = |n, line, p| want(b, n, line, p);
+        encoder::encode(header.bits as u32, header.raw_type == 16, row, header.lines as usize, &mut of_block)
+    };
+    (0..header.blocks as usize).map(block).collect()
+}
+
+/// A picture's stream.
 pub fn encoded(header: &Header, rows: &[Vec<u8>], want: Wanted) -> Vec<u8> {
-    let blocks: Vec<Vec<u8>> = (0..header.blocks as usize)
-        .map(|b| {
-            let row = rows.get(b).map_or(&[][..], |r| &r[..]);
-            let mut of_block = |n, line, p| want(b, n, line, p);
-            encoder::encode(header.bits as u32, header.raw_type == 16, row, header.lines as usize, &mut of_block)
-        })
-        .collect();
-    stream(header, rows, &blocks)
+    stream(header, rows, &blocks(header, rows, want))
 }
 
 #[cfg(test)]
@@ -94,7 +115,8 @@ mod tests {
     #[test]
     fn header_of_marked_case_k() {
         let bytes = [0x49, 0x53, 1, 0, 14, 0, 6, 3, 0, 3, 0, 3, 0, 1, 0, 1];
-        assert_eq!(Header::new(true, false, 14, 768, 1).bytes(), bytes);
+        let header = Header::new(true, false, 14, 768, 1);
+        assert_eq!((header.bytes(), Header::of(&bytes)), (bytes, Some(header)));
     }
 
     #[test]

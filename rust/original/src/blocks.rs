@@ -35,3 +35,12 @@ pub mod blocks {
         read
     }
 }
+
+// The base rows of a stream that opened.
+pub mod rows {
+    use super::*;
+
+    pub fn rows<'a>(stream: &FujiCompressed<'a>) -> Vec<&'a [u8]> {
+        stream.q_bases.clone()
+    }
+}
