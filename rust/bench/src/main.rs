@@ -129,14 +129,19 @@ fn measure(name: &str, picture: &Picture) -> Option<f64> {
     let ours = Spread::of(kept.iter().map(|r| ns * r[1]));
     let ratio = Spread::of(kept.iter().map(|r| 2.0 * r[1] / (r[0] + r[2])));
     let bits = 8.0 * picture.stream.len() as f64 / picture.codes;
-    println!("{name}: rust {rust} ns a code, ours {ours} ns a code, ratio {ratio}, {} rounds of {all} kept, {bits:.2} bits a code", kept.len());
+    println!(
+        "{name}: rust {rust} ns a code, ours {ours} ns a code, ratio {ratio}, {} rounds of {all} kept, {bits:.2} bits a code",
+        kept.len()
+    );
     Some(ratio.median)
 }
 
 fn main() {
     let words: Vec<u16> = std::env::args().skip(1).map(|w| w.parse().expect("a number of blocks and a number of lines")).collect();
     let (blocks, lines) = (*words.first().unwrap_or(&6), *words.get(1).unwrap_or(&300));
-    println!("images are written over from run to run, and not cleared before; times are processor times of one thread, medians (least to most)");
+    println!(
+        "images are written over from run to run, and not cleared before; times are processor times of one thread, medians (least to most)"
+    );
     for (name, xtrans, lossy) in KINDS {
         measure(&format!("{name}, one block of 480 lines"), &Picture::new(1, 480, xtrans, lossy));
         let ratio = measure(&format!("{name}, {blocks} blocks of {lines} lines"), &Picture::new(blocks, lines, xtrans, lossy));

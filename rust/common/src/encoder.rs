@@ -147,8 +147,7 @@ impl Encoder<'_> {
         let (limit, raw) = (q.limit, q.raw);
         self.lines[place] = value.clamp(0, largest);
         let halved = (record.n == 64) as i32;
-        self.records[set][p % 2][index] =
-            Record { sum: (record.sum + residual.abs()) >> halved, n: (record.n >> halved) + 1 };
+        self.records[set][p % 2][index] = Record { sum: (record.sum + residual.abs()) >> halved, n: (record.n >> halved) + 1 };
         self.put_code(code, k, limit, raw);
     }
 

@@ -9,7 +9,13 @@ pub fn scene(kind: u64, largest: u32, n: usize, line: usize, p: usize, random: &
         0 => largest / 4 + (x * 7 + y * 5) % (largest / 2) + random.below(largest / 200 + 1),
         1 => largest / 3 + random.below(3),
         2 => random.below(largest + 1),
-        3 => if (x / 16 + y) % 2 == 0 { 0 } else { largest },
+        3 => {
+            if (x / 16 + y) % 2 == 0 {
+                0
+            } else {
+                largest
+            }
+        }
         _ => largest / 2 + (x / 9) % 3 + random.below(1 + largest / 1000),
     };
     v.min(largest) as u16

@@ -56,14 +56,8 @@ impl Header {
         let mut out = [0; 16];
         out[2..5].copy_from_slice(&[self.lossless, self.raw_type, self.bits]);
         out[13] = self.blocks;
-        let pairs = [
-            (0, self.signature),
-            (5, self.height),
-            (7, self.rounded_width),
-            (9, self.width),
-            (11, self.block_size),
-            (14, self.lines),
-        ];
+        let pairs =
+            [(0, self.signature), (5, self.height), (7, self.rounded_width), (9, self.width), (11, self.block_size), (14, self.lines)];
         for (at, v) in pairs {
             out[at..at + 2].copy_from_slice(&v.to_be_bytes());
         }

@@ -70,7 +70,10 @@ fn d4() -> Result<String, String> {
     let (theirs, mine) = (theirs::FujiHeader::parse(&bytes).unwrap(), FujiHeader::parse(&bytes).unwrap());
     let width = |i: u32| (ask(|| Ok(theirs.block_width(i))), ours(mine.block_width(i)));
     let (next, last) = (width(1), width(u32::MAX));
-    let said = format!("D-4, the width of block 1 of 1: the original {:?}, ours {:?}; of block 2^32 - 1: {:?}, {:?}", next.0, next.1, last.0, last.1);
+    let said = format!(
+        "D-4, the width of block 1 of 1: the original {:?}, ours {:?}; of block 2^32 - 1: {:?}, {:?}",
+        next.0, next.1, last.0, last.1
+    );
     let right = next == (Answer::Given(768), Answer::Refused(5))
         && last == (if CHECKED { Answer::Panicked } else { Answer::Given(768) }, Answer::Refused(5));
     if right { Ok(said) } else { Err(said) }

@@ -70,7 +70,13 @@ fn noise(r: &mut Random, length: usize) -> Vec<u8> {
         1 => (r.number() & r.number()) as u8,
         2 => (r.number() | r.number()) as u8,
         3 => 0,
-        _ => if r.chance(40) { 1 << r.below(8) } else { 0 },
+        _ => {
+            if r.chance(40) {
+                1 << r.below(8)
+            } else {
+                0
+            }
+        }
     };
     (0..length).map(|_| byte(r)).collect()
 }
@@ -80,7 +86,12 @@ pub fn whole(r: &mut Random) -> (Header, Vec<u8>) {
     let h = header(r);
     let rows = rows(r, &h);
     if r.chance(6) {
-        let blocks: Vec<Vec<u8>> = (0..h.blocks).map(|_| { let n = r.below(14000) as usize; noise(r, n) }).collect();
+        let blocks: Vec<Vec<u8>> = (0..h.blocks)
+            .map(|_| {
+                let n = r.below(14000) as usize;
+                noise(r, n)
+            })
+            .collect();
         return (h, stream(&h, &rows, &blocks));
     }
     let kinds: Vec<u64> = (0..h.blocks).map(|_| r.below(5)).collect();

@@ -4,27 +4,9 @@ use crate::Record;
 unsafe extern "C" {
     pub fn fuji_parse(stream: *const u8, stream_length: usize, header: *mut [usize; 9], refusal: *mut [usize; 4]);
     pub fn fuji_open(stream: *const u8, stream_length: usize, header: *mut [usize; 9], refusal: *mut [usize; 4]);
-    pub fn fuji_block_width(
-        stream: *const u8,
-        stream_length: usize,
-        block: u32,
-        width: *mut [usize; 1],
-        refusal: *mut [usize; 4],
-    );
-    pub fn fuji_block_range(
-        stream: *const u8,
-        stream_length: usize,
-        block: usize,
-        range: *mut [usize; 2],
-        refusal: *mut [usize; 4],
-    );
-    pub fn fuji_base_row_range(
-        stream: *const u8,
-        stream_length: usize,
-        block: usize,
-        range: *mut [usize; 2],
-        refusal: *mut [usize; 4],
-    );
+    pub fn fuji_block_width(stream: *const u8, stream_length: usize, block: u32, width: *mut [usize; 1], refusal: *mut [usize; 4]);
+    pub fn fuji_block_range(stream: *const u8, stream_length: usize, block: usize, range: *mut [usize; 2], refusal: *mut [usize; 4]);
+    pub fn fuji_base_row_range(stream: *const u8, stream_length: usize, block: usize, range: *mut [usize; 2], refusal: *mut [usize; 4]);
     pub fn fuji_decode(
         stream: *const u8,
         stream_length: usize,

@@ -113,8 +113,22 @@ impl FujiHeader {
         let (width, size, lines) = (two(self.width), two(self.block_size), two(self.lines));
         let kind = if self.xtrans { 16 } else { 0 };
         [
-            0x49, 0x53, self.lossless as u8, kind, one(self.bits), height[0], height[1], rounded[0], rounded[1], width[0],
-            width[1], size[0], size[1], one(self.blocks), lines[0], lines[1],
+            0x49,
+            0x53,
+            self.lossless as u8,
+            kind,
+            one(self.bits),
+            height[0],
+            height[1],
+            rounded[0],
+            rounded[1],
+            width[0],
+            width[1],
+            size[0],
+            size[1],
+            one(self.blocks),
+            lines[0],
+            lines[1],
         ]
     }
 }
@@ -166,14 +180,7 @@ impl<'a> FujiCompressed<'a> {
     }
 
     /// `decode` with lent scratch. Refusal 10 too.
-    pub fn decode_with(
-        &self,
-        scratch: &mut Scratch,
-        image: &mut [u16],
-        width: u32,
-        height: u32,
-        tile: &ColorTile,
-    ) -> Result<()> {
+    pub fn decode_with(&self, scratch: &mut Scratch, image: &mut [u16], width: u32, height: u32, tile: &ColorTile) -> Result<()> {
         let mut refusal = [0; 4];
         unsafe {
             ffi::fuji_decode(
@@ -195,13 +202,7 @@ impl<'a> FujiCompressed<'a> {
     }
 
     /// `decode_region` with lent scratch. Refusal 10 too.
-    pub fn decode_region_with(
-        &self,
-        scratch: &mut Scratch,
-        image: &mut [u16],
-        region: Rect,
-        tile: &ColorTile,
-    ) -> Result<()> {
+    pub fn decode_region_with(&self, scratch: &mut Scratch, image: &mut [u16], region: Rect, tile: &ColorTile) -> Result<()> {
         let mut refusal = [0; 4];
         unsafe {
             ffi::fuji_decode_region(

@@ -4,7 +4,8 @@ use common::random::Random;
 use common::stream::{Header, encoded, stream};
 use fuji_compressed::{ColorTile, FujiCompressed, FujiHeader, Record, Rect, Refusal, Scratch};
 
-const TILE: ColorTile = [[0, 1, 0, 1, 0, 1], [1, 2, 1, 2, 1, 2], [0, 1, 0, 1, 0, 1], [1, 2, 1, 2, 1, 2], [0, 1, 0, 1, 0, 1], [1, 2, 1, 2, 1, 2]];
+const TILE: ColorTile =
+    [[0, 1, 0, 1, 0, 1], [1, 2, 1, 2, 1, 2], [0, 1, 0, 1, 0, 1], [1, 2, 1, 2, 1, 2], [0, 1, 0, 1, 0, 1], [1, 2, 1, 2, 1, 2]];
 const SPARE: u16 = 0xA5A5;
 
 fn refusal(number: u32, block: usize, line: usize) -> Refusal {

@@ -64,7 +64,12 @@ fn wanted(xtrans: bool, tile: &Tile, n: usize) -> Vec<Vec<u16>> {
     }
     let filled = |line: Vec<Option<u16>>| {
         let mut last = line.iter().find_map(|v| *v).unwrap_or(0);
-        line.into_iter().map(|v| { last = v.unwrap_or(last); last }).collect()
+        line.into_iter()
+            .map(|v| {
+                last = v.unwrap_or(last);
+                last
+            })
+            .collect()
     };
     all.into_iter().map(filled).collect()
 }

@@ -39,9 +39,7 @@ impl<'a> GridWriter<'a> {
         image_width: u32,
         image_height: u32,
     ) -> Option<Self> {
-        let fits = out.len() >= width as usize * height as usize
-            && origin.0 + width <= image_width
-            && origin.1 + height <= image_height;
+        let fits = out.len() >= width as usize * height as usize && origin.0 + width <= image_width && origin.1 + height <= image_height;
         if !fits || samples != 1 || tile_height != image_height {
             return None;
         }

@@ -159,11 +159,8 @@ fn predictions(r: &mut Random, tables: &[Tables; 3], out: &mut Answers, odd: boo
         let bits = DEPTHS[depth];
         let base = line_base(r);
         let [a, b, c, d, e] = neighbours(r, (1 << bits) - 1);
-        let (kind, last, p) = if odd {
-            (5, e, tables[depth].odd(base, a, b, c, d, e))
-        } else {
-            (4, 0, tables[depth].even(base, a, b, c, d))
-        };
+        let (kind, last, p) =
+            if odd { (5, e, tables[depth].odd(base, a, b, c, d, e)) } else { (4, 0, tables[depth].even(base, a, b, c, d)) };
         let given = [bits, base, a as u32, b as u32, c as u32, d as u32, last as u32];
         let answers = [p.prediction as u32, p.table, p.index, p.second as u32];
         out.add(kind, &[&given[..], &answers[..]].concat(), &[]);
