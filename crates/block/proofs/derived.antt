@@ -7,6 +7,8 @@ pub mod decode_region_alone
 pub mod decode_touched
 pub mod decode_whole
 pub mod fetch
+pub mod fuji_decode
+pub mod fuji_decode_region
 pub mod line
 pub mod load_set
 pub mod read_lines

@@ -5,3 +5,4 @@ pub mod Images
 pub mod TightBlocks
 pub mod WrittenBlocks
 pub mod TightReadings
+pub mod Words
