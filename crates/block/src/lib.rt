@@ -798,6 +798,7 @@ pub fn read_tight(d: &[u8], b: usize, lines: &mut [u16], rs: &mut [Record]) -> D
         Parsed::Refused(x) => Decoded::Refused(x),
         Parsed::Header(h) => read_tight_opened(d, h, b, lines, rs),
     }
+}
 
 // ---- for C: answers as numbers, and the two entries
 
