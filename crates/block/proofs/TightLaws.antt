@@ -3,7 +3,7 @@ use mathlib.Core.Bool.{Bool, true, false, cond, _&&_}
 use mathlib.Core.List.{List, []}
 use mathlib.Core.Option.{some}
 use mathlib.Core.Path.{_≡_, refl, sym, ap, _∙_, subst}
-use Prim.Native.Nat.{ℕ, suc, _+_, _-_, _*_, _/_, _%_, _≤_, _<_}
+use Prim.Native.Nat.{ℕ, suc, _+_, _-_, _*_, _/_, _%_, _≤_, _<_, min}
 use native.Mathlib.Omega.{arith}
 use borrow.Author.Tests.{lt-ltb, le-ltb, eq-eqb, ne-eqb}
 use lib.Dec.{ltb, eqb}
@@ -30,10 +30,11 @@ pub other-length : (s : List ℕ) (at n : ℕ) → n ≡ length s → (n ≡ at 
 unfolding isTail
 other-length s at n e ne = rw (ne-eqb (length s) ((at + 7) / 8) (λ q. ne (e ∙ q ∙ sym (rounded at))))
 
-pub same-length : (s : List ℕ) (at n spare v : ℕ) → n ≡ length s → n ≡ at / 8 + (at % 8 + 7) / 8 → spare ≡ 8 * n - at → v ≡ bitsAt s at spare → eqb v 0 ≡ isTail s at
+pub same-length : (s : List ℕ) (at n spare v : ℕ) → n ≡ length s → n ≡ at / 8 + (at % 8 + 7) / 8 → spare ≡ 8 * n - at → v ≡ bitsAt s at (min spare 32)
+    → eqb v 0 ≡ isTail s at
 unfolding isTail
 same-length s at n spare v e f g h =
-    let k : spare ≡ 8 * length s - at = omega arith in
+    let k : min spare 32 ≡ 8 * length s - at = omega arith in
     rw (h, k, eq-eqb (length s) ((at + 7) / 8) (sym e ∙ f ∙ rounded at))
 
 -- ---- the answer

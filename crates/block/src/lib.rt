@@ -669,7 +669,7 @@ fn is_tail(s: &[u8], at: BitPosition) -> bool
         return false;
     }
     let spare = (8 * length - at.0) as u32;
-    bits::peek(s, at, spare) == 0
+    bits::peek_at(s, at, spare) == 0
 }
 
 // What the tight reading answers for block b, once a walk over its lines has said this.

@@ -14,7 +14,7 @@ returns c =
 returns-2 : tie.Need-returns-2
 returns-2 c =
     let a = c .before .before .before .before .before .before .args in
-    same-length (a .s .now) (a .at .0) (length (a .s .now)) _ _ refl (c .before .before .if1 .left) refl (c .peek .ensures)
+    same-length (a .s .now) (a .at .0) (length (a .s .now)) _ _ refl (c .before .before .if1 .left) refl (c .peek-at .ensures)
 
 pub is-tail-spec : {M : Type 1} → statement M
 is-tail-spec =
