@@ -9,6 +9,7 @@ pub mod decode_whole
 pub mod fetch
 pub mod fuji_decode
 pub mod fuji_decode_region
+pub mod fuji_read_tight
 pub mod line
 pub mod load_set
 pub mod read_lines

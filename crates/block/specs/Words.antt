@@ -2,12 +2,14 @@
 use mathlib.Core.List.{List, [], _∷_}
 use mathlib.Core.Path.{_≡_}
 use Prim.Native.Nat.{ℕ}
+use lib.ListN.{length}
 use Rattle.statistics.specs.declared.Record.{Record}
 use Rattle.stream.specs.Refusals.{numberOf}
 use Rattle.stream.specs.declared.Refusal.{Refusal}
 use Rattle.stream.specs.declared.Refusal.the-variants.{ShortHeader, BadHeader, ShortSizes, ShortBases, NoBlock, WrongSize, OutsideImage, Lossy, WrongCount, ShortScratch, AboveLargest, NotPredicted, ShortOutput, Truncated, NotTight}
 use Rattle.region.specs.declared.Rect.{Rect}
 use Rattle.block.specs.Images.{Beginning, Left}
+use Rattle.block.specs.TightReadings.{tightBegins, LeftTight}
 use Rattle.block.specs.declared.Decoded.{Decoded}
 use Rattle.block.specs.declared.Decoded.the-variants.{Done, Refused}
 
@@ -46,4 +48,9 @@ pub record Told (d : List ℕ) (r : Rect) (tile : List ℕ) (b : Beginning) (ima
     (image' lines' : List ℕ) (rs' : List Record) (words : List ℕ) : Type 0 where
   pub answer : Decoded
   pub left : Left d r tile b image lines rs image' lines' rs' answer
+  pub told : words ≡ answerWords answer
+
+pub record ToldTight (d : List ℕ) (b : ℕ) (lines : List ℕ) (rs : List Record) (lines' : List ℕ) (rs' : List Record) (words : List ℕ) : Type 0 where
+  pub answer : Decoded
+  pub left : LeftTight d b (tightBegins d b (length lines) (length rs)) lines rs lines' rs' answer
   pub told : words ≡ answerWords answer

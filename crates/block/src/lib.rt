@@ -14,7 +14,7 @@ ghost use Rattle.block.specs.Blocks.{AllInRange, readLine, IsLined, Show
 ghost use Rattle.block.specs.Images.{formOf, bytesOf, Pictured, orElse, answerOf, withScratch, withRegion, regionBegins, wholeOf, isWhole, withSize, imageBegins, Left, LeftImage};
 ghost use Rattle.block.specs.TightBlocks.{isTail, tightAnswer};
 ghost use Rattle.block.specs.TightReadings.{withBlock, tightBegins, LeftTight};
-ghost use Rattle.block.specs.Words.{refusalWords, answerWords, Told};
+ghost use Rattle.block.specs.Words.{refusalWords, answerWords, Told, ToldTight};
 ghost use Rattle.block.specs.declared.Decoded.the-variants.{Done, Refused};
 ghost use Rattle.stream.specs.Streams.{openOf};
 ghost use Rattle.stream.specs.declared.Parsed.the-variants.{Header};
@@ -800,7 +800,7 @@ pub fn read_tight(d: &[u8], b: usize, lines: &mut [u16], rs: &mut [Record]) -> D
     }
 }
 
-// ---- for C: answers as numbers, and the two entries
+// ---- for C: answers as numbers, and the entries
 
 // The number of a refusal, and the block, the line and the index that it names, 0 where it names none.
 pub fn refusal_words(r: Refusal) -> [usize; 4]
@@ -878,6 +878,22 @@ pub extern "C" fn fuji_decode(
 {
     let t = *tile;
     let a = decode(d, width, height, t, image, lines, rs);
+    let w = answer_words(a);
+    *refusal = w;
+}
+
+// `read_tight` for C.
+#[no_mangle]
+pub extern "C" fn fuji_read_tight(
+    d: &[u8],
+    b: usize,
+    lines: &mut [u16],
+    rs: &mut [Record],
+    refusal: &mut [usize; 4],
+)
+    ensures { λ _. ⌜ ToldTight (now (d .entry)) b (now (lines .entry)) (now (rs .entry)) (now (lines .exit)) (now (rs .exit)) (now (refusal .exit)) ⌝ }
+{
+    let a = read_tight(d, b, lines, rs);
     let w = answer_words(a);
     *refusal = w;
 }
