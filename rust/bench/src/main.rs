@@ -76,22 +76,43 @@ impl Picture {
         time
     }
 
-    /// Rounds of Rust, ours, Rust: those that are kept, and how many there were.
-    fn rounds(&self) -> (Vec<[f64; 3]>, usize) {
+    /// The tight reading of the only block.
+    fn time_tight(&self, scratch: &mut Scratch) -> f64 {
+        let start = seconds();
+        FujiCompressed::new(black_box(&self.stream)).unwrap().read_tight_with(scratch, 0).unwrap();
+        seconds() - start
+    }
+
+    /// Rounds of Rust, ours, Rust.
+    fn against_theirs(&self) -> Rounds {
         let (mut want, mut got, mut scratch) = (self.image(), self.image(), Scratch::new());
         self.time_theirs(&mut want);
         self.time_ours(&mut got, &mut scratch);
         assert!(want == got, "the two pictures differ");
-        let mut rounds: Vec<[f64; 3]> = vec![];
-        loop {
-            for _ in 0..ROUNDS {
-                rounds.push([self.time_theirs(&mut want), self.time_ours(&mut got, &mut scratch), self.time_theirs(&mut want)]);
-            }
-            let fastest = rounds.iter().map(|r| r[0].min(r[2])).fold(f64::MAX, f64::min);
-            let kept: Vec<[f64; 3]> = rounds.iter().filter(|r| r[0].max(r[2]) <= QUIET * fastest).copied().collect();
-            if kept.len() >= FEWEST_KEPT || rounds.len() >= MOST_ROUNDS {
-                return (kept, rounds.len());
-            }
+        rounds(|| [self.time_theirs(&mut want), self.time_ours(&mut got, &mut scratch), self.time_theirs(&mut want)])
+    }
+
+    /// Rounds of the ordinary reading, the tight reading, the ordinary reading; all ours.
+    fn tight_against_ordinary(&self) -> Rounds {
+        let (mut image, mut scratch) = (self.image(), Scratch::new());
+        rounds(|| [self.time_ours(&mut image, &mut scratch), self.time_tight(&mut scratch), self.time_ours(&mut image, &mut scratch)])
+    }
+}
+
+/// The rounds that are kept, and how many there were.
+struct Rounds {
+    kept: Vec<[f64; 3]>,
+    all: usize,
+}
+
+fn rounds(mut round: impl FnMut() -> [f64; 3]) -> Rounds {
+    let mut rounds: Vec<[f64; 3]> = vec![];
+    loop {
+        rounds.extend(std::iter::repeat_with(&mut round).take(ROUNDS));
+        let fastest = rounds.iter().map(|r| r[0].min(r[2])).fold(f64::MAX, f64::min);
+        let kept: Vec<[f64; 3]> = rounds.iter().filter(|r| r[0].max(r[2]) <= QUIET * fastest).copied().collect();
+        if kept.len() >= FEWEST_KEPT || rounds.len() >= MOST_ROUNDS {
+            return Rounds { kept, all: rounds.len() };
         }
     }
 }
@@ -117,20 +138,21 @@ impl std::fmt::Display for Spread {
     }
 }
 
-/// Prints what was measured, and gives the ratio.
-fn measure(name: &str, picture: &Picture) -> Option<f64> {
-    let (kept, all) = picture.rounds();
+/// Prints what was measured, and gives the ratio. `names` are those of the outer and of the inner runs of a round.
+fn measure(name: &str, names: [&str; 2], picture: &Picture, Rounds { kept, all }: Rounds) -> Option<f64> {
     if kept.is_empty() {
         println!("{name}: no quiet round of {all}");
         return None;
     }
     let ns = 1e9 / picture.codes;
-    let rust = Spread::of(kept.iter().map(|r| ns * (r[0] + r[2]) / 2.0));
-    let ours = Spread::of(kept.iter().map(|r| ns * r[1]));
+    let outer = Spread::of(kept.iter().map(|r| ns * (r[0] + r[2]) / 2.0));
+    let inner = Spread::of(kept.iter().map(|r| ns * r[1]));
     let ratio = Spread::of(kept.iter().map(|r| 2.0 * r[1] / (r[0] + r[2])));
     let bits = 8.0 * picture.stream.len() as f64 / picture.codes;
     println!(
-        "{name}: rust {rust} ns a code, ours {ours} ns a code, ratio {ratio}, {} rounds of {all} kept, {bits:.2} bits a code",
+        "{name}: {} {outer} ns a code, {} {inner} ns a code, ratio {ratio}, {} rounds of {all} kept, {bits:.2} bits a code",
+        names[0],
+        names[1],
         kept.len()
     );
     Some(ratio.median)
@@ -142,11 +164,21 @@ fn main() {
     println!(
         "images are written over from run to run, and not cleared before; times are processor times of one thread, medians (least to most)"
     );
-    for (name, xtrans, lossy) in KINDS {
-        measure(&format!("{name}, one block of 480 lines"), &Picture::new(1, 480, xtrans, lossy));
-        let ratio = measure(&format!("{name}, {blocks} blocks of {lines} lines"), &Picture::new(blocks, lines, xtrans, lossy));
+    let say = |name: &str, ratio: Option<f64>| {
         if let Some(ratio) = ratio {
             println!("ratio {name} {ratio:.2}");
+        }
+    };
+    for (name, xtrans, lossy) in KINDS {
+        let one = Picture::new(1, 480, xtrans, lossy);
+        measure(&format!("{name}, one block of 480 lines"), ["rust", "ours"], &one, one.against_theirs());
+        let whole = Picture::new(blocks, lines, xtrans, lossy);
+        let title = format!("{name}, {blocks} blocks of {lines} lines");
+        say(name, measure(&title, ["rust", "ours"], &whole, whole.against_theirs()));
+        if !lossy {
+            let tight = if xtrans { "tight-xtrans" } else { "tight-bayer" };
+            let title = format!("{tight}, one block of 480 lines");
+            say(tight, measure(&title, ["decode", "read_tight"], &one, one.tight_against_ordinary()));
         }
     }
 }
