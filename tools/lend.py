@@ -47,7 +47,7 @@ listed = touch + walked + [g for f in carrys for g in members(f)]
 moved = touch + carrys + owns                                  # their Lts and Tie stand below Proof
 
 # ---- the twin's text
-item = re.compile(r"(?:^// twin: (?P<expr>[^\n]*)\n)?(?:^//[^\n]*\n)*^(?P<head>(?:pub )?fn (?P<name>\w+)[^{]*?(?:\n    (?:requires|ensures)[^\n]*)*)\s*\{\n(?P<body>.*?)\n\}\n", re.S | re.M)
+item = re.compile(r"(?:^// twin: (?P<expr>[^\n]*)\n)?(?:^//[^\n]*\n)*^(?P<head>(?:#\[no_mangle\]\n)?(?:pub )?(?:extern \"C\" )?fn (?P<name>\w+)[^{]*?(?:\n    (?:requires|ensures)[^\n]*)*)\s*\{\n(?P<body>.*?)\n\}\n", re.S | re.M)
 
 def trivial(t):
     t = re.sub(r"⌜.*?⌝", "⌜ 0 < 1 ⌝", t, flags=re.S)           # the shape of a clause is kept, and not what it says

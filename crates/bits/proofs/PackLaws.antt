@@ -6,7 +6,7 @@ use Prim.Native.Nat.{ℕ, zero, suc, _+_, _-_, _*_, _/_, _%_, _^_, _≤_, _<_}
 use native.Mathlib.Nat.{zero-div, zero-mod, zero-add, one-mul, zero-mul, suc-add, pow-suc, mod-lt, div-lt-iff-lt-mul, sub-zero, suc-sub-suc, le-of-suc-le-suc, not-suc-le-zero}
 use native.Mathlib.Omega.{arith}
 use lib.Dec.{eqb, lit<}
-use lib.ListN.{length, getD, take, drop, replicate, length-append, length-drop, drop-of-length-le}
+use lib.ListN.{length, getD, take, drop, replicate, length-drop, drop-of-length-le}
 use lib.Pow.{pow-pos, split, high, low}
 use lib.Seq.{drop-at, drop-nil, drop-drop, drop-append-le}
 use Rattle.bits.specs.Bits.{bitsAt}

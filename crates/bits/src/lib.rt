@@ -131,7 +131,7 @@ fn counted(n: u32) -> u32
 }
 
 // The next n bits, 32 at most.
-fn peek_at(s: &[u8], at: BitPosition, n: u32) -> u32
+pub fn peek_at(s: &[u8], at: BitPosition, n: u32) -> u32
     ensures { λ r. ⌜ r ≡ bitsAt (now (s .entry)) (at .0) (min n 32) ⌝ }
 {
     let m = counted(n);

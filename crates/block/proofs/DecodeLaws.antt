@@ -46,7 +46,7 @@ module _ (F : Form) (bases s : List ℕ) where
   read-before n e = rw e
 
   -- all are read
-  all-read : (n : ℕ) (z : State) → readLines F bases s n ≡ some z → linesRead F bases s n ≡ n
+  pub all-read : (n : ℕ) (z : State) → readLines F bases s n ≡ some z → linesRead F bases s n ≡ n
   all-read zero z e = read-none
   all-read (suc n) z e = read-last n z e
 

@@ -10,4 +10,5 @@ pub mod BlockLaws
 pub mod SampleLaws
 pub mod WrittenLaws
 pub mod DecodeLaws
+pub mod TightLaws
 pub mod ImageLaws

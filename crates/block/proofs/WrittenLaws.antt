@@ -2,15 +2,14 @@
 use mathlib.Core.Bool.{Bool}
 use mathlib.Core.List.{List, [], _++_, append-nil}
 use mathlib.Core.Option.{none}
-use mathlib.Core.Path.{_≡_, refl, ap, _∙_}
+use mathlib.Core.Path.{_≡_, refl, ap}
 use Prim.Native.Nat.{ℕ, zero, suc}
-use native.Mathlib.Numerals.{add-one}
 use Rattle.map.specs.Places.{widthOf}
 use Rattle.pass.specs.Steps.{planOf, passSteps}
 use Rattle.pass.specs.declared.Plan.{Plan}
-use Rattle.writing.specs.Writings.{Writing, writePass}
+use Rattle.writing.specs.Writings.{writePass}
 use Rattle.writing.proofs.WriteLaws.{pass-after, writes-right}
-use Rattle.block.specs.WrittenBlocks.{WriteState, repeats, enterWriting, leaveWriting, writePassAt, beforeWriting, writeLine, writeLines, startWriting}
+use Rattle.block.specs.WrittenBlocks.{WriteState, repeats, enterWriting, leaveWriting, writePassAt, beforeWriting, writeLine, writeLines}
 use Rattle.block.specs.declared.Form.{Form}
 
 -- bits that stand before those of a state, and a state with no bits yet
@@ -19,6 +18,13 @@ afterBits l r = record { lines = r .lines; records = r .records; bits = l ++ r .
 
 abbrev pub afreshState : WriteState → WriteState
 afreshState r = record { lines = r .lines; records = r .records; bits = []; wrong = r .wrong }
+
+-- what may be exchanged with bits that stand before adds its own bits to what was there
+adds : (f : WriteState → WriteState) → ((l : List Bool) (r : WriteState) → f (afterBits l r) ≡ afterBits l (f r))
+    → (r : WriteState) → f r ≡ afterBits (r .bits) (f (afreshState r))
+adds f each r =
+    let e : afterBits (r .bits) (afreshState r) ≡ r = rw (append-nil (r .bits)) in
+    rw e at (each (r .bits) (afreshState r))
 
 -- ---- things that are done one after the other
 
@@ -51,14 +57,10 @@ module _ (F : Form) (t : List ℕ) where
 
   -- so what they write is what was there, and their own bits
   pub passAt-adds : (n i : ℕ) (r : WriteState) → writePassAt F t n i r ≡ afterBits (r .bits) (writePassAt F t n i (afreshState r))
-  passAt-adds n i r =
-      let e : afterBits (r .bits) (afreshState r) ≡ r = rw (append-nil (r .bits)) in
-      rw e at (passAt-after n (r .bits) i (afreshState r))
+  passAt-adds n i = adds (writePassAt F t n i) (λ l. passAt-after n l i)
 
   pub line-adds : (n : ℕ) (r : WriteState) → writeLine F t n r ≡ afterBits (r .bits) (writeLine F t n (afreshState r))
-  line-adds n r =
-      let e : afterBits (r .bits) (afreshState r) ≡ r = rw (append-nil (r .bits)) in
-      rw e at (line-after (r .bits) n (afreshState r))
+  line-adds n = adds (writeLine F t n) (λ l. line-after l n)
 
   -- where no sample is wrong in the end, none was before
   pub passAt-right : (n i : ℕ) (r : WriteState) → (writePassAt F t n i r) .wrong ≡ none → r .wrong ≡ none

@@ -7,9 +7,16 @@ pub mod decode_region_alone
 pub mod decode_touched
 pub mod decode_whole
 pub mod fetch
+pub mod fuji_decode
+pub mod fuji_decode_region
+pub mod fuji_read_tight
 pub mod line
 pub mod load_set
 pub mod read_lines
+pub mod read_tight
+pub mod read_tight_block
+pub mod read_tight_in
+pub mod read_tight_opened
 pub mod restart
 pub mod restart_main
 pub mod start_records

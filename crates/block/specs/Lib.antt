@@ -4,3 +4,5 @@ pub mod Blocks
 pub mod Images
 pub mod TightBlocks
 pub mod WrittenBlocks
+pub mod TightReadings
+pub mod Words

@@ -1,7 +1,8 @@
 // A block: six passes make a line, and lines make a block. The 336 records are lent as a slice of records; only `fetch` and `update` touch an
 // element, and the functions that pass the slice on are proved through derivations that a tool writes (tools/README.md).
 ghost use mathlib.Core.Path.{_≡_};
-ghost use mathlib.Core.Bool.{cond, _&&_};
+ghost use mathlib.Core.Bool.{true, cond, _&&_};
+ghost use mathlib.Core.List.{[], _∷_};
 ghost use Prim.Native.Nat.{_+_, _-_, _*_, _%_, _^_, _≤_, _<_};
 ghost use lib.Dec.{ltb, eqb};
 ghost use lib.ListN.{length, getD, set};
@@ -10,7 +11,10 @@ ghost use Rattle.map.specs.Places.{widthOf, ArePlaces, Fits};
 ghost use Rattle.pass.specs.Readings.{noRecord, recordsOf, SetInRange, quantisersOf, Depth};
 ghost use Rattle.block.specs.Records.{startRecord, startRecords, restartedMain, baseOf, isRestarted, setOf, putSet, clearRecords};
 ghost use Rattle.block.specs.Blocks.{AllInRange, readLine, IsLined, Shown, shownLines, IsWalked};
-ghost use Rattle.block.specs.Images.{Pictured, orElse, answerOf, withScratch, withRegion, regionBegins, wholeOf, isWhole, withSize, imageBegins, Left, LeftImage};
+ghost use Rattle.block.specs.Images.{formOf, bytesOf, Pictured, orElse, answerOf, withScratch, withRegion, regionBegins, wholeOf, isWhole, withSize, imageBegins, Left, LeftImage};
+ghost use Rattle.block.specs.TightBlocks.{isTail, tightAnswer};
+ghost use Rattle.block.specs.TightReadings.{withBlock, tightBegins, LeftTight};
+ghost use Rattle.block.specs.Words.{refusalWords, answerWords, Told, ToldTight};
 ghost use Rattle.block.specs.declared.Decoded.the-variants.{Done, Refused};
 ghost use Rattle.stream.specs.Streams.{openOf};
 ghost use Rattle.stream.specs.declared.Parsed.the-variants.{Header};
@@ -650,4 +654,246 @@ pub fn decode_region_alone(d: &[u8], r: Rect, tile: [u8; 36], image: &mut [u16])
     let mut lines = [0u16; 9252];
     let mut rs = [cleared(); 336];
     decode_region(d, r, tile, image, &mut lines, &mut rs)
+}
+
+// ---- the tight reading
+
+// Whether the block ends where its last code does: with no byte more than the bits need, and with spare bits of 0.
+fn is_tail(s: &[u8], at: BitPosition) -> bool
+    requires { ⌜ length (now s) < 2 ^ 32 ⌝ }
+    ensures { λ r. ⌜ r ≡ isTail (now (s .entry)) (at .0) ⌝ }
+{
+    let needed = at.0 / 8 + (at.0 % 8 + 7) / 8;
+    let length = s.len() as u64;
+    if length != needed {
+        return false;
+    }
+    let spare = (8 * length - at.0) as u32;
+    bits::peek_at(s, at, spare) == 0
+}
+
+// What the tight reading answers for block b, once a walk over its lines has said this.
+fn tight_answer(s: &[u8], form: Form, b: usize, count: usize, got: Walked) -> Decoded
+    requires { ⌜ (length (now s) < 2 ^ 32) × IsWalked form [] (now s) count got ⌝ }
+    ensures { λ r. ⌜ r ≡ tightAnswer form b count (now (s .entry)) ⌝ }
+{
+    let ok = got.ok;
+    if !ok {
+        return Decoded::Refused(Refusal::Truncated(b, got.line));
+    }
+    let tight = got.tight_lines;
+    if tight < count {
+        return Decoded::Refused(Refusal::NotTight(tight));
+    }
+    if is_tail(s, got.at) {
+        return Decoded::Done;
+    }
+    Decoded::Refused(Refusal::NotTight(count))
+}
+
+// A part of no column and no row: a walk to it shows nothing.
+fn no_part() -> Part
+    ensures { λ r. ⌜ Fits r (0 ∷ []) ⌝ }
+{
+    Part {
+        left: 0,
+        right: 0,
+        start: 0,
+        stride: 1,
+        top: 0,
+        bottom: 0,
+    }
+}
+
+fn line_count(h: FujiHeader) -> usize
+    ensures { λ r. ⌜ r ≡ h .lines ⌝ }
+{
+    h.lines as usize
+}
+
+// twin: Decoded::Done
+// One walk over block b, which shows nothing.
+fn read_tight_block(
+    d: &[u8],
+    h: FujiHeader,
+    b: usize,
+    lines: &mut [u16],
+    rs: &mut [Record],
+) -> Decoded
+    requires { ⌜ (openOf (now d) ≡ Header h) × (h .lossless ≡ true) ⌝ }
+    requires { ⌜ (length (now lines) ≡ 18 * (widthOf (h .xtrans) + 2)) × (length (now rs) ≡ 336) ⌝ }
+    ensures { λ a. ⌜ a ≡ tightAnswer (formOf h) b (h .lines) (bytesOf (now (d .entry)) b) ⌝ }
+    ensures { λ _. ⌜ (now (lines .exit) ≡ zeroLines (widthOf (h .xtrans))) × (now (rs .exit) ≡ clearRecords) ⌝ }
+{
+    let form = Form {
+        bits: h.bits,
+        xtrans: h.xtrans,
+    };
+    let count = line_count(h);
+    let block = stream::block_bytes(d, b);
+    let bases = stream::base_row(d, b);
+    let places = map::xtrans_places();
+    let mut nothing = [0u16; 1];
+    let got = walk(
+        block,
+        bases,
+        lines,
+        rs,
+        &mut nothing,
+        form,
+        &places,
+        [0u8; 36],
+        no_part(),
+        count,
+    );
+    tight_answer(block, form, b, count, got)
+}
+
+// twin: Decoded::Done
+// Of the lent scratch only the first part is used.
+fn read_tight_in(d: &[u8], h: FujiHeader, b: usize, lines: &mut [u16], rs: &mut [Record]) -> Decoded
+    requires { ⌜ (openOf (now d) ≡ Header h) × (h .lossless ≡ true) ⌝ }
+    ensures { λ a. ⌜ LeftTight (now (d .entry)) b (withScratch h (length (now (lines .entry))) (length (now (rs .entry)))) (now (lines .entry)) (now (rs .entry)) (now (lines .exit)) (now (rs .exit)) a ⌝ }
+{
+    let used = 18 * (width(h.xtrans) + 2);
+    if lines.len() < used {
+        return Decoded::Refused(Refusal::ShortScratch);
+    }
+    if rs.len() < 336 {
+        return Decoded::Refused(Refusal::ShortScratch);
+    }
+    read_tight_block(d, h, b, &mut lines[0..used], &mut rs[0..336])
+}
+
+// twin: Decoded::Done
+// A block of a stream that opens.
+fn read_tight_opened(
+    d: &[u8],
+    h: FujiHeader,
+    b: usize,
+    lines: &mut [u16],
+    rs: &mut [Record],
+) -> Decoded
+    requires { ⌜ openOf (now d) ≡ Header h ⌝ }
+    ensures { λ a. ⌜ LeftTight (now (d .entry)) b (withBlock h b (length (now (lines .entry))) (length (now (rs .entry)))) (now (lines .entry)) (now (rs .entry)) (now (lines .exit)) (now (rs .exit)) a ⌝ }
+{
+    let blocks = h.blocks as usize;
+    if blocks <= b {
+        return Decoded::Refused(Refusal::NoBlock);
+    }
+    let lossless = h.lossless;
+    if !lossless {
+        return Decoded::Refused(Refusal::Lossy);
+    }
+    read_tight_in(d, h, b, lines, rs)
+}
+
+// twin: Decoded::Done
+// The tight reading of block b of the stream d: it accepts exactly the tight blocks, and writes nothing but scratch.
+pub fn read_tight(d: &[u8], b: usize, lines: &mut [u16], rs: &mut [Record]) -> Decoded
+    ensures { λ a. ⌜ LeftTight (now (d .entry)) b (tightBegins (now (d .entry)) b (length (now (lines .entry))) (length (now (rs .entry)))) (now (lines .entry)) (now (rs .entry)) (now (lines .exit)) (now (rs .exit)) a ⌝ }
+{
+    let opened = stream::open(d);
+    match opened {
+        Parsed::Refused(x) => Decoded::Refused(x),
+        Parsed::Header(h) => read_tight_opened(d, h, b, lines, rs),
+    }
+}
+
+// ---- for C: answers as numbers, and the entries
+
+// The number of a refusal, and the block, the line and the index that it names, 0 where it names none.
+pub fn refusal_words(r: Refusal) -> [usize; 4]
+    ensures { λ w. ⌜ w ≡ refusalWords r ⌝ }
+{
+    match r {
+        Refusal::ShortHeader => [1, 0, 0, 0],
+        Refusal::BadHeader => [2, 0, 0, 0],
+        Refusal::ShortSizes => [3, 0, 0, 0],
+        Refusal::ShortBases(b) => [4, b, 0, 0],
+        Refusal::NoBlock => [5, 0, 0, 0],
+        Refusal::WrongSize => [6, 0, 0, 0],
+        Refusal::OutsideImage => [7, 0, 0, 0],
+        Refusal::Lossy => [8, 0, 0, 0],
+        Refusal::WrongCount => [9, 0, 0, 0],
+        Refusal::ShortScratch => [10, 0, 0, 0],
+        Refusal::AboveLargest(i) => [11, 0, 0, i],
+        Refusal::NotPredicted(i) => [12, 0, 0, i],
+        Refusal::ShortOutput => [13, 0, 0, 0],
+        Refusal::Truncated(b, l) => [14, b, l, 0],
+        Refusal::NotTight(l) => [15, 0, l, 0],
+    }
+}
+
+pub fn answer_words(a: Decoded) -> [usize; 4]
+    ensures { λ w. ⌜ w ≡ answerWords a ⌝ }
+{
+    match a {
+        Decoded::Done => [0; 4],
+        Decoded::Refused(r) => refusal_words(r),
+    }
+}
+
+// `decode_region` for C.
+#[no_mangle]
+pub extern "C" fn fuji_decode_region(
+    d: &[u8],
+    x: usize,
+    y: usize,
+    width: usize,
+    height: usize,
+    tile: &[u8; 36],
+    image: &mut [u16],
+    lines: &mut [u16],
+    rs: &mut [Record],
+    refusal: &mut [usize; 4],
+)
+    ensures { λ _. ⌜ Told (now (d .entry)) (record { x = x; y = y; width = width; height = height }) (now (tile .entry)) (regionBegins (now (d .entry)) (record { x = x; y = y; width = width; height = height }) (length (now (image .entry))) (length (now (lines .entry))) (length (now (rs .entry)))) (now (image .entry)) (now (lines .entry)) (now (rs .entry)) (now (image .exit)) (now (lines .exit)) (now (rs .exit)) (now (refusal .exit)) ⌝ }
+{
+    let r = Rect {
+        x,
+        y,
+        width,
+        height,
+    };
+    let t = *tile;
+    let a = decode_region(d, r, t, image, lines, rs);
+    let w = answer_words(a);
+    *refusal = w;
+}
+
+// `decode` for C.
+#[no_mangle]
+pub extern "C" fn fuji_decode(
+    d: &[u8],
+    width: usize,
+    height: usize,
+    tile: &[u8; 36],
+    image: &mut [u16],
+    lines: &mut [u16],
+    rs: &mut [Record],
+    refusal: &mut [usize; 4],
+)
+    ensures { λ _. ⌜ Told (now (d .entry)) (wholeOf width height) (now (tile .entry)) (imageBegins (now (d .entry)) width height (length (now (image .entry))) (length (now (lines .entry))) (length (now (rs .entry)))) (now (image .entry)) (now (lines .entry)) (now (rs .entry)) (now (image .exit)) (now (lines .exit)) (now (rs .exit)) (now (refusal .exit)) ⌝ }
+{
+    let t = *tile;
+    let a = decode(d, width, height, t, image, lines, rs);
+    let w = answer_words(a);
+    *refusal = w;
+}
+
+// `read_tight` for C.
+#[no_mangle]
+pub extern "C" fn fuji_read_tight(
+    d: &[u8],
+    b: usize,
+    lines: &mut [u16],
+    rs: &mut [Record],
+    refusal: &mut [usize; 4],
+)
+    ensures { λ _. ⌜ ToldTight (now (d .entry)) b (now (lines .entry)) (now (rs .entry)) (now (lines .exit)) (now (rs .exit)) (now (refusal .exit)) ⌝ }
+{
+    let a = read_tight(d, b, lines, rs);
+    let w = answer_words(a);
+    *refusal = w;
 }

@@ -1,21 +1,22 @@
 -- The tight reading accepts a block exactly when it is tight. Assumes nothing.
-use mathlib.Core.Bool.{Bool, true, false, cond, _&&_, false≢true}
+use mathlib.Core.Bool.{Bool, true, false, cond, _&&_}
 use mathlib.Core.List.{List, []}
 use mathlib.Core.Option.{Option, none, some}
-use mathlib.Core.Path.{_≡_, refl, sym, _∙_}
-use Prim.Native.Nat.{ℕ, zero, suc, _≤_, _<_}
+use mathlib.Core.Path.{_≡_, refl}
+use Prim.Native.Nat.{ℕ, zero, suc, _≤_}
 use native.Mathlib.Nat.{le-refl}
 use native.Mathlib.Omega.{arith}
 use lib.Dec.{ltb, eqb}
 use borrow.Author.Tests.{le-ltb, ltb-false, eq-eqb}
+use Rattle.numbers.proofs.OrderLaws.{cond-le}
 use Rattle.stream.specs.declared.Refusal.{Refusal}
 use Rattle.stream.specs.declared.Refusal.the-variants.{Truncated, NotTight}
 use Rattle.block.specs.Blocks.{State, runs, startState, readLines, isTightState, tightLines}
 use Rattle.block.specs.Images.{isRead, linesRead}
 use Rattle.block.specs.TightBlocks.{isTail, Tight, bitsRead, tightAnswer}
-use Rattle.block.specs.declared.Decoded.{Decoded}
 use Rattle.block.specs.declared.Decoded.the-variants.{Done, Refused}
 use Rattle.block.specs.declared.Form.{Form}
+use Rattle.block.proofs.DecodeLaws.{all-read}
 
 refused : {X : Type 0} (r : Refusal) → Refused r ≡ Done → X
 refused r e = let no : _≡_ {A = ℕ} 0 1 = cc in absurd (omega arith)
@@ -36,35 +37,24 @@ module _ (F : Form) (s : List ℕ) where
   read-at-most : (n : ℕ) → linesRead F [] s n ≤ n
   unfolding linesRead
   read-at-most zero = le-refl 0
-  read-at-most (suc n) = go (isRead (readLines F [] s (suc n))) (read-at-most n)
-    where
-      go : (b : Bool) → linesRead F [] s n ≤ n → cond b (suc n) (linesRead F [] s n) ≤ suc n
-      go true h = le-refl (suc n)
-      go false h = omega arith
+  read-at-most (suc n) =
+      cond-le (suc n) (isRead (readLines F [] s (suc n))) (suc n) (linesRead F [] s n) (le-refl (suc n)) (omega (arith, read-at-most n))
 
-  all-read : (n : ℕ) → n ≤ linesRead F [] s n → (z : State) × (readLines F [] s n ≡ some z)
+  was-read : (n : ℕ) → n ≤ linesRead F [] s n → (z : State) × (readLines F [] s n ≡ some z)
   unfolding linesRead
-  all-read zero h = (startState F [], start-read)
-  all-read (suc n) h = go (readLines F [] s (suc n)) refl h
+  was-read zero h = (startState F [], start-read)
+  was-read (suc n) h = go (readLines F [] s (suc n)) refl h
     where
       go : (o : Option State) → readLines F [] s (suc n) ≡ o → suc n ≤ cond (isRead o) (suc n) (linesRead F [] s n) → (z : State) × (readLines F [] s (suc n) ≡ some z)
       go none e k = absurd (omega (arith, read-at-most n))
       go (some z) e k = (z, e)
 
-  read-all : (n : ℕ) (z : State) → readLines F [] s n ≡ some z → linesRead F [] s n ≡ n
-  unfolding linesRead
-  read-all zero z e = refl
-  read-all (suc n) z e = rw e
-
   -- how many of them, from the first on, are tight
   tight-at-most : (n : ℕ) → tightLines F [] s n ≤ n
   unfolding tightLines
   tight-at-most zero = le-refl 0
-  tight-at-most (suc n) = go (eqb (tightLines F [] s n) n && isTightState (readLines F [] s (suc n))) (tight-at-most n)
-    where
-      go : (b : Bool) → tightLines F [] s n ≤ n → cond b (suc n) (tightLines F [] s n) ≤ suc n
-      go true h = le-refl (suc n)
-      go false h = omega arith
+  tight-at-most (suc n) =
+      cond-le (suc n) (eqb (tightLines F [] s n) n && isTightState (readLines F [] s (suc n))) (suc n) (tightLines F [] s n) (le-refl (suc n)) (omega (arith, tight-at-most n))
 
   all-tight : (n : ℕ) → n ≤ tightLines F [] s n → isTightState (readLines F [] s n) ≡ true
   unfolding tightLines startState
@@ -76,12 +66,16 @@ module _ (F : Form) (s : List ℕ) where
       go true false k = absurd (omega (arith, tight-at-most n))
       go false b k = absurd (omega (arith, tight-at-most n))
 
-  tight-all : (n : ℕ) → ((m : ℕ) → m ≤ n → isTightState (readLines F [] s m) ≡ true) → tightLines F [] s n ≡ n
+  state-tight : (o : Option State) → ((z : State) → o ≡ some z → z .tight ≡ true) → isTightState o ≡ true
+  state-tight none h = refl
+  state-tight (some z) h = h z refl
+
+  tight-all : (n : ℕ) → ((m : ℕ) (z : State) → m ≤ n → readLines F [] s m ≡ some z → z .tight ≡ true) → tightLines F [] s n ≡ n
   unfolding tightLines
   tight-all zero h = refl
   tight-all (suc n) h =
-      let e : tightLines F [] s n ≡ n = tight-all n (λ m k. h m (omega arith)) in
-      rw (e, eq-eqb n n refl, h (suc n) (le-refl (suc n)))
+      let e : tightLines F [] s n ≡ n = tight-all n (λ m z k. h m z (omega arith)) in
+      rw (e, eq-eqb n n refl, state-tight (readLines F [] s (suc n)) (λ z. h (suc n) z (le-refl (suc n))))
 
   -- ---- the answer
 
@@ -91,7 +85,7 @@ module _ (F : Form) (s : List ℕ) where
       let read : ℕ = linesRead F [] s lines in
       let tight : ℕ = tightLines F [] s lines in
       let a = accepted (ltb read lines) (ltb tight lines) (isTail s (bitsRead (readLines F [] s lines))) (Truncated b read) (NotTight tight) (NotTight lines) e in
-      let z = all-read lines (ltb-false read lines (a .0)) in
+      let z = was-read lines (ltb-false read lines (a .0)) in
       record {
         end = z .0;
         read = z .1;
@@ -99,11 +93,11 @@ module _ (F : Form) (s : List ℕ) where
         tail = rw (z .1) at (a .2);
       }
 
-  pub tight-done : (b lines : ℕ) (T : Tight F lines s) → ((m : ℕ) → m ≤ lines → isTightState (readLines F [] s m) ≡ true) → tightAnswer F b lines s ≡ Done
+  pub tight-done : (b lines : ℕ) (T : Tight F lines s) → ((m : ℕ) (z : State) → m ≤ lines → readLines F [] s m ≡ some z → z .tight ≡ true) → tightAnswer F b lines s ≡ Done
   unfolding tightAnswer
   tight-done b lines T all =
       rw (
-        read-all lines (T .end) (T .read),
+        all-read F [] s lines (T .end) (T .read),
         tight-all lines all,
         le-ltb lines lines (le-refl lines),
         T .read,

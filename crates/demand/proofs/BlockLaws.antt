@@ -1,13 +1,13 @@
--- The set that is read from a block, its tail, and the answer of the tight reading. Assumes nothing.
-use mathlib.Core.Bool.{Bool, true, false, cond, _&&_, false≢true}
+-- The set that is read from a block, and its tail. Assumes nothing.
+use mathlib.Core.Bool.{true, false}
 use mathlib.Core.List.{List, []}
 use mathlib.Core.Option.{Option, none, some}
-use mathlib.Core.Path.{_≡_, refl, sym, ap, _∙_}
-use Prim.Native.Nat.{ℕ, zero, suc, _+_, _-_, _*_, _≤_, _<_, zero-le}
+use mathlib.Core.Path.{_≡_, refl, _∙_}
+use Prim.Native.Nat.{ℕ, suc, _+_, _-_, _*_, _≤_, _<_, zero-le}
 use native.Mathlib.Omega.{arith}
-use lib.Dec.{ltb, eqb}
+use lib.Dec.{eqb}
 use lib.ListN.{length, getD, drop, replicate, List·getD-eq-default}
-use borrow.Author.Tests.{le-ltb, ltb-false, eq-eqb, eqb-true}
+use borrow.Author.Tests.{eq-eqb, eqb-true}
 use Rattle.numbers.proofs.OrderLaws.{split}
 use Rattle.bits.specs.Bits.{bitsAt}
 use Rattle.bits.specs.BitLists.{bitsOf, bytesFor}
@@ -15,6 +15,7 @@ use Rattle.bits.proofs.PackLaws.{room, spare-zeros, zeros-spare}
 use Rattle.quantiser.specs.Quantisers.{largest}
 use Rattle.map.specs.Places.{widthOf}
 use Rattle.writing.specs.Sets.{setSize, lineOfRank, indexIn, lineAt, colourLineAt, positionAt}
+use Rattle.writing.proofs.Twins.{both}
 use Rattle.writing.proofs.SetLaws.{index-lt, line-at, colour-line-at, position-at}
 use Rattle.block.specs.Blocks.{State, readLines, linesOf}
 use Rattle.block.specs.TightBlocks.{readSample, setRead, isTail}
@@ -58,10 +59,6 @@ module _ (F : Form) (lines : ℕ) (s : List ℕ) where
       (λ h. rw (set-at j h) (read-le high (suc (lineAt W j)) (colourLineAt W j * (W + 2) + positionAt W j + 1)))
 
 -- ---- the tail
-
-both : (a b : Bool) → (a && b) ≡ true → (a ≡ true) × (b ≡ true)
-both true b e = (refl, e)
-both false b e = absurd (false≢true e)
 
 -- the length is the bits rounded up to bytes, and zeros follow the bits
 pub record Tail (s : List ℕ) (at : ℕ) : Type 0 where

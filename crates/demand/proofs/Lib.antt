@@ -1,5 +1,6 @@
 -- The proof of demand 3.
 pub mod PlanLaws
+pub mod RunTwins
 pub mod PassTwins
 pub mod LineTwins
 pub mod BlockTwins

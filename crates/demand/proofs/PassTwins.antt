@@ -3,42 +3,31 @@ use mathlib.Core.List.{List}
 use mathlib.Core.Logic.{_≢_}
 use mathlib.Core.Option.{Option, none, some}
 use mathlib.Core.Path.{_≡_, refl, sym, ap, _∙_}
-use Prim.Native.Nat.{ℕ, _+_, _-_, _*_, _/_, _%_, _≤_, _<_}
+use Prim.Native.Nat.{ℕ, _+_, _-_, _*_, _%_, _≤_, _<_}
 use native.Mathlib.Omega.{arith}
 use lib.Arith.{digits-mod}
-use lib.ListN.{length, getD, set, take}
+use lib.ListN.{getD, set}
 use lib.Seq.{getD-set-other}
-use Rattle.bits.specs.BitLists.{bitsOf}
 use Rattle.quantiser.specs.Quantisers.{largest}
-use Rattle.pass.specs.Readings.{Reading, readPass}
+use Rattle.pass.specs.Readings.{Reading, readPass, PlanInRange}
 use Rattle.pass.specs.Steps.{planOf}
 use Rattle.pass.specs.declared.Plan.{Plan}
-use Rattle.pass.proofs.RangeLaws.{AllLe, Kept, pass-keeps}
+use Rattle.pass.proofs.RangeLaws.{Kept, pass-keeps}
 use Rattle.pass.proofs.ScheduleLaws.{plan-in-range}
 use Rattle.lines.specs.ColourLines.{leftGuard, guarded}
 use Rattle.lines.proofs.LineLaws.{length-guarded}
 use Rattle.map.specs.Places.{widthOf}
-use Rattle.writing.specs.Writings.{Writing, writePass}
-use Rattle.writing.proofs.LosslessLaws.{Lossless, lossless}
-use Rattle.writing.proofs.PassTwins.{Holds, pass-leaves, PassTwin, pass-forward, PassBack, pass-backward}
-use Rattle.writing.proofs.StepTwins.{Clean, Stored, Sound, writingOf}
+use Rattle.writing.proofs.LosslessLaws.{Lossless}
+use Rattle.writing.proofs.PassTwins.{Holds, pass-leaves, pass-forward, pass-backward}
+use Rattle.writing.proofs.Twins.{Sound}
 use Rattle.block.specs.Blocks.{State, enter, leave, passAt}
 use Rattle.block.specs.Records.{putSet}
-use Rattle.block.specs.WrittenBlocks.{WriteState, leaveWriting, writePassAt}
+use Rattle.block.specs.WrittenBlocks.{leaveWriting, writePassAt}
 use Rattle.block.specs.declared.Form.{Form}
 use Rattle.block.proofs.LineLaws.{width-in-range}
 use Rattle.block.proofs.SampleLaws.{guarded-le}
 use Rattle.demand.proofs.PlanLaws.{two-lines, NotOf}
-
--- what writing goes on after a clean reading of s
-abbrev pub writeStateOf : List ℕ → State → WriteState
-writeStateOf s r = record { lines = r .lines; records = r .records; bits = take (r .at .0) (bitsOf s); wrong = none }
-
-abbrev pub CleanState : List ℕ → State → Type 0
-CleanState s r = Clean s (r .at .0) (r .tight)
-
-abbrev pub StoredState : List ℕ → WriteState → Type 0
-StoredState s w = Stored s (w .bits) (w .wrong)
+use Rattle.demand.proofs.RunTwins.{writeStateOf, CleanState, StoredState, StateForward, StateBack}
 
 abbrev pub SoundState : Form → State → Type 0
 SoundState F r = Sound (F .bits) (widthOf (F .xtrans)) (r .lines)
@@ -67,7 +56,12 @@ guard-sound bits W m lines ok =
 
 -- ---- pass i of a line
 
-module _ (F : Form) (low : 1 ≤ F .bits) (high : F .bits ≤ 16) (s : List ℕ) (i : ℕ) (r : State) (ok : SoundState F r) where
+-- the samples of both its lines stand, those of line n of the set t
+abbrev pub PassHolds : Form → List ℕ → ℕ → ℕ → State → Type 0
+PassHolds F t n i z =
+    Holds (widthOf (F .xtrans)) t n (z .lines) ((planOf (F .xtrans) i) .first) × Holds (widthOf (F .xtrans)) t n (z .lines) ((planOf (F .xtrans) i) .second)
+
+module _ (F : Form) (Q : Lossless (F .bits)) (s : List ℕ) (i : ℕ) (r : State) (ok : SoundState F r) where
   abbrev W : ℕ
   W = widthOf (F .xtrans)
 
@@ -105,7 +99,7 @@ module _ (F : Form) (low : 1 ≤ F .bits) (high : F .bits ≤ 16) (s : List ℕ)
   pub pass-sound : (z : State) → passAt F 0 s i r ≡ some z → SoundState F z
   pass-sound z e =
       let f = pass-was z e in
-      let k : Kept (F .bits) entered (f .0) = pass-keeps (F .bits) 0 W s high P entered (f .0) (f .1) in
+      let k : Kept (F .bits) entered (f .0) = pass-keeps (F .bits) 0 W s (Q .high) P entered (f .0) (f .1) in
       let there : Sound (F .bits) W (f .0 .lines) = record { long = k .lines ∙ sound .long; small = k .samples (sound .small) } in
       rw (← f .2) there
 
@@ -121,38 +115,28 @@ module _ (F : Form) (low : 1 ≤ F .bits) (high : F .bits ≤ 16) (s : List ℕ)
   -- ---- both ways, with the samples of line n of the set t
 
   module _ (below : i < 6) (t : List ℕ) (n : ℕ) where
-    pub record PassRead (z : State) : Type 0 where
-      pub read : passAt F 0 s i r ≡ some z
-      pub clean : CleanState s z
-      pub same : writePassAt F t n i (writeStateOf s r) ≡ writeStateOf s z
-      pub first : Holds W t n (z .lines) (P .first)
-      pub second : Holds W t n (z .lines) (P .second)
+    abbrev in-range : PlanInRange P
+    in-range = plan-in-range (F .xtrans) i below .0
 
-    pub record PassWritten (z : State) : Type 0 where
-      pub clean : CleanState s r
-      pub same : writePassAt F t n i (writeStateOf s r) ≡ writeStateOf s z
+    abbrev two : P .first ≢ P .second
+    two = two-lines (F .xtrans) i below
 
-    Q : Lossless (F .bits)
-    Q = lossless (F .bits) low high
-
-    pub passAt-forward : ((j : ℕ) → getD t j 0 ≤ largest (F .bits)) → CleanState s r → StoredState s (writePassAt F t n i (writeStateOf s r)) → (z : State) × PassRead z
+    pub passAt-forward : ((j : ℕ) → getD t j 0 ≤ largest (F .bits)) → CleanState s r → StoredState s (writePassAt F t n i (writeStateOf s r))
+        → (z : State) × (StateForward s (passAt F 0 s i) (writePassAt F t n i) r z × PassHolds F t n i z)
     unfolding writePassAt
     passAt-forward range clean stored =
-        let one = pass-forward (F .bits) W s t n low high Q P even (plan-in-range (F .xtrans) i below .0) (two-lines (F .xtrans) i below) entered sound range clean stored in
+        let one = pass-forward (F .bits) W s t n Q P even in-range two entered sound range clean stored in
         let y : Reading = one .0 in
-        let T : PassTwin (F .bits) W s t n low high Q P even (plan-in-range (F .xtrans) i below .0) (two-lines (F .xtrans) i below) entered y = one .1 in
-        (left y, record { read = pass-is y (T .read); clean = T .clean; same = ap (leaveWriting P (writeStateOf s r)) (T .same); first = T .first; second = T .second })
+        let T = one .1 .0 in
+        (left y, (record { read = pass-is y (T .read); clean = T .clean; same = ap (leaveWriting P (writeStateOf s r)) (T .same) }, (one .1 .1, one .1 .2)))
 
-    pub passAt-backward : (z : State) → passAt F 0 s i r ≡ some z → CleanState s z → Holds W t n (z .lines) (P .first) → Holds W t n (z .lines) (P .second) → PassWritten z
+    pub passAt-backward : (z : State) → passAt F 0 s i r ≡ some z → CleanState s z → PassHolds F t n i z → StateBack s (writePassAt F t n i) r z
     unfolding writePassAt
-    passAt-backward z e clean first second =
+    passAt-backward z e clean holds =
         let f = pass-was z e in
-        go (f .0) z (f .1) (f .2) clean first second
+        go (f .0) z (f .1) (f .2) clean holds
       where
-        go : (y : Reading) (z : State) → readPass (F .bits) 0 W s P entered ≡ some y → left y ≡ z → CleanState s z → Holds W t n (z .lines) (P .first) → Holds W t n (z .lines) (P .second)
-            → PassWritten z
-        go y z f is clean first second =
-            let B : PassBack (F .bits) W s t n low high Q P even (plan-in-range (F .xtrans) i below .0) (two-lines (F .xtrans) i below) entered y =
-            pass-backward (F .bits) W s t n low high Q P even (plan-in-range (F .xtrans) i below .0) (two-lines (F .xtrans) i below) entered sound y f
-            (rw (← is) at clean) (rw (← is) at first) (rw (← is) at second) in
+        go : (y : Reading) (z : State) → readPass (F .bits) 0 W s P entered ≡ some y → left y ≡ z → CleanState s z → PassHolds F t n i z → StateBack s (writePassAt F t n i) r z
+        go y z f is clean holds =
+            let B = pass-backward (F .bits) W s t n Q P even in-range two entered sound y f (rw (← is) at clean) (rw (← is) at (holds .0)) (rw (← is) at (holds .1)) in
             record { clean = B .clean; same = ap (leaveWriting P (writeStateOf s r)) (B .same) ∙ ap (writeStateOf s) is }

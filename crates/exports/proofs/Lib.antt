@@ -1,2 +1,2 @@
--- Laws about the definitions of exports.
+-- A law that the proofs of exports share.
 pub mod ExportLaws

@@ -1,46 +1,45 @@
--- What the exported functions answer. Assumes nothing.
-use mathlib.Core.Bool.{Bool, _&&_}
-use mathlib.Core.List.{List}
-use mathlib.Core.Path.{_≡_}
-use Prim.Native.Nat.{ℕ, _-_, _*_, _/_, _^_}
-use lib.Dec.{leb, ltb, eqb}
-use lib.ListN.{length, replicate}
-use Rattle.map.specs.declared.Part.{Part}
-use Rattle.block.specs.Blocks.{Shown, shownLines, eitherOf, IsWalked}
-use Rattle.block.specs.declared.Form.{Form}
-use Rattle.block.specs.declared.Walked.{Walked}
+-- What the exported functions answer: what was asked for, all 0 where it is refused, and a refusal's words, all 0 where there is none. Assumes nothing.
+use mathlib.Core.Bool.{Bool, cond}
+use mathlib.Core.List.{List, [], _∷_}
+use Prim.Native.Nat.{ℕ}
+use lib.ListN.{replicate}
+use Rattle.stream.specs.declared.FujiHeader.{FujiHeader}
+use Rattle.stream.specs.declared.Parsed.{Parsed}
+use Rattle.stream.specs.declared.Parsed.the-variants as Parsing
+use Rattle.stream.specs.declared.Ranged.{Ranged}
+use Rattle.stream.specs.declared.Ranged.the-variants as Range
+use Rattle.stream.specs.declared.Width.{Width}
+use Rattle.stream.specs.declared.Width.the-variants as Columns
+use Rattle.block.specs.Words.{noRefusal, refusalWords}
 
--- the numbers that a call is accepted with: a block's bytes and an image's samples, the depth, Bayer (0) or X-Trans (1), the tile's colour, and
--- the lines, for which the image has room
-unfoldable pub isAccepted : ℕ → ℕ → ℕ → ℕ → ℕ → ℕ → Bool
-isAccepted block image bits xtrans colour count =
-    ltb block (2 ^ 32) && leb 12 bits && leb bits 16 && leb xtrans 1 && leb colour 2 && ltb count (2 ^ 16) && leb count (image / 4608)
+abbrev pub flag : Bool → ℕ
+flag b = cond b 1 0
 
--- the part of an image of rows of 768 samples that `count` lines fill
-abbrev pub wholePart : ℕ → Part
-wholePart count = record { left = 0; right = 768; start = 0; stride = 768; top = 0; bottom = 6 * count }
+abbrev pub headerWords : FujiHeader → List ℕ
+headerWords h =
+    flag (h .lossless) ∷ flag (h .xtrans) ∷ h .bits ∷ h .height ∷ h .«rounded_width» ∷ h .width ∷ h .«block_size» ∷ h .blocks ∷ h .lines ∷ []
 
-abbrev pub formOf : ℕ → ℕ → Form
-formOf bits xtrans = record { bits = bits; xtrans = eqb xtrans 1 }
+abbrev pub parsedWords : Parsed → List ℕ
+parsedWords (Parsing.Header h) = headerWords h
+parsedWords (Parsing.Refused r) = replicate 9 0
 
--- a tile of one colour
-abbrev pub tileOf : ℕ → List ℕ
-tileOf colour = replicate 36 colour
+abbrev pub parsedRefusal : Parsed → List ℕ
+parsedRefusal (Parsing.Header h) = noRefusal
+parsedRefusal (Parsing.Refused r) = refusalWords r
 
--- an accepted call: the block was walked over, the lines that were read are in the image, and the answer is how many they are
-pub record Accepted (s bases : List ℕ) (bits xtrans colour count : ℕ) (before after : List ℕ) (r : ℕ) : Type 0 where
-  pub walked : Walked
-  pub is-walked : IsWalked (formOf bits xtrans) bases s count walked
-  pub shown : Shown (formOf bits xtrans) bases s (tileOf colour) (wholePart count) (shownLines walked count) before after
-  pub answer : r ≡ shownLines walked count
+-- an offset and a length
+abbrev pub rangedWords : Ranged → List ℕ
+rangedWords (Range.At from n) = from .0 ∷ n ∷ []
+rangedWords (Range.Refused r) = replicate 2 0
 
--- a refused call leaves the image as it was
-pub record Refused (before after : List ℕ) (r : ℕ) : Type 0 where
-  pub kept : after ≡ before
-  pub answer : r ≡ 2 ^ 32 - 1
+abbrev pub rangedRefusal : Ranged → List ℕ
+rangedRefusal (Range.At from n) = noRefusal
+rangedRefusal (Range.Refused r) = refusalWords r
 
-abbrev pub Answered : List ℕ → List ℕ → ℕ → ℕ → ℕ → ℕ → List ℕ → List ℕ → ℕ → Type 0
-Answered s bases bits xtrans colour count before after r =
-    eitherOf (isAccepted (length s) (length before) bits xtrans colour count)
-    (Accepted s bases bits xtrans colour count before after r)
-    (Refused before after r)
+abbrev pub widthWords : Width → List ℕ
+widthWords (Columns.Columns n) = n ∷ []
+widthWords (Columns.Refused r) = replicate 1 0
+
+abbrev pub widthRefusal : Width → List ℕ
+widthRefusal (Columns.Columns n) = noRefusal
+widthRefusal (Columns.Refused r) = refusalWords r

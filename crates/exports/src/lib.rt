@@ -1,80 +1,161 @@
-// The functions that C and Rust link to, for tests and benchmarks. They ask nothing of the caller: what `block` requires is tested here.
+// The functions about streams that C and Rust link to: the header, and where blocks and base rows lie. Each hands back a refusal's four words, all 0
+// where nothing is refused, and what was asked for, all 0 where it is refused. Those that decode stand in `block`.
 ghost use mathlib.Core.Path.{_≡_};
-ghost use Prim.Native.Nat.{_≤_};
-ghost use lib.ListN.{length};
-ghost use Rattle.block.specs.Blocks.{shownLines};
-ghost use Rattle.exports.specs.Exports.{isAccepted, wholePart, Answered};
-use block::Form;
-use block::Walked;
-use map::Part;
+ghost use Rattle.stream.specs.Headers.{parseOf, widthAnswer};
+ghost use Rattle.stream.specs.Streams.{openOf, rangeOf, rowOf};
+ghost use Rattle.exports.specs.Exports.{flag, headerWords, parsedWords, parsedRefusal, rangedWords, rangedRefusal, widthWords, widthRefusal};
+use stream::FujiHeader;
+use stream::Parsed;
+use stream::Ranged;
+use stream::Width;
 
-// Whether the numbers and the lengths of the two buffers are in range.
-fn is_accepted(
-    block: usize,
-    image: usize,
-    bits: u32,
-    xtrans: u32,
-    colour: u32,
-    count: usize,
-) -> bool
-    ensures { λ r. ⌜ r ≡ isAccepted block image bits xtrans colour count ⌝ }
+fn flag(b: bool) -> usize
+    ensures { λ r. ⌜ r ≡ flag b ⌝ }
 {
-    (block < 0x1_0000_0000)
-        & (12 <= bits)
-        & (bits <= 16)
-        & (xtrans <= 1)
-        & (colour <= 2)
-        & (count < 0x1_0000)
-        & (count <= image / 4608)
+    if b { 1 } else { 0 }
 }
 
-// A part of `count` lines, the whole width of a block.
-fn whole_part(count: usize) -> Part
-    requires { ⌜ count ≤ 0x1_0000 ⌝ }
-    ensures { λ r. ⌜ r ≡ wholePart count ⌝ }
+fn header_words(h: FujiHeader) -> [usize; 9]
+    ensures { λ w. ⌜ w ≡ headerWords h ⌝ }
 {
-    Part {
-        left: 0,
-        right: 768,
-        start: 0,
-        stride: 768,
-        top: 0,
-        bottom: 6 * count,
+    [
+        flag(h.lossless),
+        flag(h.xtrans),
+        h.bits as usize,
+        h.height as usize,
+        h.rounded_width as usize,
+        h.width as usize,
+        h.block_size as usize,
+        h.blocks as usize,
+        h.lines as usize,
+    ]
+}
+
+fn parsed_words(p: Parsed) -> [usize; 9]
+    ensures { λ w. ⌜ w ≡ parsedWords p ⌝ }
+{
+    match p {
+        Parsed::Header(h) => header_words(h),
+        Parsed::Refused(_) => [0; 9],
     }
 }
 
-// The lines that were read.
-fn shown_lines(r: Walked, count: usize) -> usize
-    ensures { λ n. ⌜ n ≡ shownLines r count ⌝ }
+fn parsed_refusal(p: Parsed) -> [usize; 4]
+    ensures { λ w. ⌜ w ≡ parsedRefusal p ⌝ }
 {
-    if r.ok {
-        return count;
+    match p {
+        Parsed::Header(_) => [0; 4],
+        Parsed::Refused(r) => block::refusal_words(r),
     }
-    r.line
 }
 
-// Reads the first `count` lines of a block into an image of rows of 768 samples, through a tile of one colour, and gives how many lines were
-// read, or 2^32 − 1 where a number or a buffer is out of range.
+fn ranged_words(r: Ranged) -> [usize; 2]
+    ensures { λ w. ⌜ w ≡ rangedWords r ⌝ }
+{
+    match r {
+        Ranged::At(from, n) => [from.0, n],
+        Ranged::Refused(_) => [0; 2],
+    }
+}
+
+fn ranged_refusal(r: Ranged) -> [usize; 4]
+    ensures { λ w. ⌜ w ≡ rangedRefusal r ⌝ }
+{
+    match r {
+        Ranged::At(_, _) => [0; 4],
+        Ranged::Refused(x) => block::refusal_words(x),
+    }
+}
+
+fn width_words(c: Width) -> [usize; 1]
+    ensures { λ w. ⌜ w ≡ widthWords c ⌝ }
+{
+    match c {
+        Width::Columns(n) => [n as usize],
+        Width::Refused(_) => [0; 1],
+    }
+}
+
+fn width_refusal(c: Width) -> [usize; 4]
+    ensures { λ w. ⌜ w ≡ widthRefusal c ⌝ }
+{
+    match c {
+        Width::Columns(_) => [0; 4],
+        Width::Refused(r) => block::refusal_words(r),
+    }
+}
+
+// The header alone.
 #[no_mangle]
-pub extern "C" fn fuji_read_block(
-    block: &[u8],
-    bases: &[u8],
-    image: &mut [u16],
-    bits: u32,
-    xtrans: u32,
-    colour: u32,
-    count: usize,
-) -> usize
-    ensures { λ r. ⌜ Answered (now (block .entry)) (now (bases .entry)) bits xtrans colour count (now (image .entry)) (now (image .exit)) r ⌝ }
+pub extern "C" fn fuji_parse(d: &[u8], header: &mut [usize; 9], refusal: &mut [usize; 4])
+    ensures { λ _. ⌜ (now (header .exit) ≡ parsedWords (parseOf (now (d .entry)))) × (now (refusal .exit) ≡ parsedRefusal (parseOf (now (d .entry)))) ⌝ }
 {
-    if !is_accepted(block.len(), image.len(), bits, xtrans, colour, count) {
-        return 0xffff_ffff;
-    }
-    let form = Form {
-        bits,
-        xtrans: xtrans == 1,
-    };
-    let tile = [colour as u8; 36];
-    let r = block::walk_alone(block, bases, image, form, tile, whole_part(count), count);
-    shown_lines(r, count)
+    let x = FujiHeader::parse(d);
+    let w = parsed_words(x);
+    *header = w;
+    let r = parsed_refusal(x);
+    *refusal = r;
+}
+
+// The header of a stream that opens.
+#[no_mangle]
+pub extern "C" fn fuji_open(d: &[u8], header: &mut [usize; 9], refusal: &mut [usize; 4])
+    ensures { λ _. ⌜ (now (header .exit) ≡ parsedWords (openOf (now (d .entry)))) × (now (refusal .exit) ≡ parsedRefusal (openOf (now (d .entry)))) ⌝ }
+{
+    let x = stream::open(d);
+    let w = parsed_words(x);
+    *header = w;
+    let r = parsed_refusal(x);
+    *refusal = r;
+}
+
+// The columns of block i.
+#[no_mangle]
+pub extern "C" fn fuji_block_width(
+    d: &[u8],
+    i: u32,
+    width: &mut [usize; 1],
+    refusal: &mut [usize; 4],
+)
+    ensures { λ _. ⌜ (now (width .exit) ≡ widthWords (widthAnswer (parseOf (now (d .entry))) i)) × (now (refusal .exit) ≡ widthRefusal (widthAnswer (parseOf (now (d .entry))) i)) ⌝ }
+{
+    let x = stream::block_width(d, i);
+    let w = width_words(x);
+    *width = w;
+    let r = width_refusal(x);
+    *refusal = r;
+}
+
+// Where block b lies in the stream: an offset and a length.
+#[no_mangle]
+pub extern "C" fn fuji_block_range(
+    d: &[u8],
+    b: usize,
+    range: &mut [usize; 2],
+    refusal: &mut [usize; 4],
+)
+    ensures { λ _. ⌜ (now (range .exit) ≡ rangedWords (rangeOf (now (d .entry)) b)) × (now (refusal .exit) ≡ rangedRefusal (rangeOf (now (d .entry)) b)) ⌝ }
+{
+    let x = stream::block_range(d, b);
+    let w = ranged_words(x);
+    *range = w;
+    let r = ranged_refusal(x);
+    *refusal = r;
+}
+
+// Where the base row of block b lies in the stream.
+#[no_mangle]
+pub extern "C" fn fuji_base_row_range(
+    d: &[u8],
+    b: usize,
+    range: &mut [usize; 2],
+    refusal: &mut [usize; 4],
+)
+    ensures { λ _. ⌜ (now (range .exit) ≡ rangedWords (rowOf (now (d .entry)) b)) × (now (refusal .exit) ≡ rangedRefusal (rowOf (now (d .entry)) b)) ⌝ }
+{
+    let x = stream::base_row_range(d, b);
+    let w = ranged_words(x);
+    *range = w;
+    let r = ranged_refusal(x);
+    *refusal = r;
 }

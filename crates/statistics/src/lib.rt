@@ -5,6 +5,7 @@ ghost use Rattle.numbers.specs.Numbers.{leastFrom};
 ghost use Rattle.statistics.specs.Statistics.{enough, kOf, updated, largestResidual, InRange};
 
 // The sizes of the residuals so far, and their number; both are halved when 64 are counted.
+#[repr(C)]
 pub struct Record {
     pub sum: u32,
     pub n: u32,

@@ -1,8 +1,9 @@
 -- Laws about writing, and how it goes with reading.
+pub mod SetLaws
 pub mod WriteLaws
 pub mod LosslessLaws
+pub mod Twins
 pub mod StepTwins
 pub mod ListTwins
 pub mod OrderLaws
 pub mod PassTwins
-pub mod SetLaws

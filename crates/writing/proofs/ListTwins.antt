@@ -1,24 +1,25 @@
 -- Steps one after the other, read and written. No sample of theirs is put twice, so that each stands at the end as it was read. Assumes nothing.
 use mathlib.Core.Bool.{Bool, true, false, cond}
-use mathlib.Core.List.{List, [], _∷_, _++_}
+use mathlib.Core.List.{List, [], _∷_}
 use mathlib.Core.Logic.{_≢_}
 use mathlib.Core.Option.{Option, none, some}
-use mathlib.Core.Path.{_≡_, refl, sym, ap, _∙_}
-use Prim.Native.Nat.{ℕ, _+_, _*_, _≤_, _<_}
+use mathlib.Core.Path.{_≡_, refl, sym, _∙_}
+use Prim.Native.Nat.{ℕ, _+_, _≤_}
 use native.Mathlib.Omega.{arith}
-use lib.ListN.{length, getD}
+use lib.ListN.{getD}
 use lib.Seq.{getD-set-other}
 use Rattle.quantiser.specs.Quantisers.{largest}
 use Rattle.code.specs.declared.Coded.{Coded}
 use Rattle.code.specs.declared.Coded.the-variants.{Read, Truncated}
 use Rattle.pass.specs.Steps.{Step}
 use Rattle.pass.specs.Readings.{Reading, interpolate, taken, readStep, andThen, reads}
-use Rattle.pass.proofs.RangeLaws.{Kept, step-keeps}
-use Rattle.pass.proofs.StepLaws.{stepContext, stepLook, stepSlot, stepCode}
+use Rattle.pass.proofs.RangeLaws.{step-keeps}
+use Rattle.pass.proofs.StepLaws.{stepPlace, stepContext, stepLook, stepSlot, stepCode}
 use Rattle.writing.specs.Writings.{Writing, writeStep, writes}
 use Rattle.writing.proofs.LosslessLaws.{Lossless}
-use Rattle.writing.proofs.StepTwins.{Clean, Stored, Sound, writingOf, InLines, starts-cut, Twin, step-forward, Back, step-backward}
-use Rattle.writing.proofs.WriteLaws.{placeIn, wanted, afresh, writes-add, writes-right}
+use Rattle.writing.proofs.StepTwins.{InLines, step-forward, step-backward}
+use Rattle.writing.proofs.Twins.{stored-cut, Sound, writingOf, CleanReading, StoredWriting, Together, Back, together-then, back-then}
+use Rattle.writing.proofs.WriteLaws.{wanted, afresh, writes-add, writes-right}
 
 -- ---- lists of steps
 
@@ -28,7 +29,7 @@ All Q (x ∷ l) = Q x × All Q l
 
 -- where the sample of a step goes
 abbrev pub cell : ℕ → Step → ℕ
-cell W x = placeIn W x + 1
+cell W x = stepPlace W x + 1
 
 -- no two samples go to one place
 abbrev pub Apart : ℕ → List Step → Type 0
@@ -60,7 +61,7 @@ module _ (bits q W : ℕ) (s : List ℕ) (j : ℕ) where
   step-leaves x r z ne e = go (x .coded) (stepCode bits q W s x r) e
     where
       go : (b : Bool) (g : Coded)
-          → cond b (taken bits q (placeIn W x) (stepSlot q W x r) (stepContext W x r) (stepLook q W x r) r g) (some (interpolate (placeIn W x) (stepContext W x r) r)) ≡ some z
+          → cond b (taken bits q (stepPlace W x) (stepSlot q W x r) (stepContext W x r) (stepLook q W x r) r g) (some (interpolate (stepPlace W x) (stepContext W x r) r)) ≡ some z
           → getD (z .lines) j 0 ≡ getD (r .lines) j 0
       go true Truncated f = none-some z f
       go true (Read d) f = same-lines _ z f (getD-set-other (r .lines) (cell W x) j _ 0 ne)
@@ -75,63 +76,52 @@ module _ (bits q W : ℕ) (s : List ℕ) (j : ℕ) where
 
 -- ---- both ways
 
-module _ (bits W : ℕ) (s t : List ℕ) (n : ℕ) (low : 1 ≤ bits) (high : bits ≤ 16) (Q : Lossless bits) where
+module _ (bits W : ℕ) (s t : List ℕ) (n : ℕ) (Q : Lossless bits) where
   -- each sample of the steps stands where it goes
   abbrev pub Stand : List Step → Reading → Type 0
   Stand l z = All (λ x. getD (z .lines) (cell W x) 0 ≡ wanted W t n x) l
 
-  pub record Twins (l : List Step) (r z : Reading) : Type 0 where
-    pub read : reads bits 0 W s l r ≡ some z
-    pub clean : Clean s (z .at .0) (z .tight)
-    pub same : writes bits W t n l (writingOf s r) ≡ writingOf s z
-    pub stand : Stand l z
+  abbrev pub StepsForward : List Step → Reading → Reading → Type 0
+  StepsForward l r z = Together (CleanReading s) (writingOf s) (reads bits 0 W s l) (writes bits W t n l) r z × Stand l z
 
-  pub record Backs (l : List Step) (r z : Reading) : Type 0 where
-    pub clean : Clean s (r .at .0) (r .tight)
-    pub same : writes bits W t n l (writingOf s r) ≡ writingOf s z
+  abbrev pub StepsBack : List Step → Reading → Reading → Type 0
+  StepsBack l r z = Back (CleanReading s) (writingOf s) (writes bits W t n l) r z
 
   sound-next : (x : Step) (r z : Reading) → Sound bits W (r .lines) → readStep bits 0 W s x r ≡ some z → Sound bits W (z .lines)
   sound-next x r z ok e =
-      let k = step-keeps bits 0 W s high x r z e in
+      let k = step-keeps bits 0 W s (Q .high) x r z e in
       record { long = k .lines ∙ ok .long; small = k .samples (ok .small) }
 
   -- what is written goes on with the steps that follow
-  stored-first : (l : List Step) (w : Writing) → Stored s ((writes bits W t n l w) .bits) ((writes bits W t n l w) .wrong) → Stored s (w .bits) (w .wrong)
+  stored-first : (l : List Step) (w : Writing) → StoredWriting s (writes bits W t n l w) → StoredWriting s w
   stored-first l w h =
-      record {
-        starts = starts-cut s (w .bits) ((writes bits W t n l (afresh w)) .bits) (rw (ap (λ (y : Writing). y .bits) (writes-add bits W t n l w)) at (h .starts));
-        right = writes-right bits W t n l w (h .right);
-      }
-
-  twins-cons : (x : Step) (l : List Step) (r y z : Reading) (ok : Sound bits W (r .lines)) (h : InLines W x) → All (λ y. cell W x ≢ cell W y) l
-      → Twin bits W s t n low Q x r ok h y → Twins l y z → Twins (x ∷ l) r z
-  unfolding reads writes andThen
-  twins-cons x l r y z ok h apart T U =
-      record {
-        read = rw (T .read) (U .read);
-        clean = U .clean;
-        same = rw (T .same) (U .same);
-        stand = (steps-leave bits 0 W s (cell W x) l y z apart (U .read) ∙ T .stands, U .stand);
-      }
+      stored-cut s (w .bits) ((writes bits W t n l (afresh w)) .bits) _ (w .wrong) (rw (writes-add bits W t n l w) at h)
+      (λ e. writes-right bits W t n l w (rw (writes-add bits W t n l w) e))
 
   -- where the bits of the steps stand, the steps are read
-  pub steps-forward : ((j : ℕ) → getD t j 0 ≤ largest bits) → (l : List Step) (r : Reading) → Sound bits W (r .lines) → All (InLines W) l → Apart W l → Clean s (r .at .0) (r .tight)
-      → Stored s ((writes bits W t n l (writingOf s r)) .bits) ((writes bits W t n l (writingOf s r)) .wrong) → (z : Reading) × Twins l r z
+  pub steps-forward : ((j : ℕ) → getD t j 0 ≤ largest bits) → (l : List Step) (r : Reading) → Sound bits W (r .lines) → All (InLines W) l → Apart W l → CleanReading s r
+      → StoredWriting s (writes bits W t n l (writingOf s r)) → (z : Reading) × StepsForward l r z
   unfolding reads writes
-  steps-forward range [] r ok in-lines apart clean stored = (r, record { read = refl; clean = clean; same = refl; stand = tt })
+  steps-forward range [] r ok in-lines apart clean stored = (r, (record { read = refl; clean = clean; same = refl }, tt))
   steps-forward range (x ∷ l) r ok in-lines apart clean stored =
       let w : Writing = writeStep bits W t n x (writingOf s r) in
-      let after : Stored s ((writes bits W t n l w) .bits) ((writes bits W t n l w) .wrong) = stored in
-      let one = step-forward bits W s t n low Q x r ok (in-lines .0) clean (range _) (stored-first l w after) in
+      let after : StoredWriting s (writes bits W t n l w) = stored in
+      let one = step-forward bits W s t n Q x r ok (in-lines .0) clean (range _) (stored-first l w after) in
       let y : Reading = one .0 in
-      let T : Twin bits W s t n low Q x r ok (in-lines .0) y = one .1 in
+      let T = one .1 .0 in
       let rest = steps-forward range l y (sound-next x r y ok (T .read)) (in-lines .1) (apart .1) (T .clean) (rw (T .same) at after) in
       let z : Reading = rest .0 in
-      (z, twins-cons x l r y z ok (in-lines .0) (apart .0) T (rest .1))
+      let U = rest .1 .0 in (
+        z,
+        (
+          together-then (CleanReading s) (writingOf s) (readStep bits 0 W s x) (reads bits 0 W s l) (writeStep bits W t n x) (writes bits W t n l) r y z T U,
+          (steps-leave bits 0 W s (cell W x) l y z (apart .0) (U .read) ∙ one .1 .1, rest .1 .1),
+        ),
+      )
 
   -- where the steps were read, their bits stand
-  pub steps-backward : (l : List Step) (r z : Reading) → Sound bits W (r .lines) → All (InLines W) l → Apart W l → reads bits 0 W s l r ≡ some z → Clean s (z .at .0) (z .tight) → Stand l z
-      → Backs l r z
+  pub steps-backward : (l : List Step) (r z : Reading) → Sound bits W (r .lines) → All (InLines W) l → Apart W l → reads bits 0 W s l r ≡ some z → CleanReading s z → Stand l z
+      → StepsBack l r z
   unfolding reads writes
   steps-backward [] r z ok in-lines apart e clean stand =
       let is : r ≡ z = cc in
@@ -139,7 +129,7 @@ module _ (bits W : ℕ) (s t : List ℕ) (n : ℕ) (low : 1 ≤ bits) (high : bi
   steps-backward (x ∷ l) r z ok in-lines apart e clean stand =
       let f = first-then bits 0 W s x l r z e in
       let y : Reading = f .0 in
-      let B : Backs l y z = steps-backward l y z (sound-next x r y ok (f .1)) (in-lines .1) (apart .1) (f .2) clean (stand .1) in
-      let b : Back bits W s t n low Q x r ok (in-lines .0) y =
-      step-backward bits W s t n low Q x r ok (in-lines .0) y (f .1) (B .clean) (sym (steps-leave bits 0 W s (cell W x) l y z (apart .0) (f .2)) ∙ stand .0) in
-      record { clean = b .clean; same = rw (b .same) (B .same) }
+      let rest : StepsBack l y z = steps-backward l y z (sound-next x r y ok (f .1)) (in-lines .1) (apart .1) (f .2) clean (stand .1) in
+      let there : getD (y .lines) (cell W x) 0 ≡ wanted W t n x = sym (steps-leave bits 0 W s (cell W x) l y z (apart .0) (f .2)) ∙ stand .0 in
+      back-then (CleanReading s) (writingOf s) (writeStep bits W t n x) (writes bits W t n l) r y z
+      (step-backward bits W s t n Q x r ok (in-lines .0) y (f .1) (rest .clean) there) rest

@@ -1,6 +1,6 @@
 -- The quantiser of a lossless block. Assumes nothing.
 use mathlib.Core.Path.{_≡_}
-use Prim.Native.Nat.{ℕ, suc, _+_, _-_, _*_, _^_, _≤_, _<_, zero-le}
+use Prim.Native.Nat.{ℕ, suc, _^_, _≤_, _<_, zero-le}
 use native.Mathlib.Omega.{arith}
 use lib.Dec.{leb}
 use lib.Pow.{pow-pos, pow-mono}
@@ -11,6 +11,8 @@ use Rattle.pass.specs.Readings.{usedQuantiser}
 
 -- total is M + 1, and the codes of all samples fit the long form
 pub record Lossless (bits : ℕ) : Type 0 where
+  pub low : 1 ≤ bits
+  pub high : bits ≤ 16
   pub total : (usedQuantiser bits 0 0) .total ≡ suc (largest bits)
   pub raw : largest bits ≤ 2 ^ (usedQuantiser bits 0 0) .raw
   pub limit : 0 < (usedQuantiser bits 0 0) .limit
@@ -30,6 +32,8 @@ pub lossless : (bits : ℕ) → 1 ≤ bits → bits ≤ 16 → Lossless bits
 unfolding quantiserOf
 lossless bits low high =
     record {
+      low = low;
+      high = high;
       total = rw (total-is bits) (omega (arith, pow-pos bits));
       raw = rw (raw-is bits high) (omega arith);
       limit = rw (raw-is bits high) (omega arith);

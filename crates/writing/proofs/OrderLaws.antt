@@ -1,8 +1,8 @@
 -- The steps of a pass: they go to each position of both its lines, and no two of them to one place. Assumes nothing.
-use mathlib.Core.Bool.{Bool, true, false, cond, not}
+use mathlib.Core.Bool.{cond}
 use mathlib.Core.List.{List, [], _∷_, _++_}
 use mathlib.Core.Logic.{_≢_}
-use mathlib.Core.Path.{_≡_, refl, sym, ap, _∙_, subst}
+use mathlib.Core.Path.{_≡_, sym, ap, _∙_, subst}
 use Prim.Native.Nat.{ℕ, zero, suc, _+_, _-_, _*_, _/_, _%_, _≤_, _<_}
 use native.Mathlib.Nat.{not-suc-le-zero}
 use native.Mathlib.Omega.{arith}
@@ -10,7 +10,7 @@ use lib.Arith.{digits-div, digits-mod}
 use lib.Dec.{leb, ltb, eqb}
 use borrow.Author.Tests.{lt-ltb, le-ltb, le-leb, lt-leb, eq-eqb, ne-eqb}
 use Rattle.numbers.proofs.OrderLaws.{split}
-use Rattle.pass.specs.Steps.{interpolated, Step, evenSteps, oddSteps, turnSteps, upto, passSteps}
+use Rattle.pass.specs.Steps.{Step, evenSteps, oddSteps, turnSteps, upto, passSteps}
 use Rattle.pass.specs.declared.Plan.{Plan}
 use Rattle.writing.proofs.ListTwins.{All, cell, Apart}
 

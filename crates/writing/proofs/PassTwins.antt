@@ -10,10 +10,11 @@ use Rattle.pass.specs.Steps.{passSteps}
 use Rattle.pass.specs.Readings.{Reading, readPass, PlanInRange}
 use Rattle.pass.specs.declared.Plan.{Plan}
 use Rattle.writing.specs.Sets.{indexIn}
-use Rattle.writing.specs.Writings.{Writing, writePass}
+use Rattle.writing.specs.Writings.{writePass}
 use Rattle.writing.proofs.LosslessLaws.{Lossless}
-use Rattle.writing.proofs.StepTwins.{Clean, Stored, Sound, writingOf, InLines}
-use Rattle.writing.proofs.ListTwins.{All, cell, steps-leave, Stand, Twins, steps-forward, Backs, steps-backward}
+use Rattle.writing.proofs.Twins.{Sound, writingOf, CleanReading, StoredWriting, Together, Back}
+use Rattle.writing.proofs.StepTwins.{InLines}
+use Rattle.writing.proofs.ListTwins.{All, steps-leave, steps-forward, steps-backward}
 use Rattle.writing.proofs.OrderLaws.{place-is, pass-all, all-pass, pass-apart}
 
 -- the samples of colour line l in line n of the set t stand in the lines
@@ -29,40 +30,33 @@ pass-leaves bits W s P r z l p even h a b e =
     (pass-all W P even (λ m q. l * (W + 2) + p + 1 ≢ m * (W + 2) + q + 1)
     (λ q k. (λ f. a (place-is W l p (P .first) q h k f .0), λ f. b (place-is W l p (P .second) q h k f .0)))) e
 
-module _ (bits W : ℕ) (s t : List ℕ) (n : ℕ) (low : 1 ≤ bits) (high : bits ≤ 16) (Q : Lossless bits) (P : Plan) (even : W % 2 ≡ 0) (in-range : PlanInRange P)
-    (two : P .first ≢ P .second) (r : Reading) where
+module _ (bits W : ℕ) (s t : List ℕ) (n : ℕ) (Q : Lossless bits) (P : Plan) (even : W % 2 ≡ 0) (in-range : PlanInRange P) (two : P .first ≢ P .second) (r : Reading) where
   in-lines : All (InLines W) (passSteps W P)
   in-lines = pass-all W P even (λ l p. (l ≤ 17) × (p < W)) (λ p h. ((in-range .1, h), (in-range .3, h)))
 
-  pub record PassTwin (z : Reading) : Type 0 where
-    pub read : readPass bits 0 W s P r ≡ some z
-    pub clean : Clean s (z .at .0) (z .tight)
-    pub same : writePass bits W t n P (writingOf s r) ≡ writingOf s z
-    pub first : Holds W t n (z .lines) (P .first)
-    pub second : Holds W t n (z .lines) (P .second)
+  abbrev pub PassForward : Reading → Type 0
+  PassForward z =
+      Together (CleanReading s) (writingOf s) (readPass bits 0 W s P) (writePass bits W t n P) r z × Holds W t n (z .lines) (P .first) × Holds W t n (z .lines) (P .second)
 
-  pub record PassBack (z : Reading) : Type 0 where
-    pub clean : Clean s (r .at .0) (r .tight)
-    pub same : writePass bits W t n P (writingOf s r) ≡ writingOf s z
+  abbrev pub PassBack : Reading → Type 0
+  PassBack z = Back (CleanReading s) (writingOf s) (writePass bits W t n P) r z
 
-  module _ (ok : Sound bits W (r .lines)) where
-    -- where the bits of a pass stand, the pass is read
-    pub pass-forward : ((j : ℕ) → getD t j 0 ≤ largest bits) → Clean s (r .at .0) (r .tight)
-        → Stored s ((writePass bits W t n P (writingOf s r)) .bits) ((writePass bits W t n P (writingOf s r)) .wrong) → (z : Reading) × PassTwin z
-    unfolding readPass writePass
-    pass-forward range clean stored =
-        let one = steps-forward bits W s t n low high Q range (passSteps W P) r ok in-lines (pass-apart W P even two) clean stored in
-        let z : Reading = one .0 in
-        let T : Twins bits W s t n low high Q (passSteps W P) r z = one .1 in
-        let holds = all-pass W P even (λ l p. getD (z .lines) (l * (W + 2) + p + 1) 0 ≡ getD t (indexIn W n l p) 0) (T .stand) in
-        (z, record { read = T .read; clean = T .clean; same = T .same; first = λ p h. holds p h .0; second = λ p h. holds p h .1 })
+  -- where the bits of a pass stand, the pass is read
+  pub pass-forward : Sound bits W (r .lines) → ((j : ℕ) → getD t j 0 ≤ largest bits) → CleanReading s r → StoredWriting s (writePass bits W t n P (writingOf s r))
+      → (z : Reading) × PassForward z
+  unfolding readPass writePass
+  pass-forward ok range clean stored =
+      let one = steps-forward bits W s t n Q range (passSteps W P) r ok in-lines (pass-apart W P even two) clean stored in
+      let z : Reading = one .0 in
+      let holds = all-pass W P even (λ l p. getD (z .lines) (l * (W + 2) + p + 1) 0 ≡ getD t (indexIn W n l p) 0) (one .1 .1) in
+      let T = one .1 .0 in
+      (z, (record { read = T .read; clean = T .clean; same = T .same }, λ p h. holds p h .0, λ p h. holds p h .1))
 
-    -- where a pass was read, its bits stand
-    pub pass-backward : (z : Reading) → readPass bits 0 W s P r ≡ some z → Clean s (z .at .0) (z .tight) → Holds W t n (z .lines) (P .first) → Holds W t n (z .lines) (P .second)
-        → PassBack z
-    unfolding readPass writePass
-    pass-backward z e clean first second =
-        let stand = pass-all W P even (λ l p. getD (z .lines) (l * (W + 2) + p + 1) 0 ≡ getD t (indexIn W n l p) 0) (λ p h. (first p h, second p h)) in
-        let B : Backs bits W s t n low high Q (passSteps W P) r z =
-        steps-backward bits W s t n low high Q (passSteps W P) r z ok in-lines (pass-apart W P even two) e clean stand in
-        record { clean = B .clean; same = B .same }
+  -- where a pass was read, its bits stand
+  pub pass-backward : Sound bits W (r .lines) → (z : Reading) → readPass bits 0 W s P r ≡ some z → CleanReading s z → Holds W t n (z .lines) (P .first) → Holds W t n (z .lines) (P .second)
+      → PassBack z
+  unfolding readPass writePass
+  pass-backward ok z e clean first second =
+      let stand = pass-all W P even (λ l p. getD (z .lines) (l * (W + 2) + p + 1) 0 ≡ getD t (indexIn W n l p) 0) (λ p h. (first p h, second p h)) in
+      let back = steps-backward bits W s t n Q (passSteps W P) r z ok in-lines (pass-apart W P even two) e clean stand in
+      record { clean = back .clean; same = back .same }

@@ -1,23 +1,21 @@
 -- One step, read and written: a tight code is read where its bits were written, and its bits are written where it was read. Assumes nothing.
-use mathlib.Core.Bool.{Bool, true, false, cond, _&&_, false≢true}
-use mathlib.Core.List.{List, [], _∷_, _++_, append-assoc}
-use mathlib.Core.Option.{Option, none, some}
-use mathlib.Core.Path.{_≡_, refl, sym, ap, _∙_, subst}
-use Prim.Native.Nat.{ℕ, suc, _+_, _-_, _*_, _^_, _≤_, _<_}
+use mathlib.Core.Bool.{Bool, true, false, cond, _&&_}
+use mathlib.Core.List.{List, _++_}
+use mathlib.Core.Option.{none, some}
+use mathlib.Core.Path.{_≡_, refl, sym, _∙_, subst}
+use Prim.Native.Nat.{ℕ, suc, _+_, _*_, _≤_, _<_}
 use native.Mathlib.Nat.{mul-le-mul-right}
 use native.Mathlib.Omega.{arith}
 use lib.Dec.{eqb}
-use lib.ListN.{length, getD, set, take, drop, length-append, length-drop, take-append-drop}
-use lib.Seq.{drop-at, take-at, length-take-le, getD-set-same}
+use lib.ListN.{length, getD, set, take, drop}
+use lib.Seq.{getD-set-same}
 use borrow.Author.Tests.{eq-eqb, eqb-true}
 use Rattle.bits.specs.BitLists.{bitsOf}
-use Rattle.bits.proofs.ListLaws.{length-bits}
-use Rattle.statistics.specs.Statistics.{kOf, updated}
-use Rattle.statistics.specs.declared.Record.{Record}
+use Rattle.statistics.specs.Statistics.{kOf}
 use Rattle.quantiser.specs.Quantisers.{largest}
 use Rattle.prediction.specs.declared.Context.{Context}
 use Rattle.code.specs.Codes.{codeAt}
-use Rattle.code.specs.Samples.{choiceOf, residualOf, sampleOf}
+use Rattle.code.specs.Samples.{choiceOf, sampleOf}
 use Rattle.code.specs.Tight.{codeFor, codeBits, codeLength, isTight}
 use Rattle.code.specs.declared.Code.{Code}
 use Rattle.code.specs.declared.Coded.{Coded}
@@ -25,82 +23,22 @@ use Rattle.code.specs.declared.Coded.the-variants.{Read, Truncated}
 use Rattle.code.proofs.SampleLaws.{OneToOne, one-to-one}
 use Rattle.code.proofs.TightLaws.{length-codeBits, ReadBack, read-back, Stands, stands-there}
 use Rattle.pass.specs.Steps.{Step}
-use Rattle.pass.specs.Readings.{contextAt, lookOf, slotOf, usedQuantiser, Reading, noRecord, interpolate, take-code, codeOf, taken, readStep}
+use Rattle.pass.specs.Readings.{lookOf, usedQuantiser, Reading, noRecord, interpolate, take-code, taken, readStep}
 use Rattle.pass.specs.declared.Look.{Look}
-use Rattle.pass.proofs.LookLaws.{look-lossless}
-use Rattle.pass.proofs.RangeLaws.{AllLe, context-le, Kept, step-keeps}
-use Rattle.pass.proofs.StepLaws.{step-interpolated, step-read}
+use Rattle.pass.proofs.RangeLaws.{context-le}
+use Rattle.pass.proofs.StepLaws.{stepPlace, step-interpolated, step-read}
 use Rattle.writing.specs.Sets.{indexIn}
-use Rattle.writing.specs.Writings.{Writing, orSecond, pass-over, put-code, writeStep}
+use Rattle.writing.specs.Writings.{writeStep}
 use Rattle.writing.proofs.LosslessLaws.{Lossless}
-use Rattle.writing.proofs.WriteLaws.{placeIn, contextIn, lookIn, slotIn, wanted, write-coded, write-interpolated}
-
--- ---- bits
-
--- the bits l stand at the start of the bytes s
-abbrev pub Starts : List ℕ → List Bool → Type 0
-Starts s l = bitsOf s ≡ l ++ drop (length l) (bitsOf s)
-
--- bits that are followed by others
-pub starts-cut : (s : List ℕ) (l m : List Bool) → Starts s (l ++ m) → Starts s l
-starts-cut s l m e =
-    let f : bitsOf s ≡ l ++ (m ++ drop (length (l ++ m)) (bitsOf s)) = e ∙ append-assoc l m (drop (length (l ++ m)) (bitsOf s)) in
-    f ∙ ap (λ (r : List Bool). l ++ r) (sym (ap (drop (length l)) f ∙ drop-at l (m ++ drop (length (l ++ m)) (bitsOf s)) (length l) refl))
-
--- where the bits up to p and then m stand at the start, m stands at p
-starts-at : (s : List ℕ) (p : ℕ) (m : List Bool) → p ≤ 8 * length s → Starts s (take p (bitsOf s) ++ m) → drop p (bitsOf s) ≡ m ++ drop (p + length m) (bitsOf s)
-starts-at s p m h e =
-    let B : List Bool = bitsOf s in
-    let n : length (take p B) ≡ p = length-take-le p B (rw (length-bits s) h) in
-    let q : length (take p B ++ m) ≡ p + length m = rw (length-append (take p B) m, n) in
-    let f : B ≡ take p B ++ (m ++ drop (p + length m) B) = (rw q at e) ∙ append-assoc (take p B) m (drop (p + length m) B) in
-    ap (drop p) f ∙ drop-at (take p B) (m ++ drop (p + length m) B) p n
-
--- and it ends inside
-within : (s : List ℕ) (p : ℕ) (m : List Bool) → p ≤ 8 * length s → drop p (bitsOf s) ≡ m ++ drop (p + length m) (bitsOf s) → p + length m ≤ 8 * length s
-within s p m h e = omega (arith, length-bits s, simp (length-drop, length-append) at (ap length e))
-
--- where m stands at p, up to q, the bits up to q are those up to p and m
-taken-more : (s : List ℕ) (p q : ℕ) (m : List Bool) → p ≤ 8 * length s → q ≡ p + length m → drop p (bitsOf s) ≡ m ++ drop q (bitsOf s)
-    → take q (bitsOf s) ≡ take p (bitsOf s) ++ m
-taken-more s p q m h e d =
-    let B : List Bool = bitsOf s in
-    let n : length (take p B) ≡ p = length-take-le p B (rw (length-bits s) h) in
-    let l : length (take p B ++ m) ≡ q = rw (length-append (take p B) m, n, e) in
-    let f : B ≡ (take p B ++ m) ++ drop q B = sym (take-append-drop p B) ∙ ap (λ (r : List Bool). take p B ++ r) d ∙ sym (append-assoc (take p B) m (drop q B)) in
-    ap (take q) f ∙ take-at (take p B ++ m) (drop q B) q l
-
--- ---- what goes with what
-
--- a reading of the bytes s that has read tight codes alone, and no bit past the end
-pub record Clean (s : List ℕ) (at : ℕ) (verdict : Bool) : Type 0 where
-  pub tight : verdict ≡ true
-  pub inside : at ≤ 8 * length s
-
--- a writing whose bits stand at the start of s, with each interpolated sample its prediction
-pub record Stored (s : List ℕ) (l : List Bool) (wrong : Option ℕ) : Type 0 where
-  pub starts : Starts s l
-  pub right : wrong ≡ none
-
--- colour lines of the right length, with samples in 0..M
-pub record Sound (bits W : ℕ) (lines : List ℕ) : Type 0 where
-  pub long : length lines ≡ 18 * (W + 2)
-  pub small : AllLe (largest bits) lines
-
--- the writing that goes with a clean reading of s
-abbrev pub writingOf : List ℕ → Reading → Writing
-writingOf s r = record { lines = r .lines; set = r .set; bits = take (r .at .0) (bitsOf s); wrong = none }
+use Rattle.writing.proofs.Twins.{both, Starts, starts-at, within, taken-more, Clean, Sound, writingOf, CleanReading, StoredWriting, Together, Back}
+use Rattle.writing.proofs.WriteLaws.{contextIn, lookIn, slotIn, wanted, write-coded, write-interpolated}
 
 -- a step whose sample has a place in the lines
 abbrev pub InLines : ℕ → Step → Type 0
 InLines W x = (x .line ≤ 17) × (x .position < W)
 
-pub cell-lt : (W : ℕ) (x : Step) → InLines W x → placeIn W x + 1 < 18 * (W + 2)
+pub cell-lt : (W : ℕ) (x : Step) → InLines W x → stepPlace W x + 1 < 18 * (W + 2)
 cell-lt W x h = let m : suc (x .line) * (W + 2) ≤ 18 * (W + 2) = mul-le-mul-right (W + 2) (omega (arith, h .0)) in omega (arith, h .1)
-
-both : (a b : Bool) → (a && b) ≡ true → (a ≡ true) × (b ≡ true)
-both true b e = (refl, e)
-both false b e = absurd (false≢true e)
 
 and : (a b : Bool) → a ≡ true → b ≡ true → (a && b) ≡ true
 and a b e f = rw (e, f)
@@ -112,7 +50,7 @@ told false j e = let no : _≡_ {A = ℕ} 0 1 = cc in absurd (omega arith)
 -- ---- one step
 
 -- a step of line n, at a reading r, and the quantiser, context, record and sample that it goes by
-module _ (bits W : ℕ) (s t : List ℕ) (n : ℕ) (low : 1 ≤ bits) (Q : Lossless bits) (x : Step) (r : Reading) (ok : Sound bits W (r .lines)) (inside : InLines W x) where
+module _ (bits W : ℕ) (s t : List ℕ) (n : ℕ) (Q : Lossless bits) (x : Step) (r : Reading) (ok : Sound bits W (r .lines)) (inside : InLines W x) where
   abbrev M : ℕ
   M = largest bits
 
@@ -120,7 +58,7 @@ module _ (bits W : ℕ) (s t : List ℕ) (n : ℕ) (low : 1 ≤ bits) (Q : Lossl
   p = r .at .0
 
   abbrev i : ℕ
-  i = placeIn W x
+  i = stepPlace W x
 
   abbrev c : Context
   c = contextIn W x (r .lines)
@@ -150,23 +88,19 @@ module _ (bits W : ℕ) (s t : List ℕ) (n : ℕ) (low : 1 ≤ bits) (Q : Lossl
   sample value = sampleOf M 0 (suc M) (h .negative) (c .prediction) value
 
   one : OneToOne M (h .negative) (c .prediction)
-  one = one-to-one bits low (h .negative) (c .prediction) (context-le M (r .lines) (W + 2) i (x .position) (ok .small))
+  one = one-to-one bits (Q .low) (h .negative) (c .prediction) (context-le M (r .lines) (W + 2) i (x .position) (ok .small))
 
   -- a sample that is put into its place is there
   put-there : (a : ℕ) → getD (set (r .lines) (i + 1) a) (i + 1) 0 ≡ a
   put-there a = getD-set-same (r .lines) (i + 1) a 0 (rw (ok .long) (cell-lt W x inside))
 
-  -- the step that is read, and the one that is written
-  pub record Twin (z : Reading) : Type 0 where
-    pub read : readStep bits 0 W s x r ≡ some z
-    pub clean : Clean s (z .at .0) (z .tight)
-    pub same : writeStep bits W t n x (writingOf s r) ≡ writingOf s z
-    pub stands : getD (z .lines) (placeIn W x + 1) 0 ≡ wanted W t n x
+  -- the step is read, it is written, and its sample stands
+  abbrev pub StepForward : Reading → Type 0
+  StepForward z =
+      Together (CleanReading s) (writingOf s) (readStep bits 0 W s x) (writeStep bits W t n x) r z × (getD (z .lines) (stepPlace W x + 1) 0 ≡ wanted W t n x)
 
-  -- what a step that was read says
-  pub record Back (z : Reading) : Type 0 where
-    pub clean : Clean s (r .at .0) (r .tight)
-    pub same : writeStep bits W t n x (writingOf s r) ≡ writingOf s z
+  abbrev pub StepBack : Reading → Type 0
+  StepBack z = Back (CleanReading s) (writingOf s) (writeStep bits W t n x) r z
 
   -- ---- with a code
 
@@ -181,7 +115,7 @@ module _ (bits W : ℕ) (s t : List ℕ) (n : ℕ) (low : 1 ≤ bits) (Q : Lossl
       write-coded bits W t n x (writingOf s r) e ∙ rw (Q .total, is, value, bits-are)
 
   -- its bits are read where they stand
-  coded-forward : x .coded ≡ true → Clean s p (r .tight) → v ≤ M → Starts s (take p (bitsOf s) ++ codeBits k limit raw code) → (z : Reading) × Twin z
+  coded-forward : x .coded ≡ true → CleanReading s r → v ≤ M → Starts s (take p (bitsOf s) ++ codeBits k limit raw code) → (z : Reading) × StepForward z
   unfolding lookOf choiceOf
   coded-forward e clean small starts =
       let m : List Bool = codeBits k limit raw code in
@@ -192,17 +126,19 @@ module _ (bits W : ℕ) (s t : List ℕ) (n : ℕ) (low : 1 ≤ bits) (Q : Lossl
       let len : length m ≡ codeLength k limit raw code = length-codeBits k limit raw code in
       let end : p + length m ≤ 8 * length s = within s p m (clean .inside) d in (
         after (b .code),
-        record {
-          read = step-read bits 0 W s x r (b .code) e (b .read);
-          clean = record { tight = and (r .tight) (isTight M (b .code)) (clean .tight) (b .tight); inside = omega (arith, b .after) };
-          same = same-code (b .code) e (b .value) is (taken-more s p (b .code .after .0) m (clean .inside) (omega (arith, b .after)) (rw (b .rest-after) d));
-          stands = put-there _ ∙ rw (Q .total) is;
-        },
+        (
+          record {
+            read = step-read bits 0 W s x r (b .code) e (b .read);
+            clean = record { tight = and (r .tight) (isTight M (b .code)) (clean .tight) (b .tight); inside = omega (arith, b .after) };
+            same = same-code (b .code) e (b .value) is (taken-more s p (b .code .after .0) m (clean .inside) (omega (arith, b .after)) (rw (b .rest-after) d));
+          },
+          put-there _ ∙ rw (Q .total) is,
+        ),
       )
 
   -- it stands where it was read
   coded-backward : x .coded ≡ true → (d : Code) → codeAt s p k limit raw ≡ Read d → Clean s (d .after .0) (r .tight && isTight M d) → sample (d .value) ≡ v
-      → Back (after d)
+      → StepBack (after d)
   unfolding lookOf choiceOf
   coded-backward e d read clean is =
       let ts = both (r .tight) (isTight M d) (clean .tight) in
@@ -225,35 +161,35 @@ module _ (bits W : ℕ) (s t : List ℕ) (n : ℕ) (low : 1 ≤ bits) (Q : Lossl
   same-interpolated e is =
       write-interpolated bits W t n x (writingOf s r) e ∙ rw (eq-eqb v (c .prediction) is, is)
 
-  interpolated-forward : x .coded ≡ false → Clean s p (r .tight) → cond (eqb v (c .prediction)) none (some (indexIn W n (x .line) (x .position))) ≡ none → (z : Reading) × Twin z
+  interpolated-forward : x .coded ≡ false → CleanReading s r → cond (eqb v (c .prediction)) none (some (indexIn W n (x .line) (x .position))) ≡ none → (z : Reading) × StepForward z
   interpolated-forward e clean right =
       let is : v ≡ c .prediction = eqb-true v (c .prediction) (told (eqb v (c .prediction)) (indexIn W n (x .line) (x .position)) right) in (
         between,
-        record { read = step-interpolated bits 0 W s x r e; clean = clean; same = same-interpolated e is; stands = put-there (c .prediction) ∙ sym is },
+        (record { read = step-interpolated bits 0 W s x r e; clean = clean; same = same-interpolated e is }, put-there (c .prediction) ∙ sym is),
       )
 
   -- ---- either
 
   -- where the bits of a step stand, the step is read
-  pub step-forward : Clean s (r .at .0) (r .tight) → wanted W t n x ≤ largest bits
-      → Stored s ((writeStep bits W t n x (writingOf s r)) .bits) ((writeStep bits W t n x (writingOf s r)) .wrong) → (z : Reading) × Twin z
+  pub step-forward : CleanReading s r → wanted W t n x ≤ largest bits
+      → StoredWriting s (writeStep bits W t n x (writingOf s r)) → (z : Reading) × StepForward z
   unfolding lookOf choiceOf
   step-forward clean small stored = go (x .coded) refl
     where
-      go : (b : Bool) → x .coded ≡ b → (z : Reading) × Twin z
+      go : (b : Bool) → x .coded ≡ b → (z : Reading) × StepForward z
       go true e = coded-forward e clean small (rw (write-coded bits W t n x (writingOf s r) e) at (stored .starts))
       go false e = interpolated-forward e clean (rw (write-interpolated bits W t n x (writingOf s r) e) at (stored .right))
 
   -- where a step was read, its bits stand
-  pub step-backward : (z : Reading) → readStep bits 0 W s x r ≡ some z → Clean s (z .at .0) (z .tight) → getD (z .lines) (placeIn W x + 1) 0 ≡ wanted W t n x → Back z
+  pub step-backward : (z : Reading) → readStep bits 0 W s x r ≡ some z → CleanReading s z → getD (z .lines) (stepPlace W x + 1) 0 ≡ wanted W t n x → StepBack z
   unfolding readStep lookOf choiceOf
   step-backward z e clean stands = go (x .coded) refl (codeAt s p k limit raw) refl e
     where
-      go : (b : Bool) → x .coded ≡ b → (g : Coded) → codeAt s p k limit raw ≡ g → cond b (taken bits 0 i slot c h r g) (some between) ≡ some z → Back z
+      go : (b : Bool) → x .coded ≡ b → (g : Coded) → codeAt s p k limit raw ≡ g → cond b (taken bits 0 i slot c h r g) (some between) ≡ some z → StepBack z
       go true eb Truncated eg f = let no : _≡_ {A = ℕ} 0 1 = cc in absurd (omega arith)
       go true eb (Read d) eg f =
           let is : after d ≡ z = cc in
-          subst Back is (coded-backward eb d eg (rw (← is) at clean) (sym (put-there _ ∙ rw (Q .total)) ∙ (rw (← is) at stands)))
+          subst StepBack is (coded-backward eb d eg (rw (← is) at clean) (sym (put-there _ ∙ rw (Q .total)) ∙ (rw (← is) at stands)))
       go false eb g eg f =
           let is : between ≡ z = cc in
-          subst Back is (record { clean = rw (← is) at clean; same = same-interpolated eb (sym (rw (← is) at stands) ∙ put-there (c .prediction)) })
+          subst StepBack is (record { clean = rw (← is) at clean; same = same-interpolated eb (sym (rw (← is) at stands) ∙ put-there (c .prediction)) })

@@ -2,26 +2,23 @@
 use mathlib.Core.Bool.{Bool, true, false, cond}
 use mathlib.Core.List.{List, [], _∷_, _++_, append-assoc, append-nil}
 use mathlib.Core.Option.{Option, none, some}
-use mathlib.Core.Path.{_≡_, refl, sym, _∙_}
-use Prim.Native.Nat.{ℕ, _+_, _*_}
-use native.Mathlib.Omega.{arith}
+use mathlib.Core.Path.{_≡_, refl}
+use Prim.Native.Nat.{ℕ, _+_}
 use lib.ListN.{getD}
 use Rattle.prediction.specs.declared.Context.{Context}
 use Rattle.pass.specs.Readings.{contextAt, lookOf, slotOf}
-use Rattle.pass.specs.Steps.{Step, upto, passSteps}
+use Rattle.pass.specs.Steps.{Step, passSteps}
 use Rattle.pass.specs.declared.Look.{Look}
 use Rattle.pass.specs.declared.Plan.{Plan}
+use Rattle.pass.proofs.StepLaws.{stepPlace}
 use Rattle.writing.specs.Sets.{indexIn}
 use Rattle.writing.specs.Writings.{Writing, orSecond, pass-over, put-code, writeStep, writes, writePass}
 
 -- ---- one step
 
--- one place before the sample of a step, its context, what its coding goes by, its record's place, its index in the set and the sample itself
-abbrev pub placeIn : ℕ → Step → ℕ
-placeIn W x = x .line * (W + 2) + x .position
-
+-- the context of a step's sample, what its coding goes by, its record's place, and the sample itself
 abbrev pub contextIn : ℕ → Step → List ℕ → Context
-contextIn W x lines = contextAt lines (W + 2) (placeIn W x) (x .position)
+contextIn W x lines = contextAt lines (W + 2) (stepPlace W x) (x .position)
 
 abbrev pub lookIn : ℕ → Step → List ℕ → Look
 lookIn W x lines = lookOf 0 (contextIn W x lines)
@@ -35,13 +32,13 @@ wanted W t n x = getD t (indexIn W n (x .line) (x .position)) 0
 module _ (bits W : ℕ) (t : List ℕ) (n : ℕ) (x : Step) (r : Writing) where
   pub write-coded : x .coded ≡ true
       → writeStep bits W t n x r
-      ≡ put-code bits (placeIn W x) (slotIn W x (r .lines)) (wanted W t n x) (contextIn W x (r .lines)) (lookIn W x (r .lines)) r
+      ≡ put-code bits (stepPlace W x) (slotIn W x (r .lines)) (wanted W t n x) (contextIn W x (r .lines)) (lookIn W x (r .lines)) r
   unfolding writeStep
   write-coded e = rw e
 
   pub write-interpolated : x .coded ≡ false
       → writeStep bits W t n x r
-      ≡ pass-over (placeIn W x) (indexIn W n (x .line) (x .position)) (wanted W t n x) (contextIn W x (r .lines)) r
+      ≡ pass-over (stepPlace W x) (indexIn W n (x .line) (x .position)) (wanted W t n x) (contextIn W x (r .lines)) r
   unfolding writeStep
   write-interpolated e = rw e
 
@@ -64,10 +61,10 @@ module _ (bits W : ℕ) (t : List ℕ) (n : ℕ) (l : List Bool) where
       c = contextIn W x (r .lines)
 
       put : Writing → Writing
-      put y = put-code bits (placeIn W x) (slotIn W x (r .lines)) (wanted W t n x) c (lookOf 0 c) y
+      put y = put-code bits (stepPlace W x) (slotIn W x (r .lines)) (wanted W t n x) c (lookOf 0 c) y
 
       pass : Writing → Writing
-      pass y = pass-over (placeIn W x) (indexIn W n (x .line) (x .position)) (wanted W t n x) c y
+      pass y = pass-over (stepPlace W x) (indexIn W n (x .line) (x .position)) (wanted W t n x) c y
 
       go : (b : Bool) → cond b (put (after l r)) (pass (after l r)) ≡ after l (cond b (put r) (pass r))
       go true = rw (append-assoc l (r .bits) _)

@@ -9,7 +9,6 @@ use lib.ListN.{getD, set}
 use Rattle.statistics.specs.Statistics.{kOf, updated}
 use Rattle.statistics.specs.declared.Record.{Record}
 use Rattle.quantiser.specs.Quantisers.{largest}
-use Rattle.quantiser.specs.declared.Quantiser.{Quantiser}
 use Rattle.prediction.specs.declared.Context.{Context}
 use Rattle.code.specs.Samples.{residualOf}
 use Rattle.code.specs.Tight.{codeFor, codeBits}

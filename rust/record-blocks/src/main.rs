@@ -1,40 +1,10 @@
 // Makes blocks, has the original read them, and writes both to the file that the argument names. The layout is in README.md.
-#[path = "../../../common/encoder.rs"]
-mod encoder;
-mod fuji_compressed;
-
-use fuji_compressed::blocks::read;
+use common::encoder;
+use common::pictures::scene;
+use common::random::Random;
+use original::opened::blocks::read;
 
 const SEED: u64 = 0x0bad_5eed_0bad_5eed;
-
-struct Random(u64);
-
-impl Random {
-    fn next(&mut self) -> u64 {
-        self.0 ^= self.0 << 13;
-        self.0 ^= self.0 >> 7;
-        self.0 ^= self.0 << 17;
-        self.0 >> 11
-    }
-
-    fn below(&mut self, n: u64) -> u64 {
-        self.next() % n
-    }
-}
-
-/// A picture's sample: smooth, flat, noisy or with hard edges, by its kind.
-fn scene(kind: u64, largest: u32, n: usize, line: usize, p: usize, random: &mut Random) -> u16 {
-    let (x, y) = (p as u64, 6 * n as u64 + line as u64);
-    let largest = largest as u64;
-    let v = match kind % 5 {
-        0 => largest / 4 + (x * 7 + y * 5) % (largest / 2) + random.below(largest / 200 + 1),
-        1 => largest / 3 + random.below(3),
-        2 => random.below(largest + 1),
-        3 => if (x / 16 + y) % 2 == 0 { 0 } else { largest },
-        _ => largest / 2 + (x / 9) % 3 + random.below(1 + largest / 1000),
-    };
-    v.min(largest) as u16
-}
 
 fn word(out: &mut Vec<u8>, v: usize) {
     out.extend_from_slice(&(v as u32).to_be_bytes());
@@ -56,7 +26,7 @@ fn record(out: &mut Vec<u8>, bits: u32, xtrans: bool, bases: &[u8], lines: usize
 }
 
 fn main() {
-    let mut random = Random(SEED);
+    let mut random = Random::new(SEED);
     let mut out = Vec::new();
     let mut kind = 0;
     for (bits, xtrans) in [(12, false), (14, false), (16, false), (12, true), (14, true), (16, true)] {
@@ -81,7 +51,7 @@ fn main() {
     }
     // Random bytes are codes too.
     for i in 0..4 {
-        let bytes: Vec<u8> = (0..9000).map(|_| random.next() as u8).collect();
+        let bytes: Vec<u8> = (0..9000).map(|_| random.number() as u8).collect();
         let bases = if i % 2 == 0 { &[][..] } else { &[200, 0][..] };
         record(&mut out, 14, i >= 2, bases, 2, &bytes);
     }

@@ -1,42 +1,13 @@
 // Writes the answers of the leaves of fuji_compressed.rs to the file that its argument names. The
 // layout of the records is in README.md.
-mod fuji_compressed;
-
-use fuji_compressed::leaves::{Given, Tables, k};
+use common::random::Random;
+use original::opened::leaves::{Given, Tables, k};
 
 const SEED: u64 = 0x0123_4567_89ab_cdef;
 const DEPTHS: [u32; 3] = [12, 14, 16];
 
 /// The largest residual size of a code, which bounds the sum of a record that has counted n.
 const LARGEST: i64 = 63 << 14;
-
-struct Random(u64);
-
-impl Random {
-    fn next(&mut self) -> u64 {
-        self.0 ^= self.0 << 13;
-        self.0 ^= self.0 >> 7;
-        self.0 ^= self.0 << 17;
-        self.0
-    }
-
-    fn below(&mut self, n: u64) -> u64 {
-        (self.next() >> 16) % n
-    }
-
-    fn pick<T: Copy>(&mut self, from: &[T]) -> T {
-        from[self.below(from.len() as u64) as usize]
-    }
-
-    /// A number in low..=high.
-    fn within(&mut self, low: i64, high: i64) -> i64 {
-        low + self.below((high - low + 1) as u64) as i64
-    }
-
-    fn chance(&mut self, one_in: u64) -> bool {
-        self.below(one_in) == 0
-    }
-}
 
 /// The records, 80 bytes each: twelve words and 32 bytes.
 struct Answers(Vec<u8>);
@@ -188,11 +159,8 @@ fn predictions(r: &mut Random, tables: &[Tables; 3], out: &mut Answers, odd: boo
         let bits = DEPTHS[depth];
         let base = line_base(r);
         let [a, b, c, d, e] = neighbours(r, (1 << bits) - 1);
-        let (kind, last, p) = if odd {
-            (5, e, tables[depth].odd(base, a, b, c, d, e))
-        } else {
-            (4, 0, tables[depth].even(base, a, b, c, d))
-        };
+        let (kind, last, p) =
+            if odd { (5, e, tables[depth].odd(base, a, b, c, d, e)) } else { (4, 0, tables[depth].even(base, a, b, c, d)) };
         let given = [bits, base, a as u32, b as u32, c as u32, d as u32, last as u32];
         let answers = [p.prediction as u32, p.table, p.index, p.second as u32];
         out.add(kind, &[&given[..], &answers[..]].concat(), &[]);
@@ -307,7 +275,7 @@ fn samples(r: &mut Random, tables: &[Tables; 3], out: &mut Answers) {
 fn main() {
     let name = std::env::args().nth(1).expect("the name of the file to write");
     let tables = DEPTHS.map(Tables::new);
-    let mut r = Random(SEED);
+    let mut r = Random::dropping(SEED, 16);
     let mut out = Answers(Vec::new());
     ks(&mut r, &mut out);
     levels(&mut r, &tables, &mut out);

@@ -1,0 +1,69 @@
+-- The answer of the tight reading, by what a walk says. Assumes nothing.
+use mathlib.Core.Bool.{Bool, true, false, cond, _&&_}
+use mathlib.Core.List.{List, []}
+use mathlib.Core.Option.{some}
+use mathlib.Core.Path.{_≡_, refl, sym, ap, _∙_, subst}
+use Prim.Native.Nat.{ℕ, suc, _+_, _-_, _*_, _/_, _%_, _≤_, _<_, min}
+use native.Mathlib.Omega.{arith}
+use borrow.Author.Tests.{lt-ltb, le-ltb, eq-eqb, ne-eqb}
+use lib.Dec.{ltb, eqb}
+use lib.ListN.{length}
+use Rattle.bits.specs.Bits.{bitsAt}
+use Rattle.bits.specs.declared.BitPosition.{BitPosition}
+use Rattle.stream.specs.declared.Refusal.the-variants.{Truncated, NotTight}
+use Rattle.block.specs.Blocks.{State, ReadAll, CutAt, IsWalked, eitherOf, readLines, tightLines}
+use Rattle.block.specs.Images.{linesRead}
+use Rattle.block.specs.TightBlocks.{isTail, bitsRead, tightAnswer}
+use Rattle.block.specs.declared.Decoded.{Decoded}
+use Rattle.block.specs.declared.Decoded.the-variants.{Done, Refused}
+use Rattle.block.specs.declared.Form.{Form}
+use Rattle.block.specs.declared.Walked.{Walked}
+use Rattle.block.proofs.DecodeLaws.{walked-lines}
+
+-- ---- the tail
+
+-- the bits rounded up to bytes, without a sum that could be too large
+rounded : (at : ℕ) → at / 8 + (at % 8 + 7) / 8 ≡ (at + 7) / 8
+rounded at = omega arith
+
+pub other-length : (s : List ℕ) (at n : ℕ) → n ≡ length s → (n ≡ at / 8 + (at % 8 + 7) / 8 → ⊥) → false ≡ isTail s at
+unfolding isTail
+other-length s at n e ne = rw (ne-eqb (length s) ((at + 7) / 8) (λ q. ne (e ∙ q ∙ sym (rounded at))))
+
+pub same-length : (s : List ℕ) (at n spare v : ℕ) → n ≡ length s → n ≡ at / 8 + (at % 8 + 7) / 8 → spare ≡ 8 * n - at → v ≡ bitsAt s at (min spare 32)
+    → eqb v 0 ≡ isTail s at
+unfolding isTail
+same-length s at n spare v e f g h =
+    let k : min spare 32 ≡ 8 * length s - at = omega arith in
+    rw (h, k, eq-eqb (length s) ((at + 7) / 8) (sym e ∙ f ∙ rounded at))
+
+-- ---- the answer
+
+module _ (F : Form) (s : List ℕ) (b count : ℕ) (w : Walked) (p : IsWalked F [] s count w) where
+  pub cut-off : w .ok ≡ false → Refused (Truncated b (w .line)) ≡ tightAnswer F b count s
+  unfolding tightAnswer
+  cut-off e =
+      let c : CutAt F [] s count w = subst (λ (k : Bool). eitherOf k (ReadAll F [] s count w) (CutAt F [] s count w)) e p in
+      let l : w .line ≡ linesRead F [] s count = subst (λ (k : Bool). cond k count (w .line) ≡ linesRead F [] s count) e (walked-lines F [] s count w p) in
+      rw (← l, lt-ltb (w .line) count (c .inside))
+
+  all : w .ok ≡ true → ReadAll F [] s count w
+  all e = subst (λ (k : Bool). eitherOf k (ReadAll F [] s count w) (CutAt F [] s count w)) e p
+
+  complete : w .ok ≡ true → linesRead F [] s count ≡ count
+  complete e = sym (subst (λ (k : Bool). cond k count (w .line) ≡ linesRead F [] s count) e (walked-lines F [] s count w p))
+
+  pub loose : w .ok ≡ true → w .«tight_lines» < count → Refused (NotTight (w .«tight_lines»)) ≡ tightAnswer F b count s
+  unfolding tightAnswer
+  loose e h =
+      let t = all e .tight in
+      rw (complete e, le-ltb count count (omega arith), ← t, lt-ltb (w .«tight_lines») count h)
+
+  last : w .ok ≡ true → isTail s (w .at .0) ≡ isTail s (bitsRead (readLines F [] s count))
+  last e = rw (all e .read) (ap (λ (x : BitPosition). isTail s (x .0)) (all e .at))
+
+  pub ends : w .ok ≡ true → count ≤ w .«tight_lines» → (t : Bool) → t ≡ isTail s (w .at .0) → cond t Done (Refused (NotTight count)) ≡ tightAnswer F b count s
+  unfolding tightAnswer
+  ends e h t f =
+      let l = all e .tight in
+      rw (complete e, le-ltb count count (omega arith), ← l, le-ltb (w .«tight_lines») count h, f, last e)

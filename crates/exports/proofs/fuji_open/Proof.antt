@@ -1,0 +1,15 @@
+-- `exports::fuji_open` meets its contract. Assumes nothing.
+use borrow.Author.Needs.{needs}
+use mathlib.Core.Path.{sym}
+use Rattle.exports.specs.Exports.{parsedWords, parsedRefusal}
+use Rattle.exports.proofs.ExportLaws.{same}
+use Rattle.exports.proofs.fuji_open.Statement.{statement}
+use Rattle.exports.proofs.fuji_open.Tie as tie
+
+returns : tie.Need-returns
+returns c =
+    let e = sym (c .before .before .«open» .ensures) in
+    (same parsedWords _ _ _ e (c .before .parsed-words .ensures), same parsedRefusal _ _ _ e (c .parsed-refusal .ensures))
+
+pub fuji-open-spec : {M : Type 1} → statement M
+fuji-open-spec = tie.close (tie.spec (λ c κs. search needs) (λ c κs. search needs) (λ c κs. search needs) returns)

@@ -1,0 +1,12 @@
+-- `exports::parsed_refusal` meets its contract. Assumes nothing.
+use borrow.Author.Needs.{needs}
+use Rattle.exports.specs.Exports.{parsedRefusal}
+use Rattle.exports.proofs.ExportLaws.{same}
+use Rattle.exports.proofs.parsed_refusal.Statement.{statement}
+use Rattle.exports.proofs.parsed_refusal.Tie as tie
+
+returns-2 : tie.Need-returns-2
+returns-2 c = same parsedRefusal _ _ _ (c .before .before .p .given .1) (c .refusal-words .ensures)
+
+pub parsed-refusal-spec : {M : Type 1} → statement M
+parsed-refusal-spec = tie.close (tie.spec (λ c. search needs) (λ c. search needs) (λ c κs. search needs) (λ c. search needs) returns-2)

@@ -1,0 +1,56 @@
+/* Fuji compressed raw streams: the functions of libfuji_compressed.a (rust/library makes it). x86-64 Linux.
+ *
+ * Each function meets a proved contract; crates/exports and crates/block have them. None asks anything of its numbers, but every pointer
+ * must point to as many items as it says, and what is written to must not overlap with anything else.
+ *
+ * `refusal` is handed back by every function: the refusal's number, 0 where nothing is refused, then the block, the line and the index that it
+ * names, 0 where it names none. docs/FORMAT.md lists the refusals. */
+#ifndef FUJI_COMPRESSED_H
+#define FUJI_COMPRESSED_H
+
+#include <stddef.h>
+#include <stdint.h>
+
+#ifdef __cplusplus
+extern "C" {
+#endif
+
+/* Scratch that a decode needs: so many samples (less for Bayer: 6,948), and so many records. Their contents do not matter. */
+#define FUJI_SCRATCH_SAMPLES 9252
+#define FUJI_SCRATCH_RECORDS 336
+
+typedef struct fuji_record {
+    uint32_t sum;
+    uint32_t n;
+} fuji_record;
+
+/* The header: lossless (0 or 1), X-Trans (0 or 1), bits, height, rounded width, width, block size, blocks, lines. All 0 where it is refused. */
+void fuji_parse(const uint8_t *stream, size_t stream_length, size_t header[9], size_t refusal[4]);
+
+/* The same once the sizes and, if the stream is lossy, all base rows are there. */
+void fuji_open(const uint8_t *stream, size_t stream_length, size_t header[9], size_t refusal[4]);
+
+/* The columns of a block. */
+void fuji_block_width(const uint8_t *stream, size_t stream_length, uint32_t block, size_t width[1], size_t refusal[4]);
+
+/* Where a block lies in the stream: an offset and a length. */
+void fuji_block_range(const uint8_t *stream, size_t stream_length, size_t block, size_t range[2], size_t refusal[4]);
+
+/* Where the base row of a block lies in the stream. */
+void fuji_base_row_range(const uint8_t *stream, size_t stream_length, size_t block, size_t range[2], size_t refusal[4]);
+
+/* Decodes the whole picture, whose size is named, row after row. The tile has six rows of six colours: 0 red, 2 blue, else green. */
+void fuji_decode(const uint8_t *stream, size_t stream_length, size_t width, size_t height, const uint8_t tile[36], uint16_t *image,
+                 size_t image_length, uint16_t *scratch, size_t scratch_length, fuji_record *records, size_t records_length,
+                 size_t refusal[4]);
+
+/* Decodes a region into an image that holds the region alone. */
+void fuji_decode_region(const uint8_t *stream, size_t stream_length, size_t x, size_t y, size_t width, size_t height,
+                        const uint8_t tile[36], uint16_t *image, size_t image_length, uint16_t *scratch, size_t scratch_length,
+                        fuji_record *records, size_t records_length, size_t refusal[4]);
+
+#ifdef __cplusplus
+}
+#endif
+
+#endif

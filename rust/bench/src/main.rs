@@ -1,0 +1,152 @@
+//! Times the decoding of whole pictures: the original Rust on one thread, and the port through its wrapper with lent scratch. README.md says
+//! what is timed.
+use common::random::Random;
+use common::stream::{Header, encoded};
+use fuji_compressed::{ColorTile, FujiCompressed, Scratch};
+use original::fuji_compressed as theirs;
+use std::hint::black_box;
+
+const SEED: u64 = 0x0bad_5eed_0bad_5eed;
+const ROUNDS: usize = 31;
+const MOST_ROUNDS: usize = 124;
+const FEWEST_KEPT: usize = 9;
+/// A round is kept if both its Rust runs take at most this, times the fastest Rust run.
+const QUIET: f64 = 1.12;
+const TILE: ColorTile =
+    [[0, 1, 0, 1, 0, 1], [1, 2, 1, 2, 1, 2], [0, 1, 0, 1, 0, 1], [1, 2, 1, 2, 1, 2], [0, 1, 0, 1, 0, 1], [1, 2, 1, 2, 1, 2]];
+/// Name, X-Trans, lossy.
+const KINDS: [(&str, bool, bool); 4] =
+    [("bayer-lossless", false, false), ("xtrans-lossless", true, false), ("bayer-lossy", false, true), ("xtrans-lossy", true, true)];
+
+unsafe extern "C" {
+    fn clock_gettime(clock: i32, time: *mut [i64; 2]) -> i32;
+}
+
+/// The processor time of this thread, in seconds.
+fn seconds() -> f64 {
+    let mut t = [0i64; 2];
+    assert_eq!(unsafe { clock_gettime(3, &mut t) }, 0);
+    t[0] as f64 + t[1] as f64 * 1e-9
+}
+
+/// A smooth picture, with noise that is the sum of four even ones.
+fn light(n: usize, line: usize, p: usize, random: &mut Random) -> u16 {
+    let (x, y) = (p as f64, (6 * n + line) as f64);
+    let smooth = 5000.0 + 2000.0 * (x / 45.0).sin() + 1500.0 * (y / 60.0).sin();
+    let noise: u64 = (0..4).map(|_| random.below(25)).sum();
+    smooth as u16 + noise as u16
+}
+
+struct Picture {
+    stream: Vec<u8>,
+    width: u32,
+    height: u32,
+    codes: f64,
+}
+
+impl Picture {
+    /// 14 bits; lossy with base 2 in every line.
+    fn new(blocks: u16, lines: u16, xtrans: bool, lossy: bool) -> Picture {
+        let mut random = Random::new(SEED);
+        let header = Header::new(!lossy, xtrans, 14, 768 * blocks, lines);
+        let rows = if lossy { vec![vec![2; lines as usize]; blocks as usize] } else { vec![] };
+        let stream = encoded(&header, &rows, &mut |_, n, line, p| light(n, line, p, &mut random));
+        Picture { stream, width: header.width as u32, height: header.height as u32, codes: 4608.0 * blocks as f64 * lines as f64 }
+    }
+
+    fn image(&self) -> Vec<u16> {
+        vec![0x5a5a; self.width as usize * self.height as usize]
+    }
+
+    fn time_theirs(&self, image: &mut [u16]) -> f64 {
+        let start = seconds();
+        let stream = theirs::FujiCompressed::new(black_box(&self.stream)).unwrap();
+        stream.decode(image, self.width, self.height, &TILE, false).unwrap();
+        let time = seconds() - start;
+        black_box(image);
+        time
+    }
+
+    fn time_ours(&self, image: &mut [u16], scratch: &mut Scratch) -> f64 {
+        let start = seconds();
+        let stream = FujiCompressed::new(black_box(&self.stream)).unwrap();
+        stream.decode_with(scratch, image, self.width, self.height, &TILE).unwrap();
+        let time = seconds() - start;
+        black_box(image);
+        time
+    }
+
+    /// Rounds of Rust, ours, Rust: those that are kept, and how many there were.
+    fn rounds(&self) -> (Vec<[f64; 3]>, usize) {
+        let (mut want, mut got, mut scratch) = (self.image(), self.image(), Scratch::new());
+        self.time_theirs(&mut want);
+        self.time_ours(&mut got, &mut scratch);
+        assert!(want == got, "the two pictures differ");
+        let mut rounds: Vec<[f64; 3]> = vec![];
+        loop {
+            for _ in 0..ROUNDS {
+                rounds.push([self.time_theirs(&mut want), self.time_ours(&mut got, &mut scratch), self.time_theirs(&mut want)]);
+            }
+            let fastest = rounds.iter().map(|r| r[0].min(r[2])).fold(f64::MAX, f64::min);
+            let kept: Vec<[f64; 3]> = rounds.iter().filter(|r| r[0].max(r[2]) <= QUIET * fastest).copied().collect();
+            if kept.len() >= FEWEST_KEPT || rounds.len() >= MOST_ROUNDS {
+                return (kept, rounds.len());
+            }
+        }
+    }
+}
+
+/// The median, with the least and the most.
+struct Spread {
+    median: f64,
+    least: f64,
+    most: f64,
+}
+
+impl Spread {
+    fn of(values: impl Iterator<Item = f64>) -> Spread {
+        let mut v: Vec<f64> = values.collect();
+        v.sort_by(f64::total_cmp);
+        Spread { median: (v[(v.len() - 1) / 2] + v[v.len() / 2]) / 2.0, least: v[0], most: v[v.len() - 1] }
+    }
+}
+
+impl std::fmt::Display for Spread {
+    fn fmt(&self, f: &mut std::fmt::Formatter) -> std::fmt::Result {
+        write!(f, "{:.2} ({:.2} to {:.2})", self.median, self.least, self.most)
+    }
+}
+
+/// Prints what was measured, and gives the ratio.
+fn measure(name: &str, picture: &Picture) -> Option<f64> {
+    let (kept, all) = picture.rounds();
+    if kept.is_empty() {
+        println!("{name}: no quiet round of {all}");
+        return None;
+    }
+    let ns = 1e9 / picture.codes;
+    let rust = Spread::of(kept.iter().map(|r| ns * (r[0] + r[2]) / 2.0));
+    let ours = Spread::of(kept.iter().map(|r| ns * r[1]));
+    let ratio = Spread::of(kept.iter().map(|r| 2.0 * r[1] / (r[0] + r[2])));
+    let bits = 8.0 * picture.stream.len() as f64 / picture.codes;
+    println!(
+        "{name}: rust {rust} ns a code, ours {ours} ns a code, ratio {ratio}, {} rounds of {all} kept, {bits:.2} bits a code",
+        kept.len()
+    );
+    Some(ratio.median)
+}
+
+fn main() {
+    let words: Vec<u16> = std::env::args().skip(1).map(|w| w.parse().expect("a number of blocks and a number of lines")).collect();
+    let (blocks, lines) = (*words.first().unwrap_or(&6), *words.get(1).unwrap_or(&300));
+    println!(
+        "images are written over from run to run, and not cleared before; times are processor times of one thread, medians (least to most)"
+    );
+    for (name, xtrans, lossy) in KINDS {
+        measure(&format!("{name}, one block of 480 lines"), &Picture::new(1, 480, xtrans, lossy));
+        let ratio = measure(&format!("{name}, {blocks} blocks of {lines} lines"), &Picture::new(blocks, lines, xtrans, lossy));
+        if let Some(ratio) = ratio {
+            println!("ratio {name} {ratio:.2}");
+        }
+    }
+}

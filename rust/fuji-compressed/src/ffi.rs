@@ -1,0 +1,40 @@
+//! The functions of the static library, as include/fuji_compressed.h declares them. tests/declarations.rs keeps the two in step.
+use crate::Record;
+
+unsafe extern "C" {
+    pub fn fuji_parse(stream: *const u8, stream_length: usize, header: *mut [usize; 9], refusal: *mut [usize; 4]);
+    pub fn fuji_open(stream: *const u8, stream_length: usize, header: *mut [usize; 9], refusal: *mut [usize; 4]);
+    pub fn fuji_block_width(stream: *const u8, stream_length: usize, block: u32, width: *mut [usize; 1], refusal: *mut [usize; 4]);
+    pub fn fuji_block_range(stream: *const u8, stream_length: usize, block: usize, range: *mut [usize; 2], refusal: *mut [usize; 4]);
+    pub fn fuji_base_row_range(stream: *const u8, stream_length: usize, block: usize, range: *mut [usize; 2], refusal: *mut [usize; 4]);
+    pub fn fuji_decode(
+        stream: *const u8,
+        stream_length: usize,
+        width: usize,
+        height: usize,
+        tile: *const [u8; 36],
+        image: *mut u16,
+        image_length: usize,
+        scratch: *mut u16,
+        scratch_length: usize,
+        records: *mut Record,
+        records_length: usize,
+        refusal: *mut [usize; 4],
+    );
+    pub fn fuji_decode_region(
+        stream: *const u8,
+        stream_length: usize,
+        x: usize,
+        y: usize,
+        width: usize,
+        height: usize,
+        tile: *const [u8; 36],
+        image: *mut u16,
+        image_length: usize,
+        scratch: *mut u16,
+        scratch_length: usize,
+        records: *mut Record,
+        records_length: usize,
+        refusal: *mut [usize; 4],
+    );
+}

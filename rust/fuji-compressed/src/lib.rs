@@ -1,0 +1,239 @@
+//! Decodes Fuji compressed raw streams (lossless and lossy, Bayer and X-Trans), through a library whose functions are proved to meet their
+//! contracts. The names are those of the Rust that it was ported from, so that it can take its place.
+//!
+//! ```
+//! use fuji_compressed::{FujiHeader, Refusal};
+//!
+//! let refused = FujiHeader::parse(b"not a stream, but long enough").unwrap_err();
+//! assert_eq!(refused.number, 2);
+//! assert_eq!(refused.to_string(), "refusal 2: a header rule is broken");
+//! ```
+mod ffi;
+mod refusal;
+
+pub use refusal::Refusal;
+
+/// The size of a stream's header in bytes.
+pub const HEADER_SIZE: usize = 16;
+
+/// The colour (0 red, 2 blue, else green) of every position of a tile of six rows and columns, which begins at the picture's first sample.
+pub type ColorTile = [[u8; 6]; 6];
+
+pub type Result<T> = std::result::Result<T, Refusal>;
+
+/// A region: its first column and row, and its size.
+#[derive(Debug, Clone, Copy, PartialEq, Eq, Default)]
+pub struct Rect {
+    pub x: u32,
+    pub y: u32,
+    pub width: u32,
+    pub height: u32,
+}
+
+impl Rect {
+    pub const fn new(x: u32, y: u32, width: u32, height: u32) -> Rect {
+        Rect { x, y, width, height }
+    }
+}
+
+/// One of the adaptive records of a block.
+#[repr(C)]
+#[derive(Debug, Clone, Copy, PartialEq, Eq, Default)]
+pub struct Record {
+    pub sum: u32,
+    pub n: u32,
+}
+
+/// What a decode works in. Its contents do not matter; a decode that read a block leaves samples 0 and records (0, n 1) in the part that it
+/// used. One scratch serves any number of decodes, one after the other.
+#[derive(Debug, Clone, PartialEq, Eq)]
+pub struct Scratch {
+    pub samples: Vec<u16>,
+    pub records: Vec<Record>,
+}
+
+impl Scratch {
+    /// Samples that suffice for every stream: 18 colour lines of 512 samples and two guards.
+    pub const SAMPLES: usize = 9252;
+    pub const RECORDS: usize = 336;
+
+    pub fn new() -> Scratch {
+        Scratch { samples: vec![0; Self::SAMPLES], records: vec![Record::default(); Self::RECORDS] }
+    }
+}
+
+impl Default for Scratch {
+    fn default() -> Scratch {
+        Scratch::new()
+    }
+}
+
+/// A stream's header.
+#[derive(Debug, Clone, Copy, PartialEq, Eq)]
+pub struct FujiHeader {
+    pub lossless: bool,
+    /// X-Trans (raw type 16) or Bayer (raw type 0).
+    pub xtrans: bool,
+    pub bits: u32,
+    pub height: u32,
+    pub rounded_width: u32,
+    pub width: u32,
+    pub block_size: u32,
+    pub blocks: u32,
+    /// Lines of six rows.
+    pub lines: u32,
+}
+
+impl FujiHeader {
+    /// Parses and validates the first 16 bytes. Refusals 1 and 2.
+    pub fn parse(bytes: &[u8]) -> Result<FujiHeader> {
+        let (mut header, mut refusal) = ([0; 9], [0; 4]);
+        unsafe { ffi::fuji_parse(bytes.as_ptr(), bytes.len(), &mut header, &mut refusal) };
+        Refusal::answer(refusal).map(|()| FujiHeader::of(header))
+    }
+
+    /// The width in samples of block i; the last block may be narrower. Refusal 5, and 2 for a header that breaks a rule.
+    pub fn block_width(&self, i: u32) -> Result<u32> {
+        let bytes = self.bytes();
+        let (mut width, mut refusal) = ([0; 1], [0; 4]);
+        unsafe { ffi::fuji_block_width(bytes.as_ptr(), bytes.len(), i, &mut width, &mut refusal) };
+        Refusal::answer(refusal).map(|()| width[0] as u32)
+    }
+
+    fn of(words: [usize; 9]) -> FujiHeader {
+        let [lossless, xtrans, bits, height, rounded_width, width, block_size, blocks, lines] = words.map(|w| w as u32);
+        FujiHeader { lossless: lossless == 1, xtrans: xtrans == 1, bits, height, rounded_width, width, block_size, blocks, lines }
+    }
+
+    /// The header's bytes. A field that has no room becomes 0, which breaks a rule.
+    fn bytes(&self) -> [u8; HEADER_SIZE] {
+        let one = |v: u32| u8::try_from(v).unwrap_or(0);
+        let two = |v: u32| u16::try_from(v).unwrap_or(0).to_be_bytes();
+        let (height, rounded) = (two(self.height), two(self.rounded_width));
+        let (width, size, lines) = (two(self.width), two(self.block_size), two(self.lines));
+        let kind = if self.xtrans { 16 } else { 0 };
+        [
+            0x49,
+            0x53,
+            self.lossless as u8,
+            kind,
+            one(self.bits),
+            height[0],
+            height[1],
+            rounded[0],
+            rounded[1],
+            width[0],
+            width[1],
+            size[0],
+            size[1],
+            one(self.blocks),
+            lines[0],
+            lines[1],
+        ]
+    }
+}
+
+/// A stream that opened, ready to decode.
+#[derive(Debug, Clone, Copy)]
+pub struct FujiCompressed<'a> {
+    pub header: FujiHeader,
+    stream: &'a [u8],
+}
+
+impl<'a> FujiCompressed<'a> {
+    /// `stream` starts at the header. Refusals 1 to 4.
+    pub fn new(stream: &'a [u8]) -> Result<FujiCompressed<'a>> {
+        let (mut header, mut refusal) = ([0; 9], [0; 4]);
+        unsafe { ffi::fuji_open(stream.as_ptr(), stream.len(), &mut header, &mut refusal) };
+        Refusal::answer(refusal).map(|()| FujiCompressed { header: FujiHeader::of(header), stream })
+    }
+
+    /// Where each block's bytes lie in the stream: an offset from the header's first byte, and a length.
+    pub fn block_ranges(&self) -> Vec<(usize, usize)> {
+        let blocks = 0..self.header.blocks as usize;
+        blocks.map(|i| self.block_range(i).expect("every block of a stream that opened has a range")).collect()
+    }
+
+    /// Where block i lies. Refusal 5.
+    pub fn block_range(&self, i: usize) -> Result<(usize, usize)> {
+        self.range(ffi::fuji_block_range, i)
+    }
+
+    /// The bytes of block i. Refusal 5.
+    pub fn block(&self, i: usize) -> Result<&'a [u8]> {
+        self.block_range(i).map(|(from, length)| &self.stream[from..from + length])
+    }
+
+    /// The quantisation bases of block i, one for each line; none if the stream is lossless. Refusal 5.
+    pub fn q_bases(&self, i: usize) -> Result<&'a [u8]> {
+        self.range(ffi::fuji_base_row_range, i).map(|(from, length)| &self.stream[from..from + length])
+    }
+
+    /// Decodes the whole picture, of the size that is named, row after row. Refusals 6, 7 and 14.
+    pub fn decode(&self, image: &mut [u16], width: u32, height: u32, tile: &ColorTile) -> Result<()> {
+        self.decode_with(&mut Scratch::new(), image, width, height, tile)
+    }
+
+    /// Decodes a region into an image that holds the region alone. Refusals 7 and 14.
+    pub fn decode_region(&self, image: &mut [u16], region: Rect, tile: &ColorTile) -> Result<()> {
+        self.decode_region_with(&mut Scratch::new(), image, region, tile)
+    }
+
+    /// `decode` with lent scratch. Refusal 10 too.
+    pub fn decode_with(&self, scratch: &mut Scratch, image: &mut [u16], width: u32, height: u32, tile: &ColorTile) -> Result<()> {
+        let mut refusal = [0; 4];
+        unsafe {
+            ffi::fuji_decode(
+                self.stream.as_ptr(),
+                self.stream.len(),
+                width as usize,
+                height as usize,
+                flat(tile),
+                image.as_mut_ptr(),
+                image.len(),
+                scratch.samples.as_mut_ptr(),
+                scratch.samples.len(),
+                scratch.records.as_mut_ptr(),
+                scratch.records.len(),
+                &mut refusal,
+            )
+        };
+        Refusal::answer(refusal)
+    }
+
+    /// `decode_region` with lent scratch. Refusal 10 too.
+    pub fn decode_region_with(&self, scratch: &mut Scratch, image: &mut [u16], region: Rect, tile: &ColorTile) -> Result<()> {
+        let mut refusal = [0; 4];
+        unsafe {
+            ffi::fuji_decode_region(
+                self.stream.as_ptr(),
+                self.stream.len(),
+                region.x as usize,
+                region.y as usize,
+                region.width as usize,
+                region.height as usize,
+                flat(tile),
+                image.as_mut_ptr(),
+                image.len(),
+                scratch.samples.as_mut_ptr(),
+                scratch.samples.len(),
+                scratch.records.as_mut_ptr(),
+                scratch.records.len(),
+                &mut refusal,
+            )
+        };
+        Refusal::answer(refusal)
+    }
+
+    fn range(&self, of: RangeOf, i: usize) -> Result<(usize, usize)> {
+        let (mut range, mut refusal) = ([0; 2], [0; 4]);
+        unsafe { of(self.stream.as_ptr(), self.stream.len(), i, &mut range, &mut refusal) };
+        Refusal::answer(refusal).map(|()| (range[0], range[1]))
+    }
+}
+
+type RangeOf = unsafe extern "C" fn(*const u8, usize, usize, *mut [usize; 2], *mut [usize; 4]);
+
+fn flat(tile: &ColorTile) -> *const [u8; 36] {
+    tile.as_flattened().as_ptr().cast()
+}

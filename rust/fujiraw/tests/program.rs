@@ -1,0 +1,210 @@
+//! The program as a user calls it: what it writes, what it says, and its status.
+use common::stream::{Header, encoded};
+use std::fs;
+use std::path::{Path, PathBuf};
+use std::process::{Command, Output};
+
+/// A folder of the test's own, removed at its end.
+struct Folder(PathBuf);
+
+impl Folder {
+    fn new(name: &str) -> Folder {
+        let path = std::env::temp_dir().join(format!("fujiraw-{name}-{}", std::process::id()));
+        fs::create_dir_all(&path).unwrap();
+        Folder(path)
+    }
+
+    fn put(&self, name: &str, bytes: &[u8]) {
+        fs::write(self.0.join(name), bytes).unwrap();
+    }
+
+    fn get(&self, name: &str) -> Vec<u8> {
+        fs::read(self.0.join(name)).unwrap()
+    }
+
+    fn names(&self) -> Vec<String> {
+        let mut all: Vec<String> = fs::read_dir(&self.0).unwrap().map(|e| e.unwrap().file_name().into_string().unwrap()).collect();
+        all.sort();
+        all
+    }
+
+    fn run(&self, line: &str) -> Output {
+        let words: Vec<&str> = line.split_whitespace().collect();
+        Command::new(env!("CARGO_BIN_EXE_fujiraw")).args(words).current_dir(&self.0).output().unwrap()
+    }
+
+    /// Refused or failed, with one line that says so, and no file more.
+    fn fails(&self, line: &str, says: &str) {
+        let before = self.names();
+        let out = self.run(line);
+        assert_eq!((out.status.code(), text(&out.stderr)), (Some(1), format!("{says}\n")), "{line}");
+        assert_eq!((text(&out.stdout), self.names()), (String::new(), before), "{line}");
+    }
+
+    fn works(&self, line: &str) -> String {
+        let out = self.run(line);
+        assert_eq!((out.status.code(), text(&out.stderr)), (Some(0), String::new()), "{line}");
+        text(&out.stdout)
+    }
+
+    fn is_wrong(&self, line: &str, says: &str) {
+        let before = self.names();
+        let out = self.run(line);
+        let said = text(&out.stderr);
+        assert_eq!((out.status.code(), said.lines().next()), (Some(2), Some(format!("fujiraw: {says}").as_str())), "{line}");
+        assert!(said.contains("usage: fujiraw info STREAM"), "{line}");
+        assert_eq!(self.names(), before, "{line}");
+    }
+}
+
+impl Drop for Folder {
+    fn drop(&mut self) {
+        let _ = fs::remove_dir_all(&self.0);
+    }
+}
+
+fn text(bytes: &[u8]) -> String {
+    String::from_utf8_lossy(bytes).into_owned()
+}
+
+/// One block and two lines, 12 bits; every sample of a row's colour line has the same value.
+fn stream() -> Vec<u8> {
+    encoded(&Header::new(true, false, 12, 768, 2), &[], &mut |_, n, line, _| 100 * n as u16 + line as u16)
+}
+
+/// The picture's samples by the default tile, RGGB.
+fn sample(x: usize, y: usize) -> u16 {
+    let (n, row) = (y / 6, y % 6);
+    let line = match (row % 2, x % 2) {
+        (0, 0) => 2 + row / 2,
+        (1, 1) => 15 + row / 2,
+        _ => 7 + row,
+    };
+    100 * n as u16 + line as u16
+}
+
+fn rectangle(x: usize, y: usize, width: usize, height: usize) -> Vec<u16> {
+    (y..y + height).flat_map(|y| (x..x + width).map(move |x| sample(x, y))).collect()
+}
+
+fn big(samples: &[u16]) -> Vec<u8> {
+    samples.iter().flat_map(|v| v.to_be_bytes()).collect()
+}
+
+#[test]
+fn whole_picture() {
+    let f = Folder::new("whole");
+    f.put("a.fcs", &stream());
+    assert_eq!(f.works("decode a.fcs a.pgm"), "");
+    assert_eq!(f.get("a.pgm"), [&b"P5\n768 12\n4095\n"[..], &big(&rectangle(0, 0, 768, 12))].concat());
+    f.works("decode a.fcs a.raw --format raw");
+    let little: Vec<u8> = rectangle(0, 0, 768, 12).iter().flat_map(|v| v.to_le_bytes()).collect();
+    assert_eq!(f.get("a.raw"), little);
+    assert_eq!(f.names(), ["a.fcs", "a.pgm", "a.raw"]);
+}
+
+#[test]
+fn region_and_tile() {
+    let f = Folder::new("region");
+    f.put("a.fcs", &stream());
+    f.works("decode --region 766,4,2,3 a.fcs a.pgm");
+    assert_eq!(f.get("a.pgm"), [&b"P5\n2 3\n4095\n"[..], &big(&rectangle(766, 4, 2, 3))].concat());
+    f.works(&format!("decode a.fcs a.pgm --region 5,0,1,6 --tile {}", "2".repeat(36)));
+    assert_eq!(f.get("a.pgm"), [&b"P5\n1 6\n4095\n"[..], &big(&[15, 15, 16, 16, 17, 17])].concat());
+}
+
+#[test]
+fn info_shows_header_and_ranges() {
+    let f = Folder::new("info");
+    f.put("a.fcs", &stream());
+    let header = Header::new(false, true, 14, 792, 1);
+    f.put("b.fcs", &encoded(&header, &[vec![3], vec![9]], &mut |_, _, _, _| 5000));
+    let said = f.works("info a.fcs b.fcs");
+    let length = stream().len();
+    assert!(said.contains(&format!("a.fcs: {length} bytes\n  Bayer, lossless, 12 bits, 768 x 12 samples\n")), "{said}");
+    assert!(said.contains(&format!("block 0: 768 columns, offset 32, {} bytes\n", length - 32)), "{said}");
+    assert!(
+        said.contains("  X-Trans, lossy, 14 bits, 792 x 6 samples\n  2 blocks of 768 columns (rounded width 1536), 1 lines\n"),
+        "{said}"
+    );
+    assert!(said.contains("block 1: 24 columns, offset ") && said.contains(", bases 9 to 9\n"), "{said}");
+}
+
+#[test]
+fn refusals() {
+    let f = Folder::new("refusals");
+    let whole = stream();
+    f.put("empty", b"");
+    f.put("text", b"this is a text of more than sixteen bytes");
+    f.put("sizes", &whole[..19]);
+    f.put("cut", &whole[..whole.len() / 4 * 3]);
+    f.put("a.fcs", &whole);
+    f.fails("decode empty out", "refusal 1: fewer than 16 bytes of header");
+    f.fails("info text", "refusal 2: a header rule is broken");
+    f.fails("decode sizes out", "refusal 3: the block sizes are cut short");
+    f.fails("decode cut out", "refusal 14: block 0, line 1: a line is truncated");
+    let edge = "refusal 7: the region passes the picture's edge, or the image is too short for it";
+    f.fails("decode a.fcs out --region 700,0,69,1", edge);
+    f.fails("decode a.fcs out --region 4294967295,4294967295,4294967295,4294967295", edge);
+    // The lines before the truncated one can be had.
+    f.works("decode cut out --region 0,0,768,6");
+}
+
+#[test]
+fn files_that_cannot_be_used() {
+    let f = Folder::new("files");
+    f.put("a.fcs", &stream());
+    fs::create_dir(f.0.join("folder")).unwrap();
+    f.fails("decode missing out", "cannot read missing: no such file or directory");
+    f.fails("info folder", "cannot read folder: is a directory");
+    f.fails("decode folder out", "cannot read folder: is a directory");
+    f.fails("decode a.fcs none/out", "cannot write none/out: no such file or directory");
+    f.fails("decode a.fcs a.fcs", "cannot write a.fcs: it is the stream itself");
+    f.fails("decode a.fcs /dev/full", "cannot write /dev/full: no space left on device");
+    assert!(Path::new("/dev/full").exists());
+    assert_eq!(f.get("a.fcs"), stream());
+}
+
+#[test]
+fn refused_stream_leaves_the_old_picture() {
+    let f = Folder::new("old");
+    f.put("cut", &stream()[..100]);
+    f.put("out", b"old");
+    f.fails("decode cut out", "refusal 14: block 0, line 0: a line is truncated");
+    assert_eq!(f.get("out"), b"old");
+}
+
+#[test]
+fn several_streams() {
+    let f = Folder::new("several");
+    f.put("a.fcs", &stream());
+    f.put("b.fcs", b"");
+    f.put("c.fcs", &stream());
+    fs::create_dir(f.0.join("out")).unwrap();
+    let said = f.run("decode a.fcs b.fcs c.fcs out --format raw");
+    assert_eq!(said.status.code(), Some(1));
+    assert_eq!(text(&said.stderr), "b.fcs: refusal 1: fewer than 16 bytes of header\n");
+    assert_eq!(Folder(f.0.join("out")).names(), ["a.raw", "c.raw"]);
+}
+
+#[test]
+fn wrong_usage() {
+    let f = Folder::new("usage");
+    f.put("a.fcs", &stream());
+    f.put("b.fcs", &stream());
+    fs::create_dir_all(f.0.join("folder/x")).unwrap();
+    f.is_wrong("", "what is to be done?");
+    f.is_wrong("show a.fcs", "there is no command show");
+    f.is_wrong("info", "info needs a stream");
+    f.is_wrong("decode a.fcs", "decode needs a stream and an output");
+    f.is_wrong("decode a.fcs b.fcs c", "c is no folder, and there are 2 streams");
+    f.is_wrong("decode a.fcs folder/../a.fcs folder", "two pictures would go to folder/a.pgm");
+    f.is_wrong("decode a.fcs out --region 1,2,3", "a region is four numbers, X,Y,W,H, with a width and a height: not 1,2,3");
+    f.is_wrong("decode a.fcs out --region 1,2,3,0", "a region is four numbers, X,Y,W,H, with a width and a height: not 1,2,3,0");
+    f.is_wrong("decode a.fcs out --tile 0123", "a tile is 36 digits");
+    f.is_wrong("decode a.fcs out --format png", "there is no format png");
+    f.is_wrong("decode a.fcs out --format", "--format needs a value");
+    f.is_wrong("decode a.fcs out --speed 3", "decode takes no --speed");
+    f.is_wrong("decode a.fcs out --format raw --format pgm", "--format is there twice");
+    assert!(f.works("--help").starts_with("usage: fujiraw info STREAM"));
+}
