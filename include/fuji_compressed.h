@@ -49,6 +49,10 @@ void fuji_decode_region(const uint8_t *stream, size_t stream_length, size_t x, s
                         const uint8_t tile[36], uint16_t *image, size_t image_length, uint16_t *scratch, size_t scratch_length,
                         fuji_record *records, size_t records_length, size_t refusal[4]);
 
+/* The tight reading of a block: not refused are exactly the tight blocks of a lossless stream. */
+void fuji_read_tight(const uint8_t *stream, size_t stream_length, size_t block, uint16_t *scratch, size_t scratch_length,
+                     fuji_record *records, size_t records_length, size_t refusal[4]);
+
 #ifdef __cplusplus
 }
 #endif

@@ -72,7 +72,26 @@ struct Encoder<'a> {
     main: Quantiser,
     flat: [Quantiser; 3],
     out: Bits,
+    codes: usize,
+    spoil: Option<Spoil>,
     want: &'a mut dyn FnMut(usize, usize, usize) -> u16,
+}
+
+/// A code that is not tight, in the place of the first one from number `from` on that can be made so.
+#[derive(Clone, Copy, Debug)]
+pub struct Spoil {
+    pub from: usize,
+    pub how: How,
+}
+
+#[derive(Clone, Copy, Debug, PartialEq, Eq)]
+pub enum How {
+    /// A long code whose value fits a short one.
+    Escape,
+    /// A long code with a zero more than the limit.
+    Zero,
+    /// A code of 2^bits.
+    Large,
 }
 
 impl Encoder<'_> {
@@ -101,8 +120,12 @@ impl Encoder<'_> {
     }
 
     /// The code of a residual, with that k.
-    fn put_code(&mut self, code: i32, k: u32, limit: i32, raw: u32) {
-        let zeros = (code >> k).min(limit);
+    fn put_code(&mut self, code: i32, k: u32, limit: i32, raw: u32, spoilt: Option<How>) {
+        let zeros = match spoilt {
+            None => (code >> k).min(limit),
+            Some(How::Zero) => limit + 1,
+            Some(_) => limit,
+        };
         self.out.put(0, zeros as u32);
         self.out.put(1, 1);
         if zeros < limit { self.out.put((code & ((1 << k) - 1)) as u64, k) } else { self.out.put((code - 1) as u64, raw) }
@@ -137,7 +160,16 @@ impl Encoder<'_> {
         } else if residual < -half {
             residual += q.total;
         }
-        let code = if residual >= 0 { 2 * residual } else { -2 * residual - 1 };
+        let mut code = if residual >= 0 { 2 * residual } else { -2 * residual - 1 };
+        let spoilt = self.spoil.filter(|s| s.from <= self.codes && code > 0).map(|s| s.how);
+        if spoilt.is_some() {
+            self.spoil = None;
+        }
+        if spoilt == Some(How::Large) {
+            code = 1 << self.bits;
+            residual = code / 2;
+        }
+        self.codes += 1;
         let mut value = prediction + if gradient < 0 { -residual } else { residual } * step;
         if value < -q.base {
             value += q.total * step;
@@ -148,7 +180,7 @@ impl Encoder<'_> {
         self.lines[place] = value.clamp(0, largest);
         let halved = (record.n == 64) as i32;
         self.records[set][p % 2][index] = Record { sum: (record.sum + residual.abs()) >> halved, n: (record.n >> halved) + 1 };
-        self.put_code(code, k, limit, raw);
+        self.put_code(code, k, limit, raw, spoilt);
     }
 
     fn pass(&mut self, n: usize, pass: usize, xtrans: bool) {
@@ -180,6 +212,25 @@ impl Encoder<'_> {
 /// One block of `lines` lines, lossless if there are no bases. `want` gives the sample that is wanted of a line's colour line at a
 /// position; lossy blocks come near it.
 pub fn encode(bits: u32, xtrans: bool, bases: &[u8], lines: usize, want: &mut dyn FnMut(usize, usize, usize) -> u16) -> Vec<u8> {
+    encode_spoilt(bits, xtrans, bases, lines, want, None).bytes
+}
+
+/// A block, how many bits of it are used, and whether a code was spoilt.
+pub struct Encoded {
+    pub bytes: Vec<u8>,
+    pub used: usize,
+    pub spoilt: bool,
+}
+
+/// The same, with a code that is not tight.
+pub fn encode_spoilt(
+    bits: u32,
+    xtrans: bool,
+    bases: &[u8],
+    lines: usize,
+    want: &mut dyn FnMut(usize, usize, usize) -> u16,
+    spoil: Option<Spoil>,
+) -> Encoded {
     let width = if xtrans { 512 } else { 384 };
     let flat = [Quantiser::new(bits, 0, 3), Quantiser::new(bits, 1, 3), Quantiser::new(bits, 2, 3)];
     let starts = [flat[0].start(), flat[1].start(), flat[2].start()];
@@ -192,6 +243,8 @@ pub fn encode(bits: u32, xtrans: bool, bases: &[u8], lines: usize, want: &mut dy
         main: Quantiser::new(bits, 0, 9),
         flat,
         out: Bits::default(),
+        codes: 0,
+        spoil,
         want,
     };
     for (i, start) in starts.into_iter().enumerate() {
@@ -212,5 +265,5 @@ pub fn encode(bits: u32, xtrans: bool, bases: &[u8], lines: usize, want: &mut dy
             e.lines.copy_within(from * s..(from + 1) * s, to * s);
         }
     }
-    e.out.bytes
+    Encoded { bytes: e.out.bytes, used: e.out.used, spoilt: spoil.is_some() && e.spoil.is_none() }
 }

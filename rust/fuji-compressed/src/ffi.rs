@@ -37,4 +37,14 @@ unsafe extern "C" {
         records_length: usize,
         refusal: *mut [usize; 4],
     );
+    pub fn fuji_read_tight(
+        stream: *const u8,
+        stream_length: usize,
+        block: usize,
+        scratch: *mut u16,
+        scratch_length: usize,
+        records: *mut Record,
+        records_length: usize,
+        refusal: *mut [usize; 4],
+    );
 }

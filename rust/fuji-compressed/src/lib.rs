@@ -225,6 +225,29 @@ impl<'a> FujiCompressed<'a> {
         Refusal::answer(refusal)
     }
 
+    /// The tight reading of block i: accepted are exactly the tight blocks. Refusals 5, 8, 14 and 15.
+    pub fn read_tight(&self, i: usize) -> Result<()> {
+        self.read_tight_with(&mut Scratch::new(), i)
+    }
+
+    /// `read_tight` with lent scratch. Refusal 10 too.
+    pub fn read_tight_with(&self, scratch: &mut Scratch, i: usize) -> Result<()> {
+        let mut refusal = [0; 4];
+        unsafe {
+            ffi::fuji_read_tight(
+                self.stream.as_ptr(),
+                self.stream.len(),
+                i,
+                scratch.samples.as_mut_ptr(),
+                scratch.samples.len(),
+                scratch.records.as_mut_ptr(),
+                scratch.records.len(),
+                &mut refusal,
+            )
+        };
+        Refusal::answer(refusal)
+    }
+
     fn range(&self, of: RangeOf, i: usize) -> Result<(usize, usize)> {
         let (mut range, mut refusal) = ([0; 2], [0; 4]);
         unsafe { of(self.stream.as_ptr(), self.stream.len(), i, &mut range, &mut refusal) };

@@ -13,9 +13,7 @@ const FILL: usize = 0x5a5a;
 const OLD: Record = Record { sum: 7, n: 9 };
 const CLEARED: Record = Record { sum: 0, n: 1 };
 const FINE: [usize; 4] = [0; 4];
-const BAYER: [u8; 36] = [
-    0, 1, 0, 1, 0, 1, 1, 2, 1, 2, 1, 2, 0, 1, 0, 1, 0, 1, 1, 2, 1, 2, 1, 2, 0, 1, 0, 1, 0, 1, 1, 2, 1, 2, 1, 2,
-];
+const BAYER: [u8; 36] = [0, 1, 0, 1, 0, 1, 1, 2, 1, 2, 1, 2, 0, 1, 0, 1, 0, 1, 1, 2, 1, 2, 1, 2, 0, 1, 0, 1, 0, 1, 1, 2, 1, 2, 1, 2];
 
 fn refused(number: usize, block: usize, line: usize) -> [usize; 4] {
     [number, block, line, 0]

@@ -3,7 +3,7 @@
 use common::pictures::scene;
 use common::random::Random;
 use common::stream::{Header, encoded};
-use fuji_compressed::{ColorTile, FujiCompressed, Rect, Record, Scratch};
+use fuji_compressed::{ColorTile, FujiCompressed, Record, Rect, Scratch};
 
 const SPARE: u16 = 0xA5A5;
 const BAYER: ColorTile =
@@ -21,7 +21,8 @@ struct Picture {
 impl Picture {
     fn new(xtrans: bool, lossy: bool, bits: u8, width: usize, lines: usize) -> Picture {
         let header = Header::new(!lossy, xtrans, bits, width as u16, lines as u16);
-        let rows: Vec<Vec<u8>> = (0..if lossy { header.blocks } else { 0 }).map(|b| (0..lines).map(|n| b + n as u8 / 2).collect()).collect();
+        let rows: Vec<Vec<u8>> =
+            (0..if lossy { header.blocks } else { 0 }).map(|b| (0..lines).map(|n| b + n as u8 / 2).collect()).collect();
         let mut random = Random::new(width as u64 + bits as u64);
         let most = (1u32 << bits) - 1;
         let bytes = encoded(&header, &rows, &mut |b, n, line, p| scene(b as u64, most, n, line, p, &mut random));

@@ -6,10 +6,11 @@ use std::path::{Path, PathBuf};
 
 pub const USAGE: &str = "\
 usage: fujiraw info STREAM...
+       fujiraw check STREAM...
        fujiraw decode STREAM OUT [OPTION...]
        fujiraw decode STREAM... FOLDER [OPTION...]
 
-info shows the header of each stream, and where its blocks lie. decode writes its picture to OUT, or those of several streams to a folder that is there.
+info shows the header of each stream, and where its blocks lie. check says of each block whether it is tight. decode writes its picture to OUT, or those of several streams to a folder that is there.
 
   --region X,Y,W,H    only the W columns from X on, and the H rows from Y on
   --tile DIGITS       the colours of the sensor, six rows of six: 0 red, 1 green, 2 blue (else RGGB or the usual X-Trans)
@@ -21,6 +22,7 @@ Status: 0 all was done, 1 a stream was refused or a file cannot be used, 2 wrong
 pub enum Call {
     Help,
     Info(Vec<PathBuf>),
+    Check(Vec<PathBuf>),
     Decode(Decode),
 }
 
@@ -61,7 +63,8 @@ pub fn read(words: Vec<OsString>) -> Result<Call, String> {
     let command = words.plain.remove(0);
     match command.to_str() {
         Some("help") => Ok(Call::Help),
-        Some("info") => info(words),
+        Some("info") => streams(words, "info").map(Call::Info),
+        Some("check") => streams(words, "check").map(Call::Check),
         Some("decode") => decode(words).map(Call::Decode),
         _ => Err(format!("there is no command {}", command.to_string_lossy())),
     }
@@ -89,14 +92,15 @@ fn split(words: Vec<OsString>) -> Result<Words, String> {
     Ok(all)
 }
 
-fn info(words: Words) -> Result<Call, String> {
+/// The streams of a command that takes nothing else.
+fn streams(words: Words, command: &str) -> Result<Vec<PathBuf>, String> {
     if let Some((name, _)) = words.options.first() {
-        return Err(format!("info takes no {name}"));
+        return Err(format!("{command} takes no {name}"));
     }
     if words.plain.is_empty() {
-        return Err("info needs a stream".to_string());
+        return Err(format!("{command} needs a stream"));
     }
-    Ok(Call::Info(words.plain.into_iter().map(PathBuf::from).collect()))
+    Ok(words.plain.into_iter().map(PathBuf::from).collect())
 }
 
 fn decode(words: Words) -> Result<Decode, String> {

@@ -1,4 +1,4 @@
-//! Shows and decodes Fuji compressed raw streams. Status 0: all was done; 1: something was refused or failed; 2: wrong usage.
+//! Shows, checks and decodes Fuji compressed raw streams. Status 0: all was done; 1: something was refused or failed; 2: wrong usage.
 mod arguments;
 mod output;
 mod stream;
@@ -13,6 +13,7 @@ fn main() -> ExitCode {
     match arguments::read(words) {
         Ok(Call::Help) => print(USAGE),
         Ok(Call::Info(streams)) => run(&streams, show),
+        Ok(Call::Check(streams)) => run(&streams, check),
         Ok(Call::Decode(call)) => decode(&call),
         Err(wrong) => {
             eprintln!("fujiraw: {wrong}\n{USAGE}");
@@ -32,6 +33,16 @@ fn print(text: &str) -> ExitCode {
 fn show(file: &Path) -> Result<(), String> {
     let text = stream::info(file)?;
     std::io::stdout().write_all(text.as_bytes()).map_err(|e| format!("cannot write: {e}"))
+}
+
+/// A line for each block; that some are not tight is an error of its own.
+fn check(file: &Path) -> Result<(), String> {
+    let (text, loose) = stream::check(file)?;
+    std::io::stdout().write_all(text.as_bytes()).map_err(|e| format!("cannot write: {e}"))?;
+    match loose {
+        0 => Ok(()),
+        n => Err(format!("{n} blocks are not tight")),
+    }
 }
 
 fn decode(call: &Decode) -> ExitCode {

@@ -1,5 +1,5 @@
 //! Streams read from files.
-use fuji_compressed::{ColorTile, FujiCompressed, FujiHeader, Rect};
+use fuji_compressed::{ColorTile, FujiCompressed, FujiHeader, Rect, Scratch};
 use std::fmt::Write;
 use std::path::Path;
 
@@ -45,6 +45,20 @@ pub fn info(file: &Path) -> Result<String, String> {
         text.push('\n');
     }
     Ok(text)
+}
+
+/// What the tight reading says of each block, in lines, and how many it refuses.
+pub fn check(file: &Path) -> Result<(String, usize), String> {
+    let bytes = load(file)?;
+    let stream = FujiCompressed::new(&bytes).map_err(|e| e.to_string())?;
+    let (mut text, mut loose, mut scratch) = (String::new(), 0, Scratch::new());
+    for i in 0..stream.header.blocks as usize {
+        let answer = stream.read_tight_with(&mut scratch, i);
+        loose += answer.is_err() as usize;
+        let said = answer.map_or_else(|e| e.to_string(), |()| "tight".to_string());
+        let _ = writeln!(text, "{}: block {i}: {said}", file.display());
+    }
+    Ok((text, loose))
 }
 
 pub fn decode(file: &Path, region: Option<Rect>, tile: Option<&ColorTile>) -> Result<Picture, String> {

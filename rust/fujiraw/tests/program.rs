@@ -208,3 +208,23 @@ fn wrong_usage() {
     f.is_wrong("decode a.fcs out --format raw --format pgm", "--format is there twice");
     assert!(f.works("--help").starts_with("usage: fujiraw info STREAM"));
 }
+
+#[test]
+fn check_says_of_each_block_whether_it_is_tight() {
+    let f = Folder::new("check");
+    f.put("a.fcs", &stream());
+    let said = f.run("check a.fcs");
+    assert_eq!((said.status.code(), text(&said.stderr)), (Some(0), String::new()));
+    let out = text(&said.stdout);
+    let lines: Vec<&str> = out.lines().collect();
+    assert!(!lines.is_empty());
+    for (i, line) in lines.iter().enumerate() {
+        assert_eq!(*line, format!("a.fcs: block {i}: tight"));
+    }
+    f.put("cut.fcs", &stream()[..100]);
+    let said = f.run("check cut.fcs");
+    assert_eq!(said.status.code(), Some(1));
+    assert!(text(&said.stdout).starts_with("cut.fcs: block 0: refusal 14: block 0, line 0: a line is truncated\n"));
+    f.is_wrong("check", "check needs a stream");
+    f.is_wrong("check a.fcs --format raw", "check takes no --format");
+}

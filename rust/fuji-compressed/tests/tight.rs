@@ -1,0 +1,196 @@
+//! The tight reading: tight blocks, each kind of bad code at the first, a middle and the last code, tails, truncation, scratch, refusals.
+use common::encoder::{How, Spoil, encode, encode_spoilt};
+use common::pictures::scene;
+use common::random::Random;
+use common::stream::{Header, stream};
+use fuji_compressed::{ColorTile, FujiCompressed, Record, Refusal, Scratch};
+
+const LINES: usize = 3;
+const LAST: usize = 4608 * LINES - 1;
+
+fn refused(number: u32, block: usize, line: usize) -> Result<(), Refusal> {
+    Err(Refusal { number, block, line, index: 0 })
+}
+
+fn largest(bits: u8) -> u32 {
+    (1 << bits) - 1
+}
+
+/// A picture with noise and with jumps, so that all codes but a few are above 0.
+fn block(bits: u8, xtrans: bool, kind: u64, spoil: Option<Spoil>) -> Vec<u8> {
+    let mut random = Random::new(bits as u64 + kind);
+    let mut want = |n, line, p| scene(kind, largest(bits), n, line, p, &mut random);
+    let made = encode_spoilt(bits as u32, xtrans, &[], LINES, &mut want, spoil);
+    assert_eq!(made.spoilt, spoil.is_some());
+    made.bytes
+}
+
+fn stream_of(bits: u8, xtrans: bool, block: Vec<u8>) -> Vec<u8> {
+    stream(&Header::new(true, xtrans, bits, 768, LINES as u16), &[], &[block])
+}
+
+/// What the tight reading says, with soiled scratch that it must leave cleared.
+fn read(bits: u8, xtrans: bool, block: &[u8]) -> Result<(), Refusal> {
+    let bytes = stream_of(bits, xtrans, block.to_vec());
+    let mut scratch = Scratch::new();
+    scratch.samples.resize(9300, 0);
+    scratch.samples.fill(77);
+    scratch.records.resize(340, Record::default());
+    scratch.records.fill(Record { sum: 3, n: 0 });
+    let answer = FujiCompressed::new(&bytes).unwrap().read_tight_with(&mut scratch, 0);
+    let used = if xtrans { 9252 } else { 6948 };
+    assert!(scratch.samples.iter().enumerate().all(|(i, v)| *v == if i < used { 0 } else { 77 }));
+    assert!(scratch.records.iter().enumerate().all(|(i, r)| *r == if i < 336 { Record { sum: 0, n: 1 } } else { Record { sum: 3, n: 0 } }));
+    answer
+}
+
+const FORMS: [(u8, bool); 6] = [(12, false), (14, false), (16, false), (12, true), (14, true), (16, true)];
+
+#[test]
+fn tight_blocks_are_accepted() {
+    for (bits, xtrans) in FORMS {
+        for kind in 0..5 {
+            assert_eq!(read(bits, xtrans, &block(bits, xtrans, kind, None)), Ok(()), "{bits} {xtrans} {kind}");
+        }
+    }
+}
+
+#[test]
+fn each_bad_code_is_found_in_its_line() {
+    for (bits, xtrans) in FORMS {
+        for how in [How::Escape, How::Zero, How::Large] {
+            // some codes before the last are 0, and cannot be spoilt; 40 are enough to find one that can
+            for (from, line) in [(0, 0), (4607 - 40, 0), (4608, 1), (4608 + 2304, 1), (2 * 4608, 2), (LAST - 40, 2)] {
+                let bytes = block(bits, xtrans, 2, Some(Spoil { from, how }));
+                assert_eq!(read(bits, xtrans, &bytes), refused(15, 0, line), "{bits} {xtrans} {how:?} {from}");
+            }
+        }
+    }
+}
+
+/// 14 bits, lossless, prediction and gradient 0, k 8: 41 zeros, a one and 14 zeros are sample 16383, and not tight. Then all codes as they come.
+#[test]
+fn marked_case_i_in_a_block() {
+    let mut want = |_, _, _| 16383;
+    let spoil = Spoil { from: 0, how: How::Escape };
+    let made = encode_spoilt(14, false, &[], LINES, &mut want, Some(spoil));
+    assert!(made.spoilt);
+    let bytes = made.bytes;
+    assert_eq!(bytes[..7], [0, 0, 0, 0, 0, 0b0100_0000, 0]);
+    assert_eq!(read(14, false, &bytes), refused(15, 0, 0));
+    assert_eq!(read(14, false, &encode(14, false, &[], LINES, &mut want)), Ok(()));
+}
+
+#[test]
+fn tails() {
+    for (bits, xtrans) in FORMS {
+        let good = block(bits, xtrans, 0, None);
+        let mut longer = good.clone();
+        longer.push(0);
+        assert_eq!(read(bits, xtrans, &longer), refused(15, 0, LINES));
+        longer.extend([0; 9]);
+        assert_eq!(read(bits, xtrans, &longer), refused(15, 0, LINES));
+        // a bad code is named before the tail
+        let mut both = block(bits, xtrans, 2, Some(Spoil { from: 4608, how: How::Escape }));
+        both.push(0);
+        assert_eq!(read(bits, xtrans, &both), refused(15, 0, 1));
+    }
+}
+
+/// Blocks of which 0 to 7 bits are spare, and which lack 1 to 7 bits that are 0 once their last byte is gone.
+#[test]
+fn spare_bits_and_missing_bits() {
+    let (mut spare_seen, mut missing_seen) = ([false; 8], [false; 8]);
+    let header = Header::new(true, false, 12, 768, 1);
+    let ask = |block: &[u8]| {
+        let d = stream(&header, &[], &[block.to_vec()]);
+        FujiCompressed::new(&d).unwrap().read_tight(0)
+    };
+    // noise, of which the last sample, in line 17 at position 383, takes one value after the other
+    for v in 0..4096 {
+        let mut random = Random::new(1 + v % 64);
+        let mut want = |n, line, p| if (line, p) == (17, 383) { v as u16 } else { scene(2, 4095, n, line, p, &mut random) };
+        let made = encode_spoilt(12, false, &[], 1, &mut want, None);
+        let (bytes, spare) = (made.bytes, made.used.next_multiple_of(8) - made.used);
+        assert_eq!(ask(&bytes), Ok(()));
+        for i in 0..spare {
+            let mut set = bytes.clone();
+            *set.last_mut().unwrap() |= 1 << i;
+            assert_eq!(ask(&set), refused(15, 0, 1), "spare bit {i} of {spare}");
+        }
+        spare_seen[spare] = true;
+        // the missing bits are read as zeros: where they are, every code is as it was, and only the length is wrong
+        if spare > 0 && bytes.last() == Some(&0) {
+            assert_eq!(ask(&bytes[..bytes.len() - 1]), refused(15, 0, 1), "{} bits are missing", 8 - spare);
+            missing_seen[8 - spare] = true;
+        }
+    }
+    assert_eq!(spare_seen, [true; 8]);
+    assert_eq!(missing_seen[1..], [true; 7]);
+}
+
+#[test]
+fn truncation_comes_before_a_bad_code() {
+    for (bits, xtrans) in FORMS {
+        let bytes = block(bits, xtrans, 2, Some(Spoil { from: 0, how: How::Zero }));
+        for (cut, line) in [(bytes.len() / 6, 0), (bytes.len() / 2, 1), (5 * bytes.len() / 6, 2)] {
+            assert_eq!(read(bits, xtrans, &bytes[..cut]), refused(14, 0, line), "{bits} {xtrans}");
+        }
+    }
+    assert_eq!(read(14, false, &[]), refused(14, 0, 0));
+}
+
+#[test]
+fn refusals_of_the_tight_reading() {
+    let lossless = stream_of(14, false, block(14, false, 0, None));
+    let opened = FujiCompressed::new(&lossless).unwrap();
+    assert_eq!((opened.read_tight(0), opened.read_tight(1)), (Ok(()), refused(5, 0, 0)));
+    let lossy = stream(&Header::new(false, false, 14, 768, LINES as u16), &[vec![0; LINES]], &[vec![]]);
+    let opened_lossy = FujiCompressed::new(&lossy).unwrap();
+    assert_eq!((opened_lossy.read_tight(0), opened_lossy.read_tight(1)), (refused(8, 0, 0), refused(5, 0, 0)));
+    for (samples, records, answer) in
+        [(6948, 336, Ok(())), (6947, 336, refused(10, 0, 0)), (6948, 335, refused(10, 0, 0)), (0, 0, refused(10, 0, 0))]
+    {
+        let before = Scratch { samples: vec![9; samples], records: vec![Record { sum: 5, n: 5 }; records] };
+        let mut scratch = before.clone();
+        assert_eq!(opened.read_tight_with(&mut scratch, 0), answer);
+        assert_eq!(scratch == before, answer.is_err());
+        // a lossy stream is refused before scratch is looked at
+        let mut scratch = before.clone();
+        assert_eq!(opened_lossy.read_tight_with(&mut scratch, 0), refused(8, 0, 0));
+        assert!(scratch == before);
+    }
+}
+
+/// Each bit of a tight block counts: with one of them flipped it is refused, or another set is read from it.
+#[test]
+fn every_flipped_bit() {
+    for (xtrans, kind) in [(false, 1), (true, 4)] {
+        let header = Header::new(true, xtrans, 12, 768, 1);
+        let mut random = Random::new(3);
+        let good = encode(12, xtrans, &[], 1, &mut |n, line, p| scene(kind, 4095, n, line, p, &mut random));
+        let set = |block: &[u8]| {
+            let d = stream(&header, &[], &[block.to_vec()]);
+            let opened = FujiCompressed::new(&d).unwrap();
+            opened.read_tight(0).ok().map(|()| {
+                let mut images = vec![0; 3 * 4608];
+                for (colour, image) in images.chunks_mut(4608).enumerate() {
+                    let tile: ColorTile = [[colour as u8; 6]; 6];
+                    opened.decode(image, 768, 6, &tile).unwrap();
+                }
+                images
+            })
+        };
+        let want = set(&good);
+        assert!(want.is_some());
+        let mut accepted = 0;
+        for bit in 0..8 * good.len() {
+            let mut flipped = good.clone();
+            flipped[bit / 8] ^= 1 << (bit % 8);
+            let got = set(&flipped);
+            assert!(got != want, "bit {bit}");
+            accepted += got.is_some() as usize;
+        }
+        assert!(accepted > 0, "some flipped bits make another tight block");
+    }
+}
