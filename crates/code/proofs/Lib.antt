@@ -1,6 +1,5 @@
 -- Laws about the definitions of code, for its own proofs and for those of the crates above.
 pub mod CodeLaws
-pub mod PartLaws
 pub mod derived
 pub mod SampleLaws
 pub mod TightLaws

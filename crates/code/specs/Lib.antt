@@ -1,5 +1,4 @@
 -- The definitions of the code: reading one, and the code of a wanted sample.
 pub mod Codes
-pub mod Runs
 pub mod Samples
 pub mod Tight

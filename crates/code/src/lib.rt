@@ -5,7 +5,6 @@ ghost use Prim.Native.Nat.{_*_, _/_, _^_, _≤_, _<_};
 ghost use lib.Dec.{leb, ltb, eqb};
 ghost use lib.ListN.{length};
 ghost use Rattle.code.specs.Codes.{codeAt, Bounds};
-ghost use Rattle.code.specs.Runs.{lowBits, codeOf};
 ghost use Rattle.code.specs.Samples.{choiceOf, residualOf, wrap, Moved, sampleOf};
 ghost use Rattle.code.specs.Tight.{isTight};
 use bits::BitPosition;
@@ -38,41 +37,6 @@ fn is_needed(k: u32, limit: u32, zeros: u64, value: u32) -> bool
     false
 }
 
-// How many bits belong to a code after its one bit: k below the limit, else raw.
-fn low_bits(run: ZeroRun, k: u32, limit: u32, raw: u32) -> u32
-    ensures { λ r. ⌜ r ≡ lowBits run k limit raw ⌝ }
-{
-    let ZeroRun::One(zeros) = run else {
-        return 0;
-    };
-    if zeros < limit as u64 { k } else { raw }
-}
-
-// The code of a run of zeros, of the bits after its one bit and of the position after them.
-fn code_of(run: ZeroRun, low: u32, k: u32, limit: u32, after: BitPosition) -> Coded
-    requires { ⌜ (low < 2 ^ 16) × ((k ≤ 15) × (limit < 64)) ⌝ }
-    ensures { λ r. ⌜ r ≡ codeOf run low k limit after ⌝ }
-{
-    let ZeroRun::One(zeros) = run else {
-        return Coded::Truncated;
-    };
-    if zeros < limit as u64 {
-        return Coded::Read(Code {
-            zeros,
-            value: ((zeros as u32) << k) + low,
-            minimal: true,
-            after,
-        });
-    }
-    let value = low + 1;
-    Coded::Read(Code {
-        zeros,
-        value,
-        minimal: is_needed(k, limit, zeros, value),
-        after,
-    })
-}
-
 // twin: Coded::Truncated
 // The next code of a pump, however long its zero run is and however near the end it stands.
 fn next_code<'s, 'a>(p: &'s mut BitPumpMsb<'a>, k: u32, limit: u32, raw: u32) -> Coded
@@ -80,10 +44,27 @@ fn next_code<'s, 'a>(p: &'s mut BitPumpMsb<'a>, k: u32, limit: u32, raw: u32) ->
     ensures { λ r. ⌜ r ≡ codeAt (now (now (p .entry) .«data»)) (now (p .entry) .at .0) k limit raw ⌝ }
 {
     let run = p.zero_run();
-    let n = low_bits(run, k, limit, raw);
-    let low = p.get(n);
+    let ZeroRun::One(zeros) = run else {
+        return Coded::Truncated;
+    };
+    if zeros < limit as u64 {
+        let low = p.get(k);
+        let after = p.bit_position();
+        return Coded::Read(Code {
+            zeros,
+            value: ((zeros as u32) << k) + low,
+            minimal: true,
+            after,
+        });
+    }
+    let value = p.get(raw) + 1;
     let after = p.bit_position();
-    code_of(run, low, k, limit, after)
+    Coded::Read(Code {
+        zeros,
+        value,
+        minimal: is_needed(k, limit, zeros, value),
+        after,
+    })
 }
 
 // The code at `at`, by a pump. It is kept out of the fast reader.

@@ -1,45 +1,26 @@
 // Writes what the original's BitPumpMsb answers to random calls to the file that its argument names.
 // The layout of the records is in README.md.
-mod bits;
-
-use bits::{BitPumpMsb, BitRead};
+use common::random::Random;
+use original::bits::{BitPumpMsb, BitRead};
 
 const SEED: u64 = 0x0123_4567_89ab_cdef;
 const SEQUENCES: usize = 800;
 const CALLS: usize = 24;
 const LARGEST_BLOCK: u64 = 40;
 
-struct Random(u64);
-
-impl Random {
-    fn next(&mut self) -> u64 {
-        self.0 ^= self.0 << 13;
-        self.0 ^= self.0 >> 7;
-        self.0 ^= self.0 << 17;
-        self.0
+/// A count to read: 0 and 32 more often than others.
+fn count(random: &mut Random) -> u32 {
+    match random.below(8) {
+        0 => 0,
+        1 => 32,
+        _ => random.below(33) as u32,
     }
+}
 
-    fn below(&mut self, n: u64) -> u64 {
-        (self.next() >> 16) % n
-    }
-
-    fn chance(&mut self, one_in: u64) -> bool {
-        self.below(one_in) == 0
-    }
-
-    /// A count to read: 0 and 32 more often than others.
-    fn count(&mut self) -> u32 {
-        match self.below(8) {
-            0 => 0,
-            1 => 32,
-            _ => self.below(33) as u32,
-        }
-    }
-
-    /// A count to skip: now and then one that leaves the block.
-    fn far(&mut self) -> u32 {
-        if self.chance(20) { self.below(5000) as u32 } else { self.below(70) as u32 }
-    }
+/// A count to skip: now and then one that leaves the block.
+fn far(random: &mut Random) -> u32 {
+    let most = if random.chance(20) { 5000 } else { 70 };
+    random.below(most) as u32
 }
 
 fn word(out: &mut Vec<u8>, w: u64) {
@@ -51,15 +32,15 @@ fn call(random: &mut Random, pump: &mut BitPumpMsb, out: &mut Vec<u8>) {
     let kind = 1 + random.below(10);
     let (kind, n, value) = match kind {
         1..=3 => {
-            let n = random.count();
+            let n = count(random);
             (1, n, pump.peek(n))
         }
         4..=7 => {
-            let n = random.count();
+            let n = count(random);
             (2, n, pump.get(n))
         }
         8 | 9 => {
-            let n = random.far();
+            let n = far(random);
             pump.skip(n);
             (3, n, 0)
         }
@@ -78,7 +59,7 @@ fn call(random: &mut Random, pump: &mut BitPumpMsb, out: &mut Vec<u8>) {
 /// A block, a pump at one of its bits or past them, and calls of it.
 fn sequence(random: &mut Random, number: usize, out: &mut Vec<u8>) {
     let length = random.below(LARGEST_BLOCK + 1);
-    let mut block: Vec<u8> = (0..length).map(|_| random.next() as u8).collect();
+    let mut block: Vec<u8> = (0..length).map(|_| random.below(256) as u8).collect();
     let start = if number % 2 == 0 { 0 } else { random.below(8 * length + 100) };
     word(out, length);
     word(out, start);
@@ -94,7 +75,7 @@ fn sequence(random: &mut Random, number: usize, out: &mut Vec<u8>) {
 
 fn main() {
     let path = std::env::args().nth(1).expect("the file to write");
-    let mut random = Random(SEED);
+    let mut random = Random::new(SEED);
     let mut out = Vec::new();
     for number in 0..SEQUENCES {
         sequence(&mut random, number, &mut out);

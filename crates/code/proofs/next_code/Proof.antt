@@ -1,9 +1,13 @@
--- `code::next_code` meets its contract: what the pump gives are the parts of the code. Assumes nothing.
+-- `code::next_code` meets its contract, by the run of zeros. Its one bit stands inside the block, so that no position is near the last one.
+-- Assumes nothing.
 mod derived
 use borrow.Author.Needs.{needs}
-use mathlib.Core.Path.{_≡_, _∙_}
+use mathlib.Core.Bool.{Bool, true, _&&_}
+use mathlib.Core.Path.{_≡_, sym, ap, _∙_}
 use mathlib.Core.List.{List}
-use Prim.Native.Nat.{ℕ, _^_, _≤_, _<_, min}
+use Prim.Native.Nat.{ℕ, _+_, _*_, _/_, _%_, _^_, _≤_, _<_, min}
+use native.Mathlib.Omega.{arith}
+use lib.Dec.{leb, eqb}
 use lib.ListN.{length}
 use denote.Ref.{now}
 use Rattle.bits.specs.Bits.{bitsAt, zeroRun, afterRun}
@@ -11,33 +15,103 @@ use Rattle.bits.specs.Pump.{ahead, nextBits, movedTo}
 use Rattle.bits.specs.declared.BitPosition.{BitPosition}
 use Rattle.bits.specs.declared.BitPumpMsb.{BitPumpMsb}
 use Rattle.bits.specs.declared.ZeroRun.{ZeroRun}
+use Rattle.bits.specs.declared.ZeroRun.the-variants.{One}
+use Rattle.bits.proofs.RunLaws.{run-inside}
 use Rattle.code.specs.Codes.{codeAt}
-use Rattle.code.specs.Runs.{lowBits, codeOf}
-use Rattle.code.proofs.PartLaws.{low-lt, parts}
+use Rattle.code.specs.declared.Coded.the-variants.{Read}
+use Rattle.code.proofs.CodeLaws.{code-none, code-short, code-long, short-lt, long-le, shifted}
 use Rattle.code.proofs.next_code.Statement.{statement}
 use Rattle.code.proofs.next_code.Proof.derived.Tie as tie
 
-low-fits : (s : List ℕ) (p : ℕ) (run : ZeroRun) (n low k limit raw : ℕ) → n ≡ lowBits run k limit raw → low ≡ bitsAt s p (min n 32) → k ≤ 15 → raw ≤ 16 → low < 2 ^ 16
-low-fits s p run n low k limit raw en el hk hr = rw (el, en) (low-lt s p run k limit raw hk hr)
+-- the pump is h at first, and g after a run of z
+module _ (h g : BitPumpMsb) (run : ZeroRun) (z : ℕ) (is : run ≡ One z) (er : run ≡ zeroRun (now (h .«data»)) (h .at .0)) (eg : g ≡ movedTo h (afterRun (h .at .0) run)) where
+  abbrev s : List ℕ
+  s = now (h .«data»)
 
--- the pump is h at first, g after the run and f after the bits
-read : (h g f : BitPumpMsb) (run : ZeroRun) (n low k limit raw : ℕ) (p : BitPosition)
-    → run ≡ zeroRun (now (h .«data»)) (h .at .0) → g ≡ movedTo h (afterRun (h .at .0) run) → n ≡ lowBits run k limit raw → low ≡ nextBits g n → f ≡ movedTo g (ahead (g .at .0) (min n 32)) → p ≡ f .at
-    → k ≤ 15 → raw ≤ 16 → length (now (h .«data»)) < 2 ^ 32 → codeOf run low k limit p ≡ codeAt (now (h .«data»)) (h .at .0) k limit raw
-read h g f run n low k limit raw p er eg en el ef ep hk hr hs =
-    rw (ep, ef, el, en, eg) (parts (now (h .«data»)) (h .at .0) k limit raw run er hk hr hs)
+  abbrev p : ℕ
+  p = h .at .0
 
-code-of-requires : tie.Need-code-of-requires
-code-of-requires c κs =
-    let s = c .before .before .before .before .before .before .before in
-    (low-fits _ _ (c .before .before .before .before .before .zero-run .result) _ _ (s .args .k) (s .args .limit) (s .args .raw) (c .before .before .before .before .low-bits .ensures) (c .before .before .get .ensures .0) (s .pre .1 .0) (s .pre .1 .1 .1), search needs)
+  run-of : zeroRun s p ≡ One z
+  run-of = sym er ∙ is
+
+  -- the n bits after the one bit, and where they end
+  bits-of : (n low : ℕ) → n ≤ 16 → low ≡ nextBits g n → low ≡ bitsAt s (p + z + 1) n
+  bits-of n low hn e =
+      let m : min n 32 ≡ n = omega arith in
+      e ∙ rw (eg, is, m)
+
+  end-of : (n : ℕ) (f : BitPumpMsb) (q : BitPosition) → n ≤ 16 → length s < 2 ^ 32 → f ≡ movedTo g (ahead (g .at .0) (min n 32)) → q ≡ f .at → q ≡ record { 0 = p + z + 1 + n }
+  end-of n f q hn hs ef eq =
+      let m : ahead (p + z + 1) (min n 32) ≡ p + z + 1 + n = omega (arith, run-inside s p z run-of) in
+      eq ∙ rw (ef, eg, is) (ap (λ (x : ℕ). record { 0 = x }) m)
+
+  module _ (low k limit raw : ℕ) (hk : k ≤ 15) (hl : limit < 64) (hr : raw ≤ 16) where
+    short : (f : BitPumpMsb) (q : BitPosition) → z < limit → low ≡ nextBits g k → length s < 2 ^ 32 → f ≡ movedTo g (ahead (g .at .0) (min k 32)) → q ≡ f .at
+        → Read (record { zeros = z; value = (z * 2 ^ k) % 2 ^ 32 + low; minimal = true; after = q }) ≡ codeAt s p k limit raw
+    short f q lt e hs ef eq =
+        rw (shifted z k (omega arith) hk, bits-of k low (omega arith) e, end-of k f q (omega arith) hs ef eq) (sym (code-short s p k limit raw z run-of lt))
+
+    short-fits : z < limit → low ≡ nextBits g k → (z * 2 ^ k) % 2 ^ 32 + low < 2 ^ 32
+    short-fits lt e =
+        omega (arith, bits-of k low (omega arith) e, shifted z k (omega arith) hk, short-lt s p k limit raw z hk hl lt)
+
+    long : (n : Bool) (f : BitPumpMsb) (q : BitPosition) → limit ≤ z → low ≡ nextBits g raw → n ≡ (eqb z limit && leb limit ((low + 1) / 2 ^ k)) → length s < 2 ^ 32 → f ≡ movedTo g (ahead (g .at .0) (min raw 32)) → q ≡ f .at
+        → Read (record { zeros = z; value = low + 1; minimal = n; after = q }) ≡ codeAt s p k limit raw
+    long n f q le e en hs ef eq =
+        rw (en, bits-of raw low hr e, end-of raw f q hr hs ef eq) (sym (code-long s p k limit raw z run-of le))
+
+    long-fits : low ≡ nextBits g raw → low + 1 < 2 ^ 32
+    long-fits e = omega (arith, bits-of raw low hr e, long-le s p k limit raw z hr)
 
 returns : tie.Need-returns
 returns c =
-    let b = c .before .before .before in
-    let z = b .before .before .before in
-    let s = z .before .before in
-    c .code-of .ensures ∙ read _ _ _ _ _ _ (s .args .k) (s .args .limit) (s .args .raw) _ (z .zero-run .ensures .0) (z .zero-run .ensures .1) (b .before .before .low-bits .ensures) (b .get .ensures .0) (b .get .ensures .1) (c .before .bit-position .ensures) (s .pre .1 .0) (s .pre .1 .1 .1) (s .pre .0)
+    sym (code-none _ _ _ _ _ (sym (c .before .before .zero-run .ensures .0) ∙ c .enum-told .given .1))
+
+add-t18 : tie.Need-add-t18
+add-t18 c =
+    let t = c .before .before .before .before .before in
+    let r = t .before .before .before in
+    let s = r .before .before in
+    record { fits = short-fits _ _ _ _ (t .before .run .given .1) (r .zero-run .ensures .0) (r .zero-run .ensures .1) _ _ (s .args .limit) (s .args .raw) (s .pre .1 .0) (s .pre .1 .1 .0) (s .pre .1 .1 .1) (c .before .before .before .before .if1 .taken) (c .before .before .get .ensures .0) }
+
+returns-2 : tie.Need-returns-2
+returns-2 c =
+    let t = c .before .before .before .before .before in
+    let r = t .before .before .before in
+    let s = r .before .before in
+    short _ _ _ _ (t .before .run .given .1) (r .zero-run .ensures .0) (r .zero-run .ensures .1) _ _ (s .args .limit) (s .args .raw) (s .pre .1 .0) (s .pre .1 .1 .0) (s .pre .1 .1 .1) _ _ (c .before .before .before .before .if1 .taken) (c .before .before .get .ensures .0) (s .pre .0) (c .before .before .get .ensures .1) (c .bit-position .ensures)
+
+add-value : tie.Need-add-value
+add-value c =
+    let t = c .before .before .before in
+    let r = t .before .before .before in
+    let s = r .before .before in
+    record { fits = long-fits _ _ _ _ (t .before .run .given .1) (r .zero-run .ensures .0) (r .zero-run .ensures .1) _ (s .args .k) (s .args .limit) _ (s .pre .1 .0) (s .pre .1 .1 .0) (s .pre .1 .1 .1) (c .get2 .ensures .0) }
+
+returns-3 : tie.Need-returns-3
+returns-3 c =
+    let g = c .before .before .before in
+    let t = g .before .before .before in
+    let r = t .before .before .before in
+    let s = r .before .before in
+    long _ _ _ _ (t .before .run .given .1) (r .zero-run .ensures .0) (r .zero-run .ensures .1) _ _ _ _ (s .pre .1 .0) (s .pre .1 .1 .0) (s .pre .1 .1 .1) (c .is-needed .result) _ _ (g .before .before .if1 .left) (g .get2 .ensures .0) (c .is-needed .ensures) (s .pre .0) (g .get2 .ensures .1) (c .before .bit-position2 .ensures)
 
 pub next-code-spec : {M : Type 1} → statement M
-next-code-spec = tie.close (tie.spec (λ c. search needs) (λ c. search needs) (λ c. search needs) (λ c. search needs) code-of-requires returns)
+next-code-spec =
+    tie.close
+    (tie.spec
+    (λ c. search needs)
+    (λ c. search needs)
+    (λ c. search needs)
+    returns
+    (λ c. search needs)
+    (λ c. search needs)
+    (λ c. search needs)
+    (λ c. search needs)
+    add-t18
+    returns-2
+    (λ c. search needs)
+    add-value
+    (λ c. search needs)
+    (λ c κs. search needs)
+    returns-3)
