@@ -7,3 +7,4 @@ pub mod StepTwins
 pub mod ListTwins
 pub mod OrderLaws
 pub mod PassTwins
+pub mod PutLaws
