@@ -4,7 +4,7 @@ use mathlib.Core.List.{List, [], _∷_, _++_, append-nil}
 use mathlib.Core.Logic.{_≢_}
 use mathlib.Core.Option.{Option, none, some}
 use mathlib.Core.Path.{_≡_, refl, sym, ap, _∙_}
-use Prim.Native.Nat.{ℕ, zero, suc, _+_, _-_, _*_, _/_, _%_, _^_, _≤_, _<_}
+use Prim.Native.Nat.{ℕ, _+_, _-_, _*_, _/_, _^_, _≤_, _<_}
 use native.Mathlib.Omega.{arith}
 use lib.Dec.{eqb, ltb, leb}
 use lib.ListN.{length, getD, set, length-append}
@@ -28,7 +28,7 @@ use Rattle.pass.proofs.StepLaws.{stepPlace}
 use Rattle.pass.proofs.ZipLaws.{set-keeps}
 use Rattle.writing.specs.Sets.{indexIn}
 use Rattle.writing.specs.Writings.{Writing, orSecond, writeStep, writes}
-use Rattle.writing.specs.Puts.{putBits, putIf, Room, Within, bitsOfSample, setOfSample, startOf, StepsRoom, IsPut, StepsPut}
+use Rattle.writing.specs.Puts.{putIf, Room, Within, bitsOfSample, setOfSample, startOf, StepsRoom, IsPut, StepsPut}
 use Rattle.writing.specs.declared.Put.{Put}
 use Rattle.writing.specs.declared.Put.the-variants.{At, Wrong}
 use Rattle.writing.proofs.WriteLaws.{contextIn, wanted, write-coded, write-interpolated, after, writes-append, writes-after, writes-add}

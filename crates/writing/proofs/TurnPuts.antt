@@ -1,8 +1,8 @@
 -- The turns of a pass that puts its bits, and what the pass hands back. Assumes nothing.
 use mathlib.Core.Bool.{Bool, true, false, cond}
-use mathlib.Core.List.{List, [], _∷_, _++_, append-assoc}
+use mathlib.Core.List.{List, [], _++_, append-assoc}
 use mathlib.Core.Option.{Option, none, some}
-use mathlib.Core.Path.{_≡_, refl, sym, ap, _∙_}
+use mathlib.Core.Path.{_≡_, refl, ap, _∙_}
 use Prim.Native.Nat.{ℕ, zero, suc, _+_, _-_, _*_, _/_, _%_, _≤_, _<_}
 use native.Mathlib.Nat.{add-zero, add-suc}
 use native.Mathlib.Omega.{arith}
@@ -17,7 +17,7 @@ use Rattle.writing.specs.Puts.{Room, startOf, StepsRoom, IsPut, StepsPut
 use Rattle.writing.specs.declared.Put.{Put}
 use Rattle.writing.specs.declared.Put.the-variants.{At, Wrong}
 use Rattle.writing.specs.declared.PassPut.{PassPut}
-use Rattle.writing.proofs.StepPuts.{first-room, ends, same-room, same-steps}
+use Rattle.writing.proofs.StepPuts.{first-room, ends}
 
 -- ---- the turns
 

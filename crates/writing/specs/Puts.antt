@@ -3,11 +3,10 @@ use mathlib.Core.Bool.{Bool, true, false, cond}
 use mathlib.Core.List.{List, [], _∷_, _++_}
 use mathlib.Core.Option.{Option, none, some}
 use mathlib.Core.Path.{_≡_}
-use Prim.Native.Nat.{ℕ, _+_, _-_, _*_, _/_, _%_, _^_, _≤_, _<_}
+use Prim.Native.Nat.{ℕ, _+_, _-_, _/_, _%_, _^_, _≤_}
 use lib.Dec.{ltb}
 use lib.ListN.{length, getD, set, take, drop}
 use Rattle.bits.specs.BitLists.{bitsOf, packed, bytesFor}
-use Rattle.bits.specs.declared.BitPosition.{BitPosition}
 use Rattle.statistics.specs.Statistics.{kOf, updated}
 use Rattle.statistics.specs.declared.Record.{Record}
 use Rattle.prediction.specs.declared.Context.{Context}
@@ -15,7 +14,6 @@ use Rattle.code.specs.Samples.{residualOf}
 use Rattle.code.specs.Tight.{codeBits}
 use Rattle.pass.specs.Steps.{Step}
 use Rattle.pass.specs.Readings.{usedQuantiser, lookOf, slotOf, noRecord, zipRecords, recordsOf}
-use Rattle.pass.specs.declared.Set.{Set}
 use Rattle.writing.specs.Writings.{Writing, wantedCode, writes}
 use Rattle.writing.specs.declared.Put.{Put}
 use Rattle.writing.specs.declared.Put.the-variants.{At, Wrong}

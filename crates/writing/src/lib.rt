@@ -1,11 +1,11 @@
 // Writing one pass over two colour lines, lossless: the samples are those of a set, and their tight codes are counted or stored.
 ghost use mathlib.Core.Path.{_≡_};
-ghost use mathlib.Core.Bool.{Bool, true, false, cond, not};
-ghost use mathlib.Core.List.{List, [], _∷_};
+ghost use mathlib.Core.Bool.{true, false, cond, not};
+ghost use mathlib.Core.List.{[], _∷_};
 ghost use mathlib.Core.Option.{none};
 ghost use Prim.Native.Nat.{_+_, _-_, _*_, _/_, _%_, _^_, _≤_, _<_};
 ghost use lib.Dec.{ltb, leb};
-ghost use lib.ListN.{length, getD};
+ghost use lib.ListN.{length};
 ghost use Rattle.bits.specs.BitLists.{binary, bytesFor};
 ghost use Rattle.quantiser.specs.Quantisers.{largest};
 ghost use Rattle.prediction.specs.Predictions.{Ranges};
@@ -13,7 +13,7 @@ ghost use Rattle.code.specs.Tight.{stepsUp, residualUp, codeOfResidual, codeFor
 ghost use Rattle.pass.specs.Steps.{stepAt, interpolated, evenSteps, oddSteps};
 ghost use Rattle.pass.specs.Readings.{contextAt, usedQuantiser, zipRecords, recordsOf, SetInRange, PlanInRange, Depth};
 ghost use Rattle.writing.specs.Sets.{rankOf, indexIn, lineSize};
-ghost use Rattle.writing.specs.Writings.{writeStep, writes, writePass};
+ghost use Rattle.writing.specs.Writings.{writePass};
 ghost use Rattle.writing.specs.Puts.{codeNumber, putBits, putIf, Room, Within, bitsOfSample, setOfSample, StepsRoom, StepsPut, wrongAt, IsPassPut};
 use bits::BitPosition;
 use pass::Plan;

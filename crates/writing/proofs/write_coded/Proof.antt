@@ -1,13 +1,12 @@
 -- `writing::write_coded` meets its contract, by the answers of the leaves. Assumes nothing.
 use borrow.Author.Needs.{needs}
-use mathlib.Core.Path.{_≡_, _∙_}
-use Prim.Native.Nat.{ℕ, _+_, _*_, _%_, _^_, _≤_, _<_}
+use mathlib.Core.Path.{_≡_}
+use Prim.Native.Nat.{ℕ, _^_, _≤_, _<_}
 use native.Mathlib.Omega.{arith}
-use Rattle.bits.specs.BitLists.{bytesFor}
 use Rattle.code.specs.Tight.{codeBits}
 use Rattle.quantiser.specs.Quantisers.{largest}
 use Rattle.pass.specs.Readings.{usedQuantiser, zipRecords}
-use Rattle.writing.specs.Puts.{bitsOfSample, Room, putIf}
+use Rattle.writing.specs.Puts.{bitsOfSample}
 use Rattle.writing.proofs.LosslessLaws.{code-numbers}
 use Rattle.writing.proofs.CodedLaws.{coded-n, coded-record, coded-bits, coded-set, coded-in-range}
 use Rattle.writing.proofs.write_coded.Statement.{statement}

@@ -1,8 +1,7 @@
 -- `writing::write_even` meets its contract. Assumes nothing.
 use borrow.Author.Needs.{needs}
 use borrow.Author.Tests.{le-ltb}
-use mathlib.Core.List.{List, [], _∷_}
-use Rattle.pass.specs.Steps.{Step, stepAt, evenSteps}
+use Rattle.pass.specs.Steps.{evenSteps}
 use Rattle.writing.proofs.StepPuts.{same-room, same-steps, none-due, even-due}
 use Rattle.writing.proofs.write_even.Statement.{statement}
 use Rattle.writing.proofs.write_even.Tie as tie

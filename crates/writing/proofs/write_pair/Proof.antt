@@ -1,7 +1,6 @@
 -- `writing::write_pair` meets its contract: the second sample goes on where the first has ended. Assumes nothing.
 use borrow.Author.Needs.{needs}
 use mathlib.Core.List.{List, [], _∷_}
-use Prim.Native.Nat.{ℕ, _+_}
 use native.Mathlib.Omega.{arith}
 use Rattle.pass.specs.Steps.{Step, stepAt}
 use Rattle.writing.proofs.StepPuts.{first-room, ends, room-after, goes-on, within-after, position-after}

@@ -1,12 +1,9 @@
 -- `writing::write_step` meets its contract: one sample, with a code, interpolated, or wrong. Assumes nothing.
 use borrow.Author.Needs.{needs}
-use mathlib.Core.Path.{_≡_, refl, sym, _∙_}
-use Prim.Native.Nat.{ℕ, _+_, _*_, _≤_, _<_}
+use mathlib.Core.Path.{refl}
+use Prim.Native.Nat.{_+_, _*_, _<_}
 use native.Mathlib.Omega.{arith}
 use lib.ListN.{length}
-use Rattle.quantiser.specs.Quantisers.{largest}
-use Rattle.prediction.specs.declared.Context.{Context}
-use Rattle.pass.proofs.RangeLaws.{context-le}
 use Rattle.writing.proofs.StepPuts.{Sample, sample-room, sample-coded, sample-right, sample-wrong, prediction-le}
 use Rattle.writing.proofs.write_step.Statement.{statement}
 use Rattle.writing.proofs.write_step.Tie as tie
