@@ -1,10 +1,11 @@
 // Writing one pass over two colour lines, lossless: the samples are those of a set, and their tight codes are counted or stored.
 ghost use mathlib.Core.Path.{_≡_};
-ghost use mathlib.Core.Bool.{Bool, true, false, cond, not};
-ghost use mathlib.Core.List.{List, [], _∷_};
+ghost use mathlib.Core.Bool.{true, false, cond, not};
+ghost use mathlib.Core.List.{[], _∷_};
 ghost use mathlib.Core.Option.{none};
 ghost use Prim.Native.Nat.{_+_, _-_, _*_, _/_, _%_, _^_, _≤_, _<_};
-ghost use lib.ListN.{length, getD};
+ghost use lib.Dec.{ltb, leb};
+ghost use lib.ListN.{length};
 ghost use Rattle.bits.specs.BitLists.{binary, bytesFor};
 ghost use Rattle.quantiser.specs.Quantisers.{largest};
 ghost use Rattle.prediction.specs.Predictions.{Ranges};
@@ -12,8 +13,8 @@ ghost use Rattle.code.specs.Tight.{stepsUp, residualUp, codeOfResidual, codeFor
 ghost use Rattle.pass.specs.Steps.{stepAt, interpolated, evenSteps, oddSteps};
 ghost use Rattle.pass.specs.Readings.{contextAt, usedQuantiser, zipRecords, recordsOf, SetInRange, PlanInRange, Depth};
 ghost use Rattle.writing.specs.Sets.{rankOf, indexIn, lineSize};
-ghost use Rattle.writing.specs.Writings.{writeStep, writes, writePass};
-ghost use Rattle.writing.specs.Puts.{codeNumber, putBits, putIf, Room, Within, IsPut, IsPassPut};
+ghost use Rattle.writing.specs.Writings.{writePass};
+ghost use Rattle.writing.specs.Puts.{codeNumber, putBits, putIf, Room, Within, bitsOfSample, setOfSample, StepsRoom, StepsPut, wrongAt, IsPassPut};
 use bits::BitPosition;
 use pass::Plan;
 use pass::Set;
@@ -53,6 +54,16 @@ fn power(k: u32) -> u64
     1u64 << k
 }
 
+// The index of the wrong sample, 0 where there is none.
+fn wrong_at(x: Put) -> usize
+    ensures { λ r. ⌜ r ≡ wrongAt x ⌝ }
+{
+    match x {
+        Put::At(_) => 0,
+        Put::Wrong(j) => j,
+    }
+}
+
 // ---- codes
 
 // How far it is from u up to v, where 0 follows m.
@@ -66,7 +77,7 @@ fn steps_up(m: u32, u: u32, v: u32) -> u32
 // The code of the residual that leads so far up.
 fn code_of_steps(m: u32, d: u32) -> u32
     requires { ⌜ (m < 2 ^ 16) × (d ≤ m) ⌝ }
-    ensures { λ r. ⌜ r ≡ codeOfResidual (residualUp m d) ⌝ }
+    ensures { λ r. ⌜ (r ≡ codeOfResidual (residualUp m d)) × (r ≤ m) ⌝ }
 {
     if 2 * d <= m {
         2 * d
@@ -78,7 +89,7 @@ fn code_of_steps(m: u32, d: u32) -> u32
 // The code below 2^bits of a wanted sample.
 fn code_for(m: u32, negative: bool, prediction: u32, v: u32) -> u32
     requires { ⌜ (m < 2 ^ 16) × ((prediction ≤ m) × (v ≤ m)) ⌝ }
-    ensures { λ r. ⌜ r ≡ codeFor m negative prediction v ⌝ }
+    ensures { λ r. ⌜ (r ≡ codeFor m negative prediction v) × (r ≤ m) ⌝ }
 {
     if negative {
         return code_of_steps(m, steps_up(m, v, prediction));
@@ -200,4 +211,326 @@ fn context_at(lines: &[u16], s: usize, i: usize, p: usize) -> Context
         return pass::even_context(lines, s, i);
     }
     pass::odd_context(lines, s, i)
+}
+
+// The bits of a sample v with a code, at position p in the context x. Its record is updated.
+fn write_coded(
+    out: &mut [u8],
+    store: bool,
+    from: BitPosition,
+    sums: &mut [u32; 112],
+    ns: &mut [u32; 112],
+    p: usize,
+    x: Context,
+    v: u32,
+    bits: u32,
+    limit: u32,
+    raw: u32,
+) -> BitPosition
+    requires { ⌜ Depth bits × ((limit ≡ (usedQuantiser bits 0 0) .limit) × (raw ≡ (usedQuantiser bits 0 0) .raw)) ⌝ }
+    requires { ⌜ Ranges x × ((x .prediction ≤ largest bits) × (v ≤ largest bits)) ⌝ }
+    requires { ⌜ SetInRange (zipRecords (now sums) (now ns)) ⌝ }
+    requires { ⌜ (from .0 < 2 ^ 60) × Room store (now out) (from .0) (bitsOfSample bits p v x (zipRecords (now sums) (now ns))) ⌝ }
+    ensures { λ r. ⌜ (r .0 ≡ from .0 + length (bitsOfSample bits p v x (zipRecords (now (sums .entry)) (now (ns .entry))))) × (now (out .exit) ≡ putIf store (now (out .entry)) (from .0) (bitsOfSample bits p v x (zipRecords (now (sums .entry)) (now (ns .entry))))) × (zipRecords (now (sums .exit)) (now (ns .exit)) ≡ setOfSample bits p v x (zipRecords (now (sums .entry)) (now (ns .entry)))) × SetInRange (zipRecords (now (sums .exit)) (now (ns .exit))) ⌝ }
+{
+    let h = pass::look_of(0, x);
+    let slot = h.place + 56 * (p % 2);
+    let old = Record {
+        sum: sums[slot],
+        n: ns[slot],
+    };
+    let code = code_for(quantiser::largest(bits), h.negative, x.prediction, v);
+    let after = put_code(out, store, from, old.k(), limit, raw, code);
+    let new = old.update(code::residual_size(code));
+    sums[slot] = new.sum;
+    ns[slot] = new.n;
+    after
+}
+
+// The sample at position p of a colour line, in line n: with its code, or interpolated.
+fn write_step(
+    samples: &[u16],
+    n: usize,
+    out: &mut [u8],
+    store: bool,
+    from: BitPosition,
+    lines: &mut [u16],
+    sums: &mut [u32; 112],
+    ns: &mut [u32; 112],
+    w: usize,
+    line: usize,
+    p: usize,
+    coded: bool,
+    bits: u32,
+    limit: u32,
+    raw: u32,
+) -> Put
+    requires { ⌜ (w ≤ 512) × ((p < w) × ((2 ≤ line) × (line ≤ 17))) ⌝ }
+    requires { ⌜ Depth bits × ((limit ≡ (usedQuantiser bits 0 0) .limit) × (raw ≡ (usedQuantiser bits 0 0) .raw)) ⌝ }
+    requires { ⌜ (n < 2 ^ 16) × (((n + 1) * lineSize w ≤ length (now samples)) × Within (largest bits) (now samples)) ⌝ }
+    requires { ⌜ (18 * (w + 2) ≤ length (now lines)) × (Within (largest bits) (now lines) × SetInRange (zipRecords (now sums) (now ns))) ⌝ }
+    requires { ⌜ (from .0 < 2 ^ 60) × StepsRoom bits w (now samples) n (stepAt line p coded ∷ []) store (from .0) (now lines) (now sums) (now ns) (now out) ⌝ }
+    ensures { λ r. ⌜ StepsPut bits w (now (samples .entry)) n (stepAt line p coded ∷ []) store (from .0) (now (lines .entry)) (now (sums .entry)) (now (ns .entry)) (now (out .entry)) (now (lines .exit)) (now (sums .exit)) (now (ns .exit)) (now (out .exit)) r × SetInRange (zipRecords (now (sums .exit)) (now (ns .exit))) ⌝ }
+{
+    let i = pass::left_of(w, line, p);
+    let j = index_in(w, n, line, p);
+    let x = context_at(lines, w + 2, i, p);
+    let v = samples[j];
+    if coded {
+        let after = write_coded(out, store, from, sums, ns, p, x, wide(v), bits, limit, raw);
+        lines[i + 1] = v;
+        return Put::At(after);
+    }
+    if wide(v) != x.prediction {
+        return Put::Wrong(j);
+    }
+    lines[i + 1] = v;
+    Put::At(from)
+}
+
+// The two samples at position p, in the pass's first line and then in its second.
+fn write_pair(
+    samples: &[u16],
+    n: usize,
+    out: &mut [u8],
+    store: bool,
+    from: BitPosition,
+    lines: &mut [u16],
+    sums: &mut [u32; 112],
+    ns: &mut [u32; 112],
+    w: usize,
+    plan: Plan,
+    p: usize,
+    first_coded: bool,
+    second_coded: bool,
+    bits: u32,
+    limit: u32,
+    raw: u32,
+) -> Put
+    requires { ⌜ (w ≤ 512) × ((p < w) × PlanInRange plan) ⌝ }
+    requires { ⌜ Depth bits × ((limit ≡ (usedQuantiser bits 0 0) .limit) × (raw ≡ (usedQuantiser bits 0 0) .raw)) ⌝ }
+    requires { ⌜ (n < 2 ^ 16) × (((n + 1) * lineSize w ≤ length (now samples)) × Within (largest bits) (now samples)) ⌝ }
+    requires { ⌜ (18 * (w + 2) ≤ length (now lines)) × (Within (largest bits) (now lines) × SetInRange (zipRecords (now sums) (now ns))) ⌝ }
+    requires { ⌜ (from .0 + 80 < 2 ^ 60) × StepsRoom bits w (now samples) n (stepAt (plan .first) p «first_coded» ∷ stepAt (plan .second) p «second_coded» ∷ []) store (from .0) (now lines) (now sums) (now ns) (now out) ⌝ }
+    ensures { λ r. ⌜ StepsPut bits w (now (samples .entry)) n (stepAt (plan .first) p «first_coded» ∷ stepAt (plan .second) p «second_coded» ∷ []) store (from .0) (now (lines .entry)) (now (sums .entry)) (now (ns .entry)) (now (out .entry)) (now (lines .exit)) (now (sums .exit)) (now (ns .exit)) (now (out .exit)) r × SetInRange (zipRecords (now (sums .exit)) (now (ns .exit))) ⌝ }
+{
+    let got = write_step(
+        samples,
+        n,
+        out,
+        store,
+        from,
+        lines,
+        sums,
+        ns,
+        w,
+        plan.first,
+        p,
+        first_coded,
+        bits,
+        limit,
+        raw,
+    );
+    let Put::At(at) = got else {
+        return got;
+    };
+    write_step(
+        samples,
+        n,
+        out,
+        store,
+        at,
+        lines,
+        sums,
+        ns,
+        w,
+        plan.second,
+        p,
+        second_coded,
+        bits,
+        limit,
+        raw,
+    )
+}
+
+// The two samples at the even position p, where it is one of the line.
+fn write_even(
+    samples: &[u16],
+    n: usize,
+    out: &mut [u8],
+    store: bool,
+    from: BitPosition,
+    lines: &mut [u16],
+    sums: &mut [u32; 112],
+    ns: &mut [u32; 112],
+    w: usize,
+    plan: Plan,
+    p: usize,
+    bits: u32,
+    limit: u32,
+    raw: u32,
+) -> Put
+    requires { ⌜ (w ≤ 512) × PlanInRange plan ⌝ }
+    requires { ⌜ Depth bits × ((limit ≡ (usedQuantiser bits 0 0) .limit) × (raw ≡ (usedQuantiser bits 0 0) .raw)) ⌝ }
+    requires { ⌜ (n < 2 ^ 16) × (((n + 1) * lineSize w ≤ length (now samples)) × Within (largest bits) (now samples)) ⌝ }
+    requires { ⌜ (18 * (w + 2) ≤ length (now lines)) × (Within (largest bits) (now lines) × SetInRange (zipRecords (now sums) (now ns))) ⌝ }
+    requires { ⌜ (from .0 + 80 < 2 ^ 60) × StepsRoom bits w (now samples) n (cond (ltb p w) (evenSteps plan p) []) store (from .0) (now lines) (now sums) (now ns) (now out) ⌝ }
+    ensures { λ r. ⌜ StepsPut bits w (now (samples .entry)) n (cond (ltb p w) (evenSteps plan p) []) store (from .0) (now (lines .entry)) (now (sums .entry)) (now (ns .entry)) (now (out .entry)) (now (lines .exit)) (now (sums .exit)) (now (ns .exit)) (now (out .exit)) r × SetInRange (zipRecords (now (sums .exit)) (now (ns .exit))) ⌝ }
+{
+    if p >= w {
+        return Put::At(from);
+    }
+    let a = pass::has_code(plan.first_rule, p);
+    let b = pass::has_code(plan.second_rule, p);
+    write_pair(
+        samples,
+        n,
+        out,
+        store,
+        from,
+        lines,
+        sums,
+        ns,
+        w,
+        plan,
+        p,
+        a,
+        b,
+        bits,
+        limit,
+        raw,
+    )
+}
+
+// The two samples at the odd position p - 7, once positions 0 to 8 are done.
+fn write_odd(
+    samples: &[u16],
+    n: usize,
+    out: &mut [u8],
+    store: bool,
+    from: BitPosition,
+    lines: &mut [u16],
+    sums: &mut [u32; 112],
+    ns: &mut [u32; 112],
+    w: usize,
+    plan: Plan,
+    p: usize,
+    bits: u32,
+    limit: u32,
+    raw: u32,
+) -> Put
+    requires { ⌜ (w ≤ 512) × ((p < w + 7) × PlanInRange plan) ⌝ }
+    requires { ⌜ Depth bits × ((limit ≡ (usedQuantiser bits 0 0) .limit) × (raw ≡ (usedQuantiser bits 0 0) .raw)) ⌝ }
+    requires { ⌜ (n < 2 ^ 16) × (((n + 1) * lineSize w ≤ length (now samples)) × Within (largest bits) (now samples)) ⌝ }
+    requires { ⌜ (18 * (w + 2) ≤ length (now lines)) × (Within (largest bits) (now lines) × SetInRange (zipRecords (now sums) (now ns))) ⌝ }
+    requires { ⌜ (from .0 + 80 < 2 ^ 60) × StepsRoom bits w (now samples) n (cond (leb 8 p) (oddSteps plan (p - 7)) []) store (from .0) (now lines) (now sums) (now ns) (now out) ⌝ }
+    ensures { λ r. ⌜ StepsPut bits w (now (samples .entry)) n (cond (leb 8 p) (oddSteps plan (p - 7)) []) store (from .0) (now (lines .entry)) (now (sums .entry)) (now (ns .entry)) (now (out .entry)) (now (lines .exit)) (now (sums .exit)) (now (ns .exit)) (now (out .exit)) r × SetInRange (zipRecords (now (sums .exit)) (now (ns .exit))) ⌝ }
+{
+    if p < 8 {
+        return Put::At(from);
+    }
+    write_pair(
+        samples,
+        n,
+        out,
+        store,
+        from,
+        lines,
+        sums,
+        ns,
+        w,
+        plan,
+        p - 7,
+        true,
+        true,
+        bits,
+        limit,
+        raw,
+    )
+}
+
+// A pass, with the turns of reading: the even position p, and then the odd one at p - 7.
+pub fn write_pass(
+    samples: &[u16],
+    n: usize,
+    out: &mut [u8],
+    store: bool,
+    from: BitPosition,
+    lines: &mut [u16],
+    set: Set,
+    w: usize,
+    plan: Plan,
+    bits: u32,
+    limit: u32,
+    raw: u32,
+) -> PassPut
+    requires { ⌜ ((8 ≤ w) × ((w ≤ 512) × (w % 2 ≡ 0))) × PlanInRange plan ⌝ }
+    requires { ⌜ Depth bits × ((limit ≡ (usedQuantiser bits 0 0) .limit) × (raw ≡ (usedQuantiser bits 0 0) .raw)) ⌝ }
+    requires { ⌜ (n < 2 ^ 16) × (((n + 1) * lineSize w ≤ length (now samples)) × Within (largest bits) (now samples)) ⌝ }
+    requires { ⌜ (18 * (w + 2) ≤ length (now lines)) × (Within (largest bits) (now lines) × SetInRange (recordsOf set)) ⌝ }
+    requires { ⌜ (from .0 < 2 ^ 59) × Room store (now out) (from .0) ((writePass bits w (now samples) n plan (record { lines = now lines; set = recordsOf set; bits = []; wrong = none })) .bits) ⌝ }
+    ensures { λ r. ⌜ IsPassPut ((writePass bits w (now (samples .entry)) n plan (record { lines = now (lines .entry); set = recordsOf set; bits = []; wrong = none })) .wrong) (writePass bits w (now (samples .entry)) n plan (record { lines = now (lines .entry); set = recordsOf set; bits = []; wrong = none })) (from .0) store (now (out .entry)) (now (lines .exit)) (now (out .exit)) r × SetInRange (recordsOf (r .set)) ⌝ }
+{
+    let mut sums = set.sums;
+    let mut ns = set.ns;
+    let mut at = from;
+    let mut p = 0;
+    while p < w + 8 {
+        let evens = write_even(
+            samples,
+            n,
+            out,
+            store,
+            at,
+            lines,
+            &mut sums,
+            &mut ns,
+            w,
+            plan,
+            p,
+            bits,
+            limit,
+            raw,
+        );
+        let Put::At(between) = evens else {
+            return PassPut {
+                ok: false,
+                wrong: wrong_at(evens),
+                at,
+                set: Set { sums, ns },
+            };
+        };
+        let odds = write_odd(
+            samples,
+            n,
+            out,
+            store,
+            between,
+            lines,
+            &mut sums,
+            &mut ns,
+            w,
+            plan,
+            p,
+            bits,
+            limit,
+            raw,
+        );
+        let Put::At(after) = odds else {
+            return PassPut {
+                ok: false,
+                wrong: wrong_at(odds),
+                at,
+                set: Set { sums, ns },
+            };
+        };
+        at = after;
+        p += 2;
+    }
+    PassPut {
+        ok: true,
+        wrong: 0,
+        at,
+        set: Set { sums, ns },
+    }
 }

@@ -18,10 +18,14 @@ module _ (m p v d r : ℕ) (b : Bool) (e : r ≡ codeOfResidual (residualUp m d)
   upwards t f = rw (e, f, t)
 
 returns : tie.Need-returns
-returns c = down _ _ _ _ _ _ (c .code-of-steps .ensures) (c .before .before .if1 .taken) (c .before .steps-up .ensures .0)
+returns c =
+    let e = c .code-of-steps .ensures in
+    (down _ _ _ _ _ _ (e .0) (c .before .before .if1 .taken) (c .before .steps-up .ensures .0), e .1)
 
 returns-2 : tie.Need-returns-2
-returns-2 c = upwards _ _ _ _ _ _ (c .code-of-steps2 .ensures) (c .before .before .if1 .left) (c .before .steps-up2 .ensures .0)
+returns-2 c =
+    let e = c .code-of-steps2 .ensures in
+    (upwards _ _ _ _ _ _ (e .0) (c .before .before .if1 .left) (c .before .steps-up2 .ensures .0), e .1)
 
 pub code-for-spec : {M : Type 1} → statement M
 code-for-spec =

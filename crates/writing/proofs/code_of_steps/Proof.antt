@@ -8,11 +8,11 @@ use Rattle.writing.proofs.code_of_steps.Tie as tie
 
 returns : tie.Need-returns
 unfolding residualUp codeOfResidual
-returns c = rw (le-leb _ _ (c .if1 .taken)) (omega arith)
+returns c = (rw (le-leb _ _ (c .if1 .taken)) (omega arith), omega (arith, c .if1 .taken))
 
 returns-2 : tie.Need-returns-2
 unfolding residualUp codeOfResidual
-returns-2 c = rw (lt-leb _ _ (c .if1 .left)) (omega arith)
+returns-2 c = (rw (lt-leb _ _ (c .if1 .left)) (omega arith), omega (arith, c .if1 .left))
 
 pub code-of-steps-spec : {M : Type 1} → statement M
 code-of-steps-spec =
