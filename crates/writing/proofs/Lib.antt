@@ -11,3 +11,4 @@ pub mod PutLaws
 pub mod CodedLaws
 pub mod StepPuts
 pub mod TurnPuts
+pub mod PassLaws

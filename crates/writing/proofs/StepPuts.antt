@@ -130,7 +130,7 @@ module _ (bits W : ℕ) (t : List ℕ) (n : ℕ) where
       go true e = rw (write-coded bits W t n x r e)
       go false e = rw (write-interpolated bits W t n x r e)
 
-  writes-within : (m : ℕ) (l : List Step) (r : Writing) → Within m t → Within m (r .lines) → Within m ((writes bits W t n l r) .lines)
+  pub writes-within : (m : ℕ) (l : List Step) (r : Writing) → Within m t → Within m (r .lines) → Within m ((writes bits W t n l r) .lines)
   unfolding writes
   writes-within m [] r ht hl = hl
   writes-within m (x ∷ l) r ht hl =
@@ -145,7 +145,7 @@ module _ (bits W : ℕ) (t : List ℕ) (n : ℕ) where
       go true c = rw (write-coded bits W t n x r c) e
       go false c = rw (write-interpolated bits W t n x r c, e)
 
-  writes-wrong : (l : List Step) (r : Writing) (j : ℕ) → r .wrong ≡ some j → (writes bits W t n l r) .wrong ≡ some j
+  pub writes-wrong : (l : List Step) (r : Writing) (j : ℕ) → r .wrong ≡ some j → (writes bits W t n l r) .wrong ≡ some j
   unfolding writes
   writes-wrong [] r j e = e
   writes-wrong (x ∷ l) r j e = writes-wrong l (writeStep bits W t n x r) j (step-wrong x r j e)
@@ -255,7 +255,7 @@ module _ (bits W : ℕ) (t : List ℕ) (n : ℕ) (depth : bits ≤ 16) where
       go true e = rw (step-coded bits W t n x r e, length-append) (omega (arith, sample-short (x .position) (wanted W t n x) (contextIn W x (r .lines)) (r .set)))
       go false e = rw (step-interpolated bits W t n x r e) (omega arith)
 
-  writes-short : (l : List Step) (r : Writing) → length ((writes bits W t n l r) .bits) ≤ length (r .bits) + 80 * length l
+  pub writes-short : (l : List Step) (r : Writing) → length ((writes bits W t n l r) .bits) ≤ length (r .bits) + 80 * length l
   unfolding writes
   writes-short [] r = omega arith
   writes-short (x ∷ l) r = omega (arith, step-short x r, writes-short l (writeStep bits W t n x r))

@@ -51,7 +51,7 @@ turn-le : (W : ℕ) (P : Plan) (t : ℕ) → length (turnSteps W P t) ≤ 4
 unfolding turnSteps
 turn-le W P t = rw length-append (omega (arith, part-le (ltb (2 * t) W) (evenSteps P (2 * t)) (omega arith), part-le (leb 8 (2 * t)) (oddSteps P (2 * t - 7)) (omega arith)))
 
-turns-le : (W : ℕ) (P : Plan) (t : ℕ) → length (upto (turnSteps W P) t) ≤ 4 * t
+pub turns-le : (W : ℕ) (P : Plan) (t : ℕ) → length (upto (turnSteps W P) t) ≤ 4 * t
 unfolding upto
 turns-le W P zero = omega arith
 turns-le W P (suc t) = rw length-append (omega (arith, turns-le W P t, turn-le W P t))
