@@ -23,3 +23,11 @@ pub mod store_set
 pub mod update
 pub mod walk
 pub mod walk_alone
+pub mod write_block
+pub mod write_in
+pub mod write_line
+pub mod write_lines
+pub mod write_measured
+pub mod write_parsed
+pub mod write_set
+pub mod write_walk
