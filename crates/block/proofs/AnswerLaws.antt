@@ -17,9 +17,11 @@ use Rattle.bits.proofs.PackLaws.{length-packed}
 use Rattle.numbers.proofs.OrderLaws.{split}
 use Rattle.quantiser.specs.Quantisers.{largest}
 use Rattle.stream.specs.declared.Refusal.the-variants.{AboveLargest, NotPredicted, ShortOutput}
+use Rattle.map.specs.Places.{widthOf}
+use Rattle.writing.specs.Sets.{setSize}
 use Rattle.writing.specs.Puts.{putBits, Room, Within}
-use Rattle.block.specs.WrittenBlocks.{writeLines, tightBlock}
-use Rattle.block.specs.WrittenAnswers.{IsSetPut, SetWritten, firstAbove, measuredAnswer, writtenAnswer}
+use Rattle.block.specs.WrittenBlocks.{writeLines, tightBlock, FitSet}
+use Rattle.block.specs.WrittenAnswers.{IsSetPut, SetWritten, firstAbove, predictedAnswer, rangeAnswer, measuredAnswer, writtenAnswer}
 use Rattle.block.specs.declared.Form.{Form}
 use Rattle.block.specs.declared.LinePut.{LinePut}
 use Rattle.block.specs.declared.Written.{Written}
@@ -138,3 +140,37 @@ module _ (F : Form) (count : ℕ) (t : List ℕ) (room m i : ℕ) (em : m ≡ la
   pub set-answer : length t ≤ i → (a : Written) → a ≡ measuredAnswer F count t room → a ≡ writtenAnswer F count t room
   unfolding writtenAnswer
   set-answer h a e = e ∙ rw (no-first h)
+
+-- ---- which sets are written: exactly those that fit, where the output is long enough
+
+within-none : (m i : ℕ) (t : List ℕ) → Within m t → firstAbove m i t ≡ none
+unfolding firstAbove
+within-none m i [] h = refl
+within-none m i (v ∷ t) h = rw (le-leb v m (h 0)) (within-none m (suc i) t (λ j. h (suc j)))
+
+module _ (F : Form) (lines : ℕ) (t : List ℕ) (room : ℕ) where
+  pub fits-written : FitSet F lines t → length (tightBlock F lines t) ≤ room → writtenAnswer F lines t room ≡ Length (length (tightBlock F lines t))
+  unfolding writtenAnswer measuredAnswer
+  fits-written f h = rw (within-none (largest (F .bits)) 0 t (f .range), f .predicted, le-ltb room (length (tightBlock F lines t)) h)
+
+  pub written-fits : (n : ℕ) → length t ≡ setSize (widthOf (F .xtrans)) lines → writtenAnswer F lines t room ≡ Length n
+      → FitSet F lines t × (n ≡ length (tightBlock F lines t)) × (n ≤ room)
+  unfolding writtenAnswer measuredAnswer
+  written-fits n size e = ranged (firstAbove (largest (F .bits)) 0 t) refl e
+    where
+      measured : (b : Bool) → Within (largest (F .bits)) t → (writeLines F t lines) .wrong ≡ none → ltb room (length (tightBlock F lines t)) ≡ b
+          → cond b (Refused ShortOutput) (Length (length (tightBlock F lines t))) ≡ Length n → FitSet F lines t × (n ≡ length (tightBlock F lines t)) × (n ≤ room)
+      measured true r p h f = let no : _≡_ {A = ℕ} 0 1 = cc in absurd (omega arith)
+      measured false r p h f =
+          let k : length (tightBlock F lines t) ≡ n = cc in
+          (record { size = size; range = r; predicted = p }, sym k, omega (arith, k, ltb-false room (length (tightBlock F lines t)) h))
+
+      predicted : (o : Option ℕ) → Within (largest (F .bits)) t → (writeLines F t lines) .wrong ≡ o → predictedAnswer o (length (tightBlock F lines t)) room ≡ Length n
+          → FitSet F lines t × (n ≡ length (tightBlock F lines t)) × (n ≤ room)
+      predicted none r p f = measured (ltb room (length (tightBlock F lines t))) r p refl f
+      predicted (some j) r p f = let no : _≡_ {A = ℕ} 0 1 = cc in absurd (omega arith)
+
+      ranged : (o : Option ℕ) → firstAbove (largest (F .bits)) 0 t ≡ o → rangeAnswer o (measuredAnswer F lines t room) ≡ Length n
+          → FitSet F lines t × (n ≡ length (tightBlock F lines t)) × (n ≤ room)
+      ranged none g f = predicted ((writeLines F t lines) .wrong) (none-within (largest (F .bits)) 0 t g) refl f
+      ranged (some i) g f = let no : _≡_ {A = ℕ} 0 1 = cc in absurd (omega arith)
