@@ -22,8 +22,8 @@ The borrow checker's rules hold of every element type, and only its front refuse
        F/Proof.antt             if there is none: the needs, each with `search needs`. This file is the author's part
 The check admits each derivation over the real function's MIR and contract, or refuses it: nothing here is trusted.
 The author copies proofs/Element.antt (for S), proofs/Held.antt (for P), and lists them in proofs/Lib.antt with `pub mod derived`.
-A line `// twin: EXPR` before a function is its body in the twins of the others: any value of its result's type. It isn't
-needed where the result is (), a bool or an integer.  WIDTH (200) is the width of what is written.
+A line `// twin: EXPR` before a function is its body in the twins of the others: any value of its result's type. A listed function
+needs none where its result is (), a bool or an integer; one that is not listed needs one where it has a loop.  WIDTH (200) is the width of what is written.
 """
 import argparse, os, re, shutil, subprocess, sys
 ap = argparse.ArgumentParser()
@@ -91,7 +91,7 @@ def twin_carry(f):
     def one(m):
         if m["name"] in gone:
             return ""
-        keep = m["name"] in members(f) or m["name"] not in listed + owns
+        keep = m["name"] in members(f) or m["name"] not in listed + owns and not (m["expr"] and "while " in m["body"])
         return m["head"] + "\n{\n" + (m["body"] if keep else dummy(m)) + "\n}\n"
     t = item.sub(one, src) + ("fn main() {}\n" if "main" in gone else "")
     if PUMP:

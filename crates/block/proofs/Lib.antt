@@ -9,6 +9,8 @@ pub mod LineLaws
 pub mod BlockLaws
 pub mod SampleLaws
 pub mod WrittenLaws
+pub mod WalkLaws
+pub mod AnswerLaws
 pub mod DecodeLaws
 pub mod TightLaws
 pub mod ImageLaws

@@ -10,6 +10,7 @@ pub mod fetch
 pub mod fuji_decode
 pub mod fuji_decode_region
 pub mod fuji_read_tight
+pub mod fuji_write_block
 pub mod line
 pub mod load_set
 pub mod read_lines
@@ -24,3 +25,11 @@ pub mod store_set
 pub mod update
 pub mod walk
 pub mod walk_alone
+pub mod write_block
+pub mod write_in
+pub mod write_line
+pub mod write_lines
+pub mod write_measured
+pub mod write_parsed
+pub mod write_set
+pub mod write_walk

@@ -6,3 +6,4 @@ pub mod TightBlocks
 pub mod WrittenBlocks
 pub mod TightReadings
 pub mod Words
+pub mod WrittenAnswers

@@ -10,7 +10,10 @@ use Rattle.stream.specs.declared.Refusal.the-variants.{ShortHeader, BadHeader, 
 use Rattle.region.specs.declared.Rect.{Rect}
 use Rattle.block.specs.Images.{Beginning, Left}
 use Rattle.block.specs.TightReadings.{tightBegins, LeftTight}
+use Rattle.block.specs.WrittenAnswers.{writingBegins, LeftWritten}
 use Rattle.block.specs.declared.Decoded.{Decoded}
+use Rattle.block.specs.declared.Written.{Written}
+use Rattle.block.specs.declared.Written.the-variants as Write
 use Rattle.block.specs.declared.Decoded.the-variants.{Done, Refused}
 
 -- the block, the line and the index of a sample that a refusal names, 0 where it names none
@@ -54,3 +57,17 @@ pub record ToldTight (d : List ℕ) (b : ℕ) (lines : List ℕ) (rs : List Reco
   pub answer : Decoded
   pub left : LeftTight d b (tightBegins d b (length lines) (length rs)) lines rs lines' rs' answer
   pub told : words ≡ answerWords answer
+
+-- the writer's: the length, 0 where it is refused
+abbrev pub writtenWords : Written → List ℕ
+writtenWords (Write.Length n) = n ∷ []
+writtenWords (Write.Refused r) = 0 ∷ []
+
+abbrev pub writtenRefusal : Written → List ℕ
+writtenRefusal (Write.Length n) = noRefusal
+writtenRefusal (Write.Refused r) = refusalWords r
+
+pub record ToldWritten (d t out lines : List ℕ) (rs : List Record) (out' lines' : List ℕ) (rs' : List Record) (size words : List ℕ) : Type 0 where
+  pub answer : Written
+  pub left : LeftWritten t (writingBegins d (length t) (length lines) (length rs)) out lines rs out' lines' rs' answer
+  pub told : (size ≡ writtenWords answer) × (words ≡ writtenRefusal answer)

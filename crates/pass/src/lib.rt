@@ -135,21 +135,21 @@ pub fn plan_at(i: usize, xtrans: bool) -> Plan
 }
 
 // The place before that of position p of a colour line, where its left neighbour stands.
-fn left_of(w: usize, line: usize, p: usize) -> usize
+pub fn left_of(w: usize, line: usize, p: usize) -> usize
     requires { ⌜ (w ≤ 512) × ((p < w) × ((2 ≤ line) × (line ≤ 17))) ⌝ }
     ensures { λ r. ⌜ (r ≡ line * (w + 2) + p) × ((2 * (w + 2) ≤ r) × (r + 2 < 18 * (w + 2))) ⌝ }
 {
     line * (w + 2) + p
 }
 
-fn has_code(rule: u32, p: usize) -> bool
+pub fn has_code(rule: u32, p: usize) -> bool
     ensures { λ r. ⌜ r ≡ not (interpolated rule p) ⌝ }
 {
     (rule >> (p % 4)) % 2 != 1
 }
 
 // The context of the sample after place i, in lines that are s apart.
-fn even_context(lines: &[u16], s: usize, i: usize) -> Context
+pub fn even_context(lines: &[u16], s: usize, i: usize) -> Context
     requires { ⌜ (s ≤ 514) × ((2 * s ≤ i) × (i + 2 < length (now lines))) ⌝ }
     ensures { λ r. ⌜ (r ≡ evenAt (now (lines .entry)) s i) × Ranges r ⌝ }
 {
@@ -161,7 +161,7 @@ fn even_context(lines: &[u16], s: usize, i: usize) -> Context
     )
 }
 
-fn odd_context(lines: &[u16], s: usize, i: usize) -> Context
+pub fn odd_context(lines: &[u16], s: usize, i: usize) -> Context
     requires { ⌜ (s ≤ 514) × ((2 * s ≤ i) × (i + 2 < length (now lines))) ⌝ }
     ensures { λ r. ⌜ (r ≡ oddAt (now (lines .entry)) s i) × Ranges r ⌝ }
 {
@@ -198,7 +198,7 @@ fn place_of(choice: u32, size: u32) -> usize
 }
 
 // What a sample's coding goes by. A lossless line, with base 0, comes first: its thresholds are constants there.
-fn look_of(base: u32, x: Context) -> Look
+pub fn look_of(base: u32, x: Context) -> Look
     requires { ⌜ (base < 256) × Ranges x ⌝ }
     ensures { λ r. ⌜ (r ≡ lookOf base x) × ((r .choice ≤ 3) × ((r .base < 256) × (r .place < 56))) ⌝ }
 {

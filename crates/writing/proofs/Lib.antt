@@ -7,3 +7,8 @@ pub mod StepTwins
 pub mod ListTwins
 pub mod OrderLaws
 pub mod PassTwins
+pub mod PutLaws
+pub mod CodedLaws
+pub mod StepPuts
+pub mod TurnPuts
+pub mod PassLaws

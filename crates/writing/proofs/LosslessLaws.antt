@@ -28,6 +28,11 @@ raw-is bits h =
     (λ j a b. rw (total-is bits) (let p : 2 ^ suc j ≤ 2 ^ bits = pow-mono b in lt-leb (2 ^ bits) (2 ^ j) (omega (arith, pow-pos j))))
     (rw (total-is bits) (le-leb (2 ^ bits) (2 ^ bits) (omega arith)))
 
+-- the numbers of its codes
+pub code-numbers : (bits : ℕ) → 12 ≤ bits → bits ≤ 16 → let Q = usedQuantiser bits 0 0 in (1 ≤ Q .limit) × (Q .limit ≤ 47) × (Q .raw ≤ 16) × (largest bits ≤ 2 ^ Q .raw)
+unfolding quantiserOf
+code-numbers bits low high = rw (raw-is bits high) (omega arith, omega arith, high, omega arith)
+
 pub lossless : (bits : ℕ) → 1 ≤ bits → bits ≤ 16 → Lossless bits
 unfolding quantiserOf
 lossless bits low high =

@@ -1,1 +1,536 @@
-// The definitions of writing: see specs/.
+// Writing one pass over two colour lines, lossless: the samples are those of a set, and their tight codes are counted or stored.
+ghost use mathlib.Core.Path.{_≡_};
+ghost use mathlib.Core.Bool.{true, false, cond, not};
+ghost use mathlib.Core.List.{[], _∷_};
+ghost use mathlib.Core.Option.{none};
+ghost use Prim.Native.Nat.{_+_, _-_, _*_, _/_, _%_, _^_, _≤_, _<_};
+ghost use lib.Dec.{ltb, leb};
+ghost use lib.ListN.{length};
+ghost use Rattle.bits.specs.BitLists.{binary, bytesFor};
+ghost use Rattle.quantiser.specs.Quantisers.{largest};
+ghost use Rattle.prediction.specs.Predictions.{Ranges};
+ghost use Rattle.code.specs.Tight.{stepsUp, residualUp, codeOfResidual, codeFor, codeBits, codeLength};
+ghost use Rattle.pass.specs.Steps.{stepAt, interpolated, evenSteps, oddSteps};
+ghost use Rattle.pass.specs.Readings.{contextAt, usedQuantiser, zipRecords, recordsOf, SetInRange, PlanInRange, Depth};
+ghost use Rattle.writing.specs.Sets.{rankOf, indexIn, lineSize};
+ghost use Rattle.writing.specs.Writings.{writePass};
+ghost use Rattle.writing.specs.Puts.{codeNumber, putBits, putIf, Room, Within, bitsOfSample, setOfSample, StepsRoom, StepsPut, wrongAt, IsPassPut};
+use bits::BitPosition;
+use pass::Plan;
+use pass::Set;
+use prediction::Context;
+use statistics::Record;
+
+// The position after some samples, or the index in the set of an interpolated one that is not its prediction.
+pub enum Put {
+    At(BitPosition),
+    Wrong(usize),
+}
+
+// A pass: the position after it and its set; or the index of a wrong sample.
+pub struct PassPut {
+    pub ok: bool,
+    pub wrong: usize,
+    pub at: BitPosition,
+    pub set: Set,
+}
+
+fn wide(x: u16) -> u32
+    ensures { λ r. ⌜ (r ≡ x) × (r < 2 ^ 16) ⌝ }
+{
+    x as u32
+}
+
+fn byte(x: u8) -> u32
+    ensures { λ r. ⌜ (r ≡ x) × (r < 256) ⌝ }
+{
+    x as u32
+}
+
+fn power(k: u32) -> u64
+    requires { ⌜ k ≤ 16 ⌝ }
+    ensures { λ r. ⌜ (r ≡ 2 ^ k) × ((1 ≤ r) × (r ≤ 2 ^ 16)) ⌝ }
+{
+    1u64 << k
+}
+
+// The index of the wrong sample, 0 where there is none.
+fn wrong_at(x: Put) -> usize
+    ensures { λ r. ⌜ r ≡ wrongAt x ⌝ }
+{
+    match x {
+        Put::At(_) => 0,
+        Put::Wrong(j) => j,
+    }
+}
+
+// ---- codes
+
+// How far it is from u up to v, where 0 follows m.
+fn steps_up(m: u32, u: u32, v: u32) -> u32
+    requires { ⌜ (m < 2 ^ 16) × ((u ≤ m) × (v ≤ m)) ⌝ }
+    ensures { λ r. ⌜ (r ≡ stepsUp m u v) × (r ≤ m) ⌝ }
+{
+    if u <= v { v - u } else { v + m + 1 - u }
+}
+
+// The code of the residual that leads so far up.
+fn code_of_steps(m: u32, d: u32) -> u32
+    requires { ⌜ (m < 2 ^ 16) × (d ≤ m) ⌝ }
+    ensures { λ r. ⌜ (r ≡ codeOfResidual (residualUp m d)) × (r ≤ m) ⌝ }
+{
+    if 2 * d <= m {
+        2 * d
+    } else {
+        2 * (m + 1 - d) - 1
+    }
+}
+
+// The code below 2^bits of a wanted sample.
+fn code_for(m: u32, negative: bool, prediction: u32, v: u32) -> u32
+    requires { ⌜ (m < 2 ^ 16) × ((prediction ≤ m) × (v ≤ m)) ⌝ }
+    ensures { λ r. ⌜ (r ≡ codeFor m negative prediction v) × (r ≤ m) ⌝ }
+{
+    if negative {
+        return code_of_steps(m, steps_up(m, v, prediction));
+    }
+    code_of_steps(m, steps_up(m, prediction, v))
+}
+
+// How many bits its tight code has.
+fn code_length(k: u32, limit: u32, raw: u32, code: u32) -> u32
+    requires { ⌜ (k ≤ 15) × ((limit ≤ 47) × (raw ≤ 16)) ⌝ }
+    ensures { λ r. ⌜ (r ≡ codeLength k limit raw code) × (r ≤ 64) ⌝ }
+{
+    let zeros = code >> k;
+    if zeros < limit {
+        zeros + 1 + k
+    } else {
+        limit + 1 + raw
+    }
+}
+
+// These bits as one number, with zeros before it.
+fn code_number(k: u32, limit: u32, raw: u32, code: u32) -> u64
+    requires { ⌜ (k ≤ 15) × ((1 ≤ limit) × ((raw ≤ 16) × (code < 2 ^ 16))) ⌝ }
+    ensures { λ r. ⌜ (r ≡ codeNumber k limit raw code) × (r < 2 ^ 32) ⌝ }
+{
+    if code >> k < limit {
+        return power(k) + (code as u64) % power(k);
+    }
+    power(raw) + (code as u64) - 1
+}
+
+// ---- the output
+
+// The next t of the last `left` bits of a number.
+fn next_bits(value: u64, left: u32, t: u32) -> u32
+    requires { ⌜ (1 ≤ t) × ((t ≤ 8) × ((t ≤ left) × (left ≤ 64))) ⌝ }
+    ensures { λ r. ⌜ (r ≡ value / 2 ^ (left - t) % 2 ^ t) × (r < 2 ^ t) ⌝ }
+{
+    ((value >> (left - t)) % power(t)) as u32
+}
+
+// A byte of which the first `used` bits stay, t bits follow, and the rest is 0.
+fn filled(old: u8, used: u32, t: u32, part: u32) -> u8
+    requires { ⌜ (used < 8) × ((used + t ≤ 8) × (part < 2 ^ t)) ⌝ }
+    ensures { λ r. ⌜ r ≡ old / 2 ^ (8 - used) * 2 ^ (8 - used) + part * 2 ^ (8 - used - t) ⌝ }
+{
+    let kept = (byte(old) >> (8 - used)) << (8 - used);
+    (kept + (part << (8 - used - t))) as u8
+}
+
+// The last n bits of a number go to the output from bit `at` on, byte after byte. What follows them in their last byte is 0.
+fn put_bits(out: &mut [u8], at: BitPosition, n: u32, value: u64)
+    requires { ⌜ (n ≤ 64) × ((at .0 < 2 ^ 60) × (bytesFor (at .0 + n) ≤ length (now out))) ⌝ }
+    ensures { λ _. ⌜ now (out .exit) ≡ putBits (now (out .entry)) (at .0) (binary n value) ⌝ }
+{
+    let mut left = n;
+    let mut p = at.0;
+    while left > 0 {
+        let used = (p % 8) as u32;
+        let t = numbers::smaller(8 - used, left);
+        let i = (p / 8) as usize;
+        out[i] = filled(out[i], used, t, next_bits(value, left, t));
+        p += t as u64;
+        left -= t;
+    }
+}
+
+// The tight code, stored or only counted, and the position after it.
+fn put_code(
+    out: &mut [u8],
+    store: bool,
+    at: BitPosition,
+    k: u32,
+    limit: u32,
+    raw: u32,
+    code: u32,
+) -> BitPosition
+    requires { ⌜ (k ≤ 15) × ((1 ≤ limit) × ((limit ≤ 47) × ((raw ≤ 16) × ((code < 2 ^ 16) × (code ≤ 2 ^ raw))))) ⌝ }
+    requires { ⌜ (at .0 < 2 ^ 60) × Room store (now out) (at .0) (codeBits k limit raw code) ⌝ }
+    ensures { λ r. ⌜ (r .0 ≡ at .0 + length (codeBits k limit raw code)) × (now (out .exit) ≡ putIf store (now (out .entry)) (at .0) (codeBits k limit raw code)) ⌝ }
+{
+    let n = code_length(k, limit, raw, code);
+    let after = BitPosition(at.0 + n as u64);
+    if store {
+        put_bits(out, at, n, code_number(k, limit, raw, code));
+        return after;
+    }
+    after
+}
+
+// ---- one sample
+
+fn rank_of(line: usize) -> usize
+    requires { ⌜ (2 ≤ line) × (line ≤ 17) ⌝ }
+    ensures { λ r. ⌜ (r ≡ rankOf line) × (r ≤ 11) ⌝ }
+{
+    if line < 5 {
+        return line - 2;
+    }
+    if line < 13 {
+        return line - 4;
+    }
+    line - 6
+}
+
+// The index in the set of position p of a colour line, in line n.
+fn index_in(w: usize, n: usize, line: usize, p: usize) -> usize
+    requires { ⌜ (w ≤ 512) × ((p < w) × ((n < 2 ^ 16) × ((2 ≤ line) × (line ≤ 17)))) ⌝ }
+    ensures { λ r. ⌜ (r ≡ indexIn w n line p) × (r < (n + 1) * lineSize w) ⌝ }
+{
+    n * (12 * w) + rank_of(line) * w + p
+}
+
+fn context_at(lines: &[u16], s: usize, i: usize, p: usize) -> Context
+    requires { ⌜ (s ≤ 514) × ((2 * s ≤ i) × (i + 2 < length (now lines))) ⌝ }
+    ensures { λ r. ⌜ (r ≡ contextAt (now (lines .entry)) s i p) × Ranges r ⌝ }
+{
+    if p % 2 == 0 {
+        return pass::even_context(lines, s, i);
+    }
+    pass::odd_context(lines, s, i)
+}
+
+// The bits of a sample v with a code, at position p in the context x. Its record is updated.
+fn write_coded(
+    out: &mut [u8],
+    store: bool,
+    from: BitPosition,
+    sums: &mut [u32; 112],
+    ns: &mut [u32; 112],
+    p: usize,
+    x: Context,
+    v: u32,
+    bits: u32,
+    limit: u32,
+    raw: u32,
+) -> BitPosition
+    requires { ⌜ Depth bits × ((limit ≡ (usedQuantiser bits 0 0) .limit) × (raw ≡ (usedQuantiser bits 0 0) .raw)) ⌝ }
+    requires { ⌜ Ranges x × ((x .prediction ≤ largest bits) × (v ≤ largest bits)) ⌝ }
+    requires { ⌜ SetInRange (zipRecords (now sums) (now ns)) ⌝ }
+    requires { ⌜ (from .0 < 2 ^ 60) × Room store (now out) (from .0) (bitsOfSample bits p v x (zipRecords (now sums) (now ns))) ⌝ }
+    ensures { λ r. ⌜ (r .0 ≡ from .0 + length (bitsOfSample bits p v x (zipRecords (now (sums .entry)) (now (ns .entry))))) × (now (out .exit) ≡ putIf store (now (out .entry)) (from .0) (bitsOfSample bits p v x (zipRecords (now (sums .entry)) (now (ns .entry))))) × (zipRecords (now (sums .exit)) (now (ns .exit)) ≡ setOfSample bits p v x (zipRecords (now (sums .entry)) (now (ns .entry)))) × SetInRange (zipRecords (now (sums .exit)) (now (ns .exit))) ⌝ }
+{
+    let h = pass::look_of(0, x);
+    let slot = h.place + 56 * (p % 2);
+    let old = Record {
+        sum: sums[slot],
+        n: ns[slot],
+    };
+    let code = code_for(quantiser::largest(bits), h.negative, x.prediction, v);
+    let after = put_code(out, store, from, old.k(), limit, raw, code);
+    let new = old.update(code::residual_size(code));
+    sums[slot] = new.sum;
+    ns[slot] = new.n;
+    after
+}
+
+// The sample at position p of a colour line, in line n: with its code, or interpolated.
+fn write_step(
+    samples: &[u16],
+    n: usize,
+    out: &mut [u8],
+    store: bool,
+    from: BitPosition,
+    lines: &mut [u16],
+    sums: &mut [u32; 112],
+    ns: &mut [u32; 112],
+    w: usize,
+    line: usize,
+    p: usize,
+    coded: bool,
+    bits: u32,
+    limit: u32,
+    raw: u32,
+) -> Put
+    requires { ⌜ (w ≤ 512) × ((p < w) × ((2 ≤ line) × (line ≤ 17))) ⌝ }
+    requires { ⌜ Depth bits × ((limit ≡ (usedQuantiser bits 0 0) .limit) × (raw ≡ (usedQuantiser bits 0 0) .raw)) ⌝ }
+    requires { ⌜ (n < 2 ^ 16) × (((n + 1) * lineSize w ≤ length (now samples)) × Within (largest bits) (now samples)) ⌝ }
+    requires { ⌜ (18 * (w + 2) ≤ length (now lines)) × (Within (largest bits) (now lines) × SetInRange (zipRecords (now sums) (now ns))) ⌝ }
+    requires { ⌜ (from .0 < 2 ^ 60) × StepsRoom bits w (now samples) n (stepAt line p coded ∷ []) store (from .0) (now lines) (now sums) (now ns) (now out) ⌝ }
+    ensures { λ r. ⌜ StepsPut bits w (now (samples .entry)) n (stepAt line p coded ∷ []) store (from .0) (now (lines .entry)) (now (sums .entry)) (now (ns .entry)) (now (out .entry)) (now (lines .exit)) (now (sums .exit)) (now (ns .exit)) (now (out .exit)) r × SetInRange (zipRecords (now (sums .exit)) (now (ns .exit))) ⌝ }
+{
+    let i = pass::left_of(w, line, p);
+    let j = index_in(w, n, line, p);
+    let x = context_at(lines, w + 2, i, p);
+    let v = samples[j];
+    if coded {
+        let after = write_coded(out, store, from, sums, ns, p, x, wide(v), bits, limit, raw);
+        lines[i + 1] = v;
+        return Put::At(after);
+    }
+    if wide(v) != x.prediction {
+        return Put::Wrong(j);
+    }
+    lines[i + 1] = v;
+    Put::At(from)
+}
+
+// The two samples at position p, in the pass's first line and then in its second.
+fn write_pair(
+    samples: &[u16],
+    n: usize,
+    out: &mut [u8],
+    store: bool,
+    from: BitPosition,
+    lines: &mut [u16],
+    sums: &mut [u32; 112],
+    ns: &mut [u32; 112],
+    w: usize,
+    plan: Plan,
+    p: usize,
+    first_coded: bool,
+    second_coded: bool,
+    bits: u32,
+    limit: u32,
+    raw: u32,
+) -> Put
+    requires { ⌜ (w ≤ 512) × ((p < w) × PlanInRange plan) ⌝ }
+    requires { ⌜ Depth bits × ((limit ≡ (usedQuantiser bits 0 0) .limit) × (raw ≡ (usedQuantiser bits 0 0) .raw)) ⌝ }
+    requires { ⌜ (n < 2 ^ 16) × (((n + 1) * lineSize w ≤ length (now samples)) × Within (largest bits) (now samples)) ⌝ }
+    requires { ⌜ (18 * (w + 2) ≤ length (now lines)) × (Within (largest bits) (now lines) × SetInRange (zipRecords (now sums) (now ns))) ⌝ }
+    requires { ⌜ (from .0 + 80 < 2 ^ 60) × StepsRoom bits w (now samples) n (stepAt (plan .first) p «first_coded» ∷ stepAt (plan .second) p «second_coded» ∷ []) store (from .0) (now lines) (now sums) (now ns) (now out) ⌝ }
+    ensures { λ r. ⌜ StepsPut bits w (now (samples .entry)) n (stepAt (plan .first) p «first_coded» ∷ stepAt (plan .second) p «second_coded» ∷ []) store (from .0) (now (lines .entry)) (now (sums .entry)) (now (ns .entry)) (now (out .entry)) (now (lines .exit)) (now (sums .exit)) (now (ns .exit)) (now (out .exit)) r × SetInRange (zipRecords (now (sums .exit)) (now (ns .exit))) ⌝ }
+{
+    let got = write_step(
+        samples,
+        n,
+        out,
+        store,
+        from,
+        lines,
+        sums,
+        ns,
+        w,
+        plan.first,
+        p,
+        first_coded,
+        bits,
+        limit,
+        raw,
+    );
+    let Put::At(at) = got else {
+        return got;
+    };
+    write_step(
+        samples,
+        n,
+        out,
+        store,
+        at,
+        lines,
+        sums,
+        ns,
+        w,
+        plan.second,
+        p,
+        second_coded,
+        bits,
+        limit,
+        raw,
+    )
+}
+
+// The two samples at the even position p, where it is one of the line.
+fn write_even(
+    samples: &[u16],
+    n: usize,
+    out: &mut [u8],
+    store: bool,
+    from: BitPosition,
+    lines: &mut [u16],
+    sums: &mut [u32; 112],
+    ns: &mut [u32; 112],
+    w: usize,
+    plan: Plan,
+    p: usize,
+    bits: u32,
+    limit: u32,
+    raw: u32,
+) -> Put
+    requires { ⌜ (w ≤ 512) × PlanInRange plan ⌝ }
+    requires { ⌜ Depth bits × ((limit ≡ (usedQuantiser bits 0 0) .limit) × (raw ≡ (usedQuantiser bits 0 0) .raw)) ⌝ }
+    requires { ⌜ (n < 2 ^ 16) × (((n + 1) * lineSize w ≤ length (now samples)) × Within (largest bits) (now samples)) ⌝ }
+    requires { ⌜ (18 * (w + 2) ≤ length (now lines)) × (Within (largest bits) (now lines) × SetInRange (zipRecords (now sums) (now ns))) ⌝ }
+    requires { ⌜ (from .0 + 80 < 2 ^ 60) × StepsRoom bits w (now samples) n (cond (ltb p w) (evenSteps plan p) []) store (from .0) (now lines) (now sums) (now ns) (now out) ⌝ }
+    ensures { λ r. ⌜ StepsPut bits w (now (samples .entry)) n (cond (ltb p w) (evenSteps plan p) []) store (from .0) (now (lines .entry)) (now (sums .entry)) (now (ns .entry)) (now (out .entry)) (now (lines .exit)) (now (sums .exit)) (now (ns .exit)) (now (out .exit)) r × SetInRange (zipRecords (now (sums .exit)) (now (ns .exit))) ⌝ }
+{
+    if p >= w {
+        return Put::At(from);
+    }
+    let a = pass::has_code(plan.first_rule, p);
+    let b = pass::has_code(plan.second_rule, p);
+    write_pair(
+        samples,
+        n,
+        out,
+        store,
+        from,
+        lines,
+        sums,
+        ns,
+        w,
+        plan,
+        p,
+        a,
+        b,
+        bits,
+        limit,
+        raw,
+    )
+}
+
+// The two samples at the odd position p - 7, once positions 0 to 8 are done.
+fn write_odd(
+    samples: &[u16],
+    n: usize,
+    out: &mut [u8],
+    store: bool,
+    from: BitPosition,
+    lines: &mut [u16],
+    sums: &mut [u32; 112],
+    ns: &mut [u32; 112],
+    w: usize,
+    plan: Plan,
+    p: usize,
+    bits: u32,
+    limit: u32,
+    raw: u32,
+) -> Put
+    requires { ⌜ (w ≤ 512) × ((p < w + 7) × PlanInRange plan) ⌝ }
+    requires { ⌜ Depth bits × ((limit ≡ (usedQuantiser bits 0 0) .limit) × (raw ≡ (usedQuantiser bits 0 0) .raw)) ⌝ }
+    requires { ⌜ (n < 2 ^ 16) × (((n + 1) * lineSize w ≤ length (now samples)) × Within (largest bits) (now samples)) ⌝ }
+    requires { ⌜ (18 * (w + 2) ≤ length (now lines)) × (Within (largest bits) (now lines) × SetInRange (zipRecords (now sums) (now ns))) ⌝ }
+    requires { ⌜ (from .0 + 80 < 2 ^ 60) × StepsRoom bits w (now samples) n (cond (leb 8 p) (oddSteps plan (p - 7)) []) store (from .0) (now lines) (now sums) (now ns) (now out) ⌝ }
+    ensures { λ r. ⌜ StepsPut bits w (now (samples .entry)) n (cond (leb 8 p) (oddSteps plan (p - 7)) []) store (from .0) (now (lines .entry)) (now (sums .entry)) (now (ns .entry)) (now (out .entry)) (now (lines .exit)) (now (sums .exit)) (now (ns .exit)) (now (out .exit)) r × SetInRange (zipRecords (now (sums .exit)) (now (ns .exit))) ⌝ }
+{
+    if p < 8 {
+        return Put::At(from);
+    }
+    write_pair(
+        samples,
+        n,
+        out,
+        store,
+        from,
+        lines,
+        sums,
+        ns,
+        w,
+        plan,
+        p - 7,
+        true,
+        true,
+        bits,
+        limit,
+        raw,
+    )
+}
+
+// A pass, with the turns of reading: the even position p, and then the odd one at p - 7.
+pub fn write_pass(
+    samples: &[u16],
+    n: usize,
+    out: &mut [u8],
+    store: bool,
+    from: BitPosition,
+    lines: &mut [u16],
+    set: Set,
+    w: usize,
+    plan: Plan,
+    bits: u32,
+    limit: u32,
+    raw: u32,
+) -> PassPut
+    requires { ⌜ ((8 ≤ w) × ((w ≤ 512) × (w % 2 ≡ 0))) × PlanInRange plan ⌝ }
+    requires { ⌜ Depth bits × ((limit ≡ (usedQuantiser bits 0 0) .limit) × (raw ≡ (usedQuantiser bits 0 0) .raw)) ⌝ }
+    requires { ⌜ (n < 2 ^ 16) × (((n + 1) * lineSize w ≤ length (now samples)) × Within (largest bits) (now samples)) ⌝ }
+    requires { ⌜ (18 * (w + 2) ≤ length (now lines)) × (Within (largest bits) (now lines) × SetInRange (recordsOf set)) ⌝ }
+    requires { ⌜ (from .0 < 2 ^ 59) × Room store (now out) (from .0) ((writePass bits w (now samples) n plan (record { lines = now lines; set = recordsOf set; bits = []; wrong = none })) .bits) ⌝ }
+    ensures { λ r. ⌜ IsPassPut ((writePass bits w (now (samples .entry)) n plan (record { lines = now (lines .entry); set = recordsOf set; bits = []; wrong = none })) .wrong) (writePass bits w (now (samples .entry)) n plan (record { lines = now (lines .entry); set = recordsOf set; bits = []; wrong = none })) (from .0) store (now (out .entry)) (now (lines .exit)) (now (out .exit)) r × SetInRange (recordsOf (r .set)) ⌝ }
+{
+    let mut sums = set.sums;
+    let mut ns = set.ns;
+    let mut at = from;
+    let mut p = 0;
+    while p < w + 8 {
+        let evens = write_even(
+            samples,
+            n,
+            out,
+            store,
+            at,
+            lines,
+            &mut sums,
+            &mut ns,
+            w,
+            plan,
+            p,
+            bits,
+            limit,
+            raw,
+        );
+        let Put::At(between) = evens else {
+            return PassPut {
+                ok: false,
+                wrong: wrong_at(evens),
+                at,
+                set: Set { sums, ns },
+            };
+        };
+        let odds = write_odd(
+            samples,
+            n,
+            out,
+            store,
+            between,
+            lines,
+            &mut sums,
+            &mut ns,
+            w,
+            plan,
+            p,
+            bits,
+            limit,
+            raw,
+        );
+        let Put::At(after) = odds else {
+            return PassPut {
+                ok: false,
+                wrong: wrong_at(odds),
+                at,
+                set: Set { sums, ns },
+            };
+        };
+        at = after;
+        p += 2;
+    }
+    PassPut {
+        ok: true,
+        wrong: 0,
+        at,
+        set: Set { sums, ns },
+    }
+}

@@ -1,0 +1,83 @@
+-- Written by tools/lend.py from Rattle's derivation of the twin of `block`; not edited by hand. Assumes nothing.
+use Rattle.block.proofs.Element
+use Rattle.bits.proofs.BitPosition
+use Rattle.bits.proofs.BitPosition.Laws
+use Rattle.block.proofs.Form
+use Rattle.block.proofs.Form.Laws as Laws'
+use Rattle.block.proofs.LinePut
+use Rattle.block.proofs.LinePut.Laws as Laws''
+use borrow.Fn.Kinds
+use borrow.Kind.MutSlice
+use borrow.Kind.ShrSlice
+use borrow.Kind.Value
+use borrow.Rule.Local
+use borrow.Table.Referent
+use borrow.Table.Rows
+use denote.Array
+use denote.Exit
+use denote.Struct.Declared
+use denote.Struct.Laws as Laws'3
+use mathlib.Core.List
+use mathlib.Core.Path as Path'
+use mir.Syntax
+
+abbrev pub ps : List.List (Kinds.PK 4)
+ps = List._∷_ (ShrSlice.pShrS (Referent.rtF (Referent.fInt Syntax.w16)) 0 tt) (List._∷_ (Kinds.pNum Syntax.w64) (List._∷_ (MutSlice.pMutS (Referent.rtF (Referent.fInt Syntax.w8)) 1 tt) (List._∷_
+    Kinds.pBool (List._∷_ (Value.pVal record {
+      ty = Declared.row BitPosition.the-type;
+      one = Path'.refl;
+      val = Laws'3.val BitPosition.the-type Laws.the-laws;
+      tells = Laws'3.tells BitPosition.the-type
+          Laws.the-laws;
+      still = Laws'3.still BitPosition.the-type Laws.the-copy Exit.yes;
+      row = Rows.whole (Declared.row BitPosition.the-type);
+      rd = λ x. x;
+      mk = λ x. x;
+    } λ M 𝓤 H A W. record {
+      copies =
+          Laws'3.copy BitPosition.the-type Laws.the-copy 𝓤 H A W;
+      lawful = Laws'3.lawful BitPosition.the-type Laws.the-laws 𝓤 H A W;
+      makes = Laws'3.makes BitPosition.the-type Laws.the-plain 𝓤 H A;
+      in-mem =
+          Local.mem-whole 𝓤 H A W (Declared.row BitPosition.the-type);
+      of-mem = Local.whole-mem 𝓤 H A W (Declared.row BitPosition.the-type);
+    }) (List._∷_ (MutSlice.pMutS (Referent.rtF (Referent.fInt
+    Syntax.w16)) 2 tt) (List._∷_ (MutSlice.pMutS (Element.type) 3 tt) (List._∷_ (Value.pVal record {
+      ty = Declared.row Form.the-type;
+      one = Path'.refl;
+      val = Laws'3.val Form.the-type Laws'.the-laws;
+      tells
+          = Laws'3.tells Form.the-type Laws'.the-laws;
+      still = Laws'3.still Form.the-type Laws'.the-copy Exit.yes;
+      row = Rows.whole (Declared.row Form.the-type);
+      rd = λ x. x;
+      mk = λ x. x;
+    } λ M 𝓤 H A W. record {
+      copies = Laws'3.copy Form.the-type Laws'.the-copy 𝓤 H A W;
+      lawful = Laws'3.lawful Form.the-type Laws'.the-laws 𝓤 H A W;
+      makes = Laws'3.makes Form.the-type Laws'.the-plain 𝓤 H A;
+      in-mem =
+          Local.mem-whole 𝓤 H A W (Declared.row Form.the-type);
+      of-mem = Local.whole-mem 𝓤 H A W (Declared.row Form.the-type);
+    }) List.[])))))))
+
+abbrev pub r : Kinds.RK 4
+r = Value.rVal record {
+  ty = Declared.row LinePut.the-type;
+  one = Path'.refl;
+  val = Laws'3.val LinePut.the-type Laws''.the-laws;
+  tells = Laws'3.tells LinePut.the-type Laws''.the-laws;
+  still =
+      Laws'3.still LinePut.the-type Laws''.the-copy Exit.yes;
+  row = Rows.whole (Declared.row LinePut.the-type);
+  rd = λ x. x;
+  mk = λ x. x;
+} λ M 𝓤 H A W. record {
+  copies = Laws'3.copy LinePut.the-type
+      Laws''.the-copy 𝓤 H A W;
+  lawful = Laws'3.lawful LinePut.the-type Laws''.the-laws 𝓤 H A W;
+  makes = Laws'3.makes LinePut.the-type Laws''.the-plain 𝓤 H A;
+  in-mem = Local.mem-whole 𝓤 H A W (Declared.row
+      LinePut.the-type);
+  of-mem = Local.whole-mem 𝓤 H A W (Declared.row LinePut.the-type);
+}

@@ -1,0 +1,111 @@
+-- What a call of the writer answers and leaves. Assumes nothing.
+use mathlib.Core.Bool.{Bool, true, false, cond}
+use mathlib.Core.List.{List, [], _∷_, _++_}
+use mathlib.Core.Option.{Option, none, some}
+use mathlib.Core.Path.{_≡_}
+use Prim.Native.Nat.{ℕ, suc, _+_, _*_}
+use lib.Dec.{leb, ltb, eqb}
+use lib.ListN.{length, drop}
+use Rattle.statistics.specs.declared.Record.{Record}
+use Rattle.quantiser.specs.Quantisers.{largest}
+use Rattle.lines.specs.ColourLines.{zeroLines}
+use Rattle.map.specs.Places.{widthOf}
+use Rattle.stream.specs.Headers.{parseOf}
+use Rattle.stream.specs.declared.FujiHeader.{FujiHeader}
+use Rattle.stream.specs.declared.Parsed.{Parsed}
+use Rattle.stream.specs.declared.Parsed.the-variants as Parsing
+use Rattle.stream.specs.declared.Refusal.the-variants.{Lossy, WrongCount, AboveLargest, NotPredicted, ShortOutput}
+use Rattle.writing.specs.Sets.{setSize}
+use Rattle.writing.specs.Puts.{putIf}
+use Rattle.block.specs.Records.{clearRecords}
+use Rattle.block.specs.Images.{formOf, Beginning, refused, nothing, reading, withScratch}
+use Rattle.block.specs.WrittenBlocks.{WriteState, repeats, writePassAt, writeLines, tightBlock}
+use Rattle.block.specs.declared.Form.{Form}
+use Rattle.block.specs.declared.LinePut.{LinePut}
+use Rattle.block.specs.declared.Written.{Written}
+use Rattle.block.specs.declared.Written.the-variants.{Length, Refused}
+
+-- ---- what the functions below the entry hand back
+
+-- the first i passes of line n, from these lines and records on and with no bits yet
+unfoldable pub passesFrom : Form → List ℕ → ℕ → ℕ → List ℕ → List Record → WriteState
+passesFrom F t n i lines rs = repeats (writePassAt F t n) i (record { lines = lines; records = rs; bits = []; wrong = none })
+
+-- lines that were written up to the state z, from no bits on: the position after their bits, or the first interpolated sample that is not its
+-- prediction; then lines and records are left free, and so is the output where it is stored
+abbrev pub IsLinePut : Option ℕ → WriteState → ℕ → Bool → (out lines' : List ℕ) → List Record → (out' : List ℕ) → LinePut → Type 0
+IsLinePut none z from store out lines' rs' out' r =
+    (r .ok ≡ true) × (lines' ≡ z .lines) × (rs' ≡ z .records) × (r .at ≡ record { 0 = from + length (z .bits) }) × (out' ≡ putIf store out from (z .bits))
+IsLinePut (some j) z from store out lines' rs' out' r = (r .ok ≡ false) × (r .wrong ≡ j) × (store ≡ false → out' ≡ out)
+
+pub record LineWritten (z : WriteState) (from : ℕ) (store : Bool) (out lines' : List ℕ) (rs' : List Record) (out' : List ℕ) (r : LinePut) : Type 0 where
+  pub are : IsLinePut (z .wrong) z from store out lines' rs' out' r
+
+-- the same of all lines, whose scratch counts no more
+abbrev pub IsSetPut : Option ℕ → WriteState → Bool → (out out' : List ℕ) → LinePut → Type 0
+IsSetPut none z store out out' r = (r .ok ≡ true) × (r .at ≡ record { 0 = length (z .bits) }) × (out' ≡ putIf store out 0 (z .bits))
+IsSetPut (some j) z store out out' r = (r .ok ≡ false) × (r .wrong ≡ j) × (store ≡ false → out' ≡ out)
+
+pub record SetWritten (z : WriteState) (store : Bool) (out out' : List ℕ) (r : LinePut) : Type 0 where
+  pub are : IsSetPut (z .wrong) z store out out' r
+
+-- ---- the answer
+
+-- the lowest index, from i on, of a sample above M
+unfoldable pub firstAbove : ℕ → ℕ → List ℕ → Option ℕ
+firstAbove M i [] = none
+firstAbove M i (v ∷ t) = cond (leb v M) (firstAbove M (suc i) t) (some i)
+
+-- refusal 13, or the length of the tight block
+abbrev pub lengthAnswer : ℕ → ℕ → Written
+lengthAnswer n room = cond (ltb room n) (Refused ShortOutput) (Length n)
+
+-- refusal 12 before it
+abbrev pub predictedAnswer : Option ℕ → ℕ → ℕ → Written
+predictedAnswer none n room = lengthAnswer n room
+predictedAnswer (some j) n room = Refused (NotPredicted j)
+
+-- refusal 11 before that
+abbrev pub rangeAnswer : Option ℕ → Written → Written
+rangeAnswer none a = a
+rangeAnswer (some i) a = Refused (AboveLargest i)
+
+-- the answer for a set t whose samples are all in range, with so many bytes of output
+unfoldable pub measuredAnswer : Form → ℕ → List ℕ → ℕ → Written
+measuredAnswer F lines t room = predictedAnswer ((writeLines F t lines) .wrong) (length (tightBlock F lines t)) room
+
+-- the answer for any set t of the right size
+unfoldable pub writtenAnswer : Form → ℕ → List ℕ → ℕ → Written
+writtenAnswer F lines t room = rangeAnswer (firstAbove (largest (F .bits)) 0 t) (measuredAnswer F lines t room)
+
+-- the output afterwards: the tight block and what follows it, or what it was
+abbrev pub writtenOut : Written → List ℕ → List ℕ → List ℕ
+writtenOut (Length n) block out = block ++ drop n out
+writtenOut (Refused x) block out = out
+
+-- ---- a call
+
+-- how it begins: refusals 1 and 2, then 8, 9 and 10
+abbrev pub withSet : FujiHeader → ℕ → ℕ → ℕ → Beginning
+withSet h count samples records =
+    cond (h .lossless)
+    (cond (eqb count (setSize (widthOf (h .xtrans)) (h .lines))) (withScratch h samples records) (refused WrongCount))
+    (refused Lossy)
+
+abbrev pub withParsed : Parsed → ℕ → ℕ → ℕ → Beginning
+withParsed (Parsing.Refused x) count samples records = refused x
+withParsed (Parsing.Header h) count samples records = withSet h count samples records
+
+unfoldable pub writingBegins : List ℕ → ℕ → ℕ → ℕ → Beginning
+writingBegins d count samples records = withParsed (parseOf d) count samples records
+
+-- what it leaves: its answer, the output, and scratch, of which the used part is cleared once the set was looked at
+abbrev pub LeftWritten : List ℕ → Beginning → (out lines : List ℕ) → List Record → (out' lines' : List ℕ) → List Record → Written → Type 0
+LeftWritten t (refused x) out lines rs out' lines' rs' answer =
+    (answer ≡ Refused x) × (out' ≡ out) × (lines' ≡ lines) × (rs' ≡ rs)
+LeftWritten t nothing out lines rs out' lines' rs' answer = (out' ≡ out) × (lines' ≡ lines) × (rs' ≡ rs)
+LeftWritten t (reading h) out lines rs out' lines' rs' answer =
+    let W = widthOf (h .xtrans) in
+    (answer ≡ writtenAnswer (formOf h) (h .lines) t (length out))
+    × (out' ≡ writtenOut (writtenAnswer (formOf h) (h .lines) t (length out)) (tightBlock (formOf h) (h .lines) t) out)
+    × (lines' ≡ zeroLines W ++ drop (18 * (W + 2)) lines) × (rs' ≡ clearRecords ++ drop 336 rs)

@@ -1,0 +1,90 @@
+-- What the functions of writing do to the output, and what they hand back. Assumes nothing.
+use mathlib.Core.Bool.{Bool, true, false, cond}
+use mathlib.Core.List.{List, [], _∷_, _++_}
+use mathlib.Core.Option.{Option, none, some}
+use mathlib.Core.Path.{_≡_}
+use Prim.Native.Nat.{ℕ, _+_, _-_, _/_, _%_, _^_, _≤_}
+use lib.Dec.{ltb}
+use lib.ListN.{length, getD, set, take, drop}
+use Rattle.bits.specs.BitLists.{bitsOf, packed, bytesFor}
+use Rattle.statistics.specs.Statistics.{kOf, updated}
+use Rattle.statistics.specs.declared.Record.{Record}
+use Rattle.prediction.specs.declared.Context.{Context}
+use Rattle.code.specs.Samples.{residualOf}
+use Rattle.code.specs.Tight.{codeBits}
+use Rattle.pass.specs.Steps.{Step}
+use Rattle.pass.specs.Readings.{usedQuantiser, lookOf, slotOf, noRecord, zipRecords, recordsOf}
+use Rattle.writing.specs.Writings.{Writing, wantedCode, writes}
+use Rattle.writing.specs.declared.Put.{Put}
+use Rattle.writing.specs.declared.Put.the-variants.{At, Wrong}
+use Rattle.writing.specs.declared.PassPut.{PassPut}
+
+-- the bits of a tight code as one number, zeros before it
+unfoldable pub codeNumber : ℕ → ℕ → ℕ → ℕ → ℕ
+codeNumber k limit raw code = cond (ltb (code / 2 ^ k) limit) (2 ^ k + code % 2 ^ k) (2 ^ raw + (code - 1))
+
+-- the output after these bits were put into it from bit `at` on: what stood before them stays, the rest of their last byte is 0, and so are the bytes after it
+-- what they were
+unfoldable pub putBits : List ℕ → ℕ → List Bool → List ℕ
+putBits out at [] = out
+putBits out at (b ∷ l) =
+    let n = bytesFor (at + length (b ∷ l)) in
+    packed n (take at (bitsOf out) ++ b ∷ l) ++ drop n out
+
+-- only where they are to be stored; else they are counted alone
+abbrev pub putIf : Bool → List ℕ → ℕ → List Bool → List ℕ
+putIf store out at l = cond store (putBits out at l) out
+
+-- there is room for them
+abbrev pub Room : Bool → List ℕ → ℕ → List Bool → Type 0
+Room store out at l = store ≡ true → bytesFor (at + length l) ≤ length out
+
+-- every sample is up to M
+abbrev pub Within : ℕ → List ℕ → Type 0
+Within M l = (j : ℕ) → getD l j 0 ≤ M
+
+-- ---- one sample
+
+-- the bits of a sample v with a code, at position p in the context x, and the records of its set after it
+unfoldable pub bitsOfSample : ℕ → ℕ → ℕ → Context → List Record → List Bool
+bitsOfSample bits p v x t =
+    let h = lookOf 0 x in
+    let Q = usedQuantiser bits 0 (h .choice) in
+    codeBits (kOf (getD t (slotOf p (h .place)) noRecord)) (Q .limit) (Q .raw) (wantedCode bits v x h)
+
+unfoldable pub setOfSample : ℕ → ℕ → ℕ → Context → List Record → List Record
+setOfSample bits p v x t =
+    let h = lookOf 0 x in
+    let slot = slotOf p (h .place) in
+    set t slot (updated (getD t slot noRecord) ((residualOf (wantedCode bits v x h)) .size))
+
+-- ---- steps
+
+-- what a program holds, where no bit is written yet
+abbrev pub startOf : List ℕ → List ℕ → List ℕ → Writing
+startOf lines sums ns = record { lines = lines; set = zipRecords sums ns; bits = []; wrong = none }
+
+-- there is room for the bits of some steps
+abbrev pub StepsRoom : ℕ → ℕ → List ℕ → ℕ → List Step → Bool → ℕ → (lines sums ns out : List ℕ) → Type 0
+StepsRoom bits W t n l store from lines sums ns out = Room store out from ((writes bits W t n l (startOf lines sums ns)) .bits)
+
+-- what some steps hand back, whose writing from no bits on is z: the position after their bits, or the first interpolated sample that is not its
+-- prediction; then the lines and the set are left free, and so is the output where it is stored
+abbrev pub IsPut : Option ℕ → Writing → ℕ → Bool → (out lines' sums' ns' out' : List ℕ) → Put → Type 0
+IsPut none z from store out lines' sums' ns' out' r =
+    (r ≡ At (record { 0 = from + length (z .bits) })) × (lines' ≡ z .lines) × (zipRecords sums' ns' ≡ z .set) × (out' ≡ putIf store out from (z .bits))
+IsPut (some j) z from store out lines' sums' ns' out' r = (r ≡ Wrong j) × (store ≡ false → out' ≡ out)
+
+pub record StepsPut (bits W : ℕ) (t : List ℕ) (n : ℕ) (l : List Step) (store : Bool) (from : ℕ) (lines sums ns out lines' sums' ns' out' : List ℕ) (r : Put) : Type 0 where
+  pub are : let z = writes bits W t n l (startOf lines sums ns) in IsPut (z .wrong) z from store out lines' sums' ns' out' r
+
+-- the index of the wrong sample, 0 where there is none
+abbrev pub wrongAt : Put → ℕ
+wrongAt (At p) = 0
+wrongAt (Wrong j) = j
+
+-- and what a pass hands back
+abbrev pub IsPassPut : Option ℕ → Writing → ℕ → Bool → (out lines' out' : List ℕ) → PassPut → Type 0
+IsPassPut none z from store out lines' out' r =
+    (r .ok ≡ true) × (lines' ≡ z .lines) × (recordsOf (r .set) ≡ z .set) × (r .at ≡ record { 0 = from + length (z .bits) }) × (out' ≡ putIf store out from (z .bits))
+IsPassPut (some j) z from store out lines' out' r = (r .ok ≡ false) × (r .wrong ≡ j) × (store ≡ false → out' ≡ out)
