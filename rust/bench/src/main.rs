@@ -2,7 +2,7 @@
 //! what is timed.
 use common::random::Random;
 use common::stream::{Header, encoded};
-use fuji_compressed::{ColorTile, FujiCompressed, Scratch};
+use fuji_compressed::{ColorTile, FujiCompressed, Scratch, write_block_with};
 use original::fuji_compressed as theirs;
 use std::hint::black_box;
 
@@ -81,6 +81,43 @@ impl Picture {
         let start = seconds();
         FujiCompressed::new(black_box(&self.stream)).unwrap().read_tight_with(scratch, 0).unwrap();
         seconds() - start
+    }
+
+    /// The writing of the only block from its set.
+    fn time_write(&self, set: &[u16], out: &mut [u8], scratch: &mut Scratch) -> f64 {
+        let start = seconds();
+        let length = write_block_with(scratch, black_box(&self.stream[..16]), black_box(set), out).unwrap();
+        let time = seconds() - start;
+        assert_eq!(out[..length], self.stream[self.stream.len() - length..]);
+        time
+    }
+
+    /// The set that is read from the only block, through tiles of one colour.
+    fn set(&self, xtrans: bool) -> Vec<u16> {
+        let (width, lines) = (if xtrans { 512 } else { 384 }, self.height as usize / 6);
+        let mut set = vec![0; 12 * width * lines];
+        let stream = FujiCompressed::new(&self.stream).unwrap();
+        for (colour, step, first) in [(0, 2, 0), (1, 1, 3), (2, 2, 9)] {
+            let mut image = self.image();
+            stream.decode(&mut image, self.width, self.height, &[[colour; 6]; 6]).unwrap();
+            for (row, samples) in image.chunks(768).enumerate().filter(|(row, _)| row % step == 0) {
+                let to = (12 * (row / 6) + first + row % 6 / step) * width;
+                for p in 0..width {
+                    set[to + p] = samples[if xtrans { p / 2 * 3 + p % 2 } else { 2 * p }];
+                }
+            }
+        }
+        set
+    }
+
+    /// Rounds of reading, writing, reading; all ours.
+    fn write_against_read(&self, xtrans: bool) -> Rounds {
+        let (set, mut image, mut scratch) = (self.set(xtrans), self.image(), Scratch::new());
+        let mut out = vec![0; self.stream.len()];
+        rounds(|| {
+            let before = self.time_ours(&mut image, &mut scratch);
+            [before, self.time_write(&set, &mut out, &mut scratch), self.time_ours(&mut image, &mut scratch)]
+        })
     }
 
     /// Rounds of Rust, ours, Rust.
@@ -179,6 +216,9 @@ fn main() {
             let tight = if xtrans { "tight-xtrans" } else { "tight-bayer" };
             let title = format!("{tight}, one block of 480 lines");
             say(tight, measure(&title, ["decode", "read_tight"], &one, one.tight_against_ordinary()));
+            let write = if xtrans { "write-xtrans" } else { "write-bayer" };
+            let title = format!("{write}, one block of 480 lines");
+            say(write, measure(&title, ["decode", "write_block"], &one, one.write_against_read(xtrans)));
         }
     }
 }

@@ -47,4 +47,18 @@ unsafe extern "C" {
         records_length: usize,
         refusal: *mut [usize; 4],
     );
+    pub fn fuji_write_block(
+        header: *const u8,
+        header_length: usize,
+        samples: *const u16,
+        samples_length: usize,
+        out: *mut u8,
+        out_length: usize,
+        scratch: *mut u16,
+        scratch_length: usize,
+        records: *mut Record,
+        records_length: usize,
+        length: *mut [usize; 1],
+        refusal: *mut [usize; 4],
+    );
 }

@@ -255,6 +255,35 @@ impl<'a> FujiCompressed<'a> {
     }
 }
 
+/// Writes the tight block of a set of colour lines to the start of `out`, and gives its length: for each line of six rows red 2 to 4, green 7 to 12
+/// and blue 15 to 17, with 384 samples each (X-Trans: 512). Of the header the first 16 bytes count. Refusals 1, 2, 8, 9, 11, 12 and 13; each leaves
+/// `out` as it was.
+pub fn write_block(header: &[u8], samples: &[u16], out: &mut [u8]) -> Result<usize> {
+    write_block_with(&mut Scratch::new(), header, samples, out)
+}
+
+/// `write_block` with lent scratch. Refusal 10 too.
+pub fn write_block_with(scratch: &mut Scratch, header: &[u8], samples: &[u16], out: &mut [u8]) -> Result<usize> {
+    let (mut length, mut refusal) = ([0; 1], [0; 4]);
+    unsafe {
+        ffi::fuji_write_block(
+            header.as_ptr(),
+            header.len(),
+            samples.as_ptr(),
+            samples.len(),
+            out.as_mut_ptr(),
+            out.len(),
+            scratch.samples.as_mut_ptr(),
+            scratch.samples.len(),
+            scratch.records.as_mut_ptr(),
+            scratch.records.len(),
+            &mut length,
+            &mut refusal,
+        )
+    };
+    Refusal::answer(refusal).map(|()| length[0])
+}
+
 type RangeOf = unsafe extern "C" fn(*const u8, usize, usize, *mut [usize; 2], *mut [usize; 4]);
 
 fn flat(tile: &ColorTile) -> *const [u8; 36] {

@@ -7,10 +7,12 @@ use std::path::{Path, PathBuf};
 pub const USAGE: &str = "\
 usage: fujiraw info STREAM...
        fujiraw check STREAM...
+       fujiraw write HEADER SAMPLES OUT
        fujiraw decode STREAM OUT [OPTION...]
        fujiraw decode STREAM... FOLDER [OPTION...]
 
-info shows the header of each stream, and where its blocks lie. check says of each block whether it is tight. decode writes its picture to OUT, or those of several streams to a folder that is there.
+info shows the header of each stream, and where its blocks lie. check says of each block whether it is tight. write writes the tight block of a set of colour lines: HEADER is a
+stream or its first 16 bytes, SAMPLES has 16 bits each, little-endian, for each line red 2 to 4, green 7 to 12, blue 15 to 17. decode writes its picture to OUT, or those of several streams to a folder that is there.
 
   --region X,Y,W,H    only the W columns from X on, and the H rows from Y on
   --tile DIGITS       the colours of the sensor, six rows of six: 0 red, 1 green, 2 blue (else RGGB or the usual X-Trans)
@@ -23,6 +25,7 @@ pub enum Call {
     Help,
     Info(Vec<PathBuf>),
     Check(Vec<PathBuf>),
+    Write([PathBuf; 3]),
     Decode(Decode),
 }
 
@@ -65,6 +68,7 @@ pub fn read(words: Vec<OsString>) -> Result<Call, String> {
         Some("help") => Ok(Call::Help),
         Some("info") => streams(words, "info").map(Call::Info),
         Some("check") => streams(words, "check").map(Call::Check),
+        Some("write") => three(words).map(Call::Write),
         Some("decode") => decode(words).map(Call::Decode),
         _ => Err(format!("there is no command {}", command.to_string_lossy())),
     }
@@ -101,6 +105,14 @@ fn streams(words: Words, command: &str) -> Result<Vec<PathBuf>, String> {
         return Err(format!("{command} needs a stream"));
     }
     Ok(words.plain.into_iter().map(PathBuf::from).collect())
+}
+
+fn three(words: Words) -> Result<[PathBuf; 3], String> {
+    if let Some((name, _)) = words.options.first() {
+        return Err(format!("write takes no {name}"));
+    }
+    let files: Vec<PathBuf> = words.plain.into_iter().map(PathBuf::from).collect();
+    files.try_into().map_err(|_| "write needs a header, samples and an output".to_string())
 }
 
 fn decode(words: Words) -> Result<Decode, String> {

@@ -1,4 +1,4 @@
-//! Shows, checks and decodes Fuji compressed raw streams. Status 0: all was done; 1: something was refused or failed; 2: wrong usage.
+//! Shows, checks, writes and decodes Fuji compressed raw streams. Status 0: all was done; 1: something was refused or failed; 2: wrong usage.
 mod arguments;
 mod output;
 mod stream;
@@ -14,6 +14,9 @@ fn main() -> ExitCode {
         Ok(Call::Help) => print(USAGE),
         Ok(Call::Info(streams)) => run(&streams, show),
         Ok(Call::Check(streams)) => run(&streams, check),
+        Ok(Call::Write([header, samples, out])) => {
+            run(&[samples], |samples| output::write(samples, &out, &stream::write(&header, samples)?))
+        }
         Ok(Call::Decode(call)) => decode(&call),
         Err(wrong) => {
             eprintln!("fujiraw: {wrong}\n{USAGE}");

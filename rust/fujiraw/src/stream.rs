@@ -1,5 +1,5 @@
 //! Streams read from files.
-use fuji_compressed::{ColorTile, FujiCompressed, FujiHeader, Rect, Scratch};
+use fuji_compressed::{ColorTile, FujiCompressed, FujiHeader, Rect, Scratch, write_block};
 use std::fmt::Write;
 use std::path::Path;
 
@@ -59,6 +59,22 @@ pub fn check(file: &Path) -> Result<(String, usize), String> {
         let _ = writeln!(text, "{}: block {i}: {said}", file.display());
     }
     Ok((text, loose))
+}
+
+/// The tight block of the samples in a file.
+pub fn write(header: &Path, samples: &Path) -> Result<Vec<u8>, String> {
+    let header = load(header)?;
+    let bytes = load(samples)?;
+    let (pairs, rest) = bytes.as_chunks::<2>();
+    if !rest.is_empty() {
+        return Err(format!("{} has half a sample at its end", samples.display()));
+    }
+    let set: Vec<u16> = pairs.iter().map(|b| u16::from_le_bytes(*b)).collect();
+    // No code has more than 64 bits.
+    let mut block = vec![0; 8 * set.len()];
+    let length = write_block(&header, &set, &mut block).map_err(|e| e.to_string())?;
+    block.truncate(length);
+    Ok(block)
 }
 
 pub fn decode(file: &Path, region: Option<Rect>, tile: Option<&ColorTile>) -> Result<Picture, String> {

@@ -228,3 +228,26 @@ fn check_says_of_each_block_whether_it_is_tight() {
     f.is_wrong("check", "check needs a stream");
     f.is_wrong("check a.fcs --format raw", "check takes no --format");
 }
+
+#[test]
+fn write_makes_the_block_of_a_set() {
+    let f = Folder::new("write");
+    // a set of zeros: Bayer, 12 bits, one line; each code is 0
+    f.put("header", &[0x49, 0x53, 1, 0, 12, 0, 6, 3, 0, 3, 0, 3, 0, 1, 0, 1]);
+    f.put("samples", &[0; 2 * 12 * 384]);
+    let said = f.run("write header samples block");
+    assert_eq!((said.status.code(), text(&said.stderr)), (Some(0), String::new()));
+    assert!(!f.get("block").is_empty());
+    let mut whole = f.get("header");
+    whole.extend((f.get("block").len() as u32).to_be_bytes());
+    whole.resize(32, 0);
+    whole.extend(f.get("block"));
+    f.put("stream", &whole);
+    assert_eq!(text(&f.run("check stream").stdout), "stream: block 0: tight\n");
+    f.put("few", &[0; 2 * 12 * 384 - 2]);
+    f.put("half", &[0; 2 * 12 * 384 - 1]);
+    f.fails("write header few out", "refusal 9: the number of samples is not the block's");
+    f.fails("write header half out", "half has half a sample at its end");
+    f.fails("write few samples out", "refusal 2: a header rule is broken");
+    f.is_wrong("write header samples", "write needs a header, samples and an output");
+}

@@ -1,0 +1,222 @@
+//! The writer: it writes the block that the encoder for tests writes, whatever the buffers held; each refusal at its limit and together.
+use common::encoder::encode;
+use common::random::Random;
+use common::stream::{Header, stream};
+use fuji_compressed::{ColorTile, FujiCompressed, Record, Refusal, Scratch, write_block, write_block_with};
+
+/// The colour lines of a set, in its order.
+const FILLED: [usize; 12] = [2, 3, 4, 7, 8, 9, 10, 11, 12, 15, 16, 17];
+
+fn refused(number: u32, index: usize) -> Result<usize, Refusal> {
+    Err(Refusal { number, block: 0, line: 0, index })
+}
+
+/// A set that fits, and its block as the encoder makes it. X-Trans interpolates, so that the set is what is read from the block.
+struct Written {
+    header: Header,
+    set: Vec<u16>,
+    block: Vec<u8>,
+}
+
+fn sample(kind: u64, largest: u64, n: usize, line: usize, p: usize, random: &mut Random) -> u16 {
+    let v = match kind % 6 {
+        0 => random.below(largest + 1),
+        1 => largest / 3 + (p as u64 / 5 + 6 * n as u64 + line as u64) % 40 + random.below(3),
+        2 => 0,
+        3 => largest,
+        4 => {
+            if (p + line) % 2 == 0 {
+                0
+            } else {
+                largest
+            }
+        }
+        _ => {
+            if random.below(50) == 0 {
+                largest - random.below(3)
+            } else {
+                random.below(4)
+            }
+        }
+    };
+    v as u16
+}
+
+impl Written {
+    fn new(bits: u8, xtrans: bool, lines: usize, kind: u64) -> Written {
+        let header = Header::new(true, xtrans, bits, 768, lines as u16);
+        let mut random = Random::new(1 + kind + 100 * lines as u64);
+        let mut want = |n, line, p| sample(kind, (1 << bits) - 1, n, line, p, &mut random);
+        let block = encode(bits as u32, xtrans, &[], lines, &mut want);
+        let set = read_set(&header, &block);
+        Written { header, set, block }
+    }
+}
+
+/// The set that is read from a block: tiles of one colour show its colour lines, each column of a place once.
+fn read_set(header: &Header, block: &[u8]) -> Vec<u16> {
+    let d = stream(header, &[], &[block.to_vec()]);
+    let opened = FujiCompressed::new(&d).unwrap();
+    let (width, lines) = (if header.raw_type == 16 { 512 } else { 384 }, header.lines as usize);
+    let mut set = vec![0; 12 * width * lines];
+    let columns: Vec<usize> = (0..width).map(|p| if header.raw_type == 16 { p / 2 * 3 + p % 2 } else { 2 * p }).collect();
+    for (colour, rows, first) in [(0, [0, 2, 4].as_slice(), 0), (1, &[0, 1, 2, 3, 4, 5], 3), (2, &[0, 2, 4], 9)] {
+        let tile: ColorTile = [[colour; 6]; 6];
+        let mut image = vec![0; 768 * 6 * lines];
+        opened.decode(&mut image, 768, 6 * lines as u32, &tile).unwrap();
+        for n in 0..lines {
+            for (i, row) in rows.iter().enumerate() {
+                for (p, column) in columns.iter().enumerate() {
+                    set[(12 * n + first + i) * width + p] = image[(6 * n + row) * 768 + column];
+                }
+            }
+        }
+    }
+    set
+}
+
+fn soiled() -> Scratch {
+    Scratch { samples: vec![0xffff; 9300], records: vec![Record { sum: u32::MAX, n: 0 }; 340] }
+}
+
+fn is_cleared(scratch: &Scratch, xtrans: bool) -> bool {
+    let used = if xtrans { 9252 } else { 6948 };
+    let samples = scratch.samples.iter().enumerate().all(|(i, v)| *v == if i < used { 0 } else { 0xffff });
+    let records = [Record { sum: 0, n: 1 }, Record { sum: u32::MAX, n: 0 }];
+    samples && scratch.records.iter().enumerate().all(|(i, r)| *r == records[(i >= 336) as usize])
+}
+
+#[test]
+fn what_is_written_is_the_tight_block() {
+    for (bits, xtrans) in [(12, false), (14, false), (16, false), (12, true), (14, true), (16, true)] {
+        for (lines, kind) in [(1, 0), (2, 1), (3, 2), (3, 3), (4, 4), (5, 5), (30, 1)] {
+            let w = Written::new(bits, xtrans, lines, kind);
+            let length = w.block.len();
+            for more in [0, 1, 100] {
+                let mut out = vec![0xa5; length + more];
+                let mut scratch = soiled();
+                assert_eq!(write_block_with(&mut scratch, &w.header.bytes(), &w.set, &mut out), Ok(length));
+                assert!(out[..length] == w.block && out[length..].iter().all(|v| *v == 0xa5), "{bits} {xtrans} {lines} {kind}");
+                assert!(is_cleared(&scratch, xtrans));
+            }
+            let mut short = vec![0xa5; length - 1];
+            let mut scratch = soiled();
+            assert_eq!(write_block_with(&mut scratch, &w.header.bytes(), &w.set, &mut short), refused(13, 0));
+            assert!(short.iter().all(|v| *v == 0xa5) && is_cleared(&scratch, xtrans));
+            // it is tight, and reads back
+            let d = stream(&w.header, &[], &[w.block.clone()]);
+            assert_eq!(FujiCompressed::new(&d).unwrap().read_tight(0), Ok(()));
+        }
+    }
+}
+
+#[test]
+fn samples_above_the_largest() {
+    let w = Written::new(12, false, 2, 1);
+    let last = w.set.len() - 1;
+    for bad in [vec![0], vec![last], vec![5000, 7], vec![last, 4000]] {
+        let mut set = w.set.clone();
+        for i in &bad {
+            set[*i] = 4096;
+        }
+        let (mut out, mut scratch) = (vec![3; 10_000], soiled());
+        assert_eq!(write_block_with(&mut scratch, &w.header.bytes(), &set, &mut out), refused(11, *bad.iter().min().unwrap()));
+        assert!(out.iter().all(|v| *v == 3) && is_cleared(&scratch, false));
+    }
+    let mut set = w.set.clone();
+    set[last] = 4095;
+    assert!(write_block(&w.header.bytes(), &set, &mut [0; 20_000]).is_ok());
+}
+
+#[test]
+fn interpolated_samples_that_are_not_their_prediction() {
+    let w = Written::new(14, true, 2, 1);
+    let mut seen = 0;
+    for i in (0..w.set.len()).step_by(97) {
+        let (line, p) = (FILLED[i / 512 % 12], i % 512);
+        let rule = match line {
+            2 | 15 | 9 | 12 => p % 2 == 0,
+            3 | 17 => p % 4 == 0,
+            16 | 4 => p % 4 == 2,
+            _ => false,
+        };
+        let mut set = w.set.clone();
+        set[i] ^= 1;
+        let (mut out, mut scratch) = (vec![3; 60_000], soiled());
+        let answer = write_block_with(&mut scratch, &w.header.bytes(), &set, &mut out);
+        assert!(is_cleared(&scratch, true));
+        if rule {
+            seen += 1;
+            assert_eq!(answer, refused(12, i));
+            assert!(out.iter().all(|v| *v == 3));
+            // a sample above the largest comes first, wherever it stands
+            set[w.set.len() - 1] = 20_000;
+            assert_eq!(write_block(&w.header.bytes(), &set, &mut out), refused(11, w.set.len() - 1));
+        }
+    }
+    assert!(seen > 20);
+}
+
+#[test]
+fn refusals_before_the_set_is_looked_at() {
+    let w = Written::new(14, false, 1, 0);
+    let good = w.header.bytes();
+    let (short, broken) = (good[..15].to_vec(), [&good[..4], &[13], &good[5..]].concat());
+    let lossy = Header { lossless: 0, ..w.header }.bytes().to_vec();
+    let fewer = w.set[1..].to_vec();
+    let more = [&w.set[..], &[0]].concat();
+    let mut high = w.set.clone();
+    high[9] = 16384;
+    let mut high_fewer = high.clone();
+    high_fewer.pop();
+    let all = Scratch { samples: vec![1; 6948], records: vec![Record { sum: 2, n: 2 }; 336] };
+    let few = Scratch { samples: vec![1; 6947], ..all.clone() };
+    let less = Scratch { records: vec![Record { sum: 2, n: 2 }; 335], ..all.clone() };
+    for (header, set, scratch, room, answer) in [
+        (&short, &fewer, &few, 0, refused(1, 0)),
+        (&broken, &fewer, &few, 0, refused(2, 0)),
+        (&lossy, &fewer, &few, 0, refused(8, 0)),
+        (&good.to_vec(), &fewer, &few, 0, refused(9, 0)),
+        (&good.to_vec(), &more, &all, 0, refused(9, 0)),
+        (&good.to_vec(), &high_fewer, &all, 0, refused(9, 0)),
+        (&good.to_vec(), &vec![], &all, 0, refused(9, 0)),
+        (&good.to_vec(), &high, &few, 0, refused(10, 0)),
+        (&good.to_vec(), &high, &less, 0, refused(10, 0)),
+        (&good.to_vec(), &high, &all, 0, refused(11, 9)),
+        (&good.to_vec(), &w.set, &all, 0, refused(13, 0)),
+        (&good.to_vec(), &w.set, &all, w.block.len(), Ok(w.block.len())),
+        (&[&good[..], &[7; 9]].concat(), &w.set, &all, w.block.len(), Ok(w.block.len())),
+    ] {
+        let (mut out, mut lent) = (vec![0x77; room], scratch.clone());
+        assert_eq!(write_block_with(&mut lent, header, set, &mut out), answer);
+        let number = answer.map_or_else(|e| e.number, |_| 0);
+        assert_eq!(lent == *scratch, (1..=10).contains(&number));
+        if number != 0 {
+            assert!(out.iter().all(|v| *v == 0x77));
+        }
+    }
+}
+
+/// Bytes that read as a tight block are written back byte for byte.
+#[test]
+fn tight_blocks_are_written_back() {
+    let header = Header::new(true, false, 12, 768, 1);
+    let mut random = Random::new(8);
+    let mut found = 0;
+    for kind in 0..6 {
+        let good = encode(12, false, &[], 1, &mut |n, line, p| sample(kind, 4095, n, line, p, &mut random));
+        for bit in (0..8 * good.len()).step_by(61) {
+            let mut block = good.clone();
+            block[bit / 8] ^= 1 << (bit % 8);
+            let d = stream(&header, &[], &[block.clone()]);
+            if FujiCompressed::new(&d).unwrap().read_tight(0).is_err() {
+                continue;
+            }
+            found += 1;
+            let mut out = vec![9; block.len()];
+            assert_eq!(write_block(&header.bytes(), &read_set(&header, &block), &mut out), Ok(block.len()));
+            assert!(out == block, "bit {bit} flipped");
+        }
+    }
+    assert!(found > 50, "{found}");
+}
