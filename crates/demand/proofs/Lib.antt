@@ -7,3 +7,4 @@ pub mod BlockTwins
 pub mod BlockLaws
 pub mod AnswerLaws
 pub mod DemandHolds
+pub mod WriterHolds

@@ -1,23 +1,25 @@
 -- Demand 3, under one lossless form and number of lines: tight blocks and sets of colour lines that fit correspond one to one, and the block that is
 -- written for a set is the one that corresponds to it. Assumes nothing.
 use mathlib.Core.Bool.{true}
-use mathlib.Core.List.{List, []}
+use mathlib.Core.List.{List, [], _++_}
 use mathlib.Core.Logic.{_↔_}
 use mathlib.Core.Path.{_≡_}
-use Prim.Native.Nat.{ℕ, suc, _+_, _*_, _<_}
-use lib.ListN.{getD}
+use Prim.Native.Nat.{ℕ, suc, _+_, _*_, _≤_, _<_}
+use lib.ListN.{length, getD, drop}
 use Rattle.map.specs.Places.{widthOf}
 use Rattle.stream.specs.Headers.{parseOf}
 use Rattle.stream.specs.Streams.{openOf}
 use Rattle.stream.specs.declared.FujiHeader.{FujiHeader}
 use Rattle.stream.specs.declared.Parsed.the-variants.{Header}
-use Rattle.writing.specs.Sets.{lineOfRank, indexIn}
+use Rattle.writing.specs.Sets.{setSize, lineOfRank, indexIn}
 use Rattle.block.specs.Blocks.{readLines, linesOf}
 use Rattle.block.specs.Images.{formOf, basesOf}
 use Rattle.block.specs.TightBlocks.{Tight, setRead, tightAnswer}
 use Rattle.block.specs.WrittenBlocks.{tightBlock, FitSet}
+use Rattle.block.specs.WrittenAnswers.{writtenAnswer, writtenOut}
 use Rattle.block.specs.declared.Decoded.the-variants.{Done}
 use Rattle.block.specs.declared.Form.{Form}
+use Rattle.block.specs.declared.Written.the-variants.{Length}
 
 -- bytes are numbers below 256
 abbrev pub Bytes : List ℕ → Type 0
@@ -55,3 +57,24 @@ DemandOfHeaders = (d : List ℕ) (h : FujiHeader) → parseOf d ≡ Header h →
 -- in a lossless stream that opens no block has bases, so that decoding reads what the demand is about, `readLines F []`
 abbrev pub NoBases : Type 0
 NoBases = (d : List ℕ) (h : FujiHeader) → openOf d ≡ Header h → h .lossless ≡ true → (b : ℕ) → basesOf d b ≡ []
+
+-- ---- the writer: what `write_block` (crates/block) promises, and the demand, in one place
+
+-- what holds where it answers the length n for the set t, with so many bytes of output
+pub record WrittenWhole (F : Form) (lines : ℕ) (t out : List ℕ) (n : ℕ) : Type 0 where
+  -- the output starts with the tight block of the set, of that length, and goes on as it was
+  pub output : writtenOut (writtenAnswer F lines t (length out)) (tightBlock F lines t) out ≡ tightBlock F lines t ++ drop n out
+  pub size : n ≡ length (tightBlock F lines t)
+  -- that block is tight, the set is read from it, and no other tight block has that set
+  pub tight : Tight F lines (tightBlock F lines t)
+  pub reads : setRead F lines (tightBlock F lines t) ≡ t
+  pub only : (b : TightBlockOf F lines t) → b .block ≡ tightBlock F lines t
+
+pub record DemandOfWriter (F : Form) (lines : ℕ) : Type 0 where
+  -- a length is answered only where all of that holds
+  pub whole : (t out : List ℕ) (n : ℕ) → length t ≡ setSize (widthOf (F .xtrans)) lines → writtenAnswer F lines t (length out) ≡ Length n → WrittenWhole F lines t out n
+  -- and it is answered for every set that is read from a tight block, where the output is long enough for that block
+  pub answered : (t out : List ℕ) (b : TightBlockOf F lines t) → length (b .block) ≤ length out → writtenAnswer F lines t (length out) ≡ Length (length (b .block))
+
+abbrev pub DemandOfWriters : Type 0
+DemandOfWriters = (d : List ℕ) (h : FujiHeader) → parseOf d ≡ Header h → h .lossless ≡ true → DemandOfWriter (formOf h) (h .lines)

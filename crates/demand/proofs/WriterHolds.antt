@@ -1,0 +1,46 @@
+-- The writer, held against the demand. Assumes nothing.
+use mathlib.Core.List.{List, _++_}
+use mathlib.Core.Path.{_≡_, refl, sym, ap, _∙_}
+use Prim.Native.Nat.{ℕ, _≤_}
+use lib.ListN.{length, drop}
+use Rattle.map.specs.Places.{widthOf}
+use Rattle.writing.specs.Sets.{setSize}
+use Rattle.block.specs.Images.{formOf}
+use Rattle.block.specs.WrittenBlocks.{tightBlock, FitSet}
+use Rattle.block.specs.WrittenAnswers.{writtenAnswer, writtenOut}
+use Rattle.block.specs.declared.Form.{Form}
+use Rattle.block.specs.declared.Written.{Written}
+use Rattle.block.specs.declared.Written.the-variants.{Length}
+use Rattle.block.proofs.AnswerLaws.{written-fits, fits-written}
+use Rattle.demand.specs.Demand.{Demand, TightBlockOf, WrittenWhole, DemandOfWriter, DemandOfWriters}
+use Rattle.demand.proofs.DemandHolds.{demand-of-headers}
+
+module _ (F : Form) (lines : ℕ) (D : Demand F lines) where
+  -- the tight block of a set that fits, as one from which the set is read
+  its-block : (t : List ℕ) → FitSet F lines t → TightBlockOf F lines t
+  its-block t f =
+      let w = D .written t f in
+      record { block = tightBlock F lines t; bytes = w .0; tight = w .1; reads = w .2 }
+
+  whole : (t out : List ℕ) (n : ℕ) → length t ≡ setSize (widthOf (F .xtrans)) lines → writtenAnswer F lines t (length out) ≡ Length n → WrittenWhole F lines t out n
+  whole t out n size e =
+      let w = written-fits F lines t (length out) n size e in
+      let f : FitSet F lines t = w .0 in
+      record {
+        output = ap (λ (a : Written). writtenOut a (tightBlock F lines t) out) e;
+        size = w .1;
+        tight = its-block t f .tight;
+        reads = its-block t f .reads;
+        only = λ b. D .one t b (its-block t f);
+      }
+
+  answered : (t out : List ℕ) (b : TightBlockOf F lines t) → length (b .block) ≤ length out → writtenAnswer F lines t (length out) ≡ Length (length (b .block))
+  answered t out b room =
+      let f : FitSet F lines t = D .sets t .1 b in
+      let e : b .block ≡ tightBlock F lines t = D .one t b (its-block t f) in
+      rw e (fits-written F lines t (length out) f (rw e at room))
+
+pub demand-of-writers : DemandOfWriters
+demand-of-writers d h e lossless =
+    let D = demand-of-headers d h e lossless in
+    record { whole = whole (formOf h) (h .lines) D; answered = answered (formOf h) (h .lines) D }
