@@ -6,6 +6,8 @@ use common::random::Random;
 use common::stream::{Header, blocks, stream};
 use fuji_compressed::Record;
 
+// Not all of its functions are asked here.
+#[allow(dead_code)]
 #[path = "../src/ffi.rs"]
 mod ffi;
 
