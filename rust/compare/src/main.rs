@@ -1,9 +1,10 @@
-//! Compares the port with the original. `compare calls COUNT [SEED]` asks both the same questions; `compare differences` shows the listed
-//! differences. Status 1 if anything differs that is not listed, or a listed difference is not there.
+//! Compares the port with the original. `compare calls COUNT [SEED]` asks both the same questions; `compare writes COUNT [SEED]` lets the
+//! original read what the port writes; `compare differences` shows the listed differences. Status 1 if anything differs that is not listed, or a listed difference is not there.
 mod differences;
 mod making;
 mod round;
 mod sides;
+mod writes;
 
 use std::process::ExitCode;
 
@@ -18,6 +19,17 @@ fn calls(count: u64, seed: u64) -> ExitCode {
         Err(what) => println!("compared: call {} of seed {seed} differs: {what}", round.tally.calls),
     }
     if done.is_ok() { ExitCode::SUCCESS } else { ExitCode::FAILURE }
+}
+
+fn writes(count: u64, seed: u64) -> ExitCode {
+    match writes::run(count, seed) {
+        Ok(()) => println!("written and read by the original: {count} sets, seed {seed}, none differs"),
+        Err(what) => {
+            println!("written and read by the original, seed {seed}: {what}");
+            return ExitCode::FAILURE;
+        }
+    }
+    ExitCode::SUCCESS
 }
 
 fn differences() -> ExitCode {
@@ -46,9 +58,10 @@ fn main() -> ExitCode {
     let number = |i: usize, otherwise: u64| words.get(i).map_or(Some(otherwise), |w| w.parse().ok().filter(|n| *n > 0));
     match (words.first().map(String::as_str), number(1, 2000), number(2, SEED)) {
         (Some("calls"), Some(count), Some(seed)) => calls(count, seed),
+        (Some("writes"), Some(count), Some(seed)) => writes(count, seed),
         (Some("differences"), ..) if words.len() == 1 => differences(),
         _ => {
-            eprintln!("usage: compare calls COUNT [SEED]\n       compare differences");
+            eprintln!("usage: compare calls COUNT [SEED]\n       compare writes COUNT [SEED]\n       compare differences");
             ExitCode::from(2)
         }
     }
