@@ -23,6 +23,7 @@ module _ (F : Form) (lines : ℕ) (D : Demand F lines) where
       record { block = tightBlock F lines t; bytes = w .0; tight = w .1; reads = w .2 }
 
   whole : (t out : List ℕ) (n : ℕ) → length t ≡ setSize (widthOf (F .xtrans)) lines → writtenAnswer F lines t (length out) ≡ Length n → WrittenWhole F lines t out n
+  unfolding its-block
   whole t out n size e =
       let w = written-fits F lines t (length out) n size e in
       let f : FitSet F lines t = w .0 in
@@ -35,6 +36,7 @@ module _ (F : Form) (lines : ℕ) (D : Demand F lines) where
       }
 
   answered : (t out : List ℕ) (b : TightBlockOf F lines t) → length (b .block) ≤ length out → writtenAnswer F lines t (length out) ≡ Length (length (b .block))
+  unfolding its-block
   answered t out b room =
       let f : FitSet F lines t = D .sets t .1 b in
       let e : b .block ≡ tightBlock F lines t = D .one t b (its-block t f) in
