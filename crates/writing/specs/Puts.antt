@@ -23,8 +23,8 @@ use Rattle.writing.specs.declared.PassPut.{PassPut}
 unfoldable pub codeNumber : ℕ → ℕ → ℕ → ℕ → ℕ
 codeNumber k limit raw code = cond (ltb (code / 2 ^ k) limit) (2 ^ k + code % 2 ^ k) (2 ^ raw + (code - 1))
 
--- the output after these bits were put into it from bit `at` on: what stood before them stays, the rest of their last byte is 0, and so are the bytes after it
--- what they were
+-- the output after these bits were put into it from bit `at` on: what stood before them stays, the rest of their last byte is 0, and the bytes after
+-- that one are what they were
 unfoldable pub putBits : List ℕ → ℕ → List Bool → List ℕ
 putBits out at [] = out
 putBits out at (b ∷ l) =
