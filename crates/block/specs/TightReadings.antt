@@ -34,6 +34,7 @@ tightBegins d b samples records = withOpened (openOf d) b samples records
 -- what it leaves: its answer, and scratch, of which the used part is cleared once the block was read
 abbrev pub LeftTight : List ℕ → ℕ → Beginning → (lines : List ℕ) → List Record → (lines' : List ℕ) → List Record → Decoded → Type 0
 LeftTight d b (refused x) lines rs lines' rs' answer = (answer ≡ Refused x) × (lines' ≡ lines) × (rs' ≡ rs)
+-- (no call begins with nothing to do)
 LeftTight d b nothing lines rs lines' rs' answer = (lines' ≡ lines) × (rs' ≡ rs)
 LeftTight d b (reading h) lines rs lines' rs' answer =
     let W = widthOf (h .xtrans) in

@@ -103,6 +103,7 @@ writingBegins d count samples records = withParsed (parseOf d) count samples rec
 abbrev pub LeftWritten : List ℕ → Beginning → (out lines : List ℕ) → List Record → (out' lines' : List ℕ) → List Record → Written → Type 0
 LeftWritten t (refused x) out lines rs out' lines' rs' answer =
     (answer ≡ Refused x) × (out' ≡ out) × (lines' ≡ lines) × (rs' ≡ rs)
+-- (no call begins with nothing to do)
 LeftWritten t nothing out lines rs out' lines' rs' answer = (out' ≡ out) × (lines' ≡ lines) × (rs' ≡ rs)
 LeftWritten t (reading h) out lines rs out' lines' rs' answer =
     let W = widthOf (h .xtrans) in
