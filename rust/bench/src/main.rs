@@ -92,6 +92,15 @@ impl Picture {
         time
     }
 
+    /// The measuring walk alone: with no output at all the block is too long for it.
+    fn time_measure(&self, set: &[u16], scratch: &mut Scratch) -> f64 {
+        let start = seconds();
+        let refused = write_block_with(scratch, black_box(&self.stream[..16]), black_box(set), &mut []);
+        let time = seconds() - start;
+        assert_eq!(refused.unwrap_err().number, 13);
+        time
+    }
+
     /// The set that is read from the only block, through tiles of one colour.
     fn set(&self, xtrans: bool) -> Vec<u16> {
         let (width, lines) = (if xtrans { 512 } else { 384 }, self.height as usize / 6);
@@ -117,6 +126,15 @@ impl Picture {
         rounds(|| {
             let before = self.time_ours(&mut image, &mut scratch);
             [before, self.time_write(&set, &mut out, &mut scratch), self.time_ours(&mut image, &mut scratch)]
+        })
+    }
+
+    /// Rounds of reading, measuring, reading; all ours.
+    fn measure_against_read(&self, xtrans: bool) -> Rounds {
+        let (set, mut image, mut scratch) = (self.set(xtrans), self.image(), Scratch::new());
+        rounds(|| {
+            let before = self.time_ours(&mut image, &mut scratch);
+            [before, self.time_measure(&set, &mut scratch), self.time_ours(&mut image, &mut scratch)]
         })
     }
 
@@ -219,6 +237,9 @@ fn main() {
             let write = if xtrans { "write-xtrans" } else { "write-bayer" };
             let title = format!("{write}, one block of 480 lines");
             say(write, measure(&title, ["decode", "write_block"], &one, one.write_against_read(xtrans)));
+            let walk = if xtrans { "measure-xtrans" } else { "measure-bayer" };
+            let title = format!("{walk}, one block of 480 lines");
+            say(walk, measure(&title, ["decode", "write_block up to its length"], &one, one.measure_against_read(xtrans)));
         }
     }
 }
