@@ -4,8 +4,9 @@ use mathlib.Core.Path.{_≡_, refl}
 use Prim.Native.Nat.{ℕ, suc, _+_, _-_, _*_, _≤_, _<_}
 use native.Mathlib.Omega.{arith}
 use lib.Dec.{leb, lit<}
-use borrow.Author.Tests.{leb-true, ne-eqb}
-use Rattle.quantiser.specs.Quantisers.{gradientOf}
+use borrow.Author.Tests.{leb-true, lt-leb, ne-eqb}
+use Rattle.quantiser.specs.Quantisers.{Serves, gradientOf}
+use Rattle.quantiser.specs.declared.Thresholds.{Thresholds}
 use Rattle.quantiser.proofs.GradientLaws.{main-le, flat-le}
 use Rattle.prediction.specs.Predictions.{flatnessOf}
 use Rattle.prediction.specs.declared.Context.{Context}
@@ -40,6 +41,25 @@ place-lt q x =
     choice-cases q (flatnessOf x)
     (λ e. rw e (omega (arith, main-le q (x .first) (x .second))))
     (λ i e h f. rw (e, ne-eqb (suc i) 0 (omega arith)) (omega (arith, flat-le (suc i - 1) (x .first) (x .second) (omega arith))))
+
+-- the thresholds of the line's base after the first, with that of the base that is used
+abbrev pub thresholdsFor : ℕ → ℕ → Thresholds
+thresholdsFor q used = record { base = used; second = 3 * q + 18; third = 5 * q + 67; fourth = 7 * q + 276 }
+
+-- they serve small differences, whatever the bases are
+serves-small : (q used m : ℕ) → m < 18 → Serves (thresholdsFor q used) m
+serves-small q used m h = (
+  rw (lt-leb (3 * q + 18) m (omega arith), lt-leb (3 * used + 18) m (omega arith)),
+  rw (lt-leb (5 * q + 67) m (omega arith), lt-leb (5 * used + 67) m (omega arith)),
+  rw (lt-leb (7 * q + 276) m (omega arith), lt-leb (7 * used + 276) m (omega arith)),
+)
+
+-- so they serve a sample, by which the used base is chosen
+pub serves : (q m : ℕ) (x : Context) → m ≤ flatnessOf x → Serves (thresholdsFor q (usedBase q (choiceOf q (flatnessOf x)))) m
+serves q m x h =
+    choice-cases q (flatnessOf x)
+    (λ e. rw e (refl, refl, refl))
+    (λ i e l f. serves-small q (usedBase q (choiceOf q (flatnessOf x))) m (omega arith))
 
 -- what is chosen is one of four
 pub choice-le : (q f : ℕ) → choiceOf q f ≤ 3

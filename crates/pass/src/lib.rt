@@ -197,7 +197,8 @@ fn place_of(choice: u32, size: u32) -> usize
     (36 + 5 * choice + size) as usize
 }
 
-// What a sample's coding goes by. A lossless line, with base 0, comes first: its thresholds are constants there.
+// What a sample's coding goes by. A lossless line, with base 0, comes first: its thresholds are constants there. In a lossy one the thresholds of the
+// line's base serve flat quantisers too, whose differences are small; so only the first threshold waits for the choice.
 pub fn look_of(base: u32, x: Context) -> Look
     requires { ⌜ (base < 256) × Ranges x ⌝ }
     ensures { λ r. ⌜ (r ≡ lookOf base x) × ((r .choice ≤ 3) × ((r .base < 256) × (r .place < 56))) ⌝ }
@@ -213,7 +214,8 @@ pub fn look_of(base: u32, x: Context) -> Look
     }
     let choice = code::choice(base, x.flatness());
     let used = used_base(choice, base);
-    let g = quantiser::gradient(used, used_weight(choice), x.first, x.second);
+    let t = quantiser::thresholds_of(base).with_base(used);
+    let g = quantiser::gradient_by(t, used_weight(choice), x.first, x.second);
     Look {
         choice: choice as usize,
         base: used,

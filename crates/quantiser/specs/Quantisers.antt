@@ -1,5 +1,6 @@
 -- Quantisers: how a difference becomes a level, and the numbers by which a code is read. Assumes nothing.
 use mathlib.Core.Bool.{Bool, true, false, cond}
+use mathlib.Core.Path.{_≡_}
 use Prim.Native.Nat.{ℕ, _+_, _-_, _*_, _/_, _^_, _≤_, _<_, max}
 use lib.Dec.{leb, ltb}
 use Rattle.numbers.specs.Numbers.{minus, up, down, leastFrom}
@@ -53,6 +54,11 @@ startSum Q = max 2 ((Q .total + 32) / 64)
 -- the thresholds of base q: q, 3q + 18, 5q + 67, 7q + 276
 abbrev pub thresholdsOf : ℕ → Thresholds
 thresholdsOf q = record { base = q; second = 3 * q + 18; third = 5 * q + 67; fourth = 7 * q + 276 }
+
+-- thresholds serve a difference of size m if it has reached the second, the third and the fourth just where it has reached those of their base
+abbrev pub Serves : Thresholds → ℕ → Type 0
+Serves t m =
+    (leb (t .second) m ≡ leb (3 * t .base + 18) m) × (leb (t .third) m ≡ leb (5 * t .base + 67) m) × (leb (t .fourth) m ≡ leb (7 * t .base + 276) m)
 
 -- the size of the level of a difference of size m by these thresholds
 unfoldable pub levelSize : ℕ → ℕ → ℕ

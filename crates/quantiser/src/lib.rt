@@ -3,7 +3,7 @@ ghost use mathlib.Core.Path.{_≡_};
 ghost use Prim.Native.Nat.{_+_, _-_, _*_, _^_, _≤_, _<_};
 ghost use lib.Dec.{leb};
 ghost use Rattle.numbers.specs.Numbers.{up, down, flag, leastFrom};
-ghost use Rattle.quantiser.specs.Quantisers.{largest, quantiserOf, mainOf, flatOf, Ranges, startSum, thresholdsOf, levelSize, levelOf, gradientOf};
+ghost use Rattle.quantiser.specs.Quantisers.{largest, quantiserOf, mainOf, flatOf, Ranges, startSum, thresholdsOf, Serves, levelSize, levelOf, gradientOf};
 use numbers::Signed;
 
 pub struct Quantiser {
@@ -95,6 +95,20 @@ pub fn thresholds_of(base: u32) -> Thresholds
     }
 }
 
+impl Thresholds {
+    // The thresholds of another base, but for the first. They serve small differences just as well, and need not be computed anew.
+    pub fn with_base(self, base: u32) -> Thresholds
+        ensures { λ r. ⌜ r ≡ record { base = base; second = self .second; third = self .third; fourth = self .fourth } ⌝ }
+    {
+        Thresholds {
+            base,
+            second: self.second,
+            third: self.third,
+            fourth: self.fourth,
+        }
+    }
+}
+
 // 1 if m has reached the threshold, else 0.
 fn reached(threshold: u32, m: u32) -> u32
     ensures { λ r. ⌜ (r ≡ flag (leb threshold m)) × (r ≤ 1) ⌝ }
@@ -104,7 +118,7 @@ fn reached(threshold: u32, m: u32) -> u32
 
 // The size of the level of a difference of size m: the thresholds that it has reached, the first one passed, counted without a branch.
 fn level_size(t: Thresholds, m: u32) -> u32
-    requires { ⌜ (t .base < 256) × (t ≡ thresholdsOf (t .base)) ⌝ }
+    requires { ⌜ (t .base < 256) × Serves t m ⌝ }
     ensures { λ r. ⌜ (r ≡ levelSize (t .base) m) × (r ≤ 4) ⌝ }
 {
     reached(t.base + 1, m) + reached(t.second, m) + reached(t.third, m) + reached(t.fourth, m)
@@ -112,16 +126,16 @@ fn level_size(t: Thresholds, m: u32) -> u32
 
 // The level of a difference, plus 4, so that it is not negative.
 fn raised_level(t: Thresholds, v: Signed) -> u32
-    requires { ⌜ (t .base < 256) × (t ≡ thresholdsOf (t .base)) ⌝ }
+    requires { ⌜ (t .base < 256) × Serves t (v .size) ⌝ }
     ensures { λ r. ⌜ (r + down (levelOf (t .base) v) ≡ 4 + up (levelOf (t .base) v)) × (r ≤ 8) ⌝ }
 {
     let size = level_size(t, v.size);
     if v.negative { 4 - size } else { 4 + size }
 }
 
-// The gradient, for whoever has the thresholds at hand. Both levels are raised by 4, so the sum is raised by 4 * weight + 4.
+// The gradient, for whoever has thresholds at hand. Both levels are raised by 4, so the sum is raised by 4 * weight + 4.
 pub fn gradient_by(t: Thresholds, weight: u32, first: Signed, second: Signed) -> Signed
-    requires { ⌜ (t .base < 256) × ((t ≡ thresholdsOf (t .base)) × (weight ≤ 9)) ⌝ }
+    requires { ⌜ (t .base < 256) × ((weight ≤ 9) × (Serves t (first .size) × Serves t (second .size))) ⌝ }
     ensures { λ r. ⌜ (r ≡ gradientOf (t .base) weight first second) × (r .size ≤ 4 * weight + 4) ⌝ }
 {
     let raised = weight * raised_level(t, first) + raised_level(t, second);

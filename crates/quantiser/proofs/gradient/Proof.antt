@@ -4,18 +4,22 @@ use mathlib.Core.Path.{_≡_, refl, ap, _∙_}
 use Prim.Native.Nat.{ℕ, _<_}
 use native.Mathlib.Omega.{arith}
 use Rattle.numbers.specs.declared.Signed.{Signed}
-use Rattle.quantiser.specs.Quantisers.{thresholdsOf, gradientOf}
+use Rattle.quantiser.specs.Quantisers.{thresholdsOf, Serves, gradientOf}
 use Rattle.quantiser.specs.declared.Thresholds.{Thresholds}
 use Rattle.quantiser.proofs.gradient.Statement.{statement}
 use Rattle.quantiser.proofs.gradient.Tie as tie
 
-own : (t : Thresholds) (q : ℕ) → t ≡ thresholdsOf q → q < 256 → (t .base < 256) × (t ≡ thresholdsOf (t .base))
-own t q e h = rw e (h, refl)
+own : (t : Thresholds) (q m : ℕ) → t ≡ thresholdsOf q → Serves t m
+own t q m e = rw e (refl, refl, refl)
+
+base : (t : Thresholds) (q : ℕ) → t ≡ thresholdsOf q → q < 256 → t .base < 256
+base t q e h = rw e h
 
 gradient-by-requires : tie.Need-gradient-by-requires
 gradient-by-requires c κs =
-    let o = own (c .thresholds-of .result) (c .before .args .base) (c .thresholds-of .ensures) (search needs) in
-    (o .0, (o .1, search needs))
+    let a = c .before .args in
+    let e = c .thresholds-of .ensures in
+    (base _ _ e (search needs), (search needs, (own _ _ _ e, own _ _ _ e)))
 
 returns : tie.Need-returns
 returns c =

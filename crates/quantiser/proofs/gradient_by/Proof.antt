@@ -13,12 +13,12 @@ product : (w x : ℕ) → w ≤ 9 → x ≤ 8 → w * x ≤ 72
 product w x hw hx = mul-le-mul hw hx
 
 mul-raised : tie.Need-mul-raised
-mul-raised c = omega (arith, product (c .before .args .weight) (c .raised-level .result) (c .before .pre .1 .1) (c .raised-level .ensures .1))
+mul-raised c = omega (arith, product (c .before .args .weight) (c .raised-level .result) (c .before .pre .1 .0) (c .raised-level .ensures .1))
 
 add-raised : tie.Need-add-raised
 add-raised c =
     let s = c .before .before in
-    omega (arith, product (s .args .weight) (c .before .raised-level .result) (s .pre .1 .1) (c .before .raised-level .ensures .1))
+    omega (arith, product (s .args .weight) (c .before .raised-level .result) (s .pre .1 .0) (c .before .raised-level .ensures .1))
 
 returns : tie.Need-returns
 returns c =

@@ -5,7 +5,7 @@ use Prim.Native.Nat.{ℕ, _+_}
 use native.Mathlib.Omega.{arith}
 use lib.Dec.{leb}
 use Rattle.numbers.specs.Numbers.{flag}
-use Rattle.quantiser.specs.Quantisers.{thresholdsOf, levelSize}
+use Rattle.quantiser.specs.Quantisers.{Serves, levelSize}
 use Rattle.quantiser.specs.declared.Thresholds.{Thresholds}
 use Rattle.quantiser.proofs.GradientLaws.{level-count}
 use Rattle.quantiser.proofs.level_size.Statement.{statement}
@@ -14,8 +14,8 @@ use Rattle.quantiser.proofs.level_size.Tie as tie
 abbrev counted : Thresholds → ℕ → ℕ
 counted t m = flag (leb (t .base + 1) m) + flag (leb (t .second) m) + flag (leb (t .third) m) + flag (leb (t .fourth) m)
 
-count : (t : Thresholds) (m : ℕ) → t ≡ thresholdsOf (t .base) → counted t m ≡ levelSize (t .base) m
-count t m e = ap (λ (x : Thresholds). counted x m) e ∙ level-count (t .base) m
+count : (t : Thresholds) (m : ℕ) → Serves t m → counted t m ≡ levelSize (t .base) m
+count t m e = rw (e .0, e .1, e .2) (level-count (t .base) m)
 
 returns : tie.Need-returns
 returns c =
