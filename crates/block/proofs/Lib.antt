@@ -12,5 +12,6 @@ pub mod WrittenLaws
 pub mod WalkLaws
 pub mod AnswerLaws
 pub mod DecodeLaws
+pub mod BadCodeLaws
 pub mod TightLaws
 pub mod ImageLaws

@@ -8,12 +8,16 @@ use native.Mathlib.Omega.{arith}
 use Rattle.pass.specs.Readings.{andThen}
 use Rattle.block.specs.Blocks.{runs}
 
+-- where both went well, the first did, and then the second
+pub then-both : {A B : Type 0} (o : Option A) (g : A → Option B) (z : B) → andThen o g ≡ some z → (y : A) × (o ≡ some y) × (g y ≡ some z)
+unfolding andThen
+then-both none g z e = let no : _≡_ {A = ℕ} 0 1 = cc in absurd (omega arith)
+then-both (some y) g z e = (y, refl, e)
+
 -- what holds after one thing, and is kept by the next, holds after both
 pub then-keeps : {A : Type 0} (Q : A → Type 0) (o : Option A) (g : A → Option A) (z : A) → ((y : A) → o ≡ some y → Q y)
     → ((y : A) → Q y → g y ≡ some z → Q z) → andThen o g ≡ some z → Q z
-unfolding andThen
-then-keeps Q none g z first next e = let no : _≡_ {A = ℕ} 0 1 = cc in absurd (omega arith)
-then-keeps Q (some y) g z first next e = next y (first y refl) e
+then-keeps Q o g z first next e = let b = then-both o g z e in next (b .0) (first (b .0) (b .1)) (b .2)
 
 module _ {A : Type 0} (f : ℕ → A → Option A) (r₀ : A) where
   pub runs-none : runs f 0 r₀ ≡ some r₀
@@ -23,6 +27,11 @@ module _ {A : Type 0} (f : ℕ → A → Option A) (r₀ : A) where
   pub runs-more : (t : ℕ) (r : A) → runs f t r₀ ≡ some r → runs f (t + 1) r₀ ≡ f t r
   unfolding runs andThen
   runs-more t r h = rw (add-one, h)
+
+  -- all but the last, and then the last
+  pub runs-last : (n : ℕ) (z : A) → runs f (suc n) r₀ ≡ some z → (y : A) × (runs f n r₀ ≡ some y) × (f n y ≡ some z)
+  unfolding runs
+  runs-last n z e = then-both (runs f n r₀) (λ y. f n y) z e
 
   -- once one has failed they all have
   pub runs-stay : (t m : ℕ) → runs f t r₀ ≡ none → runs f (t + m) r₀ ≡ none

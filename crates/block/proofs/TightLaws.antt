@@ -1,24 +1,25 @@
 -- The answer of the tight reading, by what a walk says. Assumes nothing.
-use mathlib.Core.Bool.{Bool, true, false, cond, _&&_}
+use mathlib.Core.Bool.{Bool, true, false, cond}
 use mathlib.Core.List.{List, []}
-use mathlib.Core.Option.{some}
+use mathlib.Core.Option.{Option, none, some}
 use mathlib.Core.Path.{_≡_, refl, sym, ap, _∙_, subst}
-use Prim.Native.Nat.{ℕ, suc, _+_, _-_, _*_, _/_, _%_, _≤_, _<_, min}
+use Prim.Native.Nat.{ℕ, _+_, _-_, _*_, _/_, _%_, _≤_, _<_, min}
 use native.Mathlib.Omega.{arith}
 use borrow.Author.Tests.{lt-ltb, le-ltb, eq-eqb, ne-eqb}
-use lib.Dec.{ltb, eqb}
+use lib.Dec.{eqb}
 use lib.ListN.{length}
 use Rattle.bits.specs.Bits.{bitsAt}
 use Rattle.bits.specs.declared.BitPosition.{BitPosition}
 use Rattle.stream.specs.declared.Refusal.the-variants.{Truncated, NotTight}
-use Rattle.block.specs.Blocks.{State, ReadAll, CutAt, IsWalked, eitherOf, readLines, tightLines}
+use Rattle.block.specs.Blocks.{ReadAll, CutAt, IsWalked, eitherOf, readLines}
 use Rattle.block.specs.Images.{linesRead}
-use Rattle.block.specs.TightBlocks.{isTail, bitsRead, tightAnswer}
-use Rattle.block.specs.declared.Decoded.{Decoded}
+use Rattle.block.specs.BadCodes.{BadCode, firstBad}
+use Rattle.block.specs.TightBlocks.{isTail, bitsRead, readAnswer, tightAnswer}
 use Rattle.block.specs.declared.Decoded.the-variants.{Done, Refused}
 use Rattle.block.specs.declared.Form.{Form}
 use Rattle.block.specs.declared.Walked.{Walked}
 use Rattle.block.proofs.DecodeLaws.{walked-lines}
+use Rattle.block.proofs.BadCodeLaws.{lineOr, bad-in, tight-lines}
 
 -- ---- the tail
 
@@ -39,6 +40,16 @@ same-length s at n spare v e f g h =
 
 -- ---- the answer
 
+-- m lines from the first on are tight: those before the line of the first bad code, or all
+loose-by : (o : Option BadCode) (lines m : ℕ) (tail : Bool) → m ≡ lineOr lines o → m < lines → Refused (NotTight m) ≡ readAnswer o lines tail
+loose-by none lines m tail e h = absurd (omega arith)
+loose-by (some x) lines m tail e h = rw e
+
+ends-by : (o : Option BadCode) (lines m : ℕ) (tail : Bool) → m ≡ lineOr lines o → lines ≤ m → ((x : BadCode) → o ≡ some x → x .line < lines)
+    → cond tail Done (Refused (NotTight lines)) ≡ readAnswer o lines tail
+ends-by none lines m tail e h low = refl
+ends-by (some x) lines m tail e h low = absurd (omega (arith, low x refl))
+
 module _ (F : Form) (s : List ℕ) (b count : ℕ) (w : Walked) (p : IsWalked F [] s count w) where
   pub cut-off : w .ok ≡ false → Refused (Truncated b (w .line)) ≡ tightAnswer F b count s
   unfolding tightAnswer
@@ -53,11 +64,13 @@ module _ (F : Form) (s : List ℕ) (b count : ℕ) (w : Walked) (p : IsWalked F 
   complete : w .ok ≡ true → linesRead F [] s count ≡ count
   complete e = sym (subst (λ (k : Bool). cond k count (w .line) ≡ linesRead F [] s count) e (walked-lines F [] s count w p))
 
+  tight-is : w .ok ≡ true → w .«tight_lines» ≡ lineOr count (firstBad F [] s count)
+  tight-is e = all e .tight ∙ tight-lines F [] s count (all e .end) (all e .read)
+
   pub loose : w .ok ≡ true → w .«tight_lines» < count → Refused (NotTight (w .«tight_lines»)) ≡ tightAnswer F b count s
   unfolding tightAnswer
   loose e h =
-      let t = all e .tight in
-      rw (complete e, le-ltb count count (omega arith), ← t, lt-ltb (w .«tight_lines») count h)
+      rw (complete e, le-ltb count count (omega arith)) (loose-by (firstBad F [] s count) count (w .«tight_lines») _ (tight-is e) h)
 
   last : w .ok ≡ true → isTail s (w .at .0) ≡ isTail s (bitsRead (readLines F [] s count))
   last e = rw (all e .read) (ap (λ (x : BitPosition). isTail s (x .0)) (all e .at))
@@ -65,5 +78,5 @@ module _ (F : Form) (s : List ℕ) (b count : ℕ) (w : Walked) (p : IsWalked F 
   pub ends : w .ok ≡ true → count ≤ w .«tight_lines» → (t : Bool) → t ≡ isTail s (w .at .0) → cond t Done (Refused (NotTight count)) ≡ tightAnswer F b count s
   unfolding tightAnswer
   ends e h t f =
-      let l = all e .tight in
-      rw (complete e, le-ltb count count (omega arith), ← l, le-ltb (w .«tight_lines») count h, f, last e)
+      rw (complete e, le-ltb count count (omega arith), ← last e, f)
+      (ends-by (firstBad F [] s count) count (w .«tight_lines») (isTail s (w .at .0)) (tight-is e) h (λ x g. bad-in F [] s count x g .line-inside))

@@ -2,6 +2,7 @@
 pub mod Records
 pub mod Blocks
 pub mod Images
+pub mod BadCodes
 pub mod TightBlocks
 pub mod WrittenBlocks
 pub mod TightReadings

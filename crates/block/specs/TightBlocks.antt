@@ -12,8 +12,9 @@ use Rattle.map.specs.Places.{widthOf}
 use Rattle.stream.specs.declared.Refusal.the-variants.{Truncated, NotTight}
 use Rattle.writing.specs.Sets.{setSize, lineAt, colourLineAt, positionAt}
 use Rattle.block.specs.Records.{table}
-use Rattle.block.specs.Blocks.{State, readLines, linesOf, tightLines}
+use Rattle.block.specs.Blocks.{State, readLines, linesOf}
 use Rattle.block.specs.Images.{linesRead}
+use Rattle.block.specs.BadCodes.{BadCode, firstBad}
 use Rattle.block.specs.declared.Form.{Form}
 use Rattle.block.specs.declared.Decoded.{Decoded}
 use Rattle.block.specs.declared.Decoded.the-variants.{Done, Refused}
@@ -44,12 +45,14 @@ abbrev pub bitsRead : Option State → ℕ
 bitsRead none = 0
 bitsRead (some r) = r .at .0
 
--- the answer of the tight reading for block b with the bytes s: refusal 14 with the first truncated line, else refusal 15 with the line of the first code
--- that is not tight, or with `lines` if only the tail is wrong
+-- the answer where every line reads: refusal 15 with the line of the first bad code, or with `lines` if only the tail is wrong
+abbrev pub readAnswer : Option BadCode → ℕ → Bool → Decoded
+readAnswer (some x) lines tail = Refused (NotTight (x .line))
+readAnswer none lines tail = cond tail Done (Refused (NotTight lines))
+
+-- the answer of the tight reading for block b with the bytes s: refusal 14 with the first truncated line, before all that
 unfoldable pub tightAnswer : Form → ℕ → ℕ → List ℕ → Decoded
 tightAnswer F b lines s =
     let read = linesRead F [] s lines in
-    let tight = tightLines F [] s lines in
     cond (ltb read lines) (Refused (Truncated b read))
-    (cond (ltb tight lines) (Refused (NotTight tight))
-    (cond (isTail s (bitsRead (readLines F [] s lines))) Done (Refused (NotTight lines))))
+    (readAnswer (firstBad F [] s lines) lines (isTail s (bitsRead (readLines F [] s lines))))

@@ -75,12 +75,11 @@ module _ (F : Form) (Q : Lossless (F .bits)) (s t : List ℕ) where
           let line = line-forward F Q s t i range y ok clean st in
           (line .0, (line .1 .0, rw (next-read i y (line .0) e (line .1 .0 .read)) (line .1 .1)))
 
-  -- where n lines were read, and show the set's samples, their bits stand, and all of them were clean
-  pub lines-backward : (n : ℕ) (z : State) → readLines F [] s n ≡ some z → CleanState s z → ((m : ℕ) → m < n → Shows m)
-      → (writeLines F t n ≡ writeStateOf s z) × ((m : ℕ) (y : State) → m ≤ n → readLines F [] s m ≡ some y → CleanState s y)
+  -- where n lines were read, and show the set's samples, their bits stand
+  pub lines-backward : (n : ℕ) (z : State) → readLines F [] s n ≡ some z → CleanState s z → ((m : ℕ) → m < n → Shows m) → writeLines F t n ≡ writeStateOf s z
   unfolding readLines writeLines start
   lines-backward n z e clean shows =
       let all =
       runs-backward s (lineAt F [] s) (writeLine F t) start n (SoundState F) (λ m z. Shows m) (lines n)
       (λ i y x h f ok g c k. line-backward F Q s t i y x ok g c (rw (next-read i y x f g) at k)) n z (le-refl n) e clean shows in
-      (rw start-same (all .0 .same), all .1)
+      rw start-same (all .same)

@@ -4,7 +4,7 @@ use mathlib.Core.List.{List, [], _++_}
 use mathlib.Core.Logic.{_↔_}
 use mathlib.Core.Option.{some}
 use mathlib.Core.Path.{_≡_, refl, sym, ap, _∙_, subst}
-use Prim.Native.Nat.{ℕ, _-_, _*_, _/_, _%_, _≤_, _<_}
+use Prim.Native.Nat.{ℕ, _-_, _*_, _/_, _%_, _<_}
 use native.Mathlib.Omega.{arith}
 use lib.ListN.{length, getD, take, drop, replicate, take-append-drop}
 use lib.Seq.{drop-at, ext-getD, length-take-le}
@@ -20,9 +20,8 @@ use Rattle.writing.proofs.LosslessLaws.{Lossless, lossless}
 use Rattle.writing.proofs.SetLaws.{line-lt, rank-lt, position-lt, index-at}
 use Rattle.block.specs.Blocks.{State, readLines}
 use Rattle.block.specs.Images.{formOf}
-use Rattle.block.specs.TightBlocks.{Tight, setRead, tightAnswer}
+use Rattle.block.specs.TightBlocks.{Tight, setRead}
 use Rattle.block.specs.WrittenBlocks.{WriteState, writeLines, tightBlock, FitSet}
-use Rattle.block.specs.declared.Decoded.the-variants.{Done}
 use Rattle.block.specs.declared.Form.{Form}
 use Rattle.block.proofs.LineLaws.{width-in-range}
 use Rattle.demand.specs.Demand.{Bytes, TightBlockOf, Demand, DemandOfHeaders, NoBases}
@@ -100,7 +99,7 @@ module _ (F : Form) (Q : Lossless (F .bits)) (lines : ℕ) where
     end : Tail s (z .at .0)
     end = tail-was s (z .at .0) (T .tail)
 
-    written : (writeLines F t lines ≡ writeStateOf s z) × ((m : ℕ) (y : State) → m ≤ lines → readLines F [] s m ≡ some y → CleanState s y)
+    written : writeLines F t lines ≡ writeStateOf s z
     written =
         lines-backward F Q s t lines z (T .read) (record { tight = T .codes; inside = end .inside })
         (λ n hn c hc p hp. sym (set-shown F lines s n c p hn hc hp))
@@ -110,7 +109,7 @@ module _ (F : Form) (Q : Lossless (F .bits)) (lines : ℕ) where
         record {
           size = set-size F lines s;
           range = set-le F lines s (Q .high);
-          predicted = ap (λ (w : WriteState). w .wrong) (written .0);
+          predicted = ap (λ (w : WriteState). w .wrong) written;
         }
 
     pub block-is : Bytes s → tightBlock F lines (setRead F lines s) ≡ s
@@ -118,12 +117,9 @@ module _ (F : Form) (Q : Lossless (F .bits)) (lines : ℕ) where
     block-is bytes =
         let l : List Bool = take (z .at .0) (bitsOf s) in
         let long : length l ≡ z .at .0 = length-take-le (z .at .0) (bitsOf s) (rw (length-bits s) (end .inside)) in
-        ap (λ (w : WriteState). bytesOf (w .bits)) (written .0)
+        ap (λ (w : WriteState). bytesOf (w .bits)) written
         ∙ bytesOf-bits s l bytes (rw long (end .full))
         (sym (take-append-drop (z .at .0) (bitsOf s)) ∙ rw (long) (ap (λ (r : List Bool). l ++ r) (end .zeros)))
-
-    pub is-accepted : (b : ℕ) → tightAnswer F b lines s ≡ Done
-    is-accepted b = tight-done F s b lines T (λ m y k e. written .1 m y k e .tight)
 
 -- ---- the demand
 
@@ -134,7 +130,7 @@ demand F lines depth =
       sets = λ t. (from-set t, λ (a : TightBlockOf F lines t). subst (FitSet F lines) (a .reads) (fits F Q lines (a .block) (a .tight)));
       one = λ t a b. same (a .block) (b .block) (a .bytes) (b .bytes) (a .tight) (b .tight) .1 (a .reads ∙ sym (b .reads));
       written = λ t f. (written-bytes F Q lines t f, written-tight F Q lines t f, written-set F Q lines t f);
-      accepted = λ b s. (done-tight F s b lines, λ T. is-accepted F Q lines s T b);
+      accepted = λ b s. (done-tight F s b lines, tight-done F s b lines);
       shown = set-shown F lines;
     }
   where

@@ -118,4 +118,4 @@ module _ (F : Form) (Q : Lossless (F .bits)) (s t : List ℕ) (n : ℕ) where
       let all =
       runs-backward s (passAt F 0 s) (writePassAt F t n) (before r) 6 (SoundState F) (PassHolds F t n) (passes (before r) (before-sound r ok))
       (λ i y x h f q g c k. passAt-backward F Q s i y q h t n x g c k) 6 z (omega arith) (line-was r z e) clean (lines-passes (F .xtrans) (Holds W t n (z .lines)) holds) in
-      record { clean = all .0 .clean; same = all .0 .same }
+      record { clean = all .clean; same = all .same }

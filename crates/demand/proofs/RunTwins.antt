@@ -1,18 +1,17 @@
 -- Things that are read and written one after the other: the passes of a line, and the lines of a block. Assumes nothing.
 use mathlib.Core.List.{List}
-use mathlib.Core.Option.{Option, none, some, Option·some-injective}
-use mathlib.Core.Path.{_≡_, refl, sym, ap, _∙_, subst}
+use mathlib.Core.Option.{Option, none, some}
+use mathlib.Core.Path.{_≡_, refl, ap, subst}
 use Prim.Native.Nat.{ℕ, zero, suc, _≤_, _<_}
 use native.Mathlib.Nat.{not-suc-le-zero}
 use native.Mathlib.Omega.{arith}
 use lib.ListN.{take}
 use Rattle.bits.specs.BitLists.{bitsOf}
 use Rattle.numbers.proofs.OrderLaws.{split}
-use Rattle.pass.specs.Readings.{andThen}
 use Rattle.writing.proofs.Twins.{Clean, Stored, stored-cut, Together, Back, together-then, back-then}
 use Rattle.block.specs.Blocks.{State, runs}
 use Rattle.block.specs.WrittenBlocks.{WriteState, repeats}
-use Rattle.block.proofs.RunLaws.{runs-keep}
+use Rattle.block.proofs.RunLaws.{runs-last, runs-keep}
 use Rattle.block.proofs.WrittenLaws.{afterBits, afreshState}
 
 -- what writing goes on after a clean reading of s
@@ -36,15 +35,6 @@ pub stored-before : (s : List ℕ) (g : WriteState → WriteState) (w : WriteSta
     → StoredState s (g w) → StoredState s w
 stored-before s g w e right h =
     stored-cut s (w .bits) ((g (afreshState w)) .bits) ((g (afreshState w)) .wrong) (w .wrong) (rw e at h) (λ f. right (rw e f))
-
--- all but the last, and then the last
-last-of : (f : ℕ → State → Option State) (n : ℕ) (r z : State) → runs f (suc n) r ≡ some z → (y : State) × (runs f n r ≡ some y) × (f n y ≡ some z)
-unfolding runs andThen
-last-of f n r z e = go (runs f n r) refl e
-  where
-    go : (o : Option State) → runs f n r ≡ o → andThen o (λ y. f n y) ≡ some z → (y : State) × (runs f n r ≡ some y) × (f n y ≡ some z)
-    go none g h = let no : _≡_ {A = ℕ} 0 1 = cc in absurd (omega arith)
-    go (some y) g h = (y, g, h)
 
 -- f i reads and g i writes the i-th of them, up to `most`, from r on; Sound is kept by each, and Hold i is what the i-th one leaves
 module _ (s : List ℕ) (f : ℕ → State → Option State) (g : ℕ → WriteState → WriteState) (r : State) (most : ℕ) (Sound : State → Type 0) (Hold : ℕ → State → Type 0) where
@@ -91,27 +81,17 @@ module _ (s : List ℕ) (f : ℕ → State → Option State) (g : ℕ → WriteS
         let before = runs-forward clean one n (omega arith) (each .stored n (repeats g n (writeStateOf s r)) stored) in
         go-on one n (before .0) h (before .1) stored
 
-    cleans-more : (n : ℕ) (z : State) → runs f n r ≡ some z → CleanState s z → ((m : ℕ) (y : State) → m < n → runs f m r ≡ some y → CleanState s y)
-        → (m : ℕ) (y : State) → m ≤ n → runs f m r ≡ some y → CleanState s y
-    cleans-more n z e clean before m y k u =
-        split n m
-        (λ v. let q : m ≡ n = omega arith in let is : z ≡ y = Option·some-injective z y (sym e ∙ (rw q at u)) in rw is at clean)
-        (λ v. before m y v u)
-
-    -- where each was read with its bits there, n of them were, and each state on the way was clean
+    -- where each was read with its bits there, n of them were
     pub runs-backward : ((i : ℕ) (y z : State) → i < most → runs f i r ≡ some y → Sound y → f i y ≡ some z → CleanState s z → Hold i z → StateBack s (g i) y z)
-        → (n : ℕ) (z : State) → n ≤ most → runs f n r ≡ some z → CleanState s z → ((c : ℕ) → c < n → Hold c z)
-        → StateBack s (repeats g n) r z × ((m : ℕ) (y : State) → m ≤ n → runs f m r ≡ some y → CleanState s y)
+        → (n : ℕ) (z : State) → n ≤ most → runs f n r ≡ some z → CleanState s z → ((c : ℕ) → c < n → Hold c z) → StateBack s (repeats g n) r z
     unfolding runs repeats
     runs-backward one zero z h e clean holds =
         let is : r ≡ z = cc in
-        (record { clean = rw (← is) at clean; same = ap (writeStateOf s) is }, cleans-more 0 z e clean (λ m y k u. absurd (not-suc-le-zero k)))
+        record { clean = rw (← is) at clean; same = ap (writeStateOf s) is }
     runs-backward one (suc n) z h e clean holds =
-        let o = last-of f n r z e in
+        let o = runs-last f r n z e in
         let y : State = o .0 in
         let ok : Sound y = sound-after n y (o .1) in
         let last : StateBack s (g n) y z = one n y z h (o .1) ok (o .2) clean (holds n (omega arith)) in
-        let before = runs-backward one n y (omega arith) (o .1) (last .clean) (λ c k. each .was n c y z h k ok (o .2) (holds c (omega arith))) in (
-          back-then (CleanState s) (writeStateOf s) (repeats g n) (g n) r y z (before .0) last,
-          cleans-more (suc n) z e clean (λ m x k u. before .1 m x (omega arith) u),
-        )
+        back-then (CleanState s) (writeStateOf s) (repeats g n) (g n) r y z
+        (runs-backward one n y (omega arith) (o .1) (last .clean) (λ c k. each .was n c y z h k ok (o .2) (holds c (omega arith)))) last

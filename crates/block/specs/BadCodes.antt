@@ -1,0 +1,89 @@
+-- Bad codes: why a code is not tight, and the first such code of a block, in coding order. Assumes nothing.
+use mathlib.Core.Bool.{cond, _&&_}
+use mathlib.Core.List.{List, [], _∷_}
+use mathlib.Core.Option.{Option, none, some, Option·map, orElse}
+use Prim.Native.Nat.{ℕ, zero, suc, _+_, _*_, _/_, _^_}
+use lib.Dec.{leb, ltb}
+use lib.ListN.{getD}
+use Rattle.bits.specs.declared.BitPosition.{BitPosition}
+use Rattle.statistics.specs.Statistics.{kOf}
+use Rattle.quantiser.specs.Quantisers.{largest}
+use Rattle.code.specs.declared.Code.{Code}
+use Rattle.code.specs.declared.Coded.{Coded}
+use Rattle.code.specs.declared.Coded.the-variants.{Read, Truncated}
+use Rattle.pass.specs.Steps.{Step, planOf, passSteps}
+use Rattle.pass.specs.Readings.{contextAt, lookOf, slotOf, usedQuantiser, noRecord, codeOf, Reading, readStep, andThen}
+use Rattle.map.specs.Places.{widthOf}
+use Rattle.block.specs.Records.{baseOf}
+use Rattle.block.specs.Blocks.{State, runs, enter, passAt, beforeLine, lineAt, startState}
+use Rattle.block.specs.declared.Form.{Form}
+
+-- ---- one code
+
+-- why a code is bad: it is 2^bits or more; it has more zeros than the limit; it is long where the short form fits
+pub data Reason : Type 0 where
+  too-large : Reason
+  too-many-zeros : Reason
+  short-fits : Reason
+
+-- the reason of a code that was read; none if it is tight. Where two apply, the one that stands first above is given. A code is long when its zeros
+-- reach the limit, and the short form fits if ⌊code/2^k⌋ is below the limit
+unfoldable pub reasonOf : ℕ → ℕ → ℕ → Code → Option Reason
+reasonOf M k limit c =
+    cond (ltb M (c .value)) (some too-large)
+    (cond (ltb limit (c .zeros)) (some too-many-zeros)
+    (cond (leb limit (c .zeros) && ltb (c .value / 2 ^ k) limit) (some short-fits) none))
+
+-- a code that is cut off is not called bad
+abbrev pub codedReason : ℕ → ℕ → ℕ → Coded → Option Reason
+codedReason M k limit (Read c) = reasonOf M k limit c
+codedReason M k limit Truncated = none
+
+-- ---- the steps of a pass
+
+-- the reason of a step's code, which is the one that `readStep` takes; none if the step has no code
+unfoldable pub stepReason : ℕ → ℕ → ℕ → List ℕ → Step → Reading → Option Reason
+stepReason bits q W s x r =
+    let i = x .line * (W + 2) + x .position in
+    let h = lookOf q (contextAt (r .lines) (W + 2) i (x .position)) in
+    let slot = slotOf (x .position) (h .place) in
+    let limit = (usedQuantiser bits q (h .choice)) .limit in
+    cond (x .coded) (codedReason (largest bits) (kOf (getD (r .set) slot noRecord)) limit (codeOf bits q s slot h r)) none
+
+-- a bad code: its line of six rows, its pass, 0 to 5, its step, which has the colour line and the position, its first bit, and the reason
+pub record BadCode : Type 0 where
+  pub line : ℕ
+  pub pass : ℕ
+  pub step : Step
+  pub at : BitPosition
+  pub reason : Reason
+
+abbrev pub badAt : ℕ → ℕ → Step → Reading → Reason → BadCode
+badAt n i x r reason = record { line = n; pass = i; step = x; at = r .at; reason = reason }
+
+-- the first bad code of a list of steps, in pass i of line n; none if they end, or one is cut off, before there is one
+unfoldable pub badInSteps : ℕ → ℕ → ℕ → ℕ → ℕ → List ℕ → List Step → Reading → Option BadCode
+badInSteps n i bits q W s [] r = none
+badInSteps n i bits q W s (x ∷ l) r =
+    orElse (Option·map (badAt n i x r) (stepReason bits q W s x r)) (andThen (readStep bits q W s x r) (λ z. badInSteps n i bits q W s l z))
+
+-- ---- passes and lines
+
+-- what is found first where f 0, f 1, .. run one after the other, n of them, until one fails: g i looks through the run of f i
+unfoldable pub firstFound : {A B : Type 0} → (ℕ → A → Option A) → (ℕ → A → Option B) → ℕ → A → Option B
+firstFound f g zero r = none
+firstFound f g (suc n) r = orElse (firstFound f g n r) (andThen (runs f n r) (λ z. g n z))
+
+-- in pass i of line n, whose base is q
+unfoldable pub badInPass : Form → ℕ → List ℕ → ℕ → ℕ → State → Option BadCode
+badInPass F q s n i r =
+    let P = planOf (F .xtrans) i in
+    badInSteps n i (F .bits) q (widthOf (F .xtrans)) s (passSteps (widthOf (F .xtrans)) P) (enter F P r)
+
+-- in line n
+unfoldable pub badInLine : Form → List ℕ → List ℕ → ℕ → State → Option BadCode
+badInLine F bases s n r = firstFound (passAt F (baseOf bases n) s) (badInPass F (baseOf bases n) s n) 6 (beforeLine F bases n r)
+
+-- the first bad code of the first n lines of the block with the bytes s
+unfoldable pub firstBad : Form → List ℕ → List ℕ → ℕ → Option BadCode
+firstBad F bases s n = firstFound (lineAt F bases s) (badInLine F bases s) n (startState F bases)
