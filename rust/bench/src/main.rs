@@ -29,11 +29,11 @@ fn seconds() -> f64 {
     t[0] as f64 + t[1] as f64 * 1e-9
 }
 
-/// A smooth picture, with noise that is the sum of four even ones.
-fn light(n: usize, line: usize, p: usize, random: &mut Random) -> u16 {
+/// A smooth picture, with noise that is the sum of four even ones, each below `noise`.
+fn light(n: usize, line: usize, p: usize, noise: u64, random: &mut Random) -> u16 {
     let (x, y) = (p as f64, (6 * n + line) as f64);
     let smooth = 5000.0 + 2000.0 * (x / 45.0).sin() + 1500.0 * (y / 60.0).sin();
-    let noise: u64 = (0..4).map(|_| random.below(25)).sum();
+    let noise: u64 = (0..4).map(|_| random.below(noise)).sum();
     smooth as u16 + noise as u16
 }
 
@@ -46,11 +46,11 @@ struct Picture {
 
 impl Picture {
     /// 14 bits; lossy with base 2 in every line.
-    fn new(blocks: u16, lines: u16, xtrans: bool, lossy: bool) -> Picture {
+    fn new(blocks: u16, lines: u16, xtrans: bool, lossy: bool, noise: u64) -> Picture {
         let mut random = Random::new(SEED);
         let header = Header::new(!lossy, xtrans, 14, 768 * blocks, lines);
         let rows = if lossy { vec![vec![2; lines as usize]; blocks as usize] } else { vec![] };
-        let stream = encoded(&header, &rows, &mut |_, n, line, p| light(n, line, p, &mut random));
+        let stream = encoded(&header, &rows, &mut |_, n, line, p| light(n, line, p, noise, &mut random));
         Picture { stream, width: header.width as u32, height: header.height as u32, codes: 4608.0 * blocks as f64 * lines as f64 }
     }
 
@@ -216,6 +216,7 @@ fn measure(name: &str, names: [&str; 2], picture: &Picture, Rounds { kept, all }
 fn main() {
     let words: Vec<u16> = std::env::args().skip(1).map(|w| w.parse().expect("a number of blocks and a number of lines")).collect();
     let (blocks, lines) = (*words.first().unwrap_or(&6), *words.get(1).unwrap_or(&300));
+    let noise = std::env::var("BENCH_NOISE").map_or(25, |n| n.parse().expect("a number for BENCH_NOISE"));
     println!(
         "images are written over from run to run, and not cleared before; times are processor times of one thread, medians (least to most)"
     );
@@ -225,9 +226,9 @@ fn main() {
         }
     };
     for (name, xtrans, lossy) in KINDS {
-        let one = Picture::new(1, 480, xtrans, lossy);
+        let one = Picture::new(1, 480, xtrans, lossy, noise);
         measure(&format!("{name}, one block of 480 lines"), ["rust", "ours"], &one, one.against_theirs());
-        let whole = Picture::new(blocks, lines, xtrans, lossy);
+        let whole = Picture::new(blocks, lines, xtrans, lossy, noise);
         let title = format!("{name}, {blocks} blocks of {lines} lines");
         say(name, measure(&title, ["rust", "ours"], &whole, whole.against_theirs()));
         if !lossy {
