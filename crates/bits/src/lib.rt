@@ -66,7 +66,7 @@ fn byte_at(s: &[u8], i: usize) -> u64
 }
 
 // The four bytes from i on. Sums of products, four bytes at a time: LLVM makes one load and one byte swap of two such groups.
-fn load32(s: &[u8], i: usize) -> u64
+pub fn load32(s: &[u8], i: usize) -> u64
     requires { ⌜ i + 4 ≤ length (now s) ⌝ }
     ensures { λ r. ⌜ (r ≡ be32 (now (s .entry)) i) × (r < 2 ^ 32) ⌝ }
 {

@@ -8,6 +8,7 @@ pub mod ListTwins
 pub mod OrderLaws
 pub mod PassTwins
 pub mod PutLaws
+pub mod WordLaws
 pub mod CodedLaws
 pub mod StepPuts
 pub mod TurnPuts

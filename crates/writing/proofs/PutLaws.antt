@@ -25,7 +25,7 @@ mod-two : (n : ℕ) → n % 2 ^ 1 % 2 ≡ n % 2
 mod-two n = omega arith
 
 -- the b digits of a number go by its rest
-binary-low : (b v : ℕ) → binary b v ≡ binary b (v % 2 ^ b)
+pub binary-low : (b v : ℕ) → binary b v ≡ binary b (v % 2 ^ b)
 unfolding binary
 binary-low zero v = refl
 binary-low (suc b) v =
@@ -87,13 +87,13 @@ number-part (suc a) k v l h =
 
 -- ---- bytes
 
-bits-append : (s t : List ℕ) → bitsOf (s ++ t) ≡ bitsOf s ++ bitsOf t
+pub bits-append : (s t : List ℕ) → bitsOf (s ++ t) ≡ bitsOf s ++ bitsOf t
 unfolding bitsOf
 bits-append [] t = refl
 bits-append (x ∷ s) t = rw (bits-append s t) (sym (append-assoc (binary 8 x) (bitsOf s) (bitsOf t)))
 
 -- where at least one bit is put
-put-some : (out : List ℕ) (at : ℕ) (l : List Bool) → 1 ≤ length l
+pub put-some : (out : List ℕ) (at : ℕ) (l : List Bool) → 1 ≤ length l
     → putBits out at l ≡ packed (bytesFor (at + length l)) (take at (bitsOf out) ++ l) ++ drop (bytesFor (at + length l)) out
 unfolding putBits
 put-some out at [] h = absurd (omega arith)

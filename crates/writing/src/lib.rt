@@ -1,12 +1,12 @@
 // Writing one pass over two colour lines, lossless: the samples are those of a set, and their tight codes are counted or stored.
 ghost use mathlib.Core.Path.{_≡_};
 ghost use mathlib.Core.Bool.{true, false, cond, not};
-ghost use mathlib.Core.List.{[], _∷_};
+ghost use mathlib.Core.List.{[], _∷_, _++_};
 ghost use mathlib.Core.Option.{none};
 ghost use Prim.Native.Nat.{_+_, _-_, _*_, _/_, _%_, _^_, _≤_, _<_};
 ghost use lib.Dec.{ltb, leb};
-ghost use lib.ListN.{length};
-ghost use Rattle.bits.specs.BitLists.{binary, bytesFor};
+ghost use lib.ListN.{length, take, drop};
+ghost use Rattle.bits.specs.BitLists.{binary, packed, bytesFor};
 ghost use Rattle.quantiser.specs.Quantisers.{largest};
 ghost use Rattle.prediction.specs.Predictions.{Ranges};
 ghost use Rattle.code.specs.Tight.{stepsUp, residualUp, codeOfResidual, codeFor, codeBits, codeLength};
@@ -100,7 +100,7 @@ fn code_for(m: u32, negative: bool, prediction: u32, v: u32) -> u32
 // How many bits its tight code has.
 fn code_length(k: u32, limit: u32, raw: u32, code: u32) -> u32
     requires { ⌜ (k ≤ 15) × ((limit ≤ 47) × (raw ≤ 16)) ⌝ }
-    ensures { λ r. ⌜ (r ≡ codeLength k limit raw code) × (r ≤ 64) ⌝ }
+    ensures { λ r. ⌜ (r ≡ codeLength k limit raw code) × ((1 ≤ r) × (r ≤ 64)) ⌝ }
 {
     let zeros = code >> k;
     if zeros < limit {
@@ -141,7 +141,7 @@ fn filled(old: u8, used: u32, t: u32, part: u32) -> u8
 }
 
 // The last n bits of a number go to the output from bit `at` on, byte after byte. What follows them in their last byte is 0.
-fn put_bits(out: &mut [u8], at: BitPosition, n: u32, value: u64)
+fn put_by_bytes(out: &mut [u8], at: BitPosition, n: u32, value: u64)
     requires { ⌜ (n ≤ 64) × ((at .0 < 2 ^ 60) × (bytesFor (at .0 + n) ≤ length (now out))) ⌝ }
     ensures { λ _. ⌜ now (out .exit) ≡ putBits (now (out .entry)) (at .0) (binary n value) ⌝ }
 {
@@ -155,6 +155,44 @@ fn put_bits(out: &mut [u8], at: BitPosition, n: u32, value: u64)
         p += t as u64;
         left -= t;
     }
+}
+
+// Four bytes as a number: the first `used` bits stay, the last n bits of the value follow, then zeros to the end of a byte, and the bytes after
+// that one stay. The value goes to the top of its word and down again, so that its other bits are left out.
+fn merged(old: u64, used: u32, n: u32, value: u64) -> u64
+    requires { ⌜ (old < 2 ^ 32) × ((used < 8) × ((1 ≤ n) × (used + n ≤ 24))) ⌝ }
+    ensures { λ r. ⌜ (r ≡ old / 2 ^ (32 - used) * 2 ^ (32 - used) + value % 2 ^ n * 2 ^ (32 - used - n) + old % 2 ^ (32 - 8 * bytesFor (used + n))) × (r < 2 ^ 32) ⌝ }
+{
+    let kept = (old >> (32 - used)) << (32 - used);
+    let new = (value << (64 - n)) >> (32 + used);
+    let low = old % (1u64 << (32 - 8 * ((used + n + 7) / 8)));
+    kept + new + low
+}
+
+// A number as the four bytes from i on. Four stores in a row: LLVM makes one byte swap and one store of them.
+fn store32(out: &mut [u8], i: usize, w: u64)
+    requires { ⌜ (i + 4 ≤ length (now out)) × (w < 2 ^ 32) ⌝ }
+    ensures { λ _. ⌜ now (out .exit) ≡ take i (now (out .entry)) ++ packed 4 (binary 32 w) ++ drop (i + 4) (now (out .entry)) ⌝ }
+{
+    out[i] = (w >> 24) as u8;
+    out[i + 1] = ((w >> 16) % 256) as u8;
+    out[i + 2] = ((w >> 8) % 256) as u8;
+    out[i + 3] = (w % 256) as u8;
+}
+
+// The last n bits of a number go to the output from bit `at` on. What follows them in their last byte is 0. Where they end within three bytes,
+// four are changed at once: how often the loop turns cannot be foretold, and that takes longer.
+fn put_bits(out: &mut [u8], at: BitPosition, n: u32, value: u64)
+    requires { ⌜ (1 ≤ n) × ((n ≤ 64) × ((at .0 < 2 ^ 60) × (bytesFor (at .0 + n) ≤ length (now out)))) ⌝ }
+    ensures { λ _. ⌜ now (out .exit) ≡ putBits (now (out .entry)) (at .0) (binary n value) ⌝ }
+{
+    let used = (at.0 % 8) as u32;
+    let i = (at.0 / 8) as usize;
+    if (used + n <= 24) & (i + 4 <= out.len()) {
+        store32(out, i, merged(bits::load32(out, i), used, n, value));
+        return;
+    }
+    put_by_bytes(out, at, n, value)
 }
 
 // The tight code, stored or only counted, and the position after it.

@@ -12,7 +12,7 @@ put-bits-requires c κs =
     let n = c .before .before .before .before in
     let p = entry n .pre in
     let e = n .code-length .ensures in
-    (e .1, (p .1 .0, digits-room _ (entry n .args .out .now) _ _ _ _ _ _ (e .0) (c .before .before .if1 .taken) (p .1 .1)))
+    (e .1 .0, (e .1 .1, (p .1 .0, digits-room _ (entry n .args .out .now) _ _ _ _ _ _ (e .0) (c .before .before .if1 .taken) (p .1 .1))))
 
 returns : tie.Need-returns
 returns c =
