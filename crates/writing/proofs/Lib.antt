@@ -10,5 +10,6 @@ pub mod PassTwins
 pub mod PutLaws
 pub mod CodedLaws
 pub mod StepPuts
+pub mod SitePuts
 pub mod TurnPuts
 pub mod PassLaws

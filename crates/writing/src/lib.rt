@@ -213,146 +213,6 @@ fn context_at(lines: &[u16], s: usize, i: usize, p: usize) -> Context
     pass::odd_context(lines, s, i)
 }
 
-// The bits of a sample v with a code, at position p in the context x. Its record is updated.
-fn write_coded(
-    out: &mut [u8],
-    store: bool,
-    from: BitPosition,
-    sums: &mut [u32; 112],
-    ns: &mut [u32; 112],
-    p: usize,
-    x: Context,
-    v: u32,
-    bits: u32,
-    limit: u32,
-    raw: u32,
-) -> BitPosition
-    requires { ⌜ Depth bits × ((limit ≡ (usedQuantiser bits 0 0) .limit) × (raw ≡ (usedQuantiser bits 0 0) .raw)) ⌝ }
-    requires { ⌜ Ranges x × ((x .prediction ≤ largest bits) × (v ≤ largest bits)) ⌝ }
-    requires { ⌜ SetInRange (zipRecords (now sums) (now ns)) ⌝ }
-    requires { ⌜ (from .0 < 2 ^ 60) × Room store (now out) (from .0) (bitsOfSample bits p v x (zipRecords (now sums) (now ns))) ⌝ }
-    ensures { λ r. ⌜ (r .0 ≡ from .0 + length (bitsOfSample bits p v x (zipRecords (now (sums .entry)) (now (ns .entry))))) × (now (out .exit) ≡ putIf store (now (out .entry)) (from .0) (bitsOfSample bits p v x (zipRecords (now (sums .entry)) (now (ns .entry))))) × (zipRecords (now (sums .exit)) (now (ns .exit)) ≡ setOfSample bits p v x (zipRecords (now (sums .entry)) (now (ns .entry)))) × SetInRange (zipRecords (now (sums .exit)) (now (ns .exit))) ⌝ }
-{
-    let h = pass::look_of(0, x);
-    let slot = h.place + 56 * (p % 2);
-    let old = Record {
-        sum: sums[slot],
-        n: ns[slot],
-    };
-    let code = code_for(quantiser::largest(bits), h.negative, x.prediction, v);
-    let after = put_code(out, store, from, old.k(), limit, raw, code);
-    let new = old.update(code::residual_size(code));
-    sums[slot] = new.sum;
-    ns[slot] = new.n;
-    after
-}
-
-// The sample at position p of a colour line, in line n: with its code, or interpolated.
-fn write_step(
-    samples: &[u16],
-    n: usize,
-    out: &mut [u8],
-    store: bool,
-    from: BitPosition,
-    lines: &mut [u16],
-    sums: &mut [u32; 112],
-    ns: &mut [u32; 112],
-    w: usize,
-    line: usize,
-    p: usize,
-    coded: bool,
-    bits: u32,
-    limit: u32,
-    raw: u32,
-) -> Put
-    requires { ⌜ (w ≤ 512) × ((p < w) × ((2 ≤ line) × (line ≤ 17))) ⌝ }
-    requires { ⌜ Depth bits × ((limit ≡ (usedQuantiser bits 0 0) .limit) × (raw ≡ (usedQuantiser bits 0 0) .raw)) ⌝ }
-    requires { ⌜ (n < 2 ^ 16) × (((n + 1) * lineSize w ≤ length (now samples)) × Within (largest bits) (now samples)) ⌝ }
-    requires { ⌜ (18 * (w + 2) ≤ length (now lines)) × (Within (largest bits) (now lines) × SetInRange (zipRecords (now sums) (now ns))) ⌝ }
-    requires { ⌜ (from .0 < 2 ^ 60) × StepsRoom bits w (now samples) n (stepAt line p coded ∷ []) store (from .0) (now lines) (now sums) (now ns) (now out) ⌝ }
-    ensures { λ r. ⌜ StepsPut bits w (now (samples .entry)) n (stepAt line p coded ∷ []) store (from .0) (now (lines .entry)) (now (sums .entry)) (now (ns .entry)) (now (out .entry)) (now (lines .exit)) (now (sums .exit)) (now (ns .exit)) (now (out .exit)) r × SetInRange (zipRecords (now (sums .exit)) (now (ns .exit))) ⌝ }
-{
-    let i = pass::left_of(w, line, p);
-    let j = index_in(w, n, line, p);
-    let x = context_at(lines, w + 2, i, p);
-    let v = samples[j];
-    if coded {
-        let after = write_coded(out, store, from, sums, ns, p, x, wide(v), bits, limit, raw);
-        lines[i + 1] = v;
-        return Put::At(after);
-    }
-    if wide(v) != x.prediction {
-        return Put::Wrong(j);
-    }
-    lines[i + 1] = v;
-    Put::At(from)
-}
-
-// The two samples at position p, in the pass's first line and then in its second.
-fn write_pair(
-    samples: &[u16],
-    n: usize,
-    out: &mut [u8],
-    store: bool,
-    from: BitPosition,
-    lines: &mut [u16],
-    sums: &mut [u32; 112],
-    ns: &mut [u32; 112],
-    w: usize,
-    plan: Plan,
-    p: usize,
-    first_coded: bool,
-    second_coded: bool,
-    bits: u32,
-    limit: u32,
-    raw: u32,
-) -> Put
-    requires { ⌜ (w ≤ 512) × ((p < w) × PlanInRange plan) ⌝ }
-    requires { ⌜ Depth bits × ((limit ≡ (usedQuantiser bits 0 0) .limit) × (raw ≡ (usedQuantiser bits 0 0) .raw)) ⌝ }
-    requires { ⌜ (n < 2 ^ 16) × (((n + 1) * lineSize w ≤ length (now samples)) × Within (largest bits) (now samples)) ⌝ }
-    requires { ⌜ (18 * (w + 2) ≤ length (now lines)) × (Within (largest bits) (now lines) × SetInRange (zipRecords (now sums) (now ns))) ⌝ }
-    requires { ⌜ (from .0 + 80 < 2 ^ 60) × StepsRoom bits w (now samples) n (stepAt (plan .first) p «first_coded» ∷ stepAt (plan .second) p «second_coded» ∷ []) store (from .0) (now lines) (now sums) (now ns) (now out) ⌝ }
-    ensures { λ r. ⌜ StepsPut bits w (now (samples .entry)) n (stepAt (plan .first) p «first_coded» ∷ stepAt (plan .second) p «second_coded» ∷ []) store (from .0) (now (lines .entry)) (now (sums .entry)) (now (ns .entry)) (now (out .entry)) (now (lines .exit)) (now (sums .exit)) (now (ns .exit)) (now (out .exit)) r × SetInRange (zipRecords (now (sums .exit)) (now (ns .exit))) ⌝ }
-{
-    let got = write_step(
-        samples,
-        n,
-        out,
-        store,
-        from,
-        lines,
-        sums,
-        ns,
-        w,
-        plan.first,
-        p,
-        first_coded,
-        bits,
-        limit,
-        raw,
-    );
-    let Put::At(at) = got else {
-        return got;
-    };
-    write_step(
-        samples,
-        n,
-        out,
-        store,
-        at,
-        lines,
-        sums,
-        ns,
-        w,
-        plan.second,
-        p,
-        second_coded,
-        bits,
-        limit,
-        raw,
-    )
-}
-
 // The two samples at the even position p, where it is one of the line.
 fn write_even(
     samples: &[u16],
@@ -380,26 +240,54 @@ fn write_even(
     if p >= w {
         return Put::At(from);
     }
-    let a = pass::has_code(plan.first_rule, p);
-    let b = pass::has_code(plan.second_rule, p);
-    write_pair(
-        samples,
-        n,
-        out,
-        store,
-        from,
-        lines,
-        sums,
-        ns,
-        w,
-        plan,
-        p,
-        a,
-        b,
-        bits,
-        limit,
-        raw,
-    )
+    let m = quantiser::largest(bits);
+    let s = w + 2;
+    let mut at = from;
+    let i = pass::left_of(w, plan.first, p);
+    let j = index_in(w, n, plan.first, p);
+    let x = context_at(lines, s, i, p);
+    let v = samples[j];
+    lines[i + 1] = v;
+    if pass::has_code(plan.first_rule, p) {
+        let h = pass::look_of(0, x);
+        let slot = h.place + 56 * (p % 2);
+        let old = Record {
+            sum: sums[slot],
+            n: ns[slot],
+        };
+        let code = code_for(m, h.negative, x.prediction, wide(v));
+        at = put_code(out, store, at, old.k(), limit, raw, code);
+        let new = old.update(code::residual_size(code));
+        sums[slot] = new.sum;
+        ns[slot] = new.n;
+    } else {
+        if wide(v) != x.prediction {
+            return Put::Wrong(j);
+        }
+    }
+    let i = pass::left_of(w, plan.second, p);
+    let j = index_in(w, n, plan.second, p);
+    let x = context_at(lines, s, i, p);
+    let v = samples[j];
+    lines[i + 1] = v;
+    if pass::has_code(plan.second_rule, p) {
+        let h = pass::look_of(0, x);
+        let slot = h.place + 56 * (p % 2);
+        let old = Record {
+            sum: sums[slot],
+            n: ns[slot],
+        };
+        let code = code_for(m, h.negative, x.prediction, wide(v));
+        at = put_code(out, store, at, old.k(), limit, raw, code);
+        let new = old.update(code::residual_size(code));
+        sums[slot] = new.sum;
+        ns[slot] = new.n;
+    } else {
+        if wide(v) != x.prediction {
+            return Put::Wrong(j);
+        }
+    }
+    Put::At(at)
 }
 
 // The two samples at the odd position p - 7, once positions 0 to 8 are done.
@@ -429,24 +317,42 @@ fn write_odd(
     if p < 8 {
         return Put::At(from);
     }
-    write_pair(
-        samples,
-        n,
-        out,
-        store,
-        from,
-        lines,
-        sums,
-        ns,
-        w,
-        plan,
-        p - 7,
-        true,
-        true,
-        bits,
-        limit,
-        raw,
-    )
+    let m = quantiser::largest(bits);
+    let s = w + 2;
+    let q = p - 7;
+    let i = pass::left_of(w, plan.first, q);
+    let j = index_in(w, n, plan.first, q);
+    let x = context_at(lines, s, i, q);
+    let v = samples[j];
+    lines[i + 1] = v;
+    let h = pass::look_of(0, x);
+    let slot = h.place + 56 * (q % 2);
+    let old = Record {
+        sum: sums[slot],
+        n: ns[slot],
+    };
+    let code = code_for(m, h.negative, x.prediction, wide(v));
+    let at = put_code(out, store, from, old.k(), limit, raw, code);
+    let new = old.update(code::residual_size(code));
+    sums[slot] = new.sum;
+    ns[slot] = new.n;
+    let i = pass::left_of(w, plan.second, q);
+    let j = index_in(w, n, plan.second, q);
+    let x = context_at(lines, s, i, q);
+    let v = samples[j];
+    lines[i + 1] = v;
+    let h = pass::look_of(0, x);
+    let slot = h.place + 56 * (q % 2);
+    let old = Record {
+        sum: sums[slot],
+        n: ns[slot],
+    };
+    let code = code_for(m, h.negative, x.prediction, wide(v));
+    let after = put_code(out, store, at, old.k(), limit, raw, code);
+    let new = old.update(code::residual_size(code));
+    sums[slot] = new.sum;
+    ns[slot] = new.n;
+    Put::At(after)
 }
 
 // A pass, with the turns of reading: the even position p, and then the odd one at p - 7.
