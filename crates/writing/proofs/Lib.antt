@@ -8,7 +8,6 @@ pub mod ListTwins
 pub mod OrderLaws
 pub mod PassTwins
 pub mod PutLaws
-pub mod CodedLaws
 pub mod StepPuts
 pub mod SitePuts
 pub mod TurnPuts

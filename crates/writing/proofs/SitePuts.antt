@@ -2,7 +2,7 @@
 use mathlib.Core.Bool.{Bool, true, false}
 use mathlib.Core.List.{List, [], _∷_}
 use mathlib.Core.Logic.{_≢_}
-use mathlib.Core.Path.{_≡_, refl, sym, _∙_}
+use mathlib.Core.Path.{_≡_, refl, sym, ap, _∙_}
 use Prim.Native.Nat.{ℕ, _+_, _*_, _^_, _≤_, _<_}
 use native.Mathlib.Omega.{arith}
 use lib.ListN.{length, getD, set}
@@ -14,15 +14,18 @@ use Rattle.prediction.specs.declared.Context.{Context}
 use Rattle.code.specs.Samples.{residualOf}
 use Rattle.code.specs.Tight.{codeFor, codeBits}
 use Rattle.pass.specs.Steps.{Step, stepAt}
-use Rattle.pass.specs.Readings.{usedQuantiser, lookOf, slotOf, zipRecords, SetInRange, Depth}
+use Rattle.pass.specs.Readings.{usedQuantiser, lookOf, slotOf, noRecord, zipRecords, SetInRange, Depth}
 use Rattle.pass.specs.declared.Look.{Look}
-use Rattle.pass.proofs.ZipLaws.{recordAt}
-use Rattle.writing.specs.Puts.{putIf, Room, Within, bitsOfSample, StepsRoom, StepsPut}
+use Rattle.pass.proofs.LookLaws.{look-lossless}
+use Rattle.writing.specs.Puts.{putIf, Room, Within, bitsOfSample, setOfSample, StepsRoom, StepsPut}
 use Rattle.writing.specs.declared.Put.{Put}
 use Rattle.writing.specs.declared.Put.the-variants.{At, Wrong}
 use Rattle.writing.proofs.LosslessLaws.{code-numbers}
-use Rattle.writing.proofs.CodedLaws.{coded-n, coded-record, coded-bits, coded-set, coded-in-range}
 use Rattle.writing.proofs.StepPuts.{Sample, prediction-le, sample-room, sample-coded, sample-right, sample-wrong, first-room, room-after, goes-on, within-after, position-after}
+
+-- the main quantiser is used
+main : (x : Context) → (lookOf 0 x) .choice ≡ 0
+main x = ap (λ (h : Look). h .choice) (look-lossless x)
 
 -- ---- what steps find, and what is known after one of them
 
@@ -101,48 +104,48 @@ module _ {bits limit raw W : ℕ} {t : List ℕ} {n line p : ℕ} {coded store :
       → StepsPut bits W t n (stepAt line p coded ∷ []) store (from .0) lines sums ns out (set lines (i + 1) (getD t j 0)) sums ns out (Wrong j)
   site-wrong e f = sample-wrong (s .sample) bits store coded (from .0) sums ns out e (rw ev at f)
 
-module _ {bits limit raw W : ℕ} {t : List ℕ} {n line p : ℕ} {coded store : Bool} {from : BitPosition} {lines sums ns out : List ℕ} {i j : ℕ} {x : Context}
-    (s : Site bits limit raw W t n line p coded store from lines sums ns out i j x)
-    {h : Look} (look : (h ≡ lookOf 0 x) × ((h .choice ≤ 3) × ((h .base < 256) × (h .place < 56)))) where
-  -- ---- with a code, by the record at this place
+  -- ---- with a code, by the record at this place of the set
 
-  abbrev slot : ℕ
-  slot = slotOf p (h .place)
+  module _ {m slot code : ℕ} (em : (m ≡ largest bits) × (m < 2 ^ 16))
+      (ec : (slot ≡ slotOf p ((lookOf 0 x) .place)) × ((slot < 112) × ((code ≡ codeFor m ((lookOf 0 x) .negative) (x .prediction) v) × (code ≤ m)))) where
+    -- what `record_at` asks
+    pub site-record : (slot < 112) × SetInRange (zipRecords sums ns)
+    site-record = (ec .1 .0, s .ready .records)
 
-  pub site-n : (1 ≤ getD ns slot 0) × (getD ns slot 0 ≤ 64)
-  site-n = coded-n p sums ns x h (s .ready .records) (look .0) (look .1 .1 .1)
+    module _ {old : Record} (eo : (old ≡ getD (zipRecords sums ns) slot noRecord) × InRange old) where
+      -- what `update_at` asks
+      pub site-update : ((code < 2 ^ 16) × ((slot < 112) × InRange old)) × SetInRange (zipRecords sums ns)
+      site-update = ((omega (arith, em .1, ec .1 .1 .1), (ec .1 .0, eo .1)), s .ready .records)
 
-  pub site-record : InRange (recordAt sums ns slot)
-  site-record = coded-record p sums ns x h (s .ready .records) (look .0) (look .1 .1 .1)
+      module _ (ct : coded ≡ true) {k : ℕ} (ek : (k ≡ kOf old) × (k ≤ 15)) where
+        bits-are : codeBits k limit raw code ≡ bitsOfSample bits p (getD t j 0) x (zipRecords sums ns)
+        unfolding bitsOfSample
+        bits-are = rw (ek .0, eo .0, ec .0, ec .1 .1 .0, em .0, ev, s .ready .numbers .1 .0, s .ready .numbers .1 .1, main x)
 
-  module _ (ct : coded ≡ true) {m v code k : ℕ} (ev : v ≡ getD t j 0) (em : (m ≡ largest bits) × (m < 2 ^ 16))
-      (ec : (code ≡ codeFor m (h .negative) (x .prediction) v) × (code ≤ m)) (ek : (k ≡ kOf (recordAt sums ns slot)) × (k ≤ 15)) where
-    bits-are : codeBits k limit raw code ≡ bitsOfSample bits p (getD t j 0) x (zipRecords sums ns)
-    bits-are =
-        let q = s .ready .numbers .1 in
-        coded-bits p sums ns x h (s .ready .records) (look .0) (look .1 .1 .1) bits m v code (em .0) (ec .0) k limit raw (ek .0) (q .0) (q .1) ∙ rw ev
+        -- what `put_code` asks
+        pub site-room : ((k ≤ 15) × ((1 ≤ limit) × ((limit ≤ 47) × ((raw ≤ 16) × ((code < 2 ^ 16) × (code ≤ 2 ^ raw))))))
+            × ((from .0 < 2 ^ 60) × Room store out (from .0) (codeBits k limit raw code))
+        site-room =
+            let r = s .ready in
+            let d = r .numbers in
+            let q = code-numbers bits (d .0 .0) (d .0 .1) in
+            let c : code ≤ largest bits = rw (em .0) at (ec .1 .1 .1) in (
+              (ek .1, (rw (d .1 .0) (q .0), (rw (d .1 .0) (q .1), (rw (d .1 .1) (q .2), (site-update .0 .0, rw (d .1 .1) (omega (arith, c, q .3))))))),
+              (omega (arith, r .low), rw bits-are (sample-room (s .sample) bits store coded (from .0) sums ns out ct (r .room))),
+            )
 
-    -- what `put_code` asks
-    pub site-room : ((k ≤ 15) × ((1 ≤ limit) × ((limit ≤ 47) × ((raw ≤ 16) × ((code < 2 ^ 16) × (code ≤ 2 ^ raw))))))
-        × ((from .0 < 2 ^ 60) × Room store out (from .0) (codeBits k limit raw code))
-    site-room =
-        let r = s .ready in
-        let d = r .numbers in
-        let q = code-numbers bits (d .0 .0) (d .0 .1) in
-        let c : code ≤ largest bits = rw (em .0) at (ec .1) in (
-          (ek .1, (rw (d .1 .0) (q .0), (rw (d .1 .0) (q .1), (rw (d .1 .1) (q .2), (omega (arith, em .1, ec .1), rw (d .1 .1) (omega (arith, c, q .3))))))),
-          (omega (arith, r .low), rw bits-are (sample-room (s .sample) bits store coded (from .0) sums ns out ct (r .room))),
-        )
+        set-is : set (zipRecords sums ns) slot (updated old ((residualOf code) .size)) ≡ setOfSample bits p (getD t j 0) x (zipRecords sums ns)
+        unfolding setOfSample
+        set-is = rw (eo .0, ec .0, ec .1 .1 .0, em .0, ev)
 
-    pub site-done : {after : BitPosition} {out' : List ℕ} {size : ℕ} {new : Record}
-        → (after .0 ≡ from .0 + length (codeBits k limit raw code)) × (out' ≡ putIf store out (from .0) (codeBits k limit raw code)) → length out' ≡ length out
-        → size ≡ (residualOf code) .size → (new ≡ updated (recordAt sums ns slot) size) × InRange new
-        → Done bits W t n (stepAt line p coded) store from lines sums ns out (set lines (i + 1) (getD t j 0)) (set sums slot (new .sum)) (set ns slot (new .n)) out' after
-    site-done {after} {out'} {size} {new} put same es en =
-        let g = rw bits-are at put in
-        let c = coded-set p sums ns x h (s .ready .records) (look .0) (look .1 .1 .1) bits m v code (em .0) (ec .0) size new es (en .0) in
-        record {
-          put = sample-coded (s .sample) bits store coded (from .0) sums ns out (set sums slot (new .sum)) (set ns slot (new .n)) out' after ct (g .0) (g .1) (c ∙ rw ev);
-          records = coded-in-range p sums ns x h (s .ready .records) (look .0) (look .1 .1 .1) new (en .1);
-          same = same;
-        }
+        pub site-done : {after : BitPosition} {out' sums' ns' : List ℕ}
+            → (after .0 ≡ from .0 + length (codeBits k limit raw code)) × (out' ≡ putIf store out (from .0) (codeBits k limit raw code)) → length out' ≡ length out
+            → (zipRecords sums' ns' ≡ set (zipRecords sums ns) slot (updated old ((residualOf code) .size))) × SetInRange (zipRecords sums' ns')
+            → Done bits W t n (stepAt line p coded) store from lines sums ns out (set lines (i + 1) (getD t j 0)) sums' ns' out' after
+        site-done {after} {out'} {sums'} {ns'} put same new =
+            let g = rw bits-are at put in
+            record {
+              put = sample-coded (s .sample) bits store coded (from .0) sums ns out sums' ns' out' after ct (g .0) (g .1) (new .0 ∙ set-is);
+              records = new .1;
+              same = same;
+            }

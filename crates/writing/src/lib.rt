@@ -182,6 +182,11 @@ fn put_code(
 
 // ---- one sample
 
+ghost use lib.ListN.{getD, set};
+ghost use Rattle.statistics.specs.Statistics.{InRange, updated};
+ghost use Rattle.code.specs.Samples.{residualOf};
+ghost use Rattle.pass.specs.Readings.{lookOf, slotOf, noRecord};
+
 fn rank_of(line: usize) -> usize
     requires { ⌜ (2 ≤ line) × (line ≤ 17) ⌝ }
     ensures { λ r. ⌜ (r ≡ rankOf line) × (r ≤ 11) ⌝ }
@@ -211,6 +216,46 @@ fn context_at(lines: &[u16], s: usize, i: usize, p: usize) -> Context
         return pass::even_context(lines, s, i);
     }
     pass::odd_context(lines, s, i)
+}
+
+// How a sample with a code is put: the place of its record in the set, and its code.
+struct Coding {
+    slot: usize,
+    code: u32,
+}
+
+// This for a wanted sample v, at position p in the context x.
+fn coded_as(m: u32, p: usize, x: Context, v: u32) -> Coding
+    requires { ⌜ (m < 2 ^ 16) × ((x .prediction ≤ m) × (v ≤ m)) ⌝ }
+    requires { ⌜ Ranges x ⌝ }
+    ensures { λ r. ⌜ (r .slot ≡ slotOf p ((lookOf 0 x) .place)) × ((r .slot < 112) × ((r .code ≡ codeFor m ((lookOf 0 x) .negative) (x .prediction) v) × (r .code ≤ m))) ⌝ }
+{
+    let h = pass::look_of(0, x);
+    Coding {
+        slot: h.place + 56 * (p % 2),
+        code: code_for(m, h.negative, x.prediction, v),
+    }
+}
+
+fn record_at(sums: &[u32; 112], ns: &[u32; 112], slot: usize) -> Record
+    requires { ⌜ (slot < 112) × SetInRange (zipRecords (now sums) (now ns)) ⌝ }
+    ensures { λ r. ⌜ (r ≡ getD (zipRecords (now (sums .entry)) (now (ns .entry))) slot noRecord) × InRange r ⌝ }
+{
+    Record {
+        sum: sums[slot],
+        n: ns[slot],
+    }
+}
+
+// The record that was there is updated by its code.
+fn update_at(sums: &mut [u32; 112], ns: &mut [u32; 112], slot: usize, old: Record, code: u32)
+    requires { ⌜ (code < 2 ^ 16) × ((slot < 112) × InRange old) ⌝ }
+    requires { ⌜ SetInRange (zipRecords (now sums) (now ns)) ⌝ }
+    ensures { λ _. ⌜ (zipRecords (now (sums .exit)) (now (ns .exit)) ≡ set (zipRecords (now (sums .entry)) (now (ns .entry))) slot (updated old ((residualOf code) .size))) × SetInRange (zipRecords (now (sums .exit)) (now (ns .exit))) ⌝ }
+{
+    let new = old.update(code::residual_size(code));
+    sums[slot] = new.sum;
+    ns[slot] = new.n;
 }
 
 // The two samples at the even position p, where it is one of the line.
@@ -249,21 +294,12 @@ fn write_even(
     let v = samples[j];
     lines[i + 1] = v;
     if pass::has_code(plan.first_rule, p) {
-        let h = pass::look_of(0, x);
-        let slot = h.place + 56 * (p % 2);
-        let old = Record {
-            sum: sums[slot],
-            n: ns[slot],
-        };
-        let code = code_for(m, h.negative, x.prediction, wide(v));
-        at = put_code(out, store, at, old.k(), limit, raw, code);
-        let new = old.update(code::residual_size(code));
-        sums[slot] = new.sum;
-        ns[slot] = new.n;
-    } else {
-        if wide(v) != x.prediction {
-            return Put::Wrong(j);
-        }
+        let c = coded_as(m, p, x, wide(v));
+        let old = record_at(sums, ns, c.slot);
+        at = put_code(out, store, at, old.k(), limit, raw, c.code);
+        update_at(sums, ns, c.slot, old, c.code);
+    } else if wide(v) != x.prediction {
+        return Put::Wrong(j);
     }
     let i = pass::left_of(w, plan.second, p);
     let j = index_in(w, n, plan.second, p);
@@ -271,21 +307,12 @@ fn write_even(
     let v = samples[j];
     lines[i + 1] = v;
     if pass::has_code(plan.second_rule, p) {
-        let h = pass::look_of(0, x);
-        let slot = h.place + 56 * (p % 2);
-        let old = Record {
-            sum: sums[slot],
-            n: ns[slot],
-        };
-        let code = code_for(m, h.negative, x.prediction, wide(v));
-        at = put_code(out, store, at, old.k(), limit, raw, code);
-        let new = old.update(code::residual_size(code));
-        sums[slot] = new.sum;
-        ns[slot] = new.n;
-    } else {
-        if wide(v) != x.prediction {
-            return Put::Wrong(j);
-        }
+        let c = coded_as(m, p, x, wide(v));
+        let old = record_at(sums, ns, c.slot);
+        at = put_code(out, store, at, old.k(), limit, raw, c.code);
+        update_at(sums, ns, c.slot, old, c.code);
+    } else if wide(v) != x.prediction {
+        return Put::Wrong(j);
     }
     Put::At(at)
 }
@@ -325,33 +352,19 @@ fn write_odd(
     let x = context_at(lines, s, i, q);
     let v = samples[j];
     lines[i + 1] = v;
-    let h = pass::look_of(0, x);
-    let slot = h.place + 56 * (q % 2);
-    let old = Record {
-        sum: sums[slot],
-        n: ns[slot],
-    };
-    let code = code_for(m, h.negative, x.prediction, wide(v));
-    let at = put_code(out, store, from, old.k(), limit, raw, code);
-    let new = old.update(code::residual_size(code));
-    sums[slot] = new.sum;
-    ns[slot] = new.n;
+    let c = coded_as(m, q, x, wide(v));
+    let old = record_at(sums, ns, c.slot);
+    let at = put_code(out, store, from, old.k(), limit, raw, c.code);
+    update_at(sums, ns, c.slot, old, c.code);
     let i = pass::left_of(w, plan.second, q);
     let j = index_in(w, n, plan.second, q);
     let x = context_at(lines, s, i, q);
     let v = samples[j];
     lines[i + 1] = v;
-    let h = pass::look_of(0, x);
-    let slot = h.place + 56 * (q % 2);
-    let old = Record {
-        sum: sums[slot],
-        n: ns[slot],
-    };
-    let code = code_for(m, h.negative, x.prediction, wide(v));
-    let after = put_code(out, store, at, old.k(), limit, raw, code);
-    let new = old.update(code::residual_size(code));
-    sums[slot] = new.sum;
-    ns[slot] = new.n;
+    let c = coded_as(m, q, x, wide(v));
+    let old = record_at(sums, ns, c.slot);
+    let after = put_code(out, store, at, old.k(), limit, raw, c.code);
+    update_at(sums, ns, c.slot, old, c.code);
     Put::At(after)
 }
 

@@ -10,7 +10,7 @@ use native.Mathlib.Omega.{arith}
 use lib.ListN.{length, getD, set, length-set}
 use Rattle.pass.specs.Steps.{Step, stepAt, interpolated, evenSteps}
 use Rattle.writing.proofs.StepPuts.{same-room, same-steps, none-due, even-due, ends}
-use Rattle.writing.proofs.SitePuts.{Ready, Done, met, first-ready, second-ready, two-puts, Site, site-code, site-right, site-wrong, site-n, site-record, site-room, site-done}
+use Rattle.writing.proofs.SitePuts.{Ready, Done, met, first-ready, second-ready, two-puts, Site, site-code, site-right, site-wrong, site-record, site-update, site-room, site-done}
 use Rattle.writing.proofs.write_even.Statement.{statement}
 use Rattle.writing.proofs.write_even.Tie as tie
 
@@ -61,38 +61,37 @@ site c =
       sample = record { place = c .before .before .before .left-of .ensures .0; index = c .before .before .index-in .ensures .0; context = c .context-at .ensures .0 };
     }
 
-abbrev placed : tie.After-look-of → tie.After-context-at
+abbrev placed : tie.After-wide → tie.After-context-at
 placed c = c .before .before .before .before
 
-code-for-requires : tie.Need-code-for-requires
-code-for-requires c κs =
-    let x = placed (c .before .before .before .before) in
-    site-code (site x) (c .wide .ensures .0) (x .before .before .before .before .largest .ensures)
+coded-as-requires : tie.Need-coded-as-requires
+coded-as-requires c κs =
+    let x = placed c in
+    (site-code (site x) (c .wide .ensures .0) (x .before .before .before .before .largest .ensures), x .context-at .ensures .1)
 
-k-requires : tie.Need-k-requires
-k-requires c κs =
-    let h = c .before .before .before .before .before .before in
-    site-n (site (placed h)) (h .look-of .ensures)
+record-at-requires : tie.Need-record-at-requires
+record-at-requires c κs =
+    let d = c .before .before in
+    let x = placed (d .before) in
+    site-record (site x) (d .before .wide .ensures .0) (x .before .before .before .before .largest .ensures) (d .coded-as .ensures)
 
-abbrev looked : tie.After-k → tie.After-look-of
-looked c = c .before .before .before .before .before .before .before
+abbrev coded : tie.After-k → tie.After-coded-as
+coded c = c .before .before .before .before .before
 
 put-code-requires : tie.Need-put-code-requires
 put-code-requires c κs =
-    let h = looked c in
-    let x = placed h in
-    site-room (site x) (h .look-of .ensures) (sym (h .before .before .has-code .ensures) ∙ h .before .if2 .taken) (c .before .before .before .wide .ensures .0)
-    (x .before .before .before .before .largest .ensures) (c .before .before .code-for .ensures) (c .k .ensures)
+    let d = coded c in
+    let h = d .before .before in
+    let x = placed (d .before) in
+    site-room (site x) (d .before .wide .ensures .0) (x .before .before .before .before .largest .ensures) (d .coded-as .ensures) (c .before .before .record-at .ensures)
+    (sym (h .before .has-code .ensures) ∙ h .if2 .taken) (c .k .ensures)
 
-residual-size-requires : tie.Need-residual-size-requires
-residual-size-requires c κs =
-    let k = c .before .before .before in
-    omega (arith, k .before .before .code-for .ensures .1, placed (looked k) .before .before .before .before .largest .ensures .1)
-
-update-requires : tie.Need-update-requires
-update-requires c κs =
-    let h = looked (c .before .before .before .before) in
-    (site-record (site (placed h)) (h .look-of .ensures), omega (arith, c .residual-size .ensures .1))
+update-at-requires : tie.Need-update-at-requires
+update-at-requires c κs =
+    let k = c .before .before .before .before .before in
+    let d = coded k in
+    let x = placed (d .before) in
+    site-update (site x) (d .before .wide .ensures .0) (x .before .before .before .before .largest .ensures) (d .coded-as .ensures) (k .before .before .record-at .ensures)
 
 returns-2 : tie.Need-returns-2
 returns-2 c =
@@ -121,13 +120,13 @@ done : (c : tie.Joined2) → let a = start c .args in
     (lines₁ c) (c .if2 .sums) (c .if2 .ns) (c .if2 .out) (c .if2 .at)
 done c =
     let x = there c in
-    let coded = sym (c .before .has-code .ensures) in
+    let asked = sym (c .before .has-code .ensures) in
     ⊎-elim
     (λ w.
     met (w .14) (w .15) (w .16) (w .17)
-    (site-done (site x) (w .1 .ensures) (coded ∙ w .0 .taken) (w .5 .ensures .0) (x .before .before .before .before .largest .ensures) (w .6 .ensures) (w .8 .ensures)
-    (w .9 .ensures) (w .9 .kept .0) (w .12 .ensures .0) (w .13 .ensures)))
-    (λ w. met (w .4) (w .5) (w .6) (w .7) (site-right (site x) (w .1 .ensures .0) (coded ∙ w .0 .left) (w .3 .left)))
+    (site-done (site x) (w .1 .ensures .0) (x .before .before .before .before .largest .ensures) (w .2 .ensures) (w .5 .ensures) (asked ∙ w .0 .taken) (w .7 .ensures)
+    (w .8 .ensures) (w .8 .kept .0) (w .13 .ensures)))
+    (λ w. met (w .4) (w .5) (w .6) (w .7) (site-right (site x) (w .1 .ensures .0) (asked ∙ w .0 .left) (w .3 .left)))
     (c .if2 .came)
 
 -- ---- the second sample
@@ -163,41 +162,40 @@ context-at-requires-2 c κs =
     let i = inside (c .before) in
     (omega (arith, start (c .before .before .before) .pre .0 .0), (c .before .before .left-of2 .ensures .1 .0, i .0))
 
-abbrev placed-2 : tie.After-look-of2 → tie.After-context-at2
+abbrev placed-2 : tie.After-wide3 → tie.After-context-at2
 placed-2 c = c .before .before .before .before
 
 abbrev largest-2 : tie.After-context-at2 → tie.After-largest
 largest-2 c = there (one c) .before .before .before .before
 
-code-for-requires-2 : tie.Need-code-for-requires-2
-code-for-requires-2 c κs =
-    let x = placed-2 (c .before .before .before .before) in
-    site-code (site-2 x) (c .wide3 .ensures .0) (largest-2 x .largest .ensures)
+coded-as-requires-2 : tie.Need-coded-as-requires-2
+coded-as-requires-2 c κs =
+    let x = placed-2 c in
+    (site-code (site-2 x) (c .wide3 .ensures .0) (largest-2 x .largest .ensures), x .context-at2 .ensures .1)
 
-k-requires-2 : tie.Need-k-requires-2
-k-requires-2 c κs =
-    let h = c .before .before .before .before .before .before in
-    site-n (site-2 (placed-2 h)) (h .look-of2 .ensures)
+record-at-requires-2 : tie.Need-record-at-requires-2
+record-at-requires-2 c κs =
+    let d = c .before .before in
+    let x = placed-2 (d .before) in
+    site-record (site-2 x) (d .before .wide3 .ensures .0) (largest-2 x .largest .ensures) (d .coded-as2 .ensures)
 
-abbrev looked-2 : tie.After-k2 → tie.After-look-of2
-looked-2 c = c .before .before .before .before .before .before .before
+abbrev coded-2 : tie.After-k2 → tie.After-coded-as2
+coded-2 c = c .before .before .before .before .before
 
 put-code-requires-2 : tie.Need-put-code-requires-2
 put-code-requires-2 c κs =
-    let h = looked-2 c in
-    let x = placed-2 h in
-    site-room (site-2 x) (h .look-of2 .ensures) (sym (h .before .before .has-code2 .ensures) ∙ h .before .if4 .taken) (c .before .before .before .wide3 .ensures .0)
-    (largest-2 x .largest .ensures) (c .before .before .code-for2 .ensures) (c .k2 .ensures)
+    let d = coded-2 c in
+    let h = d .before .before in
+    let x = placed-2 (d .before) in
+    site-room (site-2 x) (d .before .wide3 .ensures .0) (largest-2 x .largest .ensures) (d .coded-as2 .ensures) (c .before .before .record-at2 .ensures)
+    (sym (h .before .has-code2 .ensures) ∙ h .if4 .taken) (c .k2 .ensures)
 
-residual-size-requires-2 : tie.Need-residual-size-requires-2
-residual-size-requires-2 c κs =
-    let k = c .before .before .before in
-    omega (arith, k .before .before .code-for2 .ensures .1, largest-2 (placed-2 (looked-2 k)) .largest .ensures .1)
-
-update-requires-2 : tie.Need-update-requires-2
-update-requires-2 c κs =
-    let h = looked-2 (c .before .before .before .before) in
-    (site-record (site-2 (placed-2 h)) (h .look-of2 .ensures), omega (arith, c .residual-size2 .ensures .1))
+update-at-requires-2 : tie.Need-update-at-requires-2
+update-at-requires-2 c κs =
+    let k = c .before .before .before .before .before in
+    let d = coded-2 k in
+    let x = placed-2 (d .before) in
+    site-update (site-2 x) (d .before .wide3 .ensures .0) (largest-2 x .largest .ensures) (d .coded-as2 .ensures) (k .before .before .record-at2 .ensures)
 
 returns-3 : tie.Need-returns-3
 returns-3 c =
@@ -210,16 +208,17 @@ returns-3 c =
 
 returns-4 : tie.Need-returns-4
 returns-4 c =
-    let k = c .before .before .before .before .before in
-    let h = looked-2 k in
-    let x = placed-2 h in
-    let d = one x in
-    let a = start d .args in
-    let put = c .before .before .before .before .put-code2 in
+    let k = c .before .before .before .before .before .before in
+    let d = coded-2 k in
+    let h = d .before .before in
+    let x = placed-2 (d .before) in
+    let o = one x in
+    let a = start o .args in
+    let put = c .before .before .before .before .before .put-code2 in
     let e =
-    site-done (site-2 x) (h .look-of2 .ensures) (sym (h .before .before .has-code2 .ensures) ∙ h .before .if4 .taken) (k .before .before .before .wide3 .ensures .0)
-    (largest-2 x .largest .ensures) (k .before .before .code-for2 .ensures) (k .k2 .ensures) (put .ensures) (put .kept .0) (c .before .residual-size2 .ensures .0) (c .update2 .ensures) in
-    (same-steps (even-due (a .plan) (a .w) (a .p) (begun (there d) .if1 .left)) (two-puts (two (begun (there d))) (done d) (e .put)), e .records)
+    site-done (site-2 x) (d .before .wide3 .ensures .0) (largest-2 x .largest .ensures) (d .coded-as2 .ensures) (k .before .before .record-at2 .ensures)
+    (sym (h .before .has-code2 .ensures) ∙ h .if4 .taken) (k .k2 .ensures) (put .ensures) (put .kept .0) (c .update-at2 .ensures) in
+    (same-steps (even-due (a .plan) (a .w) (a .p) (begun (there o) .if1 .left)) (two-puts (two (begun (there o))) (done o) (e .put)), e .records)
 
 returns-5 : tie.Need-returns-5
 returns-5 c =
@@ -247,22 +246,11 @@ write-even-spec =
     (λ c. search needs)
     (λ c κs. search needs)
     (λ c κs. search needs)
-    (λ c. search needs)
-    (λ c. search needs)
-    (λ c. search needs)
-    (λ c. search needs)
-    (λ c. search needs)
-    (λ c. search needs)
+    coded-as-requires
+    record-at-requires
     (λ c κs. search needs)
-    code-for-requires
-    k-requires
     put-code-requires
-    residual-size-requires
-    update-requires
-    (λ c. search needs)
-    (λ c. search needs)
-    (λ c. search needs)
-    (λ c. search needs)
+    update-at-requires
     (λ c κs. search needs)
     (λ c. search needs)
     returns-2
@@ -276,27 +264,16 @@ write-even-spec =
     (λ c. omega (arith, inside (c .before .before .before) .0))
     (λ c κs. search needs)
     (λ c κs. search needs)
-    (λ c. search needs)
-    (λ c. search needs)
-    (λ c. search needs)
-    (λ c. search needs)
-    (λ c. search needs)
-    (λ c. search needs)
+    coded-as-requires-2
+    record-at-requires-2
     (λ c κs. search needs)
-    code-for-requires-2
-    k-requires-2
     put-code-requires-2
-    residual-size-requires-2
-    update-requires-2
-    (λ c. search needs)
-    (λ c. search needs)
-    (λ c. search needs)
-    (λ c. search needs)
+    update-at-requires-2
     (λ c κs. search needs)
     (λ c. done (one (c .before .before .before .before .before .before)) .same)
     (λ c. search needs)
     returns-3
-    (λ c. c .before .before .before .before .put-code2 .kept .0 ∙ done (one (placed-2 (looked-2 (c .before .before .before .before .before)))) .same)
+    (λ c. c .before .before .before .before .before .put-code2 .kept .0 ∙ done (one (placed-2 (coded-2 (c .before .before .before .before .before .before) .before))) .same)
     (λ c. search needs)
     returns-4
     (λ c. done (one (c .before .before .before .before .before .before)) .same)

@@ -8,9 +8,8 @@ use Prim.Native.Nat.{ℕ, _+_, _-_, _*_, _^_, _≤_, _<_}
 use native.Mathlib.Omega.{arith}
 use lib.ListN.{length, getD, set, length-set}
 use Rattle.pass.specs.Steps.{stepAt, oddSteps}
-use Rattle.pass.specs.Readings.{slotOf}
 use Rattle.writing.proofs.StepPuts.{same-room, same-steps, none-due, odd-due}
-use Rattle.writing.proofs.SitePuts.{Ready, Done, first-ready, second-ready, two-puts, Site, site-code, site-n, site-record, site-room, site-done}
+use Rattle.writing.proofs.SitePuts.{Ready, Done, first-ready, second-ready, two-puts, Site, site-code, site-record, site-update, site-room, site-done}
 use Rattle.writing.proofs.write_odd.Statement.{statement}
 use Rattle.writing.proofs.write_odd.Tie as tie
 
@@ -52,87 +51,76 @@ site c =
       sample = record { place = c .before .before .before .left-of .ensures .0; index = c .before .before .index-in .ensures .0; context = c .context-at .ensures .0 };
     }
 
-abbrev placed : tie.After-look-of → tie.After-context-at
+abbrev placed : tie.After-wide → tie.After-context-at
 placed c = c .before .before
 
-code-for-requires : tie.Need-code-for-requires
-code-for-requires c κs =
-    let x = placed (c .before .before .before .before) in
-    site-code (site x) (c .wide .ensures .0) (x .before .before .before .before .largest .ensures)
+coded-as-requires : tie.Need-coded-as-requires
+coded-as-requires c κs =
+    let x = placed c in
+    (site-code (site x) (c .wide .ensures .0) (x .before .before .before .before .largest .ensures), x .context-at .ensures .1)
 
-k-requires : tie.Need-k-requires
-k-requires c κs =
-    let h = c .before .before .before .before .before .before in
-    site-n (site (placed h)) (h .look-of .ensures)
+record-at-requires : tie.Need-record-at-requires
+record-at-requires c κs =
+    let d = c .before .before in
+    let x = placed (d .before) in
+    site-record (site x) (d .before .wide .ensures .0) (x .before .before .before .before .largest .ensures) (d .coded-as .ensures)
 
-abbrev looked : tie.After-k → tie.After-look-of
-looked c = c .before .before .before .before .before .before .before
+abbrev coded : tie.After-k → tie.After-coded-as
+coded c = c .before .before .before .before .before
 
 put-code-requires : tie.Need-put-code-requires
 put-code-requires c κs =
-    let h = looked c in
-    let x = placed h in
-    site-room (site x) (h .look-of .ensures) refl (c .before .before .before .wide .ensures .0) (x .before .before .before .before .largest .ensures) (c .before .before .code-for .ensures) (c .k .ensures)
+    let d = coded c in
+    let x = placed (d .before) in
+    site-room (site x) (d .before .wide .ensures .0) (x .before .before .before .before .largest .ensures) (d .coded-as .ensures) (c .before .before .record-at .ensures) refl (c .k .ensures)
 
-update-requires : tie.Need-update-requires
-update-requires c κs =
-    let h = looked (c .before .before .before .before) in
-    (site-record (site (placed h)) (h .look-of .ensures), omega (arith, c .residual-size .ensures .1))
-
-residual-size-requires : tie.Need-residual-size-requires
-residual-size-requires c κs =
-    let k = c .before .before .before in
-    omega (arith, k .before .before .code-for .ensures .1, placed (looked k) .before .before .before .before .largest .ensures .1)
+update-at-requires : tie.Need-update-at-requires
+update-at-requires c κs =
+    let k = c .before .before .before .before .before in
+    let d = coded k in
+    let x = placed (d .before) in
+    site-update (site x) (d .before .wide .ensures .0) (x .before .before .before .before .largest .ensures) (d .coded-as .ensures) (k .before .before .record-at .ensures)
 
 -- ---- what is held after it
 
-abbrev counted : tie.After-update → tie.After-k
-counted c = c .before .before .before .before .before
+abbrev counted : tie.After-update-at → tie.After-k
+counted c = c .before .before .before .before .before .before
 
-abbrev there : tie.After-update → tie.After-context-at
-there c = placed (looked (counted c))
+abbrev there : tie.After-update-at → tie.After-context-at
+there c = placed (coded (counted c) .before)
 
-abbrev lines₁ : tie.After-update → List ℕ
+abbrev start : tie.After-update-at → tie.Start
+start c = entry (begun (there c))
+
+abbrev lines₁ : tie.After-update-at → List ℕ
 lines₁ c =
     let x = there c in
-    let a = entry (begun x) .args in
+    let a = start c .args in
     set (a .lines .now) (x .before .before .before .left-of .result + 1) (getD (a .samples .now) (x .before .before .index-in .result) 0)
 
-abbrev slot : tie.After-update → ℕ
-slot c = slotOf (entry (begun (there c)) .args .p - 7) (looked (counted c) .look-of .result .place)
-
-abbrev sums₁ : tie.After-update → List ℕ
-sums₁ c = set (entry (begun (there c)) .args .sums .now) (slot c) (c .update .result .sum)
-
-abbrev ns₁ : tie.After-update → List ℕ
-ns₁ c = set (entry (begun (there c)) .args .ns .now) (slot c) (c .update .result .n)
-
-done : (c : tie.After-update) → let a = entry (begun (there c)) .args in let put = c .before .before .before .before .put-code in
+done : (c : tie.After-update-at) → let a = start c .args in let put = c .before .before .before .before .before .put-code in let new = c .update-at .last in
     Done (a .bits) (a .w) (a .samples .now) (a .n) (stepAt (a .plan .first) (a .p - 7) true) (a .store) (a .from) (a .lines .now) (a .sums .now) (a .ns .now) (a .out .now)
-    (lines₁ c) (sums₁ c) (ns₁ c) (put .last .0) (put .result)
+    (lines₁ c) (new .0) (new .1 .0) (put .last .0) (put .result)
 done c =
     let k = counted c in
-    let h = looked k in
-    let x = placed h in
-    let put = c .before .before .before .before .put-code in
-    site-done (site x) (h .look-of .ensures) refl (k .before .before .before .wide .ensures .0) (x .before .before .before .before .largest .ensures) (k .before .before .code-for .ensures) (k .k .ensures)
-    (put .ensures) (put .kept .0) (c .before .residual-size .ensures .0) (c .update .ensures)
+    let d = coded k in
+    let x = placed (d .before) in
+    let put = c .before .before .before .before .before .put-code in
+    site-done (site x) (d .before .wide .ensures .0) (x .before .before .before .before .largest .ensures) (d .coded-as .ensures) (k .before .before .record-at .ensures) refl (k .k .ensures)
+    (put .ensures) (put .kept .0) (c .update-at .ensures)
 
 -- ---- the second sample
 
-abbrev start : tie.After-update → tie.Start
-start c = entry (begun (there c))
-
-line-in : (c : tie.After-update) → let a = start c .args in (a .w ≤ 512) × ((a .p - 7 < a .w) × ((2 ≤ a .plan .second) × (a .plan .second ≤ 17)))
+line-in : (c : tie.After-update-at) → let a = start c .args in (a .w ≤ 512) × ((a .p - 7 < a .w) × ((2 ≤ a .plan .second) × (a .plan .second ≤ 17)))
 line-in c =
     let p = start c .pre .0 in
     (p .0, (omega (arith, p .1 .0, begun (there c) .if1 .left), (p .1 .1 .2, p .1 .1 .3)))
 
-abbrev one : tie.After-context-at2 → tie.After-update
+abbrev one : tie.After-context-at2 → tie.After-update-at
 one c = c .before .before .before .before
 
-site-2 : (c : tie.After-context-at2) → let d = one c in let a = start d .args in let put = d .before .before .before .before .put-code in
-    Site (a .bits) (a .limit) (a .raw) (a .w) (a .samples .now) (a .n) (a .plan .second) (a .p - 7) true (a .store) (put .result) (lines₁ d) (sums₁ d) (ns₁ d) (put .last .0)
+site-2 : (c : tie.After-context-at2) → let d = one c in let a = start d .args in let put = d .before .before .before .before .before .put-code in let new = d .update-at .last in
+    Site (a .bits) (a .limit) (a .raw) (a .w) (a .samples .now) (a .n) (a .plan .second) (a .p - 7) true (a .store) (put .result) (lines₁ d) (new .0) (new .1 .0) (put .last .0)
     (c .before .before .before .left-of2 .result) (c .before .before .index-in2 .result) (c .context-at2 .result)
 site-2 c =
     record {
@@ -161,53 +149,51 @@ context-at-requires-2 c κs =
     let i = inside (c .before) in
     (omega (arith, line-in (c .before .before .before) .0), (c .before .before .left-of2 .ensures .1 .0, i .0))
 
-abbrev placed-2 : tie.After-look-of2 → tie.After-context-at2
+abbrev placed-2 : tie.After-wide2 → tie.After-context-at2
 placed-2 c = c .before .before
 
 abbrev largest-2 : tie.After-context-at2 → tie.After-largest
 largest-2 c = there (one c) .before .before .before .before
 
-code-for-requires-2 : tie.Need-code-for-requires-2
-code-for-requires-2 c κs =
-    let x = placed-2 (c .before .before .before .before) in
-    site-code (site-2 x) (c .wide2 .ensures .0) (largest-2 x .largest .ensures)
+coded-as-requires-2 : tie.Need-coded-as-requires-2
+coded-as-requires-2 c κs =
+    let x = placed-2 c in
+    (site-code (site-2 x) (c .wide2 .ensures .0) (largest-2 x .largest .ensures), x .context-at2 .ensures .1)
 
-k-requires-2 : tie.Need-k-requires-2
-k-requires-2 c κs =
-    let h = c .before .before .before .before .before .before in
-    site-n (site-2 (placed-2 h)) (h .look-of2 .ensures)
+record-at-requires-2 : tie.Need-record-at-requires-2
+record-at-requires-2 c κs =
+    let d = c .before .before in
+    let x = placed-2 (d .before) in
+    site-record (site-2 x) (d .before .wide2 .ensures .0) (largest-2 x .largest .ensures) (d .coded-as2 .ensures)
 
-abbrev looked-2 : tie.After-k2 → tie.After-look-of2
-looked-2 c = c .before .before .before .before .before .before .before
+abbrev coded-2 : tie.After-k2 → tie.After-coded-as2
+coded-2 c = c .before .before .before .before .before
 
 put-code-requires-2 : tie.Need-put-code-requires-2
 put-code-requires-2 c κs =
-    let h = looked-2 c in
-    let x = placed-2 h in
-    site-room (site-2 x) (h .look-of2 .ensures) refl (c .before .before .before .wide2 .ensures .0) (largest-2 x .largest .ensures) (c .before .before .code-for2 .ensures) (c .k2 .ensures)
+    let d = coded-2 c in
+    let x = placed-2 (d .before) in
+    site-room (site-2 x) (d .before .wide2 .ensures .0) (largest-2 x .largest .ensures) (d .coded-as2 .ensures) (c .before .before .record-at2 .ensures) refl (c .k2 .ensures)
 
-residual-size-requires-2 : tie.Need-residual-size-requires-2
-residual-size-requires-2 c κs =
-    let k = c .before .before .before in
-    omega (arith, k .before .before .code-for2 .ensures .1, largest-2 (placed-2 (looked-2 k)) .largest .ensures .1)
-
-update-requires-2 : tie.Need-update-requires-2
-update-requires-2 c κs =
-    let h = looked-2 (c .before .before .before .before) in
-    (site-record (site-2 (placed-2 h)) (h .look-of2 .ensures), omega (arith, c .residual-size2 .ensures .1))
+update-at-requires-2 : tie.Need-update-at-requires-2
+update-at-requires-2 c κs =
+    let k = c .before .before .before .before .before in
+    let d = coded-2 k in
+    let x = placed-2 (d .before) in
+    site-update (site-2 x) (d .before .wide2 .ensures .0) (largest-2 x .largest .ensures) (d .coded-as2 .ensures) (k .before .before .record-at2 .ensures)
 
 returns-2 : tie.Need-returns-2
 returns-2 c =
-    let k = c .before .before .before .before .before in
-    let h = looked-2 k in
-    let x = placed-2 h in
-    let d = one x in
-    let a = start d .args in
-    let put = c .before .before .before .before .put-code2 in
+    let k = c .before .before .before .before .before .before in
+    let d = coded-2 k in
+    let x = placed-2 (d .before) in
+    let o = one x in
+    let a = start o .args in
+    let put = c .before .before .before .before .before .put-code2 in
     let e =
-    site-done (site-2 x) (h .look-of2 .ensures) refl (k .before .before .before .wide2 .ensures .0) (largest-2 x .largest .ensures) (k .before .before .code-for2 .ensures) (k .k2 .ensures)
-    (put .ensures) (put .kept .0) (c .before .residual-size2 .ensures .0) (c .update2 .ensures) in
-    (same-steps (odd-due (a .plan) (a .w) (a .p) (begun (there d) .if1 .left)) (two-puts (two (begun (there d))) (done d) (e .put)), e .records)
+    site-done (site-2 x) (d .before .wide2 .ensures .0) (largest-2 x .largest .ensures) (d .coded-as2 .ensures) (k .before .before .record-at2 .ensures) refl (k .k2 .ensures)
+    (put .ensures) (put .kept .0) (c .update-at2 .ensures) in
+    (same-steps (odd-due (a .plan) (a .w) (a .p) (begun (there o) .if1 .left)) (two-puts (two (begun (there o))) (done o) (e .put)), e .records)
 
 pub write-odd-spec : {M : Type 1} → statement M
 write-odd-spec =
@@ -226,22 +212,11 @@ write-odd-spec =
     (λ c. search needs)
     (λ c. search needs)
     (λ c κs. search needs)
-    (λ c. search needs)
-    (λ c. search needs)
-    (λ c. search needs)
-    (λ c. search needs)
-    (λ c. search needs)
-    (λ c. search needs)
+    coded-as-requires
+    record-at-requires
     (λ c κs. search needs)
-    code-for-requires
-    k-requires
     put-code-requires
-    residual-size-requires
-    update-requires
-    (λ c. search needs)
-    (λ c. search needs)
-    (λ c. search needs)
-    (λ c. search needs)
+    update-at-requires
     left-of-requires-2
     index-in-requires-2
     context-at-requires-2
@@ -251,22 +226,11 @@ write-odd-spec =
     (λ c. search (needs, inside (c .before .before .before)))
     (λ c. omega (arith, inside (c .before .before .before) .0))
     (λ c κs. search needs)
-    (λ c. search needs)
-    (λ c. search needs)
-    (λ c. search needs)
-    (λ c. search needs)
-    (λ c. search needs)
-    (λ c. search needs)
+    coded-as-requires-2
+    record-at-requires-2
     (λ c κs. search needs)
-    code-for-requires-2
-    k-requires-2
     put-code-requires-2
-    residual-size-requires-2
-    update-requires-2
-    (λ c. search needs)
-    (λ c. search needs)
-    (λ c. search needs)
-    (λ c. search needs)
-    (λ c. c .before .before .before .before .put-code2 .kept .0 ∙ done (one (placed-2 (looked-2 (c .before .before .before .before .before)))) .same)
+    update-at-requires-2
+    (λ c. c .before .before .before .before .before .put-code2 .kept .0 ∙ done (one (placed-2 (coded-2 (c .before .before .before .before .before .before) .before))) .same)
     (λ c. search needs)
     returns-2)
