@@ -1,5 +1,5 @@
 -- Steps that put their bits: one sample, steps one after the other, and what they keep. Assumes nothing.
-use mathlib.Core.Bool.{Bool, true, false, cond, not, false≢true}
+use mathlib.Core.Bool.{Bool, true, false, cond, false≢true}
 use mathlib.Core.List.{List, [], _∷_, _++_, append-nil}
 use mathlib.Core.Logic.{_≢_}
 use mathlib.Core.Option.{Option, none, some}
@@ -18,7 +18,7 @@ use Rattle.code.specs.Tight.{codeLength}
 use Rattle.code.proofs.TightLaws.{length-codeBits, short-length, long-length}
 use Rattle.numbers.proofs.OrderLaws.{split}
 use Rattle.prediction.specs.declared.Context.{Context}
-use Rattle.pass.specs.Steps.{Step, stepAt, interpolated, evenSteps, oddSteps}
+use Rattle.pass.specs.Steps.{Step, stepAt, evenSteps, oddSteps}
 use Rattle.pass.specs.Readings.{contextAt, lookOf, slotOf, noRecord, usedBase, usedWeight, zipRecords}
 use Rattle.pass.specs.declared.Look.{Look}
 use Rattle.pass.specs.declared.Plan.{Plan}

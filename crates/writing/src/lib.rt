@@ -208,6 +208,7 @@ fn index_in(w: usize, n: usize, line: usize, p: usize) -> usize
     n * (12 * w) + rank_of(line) * w + p
 }
 
+// Once this is taken into the loop of a pass, where the parity of p is known, the test is gone.
 fn context_at(lines: &[u16], s: usize, i: usize, p: usize) -> Context
     requires { ⌜ (s ≤ 514) × ((2 * s ≤ i) × (i + 2 < length (now lines))) ⌝ }
     ensures { λ r. ⌜ (r ≡ contextAt (now (lines .entry)) s i p) × Ranges r ⌝ }
@@ -258,7 +259,8 @@ fn update_at(sums: &mut [u32; 112], ns: &mut [u32; 112], slot: usize, old: Recor
     ns[slot] = new.n;
 }
 
-// The two samples at the even position p, where it is one of the line.
+// The two samples at the even position p, where it is one of the line. As in reading, the leaves are called here, and this from one place only: so
+// all of it is taken into the loop.
 fn write_even(
     samples: &[u16],
     n: usize,
