@@ -9,7 +9,7 @@ pub mod OrderLaws
 pub mod PassTwins
 pub mod PutLaws
 pub mod WordLaws
-pub mod CodedLaws
 pub mod StepPuts
+pub mod SitePuts
 pub mod TurnPuts
 pub mod PassLaws

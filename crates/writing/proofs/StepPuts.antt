@@ -1,5 +1,5 @@
 -- Steps that put their bits: one sample, steps one after the other, and what they keep. Assumes nothing.
-use mathlib.Core.Bool.{Bool, true, false, cond, not, false≢true}
+use mathlib.Core.Bool.{Bool, true, false, cond, false≢true}
 use mathlib.Core.List.{List, [], _∷_, _++_, append-nil}
 use mathlib.Core.Logic.{_≢_}
 use mathlib.Core.Option.{Option, none, some}
@@ -18,7 +18,7 @@ use Rattle.code.specs.Tight.{codeLength}
 use Rattle.code.proofs.TightLaws.{length-codeBits, short-length, long-length}
 use Rattle.numbers.proofs.OrderLaws.{split}
 use Rattle.prediction.specs.declared.Context.{Context}
-use Rattle.pass.specs.Steps.{Step, stepAt, interpolated, evenSteps, oddSteps}
+use Rattle.pass.specs.Steps.{Step, stepAt, evenSteps, oddSteps}
 use Rattle.pass.specs.Readings.{contextAt, lookOf, slotOf, noRecord, usedBase, usedWeight, zipRecords}
 use Rattle.pass.specs.declared.Look.{Look}
 use Rattle.pass.specs.declared.Plan.{Plan}
@@ -116,7 +116,7 @@ module _ {W : ℕ} {t : List ℕ} {n line p : ℕ} {lines : List ℕ} {i j : ℕ
       record { are = rw (interpolated-is e, eq-eqb (getD t j 0) (x .prediction) f) (at-is at _ (omega arith), refl, refl, none-put store out from) }
 
   pub sample-wrong : coded ≡ false → getD t j 0 ≢ x .prediction
-      → StepsPut bits W t n (stepAt line p coded ∷ []) store from lines sums ns out lines sums ns out (Wrong j)
+      → StepsPut bits W t n (stepAt line p coded ∷ []) store from lines sums ns out (set lines (i + 1) (getD t j 0)) sums ns out (Wrong j)
   sample-wrong e f = record { are = rw (interpolated-is e, ne-eqb (getD t j 0) (x .prediction) f) (refl, λ h. refl) }
 
 -- ---- what steps keep
@@ -307,9 +307,8 @@ pub none-due : (bits W : ℕ) (t : List ℕ) (n : ℕ) (b : Bool) (l : List Step
 none-due bits W t n b l store from lines sums ns out e = rw e (no-puts bits W t n store from lines sums ns out)
 
 module _ (P : Plan) (W p : ℕ) where
-  pub even-due : (a b : Bool) → p < W → a ≡ not (interpolated (P .«first_rule») p) → b ≡ not (interpolated (P .«second_rule») p)
-      → stepAt (P .first) p a ∷ stepAt (P .second) p b ∷ [] ≡ cond (ltb p W) (evenSteps P p) []
-  even-due a b h e f = rw (lt-ltb p W h, e, f)
+  pub even-due : p < W → evenSteps P p ≡ cond (ltb p W) (evenSteps P p) []
+  even-due h = rw (lt-ltb p W h)
 
   pub odd-due : 8 ≤ p → oddSteps P (p - 7) ≡ cond (leb 8 p) (oddSteps P (p - 7)) []
   odd-due h = rw (le-leb 8 p h)

@@ -5,13 +5,15 @@ ghost use mathlib.Core.List.{[], _∷_, _++_};
 ghost use mathlib.Core.Option.{none};
 ghost use Prim.Native.Nat.{_+_, _-_, _*_, _/_, _%_, _^_, _≤_, _<_};
 ghost use lib.Dec.{ltb, leb};
-ghost use lib.ListN.{length, take, drop};
+ghost use lib.ListN.{length, take, drop, getD, set};
 ghost use Rattle.bits.specs.BitLists.{binary, packed, bytesFor};
+ghost use Rattle.statistics.specs.Statistics.{InRange, updated};
 ghost use Rattle.quantiser.specs.Quantisers.{largest};
 ghost use Rattle.prediction.specs.Predictions.{Ranges};
+ghost use Rattle.code.specs.Samples.{residualOf};
 ghost use Rattle.code.specs.Tight.{stepsUp, residualUp, codeOfResidual, codeFor, codeBits, codeLength};
 ghost use Rattle.pass.specs.Steps.{stepAt, interpolated, evenSteps, oddSteps};
-ghost use Rattle.pass.specs.Readings.{contextAt, usedQuantiser, zipRecords, recordsOf, SetInRange, PlanInRange, Depth};
+ghost use Rattle.pass.specs.Readings.{contextAt, usedQuantiser, zipRecords, recordsOf, SetInRange, PlanInRange, Depth, lookOf, slotOf, noRecord};
 ghost use Rattle.writing.specs.Sets.{rankOf, indexIn, lineSize};
 ghost use Rattle.writing.specs.Writings.{writePass};
 ghost use Rattle.writing.specs.Puts.{codeNumber, putBits, putIf, Room, Within, bitsOfSample, setOfSample, StepsRoom, StepsPut, wrongAt, IsPassPut};
@@ -241,6 +243,7 @@ fn index_in(w: usize, n: usize, line: usize, p: usize) -> usize
     n * (12 * w) + rank_of(line) * w + p
 }
 
+// Once this is taken into the loop of a pass, where the parity of p is known, the test is gone.
 fn context_at(lines: &[u16], s: usize, i: usize, p: usize) -> Context
     requires { ⌜ (s ≤ 514) × ((2 * s ≤ i) × (i + 2 < length (now lines))) ⌝ }
     ensures { λ r. ⌜ (r ≡ contextAt (now (lines .entry)) s i p) × Ranges r ⌝ }
@@ -251,147 +254,48 @@ fn context_at(lines: &[u16], s: usize, i: usize, p: usize) -> Context
     pass::odd_context(lines, s, i)
 }
 
-// The bits of a sample v with a code, at position p in the context x. Its record is updated.
-fn write_coded(
-    out: &mut [u8],
-    store: bool,
-    from: BitPosition,
-    sums: &mut [u32; 112],
-    ns: &mut [u32; 112],
-    p: usize,
-    x: Context,
-    v: u32,
-    bits: u32,
-    limit: u32,
-    raw: u32,
-) -> BitPosition
-    requires { ⌜ Depth bits × ((limit ≡ (usedQuantiser bits 0 0) .limit) × (raw ≡ (usedQuantiser bits 0 0) .raw)) ⌝ }
-    requires { ⌜ Ranges x × ((x .prediction ≤ largest bits) × (v ≤ largest bits)) ⌝ }
-    requires { ⌜ SetInRange (zipRecords (now sums) (now ns)) ⌝ }
-    requires { ⌜ (from .0 < 2 ^ 60) × Room store (now out) (from .0) (bitsOfSample bits p v x (zipRecords (now sums) (now ns))) ⌝ }
-    ensures { λ r. ⌜ (r .0 ≡ from .0 + length (bitsOfSample bits p v x (zipRecords (now (sums .entry)) (now (ns .entry))))) × (now (out .exit) ≡ putIf store (now (out .entry)) (from .0) (bitsOfSample bits p v x (zipRecords (now (sums .entry)) (now (ns .entry))))) × (zipRecords (now (sums .exit)) (now (ns .exit)) ≡ setOfSample bits p v x (zipRecords (now (sums .entry)) (now (ns .entry)))) × SetInRange (zipRecords (now (sums .exit)) (now (ns .exit))) ⌝ }
+// How a sample with a code is put: the place of its record in the set, and its code.
+struct Coding {
+    slot: usize,
+    code: u32,
+}
+
+// This for a wanted sample v, at position p in the context x.
+fn coded_as(m: u32, p: usize, x: Context, v: u32) -> Coding
+    requires { ⌜ (m < 2 ^ 16) × ((x .prediction ≤ m) × (v ≤ m)) ⌝ }
+    requires { ⌜ Ranges x ⌝ }
+    ensures { λ r. ⌜ (r .slot ≡ slotOf p ((lookOf 0 x) .place)) × ((r .slot < 112) × ((r .code ≡ codeFor m ((lookOf 0 x) .negative) (x .prediction) v) × (r .code ≤ m))) ⌝ }
 {
     let h = pass::look_of(0, x);
-    let slot = h.place + 56 * (p % 2);
-    let old = Record {
+    Coding {
+        slot: h.place + 56 * (p % 2),
+        code: code_for(m, h.negative, x.prediction, v),
+    }
+}
+
+fn record_at(sums: &[u32; 112], ns: &[u32; 112], slot: usize) -> Record
+    requires { ⌜ (slot < 112) × SetInRange (zipRecords (now sums) (now ns)) ⌝ }
+    ensures { λ r. ⌜ (r ≡ getD (zipRecords (now (sums .entry)) (now (ns .entry))) slot noRecord) × InRange r ⌝ }
+{
+    Record {
         sum: sums[slot],
         n: ns[slot],
-    };
-    let code = code_for(quantiser::largest(bits), h.negative, x.prediction, v);
-    let after = put_code(out, store, from, old.k(), limit, raw, code);
+    }
+}
+
+// The record that was there is updated by its code.
+fn update_at(sums: &mut [u32; 112], ns: &mut [u32; 112], slot: usize, old: Record, code: u32)
+    requires { ⌜ (code < 2 ^ 16) × ((slot < 112) × InRange old) ⌝ }
+    requires { ⌜ SetInRange (zipRecords (now sums) (now ns)) ⌝ }
+    ensures { λ _. ⌜ (zipRecords (now (sums .exit)) (now (ns .exit)) ≡ set (zipRecords (now (sums .entry)) (now (ns .entry))) slot (updated old ((residualOf code) .size))) × SetInRange (zipRecords (now (sums .exit)) (now (ns .exit))) ⌝ }
+{
     let new = old.update(code::residual_size(code));
     sums[slot] = new.sum;
     ns[slot] = new.n;
-    after
 }
 
-// The sample at position p of a colour line, in line n: with its code, or interpolated.
-fn write_step(
-    samples: &[u16],
-    n: usize,
-    out: &mut [u8],
-    store: bool,
-    from: BitPosition,
-    lines: &mut [u16],
-    sums: &mut [u32; 112],
-    ns: &mut [u32; 112],
-    w: usize,
-    line: usize,
-    p: usize,
-    coded: bool,
-    bits: u32,
-    limit: u32,
-    raw: u32,
-) -> Put
-    requires { ⌜ (w ≤ 512) × ((p < w) × ((2 ≤ line) × (line ≤ 17))) ⌝ }
-    requires { ⌜ Depth bits × ((limit ≡ (usedQuantiser bits 0 0) .limit) × (raw ≡ (usedQuantiser bits 0 0) .raw)) ⌝ }
-    requires { ⌜ (n < 2 ^ 16) × (((n + 1) * lineSize w ≤ length (now samples)) × Within (largest bits) (now samples)) ⌝ }
-    requires { ⌜ (18 * (w + 2) ≤ length (now lines)) × (Within (largest bits) (now lines) × SetInRange (zipRecords (now sums) (now ns))) ⌝ }
-    requires { ⌜ (from .0 < 2 ^ 60) × StepsRoom bits w (now samples) n (stepAt line p coded ∷ []) store (from .0) (now lines) (now sums) (now ns) (now out) ⌝ }
-    ensures { λ r. ⌜ StepsPut bits w (now (samples .entry)) n (stepAt line p coded ∷ []) store (from .0) (now (lines .entry)) (now (sums .entry)) (now (ns .entry)) (now (out .entry)) (now (lines .exit)) (now (sums .exit)) (now (ns .exit)) (now (out .exit)) r × SetInRange (zipRecords (now (sums .exit)) (now (ns .exit))) ⌝ }
-{
-    let i = pass::left_of(w, line, p);
-    let j = index_in(w, n, line, p);
-    let x = context_at(lines, w + 2, i, p);
-    let v = samples[j];
-    if coded {
-        let after = write_coded(out, store, from, sums, ns, p, x, wide(v), bits, limit, raw);
-        lines[i + 1] = v;
-        return Put::At(after);
-    }
-    if wide(v) != x.prediction {
-        return Put::Wrong(j);
-    }
-    lines[i + 1] = v;
-    Put::At(from)
-}
-
-// The two samples at position p, in the pass's first line and then in its second.
-fn write_pair(
-    samples: &[u16],
-    n: usize,
-    out: &mut [u8],
-    store: bool,
-    from: BitPosition,
-    lines: &mut [u16],
-    sums: &mut [u32; 112],
-    ns: &mut [u32; 112],
-    w: usize,
-    plan: Plan,
-    p: usize,
-    first_coded: bool,
-    second_coded: bool,
-    bits: u32,
-    limit: u32,
-    raw: u32,
-) -> Put
-    requires { ⌜ (w ≤ 512) × ((p < w) × PlanInRange plan) ⌝ }
-    requires { ⌜ Depth bits × ((limit ≡ (usedQuantiser bits 0 0) .limit) × (raw ≡ (usedQuantiser bits 0 0) .raw)) ⌝ }
-    requires { ⌜ (n < 2 ^ 16) × (((n + 1) * lineSize w ≤ length (now samples)) × Within (largest bits) (now samples)) ⌝ }
-    requires { ⌜ (18 * (w + 2) ≤ length (now lines)) × (Within (largest bits) (now lines) × SetInRange (zipRecords (now sums) (now ns))) ⌝ }
-    requires { ⌜ (from .0 + 80 < 2 ^ 60) × StepsRoom bits w (now samples) n (stepAt (plan .first) p «first_coded» ∷ stepAt (plan .second) p «second_coded» ∷ []) store (from .0) (now lines) (now sums) (now ns) (now out) ⌝ }
-    ensures { λ r. ⌜ StepsPut bits w (now (samples .entry)) n (stepAt (plan .first) p «first_coded» ∷ stepAt (plan .second) p «second_coded» ∷ []) store (from .0) (now (lines .entry)) (now (sums .entry)) (now (ns .entry)) (now (out .entry)) (now (lines .exit)) (now (sums .exit)) (now (ns .exit)) (now (out .exit)) r × SetInRange (zipRecords (now (sums .exit)) (now (ns .exit))) ⌝ }
-{
-    let got = write_step(
-        samples,
-        n,
-        out,
-        store,
-        from,
-        lines,
-        sums,
-        ns,
-        w,
-        plan.first,
-        p,
-        first_coded,
-        bits,
-        limit,
-        raw,
-    );
-    let Put::At(at) = got else {
-        return got;
-    };
-    write_step(
-        samples,
-        n,
-        out,
-        store,
-        at,
-        lines,
-        sums,
-        ns,
-        w,
-        plan.second,
-        p,
-        second_coded,
-        bits,
-        limit,
-        raw,
-    )
-}
-
-// The two samples at the even position p, where it is one of the line.
+// The two samples at the even position p, where it is one of the line. As in reading, the leaves are called here, and this from one place only: so
+// all of it is taken into the loop.
 fn write_even(
     samples: &[u16],
     n: usize,
@@ -418,26 +322,36 @@ fn write_even(
     if p >= w {
         return Put::At(from);
     }
-    let a = pass::has_code(plan.first_rule, p);
-    let b = pass::has_code(plan.second_rule, p);
-    write_pair(
-        samples,
-        n,
-        out,
-        store,
-        from,
-        lines,
-        sums,
-        ns,
-        w,
-        plan,
-        p,
-        a,
-        b,
-        bits,
-        limit,
-        raw,
-    )
+    let m = quantiser::largest(bits);
+    let s = w + 2;
+    let mut at = from;
+    let i = pass::left_of(w, plan.first, p);
+    let j = index_in(w, n, plan.first, p);
+    let x = context_at(lines, s, i, p);
+    let v = samples[j];
+    lines[i + 1] = v;
+    if pass::has_code(plan.first_rule, p) {
+        let c = coded_as(m, p, x, wide(v));
+        let old = record_at(sums, ns, c.slot);
+        at = put_code(out, store, at, old.k(), limit, raw, c.code);
+        update_at(sums, ns, c.slot, old, c.code);
+    } else if wide(v) != x.prediction {
+        return Put::Wrong(j);
+    }
+    let i = pass::left_of(w, plan.second, p);
+    let j = index_in(w, n, plan.second, p);
+    let x = context_at(lines, s, i, p);
+    let v = samples[j];
+    lines[i + 1] = v;
+    if pass::has_code(plan.second_rule, p) {
+        let c = coded_as(m, p, x, wide(v));
+        let old = record_at(sums, ns, c.slot);
+        at = put_code(out, store, at, old.k(), limit, raw, c.code);
+        update_at(sums, ns, c.slot, old, c.code);
+    } else if wide(v) != x.prediction {
+        return Put::Wrong(j);
+    }
+    Put::At(at)
 }
 
 // The two samples at the odd position p - 7, once positions 0 to 8 are done.
@@ -467,24 +381,28 @@ fn write_odd(
     if p < 8 {
         return Put::At(from);
     }
-    write_pair(
-        samples,
-        n,
-        out,
-        store,
-        from,
-        lines,
-        sums,
-        ns,
-        w,
-        plan,
-        p - 7,
-        true,
-        true,
-        bits,
-        limit,
-        raw,
-    )
+    let m = quantiser::largest(bits);
+    let s = w + 2;
+    let q = p - 7;
+    let i = pass::left_of(w, plan.first, q);
+    let j = index_in(w, n, plan.first, q);
+    let x = context_at(lines, s, i, q);
+    let v = samples[j];
+    lines[i + 1] = v;
+    let c = coded_as(m, q, x, wide(v));
+    let old = record_at(sums, ns, c.slot);
+    let at = put_code(out, store, from, old.k(), limit, raw, c.code);
+    update_at(sums, ns, c.slot, old, c.code);
+    let i = pass::left_of(w, plan.second, q);
+    let j = index_in(w, n, plan.second, q);
+    let x = context_at(lines, s, i, q);
+    let v = samples[j];
+    lines[i + 1] = v;
+    let c = coded_as(m, q, x, wide(v));
+    let old = record_at(sums, ns, c.slot);
+    let after = put_code(out, store, at, old.k(), limit, raw, c.code);
+    update_at(sums, ns, c.slot, old, c.code);
+    Put::At(after)
 }
 
 // A pass, with the turns of reading: the even position p, and then the odd one at p - 7.
