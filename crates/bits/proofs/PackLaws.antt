@@ -26,7 +26,7 @@ unfolding numberOf
 number-first k true l = rw one-mul
 number-first k false l = rw zero-mul
 
-number-nil : (k : ℕ) → numberOf k [] ≡ 0
+pub number-nil : (k : ℕ) → numberOf k [] ≡ 0
 unfolding numberOf
 number-nil zero = refl
 number-nil (suc k) = refl
@@ -38,7 +38,7 @@ number-lt (suc k) [] = pow-pos (suc k)
 number-lt (suc k) (true ∷ l) = omega (arith, number-lt k l, pow-suc 2 k)
 number-lt (suc k) (false ∷ l) = omega (arith, number-lt k l, pow-suc 2 k)
 
-digit : (d : ℕ) (k : ℕ) → d < 2 → cond (eqb (d % 2) 1) (2 ^ k) 0 ≡ d * 2 ^ k
+pub digit : (d : ℕ) (k : ℕ) → d < 2 → cond (eqb (d % 2) 1) (2 ^ k) 0 ≡ d * 2 ^ k
 digit zero k h = rw zero-mul
 digit (suc zero) k h = rw one-mul
 digit (suc (suc d)) k h = absurd (omega arith)

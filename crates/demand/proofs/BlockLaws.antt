@@ -15,7 +15,7 @@ use Rattle.bits.proofs.PackLaws.{room, spare-zeros, zeros-spare}
 use Rattle.quantiser.specs.Quantisers.{largest}
 use Rattle.map.specs.Places.{widthOf}
 use Rattle.writing.specs.Sets.{setSize, lineOfRank, indexIn, lineAt, colourLineAt, positionAt}
-use Rattle.writing.proofs.Twins.{both}
+use Rattle.numbers.proofs.BoolLaws.{both}
 use Rattle.writing.proofs.SetLaws.{index-lt, line-at, colour-line-at, position-at}
 use Rattle.block.specs.Blocks.{State, readLines, linesOf}
 use Rattle.block.specs.TightBlocks.{readSample, setRead, isTail}

@@ -111,7 +111,7 @@ evenPart W P p = cond (ltb p W) (evenSteps P p) []
 abbrev pub oddPart : Plan → ℕ → List Step
 oddPart P p = cond (leb 8 p) (oddSteps P (p - 7)) []
 
-turn-is : (W : ℕ) (P : Plan) (p : ℕ) → p % 2 ≡ 0 → evenPart W P p ++ oddPart P p ≡ turnSteps W P (p / 2)
+pub turn-is : (W : ℕ) (P : Plan) (p : ℕ) → p % 2 ≡ 0 → evenPart W P p ++ oddPart P p ≡ turnSteps W P (p / 2)
 unfolding turnSteps
 turn-is W P p h = let e : 2 * (p / 2) ≡ p = omega arith in rw e
 

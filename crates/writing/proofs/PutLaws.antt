@@ -14,7 +14,7 @@ use borrow.Author.Tests.{lt-ltb, le-ltb}
 use Rattle.numbers.proofs.OrderLaws.{split}
 use Rattle.bits.specs.BitLists.{binary, bitsOf, numberOf, packed, bytesFor}
 use Rattle.bits.proofs.ListLaws.{length-binary, length-bits, binary-zero}
-use Rattle.bits.proofs.PackLaws.{number-binary, bits-packed, length-packed, room}
+use Rattle.bits.proofs.PackLaws.{number-nil, digit, number-binary, bits-packed, length-packed, room}
 use Rattle.code.specs.Tight.{runThen, codeBits, codeLength}
 use Rattle.code.proofs.TightLaws.{length-codeBits}
 use Rattle.writing.specs.Puts.{codeNumber, putBits, putIf, Room}
@@ -63,16 +63,6 @@ code-digits k limit raw c hl hc =
     (λ h. rw (lt-ltb (c / 2 ^ k) limit h) (run-number (c / 2 ^ k) k (c % 2 ^ k) (mod-lt c (pow-pos k))))
 
 -- ---- the number of two parts
-
-number-nil : (k : ℕ) → numberOf k [] ≡ 0
-unfolding numberOf
-number-nil zero = refl
-number-nil (suc k) = refl
-
-digit : (d k : ℕ) → d < 2 → cond (eqb (d % 2) 1) (2 ^ k) 0 ≡ d * 2 ^ k
-digit zero k h = rw zero-mul
-digit (suc zero) k h = rw one-mul
-digit (suc (suc d)) k h = absurd (omega arith)
 
 -- a digits of v, and then other bits
 number-part : (a k v : ℕ) (l : List Bool) → v < 2 ^ a → numberOf (a + k) (binary a v ++ l) ≡ v * 2 ^ k + numberOf k l

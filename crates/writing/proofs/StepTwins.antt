@@ -30,7 +30,8 @@ use Rattle.pass.proofs.StepLaws.{stepPlace, step-interpolated, step-read}
 use Rattle.writing.specs.Sets.{indexIn}
 use Rattle.writing.specs.Writings.{writeStep}
 use Rattle.writing.proofs.LosslessLaws.{Lossless}
-use Rattle.writing.proofs.Twins.{both, Starts, starts-at, within, taken-more, Clean, Sound, writingOf, CleanReading, StoredWriting, Together, Back}
+use Rattle.numbers.proofs.BoolLaws.{both}
+use Rattle.writing.proofs.Twins.{Starts, starts-at, within, taken-more, Clean, Sound, writingOf, CleanReading, StoredWriting, Together, Back}
 use Rattle.writing.proofs.WriteLaws.{contextIn, lookIn, slotIn, wanted, write-coded, write-interpolated}
 
 -- a step whose sample has a place in the lines

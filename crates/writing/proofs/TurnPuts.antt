@@ -11,7 +11,7 @@ use lib.ListN.{length, length-append}
 use Rattle.bits.specs.declared.BitPosition.{BitPosition}
 use Rattle.pass.specs.Steps.{Step, evenSteps, oddSteps, turnSteps, upto, passSteps}
 use Rattle.pass.specs.declared.Plan.{Plan}
-use Rattle.pass.proofs.StepLaws.{evenPart, oddPart}
+use Rattle.pass.proofs.StepLaws.{evenPart, oddPart, turn-is}
 use Rattle.writing.specs.Writings.{Writing, writes, writePass}
 use Rattle.writing.specs.Puts.{Room, startOf, StepsRoom, IsPut, StepsPut, wrongAt, IsPassPut}
 use Rattle.writing.specs.declared.Put.{Put}
@@ -26,14 +26,10 @@ module _ (W : ℕ) (P : Plan) (p : ℕ) where
   abbrev pub before : List Step
   before = upto (turnSteps W P) (p / 2)
 
-  turn-is : p % 2 ≡ 0 → evenPart W P p ++ oddPart P p ≡ turnSteps W P (p / 2)
-  unfolding turnSteps
-  turn-is h = let e : 2 * (p / 2) ≡ p = omega arith in rw e
-
   -- one turn more
   turn-next : p % 2 ≡ 0 → (before ++ evenPart W P p) ++ oddPart P p ≡ upto (turnSteps W P) (suc (p / 2))
   unfolding upto
-  turn-next h = append-assoc before (evenPart W P p) (oddPart P p) ∙ rw (turn-is h)
+  turn-next h = append-assoc before (evenPart W P p) (oddPart P p) ∙ rw (turn-is W P p h)
 
   pub turn-more : p % 2 ≡ 0 → (before ++ evenPart W P p) ++ oddPart P p ≡ upto (turnSteps W P) ((p + 2) / 2)
   turn-more h = let n : (p + 2) / 2 ≡ suc (p / 2) = omega arith in rw n (turn-next h)

@@ -1,5 +1,5 @@
 -- What it means that reading and writing go together: bits at the start of a block, clean readings, and the writing that goes with one. Assumes nothing.
-use mathlib.Core.Bool.{Bool, true, false, _&&_, false≢true}
+use mathlib.Core.Bool.{Bool, true, false, _&&_}
 use mathlib.Core.List.{List, _++_, append-assoc}
 use mathlib.Core.Option.{Option, none, some}
 use mathlib.Core.Path.{_≡_, refl, sym, ap, _∙_}
@@ -13,10 +13,6 @@ use Rattle.quantiser.specs.Quantisers.{largest}
 use Rattle.pass.specs.Readings.{Reading, andThen}
 use Rattle.pass.proofs.RangeLaws.{AllLe}
 use Rattle.writing.specs.Writings.{Writing}
-
-pub both : (a b : Bool) → (a && b) ≡ true → (a ≡ true) × (b ≡ true)
-both true b e = (refl, e)
-both false b e = absurd (false≢true e)
 
 -- ---- bits
 

@@ -1,7 +1,7 @@
 // Writing one pass over two colour lines, lossless: the samples are those of a set, and their tight codes are counted or stored.
 ghost use mathlib.Core.Path.{_≡_};
 ghost use mathlib.Core.Bool.{true, false, cond, not};
-ghost use mathlib.Core.List.{[], _∷_, _++_};
+ghost use mathlib.Core.List.{[], _++_};
 ghost use mathlib.Core.Option.{none};
 ghost use Prim.Native.Nat.{_+_, _-_, _*_, _/_, _%_, _^_, _≤_, _<_};
 ghost use lib.Dec.{ltb, leb};
@@ -12,11 +12,11 @@ ghost use Rattle.quantiser.specs.Quantisers.{largest};
 ghost use Rattle.prediction.specs.Predictions.{Ranges};
 ghost use Rattle.code.specs.Samples.{residualOf};
 ghost use Rattle.code.specs.Tight.{stepsUp, residualUp, codeOfResidual, codeFor, codeBits, codeLength};
-ghost use Rattle.pass.specs.Steps.{stepAt, interpolated, evenSteps, oddSteps};
+ghost use Rattle.pass.specs.Steps.{interpolated, evenSteps, oddSteps};
 ghost use Rattle.pass.specs.Readings.{contextAt, usedQuantiser, zipRecords, recordsOf, SetInRange, PlanInRange, Depth, lookOf, slotOf, noRecord};
 ghost use Rattle.writing.specs.Sets.{rankOf, indexIn, lineSize};
 ghost use Rattle.writing.specs.Writings.{writePass};
-ghost use Rattle.writing.specs.Puts.{codeNumber, putBits, putIf, Room, Within, bitsOfSample, setOfSample, StepsRoom, StepsPut, wrongAt, IsPassPut};
+ghost use Rattle.writing.specs.Puts.{codeNumber, putBits, putIf, Room, Within, StepsRoom, StepsPut, wrongAt, IsPassPut};
 use bits::BitPosition;
 use pass::Plan;
 use pass::Set;
