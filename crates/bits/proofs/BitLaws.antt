@@ -8,7 +8,7 @@ use native.Mathlib.Omega.{arith}
 use lib.Dec.{lit≤}
 use lib.ListN.{length, getD, List·getD-eq-default}
 use lib.Pow.{pow-add, shr-shr, shl-shr, shl-lt, low, high}
-use Rattle.bits.specs.Bits.{bitAt, bitsAt, be32}
+use Rattle.bits.specs.Bits.{bitAt, bitsAt, wordAt, be32}
 
 -- a bit is 0 or 1
 pub bitAt-lt : (s : List ℕ) (i : ℕ) → bitAt s i < 2
@@ -108,7 +108,7 @@ bitsAt-shl s q r n =
     (low (bitsAt s q r) (n + r) (shl-lt n r (bitsAt-lt s (q + r) n)))
 
 -- the window of 64 bits that starts at p's byte, shifted so that the bit at p stands at the top
-pub shifted-window : (s : List ℕ) (p : ℕ) → (bitsAt s (8 * (p / 8)) 64 * 2 ^ (p % 8)) % 2 ^ 64 ≡ bitsAt s p (64 - p % 8) * 2 ^ (p % 8)
+pub shifted-window : (s : List ℕ) (p : ℕ) → (bitsAt s (8 * (p / 8)) 64 * 2 ^ (p % 8)) % 2 ^ 64 ≡ wordAt s p
 shifted-window s p =
     let all : p % 8 + (64 - p % 8) ≡ 64 = omega arith in
     let at : 8 * (p / 8) + p % 8 ≡ p = omega arith in
@@ -120,8 +120,8 @@ bitsAt-high s p n m r =
     rw (← shr-shr (bitsAt s p (n + m) * 2 ^ r) r m, shl-shr (bitsAt s p (n + m)) r, bitsAt-split s p n m)
     (high (bitsAt s p n) m (bitsAt-lt s (p + n) m))
 
--- the first n of the bits that `top_bits` gives
-pub bitsAt-top : (s : List ℕ) (p n : ℕ) → n ≤ 57 → bitsAt s p (64 - p % 8) * 2 ^ (p % 8) / 2 ^ (64 - n) ≡ bitsAt s p n
+-- the first n of the bits that a word has
+pub bitsAt-top : (s : List ℕ) (p n : ℕ) → n ≤ 57 → wordAt s p / 2 ^ (64 - n) ≡ bitsAt s p n
 bitsAt-top s p n h =
     let m : ℕ = 64 - p % 8 - n in
     let all : n + m ≡ 64 - p % 8 = omega arith in
@@ -132,5 +132,5 @@ bitsAt-top s p n h =
 pub bitsAt-window : (s : List ℕ) (p n : ℕ) → n ≤ 32 → (bitsAt s (8 * (p / 8)) 64 * 2 ^ (p % 8)) % 2 ^ 64 / 2 ^ 32 / 2 ^ (32 - n) ≡ bitsAt s p n
 bitsAt-window s p n h =
     let out : 32 + (32 - n) ≡ 64 - n = omega arith in
-    rw (shifted-window s p, shr-shr (bitsAt s p (64 - p % 8) * 2 ^ (p % 8)) 32 (32 - n), out)
+    rw (shifted-window s p, shr-shr (wordAt s p) 32 (32 - n), out)
     (bitsAt-top s p n (omega arith))

@@ -4,6 +4,7 @@ pub mod RunLaws
 pub mod ListLaws
 pub mod PackLaws
 pub mod PumpOwns
+pub mod PumpMakes
 pub mod PumpPeeks
 pub mod PumpLends
 pub mod Held

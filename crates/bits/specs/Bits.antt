@@ -17,6 +17,10 @@ unfoldable pub bitsAt : List ℕ → ℕ → ℕ → ℕ
 bitsAt s p zero = zero
 bitsAt s p (suc n) = bitsAt s p n * 2 + bitAt s (p + n)
 
+-- the bits from p on at the top of a word of 64: those up to the end of the eighth byte from p's own on, and zeros below
+abbrev pub wordAt : List ℕ → ℕ → ℕ
+wordAt s p = bitsAt s p (64 - p % 8) * 2 ^ (p % 8)
+
 -- how many of the n bits from p on stand before the first one bit: n where there is none (`under b m` is 0 where b is 1, and m + 1 where it is 0)
 unfoldable pub zeros : List ℕ → ℕ → ℕ → ℕ
 zeros s p zero = zero

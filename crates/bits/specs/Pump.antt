@@ -1,7 +1,7 @@
 -- What a pump gives, and where it stands afterwards. A pump is the bytes of a block and a bit position. Assumes nothing.
 use Prim.Native.Nat.{ℕ, _+_, _-_, _%_, _^_, min}
 use denote.Ref.{now}
-use Rattle.bits.specs.Bits.{bitsAt}
+use Rattle.bits.specs.Bits.{bitsAt, wordAt}
 use Rattle.bits.specs.declared.BitPumpMsb.{BitPumpMsb}
 
 -- the position n bits on; positions end at 2^64 − 1
@@ -15,6 +15,10 @@ aligned p = ahead p ((8 - p % 8) % 8)
 -- the next n bits of a pump, where a count above 32 is taken as 32
 abbrev pub nextBits : BitPumpMsb → ℕ → ℕ
 nextBits b n = bitsAt (now (b .«data»)) (b .at .0) (min n 32)
+
+-- the word of its next bits
+abbrev pub nextWord : BitPumpMsb → ℕ
+nextWord b = wordAt (now (b .«data»)) (b .at .0)
 
 -- a pump over the same bytes, at position p
 abbrev pub movedTo : BitPumpMsb → ℕ → BitPumpMsb

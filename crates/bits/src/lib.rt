@@ -1,10 +1,9 @@
 // The bits of a block: most significant first, zeros after the end. There is no cache: eight bytes are loaded where the position stands.
 ghost use mathlib.Core.Path.{_≡_};
-ghost use Prim.Native.Nat.{_+_, _-_, _*_, _/_, _%_, _^_, _≤_, _<_, min};
-ghost use lib.Dec.{leb};
+ghost use Prim.Native.Nat.{_+_, _*_, _/_, _^_, _≤_, _<_, min};
 ghost use lib.ListN.{length, getD};
-ghost use Rattle.bits.specs.Bits.{bitsAt, zeroRun, afterRun, be32};
-ghost use Rattle.bits.specs.Pump.{ahead, aligned, nextBits, movedTo};
+ghost use Rattle.bits.specs.Bits.{bitsAt, wordAt, zeroRun, afterRun, be32};
+ghost use Rattle.bits.specs.Pump.{ahead, aligned, nextBits, nextWord, movedTo};
 
 // A place in a block, counted in bits from its start.
 pub struct BitPosition(pub u64);
@@ -106,21 +105,11 @@ fn window(s: &[u8], at: ByteOffset) -> u64
     }
 }
 
-// Whether the eight bytes from the position's own byte on are all there.
-pub fn has_window(s: &[u8], at: BitPosition) -> bool
-    ensures { λ r. ⌜ r ≡ leb (at .0 / 8 + 8) (length (now (s .entry))) ⌝ }
+// The bits from `at` on, at the top of a word: 57 of them or more, and zeros below and after the block's end.
+pub fn word_at(s: &[u8], at: BitPosition) -> u64
+    ensures { λ r. ⌜ r ≡ wordAt (now (s .entry)) (at .0) ⌝ }
 {
-    let from = at.byte();
-    from.0 + 8 <= s.len()
-}
-
-// The bits from `at` on, at the top of a word: 57 of them or more, and zeros below. For positions that have a window.
-pub fn top_bits(s: &[u8], at: BitPosition) -> u64
-    requires { ⌜ at .0 / 8 + 8 ≤ length (now s) ⌝ }
-    ensures { λ r. ⌜ r ≡ bitsAt (now (s .entry)) (at .0) (64 - at .0 % 8) * 2 ^ (at .0 % 8) ⌝ }
-{
-    let from = at.byte();
-    load64(s, from.0) << (at.0 % 8)
+    window(s, at.byte()) << (at.0 % 8)
 }
 
 // A count of bits to read: 32 at most.
@@ -204,6 +193,14 @@ impl<'a> BitPumpMsb<'a> {
         ensures { λ r. ⌜ r ≡ nextBits (now (self .entry)) n ⌝ }
     {
         peek_at(self.data, self.at, n)
+    }
+
+    // All bits that one load has: the next 57 or more, at the top of a word, zeros after the block's end. It takes the pump by value, so that
+    // a pump made for it need not lie in memory.
+    pub fn peek_word(self) -> u64
+        ensures { λ r. ⌜ r ≡ nextWord (self .entry) ⌝ }
+    {
+        word_at(self.data, self.at)
     }
 
     // Moves on by n bits, any number of them.

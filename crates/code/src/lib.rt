@@ -4,6 +4,7 @@ ghost use mathlib.Core.Bool.{cond, _&&_};
 ghost use Prim.Native.Nat.{_*_, _/_, _^_, _≤_, _<_};
 ghost use lib.Dec.{leb, ltb, eqb};
 ghost use lib.ListN.{length};
+ghost use Rattle.bits.specs.Bits.{wordAt};
 ghost use Rattle.code.specs.Codes.{codeAt, Bounds};
 ghost use Rattle.code.specs.Samples.{choiceOf, residualOf, wrap, Moved, sampleOf};
 ghost use Rattle.code.specs.Tight.{isTight};
@@ -76,27 +77,32 @@ fn read_any(s: &[u8], at: BitPosition, k: u32, limit: u32, raw: u32) -> Coded
     next_code(&mut p, k, limit, raw)
 }
 
-// The code at `at`. In the common case its zeros, its one bit and its low bits stand in one window of 57 bits. The slow reader has two
+// The next bits at `at`, by a pump.
+fn next_word(s: &[u8], at: BitPosition) -> u64
+    ensures { λ r. ⌜ r ≡ wordAt (now (s .entry)) (at .0) ⌝ }
+{
+    BitPumpMsb::at_bit(s, at).peek_word()
+}
+
+// The code at `at`. In the common case its zeros, its one bit and its low bits stand in one word of 57 bits or more. The slow reader has two
 // calls here, so that LLVM does not take it into this function.
 pub fn read_code(s: &[u8], at: BitPosition, k: u32, limit: u32, raw: u32) -> Coded
     requires { ⌜ (length (now s) < 2 ^ 32) × ((k ≤ 15) × ((limit < 64) × (raw ≤ 16))) ⌝ }
     ensures { λ r. ⌜ (r ≡ codeAt (now (s .entry)) (at .0) k limit raw) × Bounds (now (s .entry)) r ⌝ }
 {
-    if bits::has_window(s, at) {
-        let w = bits::top_bits(s, at);
-        // At most 41 zeros: with the one bit and 15 low bits they are in the window.
-        if w >= 0x40_0000 {
-            let zeros = u64::leading_zeros(w);
-            if zeros < limit {
-                let used = zeros + 1 + k;
-                let low = (w >> (64 - used)) as u32 - (1 << k);
-                return Coded::Read(Code {
-                    zeros: zeros as u64,
-                    value: (zeros << k) + low,
-                    minimal: true,
-                    after: BitPosition(at.0 + used as u64),
-                });
-            }
+    let w = next_word(s, at);
+    // At most 41 zeros: with the one bit and 15 low bits they are in the word.
+    if w >= 0x40_0000 {
+        let zeros = u64::leading_zeros(w);
+        if zeros < limit {
+            let used = zeros + 1 + k;
+            let low = (w >> (64 - used)) as u32 - (1 << k);
+            return Coded::Read(Code {
+                zeros: zeros as u64,
+                value: (zeros << k) + low,
+                minimal: true,
+                after: BitPosition(at.0 + used as u64),
+            });
         }
         return read_any(s, at, k, limit, raw);
     }

@@ -1,7 +1,6 @@
--- `code::read_code` meets its contract: in the window, the leading zeros are the run and the bits behind its one bit are the low bits.
+-- `code::read_code` meets its contract: in the word, the leading zeros are the run and the bits behind its one bit are the low bits.
 -- Assumes nothing.
 use borrow.Author.Needs.{needs}
-use borrow.Author.Tests.{leb-true}
 use mathlib.Core.Bool.{true}
 use mathlib.Core.Path.{_≡_, sym, _∙_}
 use mathlib.Core.List.{List}
@@ -9,7 +8,7 @@ use Prim.Native.Nat.{ℕ, _+_, _-_, _*_, _/_, _%_, _^_, _≤_, _<_}
 use native.Mathlib.Omega.{arith}
 use lib.Count.{leadingZeros}
 use lib.Pow.{pow-mono, shl-lt}
-use Rattle.bits.specs.Bits.{bitsAt, zeroRun}
+use Rattle.bits.specs.Bits.{bitsAt, wordAt, zeroRun}
 use Rattle.bits.specs.declared.ZeroRun.the-variants.{One}
 use Rattle.bits.proofs.BitLaws.{bitsAt-lt, bitsAt-top}
 use Rattle.bits.proofs.RunLaws.{leading-few, window-run, run-then, run-inside}
@@ -20,7 +19,7 @@ use Rattle.code.proofs.CodeLaws.{code-short, code-bounds, short-lt, shi
 use Rattle.code.proofs.read_code.Statement.{statement}
 use Rattle.code.proofs.read_code.Tie as tie
 
--- what a window w at p says of a code that starts with z zeros
+-- what the word w at p says of a code that starts with z zeros
 record Window (s : List ℕ) (p k w z : ℕ) : Type 0 where
   inside : z + 1 + k ≤ 57
   run : zeroRun s p ≡ One z
@@ -29,11 +28,11 @@ record Window (s : List ℕ) (p k w z : ℕ) : Type 0 where
   small : 2 ^ k ≤ 2 ^ 15
   one : (1 * 2 ^ k) % 2 ^ 32 ≡ 2 ^ k
 
-topped : (s : List ℕ) (p k w z : ℕ) → w ≡ bitsAt s p (64 - p % 8) * 2 ^ (p % 8) → zeroRun s p ≡ One z → z + 1 + k ≤ 57
+topped : (s : List ℕ) (p k w z : ℕ) → w ≡ wordAt s p → zeroRun s p ≡ One z → z + 1 + k ≤ 57
     → w / 2 ^ (64 - (z + 1 + k)) ≡ 2 ^ k + bitsAt s (p + z + 1) k
 topped s p k w z e run h = rw e (bitsAt-top s p (z + 1 + k) h ∙ run-then s p z k run)
 
-window : (s : List ℕ) (p k w : ℕ) → w ≡ bitsAt s p (64 - p % 8) * 2 ^ (p % 8) → 2 ^ 22 ≤ w → k ≤ 15 → Window s p k w (leadingZeros 64 w)
+window : (s : List ℕ) (p k w : ℕ) → w ≡ wordAt s p → 2 ^ 22 ≤ w → k ≤ 15 → Window s p k w (leadingZeros 64 w)
 window s p k w e h hk =
     let all : 64 - p % 8 + p % 8 ≡ 64 = omega arith in
     let lt : w < 2 ^ 64 = rw e (rw all at (shl-lt (64 - p % 8) (p % 8) (bitsAt-lt s p (64 - p % 8)))) in
@@ -64,13 +63,10 @@ bounded : (s : List ℕ) (p k limit raw : ℕ) (r : Coded) → k ≤ 15 → limi
     → (r ≡ codeAt s p k limit raw) × Bounds s r
 bounded s p k limit raw r hk hl hr e = (e, rw e (code-bounds s p k limit raw hk hl hr))
 
-known : (c : tie.Then3) → Window (c .before .before .before .before .before .before .args .s .now) (c .before .before .before .before .before .before .args .at .0) (c .before .before .before .before .before .before .args .k) (c .before .before .top-bits .result) (leadingZeros 64 (c .before .before .top-bits .result))
+known : (c : tie.Then2) → Window (c .before .before .before .before .args .s .now) (c .before .before .before .before .args .at .0) (c .before .before .before .before .args .k) (c .before .before .next-word .result) (leadingZeros 64 (c .before .before .next-word .result))
 known c =
-    let s = c .before .before .before .before .before .before in
-    window _ _ _ _ (c .before .before .top-bits .ensures) (c .before .if2 .taken) (s .pre .1 .0)
-
-top-bits-requires : tie.Need-top-bits-requires
-top-bits-requires c κs = leb-true _ _ (sym (c .before .has-window .ensures) ∙ c .if1 .taken)
+    let s = c .before .before .before .before in
+    window _ _ _ _ (c .before .before .next-word .ensures) (c .before .if1 .taken) (s .pre .1 .0)
 
 sub-low : tie.Need-sub-low
 sub-low c = omega (arith, known c .inside)
@@ -81,22 +77,22 @@ cast-low-2 c = omega (arith, known c .top, known c .low, known c .small)
 sub-low-2 : tie.Need-sub-low-2
 sub-low-2 c = omega (arith, known c .top, known c .one)
 
-add-t16 : tie.Need-add-t16
-add-t16 c =
-    let s = c .before .before .before .before .before .before in
-    record { fits = fits _ _ (s .args .k) (s .args .limit) (s .args .raw) _ _ (known c) (s .pre .1 .0) (s .pre .1 .1 .0) (c .if3 .taken) }
+add-t15 : tie.Need-add-t15
+add-t15 c =
+    let s = c .before .before .before .before in
+    record { fits = fits _ _ (s .args .k) (s .args .limit) (s .args .raw) _ _ (known c) (s .pre .1 .0) (s .pre .1 .1 .0) (c .if2 .taken) }
 
-add-t18 : tie.Need-add-t18
-add-t18 c = omega (arith, known (c .before) .inside, run-inside _ _ _ (known (c .before) .run))
+add-t17 : tie.Need-add-t17
+add-t17 c = omega (arith, known (c .before) .inside, run-inside _ _ _ (known (c .before) .run))
 
 returns : tie.Need-returns
 returns c =
-    let s = c .before .before .before .before .before .before .before in
-    bounded _ _ _ _ _ _ (s .pre .1 .0) (s .pre .1 .1 .0) (s .pre .1 .1 .1) (is _ _ _ _ _ _ _ (known (c .before)) (s .pre .1 .0) (s .pre .1 .1 .0) (c .before .if3 .taken))
+    let s = c .before .before .before .before .before in
+    bounded _ _ _ _ _ _ (s .pre .1 .0) (s .pre .1 .1 .0) (s .pre .1 .1 .1) (is _ _ _ _ _ _ _ (known (c .before)) (s .pre .1 .0) (s .pre .1 .1 .0) (c .before .if2 .taken))
 
 returns-2 : tie.Need-returns-2
 returns-2 c =
-    let s = c .before .before .before .before .before .before in
+    let s = c .before .before .before .before .before in
     bounded _ _ _ _ _ _ (s .pre .1 .0) (s .pre .1 .1 .0) (s .pre .1 .1 .1) (c .read-any .ensures)
 
 returns-3 : tie.Need-returns-3
@@ -109,7 +105,6 @@ read-code-spec =
     tie.close
     (tie.spec
     (λ c κs. search needs)
-    top-bits-requires
     (λ c. search needs)
     (λ c. search needs)
     sub-low
@@ -120,9 +115,9 @@ read-code-spec =
     sub-low-2
     (λ c. search needs)
     (λ c. search needs)
-    add-t16
+    add-t15
     (λ c. search needs)
-    add-t18
+    add-t17
     returns
     (λ c κs. search needs)
     returns-2
