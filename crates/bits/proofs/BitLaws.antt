@@ -1,14 +1,15 @@
 -- Laws about single bits and the numbers that bits make: bounds, splitting, bytes, shifted windows. Assumes nothing.
+use mathlib.Core.Bool.{Bool, true, false, cond}
 use mathlib.Core.Path.{_≡_, refl, _∙_}
 use mathlib.Core.List.{List}
 use Prim.Native.Nat.{ℕ, zero, suc, _+_, _-_, _*_, _/_, _%_, _^_, _≤_, _<_}
 use native.Mathlib.Nat.{add-zero, add-suc, add-comm, add-mul, mul-one, mul-assoc, add-assoc, pow-suc, zero-add, div-one, zero-div, zero-mod, le-of-lt}
 use native.Mathlib.Numerals.{add-one, one-add}
 use native.Mathlib.Omega.{arith}
-use lib.Dec.{lit≤}
+use lib.Dec.{lit≤, leb}
 use lib.ListN.{length, getD, List·getD-eq-default}
 use lib.Pow.{pow-add, shr-shr, shl-shr, shl-lt, low, high}
-use Rattle.bits.specs.Bits.{bitAt, bitsAt, wordAt, be32}
+use Rattle.bits.specs.Bits.{bitAt, bitsAt, topBits, wordAt, be32}
 
 -- a bit is 0 or 1
 pub bitAt-lt : (s : List ℕ) (i : ℕ) → bitAt s i < 2
@@ -108,7 +109,7 @@ bitsAt-shl s q r n =
     (low (bitsAt s q r) (n + r) (shl-lt n r (bitsAt-lt s (q + r) n)))
 
 -- the window of 64 bits that starts at p's byte, shifted so that the bit at p stands at the top
-pub shifted-window : (s : List ℕ) (p : ℕ) → (bitsAt s (8 * (p / 8)) 64 * 2 ^ (p % 8)) % 2 ^ 64 ≡ wordAt s p
+pub shifted-window : (s : List ℕ) (p : ℕ) → (bitsAt s (8 * (p / 8)) 64 * 2 ^ (p % 8)) % 2 ^ 64 ≡ topBits s p
 shifted-window s p =
     let all : p % 8 + (64 - p % 8) ≡ 64 = omega arith in
     let at : 8 * (p / 8) + p % 8 ≡ p = omega arith in
@@ -121,7 +122,7 @@ bitsAt-high s p n m r =
     (high (bitsAt s p n) m (bitsAt-lt s (p + n) m))
 
 -- the first n of the bits that a word has
-pub bitsAt-top : (s : List ℕ) (p n : ℕ) → n ≤ 57 → wordAt s p / 2 ^ (64 - n) ≡ bitsAt s p n
+pub bitsAt-top : (s : List ℕ) (p n : ℕ) → n ≤ 57 → topBits s p / 2 ^ (64 - n) ≡ bitsAt s p n
 bitsAt-top s p n h =
     let m : ℕ = 64 - p % 8 - n in
     let all : n + m ≡ 64 - p % 8 = omega arith in
@@ -132,5 +133,14 @@ bitsAt-top s p n h =
 pub bitsAt-window : (s : List ℕ) (p n : ℕ) → n ≤ 32 → (bitsAt s (8 * (p / 8)) 64 * 2 ^ (p % 8)) % 2 ^ 64 / 2 ^ 32 / 2 ^ (32 - n) ≡ bitsAt s p n
 bitsAt-window s p n h =
     let out : 32 + (32 - n) ≡ 64 - n = omega arith in
-    rw (shifted-window s p, shr-shr (wordAt s p) 32 (32 - n), out)
+    rw (shifted-window s p, shr-shr (topBits s p) 32 (32 - n), out)
     (bitsAt-top s p n (omega arith))
+
+-- a word that is not 0 has the bits
+pub word-bits : (s : List ℕ) (p w : ℕ) → w ≡ wordAt s p → 0 < w → w ≡ topBits s p
+unfolding wordAt
+word-bits s p w e h = picked (leb (p / 8 + 8) (length s)) e
+  where
+    picked : (b : Bool) → w ≡ cond b (topBits s p) 0 → w ≡ topBits s p
+    picked true e = e
+    picked false e = let no : 0 < 0 = rw e at h in omega arith

@@ -11,7 +11,7 @@ use lib.Dec.{ltb}
 use lib.ListN.{length}
 use lib.Pow.{pow-pos, pow-add, pow-mono, shl-lt}
 use borrow.Author.Tests.{lt-ltb, le-ltb, ltb-true}
-use Rattle.bits.specs.Bits.{bitAt, bitsAt, wordAt, zeros, zeroRun}
+use Rattle.bits.specs.Bits.{bitAt, bitsAt, topBits, zeros, zeroRun}
 use Rattle.bits.specs.declared.ZeroRun.the-variants.{One, None}
 use Rattle.bits.proofs.BitLaws.{bitAt-lt, bitsAt-lt, bitsAt-split, bitsAt-none, bitsAt-one, bitsAt-first, bitAt-past}
 
@@ -104,7 +104,7 @@ leading-bits s q n r pos =
     leading-at s q n r (leadingZeros (n + r) (bitsAt s q n * 2 ^ r)) (t .0) pos (t .1) (t .2) (t .3)
 
 -- the word at q is not 0: its leading zeros are the zeros before a one bit
-pub window-one : (s : List ℕ) (q w : ℕ) → w ≡ wordAt s q → (w ≡ 0 → ⊥) → (bitsAt s q (leadingZeros 64 w) ≡ 0) × (bitAt s (q + leadingZeros 64 w) ≡ 1)
+pub window-one : (s : List ℕ) (q w : ℕ) → w ≡ topBits s q → (w ≡ 0 → ⊥) → (bitsAt s q (leadingZeros 64 w) ≡ 0) × (bitAt s (q + leadingZeros 64 w) ≡ 1)
 window-one s q w e ne =
     let all : (64 - q % 8) + q % 8 ≡ 64 = omega arith in
     let pos : 0 < bitsAt s q (64 - q % 8) = pos-of-ne-zero (λ z. ne (e ∙ rw (z, zero-mul))) in
@@ -112,7 +112,7 @@ window-one s q w e ne =
     rw e (rw all at b)
 
 -- it is 0: there is no one bit up to the window's end
-pub window-none : (s : List ℕ) (q w : ℕ) → w ≡ wordAt s q → w ≡ 0 → bitsAt s q ((q / 8 + 8) * 8 - q) ≡ 0
+pub window-none : (s : List ℕ) (q w : ℕ) → w ≡ topBits s q → w ≡ 0 → bitsAt s q ((q / 8 + 8) * 8 - q) ≡ 0
 window-none s q w e z =
     let n : (q / 8 + 8) * 8 - q ≡ 64 - q % 8 = omega arith in
     rw n (no-factor (bitsAt s q (64 - q % 8)) (2 ^ (q % 8)) (pow-pos (q % 8)) (sym e ∙ z))
@@ -125,7 +125,7 @@ run-at s p z h b =
     rw (zeros-one s p (8 * length s - p) z inside h b, lt-ltb _ _ inside)
 
 -- the leading zeros of the word at p are the run, where it is not 0: after the block's end it has no one bit
-pub window-run : (s : List ℕ) (p w : ℕ) → w ≡ wordAt s p → (w ≡ 0 → ⊥) → zeroRun s p ≡ One (leadingZeros 64 w)
+pub window-run : (s : List ℕ) (p w : ℕ) → w ≡ topBits s p → (w ≡ 0 → ⊥) → zeroRun s p ≡ One (leadingZeros 64 w)
 window-run s p w e ne =
     let b = window-one s p w e ne in
     run-at s p (leadingZeros 64 w) (b .0) (b .1)

@@ -105,11 +105,15 @@ fn window(s: &[u8], at: ByteOffset) -> u64
     }
 }
 
-// The bits from `at` on, at the top of a word: 57 of them or more, and zeros below and after the block's end.
-pub fn word_at(s: &[u8], at: BitPosition) -> u64
+// The bits from `at` on, at the top of a word: 57 of them or more, and zeros below. 0 where fewer than eight bytes are left.
+fn word_at(s: &[u8], at: BitPosition) -> u64
     ensures { λ r. ⌜ r ≡ wordAt (now (s .entry)) (at .0) ⌝ }
 {
-    window(s, at.byte()) << (at.0 % 8)
+    let from = at.byte();
+    if from.0 + 8 <= s.len() {
+        return load64(s, from.0) << (at.0 % 8);
+    }
+    0
 }
 
 // A count of bits to read: 32 at most.
@@ -195,7 +199,7 @@ impl<'a> BitPumpMsb<'a> {
         peek_at(self.data, self.at, n)
     }
 
-    // All bits that one load has: the next 57 or more, at the top of a word, zeros after the block's end. It takes the pump by value, so that
+    // All bits that one load has: the next 57 or more, at the top of a word, or 0 where fewer than eight bytes are left. It takes the pump by value, so that
     // a pump made for it need not lie in memory.
     pub fn peek_word(self) -> u64
         ensures { λ r. ⌜ r ≡ nextWord (self .entry) ⌝ }

@@ -8,9 +8,9 @@ use Prim.Native.Nat.{ℕ, _+_, _-_, _*_, _/_, _%_, _^_, _≤_, _<_}
 use native.Mathlib.Omega.{arith}
 use lib.Count.{leadingZeros}
 use lib.Pow.{pow-mono, shl-lt}
-use Rattle.bits.specs.Bits.{bitsAt, wordAt, zeroRun}
+use Rattle.bits.specs.Bits.{bitsAt, topBits, wordAt, zeroRun}
 use Rattle.bits.specs.declared.ZeroRun.the-variants.{One}
-use Rattle.bits.proofs.BitLaws.{bitsAt-lt, bitsAt-top}
+use Rattle.bits.proofs.BitLaws.{bitsAt-lt, bitsAt-top, word-bits}
 use Rattle.bits.proofs.RunLaws.{leading-few, window-run, run-then, run-inside}
 use Rattle.code.specs.Codes.{codeAt, Bounds}
 use Rattle.code.specs.declared.Coded.{Coded}
@@ -28,12 +28,13 @@ record Window (s : List ℕ) (p k w z : ℕ) : Type 0 where
   small : 2 ^ k ≤ 2 ^ 15
   one : (1 * 2 ^ k) % 2 ^ 32 ≡ 2 ^ k
 
-topped : (s : List ℕ) (p k w z : ℕ) → w ≡ wordAt s p → zeroRun s p ≡ One z → z + 1 + k ≤ 57
+topped : (s : List ℕ) (p k w z : ℕ) → w ≡ topBits s p → zeroRun s p ≡ One z → z + 1 + k ≤ 57
     → w / 2 ^ (64 - (z + 1 + k)) ≡ 2 ^ k + bitsAt s (p + z + 1) k
 topped s p k w z e run h = rw e (bitsAt-top s p (z + 1 + k) h ∙ run-then s p z k run)
 
 window : (s : List ℕ) (p k w : ℕ) → w ≡ wordAt s p → 2 ^ 22 ≤ w → k ≤ 15 → Window s p k w (leadingZeros 64 w)
-window s p k w e h hk =
+window s p k w e′ h hk =
+    let e : w ≡ topBits s p = word-bits s p w e′ (omega arith) in
     let all : 64 - p % 8 + p % 8 ≡ 64 = omega arith in
     let lt : w < 2 ^ 64 = rw e (rw all at (shl-lt (64 - p % 8) (p % 8) (bitsAt-lt s p (64 - p % 8)))) in
     let few : leadingZeros 64 w + 22 < 64 = leading-few 64 22 w h lt in
