@@ -154,10 +154,11 @@ impl Picture {
     }
 }
 
-/// The rounds that are kept, and how many there were.
+/// The rounds that are kept, how many there were, and the fastest outer and inner run of all of them.
 struct Rounds {
     kept: Vec<[f64; 3]>,
     all: usize,
+    fastest: [f64; 2],
 }
 
 fn rounds(mut round: impl FnMut() -> [f64; 3]) -> Rounds {
@@ -167,7 +168,8 @@ fn rounds(mut round: impl FnMut() -> [f64; 3]) -> Rounds {
         let fastest = rounds.iter().map(|r| r[0].min(r[2])).fold(f64::MAX, f64::min);
         let kept: Vec<[f64; 3]> = rounds.iter().filter(|r| r[0].max(r[2]) <= QUIET * fastest).copied().collect();
         if kept.len() >= FEWEST_KEPT || rounds.len() >= MOST_ROUNDS {
-            return Rounds { kept, all: rounds.len() };
+            let inner = rounds.iter().map(|r| r[1]).fold(f64::MAX, f64::min);
+            return Rounds { kept, all: rounds.len(), fastest: [fastest, inner] };
         }
     }
 }
@@ -194,7 +196,7 @@ impl std::fmt::Display for Spread {
 }
 
 /// Prints what was measured, and gives the ratio. `names` are those of the outer and of the inner runs of a round.
-fn measure(name: &str, names: [&str; 2], picture: &Picture, Rounds { kept, all }: Rounds) -> Option<f64> {
+fn measure(name: &str, names: [&str; 2], picture: &Picture, Rounds { kept, all, fastest }: Rounds) -> Option<f64> {
     if kept.is_empty() {
         println!("{name}: no quiet round of {all}");
         return None;
@@ -205,10 +207,13 @@ fn measure(name: &str, names: [&str; 2], picture: &Picture, Rounds { kept, all }
     let ratio = Spread::of(kept.iter().map(|r| 2.0 * r[1] / (r[0] + r[2])));
     let bits = 8.0 * picture.stream.len() as f64 / picture.codes;
     println!(
-        "{name}: {} {outer} ns a code, {} {inner} ns a code, ratio {ratio}, {} rounds of {all} kept, {bits:.2} bits a code",
+        "{name}: {} {outer} ns a code, {} {inner} ns a code, ratio {ratio}, {} rounds of {all} kept, {bits:.2} bits a code; fastest {:.2} and {:.2}, ratio {:.2}",
         names[0],
         names[1],
-        kept.len()
+        kept.len(),
+        ns * fastest[0],
+        ns * fastest[1],
+        fastest[1] / fastest[0]
     );
     Some(ratio.median)
 }
