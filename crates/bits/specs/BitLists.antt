@@ -1,9 +1,10 @@
 -- Bits as a list, in the order in which they are read: the view in which a tight block is described. Assumes nothing.
-use mathlib.Core.Bool.{Bool, cond}
+use mathlib.Core.Bool.{Bool, cond, _&&_}
 use mathlib.Core.List.{List, [], _∷_, _++_}
-use Prim.Native.Nat.{ℕ, zero, suc, _+_, _/_, _%_, _^_}
+use Prim.Native.Nat.{ℕ, zero, suc, _+_, _-_, _*_, _/_, _%_, _^_}
 use lib.Dec.{eqb}
 use lib.ListN.{length, drop}
+use Rattle.bits.specs.Bits.{bitsAt}
 
 -- the k binary digits of n, most significant first
 unfoldable pub binary : ℕ → ℕ → List Bool
@@ -32,3 +33,7 @@ bytesFor n = (n + 7) / 8
 
 unfoldable pub bytesOf : List Bool → List ℕ
 bytesOf l = packed (bytesFor (length l)) l
+
+-- the tail of a tight block that is read up to a bit: the length is the bits rounded up to bytes, and spare bits are 0
+unfoldable pub isTail : List ℕ → ℕ → Bool
+isTail s at = eqb (length s) (bytesFor at) && eqb (bitsAt s at (8 * length s - at)) 0

@@ -3,6 +3,7 @@ ghost use mathlib.Core.Path.{_≡_};
 ghost use Prim.Native.Nat.{_+_, _*_, _/_, _^_, _≤_, _<_, min};
 ghost use lib.ListN.{length, getD};
 ghost use Rattle.bits.specs.Bits.{bitsAt, wordAt, zeroRun, afterRun, be32};
+ghost use Rattle.bits.specs.BitLists.{isTail};
 ghost use Rattle.bits.specs.Pump.{ahead, aligned, nextBits, nextWord, movedTo};
 
 // A place in a block, counted in bits from its start.
@@ -130,6 +131,20 @@ pub fn peek_at(s: &[u8], at: BitPosition, n: u32) -> u32
     let m = counted(n);
     let w = window(s, at.byte());
     (((w << (at.0 % 8)) >> 32) >> (32 - m)) as u32
+}
+
+// Whether a tight block may end at this position: there is no byte more than the bits need, and spare bits are 0.
+pub fn is_tail(s: &[u8], at: BitPosition) -> bool
+    requires { ⌜ length (now s) < 2 ^ 32 ⌝ }
+    ensures { λ r. ⌜ r ≡ isTail (now (s .entry)) (at .0) ⌝ }
+{
+    let end = at.bytes();
+    let length = s.len();
+    if length != end.0 {
+        return false;
+    }
+    let spare = (8 * (length as u64) - at.0) as u32;
+    peek_at(s, at, spare) == 0
 }
 
 // The position behind the next n bits, 32 at most.

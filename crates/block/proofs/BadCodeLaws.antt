@@ -21,9 +21,8 @@ use Rattle.code.specs.declared.Coded.{Coded}
 use Rattle.code.specs.declared.Coded.the-variants.{Read, Truncated}
 use Rattle.code.proofs.CodeLaws.{code-cases}
 use Rattle.pass.specs.Steps.{Step, planOf, passSteps}
-use Rattle.pass.specs.Readings.{usedQuantiser, noRecord, Reading, interpolate, take-code, taken, readStep, andThen, reads, readPass}
+use Rattle.pass.specs.Readings.{usedQuantiser, noRecord, Reading, interpolate, take-code, taken, readStep, andThen, reads, readPass, stepPlace, stepContext, stepLook, stepSlot, stepCode}
 use Rattle.pass.specs.declared.Plan.{Plan}
-use Rattle.pass.proofs.StepLaws.{stepPlace, stepContext, stepLook, stepSlot, stepCode}
 use Rattle.map.specs.Places.{widthOf}
 use Rattle.block.specs.Records.{baseOf}
 use Rattle.block.specs.Blocks.{State, runs, enter, leave, passAt, endLine, readLine, beforeLine, lineAt, startState, readLines, tightLines}

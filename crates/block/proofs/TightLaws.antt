@@ -3,40 +3,21 @@ use mathlib.Core.Bool.{Bool, true, false, cond}
 use mathlib.Core.List.{List, []}
 use mathlib.Core.Option.{Option, none, some}
 use mathlib.Core.Path.{_≡_, refl, sym, ap, _∙_, subst}
-use Prim.Native.Nat.{ℕ, _+_, _-_, _*_, _/_, _%_, _≤_, _<_, min}
+use Prim.Native.Nat.{ℕ, _-_, _≤_, _<_}
 use native.Mathlib.Omega.{arith}
-use borrow.Author.Tests.{lt-ltb, le-ltb, eq-eqb, ne-eqb}
-use lib.Dec.{eqb}
-use lib.ListN.{length}
-use Rattle.bits.specs.Bits.{bitsAt}
+use borrow.Author.Tests.{lt-ltb, le-ltb}
+use Rattle.bits.specs.BitLists.{isTail}
 use Rattle.bits.specs.declared.BitPosition.{BitPosition}
 use Rattle.stream.specs.declared.Refusal.the-variants.{Truncated, NotTight}
 use Rattle.block.specs.Blocks.{ReadAll, CutAt, IsWalked, eitherOf, readLines}
 use Rattle.block.specs.Images.{linesRead}
 use Rattle.block.specs.BadCodes.{BadCode, firstBad}
-use Rattle.block.specs.TightBlocks.{isTail, bitsRead, readAnswer, tightAnswer}
+use Rattle.block.specs.TightBlocks.{bitsRead, readAnswer, tightAnswer}
 use Rattle.block.specs.declared.Decoded.the-variants.{Done, Refused}
 use Rattle.block.specs.declared.Form.{Form}
 use Rattle.block.specs.declared.Walked.{Walked}
 use Rattle.block.proofs.DecodeLaws.{walked-lines}
 use Rattle.block.proofs.BadCodeLaws.{lineOr, bad-in, tight-lines}
-
--- ---- the tail
-
--- the bits rounded up to bytes, without a sum that could be too large
-rounded : (at : ℕ) → at / 8 + (at % 8 + 7) / 8 ≡ (at + 7) / 8
-rounded at = omega arith
-
-pub other-length : (s : List ℕ) (at n : ℕ) → n ≡ length s → (n ≡ at / 8 + (at % 8 + 7) / 8 → ⊥) → false ≡ isTail s at
-unfolding isTail
-other-length s at n e ne = rw (ne-eqb (length s) ((at + 7) / 8) (λ q. ne (e ∙ q ∙ sym (rounded at))))
-
-pub same-length : (s : List ℕ) (at n spare v : ℕ) → n ≡ length s → n ≡ at / 8 + (at % 8 + 7) / 8 → spare ≡ 8 * n - at → v ≡ bitsAt s at (min spare 32)
-    → eqb v 0 ≡ isTail s at
-unfolding isTail
-same-length s at n spare v e f g h =
-    let k : min spare 32 ≡ 8 * length s - at = omega arith in
-    rw (h, k, eq-eqb (length s) ((at + 7) / 8) (sym e ∙ f ∙ rounded at))
 
 -- ---- the answer
 

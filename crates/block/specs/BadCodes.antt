@@ -2,7 +2,7 @@
 use mathlib.Core.Bool.{cond, _&&_}
 use mathlib.Core.List.{List, [], _∷_}
 use mathlib.Core.Option.{Option, none, some, Option·map, orElse}
-use Prim.Native.Nat.{ℕ, zero, suc, _+_, _*_, _/_, _^_}
+use Prim.Native.Nat.{ℕ, zero, suc, _/_, _^_}
 use lib.Dec.{leb, ltb}
 use lib.ListN.{getD}
 use Rattle.bits.specs.declared.BitPosition.{BitPosition}
@@ -12,7 +12,7 @@ use Rattle.code.specs.declared.Code.{Code}
 use Rattle.code.specs.declared.Coded.{Coded}
 use Rattle.code.specs.declared.Coded.the-variants.{Read, Truncated}
 use Rattle.pass.specs.Steps.{Step, planOf, passSteps}
-use Rattle.pass.specs.Readings.{contextAt, lookOf, slotOf, usedQuantiser, noRecord, codeOf, Reading, readStep, andThen}
+use Rattle.pass.specs.Readings.{usedQuantiser, noRecord, Reading, readStep, andThen, stepLook, stepSlot, stepCode}
 use Rattle.map.specs.Places.{widthOf}
 use Rattle.block.specs.Records.{baseOf}
 use Rattle.block.specs.Blocks.{State, runs, enter, passAt, beforeLine, lineAt, startState}
@@ -44,11 +44,9 @@ codedReason M k limit Truncated = none
 -- the reason of a step's code, which is the one that `readStep` takes; none if the step has no code
 unfoldable pub stepReason : ℕ → ℕ → ℕ → List ℕ → Step → Reading → Option Reason
 stepReason bits q W s x r =
-    let i = x .line * (W + 2) + x .position in
-    let h = lookOf q (contextAt (r .lines) (W + 2) i (x .position)) in
-    let slot = slotOf (x .position) (h .place) in
-    let limit = (usedQuantiser bits q (h .choice)) .limit in
-    cond (x .coded) (codedReason (largest bits) (kOf (getD (r .set) slot noRecord)) limit (codeOf bits q s slot h r)) none
+    let k = kOf (getD (r .set) (stepSlot q W x r) noRecord) in
+    let limit = (usedQuantiser bits q ((stepLook q W x r) .choice)) .limit in
+    cond (x .coded) (codedReason (largest bits) k limit (stepCode bits q W s x r)) none
 
 -- a bad code: its line of six rows, its pass, 0 to 5, its step, which has the colour line and the position, its first bit, and the reason
 pub record BadCode : Type 0 where

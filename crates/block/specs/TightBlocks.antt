@@ -1,13 +1,12 @@
 -- Tight blocks, lossless: what the tight reading accepts, and the set of colour lines that is read from a block. Assumes nothing.
-use mathlib.Core.Bool.{Bool, true, cond, _&&_}
+use mathlib.Core.Bool.{Bool, true, cond}
 use mathlib.Core.List.{List, []}
 use mathlib.Core.Option.{Option, none, some}
 use mathlib.Core.Path.{_≡_}
 use Prim.Native.Nat.{ℕ, suc, _+_, _-_, _*_}
-use lib.Dec.{ltb, eqb}
-use lib.ListN.{length, getD}
-use Rattle.bits.specs.Bits.{bitsAt}
-use Rattle.bits.specs.BitLists.{bytesFor}
+use lib.Dec.{ltb}
+use lib.ListN.{getD}
+use Rattle.bits.specs.BitLists.{isTail}
 use Rattle.map.specs.Places.{widthOf}
 use Rattle.stream.specs.declared.Refusal.the-variants.{Truncated, NotTight}
 use Rattle.writing.specs.Sets.{setSize, lineAt, colourLineAt, positionAt}
@@ -28,10 +27,6 @@ readSample F s j =
 -- the set of colour lines of a block: what the rules read at the places of a set
 unfoldable pub setRead : Form → ℕ → List ℕ → List ℕ
 setRead F lines s = table (readSample F s) (setSize (widthOf (F .xtrans)) lines)
-
--- the tail of a tight block that is read up to a bit: the length is the bits rounded up to bytes, and spare bits are 0
-unfoldable pub isTail : List ℕ → ℕ → Bool
-isTail s at = eqb (length s) (bytesFor at) && eqb (bitsAt s at (8 * length s - at)) 0
 
 -- a tight block: all lines are read, each code is tight, and so is the tail
 pub record Tight (F : Form) (lines : ℕ) (s : List ℕ) : Type 0 where

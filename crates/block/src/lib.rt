@@ -9,7 +9,7 @@ ghost use lib.Dec.{ltb, eqb};
 ghost use lib.ListN.{length, getD, set};
 ghost use Rattle.lines.specs.ColourLines.{zeroLines};
 ghost use Rattle.map.specs.Places.{widthOf, ArePlaces, Fits};
-ghost use Rattle.pass.specs.Readings.{noRecord, recordsOf, SetInRange, quantisersOf, Depth};
+ghost use Rattle.pass.specs.Readings.{noRecord, recordsOf, quantisersOf, Depth};
 ghost use Rattle.quantiser.specs.Quantisers.{largest};
 ghost use Rattle.bits.specs.BitLists.{bytesFor};
 ghost use Rattle.writing.specs.Sets.{lineSize, setSize};
@@ -17,7 +17,7 @@ ghost use Rattle.writing.specs.Puts.{Room, Within};
 ghost use Rattle.block.specs.Records.{startRecord, startRecords, restartedMain, baseOf, isRestarted, setOf, putSet, clearRecords};
 ghost use Rattle.block.specs.Blocks.{AllInRange, readLine, IsLined, Shown, shownLines, IsWalked};
 ghost use Rattle.block.specs.Images.{formOf, bytesOf, Pictured, orElse, answerOf, withScratch, withRegion, regionBegins, wholeOf, isWhole, withSize, imageBegins, Left, LeftImage};
-ghost use Rattle.block.specs.TightBlocks.{isTail, tightAnswer};
+ghost use Rattle.block.specs.TightBlocks.{tightAnswer};
 ghost use Rattle.block.specs.TightReadings.{withBlock, tightBegins, LeftTight};
 ghost use Rattle.block.specs.WrittenBlocks.{writeLines, tightBlock};
 ghost use Rattle.block.specs.WrittenAnswers.{passesFrom, LineWritten, SetWritten, firstAbove, measuredAnswer, writtenAnswer, writtenOut, withSet, writingBegins, LeftWritten};
@@ -666,20 +666,6 @@ pub fn decode_region_alone(d: &[u8], r: Rect, tile: [u8; 36], image: &mut [u16])
 
 // ---- the tight reading
 
-// Whether the block ends where its last code does: with no byte more than the bits need, and with spare bits of 0.
-fn is_tail(s: &[u8], at: BitPosition) -> bool
-    requires { ⌜ length (now s) < 2 ^ 32 ⌝ }
-    ensures { λ r. ⌜ r ≡ isTail (now (s .entry)) (at .0) ⌝ }
-{
-    let needed = at.0 / 8 + (at.0 % 8 + 7) / 8;
-    let length = s.len() as u64;
-    if length != needed {
-        return false;
-    }
-    let spare = (8 * length - at.0) as u32;
-    bits::peek_at(s, at, spare) == 0
-}
-
 // What the tight reading answers for block b, once a walk over its lines has said this.
 fn tight_answer(s: &[u8], form: Form, b: usize, count: usize, got: Walked) -> Decoded
     requires { ⌜ (length (now s) < 2 ^ 32) × IsWalked form [] (now s) count got ⌝ }
@@ -693,7 +679,7 @@ fn tight_answer(s: &[u8], form: Form, b: usize, count: usize, got: Walked) -> De
     if tight < count {
         return Decoded::Refused(Refusal::NotTight(tight));
     }
-    if is_tail(s, got.at) {
+    if bits::is_tail(s, got.at) {
         return Decoded::Done;
     }
     Decoded::Refused(Refusal::NotTight(count))
@@ -856,7 +842,8 @@ fn set_size(xtrans: bool, lines: usize) -> usize
 fn bytes_for(at: BitPosition) -> usize
     ensures { λ r. ⌜ r ≡ bytesFor (at .0) ⌝ }
 {
-    (at.0 / 8 + (at.0 % 8 + 7) / 8) as usize
+    let end = at.bytes();
+    end.0
 }
 
 fn is_short(room: usize, needed: usize) -> bool

@@ -8,13 +8,14 @@ use native.Mathlib.Nat.{le-refl}
 use native.Mathlib.Omega.{arith}
 use lib.Dec.{ltb}
 use borrow.Author.Tests.{le-ltb, ltb-false}
+use Rattle.bits.specs.BitLists.{isTail}
 use Rattle.numbers.proofs.OrderLaws.{cond-le}
 use Rattle.stream.specs.declared.Refusal.{Refusal}
 use Rattle.stream.specs.declared.Refusal.the-variants.{Truncated, NotTight}
 use Rattle.block.specs.Blocks.{State, runs, startState, readLines}
 use Rattle.block.specs.Images.{isRead, linesRead}
 use Rattle.block.specs.BadCodes.{BadCode, firstBad}
-use Rattle.block.specs.TightBlocks.{isTail, Tight, bitsRead, readAnswer, tightAnswer}
+use Rattle.block.specs.TightBlocks.{Tight, bitsRead, readAnswer, tightAnswer}
 use Rattle.block.specs.declared.Decoded.the-variants.{Done, Refused}
 use Rattle.block.specs.declared.Form.{Form}
 use Rattle.block.proofs.DecodeLaws.{all-read}

@@ -10,7 +10,7 @@ use lib.ListN.{length, getD, drop, replicate, List·getD-eq-default}
 use borrow.Author.Tests.{eq-eqb, eqb-true}
 use Rattle.numbers.proofs.OrderLaws.{split}
 use Rattle.bits.specs.Bits.{bitsAt}
-use Rattle.bits.specs.BitLists.{bitsOf, bytesFor}
+use Rattle.bits.specs.BitLists.{bitsOf, bytesFor, isTail}
 use Rattle.bits.proofs.PackLaws.{room, spare-zeros, zeros-spare}
 use Rattle.quantiser.specs.Quantisers.{largest}
 use Rattle.map.specs.Places.{widthOf}
@@ -18,7 +18,7 @@ use Rattle.writing.specs.Sets.{setSize, lineOfRank, indexIn, lineAt, colourLine
 use Rattle.numbers.proofs.BoolLaws.{both}
 use Rattle.writing.proofs.SetLaws.{index-lt, line-at, colour-line-at, position-at}
 use Rattle.block.specs.Blocks.{State, readLines, linesOf}
-use Rattle.block.specs.TightBlocks.{readSample, setRead, isTail}
+use Rattle.block.specs.TightBlocks.{readSample, setRead}
 use Rattle.block.specs.declared.Form.{Form}
 use Rattle.block.proofs.SampleLaws.{samples-in-range}
 use Rattle.block.proofs.TableLaws.{table-length, table-getD}

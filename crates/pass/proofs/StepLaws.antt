@@ -1,39 +1,20 @@
 -- Readings step by step: what a step gives, a list of steps that is put together, and the turns of a pass. Assumes nothing.
-use mathlib.Core.Bool.{Bool, true, false, cond}
+use mathlib.Core.Bool.{true, false, cond}
 use mathlib.Core.List.{List, [], _∷_, _++_}
 use mathlib.Core.Option.{Option, none, some}
-use mathlib.Core.Path.{_≡_, refl, ap, _∙_}
+use mathlib.Core.Path.{_≡_, refl, _∙_}
 use Prim.Native.Nat.{ℕ, zero, suc, _+_, _-_, _*_, _/_, _%_, _≤_, _<_}
 use native.Mathlib.Nat.{add-zero, add-suc}
 use native.Mathlib.Omega.{arith}
 use lib.Dec.{ltb, leb}
 use borrow.Author.Tests.{lt-ltb, le-ltb, le-leb, lt-leb}
-use Rattle.prediction.specs.declared.Context.{Context}
 use Rattle.code.specs.declared.Code.{Code}
-use Rattle.code.specs.declared.Coded.{Coded}
 use Rattle.code.specs.declared.Coded.the-variants.{Read, Truncated}
 use Rattle.pass.specs.Steps.{Step, evenSteps, oddSteps, turnSteps, upto, passSteps}
-use Rattle.pass.specs.Readings.{contextAt, lookOf, slotOf, Reading, interpolate, take-code, codeOf, readStep, andThen, reads, readPass}
+use Rattle.pass.specs.Readings.{Reading, interpolate, take-code, stepPlace, stepContext, stepLook, stepSlot, stepCode, readStep, andThen, reads, readPass}
 use Rattle.pass.specs.declared.Plan.{Plan}
-use Rattle.pass.specs.declared.Look.{Look}
 
 -- ---- one step
-
--- where the sample of a step goes, one place before it, its context, what its coding goes by, its record's place and its code
-abbrev pub stepPlace : ℕ → Step → ℕ
-stepPlace W x = x .line * (W + 2) + x .position
-
-abbrev pub stepContext : ℕ → Step → Reading → Context
-stepContext W x r = contextAt (r .lines) (W + 2) (stepPlace W x) (x .position)
-
-abbrev pub stepLook : ℕ → ℕ → Step → Reading → Look
-stepLook q W x r = lookOf q (stepContext W x r)
-
-abbrev pub stepSlot : ℕ → ℕ → Step → Reading → ℕ
-stepSlot q W x r = slotOf (x .position) ((stepLook q W x r) .place)
-
-abbrev pub stepCode : ℕ → ℕ → ℕ → List ℕ → Step → Reading → Coded
-stepCode bits q W s x r = codeOf bits q s (stepSlot q W x r) (stepLook q W x r) r
 
 module _ (bits q W : ℕ) (s : List ℕ) (x : Step) (r : Reading) where
   -- the three ways in which a step goes

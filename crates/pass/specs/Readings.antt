@@ -107,14 +107,28 @@ codeOf bits q s slot h r =
     let Q = usedQuantiser bits q (h .choice) in
     codeAt s (r .at .0) (kOf (getD (r .set) slot noRecord)) (Q .limit) (Q .raw)
 
--- one step in a line with base q; none where the line is cut off
+-- what a step goes by in a line with base q: one place before its sample, its context, how it is coded, the place of its record, and its code
+abbrev pub stepPlace : ℕ → Step → ℕ
+stepPlace W x = x .line * (W + 2) + x .position
+
+abbrev pub stepContext : ℕ → Step → Reading → Context
+stepContext W x r = contextAt (r .lines) (W + 2) (stepPlace W x) (x .position)
+
+abbrev pub stepLook : ℕ → ℕ → Step → Reading → Look
+stepLook q W x r = lookOf q (stepContext W x r)
+
+abbrev pub stepSlot : ℕ → ℕ → Step → Reading → ℕ
+stepSlot q W x r = slotOf (x .position) ((stepLook q W x r) .place)
+
+abbrev pub stepCode : ℕ → ℕ → ℕ → List ℕ → Step → Reading → Coded
+stepCode bits q W s x r = codeOf bits q s (stepSlot q W x r) (stepLook q W x r) r
+
+-- one step; none where the line is cut off
 unfoldable pub readStep : ℕ → ℕ → ℕ → List ℕ → Step → Reading → Option Reading
 readStep bits q W s x r =
-    let i = x .line * (W + 2) + x .position in
-    let c = contextAt (r .lines) (W + 2) i (x .position) in
-    let h = lookOf q c in
-    let slot = slotOf (x .position) (h .place) in
-    cond (x .coded) (taken bits q i slot c h r (codeOf bits q s slot h r)) (some (interpolate i c r))
+    let i = stepPlace W x in
+    let c = stepContext W x r in
+    cond (x .coded) (taken bits q i (stepSlot q W x r) c (stepLook q W x r) r (stepCode bits q W s x r)) (some (interpolate i c r))
 
 unfoldable pub andThen : {A B : Type 0} → Option A → (A → Option B) → Option B
 andThen none f = none

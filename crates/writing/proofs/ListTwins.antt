@@ -12,9 +12,8 @@ use Rattle.quantiser.specs.Quantisers.{largest}
 use Rattle.code.specs.declared.Coded.{Coded}
 use Rattle.code.specs.declared.Coded.the-variants.{Read, Truncated}
 use Rattle.pass.specs.Steps.{Step}
-use Rattle.pass.specs.Readings.{Reading, interpolate, taken, readStep, andThen, reads}
+use Rattle.pass.specs.Readings.{Reading, interpolate, taken, readStep, andThen, reads, stepPlace, stepContext, stepLook, stepSlot, stepCode}
 use Rattle.pass.proofs.RangeLaws.{step-keeps}
-use Rattle.pass.proofs.StepLaws.{stepPlace, stepContext, stepLook, stepSlot, stepCode}
 use Rattle.writing.specs.Writings.{Writing, writeStep, writes}
 use Rattle.writing.proofs.LosslessLaws.{Lossless}
 use Rattle.writing.proofs.StepTwins.{InLines, step-forward, step-backward}

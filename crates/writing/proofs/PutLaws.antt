@@ -1,12 +1,11 @@
 -- Bits that are put into an output: byte after byte, one part after the other, and the number that a tight code is. Assumes nothing.
-use mathlib.Core.Bool.{Bool, true, false, cond}
+use mathlib.Core.Bool.{Bool, true, false}
 use mathlib.Core.List.{List, [], _∷_, _++_, append-assoc, append-nil}
 use mathlib.Core.Path.{_≡_, refl, sym, _∙_}
 use Prim.Native.Nat.{ℕ, zero, suc, _+_, _-_, _*_, _/_, _%_, _^_, _≤_, _<_}
 use native.Mathlib.Nat.{add-zero, add-comm, zero-add, suc-add, zero-mul, one-mul, add-assoc, add-mul, mul-assoc, pow-suc, mod-lt, div-lt-iff-lt-mul, div-one}
 use native.Mathlib.Numerals.{one-add}
 use native.Mathlib.Omega.{arith}
-use lib.Dec.{eqb}
 use lib.ListN.{length, getD, set, take, drop, replicate, length-append, length-drop}
 use lib.Pow.{pow-pos, pow-add, shr-shr, shr-lt, field, mod-mod-pow, split as digits, high, low}
 use lib.Seq.{drop-at, take-at, take-append-add, drop-append-add, drop-drop, length-take-le}

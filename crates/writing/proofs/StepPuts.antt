@@ -19,12 +19,11 @@ use Rattle.code.proofs.TightLaws.{length-codeBits, short-length, long-length}
 use Rattle.numbers.proofs.OrderLaws.{split}
 use Rattle.prediction.specs.declared.Context.{Context}
 use Rattle.pass.specs.Steps.{Step, stepAt, evenSteps, oddSteps}
-use Rattle.pass.specs.Readings.{contextAt, lookOf, slotOf, noRecord, usedBase, usedWeight, zipRecords}
+use Rattle.pass.specs.Readings.{contextAt, lookOf, slotOf, noRecord, usedBase, usedWeight, zipRecords, stepPlace}
 use Rattle.pass.specs.declared.Look.{Look}
 use Rattle.pass.specs.declared.Plan.{Plan}
 use Rattle.pass.proofs.RangeLaws.{context-le}
 use Rattle.pass.proofs.TableLaws.{numbers-le}
-use Rattle.pass.proofs.StepLaws.{stepPlace}
 use Rattle.pass.proofs.ZipLaws.{set-keeps}
 use Rattle.writing.specs.Sets.{indexIn}
 use Rattle.writing.specs.Writings.{Writing, orSecond, writeStep, writes}

@@ -23,10 +23,10 @@ use Rattle.code.specs.declared.Coded.the-variants.{Read, Truncated}
 use Rattle.code.proofs.SampleLaws.{OneToOne, one-to-one}
 use Rattle.code.proofs.TightLaws.{length-codeBits, ReadBack, read-back, Stands, stands-there}
 use Rattle.pass.specs.Steps.{Step}
-use Rattle.pass.specs.Readings.{lookOf, usedQuantiser, Reading, noRecord, interpolate, take-code, taken, readStep}
+use Rattle.pass.specs.Readings.{lookOf, usedQuantiser, Reading, noRecord, interpolate, take-code, taken, readStep, stepPlace}
 use Rattle.pass.specs.declared.Look.{Look}
 use Rattle.pass.proofs.RangeLaws.{context-le}
-use Rattle.pass.proofs.StepLaws.{stepPlace, step-interpolated, step-read}
+use Rattle.pass.proofs.StepLaws.{step-interpolated, step-read}
 use Rattle.writing.specs.Sets.{indexIn}
 use Rattle.writing.specs.Writings.{writeStep}
 use Rattle.writing.proofs.LosslessLaws.{Lossless}

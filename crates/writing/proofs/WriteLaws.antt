@@ -6,11 +6,10 @@ use mathlib.Core.Path.{_≡_, refl}
 use Prim.Native.Nat.{ℕ, _+_}
 use lib.ListN.{getD}
 use Rattle.prediction.specs.declared.Context.{Context}
-use Rattle.pass.specs.Readings.{contextAt, lookOf, slotOf}
+use Rattle.pass.specs.Readings.{contextAt, lookOf, slotOf, stepPlace}
 use Rattle.pass.specs.Steps.{Step, passSteps}
 use Rattle.pass.specs.declared.Look.{Look}
 use Rattle.pass.specs.declared.Plan.{Plan}
-use Rattle.pass.proofs.StepLaws.{stepPlace}
 use Rattle.writing.specs.Sets.{indexIn}
 use Rattle.writing.specs.Writings.{Writing, orSecond, pass-over, put-code, writeStep, writes, writePass}
 
