@@ -149,6 +149,8 @@ fn interpolated_samples_that_are_not_their_prediction() {
             seen += 1;
             assert_eq!(answer, refused(12, i));
             assert!(out.iter().all(|v| *v == 3));
+            // it comes before an output that is too short
+            assert_eq!(write_block(&w.header.bytes(), &set, &mut []), refused(12, i));
             // a sample above the largest comes first, wherever it stands
             set[w.set.len() - 1] = 20_000;
             assert_eq!(write_block(&w.header.bytes(), &set, &mut out), refused(11, w.set.len() - 1));
