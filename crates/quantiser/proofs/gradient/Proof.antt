@@ -17,7 +17,6 @@ base t q e h = rw e h
 
 gradient-by-requires : tie.Need-gradient-by-requires
 gradient-by-requires c κs =
-    let a = c .before .args in
     let e = c .thresholds-of .ensures in
     (base _ _ e (search needs), (search needs, (own _ _ _ e, own _ _ _ e)))
 
