@@ -239,7 +239,6 @@ impl<'a> BitPumpMsb<'a> {
         v
     }
 
-    // twin: ZeroRun::None
     // The zeros up to the next one bit, and moves on past that bit. Where none is left it stays.
     pub fn zero_run(&mut self) -> ZeroRun
         requires { ⌜ length (now (now self .«data»)) < 2 ^ 58 ⌝ }
@@ -251,7 +250,6 @@ impl<'a> BitPumpMsb<'a> {
         run
     }
 
-    // twin: BitPosition(0)
     // The bits before the next one, from the block's first on.
     pub fn bit_position(&self) -> BitPosition
         ensures { λ r. ⌜ r ≡ now (self .entry) .at ⌝ }
@@ -259,7 +257,6 @@ impl<'a> BitPumpMsb<'a> {
         self.at
     }
 
-    // twin: ByteOffset(0)
     // The bytes that they take, the last of them counted whole.
     pub fn byte_position(&self) -> ByteOffset
         ensures { λ r. ⌜ r .0 ≡ (now (self .entry) .at .0 + 7) / 8 ⌝ }

@@ -1,0 +1,1909 @@
+-- Written by tools/lend.py from Rattle's derivation of the twin of `block`; not edited by hand. Assumes nothing.
+use Rattle.block.proofs.reading.base_of.Met
+use Rattle.block.proofs.reading.base_of.Reads
+use Rattle.block.proofs.reading.base_of.Symbol
+use Rattle.block.proofs.reading.is_restarted.Met as Met'
+use Rattle.block.proofs.reading.is_restarted.Reads as Reads'
+use Rattle.block.proofs.reading.is_restarted.Symbol as Symbol'
+use Rattle.block.proofs.reading.line.Met as Met''
+use Rattle.block.proofs.reading.derived.line.Reads as Reads''
+use Rattle.block.proofs.reading.line.Symbol as Symbol''
+use Rattle.block.proofs.reading.quantisers_of.Met as Met'3
+use Rattle.block.proofs.reading.quantisers_of.Reads as Reads'3
+use Rattle.block.proofs.reading.quantisers_of.Symbol as Symbol'3
+use Rattle.block.proofs.reading.read_lines.Code
+use Rattle.block.proofs.reading.read_lines.Key
+use Rattle.block.proofs.reading.derived.read_lines.Kinds
+use Rattle.block.proofs.reading.read_lines.Proof.derived.Lts
+use Rattle.block.proofs.reading.derived.read_lines.Reads as Reads'4
+use Rattle.block.proofs.reading.read_lines.Statement
+use Rattle.block.proofs.reading.tight_count.Met as Met'4
+use Rattle.block.proofs.reading.tight_count.Reads as Reads'5
+use Rattle.block.proofs.reading.tight_count.Symbol as Symbol'4
+use Rattle.block.proofs.records.restart.Met as Met'5
+use Rattle.block.proofs.records.derived.restart.Reads as Reads'6
+use Rattle.block.proofs.records.restart.Symbol as Symbol'5
+use Rattle.block.proofs.records.start_records.Met as Met'6
+use Rattle.block.proofs.records.derived.start_records.Reads as Reads'7
+use Rattle.block.proofs.records.start_records.Symbol as Symbol'6
+use Rattle.block.proofs.width.Met as Met'7
+use Rattle.block.proofs.width.Reads as Reads'8
+use Rattle.block.proofs.width.Symbol as Symbol'7
+use Rattle.lines.proofs.clear.Met as Met'8
+use Rattle.lines.proofs.clear.Reads as Reads'9
+use Rattle.lines.proofs.clear.Symbol as Symbol'8
+use Rattle.lines.proofs.turn.Met as Met'9
+use Rattle.lines.proofs.turn.Reads as Reads'10
+use Rattle.lines.proofs.turn.Symbol as Symbol'9
+use Rattle.map.proofs.emit_line.Met as Met'10
+use Rattle.map.proofs.emit_line.Reads as Reads'11
+use Rattle.map.proofs.emit_line.Symbol as Symbol'10
+use borrow.Fn.Run
+use borrow.Fn.Written
+use contract.Running
+
+abbrev pub InvT-loop : Type 1
+InvT-loop = Lts.InvT-loop
+
+abbrev pub MeasureT-loop : Type 0
+MeasureT-loop = Lts.MeasureT-loop
+
+abbrev pub Start : (Inv : InvT-loop) → (μ : MeasureT-loop) → Type 0
+Start = λ Inv μ. Lts.Start (
+  Reads'8.Asked,
+  Reads'8.Learnt,
+  Reads'9.Asked,
+  Reads'9.Learnt,
+  Reads.Asked,
+  Reads.Learnt,
+  Reads'7.Asked,
+  Reads'7.Learnt,
+  Reads'10.Asked,
+  Reads'10.Learnt,
+  Reads'.Asked,
+  Reads'.Learnt,
+  Reads'6.Asked,
+  Reads'6.Learnt,
+  Reads'3.Asked,
+  Reads'3.Learnt,
+  Reads''.Asked,
+  Reads''.Learnt,
+  Reads'5.Asked,
+  Reads'5.Learnt,
+  Reads'11.Asked,
+  Reads'11.Learnt,
+) Reads'4.Pre Reads'4.Post
+    Inv μ
+
+abbrev pub After-shared-slice-known : (Inv : InvT-loop) → (μ : MeasureT-loop) → Type 0
+After-shared-slice-known = λ Inv μ. Lts.After-shared-slice-known (
+  Reads'8.Asked,
+  Reads'8.Learnt,
+  Reads'9.Asked,
+  Reads'9.Learnt,
+  Reads.Asked,
+  Reads.Learnt,
+  Reads'7.Asked,
+  Reads'7.Learnt,
+  Reads'10.Asked,
+  Reads'10.Learnt,
+  Reads'.Asked,
+  Reads'.Learnt,
+  Reads'6.Asked,
+  Reads'6.Learnt,
+  Reads'3.Asked,
+  Reads'3.Learnt,
+  Reads''.Asked,
+  Reads''.Learnt,
+  Reads'5.Asked,
+  Reads'5.Learnt,
+  Reads'11.Asked,
+  Reads'11.Learnt,
+) Reads'4.Pre Reads'4.Post Inv μ
+
+abbrev pub After-shared-slice-known2 : (Inv : InvT-loop) → (μ : MeasureT-loop) → Type 0
+After-shared-slice-known2 = λ Inv μ. Lts.After-shared-slice-known2 (
+  Reads'8.Asked,
+  Reads'8.Learnt,
+  Reads'9.Asked,
+  Reads'9.Learnt,
+  Reads.Asked,
+  Reads.Learnt,
+  Reads'7.Asked,
+  Reads'7.Learnt,
+  Reads'10.Asked,
+  Reads'10.Learnt,
+  Reads'.Asked,
+  Reads'.Learnt,
+  Reads'6.Asked,
+  Reads'6.Learnt,
+  Reads'3.Asked,
+  Reads'3.Learnt,
+  Reads''.Asked,
+  Reads''.Learnt,
+  Reads'5.Asked,
+  Reads'5.Learnt,
+  Reads'11.Asked,
+  Reads'11.Learnt,
+) Reads'4.Pre Reads'4.Post Inv μ
+
+abbrev pub After-slice-known : (Inv : InvT-loop) → (μ : MeasureT-loop) → Type 0
+After-slice-known = λ Inv μ. Lts.After-slice-known (
+  Reads'8.Asked,
+  Reads'8.Learnt,
+  Reads'9.Asked,
+  Reads'9.Learnt,
+  Reads.Asked,
+  Reads.Learnt,
+  Reads'7.Asked,
+  Reads'7.Learnt,
+  Reads'10.Asked,
+  Reads'10.Learnt,
+  Reads'.Asked,
+  Reads'.Learnt,
+  Reads'6.Asked,
+  Reads'6.Learnt,
+  Reads'3.Asked,
+  Reads'3.Learnt,
+  Reads''.Asked,
+  Reads''.Learnt,
+  Reads'5.Asked,
+  Reads'5.Learnt,
+  Reads'11.Asked,
+  Reads'11.Learnt,
+) Reads'4.Pre Reads'4.Post Inv μ
+
+abbrev pub After-slice-known2 : (Inv : InvT-loop) → (μ : MeasureT-loop) → Type 0
+After-slice-known2 = λ Inv μ. Lts.After-slice-known2 (
+  Reads'8.Asked,
+  Reads'8.Learnt,
+  Reads'9.Asked,
+  Reads'9.Learnt,
+  Reads.Asked,
+  Reads.Learnt,
+  Reads'7.Asked,
+  Reads'7.Learnt,
+  Reads'10.Asked,
+  Reads'10.Learnt,
+  Reads'.Asked,
+  Reads'.Learnt,
+  Reads'6.Asked,
+  Reads'6.Learnt,
+  Reads'3.Asked,
+  Reads'3.Learnt,
+  Reads''.Asked,
+  Reads''.Learnt,
+  Reads'5.Asked,
+  Reads'5.Learnt,
+  Reads'11.Asked,
+  Reads'11.Learnt,
+) Reads'4.Pre Reads'4.Post Inv μ
+
+abbrev pub After-width : (Inv : InvT-loop) → (μ : MeasureT-loop) → Type 0
+After-width = λ Inv μ. Lts.After-width (
+  Reads'8.Asked,
+  Reads'8.Learnt,
+  Reads'9.Asked,
+  Reads'9.Learnt,
+  Reads.Asked,
+  Reads.Learnt,
+  Reads'7.Asked,
+  Reads'7.Learnt,
+  Reads'10.Asked,
+  Reads'10.Learnt,
+  Reads'.Asked,
+  Reads'.Learnt,
+  Reads'6.Asked,
+  Reads'6.Learnt,
+  Reads'3.Asked,
+  Reads'3.Learnt,
+  Reads''.Asked,
+  Reads''.Learnt,
+  Reads'5.Asked,
+  Reads'5.Learnt,
+  Reads'11.Asked,
+  Reads'11.Learnt,
+) Reads'4.Pre
+    Reads'4.Post Inv μ
+
+abbrev pub After-clear-arg : (Inv : InvT-loop) → (μ : MeasureT-loop) → Type 0
+After-clear-arg = λ Inv μ. Lts.After-clear-arg (
+  Reads'8.Asked,
+  Reads'8.Learnt,
+  Reads'9.Asked,
+  Reads'9.Learnt,
+  Reads.Asked,
+  Reads.Learnt,
+  Reads'7.Asked,
+  Reads'7.Learnt,
+  Reads'10.Asked,
+  Reads'10.Learnt,
+  Reads'.Asked,
+  Reads'.Learnt,
+  Reads'6.Asked,
+  Reads'6.Learnt,
+  Reads'3.Asked,
+  Reads'3.Learnt,
+  Reads''.Asked,
+  Reads''.Learnt,
+  Reads'5.Asked,
+  Reads'5.Learnt,
+  Reads'11.Asked,
+  Reads'11.Learnt,
+) Reads'4.Pre Reads'4.Post Inv μ
+
+abbrev pub After-clear : (Inv : InvT-loop) → (μ : MeasureT-loop) → Type 0
+After-clear = λ Inv μ. Lts.After-clear (
+  Reads'8.Asked,
+  Reads'8.Learnt,
+  Reads'9.Asked,
+  Reads'9.Learnt,
+  Reads.Asked,
+  Reads.Learnt,
+  Reads'7.Asked,
+  Reads'7.Learnt,
+  Reads'10.Asked,
+  Reads'10.Learnt,
+  Reads'.Asked,
+  Reads'.Learnt,
+  Reads'6.Asked,
+  Reads'6.Learnt,
+  Reads'3.Asked,
+  Reads'3.Learnt,
+  Reads''.Asked,
+  Reads''.Learnt,
+  Reads'5.Asked,
+  Reads'5.Learnt,
+  Reads'11.Asked,
+  Reads'11.Learnt,
+) Reads'4.Pre
+    Reads'4.Post Inv μ
+
+abbrev pub After-lines : (Inv : InvT-loop) → (μ : MeasureT-loop) → Type 0
+After-lines = λ Inv μ. Lts.After-lines (
+  Reads'8.Asked,
+  Reads'8.Learnt,
+  Reads'9.Asked,
+  Reads'9.Learnt,
+  Reads.Asked,
+  Reads.Learnt,
+  Reads'7.Asked,
+  Reads'7.Learnt,
+  Reads'10.Asked,
+  Reads'10.Learnt,
+  Reads'.Asked,
+  Reads'.Learnt,
+  Reads'6.Asked,
+  Reads'6.Learnt,
+  Reads'3.Asked,
+  Reads'3.Learnt,
+  Reads''.Asked,
+  Reads''.Learnt,
+  Reads'5.Asked,
+  Reads'5.Learnt,
+  Reads'11.Asked,
+  Reads'11.Learnt,
+) Reads'4.Pre
+    Reads'4.Post Inv μ
+
+abbrev pub After-slice-known3 : (Inv : InvT-loop) → (μ : MeasureT-loop) → Type 0
+After-slice-known3 = λ Inv μ. Lts.After-slice-known3 (
+  Reads'8.Asked,
+  Reads'8.Learnt,
+  Reads'9.Asked,
+  Reads'9.Learnt,
+  Reads.Asked,
+  Reads.Learnt,
+  Reads'7.Asked,
+  Reads'7.Learnt,
+  Reads'10.Asked,
+  Reads'10.Learnt,
+  Reads'.Asked,
+  Reads'.Learnt,
+  Reads'6.Asked,
+  Reads'6.Learnt,
+  Reads'3.Asked,
+  Reads'3.Learnt,
+  Reads''.Asked,
+  Reads''.Learnt,
+  Reads'5.Asked,
+  Reads'5.Learnt,
+  Reads'11.Asked,
+  Reads'11.Learnt,
+) Reads'4.Pre Reads'4.Post Inv μ
+
+abbrev pub After-start-records-arg : (Inv : InvT-loop) → (μ : MeasureT-loop) → Type 0
+After-start-records-arg = λ Inv μ. Lts.After-start-records-arg (
+  Reads'8.Asked,
+  Reads'8.Learnt,
+  Reads'9.Asked,
+  Reads'9.Learnt,
+  Reads.Asked,
+  Reads.Learnt,
+  Reads'7.Asked,
+  Reads'7.Learnt,
+  Reads'10.Asked,
+  Reads'10.Learnt,
+  Reads'.Asked,
+  Reads'.Learnt,
+  Reads'6.Asked,
+  Reads'6.Learnt,
+  Reads'3.Asked,
+  Reads'3.Learnt,
+  Reads''.Asked,
+  Reads''.Learnt,
+  Reads'5.Asked,
+  Reads'5.Learnt,
+  Reads'11.Asked,
+  Reads'11.Learnt,
+) Reads'4.Pre Reads'4.Post Inv μ
+
+abbrev pub After-base-of : (Inv : InvT-loop) → (μ : MeasureT-loop) → Type 0
+After-base-of = λ Inv μ. Lts.After-base-of (
+  Reads'8.Asked,
+  Reads'8.Learnt,
+  Reads'9.Asked,
+  Reads'9.Learnt,
+  Reads.Asked,
+  Reads.Learnt,
+  Reads'7.Asked,
+  Reads'7.Learnt,
+  Reads'10.Asked,
+  Reads'10.Learnt,
+  Reads'.Asked,
+  Reads'.Learnt,
+  Reads'6.Asked,
+  Reads'6.Learnt,
+  Reads'3.Asked,
+  Reads'3.Learnt,
+  Reads''.Asked,
+  Reads''.Learnt,
+  Reads'5.Asked,
+  Reads'5.Learnt,
+  Reads'11.Asked,
+  Reads'11.Learnt,
+) Reads'4.Pre
+    Reads'4.Post Inv μ
+
+abbrev pub After-start-records : (Inv : InvT-loop) → (μ : MeasureT-loop) → Type 0
+After-start-records = λ Inv μ. Lts.After-start-records (
+  Reads'8.Asked,
+  Reads'8.Learnt,
+  Reads'9.Asked,
+  Reads'9.Learnt,
+  Reads.Asked,
+  Reads.Learnt,
+  Reads'7.Asked,
+  Reads'7.Learnt,
+  Reads'10.Asked,
+  Reads'10.Learnt,
+  Reads'.Asked,
+  Reads'.Learnt,
+  Reads'6.Asked,
+  Reads'6.Learnt,
+  Reads'3.Asked,
+  Reads'3.Learnt,
+  Reads''.Asked,
+  Reads''.Learnt,
+  Reads'5.Asked,
+  Reads'5.Learnt,
+  Reads'11.Asked,
+  Reads'11.Learnt,
+) Reads'4.Pre Reads'4.Post Inv μ
+
+abbrev pub After-rs : (Inv : InvT-loop) → (μ : MeasureT-loop) → Type 0
+After-rs = λ Inv μ. Lts.After-rs (
+  Reads'8.Asked,
+  Reads'8.Learnt,
+  Reads'9.Asked,
+  Reads'9.Learnt,
+  Reads.Asked,
+  Reads.Learnt,
+  Reads'7.Asked,
+  Reads'7.Learnt,
+  Reads'10.Asked,
+  Reads'10.Learnt,
+  Reads'.Asked,
+  Reads'.Learnt,
+  Reads'6.Asked,
+  Reads'6.Learnt,
+  Reads'3.Asked,
+  Reads'3.Learnt,
+  Reads''.Asked,
+  Reads''.Learnt,
+  Reads'5.Asked,
+  Reads'5.Learnt,
+  Reads'11.Asked,
+  Reads'11.Learnt,
+) Reads'4.Pre
+    Reads'4.Post Inv μ
+
+abbrev pub At-loop : (Inv : InvT-loop) → (μ : MeasureT-loop) → Type 0
+At-loop = λ Inv μ. Lts.At-loop (
+  Reads'8.Asked,
+  Reads'8.Learnt,
+  Reads'9.Asked,
+  Reads'9.Learnt,
+  Reads.Asked,
+  Reads.Learnt,
+  Reads'7.Asked,
+  Reads'7.Learnt,
+  Reads'10.Asked,
+  Reads'10.Learnt,
+  Reads'.Asked,
+  Reads'.Learnt,
+  Reads'6.Asked,
+  Reads'6.Learnt,
+  Reads'3.Asked,
+  Reads'3.Learnt,
+  Reads''.Asked,
+  Reads''.Learnt,
+  Reads'5.Asked,
+  Reads'5.Learnt,
+  Reads'11.Asked,
+  Reads'11.Learnt,
+) Reads'4.Pre Reads'4.Post
+    Inv μ
+
+abbrev pub In-loop : (Inv : InvT-loop) → (μ : MeasureT-loop) → Type 0
+In-loop = λ Inv μ. Lts.In-loop (
+  Reads'8.Asked,
+  Reads'8.Learnt,
+  Reads'9.Asked,
+  Reads'9.Learnt,
+  Reads.Asked,
+  Reads.Learnt,
+  Reads'7.Asked,
+  Reads'7.Learnt,
+  Reads'10.Asked,
+  Reads'10.Learnt,
+  Reads'.Asked,
+  Reads'.Learnt,
+  Reads'6.Asked,
+  Reads'6.Learnt,
+  Reads'3.Asked,
+  Reads'3.Learnt,
+  Reads''.Asked,
+  Reads''.Learnt,
+  Reads'5.Asked,
+  Reads'5.Learnt,
+  Reads'11.Asked,
+  Reads'11.Learnt,
+) Reads'4.Pre Reads'4.Post
+    Inv μ
+
+abbrev pub After-loop : (Inv : InvT-loop) → (μ : MeasureT-loop) → Type 0
+After-loop = λ Inv μ. Lts.After-loop (
+  Reads'8.Asked,
+  Reads'8.Learnt,
+  Reads'9.Asked,
+  Reads'9.Learnt,
+  Reads.Asked,
+  Reads.Learnt,
+  Reads'7.Asked,
+  Reads'7.Learnt,
+  Reads'10.Asked,
+  Reads'10.Learnt,
+  Reads'.Asked,
+  Reads'.Learnt,
+  Reads'6.Asked,
+  Reads'6.Learnt,
+  Reads'3.Asked,
+  Reads'3.Learnt,
+  Reads''.Asked,
+  Reads''.Learnt,
+  Reads'5.Asked,
+  Reads'5.Learnt,
+  Reads'11.Asked,
+  Reads'11.Learnt,
+) Reads'4.Pre
+    Reads'4.Post Inv μ
+
+abbrev pub After-turn-arg : (Inv : InvT-loop) → (μ : MeasureT-loop) → Type 0
+After-turn-arg = λ Inv μ. Lts.After-turn-arg (
+  Reads'8.Asked,
+  Reads'8.Learnt,
+  Reads'9.Asked,
+  Reads'9.Learnt,
+  Reads.Asked,
+  Reads.Learnt,
+  Reads'7.Asked,
+  Reads'7.Learnt,
+  Reads'10.Asked,
+  Reads'10.Learnt,
+  Reads'.Asked,
+  Reads'.Learnt,
+  Reads'6.Asked,
+  Reads'6.Learnt,
+  Reads'3.Asked,
+  Reads'3.Learnt,
+  Reads''.Asked,
+  Reads''.Learnt,
+  Reads'5.Asked,
+  Reads'5.Learnt,
+  Reads'11.Asked,
+  Reads'11.Learnt,
+) Reads'4.Pre
+    Reads'4.Post Inv μ
+
+abbrev pub After-turn : (Inv : InvT-loop) → (μ : MeasureT-loop) → Type 0
+After-turn = λ Inv μ. Lts.After-turn (
+  Reads'8.Asked,
+  Reads'8.Learnt,
+  Reads'9.Asked,
+  Reads'9.Learnt,
+  Reads.Asked,
+  Reads.Learnt,
+  Reads'7.Asked,
+  Reads'7.Learnt,
+  Reads'10.Asked,
+  Reads'10.Learnt,
+  Reads'.Asked,
+  Reads'.Learnt,
+  Reads'6.Asked,
+  Reads'6.Learnt,
+  Reads'3.Asked,
+  Reads'3.Learnt,
+  Reads''.Asked,
+  Reads''.Learnt,
+  Reads'5.Asked,
+  Reads'5.Learnt,
+  Reads'11.Asked,
+  Reads'11.Learnt,
+) Reads'4.Pre
+    Reads'4.Post Inv μ
+
+abbrev pub After-lines2 : (Inv : InvT-loop) → (μ : MeasureT-loop) → Type 0
+After-lines2 = λ Inv μ. Lts.After-lines2 (
+  Reads'8.Asked,
+  Reads'8.Learnt,
+  Reads'9.Asked,
+  Reads'9.Learnt,
+  Reads.Asked,
+  Reads.Learnt,
+  Reads'7.Asked,
+  Reads'7.Learnt,
+  Reads'10.Asked,
+  Reads'10.Learnt,
+  Reads'.Asked,
+  Reads'.Learnt,
+  Reads'6.Asked,
+  Reads'6.Learnt,
+  Reads'3.Asked,
+  Reads'3.Learnt,
+  Reads''.Asked,
+  Reads''.Learnt,
+  Reads'5.Asked,
+  Reads'5.Learnt,
+  Reads'11.Asked,
+  Reads'11.Learnt,
+) Reads'4.Pre
+    Reads'4.Post Inv μ
+
+abbrev pub After-slice-known4 : (Inv : InvT-loop) → (μ : MeasureT-loop) → Type 0
+After-slice-known4 = λ Inv μ. Lts.After-slice-known4 (
+  Reads'8.Asked,
+  Reads'8.Learnt,
+  Reads'9.Asked,
+  Reads'9.Learnt,
+  Reads.Asked,
+  Reads.Learnt,
+  Reads'7.Asked,
+  Reads'7.Learnt,
+  Reads'10.Asked,
+  Reads'10.Learnt,
+  Reads'.Asked,
+  Reads'.Learnt,
+  Reads'6.Asked,
+  Reads'6.Learnt,
+  Reads'3.Asked,
+  Reads'3.Learnt,
+  Reads''.Asked,
+  Reads''.Learnt,
+  Reads'5.Asked,
+  Reads'5.Learnt,
+  Reads'11.Asked,
+  Reads'11.Learnt,
+) Reads'4.Pre Reads'4.Post Inv μ
+
+abbrev pub After-base-of2 : (Inv : InvT-loop) → (μ : MeasureT-loop) → Type 0
+After-base-of2 = λ Inv μ. Lts.After-base-of2 (
+  Reads'8.Asked,
+  Reads'8.Learnt,
+  Reads'9.Asked,
+  Reads'9.Learnt,
+  Reads.Asked,
+  Reads.Learnt,
+  Reads'7.Asked,
+  Reads'7.Learnt,
+  Reads'10.Asked,
+  Reads'10.Learnt,
+  Reads'.Asked,
+  Reads'.Learnt,
+  Reads'6.Asked,
+  Reads'6.Learnt,
+  Reads'3.Asked,
+  Reads'3.Learnt,
+  Reads''.Asked,
+  Reads''.Learnt,
+  Reads'5.Asked,
+  Reads'5.Learnt,
+  Reads'11.Asked,
+  Reads'11.Learnt,
+) Reads'4.Pre
+    Reads'4.Post Inv μ
+
+abbrev pub After-restart-arg : (Inv : InvT-loop) → (μ : MeasureT-loop) → Type 0
+After-restart-arg = λ Inv μ. Lts.After-restart-arg (
+  Reads'8.Asked,
+  Reads'8.Learnt,
+  Reads'9.Asked,
+  Reads'9.Learnt,
+  Reads.Asked,
+  Reads.Learnt,
+  Reads'7.Asked,
+  Reads'7.Learnt,
+  Reads'10.Asked,
+  Reads'10.Learnt,
+  Reads'.Asked,
+  Reads'.Learnt,
+  Reads'6.Asked,
+  Reads'6.Learnt,
+  Reads'3.Asked,
+  Reads'3.Learnt,
+  Reads''.Asked,
+  Reads''.Learnt,
+  Reads'5.Asked,
+  Reads'5.Learnt,
+  Reads'11.Asked,
+  Reads'11.Learnt,
+) Reads'4.Pre Reads'4.Post Inv μ
+
+abbrev pub After-is-restarted : (Inv : InvT-loop) → (μ : MeasureT-loop) → Type 0
+After-is-restarted = λ Inv μ. Lts.After-is-restarted (
+  Reads'8.Asked,
+  Reads'8.Learnt,
+  Reads'9.Asked,
+  Reads'9.Learnt,
+  Reads.Asked,
+  Reads.Learnt,
+  Reads'7.Asked,
+  Reads'7.Learnt,
+  Reads'10.Asked,
+  Reads'10.Learnt,
+  Reads'.Asked,
+  Reads'.Learnt,
+  Reads'6.Asked,
+  Reads'6.Learnt,
+  Reads'3.Asked,
+  Reads'3.Learnt,
+  Reads''.Asked,
+  Reads''.Learnt,
+  Reads'5.Asked,
+  Reads'5.Learnt,
+  Reads'11.Asked,
+  Reads'11.Learnt,
+) Reads'4.Pre Reads'4.Post Inv μ
+
+abbrev pub After-restart : (Inv : InvT-loop) → (μ : MeasureT-loop) → Type 0
+After-restart = λ Inv μ. Lts.After-restart (
+  Reads'8.Asked,
+  Reads'8.Learnt,
+  Reads'9.Asked,
+  Reads'9.Learnt,
+  Reads.Asked,
+  Reads.Learnt,
+  Reads'7.Asked,
+  Reads'7.Learnt,
+  Reads'10.Asked,
+  Reads'10.Learnt,
+  Reads'.Asked,
+  Reads'.Learnt,
+  Reads'6.Asked,
+  Reads'6.Learnt,
+  Reads'3.Asked,
+  Reads'3.Learnt,
+  Reads''.Asked,
+  Reads''.Learnt,
+  Reads'5.Asked,
+  Reads'5.Learnt,
+  Reads'11.Asked,
+  Reads'11.Learnt,
+) Reads'4.Pre
+    Reads'4.Post Inv μ
+
+abbrev pub After-rs2 : (Inv : InvT-loop) → (μ : MeasureT-loop) → Type 0
+After-rs2 = λ Inv μ. Lts.After-rs2 (
+  Reads'8.Asked,
+  Reads'8.Learnt,
+  Reads'9.Asked,
+  Reads'9.Learnt,
+  Reads.Asked,
+  Reads.Learnt,
+  Reads'7.Asked,
+  Reads'7.Learnt,
+  Reads'10.Asked,
+  Reads'10.Learnt,
+  Reads'.Asked,
+  Reads'.Learnt,
+  Reads'6.Asked,
+  Reads'6.Learnt,
+  Reads'3.Asked,
+  Reads'3.Learnt,
+  Reads''.Asked,
+  Reads''.Learnt,
+  Reads'5.Asked,
+  Reads'5.Learnt,
+  Reads'11.Asked,
+  Reads'11.Learnt,
+) Reads'4.Pre
+    Reads'4.Post Inv μ
+
+abbrev pub After-line-arg : (Inv : InvT-loop) → (μ : MeasureT-loop) → Type 0
+After-line-arg = λ Inv μ. Lts.After-line-arg (
+  Reads'8.Asked,
+  Reads'8.Learnt,
+  Reads'9.Asked,
+  Reads'9.Learnt,
+  Reads.Asked,
+  Reads.Learnt,
+  Reads'7.Asked,
+  Reads'7.Learnt,
+  Reads'10.Asked,
+  Reads'10.Learnt,
+  Reads'.Asked,
+  Reads'.Learnt,
+  Reads'6.Asked,
+  Reads'6.Learnt,
+  Reads'3.Asked,
+  Reads'3.Learnt,
+  Reads''.Asked,
+  Reads''.Learnt,
+  Reads'5.Asked,
+  Reads'5.Learnt,
+  Reads'11.Asked,
+  Reads'11.Learnt,
+) Reads'4.Pre
+    Reads'4.Post Inv μ
+
+abbrev pub After-line-arg2 : (Inv : InvT-loop) → (μ : MeasureT-loop) → Type 0
+After-line-arg2 = λ Inv μ. Lts.After-line-arg2 (
+  Reads'8.Asked,
+  Reads'8.Learnt,
+  Reads'9.Asked,
+  Reads'9.Learnt,
+  Reads.Asked,
+  Reads.Learnt,
+  Reads'7.Asked,
+  Reads'7.Learnt,
+  Reads'10.Asked,
+  Reads'10.Learnt,
+  Reads'.Asked,
+  Reads'.Learnt,
+  Reads'6.Asked,
+  Reads'6.Learnt,
+  Reads'3.Asked,
+  Reads'3.Learnt,
+  Reads''.Asked,
+  Reads''.Learnt,
+  Reads'5.Asked,
+  Reads'5.Learnt,
+  Reads'11.Asked,
+  Reads'11.Learnt,
+) Reads'4.Pre Reads'4.Post Inv μ
+
+abbrev pub After-quantisers-of : (Inv : InvT-loop) → (μ : MeasureT-loop) → Type 0
+After-quantisers-of = λ Inv μ. Lts.After-quantisers-of (
+  Reads'8.Asked,
+  Reads'8.Learnt,
+  Reads'9.Asked,
+  Reads'9.Learnt,
+  Reads.Asked,
+  Reads.Learnt,
+  Reads'7.Asked,
+  Reads'7.Learnt,
+  Reads'10.Asked,
+  Reads'10.Learnt,
+  Reads'.Asked,
+  Reads'.Learnt,
+  Reads'6.Asked,
+  Reads'6.Learnt,
+  Reads'3.Asked,
+  Reads'3.Learnt,
+  Reads''.Asked,
+  Reads''.Learnt,
+  Reads'5.Asked,
+  Reads'5.Learnt,
+  Reads'11.Asked,
+  Reads'11.Learnt,
+) Reads'4.Pre Reads'4.Post Inv μ
+
+abbrev pub After-line : (Inv : InvT-loop) → (μ : MeasureT-loop) → Type 0
+After-line = λ Inv μ. Lts.After-line (
+  Reads'8.Asked,
+  Reads'8.Learnt,
+  Reads'9.Asked,
+  Reads'9.Learnt,
+  Reads.Asked,
+  Reads.Learnt,
+  Reads'7.Asked,
+  Reads'7.Learnt,
+  Reads'10.Asked,
+  Reads'10.Learnt,
+  Reads'.Asked,
+  Reads'.Learnt,
+  Reads'6.Asked,
+  Reads'6.Learnt,
+  Reads'3.Asked,
+  Reads'3.Learnt,
+  Reads''.Asked,
+  Reads''.Learnt,
+  Reads'5.Asked,
+  Reads'5.Learnt,
+  Reads'11.Asked,
+  Reads'11.Learnt,
+) Reads'4.Pre
+    Reads'4.Post Inv μ
+
+abbrev pub After-lines3 : (Inv : InvT-loop) → (μ : MeasureT-loop) → Type 0
+After-lines3 = λ Inv μ. Lts.After-lines3 (
+  Reads'8.Asked,
+  Reads'8.Learnt,
+  Reads'9.Asked,
+  Reads'9.Learnt,
+  Reads.Asked,
+  Reads.Learnt,
+  Reads'7.Asked,
+  Reads'7.Learnt,
+  Reads'10.Asked,
+  Reads'10.Learnt,
+  Reads'.Asked,
+  Reads'.Learnt,
+  Reads'6.Asked,
+  Reads'6.Learnt,
+  Reads'3.Asked,
+  Reads'3.Learnt,
+  Reads''.Asked,
+  Reads''.Learnt,
+  Reads'5.Asked,
+  Reads'5.Learnt,
+  Reads'11.Asked,
+  Reads'11.Learnt,
+) Reads'4.Pre
+    Reads'4.Post Inv μ
+
+abbrev pub After-slice-known5 : (Inv : InvT-loop) → (μ : MeasureT-loop) → Type 0
+After-slice-known5 = λ Inv μ. Lts.After-slice-known5 (
+  Reads'8.Asked,
+  Reads'8.Learnt,
+  Reads'9.Asked,
+  Reads'9.Learnt,
+  Reads.Asked,
+  Reads.Learnt,
+  Reads'7.Asked,
+  Reads'7.Learnt,
+  Reads'10.Asked,
+  Reads'10.Learnt,
+  Reads'.Asked,
+  Reads'.Learnt,
+  Reads'6.Asked,
+  Reads'6.Learnt,
+  Reads'3.Asked,
+  Reads'3.Learnt,
+  Reads''.Asked,
+  Reads''.Learnt,
+  Reads'5.Asked,
+  Reads'5.Learnt,
+  Reads'11.Asked,
+  Reads'11.Learnt,
+) Reads'4.Pre Reads'4.Post Inv μ
+
+abbrev pub After-rs3 : (Inv : InvT-loop) → (μ : MeasureT-loop) → Type 0
+After-rs3 = λ Inv μ. Lts.After-rs3 (
+  Reads'8.Asked,
+  Reads'8.Learnt,
+  Reads'9.Asked,
+  Reads'9.Learnt,
+  Reads.Asked,
+  Reads.Learnt,
+  Reads'7.Asked,
+  Reads'7.Learnt,
+  Reads'10.Asked,
+  Reads'10.Learnt,
+  Reads'.Asked,
+  Reads'.Learnt,
+  Reads'6.Asked,
+  Reads'6.Learnt,
+  Reads'3.Asked,
+  Reads'3.Learnt,
+  Reads''.Asked,
+  Reads''.Learnt,
+  Reads'5.Asked,
+  Reads'5.Learnt,
+  Reads'11.Asked,
+  Reads'11.Learnt,
+) Reads'4.Pre
+    Reads'4.Post Inv μ
+
+abbrev pub Then1 : (Inv : InvT-loop) → (μ : MeasureT-loop) → Type 0
+Then1 = λ Inv μ. Lts.Then1 (
+  Reads'8.Asked,
+  Reads'8.Learnt,
+  Reads'9.Asked,
+  Reads'9.Learnt,
+  Reads.Asked,
+  Reads.Learnt,
+  Reads'7.Asked,
+  Reads'7.Learnt,
+  Reads'10.Asked,
+  Reads'10.Learnt,
+  Reads'.Asked,
+  Reads'.Learnt,
+  Reads'6.Asked,
+  Reads'6.Learnt,
+  Reads'3.Asked,
+  Reads'3.Learnt,
+  Reads''.Asked,
+  Reads''.Learnt,
+  Reads'5.Asked,
+  Reads'5.Learnt,
+  Reads'11.Asked,
+  Reads'11.Learnt,
+) Reads'4.Pre Reads'4.Post
+    Inv μ
+
+abbrev pub Else1 : (Inv : InvT-loop) → (μ : MeasureT-loop) → Type 0
+Else1 = λ Inv μ. Lts.Else1 (
+  Reads'8.Asked,
+  Reads'8.Learnt,
+  Reads'9.Asked,
+  Reads'9.Learnt,
+  Reads.Asked,
+  Reads.Learnt,
+  Reads'7.Asked,
+  Reads'7.Learnt,
+  Reads'10.Asked,
+  Reads'10.Learnt,
+  Reads'.Asked,
+  Reads'.Learnt,
+  Reads'6.Asked,
+  Reads'6.Learnt,
+  Reads'3.Asked,
+  Reads'3.Learnt,
+  Reads''.Asked,
+  Reads''.Learnt,
+  Reads'5.Asked,
+  Reads'5.Learnt,
+  Reads'11.Asked,
+  Reads'11.Learnt,
+) Reads'4.Pre Reads'4.Post
+    Inv μ
+
+abbrev pub After-at : (Inv : InvT-loop) → (μ : MeasureT-loop) → Type 0
+After-at = λ Inv μ. Lts.After-at (
+  Reads'8.Asked,
+  Reads'8.Learnt,
+  Reads'9.Asked,
+  Reads'9.Learnt,
+  Reads.Asked,
+  Reads.Learnt,
+  Reads'7.Asked,
+  Reads'7.Learnt,
+  Reads'10.Asked,
+  Reads'10.Learnt,
+  Reads'.Asked,
+  Reads'.Learnt,
+  Reads'6.Asked,
+  Reads'6.Learnt,
+  Reads'3.Asked,
+  Reads'3.Learnt,
+  Reads''.Asked,
+  Reads''.Learnt,
+  Reads'5.Asked,
+  Reads'5.Learnt,
+  Reads'11.Asked,
+  Reads'11.Learnt,
+) Reads'4.Pre
+    Reads'4.Post Inv μ
+
+abbrev pub After-tight-count : (Inv : InvT-loop) → (μ : MeasureT-loop) → Type 0
+After-tight-count = λ Inv μ. Lts.After-tight-count (
+  Reads'8.Asked,
+  Reads'8.Learnt,
+  Reads'9.Asked,
+  Reads'9.Learnt,
+  Reads.Asked,
+  Reads.Learnt,
+  Reads'7.Asked,
+  Reads'7.Learnt,
+  Reads'10.Asked,
+  Reads'10.Learnt,
+  Reads'.Asked,
+  Reads'.Learnt,
+  Reads'6.Asked,
+  Reads'6.Learnt,
+  Reads'3.Asked,
+  Reads'3.Learnt,
+  Reads''.Asked,
+  Reads''.Learnt,
+  Reads'5.Asked,
+  Reads'5.Learnt,
+  Reads'11.Asked,
+  Reads'11.Learnt,
+) Reads'4.Pre Reads'4.Post Inv μ
+
+abbrev pub After-emit-line-arg : (Inv : InvT-loop) → (μ : MeasureT-loop) → Type 0
+After-emit-line-arg = λ Inv μ. Lts.After-emit-line-arg (
+  Reads'8.Asked,
+  Reads'8.Learnt,
+  Reads'9.Asked,
+  Reads'9.Learnt,
+  Reads.Asked,
+  Reads.Learnt,
+  Reads'7.Asked,
+  Reads'7.Learnt,
+  Reads'10.Asked,
+  Reads'10.Learnt,
+  Reads'.Asked,
+  Reads'.Learnt,
+  Reads'6.Asked,
+  Reads'6.Learnt,
+  Reads'3.Asked,
+  Reads'3.Learnt,
+  Reads''.Asked,
+  Reads''.Learnt,
+  Reads'5.Asked,
+  Reads'5.Learnt,
+  Reads'11.Asked,
+  Reads'11.Learnt,
+) Reads'4.Pre Reads'4.Post Inv μ
+
+abbrev pub After-emit-line-arg2 : (Inv : InvT-loop) → (μ : MeasureT-loop) → Type 0
+After-emit-line-arg2 = λ Inv μ. Lts.After-emit-line-arg2 (
+  Reads'8.Asked,
+  Reads'8.Learnt,
+  Reads'9.Asked,
+  Reads'9.Learnt,
+  Reads.Asked,
+  Reads.Learnt,
+  Reads'7.Asked,
+  Reads'7.Learnt,
+  Reads'10.Asked,
+  Reads'10.Learnt,
+  Reads'.Asked,
+  Reads'.Learnt,
+  Reads'6.Asked,
+  Reads'6.Learnt,
+  Reads'3.Asked,
+  Reads'3.Learnt,
+  Reads''.Asked,
+  Reads''.Learnt,
+  Reads'5.Asked,
+  Reads'5.Learnt,
+  Reads'11.Asked,
+  Reads'11.Learnt,
+) Reads'4.Pre Reads'4.Post Inv μ
+
+abbrev pub After-emit-line : (Inv : InvT-loop) → (μ : MeasureT-loop) → Type 0
+After-emit-line = λ Inv μ. Lts.After-emit-line (
+  Reads'8.Asked,
+  Reads'8.Learnt,
+  Reads'9.Asked,
+  Reads'9.Learnt,
+  Reads.Asked,
+  Reads.Learnt,
+  Reads'7.Asked,
+  Reads'7.Learnt,
+  Reads'10.Asked,
+  Reads'10.Learnt,
+  Reads'.Asked,
+  Reads'.Learnt,
+  Reads'6.Asked,
+  Reads'6.Learnt,
+  Reads'3.Asked,
+  Reads'3.Learnt,
+  Reads''.Asked,
+  Reads''.Learnt,
+  Reads'5.Asked,
+  Reads'5.Learnt,
+  Reads'11.Asked,
+  Reads'11.Learnt,
+) Reads'4.Pre Reads'4.Post Inv μ
+
+abbrev pub After-image : (Inv : InvT-loop) → (μ : MeasureT-loop) → Type 0
+After-image = λ Inv μ. Lts.After-image (
+  Reads'8.Asked,
+  Reads'8.Learnt,
+  Reads'9.Asked,
+  Reads'9.Learnt,
+  Reads.Asked,
+  Reads.Learnt,
+  Reads'7.Asked,
+  Reads'7.Learnt,
+  Reads'10.Asked,
+  Reads'10.Learnt,
+  Reads'.Asked,
+  Reads'.Learnt,
+  Reads'6.Asked,
+  Reads'6.Learnt,
+  Reads'3.Asked,
+  Reads'3.Learnt,
+  Reads''.Asked,
+  Reads''.Learnt,
+  Reads'5.Asked,
+  Reads'5.Learnt,
+  Reads'11.Asked,
+  Reads'11.Learnt,
+) Reads'4.Pre
+    Reads'4.Post Inv μ
+
+abbrev pub After-slice-known6 : (Inv : InvT-loop) → (μ : MeasureT-loop) → Type 0
+After-slice-known6 = λ Inv μ. Lts.After-slice-known6 (
+  Reads'8.Asked,
+  Reads'8.Learnt,
+  Reads'9.Asked,
+  Reads'9.Learnt,
+  Reads.Asked,
+  Reads.Learnt,
+  Reads'7.Asked,
+  Reads'7.Learnt,
+  Reads'10.Asked,
+  Reads'10.Learnt,
+  Reads'.Asked,
+  Reads'.Learnt,
+  Reads'6.Asked,
+  Reads'6.Learnt,
+  Reads'3.Asked,
+  Reads'3.Learnt,
+  Reads''.Asked,
+  Reads''.Learnt,
+  Reads'5.Asked,
+  Reads'5.Learnt,
+  Reads'11.Asked,
+  Reads'11.Learnt,
+) Reads'4.Pre Reads'4.Post Inv μ
+
+abbrev pub Need-width-requires : (Inv : InvT-loop) → (μ : MeasureT-loop) → Type 0
+Need-width-requires = λ Inv μ. Lts.Need-width-requires (
+  Reads'8.Asked,
+  Reads'8.Learnt,
+  Reads'9.Asked,
+  Reads'9.Learnt,
+  Reads.Asked,
+  Reads.Learnt,
+  Reads'7.Asked,
+  Reads'7.Learnt,
+  Reads'10.Asked,
+  Reads'10.Learnt,
+  Reads'.Asked,
+  Reads'.Learnt,
+  Reads'6.Asked,
+  Reads'6.Learnt,
+  Reads'3.Asked,
+  Reads'3.Learnt,
+  Reads''.Asked,
+  Reads''.Learnt,
+  Reads'5.Asked,
+  Reads'5.Learnt,
+  Reads'11.Asked,
+  Reads'11.Learnt,
+) Reads'4.Pre Reads'4.Post Inv μ
+
+abbrev pub Need-clear-requires : (Inv : InvT-loop) → (μ : MeasureT-loop) → Type 0
+Need-clear-requires = λ Inv μ. Lts.Need-clear-requires (
+  Reads'8.Asked,
+  Reads'8.Learnt,
+  Reads'9.Asked,
+  Reads'9.Learnt,
+  Reads.Asked,
+  Reads.Learnt,
+  Reads'7.Asked,
+  Reads'7.Learnt,
+  Reads'10.Asked,
+  Reads'10.Learnt,
+  Reads'.Asked,
+  Reads'.Learnt,
+  Reads'6.Asked,
+  Reads'6.Learnt,
+  Reads'3.Asked,
+  Reads'3.Learnt,
+  Reads''.Asked,
+  Reads''.Learnt,
+  Reads'5.Asked,
+  Reads'5.Learnt,
+  Reads'11.Asked,
+  Reads'11.Learnt,
+) Reads'4.Pre Reads'4.Post Inv μ
+
+abbrev pub Need-base-of-requires : (Inv : InvT-loop) → (μ : MeasureT-loop) → Type 0
+Need-base-of-requires = λ Inv μ. Lts.Need-base-of-requires (
+  Reads'8.Asked,
+  Reads'8.Learnt,
+  Reads'9.Asked,
+  Reads'9.Learnt,
+  Reads.Asked,
+  Reads.Learnt,
+  Reads'7.Asked,
+  Reads'7.Learnt,
+  Reads'10.Asked,
+  Reads'10.Learnt,
+  Reads'.Asked,
+  Reads'.Learnt,
+  Reads'6.Asked,
+  Reads'6.Learnt,
+  Reads'3.Asked,
+  Reads'3.Learnt,
+  Reads''.Asked,
+  Reads''.Learnt,
+  Reads'5.Asked,
+  Reads'5.Learnt,
+  Reads'11.Asked,
+  Reads'11.Learnt,
+) Reads'4.Pre Reads'4.Post Inv μ
+
+abbrev pub Need-start-records-requires : (Inv : InvT-loop) → (μ : MeasureT-loop) → Type 0
+Need-start-records-requires = λ Inv μ. Lts.Need-start-records-requires (
+  Reads'8.Asked,
+  Reads'8.Learnt,
+  Reads'9.Asked,
+  Reads'9.Learnt,
+  Reads.Asked,
+  Reads.Learnt,
+  Reads'7.Asked,
+  Reads'7.Learnt,
+  Reads'10.Asked,
+  Reads'10.Learnt,
+  Reads'.Asked,
+  Reads'.Learnt,
+  Reads'6.Asked,
+  Reads'6.Learnt,
+  Reads'3.Asked,
+  Reads'3.Learnt,
+  Reads''.Asked,
+  Reads''.Learnt,
+  Reads'5.Asked,
+  Reads'5.Learnt,
+  Reads'11.Asked,
+  Reads'11.Learnt,
+) Reads'4.Pre Reads'4.Post Inv μ
+
+abbrev pub Need-loop-holds : (Inv : InvT-loop) → (μ : MeasureT-loop) → Type 0
+Need-loop-holds = λ Inv μ. Lts.Need-loop-holds (
+  Reads'8.Asked,
+  Reads'8.Learnt,
+  Reads'9.Asked,
+  Reads'9.Learnt,
+  Reads.Asked,
+  Reads.Learnt,
+  Reads'7.Asked,
+  Reads'7.Learnt,
+  Reads'10.Asked,
+  Reads'10.Learnt,
+  Reads'.Asked,
+  Reads'.Learnt,
+  Reads'6.Asked,
+  Reads'6.Learnt,
+  Reads'3.Asked,
+  Reads'3.Learnt,
+  Reads''.Asked,
+  Reads''.Learnt,
+  Reads'5.Asked,
+  Reads'5.Learnt,
+  Reads'11.Asked,
+  Reads'11.Learnt,
+) Reads'4.Pre Reads'4.Post Inv μ
+
+abbrev pub Need-turn-requires : (Inv : InvT-loop) → (μ : MeasureT-loop) → Type 0
+Need-turn-requires = λ Inv μ. Lts.Need-turn-requires (
+  Reads'8.Asked,
+  Reads'8.Learnt,
+  Reads'9.Asked,
+  Reads'9.Learnt,
+  Reads.Asked,
+  Reads.Learnt,
+  Reads'7.Asked,
+  Reads'7.Learnt,
+  Reads'10.Asked,
+  Reads'10.Learnt,
+  Reads'.Asked,
+  Reads'.Learnt,
+  Reads'6.Asked,
+  Reads'6.Learnt,
+  Reads'3.Asked,
+  Reads'3.Learnt,
+  Reads''.Asked,
+  Reads''.Learnt,
+  Reads'5.Asked,
+  Reads'5.Learnt,
+  Reads'11.Asked,
+  Reads'11.Learnt,
+) Reads'4.Pre Reads'4.Post Inv μ
+
+abbrev pub Need-base-of-requires-2 : (Inv : InvT-loop) → (μ : MeasureT-loop) → Type 0
+Need-base-of-requires-2 = λ Inv μ. Lts.Need-base-of-requires-2 (
+  Reads'8.Asked,
+  Reads'8.Learnt,
+  Reads'9.Asked,
+  Reads'9.Learnt,
+  Reads.Asked,
+  Reads.Learnt,
+  Reads'7.Asked,
+  Reads'7.Learnt,
+  Reads'10.Asked,
+  Reads'10.Learnt,
+  Reads'.Asked,
+  Reads'.Learnt,
+  Reads'6.Asked,
+  Reads'6.Learnt,
+  Reads'3.Asked,
+  Reads'3.Learnt,
+  Reads''.Asked,
+  Reads''.Learnt,
+  Reads'5.Asked,
+  Reads'5.Learnt,
+  Reads'11.Asked,
+  Reads'11.Learnt,
+) Reads'4.Pre Reads'4.Post Inv μ
+
+abbrev pub Need-is-restarted-requires : (Inv : InvT-loop) → (μ : MeasureT-loop) → Type 0
+Need-is-restarted-requires = λ Inv μ. Lts.Need-is-restarted-requires (
+  Reads'8.Asked,
+  Reads'8.Learnt,
+  Reads'9.Asked,
+  Reads'9.Learnt,
+  Reads.Asked,
+  Reads.Learnt,
+  Reads'7.Asked,
+  Reads'7.Learnt,
+  Reads'10.Asked,
+  Reads'10.Learnt,
+  Reads'.Asked,
+  Reads'.Learnt,
+  Reads'6.Asked,
+  Reads'6.Learnt,
+  Reads'3.Asked,
+  Reads'3.Learnt,
+  Reads''.Asked,
+  Reads''.Learnt,
+  Reads'5.Asked,
+  Reads'5.Learnt,
+  Reads'11.Asked,
+  Reads'11.Learnt,
+) Reads'4.Pre Reads'4.Post Inv μ
+
+abbrev pub Need-restart-requires : (Inv : InvT-loop) → (μ : MeasureT-loop) → Type 0
+Need-restart-requires = λ Inv μ. Lts.Need-restart-requires (
+  Reads'8.Asked,
+  Reads'8.Learnt,
+  Reads'9.Asked,
+  Reads'9.Learnt,
+  Reads.Asked,
+  Reads.Learnt,
+  Reads'7.Asked,
+  Reads'7.Learnt,
+  Reads'10.Asked,
+  Reads'10.Learnt,
+  Reads'.Asked,
+  Reads'.Learnt,
+  Reads'6.Asked,
+  Reads'6.Learnt,
+  Reads'3.Asked,
+  Reads'3.Learnt,
+  Reads''.Asked,
+  Reads''.Learnt,
+  Reads'5.Asked,
+  Reads'5.Learnt,
+  Reads'11.Asked,
+  Reads'11.Learnt,
+) Reads'4.Pre Reads'4.Post Inv μ
+
+abbrev pub Need-quantisers-of-requires : (Inv : InvT-loop) → (μ : MeasureT-loop) → Type 0
+Need-quantisers-of-requires = λ Inv μ. Lts.Need-quantisers-of-requires (
+  Reads'8.Asked,
+  Reads'8.Learnt,
+  Reads'9.Asked,
+  Reads'9.Learnt,
+  Reads.Asked,
+  Reads.Learnt,
+  Reads'7.Asked,
+  Reads'7.Learnt,
+  Reads'10.Asked,
+  Reads'10.Learnt,
+  Reads'.Asked,
+  Reads'.Learnt,
+  Reads'6.Asked,
+  Reads'6.Learnt,
+  Reads'3.Asked,
+  Reads'3.Learnt,
+  Reads''.Asked,
+  Reads''.Learnt,
+  Reads'5.Asked,
+  Reads'5.Learnt,
+  Reads'11.Asked,
+  Reads'11.Learnt,
+) Reads'4.Pre Reads'4.Post Inv μ
+
+abbrev pub Need-line-requires : (Inv : InvT-loop) → (μ : MeasureT-loop) → Type 0
+Need-line-requires = λ Inv μ. Lts.Need-line-requires (
+  Reads'8.Asked,
+  Reads'8.Learnt,
+  Reads'9.Asked,
+  Reads'9.Learnt,
+  Reads.Asked,
+  Reads.Learnt,
+  Reads'7.Asked,
+  Reads'7.Learnt,
+  Reads'10.Asked,
+  Reads'10.Learnt,
+  Reads'.Asked,
+  Reads'.Learnt,
+  Reads'6.Asked,
+  Reads'6.Learnt,
+  Reads'3.Asked,
+  Reads'3.Learnt,
+  Reads''.Asked,
+  Reads''.Learnt,
+  Reads'5.Asked,
+  Reads'5.Learnt,
+  Reads'11.Asked,
+  Reads'11.Learnt,
+) Reads'4.Pre Reads'4.Post Inv μ
+
+abbrev pub Need-same-length : (Inv : InvT-loop) → (μ : MeasureT-loop) → Type 0
+Need-same-length = λ Inv μ. Lts.Need-same-length (
+  Reads'8.Asked,
+  Reads'8.Learnt,
+  Reads'9.Asked,
+  Reads'9.Learnt,
+  Reads.Asked,
+  Reads.Learnt,
+  Reads'7.Asked,
+  Reads'7.Learnt,
+  Reads'10.Asked,
+  Reads'10.Learnt,
+  Reads'.Asked,
+  Reads'.Learnt,
+  Reads'6.Asked,
+  Reads'6.Learnt,
+  Reads'3.Asked,
+  Reads'3.Learnt,
+  Reads''.Asked,
+  Reads''.Learnt,
+  Reads'5.Asked,
+  Reads'5.Learnt,
+  Reads'11.Asked,
+  Reads'11.Learnt,
+) Reads'4.Pre Reads'4.Post Inv μ
+
+abbrev pub Need-same-length-2 : (Inv : InvT-loop) → (μ : MeasureT-loop) → Type 0
+Need-same-length-2 = λ Inv μ. Lts.Need-same-length-2 (
+  Reads'8.Asked,
+  Reads'8.Learnt,
+  Reads'9.Asked,
+  Reads'9.Learnt,
+  Reads.Asked,
+  Reads.Learnt,
+  Reads'7.Asked,
+  Reads'7.Learnt,
+  Reads'10.Asked,
+  Reads'10.Learnt,
+  Reads'.Asked,
+  Reads'.Learnt,
+  Reads'6.Asked,
+  Reads'6.Learnt,
+  Reads'3.Asked,
+  Reads'3.Learnt,
+  Reads''.Asked,
+  Reads''.Learnt,
+  Reads'5.Asked,
+  Reads'5.Learnt,
+  Reads'11.Asked,
+  Reads'11.Learnt,
+) Reads'4.Pre Reads'4.Post Inv μ
+
+abbrev pub Need-same-length-3 : (Inv : InvT-loop) → (μ : MeasureT-loop) → Type 0
+Need-same-length-3 = λ Inv μ. Lts.Need-same-length-3 (
+  Reads'8.Asked,
+  Reads'8.Learnt,
+  Reads'9.Asked,
+  Reads'9.Learnt,
+  Reads.Asked,
+  Reads.Learnt,
+  Reads'7.Asked,
+  Reads'7.Learnt,
+  Reads'10.Asked,
+  Reads'10.Learnt,
+  Reads'.Asked,
+  Reads'.Learnt,
+  Reads'6.Asked,
+  Reads'6.Learnt,
+  Reads'3.Asked,
+  Reads'3.Learnt,
+  Reads''.Asked,
+  Reads''.Learnt,
+  Reads'5.Asked,
+  Reads'5.Learnt,
+  Reads'11.Asked,
+  Reads'11.Learnt,
+) Reads'4.Pre Reads'4.Post Inv μ
+
+abbrev pub Need-returns : (Inv : InvT-loop) → (μ : MeasureT-loop) → Type 0
+Need-returns = λ Inv μ. Lts.Need-returns (
+  Reads'8.Asked,
+  Reads'8.Learnt,
+  Reads'9.Asked,
+  Reads'9.Learnt,
+  Reads.Asked,
+  Reads.Learnt,
+  Reads'7.Asked,
+  Reads'7.Learnt,
+  Reads'10.Asked,
+  Reads'10.Learnt,
+  Reads'.Asked,
+  Reads'.Learnt,
+  Reads'6.Asked,
+  Reads'6.Learnt,
+  Reads'3.Asked,
+  Reads'3.Learnt,
+  Reads''.Asked,
+  Reads''.Learnt,
+  Reads'5.Asked,
+  Reads'5.Learnt,
+  Reads'11.Asked,
+  Reads'11.Learnt,
+) Reads'4.Pre
+    Reads'4.Post Inv μ
+
+abbrev pub Need-tight-count-requires : (Inv : InvT-loop) → (μ : MeasureT-loop) → Type 0
+Need-tight-count-requires = λ Inv μ. Lts.Need-tight-count-requires (
+  Reads'8.Asked,
+  Reads'8.Learnt,
+  Reads'9.Asked,
+  Reads'9.Learnt,
+  Reads.Asked,
+  Reads.Learnt,
+  Reads'7.Asked,
+  Reads'7.Learnt,
+  Reads'10.Asked,
+  Reads'10.Learnt,
+  Reads'.Asked,
+  Reads'.Learnt,
+  Reads'6.Asked,
+  Reads'6.Learnt,
+  Reads'3.Asked,
+  Reads'3.Learnt,
+  Reads''.Asked,
+  Reads''.Learnt,
+  Reads'5.Asked,
+  Reads'5.Learnt,
+  Reads'11.Asked,
+  Reads'11.Learnt,
+) Reads'4.Pre Reads'4.Post Inv μ
+
+abbrev pub Need-emit-line-requires : (Inv : InvT-loop) → (μ : MeasureT-loop) → Type 0
+Need-emit-line-requires = λ Inv μ. Lts.Need-emit-line-requires (
+  Reads'8.Asked,
+  Reads'8.Learnt,
+  Reads'9.Asked,
+  Reads'9.Learnt,
+  Reads.Asked,
+  Reads.Learnt,
+  Reads'7.Asked,
+  Reads'7.Learnt,
+  Reads'10.Asked,
+  Reads'10.Learnt,
+  Reads'.Asked,
+  Reads'.Learnt,
+  Reads'6.Asked,
+  Reads'6.Learnt,
+  Reads'3.Asked,
+  Reads'3.Learnt,
+  Reads''.Asked,
+  Reads''.Learnt,
+  Reads'5.Asked,
+  Reads'5.Learnt,
+  Reads'11.Asked,
+  Reads'11.Learnt,
+) Reads'4.Pre Reads'4.Post Inv μ
+
+abbrev pub Need-add-n : (Inv : InvT-loop) → (μ : MeasureT-loop) → Type 0
+Need-add-n = λ Inv μ. Lts.Need-add-n (
+  Reads'8.Asked,
+  Reads'8.Learnt,
+  Reads'9.Asked,
+  Reads'9.Learnt,
+  Reads.Asked,
+  Reads.Learnt,
+  Reads'7.Asked,
+  Reads'7.Learnt,
+  Reads'10.Asked,
+  Reads'10.Learnt,
+  Reads'.Asked,
+  Reads'.Learnt,
+  Reads'6.Asked,
+  Reads'6.Learnt,
+  Reads'3.Asked,
+  Reads'3.Learnt,
+  Reads''.Asked,
+  Reads''.Learnt,
+  Reads'5.Asked,
+  Reads'5.Learnt,
+  Reads'11.Asked,
+  Reads'11.Learnt,
+) Reads'4.Pre
+    Reads'4.Post Inv μ
+
+abbrev pub Need-loop-less : (Inv : InvT-loop) → (μ : MeasureT-loop) → Type 0
+Need-loop-less = λ Inv μ. Lts.Need-loop-less (
+  Reads'8.Asked,
+  Reads'8.Learnt,
+  Reads'9.Asked,
+  Reads'9.Learnt,
+  Reads.Asked,
+  Reads.Learnt,
+  Reads'7.Asked,
+  Reads'7.Learnt,
+  Reads'10.Asked,
+  Reads'10.Learnt,
+  Reads'.Asked,
+  Reads'.Learnt,
+  Reads'6.Asked,
+  Reads'6.Learnt,
+  Reads'3.Asked,
+  Reads'3.Learnt,
+  Reads''.Asked,
+  Reads''.Learnt,
+  Reads'5.Asked,
+  Reads'5.Learnt,
+  Reads'11.Asked,
+  Reads'11.Learnt,
+) Reads'4.Pre
+    Reads'4.Post Inv μ
+
+abbrev pub Need-loop-again : (Inv : InvT-loop) → (μ : MeasureT-loop) → Type 0
+Need-loop-again = λ Inv μ. Lts.Need-loop-again (
+  Reads'8.Asked,
+  Reads'8.Learnt,
+  Reads'9.Asked,
+  Reads'9.Learnt,
+  Reads.Asked,
+  Reads.Learnt,
+  Reads'7.Asked,
+  Reads'7.Learnt,
+  Reads'10.Asked,
+  Reads'10.Learnt,
+  Reads'.Asked,
+  Reads'.Learnt,
+  Reads'6.Asked,
+  Reads'6.Learnt,
+  Reads'3.Asked,
+  Reads'3.Learnt,
+  Reads''.Asked,
+  Reads''.Learnt,
+  Reads'5.Asked,
+  Reads'5.Learnt,
+  Reads'11.Asked,
+  Reads'11.Learnt,
+) Reads'4.Pre Reads'4.Post Inv μ
+
+abbrev pub Need-same-length-4 : (Inv : InvT-loop) → (μ : MeasureT-loop) → Type 0
+Need-same-length-4 = λ Inv μ. Lts.Need-same-length-4 (
+  Reads'8.Asked,
+  Reads'8.Learnt,
+  Reads'9.Asked,
+  Reads'9.Learnt,
+  Reads.Asked,
+  Reads.Learnt,
+  Reads'7.Asked,
+  Reads'7.Learnt,
+  Reads'10.Asked,
+  Reads'10.Learnt,
+  Reads'.Asked,
+  Reads'.Learnt,
+  Reads'6.Asked,
+  Reads'6.Learnt,
+  Reads'3.Asked,
+  Reads'3.Learnt,
+  Reads''.Asked,
+  Reads''.Learnt,
+  Reads'5.Asked,
+  Reads'5.Learnt,
+  Reads'11.Asked,
+  Reads'11.Learnt,
+) Reads'4.Pre Reads'4.Post Inv μ
+
+abbrev pub Need-same-length-5 : (Inv : InvT-loop) → (μ : MeasureT-loop) → Type 0
+Need-same-length-5 = λ Inv μ. Lts.Need-same-length-5 (
+  Reads'8.Asked,
+  Reads'8.Learnt,
+  Reads'9.Asked,
+  Reads'9.Learnt,
+  Reads.Asked,
+  Reads.Learnt,
+  Reads'7.Asked,
+  Reads'7.Learnt,
+  Reads'10.Asked,
+  Reads'10.Learnt,
+  Reads'.Asked,
+  Reads'.Learnt,
+  Reads'6.Asked,
+  Reads'6.Learnt,
+  Reads'3.Asked,
+  Reads'3.Learnt,
+  Reads''.Asked,
+  Reads''.Learnt,
+  Reads'5.Asked,
+  Reads'5.Learnt,
+  Reads'11.Asked,
+  Reads'11.Learnt,
+) Reads'4.Pre Reads'4.Post Inv μ
+
+abbrev pub Need-same-length-6 : (Inv : InvT-loop) → (μ : MeasureT-loop) → Type 0
+Need-same-length-6 = λ Inv μ. Lts.Need-same-length-6 (
+  Reads'8.Asked,
+  Reads'8.Learnt,
+  Reads'9.Asked,
+  Reads'9.Learnt,
+  Reads.Asked,
+  Reads.Learnt,
+  Reads'7.Asked,
+  Reads'7.Learnt,
+  Reads'10.Asked,
+  Reads'10.Learnt,
+  Reads'.Asked,
+  Reads'.Learnt,
+  Reads'6.Asked,
+  Reads'6.Learnt,
+  Reads'3.Asked,
+  Reads'3.Learnt,
+  Reads''.Asked,
+  Reads''.Learnt,
+  Reads'5.Asked,
+  Reads'5.Learnt,
+  Reads'11.Asked,
+  Reads'11.Learnt,
+) Reads'4.Pre Reads'4.Post Inv μ
+
+abbrev pub Need-returns-2 : (Inv : InvT-loop) → (μ : MeasureT-loop) → Type 0
+Need-returns-2 = λ Inv μ. Lts.Need-returns-2 (
+  Reads'8.Asked,
+  Reads'8.Learnt,
+  Reads'9.Asked,
+  Reads'9.Learnt,
+  Reads.Asked,
+  Reads.Learnt,
+  Reads'7.Asked,
+  Reads'7.Learnt,
+  Reads'10.Asked,
+  Reads'10.Learnt,
+  Reads'.Asked,
+  Reads'.Learnt,
+  Reads'6.Asked,
+  Reads'6.Learnt,
+  Reads'3.Asked,
+  Reads'3.Learnt,
+  Reads''.Asked,
+  Reads''.Learnt,
+  Reads'5.Asked,
+  Reads'5.Learnt,
+  Reads'11.Asked,
+  Reads'11.Learnt,
+) Reads'4.Pre
+    Reads'4.Post Inv μ
+
+module _ {M : Type 1} where
+  pub spec : (Inv : InvT-loop) → (μ : MeasureT-loop) → (answer : Need-width-requires Inv μ) → (answer : Need-clear-requires Inv μ) → (answer : Need-base-of-requires Inv μ) → (answer :
+      Need-start-records-requires Inv μ) → (answer : Need-loop-holds Inv μ) → (answer : Need-turn-requires Inv μ) → (answer : Need-base-of-requires-2 Inv μ) → (answer : Need-is-restarted-requires Inv μ) →
+      (answer : Need-restart-requires Inv μ) → (answer : Need-quantisers-of-requires Inv μ) → (answer : Need-line-requires Inv μ) → (answer : Need-same-length Inv μ) → (answer : Need-same-length-2 Inv μ)
+      → (answer : Need-same-length-3 Inv μ) → (answer : Need-returns Inv μ) → (answer : Need-tight-count-requires Inv μ) → (answer : Need-emit-line-requires Inv μ) → (answer : Need-add-n Inv μ) → (answer
+      : Need-loop-less Inv μ) → (answer : Need-loop-again Inv μ) → (answer : Need-same-length-4 Inv μ) → (answer : Need-same-length-5 Inv μ) → (answer : Need-same-length-6 Inv μ) → (answer :
+      Need-returns-2 Inv μ) → Lts.Closed (
+        Reads'8.Asked,
+        Reads'8.Learnt,
+        Reads'9.Asked,
+        Reads'9.Learnt,
+        Reads.Asked,
+        Reads.Learnt,
+        Reads'7.Asked,
+        Reads'7.Learnt,
+        Reads'10.Asked,
+        Reads'10.Learnt,
+        Reads'.Asked,
+        Reads'.Learnt,
+        Reads'6.Asked,
+        Reads'6.Learnt,
+        Reads'3.Asked,
+        Reads'3.Learnt,
+        Reads''.Asked,
+        Reads''.Learnt,
+        Reads'5.Asked,
+        Reads'5.Learnt,
+        Reads'11.Asked,
+        Reads'11.Learnt,
+      )
+      Reads'4.Pre Reads'4.Post M
+  spec = λ Inv μ answer answer' answer'' answer'3 answer'4 answer'5 answer'6 answer'7 answer'8 answer'9 answer'10 answer'11 answer'12 answer'13 answer'14 answer'15 answer'16 answer'17 answer'18
+      answer'19 answer'20 answer'21 answer'22 answer'23. Lts.spec (
+        Reads'8.Asked,
+        Reads'8.Learnt,
+        Reads'9.Asked,
+        Reads'9.Learnt,
+        Reads.Asked,
+        Reads.Learnt,
+        Reads'7.Asked,
+        Reads'7.Learnt,
+        Reads'10.Asked,
+        Reads'10.Learnt,
+        Reads'.Asked,
+        Reads'.Learnt,
+        Reads'6.Asked,
+        Reads'6.Learnt,
+        Reads'3.Asked,
+        Reads'3.Learnt,
+        Reads''.Asked,
+        Reads''.Learnt,
+        Reads'5.Asked,
+        Reads'5.Learnt,
+        Reads'11.Asked,
+        Reads'11.Learnt,
+      ) Reads'4.Pre Reads'4.Post Inv μ answer answer' answer'' answer'3 answer'4 answer'5 answer'6 answer'7 answer'8 answer'9 answer'10 answer'11 answer'12 answer'13 answer'14 answer'15
+      answer'16 answer'17 answer'18 answer'19 answer'20 answer'21 answer'22 answer'23
+
+  pub close : Lts.Closed (
+    Reads'8.Asked,
+    Reads'8.Learnt,
+    Reads'9.Asked,
+    Reads'9.Learnt,
+    Reads.Asked,
+    Reads.Learnt,
+    Reads'7.Asked,
+    Reads'7.Learnt,
+    Reads'10.Asked,
+    Reads'10.Learnt,
+    Reads'.Asked,
+    Reads'.Learnt,
+    Reads'6.Asked,
+    Reads'6.Learnt,
+    Reads'3.Asked,
+    Reads'3.Learnt,
+    Reads''.Asked,
+    Reads''.Learnt,
+    Reads'5.Asked,
+    Reads'5.Learnt,
+    Reads'11.Asked,
+    Reads'11.Learnt,
+  ) Reads'4.Pre Reads'4.Post
+      M → Statement.statement M
+  unfolding Code.routine Running.tablesOf
+  close = λ closed 𝓤 H 𝓜 𝓖 𝓡. Written.close 6 Kinds.ps Kinds.r Reads'4.Ghost Reads'4.requires Reads'4.ensures Reads'4.pre-read Reads'4.Pinned Reads'4.Owned Reads'4.post-read record {
+    M = M;
+    𝓤 = 𝓤;
+    H =
+        H;
+    𝓜 = 𝓜;
+    𝓖 = 𝓖;
+    𝓡 = 𝓡;
+  } Code.env Key.name Code.function (Code.unfolded 𝓤 H 𝓜 𝓡) (λ κs a g. tt) (λ κs. Reads'4.owns κs record { M = M; 𝓤 = 𝓤; H = H; 𝓜 = 𝓜; 𝓖 = 𝓖; 𝓡 = 𝓡 }) (Reads'4.passes record {
+    M
+        = M;
+    𝓤 = 𝓤;
+    H = H;
+    𝓜 = 𝓜;
+    𝓖 = 𝓖;
+    𝓡 = 𝓡;
+  }) λ g. closed 𝓤 H (𝓖 .A) (Running.givenOf 𝓤 H 𝓜 𝓖) (Run.Over 𝓤 H 𝓜 𝓖 𝓡 Code.env) (Reads'8.known record { M = M; 𝓤 = 𝓤; H = H; 𝓜 = 𝓜; 𝓖 = 𝓖; 𝓡 = 𝓡 } Code.env
+      Symbol'7.name Symbol'7.routine Code.calls-block·width (Met'7.met 𝓤 H 𝓜 𝓖 𝓡)) (Reads'9.known record { M = M; 𝓤 = 𝓤; H = H; 𝓜 = 𝓜; 𝓖 = 𝓖; 𝓡 = 𝓡 } Code.env Symbol'8.name Symbol'8.routine
+      Code.calls-lines·clear (Met'8.met 𝓤 H 𝓜 𝓖 𝓡)) (Reads.known record { M = M; 𝓤 = 𝓤; H = H; 𝓜 = 𝓜; 𝓖 = 𝓖; 𝓡 = 𝓡 } Code.env Symbol.name Symbol.routine Code.calls-block·reading·base-of (Met.met 𝓤 H 𝓜 𝓖
+      𝓡)) (Reads'7.known record { M = M; 𝓤 = 𝓤; H = H; 𝓜 = 𝓜; 𝓖 = 𝓖; 𝓡 = 𝓡 } Code.env Symbol'6.name Symbol'6.routine Code.calls-block·records·start-records (Met'6.met 𝓤 H 𝓜 𝓖 𝓡)) (Reads'10.known record {
+        M = M;
+        𝓤 = 𝓤;
+        H = H;
+        𝓜 = 𝓜;
+        𝓖 = 𝓖;
+        𝓡 = 𝓡;
+      } Code.env Symbol'9.name Symbol'9.routine Code.calls-lines·turn (Met'9.met 𝓤 H 𝓜 𝓖 𝓡)) (Reads'.known record { M = M; 𝓤 = 𝓤; H = H; 𝓜 = 𝓜; 𝓖 = 𝓖; 𝓡 = 𝓡 }
+      Code.env Symbol'.name Symbol'.routine Code.calls-block·reading·is-restarted (Met'.met 𝓤 H 𝓜 𝓖 𝓡)) (Reads'6.known record { M = M; 𝓤 = 𝓤; H = H; 𝓜 = 𝓜; 𝓖 = 𝓖; 𝓡 = 𝓡 } Code.env Symbol'5.name
+      Symbol'5.routine Code.calls-block·records·restart (Met'5.met 𝓤 H 𝓜 𝓖 𝓡)) (Reads'3.known record { M = M; 𝓤 = 𝓤; H = H; 𝓜 = 𝓜; 𝓖 = 𝓖; 𝓡 = 𝓡 } Code.env Symbol'3.name Symbol'3.routine
+      Code.calls-block·reading·quantisers-of (Met'3.met 𝓤 H 𝓜 𝓖 𝓡)) (Reads''.known record { M = M; 𝓤 = 𝓤; H = H; 𝓜 = 𝓜; 𝓖 = 𝓖; 𝓡 = 𝓡 } Code.env Symbol''.name Symbol''.routine Code.calls-block·reading·line
+      (Met''.met 𝓤 H 𝓜 𝓖 𝓡)) (Reads'5.known record { M = M; 𝓤 = 𝓤; H = H; 𝓜 = 𝓜; 𝓖 = 𝓖; 𝓡 = 𝓡 } Code.env Symbol'4.name Symbol'4.routine Code.calls-block·reading·tight-count (Met'4.met 𝓤 H 𝓜 𝓖 𝓡))
+      (Reads'11.known record { M = M; 𝓤 = 𝓤; H = H; 𝓜 = 𝓜; 𝓖 = 𝓖; 𝓡 = 𝓡 } Code.env Symbol'10.name Symbol'10.routine Code.calls-map·emit-line (Met'10.met 𝓤 H 𝓜 𝓖 𝓡))

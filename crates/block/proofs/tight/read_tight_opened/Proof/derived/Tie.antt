@@ -1,0 +1,102 @@
+-- Written by tools/lend.py from Rattle's derivation of the twin of `block`; not edited by hand. Assumes nothing.
+use Rattle.block.proofs.tight.read_tight_in.Met
+use Rattle.block.proofs.tight.derived.read_tight_in.Reads
+use Rattle.block.proofs.tight.read_tight_in.Symbol
+use Rattle.block.proofs.tight.read_tight_opened.Code
+use Rattle.block.proofs.tight.read_tight_opened.Key
+use Rattle.block.proofs.tight.derived.read_tight_opened.Kinds
+use Rattle.block.proofs.tight.read_tight_opened.Proof.derived.Lts
+use Rattle.block.proofs.tight.derived.read_tight_opened.Reads as Reads'
+use Rattle.block.proofs.tight.read_tight_opened.Statement
+use borrow.Fn.Run
+use borrow.Fn.Written
+use contract.Running
+
+abbrev pub Start : Type 0
+Start = Lts.Start (Reads.Asked, Reads.Learnt) Reads'.Pre Reads'.Post
+
+abbrev pub After-shared-slice-known : Type 0
+After-shared-slice-known = Lts.After-shared-slice-known (Reads.Asked, Reads.Learnt) Reads'.Pre Reads'.Post
+
+abbrev pub After-slice-known : Type 0
+After-slice-known = Lts.After-slice-known (Reads.Asked, Reads.Learnt) Reads'.Pre Reads'.Post
+
+abbrev pub After-struct-known : Type 0
+After-struct-known = Lts.After-struct-known (Reads.Asked, Reads.Learnt) Reads'.Pre Reads'.Post
+
+abbrev pub Then1 : Type 0
+Then1 = Lts.Then1 (Reads.Asked, Reads.Learnt) Reads'.Pre Reads'.Post
+
+abbrev pub Else1 : Type 0
+Else1 = Lts.Else1 (Reads.Asked, Reads.Learnt) Reads'.Pre Reads'.Post
+
+abbrev pub Then2 : Type 0
+Then2 = Lts.Then2 (Reads.Asked, Reads.Learnt) Reads'.Pre Reads'.Post
+
+abbrev pub Else2 : Type 0
+Else2 = Lts.Else2 (Reads.Asked, Reads.Learnt) Reads'.Pre Reads'.Post
+
+abbrev pub After-read-tight-in-arg : Type 0
+After-read-tight-in-arg = Lts.After-read-tight-in-arg (Reads.Asked, Reads.Learnt) Reads'.Pre Reads'.Post
+
+abbrev pub After-read-tight-in-arg2 : Type 0
+After-read-tight-in-arg2 = Lts.After-read-tight-in-arg2 (Reads.Asked, Reads.Learnt) Reads'.Pre Reads'.Post
+
+abbrev pub After-read-tight-in : Type 0
+After-read-tight-in = Lts.After-read-tight-in (Reads.Asked, Reads.Learnt) Reads'.Pre Reads'.Post
+
+abbrev pub After-lines : Type 0
+After-lines = Lts.After-lines (Reads.Asked, Reads.Learnt) Reads'.Pre Reads'.Post
+
+abbrev pub After-slice-known2 : Type 0
+After-slice-known2 = Lts.After-slice-known2 (Reads.Asked, Reads.Learnt) Reads'.Pre Reads'.Post
+
+abbrev pub After-rs : Type 0
+After-rs = Lts.After-rs (Reads.Asked, Reads.Learnt) Reads'.Pre Reads'.Post
+
+abbrev pub Need-cast-blocks : Type 0
+Need-cast-blocks = Lts.Need-cast-blocks (Reads.Asked, Reads.Learnt) Reads'.Pre Reads'.Post
+
+abbrev pub Need-returns : Type 0
+Need-returns = Lts.Need-returns (Reads.Asked, Reads.Learnt) Reads'.Pre Reads'.Post
+
+abbrev pub Need-returns-2 : Type 0
+Need-returns-2 = Lts.Need-returns-2 (Reads.Asked, Reads.Learnt) Reads'.Pre Reads'.Post
+
+abbrev pub Need-read-tight-in-requires : Type 0
+Need-read-tight-in-requires = Lts.Need-read-tight-in-requires (Reads.Asked, Reads.Learnt) Reads'.Pre Reads'.Post
+
+abbrev pub Need-same-length : Type 0
+Need-same-length = Lts.Need-same-length (Reads.Asked, Reads.Learnt) Reads'.Pre Reads'.Post
+
+abbrev pub Need-same-length-2 : Type 0
+Need-same-length-2 = Lts.Need-same-length-2 (Reads.Asked, Reads.Learnt) Reads'.Pre Reads'.Post
+
+abbrev pub Need-returns-3 : Type 0
+Need-returns-3 = Lts.Need-returns-3 (Reads.Asked, Reads.Learnt) Reads'.Pre Reads'.Post
+
+module _ {M : Type 1} where
+  pub spec : (answer : Need-cast-blocks) → (answer : Need-returns) → (answer : Need-returns-2) → (answer : Need-read-tight-in-requires) → (answer : Need-same-length) → (answer : Need-same-length-2) →
+      (answer : Need-returns-3) → Lts.Closed (Reads.Asked, Reads.Learnt) Reads'.Pre Reads'.Post M
+  spec = λ answer answer' answer'' answer'3 answer'4 answer'5 answer'6. Lts.spec (Reads.Asked, Reads.Learnt) Reads'.Pre Reads'.Post answer answer' answer'' answer'3 answer'4 answer'5 answer'6
+
+  pub close : Lts.Closed (Reads.Asked, Reads.Learnt) Reads'.Pre Reads'.Post M → Statement.statement M
+  unfolding Code.routine Running.tablesOf
+  close = λ closed 𝓤 H 𝓜 𝓖 𝓡. Written.close 3 Kinds.ps Kinds.r Reads'.Ghost Reads'.requires Reads'.ensures Reads'.pre-read Reads'.Pinned Reads'.Owned Reads'.post-read record {
+    M = M;
+    𝓤 = 𝓤;
+    H = H;
+    𝓜 =
+        𝓜;
+    𝓖 = 𝓖;
+    𝓡 = 𝓡;
+  } Code.env Key.name Code.function (Code.unfolded 𝓤 H 𝓜 𝓡) (λ κs a g. tt) (λ κs. Reads'.owns κs record { M = M; 𝓤 = 𝓤; H = H; 𝓜 = 𝓜; 𝓖 = 𝓖; 𝓡 = 𝓡 }) (Reads'.passes record {
+    M = M;
+    𝓤 =
+        𝓤;
+    H = H;
+    𝓜 = 𝓜;
+    𝓖 = 𝓖;
+    𝓡 = 𝓡;
+  }) λ g. closed 𝓤 H (𝓖 .A) (Running.givenOf 𝓤 H 𝓜 𝓖) (Run.Over 𝓤 H 𝓜 𝓖 𝓡 Code.env) (Reads.known record { M = M; 𝓤 = 𝓤; H = H; 𝓜 = 𝓜; 𝓖 = 𝓖; 𝓡 = 𝓡 } Code.env Symbol.name
+      Symbol.routine Code.calls-block·tight·read-tight-in (Met.met 𝓤 H 𝓜 𝓖 𝓡))

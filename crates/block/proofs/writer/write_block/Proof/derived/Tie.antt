@@ -1,0 +1,135 @@
+-- Written by tools/lend.py from Rattle's derivation of the twin of `block`; not edited by hand. Assumes nothing.
+use Rattle.block.proofs.writer.write_block.Code
+use Rattle.block.proofs.writer.write_block.Key
+use Rattle.block.proofs.writer.derived.write_block.Kinds
+use Rattle.block.proofs.writer.write_block.Proof.derived.Lts
+use Rattle.block.proofs.writer.derived.write_block.Reads
+use Rattle.block.proofs.writer.write_block.Statement
+use Rattle.block.proofs.writer.write_parsed.Met
+use Rattle.block.proofs.writer.derived.write_parsed.Reads as Reads'
+use Rattle.block.proofs.writer.write_parsed.Symbol
+use Rattle.stream.proofs.FujiHeader.parse.Met as Met'
+use Rattle.stream.proofs.FujiHeader.parse.Reads as Reads''
+use Rattle.stream.proofs.FujiHeader.parse.Symbol as Symbol'
+use borrow.Fn.Run
+use borrow.Fn.Written
+use contract.Running
+
+abbrev pub Start : Type 0
+Start = Lts.Start (Reads''.Asked, Reads''.Learnt, Reads'.Asked, Reads'.Learnt) Reads.Pre Reads.Post
+
+abbrev pub After-shared-slice-known : Type 0
+After-shared-slice-known = Lts.After-shared-slice-known (Reads''.Asked, Reads''.Learnt, Reads'.Asked, Reads'.Learnt) Reads.Pre Reads.Post
+
+abbrev pub After-shared-slice-known2 : Type 0
+After-shared-slice-known2 = Lts.After-shared-slice-known2 (Reads''.Asked, Reads''.Learnt, Reads'.Asked, Reads'.Learnt) Reads.Pre Reads.Post
+
+abbrev pub After-slice-known : Type 0
+After-slice-known = Lts.After-slice-known (Reads''.Asked, Reads''.Learnt, Reads'.Asked, Reads'.Learnt) Reads.Pre Reads.Post
+
+abbrev pub After-slice-known2 : Type 0
+After-slice-known2 = Lts.After-slice-known2 (Reads''.Asked, Reads''.Learnt, Reads'.Asked, Reads'.Learnt) Reads.Pre Reads.Post
+
+abbrev pub After-parse : Type 0
+After-parse = Lts.After-parse (Reads''.Asked, Reads''.Learnt, Reads'.Asked, Reads'.Learnt) Reads.Pre Reads.Post
+
+abbrev pub At-match-keys1 : Type 0
+At-match-keys1 = Lts.At-match-keys1 (Reads''.Asked, Reads''.Learnt, Reads'.Asked, Reads'.Learnt) Reads.Pre Reads.Post
+
+abbrev pub After-parsed : Type 0
+After-parsed = Lts.After-parsed (Reads''.Asked, Reads''.Learnt, Reads'.Asked, Reads'.Learnt) Reads.Pre Reads.Post
+
+abbrev pub After-known-told : Type 0
+After-known-told = Lts.After-known-told (Reads''.Asked, Reads''.Learnt, Reads'.Asked, Reads'.Learnt) Reads.Pre Reads.Post
+
+abbrev pub At-match-keys2 : Type 0
+At-match-keys2 = Lts.At-match-keys2 (Reads''.Asked, Reads''.Learnt, Reads'.Asked, Reads'.Learnt) Reads.Pre Reads.Post
+
+abbrev pub After-parsed2 : Type 0
+After-parsed2 = Lts.After-parsed2 (Reads''.Asked, Reads''.Learnt, Reads'.Asked, Reads'.Learnt) Reads.Pre Reads.Post
+
+abbrev pub After-known-told2 : Type 0
+After-known-told2 = Lts.After-known-told2 (Reads''.Asked, Reads''.Learnt, Reads'.Asked, Reads'.Learnt) Reads.Pre Reads.Post
+
+abbrev pub After-write-parsed-arg : Type 0
+After-write-parsed-arg = Lts.After-write-parsed-arg (Reads''.Asked, Reads''.Learnt, Reads'.Asked, Reads'.Learnt) Reads.Pre Reads.Post
+
+abbrev pub After-write-parsed-arg2 : Type 0
+After-write-parsed-arg2 = Lts.After-write-parsed-arg2 (Reads''.Asked, Reads''.Learnt, Reads'.Asked, Reads'.Learnt) Reads.Pre Reads.Post
+
+abbrev pub After-write-parsed-arg3 : Type 0
+After-write-parsed-arg3 = Lts.After-write-parsed-arg3 (Reads''.Asked, Reads''.Learnt, Reads'.Asked, Reads'.Learnt) Reads.Pre Reads.Post
+
+abbrev pub After-write-parsed : Type 0
+After-write-parsed = Lts.After-write-parsed (Reads''.Asked, Reads''.Learnt, Reads'.Asked, Reads'.Learnt) Reads.Pre Reads.Post
+
+abbrev pub After-out : Type 0
+After-out = Lts.After-out (Reads''.Asked, Reads''.Learnt, Reads'.Asked, Reads'.Learnt) Reads.Pre Reads.Post
+
+abbrev pub After-slice-known3 : Type 0
+After-slice-known3 = Lts.After-slice-known3 (Reads''.Asked, Reads''.Learnt, Reads'.Asked, Reads'.Learnt) Reads.Pre Reads.Post
+
+abbrev pub After-lines : Type 0
+After-lines = Lts.After-lines (Reads''.Asked, Reads''.Learnt, Reads'.Asked, Reads'.Learnt) Reads.Pre Reads.Post
+
+abbrev pub After-slice-known4 : Type 0
+After-slice-known4 = Lts.After-slice-known4 (Reads''.Asked, Reads''.Learnt, Reads'.Asked, Reads'.Learnt) Reads.Pre Reads.Post
+
+abbrev pub After-rs : Type 0
+After-rs = Lts.After-rs (Reads''.Asked, Reads''.Learnt, Reads'.Asked, Reads'.Learnt) Reads.Pre Reads.Post
+
+abbrev pub Need-parse-requires : Type 0
+Need-parse-requires = Lts.Need-parse-requires (Reads''.Asked, Reads''.Learnt, Reads'.Asked, Reads'.Learnt) Reads.Pre Reads.Post
+
+abbrev pub Need-enum-known-parsed : Type 0
+Need-enum-known-parsed = Lts.Need-enum-known-parsed (Reads''.Asked, Reads''.Learnt, Reads'.Asked, Reads'.Learnt) Reads.Pre Reads.Post
+
+abbrev pub Need-enum-known-parsed-2 : Type 0
+Need-enum-known-parsed-2 = Lts.Need-enum-known-parsed-2 (Reads''.Asked, Reads''.Learnt, Reads'.Asked, Reads'.Learnt) Reads.Pre Reads.Post
+
+abbrev pub Need-write-parsed-requires : Type 0
+Need-write-parsed-requires = Lts.Need-write-parsed-requires (Reads''.Asked, Reads''.Learnt, Reads'.Asked, Reads'.Learnt) Reads.Pre Reads.Post
+
+abbrev pub Need-returns : Type 0
+Need-returns = Lts.Need-returns (Reads''.Asked, Reads''.Learnt, Reads'.Asked, Reads'.Learnt) Reads.Pre Reads.Post
+
+abbrev pub Need-same-length : Type 0
+Need-same-length = Lts.Need-same-length (Reads''.Asked, Reads''.Learnt, Reads'.Asked, Reads'.Learnt) Reads.Pre Reads.Post
+
+abbrev pub Need-same-length-2 : Type 0
+Need-same-length-2 = Lts.Need-same-length-2 (Reads''.Asked, Reads''.Learnt, Reads'.Asked, Reads'.Learnt) Reads.Pre Reads.Post
+
+abbrev pub Need-same-length-3 : Type 0
+Need-same-length-3 = Lts.Need-same-length-3 (Reads''.Asked, Reads''.Learnt, Reads'.Asked, Reads'.Learnt) Reads.Pre Reads.Post
+
+abbrev pub Need-returns-2 : Type 0
+Need-returns-2 = Lts.Need-returns-2 (Reads''.Asked, Reads''.Learnt, Reads'.Asked, Reads'.Learnt) Reads.Pre Reads.Post
+
+module _ {M : Type 1} where
+  pub spec : (answer : Need-parse-requires) → (answer : Need-enum-known-parsed) → (answer : Need-enum-known-parsed-2) → (answer : Need-write-parsed-requires) → (answer : Need-returns) → (answer :
+      Need-same-length) → (answer : Need-same-length-2) → (answer : Need-same-length-3) → (answer : Need-returns-2) → Lts.Closed (Reads''.Asked, Reads''.Learnt, Reads'.Asked, Reads'.Learnt) Reads.Pre
+      Reads.Post M
+  spec = λ answer answer' answer'' answer'3 answer'4 answer'5 answer'6 answer'7 answer'8. Lts.spec (Reads''.Asked, Reads''.Learnt, Reads'.Asked, Reads'.Learnt) Reads.Pre Reads.Post answer answer'
+      answer'' answer'3 answer'4 answer'5 answer'6 answer'7 answer'8
+
+  pub close : Lts.Closed (Reads''.Asked, Reads''.Learnt, Reads'.Asked, Reads'.Learnt) Reads.Pre Reads.Post M → Statement.statement M
+  unfolding Code.routine Running.tablesOf
+  close = λ closed 𝓤 H 𝓜 𝓖 𝓡. Written.close 5 Kinds.ps Kinds.r Reads.Ghost Reads.requires Reads.ensures Reads.pre-read Reads.Pinned Reads.Owned Reads.post-read record {
+    M = M;
+    𝓤 = 𝓤;
+    H = H;
+    𝓜 = 𝓜;
+    𝓖 =
+        𝓖;
+    𝓡 = 𝓡;
+  } Code.env Key.name Code.function (Code.unfolded 𝓤 H 𝓜 𝓡) (λ κs a g. tt) (λ κs. Reads.owns κs record { M = M; 𝓤 = 𝓤; H = H; 𝓜 = 𝓜; 𝓖 = 𝓖; 𝓡 = 𝓡 }) (Reads.passes record {
+    M = M;
+    𝓤 = 𝓤;
+    H =
+        H;
+    𝓜 = 𝓜;
+    𝓖 = 𝓖;
+    𝓡 = 𝓡;
+  }) λ g. closed 𝓤 H (𝓖 .A) (Running.givenOf 𝓤 H 𝓜 𝓖) (Run.Over 𝓤 H 𝓜 𝓖 𝓡 Code.env) (Reads''.known record { M = M; 𝓤 = 𝓤; H = H; 𝓜 = 𝓜; 𝓖 = 𝓖; 𝓡 = 𝓡 } Code.env Symbol'.name
+      Symbol'.routine Code.calls-stream·FujiHeader·parse (Met'.met 𝓤 H 𝓜 𝓖 𝓡)) (Reads'.known record { M = M; 𝓤 = 𝓤; H = H; 𝓜 = 𝓜; 𝓖 = 𝓖; 𝓡 = 𝓡 } Code.env Symbol.name Symbol.routine
+      Code.calls-block·writer·write-parsed (Met.met 𝓤 H 𝓜 𝓖 𝓡))

@@ -1,0 +1,165 @@
+-- Written by tools/lend.py from Rattle's derivation of the twin of `block`; not edited by hand. Assumes nothing.
+use Rattle.block.proofs.tight.line_count.Met
+use Rattle.block.proofs.tight.line_count.Reads
+use Rattle.block.proofs.tight.line_count.Symbol
+use Rattle.block.proofs.width.Met as Met'
+use Rattle.block.proofs.width.Reads as Reads'
+use Rattle.block.proofs.width.Symbol as Symbol'
+use Rattle.block.proofs.writer.write_in.Code
+use Rattle.block.proofs.writer.write_in.Key
+use Rattle.block.proofs.writer.derived.write_in.Kinds
+use Rattle.block.proofs.writer.write_in.Proof.derived.Lts
+use Rattle.block.proofs.writer.derived.write_in.Reads as Reads''
+use Rattle.block.proofs.writer.write_in.Statement
+use Rattle.block.proofs.writer.write_set.Met as Met''
+use Rattle.block.proofs.writer.derived.write_set.Reads as Reads'3
+use Rattle.block.proofs.writer.write_set.Symbol as Symbol''
+use borrow.Fn.Run
+use borrow.Fn.Written
+use contract.Running
+
+abbrev pub Start : Type 0
+Start = Lts.Start (Reads'.Asked, Reads'.Learnt, Reads.Asked, Reads.Learnt, Reads'3.Asked, Reads'3.Learnt) Reads''.Pre Reads''.Post
+
+abbrev pub After-shared-slice-known : Type 0
+After-shared-slice-known = Lts.After-shared-slice-known (Reads'.Asked, Reads'.Learnt, Reads.Asked, Reads.Learnt, Reads'3.Asked, Reads'3.Learnt) Reads''.Pre Reads''.Post
+
+abbrev pub After-slice-known : Type 0
+After-slice-known = Lts.After-slice-known (Reads'.Asked, Reads'.Learnt, Reads.Asked, Reads.Learnt, Reads'3.Asked, Reads'3.Learnt) Reads''.Pre Reads''.Post
+
+abbrev pub After-slice-known2 : Type 0
+After-slice-known2 = Lts.After-slice-known2 (Reads'.Asked, Reads'.Learnt, Reads.Asked, Reads.Learnt, Reads'3.Asked, Reads'3.Learnt) Reads''.Pre Reads''.Post
+
+abbrev pub After-width : Type 0
+After-width = Lts.After-width (Reads'.Asked, Reads'.Learnt, Reads.Asked, Reads.Learnt, Reads'3.Asked, Reads'3.Learnt) Reads''.Pre Reads''.Post
+
+abbrev pub Then1 : Type 0
+Then1 = Lts.Then1 (Reads'.Asked, Reads'.Learnt, Reads.Asked, Reads.Learnt, Reads'3.Asked, Reads'3.Learnt) Reads''.Pre Reads''.Post
+
+abbrev pub Else1 : Type 0
+Else1 = Lts.Else1 (Reads'.Asked, Reads'.Learnt, Reads.Asked, Reads.Learnt, Reads'3.Asked, Reads'3.Learnt) Reads''.Pre Reads''.Post
+
+abbrev pub Then2 : Type 0
+Then2 = Lts.Then2 (Reads'.Asked, Reads'.Learnt, Reads.Asked, Reads.Learnt, Reads'3.Asked, Reads'3.Learnt) Reads''.Pre Reads''.Post
+
+abbrev pub Else2 : Type 0
+Else2 = Lts.Else2 (Reads'.Asked, Reads'.Learnt, Reads.Asked, Reads.Learnt, Reads'3.Asked, Reads'3.Learnt) Reads''.Pre Reads''.Post
+
+abbrev pub After-line-count : Type 0
+After-line-count = Lts.After-line-count (Reads'.Asked, Reads'.Learnt, Reads.Asked, Reads.Learnt, Reads'3.Asked, Reads'3.Learnt) Reads''.Pre Reads''.Post
+
+abbrev pub After-write-set-arg : Type 0
+After-write-set-arg = Lts.After-write-set-arg (Reads'.Asked, Reads'.Learnt, Reads.Asked, Reads.Learnt, Reads'3.Asked, Reads'3.Learnt) Reads''.Pre Reads''.Post
+
+abbrev pub After-write-set-arg2 : Type 0
+After-write-set-arg2 = Lts.After-write-set-arg2 (Reads'.Asked, Reads'.Learnt, Reads.Asked, Reads.Learnt, Reads'3.Asked, Reads'3.Learnt) Reads''.Pre Reads''.Post
+
+abbrev pub After-write-set-arg3 : Type 0
+After-write-set-arg3 = Lts.After-write-set-arg3 (Reads'.Asked, Reads'.Learnt, Reads.Asked, Reads.Learnt, Reads'3.Asked, Reads'3.Learnt) Reads''.Pre Reads''.Post
+
+abbrev pub After-write-set : Type 0
+After-write-set = Lts.After-write-set (Reads'.Asked, Reads'.Learnt, Reads.Asked, Reads.Learnt, Reads'3.Asked, Reads'3.Learnt) Reads''.Pre Reads''.Post
+
+abbrev pub After-out : Type 0
+After-out = Lts.After-out (Reads'.Asked, Reads'.Learnt, Reads.Asked, Reads.Learnt, Reads'3.Asked, Reads'3.Learnt) Reads''.Pre Reads''.Post
+
+abbrev pub After-slice-known3 : Type 0
+After-slice-known3 = Lts.After-slice-known3 (Reads'.Asked, Reads'.Learnt, Reads.Asked, Reads.Learnt, Reads'3.Asked, Reads'3.Learnt) Reads''.Pre Reads''.Post
+
+abbrev pub After-lines : Type 0
+After-lines = Lts.After-lines (Reads'.Asked, Reads'.Learnt, Reads.Asked, Reads.Learnt, Reads'3.Asked, Reads'3.Learnt) Reads''.Pre Reads''.Post
+
+abbrev pub After-slice-known4 : Type 0
+After-slice-known4 = Lts.After-slice-known4 (Reads'.Asked, Reads'.Learnt, Reads.Asked, Reads.Learnt, Reads'3.Asked, Reads'3.Learnt) Reads''.Pre Reads''.Post
+
+abbrev pub After-rs : Type 0
+After-rs = Lts.After-rs (Reads'.Asked, Reads'.Learnt, Reads.Asked, Reads.Learnt, Reads'3.Asked, Reads'3.Learnt) Reads''.Pre Reads''.Post
+
+abbrev pub Need-width-requires : Type 0
+Need-width-requires = Lts.Need-width-requires (Reads'.Asked, Reads'.Learnt, Reads.Asked, Reads.Learnt, Reads'3.Asked, Reads'3.Learnt) Reads''.Pre Reads''.Post
+
+abbrev pub Need-add-used : Type 0
+Need-add-used = Lts.Need-add-used (Reads'.Asked, Reads'.Learnt, Reads.Asked, Reads.Learnt, Reads'3.Asked, Reads'3.Learnt) Reads''.Pre Reads''.Post
+
+abbrev pub Need-mul-used : Type 0
+Need-mul-used = Lts.Need-mul-used (Reads'.Asked, Reads'.Learnt, Reads.Asked, Reads.Learnt, Reads'3.Asked, Reads'3.Learnt) Reads''.Pre Reads''.Post
+
+abbrev pub Need-returns : Type 0
+Need-returns = Lts.Need-returns (Reads'.Asked, Reads'.Learnt, Reads.Asked, Reads.Learnt, Reads'3.Asked, Reads'3.Learnt) Reads''.Pre Reads''.Post
+
+abbrev pub Need-returns-2 : Type 0
+Need-returns-2 = Lts.Need-returns-2 (Reads'.Asked, Reads'.Learnt, Reads.Asked, Reads.Learnt, Reads'3.Asked, Reads'3.Learnt) Reads''.Pre Reads''.Post
+
+abbrev pub Need-line-count-requires : Type 0
+Need-line-count-requires = Lts.Need-line-count-requires (Reads'.Asked, Reads'.Learnt, Reads.Asked, Reads.Learnt, Reads'3.Asked, Reads'3.Learnt) Reads''.Pre Reads''.Post
+
+abbrev pub Need-sub-write-set : Type 0
+Need-sub-write-set = Lts.Need-sub-write-set (Reads'.Asked, Reads'.Learnt, Reads.Asked, Reads.Learnt, Reads'3.Asked, Reads'3.Learnt) Reads''.Pre Reads''.Post
+
+abbrev pub Need-part-write-set-start : Type 0
+Need-part-write-set-start = Lts.Need-part-write-set-start (Reads'.Asked, Reads'.Learnt, Reads.Asked, Reads.Learnt, Reads'3.Asked, Reads'3.Learnt) Reads''.Pre Reads''.Post
+
+abbrev pub Need-part-write-set-end : Type 0
+Need-part-write-set-end = Lts.Need-part-write-set-end (Reads'.Asked, Reads'.Learnt, Reads.Asked, Reads.Learnt, Reads'3.Asked, Reads'3.Learnt) Reads''.Pre Reads''.Post
+
+abbrev pub Need-sub-write-set-2 : Type 0
+Need-sub-write-set-2 = Lts.Need-sub-write-set-2 (Reads'.Asked, Reads'.Learnt, Reads.Asked, Reads.Learnt, Reads'3.Asked, Reads'3.Learnt) Reads''.Pre Reads''.Post
+
+abbrev pub Need-part-write-set-start-2 : Type 0
+Need-part-write-set-start-2 = Lts.Need-part-write-set-start-2 (Reads'.Asked, Reads'.Learnt, Reads.Asked, Reads.Learnt, Reads'3.Asked, Reads'3.Learnt) Reads''.Pre Reads''.Post
+
+abbrev pub Need-part-write-set-end-2 : Type 0
+Need-part-write-set-end-2 = Lts.Need-part-write-set-end-2 (Reads'.Asked, Reads'.Learnt, Reads.Asked, Reads.Learnt, Reads'3.Asked, Reads'3.Learnt) Reads''.Pre Reads''.Post
+
+abbrev pub Need-write-set-requires : Type 0
+Need-write-set-requires = Lts.Need-write-set-requires (Reads'.Asked, Reads'.Learnt, Reads.Asked, Reads.Learnt, Reads'3.Asked, Reads'3.Learnt) Reads''.Pre Reads''.Post
+
+abbrev pub Need-same-length : Type 0
+Need-same-length = Lts.Need-same-length (Reads'.Asked, Reads'.Learnt, Reads.Asked, Reads.Learnt, Reads'3.Asked, Reads'3.Learnt) Reads''.Pre Reads''.Post
+
+abbrev pub Need-same-length-2 : Type 0
+Need-same-length-2 = Lts.Need-same-length-2 (Reads'.Asked, Reads'.Learnt, Reads.Asked, Reads.Learnt, Reads'3.Asked, Reads'3.Learnt) Reads''.Pre Reads''.Post
+
+abbrev pub Need-same-length-3 : Type 0
+Need-same-length-3 = Lts.Need-same-length-3 (Reads'.Asked, Reads'.Learnt, Reads.Asked, Reads.Learnt, Reads'3.Asked, Reads'3.Learnt) Reads''.Pre Reads''.Post
+
+abbrev pub Need-returns-3 : Type 0
+Need-returns-3 = Lts.Need-returns-3 (Reads'.Asked, Reads'.Learnt, Reads.Asked, Reads.Learnt, Reads'3.Asked, Reads'3.Learnt) Reads''.Pre Reads''.Post
+
+module _ {M : Type 1} where
+  pub spec : (answer : Need-width-requires) → (answer : Need-add-used) → (answer : Need-mul-used) → (answer : Need-returns) → (answer : Need-returns-2) → (answer : Need-line-count-requires) → (answer
+      : Need-sub-write-set) → (answer : Need-part-write-set-start) → (answer : Need-part-write-set-end) → (answer : Need-sub-write-set-2) → (answer : Need-part-write-set-start-2) → (answer :
+      Need-part-write-set-end-2) → (answer : Need-write-set-requires) → (answer : Need-same-length) → (answer : Need-same-length-2) → (answer : Need-same-length-3) → (answer : Need-returns-3) → Lts.Closed
+      (Reads'.Asked, Reads'.Learnt, Reads.Asked, Reads.Learnt, Reads'3.Asked, Reads'3.Learnt) Reads''.Pre Reads''.Post M
+  spec = λ answer answer' answer'' answer'3 answer'4 answer'5 answer'6 answer'7 answer'8 answer'9 answer'10 answer'11 answer'12 answer'13 answer'14 answer'15 answer'16. Lts.spec (
+    Reads'.Asked,
+    Reads'.Learnt,
+    Reads.Asked,
+    Reads.Learnt,
+    Reads'3.Asked,
+    Reads'3.Learnt,
+  ) Reads''.Pre Reads''.Post answer answer' answer'' answer'3 answer'4 answer'5 answer'6 answer'7 answer'8 answer'9 answer'10
+      answer'11 answer'12 answer'13 answer'14 answer'15 answer'16
+
+  pub close : Lts.Closed (Reads'.Asked, Reads'.Learnt, Reads.Asked, Reads.Learnt, Reads'3.Asked, Reads'3.Learnt) Reads''.Pre Reads''.Post M → Statement.statement M
+  unfolding Code.routine Running.tablesOf
+  close = λ closed 𝓤 H 𝓜 𝓖 𝓡. Written.close 4 Kinds.ps Kinds.r Reads''.Ghost Reads''.requires Reads''.ensures Reads''.pre-read Reads''.Pinned Reads''.Owned Reads''.post-read record {
+    M = M;
+    𝓤 = 𝓤;
+    H =
+        H;
+    𝓜 = 𝓜;
+    𝓖 = 𝓖;
+    𝓡 = 𝓡;
+  } Code.env Key.name Code.function (Code.unfolded 𝓤 H 𝓜 𝓡) (λ κs a g. tt) (λ κs. Reads''.owns κs record { M = M; 𝓤 = 𝓤; H = H; 𝓜 = 𝓜; 𝓖 = 𝓖; 𝓡 = 𝓡 }) (Reads''.passes record {
+    M
+        = M;
+    𝓤 = 𝓤;
+    H = H;
+    𝓜 = 𝓜;
+    𝓖 = 𝓖;
+    𝓡 = 𝓡;
+  }) λ g. closed 𝓤 H (𝓖 .A) (Running.givenOf 𝓤 H 𝓜 𝓖) (Run.Over 𝓤 H 𝓜 𝓖 𝓡 Code.env) (Reads'.known record { M = M; 𝓤 = 𝓤; H = H; 𝓜 = 𝓜; 𝓖 = 𝓖; 𝓡 = 𝓡 } Code.env
+      Symbol'.name Symbol'.routine Code.calls-block·width (Met'.met 𝓤 H 𝓜 𝓖 𝓡)) (Reads.known record { M = M; 𝓤 = 𝓤; H = H; 𝓜 = 𝓜; 𝓖 = 𝓖; 𝓡 = 𝓡 } Code.env Symbol.name Symbol.routine
+      Code.calls-block·tight·line-count (Met.met 𝓤 H 𝓜 𝓖 𝓡)) (Reads'3.known record { M = M; 𝓤 = 𝓤; H = H; 𝓜 = 𝓜; 𝓖 = 𝓖; 𝓡 = 𝓡 } Code.env Symbol''.name Symbol''.routine Code.calls-block·writer·write-set
+      (Met''.met 𝓤 H 𝓜 𝓖 𝓡))

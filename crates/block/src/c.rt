@@ -1,0 +1,149 @@
+// For C: answers as numbers, and the entries.
+ghost use mathlib.Core.Path.{_≡_};
+ghost use lib.ListN.{length};
+ghost use Rattle.block.specs.Images.{regionBegins, wholeOf, imageBegins};
+ghost use Rattle.block.specs.Words.{refusalWords, answerWords, Told, ToldTight, writtenWords, writtenRefusal, ToldWritten};
+use crate::Decoded;
+use crate::Written;
+use crate::decoding::decode;
+use crate::decoding::decode_region;
+use crate::tight::read_tight;
+use crate::writer::write_block;
+use region::Rect;
+use statistics::Record;
+use stream::Refusal;
+
+// The number of a refusal, and the block, the line and the index that it names, 0 where it names none.
+pub fn refusal_words(r: Refusal) -> [usize; 4]
+    ensures { λ w. ⌜ w ≡ refusalWords r ⌝ }
+{
+    match r {
+        Refusal::ShortHeader => [1, 0, 0, 0],
+        Refusal::BadHeader => [2, 0, 0, 0],
+        Refusal::ShortSizes => [3, 0, 0, 0],
+        Refusal::ShortBases(b) => [4, b, 0, 0],
+        Refusal::NoBlock => [5, 0, 0, 0],
+        Refusal::WrongSize => [6, 0, 0, 0],
+        Refusal::OutsideImage => [7, 0, 0, 0],
+        Refusal::Lossy => [8, 0, 0, 0],
+        Refusal::WrongCount => [9, 0, 0, 0],
+        Refusal::ShortScratch => [10, 0, 0, 0],
+        Refusal::AboveLargest(i) => [11, 0, 0, i],
+        Refusal::NotPredicted(i) => [12, 0, 0, i],
+        Refusal::ShortOutput => [13, 0, 0, 0],
+        Refusal::Truncated(b, l) => [14, b, l, 0],
+        Refusal::NotTight(l) => [15, 0, l, 0],
+    }
+}
+
+pub fn answer_words(a: Decoded) -> [usize; 4]
+    ensures { λ w. ⌜ w ≡ answerWords a ⌝ }
+{
+    match a {
+        Decoded::Done => [0; 4],
+        Decoded::Refused(r) => refusal_words(r),
+    }
+}
+
+// `decode_region` for C.
+#[no_mangle]
+pub extern "C" fn fuji_decode_region(
+    d: &[u8],
+    x: usize,
+    y: usize,
+    width: usize,
+    height: usize,
+    tile: &[u8; 36],
+    image: &mut [u16],
+    lines: &mut [u16],
+    rs: &mut [Record],
+    refusal: &mut [usize; 4],
+)
+    ensures { λ _. ⌜ Told (now (d .entry)) (record { x = x; y = y; width = width; height = height }) (now (tile .entry)) (regionBegins (now (d .entry)) (record { x = x; y = y; width = width; height = height }) (length (now (image .entry))) (length (now (lines .entry))) (length (now (rs .entry)))) (now (image .entry)) (now (lines .entry)) (now (rs .entry)) (now (image .exit)) (now (lines .exit)) (now (rs .exit)) (now (refusal .exit)) ⌝ }
+{
+    let r = Rect {
+        x,
+        y,
+        width,
+        height,
+    };
+    let t = *tile;
+    let a = decode_region(d, r, t, image, lines, rs);
+    let w = answer_words(a);
+    *refusal = w;
+}
+
+// `decode` for C.
+#[no_mangle]
+pub extern "C" fn fuji_decode(
+    d: &[u8],
+    width: usize,
+    height: usize,
+    tile: &[u8; 36],
+    image: &mut [u16],
+    lines: &mut [u16],
+    rs: &mut [Record],
+    refusal: &mut [usize; 4],
+)
+    ensures { λ _. ⌜ Told (now (d .entry)) (wholeOf width height) (now (tile .entry)) (imageBegins (now (d .entry)) width height (length (now (image .entry))) (length (now (lines .entry))) (length (now (rs .entry)))) (now (image .entry)) (now (lines .entry)) (now (rs .entry)) (now (image .exit)) (now (lines .exit)) (now (rs .exit)) (now (refusal .exit)) ⌝ }
+{
+    let t = *tile;
+    let a = decode(d, width, height, t, image, lines, rs);
+    let w = answer_words(a);
+    *refusal = w;
+}
+
+// `read_tight` for C.
+#[no_mangle]
+pub extern "C" fn fuji_read_tight(
+    d: &[u8],
+    b: usize,
+    lines: &mut [u16],
+    rs: &mut [Record],
+    refusal: &mut [usize; 4],
+)
+    ensures { λ _. ⌜ ToldTight (now (d .entry)) b (now (lines .entry)) (now (rs .entry)) (now (lines .exit)) (now (rs .exit)) (now (refusal .exit)) ⌝ }
+{
+    let a = read_tight(d, b, lines, rs);
+    let w = answer_words(a);
+    *refusal = w;
+}
+
+// The length of a block that was written, 0 where it is refused.
+fn written_words(a: Written) -> [usize; 1]
+    ensures { λ w. ⌜ w ≡ writtenWords a ⌝ }
+{
+    match a {
+        Written::Length(n) => [n],
+        Written::Refused(r) => [0],
+    }
+}
+
+fn written_refusal(a: Written) -> [usize; 4]
+    ensures { λ w. ⌜ w ≡ writtenRefusal a ⌝ }
+{
+    match a {
+        Written::Length(n) => [0; 4],
+        Written::Refused(r) => refusal_words(r),
+    }
+}
+
+// `write_block` for C.
+#[no_mangle]
+pub extern "C" fn fuji_write_block(
+    header: &[u8],
+    samples: &[u16],
+    out: &mut [u8],
+    lines: &mut [u16],
+    rs: &mut [Record],
+    size: &mut [usize; 1],
+    refusal: &mut [usize; 4],
+)
+    ensures { λ _. ⌜ ToldWritten (now (header .entry)) (now (samples .entry)) (now (out .entry)) (now (lines .entry)) (now (rs .entry)) (now (out .exit)) (now (lines .exit)) (now (rs .exit)) (now (size .exit)) (now (refusal .exit)) ⌝ }
+{
+    let a = write_block(header, samples, out, lines, rs);
+    let n = written_words(a);
+    let w = written_refusal(a);
+    *size = n;
+    *refusal = w;
+}

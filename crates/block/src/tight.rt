@@ -1,0 +1,149 @@
+// The tight reading of a block.
+ghost use mathlib.Core.Path.{_≡_};
+ghost use mathlib.Core.Bool.{true};
+ghost use mathlib.Core.List.{[], _∷_};
+ghost use Prim.Native.Nat.{_+_, _*_, _^_, _<_};
+ghost use lib.ListN.{length};
+ghost use Rattle.lines.specs.ColourLines.{zeroLines};
+ghost use Rattle.map.specs.Places.{widthOf, Fits};
+ghost use Rattle.block.specs.Records.{clearRecords};
+ghost use Rattle.block.specs.Blocks.{IsWalked};
+ghost use Rattle.block.specs.Images.{formOf, bytesOf, withScratch};
+ghost use Rattle.block.specs.TightBlocks.{tightAnswer};
+ghost use Rattle.block.specs.TightReadings.{withBlock, tightBegins, LeftTight};
+ghost use Rattle.stream.specs.Streams.{openOf};
+ghost use Rattle.stream.specs.declared.Parsed.the-variants.{Header};
+use crate::Decoded;
+use crate::Form;
+use crate::Walked;
+use crate::reading::walk;
+use crate::width;
+use map::Part;
+use statistics::Record;
+use stream::FujiHeader;
+use stream::Parsed;
+use stream::Refusal;
+
+// What the tight reading answers for block b, once a walk over its lines has said this.
+fn tight_answer(s: &[u8], form: Form, b: usize, count: usize, got: Walked) -> Decoded
+    requires { ⌜ (length (now s) < 2 ^ 32) × IsWalked form [] (now s) count got ⌝ }
+    ensures { λ r. ⌜ r ≡ tightAnswer form b count (now (s .entry)) ⌝ }
+{
+    let ok = got.ok;
+    if !ok {
+        return Decoded::Refused(Refusal::Truncated(b, got.line));
+    }
+    let tight = got.tight_lines;
+    if tight < count {
+        return Decoded::Refused(Refusal::NotTight(tight));
+    }
+    if bits::is_tail(s, got.at) {
+        return Decoded::Done;
+    }
+    Decoded::Refused(Refusal::NotTight(count))
+}
+
+// A part of no column and no row: a walk to it shows nothing.
+fn no_part() -> Part
+    ensures { λ r. ⌜ Fits r (0 ∷ []) ⌝ }
+{
+    Part {
+        left: 0,
+        right: 0,
+        start: 0,
+        stride: 1,
+        top: 0,
+        bottom: 0,
+    }
+}
+
+pub(crate) fn line_count(h: FujiHeader) -> usize
+    ensures { λ r. ⌜ r ≡ h .lines ⌝ }
+{
+    h.lines as usize
+}
+
+// One walk over block b, which shows nothing.
+fn read_tight_block(
+    d: &[u8],
+    h: FujiHeader,
+    b: usize,
+    lines: &mut [u16],
+    rs: &mut [Record],
+) -> Decoded
+    requires { ⌜ (openOf (now d) ≡ Header h) × (h .lossless ≡ true) ⌝ }
+    requires { ⌜ (length (now lines) ≡ 18 * (widthOf (h .xtrans) + 2)) × (length (now rs) ≡ 336) ⌝ }
+    ensures { λ a. ⌜ a ≡ tightAnswer (formOf h) b (h .lines) (bytesOf (now (d .entry)) b) ⌝ }
+    ensures { λ _. ⌜ (now (lines .exit) ≡ zeroLines (widthOf (h .xtrans))) × (now (rs .exit) ≡ clearRecords) ⌝ }
+{
+    let form = Form {
+        bits: h.bits,
+        xtrans: h.xtrans,
+    };
+    let count = line_count(h);
+    let block = stream::block_bytes(d, b);
+    let bases = stream::base_row(d, b);
+    let places = map::xtrans_places();
+    let mut nothing = [0u16; 1];
+    let got = walk(
+        block,
+        bases,
+        lines,
+        rs,
+        &mut nothing,
+        form,
+        &places,
+        [0u8; 36],
+        no_part(),
+        count,
+    );
+    tight_answer(block, form, b, count, got)
+}
+
+// Of the lent scratch only the first part is used.
+fn read_tight_in(d: &[u8], h: FujiHeader, b: usize, lines: &mut [u16], rs: &mut [Record]) -> Decoded
+    requires { ⌜ (openOf (now d) ≡ Header h) × (h .lossless ≡ true) ⌝ }
+    ensures { λ a. ⌜ LeftTight (now (d .entry)) b (withScratch h (length (now (lines .entry))) (length (now (rs .entry)))) (now (lines .entry)) (now (rs .entry)) (now (lines .exit)) (now (rs .exit)) a ⌝ }
+{
+    let used = 18 * (width(h.xtrans) + 2);
+    if lines.len() < used {
+        return Decoded::Refused(Refusal::ShortScratch);
+    }
+    if rs.len() < 336 {
+        return Decoded::Refused(Refusal::ShortScratch);
+    }
+    read_tight_block(d, h, b, &mut lines[0..used], &mut rs[0..336])
+}
+
+// A block of a stream that opens.
+fn read_tight_opened(
+    d: &[u8],
+    h: FujiHeader,
+    b: usize,
+    lines: &mut [u16],
+    rs: &mut [Record],
+) -> Decoded
+    requires { ⌜ openOf (now d) ≡ Header h ⌝ }
+    ensures { λ a. ⌜ LeftTight (now (d .entry)) b (withBlock h b (length (now (lines .entry))) (length (now (rs .entry)))) (now (lines .entry)) (now (rs .entry)) (now (lines .exit)) (now (rs .exit)) a ⌝ }
+{
+    let blocks = h.blocks as usize;
+    if blocks <= b {
+        return Decoded::Refused(Refusal::NoBlock);
+    }
+    let lossless = h.lossless;
+    if !lossless {
+        return Decoded::Refused(Refusal::Lossy);
+    }
+    read_tight_in(d, h, b, lines, rs)
+}
+
+// The tight reading of block b of the stream d: it accepts exactly the tight blocks, and writes nothing but scratch.
+pub fn read_tight(d: &[u8], b: usize, lines: &mut [u16], rs: &mut [Record]) -> Decoded
+    ensures { λ a. ⌜ LeftTight (now (d .entry)) b (tightBegins (now (d .entry)) b (length (now (lines .entry))) (length (now (rs .entry)))) (now (lines .entry)) (now (rs .entry)) (now (lines .exit)) (now (rs .exit)) a ⌝ }
+{
+    let opened = stream::open(d);
+    match opened {
+        Parsed::Refused(x) => Decoded::Refused(x),
+        Parsed::Header(h) => read_tight_opened(d, h, b, lines, rs),
+    }
+}
