@@ -17,10 +17,11 @@ use Rattle.stream.specs.declared.Refusal.the-variants.{Truncated}
 use Rattle.region.specs.Regions.{blockOf, firstBlock, lastBlock, bottomOf, partIn, linesOf as lineCount, Accepted}
 use Rattle.region.specs.declared.Rect.{Rect}
 use Rattle.region.proofs.RegionLaws.{InColumns, one-block, row-inside}
-use Rattle.block.specs.Blocks.{State, lineAt, startState, readLines, linesOf, rowOf, columnOf, isShown, Shown, shownLines, IsWalked, ReadAll, CutAt, eitherOf}
-use Rattle.block.specs.Images.{formOf, bytesOf, basesOf, linesRead, readIn, lineOf, isDecoded, decodedSample, Pictured, orElse, answerOf}
+use Rattle.block.specs.Blocks.{State, lineAt, startState, readLines, linesOf, rowOf, columnOf, isShown, Shown, shownLines, IsWalked}
+use Rattle.block.specs.Images.{formOf, bytesOf, basesOf, linesRead, readIn, lineOf, isDecoded, decodedSample, Pictured, orElse, walkedAnswer, answerOf}
 use Rattle.block.specs.declared.Form.{Form}
 use Rattle.block.specs.declared.Walked.{Walked}
+use Rattle.block.specs.declared.Walked.the-variants as Walk
 use Rattle.block.specs.declared.Decoded.{Decoded}
 use Rattle.block.specs.declared.Decoded.the-variants.{Done, Refused}
 use Rattle.block.proofs.RunLaws.{runs-stay}
@@ -66,14 +67,10 @@ module _ (F : Form) (bases s : List ℕ) where
       rw f (sym (some-read m z e cut (count - m)))
 
 -- by what a walk answered
-lines-by : (F : Form) (bases s : List ℕ) (count : ℕ) (w : Walked) (ok : Bool) → eitherOf ok (ReadAll F bases s count w) (CutAt F bases s count w)
-    → cond ok count (w .line) ≡ linesRead F bases s count
-lines-by F bases s count w true p = sym (all-read F bases s count (p .end) (p .read))
-lines-by F bases s count w false p = cut-lines F bases s (w .line) count (p .before) (p .inside) (p .read) (p .cut)
-
 pub walked-lines : (F : Form) (bases s : List ℕ) (count : ℕ) (w : Walked) → IsWalked F bases s count w
     → shownLines w count ≡ linesRead F bases s count
-walked-lines F bases s count w p = lines-by F bases s count w (w .ok) p
+walked-lines F bases s count (Walk.Read at tight) p = sym (all-read F bases s count (p .end) (p .read))
+walked-lines F bases s count (Walk.Truncated line) p = cut-lines F bases s line count (p .before) (p .inside) (p .read) (p .cut)
 
 -- ---- the answer
 
@@ -82,15 +79,14 @@ unfolding answerOf
 answer-none d h r b e = let f : b - firstBlock r ≡ 0 = omega arith in rw f
 
 -- a walk that was not cut read all lines, and one that was cut read fewer
-judged-by : (F : Form) (bases s : List ℕ) (count b : ℕ) (w : Walked) (ok : Bool) → eitherOf ok (ReadAll F bases s count w) (CutAt F bases s count w)
-    → cond ok Done (Refused (Truncated b (w .line)))
-    ≡ cond (ltb (linesRead F bases s count) count) (Refused (Truncated b (linesRead F bases s count))) Done
-judged-by F bases s count b w true p =
+judged-by : (F : Form) (bases s : List ℕ) (count b : ℕ) (w : Walked) → IsWalked F bases s count w
+    → walkedAnswer b w ≡ cond (ltb (linesRead F bases s count) count) (Refused (Truncated b (linesRead F bases s count))) Done
+judged-by F bases s count b (Walk.Read at tight) p =
     let e : linesRead F bases s count ≡ count = all-read F bases s count (p .end) (p .read) in
     rw (e, le-ltb count count (omega arith))
-judged-by F bases s count b w false p =
-    let e : w .line ≡ linesRead F bases s count = lines-by F bases s count w false p in
-    rw (← e, lt-ltb (w .line) count (p .inside))
+judged-by F bases s count b (Walk.Truncated line) p =
+    let e : line ≡ linesRead F bases s count = walked-lines F bases s count (Walk.Truncated line) p in
+    rw (← e, lt-ltb line count (p .inside))
 
 answer-step : (d : List ℕ) (h : FujiHeader) (r : Rect) (n b : ℕ) → b ≡ firstBlock r + n → answerOf d h r (suc n)
     ≡ orElse (answerOf d h r n) (cond (ltb (readIn d h r b) (lineCount r)) (Refused (Truncated b (readIn d h r b))) Done)
@@ -99,10 +95,10 @@ answer-step d h r n b e = rw e
 
 pub answer-more : (d : List ℕ) (h : FujiHeader) (r : Rect) (b : ℕ) (w : Walked) (before after : Decoded) → firstBlock r ≤ b
     → before ≡ answerOf d h r (b - firstBlock r) → IsWalked (formOf h) (basesOf d b) (bytesOf d b) (lineCount r) w
-    → after ≡ orElse before (cond (w .ok) Done (Refused (Truncated b (w .line)))) → after ≡ answerOf d h r (b + 1 - firstBlock r)
+    → after ≡ orElse before (walkedAnswer b w) → after ≡ answerOf d h r (b + 1 - firstBlock r)
 answer-more d h r b w before after l e p f =
     let n : b + 1 - firstBlock r ≡ suc (b - firstBlock r) = omega arith in
-    let j = judged-by (formOf h) (basesOf d b) (bytesOf d b) (lineCount r) b w (w .ok) p in
+    let j = judged-by (formOf h) (basesOf d b) (bytesOf d b) (lineCount r) b w p in
     f ∙ rw (n, answer-step d h r (b - firstBlock r) b (omega arith), j, e)
 
 -- ---- tests

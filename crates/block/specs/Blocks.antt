@@ -12,13 +12,16 @@ use Rattle.statistics.specs.declared.Record.{Record}
 use Rattle.pass.specs.Steps.{planOf}
 use Rattle.pass.specs.Readings.{Reading, readPass, andThen, noRecord}
 use Rattle.pass.specs.declared.Plan.{Plan}
+use Rattle.pass.specs.declared.Quantisers.{Quantisers}
 use Rattle.lines.specs.ColourLines.{zeroLines, guarded, turned}
 use Rattle.map.specs.Places.{widthOf, emittedSample}
 use Rattle.map.specs.declared.Part.{Part}
 use Rattle.block.specs.Records.{startRecords, restartedMain, baseOf, isRestarted, setOf, putSet}
 use Rattle.block.specs.declared.Form.{Form}
 use Rattle.block.specs.declared.Lined.{Lined}
+use Rattle.block.specs.declared.Lined.the-variants as Line
 use Rattle.block.specs.declared.Walked.{Walked}
+use Rattle.block.specs.declared.Walked.the-variants as Walk
 
 -- what reading a block goes on: the colour lines, the records, the bit position, and whether all codes so far were tight
 pub record State : Type 0 where
@@ -139,31 +142,33 @@ AllInRange l = (j : ℕ) → j < 336 → InRange (getD l j noRecord)
 
 -- the lines that go to the image: all of them, or those before the truncated one
 abbrev pub shownLines : Walked → ℕ → ℕ
-shownLines r count = cond (r .ok) count (r .line)
+shownLines (Walk.Read at tight) count = count
+shownLines (Walk.Truncated line) count = line
 
 -- what a line hands back. Where it is truncated the colour lines and the records are left free
 abbrev pub IsLined : Option State → List ℕ → List Record → Lined → Type 0
-IsLined none lines records r = r .ok ≡ false
-IsLined (some z) lines records r =
-    (r .ok ≡ true) × (lines ≡ z .lines) × (records ≡ z .records) × (r .at ≡ z .at) × (r .tight ≡ z .tight)
+IsLined none lines records r = r ≡ Line.Truncated
+IsLined (some z) lines records r = (r ≡ Line.Read (z .at) (z .tight)) × (lines ≡ z .lines) × (records ≡ z .records)
+
+-- a line with these quantisers, from this bit on, with these lines and records before it and those after it
+abbrev pub LineRead : Form → Quantisers → List ℕ → BitPosition → Bool → (lines : List ℕ) → List Record → (lines' : List ℕ) → List Record → Lined → Type 0
+LineRead F Q s from tight lines records lines' records' r =
+    IsLined (readLine F (Q .base) s (record { lines = lines; records = records; at = from; tight = tight })) lines' records' r
 
 -- what a walk over the first `count` lines of a block says: all were read, up to this bit, and so many had only tight codes
-pub record ReadAll (F : Form) (bases s : List ℕ) (count : ℕ) (r : Walked) : Type 0 where
+pub record ReadAll (F : Form) (bases s : List ℕ) (count : ℕ) (at : BitPosition) (tight : ℕ) : Type 0 where
   pub end : State
   pub read : readLines F bases s count ≡ some end
-  pub at : r .at ≡ end .at
-  pub tight : r .«tight_lines» ≡ tightLines F bases s count
+  pub at-end : at ≡ end .at
+  pub tight-is : tight ≡ tightLines F bases s count
 
 -- or this line is the first that is truncated
-pub record CutAt (F : Form) (bases s : List ℕ) (count : ℕ) (r : Walked) : Type 0 where
+pub record CutAt (F : Form) (bases s : List ℕ) (count line : ℕ) : Type 0 where
   pub before : State
-  pub inside : suc (r .line) ≤ count
-  pub read : readLines F bases s (r .line) ≡ some before
-  pub cut : readLines F bases s (suc (r .line)) ≡ none
-
-abbrev pub eitherOf : Bool → Type 0 → Type 0 → Type 0
-eitherOf true A B = A
-eitherOf false A B = B
+  pub inside : suc line ≤ count
+  pub read : readLines F bases s line ≡ some before
+  pub cut : readLines F bases s (suc line) ≡ none
 
 abbrev pub IsWalked : Form → List ℕ → List ℕ → ℕ → Walked → Type 0
-IsWalked F bases s count r = eitherOf (r .ok) (ReadAll F bases s count r) (CutAt F bases s count r)
+IsWalked F bases s count (Walk.Read at tight) = ReadAll F bases s count at tight
+IsWalked F bases s count (Walk.Truncated line) = CutAt F bases s count line

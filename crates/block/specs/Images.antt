@@ -22,6 +22,8 @@ use Rattle.region.specs.declared.Checked.the-variants as Check
 use Rattle.block.specs.Records.{clearRecords}
 use Rattle.block.specs.Blocks.{State, readLines, linesOf}
 use Rattle.block.specs.declared.Form.{Form}
+use Rattle.block.specs.declared.Walked.{Walked}
+use Rattle.block.specs.declared.Walked.the-variants as Walk
 use Rattle.block.specs.declared.Decoded.{Decoded}
 use Rattle.block.specs.declared.Decoded.the-variants.{Done, Refused}
 
@@ -78,6 +80,11 @@ pub record Pictured (d : List ℕ) (h : FujiHeader) (r : Rect) (tile : List ℕ)
 abbrev pub orElse : Decoded → Decoded → Decoded
 orElse Done x = x
 orElse (Refused r) x = Refused r
+
+-- what a walk over block b answers
+abbrev pub walkedAnswer : ℕ → Walked → Decoded
+walkedAnswer b (Walk.Read at tight) = Done
+walkedAnswer b (Walk.Truncated line) = Refused (Truncated b line)
 
 -- refusal 14 of the lowest failing block among n, from the region's first on, with its line
 unfoldable pub answerOf : List ℕ → FujiHeader → Rect → ℕ → Decoded

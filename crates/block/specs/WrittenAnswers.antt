@@ -17,11 +17,12 @@ use Rattle.stream.specs.declared.Parsed.the-variants as Parsing
 use Rattle.stream.specs.declared.Refusal.the-variants.{Lossy, WrongCount, AboveLargest, NotPredicted, ShortOutput}
 use Rattle.writing.specs.Sets.{setSize}
 use Rattle.writing.specs.Puts.{putIf}
+use Rattle.writing.specs.declared.Put.{Put}
+use Rattle.writing.specs.declared.Put.the-variants.{At, Wrong}
 use Rattle.block.specs.Records.{clearRecords}
 use Rattle.block.specs.Images.{formOf, Beginning, refused, nothing, reading, withScratch}
 use Rattle.block.specs.WrittenBlocks.{WriteState, repeats, writePassAt, writeLines, tightBlock}
 use Rattle.block.specs.declared.Form.{Form}
-use Rattle.block.specs.declared.LinePut.{LinePut}
 use Rattle.block.specs.declared.Written.{Written}
 use Rattle.block.specs.declared.Written.the-variants.{Length, Refused}
 
@@ -33,20 +34,20 @@ passesFrom F t n i lines rs = repeats (writePassAt F t n) i (record { lines = li
 
 -- lines that were written up to the state z, from no bits on: the position after their bits, or the first interpolated sample that is not its
 -- prediction; then lines and records are left free, and so is the output where it is stored
-abbrev pub IsLinePut : Option ℕ → WriteState → ℕ → Bool → (out lines' : List ℕ) → List Record → (out' : List ℕ) → LinePut → Type 0
+abbrev pub IsLinePut : Option ℕ → WriteState → ℕ → Bool → (out lines' : List ℕ) → List Record → (out' : List ℕ) → Put → Type 0
 IsLinePut none z from store out lines' rs' out' r =
-    (r .ok ≡ true) × (lines' ≡ z .lines) × (rs' ≡ z .records) × (r .at ≡ record { 0 = from + length (z .bits) }) × (out' ≡ putIf store out from (z .bits))
-IsLinePut (some j) z from store out lines' rs' out' r = (r .ok ≡ false) × (r .wrong ≡ j) × (store ≡ false → out' ≡ out)
+    (r ≡ At (record { 0 = from + length (z .bits) })) × (lines' ≡ z .lines) × (rs' ≡ z .records) × (out' ≡ putIf store out from (z .bits))
+IsLinePut (some j) z from store out lines' rs' out' r = (r ≡ Wrong j) × (store ≡ false → out' ≡ out)
 
-pub record LineWritten (z : WriteState) (from : ℕ) (store : Bool) (out lines' : List ℕ) (rs' : List Record) (out' : List ℕ) (r : LinePut) : Type 0 where
+pub record LineWritten (z : WriteState) (from : ℕ) (store : Bool) (out lines' : List ℕ) (rs' : List Record) (out' : List ℕ) (r : Put) : Type 0 where
   pub are : IsLinePut (z .wrong) z from store out lines' rs' out' r
 
 -- the same of all lines, whose scratch counts no more
-abbrev pub IsSetPut : Option ℕ → WriteState → Bool → (out out' : List ℕ) → LinePut → Type 0
-IsSetPut none z store out out' r = (r .ok ≡ true) × (r .at ≡ record { 0 = length (z .bits) }) × (out' ≡ putIf store out 0 (z .bits))
-IsSetPut (some j) z store out out' r = (r .ok ≡ false) × (r .wrong ≡ j) × (store ≡ false → out' ≡ out)
+abbrev pub IsSetPut : Option ℕ → WriteState → Bool → (out out' : List ℕ) → Put → Type 0
+IsSetPut none z store out out' r = (r ≡ At (record { 0 = length (z .bits) })) × (out' ≡ putIf store out 0 (z .bits))
+IsSetPut (some j) z store out out' r = (r ≡ Wrong j) × (store ≡ false → out' ≡ out)
 
-pub record SetWritten (z : WriteState) (store : Bool) (out out' : List ℕ) (r : LinePut) : Type 0 where
+pub record SetWritten (z : WriteState) (store : Bool) (out out' : List ℕ) (r : Put) : Type 0 where
   pub are : IsSetPut (z .wrong) z store out out' r
 
 -- ---- the answer

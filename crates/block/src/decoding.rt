@@ -1,19 +1,17 @@
 // Decoding: a region, or the whole picture, block by block.
 ghost use mathlib.Core.Path.{_≡_};
-ghost use mathlib.Core.Bool.{cond};
 ghost use Prim.Native.Nat.{_+_, _-_, _*_};
 ghost use lib.ListN.{length};
 ghost use Rattle.lines.specs.ColourLines.{zeroLines};
 ghost use Rattle.map.specs.Places.{widthOf};
 ghost use Rattle.block.specs.Records.{clearRecords};
-ghost use Rattle.block.specs.Images.{Pictured, orElse, answerOf, withScratch, withRegion, regionBegins, wholeOf, isWhole, withSize, imageBegins, Left, LeftImage};
-ghost use Rattle.block.specs.declared.Decoded.the-variants.{Done, Refused};
+ghost use Rattle.block.specs.Images.{Pictured, orElse, walkedAnswer, answerOf, withScratch, withRegion, regionBegins, wholeOf, isWhole, withSize, imageBegins, Left, LeftImage};
 ghost use Rattle.stream.specs.Streams.{openOf};
 ghost use Rattle.stream.specs.declared.Parsed.the-variants.{Header};
-ghost use Rattle.stream.specs.declared.Refusal.the-variants.{Truncated};
 ghost use Rattle.region.specs.Regions.{checkedOf, spanOf, firstBlock, lastBlock, Accepted};
 use crate::Decoded;
 use crate::Form;
+use crate::Walked;
 use crate::reading::walk;
 use crate::records::cleared;
 use crate::width;
@@ -26,18 +24,15 @@ use stream::Parsed;
 use stream::Refusal;
 
 // The answer after block b: that of the blocks before it, if one of them failed.
-fn judged(before: Decoded, b: usize, ok: bool, line: usize) -> Decoded
-    ensures { λ r. ⌜ r ≡ orElse before (cond ok Done (Refused (Truncated b line))) ⌝ }
+fn judged(before: Decoded, b: usize, got: Walked) -> Decoded
+    ensures { λ r. ⌜ r ≡ orElse before (walkedAnswer b got) ⌝ }
 {
     match before {
         Decoded::Refused(r) => Decoded::Refused(r),
-        Decoded::Done => {
-            if ok {
-                Decoded::Done
-            } else {
-                Decoded::Refused(Refusal::Truncated(b, line))
-            }
-        }
+        Decoded::Done => match got {
+            Walked::Read(_, _) => Decoded::Done,
+            Walked::Truncated(n) => Decoded::Refused(Refusal::Truncated(b, n)),
+        },
     }
 }
 
@@ -82,7 +77,7 @@ fn decode_blocks(
             part,
             count,
         );
-        answer = judged(answer, b, got.ok, got.line);
+        answer = judged(answer, b, got);
         b = b + 1;
     }
     answer

@@ -25,33 +25,23 @@ pub struct Form {
     pub xtrans: bool,
 }
 
-// A line that was read, with the position after it; or that it is truncated.
-pub struct Lined {
-    pub ok: bool,
-    pub tight: bool,
-    pub at: BitPosition,
+// A line that was read, with the position after it, and whether all codes up to there were tight; or a line that is truncated.
+pub enum Lined {
+    Read(BitPosition, bool),
+    Truncated,
 }
 
 // All lines were read, up to this bit, and so many of them, from the first on, have only tight codes; or this line is the first that is
 // truncated.
-pub struct Walked {
-    pub ok: bool,
-    pub line: usize,
-    pub at: BitPosition,
-    pub tight_lines: usize,
+pub enum Walked {
+    Read(BitPosition, usize),
+    Truncated(usize),
 }
 
 // What decoding answers.
 pub enum Decoded {
     Done,
     Refused(Refusal),
-}
-
-// Lines that were written, with the position after them; or the index of an interpolated sample that is not its prediction.
-pub struct LinePut {
-    pub ok: bool,
-    pub wrong: usize,
-    pub at: BitPosition,
 }
 
 // What the writer answers: the length of the block, or a refusal.

@@ -8,7 +8,7 @@ ghost use Rattle.lines.specs.ColourLines.{zeroLines};
 ghost use Rattle.map.specs.Places.{widthOf, ArePlaces, Fits};
 ghost use Rattle.pass.specs.Readings.{quantisersOf, Depth};
 ghost use Rattle.block.specs.Records.{baseOf, isRestarted, clearRecords};
-ghost use Rattle.block.specs.Blocks.{AllInRange, readLine, IsLined, Shown, shownLines, IsWalked};
+ghost use Rattle.block.specs.Blocks.{AllInRange, LineRead, Shown, shownLines, IsWalked};
 use crate::Form;
 use crate::Lined;
 use crate::Walked;
@@ -101,7 +101,8 @@ fn line(
     requires { ⌜ (length (now block) < 2 ^ 32) × ((length (now lines) ≡ 18 * (widthOf (form .xtrans) + 2)) × (length (now rs) ≡ 336)) ⌝ }
     requires { ⌜ Depth (form .bits) × ((qs .base < 256) × (qs ≡ quantisersOf (form .bits) (qs .base))) ⌝ }
     requires { ⌜ AllInRange (now rs) ⌝ }
-    ensures { λ r. ⌜ IsLined (readLine form (qs .base) (now (block .entry)) (record { lines = now (lines .entry); records = now (rs .entry); at = from; tight = «tight_before» })) (now (lines .exit)) (now (rs .exit)) r × AllInRange (now (rs .exit)) ⌝ }
+    ensures { λ r. ⌜ LineRead form qs (now (block .entry)) from «tight_before» (now (lines .entry)) (now (rs .entry)) (now (lines .exit)) (now (rs .exit)) r ⌝ }
+    ensures { λ _. ⌜ AllInRange (now (rs .exit)) ⌝ }
 {
     let bits = form.bits;
     let xtrans = form.xtrans;
@@ -117,11 +118,7 @@ fn line(
         let done = pass::pass(block, at, tight, lines, set, w, p, qs, bits);
         let ok = done.ok;
         if !ok {
-            return Lined {
-                ok: false,
-                tight,
-                at,
-            };
+            return Lined::Truncated;
         }
         let new = done.set;
         store_set(rs, p.set, new);
@@ -130,17 +127,9 @@ fn line(
         i = i + 1;
     }
     if is_past(block, at) {
-        return Lined {
-            ok: false,
-            tight,
-            at,
-        };
+        return Lined::Truncated;
     }
-    Lined {
-        ok: true,
-        tight,
-        at,
-    }
+    Lined::Read(at, tight)
 }
 
 // The first `count` lines of a block, each put into the image as soon as it is read. Scratch is left as it is then.
@@ -159,7 +148,8 @@ fn read_lines(
     requires { ⌜ (length (now block) < 2 ^ 32) × ((length (now lines) ≡ 18 * (widthOf (form .xtrans) + 2)) × (length (now rs) ≡ 336)) ⌝ }
     requires { ⌜ Depth (form .bits) × (count < 2 ^ 16) ⌝ }
     requires { ⌜ ArePlaces (now places) × Fits part (now image) ⌝ }
-    ensures { λ r. ⌜ IsWalked form (now (bases .entry)) (now (block .entry)) count r × Shown form (now (bases .entry)) (now (block .entry)) tile part (shownLines r count) (now (image .entry)) (now (image .exit)) ⌝ }
+    ensures { λ r. ⌜ IsWalked form (now (bases .entry)) (now (block .entry)) count r ⌝ }
+    ensures { λ r. ⌜ Shown form (now (bases .entry)) (now (block .entry)) tile part (shownLines r count) (now (image .entry)) (now (image .exit)) ⌝ }
 {
     let bits = form.bits;
     let xtrans = form.xtrans;
@@ -175,27 +165,16 @@ fn read_lines(
         let base = base_of(bases, n);
         restart(rs, bits, base, is_restarted(bases, n));
         let got = line(block, at, tight, lines, rs, form, quantisers_of(bits, base));
-        let ok = got.ok;
-        if !ok {
-            return Walked {
-                ok: false,
-                line: n,
-                at,
-                tight_lines,
-            };
-        }
-        at = got.at;
-        tight = got.tight;
+        let Lined::Read(after, all_tight) = got else {
+            return Walked::Truncated(n);
+        };
+        at = after;
+        tight = all_tight;
         tight_lines = tight_count(tight_lines, n, tight);
         map::emit_line(lines, image, w, xtrans, places, tile, part, n);
         n = n + 1;
     }
-    Walked {
-        ok: true,
-        line: count,
-        at,
-        tight_lines,
-    }
+    Walked::Read(at, tight_lines)
 }
 
 // A walk over the first `count` lines of a block: the one reading that decoding and the tight reading share. Lines that are read go to the
@@ -215,7 +194,8 @@ pub(crate) fn walk(
     requires { ⌜ (length (now block) < 2 ^ 32) × ((length (now lines) ≡ 18 * (widthOf (form .xtrans) + 2)) × (length (now rs) ≡ 336)) ⌝ }
     requires { ⌜ Depth (form .bits) × (count < 2 ^ 16) ⌝ }
     requires { ⌜ ArePlaces (now places) × Fits part (now image) ⌝ }
-    ensures { λ r. ⌜ IsWalked form (now (bases .entry)) (now (block .entry)) count r × Shown form (now (bases .entry)) (now (block .entry)) tile part (shownLines r count) (now (image .entry)) (now (image .exit)) ⌝ }
+    ensures { λ r. ⌜ IsWalked form (now (bases .entry)) (now (block .entry)) count r ⌝ }
+    ensures { λ r. ⌜ Shown form (now (bases .entry)) (now (block .entry)) tile part (shownLines r count) (now (image .entry)) (now (image .exit)) ⌝ }
     ensures { λ _. ⌜ (now (lines .exit) ≡ zeroLines (widthOf (form .xtrans))) × (now (rs .exit) ≡ clearRecords) ⌝ }
 {
     let walked = read_lines(
@@ -247,7 +227,8 @@ pub fn walk_alone(
 ) -> Walked
     requires { ⌜ (length (now block) < 2 ^ 32) × (Depth (form .bits) × (count < 2 ^ 16)) ⌝ }
     requires { ⌜ Fits part (now image) ⌝ }
-    ensures { λ r. ⌜ IsWalked form (now (bases .entry)) (now (block .entry)) count r × Shown form (now (bases .entry)) (now (block .entry)) tile part (shownLines r count) (now (image .entry)) (now (image .exit)) ⌝ }
+    ensures { λ r. ⌜ IsWalked form (now (bases .entry)) (now (block .entry)) count r ⌝ }
+    ensures { λ r. ⌜ Shown form (now (bases .entry)) (now (block .entry)) tile part (shownLines r count) (now (image .entry)) (now (image .exit)) ⌝ }
 {
     let places = map::xtrans_places();
     let mut lines = [0u16; 9252];

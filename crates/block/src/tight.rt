@@ -29,18 +29,18 @@ fn tight_answer(s: &[u8], form: Form, b: usize, count: usize, got: Walked) -> De
     requires { ⌜ (length (now s) < 2 ^ 32) × IsWalked form [] (now s) count got ⌝ }
     ensures { λ r. ⌜ r ≡ tightAnswer form b count (now (s .entry)) ⌝ }
 {
-    let ok = got.ok;
-    if !ok {
-        return Decoded::Refused(Refusal::Truncated(b, got.line));
+    match got {
+        Walked::Truncated(n) => Decoded::Refused(Refusal::Truncated(b, n)),
+        Walked::Read(at, tight) => {
+            if tight < count {
+                return Decoded::Refused(Refusal::NotTight(tight));
+            }
+            if bits::is_tail(s, at) {
+                return Decoded::Done;
+            }
+            Decoded::Refused(Refusal::NotTight(count))
+        }
     }
-    let tight = got.tight_lines;
-    if tight < count {
-        return Decoded::Refused(Refusal::NotTight(tight));
-    }
-    if bits::is_tail(s, got.at) {
-        return Decoded::Done;
-    }
-    Decoded::Refused(Refusal::NotTight(count))
 }
 
 // A part of no column and no row: a walk to it shows nothing.

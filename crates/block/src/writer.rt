@@ -19,7 +19,6 @@ ghost use Rattle.block.specs.WrittenBlocks.{writeLines, tightBlock};
 ghost use Rattle.block.specs.WrittenAnswers.{passesFrom, LineWritten, SetWritten, firstAbove, measuredAnswer, writtenAnswer, writtenOut, withSet, writingBegins, LeftWritten};
 ghost use Rattle.stream.specs.Headers.{Ruled};
 use crate::Form;
-use crate::LinePut;
 use crate::Written;
 use crate::records::clear_records;
 use crate::records::load_set;
@@ -34,6 +33,7 @@ use statistics::Record;
 use stream::FujiHeader;
 use stream::Parsed;
 use stream::Refusal;
+use writing::Put;
 
 fn widened(x: u16) -> u32
     ensures { λ r. ⌜ r ≡ x ⌝ }
@@ -87,12 +87,13 @@ fn write_line(
     lines: &mut [u16],
     rs: &mut [Record],
     form: Form,
-) -> LinePut
+) -> Put
     requires { ⌜ (n < 2 ^ 16) × (((n + 1) * lineSize (widthOf (form .xtrans)) ≤ length (now samples)) × Within (largest (form .bits)) (now samples)) ⌝ }
     requires { ⌜ Depth (form .bits) × ((length (now lines) ≡ 18 * (widthOf (form .xtrans) + 2)) × (length (now rs) ≡ 336)) ⌝ }
     requires { ⌜ Within (largest (form .bits)) (now lines) × AllInRange (now rs) ⌝ }
     requires { ⌜ (from .0 < 2 ^ 58) × Room store (now out) (from .0) ((passesFrom form (now samples) n 6 (now lines) (now rs)) .bits) ⌝ }
-    ensures { λ r. ⌜ LineWritten (passesFrom form (now (samples .entry)) n 6 (now (lines .entry)) (now (rs .entry))) (from .0) store (now (out .entry)) (now (lines .exit)) (now (rs .exit)) (now (out .exit)) r × AllInRange (now (rs .exit)) ⌝ }
+    ensures { λ r. ⌜ LineWritten (passesFrom form (now (samples .entry)) n 6 (now (lines .entry)) (now (rs .entry))) (from .0) store (now (out .entry)) (now (lines .exit)) (now (rs .exit)) (now (out .exit)) r ⌝ }
+    ensures { λ _. ⌜ AllInRange (now (rs .exit)) ⌝ }
 {
     let bits = form.bits;
     let xtrans = form.xtrans;
@@ -123,22 +124,14 @@ fn write_line(
         );
         let ok = done.ok;
         if !ok {
-            return LinePut {
-                ok: false,
-                wrong: done.wrong,
-                at,
-            };
+            return Put::Wrong(done.wrong);
         }
         let new = done.set;
         store_set(rs, p.set, new);
         at = done.at;
         i = i + 1;
     }
-    LinePut {
-        ok: true,
-        wrong: 0,
-        at,
-    }
+    Put::At(at)
 }
 
 // All lines of a set. Scratch is left as it is then.
@@ -150,7 +143,7 @@ fn write_lines(
     rs: &mut [Record],
     form: Form,
     count: usize,
-) -> LinePut
+) -> Put
     requires { ⌜ (count < 2 ^ 16) × ((length (now samples) ≡ setSize (widthOf (form .xtrans)) count) × Within (largest (form .bits)) (now samples)) ⌝ }
     requires { ⌜ Depth (form .bits) × ((length (now lines) ≡ 18 * (widthOf (form .xtrans) + 2)) × (length (now rs) ≡ 336)) ⌝ }
     requires { ⌜ Room store (now out) 0 ((writeLines form (now samples) count) .bits) ⌝ }
@@ -166,22 +159,13 @@ fn write_lines(
         lines::turn(lines, w);
         restart(rs, bits, 0, n == 0);
         let got = write_line(samples, n, out, store, at, lines, rs, form);
-        let ok = got.ok;
-        if !ok {
-            return LinePut {
-                ok: false,
-                wrong: got.wrong,
-                at,
-            };
-        }
-        at = got.at;
+        let Put::At(after) = got else {
+            return got;
+        };
+        at = after;
         n = n + 1;
     }
-    LinePut {
-        ok: true,
-        wrong: 0,
-        at,
-    }
+    Put::At(at)
 }
 
 // A walk over a set: its bits are counted, or stored too. Scratch is cleared afterwards, whatever it held before.
@@ -193,7 +177,7 @@ fn write_walk(
     rs: &mut [Record],
     form: Form,
     count: usize,
-) -> LinePut
+) -> Put
     requires { ⌜ (count < 2 ^ 16) × ((length (now samples) ≡ setSize (widthOf (form .xtrans)) count) × Within (largest (form .bits)) (now samples)) ⌝ }
     requires { ⌜ Depth (form .bits) × ((length (now lines) ≡ 18 * (widthOf (form .xtrans) + 2)) × (length (now rs) ≡ 336)) ⌝ }
     requires { ⌜ Room store (now out) 0 ((writeLines form (now samples) count) .bits) ⌝ }
@@ -221,16 +205,17 @@ fn write_measured(
     ensures { λ _. ⌜ (now (lines .exit) ≡ zeroLines (widthOf (form .xtrans))) × (now (rs .exit) ≡ clearRecords) ⌝ }
 {
     let measured = write_walk(samples, out, false, lines, rs, form, count);
-    let ok = measured.ok;
-    if !ok {
-        return Written::Refused(Refusal::NotPredicted(measured.wrong));
+    match measured {
+        Put::Wrong(j) => Written::Refused(Refusal::NotPredicted(j)),
+        Put::At(end) => {
+            let needed = bytes_for(end);
+            if is_short(out.len(), needed) {
+                return Written::Refused(Refusal::ShortOutput);
+            }
+            write_walk(samples, out, true, lines, rs, form, count);
+            Written::Length(needed)
+        }
     }
-    let needed = bytes_for(measured.at);
-    if is_short(out.len(), needed) {
-        return Written::Refused(Refusal::ShortOutput);
-    }
-    write_walk(samples, out, true, lines, rs, form, count);
-    Written::Length(needed)
 }
 
 // A set of the right size. Samples are looked at first, all of them.

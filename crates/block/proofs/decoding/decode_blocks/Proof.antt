@@ -119,19 +119,19 @@ loop-again c =
     let u : l .loop .b ≤ lastBlock (s .args .r) = omega (arith, i .loop-test .taken, v .2) in
     let es = p .before .before .block-bytes .ensures .0 in
     let eb = p .before .base-row .ensures in
-    let walked = w .walk .ensures .0 .0 in
+    let walked = w .walk .ensures .0 in
     let is = same (s .args .d .now) (s .args .tile) (s .args .h) (s .args .r) 0 (l .loop .b) _ _ _ (p .part .result) (w .walk .result) es eb (v .3) walked in (
       omega (arith, v .0),
       omega (arith, i .loop-test .taken),
       v .2,
       v .3,
       v .4,
-      zero-length _ _ (w .walk .ensures .1 .0),
-      clear-length _ (w .walk .ensures .1 .1),
+      zero-length _ _ (w .walk .ensures .1 .1 .0),
+      clear-length _ (w .walk .ensures .1 .1 .1),
       v .7,
       answer-more (s .args .d .now) (s .args .h) (s .args .r) (l .loop .b) (w .walk .result) _ _ (v .0) (v .8) is (c .judged .ensures),
-      image-more (s .args .d .now) (s .args .tile) (s .args .h) (s .args .r) _ (l .loop .b) _ _ _ (p .part .result) (w .walk .result) es eb (v .3) walked _ _ _ (v .4) (v .0) u (p .part .ensures) (v .9) (w .walk .ensures .0 .1),
-      λ k. (w .walk .ensures .1 .0, w .walk .ensures .1 .1),
+      image-more (s .args .d .now) (s .args .tile) (s .args .h) (s .args .r) _ (l .loop .b) _ _ _ (p .part .result) (w .walk .result) es eb (v .3) walked _ _ _ (v .4) (v .0) u (p .part .ensures) (v .9) (w .walk .ensures .1 .0),
+      λ k. (w .walk .ensures .1 .1 .0, w .walk .ensures .1 .1 .1),
     )
 
 -- all blocks were read

@@ -156,7 +156,7 @@ returns-3 : tie.Need-returns-3 Inv-loop μ-loop
 returns-3 c =
     let l = c .before .before .before .loop in
     let past = sym (c .before .is-past .ensures) ∙ c .if2 .left in
-    (rw (line-read _ _ _ (l .i) _ _ (omega arith) (l .inv .0) (l .inv .5) past) (refl, refl, refl, refl, refl), l .inv .4)
+    (rw (line-read _ _ _ (l .i) _ _ (omega arith) (l .inv .0) (l .inv .5) past) (refl, refl, refl), l .inv .4)
 
 pub line-spec : {M : Type 1} → statement M
 line-spec =

@@ -1,7 +1,6 @@
 -- `block::reading::read_lines` meets its contract: n lines have been read, and the image shows them. Assumes nothing.
 mod derived
 use borrow.Author.Needs.{needs}
-use borrow.Author.Tests.{not-true, not-false}
 use mathlib.Core.Option.{some}
 use mathlib.Core.Path.{_≡_, refl, ap, _∙_}
 use Prim.Native.Nat.{_+_, _-_, _*_, _≤_}
@@ -44,7 +43,10 @@ abbrev looped : tie.After-restart Inv-loop μ-loop → tie.At-loop Inv-loop μ-l
 looped r = turned r .before .before .before
 
 abbrev lined : tie.After-slice-known6 Inv-loop μ-loop → tie.After-line Inv-loop μ-loop
-lined c = c .before .before .before .before .before .before .before .before .before .before .before
+lined c = c .before .before .before .before .before .before .before .before .before .before .before .before
+
+abbrev cut : tie.After-enum-told Inv-loop μ-loop → tie.After-line Inv-loop μ-loop
+cut c = c .before .before .before .before .before
 
 loop-holds : tie.Need-loop-holds Inv-loop μ-loop
 loop-holds c =
@@ -83,41 +85,41 @@ line-requires c κs =
 
 same-length : tie.Need-same-length Inv-loop μ-loop
 same-length c =
-    let d = c .before .before .before .before in
+    let d = cut c in
     let r = restarted d in
     let l = looped r in
     omega (arith, d .line .kept, turned r .turn .kept, l .loop .inv .1 .0, l .loop .inv .2, start l .pre .0)
 
 same-length-2 : tie.Need-same-length-2 Inv-loop μ-loop
 same-length-2 c =
-    let d = c .before .before .before .before in
+    let d = cut c in
     let r = restarted d in
     let l = looped r in
     omega (arith, d .line .kept, r .restart .kept, l .loop .inv .3, start l .pre .0)
 
 same-length-3 : tie.Need-same-length-3 Inv-loop μ-loop
-same-length-3 c = looped (restarted (c .before .before .before .before)) .loop .inv .6 .1 .kept
+same-length-3 c = looped (restarted (cut c)) .loop .inv .6 .1 .kept
 
 returns : tie.Need-returns Inv-loop μ-loop
 returns c =
-    let d = c .before .before .before .before in
+    let d = cut c in
     let r = restarted d in
     let l = looped r .loop in (
       cut-at _ _ _ _ _ _ (turned r .before .before .loop-test .taken) (l .inv .7)
           (line-cut _ _ _ _ _ _ _ _ _ _ _ _ _ _ (l .inv .7) (l .inv .1 .0) (based r .base-of2 .ensures .0) (r .before .is-restarted .ensures)
           (d .before .quantisers-of .ensures) (turned r .turn .ensures) (r .restart .ensures) _ _ (d .line .result) (d .line .ensures .0)
-          (not-true _ (c .if1 .taken))),
+          (c .enum-told .given .1)),
       l .inv .6 .1,
     )
 
 tight-count-requires : tie.Need-tight-count-requires Inv-loop μ-loop
 tight-count-requires c κs =
-    let r = restarted (c .before .before .before .before .before) in
+    let r = restarted (c .before .before .before .before .before .before) in
     (looped r .loop .inv .5 .1, omega (arith, turned r .before .before .loop-test .taken, start (looped r) .pre .1 .0 .1))
 
 emit-line-requires : tie.Need-emit-line-requires Inv-loop μ-loop
 emit-line-requires c κs =
-    let d = c .before .before .before .before .before .before .before .before in
+    let d = c .before .before .before .before .before .before .before .before .before in
     let r = restarted d in
     let l = looped r .loop in
     let a = start (looped r) .pre in (
@@ -142,8 +144,8 @@ loop-again c =
     let l = looped r .loop in
     let more =
     line-more _ _ _ _ _ _ _ _ _ _ _ _ _ _ (l .inv .7) (l .inv .1 .0) (based r .base-of2 .ensures .0) (r .before .is-restarted .ensures)
-    (d .before .quantisers-of .ensures) (turned r .turn .ensures) (r .restart .ensures) _ _ (d .line .result) (d .line .ensures .0)
-    (not-false _ (c .before .before .before .before .before .before .before .if1 .left)) in (
+    (d .before .quantisers-of .ensures) (turned r .turn .ensures) (r .restart .ensures) _ _ (d .line .result) (d .line .ensures .0) _ _
+    (c .before .before .before .before .before .before .before .got .given .1) in (
       omega (arith, turned r .before .before .loop-test .taken),
       l .inv .1,
       omega (arith, d .line .kept, turned r .turn .kept, l .inv .2),
@@ -164,7 +166,7 @@ returns-2 : tie.Need-returns-2 Inv-loop μ-loop
 returns-2 c =
     let l = c .before .loop in
     let e : l .n ≡ start (c .before) .args .count = omega arith in
-    (read-all _ _ _ (l .n) _ _ _ e (l .inv .7) refl (l .inv .5 .0), rw e at (l .inv .6 .1))
+    (read-all _ _ _ (l .n) _ _ _ e (l .inv .7) (l .inv .5 .0), rw e at (l .inv .6 .1))
 
 pub read-lines-spec : {M : Type 1} → statement M
 read-lines-spec =
@@ -183,6 +185,8 @@ read-lines-spec =
     (λ c. search needs)
     quantisers-of-requires
     line-requires
+    (λ c. search needs)
+    (λ c. search needs)
     same-length
     same-length-2
     same-length-3

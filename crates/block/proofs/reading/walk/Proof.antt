@@ -15,7 +15,7 @@ returns c =
     let d = c .before .before .before .before .before .before .before .before .before .before .before .before in
     let a = d .before .before .before .before .before .before .before .before in
     let e : length (d .read-lines .last .1 .1 .0) ≡ 18 * (widthOf (a .args .form .xtrans) + 2) = omega (arith, d .read-lines .kept, a .pre .0 .1 .0) in
-    (d .read-lines .ensures, (k .ensures ∙ ap (λ (n : ℕ). replicate n 0) e, c .before .clear-records .ensures))
+    (d .read-lines .ensures .0, (d .read-lines .ensures .1, (k .ensures ∙ ap (λ (n : ℕ). replicate n 0) e, c .before .clear-records .ensures)))
 
 pub walk-spec : {M : Type 1} → statement M
 walk-spec =

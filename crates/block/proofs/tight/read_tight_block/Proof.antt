@@ -34,7 +34,7 @@ tight-answer-requires : tie.Need-tight-answer-requires
 tight-answer-requires c κs =
     let s = c .before .before .before .before .before .before .before .before .before .before .before .before .before .before .before .before in (
       c .before .before .before .before .before .before .before .before .before .before .before .before .block-bytes .ensures .1,
-      without-bases (s .args .d .now) (s .args .h) (s .args .b) (c .before .before .before .before .before .before .before .before .before .before .before .before .before .line-count .result) (c .before .before .before .before .before .before .before .before .before .before .before .base-row .result .now) (c .before .before .before .before .before .before .before .before .before .before .before .before .block-bytes .result .now) (c .before .before .before .before .walk .result) (s .pre .0 .0) (s .pre .0 .1) (c .before .before .before .before .before .before .before .before .before .before .before .base-row .ensures) (c .before .before .before .before .walk .ensures .0 .0),
+      without-bases (s .args .d .now) (s .args .h) (s .args .b) (c .before .before .before .before .before .before .before .before .before .before .before .before .before .line-count .result) (c .before .before .before .before .before .before .before .before .before .before .before .base-row .result .now) (c .before .before .before .before .before .before .before .before .before .before .before .before .block-bytes .result .now) (c .before .before .before .before .walk .result) (s .pre .0 .0) (s .pre .0 .1) (c .before .before .before .before .before .before .before .before .before .before .before .base-row .ensures) (c .before .before .before .before .walk .ensures .0),
     )
 
 answered : (d : List ℕ) (h : FujiHeader) (b n : ℕ) (s : List ℕ) (a : Decoded) → s ≡ bytesOf d b → n ≡ h .lines → a ≡ tightAnswer (formOf h) b n s
@@ -45,7 +45,7 @@ returns : tie.Need-returns
 returns c =
     let s = c .before .before .before .before .before .before .before .before .before .before .before .before .before .before .before .before .before in (
       answered (s .args .d .now) (s .args .h) (s .args .b) _ _ _ (c .before .before .before .before .before .before .before .before .before .before .before .before .before .block-bytes .ensures .0) (c .before .before .before .before .before .before .before .before .before .before .before .before .before .before .line-count .ensures) (c .tight-answer .ensures),
-      c .before .before .before .before .before .walk .ensures .1,
+      c .before .before .before .before .before .walk .ensures .1 .1,
     )
 
 pub read-tight-block-spec : {M : Type 1} → statement M

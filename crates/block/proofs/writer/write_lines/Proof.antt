@@ -1,7 +1,6 @@
 -- `block::writer::write_lines` meets its contract: n lines have been written. Assumes nothing.
 mod derived
 use borrow.Author.Needs.{needs}
-use borrow.Author.Tests.{not-true, not-false}
 use mathlib.Core.Path.{_≡_, refl, _∙_}
 use Prim.Native.Nat.{_+_, _-_, _*_, _≤_}
 use native.Mathlib.Omega.{arith}
@@ -37,8 +36,11 @@ looped r = turned r .before .before .before
 abbrev restarted : tie.After-write-line Inv-loop μ-loop → tie.After-restart Inv-loop μ-loop
 restarted d = d .before .before .before .before .before
 
-abbrev lined : tie.After-at Inv-loop μ-loop → tie.After-write-line Inv-loop μ-loop
-lined c = c .before .before .before .before .before .before .before
+abbrev lined : tie.After-known-told Inv-loop μ-loop → tie.After-write-line Inv-loop μ-loop
+lined c = c .before .before .before .before .before .before .before .before
+
+abbrev failed : tie.After-enum-told Inv-loop μ-loop → tie.After-write-line Inv-loop μ-loop
+failed c = c .before .before .before .before .before .before .before
 
 loop-holds : tie.Need-loop-holds Inv-loop μ-loop
 loop-holds c =
@@ -82,31 +84,31 @@ write-line-requires c κs =
 
 same-length : tie.Need-same-length Inv-loop μ-loop
 same-length c =
-    let d = c .before .before .before .before .before .before in
+    let d = failed c in
     omega (arith, d .write-line .kept, looped (restarted d) .loop .inv .5)
 
 same-length-2 : tie.Need-same-length-2 Inv-loop μ-loop
 same-length-2 c =
-    let d = c .before .before .before .before .before .before in
+    let d = failed c in
     let r = restarted d in
     let l = looped r in
     omega (arith, d .write-line .kept, turned r .turn .kept, l .loop .inv .1 .0, l .loop .inv .2, start l .pre .1 .0 .1 .0)
 
 same-length-3 : tie.Need-same-length-3 Inv-loop μ-loop
 same-length-3 c =
-    let d = c .before .before .before .before .before .before in
+    let d = failed c in
     let r = restarted d in
     let l = looped r in
     omega (arith, d .write-line .kept, r .restart .kept, l .loop .inv .3, start l .pre .1 .0 .1 .1)
 
 returns : tie.Need-returns Inv-loop μ-loop
 returns c =
-    let d = c .before .before .before .before .before .before in
+    let d = failed c in
     let r = restarted d in
     let l = looped r .loop in
     let a = start (looped r) in
     line-failed _ _ (l .n) _ _ _ (turned r .before .before .loop-test .taken) _ _ _ _ _ _ _ _ (l .inv .6) (l .inv .5) (a .pre .1 .1) (l .inv .1 .0) refl (turned r .turn .ensures)
-    (r .restart .ensures) _ _ _ (d .write-line .result) (d .write-line .ensures .0) (not-true _ (c .if1 .taken))
+    (r .restart .ensures) _ _ _ (d .write-line .result) (d .write-line .ensures .0) _ (c .enum-told .given .1)
 
 add-n : tie.Need-add-n Inv-loop μ-loop
 add-n c =
@@ -130,7 +132,7 @@ loop-again c =
       d .write-line .ensures .1,
       omega (arith, d .write-line .kept, l .inv .5),
       line-more _ _ (l .n) _ _ _ t _ _ _ _ _ _ _ _ (l .inv .6) (l .inv .5) (a .pre .1 .1) (l .inv .1 .0) refl (turned r .turn .ensures) (r .restart .ensures) _ _ _
-          (d .write-line .result) (d .write-line .ensures .0) (not-false _ (c .before .if1 .left)),
+          (d .write-line .result) (d .write-line .ensures .0) _ (c .before .got .given .1),
     )
 
 same-length-5 : tie.Need-same-length-5 Inv-loop μ-loop
@@ -161,6 +163,8 @@ write-lines-spec =
     (λ c. search needs)
     (λ c. search needs)
     write-line-requires
+    (λ c. search needs)
+    (λ c. search needs)
     same-length
     same-length-2
     same-length-3

@@ -925,62 +925,8 @@ After-rs3 = λ Inv μ. Lts.After-rs3 (
 ) Reads'4.Pre
     Reads'4.Post Inv μ
 
-abbrev pub Then1 : (Inv : InvT-loop) → (μ : MeasureT-loop) → Type 0
-Then1 = λ Inv μ. Lts.Then1 (
-  Reads'8.Asked,
-  Reads'8.Learnt,
-  Reads'9.Asked,
-  Reads'9.Learnt,
-  Reads.Asked,
-  Reads.Learnt,
-  Reads'7.Asked,
-  Reads'7.Learnt,
-  Reads'10.Asked,
-  Reads'10.Learnt,
-  Reads'.Asked,
-  Reads'.Learnt,
-  Reads'6.Asked,
-  Reads'6.Learnt,
-  Reads'3.Asked,
-  Reads'3.Learnt,
-  Reads''.Asked,
-  Reads''.Learnt,
-  Reads'5.Asked,
-  Reads'5.Learnt,
-  Reads'11.Asked,
-  Reads'11.Learnt,
-) Reads'4.Pre Reads'4.Post
-    Inv μ
-
-abbrev pub Else1 : (Inv : InvT-loop) → (μ : MeasureT-loop) → Type 0
-Else1 = λ Inv μ. Lts.Else1 (
-  Reads'8.Asked,
-  Reads'8.Learnt,
-  Reads'9.Asked,
-  Reads'9.Learnt,
-  Reads.Asked,
-  Reads.Learnt,
-  Reads'7.Asked,
-  Reads'7.Learnt,
-  Reads'10.Asked,
-  Reads'10.Learnt,
-  Reads'.Asked,
-  Reads'.Learnt,
-  Reads'6.Asked,
-  Reads'6.Learnt,
-  Reads'3.Asked,
-  Reads'3.Learnt,
-  Reads''.Asked,
-  Reads''.Learnt,
-  Reads'5.Asked,
-  Reads'5.Learnt,
-  Reads'11.Asked,
-  Reads'11.Learnt,
-) Reads'4.Pre Reads'4.Post
-    Inv μ
-
-abbrev pub After-at : (Inv : InvT-loop) → (μ : MeasureT-loop) → Type 0
-After-at = λ Inv μ. Lts.After-at (
+abbrev pub At-match-keys1 : (Inv : InvT-loop) → (μ : MeasureT-loop) → Type 0
+At-match-keys1 = λ Inv μ. Lts.At-match-keys1 (
   Reads'8.Asked,
   Reads'8.Learnt,
   Reads'9.Asked,
@@ -1005,6 +951,112 @@ After-at = λ Inv μ. Lts.After-at (
   Reads'11.Learnt,
 ) Reads'4.Pre
     Reads'4.Post Inv μ
+
+abbrev pub After-got : (Inv : InvT-loop) → (μ : MeasureT-loop) → Type 0
+After-got = λ Inv μ. Lts.After-got (
+  Reads'8.Asked,
+  Reads'8.Learnt,
+  Reads'9.Asked,
+  Reads'9.Learnt,
+  Reads.Asked,
+  Reads.Learnt,
+  Reads'7.Asked,
+  Reads'7.Learnt,
+  Reads'10.Asked,
+  Reads'10.Learnt,
+  Reads'.Asked,
+  Reads'.Learnt,
+  Reads'6.Asked,
+  Reads'6.Learnt,
+  Reads'3.Asked,
+  Reads'3.Learnt,
+  Reads''.Asked,
+  Reads''.Learnt,
+  Reads'5.Asked,
+  Reads'5.Learnt,
+  Reads'11.Asked,
+  Reads'11.Learnt,
+) Reads'4.Pre
+    Reads'4.Post Inv μ
+
+abbrev pub After-known-told : (Inv : InvT-loop) → (μ : MeasureT-loop) → Type 0
+After-known-told = λ Inv μ. Lts.After-known-told (
+  Reads'8.Asked,
+  Reads'8.Learnt,
+  Reads'9.Asked,
+  Reads'9.Learnt,
+  Reads.Asked,
+  Reads.Learnt,
+  Reads'7.Asked,
+  Reads'7.Learnt,
+  Reads'10.Asked,
+  Reads'10.Learnt,
+  Reads'.Asked,
+  Reads'.Learnt,
+  Reads'6.Asked,
+  Reads'6.Learnt,
+  Reads'3.Asked,
+  Reads'3.Learnt,
+  Reads''.Asked,
+  Reads''.Learnt,
+  Reads'5.Asked,
+  Reads'5.Learnt,
+  Reads'11.Asked,
+  Reads'11.Learnt,
+) Reads'4.Pre Reads'4.Post Inv μ
+
+abbrev pub At-match-keys2 : (Inv : InvT-loop) → (μ : MeasureT-loop) → Type 0
+At-match-keys2 = λ Inv μ. Lts.At-match-keys2 (
+  Reads'8.Asked,
+  Reads'8.Learnt,
+  Reads'9.Asked,
+  Reads'9.Learnt,
+  Reads.Asked,
+  Reads.Learnt,
+  Reads'7.Asked,
+  Reads'7.Learnt,
+  Reads'10.Asked,
+  Reads'10.Learnt,
+  Reads'.Asked,
+  Reads'.Learnt,
+  Reads'6.Asked,
+  Reads'6.Learnt,
+  Reads'3.Asked,
+  Reads'3.Learnt,
+  Reads''.Asked,
+  Reads''.Learnt,
+  Reads'5.Asked,
+  Reads'5.Learnt,
+  Reads'11.Asked,
+  Reads'11.Learnt,
+) Reads'4.Pre
+    Reads'4.Post Inv μ
+
+abbrev pub After-enum-told : (Inv : InvT-loop) → (μ : MeasureT-loop) → Type 0
+After-enum-told = λ Inv μ. Lts.After-enum-told (
+  Reads'8.Asked,
+  Reads'8.Learnt,
+  Reads'9.Asked,
+  Reads'9.Learnt,
+  Reads.Asked,
+  Reads.Learnt,
+  Reads'7.Asked,
+  Reads'7.Learnt,
+  Reads'10.Asked,
+  Reads'10.Learnt,
+  Reads'.Asked,
+  Reads'.Learnt,
+  Reads'6.Asked,
+  Reads'6.Learnt,
+  Reads'3.Asked,
+  Reads'3.Learnt,
+  Reads''.Asked,
+  Reads''.Learnt,
+  Reads'5.Asked,
+  Reads'5.Learnt,
+  Reads'11.Asked,
+  Reads'11.Learnt,
+) Reads'4.Pre Reads'4.Post Inv μ
 
 abbrev pub After-tight-count : (Inv : InvT-loop) → (μ : MeasureT-loop) → Type 0
 After-tight-count = λ Inv μ. Lts.After-tight-count (
@@ -1449,6 +1501,59 @@ Need-line-requires = λ Inv μ. Lts.Need-line-requires (
   Reads'11.Learnt,
 ) Reads'4.Pre Reads'4.Post Inv μ
 
+abbrev pub Need-enum-known-got : (Inv : InvT-loop) → (μ : MeasureT-loop) → Type 0
+Need-enum-known-got = λ Inv μ. Lts.Need-enum-known-got (
+  Reads'8.Asked,
+  Reads'8.Learnt,
+  Reads'9.Asked,
+  Reads'9.Learnt,
+  Reads.Asked,
+  Reads.Learnt,
+  Reads'7.Asked,
+  Reads'7.Learnt,
+  Reads'10.Asked,
+  Reads'10.Learnt,
+  Reads'.Asked,
+  Reads'.Learnt,
+  Reads'6.Asked,
+  Reads'6.Learnt,
+  Reads'3.Asked,
+  Reads'3.Learnt,
+  Reads''.Asked,
+  Reads''.Learnt,
+  Reads'5.Asked,
+  Reads'5.Learnt,
+  Reads'11.Asked,
+  Reads'11.Learnt,
+) Reads'4.Pre Reads'4.Post Inv μ
+
+abbrev pub Need-enum-told : (Inv : InvT-loop) → (μ : MeasureT-loop) → Type 0
+Need-enum-told = λ Inv μ. Lts.Need-enum-told (
+  Reads'8.Asked,
+  Reads'8.Learnt,
+  Reads'9.Asked,
+  Reads'9.Learnt,
+  Reads.Asked,
+  Reads.Learnt,
+  Reads'7.Asked,
+  Reads'7.Learnt,
+  Reads'10.Asked,
+  Reads'10.Learnt,
+  Reads'.Asked,
+  Reads'.Learnt,
+  Reads'6.Asked,
+  Reads'6.Learnt,
+  Reads'3.Asked,
+  Reads'3.Learnt,
+  Reads''.Asked,
+  Reads''.Learnt,
+  Reads'5.Asked,
+  Reads'5.Learnt,
+  Reads'11.Asked,
+  Reads'11.Learnt,
+) Reads'4.Pre
+    Reads'4.Post Inv μ
+
 abbrev pub Need-same-length : (Inv : InvT-loop) → (μ : MeasureT-loop) → Type 0
 Need-same-length = λ Inv μ. Lts.Need-same-length (
   Reads'8.Asked,
@@ -1794,10 +1899,10 @@ Need-returns-2 = λ Inv μ. Lts.Need-returns-2 (
 module _ {M : Type 1} where
   pub spec : (Inv : InvT-loop) → (μ : MeasureT-loop) → (answer : Need-width-requires Inv μ) → (answer : Need-clear-requires Inv μ) → (answer : Need-base-of-requires Inv μ) → (answer :
       Need-start-records-requires Inv μ) → (answer : Need-loop-holds Inv μ) → (answer : Need-turn-requires Inv μ) → (answer : Need-base-of-requires-2 Inv μ) → (answer : Need-is-restarted-requires Inv μ) →
-      (answer : Need-restart-requires Inv μ) → (answer : Need-quantisers-of-requires Inv μ) → (answer : Need-line-requires Inv μ) → (answer : Need-same-length Inv μ) → (answer : Need-same-length-2 Inv μ)
-      → (answer : Need-same-length-3 Inv μ) → (answer : Need-returns Inv μ) → (answer : Need-tight-count-requires Inv μ) → (answer : Need-emit-line-requires Inv μ) → (answer : Need-add-n Inv μ) → (answer
-      : Need-loop-less Inv μ) → (answer : Need-loop-again Inv μ) → (answer : Need-same-length-4 Inv μ) → (answer : Need-same-length-5 Inv μ) → (answer : Need-same-length-6 Inv μ) → (answer :
-      Need-returns-2 Inv μ) → Lts.Closed (
+      (answer : Need-restart-requires Inv μ) → (answer : Need-quantisers-of-requires Inv μ) → (answer : Need-line-requires Inv μ) → (answer : Need-enum-known-got Inv μ) → (answer : Need-enum-told Inv μ) →
+      (answer : Need-same-length Inv μ) → (answer : Need-same-length-2 Inv μ) → (answer : Need-same-length-3 Inv μ) → (answer : Need-returns Inv μ) → (answer : Need-tight-count-requires Inv μ) → (answer :
+      Need-emit-line-requires Inv μ) → (answer : Need-add-n Inv μ) → (answer : Need-loop-less Inv μ) → (answer : Need-loop-again Inv μ) → (answer : Need-same-length-4 Inv μ) → (answer : Need-same-length-5
+      Inv μ) → (answer : Need-same-length-6 Inv μ) → (answer : Need-returns-2 Inv μ) → Lts.Closed (
         Reads'8.Asked,
         Reads'8.Learnt,
         Reads'9.Asked,
@@ -1820,10 +1925,9 @@ module _ {M : Type 1} where
         Reads'5.Learnt,
         Reads'11.Asked,
         Reads'11.Learnt,
-      )
-      Reads'4.Pre Reads'4.Post M
+      ) Reads'4.Pre Reads'4.Post M
   spec = λ Inv μ answer answer' answer'' answer'3 answer'4 answer'5 answer'6 answer'7 answer'8 answer'9 answer'10 answer'11 answer'12 answer'13 answer'14 answer'15 answer'16 answer'17 answer'18
-      answer'19 answer'20 answer'21 answer'22 answer'23. Lts.spec (
+      answer'19 answer'20 answer'21 answer'22 answer'23 answer'24 answer'25. Lts.spec (
         Reads'8.Asked,
         Reads'8.Learnt,
         Reads'9.Asked,
@@ -1846,8 +1950,8 @@ module _ {M : Type 1} where
         Reads'5.Learnt,
         Reads'11.Asked,
         Reads'11.Learnt,
-      ) Reads'4.Pre Reads'4.Post Inv μ answer answer' answer'' answer'3 answer'4 answer'5 answer'6 answer'7 answer'8 answer'9 answer'10 answer'11 answer'12 answer'13 answer'14 answer'15
-      answer'16 answer'17 answer'18 answer'19 answer'20 answer'21 answer'22 answer'23
+      ) Reads'4.Pre Reads'4.Post Inv μ answer answer' answer'' answer'3 answer'4 answer'5 answer'6 answer'7 answer'8 answer'9 answer'10 answer'11 answer'12
+      answer'13 answer'14 answer'15 answer'16 answer'17 answer'18 answer'19 answer'20 answer'21 answer'22 answer'23 answer'24 answer'25
 
   pub close : Lts.Closed (
     Reads'8.Asked,

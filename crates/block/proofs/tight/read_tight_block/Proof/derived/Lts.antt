@@ -120,18 +120,18 @@ xs = List._∷_ (Syntax.tyStruct (List._∷_ 98 (List._∷_ 108 (List._∷_ 111 
     (Syntax.tcons (Syntax.tyInt Syntax.w32) (Syntax.tcons Syntax.tyBool Syntax.tnil))) (List._∷_ (Syntax.tyInt Syntax.w64) (List._∷_ (Syntax.tyStruct (List._∷_ 38 (List._∷_ 91 (List._∷_ 93 List.[])))
     (Syntax.tcons (Syntax.tyRef Syntax.erased Syntax.imm (Syntax.tyInt Syntax.w8)) (Syntax.tcons (Syntax.tyInt Syntax.w64) Syntax.tnil))) (List._∷_ (Syntax.tyStruct (List._∷_ 38 (List._∷_ 91 (List._∷_ 93
     List.[]))) (Syntax.tcons (Syntax.tyRef Syntax.erased Syntax.imm (Syntax.tyInt Syntax.w8)) (Syntax.tcons (Syntax.tyInt Syntax.w64) Syntax.tnil))) (List._∷_ (Syntax.tyArray (Syntax.tyInt Syntax.w16)
-    768) (List._∷_ (Syntax.tyArray (Syntax.tyInt Syntax.w16) 1) (List._∷_ (Syntax.tyStruct (List._∷_ 98 (List._∷_ 108 (List._∷_ 111 (List._∷_ 99 (List._∷_ 107 (List._∷_ 58 (List._∷_ 58 (List._∷_ 87
-    (List._∷_ 97 (List._∷_ 108 (List._∷_ 107 (List._∷_ 101 (List._∷_ 100 List.[]))))))))))))) (Syntax.tcons Syntax.tyBool (Syntax.tcons (Syntax.tyInt Syntax.w64) (Syntax.tcons (Syntax.tyStruct (List._∷_
-    98 (List._∷_ 105 (List._∷_ 116 (List._∷_ 115 (List._∷_ 58 (List._∷_ 58 (List._∷_ 66 (List._∷_ 105 (List._∷_ 116 (List._∷_ 80 (List._∷_ 111 (List._∷_ 115 (List._∷_ 105 (List._∷_ 116 (List._∷_ 105
-    (List._∷_ 111 (List._∷_ 110 List.[]))))))))))))))))) (Syntax.tcons (Syntax.tyInt Syntax.w64) Syntax.tnil)) (Syntax.tcons (Syntax.tyInt Syntax.w64) Syntax.tnil))))) (List._∷_ (Syntax.tyArray
-    (Syntax.tyInt Syntax.w16) 768) (List._∷_ (Syntax.tyRef Syntax.erased Syntax.mut (Syntax.tyInt Syntax.w16)) (List._∷_ (Syntax.tyStruct (List._∷_ 38 (List._∷_ 91 (List._∷_ 93 List.[]))) (Syntax.tcons
-    (Syntax.tyRef Syntax.erased Syntax.mut (Syntax.tyInt Syntax.w16)) (Syntax.tcons (Syntax.tyInt Syntax.w64) Syntax.tnil))) (List._∷_ (Syntax.tyRef Syntax.erased Syntax.mut Element.behind) (List._∷_
-    (Syntax.tyStruct (List._∷_ 38 (List._∷_ 91 (List._∷_ 93 List.[]))) (Syntax.tcons (Syntax.tyRef Syntax.erased Syntax.mut Element.behind) (Syntax.tcons (Syntax.tyInt Syntax.w64) Syntax.tnil))) (List._∷_
-    (Syntax.tyRef Syntax.erased Syntax.mut (Syntax.tyArray (Syntax.tyInt Syntax.w16) 1)) (List._∷_ (Syntax.tyStruct (List._∷_ 38 (List._∷_ 91 (List._∷_ 93 List.[]))) (Syntax.tcons (Syntax.tyRef
-    Syntax.erased Syntax.mut (Syntax.tyInt Syntax.w16)) (Syntax.tcons (Syntax.tyInt Syntax.w64) Syntax.tnil))) (List._∷_ (Syntax.tyRef Syntax.erased Syntax.imm (Syntax.tyArray (Syntax.tyInt Syntax.w16)
-    768)) (List._∷_ (Syntax.tyArray (Syntax.tyInt Syntax.w8) 36) (List._∷_ (Syntax.tyStruct (List._∷_ 109 (List._∷_ 97 (List._∷_ 112 (List._∷_ 58 (List._∷_ 58 (List._∷_ 80 (List._∷_ 97 (List._∷_ 114
-    (List._∷_ 116 List.[]))))))))) (Syntax.tcons (Syntax.tyInt Syntax.w64) (Syntax.tcons (Syntax.tyInt Syntax.w64) (Syntax.tcons (Syntax.tyInt Syntax.w64) (Syntax.tcons (Syntax.tyInt Syntax.w64)
-    (Syntax.tcons (Syntax.tyInt Syntax.w64) (Syntax.tcons (Syntax.tyInt Syntax.w64) Syntax.tnil))))))) List.[]))))))))))))))))
+    768) (List._∷_ (Syntax.tyArray (Syntax.tyInt Syntax.w16) 1) (List._∷_ (Syntax.tyEnum (List._∷_ 98 (List._∷_ 108 (List._∷_ 111 (List._∷_ 99 (List._∷_ 107 (List._∷_ 58 (List._∷_ 58 (List._∷_ 87
+    (List._∷_ 97 (List._∷_ 108 (List._∷_ 107 (List._∷_ 101 (List._∷_ 100 List.[]))))))))))))) (Syntax.ttcons (Syntax.tcons (Syntax.tyStruct (List._∷_ 98 (List._∷_ 105 (List._∷_ 116 (List._∷_ 115 (List._∷_
+    58 (List._∷_ 58 (List._∷_ 66 (List._∷_ 105 (List._∷_ 116 (List._∷_ 80 (List._∷_ 111 (List._∷_ 115 (List._∷_ 105 (List._∷_ 116 (List._∷_ 105 (List._∷_ 111 (List._∷_ 110 List.[])))))))))))))))))
+    (Syntax.tcons (Syntax.tyInt Syntax.w64) Syntax.tnil)) (Syntax.tcons (Syntax.tyInt Syntax.w64) Syntax.tnil)) (Syntax.ttcons (Syntax.tcons (Syntax.tyInt Syntax.w64) Syntax.tnil) Syntax.ttnil)))
+    (List._∷_ (Syntax.tyArray (Syntax.tyInt Syntax.w16) 768) (List._∷_ (Syntax.tyRef Syntax.erased Syntax.mut (Syntax.tyInt Syntax.w16)) (List._∷_ (Syntax.tyStruct (List._∷_ 38 (List._∷_ 91 (List._∷_ 93
+    List.[]))) (Syntax.tcons (Syntax.tyRef Syntax.erased Syntax.mut (Syntax.tyInt Syntax.w16)) (Syntax.tcons (Syntax.tyInt Syntax.w64) Syntax.tnil))) (List._∷_ (Syntax.tyRef Syntax.erased Syntax.mut
+    Element.behind) (List._∷_ (Syntax.tyStruct (List._∷_ 38 (List._∷_ 91 (List._∷_ 93 List.[]))) (Syntax.tcons (Syntax.tyRef Syntax.erased Syntax.mut Element.behind) (Syntax.tcons (Syntax.tyInt
+    Syntax.w64) Syntax.tnil))) (List._∷_ (Syntax.tyRef Syntax.erased Syntax.mut (Syntax.tyArray (Syntax.tyInt Syntax.w16) 1)) (List._∷_ (Syntax.tyStruct (List._∷_ 38 (List._∷_ 91 (List._∷_ 93 List.[])))
+    (Syntax.tcons (Syntax.tyRef Syntax.erased Syntax.mut (Syntax.tyInt Syntax.w16)) (Syntax.tcons (Syntax.tyInt Syntax.w64) Syntax.tnil))) (List._∷_ (Syntax.tyRef Syntax.erased Syntax.imm (Syntax.tyArray
+    (Syntax.tyInt Syntax.w16) 768)) (List._∷_ (Syntax.tyArray (Syntax.tyInt Syntax.w8) 36) (List._∷_ (Syntax.tyStruct (List._∷_ 109 (List._∷_ 97 (List._∷_ 112 (List._∷_ 58 (List._∷_ 58 (List._∷_ 80
+    (List._∷_ 97 (List._∷_ 114 (List._∷_ 116 List.[]))))))))) (Syntax.tcons (Syntax.tyInt Syntax.w64) (Syntax.tcons (Syntax.tyInt Syntax.w64) (Syntax.tcons (Syntax.tyInt Syntax.w64) (Syntax.tcons
+    (Syntax.tyInt Syntax.w64) (Syntax.tcons (Syntax.tyInt Syntax.w64) (Syntax.tcons (Syntax.tyInt Syntax.w64) Syntax.tnil))))))) List.[]))))))))))))))))
 
 abbrev pub m : Nat.ℕ
 m = 4
@@ -245,23 +245,23 @@ ps·5 = List._∷_ (ShrSlice.pShrS (Referent.rtF (Referent.fInt Syntax.w8)) 0 tt
 
 abbrev pub r·5 : Kinds.RK 6
 r·5 = Value.rVal record {
-  ty = Declared'.row Walked.the-type;
+  ty = Declared.row Walked.the-type;
   one = Path'.refl;
-  val = Laws'6.val Walked.the-type Laws''.the-laws;
-  tells = Laws'6.tells Walked.the-type Laws''.the-laws;
+  val = Laws'5.val Walked.the-type Laws''.the-laws;
+  tells = Laws'5.tells Walked.the-type Laws''.the-laws;
   still =
-      Laws'6.still Walked.the-type Laws''.the-copy Exit.yes;
-  row = Rows'.whole (Declared'.row Walked.the-type);
+      Laws'5.still Walked.the-type Laws''.the-copy Exit.yes;
+  row = Rows'.whole (Declared.row Walked.the-type);
   rd = λ x. x;
   mk = λ x. x;
 } λ M 𝓤 H A W. record {
-  copies = Laws'6.copy Walked.the-type
+  copies = Laws'5.copy Walked.the-type
       Laws''.the-copy 𝓤 H A W;
-  lawful = Laws'6.lawful Walked.the-type Laws''.the-laws 𝓤 H A W;
-  makes = Laws'6.makes Walked.the-type Laws''.the-plain 𝓤 H A;
-  in-mem = Local.mem-whole 𝓤 H A W (Declared'.row
+  lawful = Laws'5.lawful Walked.the-type Laws''.the-laws 𝓤 H A W tt;
+  makes = Laws'5.makes Walked.the-type Laws''.the-plain 𝓤 H A;
+  in-mem = Local.mem-whole 𝓤 H A W (Declared.row
       Walked.the-type);
-  of-mem = Local.whole-mem 𝓤 H A W (Declared'.row Walked.the-type);
+  of-mem = Local.whole-mem 𝓤 H A W (Declared.row Walked.the-type);
 }
 
 abbrev pub ps·6 : List.List (Kinds.PK 1)
@@ -285,23 +285,23 @@ ps·6 = List._∷_ (ShrSlice.pShrS (Referent.rtF (Referent.fInt Syntax.w8)) 0 tt
   of-mem = Local.whole-mem 𝓤 H A W (Declared'.row Form.the-type);
 }) (List._∷_ (Num.pNum Syntax.w64) (List._∷_ (Num.pNum Syntax.w64)
     (List._∷_ (Value.pVal record {
-      ty = Declared'.row Walked.the-type;
+      ty = Declared.row Walked.the-type;
       one = Path'.refl;
-      val = Laws'6.val Walked.the-type Laws''.the-laws;
-      tells = Laws'6.tells Walked.the-type Laws''.the-laws;
+      val = Laws'5.val Walked.the-type Laws''.the-laws;
+      tells = Laws'5.tells Walked.the-type Laws''.the-laws;
       still =
-          Laws'6.still Walked.the-type Laws''.the-copy Exit.yes;
-      row = Rows'.whole (Declared'.row Walked.the-type);
+          Laws'5.still Walked.the-type Laws''.the-copy Exit.yes;
+      row = Rows'.whole (Declared.row Walked.the-type);
       rd = λ x. x;
       mk = λ x. x;
     } λ M 𝓤 H A W. record {
-      copies = Laws'6.copy Walked.the-type
+      copies = Laws'5.copy Walked.the-type
           Laws''.the-copy 𝓤 H A W;
-      lawful = Laws'6.lawful Walked.the-type Laws''.the-laws 𝓤 H A W;
-      makes = Laws'6.makes Walked.the-type Laws''.the-plain 𝓤 H A;
-      in-mem = Local.mem-whole 𝓤 H A W (Declared'.row
+      lawful = Laws'5.lawful Walked.the-type Laws''.the-laws 𝓤 H A W tt;
+      makes = Laws'5.makes Walked.the-type Laws''.the-plain 𝓤 H A;
+      in-mem = Local.mem-whole 𝓤 H A W (Declared.row
           Walked.the-type);
-      of-mem = Local.whole-mem 𝓤 H A W (Declared'.row Walked.the-type);
+      of-mem = Local.whole-mem 𝓤 H A W (Declared.row Walked.the-type);
     }) List.[]))))
 
 abbrev pub r·6 : Kinds.RK 1
@@ -493,18 +493,18 @@ t0 = List._∷_ (
       (Syntax.tyInt Syntax.w16) 1),
 ) (List._∷_ (
   12,
-  Rows'.any-gone (Syntax.tyStruct (List._∷_ 98 (List._∷_ 108 (List._∷_ 111 (List._∷_ 99 (List._∷_ 107 (List._∷_ 58 (List._∷_ 58 (List._∷_ 87 (List._∷_ 97
-      (List._∷_ 108 (List._∷_ 107 (List._∷_ 101 (List._∷_ 100 List.[]))))))))))))) (Syntax.tcons Syntax.tyBool (Syntax.tcons (Syntax.tyInt Syntax.w64) (Syntax.tcons (Syntax.tyStruct (List._∷_ 98 (List._∷_
-      105 (List._∷_ 116 (List._∷_ 115 (List._∷_ 58 (List._∷_ 58 (List._∷_ 66 (List._∷_ 105 (List._∷_ 116 (List._∷_ 80 (List._∷_ 111 (List._∷_ 115 (List._∷_ 105 (List._∷_ 116 (List._∷_ 105 (List._∷_ 111
-      (List._∷_ 110 List.[]))))))))))))))))) (Syntax.tcons (Syntax.tyInt Syntax.w64) Syntax.tnil)) (Syntax.tcons (Syntax.tyInt Syntax.w64) Syntax.tnil))))),
+  Rows'.any-gone (Syntax.tyEnum (List._∷_ 98 (List._∷_ 108 (List._∷_ 111 (List._∷_ 99 (List._∷_ 107 (List._∷_ 58 (List._∷_ 58 (List._∷_ 87 (List._∷_ 97
+      (List._∷_ 108 (List._∷_ 107 (List._∷_ 101 (List._∷_ 100 List.[]))))))))))))) (Syntax.ttcons (Syntax.tcons (Syntax.tyStruct (List._∷_ 98 (List._∷_ 105 (List._∷_ 116 (List._∷_ 115 (List._∷_ 58 (List._∷_
+      58 (List._∷_ 66 (List._∷_ 105 (List._∷_ 116 (List._∷_ 80 (List._∷_ 111 (List._∷_ 115 (List._∷_ 105 (List._∷_ 116 (List._∷_ 105 (List._∷_ 111 (List._∷_ 110 List.[]))))))))))))))))) (Syntax.tcons
+      (Syntax.tyInt Syntax.w64) Syntax.tnil)) (Syntax.tcons (Syntax.tyInt Syntax.w64) Syntax.tnil)) (Syntax.ttcons (Syntax.tcons (Syntax.tyInt Syntax.w64) Syntax.tnil) Syntax.ttnil))),
 ) (List._∷_ (
   13,
-  Rows'.any-gone (Syntax.tyArray
-      (Syntax.tyInt Syntax.w16) 768),
+  Rows'.any-gone (Syntax.tyArray (Syntax.tyInt Syntax.w16) 768),
 ) (List._∷_ (14, Rows'.any-gone (Syntax.tyRef Syntax.erased Syntax.mut (Syntax.tyInt Syntax.w16))) (List._∷_ (
   15,
-  Rows'.any-gone (Syntax.tyStruct (List._∷_ 38
-      (List._∷_ 91 (List._∷_ 93 List.[]))) (Syntax.tcons (Syntax.tyRef Syntax.erased Syntax.mut (Syntax.tyInt Syntax.w16)) (Syntax.tcons (Syntax.tyInt Syntax.w64) Syntax.tnil))),
+  Rows'.any-gone
+      (Syntax.tyStruct (List._∷_ 38 (List._∷_ 91 (List._∷_ 93 List.[]))) (Syntax.tcons (Syntax.tyRef Syntax.erased Syntax.mut (Syntax.tyInt Syntax.w16)) (Syntax.tcons (Syntax.tyInt Syntax.w64)
+      Syntax.tnil))),
 ) List.[])))))))))))))))
 
 abbrev pub t1 : List.List Row.Entry
@@ -569,19 +569,20 @@ t2 = List._∷_ (0, Rows'.whole (Declared.row Decoded.the-type)) (List._∷_ (
       Syntax.w16) 1),
 ) (List._∷_ (
   12,
-  Rows'.any-gone (Syntax.tyStruct (List._∷_ 98 (List._∷_ 108 (List._∷_ 111 (List._∷_ 99 (List._∷_ 107 (List._∷_ 58 (List._∷_ 58 (List._∷_ 87 (List._∷_ 97 (List._∷_ 108
-      (List._∷_ 107 (List._∷_ 101 (List._∷_ 100 List.[]))))))))))))) (Syntax.tcons Syntax.tyBool (Syntax.tcons (Syntax.tyInt Syntax.w64) (Syntax.tcons (Syntax.tyStruct (List._∷_ 98 (List._∷_ 105 (List._∷_
-      116 (List._∷_ 115 (List._∷_ 58 (List._∷_ 58 (List._∷_ 66 (List._∷_ 105 (List._∷_ 116 (List._∷_ 80 (List._∷_ 111 (List._∷_ 115 (List._∷_ 105 (List._∷_ 116 (List._∷_ 105 (List._∷_ 111 (List._∷_ 110
-      List.[]))))))))))))))))) (Syntax.tcons (Syntax.tyInt Syntax.w64) Syntax.tnil)) (Syntax.tcons (Syntax.tyInt Syntax.w64) Syntax.tnil))))),
+  Rows'.any-gone (Syntax.tyEnum (List._∷_ 98 (List._∷_ 108 (List._∷_ 111 (List._∷_ 99 (List._∷_ 107 (List._∷_ 58 (List._∷_ 58 (List._∷_ 87 (List._∷_ 97 (List._∷_ 108
+      (List._∷_ 107 (List._∷_ 101 (List._∷_ 100 List.[]))))))))))))) (Syntax.ttcons (Syntax.tcons (Syntax.tyStruct (List._∷_ 98 (List._∷_ 105 (List._∷_ 116 (List._∷_ 115 (List._∷_ 58 (List._∷_ 58 (List._∷_
+      66 (List._∷_ 105 (List._∷_ 116 (List._∷_ 80 (List._∷_ 111 (List._∷_ 115 (List._∷_ 105 (List._∷_ 116 (List._∷_ 105 (List._∷_ 111 (List._∷_ 110 List.[]))))))))))))))))) (Syntax.tcons (Syntax.tyInt
+      Syntax.w64) Syntax.tnil)) (Syntax.tcons (Syntax.tyInt Syntax.w64) Syntax.tnil)) (Syntax.ttcons (Syntax.tcons (Syntax.tyInt Syntax.w64) Syntax.tnil) Syntax.ttnil))),
 ) (List._∷_ (
   13,
-  Rows'.any-gone (Syntax.tyArray (Syntax.tyInt
-      Syntax.w16) 768),
+  Rows'.any-gone
+      (Syntax.tyArray (Syntax.tyInt Syntax.w16) 768),
 ) (List._∷_ (14, Rows'.any-gone (Syntax.tyRef Syntax.erased Syntax.mut (Syntax.tyInt Syntax.w16))) (List._∷_ (
   15,
-  Rows'.any-gone (Syntax.tyStruct (List._∷_ 38 (List._∷_ 91
-      (List._∷_ 93 List.[]))) (Syntax.tcons (Syntax.tyRef Syntax.erased Syntax.mut (Syntax.tyInt Syntax.w16)) (Syntax.tcons (Syntax.tyInt Syntax.w64) Syntax.tnil))),
-) List.[])))))))))))))))
+  Rows'.any-gone (Syntax.tyStruct
+      (List._∷_ 38 (List._∷_ 91 (List._∷_ 93 List.[]))) (Syntax.tcons (Syntax.tyRef Syntax.erased Syntax.mut (Syntax.tyInt Syntax.w16)) (Syntax.tcons (Syntax.tyInt Syntax.w64) Syntax.tnil))),
+)
+    List.[])))))))))))))))
 
 abbrev pub t3 : List.List Row.Entry
 t3 = List._∷_ (
@@ -619,19 +620,20 @@ t3 = List._∷_ (
       Syntax.w16) 1),
 ) (List._∷_ (
   12,
-  Rows'.any-gone (Syntax.tyStruct (List._∷_ 98 (List._∷_ 108 (List._∷_ 111 (List._∷_ 99 (List._∷_ 107 (List._∷_ 58 (List._∷_ 58 (List._∷_ 87 (List._∷_ 97 (List._∷_ 108
-      (List._∷_ 107 (List._∷_ 101 (List._∷_ 100 List.[]))))))))))))) (Syntax.tcons Syntax.tyBool (Syntax.tcons (Syntax.tyInt Syntax.w64) (Syntax.tcons (Syntax.tyStruct (List._∷_ 98 (List._∷_ 105 (List._∷_
-      116 (List._∷_ 115 (List._∷_ 58 (List._∷_ 58 (List._∷_ 66 (List._∷_ 105 (List._∷_ 116 (List._∷_ 80 (List._∷_ 111 (List._∷_ 115 (List._∷_ 105 (List._∷_ 116 (List._∷_ 105 (List._∷_ 111 (List._∷_ 110
-      List.[]))))))))))))))))) (Syntax.tcons (Syntax.tyInt Syntax.w64) Syntax.tnil)) (Syntax.tcons (Syntax.tyInt Syntax.w64) Syntax.tnil))))),
+  Rows'.any-gone (Syntax.tyEnum (List._∷_ 98 (List._∷_ 108 (List._∷_ 111 (List._∷_ 99 (List._∷_ 107 (List._∷_ 58 (List._∷_ 58 (List._∷_ 87 (List._∷_ 97 (List._∷_ 108
+      (List._∷_ 107 (List._∷_ 101 (List._∷_ 100 List.[]))))))))))))) (Syntax.ttcons (Syntax.tcons (Syntax.tyStruct (List._∷_ 98 (List._∷_ 105 (List._∷_ 116 (List._∷_ 115 (List._∷_ 58 (List._∷_ 58 (List._∷_
+      66 (List._∷_ 105 (List._∷_ 116 (List._∷_ 80 (List._∷_ 111 (List._∷_ 115 (List._∷_ 105 (List._∷_ 116 (List._∷_ 105 (List._∷_ 111 (List._∷_ 110 List.[]))))))))))))))))) (Syntax.tcons (Syntax.tyInt
+      Syntax.w64) Syntax.tnil)) (Syntax.tcons (Syntax.tyInt Syntax.w64) Syntax.tnil)) (Syntax.ttcons (Syntax.tcons (Syntax.tyInt Syntax.w64) Syntax.tnil) Syntax.ttnil))),
 ) (List._∷_ (
   13,
-  Rows'.any-gone (Syntax.tyArray (Syntax.tyInt
-      Syntax.w16) 768),
+  Rows'.any-gone
+      (Syntax.tyArray (Syntax.tyInt Syntax.w16) 768),
 ) (List._∷_ (14, Rows'.any-gone (Syntax.tyRef Syntax.erased Syntax.mut (Syntax.tyInt Syntax.w16))) (List._∷_ (
   15,
-  Rows'.any-gone (Syntax.tyStruct (List._∷_ 38 (List._∷_ 91
-      (List._∷_ 93 List.[]))) (Syntax.tcons (Syntax.tyRef Syntax.erased Syntax.mut (Syntax.tyInt Syntax.w16)) (Syntax.tcons (Syntax.tyInt Syntax.w64) Syntax.tnil))),
-) List.[])))))))))))))))
+  Rows'.any-gone (Syntax.tyStruct
+      (List._∷_ 38 (List._∷_ 91 (List._∷_ 93 List.[]))) (Syntax.tcons (Syntax.tyRef Syntax.erased Syntax.mut (Syntax.tyInt Syntax.w16)) (Syntax.tcons (Syntax.tyInt Syntax.w64) Syntax.tnil))),
+)
+    List.[])))))))))))))))
 
 abbrev pub t4 : List.List Row.Entry
 t4 = List._∷_ (
@@ -669,19 +671,20 @@ t4 = List._∷_ (
       Syntax.w16) 1),
 ) (List._∷_ (
   12,
-  Rows'.any-gone (Syntax.tyStruct (List._∷_ 98 (List._∷_ 108 (List._∷_ 111 (List._∷_ 99 (List._∷_ 107 (List._∷_ 58 (List._∷_ 58 (List._∷_ 87 (List._∷_ 97 (List._∷_ 108
-      (List._∷_ 107 (List._∷_ 101 (List._∷_ 100 List.[]))))))))))))) (Syntax.tcons Syntax.tyBool (Syntax.tcons (Syntax.tyInt Syntax.w64) (Syntax.tcons (Syntax.tyStruct (List._∷_ 98 (List._∷_ 105 (List._∷_
-      116 (List._∷_ 115 (List._∷_ 58 (List._∷_ 58 (List._∷_ 66 (List._∷_ 105 (List._∷_ 116 (List._∷_ 80 (List._∷_ 111 (List._∷_ 115 (List._∷_ 105 (List._∷_ 116 (List._∷_ 105 (List._∷_ 111 (List._∷_ 110
-      List.[]))))))))))))))))) (Syntax.tcons (Syntax.tyInt Syntax.w64) Syntax.tnil)) (Syntax.tcons (Syntax.tyInt Syntax.w64) Syntax.tnil))))),
+  Rows'.any-gone (Syntax.tyEnum (List._∷_ 98 (List._∷_ 108 (List._∷_ 111 (List._∷_ 99 (List._∷_ 107 (List._∷_ 58 (List._∷_ 58 (List._∷_ 87 (List._∷_ 97 (List._∷_ 108
+      (List._∷_ 107 (List._∷_ 101 (List._∷_ 100 List.[]))))))))))))) (Syntax.ttcons (Syntax.tcons (Syntax.tyStruct (List._∷_ 98 (List._∷_ 105 (List._∷_ 116 (List._∷_ 115 (List._∷_ 58 (List._∷_ 58 (List._∷_
+      66 (List._∷_ 105 (List._∷_ 116 (List._∷_ 80 (List._∷_ 111 (List._∷_ 115 (List._∷_ 105 (List._∷_ 116 (List._∷_ 105 (List._∷_ 111 (List._∷_ 110 List.[]))))))))))))))))) (Syntax.tcons (Syntax.tyInt
+      Syntax.w64) Syntax.tnil)) (Syntax.tcons (Syntax.tyInt Syntax.w64) Syntax.tnil)) (Syntax.ttcons (Syntax.tcons (Syntax.tyInt Syntax.w64) Syntax.tnil) Syntax.ttnil))),
 ) (List._∷_ (
   13,
-  Rows'.any-gone (Syntax.tyArray (Syntax.tyInt
-      Syntax.w16) 768),
+  Rows'.any-gone
+      (Syntax.tyArray (Syntax.tyInt Syntax.w16) 768),
 ) (List._∷_ (14, Rows'.any-gone (Syntax.tyRef Syntax.erased Syntax.mut (Syntax.tyInt Syntax.w16))) (List._∷_ (
   15,
-  Rows'.any-gone (Syntax.tyStruct (List._∷_ 38 (List._∷_ 91
-      (List._∷_ 93 List.[]))) (Syntax.tcons (Syntax.tyRef Syntax.erased Syntax.mut (Syntax.tyInt Syntax.w16)) (Syntax.tcons (Syntax.tyInt Syntax.w64) Syntax.tnil))),
-) List.[])))))))))))))))
+  Rows'.any-gone (Syntax.tyStruct
+      (List._∷_ 38 (List._∷_ 91 (List._∷_ 93 List.[]))) (Syntax.tcons (Syntax.tyRef Syntax.erased Syntax.mut (Syntax.tyInt Syntax.w16)) (Syntax.tcons (Syntax.tyInt Syntax.w64) Syntax.tnil))),
+)
+    List.[])))))))))))))))
 
 abbrev pub t5 : List.List Row.Entry
 t5 = List._∷_ (
@@ -725,18 +728,18 @@ t5 = List._∷_ (
       (Syntax.tyInt Syntax.w16) 1),
 ) (List._∷_ (
   12,
-  Rows'.any-gone (Syntax.tyStruct (List._∷_ 98 (List._∷_ 108 (List._∷_ 111 (List._∷_ 99 (List._∷_ 107 (List._∷_ 58 (List._∷_ 58 (List._∷_ 87 (List._∷_ 97
-      (List._∷_ 108 (List._∷_ 107 (List._∷_ 101 (List._∷_ 100 List.[]))))))))))))) (Syntax.tcons Syntax.tyBool (Syntax.tcons (Syntax.tyInt Syntax.w64) (Syntax.tcons (Syntax.tyStruct (List._∷_ 98 (List._∷_
-      105 (List._∷_ 116 (List._∷_ 115 (List._∷_ 58 (List._∷_ 58 (List._∷_ 66 (List._∷_ 105 (List._∷_ 116 (List._∷_ 80 (List._∷_ 111 (List._∷_ 115 (List._∷_ 105 (List._∷_ 116 (List._∷_ 105 (List._∷_ 111
-      (List._∷_ 110 List.[]))))))))))))))))) (Syntax.tcons (Syntax.tyInt Syntax.w64) Syntax.tnil)) (Syntax.tcons (Syntax.tyInt Syntax.w64) Syntax.tnil))))),
+  Rows'.any-gone (Syntax.tyEnum (List._∷_ 98 (List._∷_ 108 (List._∷_ 111 (List._∷_ 99 (List._∷_ 107 (List._∷_ 58 (List._∷_ 58 (List._∷_ 87 (List._∷_ 97
+      (List._∷_ 108 (List._∷_ 107 (List._∷_ 101 (List._∷_ 100 List.[]))))))))))))) (Syntax.ttcons (Syntax.tcons (Syntax.tyStruct (List._∷_ 98 (List._∷_ 105 (List._∷_ 116 (List._∷_ 115 (List._∷_ 58 (List._∷_
+      58 (List._∷_ 66 (List._∷_ 105 (List._∷_ 116 (List._∷_ 80 (List._∷_ 111 (List._∷_ 115 (List._∷_ 105 (List._∷_ 116 (List._∷_ 105 (List._∷_ 111 (List._∷_ 110 List.[]))))))))))))))))) (Syntax.tcons
+      (Syntax.tyInt Syntax.w64) Syntax.tnil)) (Syntax.tcons (Syntax.tyInt Syntax.w64) Syntax.tnil)) (Syntax.ttcons (Syntax.tcons (Syntax.tyInt Syntax.w64) Syntax.tnil) Syntax.ttnil))),
 ) (List._∷_ (
   13,
-  Rows'.any-gone (Syntax.tyArray
-      (Syntax.tyInt Syntax.w16) 768),
+  Rows'.any-gone (Syntax.tyArray (Syntax.tyInt Syntax.w16) 768),
 ) (List._∷_ (14, Rows'.any-gone (Syntax.tyRef Syntax.erased Syntax.mut (Syntax.tyInt Syntax.w16))) (List._∷_ (
   15,
-  Rows'.any-gone (Syntax.tyStruct (List._∷_ 38
-      (List._∷_ 91 (List._∷_ 93 List.[]))) (Syntax.tcons (Syntax.tyRef Syntax.erased Syntax.mut (Syntax.tyInt Syntax.w16)) (Syntax.tcons (Syntax.tyInt Syntax.w64) Syntax.tnil))),
+  Rows'.any-gone
+      (Syntax.tyStruct (List._∷_ 38 (List._∷_ 91 (List._∷_ 93 List.[]))) (Syntax.tcons (Syntax.tyRef Syntax.erased Syntax.mut (Syntax.tyInt Syntax.w16)) (Syntax.tcons (Syntax.tyInt Syntax.w64)
+      Syntax.tnil))),
 ) List.[])))))))))))))))
 
 abbrev pub t6 : List.List Row.Entry
@@ -780,19 +783,19 @@ t6 = List._∷_ (
       (Syntax.tyArray (Syntax.tyInt Syntax.w16) 768),
 ) (List._∷_ (11, Rows'.any-gone (Syntax.tyArray (Syntax.tyInt Syntax.w16) 1)) (List._∷_ (
   12,
-  Rows'.any-gone (Syntax.tyStruct (List._∷_ 98 (List._∷_
-      108 (List._∷_ 111 (List._∷_ 99 (List._∷_ 107 (List._∷_ 58 (List._∷_ 58 (List._∷_ 87 (List._∷_ 97 (List._∷_ 108 (List._∷_ 107 (List._∷_ 101 (List._∷_ 100 List.[]))))))))))))) (Syntax.tcons
-      Syntax.tyBool (Syntax.tcons (Syntax.tyInt Syntax.w64) (Syntax.tcons (Syntax.tyStruct (List._∷_ 98 (List._∷_ 105 (List._∷_ 116 (List._∷_ 115 (List._∷_ 58 (List._∷_ 58 (List._∷_ 66 (List._∷_ 105
-      (List._∷_ 116 (List._∷_ 80 (List._∷_ 111 (List._∷_ 115 (List._∷_ 105 (List._∷_ 116 (List._∷_ 105 (List._∷_ 111 (List._∷_ 110 List.[]))))))))))))))))) (Syntax.tcons (Syntax.tyInt Syntax.w64)
-      Syntax.tnil)) (Syntax.tcons (Syntax.tyInt Syntax.w64) Syntax.tnil))))),
+  Rows'.any-gone (Syntax.tyEnum (List._∷_ 98 (List._∷_ 108
+      (List._∷_ 111 (List._∷_ 99 (List._∷_ 107 (List._∷_ 58 (List._∷_ 58 (List._∷_ 87 (List._∷_ 97 (List._∷_ 108 (List._∷_ 107 (List._∷_ 101 (List._∷_ 100 List.[]))))))))))))) (Syntax.ttcons (Syntax.tcons
+      (Syntax.tyStruct (List._∷_ 98 (List._∷_ 105 (List._∷_ 116 (List._∷_ 115 (List._∷_ 58 (List._∷_ 58 (List._∷_ 66 (List._∷_ 105 (List._∷_ 116 (List._∷_ 80 (List._∷_ 111 (List._∷_ 115 (List._∷_ 105
+      (List._∷_ 116 (List._∷_ 105 (List._∷_ 111 (List._∷_ 110 List.[]))))))))))))))))) (Syntax.tcons (Syntax.tyInt Syntax.w64) Syntax.tnil)) (Syntax.tcons (Syntax.tyInt Syntax.w64) Syntax.tnil))
+      (Syntax.ttcons (Syntax.tcons (Syntax.tyInt Syntax.w64) Syntax.tnil) Syntax.ttnil))),
 ) (List._∷_ (13, Rows'.any-gone (Syntax.tyArray (Syntax.tyInt Syntax.w16) 768)) (List._∷_ (
   14,
-  Rows'.any-gone (Syntax.tyRef
-      Syntax.erased Syntax.mut (Syntax.tyInt Syntax.w16)),
+  Rows'.any-gone
+      (Syntax.tyRef Syntax.erased Syntax.mut (Syntax.tyInt Syntax.w16)),
 ) (List._∷_ (
   15,
-  Rows'.any-gone (Syntax.tyStruct (List._∷_ 38 (List._∷_ 91 (List._∷_ 93 List.[]))) (Syntax.tcons (Syntax.tyRef Syntax.erased
-      Syntax.mut (Syntax.tyInt Syntax.w16)) (Syntax.tcons (Syntax.tyInt Syntax.w64) Syntax.tnil))),
+  Rows'.any-gone (Syntax.tyStruct (List._∷_ 38 (List._∷_ 91 (List._∷_ 93 List.[]))) (Syntax.tcons (Syntax.tyRef
+      Syntax.erased Syntax.mut (Syntax.tyInt Syntax.w16)) (Syntax.tcons (Syntax.tyInt Syntax.w64) Syntax.tnil))),
 ) List.[])))))))))))))))
 
 abbrev pub t7 : List.List Row.Entry
@@ -836,18 +839,18 @@ t7 = List._∷_ (
       (Syntax.tyInt Syntax.w16) 1),
 ) (List._∷_ (
   12,
-  Rows'.any-gone (Syntax.tyStruct (List._∷_ 98 (List._∷_ 108 (List._∷_ 111 (List._∷_ 99 (List._∷_ 107 (List._∷_ 58 (List._∷_ 58 (List._∷_ 87 (List._∷_ 97
-      (List._∷_ 108 (List._∷_ 107 (List._∷_ 101 (List._∷_ 100 List.[]))))))))))))) (Syntax.tcons Syntax.tyBool (Syntax.tcons (Syntax.tyInt Syntax.w64) (Syntax.tcons (Syntax.tyStruct (List._∷_ 98 (List._∷_
-      105 (List._∷_ 116 (List._∷_ 115 (List._∷_ 58 (List._∷_ 58 (List._∷_ 66 (List._∷_ 105 (List._∷_ 116 (List._∷_ 80 (List._∷_ 111 (List._∷_ 115 (List._∷_ 105 (List._∷_ 116 (List._∷_ 105 (List._∷_ 111
-      (List._∷_ 110 List.[]))))))))))))))))) (Syntax.tcons (Syntax.tyInt Syntax.w64) Syntax.tnil)) (Syntax.tcons (Syntax.tyInt Syntax.w64) Syntax.tnil))))),
+  Rows'.any-gone (Syntax.tyEnum (List._∷_ 98 (List._∷_ 108 (List._∷_ 111 (List._∷_ 99 (List._∷_ 107 (List._∷_ 58 (List._∷_ 58 (List._∷_ 87 (List._∷_ 97
+      (List._∷_ 108 (List._∷_ 107 (List._∷_ 101 (List._∷_ 100 List.[]))))))))))))) (Syntax.ttcons (Syntax.tcons (Syntax.tyStruct (List._∷_ 98 (List._∷_ 105 (List._∷_ 116 (List._∷_ 115 (List._∷_ 58 (List._∷_
+      58 (List._∷_ 66 (List._∷_ 105 (List._∷_ 116 (List._∷_ 80 (List._∷_ 111 (List._∷_ 115 (List._∷_ 105 (List._∷_ 116 (List._∷_ 105 (List._∷_ 111 (List._∷_ 110 List.[]))))))))))))))))) (Syntax.tcons
+      (Syntax.tyInt Syntax.w64) Syntax.tnil)) (Syntax.tcons (Syntax.tyInt Syntax.w64) Syntax.tnil)) (Syntax.ttcons (Syntax.tcons (Syntax.tyInt Syntax.w64) Syntax.tnil) Syntax.ttnil))),
 ) (List._∷_ (
   13,
-  Rows'.any-gone (Syntax.tyArray
-      (Syntax.tyInt Syntax.w16) 768),
+  Rows'.any-gone (Syntax.tyArray (Syntax.tyInt Syntax.w16) 768),
 ) (List._∷_ (14, Rows'.any-gone (Syntax.tyRef Syntax.erased Syntax.mut (Syntax.tyInt Syntax.w16))) (List._∷_ (
   15,
-  Rows'.any-gone (Syntax.tyStruct (List._∷_ 38
-      (List._∷_ 91 (List._∷_ 93 List.[]))) (Syntax.tcons (Syntax.tyRef Syntax.erased Syntax.mut (Syntax.tyInt Syntax.w16)) (Syntax.tcons (Syntax.tyInt Syntax.w64) Syntax.tnil))),
+  Rows'.any-gone
+      (Syntax.tyStruct (List._∷_ 38 (List._∷_ 91 (List._∷_ 93 List.[]))) (Syntax.tcons (Syntax.tyRef Syntax.erased Syntax.mut (Syntax.tyInt Syntax.w16)) (Syntax.tcons (Syntax.tyInt Syntax.w64)
+      Syntax.tnil))),
 ) List.[])))))))))))))))
 
 abbrev pub t8 : List.List Row.Entry
@@ -891,18 +894,18 @@ t8 = List._∷_ (
       (Syntax.tyInt Syntax.w16) 1),
 ) (List._∷_ (
   12,
-  Rows'.any-gone (Syntax.tyStruct (List._∷_ 98 (List._∷_ 108 (List._∷_ 111 (List._∷_ 99 (List._∷_ 107 (List._∷_ 58 (List._∷_ 58 (List._∷_ 87 (List._∷_ 97
-      (List._∷_ 108 (List._∷_ 107 (List._∷_ 101 (List._∷_ 100 List.[]))))))))))))) (Syntax.tcons Syntax.tyBool (Syntax.tcons (Syntax.tyInt Syntax.w64) (Syntax.tcons (Syntax.tyStruct (List._∷_ 98 (List._∷_
-      105 (List._∷_ 116 (List._∷_ 115 (List._∷_ 58 (List._∷_ 58 (List._∷_ 66 (List._∷_ 105 (List._∷_ 116 (List._∷_ 80 (List._∷_ 111 (List._∷_ 115 (List._∷_ 105 (List._∷_ 116 (List._∷_ 105 (List._∷_ 111
-      (List._∷_ 110 List.[]))))))))))))))))) (Syntax.tcons (Syntax.tyInt Syntax.w64) Syntax.tnil)) (Syntax.tcons (Syntax.tyInt Syntax.w64) Syntax.tnil))))),
+  Rows'.any-gone (Syntax.tyEnum (List._∷_ 98 (List._∷_ 108 (List._∷_ 111 (List._∷_ 99 (List._∷_ 107 (List._∷_ 58 (List._∷_ 58 (List._∷_ 87 (List._∷_ 97
+      (List._∷_ 108 (List._∷_ 107 (List._∷_ 101 (List._∷_ 100 List.[]))))))))))))) (Syntax.ttcons (Syntax.tcons (Syntax.tyStruct (List._∷_ 98 (List._∷_ 105 (List._∷_ 116 (List._∷_ 115 (List._∷_ 58 (List._∷_
+      58 (List._∷_ 66 (List._∷_ 105 (List._∷_ 116 (List._∷_ 80 (List._∷_ 111 (List._∷_ 115 (List._∷_ 105 (List._∷_ 116 (List._∷_ 105 (List._∷_ 111 (List._∷_ 110 List.[]))))))))))))))))) (Syntax.tcons
+      (Syntax.tyInt Syntax.w64) Syntax.tnil)) (Syntax.tcons (Syntax.tyInt Syntax.w64) Syntax.tnil)) (Syntax.ttcons (Syntax.tcons (Syntax.tyInt Syntax.w64) Syntax.tnil) Syntax.ttnil))),
 ) (List._∷_ (
   13,
-  Rows.arrF (Referent.rtF
-      (Referent.fInt Syntax.w16)) 768 0,
+  Rows.arrF (Referent.rtF (Referent.fInt Syntax.w16)) 768 0,
 ) (List._∷_ (14, Rows'.any-gone (Syntax.tyRef Syntax.erased Syntax.mut (Syntax.tyInt Syntax.w16))) (List._∷_ (
   15,
-  Rows'.any-gone (Syntax.tyStruct (List._∷_ 38
-      (List._∷_ 91 (List._∷_ 93 List.[]))) (Syntax.tcons (Syntax.tyRef Syntax.erased Syntax.mut (Syntax.tyInt Syntax.w16)) (Syntax.tcons (Syntax.tyInt Syntax.w64) Syntax.tnil))),
+  Rows'.any-gone
+      (Syntax.tyStruct (List._∷_ 38 (List._∷_ 91 (List._∷_ 93 List.[]))) (Syntax.tcons (Syntax.tyRef Syntax.erased Syntax.mut (Syntax.tyInt Syntax.w16)) (Syntax.tcons (Syntax.tyInt Syntax.w64)
+      Syntax.tnil))),
 ) List.[])))))))))))))))
 
 abbrev pub t9 : List.List Row.Entry
@@ -946,18 +949,18 @@ t9 = List._∷_ (
       (Syntax.tyInt Syntax.w16) 1),
 ) (List._∷_ (
   12,
-  Rows'.any-gone (Syntax.tyStruct (List._∷_ 98 (List._∷_ 108 (List._∷_ 111 (List._∷_ 99 (List._∷_ 107 (List._∷_ 58 (List._∷_ 58 (List._∷_ 87 (List._∷_ 97
-      (List._∷_ 108 (List._∷_ 107 (List._∷_ 101 (List._∷_ 100 List.[]))))))))))))) (Syntax.tcons Syntax.tyBool (Syntax.tcons (Syntax.tyInt Syntax.w64) (Syntax.tcons (Syntax.tyStruct (List._∷_ 98 (List._∷_
-      105 (List._∷_ 116 (List._∷_ 115 (List._∷_ 58 (List._∷_ 58 (List._∷_ 66 (List._∷_ 105 (List._∷_ 116 (List._∷_ 80 (List._∷_ 111 (List._∷_ 115 (List._∷_ 105 (List._∷_ 116 (List._∷_ 105 (List._∷_ 111
-      (List._∷_ 110 List.[]))))))))))))))))) (Syntax.tcons (Syntax.tyInt Syntax.w64) Syntax.tnil)) (Syntax.tcons (Syntax.tyInt Syntax.w64) Syntax.tnil))))),
+  Rows'.any-gone (Syntax.tyEnum (List._∷_ 98 (List._∷_ 108 (List._∷_ 111 (List._∷_ 99 (List._∷_ 107 (List._∷_ 58 (List._∷_ 58 (List._∷_ 87 (List._∷_ 97
+      (List._∷_ 108 (List._∷_ 107 (List._∷_ 101 (List._∷_ 100 List.[]))))))))))))) (Syntax.ttcons (Syntax.tcons (Syntax.tyStruct (List._∷_ 98 (List._∷_ 105 (List._∷_ 116 (List._∷_ 115 (List._∷_ 58 (List._∷_
+      58 (List._∷_ 66 (List._∷_ 105 (List._∷_ 116 (List._∷_ 80 (List._∷_ 111 (List._∷_ 115 (List._∷_ 105 (List._∷_ 116 (List._∷_ 105 (List._∷_ 111 (List._∷_ 110 List.[]))))))))))))))))) (Syntax.tcons
+      (Syntax.tyInt Syntax.w64) Syntax.tnil)) (Syntax.tcons (Syntax.tyInt Syntax.w64) Syntax.tnil)) (Syntax.ttcons (Syntax.tcons (Syntax.tyInt Syntax.w64) Syntax.tnil) Syntax.ttnil))),
 ) (List._∷_ (
   13,
-  Rows.arrF (Referent.rtF
-      (Referent.fInt Syntax.w16)) 768 0,
+  Rows.arrF (Referent.rtF (Referent.fInt Syntax.w16)) 768 0,
 ) (List._∷_ (14, Rows'.any-gone (Syntax.tyRef Syntax.erased Syntax.mut (Syntax.tyInt Syntax.w16))) (List._∷_ (
   15,
-  Rows'.any-gone (Syntax.tyStruct (List._∷_ 38
-      (List._∷_ 91 (List._∷_ 93 List.[]))) (Syntax.tcons (Syntax.tyRef Syntax.erased Syntax.mut (Syntax.tyInt Syntax.w16)) (Syntax.tcons (Syntax.tyInt Syntax.w64) Syntax.tnil))),
+  Rows'.any-gone
+      (Syntax.tyStruct (List._∷_ 38 (List._∷_ 91 (List._∷_ 93 List.[]))) (Syntax.tcons (Syntax.tyRef Syntax.erased Syntax.mut (Syntax.tyInt Syntax.w16)) (Syntax.tcons (Syntax.tyInt Syntax.w64)
+      Syntax.tnil))),
 ) List.[])))))))))))))))
 
 abbrev pub t10 : List.List Row.Entry
@@ -1001,18 +1004,18 @@ t10 = List._∷_ (
       (Syntax.tyInt Syntax.w16) 1),
 ) (List._∷_ (
   12,
-  Rows'.any-gone (Syntax.tyStruct (List._∷_ 98 (List._∷_ 108 (List._∷_ 111 (List._∷_ 99 (List._∷_ 107 (List._∷_ 58 (List._∷_ 58 (List._∷_ 87 (List._∷_ 97
-      (List._∷_ 108 (List._∷_ 107 (List._∷_ 101 (List._∷_ 100 List.[]))))))))))))) (Syntax.tcons Syntax.tyBool (Syntax.tcons (Syntax.tyInt Syntax.w64) (Syntax.tcons (Syntax.tyStruct (List._∷_ 98 (List._∷_
-      105 (List._∷_ 116 (List._∷_ 115 (List._∷_ 58 (List._∷_ 58 (List._∷_ 66 (List._∷_ 105 (List._∷_ 116 (List._∷_ 80 (List._∷_ 111 (List._∷_ 115 (List._∷_ 105 (List._∷_ 116 (List._∷_ 105 (List._∷_ 111
-      (List._∷_ 110 List.[]))))))))))))))))) (Syntax.tcons (Syntax.tyInt Syntax.w64) Syntax.tnil)) (Syntax.tcons (Syntax.tyInt Syntax.w64) Syntax.tnil))))),
+  Rows'.any-gone (Syntax.tyEnum (List._∷_ 98 (List._∷_ 108 (List._∷_ 111 (List._∷_ 99 (List._∷_ 107 (List._∷_ 58 (List._∷_ 58 (List._∷_ 87 (List._∷_ 97
+      (List._∷_ 108 (List._∷_ 107 (List._∷_ 101 (List._∷_ 100 List.[]))))))))))))) (Syntax.ttcons (Syntax.tcons (Syntax.tyStruct (List._∷_ 98 (List._∷_ 105 (List._∷_ 116 (List._∷_ 115 (List._∷_ 58 (List._∷_
+      58 (List._∷_ 66 (List._∷_ 105 (List._∷_ 116 (List._∷_ 80 (List._∷_ 111 (List._∷_ 115 (List._∷_ 105 (List._∷_ 116 (List._∷_ 105 (List._∷_ 111 (List._∷_ 110 List.[]))))))))))))))))) (Syntax.tcons
+      (Syntax.tyInt Syntax.w64) Syntax.tnil)) (Syntax.tcons (Syntax.tyInt Syntax.w64) Syntax.tnil)) (Syntax.ttcons (Syntax.tcons (Syntax.tyInt Syntax.w64) Syntax.tnil) Syntax.ttnil))),
 ) (List._∷_ (
   13,
-  Rows'.any-gone (Syntax.tyArray
-      (Syntax.tyInt Syntax.w16) 768),
+  Rows'.any-gone (Syntax.tyArray (Syntax.tyInt Syntax.w16) 768),
 ) (List._∷_ (14, Rows'.any-gone (Syntax.tyRef Syntax.erased Syntax.mut (Syntax.tyInt Syntax.w16))) (List._∷_ (
   15,
-  Rows'.any-gone (Syntax.tyStruct (List._∷_ 38
-      (List._∷_ 91 (List._∷_ 93 List.[]))) (Syntax.tcons (Syntax.tyRef Syntax.erased Syntax.mut (Syntax.tyInt Syntax.w16)) (Syntax.tcons (Syntax.tyInt Syntax.w64) Syntax.tnil))),
+  Rows'.any-gone
+      (Syntax.tyStruct (List._∷_ 38 (List._∷_ 91 (List._∷_ 93 List.[]))) (Syntax.tcons (Syntax.tyRef Syntax.erased Syntax.mut (Syntax.tyInt Syntax.w16)) (Syntax.tcons (Syntax.tyInt Syntax.w64)
+      Syntax.tnil))),
 ) List.[])))))))))))))))
 
 abbrev pub t11 : List.List Row.Entry
@@ -1056,20 +1059,19 @@ t11 = List._∷_ (
       (Referent.fInt Syntax.w16)) 1),
 ) (List._∷_ (
   12,
-  Rows'.any-gone (Syntax.tyStruct (List._∷_ 98 (List._∷_ 108 (List._∷_ 111 (List._∷_ 99 (List._∷_ 107 (List._∷_ 58 (List._∷_ 58 (List._∷_ 87 (List._∷_
-      97 (List._∷_ 108 (List._∷_ 107 (List._∷_ 101 (List._∷_ 100 List.[]))))))))))))) (Syntax.tcons Syntax.tyBool (Syntax.tcons (Syntax.tyInt Syntax.w64) (Syntax.tcons (Syntax.tyStruct (List._∷_ 98
-      (List._∷_ 105 (List._∷_ 116 (List._∷_ 115 (List._∷_ 58 (List._∷_ 58 (List._∷_ 66 (List._∷_ 105 (List._∷_ 116 (List._∷_ 80 (List._∷_ 111 (List._∷_ 115 (List._∷_ 105 (List._∷_ 116 (List._∷_ 105
-      (List._∷_ 111 (List._∷_ 110 List.[]))))))))))))))))) (Syntax.tcons (Syntax.tyInt Syntax.w64) Syntax.tnil)) (Syntax.tcons (Syntax.tyInt Syntax.w64) Syntax.tnil))))),
+  Rows'.any-gone (Syntax.tyEnum (List._∷_ 98 (List._∷_ 108 (List._∷_ 111 (List._∷_ 99 (List._∷_ 107 (List._∷_ 58 (List._∷_ 58 (List._∷_ 87 (List._∷_ 97
+      (List._∷_ 108 (List._∷_ 107 (List._∷_ 101 (List._∷_ 100 List.[]))))))))))))) (Syntax.ttcons (Syntax.tcons (Syntax.tyStruct (List._∷_ 98 (List._∷_ 105 (List._∷_ 116 (List._∷_ 115 (List._∷_ 58 (List._∷_
+      58 (List._∷_ 66 (List._∷_ 105 (List._∷_ 116 (List._∷_ 80 (List._∷_ 111 (List._∷_ 115 (List._∷_ 105 (List._∷_ 116 (List._∷_ 105 (List._∷_ 111 (List._∷_ 110 List.[]))))))))))))))))) (Syntax.tcons
+      (Syntax.tyInt Syntax.w64) Syntax.tnil)) (Syntax.tcons (Syntax.tyInt Syntax.w64) Syntax.tnil)) (Syntax.ttcons (Syntax.tcons (Syntax.tyInt Syntax.w64) Syntax.tnil) Syntax.ttnil))),
 ) (List._∷_ (
   13,
-  Rows'.any-gone
-      (Syntax.tyArray (Syntax.tyInt Syntax.w16) 768),
+  Rows'.any-gone (Syntax.tyArray (Syntax.tyInt Syntax.w16) 768),
 ) (List._∷_ (14, Rows'.any-gone (Syntax.tyRef Syntax.erased Syntax.mut (Syntax.tyInt Syntax.w16))) (List._∷_ (
   15,
-  Rows'.any-gone (Syntax.tyStruct
-      (List._∷_ 38 (List._∷_ 91 (List._∷_ 93 List.[]))) (Syntax.tcons (Syntax.tyRef Syntax.erased Syntax.mut (Syntax.tyInt Syntax.w16)) (Syntax.tcons (Syntax.tyInt Syntax.w64) Syntax.tnil))),
-)
-    List.[])))))))))))))))
+  Rows'.any-gone
+      (Syntax.tyStruct (List._∷_ 38 (List._∷_ 91 (List._∷_ 93 List.[]))) (Syntax.tcons (Syntax.tyRef Syntax.erased Syntax.mut (Syntax.tyInt Syntax.w16)) (Syntax.tcons (Syntax.tyInt Syntax.w64)
+      Syntax.tnil))),
+) List.[])))))))))))))))
 
 abbrev pub t12 : List.List Row.Entry
 t12 = List._∷_ (
@@ -1112,19 +1114,20 @@ t12 = List._∷_ (
       Syntax.w16)) 1 0,
 ) (List._∷_ (
   12,
-  Rows'.any-gone (Syntax.tyStruct (List._∷_ 98 (List._∷_ 108 (List._∷_ 111 (List._∷_ 99 (List._∷_ 107 (List._∷_ 58 (List._∷_ 58 (List._∷_ 87 (List._∷_ 97 (List._∷_
-      108 (List._∷_ 107 (List._∷_ 101 (List._∷_ 100 List.[]))))))))))))) (Syntax.tcons Syntax.tyBool (Syntax.tcons (Syntax.tyInt Syntax.w64) (Syntax.tcons (Syntax.tyStruct (List._∷_ 98 (List._∷_ 105
-      (List._∷_ 116 (List._∷_ 115 (List._∷_ 58 (List._∷_ 58 (List._∷_ 66 (List._∷_ 105 (List._∷_ 116 (List._∷_ 80 (List._∷_ 111 (List._∷_ 115 (List._∷_ 105 (List._∷_ 116 (List._∷_ 105 (List._∷_ 111
-      (List._∷_ 110 List.[]))))))))))))))))) (Syntax.tcons (Syntax.tyInt Syntax.w64) Syntax.tnil)) (Syntax.tcons (Syntax.tyInt Syntax.w64) Syntax.tnil))))),
+  Rows'.any-gone (Syntax.tyEnum (List._∷_ 98 (List._∷_ 108 (List._∷_ 111 (List._∷_ 99 (List._∷_ 107 (List._∷_ 58 (List._∷_ 58 (List._∷_ 87 (List._∷_ 97 (List._∷_ 108
+      (List._∷_ 107 (List._∷_ 101 (List._∷_ 100 List.[]))))))))))))) (Syntax.ttcons (Syntax.tcons (Syntax.tyStruct (List._∷_ 98 (List._∷_ 105 (List._∷_ 116 (List._∷_ 115 (List._∷_ 58 (List._∷_ 58 (List._∷_
+      66 (List._∷_ 105 (List._∷_ 116 (List._∷_ 80 (List._∷_ 111 (List._∷_ 115 (List._∷_ 105 (List._∷_ 116 (List._∷_ 105 (List._∷_ 111 (List._∷_ 110 List.[]))))))))))))))))) (Syntax.tcons (Syntax.tyInt
+      Syntax.w64) Syntax.tnil)) (Syntax.tcons (Syntax.tyInt Syntax.w64) Syntax.tnil)) (Syntax.ttcons (Syntax.tcons (Syntax.tyInt Syntax.w64) Syntax.tnil) Syntax.ttnil))),
 ) (List._∷_ (
   13,
-  Rows'.any-gone (Syntax.tyArray
-      (Syntax.tyInt Syntax.w16) 768),
+  Rows'.any-gone
+      (Syntax.tyArray (Syntax.tyInt Syntax.w16) 768),
 ) (List._∷_ (14, Rows'.any-gone (Syntax.tyRef Syntax.erased Syntax.mut (Syntax.tyInt Syntax.w16))) (List._∷_ (
   15,
-  Rows'.any-gone (Syntax.tyStruct (List._∷_ 38
-      (List._∷_ 91 (List._∷_ 93 List.[]))) (Syntax.tcons (Syntax.tyRef Syntax.erased Syntax.mut (Syntax.tyInt Syntax.w16)) (Syntax.tcons (Syntax.tyInt Syntax.w64) Syntax.tnil))),
-) List.[])))))))))))))))
+  Rows'.any-gone (Syntax.tyStruct
+      (List._∷_ 38 (List._∷_ 91 (List._∷_ 93 List.[]))) (Syntax.tcons (Syntax.tyRef Syntax.erased Syntax.mut (Syntax.tyInt Syntax.w16)) (Syntax.tcons (Syntax.tyInt Syntax.w64) Syntax.tnil))),
+)
+    List.[])))))))))))))))
 
 abbrev pub t13 : List.List Row.Entry
 t13 = List._∷_ (
@@ -1168,18 +1171,19 @@ t13 = List._∷_ (
       (Referent.rtF (Referent.fInt Syntax.w16)) 1 0,
 ) (List._∷_ (
   12,
-  Rows'.any-gone (Syntax.tyStruct (List._∷_ 98 (List._∷_ 108 (List._∷_ 111 (List._∷_ 99 (List._∷_ 107 (List._∷_ 58 (List._∷_ 58 (List._∷_
-      87 (List._∷_ 97 (List._∷_ 108 (List._∷_ 107 (List._∷_ 101 (List._∷_ 100 List.[]))))))))))))) (Syntax.tcons Syntax.tyBool (Syntax.tcons (Syntax.tyInt Syntax.w64) (Syntax.tcons (Syntax.tyStruct
-      (List._∷_ 98 (List._∷_ 105 (List._∷_ 116 (List._∷_ 115 (List._∷_ 58 (List._∷_ 58 (List._∷_ 66 (List._∷_ 105 (List._∷_ 116 (List._∷_ 80 (List._∷_ 111 (List._∷_ 115 (List._∷_ 105 (List._∷_ 116 (List._∷_
-      105 (List._∷_ 111 (List._∷_ 110 List.[]))))))))))))))))) (Syntax.tcons (Syntax.tyInt Syntax.w64) Syntax.tnil)) (Syntax.tcons (Syntax.tyInt Syntax.w64) Syntax.tnil))))),
+  Rows'.any-gone (Syntax.tyEnum (List._∷_ 98 (List._∷_ 108 (List._∷_ 111 (List._∷_ 99 (List._∷_ 107 (List._∷_ 58 (List._∷_ 58 (List._∷_
+      87 (List._∷_ 97 (List._∷_ 108 (List._∷_ 107 (List._∷_ 101 (List._∷_ 100 List.[]))))))))))))) (Syntax.ttcons (Syntax.tcons (Syntax.tyStruct (List._∷_ 98 (List._∷_ 105 (List._∷_ 116 (List._∷_ 115
+      (List._∷_ 58 (List._∷_ 58 (List._∷_ 66 (List._∷_ 105 (List._∷_ 116 (List._∷_ 80 (List._∷_ 111 (List._∷_ 115 (List._∷_ 105 (List._∷_ 116 (List._∷_ 105 (List._∷_ 111 (List._∷_ 110
+      List.[]))))))))))))))))) (Syntax.tcons (Syntax.tyInt Syntax.w64) Syntax.tnil)) (Syntax.tcons (Syntax.tyInt Syntax.w64) Syntax.tnil)) (Syntax.ttcons (Syntax.tcons (Syntax.tyInt Syntax.w64) Syntax.tnil)
+      Syntax.ttnil))),
+) (List._∷_ (13, Rows'.any-gone (Syntax.tyArray (Syntax.tyInt Syntax.w16) 768)) (List._∷_ (
+  14,
+  Relend.msptr (Referent.rtF (Referent.fInt Syntax.w16)) (Syntax.tyRef Syntax.erased
+      Syntax.mut (Syntax.tyInt Syntax.w16)) 3,
 ) (List._∷_ (
-  13,
-  Rows'.any-gone
-      (Syntax.tyArray (Syntax.tyInt Syntax.w16) 768),
-) (List._∷_ (14, Relend.msptr (Referent.rtF (Referent.fInt Syntax.w16)) (Syntax.tyRef Syntax.erased Syntax.mut (Syntax.tyInt Syntax.w16)) 3) (List._∷_ (
   15,
-  Rows'.any-gone (Syntax.tyStruct (List._∷_ 38 (List._∷_ 91 (List._∷_ 93 List.[]))) (Syntax.tcons (Syntax.tyRef Syntax.erased Syntax.mut (Syntax.tyInt Syntax.w16)) (Syntax.tcons (Syntax.tyInt
-      Syntax.w64) Syntax.tnil))),
+  Rows'.any-gone (Syntax.tyStruct (List._∷_ 38 (List._∷_ 91 (List._∷_ 93 List.[]))) (Syntax.tcons (Syntax.tyRef Syntax.erased Syntax.mut
+      (Syntax.tyInt Syntax.w16)) (Syntax.tcons (Syntax.tyInt Syntax.w64) Syntax.tnil))),
 ) List.[])))))))))))))))
 
 abbrev pub t14 : List.List Row.Entry
@@ -1224,19 +1228,13 @@ t14 = List._∷_ (
       (Referent.rtF (Referent.fInt Syntax.w16)) 1 0,
 ) (List._∷_ (
   12,
-  Rows'.any-gone (Syntax.tyStruct (List._∷_ 98 (List._∷_ 108 (List._∷_ 111 (List._∷_ 99 (List._∷_ 107 (List._∷_ 58 (List._∷_ 58 (List._∷_
-      87 (List._∷_ 97 (List._∷_ 108 (List._∷_ 107 (List._∷_ 101 (List._∷_ 100 List.[]))))))))))))) (Syntax.tcons Syntax.tyBool (Syntax.tcons (Syntax.tyInt Syntax.w64) (Syntax.tcons (Syntax.tyStruct
-      (List._∷_ 98 (List._∷_ 105 (List._∷_ 116 (List._∷_ 115 (List._∷_ 58 (List._∷_ 58 (List._∷_ 66 (List._∷_ 105 (List._∷_ 116 (List._∷_ 80 (List._∷_ 111 (List._∷_ 115 (List._∷_ 105 (List._∷_ 116 (List._∷_
-      105 (List._∷_ 111 (List._∷_ 110 List.[]))))))))))))))))) (Syntax.tcons (Syntax.tyInt Syntax.w64) Syntax.tnil)) (Syntax.tcons (Syntax.tyInt Syntax.w64) Syntax.tnil))))),
-) (List._∷_ (
-  13,
-  Rows'.any-gone
-      (Syntax.tyArray (Syntax.tyInt Syntax.w16) 768),
-) (List._∷_ (14, Rows'.any-gone (Syntax.tyRef Syntax.erased Syntax.mut (Syntax.tyInt Syntax.w16))) (List._∷_ (
-  15,
-  Mut.mslice (Referent.rtF
-      (Referent.fInt Syntax.w16)) (Syntax.tyRef Syntax.erased Syntax.mut (Syntax.tyInt Syntax.w16)) 3,
-) List.[])))))))))))))))
+  Rows'.any-gone (Syntax.tyEnum (List._∷_ 98 (List._∷_ 108 (List._∷_ 111 (List._∷_ 99 (List._∷_ 107 (List._∷_ 58 (List._∷_ 58 (List._∷_
+      87 (List._∷_ 97 (List._∷_ 108 (List._∷_ 107 (List._∷_ 101 (List._∷_ 100 List.[]))))))))))))) (Syntax.ttcons (Syntax.tcons (Syntax.tyStruct (List._∷_ 98 (List._∷_ 105 (List._∷_ 116 (List._∷_ 115
+      (List._∷_ 58 (List._∷_ 58 (List._∷_ 66 (List._∷_ 105 (List._∷_ 116 (List._∷_ 80 (List._∷_ 111 (List._∷_ 115 (List._∷_ 105 (List._∷_ 116 (List._∷_ 105 (List._∷_ 111 (List._∷_ 110
+      List.[]))))))))))))))))) (Syntax.tcons (Syntax.tyInt Syntax.w64) Syntax.tnil)) (Syntax.tcons (Syntax.tyInt Syntax.w64) Syntax.tnil)) (Syntax.ttcons (Syntax.tcons (Syntax.tyInt Syntax.w64) Syntax.tnil)
+      Syntax.ttnil))),
+) (List._∷_ (13, Rows'.any-gone (Syntax.tyArray (Syntax.tyInt Syntax.w16) 768)) (List._∷_ (14, Rows'.any-gone (Syntax.tyRef Syntax.erased Syntax.mut (Syntax.tyInt Syntax.w16)))
+    (List._∷_ (15, Mut.mslice (Referent.rtF (Referent.fInt Syntax.w16)) (Syntax.tyRef Syntax.erased Syntax.mut (Syntax.tyInt Syntax.w16)) 3) List.[])))))))))))))))
 
 abbrev pub t15 : List.List Row.Entry
 t15 = List._∷_ (
@@ -1274,15 +1272,16 @@ t15 = List._∷_ (
 ) (List._∷_ (10, Rows.arrF (Referent.rtF (Referent.fInt Syntax.w16)) 768 0)
     (List._∷_ (11, Rows.arrF (Referent.rtF (Referent.fInt Syntax.w16)) 1 0) (List._∷_ (
       12,
-      Rows'.any-gone (Syntax.tyStruct (List._∷_ 98 (List._∷_ 108 (List._∷_ 111 (List._∷_ 99 (List._∷_ 107 (List._∷_
-          58 (List._∷_ 58 (List._∷_ 87 (List._∷_ 97 (List._∷_ 108 (List._∷_ 107 (List._∷_ 101 (List._∷_ 100 List.[]))))))))))))) (Syntax.tcons Syntax.tyBool (Syntax.tcons (Syntax.tyInt Syntax.w64) (Syntax.tcons
-          (Syntax.tyStruct (List._∷_ 98 (List._∷_ 105 (List._∷_ 116 (List._∷_ 115 (List._∷_ 58 (List._∷_ 58 (List._∷_ 66 (List._∷_ 105 (List._∷_ 116 (List._∷_ 80 (List._∷_ 111 (List._∷_ 115 (List._∷_ 105
-          (List._∷_ 116 (List._∷_ 105 (List._∷_ 111 (List._∷_ 110 List.[]))))))))))))))))) (Syntax.tcons (Syntax.tyInt Syntax.w64) Syntax.tnil)) (Syntax.tcons (Syntax.tyInt Syntax.w64) Syntax.tnil))))),
-    )
-    (List._∷_ (13, Rows'.any-gone (Syntax.tyArray (Syntax.tyInt Syntax.w16) 768)) (List._∷_ (14, Rows'.any-gone (Syntax.tyRef Syntax.erased Syntax.mut (Syntax.tyInt Syntax.w16))) (List._∷_ (
-      15,
-      Mut.mslice (Referent.rtF (Referent.fInt Syntax.w16)) (Syntax.tyRef Syntax.erased Syntax.mut (Syntax.tyInt Syntax.w16)) 3,
-    ) List.[])))))))))))))))
+      Rows'.any-gone (Syntax.tyEnum (List._∷_ 98 (List._∷_ 108 (List._∷_ 111 (List._∷_ 99 (List._∷_ 107 (List._∷_
+          58 (List._∷_ 58 (List._∷_ 87 (List._∷_ 97 (List._∷_ 108 (List._∷_ 107 (List._∷_ 101 (List._∷_ 100 List.[]))))))))))))) (Syntax.ttcons (Syntax.tcons (Syntax.tyStruct (List._∷_ 98 (List._∷_ 105
+          (List._∷_ 116 (List._∷_ 115 (List._∷_ 58 (List._∷_ 58 (List._∷_ 66 (List._∷_ 105 (List._∷_ 116 (List._∷_ 80 (List._∷_ 111 (List._∷_ 115 (List._∷_ 105 (List._∷_ 116 (List._∷_ 105 (List._∷_ 111
+          (List._∷_ 110 List.[]))))))))))))))))) (Syntax.tcons (Syntax.tyInt Syntax.w64) Syntax.tnil)) (Syntax.tcons (Syntax.tyInt Syntax.w64) Syntax.tnil)) (Syntax.ttcons (Syntax.tcons (Syntax.tyInt
+          Syntax.w64) Syntax.tnil) Syntax.ttnil))),
+    ) (List._∷_ (13, Rows'.any-gone (Syntax.tyArray (Syntax.tyInt Syntax.w16) 768)) (List._∷_ (
+      14,
+      Rows'.any-gone (Syntax.tyRef Syntax.erased Syntax.mut
+          (Syntax.tyInt Syntax.w16)),
+    ) (List._∷_ (15, Mut.mslice (Referent.rtF (Referent.fInt Syntax.w16)) (Syntax.tyRef Syntax.erased Syntax.mut (Syntax.tyInt Syntax.w16)) 3) List.[])))))))))))))))
 
 abbrev pub t16 : List.List Row.Entry
 t16 = List._∷_ (16, Relend.msptr (Element.type) (Syntax.tyRef Syntax.erased Syntax.mut Element.behind) 4) (List._∷_ (
@@ -1362,13 +1361,16 @@ t18 = List._∷_ (
 ) (List._∷_ (10, Rows.arrF (Referent.rtF (Referent.fInt Syntax.w16)) 768 0)
     (List._∷_ (11, Rows.arr-owed (Referent.rtF (Referent.fInt Syntax.w16)) 1 5) (List._∷_ (
       12,
-      Rows'.any-gone (Syntax.tyStruct (List._∷_ 98 (List._∷_ 108 (List._∷_ 111 (List._∷_ 99 (List._∷_ 107
-          (List._∷_ 58 (List._∷_ 58 (List._∷_ 87 (List._∷_ 97 (List._∷_ 108 (List._∷_ 107 (List._∷_ 101 (List._∷_ 100 List.[]))))))))))))) (Syntax.tcons Syntax.tyBool (Syntax.tcons (Syntax.tyInt Syntax.w64)
-          (Syntax.tcons (Syntax.tyStruct (List._∷_ 98 (List._∷_ 105 (List._∷_ 116 (List._∷_ 115 (List._∷_ 58 (List._∷_ 58 (List._∷_ 66 (List._∷_ 105 (List._∷_ 116 (List._∷_ 80 (List._∷_ 111 (List._∷_ 115
-          (List._∷_ 105 (List._∷_ 116 (List._∷_ 105 (List._∷_ 111 (List._∷_ 110 List.[]))))))))))))))))) (Syntax.tcons (Syntax.tyInt Syntax.w64) Syntax.tnil)) (Syntax.tcons (Syntax.tyInt Syntax.w64)
-          Syntax.tnil))))),
-    ) (List._∷_ (13, Rows'.any-gone (Syntax.tyArray (Syntax.tyInt Syntax.w16) 768)) (List._∷_ (14, Rows'.any-gone (Syntax.tyRef Syntax.erased Syntax.mut (Syntax.tyInt Syntax.w16)))
-    (List._∷_ (15, Mut.mslice (Referent.rtF (Referent.fInt Syntax.w16)) (Syntax.tyRef Syntax.erased Syntax.mut (Syntax.tyInt Syntax.w16)) 3) List.[])))))))))))))))
+      Rows'.any-gone (Syntax.tyEnum (List._∷_ 98 (List._∷_ 108 (List._∷_ 111 (List._∷_ 99 (List._∷_ 107
+          (List._∷_ 58 (List._∷_ 58 (List._∷_ 87 (List._∷_ 97 (List._∷_ 108 (List._∷_ 107 (List._∷_ 101 (List._∷_ 100 List.[]))))))))))))) (Syntax.ttcons (Syntax.tcons (Syntax.tyStruct (List._∷_ 98 (List._∷_
+          105 (List._∷_ 116 (List._∷_ 115 (List._∷_ 58 (List._∷_ 58 (List._∷_ 66 (List._∷_ 105 (List._∷_ 116 (List._∷_ 80 (List._∷_ 111 (List._∷_ 115 (List._∷_ 105 (List._∷_ 116 (List._∷_ 105 (List._∷_ 111
+          (List._∷_ 110 List.[]))))))))))))))))) (Syntax.tcons (Syntax.tyInt Syntax.w64) Syntax.tnil)) (Syntax.tcons (Syntax.tyInt Syntax.w64) Syntax.tnil)) (Syntax.ttcons (Syntax.tcons (Syntax.tyInt
+          Syntax.w64) Syntax.tnil) Syntax.ttnil))),
+    ) (List._∷_ (13, Rows'.any-gone (Syntax.tyArray (Syntax.tyInt Syntax.w16) 768)) (List._∷_ (
+      14,
+      Rows'.any-gone (Syntax.tyRef Syntax.erased Syntax.mut
+          (Syntax.tyInt Syntax.w16)),
+    ) (List._∷_ (15, Mut.mslice (Referent.rtF (Referent.fInt Syntax.w16)) (Syntax.tyRef Syntax.erased Syntax.mut (Syntax.tyInt Syntax.w16)) 3) List.[])))))))))))))))
 
 abbrev pub t19 : List.List Row.Entry
 t19 = List._∷_ (16, Rows'.any-gone (Syntax.tyRef Syntax.erased Syntax.mut Element.behind)) (List._∷_ (17, Mut.mslice (Element.type) (Syntax.tyRef Syntax.erased Syntax.mut Element.behind) 4)
@@ -1441,16 +1443,19 @@ t21 = List._∷_ (
       Syntax.w16)) 768 0) (Array'.Array (Referent.rtF (Referent.fInt Syntax.w16)) 768) (λ x. x) 6,
 ) (List._∷_ (11, Rows.arr-owed (Referent.rtF (Referent.fInt Syntax.w16)) 1 5) (List._∷_ (
   12,
-  Rows'.any-gone (Syntax.tyStruct (List._∷_ 98 (List._∷_ 108 (List._∷_ 111 (List._∷_ 99 (List._∷_ 107 (List._∷_ 58 (List._∷_ 58 (List._∷_ 87 (List._∷_ 97 (List._∷_ 108 (List._∷_ 107 (List._∷_ 101
-      (List._∷_ 100 List.[]))))))))))))) (Syntax.tcons Syntax.tyBool (Syntax.tcons (Syntax.tyInt Syntax.w64) (Syntax.tcons (Syntax.tyStruct (List._∷_ 98 (List._∷_ 105 (List._∷_ 116 (List._∷_ 115 (List._∷_
-      58 (List._∷_ 58 (List._∷_ 66 (List._∷_ 105 (List._∷_ 116 (List._∷_ 80 (List._∷_ 111 (List._∷_ 115 (List._∷_ 105 (List._∷_ 116 (List._∷_ 105 (List._∷_ 111 (List._∷_ 110 List.[])))))))))))))))))
-      (Syntax.tcons (Syntax.tyInt Syntax.w64) Syntax.tnil)) (Syntax.tcons (Syntax.tyInt Syntax.w64) Syntax.tnil))))),
-) (List._∷_ (13, Rows'.any-gone (Syntax.tyArray (Syntax.tyInt Syntax.w16) 768))
-    (List._∷_ (14, Rows'.any-gone (Syntax.tyRef Syntax.erased Syntax.mut (Syntax.tyInt Syntax.w16))) (List._∷_ (
-      15,
-      Mut.mslice (Referent.rtF (Referent.fInt Syntax.w16)) (Syntax.tyRef Syntax.erased
-          Syntax.mut (Syntax.tyInt Syntax.w16)) 3,
-    ) List.[])))))))))))))))
+  Rows'.any-gone (Syntax.tyEnum (List._∷_ 98 (List._∷_ 108 (List._∷_ 111 (List._∷_ 99 (List._∷_ 107 (List._∷_ 58 (List._∷_ 58 (List._∷_ 87 (List._∷_ 97 (List._∷_ 108 (List._∷_ 107 (List._∷_ 101
+      (List._∷_ 100 List.[]))))))))))))) (Syntax.ttcons (Syntax.tcons (Syntax.tyStruct (List._∷_ 98 (List._∷_ 105 (List._∷_ 116 (List._∷_ 115 (List._∷_ 58 (List._∷_ 58 (List._∷_ 66 (List._∷_ 105 (List._∷_
+      116 (List._∷_ 80 (List._∷_ 111 (List._∷_ 115 (List._∷_ 105 (List._∷_ 116 (List._∷_ 105 (List._∷_ 111 (List._∷_ 110 List.[]))))))))))))))))) (Syntax.tcons (Syntax.tyInt Syntax.w64) Syntax.tnil))
+      (Syntax.tcons (Syntax.tyInt Syntax.w64) Syntax.tnil)) (Syntax.ttcons (Syntax.tcons (Syntax.tyInt Syntax.w64) Syntax.tnil) Syntax.ttnil))),
+) (List._∷_ (
+  13,
+  Rows'.any-gone (Syntax.tyArray (Syntax.tyInt
+      Syntax.w16) 768),
+) (List._∷_ (14, Rows'.any-gone (Syntax.tyRef Syntax.erased Syntax.mut (Syntax.tyInt Syntax.w16))) (List._∷_ (
+  15,
+  Mut.mslice (Referent.rtF (Referent.fInt Syntax.w16)) (Syntax.tyRef
+      Syntax.erased Syntax.mut (Syntax.tyInt Syntax.w16)) 3,
+) List.[])))))))))))))))
 
 abbrev pub t22 : List.List Row.Entry
 t22 = List._∷_ (16, Rows'.any-gone (Syntax.tyRef Syntax.erased Syntax.mut Element.behind)) (List._∷_ (17, Mut.mslice (Element.type) (Syntax.tyRef Syntax.erased Syntax.mut Element.behind) 4)
@@ -1557,20 +1562,17 @@ t26 = List._∷_ (
       (Array'.Array (Referent.rtF (Referent.fInt Syntax.w16)) 768) (λ x. x) 6,
 ) (List._∷_ (11, Rows.arr-owed (Referent.rtF (Referent.fInt Syntax.w16)) 1 5) (List._∷_ (
   12,
-  Rows'.any-gone (Syntax.tyStruct
+  Rows'.any-gone (Syntax.tyEnum
       (List._∷_ 98 (List._∷_ 108 (List._∷_ 111 (List._∷_ 99 (List._∷_ 107 (List._∷_ 58 (List._∷_ 58 (List._∷_ 87 (List._∷_ 97 (List._∷_ 108 (List._∷_ 107 (List._∷_ 101 (List._∷_ 100 List.[])))))))))))))
-      (Syntax.tcons Syntax.tyBool (Syntax.tcons (Syntax.tyInt Syntax.w64) (Syntax.tcons (Syntax.tyStruct (List._∷_ 98 (List._∷_ 105 (List._∷_ 116 (List._∷_ 115 (List._∷_ 58 (List._∷_ 58 (List._∷_ 66
-      (List._∷_ 105 (List._∷_ 116 (List._∷_ 80 (List._∷_ 111 (List._∷_ 115 (List._∷_ 105 (List._∷_ 116 (List._∷_ 105 (List._∷_ 111 (List._∷_ 110 List.[]))))))))))))))))) (Syntax.tcons (Syntax.tyInt
-      Syntax.w64) Syntax.tnil)) (Syntax.tcons (Syntax.tyInt Syntax.w64) Syntax.tnil))))),
-) (List._∷_ (13, Rows'.any-gone (Syntax.tyArray (Syntax.tyInt Syntax.w16) 768)) (List._∷_ (
-  14,
-  Rows'.any-gone
-      (Syntax.tyRef Syntax.erased Syntax.mut (Syntax.tyInt Syntax.w16)),
-) (List._∷_ (
-  15,
-  Mut.mslice (Referent.rtF (Referent.fInt Syntax.w16)) (Syntax.tyRef Syntax.erased Syntax.mut (Syntax.tyInt
-      Syntax.w16)) 3,
-) List.[])))))))))))))))
+      (Syntax.ttcons (Syntax.tcons (Syntax.tyStruct (List._∷_ 98 (List._∷_ 105 (List._∷_ 116 (List._∷_ 115 (List._∷_ 58 (List._∷_ 58 (List._∷_ 66 (List._∷_ 105 (List._∷_ 116 (List._∷_ 80 (List._∷_ 111
+      (List._∷_ 115 (List._∷_ 105 (List._∷_ 116 (List._∷_ 105 (List._∷_ 111 (List._∷_ 110 List.[]))))))))))))))))) (Syntax.tcons (Syntax.tyInt Syntax.w64) Syntax.tnil)) (Syntax.tcons (Syntax.tyInt
+      Syntax.w64) Syntax.tnil)) (Syntax.ttcons (Syntax.tcons (Syntax.tyInt Syntax.w64) Syntax.tnil) Syntax.ttnil))),
+) (List._∷_ (13, Rows'.any-gone (Syntax.tyArray (Syntax.tyInt Syntax.w16) 768)) (List._∷_
+    (14, Rows'.any-gone (Syntax.tyRef Syntax.erased Syntax.mut (Syntax.tyInt Syntax.w16))) (List._∷_ (
+      15,
+      Mut.mslice (Referent.rtF (Referent.fInt Syntax.w16)) (Syntax.tyRef Syntax.erased Syntax.mut
+          (Syntax.tyInt Syntax.w16)) 3,
+    ) List.[])))))))))))))))
 
 abbrev pub t27 : List.List Row.Entry
 t27 = List._∷_ (
@@ -1613,7 +1615,7 @@ t27 = List._∷_ (
       (Array'.Array (Referent.rtF (Referent.fInt Syntax.w16)) 768) (λ x. x) 6,
 ) (List._∷_ (11, Rows.arr-owed (Referent.rtF (Referent.fInt Syntax.w16)) 1 5) (List._∷_ (
   12,
-  Rows'.whole (Declared'.row
+  Rows'.whole (Declared.row
       Walked.the-type),
 ) (List._∷_ (13, Rows'.any-gone (Syntax.tyArray (Syntax.tyInt Syntax.w16) 768)) (List._∷_ (14, Rows'.any-gone (Syntax.tyRef Syntax.erased Syntax.mut (Syntax.tyInt Syntax.w16)))
     (List._∷_ (15, Mut.msleft (Referent.rtF (Referent.fInt Syntax.w16)) (Syntax.tyRef Syntax.erased Syntax.mut (Syntax.tyInt Syntax.w16))) List.[])))))))))))))))
@@ -1669,15 +1671,12 @@ t29 = List._∷_ (
 ) (List._∷_ (10, Rows'.sc-shr (Rows.arrF (Referent.rtF (Referent.fInt Syntax.w16)) 768 0) (Array'.Array (Referent.rtF (Referent.fInt Syntax.w16)) 768) (λ x. x) 6) (List._∷_ (
   11,
   Rows.arr-owed (Referent.rtF (Referent.fInt Syntax.w16)) 1 5,
-) (List._∷_ (12, Rows'.whole (Declared'.row Walked.the-type)) (List._∷_ (
-  13,
-  Rows'.any-gone (Syntax.tyArray (Syntax.tyInt Syntax.w16)
-      768),
-) (List._∷_ (14, Rows'.any-gone (Syntax.tyRef Syntax.erased Syntax.mut (Syntax.tyInt Syntax.w16))) (List._∷_ (
-  15,
-  Mut.msleft (Referent.rtF (Referent.fInt Syntax.w16)) (Syntax.tyRef
-      Syntax.erased Syntax.mut (Syntax.tyInt Syntax.w16)),
-) List.[])))))))))))))))
+) (List._∷_ (12, Rows'.whole (Declared.row Walked.the-type)) (List._∷_ (13, Rows'.any-gone (Syntax.tyArray (Syntax.tyInt Syntax.w16) 768))
+    (List._∷_ (14, Rows'.any-gone (Syntax.tyRef Syntax.erased Syntax.mut (Syntax.tyInt Syntax.w16))) (List._∷_ (
+      15,
+      Mut.msleft (Referent.rtF (Referent.fInt Syntax.w16)) (Syntax.tyRef Syntax.erased
+          Syntax.mut (Syntax.tyInt Syntax.w16)),
+    ) List.[])))))))))))))))
 
 abbrev pub t30 : List.List Row.Entry
 t30 = List._∷_ (16, Rows'.any-gone (Syntax.tyRef Syntax.erased Syntax.mut Element.behind)) (List._∷_ (17, Mut.msleft (Element.type) (Syntax.tyRef Syntax.erased Syntax.mut Element.behind))
@@ -1751,7 +1750,7 @@ t33 = List._∷_ (
       11,
       Rows.arr-owed (Referent.rtF
           (Referent.fInt Syntax.w16)) 1 5,
-    ) (List._∷_ (12, Rows'.whole (Declared'.row Walked.the-type)) (List._∷_ (13, Rows'.any-gone (Syntax.tyArray (Syntax.tyInt Syntax.w16) 768)) (List._∷_ (
+    ) (List._∷_ (12, Rows'.whole (Declared.row Walked.the-type)) (List._∷_ (13, Rows'.any-gone (Syntax.tyArray (Syntax.tyInt Syntax.w16) 768)) (List._∷_ (
       14,
       Rows'.any-gone (Syntax.tyRef Syntax.erased Syntax.mut (Syntax.tyInt Syntax.w16)),
     ) (List._∷_ (
@@ -1800,7 +1799,7 @@ t34 = List._∷_ (
   Rows'.sc-shr (Rows.arrF
       (Referent.rtF (Referent.fInt Syntax.w16)) 768 0) (Array'.Array (Referent.rtF (Referent.fInt Syntax.w16)) 768) (λ x. x) 6,
 ) (List._∷_ (11, Rows.arr-owed (Referent.rtF (Referent.fInt Syntax.w16)) 1 5)
-    (List._∷_ (12, Rows'.whole (Declared'.row Walked.the-type)) (List._∷_ (13, Rows'.any-gone (Syntax.tyArray (Syntax.tyInt Syntax.w16) 768)) (List._∷_ (
+    (List._∷_ (12, Rows'.whole (Declared.row Walked.the-type)) (List._∷_ (13, Rows'.any-gone (Syntax.tyArray (Syntax.tyInt Syntax.w16) 768)) (List._∷_ (
       14,
       Rows'.any-gone (Syntax.tyRef Syntax.erased
           Syntax.mut (Syntax.tyInt Syntax.w16)),
@@ -1869,7 +1868,7 @@ t36 = List._∷_ (
   Rows'.sc-shr (Rows.arrF
       (Referent.rtF (Referent.fInt Syntax.w16)) 768 0) (Array'.Array (Referent.rtF (Referent.fInt Syntax.w16)) 768) (λ x. x) 6,
 ) (List._∷_ (11, Rows.arrF (Referent.rtF (Referent.fInt Syntax.w16)) 1 0)
-    (List._∷_ (12, Rows'.whole (Declared'.row Walked.the-type)) (List._∷_ (13, Rows'.any-gone (Syntax.tyArray (Syntax.tyInt Syntax.w16) 768)) (List._∷_ (
+    (List._∷_ (12, Rows'.whole (Declared.row Walked.the-type)) (List._∷_ (13, Rows'.any-gone (Syntax.tyArray (Syntax.tyInt Syntax.w16) 768)) (List._∷_ (
       14,
       Rows'.any-gone (Syntax.tyRef Syntax.erased
           Syntax.mut (Syntax.tyInt Syntax.w16)),
@@ -1919,7 +1918,7 @@ t37 = List._∷_ (
   Rows'.sc-shr (Rows.arrF
       (Referent.rtF (Referent.fInt Syntax.w16)) 768 0) (Array'.Array (Referent.rtF (Referent.fInt Syntax.w16)) 768) (λ x. x) 6,
 ) (List._∷_ (11, Rows'.any-gone (Syntax.tyArray (Syntax.tyInt Syntax.w16) 1))
-    (List._∷_ (12, Rows'.whole (Declared'.row Walked.the-type)) (List._∷_ (13, Rows'.any-gone (Syntax.tyArray (Syntax.tyInt Syntax.w16) 768)) (List._∷_ (
+    (List._∷_ (12, Rows'.whole (Declared.row Walked.the-type)) (List._∷_ (13, Rows'.any-gone (Syntax.tyArray (Syntax.tyInt Syntax.w16) 768)) (List._∷_ (
       14,
       Rows'.any-gone (Syntax.tyRef Syntax.erased
           Syntax.mut (Syntax.tyInt Syntax.w16)),
@@ -1968,7 +1967,7 @@ t38 = List._∷_ (
   10,
   Rows.arrF (Referent.rtF
       (Referent.fInt Syntax.w16)) 768 0,
-) (List._∷_ (11, Rows'.any-gone (Syntax.tyArray (Syntax.tyInt Syntax.w16) 1)) (List._∷_ (12, Rows'.whole (Declared'.row Walked.the-type)) (List._∷_ (
+) (List._∷_ (11, Rows'.any-gone (Syntax.tyArray (Syntax.tyInt Syntax.w16) 1)) (List._∷_ (12, Rows'.whole (Declared.row Walked.the-type)) (List._∷_ (
   13,
   Rows'.any-gone (Syntax.tyArray (Syntax.tyInt Syntax.w16) 768),
 ) (List._∷_ (14, Rows'.any-gone (Syntax.tyRef Syntax.erased Syntax.mut (Syntax.tyInt Syntax.w16))) (List._∷_ (
@@ -2017,7 +2016,7 @@ t39 = List._∷_ (
   10,
   Rows'.any-gone
       (Syntax.tyArray (Syntax.tyInt Syntax.w16) 768),
-) (List._∷_ (11, Rows'.any-gone (Syntax.tyArray (Syntax.tyInt Syntax.w16) 1)) (List._∷_ (12, Rows'.whole (Declared'.row Walked.the-type)) (List._∷_ (
+) (List._∷_ (11, Rows'.any-gone (Syntax.tyArray (Syntax.tyInt Syntax.w16) 1)) (List._∷_ (12, Rows'.whole (Declared.row Walked.the-type)) (List._∷_ (
   13,
   Rows'.any-gone (Syntax.tyArray (Syntax.tyInt Syntax.w16) 768),
 ) (List._∷_ (14, Rows'.any-gone (Syntax.tyRef Syntax.erased Syntax.mut (Syntax.tyInt Syntax.w16))) (List._∷_ (
@@ -2055,7 +2054,7 @@ t40 = List._∷_ (0, Rows'.whole (Declared.row Decoded.the-type)) (List._∷_ (
       11,
       Rows'.any-gone
           (Syntax.tyArray (Syntax.tyInt Syntax.w16) 1),
-    ) (List._∷_ (12, Rows'.whole (Declared'.row Walked.the-type)) (List._∷_ (13, Rows'.any-gone (Syntax.tyArray (Syntax.tyInt Syntax.w16) 768)) (List._∷_ (
+    ) (List._∷_ (12, Rows'.whole (Declared.row Walked.the-type)) (List._∷_ (13, Rows'.any-gone (Syntax.tyArray (Syntax.tyInt Syntax.w16) 768)) (List._∷_ (
       14,
       Rows'.any-gone (Syntax.tyRef Syntax.erased Syntax.mut (Syntax.tyInt Syntax.w16)),
     ) (List._∷_ (
@@ -2091,15 +2090,11 @@ t41 = List._∷_ (0, Rows'.whole (Declared.row Decoded.the-type)) (List._∷_ (
     ) (List._∷_ (
       10,
       Rows'.any-gone (Syntax.tyArray (Syntax.tyInt Syntax.w16) 768),
-    ) (List._∷_ (11, Rows'.any-gone (Syntax.tyArray (Syntax.tyInt Syntax.w16) 1)) (List._∷_ (
-      12,
-      Rows'.whole (Declared'.row
-          Walked.the-type),
-    ) (List._∷_ (13, Rows'.any-gone (Syntax.tyArray (Syntax.tyInt Syntax.w16) 768)) (List._∷_ (14, Rows'.any-gone (Syntax.tyRef Syntax.erased Syntax.mut (Syntax.tyInt Syntax.w16)))
-    (List._∷_ (
+    ) (List._∷_ (11, Rows'.any-gone (Syntax.tyArray (Syntax.tyInt Syntax.w16) 1)) (List._∷_ (12, Rows'.whole (Declared.row Walked.the-type))
+    (List._∷_ (13, Rows'.any-gone (Syntax.tyArray (Syntax.tyInt Syntax.w16) 768)) (List._∷_ (14, Rows'.any-gone (Syntax.tyRef Syntax.erased Syntax.mut (Syntax.tyInt Syntax.w16))) (List._∷_ (
       15,
-      Rows'.any-gone (Syntax.tyStruct (List._∷_ 38 (List._∷_ 91 (List._∷_ 93 List.[]))) (Syntax.tcons (Syntax.tyRef Syntax.erased Syntax.mut (Syntax.tyInt Syntax.w16)) (Syntax.tcons
-          (Syntax.tyInt Syntax.w64) Syntax.tnil))),
+      Rows'.any-gone (Syntax.tyStruct (List._∷_ 38 (List._∷_ 91 (List._∷_ 93 List.[]))) (Syntax.tcons (Syntax.tyRef Syntax.erased Syntax.mut (Syntax.tyInt Syntax.w16)) (Syntax.tcons (Syntax.tyInt
+          Syntax.w64) Syntax.tnil))),
     ) List.[])))))))))))))))
 
 abbrev pub t42 : List.List Row.Entry
@@ -2134,7 +2129,7 @@ t42 = List._∷_ (0, Rows'.whole (Declared.row Decoded.the-type)) (List._∷_ (
   11,
   Rows'.any-gone (Syntax.tyArray (Syntax.tyInt
       Syntax.w16) 1),
-) (List._∷_ (12, Rows'.whole (Declared'.row Walked.the-type)) (List._∷_ (13, Rows'.any-gone (Syntax.tyArray (Syntax.tyInt Syntax.w16) 768)) (List._∷_ (
+) (List._∷_ (12, Rows'.whole (Declared.row Walked.the-type)) (List._∷_ (13, Rows'.any-gone (Syntax.tyArray (Syntax.tyInt Syntax.w16) 768)) (List._∷_ (
   14,
   Rows'.any-gone
       (Syntax.tyRef Syntax.erased Syntax.mut (Syntax.tyInt Syntax.w16)),
@@ -2176,7 +2171,7 @@ t43 = List._∷_ (0, Rows'.whole (Declared.row Decoded.the-type)) (List._∷_ (
   11,
   Rows'.any-gone (Syntax.tyArray (Syntax.tyInt
       Syntax.w16) 1),
-) (List._∷_ (12, Rows'.whole (Declared'.row Walked.the-type)) (List._∷_ (13, Rows'.any-gone (Syntax.tyArray (Syntax.tyInt Syntax.w16) 768)) (List._∷_ (
+) (List._∷_ (12, Rows'.whole (Declared.row Walked.the-type)) (List._∷_ (13, Rows'.any-gone (Syntax.tyArray (Syntax.tyInt Syntax.w16) 768)) (List._∷_ (
   14,
   Rows'.any-gone
       (Syntax.tyRef Syntax.erased Syntax.mut (Syntax.tyInt Syntax.w16)),
@@ -2220,19 +2215,20 @@ t44 = List._∷_ (0, Rows'.whole (Declared.row Decoded.the-type)) (List._∷_ (
       Syntax.w16) 1),
 ) (List._∷_ (
   12,
-  Rows'.any-gone (Syntax.tyStruct (List._∷_ 98 (List._∷_ 108 (List._∷_ 111 (List._∷_ 99 (List._∷_ 107 (List._∷_ 58 (List._∷_ 58 (List._∷_ 87 (List._∷_ 97 (List._∷_ 108
-      (List._∷_ 107 (List._∷_ 101 (List._∷_ 100 List.[]))))))))))))) (Syntax.tcons Syntax.tyBool (Syntax.tcons (Syntax.tyInt Syntax.w64) (Syntax.tcons (Syntax.tyStruct (List._∷_ 98 (List._∷_ 105 (List._∷_
-      116 (List._∷_ 115 (List._∷_ 58 (List._∷_ 58 (List._∷_ 66 (List._∷_ 105 (List._∷_ 116 (List._∷_ 80 (List._∷_ 111 (List._∷_ 115 (List._∷_ 105 (List._∷_ 116 (List._∷_ 105 (List._∷_ 111 (List._∷_ 110
-      List.[]))))))))))))))))) (Syntax.tcons (Syntax.tyInt Syntax.w64) Syntax.tnil)) (Syntax.tcons (Syntax.tyInt Syntax.w64) Syntax.tnil))))),
+  Rows'.any-gone (Syntax.tyEnum (List._∷_ 98 (List._∷_ 108 (List._∷_ 111 (List._∷_ 99 (List._∷_ 107 (List._∷_ 58 (List._∷_ 58 (List._∷_ 87 (List._∷_ 97 (List._∷_ 108
+      (List._∷_ 107 (List._∷_ 101 (List._∷_ 100 List.[]))))))))))))) (Syntax.ttcons (Syntax.tcons (Syntax.tyStruct (List._∷_ 98 (List._∷_ 105 (List._∷_ 116 (List._∷_ 115 (List._∷_ 58 (List._∷_ 58 (List._∷_
+      66 (List._∷_ 105 (List._∷_ 116 (List._∷_ 80 (List._∷_ 111 (List._∷_ 115 (List._∷_ 105 (List._∷_ 116 (List._∷_ 105 (List._∷_ 111 (List._∷_ 110 List.[]))))))))))))))))) (Syntax.tcons (Syntax.tyInt
+      Syntax.w64) Syntax.tnil)) (Syntax.tcons (Syntax.tyInt Syntax.w64) Syntax.tnil)) (Syntax.ttcons (Syntax.tcons (Syntax.tyInt Syntax.w64) Syntax.tnil) Syntax.ttnil))),
 ) (List._∷_ (
   13,
-  Rows'.any-gone (Syntax.tyArray (Syntax.tyInt
-      Syntax.w16) 768),
+  Rows'.any-gone
+      (Syntax.tyArray (Syntax.tyInt Syntax.w16) 768),
 ) (List._∷_ (14, Rows'.any-gone (Syntax.tyRef Syntax.erased Syntax.mut (Syntax.tyInt Syntax.w16))) (List._∷_ (
   15,
-  Rows'.any-gone (Syntax.tyStruct (List._∷_ 38 (List._∷_ 91
-      (List._∷_ 93 List.[]))) (Syntax.tcons (Syntax.tyRef Syntax.erased Syntax.mut (Syntax.tyInt Syntax.w16)) (Syntax.tcons (Syntax.tyInt Syntax.w64) Syntax.tnil))),
-) List.[])))))))))))))))
+  Rows'.any-gone (Syntax.tyStruct
+      (List._∷_ 38 (List._∷_ 91 (List._∷_ 93 List.[]))) (Syntax.tcons (Syntax.tyRef Syntax.erased Syntax.mut (Syntax.tyInt Syntax.w16)) (Syntax.tcons (Syntax.tyInt Syntax.w64) Syntax.tnil))),
+)
+    List.[])))))))))))))))
 
 abbrev pub T0 : Row.Cx
 T0 = record { locals = List._++_ t0 t1; slots = List.[] }
@@ -2489,10 +2485,10 @@ module _ (claims· : Claims) where
       ),
     ),
   ) 12 (List._∷_ 0 (List._∷_ 0 (List._∷_ 3 (List._∷_
-      4 (List._∷_ 5 (List._∷_ 6 List.[])))))) (Syntax.tyStruct (List._∷_ 98 (List._∷_ 108 (List._∷_ 111 (List._∷_ 99 (List._∷_ 107 (List._∷_ 58 (List._∷_ 58 (List._∷_ 87 (List._∷_ 97 (List._∷_ 108
-      (List._∷_ 107 (List._∷_ 101 (List._∷_ 100 List.[]))))))))))))) (Syntax.tcons Syntax.tyBool (Syntax.tcons (Syntax.tyInt Syntax.w64) (Syntax.tcons (Syntax.tyStruct (List._∷_ 98 (List._∷_ 105 (List._∷_
-      116 (List._∷_ 115 (List._∷_ 58 (List._∷_ 58 (List._∷_ 66 (List._∷_ 105 (List._∷_ 116 (List._∷_ 80 (List._∷_ 111 (List._∷_ 115 (List._∷_ 105 (List._∷_ 116 (List._∷_ 105 (List._∷_ 111 (List._∷_ 110
-      List.[]))))))))))))))))) (Syntax.tcons (Syntax.tyInt Syntax.w64) Syntax.tnil)) (Syntax.tcons (Syntax.tyInt Syntax.w64) Syntax.tnil)))))
+      4 (List._∷_ 5 (List._∷_ 6 List.[])))))) (Syntax.tyEnum (List._∷_ 98 (List._∷_ 108 (List._∷_ 111 (List._∷_ 99 (List._∷_ 107 (List._∷_ 58 (List._∷_ 58 (List._∷_ 87 (List._∷_ 97 (List._∷_ 108 (List._∷_
+      107 (List._∷_ 101 (List._∷_ 100 List.[]))))))))))))) (Syntax.ttcons (Syntax.tcons (Syntax.tyStruct (List._∷_ 98 (List._∷_ 105 (List._∷_ 116 (List._∷_ 115 (List._∷_ 58 (List._∷_ 58 (List._∷_ 66
+      (List._∷_ 105 (List._∷_ 116 (List._∷_ 80 (List._∷_ 111 (List._∷_ 115 (List._∷_ 105 (List._∷_ 116 (List._∷_ 105 (List._∷_ 111 (List._∷_ 110 List.[]))))))))))))))))) (Syntax.tcons (Syntax.tyInt
+      Syntax.w64) Syntax.tnil)) (Syntax.tcons (Syntax.tyInt Syntax.w64) Syntax.tnil)) (Syntax.ttcons (Syntax.tcons (Syntax.tyInt Syntax.w64) Syntax.tnil) Syntax.ttnil)))
 
   abbrev s28 : (bs : List.List Nat.ℕ) → Typed.Mo T29 → Typed.Mo T30
   s28 = λ bs. Scalar.n-room T29 9 (Syntax.tyStruct (List._∷_ 38 (List._∷_ 91 (List._∷_ 93 List.[]))) (Syntax.tcons (Syntax.tyRef Syntax.erased Syntax.imm (Syntax.tyInt Syntax.w8)) (Syntax.tcons
@@ -2565,10 +2561,10 @@ module _ (claims· : Claims) where
   s50 = λ bs. Scalar.n-room T51 7 (Syntax.tyInt Syntax.w64)
 
   abbrev s51 : (bs : List.List Nat.ℕ) → Typed.Mo T52 → Typed.Mo T53
-  s51 = λ bs. Scalar.n-room T52 12 (Syntax.tyStruct (List._∷_ 98 (List._∷_ 108 (List._∷_ 111 (List._∷_ 99 (List._∷_ 107 (List._∷_ 58 (List._∷_ 58 (List._∷_ 87 (List._∷_ 97 (List._∷_ 108 (List._∷_ 107
-      (List._∷_ 101 (List._∷_ 100 List.[]))))))))))))) (Syntax.tcons Syntax.tyBool (Syntax.tcons (Syntax.tyInt Syntax.w64) (Syntax.tcons (Syntax.tyStruct (List._∷_ 98 (List._∷_ 105 (List._∷_ 116 (List._∷_
-      115 (List._∷_ 58 (List._∷_ 58 (List._∷_ 66 (List._∷_ 105 (List._∷_ 116 (List._∷_ 80 (List._∷_ 111 (List._∷_ 115 (List._∷_ 105 (List._∷_ 116 (List._∷_ 105 (List._∷_ 111 (List._∷_ 110
-      List.[]))))))))))))))))) (Syntax.tcons (Syntax.tyInt Syntax.w64) Syntax.tnil)) (Syntax.tcons (Syntax.tyInt Syntax.w64) Syntax.tnil)))))
+  s51 = λ bs. Scalar.n-room T52 12 (Syntax.tyEnum (List._∷_ 98 (List._∷_ 108 (List._∷_ 111 (List._∷_ 99 (List._∷_ 107 (List._∷_ 58 (List._∷_ 58 (List._∷_ 87 (List._∷_ 97 (List._∷_ 108 (List._∷_ 107
+      (List._∷_ 101 (List._∷_ 100 List.[]))))))))))))) (Syntax.ttcons (Syntax.tcons (Syntax.tyStruct (List._∷_ 98 (List._∷_ 105 (List._∷_ 116 (List._∷_ 115 (List._∷_ 58 (List._∷_ 58 (List._∷_ 66 (List._∷_
+      105 (List._∷_ 116 (List._∷_ 80 (List._∷_ 111 (List._∷_ 115 (List._∷_ 105 (List._∷_ 116 (List._∷_ 105 (List._∷_ 111 (List._∷_ 110 List.[]))))))))))))))))) (Syntax.tcons (Syntax.tyInt Syntax.w64)
+      Syntax.tnil)) (Syntax.tcons (Syntax.tyInt Syntax.w64) Syntax.tnil)) (Syntax.ttcons (Syntax.tcons (Syntax.tyInt Syntax.w64) Syntax.tnil) Syntax.ttnil)))
 
   abbrev s52 : (bs : List.List Nat.ℕ) → Typed.Mo T53 → Typed.Mo T54
   s52 = λ bs. Scalar.n-room T53 3 (Syntax.tyInt Syntax.w64)
@@ -2792,18 +2788,19 @@ module _ (claims· : Claims) where
                   Syntax.w8)) 0,
             ) (List._∷_ (10, Rows.arrF (Referent.rtF (Referent.fInt Syntax.w16)) 768 0) (List._∷_ (11, Rows.arrF (Referent.rtF (Referent.fInt Syntax.w16)) 1 0) (List._∷_ (
               12,
-              Rows'.any-gone (Syntax.tyStruct (List._∷_ 98 (List._∷_ 108 (List._∷_ 111 (List._∷_ 99 (List._∷_ 107 (List._∷_ 58 (List._∷_ 58 (List._∷_ 87 (List._∷_ 97 (List._∷_ 108 (List._∷_ 107 (List._∷_
-                  101 (List._∷_ 100 List.[]))))))))))))) (Syntax.tcons Syntax.tyBool (Syntax.tcons (Syntax.tyInt Syntax.w64) (Syntax.tcons (Syntax.tyStruct (List._∷_ 98 (List._∷_ 105 (List._∷_ 116 (List._∷_ 115
-                  (List._∷_ 58 (List._∷_ 58 (List._∷_ 66 (List._∷_ 105 (List._∷_ 116 (List._∷_ 80 (List._∷_ 111 (List._∷_ 115 (List._∷_ 105 (List._∷_ 116 (List._∷_ 105 (List._∷_ 111 (List._∷_ 110
-                  List.[]))))))))))))))))) (Syntax.tcons (Syntax.tyInt Syntax.w64) Syntax.tnil)) (Syntax.tcons (Syntax.tyInt Syntax.w64) Syntax.tnil))))),
+              Rows'.any-gone (Syntax.tyEnum (List._∷_ 98 (List._∷_ 108 (List._∷_ 111 (List._∷_ 99 (List._∷_ 107 (List._∷_ 58 (List._∷_ 58 (List._∷_ 87 (List._∷_ 97 (List._∷_ 108 (List._∷_ 107 (List._∷_ 101
+                  (List._∷_ 100 List.[]))))))))))))) (Syntax.ttcons (Syntax.tcons (Syntax.tyStruct (List._∷_ 98 (List._∷_ 105 (List._∷_ 116 (List._∷_ 115 (List._∷_ 58 (List._∷_ 58 (List._∷_ 66 (List._∷_ 105
+                  (List._∷_ 116 (List._∷_ 80 (List._∷_ 111 (List._∷_ 115 (List._∷_ 105 (List._∷_ 116 (List._∷_ 105 (List._∷_ 111 (List._∷_ 110 List.[]))))))))))))))))) (Syntax.tcons (Syntax.tyInt Syntax.w64)
+                  Syntax.tnil)) (Syntax.tcons (Syntax.tyInt Syntax.w64) Syntax.tnil)) (Syntax.ttcons (Syntax.tcons (Syntax.tyInt Syntax.w64) Syntax.tnil) Syntax.ttnil))),
             ) (List._∷_ (
               13,
-              Rows'.any-gone (Syntax.tyArray
-                  (Syntax.tyInt Syntax.w16) 768),
-            ) (List._∷_ (14, Relend.msptr (Referent.rtF (Referent.fInt Syntax.w16)) (Syntax.tyRef Syntax.erased Syntax.mut (Syntax.tyInt Syntax.w16)) 3) (List._∷_ (
+              Rows'.any-gone
+                  (Syntax.tyArray (Syntax.tyInt Syntax.w16) 768),
+            ) (List._∷_ (14, Relend.msptr (Referent.rtF (Referent.fInt Syntax.w16)) (Syntax.tyRef Syntax.erased Syntax.mut (Syntax.tyInt Syntax.w16)) 3)
+            (List._∷_ (
               15,
-              Rows'.any-gone (Syntax.tyStruct (List._∷_ 38 (List._∷_ 91 (List._∷_ 93 List.[]))) (Syntax.tcons (Syntax.tyRef Syntax.erased Syntax.mut (Syntax.tyInt Syntax.w16)) (Syntax.tcons (Syntax.tyInt
-                  Syntax.w64) Syntax.tnil))),
+              Rows'.any-gone (Syntax.tyStruct (List._∷_ 38 (List._∷_ 91 (List._∷_ 93 List.[]))) (Syntax.tcons (Syntax.tyRef Syntax.erased Syntax.mut (Syntax.tyInt Syntax.w16)) (Syntax.tcons
+                  (Syntax.tyInt Syntax.w64) Syntax.tnil))),
             ) List.[])))))))))))))))
 
         abbrev g14 : List.List Row.Entry
@@ -2842,18 +2839,18 @@ module _ (claims· : Claims) where
                   Syntax.w8)) 0,
             ) (List._∷_ (10, Rows.arrF (Referent.rtF (Referent.fInt Syntax.w16)) 768 0) (List._∷_ (11, Rows.arrF (Referent.rtF (Referent.fInt Syntax.w16)) 1 0) (List._∷_ (
               12,
-              Rows'.any-gone (Syntax.tyStruct (List._∷_ 98 (List._∷_ 108 (List._∷_ 111 (List._∷_ 99 (List._∷_ 107 (List._∷_ 58 (List._∷_ 58 (List._∷_ 87 (List._∷_ 97 (List._∷_ 108 (List._∷_ 107 (List._∷_
-                  101 (List._∷_ 100 List.[]))))))))))))) (Syntax.tcons Syntax.tyBool (Syntax.tcons (Syntax.tyInt Syntax.w64) (Syntax.tcons (Syntax.tyStruct (List._∷_ 98 (List._∷_ 105 (List._∷_ 116 (List._∷_ 115
-                  (List._∷_ 58 (List._∷_ 58 (List._∷_ 66 (List._∷_ 105 (List._∷_ 116 (List._∷_ 80 (List._∷_ 111 (List._∷_ 115 (List._∷_ 105 (List._∷_ 116 (List._∷_ 105 (List._∷_ 111 (List._∷_ 110
-                  List.[]))))))))))))))))) (Syntax.tcons (Syntax.tyInt Syntax.w64) Syntax.tnil)) (Syntax.tcons (Syntax.tyInt Syntax.w64) Syntax.tnil))))),
+              Rows'.any-gone (Syntax.tyEnum (List._∷_ 98 (List._∷_ 108 (List._∷_ 111 (List._∷_ 99 (List._∷_ 107 (List._∷_ 58 (List._∷_ 58 (List._∷_ 87 (List._∷_ 97 (List._∷_ 108 (List._∷_ 107 (List._∷_ 101
+                  (List._∷_ 100 List.[]))))))))))))) (Syntax.ttcons (Syntax.tcons (Syntax.tyStruct (List._∷_ 98 (List._∷_ 105 (List._∷_ 116 (List._∷_ 115 (List._∷_ 58 (List._∷_ 58 (List._∷_ 66 (List._∷_ 105
+                  (List._∷_ 116 (List._∷_ 80 (List._∷_ 111 (List._∷_ 115 (List._∷_ 105 (List._∷_ 116 (List._∷_ 105 (List._∷_ 111 (List._∷_ 110 List.[]))))))))))))))))) (Syntax.tcons (Syntax.tyInt Syntax.w64)
+                  Syntax.tnil)) (Syntax.tcons (Syntax.tyInt Syntax.w64) Syntax.tnil)) (Syntax.ttcons (Syntax.tcons (Syntax.tyInt Syntax.w64) Syntax.tnil) Syntax.ttnil))),
             ) (List._∷_ (
               13,
-              Rows'.any-gone (Syntax.tyArray
-                  (Syntax.tyInt Syntax.w16) 768),
+              Rows'.any-gone
+                  (Syntax.tyArray (Syntax.tyInt Syntax.w16) 768),
             ) (List._∷_ (14, Rows'.any-gone (Syntax.tyRef Syntax.erased Syntax.mut (Syntax.tyInt Syntax.w16))) (List._∷_ (
               15,
-              Mut.mslice (Referent.rtF (Referent.fInt
-                  Syntax.w16)) (Syntax.tyRef Syntax.erased Syntax.mut (Syntax.tyInt Syntax.w16)) 3,
+              Mut.mslice (Referent.rtF
+                  (Referent.fInt Syntax.w16)) (Syntax.tyRef Syntax.erased Syntax.mut (Syntax.tyInt Syntax.w16)) 3,
             ) List.[])))))))))))))))
 
         abbrev g15 : List.List Row.Entry
@@ -2898,15 +2895,16 @@ module _ (claims· : Claims) where
               (Referent.fInt Syntax.w16)) 1 0,
         ) (List._∷_ (
           12,
-          Rows'.any-gone (Syntax.tyStruct (List._∷_ 98 (List._∷_ 108 (List._∷_ 111 (List._∷_ 99 (List._∷_ 107 (List._∷_ 58 (List._∷_ 58 (List._∷_ 87
-              (List._∷_ 97 (List._∷_ 108 (List._∷_ 107 (List._∷_ 101 (List._∷_ 100 List.[]))))))))))))) (Syntax.tcons Syntax.tyBool (Syntax.tcons (Syntax.tyInt Syntax.w64) (Syntax.tcons (Syntax.tyStruct
-              (List._∷_ 98 (List._∷_ 105 (List._∷_ 116 (List._∷_ 115 (List._∷_ 58 (List._∷_ 58 (List._∷_ 66 (List._∷_ 105 (List._∷_ 116 (List._∷_ 80 (List._∷_ 111 (List._∷_ 115 (List._∷_ 105 (List._∷_ 116
-              (List._∷_ 105 (List._∷_ 111 (List._∷_ 110 List.[]))))))))))))))))) (Syntax.tcons (Syntax.tyInt Syntax.w64) Syntax.tnil)) (Syntax.tcons (Syntax.tyInt Syntax.w64) Syntax.tnil))))),
-        ) (List._∷_
-            (13, Rows'.any-gone (Syntax.tyArray (Syntax.tyInt Syntax.w16) 768)) (List._∷_ (14, Rows'.any-gone (Syntax.tyRef Syntax.erased Syntax.mut (Syntax.tyInt Syntax.w16))) (List._∷_ (
-              15,
-              Mut.mslice (Referent.rtF (Referent.fInt Syntax.w16)) (Syntax.tyRef Syntax.erased Syntax.mut (Syntax.tyInt Syntax.w16)) 3,
-            ) List.[])))))))))))))))
+          Rows'.any-gone (Syntax.tyEnum (List._∷_ 98 (List._∷_ 108 (List._∷_ 111 (List._∷_ 99 (List._∷_ 107 (List._∷_ 58 (List._∷_ 58 (List._∷_ 87
+              (List._∷_ 97 (List._∷_ 108 (List._∷_ 107 (List._∷_ 101 (List._∷_ 100 List.[]))))))))))))) (Syntax.ttcons (Syntax.tcons (Syntax.tyStruct (List._∷_ 98 (List._∷_ 105 (List._∷_ 116 (List._∷_ 115
+              (List._∷_ 58 (List._∷_ 58 (List._∷_ 66 (List._∷_ 105 (List._∷_ 116 (List._∷_ 80 (List._∷_ 111 (List._∷_ 115 (List._∷_ 105 (List._∷_ 116 (List._∷_ 105 (List._∷_ 111 (List._∷_ 110
+              List.[]))))))))))))))))) (Syntax.tcons (Syntax.tyInt Syntax.w64) Syntax.tnil)) (Syntax.tcons (Syntax.tyInt Syntax.w64) Syntax.tnil)) (Syntax.ttcons (Syntax.tcons (Syntax.tyInt Syntax.w64)
+              Syntax.tnil) Syntax.ttnil))),
+        ) (List._∷_ (13, Rows'.any-gone (Syntax.tyArray (Syntax.tyInt Syntax.w16) 768)) (List._∷_ (
+          14,
+          Rows'.any-gone (Syntax.tyRef Syntax.erased Syntax.mut
+              (Syntax.tyInt Syntax.w16)),
+        ) (List._∷_ (15, Mut.mslice (Referent.rtF (Referent.fInt Syntax.w16)) (Syntax.tyRef Syntax.erased Syntax.mut (Syntax.tyInt Syntax.w16)) 3) List.[])))))))))))))))
 
         abbrev g18 : List.List Row.Entry
         g18 = List._∷_ (
@@ -2950,15 +2948,16 @@ module _ (claims· : Claims) where
               (Referent.fInt Syntax.w16)) 1 5,
         ) (List._∷_ (
           12,
-          Rows'.any-gone (Syntax.tyStruct (List._∷_ 98 (List._∷_ 108 (List._∷_ 111 (List._∷_ 99 (List._∷_ 107 (List._∷_ 58 (List._∷_ 58 (List._∷_ 87
-              (List._∷_ 97 (List._∷_ 108 (List._∷_ 107 (List._∷_ 101 (List._∷_ 100 List.[]))))))))))))) (Syntax.tcons Syntax.tyBool (Syntax.tcons (Syntax.tyInt Syntax.w64) (Syntax.tcons (Syntax.tyStruct
-              (List._∷_ 98 (List._∷_ 105 (List._∷_ 116 (List._∷_ 115 (List._∷_ 58 (List._∷_ 58 (List._∷_ 66 (List._∷_ 105 (List._∷_ 116 (List._∷_ 80 (List._∷_ 111 (List._∷_ 115 (List._∷_ 105 (List._∷_ 116
-              (List._∷_ 105 (List._∷_ 111 (List._∷_ 110 List.[]))))))))))))))))) (Syntax.tcons (Syntax.tyInt Syntax.w64) Syntax.tnil)) (Syntax.tcons (Syntax.tyInt Syntax.w64) Syntax.tnil))))),
-        ) (List._∷_
-            (13, Rows'.any-gone (Syntax.tyArray (Syntax.tyInt Syntax.w16) 768)) (List._∷_ (14, Rows'.any-gone (Syntax.tyRef Syntax.erased Syntax.mut (Syntax.tyInt Syntax.w16))) (List._∷_ (
-              15,
-              Mut.mslice (Referent.rtF (Referent.fInt Syntax.w16)) (Syntax.tyRef Syntax.erased Syntax.mut (Syntax.tyInt Syntax.w16)) 3,
-            ) List.[])))))))))))))))
+          Rows'.any-gone (Syntax.tyEnum (List._∷_ 98 (List._∷_ 108 (List._∷_ 111 (List._∷_ 99 (List._∷_ 107 (List._∷_ 58 (List._∷_ 58 (List._∷_ 87
+              (List._∷_ 97 (List._∷_ 108 (List._∷_ 107 (List._∷_ 101 (List._∷_ 100 List.[]))))))))))))) (Syntax.ttcons (Syntax.tcons (Syntax.tyStruct (List._∷_ 98 (List._∷_ 105 (List._∷_ 116 (List._∷_ 115
+              (List._∷_ 58 (List._∷_ 58 (List._∷_ 66 (List._∷_ 105 (List._∷_ 116 (List._∷_ 80 (List._∷_ 111 (List._∷_ 115 (List._∷_ 105 (List._∷_ 116 (List._∷_ 105 (List._∷_ 111 (List._∷_ 110
+              List.[]))))))))))))))))) (Syntax.tcons (Syntax.tyInt Syntax.w64) Syntax.tnil)) (Syntax.tcons (Syntax.tyInt Syntax.w64) Syntax.tnil)) (Syntax.ttcons (Syntax.tcons (Syntax.tyInt Syntax.w64)
+              Syntax.tnil) Syntax.ttnil))),
+        ) (List._∷_ (13, Rows'.any-gone (Syntax.tyArray (Syntax.tyInt Syntax.w16) 768)) (List._∷_ (
+          14,
+          Rows'.any-gone (Syntax.tyRef Syntax.erased Syntax.mut
+              (Syntax.tyInt Syntax.w16)),
+        ) (List._∷_ (15, Mut.mslice (Referent.rtF (Referent.fInt Syntax.w16)) (Syntax.tyRef Syntax.erased Syntax.mut (Syntax.tyInt Syntax.w16)) 3) List.[])))))))))))))))
 
         abbrev g21 : List.List Row.Entry
         g21 = List._∷_ (
@@ -3002,18 +3001,18 @@ module _ (claims· : Claims) where
               (Referent.fInt Syntax.w16)) 768) (λ x. x) 6,
         ) (List._∷_ (11, Rows.arr-owed (Referent.rtF (Referent.fInt Syntax.w16)) 1 5) (List._∷_ (
           12,
-          Rows'.any-gone (Syntax.tyStruct (List._∷_ 98
-              (List._∷_ 108 (List._∷_ 111 (List._∷_ 99 (List._∷_ 107 (List._∷_ 58 (List._∷_ 58 (List._∷_ 87 (List._∷_ 97 (List._∷_ 108 (List._∷_ 107 (List._∷_ 101 (List._∷_ 100 List.[])))))))))))))
-              (Syntax.tcons Syntax.tyBool (Syntax.tcons (Syntax.tyInt Syntax.w64) (Syntax.tcons (Syntax.tyStruct (List._∷_ 98 (List._∷_ 105 (List._∷_ 116 (List._∷_ 115 (List._∷_ 58 (List._∷_ 58 (List._∷_ 66
-              (List._∷_ 105 (List._∷_ 116 (List._∷_ 80 (List._∷_ 111 (List._∷_ 115 (List._∷_ 105 (List._∷_ 116 (List._∷_ 105 (List._∷_ 111 (List._∷_ 110 List.[]))))))))))))))))) (Syntax.tcons (Syntax.tyInt
-              Syntax.w64) Syntax.tnil)) (Syntax.tcons (Syntax.tyInt Syntax.w64) Syntax.tnil))))),
+          Rows'.any-gone (Syntax.tyEnum (List._∷_ 98 (List._∷_
+              108 (List._∷_ 111 (List._∷_ 99 (List._∷_ 107 (List._∷_ 58 (List._∷_ 58 (List._∷_ 87 (List._∷_ 97 (List._∷_ 108 (List._∷_ 107 (List._∷_ 101 (List._∷_ 100 List.[]))))))))))))) (Syntax.ttcons
+              (Syntax.tcons (Syntax.tyStruct (List._∷_ 98 (List._∷_ 105 (List._∷_ 116 (List._∷_ 115 (List._∷_ 58 (List._∷_ 58 (List._∷_ 66 (List._∷_ 105 (List._∷_ 116 (List._∷_ 80 (List._∷_ 111 (List._∷_
+              115 (List._∷_ 105 (List._∷_ 116 (List._∷_ 105 (List._∷_ 111 (List._∷_ 110 List.[]))))))))))))))))) (Syntax.tcons (Syntax.tyInt Syntax.w64) Syntax.tnil)) (Syntax.tcons (Syntax.tyInt Syntax.w64)
+              Syntax.tnil)) (Syntax.ttcons (Syntax.tcons (Syntax.tyInt Syntax.w64) Syntax.tnil) Syntax.ttnil))),
         ) (List._∷_ (13, Rows'.any-gone (Syntax.tyArray (Syntax.tyInt Syntax.w16) 768)) (List._∷_ (
           14,
           Rows'.any-gone (Syntax.tyRef Syntax.erased Syntax.mut (Syntax.tyInt Syntax.w16)),
         ) (List._∷_ (
           15,
-          Mut.mslice (Referent.rtF (Referent.fInt Syntax.w16)) (Syntax.tyRef Syntax.erased Syntax.mut
-              (Syntax.tyInt Syntax.w16)) 3,
+          Mut.mslice (Referent.rtF (Referent.fInt Syntax.w16)) (Syntax.tyRef Syntax.erased
+              Syntax.mut (Syntax.tyInt Syntax.w16)) 3,
         ) List.[])))))))))))))))
 
         abbrev g26 : List.List Row.Entry
@@ -3059,18 +3058,18 @@ module _ (claims· : Claims) where
               (Referent.fInt Syntax.w16)) 768) (λ x. x) 6,
         ) (List._∷_ (11, Rows.arr-owed (Referent.rtF (Referent.fInt Syntax.w16)) 1 5) (List._∷_ (
           12,
-          Rows'.any-gone (Syntax.tyStruct (List._∷_ 98
-              (List._∷_ 108 (List._∷_ 111 (List._∷_ 99 (List._∷_ 107 (List._∷_ 58 (List._∷_ 58 (List._∷_ 87 (List._∷_ 97 (List._∷_ 108 (List._∷_ 107 (List._∷_ 101 (List._∷_ 100 List.[])))))))))))))
-              (Syntax.tcons Syntax.tyBool (Syntax.tcons (Syntax.tyInt Syntax.w64) (Syntax.tcons (Syntax.tyStruct (List._∷_ 98 (List._∷_ 105 (List._∷_ 116 (List._∷_ 115 (List._∷_ 58 (List._∷_ 58 (List._∷_ 66
-              (List._∷_ 105 (List._∷_ 116 (List._∷_ 80 (List._∷_ 111 (List._∷_ 115 (List._∷_ 105 (List._∷_ 116 (List._∷_ 105 (List._∷_ 111 (List._∷_ 110 List.[]))))))))))))))))) (Syntax.tcons (Syntax.tyInt
-              Syntax.w64) Syntax.tnil)) (Syntax.tcons (Syntax.tyInt Syntax.w64) Syntax.tnil))))),
+          Rows'.any-gone (Syntax.tyEnum (List._∷_ 98 (List._∷_
+              108 (List._∷_ 111 (List._∷_ 99 (List._∷_ 107 (List._∷_ 58 (List._∷_ 58 (List._∷_ 87 (List._∷_ 97 (List._∷_ 108 (List._∷_ 107 (List._∷_ 101 (List._∷_ 100 List.[]))))))))))))) (Syntax.ttcons
+              (Syntax.tcons (Syntax.tyStruct (List._∷_ 98 (List._∷_ 105 (List._∷_ 116 (List._∷_ 115 (List._∷_ 58 (List._∷_ 58 (List._∷_ 66 (List._∷_ 105 (List._∷_ 116 (List._∷_ 80 (List._∷_ 111 (List._∷_
+              115 (List._∷_ 105 (List._∷_ 116 (List._∷_ 105 (List._∷_ 111 (List._∷_ 110 List.[]))))))))))))))))) (Syntax.tcons (Syntax.tyInt Syntax.w64) Syntax.tnil)) (Syntax.tcons (Syntax.tyInt Syntax.w64)
+              Syntax.tnil)) (Syntax.ttcons (Syntax.tcons (Syntax.tyInt Syntax.w64) Syntax.tnil) Syntax.ttnil))),
         ) (List._∷_ (13, Rows'.any-gone (Syntax.tyArray (Syntax.tyInt Syntax.w16) 768)) (List._∷_ (
           14,
           Rows'.any-gone (Syntax.tyRef Syntax.erased Syntax.mut (Syntax.tyInt Syntax.w16)),
         ) (List._∷_ (
           15,
-          Mut.mslice (Referent.rtF (Referent.fInt Syntax.w16)) (Syntax.tyRef Syntax.erased Syntax.mut
-              (Syntax.tyInt Syntax.w16)) 3,
+          Mut.mslice (Referent.rtF (Referent.fInt Syntax.w16)) (Syntax.tyRef Syntax.erased
+              Syntax.mut (Syntax.tyInt Syntax.w16)) 3,
         ) List.[])))))))))))))))
 
         abbrev g27 : List.List Row.Entry
@@ -3114,7 +3113,7 @@ module _ (claims· : Claims) where
           10,
           Rows'.sc-shr (Rows.arrF (Referent.rtF (Referent.fInt Syntax.w16)) 768 0) (Array'.Array (Referent.rtF
               (Referent.fInt Syntax.w16)) 768) (λ x. x) 6,
-        ) (List._∷_ (11, Rows.arr-owed (Referent.rtF (Referent.fInt Syntax.w16)) 1 5) (List._∷_ (12, Rows'.whole (Declared'.row Walked.the-type))
+        ) (List._∷_ (11, Rows.arr-owed (Referent.rtF (Referent.fInt Syntax.w16)) 1 5) (List._∷_ (12, Rows'.whole (Declared.row Walked.the-type))
             (List._∷_ (13, Rows'.any-gone (Syntax.tyArray (Syntax.tyInt Syntax.w16) 768)) (List._∷_ (14, Rows'.any-gone (Syntax.tyRef Syntax.erased Syntax.mut (Syntax.tyInt Syntax.w16))) (List._∷_ (
               15,
               Mut.msleft (Referent.rtF (Referent.fInt Syntax.w16)) (Syntax.tyRef Syntax.erased Syntax.mut (Syntax.tyInt Syntax.w16)),
@@ -3165,7 +3164,7 @@ module _ (claims· : Claims) where
           11,
           Rows.arr-owed (Referent.rtF (Referent.fInt
               Syntax.w16)) 1 5,
-        ) (List._∷_ (12, Rows'.whole (Declared'.row Walked.the-type)) (List._∷_ (13, Rows'.any-gone (Syntax.tyArray (Syntax.tyInt Syntax.w16) 768)) (List._∷_ (
+        ) (List._∷_ (12, Rows'.whole (Declared.row Walked.the-type)) (List._∷_ (13, Rows'.any-gone (Syntax.tyArray (Syntax.tyInt Syntax.w16) 768)) (List._∷_ (
           14,
           Rows'.any-gone
               (Syntax.tyRef Syntax.erased Syntax.mut (Syntax.tyInt Syntax.w16)),
@@ -3215,7 +3214,7 @@ module _ (claims· : Claims) where
                   Syntax.w16)) 768 0) (Array'.Array (Referent.rtF (Referent.fInt Syntax.w16)) 768) (λ x. x) 6,
             ) (List._∷_ (11, Rows.arr-owed (Referent.rtF (Referent.fInt Syntax.w16)) 1 5) (List._∷_ (
               12,
-              Rows'.whole (Declared'.row Walked.the-type),
+              Rows'.whole (Declared.row Walked.the-type),
             ) (List._∷_ (13, Rows'.any-gone (Syntax.tyArray (Syntax.tyInt Syntax.w16) 768)) (List._∷_ (
               14,
               Rows'.any-gone (Syntax.tyRef Syntax.erased
@@ -3626,15 +3625,15 @@ module _ (claims· : Claims) where
           d1 = Typed.g-pre 𝓤 H A W 𝓣 E G53 G54 b18 Δ0 (Typed.pass T53 T54 (s52 bs)) (at0 bs) (Scalar.g-room 𝓤 H A W E G53 3 (Syntax.tyInt Syntax.w64) (Scalar.room-sc 𝓤 H A W (Row.sInt Syntax.w64))) d0
 
           d2 : Typed.Typed 𝓤 H A 𝓣 E G52 b18 Δ0 (at2 bs)
-          d2 = Typed.g-pre 𝓤 H A W 𝓣 E G52 G53 b18 Δ0 (Typed.pass T52 T53 (s51 bs)) (at1 bs) (Scalar.g-room 𝓤 H A W E G52 12 (Syntax.tyStruct (List._∷_ 98 (List._∷_ 108 (List._∷_ 111 (List._∷_ 99
-              (List._∷_ 107 (List._∷_ 58 (List._∷_ 58 (List._∷_ 87 (List._∷_ 97 (List._∷_ 108 (List._∷_ 107 (List._∷_ 101 (List._∷_ 100 List.[]))))))))))))) (Syntax.tcons Syntax.tyBool (Syntax.tcons
-              (Syntax.tyInt Syntax.w64) (Syntax.tcons (Syntax.tyStruct (List._∷_ 98 (List._∷_ 105 (List._∷_ 116 (List._∷_ 115 (List._∷_ 58 (List._∷_ 58 (List._∷_ 66 (List._∷_ 105 (List._∷_ 116 (List._∷_
-              80 (List._∷_ 111 (List._∷_ 115 (List._∷_ 105 (List._∷_ 116 (List._∷_ 105 (List._∷_ 111 (List._∷_ 110 List.[]))))))))))))))))) (Syntax.tcons (Syntax.tyInt Syntax.w64) Syntax.tnil))
-              (Syntax.tcons (Syntax.tyInt Syntax.w64) Syntax.tnil))))) (Local.room-whole 𝓤 H A W (Declared'.row Walked.the-type) (Syntax.tyStruct (List._∷_ 98 (List._∷_ 108 (List._∷_ 111 (List._∷_ 99
-              (List._∷_ 107 (List._∷_ 58 (List._∷_ 58 (List._∷_ 87 (List._∷_ 97 (List._∷_ 108 (List._∷_ 107 (List._∷_ 101 (List._∷_ 100 List.[]))))))))))))) (Syntax.tcons Syntax.tyBool (Syntax.tcons
-              (Syntax.tyInt Syntax.w64) (Syntax.tcons (Syntax.tyStruct (List._∷_ 98 (List._∷_ 105 (List._∷_ 116 (List._∷_ 115 (List._∷_ 58 (List._∷_ 58 (List._∷_ 66 (List._∷_ 105 (List._∷_ 116 (List._∷_
-              80 (List._∷_ 111 (List._∷_ 115 (List._∷_ 105 (List._∷_ 116 (List._∷_ 105 (List._∷_ 111 (List._∷_ 110 List.[]))))))))))))))))) (Syntax.tcons (Syntax.tyInt Syntax.w64) Syntax.tnil))
-              (Syntax.tcons (Syntax.tyInt Syntax.w64) Syntax.tnil))))) Path'.refl)) d1
+          d2 = Typed.g-pre 𝓤 H A W 𝓣 E G52 G53 b18 Δ0 (Typed.pass T52 T53 (s51 bs)) (at1 bs) (Scalar.g-room 𝓤 H A W E G52 12 (Syntax.tyEnum (List._∷_ 98 (List._∷_ 108 (List._∷_ 111 (List._∷_ 99
+              (List._∷_ 107 (List._∷_ 58 (List._∷_ 58 (List._∷_ 87 (List._∷_ 97 (List._∷_ 108 (List._∷_ 107 (List._∷_ 101 (List._∷_ 100 List.[]))))))))))))) (Syntax.ttcons (Syntax.tcons (Syntax.tyStruct
+              (List._∷_ 98 (List._∷_ 105 (List._∷_ 116 (List._∷_ 115 (List._∷_ 58 (List._∷_ 58 (List._∷_ 66 (List._∷_ 105 (List._∷_ 116 (List._∷_ 80 (List._∷_ 111 (List._∷_ 115 (List._∷_ 105 (List._∷_ 116
+              (List._∷_ 105 (List._∷_ 111 (List._∷_ 110 List.[]))))))))))))))))) (Syntax.tcons (Syntax.tyInt Syntax.w64) Syntax.tnil)) (Syntax.tcons (Syntax.tyInt Syntax.w64) Syntax.tnil)) (Syntax.ttcons
+              (Syntax.tcons (Syntax.tyInt Syntax.w64) Syntax.tnil) Syntax.ttnil))) (Local.room-whole 𝓤 H A W (Declared.row Walked.the-type) (Syntax.tyEnum (List._∷_ 98 (List._∷_ 108 (List._∷_ 111
+              (List._∷_ 99 (List._∷_ 107 (List._∷_ 58 (List._∷_ 58 (List._∷_ 87 (List._∷_ 97 (List._∷_ 108 (List._∷_ 107 (List._∷_ 101 (List._∷_ 100 List.[]))))))))))))) (Syntax.ttcons (Syntax.tcons
+              (Syntax.tyStruct (List._∷_ 98 (List._∷_ 105 (List._∷_ 116 (List._∷_ 115 (List._∷_ 58 (List._∷_ 58 (List._∷_ 66 (List._∷_ 105 (List._∷_ 116 (List._∷_ 80 (List._∷_ 111 (List._∷_ 115 (List._∷_
+              105 (List._∷_ 116 (List._∷_ 105 (List._∷_ 111 (List._∷_ 110 List.[]))))))))))))))))) (Syntax.tcons (Syntax.tyInt Syntax.w64) Syntax.tnil)) (Syntax.tcons (Syntax.tyInt Syntax.w64)
+              Syntax.tnil)) (Syntax.ttcons (Syntax.tcons (Syntax.tyInt Syntax.w64) Syntax.tnil) Syntax.ttnil))) Path'.refl)) d1
 
           d3 : Typed.Typed 𝓤 H A 𝓣 E G51 b18 Δ0 (at3 bs)
           d3 = Typed.g-pre 𝓤 H A W 𝓣 E G51 G52 b18 Δ0 (Typed.pass T51 T52 (s50 bs)) (at2 bs) (Scalar.g-room 𝓤 H A W E G51 7 (Syntax.tyInt Syntax.w64) (Scalar.room-sc 𝓤 H A W (Row.sInt Syntax.w64))) d2
@@ -3685,8 +3684,8 @@ module _ (claims· : Claims) where
                       ),
                       (
                         (
-                          Yields.yields-copy 𝓤 H A W (λ ρ. Unit) (Declared'.row Walked.the-type) Path'.refl (Copies.cStruct Walked.the-type Laws''.the-laws Laws''.the-copy .copy 𝓤 H A W)
-                              (Rows'.whole (Declared'.row Walked.the-type)) (λ x. x) (λ x. x) (λ ρ told. Local.mem-whole 𝓤 H A W (Declared'.row Walked.the-type) ρ) λ ρ told. Local.whole-mem 𝓤 H A W (Declared'.row
+                          Yields.yields-copy 𝓤 H A W (λ ρ. Unit) (Declared.row Walked.the-type) Path'.refl (Copies.cEnum Walked.the-type Laws''.the-laws Laws''.the-copy .copy 𝓤 H A W)
+                              (Rows'.whole (Declared.row Walked.the-type)) (λ x. x) (λ x. x) (λ ρ told. Local.mem-whole 𝓤 H A W (Declared.row Walked.the-type) ρ) λ ρ told. Local.whole-mem 𝓤 H A W (Declared.row
                               Walked.the-type) ρ,
                           Path'.refl,
                         ),
@@ -3896,11 +3895,12 @@ module _ (claims· : Claims) where
                     ),
                   ),
                 ),
-              ) (Reads'.room-gone 𝓤 H A (Syntax.tyStruct
+              ) (Reads'.room-gone 𝓤 H A (Syntax.tyEnum
               (List._∷_ 98 (List._∷_ 108 (List._∷_ 111 (List._∷_ 99 (List._∷_ 107 (List._∷_ 58 (List._∷_ 58 (List._∷_ 87 (List._∷_ 97 (List._∷_ 108 (List._∷_ 107 (List._∷_ 101 (List._∷_ 100
-              List.[]))))))))))))) (Syntax.tcons Syntax.tyBool (Syntax.tcons (Syntax.tyInt Syntax.w64) (Syntax.tcons (Syntax.tyStruct (List._∷_ 98 (List._∷_ 105 (List._∷_ 116 (List._∷_ 115 (List._∷_ 58
-              (List._∷_ 58 (List._∷_ 66 (List._∷_ 105 (List._∷_ 116 (List._∷_ 80 (List._∷_ 111 (List._∷_ 115 (List._∷_ 105 (List._∷_ 116 (List._∷_ 105 (List._∷_ 111 (List._∷_ 110 List.[])))))))))))))))))
-              (Syntax.tcons (Syntax.tyInt Syntax.w64) Syntax.tnil)) (Syntax.tcons (Syntax.tyInt Syntax.w64) Syntax.tnil)))))) (tt, (tt, (tt, (tt, (tt, (tt, tt)))))) Path'.refl) d25
+              List.[]))))))))))))) (Syntax.ttcons (Syntax.tcons (Syntax.tyStruct (List._∷_ 98 (List._∷_ 105 (List._∷_ 116 (List._∷_ 115 (List._∷_ 58 (List._∷_ 58 (List._∷_ 66 (List._∷_ 105 (List._∷_ 116
+              (List._∷_ 80 (List._∷_ 111 (List._∷_ 115 (List._∷_ 105 (List._∷_ 116 (List._∷_ 105 (List._∷_ 111 (List._∷_ 110 List.[]))))))))))))))))) (Syntax.tcons (Syntax.tyInt Syntax.w64) Syntax.tnil))
+              (Syntax.tcons (Syntax.tyInt Syntax.w64) Syntax.tnil)) (Syntax.ttcons (Syntax.tcons (Syntax.tyInt Syntax.w64) Syntax.tnil) Syntax.ttnil)))) (tt, (tt, (tt, (tt, (tt, (tt, tt)))))) Path'.refl)
+              d25
 
           d27 : Typed.Typed 𝓤 H A 𝓣 E G27 b20 Δ0 (at27 bs)
           d27 = Typed.g-pre 𝓤 H A W 𝓣 E G27 G28 b20 Δ0 (Typed.pass T27 T28 (s26 bs)) (at26 bs) (AtSlots.g-as-by 𝓤 H A W E (λ ρ. Unit) G27 6 (Rows'.whole (Declared'.row Form.the-type)) (λ v.

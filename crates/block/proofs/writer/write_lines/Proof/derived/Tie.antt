@@ -529,8 +529,8 @@ After-rs3 = λ Inv μ. Lts.After-rs3 (
   Reads'3.Learnt,
 ) Reads'4.Pre Reads'4.Post Inv μ
 
-abbrev pub Then1 : (Inv : InvT-loop) → (μ : MeasureT-loop) → Type 0
-Then1 = λ Inv μ. Lts.Then1 (
+abbrev pub At-match-keys1 : (Inv : InvT-loop) → (μ : MeasureT-loop) → Type 0
+At-match-keys1 = λ Inv μ. Lts.At-match-keys1 (
   Reads''.Asked,
   Reads''.Learnt,
   Reads'5.Asked,
@@ -545,8 +545,8 @@ Then1 = λ Inv μ. Lts.Then1 (
   Reads'3.Learnt,
 ) Reads'4.Pre Reads'4.Post Inv μ
 
-abbrev pub Else1 : (Inv : InvT-loop) → (μ : MeasureT-loop) → Type 0
-Else1 = λ Inv μ. Lts.Else1 (
+abbrev pub After-got : (Inv : InvT-loop) → (μ : MeasureT-loop) → Type 0
+After-got = λ Inv μ. Lts.After-got (
   Reads''.Asked,
   Reads''.Learnt,
   Reads'5.Asked,
@@ -561,8 +561,40 @@ Else1 = λ Inv μ. Lts.Else1 (
   Reads'3.Learnt,
 ) Reads'4.Pre Reads'4.Post Inv μ
 
-abbrev pub After-at : (Inv : InvT-loop) → (μ : MeasureT-loop) → Type 0
-After-at = λ Inv μ. Lts.After-at (
+abbrev pub After-known-told : (Inv : InvT-loop) → (μ : MeasureT-loop) → Type 0
+After-known-told = λ Inv μ. Lts.After-known-told (
+  Reads''.Asked,
+  Reads''.Learnt,
+  Reads'5.Asked,
+  Reads'5.Learnt,
+  Reads'.Asked,
+  Reads'.Learnt,
+  Reads'6.Asked,
+  Reads'6.Learnt,
+  Reads.Asked,
+  Reads.Learnt,
+  Reads'3.Asked,
+  Reads'3.Learnt,
+) Reads'4.Pre Reads'4.Post Inv μ
+
+abbrev pub At-match-keys2 : (Inv : InvT-loop) → (μ : MeasureT-loop) → Type 0
+At-match-keys2 = λ Inv μ. Lts.At-match-keys2 (
+  Reads''.Asked,
+  Reads''.Learnt,
+  Reads'5.Asked,
+  Reads'5.Learnt,
+  Reads'.Asked,
+  Reads'.Learnt,
+  Reads'6.Asked,
+  Reads'6.Learnt,
+  Reads.Asked,
+  Reads.Learnt,
+  Reads'3.Asked,
+  Reads'3.Learnt,
+) Reads'4.Pre Reads'4.Post Inv μ
+
+abbrev pub After-enum-told : (Inv : InvT-loop) → (μ : MeasureT-loop) → Type 0
+After-enum-told = λ Inv μ. Lts.After-enum-told (
   Reads''.Asked,
   Reads''.Learnt,
   Reads'5.Asked,
@@ -675,6 +707,38 @@ Need-restart-requires = λ Inv μ. Lts.Need-restart-requires (
 
 abbrev pub Need-write-line-requires : (Inv : InvT-loop) → (μ : MeasureT-loop) → Type 0
 Need-write-line-requires = λ Inv μ. Lts.Need-write-line-requires (
+  Reads''.Asked,
+  Reads''.Learnt,
+  Reads'5.Asked,
+  Reads'5.Learnt,
+  Reads'.Asked,
+  Reads'.Learnt,
+  Reads'6.Asked,
+  Reads'6.Learnt,
+  Reads.Asked,
+  Reads.Learnt,
+  Reads'3.Asked,
+  Reads'3.Learnt,
+) Reads'4.Pre Reads'4.Post Inv μ
+
+abbrev pub Need-enum-known-got : (Inv : InvT-loop) → (μ : MeasureT-loop) → Type 0
+Need-enum-known-got = λ Inv μ. Lts.Need-enum-known-got (
+  Reads''.Asked,
+  Reads''.Learnt,
+  Reads'5.Asked,
+  Reads'5.Learnt,
+  Reads'.Asked,
+  Reads'.Learnt,
+  Reads'6.Asked,
+  Reads'6.Learnt,
+  Reads.Asked,
+  Reads.Learnt,
+  Reads'3.Asked,
+  Reads'3.Learnt,
+) Reads'4.Pre Reads'4.Post Inv μ
+
+abbrev pub Need-enum-told : (Inv : InvT-loop) → (μ : MeasureT-loop) → Type 0
+Need-enum-told = λ Inv μ. Lts.Need-enum-told (
   Reads''.Asked,
   Reads''.Learnt,
   Reads'5.Asked,
@@ -867,9 +931,10 @@ Need-returns-2 = λ Inv μ. Lts.Need-returns-2 (
 
 module _ {M : Type 1} where
   pub spec : (Inv : InvT-loop) → (μ : MeasureT-loop) → (answer : Need-width-requires Inv μ) → (answer : Need-clear-requires Inv μ) → (answer : Need-start-records-requires Inv μ) → (answer :
-      Need-loop-holds Inv μ) → (answer : Need-turn-requires Inv μ) → (answer : Need-restart-requires Inv μ) → (answer : Need-write-line-requires Inv μ) → (answer : Need-same-length Inv μ) → (answer :
-      Need-same-length-2 Inv μ) → (answer : Need-same-length-3 Inv μ) → (answer : Need-returns Inv μ) → (answer : Need-add-n Inv μ) → (answer : Need-loop-less Inv μ) → (answer : Need-loop-again Inv μ) →
-      (answer : Need-same-length-4 Inv μ) → (answer : Need-same-length-5 Inv μ) → (answer : Need-same-length-6 Inv μ) → (answer : Need-returns-2 Inv μ) → Lts.Closed (
+      Need-loop-holds Inv μ) → (answer : Need-turn-requires Inv μ) → (answer : Need-restart-requires Inv μ) → (answer : Need-write-line-requires Inv μ) → (answer : Need-enum-known-got Inv μ) → (answer :
+      Need-enum-told Inv μ) → (answer : Need-same-length Inv μ) → (answer : Need-same-length-2 Inv μ) → (answer : Need-same-length-3 Inv μ) → (answer : Need-returns Inv μ) → (answer : Need-add-n Inv μ) →
+      (answer : Need-loop-less Inv μ) → (answer : Need-loop-again Inv μ) → (answer : Need-same-length-4 Inv μ) → (answer : Need-same-length-5 Inv μ) → (answer : Need-same-length-6 Inv μ) → (answer :
+      Need-returns-2 Inv μ) → Lts.Closed (
         Reads''.Asked,
         Reads''.Learnt,
         Reads'5.Asked,
@@ -883,21 +948,22 @@ module _ {M : Type 1} where
         Reads'3.Asked,
         Reads'3.Learnt,
       ) Reads'4.Pre Reads'4.Post M
-  spec = λ Inv μ answer answer' answer'' answer'3 answer'4 answer'5 answer'6 answer'7 answer'8 answer'9 answer'10 answer'11 answer'12 answer'13 answer'14 answer'15 answer'16 answer'17. Lts.spec (
-    Reads''.Asked,
-    Reads''.Learnt,
-    Reads'5.Asked,
-    Reads'5.Learnt,
-    Reads'.Asked,
-    Reads'.Learnt,
-    Reads'6.Asked,
-    Reads'6.Learnt,
-    Reads.Asked,
-    Reads.Learnt,
-    Reads'3.Asked,
-    Reads'3.Learnt,
-  ) Reads'4.Pre
-      Reads'4.Post Inv μ answer answer' answer'' answer'3 answer'4 answer'5 answer'6 answer'7 answer'8 answer'9 answer'10 answer'11 answer'12 answer'13 answer'14 answer'15 answer'16 answer'17
+  spec = λ Inv μ answer answer' answer'' answer'3 answer'4 answer'5 answer'6 answer'7 answer'8 answer'9 answer'10 answer'11 answer'12 answer'13 answer'14 answer'15 answer'16 answer'17 answer'18
+      answer'19. Lts.spec (
+        Reads''.Asked,
+        Reads''.Learnt,
+        Reads'5.Asked,
+        Reads'5.Learnt,
+        Reads'.Asked,
+        Reads'.Learnt,
+        Reads'6.Asked,
+        Reads'6.Learnt,
+        Reads.Asked,
+        Reads.Learnt,
+        Reads'3.Asked,
+        Reads'3.Learnt,
+      ) Reads'4.Pre Reads'4.Post Inv μ answer answer' answer'' answer'3 answer'4 answer'5 answer'6 answer'7 answer'8 answer'9 answer'10 answer'11 answer'12 answer'13 answer'14 answer'15
+      answer'16 answer'17 answer'18 answer'19
 
   pub close : Lts.Closed (
     Reads''.Asked,
