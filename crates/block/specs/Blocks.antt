@@ -1,10 +1,10 @@
 -- Reading a block: six passes make a line, and lines make a block. Assumes nothing.
-use mathlib.Core.Bool.{Bool, true, false, cond, _&&_}
+use mathlib.Core.Bool.{Bool, true, cond, _&&_}
 use mathlib.Core.List.{List, []}
 use mathlib.Core.Option.{Option, none, some}
 use mathlib.Core.Path.{_≡_}
-use Prim.Native.Nat.{ℕ, zero, suc, _+_, _-_, _*_, _/_, _%_, _≤_, _<_}
-use lib.Dec.{leb, ltb, eqb}
+use Prim.Native.Nat.{ℕ, zero, suc, _+_, _*_, _/_, _≤_, _<_}
+use lib.Dec.{leb, eqb}
 use lib.ListN.{length, getD}
 use Rattle.bits.specs.declared.BitPosition.{BitPosition}
 use Rattle.statistics.specs.Statistics.{InRange}
@@ -13,10 +13,10 @@ use Rattle.pass.specs.Steps.{planOf}
 use Rattle.pass.specs.Readings.{Reading, readPass, andThen, noRecord}
 use Rattle.pass.specs.declared.Plan.{Plan}
 use Rattle.pass.specs.declared.Quantisers.{Quantisers}
-use Rattle.lines.specs.ColourLines.{zeroLines, guarded, turned}
-use Rattle.map.specs.Places.{widthOf, emittedSample}
+use Rattle.map.specs.Places.{widthOf, pictureRow, inRows, emittedSample, Changed}
 use Rattle.map.specs.declared.Part.{Part}
-use Rattle.block.specs.Records.{startRecords, restartedMain, baseOf, isRestarted, setOf, putSet}
+use Rattle.block.specs.Records.{baseOf, setOf, putSet}
+use Rattle.block.specs.Between.{linesAtStart, recordsAtStart, linesBefore, recordsBefore, linesEntered}
 use Rattle.block.specs.declared.Form.{Form}
 use Rattle.block.specs.declared.Lined.{Lined}
 use Rattle.block.specs.declared.Lined.the-variants as Line
@@ -41,7 +41,7 @@ runs f (suc n) r = andThen (runs f n r) (λ z. f n z)
 abbrev pub enter : Form → Plan → State → Reading
 enter F P r =
     record {
-      lines = guarded (widthOf (F .xtrans)) (P .second) (guarded (widthOf (F .xtrans)) (P .first) (r .lines));
+      lines = linesEntered F P (r .lines);
       set = setOf (P .set) (r .records);
       at = r .at;
       tight = r .tight;
@@ -72,8 +72,8 @@ readLine F q s r = andThen (runs (passAt F q s) 6 r) (endLine s)
 abbrev pub beforeLine : Form → List ℕ → ℕ → State → State
 beforeLine F bases n r =
     record {
-      lines = turned (widthOf (F .xtrans)) (r .lines);
-      records = cond (isRestarted bases n) (restartedMain (F .bits) (baseOf bases n) (r .records)) (r .records);
+      lines = linesBefore F (r .lines);
+      records = recordsBefore F bases n (r .records);
       at = r .at;
       tight = r .tight;
     }
@@ -86,8 +86,8 @@ lineAt F bases s n r = readLine F (baseOf bases n) s (beforeLine F bases n r)
 unfoldable pub startState : Form → List ℕ → State
 startState F bases =
     record {
-      lines = zeroLines (widthOf (F .xtrans));
-      records = startRecords (F .bits) (baseOf bases 0);
+      lines = linesAtStart F;
+      records = recordsAtStart F bases;
       at = record { 0 = 0 };
       tight = true;
     }
@@ -114,25 +114,14 @@ tightLines F bases s (suc n) =
 
 -- ---- the image
 
--- the row of the picture, and the column of the image, that entry i of the image shows
-abbrev pub rowOf : Part → ℕ → ℕ
-rowOf a i = a .top + i / a .stride
+-- the sample that entry i of the image shows: that of its line
+abbrev pub shownSample : Form → (bases s tile : List ℕ) → Part → ℕ → ℕ
+shownSample F bases s tile a i =
+    emittedSample (F .xtrans) (widthOf (F .xtrans)) tile (linesOf (readLines F bases s (suc (pictureRow a i / 6)))) a i
 
-abbrev pub columnOf : Part → ℕ → ℕ
-columnOf a i = i % a .stride
-
--- whether entry i belongs to the part, and to one of the first n lines
-unfoldable pub isShown : Part → ℕ → ℕ → Bool
-isShown a n i =
-    ltb (rowOf a i) (6 * n) && ltb (rowOf a i) (a .bottom) && leb (a .start) (columnOf a i) && ltb (columnOf a i) (a .start + (a .right - a .left))
-
--- the image after n lines: each entry of theirs is the sample of its line, and the others are what they were
-pub record Shown (F : Form) (bases s tile : List ℕ) (a : Part) (n : ℕ) (before after : List ℕ) : Type 0 where
-  pub kept : length after ≡ length before
-  pub entries : (i : ℕ) → getD after i 0
-      ≡ cond (isShown a n i)
-      (emittedSample (F .xtrans) (widthOf (F .xtrans)) tile (linesOf (readLines F bases s (suc (rowOf a i / 6)))) a i)
-      (getD before i 0)
+-- the image after n lines: their rows have been put into it
+abbrev pub Shown : Form → (bases s tile : List ℕ) → Part → ℕ → (before after : List ℕ) → Type 0
+Shown F bases s tile a n before after = Changed (inRows a 0 (6 * n)) (shownSample F bases s tile a) before after
 
 -- ---- the answers
 

@@ -5,10 +5,10 @@ use mathlib.Core.Option.{Option, none, some}
 use mathlib.Core.Path.{_≡_}
 use Prim.Native.Nat.{ℕ, zero, suc, _+_, _-_, _*_, _/_, _%_}
 use lib.Dec.{ltb, eqb}
-use lib.ListN.{length, getD, drop}
+use lib.ListN.{drop}
 use Rattle.statistics.specs.declared.Record.{Record}
 use Rattle.lines.specs.ColourLines.{zeroLines}
-use Rattle.map.specs.Places.{widthOf, emittedSample}
+use Rattle.map.specs.Places.{widthOf, emittedSample, Changed}
 use Rattle.stream.specs.Streams.{openOf, rangeOf, rowOf, partOf}
 use Rattle.stream.specs.declared.FujiHeader.{FujiHeader}
 use Rattle.stream.specs.declared.Parsed.{Parsed}
@@ -70,9 +70,8 @@ decodedSample d h r tile i =
     emittedSample (h .xtrans) (widthOf (h .xtrans)) tile lines (partIn r b) i
 
 -- the image after the blocks below e; all other entries are what they were
-pub record Pictured (d : List ℕ) (h : FujiHeader) (r : Rect) (tile : List ℕ) (e : ℕ) (before after : List ℕ) : Type 0 where
-  pub kept : length after ≡ length before
-  pub entries : (i : ℕ) → getD after i 0 ≡ cond (isDecoded d h r e i) (decodedSample d h r tile i) (getD before i 0)
+abbrev pub Pictured : List ℕ → FujiHeader → Rect → List ℕ → ℕ → (before after : List ℕ) → Type 0
+Pictured d h r tile e before after = Changed (isDecoded d h r e) (decodedSample d h r tile) before after
 
 -- ---- the answer
 

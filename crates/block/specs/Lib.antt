@@ -1,5 +1,6 @@
 -- The definitions of a block.
 pub mod Records
+pub mod Between
 pub mod Blocks
 pub mod Images
 pub mod BadCodes
