@@ -11,7 +11,7 @@ The borrow checker's rules hold of every element type, and only its front refuse
   1. writes a twin of the crate in target/lend, in which `[S]` is `[[u32; N]]` (N is SIZE, 2) and P<'a> is `[&'a [u8]; 1]`. A clause of a
      contract becomes a trivial one. There are up to three twins: of the functions that touch an element and of those that have an array of
      S of their own, in which S is the array by value too, and of those that pass the slice, or P, on, in which S by value stays S;
-  2. lets Rattle write the twin's derivations (`rt dev CRATE --generated`). Each listed function has a proof there that is a hole: no
+  2. lets Rattle write the twin's derivations (`rt dev CRATE --generated`). Each function has a proof there that is a hole: no
      search is run for what the twin, whose contracts say nothing, could not have anyway;
   3. puts the struct in the array's place, and writes below crates/CRATE/proofs, M being the function's module, if it has one:
        M/derived/F/Kinds, Reads       what a caller of F cites
@@ -23,7 +23,7 @@ import filecmp, os, re, shutil, subprocess, sys
 SIZE, WIDTH = os.environ.get("SIZE", "2"), int(os.environ.get("WIDTH", "200"))
 ARR, WORK = f"[u32; {SIZE}]", "target/lend"
 # A function: comments, head with its clauses, body. The layout is that of `rt fmt`.
-ITEM = re.compile(r"(?:^//[^\n]*\n)*^(?P<head>(?:#\[no_mangle\]\n)?(?:pub(?:\(crate\))? )?(?:extern \"C\" )?fn (?P<name>\w+)[^{]*?(?:\n    (?:requires|ensures)[^\n]*)*)\s*\{\n(?P<body>.*?)\n\}\n", re.S | re.M)
+ITEM = re.compile(r"(?:^//[^\n]*\n)*^(?P<head>(?:#\[no_mangle\]\n)?(?:pub(?:\(crate\))? )?(?:extern \"C\" )?fn (?P<name>\w+)[^{]*?(?:\n    (?:requires|ensures)[^\n]*(?:\n        [^\n]*)*)*)\s*\{\n(?P<body>.*?)\n\}\n", re.S | re.M)
 METHOD = re.compile(r"^    pub fn (?P<name>\w+)\(&(?P<mut>mut )?self(?P<args>[^)]*)\)(?P<rest>[^\n]*(?:\n        (?:requires|ensures)[^\n]*)*)\n    \{", re.M)
 
 def read(path):
@@ -169,8 +169,8 @@ def twin_carry(c):
         files[module] = trivial(text)
     return files
 
-def generate(c, twin, files, stubs):
-    """Lets Rattle write what it derives for a twin; the answer is the folder that has it."""
+def generate(c, twin, files, bare=""):
+    """Lets Rattle write what it derives for a twin; the answer is the folder that has it. Each function has a hole for a proof, but not `bare`."""
     d = f"{WORK}/{c.name}-{twin}"
     shutil.rmtree(d, ignore_errors=True)
     lines = {l.split(":")[0].strip(): l for l in read("crates.txt").splitlines() if ":" in l}
@@ -187,7 +187,7 @@ def generate(c, twin, files, stubs):
     shutil.copytree("target", f"{d}/target", ignore=lambda p, n: [x for x in n if p == "target" and x in ("lend", "inc", "log")])
     for m, text in files.items():
         put(f"{d}/crates/{c.name}/src/{m or c.root}.rt", text)
-    for f in stubs:
+    for f in [i["name"] for text in files.values() for i in ITEM.finditer(text) if i["name"] != bare]:
         name = f.replace("_", "-") + "-spec"
         put(f"{d}/crates/{c.name}/proofs/{c.below(f, '/')}/Proof.antt", f"use {c.path(f)}.Statement.{{statement}}\npub {name} : {{M : Type 1}} → statement M\n{name} = ?\n")
     r = subprocess.run(["rt", "dev", c.name, "--generated", "gen"], cwd=d, capture_output=True, text=True)
@@ -324,25 +324,23 @@ def declare(c, to):
 def make(c, to, only=()):
     wanted = lambda kind: [f for f in c.of(kind) if not only or f in only]
     if wanted("touch"):
-        root = generate(c, "touch", twin_small(c, c.of("touch")), c.of("touch"))
+        root = generate(c, "touch", twin_small(c, c.of("touch")))
         for f in wanted("touch"):
             place(c, root, f, to)
     if wanted("carry"):
-        root = generate(c, "carry", twin_carry(c), list(c.item))
+        root = generate(c, "carry", twin_carry(c))
         for f in wanted("carry") + [f for f in c.far if os.path.isdir(f"{root}/{f}")]:
             place(c, root, f, to)
     if wanted("own"):
-        root = generate(c, "own", twin_small(c, c.of("own")), c.of("own"))
+        root = generate(c, "own", twin_small(c, c.of("own")))
         for f in wanted("own"):
             place(c, root, f, to)
     declare(c, to)
 
 def skeleton(c, f):
     """A first proof of a function: its needs. The names of an invariant's arguments are as the check of the twin prints them."""
-    if c.kinds[f] == "carry":
-        root = generate(c, "skeleton", twin_carry(c), [g for g in c.item if g != f])
-    else:
-        root = generate(c, "skeleton", twin_small(c, c.of(c.kinds[f])), [g for g in c.of(c.kinds[f]) if g != f])
+    twin = twin_carry(c) if c.kinds[f] == "carry" else twin_small(c, c.of(c.kinds[f]))
+    root = generate(c, "skeleton", twin, f)
     tie = read(f"{root}/{c.below(f, '/')}/Tie.antt")
     names = dict(re.findall(r"^\s+Inv-(\S+) (.*) = \?$", read(f"{WORK}/{c.name}-skeleton.log"), flags=re.M))
     needs, loops = re.findall(r"abbrev pub Need-(\S+)", tie), re.findall(r"abbrev pub InvT-(\S+)", tie)
