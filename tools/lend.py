@@ -109,7 +109,8 @@ class Crate:
 # ---- the twins' text, by module
 
 def trivial(text):
-    text = re.sub(r"⌜.*?⌝", "⌜ 0 < 1 ⌝", text, flags=re.S)     # the shape of a clause is kept, and not what it says
+    # the shape of a clause is kept, and not what it says
+    text = re.sub(r"((?:requires|ensures) \{(?:\s*λ \w+\.)?)[^⌜{}]*(?:\{[^⌜{}]*\}[^⌜{}]*)*⌜.*?⌝", r"\1 ⌜ 0 < 1 ⌝", text, flags=re.S)
     return "ghost use Prim.Native.Nat.{_<_};\n" + re.sub(r"ghost use [^\n]*\n", "", text)
 
 def function(head, body):

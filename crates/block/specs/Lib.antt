@@ -1,6 +1,7 @@
 -- The definitions of a block.
 pub mod Records
 pub mod Blocks
+pub mod Lent
 pub mod Images
 pub mod BadCodes
 pub mod TightBlocks

@@ -399,7 +399,7 @@ abbrev b1 : Syntax.Body
 b1 = Syntax.assign (Syntax.place 9 List.[]) (Syntax.rvOpd (Syntax.copy (Syntax.place 6 (List._∷_ (Syntax.field 1) List.[]))))
 
 abbrev b2 : Syntax.Body
-b2 = Syntax.call "block::width" (List._∷_ (Syntax.copy (Syntax.place 9 List.[])) List.[]) (Syntax.place 10 List.[])
+b2 = Syntax.call "map::width" (List._∷_ (Syntax.copy (Syntax.place 9 List.[])) List.[]) (Syntax.place 10 List.[])
 
 abbrev b3 : Syntax.Body
 b3 = Syntax.assign (Syntax.place 11 List.[]) (Syntax.rvOpd (Syntax.copy (Syntax.place 2 List.[])))
@@ -4189,11 +4189,11 @@ module _ (claims· : Claims) where
   module _ (Pre· : (κs : Lifetimes.Lfts 3) → Kinds.Dens κs ps → Type 0) (Post· : (κs : Lifetimes.Lfts 3) → (a : Kinds.Dens κs ps) → Kinds.Plain 3 ps r κs) where
     module _ (M : Type 1) where
       abbrev pub Closed : Type 2
-      Closed = (𝓤 : URA.URA M) (H : Wp.Heap 𝓤) (A : Atoms.Atoms 𝓤) (W : Kit.Given 𝓤 H A) (𝓣 : Wp.Tables 𝓤 H) (known0 : Plain.Known 𝓤 H A W 𝓣 0 ps·0 r·0 (claims· .0) (claims· .1) "block::width")
-          (known1 : Plain.Known 𝓤 H A W 𝓣 0 ps·1 r·1 (claims· .2) (claims· .3) "pass::plan_at") (known2 : Plain.Known 𝓤 H A W 𝓣 1 ps·2 r·2 (claims· .4) (claims· .5) "lines::set_guards") (known3 :
-          Plain.Known 𝓤 H A W 𝓣 1 ps·3 r·3 (claims· .6) (claims· .7) "block::records::load_set") (known4 : Plain.Known 𝓤 H A W 𝓣 2 ps·4 r·4 (claims· .8) (claims· .9) "pass::pass") (known5 : Plain.Known 𝓤
-          H A W 𝓣 1 ps·5 r·5 (claims· .10) (claims· .11) "block::records::store_set") (known6 : Plain.Known 𝓤 H A W 𝓣 1 ps·6 r·6 (claims· .12) (claims· .13) "block::reading::is_past") → Statement.Triple 𝓤
-          (Wp.WpFn 𝓤 H (𝓣 .C) (𝓣 .Λ) (Function.fnOf 3 ps r xs m hs body)) (Function.plainOf 𝓤 H A 3 ps r Pre· Post·)
+      Closed = (𝓤 : URA.URA M) (H : Wp.Heap 𝓤) (A : Atoms.Atoms 𝓤) (W : Kit.Given 𝓤 H A) (𝓣 : Wp.Tables 𝓤 H) (known0 : Plain.Known 𝓤 H A W 𝓣 0 ps·0 r·0 (claims· .0) (claims· .1) "map::width") (known1
+          : Plain.Known 𝓤 H A W 𝓣 0 ps·1 r·1 (claims· .2) (claims· .3) "pass::plan_at") (known2 : Plain.Known 𝓤 H A W 𝓣 1 ps·2 r·2 (claims· .4) (claims· .5) "lines::set_guards") (known3 : Plain.Known 𝓤 H
+          A W 𝓣 1 ps·3 r·3 (claims· .6) (claims· .7) "block::records::load_set") (known4 : Plain.Known 𝓤 H A W 𝓣 2 ps·4 r·4 (claims· .8) (claims· .9) "pass::pass") (known5 : Plain.Known 𝓤 H A W 𝓣 1 ps·5
+          r·5 (claims· .10) (claims· .11) "block::records::store_set") (known6 : Plain.Known 𝓤 H A W 𝓣 1 ps·6 r·6 (claims· .12) (claims· .13) "block::reading::is_past") → Statement.Triple 𝓤 (Wp.WpFn 𝓤 H
+          (𝓣 .C) (𝓣 .Λ) (Function.fnOf 3 ps r xs m hs body)) (Function.plainOf 𝓤 H A 3 ps r Pre· Post·)
 
     module _ (Inv·0 : InvT-loop) (μ·0 : MeasureT-loop) where
       abbrev at0 : (bs : List.List Nat.ℕ) → Typed.TF T15 O4
@@ -4565,9 +4565,9 @@ module _ (claims· : Claims) where
 
       module _ {M : Type 1} (𝓤 : URA.URA M) (H : Wp.Heap 𝓤) (A : Atoms.Atoms 𝓤) (W : Kit.Given 𝓤 H A) (𝓣 : Wp.Tables 𝓤 H) where
         abbrev Knowns : Type 1
-        Knowns = Plain.Known 𝓤 H A W 𝓣 0 ps·0 r·0 (claims· .0) (claims· .1) "block::width" × Plain.Known 𝓤 H A W 𝓣 0 ps·1 r·1 (claims· .2) (claims· .3) "pass::plan_at" × Plain.Known 𝓤 H A W 𝓣 1 ps·2
-            r·2 (claims· .4) (claims· .5) "lines::set_guards" × Plain.Known 𝓤 H A W 𝓣 1 ps·3 r·3 (claims· .6) (claims· .7) "block::records::load_set" × Plain.Known 𝓤 H A W 𝓣 2 ps·4 r·4 (claims· .8)
-            (claims· .9) "pass::pass" × Plain.Known 𝓤 H A W 𝓣 1 ps·5 r·5 (claims· .10) (claims· .11) "block::records::store_set" × Plain.Known 𝓤 H A W 𝓣 1 ps·6 r·6 (claims· .12) (claims· .13)
+        Knowns = Plain.Known 𝓤 H A W 𝓣 0 ps·0 r·0 (claims· .0) (claims· .1) "map::width" × Plain.Known 𝓤 H A W 𝓣 0 ps·1 r·1 (claims· .2) (claims· .3) "pass::plan_at" × Plain.Known 𝓤 H A W 𝓣 1 ps·2 r·2
+            (claims· .4) (claims· .5) "lines::set_guards" × Plain.Known 𝓤 H A W 𝓣 1 ps·3 r·3 (claims· .6) (claims· .7) "block::records::load_set" × Plain.Known 𝓤 H A W 𝓣 2 ps·4 r·4 (claims· .8) (claims·
+            .9) "pass::pass" × Plain.Known 𝓤 H A W 𝓣 1 ps·5 r·5 (claims· .10) (claims· .11) "block::records::store_set" × Plain.Known 𝓤 H A W 𝓣 1 ps·6 r·6 (claims· .12) (claims· .13)
             "block::reading::is_past"
 
       module _ (κs : Lifetimes.Lfts 3) (qs : Lifetimes.Shares 3) where
@@ -6851,7 +6851,7 @@ module _ (claims· : Claims) where
               (Declared.row BitPosition.the-type)) (λ x. x) λ ρ told. Local.whole-mem 𝓤 H A W (Declared.row BitPosition.the-type) ρ) Path'.refl Path'.refl) d112
 
           d114 : Typed.Typed 𝓤 H A 𝓣 E G6 b78 Δ0 (at114 bs)
-          d114 = Typed.s-seq 𝓤 H A W 𝓣 E G6 G7 b2 b77 Δ0 (Typed.both (s5 bs)) (at113 bs) (Plain.t-call-plain 𝓤 H A W 𝓣 0 ps·0 r·0 (claims· .0) (claims· .1) "block::width" (known .0) E (λ pos β. β) G6
+          d114 = Typed.s-seq 𝓤 H A W 𝓣 E G6 G7 b2 b77 Δ0 (Typed.both (s5 bs)) (at113 bs) (Plain.t-call-plain 𝓤 H A W 𝓣 0 ps·0 r·0 (claims· .0) (claims· .1) "map::width" (known .0) E (λ pos β. β) G6
               (Bool.bAt 9 λ x. x, tt) 10 List.[] (Call.sub-id 𝓤 H A W (G6 .slots)) ((Scalar.reads-sc 𝓤 H A W Row.sBool, Path'.refl), tt) (Reads'.room-gone 𝓤 H A (Syntax.tyInt Syntax.w64)) tt Path'.refl)
               d113
 
@@ -8733,7 +8733,7 @@ module _ (claims· : Claims) where
           }
 
         module _ {M : Type 1} (𝓤 : URA.URA M) (H : Wp.Heap 𝓤) (A : Atoms.Atoms 𝓤) (W : Kit.Given 𝓤 H A) (𝓣 : Wp.Tables 𝓤 H) (known0 : Plain.Known 𝓤 H A W 𝓣 0 ps·0 r·0 (claims· .0) (claims· .1)
-            "block::width") (known1 : Plain.Known 𝓤 H A W 𝓣 0 ps·1 r·1 (claims· .2) (claims· .3) "pass::plan_at") (known2 : Plain.Known 𝓤 H A W 𝓣 1 ps·2 r·2 (claims· .4) (claims· .5) "lines::set_guards")
+            "map::width") (known1 : Plain.Known 𝓤 H A W 𝓣 0 ps·1 r·1 (claims· .2) (claims· .3) "pass::plan_at") (known2 : Plain.Known 𝓤 H A W 𝓣 1 ps·2 r·2 (claims· .4) (claims· .5) "lines::set_guards")
             (known3 : Plain.Known 𝓤 H A W 𝓣 1 ps·3 r·3 (claims· .6) (claims· .7) "block::records::load_set") (known4 : Plain.Known 𝓤 H A W 𝓣 2 ps·4 r·4 (claims· .8) (claims· .9) "pass::pass") (known5 :
             Plain.Known 𝓤 H A W 𝓣 1 ps·5 r·5 (claims· .10) (claims· .11) "block::records::store_set") (known6 : Plain.Known 𝓤 H A W 𝓣 1 ps·6 r·6 (claims· .12) (claims· .13) "block::reading::is_past")
           where

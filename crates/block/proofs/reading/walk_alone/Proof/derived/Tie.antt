@@ -11,9 +11,9 @@ use Rattle.block.proofs.reading.walk_alone.Statement
 use Rattle.block.proofs.records.cleared.Met as Met'
 use Rattle.block.proofs.records.cleared.Reads as Reads''
 use Rattle.block.proofs.records.cleared.Symbol as Symbol'
-use Rattle.block.proofs.width.Met as Met''
-use Rattle.block.proofs.width.Reads as Reads'3
-use Rattle.block.proofs.width.Symbol as Symbol''
+use Rattle.map.proofs.width.Met as Met''
+use Rattle.map.proofs.width.Reads as Reads'3
+use Rattle.map.proofs.width.Symbol as Symbol''
 use Rattle.map.proofs.xtrans_places.Met as Met'3
 use Rattle.map.proofs.xtrans_places.Reads as Reads'4
 use Rattle.map.proofs.xtrans_places.Symbol as Symbol'3
@@ -144,5 +144,5 @@ module _ {M : Type 1} where
     𝓡 = 𝓡;
   }) λ g. closed 𝓤 H (𝓖 .A) (Running.givenOf 𝓤 H 𝓜 𝓖) (Run.Over 𝓤 H 𝓜 𝓖 𝓡 Code.env) (Reads'4.known record { M = M; 𝓤 = 𝓤; H = H; 𝓜 = 𝓜; 𝓖 = 𝓖; 𝓡 = 𝓡 } Code.env
       Symbol'3.name Symbol'3.routine Code.calls-map·xtrans-places (Met'3.met 𝓤 H 𝓜 𝓖 𝓡)) (Reads''.known record { M = M; 𝓤 = 𝓤; H = H; 𝓜 = 𝓜; 𝓖 = 𝓖; 𝓡 = 𝓡 } Code.env Symbol'.name Symbol'.routine
-      Code.calls-block·records·cleared (Met'.met 𝓤 H 𝓜 𝓖 𝓡)) (Reads'3.known record { M = M; 𝓤 = 𝓤; H = H; 𝓜 = 𝓜; 𝓖 = 𝓖; 𝓡 = 𝓡 } Code.env Symbol''.name Symbol''.routine Code.calls-block·width (Met''.met 𝓤
-      H 𝓜 𝓖 𝓡)) (Reads.known record { M = M; 𝓤 = 𝓤; H = H; 𝓜 = 𝓜; 𝓖 = 𝓖; 𝓡 = 𝓡 } Code.env Symbol.name Symbol.routine Code.calls-block·reading·walk (Met.met 𝓤 H 𝓜 𝓖 𝓡))
+      Code.calls-block·records·cleared (Met'.met 𝓤 H 𝓜 𝓖 𝓡)) (Reads'3.known record { M = M; 𝓤 = 𝓤; H = H; 𝓜 = 𝓜; 𝓖 = 𝓖; 𝓡 = 𝓡 } Code.env Symbol''.name Symbol''.routine Code.calls-map·width (Met''.met 𝓤 H
+      𝓜 𝓖 𝓡)) (Reads.known record { M = M; 𝓤 = 𝓤; H = H; 𝓜 = 𝓜; 𝓖 = 𝓖; 𝓡 = 𝓡 } Code.env Symbol.name Symbol.routine Code.calls-block·reading·walk (Met.met 𝓤 H 𝓜 𝓖 𝓡))
