@@ -16,11 +16,13 @@ The borrow checker's rules hold of every element type, and only its front refuse
   3. puts the struct in the array's place, and writes below crates/CRATE/proofs, M being the function's module, if it has one:
        M/derived/F/Kinds, Reads       what a caller of F cites
        M/F/Proof/derived/Lts, Tie     F's derivation over the MIR, and its needs at F's contract
+     lend_layout.py gives a name to what a derivation says again and again, and breaks its lines.
 The check admits each derivation over the real function's MIR and contract, or refuses it: nothing here is trusted.
-WIDTH (200) is the width of what is written.
 """
 import filecmp, os, re, shutil, subprocess, sys
-SIZE, WIDTH = os.environ.get("SIZE", "2"), int(os.environ.get("WIDTH", "200"))
+sys.dont_write_bytecode = True
+from lend_layout import laid_out
+SIZE = os.environ.get("SIZE", "2")
 ARR, WORK = f"[u32; {SIZE}]", "target/lend"
 # A function: comments, head with its clauses, body. The layout is that of `rt fmt`.
 ITEM = re.compile(r"(?:^//[^\n]*\n)*^(?P<head>(?:#\[no_mangle\]\n)?(?:pub(?:\(crate\))? )?(?:extern \"C\" )?fn (?P<name>\w+)[^{]*?(?:\n    (?:requires|ensures)[^\n]*(?:\n        [^\n]*)*)*)\s*\{\n(?P<body>.*?)\n\}\n", re.S | re.M)
@@ -270,35 +272,7 @@ def moved(c, text):
         if m + "." in text:
             lines.insert(first, f"use Rattle.{c.home}.proofs.{m}" if m == "Held" and c.home else f"use {P}.{m}")
     lines.insert(0, f"-- Written by tools/lend.py from Rattle's derivation of the twin of `{c.name}`; not edited by hand. Assumes nothing.")
-    return reflow(lines)
-
-def reflow(lines):                                             # one declaration's lines are joined, and broken at WIDTH
-    out, cur, ind = [], None, 0
-    def flush():
-        nonlocal cur
-        if cur is None:
-            return
-        pad, line, first = " " * ind, "", True
-        for tok in cur.split(" "):
-            if line and len(pad) + len(line) + 1 + len(tok) > WIDTH:
-                out.append((pad if first else pad + "    ") + line)
-                line, first = tok, False
-            else:
-                line = tok if not line else line + " " + tok
-        out.append((pad if first else pad + "    ") + line)
-        cur = None
-    for l in lines:
-        s, i = l.strip(), len(l) - len(l.lstrip())
-        if not s or s.startswith("--"):
-            flush()
-            out.append(l)
-        elif cur is not None and (i > ind or s[0] in ")}]") and not cur.endswith(" where"):
-            cur += " " + s
-        else:
-            flush()
-            cur, ind = s, i
-    flush()
-    return "\n".join(out)
+    return laid_out(lines)
 
 # ---- what is written
 

@@ -27,28 +27,26 @@ ps = List._∷_ (ShrSlice.pShrS (Referent.rtF (Referent.fInt Syntax.w16)) 0 tt) 
       ty = Declared.row BitPosition.the-type;
       one = Path'.refl;
       val = Laws'3.val BitPosition.the-type Laws.the-laws;
-      tells = Laws'3.tells BitPosition.the-type
-          Laws.the-laws;
-      still = Laws'3.still BitPosition.the-type Laws.the-copy Exit.yes;
+      tells = Laws'3.tells BitPosition.the-type Laws.the-laws;
+      still = Laws'3.still
+          BitPosition.the-type Laws.the-copy Exit.yes;
       row = Rows.whole (Declared.row BitPosition.the-type);
       rd = λ x. x;
       mk = λ x. x;
     } λ M 𝓤 H A W. record {
-      copies =
-          Laws'3.copy BitPosition.the-type Laws.the-copy 𝓤 H A W;
+      copies = Laws'3.copy BitPosition.the-type Laws.the-copy 𝓤 H A W;
       lawful = Laws'3.lawful BitPosition.the-type Laws.the-laws 𝓤 H A W;
       makes = Laws'3.makes BitPosition.the-type Laws.the-plain 𝓤 H A;
-      in-mem =
-          Local.mem-whole 𝓤 H A W (Declared.row BitPosition.the-type);
+      in-mem = Local.mem-whole 𝓤 H A W (Declared.row BitPosition.the-type);
       of-mem = Local.whole-mem 𝓤 H A W (Declared.row BitPosition.the-type);
     }) (List._∷_ (MutSlice.pMutS (Referent.rtF (Referent.fInt
     Syntax.w16)) 2 tt) (List._∷_ (MutSlice.pMutS (Element.type) 3 tt) (List._∷_ (Value.pVal record {
       ty = Declared.row Form.the-type;
       one = Path'.refl;
       val = Laws'3.val Form.the-type Laws'.the-laws;
-      tells
-          = Laws'3.tells Form.the-type Laws'.the-laws;
-      still = Laws'3.still Form.the-type Laws'.the-copy Exit.yes;
+      tells = Laws'3.tells Form.the-type Laws'.the-laws;
+      still = Laws'3.still Form.the-type Laws'.the-copy
+          Exit.yes;
       row = Rows.whole (Declared.row Form.the-type);
       rd = λ x. x;
       mk = λ x. x;
@@ -67,17 +65,16 @@ r = Value.rVal record {
   one = Path'.refl;
   val = Laws'3.val LinePut.the-type Laws''.the-laws;
   tells = Laws'3.tells LinePut.the-type Laws''.the-laws;
-  still =
-      Laws'3.still LinePut.the-type Laws''.the-copy Exit.yes;
+  still = Laws'3.still LinePut.the-type
+      Laws''.the-copy Exit.yes;
   row = Rows.whole (Declared.row LinePut.the-type);
   rd = λ x. x;
   mk = λ x. x;
 } λ M 𝓤 H A W. record {
-  copies = Laws'3.copy LinePut.the-type
-      Laws''.the-copy 𝓤 H A W;
+  copies = Laws'3.copy LinePut.the-type Laws''.the-copy 𝓤 H A W;
   lawful = Laws'3.lawful LinePut.the-type Laws''.the-laws 𝓤 H A W;
   makes = Laws'3.makes LinePut.the-type Laws''.the-plain 𝓤 H A;
-  in-mem = Local.mem-whole 𝓤 H A W (Declared.row
-      LinePut.the-type);
+  in-mem =
+      Local.mem-whole 𝓤 H A W (Declared.row LinePut.the-type);
   of-mem = Local.whole-mem 𝓤 H A W (Declared.row LinePut.the-type);
 }

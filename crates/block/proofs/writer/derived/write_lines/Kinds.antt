@@ -24,20 +24,19 @@ ps = List._∷_ (ShrSlice.pShrS (Referent.rtF (Referent.fInt Syntax.w16)) 0 tt) 
     (Referent.rtF (Referent.fInt Syntax.w16)) 2 tt) (List._∷_ (MutSlice.pMutS (Element.type) 3 tt) (List._∷_ (Value.pVal record {
       ty = Declared.row Form.the-type;
       one = Path'.refl;
-      val = Laws''.val
-          Form.the-type Laws.the-laws;
+      val = Laws''.val Form.the-type Laws.the-laws;
       tells = Laws''.tells Form.the-type Laws.the-laws;
-      still = Laws''.still Form.the-type Laws.the-copy Exit.yes;
+      still = Laws''.still Form.the-type Laws.the-copy
+          Exit.yes;
       row = Rows.whole (Declared.row Form.the-type);
       rd = λ x. x;
-      mk
-          = λ x. x;
+      mk = λ x. x;
     } λ M 𝓤 H A W. record {
       copies = Laws''.copy Form.the-type Laws.the-copy 𝓤 H A W;
       lawful = Laws''.lawful Form.the-type Laws.the-laws 𝓤 H A W;
-      makes = Laws''.makes Form.the-type
-          Laws.the-plain 𝓤 H A;
-      in-mem = Local.mem-whole 𝓤 H A W (Declared.row Form.the-type);
+      makes = Laws''.makes Form.the-type Laws.the-plain 𝓤 H A;
+      in-mem =
+          Local.mem-whole 𝓤 H A W (Declared.row Form.the-type);
       of-mem = Local.whole-mem 𝓤 H A W (Declared.row Form.the-type);
     }) (List._∷_ (Kinds.pNum Syntax.w64) List.[]))))))
 
@@ -47,17 +46,16 @@ r = Value.rVal record {
   one = Path'.refl;
   val = Laws''.val LinePut.the-type Laws'.the-laws;
   tells = Laws''.tells LinePut.the-type Laws'.the-laws;
-  still =
-      Laws''.still LinePut.the-type Laws'.the-copy Exit.yes;
+  still = Laws''.still LinePut.the-type
+      Laws'.the-copy Exit.yes;
   row = Rows.whole (Declared.row LinePut.the-type);
   rd = λ x. x;
   mk = λ x. x;
 } λ M 𝓤 H A W. record {
-  copies = Laws''.copy LinePut.the-type
-      Laws'.the-copy 𝓤 H A W;
+  copies = Laws''.copy LinePut.the-type Laws'.the-copy 𝓤 H A W;
   lawful = Laws''.lawful LinePut.the-type Laws'.the-laws 𝓤 H A W;
   makes = Laws''.makes LinePut.the-type Laws'.the-plain 𝓤 H A;
-  in-mem = Local.mem-whole 𝓤 H A W (Declared.row
-      LinePut.the-type);
+  in-mem =
+      Local.mem-whole 𝓤 H A W (Declared.row LinePut.the-type);
   of-mem = Local.whole-mem 𝓤 H A W (Declared.row LinePut.the-type);
 }

@@ -72,8 +72,7 @@ Start = λ Inv μ. Lts.Start (
   Reads'5.Learnt,
   Reads'10.Asked,
   Reads'10.Learnt,
-) Reads'4.Pre Reads'4.Post
-    Inv μ
+) Reads'4.Pre Reads'4.Post Inv μ
 
 abbrev pub After-shared-slice-known : (Inv : InvT-loop) → (μ : MeasureT-loop) → Type 0
 After-shared-slice-known = λ Inv μ. Lts.After-shared-slice-known (
@@ -203,8 +202,7 @@ After-width = λ Inv μ. Lts.After-width (
   Reads'5.Learnt,
   Reads'10.Asked,
   Reads'10.Learnt,
-) Reads'4.Pre
-    Reads'4.Post Inv μ
+) Reads'4.Pre Reads'4.Post Inv μ
 
 abbrev pub After-clear-arg : (Inv : InvT-loop) → (μ : MeasureT-loop) → Type 0
 After-clear-arg = λ Inv μ. Lts.After-clear-arg (
@@ -256,8 +254,7 @@ After-clear = λ Inv μ. Lts.After-clear (
   Reads'5.Learnt,
   Reads'10.Asked,
   Reads'10.Learnt,
-) Reads'4.Pre
-    Reads'4.Post Inv μ
+) Reads'4.Pre Reads'4.Post Inv μ
 
 abbrev pub After-lines : (Inv : InvT-loop) → (μ : MeasureT-loop) → Type 0
 After-lines = λ Inv μ. Lts.After-lines (
@@ -283,8 +280,7 @@ After-lines = λ Inv μ. Lts.After-lines (
   Reads'5.Learnt,
   Reads'10.Asked,
   Reads'10.Learnt,
-) Reads'4.Pre
-    Reads'4.Post Inv μ
+) Reads'4.Pre Reads'4.Post Inv μ
 
 abbrev pub After-slice-known3 : (Inv : InvT-loop) → (μ : MeasureT-loop) → Type 0
 After-slice-known3 = λ Inv μ. Lts.After-slice-known3 (
@@ -362,8 +358,7 @@ After-base-of = λ Inv μ. Lts.After-base-of (
   Reads'5.Learnt,
   Reads'10.Asked,
   Reads'10.Learnt,
-) Reads'4.Pre
-    Reads'4.Post Inv μ
+) Reads'4.Pre Reads'4.Post Inv μ
 
 abbrev pub After-start-records : (Inv : InvT-loop) → (μ : MeasureT-loop) → Type 0
 After-start-records = λ Inv μ. Lts.After-start-records (
@@ -415,8 +410,7 @@ After-rs = λ Inv μ. Lts.After-rs (
   Reads'5.Learnt,
   Reads'10.Asked,
   Reads'10.Learnt,
-) Reads'4.Pre
-    Reads'4.Post Inv μ
+) Reads'4.Pre Reads'4.Post Inv μ
 
 abbrev pub At-loop : (Inv : InvT-loop) → (μ : MeasureT-loop) → Type 0
 At-loop = λ Inv μ. Lts.At-loop (
@@ -442,8 +436,7 @@ At-loop = λ Inv μ. Lts.At-loop (
   Reads'5.Learnt,
   Reads'10.Asked,
   Reads'10.Learnt,
-) Reads'4.Pre Reads'4.Post
-    Inv μ
+) Reads'4.Pre Reads'4.Post Inv μ
 
 abbrev pub In-loop : (Inv : InvT-loop) → (μ : MeasureT-loop) → Type 0
 In-loop = λ Inv μ. Lts.In-loop (
@@ -469,8 +462,7 @@ In-loop = λ Inv μ. Lts.In-loop (
   Reads'5.Learnt,
   Reads'10.Asked,
   Reads'10.Learnt,
-) Reads'4.Pre Reads'4.Post
-    Inv μ
+) Reads'4.Pre Reads'4.Post Inv μ
 
 abbrev pub After-loop : (Inv : InvT-loop) → (μ : MeasureT-loop) → Type 0
 After-loop = λ Inv μ. Lts.After-loop (
@@ -496,8 +488,7 @@ After-loop = λ Inv μ. Lts.After-loop (
   Reads'5.Learnt,
   Reads'10.Asked,
   Reads'10.Learnt,
-) Reads'4.Pre
-    Reads'4.Post Inv μ
+) Reads'4.Pre Reads'4.Post Inv μ
 
 abbrev pub After-turn-arg : (Inv : InvT-loop) → (μ : MeasureT-loop) → Type 0
 After-turn-arg = λ Inv μ. Lts.After-turn-arg (
@@ -523,8 +514,7 @@ After-turn-arg = λ Inv μ. Lts.After-turn-arg (
   Reads'5.Learnt,
   Reads'10.Asked,
   Reads'10.Learnt,
-) Reads'4.Pre
-    Reads'4.Post Inv μ
+) Reads'4.Pre Reads'4.Post Inv μ
 
 abbrev pub After-turn : (Inv : InvT-loop) → (μ : MeasureT-loop) → Type 0
 After-turn = λ Inv μ. Lts.After-turn (
@@ -550,8 +540,7 @@ After-turn = λ Inv μ. Lts.After-turn (
   Reads'5.Learnt,
   Reads'10.Asked,
   Reads'10.Learnt,
-) Reads'4.Pre
-    Reads'4.Post Inv μ
+) Reads'4.Pre Reads'4.Post Inv μ
 
 abbrev pub After-lines2 : (Inv : InvT-loop) → (μ : MeasureT-loop) → Type 0
 After-lines2 = λ Inv μ. Lts.After-lines2 (
@@ -577,8 +566,7 @@ After-lines2 = λ Inv μ. Lts.After-lines2 (
   Reads'5.Learnt,
   Reads'10.Asked,
   Reads'10.Learnt,
-) Reads'4.Pre
-    Reads'4.Post Inv μ
+) Reads'4.Pre Reads'4.Post Inv μ
 
 abbrev pub After-slice-known4 : (Inv : InvT-loop) → (μ : MeasureT-loop) → Type 0
 After-slice-known4 = λ Inv μ. Lts.After-slice-known4 (
@@ -630,8 +618,7 @@ After-base-of2 = λ Inv μ. Lts.After-base-of2 (
   Reads'5.Learnt,
   Reads'10.Asked,
   Reads'10.Learnt,
-) Reads'4.Pre
-    Reads'4.Post Inv μ
+) Reads'4.Pre Reads'4.Post Inv μ
 
 abbrev pub After-restart-arg : (Inv : InvT-loop) → (μ : MeasureT-loop) → Type 0
 After-restart-arg = λ Inv μ. Lts.After-restart-arg (
@@ -709,8 +696,7 @@ After-restart = λ Inv μ. Lts.After-restart (
   Reads'5.Learnt,
   Reads'10.Asked,
   Reads'10.Learnt,
-) Reads'4.Pre
-    Reads'4.Post Inv μ
+) Reads'4.Pre Reads'4.Post Inv μ
 
 abbrev pub After-rs2 : (Inv : InvT-loop) → (μ : MeasureT-loop) → Type 0
 After-rs2 = λ Inv μ. Lts.After-rs2 (
@@ -736,8 +722,7 @@ After-rs2 = λ Inv μ. Lts.After-rs2 (
   Reads'5.Learnt,
   Reads'10.Asked,
   Reads'10.Learnt,
-) Reads'4.Pre
-    Reads'4.Post Inv μ
+) Reads'4.Pre Reads'4.Post Inv μ
 
 abbrev pub After-line-arg : (Inv : InvT-loop) → (μ : MeasureT-loop) → Type 0
 After-line-arg = λ Inv μ. Lts.After-line-arg (
@@ -763,8 +748,7 @@ After-line-arg = λ Inv μ. Lts.After-line-arg (
   Reads'5.Learnt,
   Reads'10.Asked,
   Reads'10.Learnt,
-) Reads'4.Pre
-    Reads'4.Post Inv μ
+) Reads'4.Pre Reads'4.Post Inv μ
 
 abbrev pub After-line-arg2 : (Inv : InvT-loop) → (μ : MeasureT-loop) → Type 0
 After-line-arg2 = λ Inv μ. Lts.After-line-arg2 (
@@ -842,8 +826,7 @@ After-line = λ Inv μ. Lts.After-line (
   Reads'5.Learnt,
   Reads'10.Asked,
   Reads'10.Learnt,
-) Reads'4.Pre
-    Reads'4.Post Inv μ
+) Reads'4.Pre Reads'4.Post Inv μ
 
 abbrev pub After-lines3 : (Inv : InvT-loop) → (μ : MeasureT-loop) → Type 0
 After-lines3 = λ Inv μ. Lts.After-lines3 (
@@ -869,8 +852,7 @@ After-lines3 = λ Inv μ. Lts.After-lines3 (
   Reads'5.Learnt,
   Reads'10.Asked,
   Reads'10.Learnt,
-) Reads'4.Pre
-    Reads'4.Post Inv μ
+) Reads'4.Pre Reads'4.Post Inv μ
 
 abbrev pub After-slice-known5 : (Inv : InvT-loop) → (μ : MeasureT-loop) → Type 0
 After-slice-known5 = λ Inv μ. Lts.After-slice-known5 (
@@ -922,8 +904,7 @@ After-rs3 = λ Inv μ. Lts.After-rs3 (
   Reads'5.Learnt,
   Reads'10.Asked,
   Reads'10.Learnt,
-) Reads'4.Pre
-    Reads'4.Post Inv μ
+) Reads'4.Pre Reads'4.Post Inv μ
 
 abbrev pub Then1 : (Inv : InvT-loop) → (μ : MeasureT-loop) → Type 0
 Then1 = λ Inv μ. Lts.Then1 (
@@ -949,8 +930,7 @@ Then1 = λ Inv μ. Lts.Then1 (
   Reads'5.Learnt,
   Reads'10.Asked,
   Reads'10.Learnt,
-) Reads'4.Pre Reads'4.Post
-    Inv μ
+) Reads'4.Pre Reads'4.Post Inv μ
 
 abbrev pub Else1 : (Inv : InvT-loop) → (μ : MeasureT-loop) → Type 0
 Else1 = λ Inv μ. Lts.Else1 (
@@ -976,8 +956,7 @@ Else1 = λ Inv μ. Lts.Else1 (
   Reads'5.Learnt,
   Reads'10.Asked,
   Reads'10.Learnt,
-) Reads'4.Pre Reads'4.Post
-    Inv μ
+) Reads'4.Pre Reads'4.Post Inv μ
 
 abbrev pub After-at : (Inv : InvT-loop) → (μ : MeasureT-loop) → Type 0
 After-at = λ Inv μ. Lts.After-at (
@@ -1003,8 +982,7 @@ After-at = λ Inv μ. Lts.After-at (
   Reads'5.Learnt,
   Reads'10.Asked,
   Reads'10.Learnt,
-) Reads'4.Pre
-    Reads'4.Post Inv μ
+) Reads'4.Pre Reads'4.Post Inv μ
 
 abbrev pub After-tight-count : (Inv : InvT-loop) → (μ : MeasureT-loop) → Type 0
 After-tight-count = λ Inv μ. Lts.After-tight-count (
@@ -1134,8 +1112,7 @@ After-image = λ Inv μ. Lts.After-image (
   Reads'5.Learnt,
   Reads'10.Asked,
   Reads'10.Learnt,
-) Reads'4.Pre
-    Reads'4.Post Inv μ
+) Reads'4.Pre Reads'4.Post Inv μ
 
 abbrev pub After-slice-known6 : (Inv : InvT-loop) → (μ : MeasureT-loop) → Type 0
 After-slice-known6 = λ Inv μ. Lts.After-slice-known6 (
@@ -1551,8 +1528,7 @@ Need-returns = λ Inv μ. Lts.Need-returns (
   Reads'5.Learnt,
   Reads'10.Asked,
   Reads'10.Learnt,
-) Reads'4.Pre
-    Reads'4.Post Inv μ
+) Reads'4.Pre Reads'4.Post Inv μ
 
 abbrev pub Need-tight-count-requires : (Inv : InvT-loop) → (μ : MeasureT-loop) → Type 0
 Need-tight-count-requires = λ Inv μ. Lts.Need-tight-count-requires (
@@ -1630,8 +1606,7 @@ Need-add-n = λ Inv μ. Lts.Need-add-n (
   Reads'5.Learnt,
   Reads'10.Asked,
   Reads'10.Learnt,
-) Reads'4.Pre
-    Reads'4.Post Inv μ
+) Reads'4.Pre Reads'4.Post Inv μ
 
 abbrev pub Need-loop-less : (Inv : InvT-loop) → (μ : MeasureT-loop) → Type 0
 Need-loop-less = λ Inv μ. Lts.Need-loop-less (
@@ -1657,8 +1632,7 @@ Need-loop-less = λ Inv μ. Lts.Need-loop-less (
   Reads'5.Learnt,
   Reads'10.Asked,
   Reads'10.Learnt,
-) Reads'4.Pre
-    Reads'4.Post Inv μ
+) Reads'4.Pre Reads'4.Post Inv μ
 
 abbrev pub Need-loop-again : (Inv : InvT-loop) → (μ : MeasureT-loop) → Type 0
 Need-loop-again = λ Inv μ. Lts.Need-loop-again (
@@ -1788,8 +1762,7 @@ Need-returns-2 = λ Inv μ. Lts.Need-returns-2 (
   Reads'5.Learnt,
   Reads'10.Asked,
   Reads'10.Learnt,
-) Reads'4.Pre
-    Reads'4.Post Inv μ
+) Reads'4.Pre Reads'4.Post Inv μ
 
 module _ {M : Type 1} where
   pub spec : (Inv : InvT-loop) → (μ : MeasureT-loop) → (answer : Need-width-requires Inv μ) → (answer : Need-clear-requires Inv μ) → (answer : Need-base-of-requires Inv μ) → (answer :
@@ -1820,8 +1793,7 @@ module _ {M : Type 1} where
         Reads'5.Learnt,
         Reads'10.Asked,
         Reads'10.Learnt,
-      )
-      Reads'4.Pre Reads'4.Post M
+      ) Reads'4.Pre Reads'4.Post M
   spec = λ Inv μ answer answer' answer'' answer'3 answer'4 answer'5 answer'6 answer'7 answer'8 answer'9 answer'10 answer'11 answer'12 answer'13 answer'14 answer'15 answer'16 answer'17 answer'18
       answer'19 answer'20 answer'21 answer'22 answer'23. Lts.spec (
         Reads'11.Asked,
@@ -1846,8 +1818,9 @@ module _ {M : Type 1} where
         Reads'5.Learnt,
         Reads'10.Asked,
         Reads'10.Learnt,
-      ) Reads'4.Pre Reads'4.Post Inv μ answer answer' answer'' answer'3 answer'4 answer'5 answer'6 answer'7 answer'8 answer'9 answer'10 answer'11 answer'12 answer'13 answer'14 answer'15
-      answer'16 answer'17 answer'18 answer'19 answer'20 answer'21 answer'22 answer'23
+      ) Reads'4.Pre Reads'4.Post Inv μ answer answer' answer''
+      answer'3 answer'4 answer'5 answer'6 answer'7 answer'8 answer'9 answer'10 answer'11 answer'12 answer'13 answer'14 answer'15 answer'16 answer'17 answer'18 answer'19 answer'20 answer'21 answer'22
+      answer'23
 
   pub close : Lts.Closed (
     Reads'11.Asked,
@@ -1872,39 +1845,18 @@ module _ {M : Type 1} where
     Reads'5.Learnt,
     Reads'10.Asked,
     Reads'10.Learnt,
-  ) Reads'4.Pre Reads'4.Post
-      M → Statement.statement M
+  ) Reads'4.Pre Reads'4.Post M → Statement.statement M
   unfolding Code.routine Running.tablesOf
-  close = λ closed 𝓤 H 𝓜 𝓖 𝓡. Written.close 6 Kinds.ps Kinds.r Reads'4.Ghost Reads'4.requires Reads'4.ensures Reads'4.pre-read Reads'4.Pinned Reads'4.Owned Reads'4.post-read record {
-    M = M;
-    𝓤 = 𝓤;
-    H =
-        H;
-    𝓜 = 𝓜;
-    𝓖 = 𝓖;
-    𝓡 = 𝓡;
-  } Code.env Key.name Code.function (Code.unfolded 𝓤 H 𝓜 𝓡) (λ κs a g. tt) (λ κs. Reads'4.owns κs record { M = M; 𝓤 = 𝓤; H = H; 𝓜 = 𝓜; 𝓖 = 𝓖; 𝓡 = 𝓡 }) (Reads'4.passes record {
-    M
-        = M;
-    𝓤 = 𝓤;
-    H = H;
-    𝓜 = 𝓜;
-    𝓖 = 𝓖;
-    𝓡 = 𝓡;
-  }) λ g. closed 𝓤 H (𝓖 .A) (Running.givenOf 𝓤 H 𝓜 𝓖) (Run.Over 𝓤 H 𝓜 𝓖 𝓡 Code.env) (Reads'11.known record { M = M; 𝓤 = 𝓤; H = H; 𝓜 = 𝓜; 𝓖 = 𝓖; 𝓡 = 𝓡 } Code.env
-      Symbol'10.name Symbol'10.routine Code.calls-map·width (Met'10.met 𝓤 H 𝓜 𝓖 𝓡)) (Reads'8.known record { M = M; 𝓤 = 𝓤; H = H; 𝓜 = 𝓜; 𝓖 = 𝓖; 𝓡 = 𝓡 } Code.env Symbol'7.name Symbol'7.routine
-      Code.calls-lines·clear (Met'7.met 𝓤 H 𝓜 𝓖 𝓡)) (Reads.known record { M = M; 𝓤 = 𝓤; H = H; 𝓜 = 𝓜; 𝓖 = 𝓖; 𝓡 = 𝓡 } Code.env Symbol.name Symbol.routine Code.calls-block·reading·base-of (Met.met 𝓤 H 𝓜 𝓖
-      𝓡)) (Reads'7.known record { M = M; 𝓤 = 𝓤; H = H; 𝓜 = 𝓜; 𝓖 = 𝓖; 𝓡 = 𝓡 } Code.env Symbol'6.name Symbol'6.routine Code.calls-block·records·start-records (Met'6.met 𝓤 H 𝓜 𝓖 𝓡)) (Reads'9.known record {
-        M
-            = M;
-        𝓤 = 𝓤;
-        H = H;
-        𝓜 = 𝓜;
-        𝓖 = 𝓖;
-        𝓡 = 𝓡;
-      } Code.env Symbol'8.name Symbol'8.routine Code.calls-lines·turn (Met'8.met 𝓤 H 𝓜 𝓖 𝓡)) (Reads'.known record { M = M; 𝓤 = 𝓤; H = H; 𝓜 = 𝓜; 𝓖 = 𝓖; 𝓡 = 𝓡 }
-      Code.env Symbol'.name Symbol'.routine Code.calls-block·reading·is-restarted (Met'.met 𝓤 H 𝓜 𝓖 𝓡)) (Reads'6.known record { M = M; 𝓤 = 𝓤; H = H; 𝓜 = 𝓜; 𝓖 = 𝓖; 𝓡 = 𝓡 } Code.env Symbol'5.name
-      Symbol'5.routine Code.calls-block·records·restart (Met'5.met 𝓤 H 𝓜 𝓖 𝓡)) (Reads'3.known record { M = M; 𝓤 = 𝓤; H = H; 𝓜 = 𝓜; 𝓖 = 𝓖; 𝓡 = 𝓡 } Code.env Symbol'3.name Symbol'3.routine
-      Code.calls-block·reading·quantisers-of (Met'3.met 𝓤 H 𝓜 𝓖 𝓡)) (Reads''.known record { M = M; 𝓤 = 𝓤; H = H; 𝓜 = 𝓜; 𝓖 = 𝓖; 𝓡 = 𝓡 } Code.env Symbol''.name Symbol''.routine Code.calls-block·reading·line
-      (Met''.met 𝓤 H 𝓜 𝓖 𝓡)) (Reads'5.known record { M = M; 𝓤 = 𝓤; H = H; 𝓜 = 𝓜; 𝓖 = 𝓖; 𝓡 = 𝓡 } Code.env Symbol'4.name Symbol'4.routine Code.calls-block·reading·tight-count (Met'4.met 𝓤 H 𝓜 𝓖 𝓡))
-      (Reads'10.known record { M = M; 𝓤 = 𝓤; H = H; 𝓜 = 𝓜; 𝓖 = 𝓖; 𝓡 = 𝓡 } Code.env Symbol'9.name Symbol'9.routine Code.calls-map·emit-line (Met'9.met 𝓤 H 𝓜 𝓖 𝓡))
+  close = λ closed 𝓤 H 𝓜 𝓖 𝓡. Written.close 6 Kinds.ps Kinds.r Reads'4.Ghost Reads'4.requires Reads'4.ensures Reads'4.pre-read Reads'4.Pinned Reads'4.Owned Reads'4.post-read record
+      { M = M; 𝓤 = 𝓤; H = H; 𝓜 = 𝓜; 𝓖 = 𝓖; 𝓡 = 𝓡 } Code.env Key.name Code.function (Code.unfolded 𝓤 H 𝓜 𝓡) (λ κs a g. tt) (λ κs. Reads'4.owns κs record { M = M; 𝓤 = 𝓤; H = H; 𝓜 = 𝓜; 𝓖 = 𝓖; 𝓡 = 𝓡 })
+      (Reads'4.passes record { M = M; 𝓤 = 𝓤; H = H; 𝓜 = 𝓜; 𝓖 = 𝓖; 𝓡 = 𝓡 }) λ g. closed 𝓤 H (𝓖 .A) (Running.givenOf 𝓤 H 𝓜 𝓖) (Run.Over 𝓤 H 𝓜 𝓖 𝓡 Code.env) (Reads'11.known record
+      { M = M; 𝓤 = 𝓤; H = H; 𝓜 = 𝓜; 𝓖 = 𝓖; 𝓡 = 𝓡 } Code.env Symbol'10.name Symbol'10.routine Code.calls-map·width (Met'10.met 𝓤 H 𝓜 𝓖 𝓡)) (Reads'8.known record { M = M; 𝓤 = 𝓤; H = H; 𝓜 = 𝓜; 𝓖 = 𝓖; 𝓡 = 𝓡 }
+      Code.env Symbol'7.name Symbol'7.routine Code.calls-lines·clear (Met'7.met 𝓤 H 𝓜 𝓖 𝓡)) (Reads.known record { M = M; 𝓤 = 𝓤; H = H; 𝓜 = 𝓜; 𝓖 = 𝓖; 𝓡 = 𝓡 } Code.env Symbol.name Symbol.routine
+      Code.calls-block·reading·base-of (Met.met 𝓤 H 𝓜 𝓖 𝓡)) (Reads'7.known record { M = M; 𝓤 = 𝓤; H = H; 𝓜 = 𝓜; 𝓖 = 𝓖; 𝓡 = 𝓡 } Code.env Symbol'6.name Symbol'6.routine
+      Code.calls-block·records·start-records (Met'6.met 𝓤 H 𝓜 𝓖 𝓡)) (Reads'9.known record { M = M; 𝓤 = 𝓤; H = H; 𝓜 = 𝓜; 𝓖 = 𝓖; 𝓡 = 𝓡 } Code.env Symbol'8.name Symbol'8.routine Code.calls-lines·turn
+      (Met'8.met 𝓤 H 𝓜 𝓖 𝓡)) (Reads'.known record { M = M; 𝓤 = 𝓤; H = H; 𝓜 = 𝓜; 𝓖 = 𝓖; 𝓡 = 𝓡 } Code.env Symbol'.name Symbol'.routine Code.calls-block·reading·is-restarted (Met'.met 𝓤 H 𝓜 𝓖 𝓡))
+      (Reads'6.known record { M = M; 𝓤 = 𝓤; H = H; 𝓜 = 𝓜; 𝓖 = 𝓖; 𝓡 = 𝓡 } Code.env Symbol'5.name Symbol'5.routine Code.calls-block·records·restart (Met'5.met 𝓤 H 𝓜 𝓖 𝓡)) (Reads'3.known record
+      { M = M; 𝓤 = 𝓤; H = H; 𝓜 = 𝓜; 𝓖 = 𝓖; 𝓡 = 𝓡 } Code.env Symbol'3.name Symbol'3.routine Code.calls-block·reading·quantisers-of (Met'3.met 𝓤 H 𝓜 𝓖 𝓡)) (Reads''.known record
+      { M = M; 𝓤 = 𝓤; H = H; 𝓜 = 𝓜; 𝓖 = 𝓖; 𝓡 = 𝓡 } Code.env Symbol''.name Symbol''.routine Code.calls-block·reading·line (Met''.met 𝓤 H 𝓜 𝓖 𝓡)) (Reads'5.known record
+      { M = M; 𝓤 = 𝓤; H = H; 𝓜 = 𝓜; 𝓖 = 𝓖; 𝓡 = 𝓡 } Code.env Symbol'4.name Symbol'4.routine Code.calls-block·reading·tight-count (Met'4.met 𝓤 H 𝓜 𝓖 𝓡)) (Reads'10.known record
+      { M = M; 𝓤 = 𝓤; H = H; 𝓜 = 𝓜; 𝓖 = 𝓖; 𝓡 = 𝓡 } Code.env Symbol'9.name Symbol'9.routine Code.calls-map·emit-line (Met'9.met 𝓤 H 𝓜 𝓖 𝓡))

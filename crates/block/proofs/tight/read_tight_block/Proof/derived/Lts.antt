@@ -71,27 +71,59 @@ use mir.Val
 use prog.Wp
 use types.Kit
 
+abbrev pub y0 : Syntax.Ty
+y0 = Syntax.tyStruct (List._∷_ 109 (List._∷_ 97 (List._∷_ 112 (List._∷_ 58 (List._∷_ 58 (List._∷_ 80 (List._∷_ 97 (List._∷_ 114 (List._∷_ 116 List.[]))))))))) (Syntax.tcons (Syntax.tyInt Syntax.w64)
+    (Syntax.tcons (Syntax.tyInt Syntax.w64) (Syntax.tcons (Syntax.tyInt Syntax.w64) (Syntax.tcons (Syntax.tyInt Syntax.w64) (Syntax.tcons (Syntax.tyInt Syntax.w64) (Syntax.tcons (Syntax.tyInt Syntax.w64)
+    Syntax.tnil))))))
+
+abbrev pub y1 : Syntax.Ty
+y1 = Syntax.tyStruct (List._∷_ 115 (List._∷_ 116 (List._∷_ 114 (List._∷_ 101 (List._∷_ 97 (List._∷_ 109 (List._∷_ 58 (List._∷_ 58 (List._∷_ 70 (List._∷_ 117 (List._∷_ 106 (List._∷_ 105 (List._∷_ 72
+    (List._∷_ 101 (List._∷_ 97 (List._∷_ 100 (List._∷_ 101 (List._∷_ 114 List.[])))))))))))))))))) (Syntax.tcons Syntax.tyBool (Syntax.tcons Syntax.tyBool (Syntax.tcons (Syntax.tyInt Syntax.w32)
+    (Syntax.tcons (Syntax.tyInt Syntax.w32) (Syntax.tcons (Syntax.tyInt Syntax.w32) (Syntax.tcons (Syntax.tyInt Syntax.w32) (Syntax.tcons (Syntax.tyInt Syntax.w32) (Syntax.tcons (Syntax.tyInt Syntax.w32)
+    (Syntax.tcons (Syntax.tyInt Syntax.w32) Syntax.tnil)))))))))
+
+abbrev pub y2 : Syntax.Ty
+y2 = Syntax.tyStruct (List._∷_ 38 (List._∷_ 91 (List._∷_ 93 List.[]))) (Syntax.tcons (Syntax.tyRef Syntax.erased Syntax.imm (Syntax.tyInt Syntax.w8)) (Syntax.tcons (Syntax.tyInt Syntax.w64)
+    Syntax.tnil))
+
+abbrev pub y3 : Syntax.Ty
+y3 = Syntax.tyStruct (List._∷_ 38 (List._∷_ 91 (List._∷_ 93 List.[]))) (Syntax.tcons (Syntax.tyRef Syntax.erased Syntax.mut (Syntax.tyInt Syntax.w16)) (Syntax.tcons (Syntax.tyInt Syntax.w64)
+    Syntax.tnil))
+
+abbrev pub y4 : Syntax.Ty
+y4 = Syntax.tyStruct (List._∷_ 38 (List._∷_ 91 (List._∷_ 93 List.[]))) (Syntax.tcons (Syntax.tyRef Syntax.erased Syntax.mut Element.behind) (Syntax.tcons (Syntax.tyInt Syntax.w64) Syntax.tnil))
+
+abbrev pub y5 : Syntax.Ty
+y5 = Syntax.tyStruct (List._∷_ 98 (List._∷_ 105 (List._∷_ 116 (List._∷_ 115 (List._∷_ 58 (List._∷_ 58 (List._∷_ 66 (List._∷_ 105 (List._∷_ 116 (List._∷_ 80 (List._∷_ 111 (List._∷_ 115 (List._∷_ 105
+    (List._∷_ 116 (List._∷_ 105 (List._∷_ 111 (List._∷_ 110 List.[]))))))))))))))))) (Syntax.tcons (Syntax.tyInt Syntax.w64) Syntax.tnil)
+
+abbrev pub y6 : Syntax.Ty
+y6 = Syntax.tyStruct (List._∷_ 98 (List._∷_ 108 (List._∷_ 111 (List._∷_ 99 (List._∷_ 107 (List._∷_ 58 (List._∷_ 58 (List._∷_ 70 (List._∷_ 111 (List._∷_ 114 (List._∷_ 109 List.[])))))))))))
+    (Syntax.tcons (Syntax.tyInt Syntax.w32) (Syntax.tcons Syntax.tyBool Syntax.tnil))
+
+abbrev pub y7 : Syntax.Ty
+y7 = Syntax.tyStruct (List._∷_ 98 (List._∷_ 108 (List._∷_ 111 (List._∷_ 99 (List._∷_ 107 (List._∷_ 58 (List._∷_ 58 (List._∷_ 87 (List._∷_ 97 (List._∷_ 108 (List._∷_ 107 (List._∷_ 101 (List._∷_ 100
+    List.[]))))))))))))) (Syntax.tcons Syntax.tyBool (Syntax.tcons (Syntax.tyInt Syntax.w64) (Syntax.tcons y5 (Syntax.tcons (Syntax.tyInt Syntax.w64) Syntax.tnil))))
+
 abbrev pub ps : List.List (Kinds.PK 3)
 ps = List._∷_ (ShrSlice.pShrS (Referent.rtF (Referent.fInt Syntax.w8)) 0 tt) (List._∷_ (Value.pVal record {
   ty = Declared'.row FujiHeader.the-type;
   one = Path'.refl;
-  val = Laws'6.val
-      FujiHeader.the-type Laws'4.the-laws;
+  val = Laws'6.val FujiHeader.the-type Laws'4.the-laws;
   tells = Laws'6.tells FujiHeader.the-type Laws'4.the-laws;
-  still = Laws'6.still FujiHeader.the-type Laws'4.the-copy Exit.yes;
-  row = Rows'.whole (Declared'.row
-      FujiHeader.the-type);
+  still = Laws'6.still
+      FujiHeader.the-type Laws'4.the-copy Exit.yes;
+  row = Rows'.whole (Declared'.row FujiHeader.the-type);
   rd = λ x. x;
   mk = λ x. x;
 } λ M 𝓤 H A W. record {
   copies = Laws'6.copy FujiHeader.the-type Laws'4.the-copy 𝓤 H A W;
-  lawful = Laws'6.lawful FujiHeader.the-type Laws'4.the-laws 𝓤 H
-      A W;
+  lawful = Laws'6.lawful FujiHeader.the-type Laws'4.the-laws 𝓤 H A W;
   makes = Laws'6.makes FujiHeader.the-type Laws'4.the-plain 𝓤 H A;
   in-mem = Local.mem-whole 𝓤 H A W (Declared'.row FujiHeader.the-type);
-  of-mem = Local.whole-mem 𝓤 H A W (Declared'.row
-      FujiHeader.the-type);
-}) (List._∷_ (Num.pNum Syntax.w64) (List._∷_ (MutSlice.pMutS (Referent.rtF (Referent.fInt Syntax.w16)) 1 tt) (List._∷_ (MutSlice.pMutS (Element.type) 2 tt) List.[]))))
+  of-mem = Local.whole-mem 𝓤 H A W (Declared'.row FujiHeader.the-type);
+}) (List._∷_ (Num.pNum Syntax.w64) (List._∷_ (MutSlice.pMutS
+    (Referent.rtF (Referent.fInt Syntax.w16)) 1 tt) (List._∷_ (MutSlice.pMutS (Element.type) 2 tt) List.[]))))
 
 abbrev pub r : Kinds.RK 3
 r = Value.rVal record {
@@ -99,37 +131,25 @@ r = Value.rVal record {
   one = Path'.refl;
   val = Laws'5.val Decoded.the-type Laws.the-laws;
   tells = Laws'5.tells Decoded.the-type Laws.the-laws;
-  still = Laws'5.still
-      Decoded.the-type Laws.the-copy Exit.yes;
+  still = Laws'5.still Decoded.the-type
+      Laws.the-copy Exit.yes;
   row = Rows'.whole (Declared.row Decoded.the-type);
   rd = λ x. x;
   mk = λ x. x;
 } λ M 𝓤 H A W. record {
-  copies = Laws'5.copy Decoded.the-type Laws.the-copy 𝓤 H A
-      W;
+  copies = Laws'5.copy Decoded.the-type Laws.the-copy 𝓤 H A W;
   lawful = Laws'5.lawful Decoded.the-type Laws.the-laws 𝓤 H A W tt;
   makes = Laws'5.makes Decoded.the-type Laws.the-plain 𝓤 H A;
-  in-mem = Local.mem-whole 𝓤 H A W (Declared.row Decoded.the-type);
+  in-mem =
+      Local.mem-whole 𝓤 H A W (Declared.row Decoded.the-type);
   of-mem = Local.whole-mem 𝓤 H A W (Declared.row Decoded.the-type);
 }
 
 abbrev pub xs : List.List Syntax.Ty
-xs = List._∷_ (Syntax.tyStruct (List._∷_ 98 (List._∷_ 108 (List._∷_ 111 (List._∷_ 99 (List._∷_ 107 (List._∷_ 58 (List._∷_ 58 (List._∷_ 70 (List._∷_ 111 (List._∷_ 114 (List._∷_ 109 List.[])))))))))))
-    (Syntax.tcons (Syntax.tyInt Syntax.w32) (Syntax.tcons Syntax.tyBool Syntax.tnil))) (List._∷_ (Syntax.tyInt Syntax.w64) (List._∷_ (Syntax.tyStruct (List._∷_ 38 (List._∷_ 91 (List._∷_ 93 List.[])))
-    (Syntax.tcons (Syntax.tyRef Syntax.erased Syntax.imm (Syntax.tyInt Syntax.w8)) (Syntax.tcons (Syntax.tyInt Syntax.w64) Syntax.tnil))) (List._∷_ (Syntax.tyStruct (List._∷_ 38 (List._∷_ 91 (List._∷_ 93
-    List.[]))) (Syntax.tcons (Syntax.tyRef Syntax.erased Syntax.imm (Syntax.tyInt Syntax.w8)) (Syntax.tcons (Syntax.tyInt Syntax.w64) Syntax.tnil))) (List._∷_ (Syntax.tyArray (Syntax.tyInt Syntax.w16)
-    768) (List._∷_ (Syntax.tyArray (Syntax.tyInt Syntax.w16) 1) (List._∷_ (Syntax.tyStruct (List._∷_ 98 (List._∷_ 108 (List._∷_ 111 (List._∷_ 99 (List._∷_ 107 (List._∷_ 58 (List._∷_ 58 (List._∷_ 87
-    (List._∷_ 97 (List._∷_ 108 (List._∷_ 107 (List._∷_ 101 (List._∷_ 100 List.[]))))))))))))) (Syntax.tcons Syntax.tyBool (Syntax.tcons (Syntax.tyInt Syntax.w64) (Syntax.tcons (Syntax.tyStruct (List._∷_
-    98 (List._∷_ 105 (List._∷_ 116 (List._∷_ 115 (List._∷_ 58 (List._∷_ 58 (List._∷_ 66 (List._∷_ 105 (List._∷_ 116 (List._∷_ 80 (List._∷_ 111 (List._∷_ 115 (List._∷_ 105 (List._∷_ 116 (List._∷_ 105
-    (List._∷_ 111 (List._∷_ 110 List.[]))))))))))))))))) (Syntax.tcons (Syntax.tyInt Syntax.w64) Syntax.tnil)) (Syntax.tcons (Syntax.tyInt Syntax.w64) Syntax.tnil))))) (List._∷_ (Syntax.tyArray
-    (Syntax.tyInt Syntax.w16) 768) (List._∷_ (Syntax.tyRef Syntax.erased Syntax.mut (Syntax.tyInt Syntax.w16)) (List._∷_ (Syntax.tyStruct (List._∷_ 38 (List._∷_ 91 (List._∷_ 93 List.[]))) (Syntax.tcons
-    (Syntax.tyRef Syntax.erased Syntax.mut (Syntax.tyInt Syntax.w16)) (Syntax.tcons (Syntax.tyInt Syntax.w64) Syntax.tnil))) (List._∷_ (Syntax.tyRef Syntax.erased Syntax.mut Element.behind) (List._∷_
-    (Syntax.tyStruct (List._∷_ 38 (List._∷_ 91 (List._∷_ 93 List.[]))) (Syntax.tcons (Syntax.tyRef Syntax.erased Syntax.mut Element.behind) (Syntax.tcons (Syntax.tyInt Syntax.w64) Syntax.tnil))) (List._∷_
-    (Syntax.tyRef Syntax.erased Syntax.mut (Syntax.tyArray (Syntax.tyInt Syntax.w16) 1)) (List._∷_ (Syntax.tyStruct (List._∷_ 38 (List._∷_ 91 (List._∷_ 93 List.[]))) (Syntax.tcons (Syntax.tyRef
-    Syntax.erased Syntax.mut (Syntax.tyInt Syntax.w16)) (Syntax.tcons (Syntax.tyInt Syntax.w64) Syntax.tnil))) (List._∷_ (Syntax.tyRef Syntax.erased Syntax.imm (Syntax.tyArray (Syntax.tyInt Syntax.w16)
-    768)) (List._∷_ (Syntax.tyArray (Syntax.tyInt Syntax.w8) 36) (List._∷_ (Syntax.tyStruct (List._∷_ 109 (List._∷_ 97 (List._∷_ 112 (List._∷_ 58 (List._∷_ 58 (List._∷_ 80 (List._∷_ 97 (List._∷_ 114
-    (List._∷_ 116 List.[]))))))))) (Syntax.tcons (Syntax.tyInt Syntax.w64) (Syntax.tcons (Syntax.tyInt Syntax.w64) (Syntax.tcons (Syntax.tyInt Syntax.w64) (Syntax.tcons (Syntax.tyInt Syntax.w64)
-    (Syntax.tcons (Syntax.tyInt Syntax.w64) (Syntax.tcons (Syntax.tyInt Syntax.w64) Syntax.tnil))))))) List.[]))))))))))))))))
+xs = List._∷_ y6 (List._∷_ (Syntax.tyInt Syntax.w64) (List._∷_ y2 (List._∷_ y2 (List._∷_ (Syntax.tyArray (Syntax.tyInt Syntax.w16) 768) (List._∷_ (Syntax.tyArray (Syntax.tyInt Syntax.w16) 1) (List._∷_
+    y7 (List._∷_ (Syntax.tyArray (Syntax.tyInt Syntax.w16) 768) (List._∷_ (Syntax.tyRef Syntax.erased Syntax.mut (Syntax.tyInt Syntax.w16)) (List._∷_ y3 (List._∷_ (Syntax.tyRef Syntax.erased Syntax.mut
+    Element.behind) (List._∷_ y4 (List._∷_ (Syntax.tyRef Syntax.erased Syntax.mut (Syntax.tyArray (Syntax.tyInt Syntax.w16) 1)) (List._∷_ y3 (List._∷_ (Syntax.tyRef Syntax.erased Syntax.imm
+    (Syntax.tyArray (Syntax.tyInt Syntax.w16) 768)) (List._∷_ (Syntax.tyArray (Syntax.tyInt Syntax.w8) 36) (List._∷_ y0 List.[]))))))))))))))))
 
 abbrev pub m : Nat.ℕ
 m = 4
@@ -139,19 +159,17 @@ ps·0 = List._∷_ (Value.pVal record {
   ty = Declared'.row FujiHeader.the-type;
   one = Path'.refl;
   val = Laws'6.val FujiHeader.the-type Laws'4.the-laws;
-  tells = Laws'6.tells FujiHeader.the-type
-      Laws'4.the-laws;
-  still = Laws'6.still FujiHeader.the-type Laws'4.the-copy Exit.yes;
+  tells = Laws'6.tells FujiHeader.the-type Laws'4.the-laws;
+  still = Laws'6.still
+      FujiHeader.the-type Laws'4.the-copy Exit.yes;
   row = Rows'.whole (Declared'.row FujiHeader.the-type);
   rd = λ x. x;
   mk = λ x. x;
 } λ M 𝓤 H A W. record {
-  copies =
-      Laws'6.copy FujiHeader.the-type Laws'4.the-copy 𝓤 H A W;
+  copies = Laws'6.copy FujiHeader.the-type Laws'4.the-copy 𝓤 H A W;
   lawful = Laws'6.lawful FujiHeader.the-type Laws'4.the-laws 𝓤 H A W;
   makes = Laws'6.makes FujiHeader.the-type Laws'4.the-plain 𝓤 H A;
-  in-mem =
-      Local.mem-whole 𝓤 H A W (Declared'.row FujiHeader.the-type);
+  in-mem = Local.mem-whole 𝓤 H A W (Declared'.row FujiHeader.the-type);
   of-mem = Local.whole-mem 𝓤 H A W (Declared'.row FujiHeader.the-type);
 }) List.[]
 
@@ -161,8 +179,8 @@ r·0 = Value.rVal record {
   one = Path'.refl;
   val = Laws'6.val Form.the-type Laws'.the-laws;
   tells = Laws'6.tells Form.the-type Laws'.the-laws;
-  still = Laws'6.still
-      Form.the-type Laws'.the-copy Exit.yes;
+  still = Laws'6.still Form.the-type
+      Laws'.the-copy Exit.yes;
   row = Rows'.whole (Declared'.row Form.the-type);
   rd = λ x. x;
   mk = λ x. x;
@@ -170,9 +188,9 @@ r·0 = Value.rVal record {
   copies = Laws'6.copy Form.the-type Laws'.the-copy 𝓤 H A W;
   lawful = Laws'6.lawful Form.the-type Laws'.the-laws 𝓤 H A W;
   makes = Laws'6.makes Form.the-type Laws'.the-plain 𝓤 H A;
-  in-mem = Local.mem-whole 𝓤 H A W (Declared'.row Form.the-type);
-  of-mem =
-      Local.whole-mem 𝓤 H A W (Declared'.row Form.the-type);
+  in-mem =
+      Local.mem-whole 𝓤 H A W (Declared'.row Form.the-type);
+  of-mem = Local.whole-mem 𝓤 H A W (Declared'.row Form.the-type);
 }
 
 abbrev pub ps·1 : List.List (Kinds.PK 0)
@@ -180,19 +198,17 @@ ps·1 = List._∷_ (Value.pVal record {
   ty = Declared'.row FujiHeader.the-type;
   one = Path'.refl;
   val = Laws'6.val FujiHeader.the-type Laws'4.the-laws;
-  tells = Laws'6.tells FujiHeader.the-type
-      Laws'4.the-laws;
-  still = Laws'6.still FujiHeader.the-type Laws'4.the-copy Exit.yes;
+  tells = Laws'6.tells FujiHeader.the-type Laws'4.the-laws;
+  still = Laws'6.still
+      FujiHeader.the-type Laws'4.the-copy Exit.yes;
   row = Rows'.whole (Declared'.row FujiHeader.the-type);
   rd = λ x. x;
   mk = λ x. x;
 } λ M 𝓤 H A W. record {
-  copies =
-      Laws'6.copy FujiHeader.the-type Laws'4.the-copy 𝓤 H A W;
+  copies = Laws'6.copy FujiHeader.the-type Laws'4.the-copy 𝓤 H A W;
   lawful = Laws'6.lawful FujiHeader.the-type Laws'4.the-laws 𝓤 H A W;
   makes = Laws'6.makes FujiHeader.the-type Laws'4.the-plain 𝓤 H A;
-  in-mem =
-      Local.mem-whole 𝓤 H A W (Declared'.row FujiHeader.the-type);
+  in-mem = Local.mem-whole 𝓤 H A W (Declared'.row FujiHeader.the-type);
   of-mem = Local.whole-mem 𝓤 H A W (Declared'.row FujiHeader.the-type);
 }) List.[]
 
@@ -226,8 +242,8 @@ r·5 = Value.rVal record {
   one = Path'.refl;
   val = Laws'6.val Part.the-type Laws'3.the-laws;
   tells = Laws'6.tells Part.the-type Laws'3.the-laws;
-  still = Laws'6.still
-      Part.the-type Laws'3.the-copy Exit.yes;
+  still = Laws'6.still Part.the-type
+      Laws'3.the-copy Exit.yes;
   row = Rows'.whole (Declared'.row Part.the-type);
   rd = λ x. x;
   mk = λ x. x;
@@ -235,50 +251,47 @@ r·5 = Value.rVal record {
   copies = Laws'6.copy Part.the-type Laws'3.the-copy 𝓤 H A W;
   lawful = Laws'6.lawful Part.the-type Laws'3.the-laws 𝓤 H A W;
   makes = Laws'6.makes Part.the-type Laws'3.the-plain 𝓤 H A;
-  in-mem = Local.mem-whole 𝓤 H A W (Declared'.row Part.the-type);
-  of-mem =
-      Local.whole-mem 𝓤 H A W (Declared'.row Part.the-type);
+  in-mem =
+      Local.mem-whole 𝓤 H A W (Declared'.row Part.the-type);
+  of-mem = Local.whole-mem 𝓤 H A W (Declared'.row Part.the-type);
 }
 
 abbrev pub ps·6 : List.List (Kinds.PK 6)
 ps·6 = List._∷_ (ShrSlice.pShrS (Referent.rtF (Referent.fInt Syntax.w8)) 0 tt) (List._∷_ (ShrSlice.pShrS (Referent.rtF (Referent.fInt Syntax.w8)) 1 tt) (List._∷_ (MutSlice.pMutS (Referent.rtF
     (Referent.fInt Syntax.w16)) 2 tt) (List._∷_ (MutSlice.pMutS (Element.type) 3 tt) (List._∷_ (MutSlice.pMutS (Referent.rtF (Referent.fInt Syntax.w16)) 4 tt) (List._∷_ (Value.pVal record {
-      ty =
-          Declared'.row Form.the-type;
+      ty = Declared'.row Form.the-type;
       one = Path'.refl;
       val = Laws'6.val Form.the-type Laws'.the-laws;
       tells = Laws'6.tells Form.the-type Laws'.the-laws;
-      still = Laws'6.still Form.the-type Laws'.the-copy
-          Exit.yes;
+      still = Laws'6.still Form.the-type
+          Laws'.the-copy Exit.yes;
       row = Rows'.whole (Declared'.row Form.the-type);
       rd = λ x. x;
       mk = λ x. x;
     } λ M 𝓤 H A W. record {
       copies = Laws'6.copy Form.the-type Laws'.the-copy 𝓤 H A W;
-      lawful = Laws'6.lawful
-          Form.the-type Laws'.the-laws 𝓤 H A W;
+      lawful = Laws'6.lawful Form.the-type Laws'.the-laws 𝓤 H A W;
       makes = Laws'6.makes Form.the-type Laws'.the-plain 𝓤 H A;
-      in-mem = Local.mem-whole 𝓤 H A W (Declared'.row Form.the-type);
-      of-mem = Local.whole-mem 𝓤 H A W
-          (Declared'.row Form.the-type);
-    }) (List._∷_ (ShrRef.pShr (Array'.Array (Referent.rtF (Referent.fInt Syntax.w16)) 768) 5 tt) (List._∷_ (Array.pArr (Array.eInt Syntax.w8) (Array.eInt-laws Syntax.w8) 36)
-    (List._∷_ (Value.pVal record {
+      in-mem =
+          Local.mem-whole 𝓤 H A W (Declared'.row Form.the-type);
+      of-mem = Local.whole-mem 𝓤 H A W (Declared'.row Form.the-type);
+    }) (List._∷_ (ShrRef.pShr (Array'.Array (Referent.rtF (Referent.fInt Syntax.w16))
+    768) 5 tt) (List._∷_ (Array.pArr (Array.eInt Syntax.w8) (Array.eInt-laws Syntax.w8) 36) (List._∷_ (Value.pVal record {
       ty = Declared'.row Part.the-type;
       one = Path'.refl;
       val = Laws'6.val Part.the-type Laws'3.the-laws;
       tells = Laws'6.tells Part.the-type Laws'3.the-laws;
-      still =
-          Laws'6.still Part.the-type Laws'3.the-copy Exit.yes;
+      still = Laws'6.still Part.the-type
+          Laws'3.the-copy Exit.yes;
       row = Rows'.whole (Declared'.row Part.the-type);
       rd = λ x. x;
       mk = λ x. x;
     } λ M 𝓤 H A W. record {
-      copies = Laws'6.copy Part.the-type
-          Laws'3.the-copy 𝓤 H A W;
+      copies = Laws'6.copy Part.the-type Laws'3.the-copy 𝓤 H A W;
       lawful = Laws'6.lawful Part.the-type Laws'3.the-laws 𝓤 H A W;
       makes = Laws'6.makes Part.the-type Laws'3.the-plain 𝓤 H A;
-      in-mem = Local.mem-whole 𝓤 H A W (Declared'.row
-          Part.the-type);
+      in-mem =
+          Local.mem-whole 𝓤 H A W (Declared'.row Part.the-type);
       of-mem = Local.whole-mem 𝓤 H A W (Declared'.row Part.the-type);
     }) (List._∷_ (Num.pNum Syntax.w64) List.[])))))))))
 
@@ -288,18 +301,17 @@ r·6 = Value.rVal record {
   one = Path'.refl;
   val = Laws'6.val Walked.the-type Laws''.the-laws;
   tells = Laws'6.tells Walked.the-type Laws''.the-laws;
-  still =
-      Laws'6.still Walked.the-type Laws''.the-copy Exit.yes;
+  still = Laws'6.still Walked.the-type
+      Laws''.the-copy Exit.yes;
   row = Rows'.whole (Declared'.row Walked.the-type);
   rd = λ x. x;
   mk = λ x. x;
 } λ M 𝓤 H A W. record {
-  copies = Laws'6.copy Walked.the-type
-      Laws''.the-copy 𝓤 H A W;
+  copies = Laws'6.copy Walked.the-type Laws''.the-copy 𝓤 H A W;
   lawful = Laws'6.lawful Walked.the-type Laws''.the-laws 𝓤 H A W;
   makes = Laws'6.makes Walked.the-type Laws''.the-plain 𝓤 H A;
-  in-mem = Local.mem-whole 𝓤 H A W (Declared'.row
-      Walked.the-type);
+  in-mem =
+      Local.mem-whole 𝓤 H A W (Declared'.row Walked.the-type);
   of-mem = Local.whole-mem 𝓤 H A W (Declared'.row Walked.the-type);
 }
 
@@ -307,39 +319,37 @@ abbrev pub ps·7 : List.List (Kinds.PK 1)
 ps·7 = List._∷_ (ShrSlice.pShrS (Referent.rtF (Referent.fInt Syntax.w8)) 0 tt) (List._∷_ (Value.pVal record {
   ty = Declared'.row Form.the-type;
   one = Path'.refl;
-  val = Laws'6.val Form.the-type
-      Laws'.the-laws;
+  val = Laws'6.val Form.the-type Laws'.the-laws;
   tells = Laws'6.tells Form.the-type Laws'.the-laws;
-  still = Laws'6.still Form.the-type Laws'.the-copy Exit.yes;
+  still = Laws'6.still Form.the-type
+      Laws'.the-copy Exit.yes;
   row = Rows'.whole (Declared'.row Form.the-type);
   rd = λ x. x;
-  mk = λ x.
-      x;
+  mk = λ x. x;
 } λ M 𝓤 H A W. record {
   copies = Laws'6.copy Form.the-type Laws'.the-copy 𝓤 H A W;
   lawful = Laws'6.lawful Form.the-type Laws'.the-laws 𝓤 H A W;
-  makes = Laws'6.makes Form.the-type Laws'.the-plain 𝓤
-      H A;
-  in-mem = Local.mem-whole 𝓤 H A W (Declared'.row Form.the-type);
+  makes = Laws'6.makes Form.the-type Laws'.the-plain 𝓤 H A;
+  in-mem =
+      Local.mem-whole 𝓤 H A W (Declared'.row Form.the-type);
   of-mem = Local.whole-mem 𝓤 H A W (Declared'.row Form.the-type);
-}) (List._∷_ (Num.pNum Syntax.w64) (List._∷_ (Num.pNum Syntax.w64)
-    (List._∷_ (Value.pVal record {
+}) (List._∷_ (Num.pNum Syntax.w64) (List._∷_ (Num.pNum Syntax.w64) (List._∷_
+    (Value.pVal record {
       ty = Declared'.row Walked.the-type;
       one = Path'.refl;
       val = Laws'6.val Walked.the-type Laws''.the-laws;
       tells = Laws'6.tells Walked.the-type Laws''.the-laws;
-      still =
-          Laws'6.still Walked.the-type Laws''.the-copy Exit.yes;
+      still = Laws'6.still Walked.the-type
+          Laws''.the-copy Exit.yes;
       row = Rows'.whole (Declared'.row Walked.the-type);
       rd = λ x. x;
       mk = λ x. x;
     } λ M 𝓤 H A W. record {
-      copies = Laws'6.copy Walked.the-type
-          Laws''.the-copy 𝓤 H A W;
+      copies = Laws'6.copy Walked.the-type Laws''.the-copy 𝓤 H A W;
       lawful = Laws'6.lawful Walked.the-type Laws''.the-laws 𝓤 H A W;
       makes = Laws'6.makes Walked.the-type Laws''.the-plain 𝓤 H A;
-      in-mem = Local.mem-whole 𝓤 H A W (Declared'.row
-          Walked.the-type);
+      in-mem =
+          Local.mem-whole 𝓤 H A W (Declared'.row Walked.the-type);
       of-mem = Local.whole-mem 𝓤 H A W (Declared'.row Walked.the-type);
     }) List.[]))))
 
@@ -349,18 +359,17 @@ r·7 = Value.rVal record {
   one = Path'.refl;
   val = Laws'5.val Decoded.the-type Laws.the-laws;
   tells = Laws'5.tells Decoded.the-type Laws.the-laws;
-  still =
-      Laws'5.still Decoded.the-type Laws.the-copy Exit.yes;
+  still = Laws'5.still Decoded.the-type
+      Laws.the-copy Exit.yes;
   row = Rows'.whole (Declared.row Decoded.the-type);
   rd = λ x. x;
   mk = λ x. x;
 } λ M 𝓤 H A W. record {
-  copies = Laws'5.copy Decoded.the-type
-      Laws.the-copy 𝓤 H A W;
+  copies = Laws'5.copy Decoded.the-type Laws.the-copy 𝓤 H A W;
   lawful = Laws'5.lawful Decoded.the-type Laws.the-laws 𝓤 H A W tt;
   makes = Laws'5.makes Decoded.the-type Laws.the-plain 𝓤 H A;
-  in-mem = Local.mem-whole 𝓤 H A W (Declared.row
-      Decoded.the-type);
+  in-mem =
+      Local.mem-whole 𝓤 H A W (Declared.row Decoded.the-type);
   of-mem = Local.whole-mem 𝓤 H A W (Declared.row Decoded.the-type);
 }
 
@@ -492,1727 +501,319 @@ abbrev pub Claims : Type 1
 Claims = Kinds.In 0 ps·0 × Kinds.Out 0 ps·0 r·0 × Kinds.In 0 ps·1 × Kinds.Out 0 ps·1 r·1 × Kinds.In 1 ps·2 × Kinds.Out 1 ps·2 r·2 × Kinds.In 1 ps·3 × Kinds.Out 1 ps·3 r·3 × Kinds.In 0 ps·4 × Kinds.Out
     0 ps·4 r·4 × Kinds.In 0 ps·5 × Kinds.Out 0 ps·5 r·5 × Kinds.In 6 ps·6 × Kinds.Out 6 ps·6 r·6 × Kinds.In 1 ps·7 × Kinds.Out 1 ps·7 r·7
 
-abbrev pub t0 : List.List Row.Entry
-t0 = List._∷_ (
+abbrev pub e0 : Row.Entry
+e0 = (
   0,
-  Rows'.any-gone (Syntax.tyEnum (List._∷_ 98 (List._∷_ 108 (List._∷_ 111 (List._∷_ 99 (List._∷_ 107 (List._∷_ 58 (List._∷_ 58 (List._∷_ 68 (List._∷_ 101 (List._∷_ 99 (List._∷_ 111
-      (List._∷_ 100 (List._∷_ 101 (List._∷_ 100 List.[])))))))))))))) (Syntax.ttcons Syntax.tnil (Syntax.ttcons (Syntax.tcons (Syntax.tyEnum (List._∷_ 115 (List._∷_ 116 (List._∷_ 114 (List._∷_ 101 (List._∷_
-      97 (List._∷_ 109 (List._∷_ 58 (List._∷_ 58 (List._∷_ 82 (List._∷_ 101 (List._∷_ 102 (List._∷_ 117 (List._∷_ 115 (List._∷_ 97 (List._∷_ 108 List.[]))))))))))))))) (Syntax.ttcons Syntax.tnil
-      (Syntax.ttcons Syntax.tnil (Syntax.ttcons Syntax.tnil (Syntax.ttcons (Syntax.tcons (Syntax.tyInt Syntax.w64) Syntax.tnil) (Syntax.ttcons Syntax.tnil (Syntax.ttcons Syntax.tnil (Syntax.ttcons
-      Syntax.tnil (Syntax.ttcons Syntax.tnil (Syntax.ttcons Syntax.tnil (Syntax.ttcons Syntax.tnil (Syntax.ttcons (Syntax.tcons (Syntax.tyInt Syntax.w64) Syntax.tnil) (Syntax.ttcons (Syntax.tcons
-      (Syntax.tyInt Syntax.w64) Syntax.tnil) (Syntax.ttcons Syntax.tnil (Syntax.ttcons (Syntax.tcons (Syntax.tyInt Syntax.w64) (Syntax.tcons (Syntax.tyInt Syntax.w64) Syntax.tnil)) (Syntax.ttcons
-      (Syntax.tcons (Syntax.tyInt Syntax.w64) Syntax.tnil) Syntax.ttnil)))))))))))))))) Syntax.tnil) Syntax.ttnil))),
-) (List._∷_ (
-  1,
-  Rows'.sslice (Referent.rtF (Referent.fInt Syntax.w8)) (Syntax.tyRef
-      (Syntax.named 0) Syntax.imm (Syntax.tyInt Syntax.w8)) 0,
-) (List._∷_ (2, Rows'.whole (Declared'.row FujiHeader.the-type)) (List._∷_ (3, Rows'.sc-here (Row.sInt Syntax.w64)) (List._∷_ (
-  4,
-  Mut.mslice (Referent.rtF (Referent.fInt Syntax.w16)) (Syntax.tyRef (Syntax.named 1) Syntax.mut (Syntax.tyInt Syntax.w16)) 1,
-) (List._∷_ (
-  5,
-  Mut.mslice (Element.type) (Syntax.tyRef (Syntax.named 2)
-      Syntax.mut Element.behind) 2,
-) (List._∷_ (
-  6,
-  Rows'.any-gone (Syntax.tyStruct (List._∷_ 98 (List._∷_ 108 (List._∷_ 111 (List._∷_ 99 (List._∷_ 107 (List._∷_ 58 (List._∷_ 58 (List._∷_ 70 (List._∷_ 111
-      (List._∷_ 114 (List._∷_ 109 List.[]))))))))))) (Syntax.tcons (Syntax.tyInt Syntax.w32) (Syntax.tcons Syntax.tyBool Syntax.tnil))),
-) (List._∷_ (7, Rows'.any-gone (Syntax.tyInt Syntax.w64)) (List._∷_ (
-  8,
-  Rows'.any-gone (Syntax.tyStruct (List._∷_ 38 (List._∷_ 91 (List._∷_ 93 List.[]))) (Syntax.tcons (Syntax.tyRef Syntax.erased Syntax.imm (Syntax.tyInt Syntax.w8)) (Syntax.tcons (Syntax.tyInt
-      Syntax.w64) Syntax.tnil))),
-) (List._∷_ (
-  9,
-  Rows'.any-gone (Syntax.tyStruct (List._∷_ 38 (List._∷_ 91 (List._∷_ 93 List.[]))) (Syntax.tcons (Syntax.tyRef Syntax.erased Syntax.imm (Syntax.tyInt
-      Syntax.w8)) (Syntax.tcons (Syntax.tyInt Syntax.w64) Syntax.tnil))),
-) (List._∷_ (10, Rows'.any-gone (Syntax.tyArray (Syntax.tyInt Syntax.w16) 768)) (List._∷_ (
-  11,
-  Rows'.any-gone (Syntax.tyArray
-      (Syntax.tyInt Syntax.w16) 1),
-) (List._∷_ (
-  12,
-  Rows'.any-gone (Syntax.tyStruct (List._∷_ 98 (List._∷_ 108 (List._∷_ 111 (List._∷_ 99 (List._∷_ 107 (List._∷_ 58 (List._∷_ 58 (List._∷_ 87 (List._∷_ 97
-      (List._∷_ 108 (List._∷_ 107 (List._∷_ 101 (List._∷_ 100 List.[]))))))))))))) (Syntax.tcons Syntax.tyBool (Syntax.tcons (Syntax.tyInt Syntax.w64) (Syntax.tcons (Syntax.tyStruct (List._∷_ 98 (List._∷_
-      105 (List._∷_ 116 (List._∷_ 115 (List._∷_ 58 (List._∷_ 58 (List._∷_ 66 (List._∷_ 105 (List._∷_ 116 (List._∷_ 80 (List._∷_ 111 (List._∷_ 115 (List._∷_ 105 (List._∷_ 116 (List._∷_ 105 (List._∷_ 111
-      (List._∷_ 110 List.[]))))))))))))))))) (Syntax.tcons (Syntax.tyInt Syntax.w64) Syntax.tnil)) (Syntax.tcons (Syntax.tyInt Syntax.w64) Syntax.tnil))))),
-) (List._∷_ (
-  13,
-  Rows'.any-gone (Syntax.tyArray
-      (Syntax.tyInt Syntax.w16) 768),
-) (List._∷_ (14, Rows'.any-gone (Syntax.tyRef Syntax.erased Syntax.mut (Syntax.tyInt Syntax.w16))) (List._∷_ (
-  15,
-  Rows'.any-gone (Syntax.tyStruct (List._∷_ 38
-      (List._∷_ 91 (List._∷_ 93 List.[]))) (Syntax.tcons (Syntax.tyRef Syntax.erased Syntax.mut (Syntax.tyInt Syntax.w16)) (Syntax.tcons (Syntax.tyInt Syntax.w64) Syntax.tnil))),
-) List.[])))))))))))))))
+  Rows'.any-gone (Syntax.tyEnum (List._∷_ 98 (List._∷_ 108 (List._∷_ 111 (List._∷_ 99 (List._∷_ 107 (List._∷_ 58 (List._∷_ 58 (List._∷_ 68 (List._∷_ 101 (List._∷_ 99 (List._∷_ 111 (List._∷_ 100
+      (List._∷_ 101 (List._∷_ 100 List.[])))))))))))))) (Syntax.ttcons Syntax.tnil (Syntax.ttcons (Syntax.tcons (Syntax.tyEnum (List._∷_ 115 (List._∷_ 116 (List._∷_ 114 (List._∷_ 101 (List._∷_ 97 (List._∷_
+      109 (List._∷_ 58 (List._∷_ 58 (List._∷_ 82 (List._∷_ 101 (List._∷_ 102 (List._∷_ 117 (List._∷_ 115 (List._∷_ 97 (List._∷_ 108 List.[]))))))))))))))) (Syntax.ttcons Syntax.tnil (Syntax.ttcons
+      Syntax.tnil (Syntax.ttcons Syntax.tnil (Syntax.ttcons (Syntax.tcons (Syntax.tyInt Syntax.w64) Syntax.tnil) (Syntax.ttcons Syntax.tnil (Syntax.ttcons Syntax.tnil (Syntax.ttcons Syntax.tnil
+      (Syntax.ttcons Syntax.tnil (Syntax.ttcons Syntax.tnil (Syntax.ttcons Syntax.tnil (Syntax.ttcons (Syntax.tcons (Syntax.tyInt Syntax.w64) Syntax.tnil) (Syntax.ttcons (Syntax.tcons (Syntax.tyInt
+      Syntax.w64) Syntax.tnil) (Syntax.ttcons Syntax.tnil (Syntax.ttcons (Syntax.tcons (Syntax.tyInt Syntax.w64) (Syntax.tcons (Syntax.tyInt Syntax.w64) Syntax.tnil)) (Syntax.ttcons (Syntax.tcons
+      (Syntax.tyInt Syntax.w64) Syntax.tnil) Syntax.ttnil)))))))))))))))) Syntax.tnil) Syntax.ttnil))),
+)
+
+abbrev pub e1 : Row.Entry
+e1 = (0, Rows'.whole (Declared.row Decoded.the-type))
+
+abbrev pub e2 : Row.Entry
+e2 = (1, Rows'.sslice (Referent.rtF (Referent.fInt Syntax.w8)) (Syntax.tyRef (Syntax.named 0) Syntax.imm (Syntax.tyInt Syntax.w8)) 0)
+
+abbrev pub e3 : Row.Entry
+e3 = (10, Rows'.any-gone (Syntax.tyArray (Syntax.tyInt Syntax.w16) 768))
+
+abbrev pub e4 : Row.Entry
+e4 = (10, Rows'.sc-shr (Rows.arrF (Referent.rtF (Referent.fInt Syntax.w16)) 768 0) (Array'.Array (Referent.rtF (Referent.fInt Syntax.w16)) 768) (λ x. x) 6)
+
+abbrev pub e5 : Row.Entry
+e5 = (10, Rows.arrF (Referent.rtF (Referent.fInt Syntax.w16)) 768 0)
+
+abbrev pub e6 : Row.Entry
+e6 = (11, Rows'.any-gone (Syntax.tyArray (Syntax.tyInt Syntax.w16) 1))
+
+abbrev pub e7 : Row.Entry
+e7 = (11, Rows.arr-owed (Referent.rtF (Referent.fInt Syntax.w16)) 1 5)
+
+abbrev pub e8 : Row.Entry
+e8 = (11, Rows.arrF (Referent.rtF (Referent.fInt Syntax.w16)) 1 0)
+
+abbrev pub e9 : Row.Entry
+e9 = (12, Rows'.any-gone y7)
+
+abbrev pub e10 : Row.Entry
+e10 = (12, Rows'.whole (Declared'.row Walked.the-type))
+
+abbrev pub e11 : Row.Entry
+e11 = (13, Rows'.any-gone (Syntax.tyArray (Syntax.tyInt Syntax.w16) 768))
+
+abbrev pub e12 : Row.Entry
+e12 = (13, Rows.arrF (Referent.rtF (Referent.fInt Syntax.w16)) 768 0)
+
+abbrev pub e13 : Row.Entry
+e13 = (14, Relend.msptr (Referent.rtF (Referent.fInt Syntax.w16)) (Syntax.tyRef Syntax.erased Syntax.mut (Syntax.tyInt Syntax.w16)) 3)
+
+abbrev pub e14 : Row.Entry
+e14 = (14, Rows'.any-gone (Syntax.tyRef Syntax.erased Syntax.mut (Syntax.tyInt Syntax.w16)))
+
+abbrev pub e15 : Row.Entry
+e15 = (15, Mut.msleft (Referent.rtF (Referent.fInt Syntax.w16)) (Syntax.tyRef Syntax.erased Syntax.mut (Syntax.tyInt Syntax.w16)))
+
+abbrev pub e16 : Row.Entry
+e16 = (15, Mut.mslice (Referent.rtF (Referent.fInt Syntax.w16)) (Syntax.tyRef Syntax.erased Syntax.mut (Syntax.tyInt Syntax.w16)) 3)
+
+abbrev pub e17 : Row.Entry
+e17 = (15, Rows'.any-gone y3)
+
+abbrev pub e18 : Row.Entry
+e18 = (16, Rows'.any-gone (Syntax.tyRef Syntax.erased Syntax.mut Element.behind))
+
+abbrev pub e19 : Row.Entry
+e19 = (17, Mut.msleft (Element.type) (Syntax.tyRef Syntax.erased Syntax.mut Element.behind))
+
+abbrev pub e20 : Row.Entry
+e20 = (17, Mut.mslice (Element.type) (Syntax.tyRef Syntax.erased Syntax.mut Element.behind) 4)
+
+abbrev pub e21 : Row.Entry
+e21 = (17, Rows'.any-gone y4)
+
+abbrev pub e22 : Row.Entry
+e22 = (18, Rows'.any-gone (Syntax.tyRef Syntax.erased Syntax.mut (Syntax.tyArray (Syntax.tyInt Syntax.w16) 1)))
+
+abbrev pub e23 : Row.Entry
+e23 = (19, Mut.msleft (Referent.rtF (Referent.fInt Syntax.w16)) (Syntax.tyRef Syntax.erased Syntax.mut (Syntax.tyInt Syntax.w16)))
+
+abbrev pub e24 : Row.Entry
+e24 = (19, Mut.mslice (Referent.rtF (Referent.fInt Syntax.w16)) (Syntax.tyRef Syntax.erased Syntax.mut (Syntax.tyInt Syntax.w16)) 5)
+
+abbrev pub e25 : Row.Entry
+e25 = (19, Rows'.any-gone y3)
+
+abbrev pub e26 : Row.Entry
+e26 = (2, Rows'.any-gone y1)
+
+abbrev pub e27 : Row.Entry
+e27 = (2, Rows'.whole (Declared'.row FujiHeader.the-type))
+
+abbrev pub e28 : Row.Entry
+e28 = (20, Rows'.any-gone (Syntax.tyRef Syntax.erased Syntax.imm (Syntax.tyArray (Syntax.tyInt Syntax.w16) 768)))
+
+abbrev pub e29 : Row.Entry
+e29 = (20, Rows'.sref (Array'.Array (Referent.rtF (Referent.fInt Syntax.w16)) 768) (Syntax.tyRef Syntax.erased Syntax.imm (Syntax.tyArray (Syntax.tyInt Syntax.w16) 768)) 6)
+
+abbrev pub e30 : Row.Entry
+e30 = (21, Rows'.any-gone (Syntax.tyArray (Syntax.tyInt Syntax.w8) 36))
+
+abbrev pub e31 : Row.Entry
+e31 = (21, Rows.arrF (Referent.rtF (Referent.fInt Syntax.w8)) 36 0)
+
+abbrev pub e32 : Row.Entry
+e32 = (22, Rows'.any-gone y0)
+
+abbrev pub e33 : Row.Entry
+e33 = (22, Rows'.whole (Declared'.row Part.the-type))
+
+abbrev pub e34 : Row.Entry
+e34 = (3, Rows'.sc-here (Row.sInt Syntax.w64))
+
+abbrev pub e35 : Row.Entry
+e35 = (4, Mut.mslice (Referent.rtF (Referent.fInt Syntax.w16)) (Syntax.tyRef (Syntax.named 1) Syntax.mut (Syntax.tyInt Syntax.w16)) 1)
+
+abbrev pub e36 : Row.Entry
+e36 = (4, Relend.mslice-owed (Referent.rtF (Referent.fInt Syntax.w16)) (Syntax.tyRef (Syntax.named 1) Syntax.mut (Syntax.tyInt Syntax.w16)) 1 3 Row.off)
+
+abbrev pub e37 : Row.Entry
+e37 = (5, Mut.mslice (Element.type) (Syntax.tyRef (Syntax.named 2) Syntax.mut Element.behind) 2)
+
+abbrev pub e38 : Row.Entry
+e38 = (5, Relend.mslice-owed (Element.type) (Syntax.tyRef (Syntax.named 2) Syntax.mut Element.behind) 2 4 Row.off)
+
+abbrev pub e39 : Row.Entry
+e39 = (6, Rows'.any-gone y6)
+
+abbrev pub e40 : Row.Entry
+e40 = (6, Rows'.whole (Declared'.row Form.the-type))
+
+abbrev pub e41 : Row.Entry
+e41 = (7, Rows'.any-gone (Syntax.tyInt Syntax.w64))
+
+abbrev pub e42 : Row.Entry
+e42 = (7, Rows'.sc-here (Row.sInt Syntax.w64))
+
+abbrev pub e43 : Row.Entry
+e43 = (8, Rows'.any-gone y2)
+
+abbrev pub e44 : Row.Entry
+e44 = (8, Rows'.sslice (Referent.rtF (Referent.fInt Syntax.w8)) (Syntax.tyRef Syntax.erased Syntax.imm (Syntax.tyInt Syntax.w8)) 0)
+
+abbrev pub e45 : Row.Entry
+e45 = (9, Rows'.any-gone y2)
+
+abbrev pub e46 : Row.Entry
+e46 = (9, Rows'.sslice (Referent.rtF (Referent.fInt Syntax.w8)) (Syntax.tyRef Syntax.erased Syntax.imm (Syntax.tyInt Syntax.w8)) 0)
+
+abbrev pub t0 : List.List Row.Entry
+t0 = List._∷_ e0 (List._∷_ e2 (List._∷_ e27 (List._∷_ e34 (List._∷_ e35 (List._∷_ e37 (List._∷_ e39 (List._∷_ e41 (List._∷_ e43 (List._∷_ e45 (List._∷_ e3 (List._∷_ e6 (List._∷_ e9 (List._∷_ e11
+    (List._∷_ e14 (List._∷_ e17 List.[])))))))))))))))
 
 abbrev pub t1 : List.List Row.Entry
-t1 = List._∷_ (16, Rows'.any-gone (Syntax.tyRef Syntax.erased Syntax.mut Element.behind)) (List._∷_ (
-  17,
-  Rows'.any-gone (Syntax.tyStruct (List._∷_ 38 (List._∷_ 91 (List._∷_ 93 List.[])))
-      (Syntax.tcons (Syntax.tyRef Syntax.erased Syntax.mut Element.behind) (Syntax.tcons (Syntax.tyInt Syntax.w64) Syntax.tnil))),
-) (List._∷_ (
-  18,
-  Rows'.any-gone (Syntax.tyRef Syntax.erased Syntax.mut
-      (Syntax.tyArray (Syntax.tyInt Syntax.w16) 1)),
-) (List._∷_ (
-  19,
-  Rows'.any-gone (Syntax.tyStruct (List._∷_ 38 (List._∷_ 91 (List._∷_ 93 List.[]))) (Syntax.tcons (Syntax.tyRef Syntax.erased Syntax.mut
-      (Syntax.tyInt Syntax.w16)) (Syntax.tcons (Syntax.tyInt Syntax.w64) Syntax.tnil))),
-) (List._∷_ (
-  20,
-  Rows'.any-gone (Syntax.tyRef Syntax.erased Syntax.imm (Syntax.tyArray (Syntax.tyInt Syntax.w16)
-      768)),
-) (List._∷_ (21, Rows'.any-gone (Syntax.tyArray (Syntax.tyInt Syntax.w8) 36)) (List._∷_ (
-  22,
-  Rows'.any-gone (Syntax.tyStruct (List._∷_ 109 (List._∷_ 97 (List._∷_ 112 (List._∷_ 58 (List._∷_ 58
-      (List._∷_ 80 (List._∷_ 97 (List._∷_ 114 (List._∷_ 116 List.[]))))))))) (Syntax.tcons (Syntax.tyInt Syntax.w64) (Syntax.tcons (Syntax.tyInt Syntax.w64) (Syntax.tcons (Syntax.tyInt Syntax.w64)
-      (Syntax.tcons (Syntax.tyInt Syntax.w64) (Syntax.tcons (Syntax.tyInt Syntax.w64) (Syntax.tcons (Syntax.tyInt Syntax.w64) Syntax.tnil))))))),
-) List.[]))))))
+t1 = List._∷_ e18 (List._∷_ e21 (List._∷_ e22 (List._∷_ e25 (List._∷_ e28 (List._∷_ e30 (List._∷_ e32 List.[]))))))
 
 abbrev pub t2 : List.List Row.Entry
-t2 = List._∷_ (0, Rows'.whole (Declared.row Decoded.the-type)) (List._∷_ (
-  1,
-  Rows'.sslice (Referent.rtF (Referent.fInt Syntax.w8)) (Syntax.tyRef (Syntax.named 0) Syntax.imm (Syntax.tyInt Syntax.w8))
-      0,
-) (List._∷_ (
-  2,
-  Rows'.any-gone (Syntax.tyStruct (List._∷_ 115 (List._∷_ 116 (List._∷_ 114 (List._∷_ 101 (List._∷_ 97 (List._∷_ 109 (List._∷_ 58 (List._∷_ 58 (List._∷_ 70 (List._∷_ 117 (List._∷_
-      106 (List._∷_ 105 (List._∷_ 72 (List._∷_ 101 (List._∷_ 97 (List._∷_ 100 (List._∷_ 101 (List._∷_ 114 List.[])))))))))))))))))) (Syntax.tcons Syntax.tyBool (Syntax.tcons Syntax.tyBool (Syntax.tcons
-      (Syntax.tyInt Syntax.w32) (Syntax.tcons (Syntax.tyInt Syntax.w32) (Syntax.tcons (Syntax.tyInt Syntax.w32) (Syntax.tcons (Syntax.tyInt Syntax.w32) (Syntax.tcons (Syntax.tyInt Syntax.w32) (Syntax.tcons
-      (Syntax.tyInt Syntax.w32) (Syntax.tcons (Syntax.tyInt Syntax.w32) Syntax.tnil)))))))))),
-) (List._∷_ (3, Rows'.any-gone (Syntax.tyInt Syntax.w64)) (List._∷_ (
-  4,
-  Mut.mslice (Referent.rtF
-      (Referent.fInt Syntax.w16)) (Syntax.tyRef (Syntax.named 1) Syntax.mut (Syntax.tyInt Syntax.w16)) 1,
-) (List._∷_ (
-  5,
-  Mut.mslice (Element.type) (Syntax.tyRef (Syntax.named 2) Syntax.mut Element.behind)
-      2,
-) (List._∷_ (
-  6,
-  Rows'.any-gone (Syntax.tyStruct (List._∷_ 98 (List._∷_ 108 (List._∷_ 111 (List._∷_ 99 (List._∷_ 107 (List._∷_ 58 (List._∷_ 58 (List._∷_ 70 (List._∷_ 111 (List._∷_ 114 (List._∷_ 109
-      List.[]))))))))))) (Syntax.tcons (Syntax.tyInt Syntax.w32) (Syntax.tcons Syntax.tyBool Syntax.tnil))),
-) (List._∷_ (7, Rows'.any-gone (Syntax.tyInt Syntax.w64)) (List._∷_ (
-  8,
-  Rows'.any-gone
-      (Syntax.tyStruct (List._∷_ 38 (List._∷_ 91 (List._∷_ 93 List.[]))) (Syntax.tcons (Syntax.tyRef Syntax.erased Syntax.imm (Syntax.tyInt Syntax.w8)) (Syntax.tcons (Syntax.tyInt Syntax.w64)
-      Syntax.tnil))),
-) (List._∷_ (
-  9,
-  Rows'.any-gone (Syntax.tyStruct (List._∷_ 38 (List._∷_ 91 (List._∷_ 93 List.[]))) (Syntax.tcons (Syntax.tyRef Syntax.erased Syntax.imm (Syntax.tyInt Syntax.w8))
-      (Syntax.tcons (Syntax.tyInt Syntax.w64) Syntax.tnil))),
-) (List._∷_ (10, Rows'.any-gone (Syntax.tyArray (Syntax.tyInt Syntax.w16) 768)) (List._∷_ (
-  11,
-  Rows'.any-gone (Syntax.tyArray (Syntax.tyInt
-      Syntax.w16) 1),
-) (List._∷_ (
-  12,
-  Rows'.any-gone (Syntax.tyStruct (List._∷_ 98 (List._∷_ 108 (List._∷_ 111 (List._∷_ 99 (List._∷_ 107 (List._∷_ 58 (List._∷_ 58 (List._∷_ 87 (List._∷_ 97 (List._∷_ 108
-      (List._∷_ 107 (List._∷_ 101 (List._∷_ 100 List.[]))))))))))))) (Syntax.tcons Syntax.tyBool (Syntax.tcons (Syntax.tyInt Syntax.w64) (Syntax.tcons (Syntax.tyStruct (List._∷_ 98 (List._∷_ 105 (List._∷_
-      116 (List._∷_ 115 (List._∷_ 58 (List._∷_ 58 (List._∷_ 66 (List._∷_ 105 (List._∷_ 116 (List._∷_ 80 (List._∷_ 111 (List._∷_ 115 (List._∷_ 105 (List._∷_ 116 (List._∷_ 105 (List._∷_ 111 (List._∷_ 110
-      List.[]))))))))))))))))) (Syntax.tcons (Syntax.tyInt Syntax.w64) Syntax.tnil)) (Syntax.tcons (Syntax.tyInt Syntax.w64) Syntax.tnil))))),
-) (List._∷_ (
-  13,
-  Rows'.any-gone (Syntax.tyArray (Syntax.tyInt
-      Syntax.w16) 768),
-) (List._∷_ (14, Rows'.any-gone (Syntax.tyRef Syntax.erased Syntax.mut (Syntax.tyInt Syntax.w16))) (List._∷_ (
-  15,
-  Rows'.any-gone (Syntax.tyStruct (List._∷_ 38 (List._∷_ 91
-      (List._∷_ 93 List.[]))) (Syntax.tcons (Syntax.tyRef Syntax.erased Syntax.mut (Syntax.tyInt Syntax.w16)) (Syntax.tcons (Syntax.tyInt Syntax.w64) Syntax.tnil))),
-) List.[])))))))))))))))
+t2 = List._∷_ e1 (List._∷_ e2 (List._∷_ e26 (List._∷_ (3, Rows'.any-gone (Syntax.tyInt Syntax.w64)) (List._∷_ e35 (List._∷_ e37 (List._∷_ e39 (List._∷_ e41 (List._∷_ e43 (List._∷_ e45 (List._∷_ e3
+    (List._∷_ e6 (List._∷_ e9 (List._∷_ e11 (List._∷_ e14 (List._∷_ e17 List.[])))))))))))))))
 
 abbrev pub t3 : List.List Row.Entry
-t3 = List._∷_ (
-  0,
-  Rows'.any-gone (Syntax.tyEnum (List._∷_ 98 (List._∷_ 108 (List._∷_ 111 (List._∷_ 99 (List._∷_ 107 (List._∷_ 58 (List._∷_ 58 (List._∷_ 68 (List._∷_ 101 (List._∷_ 99 (List._∷_ 111
-      (List._∷_ 100 (List._∷_ 101 (List._∷_ 100 List.[])))))))))))))) (Syntax.ttcons Syntax.tnil (Syntax.ttcons (Syntax.tcons (Syntax.tyEnum (List._∷_ 115 (List._∷_ 116 (List._∷_ 114 (List._∷_ 101 (List._∷_
-      97 (List._∷_ 109 (List._∷_ 58 (List._∷_ 58 (List._∷_ 82 (List._∷_ 101 (List._∷_ 102 (List._∷_ 117 (List._∷_ 115 (List._∷_ 97 (List._∷_ 108 List.[]))))))))))))))) (Syntax.ttcons Syntax.tnil
-      (Syntax.ttcons Syntax.tnil (Syntax.ttcons Syntax.tnil (Syntax.ttcons (Syntax.tcons (Syntax.tyInt Syntax.w64) Syntax.tnil) (Syntax.ttcons Syntax.tnil (Syntax.ttcons Syntax.tnil (Syntax.ttcons
-      Syntax.tnil (Syntax.ttcons Syntax.tnil (Syntax.ttcons Syntax.tnil (Syntax.ttcons Syntax.tnil (Syntax.ttcons (Syntax.tcons (Syntax.tyInt Syntax.w64) Syntax.tnil) (Syntax.ttcons (Syntax.tcons
-      (Syntax.tyInt Syntax.w64) Syntax.tnil) (Syntax.ttcons Syntax.tnil (Syntax.ttcons (Syntax.tcons (Syntax.tyInt Syntax.w64) (Syntax.tcons (Syntax.tyInt Syntax.w64) Syntax.tnil)) (Syntax.ttcons
-      (Syntax.tcons (Syntax.tyInt Syntax.w64) Syntax.tnil) Syntax.ttnil)))))))))))))))) Syntax.tnil) Syntax.ttnil))),
-) (List._∷_ (
-  1,
-  Rows'.sslice (Referent.rtF (Referent.fInt Syntax.w8)) (Syntax.tyRef
-      (Syntax.named 0) Syntax.imm (Syntax.tyInt Syntax.w8)) 0,
-) (List._∷_ (2, Rows'.whole (Declared'.row FujiHeader.the-type)) (List._∷_ (3, Rows'.sc-here (Row.sInt Syntax.w64)) (List._∷_ (
-  4,
-  Mut.mslice (Referent.rtF (Referent.fInt Syntax.w16)) (Syntax.tyRef (Syntax.named 1) Syntax.mut (Syntax.tyInt Syntax.w16)) 1,
-) (List._∷_ (
-  5,
-  Mut.mslice (Element.type) (Syntax.tyRef (Syntax.named 2)
-      Syntax.mut Element.behind) 2,
-) (List._∷_ (6, Rows'.whole (Declared'.row Form.the-type)) (List._∷_ (7, Rows'.any-gone (Syntax.tyInt Syntax.w64)) (List._∷_ (
-  8,
-  Rows'.any-gone (Syntax.tyStruct
-      (List._∷_ 38 (List._∷_ 91 (List._∷_ 93 List.[]))) (Syntax.tcons (Syntax.tyRef Syntax.erased Syntax.imm (Syntax.tyInt Syntax.w8)) (Syntax.tcons (Syntax.tyInt Syntax.w64) Syntax.tnil))),
-) (List._∷_ (
-  9,
-  Rows'.any-gone (Syntax.tyStruct (List._∷_ 38 (List._∷_ 91 (List._∷_ 93 List.[]))) (Syntax.tcons (Syntax.tyRef Syntax.erased Syntax.imm (Syntax.tyInt Syntax.w8)) (Syntax.tcons (Syntax.tyInt
-      Syntax.w64) Syntax.tnil))),
-) (List._∷_ (10, Rows'.any-gone (Syntax.tyArray (Syntax.tyInt Syntax.w16) 768)) (List._∷_ (11, Rows'.any-gone (Syntax.tyArray (Syntax.tyInt Syntax.w16) 1)) (List._∷_ (
-  12,
-  Rows'.any-gone (Syntax.tyStruct (List._∷_ 98 (List._∷_ 108 (List._∷_ 111 (List._∷_ 99 (List._∷_ 107 (List._∷_ 58 (List._∷_ 58 (List._∷_ 87 (List._∷_ 97 (List._∷_ 108 (List._∷_ 107 (List._∷_ 101
-      (List._∷_ 100 List.[]))))))))))))) (Syntax.tcons Syntax.tyBool (Syntax.tcons (Syntax.tyInt Syntax.w64) (Syntax.tcons (Syntax.tyStruct (List._∷_ 98 (List._∷_ 105 (List._∷_ 116 (List._∷_ 115 (List._∷_
-      58 (List._∷_ 58 (List._∷_ 66 (List._∷_ 105 (List._∷_ 116 (List._∷_ 80 (List._∷_ 111 (List._∷_ 115 (List._∷_ 105 (List._∷_ 116 (List._∷_ 105 (List._∷_ 111 (List._∷_ 110 List.[])))))))))))))))))
-      (Syntax.tcons (Syntax.tyInt Syntax.w64) Syntax.tnil)) (Syntax.tcons (Syntax.tyInt Syntax.w64) Syntax.tnil))))),
-) (List._∷_ (13, Rows'.any-gone (Syntax.tyArray (Syntax.tyInt Syntax.w16) 768))
-    (List._∷_ (14, Rows'.any-gone (Syntax.tyRef Syntax.erased Syntax.mut (Syntax.tyInt Syntax.w16))) (List._∷_ (
-      15,
-      Rows'.any-gone (Syntax.tyStruct (List._∷_ 38 (List._∷_ 91 (List._∷_ 93 List.[])))
-          (Syntax.tcons (Syntax.tyRef Syntax.erased Syntax.mut (Syntax.tyInt Syntax.w16)) (Syntax.tcons (Syntax.tyInt Syntax.w64) Syntax.tnil))),
-    ) List.[])))))))))))))))
+t3 = List._∷_ e0 (List._∷_ e2 (List._∷_ e27 (List._∷_ e34 (List._∷_ e35 (List._∷_ e37 (List._∷_ e40 (List._∷_ e41 (List._∷_ e43 (List._∷_ e45 (List._∷_ e3 (List._∷_ e6 (List._∷_ e9 (List._∷_ e11
+    (List._∷_ e14 (List._∷_ e17 List.[])))))))))))))))
 
 abbrev pub t4 : List.List Row.Entry
-t4 = List._∷_ (
-  0,
-  Rows'.any-gone (Syntax.tyEnum (List._∷_ 98 (List._∷_ 108 (List._∷_ 111 (List._∷_ 99 (List._∷_ 107 (List._∷_ 58 (List._∷_ 58 (List._∷_ 68 (List._∷_ 101 (List._∷_ 99 (List._∷_ 111
-      (List._∷_ 100 (List._∷_ 101 (List._∷_ 100 List.[])))))))))))))) (Syntax.ttcons Syntax.tnil (Syntax.ttcons (Syntax.tcons (Syntax.tyEnum (List._∷_ 115 (List._∷_ 116 (List._∷_ 114 (List._∷_ 101 (List._∷_
-      97 (List._∷_ 109 (List._∷_ 58 (List._∷_ 58 (List._∷_ 82 (List._∷_ 101 (List._∷_ 102 (List._∷_ 117 (List._∷_ 115 (List._∷_ 97 (List._∷_ 108 List.[]))))))))))))))) (Syntax.ttcons Syntax.tnil
-      (Syntax.ttcons Syntax.tnil (Syntax.ttcons Syntax.tnil (Syntax.ttcons (Syntax.tcons (Syntax.tyInt Syntax.w64) Syntax.tnil) (Syntax.ttcons Syntax.tnil (Syntax.ttcons Syntax.tnil (Syntax.ttcons
-      Syntax.tnil (Syntax.ttcons Syntax.tnil (Syntax.ttcons Syntax.tnil (Syntax.ttcons Syntax.tnil (Syntax.ttcons (Syntax.tcons (Syntax.tyInt Syntax.w64) Syntax.tnil) (Syntax.ttcons (Syntax.tcons
-      (Syntax.tyInt Syntax.w64) Syntax.tnil) (Syntax.ttcons Syntax.tnil (Syntax.ttcons (Syntax.tcons (Syntax.tyInt Syntax.w64) (Syntax.tcons (Syntax.tyInt Syntax.w64) Syntax.tnil)) (Syntax.ttcons
-      (Syntax.tcons (Syntax.tyInt Syntax.w64) Syntax.tnil) Syntax.ttnil)))))))))))))))) Syntax.tnil) Syntax.ttnil))),
-) (List._∷_ (
-  1,
-  Rows'.sslice (Referent.rtF (Referent.fInt Syntax.w8)) (Syntax.tyRef
-      (Syntax.named 0) Syntax.imm (Syntax.tyInt Syntax.w8)) 0,
-) (List._∷_ (2, Rows'.whole (Declared'.row FujiHeader.the-type)) (List._∷_ (3, Rows'.sc-here (Row.sInt Syntax.w64)) (List._∷_ (
-  4,
-  Mut.mslice (Referent.rtF (Referent.fInt Syntax.w16)) (Syntax.tyRef (Syntax.named 1) Syntax.mut (Syntax.tyInt Syntax.w16)) 1,
-) (List._∷_ (
-  5,
-  Mut.mslice (Element.type) (Syntax.tyRef (Syntax.named 2)
-      Syntax.mut Element.behind) 2,
-) (List._∷_ (6, Rows'.whole (Declared'.row Form.the-type)) (List._∷_ (7, Rows'.sc-here (Row.sInt Syntax.w64)) (List._∷_ (
-  8,
-  Rows'.any-gone (Syntax.tyStruct (List._∷_
-      38 (List._∷_ 91 (List._∷_ 93 List.[]))) (Syntax.tcons (Syntax.tyRef Syntax.erased Syntax.imm (Syntax.tyInt Syntax.w8)) (Syntax.tcons (Syntax.tyInt Syntax.w64) Syntax.tnil))),
-) (List._∷_ (
-  9,
-  Rows'.any-gone (Syntax.tyStruct (List._∷_ 38 (List._∷_ 91 (List._∷_ 93 List.[]))) (Syntax.tcons (Syntax.tyRef Syntax.erased Syntax.imm (Syntax.tyInt Syntax.w8)) (Syntax.tcons (Syntax.tyInt Syntax.w64)
-      Syntax.tnil))),
-) (List._∷_ (10, Rows'.any-gone (Syntax.tyArray (Syntax.tyInt Syntax.w16) 768)) (List._∷_ (11, Rows'.any-gone (Syntax.tyArray (Syntax.tyInt Syntax.w16) 1)) (List._∷_ (
-  12,
-  Rows'.any-gone (Syntax.tyStruct (List._∷_ 98 (List._∷_ 108 (List._∷_ 111 (List._∷_ 99 (List._∷_ 107 (List._∷_ 58 (List._∷_ 58 (List._∷_ 87 (List._∷_ 97 (List._∷_ 108 (List._∷_ 107 (List._∷_ 101
-      (List._∷_ 100 List.[]))))))))))))) (Syntax.tcons Syntax.tyBool (Syntax.tcons (Syntax.tyInt Syntax.w64) (Syntax.tcons (Syntax.tyStruct (List._∷_ 98 (List._∷_ 105 (List._∷_ 116 (List._∷_ 115 (List._∷_
-      58 (List._∷_ 58 (List._∷_ 66 (List._∷_ 105 (List._∷_ 116 (List._∷_ 80 (List._∷_ 111 (List._∷_ 115 (List._∷_ 105 (List._∷_ 116 (List._∷_ 105 (List._∷_ 111 (List._∷_ 110 List.[])))))))))))))))))
-      (Syntax.tcons (Syntax.tyInt Syntax.w64) Syntax.tnil)) (Syntax.tcons (Syntax.tyInt Syntax.w64) Syntax.tnil))))),
-) (List._∷_ (13, Rows'.any-gone (Syntax.tyArray (Syntax.tyInt Syntax.w16) 768))
-    (List._∷_ (14, Rows'.any-gone (Syntax.tyRef Syntax.erased Syntax.mut (Syntax.tyInt Syntax.w16))) (List._∷_ (
-      15,
-      Rows'.any-gone (Syntax.tyStruct (List._∷_ 38 (List._∷_ 91 (List._∷_ 93 List.[])))
-          (Syntax.tcons (Syntax.tyRef Syntax.erased Syntax.mut (Syntax.tyInt Syntax.w16)) (Syntax.tcons (Syntax.tyInt Syntax.w64) Syntax.tnil))),
-    ) List.[])))))))))))))))
+t4 = List._∷_ e0 (List._∷_ e2 (List._∷_ e27 (List._∷_ e34 (List._∷_ e35 (List._∷_ e37 (List._∷_ e40 (List._∷_ e42 (List._∷_ e43 (List._∷_ e45 (List._∷_ e3 (List._∷_ e6 (List._∷_ e9 (List._∷_ e11
+    (List._∷_ e14 (List._∷_ e17 List.[])))))))))))))))
 
 abbrev pub t5 : List.List Row.Entry
-t5 = List._∷_ (
-  0,
-  Rows'.any-gone (Syntax.tyEnum (List._∷_ 98 (List._∷_ 108 (List._∷_ 111 (List._∷_ 99 (List._∷_ 107 (List._∷_ 58 (List._∷_ 58 (List._∷_ 68 (List._∷_ 101 (List._∷_ 99 (List._∷_ 111
-      (List._∷_ 100 (List._∷_ 101 (List._∷_ 100 List.[])))))))))))))) (Syntax.ttcons Syntax.tnil (Syntax.ttcons (Syntax.tcons (Syntax.tyEnum (List._∷_ 115 (List._∷_ 116 (List._∷_ 114 (List._∷_ 101 (List._∷_
-      97 (List._∷_ 109 (List._∷_ 58 (List._∷_ 58 (List._∷_ 82 (List._∷_ 101 (List._∷_ 102 (List._∷_ 117 (List._∷_ 115 (List._∷_ 97 (List._∷_ 108 List.[]))))))))))))))) (Syntax.ttcons Syntax.tnil
-      (Syntax.ttcons Syntax.tnil (Syntax.ttcons Syntax.tnil (Syntax.ttcons (Syntax.tcons (Syntax.tyInt Syntax.w64) Syntax.tnil) (Syntax.ttcons Syntax.tnil (Syntax.ttcons Syntax.tnil (Syntax.ttcons
-      Syntax.tnil (Syntax.ttcons Syntax.tnil (Syntax.ttcons Syntax.tnil (Syntax.ttcons Syntax.tnil (Syntax.ttcons (Syntax.tcons (Syntax.tyInt Syntax.w64) Syntax.tnil) (Syntax.ttcons (Syntax.tcons
-      (Syntax.tyInt Syntax.w64) Syntax.tnil) (Syntax.ttcons Syntax.tnil (Syntax.ttcons (Syntax.tcons (Syntax.tyInt Syntax.w64) (Syntax.tcons (Syntax.tyInt Syntax.w64) Syntax.tnil)) (Syntax.ttcons
-      (Syntax.tcons (Syntax.tyInt Syntax.w64) Syntax.tnil) Syntax.ttnil)))))))))))))))) Syntax.tnil) Syntax.ttnil))),
-) (List._∷_ (
-  1,
-  Rows'.sslice (Referent.rtF (Referent.fInt Syntax.w8)) (Syntax.tyRef
-      (Syntax.named 0) Syntax.imm (Syntax.tyInt Syntax.w8)) 0,
-) (List._∷_ (
-  2,
-  Rows'.any-gone (Syntax.tyStruct (List._∷_ 115 (List._∷_ 116 (List._∷_ 114 (List._∷_ 101 (List._∷_ 97 (List._∷_ 109 (List._∷_
-      58 (List._∷_ 58 (List._∷_ 70 (List._∷_ 117 (List._∷_ 106 (List._∷_ 105 (List._∷_ 72 (List._∷_ 101 (List._∷_ 97 (List._∷_ 100 (List._∷_ 101 (List._∷_ 114 List.[])))))))))))))))))) (Syntax.tcons
-      Syntax.tyBool (Syntax.tcons Syntax.tyBool (Syntax.tcons (Syntax.tyInt Syntax.w32) (Syntax.tcons (Syntax.tyInt Syntax.w32) (Syntax.tcons (Syntax.tyInt Syntax.w32) (Syntax.tcons (Syntax.tyInt
-      Syntax.w32) (Syntax.tcons (Syntax.tyInt Syntax.w32) (Syntax.tcons (Syntax.tyInt Syntax.w32) (Syntax.tcons (Syntax.tyInt Syntax.w32) Syntax.tnil)))))))))),
-) (List._∷_ (
-  3,
-  Rows'.sc-here (Row.sInt
-      Syntax.w64),
-) (List._∷_ (4, Mut.mslice (Referent.rtF (Referent.fInt Syntax.w16)) (Syntax.tyRef (Syntax.named 1) Syntax.mut (Syntax.tyInt Syntax.w16)) 1) (List._∷_ (
-  5,
-  Mut.mslice (Element.type)
-      (Syntax.tyRef (Syntax.named 2) Syntax.mut Element.behind) 2,
-) (List._∷_ (6, Rows'.whole (Declared'.row Form.the-type)) (List._∷_ (7, Rows'.sc-here (Row.sInt Syntax.w64)) (List._∷_ (
-  8,
-  Rows'.any-gone (Syntax.tyStruct (List._∷_ 38 (List._∷_ 91 (List._∷_ 93 List.[]))) (Syntax.tcons (Syntax.tyRef Syntax.erased Syntax.imm (Syntax.tyInt Syntax.w8)) (Syntax.tcons (Syntax.tyInt Syntax.w64)
-      Syntax.tnil))),
-) (List._∷_ (
-  9,
-  Rows'.any-gone (Syntax.tyStruct (List._∷_ 38 (List._∷_ 91 (List._∷_ 93 List.[]))) (Syntax.tcons (Syntax.tyRef Syntax.erased Syntax.imm (Syntax.tyInt Syntax.w8))
-      (Syntax.tcons (Syntax.tyInt Syntax.w64) Syntax.tnil))),
-) (List._∷_ (10, Rows'.any-gone (Syntax.tyArray (Syntax.tyInt Syntax.w16) 768)) (List._∷_ (
-  11,
-  Rows'.any-gone (Syntax.tyArray (Syntax.tyInt
-      Syntax.w16) 1),
-) (List._∷_ (
-  12,
-  Rows'.any-gone (Syntax.tyStruct (List._∷_ 98 (List._∷_ 108 (List._∷_ 111 (List._∷_ 99 (List._∷_ 107 (List._∷_ 58 (List._∷_ 58 (List._∷_ 87 (List._∷_ 97 (List._∷_ 108
-      (List._∷_ 107 (List._∷_ 101 (List._∷_ 100 List.[]))))))))))))) (Syntax.tcons Syntax.tyBool (Syntax.tcons (Syntax.tyInt Syntax.w64) (Syntax.tcons (Syntax.tyStruct (List._∷_ 98 (List._∷_ 105 (List._∷_
-      116 (List._∷_ 115 (List._∷_ 58 (List._∷_ 58 (List._∷_ 66 (List._∷_ 105 (List._∷_ 116 (List._∷_ 80 (List._∷_ 111 (List._∷_ 115 (List._∷_ 105 (List._∷_ 116 (List._∷_ 105 (List._∷_ 111 (List._∷_ 110
-      List.[]))))))))))))))))) (Syntax.tcons (Syntax.tyInt Syntax.w64) Syntax.tnil)) (Syntax.tcons (Syntax.tyInt Syntax.w64) Syntax.tnil))))),
-) (List._∷_ (
-  13,
-  Rows'.any-gone (Syntax.tyArray (Syntax.tyInt
-      Syntax.w16) 768),
-) (List._∷_ (14, Rows'.any-gone (Syntax.tyRef Syntax.erased Syntax.mut (Syntax.tyInt Syntax.w16))) (List._∷_ (
-  15,
-  Rows'.any-gone (Syntax.tyStruct (List._∷_ 38 (List._∷_ 91
-      (List._∷_ 93 List.[]))) (Syntax.tcons (Syntax.tyRef Syntax.erased Syntax.mut (Syntax.tyInt Syntax.w16)) (Syntax.tcons (Syntax.tyInt Syntax.w64) Syntax.tnil))),
-) List.[])))))))))))))))
+t5 = List._∷_ e0 (List._∷_ e2 (List._∷_ e26 (List._∷_ e34 (List._∷_ e35 (List._∷_ e37 (List._∷_ e40 (List._∷_ e42 (List._∷_ e43 (List._∷_ e45 (List._∷_ e3 (List._∷_ e6 (List._∷_ e9 (List._∷_ e11
+    (List._∷_ e14 (List._∷_ e17 List.[])))))))))))))))
 
 abbrev pub t6 : List.List Row.Entry
-t6 = List._∷_ (
-  0,
-  Rows'.any-gone (Syntax.tyEnum (List._∷_ 98 (List._∷_ 108 (List._∷_ 111 (List._∷_ 99 (List._∷_ 107 (List._∷_ 58 (List._∷_ 58 (List._∷_ 68 (List._∷_ 101 (List._∷_ 99 (List._∷_ 111
-      (List._∷_ 100 (List._∷_ 101 (List._∷_ 100 List.[])))))))))))))) (Syntax.ttcons Syntax.tnil (Syntax.ttcons (Syntax.tcons (Syntax.tyEnum (List._∷_ 115 (List._∷_ 116 (List._∷_ 114 (List._∷_ 101 (List._∷_
-      97 (List._∷_ 109 (List._∷_ 58 (List._∷_ 58 (List._∷_ 82 (List._∷_ 101 (List._∷_ 102 (List._∷_ 117 (List._∷_ 115 (List._∷_ 97 (List._∷_ 108 List.[]))))))))))))))) (Syntax.ttcons Syntax.tnil
-      (Syntax.ttcons Syntax.tnil (Syntax.ttcons Syntax.tnil (Syntax.ttcons (Syntax.tcons (Syntax.tyInt Syntax.w64) Syntax.tnil) (Syntax.ttcons Syntax.tnil (Syntax.ttcons Syntax.tnil (Syntax.ttcons
-      Syntax.tnil (Syntax.ttcons Syntax.tnil (Syntax.ttcons Syntax.tnil (Syntax.ttcons Syntax.tnil (Syntax.ttcons (Syntax.tcons (Syntax.tyInt Syntax.w64) Syntax.tnil) (Syntax.ttcons (Syntax.tcons
-      (Syntax.tyInt Syntax.w64) Syntax.tnil) (Syntax.ttcons Syntax.tnil (Syntax.ttcons (Syntax.tcons (Syntax.tyInt Syntax.w64) (Syntax.tcons (Syntax.tyInt Syntax.w64) Syntax.tnil)) (Syntax.ttcons
-      (Syntax.tcons (Syntax.tyInt Syntax.w64) Syntax.tnil) Syntax.ttnil)))))))))))))))) Syntax.tnil) Syntax.ttnil))),
-) (List._∷_ (
-  1,
-  Rows'.sslice (Referent.rtF (Referent.fInt Syntax.w8)) (Syntax.tyRef
-      (Syntax.named 0) Syntax.imm (Syntax.tyInt Syntax.w8)) 0,
-) (List._∷_ (
-  2,
-  Rows'.any-gone (Syntax.tyStruct (List._∷_ 115 (List._∷_ 116 (List._∷_ 114 (List._∷_ 101 (List._∷_ 97 (List._∷_ 109 (List._∷_
-      58 (List._∷_ 58 (List._∷_ 70 (List._∷_ 117 (List._∷_ 106 (List._∷_ 105 (List._∷_ 72 (List._∷_ 101 (List._∷_ 97 (List._∷_ 100 (List._∷_ 101 (List._∷_ 114 List.[])))))))))))))))))) (Syntax.tcons
-      Syntax.tyBool (Syntax.tcons Syntax.tyBool (Syntax.tcons (Syntax.tyInt Syntax.w32) (Syntax.tcons (Syntax.tyInt Syntax.w32) (Syntax.tcons (Syntax.tyInt Syntax.w32) (Syntax.tcons (Syntax.tyInt
-      Syntax.w32) (Syntax.tcons (Syntax.tyInt Syntax.w32) (Syntax.tcons (Syntax.tyInt Syntax.w32) (Syntax.tcons (Syntax.tyInt Syntax.w32) Syntax.tnil)))))))))),
-) (List._∷_ (
-  3,
-  Rows'.sc-here (Row.sInt
-      Syntax.w64),
-) (List._∷_ (4, Mut.mslice (Referent.rtF (Referent.fInt Syntax.w16)) (Syntax.tyRef (Syntax.named 1) Syntax.mut (Syntax.tyInt Syntax.w16)) 1) (List._∷_ (
-  5,
-  Mut.mslice (Element.type)
-      (Syntax.tyRef (Syntax.named 2) Syntax.mut Element.behind) 2,
-) (List._∷_ (6, Rows'.whole (Declared'.row Form.the-type)) (List._∷_ (7, Rows'.sc-here (Row.sInt Syntax.w64)) (List._∷_ (
-  8,
-  Rows'.sslice (Referent.rtF (Referent.fInt Syntax.w8)) (Syntax.tyRef Syntax.erased Syntax.imm (Syntax.tyInt Syntax.w8)) 0,
-) (List._∷_ (
-  9,
-  Rows'.any-gone (Syntax.tyStruct (List._∷_ 38 (List._∷_ 91
-      (List._∷_ 93 List.[]))) (Syntax.tcons (Syntax.tyRef Syntax.erased Syntax.imm (Syntax.tyInt Syntax.w8)) (Syntax.tcons (Syntax.tyInt Syntax.w64) Syntax.tnil))),
-) (List._∷_ (
-  10,
-  Rows'.any-gone
-      (Syntax.tyArray (Syntax.tyInt Syntax.w16) 768),
-) (List._∷_ (11, Rows'.any-gone (Syntax.tyArray (Syntax.tyInt Syntax.w16) 1)) (List._∷_ (
-  12,
-  Rows'.any-gone (Syntax.tyStruct (List._∷_ 98 (List._∷_
-      108 (List._∷_ 111 (List._∷_ 99 (List._∷_ 107 (List._∷_ 58 (List._∷_ 58 (List._∷_ 87 (List._∷_ 97 (List._∷_ 108 (List._∷_ 107 (List._∷_ 101 (List._∷_ 100 List.[]))))))))))))) (Syntax.tcons
-      Syntax.tyBool (Syntax.tcons (Syntax.tyInt Syntax.w64) (Syntax.tcons (Syntax.tyStruct (List._∷_ 98 (List._∷_ 105 (List._∷_ 116 (List._∷_ 115 (List._∷_ 58 (List._∷_ 58 (List._∷_ 66 (List._∷_ 105
-      (List._∷_ 116 (List._∷_ 80 (List._∷_ 111 (List._∷_ 115 (List._∷_ 105 (List._∷_ 116 (List._∷_ 105 (List._∷_ 111 (List._∷_ 110 List.[]))))))))))))))))) (Syntax.tcons (Syntax.tyInt Syntax.w64)
-      Syntax.tnil)) (Syntax.tcons (Syntax.tyInt Syntax.w64) Syntax.tnil))))),
-) (List._∷_ (13, Rows'.any-gone (Syntax.tyArray (Syntax.tyInt Syntax.w16) 768)) (List._∷_ (
-  14,
-  Rows'.any-gone (Syntax.tyRef
-      Syntax.erased Syntax.mut (Syntax.tyInt Syntax.w16)),
-) (List._∷_ (
-  15,
-  Rows'.any-gone (Syntax.tyStruct (List._∷_ 38 (List._∷_ 91 (List._∷_ 93 List.[]))) (Syntax.tcons (Syntax.tyRef Syntax.erased
-      Syntax.mut (Syntax.tyInt Syntax.w16)) (Syntax.tcons (Syntax.tyInt Syntax.w64) Syntax.tnil))),
-) List.[])))))))))))))))
+t6 = List._∷_ e0 (List._∷_ e2 (List._∷_ e26 (List._∷_ e34 (List._∷_ e35 (List._∷_ e37 (List._∷_ e40 (List._∷_ e42 (List._∷_ e44 (List._∷_ e45 (List._∷_ e3 (List._∷_ e6 (List._∷_ e9 (List._∷_ e11
+    (List._∷_ e14 (List._∷_ e17 List.[])))))))))))))))
 
 abbrev pub t7 : List.List Row.Entry
-t7 = List._∷_ (
-  0,
-  Rows'.any-gone (Syntax.tyEnum (List._∷_ 98 (List._∷_ 108 (List._∷_ 111 (List._∷_ 99 (List._∷_ 107 (List._∷_ 58 (List._∷_ 58 (List._∷_ 68 (List._∷_ 101 (List._∷_ 99 (List._∷_ 111
-      (List._∷_ 100 (List._∷_ 101 (List._∷_ 100 List.[])))))))))))))) (Syntax.ttcons Syntax.tnil (Syntax.ttcons (Syntax.tcons (Syntax.tyEnum (List._∷_ 115 (List._∷_ 116 (List._∷_ 114 (List._∷_ 101 (List._∷_
-      97 (List._∷_ 109 (List._∷_ 58 (List._∷_ 58 (List._∷_ 82 (List._∷_ 101 (List._∷_ 102 (List._∷_ 117 (List._∷_ 115 (List._∷_ 97 (List._∷_ 108 List.[]))))))))))))))) (Syntax.ttcons Syntax.tnil
-      (Syntax.ttcons Syntax.tnil (Syntax.ttcons Syntax.tnil (Syntax.ttcons (Syntax.tcons (Syntax.tyInt Syntax.w64) Syntax.tnil) (Syntax.ttcons Syntax.tnil (Syntax.ttcons Syntax.tnil (Syntax.ttcons
-      Syntax.tnil (Syntax.ttcons Syntax.tnil (Syntax.ttcons Syntax.tnil (Syntax.ttcons Syntax.tnil (Syntax.ttcons (Syntax.tcons (Syntax.tyInt Syntax.w64) Syntax.tnil) (Syntax.ttcons (Syntax.tcons
-      (Syntax.tyInt Syntax.w64) Syntax.tnil) (Syntax.ttcons Syntax.tnil (Syntax.ttcons (Syntax.tcons (Syntax.tyInt Syntax.w64) (Syntax.tcons (Syntax.tyInt Syntax.w64) Syntax.tnil)) (Syntax.ttcons
-      (Syntax.tcons (Syntax.tyInt Syntax.w64) Syntax.tnil) Syntax.ttnil)))))))))))))))) Syntax.tnil) Syntax.ttnil))),
-) (List._∷_ (
-  1,
-  Rows'.sslice (Referent.rtF (Referent.fInt Syntax.w8)) (Syntax.tyRef
-      (Syntax.named 0) Syntax.imm (Syntax.tyInt Syntax.w8)) 0,
-) (List._∷_ (
-  2,
-  Rows'.any-gone (Syntax.tyStruct (List._∷_ 115 (List._∷_ 116 (List._∷_ 114 (List._∷_ 101 (List._∷_ 97 (List._∷_ 109 (List._∷_
-      58 (List._∷_ 58 (List._∷_ 70 (List._∷_ 117 (List._∷_ 106 (List._∷_ 105 (List._∷_ 72 (List._∷_ 101 (List._∷_ 97 (List._∷_ 100 (List._∷_ 101 (List._∷_ 114 List.[])))))))))))))))))) (Syntax.tcons
-      Syntax.tyBool (Syntax.tcons Syntax.tyBool (Syntax.tcons (Syntax.tyInt Syntax.w32) (Syntax.tcons (Syntax.tyInt Syntax.w32) (Syntax.tcons (Syntax.tyInt Syntax.w32) (Syntax.tcons (Syntax.tyInt
-      Syntax.w32) (Syntax.tcons (Syntax.tyInt Syntax.w32) (Syntax.tcons (Syntax.tyInt Syntax.w32) (Syntax.tcons (Syntax.tyInt Syntax.w32) Syntax.tnil)))))))))),
-) (List._∷_ (
-  3,
-  Rows'.sc-here (Row.sInt
-      Syntax.w64),
-) (List._∷_ (4, Mut.mslice (Referent.rtF (Referent.fInt Syntax.w16)) (Syntax.tyRef (Syntax.named 1) Syntax.mut (Syntax.tyInt Syntax.w16)) 1) (List._∷_ (
-  5,
-  Mut.mslice (Element.type)
-      (Syntax.tyRef (Syntax.named 2) Syntax.mut Element.behind) 2,
-) (List._∷_ (6, Rows'.whole (Declared'.row Form.the-type)) (List._∷_ (7, Rows'.sc-here (Row.sInt Syntax.w64)) (List._∷_ (
-  8,
-  Rows'.sslice (Referent.rtF (Referent.fInt Syntax.w8)) (Syntax.tyRef Syntax.erased Syntax.imm (Syntax.tyInt Syntax.w8)) 0,
-) (List._∷_ (
-  9,
-  Rows'.sslice (Referent.rtF (Referent.fInt Syntax.w8))
-      (Syntax.tyRef Syntax.erased Syntax.imm (Syntax.tyInt Syntax.w8)) 0,
-) (List._∷_ (10, Rows'.any-gone (Syntax.tyArray (Syntax.tyInt Syntax.w16) 768)) (List._∷_ (
-  11,
-  Rows'.any-gone (Syntax.tyArray
-      (Syntax.tyInt Syntax.w16) 1),
-) (List._∷_ (
-  12,
-  Rows'.any-gone (Syntax.tyStruct (List._∷_ 98 (List._∷_ 108 (List._∷_ 111 (List._∷_ 99 (List._∷_ 107 (List._∷_ 58 (List._∷_ 58 (List._∷_ 87 (List._∷_ 97
-      (List._∷_ 108 (List._∷_ 107 (List._∷_ 101 (List._∷_ 100 List.[]))))))))))))) (Syntax.tcons Syntax.tyBool (Syntax.tcons (Syntax.tyInt Syntax.w64) (Syntax.tcons (Syntax.tyStruct (List._∷_ 98 (List._∷_
-      105 (List._∷_ 116 (List._∷_ 115 (List._∷_ 58 (List._∷_ 58 (List._∷_ 66 (List._∷_ 105 (List._∷_ 116 (List._∷_ 80 (List._∷_ 111 (List._∷_ 115 (List._∷_ 105 (List._∷_ 116 (List._∷_ 105 (List._∷_ 111
-      (List._∷_ 110 List.[]))))))))))))))))) (Syntax.tcons (Syntax.tyInt Syntax.w64) Syntax.tnil)) (Syntax.tcons (Syntax.tyInt Syntax.w64) Syntax.tnil))))),
-) (List._∷_ (
-  13,
-  Rows'.any-gone (Syntax.tyArray
-      (Syntax.tyInt Syntax.w16) 768),
-) (List._∷_ (14, Rows'.any-gone (Syntax.tyRef Syntax.erased Syntax.mut (Syntax.tyInt Syntax.w16))) (List._∷_ (
-  15,
-  Rows'.any-gone (Syntax.tyStruct (List._∷_ 38
-      (List._∷_ 91 (List._∷_ 93 List.[]))) (Syntax.tcons (Syntax.tyRef Syntax.erased Syntax.mut (Syntax.tyInt Syntax.w16)) (Syntax.tcons (Syntax.tyInt Syntax.w64) Syntax.tnil))),
-) List.[])))))))))))))))
+t7 = List._∷_ e0 (List._∷_ e2 (List._∷_ e26 (List._∷_ e34 (List._∷_ e35 (List._∷_ e37 (List._∷_ e40 (List._∷_ e42 (List._∷_ e44 (List._∷_ e46 (List._∷_ e3 (List._∷_ e6 (List._∷_ e9 (List._∷_ e11
+    (List._∷_ e14 (List._∷_ e17 List.[])))))))))))))))
 
 abbrev pub t8 : List.List Row.Entry
-t8 = List._∷_ (
-  0,
-  Rows'.any-gone (Syntax.tyEnum (List._∷_ 98 (List._∷_ 108 (List._∷_ 111 (List._∷_ 99 (List._∷_ 107 (List._∷_ 58 (List._∷_ 58 (List._∷_ 68 (List._∷_ 101 (List._∷_ 99 (List._∷_ 111
-      (List._∷_ 100 (List._∷_ 101 (List._∷_ 100 List.[])))))))))))))) (Syntax.ttcons Syntax.tnil (Syntax.ttcons (Syntax.tcons (Syntax.tyEnum (List._∷_ 115 (List._∷_ 116 (List._∷_ 114 (List._∷_ 101 (List._∷_
-      97 (List._∷_ 109 (List._∷_ 58 (List._∷_ 58 (List._∷_ 82 (List._∷_ 101 (List._∷_ 102 (List._∷_ 117 (List._∷_ 115 (List._∷_ 97 (List._∷_ 108 List.[]))))))))))))))) (Syntax.ttcons Syntax.tnil
-      (Syntax.ttcons Syntax.tnil (Syntax.ttcons Syntax.tnil (Syntax.ttcons (Syntax.tcons (Syntax.tyInt Syntax.w64) Syntax.tnil) (Syntax.ttcons Syntax.tnil (Syntax.ttcons Syntax.tnil (Syntax.ttcons
-      Syntax.tnil (Syntax.ttcons Syntax.tnil (Syntax.ttcons Syntax.tnil (Syntax.ttcons Syntax.tnil (Syntax.ttcons (Syntax.tcons (Syntax.tyInt Syntax.w64) Syntax.tnil) (Syntax.ttcons (Syntax.tcons
-      (Syntax.tyInt Syntax.w64) Syntax.tnil) (Syntax.ttcons Syntax.tnil (Syntax.ttcons (Syntax.tcons (Syntax.tyInt Syntax.w64) (Syntax.tcons (Syntax.tyInt Syntax.w64) Syntax.tnil)) (Syntax.ttcons
-      (Syntax.tcons (Syntax.tyInt Syntax.w64) Syntax.tnil) Syntax.ttnil)))))))))))))))) Syntax.tnil) Syntax.ttnil))),
-) (List._∷_ (
-  1,
-  Rows'.sslice (Referent.rtF (Referent.fInt Syntax.w8)) (Syntax.tyRef
-      (Syntax.named 0) Syntax.imm (Syntax.tyInt Syntax.w8)) 0,
-) (List._∷_ (
-  2,
-  Rows'.any-gone (Syntax.tyStruct (List._∷_ 115 (List._∷_ 116 (List._∷_ 114 (List._∷_ 101 (List._∷_ 97 (List._∷_ 109 (List._∷_
-      58 (List._∷_ 58 (List._∷_ 70 (List._∷_ 117 (List._∷_ 106 (List._∷_ 105 (List._∷_ 72 (List._∷_ 101 (List._∷_ 97 (List._∷_ 100 (List._∷_ 101 (List._∷_ 114 List.[])))))))))))))))))) (Syntax.tcons
-      Syntax.tyBool (Syntax.tcons Syntax.tyBool (Syntax.tcons (Syntax.tyInt Syntax.w32) (Syntax.tcons (Syntax.tyInt Syntax.w32) (Syntax.tcons (Syntax.tyInt Syntax.w32) (Syntax.tcons (Syntax.tyInt
-      Syntax.w32) (Syntax.tcons (Syntax.tyInt Syntax.w32) (Syntax.tcons (Syntax.tyInt Syntax.w32) (Syntax.tcons (Syntax.tyInt Syntax.w32) Syntax.tnil)))))))))),
-) (List._∷_ (
-  3,
-  Rows'.sc-here (Row.sInt
-      Syntax.w64),
-) (List._∷_ (4, Mut.mslice (Referent.rtF (Referent.fInt Syntax.w16)) (Syntax.tyRef (Syntax.named 1) Syntax.mut (Syntax.tyInt Syntax.w16)) 1) (List._∷_ (
-  5,
-  Mut.mslice (Element.type)
-      (Syntax.tyRef (Syntax.named 2) Syntax.mut Element.behind) 2,
-) (List._∷_ (6, Rows'.whole (Declared'.row Form.the-type)) (List._∷_ (7, Rows'.sc-here (Row.sInt Syntax.w64)) (List._∷_ (
-  8,
-  Rows'.sslice (Referent.rtF (Referent.fInt Syntax.w8)) (Syntax.tyRef Syntax.erased Syntax.imm (Syntax.tyInt Syntax.w8)) 0,
-) (List._∷_ (
-  9,
-  Rows'.sslice (Referent.rtF (Referent.fInt Syntax.w8))
-      (Syntax.tyRef Syntax.erased Syntax.imm (Syntax.tyInt Syntax.w8)) 0,
-) (List._∷_ (10, Rows'.any-gone (Syntax.tyArray (Syntax.tyInt Syntax.w16) 768)) (List._∷_ (
-  11,
-  Rows'.any-gone (Syntax.tyArray
-      (Syntax.tyInt Syntax.w16) 1),
-) (List._∷_ (
-  12,
-  Rows'.any-gone (Syntax.tyStruct (List._∷_ 98 (List._∷_ 108 (List._∷_ 111 (List._∷_ 99 (List._∷_ 107 (List._∷_ 58 (List._∷_ 58 (List._∷_ 87 (List._∷_ 97
-      (List._∷_ 108 (List._∷_ 107 (List._∷_ 101 (List._∷_ 100 List.[]))))))))))))) (Syntax.tcons Syntax.tyBool (Syntax.tcons (Syntax.tyInt Syntax.w64) (Syntax.tcons (Syntax.tyStruct (List._∷_ 98 (List._∷_
-      105 (List._∷_ 116 (List._∷_ 115 (List._∷_ 58 (List._∷_ 58 (List._∷_ 66 (List._∷_ 105 (List._∷_ 116 (List._∷_ 80 (List._∷_ 111 (List._∷_ 115 (List._∷_ 105 (List._∷_ 116 (List._∷_ 105 (List._∷_ 111
-      (List._∷_ 110 List.[]))))))))))))))))) (Syntax.tcons (Syntax.tyInt Syntax.w64) Syntax.tnil)) (Syntax.tcons (Syntax.tyInt Syntax.w64) Syntax.tnil))))),
-) (List._∷_ (
-  13,
-  Rows.arrF (Referent.rtF
-      (Referent.fInt Syntax.w16)) 768 0,
-) (List._∷_ (14, Rows'.any-gone (Syntax.tyRef Syntax.erased Syntax.mut (Syntax.tyInt Syntax.w16))) (List._∷_ (
-  15,
-  Rows'.any-gone (Syntax.tyStruct (List._∷_ 38
-      (List._∷_ 91 (List._∷_ 93 List.[]))) (Syntax.tcons (Syntax.tyRef Syntax.erased Syntax.mut (Syntax.tyInt Syntax.w16)) (Syntax.tcons (Syntax.tyInt Syntax.w64) Syntax.tnil))),
-) List.[])))))))))))))))
+t8 = List._∷_ e0 (List._∷_ e2 (List._∷_ e26 (List._∷_ e34 (List._∷_ e35 (List._∷_ e37 (List._∷_ e40 (List._∷_ e42 (List._∷_ e44 (List._∷_ e46 (List._∷_ e3 (List._∷_ e6 (List._∷_ e9 (List._∷_ e12
+    (List._∷_ e14 (List._∷_ e17 List.[])))))))))))))))
 
 abbrev pub t9 : List.List Row.Entry
-t9 = List._∷_ (
-  0,
-  Rows'.any-gone (Syntax.tyEnum (List._∷_ 98 (List._∷_ 108 (List._∷_ 111 (List._∷_ 99 (List._∷_ 107 (List._∷_ 58 (List._∷_ 58 (List._∷_ 68 (List._∷_ 101 (List._∷_ 99 (List._∷_ 111
-      (List._∷_ 100 (List._∷_ 101 (List._∷_ 100 List.[])))))))))))))) (Syntax.ttcons Syntax.tnil (Syntax.ttcons (Syntax.tcons (Syntax.tyEnum (List._∷_ 115 (List._∷_ 116 (List._∷_ 114 (List._∷_ 101 (List._∷_
-      97 (List._∷_ 109 (List._∷_ 58 (List._∷_ 58 (List._∷_ 82 (List._∷_ 101 (List._∷_ 102 (List._∷_ 117 (List._∷_ 115 (List._∷_ 97 (List._∷_ 108 List.[]))))))))))))))) (Syntax.ttcons Syntax.tnil
-      (Syntax.ttcons Syntax.tnil (Syntax.ttcons Syntax.tnil (Syntax.ttcons (Syntax.tcons (Syntax.tyInt Syntax.w64) Syntax.tnil) (Syntax.ttcons Syntax.tnil (Syntax.ttcons Syntax.tnil (Syntax.ttcons
-      Syntax.tnil (Syntax.ttcons Syntax.tnil (Syntax.ttcons Syntax.tnil (Syntax.ttcons Syntax.tnil (Syntax.ttcons (Syntax.tcons (Syntax.tyInt Syntax.w64) Syntax.tnil) (Syntax.ttcons (Syntax.tcons
-      (Syntax.tyInt Syntax.w64) Syntax.tnil) (Syntax.ttcons Syntax.tnil (Syntax.ttcons (Syntax.tcons (Syntax.tyInt Syntax.w64) (Syntax.tcons (Syntax.tyInt Syntax.w64) Syntax.tnil)) (Syntax.ttcons
-      (Syntax.tcons (Syntax.tyInt Syntax.w64) Syntax.tnil) Syntax.ttnil)))))))))))))))) Syntax.tnil) Syntax.ttnil))),
-) (List._∷_ (
-  1,
-  Rows'.sslice (Referent.rtF (Referent.fInt Syntax.w8)) (Syntax.tyRef
-      (Syntax.named 0) Syntax.imm (Syntax.tyInt Syntax.w8)) 0,
-) (List._∷_ (
-  2,
-  Rows'.any-gone (Syntax.tyStruct (List._∷_ 115 (List._∷_ 116 (List._∷_ 114 (List._∷_ 101 (List._∷_ 97 (List._∷_ 109 (List._∷_
-      58 (List._∷_ 58 (List._∷_ 70 (List._∷_ 117 (List._∷_ 106 (List._∷_ 105 (List._∷_ 72 (List._∷_ 101 (List._∷_ 97 (List._∷_ 100 (List._∷_ 101 (List._∷_ 114 List.[])))))))))))))))))) (Syntax.tcons
-      Syntax.tyBool (Syntax.tcons Syntax.tyBool (Syntax.tcons (Syntax.tyInt Syntax.w32) (Syntax.tcons (Syntax.tyInt Syntax.w32) (Syntax.tcons (Syntax.tyInt Syntax.w32) (Syntax.tcons (Syntax.tyInt
-      Syntax.w32) (Syntax.tcons (Syntax.tyInt Syntax.w32) (Syntax.tcons (Syntax.tyInt Syntax.w32) (Syntax.tcons (Syntax.tyInt Syntax.w32) Syntax.tnil)))))))))),
-) (List._∷_ (
-  3,
-  Rows'.sc-here (Row.sInt
-      Syntax.w64),
-) (List._∷_ (4, Mut.mslice (Referent.rtF (Referent.fInt Syntax.w16)) (Syntax.tyRef (Syntax.named 1) Syntax.mut (Syntax.tyInt Syntax.w16)) 1) (List._∷_ (
-  5,
-  Mut.mslice (Element.type)
-      (Syntax.tyRef (Syntax.named 2) Syntax.mut Element.behind) 2,
-) (List._∷_ (6, Rows'.whole (Declared'.row Form.the-type)) (List._∷_ (7, Rows'.sc-here (Row.sInt Syntax.w64)) (List._∷_ (
-  8,
-  Rows'.sslice (Referent.rtF (Referent.fInt Syntax.w8)) (Syntax.tyRef Syntax.erased Syntax.imm (Syntax.tyInt Syntax.w8)) 0,
-) (List._∷_ (
-  9,
-  Rows'.sslice (Referent.rtF (Referent.fInt Syntax.w8))
-      (Syntax.tyRef Syntax.erased Syntax.imm (Syntax.tyInt Syntax.w8)) 0,
-) (List._∷_ (10, Rows.arrF (Referent.rtF (Referent.fInt Syntax.w16)) 768 0) (List._∷_ (
-  11,
-  Rows'.any-gone (Syntax.tyArray
-      (Syntax.tyInt Syntax.w16) 1),
-) (List._∷_ (
-  12,
-  Rows'.any-gone (Syntax.tyStruct (List._∷_ 98 (List._∷_ 108 (List._∷_ 111 (List._∷_ 99 (List._∷_ 107 (List._∷_ 58 (List._∷_ 58 (List._∷_ 87 (List._∷_ 97
-      (List._∷_ 108 (List._∷_ 107 (List._∷_ 101 (List._∷_ 100 List.[]))))))))))))) (Syntax.tcons Syntax.tyBool (Syntax.tcons (Syntax.tyInt Syntax.w64) (Syntax.tcons (Syntax.tyStruct (List._∷_ 98 (List._∷_
-      105 (List._∷_ 116 (List._∷_ 115 (List._∷_ 58 (List._∷_ 58 (List._∷_ 66 (List._∷_ 105 (List._∷_ 116 (List._∷_ 80 (List._∷_ 111 (List._∷_ 115 (List._∷_ 105 (List._∷_ 116 (List._∷_ 105 (List._∷_ 111
-      (List._∷_ 110 List.[]))))))))))))))))) (Syntax.tcons (Syntax.tyInt Syntax.w64) Syntax.tnil)) (Syntax.tcons (Syntax.tyInt Syntax.w64) Syntax.tnil))))),
-) (List._∷_ (
-  13,
-  Rows.arrF (Referent.rtF
-      (Referent.fInt Syntax.w16)) 768 0,
-) (List._∷_ (14, Rows'.any-gone (Syntax.tyRef Syntax.erased Syntax.mut (Syntax.tyInt Syntax.w16))) (List._∷_ (
-  15,
-  Rows'.any-gone (Syntax.tyStruct (List._∷_ 38
-      (List._∷_ 91 (List._∷_ 93 List.[]))) (Syntax.tcons (Syntax.tyRef Syntax.erased Syntax.mut (Syntax.tyInt Syntax.w16)) (Syntax.tcons (Syntax.tyInt Syntax.w64) Syntax.tnil))),
-) List.[])))))))))))))))
+t9 = List._∷_ e0 (List._∷_ e2 (List._∷_ e26 (List._∷_ e34 (List._∷_ e35 (List._∷_ e37 (List._∷_ e40 (List._∷_ e42 (List._∷_ e44 (List._∷_ e46 (List._∷_ e5 (List._∷_ e6 (List._∷_ e9 (List._∷_ e12
+    (List._∷_ e14 (List._∷_ e17 List.[])))))))))))))))
 
 abbrev pub t10 : List.List Row.Entry
-t10 = List._∷_ (
-  0,
-  Rows'.any-gone (Syntax.tyEnum (List._∷_ 98 (List._∷_ 108 (List._∷_ 111 (List._∷_ 99 (List._∷_ 107 (List._∷_ 58 (List._∷_ 58 (List._∷_ 68 (List._∷_ 101 (List._∷_ 99 (List._∷_ 111
-      (List._∷_ 100 (List._∷_ 101 (List._∷_ 100 List.[])))))))))))))) (Syntax.ttcons Syntax.tnil (Syntax.ttcons (Syntax.tcons (Syntax.tyEnum (List._∷_ 115 (List._∷_ 116 (List._∷_ 114 (List._∷_ 101 (List._∷_
-      97 (List._∷_ 109 (List._∷_ 58 (List._∷_ 58 (List._∷_ 82 (List._∷_ 101 (List._∷_ 102 (List._∷_ 117 (List._∷_ 115 (List._∷_ 97 (List._∷_ 108 List.[]))))))))))))))) (Syntax.ttcons Syntax.tnil
-      (Syntax.ttcons Syntax.tnil (Syntax.ttcons Syntax.tnil (Syntax.ttcons (Syntax.tcons (Syntax.tyInt Syntax.w64) Syntax.tnil) (Syntax.ttcons Syntax.tnil (Syntax.ttcons Syntax.tnil (Syntax.ttcons
-      Syntax.tnil (Syntax.ttcons Syntax.tnil (Syntax.ttcons Syntax.tnil (Syntax.ttcons Syntax.tnil (Syntax.ttcons (Syntax.tcons (Syntax.tyInt Syntax.w64) Syntax.tnil) (Syntax.ttcons (Syntax.tcons
-      (Syntax.tyInt Syntax.w64) Syntax.tnil) (Syntax.ttcons Syntax.tnil (Syntax.ttcons (Syntax.tcons (Syntax.tyInt Syntax.w64) (Syntax.tcons (Syntax.tyInt Syntax.w64) Syntax.tnil)) (Syntax.ttcons
-      (Syntax.tcons (Syntax.tyInt Syntax.w64) Syntax.tnil) Syntax.ttnil)))))))))))))))) Syntax.tnil) Syntax.ttnil))),
-) (List._∷_ (
-  1,
-  Rows'.sslice (Referent.rtF (Referent.fInt Syntax.w8)) (Syntax.tyRef
-      (Syntax.named 0) Syntax.imm (Syntax.tyInt Syntax.w8)) 0,
-) (List._∷_ (
-  2,
-  Rows'.any-gone (Syntax.tyStruct (List._∷_ 115 (List._∷_ 116 (List._∷_ 114 (List._∷_ 101 (List._∷_ 97 (List._∷_ 109 (List._∷_
-      58 (List._∷_ 58 (List._∷_ 70 (List._∷_ 117 (List._∷_ 106 (List._∷_ 105 (List._∷_ 72 (List._∷_ 101 (List._∷_ 97 (List._∷_ 100 (List._∷_ 101 (List._∷_ 114 List.[])))))))))))))))))) (Syntax.tcons
-      Syntax.tyBool (Syntax.tcons Syntax.tyBool (Syntax.tcons (Syntax.tyInt Syntax.w32) (Syntax.tcons (Syntax.tyInt Syntax.w32) (Syntax.tcons (Syntax.tyInt Syntax.w32) (Syntax.tcons (Syntax.tyInt
-      Syntax.w32) (Syntax.tcons (Syntax.tyInt Syntax.w32) (Syntax.tcons (Syntax.tyInt Syntax.w32) (Syntax.tcons (Syntax.tyInt Syntax.w32) Syntax.tnil)))))))))),
-) (List._∷_ (
-  3,
-  Rows'.sc-here (Row.sInt
-      Syntax.w64),
-) (List._∷_ (4, Mut.mslice (Referent.rtF (Referent.fInt Syntax.w16)) (Syntax.tyRef (Syntax.named 1) Syntax.mut (Syntax.tyInt Syntax.w16)) 1) (List._∷_ (
-  5,
-  Mut.mslice (Element.type)
-      (Syntax.tyRef (Syntax.named 2) Syntax.mut Element.behind) 2,
-) (List._∷_ (6, Rows'.whole (Declared'.row Form.the-type)) (List._∷_ (7, Rows'.sc-here (Row.sInt Syntax.w64)) (List._∷_ (
-  8,
-  Rows'.sslice (Referent.rtF (Referent.fInt Syntax.w8)) (Syntax.tyRef Syntax.erased Syntax.imm (Syntax.tyInt Syntax.w8)) 0,
-) (List._∷_ (
-  9,
-  Rows'.sslice (Referent.rtF (Referent.fInt Syntax.w8))
-      (Syntax.tyRef Syntax.erased Syntax.imm (Syntax.tyInt Syntax.w8)) 0,
-) (List._∷_ (10, Rows.arrF (Referent.rtF (Referent.fInt Syntax.w16)) 768 0) (List._∷_ (
-  11,
-  Rows'.any-gone (Syntax.tyArray
-      (Syntax.tyInt Syntax.w16) 1),
-) (List._∷_ (
-  12,
-  Rows'.any-gone (Syntax.tyStruct (List._∷_ 98 (List._∷_ 108 (List._∷_ 111 (List._∷_ 99 (List._∷_ 107 (List._∷_ 58 (List._∷_ 58 (List._∷_ 87 (List._∷_ 97
-      (List._∷_ 108 (List._∷_ 107 (List._∷_ 101 (List._∷_ 100 List.[]))))))))))))) (Syntax.tcons Syntax.tyBool (Syntax.tcons (Syntax.tyInt Syntax.w64) (Syntax.tcons (Syntax.tyStruct (List._∷_ 98 (List._∷_
-      105 (List._∷_ 116 (List._∷_ 115 (List._∷_ 58 (List._∷_ 58 (List._∷_ 66 (List._∷_ 105 (List._∷_ 116 (List._∷_ 80 (List._∷_ 111 (List._∷_ 115 (List._∷_ 105 (List._∷_ 116 (List._∷_ 105 (List._∷_ 111
-      (List._∷_ 110 List.[]))))))))))))))))) (Syntax.tcons (Syntax.tyInt Syntax.w64) Syntax.tnil)) (Syntax.tcons (Syntax.tyInt Syntax.w64) Syntax.tnil))))),
-) (List._∷_ (
-  13,
-  Rows'.any-gone (Syntax.tyArray
-      (Syntax.tyInt Syntax.w16) 768),
-) (List._∷_ (14, Rows'.any-gone (Syntax.tyRef Syntax.erased Syntax.mut (Syntax.tyInt Syntax.w16))) (List._∷_ (
-  15,
-  Rows'.any-gone (Syntax.tyStruct (List._∷_ 38
-      (List._∷_ 91 (List._∷_ 93 List.[]))) (Syntax.tcons (Syntax.tyRef Syntax.erased Syntax.mut (Syntax.tyInt Syntax.w16)) (Syntax.tcons (Syntax.tyInt Syntax.w64) Syntax.tnil))),
-) List.[])))))))))))))))
+t10 = List._∷_ e0 (List._∷_ e2 (List._∷_ e26 (List._∷_ e34 (List._∷_ e35 (List._∷_ e37 (List._∷_ e40 (List._∷_ e42 (List._∷_ e44 (List._∷_ e46 (List._∷_ e5 (List._∷_ e6 (List._∷_ e9 (List._∷_ e11
+    (List._∷_ e14 (List._∷_ e17 List.[])))))))))))))))
 
 abbrev pub t11 : List.List Row.Entry
-t11 = List._∷_ (
-  0,
-  Rows'.any-gone (Syntax.tyEnum (List._∷_ 98 (List._∷_ 108 (List._∷_ 111 (List._∷_ 99 (List._∷_ 107 (List._∷_ 58 (List._∷_ 58 (List._∷_ 68 (List._∷_ 101 (List._∷_ 99 (List._∷_ 111
-      (List._∷_ 100 (List._∷_ 101 (List._∷_ 100 List.[])))))))))))))) (Syntax.ttcons Syntax.tnil (Syntax.ttcons (Syntax.tcons (Syntax.tyEnum (List._∷_ 115 (List._∷_ 116 (List._∷_ 114 (List._∷_ 101 (List._∷_
-      97 (List._∷_ 109 (List._∷_ 58 (List._∷_ 58 (List._∷_ 82 (List._∷_ 101 (List._∷_ 102 (List._∷_ 117 (List._∷_ 115 (List._∷_ 97 (List._∷_ 108 List.[]))))))))))))))) (Syntax.ttcons Syntax.tnil
-      (Syntax.ttcons Syntax.tnil (Syntax.ttcons Syntax.tnil (Syntax.ttcons (Syntax.tcons (Syntax.tyInt Syntax.w64) Syntax.tnil) (Syntax.ttcons Syntax.tnil (Syntax.ttcons Syntax.tnil (Syntax.ttcons
-      Syntax.tnil (Syntax.ttcons Syntax.tnil (Syntax.ttcons Syntax.tnil (Syntax.ttcons Syntax.tnil (Syntax.ttcons (Syntax.tcons (Syntax.tyInt Syntax.w64) Syntax.tnil) (Syntax.ttcons (Syntax.tcons
-      (Syntax.tyInt Syntax.w64) Syntax.tnil) (Syntax.ttcons Syntax.tnil (Syntax.ttcons (Syntax.tcons (Syntax.tyInt Syntax.w64) (Syntax.tcons (Syntax.tyInt Syntax.w64) Syntax.tnil)) (Syntax.ttcons
-      (Syntax.tcons (Syntax.tyInt Syntax.w64) Syntax.tnil) Syntax.ttnil)))))))))))))))) Syntax.tnil) Syntax.ttnil))),
-) (List._∷_ (
-  1,
-  Rows'.sslice (Referent.rtF (Referent.fInt Syntax.w8)) (Syntax.tyRef
-      (Syntax.named 0) Syntax.imm (Syntax.tyInt Syntax.w8)) 0,
-) (List._∷_ (
-  2,
-  Rows'.any-gone (Syntax.tyStruct (List._∷_ 115 (List._∷_ 116 (List._∷_ 114 (List._∷_ 101 (List._∷_ 97 (List._∷_ 109 (List._∷_
-      58 (List._∷_ 58 (List._∷_ 70 (List._∷_ 117 (List._∷_ 106 (List._∷_ 105 (List._∷_ 72 (List._∷_ 101 (List._∷_ 97 (List._∷_ 100 (List._∷_ 101 (List._∷_ 114 List.[])))))))))))))))))) (Syntax.tcons
-      Syntax.tyBool (Syntax.tcons Syntax.tyBool (Syntax.tcons (Syntax.tyInt Syntax.w32) (Syntax.tcons (Syntax.tyInt Syntax.w32) (Syntax.tcons (Syntax.tyInt Syntax.w32) (Syntax.tcons (Syntax.tyInt
-      Syntax.w32) (Syntax.tcons (Syntax.tyInt Syntax.w32) (Syntax.tcons (Syntax.tyInt Syntax.w32) (Syntax.tcons (Syntax.tyInt Syntax.w32) Syntax.tnil)))))))))),
-) (List._∷_ (
-  3,
-  Rows'.sc-here (Row.sInt
-      Syntax.w64),
-) (List._∷_ (4, Mut.mslice (Referent.rtF (Referent.fInt Syntax.w16)) (Syntax.tyRef (Syntax.named 1) Syntax.mut (Syntax.tyInt Syntax.w16)) 1) (List._∷_ (
-  5,
-  Mut.mslice (Element.type)
-      (Syntax.tyRef (Syntax.named 2) Syntax.mut Element.behind) 2,
-) (List._∷_ (6, Rows'.whole (Declared'.row Form.the-type)) (List._∷_ (7, Rows'.sc-here (Row.sInt Syntax.w64)) (List._∷_ (
-  8,
-  Rows'.sslice (Referent.rtF (Referent.fInt Syntax.w8)) (Syntax.tyRef Syntax.erased Syntax.imm (Syntax.tyInt Syntax.w8)) 0,
-) (List._∷_ (
-  9,
-  Rows'.sslice (Referent.rtF (Referent.fInt Syntax.w8))
-      (Syntax.tyRef Syntax.erased Syntax.imm (Syntax.tyInt Syntax.w8)) 0,
-) (List._∷_ (10, Rows.arrF (Referent.rtF (Referent.fInt Syntax.w16)) 768 0) (List._∷_ (
-  11,
-  Rows'.whole (Array'.Array (Referent.rtF
-      (Referent.fInt Syntax.w16)) 1),
-) (List._∷_ (
-  12,
-  Rows'.any-gone (Syntax.tyStruct (List._∷_ 98 (List._∷_ 108 (List._∷_ 111 (List._∷_ 99 (List._∷_ 107 (List._∷_ 58 (List._∷_ 58 (List._∷_ 87 (List._∷_
-      97 (List._∷_ 108 (List._∷_ 107 (List._∷_ 101 (List._∷_ 100 List.[]))))))))))))) (Syntax.tcons Syntax.tyBool (Syntax.tcons (Syntax.tyInt Syntax.w64) (Syntax.tcons (Syntax.tyStruct (List._∷_ 98
-      (List._∷_ 105 (List._∷_ 116 (List._∷_ 115 (List._∷_ 58 (List._∷_ 58 (List._∷_ 66 (List._∷_ 105 (List._∷_ 116 (List._∷_ 80 (List._∷_ 111 (List._∷_ 115 (List._∷_ 105 (List._∷_ 116 (List._∷_ 105
-      (List._∷_ 111 (List._∷_ 110 List.[]))))))))))))))))) (Syntax.tcons (Syntax.tyInt Syntax.w64) Syntax.tnil)) (Syntax.tcons (Syntax.tyInt Syntax.w64) Syntax.tnil))))),
-) (List._∷_ (
-  13,
-  Rows'.any-gone
-      (Syntax.tyArray (Syntax.tyInt Syntax.w16) 768),
-) (List._∷_ (14, Rows'.any-gone (Syntax.tyRef Syntax.erased Syntax.mut (Syntax.tyInt Syntax.w16))) (List._∷_ (
-  15,
-  Rows'.any-gone (Syntax.tyStruct
-      (List._∷_ 38 (List._∷_ 91 (List._∷_ 93 List.[]))) (Syntax.tcons (Syntax.tyRef Syntax.erased Syntax.mut (Syntax.tyInt Syntax.w16)) (Syntax.tcons (Syntax.tyInt Syntax.w64) Syntax.tnil))),
-)
-    List.[])))))))))))))))
+t11 = List._∷_ e0 (List._∷_ e2 (List._∷_ e26 (List._∷_ e34 (List._∷_ e35 (List._∷_ e37 (List._∷_ e40 (List._∷_ e42 (List._∷_ e44 (List._∷_ e46 (List._∷_ e5 (List._∷_
+    (11, Rows'.whole (Array'.Array (Referent.rtF (Referent.fInt Syntax.w16)) 1)) (List._∷_ e9 (List._∷_ e11 (List._∷_ e14 (List._∷_ e17 List.[])))))))))))))))
 
 abbrev pub t12 : List.List Row.Entry
-t12 = List._∷_ (
-  0,
-  Rows'.any-gone (Syntax.tyEnum (List._∷_ 98 (List._∷_ 108 (List._∷_ 111 (List._∷_ 99 (List._∷_ 107 (List._∷_ 58 (List._∷_ 58 (List._∷_ 68 (List._∷_ 101 (List._∷_ 99 (List._∷_ 111
-      (List._∷_ 100 (List._∷_ 101 (List._∷_ 100 List.[])))))))))))))) (Syntax.ttcons Syntax.tnil (Syntax.ttcons (Syntax.tcons (Syntax.tyEnum (List._∷_ 115 (List._∷_ 116 (List._∷_ 114 (List._∷_ 101 (List._∷_
-      97 (List._∷_ 109 (List._∷_ 58 (List._∷_ 58 (List._∷_ 82 (List._∷_ 101 (List._∷_ 102 (List._∷_ 117 (List._∷_ 115 (List._∷_ 97 (List._∷_ 108 List.[]))))))))))))))) (Syntax.ttcons Syntax.tnil
-      (Syntax.ttcons Syntax.tnil (Syntax.ttcons Syntax.tnil (Syntax.ttcons (Syntax.tcons (Syntax.tyInt Syntax.w64) Syntax.tnil) (Syntax.ttcons Syntax.tnil (Syntax.ttcons Syntax.tnil (Syntax.ttcons
-      Syntax.tnil (Syntax.ttcons Syntax.tnil (Syntax.ttcons Syntax.tnil (Syntax.ttcons Syntax.tnil (Syntax.ttcons (Syntax.tcons (Syntax.tyInt Syntax.w64) Syntax.tnil) (Syntax.ttcons (Syntax.tcons
-      (Syntax.tyInt Syntax.w64) Syntax.tnil) (Syntax.ttcons Syntax.tnil (Syntax.ttcons (Syntax.tcons (Syntax.tyInt Syntax.w64) (Syntax.tcons (Syntax.tyInt Syntax.w64) Syntax.tnil)) (Syntax.ttcons
-      (Syntax.tcons (Syntax.tyInt Syntax.w64) Syntax.tnil) Syntax.ttnil)))))))))))))))) Syntax.tnil) Syntax.ttnil))),
-) (List._∷_ (
-  1,
-  Rows'.sslice (Referent.rtF (Referent.fInt Syntax.w8)) (Syntax.tyRef
-      (Syntax.named 0) Syntax.imm (Syntax.tyInt Syntax.w8)) 0,
-) (List._∷_ (
-  2,
-  Rows'.any-gone (Syntax.tyStruct (List._∷_ 115 (List._∷_ 116 (List._∷_ 114 (List._∷_ 101 (List._∷_ 97 (List._∷_ 109 (List._∷_
-      58 (List._∷_ 58 (List._∷_ 70 (List._∷_ 117 (List._∷_ 106 (List._∷_ 105 (List._∷_ 72 (List._∷_ 101 (List._∷_ 97 (List._∷_ 100 (List._∷_ 101 (List._∷_ 114 List.[])))))))))))))))))) (Syntax.tcons
-      Syntax.tyBool (Syntax.tcons Syntax.tyBool (Syntax.tcons (Syntax.tyInt Syntax.w32) (Syntax.tcons (Syntax.tyInt Syntax.w32) (Syntax.tcons (Syntax.tyInt Syntax.w32) (Syntax.tcons (Syntax.tyInt
-      Syntax.w32) (Syntax.tcons (Syntax.tyInt Syntax.w32) (Syntax.tcons (Syntax.tyInt Syntax.w32) (Syntax.tcons (Syntax.tyInt Syntax.w32) Syntax.tnil)))))))))),
-) (List._∷_ (
-  3,
-  Rows'.sc-here (Row.sInt
-      Syntax.w64),
-) (List._∷_ (4, Mut.mslice (Referent.rtF (Referent.fInt Syntax.w16)) (Syntax.tyRef (Syntax.named 1) Syntax.mut (Syntax.tyInt Syntax.w16)) 1) (List._∷_ (
-  5,
-  Mut.mslice (Element.type)
-      (Syntax.tyRef (Syntax.named 2) Syntax.mut Element.behind) 2,
-) (List._∷_ (6, Rows'.whole (Declared'.row Form.the-type)) (List._∷_ (7, Rows'.sc-here (Row.sInt Syntax.w64)) (List._∷_ (
-  8,
-  Rows'.sslice (Referent.rtF (Referent.fInt Syntax.w8)) (Syntax.tyRef Syntax.erased Syntax.imm (Syntax.tyInt Syntax.w8)) 0,
-) (List._∷_ (
-  9,
-  Rows'.sslice (Referent.rtF (Referent.fInt Syntax.w8))
-      (Syntax.tyRef Syntax.erased Syntax.imm (Syntax.tyInt Syntax.w8)) 0,
-) (List._∷_ (10, Rows.arrF (Referent.rtF (Referent.fInt Syntax.w16)) 768 0) (List._∷_ (
-  11,
-  Rows.arrF (Referent.rtF (Referent.fInt
-      Syntax.w16)) 1 0,
-) (List._∷_ (
-  12,
-  Rows'.any-gone (Syntax.tyStruct (List._∷_ 98 (List._∷_ 108 (List._∷_ 111 (List._∷_ 99 (List._∷_ 107 (List._∷_ 58 (List._∷_ 58 (List._∷_ 87 (List._∷_ 97 (List._∷_
-      108 (List._∷_ 107 (List._∷_ 101 (List._∷_ 100 List.[]))))))))))))) (Syntax.tcons Syntax.tyBool (Syntax.tcons (Syntax.tyInt Syntax.w64) (Syntax.tcons (Syntax.tyStruct (List._∷_ 98 (List._∷_ 105
-      (List._∷_ 116 (List._∷_ 115 (List._∷_ 58 (List._∷_ 58 (List._∷_ 66 (List._∷_ 105 (List._∷_ 116 (List._∷_ 80 (List._∷_ 111 (List._∷_ 115 (List._∷_ 105 (List._∷_ 116 (List._∷_ 105 (List._∷_ 111
-      (List._∷_ 110 List.[]))))))))))))))))) (Syntax.tcons (Syntax.tyInt Syntax.w64) Syntax.tnil)) (Syntax.tcons (Syntax.tyInt Syntax.w64) Syntax.tnil))))),
-) (List._∷_ (
-  13,
-  Rows'.any-gone (Syntax.tyArray
-      (Syntax.tyInt Syntax.w16) 768),
-) (List._∷_ (14, Rows'.any-gone (Syntax.tyRef Syntax.erased Syntax.mut (Syntax.tyInt Syntax.w16))) (List._∷_ (
-  15,
-  Rows'.any-gone (Syntax.tyStruct (List._∷_ 38
-      (List._∷_ 91 (List._∷_ 93 List.[]))) (Syntax.tcons (Syntax.tyRef Syntax.erased Syntax.mut (Syntax.tyInt Syntax.w16)) (Syntax.tcons (Syntax.tyInt Syntax.w64) Syntax.tnil))),
-) List.[])))))))))))))))
+t12 = List._∷_ e0 (List._∷_ e2 (List._∷_ e26 (List._∷_ e34 (List._∷_ e35 (List._∷_ e37 (List._∷_ e40 (List._∷_ e42 (List._∷_ e44 (List._∷_ e46 (List._∷_ e5 (List._∷_ e8 (List._∷_ e9 (List._∷_ e11
+    (List._∷_ e14 (List._∷_ e17 List.[])))))))))))))))
 
 abbrev pub t13 : List.List Row.Entry
-t13 = List._∷_ (
-  0,
-  Rows'.any-gone (Syntax.tyEnum (List._∷_ 98 (List._∷_ 108 (List._∷_ 111 (List._∷_ 99 (List._∷_ 107 (List._∷_ 58 (List._∷_ 58 (List._∷_ 68 (List._∷_ 101 (List._∷_ 99 (List._∷_ 111
-      (List._∷_ 100 (List._∷_ 101 (List._∷_ 100 List.[])))))))))))))) (Syntax.ttcons Syntax.tnil (Syntax.ttcons (Syntax.tcons (Syntax.tyEnum (List._∷_ 115 (List._∷_ 116 (List._∷_ 114 (List._∷_ 101 (List._∷_
-      97 (List._∷_ 109 (List._∷_ 58 (List._∷_ 58 (List._∷_ 82 (List._∷_ 101 (List._∷_ 102 (List._∷_ 117 (List._∷_ 115 (List._∷_ 97 (List._∷_ 108 List.[]))))))))))))))) (Syntax.ttcons Syntax.tnil
-      (Syntax.ttcons Syntax.tnil (Syntax.ttcons Syntax.tnil (Syntax.ttcons (Syntax.tcons (Syntax.tyInt Syntax.w64) Syntax.tnil) (Syntax.ttcons Syntax.tnil (Syntax.ttcons Syntax.tnil (Syntax.ttcons
-      Syntax.tnil (Syntax.ttcons Syntax.tnil (Syntax.ttcons Syntax.tnil (Syntax.ttcons Syntax.tnil (Syntax.ttcons (Syntax.tcons (Syntax.tyInt Syntax.w64) Syntax.tnil) (Syntax.ttcons (Syntax.tcons
-      (Syntax.tyInt Syntax.w64) Syntax.tnil) (Syntax.ttcons Syntax.tnil (Syntax.ttcons (Syntax.tcons (Syntax.tyInt Syntax.w64) (Syntax.tcons (Syntax.tyInt Syntax.w64) Syntax.tnil)) (Syntax.ttcons
-      (Syntax.tcons (Syntax.tyInt Syntax.w64) Syntax.tnil) Syntax.ttnil)))))))))))))))) Syntax.tnil) Syntax.ttnil))),
-) (List._∷_ (
-  1,
-  Rows'.sslice (Referent.rtF (Referent.fInt Syntax.w8)) (Syntax.tyRef
-      (Syntax.named 0) Syntax.imm (Syntax.tyInt Syntax.w8)) 0,
-) (List._∷_ (
-  2,
-  Rows'.any-gone (Syntax.tyStruct (List._∷_ 115 (List._∷_ 116 (List._∷_ 114 (List._∷_ 101 (List._∷_ 97 (List._∷_ 109 (List._∷_
-      58 (List._∷_ 58 (List._∷_ 70 (List._∷_ 117 (List._∷_ 106 (List._∷_ 105 (List._∷_ 72 (List._∷_ 101 (List._∷_ 97 (List._∷_ 100 (List._∷_ 101 (List._∷_ 114 List.[])))))))))))))))))) (Syntax.tcons
-      Syntax.tyBool (Syntax.tcons Syntax.tyBool (Syntax.tcons (Syntax.tyInt Syntax.w32) (Syntax.tcons (Syntax.tyInt Syntax.w32) (Syntax.tcons (Syntax.tyInt Syntax.w32) (Syntax.tcons (Syntax.tyInt
-      Syntax.w32) (Syntax.tcons (Syntax.tyInt Syntax.w32) (Syntax.tcons (Syntax.tyInt Syntax.w32) (Syntax.tcons (Syntax.tyInt Syntax.w32) Syntax.tnil)))))))))),
-) (List._∷_ (
-  3,
-  Rows'.sc-here (Row.sInt
-      Syntax.w64),
-) (List._∷_ (4, Relend.mslice-owed (Referent.rtF (Referent.fInt Syntax.w16)) (Syntax.tyRef (Syntax.named 1) Syntax.mut (Syntax.tyInt Syntax.w16)) 1 3 Row.off) (List._∷_ (
-  5,
-  Mut.mslice
-      (Element.type) (Syntax.tyRef (Syntax.named 2) Syntax.mut Element.behind) 2,
-) (List._∷_ (6, Rows'.whole (Declared'.row Form.the-type)) (List._∷_ (7, Rows'.sc-here (Row.sInt Syntax.w64)) (List._∷_ (
-  8,
-  Rows'.sslice (Referent.rtF (Referent.fInt Syntax.w8)) (Syntax.tyRef Syntax.erased Syntax.imm (Syntax.tyInt Syntax.w8)) 0,
-) (List._∷_ (
-  9,
-  Rows'.sslice (Referent.rtF (Referent.fInt Syntax.w8))
-      (Syntax.tyRef Syntax.erased Syntax.imm (Syntax.tyInt Syntax.w8)) 0,
-) (List._∷_ (10, Rows.arrF (Referent.rtF (Referent.fInt Syntax.w16)) 768 0) (List._∷_ (
-  11,
-  Rows.arrF (Referent.rtF (Referent.fInt
-      Syntax.w16)) 1 0,
-) (List._∷_ (
-  12,
-  Rows'.any-gone (Syntax.tyStruct (List._∷_ 98 (List._∷_ 108 (List._∷_ 111 (List._∷_ 99 (List._∷_ 107 (List._∷_ 58 (List._∷_ 58 (List._∷_ 87 (List._∷_ 97 (List._∷_
-      108 (List._∷_ 107 (List._∷_ 101 (List._∷_ 100 List.[]))))))))))))) (Syntax.tcons Syntax.tyBool (Syntax.tcons (Syntax.tyInt Syntax.w64) (Syntax.tcons (Syntax.tyStruct (List._∷_ 98 (List._∷_ 105
-      (List._∷_ 116 (List._∷_ 115 (List._∷_ 58 (List._∷_ 58 (List._∷_ 66 (List._∷_ 105 (List._∷_ 116 (List._∷_ 80 (List._∷_ 111 (List._∷_ 115 (List._∷_ 105 (List._∷_ 116 (List._∷_ 105 (List._∷_ 111
-      (List._∷_ 110 List.[]))))))))))))))))) (Syntax.tcons (Syntax.tyInt Syntax.w64) Syntax.tnil)) (Syntax.tcons (Syntax.tyInt Syntax.w64) Syntax.tnil))))),
-) (List._∷_ (
-  13,
-  Rows'.any-gone (Syntax.tyArray
-      (Syntax.tyInt Syntax.w16) 768),
-) (List._∷_ (14, Relend.msptr (Referent.rtF (Referent.fInt Syntax.w16)) (Syntax.tyRef Syntax.erased Syntax.mut (Syntax.tyInt Syntax.w16)) 3) (List._∷_ (
-  15,
-  Rows'.any-gone (Syntax.tyStruct (List._∷_ 38 (List._∷_ 91 (List._∷_ 93 List.[]))) (Syntax.tcons (Syntax.tyRef Syntax.erased Syntax.mut (Syntax.tyInt Syntax.w16)) (Syntax.tcons (Syntax.tyInt
-      Syntax.w64) Syntax.tnil))),
-) List.[])))))))))))))))
+t13 = List._∷_ e0 (List._∷_ e2 (List._∷_ e26 (List._∷_ e34 (List._∷_ e36 (List._∷_ e37 (List._∷_ e40 (List._∷_ e42 (List._∷_ e44 (List._∷_ e46 (List._∷_ e5 (List._∷_ e8 (List._∷_ e9 (List._∷_ e11
+    (List._∷_ e13 (List._∷_ e17 List.[])))))))))))))))
 
 abbrev pub t14 : List.List Row.Entry
-t14 = List._∷_ (
-  0,
-  Rows'.any-gone (Syntax.tyEnum (List._∷_ 98 (List._∷_ 108 (List._∷_ 111 (List._∷_ 99 (List._∷_ 107 (List._∷_ 58 (List._∷_ 58 (List._∷_ 68 (List._∷_ 101 (List._∷_ 99 (List._∷_ 111
-      (List._∷_ 100 (List._∷_ 101 (List._∷_ 100 List.[])))))))))))))) (Syntax.ttcons Syntax.tnil (Syntax.ttcons (Syntax.tcons (Syntax.tyEnum (List._∷_ 115 (List._∷_ 116 (List._∷_ 114 (List._∷_ 101 (List._∷_
-      97 (List._∷_ 109 (List._∷_ 58 (List._∷_ 58 (List._∷_ 82 (List._∷_ 101 (List._∷_ 102 (List._∷_ 117 (List._∷_ 115 (List._∷_ 97 (List._∷_ 108 List.[]))))))))))))))) (Syntax.ttcons Syntax.tnil
-      (Syntax.ttcons Syntax.tnil (Syntax.ttcons Syntax.tnil (Syntax.ttcons (Syntax.tcons (Syntax.tyInt Syntax.w64) Syntax.tnil) (Syntax.ttcons Syntax.tnil (Syntax.ttcons Syntax.tnil (Syntax.ttcons
-      Syntax.tnil (Syntax.ttcons Syntax.tnil (Syntax.ttcons Syntax.tnil (Syntax.ttcons Syntax.tnil (Syntax.ttcons (Syntax.tcons (Syntax.tyInt Syntax.w64) Syntax.tnil) (Syntax.ttcons (Syntax.tcons
-      (Syntax.tyInt Syntax.w64) Syntax.tnil) (Syntax.ttcons Syntax.tnil (Syntax.ttcons (Syntax.tcons (Syntax.tyInt Syntax.w64) (Syntax.tcons (Syntax.tyInt Syntax.w64) Syntax.tnil)) (Syntax.ttcons
-      (Syntax.tcons (Syntax.tyInt Syntax.w64) Syntax.tnil) Syntax.ttnil)))))))))))))))) Syntax.tnil) Syntax.ttnil))),
-) (List._∷_ (
-  1,
-  Rows'.sslice (Referent.rtF (Referent.fInt Syntax.w8)) (Syntax.tyRef
-      (Syntax.named 0) Syntax.imm (Syntax.tyInt Syntax.w8)) 0,
-) (List._∷_ (
-  2,
-  Rows'.any-gone (Syntax.tyStruct (List._∷_ 115 (List._∷_ 116 (List._∷_ 114 (List._∷_ 101 (List._∷_ 97 (List._∷_ 109 (List._∷_
-      58 (List._∷_ 58 (List._∷_ 70 (List._∷_ 117 (List._∷_ 106 (List._∷_ 105 (List._∷_ 72 (List._∷_ 101 (List._∷_ 97 (List._∷_ 100 (List._∷_ 101 (List._∷_ 114 List.[])))))))))))))))))) (Syntax.tcons
-      Syntax.tyBool (Syntax.tcons Syntax.tyBool (Syntax.tcons (Syntax.tyInt Syntax.w32) (Syntax.tcons (Syntax.tyInt Syntax.w32) (Syntax.tcons (Syntax.tyInt Syntax.w32) (Syntax.tcons (Syntax.tyInt
-      Syntax.w32) (Syntax.tcons (Syntax.tyInt Syntax.w32) (Syntax.tcons (Syntax.tyInt Syntax.w32) (Syntax.tcons (Syntax.tyInt Syntax.w32) Syntax.tnil)))))))))),
-) (List._∷_ (
-  3,
-  Rows'.sc-here (Row.sInt
-      Syntax.w64),
-) (List._∷_ (4, Relend.mslice-owed (Referent.rtF (Referent.fInt Syntax.w16)) (Syntax.tyRef (Syntax.named 1) Syntax.mut (Syntax.tyInt Syntax.w16)) 1 3 Row.off) (List._∷_ (
-  5,
-  Mut.mslice
-      (Element.type) (Syntax.tyRef (Syntax.named 2) Syntax.mut Element.behind) 2,
-) (List._∷_ (6, Rows'.whole (Declared'.row Form.the-type)) (List._∷_ (7, Rows'.sc-here (Row.sInt Syntax.w64)) (List._∷_ (
-  8,
-  Rows'.sslice (Referent.rtF (Referent.fInt Syntax.w8)) (Syntax.tyRef Syntax.erased Syntax.imm (Syntax.tyInt Syntax.w8)) 0,
-) (List._∷_ (
-  9,
-  Rows'.sslice (Referent.rtF (Referent.fInt Syntax.w8))
-      (Syntax.tyRef Syntax.erased Syntax.imm (Syntax.tyInt Syntax.w8)) 0,
-) (List._∷_ (10, Rows.arrF (Referent.rtF (Referent.fInt Syntax.w16)) 768 0) (List._∷_ (
-  11,
-  Rows.arrF (Referent.rtF (Referent.fInt
-      Syntax.w16)) 1 0,
-) (List._∷_ (
-  12,
-  Rows'.any-gone (Syntax.tyStruct (List._∷_ 98 (List._∷_ 108 (List._∷_ 111 (List._∷_ 99 (List._∷_ 107 (List._∷_ 58 (List._∷_ 58 (List._∷_ 87 (List._∷_ 97 (List._∷_
-      108 (List._∷_ 107 (List._∷_ 101 (List._∷_ 100 List.[]))))))))))))) (Syntax.tcons Syntax.tyBool (Syntax.tcons (Syntax.tyInt Syntax.w64) (Syntax.tcons (Syntax.tyStruct (List._∷_ 98 (List._∷_ 105
-      (List._∷_ 116 (List._∷_ 115 (List._∷_ 58 (List._∷_ 58 (List._∷_ 66 (List._∷_ 105 (List._∷_ 116 (List._∷_ 80 (List._∷_ 111 (List._∷_ 115 (List._∷_ 105 (List._∷_ 116 (List._∷_ 105 (List._∷_ 111
-      (List._∷_ 110 List.[]))))))))))))))))) (Syntax.tcons (Syntax.tyInt Syntax.w64) Syntax.tnil)) (Syntax.tcons (Syntax.tyInt Syntax.w64) Syntax.tnil))))),
-) (List._∷_ (
-  13,
-  Rows'.any-gone (Syntax.tyArray
-      (Syntax.tyInt Syntax.w16) 768),
-) (List._∷_ (14, Rows'.any-gone (Syntax.tyRef Syntax.erased Syntax.mut (Syntax.tyInt Syntax.w16))) (List._∷_ (
-  15,
-  Mut.mslice (Referent.rtF (Referent.fInt Syntax.w16))
-      (Syntax.tyRef Syntax.erased Syntax.mut (Syntax.tyInt Syntax.w16)) 3,
-) List.[])))))))))))))))
+t14 = List._∷_ e0 (List._∷_ e2 (List._∷_ e26 (List._∷_ e34 (List._∷_ e36 (List._∷_ e37 (List._∷_ e40 (List._∷_ e42 (List._∷_ e44 (List._∷_ e46 (List._∷_ e5 (List._∷_ e8 (List._∷_ e9 (List._∷_ e11
+    (List._∷_ e14 (List._∷_ e16 List.[])))))))))))))))
 
 abbrev pub t15 : List.List Row.Entry
-t15 = List._∷_ (
-  0,
-  Rows'.any-gone (Syntax.tyEnum (List._∷_ 98 (List._∷_ 108 (List._∷_ 111 (List._∷_ 99 (List._∷_ 107 (List._∷_ 58 (List._∷_ 58 (List._∷_ 68 (List._∷_ 101 (List._∷_ 99 (List._∷_ 111
-      (List._∷_ 100 (List._∷_ 101 (List._∷_ 100 List.[])))))))))))))) (Syntax.ttcons Syntax.tnil (Syntax.ttcons (Syntax.tcons (Syntax.tyEnum (List._∷_ 115 (List._∷_ 116 (List._∷_ 114 (List._∷_ 101 (List._∷_
-      97 (List._∷_ 109 (List._∷_ 58 (List._∷_ 58 (List._∷_ 82 (List._∷_ 101 (List._∷_ 102 (List._∷_ 117 (List._∷_ 115 (List._∷_ 97 (List._∷_ 108 List.[]))))))))))))))) (Syntax.ttcons Syntax.tnil
-      (Syntax.ttcons Syntax.tnil (Syntax.ttcons Syntax.tnil (Syntax.ttcons (Syntax.tcons (Syntax.tyInt Syntax.w64) Syntax.tnil) (Syntax.ttcons Syntax.tnil (Syntax.ttcons Syntax.tnil (Syntax.ttcons
-      Syntax.tnil (Syntax.ttcons Syntax.tnil (Syntax.ttcons Syntax.tnil (Syntax.ttcons Syntax.tnil (Syntax.ttcons (Syntax.tcons (Syntax.tyInt Syntax.w64) Syntax.tnil) (Syntax.ttcons (Syntax.tcons
-      (Syntax.tyInt Syntax.w64) Syntax.tnil) (Syntax.ttcons Syntax.tnil (Syntax.ttcons (Syntax.tcons (Syntax.tyInt Syntax.w64) (Syntax.tcons (Syntax.tyInt Syntax.w64) Syntax.tnil)) (Syntax.ttcons
-      (Syntax.tcons (Syntax.tyInt Syntax.w64) Syntax.tnil) Syntax.ttnil)))))))))))))))) Syntax.tnil) Syntax.ttnil))),
-) (List._∷_ (
-  1,
-  Rows'.sslice (Referent.rtF (Referent.fInt Syntax.w8)) (Syntax.tyRef
-      (Syntax.named 0) Syntax.imm (Syntax.tyInt Syntax.w8)) 0,
-) (List._∷_ (
-  2,
-  Rows'.any-gone (Syntax.tyStruct (List._∷_ 115 (List._∷_ 116 (List._∷_ 114 (List._∷_ 101 (List._∷_ 97 (List._∷_ 109 (List._∷_
-      58 (List._∷_ 58 (List._∷_ 70 (List._∷_ 117 (List._∷_ 106 (List._∷_ 105 (List._∷_ 72 (List._∷_ 101 (List._∷_ 97 (List._∷_ 100 (List._∷_ 101 (List._∷_ 114 List.[])))))))))))))))))) (Syntax.tcons
-      Syntax.tyBool (Syntax.tcons Syntax.tyBool (Syntax.tcons (Syntax.tyInt Syntax.w32) (Syntax.tcons (Syntax.tyInt Syntax.w32) (Syntax.tcons (Syntax.tyInt Syntax.w32) (Syntax.tcons (Syntax.tyInt
-      Syntax.w32) (Syntax.tcons (Syntax.tyInt Syntax.w32) (Syntax.tcons (Syntax.tyInt Syntax.w32) (Syntax.tcons (Syntax.tyInt Syntax.w32) Syntax.tnil)))))))))),
-) (List._∷_ (
-  3,
-  Rows'.sc-here (Row.sInt
-      Syntax.w64),
-) (List._∷_ (4, Relend.mslice-owed (Referent.rtF (Referent.fInt Syntax.w16)) (Syntax.tyRef (Syntax.named 1) Syntax.mut (Syntax.tyInt Syntax.w16)) 1 3 Row.off) (List._∷_ (
-  5,
-  Relend.mslice-owed (Element.type) (Syntax.tyRef (Syntax.named 2) Syntax.mut Element.behind) 2 4 Row.off,
-) (List._∷_ (6, Rows'.whole (Declared'.row Form.the-type)) (List._∷_ (
-  7,
-  Rows'.sc-here
-      (Row.sInt Syntax.w64),
-) (List._∷_ (8, Rows'.sslice (Referent.rtF (Referent.fInt Syntax.w8)) (Syntax.tyRef Syntax.erased Syntax.imm (Syntax.tyInt Syntax.w8)) 0) (List._∷_ (
-  9,
-  Rows'.sslice
-      (Referent.rtF (Referent.fInt Syntax.w8)) (Syntax.tyRef Syntax.erased Syntax.imm (Syntax.tyInt Syntax.w8)) 0,
-) (List._∷_ (10, Rows.arrF (Referent.rtF (Referent.fInt Syntax.w16)) 768 0) (List._∷_ (
-  11,
-  Rows.arrF (Referent.rtF (Referent.fInt Syntax.w16)) 1 0,
-) (List._∷_ (
-  12,
-  Rows'.any-gone (Syntax.tyStruct (List._∷_ 98 (List._∷_ 108 (List._∷_ 111 (List._∷_ 99 (List._∷_ 107 (List._∷_ 58 (List._∷_ 58
-      (List._∷_ 87 (List._∷_ 97 (List._∷_ 108 (List._∷_ 107 (List._∷_ 101 (List._∷_ 100 List.[]))))))))))))) (Syntax.tcons Syntax.tyBool (Syntax.tcons (Syntax.tyInt Syntax.w64) (Syntax.tcons
-      (Syntax.tyStruct (List._∷_ 98 (List._∷_ 105 (List._∷_ 116 (List._∷_ 115 (List._∷_ 58 (List._∷_ 58 (List._∷_ 66 (List._∷_ 105 (List._∷_ 116 (List._∷_ 80 (List._∷_ 111 (List._∷_ 115 (List._∷_ 105
-      (List._∷_ 116 (List._∷_ 105 (List._∷_ 111 (List._∷_ 110 List.[]))))))))))))))))) (Syntax.tcons (Syntax.tyInt Syntax.w64) Syntax.tnil)) (Syntax.tcons (Syntax.tyInt Syntax.w64) Syntax.tnil))))),
-)
-    (List._∷_ (13, Rows'.any-gone (Syntax.tyArray (Syntax.tyInt Syntax.w16) 768)) (List._∷_ (14, Rows'.any-gone (Syntax.tyRef Syntax.erased Syntax.mut (Syntax.tyInt Syntax.w16))) (List._∷_ (
-      15,
-      Mut.mslice (Referent.rtF (Referent.fInt Syntax.w16)) (Syntax.tyRef Syntax.erased Syntax.mut (Syntax.tyInt Syntax.w16)) 3,
-    ) List.[])))))))))))))))
+t15 = List._∷_ e0 (List._∷_ e2 (List._∷_ e26 (List._∷_ e34 (List._∷_ e36 (List._∷_ e38 (List._∷_ e40 (List._∷_ e42 (List._∷_ e44 (List._∷_ e46 (List._∷_ e5 (List._∷_ e8 (List._∷_ e9 (List._∷_ e11
+    (List._∷_ e14 (List._∷_ e16 List.[])))))))))))))))
 
 abbrev pub t16 : List.List Row.Entry
-t16 = List._∷_ (16, Relend.msptr (Element.type) (Syntax.tyRef Syntax.erased Syntax.mut Element.behind) 4) (List._∷_ (
-  17,
-  Rows'.any-gone (Syntax.tyStruct (List._∷_ 38 (List._∷_ 91 (List._∷_ 93
-      List.[]))) (Syntax.tcons (Syntax.tyRef Syntax.erased Syntax.mut Element.behind) (Syntax.tcons (Syntax.tyInt Syntax.w64) Syntax.tnil))),
-) (List._∷_ (
-  18,
-  Rows'.any-gone (Syntax.tyRef Syntax.erased
-      Syntax.mut (Syntax.tyArray (Syntax.tyInt Syntax.w16) 1)),
-) (List._∷_ (
-  19,
-  Rows'.any-gone (Syntax.tyStruct (List._∷_ 38 (List._∷_ 91 (List._∷_ 93 List.[]))) (Syntax.tcons (Syntax.tyRef Syntax.erased
-      Syntax.mut (Syntax.tyInt Syntax.w16)) (Syntax.tcons (Syntax.tyInt Syntax.w64) Syntax.tnil))),
-) (List._∷_ (
-  20,
-  Rows'.any-gone (Syntax.tyRef Syntax.erased Syntax.imm (Syntax.tyArray (Syntax.tyInt
-      Syntax.w16) 768)),
-) (List._∷_ (21, Rows'.any-gone (Syntax.tyArray (Syntax.tyInt Syntax.w8) 36)) (List._∷_ (
-  22,
-  Rows'.any-gone (Syntax.tyStruct (List._∷_ 109 (List._∷_ 97 (List._∷_ 112 (List._∷_ 58
-      (List._∷_ 58 (List._∷_ 80 (List._∷_ 97 (List._∷_ 114 (List._∷_ 116 List.[]))))))))) (Syntax.tcons (Syntax.tyInt Syntax.w64) (Syntax.tcons (Syntax.tyInt Syntax.w64) (Syntax.tcons (Syntax.tyInt
-      Syntax.w64) (Syntax.tcons (Syntax.tyInt Syntax.w64) (Syntax.tcons (Syntax.tyInt Syntax.w64) (Syntax.tcons (Syntax.tyInt Syntax.w64) Syntax.tnil))))))),
-) List.[]))))))
-
-abbrev pub t17 : List.List Row.Entry
-t17 = List._∷_ (16, Rows'.any-gone (Syntax.tyRef Syntax.erased Syntax.mut Element.behind)) (List._∷_ (17, Mut.mslice (Element.type) (Syntax.tyRef Syntax.erased Syntax.mut Element.behind) 4)
-    (List._∷_ (18, Rows'.any-gone (Syntax.tyRef Syntax.erased Syntax.mut (Syntax.tyArray (Syntax.tyInt Syntax.w16) 1))) (List._∷_ (
-      19,
-      Rows'.any-gone (Syntax.tyStruct (List._∷_ 38 (List._∷_ 91
-          (List._∷_ 93 List.[]))) (Syntax.tcons (Syntax.tyRef Syntax.erased Syntax.mut (Syntax.tyInt Syntax.w16)) (Syntax.tcons (Syntax.tyInt Syntax.w64) Syntax.tnil))),
-    ) (List._∷_ (
-      20,
-      Rows'.any-gone
-          (Syntax.tyRef Syntax.erased Syntax.imm (Syntax.tyArray (Syntax.tyInt Syntax.w16) 768)),
-    ) (List._∷_ (21, Rows'.any-gone (Syntax.tyArray (Syntax.tyInt Syntax.w8) 36)) (List._∷_ (
-      22,
-      Rows'.any-gone
-          (Syntax.tyStruct (List._∷_ 109 (List._∷_ 97 (List._∷_ 112 (List._∷_ 58 (List._∷_ 58 (List._∷_ 80 (List._∷_ 97 (List._∷_ 114 (List._∷_ 116 List.[]))))))))) (Syntax.tcons (Syntax.tyInt Syntax.w64)
-          (Syntax.tcons (Syntax.tyInt Syntax.w64) (Syntax.tcons (Syntax.tyInt Syntax.w64) (Syntax.tcons (Syntax.tyInt Syntax.w64) (Syntax.tcons (Syntax.tyInt Syntax.w64) (Syntax.tcons (Syntax.tyInt Syntax.w64)
-          Syntax.tnil))))))),
-    ) List.[]))))))
-
-abbrev pub t18 : List.List Row.Entry
-t18 = List._∷_ (
-  0,
-  Rows'.any-gone (Syntax.tyEnum (List._∷_ 98 (List._∷_ 108 (List._∷_ 111 (List._∷_ 99 (List._∷_ 107 (List._∷_ 58 (List._∷_ 58 (List._∷_ 68 (List._∷_ 101 (List._∷_ 99 (List._∷_ 111
-      (List._∷_ 100 (List._∷_ 101 (List._∷_ 100 List.[])))))))))))))) (Syntax.ttcons Syntax.tnil (Syntax.ttcons (Syntax.tcons (Syntax.tyEnum (List._∷_ 115 (List._∷_ 116 (List._∷_ 114 (List._∷_ 101 (List._∷_
-      97 (List._∷_ 109 (List._∷_ 58 (List._∷_ 58 (List._∷_ 82 (List._∷_ 101 (List._∷_ 102 (List._∷_ 117 (List._∷_ 115 (List._∷_ 97 (List._∷_ 108 List.[]))))))))))))))) (Syntax.ttcons Syntax.tnil
-      (Syntax.ttcons Syntax.tnil (Syntax.ttcons Syntax.tnil (Syntax.ttcons (Syntax.tcons (Syntax.tyInt Syntax.w64) Syntax.tnil) (Syntax.ttcons Syntax.tnil (Syntax.ttcons Syntax.tnil (Syntax.ttcons
-      Syntax.tnil (Syntax.ttcons Syntax.tnil (Syntax.ttcons Syntax.tnil (Syntax.ttcons Syntax.tnil (Syntax.ttcons (Syntax.tcons (Syntax.tyInt Syntax.w64) Syntax.tnil) (Syntax.ttcons (Syntax.tcons
-      (Syntax.tyInt Syntax.w64) Syntax.tnil) (Syntax.ttcons Syntax.tnil (Syntax.ttcons (Syntax.tcons (Syntax.tyInt Syntax.w64) (Syntax.tcons (Syntax.tyInt Syntax.w64) Syntax.tnil)) (Syntax.ttcons
-      (Syntax.tcons (Syntax.tyInt Syntax.w64) Syntax.tnil) Syntax.ttnil)))))))))))))))) Syntax.tnil) Syntax.ttnil))),
-) (List._∷_ (
-  1,
-  Rows'.sslice (Referent.rtF (Referent.fInt Syntax.w8)) (Syntax.tyRef
-      (Syntax.named 0) Syntax.imm (Syntax.tyInt Syntax.w8)) 0,
-) (List._∷_ (
-  2,
-  Rows'.any-gone (Syntax.tyStruct (List._∷_ 115 (List._∷_ 116 (List._∷_ 114 (List._∷_ 101 (List._∷_ 97 (List._∷_ 109 (List._∷_
-      58 (List._∷_ 58 (List._∷_ 70 (List._∷_ 117 (List._∷_ 106 (List._∷_ 105 (List._∷_ 72 (List._∷_ 101 (List._∷_ 97 (List._∷_ 100 (List._∷_ 101 (List._∷_ 114 List.[])))))))))))))))))) (Syntax.tcons
-      Syntax.tyBool (Syntax.tcons Syntax.tyBool (Syntax.tcons (Syntax.tyInt Syntax.w32) (Syntax.tcons (Syntax.tyInt Syntax.w32) (Syntax.tcons (Syntax.tyInt Syntax.w32) (Syntax.tcons (Syntax.tyInt
-      Syntax.w32) (Syntax.tcons (Syntax.tyInt Syntax.w32) (Syntax.tcons (Syntax.tyInt Syntax.w32) (Syntax.tcons (Syntax.tyInt Syntax.w32) Syntax.tnil)))))))))),
-) (List._∷_ (
-  3,
-  Rows'.sc-here (Row.sInt
-      Syntax.w64),
-) (List._∷_ (4, Relend.mslice-owed (Referent.rtF (Referent.fInt Syntax.w16)) (Syntax.tyRef (Syntax.named 1) Syntax.mut (Syntax.tyInt Syntax.w16)) 1 3 Row.off) (List._∷_ (
-  5,
-  Relend.mslice-owed (Element.type) (Syntax.tyRef (Syntax.named 2) Syntax.mut Element.behind) 2 4 Row.off,
-) (List._∷_ (6, Rows'.whole (Declared'.row Form.the-type)) (List._∷_ (
-  7,
-  Rows'.sc-here
-      (Row.sInt Syntax.w64),
-) (List._∷_ (8, Rows'.sslice (Referent.rtF (Referent.fInt Syntax.w8)) (Syntax.tyRef Syntax.erased Syntax.imm (Syntax.tyInt Syntax.w8)) 0) (List._∷_ (
-  9,
-  Rows'.sslice
-      (Referent.rtF (Referent.fInt Syntax.w8)) (Syntax.tyRef Syntax.erased Syntax.imm (Syntax.tyInt Syntax.w8)) 0,
-) (List._∷_ (10, Rows.arrF (Referent.rtF (Referent.fInt Syntax.w16)) 768 0) (List._∷_ (
-  11,
-  Rows.arr-owed (Referent.rtF (Referent.fInt Syntax.w16)) 1 5,
-) (List._∷_ (
-  12,
-  Rows'.any-gone (Syntax.tyStruct (List._∷_ 98 (List._∷_ 108 (List._∷_ 111 (List._∷_ 99 (List._∷_ 107 (List._∷_ 58
-      (List._∷_ 58 (List._∷_ 87 (List._∷_ 97 (List._∷_ 108 (List._∷_ 107 (List._∷_ 101 (List._∷_ 100 List.[]))))))))))))) (Syntax.tcons Syntax.tyBool (Syntax.tcons (Syntax.tyInt Syntax.w64) (Syntax.tcons
-      (Syntax.tyStruct (List._∷_ 98 (List._∷_ 105 (List._∷_ 116 (List._∷_ 115 (List._∷_ 58 (List._∷_ 58 (List._∷_ 66 (List._∷_ 105 (List._∷_ 116 (List._∷_ 80 (List._∷_ 111 (List._∷_ 115 (List._∷_ 105
-      (List._∷_ 116 (List._∷_ 105 (List._∷_ 111 (List._∷_ 110 List.[]))))))))))))))))) (Syntax.tcons (Syntax.tyInt Syntax.w64) Syntax.tnil)) (Syntax.tcons (Syntax.tyInt Syntax.w64) Syntax.tnil))))),
-)
-    (List._∷_ (13, Rows'.any-gone (Syntax.tyArray (Syntax.tyInt Syntax.w16) 768)) (List._∷_ (14, Rows'.any-gone (Syntax.tyRef Syntax.erased Syntax.mut (Syntax.tyInt Syntax.w16))) (List._∷_ (
-      15,
-      Mut.mslice (Referent.rtF (Referent.fInt Syntax.w16)) (Syntax.tyRef Syntax.erased Syntax.mut (Syntax.tyInt Syntax.w16)) 3,
-    ) List.[])))))))))))))))
-
-abbrev pub t19 : List.List Row.Entry
-t19 = List._∷_ (16, Rows'.any-gone (Syntax.tyRef Syntax.erased Syntax.mut Element.behind)) (List._∷_ (17, Mut.mslice (Element.type) (Syntax.tyRef Syntax.erased Syntax.mut Element.behind) 4)
-    (List._∷_ (18, Relend.msptr (Referent.rtF (Referent.fInt Syntax.w16)) (Syntax.tyRef Syntax.erased Syntax.mut (Syntax.tyArray (Syntax.tyInt Syntax.w16) 1)) 5) (List._∷_ (
-      19,
-      Rows'.any-gone
-          (Syntax.tyStruct (List._∷_ 38 (List._∷_ 91 (List._∷_ 93 List.[]))) (Syntax.tcons (Syntax.tyRef Syntax.erased Syntax.mut (Syntax.tyInt Syntax.w16)) (Syntax.tcons (Syntax.tyInt Syntax.w64)
-          Syntax.tnil))),
-    ) (List._∷_ (20, Rows'.any-gone (Syntax.tyRef Syntax.erased Syntax.imm (Syntax.tyArray (Syntax.tyInt Syntax.w16) 768))) (List._∷_ (
-      21,
-      Rows'.any-gone (Syntax.tyArray (Syntax.tyInt
-          Syntax.w8) 36),
-    ) (List._∷_ (
-      22,
-      Rows'.any-gone (Syntax.tyStruct (List._∷_ 109 (List._∷_ 97 (List._∷_ 112 (List._∷_ 58 (List._∷_ 58 (List._∷_ 80 (List._∷_ 97 (List._∷_ 114 (List._∷_ 116
-          List.[]))))))))) (Syntax.tcons (Syntax.tyInt Syntax.w64) (Syntax.tcons (Syntax.tyInt Syntax.w64) (Syntax.tcons (Syntax.tyInt Syntax.w64) (Syntax.tcons (Syntax.tyInt Syntax.w64) (Syntax.tcons
-          (Syntax.tyInt Syntax.w64) (Syntax.tcons (Syntax.tyInt Syntax.w64) Syntax.tnil))))))),
-    ) List.[]))))))
-
-abbrev pub t20 : List.List Row.Entry
-t20 = List._∷_ (16, Rows'.any-gone (Syntax.tyRef Syntax.erased Syntax.mut Element.behind)) (List._∷_ (17, Mut.mslice (Element.type) (Syntax.tyRef Syntax.erased Syntax.mut Element.behind) 4)
-    (List._∷_ (18, Rows'.any-gone (Syntax.tyRef Syntax.erased Syntax.mut (Syntax.tyArray (Syntax.tyInt Syntax.w16) 1))) (List._∷_ (
-      19,
-      Mut.mslice (Referent.rtF (Referent.fInt Syntax.w16))
-          (Syntax.tyRef Syntax.erased Syntax.mut (Syntax.tyInt Syntax.w16)) 5,
-    ) (List._∷_ (20, Rows'.any-gone (Syntax.tyRef Syntax.erased Syntax.imm (Syntax.tyArray (Syntax.tyInt Syntax.w16) 768)))
-    (List._∷_ (21, Rows'.any-gone (Syntax.tyArray (Syntax.tyInt Syntax.w8) 36)) (List._∷_ (
-      22,
-      Rows'.any-gone (Syntax.tyStruct (List._∷_ 109 (List._∷_ 97 (List._∷_ 112 (List._∷_ 58 (List._∷_ 58 (List._∷_
-          80 (List._∷_ 97 (List._∷_ 114 (List._∷_ 116 List.[]))))))))) (Syntax.tcons (Syntax.tyInt Syntax.w64) (Syntax.tcons (Syntax.tyInt Syntax.w64) (Syntax.tcons (Syntax.tyInt Syntax.w64) (Syntax.tcons
-          (Syntax.tyInt Syntax.w64) (Syntax.tcons (Syntax.tyInt Syntax.w64) (Syntax.tcons (Syntax.tyInt Syntax.w64) Syntax.tnil))))))),
-    ) List.[]))))))
-
-abbrev pub t21 : List.List Row.Entry
-t21 = List._∷_ (
-  0,
-  Rows'.any-gone (Syntax.tyEnum (List._∷_ 98 (List._∷_ 108 (List._∷_ 111 (List._∷_ 99 (List._∷_ 107 (List._∷_ 58 (List._∷_ 58 (List._∷_ 68 (List._∷_ 101 (List._∷_ 99 (List._∷_ 111
-      (List._∷_ 100 (List._∷_ 101 (List._∷_ 100 List.[])))))))))))))) (Syntax.ttcons Syntax.tnil (Syntax.ttcons (Syntax.tcons (Syntax.tyEnum (List._∷_ 115 (List._∷_ 116 (List._∷_ 114 (List._∷_ 101 (List._∷_
-      97 (List._∷_ 109 (List._∷_ 58 (List._∷_ 58 (List._∷_ 82 (List._∷_ 101 (List._∷_ 102 (List._∷_ 117 (List._∷_ 115 (List._∷_ 97 (List._∷_ 108 List.[]))))))))))))))) (Syntax.ttcons Syntax.tnil
-      (Syntax.ttcons Syntax.tnil (Syntax.ttcons Syntax.tnil (Syntax.ttcons (Syntax.tcons (Syntax.tyInt Syntax.w64) Syntax.tnil) (Syntax.ttcons Syntax.tnil (Syntax.ttcons Syntax.tnil (Syntax.ttcons
-      Syntax.tnil (Syntax.ttcons Syntax.tnil (Syntax.ttcons Syntax.tnil (Syntax.ttcons Syntax.tnil (Syntax.ttcons (Syntax.tcons (Syntax.tyInt Syntax.w64) Syntax.tnil) (Syntax.ttcons (Syntax.tcons
-      (Syntax.tyInt Syntax.w64) Syntax.tnil) (Syntax.ttcons Syntax.tnil (Syntax.ttcons (Syntax.tcons (Syntax.tyInt Syntax.w64) (Syntax.tcons (Syntax.tyInt Syntax.w64) Syntax.tnil)) (Syntax.ttcons
-      (Syntax.tcons (Syntax.tyInt Syntax.w64) Syntax.tnil) Syntax.ttnil)))))))))))))))) Syntax.tnil) Syntax.ttnil))),
-) (List._∷_ (
-  1,
-  Rows'.sslice (Referent.rtF (Referent.fInt Syntax.w8)) (Syntax.tyRef
-      (Syntax.named 0) Syntax.imm (Syntax.tyInt Syntax.w8)) 0,
-) (List._∷_ (
-  2,
-  Rows'.any-gone (Syntax.tyStruct (List._∷_ 115 (List._∷_ 116 (List._∷_ 114 (List._∷_ 101 (List._∷_ 97 (List._∷_ 109 (List._∷_
-      58 (List._∷_ 58 (List._∷_ 70 (List._∷_ 117 (List._∷_ 106 (List._∷_ 105 (List._∷_ 72 (List._∷_ 101 (List._∷_ 97 (List._∷_ 100 (List._∷_ 101 (List._∷_ 114 List.[])))))))))))))))))) (Syntax.tcons
-      Syntax.tyBool (Syntax.tcons Syntax.tyBool (Syntax.tcons (Syntax.tyInt Syntax.w32) (Syntax.tcons (Syntax.tyInt Syntax.w32) (Syntax.tcons (Syntax.tyInt Syntax.w32) (Syntax.tcons (Syntax.tyInt
-      Syntax.w32) (Syntax.tcons (Syntax.tyInt Syntax.w32) (Syntax.tcons (Syntax.tyInt Syntax.w32) (Syntax.tcons (Syntax.tyInt Syntax.w32) Syntax.tnil)))))))))),
-) (List._∷_ (
-  3,
-  Rows'.sc-here (Row.sInt
-      Syntax.w64),
-) (List._∷_ (4, Relend.mslice-owed (Referent.rtF (Referent.fInt Syntax.w16)) (Syntax.tyRef (Syntax.named 1) Syntax.mut (Syntax.tyInt Syntax.w16)) 1 3 Row.off) (List._∷_ (
-  5,
-  Relend.mslice-owed (Element.type) (Syntax.tyRef (Syntax.named 2) Syntax.mut Element.behind) 2 4 Row.off,
-) (List._∷_ (6, Rows'.whole (Declared'.row Form.the-type)) (List._∷_ (
-  7,
-  Rows'.sc-here
-      (Row.sInt Syntax.w64),
-) (List._∷_ (8, Rows'.sslice (Referent.rtF (Referent.fInt Syntax.w8)) (Syntax.tyRef Syntax.erased Syntax.imm (Syntax.tyInt Syntax.w8)) 0) (List._∷_ (
-  9,
-  Rows'.sslice
-      (Referent.rtF (Referent.fInt Syntax.w8)) (Syntax.tyRef Syntax.erased Syntax.imm (Syntax.tyInt Syntax.w8)) 0,
-) (List._∷_ (
-  10,
-  Rows'.sc-shr (Rows.arrF (Referent.rtF (Referent.fInt Syntax.w16)) 768 0)
-      (Array'.Array (Referent.rtF (Referent.fInt Syntax.w16)) 768) (λ x. x) 6,
-) (List._∷_ (11, Rows.arr-owed (Referent.rtF (Referent.fInt Syntax.w16)) 1 5) (List._∷_ (
-  12,
-  Rows'.any-gone (Syntax.tyStruct
-      (List._∷_ 98 (List._∷_ 108 (List._∷_ 111 (List._∷_ 99 (List._∷_ 107 (List._∷_ 58 (List._∷_ 58 (List._∷_ 87 (List._∷_ 97 (List._∷_ 108 (List._∷_ 107 (List._∷_ 101 (List._∷_ 100 List.[])))))))))))))
-      (Syntax.tcons Syntax.tyBool (Syntax.tcons (Syntax.tyInt Syntax.w64) (Syntax.tcons (Syntax.tyStruct (List._∷_ 98 (List._∷_ 105 (List._∷_ 116 (List._∷_ 115 (List._∷_ 58 (List._∷_ 58 (List._∷_ 66
-      (List._∷_ 105 (List._∷_ 116 (List._∷_ 80 (List._∷_ 111 (List._∷_ 115 (List._∷_ 105 (List._∷_ 116 (List._∷_ 105 (List._∷_ 111 (List._∷_ 110 List.[]))))))))))))))))) (Syntax.tcons (Syntax.tyInt
-      Syntax.w64) Syntax.tnil)) (Syntax.tcons (Syntax.tyInt Syntax.w64) Syntax.tnil))))),
-) (List._∷_ (13, Rows'.any-gone (Syntax.tyArray (Syntax.tyInt Syntax.w16) 768)) (List._∷_ (
-  14,
-  Rows'.any-gone
-      (Syntax.tyRef Syntax.erased Syntax.mut (Syntax.tyInt Syntax.w16)),
-) (List._∷_ (
-  15,
-  Mut.mslice (Referent.rtF (Referent.fInt Syntax.w16)) (Syntax.tyRef Syntax.erased Syntax.mut (Syntax.tyInt
-      Syntax.w16)) 3,
-) List.[])))))))))))))))
-
-abbrev pub t22 : List.List Row.Entry
-t22 = List._∷_ (16, Rows'.any-gone (Syntax.tyRef Syntax.erased Syntax.mut Element.behind)) (List._∷_ (17, Mut.mslice (Element.type) (Syntax.tyRef Syntax.erased Syntax.mut Element.behind) 4)
-    (List._∷_ (18, Rows'.any-gone (Syntax.tyRef Syntax.erased Syntax.mut (Syntax.tyArray (Syntax.tyInt Syntax.w16) 1))) (List._∷_ (
-      19,
-      Mut.mslice (Referent.rtF (Referent.fInt Syntax.w16))
-          (Syntax.tyRef Syntax.erased Syntax.mut (Syntax.tyInt Syntax.w16)) 5,
-    ) (List._∷_ (
-      20,
-      Rows'.sref (Array'.Array (Referent.rtF (Referent.fInt Syntax.w16)) 768) (Syntax.tyRef Syntax.erased Syntax.imm
-          (Syntax.tyArray (Syntax.tyInt Syntax.w16) 768)) 6,
-    ) (List._∷_ (21, Rows'.any-gone (Syntax.tyArray (Syntax.tyInt Syntax.w8) 36)) (List._∷_ (
-      22,
-      Rows'.any-gone (Syntax.tyStruct (List._∷_ 109 (List._∷_
-          97 (List._∷_ 112 (List._∷_ 58 (List._∷_ 58 (List._∷_ 80 (List._∷_ 97 (List._∷_ 114 (List._∷_ 116 List.[]))))))))) (Syntax.tcons (Syntax.tyInt Syntax.w64) (Syntax.tcons (Syntax.tyInt Syntax.w64)
-          (Syntax.tcons (Syntax.tyInt Syntax.w64) (Syntax.tcons (Syntax.tyInt Syntax.w64) (Syntax.tcons (Syntax.tyInt Syntax.w64) (Syntax.tcons (Syntax.tyInt Syntax.w64) Syntax.tnil))))))),
-    ) List.[]))))))
-
-abbrev pub t23 : List.List Row.Entry
-t23 = List._∷_ (16, Rows'.any-gone (Syntax.tyRef Syntax.erased Syntax.mut Element.behind)) (List._∷_ (17, Mut.mslice (Element.type) (Syntax.tyRef Syntax.erased Syntax.mut Element.behind) 4)
-    (List._∷_ (18, Rows'.any-gone (Syntax.tyRef Syntax.erased Syntax.mut (Syntax.tyArray (Syntax.tyInt Syntax.w16) 1))) (List._∷_ (
-      19,
-      Mut.mslice (Referent.rtF (Referent.fInt Syntax.w16))
-          (Syntax.tyRef Syntax.erased Syntax.mut (Syntax.tyInt Syntax.w16)) 5,
-    ) (List._∷_ (
-      20,
-      Rows'.sref (Array'.Array (Referent.rtF (Referent.fInt Syntax.w16)) 768) (Syntax.tyRef Syntax.erased Syntax.imm
-          (Syntax.tyArray (Syntax.tyInt Syntax.w16) 768)) 6,
-    ) (List._∷_ (21, Rows'.whole (Array'.Array (Referent.rtF (Referent.fInt Syntax.w8)) 36)) (List._∷_ (
-      22,
-      Rows'.any-gone (Syntax.tyStruct (List._∷_
-          109 (List._∷_ 97 (List._∷_ 112 (List._∷_ 58 (List._∷_ 58 (List._∷_ 80 (List._∷_ 97 (List._∷_ 114 (List._∷_ 116 List.[]))))))))) (Syntax.tcons (Syntax.tyInt Syntax.w64) (Syntax.tcons (Syntax.tyInt
-          Syntax.w64) (Syntax.tcons (Syntax.tyInt Syntax.w64) (Syntax.tcons (Syntax.tyInt Syntax.w64) (Syntax.tcons (Syntax.tyInt Syntax.w64) (Syntax.tcons (Syntax.tyInt Syntax.w64) Syntax.tnil))))))),
-    )
+t16 = List._∷_ (16, Relend.msptr (Element.type) (Syntax.tyRef Syntax.erased Syntax.mut Element.behind) 4) (List._∷_ e21 (List._∷_ e22 (List._∷_ e25 (List._∷_ e28 (List._∷_ e30 (List._∷_ e32
     List.[]))))))
 
+abbrev pub t17 : List.List Row.Entry
+t17 = List._∷_ e18 (List._∷_ e20 (List._∷_ e22 (List._∷_ e25 (List._∷_ e28 (List._∷_ e30 (List._∷_ e32 List.[]))))))
+
+abbrev pub t18 : List.List Row.Entry
+t18 = List._∷_ e0 (List._∷_ e2 (List._∷_ e26 (List._∷_ e34 (List._∷_ e36 (List._∷_ e38 (List._∷_ e40 (List._∷_ e42 (List._∷_ e44 (List._∷_ e46 (List._∷_ e5 (List._∷_ e7 (List._∷_ e9 (List._∷_ e11
+    (List._∷_ e14 (List._∷_ e16 List.[])))))))))))))))
+
+abbrev pub t19 : List.List Row.Entry
+t19 = List._∷_ e18 (List._∷_ e20 (List._∷_ (18, Relend.msptr (Referent.rtF (Referent.fInt Syntax.w16)) (Syntax.tyRef Syntax.erased Syntax.mut (Syntax.tyArray (Syntax.tyInt Syntax.w16) 1)) 5) (List._∷_
+    e25 (List._∷_ e28 (List._∷_ e30 (List._∷_ e32 List.[]))))))
+
+abbrev pub t20 : List.List Row.Entry
+t20 = List._∷_ e18 (List._∷_ e20 (List._∷_ e22 (List._∷_ e24 (List._∷_ e28 (List._∷_ e30 (List._∷_ e32 List.[]))))))
+
+abbrev pub t21 : List.List Row.Entry
+t21 = List._∷_ e0 (List._∷_ e2 (List._∷_ e26 (List._∷_ e34 (List._∷_ e36 (List._∷_ e38 (List._∷_ e40 (List._∷_ e42 (List._∷_ e44 (List._∷_ e46 (List._∷_ e4 (List._∷_ e7 (List._∷_ e9 (List._∷_ e11
+    (List._∷_ e14 (List._∷_ e16 List.[])))))))))))))))
+
+abbrev pub t22 : List.List Row.Entry
+t22 = List._∷_ e18 (List._∷_ e20 (List._∷_ e22 (List._∷_ e24 (List._∷_ e29 (List._∷_ e30 (List._∷_ e32 List.[]))))))
+
+abbrev pub t23 : List.List Row.Entry
+t23 = List._∷_ e18 (List._∷_ e20 (List._∷_ e22 (List._∷_ e24 (List._∷_ e29 (List._∷_ (21, Rows'.whole (Array'.Array (Referent.rtF (Referent.fInt Syntax.w8)) 36)) (List._∷_ e32 List.[]))))))
+
 abbrev pub t24 : List.List Row.Entry
-t24 = List._∷_ (16, Rows'.any-gone (Syntax.tyRef Syntax.erased Syntax.mut Element.behind)) (List._∷_ (17, Mut.mslice (Element.type) (Syntax.tyRef Syntax.erased Syntax.mut Element.behind) 4)
-    (List._∷_ (18, Rows'.any-gone (Syntax.tyRef Syntax.erased Syntax.mut (Syntax.tyArray (Syntax.tyInt Syntax.w16) 1))) (List._∷_ (
-      19,
-      Mut.mslice (Referent.rtF (Referent.fInt Syntax.w16))
-          (Syntax.tyRef Syntax.erased Syntax.mut (Syntax.tyInt Syntax.w16)) 5,
-    ) (List._∷_ (
-      20,
-      Rows'.sref (Array'.Array (Referent.rtF (Referent.fInt Syntax.w16)) 768) (Syntax.tyRef Syntax.erased Syntax.imm
-          (Syntax.tyArray (Syntax.tyInt Syntax.w16) 768)) 6,
-    ) (List._∷_ (21, Rows.arrF (Referent.rtF (Referent.fInt Syntax.w8)) 36 0) (List._∷_ (
-      22,
-      Rows'.any-gone (Syntax.tyStruct (List._∷_ 109 (List._∷_ 97
-          (List._∷_ 112 (List._∷_ 58 (List._∷_ 58 (List._∷_ 80 (List._∷_ 97 (List._∷_ 114 (List._∷_ 116 List.[]))))))))) (Syntax.tcons (Syntax.tyInt Syntax.w64) (Syntax.tcons (Syntax.tyInt Syntax.w64)
-          (Syntax.tcons (Syntax.tyInt Syntax.w64) (Syntax.tcons (Syntax.tyInt Syntax.w64) (Syntax.tcons (Syntax.tyInt Syntax.w64) (Syntax.tcons (Syntax.tyInt Syntax.w64) Syntax.tnil))))))),
-    ) List.[]))))))
+t24 = List._∷_ e18 (List._∷_ e20 (List._∷_ e22 (List._∷_ e24 (List._∷_ e29 (List._∷_ e31 (List._∷_ e32 List.[]))))))
 
 abbrev pub t25 : List.List Row.Entry
-t25 = List._∷_ (16, Rows'.any-gone (Syntax.tyRef Syntax.erased Syntax.mut Element.behind)) (List._∷_ (17, Mut.mslice (Element.type) (Syntax.tyRef Syntax.erased Syntax.mut Element.behind) 4)
-    (List._∷_ (18, Rows'.any-gone (Syntax.tyRef Syntax.erased Syntax.mut (Syntax.tyArray (Syntax.tyInt Syntax.w16) 1))) (List._∷_ (
-      19,
-      Mut.mslice (Referent.rtF (Referent.fInt Syntax.w16))
-          (Syntax.tyRef Syntax.erased Syntax.mut (Syntax.tyInt Syntax.w16)) 5,
-    ) (List._∷_ (
-      20,
-      Rows'.sref (Array'.Array (Referent.rtF (Referent.fInt Syntax.w16)) 768) (Syntax.tyRef Syntax.erased Syntax.imm
-          (Syntax.tyArray (Syntax.tyInt Syntax.w16) 768)) 6,
-    ) (List._∷_ (21, Rows.arrF (Referent.rtF (Referent.fInt Syntax.w8)) 36 0) (List._∷_ (22, Rows'.whole (Declared'.row Part.the-type)) List.[]))))))
+t25 = List._∷_ e18 (List._∷_ e20 (List._∷_ e22 (List._∷_ e24 (List._∷_ e29 (List._∷_ e31 (List._∷_ e33 List.[]))))))
 
 abbrev pub t26 : List.List Row.Entry
-t26 = List._∷_ (
-  0,
-  Rows'.any-gone (Syntax.tyEnum (List._∷_ 98 (List._∷_ 108 (List._∷_ 111 (List._∷_ 99 (List._∷_ 107 (List._∷_ 58 (List._∷_ 58 (List._∷_ 68 (List._∷_ 101 (List._∷_ 99 (List._∷_ 111
-      (List._∷_ 100 (List._∷_ 101 (List._∷_ 100 List.[])))))))))))))) (Syntax.ttcons Syntax.tnil (Syntax.ttcons (Syntax.tcons (Syntax.tyEnum (List._∷_ 115 (List._∷_ 116 (List._∷_ 114 (List._∷_ 101 (List._∷_
-      97 (List._∷_ 109 (List._∷_ 58 (List._∷_ 58 (List._∷_ 82 (List._∷_ 101 (List._∷_ 102 (List._∷_ 117 (List._∷_ 115 (List._∷_ 97 (List._∷_ 108 List.[]))))))))))))))) (Syntax.ttcons Syntax.tnil
-      (Syntax.ttcons Syntax.tnil (Syntax.ttcons Syntax.tnil (Syntax.ttcons (Syntax.tcons (Syntax.tyInt Syntax.w64) Syntax.tnil) (Syntax.ttcons Syntax.tnil (Syntax.ttcons Syntax.tnil (Syntax.ttcons
-      Syntax.tnil (Syntax.ttcons Syntax.tnil (Syntax.ttcons Syntax.tnil (Syntax.ttcons Syntax.tnil (Syntax.ttcons (Syntax.tcons (Syntax.tyInt Syntax.w64) Syntax.tnil) (Syntax.ttcons (Syntax.tcons
-      (Syntax.tyInt Syntax.w64) Syntax.tnil) (Syntax.ttcons Syntax.tnil (Syntax.ttcons (Syntax.tcons (Syntax.tyInt Syntax.w64) (Syntax.tcons (Syntax.tyInt Syntax.w64) Syntax.tnil)) (Syntax.ttcons
-      (Syntax.tcons (Syntax.tyInt Syntax.w64) Syntax.tnil) Syntax.ttnil)))))))))))))))) Syntax.tnil) Syntax.ttnil))),
-) (List._∷_ (
-  1,
-  Rows'.sslice (Referent.rtF (Referent.fInt Syntax.w8)) (Syntax.tyRef
-      (Syntax.named 0) Syntax.imm (Syntax.tyInt Syntax.w8)) 0,
-) (List._∷_ (
-  2,
-  Rows'.any-gone (Syntax.tyStruct (List._∷_ 115 (List._∷_ 116 (List._∷_ 114 (List._∷_ 101 (List._∷_ 97 (List._∷_ 109 (List._∷_
-      58 (List._∷_ 58 (List._∷_ 70 (List._∷_ 117 (List._∷_ 106 (List._∷_ 105 (List._∷_ 72 (List._∷_ 101 (List._∷_ 97 (List._∷_ 100 (List._∷_ 101 (List._∷_ 114 List.[])))))))))))))))))) (Syntax.tcons
-      Syntax.tyBool (Syntax.tcons Syntax.tyBool (Syntax.tcons (Syntax.tyInt Syntax.w32) (Syntax.tcons (Syntax.tyInt Syntax.w32) (Syntax.tcons (Syntax.tyInt Syntax.w32) (Syntax.tcons (Syntax.tyInt
-      Syntax.w32) (Syntax.tcons (Syntax.tyInt Syntax.w32) (Syntax.tcons (Syntax.tyInt Syntax.w32) (Syntax.tcons (Syntax.tyInt Syntax.w32) Syntax.tnil)))))))))),
-) (List._∷_ (
-  3,
-  Rows'.sc-here (Row.sInt
-      Syntax.w64),
-) (List._∷_ (4, Relend.mslice-owed (Referent.rtF (Referent.fInt Syntax.w16)) (Syntax.tyRef (Syntax.named 1) Syntax.mut (Syntax.tyInt Syntax.w16)) 1 3 Row.off) (List._∷_ (
-  5,
-  Relend.mslice-owed (Element.type) (Syntax.tyRef (Syntax.named 2) Syntax.mut Element.behind) 2 4 Row.off,
-) (List._∷_ (6, Rows'.whole (Declared'.row Form.the-type)) (List._∷_ (
-  7,
-  Rows'.sc-here
-      (Row.sInt Syntax.w64),
-) (List._∷_ (8, Rows'.sslice (Referent.rtF (Referent.fInt Syntax.w8)) (Syntax.tyRef Syntax.erased Syntax.imm (Syntax.tyInt Syntax.w8)) 0) (List._∷_ (
-  9,
-  Rows'.sslice
-      (Referent.rtF (Referent.fInt Syntax.w8)) (Syntax.tyRef Syntax.erased Syntax.imm (Syntax.tyInt Syntax.w8)) 0,
-) (List._∷_ (
-  10,
-  Rows'.sc-shr (Rows.arrF (Referent.rtF (Referent.fInt Syntax.w16)) 768 0)
-      (Array'.Array (Referent.rtF (Referent.fInt Syntax.w16)) 768) (λ x. x) 6,
-) (List._∷_ (11, Rows.arr-owed (Referent.rtF (Referent.fInt Syntax.w16)) 1 5) (List._∷_ (
-  12,
-  Rows'.whole (Declared'.row
-      Walked.the-type),
-) (List._∷_ (13, Rows'.any-gone (Syntax.tyArray (Syntax.tyInt Syntax.w16) 768)) (List._∷_ (14, Rows'.any-gone (Syntax.tyRef Syntax.erased Syntax.mut (Syntax.tyInt Syntax.w16)))
-    (List._∷_ (15, Mut.msleft (Referent.rtF (Referent.fInt Syntax.w16)) (Syntax.tyRef Syntax.erased Syntax.mut (Syntax.tyInt Syntax.w16))) List.[])))))))))))))))
+t26 = List._∷_ e0 (List._∷_ e2 (List._∷_ e26 (List._∷_ e34 (List._∷_ e36 (List._∷_ e38 (List._∷_ e40 (List._∷_ e42 (List._∷_ e44 (List._∷_ e46 (List._∷_ e4 (List._∷_ e7 (List._∷_ e10 (List._∷_ e11
+    (List._∷_ e14 (List._∷_ e15 List.[])))))))))))))))
 
 abbrev pub t27 : List.List Row.Entry
-t27 = List._∷_ (16, Rows'.any-gone (Syntax.tyRef Syntax.erased Syntax.mut Element.behind)) (List._∷_ (17, Mut.msleft (Element.type) (Syntax.tyRef Syntax.erased Syntax.mut Element.behind))
-    (List._∷_ (18, Rows'.any-gone (Syntax.tyRef Syntax.erased Syntax.mut (Syntax.tyArray (Syntax.tyInt Syntax.w16) 1))) (List._∷_ (
-      19,
-      Mut.msleft (Referent.rtF (Referent.fInt Syntax.w16))
-          (Syntax.tyRef Syntax.erased Syntax.mut (Syntax.tyInt Syntax.w16)),
-    ) (List._∷_ (
-      20,
-      Rows'.sref (Array'.Array (Referent.rtF (Referent.fInt Syntax.w16)) 768) (Syntax.tyRef Syntax.erased Syntax.imm
-          (Syntax.tyArray (Syntax.tyInt Syntax.w16) 768)) 6,
-    ) (List._∷_ (21, Rows.arrF (Referent.rtF (Referent.fInt Syntax.w8)) 36 0) (List._∷_ (22, Rows'.whole (Declared'.row Part.the-type)) List.[]))))))
+t27 = List._∷_ e18 (List._∷_ e19 (List._∷_ e22 (List._∷_ e23 (List._∷_ e29 (List._∷_ e31 (List._∷_ e33 List.[]))))))
 
 abbrev pub t28 : List.List Row.Entry
-t28 = List._∷_ (
-  0,
-  Rows'.any-gone (Syntax.tyEnum (List._∷_ 98 (List._∷_ 108 (List._∷_ 111 (List._∷_ 99 (List._∷_ 107 (List._∷_ 58 (List._∷_ 58 (List._∷_ 68 (List._∷_ 101 (List._∷_ 99 (List._∷_ 111
-      (List._∷_ 100 (List._∷_ 101 (List._∷_ 100 List.[])))))))))))))) (Syntax.ttcons Syntax.tnil (Syntax.ttcons (Syntax.tcons (Syntax.tyEnum (List._∷_ 115 (List._∷_ 116 (List._∷_ 114 (List._∷_ 101 (List._∷_
-      97 (List._∷_ 109 (List._∷_ 58 (List._∷_ 58 (List._∷_ 82 (List._∷_ 101 (List._∷_ 102 (List._∷_ 117 (List._∷_ 115 (List._∷_ 97 (List._∷_ 108 List.[]))))))))))))))) (Syntax.ttcons Syntax.tnil
-      (Syntax.ttcons Syntax.tnil (Syntax.ttcons Syntax.tnil (Syntax.ttcons (Syntax.tcons (Syntax.tyInt Syntax.w64) Syntax.tnil) (Syntax.ttcons Syntax.tnil (Syntax.ttcons Syntax.tnil (Syntax.ttcons
-      Syntax.tnil (Syntax.ttcons Syntax.tnil (Syntax.ttcons Syntax.tnil (Syntax.ttcons Syntax.tnil (Syntax.ttcons (Syntax.tcons (Syntax.tyInt Syntax.w64) Syntax.tnil) (Syntax.ttcons (Syntax.tcons
-      (Syntax.tyInt Syntax.w64) Syntax.tnil) (Syntax.ttcons Syntax.tnil (Syntax.ttcons (Syntax.tcons (Syntax.tyInt Syntax.w64) (Syntax.tcons (Syntax.tyInt Syntax.w64) Syntax.tnil)) (Syntax.ttcons
-      (Syntax.tcons (Syntax.tyInt Syntax.w64) Syntax.tnil) Syntax.ttnil)))))))))))))))) Syntax.tnil) Syntax.ttnil))),
-) (List._∷_ (
-  1,
-  Rows'.sslice (Referent.rtF (Referent.fInt Syntax.w8)) (Syntax.tyRef
-      (Syntax.named 0) Syntax.imm (Syntax.tyInt Syntax.w8)) 0,
-) (List._∷_ (
-  2,
-  Rows'.any-gone (Syntax.tyStruct (List._∷_ 115 (List._∷_ 116 (List._∷_ 114 (List._∷_ 101 (List._∷_ 97 (List._∷_ 109 (List._∷_
-      58 (List._∷_ 58 (List._∷_ 70 (List._∷_ 117 (List._∷_ 106 (List._∷_ 105 (List._∷_ 72 (List._∷_ 101 (List._∷_ 97 (List._∷_ 100 (List._∷_ 101 (List._∷_ 114 List.[])))))))))))))))))) (Syntax.tcons
-      Syntax.tyBool (Syntax.tcons Syntax.tyBool (Syntax.tcons (Syntax.tyInt Syntax.w32) (Syntax.tcons (Syntax.tyInt Syntax.w32) (Syntax.tcons (Syntax.tyInt Syntax.w32) (Syntax.tcons (Syntax.tyInt
-      Syntax.w32) (Syntax.tcons (Syntax.tyInt Syntax.w32) (Syntax.tcons (Syntax.tyInt Syntax.w32) (Syntax.tcons (Syntax.tyInt Syntax.w32) Syntax.tnil)))))))))),
-) (List._∷_ (
-  3,
-  Rows'.sc-here (Row.sInt
-      Syntax.w64),
-) (List._∷_ (4, Relend.mslice-owed (Referent.rtF (Referent.fInt Syntax.w16)) (Syntax.tyRef (Syntax.named 1) Syntax.mut (Syntax.tyInt Syntax.w16)) 1 3 Row.off) (List._∷_ (
-  5,
-  Relend.mslice-owed (Element.type) (Syntax.tyRef (Syntax.named 2) Syntax.mut Element.behind) 2 4 Row.off,
-) (List._∷_ (6, Rows'.whole (Declared'.row Form.the-type)) (List._∷_ (
-  7,
-  Rows'.sc-here
-      (Row.sInt Syntax.w64),
-) (List._∷_ (8, Rows'.sslice (Referent.rtF (Referent.fInt Syntax.w8)) (Syntax.tyRef Syntax.erased Syntax.imm (Syntax.tyInt Syntax.w8)) 0) (List._∷_ (
-  9,
-  Rows'.any-gone
-      (Syntax.tyStruct (List._∷_ 38 (List._∷_ 91 (List._∷_ 93 List.[]))) (Syntax.tcons (Syntax.tyRef Syntax.erased Syntax.imm (Syntax.tyInt Syntax.w8)) (Syntax.tcons (Syntax.tyInt Syntax.w64)
-      Syntax.tnil))),
-) (List._∷_ (10, Rows'.sc-shr (Rows.arrF (Referent.rtF (Referent.fInt Syntax.w16)) 768 0) (Array'.Array (Referent.rtF (Referent.fInt Syntax.w16)) 768) (λ x. x) 6) (List._∷_ (
-  11,
-  Rows.arr-owed (Referent.rtF (Referent.fInt Syntax.w16)) 1 5,
-) (List._∷_ (12, Rows'.whole (Declared'.row Walked.the-type)) (List._∷_ (
-  13,
-  Rows'.any-gone (Syntax.tyArray (Syntax.tyInt Syntax.w16)
-      768),
-) (List._∷_ (14, Rows'.any-gone (Syntax.tyRef Syntax.erased Syntax.mut (Syntax.tyInt Syntax.w16))) (List._∷_ (
-  15,
-  Mut.msleft (Referent.rtF (Referent.fInt Syntax.w16)) (Syntax.tyRef
-      Syntax.erased Syntax.mut (Syntax.tyInt Syntax.w16)),
-) List.[])))))))))))))))
+t28 = List._∷_ e0 (List._∷_ e2 (List._∷_ e26 (List._∷_ e34 (List._∷_ e36 (List._∷_ e38 (List._∷_ e40 (List._∷_ e42 (List._∷_ e44 (List._∷_ e45 (List._∷_ e4 (List._∷_ e7 (List._∷_ e10 (List._∷_ e11
+    (List._∷_ e14 (List._∷_ e15 List.[])))))))))))))))
 
 abbrev pub t29 : List.List Row.Entry
-t29 = List._∷_ (16, Rows'.any-gone (Syntax.tyRef Syntax.erased Syntax.mut Element.behind)) (List._∷_ (17, Mut.msleft (Element.type) (Syntax.tyRef Syntax.erased Syntax.mut Element.behind))
-    (List._∷_ (18, Rows'.any-gone (Syntax.tyRef Syntax.erased Syntax.mut (Syntax.tyArray (Syntax.tyInt Syntax.w16) 1))) (List._∷_ (
-      19,
-      Mut.msleft (Referent.rtF (Referent.fInt Syntax.w16))
-          (Syntax.tyRef Syntax.erased Syntax.mut (Syntax.tyInt Syntax.w16)),
-    ) (List._∷_ (20, Rows'.any-gone (Syntax.tyRef Syntax.erased Syntax.imm (Syntax.tyArray (Syntax.tyInt Syntax.w16) 768))) (List._∷_
-    (21, Rows.arrF (Referent.rtF (Referent.fInt Syntax.w8)) 36 0) (List._∷_ (22, Rows'.whole (Declared'.row Part.the-type)) List.[]))))))
+t29 = List._∷_ e18 (List._∷_ e19 (List._∷_ e22 (List._∷_ e23 (List._∷_ e28 (List._∷_ e31 (List._∷_ e33 List.[]))))))
 
 abbrev pub t30 : List.List Row.Entry
-t30 = List._∷_ (16, Rows'.any-gone (Syntax.tyRef Syntax.erased Syntax.mut Element.behind)) (List._∷_ (17, Mut.msleft (Element.type) (Syntax.tyRef Syntax.erased Syntax.mut Element.behind))
-    (List._∷_ (18, Rows'.any-gone (Syntax.tyRef Syntax.erased Syntax.mut (Syntax.tyArray (Syntax.tyInt Syntax.w16) 1))) (List._∷_ (
-      19,
-      Mut.msleft (Referent.rtF (Referent.fInt Syntax.w16))
-          (Syntax.tyRef Syntax.erased Syntax.mut (Syntax.tyInt Syntax.w16)),
-    ) (List._∷_ (20, Rows'.any-gone (Syntax.tyRef Syntax.erased Syntax.imm (Syntax.tyArray (Syntax.tyInt Syntax.w16) 768))) (List._∷_
-    (21, Rows'.any-gone (Syntax.tyArray (Syntax.tyInt Syntax.w8) 36)) (List._∷_ (22, Rows'.whole (Declared'.row Part.the-type)) List.[]))))))
+t30 = List._∷_ e18 (List._∷_ e19 (List._∷_ e22 (List._∷_ e23 (List._∷_ e28 (List._∷_ e30 (List._∷_ e33 List.[]))))))
 
 abbrev pub t31 : List.List Row.Entry
-t31 = List._∷_ (16, Rows'.any-gone (Syntax.tyRef Syntax.erased Syntax.mut Element.behind)) (List._∷_ (17, Mut.msleft (Element.type) (Syntax.tyRef Syntax.erased Syntax.mut Element.behind))
-    (List._∷_ (18, Rows'.any-gone (Syntax.tyRef Syntax.erased Syntax.mut (Syntax.tyArray (Syntax.tyInt Syntax.w16) 1))) (List._∷_ (
-      19,
-      Mut.msleft (Referent.rtF (Referent.fInt Syntax.w16))
-          (Syntax.tyRef Syntax.erased Syntax.mut (Syntax.tyInt Syntax.w16)),
-    ) (List._∷_ (20, Rows'.any-gone (Syntax.tyRef Syntax.erased Syntax.imm (Syntax.tyArray (Syntax.tyInt Syntax.w16) 768))) (List._∷_
-    (21, Rows'.any-gone (Syntax.tyArray (Syntax.tyInt Syntax.w8) 36)) (List._∷_ (
-      22,
-      Rows'.any-gone (Syntax.tyStruct (List._∷_ 109 (List._∷_ 97 (List._∷_ 112 (List._∷_ 58 (List._∷_ 58 (List._∷_ 80
-          (List._∷_ 97 (List._∷_ 114 (List._∷_ 116 List.[]))))))))) (Syntax.tcons (Syntax.tyInt Syntax.w64) (Syntax.tcons (Syntax.tyInt Syntax.w64) (Syntax.tcons (Syntax.tyInt Syntax.w64) (Syntax.tcons
-          (Syntax.tyInt Syntax.w64) (Syntax.tcons (Syntax.tyInt Syntax.w64) (Syntax.tcons (Syntax.tyInt Syntax.w64) Syntax.tnil))))))),
-    ) List.[]))))))
+t31 = List._∷_ e18 (List._∷_ e19 (List._∷_ e22 (List._∷_ e23 (List._∷_ e28 (List._∷_ e30 (List._∷_ e32 List.[]))))))
 
 abbrev pub t32 : List.List Row.Entry
-t32 = List._∷_ (
-  0,
-  Rows'.any-gone (Syntax.tyEnum (List._∷_ 98 (List._∷_ 108 (List._∷_ 111 (List._∷_ 99 (List._∷_ 107 (List._∷_ 58 (List._∷_ 58 (List._∷_ 68 (List._∷_ 101 (List._∷_ 99 (List._∷_ 111
-      (List._∷_ 100 (List._∷_ 101 (List._∷_ 100 List.[])))))))))))))) (Syntax.ttcons Syntax.tnil (Syntax.ttcons (Syntax.tcons (Syntax.tyEnum (List._∷_ 115 (List._∷_ 116 (List._∷_ 114 (List._∷_ 101 (List._∷_
-      97 (List._∷_ 109 (List._∷_ 58 (List._∷_ 58 (List._∷_ 82 (List._∷_ 101 (List._∷_ 102 (List._∷_ 117 (List._∷_ 115 (List._∷_ 97 (List._∷_ 108 List.[]))))))))))))))) (Syntax.ttcons Syntax.tnil
-      (Syntax.ttcons Syntax.tnil (Syntax.ttcons Syntax.tnil (Syntax.ttcons (Syntax.tcons (Syntax.tyInt Syntax.w64) Syntax.tnil) (Syntax.ttcons Syntax.tnil (Syntax.ttcons Syntax.tnil (Syntax.ttcons
-      Syntax.tnil (Syntax.ttcons Syntax.tnil (Syntax.ttcons Syntax.tnil (Syntax.ttcons Syntax.tnil (Syntax.ttcons (Syntax.tcons (Syntax.tyInt Syntax.w64) Syntax.tnil) (Syntax.ttcons (Syntax.tcons
-      (Syntax.tyInt Syntax.w64) Syntax.tnil) (Syntax.ttcons Syntax.tnil (Syntax.ttcons (Syntax.tcons (Syntax.tyInt Syntax.w64) (Syntax.tcons (Syntax.tyInt Syntax.w64) Syntax.tnil)) (Syntax.ttcons
-      (Syntax.tcons (Syntax.tyInt Syntax.w64) Syntax.tnil) Syntax.ttnil)))))))))))))))) Syntax.tnil) Syntax.ttnil))),
-) (List._∷_ (
-  1,
-  Rows'.sslice (Referent.rtF (Referent.fInt Syntax.w8)) (Syntax.tyRef
-      (Syntax.named 0) Syntax.imm (Syntax.tyInt Syntax.w8)) 0,
-) (List._∷_ (
-  2,
-  Rows'.any-gone (Syntax.tyStruct (List._∷_ 115 (List._∷_ 116 (List._∷_ 114 (List._∷_ 101 (List._∷_ 97 (List._∷_ 109 (List._∷_
-      58 (List._∷_ 58 (List._∷_ 70 (List._∷_ 117 (List._∷_ 106 (List._∷_ 105 (List._∷_ 72 (List._∷_ 101 (List._∷_ 97 (List._∷_ 100 (List._∷_ 101 (List._∷_ 114 List.[])))))))))))))))))) (Syntax.tcons
-      Syntax.tyBool (Syntax.tcons Syntax.tyBool (Syntax.tcons (Syntax.tyInt Syntax.w32) (Syntax.tcons (Syntax.tyInt Syntax.w32) (Syntax.tcons (Syntax.tyInt Syntax.w32) (Syntax.tcons (Syntax.tyInt
-      Syntax.w32) (Syntax.tcons (Syntax.tyInt Syntax.w32) (Syntax.tcons (Syntax.tyInt Syntax.w32) (Syntax.tcons (Syntax.tyInt Syntax.w32) Syntax.tnil)))))))))),
-) (List._∷_ (
-  3,
-  Rows'.sc-here (Row.sInt
-      Syntax.w64),
-) (List._∷_ (4, Mut.mslice (Referent.rtF (Referent.fInt Syntax.w16)) (Syntax.tyRef (Syntax.named 1) Syntax.mut (Syntax.tyInt Syntax.w16)) 1) (List._∷_ (
-  5,
-  Relend.mslice-owed
-      (Element.type) (Syntax.tyRef (Syntax.named 2) Syntax.mut Element.behind) 2 4 Row.off,
-) (List._∷_ (6, Rows'.whole (Declared'.row Form.the-type)) (List._∷_ (7, Rows'.sc-here (Row.sInt Syntax.w64))
-    (List._∷_ (8, Rows'.sslice (Referent.rtF (Referent.fInt Syntax.w8)) (Syntax.tyRef Syntax.erased Syntax.imm (Syntax.tyInt Syntax.w8)) 0) (List._∷_ (
-      9,
-      Rows'.any-gone (Syntax.tyStruct (List._∷_ 38
-          (List._∷_ 91 (List._∷_ 93 List.[]))) (Syntax.tcons (Syntax.tyRef Syntax.erased Syntax.imm (Syntax.tyInt Syntax.w8)) (Syntax.tcons (Syntax.tyInt Syntax.w64) Syntax.tnil))),
-    ) (List._∷_ (
-      10,
-      Rows'.sc-shr (Rows.arrF (Referent.rtF (Referent.fInt Syntax.w16)) 768 0) (Array'.Array (Referent.rtF (Referent.fInt Syntax.w16)) 768) (λ x. x) 6,
-    ) (List._∷_ (
-      11,
-      Rows.arr-owed (Referent.rtF
-          (Referent.fInt Syntax.w16)) 1 5,
-    ) (List._∷_ (12, Rows'.whole (Declared'.row Walked.the-type)) (List._∷_ (13, Rows'.any-gone (Syntax.tyArray (Syntax.tyInt Syntax.w16) 768)) (List._∷_ (
-      14,
-      Rows'.any-gone (Syntax.tyRef Syntax.erased Syntax.mut (Syntax.tyInt Syntax.w16)),
-    ) (List._∷_ (
-      15,
-      Rows'.any-gone (Syntax.tyStruct (List._∷_ 38 (List._∷_ 91 (List._∷_ 93 List.[]))) (Syntax.tcons
-          (Syntax.tyRef Syntax.erased Syntax.mut (Syntax.tyInt Syntax.w16)) (Syntax.tcons (Syntax.tyInt Syntax.w64) Syntax.tnil))),
-    ) List.[])))))))))))))))
+t32 = List._∷_ e0 (List._∷_ e2 (List._∷_ e26 (List._∷_ e34 (List._∷_ e35 (List._∷_ e38 (List._∷_ e40 (List._∷_ e42 (List._∷_ e44 (List._∷_ e45 (List._∷_ e4 (List._∷_ e7 (List._∷_ e10 (List._∷_ e11
+    (List._∷_ e14 (List._∷_ e17 List.[])))))))))))))))
 
 abbrev pub t33 : List.List Row.Entry
-t33 = List._∷_ (
-  0,
-  Rows'.any-gone (Syntax.tyEnum (List._∷_ 98 (List._∷_ 108 (List._∷_ 111 (List._∷_ 99 (List._∷_ 107 (List._∷_ 58 (List._∷_ 58 (List._∷_ 68 (List._∷_ 101 (List._∷_ 99 (List._∷_ 111
-      (List._∷_ 100 (List._∷_ 101 (List._∷_ 100 List.[])))))))))))))) (Syntax.ttcons Syntax.tnil (Syntax.ttcons (Syntax.tcons (Syntax.tyEnum (List._∷_ 115 (List._∷_ 116 (List._∷_ 114 (List._∷_ 101 (List._∷_
-      97 (List._∷_ 109 (List._∷_ 58 (List._∷_ 58 (List._∷_ 82 (List._∷_ 101 (List._∷_ 102 (List._∷_ 117 (List._∷_ 115 (List._∷_ 97 (List._∷_ 108 List.[]))))))))))))))) (Syntax.ttcons Syntax.tnil
-      (Syntax.ttcons Syntax.tnil (Syntax.ttcons Syntax.tnil (Syntax.ttcons (Syntax.tcons (Syntax.tyInt Syntax.w64) Syntax.tnil) (Syntax.ttcons Syntax.tnil (Syntax.ttcons Syntax.tnil (Syntax.ttcons
-      Syntax.tnil (Syntax.ttcons Syntax.tnil (Syntax.ttcons Syntax.tnil (Syntax.ttcons Syntax.tnil (Syntax.ttcons (Syntax.tcons (Syntax.tyInt Syntax.w64) Syntax.tnil) (Syntax.ttcons (Syntax.tcons
-      (Syntax.tyInt Syntax.w64) Syntax.tnil) (Syntax.ttcons Syntax.tnil (Syntax.ttcons (Syntax.tcons (Syntax.tyInt Syntax.w64) (Syntax.tcons (Syntax.tyInt Syntax.w64) Syntax.tnil)) (Syntax.ttcons
-      (Syntax.tcons (Syntax.tyInt Syntax.w64) Syntax.tnil) Syntax.ttnil)))))))))))))))) Syntax.tnil) Syntax.ttnil))),
-) (List._∷_ (
-  1,
-  Rows'.sslice (Referent.rtF (Referent.fInt Syntax.w8)) (Syntax.tyRef
-      (Syntax.named 0) Syntax.imm (Syntax.tyInt Syntax.w8)) 0,
-) (List._∷_ (
-  2,
-  Rows'.any-gone (Syntax.tyStruct (List._∷_ 115 (List._∷_ 116 (List._∷_ 114 (List._∷_ 101 (List._∷_ 97 (List._∷_ 109 (List._∷_
-      58 (List._∷_ 58 (List._∷_ 70 (List._∷_ 117 (List._∷_ 106 (List._∷_ 105 (List._∷_ 72 (List._∷_ 101 (List._∷_ 97 (List._∷_ 100 (List._∷_ 101 (List._∷_ 114 List.[])))))))))))))))))) (Syntax.tcons
-      Syntax.tyBool (Syntax.tcons Syntax.tyBool (Syntax.tcons (Syntax.tyInt Syntax.w32) (Syntax.tcons (Syntax.tyInt Syntax.w32) (Syntax.tcons (Syntax.tyInt Syntax.w32) (Syntax.tcons (Syntax.tyInt
-      Syntax.w32) (Syntax.tcons (Syntax.tyInt Syntax.w32) (Syntax.tcons (Syntax.tyInt Syntax.w32) (Syntax.tcons (Syntax.tyInt Syntax.w32) Syntax.tnil)))))))))),
-) (List._∷_ (
-  3,
-  Rows'.sc-here (Row.sInt
-      Syntax.w64),
-) (List._∷_ (4, Mut.mslice (Referent.rtF (Referent.fInt Syntax.w16)) (Syntax.tyRef (Syntax.named 1) Syntax.mut (Syntax.tyInt Syntax.w16)) 1) (List._∷_ (
-  5,
-  Mut.mslice (Element.type)
-      (Syntax.tyRef (Syntax.named 2) Syntax.mut Element.behind) 2,
-) (List._∷_ (6, Rows'.whole (Declared'.row Form.the-type)) (List._∷_ (7, Rows'.sc-here (Row.sInt Syntax.w64)) (List._∷_ (
-  8,
-  Rows'.sslice (Referent.rtF (Referent.fInt Syntax.w8)) (Syntax.tyRef Syntax.erased Syntax.imm (Syntax.tyInt Syntax.w8)) 0,
-) (List._∷_ (
-  9,
-  Rows'.any-gone (Syntax.tyStruct (List._∷_ 38 (List._∷_ 91
-      (List._∷_ 93 List.[]))) (Syntax.tcons (Syntax.tyRef Syntax.erased Syntax.imm (Syntax.tyInt Syntax.w8)) (Syntax.tcons (Syntax.tyInt Syntax.w64) Syntax.tnil))),
-) (List._∷_ (
-  10,
-  Rows'.sc-shr (Rows.arrF
-      (Referent.rtF (Referent.fInt Syntax.w16)) 768 0) (Array'.Array (Referent.rtF (Referent.fInt Syntax.w16)) 768) (λ x. x) 6,
-) (List._∷_ (11, Rows.arr-owed (Referent.rtF (Referent.fInt Syntax.w16)) 1 5)
-    (List._∷_ (12, Rows'.whole (Declared'.row Walked.the-type)) (List._∷_ (13, Rows'.any-gone (Syntax.tyArray (Syntax.tyInt Syntax.w16) 768)) (List._∷_ (
-      14,
-      Rows'.any-gone (Syntax.tyRef Syntax.erased
-          Syntax.mut (Syntax.tyInt Syntax.w16)),
-    ) (List._∷_ (
-      15,
-      Rows'.any-gone (Syntax.tyStruct (List._∷_ 38 (List._∷_ 91 (List._∷_ 93 List.[]))) (Syntax.tcons (Syntax.tyRef Syntax.erased Syntax.mut
-          (Syntax.tyInt Syntax.w16)) (Syntax.tcons (Syntax.tyInt Syntax.w64) Syntax.tnil))),
-    ) List.[])))))))))))))))
+t33 = List._∷_ e0 (List._∷_ e2 (List._∷_ e26 (List._∷_ e34 (List._∷_ e35 (List._∷_ e37 (List._∷_ e40 (List._∷_ e42 (List._∷_ e44 (List._∷_ e45 (List._∷_ e4 (List._∷_ e7 (List._∷_ e10 (List._∷_ e11
+    (List._∷_ e14 (List._∷_ e17 List.[])))))))))))))))
 
 abbrev pub t34 : List.List Row.Entry
-t34 = List._∷_ (16, Rows'.any-gone (Syntax.tyRef Syntax.erased Syntax.mut Element.behind)) (List._∷_ (
-  17,
-  Rows'.any-gone (Syntax.tyStruct (List._∷_ 38 (List._∷_ 91 (List._∷_ 93 List.[])))
-      (Syntax.tcons (Syntax.tyRef Syntax.erased Syntax.mut Element.behind) (Syntax.tcons (Syntax.tyInt Syntax.w64) Syntax.tnil))),
-) (List._∷_ (
-  18,
-  Rows'.any-gone (Syntax.tyRef Syntax.erased Syntax.mut
-      (Syntax.tyArray (Syntax.tyInt Syntax.w16) 1)),
-) (List._∷_ (19, Mut.msleft (Referent.rtF (Referent.fInt Syntax.w16)) (Syntax.tyRef Syntax.erased Syntax.mut (Syntax.tyInt Syntax.w16))) (List._∷_ (
-  20,
-  Rows'.any-gone (Syntax.tyRef Syntax.erased Syntax.imm (Syntax.tyArray (Syntax.tyInt Syntax.w16) 768)),
-) (List._∷_ (21, Rows'.any-gone (Syntax.tyArray (Syntax.tyInt Syntax.w8) 36)) (List._∷_ (
-  22,
-  Rows'.any-gone (Syntax.tyStruct (List._∷_ 109 (List._∷_ 97 (List._∷_ 112 (List._∷_ 58 (List._∷_ 58 (List._∷_ 80 (List._∷_ 97 (List._∷_ 114 (List._∷_ 116 List.[]))))))))) (Syntax.tcons (Syntax.tyInt
-      Syntax.w64) (Syntax.tcons (Syntax.tyInt Syntax.w64) (Syntax.tcons (Syntax.tyInt Syntax.w64) (Syntax.tcons (Syntax.tyInt Syntax.w64) (Syntax.tcons (Syntax.tyInt Syntax.w64) (Syntax.tcons (Syntax.tyInt
-      Syntax.w64) Syntax.tnil))))))),
-) List.[]))))))
+t34 = List._∷_ e18 (List._∷_ e21 (List._∷_ e22 (List._∷_ e23 (List._∷_ e28 (List._∷_ e30 (List._∷_ e32 List.[]))))))
 
 abbrev pub t35 : List.List Row.Entry
-t35 = List._∷_ (
-  0,
-  Rows'.any-gone (Syntax.tyEnum (List._∷_ 98 (List._∷_ 108 (List._∷_ 111 (List._∷_ 99 (List._∷_ 107 (List._∷_ 58 (List._∷_ 58 (List._∷_ 68 (List._∷_ 101 (List._∷_ 99 (List._∷_ 111
-      (List._∷_ 100 (List._∷_ 101 (List._∷_ 100 List.[])))))))))))))) (Syntax.ttcons Syntax.tnil (Syntax.ttcons (Syntax.tcons (Syntax.tyEnum (List._∷_ 115 (List._∷_ 116 (List._∷_ 114 (List._∷_ 101 (List._∷_
-      97 (List._∷_ 109 (List._∷_ 58 (List._∷_ 58 (List._∷_ 82 (List._∷_ 101 (List._∷_ 102 (List._∷_ 117 (List._∷_ 115 (List._∷_ 97 (List._∷_ 108 List.[]))))))))))))))) (Syntax.ttcons Syntax.tnil
-      (Syntax.ttcons Syntax.tnil (Syntax.ttcons Syntax.tnil (Syntax.ttcons (Syntax.tcons (Syntax.tyInt Syntax.w64) Syntax.tnil) (Syntax.ttcons Syntax.tnil (Syntax.ttcons Syntax.tnil (Syntax.ttcons
-      Syntax.tnil (Syntax.ttcons Syntax.tnil (Syntax.ttcons Syntax.tnil (Syntax.ttcons Syntax.tnil (Syntax.ttcons (Syntax.tcons (Syntax.tyInt Syntax.w64) Syntax.tnil) (Syntax.ttcons (Syntax.tcons
-      (Syntax.tyInt Syntax.w64) Syntax.tnil) (Syntax.ttcons Syntax.tnil (Syntax.ttcons (Syntax.tcons (Syntax.tyInt Syntax.w64) (Syntax.tcons (Syntax.tyInt Syntax.w64) Syntax.tnil)) (Syntax.ttcons
-      (Syntax.tcons (Syntax.tyInt Syntax.w64) Syntax.tnil) Syntax.ttnil)))))))))))))))) Syntax.tnil) Syntax.ttnil))),
-) (List._∷_ (
-  1,
-  Rows'.sslice (Referent.rtF (Referent.fInt Syntax.w8)) (Syntax.tyRef
-      (Syntax.named 0) Syntax.imm (Syntax.tyInt Syntax.w8)) 0,
-) (List._∷_ (
-  2,
-  Rows'.any-gone (Syntax.tyStruct (List._∷_ 115 (List._∷_ 116 (List._∷_ 114 (List._∷_ 101 (List._∷_ 97 (List._∷_ 109 (List._∷_
-      58 (List._∷_ 58 (List._∷_ 70 (List._∷_ 117 (List._∷_ 106 (List._∷_ 105 (List._∷_ 72 (List._∷_ 101 (List._∷_ 97 (List._∷_ 100 (List._∷_ 101 (List._∷_ 114 List.[])))))))))))))))))) (Syntax.tcons
-      Syntax.tyBool (Syntax.tcons Syntax.tyBool (Syntax.tcons (Syntax.tyInt Syntax.w32) (Syntax.tcons (Syntax.tyInt Syntax.w32) (Syntax.tcons (Syntax.tyInt Syntax.w32) (Syntax.tcons (Syntax.tyInt
-      Syntax.w32) (Syntax.tcons (Syntax.tyInt Syntax.w32) (Syntax.tcons (Syntax.tyInt Syntax.w32) (Syntax.tcons (Syntax.tyInt Syntax.w32) Syntax.tnil)))))))))),
-) (List._∷_ (
-  3,
-  Rows'.sc-here (Row.sInt
-      Syntax.w64),
-) (List._∷_ (4, Mut.mslice (Referent.rtF (Referent.fInt Syntax.w16)) (Syntax.tyRef (Syntax.named 1) Syntax.mut (Syntax.tyInt Syntax.w16)) 1) (List._∷_ (
-  5,
-  Mut.mslice (Element.type)
-      (Syntax.tyRef (Syntax.named 2) Syntax.mut Element.behind) 2,
-) (List._∷_ (6, Rows'.whole (Declared'.row Form.the-type)) (List._∷_ (7, Rows'.sc-here (Row.sInt Syntax.w64)) (List._∷_ (
-  8,
-  Rows'.sslice (Referent.rtF (Referent.fInt Syntax.w8)) (Syntax.tyRef Syntax.erased Syntax.imm (Syntax.tyInt Syntax.w8)) 0,
-) (List._∷_ (
-  9,
-  Rows'.any-gone (Syntax.tyStruct (List._∷_ 38 (List._∷_ 91
-      (List._∷_ 93 List.[]))) (Syntax.tcons (Syntax.tyRef Syntax.erased Syntax.imm (Syntax.tyInt Syntax.w8)) (Syntax.tcons (Syntax.tyInt Syntax.w64) Syntax.tnil))),
-) (List._∷_ (
-  10,
-  Rows'.sc-shr (Rows.arrF
-      (Referent.rtF (Referent.fInt Syntax.w16)) 768 0) (Array'.Array (Referent.rtF (Referent.fInt Syntax.w16)) 768) (λ x. x) 6,
-) (List._∷_ (11, Rows.arrF (Referent.rtF (Referent.fInt Syntax.w16)) 1 0)
-    (List._∷_ (12, Rows'.whole (Declared'.row Walked.the-type)) (List._∷_ (13, Rows'.any-gone (Syntax.tyArray (Syntax.tyInt Syntax.w16) 768)) (List._∷_ (
-      14,
-      Rows'.any-gone (Syntax.tyRef Syntax.erased
-          Syntax.mut (Syntax.tyInt Syntax.w16)),
-    ) (List._∷_ (
-      15,
-      Rows'.any-gone (Syntax.tyStruct (List._∷_ 38 (List._∷_ 91 (List._∷_ 93 List.[]))) (Syntax.tcons (Syntax.tyRef Syntax.erased Syntax.mut
-          (Syntax.tyInt Syntax.w16)) (Syntax.tcons (Syntax.tyInt Syntax.w64) Syntax.tnil))),
-    ) List.[])))))))))))))))
+t35 = List._∷_ e0 (List._∷_ e2 (List._∷_ e26 (List._∷_ e34 (List._∷_ e35 (List._∷_ e37 (List._∷_ e40 (List._∷_ e42 (List._∷_ e44 (List._∷_ e45 (List._∷_ e4 (List._∷_ e8 (List._∷_ e10 (List._∷_ e11
+    (List._∷_ e14 (List._∷_ e17 List.[])))))))))))))))
 
 abbrev pub t36 : List.List Row.Entry
-t36 = List._∷_ (
-  0,
-  Rows'.any-gone (Syntax.tyEnum (List._∷_ 98 (List._∷_ 108 (List._∷_ 111 (List._∷_ 99 (List._∷_ 107 (List._∷_ 58 (List._∷_ 58 (List._∷_ 68 (List._∷_ 101 (List._∷_ 99 (List._∷_ 111
-      (List._∷_ 100 (List._∷_ 101 (List._∷_ 100 List.[])))))))))))))) (Syntax.ttcons Syntax.tnil (Syntax.ttcons (Syntax.tcons (Syntax.tyEnum (List._∷_ 115 (List._∷_ 116 (List._∷_ 114 (List._∷_ 101 (List._∷_
-      97 (List._∷_ 109 (List._∷_ 58 (List._∷_ 58 (List._∷_ 82 (List._∷_ 101 (List._∷_ 102 (List._∷_ 117 (List._∷_ 115 (List._∷_ 97 (List._∷_ 108 List.[]))))))))))))))) (Syntax.ttcons Syntax.tnil
-      (Syntax.ttcons Syntax.tnil (Syntax.ttcons Syntax.tnil (Syntax.ttcons (Syntax.tcons (Syntax.tyInt Syntax.w64) Syntax.tnil) (Syntax.ttcons Syntax.tnil (Syntax.ttcons Syntax.tnil (Syntax.ttcons
-      Syntax.tnil (Syntax.ttcons Syntax.tnil (Syntax.ttcons Syntax.tnil (Syntax.ttcons Syntax.tnil (Syntax.ttcons (Syntax.tcons (Syntax.tyInt Syntax.w64) Syntax.tnil) (Syntax.ttcons (Syntax.tcons
-      (Syntax.tyInt Syntax.w64) Syntax.tnil) (Syntax.ttcons Syntax.tnil (Syntax.ttcons (Syntax.tcons (Syntax.tyInt Syntax.w64) (Syntax.tcons (Syntax.tyInt Syntax.w64) Syntax.tnil)) (Syntax.ttcons
-      (Syntax.tcons (Syntax.tyInt Syntax.w64) Syntax.tnil) Syntax.ttnil)))))))))))))))) Syntax.tnil) Syntax.ttnil))),
-) (List._∷_ (
-  1,
-  Rows'.sslice (Referent.rtF (Referent.fInt Syntax.w8)) (Syntax.tyRef
-      (Syntax.named 0) Syntax.imm (Syntax.tyInt Syntax.w8)) 0,
-) (List._∷_ (
-  2,
-  Rows'.any-gone (Syntax.tyStruct (List._∷_ 115 (List._∷_ 116 (List._∷_ 114 (List._∷_ 101 (List._∷_ 97 (List._∷_ 109 (List._∷_
-      58 (List._∷_ 58 (List._∷_ 70 (List._∷_ 117 (List._∷_ 106 (List._∷_ 105 (List._∷_ 72 (List._∷_ 101 (List._∷_ 97 (List._∷_ 100 (List._∷_ 101 (List._∷_ 114 List.[])))))))))))))))))) (Syntax.tcons
-      Syntax.tyBool (Syntax.tcons Syntax.tyBool (Syntax.tcons (Syntax.tyInt Syntax.w32) (Syntax.tcons (Syntax.tyInt Syntax.w32) (Syntax.tcons (Syntax.tyInt Syntax.w32) (Syntax.tcons (Syntax.tyInt
-      Syntax.w32) (Syntax.tcons (Syntax.tyInt Syntax.w32) (Syntax.tcons (Syntax.tyInt Syntax.w32) (Syntax.tcons (Syntax.tyInt Syntax.w32) Syntax.tnil)))))))))),
-) (List._∷_ (
-  3,
-  Rows'.sc-here (Row.sInt
-      Syntax.w64),
-) (List._∷_ (4, Mut.mslice (Referent.rtF (Referent.fInt Syntax.w16)) (Syntax.tyRef (Syntax.named 1) Syntax.mut (Syntax.tyInt Syntax.w16)) 1) (List._∷_ (
-  5,
-  Mut.mslice (Element.type)
-      (Syntax.tyRef (Syntax.named 2) Syntax.mut Element.behind) 2,
-) (List._∷_ (6, Rows'.whole (Declared'.row Form.the-type)) (List._∷_ (7, Rows'.sc-here (Row.sInt Syntax.w64)) (List._∷_ (
-  8,
-  Rows'.sslice (Referent.rtF (Referent.fInt Syntax.w8)) (Syntax.tyRef Syntax.erased Syntax.imm (Syntax.tyInt Syntax.w8)) 0,
-) (List._∷_ (
-  9,
-  Rows'.any-gone (Syntax.tyStruct (List._∷_ 38 (List._∷_ 91
-      (List._∷_ 93 List.[]))) (Syntax.tcons (Syntax.tyRef Syntax.erased Syntax.imm (Syntax.tyInt Syntax.w8)) (Syntax.tcons (Syntax.tyInt Syntax.w64) Syntax.tnil))),
-) (List._∷_ (
-  10,
-  Rows'.sc-shr (Rows.arrF
-      (Referent.rtF (Referent.fInt Syntax.w16)) 768 0) (Array'.Array (Referent.rtF (Referent.fInt Syntax.w16)) 768) (λ x. x) 6,
-) (List._∷_ (11, Rows'.any-gone (Syntax.tyArray (Syntax.tyInt Syntax.w16) 1))
-    (List._∷_ (12, Rows'.whole (Declared'.row Walked.the-type)) (List._∷_ (13, Rows'.any-gone (Syntax.tyArray (Syntax.tyInt Syntax.w16) 768)) (List._∷_ (
-      14,
-      Rows'.any-gone (Syntax.tyRef Syntax.erased
-          Syntax.mut (Syntax.tyInt Syntax.w16)),
-    ) (List._∷_ (
-      15,
-      Rows'.any-gone (Syntax.tyStruct (List._∷_ 38 (List._∷_ 91 (List._∷_ 93 List.[]))) (Syntax.tcons (Syntax.tyRef Syntax.erased Syntax.mut
-          (Syntax.tyInt Syntax.w16)) (Syntax.tcons (Syntax.tyInt Syntax.w64) Syntax.tnil))),
-    ) List.[])))))))))))))))
+t36 = List._∷_ e0 (List._∷_ e2 (List._∷_ e26 (List._∷_ e34 (List._∷_ e35 (List._∷_ e37 (List._∷_ e40 (List._∷_ e42 (List._∷_ e44 (List._∷_ e45 (List._∷_ e4 (List._∷_ e6 (List._∷_ e10 (List._∷_ e11
+    (List._∷_ e14 (List._∷_ e17 List.[])))))))))))))))
 
 abbrev pub t37 : List.List Row.Entry
-t37 = List._∷_ (
-  0,
-  Rows'.any-gone (Syntax.tyEnum (List._∷_ 98 (List._∷_ 108 (List._∷_ 111 (List._∷_ 99 (List._∷_ 107 (List._∷_ 58 (List._∷_ 58 (List._∷_ 68 (List._∷_ 101 (List._∷_ 99 (List._∷_ 111
-      (List._∷_ 100 (List._∷_ 101 (List._∷_ 100 List.[])))))))))))))) (Syntax.ttcons Syntax.tnil (Syntax.ttcons (Syntax.tcons (Syntax.tyEnum (List._∷_ 115 (List._∷_ 116 (List._∷_ 114 (List._∷_ 101 (List._∷_
-      97 (List._∷_ 109 (List._∷_ 58 (List._∷_ 58 (List._∷_ 82 (List._∷_ 101 (List._∷_ 102 (List._∷_ 117 (List._∷_ 115 (List._∷_ 97 (List._∷_ 108 List.[]))))))))))))))) (Syntax.ttcons Syntax.tnil
-      (Syntax.ttcons Syntax.tnil (Syntax.ttcons Syntax.tnil (Syntax.ttcons (Syntax.tcons (Syntax.tyInt Syntax.w64) Syntax.tnil) (Syntax.ttcons Syntax.tnil (Syntax.ttcons Syntax.tnil (Syntax.ttcons
-      Syntax.tnil (Syntax.ttcons Syntax.tnil (Syntax.ttcons Syntax.tnil (Syntax.ttcons Syntax.tnil (Syntax.ttcons (Syntax.tcons (Syntax.tyInt Syntax.w64) Syntax.tnil) (Syntax.ttcons (Syntax.tcons
-      (Syntax.tyInt Syntax.w64) Syntax.tnil) (Syntax.ttcons Syntax.tnil (Syntax.ttcons (Syntax.tcons (Syntax.tyInt Syntax.w64) (Syntax.tcons (Syntax.tyInt Syntax.w64) Syntax.tnil)) (Syntax.ttcons
-      (Syntax.tcons (Syntax.tyInt Syntax.w64) Syntax.tnil) Syntax.ttnil)))))))))))))))) Syntax.tnil) Syntax.ttnil))),
-) (List._∷_ (
-  1,
-  Rows'.sslice (Referent.rtF (Referent.fInt Syntax.w8)) (Syntax.tyRef
-      (Syntax.named 0) Syntax.imm (Syntax.tyInt Syntax.w8)) 0,
-) (List._∷_ (
-  2,
-  Rows'.any-gone (Syntax.tyStruct (List._∷_ 115 (List._∷_ 116 (List._∷_ 114 (List._∷_ 101 (List._∷_ 97 (List._∷_ 109 (List._∷_
-      58 (List._∷_ 58 (List._∷_ 70 (List._∷_ 117 (List._∷_ 106 (List._∷_ 105 (List._∷_ 72 (List._∷_ 101 (List._∷_ 97 (List._∷_ 100 (List._∷_ 101 (List._∷_ 114 List.[])))))))))))))))))) (Syntax.tcons
-      Syntax.tyBool (Syntax.tcons Syntax.tyBool (Syntax.tcons (Syntax.tyInt Syntax.w32) (Syntax.tcons (Syntax.tyInt Syntax.w32) (Syntax.tcons (Syntax.tyInt Syntax.w32) (Syntax.tcons (Syntax.tyInt
-      Syntax.w32) (Syntax.tcons (Syntax.tyInt Syntax.w32) (Syntax.tcons (Syntax.tyInt Syntax.w32) (Syntax.tcons (Syntax.tyInt Syntax.w32) Syntax.tnil)))))))))),
-) (List._∷_ (
-  3,
-  Rows'.sc-here (Row.sInt
-      Syntax.w64),
-) (List._∷_ (4, Mut.mslice (Referent.rtF (Referent.fInt Syntax.w16)) (Syntax.tyRef (Syntax.named 1) Syntax.mut (Syntax.tyInt Syntax.w16)) 1) (List._∷_ (
-  5,
-  Mut.mslice (Element.type)
-      (Syntax.tyRef (Syntax.named 2) Syntax.mut Element.behind) 2,
-) (List._∷_ (6, Rows'.whole (Declared'.row Form.the-type)) (List._∷_ (7, Rows'.sc-here (Row.sInt Syntax.w64)) (List._∷_ (
-  8,
-  Rows'.sslice (Referent.rtF (Referent.fInt Syntax.w8)) (Syntax.tyRef Syntax.erased Syntax.imm (Syntax.tyInt Syntax.w8)) 0,
-) (List._∷_ (
-  9,
-  Rows'.any-gone (Syntax.tyStruct (List._∷_ 38 (List._∷_ 91
-      (List._∷_ 93 List.[]))) (Syntax.tcons (Syntax.tyRef Syntax.erased Syntax.imm (Syntax.tyInt Syntax.w8)) (Syntax.tcons (Syntax.tyInt Syntax.w64) Syntax.tnil))),
-) (List._∷_ (
-  10,
-  Rows.arrF (Referent.rtF
-      (Referent.fInt Syntax.w16)) 768 0,
-) (List._∷_ (11, Rows'.any-gone (Syntax.tyArray (Syntax.tyInt Syntax.w16) 1)) (List._∷_ (12, Rows'.whole (Declared'.row Walked.the-type)) (List._∷_ (
-  13,
-  Rows'.any-gone (Syntax.tyArray (Syntax.tyInt Syntax.w16) 768),
-) (List._∷_ (14, Rows'.any-gone (Syntax.tyRef Syntax.erased Syntax.mut (Syntax.tyInt Syntax.w16))) (List._∷_ (
-  15,
-  Rows'.any-gone
-      (Syntax.tyStruct (List._∷_ 38 (List._∷_ 91 (List._∷_ 93 List.[]))) (Syntax.tcons (Syntax.tyRef Syntax.erased Syntax.mut (Syntax.tyInt Syntax.w16)) (Syntax.tcons (Syntax.tyInt Syntax.w64)
-      Syntax.tnil))),
-) List.[])))))))))))))))
+t37 = List._∷_ e0 (List._∷_ e2 (List._∷_ e26 (List._∷_ e34 (List._∷_ e35 (List._∷_ e37 (List._∷_ e40 (List._∷_ e42 (List._∷_ e44 (List._∷_ e45 (List._∷_ e5 (List._∷_ e6 (List._∷_ e10 (List._∷_ e11
+    (List._∷_ e14 (List._∷_ e17 List.[])))))))))))))))
 
 abbrev pub t38 : List.List Row.Entry
-t38 = List._∷_ (
-  0,
-  Rows'.any-gone (Syntax.tyEnum (List._∷_ 98 (List._∷_ 108 (List._∷_ 111 (List._∷_ 99 (List._∷_ 107 (List._∷_ 58 (List._∷_ 58 (List._∷_ 68 (List._∷_ 101 (List._∷_ 99 (List._∷_ 111
-      (List._∷_ 100 (List._∷_ 101 (List._∷_ 100 List.[])))))))))))))) (Syntax.ttcons Syntax.tnil (Syntax.ttcons (Syntax.tcons (Syntax.tyEnum (List._∷_ 115 (List._∷_ 116 (List._∷_ 114 (List._∷_ 101 (List._∷_
-      97 (List._∷_ 109 (List._∷_ 58 (List._∷_ 58 (List._∷_ 82 (List._∷_ 101 (List._∷_ 102 (List._∷_ 117 (List._∷_ 115 (List._∷_ 97 (List._∷_ 108 List.[]))))))))))))))) (Syntax.ttcons Syntax.tnil
-      (Syntax.ttcons Syntax.tnil (Syntax.ttcons Syntax.tnil (Syntax.ttcons (Syntax.tcons (Syntax.tyInt Syntax.w64) Syntax.tnil) (Syntax.ttcons Syntax.tnil (Syntax.ttcons Syntax.tnil (Syntax.ttcons
-      Syntax.tnil (Syntax.ttcons Syntax.tnil (Syntax.ttcons Syntax.tnil (Syntax.ttcons Syntax.tnil (Syntax.ttcons (Syntax.tcons (Syntax.tyInt Syntax.w64) Syntax.tnil) (Syntax.ttcons (Syntax.tcons
-      (Syntax.tyInt Syntax.w64) Syntax.tnil) (Syntax.ttcons Syntax.tnil (Syntax.ttcons (Syntax.tcons (Syntax.tyInt Syntax.w64) (Syntax.tcons (Syntax.tyInt Syntax.w64) Syntax.tnil)) (Syntax.ttcons
-      (Syntax.tcons (Syntax.tyInt Syntax.w64) Syntax.tnil) Syntax.ttnil)))))))))))))))) Syntax.tnil) Syntax.ttnil))),
-) (List._∷_ (
-  1,
-  Rows'.sslice (Referent.rtF (Referent.fInt Syntax.w8)) (Syntax.tyRef
-      (Syntax.named 0) Syntax.imm (Syntax.tyInt Syntax.w8)) 0,
-) (List._∷_ (
-  2,
-  Rows'.any-gone (Syntax.tyStruct (List._∷_ 115 (List._∷_ 116 (List._∷_ 114 (List._∷_ 101 (List._∷_ 97 (List._∷_ 109 (List._∷_
-      58 (List._∷_ 58 (List._∷_ 70 (List._∷_ 117 (List._∷_ 106 (List._∷_ 105 (List._∷_ 72 (List._∷_ 101 (List._∷_ 97 (List._∷_ 100 (List._∷_ 101 (List._∷_ 114 List.[])))))))))))))))))) (Syntax.tcons
-      Syntax.tyBool (Syntax.tcons Syntax.tyBool (Syntax.tcons (Syntax.tyInt Syntax.w32) (Syntax.tcons (Syntax.tyInt Syntax.w32) (Syntax.tcons (Syntax.tyInt Syntax.w32) (Syntax.tcons (Syntax.tyInt
-      Syntax.w32) (Syntax.tcons (Syntax.tyInt Syntax.w32) (Syntax.tcons (Syntax.tyInt Syntax.w32) (Syntax.tcons (Syntax.tyInt Syntax.w32) Syntax.tnil)))))))))),
-) (List._∷_ (
-  3,
-  Rows'.sc-here (Row.sInt
-      Syntax.w64),
-) (List._∷_ (4, Mut.mslice (Referent.rtF (Referent.fInt Syntax.w16)) (Syntax.tyRef (Syntax.named 1) Syntax.mut (Syntax.tyInt Syntax.w16)) 1) (List._∷_ (
-  5,
-  Mut.mslice (Element.type)
-      (Syntax.tyRef (Syntax.named 2) Syntax.mut Element.behind) 2,
-) (List._∷_ (6, Rows'.whole (Declared'.row Form.the-type)) (List._∷_ (7, Rows'.sc-here (Row.sInt Syntax.w64)) (List._∷_ (
-  8,
-  Rows'.sslice (Referent.rtF (Referent.fInt Syntax.w8)) (Syntax.tyRef Syntax.erased Syntax.imm (Syntax.tyInt Syntax.w8)) 0,
-) (List._∷_ (
-  9,
-  Rows'.any-gone (Syntax.tyStruct (List._∷_ 38 (List._∷_ 91
-      (List._∷_ 93 List.[]))) (Syntax.tcons (Syntax.tyRef Syntax.erased Syntax.imm (Syntax.tyInt Syntax.w8)) (Syntax.tcons (Syntax.tyInt Syntax.w64) Syntax.tnil))),
-) (List._∷_ (
-  10,
-  Rows'.any-gone
-      (Syntax.tyArray (Syntax.tyInt Syntax.w16) 768),
-) (List._∷_ (11, Rows'.any-gone (Syntax.tyArray (Syntax.tyInt Syntax.w16) 1)) (List._∷_ (12, Rows'.whole (Declared'.row Walked.the-type)) (List._∷_ (
-  13,
-  Rows'.any-gone (Syntax.tyArray (Syntax.tyInt Syntax.w16) 768),
-) (List._∷_ (14, Rows'.any-gone (Syntax.tyRef Syntax.erased Syntax.mut (Syntax.tyInt Syntax.w16))) (List._∷_ (
-  15,
-  Rows'.any-gone
-      (Syntax.tyStruct (List._∷_ 38 (List._∷_ 91 (List._∷_ 93 List.[]))) (Syntax.tcons (Syntax.tyRef Syntax.erased Syntax.mut (Syntax.tyInt Syntax.w16)) (Syntax.tcons (Syntax.tyInt Syntax.w64)
-      Syntax.tnil))),
-) List.[])))))))))))))))
+t38 = List._∷_ e0 (List._∷_ e2 (List._∷_ e26 (List._∷_ e34 (List._∷_ e35 (List._∷_ e37 (List._∷_ e40 (List._∷_ e42 (List._∷_ e44 (List._∷_ e45 (List._∷_ e3 (List._∷_ e6 (List._∷_ e10 (List._∷_ e11
+    (List._∷_ e14 (List._∷_ e17 List.[])))))))))))))))
 
 abbrev pub t39 : List.List Row.Entry
-t39 = List._∷_ (0, Rows'.whole (Declared.row Decoded.the-type)) (List._∷_ (
-  1,
-  Rows'.sslice (Referent.rtF (Referent.fInt Syntax.w8)) (Syntax.tyRef (Syntax.named 0) Syntax.imm (Syntax.tyInt Syntax.w8))
-      0,
-) (List._∷_ (
-  2,
-  Rows'.any-gone (Syntax.tyStruct (List._∷_ 115 (List._∷_ 116 (List._∷_ 114 (List._∷_ 101 (List._∷_ 97 (List._∷_ 109 (List._∷_ 58 (List._∷_ 58 (List._∷_ 70 (List._∷_ 117 (List._∷_
-      106 (List._∷_ 105 (List._∷_ 72 (List._∷_ 101 (List._∷_ 97 (List._∷_ 100 (List._∷_ 101 (List._∷_ 114 List.[])))))))))))))))))) (Syntax.tcons Syntax.tyBool (Syntax.tcons Syntax.tyBool (Syntax.tcons
-      (Syntax.tyInt Syntax.w32) (Syntax.tcons (Syntax.tyInt Syntax.w32) (Syntax.tcons (Syntax.tyInt Syntax.w32) (Syntax.tcons (Syntax.tyInt Syntax.w32) (Syntax.tcons (Syntax.tyInt Syntax.w32) (Syntax.tcons
-      (Syntax.tyInt Syntax.w32) (Syntax.tcons (Syntax.tyInt Syntax.w32) Syntax.tnil)))))))))),
-) (List._∷_ (3, Rows'.sc-here (Row.sInt Syntax.w64)) (List._∷_ (
-  4,
-  Mut.mslice (Referent.rtF (Referent.fInt
-      Syntax.w16)) (Syntax.tyRef (Syntax.named 1) Syntax.mut (Syntax.tyInt Syntax.w16)) 1,
-) (List._∷_ (5, Mut.mslice (Element.type) (Syntax.tyRef (Syntax.named 2) Syntax.mut Element.behind) 2) (List._∷_
-    (6, Rows'.whole (Declared'.row Form.the-type)) (List._∷_ (7, Rows'.sc-here (Row.sInt Syntax.w64)) (List._∷_ (
-      8,
-      Rows'.sslice (Referent.rtF (Referent.fInt Syntax.w8)) (Syntax.tyRef Syntax.erased
-          Syntax.imm (Syntax.tyInt Syntax.w8)) 0,
-    ) (List._∷_ (
-      9,
-      Rows'.any-gone (Syntax.tyStruct (List._∷_ 38 (List._∷_ 91 (List._∷_ 93 List.[]))) (Syntax.tcons (Syntax.tyRef Syntax.erased Syntax.imm
-          (Syntax.tyInt Syntax.w8)) (Syntax.tcons (Syntax.tyInt Syntax.w64) Syntax.tnil))),
-    ) (List._∷_ (10, Rows'.any-gone (Syntax.tyArray (Syntax.tyInt Syntax.w16) 768)) (List._∷_ (
-      11,
-      Rows'.any-gone
-          (Syntax.tyArray (Syntax.tyInt Syntax.w16) 1),
-    ) (List._∷_ (12, Rows'.whole (Declared'.row Walked.the-type)) (List._∷_ (13, Rows'.any-gone (Syntax.tyArray (Syntax.tyInt Syntax.w16) 768)) (List._∷_ (
-      14,
-      Rows'.any-gone (Syntax.tyRef Syntax.erased Syntax.mut (Syntax.tyInt Syntax.w16)),
-    ) (List._∷_ (
-      15,
-      Rows'.any-gone (Syntax.tyStruct (List._∷_ 38 (List._∷_ 91 (List._∷_ 93 List.[]))) (Syntax.tcons
-          (Syntax.tyRef Syntax.erased Syntax.mut (Syntax.tyInt Syntax.w16)) (Syntax.tcons (Syntax.tyInt Syntax.w64) Syntax.tnil))),
-    ) List.[])))))))))))))))
+t39 = List._∷_ e1 (List._∷_ e2 (List._∷_ e26 (List._∷_ e34 (List._∷_ e35 (List._∷_ e37 (List._∷_ e40 (List._∷_ e42 (List._∷_ e44 (List._∷_ e45 (List._∷_ e3 (List._∷_ e6 (List._∷_ e10 (List._∷_ e11
+    (List._∷_ e14 (List._∷_ e17 List.[])))))))))))))))
 
 abbrev pub t40 : List.List Row.Entry
-t40 = List._∷_ (0, Rows'.whole (Declared.row Decoded.the-type)) (List._∷_ (
-  1,
-  Rows'.sslice (Referent.rtF (Referent.fInt Syntax.w8)) (Syntax.tyRef (Syntax.named 0) Syntax.imm (Syntax.tyInt Syntax.w8))
-      0,
-) (List._∷_ (
-  2,
-  Rows'.any-gone (Syntax.tyStruct (List._∷_ 115 (List._∷_ 116 (List._∷_ 114 (List._∷_ 101 (List._∷_ 97 (List._∷_ 109 (List._∷_ 58 (List._∷_ 58 (List._∷_ 70 (List._∷_ 117 (List._∷_
-      106 (List._∷_ 105 (List._∷_ 72 (List._∷_ 101 (List._∷_ 97 (List._∷_ 100 (List._∷_ 101 (List._∷_ 114 List.[])))))))))))))))))) (Syntax.tcons Syntax.tyBool (Syntax.tcons Syntax.tyBool (Syntax.tcons
-      (Syntax.tyInt Syntax.w32) (Syntax.tcons (Syntax.tyInt Syntax.w32) (Syntax.tcons (Syntax.tyInt Syntax.w32) (Syntax.tcons (Syntax.tyInt Syntax.w32) (Syntax.tcons (Syntax.tyInt Syntax.w32) (Syntax.tcons
-      (Syntax.tyInt Syntax.w32) (Syntax.tcons (Syntax.tyInt Syntax.w32) Syntax.tnil)))))))))),
-) (List._∷_ (3, Rows'.sc-here (Row.sInt Syntax.w64)) (List._∷_ (
-  4,
-  Mut.mslice (Referent.rtF (Referent.fInt
-      Syntax.w16)) (Syntax.tyRef (Syntax.named 1) Syntax.mut (Syntax.tyInt Syntax.w16)) 1,
-) (List._∷_ (5, Mut.mslice (Element.type) (Syntax.tyRef (Syntax.named 2) Syntax.mut Element.behind) 2) (List._∷_
-    (6, Rows'.whole (Declared'.row Form.the-type)) (List._∷_ (7, Rows'.sc-here (Row.sInt Syntax.w64)) (List._∷_ (
-      8,
-      Rows'.any-gone (Syntax.tyStruct (List._∷_ 38 (List._∷_ 91 (List._∷_ 93 List.[])))
-          (Syntax.tcons (Syntax.tyRef Syntax.erased Syntax.imm (Syntax.tyInt Syntax.w8)) (Syntax.tcons (Syntax.tyInt Syntax.w64) Syntax.tnil))),
-    ) (List._∷_ (
-      9,
-      Rows'.any-gone (Syntax.tyStruct (List._∷_ 38
-          (List._∷_ 91 (List._∷_ 93 List.[]))) (Syntax.tcons (Syntax.tyRef Syntax.erased Syntax.imm (Syntax.tyInt Syntax.w8)) (Syntax.tcons (Syntax.tyInt Syntax.w64) Syntax.tnil))),
-    ) (List._∷_ (
-      10,
-      Rows'.any-gone (Syntax.tyArray (Syntax.tyInt Syntax.w16) 768),
-    ) (List._∷_ (11, Rows'.any-gone (Syntax.tyArray (Syntax.tyInt Syntax.w16) 1)) (List._∷_ (
-      12,
-      Rows'.whole (Declared'.row
-          Walked.the-type),
-    ) (List._∷_ (13, Rows'.any-gone (Syntax.tyArray (Syntax.tyInt Syntax.w16) 768)) (List._∷_ (14, Rows'.any-gone (Syntax.tyRef Syntax.erased Syntax.mut (Syntax.tyInt Syntax.w16)))
-    (List._∷_ (
-      15,
-      Rows'.any-gone (Syntax.tyStruct (List._∷_ 38 (List._∷_ 91 (List._∷_ 93 List.[]))) (Syntax.tcons (Syntax.tyRef Syntax.erased Syntax.mut (Syntax.tyInt Syntax.w16)) (Syntax.tcons
-          (Syntax.tyInt Syntax.w64) Syntax.tnil))),
-    ) List.[])))))))))))))))
+t40 = List._∷_ e1 (List._∷_ e2 (List._∷_ e26 (List._∷_ e34 (List._∷_ e35 (List._∷_ e37 (List._∷_ e40 (List._∷_ e42 (List._∷_ e43 (List._∷_ e45 (List._∷_ e3 (List._∷_ e6 (List._∷_ e10 (List._∷_ e11
+    (List._∷_ e14 (List._∷_ e17 List.[])))))))))))))))
 
 abbrev pub t41 : List.List Row.Entry
-t41 = List._∷_ (0, Rows'.whole (Declared.row Decoded.the-type)) (List._∷_ (
-  1,
-  Rows'.sslice (Referent.rtF (Referent.fInt Syntax.w8)) (Syntax.tyRef (Syntax.named 0) Syntax.imm (Syntax.tyInt Syntax.w8))
-      0,
-) (List._∷_ (
-  2,
-  Rows'.any-gone (Syntax.tyStruct (List._∷_ 115 (List._∷_ 116 (List._∷_ 114 (List._∷_ 101 (List._∷_ 97 (List._∷_ 109 (List._∷_ 58 (List._∷_ 58 (List._∷_ 70 (List._∷_ 117 (List._∷_
-      106 (List._∷_ 105 (List._∷_ 72 (List._∷_ 101 (List._∷_ 97 (List._∷_ 100 (List._∷_ 101 (List._∷_ 114 List.[])))))))))))))))))) (Syntax.tcons Syntax.tyBool (Syntax.tcons Syntax.tyBool (Syntax.tcons
-      (Syntax.tyInt Syntax.w32) (Syntax.tcons (Syntax.tyInt Syntax.w32) (Syntax.tcons (Syntax.tyInt Syntax.w32) (Syntax.tcons (Syntax.tyInt Syntax.w32) (Syntax.tcons (Syntax.tyInt Syntax.w32) (Syntax.tcons
-      (Syntax.tyInt Syntax.w32) (Syntax.tcons (Syntax.tyInt Syntax.w32) Syntax.tnil)))))))))),
-) (List._∷_ (3, Rows'.sc-here (Row.sInt Syntax.w64)) (List._∷_ (
-  4,
-  Mut.mslice (Referent.rtF (Referent.fInt
-      Syntax.w16)) (Syntax.tyRef (Syntax.named 1) Syntax.mut (Syntax.tyInt Syntax.w16)) 1,
-) (List._∷_ (5, Mut.mslice (Element.type) (Syntax.tyRef (Syntax.named 2) Syntax.mut Element.behind) 2) (List._∷_ (
-  6,
-  Rows'.any-gone (Syntax.tyStruct (List._∷_ 98 (List._∷_ 108 (List._∷_ 111 (List._∷_ 99 (List._∷_ 107 (List._∷_ 58 (List._∷_ 58 (List._∷_ 70 (List._∷_ 111 (List._∷_ 114 (List._∷_ 109
-      List.[]))))))))))) (Syntax.tcons (Syntax.tyInt Syntax.w32) (Syntax.tcons Syntax.tyBool Syntax.tnil))),
-) (List._∷_ (7, Rows'.sc-here (Row.sInt Syntax.w64)) (List._∷_ (
-  8,
-  Rows'.any-gone
-      (Syntax.tyStruct (List._∷_ 38 (List._∷_ 91 (List._∷_ 93 List.[]))) (Syntax.tcons (Syntax.tyRef Syntax.erased Syntax.imm (Syntax.tyInt Syntax.w8)) (Syntax.tcons (Syntax.tyInt Syntax.w64)
-      Syntax.tnil))),
-) (List._∷_ (
-  9,
-  Rows'.any-gone (Syntax.tyStruct (List._∷_ 38 (List._∷_ 91 (List._∷_ 93 List.[]))) (Syntax.tcons (Syntax.tyRef Syntax.erased Syntax.imm (Syntax.tyInt Syntax.w8))
-      (Syntax.tcons (Syntax.tyInt Syntax.w64) Syntax.tnil))),
-) (List._∷_ (10, Rows'.any-gone (Syntax.tyArray (Syntax.tyInt Syntax.w16) 768)) (List._∷_ (
-  11,
-  Rows'.any-gone (Syntax.tyArray (Syntax.tyInt
-      Syntax.w16) 1),
-) (List._∷_ (12, Rows'.whole (Declared'.row Walked.the-type)) (List._∷_ (13, Rows'.any-gone (Syntax.tyArray (Syntax.tyInt Syntax.w16) 768)) (List._∷_ (
-  14,
-  Rows'.any-gone
-      (Syntax.tyRef Syntax.erased Syntax.mut (Syntax.tyInt Syntax.w16)),
-) (List._∷_ (
-  15,
-  Rows'.any-gone (Syntax.tyStruct (List._∷_ 38 (List._∷_ 91 (List._∷_ 93 List.[]))) (Syntax.tcons (Syntax.tyRef
-      Syntax.erased Syntax.mut (Syntax.tyInt Syntax.w16)) (Syntax.tcons (Syntax.tyInt Syntax.w64) Syntax.tnil))),
-) List.[])))))))))))))))
+t41 = List._∷_ e1 (List._∷_ e2 (List._∷_ e26 (List._∷_ e34 (List._∷_ e35 (List._∷_ e37 (List._∷_ e39 (List._∷_ e42 (List._∷_ e43 (List._∷_ e45 (List._∷_ e3 (List._∷_ e6 (List._∷_ e10 (List._∷_ e11
+    (List._∷_ e14 (List._∷_ e17 List.[])))))))))))))))
 
 abbrev pub t42 : List.List Row.Entry
-t42 = List._∷_ (0, Rows'.whole (Declared.row Decoded.the-type)) (List._∷_ (
-  1,
-  Rows'.sslice (Referent.rtF (Referent.fInt Syntax.w8)) (Syntax.tyRef (Syntax.named 0) Syntax.imm (Syntax.tyInt Syntax.w8))
-      0,
-) (List._∷_ (
-  2,
-  Rows'.any-gone (Syntax.tyStruct (List._∷_ 115 (List._∷_ 116 (List._∷_ 114 (List._∷_ 101 (List._∷_ 97 (List._∷_ 109 (List._∷_ 58 (List._∷_ 58 (List._∷_ 70 (List._∷_ 117 (List._∷_
-      106 (List._∷_ 105 (List._∷_ 72 (List._∷_ 101 (List._∷_ 97 (List._∷_ 100 (List._∷_ 101 (List._∷_ 114 List.[])))))))))))))))))) (Syntax.tcons Syntax.tyBool (Syntax.tcons Syntax.tyBool (Syntax.tcons
-      (Syntax.tyInt Syntax.w32) (Syntax.tcons (Syntax.tyInt Syntax.w32) (Syntax.tcons (Syntax.tyInt Syntax.w32) (Syntax.tcons (Syntax.tyInt Syntax.w32) (Syntax.tcons (Syntax.tyInt Syntax.w32) (Syntax.tcons
-      (Syntax.tyInt Syntax.w32) (Syntax.tcons (Syntax.tyInt Syntax.w32) Syntax.tnil)))))))))),
-) (List._∷_ (3, Rows'.sc-here (Row.sInt Syntax.w64)) (List._∷_ (
-  4,
-  Mut.mslice (Referent.rtF (Referent.fInt
-      Syntax.w16)) (Syntax.tyRef (Syntax.named 1) Syntax.mut (Syntax.tyInt Syntax.w16)) 1,
-) (List._∷_ (5, Mut.mslice (Element.type) (Syntax.tyRef (Syntax.named 2) Syntax.mut Element.behind) 2) (List._∷_ (
-  6,
-  Rows'.any-gone (Syntax.tyStruct (List._∷_ 98 (List._∷_ 108 (List._∷_ 111 (List._∷_ 99 (List._∷_ 107 (List._∷_ 58 (List._∷_ 58 (List._∷_ 70 (List._∷_ 111 (List._∷_ 114 (List._∷_ 109
-      List.[]))))))))))) (Syntax.tcons (Syntax.tyInt Syntax.w32) (Syntax.tcons Syntax.tyBool Syntax.tnil))),
-) (List._∷_ (7, Rows'.any-gone (Syntax.tyInt Syntax.w64)) (List._∷_ (
-  8,
-  Rows'.any-gone
-      (Syntax.tyStruct (List._∷_ 38 (List._∷_ 91 (List._∷_ 93 List.[]))) (Syntax.tcons (Syntax.tyRef Syntax.erased Syntax.imm (Syntax.tyInt Syntax.w8)) (Syntax.tcons (Syntax.tyInt Syntax.w64)
-      Syntax.tnil))),
-) (List._∷_ (
-  9,
-  Rows'.any-gone (Syntax.tyStruct (List._∷_ 38 (List._∷_ 91 (List._∷_ 93 List.[]))) (Syntax.tcons (Syntax.tyRef Syntax.erased Syntax.imm (Syntax.tyInt Syntax.w8))
-      (Syntax.tcons (Syntax.tyInt Syntax.w64) Syntax.tnil))),
-) (List._∷_ (10, Rows'.any-gone (Syntax.tyArray (Syntax.tyInt Syntax.w16) 768)) (List._∷_ (
-  11,
-  Rows'.any-gone (Syntax.tyArray (Syntax.tyInt
-      Syntax.w16) 1),
-) (List._∷_ (12, Rows'.whole (Declared'.row Walked.the-type)) (List._∷_ (13, Rows'.any-gone (Syntax.tyArray (Syntax.tyInt Syntax.w16) 768)) (List._∷_ (
-  14,
-  Rows'.any-gone
-      (Syntax.tyRef Syntax.erased Syntax.mut (Syntax.tyInt Syntax.w16)),
-) (List._∷_ (
-  15,
-  Rows'.any-gone (Syntax.tyStruct (List._∷_ 38 (List._∷_ 91 (List._∷_ 93 List.[]))) (Syntax.tcons (Syntax.tyRef
-      Syntax.erased Syntax.mut (Syntax.tyInt Syntax.w16)) (Syntax.tcons (Syntax.tyInt Syntax.w64) Syntax.tnil))),
-) List.[])))))))))))))))
+t42 = List._∷_ e1 (List._∷_ e2 (List._∷_ e26 (List._∷_ e34 (List._∷_ e35 (List._∷_ e37 (List._∷_ e39 (List._∷_ e41 (List._∷_ e43 (List._∷_ e45 (List._∷_ e3 (List._∷_ e6 (List._∷_ e10 (List._∷_ e11
+    (List._∷_ e14 (List._∷_ e17 List.[])))))))))))))))
 
 abbrev pub t43 : List.List Row.Entry
-t43 = List._∷_ (0, Rows'.whole (Declared.row Decoded.the-type)) (List._∷_ (
-  1,
-  Rows'.sslice (Referent.rtF (Referent.fInt Syntax.w8)) (Syntax.tyRef (Syntax.named 0) Syntax.imm (Syntax.tyInt Syntax.w8))
-      0,
-) (List._∷_ (
-  2,
-  Rows'.any-gone (Syntax.tyStruct (List._∷_ 115 (List._∷_ 116 (List._∷_ 114 (List._∷_ 101 (List._∷_ 97 (List._∷_ 109 (List._∷_ 58 (List._∷_ 58 (List._∷_ 70 (List._∷_ 117 (List._∷_
-      106 (List._∷_ 105 (List._∷_ 72 (List._∷_ 101 (List._∷_ 97 (List._∷_ 100 (List._∷_ 101 (List._∷_ 114 List.[])))))))))))))))))) (Syntax.tcons Syntax.tyBool (Syntax.tcons Syntax.tyBool (Syntax.tcons
-      (Syntax.tyInt Syntax.w32) (Syntax.tcons (Syntax.tyInt Syntax.w32) (Syntax.tcons (Syntax.tyInt Syntax.w32) (Syntax.tcons (Syntax.tyInt Syntax.w32) (Syntax.tcons (Syntax.tyInt Syntax.w32) (Syntax.tcons
-      (Syntax.tyInt Syntax.w32) (Syntax.tcons (Syntax.tyInt Syntax.w32) Syntax.tnil)))))))))),
-) (List._∷_ (3, Rows'.sc-here (Row.sInt Syntax.w64)) (List._∷_ (
-  4,
-  Mut.mslice (Referent.rtF (Referent.fInt
-      Syntax.w16)) (Syntax.tyRef (Syntax.named 1) Syntax.mut (Syntax.tyInt Syntax.w16)) 1,
-) (List._∷_ (5, Mut.mslice (Element.type) (Syntax.tyRef (Syntax.named 2) Syntax.mut Element.behind) 2) (List._∷_ (
-  6,
-  Rows'.any-gone (Syntax.tyStruct (List._∷_ 98 (List._∷_ 108 (List._∷_ 111 (List._∷_ 99 (List._∷_ 107 (List._∷_ 58 (List._∷_ 58 (List._∷_ 70 (List._∷_ 111 (List._∷_ 114 (List._∷_ 109
-      List.[]))))))))))) (Syntax.tcons (Syntax.tyInt Syntax.w32) (Syntax.tcons Syntax.tyBool Syntax.tnil))),
-) (List._∷_ (7, Rows'.any-gone (Syntax.tyInt Syntax.w64)) (List._∷_ (
-  8,
-  Rows'.any-gone
-      (Syntax.tyStruct (List._∷_ 38 (List._∷_ 91 (List._∷_ 93 List.[]))) (Syntax.tcons (Syntax.tyRef Syntax.erased Syntax.imm (Syntax.tyInt Syntax.w8)) (Syntax.tcons (Syntax.tyInt Syntax.w64)
-      Syntax.tnil))),
-) (List._∷_ (
-  9,
-  Rows'.any-gone (Syntax.tyStruct (List._∷_ 38 (List._∷_ 91 (List._∷_ 93 List.[]))) (Syntax.tcons (Syntax.tyRef Syntax.erased Syntax.imm (Syntax.tyInt Syntax.w8))
-      (Syntax.tcons (Syntax.tyInt Syntax.w64) Syntax.tnil))),
-) (List._∷_ (10, Rows'.any-gone (Syntax.tyArray (Syntax.tyInt Syntax.w16) 768)) (List._∷_ (
-  11,
-  Rows'.any-gone (Syntax.tyArray (Syntax.tyInt
-      Syntax.w16) 1),
-) (List._∷_ (
-  12,
-  Rows'.any-gone (Syntax.tyStruct (List._∷_ 98 (List._∷_ 108 (List._∷_ 111 (List._∷_ 99 (List._∷_ 107 (List._∷_ 58 (List._∷_ 58 (List._∷_ 87 (List._∷_ 97 (List._∷_ 108
-      (List._∷_ 107 (List._∷_ 101 (List._∷_ 100 List.[]))))))))))))) (Syntax.tcons Syntax.tyBool (Syntax.tcons (Syntax.tyInt Syntax.w64) (Syntax.tcons (Syntax.tyStruct (List._∷_ 98 (List._∷_ 105 (List._∷_
-      116 (List._∷_ 115 (List._∷_ 58 (List._∷_ 58 (List._∷_ 66 (List._∷_ 105 (List._∷_ 116 (List._∷_ 80 (List._∷_ 111 (List._∷_ 115 (List._∷_ 105 (List._∷_ 116 (List._∷_ 105 (List._∷_ 111 (List._∷_ 110
-      List.[]))))))))))))))))) (Syntax.tcons (Syntax.tyInt Syntax.w64) Syntax.tnil)) (Syntax.tcons (Syntax.tyInt Syntax.w64) Syntax.tnil))))),
-) (List._∷_ (
-  13,
-  Rows'.any-gone (Syntax.tyArray (Syntax.tyInt
-      Syntax.w16) 768),
-) (List._∷_ (14, Rows'.any-gone (Syntax.tyRef Syntax.erased Syntax.mut (Syntax.tyInt Syntax.w16))) (List._∷_ (
-  15,
-  Rows'.any-gone (Syntax.tyStruct (List._∷_ 38 (List._∷_ 91
-      (List._∷_ 93 List.[]))) (Syntax.tcons (Syntax.tyRef Syntax.erased Syntax.mut (Syntax.tyInt Syntax.w16)) (Syntax.tcons (Syntax.tyInt Syntax.w64) Syntax.tnil))),
-) List.[])))))))))))))))
+t43 = List._∷_ e1 (List._∷_ e2 (List._∷_ e26 (List._∷_ e34 (List._∷_ e35 (List._∷_ e37 (List._∷_ e39 (List._∷_ e41 (List._∷_ e43 (List._∷_ e45 (List._∷_ e3 (List._∷_ e6 (List._∷_ e9 (List._∷_ e11
+    (List._∷_ e14 (List._∷_ e17 List.[])))))))))))))))
 
 abbrev pub T0 : Row.Cx
 T0 = record { locals = List._++_ t0 t1; slots = List.[] }
@@ -2351,28 +952,21 @@ module _ (claims· : Claims) where
   s1 = λ bs. Know.k-sl-known (Referent.fInt Syntax.w16) T2 4 1 (Syntax.tyRef (Syntax.named 1) Syntax.mut (Syntax.tyInt Syntax.w16)) Row.off 0 λ x. x
 
   abbrev s2 : (bs : List.List Nat.ℕ) → Typed.Both T3 T4
-  s2 = λ bs. Call.callB ps·0 r·0 (claims· .0) (claims· .1) T3 (record { pos = 2; st = List.[]; d = 0; at = λ x. x }, tt) 6 List.[] (Syntax.tyStruct (List._∷_ 98 (List._∷_ 108 (List._∷_ 111
-      (List._∷_ 99 (List._∷_ 107 (List._∷_ 58 (List._∷_ 58 (List._∷_ 70 (List._∷_ 111 (List._∷_ 114 (List._∷_ 109 List.[]))))))))))) (Syntax.tcons (Syntax.tyInt Syntax.w32) (Syntax.tcons Syntax.tyBool
-      Syntax.tnil)))
+  s2 = λ bs. Call.callB ps·0 r·0 (claims· .0) (claims· .1) T3 (record { pos = 2; st = List.[]; d = 0; at = λ x. x }, tt) 6 List.[] y6
 
   abbrev s3 : (bs : List.List Nat.ℕ) → Typed.Both T4 T5
   s3 = λ bs. Call.callB ps·1 r·1 (claims· .2) (claims· .3) T4 (record { pos = 2; st = List.[]; d = 0; at = λ x. x }, tt) 7 List.[] (Syntax.tyInt Syntax.w64)
 
   abbrev s4 : (bs : List.List Nat.ℕ) → Typed.Mo T5 → Typed.Mo T6
-  s4 = λ bs. Scalar.n-room T5 2 (Syntax.tyStruct (List._∷_ 115 (List._∷_ 116 (List._∷_ 114 (List._∷_ 101 (List._∷_ 97 (List._∷_ 109 (List._∷_ 58 (List._∷_ 58 (List._∷_ 70 (List._∷_ 117 (List._∷_ 106
-      (List._∷_ 105 (List._∷_ 72 (List._∷_ 101 (List._∷_ 97 (List._∷_ 100 (List._∷_ 101 (List._∷_ 114 List.[])))))))))))))))))) (Syntax.tcons Syntax.tyBool (Syntax.tcons Syntax.tyBool (Syntax.tcons
-      (Syntax.tyInt Syntax.w32) (Syntax.tcons (Syntax.tyInt Syntax.w32) (Syntax.tcons (Syntax.tyInt Syntax.w32) (Syntax.tcons (Syntax.tyInt Syntax.w32) (Syntax.tcons (Syntax.tyInt Syntax.w32)
-      (Syntax.tcons (Syntax.tyInt Syntax.w32) (Syntax.tcons (Syntax.tyInt Syntax.w32) Syntax.tnil))))))))))
+  s4 = λ bs. Scalar.n-room T5 2 y1
 
   abbrev s5 : (bs : List.List Nat.ℕ) → Typed.Both T6 T7
   s5 = λ bs. Call.callB ps·2 r·2 (claims· .4) (claims· .5) T6 (record { pos = 1; ty = Syntax.tyRef (Syntax.named 0) Syntax.imm (Syntax.tyInt Syntax.w8); ref = λ x. x }, (Num.vAt 3 λ x. x, tt)) 8
-      (List._∷_ 0 List.[]) (Syntax.tyStruct (List._∷_ 38 (List._∷_ 91 (List._∷_ 93 List.[]))) (Syntax.tcons (Syntax.tyRef Syntax.erased Syntax.imm (Syntax.tyInt Syntax.w8)) (Syntax.tcons (Syntax.tyInt
-      Syntax.w64) Syntax.tnil)))
+      (List._∷_ 0 List.[]) y2
 
   abbrev s6 : (bs : List.List Nat.ℕ) → Typed.Both T7 T8
   s6 = λ bs. Call.callB ps·3 r·3 (claims· .6) (claims· .7) T7 (record { pos = 1; ty = Syntax.tyRef (Syntax.named 0) Syntax.imm (Syntax.tyInt Syntax.w8); ref = λ x. x }, (Num.vAt 3 λ x. x, tt)) 9
-      (List._∷_ 0 List.[]) (Syntax.tyStruct (List._∷_ 38 (List._∷_ 91 (List._∷_ 93 List.[]))) (Syntax.tcons (Syntax.tyRef Syntax.erased Syntax.imm (Syntax.tyInt Syntax.w8)) (Syntax.tcons (Syntax.tyInt
-      Syntax.w64) Syntax.tnil)))
+      (List._∷_ 0 List.[]) y2
 
   abbrev s7 : (bs : List.List Nat.ℕ) → Typed.Both T8 T9
   s7 = λ bs. Call.callB ps·4 r·4 (claims· .8) (claims· .9) T8 tt 13 List.[] (Syntax.tyArray (Syntax.tyInt Syntax.w16) 768)
@@ -2423,56 +1017,35 @@ module _ (claims· : Claims) where
   s24 = λ bs. AtSlots.n-as-by T25 21 (Rows.arrF (Referent.rtF (Referent.fInt Syntax.w8)) 36 0) λ x. x
 
   abbrev s25 : (bs : List.List Nat.ℕ) → Typed.Both T26 T27
-  s25 = λ bs. Call.callB ps·5 r·5 (claims· .10) (claims· .11) T26 tt 22 List.[] (Syntax.tyStruct (List._∷_ 109 (List._∷_ 97 (List._∷_ 112 (List._∷_ 58 (List._∷_ 58 (List._∷_ 80 (List._∷_ 97 (List._∷_
-      114 (List._∷_ 116 List.[]))))))))) (Syntax.tcons (Syntax.tyInt Syntax.w64) (Syntax.tcons (Syntax.tyInt Syntax.w64) (Syntax.tcons (Syntax.tyInt Syntax.w64) (Syntax.tcons (Syntax.tyInt Syntax.w64)
-      (Syntax.tcons (Syntax.tyInt Syntax.w64) (Syntax.tcons (Syntax.tyInt Syntax.w64) Syntax.tnil)))))))
+  s25 = λ bs. Call.callB ps·5 r·5 (claims· .10) (claims· .11) T26 tt 22 List.[] y0
 
   abbrev s26 : (bs : List.List Nat.ℕ) → Typed.Both T27 T28
   s26 = λ bs. Call.callB ps·6 r·6 (claims· .12) (claims· .13) T27 (
     record { pos = 8; ty = Syntax.tyRef Syntax.erased Syntax.imm (Syntax.tyInt Syntax.w8); ref = λ x. x },
     (
-      record {
-        pos = 9;
-        ty =
-            Syntax.tyRef Syntax.erased Syntax.imm (Syntax.tyInt Syntax.w8);
-        ref = λ x. x;
-      },
+      record { pos = 9; ty = Syntax.tyRef Syntax.erased Syntax.imm (Syntax.tyInt Syntax.w8); ref = λ x. x },
       (
         record { pos = 15; ty = Syntax.tyRef Syntax.erased Syntax.mut (Syntax.tyInt Syntax.w16); ref = λ x. x },
         (
-          record
-              { pos = 17; ty = Syntax.tyRef Syntax.erased Syntax.mut Element.behind; ref = λ x. x },
+          record { pos = 17; ty = Syntax.tyRef Syntax.erased Syntax.mut Element.behind; ref = λ x. x },
           (
             record { pos = 19; ty = Syntax.tyRef Syntax.erased Syntax.mut (Syntax.tyInt Syntax.w16); ref = λ x. x },
             (
               record { pos = 6; st = List.[]; d = 0; at = λ x. x },
               (
                 record { pos = 20; ty = Syntax.tyRef Syntax.erased Syntax.imm (Syntax.tyArray (Syntax.tyInt Syntax.w16) 768); ref = λ x. x },
-                (
-                  record {
-                    pos
-                        = 21;
-                    st = List.[];
-                    d = 0;
-                    at = λ x. x;
-                  },
-                  (record { pos = 22; st = List.[]; d = 0; at = λ x. x }, (Num.vAt 7 λ x. x, tt)),
-                ),
+                (record { pos = 21; st = List.[]; d = 0; at = λ x. x }, (record { pos = 22; st = List.[]; d = 0; at = λ x. x }, (Num.vAt 7 λ x. x, tt))),
               ),
             ),
           ),
         ),
       ),
     ),
-  ) 12 (List._∷_ 0 (List._∷_ 0 (List._∷_ 3 (List._∷_
-      4 (List._∷_ 5 (List._∷_ 6 List.[])))))) (Syntax.tyStruct (List._∷_ 98 (List._∷_ 108 (List._∷_ 111 (List._∷_ 99 (List._∷_ 107 (List._∷_ 58 (List._∷_ 58 (List._∷_ 87 (List._∷_ 97 (List._∷_ 108
-      (List._∷_ 107 (List._∷_ 101 (List._∷_ 100 List.[]))))))))))))) (Syntax.tcons Syntax.tyBool (Syntax.tcons (Syntax.tyInt Syntax.w64) (Syntax.tcons (Syntax.tyStruct (List._∷_ 98 (List._∷_ 105 (List._∷_
-      116 (List._∷_ 115 (List._∷_ 58 (List._∷_ 58 (List._∷_ 66 (List._∷_ 105 (List._∷_ 116 (List._∷_ 80 (List._∷_ 111 (List._∷_ 115 (List._∷_ 105 (List._∷_ 116 (List._∷_ 105 (List._∷_ 111 (List._∷_ 110
-      List.[]))))))))))))))))) (Syntax.tcons (Syntax.tyInt Syntax.w64) Syntax.tnil)) (Syntax.tcons (Syntax.tyInt Syntax.w64) Syntax.tnil)))))
+  ) 12 (List._∷_ 0 (List._∷_ 0 (List._∷_ 3 (List._∷_ 4
+      (List._∷_ 5 (List._∷_ 6 List.[])))))) y7
 
   abbrev s27 : (bs : List.List Nat.ℕ) → Typed.Mo T28 → Typed.Mo T29
-  s27 = λ bs. Scalar.n-room T28 9 (Syntax.tyStruct (List._∷_ 38 (List._∷_ 91 (List._∷_ 93 List.[]))) (Syntax.tcons (Syntax.tyRef Syntax.erased Syntax.imm (Syntax.tyInt Syntax.w8)) (Syntax.tcons
-      (Syntax.tyInt Syntax.w64) Syntax.tnil)))
+  s27 = λ bs. Scalar.n-room T28 9 y2
 
   abbrev s28 : (bs : List.List Nat.ℕ) → Typed.Mo T29 → Typed.Mo T30
   s28 = λ bs. Scalar.n-room T29 20 (Syntax.tyRef Syntax.erased Syntax.imm (Syntax.tyArray (Syntax.tyInt Syntax.w16) 768))
@@ -2481,9 +1054,7 @@ module _ (claims· : Claims) where
   s29 = λ bs. Scalar.n-room T30 21 (Syntax.tyArray (Syntax.tyInt Syntax.w8) 36)
 
   abbrev s30 : (bs : List.List Nat.ℕ) → Typed.Mo T31 → Typed.Mo T32
-  s30 = λ bs. Scalar.n-room T31 22 (Syntax.tyStruct (List._∷_ 109 (List._∷_ 97 (List._∷_ 112 (List._∷_ 58 (List._∷_ 58 (List._∷_ 80 (List._∷_ 97 (List._∷_ 114 (List._∷_ 116 List.[])))))))))
-      (Syntax.tcons (Syntax.tyInt Syntax.w64) (Syntax.tcons (Syntax.tyInt Syntax.w64) (Syntax.tcons (Syntax.tyInt Syntax.w64) (Syntax.tcons (Syntax.tyInt Syntax.w64) (Syntax.tcons (Syntax.tyInt
-      Syntax.w64) (Syntax.tcons (Syntax.tyInt Syntax.w64) Syntax.tnil)))))))
+  s30 = λ bs. Scalar.n-room T31 22 y0
 
   abbrev s32 : (bs : List.List Nat.ℕ) → Typed.Both T32 T34
   s32 = λ bs. Relend.k-back-sl (Referent.rtF (Referent.fInt Syntax.w16)) T32 15 4 1 3 (Syntax.tyRef (Syntax.named 1) Syntax.mut (Syntax.tyInt Syntax.w16)) (Syntax.tyRef Syntax.erased Syntax.mut
@@ -2510,41 +1081,27 @@ module _ (claims· : Claims) where
   abbrev s46 : (bs : List.List Nat.ℕ) → Typed.Both T47 T48
   s46 = λ bs. Call.callB ps·7 r·7 (claims· .14) (claims· .15) T47 (
     record { pos = 8; ty = Syntax.tyRef Syntax.erased Syntax.imm (Syntax.tyInt Syntax.w8); ref = λ x. x },
-    (
-      record {
-        pos = 6;
-        st =
-            List.[];
-        d = 0;
-        at = λ x. x;
-      },
-      (Num.vAt 3 λ x. x, (Num.vAt 7 λ x. x, (record { pos = 12; st = List.[]; d = 0; at = λ x. x }, tt))),
-    ),
-  ) 0 (List._∷_ 0 List.[]) (Syntax.tyEnum (List._∷_ 98
-      (List._∷_ 108 (List._∷_ 111 (List._∷_ 99 (List._∷_ 107 (List._∷_ 58 (List._∷_ 58 (List._∷_ 68 (List._∷_ 101 (List._∷_ 99 (List._∷_ 111 (List._∷_ 100 (List._∷_ 101 (List._∷_ 100 List.[]))))))))))))))
-      (Syntax.ttcons Syntax.tnil (Syntax.ttcons (Syntax.tcons (Syntax.tyEnum (List._∷_ 115 (List._∷_ 116 (List._∷_ 114 (List._∷_ 101 (List._∷_ 97 (List._∷_ 109 (List._∷_ 58 (List._∷_ 58 (List._∷_ 82
-      (List._∷_ 101 (List._∷_ 102 (List._∷_ 117 (List._∷_ 115 (List._∷_ 97 (List._∷_ 108 List.[]))))))))))))))) (Syntax.ttcons Syntax.tnil (Syntax.ttcons Syntax.tnil (Syntax.ttcons Syntax.tnil
-      (Syntax.ttcons (Syntax.tcons (Syntax.tyInt Syntax.w64) Syntax.tnil) (Syntax.ttcons Syntax.tnil (Syntax.ttcons Syntax.tnil (Syntax.ttcons Syntax.tnil (Syntax.ttcons Syntax.tnil (Syntax.ttcons
-      Syntax.tnil (Syntax.ttcons Syntax.tnil (Syntax.ttcons (Syntax.tcons (Syntax.tyInt Syntax.w64) Syntax.tnil) (Syntax.ttcons (Syntax.tcons (Syntax.tyInt Syntax.w64) Syntax.tnil) (Syntax.ttcons
-      Syntax.tnil (Syntax.ttcons (Syntax.tcons (Syntax.tyInt Syntax.w64) (Syntax.tcons (Syntax.tyInt Syntax.w64) Syntax.tnil)) (Syntax.ttcons (Syntax.tcons (Syntax.tyInt Syntax.w64) Syntax.tnil)
-      Syntax.ttnil)))))))))))))))) Syntax.tnil) Syntax.ttnil)))
+    (record { pos = 6; st = List.[]; d = 0; at = λ x. x }, (Num.vAt 3 λ x. x, (Num.vAt 7 λ x. x, (record { pos = 12; st = List.[]; d = 0; at = λ x. x }, tt)))),
+  ) 0 (List._∷_ 0 List.[]) (Syntax.tyEnum
+      (List._∷_ 98 (List._∷_ 108 (List._∷_ 111 (List._∷_ 99 (List._∷_ 107 (List._∷_ 58 (List._∷_ 58 (List._∷_ 68 (List._∷_ 101 (List._∷_ 99 (List._∷_ 111 (List._∷_ 100 (List._∷_ 101 (List._∷_ 100
+      List.[])))))))))))))) (Syntax.ttcons Syntax.tnil (Syntax.ttcons (Syntax.tcons (Syntax.tyEnum (List._∷_ 115 (List._∷_ 116 (List._∷_ 114 (List._∷_ 101 (List._∷_ 97 (List._∷_ 109 (List._∷_ 58 (List._∷_
+      58 (List._∷_ 82 (List._∷_ 101 (List._∷_ 102 (List._∷_ 117 (List._∷_ 115 (List._∷_ 97 (List._∷_ 108 List.[]))))))))))))))) (Syntax.ttcons Syntax.tnil (Syntax.ttcons Syntax.tnil (Syntax.ttcons
+      Syntax.tnil (Syntax.ttcons (Syntax.tcons (Syntax.tyInt Syntax.w64) Syntax.tnil) (Syntax.ttcons Syntax.tnil (Syntax.ttcons Syntax.tnil (Syntax.ttcons Syntax.tnil (Syntax.ttcons Syntax.tnil
+      (Syntax.ttcons Syntax.tnil (Syntax.ttcons Syntax.tnil (Syntax.ttcons (Syntax.tcons (Syntax.tyInt Syntax.w64) Syntax.tnil) (Syntax.ttcons (Syntax.tcons (Syntax.tyInt Syntax.w64) Syntax.tnil)
+      (Syntax.ttcons Syntax.tnil (Syntax.ttcons (Syntax.tcons (Syntax.tyInt Syntax.w64) (Syntax.tcons (Syntax.tyInt Syntax.w64) Syntax.tnil)) (Syntax.ttcons (Syntax.tcons (Syntax.tyInt Syntax.w64)
+      Syntax.tnil) Syntax.ttnil)))))))))))))))) Syntax.tnil) Syntax.ttnil)))
 
   abbrev s47 : (bs : List.List Nat.ℕ) → Typed.Mo T48 → Typed.Mo T49
-  s47 = λ bs. Scalar.n-room T48 8 (Syntax.tyStruct (List._∷_ 38 (List._∷_ 91 (List._∷_ 93 List.[]))) (Syntax.tcons (Syntax.tyRef Syntax.erased Syntax.imm (Syntax.tyInt Syntax.w8)) (Syntax.tcons
-      (Syntax.tyInt Syntax.w64) Syntax.tnil)))
+  s47 = λ bs. Scalar.n-room T48 8 y2
 
   abbrev s48 : (bs : List.List Nat.ℕ) → Typed.Mo T49 → Typed.Mo T50
-  s48 = λ bs. Scalar.n-room T49 6 (Syntax.tyStruct (List._∷_ 98 (List._∷_ 108 (List._∷_ 111 (List._∷_ 99 (List._∷_ 107 (List._∷_ 58 (List._∷_ 58 (List._∷_ 70 (List._∷_ 111 (List._∷_ 114 (List._∷_ 109
-      List.[]))))))))))) (Syntax.tcons (Syntax.tyInt Syntax.w32) (Syntax.tcons Syntax.tyBool Syntax.tnil)))
+  s48 = λ bs. Scalar.n-room T49 6 y6
 
   abbrev s49 : (bs : List.List Nat.ℕ) → Typed.Mo T50 → Typed.Mo T51
   s49 = λ bs. Scalar.n-room T50 7 (Syntax.tyInt Syntax.w64)
 
   abbrev s50 : (bs : List.List Nat.ℕ) → Typed.Mo T51 → Typed.Mo T52
-  s50 = λ bs. Scalar.n-room T51 12 (Syntax.tyStruct (List._∷_ 98 (List._∷_ 108 (List._∷_ 111 (List._∷_ 99 (List._∷_ 107 (List._∷_ 58 (List._∷_ 58 (List._∷_ 87 (List._∷_ 97 (List._∷_ 108 (List._∷_ 107
-      (List._∷_ 101 (List._∷_ 100 List.[]))))))))))))) (Syntax.tcons Syntax.tyBool (Syntax.tcons (Syntax.tyInt Syntax.w64) (Syntax.tcons (Syntax.tyStruct (List._∷_ 98 (List._∷_ 105 (List._∷_ 116 (List._∷_
-      115 (List._∷_ 58 (List._∷_ 58 (List._∷_ 66 (List._∷_ 105 (List._∷_ 116 (List._∷_ 80 (List._∷_ 111 (List._∷_ 115 (List._∷_ 105 (List._∷_ 116 (List._∷_ 105 (List._∷_ 111 (List._∷_ 110
-      List.[]))))))))))))))))) (Syntax.tcons (Syntax.tyInt Syntax.w64) Syntax.tnil)) (Syntax.tcons (Syntax.tyInt Syntax.w64) Syntax.tnil)))))
+  s50 = λ bs. Scalar.n-room T51 12 y7
 
   abbrev s51 : (bs : List.List Nat.ℕ) → Typed.Mo T52 → Typed.Mo T53
   s51 = λ bs. Scalar.n-room T52 3 (Syntax.tyInt Syntax.w64)
@@ -2731,792 +1288,426 @@ module _ (claims· : Claims) where
 
       module _ (κs : Lifetimes.Lfts 3) (qs : Lifetimes.Shares 3) where
         abbrev g13 : List.List Row.Entry
-        g13 = List._∷_ (
-          0,
-          Rows'.any-gone (Syntax.tyEnum (List._∷_ 98 (List._∷_ 108 (List._∷_ 111 (List._∷_ 99 (List._∷_ 107 (List._∷_ 58 (List._∷_ 58 (List._∷_ 68 (List._∷_ 101 (List._∷_ 99
-              (List._∷_ 111 (List._∷_ 100 (List._∷_ 101 (List._∷_ 100 List.[])))))))))))))) (Syntax.ttcons Syntax.tnil (Syntax.ttcons (Syntax.tcons (Syntax.tyEnum (List._∷_ 115 (List._∷_ 116 (List._∷_ 114
-              (List._∷_ 101 (List._∷_ 97 (List._∷_ 109 (List._∷_ 58 (List._∷_ 58 (List._∷_ 82 (List._∷_ 101 (List._∷_ 102 (List._∷_ 117 (List._∷_ 115 (List._∷_ 97 (List._∷_ 108 List.[])))))))))))))))
-              (Syntax.ttcons Syntax.tnil (Syntax.ttcons Syntax.tnil (Syntax.ttcons Syntax.tnil (Syntax.ttcons (Syntax.tcons (Syntax.tyInt Syntax.w64) Syntax.tnil) (Syntax.ttcons Syntax.tnil (Syntax.ttcons
-              Syntax.tnil (Syntax.ttcons Syntax.tnil (Syntax.ttcons Syntax.tnil (Syntax.ttcons Syntax.tnil (Syntax.ttcons Syntax.tnil (Syntax.ttcons (Syntax.tcons (Syntax.tyInt Syntax.w64) Syntax.tnil)
-              (Syntax.ttcons (Syntax.tcons (Syntax.tyInt Syntax.w64) Syntax.tnil) (Syntax.ttcons Syntax.tnil (Syntax.ttcons (Syntax.tcons (Syntax.tyInt Syntax.w64) (Syntax.tcons (Syntax.tyInt Syntax.w64)
-              Syntax.tnil)) (Syntax.ttcons (Syntax.tcons (Syntax.tyInt Syntax.w64) Syntax.tnil) Syntax.ttnil)))))))))))))))) Syntax.tnil) Syntax.ttnil))),
-        ) (List._∷_ (
-          1,
-          Rows'.sslice (Referent.rtF
-              (Referent.fInt Syntax.w8)) (Syntax.tyRef (Syntax.named 0) Syntax.imm (Syntax.tyInt Syntax.w8)) 0,
-        ) (List._∷_ (
-          2,
-          Rows'.any-gone (Syntax.tyStruct (List._∷_ 115 (List._∷_ 116 (List._∷_ 114
-              (List._∷_ 101 (List._∷_ 97 (List._∷_ 109 (List._∷_ 58 (List._∷_ 58 (List._∷_ 70 (List._∷_ 117 (List._∷_ 106 (List._∷_ 105 (List._∷_ 72 (List._∷_ 101 (List._∷_ 97 (List._∷_ 100 (List._∷_ 101
-              (List._∷_ 114 List.[])))))))))))))))))) (Syntax.tcons Syntax.tyBool (Syntax.tcons Syntax.tyBool (Syntax.tcons (Syntax.tyInt Syntax.w32) (Syntax.tcons (Syntax.tyInt Syntax.w32) (Syntax.tcons
-              (Syntax.tyInt Syntax.w32) (Syntax.tcons (Syntax.tyInt Syntax.w32) (Syntax.tcons (Syntax.tyInt Syntax.w32) (Syntax.tcons (Syntax.tyInt Syntax.w32) (Syntax.tcons (Syntax.tyInt Syntax.w32)
-              Syntax.tnil)))))))))),
-        ) (List._∷_ (3, Rows'.sc-here (Row.sInt Syntax.w64)) (List._∷_ (
-          4,
-          Relend.mslice-owed (Referent.rtF (Referent.fInt Syntax.w16)) (Syntax.tyRef (Syntax.named 1)
-              Syntax.mut (Syntax.tyInt Syntax.w16)) 1 3 (Row.lease (κs .1 .0) (qs .1 .0)),
-        ) (List._∷_ (5, Mut.mslice (Element.type) (Syntax.tyRef (Syntax.named 2) Syntax.mut Element.behind) 2) (List._∷_
-            (6, Rows'.whole (Declared'.row Form.the-type)) (List._∷_ (7, Rows'.sc-here (Row.sInt Syntax.w64)) (List._∷_ (
-              8,
-              Rows'.sslice (Referent.rtF (Referent.fInt Syntax.w8)) (Syntax.tyRef
-                  Syntax.erased Syntax.imm (Syntax.tyInt Syntax.w8)) 0,
-            ) (List._∷_ (
-              9,
-              Rows'.sslice (Referent.rtF (Referent.fInt Syntax.w8)) (Syntax.tyRef Syntax.erased Syntax.imm (Syntax.tyInt Syntax.w8)) 0,
-            ) (List._∷_ (10, Rows.arrF (Referent.rtF (Referent.fInt Syntax.w16)) 768 0) (List._∷_ (11, Rows.arrF (Referent.rtF (Referent.fInt Syntax.w16)) 1 0) (List._∷_ (
-              12,
-              Rows'.any-gone
-                  (Syntax.tyStruct (List._∷_ 98 (List._∷_ 108 (List._∷_ 111 (List._∷_ 99 (List._∷_ 107 (List._∷_ 58 (List._∷_ 58 (List._∷_ 87 (List._∷_ 97 (List._∷_ 108 (List._∷_ 107 (List._∷_ 101 (List._∷_ 100
-                  List.[]))))))))))))) (Syntax.tcons Syntax.tyBool (Syntax.tcons (Syntax.tyInt Syntax.w64) (Syntax.tcons (Syntax.tyStruct (List._∷_ 98 (List._∷_ 105 (List._∷_ 116 (List._∷_ 115 (List._∷_ 58
-                  (List._∷_ 58 (List._∷_ 66 (List._∷_ 105 (List._∷_ 116 (List._∷_ 80 (List._∷_ 111 (List._∷_ 115 (List._∷_ 105 (List._∷_ 116 (List._∷_ 105 (List._∷_ 111 (List._∷_ 110 List.[])))))))))))))))))
-                  (Syntax.tcons (Syntax.tyInt Syntax.w64) Syntax.tnil)) (Syntax.tcons (Syntax.tyInt Syntax.w64) Syntax.tnil))))),
-            ) (List._∷_ (13, Rows'.any-gone (Syntax.tyArray (Syntax.tyInt Syntax.w16) 768))
-            (List._∷_ (14, Relend.msptr (Referent.rtF (Referent.fInt Syntax.w16)) (Syntax.tyRef Syntax.erased Syntax.mut (Syntax.tyInt Syntax.w16)) 3) (List._∷_ (
-              15,
-              Rows'.any-gone (Syntax.tyStruct
-                  (List._∷_ 38 (List._∷_ 91 (List._∷_ 93 List.[]))) (Syntax.tcons (Syntax.tyRef Syntax.erased Syntax.mut (Syntax.tyInt Syntax.w16)) (Syntax.tcons (Syntax.tyInt Syntax.w64) Syntax.tnil))),
-            )
-            List.[])))))))))))))))
+        g13 = List._∷_ e0 (List._∷_ e2 (List._∷_ e26 (List._∷_ e34 (List._∷_
+            (4, Relend.mslice-owed (Referent.rtF (Referent.fInt Syntax.w16)) (Syntax.tyRef (Syntax.named 1) Syntax.mut (Syntax.tyInt Syntax.w16)) 1 3 (Row.lease (κs .1 .0) (qs .1 .0))) (List._∷_ e37
+            (List._∷_ e40 (List._∷_ e42 (List._∷_ e44 (List._∷_ e46 (List._∷_ e5 (List._∷_ e8 (List._∷_ e9 (List._∷_ e11 (List._∷_ e13 (List._∷_ e17 List.[])))))))))))))))
 
         abbrev g14 : List.List Row.Entry
-        g14 = List._∷_ (
-          0,
-          Rows'.any-gone (Syntax.tyEnum (List._∷_ 98 (List._∷_ 108 (List._∷_ 111 (List._∷_ 99 (List._∷_ 107 (List._∷_ 58 (List._∷_ 58 (List._∷_ 68 (List._∷_ 101 (List._∷_ 99
-              (List._∷_ 111 (List._∷_ 100 (List._∷_ 101 (List._∷_ 100 List.[])))))))))))))) (Syntax.ttcons Syntax.tnil (Syntax.ttcons (Syntax.tcons (Syntax.tyEnum (List._∷_ 115 (List._∷_ 116 (List._∷_ 114
-              (List._∷_ 101 (List._∷_ 97 (List._∷_ 109 (List._∷_ 58 (List._∷_ 58 (List._∷_ 82 (List._∷_ 101 (List._∷_ 102 (List._∷_ 117 (List._∷_ 115 (List._∷_ 97 (List._∷_ 108 List.[])))))))))))))))
-              (Syntax.ttcons Syntax.tnil (Syntax.ttcons Syntax.tnil (Syntax.ttcons Syntax.tnil (Syntax.ttcons (Syntax.tcons (Syntax.tyInt Syntax.w64) Syntax.tnil) (Syntax.ttcons Syntax.tnil (Syntax.ttcons
-              Syntax.tnil (Syntax.ttcons Syntax.tnil (Syntax.ttcons Syntax.tnil (Syntax.ttcons Syntax.tnil (Syntax.ttcons Syntax.tnil (Syntax.ttcons (Syntax.tcons (Syntax.tyInt Syntax.w64) Syntax.tnil)
-              (Syntax.ttcons (Syntax.tcons (Syntax.tyInt Syntax.w64) Syntax.tnil) (Syntax.ttcons Syntax.tnil (Syntax.ttcons (Syntax.tcons (Syntax.tyInt Syntax.w64) (Syntax.tcons (Syntax.tyInt Syntax.w64)
-              Syntax.tnil)) (Syntax.ttcons (Syntax.tcons (Syntax.tyInt Syntax.w64) Syntax.tnil) Syntax.ttnil)))))))))))))))) Syntax.tnil) Syntax.ttnil))),
-        ) (List._∷_ (
-          1,
-          Rows'.sslice (Referent.rtF
-              (Referent.fInt Syntax.w8)) (Syntax.tyRef (Syntax.named 0) Syntax.imm (Syntax.tyInt Syntax.w8)) 0,
-        ) (List._∷_ (
-          2,
-          Rows'.any-gone (Syntax.tyStruct (List._∷_ 115 (List._∷_ 116 (List._∷_ 114
-              (List._∷_ 101 (List._∷_ 97 (List._∷_ 109 (List._∷_ 58 (List._∷_ 58 (List._∷_ 70 (List._∷_ 117 (List._∷_ 106 (List._∷_ 105 (List._∷_ 72 (List._∷_ 101 (List._∷_ 97 (List._∷_ 100 (List._∷_ 101
-              (List._∷_ 114 List.[])))))))))))))))))) (Syntax.tcons Syntax.tyBool (Syntax.tcons Syntax.tyBool (Syntax.tcons (Syntax.tyInt Syntax.w32) (Syntax.tcons (Syntax.tyInt Syntax.w32) (Syntax.tcons
-              (Syntax.tyInt Syntax.w32) (Syntax.tcons (Syntax.tyInt Syntax.w32) (Syntax.tcons (Syntax.tyInt Syntax.w32) (Syntax.tcons (Syntax.tyInt Syntax.w32) (Syntax.tcons (Syntax.tyInt Syntax.w32)
-              Syntax.tnil)))))))))),
-        ) (List._∷_ (3, Rows'.sc-here (Row.sInt Syntax.w64)) (List._∷_ (
-          4,
-          Relend.mslice-owed (Referent.rtF (Referent.fInt Syntax.w16)) (Syntax.tyRef (Syntax.named 1)
-              Syntax.mut (Syntax.tyInt Syntax.w16)) 1 3 (Row.lease (κs .1 .0) (qs .1 .0)),
-        ) (List._∷_ (5, Mut.mslice (Element.type) (Syntax.tyRef (Syntax.named 2) Syntax.mut Element.behind) 2) (List._∷_
-            (6, Rows'.whole (Declared'.row Form.the-type)) (List._∷_ (7, Rows'.sc-here (Row.sInt Syntax.w64)) (List._∷_ (
-              8,
-              Rows'.sslice (Referent.rtF (Referent.fInt Syntax.w8)) (Syntax.tyRef
-                  Syntax.erased Syntax.imm (Syntax.tyInt Syntax.w8)) 0,
-            ) (List._∷_ (
-              9,
-              Rows'.sslice (Referent.rtF (Referent.fInt Syntax.w8)) (Syntax.tyRef Syntax.erased Syntax.imm (Syntax.tyInt Syntax.w8)) 0,
-            ) (List._∷_ (10, Rows.arrF (Referent.rtF (Referent.fInt Syntax.w16)) 768 0) (List._∷_ (11, Rows.arrF (Referent.rtF (Referent.fInt Syntax.w16)) 1 0) (List._∷_ (
-              12,
-              Rows'.any-gone
-                  (Syntax.tyStruct (List._∷_ 98 (List._∷_ 108 (List._∷_ 111 (List._∷_ 99 (List._∷_ 107 (List._∷_ 58 (List._∷_ 58 (List._∷_ 87 (List._∷_ 97 (List._∷_ 108 (List._∷_ 107 (List._∷_ 101 (List._∷_ 100
-                  List.[]))))))))))))) (Syntax.tcons Syntax.tyBool (Syntax.tcons (Syntax.tyInt Syntax.w64) (Syntax.tcons (Syntax.tyStruct (List._∷_ 98 (List._∷_ 105 (List._∷_ 116 (List._∷_ 115 (List._∷_ 58
-                  (List._∷_ 58 (List._∷_ 66 (List._∷_ 105 (List._∷_ 116 (List._∷_ 80 (List._∷_ 111 (List._∷_ 115 (List._∷_ 105 (List._∷_ 116 (List._∷_ 105 (List._∷_ 111 (List._∷_ 110 List.[])))))))))))))))))
-                  (Syntax.tcons (Syntax.tyInt Syntax.w64) Syntax.tnil)) (Syntax.tcons (Syntax.tyInt Syntax.w64) Syntax.tnil))))),
-            ) (List._∷_ (13, Rows'.any-gone (Syntax.tyArray (Syntax.tyInt Syntax.w16) 768))
-            (List._∷_ (14, Rows'.any-gone (Syntax.tyRef Syntax.erased Syntax.mut (Syntax.tyInt Syntax.w16))) (List._∷_ (
-              15,
-              Mut.mslice (Referent.rtF (Referent.fInt Syntax.w16)) (Syntax.tyRef
-                  Syntax.erased Syntax.mut (Syntax.tyInt Syntax.w16)) 3,
-            ) List.[])))))))))))))))
+        g14 = List._∷_ e0 (List._∷_ e2 (List._∷_ e26 (List._∷_ e34 (List._∷_
+            (4, Relend.mslice-owed (Referent.rtF (Referent.fInt Syntax.w16)) (Syntax.tyRef (Syntax.named 1) Syntax.mut (Syntax.tyInt Syntax.w16)) 1 3 (Row.lease (κs .1 .0) (qs .1 .0))) (List._∷_ e37
+            (List._∷_ e40 (List._∷_ e42 (List._∷_ e44 (List._∷_ e46 (List._∷_ e5 (List._∷_ e8 (List._∷_ e9 (List._∷_ e11 (List._∷_ e14 (List._∷_ e16 List.[])))))))))))))))
 
         abbrev g15 : List.List Row.Entry
-        g15 = List._∷_ (
-          0,
-          Rows'.any-gone (Syntax.tyEnum (List._∷_ 98 (List._∷_ 108 (List._∷_ 111 (List._∷_ 99 (List._∷_ 107 (List._∷_ 58 (List._∷_ 58 (List._∷_ 68 (List._∷_ 101 (List._∷_ 99
-              (List._∷_ 111 (List._∷_ 100 (List._∷_ 101 (List._∷_ 100 List.[])))))))))))))) (Syntax.ttcons Syntax.tnil (Syntax.ttcons (Syntax.tcons (Syntax.tyEnum (List._∷_ 115 (List._∷_ 116 (List._∷_ 114
-              (List._∷_ 101 (List._∷_ 97 (List._∷_ 109 (List._∷_ 58 (List._∷_ 58 (List._∷_ 82 (List._∷_ 101 (List._∷_ 102 (List._∷_ 117 (List._∷_ 115 (List._∷_ 97 (List._∷_ 108 List.[])))))))))))))))
-              (Syntax.ttcons Syntax.tnil (Syntax.ttcons Syntax.tnil (Syntax.ttcons Syntax.tnil (Syntax.ttcons (Syntax.tcons (Syntax.tyInt Syntax.w64) Syntax.tnil) (Syntax.ttcons Syntax.tnil (Syntax.ttcons
-              Syntax.tnil (Syntax.ttcons Syntax.tnil (Syntax.ttcons Syntax.tnil (Syntax.ttcons Syntax.tnil (Syntax.ttcons Syntax.tnil (Syntax.ttcons (Syntax.tcons (Syntax.tyInt Syntax.w64) Syntax.tnil)
-              (Syntax.ttcons (Syntax.tcons (Syntax.tyInt Syntax.w64) Syntax.tnil) (Syntax.ttcons Syntax.tnil (Syntax.ttcons (Syntax.tcons (Syntax.tyInt Syntax.w64) (Syntax.tcons (Syntax.tyInt Syntax.w64)
-              Syntax.tnil)) (Syntax.ttcons (Syntax.tcons (Syntax.tyInt Syntax.w64) Syntax.tnil) Syntax.ttnil)))))))))))))))) Syntax.tnil) Syntax.ttnil))),
-        ) (List._∷_ (
-          1,
-          Rows'.sslice (Referent.rtF
-              (Referent.fInt Syntax.w8)) (Syntax.tyRef (Syntax.named 0) Syntax.imm (Syntax.tyInt Syntax.w8)) 0,
-        ) (List._∷_ (
-          2,
-          Rows'.any-gone (Syntax.tyStruct (List._∷_ 115 (List._∷_ 116 (List._∷_ 114
-              (List._∷_ 101 (List._∷_ 97 (List._∷_ 109 (List._∷_ 58 (List._∷_ 58 (List._∷_ 70 (List._∷_ 117 (List._∷_ 106 (List._∷_ 105 (List._∷_ 72 (List._∷_ 101 (List._∷_ 97 (List._∷_ 100 (List._∷_ 101
-              (List._∷_ 114 List.[])))))))))))))))))) (Syntax.tcons Syntax.tyBool (Syntax.tcons Syntax.tyBool (Syntax.tcons (Syntax.tyInt Syntax.w32) (Syntax.tcons (Syntax.tyInt Syntax.w32) (Syntax.tcons
-              (Syntax.tyInt Syntax.w32) (Syntax.tcons (Syntax.tyInt Syntax.w32) (Syntax.tcons (Syntax.tyInt Syntax.w32) (Syntax.tcons (Syntax.tyInt Syntax.w32) (Syntax.tcons (Syntax.tyInt Syntax.w32)
-              Syntax.tnil)))))))))),
-        ) (List._∷_ (3, Rows'.sc-here (Row.sInt Syntax.w64)) (List._∷_ (
-          4,
-          Relend.mslice-owed (Referent.rtF (Referent.fInt Syntax.w16)) (Syntax.tyRef (Syntax.named 1)
-              Syntax.mut (Syntax.tyInt Syntax.w16)) 1 3 (Row.lease (κs .1 .0) (qs .1 .0)),
-        ) (List._∷_ (
-          5,
-          Relend.mslice-owed (Element.type) (Syntax.tyRef (Syntax.named 2) Syntax.mut Element.behind) 2 4
-              (Row.lease (κs .1 .1 .0) (qs .1 .1 .0)),
-        ) (List._∷_ (6, Rows'.whole (Declared'.row Form.the-type)) (List._∷_ (7, Rows'.sc-here (Row.sInt Syntax.w64)) (List._∷_ (
-          8,
-          Rows'.sslice
-              (Referent.rtF (Referent.fInt Syntax.w8)) (Syntax.tyRef Syntax.erased Syntax.imm (Syntax.tyInt Syntax.w8)) 0,
-        ) (List._∷_ (
-          9,
-          Rows'.sslice (Referent.rtF (Referent.fInt Syntax.w8))
-              (Syntax.tyRef Syntax.erased Syntax.imm (Syntax.tyInt Syntax.w8)) 0,
-        ) (List._∷_ (10, Rows.arrF (Referent.rtF (Referent.fInt Syntax.w16)) 768 0) (List._∷_ (
-          11,
-          Rows.arrF (Referent.rtF
-              (Referent.fInt Syntax.w16)) 1 0,
-        ) (List._∷_ (
-          12,
-          Rows'.any-gone (Syntax.tyStruct (List._∷_ 98 (List._∷_ 108 (List._∷_ 111 (List._∷_ 99 (List._∷_ 107 (List._∷_ 58 (List._∷_ 58 (List._∷_ 87
-              (List._∷_ 97 (List._∷_ 108 (List._∷_ 107 (List._∷_ 101 (List._∷_ 100 List.[]))))))))))))) (Syntax.tcons Syntax.tyBool (Syntax.tcons (Syntax.tyInt Syntax.w64) (Syntax.tcons (Syntax.tyStruct
-              (List._∷_ 98 (List._∷_ 105 (List._∷_ 116 (List._∷_ 115 (List._∷_ 58 (List._∷_ 58 (List._∷_ 66 (List._∷_ 105 (List._∷_ 116 (List._∷_ 80 (List._∷_ 111 (List._∷_ 115 (List._∷_ 105 (List._∷_ 116
-              (List._∷_ 105 (List._∷_ 111 (List._∷_ 110 List.[]))))))))))))))))) (Syntax.tcons (Syntax.tyInt Syntax.w64) Syntax.tnil)) (Syntax.tcons (Syntax.tyInt Syntax.w64) Syntax.tnil))))),
-        ) (List._∷_
-            (13, Rows'.any-gone (Syntax.tyArray (Syntax.tyInt Syntax.w16) 768)) (List._∷_ (14, Rows'.any-gone (Syntax.tyRef Syntax.erased Syntax.mut (Syntax.tyInt Syntax.w16))) (List._∷_ (
-              15,
-              Mut.mslice (Referent.rtF (Referent.fInt Syntax.w16)) (Syntax.tyRef Syntax.erased Syntax.mut (Syntax.tyInt Syntax.w16)) 3,
-            ) List.[])))))))))))))))
+        g15 = List._∷_ e0 (List._∷_ e2 (List._∷_ e26 (List._∷_ e34 (List._∷_
+            (4, Relend.mslice-owed (Referent.rtF (Referent.fInt Syntax.w16)) (Syntax.tyRef (Syntax.named 1) Syntax.mut (Syntax.tyInt Syntax.w16)) 1 3 (Row.lease (κs .1 .0) (qs .1 .0))) (List._∷_
+            (5, Relend.mslice-owed (Element.type) (Syntax.tyRef (Syntax.named 2) Syntax.mut Element.behind) 2 4 (Row.lease (κs .1 .1 .0) (qs .1 .1 .0))) (List._∷_ e40 (List._∷_ e42 (List._∷_ e44 (List._∷_
+            e46 (List._∷_ e5 (List._∷_ e8 (List._∷_ e9 (List._∷_ e11 (List._∷_ e14 (List._∷_ e16 List.[])))))))))))))))
 
         abbrev g18 : List.List Row.Entry
-        g18 = List._∷_ (
-          0,
-          Rows'.any-gone (Syntax.tyEnum (List._∷_ 98 (List._∷_ 108 (List._∷_ 111 (List._∷_ 99 (List._∷_ 107 (List._∷_ 58 (List._∷_ 58 (List._∷_ 68 (List._∷_ 101 (List._∷_ 99
-              (List._∷_ 111 (List._∷_ 100 (List._∷_ 101 (List._∷_ 100 List.[])))))))))))))) (Syntax.ttcons Syntax.tnil (Syntax.ttcons (Syntax.tcons (Syntax.tyEnum (List._∷_ 115 (List._∷_ 116 (List._∷_ 114
-              (List._∷_ 101 (List._∷_ 97 (List._∷_ 109 (List._∷_ 58 (List._∷_ 58 (List._∷_ 82 (List._∷_ 101 (List._∷_ 102 (List._∷_ 117 (List._∷_ 115 (List._∷_ 97 (List._∷_ 108 List.[])))))))))))))))
-              (Syntax.ttcons Syntax.tnil (Syntax.ttcons Syntax.tnil (Syntax.ttcons Syntax.tnil (Syntax.ttcons (Syntax.tcons (Syntax.tyInt Syntax.w64) Syntax.tnil) (Syntax.ttcons Syntax.tnil (Syntax.ttcons
-              Syntax.tnil (Syntax.ttcons Syntax.tnil (Syntax.ttcons Syntax.tnil (Syntax.ttcons Syntax.tnil (Syntax.ttcons Syntax.tnil (Syntax.ttcons (Syntax.tcons (Syntax.tyInt Syntax.w64) Syntax.tnil)
-              (Syntax.ttcons (Syntax.tcons (Syntax.tyInt Syntax.w64) Syntax.tnil) (Syntax.ttcons Syntax.tnil (Syntax.ttcons (Syntax.tcons (Syntax.tyInt Syntax.w64) (Syntax.tcons (Syntax.tyInt Syntax.w64)
-              Syntax.tnil)) (Syntax.ttcons (Syntax.tcons (Syntax.tyInt Syntax.w64) Syntax.tnil) Syntax.ttnil)))))))))))))))) Syntax.tnil) Syntax.ttnil))),
-        ) (List._∷_ (
-          1,
-          Rows'.sslice (Referent.rtF
-              (Referent.fInt Syntax.w8)) (Syntax.tyRef (Syntax.named 0) Syntax.imm (Syntax.tyInt Syntax.w8)) 0,
-        ) (List._∷_ (
-          2,
-          Rows'.any-gone (Syntax.tyStruct (List._∷_ 115 (List._∷_ 116 (List._∷_ 114
-              (List._∷_ 101 (List._∷_ 97 (List._∷_ 109 (List._∷_ 58 (List._∷_ 58 (List._∷_ 70 (List._∷_ 117 (List._∷_ 106 (List._∷_ 105 (List._∷_ 72 (List._∷_ 101 (List._∷_ 97 (List._∷_ 100 (List._∷_ 101
-              (List._∷_ 114 List.[])))))))))))))))))) (Syntax.tcons Syntax.tyBool (Syntax.tcons Syntax.tyBool (Syntax.tcons (Syntax.tyInt Syntax.w32) (Syntax.tcons (Syntax.tyInt Syntax.w32) (Syntax.tcons
-              (Syntax.tyInt Syntax.w32) (Syntax.tcons (Syntax.tyInt Syntax.w32) (Syntax.tcons (Syntax.tyInt Syntax.w32) (Syntax.tcons (Syntax.tyInt Syntax.w32) (Syntax.tcons (Syntax.tyInt Syntax.w32)
-              Syntax.tnil)))))))))),
-        ) (List._∷_ (3, Rows'.sc-here (Row.sInt Syntax.w64)) (List._∷_ (
-          4,
-          Relend.mslice-owed (Referent.rtF (Referent.fInt Syntax.w16)) (Syntax.tyRef (Syntax.named 1)
-              Syntax.mut (Syntax.tyInt Syntax.w16)) 1 3 (Row.lease (κs .1 .0) (qs .1 .0)),
-        ) (List._∷_ (
-          5,
-          Relend.mslice-owed (Element.type) (Syntax.tyRef (Syntax.named 2) Syntax.mut Element.behind) 2 4
-              (Row.lease (κs .1 .1 .0) (qs .1 .1 .0)),
-        ) (List._∷_ (6, Rows'.whole (Declared'.row Form.the-type)) (List._∷_ (7, Rows'.sc-here (Row.sInt Syntax.w64)) (List._∷_ (
-          8,
-          Rows'.sslice
-              (Referent.rtF (Referent.fInt Syntax.w8)) (Syntax.tyRef Syntax.erased Syntax.imm (Syntax.tyInt Syntax.w8)) 0,
-        ) (List._∷_ (
-          9,
-          Rows'.sslice (Referent.rtF (Referent.fInt Syntax.w8))
-              (Syntax.tyRef Syntax.erased Syntax.imm (Syntax.tyInt Syntax.w8)) 0,
-        ) (List._∷_ (10, Rows.arrF (Referent.rtF (Referent.fInt Syntax.w16)) 768 0) (List._∷_ (
-          11,
-          Rows.arr-owed (Referent.rtF
-              (Referent.fInt Syntax.w16)) 1 5,
-        ) (List._∷_ (
-          12,
-          Rows'.any-gone (Syntax.tyStruct (List._∷_ 98 (List._∷_ 108 (List._∷_ 111 (List._∷_ 99 (List._∷_ 107 (List._∷_ 58 (List._∷_ 58 (List._∷_ 87
-              (List._∷_ 97 (List._∷_ 108 (List._∷_ 107 (List._∷_ 101 (List._∷_ 100 List.[]))))))))))))) (Syntax.tcons Syntax.tyBool (Syntax.tcons (Syntax.tyInt Syntax.w64) (Syntax.tcons (Syntax.tyStruct
-              (List._∷_ 98 (List._∷_ 105 (List._∷_ 116 (List._∷_ 115 (List._∷_ 58 (List._∷_ 58 (List._∷_ 66 (List._∷_ 105 (List._∷_ 116 (List._∷_ 80 (List._∷_ 111 (List._∷_ 115 (List._∷_ 105 (List._∷_ 116
-              (List._∷_ 105 (List._∷_ 111 (List._∷_ 110 List.[]))))))))))))))))) (Syntax.tcons (Syntax.tyInt Syntax.w64) Syntax.tnil)) (Syntax.tcons (Syntax.tyInt Syntax.w64) Syntax.tnil))))),
-        ) (List._∷_
-            (13, Rows'.any-gone (Syntax.tyArray (Syntax.tyInt Syntax.w16) 768)) (List._∷_ (14, Rows'.any-gone (Syntax.tyRef Syntax.erased Syntax.mut (Syntax.tyInt Syntax.w16))) (List._∷_ (
-              15,
-              Mut.mslice (Referent.rtF (Referent.fInt Syntax.w16)) (Syntax.tyRef Syntax.erased Syntax.mut (Syntax.tyInt Syntax.w16)) 3,
-            ) List.[])))))))))))))))
+        g18 = List._∷_ e0 (List._∷_ e2 (List._∷_ e26 (List._∷_ e34 (List._∷_
+            (4, Relend.mslice-owed (Referent.rtF (Referent.fInt Syntax.w16)) (Syntax.tyRef (Syntax.named 1) Syntax.mut (Syntax.tyInt Syntax.w16)) 1 3 (Row.lease (κs .1 .0) (qs .1 .0))) (List._∷_
+            (5, Relend.mslice-owed (Element.type) (Syntax.tyRef (Syntax.named 2) Syntax.mut Element.behind) 2 4 (Row.lease (κs .1 .1 .0) (qs .1 .1 .0))) (List._∷_ e40 (List._∷_ e42 (List._∷_ e44 (List._∷_
+            e46 (List._∷_ e5 (List._∷_ e7 (List._∷_ e9 (List._∷_ e11 (List._∷_ e14 (List._∷_ e16 List.[])))))))))))))))
 
         abbrev g21 : List.List Row.Entry
-        g21 = List._∷_ (
-          0,
-          Rows'.any-gone (Syntax.tyEnum (List._∷_ 98 (List._∷_ 108 (List._∷_ 111 (List._∷_ 99 (List._∷_ 107 (List._∷_ 58 (List._∷_ 58 (List._∷_ 68 (List._∷_ 101 (List._∷_ 99
-              (List._∷_ 111 (List._∷_ 100 (List._∷_ 101 (List._∷_ 100 List.[])))))))))))))) (Syntax.ttcons Syntax.tnil (Syntax.ttcons (Syntax.tcons (Syntax.tyEnum (List._∷_ 115 (List._∷_ 116 (List._∷_ 114
-              (List._∷_ 101 (List._∷_ 97 (List._∷_ 109 (List._∷_ 58 (List._∷_ 58 (List._∷_ 82 (List._∷_ 101 (List._∷_ 102 (List._∷_ 117 (List._∷_ 115 (List._∷_ 97 (List._∷_ 108 List.[])))))))))))))))
-              (Syntax.ttcons Syntax.tnil (Syntax.ttcons Syntax.tnil (Syntax.ttcons Syntax.tnil (Syntax.ttcons (Syntax.tcons (Syntax.tyInt Syntax.w64) Syntax.tnil) (Syntax.ttcons Syntax.tnil (Syntax.ttcons
-              Syntax.tnil (Syntax.ttcons Syntax.tnil (Syntax.ttcons Syntax.tnil (Syntax.ttcons Syntax.tnil (Syntax.ttcons Syntax.tnil (Syntax.ttcons (Syntax.tcons (Syntax.tyInt Syntax.w64) Syntax.tnil)
-              (Syntax.ttcons (Syntax.tcons (Syntax.tyInt Syntax.w64) Syntax.tnil) (Syntax.ttcons Syntax.tnil (Syntax.ttcons (Syntax.tcons (Syntax.tyInt Syntax.w64) (Syntax.tcons (Syntax.tyInt Syntax.w64)
-              Syntax.tnil)) (Syntax.ttcons (Syntax.tcons (Syntax.tyInt Syntax.w64) Syntax.tnil) Syntax.ttnil)))))))))))))))) Syntax.tnil) Syntax.ttnil))),
-        ) (List._∷_ (
-          1,
-          Rows'.sslice (Referent.rtF
-              (Referent.fInt Syntax.w8)) (Syntax.tyRef (Syntax.named 0) Syntax.imm (Syntax.tyInt Syntax.w8)) 0,
-        ) (List._∷_ (
-          2,
-          Rows'.any-gone (Syntax.tyStruct (List._∷_ 115 (List._∷_ 116 (List._∷_ 114
-              (List._∷_ 101 (List._∷_ 97 (List._∷_ 109 (List._∷_ 58 (List._∷_ 58 (List._∷_ 70 (List._∷_ 117 (List._∷_ 106 (List._∷_ 105 (List._∷_ 72 (List._∷_ 101 (List._∷_ 97 (List._∷_ 100 (List._∷_ 101
-              (List._∷_ 114 List.[])))))))))))))))))) (Syntax.tcons Syntax.tyBool (Syntax.tcons Syntax.tyBool (Syntax.tcons (Syntax.tyInt Syntax.w32) (Syntax.tcons (Syntax.tyInt Syntax.w32) (Syntax.tcons
-              (Syntax.tyInt Syntax.w32) (Syntax.tcons (Syntax.tyInt Syntax.w32) (Syntax.tcons (Syntax.tyInt Syntax.w32) (Syntax.tcons (Syntax.tyInt Syntax.w32) (Syntax.tcons (Syntax.tyInt Syntax.w32)
-              Syntax.tnil)))))))))),
-        ) (List._∷_ (3, Rows'.sc-here (Row.sInt Syntax.w64)) (List._∷_ (
-          4,
-          Relend.mslice-owed (Referent.rtF (Referent.fInt Syntax.w16)) (Syntax.tyRef (Syntax.named 1)
-              Syntax.mut (Syntax.tyInt Syntax.w16)) 1 3 (Row.lease (κs .1 .0) (qs .1 .0)),
-        ) (List._∷_ (
-          5,
-          Relend.mslice-owed (Element.type) (Syntax.tyRef (Syntax.named 2) Syntax.mut Element.behind) 2 4
-              (Row.lease (κs .1 .1 .0) (qs .1 .1 .0)),
-        ) (List._∷_ (6, Rows'.whole (Declared'.row Form.the-type)) (List._∷_ (7, Rows'.sc-here (Row.sInt Syntax.w64)) (List._∷_ (
-          8,
-          Rows'.sslice
-              (Referent.rtF (Referent.fInt Syntax.w8)) (Syntax.tyRef Syntax.erased Syntax.imm (Syntax.tyInt Syntax.w8)) 0,
-        ) (List._∷_ (
-          9,
-          Rows'.sslice (Referent.rtF (Referent.fInt Syntax.w8))
-              (Syntax.tyRef Syntax.erased Syntax.imm (Syntax.tyInt Syntax.w8)) 0,
-        ) (List._∷_ (
-          10,
-          Rows'.sc-shr (Rows.arrF (Referent.rtF (Referent.fInt Syntax.w16)) 768 0) (Array'.Array (Referent.rtF
-              (Referent.fInt Syntax.w16)) 768) (λ x. x) 6,
-        ) (List._∷_ (11, Rows.arr-owed (Referent.rtF (Referent.fInt Syntax.w16)) 1 5) (List._∷_ (
-          12,
-          Rows'.any-gone (Syntax.tyStruct (List._∷_ 98
-              (List._∷_ 108 (List._∷_ 111 (List._∷_ 99 (List._∷_ 107 (List._∷_ 58 (List._∷_ 58 (List._∷_ 87 (List._∷_ 97 (List._∷_ 108 (List._∷_ 107 (List._∷_ 101 (List._∷_ 100 List.[])))))))))))))
-              (Syntax.tcons Syntax.tyBool (Syntax.tcons (Syntax.tyInt Syntax.w64) (Syntax.tcons (Syntax.tyStruct (List._∷_ 98 (List._∷_ 105 (List._∷_ 116 (List._∷_ 115 (List._∷_ 58 (List._∷_ 58 (List._∷_ 66
-              (List._∷_ 105 (List._∷_ 116 (List._∷_ 80 (List._∷_ 111 (List._∷_ 115 (List._∷_ 105 (List._∷_ 116 (List._∷_ 105 (List._∷_ 111 (List._∷_ 110 List.[]))))))))))))))))) (Syntax.tcons (Syntax.tyInt
-              Syntax.w64) Syntax.tnil)) (Syntax.tcons (Syntax.tyInt Syntax.w64) Syntax.tnil))))),
-        ) (List._∷_ (13, Rows'.any-gone (Syntax.tyArray (Syntax.tyInt Syntax.w16) 768)) (List._∷_ (
-          14,
-          Rows'.any-gone (Syntax.tyRef Syntax.erased Syntax.mut (Syntax.tyInt Syntax.w16)),
-        ) (List._∷_ (
-          15,
-          Mut.mslice (Referent.rtF (Referent.fInt Syntax.w16)) (Syntax.tyRef Syntax.erased Syntax.mut
-              (Syntax.tyInt Syntax.w16)) 3,
-        ) List.[])))))))))))))))
+        g21 = List._∷_ e0 (List._∷_ e2 (List._∷_ e26 (List._∷_ e34 (List._∷_
+            (4, Relend.mslice-owed (Referent.rtF (Referent.fInt Syntax.w16)) (Syntax.tyRef (Syntax.named 1) Syntax.mut (Syntax.tyInt Syntax.w16)) 1 3 (Row.lease (κs .1 .0) (qs .1 .0))) (List._∷_
+            (5, Relend.mslice-owed (Element.type) (Syntax.tyRef (Syntax.named 2) Syntax.mut Element.behind) 2 4 (Row.lease (κs .1 .1 .0) (qs .1 .1 .0))) (List._∷_ e40 (List._∷_ e42 (List._∷_ e44 (List._∷_
+            e46 (List._∷_ e4 (List._∷_ e7 (List._∷_ e9 (List._∷_ e11 (List._∷_ e14 (List._∷_ e16 List.[])))))))))))))))
 
         abbrev g26 : List.List Row.Entry
-        g26 = List._∷_ (
-          0,
-          Rows'.any-gone (Syntax.tyEnum (List._∷_ 98 (List._∷_ 108 (List._∷_ 111 (List._∷_ 99 (List._∷_ 107 (List._∷_ 58 (List._∷_ 58 (List._∷_ 68 (List._∷_ 101 (List._∷_ 99
-              (List._∷_ 111 (List._∷_ 100 (List._∷_ 101 (List._∷_ 100 List.[])))))))))))))) (Syntax.ttcons Syntax.tnil (Syntax.ttcons (Syntax.tcons (Syntax.tyEnum (List._∷_ 115 (List._∷_ 116 (List._∷_ 114
-              (List._∷_ 101 (List._∷_ 97 (List._∷_ 109 (List._∷_ 58 (List._∷_ 58 (List._∷_ 82 (List._∷_ 101 (List._∷_ 102 (List._∷_ 117 (List._∷_ 115 (List._∷_ 97 (List._∷_ 108 List.[])))))))))))))))
-              (Syntax.ttcons Syntax.tnil (Syntax.ttcons Syntax.tnil (Syntax.ttcons Syntax.tnil (Syntax.ttcons (Syntax.tcons (Syntax.tyInt Syntax.w64) Syntax.tnil) (Syntax.ttcons Syntax.tnil (Syntax.ttcons
-              Syntax.tnil (Syntax.ttcons Syntax.tnil (Syntax.ttcons Syntax.tnil (Syntax.ttcons Syntax.tnil (Syntax.ttcons Syntax.tnil (Syntax.ttcons (Syntax.tcons (Syntax.tyInt Syntax.w64) Syntax.tnil)
-              (Syntax.ttcons (Syntax.tcons (Syntax.tyInt Syntax.w64) Syntax.tnil) (Syntax.ttcons Syntax.tnil (Syntax.ttcons (Syntax.tcons (Syntax.tyInt Syntax.w64) (Syntax.tcons (Syntax.tyInt Syntax.w64)
-              Syntax.tnil)) (Syntax.ttcons (Syntax.tcons (Syntax.tyInt Syntax.w64) Syntax.tnil) Syntax.ttnil)))))))))))))))) Syntax.tnil) Syntax.ttnil))),
-        ) (List._∷_ (
-          1,
-          Rows'.sslice (Referent.rtF
-              (Referent.fInt Syntax.w8)) (Syntax.tyRef (Syntax.named 0) Syntax.imm (Syntax.tyInt Syntax.w8)) 0,
-        ) (List._∷_ (
-          2,
-          Rows'.any-gone (Syntax.tyStruct (List._∷_ 115 (List._∷_ 116 (List._∷_ 114
-              (List._∷_ 101 (List._∷_ 97 (List._∷_ 109 (List._∷_ 58 (List._∷_ 58 (List._∷_ 70 (List._∷_ 117 (List._∷_ 106 (List._∷_ 105 (List._∷_ 72 (List._∷_ 101 (List._∷_ 97 (List._∷_ 100 (List._∷_ 101
-              (List._∷_ 114 List.[])))))))))))))))))) (Syntax.tcons Syntax.tyBool (Syntax.tcons Syntax.tyBool (Syntax.tcons (Syntax.tyInt Syntax.w32) (Syntax.tcons (Syntax.tyInt Syntax.w32) (Syntax.tcons
-              (Syntax.tyInt Syntax.w32) (Syntax.tcons (Syntax.tyInt Syntax.w32) (Syntax.tcons (Syntax.tyInt Syntax.w32) (Syntax.tcons (Syntax.tyInt Syntax.w32) (Syntax.tcons (Syntax.tyInt Syntax.w32)
-              Syntax.tnil)))))))))),
-        ) (List._∷_ (3, Rows'.sc-here (Row.sInt Syntax.w64)) (List._∷_ (
-          4,
-          Relend.mslice-owed (Referent.rtF (Referent.fInt Syntax.w16)) (Syntax.tyRef (Syntax.named 1)
-              Syntax.mut (Syntax.tyInt Syntax.w16)) 1 3 (Row.lease (κs .1 .0) (qs .1 .0)),
-        ) (List._∷_ (
-          5,
-          Relend.mslice-owed (Element.type) (Syntax.tyRef (Syntax.named 2) Syntax.mut Element.behind) 2 4
-              (Row.lease (κs .1 .1 .0) (qs .1 .1 .0)),
-        ) (List._∷_ (6, Rows'.whole (Declared'.row Form.the-type)) (List._∷_ (7, Rows'.sc-here (Row.sInt Syntax.w64)) (List._∷_ (
-          8,
-          Rows'.sslice
-              (Referent.rtF (Referent.fInt Syntax.w8)) (Syntax.tyRef Syntax.erased Syntax.imm (Syntax.tyInt Syntax.w8)) 0,
-        ) (List._∷_ (
-          9,
-          Rows'.sslice (Referent.rtF (Referent.fInt Syntax.w8))
-              (Syntax.tyRef Syntax.erased Syntax.imm (Syntax.tyInt Syntax.w8)) 0,
-        ) (List._∷_ (
-          10,
-          Rows'.sc-shr (Rows.arrF (Referent.rtF (Referent.fInt Syntax.w16)) 768 0) (Array'.Array (Referent.rtF
-              (Referent.fInt Syntax.w16)) 768) (λ x. x) 6,
-        ) (List._∷_ (11, Rows.arr-owed (Referent.rtF (Referent.fInt Syntax.w16)) 1 5) (List._∷_ (12, Rows'.whole (Declared'.row Walked.the-type))
-            (List._∷_ (13, Rows'.any-gone (Syntax.tyArray (Syntax.tyInt Syntax.w16) 768)) (List._∷_ (14, Rows'.any-gone (Syntax.tyRef Syntax.erased Syntax.mut (Syntax.tyInt Syntax.w16))) (List._∷_ (
-              15,
-              Mut.msleft (Referent.rtF (Referent.fInt Syntax.w16)) (Syntax.tyRef Syntax.erased Syntax.mut (Syntax.tyInt Syntax.w16)),
-            ) List.[])))))))))))))))
+        g26 = List._∷_ e0 (List._∷_ e2 (List._∷_ e26 (List._∷_ e34 (List._∷_
+            (4, Relend.mslice-owed (Referent.rtF (Referent.fInt Syntax.w16)) (Syntax.tyRef (Syntax.named 1) Syntax.mut (Syntax.tyInt Syntax.w16)) 1 3 (Row.lease (κs .1 .0) (qs .1 .0))) (List._∷_
+            (5, Relend.mslice-owed (Element.type) (Syntax.tyRef (Syntax.named 2) Syntax.mut Element.behind) 2 4 (Row.lease (κs .1 .1 .0) (qs .1 .1 .0))) (List._∷_ e40 (List._∷_ e42 (List._∷_ e44 (List._∷_
+            e46 (List._∷_ e4 (List._∷_ e7 (List._∷_ e10 (List._∷_ e11 (List._∷_ e14 (List._∷_ e15 List.[])))))))))))))))
 
         abbrev g28 : List.List Row.Entry
-        g28 = List._∷_ (
-          0,
-          Rows'.any-gone (Syntax.tyEnum (List._∷_ 98 (List._∷_ 108 (List._∷_ 111 (List._∷_ 99 (List._∷_ 107 (List._∷_ 58 (List._∷_ 58 (List._∷_ 68 (List._∷_ 101 (List._∷_ 99
-              (List._∷_ 111 (List._∷_ 100 (List._∷_ 101 (List._∷_ 100 List.[])))))))))))))) (Syntax.ttcons Syntax.tnil (Syntax.ttcons (Syntax.tcons (Syntax.tyEnum (List._∷_ 115 (List._∷_ 116 (List._∷_ 114
-              (List._∷_ 101 (List._∷_ 97 (List._∷_ 109 (List._∷_ 58 (List._∷_ 58 (List._∷_ 82 (List._∷_ 101 (List._∷_ 102 (List._∷_ 117 (List._∷_ 115 (List._∷_ 97 (List._∷_ 108 List.[])))))))))))))))
-              (Syntax.ttcons Syntax.tnil (Syntax.ttcons Syntax.tnil (Syntax.ttcons Syntax.tnil (Syntax.ttcons (Syntax.tcons (Syntax.tyInt Syntax.w64) Syntax.tnil) (Syntax.ttcons Syntax.tnil (Syntax.ttcons
-              Syntax.tnil (Syntax.ttcons Syntax.tnil (Syntax.ttcons Syntax.tnil (Syntax.ttcons Syntax.tnil (Syntax.ttcons Syntax.tnil (Syntax.ttcons (Syntax.tcons (Syntax.tyInt Syntax.w64) Syntax.tnil)
-              (Syntax.ttcons (Syntax.tcons (Syntax.tyInt Syntax.w64) Syntax.tnil) (Syntax.ttcons Syntax.tnil (Syntax.ttcons (Syntax.tcons (Syntax.tyInt Syntax.w64) (Syntax.tcons (Syntax.tyInt Syntax.w64)
-              Syntax.tnil)) (Syntax.ttcons (Syntax.tcons (Syntax.tyInt Syntax.w64) Syntax.tnil) Syntax.ttnil)))))))))))))))) Syntax.tnil) Syntax.ttnil))),
-        ) (List._∷_ (
-          1,
-          Rows'.sslice (Referent.rtF
-              (Referent.fInt Syntax.w8)) (Syntax.tyRef (Syntax.named 0) Syntax.imm (Syntax.tyInt Syntax.w8)) 0,
-        ) (List._∷_ (
-          2,
-          Rows'.any-gone (Syntax.tyStruct (List._∷_ 115 (List._∷_ 116 (List._∷_ 114
-              (List._∷_ 101 (List._∷_ 97 (List._∷_ 109 (List._∷_ 58 (List._∷_ 58 (List._∷_ 70 (List._∷_ 117 (List._∷_ 106 (List._∷_ 105 (List._∷_ 72 (List._∷_ 101 (List._∷_ 97 (List._∷_ 100 (List._∷_ 101
-              (List._∷_ 114 List.[])))))))))))))))))) (Syntax.tcons Syntax.tyBool (Syntax.tcons Syntax.tyBool (Syntax.tcons (Syntax.tyInt Syntax.w32) (Syntax.tcons (Syntax.tyInt Syntax.w32) (Syntax.tcons
-              (Syntax.tyInt Syntax.w32) (Syntax.tcons (Syntax.tyInt Syntax.w32) (Syntax.tcons (Syntax.tyInt Syntax.w32) (Syntax.tcons (Syntax.tyInt Syntax.w32) (Syntax.tcons (Syntax.tyInt Syntax.w32)
-              Syntax.tnil)))))))))),
-        ) (List._∷_ (3, Rows'.sc-here (Row.sInt Syntax.w64)) (List._∷_ (
-          4,
-          Relend.mslice-owed (Referent.rtF (Referent.fInt Syntax.w16)) (Syntax.tyRef (Syntax.named 1)
-              Syntax.mut (Syntax.tyInt Syntax.w16)) 1 3 (Row.lease (κs .1 .0) (qs .1 .0)),
-        ) (List._∷_ (
-          5,
-          Relend.mslice-owed (Element.type) (Syntax.tyRef (Syntax.named 2) Syntax.mut Element.behind) 2 4
-              (Row.lease (κs .1 .1 .0) (qs .1 .1 .0)),
-        ) (List._∷_ (6, Rows'.whole (Declared'.row Form.the-type)) (List._∷_ (7, Rows'.sc-here (Row.sInt Syntax.w64)) (List._∷_ (
-          8,
-          Rows'.sslice
-              (Referent.rtF (Referent.fInt Syntax.w8)) (Syntax.tyRef Syntax.erased Syntax.imm (Syntax.tyInt Syntax.w8)) 0,
-        ) (List._∷_ (
-          9,
-          Rows'.any-gone (Syntax.tyStruct (List._∷_ 38 (List._∷_ 91
-              (List._∷_ 93 List.[]))) (Syntax.tcons (Syntax.tyRef Syntax.erased Syntax.imm (Syntax.tyInt Syntax.w8)) (Syntax.tcons (Syntax.tyInt Syntax.w64) Syntax.tnil))),
-        ) (List._∷_ (
-          10,
-          Rows'.sc-shr
-              (Rows.arrF (Referent.rtF (Referent.fInt Syntax.w16)) 768 0) (Array'.Array (Referent.rtF (Referent.fInt Syntax.w16)) 768) (λ x. x) 6,
-        ) (List._∷_ (
-          11,
-          Rows.arr-owed (Referent.rtF (Referent.fInt
-              Syntax.w16)) 1 5,
-        ) (List._∷_ (12, Rows'.whole (Declared'.row Walked.the-type)) (List._∷_ (13, Rows'.any-gone (Syntax.tyArray (Syntax.tyInt Syntax.w16) 768)) (List._∷_ (
-          14,
-          Rows'.any-gone
-              (Syntax.tyRef Syntax.erased Syntax.mut (Syntax.tyInt Syntax.w16)),
-        ) (List._∷_ (
-          15,
-          Mut.msleft (Referent.rtF (Referent.fInt Syntax.w16)) (Syntax.tyRef Syntax.erased Syntax.mut (Syntax.tyInt
-              Syntax.w16)),
-        ) List.[])))))))))))))))
+        g28 = List._∷_ e0 (List._∷_ e2 (List._∷_ e26 (List._∷_ e34 (List._∷_
+            (4, Relend.mslice-owed (Referent.rtF (Referent.fInt Syntax.w16)) (Syntax.tyRef (Syntax.named 1) Syntax.mut (Syntax.tyInt Syntax.w16)) 1 3 (Row.lease (κs .1 .0) (qs .1 .0))) (List._∷_
+            (5, Relend.mslice-owed (Element.type) (Syntax.tyRef (Syntax.named 2) Syntax.mut Element.behind) 2 4 (Row.lease (κs .1 .1 .0) (qs .1 .1 .0))) (List._∷_ e40 (List._∷_ e42 (List._∷_ e44 (List._∷_
+            e45 (List._∷_ e4 (List._∷_ e7 (List._∷_ e10 (List._∷_ e11 (List._∷_ e14 (List._∷_ e15 List.[])))))))))))))))
 
         abbrev g32 : List.List Row.Entry
-        g32 = List._∷_ (
-          0,
-          Rows'.any-gone (Syntax.tyEnum (List._∷_ 98 (List._∷_ 108 (List._∷_ 111 (List._∷_ 99 (List._∷_ 107 (List._∷_ 58 (List._∷_ 58 (List._∷_ 68 (List._∷_ 101 (List._∷_ 99
-              (List._∷_ 111 (List._∷_ 100 (List._∷_ 101 (List._∷_ 100 List.[])))))))))))))) (Syntax.ttcons Syntax.tnil (Syntax.ttcons (Syntax.tcons (Syntax.tyEnum (List._∷_ 115 (List._∷_ 116 (List._∷_ 114
-              (List._∷_ 101 (List._∷_ 97 (List._∷_ 109 (List._∷_ 58 (List._∷_ 58 (List._∷_ 82 (List._∷_ 101 (List._∷_ 102 (List._∷_ 117 (List._∷_ 115 (List._∷_ 97 (List._∷_ 108 List.[])))))))))))))))
-              (Syntax.ttcons Syntax.tnil (Syntax.ttcons Syntax.tnil (Syntax.ttcons Syntax.tnil (Syntax.ttcons (Syntax.tcons (Syntax.tyInt Syntax.w64) Syntax.tnil) (Syntax.ttcons Syntax.tnil (Syntax.ttcons
-              Syntax.tnil (Syntax.ttcons Syntax.tnil (Syntax.ttcons Syntax.tnil (Syntax.ttcons Syntax.tnil (Syntax.ttcons Syntax.tnil (Syntax.ttcons (Syntax.tcons (Syntax.tyInt Syntax.w64) Syntax.tnil)
-              (Syntax.ttcons (Syntax.tcons (Syntax.tyInt Syntax.w64) Syntax.tnil) (Syntax.ttcons Syntax.tnil (Syntax.ttcons (Syntax.tcons (Syntax.tyInt Syntax.w64) (Syntax.tcons (Syntax.tyInt Syntax.w64)
-              Syntax.tnil)) (Syntax.ttcons (Syntax.tcons (Syntax.tyInt Syntax.w64) Syntax.tnil) Syntax.ttnil)))))))))))))))) Syntax.tnil) Syntax.ttnil))),
-        ) (List._∷_ (
-          1,
-          Rows'.sslice (Referent.rtF
-              (Referent.fInt Syntax.w8)) (Syntax.tyRef (Syntax.named 0) Syntax.imm (Syntax.tyInt Syntax.w8)) 0,
-        ) (List._∷_ (
-          2,
-          Rows'.any-gone (Syntax.tyStruct (List._∷_ 115 (List._∷_ 116 (List._∷_ 114
-              (List._∷_ 101 (List._∷_ 97 (List._∷_ 109 (List._∷_ 58 (List._∷_ 58 (List._∷_ 70 (List._∷_ 117 (List._∷_ 106 (List._∷_ 105 (List._∷_ 72 (List._∷_ 101 (List._∷_ 97 (List._∷_ 100 (List._∷_ 101
-              (List._∷_ 114 List.[])))))))))))))))))) (Syntax.tcons Syntax.tyBool (Syntax.tcons Syntax.tyBool (Syntax.tcons (Syntax.tyInt Syntax.w32) (Syntax.tcons (Syntax.tyInt Syntax.w32) (Syntax.tcons
-              (Syntax.tyInt Syntax.w32) (Syntax.tcons (Syntax.tyInt Syntax.w32) (Syntax.tcons (Syntax.tyInt Syntax.w32) (Syntax.tcons (Syntax.tyInt Syntax.w32) (Syntax.tcons (Syntax.tyInt Syntax.w32)
-              Syntax.tnil)))))))))),
-        ) (List._∷_ (3, Rows'.sc-here (Row.sInt Syntax.w64)) (List._∷_ (
-          4,
-          Mut.mslice (Referent.rtF (Referent.fInt Syntax.w16)) (Syntax.tyRef (Syntax.named 1) Syntax.mut
-              (Syntax.tyInt Syntax.w16)) 1,
-        ) (List._∷_ (5, Relend.mslice-owed (Element.type) (Syntax.tyRef (Syntax.named 2) Syntax.mut Element.behind) 2 4 (Row.lease (κs .1 .1 .0) (qs .1 .1 .0)))
-            (List._∷_ (6, Rows'.whole (Declared'.row Form.the-type)) (List._∷_ (7, Rows'.sc-here (Row.sInt Syntax.w64)) (List._∷_ (
-              8,
-              Rows'.sslice (Referent.rtF (Referent.fInt Syntax.w8))
-                  (Syntax.tyRef Syntax.erased Syntax.imm (Syntax.tyInt Syntax.w8)) 0,
-            ) (List._∷_ (
-              9,
-              Rows'.any-gone (Syntax.tyStruct (List._∷_ 38 (List._∷_ 91 (List._∷_ 93 List.[]))) (Syntax.tcons
-                  (Syntax.tyRef Syntax.erased Syntax.imm (Syntax.tyInt Syntax.w8)) (Syntax.tcons (Syntax.tyInt Syntax.w64) Syntax.tnil))),
-            ) (List._∷_ (
-              10,
-              Rows'.sc-shr (Rows.arrF (Referent.rtF (Referent.fInt
-                  Syntax.w16)) 768 0) (Array'.Array (Referent.rtF (Referent.fInt Syntax.w16)) 768) (λ x. x) 6,
-            ) (List._∷_ (11, Rows.arr-owed (Referent.rtF (Referent.fInt Syntax.w16)) 1 5) (List._∷_ (
-              12,
-              Rows'.whole (Declared'.row Walked.the-type),
-            ) (List._∷_ (13, Rows'.any-gone (Syntax.tyArray (Syntax.tyInt Syntax.w16) 768)) (List._∷_ (
-              14,
-              Rows'.any-gone (Syntax.tyRef Syntax.erased
-                  Syntax.mut (Syntax.tyInt Syntax.w16)),
-            ) (List._∷_ (
-              15,
-              Rows'.any-gone (Syntax.tyStruct (List._∷_ 38 (List._∷_ 91 (List._∷_ 93 List.[]))) (Syntax.tcons (Syntax.tyRef Syntax.erased Syntax.mut
-                  (Syntax.tyInt Syntax.w16)) (Syntax.tcons (Syntax.tyInt Syntax.w64) Syntax.tnil))),
-            ) List.[])))))))))))))))
+        g32 = List._∷_ e0 (List._∷_ e2 (List._∷_ e26 (List._∷_ e34 (List._∷_ e35 (List._∷_
+            (5, Relend.mslice-owed (Element.type) (Syntax.tyRef (Syntax.named 2) Syntax.mut Element.behind) 2 4 (Row.lease (κs .1 .1 .0) (qs .1 .1 .0))) (List._∷_ e40 (List._∷_ e42 (List._∷_ e44 (List._∷_
+            e45 (List._∷_ e4 (List._∷_ e7 (List._∷_ e10 (List._∷_ e11 (List._∷_ e14 (List._∷_ e17 List.[])))))))))))))))
 
         abbrev G0 : Row.Cx
         G0 = record {
           locals = List._++_ t0 t1;
-          slots = List._∷_ (Row.lease (κs .0) (qs .0)) (List._∷_ (Row.lease (κs .1 .0) (qs .1 .0)) (List._∷_ (Row.lease (κs .1 .1 .0) (qs .1 .1 .0)) (List._∷_
-              Row.off (List._∷_ Row.off (List._∷_ Row.off (List._∷_ Row.off List.[]))))));
+          slots = List._∷_ (Row.lease (κs .0) (qs .0)) (List._∷_ (Row.lease (κs .1 .0) (qs .1 .0)) (List._∷_ (Row.lease (κs .1 .1 .0) (qs .1 .1 .0)) (List._∷_ Row.off
+              (List._∷_ Row.off (List._∷_ Row.off (List._∷_ Row.off List.[]))))));
         }
 
         abbrev G1 : Row.Cx
         G1 = record {
           locals = List._++_ t2 t1;
-          slots = List._∷_ (Row.lease (κs .0) (qs .0)) (List._∷_ (Row.lease (κs .1 .0) (qs .1 .0)) (List._∷_ (Row.lease (κs .1 .1 .0) (qs .1 .1 .0)) (List._∷_
-              Row.off (List._∷_ Row.off (List._∷_ Row.off (List._∷_ Row.off List.[]))))));
+          slots = List._∷_ (Row.lease (κs .0) (qs .0)) (List._∷_ (Row.lease (κs .1 .0) (qs .1 .0)) (List._∷_ (Row.lease (κs .1 .1 .0) (qs .1 .1 .0)) (List._∷_ Row.off
+              (List._∷_ Row.off (List._∷_ Row.off (List._∷_ Row.off List.[]))))));
         }
 
         abbrev G2 : Row.Cx
         G2 = record {
           locals = List._++_ t0 t1;
-          slots = List._∷_ (Row.lease (κs .0) (qs .0)) (List._∷_ (Row.lease (κs .1 .0) (qs .1 .0)) (List._∷_ (Row.lease (κs .1 .1 .0) (qs .1 .1 .0)) (List._∷_
-              Row.off (List._∷_ Row.off (List._∷_ Row.off (List._∷_ Row.off List.[]))))));
+          slots = List._∷_ (Row.lease (κs .0) (qs .0)) (List._∷_ (Row.lease (κs .1 .0) (qs .1 .0)) (List._∷_ (Row.lease (κs .1 .1 .0) (qs .1 .1 .0)) (List._∷_ Row.off
+              (List._∷_ Row.off (List._∷_ Row.off (List._∷_ Row.off List.[]))))));
         }
 
         abbrev G3 : Row.Cx
         G3 = record {
           locals = List._++_ t0 t1;
-          slots = List._∷_ (Row.lease (κs .0) (qs .0)) (List._∷_ (Row.lease (κs .1 .0) (qs .1 .0)) (List._∷_ (Row.lease (κs .1 .1 .0) (qs .1 .1 .0)) (List._∷_
-              Row.off (List._∷_ Row.off (List._∷_ Row.off (List._∷_ Row.off List.[]))))));
+          slots = List._∷_ (Row.lease (κs .0) (qs .0)) (List._∷_ (Row.lease (κs .1 .0) (qs .1 .0)) (List._∷_ (Row.lease (κs .1 .1 .0) (qs .1 .1 .0)) (List._∷_ Row.off
+              (List._∷_ Row.off (List._∷_ Row.off (List._∷_ Row.off List.[]))))));
         }
 
         abbrev G4 : Row.Cx
         G4 = record {
           locals = List._++_ t3 t1;
-          slots = List._∷_ (Row.lease (κs .0) (qs .0)) (List._∷_ (Row.lease (κs .1 .0) (qs .1 .0)) (List._∷_ (Row.lease (κs .1 .1 .0) (qs .1 .1 .0)) (List._∷_
-              Row.off (List._∷_ Row.off (List._∷_ Row.off (List._∷_ Row.off List.[]))))));
+          slots = List._∷_ (Row.lease (κs .0) (qs .0)) (List._∷_ (Row.lease (κs .1 .0) (qs .1 .0)) (List._∷_ (Row.lease (κs .1 .1 .0) (qs .1 .1 .0)) (List._∷_ Row.off
+              (List._∷_ Row.off (List._∷_ Row.off (List._∷_ Row.off List.[]))))));
         }
 
         abbrev G5 : Row.Cx
         G5 = record {
           locals = List._++_ t4 t1;
-          slots = List._∷_ (Row.lease (κs .0) (qs .0)) (List._∷_ (Row.lease (κs .1 .0) (qs .1 .0)) (List._∷_ (Row.lease (κs .1 .1 .0) (qs .1 .1 .0)) (List._∷_
-              Row.off (List._∷_ Row.off (List._∷_ Row.off (List._∷_ Row.off List.[]))))));
+          slots = List._∷_ (Row.lease (κs .0) (qs .0)) (List._∷_ (Row.lease (κs .1 .0) (qs .1 .0)) (List._∷_ (Row.lease (κs .1 .1 .0) (qs .1 .1 .0)) (List._∷_ Row.off
+              (List._∷_ Row.off (List._∷_ Row.off (List._∷_ Row.off List.[]))))));
         }
 
         abbrev G6 : Row.Cx
         G6 = record {
           locals = List._++_ t5 t1;
-          slots = List._∷_ (Row.lease (κs .0) (qs .0)) (List._∷_ (Row.lease (κs .1 .0) (qs .1 .0)) (List._∷_ (Row.lease (κs .1 .1 .0) (qs .1 .1 .0)) (List._∷_
-              Row.off (List._∷_ Row.off (List._∷_ Row.off (List._∷_ Row.off List.[]))))));
+          slots = List._∷_ (Row.lease (κs .0) (qs .0)) (List._∷_ (Row.lease (κs .1 .0) (qs .1 .0)) (List._∷_ (Row.lease (κs .1 .1 .0) (qs .1 .1 .0)) (List._∷_ Row.off
+              (List._∷_ Row.off (List._∷_ Row.off (List._∷_ Row.off List.[]))))));
         }
 
         abbrev G7 : Row.Cx
         G7 = record {
           locals = List._++_ t6 t1;
-          slots = List._∷_ (Row.lease (κs .0) (qs .0)) (List._∷_ (Row.lease (κs .1 .0) (qs .1 .0)) (List._∷_ (Row.lease (κs .1 .1 .0) (qs .1 .1 .0)) (List._∷_
-              Row.off (List._∷_ Row.off (List._∷_ Row.off (List._∷_ Row.off List.[]))))));
+          slots = List._∷_ (Row.lease (κs .0) (qs .0)) (List._∷_ (Row.lease (κs .1 .0) (qs .1 .0)) (List._∷_ (Row.lease (κs .1 .1 .0) (qs .1 .1 .0)) (List._∷_ Row.off
+              (List._∷_ Row.off (List._∷_ Row.off (List._∷_ Row.off List.[]))))));
         }
 
         abbrev G8 : Row.Cx
         G8 = record {
           locals = List._++_ t7 t1;
-          slots = List._∷_ (Row.lease (κs .0) (qs .0)) (List._∷_ (Row.lease (κs .1 .0) (qs .1 .0)) (List._∷_ (Row.lease (κs .1 .1 .0) (qs .1 .1 .0)) (List._∷_
-              Row.off (List._∷_ Row.off (List._∷_ Row.off (List._∷_ Row.off List.[]))))));
+          slots = List._∷_ (Row.lease (κs .0) (qs .0)) (List._∷_ (Row.lease (κs .1 .0) (qs .1 .0)) (List._∷_ (Row.lease (κs .1 .1 .0) (qs .1 .1 .0)) (List._∷_ Row.off
+              (List._∷_ Row.off (List._∷_ Row.off (List._∷_ Row.off List.[]))))));
         }
 
         abbrev G9 : Row.Cx
         G9 = record {
           locals = List._++_ t8 t1;
-          slots = List._∷_ (Row.lease (κs .0) (qs .0)) (List._∷_ (Row.lease (κs .1 .0) (qs .1 .0)) (List._∷_ (Row.lease (κs .1 .1 .0) (qs .1 .1 .0)) (List._∷_
-              Row.off (List._∷_ Row.off (List._∷_ Row.off (List._∷_ Row.off List.[]))))));
+          slots = List._∷_ (Row.lease (κs .0) (qs .0)) (List._∷_ (Row.lease (κs .1 .0) (qs .1 .0)) (List._∷_ (Row.lease (κs .1 .1 .0) (qs .1 .1 .0)) (List._∷_ Row.off
+              (List._∷_ Row.off (List._∷_ Row.off (List._∷_ Row.off List.[]))))));
         }
 
         abbrev G10 : Row.Cx
         G10 = record {
           locals = List._++_ t9 t1;
-          slots = List._∷_ (Row.lease (κs .0) (qs .0)) (List._∷_ (Row.lease (κs .1 .0) (qs .1 .0)) (List._∷_ (Row.lease (κs .1 .1 .0) (qs .1 .1 .0)) (List._∷_
-              Row.off (List._∷_ Row.off (List._∷_ Row.off (List._∷_ Row.off List.[]))))));
+          slots = List._∷_ (Row.lease (κs .0) (qs .0)) (List._∷_ (Row.lease (κs .1 .0) (qs .1 .0)) (List._∷_ (Row.lease (κs .1 .1 .0) (qs .1 .1 .0)) (List._∷_ Row.off
+              (List._∷_ Row.off (List._∷_ Row.off (List._∷_ Row.off List.[]))))));
         }
 
         abbrev G11 : Row.Cx
         G11 = record {
           locals = List._++_ t10 t1;
-          slots = List._∷_ (Row.lease (κs .0) (qs .0)) (List._∷_ (Row.lease (κs .1 .0) (qs .1 .0)) (List._∷_ (Row.lease (κs .1 .1 .0) (qs .1 .1 .0)) (List._∷_
-              Row.off (List._∷_ Row.off (List._∷_ Row.off (List._∷_ Row.off List.[]))))));
+          slots = List._∷_ (Row.lease (κs .0) (qs .0)) (List._∷_ (Row.lease (κs .1 .0) (qs .1 .0)) (List._∷_ (Row.lease (κs .1 .1 .0) (qs .1 .1 .0)) (List._∷_ Row.off
+              (List._∷_ Row.off (List._∷_ Row.off (List._∷_ Row.off List.[]))))));
         }
 
         abbrev G12 : Row.Cx
         G12 = record {
           locals = List._++_ t11 t1;
-          slots = List._∷_ (Row.lease (κs .0) (qs .0)) (List._∷_ (Row.lease (κs .1 .0) (qs .1 .0)) (List._∷_ (Row.lease (κs .1 .1 .0) (qs .1 .1 .0)) (List._∷_
-              Row.off (List._∷_ Row.off (List._∷_ Row.off (List._∷_ Row.off List.[]))))));
+          slots = List._∷_ (Row.lease (κs .0) (qs .0)) (List._∷_ (Row.lease (κs .1 .0) (qs .1 .0)) (List._∷_ (Row.lease (κs .1 .1 .0) (qs .1 .1 .0)) (List._∷_ Row.off
+              (List._∷_ Row.off (List._∷_ Row.off (List._∷_ Row.off List.[]))))));
         }
 
         abbrev G13 : Row.Cx
         G13 = record {
           locals = List._++_ t12 t1;
-          slots = List._∷_ (Row.lease (κs .0) (qs .0)) (List._∷_ (Row.lease (κs .1 .0) (qs .1 .0)) (List._∷_ (Row.lease (κs .1 .1 .0) (qs .1 .1 .0)) (List._∷_
-              Row.off (List._∷_ Row.off (List._∷_ Row.off (List._∷_ Row.off List.[]))))));
+          slots = List._∷_ (Row.lease (κs .0) (qs .0)) (List._∷_ (Row.lease (κs .1 .0) (qs .1 .0)) (List._∷_ (Row.lease (κs .1 .1 .0) (qs .1 .1 .0)) (List._∷_ Row.off
+              (List._∷_ Row.off (List._∷_ Row.off (List._∷_ Row.off List.[]))))));
         }
 
         abbrev G14 : Row.Cx
         G14 = record {
           locals = List._++_ t12 t1;
-          slots = List._∷_ (Row.lease (κs .0) (qs .0)) (List._∷_ (Row.lease (κs .1 .0) (qs .1 .0)) (List._∷_ (Row.lease (κs .1 .1 .0) (qs .1 .1 .0)) (List._∷_
-              Row.alive (List._∷_ Row.off (List._∷_ Row.off (List._∷_ Row.off List.[]))))));
+          slots = List._∷_ (Row.lease (κs .0) (qs .0)) (List._∷_ (Row.lease (κs .1 .0) (qs .1 .0)) (List._∷_ (Row.lease (κs .1 .1 .0) (qs .1 .1 .0)) (List._∷_ Row.alive
+              (List._∷_ Row.off (List._∷_ Row.off (List._∷_ Row.off List.[]))))));
         }
 
         abbrev G15 : Row.Cx
         G15 = record {
           locals = List._++_ g13 t1;
-          slots = List._∷_ (Row.lease (κs .0) (qs .0)) (List._∷_ Row.off (List._∷_ (Row.lease (κs .1 .1 .0) (qs .1 .1 .0)) (List._∷_ Row.alive (List._∷_ Row.off
-              (List._∷_ Row.off (List._∷_ Row.off List.[]))))));
+          slots = List._∷_ (Row.lease (κs .0) (qs .0)) (List._∷_ Row.off (List._∷_ (Row.lease (κs .1 .1 .0) (qs .1 .1 .0)) (List._∷_ Row.alive (List._∷_ Row.off (List._∷_
+              Row.off (List._∷_ Row.off List.[]))))));
         }
 
         abbrev G16 : Row.Cx
         G16 = record {
           locals = List._++_ g14 t1;
-          slots = List._∷_ (Row.lease (κs .0) (qs .0)) (List._∷_ Row.off (List._∷_ (Row.lease (κs .1 .1 .0) (qs .1 .1 .0)) (List._∷_ Row.alive (List._∷_ Row.off
-              (List._∷_ Row.off (List._∷_ Row.off List.[]))))));
+          slots = List._∷_ (Row.lease (κs .0) (qs .0)) (List._∷_ Row.off (List._∷_ (Row.lease (κs .1 .1 .0) (qs .1 .1 .0)) (List._∷_ Row.alive (List._∷_ Row.off (List._∷_
+              Row.off (List._∷_ Row.off List.[]))))));
         }
 
         abbrev G17 : Row.Cx
         G17 = record {
           locals = List._++_ g14 t1;
-          slots = List._∷_ (Row.lease (κs .0) (qs .0)) (List._∷_ Row.off (List._∷_ (Row.lease (κs .1 .1 .0) (qs .1 .1 .0)) (List._∷_ Row.alive (List._∷_
-              Row.alive (List._∷_ Row.off (List._∷_ Row.off List.[]))))));
+          slots = List._∷_ (Row.lease (κs .0) (qs .0)) (List._∷_ Row.off (List._∷_ (Row.lease (κs .1 .1 .0) (qs .1 .1 .0)) (List._∷_ Row.alive (List._∷_ Row.alive (List._∷_
+              Row.off (List._∷_ Row.off List.[]))))));
         }
 
         abbrev G18 : Row.Cx
         G18 = record {
           locals = List._++_ g15 t16;
-          slots = List._∷_ (Row.lease (κs .0) (qs .0)) (List._∷_ Row.off (List._∷_ Row.off (List._∷_ Row.alive (List._∷_ Row.alive (List._∷_ Row.off (List._∷_
-              Row.off List.[]))))));
+          slots = List._∷_ (Row.lease (κs .0) (qs .0)) (List._∷_ Row.off (List._∷_ Row.off (List._∷_ Row.alive (List._∷_ Row.alive (List._∷_ Row.off (List._∷_ Row.off
+              List.[]))))));
         }
 
         abbrev G19 : Row.Cx
         G19 = record {
           locals = List._++_ g15 t17;
-          slots = List._∷_ (Row.lease (κs .0) (qs .0)) (List._∷_ Row.off (List._∷_ Row.off (List._∷_ Row.alive (List._∷_ Row.alive (List._∷_ Row.off (List._∷_
-              Row.off List.[]))))));
+          slots = List._∷_ (Row.lease (κs .0) (qs .0)) (List._∷_ Row.off (List._∷_ Row.off (List._∷_ Row.alive (List._∷_ Row.alive (List._∷_ Row.off (List._∷_ Row.off
+              List.[]))))));
         }
 
         abbrev G20 : Row.Cx
         G20 = record {
           locals = List._++_ g15 t17;
-          slots = List._∷_ (Row.lease (κs .0) (qs .0)) (List._∷_ Row.off (List._∷_ Row.off (List._∷_ Row.alive (List._∷_ Row.alive (List._∷_ Row.alive
-              (List._∷_ Row.off List.[]))))));
+          slots = List._∷_ (Row.lease (κs .0) (qs .0)) (List._∷_ Row.off (List._∷_ Row.off (List._∷_ Row.alive (List._∷_ Row.alive (List._∷_ Row.alive (List._∷_ Row.off
+              List.[]))))));
         }
 
         abbrev G21 : Row.Cx
         G21 = record {
           locals = List._++_ g18 t19;
-          slots = List._∷_ (Row.lease (κs .0) (qs .0)) (List._∷_ Row.off (List._∷_ Row.off (List._∷_ Row.alive (List._∷_ Row.alive (List._∷_ Row.alive
-              (List._∷_ Row.off List.[]))))));
+          slots = List._∷_ (Row.lease (κs .0) (qs .0)) (List._∷_ Row.off (List._∷_ Row.off (List._∷_ Row.alive (List._∷_ Row.alive (List._∷_ Row.alive (List._∷_ Row.off
+              List.[]))))));
         }
 
         abbrev G22 : Row.Cx
         G22 = record {
           locals = List._++_ g18 t20;
-          slots = List._∷_ (Row.lease (κs .0) (qs .0)) (List._∷_ Row.off (List._∷_ Row.off (List._∷_ Row.alive (List._∷_ Row.alive (List._∷_ Row.alive
-              (List._∷_ Row.off List.[]))))));
+          slots = List._∷_ (Row.lease (κs .0) (qs .0)) (List._∷_ Row.off (List._∷_ Row.off (List._∷_ Row.alive (List._∷_ Row.alive (List._∷_ Row.alive (List._∷_ Row.off
+              List.[]))))));
         }
 
         abbrev G23 : Row.Cx
         G23 = record {
           locals = List._++_ g18 t20;
-          slots = List._∷_ (Row.lease (κs .0) (qs .0)) (List._∷_ Row.off (List._∷_ Row.off (List._∷_ Row.alive (List._∷_ Row.alive (List._∷_ Row.alive
-              (List._∷_ Row.alive List.[]))))));
+          slots = List._∷_ (Row.lease (κs .0) (qs .0)) (List._∷_ Row.off (List._∷_ Row.off (List._∷_ Row.alive (List._∷_ Row.alive (List._∷_ Row.alive (List._∷_ Row.alive
+              List.[]))))));
         }
 
         abbrev G24 : Row.Cx
         G24 = record {
           locals = List._++_ g21 t22;
-          slots = List._∷_ (Row.lease (κs .0) (qs .0)) (List._∷_ Row.off (List._∷_ Row.off (List._∷_ Row.alive (List._∷_ Row.alive (List._∷_ Row.alive
-              (List._∷_ Row.alive List.[]))))));
+          slots = List._∷_ (Row.lease (κs .0) (qs .0)) (List._∷_ Row.off (List._∷_ Row.off (List._∷_ Row.alive (List._∷_ Row.alive (List._∷_ Row.alive (List._∷_ Row.alive
+              List.[]))))));
         }
 
         abbrev G25 : Row.Cx
         G25 = record {
           locals = List._++_ g21 t23;
-          slots = List._∷_ (Row.lease (κs .0) (qs .0)) (List._∷_ Row.off (List._∷_ Row.off (List._∷_ Row.alive (List._∷_ Row.alive (List._∷_ Row.alive
-              (List._∷_ Row.alive List.[]))))));
+          slots = List._∷_ (Row.lease (κs .0) (qs .0)) (List._∷_ Row.off (List._∷_ Row.off (List._∷_ Row.alive (List._∷_ Row.alive (List._∷_ Row.alive (List._∷_ Row.alive
+              List.[]))))));
         }
 
         abbrev G26 : Row.Cx
         G26 = record {
           locals = List._++_ g21 t24;
-          slots = List._∷_ (Row.lease (κs .0) (qs .0)) (List._∷_ Row.off (List._∷_ Row.off (List._∷_ Row.alive (List._∷_ Row.alive (List._∷_ Row.alive
-              (List._∷_ Row.alive List.[]))))));
+          slots = List._∷_ (Row.lease (κs .0) (qs .0)) (List._∷_ Row.off (List._∷_ Row.off (List._∷_ Row.alive (List._∷_ Row.alive (List._∷_ Row.alive (List._∷_ Row.alive
+              List.[]))))));
         }
 
         abbrev G27 : Row.Cx
         G27 = record {
           locals = List._++_ g21 t25;
-          slots = List._∷_ (Row.lease (κs .0) (qs .0)) (List._∷_ Row.off (List._∷_ Row.off (List._∷_ Row.alive (List._∷_ Row.alive (List._∷_ Row.alive
-              (List._∷_ Row.alive List.[]))))));
+          slots = List._∷_ (Row.lease (κs .0) (qs .0)) (List._∷_ Row.off (List._∷_ Row.off (List._∷_ Row.alive (List._∷_ Row.alive (List._∷_ Row.alive (List._∷_ Row.alive
+              List.[]))))));
         }
 
         abbrev G28 : Row.Cx
         G28 = record {
           locals = List._++_ g26 t27;
-          slots = List._∷_ (Row.lease (κs .0) (qs .0)) (List._∷_ Row.off (List._∷_ Row.off (List._∷_ Row.alive (List._∷_ Row.alive (List._∷_ Row.alive
-              (List._∷_ Row.alive List.[]))))));
+          slots = List._∷_ (Row.lease (κs .0) (qs .0)) (List._∷_ Row.off (List._∷_ Row.off (List._∷_ Row.alive (List._∷_ Row.alive (List._∷_ Row.alive (List._∷_ Row.alive
+              List.[]))))));
         }
 
         abbrev G29 : Row.Cx
         G29 = record {
           locals = List._++_ g28 t27;
-          slots = List._∷_ (Row.lease (κs .0) (qs .0)) (List._∷_ Row.off (List._∷_ Row.off (List._∷_ Row.alive (List._∷_ Row.alive (List._∷_ Row.alive
-              (List._∷_ Row.alive List.[]))))));
+          slots = List._∷_ (Row.lease (κs .0) (qs .0)) (List._∷_ Row.off (List._∷_ Row.off (List._∷_ Row.alive (List._∷_ Row.alive (List._∷_ Row.alive (List._∷_ Row.alive
+              List.[]))))));
         }
 
         abbrev G30 : Row.Cx
         G30 = record {
           locals = List._++_ g28 t29;
-          slots = List._∷_ (Row.lease (κs .0) (qs .0)) (List._∷_ Row.off (List._∷_ Row.off (List._∷_ Row.alive (List._∷_ Row.alive (List._∷_ Row.alive
-              (List._∷_ Row.alive List.[]))))));
+          slots = List._∷_ (Row.lease (κs .0) (qs .0)) (List._∷_ Row.off (List._∷_ Row.off (List._∷_ Row.alive (List._∷_ Row.alive (List._∷_ Row.alive (List._∷_ Row.alive
+              List.[]))))));
         }
 
         abbrev G31 : Row.Cx
         G31 = record {
           locals = List._++_ g28 t30;
-          slots = List._∷_ (Row.lease (κs .0) (qs .0)) (List._∷_ Row.off (List._∷_ Row.off (List._∷_ Row.alive (List._∷_ Row.alive (List._∷_ Row.alive
-              (List._∷_ Row.alive List.[]))))));
+          slots = List._∷_ (Row.lease (κs .0) (qs .0)) (List._∷_ Row.off (List._∷_ Row.off (List._∷_ Row.alive (List._∷_ Row.alive (List._∷_ Row.alive (List._∷_ Row.alive
+              List.[]))))));
         }
 
         abbrev G32 : Row.Cx
         G32 = record {
           locals = List._++_ g28 t31;
-          slots = List._∷_ (Row.lease (κs .0) (qs .0)) (List._∷_ Row.off (List._∷_ Row.off (List._∷_ Row.alive (List._∷_ Row.alive (List._∷_ Row.alive
-              (List._∷_ Row.alive List.[]))))));
+          slots = List._∷_ (Row.lease (κs .0) (qs .0)) (List._∷_ Row.off (List._∷_ Row.off (List._∷_ Row.alive (List._∷_ Row.alive (List._∷_ Row.alive (List._∷_ Row.alive
+              List.[]))))));
         }
 
         abbrev G33 : Row.Cx
         G33 = record {
           locals = List._++_ g28 t31;
-          slots = List._∷_ (Row.lease (κs .0) (qs .0)) (List._∷_ Row.off (List._∷_ Row.off (List._∷_ Row.dead (List._∷_ Row.alive (List._∷_ Row.alive (List._∷_
-              Row.alive List.[]))))));
+          slots = List._∷_ (Row.lease (κs .0) (qs .0)) (List._∷_ Row.off (List._∷_ Row.off (List._∷_ Row.dead (List._∷_ Row.alive (List._∷_ Row.alive (List._∷_ Row.alive
+              List.[]))))));
         }
 
         abbrev G34 : Row.Cx
         G34 = record {
           locals = List._++_ g32 t31;
-          slots = List._∷_ (Row.lease (κs .0) (qs .0)) (List._∷_ (Row.lease (κs .1 .0) (qs .1 .0)) (List._∷_ Row.off (List._∷_ Row.dead (List._∷_ Row.alive
-              (List._∷_ Row.alive (List._∷_ Row.alive List.[]))))));
+          slots = List._∷_ (Row.lease (κs .0) (qs .0)) (List._∷_ (Row.lease (κs .1 .0) (qs .1 .0)) (List._∷_ Row.off (List._∷_ Row.dead (List._∷_ Row.alive (List._∷_
+              Row.alive (List._∷_ Row.alive List.[]))))));
         }
 
         abbrev G35 : Row.Cx
         G35 = record {
           locals = List._++_ g32 t31;
-          slots = List._∷_ (Row.lease (κs .0) (qs .0)) (List._∷_ (Row.lease (κs .1 .0) (qs .1 .0)) (List._∷_ Row.off (List._∷_ Row.dead (List._∷_ Row.alive
-              (List._∷_ Row.alive (List._∷_ Row.alive List.[]))))));
+          slots = List._∷_ (Row.lease (κs .0) (qs .0)) (List._∷_ (Row.lease (κs .1 .0) (qs .1 .0)) (List._∷_ Row.off (List._∷_ Row.dead (List._∷_ Row.alive (List._∷_
+              Row.alive (List._∷_ Row.alive List.[]))))));
         }
 
         abbrev G36 : Row.Cx
         G36 = record {
           locals = List._++_ g32 t31;
-          slots = List._∷_ (Row.lease (κs .0) (qs .0)) (List._∷_ (Row.lease (κs .1 .0) (qs .1 .0)) (List._∷_ Row.off (List._∷_ Row.off (List._∷_ Row.alive
-              (List._∷_ Row.alive (List._∷_ Row.alive List.[]))))));
+          slots = List._∷_ (Row.lease (κs .0) (qs .0)) (List._∷_ (Row.lease (κs .1 .0) (qs .1 .0)) (List._∷_ Row.off (List._∷_ Row.off (List._∷_ Row.alive (List._∷_
+              Row.alive (List._∷_ Row.alive List.[]))))));
         }
 
         abbrev G37 : Row.Cx
         G37 = record {
           locals = List._++_ g32 t31;
-          slots = List._∷_ (Row.lease (κs .0) (qs .0)) (List._∷_ (Row.lease (κs .1 .0) (qs .1 .0)) (List._∷_ Row.off (List._∷_ Row.off (List._∷_ Row.dead
-              (List._∷_ Row.alive (List._∷_ Row.alive List.[]))))));
+          slots = List._∷_ (Row.lease (κs .0) (qs .0)) (List._∷_ (Row.lease (κs .1 .0) (qs .1 .0)) (List._∷_ Row.off (List._∷_ Row.off (List._∷_ Row.dead (List._∷_
+              Row.alive (List._∷_ Row.alive List.[]))))));
         }
 
         abbrev G38 : Row.Cx
         G38 = record {
           locals = List._++_ t33 t34;
-          slots = List._∷_ (Row.lease (κs .0) (qs .0)) (List._∷_ (Row.lease (κs .1 .0) (qs .1 .0)) (List._∷_ (Row.lease (κs .1 .1 .0) (qs .1 .1 .0)) (List._∷_
-              Row.off (List._∷_ Row.dead (List._∷_ Row.alive (List._∷_ Row.alive List.[]))))));
+          slots = List._∷_ (Row.lease (κs .0) (qs .0)) (List._∷_ (Row.lease (κs .1 .0) (qs .1 .0)) (List._∷_ (Row.lease (κs .1 .1 .0) (qs .1 .1 .0)) (List._∷_ Row.off
+              (List._∷_ Row.dead (List._∷_ Row.alive (List._∷_ Row.alive List.[]))))));
         }
 
         abbrev G39 : Row.Cx
         G39 = record {
           locals = List._++_ t33 t34;
-          slots = List._∷_ (Row.lease (κs .0) (qs .0)) (List._∷_ (Row.lease (κs .1 .0) (qs .1 .0)) (List._∷_ (Row.lease (κs .1 .1 .0) (qs .1 .1 .0)) (List._∷_
-              Row.off (List._∷_ Row.off (List._∷_ Row.alive (List._∷_ Row.alive List.[]))))));
+          slots = List._∷_ (Row.lease (κs .0) (qs .0)) (List._∷_ (Row.lease (κs .1 .0) (qs .1 .0)) (List._∷_ (Row.lease (κs .1 .1 .0) (qs .1 .1 .0)) (List._∷_ Row.off
+              (List._∷_ Row.off (List._∷_ Row.alive (List._∷_ Row.alive List.[]))))));
         }
 
         abbrev G40 : Row.Cx
         G40 = record {
           locals = List._++_ t33 t34;
-          slots = List._∷_ (Row.lease (κs .0) (qs .0)) (List._∷_ (Row.lease (κs .1 .0) (qs .1 .0)) (List._∷_ (Row.lease (κs .1 .1 .0) (qs .1 .1 .0)) (List._∷_
-              Row.off (List._∷_ Row.off (List._∷_ Row.dead (List._∷_ Row.alive List.[]))))));
+          slots = List._∷_ (Row.lease (κs .0) (qs .0)) (List._∷_ (Row.lease (κs .1 .0) (qs .1 .0)) (List._∷_ (Row.lease (κs .1 .1 .0) (qs .1 .1 .0)) (List._∷_ Row.off
+              (List._∷_ Row.off (List._∷_ Row.dead (List._∷_ Row.alive List.[]))))));
         }
 
         abbrev G41 : Row.Cx
         G41 = record {
           locals = List._++_ t35 t1;
-          slots = List._∷_ (Row.lease (κs .0) (qs .0)) (List._∷_ (Row.lease (κs .1 .0) (qs .1 .0)) (List._∷_ (Row.lease (κs .1 .1 .0) (qs .1 .1 .0)) (List._∷_
-              Row.off (List._∷_ Row.off (List._∷_ Row.dead (List._∷_ Row.alive List.[]))))));
+          slots = List._∷_ (Row.lease (κs .0) (qs .0)) (List._∷_ (Row.lease (κs .1 .0) (qs .1 .0)) (List._∷_ (Row.lease (κs .1 .1 .0) (qs .1 .1 .0)) (List._∷_ Row.off
+              (List._∷_ Row.off (List._∷_ Row.dead (List._∷_ Row.alive List.[]))))));
         }
 
         abbrev G42 : Row.Cx
         G42 = record {
           locals = List._++_ t35 t1;
-          slots = List._∷_ (Row.lease (κs .0) (qs .0)) (List._∷_ (Row.lease (κs .1 .0) (qs .1 .0)) (List._∷_ (Row.lease (κs .1 .1 .0) (qs .1 .1 .0)) (List._∷_
-              Row.off (List._∷_ Row.off (List._∷_ Row.off (List._∷_ Row.alive List.[]))))));
+          slots = List._∷_ (Row.lease (κs .0) (qs .0)) (List._∷_ (Row.lease (κs .1 .0) (qs .1 .0)) (List._∷_ (Row.lease (κs .1 .1 .0) (qs .1 .1 .0)) (List._∷_ Row.off
+              (List._∷_ Row.off (List._∷_ Row.off (List._∷_ Row.alive List.[]))))));
         }
 
         abbrev G43 : Row.Cx
         G43 = record {
           locals = List._++_ t36 t1;
-          slots = List._∷_ (Row.lease (κs .0) (qs .0)) (List._∷_ (Row.lease (κs .1 .0) (qs .1 .0)) (List._∷_ (Row.lease (κs .1 .1 .0) (qs .1 .1 .0)) (List._∷_
-              Row.off (List._∷_ Row.off (List._∷_ Row.off (List._∷_ Row.alive List.[]))))));
+          slots = List._∷_ (Row.lease (κs .0) (qs .0)) (List._∷_ (Row.lease (κs .1 .0) (qs .1 .0)) (List._∷_ (Row.lease (κs .1 .1 .0) (qs .1 .1 .0)) (List._∷_ Row.off
+              (List._∷_ Row.off (List._∷_ Row.off (List._∷_ Row.alive List.[]))))));
         }
 
         abbrev G44 : Row.Cx
         G44 = record {
           locals = List._++_ t36 t1;
-          slots = List._∷_ (Row.lease (κs .0) (qs .0)) (List._∷_ (Row.lease (κs .1 .0) (qs .1 .0)) (List._∷_ (Row.lease (κs .1 .1 .0) (qs .1 .1 .0)) (List._∷_
-              Row.off (List._∷_ Row.off (List._∷_ Row.off (List._∷_ Row.dead List.[]))))));
+          slots = List._∷_ (Row.lease (κs .0) (qs .0)) (List._∷_ (Row.lease (κs .1 .0) (qs .1 .0)) (List._∷_ (Row.lease (κs .1 .1 .0) (qs .1 .1 .0)) (List._∷_ Row.off
+              (List._∷_ Row.off (List._∷_ Row.off (List._∷_ Row.dead List.[]))))));
         }
 
         abbrev G45 : Row.Cx
         G45 = record {
           locals = List._++_ t37 t1;
-          slots = List._∷_ (Row.lease (κs .0) (qs .0)) (List._∷_ (Row.lease (κs .1 .0) (qs .1 .0)) (List._∷_ (Row.lease (κs .1 .1 .0) (qs .1 .1 .0)) (List._∷_
-              Row.off (List._∷_ Row.off (List._∷_ Row.off (List._∷_ Row.dead List.[]))))));
+          slots = List._∷_ (Row.lease (κs .0) (qs .0)) (List._∷_ (Row.lease (κs .1 .0) (qs .1 .0)) (List._∷_ (Row.lease (κs .1 .1 .0) (qs .1 .1 .0)) (List._∷_ Row.off
+              (List._∷_ Row.off (List._∷_ Row.off (List._∷_ Row.dead List.[]))))));
         }
 
         abbrev G46 : Row.Cx
         G46 = record {
           locals = List._++_ t37 t1;
-          slots = List._∷_ (Row.lease (κs .0) (qs .0)) (List._∷_ (Row.lease (κs .1 .0) (qs .1 .0)) (List._∷_ (Row.lease (κs .1 .1 .0) (qs .1 .1 .0)) (List._∷_
-              Row.off (List._∷_ Row.off (List._∷_ Row.off (List._∷_ Row.off List.[]))))));
+          slots = List._∷_ (Row.lease (κs .0) (qs .0)) (List._∷_ (Row.lease (κs .1 .0) (qs .1 .0)) (List._∷_ (Row.lease (κs .1 .1 .0) (qs .1 .1 .0)) (List._∷_ Row.off
+              (List._∷_ Row.off (List._∷_ Row.off (List._∷_ Row.off List.[]))))));
         }
 
         abbrev G47 : Row.Cx
         G47 = record {
           locals = List._++_ t38 t1;
-          slots = List._∷_ (Row.lease (κs .0) (qs .0)) (List._∷_ (Row.lease (κs .1 .0) (qs .1 .0)) (List._∷_ (Row.lease (κs .1 .1 .0) (qs .1 .1 .0)) (List._∷_
-              Row.off (List._∷_ Row.off (List._∷_ Row.off (List._∷_ Row.off List.[]))))));
+          slots = List._∷_ (Row.lease (κs .0) (qs .0)) (List._∷_ (Row.lease (κs .1 .0) (qs .1 .0)) (List._∷_ (Row.lease (κs .1 .1 .0) (qs .1 .1 .0)) (List._∷_ Row.off
+              (List._∷_ Row.off (List._∷_ Row.off (List._∷_ Row.off List.[]))))));
         }
 
         abbrev G48 : Row.Cx
         G48 = record {
           locals = List._++_ t39 t1;
-          slots = List._∷_ (Row.lease (κs .0) (qs .0)) (List._∷_ (Row.lease (κs .1 .0) (qs .1 .0)) (List._∷_ (Row.lease (κs .1 .1 .0) (qs .1 .1 .0)) (List._∷_
-              Row.off (List._∷_ Row.off (List._∷_ Row.off (List._∷_ Row.off List.[]))))));
+          slots = List._∷_ (Row.lease (κs .0) (qs .0)) (List._∷_ (Row.lease (κs .1 .0) (qs .1 .0)) (List._∷_ (Row.lease (κs .1 .1 .0) (qs .1 .1 .0)) (List._∷_ Row.off
+              (List._∷_ Row.off (List._∷_ Row.off (List._∷_ Row.off List.[]))))));
         }
 
         abbrev G49 : Row.Cx
         G49 = record {
           locals = List._++_ t40 t1;
-          slots = List._∷_ (Row.lease (κs .0) (qs .0)) (List._∷_ (Row.lease (κs .1 .0) (qs .1 .0)) (List._∷_ (Row.lease (κs .1 .1 .0) (qs .1 .1 .0)) (List._∷_
-              Row.off (List._∷_ Row.off (List._∷_ Row.off (List._∷_ Row.off List.[]))))));
+          slots = List._∷_ (Row.lease (κs .0) (qs .0)) (List._∷_ (Row.lease (κs .1 .0) (qs .1 .0)) (List._∷_ (Row.lease (κs .1 .1 .0) (qs .1 .1 .0)) (List._∷_ Row.off
+              (List._∷_ Row.off (List._∷_ Row.off (List._∷_ Row.off List.[]))))));
         }
 
         abbrev G50 : Row.Cx
         G50 = record {
           locals = List._++_ t41 t1;
-          slots = List._∷_ (Row.lease (κs .0) (qs .0)) (List._∷_ (Row.lease (κs .1 .0) (qs .1 .0)) (List._∷_ (Row.lease (κs .1 .1 .0) (qs .1 .1 .0)) (List._∷_
-              Row.off (List._∷_ Row.off (List._∷_ Row.off (List._∷_ Row.off List.[]))))));
+          slots = List._∷_ (Row.lease (κs .0) (qs .0)) (List._∷_ (Row.lease (κs .1 .0) (qs .1 .0)) (List._∷_ (Row.lease (κs .1 .1 .0) (qs .1 .1 .0)) (List._∷_ Row.off
+              (List._∷_ Row.off (List._∷_ Row.off (List._∷_ Row.off List.[]))))));
         }
 
         abbrev G51 : Row.Cx
         G51 = record {
           locals = List._++_ t42 t1;
-          slots = List._∷_ (Row.lease (κs .0) (qs .0)) (List._∷_ (Row.lease (κs .1 .0) (qs .1 .0)) (List._∷_ (Row.lease (κs .1 .1 .0) (qs .1 .1 .0)) (List._∷_
-              Row.off (List._∷_ Row.off (List._∷_ Row.off (List._∷_ Row.off List.[]))))));
+          slots = List._∷_ (Row.lease (κs .0) (qs .0)) (List._∷_ (Row.lease (κs .1 .0) (qs .1 .0)) (List._∷_ (Row.lease (κs .1 .1 .0) (qs .1 .1 .0)) (List._∷_ Row.off
+              (List._∷_ Row.off (List._∷_ Row.off (List._∷_ Row.off List.[]))))));
         }
 
         abbrev G52 : Row.Cx
         G52 = record {
           locals = List._++_ t43 t1;
-          slots = List._∷_ (Row.lease (κs .0) (qs .0)) (List._∷_ (Row.lease (κs .1 .0) (qs .1 .0)) (List._∷_ (Row.lease (κs .1 .1 .0) (qs .1 .1 .0)) (List._∷_
-              Row.off (List._∷_ Row.off (List._∷_ Row.off (List._∷_ Row.off List.[]))))));
+          slots = List._∷_ (Row.lease (κs .0) (qs .0)) (List._∷_ (Row.lease (κs .1 .0) (qs .1 .0)) (List._∷_ (Row.lease (κs .1 .1 .0) (qs .1 .1 .0)) (List._∷_ Row.off
+              (List._∷_ Row.off (List._∷_ Row.off (List._∷_ Row.off List.[]))))));
         }
 
         abbrev G53 : Row.Cx
         G53 = record {
           locals = List._++_ t2 t1;
-          slots = List._∷_ (Row.lease (κs .0) (qs .0)) (List._∷_ (Row.lease (κs .1 .0) (qs .1 .0)) (List._∷_ (Row.lease (κs .1 .1 .0) (qs .1 .1 .0)) (List._∷_
-              Row.off (List._∷_ Row.off (List._∷_ Row.off (List._∷_ Row.off List.[]))))));
+          slots = List._∷_ (Row.lease (κs .0) (qs .0)) (List._∷_ (Row.lease (κs .1 .0) (qs .1 .0)) (List._∷_ (Row.lease (κs .1 .1 .0) (qs .1 .1 .0)) (List._∷_ Row.off
+              (List._∷_ Row.off (List._∷_ Row.off (List._∷_ Row.off List.[]))))));
         }
 
         abbrev Δ0 : Typed.Outs
@@ -3534,68 +1725,45 @@ module _ (claims· : Claims) where
           d1 = Typed.g-pre 𝓤 H A W 𝓣 E G52 G53 b18 Δ0 (Typed.pass T52 T53 (s51 bs)) (at0 bs) (Scalar.g-room 𝓤 H A W E G52 3 (Syntax.tyInt Syntax.w64) (Scalar.room-sc 𝓤 H A W (Row.sInt Syntax.w64))) d0
 
           d2 : Typed.Typed 𝓤 H A 𝓣 E G51 b18 Δ0 (at2 bs)
-          d2 = Typed.g-pre 𝓤 H A W 𝓣 E G51 G52 b18 Δ0 (Typed.pass T51 T52 (s50 bs)) (at1 bs) (Scalar.g-room 𝓤 H A W E G51 12 (Syntax.tyStruct (List._∷_ 98 (List._∷_ 108 (List._∷_ 111 (List._∷_ 99
-              (List._∷_ 107 (List._∷_ 58 (List._∷_ 58 (List._∷_ 87 (List._∷_ 97 (List._∷_ 108 (List._∷_ 107 (List._∷_ 101 (List._∷_ 100 List.[]))))))))))))) (Syntax.tcons Syntax.tyBool (Syntax.tcons
-              (Syntax.tyInt Syntax.w64) (Syntax.tcons (Syntax.tyStruct (List._∷_ 98 (List._∷_ 105 (List._∷_ 116 (List._∷_ 115 (List._∷_ 58 (List._∷_ 58 (List._∷_ 66 (List._∷_ 105 (List._∷_ 116 (List._∷_
-              80 (List._∷_ 111 (List._∷_ 115 (List._∷_ 105 (List._∷_ 116 (List._∷_ 105 (List._∷_ 111 (List._∷_ 110 List.[]))))))))))))))))) (Syntax.tcons (Syntax.tyInt Syntax.w64) Syntax.tnil))
-              (Syntax.tcons (Syntax.tyInt Syntax.w64) Syntax.tnil))))) (Local.room-whole 𝓤 H A W (Declared'.row Walked.the-type) (Syntax.tyStruct (List._∷_ 98 (List._∷_ 108 (List._∷_ 111 (List._∷_ 99
-              (List._∷_ 107 (List._∷_ 58 (List._∷_ 58 (List._∷_ 87 (List._∷_ 97 (List._∷_ 108 (List._∷_ 107 (List._∷_ 101 (List._∷_ 100 List.[]))))))))))))) (Syntax.tcons Syntax.tyBool (Syntax.tcons
-              (Syntax.tyInt Syntax.w64) (Syntax.tcons (Syntax.tyStruct (List._∷_ 98 (List._∷_ 105 (List._∷_ 116 (List._∷_ 115 (List._∷_ 58 (List._∷_ 58 (List._∷_ 66 (List._∷_ 105 (List._∷_ 116 (List._∷_
-              80 (List._∷_ 111 (List._∷_ 115 (List._∷_ 105 (List._∷_ 116 (List._∷_ 105 (List._∷_ 111 (List._∷_ 110 List.[]))))))))))))))))) (Syntax.tcons (Syntax.tyInt Syntax.w64) Syntax.tnil))
-              (Syntax.tcons (Syntax.tyInt Syntax.w64) Syntax.tnil))))) Path'.refl)) d1
+          d2 = Typed.g-pre 𝓤 H A W 𝓣 E G51 G52 b18 Δ0 (Typed.pass T51 T52 (s50 bs)) (at1 bs) (Scalar.g-room 𝓤 H A W E G51 12 y7 (Local.room-whole 𝓤 H A W (Declared'.row Walked.the-type) y7
+              Path'.refl)) d1
 
           d3 : Typed.Typed 𝓤 H A 𝓣 E G50 b18 Δ0 (at3 bs)
           d3 = Typed.g-pre 𝓤 H A W 𝓣 E G50 G51 b18 Δ0 (Typed.pass T50 T51 (s49 bs)) (at2 bs) (Scalar.g-room 𝓤 H A W E G50 7 (Syntax.tyInt Syntax.w64) (Scalar.room-sc 𝓤 H A W (Row.sInt Syntax.w64))) d2
 
           d4 : Typed.Typed 𝓤 H A 𝓣 E G49 b18 Δ0 (at4 bs)
-          d4 = Typed.g-pre 𝓤 H A W 𝓣 E G49 G50 b18 Δ0 (Typed.pass T49 T50 (s48 bs)) (at3 bs) (Scalar.g-room 𝓤 H A W E G49 6 (Syntax.tyStruct (List._∷_ 98 (List._∷_ 108 (List._∷_ 111 (List._∷_ 99
-              (List._∷_ 107 (List._∷_ 58 (List._∷_ 58 (List._∷_ 70 (List._∷_ 111 (List._∷_ 114 (List._∷_ 109 List.[]))))))))))) (Syntax.tcons (Syntax.tyInt Syntax.w32) (Syntax.tcons Syntax.tyBool
-              Syntax.tnil))) (Local.room-whole 𝓤 H A W (Declared'.row Form.the-type) (Syntax.tyStruct (List._∷_ 98 (List._∷_ 108 (List._∷_ 111 (List._∷_ 99 (List._∷_ 107 (List._∷_ 58 (List._∷_ 58
-              (List._∷_ 70 (List._∷_ 111 (List._∷_ 114 (List._∷_ 109 List.[]))))))))))) (Syntax.tcons (Syntax.tyInt Syntax.w32) (Syntax.tcons Syntax.tyBool Syntax.tnil))) Path'.refl)) d3
+          d4 = Typed.g-pre 𝓤 H A W 𝓣 E G49 G50 b18 Δ0 (Typed.pass T49 T50 (s48 bs)) (at3 bs) (Scalar.g-room 𝓤 H A W E G49 6 y6 (Local.room-whole 𝓤 H A W (Declared'.row Form.the-type) y6 Path'.refl))
+              d3
 
           d5 : Typed.Typed 𝓤 H A 𝓣 E G48 b18 Δ0 (at5 bs)
-          d5 = Typed.g-pre 𝓤 H A W 𝓣 E G48 G49 b18 Δ0 (Typed.pass T48 T49 (s47 bs)) (at4 bs) (Scalar.g-room 𝓤 H A W E G48 8 (Syntax.tyStruct (List._∷_ 38 (List._∷_ 91 (List._∷_ 93 List.[])))
-              (Syntax.tcons (Syntax.tyRef Syntax.erased Syntax.imm (Syntax.tyInt Syntax.w8)) (Syntax.tcons (Syntax.tyInt Syntax.w64) Syntax.tnil))) (Shared.room-sslice 𝓤 H A W (Referent.rtF (Referent.fInt
-              Syntax.w8)) (Syntax.tyRef Syntax.erased Syntax.imm (Syntax.tyInt Syntax.w8)) 0)) d4
+          d5 = Typed.g-pre 𝓤 H A W 𝓣 E G48 G49 b18 Δ0 (Typed.pass T48 T49 (s47 bs)) (at4 bs) (Scalar.g-room 𝓤 H A W E G48 8 y2 (Shared.room-sslice 𝓤 H A W (Referent.rtF (Referent.fInt Syntax.w8))
+              (Syntax.tyRef Syntax.erased Syntax.imm (Syntax.tyInt Syntax.w8)) 0)) d4
 
           d6 : Typed.Typed 𝓤 H A 𝓣 E G47 b19 Δ0 (at6 bs)
           d6 = Typed.s-seq 𝓤 H A W 𝓣 E G47 G48 b17 b18 Δ0 (Typed.both (s46 bs)) (at5 bs) (Plain.t-call-plain 𝓤 H A W 𝓣 1 ps·7 r·7 (claims· .14) (claims· .15) "block::tight::tight_answer" (known .7) E
               (λ pos β. β) G47 (
                 record { pos = 8; ty = Syntax.tyRef Syntax.erased Syntax.imm (Syntax.tyInt Syntax.w8); ref = λ x. x },
-                (
-                  record { pos = 6; st = List.[]; d = 0; at = λ x. x },
-                  (
-                    Num.vAt 3
-                        λ x. x,
-                    (Num.vAt 7 λ x. x, (record { pos = 12; st = List.[]; d = 0; at = λ x. x }, tt)),
-                  ),
-                ),
-              ) 0 (List._∷_ 0 List.[]) (Call.sub-id 𝓤 H A W (G47 .slots)) (
-                ShrSlice.spares-sslice 𝓤 H A W
-                    (Referent.rtF (Referent.fInt Syntax.w8)) (Syntax.tyRef Syntax.erased Syntax.imm (Syntax.tyInt Syntax.w8)) 0,
-                Shared.reads-sslice 𝓤 H A W (Referent.rtF (Referent.fInt Syntax.w8))
-                    (Syntax.tyRef Syntax.erased Syntax.imm (Syntax.tyInt Syntax.w8)) 0,
+                (record { pos = 6; st = List.[]; d = 0; at = λ x. x }, (Num.vAt 3 λ x. x, (Num.vAt 7 λ x. x, (record { pos = 12; st = List.[]; d = 0; at = λ x. x }, tt)))),
+              ) 0 (List._∷_ 0 List.[])
+              (Call.sub-id 𝓤 H A W (G47 .slots)) (
+                ShrSlice.spares-sslice 𝓤 H A W (Referent.rtF (Referent.fInt Syntax.w8)) (Syntax.tyRef Syntax.erased Syntax.imm (Syntax.tyInt Syntax.w8)) 0,
+                Shared.reads-sslice 𝓤 H A W (Referent.rtF
+                    (Referent.fInt Syntax.w8)) (Syntax.tyRef Syntax.erased Syntax.imm (Syntax.tyInt Syntax.w8)) 0,
                 Path'.refl,
                 (
                   (
-                    Yields.yields-copy 𝓤 H A W (λ ρ. Unit) (Declared'.row Form.the-type) Path'.refl (Copies.cStruct
-                        Form.the-type Laws'.the-laws Laws'.the-copy .copy 𝓤 H A W) (Rows'.whole (Declared'.row Form.the-type)) (λ x. x) (λ x. x) (λ ρ told. Local.mem-whole 𝓤 H A W (Declared'.row Form.the-type) ρ) λ
-                        ρ told. Local.whole-mem 𝓤 H A W (Declared'.row Form.the-type) ρ,
+                    Yields.yields-copy 𝓤 H A W (λ ρ. Unit) (Declared'.row Form.the-type) Path'.refl (Copies.cStruct Form.the-type Laws'.the-laws Laws'.the-copy .copy 𝓤 H A W) (Rows'.whole (Declared'.row
+                        Form.the-type)) (λ x. x) (λ x. x) (λ ρ told. Local.mem-whole 𝓤 H A W (Declared'.row Form.the-type) ρ) λ ρ told. Local.whole-mem 𝓤 H A W (Declared'.row Form.the-type) ρ,
                     Path'.refl,
                   ),
                   (
                     (Scalar.reads-sc 𝓤 H A W (Row.sInt Syntax.w64), Path'.refl),
                     (
-                      (
-                        Scalar.reads-sc 𝓤 H A W (Row.sInt
-                            Syntax.w64),
-                        Path'.refl,
-                      ),
+                      (Scalar.reads-sc 𝓤 H A W (Row.sInt Syntax.w64), Path'.refl),
                       (
                         (
-                          Yields.yields-copy 𝓤 H A W (λ ρ. Unit) (Declared'.row Walked.the-type) Path'.refl (Copies.cStruct Walked.the-type Laws''.the-laws Laws''.the-copy .copy 𝓤 H A W)
-                              (Rows'.whole (Declared'.row Walked.the-type)) (λ x. x) (λ x. x) (λ ρ told. Local.mem-whole 𝓤 H A W (Declared'.row Walked.the-type) ρ) λ ρ told. Local.whole-mem 𝓤 H A W (Declared'.row
-                              Walked.the-type) ρ,
+                          Yields.yields-copy 𝓤 H A W (λ ρ. Unit) (Declared'.row Walked.the-type) Path'.refl (Copies.cStruct Walked.the-type Laws''.the-laws Laws''.the-copy .copy 𝓤 H A W) (Rows'.whole (Declared'.row
+                              Walked.the-type)) (λ x. x) (λ x. x) (λ ρ told. Local.mem-whole 𝓤 H A W (Declared'.row Walked.the-type) ρ) λ ρ told. Local.whole-mem 𝓤 H A W (Declared'.row Walked.the-type) ρ,
                           Path'.refl,
                         ),
                         tt,
@@ -3603,14 +1771,13 @@ module _ (claims· : Claims) where
                     ),
                   ),
                 ),
-              ) (Reads.room-gone 𝓤 H A (Syntax.tyEnum (List._∷_ 98 (List._∷_ 108 (List._∷_ 111 (List._∷_ 99 (List._∷_ 107 (List._∷_ 58 (List._∷_ 58
-              (List._∷_ 68 (List._∷_ 101 (List._∷_ 99 (List._∷_ 111 (List._∷_ 100 (List._∷_ 101 (List._∷_ 100 List.[])))))))))))))) (Syntax.ttcons Syntax.tnil (Syntax.ttcons (Syntax.tcons (Syntax.tyEnum
-              (List._∷_ 115 (List._∷_ 116 (List._∷_ 114 (List._∷_ 101 (List._∷_ 97 (List._∷_ 109 (List._∷_ 58 (List._∷_ 58 (List._∷_ 82 (List._∷_ 101 (List._∷_ 102 (List._∷_ 117 (List._∷_ 115 (List._∷_ 97
-              (List._∷_ 108 List.[]))))))))))))))) (Syntax.ttcons Syntax.tnil (Syntax.ttcons Syntax.tnil (Syntax.ttcons Syntax.tnil (Syntax.ttcons (Syntax.tcons (Syntax.tyInt Syntax.w64) Syntax.tnil)
-              (Syntax.ttcons Syntax.tnil (Syntax.ttcons Syntax.tnil (Syntax.ttcons Syntax.tnil (Syntax.ttcons Syntax.tnil (Syntax.ttcons Syntax.tnil (Syntax.ttcons Syntax.tnil (Syntax.ttcons (Syntax.tcons
-              (Syntax.tyInt Syntax.w64) Syntax.tnil) (Syntax.ttcons (Syntax.tcons (Syntax.tyInt Syntax.w64) Syntax.tnil) (Syntax.ttcons Syntax.tnil (Syntax.ttcons (Syntax.tcons (Syntax.tyInt Syntax.w64)
-              (Syntax.tcons (Syntax.tyInt Syntax.w64) Syntax.tnil)) (Syntax.ttcons (Syntax.tcons (Syntax.tyInt Syntax.w64) Syntax.tnil) Syntax.ttnil)))))))))))))))) Syntax.tnil) Syntax.ttnil)))) (tt, tt)
-              Path'.refl) d5
+              ) (Reads.room-gone 𝓤 H A (Syntax.tyEnum (List._∷_ 98 (List._∷_ 108 (List._∷_ 111 (List._∷_ 99 (List._∷_ 107 (List._∷_ 58 (List._∷_ 58 (List._∷_ 68 (List._∷_ 101 (List._∷_ 99 (List._∷_
+              111 (List._∷_ 100 (List._∷_ 101 (List._∷_ 100 List.[])))))))))))))) (Syntax.ttcons Syntax.tnil (Syntax.ttcons (Syntax.tcons (Syntax.tyEnum (List._∷_ 115 (List._∷_ 116 (List._∷_ 114 (List._∷_
+              101 (List._∷_ 97 (List._∷_ 109 (List._∷_ 58 (List._∷_ 58 (List._∷_ 82 (List._∷_ 101 (List._∷_ 102 (List._∷_ 117 (List._∷_ 115 (List._∷_ 97 (List._∷_ 108 List.[]))))))))))))))) (Syntax.ttcons
+              Syntax.tnil (Syntax.ttcons Syntax.tnil (Syntax.ttcons Syntax.tnil (Syntax.ttcons (Syntax.tcons (Syntax.tyInt Syntax.w64) Syntax.tnil) (Syntax.ttcons Syntax.tnil (Syntax.ttcons Syntax.tnil
+              (Syntax.ttcons Syntax.tnil (Syntax.ttcons Syntax.tnil (Syntax.ttcons Syntax.tnil (Syntax.ttcons Syntax.tnil (Syntax.ttcons (Syntax.tcons (Syntax.tyInt Syntax.w64) Syntax.tnil) (Syntax.ttcons
+              (Syntax.tcons (Syntax.tyInt Syntax.w64) Syntax.tnil) (Syntax.ttcons Syntax.tnil (Syntax.ttcons (Syntax.tcons (Syntax.tyInt Syntax.w64) (Syntax.tcons (Syntax.tyInt Syntax.w64) Syntax.tnil))
+              (Syntax.ttcons (Syntax.tcons (Syntax.tyInt Syntax.w64) Syntax.tnil) Syntax.ttnil)))))))))))))))) Syntax.tnil) Syntax.ttnil)))) (tt, tt) Path'.refl) d5
 
           d7 : Typed.Typed 𝓤 H A 𝓣 E G46 b19 Δ0 (at7 bs)
           d7 = Typed.g-pre 𝓤 H A W 𝓣 E G46 G47 b19 Δ0 (Typed.pass T45 T47 (s45 bs)) (at6 bs) (Scalar.g-room 𝓤 H A W E G46 10 (Syntax.tyArray (Syntax.tyInt Syntax.w16) 768) (Init.room-arr 𝓤 H A W
@@ -3673,12 +1840,8 @@ module _ (claims· : Claims) where
           d21 = Typed.g-pre 𝓤 H A W 𝓣 E G32 G33 b19 Δ0 (λ Ψ. Ψ) (at20 bs) (Lifetime.g-end 𝓤 H A W E G32 3 Path'.refl) d20
 
           d22 : Typed.Typed 𝓤 H A 𝓣 E G31 b19 Δ0 (at22 bs)
-          d22 = Typed.g-pre 𝓤 H A W 𝓣 E G31 G32 b19 Δ0 (Typed.pass T31 T32 (s30 bs)) (at21 bs) (Scalar.g-room 𝓤 H A W E G31 22 (Syntax.tyStruct (List._∷_ 109 (List._∷_ 97 (List._∷_ 112 (List._∷_ 58
-              (List._∷_ 58 (List._∷_ 80 (List._∷_ 97 (List._∷_ 114 (List._∷_ 116 List.[]))))))))) (Syntax.tcons (Syntax.tyInt Syntax.w64) (Syntax.tcons (Syntax.tyInt Syntax.w64) (Syntax.tcons
-              (Syntax.tyInt Syntax.w64) (Syntax.tcons (Syntax.tyInt Syntax.w64) (Syntax.tcons (Syntax.tyInt Syntax.w64) (Syntax.tcons (Syntax.tyInt Syntax.w64) Syntax.tnil))))))) (Local.room-whole 𝓤 H A W
-              (Declared'.row Part.the-type) (Syntax.tyStruct (List._∷_ 109 (List._∷_ 97 (List._∷_ 112 (List._∷_ 58 (List._∷_ 58 (List._∷_ 80 (List._∷_ 97 (List._∷_ 114 (List._∷_ 116 List.[])))))))))
-              (Syntax.tcons (Syntax.tyInt Syntax.w64) (Syntax.tcons (Syntax.tyInt Syntax.w64) (Syntax.tcons (Syntax.tyInt Syntax.w64) (Syntax.tcons (Syntax.tyInt Syntax.w64) (Syntax.tcons (Syntax.tyInt
-              Syntax.w64) (Syntax.tcons (Syntax.tyInt Syntax.w64) Syntax.tnil))))))) Path'.refl)) d21
+          d22 = Typed.g-pre 𝓤 H A W 𝓣 E G31 G32 b19 Δ0 (Typed.pass T31 T32 (s30 bs)) (at21 bs) (Scalar.g-room 𝓤 H A W E G31 22 y0 (Local.room-whole 𝓤 H A W (Declared'.row Part.the-type) y0
+              Path'.refl)) d21
 
           d23 : Typed.Typed 𝓤 H A 𝓣 E G30 b19 Δ0 (at23 bs)
           d23 = Typed.g-pre 𝓤 H A W 𝓣 E G30 G31 b19 Δ0 (Typed.pass T30 T31 (s29 bs)) (at22 bs) (Scalar.g-room 𝓤 H A W E G30 21 (Syntax.tyArray (Syntax.tyInt Syntax.w8) 36) (Init.room-arr 𝓤 H A W
@@ -3690,63 +1853,37 @@ module _ (claims· : Claims) where
               (Syntax.tyRef Syntax.erased Syntax.imm (Syntax.tyArray (Syntax.tyInt Syntax.w16) 768)) 6))) d23
 
           d25 : Typed.Typed 𝓤 H A 𝓣 E G28 b19 Δ0 (at25 bs)
-          d25 = Typed.g-pre 𝓤 H A W 𝓣 E G28 G29 b19 Δ0 (Typed.pass T28 T29 (s27 bs)) (at24 bs) (Scalar.g-room 𝓤 H A W E G28 9 (Syntax.tyStruct (List._∷_ 38 (List._∷_ 91 (List._∷_ 93 List.[])))
-              (Syntax.tcons (Syntax.tyRef Syntax.erased Syntax.imm (Syntax.tyInt Syntax.w8)) (Syntax.tcons (Syntax.tyInt Syntax.w64) Syntax.tnil))) (Shared.room-sslice 𝓤 H A W (Referent.rtF (Referent.fInt
-              Syntax.w8)) (Syntax.tyRef Syntax.erased Syntax.imm (Syntax.tyInt Syntax.w8)) 0)) d24
+          d25 = Typed.g-pre 𝓤 H A W 𝓣 E G28 G29 b19 Δ0 (Typed.pass T28 T29 (s27 bs)) (at24 bs) (Scalar.g-room 𝓤 H A W E G28 9 y2 (Shared.room-sslice 𝓤 H A W (Referent.rtF (Referent.fInt Syntax.w8))
+              (Syntax.tyRef Syntax.erased Syntax.imm (Syntax.tyInt Syntax.w8)) 0)) d24
 
           d26 : Typed.Typed 𝓤 H A 𝓣 E G27 b20 Δ0 (at26 bs)
           d26 = Typed.s-seq 𝓤 H A W 𝓣 E G27 G28 b16 b19 Δ0 (Typed.both (s26 bs)) (at25 bs) (Plain.t-call-plain 𝓤 H A W 𝓣 6 ps·6 r·6 (claims· .12) (claims· .13) "block::reading::walk" (known .6) E (λ
               pos β. β) G27 (
                 record { pos = 8; ty = Syntax.tyRef Syntax.erased Syntax.imm (Syntax.tyInt Syntax.w8); ref = λ x. x },
                 (
-                  record {
-                    pos = 9;
-                    ty = Syntax.tyRef Syntax.erased Syntax.imm
-                        (Syntax.tyInt Syntax.w8);
-                    ref = λ x. x;
-                  },
+                  record { pos = 9; ty = Syntax.tyRef Syntax.erased Syntax.imm (Syntax.tyInt Syntax.w8); ref = λ x. x },
                   (
                     record { pos = 15; ty = Syntax.tyRef Syntax.erased Syntax.mut (Syntax.tyInt Syntax.w16); ref = λ x. x },
                     (
-                      record {
-                        pos = 17;
-                        ty = Syntax.tyRef
-                            Syntax.erased Syntax.mut Element.behind;
-                        ref = λ x. x;
-                      },
+                      record { pos = 17; ty = Syntax.tyRef Syntax.erased Syntax.mut Element.behind; ref = λ x. x },
                       (
                         record { pos = 19; ty = Syntax.tyRef Syntax.erased Syntax.mut (Syntax.tyInt Syntax.w16); ref = λ x. x },
                         (
-                          record {
-                            pos = 6;
-                            st =
-                                List.[];
-                            d = 0;
-                            at = λ x. x;
-                          },
+                          record { pos = 6; st = List.[]; d = 0; at = λ x. x },
                           (
                             record { pos = 20; ty = Syntax.tyRef Syntax.erased Syntax.imm (Syntax.tyArray (Syntax.tyInt Syntax.w16) 768); ref = λ x. x },
-                            (
-                              record {
-                                pos = 21;
-                                st =
-                                    List.[];
-                                d = 0;
-                                at = λ x. x;
-                              },
-                              (record { pos = 22; st = List.[]; d = 0; at = λ x. x }, (Num.vAt 7 λ x. x, tt)),
-                            ),
+                            (record { pos = 21; st = List.[]; d = 0; at = λ x. x }, (record { pos = 22; st = List.[]; d = 0; at = λ x. x }, (Num.vAt 7 λ x. x, tt))),
                           ),
                         ),
                       ),
                     ),
                   ),
                 ),
-              ) 12 (List._∷_ 0 (List._∷_ 0 (List._∷_ 3 (List._∷_ 4
-              (List._∷_ 5 (List._∷_ 6 List.[])))))) (Call.sub-id 𝓤 H A W (G27 .slots)) (
-                ShrSlice.spares-sslice 𝓤 H A W (Referent.rtF (Referent.fInt Syntax.w8)) (Syntax.tyRef Syntax.erased Syntax.imm
-                    (Syntax.tyInt Syntax.w8)) 0,
-                Shared.reads-sslice 𝓤 H A W (Referent.rtF (Referent.fInt Syntax.w8)) (Syntax.tyRef Syntax.erased Syntax.imm (Syntax.tyInt Syntax.w8)) 0,
+              ) 12 (List._∷_ 0 (List._∷_ 0 (List._∷_ 3
+              (List._∷_ 4 (List._∷_ 5 (List._∷_ 6 List.[])))))) (Call.sub-id 𝓤 H A W (G27 .slots)) (
+                ShrSlice.spares-sslice 𝓤 H A W (Referent.rtF (Referent.fInt Syntax.w8)) (Syntax.tyRef Syntax.erased Syntax.imm (Syntax.tyInt Syntax.w8)) 0,
+                Shared.reads-sslice 𝓤 H A W (Referent.rtF
+                    (Referent.fInt Syntax.w8)) (Syntax.tyRef Syntax.erased Syntax.imm (Syntax.tyInt Syntax.w8)) 0,
                 Path'.refl,
                 (
                   ShrSlice.spares-sslice 𝓤 H A W (Referent.rtF (Referent.fInt Syntax.w8)) (Syntax.tyRef Syntax.erased Syntax.imm (Syntax.tyInt Syntax.w8)) 0,
@@ -3754,45 +1891,36 @@ module _ (claims· : Claims) where
                       (Referent.fInt Syntax.w8)) (Syntax.tyRef Syntax.erased Syntax.imm (Syntax.tyInt Syntax.w8)) 0,
                   Path'.refl,
                   (
-                    Reads.as-is 𝓤 H A (Mut.mslice (Referent.rtF (Referent.fInt Syntax.w16))
-                        (Syntax.tyRef Syntax.erased Syntax.mut (Syntax.tyInt Syntax.w16)) 3),
-                    Mut.reads-mslice 𝓤 H A W (Referent.rtF (Referent.fInt Syntax.w16)) (Syntax.tyRef Syntax.erased Syntax.mut (Syntax.tyInt
-                        Syntax.w16)) 3,
+                    Reads.as-is 𝓤 H A (Mut.mslice (Referent.rtF (Referent.fInt Syntax.w16)) (Syntax.tyRef Syntax.erased Syntax.mut (Syntax.tyInt Syntax.w16)) 3),
+                    Mut.reads-mslice 𝓤 H A W (Referent.rtF
+                        (Referent.fInt Syntax.w16)) (Syntax.tyRef Syntax.erased Syntax.mut (Syntax.tyInt Syntax.w16)) 3,
                     Path'.refl,
                     (
                       Reads.as-is 𝓤 H A (Mut.mslice (Element.type) (Syntax.tyRef Syntax.erased Syntax.mut Element.behind) 4),
-                      Mut.reads-mslice 𝓤 H A W (Element.type) (Syntax.tyRef
-                          Syntax.erased Syntax.mut Element.behind) 4,
+                      Mut.reads-mslice 𝓤 H A W (Element.type) (Syntax.tyRef Syntax.erased Syntax.mut
+                          Element.behind) 4,
                       Path'.refl,
                       (
-                        Reads.as-is 𝓤 H A (Mut.mslice (Referent.rtF (Referent.fInt Syntax.w16)) (Syntax.tyRef Syntax.erased Syntax.mut (Syntax.tyInt
-                            Syntax.w16)) 5),
-                        Mut.reads-mslice 𝓤 H A W (Referent.rtF (Referent.fInt Syntax.w16)) (Syntax.tyRef Syntax.erased Syntax.mut (Syntax.tyInt Syntax.w16)) 5,
+                        Reads.as-is 𝓤 H A (Mut.mslice (Referent.rtF (Referent.fInt Syntax.w16)) (Syntax.tyRef Syntax.erased Syntax.mut (Syntax.tyInt Syntax.w16)) 5),
+                        Mut.reads-mslice 𝓤 H A W (Referent.rtF
+                            (Referent.fInt Syntax.w16)) (Syntax.tyRef Syntax.erased Syntax.mut (Syntax.tyInt Syntax.w16)) 5,
                         Path'.refl,
                         (
                           (
-                            Yields.yields-copy 𝓤
-                                H A W (λ ρ. Unit) (Declared'.row Form.the-type) Path'.refl (Copies.cStruct Form.the-type Laws'.the-laws Laws'.the-copy .copy 𝓤 H A W) (Rows'.whole (Declared'.row Form.the-type)) (λ x. x) (λ
-                                x. x) (λ ρ told. Local.mem-whole 𝓤 H A W (Declared'.row Form.the-type) ρ) λ ρ told. Local.whole-mem 𝓤 H A W (Declared'.row Form.the-type) ρ,
+                            Yields.yields-copy 𝓤 H A W (λ ρ. Unit) (Declared'.row Form.the-type) Path'.refl (Copies.cStruct Form.the-type Laws'.the-laws Laws'.the-copy .copy 𝓤 H A W) (Rows'.whole (Declared'.row
+                                Form.the-type)) (λ x. x) (λ x. x) (λ ρ told. Local.mem-whole 𝓤 H A W (Declared'.row Form.the-type) ρ) λ ρ told. Local.whole-mem 𝓤 H A W (Declared'.row Form.the-type) ρ,
                             Path'.refl,
                           ),
                           (
-                            ShrRef.spares-sref 𝓤 H A W
-                                (Array'.Array (Referent.rtF (Referent.fInt Syntax.w16)) 768) (Syntax.tyRef Syntax.erased Syntax.imm (Syntax.tyArray (Syntax.tyInt Syntax.w16) 768)) 6,
-                            Reads.reads-sref 𝓤 H A W (Array'.Array
-                                (Referent.rtF (Referent.fInt Syntax.w16)) 768) (Syntax.tyRef Syntax.erased Syntax.imm (Syntax.tyArray (Syntax.tyInt Syntax.w16) 768)) 6,
+                            ShrRef.spares-sref 𝓤 H A W (Array'.Array (Referent.rtF (Referent.fInt Syntax.w16)) 768) (Syntax.tyRef Syntax.erased Syntax.imm (Syntax.tyArray (Syntax.tyInt Syntax.w16) 768)) 6,
+                            Reads.reads-sref 𝓤 H A W (Array'.Array (Referent.rtF (Referent.fInt Syntax.w16)) 768) (Syntax.tyRef Syntax.erased Syntax.imm (Syntax.tyArray (Syntax.tyInt Syntax.w16) 768)) 6,
                             Path'.refl,
                             (
-                              (
-                                Array.arr-yields 𝓤 H A W (Array.eInt
-                                    Syntax.w8) (Array.eInt-laws Syntax.w8) 36,
-                                Path'.refl,
-                              ),
+                              (Array.arr-yields 𝓤 H A W (Array.eInt Syntax.w8) (Array.eInt-laws Syntax.w8) 36, Path'.refl),
                               (
                                 (
-                                  Yields.yields-copy 𝓤 H A W (λ ρ. Unit) (Declared'.row Part.the-type) Path'.refl (Copies.cStruct Part.the-type Laws'3.the-laws
-                                      Laws'3.the-copy .copy 𝓤 H A W) (Rows'.whole (Declared'.row Part.the-type)) (λ x. x) (λ x. x) (λ ρ told. Local.mem-whole 𝓤 H A W (Declared'.row Part.the-type) ρ) λ ρ told. Local.whole-mem 𝓤 H
-                                      A W (Declared'.row Part.the-type) ρ,
+                                  Yields.yields-copy 𝓤 H A W (λ ρ. Unit) (Declared'.row Part.the-type) Path'.refl (Copies.cStruct Part.the-type Laws'3.the-laws Laws'3.the-copy .copy 𝓤 H A W) (Rows'.whole (Declared'.row
+                                      Part.the-type)) (λ x. x) (λ x. x) (λ ρ told. Local.mem-whole 𝓤 H A W (Declared'.row Part.the-type) ρ) λ ρ told. Local.whole-mem 𝓤 H A W (Declared'.row Part.the-type) ρ,
                                   Path'.refl,
                                 ),
                                 ((Scalar.reads-sc 𝓤 H A W (Row.sInt Syntax.w64), Path'.refl), tt),
@@ -3804,17 +1932,11 @@ module _ (claims· : Claims) where
                     ),
                   ),
                 ),
-              ) (Reads.room-gone 𝓤 H A (Syntax.tyStruct
-              (List._∷_ 98 (List._∷_ 108 (List._∷_ 111 (List._∷_ 99 (List._∷_ 107 (List._∷_ 58 (List._∷_ 58 (List._∷_ 87 (List._∷_ 97 (List._∷_ 108 (List._∷_ 107 (List._∷_ 101 (List._∷_ 100
-              List.[]))))))))))))) (Syntax.tcons Syntax.tyBool (Syntax.tcons (Syntax.tyInt Syntax.w64) (Syntax.tcons (Syntax.tyStruct (List._∷_ 98 (List._∷_ 105 (List._∷_ 116 (List._∷_ 115 (List._∷_ 58
-              (List._∷_ 58 (List._∷_ 66 (List._∷_ 105 (List._∷_ 116 (List._∷_ 80 (List._∷_ 111 (List._∷_ 115 (List._∷_ 105 (List._∷_ 116 (List._∷_ 105 (List._∷_ 111 (List._∷_ 110 List.[])))))))))))))))))
-              (Syntax.tcons (Syntax.tyInt Syntax.w64) Syntax.tnil)) (Syntax.tcons (Syntax.tyInt Syntax.w64) Syntax.tnil)))))) (tt, (tt, (tt, (tt, (tt, (tt, tt)))))) Path'.refl) d25
+              ) (Reads.room-gone 𝓤 H A y7) (tt, (tt, (tt, (tt, (tt, (tt, tt)))))) Path'.refl) d25
 
           d27 : Typed.Typed 𝓤 H A 𝓣 E G26 b21 Δ0 (at27 bs)
           d27 = Typed.s-seq 𝓤 H A W 𝓣 E G26 G27 b15 b20 Δ0 (Typed.both (s25 bs)) (at26 bs) (Plain.t-call-plain 𝓤 H A W 𝓣 0 ps·5 r·5 (claims· .10) (claims· .11) "block::tight::no_part" (known .5) E (λ
-              pos β. β) G26 tt 22 List.[] (Call.sub-id 𝓤 H A W (G26 .slots)) tt (Reads.room-gone 𝓤 H A (Syntax.tyStruct (List._∷_ 109 (List._∷_ 97 (List._∷_ 112 (List._∷_ 58 (List._∷_ 58 (List._∷_ 80
-              (List._∷_ 97 (List._∷_ 114 (List._∷_ 116 List.[]))))))))) (Syntax.tcons (Syntax.tyInt Syntax.w64) (Syntax.tcons (Syntax.tyInt Syntax.w64) (Syntax.tcons (Syntax.tyInt Syntax.w64)
-              (Syntax.tcons (Syntax.tyInt Syntax.w64) (Syntax.tcons (Syntax.tyInt Syntax.w64) (Syntax.tcons (Syntax.tyInt Syntax.w64) Syntax.tnil)))))))) tt Path'.refl) d26
+              pos β. β) G26 tt 22 List.[] (Call.sub-id 𝓤 H A W (G26 .slots)) tt (Reads.room-gone 𝓤 H A y0) tt Path'.refl) d26
 
           d28 : Typed.Typed 𝓤 H A 𝓣 E G25 b21 Δ0 (at28 bs)
           d28 = Typed.g-pre 𝓤 H A W 𝓣 E G25 G26 b21 Δ0 (Typed.pass T25 T26 (s24 bs)) (at27 bs) (AtSlots.g-as-by 𝓤 H A W E (λ ρ. Unit) G25 21 (Rows.arrF (Referent.rtF (Referent.fInt Syntax.w8)) 36 0)
@@ -3831,56 +1953,14 @@ module _ (claims· : Claims) where
               (Syntax.tyRef Syntax.erased Syntax.imm (Syntax.tyArray (Syntax.tyInt Syntax.w16) 768))) Path'.refl λ b o. tt) d29
 
           d31 : Typed.Typed 𝓤 H A 𝓣 E G22 b23 Δ0 (at31 bs)
-          d31 = Typed.g-pre 𝓤 H A W 𝓣 E G22 G23 b23 Δ0 (λ Ψ. Ψ) (at30 bs) (Lifetime.g-begin 𝓤 H A W E G22 6 (
-            tt,
-            (
-              tt,
-              (
-                tt,
-                (
-                  tt,
-                  (
-                    (tt, tt),
-                    (
-                      (tt, tt),
-                      (
-                        tt,
-                        (
-                          tt,
-                          (
-                            tt,
-                            (
-                              tt,
-                              (
-                                tt,
-                                (
-                                  tt,
-                                  (
-                                    tt,
-                                    (
-                                      tt,
-                                      (tt, (tt, (tt, (tt, (tt, (tt, (tt, (tt, (tt, tt))))))))),
-                                    ),
-                                  ),
-                                ),
-                              ),
-                            ),
-                          ),
-                        ),
-                      ),
-                    ),
-                  ),
-                ),
-              ),
-            ),
-          )) d30
+          d31 = Typed.g-pre 𝓤 H A W 𝓣 E G22 G23 b23 Δ0 (λ Ψ. Ψ) (at30 bs) (Lifetime.g-begin 𝓤 H A W E G22 6
+              (tt, (tt, (tt, (tt, ((tt, tt), ((tt, tt), (tt, (tt, (tt, (tt, (tt, (tt, (tt, (tt, (tt, (tt, (tt, (tt, (tt, (tt, (tt, (tt, (tt, tt)))))))))))))))))))))))) d30
 
           d32 : Typed.Typed 𝓤 H A 𝓣 E G21 b24 Δ0 (at32 bs)
           d32 = Typed.s-seq 𝓤 H A W 𝓣 E G21 G22 b12 b23 Δ0 (Typed.ask (s20 bs)) (at31 bs) (Relend.t-sl-aggregate 𝓤 H A W E (Referent.rtF (Referent.fInt Syntax.w16)) 𝓣 (Relend.asMut (Referent.rtF
               (Referent.fInt Syntax.w16))) G21 18 19 5 (Syntax.tyRef Syntax.erased Syntax.mut (Syntax.tyArray (Syntax.tyInt Syntax.w16) 1)) (Syntax.tyRef Syntax.erased Syntax.mut (Syntax.tyInt
               Syntax.w16)) (λ x. x) (Scalar.oInt Syntax.w64 1) (Reads.as-is 𝓤 H A (Relend.msptr (Referent.rtF (Referent.fInt Syntax.w16)) (Syntax.tyRef Syntax.erased Syntax.mut (Syntax.tyArray
-              (Syntax.tyInt Syntax.w16) 1)) 5)) (Reads.room-gone 𝓤 H A (Syntax.tyStruct (List._∷_ 38 (List._∷_ 91 (List._∷_ 93 List.[]))) (Syntax.tcons (Syntax.tyRef Syntax.erased Syntax.mut (Syntax.tyInt
-              Syntax.w16)) (Syntax.tcons (Syntax.tyInt Syntax.w64) Syntax.tnil)))) tt Path'.refl Path'.refl λ b o k. tt) d31
+              (Syntax.tyInt Syntax.w16) 1)) 5)) (Reads.room-gone 𝓤 H A y3) tt Path'.refl Path'.refl λ b o k. tt) d31
 
           d33 : Typed.Typed 𝓤 H A 𝓣 E G20 b25 Δ0 (at33 bs)
           d33 = Typed.s-seq 𝓤 H A W 𝓣 E G20 G21 b11 b24 Δ0 (Typed.give (s19 bs)) (at32 bs) (Borrow.t-arr-borrow 𝓤 H A W E 𝓣 (Referent.rtF (Referent.fInt Syntax.w16)) G20 11 18 1 5 (Syntax.tyRef
@@ -3888,59 +1968,15 @@ module _ (claims· : Claims) where
               (Syntax.tyRef Syntax.erased Syntax.mut (Syntax.tyArray (Syntax.tyInt Syntax.w16) 1))) Path'.refl (λ b o. tt) (Dec'.lit< tt, Dec'.lit< tt)) d32
 
           d34 : Typed.Typed 𝓤 H A 𝓣 E G19 b25 Δ0 (at34 bs)
-          d34 = Typed.g-pre 𝓤 H A W 𝓣 E G19 G20 b25 Δ0 (λ Ψ. Ψ) (at33 bs) (Lifetime.g-begin 𝓤 H A W E G19 5 (
-            tt,
-            (
-              tt,
-              (
-                tt,
-                (
-                  tt,
-                  (
-                    (tt, tt),
-                    (
-                      (tt, tt),
-                      (
-                        tt,
-                        (
-                          tt,
-                          (
-                            tt,
-                            (
-                              tt,
-                              (
-                                tt,
-                                (
-                                  tt,
-                                  (
-                                    tt,
-                                    (
-                                      tt,
-                                      (tt, (tt, (tt, (tt, (tt, (tt, (tt, (tt, (tt, tt))))))))),
-                                    ),
-                                  ),
-                                ),
-                              ),
-                            ),
-                          ),
-                        ),
-                      ),
-                    ),
-                  ),
-                ),
-              ),
-            ),
-          )) d33
+          d34 = Typed.g-pre 𝓤 H A W 𝓣 E G19 G20 b25 Δ0 (λ Ψ. Ψ) (at33 bs) (Lifetime.g-begin 𝓤 H A W E G19 5
+              (tt, (tt, (tt, (tt, ((tt, tt), ((tt, tt), (tt, (tt, (tt, (tt, (tt, (tt, (tt, (tt, (tt, (tt, (tt, (tt, (tt, (tt, (tt, (tt, (tt, tt)))))))))))))))))))))))) d33
 
           d35 : Typed.Typed 𝓤 H A 𝓣 E G18 b26 Δ0 (at35 bs)
           d35 = Typed.s-seq 𝓤 H A W 𝓣 E G18 G19 b10 b25 Δ0 (Typed.ask (s17 bs)) (at34 bs) (Relend.t-sl-aggregate 𝓤 H A W E (Element.type) 𝓣 (Relend.asMut (Element.type)) G18 16 17 4 (Syntax.tyRef
               Syntax.erased Syntax.mut Element.behind) (Syntax.tyRef Syntax.erased Syntax.mut Element.behind) (λ x. x) (Scalar.oFld 5 (List._∷_ (Syntax.field 1) List.[]) (Syntax.tyInt Syntax.w64) 8 λ v.
-              Shared.lenV (v .0)) (Reads.as-is 𝓤 H A (Relend.msptr (Element.type) (Syntax.tyRef Syntax.erased Syntax.mut Element.behind) 4)) (Reads.room-gone 𝓤 H A (Syntax.tyStruct (List._∷_ 38 (List._∷_
-              91 (List._∷_ 93 List.[]))) (Syntax.tcons (Syntax.tyRef Syntax.erased Syntax.mut Element.behind) (Syntax.tcons (Syntax.tyInt Syntax.w64) Syntax.tnil)))) (
-                Relend.reads-owed-len 𝓤 H A W
-                    (Element.type) (Syntax.tyRef (Syntax.named 2) Syntax.mut Element.behind) 2 4 (Row.lease (κs .1 .1 .0) (qs .1 .1 .0)) 8 Path'.refl,
-                Path'.refl,
-              ) Path'.refl Path'.refl λ b o k. tt) d34
+              Shared.lenV (v .0)) (Reads.as-is 𝓤 H A (Relend.msptr (Element.type) (Syntax.tyRef Syntax.erased Syntax.mut Element.behind) 4)) (Reads.room-gone 𝓤 H A y4)
+              (Relend.reads-owed-len 𝓤 H A W (Element.type) (Syntax.tyRef (Syntax.named 2) Syntax.mut Element.behind) 2 4 (Row.lease (κs .1 .1 .0) (qs .1 .1 .0)) 8 Path'.refl, Path'.refl) Path'.refl
+              Path'.refl λ b o k. tt) d34
 
           d36 : Typed.Typed 𝓤 H A 𝓣 E G17 b27 Δ0 (at36 bs)
           d36 = Typed.s-seq 𝓤 H A W 𝓣 E G17 G18 b9 b26 Δ0 (Typed.give (s16 bs)) (at35 bs) (Relend.t-sl-relend 𝓤 H A W E (Element.type) 𝓣 G17 5 16 2 4 (Syntax.tyRef (Syntax.named 2) Syntax.mut
@@ -3948,61 +1984,16 @@ module _ (claims· : Claims) where
               (Syntax.named 2) Syntax.mut Element.behind) 2)) (Reads.room-gone 𝓤 H A (Syntax.tyRef Syntax.erased Syntax.mut Element.behind)) Path'.refl tt Path'.refl Path'.refl Path'.refl λ b o. tt) d35
 
           d37 : Typed.Typed 𝓤 H A 𝓣 E G16 b27 Δ0 (at37 bs)
-          d37 = Typed.g-pre 𝓤 H A W 𝓣 E G16 G17 b27 Δ0 (λ Ψ. Ψ) (at36 bs) (Lifetime.g-begin 𝓤 H A W E G16 4 (
-            tt,
-            (
-              tt,
-              (
-                tt,
-                (
-                  tt,
-                  (
-                    (tt, tt),
-                    (
-                      tt,
-                      (
-                        tt,
-                        (
-                          tt,
-                          (
-                            tt,
-                            (
-                              tt,
-                              (
-                                tt,
-                                (
-                                  tt,
-                                  (
-                                    tt,
-                                    (
-                                      tt,
-                                      (
-                                        tt,
-                                        (tt, (tt, (tt, (tt, (tt, (tt, (tt, (tt, tt)))))))),
-                                      ),
-                                    ),
-                                  ),
-                                ),
-                              ),
-                            ),
-                          ),
-                        ),
-                      ),
-                    ),
-                  ),
-                ),
-              ),
-            ),
-          )) d36
+          d37 = Typed.g-pre 𝓤 H A W 𝓣 E G16 G17 b27 Δ0 (λ Ψ. Ψ) (at36 bs) (Lifetime.g-begin 𝓤 H A W E G16 4
+              (tt, (tt, (tt, (tt, ((tt, tt), (tt, (tt, (tt, (tt, (tt, (tt, (tt, (tt, (tt, (tt, (tt, (tt, (tt, (tt, (tt, (tt, (tt, (tt, tt)))))))))))))))))))))))) d36
 
           d38 : Typed.Typed 𝓤 H A 𝓣 E G15 b28 Δ0 (at38 bs)
           d38 = Typed.s-seq 𝓤 H A W 𝓣 E G15 G16 b8 b27 Δ0 (Typed.ask (s14 bs)) (at37 bs) (Relend.t-sl-aggregate 𝓤 H A W E (Referent.rtF (Referent.fInt Syntax.w16)) 𝓣 (Relend.asMut (Referent.rtF
               (Referent.fInt Syntax.w16))) G15 14 15 3 (Syntax.tyRef Syntax.erased Syntax.mut (Syntax.tyInt Syntax.w16)) (Syntax.tyRef Syntax.erased Syntax.mut (Syntax.tyInt Syntax.w16)) (λ x. x)
               (Scalar.oFld 4 (List._∷_ (Syntax.field 1) List.[]) (Syntax.tyInt Syntax.w64) 8 λ v. Shared.lenV (v .0)) (Reads.as-is 𝓤 H A (Relend.msptr (Referent.rtF (Referent.fInt Syntax.w16))
-              (Syntax.tyRef Syntax.erased Syntax.mut (Syntax.tyInt Syntax.w16)) 3)) (Reads.room-gone 𝓤 H A (Syntax.tyStruct (List._∷_ 38 (List._∷_ 91 (List._∷_ 93 List.[]))) (Syntax.tcons (Syntax.tyRef
-              Syntax.erased Syntax.mut (Syntax.tyInt Syntax.w16)) (Syntax.tcons (Syntax.tyInt Syntax.w64) Syntax.tnil)))) (
-                Relend.reads-owed-len 𝓤 H A W (Referent.rtF (Referent.fInt Syntax.w16))
-                    (Syntax.tyRef (Syntax.named 1) Syntax.mut (Syntax.tyInt Syntax.w16)) 1 3 (Row.lease (κs .1 .0) (qs .1 .0)) 8 Path'.refl,
+              (Syntax.tyRef Syntax.erased Syntax.mut (Syntax.tyInt Syntax.w16)) 3)) (Reads.room-gone 𝓤 H A y3) (
+                Relend.reads-owed-len 𝓤 H A W (Referent.rtF (Referent.fInt Syntax.w16)) (Syntax.tyRef (Syntax.named 1) Syntax.mut (Syntax.tyInt Syntax.w16)) 1 3 (Row.lease (κs .1 .0) (qs .1 .0)) 8
+                    Path'.refl,
                 Path'.refl,
               ) Path'.refl Path'.refl λ b o k. tt) d37
 
@@ -4013,55 +2004,8 @@ module _ (claims· : Claims) where
               (Syntax.tyInt Syntax.w16))) Path'.refl tt Path'.refl Path'.refl Path'.refl λ b o. tt) d38
 
           d40 : Typed.Typed 𝓤 H A 𝓣 E G13 b29 Δ0 (at40 bs)
-          d40 = Typed.g-pre 𝓤 H A W 𝓣 E G13 G14 b29 Δ0 (λ Ψ. Ψ) (at39 bs) (Lifetime.g-begin 𝓤 H A W E G13 3 (
-            tt,
-            (
-              tt,
-              (
-                tt,
-                (
-                  tt,
-                  (
-                    tt,
-                    (
-                      tt,
-                      (
-                        tt,
-                        (
-                          tt,
-                          (
-                            tt,
-                            (
-                              tt,
-                              (
-                                tt,
-                                (
-                                  tt,
-                                  (
-                                    tt,
-                                    (
-                                      tt,
-                                      (
-                                        tt,
-                                        (
-                                          tt,
-                                          (tt, (tt, (tt, (tt, (tt, (tt, (tt, tt))))))),
-                                        ),
-                                      ),
-                                    ),
-                                  ),
-                                ),
-                              ),
-                            ),
-                          ),
-                        ),
-                      ),
-                    ),
-                  ),
-                ),
-              ),
-            ),
-          )) d39
+          d40 = Typed.g-pre 𝓤 H A W 𝓣 E G13 G14 b29 Δ0 (λ Ψ. Ψ) (at39 bs) (Lifetime.g-begin 𝓤 H A W E G13 3
+              (tt, (tt, (tt, (tt, (tt, (tt, (tt, (tt, (tt, (tt, (tt, (tt, (tt, (tt, (tt, (tt, (tt, (tt, (tt, (tt, (tt, (tt, (tt, tt)))))))))))))))))))))))) d39
 
           d41 : Typed.Typed 𝓤 H A 𝓣 E G12 b29 Δ0 (at41 bs)
           d41 = Typed.g-pre 𝓤 H A W 𝓣 E G12 G13 b29 Δ0 (Typed.pass T12 T13 (s11 bs)) (at40 bs) (AtSlots.g-as-by 𝓤 H A W E (λ ρ. Unit) G12 11 (Rows.arrF (Referent.rtF (Referent.fInt Syntax.w16)) 1 0)
@@ -4071,11 +2015,8 @@ module _ (claims· : Claims) where
           d42 = Typed.s-seq 𝓤 H A W 𝓣 E G11 G12 b6 b29 Δ0 (Typed.pass T11 T12 (s10 bs)) (at41 bs) (Make.t-make-wt 𝓤 H A W E 𝓣 (Array'.Array (Referent.rtF (Referent.fInt Syntax.w16)) 1) Path'.refl
               (Gives.arrayValOf λ x. Steps.only (Copies.cRf (Referent.fInt Syntax.w16) .vals x)) (Array'.array-lawful 𝓤 H A W (Referent.rtF (Referent.fInt Syntax.w16)) (Plain'.uint-lawful 𝓤 H A W
               Syntax.w16) 1) (Array'.array-makes 𝓤 H A W (Referent.rtF (Referent.fInt Syntax.w16)) (Plain'.uint-makes 𝓤 H A W Syntax.w16) 1) G11 11 (List._∷_ (Scalar.oInt Syntax.w16 0) List.[]) (λ m.
-              List._∷_ 0 List.[]) (Reads.room-gone 𝓤 H A (Syntax.tyArray (Syntax.tyInt Syntax.w16) 1)) (tt, tt) Path'.refl (λ m wa. Path'.refl) λ m wa. (
-                List._∷_ (Row.valS (Row.sInt Syntax.w16) 0)
-                    List.[],
-                ((Path'.refl, Path'.refl), ((Path'.refl, Dec'.lit< tt), tt)),
-              )) d41
+              List._∷_ 0 List.[]) (Reads.room-gone 𝓤 H A (Syntax.tyArray (Syntax.tyInt Syntax.w16) 1)) (tt, tt) Path'.refl (λ m wa. Path'.refl) λ m wa.
+              (List._∷_ (Row.valS (Row.sInt Syntax.w16) 0) List.[], ((Path'.refl, Path'.refl), ((Path'.refl, Dec'.lit< tt), tt)))) d41
 
           d43 : Typed.Typed 𝓤 H A 𝓣 E G10 b30 Δ0 (at43 bs)
           d43 = Typed.g-pre 𝓤 H A W 𝓣 E G10 G11 b30 Δ0 (Typed.pass T10 T11 (s9 bs)) (at42 bs) (Scalar.g-room 𝓤 H A W E G10 13 (Syntax.tyArray (Syntax.tyInt Syntax.w16) 768) (Init.room-arr 𝓤 H A W
@@ -4100,61 +2041,52 @@ module _ (claims· : Claims) where
               G7 (record { pos = 1; ty = Syntax.tyRef (Syntax.named 0) Syntax.imm (Syntax.tyInt Syntax.w8); ref = λ x. x }, (Num.vAt 3 λ x. x, tt)) 9 (List._∷_ 0 List.[]) (Call.sub-id 𝓤 H A W (G7
               .slots)) (
                 ShrSlice.spares-sslice 𝓤 H A W (Referent.rtF (Referent.fInt Syntax.w8)) (Syntax.tyRef (Syntax.named 0) Syntax.imm (Syntax.tyInt Syntax.w8)) 0,
-                Shared.reads-sslice 𝓤 H A W
-                    (Referent.rtF (Referent.fInt Syntax.w8)) (Syntax.tyRef (Syntax.named 0) Syntax.imm (Syntax.tyInt Syntax.w8)) 0,
+                Shared.reads-sslice 𝓤 H A W (Referent.rtF
+                    (Referent.fInt Syntax.w8)) (Syntax.tyRef (Syntax.named 0) Syntax.imm (Syntax.tyInt Syntax.w8)) 0,
                 Path'.refl,
                 ((Scalar.reads-sc 𝓤 H A W (Row.sInt Syntax.w64), Path'.refl), tt),
-              ) (Reads.room-gone 𝓤 H A (Syntax.tyStruct (List._∷_ 38 (List._∷_ 91 (List._∷_ 93 List.[]))) (Syntax.tcons (Syntax.tyRef Syntax.erased Syntax.imm (Syntax.tyInt Syntax.w8)) (Syntax.tcons
-              (Syntax.tyInt Syntax.w64) Syntax.tnil)))) (tt, tt) (Path'.refl, λ b o k. tt)) d45
+              )
+              (Reads.room-gone 𝓤 H A y2) (tt, tt) (Path'.refl, λ b o k. tt)) d45
 
           d47 : Typed.Typed 𝓤 H A 𝓣 E G6 b34 Δ0 (at47 bs)
           d47 = Typed.s-seq 𝓤 H A W 𝓣 E G6 G7 b2 b33 Δ0 (Typed.both (s5 bs)) (at46 bs) (Plain.t-call-plain 𝓤 H A W 𝓣 1 ps·2 r·2 (claims· .4) (claims· .5) "stream::block_bytes" (known .2) E (λ pos β.
               β) G6 (record { pos = 1; ty = Syntax.tyRef (Syntax.named 0) Syntax.imm (Syntax.tyInt Syntax.w8); ref = λ x. x }, (Num.vAt 3 λ x. x, tt)) 8 (List._∷_ 0 List.[]) (Call.sub-id 𝓤 H A W (G6
               .slots)) (
                 ShrSlice.spares-sslice 𝓤 H A W (Referent.rtF (Referent.fInt Syntax.w8)) (Syntax.tyRef (Syntax.named 0) Syntax.imm (Syntax.tyInt Syntax.w8)) 0,
-                Shared.reads-sslice 𝓤 H A W
-                    (Referent.rtF (Referent.fInt Syntax.w8)) (Syntax.tyRef (Syntax.named 0) Syntax.imm (Syntax.tyInt Syntax.w8)) 0,
+                Shared.reads-sslice 𝓤 H A W (Referent.rtF
+                    (Referent.fInt Syntax.w8)) (Syntax.tyRef (Syntax.named 0) Syntax.imm (Syntax.tyInt Syntax.w8)) 0,
                 Path'.refl,
                 ((Scalar.reads-sc 𝓤 H A W (Row.sInt Syntax.w64), Path'.refl), tt),
-              ) (Reads.room-gone 𝓤 H A (Syntax.tyStruct (List._∷_ 38 (List._∷_ 91 (List._∷_ 93 List.[]))) (Syntax.tcons (Syntax.tyRef Syntax.erased Syntax.imm (Syntax.tyInt Syntax.w8)) (Syntax.tcons
-              (Syntax.tyInt Syntax.w64) Syntax.tnil)))) (tt, tt) (Path'.refl, λ b o k. tt)) d46
+              )
+              (Reads.room-gone 𝓤 H A y2) (tt, tt) (Path'.refl, λ b o k. tt)) d46
 
           d48 : Typed.Typed 𝓤 H A 𝓣 E G5 b34 Δ0 (at48 bs)
-          d48 = Typed.g-pre 𝓤 H A W 𝓣 E G5 G6 b34 Δ0 (Typed.pass T5 T6 (s4 bs)) (at47 bs) (Scalar.g-room 𝓤 H A W E G5 2 (Syntax.tyStruct (List._∷_ 115 (List._∷_ 116 (List._∷_ 114 (List._∷_ 101
-              (List._∷_ 97 (List._∷_ 109 (List._∷_ 58 (List._∷_ 58 (List._∷_ 70 (List._∷_ 117 (List._∷_ 106 (List._∷_ 105 (List._∷_ 72 (List._∷_ 101 (List._∷_ 97 (List._∷_ 100 (List._∷_ 101 (List._∷_ 114
-              List.[])))))))))))))))))) (Syntax.tcons Syntax.tyBool (Syntax.tcons Syntax.tyBool (Syntax.tcons (Syntax.tyInt Syntax.w32) (Syntax.tcons (Syntax.tyInt Syntax.w32) (Syntax.tcons (Syntax.tyInt
-              Syntax.w32) (Syntax.tcons (Syntax.tyInt Syntax.w32) (Syntax.tcons (Syntax.tyInt Syntax.w32) (Syntax.tcons (Syntax.tyInt Syntax.w32) (Syntax.tcons (Syntax.tyInt Syntax.w32)
-              Syntax.tnil)))))))))) (Local.room-whole 𝓤 H A W (Declared'.row FujiHeader.the-type) (Syntax.tyStruct (List._∷_ 115 (List._∷_ 116 (List._∷_ 114 (List._∷_ 101 (List._∷_ 97 (List._∷_ 109
-              (List._∷_ 58 (List._∷_ 58 (List._∷_ 70 (List._∷_ 117 (List._∷_ 106 (List._∷_ 105 (List._∷_ 72 (List._∷_ 101 (List._∷_ 97 (List._∷_ 100 (List._∷_ 101 (List._∷_ 114 List.[]))))))))))))))))))
-              (Syntax.tcons Syntax.tyBool (Syntax.tcons Syntax.tyBool (Syntax.tcons (Syntax.tyInt Syntax.w32) (Syntax.tcons (Syntax.tyInt Syntax.w32) (Syntax.tcons (Syntax.tyInt Syntax.w32) (Syntax.tcons
-              (Syntax.tyInt Syntax.w32) (Syntax.tcons (Syntax.tyInt Syntax.w32) (Syntax.tcons (Syntax.tyInt Syntax.w32) (Syntax.tcons (Syntax.tyInt Syntax.w32) Syntax.tnil)))))))))) Path'.refl)) d47
+          d48 = Typed.g-pre 𝓤 H A W 𝓣 E G5 G6 b34 Δ0 (Typed.pass T5 T6 (s4 bs)) (at47 bs) (Scalar.g-room 𝓤 H A W E G5 2 y1 (Local.room-whole 𝓤 H A W (Declared'.row FujiHeader.the-type) y1 Path'.refl))
+              d47
 
           d49 : Typed.Typed 𝓤 H A 𝓣 E G4 b35 Δ0 (at49 bs)
           d49 = Typed.s-seq 𝓤 H A W 𝓣 E G4 G5 b1 b34 Δ0 (Typed.both (s3 bs)) (at48 bs) (Plain.t-call-plain 𝓤 H A W 𝓣 0 ps·1 r·1 (claims· .2) (claims· .3) "block::tight::line_count" (known .1) E (λ pos
               β. β) G4 (record { pos = 2; st = List.[]; d = 0; at = λ x. x }, tt) 7 List.[] (Call.sub-id 𝓤 H A W (G4 .slots)) (
                 (
-                  Yields.yields-copy 𝓤 H A W (λ ρ. Unit) (Declared'.row FujiHeader.the-type)
-                      Path'.refl (Copies.cStruct FujiHeader.the-type Laws'4.the-laws Laws'4.the-copy .copy 𝓤 H A W) (Rows'.whole (Declared'.row FujiHeader.the-type)) (λ x. x) (λ x. x) (λ ρ told. Local.mem-whole 𝓤
-                      H A W (Declared'.row FujiHeader.the-type) ρ) λ ρ told. Local.whole-mem 𝓤 H A W (Declared'.row FujiHeader.the-type) ρ,
+                  Yields.yields-copy 𝓤 H A W (λ ρ. Unit) (Declared'.row FujiHeader.the-type) Path'.refl (Copies.cStruct FujiHeader.the-type Laws'4.the-laws Laws'4.the-copy .copy 𝓤 H A W) (Rows'.whole
+                      (Declared'.row FujiHeader.the-type)) (λ x. x) (λ x. x) (λ ρ told. Local.mem-whole 𝓤 H A W (Declared'.row FujiHeader.the-type) ρ) λ ρ told. Local.whole-mem 𝓤 H A W (Declared'.row
+                      FujiHeader.the-type) ρ,
                   Path'.refl,
                 ),
                 tt,
-              ) (Reads.room-gone 𝓤 H A (Syntax.tyInt Syntax.w64))
-              tt Path'.refl) d48
+              ) (Reads.room-gone 𝓤 H A (Syntax.tyInt Syntax.w64)) tt Path'.refl) d48
 
           d50 : Typed.Typed 𝓤 H A 𝓣 E G3 b36 Δ0 (at50 bs)
           d50 = Typed.s-seq 𝓤 H A W 𝓣 E G3 G4 b0 b35 Δ0 (Typed.both (s2 bs)) (at49 bs) (Plain.t-call-plain 𝓤 H A W 𝓣 0 ps·0 r·0 (claims· .0) (claims· .1) "block::form_of" (known .0) E (λ pos β. β) G3
               (record { pos = 2; st = List.[]; d = 0; at = λ x. x }, tt) 6 List.[] (Call.sub-id 𝓤 H A W (G3 .slots)) (
                 (
-                  Yields.yields-copy 𝓤 H A W (λ ρ. Unit) (Declared'.row FujiHeader.the-type)
-                      Path'.refl (Copies.cStruct FujiHeader.the-type Laws'4.the-laws Laws'4.the-copy .copy 𝓤 H A W) (Rows'.whole (Declared'.row FujiHeader.the-type)) (λ x. x) (λ x. x) (λ ρ told. Local.mem-whole 𝓤
-                      H A W (Declared'.row FujiHeader.the-type) ρ) λ ρ told. Local.whole-mem 𝓤 H A W (Declared'.row FujiHeader.the-type) ρ,
+                  Yields.yields-copy 𝓤 H A W (λ ρ. Unit) (Declared'.row FujiHeader.the-type) Path'.refl (Copies.cStruct FujiHeader.the-type Laws'4.the-laws Laws'4.the-copy .copy 𝓤 H A W) (Rows'.whole
+                      (Declared'.row FujiHeader.the-type)) (λ x. x) (λ x. x) (λ ρ told. Local.mem-whole 𝓤 H A W (Declared'.row FujiHeader.the-type) ρ) λ ρ told. Local.whole-mem 𝓤 H A W (Declared'.row
+                      FujiHeader.the-type) ρ,
                   Path'.refl,
                 ),
                 tt,
-              ) (Reads.room-gone 𝓤 H A (Syntax.tyStruct (List._∷_
-              98 (List._∷_ 108 (List._∷_ 111 (List._∷_ 99 (List._∷_ 107 (List._∷_ 58 (List._∷_ 58 (List._∷_ 70 (List._∷_ 111 (List._∷_ 114 (List._∷_ 109 List.[]))))))))))) (Syntax.tcons (Syntax.tyInt
-              Syntax.w32) (Syntax.tcons Syntax.tyBool Syntax.tnil)))) tt Path'.refl) d49
+              ) (Reads.room-gone 𝓤 H A y6) tt Path'.refl) d49
 
           d51 : Typed.Typed 𝓤 H A 𝓣 E G2 b36 Δ0 (at51 bs)
           d51 = Typed.g-pre 𝓤 H A W 𝓣 E G2 G3 b36 Δ0 (Typed.give (s1 bs)) (at50 bs) (Know.g-sl-known 𝓤 H A W (Referent.fInt Syntax.w16) E G2 4 1 (Syntax.tyRef (Syntax.named 1) Syntax.mut (Syntax.tyInt
@@ -4176,21 +2108,20 @@ module _ (claims· : Claims) where
             ty = Declared'.row FujiHeader.the-type;
             one = Path'.refl;
             val = Laws'6.val FujiHeader.the-type Laws'4.the-laws;
-            tells = Laws'6.tells
-                FujiHeader.the-type Laws'4.the-laws;
-            still = Laws'6.still FujiHeader.the-type Laws'4.the-copy Exit.yes;
+            tells = Laws'6.tells FujiHeader.the-type Laws'4.the-laws;
+            still =
+                Laws'6.still FujiHeader.the-type Laws'4.the-copy Exit.yes;
             row = Rows'.whole (Declared'.row FujiHeader.the-type);
             rd = λ x. x;
             mk = λ x. x;
-          } λ M
-              𝓤 H A W. record {
-                copies = Laws'6.copy FujiHeader.the-type Laws'4.the-copy 𝓤 H A W;
-                lawful = Laws'6.lawful FujiHeader.the-type Laws'4.the-laws 𝓤 H A W;
-                makes = Laws'6.makes
-                    FujiHeader.the-type Laws'4.the-plain 𝓤 H A;
-                in-mem = Local.mem-whole 𝓤 H A W (Declared'.row FujiHeader.the-type);
-                of-mem = Local.whole-mem 𝓤 H A W (Declared'.row FujiHeader.the-type);
-              })
+          } λ M 𝓤 H A W. record {
+            copies = Laws'6.copy FujiHeader.the-type Laws'4.the-copy 𝓤 H A W;
+            lawful = Laws'6.lawful FujiHeader.the-type Laws'4.the-laws 𝓤 H A W;
+            makes = Laws'6.makes FujiHeader.the-type
+                Laws'4.the-plain 𝓤 H A;
+            in-mem = Local.mem-whole 𝓤 H A W (Declared'.row FujiHeader.the-type);
+            of-mem = Local.whole-mem 𝓤 H A W (Declared'.row FujiHeader.the-type);
+          })
           pub b : Kinds.Den {n = 3} κs (Num.pNum Syntax.w64)
           pub lines : Kinds.Den {n = 3} κs (MutSlice.pMutS (Referent.rtF (Referent.fInt Syntax.w16)) 1 tt)
           pub rs : Kinds.Den {n = 3} κs (MutSlice.pMutS (Element.type) 2 tt)
@@ -4209,8 +2140,8 @@ module _ (claims· : Claims) where
       W0 = λ κs args blocks. (
         λ u. ⊥,
         tt,
-        λ u. Enter.Fixs κs 1 ps xs (dens κs args) (u .1) × Post· κs (dens κs args) (Function.resV r κs (u .0)) (Clauses.atExit (Kinds.endedOf 3 ps r) κs (dens κs
-            args) (Enter.lastsP κs 1 ps xs (dens κs args) (u .1))),
+        λ u. Enter.Fixs κs 1 ps xs (dens κs args) (u .1) × Post· κs (dens κs args) (Function.resV r κs (u .0)) (Clauses.atExit (Kinds.endedOf 3 ps r) κs (dens κs args) (Enter.lastsP κs 1 ps
+            xs (dens κs args) (u .1))),
       )
 
       pub record Start : Type 0 where
@@ -4258,8 +2189,7 @@ module _ (claims· : Claims) where
         pub form-of : After-form-of·own before
 
       abbrev pub After-form-of·gave : (c : After-form-of) → s2 (c .before .before .before .blocks) .gives (m2 (c .before .before) (c .before .slice-known .given))
-      After-form-of·gave = λ c. Called.given ps·0 r·0 (claims· .1) T3 (record { pos = 2; st = List.[]; d = 0; at = λ x. x }, tt) (m2 (c .before .before) (c .before .slice-known .given)) (c
-          .form-of)
+      After-form-of·gave = λ c. Called.given ps·0 r·0 (claims· .1) T3 (record { pos = 2; st = List.[]; d = 0; at = λ x. x }, tt) (m2 (c .before .before) (c .before .slice-known .given)) (c .form-of)
 
       abbrev pub Need-line-count-requires : Type 0
       Need-line-count-requires = (c : After-form-of) → s3 (c .before .before .before .blocks) .asks (m3 (c .before) (After-form-of·gave c))
@@ -4290,27 +2220,17 @@ module _ (claims· : Claims) where
 
       module _ (before· : After-line-count) where
         abbrev pub After-block-bytes·own : Type 0
-        After-block-bytes·own = Called.Called ps·2 r·2 (claims· .5) T6 (
-          record { pos = 1; ty = Syntax.tyRef (Syntax.named 0) Syntax.imm (Syntax.tyInt Syntax.w8); ref = λ x. x },
-          (
-            Num.vAt 3 λ x. x,
-            tt,
-          ),
-        ) (m5 (before· .before) (After-line-count·gave before·))
+        After-block-bytes·own = Called.Called ps·2 r·2 (claims· .5) T6
+            (record { pos = 1; ty = Syntax.tyRef (Syntax.named 0) Syntax.imm (Syntax.tyInt Syntax.w8); ref = λ x. x }, (Num.vAt 3 λ x. x, tt)) (m5 (before· .before) (After-line-count·gave before·))
 
       pub record After-block-bytes : Type 0 where
         pub before : After-line-count
         pub block-bytes : After-block-bytes·own before
 
       abbrev pub After-block-bytes·gave : (c : After-block-bytes) → s5 (c .before .before .before .before .before .blocks) .gives (m5 (c .before .before) (After-line-count·gave (c .before)))
-      After-block-bytes·gave = λ c. Called.given ps·2 r·2 (claims· .5) T6 (
-        record { pos = 1; ty = Syntax.tyRef (Syntax.named 0) Syntax.imm (Syntax.tyInt Syntax.w8); ref = λ x. x },
-        (
-          Num.vAt 3 λ x.
-              x,
-          tt,
-        ),
-      ) (m5 (c .before .before) (After-line-count·gave (c .before))) (c .block-bytes)
+      After-block-bytes·gave = λ c. Called.given ps·2 r·2 (claims· .5) T6
+          (record { pos = 1; ty = Syntax.tyRef (Syntax.named 0) Syntax.imm (Syntax.tyInt Syntax.w8); ref = λ x. x }, (Num.vAt 3 λ x. x, tt)) (m5 (c .before .before) (After-line-count·gave (c .before)))
+          (c .block-bytes)
 
       abbrev pub Need-base-row-requires : Type 0
       Need-base-row-requires = (c : After-block-bytes) → s6 (c .before .before .before .before .before .blocks) .asks (m6 (c .before) (After-block-bytes·gave c))
@@ -4320,23 +2240,17 @@ module _ (claims· : Claims) where
 
       module _ (before· : After-block-bytes) where
         abbrev pub After-base-row·own : Type 0
-        After-base-row·own = Called.Called ps·3 r·3 (claims· .7) T7 (
-          record { pos = 1; ty = Syntax.tyRef (Syntax.named 0) Syntax.imm (Syntax.tyInt Syntax.w8); ref = λ x. x },
-          (Num.vAt 3 λ x. x, tt),
-        ) (m6 (before· .before) (After-block-bytes·gave before·))
+        After-base-row·own = Called.Called ps·3 r·3 (claims· .7) T7 (record { pos = 1; ty = Syntax.tyRef (Syntax.named 0) Syntax.imm (Syntax.tyInt Syntax.w8); ref = λ x. x }, (Num.vAt 3 λ x. x, tt))
+            (m6 (before· .before) (After-block-bytes·gave before·))
 
       pub record After-base-row : Type 0 where
         pub before : After-block-bytes
         pub base-row : After-base-row·own before
 
       abbrev pub After-base-row·gave : (c : After-base-row) → s6 (c .before .before .before .before .before .before .blocks) .gives (m6 (c .before .before) (After-block-bytes·gave (c .before)))
-      After-base-row·gave = λ c. Called.given ps·3 r·3 (claims· .7) T7 (
-        record { pos = 1; ty = Syntax.tyRef (Syntax.named 0) Syntax.imm (Syntax.tyInt Syntax.w8); ref = λ x. x },
-        (
-          Num.vAt 3 λ x. x,
-          tt,
-        ),
-      ) (m6 (c .before .before) (After-block-bytes·gave (c .before))) (c .base-row)
+      After-base-row·gave = λ c. Called.given ps·3 r·3 (claims· .7) T7
+          (record { pos = 1; ty = Syntax.tyRef (Syntax.named 0) Syntax.imm (Syntax.tyInt Syntax.w8); ref = λ x. x }, (Num.vAt 3 λ x. x, tt)) (m6 (c .before .before) (After-block-bytes·gave (c .before)))
+          (c .base-row)
 
       abbrev pub Need-xtrans-places-requires : Type 0
       Need-xtrans-places-requires = (c : After-base-row) → s7 (c .before .before .before .before .before .before .blocks) .asks (m7 (c .before) (After-base-row·gave c))
@@ -4475,31 +2389,17 @@ module _ (claims· : Claims) where
         After-walk·own = Called.Called ps·6 r·6 (claims· .13) T27 (
           record { pos = 8; ty = Syntax.tyRef Syntax.erased Syntax.imm (Syntax.tyInt Syntax.w8); ref = λ x. x },
           (
-            record {
-              pos = 9;
-              ty =
-                  Syntax.tyRef Syntax.erased Syntax.imm (Syntax.tyInt Syntax.w8);
-              ref = λ x. x;
-            },
+            record { pos = 9; ty = Syntax.tyRef Syntax.erased Syntax.imm (Syntax.tyInt Syntax.w8); ref = λ x. x },
             (
               record { pos = 15; ty = Syntax.tyRef Syntax.erased Syntax.mut (Syntax.tyInt Syntax.w16); ref = λ x. x },
               (
                 record { pos = 17; ty = Syntax.tyRef Syntax.erased Syntax.mut Element.behind; ref = λ x. x },
                 (
-                  record {
-                    pos = 19;
-                    ty = Syntax.tyRef Syntax.erased Syntax.mut (Syntax.tyInt Syntax.w16);
-                    ref =
-                        λ x. x;
-                  },
+                  record { pos = 19; ty = Syntax.tyRef Syntax.erased Syntax.mut (Syntax.tyInt Syntax.w16); ref = λ x. x },
                   (
                     record { pos = 6; st = List.[]; d = 0; at = λ x. x },
                     (
-                      record {
-                        pos = 20;
-                        ty = Syntax.tyRef Syntax.erased Syntax.imm (Syntax.tyArray (Syntax.tyInt Syntax.w16) 768);
-                        ref = λ x. x;
-                      },
+                      record { pos = 20; ty = Syntax.tyRef Syntax.erased Syntax.imm (Syntax.tyArray (Syntax.tyInt Syntax.w16) 768); ref = λ x. x },
                       (record { pos = 21; st = List.[]; d = 0; at = λ x. x }, (record { pos = 22; st = List.[]; d = 0; at = λ x. x }, (Num.vAt 7 λ x. x, tt))),
                     ),
                   ),
@@ -4507,8 +2407,8 @@ module _ (claims· : Claims) where
               ),
             ),
           ),
-        ) (m22 (before· .before)
-            (After-no-part·gave before·))
+        ) (m22 (before· .before) (After-no-part·gave
+            before·))
 
       pub record After-walk : Type 0 where
         pub before : After-no-part
@@ -4519,23 +2419,13 @@ module _ (claims· : Claims) where
       After-walk·gave = λ c. Called.given ps·6 r·6 (claims· .13) T27 (
         record { pos = 8; ty = Syntax.tyRef Syntax.erased Syntax.imm (Syntax.tyInt Syntax.w8); ref = λ x. x },
         (
-          record {
-            pos = 9;
-            ty =
-                Syntax.tyRef Syntax.erased Syntax.imm (Syntax.tyInt Syntax.w8);
-            ref = λ x. x;
-          },
+          record { pos = 9; ty = Syntax.tyRef Syntax.erased Syntax.imm (Syntax.tyInt Syntax.w8); ref = λ x. x },
           (
             record { pos = 15; ty = Syntax.tyRef Syntax.erased Syntax.mut (Syntax.tyInt Syntax.w16); ref = λ x. x },
             (
               record { pos = 17; ty = Syntax.tyRef Syntax.erased Syntax.mut Element.behind; ref = λ x. x },
               (
-                record {
-                  pos = 19;
-                  ty = Syntax.tyRef Syntax.erased Syntax.mut (Syntax.tyInt Syntax.w16);
-                  ref = λ
-                      x. x;
-                },
+                record { pos = 19; ty = Syntax.tyRef Syntax.erased Syntax.mut (Syntax.tyInt Syntax.w16); ref = λ x. x },
                 (
                   record { pos = 6; st = List.[]; d = 0; at = λ x. x },
                   (
@@ -4547,8 +2437,8 @@ module _ (claims· : Claims) where
             ),
           ),
         ),
-      ) (m22 (c .before .before)
-          (After-no-part·gave (c .before))) (c .walk)
+      ) (m22 (c .before .before) (After-no-part·gave (c
+          .before))) (c .walk)
 
       abbrev pub m24 : (before : After-no-part) → (given : s26 (before .before .before .before .before .before .before .before .before .before .before .before .before .blocks) .gives (m22 (before
           .before) (After-no-part·gave before))) → Typed.Mo T29
@@ -4647,17 +2537,9 @@ module _ (claims· : Claims) where
         abbrev pub After-tight-answer·own : Type 0
         After-tight-answer·own = Called.Called ps·7 r·7 (claims· .15) T47 (
           record { pos = 8; ty = Syntax.tyRef Syntax.erased Syntax.imm (Syntax.tyInt Syntax.w8); ref = λ x. x },
-          (
-            record {
-              pos = 6;
-              st = List.[];
-              d = 0;
-              at = λ x. x;
-            },
-            (Num.vAt 3 λ x. x, (Num.vAt 7 λ x. x, (record { pos = 12; st = List.[]; d = 0; at = λ x. x }, tt))),
-          ),
-        ) (m34 (before· .before) (before· .nothing2
-            .given))
+          (record { pos = 6; st = List.[]; d = 0; at = λ x. x }, (Num.vAt 3 λ x. x, (Num.vAt 7 λ x. x, (record { pos = 12; st = List.[]; d = 0; at = λ x. x }, tt)))),
+        ) (m34 (before· .before) (before·
+            .nothing2 .given))
 
       pub record After-tight-answer : Type 0 where
         pub before : After-nothing2
@@ -4667,18 +2549,9 @@ module _ (claims· : Claims) where
           .before .before .before .blocks) .gives (m34 (c .before .before) (c .before .nothing2 .given))
       After-tight-answer·gave = λ c. Called.given ps·7 r·7 (claims· .15) T47 (
         record { pos = 8; ty = Syntax.tyRef Syntax.erased Syntax.imm (Syntax.tyInt Syntax.w8); ref = λ x. x },
-        (
-          record {
-            pos =
-                6;
-            st = List.[];
-            d = 0;
-            at = λ x. x;
-          },
-          (Num.vAt 3 λ x. x, (Num.vAt 7 λ x. x, (record { pos = 12; st = List.[]; d = 0; at = λ x. x }, tt))),
-        ),
-      ) (m34 (c .before .before) (c .before .nothing2
-          .given)) (c .tight-answer)
+        (record { pos = 6; st = List.[]; d = 0; at = λ x. x }, (Num.vAt 3 λ x. x, (Num.vAt 7 λ x. x, (record { pos = 12; st = List.[]; d = 0; at = λ x. x }, tt)))),
+      ) (m34 (c .before .before) (c .before
+          .nothing2 .given)) (c .tight-answer)
 
       abbrev pub m36 : (before : After-nothing2) → (given : s46 (before .before .before .before .before .before .before .before .before .before .before .before .before .before .before .before .before
           .before .blocks) .gives (m34 (before .before) (before .nothing2 .given))) → Typed.Mo T49
@@ -4742,19 +2615,15 @@ module _ (claims· : Claims) where
               (
                 tt,
                 (
-                  MutSlice.fix-len (Row.get 4 (T53 .locals) (m40 (c .before) (After-tight-answer·gave c)) .ptr) (Row.get 4 (T53 .locals) (m40 (c .before)
-                      (After-tight-answer·gave c)) .name) (Row.get 4 (T53 .locals) (m40 (c .before) (After-tight-answer·gave c)) .now) (dens (c .before .before .before .before .before .before .before .before
-                      .before .before .before .before .before .before .before .before .before .before .κs) (c .before .before .before .before .before .before .before .before .before .before .before .before .before
-                      .before .before .before .before .before .args) .1 .1 .1 .0 .now) (same-length record { before = c .before; tight-answer = c .tight-answer }),
+                  MutSlice.fix-len (Row.get 4 (T53 .locals) (m40 (c .before) (After-tight-answer·gave c)) .ptr) (Row.get 4 (T53 .locals) (m40 (c .before) (After-tight-answer·gave c)) .name) (Row.get 4 (T53
+                      .locals) (m40 (c .before) (After-tight-answer·gave c)) .now) (dens (c .before .before .before .before .before .before .before .before .before .before .before .before .before .before .before
+                      .before .before .before .κs) (c .before .before .before .before .before .before .before .before .before .before .before .before .before .before .before .before .before .before .args) .1 .1 .1
+                      .0 .now) (same-length record { before = c .before; tight-answer = c .tight-answer }),
                   (
-                    MutSlice.fix-len (Row.get 5 (T53 .locals) (m40
-                        (c .before) (After-tight-answer·gave c)) .ptr) (Row.get 5 (T53 .locals) (m40 (c .before) (After-tight-answer·gave c)) .name) (Row.get 5 (T53 .locals) (m40 (c .before) (After-tight-answer·gave
-                        c)) .now) (dens (c .before .before .before .before .before .before .before .before .before .before .before .before .before .before .before .before .before .before .κs) (c .before .before
-                        .before .before .before .before .before .before .before .before .before .before .before .before .before .before .before .before .args) .1 .1 .1 .1 .0 .now) (same-length-2 record {
-                          before = c
-                              .before;
-                          tight-answer = c .tight-answer;
-                        }),
+                    MutSlice.fix-len (Row.get 5 (T53 .locals) (m40 (c .before) (After-tight-answer·gave c)) .ptr) (Row.get 5 (T53 .locals) (m40 (c .before) (After-tight-answer·gave c)) .name) (Row.get 5 (T53
+                        .locals) (m40 (c .before) (After-tight-answer·gave c)) .now) (dens (c .before .before .before .before .before .before .before .before .before .before .before .before .before .before .before
+                        .before .before .before .κs) (c .before .before .before .before .before .before .before .before .before .before .before .before .before .before .before .before .before .before .args) .1 .1 .1
+                        .1 .0 .now) (same-length-2 record { before = c .before; tight-answer = c .tight-answer }),
                     tt,
                   ),
                 ),
@@ -4776,67 +2645,34 @@ module _ (claims· : Claims) where
               λ g'3. (
                 tight-answer-requires record {
                   before = record {
-                    before = record {
-                      before = record {
-                        before = record {
-                          before =
-                              c .before;
-                          walk = c .walk;
-                        };
-                        lines = record { given = g };
-                      };
-                      slice-known2 = record { given = g' };
+                    before = record { before = record { before = record { before = c .before; walk = c .walk }; lines = record { given = g } }; slice-known2 = record { given = g' } };
+                    rs = record {
+                      given =
+                          g'';
                     };
-                    rs = record { given = g'' };
                   };
                   nothing2 = record { given = g'3 };
                 },
                 λ g'4. lay8 record {
                   before = record {
                     before = record {
-                      before = record {
-                        before = record { before = record { before = c .before; walk = c .walk }; lines = record { given = g } };
-                        slice-known2 = record {
-                          given
-                              = g';
-                        };
+                      before = record { before = record { before = record { before = c .before; walk = c .walk }; lines = record { given = g } }; slice-known2 = record { given = g' } };
+                      rs = record {
+                        given =
+                            g'';
                       };
-                      rs = record { given = g'' };
                     };
                     nothing2 = record { given = g'3 };
                   };
                   tight-answer = Called.called ps·7 r·7 (claims· .15) T47 (
-                    record {
-                      pos = 8;
-                      ty = Syntax.tyRef Syntax.erased
-                          Syntax.imm (Syntax.tyInt Syntax.w8);
-                      ref = λ x. x;
-                    },
-                    (
-                      record { pos = 6; st = List.[]; d = 0; at = λ x. x },
-                      (
-                        Num.vAt 3 λ x. x,
-                        (
-                          Num.vAt 7 λ x. x,
-                          (
-                            record {
-                              pos = 12;
-                              st = List.[];
-                              d = 0;
-                              at = λ x. x;
-                            },
-                            tt,
-                          ),
-                        ),
-                      ),
-                    ),
+                    record { pos = 8; ty = Syntax.tyRef Syntax.erased Syntax.imm (Syntax.tyInt Syntax.w8); ref = λ x. x },
+                    (record { pos = 6; st = List.[]; d = 0; at = λ x. x }, (Num.vAt 3 λ x. x, (Num.vAt 7 λ x. x, (record { pos = 12; st = List.[]; d = 0; at = λ x. x }, tt)))),
                   ) (m34 record {
-                    before = record {
-                      before = record { before = record { before = c .before; walk = c .walk }; lines = record { given = g } };
-                      slice-known2 = record
-                          { given = g' };
+                    before = record { before = record { before = record { before = c .before; walk = c .walk }; lines = record { given = g } }; slice-known2 = record { given = g' } };
+                    rs = record {
+                      given =
+                          g'';
                     };
-                    rs = record { given = g'' };
                   } g'3) g'4;
                 },
               ),
@@ -4851,54 +2687,28 @@ module _ (claims· : Claims) where
           walk-requires record { before = c .before; no-part = c .no-part },
           λ g. lay7 record {
             before = record { before = c .before; no-part = c .no-part };
-            walk = Called.called ps·6 r·6
-                (claims· .13) T27 (
-                  record { pos = 8; ty = Syntax.tyRef Syntax.erased Syntax.imm (Syntax.tyInt Syntax.w8); ref = λ x. x },
+            walk = Called.called ps·6 r·6 (claims· .13) T27 (
+              record { pos = 8; ty = Syntax.tyRef Syntax.erased Syntax.imm (Syntax.tyInt Syntax.w8); ref = λ x. x },
+              (
+                record { pos = 9; ty = Syntax.tyRef Syntax.erased Syntax.imm (Syntax.tyInt Syntax.w8); ref = λ x. x },
+                (
+                  record { pos = 15; ty = Syntax.tyRef Syntax.erased Syntax.mut (Syntax.tyInt Syntax.w16); ref = λ x. x },
                   (
-                    record {
-                      pos = 9;
-                      ty = Syntax.tyRef Syntax.erased Syntax.imm
-                          (Syntax.tyInt Syntax.w8);
-                      ref = λ x. x;
-                    },
+                    record { pos = 17; ty = Syntax.tyRef Syntax.erased Syntax.mut Element.behind; ref = λ x. x },
                     (
-                      record { pos = 15; ty = Syntax.tyRef Syntax.erased Syntax.mut (Syntax.tyInt Syntax.w16); ref = λ x. x },
+                      record { pos = 19; ty = Syntax.tyRef Syntax.erased Syntax.mut (Syntax.tyInt Syntax.w16); ref = λ x. x },
                       (
-                        record {
-                          pos = 17;
-                          ty = Syntax.tyRef
-                              Syntax.erased Syntax.mut Element.behind;
-                          ref = λ x. x;
-                        },
+                        record { pos = 6; st = List.[]; d = 0; at = λ x. x },
                         (
-                          record { pos = 19; ty = Syntax.tyRef Syntax.erased Syntax.mut (Syntax.tyInt Syntax.w16); ref = λ x. x },
-                          (
-                            record {
-                              pos = 6;
-                              st =
-                                  List.[];
-                              d = 0;
-                              at = λ x. x;
-                            },
-                            (
-                              record { pos = 20; ty = Syntax.tyRef Syntax.erased Syntax.imm (Syntax.tyArray (Syntax.tyInt Syntax.w16) 768); ref = λ x. x },
-                              (
-                                record {
-                                  pos = 21;
-                                  st =
-                                      List.[];
-                                  d = 0;
-                                  at = λ x. x;
-                                },
-                                (record { pos = 22; st = List.[]; d = 0; at = λ x. x }, (Num.vAt 7 λ x. x, tt)),
-                              ),
-                            ),
-                          ),
+                          record { pos = 20; ty = Syntax.tyRef Syntax.erased Syntax.imm (Syntax.tyArray (Syntax.tyInt Syntax.w16) 768); ref = λ x. x },
+                          (record { pos = 21; st = List.[]; d = 0; at = λ x. x }, (record { pos = 22; st = List.[]; d = 0; at = λ x. x }, (Num.vAt 7 λ x. x, tt))),
                         ),
                       ),
                     ),
                   ),
-                ) (m22 (c .before) (After-no-part·gave c)) g;
+                ),
+              ),
+            ) (m22 (c .before) (After-no-part·gave c)) g;
           },
         )
 
@@ -4909,40 +2719,16 @@ module _ (claims· : Claims) where
           λ g'. (
             Path'.refl,
             λ g''. (
-              Relend.count-is T21 18 19 (λ x. x) (λ u. 1) (m17 record {
-                before = record {
-                  before = record {
-                    before = c .before;
-                    xtrans-places = c
-                        .xtrans-places;
-                  };
-                  walk-arg = record { given = g };
-                };
-                walk-arg2 = record { given = g' };
-              } g'') (slice-aggregate-walk record {
-                before = record {
-                  before = record {
-                    before = record {
-                      before = c
-                          .before;
-                      xtrans-places = c .xtrans-places;
-                    };
-                    walk-arg = record { given = g };
-                  };
-                  walk-arg2 = record { given = g' };
-                };
-                nothing = record { given = g'' };
-              }),
+              Relend.count-is T21 18 19 (λ x. x) (λ u. 1) (m17 record
+                  { before = record { before = record { before = c .before; xtrans-places = c .xtrans-places }; walk-arg = record { given = g } }; walk-arg2 = record { given = g' } } g'')
+                  (slice-aggregate-walk record {
+                    before = record { before = record { before = record { before = c .before; xtrans-places = c .xtrans-places }; walk-arg = record { given = g } }; walk-arg2 = record { given = g' } };
+                    nothing = record { given = g'' };
+                  }),
               λ g'3. (
                 no-part-requires record {
                   before = record {
-                    before = record {
-                      before = record { before = record { before = c .before; xtrans-places = c .xtrans-places }; walk-arg = record { given = g } };
-                      walk-arg2 = record {
-                        given =
-                            g';
-                      };
-                    };
+                    before = record { before = record { before = record { before = c .before; xtrans-places = c .xtrans-places }; walk-arg = record { given = g } }; walk-arg2 = record { given = g' } };
                     nothing = record { given = g'' };
                   };
                   places = record { given = g'3 };
@@ -4950,31 +2736,13 @@ module _ (claims· : Claims) where
                 λ g'4. lay6 record {
                   before = record {
                     before = record {
-                      before = record {
-                        before = record {
-                          before = record {
-                            before = c .before;
-                            xtrans-places = c .xtrans-places;
-                          };
-                          walk-arg = record { given = g };
-                        };
-                        walk-arg2 = record { given = g' };
-                      };
+                      before = record { before = record { before = record { before = c .before; xtrans-places = c .xtrans-places }; walk-arg = record { given = g } }; walk-arg2 = record { given = g' } };
                       nothing = record { given = g'' };
                     };
-                    places = record {
-                      given
-                          = g'3;
-                    };
+                    places = record { given = g'3 };
                   };
                   no-part = Called.called ps·5 r·5 (claims· .11) T26 tt (m21 record {
-                    before = record {
-                      before = record {
-                        before = record { before = c .before; xtrans-places = c .xtrans-places };
-                        walk-arg = record { given = g };
-                      };
-                      walk-arg2 = record { given = g' };
-                    };
+                    before = record { before = record { before = record { before = c .before; xtrans-places = c .xtrans-places }; walk-arg = record { given = g } }; walk-arg2 = record { given = g' } };
                     nothing = record { given = g'' };
                   } g'3) g'4;
                 },
@@ -4987,11 +2755,8 @@ module _ (claims· : Claims) where
             .before .before .args) (c .before .before .before .before .before .before .blocks)) (m7 (c .before) (After-base-row·gave c))
         lay4 = λ c. (
           xtrans-places-requires record { before = c .before; base-row = c .base-row },
-          λ g. lay5 record {
-            before = record { before = c .before; base-row = c .base-row };
-            xtrans-places =
-                Called.called ps·4 r·4 (claims· .9) T8 tt (m7 (c .before) (After-base-row·gave c)) g;
-          },
+          λ g. lay5 record
+              { before = record { before = c .before; base-row = c .base-row }; xtrans-places = Called.called ps·4 r·4 (claims· .9) T8 tt (m7 (c .before) (After-base-row·gave c)) g },
         )
 
         lay3 : (c : After-block-bytes) → at46 (c .before .before .before .before .before .blocks) (W0 (c .before .before .before .before .before .κs) (c .before .before .before .before .before .args)
@@ -5000,9 +2765,8 @@ module _ (claims· : Claims) where
           base-row-requires record { before = c .before; block-bytes = c .block-bytes },
           λ g. lay4 record {
             before = record { before = c .before; block-bytes = c .block-bytes };
-            base-row =
-                Called.called ps·3 r·3 (claims· .7) T7 (record { pos = 1; ty = Syntax.tyRef (Syntax.named 0) Syntax.imm (Syntax.tyInt Syntax.w8); ref = λ x. x }, (Num.vAt 3 λ x. x, tt)) (m6 (c .before)
-                (After-block-bytes·gave c)) g;
+            base-row = Called.called ps·3 r·3 (claims· .7) T7
+                (record { pos = 1; ty = Syntax.tyRef (Syntax.named 0) Syntax.imm (Syntax.tyInt Syntax.w8); ref = λ x. x }, (Num.vAt 3 λ x. x, tt)) (m6 (c .before) (After-block-bytes·gave c)) g;
           },
         )
 
@@ -5012,9 +2776,8 @@ module _ (claims· : Claims) where
           block-bytes-requires record { before = c .before; line-count = c .line-count },
           λ g. lay3 record {
             before = record { before = c .before; line-count = c .line-count };
-            block-bytes
-                = Called.called ps·2 r·2 (claims· .5) T6 (record { pos = 1; ty = Syntax.tyRef (Syntax.named 0) Syntax.imm (Syntax.tyInt Syntax.w8); ref = λ x. x }, (Num.vAt 3 λ x. x, tt)) (m5 (c .before)
-                (After-line-count·gave c)) g;
+            block-bytes = Called.called ps·2 r·2 (claims· .5) T6
+                (record { pos = 1; ty = Syntax.tyRef (Syntax.named 0) Syntax.imm (Syntax.tyInt Syntax.w8); ref = λ x. x }, (Num.vAt 3 λ x. x, tt)) (m5 (c .before) (After-line-count·gave c)) g;
           },
         )
 
@@ -5024,8 +2787,8 @@ module _ (claims· : Claims) where
           line-count-requires record { before = c .before; form-of = c .form-of },
           λ g. lay2 record {
             before = record { before = c .before; form-of = c .form-of };
-            line-count =
-                Called.called ps·1 r·1 (claims· .3) T4 (record { pos = 2; st = List.[]; d = 0; at = λ x. x }, tt) (m3 (c .before) (After-form-of·gave c)) g;
+            line-count = Called.called ps·1 r·1 (claims· .3) T4 (record { pos = 2; st = List.[]; d = 0; at = λ x. x }, tt) (m3 (c .before)
+                (After-form-of·gave c)) g;
           },
         )
 
@@ -5034,15 +2797,8 @@ module _ (claims· : Claims) where
           form-of-requires record { before = record { before = c; shared-slice-known = record { given = g } }; slice-known = record { given = g' } },
           λ g''. lay1 record {
             before = record { before = record { before = c; shared-slice-known = record { given = g } }; slice-known = record { given = g' } };
-            form-of = Called.called ps·0 r·0 (claims· .1) T3 (
-              record {
-                pos = 2;
-                st = List.[];
-                d = 0;
-                at = λ x. x;
-              },
-              tt,
-            ) (m2 record { before = c; shared-slice-known = record { given = g } } g') g'';
+            form-of = Called.called ps·0 r·0 (claims· .1) T3
+                (record { pos = 2; st = List.[]; d = 0; at = λ x. x }, tt) (m2 record { before = c; shared-slice-known = record { given = g } } g') g'';
           },
         )
 
@@ -5054,8 +2810,12 @@ module _ (claims· : Claims) where
             args = record { d = a .0; h = a .1 .0; b = a .1 .1 .0; lines = a .1 .1 .1 .0; rs = a .1 .1 .1 .1 .0 };
             blocks = bs;
             good = good;
-            fits =
-                record { b = record { fits = good .1 .1 .0 .1 } };
+            fits = record {
+              b = record {
+                fits = good .1 .1 .0
+                    .1;
+              };
+            };
             pre = pre;
           }
 

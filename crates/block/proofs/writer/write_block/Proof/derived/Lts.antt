@@ -74,6 +74,27 @@ use prog.Wp
 use types.Kit
 use types.Run
 
+abbrev pub y0 : Syntax.Ty
+y0 = Syntax.tyStruct (List._∷_ 115 (List._∷_ 116 (List._∷_ 114 (List._∷_ 101 (List._∷_ 97 (List._∷_ 109 (List._∷_ 58 (List._∷_ 58 (List._∷_ 70 (List._∷_ 117 (List._∷_ 106 (List._∷_ 105 (List._∷_ 72
+    (List._∷_ 101 (List._∷_ 97 (List._∷_ 100 (List._∷_ 101 (List._∷_ 114 List.[])))))))))))))))))) (Syntax.tcons Syntax.tyBool (Syntax.tcons Syntax.tyBool (Syntax.tcons (Syntax.tyInt Syntax.w32)
+    (Syntax.tcons (Syntax.tyInt Syntax.w32) (Syntax.tcons (Syntax.tyInt Syntax.w32) (Syntax.tcons (Syntax.tyInt Syntax.w32) (Syntax.tcons (Syntax.tyInt Syntax.w32) (Syntax.tcons (Syntax.tyInt Syntax.w32)
+    (Syntax.tcons (Syntax.tyInt Syntax.w32) Syntax.tnil)))))))))
+
+abbrev pub y1 : Syntax.Ty
+y1 = Syntax.tyStruct (List._∷_ 38 (List._∷_ 91 (List._∷_ 93 List.[]))) (Syntax.tcons (Syntax.tyRef Syntax.erased Syntax.mut (Syntax.tyInt Syntax.w16)) (Syntax.tcons (Syntax.tyInt Syntax.w64)
+    Syntax.tnil))
+
+abbrev pub y2 : Syntax.Ty
+y2 = Syntax.tyStruct (List._∷_ 38 (List._∷_ 91 (List._∷_ 93 List.[]))) (Syntax.tcons (Syntax.tyRef Syntax.erased Syntax.mut (Syntax.tyInt Syntax.w8)) (Syntax.tcons (Syntax.tyInt Syntax.w64)
+    Syntax.tnil))
+
+abbrev pub y3 : Syntax.Ty
+y3 = Syntax.tyStruct (List._∷_ 38 (List._∷_ 91 (List._∷_ 93 List.[]))) (Syntax.tcons (Syntax.tyRef Syntax.erased Syntax.mut Element.behind) (Syntax.tcons (Syntax.tyInt Syntax.w64) Syntax.tnil))
+
+abbrev pub y4 : Syntax.Ty
+y4 = Syntax.tyStruct (List._∷_ 98 (List._∷_ 108 (List._∷_ 111 (List._∷_ 99 (List._∷_ 107 (List._∷_ 58 (List._∷_ 58 (List._∷_ 70 (List._∷_ 111 (List._∷_ 114 (List._∷_ 109 List.[])))))))))))
+    (Syntax.tcons (Syntax.tyInt Syntax.w32) (Syntax.tcons Syntax.tyBool Syntax.tnil))
+
 abbrev pub ps : List.List (Kinds.PK 5)
 ps = List._∷_ (ShrSlice.pShrS (Referent.rtF (Referent.fInt Syntax.w8)) 0 tt) (List._∷_ (ShrSlice.pShrS (Referent.rtF (Referent.fInt Syntax.w16)) 1 tt) (List._∷_ (MutSlice.pMutS (Referent.rtF
     (Referent.fInt Syntax.w8)) 2 tt) (List._∷_ (MutSlice.pMutS (Referent.rtF (Referent.fInt Syntax.w16)) 3 tt) (List._∷_ (MutSlice.pMutS (Element.type) 4 tt) List.[]))))
@@ -84,42 +105,33 @@ r = Value.rVal record {
   one = Path'.refl;
   val = Laws'5.val Written.the-type Laws'.the-laws;
   tells = Laws'5.tells Written.the-type Laws'.the-laws;
-  still =
-      Laws'5.still Written.the-type Laws'.the-copy Exit.yes;
+  still = Laws'5.still Written.the-type
+      Laws'.the-copy Exit.yes;
   row = Rows.whole (Declared.row Written.the-type);
   rd = λ x. x;
   mk = λ x. x;
 } λ M 𝓤 H A W. record {
-  copies = Laws'5.copy Written.the-type
-      Laws'.the-copy 𝓤 H A W;
+  copies = Laws'5.copy Written.the-type Laws'.the-copy 𝓤 H A W;
   lawful = Laws'5.lawful Written.the-type Laws'.the-laws 𝓤 H A W tt;
   makes = Laws'5.makes Written.the-type Laws'.the-plain 𝓤 H A;
-  in-mem = Local.mem-whole 𝓤 H A W (Declared.row
-      Written.the-type);
+  in-mem =
+      Local.mem-whole 𝓤 H A W (Declared.row Written.the-type);
   of-mem = Local.whole-mem 𝓤 H A W (Declared.row Written.the-type);
 }
 
 abbrev pub xs : List.List Syntax.Ty
 xs = List._∷_ (Syntax.tyEnum (List._∷_ 115 (List._∷_ 116 (List._∷_ 114 (List._∷_ 101 (List._∷_ 97 (List._∷_ 109 (List._∷_ 58 (List._∷_ 58 (List._∷_ 80 (List._∷_ 97 (List._∷_ 114 (List._∷_ 115
-    (List._∷_ 101 (List._∷_ 100 List.[])))))))))))))) (Syntax.ttcons (Syntax.tcons (Syntax.tyStruct (List._∷_ 115 (List._∷_ 116 (List._∷_ 114 (List._∷_ 101 (List._∷_ 97 (List._∷_ 109 (List._∷_ 58
-    (List._∷_ 58 (List._∷_ 70 (List._∷_ 117 (List._∷_ 106 (List._∷_ 105 (List._∷_ 72 (List._∷_ 101 (List._∷_ 97 (List._∷_ 100 (List._∷_ 101 (List._∷_ 114 List.[])))))))))))))))))) (Syntax.tcons
-    Syntax.tyBool (Syntax.tcons Syntax.tyBool (Syntax.tcons (Syntax.tyInt Syntax.w32) (Syntax.tcons (Syntax.tyInt Syntax.w32) (Syntax.tcons (Syntax.tyInt Syntax.w32) (Syntax.tcons (Syntax.tyInt
-    Syntax.w32) (Syntax.tcons (Syntax.tyInt Syntax.w32) (Syntax.tcons (Syntax.tyInt Syntax.w32) (Syntax.tcons (Syntax.tyInt Syntax.w32) Syntax.tnil)))))))))) Syntax.tnil) (Syntax.ttcons (Syntax.tcons
-    (Syntax.tyEnum (List._∷_ 115 (List._∷_ 116 (List._∷_ 114 (List._∷_ 101 (List._∷_ 97 (List._∷_ 109 (List._∷_ 58 (List._∷_ 58 (List._∷_ 82 (List._∷_ 101 (List._∷_ 102 (List._∷_ 117 (List._∷_ 115
-    (List._∷_ 97 (List._∷_ 108 List.[]))))))))))))))) (Syntax.ttcons Syntax.tnil (Syntax.ttcons Syntax.tnil (Syntax.ttcons Syntax.tnil (Syntax.ttcons (Syntax.tcons (Syntax.tyInt Syntax.w64) Syntax.tnil)
-    (Syntax.ttcons Syntax.tnil (Syntax.ttcons Syntax.tnil (Syntax.ttcons Syntax.tnil (Syntax.ttcons Syntax.tnil (Syntax.ttcons Syntax.tnil (Syntax.ttcons Syntax.tnil (Syntax.ttcons (Syntax.tcons
-    (Syntax.tyInt Syntax.w64) Syntax.tnil) (Syntax.ttcons (Syntax.tcons (Syntax.tyInt Syntax.w64) Syntax.tnil) (Syntax.ttcons Syntax.tnil (Syntax.ttcons (Syntax.tcons (Syntax.tyInt Syntax.w64)
-    (Syntax.tcons (Syntax.tyInt Syntax.w64) Syntax.tnil)) (Syntax.ttcons (Syntax.tcons (Syntax.tyInt Syntax.w64) Syntax.tnil) Syntax.ttnil)))))))))))))))) Syntax.tnil) Syntax.ttnil))) (List._∷_
-    (Syntax.tyEnum (List._∷_ 115 (List._∷_ 116 (List._∷_ 114 (List._∷_ 101 (List._∷_ 97 (List._∷_ 109 (List._∷_ 58 (List._∷_ 58 (List._∷_ 82 (List._∷_ 101 (List._∷_ 102 (List._∷_ 117 (List._∷_ 115
-    (List._∷_ 97 (List._∷_ 108 List.[]))))))))))))))) (Syntax.ttcons Syntax.tnil (Syntax.ttcons Syntax.tnil (Syntax.ttcons Syntax.tnil (Syntax.ttcons (Syntax.tcons (Syntax.tyInt Syntax.w64) Syntax.tnil)
-    (Syntax.ttcons Syntax.tnil (Syntax.ttcons Syntax.tnil (Syntax.ttcons Syntax.tnil (Syntax.ttcons Syntax.tnil (Syntax.ttcons Syntax.tnil (Syntax.ttcons Syntax.tnil (Syntax.ttcons (Syntax.tcons
-    (Syntax.tyInt Syntax.w64) Syntax.tnil) (Syntax.ttcons (Syntax.tcons (Syntax.tyInt Syntax.w64) Syntax.tnil) (Syntax.ttcons Syntax.tnil (Syntax.ttcons (Syntax.tcons (Syntax.tyInt Syntax.w64)
-    (Syntax.tcons (Syntax.tyInt Syntax.w64) Syntax.tnil)) (Syntax.ttcons (Syntax.tcons (Syntax.tyInt Syntax.w64) Syntax.tnil) Syntax.ttnil)))))))))))))))) (List._∷_ (Syntax.tyStruct (List._∷_ 115
-    (List._∷_ 116 (List._∷_ 114 (List._∷_ 101 (List._∷_ 97 (List._∷_ 109 (List._∷_ 58 (List._∷_ 58 (List._∷_ 70 (List._∷_ 117 (List._∷_ 106 (List._∷_ 105 (List._∷_ 72 (List._∷_ 101 (List._∷_ 97 (List._∷_
-    100 (List._∷_ 101 (List._∷_ 114 List.[])))))))))))))))))) (Syntax.tcons Syntax.tyBool (Syntax.tcons Syntax.tyBool (Syntax.tcons (Syntax.tyInt Syntax.w32) (Syntax.tcons (Syntax.tyInt Syntax.w32)
-    (Syntax.tcons (Syntax.tyInt Syntax.w32) (Syntax.tcons (Syntax.tyInt Syntax.w32) (Syntax.tcons (Syntax.tyInt Syntax.w32) (Syntax.tcons (Syntax.tyInt Syntax.w32) (Syntax.tcons (Syntax.tyInt Syntax.w32)
-    Syntax.tnil)))))))))) (List._∷_ (Syntax.tyInt Syntax.w64) (List._∷_ (Syntax.tyStruct (List._∷_ 98 (List._∷_ 108 (List._∷_ 111 (List._∷_ 99 (List._∷_ 107 (List._∷_ 58 (List._∷_ 58 (List._∷_ 70
-    (List._∷_ 111 (List._∷_ 114 (List._∷_ 109 List.[]))))))))))) (Syntax.tcons (Syntax.tyInt Syntax.w32) (Syntax.tcons Syntax.tyBool Syntax.tnil))) (List._∷_ (Syntax.tyInt Syntax.w64) (List._∷_
+    (List._∷_ 101 (List._∷_ 100 List.[])))))))))))))) (Syntax.ttcons (Syntax.tcons y0 Syntax.tnil) (Syntax.ttcons (Syntax.tcons (Syntax.tyEnum (List._∷_ 115 (List._∷_ 116 (List._∷_ 114 (List._∷_ 101
+    (List._∷_ 97 (List._∷_ 109 (List._∷_ 58 (List._∷_ 58 (List._∷_ 82 (List._∷_ 101 (List._∷_ 102 (List._∷_ 117 (List._∷_ 115 (List._∷_ 97 (List._∷_ 108 List.[]))))))))))))))) (Syntax.ttcons Syntax.tnil
+    (Syntax.ttcons Syntax.tnil (Syntax.ttcons Syntax.tnil (Syntax.ttcons (Syntax.tcons (Syntax.tyInt Syntax.w64) Syntax.tnil) (Syntax.ttcons Syntax.tnil (Syntax.ttcons Syntax.tnil (Syntax.ttcons
+    Syntax.tnil (Syntax.ttcons Syntax.tnil (Syntax.ttcons Syntax.tnil (Syntax.ttcons Syntax.tnil (Syntax.ttcons (Syntax.tcons (Syntax.tyInt Syntax.w64) Syntax.tnil) (Syntax.ttcons (Syntax.tcons
+    (Syntax.tyInt Syntax.w64) Syntax.tnil) (Syntax.ttcons Syntax.tnil (Syntax.ttcons (Syntax.tcons (Syntax.tyInt Syntax.w64) (Syntax.tcons (Syntax.tyInt Syntax.w64) Syntax.tnil)) (Syntax.ttcons
+    (Syntax.tcons (Syntax.tyInt Syntax.w64) Syntax.tnil) Syntax.ttnil)))))))))))))))) Syntax.tnil) Syntax.ttnil))) (List._∷_ (Syntax.tyEnum (List._∷_ 115 (List._∷_ 116 (List._∷_ 114 (List._∷_ 101
+    (List._∷_ 97 (List._∷_ 109 (List._∷_ 58 (List._∷_ 58 (List._∷_ 82 (List._∷_ 101 (List._∷_ 102 (List._∷_ 117 (List._∷_ 115 (List._∷_ 97 (List._∷_ 108 List.[]))))))))))))))) (Syntax.ttcons Syntax.tnil
+    (Syntax.ttcons Syntax.tnil (Syntax.ttcons Syntax.tnil (Syntax.ttcons (Syntax.tcons (Syntax.tyInt Syntax.w64) Syntax.tnil) (Syntax.ttcons Syntax.tnil (Syntax.ttcons Syntax.tnil (Syntax.ttcons
+    Syntax.tnil (Syntax.ttcons Syntax.tnil (Syntax.ttcons Syntax.tnil (Syntax.ttcons Syntax.tnil (Syntax.ttcons (Syntax.tcons (Syntax.tyInt Syntax.w64) Syntax.tnil) (Syntax.ttcons (Syntax.tcons
+    (Syntax.tyInt Syntax.w64) Syntax.tnil) (Syntax.ttcons Syntax.tnil (Syntax.ttcons (Syntax.tcons (Syntax.tyInt Syntax.w64) (Syntax.tcons (Syntax.tyInt Syntax.w64) Syntax.tnil)) (Syntax.ttcons
+    (Syntax.tcons (Syntax.tyInt Syntax.w64) Syntax.tnil) Syntax.ttnil)))))))))))))))) (List._∷_ y0 (List._∷_ (Syntax.tyInt Syntax.w64) (List._∷_ y4 (List._∷_ (Syntax.tyInt Syntax.w64) (List._∷_
     (Syntax.tyInt Syntax.w64) (List._∷_ (Syntax.tyInt Syntax.w64) (List._∷_ (Syntax.tyInt Syntax.w64) (List._∷_ (Syntax.tyEnum (List._∷_ 98 (List._∷_ 108 (List._∷_ 111 (List._∷_ 99 (List._∷_ 107 (List._∷_
     58 (List._∷_ 58 (List._∷_ 87 (List._∷_ 114 (List._∷_ 105 (List._∷_ 116 (List._∷_ 116 (List._∷_ 101 (List._∷_ 110 List.[])))))))))))))) (Syntax.ttcons (Syntax.tcons (Syntax.tyInt Syntax.w64)
     Syntax.tnil) (Syntax.ttcons (Syntax.tcons (Syntax.tyEnum (List._∷_ 115 (List._∷_ 116 (List._∷_ 114 (List._∷_ 101 (List._∷_ 97 (List._∷_ 109 (List._∷_ 58 (List._∷_ 58 (List._∷_ 82 (List._∷_ 101
@@ -127,12 +139,9 @@ xs = List._∷_ (Syntax.tyEnum (List._∷_ 115 (List._∷_ 116 (List._∷_ 114 (
     (Syntax.tcons (Syntax.tyInt Syntax.w64) Syntax.tnil) (Syntax.ttcons Syntax.tnil (Syntax.ttcons Syntax.tnil (Syntax.ttcons Syntax.tnil (Syntax.ttcons Syntax.tnil (Syntax.ttcons Syntax.tnil
     (Syntax.ttcons Syntax.tnil (Syntax.ttcons (Syntax.tcons (Syntax.tyInt Syntax.w64) Syntax.tnil) (Syntax.ttcons (Syntax.tcons (Syntax.tyInt Syntax.w64) Syntax.tnil) (Syntax.ttcons Syntax.tnil
     (Syntax.ttcons (Syntax.tcons (Syntax.tyInt Syntax.w64) (Syntax.tcons (Syntax.tyInt Syntax.w64) Syntax.tnil)) (Syntax.ttcons (Syntax.tcons (Syntax.tyInt Syntax.w64) Syntax.tnil)
-    Syntax.ttnil)))))))))))))))) Syntax.tnil) Syntax.ttnil))) (List._∷_ (Syntax.tyRef Syntax.erased Syntax.mut (Syntax.tyInt Syntax.w8)) (List._∷_ (Syntax.tyStruct (List._∷_ 38 (List._∷_ 91 (List._∷_ 93
-    List.[]))) (Syntax.tcons (Syntax.tyRef Syntax.erased Syntax.mut (Syntax.tyInt Syntax.w8)) (Syntax.tcons (Syntax.tyInt Syntax.w64) Syntax.tnil))) (List._∷_ Syntax.tyPtr (List._∷_ (Syntax.tyInt
-    Syntax.w64) (List._∷_ (Syntax.tyRef Syntax.erased Syntax.mut (Syntax.tyInt Syntax.w16)) (List._∷_ (Syntax.tyStruct (List._∷_ 38 (List._∷_ 91 (List._∷_ 93 List.[]))) (Syntax.tcons (Syntax.tyRef
-    Syntax.erased Syntax.mut (Syntax.tyInt Syntax.w16)) (Syntax.tcons (Syntax.tyInt Syntax.w64) Syntax.tnil))) (List._∷_ Syntax.tyPtr (List._∷_ (Syntax.tyInt Syntax.w64) (List._∷_ (Syntax.tyRef
-    Syntax.erased Syntax.mut Element.behind) (List._∷_ (Syntax.tyStruct (List._∷_ 38 (List._∷_ 91 (List._∷_ 93 List.[]))) (Syntax.tcons (Syntax.tyRef Syntax.erased Syntax.mut Element.behind) (Syntax.tcons
-    (Syntax.tyInt Syntax.w64) Syntax.tnil))) List.[])))))))))))))))))))
+    Syntax.ttnil)))))))))))))))) Syntax.tnil) Syntax.ttnil))) (List._∷_ (Syntax.tyRef Syntax.erased Syntax.mut (Syntax.tyInt Syntax.w8)) (List._∷_ y2 (List._∷_ Syntax.tyPtr (List._∷_ (Syntax.tyInt
+    Syntax.w64) (List._∷_ (Syntax.tyRef Syntax.erased Syntax.mut (Syntax.tyInt Syntax.w16)) (List._∷_ y1 (List._∷_ Syntax.tyPtr (List._∷_ (Syntax.tyInt Syntax.w64) (List._∷_ (Syntax.tyRef Syntax.erased
+    Syntax.mut Element.behind) (List._∷_ y3 List.[])))))))))))))))))))
 
 abbrev pub m : Nat.ℕ
 m = 3
@@ -146,18 +155,17 @@ r·0 = Value.rVal record {
   one = Path'.refl;
   val = Laws'5.val Parsed.the-type Laws'3.the-laws;
   tells = Laws'5.tells Parsed.the-type Laws'3.the-laws;
-  still =
-      Laws'5.still Parsed.the-type Laws'3.the-copy Exit.yes;
+  still = Laws'5.still Parsed.the-type
+      Laws'3.the-copy Exit.yes;
   row = Rows.whole (Declared.row Parsed.the-type);
   rd = λ x. x;
   mk = λ x. x;
 } λ M 𝓤 H A W. record {
-  copies = Laws'5.copy Parsed.the-type
-      Laws'3.the-copy 𝓤 H A W;
+  copies = Laws'5.copy Parsed.the-type Laws'3.the-copy 𝓤 H A W;
   lawful = Laws'5.lawful Parsed.the-type Laws'3.the-laws 𝓤 H A W tt;
   makes = Laws'5.makes Parsed.the-type Laws'3.the-plain 𝓤 H A;
-  in-mem = Local.mem-whole 𝓤 H A W (Declared.row
-      Parsed.the-type);
+  in-mem =
+      Local.mem-whole 𝓤 H A W (Declared.row Parsed.the-type);
   of-mem = Local.whole-mem 𝓤 H A W (Declared.row Parsed.the-type);
 }
 
@@ -172,19 +180,17 @@ ps·2 = List._∷_ (Value.pVal record {
   ty = Declared'.row FujiHeader.the-type;
   one = Path'.refl;
   val = Laws'6.val FujiHeader.the-type Laws''.the-laws;
-  tells = Laws'6.tells FujiHeader.the-type
-      Laws''.the-laws;
-  still = Laws'6.still FujiHeader.the-type Laws''.the-copy Exit.yes;
+  tells = Laws'6.tells FujiHeader.the-type Laws''.the-laws;
+  still = Laws'6.still
+      FujiHeader.the-type Laws''.the-copy Exit.yes;
   row = Rows.whole (Declared'.row FujiHeader.the-type);
   rd = λ x. x;
   mk = λ x. x;
 } λ M 𝓤 H A W. record {
-  copies =
-      Laws'6.copy FujiHeader.the-type Laws''.the-copy 𝓤 H A W;
+  copies = Laws'6.copy FujiHeader.the-type Laws''.the-copy 𝓤 H A W;
   lawful = Laws'6.lawful FujiHeader.the-type Laws''.the-laws 𝓤 H A W;
   makes = Laws'6.makes FujiHeader.the-type Laws''.the-plain 𝓤 H A;
-  in-mem =
-      Local.mem-whole 𝓤 H A W (Declared'.row FujiHeader.the-type);
+  in-mem = Local.mem-whole 𝓤 H A W (Declared'.row FujiHeader.the-type);
   of-mem = Local.whole-mem 𝓤 H A W (Declared'.row FujiHeader.the-type);
 }) List.[]
 
@@ -194,19 +200,18 @@ r·2 = Value.rVal record {
   one = Path'.refl;
   val = Laws'6.val Form.the-type Laws.the-laws;
   tells = Laws'6.tells Form.the-type Laws.the-laws;
-  still = Laws'6.still
-      Form.the-type Laws.the-copy Exit.yes;
+  still = Laws'6.still Form.the-type Laws.the-copy
+      Exit.yes;
   row = Rows.whole (Declared'.row Form.the-type);
   rd = λ x. x;
   mk = λ x. x;
 } λ M 𝓤 H A W. record {
   copies = Laws'6.copy Form.the-type Laws.the-copy 𝓤 H A W;
-  lawful
-      = Laws'6.lawful Form.the-type Laws.the-laws 𝓤 H A W;
+  lawful = Laws'6.lawful Form.the-type Laws.the-laws 𝓤 H A W;
   makes = Laws'6.makes Form.the-type Laws.the-plain 𝓤 H A;
-  in-mem = Local.mem-whole 𝓤 H A W (Declared'.row Form.the-type);
-  of-mem = Local.whole-mem 𝓤
-      H A W (Declared'.row Form.the-type);
+  in-mem =
+      Local.mem-whole 𝓤 H A W (Declared'.row Form.the-type);
+  of-mem = Local.whole-mem 𝓤 H A W (Declared'.row Form.the-type);
 }
 
 abbrev pub ps·3 : List.List (Kinds.PK 0)
@@ -214,19 +219,17 @@ ps·3 = List._∷_ (Value.pVal record {
   ty = Declared'.row FujiHeader.the-type;
   one = Path'.refl;
   val = Laws'6.val FujiHeader.the-type Laws''.the-laws;
-  tells = Laws'6.tells FujiHeader.the-type
-      Laws''.the-laws;
-  still = Laws'6.still FujiHeader.the-type Laws''.the-copy Exit.yes;
+  tells = Laws'6.tells FujiHeader.the-type Laws''.the-laws;
+  still = Laws'6.still
+      FujiHeader.the-type Laws''.the-copy Exit.yes;
   row = Rows.whole (Declared'.row FujiHeader.the-type);
   rd = λ x. x;
   mk = λ x. x;
 } λ M 𝓤 H A W. record {
-  copies =
-      Laws'6.copy FujiHeader.the-type Laws''.the-copy 𝓤 H A W;
+  copies = Laws'6.copy FujiHeader.the-type Laws''.the-copy 𝓤 H A W;
   lawful = Laws'6.lawful FujiHeader.the-type Laws''.the-laws 𝓤 H A W;
   makes = Laws'6.makes FujiHeader.the-type Laws''.the-plain 𝓤 H A;
-  in-mem =
-      Local.mem-whole 𝓤 H A W (Declared'.row FujiHeader.the-type);
+  in-mem = Local.mem-whole 𝓤 H A W (Declared'.row FujiHeader.the-type);
   of-mem = Local.whole-mem 𝓤 H A W (Declared'.row FujiHeader.the-type);
 }) List.[]
 
@@ -238,19 +241,19 @@ ps·4 = List._∷_ (ShrSlice.pShrS (Referent.rtF (Referent.fInt Syntax.w16)) 0 t
     (Referent.fInt Syntax.w16)) 2 tt) (List._∷_ (MutSlice.pMutS (Element.type) 3 tt) (List._∷_ (Value.pVal record {
       ty = Declared'.row Form.the-type;
       one = Path'.refl;
-      val = Laws'6.val Form.the-type
-          Laws.the-laws;
+      val = Laws'6.val Form.the-type Laws.the-laws;
       tells = Laws'6.tells Form.the-type Laws.the-laws;
-      still = Laws'6.still Form.the-type Laws.the-copy Exit.yes;
+      still = Laws'6.still Form.the-type Laws.the-copy
+          Exit.yes;
       row = Rows.whole (Declared'.row Form.the-type);
       rd = λ x. x;
       mk = λ x. x;
-    }
-    λ M 𝓤 H A W. record {
+    } λ M 𝓤 H A W. record {
       copies = Laws'6.copy Form.the-type Laws.the-copy 𝓤 H A W;
       lawful = Laws'6.lawful Form.the-type Laws.the-laws 𝓤 H A W;
       makes = Laws'6.makes Form.the-type Laws.the-plain 𝓤 H A;
-      in-mem = Local.mem-whole 𝓤 H A W (Declared'.row Form.the-type);
+      in-mem =
+          Local.mem-whole 𝓤 H A W (Declared'.row Form.the-type);
       of-mem = Local.whole-mem 𝓤 H A W (Declared'.row Form.the-type);
     }) (List._∷_ (Num.pNum Syntax.w64) List.[])))))
 
@@ -260,18 +263,17 @@ r·4 = Value.rVal record {
   one = Path'.refl;
   val = Laws'5.val Written.the-type Laws'.the-laws;
   tells = Laws'5.tells Written.the-type Laws'.the-laws;
-  still =
-      Laws'5.still Written.the-type Laws'.the-copy Exit.yes;
+  still = Laws'5.still Written.the-type
+      Laws'.the-copy Exit.yes;
   row = Rows.whole (Declared.row Written.the-type);
   rd = λ x. x;
   mk = λ x. x;
 } λ M 𝓤 H A W. record {
-  copies = Laws'5.copy Written.the-type
-      Laws'.the-copy 𝓤 H A W;
+  copies = Laws'5.copy Written.the-type Laws'.the-copy 𝓤 H A W;
   lawful = Laws'5.lawful Written.the-type Laws'.the-laws 𝓤 H A W tt;
   makes = Laws'5.makes Written.the-type Laws'.the-plain 𝓤 H A;
-  in-mem = Local.mem-whole 𝓤 H A W (Declared.row
-      Written.the-type);
+  in-mem =
+      Local.mem-whole 𝓤 H A W (Declared.row Written.the-type);
   of-mem = Local.whole-mem 𝓤 H A W (Declared.row Written.the-type);
 }
 
@@ -427,2305 +429,378 @@ abbrev pub Claims : Type 1
 Claims = Kinds.In 1 ps·0 × Kinds.Out 1 ps·0 r·0 × Kinds.In 0 ps·1 × Kinds.Out 0 ps·1 r·1 × Kinds.In 0 ps·2 × Kinds.Out 0 ps·2 r·2 × Kinds.In 0 ps·3 × Kinds.Out 0 ps·3 r·3 × Kinds.In 4 ps·4 × Kinds.Out
     4 ps·4 r·4
 
-abbrev pub t0 : List.List Row.Entry
-t0 = List._∷_ (
+abbrev pub e0 : Row.Entry
+e0 = (
   0,
-  Rows.any-gone (Syntax.tyEnum (List._∷_ 98 (List._∷_ 108 (List._∷_ 111 (List._∷_ 99 (List._∷_ 107 (List._∷_ 58 (List._∷_ 58 (List._∷_ 87 (List._∷_ 114 (List._∷_ 105 (List._∷_ 116
-      (List._∷_ 116 (List._∷_ 101 (List._∷_ 110 List.[])))))))))))))) (Syntax.ttcons (Syntax.tcons (Syntax.tyInt Syntax.w64) Syntax.tnil) (Syntax.ttcons (Syntax.tcons (Syntax.tyEnum (List._∷_ 115 (List._∷_
-      116 (List._∷_ 114 (List._∷_ 101 (List._∷_ 97 (List._∷_ 109 (List._∷_ 58 (List._∷_ 58 (List._∷_ 82 (List._∷_ 101 (List._∷_ 102 (List._∷_ 117 (List._∷_ 115 (List._∷_ 97 (List._∷_ 108
-      List.[]))))))))))))))) (Syntax.ttcons Syntax.tnil (Syntax.ttcons Syntax.tnil (Syntax.ttcons Syntax.tnil (Syntax.ttcons (Syntax.tcons (Syntax.tyInt Syntax.w64) Syntax.tnil) (Syntax.ttcons Syntax.tnil
-      (Syntax.ttcons Syntax.tnil (Syntax.ttcons Syntax.tnil (Syntax.ttcons Syntax.tnil (Syntax.ttcons Syntax.tnil (Syntax.ttcons Syntax.tnil (Syntax.ttcons (Syntax.tcons (Syntax.tyInt Syntax.w64)
-      Syntax.tnil) (Syntax.ttcons (Syntax.tcons (Syntax.tyInt Syntax.w64) Syntax.tnil) (Syntax.ttcons Syntax.tnil (Syntax.ttcons (Syntax.tcons (Syntax.tyInt Syntax.w64) (Syntax.tcons (Syntax.tyInt
-      Syntax.w64) Syntax.tnil)) (Syntax.ttcons (Syntax.tcons (Syntax.tyInt Syntax.w64) Syntax.tnil) Syntax.ttnil)))))))))))))))) Syntax.tnil) Syntax.ttnil))),
-) (List._∷_ (
-  1,
-  Rows.sslice (Referent.rtF
-      (Referent.fInt Syntax.w8)) (Syntax.tyRef (Syntax.named 0) Syntax.imm (Syntax.tyInt Syntax.w8)) 0,
-) (List._∷_ (
-  2,
-  Rows.sslice (Referent.rtF (Referent.fInt Syntax.w16)) (Syntax.tyRef (Syntax.named 1)
-      Syntax.imm (Syntax.tyInt Syntax.w16)) 1,
-) (List._∷_ (3, Mut.mslice (Referent.rtF (Referent.fInt Syntax.w8)) (Syntax.tyRef (Syntax.named 2) Syntax.mut (Syntax.tyInt Syntax.w8)) 2) (List._∷_ (
-  4,
-  Mut.mslice (Referent.rtF (Referent.fInt Syntax.w16)) (Syntax.tyRef (Syntax.named 3) Syntax.mut (Syntax.tyInt Syntax.w16)) 3,
-) (List._∷_ (
-  5,
-  Mut.mslice (Element.type) (Syntax.tyRef (Syntax.named 4)
-      Syntax.mut Element.behind) 4,
-) (List._∷_ (
-  6,
-  Rows.any-gone (Syntax.tyEnum (List._∷_ 115 (List._∷_ 116 (List._∷_ 114 (List._∷_ 101 (List._∷_ 97 (List._∷_ 109 (List._∷_ 58 (List._∷_ 58 (List._∷_ 80
-      (List._∷_ 97 (List._∷_ 114 (List._∷_ 115 (List._∷_ 101 (List._∷_ 100 List.[])))))))))))))) (Syntax.ttcons (Syntax.tcons (Syntax.tyStruct (List._∷_ 115 (List._∷_ 116 (List._∷_ 114 (List._∷_ 101
-      (List._∷_ 97 (List._∷_ 109 (List._∷_ 58 (List._∷_ 58 (List._∷_ 70 (List._∷_ 117 (List._∷_ 106 (List._∷_ 105 (List._∷_ 72 (List._∷_ 101 (List._∷_ 97 (List._∷_ 100 (List._∷_ 101 (List._∷_ 114
-      List.[])))))))))))))))))) (Syntax.tcons Syntax.tyBool (Syntax.tcons Syntax.tyBool (Syntax.tcons (Syntax.tyInt Syntax.w32) (Syntax.tcons (Syntax.tyInt Syntax.w32) (Syntax.tcons (Syntax.tyInt
-      Syntax.w32) (Syntax.tcons (Syntax.tyInt Syntax.w32) (Syntax.tcons (Syntax.tyInt Syntax.w32) (Syntax.tcons (Syntax.tyInt Syntax.w32) (Syntax.tcons (Syntax.tyInt Syntax.w32) Syntax.tnil))))))))))
-      Syntax.tnil) (Syntax.ttcons (Syntax.tcons (Syntax.tyEnum (List._∷_ 115 (List._∷_ 116 (List._∷_ 114 (List._∷_ 101 (List._∷_ 97 (List._∷_ 109 (List._∷_ 58 (List._∷_ 58 (List._∷_ 82 (List._∷_ 101
-      (List._∷_ 102 (List._∷_ 117 (List._∷_ 115 (List._∷_ 97 (List._∷_ 108 List.[]))))))))))))))) (Syntax.ttcons Syntax.tnil (Syntax.ttcons Syntax.tnil (Syntax.ttcons Syntax.tnil (Syntax.ttcons
-      (Syntax.tcons (Syntax.tyInt Syntax.w64) Syntax.tnil) (Syntax.ttcons Syntax.tnil (Syntax.ttcons Syntax.tnil (Syntax.ttcons Syntax.tnil (Syntax.ttcons Syntax.tnil (Syntax.ttcons Syntax.tnil
-      (Syntax.ttcons Syntax.tnil (Syntax.ttcons (Syntax.tcons (Syntax.tyInt Syntax.w64) Syntax.tnil) (Syntax.ttcons (Syntax.tcons (Syntax.tyInt Syntax.w64) Syntax.tnil) (Syntax.ttcons Syntax.tnil
-      (Syntax.ttcons (Syntax.tcons (Syntax.tyInt Syntax.w64) (Syntax.tcons (Syntax.tyInt Syntax.w64) Syntax.tnil)) (Syntax.ttcons (Syntax.tcons (Syntax.tyInt Syntax.w64) Syntax.tnil)
-      Syntax.ttnil)))))))))))))))) Syntax.tnil) Syntax.ttnil))),
-) (List._∷_ (
-  7,
-  Rows.any-gone (Syntax.tyEnum (List._∷_ 115 (List._∷_ 116 (List._∷_ 114 (List._∷_ 101 (List._∷_ 97 (List._∷_ 109 (List._∷_ 58
-      (List._∷_ 58 (List._∷_ 82 (List._∷_ 101 (List._∷_ 102 (List._∷_ 117 (List._∷_ 115 (List._∷_ 97 (List._∷_ 108 List.[]))))))))))))))) (Syntax.ttcons Syntax.tnil (Syntax.ttcons Syntax.tnil (Syntax.ttcons
-      Syntax.tnil (Syntax.ttcons (Syntax.tcons (Syntax.tyInt Syntax.w64) Syntax.tnil) (Syntax.ttcons Syntax.tnil (Syntax.ttcons Syntax.tnil (Syntax.ttcons Syntax.tnil (Syntax.ttcons Syntax.tnil
-      (Syntax.ttcons Syntax.tnil (Syntax.ttcons Syntax.tnil (Syntax.ttcons (Syntax.tcons (Syntax.tyInt Syntax.w64) Syntax.tnil) (Syntax.ttcons (Syntax.tcons (Syntax.tyInt Syntax.w64) Syntax.tnil)
-      (Syntax.ttcons Syntax.tnil (Syntax.ttcons (Syntax.tcons (Syntax.tyInt Syntax.w64) (Syntax.tcons (Syntax.tyInt Syntax.w64) Syntax.tnil)) (Syntax.ttcons (Syntax.tcons (Syntax.tyInt Syntax.w64)
-      Syntax.tnil) Syntax.ttnil)))))))))))))))),
-) (List._∷_ (
-  8,
-  Rows.any-gone (Syntax.tyStruct (List._∷_ 115 (List._∷_ 116 (List._∷_ 114 (List._∷_ 101 (List._∷_ 97 (List._∷_ 109 (List._∷_ 58 (List._∷_ 58
-      (List._∷_ 70 (List._∷_ 117 (List._∷_ 106 (List._∷_ 105 (List._∷_ 72 (List._∷_ 101 (List._∷_ 97 (List._∷_ 100 (List._∷_ 101 (List._∷_ 114 List.[])))))))))))))))))) (Syntax.tcons Syntax.tyBool
-      (Syntax.tcons Syntax.tyBool (Syntax.tcons (Syntax.tyInt Syntax.w32) (Syntax.tcons (Syntax.tyInt Syntax.w32) (Syntax.tcons (Syntax.tyInt Syntax.w32) (Syntax.tcons (Syntax.tyInt Syntax.w32)
-      (Syntax.tcons (Syntax.tyInt Syntax.w32) (Syntax.tcons (Syntax.tyInt Syntax.w32) (Syntax.tcons (Syntax.tyInt Syntax.w32) Syntax.tnil)))))))))),
-) (List._∷_ (9, Rows.any-gone (Syntax.tyInt Syntax.w64))
-    (List._∷_ (
-      10,
-      Rows.any-gone (Syntax.tyStruct (List._∷_ 98 (List._∷_ 108 (List._∷_ 111 (List._∷_ 99 (List._∷_ 107 (List._∷_ 58 (List._∷_ 58 (List._∷_ 70 (List._∷_ 111 (List._∷_ 114 (List._∷_ 109
-          List.[]))))))))))) (Syntax.tcons (Syntax.tyInt Syntax.w32) (Syntax.tcons Syntax.tyBool Syntax.tnil))),
-    ) (List._∷_ (11, Rows.any-gone (Syntax.tyInt Syntax.w64)) (List._∷_ (
-      12,
-      Rows.any-gone
-          (Syntax.tyInt Syntax.w64),
-    ) (List._∷_ (13, Rows.any-gone (Syntax.tyInt Syntax.w64)) (List._∷_ (14, Rows.any-gone (Syntax.tyInt Syntax.w64)) (List._∷_ (
-      15,
-      Rows.any-gone (Syntax.tyEnum (List._∷_
-          98 (List._∷_ 108 (List._∷_ 111 (List._∷_ 99 (List._∷_ 107 (List._∷_ 58 (List._∷_ 58 (List._∷_ 87 (List._∷_ 114 (List._∷_ 105 (List._∷_ 116 (List._∷_ 116 (List._∷_ 101 (List._∷_ 110
-          List.[])))))))))))))) (Syntax.ttcons (Syntax.tcons (Syntax.tyInt Syntax.w64) Syntax.tnil) (Syntax.ttcons (Syntax.tcons (Syntax.tyEnum (List._∷_ 115 (List._∷_ 116 (List._∷_ 114 (List._∷_ 101 (List._∷_
-          97 (List._∷_ 109 (List._∷_ 58 (List._∷_ 58 (List._∷_ 82 (List._∷_ 101 (List._∷_ 102 (List._∷_ 117 (List._∷_ 115 (List._∷_ 97 (List._∷_ 108 List.[]))))))))))))))) (Syntax.ttcons Syntax.tnil
-          (Syntax.ttcons Syntax.tnil (Syntax.ttcons Syntax.tnil (Syntax.ttcons (Syntax.tcons (Syntax.tyInt Syntax.w64) Syntax.tnil) (Syntax.ttcons Syntax.tnil (Syntax.ttcons Syntax.tnil (Syntax.ttcons
-          Syntax.tnil (Syntax.ttcons Syntax.tnil (Syntax.ttcons Syntax.tnil (Syntax.ttcons Syntax.tnil (Syntax.ttcons (Syntax.tcons (Syntax.tyInt Syntax.w64) Syntax.tnil) (Syntax.ttcons (Syntax.tcons
-          (Syntax.tyInt Syntax.w64) Syntax.tnil) (Syntax.ttcons Syntax.tnil (Syntax.ttcons (Syntax.tcons (Syntax.tyInt Syntax.w64) (Syntax.tcons (Syntax.tyInt Syntax.w64) Syntax.tnil)) (Syntax.ttcons
-          (Syntax.tcons (Syntax.tyInt Syntax.w64) Syntax.tnil) Syntax.ttnil)))))))))))))))) Syntax.tnil) Syntax.ttnil))),
-    ) List.[])))))))))))))))
+  Rows.any-gone (Syntax.tyEnum (List._∷_ 98 (List._∷_ 108 (List._∷_ 111 (List._∷_ 99 (List._∷_ 107 (List._∷_ 58 (List._∷_ 58 (List._∷_ 87 (List._∷_ 114 (List._∷_ 105 (List._∷_ 116 (List._∷_ 116
+      (List._∷_ 101 (List._∷_ 110 List.[])))))))))))))) (Syntax.ttcons (Syntax.tcons (Syntax.tyInt Syntax.w64) Syntax.tnil) (Syntax.ttcons (Syntax.tcons (Syntax.tyEnum (List._∷_ 115 (List._∷_ 116 (List._∷_
+      114 (List._∷_ 101 (List._∷_ 97 (List._∷_ 109 (List._∷_ 58 (List._∷_ 58 (List._∷_ 82 (List._∷_ 101 (List._∷_ 102 (List._∷_ 117 (List._∷_ 115 (List._∷_ 97 (List._∷_ 108 List.[])))))))))))))))
+      (Syntax.ttcons Syntax.tnil (Syntax.ttcons Syntax.tnil (Syntax.ttcons Syntax.tnil (Syntax.ttcons (Syntax.tcons (Syntax.tyInt Syntax.w64) Syntax.tnil) (Syntax.ttcons Syntax.tnil (Syntax.ttcons
+      Syntax.tnil (Syntax.ttcons Syntax.tnil (Syntax.ttcons Syntax.tnil (Syntax.ttcons Syntax.tnil (Syntax.ttcons Syntax.tnil (Syntax.ttcons (Syntax.tcons (Syntax.tyInt Syntax.w64) Syntax.tnil)
+      (Syntax.ttcons (Syntax.tcons (Syntax.tyInt Syntax.w64) Syntax.tnil) (Syntax.ttcons Syntax.tnil (Syntax.ttcons (Syntax.tcons (Syntax.tyInt Syntax.w64) (Syntax.tcons (Syntax.tyInt Syntax.w64)
+      Syntax.tnil)) (Syntax.ttcons (Syntax.tcons (Syntax.tyInt Syntax.w64) Syntax.tnil) Syntax.ttnil)))))))))))))))) Syntax.tnil) Syntax.ttnil))),
+)
 
-abbrev pub t1 : List.List Row.Entry
-t1 = List._∷_ (16, Rows.any-gone (Syntax.tyRef Syntax.erased Syntax.mut (Syntax.tyInt Syntax.w8))) (List._∷_ (
-  17,
-  Rows.any-gone (Syntax.tyStruct (List._∷_ 38 (List._∷_ 91 (List._∷_ 93 List.[])))
-      (Syntax.tcons (Syntax.tyRef Syntax.erased Syntax.mut (Syntax.tyInt Syntax.w8)) (Syntax.tcons (Syntax.tyInt Syntax.w64) Syntax.tnil))),
-) (List._∷_ (18, Rows.any-gone Syntax.tyPtr) (List._∷_ (
-  19,
-  Rows.any-gone (Syntax.tyInt Syntax.w64),
-) (List._∷_ (20, Rows.any-gone (Syntax.tyRef Syntax.erased Syntax.mut (Syntax.tyInt Syntax.w16))) (List._∷_ (
-  21,
-  Rows.any-gone (Syntax.tyStruct (List._∷_
-      38 (List._∷_ 91 (List._∷_ 93 List.[]))) (Syntax.tcons (Syntax.tyRef Syntax.erased Syntax.mut (Syntax.tyInt Syntax.w16)) (Syntax.tcons (Syntax.tyInt Syntax.w64) Syntax.tnil))),
-) (List._∷_ (
-  22,
-  Rows.any-gone Syntax.tyPtr,
-) (List._∷_ (23, Rows.any-gone (Syntax.tyInt Syntax.w64)) (List._∷_ (24, Rows.any-gone (Syntax.tyRef Syntax.erased Syntax.mut Element.behind)) (List._∷_ (
-  25,
-  Rows.any-gone (Syntax.tyStruct (List._∷_ 38 (List._∷_ 91 (List._∷_ 93 List.[]))) (Syntax.tcons (Syntax.tyRef Syntax.erased Syntax.mut Element.behind) (Syntax.tcons (Syntax.tyInt Syntax.w64)
-      Syntax.tnil))),
-) List.[])))))))))
+abbrev pub e1 : Row.Entry
+e1 = (0, Rows.whole (Declared.row Written.the-type))
 
-abbrev pub t2 : List.List Row.Entry
-t2 = List._∷_ (0, Rows.whole (Declared.row Written.the-type)) (List._∷_ (
-  1,
-  Rows.sslice (Referent.rtF (Referent.fInt Syntax.w8)) (Syntax.tyRef (Syntax.named 0) Syntax.imm (Syntax.tyInt Syntax.w8)) 0,
-) (List._∷_ (2, Rows.sslice (Referent.rtF (Referent.fInt Syntax.w16)) (Syntax.tyRef (Syntax.named 1) Syntax.imm (Syntax.tyInt Syntax.w16)) 1) (List._∷_ (
-  3,
-  Mut.mslice (Referent.rtF (Referent.fInt
-      Syntax.w8)) (Syntax.tyRef (Syntax.named 2) Syntax.mut (Syntax.tyInt Syntax.w8)) 2,
-) (List._∷_ (
-  4,
-  Mut.mslice (Referent.rtF (Referent.fInt Syntax.w16)) (Syntax.tyRef (Syntax.named 3) Syntax.mut
-      (Syntax.tyInt Syntax.w16)) 3,
-) (List._∷_ (5, Mut.mslice (Element.type) (Syntax.tyRef (Syntax.named 4) Syntax.mut Element.behind) 4) (List._∷_ (
+abbrev pub e2 : Row.Entry
+e2 = (1, Rows.sslice (Referent.rtF (Referent.fInt Syntax.w8)) (Syntax.tyRef (Syntax.named 0) Syntax.imm (Syntax.tyInt Syntax.w8)) 0)
+
+abbrev pub e3 : Row.Entry
+e3 = (10, Rows.any-gone y4)
+
+abbrev pub e4 : Row.Entry
+e4 = (10, Rows.whole (Declared'.row Form.the-type))
+
+abbrev pub e5 : Row.Entry
+e5 = (11, Rows.any-gone (Syntax.tyInt Syntax.w64))
+
+abbrev pub e6 : Row.Entry
+e6 = (11, Rows.sc-here (Row.sInt Syntax.w64))
+
+abbrev pub e7 : Row.Entry
+e7 = (12, Rows.any-gone (Syntax.tyInt Syntax.w64))
+
+abbrev pub e8 : Row.Entry
+e8 = (12, Rows.sc-here (Row.sInt Syntax.w64))
+
+abbrev pub e9 : Row.Entry
+e9 = (13, Rows.any-gone (Syntax.tyInt Syntax.w64))
+
+abbrev pub e10 : Row.Entry
+e10 = (13, Rows.sc-here (Row.sInt Syntax.w64))
+
+abbrev pub e11 : Row.Entry
+e11 = (14, Rows.any-gone (Syntax.tyInt Syntax.w64))
+
+abbrev pub e12 : Row.Entry
+e12 = (14, Rows.sc-here (Row.sInt Syntax.w64))
+
+abbrev pub e13 : Row.Entry
+e13 = (
+  15,
+  Rows.any-gone (Syntax.tyEnum (List._∷_ 98 (List._∷_ 108 (List._∷_ 111 (List._∷_ 99 (List._∷_ 107 (List._∷_ 58 (List._∷_ 58 (List._∷_ 87 (List._∷_ 114 (List._∷_ 105 (List._∷_ 116 (List._∷_ 116
+      (List._∷_ 101 (List._∷_ 110 List.[])))))))))))))) (Syntax.ttcons (Syntax.tcons (Syntax.tyInt Syntax.w64) Syntax.tnil) (Syntax.ttcons (Syntax.tcons (Syntax.tyEnum (List._∷_ 115 (List._∷_ 116 (List._∷_
+      114 (List._∷_ 101 (List._∷_ 97 (List._∷_ 109 (List._∷_ 58 (List._∷_ 58 (List._∷_ 82 (List._∷_ 101 (List._∷_ 102 (List._∷_ 117 (List._∷_ 115 (List._∷_ 97 (List._∷_ 108 List.[])))))))))))))))
+      (Syntax.ttcons Syntax.tnil (Syntax.ttcons Syntax.tnil (Syntax.ttcons Syntax.tnil (Syntax.ttcons (Syntax.tcons (Syntax.tyInt Syntax.w64) Syntax.tnil) (Syntax.ttcons Syntax.tnil (Syntax.ttcons
+      Syntax.tnil (Syntax.ttcons Syntax.tnil (Syntax.ttcons Syntax.tnil (Syntax.ttcons Syntax.tnil (Syntax.ttcons Syntax.tnil (Syntax.ttcons (Syntax.tcons (Syntax.tyInt Syntax.w64) Syntax.tnil)
+      (Syntax.ttcons (Syntax.tcons (Syntax.tyInt Syntax.w64) Syntax.tnil) (Syntax.ttcons Syntax.tnil (Syntax.ttcons (Syntax.tcons (Syntax.tyInt Syntax.w64) (Syntax.tcons (Syntax.tyInt Syntax.w64)
+      Syntax.tnil)) (Syntax.ttcons (Syntax.tcons (Syntax.tyInt Syntax.w64) Syntax.tnil) Syntax.ttnil)))))))))))))))) Syntax.tnil) Syntax.ttnil))),
+)
+
+abbrev pub e14 : Row.Entry
+e14 = (15, Rows.whole (Declared.row Written.the-type))
+
+abbrev pub e15 : Row.Entry
+e15 = (16, Rows.any-gone (Syntax.tyRef Syntax.erased Syntax.mut (Syntax.tyInt Syntax.w8)))
+
+abbrev pub e16 : Row.Entry
+e16 = (17, Mut.mslice (Referent.rtF (Referent.fInt Syntax.w8)) (Syntax.tyRef Syntax.erased Syntax.mut (Syntax.tyInt Syntax.w8)) 5)
+
+abbrev pub e17 : Row.Entry
+e17 = (17, Rows.any-gone y2)
+
+abbrev pub e18 : Row.Entry
+e18 = (18, Rows.any-gone Syntax.tyPtr)
+
+abbrev pub e19 : Row.Entry
+e19 = (18, Rows.sc-here Row.sPtr)
+
+abbrev pub e20 : Row.Entry
+e20 = (19, Rows.any-gone (Syntax.tyInt Syntax.w64))
+
+abbrev pub e21 : Row.Entry
+e21 = (19, Rows.sc-here (Row.sInt Syntax.w64))
+
+abbrev pub e22 : Row.Entry
+e22 = (2, Rows.sslice (Referent.rtF (Referent.fInt Syntax.w16)) (Syntax.tyRef (Syntax.named 1) Syntax.imm (Syntax.tyInt Syntax.w16)) 1)
+
+abbrev pub e23 : Row.Entry
+e23 = (20, Relend.msptr (Referent.rtF (Referent.fInt Syntax.w16)) (Syntax.tyRef Syntax.erased Syntax.mut (Syntax.tyInt Syntax.w16)) 6)
+
+abbrev pub e24 : Row.Entry
+e24 = (20, Rows.any-gone (Syntax.tyRef Syntax.erased Syntax.mut (Syntax.tyInt Syntax.w16)))
+
+abbrev pub e25 : Row.Entry
+e25 = (21, Mut.msleft (Referent.rtF (Referent.fInt Syntax.w16)) (Syntax.tyRef Syntax.erased Syntax.mut (Syntax.tyInt Syntax.w16)))
+
+abbrev pub e26 : Row.Entry
+e26 = (21, Mut.mslice (Referent.rtF (Referent.fInt Syntax.w16)) (Syntax.tyRef Syntax.erased Syntax.mut (Syntax.tyInt Syntax.w16)) 6)
+
+abbrev pub e27 : Row.Entry
+e27 = (21, Rows.any-gone y1)
+
+abbrev pub e28 : Row.Entry
+e28 = (22, Rows.any-gone Syntax.tyPtr)
+
+abbrev pub e29 : Row.Entry
+e29 = (22, Rows.sc-here Row.sPtr)
+
+abbrev pub e30 : Row.Entry
+e30 = (23, Rows.any-gone (Syntax.tyInt Syntax.w64))
+
+abbrev pub e31 : Row.Entry
+e31 = (23, Rows.sc-here (Row.sInt Syntax.w64))
+
+abbrev pub e32 : Row.Entry
+e32 = (24, Relend.msptr (Element.type) (Syntax.tyRef Syntax.erased Syntax.mut Element.behind) 7)
+
+abbrev pub e33 : Row.Entry
+e33 = (24, Rows.any-gone (Syntax.tyRef Syntax.erased Syntax.mut Element.behind))
+
+abbrev pub e34 : Row.Entry
+e34 = (25, Mut.msleft (Element.type) (Syntax.tyRef Syntax.erased Syntax.mut Element.behind))
+
+abbrev pub e35 : Row.Entry
+e35 = (25, Mut.mslice (Element.type) (Syntax.tyRef Syntax.erased Syntax.mut Element.behind) 7)
+
+abbrev pub e36 : Row.Entry
+e36 = (25, Rows.any-gone y3)
+
+abbrev pub e37 : Row.Entry
+e37 = (3, Mut.mslice (Referent.rtF (Referent.fInt Syntax.w8)) (Syntax.tyRef (Syntax.named 2) Syntax.mut (Syntax.tyInt Syntax.w8)) 2)
+
+abbrev pub e38 : Row.Entry
+e38 = (3, Relend.mslice-owed (Referent.rtF (Referent.fInt Syntax.w8)) (Syntax.tyRef (Syntax.named 2) Syntax.mut (Syntax.tyInt Syntax.w8)) 2 5 Row.off)
+
+abbrev pub e39 : Row.Entry
+e39 = (4, Mut.mslice (Referent.rtF (Referent.fInt Syntax.w16)) (Syntax.tyRef (Syntax.named 3) Syntax.mut (Syntax.tyInt Syntax.w16)) 3)
+
+abbrev pub e40 : Row.Entry
+e40 = (4, PartMut.mslice-owedM (Referent.rtF (Referent.fInt Syntax.w16)) (Syntax.tyRef (Syntax.named 3) Syntax.mut (Syntax.tyInt Syntax.w16)) 3 6 Row.off)
+
+abbrev pub e41 : Row.Entry
+e41 = (5, Mut.mslice (Element.type) (Syntax.tyRef (Syntax.named 4) Syntax.mut Element.behind) 4)
+
+abbrev pub e42 : Row.Entry
+e42 = (5, PartMut.mslice-owedM (Element.type) (Syntax.tyRef (Syntax.named 4) Syntax.mut Element.behind) 4 7 Row.off)
+
+abbrev pub e43 : Row.Entry
+e43 = (
   6,
-  Rows.any-gone (Syntax.tyEnum (List._∷_ 115
-      (List._∷_ 116 (List._∷_ 114 (List._∷_ 101 (List._∷_ 97 (List._∷_ 109 (List._∷_ 58 (List._∷_ 58 (List._∷_ 80 (List._∷_ 97 (List._∷_ 114 (List._∷_ 115 (List._∷_ 101 (List._∷_ 100 List.[]))))))))))))))
-      (Syntax.ttcons (Syntax.tcons (Syntax.tyStruct (List._∷_ 115 (List._∷_ 116 (List._∷_ 114 (List._∷_ 101 (List._∷_ 97 (List._∷_ 109 (List._∷_ 58 (List._∷_ 58 (List._∷_ 70 (List._∷_ 117 (List._∷_ 106
-      (List._∷_ 105 (List._∷_ 72 (List._∷_ 101 (List._∷_ 97 (List._∷_ 100 (List._∷_ 101 (List._∷_ 114 List.[])))))))))))))))))) (Syntax.tcons Syntax.tyBool (Syntax.tcons Syntax.tyBool (Syntax.tcons
-      (Syntax.tyInt Syntax.w32) (Syntax.tcons (Syntax.tyInt Syntax.w32) (Syntax.tcons (Syntax.tyInt Syntax.w32) (Syntax.tcons (Syntax.tyInt Syntax.w32) (Syntax.tcons (Syntax.tyInt Syntax.w32) (Syntax.tcons
-      (Syntax.tyInt Syntax.w32) (Syntax.tcons (Syntax.tyInt Syntax.w32) Syntax.tnil)))))))))) Syntax.tnil) (Syntax.ttcons (Syntax.tcons (Syntax.tyEnum (List._∷_ 115 (List._∷_ 116 (List._∷_ 114 (List._∷_ 101
+  Rows.any-gone (Syntax.tyEnum (List._∷_ 115 (List._∷_ 116 (List._∷_ 114 (List._∷_ 101 (List._∷_ 97 (List._∷_ 109 (List._∷_ 58 (List._∷_ 58 (List._∷_ 80 (List._∷_ 97 (List._∷_ 114 (List._∷_ 115
+      (List._∷_ 101 (List._∷_ 100 List.[])))))))))))))) (Syntax.ttcons (Syntax.tcons y0 Syntax.tnil) (Syntax.ttcons (Syntax.tcons (Syntax.tyEnum (List._∷_ 115 (List._∷_ 116 (List._∷_ 114 (List._∷_ 101
       (List._∷_ 97 (List._∷_ 109 (List._∷_ 58 (List._∷_ 58 (List._∷_ 82 (List._∷_ 101 (List._∷_ 102 (List._∷_ 117 (List._∷_ 115 (List._∷_ 97 (List._∷_ 108 List.[]))))))))))))))) (Syntax.ttcons Syntax.tnil
       (Syntax.ttcons Syntax.tnil (Syntax.ttcons Syntax.tnil (Syntax.ttcons (Syntax.tcons (Syntax.tyInt Syntax.w64) Syntax.tnil) (Syntax.ttcons Syntax.tnil (Syntax.ttcons Syntax.tnil (Syntax.ttcons
       Syntax.tnil (Syntax.ttcons Syntax.tnil (Syntax.ttcons Syntax.tnil (Syntax.ttcons Syntax.tnil (Syntax.ttcons (Syntax.tcons (Syntax.tyInt Syntax.w64) Syntax.tnil) (Syntax.ttcons (Syntax.tcons
       (Syntax.tyInt Syntax.w64) Syntax.tnil) (Syntax.ttcons Syntax.tnil (Syntax.ttcons (Syntax.tcons (Syntax.tyInt Syntax.w64) (Syntax.tcons (Syntax.tyInt Syntax.w64) Syntax.tnil)) (Syntax.ttcons
       (Syntax.tcons (Syntax.tyInt Syntax.w64) Syntax.tnil) Syntax.ttnil)))))))))))))))) Syntax.tnil) Syntax.ttnil))),
-) (List._∷_ (
-  7,
-  Rows.any-gone (Syntax.tyEnum (List._∷_ 115 (List._∷_ 116 (List._∷_ 114
-      (List._∷_ 101 (List._∷_ 97 (List._∷_ 109 (List._∷_ 58 (List._∷_ 58 (List._∷_ 82 (List._∷_ 101 (List._∷_ 102 (List._∷_ 117 (List._∷_ 115 (List._∷_ 97 (List._∷_ 108 List.[]))))))))))))))) (Syntax.ttcons
-      Syntax.tnil (Syntax.ttcons Syntax.tnil (Syntax.ttcons Syntax.tnil (Syntax.ttcons (Syntax.tcons (Syntax.tyInt Syntax.w64) Syntax.tnil) (Syntax.ttcons Syntax.tnil (Syntax.ttcons Syntax.tnil
-      (Syntax.ttcons Syntax.tnil (Syntax.ttcons Syntax.tnil (Syntax.ttcons Syntax.tnil (Syntax.ttcons Syntax.tnil (Syntax.ttcons (Syntax.tcons (Syntax.tyInt Syntax.w64) Syntax.tnil) (Syntax.ttcons
-      (Syntax.tcons (Syntax.tyInt Syntax.w64) Syntax.tnil) (Syntax.ttcons Syntax.tnil (Syntax.ttcons (Syntax.tcons (Syntax.tyInt Syntax.w64) (Syntax.tcons (Syntax.tyInt Syntax.w64) Syntax.tnil))
-      (Syntax.ttcons (Syntax.tcons (Syntax.tyInt Syntax.w64) Syntax.tnil) Syntax.ttnil)))))))))))))))),
-) (List._∷_ (
-  8,
-  Rows.any-gone (Syntax.tyStruct (List._∷_ 115 (List._∷_ 116 (List._∷_ 114 (List._∷_
-      101 (List._∷_ 97 (List._∷_ 109 (List._∷_ 58 (List._∷_ 58 (List._∷_ 70 (List._∷_ 117 (List._∷_ 106 (List._∷_ 105 (List._∷_ 72 (List._∷_ 101 (List._∷_ 97 (List._∷_ 100 (List._∷_ 101 (List._∷_ 114
-      List.[])))))))))))))))))) (Syntax.tcons Syntax.tyBool (Syntax.tcons Syntax.tyBool (Syntax.tcons (Syntax.tyInt Syntax.w32) (Syntax.tcons (Syntax.tyInt Syntax.w32) (Syntax.tcons (Syntax.tyInt
-      Syntax.w32) (Syntax.tcons (Syntax.tyInt Syntax.w32) (Syntax.tcons (Syntax.tyInt Syntax.w32) (Syntax.tcons (Syntax.tyInt Syntax.w32) (Syntax.tcons (Syntax.tyInt Syntax.w32) Syntax.tnil)))))))))),
 )
-    (List._∷_ (9, Rows.any-gone (Syntax.tyInt Syntax.w64)) (List._∷_ (
-      10,
-      Rows.any-gone (Syntax.tyStruct (List._∷_ 98 (List._∷_ 108 (List._∷_ 111 (List._∷_ 99 (List._∷_ 107 (List._∷_ 58 (List._∷_ 58
-          (List._∷_ 70 (List._∷_ 111 (List._∷_ 114 (List._∷_ 109 List.[]))))))))))) (Syntax.tcons (Syntax.tyInt Syntax.w32) (Syntax.tcons Syntax.tyBool Syntax.tnil))),
-    ) (List._∷_ (
-      11,
-      Rows.any-gone
-          (Syntax.tyInt Syntax.w64),
-    ) (List._∷_ (12, Rows.any-gone (Syntax.tyInt Syntax.w64)) (List._∷_ (13, Rows.any-gone (Syntax.tyInt Syntax.w64)) (List._∷_ (14, Rows.any-gone (Syntax.tyInt Syntax.w64))
-    (List._∷_ (
-      15,
-      Rows.any-gone (Syntax.tyEnum (List._∷_ 98 (List._∷_ 108 (List._∷_ 111 (List._∷_ 99 (List._∷_ 107 (List._∷_ 58 (List._∷_ 58 (List._∷_ 87 (List._∷_ 114 (List._∷_ 105 (List._∷_ 116
-          (List._∷_ 116 (List._∷_ 101 (List._∷_ 110 List.[])))))))))))))) (Syntax.ttcons (Syntax.tcons (Syntax.tyInt Syntax.w64) Syntax.tnil) (Syntax.ttcons (Syntax.tcons (Syntax.tyEnum (List._∷_ 115 (List._∷_
-          116 (List._∷_ 114 (List._∷_ 101 (List._∷_ 97 (List._∷_ 109 (List._∷_ 58 (List._∷_ 58 (List._∷_ 82 (List._∷_ 101 (List._∷_ 102 (List._∷_ 117 (List._∷_ 115 (List._∷_ 97 (List._∷_ 108
-          List.[]))))))))))))))) (Syntax.ttcons Syntax.tnil (Syntax.ttcons Syntax.tnil (Syntax.ttcons Syntax.tnil (Syntax.ttcons (Syntax.tcons (Syntax.tyInt Syntax.w64) Syntax.tnil) (Syntax.ttcons Syntax.tnil
-          (Syntax.ttcons Syntax.tnil (Syntax.ttcons Syntax.tnil (Syntax.ttcons Syntax.tnil (Syntax.ttcons Syntax.tnil (Syntax.ttcons Syntax.tnil (Syntax.ttcons (Syntax.tcons (Syntax.tyInt Syntax.w64)
-          Syntax.tnil) (Syntax.ttcons (Syntax.tcons (Syntax.tyInt Syntax.w64) Syntax.tnil) (Syntax.ttcons Syntax.tnil (Syntax.ttcons (Syntax.tcons (Syntax.tyInt Syntax.w64) (Syntax.tcons (Syntax.tyInt
-          Syntax.w64) Syntax.tnil)) (Syntax.ttcons (Syntax.tcons (Syntax.tyInt Syntax.w64) Syntax.tnil) Syntax.ttnil)))))))))))))))) Syntax.tnil) Syntax.ttnil))),
-    ) List.[])))))))))))))))
 
-abbrev pub t3 : List.List Row.Entry
-t3 = List._∷_ (
-  0,
-  Rows.any-gone (Syntax.tyEnum (List._∷_ 98 (List._∷_ 108 (List._∷_ 111 (List._∷_ 99 (List._∷_ 107 (List._∷_ 58 (List._∷_ 58 (List._∷_ 87 (List._∷_ 114 (List._∷_ 105 (List._∷_ 116
-      (List._∷_ 116 (List._∷_ 101 (List._∷_ 110 List.[])))))))))))))) (Syntax.ttcons (Syntax.tcons (Syntax.tyInt Syntax.w64) Syntax.tnil) (Syntax.ttcons (Syntax.tcons (Syntax.tyEnum (List._∷_ 115 (List._∷_
-      116 (List._∷_ 114 (List._∷_ 101 (List._∷_ 97 (List._∷_ 109 (List._∷_ 58 (List._∷_ 58 (List._∷_ 82 (List._∷_ 101 (List._∷_ 102 (List._∷_ 117 (List._∷_ 115 (List._∷_ 97 (List._∷_ 108
-      List.[]))))))))))))))) (Syntax.ttcons Syntax.tnil (Syntax.ttcons Syntax.tnil (Syntax.ttcons Syntax.tnil (Syntax.ttcons (Syntax.tcons (Syntax.tyInt Syntax.w64) Syntax.tnil) (Syntax.ttcons Syntax.tnil
-      (Syntax.ttcons Syntax.tnil (Syntax.ttcons Syntax.tnil (Syntax.ttcons Syntax.tnil (Syntax.ttcons Syntax.tnil (Syntax.ttcons Syntax.tnil (Syntax.ttcons (Syntax.tcons (Syntax.tyInt Syntax.w64)
-      Syntax.tnil) (Syntax.ttcons (Syntax.tcons (Syntax.tyInt Syntax.w64) Syntax.tnil) (Syntax.ttcons Syntax.tnil (Syntax.ttcons (Syntax.tcons (Syntax.tyInt Syntax.w64) (Syntax.tcons (Syntax.tyInt
-      Syntax.w64) Syntax.tnil)) (Syntax.ttcons (Syntax.tcons (Syntax.tyInt Syntax.w64) Syntax.tnil) Syntax.ttnil)))))))))))))))) Syntax.tnil) Syntax.ttnil))),
-) (List._∷_ (
-  1,
-  Rows.sslice (Referent.rtF
-      (Referent.fInt Syntax.w8)) (Syntax.tyRef (Syntax.named 0) Syntax.imm (Syntax.tyInt Syntax.w8)) 0,
-) (List._∷_ (
-  2,
-  Rows.sslice (Referent.rtF (Referent.fInt Syntax.w16)) (Syntax.tyRef (Syntax.named 1)
-      Syntax.imm (Syntax.tyInt Syntax.w16)) 1,
-) (List._∷_ (3, Mut.mslice (Referent.rtF (Referent.fInt Syntax.w8)) (Syntax.tyRef (Syntax.named 2) Syntax.mut (Syntax.tyInt Syntax.w8)) 2) (List._∷_ (
-  4,
-  Mut.mslice (Referent.rtF (Referent.fInt Syntax.w16)) (Syntax.tyRef (Syntax.named 3) Syntax.mut (Syntax.tyInt Syntax.w16)) 3,
-) (List._∷_ (
-  5,
-  Mut.mslice (Element.type) (Syntax.tyRef (Syntax.named 4)
-      Syntax.mut Element.behind) 4,
-) (List._∷_ (
-  6,
-  Rows.any-gone (Syntax.tyEnum (List._∷_ 115 (List._∷_ 116 (List._∷_ 114 (List._∷_ 101 (List._∷_ 97 (List._∷_ 109 (List._∷_ 58 (List._∷_ 58 (List._∷_ 80
-      (List._∷_ 97 (List._∷_ 114 (List._∷_ 115 (List._∷_ 101 (List._∷_ 100 List.[])))))))))))))) (Syntax.ttcons (Syntax.tcons (Syntax.tyStruct (List._∷_ 115 (List._∷_ 116 (List._∷_ 114 (List._∷_ 101
-      (List._∷_ 97 (List._∷_ 109 (List._∷_ 58 (List._∷_ 58 (List._∷_ 70 (List._∷_ 117 (List._∷_ 106 (List._∷_ 105 (List._∷_ 72 (List._∷_ 101 (List._∷_ 97 (List._∷_ 100 (List._∷_ 101 (List._∷_ 114
-      List.[])))))))))))))))))) (Syntax.tcons Syntax.tyBool (Syntax.tcons Syntax.tyBool (Syntax.tcons (Syntax.tyInt Syntax.w32) (Syntax.tcons (Syntax.tyInt Syntax.w32) (Syntax.tcons (Syntax.tyInt
-      Syntax.w32) (Syntax.tcons (Syntax.tyInt Syntax.w32) (Syntax.tcons (Syntax.tyInt Syntax.w32) (Syntax.tcons (Syntax.tyInt Syntax.w32) (Syntax.tcons (Syntax.tyInt Syntax.w32) Syntax.tnil))))))))))
-      Syntax.tnil) (Syntax.ttcons (Syntax.tcons (Syntax.tyEnum (List._∷_ 115 (List._∷_ 116 (List._∷_ 114 (List._∷_ 101 (List._∷_ 97 (List._∷_ 109 (List._∷_ 58 (List._∷_ 58 (List._∷_ 82 (List._∷_ 101
-      (List._∷_ 102 (List._∷_ 117 (List._∷_ 115 (List._∷_ 97 (List._∷_ 108 List.[]))))))))))))))) (Syntax.ttcons Syntax.tnil (Syntax.ttcons Syntax.tnil (Syntax.ttcons Syntax.tnil (Syntax.ttcons
-      (Syntax.tcons (Syntax.tyInt Syntax.w64) Syntax.tnil) (Syntax.ttcons Syntax.tnil (Syntax.ttcons Syntax.tnil (Syntax.ttcons Syntax.tnil (Syntax.ttcons Syntax.tnil (Syntax.ttcons Syntax.tnil
-      (Syntax.ttcons Syntax.tnil (Syntax.ttcons (Syntax.tcons (Syntax.tyInt Syntax.w64) Syntax.tnil) (Syntax.ttcons (Syntax.tcons (Syntax.tyInt Syntax.w64) Syntax.tnil) (Syntax.ttcons Syntax.tnil
-      (Syntax.ttcons (Syntax.tcons (Syntax.tyInt Syntax.w64) (Syntax.tcons (Syntax.tyInt Syntax.w64) Syntax.tnil)) (Syntax.ttcons (Syntax.tcons (Syntax.tyInt Syntax.w64) Syntax.tnil)
-      Syntax.ttnil)))))))))))))))) Syntax.tnil) Syntax.ttnil))),
-) (List._∷_ (
+abbrev pub e44 : Row.Entry
+e44 = (6, Rows.whole (Declared.row Parsed.the-type))
+
+abbrev pub e45 : Row.Entry
+e45 = (6, Rows.whole (Known.Known Parsed.enum 0))
+
+abbrev pub e46 : Row.Entry
+e46 = (6, Rows.whole (Known.Known Parsed.enum 1))
+
+abbrev pub e47 : Row.Entry
+e47 = (
   7,
-  Rows.any-gone (Syntax.tyEnum (List._∷_ 115 (List._∷_ 116 (List._∷_ 114 (List._∷_ 101 (List._∷_ 97 (List._∷_ 109 (List._∷_ 58
-      (List._∷_ 58 (List._∷_ 82 (List._∷_ 101 (List._∷_ 102 (List._∷_ 117 (List._∷_ 115 (List._∷_ 97 (List._∷_ 108 List.[]))))))))))))))) (Syntax.ttcons Syntax.tnil (Syntax.ttcons Syntax.tnil (Syntax.ttcons
-      Syntax.tnil (Syntax.ttcons (Syntax.tcons (Syntax.tyInt Syntax.w64) Syntax.tnil) (Syntax.ttcons Syntax.tnil (Syntax.ttcons Syntax.tnil (Syntax.ttcons Syntax.tnil (Syntax.ttcons Syntax.tnil
-      (Syntax.ttcons Syntax.tnil (Syntax.ttcons Syntax.tnil (Syntax.ttcons (Syntax.tcons (Syntax.tyInt Syntax.w64) Syntax.tnil) (Syntax.ttcons (Syntax.tcons (Syntax.tyInt Syntax.w64) Syntax.tnil)
-      (Syntax.ttcons Syntax.tnil (Syntax.ttcons (Syntax.tcons (Syntax.tyInt Syntax.w64) (Syntax.tcons (Syntax.tyInt Syntax.w64) Syntax.tnil)) (Syntax.ttcons (Syntax.tcons (Syntax.tyInt Syntax.w64)
-      Syntax.tnil) Syntax.ttnil)))))))))))))))),
-) (List._∷_ (
-  8,
-  Rows.any-gone (Syntax.tyStruct (List._∷_ 115 (List._∷_ 116 (List._∷_ 114 (List._∷_ 101 (List._∷_ 97 (List._∷_ 109 (List._∷_ 58 (List._∷_ 58
-      (List._∷_ 70 (List._∷_ 117 (List._∷_ 106 (List._∷_ 105 (List._∷_ 72 (List._∷_ 101 (List._∷_ 97 (List._∷_ 100 (List._∷_ 101 (List._∷_ 114 List.[])))))))))))))))))) (Syntax.tcons Syntax.tyBool
-      (Syntax.tcons Syntax.tyBool (Syntax.tcons (Syntax.tyInt Syntax.w32) (Syntax.tcons (Syntax.tyInt Syntax.w32) (Syntax.tcons (Syntax.tyInt Syntax.w32) (Syntax.tcons (Syntax.tyInt Syntax.w32)
-      (Syntax.tcons (Syntax.tyInt Syntax.w32) (Syntax.tcons (Syntax.tyInt Syntax.w32) (Syntax.tcons (Syntax.tyInt Syntax.w32) Syntax.tnil)))))))))),
-) (List._∷_ (9, Rows.any-gone (Syntax.tyInt Syntax.w64))
-    (List._∷_ (
-      10,
-      Rows.any-gone (Syntax.tyStruct (List._∷_ 98 (List._∷_ 108 (List._∷_ 111 (List._∷_ 99 (List._∷_ 107 (List._∷_ 58 (List._∷_ 58 (List._∷_ 70 (List._∷_ 111 (List._∷_ 114 (List._∷_ 109
-          List.[]))))))))))) (Syntax.tcons (Syntax.tyInt Syntax.w32) (Syntax.tcons Syntax.tyBool Syntax.tnil))),
-    ) (List._∷_ (11, Rows.any-gone (Syntax.tyInt Syntax.w64)) (List._∷_ (
-      12,
-      Rows.sc-here (Row.sInt
-          Syntax.w64),
-    ) (List._∷_ (13, Rows.any-gone (Syntax.tyInt Syntax.w64)) (List._∷_ (14, Rows.any-gone (Syntax.tyInt Syntax.w64)) (List._∷_ (
-      15,
-      Rows.any-gone (Syntax.tyEnum (List._∷_ 98 (List._∷_
-          108 (List._∷_ 111 (List._∷_ 99 (List._∷_ 107 (List._∷_ 58 (List._∷_ 58 (List._∷_ 87 (List._∷_ 114 (List._∷_ 105 (List._∷_ 116 (List._∷_ 116 (List._∷_ 101 (List._∷_ 110 List.[]))))))))))))))
-          (Syntax.ttcons (Syntax.tcons (Syntax.tyInt Syntax.w64) Syntax.tnil) (Syntax.ttcons (Syntax.tcons (Syntax.tyEnum (List._∷_ 115 (List._∷_ 116 (List._∷_ 114 (List._∷_ 101 (List._∷_ 97 (List._∷_ 109
-          (List._∷_ 58 (List._∷_ 58 (List._∷_ 82 (List._∷_ 101 (List._∷_ 102 (List._∷_ 117 (List._∷_ 115 (List._∷_ 97 (List._∷_ 108 List.[]))))))))))))))) (Syntax.ttcons Syntax.tnil (Syntax.ttcons Syntax.tnil
-          (Syntax.ttcons Syntax.tnil (Syntax.ttcons (Syntax.tcons (Syntax.tyInt Syntax.w64) Syntax.tnil) (Syntax.ttcons Syntax.tnil (Syntax.ttcons Syntax.tnil (Syntax.ttcons Syntax.tnil (Syntax.ttcons
-          Syntax.tnil (Syntax.ttcons Syntax.tnil (Syntax.ttcons Syntax.tnil (Syntax.ttcons (Syntax.tcons (Syntax.tyInt Syntax.w64) Syntax.tnil) (Syntax.ttcons (Syntax.tcons (Syntax.tyInt Syntax.w64)
-          Syntax.tnil) (Syntax.ttcons Syntax.tnil (Syntax.ttcons (Syntax.tcons (Syntax.tyInt Syntax.w64) (Syntax.tcons (Syntax.tyInt Syntax.w64) Syntax.tnil)) (Syntax.ttcons (Syntax.tcons (Syntax.tyInt
-          Syntax.w64) Syntax.tnil) Syntax.ttnil)))))))))))))))) Syntax.tnil) Syntax.ttnil))),
-    ) List.[])))))))))))))))
-
-abbrev pub t4 : List.List Row.Entry
-t4 = List._∷_ (
-  0,
-  Rows.any-gone (Syntax.tyEnum (List._∷_ 98 (List._∷_ 108 (List._∷_ 111 (List._∷_ 99 (List._∷_ 107 (List._∷_ 58 (List._∷_ 58 (List._∷_ 87 (List._∷_ 114 (List._∷_ 105 (List._∷_ 116
-      (List._∷_ 116 (List._∷_ 101 (List._∷_ 110 List.[])))))))))))))) (Syntax.ttcons (Syntax.tcons (Syntax.tyInt Syntax.w64) Syntax.tnil) (Syntax.ttcons (Syntax.tcons (Syntax.tyEnum (List._∷_ 115 (List._∷_
-      116 (List._∷_ 114 (List._∷_ 101 (List._∷_ 97 (List._∷_ 109 (List._∷_ 58 (List._∷_ 58 (List._∷_ 82 (List._∷_ 101 (List._∷_ 102 (List._∷_ 117 (List._∷_ 115 (List._∷_ 97 (List._∷_ 108
-      List.[]))))))))))))))) (Syntax.ttcons Syntax.tnil (Syntax.ttcons Syntax.tnil (Syntax.ttcons Syntax.tnil (Syntax.ttcons (Syntax.tcons (Syntax.tyInt Syntax.w64) Syntax.tnil) (Syntax.ttcons Syntax.tnil
-      (Syntax.ttcons Syntax.tnil (Syntax.ttcons Syntax.tnil (Syntax.ttcons Syntax.tnil (Syntax.ttcons Syntax.tnil (Syntax.ttcons Syntax.tnil (Syntax.ttcons (Syntax.tcons (Syntax.tyInt Syntax.w64)
-      Syntax.tnil) (Syntax.ttcons (Syntax.tcons (Syntax.tyInt Syntax.w64) Syntax.tnil) (Syntax.ttcons Syntax.tnil (Syntax.ttcons (Syntax.tcons (Syntax.tyInt Syntax.w64) (Syntax.tcons (Syntax.tyInt
-      Syntax.w64) Syntax.tnil)) (Syntax.ttcons (Syntax.tcons (Syntax.tyInt Syntax.w64) Syntax.tnil) Syntax.ttnil)))))))))))))))) Syntax.tnil) Syntax.ttnil))),
-) (List._∷_ (
-  1,
-  Rows.sslice (Referent.rtF
-      (Referent.fInt Syntax.w8)) (Syntax.tyRef (Syntax.named 0) Syntax.imm (Syntax.tyInt Syntax.w8)) 0,
-) (List._∷_ (
-  2,
-  Rows.sslice (Referent.rtF (Referent.fInt Syntax.w16)) (Syntax.tyRef (Syntax.named 1)
-      Syntax.imm (Syntax.tyInt Syntax.w16)) 1,
-) (List._∷_ (3, Mut.mslice (Referent.rtF (Referent.fInt Syntax.w8)) (Syntax.tyRef (Syntax.named 2) Syntax.mut (Syntax.tyInt Syntax.w8)) 2) (List._∷_ (
-  4,
-  Mut.mslice (Referent.rtF (Referent.fInt Syntax.w16)) (Syntax.tyRef (Syntax.named 3) Syntax.mut (Syntax.tyInt Syntax.w16)) 3,
-) (List._∷_ (
-  5,
-  Mut.mslice (Element.type) (Syntax.tyRef (Syntax.named 4)
-      Syntax.mut Element.behind) 4,
-) (List._∷_ (
-  6,
-  Rows.any-gone (Syntax.tyEnum (List._∷_ 115 (List._∷_ 116 (List._∷_ 114 (List._∷_ 101 (List._∷_ 97 (List._∷_ 109 (List._∷_ 58 (List._∷_ 58 (List._∷_ 80
-      (List._∷_ 97 (List._∷_ 114 (List._∷_ 115 (List._∷_ 101 (List._∷_ 100 List.[])))))))))))))) (Syntax.ttcons (Syntax.tcons (Syntax.tyStruct (List._∷_ 115 (List._∷_ 116 (List._∷_ 114 (List._∷_ 101
-      (List._∷_ 97 (List._∷_ 109 (List._∷_ 58 (List._∷_ 58 (List._∷_ 70 (List._∷_ 117 (List._∷_ 106 (List._∷_ 105 (List._∷_ 72 (List._∷_ 101 (List._∷_ 97 (List._∷_ 100 (List._∷_ 101 (List._∷_ 114
-      List.[])))))))))))))))))) (Syntax.tcons Syntax.tyBool (Syntax.tcons Syntax.tyBool (Syntax.tcons (Syntax.tyInt Syntax.w32) (Syntax.tcons (Syntax.tyInt Syntax.w32) (Syntax.tcons (Syntax.tyInt
-      Syntax.w32) (Syntax.tcons (Syntax.tyInt Syntax.w32) (Syntax.tcons (Syntax.tyInt Syntax.w32) (Syntax.tcons (Syntax.tyInt Syntax.w32) (Syntax.tcons (Syntax.tyInt Syntax.w32) Syntax.tnil))))))))))
-      Syntax.tnil) (Syntax.ttcons (Syntax.tcons (Syntax.tyEnum (List._∷_ 115 (List._∷_ 116 (List._∷_ 114 (List._∷_ 101 (List._∷_ 97 (List._∷_ 109 (List._∷_ 58 (List._∷_ 58 (List._∷_ 82 (List._∷_ 101
-      (List._∷_ 102 (List._∷_ 117 (List._∷_ 115 (List._∷_ 97 (List._∷_ 108 List.[]))))))))))))))) (Syntax.ttcons Syntax.tnil (Syntax.ttcons Syntax.tnil (Syntax.ttcons Syntax.tnil (Syntax.ttcons
-      (Syntax.tcons (Syntax.tyInt Syntax.w64) Syntax.tnil) (Syntax.ttcons Syntax.tnil (Syntax.ttcons Syntax.tnil (Syntax.ttcons Syntax.tnil (Syntax.ttcons Syntax.tnil (Syntax.ttcons Syntax.tnil
-      (Syntax.ttcons Syntax.tnil (Syntax.ttcons (Syntax.tcons (Syntax.tyInt Syntax.w64) Syntax.tnil) (Syntax.ttcons (Syntax.tcons (Syntax.tyInt Syntax.w64) Syntax.tnil) (Syntax.ttcons Syntax.tnil
-      (Syntax.ttcons (Syntax.tcons (Syntax.tyInt Syntax.w64) (Syntax.tcons (Syntax.tyInt Syntax.w64) Syntax.tnil)) (Syntax.ttcons (Syntax.tcons (Syntax.tyInt Syntax.w64) Syntax.tnil)
-      Syntax.ttnil)))))))))))))))) Syntax.tnil) Syntax.ttnil))),
-) (List._∷_ (
-  7,
-  Rows.any-gone (Syntax.tyEnum (List._∷_ 115 (List._∷_ 116 (List._∷_ 114 (List._∷_ 101 (List._∷_ 97 (List._∷_ 109 (List._∷_ 58
-      (List._∷_ 58 (List._∷_ 82 (List._∷_ 101 (List._∷_ 102 (List._∷_ 117 (List._∷_ 115 (List._∷_ 97 (List._∷_ 108 List.[]))))))))))))))) (Syntax.ttcons Syntax.tnil (Syntax.ttcons Syntax.tnil (Syntax.ttcons
-      Syntax.tnil (Syntax.ttcons (Syntax.tcons (Syntax.tyInt Syntax.w64) Syntax.tnil) (Syntax.ttcons Syntax.tnil (Syntax.ttcons Syntax.tnil (Syntax.ttcons Syntax.tnil (Syntax.ttcons Syntax.tnil
-      (Syntax.ttcons Syntax.tnil (Syntax.ttcons Syntax.tnil (Syntax.ttcons (Syntax.tcons (Syntax.tyInt Syntax.w64) Syntax.tnil) (Syntax.ttcons (Syntax.tcons (Syntax.tyInt Syntax.w64) Syntax.tnil)
-      (Syntax.ttcons Syntax.tnil (Syntax.ttcons (Syntax.tcons (Syntax.tyInt Syntax.w64) (Syntax.tcons (Syntax.tyInt Syntax.w64) Syntax.tnil)) (Syntax.ttcons (Syntax.tcons (Syntax.tyInt Syntax.w64)
-      Syntax.tnil) Syntax.ttnil)))))))))))))))),
-) (List._∷_ (
-  8,
-  Rows.any-gone (Syntax.tyStruct (List._∷_ 115 (List._∷_ 116 (List._∷_ 114 (List._∷_ 101 (List._∷_ 97 (List._∷_ 109 (List._∷_ 58 (List._∷_ 58
-      (List._∷_ 70 (List._∷_ 117 (List._∷_ 106 (List._∷_ 105 (List._∷_ 72 (List._∷_ 101 (List._∷_ 97 (List._∷_ 100 (List._∷_ 101 (List._∷_ 114 List.[])))))))))))))))))) (Syntax.tcons Syntax.tyBool
-      (Syntax.tcons Syntax.tyBool (Syntax.tcons (Syntax.tyInt Syntax.w32) (Syntax.tcons (Syntax.tyInt Syntax.w32) (Syntax.tcons (Syntax.tyInt Syntax.w32) (Syntax.tcons (Syntax.tyInt Syntax.w32)
-      (Syntax.tcons (Syntax.tyInt Syntax.w32) (Syntax.tcons (Syntax.tyInt Syntax.w32) (Syntax.tcons (Syntax.tyInt Syntax.w32) Syntax.tnil)))))))))),
-) (List._∷_ (9, Rows.any-gone (Syntax.tyInt Syntax.w64))
-    (List._∷_ (
-      10,
-      Rows.any-gone (Syntax.tyStruct (List._∷_ 98 (List._∷_ 108 (List._∷_ 111 (List._∷_ 99 (List._∷_ 107 (List._∷_ 58 (List._∷_ 58 (List._∷_ 70 (List._∷_ 111 (List._∷_ 114 (List._∷_ 109
-          List.[]))))))))))) (Syntax.tcons (Syntax.tyInt Syntax.w32) (Syntax.tcons Syntax.tyBool Syntax.tnil))),
-    ) (List._∷_ (11, Rows.any-gone (Syntax.tyInt Syntax.w64)) (List._∷_ (
-      12,
-      Rows.sc-here (Row.sInt
-          Syntax.w64),
-    ) (List._∷_ (13, Rows.sc-here (Row.sInt Syntax.w64)) (List._∷_ (14, Rows.any-gone (Syntax.tyInt Syntax.w64)) (List._∷_ (
-      15,
-      Rows.any-gone (Syntax.tyEnum (List._∷_ 98 (List._∷_ 108
-          (List._∷_ 111 (List._∷_ 99 (List._∷_ 107 (List._∷_ 58 (List._∷_ 58 (List._∷_ 87 (List._∷_ 114 (List._∷_ 105 (List._∷_ 116 (List._∷_ 116 (List._∷_ 101 (List._∷_ 110 List.[])))))))))))))) (Syntax.ttcons
-          (Syntax.tcons (Syntax.tyInt Syntax.w64) Syntax.tnil) (Syntax.ttcons (Syntax.tcons (Syntax.tyEnum (List._∷_ 115 (List._∷_ 116 (List._∷_ 114 (List._∷_ 101 (List._∷_ 97 (List._∷_ 109 (List._∷_ 58
-          (List._∷_ 58 (List._∷_ 82 (List._∷_ 101 (List._∷_ 102 (List._∷_ 117 (List._∷_ 115 (List._∷_ 97 (List._∷_ 108 List.[]))))))))))))))) (Syntax.ttcons Syntax.tnil (Syntax.ttcons Syntax.tnil (Syntax.ttcons
-          Syntax.tnil (Syntax.ttcons (Syntax.tcons (Syntax.tyInt Syntax.w64) Syntax.tnil) (Syntax.ttcons Syntax.tnil (Syntax.ttcons Syntax.tnil (Syntax.ttcons Syntax.tnil (Syntax.ttcons Syntax.tnil
-          (Syntax.ttcons Syntax.tnil (Syntax.ttcons Syntax.tnil (Syntax.ttcons (Syntax.tcons (Syntax.tyInt Syntax.w64) Syntax.tnil) (Syntax.ttcons (Syntax.tcons (Syntax.tyInt Syntax.w64) Syntax.tnil)
-          (Syntax.ttcons Syntax.tnil (Syntax.ttcons (Syntax.tcons (Syntax.tyInt Syntax.w64) (Syntax.tcons (Syntax.tyInt Syntax.w64) Syntax.tnil)) (Syntax.ttcons (Syntax.tcons (Syntax.tyInt Syntax.w64)
-          Syntax.tnil) Syntax.ttnil)))))))))))))))) Syntax.tnil) Syntax.ttnil))),
-    ) List.[])))))))))))))))
-
-abbrev pub t5 : List.List Row.Entry
-t5 = List._∷_ (
-  0,
-  Rows.any-gone (Syntax.tyEnum (List._∷_ 98 (List._∷_ 108 (List._∷_ 111 (List._∷_ 99 (List._∷_ 107 (List._∷_ 58 (List._∷_ 58 (List._∷_ 87 (List._∷_ 114 (List._∷_ 105 (List._∷_ 116
-      (List._∷_ 116 (List._∷_ 101 (List._∷_ 110 List.[])))))))))))))) (Syntax.ttcons (Syntax.tcons (Syntax.tyInt Syntax.w64) Syntax.tnil) (Syntax.ttcons (Syntax.tcons (Syntax.tyEnum (List._∷_ 115 (List._∷_
-      116 (List._∷_ 114 (List._∷_ 101 (List._∷_ 97 (List._∷_ 109 (List._∷_ 58 (List._∷_ 58 (List._∷_ 82 (List._∷_ 101 (List._∷_ 102 (List._∷_ 117 (List._∷_ 115 (List._∷_ 97 (List._∷_ 108
-      List.[]))))))))))))))) (Syntax.ttcons Syntax.tnil (Syntax.ttcons Syntax.tnil (Syntax.ttcons Syntax.tnil (Syntax.ttcons (Syntax.tcons (Syntax.tyInt Syntax.w64) Syntax.tnil) (Syntax.ttcons Syntax.tnil
-      (Syntax.ttcons Syntax.tnil (Syntax.ttcons Syntax.tnil (Syntax.ttcons Syntax.tnil (Syntax.ttcons Syntax.tnil (Syntax.ttcons Syntax.tnil (Syntax.ttcons (Syntax.tcons (Syntax.tyInt Syntax.w64)
-      Syntax.tnil) (Syntax.ttcons (Syntax.tcons (Syntax.tyInt Syntax.w64) Syntax.tnil) (Syntax.ttcons Syntax.tnil (Syntax.ttcons (Syntax.tcons (Syntax.tyInt Syntax.w64) (Syntax.tcons (Syntax.tyInt
-      Syntax.w64) Syntax.tnil)) (Syntax.ttcons (Syntax.tcons (Syntax.tyInt Syntax.w64) Syntax.tnil) Syntax.ttnil)))))))))))))))) Syntax.tnil) Syntax.ttnil))),
-) (List._∷_ (
-  1,
-  Rows.sslice (Referent.rtF
-      (Referent.fInt Syntax.w8)) (Syntax.tyRef (Syntax.named 0) Syntax.imm (Syntax.tyInt Syntax.w8)) 0,
-) (List._∷_ (
-  2,
-  Rows.sslice (Referent.rtF (Referent.fInt Syntax.w16)) (Syntax.tyRef (Syntax.named 1)
-      Syntax.imm (Syntax.tyInt Syntax.w16)) 1,
-) (List._∷_ (3, Mut.mslice (Referent.rtF (Referent.fInt Syntax.w8)) (Syntax.tyRef (Syntax.named 2) Syntax.mut (Syntax.tyInt Syntax.w8)) 2) (List._∷_ (
-  4,
-  Mut.mslice (Referent.rtF (Referent.fInt Syntax.w16)) (Syntax.tyRef (Syntax.named 3) Syntax.mut (Syntax.tyInt Syntax.w16)) 3,
-) (List._∷_ (
-  5,
-  Mut.mslice (Element.type) (Syntax.tyRef (Syntax.named 4)
-      Syntax.mut Element.behind) 4,
-) (List._∷_ (
-  6,
-  Rows.any-gone (Syntax.tyEnum (List._∷_ 115 (List._∷_ 116 (List._∷_ 114 (List._∷_ 101 (List._∷_ 97 (List._∷_ 109 (List._∷_ 58 (List._∷_ 58 (List._∷_ 80
-      (List._∷_ 97 (List._∷_ 114 (List._∷_ 115 (List._∷_ 101 (List._∷_ 100 List.[])))))))))))))) (Syntax.ttcons (Syntax.tcons (Syntax.tyStruct (List._∷_ 115 (List._∷_ 116 (List._∷_ 114 (List._∷_ 101
-      (List._∷_ 97 (List._∷_ 109 (List._∷_ 58 (List._∷_ 58 (List._∷_ 70 (List._∷_ 117 (List._∷_ 106 (List._∷_ 105 (List._∷_ 72 (List._∷_ 101 (List._∷_ 97 (List._∷_ 100 (List._∷_ 101 (List._∷_ 114
-      List.[])))))))))))))))))) (Syntax.tcons Syntax.tyBool (Syntax.tcons Syntax.tyBool (Syntax.tcons (Syntax.tyInt Syntax.w32) (Syntax.tcons (Syntax.tyInt Syntax.w32) (Syntax.tcons (Syntax.tyInt
-      Syntax.w32) (Syntax.tcons (Syntax.tyInt Syntax.w32) (Syntax.tcons (Syntax.tyInt Syntax.w32) (Syntax.tcons (Syntax.tyInt Syntax.w32) (Syntax.tcons (Syntax.tyInt Syntax.w32) Syntax.tnil))))))))))
-      Syntax.tnil) (Syntax.ttcons (Syntax.tcons (Syntax.tyEnum (List._∷_ 115 (List._∷_ 116 (List._∷_ 114 (List._∷_ 101 (List._∷_ 97 (List._∷_ 109 (List._∷_ 58 (List._∷_ 58 (List._∷_ 82 (List._∷_ 101
-      (List._∷_ 102 (List._∷_ 117 (List._∷_ 115 (List._∷_ 97 (List._∷_ 108 List.[]))))))))))))))) (Syntax.ttcons Syntax.tnil (Syntax.ttcons Syntax.tnil (Syntax.ttcons Syntax.tnil (Syntax.ttcons
-      (Syntax.tcons (Syntax.tyInt Syntax.w64) Syntax.tnil) (Syntax.ttcons Syntax.tnil (Syntax.ttcons Syntax.tnil (Syntax.ttcons Syntax.tnil (Syntax.ttcons Syntax.tnil (Syntax.ttcons Syntax.tnil
-      (Syntax.ttcons Syntax.tnil (Syntax.ttcons (Syntax.tcons (Syntax.tyInt Syntax.w64) Syntax.tnil) (Syntax.ttcons (Syntax.tcons (Syntax.tyInt Syntax.w64) Syntax.tnil) (Syntax.ttcons Syntax.tnil
-      (Syntax.ttcons (Syntax.tcons (Syntax.tyInt Syntax.w64) (Syntax.tcons (Syntax.tyInt Syntax.w64) Syntax.tnil)) (Syntax.ttcons (Syntax.tcons (Syntax.tyInt Syntax.w64) Syntax.tnil)
-      Syntax.ttnil)))))))))))))))) Syntax.tnil) Syntax.ttnil))),
-) (List._∷_ (
-  7,
-  Rows.any-gone (Syntax.tyEnum (List._∷_ 115 (List._∷_ 116 (List._∷_ 114 (List._∷_ 101 (List._∷_ 97 (List._∷_ 109 (List._∷_ 58
-      (List._∷_ 58 (List._∷_ 82 (List._∷_ 101 (List._∷_ 102 (List._∷_ 117 (List._∷_ 115 (List._∷_ 97 (List._∷_ 108 List.[]))))))))))))))) (Syntax.ttcons Syntax.tnil (Syntax.ttcons Syntax.tnil (Syntax.ttcons
-      Syntax.tnil (Syntax.ttcons (Syntax.tcons (Syntax.tyInt Syntax.w64) Syntax.tnil) (Syntax.ttcons Syntax.tnil (Syntax.ttcons Syntax.tnil (Syntax.ttcons Syntax.tnil (Syntax.ttcons Syntax.tnil
-      (Syntax.ttcons Syntax.tnil (Syntax.ttcons Syntax.tnil (Syntax.ttcons (Syntax.tcons (Syntax.tyInt Syntax.w64) Syntax.tnil) (Syntax.ttcons (Syntax.tcons (Syntax.tyInt Syntax.w64) Syntax.tnil)
-      (Syntax.ttcons Syntax.tnil (Syntax.ttcons (Syntax.tcons (Syntax.tyInt Syntax.w64) (Syntax.tcons (Syntax.tyInt Syntax.w64) Syntax.tnil)) (Syntax.ttcons (Syntax.tcons (Syntax.tyInt Syntax.w64)
-      Syntax.tnil) Syntax.ttnil)))))))))))))))),
-) (List._∷_ (
-  8,
-  Rows.any-gone (Syntax.tyStruct (List._∷_ 115 (List._∷_ 116 (List._∷_ 114 (List._∷_ 101 (List._∷_ 97 (List._∷_ 109 (List._∷_ 58 (List._∷_ 58
-      (List._∷_ 70 (List._∷_ 117 (List._∷_ 106 (List._∷_ 105 (List._∷_ 72 (List._∷_ 101 (List._∷_ 97 (List._∷_ 100 (List._∷_ 101 (List._∷_ 114 List.[])))))))))))))))))) (Syntax.tcons Syntax.tyBool
-      (Syntax.tcons Syntax.tyBool (Syntax.tcons (Syntax.tyInt Syntax.w32) (Syntax.tcons (Syntax.tyInt Syntax.w32) (Syntax.tcons (Syntax.tyInt Syntax.w32) (Syntax.tcons (Syntax.tyInt Syntax.w32)
-      (Syntax.tcons (Syntax.tyInt Syntax.w32) (Syntax.tcons (Syntax.tyInt Syntax.w32) (Syntax.tcons (Syntax.tyInt Syntax.w32) Syntax.tnil)))))))))),
-) (List._∷_ (9, Rows.any-gone (Syntax.tyInt Syntax.w64))
-    (List._∷_ (
-      10,
-      Rows.any-gone (Syntax.tyStruct (List._∷_ 98 (List._∷_ 108 (List._∷_ 111 (List._∷_ 99 (List._∷_ 107 (List._∷_ 58 (List._∷_ 58 (List._∷_ 70 (List._∷_ 111 (List._∷_ 114 (List._∷_ 109
-          List.[]))))))))))) (Syntax.tcons (Syntax.tyInt Syntax.w32) (Syntax.tcons Syntax.tyBool Syntax.tnil))),
-    ) (List._∷_ (11, Rows.any-gone (Syntax.tyInt Syntax.w64)) (List._∷_ (
-      12,
-      Rows.sc-here (Row.sInt
-          Syntax.w64),
-    ) (List._∷_ (13, Rows.sc-here (Row.sInt Syntax.w64)) (List._∷_ (14, Rows.sc-here (Row.sInt Syntax.w64)) (List._∷_ (
-      15,
-      Rows.any-gone (Syntax.tyEnum (List._∷_ 98 (List._∷_ 108
-          (List._∷_ 111 (List._∷_ 99 (List._∷_ 107 (List._∷_ 58 (List._∷_ 58 (List._∷_ 87 (List._∷_ 114 (List._∷_ 105 (List._∷_ 116 (List._∷_ 116 (List._∷_ 101 (List._∷_ 110 List.[])))))))))))))) (Syntax.ttcons
-          (Syntax.tcons (Syntax.tyInt Syntax.w64) Syntax.tnil) (Syntax.ttcons (Syntax.tcons (Syntax.tyEnum (List._∷_ 115 (List._∷_ 116 (List._∷_ 114 (List._∷_ 101 (List._∷_ 97 (List._∷_ 109 (List._∷_ 58
-          (List._∷_ 58 (List._∷_ 82 (List._∷_ 101 (List._∷_ 102 (List._∷_ 117 (List._∷_ 115 (List._∷_ 97 (List._∷_ 108 List.[]))))))))))))))) (Syntax.ttcons Syntax.tnil (Syntax.ttcons Syntax.tnil (Syntax.ttcons
-          Syntax.tnil (Syntax.ttcons (Syntax.tcons (Syntax.tyInt Syntax.w64) Syntax.tnil) (Syntax.ttcons Syntax.tnil (Syntax.ttcons Syntax.tnil (Syntax.ttcons Syntax.tnil (Syntax.ttcons Syntax.tnil
-          (Syntax.ttcons Syntax.tnil (Syntax.ttcons Syntax.tnil (Syntax.ttcons (Syntax.tcons (Syntax.tyInt Syntax.w64) Syntax.tnil) (Syntax.ttcons (Syntax.tcons (Syntax.tyInt Syntax.w64) Syntax.tnil)
-          (Syntax.ttcons Syntax.tnil (Syntax.ttcons (Syntax.tcons (Syntax.tyInt Syntax.w64) (Syntax.tcons (Syntax.tyInt Syntax.w64) Syntax.tnil)) (Syntax.ttcons (Syntax.tcons (Syntax.tyInt Syntax.w64)
-          Syntax.tnil) Syntax.ttnil)))))))))))))))) Syntax.tnil) Syntax.ttnil))),
-    ) List.[])))))))))))))))
-
-abbrev pub t6 : List.List Row.Entry
-t6 = List._∷_ (
-  0,
-  Rows.any-gone (Syntax.tyEnum (List._∷_ 98 (List._∷_ 108 (List._∷_ 111 (List._∷_ 99 (List._∷_ 107 (List._∷_ 58 (List._∷_ 58 (List._∷_ 87 (List._∷_ 114 (List._∷_ 105 (List._∷_ 116
-      (List._∷_ 116 (List._∷_ 101 (List._∷_ 110 List.[])))))))))))))) (Syntax.ttcons (Syntax.tcons (Syntax.tyInt Syntax.w64) Syntax.tnil) (Syntax.ttcons (Syntax.tcons (Syntax.tyEnum (List._∷_ 115 (List._∷_
-      116 (List._∷_ 114 (List._∷_ 101 (List._∷_ 97 (List._∷_ 109 (List._∷_ 58 (List._∷_ 58 (List._∷_ 82 (List._∷_ 101 (List._∷_ 102 (List._∷_ 117 (List._∷_ 115 (List._∷_ 97 (List._∷_ 108
-      List.[]))))))))))))))) (Syntax.ttcons Syntax.tnil (Syntax.ttcons Syntax.tnil (Syntax.ttcons Syntax.tnil (Syntax.ttcons (Syntax.tcons (Syntax.tyInt Syntax.w64) Syntax.tnil) (Syntax.ttcons Syntax.tnil
-      (Syntax.ttcons Syntax.tnil (Syntax.ttcons Syntax.tnil (Syntax.ttcons Syntax.tnil (Syntax.ttcons Syntax.tnil (Syntax.ttcons Syntax.tnil (Syntax.ttcons (Syntax.tcons (Syntax.tyInt Syntax.w64)
-      Syntax.tnil) (Syntax.ttcons (Syntax.tcons (Syntax.tyInt Syntax.w64) Syntax.tnil) (Syntax.ttcons Syntax.tnil (Syntax.ttcons (Syntax.tcons (Syntax.tyInt Syntax.w64) (Syntax.tcons (Syntax.tyInt
-      Syntax.w64) Syntax.tnil)) (Syntax.ttcons (Syntax.tcons (Syntax.tyInt Syntax.w64) Syntax.tnil) Syntax.ttnil)))))))))))))))) Syntax.tnil) Syntax.ttnil))),
-) (List._∷_ (
-  1,
-  Rows.sslice (Referent.rtF
-      (Referent.fInt Syntax.w8)) (Syntax.tyRef (Syntax.named 0) Syntax.imm (Syntax.tyInt Syntax.w8)) 0,
-) (List._∷_ (
-  2,
-  Rows.sslice (Referent.rtF (Referent.fInt Syntax.w16)) (Syntax.tyRef (Syntax.named 1)
-      Syntax.imm (Syntax.tyInt Syntax.w16)) 1,
-) (List._∷_ (3, Mut.mslice (Referent.rtF (Referent.fInt Syntax.w8)) (Syntax.tyRef (Syntax.named 2) Syntax.mut (Syntax.tyInt Syntax.w8)) 2) (List._∷_ (
-  4,
-  Mut.mslice (Referent.rtF (Referent.fInt Syntax.w16)) (Syntax.tyRef (Syntax.named 3) Syntax.mut (Syntax.tyInt Syntax.w16)) 3,
-) (List._∷_ (
-  5,
-  Mut.mslice (Element.type) (Syntax.tyRef (Syntax.named 4)
-      Syntax.mut Element.behind) 4,
-) (List._∷_ (6, Rows.whole (Declared.row Parsed.the-type)) (List._∷_ (
-  7,
-  Rows.any-gone (Syntax.tyEnum (List._∷_ 115 (List._∷_ 116 (List._∷_ 114 (List._∷_ 101 (List._∷_
-      97 (List._∷_ 109 (List._∷_ 58 (List._∷_ 58 (List._∷_ 82 (List._∷_ 101 (List._∷_ 102 (List._∷_ 117 (List._∷_ 115 (List._∷_ 97 (List._∷_ 108 List.[]))))))))))))))) (Syntax.ttcons Syntax.tnil
-      (Syntax.ttcons Syntax.tnil (Syntax.ttcons Syntax.tnil (Syntax.ttcons (Syntax.tcons (Syntax.tyInt Syntax.w64) Syntax.tnil) (Syntax.ttcons Syntax.tnil (Syntax.ttcons Syntax.tnil (Syntax.ttcons
-      Syntax.tnil (Syntax.ttcons Syntax.tnil (Syntax.ttcons Syntax.tnil (Syntax.ttcons Syntax.tnil (Syntax.ttcons (Syntax.tcons (Syntax.tyInt Syntax.w64) Syntax.tnil) (Syntax.ttcons (Syntax.tcons
-      (Syntax.tyInt Syntax.w64) Syntax.tnil) (Syntax.ttcons Syntax.tnil (Syntax.ttcons (Syntax.tcons (Syntax.tyInt Syntax.w64) (Syntax.tcons (Syntax.tyInt Syntax.w64) Syntax.tnil)) (Syntax.ttcons
-      (Syntax.tcons (Syntax.tyInt Syntax.w64) Syntax.tnil) Syntax.ttnil)))))))))))))))),
-) (List._∷_ (
-  8,
-  Rows.any-gone (Syntax.tyStruct (List._∷_ 115 (List._∷_ 116 (List._∷_ 114 (List._∷_ 101 (List._∷_ 97
-      (List._∷_ 109 (List._∷_ 58 (List._∷_ 58 (List._∷_ 70 (List._∷_ 117 (List._∷_ 106 (List._∷_ 105 (List._∷_ 72 (List._∷_ 101 (List._∷_ 97 (List._∷_ 100 (List._∷_ 101 (List._∷_ 114
-      List.[])))))))))))))))))) (Syntax.tcons Syntax.tyBool (Syntax.tcons Syntax.tyBool (Syntax.tcons (Syntax.tyInt Syntax.w32) (Syntax.tcons (Syntax.tyInt Syntax.w32) (Syntax.tcons (Syntax.tyInt
-      Syntax.w32) (Syntax.tcons (Syntax.tyInt Syntax.w32) (Syntax.tcons (Syntax.tyInt Syntax.w32) (Syntax.tcons (Syntax.tyInt Syntax.w32) (Syntax.tcons (Syntax.tyInt Syntax.w32) Syntax.tnil)))))))))),
-)
-    (List._∷_ (9, Rows.any-gone (Syntax.tyInt Syntax.w64)) (List._∷_ (
-      10,
-      Rows.any-gone (Syntax.tyStruct (List._∷_ 98 (List._∷_ 108 (List._∷_ 111 (List._∷_ 99 (List._∷_ 107 (List._∷_ 58 (List._∷_ 58
-          (List._∷_ 70 (List._∷_ 111 (List._∷_ 114 (List._∷_ 109 List.[]))))))))))) (Syntax.tcons (Syntax.tyInt Syntax.w32) (Syntax.tcons Syntax.tyBool Syntax.tnil))),
-    ) (List._∷_ (
-      11,
-      Rows.any-gone
-          (Syntax.tyInt Syntax.w64),
-    ) (List._∷_ (12, Rows.sc-here (Row.sInt Syntax.w64)) (List._∷_ (13, Rows.sc-here (Row.sInt Syntax.w64)) (List._∷_ (14, Rows.sc-here (Row.sInt Syntax.w64)) (List._∷_ (
-      15,
-      Rows.any-gone (Syntax.tyEnum (List._∷_ 98 (List._∷_ 108 (List._∷_ 111 (List._∷_ 99 (List._∷_ 107 (List._∷_ 58 (List._∷_ 58 (List._∷_ 87 (List._∷_ 114 (List._∷_ 105 (List._∷_ 116 (List._∷_ 116
-          (List._∷_ 101 (List._∷_ 110 List.[])))))))))))))) (Syntax.ttcons (Syntax.tcons (Syntax.tyInt Syntax.w64) Syntax.tnil) (Syntax.ttcons (Syntax.tcons (Syntax.tyEnum (List._∷_ 115 (List._∷_ 116 (List._∷_
-          114 (List._∷_ 101 (List._∷_ 97 (List._∷_ 109 (List._∷_ 58 (List._∷_ 58 (List._∷_ 82 (List._∷_ 101 (List._∷_ 102 (List._∷_ 117 (List._∷_ 115 (List._∷_ 97 (List._∷_ 108 List.[])))))))))))))))
-          (Syntax.ttcons Syntax.tnil (Syntax.ttcons Syntax.tnil (Syntax.ttcons Syntax.tnil (Syntax.ttcons (Syntax.tcons (Syntax.tyInt Syntax.w64) Syntax.tnil) (Syntax.ttcons Syntax.tnil (Syntax.ttcons
-          Syntax.tnil (Syntax.ttcons Syntax.tnil (Syntax.ttcons Syntax.tnil (Syntax.ttcons Syntax.tnil (Syntax.ttcons Syntax.tnil (Syntax.ttcons (Syntax.tcons (Syntax.tyInt Syntax.w64) Syntax.tnil)
-          (Syntax.ttcons (Syntax.tcons (Syntax.tyInt Syntax.w64) Syntax.tnil) (Syntax.ttcons Syntax.tnil (Syntax.ttcons (Syntax.tcons (Syntax.tyInt Syntax.w64) (Syntax.tcons (Syntax.tyInt Syntax.w64)
-          Syntax.tnil)) (Syntax.ttcons (Syntax.tcons (Syntax.tyInt Syntax.w64) Syntax.tnil) Syntax.ttnil)))))))))))))))) Syntax.tnil) Syntax.ttnil))),
-    ) List.[])))))))))))))))
-
-abbrev pub t7 : List.List Row.Entry
-t7 = List._∷_ (
-  0,
-  Rows.any-gone (Syntax.tyEnum (List._∷_ 98 (List._∷_ 108 (List._∷_ 111 (List._∷_ 99 (List._∷_ 107 (List._∷_ 58 (List._∷_ 58 (List._∷_ 87 (List._∷_ 114 (List._∷_ 105 (List._∷_ 116
-      (List._∷_ 116 (List._∷_ 101 (List._∷_ 110 List.[])))))))))))))) (Syntax.ttcons (Syntax.tcons (Syntax.tyInt Syntax.w64) Syntax.tnil) (Syntax.ttcons (Syntax.tcons (Syntax.tyEnum (List._∷_ 115 (List._∷_
-      116 (List._∷_ 114 (List._∷_ 101 (List._∷_ 97 (List._∷_ 109 (List._∷_ 58 (List._∷_ 58 (List._∷_ 82 (List._∷_ 101 (List._∷_ 102 (List._∷_ 117 (List._∷_ 115 (List._∷_ 97 (List._∷_ 108
-      List.[]))))))))))))))) (Syntax.ttcons Syntax.tnil (Syntax.ttcons Syntax.tnil (Syntax.ttcons Syntax.tnil (Syntax.ttcons (Syntax.tcons (Syntax.tyInt Syntax.w64) Syntax.tnil) (Syntax.ttcons Syntax.tnil
-      (Syntax.ttcons Syntax.tnil (Syntax.ttcons Syntax.tnil (Syntax.ttcons Syntax.tnil (Syntax.ttcons Syntax.tnil (Syntax.ttcons Syntax.tnil (Syntax.ttcons (Syntax.tcons (Syntax.tyInt Syntax.w64)
-      Syntax.tnil) (Syntax.ttcons (Syntax.tcons (Syntax.tyInt Syntax.w64) Syntax.tnil) (Syntax.ttcons Syntax.tnil (Syntax.ttcons (Syntax.tcons (Syntax.tyInt Syntax.w64) (Syntax.tcons (Syntax.tyInt
-      Syntax.w64) Syntax.tnil)) (Syntax.ttcons (Syntax.tcons (Syntax.tyInt Syntax.w64) Syntax.tnil) Syntax.ttnil)))))))))))))))) Syntax.tnil) Syntax.ttnil))),
-) (List._∷_ (
-  1,
-  Rows.sslice (Referent.rtF
-      (Referent.fInt Syntax.w8)) (Syntax.tyRef (Syntax.named 0) Syntax.imm (Syntax.tyInt Syntax.w8)) 0,
-) (List._∷_ (
-  2,
-  Rows.sslice (Referent.rtF (Referent.fInt Syntax.w16)) (Syntax.tyRef (Syntax.named 1)
-      Syntax.imm (Syntax.tyInt Syntax.w16)) 1,
-) (List._∷_ (3, Mut.mslice (Referent.rtF (Referent.fInt Syntax.w8)) (Syntax.tyRef (Syntax.named 2) Syntax.mut (Syntax.tyInt Syntax.w8)) 2) (List._∷_ (
-  4,
-  Mut.mslice (Referent.rtF (Referent.fInt Syntax.w16)) (Syntax.tyRef (Syntax.named 3) Syntax.mut (Syntax.tyInt Syntax.w16)) 3,
-) (List._∷_ (
-  5,
-  Mut.mslice (Element.type) (Syntax.tyRef (Syntax.named 4)
-      Syntax.mut Element.behind) 4,
-) (List._∷_ (
-  6,
-  Rows.any-gone (Syntax.tyEnum (List._∷_ 115 (List._∷_ 116 (List._∷_ 114 (List._∷_ 101 (List._∷_ 97 (List._∷_ 109 (List._∷_ 58 (List._∷_ 58 (List._∷_ 80
-      (List._∷_ 97 (List._∷_ 114 (List._∷_ 115 (List._∷_ 101 (List._∷_ 100 List.[])))))))))))))) (Syntax.ttcons (Syntax.tcons (Syntax.tyStruct (List._∷_ 115 (List._∷_ 116 (List._∷_ 114 (List._∷_ 101
-      (List._∷_ 97 (List._∷_ 109 (List._∷_ 58 (List._∷_ 58 (List._∷_ 70 (List._∷_ 117 (List._∷_ 106 (List._∷_ 105 (List._∷_ 72 (List._∷_ 101 (List._∷_ 97 (List._∷_ 100 (List._∷_ 101 (List._∷_ 114
-      List.[])))))))))))))))))) (Syntax.tcons Syntax.tyBool (Syntax.tcons Syntax.tyBool (Syntax.tcons (Syntax.tyInt Syntax.w32) (Syntax.tcons (Syntax.tyInt Syntax.w32) (Syntax.tcons (Syntax.tyInt
-      Syntax.w32) (Syntax.tcons (Syntax.tyInt Syntax.w32) (Syntax.tcons (Syntax.tyInt Syntax.w32) (Syntax.tcons (Syntax.tyInt Syntax.w32) (Syntax.tcons (Syntax.tyInt Syntax.w32) Syntax.tnil))))))))))
-      Syntax.tnil) (Syntax.ttcons (Syntax.tcons (Syntax.tyEnum (List._∷_ 115 (List._∷_ 116 (List._∷_ 114 (List._∷_ 101 (List._∷_ 97 (List._∷_ 109 (List._∷_ 58 (List._∷_ 58 (List._∷_ 82 (List._∷_ 101
-      (List._∷_ 102 (List._∷_ 117 (List._∷_ 115 (List._∷_ 97 (List._∷_ 108 List.[]))))))))))))))) (Syntax.ttcons Syntax.tnil (Syntax.ttcons Syntax.tnil (Syntax.ttcons Syntax.tnil (Syntax.ttcons
-      (Syntax.tcons (Syntax.tyInt Syntax.w64) Syntax.tnil) (Syntax.ttcons Syntax.tnil (Syntax.ttcons Syntax.tnil (Syntax.ttcons Syntax.tnil (Syntax.ttcons Syntax.tnil (Syntax.ttcons Syntax.tnil
-      (Syntax.ttcons Syntax.tnil (Syntax.ttcons (Syntax.tcons (Syntax.tyInt Syntax.w64) Syntax.tnil) (Syntax.ttcons (Syntax.tcons (Syntax.tyInt Syntax.w64) Syntax.tnil) (Syntax.ttcons Syntax.tnil
-      (Syntax.ttcons (Syntax.tcons (Syntax.tyInt Syntax.w64) (Syntax.tcons (Syntax.tyInt Syntax.w64) Syntax.tnil)) (Syntax.ttcons (Syntax.tcons (Syntax.tyInt Syntax.w64) Syntax.tnil)
-      Syntax.ttnil)))))))))))))))) Syntax.tnil) Syntax.ttnil))),
-) (List._∷_ (
-  7,
-  Rows.any-gone (Syntax.tyEnum (List._∷_ 115 (List._∷_ 116 (List._∷_ 114 (List._∷_ 101 (List._∷_ 97 (List._∷_ 109 (List._∷_ 58
-      (List._∷_ 58 (List._∷_ 82 (List._∷_ 101 (List._∷_ 102 (List._∷_ 117 (List._∷_ 115 (List._∷_ 97 (List._∷_ 108 List.[]))))))))))))))) (Syntax.ttcons Syntax.tnil (Syntax.ttcons Syntax.tnil (Syntax.ttcons
-      Syntax.tnil (Syntax.ttcons (Syntax.tcons (Syntax.tyInt Syntax.w64) Syntax.tnil) (Syntax.ttcons Syntax.tnil (Syntax.ttcons Syntax.tnil (Syntax.ttcons Syntax.tnil (Syntax.ttcons Syntax.tnil
-      (Syntax.ttcons Syntax.tnil (Syntax.ttcons Syntax.tnil (Syntax.ttcons (Syntax.tcons (Syntax.tyInt Syntax.w64) Syntax.tnil) (Syntax.ttcons (Syntax.tcons (Syntax.tyInt Syntax.w64) Syntax.tnil)
-      (Syntax.ttcons Syntax.tnil (Syntax.ttcons (Syntax.tcons (Syntax.tyInt Syntax.w64) (Syntax.tcons (Syntax.tyInt Syntax.w64) Syntax.tnil)) (Syntax.ttcons (Syntax.tcons (Syntax.tyInt Syntax.w64)
-      Syntax.tnil) Syntax.ttnil)))))))))))))))),
-) (List._∷_ (
-  8,
-  Rows.any-gone (Syntax.tyStruct (List._∷_ 115 (List._∷_ 116 (List._∷_ 114 (List._∷_ 101 (List._∷_ 97 (List._∷_ 109 (List._∷_ 58 (List._∷_ 58
-      (List._∷_ 70 (List._∷_ 117 (List._∷_ 106 (List._∷_ 105 (List._∷_ 72 (List._∷_ 101 (List._∷_ 97 (List._∷_ 100 (List._∷_ 101 (List._∷_ 114 List.[])))))))))))))))))) (Syntax.tcons Syntax.tyBool
-      (Syntax.tcons Syntax.tyBool (Syntax.tcons (Syntax.tyInt Syntax.w32) (Syntax.tcons (Syntax.tyInt Syntax.w32) (Syntax.tcons (Syntax.tyInt Syntax.w32) (Syntax.tcons (Syntax.tyInt Syntax.w32)
-      (Syntax.tcons (Syntax.tyInt Syntax.w32) (Syntax.tcons (Syntax.tyInt Syntax.w32) (Syntax.tcons (Syntax.tyInt Syntax.w32) Syntax.tnil)))))))))),
-) (List._∷_ (9, Rows.any-gone (Syntax.tyInt Syntax.w64))
-    (List._∷_ (
-      10,
-      Rows.any-gone (Syntax.tyStruct (List._∷_ 98 (List._∷_ 108 (List._∷_ 111 (List._∷_ 99 (List._∷_ 107 (List._∷_ 58 (List._∷_ 58 (List._∷_ 70 (List._∷_ 111 (List._∷_ 114 (List._∷_ 109
-          List.[]))))))))))) (Syntax.tcons (Syntax.tyInt Syntax.w32) (Syntax.tcons Syntax.tyBool Syntax.tnil))),
-    ) (List._∷_ (11, Rows.any-gone (Syntax.tyInt Syntax.w64)) (List._∷_ (
-      12,
-      Rows.any-gone
-          (Syntax.tyInt Syntax.w64),
-    ) (List._∷_ (13, Rows.any-gone (Syntax.tyInt Syntax.w64)) (List._∷_ (14, Rows.any-gone (Syntax.tyInt Syntax.w64)) (List._∷_ (
-      15,
-      Rows.whole (Declared.row
-          Written.the-type),
-    ) List.[])))))))))))))))
-
-abbrev pub t8 : List.List Row.Entry
-t8 = List._∷_ (
-  0,
-  Rows.any-gone (Syntax.tyEnum (List._∷_ 98 (List._∷_ 108 (List._∷_ 111 (List._∷_ 99 (List._∷_ 107 (List._∷_ 58 (List._∷_ 58 (List._∷_ 87 (List._∷_ 114 (List._∷_ 105 (List._∷_ 116
-      (List._∷_ 116 (List._∷_ 101 (List._∷_ 110 List.[])))))))))))))) (Syntax.ttcons (Syntax.tcons (Syntax.tyInt Syntax.w64) Syntax.tnil) (Syntax.ttcons (Syntax.tcons (Syntax.tyEnum (List._∷_ 115 (List._∷_
-      116 (List._∷_ 114 (List._∷_ 101 (List._∷_ 97 (List._∷_ 109 (List._∷_ 58 (List._∷_ 58 (List._∷_ 82 (List._∷_ 101 (List._∷_ 102 (List._∷_ 117 (List._∷_ 115 (List._∷_ 97 (List._∷_ 108
-      List.[]))))))))))))))) (Syntax.ttcons Syntax.tnil (Syntax.ttcons Syntax.tnil (Syntax.ttcons Syntax.tnil (Syntax.ttcons (Syntax.tcons (Syntax.tyInt Syntax.w64) Syntax.tnil) (Syntax.ttcons Syntax.tnil
-      (Syntax.ttcons Syntax.tnil (Syntax.ttcons Syntax.tnil (Syntax.ttcons Syntax.tnil (Syntax.ttcons Syntax.tnil (Syntax.ttcons Syntax.tnil (Syntax.ttcons (Syntax.tcons (Syntax.tyInt Syntax.w64)
-      Syntax.tnil) (Syntax.ttcons (Syntax.tcons (Syntax.tyInt Syntax.w64) Syntax.tnil) (Syntax.ttcons Syntax.tnil (Syntax.ttcons (Syntax.tcons (Syntax.tyInt Syntax.w64) (Syntax.tcons (Syntax.tyInt
-      Syntax.w64) Syntax.tnil)) (Syntax.ttcons (Syntax.tcons (Syntax.tyInt Syntax.w64) Syntax.tnil) Syntax.ttnil)))))))))))))))) Syntax.tnil) Syntax.ttnil))),
-) (List._∷_ (
-  1,
-  Rows.sslice (Referent.rtF
-      (Referent.fInt Syntax.w8)) (Syntax.tyRef (Syntax.named 0) Syntax.imm (Syntax.tyInt Syntax.w8)) 0,
-) (List._∷_ (
-  2,
-  Rows.sslice (Referent.rtF (Referent.fInt Syntax.w16)) (Syntax.tyRef (Syntax.named 1)
-      Syntax.imm (Syntax.tyInt Syntax.w16)) 1,
-) (List._∷_ (3, Mut.mslice (Referent.rtF (Referent.fInt Syntax.w8)) (Syntax.tyRef (Syntax.named 2) Syntax.mut (Syntax.tyInt Syntax.w8)) 2) (List._∷_ (
-  4,
-  Mut.mslice (Referent.rtF (Referent.fInt Syntax.w16)) (Syntax.tyRef (Syntax.named 3) Syntax.mut (Syntax.tyInt Syntax.w16)) 3,
-) (List._∷_ (
-  5,
-  Mut.mslice (Element.type) (Syntax.tyRef (Syntax.named 4)
-      Syntax.mut Element.behind) 4,
-) (List._∷_ (6, Rows.whole (Declared.row Parsed.the-type)) (List._∷_ (
-  7,
-  Rows.any-gone (Syntax.tyEnum (List._∷_ 115 (List._∷_ 116 (List._∷_ 114 (List._∷_ 101 (List._∷_
-      97 (List._∷_ 109 (List._∷_ 58 (List._∷_ 58 (List._∷_ 82 (List._∷_ 101 (List._∷_ 102 (List._∷_ 117 (List._∷_ 115 (List._∷_ 97 (List._∷_ 108 List.[]))))))))))))))) (Syntax.ttcons Syntax.tnil
-      (Syntax.ttcons Syntax.tnil (Syntax.ttcons Syntax.tnil (Syntax.ttcons (Syntax.tcons (Syntax.tyInt Syntax.w64) Syntax.tnil) (Syntax.ttcons Syntax.tnil (Syntax.ttcons Syntax.tnil (Syntax.ttcons
-      Syntax.tnil (Syntax.ttcons Syntax.tnil (Syntax.ttcons Syntax.tnil (Syntax.ttcons Syntax.tnil (Syntax.ttcons (Syntax.tcons (Syntax.tyInt Syntax.w64) Syntax.tnil) (Syntax.ttcons (Syntax.tcons
-      (Syntax.tyInt Syntax.w64) Syntax.tnil) (Syntax.ttcons Syntax.tnil (Syntax.ttcons (Syntax.tcons (Syntax.tyInt Syntax.w64) (Syntax.tcons (Syntax.tyInt Syntax.w64) Syntax.tnil)) (Syntax.ttcons
-      (Syntax.tcons (Syntax.tyInt Syntax.w64) Syntax.tnil) Syntax.ttnil)))))))))))))))),
-) (List._∷_ (
-  8,
-  Rows.any-gone (Syntax.tyStruct (List._∷_ 115 (List._∷_ 116 (List._∷_ 114 (List._∷_ 101 (List._∷_ 97
-      (List._∷_ 109 (List._∷_ 58 (List._∷_ 58 (List._∷_ 70 (List._∷_ 117 (List._∷_ 106 (List._∷_ 105 (List._∷_ 72 (List._∷_ 101 (List._∷_ 97 (List._∷_ 100 (List._∷_ 101 (List._∷_ 114
-      List.[])))))))))))))))))) (Syntax.tcons Syntax.tyBool (Syntax.tcons Syntax.tyBool (Syntax.tcons (Syntax.tyInt Syntax.w32) (Syntax.tcons (Syntax.tyInt Syntax.w32) (Syntax.tcons (Syntax.tyInt
-      Syntax.w32) (Syntax.tcons (Syntax.tyInt Syntax.w32) (Syntax.tcons (Syntax.tyInt Syntax.w32) (Syntax.tcons (Syntax.tyInt Syntax.w32) (Syntax.tcons (Syntax.tyInt Syntax.w32) Syntax.tnil)))))))))),
-)
-    (List._∷_ (9, Rows.any-gone (Syntax.tyInt Syntax.w64)) (List._∷_ (
-      10,
-      Rows.any-gone (Syntax.tyStruct (List._∷_ 98 (List._∷_ 108 (List._∷_ 111 (List._∷_ 99 (List._∷_ 107 (List._∷_ 58 (List._∷_ 58
-          (List._∷_ 70 (List._∷_ 111 (List._∷_ 114 (List._∷_ 109 List.[]))))))))))) (Syntax.tcons (Syntax.tyInt Syntax.w32) (Syntax.tcons Syntax.tyBool Syntax.tnil))),
-    ) (List._∷_ (
-      11,
-      Rows.any-gone
-          (Syntax.tyInt Syntax.w64),
-    ) (List._∷_ (12, Rows.any-gone (Syntax.tyInt Syntax.w64)) (List._∷_ (13, Rows.sc-here (Row.sInt Syntax.w64)) (List._∷_ (14, Rows.sc-here (Row.sInt Syntax.w64)) (List._∷_ (
-      15,
-      Rows.any-gone (Syntax.tyEnum (List._∷_ 98 (List._∷_ 108 (List._∷_ 111 (List._∷_ 99 (List._∷_ 107 (List._∷_ 58 (List._∷_ 58 (List._∷_ 87 (List._∷_ 114 (List._∷_ 105 (List._∷_ 116 (List._∷_ 116
-          (List._∷_ 101 (List._∷_ 110 List.[])))))))))))))) (Syntax.ttcons (Syntax.tcons (Syntax.tyInt Syntax.w64) Syntax.tnil) (Syntax.ttcons (Syntax.tcons (Syntax.tyEnum (List._∷_ 115 (List._∷_ 116 (List._∷_
-          114 (List._∷_ 101 (List._∷_ 97 (List._∷_ 109 (List._∷_ 58 (List._∷_ 58 (List._∷_ 82 (List._∷_ 101 (List._∷_ 102 (List._∷_ 117 (List._∷_ 115 (List._∷_ 97 (List._∷_ 108 List.[])))))))))))))))
-          (Syntax.ttcons Syntax.tnil (Syntax.ttcons Syntax.tnil (Syntax.ttcons Syntax.tnil (Syntax.ttcons (Syntax.tcons (Syntax.tyInt Syntax.w64) Syntax.tnil) (Syntax.ttcons Syntax.tnil (Syntax.ttcons
-          Syntax.tnil (Syntax.ttcons Syntax.tnil (Syntax.ttcons Syntax.tnil (Syntax.ttcons Syntax.tnil (Syntax.ttcons Syntax.tnil (Syntax.ttcons (Syntax.tcons (Syntax.tyInt Syntax.w64) Syntax.tnil)
-          (Syntax.ttcons (Syntax.tcons (Syntax.tyInt Syntax.w64) Syntax.tnil) (Syntax.ttcons Syntax.tnil (Syntax.ttcons (Syntax.tcons (Syntax.tyInt Syntax.w64) (Syntax.tcons (Syntax.tyInt Syntax.w64)
-          Syntax.tnil)) (Syntax.ttcons (Syntax.tcons (Syntax.tyInt Syntax.w64) Syntax.tnil) Syntax.ttnil)))))))))))))))) Syntax.tnil) Syntax.ttnil))),
-    ) List.[])))))))))))))))
-
-abbrev pub t9 : List.List Row.Entry
-t9 = List._∷_ (
-  0,
-  Rows.any-gone (Syntax.tyEnum (List._∷_ 98 (List._∷_ 108 (List._∷_ 111 (List._∷_ 99 (List._∷_ 107 (List._∷_ 58 (List._∷_ 58 (List._∷_ 87 (List._∷_ 114 (List._∷_ 105 (List._∷_ 116
-      (List._∷_ 116 (List._∷_ 101 (List._∷_ 110 List.[])))))))))))))) (Syntax.ttcons (Syntax.tcons (Syntax.tyInt Syntax.w64) Syntax.tnil) (Syntax.ttcons (Syntax.tcons (Syntax.tyEnum (List._∷_ 115 (List._∷_
-      116 (List._∷_ 114 (List._∷_ 101 (List._∷_ 97 (List._∷_ 109 (List._∷_ 58 (List._∷_ 58 (List._∷_ 82 (List._∷_ 101 (List._∷_ 102 (List._∷_ 117 (List._∷_ 115 (List._∷_ 97 (List._∷_ 108
-      List.[]))))))))))))))) (Syntax.ttcons Syntax.tnil (Syntax.ttcons Syntax.tnil (Syntax.ttcons Syntax.tnil (Syntax.ttcons (Syntax.tcons (Syntax.tyInt Syntax.w64) Syntax.tnil) (Syntax.ttcons Syntax.tnil
-      (Syntax.ttcons Syntax.tnil (Syntax.ttcons Syntax.tnil (Syntax.ttcons Syntax.tnil (Syntax.ttcons Syntax.tnil (Syntax.ttcons Syntax.tnil (Syntax.ttcons (Syntax.tcons (Syntax.tyInt Syntax.w64)
-      Syntax.tnil) (Syntax.ttcons (Syntax.tcons (Syntax.tyInt Syntax.w64) Syntax.tnil) (Syntax.ttcons Syntax.tnil (Syntax.ttcons (Syntax.tcons (Syntax.tyInt Syntax.w64) (Syntax.tcons (Syntax.tyInt
-      Syntax.w64) Syntax.tnil)) (Syntax.ttcons (Syntax.tcons (Syntax.tyInt Syntax.w64) Syntax.tnil) Syntax.ttnil)))))))))))))))) Syntax.tnil) Syntax.ttnil))),
-) (List._∷_ (
-  1,
-  Rows.sslice (Referent.rtF
-      (Referent.fInt Syntax.w8)) (Syntax.tyRef (Syntax.named 0) Syntax.imm (Syntax.tyInt Syntax.w8)) 0,
-) (List._∷_ (
-  2,
-  Rows.sslice (Referent.rtF (Referent.fInt Syntax.w16)) (Syntax.tyRef (Syntax.named 1)
-      Syntax.imm (Syntax.tyInt Syntax.w16)) 1,
-) (List._∷_ (3, Mut.mslice (Referent.rtF (Referent.fInt Syntax.w8)) (Syntax.tyRef (Syntax.named 2) Syntax.mut (Syntax.tyInt Syntax.w8)) 2) (List._∷_ (
-  4,
-  Mut.mslice (Referent.rtF (Referent.fInt Syntax.w16)) (Syntax.tyRef (Syntax.named 3) Syntax.mut (Syntax.tyInt Syntax.w16)) 3,
-) (List._∷_ (
-  5,
-  Mut.mslice (Element.type) (Syntax.tyRef (Syntax.named 4)
-      Syntax.mut Element.behind) 4,
-) (List._∷_ (6, Rows.whole (Declared.row Parsed.the-type)) (List._∷_ (
-  7,
-  Rows.any-gone (Syntax.tyEnum (List._∷_ 115 (List._∷_ 116 (List._∷_ 114 (List._∷_ 101 (List._∷_
-      97 (List._∷_ 109 (List._∷_ 58 (List._∷_ 58 (List._∷_ 82 (List._∷_ 101 (List._∷_ 102 (List._∷_ 117 (List._∷_ 115 (List._∷_ 97 (List._∷_ 108 List.[]))))))))))))))) (Syntax.ttcons Syntax.tnil
-      (Syntax.ttcons Syntax.tnil (Syntax.ttcons Syntax.tnil (Syntax.ttcons (Syntax.tcons (Syntax.tyInt Syntax.w64) Syntax.tnil) (Syntax.ttcons Syntax.tnil (Syntax.ttcons Syntax.tnil (Syntax.ttcons
-      Syntax.tnil (Syntax.ttcons Syntax.tnil (Syntax.ttcons Syntax.tnil (Syntax.ttcons Syntax.tnil (Syntax.ttcons (Syntax.tcons (Syntax.tyInt Syntax.w64) Syntax.tnil) (Syntax.ttcons (Syntax.tcons
-      (Syntax.tyInt Syntax.w64) Syntax.tnil) (Syntax.ttcons Syntax.tnil (Syntax.ttcons (Syntax.tcons (Syntax.tyInt Syntax.w64) (Syntax.tcons (Syntax.tyInt Syntax.w64) Syntax.tnil)) (Syntax.ttcons
-      (Syntax.tcons (Syntax.tyInt Syntax.w64) Syntax.tnil) Syntax.ttnil)))))))))))))))),
-) (List._∷_ (
-  8,
-  Rows.any-gone (Syntax.tyStruct (List._∷_ 115 (List._∷_ 116 (List._∷_ 114 (List._∷_ 101 (List._∷_ 97
-      (List._∷_ 109 (List._∷_ 58 (List._∷_ 58 (List._∷_ 70 (List._∷_ 117 (List._∷_ 106 (List._∷_ 105 (List._∷_ 72 (List._∷_ 101 (List._∷_ 97 (List._∷_ 100 (List._∷_ 101 (List._∷_ 114
-      List.[])))))))))))))))))) (Syntax.tcons Syntax.tyBool (Syntax.tcons Syntax.tyBool (Syntax.tcons (Syntax.tyInt Syntax.w32) (Syntax.tcons (Syntax.tyInt Syntax.w32) (Syntax.tcons (Syntax.tyInt
-      Syntax.w32) (Syntax.tcons (Syntax.tyInt Syntax.w32) (Syntax.tcons (Syntax.tyInt Syntax.w32) (Syntax.tcons (Syntax.tyInt Syntax.w32) (Syntax.tcons (Syntax.tyInt Syntax.w32) Syntax.tnil)))))))))),
-)
-    (List._∷_ (9, Rows.any-gone (Syntax.tyInt Syntax.w64)) (List._∷_ (
-      10,
-      Rows.any-gone (Syntax.tyStruct (List._∷_ 98 (List._∷_ 108 (List._∷_ 111 (List._∷_ 99 (List._∷_ 107 (List._∷_ 58 (List._∷_ 58
-          (List._∷_ 70 (List._∷_ 111 (List._∷_ 114 (List._∷_ 109 List.[]))))))))))) (Syntax.tcons (Syntax.tyInt Syntax.w32) (Syntax.tcons Syntax.tyBool Syntax.tnil))),
-    ) (List._∷_ (
-      11,
-      Rows.any-gone
-          (Syntax.tyInt Syntax.w64),
-    ) (List._∷_ (12, Rows.any-gone (Syntax.tyInt Syntax.w64)) (List._∷_ (13, Rows.any-gone (Syntax.tyInt Syntax.w64)) (List._∷_ (14, Rows.sc-here (Row.sInt Syntax.w64))
-    (List._∷_ (
-      15,
-      Rows.any-gone (Syntax.tyEnum (List._∷_ 98 (List._∷_ 108 (List._∷_ 111 (List._∷_ 99 (List._∷_ 107 (List._∷_ 58 (List._∷_ 58 (List._∷_ 87 (List._∷_ 114 (List._∷_ 105 (List._∷_ 116
-          (List._∷_ 116 (List._∷_ 101 (List._∷_ 110 List.[])))))))))))))) (Syntax.ttcons (Syntax.tcons (Syntax.tyInt Syntax.w64) Syntax.tnil) (Syntax.ttcons (Syntax.tcons (Syntax.tyEnum (List._∷_ 115 (List._∷_
-          116 (List._∷_ 114 (List._∷_ 101 (List._∷_ 97 (List._∷_ 109 (List._∷_ 58 (List._∷_ 58 (List._∷_ 82 (List._∷_ 101 (List._∷_ 102 (List._∷_ 117 (List._∷_ 115 (List._∷_ 97 (List._∷_ 108
-          List.[]))))))))))))))) (Syntax.ttcons Syntax.tnil (Syntax.ttcons Syntax.tnil (Syntax.ttcons Syntax.tnil (Syntax.ttcons (Syntax.tcons (Syntax.tyInt Syntax.w64) Syntax.tnil) (Syntax.ttcons Syntax.tnil
-          (Syntax.ttcons Syntax.tnil (Syntax.ttcons Syntax.tnil (Syntax.ttcons Syntax.tnil (Syntax.ttcons Syntax.tnil (Syntax.ttcons Syntax.tnil (Syntax.ttcons (Syntax.tcons (Syntax.tyInt Syntax.w64)
-          Syntax.tnil) (Syntax.ttcons (Syntax.tcons (Syntax.tyInt Syntax.w64) Syntax.tnil) (Syntax.ttcons Syntax.tnil (Syntax.ttcons (Syntax.tcons (Syntax.tyInt Syntax.w64) (Syntax.tcons (Syntax.tyInt
-          Syntax.w64) Syntax.tnil)) (Syntax.ttcons (Syntax.tcons (Syntax.tyInt Syntax.w64) Syntax.tnil) Syntax.ttnil)))))))))))))))) Syntax.tnil) Syntax.ttnil))),
-    ) List.[])))))))))))))))
-
-abbrev pub t10 : List.List Row.Entry
-t10 = List._∷_ (
-  0,
-  Rows.any-gone (Syntax.tyEnum (List._∷_ 98 (List._∷_ 108 (List._∷_ 111 (List._∷_ 99 (List._∷_ 107 (List._∷_ 58 (List._∷_ 58 (List._∷_ 87 (List._∷_ 114 (List._∷_ 105 (List._∷_ 116
-      (List._∷_ 116 (List._∷_ 101 (List._∷_ 110 List.[])))))))))))))) (Syntax.ttcons (Syntax.tcons (Syntax.tyInt Syntax.w64) Syntax.tnil) (Syntax.ttcons (Syntax.tcons (Syntax.tyEnum (List._∷_ 115 (List._∷_
-      116 (List._∷_ 114 (List._∷_ 101 (List._∷_ 97 (List._∷_ 109 (List._∷_ 58 (List._∷_ 58 (List._∷_ 82 (List._∷_ 101 (List._∷_ 102 (List._∷_ 117 (List._∷_ 115 (List._∷_ 97 (List._∷_ 108
-      List.[]))))))))))))))) (Syntax.ttcons Syntax.tnil (Syntax.ttcons Syntax.tnil (Syntax.ttcons Syntax.tnil (Syntax.ttcons (Syntax.tcons (Syntax.tyInt Syntax.w64) Syntax.tnil) (Syntax.ttcons Syntax.tnil
-      (Syntax.ttcons Syntax.tnil (Syntax.ttcons Syntax.tnil (Syntax.ttcons Syntax.tnil (Syntax.ttcons Syntax.tnil (Syntax.ttcons Syntax.tnil (Syntax.ttcons (Syntax.tcons (Syntax.tyInt Syntax.w64)
-      Syntax.tnil) (Syntax.ttcons (Syntax.tcons (Syntax.tyInt Syntax.w64) Syntax.tnil) (Syntax.ttcons Syntax.tnil (Syntax.ttcons (Syntax.tcons (Syntax.tyInt Syntax.w64) (Syntax.tcons (Syntax.tyInt
-      Syntax.w64) Syntax.tnil)) (Syntax.ttcons (Syntax.tcons (Syntax.tyInt Syntax.w64) Syntax.tnil) Syntax.ttnil)))))))))))))))) Syntax.tnil) Syntax.ttnil))),
-) (List._∷_ (
-  1,
-  Rows.sslice (Referent.rtF
-      (Referent.fInt Syntax.w8)) (Syntax.tyRef (Syntax.named 0) Syntax.imm (Syntax.tyInt Syntax.w8)) 0,
-) (List._∷_ (
-  2,
-  Rows.sslice (Referent.rtF (Referent.fInt Syntax.w16)) (Syntax.tyRef (Syntax.named 1)
-      Syntax.imm (Syntax.tyInt Syntax.w16)) 1,
-) (List._∷_ (3, Mut.mslice (Referent.rtF (Referent.fInt Syntax.w8)) (Syntax.tyRef (Syntax.named 2) Syntax.mut (Syntax.tyInt Syntax.w8)) 2) (List._∷_ (
-  4,
-  Mut.mslice (Referent.rtF (Referent.fInt Syntax.w16)) (Syntax.tyRef (Syntax.named 3) Syntax.mut (Syntax.tyInt Syntax.w16)) 3,
-) (List._∷_ (
-  5,
-  Mut.mslice (Element.type) (Syntax.tyRef (Syntax.named 4)
-      Syntax.mut Element.behind) 4,
-) (List._∷_ (6, Rows.whole (Declared.row Parsed.the-type)) (List._∷_ (
-  7,
-  Rows.any-gone (Syntax.tyEnum (List._∷_ 115 (List._∷_ 116 (List._∷_ 114 (List._∷_ 101 (List._∷_
-      97 (List._∷_ 109 (List._∷_ 58 (List._∷_ 58 (List._∷_ 82 (List._∷_ 101 (List._∷_ 102 (List._∷_ 117 (List._∷_ 115 (List._∷_ 97 (List._∷_ 108 List.[]))))))))))))))) (Syntax.ttcons Syntax.tnil
-      (Syntax.ttcons Syntax.tnil (Syntax.ttcons Syntax.tnil (Syntax.ttcons (Syntax.tcons (Syntax.tyInt Syntax.w64) Syntax.tnil) (Syntax.ttcons Syntax.tnil (Syntax.ttcons Syntax.tnil (Syntax.ttcons
-      Syntax.tnil (Syntax.ttcons Syntax.tnil (Syntax.ttcons Syntax.tnil (Syntax.ttcons Syntax.tnil (Syntax.ttcons (Syntax.tcons (Syntax.tyInt Syntax.w64) Syntax.tnil) (Syntax.ttcons (Syntax.tcons
-      (Syntax.tyInt Syntax.w64) Syntax.tnil) (Syntax.ttcons Syntax.tnil (Syntax.ttcons (Syntax.tcons (Syntax.tyInt Syntax.w64) (Syntax.tcons (Syntax.tyInt Syntax.w64) Syntax.tnil)) (Syntax.ttcons
-      (Syntax.tcons (Syntax.tyInt Syntax.w64) Syntax.tnil) Syntax.ttnil)))))))))))))))),
-) (List._∷_ (
-  8,
-  Rows.any-gone (Syntax.tyStruct (List._∷_ 115 (List._∷_ 116 (List._∷_ 114 (List._∷_ 101 (List._∷_ 97
-      (List._∷_ 109 (List._∷_ 58 (List._∷_ 58 (List._∷_ 70 (List._∷_ 117 (List._∷_ 106 (List._∷_ 105 (List._∷_ 72 (List._∷_ 101 (List._∷_ 97 (List._∷_ 100 (List._∷_ 101 (List._∷_ 114
-      List.[])))))))))))))))))) (Syntax.tcons Syntax.tyBool (Syntax.tcons Syntax.tyBool (Syntax.tcons (Syntax.tyInt Syntax.w32) (Syntax.tcons (Syntax.tyInt Syntax.w32) (Syntax.tcons (Syntax.tyInt
-      Syntax.w32) (Syntax.tcons (Syntax.tyInt Syntax.w32) (Syntax.tcons (Syntax.tyInt Syntax.w32) (Syntax.tcons (Syntax.tyInt Syntax.w32) (Syntax.tcons (Syntax.tyInt Syntax.w32) Syntax.tnil)))))))))),
-)
-    (List._∷_ (9, Rows.any-gone (Syntax.tyInt Syntax.w64)) (List._∷_ (
-      10,
-      Rows.any-gone (Syntax.tyStruct (List._∷_ 98 (List._∷_ 108 (List._∷_ 111 (List._∷_ 99 (List._∷_ 107 (List._∷_ 58 (List._∷_ 58
-          (List._∷_ 70 (List._∷_ 111 (List._∷_ 114 (List._∷_ 109 List.[]))))))))))) (Syntax.tcons (Syntax.tyInt Syntax.w32) (Syntax.tcons Syntax.tyBool Syntax.tnil))),
-    ) (List._∷_ (
-      11,
-      Rows.any-gone
-          (Syntax.tyInt Syntax.w64),
-    ) (List._∷_ (12, Rows.any-gone (Syntax.tyInt Syntax.w64)) (List._∷_ (13, Rows.any-gone (Syntax.tyInt Syntax.w64)) (List._∷_ (14, Rows.any-gone (Syntax.tyInt Syntax.w64))
-    (List._∷_ (
-      15,
-      Rows.any-gone (Syntax.tyEnum (List._∷_ 98 (List._∷_ 108 (List._∷_ 111 (List._∷_ 99 (List._∷_ 107 (List._∷_ 58 (List._∷_ 58 (List._∷_ 87 (List._∷_ 114 (List._∷_ 105 (List._∷_ 116
-          (List._∷_ 116 (List._∷_ 101 (List._∷_ 110 List.[])))))))))))))) (Syntax.ttcons (Syntax.tcons (Syntax.tyInt Syntax.w64) Syntax.tnil) (Syntax.ttcons (Syntax.tcons (Syntax.tyEnum (List._∷_ 115 (List._∷_
-          116 (List._∷_ 114 (List._∷_ 101 (List._∷_ 97 (List._∷_ 109 (List._∷_ 58 (List._∷_ 58 (List._∷_ 82 (List._∷_ 101 (List._∷_ 102 (List._∷_ 117 (List._∷_ 115 (List._∷_ 97 (List._∷_ 108
-          List.[]))))))))))))))) (Syntax.ttcons Syntax.tnil (Syntax.ttcons Syntax.tnil (Syntax.ttcons Syntax.tnil (Syntax.ttcons (Syntax.tcons (Syntax.tyInt Syntax.w64) Syntax.tnil) (Syntax.ttcons Syntax.tnil
-          (Syntax.ttcons Syntax.tnil (Syntax.ttcons Syntax.tnil (Syntax.ttcons Syntax.tnil (Syntax.ttcons Syntax.tnil (Syntax.ttcons Syntax.tnil (Syntax.ttcons (Syntax.tcons (Syntax.tyInt Syntax.w64)
-          Syntax.tnil) (Syntax.ttcons (Syntax.tcons (Syntax.tyInt Syntax.w64) Syntax.tnil) (Syntax.ttcons Syntax.tnil (Syntax.ttcons (Syntax.tcons (Syntax.tyInt Syntax.w64) (Syntax.tcons (Syntax.tyInt
-          Syntax.w64) Syntax.tnil)) (Syntax.ttcons (Syntax.tcons (Syntax.tyInt Syntax.w64) Syntax.tnil) Syntax.ttnil)))))))))))))))) Syntax.tnil) Syntax.ttnil))),
-    ) List.[])))))))))))))))
-
-abbrev pub t11 : List.List Row.Entry
-t11 = List._∷_ (
-  0,
-  Rows.any-gone (Syntax.tyEnum (List._∷_ 98 (List._∷_ 108 (List._∷_ 111 (List._∷_ 99 (List._∷_ 107 (List._∷_ 58 (List._∷_ 58 (List._∷_ 87 (List._∷_ 114 (List._∷_ 105 (List._∷_ 116
-      (List._∷_ 116 (List._∷_ 101 (List._∷_ 110 List.[])))))))))))))) (Syntax.ttcons (Syntax.tcons (Syntax.tyInt Syntax.w64) Syntax.tnil) (Syntax.ttcons (Syntax.tcons (Syntax.tyEnum (List._∷_ 115 (List._∷_
-      116 (List._∷_ 114 (List._∷_ 101 (List._∷_ 97 (List._∷_ 109 (List._∷_ 58 (List._∷_ 58 (List._∷_ 82 (List._∷_ 101 (List._∷_ 102 (List._∷_ 117 (List._∷_ 115 (List._∷_ 97 (List._∷_ 108
-      List.[]))))))))))))))) (Syntax.ttcons Syntax.tnil (Syntax.ttcons Syntax.tnil (Syntax.ttcons Syntax.tnil (Syntax.ttcons (Syntax.tcons (Syntax.tyInt Syntax.w64) Syntax.tnil) (Syntax.ttcons Syntax.tnil
-      (Syntax.ttcons Syntax.tnil (Syntax.ttcons Syntax.tnil (Syntax.ttcons Syntax.tnil (Syntax.ttcons Syntax.tnil (Syntax.ttcons Syntax.tnil (Syntax.ttcons (Syntax.tcons (Syntax.tyInt Syntax.w64)
-      Syntax.tnil) (Syntax.ttcons (Syntax.tcons (Syntax.tyInt Syntax.w64) Syntax.tnil) (Syntax.ttcons Syntax.tnil (Syntax.ttcons (Syntax.tcons (Syntax.tyInt Syntax.w64) (Syntax.tcons (Syntax.tyInt
-      Syntax.w64) Syntax.tnil)) (Syntax.ttcons (Syntax.tcons (Syntax.tyInt Syntax.w64) Syntax.tnil) Syntax.ttnil)))))))))))))))) Syntax.tnil) Syntax.ttnil))),
-) (List._∷_ (
-  1,
-  Rows.sslice (Referent.rtF
-      (Referent.fInt Syntax.w8)) (Syntax.tyRef (Syntax.named 0) Syntax.imm (Syntax.tyInt Syntax.w8)) 0,
-) (List._∷_ (
-  2,
-  Rows.sslice (Referent.rtF (Referent.fInt Syntax.w16)) (Syntax.tyRef (Syntax.named 1)
-      Syntax.imm (Syntax.tyInt Syntax.w16)) 1,
-) (List._∷_ (3, Mut.mslice (Referent.rtF (Referent.fInt Syntax.w8)) (Syntax.tyRef (Syntax.named 2) Syntax.mut (Syntax.tyInt Syntax.w8)) 2) (List._∷_ (
-  4,
-  Mut.mslice (Referent.rtF (Referent.fInt Syntax.w16)) (Syntax.tyRef (Syntax.named 3) Syntax.mut (Syntax.tyInt Syntax.w16)) 3,
-) (List._∷_ (
-  5,
-  Mut.mslice (Element.type) (Syntax.tyRef (Syntax.named 4)
-      Syntax.mut Element.behind) 4,
-) (List._∷_ (6, Rows.whole (Known.Known Parsed.enum 1)) (List._∷_ (
-  7,
-  Rows.any-gone (Syntax.tyEnum (List._∷_ 115 (List._∷_ 116 (List._∷_ 114 (List._∷_ 101 (List._∷_ 97
-      (List._∷_ 109 (List._∷_ 58 (List._∷_ 58 (List._∷_ 82 (List._∷_ 101 (List._∷_ 102 (List._∷_ 117 (List._∷_ 115 (List._∷_ 97 (List._∷_ 108 List.[]))))))))))))))) (Syntax.ttcons Syntax.tnil (Syntax.ttcons
-      Syntax.tnil (Syntax.ttcons Syntax.tnil (Syntax.ttcons (Syntax.tcons (Syntax.tyInt Syntax.w64) Syntax.tnil) (Syntax.ttcons Syntax.tnil (Syntax.ttcons Syntax.tnil (Syntax.ttcons Syntax.tnil
-      (Syntax.ttcons Syntax.tnil (Syntax.ttcons Syntax.tnil (Syntax.ttcons Syntax.tnil (Syntax.ttcons (Syntax.tcons (Syntax.tyInt Syntax.w64) Syntax.tnil) (Syntax.ttcons (Syntax.tcons (Syntax.tyInt
-      Syntax.w64) Syntax.tnil) (Syntax.ttcons Syntax.tnil (Syntax.ttcons (Syntax.tcons (Syntax.tyInt Syntax.w64) (Syntax.tcons (Syntax.tyInt Syntax.w64) Syntax.tnil)) (Syntax.ttcons (Syntax.tcons
-      (Syntax.tyInt Syntax.w64) Syntax.tnil) Syntax.ttnil)))))))))))))))),
-) (List._∷_ (
-  8,
-  Rows.any-gone (Syntax.tyStruct (List._∷_ 115 (List._∷_ 116 (List._∷_ 114 (List._∷_ 101 (List._∷_ 97 (List._∷_ 109
-      (List._∷_ 58 (List._∷_ 58 (List._∷_ 70 (List._∷_ 117 (List._∷_ 106 (List._∷_ 105 (List._∷_ 72 (List._∷_ 101 (List._∷_ 97 (List._∷_ 100 (List._∷_ 101 (List._∷_ 114 List.[]))))))))))))))))))
-      (Syntax.tcons Syntax.tyBool (Syntax.tcons Syntax.tyBool (Syntax.tcons (Syntax.tyInt Syntax.w32) (Syntax.tcons (Syntax.tyInt Syntax.w32) (Syntax.tcons (Syntax.tyInt Syntax.w32) (Syntax.tcons
-      (Syntax.tyInt Syntax.w32) (Syntax.tcons (Syntax.tyInt Syntax.w32) (Syntax.tcons (Syntax.tyInt Syntax.w32) (Syntax.tcons (Syntax.tyInt Syntax.w32) Syntax.tnil)))))))))),
-) (List._∷_ (
-  9,
-  Rows.any-gone
-      (Syntax.tyInt Syntax.w64),
-) (List._∷_ (
-  10,
-  Rows.any-gone (Syntax.tyStruct (List._∷_ 98 (List._∷_ 108 (List._∷_ 111 (List._∷_ 99 (List._∷_ 107 (List._∷_ 58 (List._∷_ 58 (List._∷_ 70 (List._∷_ 111
-      (List._∷_ 114 (List._∷_ 109 List.[]))))))))))) (Syntax.tcons (Syntax.tyInt Syntax.w32) (Syntax.tcons Syntax.tyBool Syntax.tnil))),
-) (List._∷_ (11, Rows.any-gone (Syntax.tyInt Syntax.w64)) (List._∷_ (
-  12,
-  Rows.any-gone (Syntax.tyInt Syntax.w64),
-) (List._∷_ (13, Rows.any-gone (Syntax.tyInt Syntax.w64)) (List._∷_ (14, Rows.any-gone (Syntax.tyInt Syntax.w64)) (List._∷_ (
-  15,
-  Rows.any-gone
-      (Syntax.tyEnum (List._∷_ 98 (List._∷_ 108 (List._∷_ 111 (List._∷_ 99 (List._∷_ 107 (List._∷_ 58 (List._∷_ 58 (List._∷_ 87 (List._∷_ 114 (List._∷_ 105 (List._∷_ 116 (List._∷_ 116 (List._∷_ 101
-      (List._∷_ 110 List.[])))))))))))))) (Syntax.ttcons (Syntax.tcons (Syntax.tyInt Syntax.w64) Syntax.tnil) (Syntax.ttcons (Syntax.tcons (Syntax.tyEnum (List._∷_ 115 (List._∷_ 116 (List._∷_ 114 (List._∷_
-      101 (List._∷_ 97 (List._∷_ 109 (List._∷_ 58 (List._∷_ 58 (List._∷_ 82 (List._∷_ 101 (List._∷_ 102 (List._∷_ 117 (List._∷_ 115 (List._∷_ 97 (List._∷_ 108 List.[]))))))))))))))) (Syntax.ttcons
-      Syntax.tnil (Syntax.ttcons Syntax.tnil (Syntax.ttcons Syntax.tnil (Syntax.ttcons (Syntax.tcons (Syntax.tyInt Syntax.w64) Syntax.tnil) (Syntax.ttcons Syntax.tnil (Syntax.ttcons Syntax.tnil
-      (Syntax.ttcons Syntax.tnil (Syntax.ttcons Syntax.tnil (Syntax.ttcons Syntax.tnil (Syntax.ttcons Syntax.tnil (Syntax.ttcons (Syntax.tcons (Syntax.tyInt Syntax.w64) Syntax.tnil) (Syntax.ttcons
-      (Syntax.tcons (Syntax.tyInt Syntax.w64) Syntax.tnil) (Syntax.ttcons Syntax.tnil (Syntax.ttcons (Syntax.tcons (Syntax.tyInt Syntax.w64) (Syntax.tcons (Syntax.tyInt Syntax.w64) Syntax.tnil))
-      (Syntax.ttcons (Syntax.tcons (Syntax.tyInt Syntax.w64) Syntax.tnil) Syntax.ttnil)))))))))))))))) Syntax.tnil) Syntax.ttnil))),
-) List.[])))))))))))))))
-
-abbrev pub t12 : List.List Row.Entry
-t12 = List._∷_ (
-  0,
-  Rows.any-gone (Syntax.tyEnum (List._∷_ 98 (List._∷_ 108 (List._∷_ 111 (List._∷_ 99 (List._∷_ 107 (List._∷_ 58 (List._∷_ 58 (List._∷_ 87 (List._∷_ 114 (List._∷_ 105 (List._∷_ 116
-      (List._∷_ 116 (List._∷_ 101 (List._∷_ 110 List.[])))))))))))))) (Syntax.ttcons (Syntax.tcons (Syntax.tyInt Syntax.w64) Syntax.tnil) (Syntax.ttcons (Syntax.tcons (Syntax.tyEnum (List._∷_ 115 (List._∷_
-      116 (List._∷_ 114 (List._∷_ 101 (List._∷_ 97 (List._∷_ 109 (List._∷_ 58 (List._∷_ 58 (List._∷_ 82 (List._∷_ 101 (List._∷_ 102 (List._∷_ 117 (List._∷_ 115 (List._∷_ 97 (List._∷_ 108
-      List.[]))))))))))))))) (Syntax.ttcons Syntax.tnil (Syntax.ttcons Syntax.tnil (Syntax.ttcons Syntax.tnil (Syntax.ttcons (Syntax.tcons (Syntax.tyInt Syntax.w64) Syntax.tnil) (Syntax.ttcons Syntax.tnil
-      (Syntax.ttcons Syntax.tnil (Syntax.ttcons Syntax.tnil (Syntax.ttcons Syntax.tnil (Syntax.ttcons Syntax.tnil (Syntax.ttcons Syntax.tnil (Syntax.ttcons (Syntax.tcons (Syntax.tyInt Syntax.w64)
-      Syntax.tnil) (Syntax.ttcons (Syntax.tcons (Syntax.tyInt Syntax.w64) Syntax.tnil) (Syntax.ttcons Syntax.tnil (Syntax.ttcons (Syntax.tcons (Syntax.tyInt Syntax.w64) (Syntax.tcons (Syntax.tyInt
-      Syntax.w64) Syntax.tnil)) (Syntax.ttcons (Syntax.tcons (Syntax.tyInt Syntax.w64) Syntax.tnil) Syntax.ttnil)))))))))))))))) Syntax.tnil) Syntax.ttnil))),
-) (List._∷_ (
-  1,
-  Rows.sslice (Referent.rtF
-      (Referent.fInt Syntax.w8)) (Syntax.tyRef (Syntax.named 0) Syntax.imm (Syntax.tyInt Syntax.w8)) 0,
-) (List._∷_ (
-  2,
-  Rows.sslice (Referent.rtF (Referent.fInt Syntax.w16)) (Syntax.tyRef (Syntax.named 1)
-      Syntax.imm (Syntax.tyInt Syntax.w16)) 1,
-) (List._∷_ (3, Mut.mslice (Referent.rtF (Referent.fInt Syntax.w8)) (Syntax.tyRef (Syntax.named 2) Syntax.mut (Syntax.tyInt Syntax.w8)) 2) (List._∷_ (
-  4,
-  Mut.mslice (Referent.rtF (Referent.fInt Syntax.w16)) (Syntax.tyRef (Syntax.named 3) Syntax.mut (Syntax.tyInt Syntax.w16)) 3,
-) (List._∷_ (
-  5,
-  Mut.mslice (Element.type) (Syntax.tyRef (Syntax.named 4)
-      Syntax.mut Element.behind) 4,
-) (List._∷_ (6, Rows.whole (Known.Known Parsed.enum 1)) (List._∷_ (7, Rows.whole (Declared.row Refusal.the-type)) (List._∷_ (
-  8,
-  Rows.any-gone (Syntax.tyStruct
-      (List._∷_ 115 (List._∷_ 116 (List._∷_ 114 (List._∷_ 101 (List._∷_ 97 (List._∷_ 109 (List._∷_ 58 (List._∷_ 58 (List._∷_ 70 (List._∷_ 117 (List._∷_ 106 (List._∷_ 105 (List._∷_ 72 (List._∷_ 101 (List._∷_
-      97 (List._∷_ 100 (List._∷_ 101 (List._∷_ 114 List.[])))))))))))))))))) (Syntax.tcons Syntax.tyBool (Syntax.tcons Syntax.tyBool (Syntax.tcons (Syntax.tyInt Syntax.w32) (Syntax.tcons (Syntax.tyInt
-      Syntax.w32) (Syntax.tcons (Syntax.tyInt Syntax.w32) (Syntax.tcons (Syntax.tyInt Syntax.w32) (Syntax.tcons (Syntax.tyInt Syntax.w32) (Syntax.tcons (Syntax.tyInt Syntax.w32) (Syntax.tcons (Syntax.tyInt
-      Syntax.w32) Syntax.tnil)))))))))),
-) (List._∷_ (9, Rows.any-gone (Syntax.tyInt Syntax.w64)) (List._∷_ (
-  10,
-  Rows.any-gone (Syntax.tyStruct (List._∷_ 98 (List._∷_ 108 (List._∷_ 111 (List._∷_ 99
-      (List._∷_ 107 (List._∷_ 58 (List._∷_ 58 (List._∷_ 70 (List._∷_ 111 (List._∷_ 114 (List._∷_ 109 List.[]))))))))))) (Syntax.tcons (Syntax.tyInt Syntax.w32) (Syntax.tcons Syntax.tyBool Syntax.tnil))),
-)
-    (List._∷_ (11, Rows.any-gone (Syntax.tyInt Syntax.w64)) (List._∷_ (12, Rows.any-gone (Syntax.tyInt Syntax.w64)) (List._∷_ (13, Rows.any-gone (Syntax.tyInt Syntax.w64)) (List._∷_ (
-      14,
-      Rows.any-gone
-          (Syntax.tyInt Syntax.w64),
-    ) (List._∷_ (
-      15,
-      Rows.any-gone (Syntax.tyEnum (List._∷_ 98 (List._∷_ 108 (List._∷_ 111 (List._∷_ 99 (List._∷_ 107 (List._∷_ 58 (List._∷_ 58 (List._∷_ 87 (List._∷_ 114
-          (List._∷_ 105 (List._∷_ 116 (List._∷_ 116 (List._∷_ 101 (List._∷_ 110 List.[])))))))))))))) (Syntax.ttcons (Syntax.tcons (Syntax.tyInt Syntax.w64) Syntax.tnil) (Syntax.ttcons (Syntax.tcons
-          (Syntax.tyEnum (List._∷_ 115 (List._∷_ 116 (List._∷_ 114 (List._∷_ 101 (List._∷_ 97 (List._∷_ 109 (List._∷_ 58 (List._∷_ 58 (List._∷_ 82 (List._∷_ 101 (List._∷_ 102 (List._∷_ 117 (List._∷_ 115
-          (List._∷_ 97 (List._∷_ 108 List.[]))))))))))))))) (Syntax.ttcons Syntax.tnil (Syntax.ttcons Syntax.tnil (Syntax.ttcons Syntax.tnil (Syntax.ttcons (Syntax.tcons (Syntax.tyInt Syntax.w64) Syntax.tnil)
-          (Syntax.ttcons Syntax.tnil (Syntax.ttcons Syntax.tnil (Syntax.ttcons Syntax.tnil (Syntax.ttcons Syntax.tnil (Syntax.ttcons Syntax.tnil (Syntax.ttcons Syntax.tnil (Syntax.ttcons (Syntax.tcons
-          (Syntax.tyInt Syntax.w64) Syntax.tnil) (Syntax.ttcons (Syntax.tcons (Syntax.tyInt Syntax.w64) Syntax.tnil) (Syntax.ttcons Syntax.tnil (Syntax.ttcons (Syntax.tcons (Syntax.tyInt Syntax.w64)
-          (Syntax.tcons (Syntax.tyInt Syntax.w64) Syntax.tnil)) (Syntax.ttcons (Syntax.tcons (Syntax.tyInt Syntax.w64) Syntax.tnil) Syntax.ttnil)))))))))))))))) Syntax.tnil) Syntax.ttnil))),
-    )
-    List.[])))))))))))))))
-
-abbrev pub t13 : List.List Row.Entry
-t13 = List._∷_ (
-  0,
-  Rows.any-gone (Syntax.tyEnum (List._∷_ 98 (List._∷_ 108 (List._∷_ 111 (List._∷_ 99 (List._∷_ 107 (List._∷_ 58 (List._∷_ 58 (List._∷_ 87 (List._∷_ 114 (List._∷_ 105 (List._∷_ 116
-      (List._∷_ 116 (List._∷_ 101 (List._∷_ 110 List.[])))))))))))))) (Syntax.ttcons (Syntax.tcons (Syntax.tyInt Syntax.w64) Syntax.tnil) (Syntax.ttcons (Syntax.tcons (Syntax.tyEnum (List._∷_ 115 (List._∷_
-      116 (List._∷_ 114 (List._∷_ 101 (List._∷_ 97 (List._∷_ 109 (List._∷_ 58 (List._∷_ 58 (List._∷_ 82 (List._∷_ 101 (List._∷_ 102 (List._∷_ 117 (List._∷_ 115 (List._∷_ 97 (List._∷_ 108
-      List.[]))))))))))))))) (Syntax.ttcons Syntax.tnil (Syntax.ttcons Syntax.tnil (Syntax.ttcons Syntax.tnil (Syntax.ttcons (Syntax.tcons (Syntax.tyInt Syntax.w64) Syntax.tnil) (Syntax.ttcons Syntax.tnil
-      (Syntax.ttcons Syntax.tnil (Syntax.ttcons Syntax.tnil (Syntax.ttcons Syntax.tnil (Syntax.ttcons Syntax.tnil (Syntax.ttcons Syntax.tnil (Syntax.ttcons (Syntax.tcons (Syntax.tyInt Syntax.w64)
-      Syntax.tnil) (Syntax.ttcons (Syntax.tcons (Syntax.tyInt Syntax.w64) Syntax.tnil) (Syntax.ttcons Syntax.tnil (Syntax.ttcons (Syntax.tcons (Syntax.tyInt Syntax.w64) (Syntax.tcons (Syntax.tyInt
-      Syntax.w64) Syntax.tnil)) (Syntax.ttcons (Syntax.tcons (Syntax.tyInt Syntax.w64) Syntax.tnil) Syntax.ttnil)))))))))))))))) Syntax.tnil) Syntax.ttnil))),
-) (List._∷_ (
-  1,
-  Rows.sslice (Referent.rtF
-      (Referent.fInt Syntax.w8)) (Syntax.tyRef (Syntax.named 0) Syntax.imm (Syntax.tyInt Syntax.w8)) 0,
-) (List._∷_ (
-  2,
-  Rows.sslice (Referent.rtF (Referent.fInt Syntax.w16)) (Syntax.tyRef (Syntax.named 1)
-      Syntax.imm (Syntax.tyInt Syntax.w16)) 1,
-) (List._∷_ (3, Mut.mslice (Referent.rtF (Referent.fInt Syntax.w8)) (Syntax.tyRef (Syntax.named 2) Syntax.mut (Syntax.tyInt Syntax.w8)) 2) (List._∷_ (
-  4,
-  Mut.mslice (Referent.rtF (Referent.fInt Syntax.w16)) (Syntax.tyRef (Syntax.named 3) Syntax.mut (Syntax.tyInt Syntax.w16)) 3,
-) (List._∷_ (
-  5,
-  Mut.mslice (Element.type) (Syntax.tyRef (Syntax.named 4)
-      Syntax.mut Element.behind) 4,
-) (List._∷_ (
-  6,
-  Rows.any-gone (Syntax.tyEnum (List._∷_ 115 (List._∷_ 116 (List._∷_ 114 (List._∷_ 101 (List._∷_ 97 (List._∷_ 109 (List._∷_ 58 (List._∷_ 58 (List._∷_ 80
-      (List._∷_ 97 (List._∷_ 114 (List._∷_ 115 (List._∷_ 101 (List._∷_ 100 List.[])))))))))))))) (Syntax.ttcons (Syntax.tcons (Syntax.tyStruct (List._∷_ 115 (List._∷_ 116 (List._∷_ 114 (List._∷_ 101
-      (List._∷_ 97 (List._∷_ 109 (List._∷_ 58 (List._∷_ 58 (List._∷_ 70 (List._∷_ 117 (List._∷_ 106 (List._∷_ 105 (List._∷_ 72 (List._∷_ 101 (List._∷_ 97 (List._∷_ 100 (List._∷_ 101 (List._∷_ 114
-      List.[])))))))))))))))))) (Syntax.tcons Syntax.tyBool (Syntax.tcons Syntax.tyBool (Syntax.tcons (Syntax.tyInt Syntax.w32) (Syntax.tcons (Syntax.tyInt Syntax.w32) (Syntax.tcons (Syntax.tyInt
-      Syntax.w32) (Syntax.tcons (Syntax.tyInt Syntax.w32) (Syntax.tcons (Syntax.tyInt Syntax.w32) (Syntax.tcons (Syntax.tyInt Syntax.w32) (Syntax.tcons (Syntax.tyInt Syntax.w32) Syntax.tnil))))))))))
-      Syntax.tnil) (Syntax.ttcons (Syntax.tcons (Syntax.tyEnum (List._∷_ 115 (List._∷_ 116 (List._∷_ 114 (List._∷_ 101 (List._∷_ 97 (List._∷_ 109 (List._∷_ 58 (List._∷_ 58 (List._∷_ 82 (List._∷_ 101
-      (List._∷_ 102 (List._∷_ 117 (List._∷_ 115 (List._∷_ 97 (List._∷_ 108 List.[]))))))))))))))) (Syntax.ttcons Syntax.tnil (Syntax.ttcons Syntax.tnil (Syntax.ttcons Syntax.tnil (Syntax.ttcons
-      (Syntax.tcons (Syntax.tyInt Syntax.w64) Syntax.tnil) (Syntax.ttcons Syntax.tnil (Syntax.ttcons Syntax.tnil (Syntax.ttcons Syntax.tnil (Syntax.ttcons Syntax.tnil (Syntax.ttcons Syntax.tnil
-      (Syntax.ttcons Syntax.tnil (Syntax.ttcons (Syntax.tcons (Syntax.tyInt Syntax.w64) Syntax.tnil) (Syntax.ttcons (Syntax.tcons (Syntax.tyInt Syntax.w64) Syntax.tnil) (Syntax.ttcons Syntax.tnil
-      (Syntax.ttcons (Syntax.tcons (Syntax.tyInt Syntax.w64) (Syntax.tcons (Syntax.tyInt Syntax.w64) Syntax.tnil)) (Syntax.ttcons (Syntax.tcons (Syntax.tyInt Syntax.w64) Syntax.tnil)
-      Syntax.ttnil)))))))))))))))) Syntax.tnil) Syntax.ttnil))),
-) (List._∷_ (7, Rows.whole (Declared.row Refusal.the-type)) (List._∷_ (
-  8,
-  Rows.any-gone (Syntax.tyStruct (List._∷_ 115 (List._∷_ 116
-      (List._∷_ 114 (List._∷_ 101 (List._∷_ 97 (List._∷_ 109 (List._∷_ 58 (List._∷_ 58 (List._∷_ 70 (List._∷_ 117 (List._∷_ 106 (List._∷_ 105 (List._∷_ 72 (List._∷_ 101 (List._∷_ 97 (List._∷_ 100 (List._∷_
-      101 (List._∷_ 114 List.[])))))))))))))))))) (Syntax.tcons Syntax.tyBool (Syntax.tcons Syntax.tyBool (Syntax.tcons (Syntax.tyInt Syntax.w32) (Syntax.tcons (Syntax.tyInt Syntax.w32) (Syntax.tcons
-      (Syntax.tyInt Syntax.w32) (Syntax.tcons (Syntax.tyInt Syntax.w32) (Syntax.tcons (Syntax.tyInt Syntax.w32) (Syntax.tcons (Syntax.tyInt Syntax.w32) (Syntax.tcons (Syntax.tyInt Syntax.w32)
-      Syntax.tnil)))))))))),
-) (List._∷_ (9, Rows.any-gone (Syntax.tyInt Syntax.w64)) (List._∷_ (
-  10,
-  Rows.any-gone (Syntax.tyStruct (List._∷_ 98 (List._∷_ 108 (List._∷_ 111 (List._∷_ 99 (List._∷_ 107
-      (List._∷_ 58 (List._∷_ 58 (List._∷_ 70 (List._∷_ 111 (List._∷_ 114 (List._∷_ 109 List.[]))))))))))) (Syntax.tcons (Syntax.tyInt Syntax.w32) (Syntax.tcons Syntax.tyBool Syntax.tnil))),
-) (List._∷_ (
-  11,
-  Rows.any-gone (Syntax.tyInt Syntax.w64),
-) (List._∷_ (12, Rows.any-gone (Syntax.tyInt Syntax.w64)) (List._∷_ (13, Rows.any-gone (Syntax.tyInt Syntax.w64)) (List._∷_ (
-  14,
-  Rows.any-gone (Syntax.tyInt
-      Syntax.w64),
-) (List._∷_ (
-  15,
-  Rows.any-gone (Syntax.tyEnum (List._∷_ 98 (List._∷_ 108 (List._∷_ 111 (List._∷_ 99 (List._∷_ 107 (List._∷_ 58 (List._∷_ 58 (List._∷_ 87 (List._∷_ 114 (List._∷_ 105
-      (List._∷_ 116 (List._∷_ 116 (List._∷_ 101 (List._∷_ 110 List.[])))))))))))))) (Syntax.ttcons (Syntax.tcons (Syntax.tyInt Syntax.w64) Syntax.tnil) (Syntax.ttcons (Syntax.tcons (Syntax.tyEnum (List._∷_
-      115 (List._∷_ 116 (List._∷_ 114 (List._∷_ 101 (List._∷_ 97 (List._∷_ 109 (List._∷_ 58 (List._∷_ 58 (List._∷_ 82 (List._∷_ 101 (List._∷_ 102 (List._∷_ 117 (List._∷_ 115 (List._∷_ 97 (List._∷_ 108
-      List.[]))))))))))))))) (Syntax.ttcons Syntax.tnil (Syntax.ttcons Syntax.tnil (Syntax.ttcons Syntax.tnil (Syntax.ttcons (Syntax.tcons (Syntax.tyInt Syntax.w64) Syntax.tnil) (Syntax.ttcons Syntax.tnil
-      (Syntax.ttcons Syntax.tnil (Syntax.ttcons Syntax.tnil (Syntax.ttcons Syntax.tnil (Syntax.ttcons Syntax.tnil (Syntax.ttcons Syntax.tnil (Syntax.ttcons (Syntax.tcons (Syntax.tyInt Syntax.w64)
-      Syntax.tnil) (Syntax.ttcons (Syntax.tcons (Syntax.tyInt Syntax.w64) Syntax.tnil) (Syntax.ttcons Syntax.tnil (Syntax.ttcons (Syntax.tcons (Syntax.tyInt Syntax.w64) (Syntax.tcons (Syntax.tyInt
-      Syntax.w64) Syntax.tnil)) (Syntax.ttcons (Syntax.tcons (Syntax.tyInt Syntax.w64) Syntax.tnil) Syntax.ttnil)))))))))))))))) Syntax.tnil) Syntax.ttnil))),
-) List.[])))))))))))))))
-
-abbrev pub t14 : List.List Row.Entry
-t14 = List._∷_ (
-  0,
-  Rows.any-gone (Syntax.tyEnum (List._∷_ 98 (List._∷_ 108 (List._∷_ 111 (List._∷_ 99 (List._∷_ 107 (List._∷_ 58 (List._∷_ 58 (List._∷_ 87 (List._∷_ 114 (List._∷_ 105 (List._∷_ 116
-      (List._∷_ 116 (List._∷_ 101 (List._∷_ 110 List.[])))))))))))))) (Syntax.ttcons (Syntax.tcons (Syntax.tyInt Syntax.w64) Syntax.tnil) (Syntax.ttcons (Syntax.tcons (Syntax.tyEnum (List._∷_ 115 (List._∷_
-      116 (List._∷_ 114 (List._∷_ 101 (List._∷_ 97 (List._∷_ 109 (List._∷_ 58 (List._∷_ 58 (List._∷_ 82 (List._∷_ 101 (List._∷_ 102 (List._∷_ 117 (List._∷_ 115 (List._∷_ 97 (List._∷_ 108
-      List.[]))))))))))))))) (Syntax.ttcons Syntax.tnil (Syntax.ttcons Syntax.tnil (Syntax.ttcons Syntax.tnil (Syntax.ttcons (Syntax.tcons (Syntax.tyInt Syntax.w64) Syntax.tnil) (Syntax.ttcons Syntax.tnil
-      (Syntax.ttcons Syntax.tnil (Syntax.ttcons Syntax.tnil (Syntax.ttcons Syntax.tnil (Syntax.ttcons Syntax.tnil (Syntax.ttcons Syntax.tnil (Syntax.ttcons (Syntax.tcons (Syntax.tyInt Syntax.w64)
-      Syntax.tnil) (Syntax.ttcons (Syntax.tcons (Syntax.tyInt Syntax.w64) Syntax.tnil) (Syntax.ttcons Syntax.tnil (Syntax.ttcons (Syntax.tcons (Syntax.tyInt Syntax.w64) (Syntax.tcons (Syntax.tyInt
-      Syntax.w64) Syntax.tnil)) (Syntax.ttcons (Syntax.tcons (Syntax.tyInt Syntax.w64) Syntax.tnil) Syntax.ttnil)))))))))))))))) Syntax.tnil) Syntax.ttnil))),
-) (List._∷_ (
-  1,
-  Rows.sslice (Referent.rtF
-      (Referent.fInt Syntax.w8)) (Syntax.tyRef (Syntax.named 0) Syntax.imm (Syntax.tyInt Syntax.w8)) 0,
-) (List._∷_ (
-  2,
-  Rows.sslice (Referent.rtF (Referent.fInt Syntax.w16)) (Syntax.tyRef (Syntax.named 1)
-      Syntax.imm (Syntax.tyInt Syntax.w16)) 1,
-) (List._∷_ (3, Mut.mslice (Referent.rtF (Referent.fInt Syntax.w8)) (Syntax.tyRef (Syntax.named 2) Syntax.mut (Syntax.tyInt Syntax.w8)) 2) (List._∷_ (
-  4,
-  Mut.mslice (Referent.rtF (Referent.fInt Syntax.w16)) (Syntax.tyRef (Syntax.named 3) Syntax.mut (Syntax.tyInt Syntax.w16)) 3,
-) (List._∷_ (
-  5,
-  Mut.mslice (Element.type) (Syntax.tyRef (Syntax.named 4)
-      Syntax.mut Element.behind) 4,
-) (List._∷_ (
-  6,
-  Rows.any-gone (Syntax.tyEnum (List._∷_ 115 (List._∷_ 116 (List._∷_ 114 (List._∷_ 101 (List._∷_ 97 (List._∷_ 109 (List._∷_ 58 (List._∷_ 58 (List._∷_ 80
-      (List._∷_ 97 (List._∷_ 114 (List._∷_ 115 (List._∷_ 101 (List._∷_ 100 List.[])))))))))))))) (Syntax.ttcons (Syntax.tcons (Syntax.tyStruct (List._∷_ 115 (List._∷_ 116 (List._∷_ 114 (List._∷_ 101
-      (List._∷_ 97 (List._∷_ 109 (List._∷_ 58 (List._∷_ 58 (List._∷_ 70 (List._∷_ 117 (List._∷_ 106 (List._∷_ 105 (List._∷_ 72 (List._∷_ 101 (List._∷_ 97 (List._∷_ 100 (List._∷_ 101 (List._∷_ 114
-      List.[])))))))))))))))))) (Syntax.tcons Syntax.tyBool (Syntax.tcons Syntax.tyBool (Syntax.tcons (Syntax.tyInt Syntax.w32) (Syntax.tcons (Syntax.tyInt Syntax.w32) (Syntax.tcons (Syntax.tyInt
-      Syntax.w32) (Syntax.tcons (Syntax.tyInt Syntax.w32) (Syntax.tcons (Syntax.tyInt Syntax.w32) (Syntax.tcons (Syntax.tyInt Syntax.w32) (Syntax.tcons (Syntax.tyInt Syntax.w32) Syntax.tnil))))))))))
-      Syntax.tnil) (Syntax.ttcons (Syntax.tcons (Syntax.tyEnum (List._∷_ 115 (List._∷_ 116 (List._∷_ 114 (List._∷_ 101 (List._∷_ 97 (List._∷_ 109 (List._∷_ 58 (List._∷_ 58 (List._∷_ 82 (List._∷_ 101
-      (List._∷_ 102 (List._∷_ 117 (List._∷_ 115 (List._∷_ 97 (List._∷_ 108 List.[]))))))))))))))) (Syntax.ttcons Syntax.tnil (Syntax.ttcons Syntax.tnil (Syntax.ttcons Syntax.tnil (Syntax.ttcons
-      (Syntax.tcons (Syntax.tyInt Syntax.w64) Syntax.tnil) (Syntax.ttcons Syntax.tnil (Syntax.ttcons Syntax.tnil (Syntax.ttcons Syntax.tnil (Syntax.ttcons Syntax.tnil (Syntax.ttcons Syntax.tnil
-      (Syntax.ttcons Syntax.tnil (Syntax.ttcons (Syntax.tcons (Syntax.tyInt Syntax.w64) Syntax.tnil) (Syntax.ttcons (Syntax.tcons (Syntax.tyInt Syntax.w64) Syntax.tnil) (Syntax.ttcons Syntax.tnil
-      (Syntax.ttcons (Syntax.tcons (Syntax.tyInt Syntax.w64) (Syntax.tcons (Syntax.tyInt Syntax.w64) Syntax.tnil)) (Syntax.ttcons (Syntax.tcons (Syntax.tyInt Syntax.w64) Syntax.tnil)
-      Syntax.ttnil)))))))))))))))) Syntax.tnil) Syntax.ttnil))),
-) (List._∷_ (7, Rows.whole (Declared.row Refusal.the-type)) (List._∷_ (
-  8,
-  Rows.any-gone (Syntax.tyStruct (List._∷_ 115 (List._∷_ 116
-      (List._∷_ 114 (List._∷_ 101 (List._∷_ 97 (List._∷_ 109 (List._∷_ 58 (List._∷_ 58 (List._∷_ 70 (List._∷_ 117 (List._∷_ 106 (List._∷_ 105 (List._∷_ 72 (List._∷_ 101 (List._∷_ 97 (List._∷_ 100 (List._∷_
-      101 (List._∷_ 114 List.[])))))))))))))))))) (Syntax.tcons Syntax.tyBool (Syntax.tcons Syntax.tyBool (Syntax.tcons (Syntax.tyInt Syntax.w32) (Syntax.tcons (Syntax.tyInt Syntax.w32) (Syntax.tcons
-      (Syntax.tyInt Syntax.w32) (Syntax.tcons (Syntax.tyInt Syntax.w32) (Syntax.tcons (Syntax.tyInt Syntax.w32) (Syntax.tcons (Syntax.tyInt Syntax.w32) (Syntax.tcons (Syntax.tyInt Syntax.w32)
-      Syntax.tnil)))))))))),
-) (List._∷_ (9, Rows.any-gone (Syntax.tyInt Syntax.w64)) (List._∷_ (
-  10,
-  Rows.any-gone (Syntax.tyStruct (List._∷_ 98 (List._∷_ 108 (List._∷_ 111 (List._∷_ 99 (List._∷_ 107
-      (List._∷_ 58 (List._∷_ 58 (List._∷_ 70 (List._∷_ 111 (List._∷_ 114 (List._∷_ 109 List.[]))))))))))) (Syntax.tcons (Syntax.tyInt Syntax.w32) (Syntax.tcons Syntax.tyBool Syntax.tnil))),
-) (List._∷_ (
-  11,
-  Rows.any-gone (Syntax.tyInt Syntax.w64),
-) (List._∷_ (12, Rows.any-gone (Syntax.tyInt Syntax.w64)) (List._∷_ (13, Rows.any-gone (Syntax.tyInt Syntax.w64)) (List._∷_ (
-  14,
-  Rows.any-gone (Syntax.tyInt
-      Syntax.w64),
-) (List._∷_ (15, Rows.whole (Declared.row Written.the-type)) List.[])))))))))))))))
-
-abbrev pub t15 : List.List Row.Entry
-t15 = List._∷_ (
-  0,
-  Rows.any-gone (Syntax.tyEnum (List._∷_ 98 (List._∷_ 108 (List._∷_ 111 (List._∷_ 99 (List._∷_ 107 (List._∷_ 58 (List._∷_ 58 (List._∷_ 87 (List._∷_ 114 (List._∷_ 105 (List._∷_ 116
-      (List._∷_ 116 (List._∷_ 101 (List._∷_ 110 List.[])))))))))))))) (Syntax.ttcons (Syntax.tcons (Syntax.tyInt Syntax.w64) Syntax.tnil) (Syntax.ttcons (Syntax.tcons (Syntax.tyEnum (List._∷_ 115 (List._∷_
-      116 (List._∷_ 114 (List._∷_ 101 (List._∷_ 97 (List._∷_ 109 (List._∷_ 58 (List._∷_ 58 (List._∷_ 82 (List._∷_ 101 (List._∷_ 102 (List._∷_ 117 (List._∷_ 115 (List._∷_ 97 (List._∷_ 108
-      List.[]))))))))))))))) (Syntax.ttcons Syntax.tnil (Syntax.ttcons Syntax.tnil (Syntax.ttcons Syntax.tnil (Syntax.ttcons (Syntax.tcons (Syntax.tyInt Syntax.w64) Syntax.tnil) (Syntax.ttcons Syntax.tnil
-      (Syntax.ttcons Syntax.tnil (Syntax.ttcons Syntax.tnil (Syntax.ttcons Syntax.tnil (Syntax.ttcons Syntax.tnil (Syntax.ttcons Syntax.tnil (Syntax.ttcons (Syntax.tcons (Syntax.tyInt Syntax.w64)
-      Syntax.tnil) (Syntax.ttcons (Syntax.tcons (Syntax.tyInt Syntax.w64) Syntax.tnil) (Syntax.ttcons Syntax.tnil (Syntax.ttcons (Syntax.tcons (Syntax.tyInt Syntax.w64) (Syntax.tcons (Syntax.tyInt
-      Syntax.w64) Syntax.tnil)) (Syntax.ttcons (Syntax.tcons (Syntax.tyInt Syntax.w64) Syntax.tnil) Syntax.ttnil)))))))))))))))) Syntax.tnil) Syntax.ttnil))),
-) (List._∷_ (
-  1,
-  Rows.sslice (Referent.rtF
-      (Referent.fInt Syntax.w8)) (Syntax.tyRef (Syntax.named 0) Syntax.imm (Syntax.tyInt Syntax.w8)) 0,
-) (List._∷_ (
-  2,
-  Rows.sslice (Referent.rtF (Referent.fInt Syntax.w16)) (Syntax.tyRef (Syntax.named 1)
-      Syntax.imm (Syntax.tyInt Syntax.w16)) 1,
-) (List._∷_ (3, Mut.mslice (Referent.rtF (Referent.fInt Syntax.w8)) (Syntax.tyRef (Syntax.named 2) Syntax.mut (Syntax.tyInt Syntax.w8)) 2) (List._∷_ (
-  4,
-  Mut.mslice (Referent.rtF (Referent.fInt Syntax.w16)) (Syntax.tyRef (Syntax.named 3) Syntax.mut (Syntax.tyInt Syntax.w16)) 3,
-) (List._∷_ (
-  5,
-  Mut.mslice (Element.type) (Syntax.tyRef (Syntax.named 4)
-      Syntax.mut Element.behind) 4,
-) (List._∷_ (6, Rows.whole (Known.Known Parsed.enum 0)) (List._∷_ (
-  7,
-  Rows.any-gone (Syntax.tyEnum (List._∷_ 115 (List._∷_ 116 (List._∷_ 114 (List._∷_ 101 (List._∷_ 97
-      (List._∷_ 109 (List._∷_ 58 (List._∷_ 58 (List._∷_ 82 (List._∷_ 101 (List._∷_ 102 (List._∷_ 117 (List._∷_ 115 (List._∷_ 97 (List._∷_ 108 List.[]))))))))))))))) (Syntax.ttcons Syntax.tnil (Syntax.ttcons
-      Syntax.tnil (Syntax.ttcons Syntax.tnil (Syntax.ttcons (Syntax.tcons (Syntax.tyInt Syntax.w64) Syntax.tnil) (Syntax.ttcons Syntax.tnil (Syntax.ttcons Syntax.tnil (Syntax.ttcons Syntax.tnil
-      (Syntax.ttcons Syntax.tnil (Syntax.ttcons Syntax.tnil (Syntax.ttcons Syntax.tnil (Syntax.ttcons (Syntax.tcons (Syntax.tyInt Syntax.w64) Syntax.tnil) (Syntax.ttcons (Syntax.tcons (Syntax.tyInt
-      Syntax.w64) Syntax.tnil) (Syntax.ttcons Syntax.tnil (Syntax.ttcons (Syntax.tcons (Syntax.tyInt Syntax.w64) (Syntax.tcons (Syntax.tyInt Syntax.w64) Syntax.tnil)) (Syntax.ttcons (Syntax.tcons
-      (Syntax.tyInt Syntax.w64) Syntax.tnil) Syntax.ttnil)))))))))))))))),
-) (List._∷_ (
-  8,
-  Rows.any-gone (Syntax.tyStruct (List._∷_ 115 (List._∷_ 116 (List._∷_ 114 (List._∷_ 101 (List._∷_ 97 (List._∷_ 109
-      (List._∷_ 58 (List._∷_ 58 (List._∷_ 70 (List._∷_ 117 (List._∷_ 106 (List._∷_ 105 (List._∷_ 72 (List._∷_ 101 (List._∷_ 97 (List._∷_ 100 (List._∷_ 101 (List._∷_ 114 List.[]))))))))))))))))))
-      (Syntax.tcons Syntax.tyBool (Syntax.tcons Syntax.tyBool (Syntax.tcons (Syntax.tyInt Syntax.w32) (Syntax.tcons (Syntax.tyInt Syntax.w32) (Syntax.tcons (Syntax.tyInt Syntax.w32) (Syntax.tcons
-      (Syntax.tyInt Syntax.w32) (Syntax.tcons (Syntax.tyInt Syntax.w32) (Syntax.tcons (Syntax.tyInt Syntax.w32) (Syntax.tcons (Syntax.tyInt Syntax.w32) Syntax.tnil)))))))))),
-) (List._∷_ (
-  9,
-  Rows.any-gone
-      (Syntax.tyInt Syntax.w64),
-) (List._∷_ (
-  10,
-  Rows.any-gone (Syntax.tyStruct (List._∷_ 98 (List._∷_ 108 (List._∷_ 111 (List._∷_ 99 (List._∷_ 107 (List._∷_ 58 (List._∷_ 58 (List._∷_ 70 (List._∷_ 111
-      (List._∷_ 114 (List._∷_ 109 List.[]))))))))))) (Syntax.tcons (Syntax.tyInt Syntax.w32) (Syntax.tcons Syntax.tyBool Syntax.tnil))),
-) (List._∷_ (11, Rows.any-gone (Syntax.tyInt Syntax.w64)) (List._∷_ (
-  12,
-  Rows.any-gone (Syntax.tyInt Syntax.w64),
-) (List._∷_ (13, Rows.any-gone (Syntax.tyInt Syntax.w64)) (List._∷_ (14, Rows.any-gone (Syntax.tyInt Syntax.w64)) (List._∷_ (
-  15,
-  Rows.any-gone
-      (Syntax.tyEnum (List._∷_ 98 (List._∷_ 108 (List._∷_ 111 (List._∷_ 99 (List._∷_ 107 (List._∷_ 58 (List._∷_ 58 (List._∷_ 87 (List._∷_ 114 (List._∷_ 105 (List._∷_ 116 (List._∷_ 116 (List._∷_ 101
-      (List._∷_ 110 List.[])))))))))))))) (Syntax.ttcons (Syntax.tcons (Syntax.tyInt Syntax.w64) Syntax.tnil) (Syntax.ttcons (Syntax.tcons (Syntax.tyEnum (List._∷_ 115 (List._∷_ 116 (List._∷_ 114 (List._∷_
-      101 (List._∷_ 97 (List._∷_ 109 (List._∷_ 58 (List._∷_ 58 (List._∷_ 82 (List._∷_ 101 (List._∷_ 102 (List._∷_ 117 (List._∷_ 115 (List._∷_ 97 (List._∷_ 108 List.[]))))))))))))))) (Syntax.ttcons
-      Syntax.tnil (Syntax.ttcons Syntax.tnil (Syntax.ttcons Syntax.tnil (Syntax.ttcons (Syntax.tcons (Syntax.tyInt Syntax.w64) Syntax.tnil) (Syntax.ttcons Syntax.tnil (Syntax.ttcons Syntax.tnil
-      (Syntax.ttcons Syntax.tnil (Syntax.ttcons Syntax.tnil (Syntax.ttcons Syntax.tnil (Syntax.ttcons Syntax.tnil (Syntax.ttcons (Syntax.tcons (Syntax.tyInt Syntax.w64) Syntax.tnil) (Syntax.ttcons
-      (Syntax.tcons (Syntax.tyInt Syntax.w64) Syntax.tnil) (Syntax.ttcons Syntax.tnil (Syntax.ttcons (Syntax.tcons (Syntax.tyInt Syntax.w64) (Syntax.tcons (Syntax.tyInt Syntax.w64) Syntax.tnil))
-      (Syntax.ttcons (Syntax.tcons (Syntax.tyInt Syntax.w64) Syntax.tnil) Syntax.ttnil)))))))))))))))) Syntax.tnil) Syntax.ttnil))),
-) List.[])))))))))))))))
-
-abbrev pub t16 : List.List Row.Entry
-t16 = List._∷_ (
-  0,
-  Rows.any-gone (Syntax.tyEnum (List._∷_ 98 (List._∷_ 108 (List._∷_ 111 (List._∷_ 99 (List._∷_ 107 (List._∷_ 58 (List._∷_ 58 (List._∷_ 87 (List._∷_ 114 (List._∷_ 105 (List._∷_ 116
-      (List._∷_ 116 (List._∷_ 101 (List._∷_ 110 List.[])))))))))))))) (Syntax.ttcons (Syntax.tcons (Syntax.tyInt Syntax.w64) Syntax.tnil) (Syntax.ttcons (Syntax.tcons (Syntax.tyEnum (List._∷_ 115 (List._∷_
-      116 (List._∷_ 114 (List._∷_ 101 (List._∷_ 97 (List._∷_ 109 (List._∷_ 58 (List._∷_ 58 (List._∷_ 82 (List._∷_ 101 (List._∷_ 102 (List._∷_ 117 (List._∷_ 115 (List._∷_ 97 (List._∷_ 108
-      List.[]))))))))))))))) (Syntax.ttcons Syntax.tnil (Syntax.ttcons Syntax.tnil (Syntax.ttcons Syntax.tnil (Syntax.ttcons (Syntax.tcons (Syntax.tyInt Syntax.w64) Syntax.tnil) (Syntax.ttcons Syntax.tnil
-      (Syntax.ttcons Syntax.tnil (Syntax.ttcons Syntax.tnil (Syntax.ttcons Syntax.tnil (Syntax.ttcons Syntax.tnil (Syntax.ttcons Syntax.tnil (Syntax.ttcons (Syntax.tcons (Syntax.tyInt Syntax.w64)
-      Syntax.tnil) (Syntax.ttcons (Syntax.tcons (Syntax.tyInt Syntax.w64) Syntax.tnil) (Syntax.ttcons Syntax.tnil (Syntax.ttcons (Syntax.tcons (Syntax.tyInt Syntax.w64) (Syntax.tcons (Syntax.tyInt
-      Syntax.w64) Syntax.tnil)) (Syntax.ttcons (Syntax.tcons (Syntax.tyInt Syntax.w64) Syntax.tnil) Syntax.ttnil)))))))))))))))) Syntax.tnil) Syntax.ttnil))),
-) (List._∷_ (
-  1,
-  Rows.sslice (Referent.rtF
-      (Referent.fInt Syntax.w8)) (Syntax.tyRef (Syntax.named 0) Syntax.imm (Syntax.tyInt Syntax.w8)) 0,
-) (List._∷_ (
-  2,
-  Rows.sslice (Referent.rtF (Referent.fInt Syntax.w16)) (Syntax.tyRef (Syntax.named 1)
-      Syntax.imm (Syntax.tyInt Syntax.w16)) 1,
-) (List._∷_ (3, Mut.mslice (Referent.rtF (Referent.fInt Syntax.w8)) (Syntax.tyRef (Syntax.named 2) Syntax.mut (Syntax.tyInt Syntax.w8)) 2) (List._∷_ (
-  4,
-  Mut.mslice (Referent.rtF (Referent.fInt Syntax.w16)) (Syntax.tyRef (Syntax.named 3) Syntax.mut (Syntax.tyInt Syntax.w16)) 3,
-) (List._∷_ (
-  5,
-  Mut.mslice (Element.type) (Syntax.tyRef (Syntax.named 4)
-      Syntax.mut Element.behind) 4,
-) (List._∷_ (6, Rows.whole (Known.Known Parsed.enum 0)) (List._∷_ (
-  7,
-  Rows.any-gone (Syntax.tyEnum (List._∷_ 115 (List._∷_ 116 (List._∷_ 114 (List._∷_ 101 (List._∷_ 97
-      (List._∷_ 109 (List._∷_ 58 (List._∷_ 58 (List._∷_ 82 (List._∷_ 101 (List._∷_ 102 (List._∷_ 117 (List._∷_ 115 (List._∷_ 97 (List._∷_ 108 List.[]))))))))))))))) (Syntax.ttcons Syntax.tnil (Syntax.ttcons
-      Syntax.tnil (Syntax.ttcons Syntax.tnil (Syntax.ttcons (Syntax.tcons (Syntax.tyInt Syntax.w64) Syntax.tnil) (Syntax.ttcons Syntax.tnil (Syntax.ttcons Syntax.tnil (Syntax.ttcons Syntax.tnil
-      (Syntax.ttcons Syntax.tnil (Syntax.ttcons Syntax.tnil (Syntax.ttcons Syntax.tnil (Syntax.ttcons (Syntax.tcons (Syntax.tyInt Syntax.w64) Syntax.tnil) (Syntax.ttcons (Syntax.tcons (Syntax.tyInt
-      Syntax.w64) Syntax.tnil) (Syntax.ttcons Syntax.tnil (Syntax.ttcons (Syntax.tcons (Syntax.tyInt Syntax.w64) (Syntax.tcons (Syntax.tyInt Syntax.w64) Syntax.tnil)) (Syntax.ttcons (Syntax.tcons
-      (Syntax.tyInt Syntax.w64) Syntax.tnil) Syntax.ttnil)))))))))))))))),
-) (List._∷_ (8, Rows.whole (Declared'.row FujiHeader.the-type)) (List._∷_ (9, Rows.any-gone (Syntax.tyInt Syntax.w64)) (List._∷_ (
-  10,
-  Rows.any-gone (Syntax.tyStruct (List._∷_ 98 (List._∷_ 108 (List._∷_ 111 (List._∷_ 99 (List._∷_ 107 (List._∷_ 58 (List._∷_ 58 (List._∷_ 70 (List._∷_ 111 (List._∷_ 114 (List._∷_ 109
-      List.[]))))))))))) (Syntax.tcons (Syntax.tyInt Syntax.w32) (Syntax.tcons Syntax.tyBool Syntax.tnil))),
-) (List._∷_ (11, Rows.any-gone (Syntax.tyInt Syntax.w64)) (List._∷_ (
-  12,
-  Rows.any-gone
-      (Syntax.tyInt Syntax.w64),
-) (List._∷_ (13, Rows.any-gone (Syntax.tyInt Syntax.w64)) (List._∷_ (14, Rows.any-gone (Syntax.tyInt Syntax.w64)) (List._∷_ (
-  15,
-  Rows.any-gone (Syntax.tyEnum (List._∷_
-      98 (List._∷_ 108 (List._∷_ 111 (List._∷_ 99 (List._∷_ 107 (List._∷_ 58 (List._∷_ 58 (List._∷_ 87 (List._∷_ 114 (List._∷_ 105 (List._∷_ 116 (List._∷_ 116 (List._∷_ 101 (List._∷_ 110
-      List.[])))))))))))))) (Syntax.ttcons (Syntax.tcons (Syntax.tyInt Syntax.w64) Syntax.tnil) (Syntax.ttcons (Syntax.tcons (Syntax.tyEnum (List._∷_ 115 (List._∷_ 116 (List._∷_ 114 (List._∷_ 101 (List._∷_
-      97 (List._∷_ 109 (List._∷_ 58 (List._∷_ 58 (List._∷_ 82 (List._∷_ 101 (List._∷_ 102 (List._∷_ 117 (List._∷_ 115 (List._∷_ 97 (List._∷_ 108 List.[]))))))))))))))) (Syntax.ttcons Syntax.tnil
-      (Syntax.ttcons Syntax.tnil (Syntax.ttcons Syntax.tnil (Syntax.ttcons (Syntax.tcons (Syntax.tyInt Syntax.w64) Syntax.tnil) (Syntax.ttcons Syntax.tnil (Syntax.ttcons Syntax.tnil (Syntax.ttcons
-      Syntax.tnil (Syntax.ttcons Syntax.tnil (Syntax.ttcons Syntax.tnil (Syntax.ttcons Syntax.tnil (Syntax.ttcons (Syntax.tcons (Syntax.tyInt Syntax.w64) Syntax.tnil) (Syntax.ttcons (Syntax.tcons
-      (Syntax.tyInt Syntax.w64) Syntax.tnil) (Syntax.ttcons Syntax.tnil (Syntax.ttcons (Syntax.tcons (Syntax.tyInt Syntax.w64) (Syntax.tcons (Syntax.tyInt Syntax.w64) Syntax.tnil)) (Syntax.ttcons
-      (Syntax.tcons (Syntax.tyInt Syntax.w64) Syntax.tnil) Syntax.ttnil)))))))))))))))) Syntax.tnil) Syntax.ttnil))),
-) List.[])))))))))))))))
-
-abbrev pub t17 : List.List Row.Entry
-t17 = List._∷_ (
-  0,
-  Rows.any-gone (Syntax.tyEnum (List._∷_ 98 (List._∷_ 108 (List._∷_ 111 (List._∷_ 99 (List._∷_ 107 (List._∷_ 58 (List._∷_ 58 (List._∷_ 87 (List._∷_ 114 (List._∷_ 105 (List._∷_ 116
-      (List._∷_ 116 (List._∷_ 101 (List._∷_ 110 List.[])))))))))))))) (Syntax.ttcons (Syntax.tcons (Syntax.tyInt Syntax.w64) Syntax.tnil) (Syntax.ttcons (Syntax.tcons (Syntax.tyEnum (List._∷_ 115 (List._∷_
-      116 (List._∷_ 114 (List._∷_ 101 (List._∷_ 97 (List._∷_ 109 (List._∷_ 58 (List._∷_ 58 (List._∷_ 82 (List._∷_ 101 (List._∷_ 102 (List._∷_ 117 (List._∷_ 115 (List._∷_ 97 (List._∷_ 108
-      List.[]))))))))))))))) (Syntax.ttcons Syntax.tnil (Syntax.ttcons Syntax.tnil (Syntax.ttcons Syntax.tnil (Syntax.ttcons (Syntax.tcons (Syntax.tyInt Syntax.w64) Syntax.tnil) (Syntax.ttcons Syntax.tnil
-      (Syntax.ttcons Syntax.tnil (Syntax.ttcons Syntax.tnil (Syntax.ttcons Syntax.tnil (Syntax.ttcons Syntax.tnil (Syntax.ttcons Syntax.tnil (Syntax.ttcons (Syntax.tcons (Syntax.tyInt Syntax.w64)
-      Syntax.tnil) (Syntax.ttcons (Syntax.tcons (Syntax.tyInt Syntax.w64) Syntax.tnil) (Syntax.ttcons Syntax.tnil (Syntax.ttcons (Syntax.tcons (Syntax.tyInt Syntax.w64) (Syntax.tcons (Syntax.tyInt
-      Syntax.w64) Syntax.tnil)) (Syntax.ttcons (Syntax.tcons (Syntax.tyInt Syntax.w64) Syntax.tnil) Syntax.ttnil)))))))))))))))) Syntax.tnil) Syntax.ttnil))),
-) (List._∷_ (
-  1,
-  Rows.sslice (Referent.rtF
-      (Referent.fInt Syntax.w8)) (Syntax.tyRef (Syntax.named 0) Syntax.imm (Syntax.tyInt Syntax.w8)) 0,
-) (List._∷_ (
-  2,
-  Rows.sslice (Referent.rtF (Referent.fInt Syntax.w16)) (Syntax.tyRef (Syntax.named 1)
-      Syntax.imm (Syntax.tyInt Syntax.w16)) 1,
-) (List._∷_ (3, Mut.mslice (Referent.rtF (Referent.fInt Syntax.w8)) (Syntax.tyRef (Syntax.named 2) Syntax.mut (Syntax.tyInt Syntax.w8)) 2) (List._∷_ (
-  4,
-  Mut.mslice (Referent.rtF (Referent.fInt Syntax.w16)) (Syntax.tyRef (Syntax.named 3) Syntax.mut (Syntax.tyInt Syntax.w16)) 3,
-) (List._∷_ (
-  5,
-  Mut.mslice (Element.type) (Syntax.tyRef (Syntax.named 4)
-      Syntax.mut Element.behind) 4,
-) (List._∷_ (
-  6,
-  Rows.any-gone (Syntax.tyEnum (List._∷_ 115 (List._∷_ 116 (List._∷_ 114 (List._∷_ 101 (List._∷_ 97 (List._∷_ 109 (List._∷_ 58 (List._∷_ 58 (List._∷_ 80
-      (List._∷_ 97 (List._∷_ 114 (List._∷_ 115 (List._∷_ 101 (List._∷_ 100 List.[])))))))))))))) (Syntax.ttcons (Syntax.tcons (Syntax.tyStruct (List._∷_ 115 (List._∷_ 116 (List._∷_ 114 (List._∷_ 101
-      (List._∷_ 97 (List._∷_ 109 (List._∷_ 58 (List._∷_ 58 (List._∷_ 70 (List._∷_ 117 (List._∷_ 106 (List._∷_ 105 (List._∷_ 72 (List._∷_ 101 (List._∷_ 97 (List._∷_ 100 (List._∷_ 101 (List._∷_ 114
-      List.[])))))))))))))))))) (Syntax.tcons Syntax.tyBool (Syntax.tcons Syntax.tyBool (Syntax.tcons (Syntax.tyInt Syntax.w32) (Syntax.tcons (Syntax.tyInt Syntax.w32) (Syntax.tcons (Syntax.tyInt
-      Syntax.w32) (Syntax.tcons (Syntax.tyInt Syntax.w32) (Syntax.tcons (Syntax.tyInt Syntax.w32) (Syntax.tcons (Syntax.tyInt Syntax.w32) (Syntax.tcons (Syntax.tyInt Syntax.w32) Syntax.tnil))))))))))
-      Syntax.tnil) (Syntax.ttcons (Syntax.tcons (Syntax.tyEnum (List._∷_ 115 (List._∷_ 116 (List._∷_ 114 (List._∷_ 101 (List._∷_ 97 (List._∷_ 109 (List._∷_ 58 (List._∷_ 58 (List._∷_ 82 (List._∷_ 101
-      (List._∷_ 102 (List._∷_ 117 (List._∷_ 115 (List._∷_ 97 (List._∷_ 108 List.[]))))))))))))))) (Syntax.ttcons Syntax.tnil (Syntax.ttcons Syntax.tnil (Syntax.ttcons Syntax.tnil (Syntax.ttcons
-      (Syntax.tcons (Syntax.tyInt Syntax.w64) Syntax.tnil) (Syntax.ttcons Syntax.tnil (Syntax.ttcons Syntax.tnil (Syntax.ttcons Syntax.tnil (Syntax.ttcons Syntax.tnil (Syntax.ttcons Syntax.tnil
-      (Syntax.ttcons Syntax.tnil (Syntax.ttcons (Syntax.tcons (Syntax.tyInt Syntax.w64) Syntax.tnil) (Syntax.ttcons (Syntax.tcons (Syntax.tyInt Syntax.w64) Syntax.tnil) (Syntax.ttcons Syntax.tnil
-      (Syntax.ttcons (Syntax.tcons (Syntax.tyInt Syntax.w64) (Syntax.tcons (Syntax.tyInt Syntax.w64) Syntax.tnil)) (Syntax.ttcons (Syntax.tcons (Syntax.tyInt Syntax.w64) Syntax.tnil)
-      Syntax.ttnil)))))))))))))))) Syntax.tnil) Syntax.ttnil))),
-) (List._∷_ (
-  7,
-  Rows.any-gone (Syntax.tyEnum (List._∷_ 115 (List._∷_ 116 (List._∷_ 114 (List._∷_ 101 (List._∷_ 97 (List._∷_ 109 (List._∷_ 58
-      (List._∷_ 58 (List._∷_ 82 (List._∷_ 101 (List._∷_ 102 (List._∷_ 117 (List._∷_ 115 (List._∷_ 97 (List._∷_ 108 List.[]))))))))))))))) (Syntax.ttcons Syntax.tnil (Syntax.ttcons Syntax.tnil (Syntax.ttcons
-      Syntax.tnil (Syntax.ttcons (Syntax.tcons (Syntax.tyInt Syntax.w64) Syntax.tnil) (Syntax.ttcons Syntax.tnil (Syntax.ttcons Syntax.tnil (Syntax.ttcons Syntax.tnil (Syntax.ttcons Syntax.tnil
-      (Syntax.ttcons Syntax.tnil (Syntax.ttcons Syntax.tnil (Syntax.ttcons (Syntax.tcons (Syntax.tyInt Syntax.w64) Syntax.tnil) (Syntax.ttcons (Syntax.tcons (Syntax.tyInt Syntax.w64) Syntax.tnil)
-      (Syntax.ttcons Syntax.tnil (Syntax.ttcons (Syntax.tcons (Syntax.tyInt Syntax.w64) (Syntax.tcons (Syntax.tyInt Syntax.w64) Syntax.tnil)) (Syntax.ttcons (Syntax.tcons (Syntax.tyInt Syntax.w64)
-      Syntax.tnil) Syntax.ttnil)))))))))))))))),
-) (List._∷_ (8, Rows.whole (Declared'.row FujiHeader.the-type)) (List._∷_ (9, Rows.any-gone (Syntax.tyInt Syntax.w64)) (List._∷_ (
-  10,
-  Rows.any-gone
-      (Syntax.tyStruct (List._∷_ 98 (List._∷_ 108 (List._∷_ 111 (List._∷_ 99 (List._∷_ 107 (List._∷_ 58 (List._∷_ 58 (List._∷_ 70 (List._∷_ 111 (List._∷_ 114 (List._∷_ 109 List.[]))))))))))) (Syntax.tcons
-      (Syntax.tyInt Syntax.w32) (Syntax.tcons Syntax.tyBool Syntax.tnil))),
-) (List._∷_ (11, Rows.any-gone (Syntax.tyInt Syntax.w64)) (List._∷_ (12, Rows.any-gone (Syntax.tyInt Syntax.w64)) (List._∷_
-    (13, Rows.any-gone (Syntax.tyInt Syntax.w64)) (List._∷_ (14, Rows.any-gone (Syntax.tyInt Syntax.w64)) (List._∷_ (
-      15,
-      Rows.any-gone (Syntax.tyEnum (List._∷_ 98 (List._∷_ 108 (List._∷_ 111 (List._∷_
-          99 (List._∷_ 107 (List._∷_ 58 (List._∷_ 58 (List._∷_ 87 (List._∷_ 114 (List._∷_ 105 (List._∷_ 116 (List._∷_ 116 (List._∷_ 101 (List._∷_ 110 List.[])))))))))))))) (Syntax.ttcons (Syntax.tcons
-          (Syntax.tyInt Syntax.w64) Syntax.tnil) (Syntax.ttcons (Syntax.tcons (Syntax.tyEnum (List._∷_ 115 (List._∷_ 116 (List._∷_ 114 (List._∷_ 101 (List._∷_ 97 (List._∷_ 109 (List._∷_ 58 (List._∷_ 58
-          (List._∷_ 82 (List._∷_ 101 (List._∷_ 102 (List._∷_ 117 (List._∷_ 115 (List._∷_ 97 (List._∷_ 108 List.[]))))))))))))))) (Syntax.ttcons Syntax.tnil (Syntax.ttcons Syntax.tnil (Syntax.ttcons Syntax.tnil
-          (Syntax.ttcons (Syntax.tcons (Syntax.tyInt Syntax.w64) Syntax.tnil) (Syntax.ttcons Syntax.tnil (Syntax.ttcons Syntax.tnil (Syntax.ttcons Syntax.tnil (Syntax.ttcons Syntax.tnil (Syntax.ttcons
-          Syntax.tnil (Syntax.ttcons Syntax.tnil (Syntax.ttcons (Syntax.tcons (Syntax.tyInt Syntax.w64) Syntax.tnil) (Syntax.ttcons (Syntax.tcons (Syntax.tyInt Syntax.w64) Syntax.tnil) (Syntax.ttcons
-          Syntax.tnil (Syntax.ttcons (Syntax.tcons (Syntax.tyInt Syntax.w64) (Syntax.tcons (Syntax.tyInt Syntax.w64) Syntax.tnil)) (Syntax.ttcons (Syntax.tcons (Syntax.tyInt Syntax.w64) Syntax.tnil)
-          Syntax.ttnil)))))))))))))))) Syntax.tnil) Syntax.ttnil))),
-    ) List.[])))))))))))))))
-
-abbrev pub t18 : List.List Row.Entry
-t18 = List._∷_ (
-  0,
-  Rows.any-gone (Syntax.tyEnum (List._∷_ 98 (List._∷_ 108 (List._∷_ 111 (List._∷_ 99 (List._∷_ 107 (List._∷_ 58 (List._∷_ 58 (List._∷_ 87 (List._∷_ 114 (List._∷_ 105 (List._∷_ 116
-      (List._∷_ 116 (List._∷_ 101 (List._∷_ 110 List.[])))))))))))))) (Syntax.ttcons (Syntax.tcons (Syntax.tyInt Syntax.w64) Syntax.tnil) (Syntax.ttcons (Syntax.tcons (Syntax.tyEnum (List._∷_ 115 (List._∷_
-      116 (List._∷_ 114 (List._∷_ 101 (List._∷_ 97 (List._∷_ 109 (List._∷_ 58 (List._∷_ 58 (List._∷_ 82 (List._∷_ 101 (List._∷_ 102 (List._∷_ 117 (List._∷_ 115 (List._∷_ 97 (List._∷_ 108
-      List.[]))))))))))))))) (Syntax.ttcons Syntax.tnil (Syntax.ttcons Syntax.tnil (Syntax.ttcons Syntax.tnil (Syntax.ttcons (Syntax.tcons (Syntax.tyInt Syntax.w64) Syntax.tnil) (Syntax.ttcons Syntax.tnil
-      (Syntax.ttcons Syntax.tnil (Syntax.ttcons Syntax.tnil (Syntax.ttcons Syntax.tnil (Syntax.ttcons Syntax.tnil (Syntax.ttcons Syntax.tnil (Syntax.ttcons (Syntax.tcons (Syntax.tyInt Syntax.w64)
-      Syntax.tnil) (Syntax.ttcons (Syntax.tcons (Syntax.tyInt Syntax.w64) Syntax.tnil) (Syntax.ttcons Syntax.tnil (Syntax.ttcons (Syntax.tcons (Syntax.tyInt Syntax.w64) (Syntax.tcons (Syntax.tyInt
-      Syntax.w64) Syntax.tnil)) (Syntax.ttcons (Syntax.tcons (Syntax.tyInt Syntax.w64) Syntax.tnil) Syntax.ttnil)))))))))))))))) Syntax.tnil) Syntax.ttnil))),
-) (List._∷_ (
-  1,
-  Rows.sslice (Referent.rtF
-      (Referent.fInt Syntax.w8)) (Syntax.tyRef (Syntax.named 0) Syntax.imm (Syntax.tyInt Syntax.w8)) 0,
-) (List._∷_ (
-  2,
-  Rows.sslice (Referent.rtF (Referent.fInt Syntax.w16)) (Syntax.tyRef (Syntax.named 1)
-      Syntax.imm (Syntax.tyInt Syntax.w16)) 1,
-) (List._∷_ (3, Mut.mslice (Referent.rtF (Referent.fInt Syntax.w8)) (Syntax.tyRef (Syntax.named 2) Syntax.mut (Syntax.tyInt Syntax.w8)) 2) (List._∷_ (
-  4,
-  Mut.mslice (Referent.rtF (Referent.fInt Syntax.w16)) (Syntax.tyRef (Syntax.named 3) Syntax.mut (Syntax.tyInt Syntax.w16)) 3,
-) (List._∷_ (
-  5,
-  Mut.mslice (Element.type) (Syntax.tyRef (Syntax.named 4)
-      Syntax.mut Element.behind) 4,
-) (List._∷_ (
-  6,
-  Rows.any-gone (Syntax.tyEnum (List._∷_ 115 (List._∷_ 116 (List._∷_ 114 (List._∷_ 101 (List._∷_ 97 (List._∷_ 109 (List._∷_ 58 (List._∷_ 58 (List._∷_ 80
-      (List._∷_ 97 (List._∷_ 114 (List._∷_ 115 (List._∷_ 101 (List._∷_ 100 List.[])))))))))))))) (Syntax.ttcons (Syntax.tcons (Syntax.tyStruct (List._∷_ 115 (List._∷_ 116 (List._∷_ 114 (List._∷_ 101
-      (List._∷_ 97 (List._∷_ 109 (List._∷_ 58 (List._∷_ 58 (List._∷_ 70 (List._∷_ 117 (List._∷_ 106 (List._∷_ 105 (List._∷_ 72 (List._∷_ 101 (List._∷_ 97 (List._∷_ 100 (List._∷_ 101 (List._∷_ 114
-      List.[])))))))))))))))))) (Syntax.tcons Syntax.tyBool (Syntax.tcons Syntax.tyBool (Syntax.tcons (Syntax.tyInt Syntax.w32) (Syntax.tcons (Syntax.tyInt Syntax.w32) (Syntax.tcons (Syntax.tyInt
-      Syntax.w32) (Syntax.tcons (Syntax.tyInt Syntax.w32) (Syntax.tcons (Syntax.tyInt Syntax.w32) (Syntax.tcons (Syntax.tyInt Syntax.w32) (Syntax.tcons (Syntax.tyInt Syntax.w32) Syntax.tnil))))))))))
-      Syntax.tnil) (Syntax.ttcons (Syntax.tcons (Syntax.tyEnum (List._∷_ 115 (List._∷_ 116 (List._∷_ 114 (List._∷_ 101 (List._∷_ 97 (List._∷_ 109 (List._∷_ 58 (List._∷_ 58 (List._∷_ 82 (List._∷_ 101
-      (List._∷_ 102 (List._∷_ 117 (List._∷_ 115 (List._∷_ 97 (List._∷_ 108 List.[]))))))))))))))) (Syntax.ttcons Syntax.tnil (Syntax.ttcons Syntax.tnil (Syntax.ttcons Syntax.tnil (Syntax.ttcons
-      (Syntax.tcons (Syntax.tyInt Syntax.w64) Syntax.tnil) (Syntax.ttcons Syntax.tnil (Syntax.ttcons Syntax.tnil (Syntax.ttcons Syntax.tnil (Syntax.ttcons Syntax.tnil (Syntax.ttcons Syntax.tnil
-      (Syntax.ttcons Syntax.tnil (Syntax.ttcons (Syntax.tcons (Syntax.tyInt Syntax.w64) Syntax.tnil) (Syntax.ttcons (Syntax.tcons (Syntax.tyInt Syntax.w64) Syntax.tnil) (Syntax.ttcons Syntax.tnil
-      (Syntax.ttcons (Syntax.tcons (Syntax.tyInt Syntax.w64) (Syntax.tcons (Syntax.tyInt Syntax.w64) Syntax.tnil)) (Syntax.ttcons (Syntax.tcons (Syntax.tyInt Syntax.w64) Syntax.tnil)
-      Syntax.ttnil)))))))))))))))) Syntax.tnil) Syntax.ttnil))),
-) (List._∷_ (
-  7,
-  Rows.any-gone (Syntax.tyEnum (List._∷_ 115 (List._∷_ 116 (List._∷_ 114 (List._∷_ 101 (List._∷_ 97 (List._∷_ 109 (List._∷_ 58
-      (List._∷_ 58 (List._∷_ 82 (List._∷_ 101 (List._∷_ 102 (List._∷_ 117 (List._∷_ 115 (List._∷_ 97 (List._∷_ 108 List.[]))))))))))))))) (Syntax.ttcons Syntax.tnil (Syntax.ttcons Syntax.tnil (Syntax.ttcons
-      Syntax.tnil (Syntax.ttcons (Syntax.tcons (Syntax.tyInt Syntax.w64) Syntax.tnil) (Syntax.ttcons Syntax.tnil (Syntax.ttcons Syntax.tnil (Syntax.ttcons Syntax.tnil (Syntax.ttcons Syntax.tnil
-      (Syntax.ttcons Syntax.tnil (Syntax.ttcons Syntax.tnil (Syntax.ttcons (Syntax.tcons (Syntax.tyInt Syntax.w64) Syntax.tnil) (Syntax.ttcons (Syntax.tcons (Syntax.tyInt Syntax.w64) Syntax.tnil)
-      (Syntax.ttcons Syntax.tnil (Syntax.ttcons (Syntax.tcons (Syntax.tyInt Syntax.w64) (Syntax.tcons (Syntax.tyInt Syntax.w64) Syntax.tnil)) (Syntax.ttcons (Syntax.tcons (Syntax.tyInt Syntax.w64)
-      Syntax.tnil) Syntax.ttnil)))))))))))))))),
-) (List._∷_ (8, Rows.whole (Declared'.row FujiHeader.the-type)) (List._∷_ (9, Rows.sc-here (Row.sInt Syntax.w64)) (List._∷_ (
-  10,
-  Rows.any-gone
-      (Syntax.tyStruct (List._∷_ 98 (List._∷_ 108 (List._∷_ 111 (List._∷_ 99 (List._∷_ 107 (List._∷_ 58 (List._∷_ 58 (List._∷_ 70 (List._∷_ 111 (List._∷_ 114 (List._∷_ 109 List.[]))))))))))) (Syntax.tcons
-      (Syntax.tyInt Syntax.w32) (Syntax.tcons Syntax.tyBool Syntax.tnil))),
-) (List._∷_ (11, Rows.any-gone (Syntax.tyInt Syntax.w64)) (List._∷_ (12, Rows.any-gone (Syntax.tyInt Syntax.w64)) (List._∷_
-    (13, Rows.any-gone (Syntax.tyInt Syntax.w64)) (List._∷_ (14, Rows.any-gone (Syntax.tyInt Syntax.w64)) (List._∷_ (
-      15,
-      Rows.any-gone (Syntax.tyEnum (List._∷_ 98 (List._∷_ 108 (List._∷_ 111 (List._∷_
-          99 (List._∷_ 107 (List._∷_ 58 (List._∷_ 58 (List._∷_ 87 (List._∷_ 114 (List._∷_ 105 (List._∷_ 116 (List._∷_ 116 (List._∷_ 101 (List._∷_ 110 List.[])))))))))))))) (Syntax.ttcons (Syntax.tcons
-          (Syntax.tyInt Syntax.w64) Syntax.tnil) (Syntax.ttcons (Syntax.tcons (Syntax.tyEnum (List._∷_ 115 (List._∷_ 116 (List._∷_ 114 (List._∷_ 101 (List._∷_ 97 (List._∷_ 109 (List._∷_ 58 (List._∷_ 58
-          (List._∷_ 82 (List._∷_ 101 (List._∷_ 102 (List._∷_ 117 (List._∷_ 115 (List._∷_ 97 (List._∷_ 108 List.[]))))))))))))))) (Syntax.ttcons Syntax.tnil (Syntax.ttcons Syntax.tnil (Syntax.ttcons Syntax.tnil
-          (Syntax.ttcons (Syntax.tcons (Syntax.tyInt Syntax.w64) Syntax.tnil) (Syntax.ttcons Syntax.tnil (Syntax.ttcons Syntax.tnil (Syntax.ttcons Syntax.tnil (Syntax.ttcons Syntax.tnil (Syntax.ttcons
-          Syntax.tnil (Syntax.ttcons Syntax.tnil (Syntax.ttcons (Syntax.tcons (Syntax.tyInt Syntax.w64) Syntax.tnil) (Syntax.ttcons (Syntax.tcons (Syntax.tyInt Syntax.w64) Syntax.tnil) (Syntax.ttcons
-          Syntax.tnil (Syntax.ttcons (Syntax.tcons (Syntax.tyInt Syntax.w64) (Syntax.tcons (Syntax.tyInt Syntax.w64) Syntax.tnil)) (Syntax.ttcons (Syntax.tcons (Syntax.tyInt Syntax.w64) Syntax.tnil)
-          Syntax.ttnil)))))))))))))))) Syntax.tnil) Syntax.ttnil))),
-    ) List.[])))))))))))))))
-
-abbrev pub t19 : List.List Row.Entry
-t19 = List._∷_ (
-  0,
-  Rows.any-gone (Syntax.tyEnum (List._∷_ 98 (List._∷_ 108 (List._∷_ 111 (List._∷_ 99 (List._∷_ 107 (List._∷_ 58 (List._∷_ 58 (List._∷_ 87 (List._∷_ 114 (List._∷_ 105 (List._∷_ 116
-      (List._∷_ 116 (List._∷_ 101 (List._∷_ 110 List.[])))))))))))))) (Syntax.ttcons (Syntax.tcons (Syntax.tyInt Syntax.w64) Syntax.tnil) (Syntax.ttcons (Syntax.tcons (Syntax.tyEnum (List._∷_ 115 (List._∷_
-      116 (List._∷_ 114 (List._∷_ 101 (List._∷_ 97 (List._∷_ 109 (List._∷_ 58 (List._∷_ 58 (List._∷_ 82 (List._∷_ 101 (List._∷_ 102 (List._∷_ 117 (List._∷_ 115 (List._∷_ 97 (List._∷_ 108
-      List.[]))))))))))))))) (Syntax.ttcons Syntax.tnil (Syntax.ttcons Syntax.tnil (Syntax.ttcons Syntax.tnil (Syntax.ttcons (Syntax.tcons (Syntax.tyInt Syntax.w64) Syntax.tnil) (Syntax.ttcons Syntax.tnil
-      (Syntax.ttcons Syntax.tnil (Syntax.ttcons Syntax.tnil (Syntax.ttcons Syntax.tnil (Syntax.ttcons Syntax.tnil (Syntax.ttcons Syntax.tnil (Syntax.ttcons (Syntax.tcons (Syntax.tyInt Syntax.w64)
-      Syntax.tnil) (Syntax.ttcons (Syntax.tcons (Syntax.tyInt Syntax.w64) Syntax.tnil) (Syntax.ttcons Syntax.tnil (Syntax.ttcons (Syntax.tcons (Syntax.tyInt Syntax.w64) (Syntax.tcons (Syntax.tyInt
-      Syntax.w64) Syntax.tnil)) (Syntax.ttcons (Syntax.tcons (Syntax.tyInt Syntax.w64) Syntax.tnil) Syntax.ttnil)))))))))))))))) Syntax.tnil) Syntax.ttnil))),
-) (List._∷_ (
-  1,
-  Rows.sslice (Referent.rtF
-      (Referent.fInt Syntax.w8)) (Syntax.tyRef (Syntax.named 0) Syntax.imm (Syntax.tyInt Syntax.w8)) 0,
-) (List._∷_ (
-  2,
-  Rows.sslice (Referent.rtF (Referent.fInt Syntax.w16)) (Syntax.tyRef (Syntax.named 1)
-      Syntax.imm (Syntax.tyInt Syntax.w16)) 1,
-) (List._∷_ (3, Mut.mslice (Referent.rtF (Referent.fInt Syntax.w8)) (Syntax.tyRef (Syntax.named 2) Syntax.mut (Syntax.tyInt Syntax.w8)) 2) (List._∷_ (
-  4,
-  Mut.mslice (Referent.rtF (Referent.fInt Syntax.w16)) (Syntax.tyRef (Syntax.named 3) Syntax.mut (Syntax.tyInt Syntax.w16)) 3,
-) (List._∷_ (
-  5,
-  Mut.mslice (Element.type) (Syntax.tyRef (Syntax.named 4)
-      Syntax.mut Element.behind) 4,
-) (List._∷_ (
-  6,
-  Rows.any-gone (Syntax.tyEnum (List._∷_ 115 (List._∷_ 116 (List._∷_ 114 (List._∷_ 101 (List._∷_ 97 (List._∷_ 109 (List._∷_ 58 (List._∷_ 58 (List._∷_ 80
-      (List._∷_ 97 (List._∷_ 114 (List._∷_ 115 (List._∷_ 101 (List._∷_ 100 List.[])))))))))))))) (Syntax.ttcons (Syntax.tcons (Syntax.tyStruct (List._∷_ 115 (List._∷_ 116 (List._∷_ 114 (List._∷_ 101
-      (List._∷_ 97 (List._∷_ 109 (List._∷_ 58 (List._∷_ 58 (List._∷_ 70 (List._∷_ 117 (List._∷_ 106 (List._∷_ 105 (List._∷_ 72 (List._∷_ 101 (List._∷_ 97 (List._∷_ 100 (List._∷_ 101 (List._∷_ 114
-      List.[])))))))))))))))))) (Syntax.tcons Syntax.tyBool (Syntax.tcons Syntax.tyBool (Syntax.tcons (Syntax.tyInt Syntax.w32) (Syntax.tcons (Syntax.tyInt Syntax.w32) (Syntax.tcons (Syntax.tyInt
-      Syntax.w32) (Syntax.tcons (Syntax.tyInt Syntax.w32) (Syntax.tcons (Syntax.tyInt Syntax.w32) (Syntax.tcons (Syntax.tyInt Syntax.w32) (Syntax.tcons (Syntax.tyInt Syntax.w32) Syntax.tnil))))))))))
-      Syntax.tnil) (Syntax.ttcons (Syntax.tcons (Syntax.tyEnum (List._∷_ 115 (List._∷_ 116 (List._∷_ 114 (List._∷_ 101 (List._∷_ 97 (List._∷_ 109 (List._∷_ 58 (List._∷_ 58 (List._∷_ 82 (List._∷_ 101
-      (List._∷_ 102 (List._∷_ 117 (List._∷_ 115 (List._∷_ 97 (List._∷_ 108 List.[]))))))))))))))) (Syntax.ttcons Syntax.tnil (Syntax.ttcons Syntax.tnil (Syntax.ttcons Syntax.tnil (Syntax.ttcons
-      (Syntax.tcons (Syntax.tyInt Syntax.w64) Syntax.tnil) (Syntax.ttcons Syntax.tnil (Syntax.ttcons Syntax.tnil (Syntax.ttcons Syntax.tnil (Syntax.ttcons Syntax.tnil (Syntax.ttcons Syntax.tnil
-      (Syntax.ttcons Syntax.tnil (Syntax.ttcons (Syntax.tcons (Syntax.tyInt Syntax.w64) Syntax.tnil) (Syntax.ttcons (Syntax.tcons (Syntax.tyInt Syntax.w64) Syntax.tnil) (Syntax.ttcons Syntax.tnil
-      (Syntax.ttcons (Syntax.tcons (Syntax.tyInt Syntax.w64) (Syntax.tcons (Syntax.tyInt Syntax.w64) Syntax.tnil)) (Syntax.ttcons (Syntax.tcons (Syntax.tyInt Syntax.w64) Syntax.tnil)
-      Syntax.ttnil)))))))))))))))) Syntax.tnil) Syntax.ttnil))),
-) (List._∷_ (
-  7,
-  Rows.any-gone (Syntax.tyEnum (List._∷_ 115 (List._∷_ 116 (List._∷_ 114 (List._∷_ 101 (List._∷_ 97 (List._∷_ 109 (List._∷_ 58
-      (List._∷_ 58 (List._∷_ 82 (List._∷_ 101 (List._∷_ 102 (List._∷_ 117 (List._∷_ 115 (List._∷_ 97 (List._∷_ 108 List.[]))))))))))))))) (Syntax.ttcons Syntax.tnil (Syntax.ttcons Syntax.tnil (Syntax.ttcons
-      Syntax.tnil (Syntax.ttcons (Syntax.tcons (Syntax.tyInt Syntax.w64) Syntax.tnil) (Syntax.ttcons Syntax.tnil (Syntax.ttcons Syntax.tnil (Syntax.ttcons Syntax.tnil (Syntax.ttcons Syntax.tnil
-      (Syntax.ttcons Syntax.tnil (Syntax.ttcons Syntax.tnil (Syntax.ttcons (Syntax.tcons (Syntax.tyInt Syntax.w64) Syntax.tnil) (Syntax.ttcons (Syntax.tcons (Syntax.tyInt Syntax.w64) Syntax.tnil)
-      (Syntax.ttcons Syntax.tnil (Syntax.ttcons (Syntax.tcons (Syntax.tyInt Syntax.w64) (Syntax.tcons (Syntax.tyInt Syntax.w64) Syntax.tnil)) (Syntax.ttcons (Syntax.tcons (Syntax.tyInt Syntax.w64)
-      Syntax.tnil) Syntax.ttnil)))))))))))))))),
-) (List._∷_ (8, Rows.whole (Declared'.row FujiHeader.the-type)) (List._∷_ (9, Rows.sc-here (Row.sInt Syntax.w64)) (List._∷_ (
-  10,
-  Rows.whole (Declared'.row
-      Form.the-type),
-) (List._∷_ (11, Rows.any-gone (Syntax.tyInt Syntax.w64)) (List._∷_ (12, Rows.any-gone (Syntax.tyInt Syntax.w64)) (List._∷_ (13, Rows.any-gone (Syntax.tyInt Syntax.w64)) (List._∷_
-    (14, Rows.any-gone (Syntax.tyInt Syntax.w64)) (List._∷_ (
-      15,
-      Rows.any-gone (Syntax.tyEnum (List._∷_ 98 (List._∷_ 108 (List._∷_ 111 (List._∷_ 99 (List._∷_ 107 (List._∷_ 58 (List._∷_ 58 (List._∷_ 87
-          (List._∷_ 114 (List._∷_ 105 (List._∷_ 116 (List._∷_ 116 (List._∷_ 101 (List._∷_ 110 List.[])))))))))))))) (Syntax.ttcons (Syntax.tcons (Syntax.tyInt Syntax.w64) Syntax.tnil) (Syntax.ttcons
-          (Syntax.tcons (Syntax.tyEnum (List._∷_ 115 (List._∷_ 116 (List._∷_ 114 (List._∷_ 101 (List._∷_ 97 (List._∷_ 109 (List._∷_ 58 (List._∷_ 58 (List._∷_ 82 (List._∷_ 101 (List._∷_ 102 (List._∷_ 117
-          (List._∷_ 115 (List._∷_ 97 (List._∷_ 108 List.[]))))))))))))))) (Syntax.ttcons Syntax.tnil (Syntax.ttcons Syntax.tnil (Syntax.ttcons Syntax.tnil (Syntax.ttcons (Syntax.tcons (Syntax.tyInt Syntax.w64)
-          Syntax.tnil) (Syntax.ttcons Syntax.tnil (Syntax.ttcons Syntax.tnil (Syntax.ttcons Syntax.tnil (Syntax.ttcons Syntax.tnil (Syntax.ttcons Syntax.tnil (Syntax.ttcons Syntax.tnil (Syntax.ttcons
-          (Syntax.tcons (Syntax.tyInt Syntax.w64) Syntax.tnil) (Syntax.ttcons (Syntax.tcons (Syntax.tyInt Syntax.w64) Syntax.tnil) (Syntax.ttcons Syntax.tnil (Syntax.ttcons (Syntax.tcons (Syntax.tyInt
-          Syntax.w64) (Syntax.tcons (Syntax.tyInt Syntax.w64) Syntax.tnil)) (Syntax.ttcons (Syntax.tcons (Syntax.tyInt Syntax.w64) Syntax.tnil) Syntax.ttnil)))))))))))))))) Syntax.tnil) Syntax.ttnil))),
-    )
-    List.[])))))))))))))))
-
-abbrev pub t20 : List.List Row.Entry
-t20 = List._∷_ (
-  0,
-  Rows.any-gone (Syntax.tyEnum (List._∷_ 98 (List._∷_ 108 (List._∷_ 111 (List._∷_ 99 (List._∷_ 107 (List._∷_ 58 (List._∷_ 58 (List._∷_ 87 (List._∷_ 114 (List._∷_ 105 (List._∷_ 116
-      (List._∷_ 116 (List._∷_ 101 (List._∷_ 110 List.[])))))))))))))) (Syntax.ttcons (Syntax.tcons (Syntax.tyInt Syntax.w64) Syntax.tnil) (Syntax.ttcons (Syntax.tcons (Syntax.tyEnum (List._∷_ 115 (List._∷_
-      116 (List._∷_ 114 (List._∷_ 101 (List._∷_ 97 (List._∷_ 109 (List._∷_ 58 (List._∷_ 58 (List._∷_ 82 (List._∷_ 101 (List._∷_ 102 (List._∷_ 117 (List._∷_ 115 (List._∷_ 97 (List._∷_ 108
-      List.[]))))))))))))))) (Syntax.ttcons Syntax.tnil (Syntax.ttcons Syntax.tnil (Syntax.ttcons Syntax.tnil (Syntax.ttcons (Syntax.tcons (Syntax.tyInt Syntax.w64) Syntax.tnil) (Syntax.ttcons Syntax.tnil
-      (Syntax.ttcons Syntax.tnil (Syntax.ttcons Syntax.tnil (Syntax.ttcons Syntax.tnil (Syntax.ttcons Syntax.tnil (Syntax.ttcons Syntax.tnil (Syntax.ttcons (Syntax.tcons (Syntax.tyInt Syntax.w64)
-      Syntax.tnil) (Syntax.ttcons (Syntax.tcons (Syntax.tyInt Syntax.w64) Syntax.tnil) (Syntax.ttcons Syntax.tnil (Syntax.ttcons (Syntax.tcons (Syntax.tyInt Syntax.w64) (Syntax.tcons (Syntax.tyInt
-      Syntax.w64) Syntax.tnil)) (Syntax.ttcons (Syntax.tcons (Syntax.tyInt Syntax.w64) Syntax.tnil) Syntax.ttnil)))))))))))))))) Syntax.tnil) Syntax.ttnil))),
-) (List._∷_ (
-  1,
-  Rows.sslice (Referent.rtF
-      (Referent.fInt Syntax.w8)) (Syntax.tyRef (Syntax.named 0) Syntax.imm (Syntax.tyInt Syntax.w8)) 0,
-) (List._∷_ (
-  2,
-  Rows.sslice (Referent.rtF (Referent.fInt Syntax.w16)) (Syntax.tyRef (Syntax.named 1)
-      Syntax.imm (Syntax.tyInt Syntax.w16)) 1,
-) (List._∷_ (3, Mut.mslice (Referent.rtF (Referent.fInt Syntax.w8)) (Syntax.tyRef (Syntax.named 2) Syntax.mut (Syntax.tyInt Syntax.w8)) 2) (List._∷_ (
-  4,
-  Mut.mslice (Referent.rtF (Referent.fInt Syntax.w16)) (Syntax.tyRef (Syntax.named 3) Syntax.mut (Syntax.tyInt Syntax.w16)) 3,
-) (List._∷_ (
-  5,
-  Mut.mslice (Element.type) (Syntax.tyRef (Syntax.named 4)
-      Syntax.mut Element.behind) 4,
-) (List._∷_ (
-  6,
-  Rows.any-gone (Syntax.tyEnum (List._∷_ 115 (List._∷_ 116 (List._∷_ 114 (List._∷_ 101 (List._∷_ 97 (List._∷_ 109 (List._∷_ 58 (List._∷_ 58 (List._∷_ 80
-      (List._∷_ 97 (List._∷_ 114 (List._∷_ 115 (List._∷_ 101 (List._∷_ 100 List.[])))))))))))))) (Syntax.ttcons (Syntax.tcons (Syntax.tyStruct (List._∷_ 115 (List._∷_ 116 (List._∷_ 114 (List._∷_ 101
-      (List._∷_ 97 (List._∷_ 109 (List._∷_ 58 (List._∷_ 58 (List._∷_ 70 (List._∷_ 117 (List._∷_ 106 (List._∷_ 105 (List._∷_ 72 (List._∷_ 101 (List._∷_ 97 (List._∷_ 100 (List._∷_ 101 (List._∷_ 114
-      List.[])))))))))))))))))) (Syntax.tcons Syntax.tyBool (Syntax.tcons Syntax.tyBool (Syntax.tcons (Syntax.tyInt Syntax.w32) (Syntax.tcons (Syntax.tyInt Syntax.w32) (Syntax.tcons (Syntax.tyInt
-      Syntax.w32) (Syntax.tcons (Syntax.tyInt Syntax.w32) (Syntax.tcons (Syntax.tyInt Syntax.w32) (Syntax.tcons (Syntax.tyInt Syntax.w32) (Syntax.tcons (Syntax.tyInt Syntax.w32) Syntax.tnil))))))))))
-      Syntax.tnil) (Syntax.ttcons (Syntax.tcons (Syntax.tyEnum (List._∷_ 115 (List._∷_ 116 (List._∷_ 114 (List._∷_ 101 (List._∷_ 97 (List._∷_ 109 (List._∷_ 58 (List._∷_ 58 (List._∷_ 82 (List._∷_ 101
-      (List._∷_ 102 (List._∷_ 117 (List._∷_ 115 (List._∷_ 97 (List._∷_ 108 List.[]))))))))))))))) (Syntax.ttcons Syntax.tnil (Syntax.ttcons Syntax.tnil (Syntax.ttcons Syntax.tnil (Syntax.ttcons
-      (Syntax.tcons (Syntax.tyInt Syntax.w64) Syntax.tnil) (Syntax.ttcons Syntax.tnil (Syntax.ttcons Syntax.tnil (Syntax.ttcons Syntax.tnil (Syntax.ttcons Syntax.tnil (Syntax.ttcons Syntax.tnil
-      (Syntax.ttcons Syntax.tnil (Syntax.ttcons (Syntax.tcons (Syntax.tyInt Syntax.w64) Syntax.tnil) (Syntax.ttcons (Syntax.tcons (Syntax.tyInt Syntax.w64) Syntax.tnil) (Syntax.ttcons Syntax.tnil
-      (Syntax.ttcons (Syntax.tcons (Syntax.tyInt Syntax.w64) (Syntax.tcons (Syntax.tyInt Syntax.w64) Syntax.tnil)) (Syntax.ttcons (Syntax.tcons (Syntax.tyInt Syntax.w64) Syntax.tnil)
-      Syntax.ttnil)))))))))))))))) Syntax.tnil) Syntax.ttnil))),
-) (List._∷_ (
-  7,
-  Rows.any-gone (Syntax.tyEnum (List._∷_ 115 (List._∷_ 116 (List._∷_ 114 (List._∷_ 101 (List._∷_ 97 (List._∷_ 109 (List._∷_ 58
-      (List._∷_ 58 (List._∷_ 82 (List._∷_ 101 (List._∷_ 102 (List._∷_ 117 (List._∷_ 115 (List._∷_ 97 (List._∷_ 108 List.[]))))))))))))))) (Syntax.ttcons Syntax.tnil (Syntax.ttcons Syntax.tnil (Syntax.ttcons
-      Syntax.tnil (Syntax.ttcons (Syntax.tcons (Syntax.tyInt Syntax.w64) Syntax.tnil) (Syntax.ttcons Syntax.tnil (Syntax.ttcons Syntax.tnil (Syntax.ttcons Syntax.tnil (Syntax.ttcons Syntax.tnil
-      (Syntax.ttcons Syntax.tnil (Syntax.ttcons Syntax.tnil (Syntax.ttcons (Syntax.tcons (Syntax.tyInt Syntax.w64) Syntax.tnil) (Syntax.ttcons (Syntax.tcons (Syntax.tyInt Syntax.w64) Syntax.tnil)
-      (Syntax.ttcons Syntax.tnil (Syntax.ttcons (Syntax.tcons (Syntax.tyInt Syntax.w64) (Syntax.tcons (Syntax.tyInt Syntax.w64) Syntax.tnil)) (Syntax.ttcons (Syntax.tcons (Syntax.tyInt Syntax.w64)
-      Syntax.tnil) Syntax.ttnil)))))))))))))))),
-) (List._∷_ (8, Rows.whole (Declared'.row FujiHeader.the-type)) (List._∷_ (9, Rows.sc-here (Row.sInt Syntax.w64)) (List._∷_ (
-  10,
-  Rows.whole (Declared'.row
-      Form.the-type),
-) (List._∷_ (11, Rows.sc-here (Row.sInt Syntax.w64)) (List._∷_ (12, Rows.any-gone (Syntax.tyInt Syntax.w64)) (List._∷_ (13, Rows.any-gone (Syntax.tyInt Syntax.w64)) (List._∷_ (
-  14,
-  Rows.any-gone (Syntax.tyInt Syntax.w64),
-) (List._∷_ (
-  15,
-  Rows.any-gone (Syntax.tyEnum (List._∷_ 98 (List._∷_ 108 (List._∷_ 111 (List._∷_ 99 (List._∷_ 107 (List._∷_ 58 (List._∷_ 58 (List._∷_ 87
-      (List._∷_ 114 (List._∷_ 105 (List._∷_ 116 (List._∷_ 116 (List._∷_ 101 (List._∷_ 110 List.[])))))))))))))) (Syntax.ttcons (Syntax.tcons (Syntax.tyInt Syntax.w64) Syntax.tnil) (Syntax.ttcons
-      (Syntax.tcons (Syntax.tyEnum (List._∷_ 115 (List._∷_ 116 (List._∷_ 114 (List._∷_ 101 (List._∷_ 97 (List._∷_ 109 (List._∷_ 58 (List._∷_ 58 (List._∷_ 82 (List._∷_ 101 (List._∷_ 102 (List._∷_ 117
+  Rows.any-gone (Syntax.tyEnum (List._∷_ 115 (List._∷_ 116 (List._∷_ 114 (List._∷_ 101 (List._∷_ 97 (List._∷_ 109 (List._∷_ 58 (List._∷_ 58 (List._∷_ 82 (List._∷_ 101 (List._∷_ 102 (List._∷_ 117
       (List._∷_ 115 (List._∷_ 97 (List._∷_ 108 List.[]))))))))))))))) (Syntax.ttcons Syntax.tnil (Syntax.ttcons Syntax.tnil (Syntax.ttcons Syntax.tnil (Syntax.ttcons (Syntax.tcons (Syntax.tyInt Syntax.w64)
       Syntax.tnil) (Syntax.ttcons Syntax.tnil (Syntax.ttcons Syntax.tnil (Syntax.ttcons Syntax.tnil (Syntax.ttcons Syntax.tnil (Syntax.ttcons Syntax.tnil (Syntax.ttcons Syntax.tnil (Syntax.ttcons
       (Syntax.tcons (Syntax.tyInt Syntax.w64) Syntax.tnil) (Syntax.ttcons (Syntax.tcons (Syntax.tyInt Syntax.w64) Syntax.tnil) (Syntax.ttcons Syntax.tnil (Syntax.ttcons (Syntax.tcons (Syntax.tyInt
-      Syntax.w64) (Syntax.tcons (Syntax.tyInt Syntax.w64) Syntax.tnil)) (Syntax.ttcons (Syntax.tcons (Syntax.tyInt Syntax.w64) Syntax.tnil) Syntax.ttnil)))))))))))))))) Syntax.tnil) Syntax.ttnil))),
+      Syntax.w64) (Syntax.tcons (Syntax.tyInt Syntax.w64) Syntax.tnil)) (Syntax.ttcons (Syntax.tcons (Syntax.tyInt Syntax.w64) Syntax.tnil) Syntax.ttnil)))))))))))))))),
 )
-    List.[])))))))))))))))
+
+abbrev pub e48 : Row.Entry
+e48 = (7, Rows.whole (Declared.row Refusal.the-type))
+
+abbrev pub e49 : Row.Entry
+e49 = (8, Rows.any-gone y0)
+
+abbrev pub e50 : Row.Entry
+e50 = (8, Rows.whole (Declared'.row FujiHeader.the-type))
+
+abbrev pub e51 : Row.Entry
+e51 = (9, Rows.any-gone (Syntax.tyInt Syntax.w64))
+
+abbrev pub e52 : Row.Entry
+e52 = (9, Rows.sc-here (Row.sInt Syntax.w64))
+
+abbrev pub t0 : List.List Row.Entry
+t0 = List._∷_ e0 (List._∷_ e2 (List._∷_ e22 (List._∷_ e37 (List._∷_ e39 (List._∷_ e41 (List._∷_ e43 (List._∷_ e47 (List._∷_ e49 (List._∷_ e51 (List._∷_ e3 (List._∷_ e5 (List._∷_ e7 (List._∷_ e9
+    (List._∷_ e11 (List._∷_ e13 List.[])))))))))))))))
+
+abbrev pub t1 : List.List Row.Entry
+t1 = List._∷_ e15 (List._∷_ e17 (List._∷_ e18 (List._∷_ e20 (List._∷_ e24 (List._∷_ e27 (List._∷_ e28 (List._∷_ e30 (List._∷_ e33 (List._∷_ e36 List.[])))))))))
+
+abbrev pub t2 : List.List Row.Entry
+t2 = List._∷_ e1 (List._∷_ e2 (List._∷_ e22 (List._∷_ e37 (List._∷_ e39 (List._∷_ e41 (List._∷_ e43 (List._∷_ e47 (List._∷_ e49 (List._∷_ e51 (List._∷_ e3 (List._∷_ e5 (List._∷_ e7 (List._∷_ e9
+    (List._∷_ e11 (List._∷_ e13 List.[])))))))))))))))
+
+abbrev pub t3 : List.List Row.Entry
+t3 = List._∷_ e0 (List._∷_ e2 (List._∷_ e22 (List._∷_ e37 (List._∷_ e39 (List._∷_ e41 (List._∷_ e43 (List._∷_ e47 (List._∷_ e49 (List._∷_ e51 (List._∷_ e3 (List._∷_ e5 (List._∷_ e8 (List._∷_ e9
+    (List._∷_ e11 (List._∷_ e13 List.[])))))))))))))))
+
+abbrev pub t4 : List.List Row.Entry
+t4 = List._∷_ e0 (List._∷_ e2 (List._∷_ e22 (List._∷_ e37 (List._∷_ e39 (List._∷_ e41 (List._∷_ e43 (List._∷_ e47 (List._∷_ e49 (List._∷_ e51 (List._∷_ e3 (List._∷_ e5 (List._∷_ e8 (List._∷_ e10
+    (List._∷_ e11 (List._∷_ e13 List.[])))))))))))))))
+
+abbrev pub t5 : List.List Row.Entry
+t5 = List._∷_ e0 (List._∷_ e2 (List._∷_ e22 (List._∷_ e37 (List._∷_ e39 (List._∷_ e41 (List._∷_ e43 (List._∷_ e47 (List._∷_ e49 (List._∷_ e51 (List._∷_ e3 (List._∷_ e5 (List._∷_ e8 (List._∷_ e10
+    (List._∷_ e12 (List._∷_ e13 List.[])))))))))))))))
+
+abbrev pub t6 : List.List Row.Entry
+t6 = List._∷_ e0 (List._∷_ e2 (List._∷_ e22 (List._∷_ e37 (List._∷_ e39 (List._∷_ e41 (List._∷_ e44 (List._∷_ e47 (List._∷_ e49 (List._∷_ e51 (List._∷_ e3 (List._∷_ e5 (List._∷_ e8 (List._∷_ e10
+    (List._∷_ e12 (List._∷_ e13 List.[])))))))))))))))
+
+abbrev pub t7 : List.List Row.Entry
+t7 = List._∷_ e0 (List._∷_ e2 (List._∷_ e22 (List._∷_ e37 (List._∷_ e39 (List._∷_ e41 (List._∷_ e43 (List._∷_ e47 (List._∷_ e49 (List._∷_ e51 (List._∷_ e3 (List._∷_ e5 (List._∷_ e7 (List._∷_ e9
+    (List._∷_ e11 (List._∷_ e14 List.[])))))))))))))))
+
+abbrev pub t8 : List.List Row.Entry
+t8 = List._∷_ e0 (List._∷_ e2 (List._∷_ e22 (List._∷_ e37 (List._∷_ e39 (List._∷_ e41 (List._∷_ e44 (List._∷_ e47 (List._∷_ e49 (List._∷_ e51 (List._∷_ e3 (List._∷_ e5 (List._∷_ e7 (List._∷_ e10
+    (List._∷_ e12 (List._∷_ e13 List.[])))))))))))))))
+
+abbrev pub t9 : List.List Row.Entry
+t9 = List._∷_ e0 (List._∷_ e2 (List._∷_ e22 (List._∷_ e37 (List._∷_ e39 (List._∷_ e41 (List._∷_ e44 (List._∷_ e47 (List._∷_ e49 (List._∷_ e51 (List._∷_ e3 (List._∷_ e5 (List._∷_ e7 (List._∷_ e9
+    (List._∷_ e12 (List._∷_ e13 List.[])))))))))))))))
+
+abbrev pub t10 : List.List Row.Entry
+t10 = List._∷_ e0 (List._∷_ e2 (List._∷_ e22 (List._∷_ e37 (List._∷_ e39 (List._∷_ e41 (List._∷_ e44 (List._∷_ e47 (List._∷_ e49 (List._∷_ e51 (List._∷_ e3 (List._∷_ e5 (List._∷_ e7 (List._∷_ e9
+    (List._∷_ e11 (List._∷_ e13 List.[])))))))))))))))
+
+abbrev pub t11 : List.List Row.Entry
+t11 = List._∷_ e0 (List._∷_ e2 (List._∷_ e22 (List._∷_ e37 (List._∷_ e39 (List._∷_ e41 (List._∷_ e46 (List._∷_ e47 (List._∷_ e49 (List._∷_ e51 (List._∷_ e3 (List._∷_ e5 (List._∷_ e7 (List._∷_ e9
+    (List._∷_ e11 (List._∷_ e13 List.[])))))))))))))))
+
+abbrev pub t12 : List.List Row.Entry
+t12 = List._∷_ e0 (List._∷_ e2 (List._∷_ e22 (List._∷_ e37 (List._∷_ e39 (List._∷_ e41 (List._∷_ e46 (List._∷_ e48 (List._∷_ e49 (List._∷_ e51 (List._∷_ e3 (List._∷_ e5 (List._∷_ e7 (List._∷_ e9
+    (List._∷_ e11 (List._∷_ e13 List.[])))))))))))))))
+
+abbrev pub t13 : List.List Row.Entry
+t13 = List._∷_ e0 (List._∷_ e2 (List._∷_ e22 (List._∷_ e37 (List._∷_ e39 (List._∷_ e41 (List._∷_ e43 (List._∷_ e48 (List._∷_ e49 (List._∷_ e51 (List._∷_ e3 (List._∷_ e5 (List._∷_ e7 (List._∷_ e9
+    (List._∷_ e11 (List._∷_ e13 List.[])))))))))))))))
+
+abbrev pub t14 : List.List Row.Entry
+t14 = List._∷_ e0 (List._∷_ e2 (List._∷_ e22 (List._∷_ e37 (List._∷_ e39 (List._∷_ e41 (List._∷_ e43 (List._∷_ e48 (List._∷_ e49 (List._∷_ e51 (List._∷_ e3 (List._∷_ e5 (List._∷_ e7 (List._∷_ e9
+    (List._∷_ e11 (List._∷_ e14 List.[])))))))))))))))
+
+abbrev pub t15 : List.List Row.Entry
+t15 = List._∷_ e0 (List._∷_ e2 (List._∷_ e22 (List._∷_ e37 (List._∷_ e39 (List._∷_ e41 (List._∷_ e45 (List._∷_ e47 (List._∷_ e49 (List._∷_ e51 (List._∷_ e3 (List._∷_ e5 (List._∷_ e7 (List._∷_ e9
+    (List._∷_ e11 (List._∷_ e13 List.[])))))))))))))))
+
+abbrev pub t16 : List.List Row.Entry
+t16 = List._∷_ e0 (List._∷_ e2 (List._∷_ e22 (List._∷_ e37 (List._∷_ e39 (List._∷_ e41 (List._∷_ e45 (List._∷_ e47 (List._∷_ e50 (List._∷_ e51 (List._∷_ e3 (List._∷_ e5 (List._∷_ e7 (List._∷_ e9
+    (List._∷_ e11 (List._∷_ e13 List.[])))))))))))))))
+
+abbrev pub t17 : List.List Row.Entry
+t17 = List._∷_ e0 (List._∷_ e2 (List._∷_ e22 (List._∷_ e37 (List._∷_ e39 (List._∷_ e41 (List._∷_ e43 (List._∷_ e47 (List._∷_ e50 (List._∷_ e51 (List._∷_ e3 (List._∷_ e5 (List._∷_ e7 (List._∷_ e9
+    (List._∷_ e11 (List._∷_ e13 List.[])))))))))))))))
+
+abbrev pub t18 : List.List Row.Entry
+t18 = List._∷_ e0 (List._∷_ e2 (List._∷_ e22 (List._∷_ e37 (List._∷_ e39 (List._∷_ e41 (List._∷_ e43 (List._∷_ e47 (List._∷_ e50 (List._∷_ e52 (List._∷_ e3 (List._∷_ e5 (List._∷_ e7 (List._∷_ e9
+    (List._∷_ e11 (List._∷_ e13 List.[])))))))))))))))
+
+abbrev pub t19 : List.List Row.Entry
+t19 = List._∷_ e0 (List._∷_ e2 (List._∷_ e22 (List._∷_ e37 (List._∷_ e39 (List._∷_ e41 (List._∷_ e43 (List._∷_ e47 (List._∷_ e50 (List._∷_ e52 (List._∷_ e4 (List._∷_ e5 (List._∷_ e7 (List._∷_ e9
+    (List._∷_ e11 (List._∷_ e13 List.[])))))))))))))))
+
+abbrev pub t20 : List.List Row.Entry
+t20 = List._∷_ e0 (List._∷_ e2 (List._∷_ e22 (List._∷_ e37 (List._∷_ e39 (List._∷_ e41 (List._∷_ e43 (List._∷_ e47 (List._∷_ e50 (List._∷_ e52 (List._∷_ e4 (List._∷_ e6 (List._∷_ e7 (List._∷_ e9
+    (List._∷_ e11 (List._∷_ e13 List.[])))))))))))))))
 
 abbrev pub t21 : List.List Row.Entry
-t21 = List._∷_ (
-  0,
-  Rows.any-gone (Syntax.tyEnum (List._∷_ 98 (List._∷_ 108 (List._∷_ 111 (List._∷_ 99 (List._∷_ 107 (List._∷_ 58 (List._∷_ 58 (List._∷_ 87 (List._∷_ 114 (List._∷_ 105 (List._∷_ 116
-      (List._∷_ 116 (List._∷_ 101 (List._∷_ 110 List.[])))))))))))))) (Syntax.ttcons (Syntax.tcons (Syntax.tyInt Syntax.w64) Syntax.tnil) (Syntax.ttcons (Syntax.tcons (Syntax.tyEnum (List._∷_ 115 (List._∷_
-      116 (List._∷_ 114 (List._∷_ 101 (List._∷_ 97 (List._∷_ 109 (List._∷_ 58 (List._∷_ 58 (List._∷_ 82 (List._∷_ 101 (List._∷_ 102 (List._∷_ 117 (List._∷_ 115 (List._∷_ 97 (List._∷_ 108
-      List.[]))))))))))))))) (Syntax.ttcons Syntax.tnil (Syntax.ttcons Syntax.tnil (Syntax.ttcons Syntax.tnil (Syntax.ttcons (Syntax.tcons (Syntax.tyInt Syntax.w64) Syntax.tnil) (Syntax.ttcons Syntax.tnil
-      (Syntax.ttcons Syntax.tnil (Syntax.ttcons Syntax.tnil (Syntax.ttcons Syntax.tnil (Syntax.ttcons Syntax.tnil (Syntax.ttcons Syntax.tnil (Syntax.ttcons (Syntax.tcons (Syntax.tyInt Syntax.w64)
-      Syntax.tnil) (Syntax.ttcons (Syntax.tcons (Syntax.tyInt Syntax.w64) Syntax.tnil) (Syntax.ttcons Syntax.tnil (Syntax.ttcons (Syntax.tcons (Syntax.tyInt Syntax.w64) (Syntax.tcons (Syntax.tyInt
-      Syntax.w64) Syntax.tnil)) (Syntax.ttcons (Syntax.tcons (Syntax.tyInt Syntax.w64) Syntax.tnil) Syntax.ttnil)))))))))))))))) Syntax.tnil) Syntax.ttnil))),
-) (List._∷_ (
-  1,
-  Rows.sslice (Referent.rtF
-      (Referent.fInt Syntax.w8)) (Syntax.tyRef (Syntax.named 0) Syntax.imm (Syntax.tyInt Syntax.w8)) 0,
-) (List._∷_ (
-  2,
-  Rows.sslice (Referent.rtF (Referent.fInt Syntax.w16)) (Syntax.tyRef (Syntax.named 1)
-      Syntax.imm (Syntax.tyInt Syntax.w16)) 1,
-) (List._∷_ (3, Mut.mslice (Referent.rtF (Referent.fInt Syntax.w8)) (Syntax.tyRef (Syntax.named 2) Syntax.mut (Syntax.tyInt Syntax.w8)) 2) (List._∷_ (
-  4,
-  Mut.mslice (Referent.rtF (Referent.fInt Syntax.w16)) (Syntax.tyRef (Syntax.named 3) Syntax.mut (Syntax.tyInt Syntax.w16)) 3,
-) (List._∷_ (
-  5,
-  Mut.mslice (Element.type) (Syntax.tyRef (Syntax.named 4)
-      Syntax.mut Element.behind) 4,
-) (List._∷_ (
-  6,
-  Rows.any-gone (Syntax.tyEnum (List._∷_ 115 (List._∷_ 116 (List._∷_ 114 (List._∷_ 101 (List._∷_ 97 (List._∷_ 109 (List._∷_ 58 (List._∷_ 58 (List._∷_ 80
-      (List._∷_ 97 (List._∷_ 114 (List._∷_ 115 (List._∷_ 101 (List._∷_ 100 List.[])))))))))))))) (Syntax.ttcons (Syntax.tcons (Syntax.tyStruct (List._∷_ 115 (List._∷_ 116 (List._∷_ 114 (List._∷_ 101
-      (List._∷_ 97 (List._∷_ 109 (List._∷_ 58 (List._∷_ 58 (List._∷_ 70 (List._∷_ 117 (List._∷_ 106 (List._∷_ 105 (List._∷_ 72 (List._∷_ 101 (List._∷_ 97 (List._∷_ 100 (List._∷_ 101 (List._∷_ 114
-      List.[])))))))))))))))))) (Syntax.tcons Syntax.tyBool (Syntax.tcons Syntax.tyBool (Syntax.tcons (Syntax.tyInt Syntax.w32) (Syntax.tcons (Syntax.tyInt Syntax.w32) (Syntax.tcons (Syntax.tyInt
-      Syntax.w32) (Syntax.tcons (Syntax.tyInt Syntax.w32) (Syntax.tcons (Syntax.tyInt Syntax.w32) (Syntax.tcons (Syntax.tyInt Syntax.w32) (Syntax.tcons (Syntax.tyInt Syntax.w32) Syntax.tnil))))))))))
-      Syntax.tnil) (Syntax.ttcons (Syntax.tcons (Syntax.tyEnum (List._∷_ 115 (List._∷_ 116 (List._∷_ 114 (List._∷_ 101 (List._∷_ 97 (List._∷_ 109 (List._∷_ 58 (List._∷_ 58 (List._∷_ 82 (List._∷_ 101
-      (List._∷_ 102 (List._∷_ 117 (List._∷_ 115 (List._∷_ 97 (List._∷_ 108 List.[]))))))))))))))) (Syntax.ttcons Syntax.tnil (Syntax.ttcons Syntax.tnil (Syntax.ttcons Syntax.tnil (Syntax.ttcons
-      (Syntax.tcons (Syntax.tyInt Syntax.w64) Syntax.tnil) (Syntax.ttcons Syntax.tnil (Syntax.ttcons Syntax.tnil (Syntax.ttcons Syntax.tnil (Syntax.ttcons Syntax.tnil (Syntax.ttcons Syntax.tnil
-      (Syntax.ttcons Syntax.tnil (Syntax.ttcons (Syntax.tcons (Syntax.tyInt Syntax.w64) Syntax.tnil) (Syntax.ttcons (Syntax.tcons (Syntax.tyInt Syntax.w64) Syntax.tnil) (Syntax.ttcons Syntax.tnil
-      (Syntax.ttcons (Syntax.tcons (Syntax.tyInt Syntax.w64) (Syntax.tcons (Syntax.tyInt Syntax.w64) Syntax.tnil)) (Syntax.ttcons (Syntax.tcons (Syntax.tyInt Syntax.w64) Syntax.tnil)
-      Syntax.ttnil)))))))))))))))) Syntax.tnil) Syntax.ttnil))),
-) (List._∷_ (
-  7,
-  Rows.any-gone (Syntax.tyEnum (List._∷_ 115 (List._∷_ 116 (List._∷_ 114 (List._∷_ 101 (List._∷_ 97 (List._∷_ 109 (List._∷_ 58
-      (List._∷_ 58 (List._∷_ 82 (List._∷_ 101 (List._∷_ 102 (List._∷_ 117 (List._∷_ 115 (List._∷_ 97 (List._∷_ 108 List.[]))))))))))))))) (Syntax.ttcons Syntax.tnil (Syntax.ttcons Syntax.tnil (Syntax.ttcons
-      Syntax.tnil (Syntax.ttcons (Syntax.tcons (Syntax.tyInt Syntax.w64) Syntax.tnil) (Syntax.ttcons Syntax.tnil (Syntax.ttcons Syntax.tnil (Syntax.ttcons Syntax.tnil (Syntax.ttcons Syntax.tnil
-      (Syntax.ttcons Syntax.tnil (Syntax.ttcons Syntax.tnil (Syntax.ttcons (Syntax.tcons (Syntax.tyInt Syntax.w64) Syntax.tnil) (Syntax.ttcons (Syntax.tcons (Syntax.tyInt Syntax.w64) Syntax.tnil)
-      (Syntax.ttcons Syntax.tnil (Syntax.ttcons (Syntax.tcons (Syntax.tyInt Syntax.w64) (Syntax.tcons (Syntax.tyInt Syntax.w64) Syntax.tnil)) (Syntax.ttcons (Syntax.tcons (Syntax.tyInt Syntax.w64)
-      Syntax.tnil) Syntax.ttnil)))))))))))))))),
-) (List._∷_ (
-  8,
-  Rows.any-gone (Syntax.tyStruct (List._∷_ 115 (List._∷_ 116 (List._∷_ 114 (List._∷_ 101 (List._∷_ 97 (List._∷_ 109 (List._∷_ 58 (List._∷_ 58
-      (List._∷_ 70 (List._∷_ 117 (List._∷_ 106 (List._∷_ 105 (List._∷_ 72 (List._∷_ 101 (List._∷_ 97 (List._∷_ 100 (List._∷_ 101 (List._∷_ 114 List.[])))))))))))))))))) (Syntax.tcons Syntax.tyBool
-      (Syntax.tcons Syntax.tyBool (Syntax.tcons (Syntax.tyInt Syntax.w32) (Syntax.tcons (Syntax.tyInt Syntax.w32) (Syntax.tcons (Syntax.tyInt Syntax.w32) (Syntax.tcons (Syntax.tyInt Syntax.w32)
-      (Syntax.tcons (Syntax.tyInt Syntax.w32) (Syntax.tcons (Syntax.tyInt Syntax.w32) (Syntax.tcons (Syntax.tyInt Syntax.w32) Syntax.tnil)))))))))),
-) (List._∷_ (9, Rows.sc-here (Row.sInt Syntax.w64))
-    (List._∷_ (10, Rows.whole (Declared'.row Form.the-type)) (List._∷_ (11, Rows.sc-here (Row.sInt Syntax.w64)) (List._∷_ (12, Rows.any-gone (Syntax.tyInt Syntax.w64)) (List._∷_ (
-      13,
-      Rows.any-gone
-          (Syntax.tyInt Syntax.w64),
-    ) (List._∷_ (14, Rows.any-gone (Syntax.tyInt Syntax.w64)) (List._∷_ (
-      15,
-      Rows.any-gone (Syntax.tyEnum (List._∷_ 98 (List._∷_ 108 (List._∷_ 111 (List._∷_ 99 (List._∷_ 107
-          (List._∷_ 58 (List._∷_ 58 (List._∷_ 87 (List._∷_ 114 (List._∷_ 105 (List._∷_ 116 (List._∷_ 116 (List._∷_ 101 (List._∷_ 110 List.[])))))))))))))) (Syntax.ttcons (Syntax.tcons (Syntax.tyInt Syntax.w64)
-          Syntax.tnil) (Syntax.ttcons (Syntax.tcons (Syntax.tyEnum (List._∷_ 115 (List._∷_ 116 (List._∷_ 114 (List._∷_ 101 (List._∷_ 97 (List._∷_ 109 (List._∷_ 58 (List._∷_ 58 (List._∷_ 82 (List._∷_ 101
-          (List._∷_ 102 (List._∷_ 117 (List._∷_ 115 (List._∷_ 97 (List._∷_ 108 List.[]))))))))))))))) (Syntax.ttcons Syntax.tnil (Syntax.ttcons Syntax.tnil (Syntax.ttcons Syntax.tnil (Syntax.ttcons
-          (Syntax.tcons (Syntax.tyInt Syntax.w64) Syntax.tnil) (Syntax.ttcons Syntax.tnil (Syntax.ttcons Syntax.tnil (Syntax.ttcons Syntax.tnil (Syntax.ttcons Syntax.tnil (Syntax.ttcons Syntax.tnil
-          (Syntax.ttcons Syntax.tnil (Syntax.ttcons (Syntax.tcons (Syntax.tyInt Syntax.w64) Syntax.tnil) (Syntax.ttcons (Syntax.tcons (Syntax.tyInt Syntax.w64) Syntax.tnil) (Syntax.ttcons Syntax.tnil
-          (Syntax.ttcons (Syntax.tcons (Syntax.tyInt Syntax.w64) (Syntax.tcons (Syntax.tyInt Syntax.w64) Syntax.tnil)) (Syntax.ttcons (Syntax.tcons (Syntax.tyInt Syntax.w64) Syntax.tnil)
-          Syntax.ttnil)))))))))))))))) Syntax.tnil) Syntax.ttnil))),
-    ) List.[])))))))))))))))
+t21 = List._∷_ e0 (List._∷_ e2 (List._∷_ e22 (List._∷_ e37 (List._∷_ e39 (List._∷_ e41 (List._∷_ e43 (List._∷_ e47 (List._∷_ e49 (List._∷_ e52 (List._∷_ e4 (List._∷_ e6 (List._∷_ e7 (List._∷_ e9
+    (List._∷_ e11 (List._∷_ e13 List.[])))))))))))))))
 
 abbrev pub t22 : List.List Row.Entry
-t22 = List._∷_ (
-  0,
-  Rows.any-gone (Syntax.tyEnum (List._∷_ 98 (List._∷_ 108 (List._∷_ 111 (List._∷_ 99 (List._∷_ 107 (List._∷_ 58 (List._∷_ 58 (List._∷_ 87 (List._∷_ 114 (List._∷_ 105 (List._∷_ 116
-      (List._∷_ 116 (List._∷_ 101 (List._∷_ 110 List.[])))))))))))))) (Syntax.ttcons (Syntax.tcons (Syntax.tyInt Syntax.w64) Syntax.tnil) (Syntax.ttcons (Syntax.tcons (Syntax.tyEnum (List._∷_ 115 (List._∷_
-      116 (List._∷_ 114 (List._∷_ 101 (List._∷_ 97 (List._∷_ 109 (List._∷_ 58 (List._∷_ 58 (List._∷_ 82 (List._∷_ 101 (List._∷_ 102 (List._∷_ 117 (List._∷_ 115 (List._∷_ 97 (List._∷_ 108
-      List.[]))))))))))))))) (Syntax.ttcons Syntax.tnil (Syntax.ttcons Syntax.tnil (Syntax.ttcons Syntax.tnil (Syntax.ttcons (Syntax.tcons (Syntax.tyInt Syntax.w64) Syntax.tnil) (Syntax.ttcons Syntax.tnil
-      (Syntax.ttcons Syntax.tnil (Syntax.ttcons Syntax.tnil (Syntax.ttcons Syntax.tnil (Syntax.ttcons Syntax.tnil (Syntax.ttcons Syntax.tnil (Syntax.ttcons (Syntax.tcons (Syntax.tyInt Syntax.w64)
-      Syntax.tnil) (Syntax.ttcons (Syntax.tcons (Syntax.tyInt Syntax.w64) Syntax.tnil) (Syntax.ttcons Syntax.tnil (Syntax.ttcons (Syntax.tcons (Syntax.tyInt Syntax.w64) (Syntax.tcons (Syntax.tyInt
-      Syntax.w64) Syntax.tnil)) (Syntax.ttcons (Syntax.tcons (Syntax.tyInt Syntax.w64) Syntax.tnil) Syntax.ttnil)))))))))))))))) Syntax.tnil) Syntax.ttnil))),
-) (List._∷_ (
-  1,
-  Rows.sslice (Referent.rtF
-      (Referent.fInt Syntax.w8)) (Syntax.tyRef (Syntax.named 0) Syntax.imm (Syntax.tyInt Syntax.w8)) 0,
-) (List._∷_ (
-  2,
-  Rows.sslice (Referent.rtF (Referent.fInt Syntax.w16)) (Syntax.tyRef (Syntax.named 1)
-      Syntax.imm (Syntax.tyInt Syntax.w16)) 1,
-) (List._∷_ (3, Relend.mslice-owed (Referent.rtF (Referent.fInt Syntax.w8)) (Syntax.tyRef (Syntax.named 2) Syntax.mut (Syntax.tyInt Syntax.w8)) 2 5 Row.off)
-    (List._∷_ (4, Mut.mslice (Referent.rtF (Referent.fInt Syntax.w16)) (Syntax.tyRef (Syntax.named 3) Syntax.mut (Syntax.tyInt Syntax.w16)) 3) (List._∷_ (
-      5,
-      Mut.mslice (Element.type) (Syntax.tyRef
-          (Syntax.named 4) Syntax.mut Element.behind) 4,
-    ) (List._∷_ (
-      6,
-      Rows.any-gone (Syntax.tyEnum (List._∷_ 115 (List._∷_ 116 (List._∷_ 114 (List._∷_ 101 (List._∷_ 97 (List._∷_ 109 (List._∷_ 58 (List._∷_
-          58 (List._∷_ 80 (List._∷_ 97 (List._∷_ 114 (List._∷_ 115 (List._∷_ 101 (List._∷_ 100 List.[])))))))))))))) (Syntax.ttcons (Syntax.tcons (Syntax.tyStruct (List._∷_ 115 (List._∷_ 116 (List._∷_ 114
-          (List._∷_ 101 (List._∷_ 97 (List._∷_ 109 (List._∷_ 58 (List._∷_ 58 (List._∷_ 70 (List._∷_ 117 (List._∷_ 106 (List._∷_ 105 (List._∷_ 72 (List._∷_ 101 (List._∷_ 97 (List._∷_ 100 (List._∷_ 101 (List._∷_
-          114 List.[])))))))))))))))))) (Syntax.tcons Syntax.tyBool (Syntax.tcons Syntax.tyBool (Syntax.tcons (Syntax.tyInt Syntax.w32) (Syntax.tcons (Syntax.tyInt Syntax.w32) (Syntax.tcons (Syntax.tyInt
-          Syntax.w32) (Syntax.tcons (Syntax.tyInt Syntax.w32) (Syntax.tcons (Syntax.tyInt Syntax.w32) (Syntax.tcons (Syntax.tyInt Syntax.w32) (Syntax.tcons (Syntax.tyInt Syntax.w32) Syntax.tnil))))))))))
-          Syntax.tnil) (Syntax.ttcons (Syntax.tcons (Syntax.tyEnum (List._∷_ 115 (List._∷_ 116 (List._∷_ 114 (List._∷_ 101 (List._∷_ 97 (List._∷_ 109 (List._∷_ 58 (List._∷_ 58 (List._∷_ 82 (List._∷_ 101
-          (List._∷_ 102 (List._∷_ 117 (List._∷_ 115 (List._∷_ 97 (List._∷_ 108 List.[]))))))))))))))) (Syntax.ttcons Syntax.tnil (Syntax.ttcons Syntax.tnil (Syntax.ttcons Syntax.tnil (Syntax.ttcons
-          (Syntax.tcons (Syntax.tyInt Syntax.w64) Syntax.tnil) (Syntax.ttcons Syntax.tnil (Syntax.ttcons Syntax.tnil (Syntax.ttcons Syntax.tnil (Syntax.ttcons Syntax.tnil (Syntax.ttcons Syntax.tnil
-          (Syntax.ttcons Syntax.tnil (Syntax.ttcons (Syntax.tcons (Syntax.tyInt Syntax.w64) Syntax.tnil) (Syntax.ttcons (Syntax.tcons (Syntax.tyInt Syntax.w64) Syntax.tnil) (Syntax.ttcons Syntax.tnil
-          (Syntax.ttcons (Syntax.tcons (Syntax.tyInt Syntax.w64) (Syntax.tcons (Syntax.tyInt Syntax.w64) Syntax.tnil)) (Syntax.ttcons (Syntax.tcons (Syntax.tyInt Syntax.w64) Syntax.tnil)
-          Syntax.ttnil)))))))))))))))) Syntax.tnil) Syntax.ttnil))),
-    ) (List._∷_ (
-      7,
-      Rows.any-gone (Syntax.tyEnum (List._∷_ 115 (List._∷_ 116 (List._∷_ 114 (List._∷_ 101 (List._∷_ 97 (List._∷_ 109 (List._∷_ 58
-          (List._∷_ 58 (List._∷_ 82 (List._∷_ 101 (List._∷_ 102 (List._∷_ 117 (List._∷_ 115 (List._∷_ 97 (List._∷_ 108 List.[]))))))))))))))) (Syntax.ttcons Syntax.tnil (Syntax.ttcons Syntax.tnil (Syntax.ttcons
-          Syntax.tnil (Syntax.ttcons (Syntax.tcons (Syntax.tyInt Syntax.w64) Syntax.tnil) (Syntax.ttcons Syntax.tnil (Syntax.ttcons Syntax.tnil (Syntax.ttcons Syntax.tnil (Syntax.ttcons Syntax.tnil
-          (Syntax.ttcons Syntax.tnil (Syntax.ttcons Syntax.tnil (Syntax.ttcons (Syntax.tcons (Syntax.tyInt Syntax.w64) Syntax.tnil) (Syntax.ttcons (Syntax.tcons (Syntax.tyInt Syntax.w64) Syntax.tnil)
-          (Syntax.ttcons Syntax.tnil (Syntax.ttcons (Syntax.tcons (Syntax.tyInt Syntax.w64) (Syntax.tcons (Syntax.tyInt Syntax.w64) Syntax.tnil)) (Syntax.ttcons (Syntax.tcons (Syntax.tyInt Syntax.w64)
-          Syntax.tnil) Syntax.ttnil)))))))))))))))),
-    ) (List._∷_ (
-      8,
-      Rows.any-gone (Syntax.tyStruct (List._∷_ 115 (List._∷_ 116 (List._∷_ 114 (List._∷_ 101 (List._∷_ 97 (List._∷_ 109 (List._∷_ 58 (List._∷_ 58
-          (List._∷_ 70 (List._∷_ 117 (List._∷_ 106 (List._∷_ 105 (List._∷_ 72 (List._∷_ 101 (List._∷_ 97 (List._∷_ 100 (List._∷_ 101 (List._∷_ 114 List.[])))))))))))))))))) (Syntax.tcons Syntax.tyBool
-          (Syntax.tcons Syntax.tyBool (Syntax.tcons (Syntax.tyInt Syntax.w32) (Syntax.tcons (Syntax.tyInt Syntax.w32) (Syntax.tcons (Syntax.tyInt Syntax.w32) (Syntax.tcons (Syntax.tyInt Syntax.w32)
-          (Syntax.tcons (Syntax.tyInt Syntax.w32) (Syntax.tcons (Syntax.tyInt Syntax.w32) (Syntax.tcons (Syntax.tyInt Syntax.w32) Syntax.tnil)))))))))),
-    ) (List._∷_ (9, Rows.sc-here (Row.sInt Syntax.w64))
-    (List._∷_ (10, Rows.whole (Declared'.row Form.the-type)) (List._∷_ (11, Rows.sc-here (Row.sInt Syntax.w64)) (List._∷_ (12, Rows.any-gone (Syntax.tyInt Syntax.w64)) (List._∷_ (
-      13,
-      Rows.any-gone
-          (Syntax.tyInt Syntax.w64),
-    ) (List._∷_ (14, Rows.any-gone (Syntax.tyInt Syntax.w64)) (List._∷_ (
-      15,
-      Rows.any-gone (Syntax.tyEnum (List._∷_ 98 (List._∷_ 108 (List._∷_ 111 (List._∷_ 99 (List._∷_ 107
-          (List._∷_ 58 (List._∷_ 58 (List._∷_ 87 (List._∷_ 114 (List._∷_ 105 (List._∷_ 116 (List._∷_ 116 (List._∷_ 101 (List._∷_ 110 List.[])))))))))))))) (Syntax.ttcons (Syntax.tcons (Syntax.tyInt Syntax.w64)
-          Syntax.tnil) (Syntax.ttcons (Syntax.tcons (Syntax.tyEnum (List._∷_ 115 (List._∷_ 116 (List._∷_ 114 (List._∷_ 101 (List._∷_ 97 (List._∷_ 109 (List._∷_ 58 (List._∷_ 58 (List._∷_ 82 (List._∷_ 101
-          (List._∷_ 102 (List._∷_ 117 (List._∷_ 115 (List._∷_ 97 (List._∷_ 108 List.[]))))))))))))))) (Syntax.ttcons Syntax.tnil (Syntax.ttcons Syntax.tnil (Syntax.ttcons Syntax.tnil (Syntax.ttcons
-          (Syntax.tcons (Syntax.tyInt Syntax.w64) Syntax.tnil) (Syntax.ttcons Syntax.tnil (Syntax.ttcons Syntax.tnil (Syntax.ttcons Syntax.tnil (Syntax.ttcons Syntax.tnil (Syntax.ttcons Syntax.tnil
-          (Syntax.ttcons Syntax.tnil (Syntax.ttcons (Syntax.tcons (Syntax.tyInt Syntax.w64) Syntax.tnil) (Syntax.ttcons (Syntax.tcons (Syntax.tyInt Syntax.w64) Syntax.tnil) (Syntax.ttcons Syntax.tnil
-          (Syntax.ttcons (Syntax.tcons (Syntax.tyInt Syntax.w64) (Syntax.tcons (Syntax.tyInt Syntax.w64) Syntax.tnil)) (Syntax.ttcons (Syntax.tcons (Syntax.tyInt Syntax.w64) Syntax.tnil)
-          Syntax.ttnil)))))))))))))))) Syntax.tnil) Syntax.ttnil))),
-    ) List.[])))))))))))))))
+t22 = List._∷_ e0 (List._∷_ e2 (List._∷_ e22 (List._∷_ e38 (List._∷_ e39 (List._∷_ e41 (List._∷_ e43 (List._∷_ e47 (List._∷_ e49 (List._∷_ e52 (List._∷_ e4 (List._∷_ e6 (List._∷_ e7 (List._∷_ e9
+    (List._∷_ e11 (List._∷_ e13 List.[])))))))))))))))
 
 abbrev pub t23 : List.List Row.Entry
-t23 = List._∷_ (16, Relend.msptr (Referent.rtF (Referent.fInt Syntax.w8)) (Syntax.tyRef Syntax.erased Syntax.mut (Syntax.tyInt Syntax.w8)) 5) (List._∷_ (
-  17,
-  Rows.any-gone (Syntax.tyStruct
-      (List._∷_ 38 (List._∷_ 91 (List._∷_ 93 List.[]))) (Syntax.tcons (Syntax.tyRef Syntax.erased Syntax.mut (Syntax.tyInt Syntax.w8)) (Syntax.tcons (Syntax.tyInt Syntax.w64) Syntax.tnil))),
-) (List._∷_
-    (18, Rows.any-gone Syntax.tyPtr) (List._∷_ (19, Rows.any-gone (Syntax.tyInt Syntax.w64)) (List._∷_ (20, Rows.any-gone (Syntax.tyRef Syntax.erased Syntax.mut (Syntax.tyInt Syntax.w16))) (List._∷_ (
-      21,
-      Rows.any-gone (Syntax.tyStruct (List._∷_ 38 (List._∷_ 91 (List._∷_ 93 List.[]))) (Syntax.tcons (Syntax.tyRef Syntax.erased Syntax.mut (Syntax.tyInt Syntax.w16)) (Syntax.tcons (Syntax.tyInt
-          Syntax.w64) Syntax.tnil))),
-    ) (List._∷_ (22, Rows.any-gone Syntax.tyPtr) (List._∷_ (23, Rows.any-gone (Syntax.tyInt Syntax.w64)) (List._∷_ (
-      24,
-      Rows.any-gone (Syntax.tyRef Syntax.erased Syntax.mut
-          Element.behind),
-    ) (List._∷_ (
-      25,
-      Rows.any-gone (Syntax.tyStruct (List._∷_ 38 (List._∷_ 91 (List._∷_ 93 List.[]))) (Syntax.tcons (Syntax.tyRef Syntax.erased Syntax.mut Element.behind) (Syntax.tcons
-          (Syntax.tyInt Syntax.w64) Syntax.tnil))),
-    ) List.[])))))))))
+t23 = List._∷_ (16, Relend.msptr (Referent.rtF (Referent.fInt Syntax.w8)) (Syntax.tyRef Syntax.erased Syntax.mut (Syntax.tyInt Syntax.w8)) 5) (List._∷_ e17 (List._∷_ e18 (List._∷_ e20 (List._∷_ e24
+    (List._∷_ e27 (List._∷_ e28 (List._∷_ e30 (List._∷_ e33 (List._∷_ e36 List.[])))))))))
 
 abbrev pub t24 : List.List Row.Entry
-t24 = List._∷_ (16, Rows.any-gone (Syntax.tyRef Syntax.erased Syntax.mut (Syntax.tyInt Syntax.w8))) (List._∷_ (
-  17,
-  Mut.mslice (Referent.rtF (Referent.fInt Syntax.w8)) (Syntax.tyRef Syntax.erased
-      Syntax.mut (Syntax.tyInt Syntax.w8)) 5,
-) (List._∷_ (18, Rows.any-gone Syntax.tyPtr) (List._∷_ (19, Rows.any-gone (Syntax.tyInt Syntax.w64)) (List._∷_ (
-  20,
-  Rows.any-gone (Syntax.tyRef
-      Syntax.erased Syntax.mut (Syntax.tyInt Syntax.w16)),
-) (List._∷_ (
-  21,
-  Rows.any-gone (Syntax.tyStruct (List._∷_ 38 (List._∷_ 91 (List._∷_ 93 List.[]))) (Syntax.tcons (Syntax.tyRef Syntax.erased
-      Syntax.mut (Syntax.tyInt Syntax.w16)) (Syntax.tcons (Syntax.tyInt Syntax.w64) Syntax.tnil))),
-) (List._∷_ (22, Rows.any-gone Syntax.tyPtr) (List._∷_ (23, Rows.any-gone (Syntax.tyInt Syntax.w64))
-    (List._∷_ (24, Rows.any-gone (Syntax.tyRef Syntax.erased Syntax.mut Element.behind)) (List._∷_ (
-      25,
-      Rows.any-gone (Syntax.tyStruct (List._∷_ 38 (List._∷_ 91 (List._∷_ 93 List.[]))) (Syntax.tcons
-          (Syntax.tyRef Syntax.erased Syntax.mut Element.behind) (Syntax.tcons (Syntax.tyInt Syntax.w64) Syntax.tnil))),
-    ) List.[])))))))))
+t24 = List._∷_ e15 (List._∷_ e16 (List._∷_ e18 (List._∷_ e20 (List._∷_ e24 (List._∷_ e27 (List._∷_ e28 (List._∷_ e30 (List._∷_ e33 (List._∷_ e36 List.[])))))))))
 
 abbrev pub t25 : List.List Row.Entry
-t25 = List._∷_ (16, Rows.any-gone (Syntax.tyRef Syntax.erased Syntax.mut (Syntax.tyInt Syntax.w8))) (List._∷_ (
-  17,
-  Mut.mslice (Referent.rtF (Referent.fInt Syntax.w8)) (Syntax.tyRef Syntax.erased
-      Syntax.mut (Syntax.tyInt Syntax.w8)) 5,
-) (List._∷_ (18, Rows.sc-here Row.sPtr) (List._∷_ (19, Rows.any-gone (Syntax.tyInt Syntax.w64)) (List._∷_ (
-  20,
-  Rows.any-gone (Syntax.tyRef Syntax.erased
-      Syntax.mut (Syntax.tyInt Syntax.w16)),
-) (List._∷_ (
-  21,
-  Rows.any-gone (Syntax.tyStruct (List._∷_ 38 (List._∷_ 91 (List._∷_ 93 List.[]))) (Syntax.tcons (Syntax.tyRef Syntax.erased Syntax.mut
-      (Syntax.tyInt Syntax.w16)) (Syntax.tcons (Syntax.tyInt Syntax.w64) Syntax.tnil))),
-) (List._∷_ (22, Rows.any-gone Syntax.tyPtr) (List._∷_ (23, Rows.any-gone (Syntax.tyInt Syntax.w64)) (List._∷_ (
-  24,
-  Rows.any-gone (Syntax.tyRef Syntax.erased Syntax.mut Element.behind),
-) (List._∷_ (
-  25,
-  Rows.any-gone (Syntax.tyStruct (List._∷_ 38 (List._∷_ 91 (List._∷_ 93 List.[]))) (Syntax.tcons (Syntax.tyRef
-      Syntax.erased Syntax.mut Element.behind) (Syntax.tcons (Syntax.tyInt Syntax.w64) Syntax.tnil))),
-) List.[])))))))))
+t25 = List._∷_ e15 (List._∷_ e16 (List._∷_ e19 (List._∷_ e20 (List._∷_ e24 (List._∷_ e27 (List._∷_ e28 (List._∷_ e30 (List._∷_ e33 (List._∷_ e36 List.[])))))))))
 
 abbrev pub t26 : List.List Row.Entry
-t26 = List._∷_ (16, Rows.any-gone (Syntax.tyRef Syntax.erased Syntax.mut (Syntax.tyInt Syntax.w8))) (List._∷_ (
-  17,
-  Mut.mslice (Referent.rtF (Referent.fInt Syntax.w8)) (Syntax.tyRef Syntax.erased
-      Syntax.mut (Syntax.tyInt Syntax.w8)) 5,
-) (List._∷_ (18, Rows.sc-here Row.sPtr) (List._∷_ (19, Rows.sc-here (Row.sInt Syntax.w64)) (List._∷_ (
-  20,
-  Rows.any-gone (Syntax.tyRef Syntax.erased Syntax.mut
-      (Syntax.tyInt Syntax.w16)),
-) (List._∷_ (
-  21,
-  Rows.any-gone (Syntax.tyStruct (List._∷_ 38 (List._∷_ 91 (List._∷_ 93 List.[]))) (Syntax.tcons (Syntax.tyRef Syntax.erased Syntax.mut (Syntax.tyInt
-      Syntax.w16)) (Syntax.tcons (Syntax.tyInt Syntax.w64) Syntax.tnil))),
-) (List._∷_ (22, Rows.any-gone Syntax.tyPtr) (List._∷_ (23, Rows.any-gone (Syntax.tyInt Syntax.w64)) (List._∷_ (
-  24,
-  Rows.any-gone (Syntax.tyRef Syntax.erased Syntax.mut Element.behind),
-) (List._∷_ (
-  25,
-  Rows.any-gone (Syntax.tyStruct (List._∷_ 38 (List._∷_ 91 (List._∷_ 93 List.[]))) (Syntax.tcons (Syntax.tyRef
-      Syntax.erased Syntax.mut Element.behind) (Syntax.tcons (Syntax.tyInt Syntax.w64) Syntax.tnil))),
-) List.[])))))))))
+t26 = List._∷_ e15 (List._∷_ e16 (List._∷_ e19 (List._∷_ e21 (List._∷_ e24 (List._∷_ e27 (List._∷_ e28 (List._∷_ e30 (List._∷_ e33 (List._∷_ e36 List.[])))))))))
 
 abbrev pub t27 : List.List Row.Entry
-t27 = List._∷_ (
-  0,
-  Rows.any-gone (Syntax.tyEnum (List._∷_ 98 (List._∷_ 108 (List._∷_ 111 (List._∷_ 99 (List._∷_ 107 (List._∷_ 58 (List._∷_ 58 (List._∷_ 87 (List._∷_ 114 (List._∷_ 105 (List._∷_ 116
-      (List._∷_ 116 (List._∷_ 101 (List._∷_ 110 List.[])))))))))))))) (Syntax.ttcons (Syntax.tcons (Syntax.tyInt Syntax.w64) Syntax.tnil) (Syntax.ttcons (Syntax.tcons (Syntax.tyEnum (List._∷_ 115 (List._∷_
-      116 (List._∷_ 114 (List._∷_ 101 (List._∷_ 97 (List._∷_ 109 (List._∷_ 58 (List._∷_ 58 (List._∷_ 82 (List._∷_ 101 (List._∷_ 102 (List._∷_ 117 (List._∷_ 115 (List._∷_ 97 (List._∷_ 108
-      List.[]))))))))))))))) (Syntax.ttcons Syntax.tnil (Syntax.ttcons Syntax.tnil (Syntax.ttcons Syntax.tnil (Syntax.ttcons (Syntax.tcons (Syntax.tyInt Syntax.w64) Syntax.tnil) (Syntax.ttcons Syntax.tnil
-      (Syntax.ttcons Syntax.tnil (Syntax.ttcons Syntax.tnil (Syntax.ttcons Syntax.tnil (Syntax.ttcons Syntax.tnil (Syntax.ttcons Syntax.tnil (Syntax.ttcons (Syntax.tcons (Syntax.tyInt Syntax.w64)
-      Syntax.tnil) (Syntax.ttcons (Syntax.tcons (Syntax.tyInt Syntax.w64) Syntax.tnil) (Syntax.ttcons Syntax.tnil (Syntax.ttcons (Syntax.tcons (Syntax.tyInt Syntax.w64) (Syntax.tcons (Syntax.tyInt
-      Syntax.w64) Syntax.tnil)) (Syntax.ttcons (Syntax.tcons (Syntax.tyInt Syntax.w64) Syntax.tnil) Syntax.ttnil)))))))))))))))) Syntax.tnil) Syntax.ttnil))),
-) (List._∷_ (
-  1,
-  Rows.sslice (Referent.rtF
-      (Referent.fInt Syntax.w8)) (Syntax.tyRef (Syntax.named 0) Syntax.imm (Syntax.tyInt Syntax.w8)) 0,
-) (List._∷_ (
-  2,
-  Rows.sslice (Referent.rtF (Referent.fInt Syntax.w16)) (Syntax.tyRef (Syntax.named 1)
-      Syntax.imm (Syntax.tyInt Syntax.w16)) 1,
-) (List._∷_ (3, Relend.mslice-owed (Referent.rtF (Referent.fInt Syntax.w8)) (Syntax.tyRef (Syntax.named 2) Syntax.mut (Syntax.tyInt Syntax.w8)) 2 5 Row.off)
-    (List._∷_ (4, PartMut.mslice-owedM (Referent.rtF (Referent.fInt Syntax.w16)) (Syntax.tyRef (Syntax.named 3) Syntax.mut (Syntax.tyInt Syntax.w16)) 3 6 Row.off) (List._∷_ (
-      5,
-      Mut.mslice
-          (Element.type) (Syntax.tyRef (Syntax.named 4) Syntax.mut Element.behind) 4,
-    ) (List._∷_ (
-      6,
-      Rows.any-gone (Syntax.tyEnum (List._∷_ 115 (List._∷_ 116 (List._∷_ 114 (List._∷_ 101 (List._∷_ 97 (List._∷_
-          109 (List._∷_ 58 (List._∷_ 58 (List._∷_ 80 (List._∷_ 97 (List._∷_ 114 (List._∷_ 115 (List._∷_ 101 (List._∷_ 100 List.[])))))))))))))) (Syntax.ttcons (Syntax.tcons (Syntax.tyStruct (List._∷_ 115
-          (List._∷_ 116 (List._∷_ 114 (List._∷_ 101 (List._∷_ 97 (List._∷_ 109 (List._∷_ 58 (List._∷_ 58 (List._∷_ 70 (List._∷_ 117 (List._∷_ 106 (List._∷_ 105 (List._∷_ 72 (List._∷_ 101 (List._∷_ 97 (List._∷_
-          100 (List._∷_ 101 (List._∷_ 114 List.[])))))))))))))))))) (Syntax.tcons Syntax.tyBool (Syntax.tcons Syntax.tyBool (Syntax.tcons (Syntax.tyInt Syntax.w32) (Syntax.tcons (Syntax.tyInt Syntax.w32)
-          (Syntax.tcons (Syntax.tyInt Syntax.w32) (Syntax.tcons (Syntax.tyInt Syntax.w32) (Syntax.tcons (Syntax.tyInt Syntax.w32) (Syntax.tcons (Syntax.tyInt Syntax.w32) (Syntax.tcons (Syntax.tyInt Syntax.w32)
-          Syntax.tnil)))))))))) Syntax.tnil) (Syntax.ttcons (Syntax.tcons (Syntax.tyEnum (List._∷_ 115 (List._∷_ 116 (List._∷_ 114 (List._∷_ 101 (List._∷_ 97 (List._∷_ 109 (List._∷_ 58 (List._∷_ 58 (List._∷_ 82
-          (List._∷_ 101 (List._∷_ 102 (List._∷_ 117 (List._∷_ 115 (List._∷_ 97 (List._∷_ 108 List.[]))))))))))))))) (Syntax.ttcons Syntax.tnil (Syntax.ttcons Syntax.tnil (Syntax.ttcons Syntax.tnil
-          (Syntax.ttcons (Syntax.tcons (Syntax.tyInt Syntax.w64) Syntax.tnil) (Syntax.ttcons Syntax.tnil (Syntax.ttcons Syntax.tnil (Syntax.ttcons Syntax.tnil (Syntax.ttcons Syntax.tnil (Syntax.ttcons
-          Syntax.tnil (Syntax.ttcons Syntax.tnil (Syntax.ttcons (Syntax.tcons (Syntax.tyInt Syntax.w64) Syntax.tnil) (Syntax.ttcons (Syntax.tcons (Syntax.tyInt Syntax.w64) Syntax.tnil) (Syntax.ttcons
-          Syntax.tnil (Syntax.ttcons (Syntax.tcons (Syntax.tyInt Syntax.w64) (Syntax.tcons (Syntax.tyInt Syntax.w64) Syntax.tnil)) (Syntax.ttcons (Syntax.tcons (Syntax.tyInt Syntax.w64) Syntax.tnil)
-          Syntax.ttnil)))))))))))))))) Syntax.tnil) Syntax.ttnil))),
-    ) (List._∷_ (
-      7,
-      Rows.any-gone (Syntax.tyEnum (List._∷_ 115 (List._∷_ 116 (List._∷_ 114 (List._∷_ 101 (List._∷_ 97 (List._∷_ 109 (List._∷_ 58
-          (List._∷_ 58 (List._∷_ 82 (List._∷_ 101 (List._∷_ 102 (List._∷_ 117 (List._∷_ 115 (List._∷_ 97 (List._∷_ 108 List.[]))))))))))))))) (Syntax.ttcons Syntax.tnil (Syntax.ttcons Syntax.tnil (Syntax.ttcons
-          Syntax.tnil (Syntax.ttcons (Syntax.tcons (Syntax.tyInt Syntax.w64) Syntax.tnil) (Syntax.ttcons Syntax.tnil (Syntax.ttcons Syntax.tnil (Syntax.ttcons Syntax.tnil (Syntax.ttcons Syntax.tnil
-          (Syntax.ttcons Syntax.tnil (Syntax.ttcons Syntax.tnil (Syntax.ttcons (Syntax.tcons (Syntax.tyInt Syntax.w64) Syntax.tnil) (Syntax.ttcons (Syntax.tcons (Syntax.tyInt Syntax.w64) Syntax.tnil)
-          (Syntax.ttcons Syntax.tnil (Syntax.ttcons (Syntax.tcons (Syntax.tyInt Syntax.w64) (Syntax.tcons (Syntax.tyInt Syntax.w64) Syntax.tnil)) (Syntax.ttcons (Syntax.tcons (Syntax.tyInt Syntax.w64)
-          Syntax.tnil) Syntax.ttnil)))))))))))))))),
-    ) (List._∷_ (
-      8,
-      Rows.any-gone (Syntax.tyStruct (List._∷_ 115 (List._∷_ 116 (List._∷_ 114 (List._∷_ 101 (List._∷_ 97 (List._∷_ 109 (List._∷_ 58 (List._∷_ 58
-          (List._∷_ 70 (List._∷_ 117 (List._∷_ 106 (List._∷_ 105 (List._∷_ 72 (List._∷_ 101 (List._∷_ 97 (List._∷_ 100 (List._∷_ 101 (List._∷_ 114 List.[])))))))))))))))))) (Syntax.tcons Syntax.tyBool
-          (Syntax.tcons Syntax.tyBool (Syntax.tcons (Syntax.tyInt Syntax.w32) (Syntax.tcons (Syntax.tyInt Syntax.w32) (Syntax.tcons (Syntax.tyInt Syntax.w32) (Syntax.tcons (Syntax.tyInt Syntax.w32)
-          (Syntax.tcons (Syntax.tyInt Syntax.w32) (Syntax.tcons (Syntax.tyInt Syntax.w32) (Syntax.tcons (Syntax.tyInt Syntax.w32) Syntax.tnil)))))))))),
-    ) (List._∷_ (9, Rows.sc-here (Row.sInt Syntax.w64))
-    (List._∷_ (10, Rows.whole (Declared'.row Form.the-type)) (List._∷_ (11, Rows.sc-here (Row.sInt Syntax.w64)) (List._∷_ (12, Rows.any-gone (Syntax.tyInt Syntax.w64)) (List._∷_ (
-      13,
-      Rows.any-gone
-          (Syntax.tyInt Syntax.w64),
-    ) (List._∷_ (14, Rows.any-gone (Syntax.tyInt Syntax.w64)) (List._∷_ (
-      15,
-      Rows.any-gone (Syntax.tyEnum (List._∷_ 98 (List._∷_ 108 (List._∷_ 111 (List._∷_ 99 (List._∷_ 107
-          (List._∷_ 58 (List._∷_ 58 (List._∷_ 87 (List._∷_ 114 (List._∷_ 105 (List._∷_ 116 (List._∷_ 116 (List._∷_ 101 (List._∷_ 110 List.[])))))))))))))) (Syntax.ttcons (Syntax.tcons (Syntax.tyInt Syntax.w64)
-          Syntax.tnil) (Syntax.ttcons (Syntax.tcons (Syntax.tyEnum (List._∷_ 115 (List._∷_ 116 (List._∷_ 114 (List._∷_ 101 (List._∷_ 97 (List._∷_ 109 (List._∷_ 58 (List._∷_ 58 (List._∷_ 82 (List._∷_ 101
-          (List._∷_ 102 (List._∷_ 117 (List._∷_ 115 (List._∷_ 97 (List._∷_ 108 List.[]))))))))))))))) (Syntax.ttcons Syntax.tnil (Syntax.ttcons Syntax.tnil (Syntax.ttcons Syntax.tnil (Syntax.ttcons
-          (Syntax.tcons (Syntax.tyInt Syntax.w64) Syntax.tnil) (Syntax.ttcons Syntax.tnil (Syntax.ttcons Syntax.tnil (Syntax.ttcons Syntax.tnil (Syntax.ttcons Syntax.tnil (Syntax.ttcons Syntax.tnil
-          (Syntax.ttcons Syntax.tnil (Syntax.ttcons (Syntax.tcons (Syntax.tyInt Syntax.w64) Syntax.tnil) (Syntax.ttcons (Syntax.tcons (Syntax.tyInt Syntax.w64) Syntax.tnil) (Syntax.ttcons Syntax.tnil
-          (Syntax.ttcons (Syntax.tcons (Syntax.tyInt Syntax.w64) (Syntax.tcons (Syntax.tyInt Syntax.w64) Syntax.tnil)) (Syntax.ttcons (Syntax.tcons (Syntax.tyInt Syntax.w64) Syntax.tnil)
-          Syntax.ttnil)))))))))))))))) Syntax.tnil) Syntax.ttnil))),
-    ) List.[])))))))))))))))
+t27 = List._∷_ e0 (List._∷_ e2 (List._∷_ e22 (List._∷_ e38 (List._∷_ e40 (List._∷_ e41 (List._∷_ e43 (List._∷_ e47 (List._∷_ e49 (List._∷_ e52 (List._∷_ e4 (List._∷_ e6 (List._∷_ e7 (List._∷_ e9
+    (List._∷_ e11 (List._∷_ e13 List.[])))))))))))))))
 
 abbrev pub t28 : List.List Row.Entry
-t28 = List._∷_ (16, Rows.any-gone (Syntax.tyRef Syntax.erased Syntax.mut (Syntax.tyInt Syntax.w8))) (List._∷_ (
-  17,
-  Mut.mslice (Referent.rtF (Referent.fInt Syntax.w8)) (Syntax.tyRef Syntax.erased
-      Syntax.mut (Syntax.tyInt Syntax.w8)) 5,
-) (List._∷_ (18, Rows.sc-here Row.sPtr) (List._∷_ (19, Rows.sc-here (Row.sInt Syntax.w64)) (List._∷_ (
-  20,
-  Relend.msptr (Referent.rtF (Referent.fInt
-      Syntax.w16)) (Syntax.tyRef Syntax.erased Syntax.mut (Syntax.tyInt Syntax.w16)) 6,
-) (List._∷_ (
-  21,
-  Rows.any-gone (Syntax.tyStruct (List._∷_ 38 (List._∷_ 91 (List._∷_ 93 List.[]))) (Syntax.tcons
-      (Syntax.tyRef Syntax.erased Syntax.mut (Syntax.tyInt Syntax.w16)) (Syntax.tcons (Syntax.tyInt Syntax.w64) Syntax.tnil))),
-) (List._∷_ (22, Rows.any-gone Syntax.tyPtr) (List._∷_ (
-  23,
-  Rows.any-gone
-      (Syntax.tyInt Syntax.w64),
-) (List._∷_ (24, Rows.any-gone (Syntax.tyRef Syntax.erased Syntax.mut Element.behind)) (List._∷_ (
-  25,
-  Rows.any-gone (Syntax.tyStruct (List._∷_ 38 (List._∷_ 91 (List._∷_
-      93 List.[]))) (Syntax.tcons (Syntax.tyRef Syntax.erased Syntax.mut Element.behind) (Syntax.tcons (Syntax.tyInt Syntax.w64) Syntax.tnil))),
-) List.[])))))))))
+t28 = List._∷_ e15 (List._∷_ e16 (List._∷_ e19 (List._∷_ e21 (List._∷_ e23 (List._∷_ e27 (List._∷_ e28 (List._∷_ e30 (List._∷_ e33 (List._∷_ e36 List.[])))))))))
 
 abbrev pub t29 : List.List Row.Entry
-t29 = List._∷_ (16, Rows.any-gone (Syntax.tyRef Syntax.erased Syntax.mut (Syntax.tyInt Syntax.w8))) (List._∷_ (
-  17,
-  Mut.mslice (Referent.rtF (Referent.fInt Syntax.w8)) (Syntax.tyRef Syntax.erased
-      Syntax.mut (Syntax.tyInt Syntax.w8)) 5,
-) (List._∷_ (18, Rows.any-gone Syntax.tyPtr) (List._∷_ (19, Rows.sc-here (Row.sInt Syntax.w64)) (List._∷_ (
-  20,
-  Relend.msptr (Referent.rtF (Referent.fInt
-      Syntax.w16)) (Syntax.tyRef Syntax.erased Syntax.mut (Syntax.tyInt Syntax.w16)) 6,
-) (List._∷_ (
-  21,
-  Rows.any-gone (Syntax.tyStruct (List._∷_ 38 (List._∷_ 91 (List._∷_ 93 List.[]))) (Syntax.tcons
-      (Syntax.tyRef Syntax.erased Syntax.mut (Syntax.tyInt Syntax.w16)) (Syntax.tcons (Syntax.tyInt Syntax.w64) Syntax.tnil))),
-) (List._∷_ (22, Rows.any-gone Syntax.tyPtr) (List._∷_ (
-  23,
-  Rows.any-gone
-      (Syntax.tyInt Syntax.w64),
-) (List._∷_ (24, Rows.any-gone (Syntax.tyRef Syntax.erased Syntax.mut Element.behind)) (List._∷_ (
-  25,
-  Rows.any-gone (Syntax.tyStruct (List._∷_ 38 (List._∷_ 91 (List._∷_
-      93 List.[]))) (Syntax.tcons (Syntax.tyRef Syntax.erased Syntax.mut Element.behind) (Syntax.tcons (Syntax.tyInt Syntax.w64) Syntax.tnil))),
-) List.[])))))))))
+t29 = List._∷_ e15 (List._∷_ e16 (List._∷_ e18 (List._∷_ e21 (List._∷_ e23 (List._∷_ e27 (List._∷_ e28 (List._∷_ e30 (List._∷_ e33 (List._∷_ e36 List.[])))))))))
 
 abbrev pub t30 : List.List Row.Entry
-t30 = List._∷_ (16, Rows.any-gone (Syntax.tyRef Syntax.erased Syntax.mut (Syntax.tyInt Syntax.w8))) (List._∷_ (
-  17,
-  Mut.mslice (Referent.rtF (Referent.fInt Syntax.w8)) (Syntax.tyRef Syntax.erased
-      Syntax.mut (Syntax.tyInt Syntax.w8)) 5,
-) (List._∷_ (18, Rows.any-gone Syntax.tyPtr) (List._∷_ (19, Rows.sc-here (Row.sInt Syntax.w64)) (List._∷_ (
-  20,
-  Rows.any-gone (Syntax.tyRef Syntax.erased
-      Syntax.mut (Syntax.tyInt Syntax.w16)),
-) (List._∷_ (21, Mut.mslice (Referent.rtF (Referent.fInt Syntax.w16)) (Syntax.tyRef Syntax.erased Syntax.mut (Syntax.tyInt Syntax.w16)) 6) (List._∷_ (
-  22,
-  Rows.any-gone Syntax.tyPtr,
-) (List._∷_ (23, Rows.any-gone (Syntax.tyInt Syntax.w64)) (List._∷_ (24, Rows.any-gone (Syntax.tyRef Syntax.erased Syntax.mut Element.behind)) (List._∷_ (
-  25,
-  Rows.any-gone (Syntax.tyStruct (List._∷_ 38 (List._∷_ 91 (List._∷_ 93 List.[]))) (Syntax.tcons (Syntax.tyRef Syntax.erased Syntax.mut Element.behind) (Syntax.tcons (Syntax.tyInt Syntax.w64)
-      Syntax.tnil))),
-) List.[])))))))))
+t30 = List._∷_ e15 (List._∷_ e16 (List._∷_ e18 (List._∷_ e21 (List._∷_ e24 (List._∷_ e26 (List._∷_ e28 (List._∷_ e30 (List._∷_ e33 (List._∷_ e36 List.[])))))))))
 
 abbrev pub t31 : List.List Row.Entry
-t31 = List._∷_ (16, Rows.any-gone (Syntax.tyRef Syntax.erased Syntax.mut (Syntax.tyInt Syntax.w8))) (List._∷_ (
-  17,
-  Mut.mslice (Referent.rtF (Referent.fInt Syntax.w8)) (Syntax.tyRef Syntax.erased
-      Syntax.mut (Syntax.tyInt Syntax.w8)) 5,
-) (List._∷_ (18, Rows.any-gone Syntax.tyPtr) (List._∷_ (19, Rows.any-gone (Syntax.tyInt Syntax.w64)) (List._∷_ (
-  20,
-  Rows.any-gone (Syntax.tyRef
-      Syntax.erased Syntax.mut (Syntax.tyInt Syntax.w16)),
-) (List._∷_ (21, Mut.mslice (Referent.rtF (Referent.fInt Syntax.w16)) (Syntax.tyRef Syntax.erased Syntax.mut (Syntax.tyInt Syntax.w16)) 6)
-    (List._∷_ (22, Rows.any-gone Syntax.tyPtr) (List._∷_ (23, Rows.any-gone (Syntax.tyInt Syntax.w64)) (List._∷_ (24, Rows.any-gone (Syntax.tyRef Syntax.erased Syntax.mut Element.behind)) (List._∷_ (
-      25,
-      Rows.any-gone (Syntax.tyStruct (List._∷_ 38 (List._∷_ 91 (List._∷_ 93 List.[]))) (Syntax.tcons (Syntax.tyRef Syntax.erased Syntax.mut Element.behind) (Syntax.tcons (Syntax.tyInt Syntax.w64)
-          Syntax.tnil))),
-    ) List.[])))))))))
+t31 = List._∷_ e15 (List._∷_ e16 (List._∷_ e18 (List._∷_ e20 (List._∷_ e24 (List._∷_ e26 (List._∷_ e28 (List._∷_ e30 (List._∷_ e33 (List._∷_ e36 List.[])))))))))
 
 abbrev pub t32 : List.List Row.Entry
-t32 = List._∷_ (16, Rows.any-gone (Syntax.tyRef Syntax.erased Syntax.mut (Syntax.tyInt Syntax.w8))) (List._∷_ (
-  17,
-  Mut.mslice (Referent.rtF (Referent.fInt Syntax.w8)) (Syntax.tyRef Syntax.erased
-      Syntax.mut (Syntax.tyInt Syntax.w8)) 5,
-) (List._∷_ (18, Rows.any-gone Syntax.tyPtr) (List._∷_ (19, Rows.any-gone (Syntax.tyInt Syntax.w64)) (List._∷_ (
-  20,
-  Rows.any-gone (Syntax.tyRef
-      Syntax.erased Syntax.mut (Syntax.tyInt Syntax.w16)),
-) (List._∷_ (21, Mut.mslice (Referent.rtF (Referent.fInt Syntax.w16)) (Syntax.tyRef Syntax.erased Syntax.mut (Syntax.tyInt Syntax.w16)) 6)
-    (List._∷_ (22, Rows.sc-here Row.sPtr) (List._∷_ (23, Rows.any-gone (Syntax.tyInt Syntax.w64)) (List._∷_ (24, Rows.any-gone (Syntax.tyRef Syntax.erased Syntax.mut Element.behind)) (List._∷_ (
-      25,
-      Rows.any-gone (Syntax.tyStruct (List._∷_ 38 (List._∷_ 91 (List._∷_ 93 List.[]))) (Syntax.tcons (Syntax.tyRef Syntax.erased Syntax.mut Element.behind) (Syntax.tcons (Syntax.tyInt Syntax.w64)
-          Syntax.tnil))),
-    ) List.[])))))))))
+t32 = List._∷_ e15 (List._∷_ e16 (List._∷_ e18 (List._∷_ e20 (List._∷_ e24 (List._∷_ e26 (List._∷_ e29 (List._∷_ e30 (List._∷_ e33 (List._∷_ e36 List.[])))))))))
 
 abbrev pub t33 : List.List Row.Entry
-t33 = List._∷_ (16, Rows.any-gone (Syntax.tyRef Syntax.erased Syntax.mut (Syntax.tyInt Syntax.w8))) (List._∷_ (
-  17,
-  Mut.mslice (Referent.rtF (Referent.fInt Syntax.w8)) (Syntax.tyRef Syntax.erased
-      Syntax.mut (Syntax.tyInt Syntax.w8)) 5,
-) (List._∷_ (18, Rows.any-gone Syntax.tyPtr) (List._∷_ (19, Rows.any-gone (Syntax.tyInt Syntax.w64)) (List._∷_ (
-  20,
-  Rows.any-gone (Syntax.tyRef
-      Syntax.erased Syntax.mut (Syntax.tyInt Syntax.w16)),
-) (List._∷_ (21, Mut.mslice (Referent.rtF (Referent.fInt Syntax.w16)) (Syntax.tyRef Syntax.erased Syntax.mut (Syntax.tyInt Syntax.w16)) 6)
-    (List._∷_ (22, Rows.sc-here Row.sPtr) (List._∷_ (23, Rows.sc-here (Row.sInt Syntax.w64)) (List._∷_ (24, Rows.any-gone (Syntax.tyRef Syntax.erased Syntax.mut Element.behind)) (List._∷_ (
-      25,
-      Rows.any-gone (Syntax.tyStruct (List._∷_ 38 (List._∷_ 91 (List._∷_ 93 List.[]))) (Syntax.tcons (Syntax.tyRef Syntax.erased Syntax.mut Element.behind) (Syntax.tcons (Syntax.tyInt Syntax.w64)
-          Syntax.tnil))),
-    ) List.[])))))))))
+t33 = List._∷_ e15 (List._∷_ e16 (List._∷_ e18 (List._∷_ e20 (List._∷_ e24 (List._∷_ e26 (List._∷_ e29 (List._∷_ e31 (List._∷_ e33 (List._∷_ e36 List.[])))))))))
 
 abbrev pub t34 : List.List Row.Entry
-t34 = List._∷_ (
-  0,
-  Rows.any-gone (Syntax.tyEnum (List._∷_ 98 (List._∷_ 108 (List._∷_ 111 (List._∷_ 99 (List._∷_ 107 (List._∷_ 58 (List._∷_ 58 (List._∷_ 87 (List._∷_ 114 (List._∷_ 105 (List._∷_ 116
-      (List._∷_ 116 (List._∷_ 101 (List._∷_ 110 List.[])))))))))))))) (Syntax.ttcons (Syntax.tcons (Syntax.tyInt Syntax.w64) Syntax.tnil) (Syntax.ttcons (Syntax.tcons (Syntax.tyEnum (List._∷_ 115 (List._∷_
-      116 (List._∷_ 114 (List._∷_ 101 (List._∷_ 97 (List._∷_ 109 (List._∷_ 58 (List._∷_ 58 (List._∷_ 82 (List._∷_ 101 (List._∷_ 102 (List._∷_ 117 (List._∷_ 115 (List._∷_ 97 (List._∷_ 108
-      List.[]))))))))))))))) (Syntax.ttcons Syntax.tnil (Syntax.ttcons Syntax.tnil (Syntax.ttcons Syntax.tnil (Syntax.ttcons (Syntax.tcons (Syntax.tyInt Syntax.w64) Syntax.tnil) (Syntax.ttcons Syntax.tnil
-      (Syntax.ttcons Syntax.tnil (Syntax.ttcons Syntax.tnil (Syntax.ttcons Syntax.tnil (Syntax.ttcons Syntax.tnil (Syntax.ttcons Syntax.tnil (Syntax.ttcons (Syntax.tcons (Syntax.tyInt Syntax.w64)
-      Syntax.tnil) (Syntax.ttcons (Syntax.tcons (Syntax.tyInt Syntax.w64) Syntax.tnil) (Syntax.ttcons Syntax.tnil (Syntax.ttcons (Syntax.tcons (Syntax.tyInt Syntax.w64) (Syntax.tcons (Syntax.tyInt
-      Syntax.w64) Syntax.tnil)) (Syntax.ttcons (Syntax.tcons (Syntax.tyInt Syntax.w64) Syntax.tnil) Syntax.ttnil)))))))))))))))) Syntax.tnil) Syntax.ttnil))),
-) (List._∷_ (
-  1,
-  Rows.sslice (Referent.rtF
-      (Referent.fInt Syntax.w8)) (Syntax.tyRef (Syntax.named 0) Syntax.imm (Syntax.tyInt Syntax.w8)) 0,
-) (List._∷_ (
-  2,
-  Rows.sslice (Referent.rtF (Referent.fInt Syntax.w16)) (Syntax.tyRef (Syntax.named 1)
-      Syntax.imm (Syntax.tyInt Syntax.w16)) 1,
-) (List._∷_ (3, Relend.mslice-owed (Referent.rtF (Referent.fInt Syntax.w8)) (Syntax.tyRef (Syntax.named 2) Syntax.mut (Syntax.tyInt Syntax.w8)) 2 5 Row.off)
-    (List._∷_ (4, PartMut.mslice-owedM (Referent.rtF (Referent.fInt Syntax.w16)) (Syntax.tyRef (Syntax.named 3) Syntax.mut (Syntax.tyInt Syntax.w16)) 3 6 Row.off) (List._∷_ (
-      5,
-      PartMut.mslice-owedM
-          (Element.type) (Syntax.tyRef (Syntax.named 4) Syntax.mut Element.behind) 4 7 Row.off,
-    ) (List._∷_ (
-      6,
-      Rows.any-gone (Syntax.tyEnum (List._∷_ 115 (List._∷_ 116 (List._∷_ 114 (List._∷_ 101 (List._∷_ 97
-          (List._∷_ 109 (List._∷_ 58 (List._∷_ 58 (List._∷_ 80 (List._∷_ 97 (List._∷_ 114 (List._∷_ 115 (List._∷_ 101 (List._∷_ 100 List.[])))))))))))))) (Syntax.ttcons (Syntax.tcons (Syntax.tyStruct (List._∷_
-          115 (List._∷_ 116 (List._∷_ 114 (List._∷_ 101 (List._∷_ 97 (List._∷_ 109 (List._∷_ 58 (List._∷_ 58 (List._∷_ 70 (List._∷_ 117 (List._∷_ 106 (List._∷_ 105 (List._∷_ 72 (List._∷_ 101 (List._∷_ 97
-          (List._∷_ 100 (List._∷_ 101 (List._∷_ 114 List.[])))))))))))))))))) (Syntax.tcons Syntax.tyBool (Syntax.tcons Syntax.tyBool (Syntax.tcons (Syntax.tyInt Syntax.w32) (Syntax.tcons (Syntax.tyInt
-          Syntax.w32) (Syntax.tcons (Syntax.tyInt Syntax.w32) (Syntax.tcons (Syntax.tyInt Syntax.w32) (Syntax.tcons (Syntax.tyInt Syntax.w32) (Syntax.tcons (Syntax.tyInt Syntax.w32) (Syntax.tcons (Syntax.tyInt
-          Syntax.w32) Syntax.tnil)))))))))) Syntax.tnil) (Syntax.ttcons (Syntax.tcons (Syntax.tyEnum (List._∷_ 115 (List._∷_ 116 (List._∷_ 114 (List._∷_ 101 (List._∷_ 97 (List._∷_ 109 (List._∷_ 58 (List._∷_ 58
-          (List._∷_ 82 (List._∷_ 101 (List._∷_ 102 (List._∷_ 117 (List._∷_ 115 (List._∷_ 97 (List._∷_ 108 List.[]))))))))))))))) (Syntax.ttcons Syntax.tnil (Syntax.ttcons Syntax.tnil (Syntax.ttcons Syntax.tnil
-          (Syntax.ttcons (Syntax.tcons (Syntax.tyInt Syntax.w64) Syntax.tnil) (Syntax.ttcons Syntax.tnil (Syntax.ttcons Syntax.tnil (Syntax.ttcons Syntax.tnil (Syntax.ttcons Syntax.tnil (Syntax.ttcons
-          Syntax.tnil (Syntax.ttcons Syntax.tnil (Syntax.ttcons (Syntax.tcons (Syntax.tyInt Syntax.w64) Syntax.tnil) (Syntax.ttcons (Syntax.tcons (Syntax.tyInt Syntax.w64) Syntax.tnil) (Syntax.ttcons
-          Syntax.tnil (Syntax.ttcons (Syntax.tcons (Syntax.tyInt Syntax.w64) (Syntax.tcons (Syntax.tyInt Syntax.w64) Syntax.tnil)) (Syntax.ttcons (Syntax.tcons (Syntax.tyInt Syntax.w64) Syntax.tnil)
-          Syntax.ttnil)))))))))))))))) Syntax.tnil) Syntax.ttnil))),
-    ) (List._∷_ (
-      7,
-      Rows.any-gone (Syntax.tyEnum (List._∷_ 115 (List._∷_ 116 (List._∷_ 114 (List._∷_ 101 (List._∷_ 97 (List._∷_ 109 (List._∷_ 58
-          (List._∷_ 58 (List._∷_ 82 (List._∷_ 101 (List._∷_ 102 (List._∷_ 117 (List._∷_ 115 (List._∷_ 97 (List._∷_ 108 List.[]))))))))))))))) (Syntax.ttcons Syntax.tnil (Syntax.ttcons Syntax.tnil (Syntax.ttcons
-          Syntax.tnil (Syntax.ttcons (Syntax.tcons (Syntax.tyInt Syntax.w64) Syntax.tnil) (Syntax.ttcons Syntax.tnil (Syntax.ttcons Syntax.tnil (Syntax.ttcons Syntax.tnil (Syntax.ttcons Syntax.tnil
-          (Syntax.ttcons Syntax.tnil (Syntax.ttcons Syntax.tnil (Syntax.ttcons (Syntax.tcons (Syntax.tyInt Syntax.w64) Syntax.tnil) (Syntax.ttcons (Syntax.tcons (Syntax.tyInt Syntax.w64) Syntax.tnil)
-          (Syntax.ttcons Syntax.tnil (Syntax.ttcons (Syntax.tcons (Syntax.tyInt Syntax.w64) (Syntax.tcons (Syntax.tyInt Syntax.w64) Syntax.tnil)) (Syntax.ttcons (Syntax.tcons (Syntax.tyInt Syntax.w64)
-          Syntax.tnil) Syntax.ttnil)))))))))))))))),
-    ) (List._∷_ (
-      8,
-      Rows.any-gone (Syntax.tyStruct (List._∷_ 115 (List._∷_ 116 (List._∷_ 114 (List._∷_ 101 (List._∷_ 97 (List._∷_ 109 (List._∷_ 58 (List._∷_ 58
-          (List._∷_ 70 (List._∷_ 117 (List._∷_ 106 (List._∷_ 105 (List._∷_ 72 (List._∷_ 101 (List._∷_ 97 (List._∷_ 100 (List._∷_ 101 (List._∷_ 114 List.[])))))))))))))))))) (Syntax.tcons Syntax.tyBool
-          (Syntax.tcons Syntax.tyBool (Syntax.tcons (Syntax.tyInt Syntax.w32) (Syntax.tcons (Syntax.tyInt Syntax.w32) (Syntax.tcons (Syntax.tyInt Syntax.w32) (Syntax.tcons (Syntax.tyInt Syntax.w32)
-          (Syntax.tcons (Syntax.tyInt Syntax.w32) (Syntax.tcons (Syntax.tyInt Syntax.w32) (Syntax.tcons (Syntax.tyInt Syntax.w32) Syntax.tnil)))))))))),
-    ) (List._∷_ (9, Rows.sc-here (Row.sInt Syntax.w64))
-    (List._∷_ (10, Rows.whole (Declared'.row Form.the-type)) (List._∷_ (11, Rows.sc-here (Row.sInt Syntax.w64)) (List._∷_ (12, Rows.any-gone (Syntax.tyInt Syntax.w64)) (List._∷_ (
-      13,
-      Rows.any-gone
-          (Syntax.tyInt Syntax.w64),
-    ) (List._∷_ (14, Rows.any-gone (Syntax.tyInt Syntax.w64)) (List._∷_ (
-      15,
-      Rows.any-gone (Syntax.tyEnum (List._∷_ 98 (List._∷_ 108 (List._∷_ 111 (List._∷_ 99 (List._∷_ 107
-          (List._∷_ 58 (List._∷_ 58 (List._∷_ 87 (List._∷_ 114 (List._∷_ 105 (List._∷_ 116 (List._∷_ 116 (List._∷_ 101 (List._∷_ 110 List.[])))))))))))))) (Syntax.ttcons (Syntax.tcons (Syntax.tyInt Syntax.w64)
-          Syntax.tnil) (Syntax.ttcons (Syntax.tcons (Syntax.tyEnum (List._∷_ 115 (List._∷_ 116 (List._∷_ 114 (List._∷_ 101 (List._∷_ 97 (List._∷_ 109 (List._∷_ 58 (List._∷_ 58 (List._∷_ 82 (List._∷_ 101
-          (List._∷_ 102 (List._∷_ 117 (List._∷_ 115 (List._∷_ 97 (List._∷_ 108 List.[]))))))))))))))) (Syntax.ttcons Syntax.tnil (Syntax.ttcons Syntax.tnil (Syntax.ttcons Syntax.tnil (Syntax.ttcons
-          (Syntax.tcons (Syntax.tyInt Syntax.w64) Syntax.tnil) (Syntax.ttcons Syntax.tnil (Syntax.ttcons Syntax.tnil (Syntax.ttcons Syntax.tnil (Syntax.ttcons Syntax.tnil (Syntax.ttcons Syntax.tnil
-          (Syntax.ttcons Syntax.tnil (Syntax.ttcons (Syntax.tcons (Syntax.tyInt Syntax.w64) Syntax.tnil) (Syntax.ttcons (Syntax.tcons (Syntax.tyInt Syntax.w64) Syntax.tnil) (Syntax.ttcons Syntax.tnil
-          (Syntax.ttcons (Syntax.tcons (Syntax.tyInt Syntax.w64) (Syntax.tcons (Syntax.tyInt Syntax.w64) Syntax.tnil)) (Syntax.ttcons (Syntax.tcons (Syntax.tyInt Syntax.w64) Syntax.tnil)
-          Syntax.ttnil)))))))))))))))) Syntax.tnil) Syntax.ttnil))),
-    ) List.[])))))))))))))))
+t34 = List._∷_ e0 (List._∷_ e2 (List._∷_ e22 (List._∷_ e38 (List._∷_ e40 (List._∷_ e42 (List._∷_ e43 (List._∷_ e47 (List._∷_ e49 (List._∷_ e52 (List._∷_ e4 (List._∷_ e6 (List._∷_ e7 (List._∷_ e9
+    (List._∷_ e11 (List._∷_ e13 List.[])))))))))))))))
 
 abbrev pub t35 : List.List Row.Entry
-t35 = List._∷_ (16, Rows.any-gone (Syntax.tyRef Syntax.erased Syntax.mut (Syntax.tyInt Syntax.w8))) (List._∷_ (
-  17,
-  Mut.mslice (Referent.rtF (Referent.fInt Syntax.w8)) (Syntax.tyRef Syntax.erased
-      Syntax.mut (Syntax.tyInt Syntax.w8)) 5,
-) (List._∷_ (18, Rows.any-gone Syntax.tyPtr) (List._∷_ (19, Rows.any-gone (Syntax.tyInt Syntax.w64)) (List._∷_ (
-  20,
-  Rows.any-gone (Syntax.tyRef
-      Syntax.erased Syntax.mut (Syntax.tyInt Syntax.w16)),
-) (List._∷_ (21, Mut.mslice (Referent.rtF (Referent.fInt Syntax.w16)) (Syntax.tyRef Syntax.erased Syntax.mut (Syntax.tyInt Syntax.w16)) 6)
-    (List._∷_ (22, Rows.sc-here Row.sPtr) (List._∷_ (23, Rows.sc-here (Row.sInt Syntax.w64)) (List._∷_ (24, Relend.msptr (Element.type) (Syntax.tyRef Syntax.erased Syntax.mut Element.behind) 7)
-    (List._∷_ (
-      25,
-      Rows.any-gone (Syntax.tyStruct (List._∷_ 38 (List._∷_ 91 (List._∷_ 93 List.[]))) (Syntax.tcons (Syntax.tyRef Syntax.erased Syntax.mut Element.behind) (Syntax.tcons (Syntax.tyInt
-          Syntax.w64) Syntax.tnil))),
-    ) List.[])))))))))
+t35 = List._∷_ e15 (List._∷_ e16 (List._∷_ e18 (List._∷_ e20 (List._∷_ e24 (List._∷_ e26 (List._∷_ e29 (List._∷_ e31 (List._∷_ e32 (List._∷_ e36 List.[])))))))))
 
 abbrev pub t36 : List.List Row.Entry
-t36 = List._∷_ (16, Rows.any-gone (Syntax.tyRef Syntax.erased Syntax.mut (Syntax.tyInt Syntax.w8))) (List._∷_ (
-  17,
-  Mut.mslice (Referent.rtF (Referent.fInt Syntax.w8)) (Syntax.tyRef Syntax.erased
-      Syntax.mut (Syntax.tyInt Syntax.w8)) 5,
-) (List._∷_ (18, Rows.any-gone Syntax.tyPtr) (List._∷_ (19, Rows.any-gone (Syntax.tyInt Syntax.w64)) (List._∷_ (
-  20,
-  Rows.any-gone (Syntax.tyRef
-      Syntax.erased Syntax.mut (Syntax.tyInt Syntax.w16)),
-) (List._∷_ (21, Mut.mslice (Referent.rtF (Referent.fInt Syntax.w16)) (Syntax.tyRef Syntax.erased Syntax.mut (Syntax.tyInt Syntax.w16)) 6)
-    (List._∷_ (22, Rows.any-gone Syntax.tyPtr) (List._∷_ (23, Rows.sc-here (Row.sInt Syntax.w64)) (List._∷_ (24, Relend.msptr (Element.type) (Syntax.tyRef Syntax.erased Syntax.mut Element.behind) 7)
-    (List._∷_ (
-      25,
-      Rows.any-gone (Syntax.tyStruct (List._∷_ 38 (List._∷_ 91 (List._∷_ 93 List.[]))) (Syntax.tcons (Syntax.tyRef Syntax.erased Syntax.mut Element.behind) (Syntax.tcons (Syntax.tyInt
-          Syntax.w64) Syntax.tnil))),
-    ) List.[])))))))))
+t36 = List._∷_ e15 (List._∷_ e16 (List._∷_ e18 (List._∷_ e20 (List._∷_ e24 (List._∷_ e26 (List._∷_ e28 (List._∷_ e31 (List._∷_ e32 (List._∷_ e36 List.[])))))))))
 
 abbrev pub t37 : List.List Row.Entry
-t37 = List._∷_ (16, Rows.any-gone (Syntax.tyRef Syntax.erased Syntax.mut (Syntax.tyInt Syntax.w8))) (List._∷_ (
-  17,
-  Mut.mslice (Referent.rtF (Referent.fInt Syntax.w8)) (Syntax.tyRef Syntax.erased
-      Syntax.mut (Syntax.tyInt Syntax.w8)) 5,
-) (List._∷_ (18, Rows.any-gone Syntax.tyPtr) (List._∷_ (19, Rows.any-gone (Syntax.tyInt Syntax.w64)) (List._∷_ (
-  20,
-  Rows.any-gone (Syntax.tyRef
-      Syntax.erased Syntax.mut (Syntax.tyInt Syntax.w16)),
-) (List._∷_ (21, Mut.mslice (Referent.rtF (Referent.fInt Syntax.w16)) (Syntax.tyRef Syntax.erased Syntax.mut (Syntax.tyInt Syntax.w16)) 6)
-    (List._∷_ (22, Rows.any-gone Syntax.tyPtr) (List._∷_ (23, Rows.sc-here (Row.sInt Syntax.w64)) (List._∷_ (24, Rows.any-gone (Syntax.tyRef Syntax.erased Syntax.mut Element.behind)) (List._∷_ (
-      25,
-      Mut.mslice (Element.type) (Syntax.tyRef Syntax.erased Syntax.mut Element.behind) 7,
-    ) List.[])))))))))
+t37 = List._∷_ e15 (List._∷_ e16 (List._∷_ e18 (List._∷_ e20 (List._∷_ e24 (List._∷_ e26 (List._∷_ e28 (List._∷_ e31 (List._∷_ e33 (List._∷_ e35 List.[])))))))))
 
 abbrev pub t38 : List.List Row.Entry
-t38 = List._∷_ (16, Rows.any-gone (Syntax.tyRef Syntax.erased Syntax.mut (Syntax.tyInt Syntax.w8))) (List._∷_ (
-  17,
-  Mut.mslice (Referent.rtF (Referent.fInt Syntax.w8)) (Syntax.tyRef Syntax.erased
-      Syntax.mut (Syntax.tyInt Syntax.w8)) 5,
-) (List._∷_ (18, Rows.any-gone Syntax.tyPtr) (List._∷_ (19, Rows.any-gone (Syntax.tyInt Syntax.w64)) (List._∷_ (
-  20,
-  Rows.any-gone (Syntax.tyRef
-      Syntax.erased Syntax.mut (Syntax.tyInt Syntax.w16)),
-) (List._∷_ (21, Mut.mslice (Referent.rtF (Referent.fInt Syntax.w16)) (Syntax.tyRef Syntax.erased Syntax.mut (Syntax.tyInt Syntax.w16)) 6)
-    (List._∷_ (22, Rows.any-gone Syntax.tyPtr) (List._∷_ (23, Rows.any-gone (Syntax.tyInt Syntax.w64)) (List._∷_ (24, Rows.any-gone (Syntax.tyRef Syntax.erased Syntax.mut Element.behind)) (List._∷_
-    (25, Mut.mslice (Element.type) (Syntax.tyRef Syntax.erased Syntax.mut Element.behind) 7) List.[])))))))))
+t38 = List._∷_ e15 (List._∷_ e16 (List._∷_ e18 (List._∷_ e20 (List._∷_ e24 (List._∷_ e26 (List._∷_ e28 (List._∷_ e30 (List._∷_ e33 (List._∷_ e35 List.[])))))))))
 
 abbrev pub t39 : List.List Row.Entry
-t39 = List._∷_ (
-  0,
-  Rows.any-gone (Syntax.tyEnum (List._∷_ 98 (List._∷_ 108 (List._∷_ 111 (List._∷_ 99 (List._∷_ 107 (List._∷_ 58 (List._∷_ 58 (List._∷_ 87 (List._∷_ 114 (List._∷_ 105 (List._∷_ 116
-      (List._∷_ 116 (List._∷_ 101 (List._∷_ 110 List.[])))))))))))))) (Syntax.ttcons (Syntax.tcons (Syntax.tyInt Syntax.w64) Syntax.tnil) (Syntax.ttcons (Syntax.tcons (Syntax.tyEnum (List._∷_ 115 (List._∷_
-      116 (List._∷_ 114 (List._∷_ 101 (List._∷_ 97 (List._∷_ 109 (List._∷_ 58 (List._∷_ 58 (List._∷_ 82 (List._∷_ 101 (List._∷_ 102 (List._∷_ 117 (List._∷_ 115 (List._∷_ 97 (List._∷_ 108
-      List.[]))))))))))))))) (Syntax.ttcons Syntax.tnil (Syntax.ttcons Syntax.tnil (Syntax.ttcons Syntax.tnil (Syntax.ttcons (Syntax.tcons (Syntax.tyInt Syntax.w64) Syntax.tnil) (Syntax.ttcons Syntax.tnil
-      (Syntax.ttcons Syntax.tnil (Syntax.ttcons Syntax.tnil (Syntax.ttcons Syntax.tnil (Syntax.ttcons Syntax.tnil (Syntax.ttcons Syntax.tnil (Syntax.ttcons (Syntax.tcons (Syntax.tyInt Syntax.w64)
-      Syntax.tnil) (Syntax.ttcons (Syntax.tcons (Syntax.tyInt Syntax.w64) Syntax.tnil) (Syntax.ttcons Syntax.tnil (Syntax.ttcons (Syntax.tcons (Syntax.tyInt Syntax.w64) (Syntax.tcons (Syntax.tyInt
-      Syntax.w64) Syntax.tnil)) (Syntax.ttcons (Syntax.tcons (Syntax.tyInt Syntax.w64) Syntax.tnil) Syntax.ttnil)))))))))))))))) Syntax.tnil) Syntax.ttnil))),
-) (List._∷_ (
-  1,
-  Rows.sslice (Referent.rtF
-      (Referent.fInt Syntax.w8)) (Syntax.tyRef (Syntax.named 0) Syntax.imm (Syntax.tyInt Syntax.w8)) 0,
-) (List._∷_ (
-  2,
-  Rows.sslice (Referent.rtF (Referent.fInt Syntax.w16)) (Syntax.tyRef (Syntax.named 1)
-      Syntax.imm (Syntax.tyInt Syntax.w16)) 1,
-) (List._∷_ (3, Relend.mslice-owed (Referent.rtF (Referent.fInt Syntax.w8)) (Syntax.tyRef (Syntax.named 2) Syntax.mut (Syntax.tyInt Syntax.w8)) 2 5 Row.off)
-    (List._∷_ (4, PartMut.mslice-owedM (Referent.rtF (Referent.fInt Syntax.w16)) (Syntax.tyRef (Syntax.named 3) Syntax.mut (Syntax.tyInt Syntax.w16)) 3 6 Row.off) (List._∷_ (
-      5,
-      PartMut.mslice-owedM
-          (Element.type) (Syntax.tyRef (Syntax.named 4) Syntax.mut Element.behind) 4 7 Row.off,
-    ) (List._∷_ (
-      6,
-      Rows.any-gone (Syntax.tyEnum (List._∷_ 115 (List._∷_ 116 (List._∷_ 114 (List._∷_ 101 (List._∷_ 97
-          (List._∷_ 109 (List._∷_ 58 (List._∷_ 58 (List._∷_ 80 (List._∷_ 97 (List._∷_ 114 (List._∷_ 115 (List._∷_ 101 (List._∷_ 100 List.[])))))))))))))) (Syntax.ttcons (Syntax.tcons (Syntax.tyStruct (List._∷_
-          115 (List._∷_ 116 (List._∷_ 114 (List._∷_ 101 (List._∷_ 97 (List._∷_ 109 (List._∷_ 58 (List._∷_ 58 (List._∷_ 70 (List._∷_ 117 (List._∷_ 106 (List._∷_ 105 (List._∷_ 72 (List._∷_ 101 (List._∷_ 97
-          (List._∷_ 100 (List._∷_ 101 (List._∷_ 114 List.[])))))))))))))))))) (Syntax.tcons Syntax.tyBool (Syntax.tcons Syntax.tyBool (Syntax.tcons (Syntax.tyInt Syntax.w32) (Syntax.tcons (Syntax.tyInt
-          Syntax.w32) (Syntax.tcons (Syntax.tyInt Syntax.w32) (Syntax.tcons (Syntax.tyInt Syntax.w32) (Syntax.tcons (Syntax.tyInt Syntax.w32) (Syntax.tcons (Syntax.tyInt Syntax.w32) (Syntax.tcons (Syntax.tyInt
-          Syntax.w32) Syntax.tnil)))))))))) Syntax.tnil) (Syntax.ttcons (Syntax.tcons (Syntax.tyEnum (List._∷_ 115 (List._∷_ 116 (List._∷_ 114 (List._∷_ 101 (List._∷_ 97 (List._∷_ 109 (List._∷_ 58 (List._∷_ 58
-          (List._∷_ 82 (List._∷_ 101 (List._∷_ 102 (List._∷_ 117 (List._∷_ 115 (List._∷_ 97 (List._∷_ 108 List.[]))))))))))))))) (Syntax.ttcons Syntax.tnil (Syntax.ttcons Syntax.tnil (Syntax.ttcons Syntax.tnil
-          (Syntax.ttcons (Syntax.tcons (Syntax.tyInt Syntax.w64) Syntax.tnil) (Syntax.ttcons Syntax.tnil (Syntax.ttcons Syntax.tnil (Syntax.ttcons Syntax.tnil (Syntax.ttcons Syntax.tnil (Syntax.ttcons
-          Syntax.tnil (Syntax.ttcons Syntax.tnil (Syntax.ttcons (Syntax.tcons (Syntax.tyInt Syntax.w64) Syntax.tnil) (Syntax.ttcons (Syntax.tcons (Syntax.tyInt Syntax.w64) Syntax.tnil) (Syntax.ttcons
-          Syntax.tnil (Syntax.ttcons (Syntax.tcons (Syntax.tyInt Syntax.w64) (Syntax.tcons (Syntax.tyInt Syntax.w64) Syntax.tnil)) (Syntax.ttcons (Syntax.tcons (Syntax.tyInt Syntax.w64) Syntax.tnil)
-          Syntax.ttnil)))))))))))))))) Syntax.tnil) Syntax.ttnil))),
-    ) (List._∷_ (
-      7,
-      Rows.any-gone (Syntax.tyEnum (List._∷_ 115 (List._∷_ 116 (List._∷_ 114 (List._∷_ 101 (List._∷_ 97 (List._∷_ 109 (List._∷_ 58
-          (List._∷_ 58 (List._∷_ 82 (List._∷_ 101 (List._∷_ 102 (List._∷_ 117 (List._∷_ 115 (List._∷_ 97 (List._∷_ 108 List.[]))))))))))))))) (Syntax.ttcons Syntax.tnil (Syntax.ttcons Syntax.tnil (Syntax.ttcons
-          Syntax.tnil (Syntax.ttcons (Syntax.tcons (Syntax.tyInt Syntax.w64) Syntax.tnil) (Syntax.ttcons Syntax.tnil (Syntax.ttcons Syntax.tnil (Syntax.ttcons Syntax.tnil (Syntax.ttcons Syntax.tnil
-          (Syntax.ttcons Syntax.tnil (Syntax.ttcons Syntax.tnil (Syntax.ttcons (Syntax.tcons (Syntax.tyInt Syntax.w64) Syntax.tnil) (Syntax.ttcons (Syntax.tcons (Syntax.tyInt Syntax.w64) Syntax.tnil)
-          (Syntax.ttcons Syntax.tnil (Syntax.ttcons (Syntax.tcons (Syntax.tyInt Syntax.w64) (Syntax.tcons (Syntax.tyInt Syntax.w64) Syntax.tnil)) (Syntax.ttcons (Syntax.tcons (Syntax.tyInt Syntax.w64)
-          Syntax.tnil) Syntax.ttnil)))))))))))))))),
-    ) (List._∷_ (
-      8,
-      Rows.any-gone (Syntax.tyStruct (List._∷_ 115 (List._∷_ 116 (List._∷_ 114 (List._∷_ 101 (List._∷_ 97 (List._∷_ 109 (List._∷_ 58 (List._∷_ 58
-          (List._∷_ 70 (List._∷_ 117 (List._∷_ 106 (List._∷_ 105 (List._∷_ 72 (List._∷_ 101 (List._∷_ 97 (List._∷_ 100 (List._∷_ 101 (List._∷_ 114 List.[])))))))))))))))))) (Syntax.tcons Syntax.tyBool
-          (Syntax.tcons Syntax.tyBool (Syntax.tcons (Syntax.tyInt Syntax.w32) (Syntax.tcons (Syntax.tyInt Syntax.w32) (Syntax.tcons (Syntax.tyInt Syntax.w32) (Syntax.tcons (Syntax.tyInt Syntax.w32)
-          (Syntax.tcons (Syntax.tyInt Syntax.w32) (Syntax.tcons (Syntax.tyInt Syntax.w32) (Syntax.tcons (Syntax.tyInt Syntax.w32) Syntax.tnil)))))))))),
-    ) (List._∷_ (9, Rows.sc-here (Row.sInt Syntax.w64))
-    (List._∷_ (10, Rows.whole (Declared'.row Form.the-type)) (List._∷_ (11, Rows.sc-here (Row.sInt Syntax.w64)) (List._∷_ (12, Rows.any-gone (Syntax.tyInt Syntax.w64)) (List._∷_ (
-      13,
-      Rows.any-gone
-          (Syntax.tyInt Syntax.w64),
-    ) (List._∷_ (14, Rows.any-gone (Syntax.tyInt Syntax.w64)) (List._∷_ (15, Rows.whole (Declared.row Written.the-type)) List.[])))))))))))))))
+t39 = List._∷_ e0 (List._∷_ e2 (List._∷_ e22 (List._∷_ e38 (List._∷_ e40 (List._∷_ e42 (List._∷_ e43 (List._∷_ e47 (List._∷_ e49 (List._∷_ e52 (List._∷_ e4 (List._∷_ e6 (List._∷_ e7 (List._∷_ e9
+    (List._∷_ e11 (List._∷_ e14 List.[])))))))))))))))
 
 abbrev pub t40 : List.List Row.Entry
-t40 = List._∷_ (16, Rows.any-gone (Syntax.tyRef Syntax.erased Syntax.mut (Syntax.tyInt Syntax.w8))) (List._∷_ (
-  17,
-  Mut.msleft (Referent.rtF (Referent.fInt Syntax.w8)) (Syntax.tyRef Syntax.erased
-      Syntax.mut (Syntax.tyInt Syntax.w8)),
-) (List._∷_ (18, Rows.any-gone Syntax.tyPtr) (List._∷_ (19, Rows.any-gone (Syntax.tyInt Syntax.w64)) (List._∷_ (
-  20,
-  Rows.any-gone (Syntax.tyRef Syntax.erased
-      Syntax.mut (Syntax.tyInt Syntax.w16)),
-) (List._∷_ (21, Mut.msleft (Referent.rtF (Referent.fInt Syntax.w16)) (Syntax.tyRef Syntax.erased Syntax.mut (Syntax.tyInt Syntax.w16))) (List._∷_ (
-  22,
-  Rows.any-gone Syntax.tyPtr,
-) (List._∷_ (23, Rows.any-gone (Syntax.tyInt Syntax.w64)) (List._∷_ (24, Rows.any-gone (Syntax.tyRef Syntax.erased Syntax.mut Element.behind)) (List._∷_ (
-  25,
-  Mut.msleft (Element.type) (Syntax.tyRef Syntax.erased Syntax.mut Element.behind),
-) List.[])))))))))
+t40 = List._∷_ e15 (List._∷_ (17, Mut.msleft (Referent.rtF (Referent.fInt Syntax.w8)) (Syntax.tyRef Syntax.erased Syntax.mut (Syntax.tyInt Syntax.w8))) (List._∷_ e18 (List._∷_ e20 (List._∷_ e24
+    (List._∷_ e25 (List._∷_ e28 (List._∷_ e30 (List._∷_ e33 (List._∷_ e34 List.[])))))))))
 
 abbrev pub t41 : List.List Row.Entry
-t41 = List._∷_ (
-  0,
-  Rows.any-gone (Syntax.tyEnum (List._∷_ 98 (List._∷_ 108 (List._∷_ 111 (List._∷_ 99 (List._∷_ 107 (List._∷_ 58 (List._∷_ 58 (List._∷_ 87 (List._∷_ 114 (List._∷_ 105 (List._∷_ 116
-      (List._∷_ 116 (List._∷_ 101 (List._∷_ 110 List.[])))))))))))))) (Syntax.ttcons (Syntax.tcons (Syntax.tyInt Syntax.w64) Syntax.tnil) (Syntax.ttcons (Syntax.tcons (Syntax.tyEnum (List._∷_ 115 (List._∷_
-      116 (List._∷_ 114 (List._∷_ 101 (List._∷_ 97 (List._∷_ 109 (List._∷_ 58 (List._∷_ 58 (List._∷_ 82 (List._∷_ 101 (List._∷_ 102 (List._∷_ 117 (List._∷_ 115 (List._∷_ 97 (List._∷_ 108
-      List.[]))))))))))))))) (Syntax.ttcons Syntax.tnil (Syntax.ttcons Syntax.tnil (Syntax.ttcons Syntax.tnil (Syntax.ttcons (Syntax.tcons (Syntax.tyInt Syntax.w64) Syntax.tnil) (Syntax.ttcons Syntax.tnil
-      (Syntax.ttcons Syntax.tnil (Syntax.ttcons Syntax.tnil (Syntax.ttcons Syntax.tnil (Syntax.ttcons Syntax.tnil (Syntax.ttcons Syntax.tnil (Syntax.ttcons (Syntax.tcons (Syntax.tyInt Syntax.w64)
-      Syntax.tnil) (Syntax.ttcons (Syntax.tcons (Syntax.tyInt Syntax.w64) Syntax.tnil) (Syntax.ttcons Syntax.tnil (Syntax.ttcons (Syntax.tcons (Syntax.tyInt Syntax.w64) (Syntax.tcons (Syntax.tyInt
-      Syntax.w64) Syntax.tnil)) (Syntax.ttcons (Syntax.tcons (Syntax.tyInt Syntax.w64) Syntax.tnil) Syntax.ttnil)))))))))))))))) Syntax.tnil) Syntax.ttnil))),
-) (List._∷_ (
-  1,
-  Rows.sslice (Referent.rtF
-      (Referent.fInt Syntax.w8)) (Syntax.tyRef (Syntax.named 0) Syntax.imm (Syntax.tyInt Syntax.w8)) 0,
-) (List._∷_ (
-  2,
-  Rows.sslice (Referent.rtF (Referent.fInt Syntax.w16)) (Syntax.tyRef (Syntax.named 1)
-      Syntax.imm (Syntax.tyInt Syntax.w16)) 1,
-) (List._∷_ (3, Relend.mslice-owed (Referent.rtF (Referent.fInt Syntax.w8)) (Syntax.tyRef (Syntax.named 2) Syntax.mut (Syntax.tyInt Syntax.w8)) 2 5 Row.off)
-    (List._∷_ (4, PartMut.mslice-owedM (Referent.rtF (Referent.fInt Syntax.w16)) (Syntax.tyRef (Syntax.named 3) Syntax.mut (Syntax.tyInt Syntax.w16)) 3 6 Row.off) (List._∷_ (
-      5,
-      PartMut.mslice-owedM
-          (Element.type) (Syntax.tyRef (Syntax.named 4) Syntax.mut Element.behind) 4 7 Row.off,
-    ) (List._∷_ (
-      6,
-      Rows.any-gone (Syntax.tyEnum (List._∷_ 115 (List._∷_ 116 (List._∷_ 114 (List._∷_ 101 (List._∷_ 97
-          (List._∷_ 109 (List._∷_ 58 (List._∷_ 58 (List._∷_ 80 (List._∷_ 97 (List._∷_ 114 (List._∷_ 115 (List._∷_ 101 (List._∷_ 100 List.[])))))))))))))) (Syntax.ttcons (Syntax.tcons (Syntax.tyStruct (List._∷_
-          115 (List._∷_ 116 (List._∷_ 114 (List._∷_ 101 (List._∷_ 97 (List._∷_ 109 (List._∷_ 58 (List._∷_ 58 (List._∷_ 70 (List._∷_ 117 (List._∷_ 106 (List._∷_ 105 (List._∷_ 72 (List._∷_ 101 (List._∷_ 97
-          (List._∷_ 100 (List._∷_ 101 (List._∷_ 114 List.[])))))))))))))))))) (Syntax.tcons Syntax.tyBool (Syntax.tcons Syntax.tyBool (Syntax.tcons (Syntax.tyInt Syntax.w32) (Syntax.tcons (Syntax.tyInt
-          Syntax.w32) (Syntax.tcons (Syntax.tyInt Syntax.w32) (Syntax.tcons (Syntax.tyInt Syntax.w32) (Syntax.tcons (Syntax.tyInt Syntax.w32) (Syntax.tcons (Syntax.tyInt Syntax.w32) (Syntax.tcons (Syntax.tyInt
-          Syntax.w32) Syntax.tnil)))))))))) Syntax.tnil) (Syntax.ttcons (Syntax.tcons (Syntax.tyEnum (List._∷_ 115 (List._∷_ 116 (List._∷_ 114 (List._∷_ 101 (List._∷_ 97 (List._∷_ 109 (List._∷_ 58 (List._∷_ 58
-          (List._∷_ 82 (List._∷_ 101 (List._∷_ 102 (List._∷_ 117 (List._∷_ 115 (List._∷_ 97 (List._∷_ 108 List.[]))))))))))))))) (Syntax.ttcons Syntax.tnil (Syntax.ttcons Syntax.tnil (Syntax.ttcons Syntax.tnil
-          (Syntax.ttcons (Syntax.tcons (Syntax.tyInt Syntax.w64) Syntax.tnil) (Syntax.ttcons Syntax.tnil (Syntax.ttcons Syntax.tnil (Syntax.ttcons Syntax.tnil (Syntax.ttcons Syntax.tnil (Syntax.ttcons
-          Syntax.tnil (Syntax.ttcons Syntax.tnil (Syntax.ttcons (Syntax.tcons (Syntax.tyInt Syntax.w64) Syntax.tnil) (Syntax.ttcons (Syntax.tcons (Syntax.tyInt Syntax.w64) Syntax.tnil) (Syntax.ttcons
-          Syntax.tnil (Syntax.ttcons (Syntax.tcons (Syntax.tyInt Syntax.w64) (Syntax.tcons (Syntax.tyInt Syntax.w64) Syntax.tnil)) (Syntax.ttcons (Syntax.tcons (Syntax.tyInt Syntax.w64) Syntax.tnil)
-          Syntax.ttnil)))))))))))))))) Syntax.tnil) Syntax.ttnil))),
-    ) (List._∷_ (
-      7,
-      Rows.any-gone (Syntax.tyEnum (List._∷_ 115 (List._∷_ 116 (List._∷_ 114 (List._∷_ 101 (List._∷_ 97 (List._∷_ 109 (List._∷_ 58
-          (List._∷_ 58 (List._∷_ 82 (List._∷_ 101 (List._∷_ 102 (List._∷_ 117 (List._∷_ 115 (List._∷_ 97 (List._∷_ 108 List.[]))))))))))))))) (Syntax.ttcons Syntax.tnil (Syntax.ttcons Syntax.tnil (Syntax.ttcons
-          Syntax.tnil (Syntax.ttcons (Syntax.tcons (Syntax.tyInt Syntax.w64) Syntax.tnil) (Syntax.ttcons Syntax.tnil (Syntax.ttcons Syntax.tnil (Syntax.ttcons Syntax.tnil (Syntax.ttcons Syntax.tnil
-          (Syntax.ttcons Syntax.tnil (Syntax.ttcons Syntax.tnil (Syntax.ttcons (Syntax.tcons (Syntax.tyInt Syntax.w64) Syntax.tnil) (Syntax.ttcons (Syntax.tcons (Syntax.tyInt Syntax.w64) Syntax.tnil)
-          (Syntax.ttcons Syntax.tnil (Syntax.ttcons (Syntax.tcons (Syntax.tyInt Syntax.w64) (Syntax.tcons (Syntax.tyInt Syntax.w64) Syntax.tnil)) (Syntax.ttcons (Syntax.tcons (Syntax.tyInt Syntax.w64)
-          Syntax.tnil) Syntax.ttnil)))))))))))))))),
-    ) (List._∷_ (
-      8,
-      Rows.any-gone (Syntax.tyStruct (List._∷_ 115 (List._∷_ 116 (List._∷_ 114 (List._∷_ 101 (List._∷_ 97 (List._∷_ 109 (List._∷_ 58 (List._∷_ 58
-          (List._∷_ 70 (List._∷_ 117 (List._∷_ 106 (List._∷_ 105 (List._∷_ 72 (List._∷_ 101 (List._∷_ 97 (List._∷_ 100 (List._∷_ 101 (List._∷_ 114 List.[])))))))))))))))))) (Syntax.tcons Syntax.tyBool
-          (Syntax.tcons Syntax.tyBool (Syntax.tcons (Syntax.tyInt Syntax.w32) (Syntax.tcons (Syntax.tyInt Syntax.w32) (Syntax.tcons (Syntax.tyInt Syntax.w32) (Syntax.tcons (Syntax.tyInt Syntax.w32)
-          (Syntax.tcons (Syntax.tyInt Syntax.w32) (Syntax.tcons (Syntax.tyInt Syntax.w32) (Syntax.tcons (Syntax.tyInt Syntax.w32) Syntax.tnil)))))))))),
-    ) (List._∷_ (9, Rows.any-gone (Syntax.tyInt Syntax.w64))
-    (List._∷_ (10, Rows.whole (Declared'.row Form.the-type)) (List._∷_ (11, Rows.sc-here (Row.sInt Syntax.w64)) (List._∷_ (12, Rows.any-gone (Syntax.tyInt Syntax.w64)) (List._∷_ (
-      13,
-      Rows.any-gone
-          (Syntax.tyInt Syntax.w64),
-    ) (List._∷_ (14, Rows.any-gone (Syntax.tyInt Syntax.w64)) (List._∷_ (15, Rows.whole (Declared.row Written.the-type)) List.[])))))))))))))))
+t41 = List._∷_ e0 (List._∷_ e2 (List._∷_ e22 (List._∷_ e38 (List._∷_ e40 (List._∷_ e42 (List._∷_ e43 (List._∷_ e47 (List._∷_ e49 (List._∷_ e51 (List._∷_ e4 (List._∷_ e6 (List._∷_ e7 (List._∷_ e9
+    (List._∷_ e11 (List._∷_ e14 List.[])))))))))))))))
 
 abbrev pub t42 : List.List Row.Entry
-t42 = List._∷_ (
-  0,
-  Rows.any-gone (Syntax.tyEnum (List._∷_ 98 (List._∷_ 108 (List._∷_ 111 (List._∷_ 99 (List._∷_ 107 (List._∷_ 58 (List._∷_ 58 (List._∷_ 87 (List._∷_ 114 (List._∷_ 105 (List._∷_ 116
-      (List._∷_ 116 (List._∷_ 101 (List._∷_ 110 List.[])))))))))))))) (Syntax.ttcons (Syntax.tcons (Syntax.tyInt Syntax.w64) Syntax.tnil) (Syntax.ttcons (Syntax.tcons (Syntax.tyEnum (List._∷_ 115 (List._∷_
-      116 (List._∷_ 114 (List._∷_ 101 (List._∷_ 97 (List._∷_ 109 (List._∷_ 58 (List._∷_ 58 (List._∷_ 82 (List._∷_ 101 (List._∷_ 102 (List._∷_ 117 (List._∷_ 115 (List._∷_ 97 (List._∷_ 108
-      List.[]))))))))))))))) (Syntax.ttcons Syntax.tnil (Syntax.ttcons Syntax.tnil (Syntax.ttcons Syntax.tnil (Syntax.ttcons (Syntax.tcons (Syntax.tyInt Syntax.w64) Syntax.tnil) (Syntax.ttcons Syntax.tnil
-      (Syntax.ttcons Syntax.tnil (Syntax.ttcons Syntax.tnil (Syntax.ttcons Syntax.tnil (Syntax.ttcons Syntax.tnil (Syntax.ttcons Syntax.tnil (Syntax.ttcons (Syntax.tcons (Syntax.tyInt Syntax.w64)
-      Syntax.tnil) (Syntax.ttcons (Syntax.tcons (Syntax.tyInt Syntax.w64) Syntax.tnil) (Syntax.ttcons Syntax.tnil (Syntax.ttcons (Syntax.tcons (Syntax.tyInt Syntax.w64) (Syntax.tcons (Syntax.tyInt
-      Syntax.w64) Syntax.tnil)) (Syntax.ttcons (Syntax.tcons (Syntax.tyInt Syntax.w64) Syntax.tnil) Syntax.ttnil)))))))))))))))) Syntax.tnil) Syntax.ttnil))),
-) (List._∷_ (
-  1,
-  Rows.sslice (Referent.rtF
-      (Referent.fInt Syntax.w8)) (Syntax.tyRef (Syntax.named 0) Syntax.imm (Syntax.tyInt Syntax.w8)) 0,
-) (List._∷_ (
-  2,
-  Rows.sslice (Referent.rtF (Referent.fInt Syntax.w16)) (Syntax.tyRef (Syntax.named 1)
-      Syntax.imm (Syntax.tyInt Syntax.w16)) 1,
-) (List._∷_ (3, Relend.mslice-owed (Referent.rtF (Referent.fInt Syntax.w8)) (Syntax.tyRef (Syntax.named 2) Syntax.mut (Syntax.tyInt Syntax.w8)) 2 5 Row.off)
-    (List._∷_ (4, PartMut.mslice-owedM (Referent.rtF (Referent.fInt Syntax.w16)) (Syntax.tyRef (Syntax.named 3) Syntax.mut (Syntax.tyInt Syntax.w16)) 3 6 Row.off) (List._∷_ (
-      5,
-      PartMut.mslice-owedM
-          (Element.type) (Syntax.tyRef (Syntax.named 4) Syntax.mut Element.behind) 4 7 Row.off,
-    ) (List._∷_ (
-      6,
-      Rows.any-gone (Syntax.tyEnum (List._∷_ 115 (List._∷_ 116 (List._∷_ 114 (List._∷_ 101 (List._∷_ 97
-          (List._∷_ 109 (List._∷_ 58 (List._∷_ 58 (List._∷_ 80 (List._∷_ 97 (List._∷_ 114 (List._∷_ 115 (List._∷_ 101 (List._∷_ 100 List.[])))))))))))))) (Syntax.ttcons (Syntax.tcons (Syntax.tyStruct (List._∷_
-          115 (List._∷_ 116 (List._∷_ 114 (List._∷_ 101 (List._∷_ 97 (List._∷_ 109 (List._∷_ 58 (List._∷_ 58 (List._∷_ 70 (List._∷_ 117 (List._∷_ 106 (List._∷_ 105 (List._∷_ 72 (List._∷_ 101 (List._∷_ 97
-          (List._∷_ 100 (List._∷_ 101 (List._∷_ 114 List.[])))))))))))))))))) (Syntax.tcons Syntax.tyBool (Syntax.tcons Syntax.tyBool (Syntax.tcons (Syntax.tyInt Syntax.w32) (Syntax.tcons (Syntax.tyInt
-          Syntax.w32) (Syntax.tcons (Syntax.tyInt Syntax.w32) (Syntax.tcons (Syntax.tyInt Syntax.w32) (Syntax.tcons (Syntax.tyInt Syntax.w32) (Syntax.tcons (Syntax.tyInt Syntax.w32) (Syntax.tcons (Syntax.tyInt
-          Syntax.w32) Syntax.tnil)))))))))) Syntax.tnil) (Syntax.ttcons (Syntax.tcons (Syntax.tyEnum (List._∷_ 115 (List._∷_ 116 (List._∷_ 114 (List._∷_ 101 (List._∷_ 97 (List._∷_ 109 (List._∷_ 58 (List._∷_ 58
-          (List._∷_ 82 (List._∷_ 101 (List._∷_ 102 (List._∷_ 117 (List._∷_ 115 (List._∷_ 97 (List._∷_ 108 List.[]))))))))))))))) (Syntax.ttcons Syntax.tnil (Syntax.ttcons Syntax.tnil (Syntax.ttcons Syntax.tnil
-          (Syntax.ttcons (Syntax.tcons (Syntax.tyInt Syntax.w64) Syntax.tnil) (Syntax.ttcons Syntax.tnil (Syntax.ttcons Syntax.tnil (Syntax.ttcons Syntax.tnil (Syntax.ttcons Syntax.tnil (Syntax.ttcons
-          Syntax.tnil (Syntax.ttcons Syntax.tnil (Syntax.ttcons (Syntax.tcons (Syntax.tyInt Syntax.w64) Syntax.tnil) (Syntax.ttcons (Syntax.tcons (Syntax.tyInt Syntax.w64) Syntax.tnil) (Syntax.ttcons
-          Syntax.tnil (Syntax.ttcons (Syntax.tcons (Syntax.tyInt Syntax.w64) (Syntax.tcons (Syntax.tyInt Syntax.w64) Syntax.tnil)) (Syntax.ttcons (Syntax.tcons (Syntax.tyInt Syntax.w64) Syntax.tnil)
-          Syntax.ttnil)))))))))))))))) Syntax.tnil) Syntax.ttnil))),
-    ) (List._∷_ (
-      7,
-      Rows.any-gone (Syntax.tyEnum (List._∷_ 115 (List._∷_ 116 (List._∷_ 114 (List._∷_ 101 (List._∷_ 97 (List._∷_ 109 (List._∷_ 58
-          (List._∷_ 58 (List._∷_ 82 (List._∷_ 101 (List._∷_ 102 (List._∷_ 117 (List._∷_ 115 (List._∷_ 97 (List._∷_ 108 List.[]))))))))))))))) (Syntax.ttcons Syntax.tnil (Syntax.ttcons Syntax.tnil (Syntax.ttcons
-          Syntax.tnil (Syntax.ttcons (Syntax.tcons (Syntax.tyInt Syntax.w64) Syntax.tnil) (Syntax.ttcons Syntax.tnil (Syntax.ttcons Syntax.tnil (Syntax.ttcons Syntax.tnil (Syntax.ttcons Syntax.tnil
-          (Syntax.ttcons Syntax.tnil (Syntax.ttcons Syntax.tnil (Syntax.ttcons (Syntax.tcons (Syntax.tyInt Syntax.w64) Syntax.tnil) (Syntax.ttcons (Syntax.tcons (Syntax.tyInt Syntax.w64) Syntax.tnil)
-          (Syntax.ttcons Syntax.tnil (Syntax.ttcons (Syntax.tcons (Syntax.tyInt Syntax.w64) (Syntax.tcons (Syntax.tyInt Syntax.w64) Syntax.tnil)) (Syntax.ttcons (Syntax.tcons (Syntax.tyInt Syntax.w64)
-          Syntax.tnil) Syntax.ttnil)))))))))))))))),
-    ) (List._∷_ (
-      8,
-      Rows.any-gone (Syntax.tyStruct (List._∷_ 115 (List._∷_ 116 (List._∷_ 114 (List._∷_ 101 (List._∷_ 97 (List._∷_ 109 (List._∷_ 58 (List._∷_ 58
-          (List._∷_ 70 (List._∷_ 117 (List._∷_ 106 (List._∷_ 105 (List._∷_ 72 (List._∷_ 101 (List._∷_ 97 (List._∷_ 100 (List._∷_ 101 (List._∷_ 114 List.[])))))))))))))))))) (Syntax.tcons Syntax.tyBool
-          (Syntax.tcons Syntax.tyBool (Syntax.tcons (Syntax.tyInt Syntax.w32) (Syntax.tcons (Syntax.tyInt Syntax.w32) (Syntax.tcons (Syntax.tyInt Syntax.w32) (Syntax.tcons (Syntax.tyInt Syntax.w32)
-          (Syntax.tcons (Syntax.tyInt Syntax.w32) (Syntax.tcons (Syntax.tyInt Syntax.w32) (Syntax.tcons (Syntax.tyInt Syntax.w32) Syntax.tnil)))))))))),
-    ) (List._∷_ (9, Rows.any-gone (Syntax.tyInt Syntax.w64))
-    (List._∷_ (
-      10,
-      Rows.any-gone (Syntax.tyStruct (List._∷_ 98 (List._∷_ 108 (List._∷_ 111 (List._∷_ 99 (List._∷_ 107 (List._∷_ 58 (List._∷_ 58 (List._∷_ 70 (List._∷_ 111 (List._∷_ 114 (List._∷_ 109
-          List.[]))))))))))) (Syntax.tcons (Syntax.tyInt Syntax.w32) (Syntax.tcons Syntax.tyBool Syntax.tnil))),
-    ) (List._∷_ (11, Rows.sc-here (Row.sInt Syntax.w64)) (List._∷_ (
-      12,
-      Rows.any-gone (Syntax.tyInt
-          Syntax.w64),
-    ) (List._∷_ (13, Rows.any-gone (Syntax.tyInt Syntax.w64)) (List._∷_ (14, Rows.any-gone (Syntax.tyInt Syntax.w64)) (List._∷_ (15, Rows.whole (Declared.row Written.the-type))
-    List.[])))))))))))))))
+t42 = List._∷_ e0 (List._∷_ e2 (List._∷_ e22 (List._∷_ e38 (List._∷_ e40 (List._∷_ e42 (List._∷_ e43 (List._∷_ e47 (List._∷_ e49 (List._∷_ e51 (List._∷_ e3 (List._∷_ e6 (List._∷_ e7 (List._∷_ e9
+    (List._∷_ e11 (List._∷_ e14 List.[])))))))))))))))
 
 abbrev pub t43 : List.List Row.Entry
-t43 = List._∷_ (
-  0,
-  Rows.any-gone (Syntax.tyEnum (List._∷_ 98 (List._∷_ 108 (List._∷_ 111 (List._∷_ 99 (List._∷_ 107 (List._∷_ 58 (List._∷_ 58 (List._∷_ 87 (List._∷_ 114 (List._∷_ 105 (List._∷_ 116
-      (List._∷_ 116 (List._∷_ 101 (List._∷_ 110 List.[])))))))))))))) (Syntax.ttcons (Syntax.tcons (Syntax.tyInt Syntax.w64) Syntax.tnil) (Syntax.ttcons (Syntax.tcons (Syntax.tyEnum (List._∷_ 115 (List._∷_
-      116 (List._∷_ 114 (List._∷_ 101 (List._∷_ 97 (List._∷_ 109 (List._∷_ 58 (List._∷_ 58 (List._∷_ 82 (List._∷_ 101 (List._∷_ 102 (List._∷_ 117 (List._∷_ 115 (List._∷_ 97 (List._∷_ 108
-      List.[]))))))))))))))) (Syntax.ttcons Syntax.tnil (Syntax.ttcons Syntax.tnil (Syntax.ttcons Syntax.tnil (Syntax.ttcons (Syntax.tcons (Syntax.tyInt Syntax.w64) Syntax.tnil) (Syntax.ttcons Syntax.tnil
-      (Syntax.ttcons Syntax.tnil (Syntax.ttcons Syntax.tnil (Syntax.ttcons Syntax.tnil (Syntax.ttcons Syntax.tnil (Syntax.ttcons Syntax.tnil (Syntax.ttcons (Syntax.tcons (Syntax.tyInt Syntax.w64)
-      Syntax.tnil) (Syntax.ttcons (Syntax.tcons (Syntax.tyInt Syntax.w64) Syntax.tnil) (Syntax.ttcons Syntax.tnil (Syntax.ttcons (Syntax.tcons (Syntax.tyInt Syntax.w64) (Syntax.tcons (Syntax.tyInt
-      Syntax.w64) Syntax.tnil)) (Syntax.ttcons (Syntax.tcons (Syntax.tyInt Syntax.w64) Syntax.tnil) Syntax.ttnil)))))))))))))))) Syntax.tnil) Syntax.ttnil))),
-) (List._∷_ (
-  1,
-  Rows.sslice (Referent.rtF
-      (Referent.fInt Syntax.w8)) (Syntax.tyRef (Syntax.named 0) Syntax.imm (Syntax.tyInt Syntax.w8)) 0,
-) (List._∷_ (
-  2,
-  Rows.sslice (Referent.rtF (Referent.fInt Syntax.w16)) (Syntax.tyRef (Syntax.named 1)
-      Syntax.imm (Syntax.tyInt Syntax.w16)) 1,
-) (List._∷_ (3, Relend.mslice-owed (Referent.rtF (Referent.fInt Syntax.w8)) (Syntax.tyRef (Syntax.named 2) Syntax.mut (Syntax.tyInt Syntax.w8)) 2 5 Row.off)
-    (List._∷_ (4, PartMut.mslice-owedM (Referent.rtF (Referent.fInt Syntax.w16)) (Syntax.tyRef (Syntax.named 3) Syntax.mut (Syntax.tyInt Syntax.w16)) 3 6 Row.off) (List._∷_ (
-      5,
-      PartMut.mslice-owedM
-          (Element.type) (Syntax.tyRef (Syntax.named 4) Syntax.mut Element.behind) 4 7 Row.off,
-    ) (List._∷_ (
-      6,
-      Rows.any-gone (Syntax.tyEnum (List._∷_ 115 (List._∷_ 116 (List._∷_ 114 (List._∷_ 101 (List._∷_ 97
-          (List._∷_ 109 (List._∷_ 58 (List._∷_ 58 (List._∷_ 80 (List._∷_ 97 (List._∷_ 114 (List._∷_ 115 (List._∷_ 101 (List._∷_ 100 List.[])))))))))))))) (Syntax.ttcons (Syntax.tcons (Syntax.tyStruct (List._∷_
-          115 (List._∷_ 116 (List._∷_ 114 (List._∷_ 101 (List._∷_ 97 (List._∷_ 109 (List._∷_ 58 (List._∷_ 58 (List._∷_ 70 (List._∷_ 117 (List._∷_ 106 (List._∷_ 105 (List._∷_ 72 (List._∷_ 101 (List._∷_ 97
-          (List._∷_ 100 (List._∷_ 101 (List._∷_ 114 List.[])))))))))))))))))) (Syntax.tcons Syntax.tyBool (Syntax.tcons Syntax.tyBool (Syntax.tcons (Syntax.tyInt Syntax.w32) (Syntax.tcons (Syntax.tyInt
-          Syntax.w32) (Syntax.tcons (Syntax.tyInt Syntax.w32) (Syntax.tcons (Syntax.tyInt Syntax.w32) (Syntax.tcons (Syntax.tyInt Syntax.w32) (Syntax.tcons (Syntax.tyInt Syntax.w32) (Syntax.tcons (Syntax.tyInt
-          Syntax.w32) Syntax.tnil)))))))))) Syntax.tnil) (Syntax.ttcons (Syntax.tcons (Syntax.tyEnum (List._∷_ 115 (List._∷_ 116 (List._∷_ 114 (List._∷_ 101 (List._∷_ 97 (List._∷_ 109 (List._∷_ 58 (List._∷_ 58
-          (List._∷_ 82 (List._∷_ 101 (List._∷_ 102 (List._∷_ 117 (List._∷_ 115 (List._∷_ 97 (List._∷_ 108 List.[]))))))))))))))) (Syntax.ttcons Syntax.tnil (Syntax.ttcons Syntax.tnil (Syntax.ttcons Syntax.tnil
-          (Syntax.ttcons (Syntax.tcons (Syntax.tyInt Syntax.w64) Syntax.tnil) (Syntax.ttcons Syntax.tnil (Syntax.ttcons Syntax.tnil (Syntax.ttcons Syntax.tnil (Syntax.ttcons Syntax.tnil (Syntax.ttcons
-          Syntax.tnil (Syntax.ttcons Syntax.tnil (Syntax.ttcons (Syntax.tcons (Syntax.tyInt Syntax.w64) Syntax.tnil) (Syntax.ttcons (Syntax.tcons (Syntax.tyInt Syntax.w64) Syntax.tnil) (Syntax.ttcons
-          Syntax.tnil (Syntax.ttcons (Syntax.tcons (Syntax.tyInt Syntax.w64) (Syntax.tcons (Syntax.tyInt Syntax.w64) Syntax.tnil)) (Syntax.ttcons (Syntax.tcons (Syntax.tyInt Syntax.w64) Syntax.tnil)
-          Syntax.ttnil)))))))))))))))) Syntax.tnil) Syntax.ttnil))),
-    ) (List._∷_ (
-      7,
-      Rows.any-gone (Syntax.tyEnum (List._∷_ 115 (List._∷_ 116 (List._∷_ 114 (List._∷_ 101 (List._∷_ 97 (List._∷_ 109 (List._∷_ 58
-          (List._∷_ 58 (List._∷_ 82 (List._∷_ 101 (List._∷_ 102 (List._∷_ 117 (List._∷_ 115 (List._∷_ 97 (List._∷_ 108 List.[]))))))))))))))) (Syntax.ttcons Syntax.tnil (Syntax.ttcons Syntax.tnil (Syntax.ttcons
-          Syntax.tnil (Syntax.ttcons (Syntax.tcons (Syntax.tyInt Syntax.w64) Syntax.tnil) (Syntax.ttcons Syntax.tnil (Syntax.ttcons Syntax.tnil (Syntax.ttcons Syntax.tnil (Syntax.ttcons Syntax.tnil
-          (Syntax.ttcons Syntax.tnil (Syntax.ttcons Syntax.tnil (Syntax.ttcons (Syntax.tcons (Syntax.tyInt Syntax.w64) Syntax.tnil) (Syntax.ttcons (Syntax.tcons (Syntax.tyInt Syntax.w64) Syntax.tnil)
-          (Syntax.ttcons Syntax.tnil (Syntax.ttcons (Syntax.tcons (Syntax.tyInt Syntax.w64) (Syntax.tcons (Syntax.tyInt Syntax.w64) Syntax.tnil)) (Syntax.ttcons (Syntax.tcons (Syntax.tyInt Syntax.w64)
-          Syntax.tnil) Syntax.ttnil)))))))))))))))),
-    ) (List._∷_ (
-      8,
-      Rows.any-gone (Syntax.tyStruct (List._∷_ 115 (List._∷_ 116 (List._∷_ 114 (List._∷_ 101 (List._∷_ 97 (List._∷_ 109 (List._∷_ 58 (List._∷_ 58
-          (List._∷_ 70 (List._∷_ 117 (List._∷_ 106 (List._∷_ 105 (List._∷_ 72 (List._∷_ 101 (List._∷_ 97 (List._∷_ 100 (List._∷_ 101 (List._∷_ 114 List.[])))))))))))))))))) (Syntax.tcons Syntax.tyBool
-          (Syntax.tcons Syntax.tyBool (Syntax.tcons (Syntax.tyInt Syntax.w32) (Syntax.tcons (Syntax.tyInt Syntax.w32) (Syntax.tcons (Syntax.tyInt Syntax.w32) (Syntax.tcons (Syntax.tyInt Syntax.w32)
-          (Syntax.tcons (Syntax.tyInt Syntax.w32) (Syntax.tcons (Syntax.tyInt Syntax.w32) (Syntax.tcons (Syntax.tyInt Syntax.w32) Syntax.tnil)))))))))),
-    ) (List._∷_ (9, Rows.any-gone (Syntax.tyInt Syntax.w64))
-    (List._∷_ (
-      10,
-      Rows.any-gone (Syntax.tyStruct (List._∷_ 98 (List._∷_ 108 (List._∷_ 111 (List._∷_ 99 (List._∷_ 107 (List._∷_ 58 (List._∷_ 58 (List._∷_ 70 (List._∷_ 111 (List._∷_ 114 (List._∷_ 109
-          List.[]))))))))))) (Syntax.tcons (Syntax.tyInt Syntax.w32) (Syntax.tcons Syntax.tyBool Syntax.tnil))),
-    ) (List._∷_ (11, Rows.any-gone (Syntax.tyInt Syntax.w64)) (List._∷_ (
-      12,
-      Rows.any-gone
-          (Syntax.tyInt Syntax.w64),
-    ) (List._∷_ (13, Rows.any-gone (Syntax.tyInt Syntax.w64)) (List._∷_ (14, Rows.any-gone (Syntax.tyInt Syntax.w64)) (List._∷_ (
-      15,
-      Rows.whole (Declared.row
-          Written.the-type),
-    ) List.[])))))))))))))))
+t43 = List._∷_ e0 (List._∷_ e2 (List._∷_ e22 (List._∷_ e38 (List._∷_ e40 (List._∷_ e42 (List._∷_ e43 (List._∷_ e47 (List._∷_ e49 (List._∷_ e51 (List._∷_ e3 (List._∷_ e5 (List._∷_ e7 (List._∷_ e9
+    (List._∷_ e11 (List._∷_ e14 List.[])))))))))))))))
 
 abbrev pub t44 : List.List Row.Entry
-t44 = List._∷_ (
-  0,
-  Rows.any-gone (Syntax.tyEnum (List._∷_ 98 (List._∷_ 108 (List._∷_ 111 (List._∷_ 99 (List._∷_ 107 (List._∷_ 58 (List._∷_ 58 (List._∷_ 87 (List._∷_ 114 (List._∷_ 105 (List._∷_ 116
-      (List._∷_ 116 (List._∷_ 101 (List._∷_ 110 List.[])))))))))))))) (Syntax.ttcons (Syntax.tcons (Syntax.tyInt Syntax.w64) Syntax.tnil) (Syntax.ttcons (Syntax.tcons (Syntax.tyEnum (List._∷_ 115 (List._∷_
-      116 (List._∷_ 114 (List._∷_ 101 (List._∷_ 97 (List._∷_ 109 (List._∷_ 58 (List._∷_ 58 (List._∷_ 82 (List._∷_ 101 (List._∷_ 102 (List._∷_ 117 (List._∷_ 115 (List._∷_ 97 (List._∷_ 108
-      List.[]))))))))))))))) (Syntax.ttcons Syntax.tnil (Syntax.ttcons Syntax.tnil (Syntax.ttcons Syntax.tnil (Syntax.ttcons (Syntax.tcons (Syntax.tyInt Syntax.w64) Syntax.tnil) (Syntax.ttcons Syntax.tnil
-      (Syntax.ttcons Syntax.tnil (Syntax.ttcons Syntax.tnil (Syntax.ttcons Syntax.tnil (Syntax.ttcons Syntax.tnil (Syntax.ttcons Syntax.tnil (Syntax.ttcons (Syntax.tcons (Syntax.tyInt Syntax.w64)
-      Syntax.tnil) (Syntax.ttcons (Syntax.tcons (Syntax.tyInt Syntax.w64) Syntax.tnil) (Syntax.ttcons Syntax.tnil (Syntax.ttcons (Syntax.tcons (Syntax.tyInt Syntax.w64) (Syntax.tcons (Syntax.tyInt
-      Syntax.w64) Syntax.tnil)) (Syntax.ttcons (Syntax.tcons (Syntax.tyInt Syntax.w64) Syntax.tnil) Syntax.ttnil)))))))))))))))) Syntax.tnil) Syntax.ttnil))),
-) (List._∷_ (
-  1,
-  Rows.sslice (Referent.rtF
-      (Referent.fInt Syntax.w8)) (Syntax.tyRef (Syntax.named 0) Syntax.imm (Syntax.tyInt Syntax.w8)) 0,
-) (List._∷_ (
-  2,
-  Rows.sslice (Referent.rtF (Referent.fInt Syntax.w16)) (Syntax.tyRef (Syntax.named 1)
-      Syntax.imm (Syntax.tyInt Syntax.w16)) 1,
-) (List._∷_ (3, Mut.mslice (Referent.rtF (Referent.fInt Syntax.w8)) (Syntax.tyRef (Syntax.named 2) Syntax.mut (Syntax.tyInt Syntax.w8)) 2) (List._∷_ (
-  4,
-  PartMut.mslice-owedM (Referent.rtF (Referent.fInt Syntax.w16)) (Syntax.tyRef (Syntax.named 3) Syntax.mut (Syntax.tyInt Syntax.w16)) 3 6 Row.off,
-) (List._∷_ (
-  5,
-  PartMut.mslice-owedM (Element.type)
-      (Syntax.tyRef (Syntax.named 4) Syntax.mut Element.behind) 4 7 Row.off,
-) (List._∷_ (
-  6,
-  Rows.any-gone (Syntax.tyEnum (List._∷_ 115 (List._∷_ 116 (List._∷_ 114 (List._∷_ 101 (List._∷_ 97 (List._∷_ 109
-      (List._∷_ 58 (List._∷_ 58 (List._∷_ 80 (List._∷_ 97 (List._∷_ 114 (List._∷_ 115 (List._∷_ 101 (List._∷_ 100 List.[])))))))))))))) (Syntax.ttcons (Syntax.tcons (Syntax.tyStruct (List._∷_ 115 (List._∷_
-      116 (List._∷_ 114 (List._∷_ 101 (List._∷_ 97 (List._∷_ 109 (List._∷_ 58 (List._∷_ 58 (List._∷_ 70 (List._∷_ 117 (List._∷_ 106 (List._∷_ 105 (List._∷_ 72 (List._∷_ 101 (List._∷_ 97 (List._∷_ 100
-      (List._∷_ 101 (List._∷_ 114 List.[])))))))))))))))))) (Syntax.tcons Syntax.tyBool (Syntax.tcons Syntax.tyBool (Syntax.tcons (Syntax.tyInt Syntax.w32) (Syntax.tcons (Syntax.tyInt Syntax.w32)
-      (Syntax.tcons (Syntax.tyInt Syntax.w32) (Syntax.tcons (Syntax.tyInt Syntax.w32) (Syntax.tcons (Syntax.tyInt Syntax.w32) (Syntax.tcons (Syntax.tyInt Syntax.w32) (Syntax.tcons (Syntax.tyInt Syntax.w32)
-      Syntax.tnil)))))))))) Syntax.tnil) (Syntax.ttcons (Syntax.tcons (Syntax.tyEnum (List._∷_ 115 (List._∷_ 116 (List._∷_ 114 (List._∷_ 101 (List._∷_ 97 (List._∷_ 109 (List._∷_ 58 (List._∷_ 58 (List._∷_ 82
-      (List._∷_ 101 (List._∷_ 102 (List._∷_ 117 (List._∷_ 115 (List._∷_ 97 (List._∷_ 108 List.[]))))))))))))))) (Syntax.ttcons Syntax.tnil (Syntax.ttcons Syntax.tnil (Syntax.ttcons Syntax.tnil
-      (Syntax.ttcons (Syntax.tcons (Syntax.tyInt Syntax.w64) Syntax.tnil) (Syntax.ttcons Syntax.tnil (Syntax.ttcons Syntax.tnil (Syntax.ttcons Syntax.tnil (Syntax.ttcons Syntax.tnil (Syntax.ttcons
-      Syntax.tnil (Syntax.ttcons Syntax.tnil (Syntax.ttcons (Syntax.tcons (Syntax.tyInt Syntax.w64) Syntax.tnil) (Syntax.ttcons (Syntax.tcons (Syntax.tyInt Syntax.w64) Syntax.tnil) (Syntax.ttcons
-      Syntax.tnil (Syntax.ttcons (Syntax.tcons (Syntax.tyInt Syntax.w64) (Syntax.tcons (Syntax.tyInt Syntax.w64) Syntax.tnil)) (Syntax.ttcons (Syntax.tcons (Syntax.tyInt Syntax.w64) Syntax.tnil)
-      Syntax.ttnil)))))))))))))))) Syntax.tnil) Syntax.ttnil))),
-) (List._∷_ (
-  7,
-  Rows.any-gone (Syntax.tyEnum (List._∷_ 115 (List._∷_ 116 (List._∷_ 114 (List._∷_ 101 (List._∷_ 97 (List._∷_ 109 (List._∷_ 58
-      (List._∷_ 58 (List._∷_ 82 (List._∷_ 101 (List._∷_ 102 (List._∷_ 117 (List._∷_ 115 (List._∷_ 97 (List._∷_ 108 List.[]))))))))))))))) (Syntax.ttcons Syntax.tnil (Syntax.ttcons Syntax.tnil (Syntax.ttcons
-      Syntax.tnil (Syntax.ttcons (Syntax.tcons (Syntax.tyInt Syntax.w64) Syntax.tnil) (Syntax.ttcons Syntax.tnil (Syntax.ttcons Syntax.tnil (Syntax.ttcons Syntax.tnil (Syntax.ttcons Syntax.tnil
-      (Syntax.ttcons Syntax.tnil (Syntax.ttcons Syntax.tnil (Syntax.ttcons (Syntax.tcons (Syntax.tyInt Syntax.w64) Syntax.tnil) (Syntax.ttcons (Syntax.tcons (Syntax.tyInt Syntax.w64) Syntax.tnil)
-      (Syntax.ttcons Syntax.tnil (Syntax.ttcons (Syntax.tcons (Syntax.tyInt Syntax.w64) (Syntax.tcons (Syntax.tyInt Syntax.w64) Syntax.tnil)) (Syntax.ttcons (Syntax.tcons (Syntax.tyInt Syntax.w64)
-      Syntax.tnil) Syntax.ttnil)))))))))))))))),
-) (List._∷_ (
-  8,
-  Rows.any-gone (Syntax.tyStruct (List._∷_ 115 (List._∷_ 116 (List._∷_ 114 (List._∷_ 101 (List._∷_ 97 (List._∷_ 109 (List._∷_ 58 (List._∷_ 58
-      (List._∷_ 70 (List._∷_ 117 (List._∷_ 106 (List._∷_ 105 (List._∷_ 72 (List._∷_ 101 (List._∷_ 97 (List._∷_ 100 (List._∷_ 101 (List._∷_ 114 List.[])))))))))))))))))) (Syntax.tcons Syntax.tyBool
-      (Syntax.tcons Syntax.tyBool (Syntax.tcons (Syntax.tyInt Syntax.w32) (Syntax.tcons (Syntax.tyInt Syntax.w32) (Syntax.tcons (Syntax.tyInt Syntax.w32) (Syntax.tcons (Syntax.tyInt Syntax.w32)
-      (Syntax.tcons (Syntax.tyInt Syntax.w32) (Syntax.tcons (Syntax.tyInt Syntax.w32) (Syntax.tcons (Syntax.tyInt Syntax.w32) Syntax.tnil)))))))))),
-) (List._∷_ (9, Rows.any-gone (Syntax.tyInt Syntax.w64))
-    (List._∷_ (
-      10,
-      Rows.any-gone (Syntax.tyStruct (List._∷_ 98 (List._∷_ 108 (List._∷_ 111 (List._∷_ 99 (List._∷_ 107 (List._∷_ 58 (List._∷_ 58 (List._∷_ 70 (List._∷_ 111 (List._∷_ 114 (List._∷_ 109
-          List.[]))))))))))) (Syntax.tcons (Syntax.tyInt Syntax.w32) (Syntax.tcons Syntax.tyBool Syntax.tnil))),
-    ) (List._∷_ (11, Rows.any-gone (Syntax.tyInt Syntax.w64)) (List._∷_ (
-      12,
-      Rows.any-gone
-          (Syntax.tyInt Syntax.w64),
-    ) (List._∷_ (13, Rows.any-gone (Syntax.tyInt Syntax.w64)) (List._∷_ (14, Rows.any-gone (Syntax.tyInt Syntax.w64)) (List._∷_ (
-      15,
-      Rows.whole (Declared.row
-          Written.the-type),
-    ) List.[])))))))))))))))
+t44 = List._∷_ e0 (List._∷_ e2 (List._∷_ e22 (List._∷_ e37 (List._∷_ e40 (List._∷_ e42 (List._∷_ e43 (List._∷_ e47 (List._∷_ e49 (List._∷_ e51 (List._∷_ e3 (List._∷_ e5 (List._∷_ e7 (List._∷_ e9
+    (List._∷_ e11 (List._∷_ e14 List.[])))))))))))))))
 
 abbrev pub t45 : List.List Row.Entry
-t45 = List._∷_ (16, Rows.any-gone (Syntax.tyRef Syntax.erased Syntax.mut (Syntax.tyInt Syntax.w8))) (List._∷_ (
-  17,
-  Rows.any-gone (Syntax.tyStruct (List._∷_ 38 (List._∷_ 91 (List._∷_ 93 List.[])))
-      (Syntax.tcons (Syntax.tyRef Syntax.erased Syntax.mut (Syntax.tyInt Syntax.w8)) (Syntax.tcons (Syntax.tyInt Syntax.w64) Syntax.tnil))),
-) (List._∷_ (18, Rows.any-gone Syntax.tyPtr) (List._∷_ (
-  19,
-  Rows.any-gone (Syntax.tyInt Syntax.w64),
-) (List._∷_ (20, Rows.any-gone (Syntax.tyRef Syntax.erased Syntax.mut (Syntax.tyInt Syntax.w16))) (List._∷_ (
-  21,
-  Mut.msleft (Referent.rtF (Referent.fInt
-      Syntax.w16)) (Syntax.tyRef Syntax.erased Syntax.mut (Syntax.tyInt Syntax.w16)),
-) (List._∷_ (22, Rows.any-gone Syntax.tyPtr) (List._∷_ (23, Rows.any-gone (Syntax.tyInt Syntax.w64)) (List._∷_ (
-  24,
-  Rows.any-gone (Syntax.tyRef Syntax.erased Syntax.mut Element.behind),
-) (List._∷_ (25, Mut.msleft (Element.type) (Syntax.tyRef Syntax.erased Syntax.mut Element.behind)) List.[])))))))))
+t45 = List._∷_ e15 (List._∷_ e17 (List._∷_ e18 (List._∷_ e20 (List._∷_ e24 (List._∷_ e25 (List._∷_ e28 (List._∷_ e30 (List._∷_ e33 (List._∷_ e34 List.[])))))))))
 
 abbrev pub t46 : List.List Row.Entry
-t46 = List._∷_ (
-  0,
-  Rows.any-gone (Syntax.tyEnum (List._∷_ 98 (List._∷_ 108 (List._∷_ 111 (List._∷_ 99 (List._∷_ 107 (List._∷_ 58 (List._∷_ 58 (List._∷_ 87 (List._∷_ 114 (List._∷_ 105 (List._∷_ 116
-      (List._∷_ 116 (List._∷_ 101 (List._∷_ 110 List.[])))))))))))))) (Syntax.ttcons (Syntax.tcons (Syntax.tyInt Syntax.w64) Syntax.tnil) (Syntax.ttcons (Syntax.tcons (Syntax.tyEnum (List._∷_ 115 (List._∷_
-      116 (List._∷_ 114 (List._∷_ 101 (List._∷_ 97 (List._∷_ 109 (List._∷_ 58 (List._∷_ 58 (List._∷_ 82 (List._∷_ 101 (List._∷_ 102 (List._∷_ 117 (List._∷_ 115 (List._∷_ 97 (List._∷_ 108
-      List.[]))))))))))))))) (Syntax.ttcons Syntax.tnil (Syntax.ttcons Syntax.tnil (Syntax.ttcons Syntax.tnil (Syntax.ttcons (Syntax.tcons (Syntax.tyInt Syntax.w64) Syntax.tnil) (Syntax.ttcons Syntax.tnil
-      (Syntax.ttcons Syntax.tnil (Syntax.ttcons Syntax.tnil (Syntax.ttcons Syntax.tnil (Syntax.ttcons Syntax.tnil (Syntax.ttcons Syntax.tnil (Syntax.ttcons (Syntax.tcons (Syntax.tyInt Syntax.w64)
-      Syntax.tnil) (Syntax.ttcons (Syntax.tcons (Syntax.tyInt Syntax.w64) Syntax.tnil) (Syntax.ttcons Syntax.tnil (Syntax.ttcons (Syntax.tcons (Syntax.tyInt Syntax.w64) (Syntax.tcons (Syntax.tyInt
-      Syntax.w64) Syntax.tnil)) (Syntax.ttcons (Syntax.tcons (Syntax.tyInt Syntax.w64) Syntax.tnil) Syntax.ttnil)))))))))))))))) Syntax.tnil) Syntax.ttnil))),
-) (List._∷_ (
-  1,
-  Rows.sslice (Referent.rtF
-      (Referent.fInt Syntax.w8)) (Syntax.tyRef (Syntax.named 0) Syntax.imm (Syntax.tyInt Syntax.w8)) 0,
-) (List._∷_ (
-  2,
-  Rows.sslice (Referent.rtF (Referent.fInt Syntax.w16)) (Syntax.tyRef (Syntax.named 1)
-      Syntax.imm (Syntax.tyInt Syntax.w16)) 1,
-) (List._∷_ (3, Mut.mslice (Referent.rtF (Referent.fInt Syntax.w8)) (Syntax.tyRef (Syntax.named 2) Syntax.mut (Syntax.tyInt Syntax.w8)) 2) (List._∷_ (
-  4,
-  Mut.mslice (Referent.rtF (Referent.fInt Syntax.w16)) (Syntax.tyRef (Syntax.named 3) Syntax.mut (Syntax.tyInt Syntax.w16)) 3,
-) (List._∷_ (
-  5,
-  PartMut.mslice-owedM (Element.type) (Syntax.tyRef
-      (Syntax.named 4) Syntax.mut Element.behind) 4 7 Row.off,
-) (List._∷_ (
-  6,
-  Rows.any-gone (Syntax.tyEnum (List._∷_ 115 (List._∷_ 116 (List._∷_ 114 (List._∷_ 101 (List._∷_ 97 (List._∷_ 109 (List._∷_ 58
-      (List._∷_ 58 (List._∷_ 80 (List._∷_ 97 (List._∷_ 114 (List._∷_ 115 (List._∷_ 101 (List._∷_ 100 List.[])))))))))))))) (Syntax.ttcons (Syntax.tcons (Syntax.tyStruct (List._∷_ 115 (List._∷_ 116 (List._∷_
-      114 (List._∷_ 101 (List._∷_ 97 (List._∷_ 109 (List._∷_ 58 (List._∷_ 58 (List._∷_ 70 (List._∷_ 117 (List._∷_ 106 (List._∷_ 105 (List._∷_ 72 (List._∷_ 101 (List._∷_ 97 (List._∷_ 100 (List._∷_ 101
-      (List._∷_ 114 List.[])))))))))))))))))) (Syntax.tcons Syntax.tyBool (Syntax.tcons Syntax.tyBool (Syntax.tcons (Syntax.tyInt Syntax.w32) (Syntax.tcons (Syntax.tyInt Syntax.w32) (Syntax.tcons
-      (Syntax.tyInt Syntax.w32) (Syntax.tcons (Syntax.tyInt Syntax.w32) (Syntax.tcons (Syntax.tyInt Syntax.w32) (Syntax.tcons (Syntax.tyInt Syntax.w32) (Syntax.tcons (Syntax.tyInt Syntax.w32)
-      Syntax.tnil)))))))))) Syntax.tnil) (Syntax.ttcons (Syntax.tcons (Syntax.tyEnum (List._∷_ 115 (List._∷_ 116 (List._∷_ 114 (List._∷_ 101 (List._∷_ 97 (List._∷_ 109 (List._∷_ 58 (List._∷_ 58 (List._∷_ 82
-      (List._∷_ 101 (List._∷_ 102 (List._∷_ 117 (List._∷_ 115 (List._∷_ 97 (List._∷_ 108 List.[]))))))))))))))) (Syntax.ttcons Syntax.tnil (Syntax.ttcons Syntax.tnil (Syntax.ttcons Syntax.tnil
-      (Syntax.ttcons (Syntax.tcons (Syntax.tyInt Syntax.w64) Syntax.tnil) (Syntax.ttcons Syntax.tnil (Syntax.ttcons Syntax.tnil (Syntax.ttcons Syntax.tnil (Syntax.ttcons Syntax.tnil (Syntax.ttcons
-      Syntax.tnil (Syntax.ttcons Syntax.tnil (Syntax.ttcons (Syntax.tcons (Syntax.tyInt Syntax.w64) Syntax.tnil) (Syntax.ttcons (Syntax.tcons (Syntax.tyInt Syntax.w64) Syntax.tnil) (Syntax.ttcons
-      Syntax.tnil (Syntax.ttcons (Syntax.tcons (Syntax.tyInt Syntax.w64) (Syntax.tcons (Syntax.tyInt Syntax.w64) Syntax.tnil)) (Syntax.ttcons (Syntax.tcons (Syntax.tyInt Syntax.w64) Syntax.tnil)
-      Syntax.ttnil)))))))))))))))) Syntax.tnil) Syntax.ttnil))),
-) (List._∷_ (
-  7,
-  Rows.any-gone (Syntax.tyEnum (List._∷_ 115 (List._∷_ 116 (List._∷_ 114 (List._∷_ 101 (List._∷_ 97 (List._∷_ 109 (List._∷_ 58
-      (List._∷_ 58 (List._∷_ 82 (List._∷_ 101 (List._∷_ 102 (List._∷_ 117 (List._∷_ 115 (List._∷_ 97 (List._∷_ 108 List.[]))))))))))))))) (Syntax.ttcons Syntax.tnil (Syntax.ttcons Syntax.tnil (Syntax.ttcons
-      Syntax.tnil (Syntax.ttcons (Syntax.tcons (Syntax.tyInt Syntax.w64) Syntax.tnil) (Syntax.ttcons Syntax.tnil (Syntax.ttcons Syntax.tnil (Syntax.ttcons Syntax.tnil (Syntax.ttcons Syntax.tnil
-      (Syntax.ttcons Syntax.tnil (Syntax.ttcons Syntax.tnil (Syntax.ttcons (Syntax.tcons (Syntax.tyInt Syntax.w64) Syntax.tnil) (Syntax.ttcons (Syntax.tcons (Syntax.tyInt Syntax.w64) Syntax.tnil)
-      (Syntax.ttcons Syntax.tnil (Syntax.ttcons (Syntax.tcons (Syntax.tyInt Syntax.w64) (Syntax.tcons (Syntax.tyInt Syntax.w64) Syntax.tnil)) (Syntax.ttcons (Syntax.tcons (Syntax.tyInt Syntax.w64)
-      Syntax.tnil) Syntax.ttnil)))))))))))))))),
-) (List._∷_ (
-  8,
-  Rows.any-gone (Syntax.tyStruct (List._∷_ 115 (List._∷_ 116 (List._∷_ 114 (List._∷_ 101 (List._∷_ 97 (List._∷_ 109 (List._∷_ 58 (List._∷_ 58
-      (List._∷_ 70 (List._∷_ 117 (List._∷_ 106 (List._∷_ 105 (List._∷_ 72 (List._∷_ 101 (List._∷_ 97 (List._∷_ 100 (List._∷_ 101 (List._∷_ 114 List.[])))))))))))))))))) (Syntax.tcons Syntax.tyBool
-      (Syntax.tcons Syntax.tyBool (Syntax.tcons (Syntax.tyInt Syntax.w32) (Syntax.tcons (Syntax.tyInt Syntax.w32) (Syntax.tcons (Syntax.tyInt Syntax.w32) (Syntax.tcons (Syntax.tyInt Syntax.w32)
-      (Syntax.tcons (Syntax.tyInt Syntax.w32) (Syntax.tcons (Syntax.tyInt Syntax.w32) (Syntax.tcons (Syntax.tyInt Syntax.w32) Syntax.tnil)))))))))),
-) (List._∷_ (9, Rows.any-gone (Syntax.tyInt Syntax.w64))
-    (List._∷_ (
-      10,
-      Rows.any-gone (Syntax.tyStruct (List._∷_ 98 (List._∷_ 108 (List._∷_ 111 (List._∷_ 99 (List._∷_ 107 (List._∷_ 58 (List._∷_ 58 (List._∷_ 70 (List._∷_ 111 (List._∷_ 114 (List._∷_ 109
-          List.[]))))))))))) (Syntax.tcons (Syntax.tyInt Syntax.w32) (Syntax.tcons Syntax.tyBool Syntax.tnil))),
-    ) (List._∷_ (11, Rows.any-gone (Syntax.tyInt Syntax.w64)) (List._∷_ (
-      12,
-      Rows.any-gone
-          (Syntax.tyInt Syntax.w64),
-    ) (List._∷_ (13, Rows.any-gone (Syntax.tyInt Syntax.w64)) (List._∷_ (14, Rows.any-gone (Syntax.tyInt Syntax.w64)) (List._∷_ (
-      15,
-      Rows.whole (Declared.row
-          Written.the-type),
-    ) List.[])))))))))))))))
+t46 = List._∷_ e0 (List._∷_ e2 (List._∷_ e22 (List._∷_ e37 (List._∷_ e39 (List._∷_ e42 (List._∷_ e43 (List._∷_ e47 (List._∷_ e49 (List._∷_ e51 (List._∷_ e3 (List._∷_ e5 (List._∷_ e7 (List._∷_ e9
+    (List._∷_ e11 (List._∷_ e14 List.[])))))))))))))))
 
 abbrev pub t47 : List.List Row.Entry
-t47 = List._∷_ (16, Rows.any-gone (Syntax.tyRef Syntax.erased Syntax.mut (Syntax.tyInt Syntax.w8))) (List._∷_ (
-  17,
-  Rows.any-gone (Syntax.tyStruct (List._∷_ 38 (List._∷_ 91 (List._∷_ 93 List.[])))
-      (Syntax.tcons (Syntax.tyRef Syntax.erased Syntax.mut (Syntax.tyInt Syntax.w8)) (Syntax.tcons (Syntax.tyInt Syntax.w64) Syntax.tnil))),
-) (List._∷_ (18, Rows.any-gone Syntax.tyPtr) (List._∷_ (
-  19,
-  Rows.any-gone (Syntax.tyInt Syntax.w64),
-) (List._∷_ (20, Rows.any-gone (Syntax.tyRef Syntax.erased Syntax.mut (Syntax.tyInt Syntax.w16))) (List._∷_ (
-  21,
-  Rows.any-gone (Syntax.tyStruct (List._∷_
-      38 (List._∷_ 91 (List._∷_ 93 List.[]))) (Syntax.tcons (Syntax.tyRef Syntax.erased Syntax.mut (Syntax.tyInt Syntax.w16)) (Syntax.tcons (Syntax.tyInt Syntax.w64) Syntax.tnil))),
-) (List._∷_ (
-  22,
-  Rows.any-gone Syntax.tyPtr,
-) (List._∷_ (23, Rows.any-gone (Syntax.tyInt Syntax.w64)) (List._∷_ (24, Rows.any-gone (Syntax.tyRef Syntax.erased Syntax.mut Element.behind)) (List._∷_ (
-  25,
-  Mut.msleft (Element.type) (Syntax.tyRef Syntax.erased Syntax.mut Element.behind),
-) List.[])))))))))
+t47 = List._∷_ e15 (List._∷_ e17 (List._∷_ e18 (List._∷_ e20 (List._∷_ e24 (List._∷_ e27 (List._∷_ e28 (List._∷_ e30 (List._∷_ e33 (List._∷_ e34 List.[])))))))))
 
 abbrev pub t48 : List.List Row.Entry
-t48 = List._∷_ (0, Rows.whole (Declared.row Written.the-type)) (List._∷_ (
-  1,
-  Rows.sslice (Referent.rtF (Referent.fInt Syntax.w8)) (Syntax.tyRef (Syntax.named 0) Syntax.imm (Syntax.tyInt Syntax.w8))
-      0,
-) (List._∷_ (2, Rows.sslice (Referent.rtF (Referent.fInt Syntax.w16)) (Syntax.tyRef (Syntax.named 1) Syntax.imm (Syntax.tyInt Syntax.w16)) 1) (List._∷_ (
-  3,
-  Mut.mslice (Referent.rtF
-      (Referent.fInt Syntax.w8)) (Syntax.tyRef (Syntax.named 2) Syntax.mut (Syntax.tyInt Syntax.w8)) 2,
-) (List._∷_ (
-  4,
-  Mut.mslice (Referent.rtF (Referent.fInt Syntax.w16)) (Syntax.tyRef (Syntax.named 3)
-      Syntax.mut (Syntax.tyInt Syntax.w16)) 3,
-) (List._∷_ (5, Mut.mslice (Element.type) (Syntax.tyRef (Syntax.named 4) Syntax.mut Element.behind) 4) (List._∷_ (
-  6,
-  Rows.any-gone (Syntax.tyEnum (List._∷_
-      115 (List._∷_ 116 (List._∷_ 114 (List._∷_ 101 (List._∷_ 97 (List._∷_ 109 (List._∷_ 58 (List._∷_ 58 (List._∷_ 80 (List._∷_ 97 (List._∷_ 114 (List._∷_ 115 (List._∷_ 101 (List._∷_ 100
-      List.[])))))))))))))) (Syntax.ttcons (Syntax.tcons (Syntax.tyStruct (List._∷_ 115 (List._∷_ 116 (List._∷_ 114 (List._∷_ 101 (List._∷_ 97 (List._∷_ 109 (List._∷_ 58 (List._∷_ 58 (List._∷_ 70 (List._∷_
-      117 (List._∷_ 106 (List._∷_ 105 (List._∷_ 72 (List._∷_ 101 (List._∷_ 97 (List._∷_ 100 (List._∷_ 101 (List._∷_ 114 List.[])))))))))))))))))) (Syntax.tcons Syntax.tyBool (Syntax.tcons Syntax.tyBool
-      (Syntax.tcons (Syntax.tyInt Syntax.w32) (Syntax.tcons (Syntax.tyInt Syntax.w32) (Syntax.tcons (Syntax.tyInt Syntax.w32) (Syntax.tcons (Syntax.tyInt Syntax.w32) (Syntax.tcons (Syntax.tyInt Syntax.w32)
-      (Syntax.tcons (Syntax.tyInt Syntax.w32) (Syntax.tcons (Syntax.tyInt Syntax.w32) Syntax.tnil)))))))))) Syntax.tnil) (Syntax.ttcons (Syntax.tcons (Syntax.tyEnum (List._∷_ 115 (List._∷_ 116 (List._∷_ 114
-      (List._∷_ 101 (List._∷_ 97 (List._∷_ 109 (List._∷_ 58 (List._∷_ 58 (List._∷_ 82 (List._∷_ 101 (List._∷_ 102 (List._∷_ 117 (List._∷_ 115 (List._∷_ 97 (List._∷_ 108 List.[]))))))))))))))) (Syntax.ttcons
-      Syntax.tnil (Syntax.ttcons Syntax.tnil (Syntax.ttcons Syntax.tnil (Syntax.ttcons (Syntax.tcons (Syntax.tyInt Syntax.w64) Syntax.tnil) (Syntax.ttcons Syntax.tnil (Syntax.ttcons Syntax.tnil
-      (Syntax.ttcons Syntax.tnil (Syntax.ttcons Syntax.tnil (Syntax.ttcons Syntax.tnil (Syntax.ttcons Syntax.tnil (Syntax.ttcons (Syntax.tcons (Syntax.tyInt Syntax.w64) Syntax.tnil) (Syntax.ttcons
-      (Syntax.tcons (Syntax.tyInt Syntax.w64) Syntax.tnil) (Syntax.ttcons Syntax.tnil (Syntax.ttcons (Syntax.tcons (Syntax.tyInt Syntax.w64) (Syntax.tcons (Syntax.tyInt Syntax.w64) Syntax.tnil))
-      (Syntax.ttcons (Syntax.tcons (Syntax.tyInt Syntax.w64) Syntax.tnil) Syntax.ttnil)))))))))))))))) Syntax.tnil) Syntax.ttnil))),
-) (List._∷_ (
-  7,
-  Rows.any-gone (Syntax.tyEnum (List._∷_ 115 (List._∷_ 116
-      (List._∷_ 114 (List._∷_ 101 (List._∷_ 97 (List._∷_ 109 (List._∷_ 58 (List._∷_ 58 (List._∷_ 82 (List._∷_ 101 (List._∷_ 102 (List._∷_ 117 (List._∷_ 115 (List._∷_ 97 (List._∷_ 108 List.[])))))))))))))))
-      (Syntax.ttcons Syntax.tnil (Syntax.ttcons Syntax.tnil (Syntax.ttcons Syntax.tnil (Syntax.ttcons (Syntax.tcons (Syntax.tyInt Syntax.w64) Syntax.tnil) (Syntax.ttcons Syntax.tnil (Syntax.ttcons
-      Syntax.tnil (Syntax.ttcons Syntax.tnil (Syntax.ttcons Syntax.tnil (Syntax.ttcons Syntax.tnil (Syntax.ttcons Syntax.tnil (Syntax.ttcons (Syntax.tcons (Syntax.tyInt Syntax.w64) Syntax.tnil)
-      (Syntax.ttcons (Syntax.tcons (Syntax.tyInt Syntax.w64) Syntax.tnil) (Syntax.ttcons Syntax.tnil (Syntax.ttcons (Syntax.tcons (Syntax.tyInt Syntax.w64) (Syntax.tcons (Syntax.tyInt Syntax.w64)
-      Syntax.tnil)) (Syntax.ttcons (Syntax.tcons (Syntax.tyInt Syntax.w64) Syntax.tnil) Syntax.ttnil)))))))))))))))),
-) (List._∷_ (
-  8,
-  Rows.any-gone (Syntax.tyStruct (List._∷_ 115 (List._∷_ 116 (List._∷_
-      114 (List._∷_ 101 (List._∷_ 97 (List._∷_ 109 (List._∷_ 58 (List._∷_ 58 (List._∷_ 70 (List._∷_ 117 (List._∷_ 106 (List._∷_ 105 (List._∷_ 72 (List._∷_ 101 (List._∷_ 97 (List._∷_ 100 (List._∷_ 101
-      (List._∷_ 114 List.[])))))))))))))))))) (Syntax.tcons Syntax.tyBool (Syntax.tcons Syntax.tyBool (Syntax.tcons (Syntax.tyInt Syntax.w32) (Syntax.tcons (Syntax.tyInt Syntax.w32) (Syntax.tcons
-      (Syntax.tyInt Syntax.w32) (Syntax.tcons (Syntax.tyInt Syntax.w32) (Syntax.tcons (Syntax.tyInt Syntax.w32) (Syntax.tcons (Syntax.tyInt Syntax.w32) (Syntax.tcons (Syntax.tyInt Syntax.w32)
-      Syntax.tnil)))))))))),
-) (List._∷_ (9, Rows.any-gone (Syntax.tyInt Syntax.w64)) (List._∷_ (
-  10,
-  Rows.any-gone (Syntax.tyStruct (List._∷_ 98 (List._∷_ 108 (List._∷_ 111 (List._∷_ 99 (List._∷_ 107
-      (List._∷_ 58 (List._∷_ 58 (List._∷_ 70 (List._∷_ 111 (List._∷_ 114 (List._∷_ 109 List.[]))))))))))) (Syntax.tcons (Syntax.tyInt Syntax.w32) (Syntax.tcons Syntax.tyBool Syntax.tnil))),
-) (List._∷_ (
-  11,
-  Rows.any-gone (Syntax.tyInt Syntax.w64),
-) (List._∷_ (12, Rows.any-gone (Syntax.tyInt Syntax.w64)) (List._∷_ (13, Rows.any-gone (Syntax.tyInt Syntax.w64)) (List._∷_ (
-  14,
-  Rows.any-gone (Syntax.tyInt
-      Syntax.w64),
-) (List._∷_ (15, Rows.whole (Declared.row Written.the-type)) List.[])))))))))))))))
+t48 = List._∷_ e1 (List._∷_ e2 (List._∷_ e22 (List._∷_ e37 (List._∷_ e39 (List._∷_ e41 (List._∷_ e43 (List._∷_ e47 (List._∷_ e49 (List._∷_ e51 (List._∷_ e3 (List._∷_ e5 (List._∷_ e7 (List._∷_ e9
+    (List._∷_ e11 (List._∷_ e14 List.[])))))))))))))))
 
 abbrev pub T0 : Row.Cx
 T0 = record { locals = List._++_ t0 t1; slots = List.[] }
@@ -2915,27 +990,15 @@ module _ (claims· : Claims) where
   s6 = Scalar.n-use T7 (Scalar.oFld 5 (List._∷_ (Syntax.field 1) List.[]) (Syntax.tyInt Syntax.w64) 8 Shared.lenV) 14 (Rows.sc-here (Row.sInt Syntax.w64)) (Row.sInt Syntax.w64 .of)
 
   abbrev s7 : Typed.Both T8 T9
-  s7 = Call.callB ps·0 r·0 (claims· .0) (claims· .1) T8 (
-    record { pos = 1; ty = Syntax.tyRef (Syntax.named 0) Syntax.imm (Syntax.tyInt Syntax.w8); ref = λ x. x },
-    (
-      Num.vAt 12 λ x. x,
-      (
-        Num.vAt 13 λ
-            x. x,
-        (Num.vAt 14 λ x. x, tt),
-      ),
-    ),
-  ) 6 (List._∷_ 0 List.[]) (Syntax.tyEnum (List._∷_ 115 (List._∷_ 116 (List._∷_ 114 (List._∷_ 101 (List._∷_ 97 (List._∷_ 109 (List._∷_ 58 (List._∷_ 58 (List._∷_ 80
-      (List._∷_ 97 (List._∷_ 114 (List._∷_ 115 (List._∷_ 101 (List._∷_ 100 List.[])))))))))))))) (Syntax.ttcons (Syntax.tcons (Syntax.tyStruct (List._∷_ 115 (List._∷_ 116 (List._∷_ 114 (List._∷_ 101
-      (List._∷_ 97 (List._∷_ 109 (List._∷_ 58 (List._∷_ 58 (List._∷_ 70 (List._∷_ 117 (List._∷_ 106 (List._∷_ 105 (List._∷_ 72 (List._∷_ 101 (List._∷_ 97 (List._∷_ 100 (List._∷_ 101 (List._∷_ 114
-      List.[])))))))))))))))))) (Syntax.tcons Syntax.tyBool (Syntax.tcons Syntax.tyBool (Syntax.tcons (Syntax.tyInt Syntax.w32) (Syntax.tcons (Syntax.tyInt Syntax.w32) (Syntax.tcons (Syntax.tyInt
-      Syntax.w32) (Syntax.tcons (Syntax.tyInt Syntax.w32) (Syntax.tcons (Syntax.tyInt Syntax.w32) (Syntax.tcons (Syntax.tyInt Syntax.w32) (Syntax.tcons (Syntax.tyInt Syntax.w32) Syntax.tnil))))))))))
-      Syntax.tnil) (Syntax.ttcons (Syntax.tcons (Syntax.tyEnum (List._∷_ 115 (List._∷_ 116 (List._∷_ 114 (List._∷_ 101 (List._∷_ 97 (List._∷_ 109 (List._∷_ 58 (List._∷_ 58 (List._∷_ 82 (List._∷_ 101
-      (List._∷_ 102 (List._∷_ 117 (List._∷_ 115 (List._∷_ 97 (List._∷_ 108 List.[]))))))))))))))) (Syntax.ttcons Syntax.tnil (Syntax.ttcons Syntax.tnil (Syntax.ttcons Syntax.tnil (Syntax.ttcons
-      (Syntax.tcons (Syntax.tyInt Syntax.w64) Syntax.tnil) (Syntax.ttcons Syntax.tnil (Syntax.ttcons Syntax.tnil (Syntax.ttcons Syntax.tnil (Syntax.ttcons Syntax.tnil (Syntax.ttcons Syntax.tnil
-      (Syntax.ttcons Syntax.tnil (Syntax.ttcons (Syntax.tcons (Syntax.tyInt Syntax.w64) Syntax.tnil) (Syntax.ttcons (Syntax.tcons (Syntax.tyInt Syntax.w64) Syntax.tnil) (Syntax.ttcons Syntax.tnil
-      (Syntax.ttcons (Syntax.tcons (Syntax.tyInt Syntax.w64) (Syntax.tcons (Syntax.tyInt Syntax.w64) Syntax.tnil)) (Syntax.ttcons (Syntax.tcons (Syntax.tyInt Syntax.w64) Syntax.tnil)
-      Syntax.ttnil)))))))))))))))) Syntax.tnil) Syntax.ttnil)))
+  s7 = Call.callB ps·0 r·0 (claims· .0) (claims· .1) T8
+      (record { pos = 1; ty = Syntax.tyRef (Syntax.named 0) Syntax.imm (Syntax.tyInt Syntax.w8); ref = λ x. x }, (Num.vAt 12 λ x. x, (Num.vAt 13 λ x. x, (Num.vAt 14 λ x. x, tt)))) 6 (List._∷_ 0 List.[])
+      (Syntax.tyEnum (List._∷_ 115 (List._∷_ 116 (List._∷_ 114 (List._∷_ 101 (List._∷_ 97 (List._∷_ 109 (List._∷_ 58 (List._∷_ 58 (List._∷_ 80 (List._∷_ 97 (List._∷_ 114 (List._∷_ 115 (List._∷_ 101
+      (List._∷_ 100 List.[])))))))))))))) (Syntax.ttcons (Syntax.tcons y0 Syntax.tnil) (Syntax.ttcons (Syntax.tcons (Syntax.tyEnum (List._∷_ 115 (List._∷_ 116 (List._∷_ 114 (List._∷_ 101 (List._∷_ 97
+      (List._∷_ 109 (List._∷_ 58 (List._∷_ 58 (List._∷_ 82 (List._∷_ 101 (List._∷_ 102 (List._∷_ 117 (List._∷_ 115 (List._∷_ 97 (List._∷_ 108 List.[]))))))))))))))) (Syntax.ttcons Syntax.tnil
+      (Syntax.ttcons Syntax.tnil (Syntax.ttcons Syntax.tnil (Syntax.ttcons (Syntax.tcons (Syntax.tyInt Syntax.w64) Syntax.tnil) (Syntax.ttcons Syntax.tnil (Syntax.ttcons Syntax.tnil (Syntax.ttcons
+      Syntax.tnil (Syntax.ttcons Syntax.tnil (Syntax.ttcons Syntax.tnil (Syntax.ttcons Syntax.tnil (Syntax.ttcons (Syntax.tcons (Syntax.tyInt Syntax.w64) Syntax.tnil) (Syntax.ttcons (Syntax.tcons
+      (Syntax.tyInt Syntax.w64) Syntax.tnil) (Syntax.ttcons Syntax.tnil (Syntax.ttcons (Syntax.tcons (Syntax.tyInt Syntax.w64) (Syntax.tcons (Syntax.tyInt Syntax.w64) Syntax.tnil)) (Syntax.ttcons
+      (Syntax.tcons (Syntax.tyInt Syntax.w64) Syntax.tnil) Syntax.ttnil)))))))))))))))) Syntax.tnil) Syntax.ttnil)))
 
   abbrev s8 : Typed.Mo T9 → Typed.Mo T11
   s8 = Scalar.n-room T9 12 (Syntax.tyInt Syntax.w64)
@@ -2957,16 +1020,12 @@ module _ (claims· : Claims) where
 
   abbrev s14 : Typed.Mo T16 → Typed.Mo T17
   s14 = Scalar.n-room T16 6 (Syntax.tyEnum (List._∷_ 115 (List._∷_ 116 (List._∷_ 114 (List._∷_ 101 (List._∷_ 97 (List._∷_ 109 (List._∷_ 58 (List._∷_ 58 (List._∷_ 80 (List._∷_ 97 (List._∷_ 114
-      (List._∷_ 115 (List._∷_ 101 (List._∷_ 100 List.[])))))))))))))) (Syntax.ttcons (Syntax.tcons (Syntax.tyStruct (List._∷_ 115 (List._∷_ 116 (List._∷_ 114 (List._∷_ 101 (List._∷_ 97 (List._∷_ 109
-      (List._∷_ 58 (List._∷_ 58 (List._∷_ 70 (List._∷_ 117 (List._∷_ 106 (List._∷_ 105 (List._∷_ 72 (List._∷_ 101 (List._∷_ 97 (List._∷_ 100 (List._∷_ 101 (List._∷_ 114 List.[]))))))))))))))))))
-      (Syntax.tcons Syntax.tyBool (Syntax.tcons Syntax.tyBool (Syntax.tcons (Syntax.tyInt Syntax.w32) (Syntax.tcons (Syntax.tyInt Syntax.w32) (Syntax.tcons (Syntax.tyInt Syntax.w32) (Syntax.tcons
-      (Syntax.tyInt Syntax.w32) (Syntax.tcons (Syntax.tyInt Syntax.w32) (Syntax.tcons (Syntax.tyInt Syntax.w32) (Syntax.tcons (Syntax.tyInt Syntax.w32) Syntax.tnil)))))))))) Syntax.tnil) (Syntax.ttcons
-      (Syntax.tcons (Syntax.tyEnum (List._∷_ 115 (List._∷_ 116 (List._∷_ 114 (List._∷_ 101 (List._∷_ 97 (List._∷_ 109 (List._∷_ 58 (List._∷_ 58 (List._∷_ 82 (List._∷_ 101 (List._∷_ 102 (List._∷_ 117
-      (List._∷_ 115 (List._∷_ 97 (List._∷_ 108 List.[]))))))))))))))) (Syntax.ttcons Syntax.tnil (Syntax.ttcons Syntax.tnil (Syntax.ttcons Syntax.tnil (Syntax.ttcons (Syntax.tcons (Syntax.tyInt
-      Syntax.w64) Syntax.tnil) (Syntax.ttcons Syntax.tnil (Syntax.ttcons Syntax.tnil (Syntax.ttcons Syntax.tnil (Syntax.ttcons Syntax.tnil (Syntax.ttcons Syntax.tnil (Syntax.ttcons Syntax.tnil
-      (Syntax.ttcons (Syntax.tcons (Syntax.tyInt Syntax.w64) Syntax.tnil) (Syntax.ttcons (Syntax.tcons (Syntax.tyInt Syntax.w64) Syntax.tnil) (Syntax.ttcons Syntax.tnil (Syntax.ttcons (Syntax.tcons
-      (Syntax.tyInt Syntax.w64) (Syntax.tcons (Syntax.tyInt Syntax.w64) Syntax.tnil)) (Syntax.ttcons (Syntax.tcons (Syntax.tyInt Syntax.w64) Syntax.tnil) Syntax.ttnil)))))))))))))))) Syntax.tnil)
-      Syntax.ttnil)))
+      (List._∷_ 115 (List._∷_ 101 (List._∷_ 100 List.[])))))))))))))) (Syntax.ttcons (Syntax.tcons y0 Syntax.tnil) (Syntax.ttcons (Syntax.tcons (Syntax.tyEnum (List._∷_ 115 (List._∷_ 116 (List._∷_ 114
+      (List._∷_ 101 (List._∷_ 97 (List._∷_ 109 (List._∷_ 58 (List._∷_ 58 (List._∷_ 82 (List._∷_ 101 (List._∷_ 102 (List._∷_ 117 (List._∷_ 115 (List._∷_ 97 (List._∷_ 108 List.[])))))))))))))))
+      (Syntax.ttcons Syntax.tnil (Syntax.ttcons Syntax.tnil (Syntax.ttcons Syntax.tnil (Syntax.ttcons (Syntax.tcons (Syntax.tyInt Syntax.w64) Syntax.tnil) (Syntax.ttcons Syntax.tnil (Syntax.ttcons
+      Syntax.tnil (Syntax.ttcons Syntax.tnil (Syntax.ttcons Syntax.tnil (Syntax.ttcons Syntax.tnil (Syntax.ttcons Syntax.tnil (Syntax.ttcons (Syntax.tcons (Syntax.tyInt Syntax.w64) Syntax.tnil)
+      (Syntax.ttcons (Syntax.tcons (Syntax.tyInt Syntax.w64) Syntax.tnil) (Syntax.ttcons Syntax.tnil (Syntax.ttcons (Syntax.tcons (Syntax.tyInt Syntax.w64) (Syntax.tcons (Syntax.tyInt Syntax.w64)
+      Syntax.tnil)) (Syntax.ttcons (Syntax.tcons (Syntax.tyInt Syntax.w64) Syntax.tnil) Syntax.ttnil)))))))))))))))) Syntax.tnil) Syntax.ttnil)))
 
   abbrev s15 : Typed.Mo T17 → Typed.Mo T18
   s15 = Make.n-enum-make Written.the-type T17 15 λ m. Written.enum .make (Logic.inr (Logic.inl (m .1 .1 .1 .1 .1 .1 .1 .0, tt)))
@@ -2989,33 +1048,24 @@ module _ (claims· : Claims) where
 
   abbrev s20 : Typed.Mo T22 → Typed.Mo T23
   s20 = Scalar.n-room T22 6 (Syntax.tyEnum (List._∷_ 115 (List._∷_ 116 (List._∷_ 114 (List._∷_ 101 (List._∷_ 97 (List._∷_ 109 (List._∷_ 58 (List._∷_ 58 (List._∷_ 80 (List._∷_ 97 (List._∷_ 114
-      (List._∷_ 115 (List._∷_ 101 (List._∷_ 100 List.[])))))))))))))) (Syntax.ttcons (Syntax.tcons (Syntax.tyStruct (List._∷_ 115 (List._∷_ 116 (List._∷_ 114 (List._∷_ 101 (List._∷_ 97 (List._∷_ 109
-      (List._∷_ 58 (List._∷_ 58 (List._∷_ 70 (List._∷_ 117 (List._∷_ 106 (List._∷_ 105 (List._∷_ 72 (List._∷_ 101 (List._∷_ 97 (List._∷_ 100 (List._∷_ 101 (List._∷_ 114 List.[]))))))))))))))))))
-      (Syntax.tcons Syntax.tyBool (Syntax.tcons Syntax.tyBool (Syntax.tcons (Syntax.tyInt Syntax.w32) (Syntax.tcons (Syntax.tyInt Syntax.w32) (Syntax.tcons (Syntax.tyInt Syntax.w32) (Syntax.tcons
-      (Syntax.tyInt Syntax.w32) (Syntax.tcons (Syntax.tyInt Syntax.w32) (Syntax.tcons (Syntax.tyInt Syntax.w32) (Syntax.tcons (Syntax.tyInt Syntax.w32) Syntax.tnil)))))))))) Syntax.tnil) (Syntax.ttcons
-      (Syntax.tcons (Syntax.tyEnum (List._∷_ 115 (List._∷_ 116 (List._∷_ 114 (List._∷_ 101 (List._∷_ 97 (List._∷_ 109 (List._∷_ 58 (List._∷_ 58 (List._∷_ 82 (List._∷_ 101 (List._∷_ 102 (List._∷_ 117
-      (List._∷_ 115 (List._∷_ 97 (List._∷_ 108 List.[]))))))))))))))) (Syntax.ttcons Syntax.tnil (Syntax.ttcons Syntax.tnil (Syntax.ttcons Syntax.tnil (Syntax.ttcons (Syntax.tcons (Syntax.tyInt
-      Syntax.w64) Syntax.tnil) (Syntax.ttcons Syntax.tnil (Syntax.ttcons Syntax.tnil (Syntax.ttcons Syntax.tnil (Syntax.ttcons Syntax.tnil (Syntax.ttcons Syntax.tnil (Syntax.ttcons Syntax.tnil
-      (Syntax.ttcons (Syntax.tcons (Syntax.tyInt Syntax.w64) Syntax.tnil) (Syntax.ttcons (Syntax.tcons (Syntax.tyInt Syntax.w64) Syntax.tnil) (Syntax.ttcons Syntax.tnil (Syntax.ttcons (Syntax.tcons
-      (Syntax.tyInt Syntax.w64) (Syntax.tcons (Syntax.tyInt Syntax.w64) Syntax.tnil)) (Syntax.ttcons (Syntax.tcons (Syntax.tyInt Syntax.w64) Syntax.tnil) Syntax.ttnil)))))))))))))))) Syntax.tnil)
-      Syntax.ttnil)))
+      (List._∷_ 115 (List._∷_ 101 (List._∷_ 100 List.[])))))))))))))) (Syntax.ttcons (Syntax.tcons y0 Syntax.tnil) (Syntax.ttcons (Syntax.tcons (Syntax.tyEnum (List._∷_ 115 (List._∷_ 116 (List._∷_ 114
+      (List._∷_ 101 (List._∷_ 97 (List._∷_ 109 (List._∷_ 58 (List._∷_ 58 (List._∷_ 82 (List._∷_ 101 (List._∷_ 102 (List._∷_ 117 (List._∷_ 115 (List._∷_ 97 (List._∷_ 108 List.[])))))))))))))))
+      (Syntax.ttcons Syntax.tnil (Syntax.ttcons Syntax.tnil (Syntax.ttcons Syntax.tnil (Syntax.ttcons (Syntax.tcons (Syntax.tyInt Syntax.w64) Syntax.tnil) (Syntax.ttcons Syntax.tnil (Syntax.ttcons
+      Syntax.tnil (Syntax.ttcons Syntax.tnil (Syntax.ttcons Syntax.tnil (Syntax.ttcons Syntax.tnil (Syntax.ttcons Syntax.tnil (Syntax.ttcons (Syntax.tcons (Syntax.tyInt Syntax.w64) Syntax.tnil)
+      (Syntax.ttcons (Syntax.tcons (Syntax.tyInt Syntax.w64) Syntax.tnil) (Syntax.ttcons Syntax.tnil (Syntax.ttcons (Syntax.tcons (Syntax.tyInt Syntax.w64) (Syntax.tcons (Syntax.tyInt Syntax.w64)
+      Syntax.tnil)) (Syntax.ttcons (Syntax.tcons (Syntax.tyInt Syntax.w64) Syntax.tnil) Syntax.ttnil)))))))))))))))) Syntax.tnil) Syntax.ttnil)))
 
   abbrev s21 : Typed.Both T23 T24
   s21 = Call.callB ps·1 r·1 (claims· .2) (claims· .3) T23 (Bool.bFld 8 (List._∷_ (Syntax.field 1) List.[]) 1 λ x. FujiHeader.struct .as-values x .1 .0, tt) 9 List.[] (Syntax.tyInt Syntax.w64)
 
   abbrev s22 : Typed.Both T24 T25
-  s22 = Call.callB ps·2 r·2 (claims· .4) (claims· .5) T24 (record { pos = 8; st = List.[]; d = 0; at = λ x. x }, tt) 10 List.[] (Syntax.tyStruct (List._∷_ 98 (List._∷_ 108 (List._∷_ 111 (List._∷_
-      99 (List._∷_ 107 (List._∷_ 58 (List._∷_ 58 (List._∷_ 70 (List._∷_ 111 (List._∷_ 114 (List._∷_ 109 List.[]))))))))))) (Syntax.tcons (Syntax.tyInt Syntax.w32) (Syntax.tcons Syntax.tyBool
-      Syntax.tnil)))
+  s22 = Call.callB ps·2 r·2 (claims· .4) (claims· .5) T24 (record { pos = 8; st = List.[]; d = 0; at = λ x. x }, tt) 10 List.[] y4
 
   abbrev s23 : Typed.Both T25 T26
   s23 = Call.callB ps·3 r·3 (claims· .6) (claims· .7) T25 (record { pos = 8; st = List.[]; d = 0; at = λ x. x }, tt) 11 List.[] (Syntax.tyInt Syntax.w64)
 
   abbrev s24 : Typed.Mo T26 → Typed.Mo T27
-  s24 = Scalar.n-room T26 8 (Syntax.tyStruct (List._∷_ 115 (List._∷_ 116 (List._∷_ 114 (List._∷_ 101 (List._∷_ 97 (List._∷_ 109 (List._∷_ 58 (List._∷_ 58 (List._∷_ 70 (List._∷_ 117 (List._∷_ 106
-      (List._∷_ 105 (List._∷_ 72 (List._∷_ 101 (List._∷_ 97 (List._∷_ 100 (List._∷_ 101 (List._∷_ 114 List.[])))))))))))))))))) (Syntax.tcons Syntax.tyBool (Syntax.tcons Syntax.tyBool (Syntax.tcons
-      (Syntax.tyInt Syntax.w32) (Syntax.tcons (Syntax.tyInt Syntax.w32) (Syntax.tcons (Syntax.tyInt Syntax.w32) (Syntax.tcons (Syntax.tyInt Syntax.w32) (Syntax.tcons (Syntax.tyInt Syntax.w32)
-      (Syntax.tcons (Syntax.tyInt Syntax.w32) (Syntax.tcons (Syntax.tyInt Syntax.w32) Syntax.tnil))))))))))
+  s24 = Scalar.n-room T26 8 y0
 
   abbrev s26 : Typed.Gives T27 T29
   s26 = Relend.k-sl-relend (Referent.rtF (Referent.fInt Syntax.w8)) T27 3 16 2 5 (Syntax.tyRef (Syntax.named 2) Syntax.mut (Syntax.tyInt Syntax.w8)) (Syntax.tyRef Syntax.erased Syntax.mut
@@ -3072,19 +1122,10 @@ module _ (claims· : Claims) where
   s42 = Call.callB ps·4 r·4 (claims· .8) (claims· .9) T44 (
     record { pos = 2; ty = Syntax.tyRef (Syntax.named 1) Syntax.imm (Syntax.tyInt Syntax.w16); ref = λ x. x },
     (
-      record {
-        pos = 17;
-        ty =
-            Syntax.tyRef Syntax.erased Syntax.mut (Syntax.tyInt Syntax.w8);
-        ref = λ x. x;
-      },
+      record { pos = 17; ty = Syntax.tyRef Syntax.erased Syntax.mut (Syntax.tyInt Syntax.w8); ref = λ x. x },
       (
         record { pos = 21; ty = Syntax.tyRef Syntax.erased Syntax.mut (Syntax.tyInt Syntax.w16); ref = λ x. x },
-        (
-          record
-              { pos = 25; ty = Syntax.tyRef Syntax.erased Syntax.mut Element.behind; ref = λ x. x },
-          (record { pos = 10; st = List.[]; d = 0; at = λ x. x }, (Num.vAt 11 λ x. x, tt)),
-        ),
+        (record { pos = 25; ty = Syntax.tyRef Syntax.erased Syntax.mut Element.behind; ref = λ x. x }, (record { pos = 10; st = List.[]; d = 0; at = λ x. x }, (Num.vAt 11 λ x. x, tt))),
       ),
     ),
   ) 15 (List._∷_ 1
@@ -3100,8 +1141,7 @@ module _ (claims· : Claims) where
   s43 = Scalar.n-room T45 9 (Syntax.tyInt Syntax.w64)
 
   abbrev s44 : Typed.Mo T46 → Typed.Mo T47
-  s44 = Scalar.n-room T46 10 (Syntax.tyStruct (List._∷_ 98 (List._∷_ 108 (List._∷_ 111 (List._∷_ 99 (List._∷_ 107 (List._∷_ 58 (List._∷_ 58 (List._∷_ 70 (List._∷_ 111 (List._∷_ 114 (List._∷_ 109
-      List.[]))))))))))) (Syntax.tcons (Syntax.tyInt Syntax.w32) (Syntax.tcons Syntax.tyBool Syntax.tnil)))
+  s44 = Scalar.n-room T46 10 y4
 
   abbrev s45 : Typed.Mo T47 → Typed.Mo T48
   s45 = Scalar.n-room T47 11 (Syntax.tyInt Syntax.w64)
@@ -3297,1035 +1337,494 @@ module _ (claims· : Claims) where
 
       module _ (κs : Lifetimes.Lfts 5) (qs : Lifetimes.Shares 5) where
         abbrev g22 : List.List Row.Entry
-        g22 = List._∷_ (
-          0,
-          Rows.any-gone (Syntax.tyEnum (List._∷_ 98 (List._∷_ 108 (List._∷_ 111 (List._∷_ 99 (List._∷_ 107 (List._∷_ 58 (List._∷_ 58 (List._∷_ 87 (List._∷_ 114 (List._∷_ 105
-              (List._∷_ 116 (List._∷_ 116 (List._∷_ 101 (List._∷_ 110 List.[])))))))))))))) (Syntax.ttcons (Syntax.tcons (Syntax.tyInt Syntax.w64) Syntax.tnil) (Syntax.ttcons (Syntax.tcons (Syntax.tyEnum
-              (List._∷_ 115 (List._∷_ 116 (List._∷_ 114 (List._∷_ 101 (List._∷_ 97 (List._∷_ 109 (List._∷_ 58 (List._∷_ 58 (List._∷_ 82 (List._∷_ 101 (List._∷_ 102 (List._∷_ 117 (List._∷_ 115 (List._∷_ 97
-              (List._∷_ 108 List.[]))))))))))))))) (Syntax.ttcons Syntax.tnil (Syntax.ttcons Syntax.tnil (Syntax.ttcons Syntax.tnil (Syntax.ttcons (Syntax.tcons (Syntax.tyInt Syntax.w64) Syntax.tnil)
-              (Syntax.ttcons Syntax.tnil (Syntax.ttcons Syntax.tnil (Syntax.ttcons Syntax.tnil (Syntax.ttcons Syntax.tnil (Syntax.ttcons Syntax.tnil (Syntax.ttcons Syntax.tnil (Syntax.ttcons (Syntax.tcons
-              (Syntax.tyInt Syntax.w64) Syntax.tnil) (Syntax.ttcons (Syntax.tcons (Syntax.tyInt Syntax.w64) Syntax.tnil) (Syntax.ttcons Syntax.tnil (Syntax.ttcons (Syntax.tcons (Syntax.tyInt Syntax.w64)
-              (Syntax.tcons (Syntax.tyInt Syntax.w64) Syntax.tnil)) (Syntax.ttcons (Syntax.tcons (Syntax.tyInt Syntax.w64) Syntax.tnil) Syntax.ttnil)))))))))))))))) Syntax.tnil) Syntax.ttnil))),
-        ) (List._∷_
-            (1, Rows.sslice (Referent.rtF (Referent.fInt Syntax.w8)) (Syntax.tyRef (Syntax.named 0) Syntax.imm (Syntax.tyInt Syntax.w8)) 0) (List._∷_ (
-              2,
-              Rows.sslice (Referent.rtF (Referent.fInt
-                  Syntax.w16)) (Syntax.tyRef (Syntax.named 1) Syntax.imm (Syntax.tyInt Syntax.w16)) 1,
-            ) (List._∷_ (
-              3,
-              Relend.mslice-owed (Referent.rtF (Referent.fInt Syntax.w8)) (Syntax.tyRef (Syntax.named 2)
-                  Syntax.mut (Syntax.tyInt Syntax.w8)) 2 5 (Row.lease (κs .1 .1 .0) (qs .1 .1 .0)),
-            ) (List._∷_ (
-              4,
-              Mut.mslice (Referent.rtF (Referent.fInt Syntax.w16)) (Syntax.tyRef (Syntax.named 3)
-                  Syntax.mut (Syntax.tyInt Syntax.w16)) 3,
-            ) (List._∷_ (5, Mut.mslice (Element.type) (Syntax.tyRef (Syntax.named 4) Syntax.mut Element.behind) 4) (List._∷_ (
-              6,
-              Rows.any-gone (Syntax.tyEnum
-                  (List._∷_ 115 (List._∷_ 116 (List._∷_ 114 (List._∷_ 101 (List._∷_ 97 (List._∷_ 109 (List._∷_ 58 (List._∷_ 58 (List._∷_ 80 (List._∷_ 97 (List._∷_ 114 (List._∷_ 115 (List._∷_ 101 (List._∷_ 100
-                  List.[])))))))))))))) (Syntax.ttcons (Syntax.tcons (Syntax.tyStruct (List._∷_ 115 (List._∷_ 116 (List._∷_ 114 (List._∷_ 101 (List._∷_ 97 (List._∷_ 109 (List._∷_ 58 (List._∷_ 58 (List._∷_ 70
-                  (List._∷_ 117 (List._∷_ 106 (List._∷_ 105 (List._∷_ 72 (List._∷_ 101 (List._∷_ 97 (List._∷_ 100 (List._∷_ 101 (List._∷_ 114 List.[])))))))))))))))))) (Syntax.tcons Syntax.tyBool (Syntax.tcons
-                  Syntax.tyBool (Syntax.tcons (Syntax.tyInt Syntax.w32) (Syntax.tcons (Syntax.tyInt Syntax.w32) (Syntax.tcons (Syntax.tyInt Syntax.w32) (Syntax.tcons (Syntax.tyInt Syntax.w32) (Syntax.tcons
-                  (Syntax.tyInt Syntax.w32) (Syntax.tcons (Syntax.tyInt Syntax.w32) (Syntax.tcons (Syntax.tyInt Syntax.w32) Syntax.tnil)))))))))) Syntax.tnil) (Syntax.ttcons (Syntax.tcons (Syntax.tyEnum
-                  (List._∷_ 115 (List._∷_ 116 (List._∷_ 114 (List._∷_ 101 (List._∷_ 97 (List._∷_ 109 (List._∷_ 58 (List._∷_ 58 (List._∷_ 82 (List._∷_ 101 (List._∷_ 102 (List._∷_ 117 (List._∷_ 115 (List._∷_ 97
-                  (List._∷_ 108 List.[]))))))))))))))) (Syntax.ttcons Syntax.tnil (Syntax.ttcons Syntax.tnil (Syntax.ttcons Syntax.tnil (Syntax.ttcons (Syntax.tcons (Syntax.tyInt Syntax.w64) Syntax.tnil)
-                  (Syntax.ttcons Syntax.tnil (Syntax.ttcons Syntax.tnil (Syntax.ttcons Syntax.tnil (Syntax.ttcons Syntax.tnil (Syntax.ttcons Syntax.tnil (Syntax.ttcons Syntax.tnil (Syntax.ttcons (Syntax.tcons
-                  (Syntax.tyInt Syntax.w64) Syntax.tnil) (Syntax.ttcons (Syntax.tcons (Syntax.tyInt Syntax.w64) Syntax.tnil) (Syntax.ttcons Syntax.tnil (Syntax.ttcons (Syntax.tcons (Syntax.tyInt Syntax.w64)
-                  (Syntax.tcons (Syntax.tyInt Syntax.w64) Syntax.tnil)) (Syntax.ttcons (Syntax.tcons (Syntax.tyInt Syntax.w64) Syntax.tnil) Syntax.ttnil)))))))))))))))) Syntax.tnil) Syntax.ttnil))),
-            ) (List._∷_ (
-              7,
-              Rows.any-gone (Syntax.tyEnum (List._∷_ 115 (List._∷_ 116 (List._∷_ 114 (List._∷_ 101 (List._∷_ 97 (List._∷_ 109 (List._∷_ 58 (List._∷_ 58 (List._∷_ 82 (List._∷_ 101 (List._∷_ 102
-                  (List._∷_ 117 (List._∷_ 115 (List._∷_ 97 (List._∷_ 108 List.[]))))))))))))))) (Syntax.ttcons Syntax.tnil (Syntax.ttcons Syntax.tnil (Syntax.ttcons Syntax.tnil (Syntax.ttcons (Syntax.tcons
-                  (Syntax.tyInt Syntax.w64) Syntax.tnil) (Syntax.ttcons Syntax.tnil (Syntax.ttcons Syntax.tnil (Syntax.ttcons Syntax.tnil (Syntax.ttcons Syntax.tnil (Syntax.ttcons Syntax.tnil (Syntax.ttcons
-                  Syntax.tnil (Syntax.ttcons (Syntax.tcons (Syntax.tyInt Syntax.w64) Syntax.tnil) (Syntax.ttcons (Syntax.tcons (Syntax.tyInt Syntax.w64) Syntax.tnil) (Syntax.ttcons Syntax.tnil (Syntax.ttcons
-                  (Syntax.tcons (Syntax.tyInt Syntax.w64) (Syntax.tcons (Syntax.tyInt Syntax.w64) Syntax.tnil)) (Syntax.ttcons (Syntax.tcons (Syntax.tyInt Syntax.w64) Syntax.tnil) Syntax.ttnil)))))))))))))))),
-            ) (List._∷_ (
-              8,
-              Rows.any-gone (Syntax.tyStruct (List._∷_ 115 (List._∷_ 116 (List._∷_ 114 (List._∷_ 101 (List._∷_ 97 (List._∷_ 109 (List._∷_ 58 (List._∷_ 58 (List._∷_ 70 (List._∷_ 117
-                  (List._∷_ 106 (List._∷_ 105 (List._∷_ 72 (List._∷_ 101 (List._∷_ 97 (List._∷_ 100 (List._∷_ 101 (List._∷_ 114 List.[])))))))))))))))))) (Syntax.tcons Syntax.tyBool (Syntax.tcons Syntax.tyBool
-                  (Syntax.tcons (Syntax.tyInt Syntax.w32) (Syntax.tcons (Syntax.tyInt Syntax.w32) (Syntax.tcons (Syntax.tyInt Syntax.w32) (Syntax.tcons (Syntax.tyInt Syntax.w32) (Syntax.tcons (Syntax.tyInt
-                  Syntax.w32) (Syntax.tcons (Syntax.tyInt Syntax.w32) (Syntax.tcons (Syntax.tyInt Syntax.w32) Syntax.tnil)))))))))),
-            ) (List._∷_ (9, Rows.sc-here (Row.sInt Syntax.w64)) (List._∷_ (
-              10,
-              Rows.whole (Declared'.row Form.the-type),
-            ) (List._∷_ (11, Rows.sc-here (Row.sInt Syntax.w64)) (List._∷_ (12, Rows.any-gone (Syntax.tyInt Syntax.w64)) (List._∷_ (
-              13,
-              Rows.any-gone
-                  (Syntax.tyInt Syntax.w64),
-            ) (List._∷_ (14, Rows.any-gone (Syntax.tyInt Syntax.w64)) (List._∷_ (
-              15,
-              Rows.any-gone (Syntax.tyEnum (List._∷_ 98 (List._∷_ 108 (List._∷_ 111 (List._∷_ 99
-                  (List._∷_ 107 (List._∷_ 58 (List._∷_ 58 (List._∷_ 87 (List._∷_ 114 (List._∷_ 105 (List._∷_ 116 (List._∷_ 116 (List._∷_ 101 (List._∷_ 110 List.[])))))))))))))) (Syntax.ttcons (Syntax.tcons
-                  (Syntax.tyInt Syntax.w64) Syntax.tnil) (Syntax.ttcons (Syntax.tcons (Syntax.tyEnum (List._∷_ 115 (List._∷_ 116 (List._∷_ 114 (List._∷_ 101 (List._∷_ 97 (List._∷_ 109 (List._∷_ 58 (List._∷_ 58
-                  (List._∷_ 82 (List._∷_ 101 (List._∷_ 102 (List._∷_ 117 (List._∷_ 115 (List._∷_ 97 (List._∷_ 108 List.[]))))))))))))))) (Syntax.ttcons Syntax.tnil (Syntax.ttcons Syntax.tnil (Syntax.ttcons
-                  Syntax.tnil (Syntax.ttcons (Syntax.tcons (Syntax.tyInt Syntax.w64) Syntax.tnil) (Syntax.ttcons Syntax.tnil (Syntax.ttcons Syntax.tnil (Syntax.ttcons Syntax.tnil (Syntax.ttcons Syntax.tnil
-                  (Syntax.ttcons Syntax.tnil (Syntax.ttcons Syntax.tnil (Syntax.ttcons (Syntax.tcons (Syntax.tyInt Syntax.w64) Syntax.tnil) (Syntax.ttcons (Syntax.tcons (Syntax.tyInt Syntax.w64) Syntax.tnil)
-                  (Syntax.ttcons Syntax.tnil (Syntax.ttcons (Syntax.tcons (Syntax.tyInt Syntax.w64) (Syntax.tcons (Syntax.tyInt Syntax.w64) Syntax.tnil)) (Syntax.ttcons (Syntax.tcons (Syntax.tyInt Syntax.w64)
-                  Syntax.tnil) Syntax.ttnil)))))))))))))))) Syntax.tnil) Syntax.ttnil))),
-            ) List.[])))))))))))))))
+        g22 = List._∷_ e0 (List._∷_ e2 (List._∷_ e22 (List._∷_
+            (3, Relend.mslice-owed (Referent.rtF (Referent.fInt Syntax.w8)) (Syntax.tyRef (Syntax.named 2) Syntax.mut (Syntax.tyInt Syntax.w8)) 2 5 (Row.lease (κs .1 .1 .0) (qs .1 .1 .0))) (List._∷_ e39
+            (List._∷_ e41 (List._∷_ e43 (List._∷_ e47 (List._∷_ e49 (List._∷_ e52 (List._∷_ e4 (List._∷_ e6 (List._∷_ e7 (List._∷_ e9 (List._∷_ e11 (List._∷_ e13 List.[])))))))))))))))
 
         abbrev g27 : List.List Row.Entry
-        g27 = List._∷_ (
-          0,
-          Rows.any-gone (Syntax.tyEnum (List._∷_ 98 (List._∷_ 108 (List._∷_ 111 (List._∷_ 99 (List._∷_ 107 (List._∷_ 58 (List._∷_ 58 (List._∷_ 87 (List._∷_ 114 (List._∷_ 105
-              (List._∷_ 116 (List._∷_ 116 (List._∷_ 101 (List._∷_ 110 List.[])))))))))))))) (Syntax.ttcons (Syntax.tcons (Syntax.tyInt Syntax.w64) Syntax.tnil) (Syntax.ttcons (Syntax.tcons (Syntax.tyEnum
-              (List._∷_ 115 (List._∷_ 116 (List._∷_ 114 (List._∷_ 101 (List._∷_ 97 (List._∷_ 109 (List._∷_ 58 (List._∷_ 58 (List._∷_ 82 (List._∷_ 101 (List._∷_ 102 (List._∷_ 117 (List._∷_ 115 (List._∷_ 97
-              (List._∷_ 108 List.[]))))))))))))))) (Syntax.ttcons Syntax.tnil (Syntax.ttcons Syntax.tnil (Syntax.ttcons Syntax.tnil (Syntax.ttcons (Syntax.tcons (Syntax.tyInt Syntax.w64) Syntax.tnil)
-              (Syntax.ttcons Syntax.tnil (Syntax.ttcons Syntax.tnil (Syntax.ttcons Syntax.tnil (Syntax.ttcons Syntax.tnil (Syntax.ttcons Syntax.tnil (Syntax.ttcons Syntax.tnil (Syntax.ttcons (Syntax.tcons
-              (Syntax.tyInt Syntax.w64) Syntax.tnil) (Syntax.ttcons (Syntax.tcons (Syntax.tyInt Syntax.w64) Syntax.tnil) (Syntax.ttcons Syntax.tnil (Syntax.ttcons (Syntax.tcons (Syntax.tyInt Syntax.w64)
-              (Syntax.tcons (Syntax.tyInt Syntax.w64) Syntax.tnil)) (Syntax.ttcons (Syntax.tcons (Syntax.tyInt Syntax.w64) Syntax.tnil) Syntax.ttnil)))))))))))))))) Syntax.tnil) Syntax.ttnil))),
-        ) (List._∷_
-            (1, Rows.sslice (Referent.rtF (Referent.fInt Syntax.w8)) (Syntax.tyRef (Syntax.named 0) Syntax.imm (Syntax.tyInt Syntax.w8)) 0) (List._∷_ (
-              2,
-              Rows.sslice (Referent.rtF (Referent.fInt
-                  Syntax.w16)) (Syntax.tyRef (Syntax.named 1) Syntax.imm (Syntax.tyInt Syntax.w16)) 1,
-            ) (List._∷_ (
-              3,
-              Relend.mslice-owed (Referent.rtF (Referent.fInt Syntax.w8)) (Syntax.tyRef (Syntax.named 2)
-                  Syntax.mut (Syntax.tyInt Syntax.w8)) 2 5 (Row.lease (κs .1 .1 .0) (qs .1 .1 .0)),
-            ) (List._∷_ (
-              4,
-              PartMut.mslice-owedM (Referent.rtF (Referent.fInt Syntax.w16)) (Syntax.tyRef (Syntax.named 3)
-                  Syntax.mut (Syntax.tyInt Syntax.w16)) 3 6 (Row.lease (κs .1 .1 .1 .0) (qs .1 .1 .1 .0)),
-            ) (List._∷_ (
-              5,
-              Mut.mslice (Element.type) (Syntax.tyRef (Syntax.named 4) Syntax.mut Element.behind) 4,
-            ) (List._∷_ (
-              6,
-              Rows.any-gone (Syntax.tyEnum (List._∷_ 115 (List._∷_ 116 (List._∷_ 114 (List._∷_ 101 (List._∷_ 97 (List._∷_ 109 (List._∷_ 58 (List._∷_ 58 (List._∷_ 80 (List._∷_ 97 (List._∷_
-                  114 (List._∷_ 115 (List._∷_ 101 (List._∷_ 100 List.[])))))))))))))) (Syntax.ttcons (Syntax.tcons (Syntax.tyStruct (List._∷_ 115 (List._∷_ 116 (List._∷_ 114 (List._∷_ 101 (List._∷_ 97 (List._∷_
-                  109 (List._∷_ 58 (List._∷_ 58 (List._∷_ 70 (List._∷_ 117 (List._∷_ 106 (List._∷_ 105 (List._∷_ 72 (List._∷_ 101 (List._∷_ 97 (List._∷_ 100 (List._∷_ 101 (List._∷_ 114 List.[]))))))))))))))))))
-                  (Syntax.tcons Syntax.tyBool (Syntax.tcons Syntax.tyBool (Syntax.tcons (Syntax.tyInt Syntax.w32) (Syntax.tcons (Syntax.tyInt Syntax.w32) (Syntax.tcons (Syntax.tyInt Syntax.w32) (Syntax.tcons
-                  (Syntax.tyInt Syntax.w32) (Syntax.tcons (Syntax.tyInt Syntax.w32) (Syntax.tcons (Syntax.tyInt Syntax.w32) (Syntax.tcons (Syntax.tyInt Syntax.w32) Syntax.tnil)))))))))) Syntax.tnil)
-                  (Syntax.ttcons (Syntax.tcons (Syntax.tyEnum (List._∷_ 115 (List._∷_ 116 (List._∷_ 114 (List._∷_ 101 (List._∷_ 97 (List._∷_ 109 (List._∷_ 58 (List._∷_ 58 (List._∷_ 82 (List._∷_ 101 (List._∷_
-                  102 (List._∷_ 117 (List._∷_ 115 (List._∷_ 97 (List._∷_ 108 List.[]))))))))))))))) (Syntax.ttcons Syntax.tnil (Syntax.ttcons Syntax.tnil (Syntax.ttcons Syntax.tnil (Syntax.ttcons (Syntax.tcons
-                  (Syntax.tyInt Syntax.w64) Syntax.tnil) (Syntax.ttcons Syntax.tnil (Syntax.ttcons Syntax.tnil (Syntax.ttcons Syntax.tnil (Syntax.ttcons Syntax.tnil (Syntax.ttcons Syntax.tnil (Syntax.ttcons
-                  Syntax.tnil (Syntax.ttcons (Syntax.tcons (Syntax.tyInt Syntax.w64) Syntax.tnil) (Syntax.ttcons (Syntax.tcons (Syntax.tyInt Syntax.w64) Syntax.tnil) (Syntax.ttcons Syntax.tnil (Syntax.ttcons
-                  (Syntax.tcons (Syntax.tyInt Syntax.w64) (Syntax.tcons (Syntax.tyInt Syntax.w64) Syntax.tnil)) (Syntax.ttcons (Syntax.tcons (Syntax.tyInt Syntax.w64) Syntax.tnil) Syntax.ttnil))))))))))))))))
-                  Syntax.tnil) Syntax.ttnil))),
-            ) (List._∷_ (
-              7,
-              Rows.any-gone (Syntax.tyEnum (List._∷_ 115 (List._∷_ 116 (List._∷_ 114 (List._∷_ 101 (List._∷_ 97 (List._∷_ 109 (List._∷_ 58 (List._∷_ 58
-                  (List._∷_ 82 (List._∷_ 101 (List._∷_ 102 (List._∷_ 117 (List._∷_ 115 (List._∷_ 97 (List._∷_ 108 List.[]))))))))))))))) (Syntax.ttcons Syntax.tnil (Syntax.ttcons Syntax.tnil (Syntax.ttcons
-                  Syntax.tnil (Syntax.ttcons (Syntax.tcons (Syntax.tyInt Syntax.w64) Syntax.tnil) (Syntax.ttcons Syntax.tnil (Syntax.ttcons Syntax.tnil (Syntax.ttcons Syntax.tnil (Syntax.ttcons Syntax.tnil
-                  (Syntax.ttcons Syntax.tnil (Syntax.ttcons Syntax.tnil (Syntax.ttcons (Syntax.tcons (Syntax.tyInt Syntax.w64) Syntax.tnil) (Syntax.ttcons (Syntax.tcons (Syntax.tyInt Syntax.w64) Syntax.tnil)
-                  (Syntax.ttcons Syntax.tnil (Syntax.ttcons (Syntax.tcons (Syntax.tyInt Syntax.w64) (Syntax.tcons (Syntax.tyInt Syntax.w64) Syntax.tnil)) (Syntax.ttcons (Syntax.tcons (Syntax.tyInt Syntax.w64)
-                  Syntax.tnil) Syntax.ttnil)))))))))))))))),
-            ) (List._∷_ (
-              8,
-              Rows.any-gone (Syntax.tyStruct (List._∷_ 115 (List._∷_ 116 (List._∷_ 114 (List._∷_ 101 (List._∷_ 97 (List._∷_ 109 (List._∷_ 58
-                  (List._∷_ 58 (List._∷_ 70 (List._∷_ 117 (List._∷_ 106 (List._∷_ 105 (List._∷_ 72 (List._∷_ 101 (List._∷_ 97 (List._∷_ 100 (List._∷_ 101 (List._∷_ 114 List.[])))))))))))))))))) (Syntax.tcons
-                  Syntax.tyBool (Syntax.tcons Syntax.tyBool (Syntax.tcons (Syntax.tyInt Syntax.w32) (Syntax.tcons (Syntax.tyInt Syntax.w32) (Syntax.tcons (Syntax.tyInt Syntax.w32) (Syntax.tcons (Syntax.tyInt
-                  Syntax.w32) (Syntax.tcons (Syntax.tyInt Syntax.w32) (Syntax.tcons (Syntax.tyInt Syntax.w32) (Syntax.tcons (Syntax.tyInt Syntax.w32) Syntax.tnil)))))))))),
-            ) (List._∷_ (
-              9,
-              Rows.sc-here
-                  (Row.sInt Syntax.w64),
-            ) (List._∷_ (10, Rows.whole (Declared'.row Form.the-type)) (List._∷_ (11, Rows.sc-here (Row.sInt Syntax.w64)) (List._∷_ (12, Rows.any-gone (Syntax.tyInt Syntax.w64))
-            (List._∷_ (13, Rows.any-gone (Syntax.tyInt Syntax.w64)) (List._∷_ (14, Rows.any-gone (Syntax.tyInt Syntax.w64)) (List._∷_ (
-              15,
-              Rows.any-gone (Syntax.tyEnum (List._∷_ 98 (List._∷_ 108
-                  (List._∷_ 111 (List._∷_ 99 (List._∷_ 107 (List._∷_ 58 (List._∷_ 58 (List._∷_ 87 (List._∷_ 114 (List._∷_ 105 (List._∷_ 116 (List._∷_ 116 (List._∷_ 101 (List._∷_ 110 List.[]))))))))))))))
-                  (Syntax.ttcons (Syntax.tcons (Syntax.tyInt Syntax.w64) Syntax.tnil) (Syntax.ttcons (Syntax.tcons (Syntax.tyEnum (List._∷_ 115 (List._∷_ 116 (List._∷_ 114 (List._∷_ 101 (List._∷_ 97 (List._∷_
-                  109 (List._∷_ 58 (List._∷_ 58 (List._∷_ 82 (List._∷_ 101 (List._∷_ 102 (List._∷_ 117 (List._∷_ 115 (List._∷_ 97 (List._∷_ 108 List.[]))))))))))))))) (Syntax.ttcons Syntax.tnil (Syntax.ttcons
-                  Syntax.tnil (Syntax.ttcons Syntax.tnil (Syntax.ttcons (Syntax.tcons (Syntax.tyInt Syntax.w64) Syntax.tnil) (Syntax.ttcons Syntax.tnil (Syntax.ttcons Syntax.tnil (Syntax.ttcons Syntax.tnil
-                  (Syntax.ttcons Syntax.tnil (Syntax.ttcons Syntax.tnil (Syntax.ttcons Syntax.tnil (Syntax.ttcons (Syntax.tcons (Syntax.tyInt Syntax.w64) Syntax.tnil) (Syntax.ttcons (Syntax.tcons (Syntax.tyInt
-                  Syntax.w64) Syntax.tnil) (Syntax.ttcons Syntax.tnil (Syntax.ttcons (Syntax.tcons (Syntax.tyInt Syntax.w64) (Syntax.tcons (Syntax.tyInt Syntax.w64) Syntax.tnil)) (Syntax.ttcons (Syntax.tcons
-                  (Syntax.tyInt Syntax.w64) Syntax.tnil) Syntax.ttnil)))))))))))))))) Syntax.tnil) Syntax.ttnil))),
-            ) List.[])))))))))))))))
+        g27 = List._∷_ e0 (List._∷_ e2 (List._∷_ e22 (List._∷_
+            (3, Relend.mslice-owed (Referent.rtF (Referent.fInt Syntax.w8)) (Syntax.tyRef (Syntax.named 2) Syntax.mut (Syntax.tyInt Syntax.w8)) 2 5 (Row.lease (κs .1 .1 .0) (qs .1 .1 .0))) (List._∷_
+            (4, PartMut.mslice-owedM (Referent.rtF (Referent.fInt Syntax.w16)) (Syntax.tyRef (Syntax.named 3) Syntax.mut (Syntax.tyInt Syntax.w16)) 3 6 (Row.lease (κs .1 .1 .1 .0) (qs .1 .1 .1 .0)))
+            (List._∷_ e41 (List._∷_ e43 (List._∷_ e47 (List._∷_ e49 (List._∷_ e52 (List._∷_ e4 (List._∷_ e6 (List._∷_ e7 (List._∷_ e9 (List._∷_ e11 (List._∷_ e13 List.[])))))))))))))))
 
         abbrev g34 : List.List Row.Entry
-        g34 = List._∷_ (
-          0,
-          Rows.any-gone (Syntax.tyEnum (List._∷_ 98 (List._∷_ 108 (List._∷_ 111 (List._∷_ 99 (List._∷_ 107 (List._∷_ 58 (List._∷_ 58 (List._∷_ 87 (List._∷_ 114 (List._∷_ 105
-              (List._∷_ 116 (List._∷_ 116 (List._∷_ 101 (List._∷_ 110 List.[])))))))))))))) (Syntax.ttcons (Syntax.tcons (Syntax.tyInt Syntax.w64) Syntax.tnil) (Syntax.ttcons (Syntax.tcons (Syntax.tyEnum
-              (List._∷_ 115 (List._∷_ 116 (List._∷_ 114 (List._∷_ 101 (List._∷_ 97 (List._∷_ 109 (List._∷_ 58 (List._∷_ 58 (List._∷_ 82 (List._∷_ 101 (List._∷_ 102 (List._∷_ 117 (List._∷_ 115 (List._∷_ 97
-              (List._∷_ 108 List.[]))))))))))))))) (Syntax.ttcons Syntax.tnil (Syntax.ttcons Syntax.tnil (Syntax.ttcons Syntax.tnil (Syntax.ttcons (Syntax.tcons (Syntax.tyInt Syntax.w64) Syntax.tnil)
-              (Syntax.ttcons Syntax.tnil (Syntax.ttcons Syntax.tnil (Syntax.ttcons Syntax.tnil (Syntax.ttcons Syntax.tnil (Syntax.ttcons Syntax.tnil (Syntax.ttcons Syntax.tnil (Syntax.ttcons (Syntax.tcons
-              (Syntax.tyInt Syntax.w64) Syntax.tnil) (Syntax.ttcons (Syntax.tcons (Syntax.tyInt Syntax.w64) Syntax.tnil) (Syntax.ttcons Syntax.tnil (Syntax.ttcons (Syntax.tcons (Syntax.tyInt Syntax.w64)
-              (Syntax.tcons (Syntax.tyInt Syntax.w64) Syntax.tnil)) (Syntax.ttcons (Syntax.tcons (Syntax.tyInt Syntax.w64) Syntax.tnil) Syntax.ttnil)))))))))))))))) Syntax.tnil) Syntax.ttnil))),
-        ) (List._∷_
-            (1, Rows.sslice (Referent.rtF (Referent.fInt Syntax.w8)) (Syntax.tyRef (Syntax.named 0) Syntax.imm (Syntax.tyInt Syntax.w8)) 0) (List._∷_ (
-              2,
-              Rows.sslice (Referent.rtF (Referent.fInt
-                  Syntax.w16)) (Syntax.tyRef (Syntax.named 1) Syntax.imm (Syntax.tyInt Syntax.w16)) 1,
-            ) (List._∷_ (
-              3,
-              Relend.mslice-owed (Referent.rtF (Referent.fInt Syntax.w8)) (Syntax.tyRef (Syntax.named 2)
-                  Syntax.mut (Syntax.tyInt Syntax.w8)) 2 5 (Row.lease (κs .1 .1 .0) (qs .1 .1 .0)),
-            ) (List._∷_ (
-              4,
-              PartMut.mslice-owedM (Referent.rtF (Referent.fInt Syntax.w16)) (Syntax.tyRef (Syntax.named 3)
-                  Syntax.mut (Syntax.tyInt Syntax.w16)) 3 6 (Row.lease (κs .1 .1 .1 .0) (qs .1 .1 .1 .0)),
-            ) (List._∷_ (
-              5,
-              PartMut.mslice-owedM (Element.type) (Syntax.tyRef (Syntax.named 4) Syntax.mut
-                  Element.behind) 4 7 (Row.lease (κs .1 .1 .1 .1 .0) (qs .1 .1 .1 .1 .0)),
-            ) (List._∷_ (
-              6,
-              Rows.any-gone (Syntax.tyEnum (List._∷_ 115 (List._∷_ 116 (List._∷_ 114 (List._∷_ 101 (List._∷_ 97
-                  (List._∷_ 109 (List._∷_ 58 (List._∷_ 58 (List._∷_ 80 (List._∷_ 97 (List._∷_ 114 (List._∷_ 115 (List._∷_ 101 (List._∷_ 100 List.[])))))))))))))) (Syntax.ttcons (Syntax.tcons (Syntax.tyStruct
-                  (List._∷_ 115 (List._∷_ 116 (List._∷_ 114 (List._∷_ 101 (List._∷_ 97 (List._∷_ 109 (List._∷_ 58 (List._∷_ 58 (List._∷_ 70 (List._∷_ 117 (List._∷_ 106 (List._∷_ 105 (List._∷_ 72 (List._∷_ 101
-                  (List._∷_ 97 (List._∷_ 100 (List._∷_ 101 (List._∷_ 114 List.[])))))))))))))))))) (Syntax.tcons Syntax.tyBool (Syntax.tcons Syntax.tyBool (Syntax.tcons (Syntax.tyInt Syntax.w32) (Syntax.tcons
-                  (Syntax.tyInt Syntax.w32) (Syntax.tcons (Syntax.tyInt Syntax.w32) (Syntax.tcons (Syntax.tyInt Syntax.w32) (Syntax.tcons (Syntax.tyInt Syntax.w32) (Syntax.tcons (Syntax.tyInt Syntax.w32)
-                  (Syntax.tcons (Syntax.tyInt Syntax.w32) Syntax.tnil)))))))))) Syntax.tnil) (Syntax.ttcons (Syntax.tcons (Syntax.tyEnum (List._∷_ 115 (List._∷_ 116 (List._∷_ 114 (List._∷_ 101 (List._∷_ 97
-                  (List._∷_ 109 (List._∷_ 58 (List._∷_ 58 (List._∷_ 82 (List._∷_ 101 (List._∷_ 102 (List._∷_ 117 (List._∷_ 115 (List._∷_ 97 (List._∷_ 108 List.[]))))))))))))))) (Syntax.ttcons Syntax.tnil
-                  (Syntax.ttcons Syntax.tnil (Syntax.ttcons Syntax.tnil (Syntax.ttcons (Syntax.tcons (Syntax.tyInt Syntax.w64) Syntax.tnil) (Syntax.ttcons Syntax.tnil (Syntax.ttcons Syntax.tnil (Syntax.ttcons
-                  Syntax.tnil (Syntax.ttcons Syntax.tnil (Syntax.ttcons Syntax.tnil (Syntax.ttcons Syntax.tnil (Syntax.ttcons (Syntax.tcons (Syntax.tyInt Syntax.w64) Syntax.tnil) (Syntax.ttcons (Syntax.tcons
-                  (Syntax.tyInt Syntax.w64) Syntax.tnil) (Syntax.ttcons Syntax.tnil (Syntax.ttcons (Syntax.tcons (Syntax.tyInt Syntax.w64) (Syntax.tcons (Syntax.tyInt Syntax.w64) Syntax.tnil)) (Syntax.ttcons
-                  (Syntax.tcons (Syntax.tyInt Syntax.w64) Syntax.tnil) Syntax.ttnil)))))))))))))))) Syntax.tnil) Syntax.ttnil))),
-            ) (List._∷_ (
-              7,
-              Rows.any-gone (Syntax.tyEnum (List._∷_ 115 (List._∷_ 116
-                  (List._∷_ 114 (List._∷_ 101 (List._∷_ 97 (List._∷_ 109 (List._∷_ 58 (List._∷_ 58 (List._∷_ 82 (List._∷_ 101 (List._∷_ 102 (List._∷_ 117 (List._∷_ 115 (List._∷_ 97 (List._∷_ 108
-                  List.[]))))))))))))))) (Syntax.ttcons Syntax.tnil (Syntax.ttcons Syntax.tnil (Syntax.ttcons Syntax.tnil (Syntax.ttcons (Syntax.tcons (Syntax.tyInt Syntax.w64) Syntax.tnil) (Syntax.ttcons
-                  Syntax.tnil (Syntax.ttcons Syntax.tnil (Syntax.ttcons Syntax.tnil (Syntax.ttcons Syntax.tnil (Syntax.ttcons Syntax.tnil (Syntax.ttcons Syntax.tnil (Syntax.ttcons (Syntax.tcons (Syntax.tyInt
-                  Syntax.w64) Syntax.tnil) (Syntax.ttcons (Syntax.tcons (Syntax.tyInt Syntax.w64) Syntax.tnil) (Syntax.ttcons Syntax.tnil (Syntax.ttcons (Syntax.tcons (Syntax.tyInt Syntax.w64) (Syntax.tcons
-                  (Syntax.tyInt Syntax.w64) Syntax.tnil)) (Syntax.ttcons (Syntax.tcons (Syntax.tyInt Syntax.w64) Syntax.tnil) Syntax.ttnil)))))))))))))))),
-            ) (List._∷_ (
-              8,
-              Rows.any-gone (Syntax.tyStruct
-                  (List._∷_ 115 (List._∷_ 116 (List._∷_ 114 (List._∷_ 101 (List._∷_ 97 (List._∷_ 109 (List._∷_ 58 (List._∷_ 58 (List._∷_ 70 (List._∷_ 117 (List._∷_ 106 (List._∷_ 105 (List._∷_ 72 (List._∷_ 101
-                  (List._∷_ 97 (List._∷_ 100 (List._∷_ 101 (List._∷_ 114 List.[])))))))))))))))))) (Syntax.tcons Syntax.tyBool (Syntax.tcons Syntax.tyBool (Syntax.tcons (Syntax.tyInt Syntax.w32) (Syntax.tcons
-                  (Syntax.tyInt Syntax.w32) (Syntax.tcons (Syntax.tyInt Syntax.w32) (Syntax.tcons (Syntax.tyInt Syntax.w32) (Syntax.tcons (Syntax.tyInt Syntax.w32) (Syntax.tcons (Syntax.tyInt Syntax.w32)
-                  (Syntax.tcons (Syntax.tyInt Syntax.w32) Syntax.tnil)))))))))),
-            ) (List._∷_ (9, Rows.sc-here (Row.sInt Syntax.w64)) (List._∷_ (10, Rows.whole (Declared'.row Form.the-type)) (List._∷_ (
-              11,
-              Rows.sc-here (Row.sInt Syntax.w64),
-            ) (List._∷_ (12, Rows.any-gone (Syntax.tyInt Syntax.w64)) (List._∷_ (13, Rows.any-gone (Syntax.tyInt Syntax.w64)) (List._∷_ (
-              14,
-              Rows.any-gone
-                  (Syntax.tyInt Syntax.w64),
-            ) (List._∷_ (
-              15,
-              Rows.any-gone (Syntax.tyEnum (List._∷_ 98 (List._∷_ 108 (List._∷_ 111 (List._∷_ 99 (List._∷_ 107 (List._∷_ 58 (List._∷_ 58 (List._∷_ 87 (List._∷_
-                  114 (List._∷_ 105 (List._∷_ 116 (List._∷_ 116 (List._∷_ 101 (List._∷_ 110 List.[])))))))))))))) (Syntax.ttcons (Syntax.tcons (Syntax.tyInt Syntax.w64) Syntax.tnil) (Syntax.ttcons (Syntax.tcons
-                  (Syntax.tyEnum (List._∷_ 115 (List._∷_ 116 (List._∷_ 114 (List._∷_ 101 (List._∷_ 97 (List._∷_ 109 (List._∷_ 58 (List._∷_ 58 (List._∷_ 82 (List._∷_ 101 (List._∷_ 102 (List._∷_ 117 (List._∷_ 115
-                  (List._∷_ 97 (List._∷_ 108 List.[]))))))))))))))) (Syntax.ttcons Syntax.tnil (Syntax.ttcons Syntax.tnil (Syntax.ttcons Syntax.tnil (Syntax.ttcons (Syntax.tcons (Syntax.tyInt Syntax.w64)
-                  Syntax.tnil) (Syntax.ttcons Syntax.tnil (Syntax.ttcons Syntax.tnil (Syntax.ttcons Syntax.tnil (Syntax.ttcons Syntax.tnil (Syntax.ttcons Syntax.tnil (Syntax.ttcons Syntax.tnil (Syntax.ttcons
-                  (Syntax.tcons (Syntax.tyInt Syntax.w64) Syntax.tnil) (Syntax.ttcons (Syntax.tcons (Syntax.tyInt Syntax.w64) Syntax.tnil) (Syntax.ttcons Syntax.tnil (Syntax.ttcons (Syntax.tcons (Syntax.tyInt
-                  Syntax.w64) (Syntax.tcons (Syntax.tyInt Syntax.w64) Syntax.tnil)) (Syntax.ttcons (Syntax.tcons (Syntax.tyInt Syntax.w64) Syntax.tnil) Syntax.ttnil)))))))))))))))) Syntax.tnil) Syntax.ttnil))),
-            ) List.[])))))))))))))))
+        g34 = List._∷_ e0 (List._∷_ e2 (List._∷_ e22 (List._∷_
+            (3, Relend.mslice-owed (Referent.rtF (Referent.fInt Syntax.w8)) (Syntax.tyRef (Syntax.named 2) Syntax.mut (Syntax.tyInt Syntax.w8)) 2 5 (Row.lease (κs .1 .1 .0) (qs .1 .1 .0))) (List._∷_
+            (4, PartMut.mslice-owedM (Referent.rtF (Referent.fInt Syntax.w16)) (Syntax.tyRef (Syntax.named 3) Syntax.mut (Syntax.tyInt Syntax.w16)) 3 6 (Row.lease (κs .1 .1 .1 .0) (qs .1 .1 .1 .0)))
+            (List._∷_ (5, PartMut.mslice-owedM (Element.type) (Syntax.tyRef (Syntax.named 4) Syntax.mut Element.behind) 4 7 (Row.lease (κs .1 .1 .1 .1 .0) (qs .1 .1 .1 .1 .0))) (List._∷_ e43 (List._∷_ e47
+            (List._∷_ e49 (List._∷_ e52 (List._∷_ e4 (List._∷_ e6 (List._∷_ e7 (List._∷_ e9 (List._∷_ e11 (List._∷_ e13 List.[])))))))))))))))
 
         abbrev g39 : List.List Row.Entry
-        g39 = List._∷_ (
-          0,
-          Rows.any-gone (Syntax.tyEnum (List._∷_ 98 (List._∷_ 108 (List._∷_ 111 (List._∷_ 99 (List._∷_ 107 (List._∷_ 58 (List._∷_ 58 (List._∷_ 87 (List._∷_ 114 (List._∷_ 105
-              (List._∷_ 116 (List._∷_ 116 (List._∷_ 101 (List._∷_ 110 List.[])))))))))))))) (Syntax.ttcons (Syntax.tcons (Syntax.tyInt Syntax.w64) Syntax.tnil) (Syntax.ttcons (Syntax.tcons (Syntax.tyEnum
-              (List._∷_ 115 (List._∷_ 116 (List._∷_ 114 (List._∷_ 101 (List._∷_ 97 (List._∷_ 109 (List._∷_ 58 (List._∷_ 58 (List._∷_ 82 (List._∷_ 101 (List._∷_ 102 (List._∷_ 117 (List._∷_ 115 (List._∷_ 97
-              (List._∷_ 108 List.[]))))))))))))))) (Syntax.ttcons Syntax.tnil (Syntax.ttcons Syntax.tnil (Syntax.ttcons Syntax.tnil (Syntax.ttcons (Syntax.tcons (Syntax.tyInt Syntax.w64) Syntax.tnil)
-              (Syntax.ttcons Syntax.tnil (Syntax.ttcons Syntax.tnil (Syntax.ttcons Syntax.tnil (Syntax.ttcons Syntax.tnil (Syntax.ttcons Syntax.tnil (Syntax.ttcons Syntax.tnil (Syntax.ttcons (Syntax.tcons
-              (Syntax.tyInt Syntax.w64) Syntax.tnil) (Syntax.ttcons (Syntax.tcons (Syntax.tyInt Syntax.w64) Syntax.tnil) (Syntax.ttcons Syntax.tnil (Syntax.ttcons (Syntax.tcons (Syntax.tyInt Syntax.w64)
-              (Syntax.tcons (Syntax.tyInt Syntax.w64) Syntax.tnil)) (Syntax.ttcons (Syntax.tcons (Syntax.tyInt Syntax.w64) Syntax.tnil) Syntax.ttnil)))))))))))))))) Syntax.tnil) Syntax.ttnil))),
-        ) (List._∷_
-            (1, Rows.sslice (Referent.rtF (Referent.fInt Syntax.w8)) (Syntax.tyRef (Syntax.named 0) Syntax.imm (Syntax.tyInt Syntax.w8)) 0) (List._∷_ (
-              2,
-              Rows.sslice (Referent.rtF (Referent.fInt
-                  Syntax.w16)) (Syntax.tyRef (Syntax.named 1) Syntax.imm (Syntax.tyInt Syntax.w16)) 1,
-            ) (List._∷_ (
-              3,
-              Relend.mslice-owed (Referent.rtF (Referent.fInt Syntax.w8)) (Syntax.tyRef (Syntax.named 2)
-                  Syntax.mut (Syntax.tyInt Syntax.w8)) 2 5 (Row.lease (κs .1 .1 .0) (qs .1 .1 .0)),
-            ) (List._∷_ (
-              4,
-              PartMut.mslice-owedM (Referent.rtF (Referent.fInt Syntax.w16)) (Syntax.tyRef (Syntax.named 3)
-                  Syntax.mut (Syntax.tyInt Syntax.w16)) 3 6 (Row.lease (κs .1 .1 .1 .0) (qs .1 .1 .1 .0)),
-            ) (List._∷_ (
-              5,
-              PartMut.mslice-owedM (Element.type) (Syntax.tyRef (Syntax.named 4) Syntax.mut
-                  Element.behind) 4 7 (Row.lease (κs .1 .1 .1 .1 .0) (qs .1 .1 .1 .1 .0)),
-            ) (List._∷_ (
-              6,
-              Rows.any-gone (Syntax.tyEnum (List._∷_ 115 (List._∷_ 116 (List._∷_ 114 (List._∷_ 101 (List._∷_ 97
-                  (List._∷_ 109 (List._∷_ 58 (List._∷_ 58 (List._∷_ 80 (List._∷_ 97 (List._∷_ 114 (List._∷_ 115 (List._∷_ 101 (List._∷_ 100 List.[])))))))))))))) (Syntax.ttcons (Syntax.tcons (Syntax.tyStruct
-                  (List._∷_ 115 (List._∷_ 116 (List._∷_ 114 (List._∷_ 101 (List._∷_ 97 (List._∷_ 109 (List._∷_ 58 (List._∷_ 58 (List._∷_ 70 (List._∷_ 117 (List._∷_ 106 (List._∷_ 105 (List._∷_ 72 (List._∷_ 101
-                  (List._∷_ 97 (List._∷_ 100 (List._∷_ 101 (List._∷_ 114 List.[])))))))))))))))))) (Syntax.tcons Syntax.tyBool (Syntax.tcons Syntax.tyBool (Syntax.tcons (Syntax.tyInt Syntax.w32) (Syntax.tcons
-                  (Syntax.tyInt Syntax.w32) (Syntax.tcons (Syntax.tyInt Syntax.w32) (Syntax.tcons (Syntax.tyInt Syntax.w32) (Syntax.tcons (Syntax.tyInt Syntax.w32) (Syntax.tcons (Syntax.tyInt Syntax.w32)
-                  (Syntax.tcons (Syntax.tyInt Syntax.w32) Syntax.tnil)))))))))) Syntax.tnil) (Syntax.ttcons (Syntax.tcons (Syntax.tyEnum (List._∷_ 115 (List._∷_ 116 (List._∷_ 114 (List._∷_ 101 (List._∷_ 97
-                  (List._∷_ 109 (List._∷_ 58 (List._∷_ 58 (List._∷_ 82 (List._∷_ 101 (List._∷_ 102 (List._∷_ 117 (List._∷_ 115 (List._∷_ 97 (List._∷_ 108 List.[]))))))))))))))) (Syntax.ttcons Syntax.tnil
-                  (Syntax.ttcons Syntax.tnil (Syntax.ttcons Syntax.tnil (Syntax.ttcons (Syntax.tcons (Syntax.tyInt Syntax.w64) Syntax.tnil) (Syntax.ttcons Syntax.tnil (Syntax.ttcons Syntax.tnil (Syntax.ttcons
-                  Syntax.tnil (Syntax.ttcons Syntax.tnil (Syntax.ttcons Syntax.tnil (Syntax.ttcons Syntax.tnil (Syntax.ttcons (Syntax.tcons (Syntax.tyInt Syntax.w64) Syntax.tnil) (Syntax.ttcons (Syntax.tcons
-                  (Syntax.tyInt Syntax.w64) Syntax.tnil) (Syntax.ttcons Syntax.tnil (Syntax.ttcons (Syntax.tcons (Syntax.tyInt Syntax.w64) (Syntax.tcons (Syntax.tyInt Syntax.w64) Syntax.tnil)) (Syntax.ttcons
-                  (Syntax.tcons (Syntax.tyInt Syntax.w64) Syntax.tnil) Syntax.ttnil)))))))))))))))) Syntax.tnil) Syntax.ttnil))),
-            ) (List._∷_ (
-              7,
-              Rows.any-gone (Syntax.tyEnum (List._∷_ 115 (List._∷_ 116
-                  (List._∷_ 114 (List._∷_ 101 (List._∷_ 97 (List._∷_ 109 (List._∷_ 58 (List._∷_ 58 (List._∷_ 82 (List._∷_ 101 (List._∷_ 102 (List._∷_ 117 (List._∷_ 115 (List._∷_ 97 (List._∷_ 108
-                  List.[]))))))))))))))) (Syntax.ttcons Syntax.tnil (Syntax.ttcons Syntax.tnil (Syntax.ttcons Syntax.tnil (Syntax.ttcons (Syntax.tcons (Syntax.tyInt Syntax.w64) Syntax.tnil) (Syntax.ttcons
-                  Syntax.tnil (Syntax.ttcons Syntax.tnil (Syntax.ttcons Syntax.tnil (Syntax.ttcons Syntax.tnil (Syntax.ttcons Syntax.tnil (Syntax.ttcons Syntax.tnil (Syntax.ttcons (Syntax.tcons (Syntax.tyInt
-                  Syntax.w64) Syntax.tnil) (Syntax.ttcons (Syntax.tcons (Syntax.tyInt Syntax.w64) Syntax.tnil) (Syntax.ttcons Syntax.tnil (Syntax.ttcons (Syntax.tcons (Syntax.tyInt Syntax.w64) (Syntax.tcons
-                  (Syntax.tyInt Syntax.w64) Syntax.tnil)) (Syntax.ttcons (Syntax.tcons (Syntax.tyInt Syntax.w64) Syntax.tnil) Syntax.ttnil)))))))))))))))),
-            ) (List._∷_ (
-              8,
-              Rows.any-gone (Syntax.tyStruct
-                  (List._∷_ 115 (List._∷_ 116 (List._∷_ 114 (List._∷_ 101 (List._∷_ 97 (List._∷_ 109 (List._∷_ 58 (List._∷_ 58 (List._∷_ 70 (List._∷_ 117 (List._∷_ 106 (List._∷_ 105 (List._∷_ 72 (List._∷_ 101
-                  (List._∷_ 97 (List._∷_ 100 (List._∷_ 101 (List._∷_ 114 List.[])))))))))))))))))) (Syntax.tcons Syntax.tyBool (Syntax.tcons Syntax.tyBool (Syntax.tcons (Syntax.tyInt Syntax.w32) (Syntax.tcons
-                  (Syntax.tyInt Syntax.w32) (Syntax.tcons (Syntax.tyInt Syntax.w32) (Syntax.tcons (Syntax.tyInt Syntax.w32) (Syntax.tcons (Syntax.tyInt Syntax.w32) (Syntax.tcons (Syntax.tyInt Syntax.w32)
-                  (Syntax.tcons (Syntax.tyInt Syntax.w32) Syntax.tnil)))))))))),
-            ) (List._∷_ (9, Rows.sc-here (Row.sInt Syntax.w64)) (List._∷_ (10, Rows.whole (Declared'.row Form.the-type)) (List._∷_ (
-              11,
-              Rows.sc-here (Row.sInt Syntax.w64),
-            ) (List._∷_ (12, Rows.any-gone (Syntax.tyInt Syntax.w64)) (List._∷_ (13, Rows.any-gone (Syntax.tyInt Syntax.w64)) (List._∷_ (
-              14,
-              Rows.any-gone
-                  (Syntax.tyInt Syntax.w64),
-            ) (List._∷_ (15, Rows.whole (Declared.row Written.the-type)) List.[])))))))))))))))
+        g39 = List._∷_ e0 (List._∷_ e2 (List._∷_ e22 (List._∷_
+            (3, Relend.mslice-owed (Referent.rtF (Referent.fInt Syntax.w8)) (Syntax.tyRef (Syntax.named 2) Syntax.mut (Syntax.tyInt Syntax.w8)) 2 5 (Row.lease (κs .1 .1 .0) (qs .1 .1 .0))) (List._∷_
+            (4, PartMut.mslice-owedM (Referent.rtF (Referent.fInt Syntax.w16)) (Syntax.tyRef (Syntax.named 3) Syntax.mut (Syntax.tyInt Syntax.w16)) 3 6 (Row.lease (κs .1 .1 .1 .0) (qs .1 .1 .1 .0)))
+            (List._∷_ (5, PartMut.mslice-owedM (Element.type) (Syntax.tyRef (Syntax.named 4) Syntax.mut Element.behind) 4 7 (Row.lease (κs .1 .1 .1 .1 .0) (qs .1 .1 .1 .1 .0))) (List._∷_ e43 (List._∷_ e47
+            (List._∷_ e49 (List._∷_ e52 (List._∷_ e4 (List._∷_ e6 (List._∷_ e7 (List._∷_ e9 (List._∷_ e11 (List._∷_ e14 List.[])))))))))))))))
 
         abbrev g41 : List.List Row.Entry
-        g41 = List._∷_ (
-          0,
-          Rows.any-gone (Syntax.tyEnum (List._∷_ 98 (List._∷_ 108 (List._∷_ 111 (List._∷_ 99 (List._∷_ 107 (List._∷_ 58 (List._∷_ 58 (List._∷_ 87 (List._∷_ 114 (List._∷_ 105
-              (List._∷_ 116 (List._∷_ 116 (List._∷_ 101 (List._∷_ 110 List.[])))))))))))))) (Syntax.ttcons (Syntax.tcons (Syntax.tyInt Syntax.w64) Syntax.tnil) (Syntax.ttcons (Syntax.tcons (Syntax.tyEnum
-              (List._∷_ 115 (List._∷_ 116 (List._∷_ 114 (List._∷_ 101 (List._∷_ 97 (List._∷_ 109 (List._∷_ 58 (List._∷_ 58 (List._∷_ 82 (List._∷_ 101 (List._∷_ 102 (List._∷_ 117 (List._∷_ 115 (List._∷_ 97
-              (List._∷_ 108 List.[]))))))))))))))) (Syntax.ttcons Syntax.tnil (Syntax.ttcons Syntax.tnil (Syntax.ttcons Syntax.tnil (Syntax.ttcons (Syntax.tcons (Syntax.tyInt Syntax.w64) Syntax.tnil)
-              (Syntax.ttcons Syntax.tnil (Syntax.ttcons Syntax.tnil (Syntax.ttcons Syntax.tnil (Syntax.ttcons Syntax.tnil (Syntax.ttcons Syntax.tnil (Syntax.ttcons Syntax.tnil (Syntax.ttcons (Syntax.tcons
-              (Syntax.tyInt Syntax.w64) Syntax.tnil) (Syntax.ttcons (Syntax.tcons (Syntax.tyInt Syntax.w64) Syntax.tnil) (Syntax.ttcons Syntax.tnil (Syntax.ttcons (Syntax.tcons (Syntax.tyInt Syntax.w64)
-              (Syntax.tcons (Syntax.tyInt Syntax.w64) Syntax.tnil)) (Syntax.ttcons (Syntax.tcons (Syntax.tyInt Syntax.w64) Syntax.tnil) Syntax.ttnil)))))))))))))))) Syntax.tnil) Syntax.ttnil))),
-        ) (List._∷_
-            (1, Rows.sslice (Referent.rtF (Referent.fInt Syntax.w8)) (Syntax.tyRef (Syntax.named 0) Syntax.imm (Syntax.tyInt Syntax.w8)) 0) (List._∷_ (
-              2,
-              Rows.sslice (Referent.rtF (Referent.fInt
-                  Syntax.w16)) (Syntax.tyRef (Syntax.named 1) Syntax.imm (Syntax.tyInt Syntax.w16)) 1,
-            ) (List._∷_ (
-              3,
-              Relend.mslice-owed (Referent.rtF (Referent.fInt Syntax.w8)) (Syntax.tyRef (Syntax.named 2)
-                  Syntax.mut (Syntax.tyInt Syntax.w8)) 2 5 (Row.lease (κs .1 .1 .0) (qs .1 .1 .0)),
-            ) (List._∷_ (
-              4,
-              PartMut.mslice-owedM (Referent.rtF (Referent.fInt Syntax.w16)) (Syntax.tyRef (Syntax.named 3)
-                  Syntax.mut (Syntax.tyInt Syntax.w16)) 3 6 (Row.lease (κs .1 .1 .1 .0) (qs .1 .1 .1 .0)),
-            ) (List._∷_ (
-              5,
-              PartMut.mslice-owedM (Element.type) (Syntax.tyRef (Syntax.named 4) Syntax.mut
-                  Element.behind) 4 7 (Row.lease (κs .1 .1 .1 .1 .0) (qs .1 .1 .1 .1 .0)),
-            ) (List._∷_ (
-              6,
-              Rows.any-gone (Syntax.tyEnum (List._∷_ 115 (List._∷_ 116 (List._∷_ 114 (List._∷_ 101 (List._∷_ 97
-                  (List._∷_ 109 (List._∷_ 58 (List._∷_ 58 (List._∷_ 80 (List._∷_ 97 (List._∷_ 114 (List._∷_ 115 (List._∷_ 101 (List._∷_ 100 List.[])))))))))))))) (Syntax.ttcons (Syntax.tcons (Syntax.tyStruct
-                  (List._∷_ 115 (List._∷_ 116 (List._∷_ 114 (List._∷_ 101 (List._∷_ 97 (List._∷_ 109 (List._∷_ 58 (List._∷_ 58 (List._∷_ 70 (List._∷_ 117 (List._∷_ 106 (List._∷_ 105 (List._∷_ 72 (List._∷_ 101
-                  (List._∷_ 97 (List._∷_ 100 (List._∷_ 101 (List._∷_ 114 List.[])))))))))))))))))) (Syntax.tcons Syntax.tyBool (Syntax.tcons Syntax.tyBool (Syntax.tcons (Syntax.tyInt Syntax.w32) (Syntax.tcons
-                  (Syntax.tyInt Syntax.w32) (Syntax.tcons (Syntax.tyInt Syntax.w32) (Syntax.tcons (Syntax.tyInt Syntax.w32) (Syntax.tcons (Syntax.tyInt Syntax.w32) (Syntax.tcons (Syntax.tyInt Syntax.w32)
-                  (Syntax.tcons (Syntax.tyInt Syntax.w32) Syntax.tnil)))))))))) Syntax.tnil) (Syntax.ttcons (Syntax.tcons (Syntax.tyEnum (List._∷_ 115 (List._∷_ 116 (List._∷_ 114 (List._∷_ 101 (List._∷_ 97
-                  (List._∷_ 109 (List._∷_ 58 (List._∷_ 58 (List._∷_ 82 (List._∷_ 101 (List._∷_ 102 (List._∷_ 117 (List._∷_ 115 (List._∷_ 97 (List._∷_ 108 List.[]))))))))))))))) (Syntax.ttcons Syntax.tnil
-                  (Syntax.ttcons Syntax.tnil (Syntax.ttcons Syntax.tnil (Syntax.ttcons (Syntax.tcons (Syntax.tyInt Syntax.w64) Syntax.tnil) (Syntax.ttcons Syntax.tnil (Syntax.ttcons Syntax.tnil (Syntax.ttcons
-                  Syntax.tnil (Syntax.ttcons Syntax.tnil (Syntax.ttcons Syntax.tnil (Syntax.ttcons Syntax.tnil (Syntax.ttcons (Syntax.tcons (Syntax.tyInt Syntax.w64) Syntax.tnil) (Syntax.ttcons (Syntax.tcons
-                  (Syntax.tyInt Syntax.w64) Syntax.tnil) (Syntax.ttcons Syntax.tnil (Syntax.ttcons (Syntax.tcons (Syntax.tyInt Syntax.w64) (Syntax.tcons (Syntax.tyInt Syntax.w64) Syntax.tnil)) (Syntax.ttcons
-                  (Syntax.tcons (Syntax.tyInt Syntax.w64) Syntax.tnil) Syntax.ttnil)))))))))))))))) Syntax.tnil) Syntax.ttnil))),
-            ) (List._∷_ (
-              7,
-              Rows.any-gone (Syntax.tyEnum (List._∷_ 115 (List._∷_ 116
-                  (List._∷_ 114 (List._∷_ 101 (List._∷_ 97 (List._∷_ 109 (List._∷_ 58 (List._∷_ 58 (List._∷_ 82 (List._∷_ 101 (List._∷_ 102 (List._∷_ 117 (List._∷_ 115 (List._∷_ 97 (List._∷_ 108
-                  List.[]))))))))))))))) (Syntax.ttcons Syntax.tnil (Syntax.ttcons Syntax.tnil (Syntax.ttcons Syntax.tnil (Syntax.ttcons (Syntax.tcons (Syntax.tyInt Syntax.w64) Syntax.tnil) (Syntax.ttcons
-                  Syntax.tnil (Syntax.ttcons Syntax.tnil (Syntax.ttcons Syntax.tnil (Syntax.ttcons Syntax.tnil (Syntax.ttcons Syntax.tnil (Syntax.ttcons Syntax.tnil (Syntax.ttcons (Syntax.tcons (Syntax.tyInt
-                  Syntax.w64) Syntax.tnil) (Syntax.ttcons (Syntax.tcons (Syntax.tyInt Syntax.w64) Syntax.tnil) (Syntax.ttcons Syntax.tnil (Syntax.ttcons (Syntax.tcons (Syntax.tyInt Syntax.w64) (Syntax.tcons
-                  (Syntax.tyInt Syntax.w64) Syntax.tnil)) (Syntax.ttcons (Syntax.tcons (Syntax.tyInt Syntax.w64) Syntax.tnil) Syntax.ttnil)))))))))))))))),
-            ) (List._∷_ (
-              8,
-              Rows.any-gone (Syntax.tyStruct
-                  (List._∷_ 115 (List._∷_ 116 (List._∷_ 114 (List._∷_ 101 (List._∷_ 97 (List._∷_ 109 (List._∷_ 58 (List._∷_ 58 (List._∷_ 70 (List._∷_ 117 (List._∷_ 106 (List._∷_ 105 (List._∷_ 72 (List._∷_ 101
-                  (List._∷_ 97 (List._∷_ 100 (List._∷_ 101 (List._∷_ 114 List.[])))))))))))))))))) (Syntax.tcons Syntax.tyBool (Syntax.tcons Syntax.tyBool (Syntax.tcons (Syntax.tyInt Syntax.w32) (Syntax.tcons
-                  (Syntax.tyInt Syntax.w32) (Syntax.tcons (Syntax.tyInt Syntax.w32) (Syntax.tcons (Syntax.tyInt Syntax.w32) (Syntax.tcons (Syntax.tyInt Syntax.w32) (Syntax.tcons (Syntax.tyInt Syntax.w32)
-                  (Syntax.tcons (Syntax.tyInt Syntax.w32) Syntax.tnil)))))))))),
-            ) (List._∷_ (9, Rows.any-gone (Syntax.tyInt Syntax.w64)) (List._∷_ (10, Rows.whole (Declared'.row Form.the-type)) (List._∷_
-            (11, Rows.sc-here (Row.sInt Syntax.w64)) (List._∷_ (12, Rows.any-gone (Syntax.tyInt Syntax.w64)) (List._∷_ (13, Rows.any-gone (Syntax.tyInt Syntax.w64)) (List._∷_ (
-              14,
-              Rows.any-gone
-                  (Syntax.tyInt Syntax.w64),
-            ) (List._∷_ (15, Rows.whole (Declared.row Written.the-type)) List.[])))))))))))))))
+        g41 = List._∷_ e0 (List._∷_ e2 (List._∷_ e22 (List._∷_
+            (3, Relend.mslice-owed (Referent.rtF (Referent.fInt Syntax.w8)) (Syntax.tyRef (Syntax.named 2) Syntax.mut (Syntax.tyInt Syntax.w8)) 2 5 (Row.lease (κs .1 .1 .0) (qs .1 .1 .0))) (List._∷_
+            (4, PartMut.mslice-owedM (Referent.rtF (Referent.fInt Syntax.w16)) (Syntax.tyRef (Syntax.named 3) Syntax.mut (Syntax.tyInt Syntax.w16)) 3 6 (Row.lease (κs .1 .1 .1 .0) (qs .1 .1 .1 .0)))
+            (List._∷_ (5, PartMut.mslice-owedM (Element.type) (Syntax.tyRef (Syntax.named 4) Syntax.mut Element.behind) 4 7 (Row.lease (κs .1 .1 .1 .1 .0) (qs .1 .1 .1 .1 .0))) (List._∷_ e43 (List._∷_ e47
+            (List._∷_ e49 (List._∷_ e51 (List._∷_ e4 (List._∷_ e6 (List._∷_ e7 (List._∷_ e9 (List._∷_ e11 (List._∷_ e14 List.[])))))))))))))))
 
         abbrev g42 : List.List Row.Entry
-        g42 = List._∷_ (
-          0,
-          Rows.any-gone (Syntax.tyEnum (List._∷_ 98 (List._∷_ 108 (List._∷_ 111 (List._∷_ 99 (List._∷_ 107 (List._∷_ 58 (List._∷_ 58 (List._∷_ 87 (List._∷_ 114 (List._∷_ 105
-              (List._∷_ 116 (List._∷_ 116 (List._∷_ 101 (List._∷_ 110 List.[])))))))))))))) (Syntax.ttcons (Syntax.tcons (Syntax.tyInt Syntax.w64) Syntax.tnil) (Syntax.ttcons (Syntax.tcons (Syntax.tyEnum
-              (List._∷_ 115 (List._∷_ 116 (List._∷_ 114 (List._∷_ 101 (List._∷_ 97 (List._∷_ 109 (List._∷_ 58 (List._∷_ 58 (List._∷_ 82 (List._∷_ 101 (List._∷_ 102 (List._∷_ 117 (List._∷_ 115 (List._∷_ 97
-              (List._∷_ 108 List.[]))))))))))))))) (Syntax.ttcons Syntax.tnil (Syntax.ttcons Syntax.tnil (Syntax.ttcons Syntax.tnil (Syntax.ttcons (Syntax.tcons (Syntax.tyInt Syntax.w64) Syntax.tnil)
-              (Syntax.ttcons Syntax.tnil (Syntax.ttcons Syntax.tnil (Syntax.ttcons Syntax.tnil (Syntax.ttcons Syntax.tnil (Syntax.ttcons Syntax.tnil (Syntax.ttcons Syntax.tnil (Syntax.ttcons (Syntax.tcons
-              (Syntax.tyInt Syntax.w64) Syntax.tnil) (Syntax.ttcons (Syntax.tcons (Syntax.tyInt Syntax.w64) Syntax.tnil) (Syntax.ttcons Syntax.tnil (Syntax.ttcons (Syntax.tcons (Syntax.tyInt Syntax.w64)
-              (Syntax.tcons (Syntax.tyInt Syntax.w64) Syntax.tnil)) (Syntax.ttcons (Syntax.tcons (Syntax.tyInt Syntax.w64) Syntax.tnil) Syntax.ttnil)))))))))))))))) Syntax.tnil) Syntax.ttnil))),
-        ) (List._∷_
-            (1, Rows.sslice (Referent.rtF (Referent.fInt Syntax.w8)) (Syntax.tyRef (Syntax.named 0) Syntax.imm (Syntax.tyInt Syntax.w8)) 0) (List._∷_ (
-              2,
-              Rows.sslice (Referent.rtF (Referent.fInt
-                  Syntax.w16)) (Syntax.tyRef (Syntax.named 1) Syntax.imm (Syntax.tyInt Syntax.w16)) 1,
-            ) (List._∷_ (
-              3,
-              Relend.mslice-owed (Referent.rtF (Referent.fInt Syntax.w8)) (Syntax.tyRef (Syntax.named 2)
-                  Syntax.mut (Syntax.tyInt Syntax.w8)) 2 5 (Row.lease (κs .1 .1 .0) (qs .1 .1 .0)),
-            ) (List._∷_ (
-              4,
-              PartMut.mslice-owedM (Referent.rtF (Referent.fInt Syntax.w16)) (Syntax.tyRef (Syntax.named 3)
-                  Syntax.mut (Syntax.tyInt Syntax.w16)) 3 6 (Row.lease (κs .1 .1 .1 .0) (qs .1 .1 .1 .0)),
-            ) (List._∷_ (
-              5,
-              PartMut.mslice-owedM (Element.type) (Syntax.tyRef (Syntax.named 4) Syntax.mut
-                  Element.behind) 4 7 (Row.lease (κs .1 .1 .1 .1 .0) (qs .1 .1 .1 .1 .0)),
-            ) (List._∷_ (
-              6,
-              Rows.any-gone (Syntax.tyEnum (List._∷_ 115 (List._∷_ 116 (List._∷_ 114 (List._∷_ 101 (List._∷_ 97
-                  (List._∷_ 109 (List._∷_ 58 (List._∷_ 58 (List._∷_ 80 (List._∷_ 97 (List._∷_ 114 (List._∷_ 115 (List._∷_ 101 (List._∷_ 100 List.[])))))))))))))) (Syntax.ttcons (Syntax.tcons (Syntax.tyStruct
-                  (List._∷_ 115 (List._∷_ 116 (List._∷_ 114 (List._∷_ 101 (List._∷_ 97 (List._∷_ 109 (List._∷_ 58 (List._∷_ 58 (List._∷_ 70 (List._∷_ 117 (List._∷_ 106 (List._∷_ 105 (List._∷_ 72 (List._∷_ 101
-                  (List._∷_ 97 (List._∷_ 100 (List._∷_ 101 (List._∷_ 114 List.[])))))))))))))))))) (Syntax.tcons Syntax.tyBool (Syntax.tcons Syntax.tyBool (Syntax.tcons (Syntax.tyInt Syntax.w32) (Syntax.tcons
-                  (Syntax.tyInt Syntax.w32) (Syntax.tcons (Syntax.tyInt Syntax.w32) (Syntax.tcons (Syntax.tyInt Syntax.w32) (Syntax.tcons (Syntax.tyInt Syntax.w32) (Syntax.tcons (Syntax.tyInt Syntax.w32)
-                  (Syntax.tcons (Syntax.tyInt Syntax.w32) Syntax.tnil)))))))))) Syntax.tnil) (Syntax.ttcons (Syntax.tcons (Syntax.tyEnum (List._∷_ 115 (List._∷_ 116 (List._∷_ 114 (List._∷_ 101 (List._∷_ 97
-                  (List._∷_ 109 (List._∷_ 58 (List._∷_ 58 (List._∷_ 82 (List._∷_ 101 (List._∷_ 102 (List._∷_ 117 (List._∷_ 115 (List._∷_ 97 (List._∷_ 108 List.[]))))))))))))))) (Syntax.ttcons Syntax.tnil
-                  (Syntax.ttcons Syntax.tnil (Syntax.ttcons Syntax.tnil (Syntax.ttcons (Syntax.tcons (Syntax.tyInt Syntax.w64) Syntax.tnil) (Syntax.ttcons Syntax.tnil (Syntax.ttcons Syntax.tnil (Syntax.ttcons
-                  Syntax.tnil (Syntax.ttcons Syntax.tnil (Syntax.ttcons Syntax.tnil (Syntax.ttcons Syntax.tnil (Syntax.ttcons (Syntax.tcons (Syntax.tyInt Syntax.w64) Syntax.tnil) (Syntax.ttcons (Syntax.tcons
-                  (Syntax.tyInt Syntax.w64) Syntax.tnil) (Syntax.ttcons Syntax.tnil (Syntax.ttcons (Syntax.tcons (Syntax.tyInt Syntax.w64) (Syntax.tcons (Syntax.tyInt Syntax.w64) Syntax.tnil)) (Syntax.ttcons
-                  (Syntax.tcons (Syntax.tyInt Syntax.w64) Syntax.tnil) Syntax.ttnil)))))))))))))))) Syntax.tnil) Syntax.ttnil))),
-            ) (List._∷_ (
-              7,
-              Rows.any-gone (Syntax.tyEnum (List._∷_ 115 (List._∷_ 116
-                  (List._∷_ 114 (List._∷_ 101 (List._∷_ 97 (List._∷_ 109 (List._∷_ 58 (List._∷_ 58 (List._∷_ 82 (List._∷_ 101 (List._∷_ 102 (List._∷_ 117 (List._∷_ 115 (List._∷_ 97 (List._∷_ 108
-                  List.[]))))))))))))))) (Syntax.ttcons Syntax.tnil (Syntax.ttcons Syntax.tnil (Syntax.ttcons Syntax.tnil (Syntax.ttcons (Syntax.tcons (Syntax.tyInt Syntax.w64) Syntax.tnil) (Syntax.ttcons
-                  Syntax.tnil (Syntax.ttcons Syntax.tnil (Syntax.ttcons Syntax.tnil (Syntax.ttcons Syntax.tnil (Syntax.ttcons Syntax.tnil (Syntax.ttcons Syntax.tnil (Syntax.ttcons (Syntax.tcons (Syntax.tyInt
-                  Syntax.w64) Syntax.tnil) (Syntax.ttcons (Syntax.tcons (Syntax.tyInt Syntax.w64) Syntax.tnil) (Syntax.ttcons Syntax.tnil (Syntax.ttcons (Syntax.tcons (Syntax.tyInt Syntax.w64) (Syntax.tcons
-                  (Syntax.tyInt Syntax.w64) Syntax.tnil)) (Syntax.ttcons (Syntax.tcons (Syntax.tyInt Syntax.w64) Syntax.tnil) Syntax.ttnil)))))))))))))))),
-            ) (List._∷_ (
-              8,
-              Rows.any-gone (Syntax.tyStruct
-                  (List._∷_ 115 (List._∷_ 116 (List._∷_ 114 (List._∷_ 101 (List._∷_ 97 (List._∷_ 109 (List._∷_ 58 (List._∷_ 58 (List._∷_ 70 (List._∷_ 117 (List._∷_ 106 (List._∷_ 105 (List._∷_ 72 (List._∷_ 101
-                  (List._∷_ 97 (List._∷_ 100 (List._∷_ 101 (List._∷_ 114 List.[])))))))))))))))))) (Syntax.tcons Syntax.tyBool (Syntax.tcons Syntax.tyBool (Syntax.tcons (Syntax.tyInt Syntax.w32) (Syntax.tcons
-                  (Syntax.tyInt Syntax.w32) (Syntax.tcons (Syntax.tyInt Syntax.w32) (Syntax.tcons (Syntax.tyInt Syntax.w32) (Syntax.tcons (Syntax.tyInt Syntax.w32) (Syntax.tcons (Syntax.tyInt Syntax.w32)
-                  (Syntax.tcons (Syntax.tyInt Syntax.w32) Syntax.tnil)))))))))),
-            ) (List._∷_ (9, Rows.any-gone (Syntax.tyInt Syntax.w64)) (List._∷_ (
-              10,
-              Rows.any-gone (Syntax.tyStruct (List._∷_ 98 (List._∷_
-                  108 (List._∷_ 111 (List._∷_ 99 (List._∷_ 107 (List._∷_ 58 (List._∷_ 58 (List._∷_ 70 (List._∷_ 111 (List._∷_ 114 (List._∷_ 109 List.[]))))))))))) (Syntax.tcons (Syntax.tyInt Syntax.w32)
-                  (Syntax.tcons Syntax.tyBool Syntax.tnil))),
-            ) (List._∷_ (11, Rows.sc-here (Row.sInt Syntax.w64)) (List._∷_ (12, Rows.any-gone (Syntax.tyInt Syntax.w64)) (List._∷_ (
-              13,
-              Rows.any-gone
-                  (Syntax.tyInt Syntax.w64),
-            ) (List._∷_ (14, Rows.any-gone (Syntax.tyInt Syntax.w64)) (List._∷_ (15, Rows.whole (Declared.row Written.the-type)) List.[])))))))))))))))
+        g42 = List._∷_ e0 (List._∷_ e2 (List._∷_ e22 (List._∷_
+            (3, Relend.mslice-owed (Referent.rtF (Referent.fInt Syntax.w8)) (Syntax.tyRef (Syntax.named 2) Syntax.mut (Syntax.tyInt Syntax.w8)) 2 5 (Row.lease (κs .1 .1 .0) (qs .1 .1 .0))) (List._∷_
+            (4, PartMut.mslice-owedM (Referent.rtF (Referent.fInt Syntax.w16)) (Syntax.tyRef (Syntax.named 3) Syntax.mut (Syntax.tyInt Syntax.w16)) 3 6 (Row.lease (κs .1 .1 .1 .0) (qs .1 .1 .1 .0)))
+            (List._∷_ (5, PartMut.mslice-owedM (Element.type) (Syntax.tyRef (Syntax.named 4) Syntax.mut Element.behind) 4 7 (Row.lease (κs .1 .1 .1 .1 .0) (qs .1 .1 .1 .1 .0))) (List._∷_ e43 (List._∷_ e47
+            (List._∷_ e49 (List._∷_ e51 (List._∷_ e3 (List._∷_ e6 (List._∷_ e7 (List._∷_ e9 (List._∷_ e11 (List._∷_ e14 List.[])))))))))))))))
 
         abbrev g43 : List.List Row.Entry
-        g43 = List._∷_ (
-          0,
-          Rows.any-gone (Syntax.tyEnum (List._∷_ 98 (List._∷_ 108 (List._∷_ 111 (List._∷_ 99 (List._∷_ 107 (List._∷_ 58 (List._∷_ 58 (List._∷_ 87 (List._∷_ 114 (List._∷_ 105
-              (List._∷_ 116 (List._∷_ 116 (List._∷_ 101 (List._∷_ 110 List.[])))))))))))))) (Syntax.ttcons (Syntax.tcons (Syntax.tyInt Syntax.w64) Syntax.tnil) (Syntax.ttcons (Syntax.tcons (Syntax.tyEnum
-              (List._∷_ 115 (List._∷_ 116 (List._∷_ 114 (List._∷_ 101 (List._∷_ 97 (List._∷_ 109 (List._∷_ 58 (List._∷_ 58 (List._∷_ 82 (List._∷_ 101 (List._∷_ 102 (List._∷_ 117 (List._∷_ 115 (List._∷_ 97
-              (List._∷_ 108 List.[]))))))))))))))) (Syntax.ttcons Syntax.tnil (Syntax.ttcons Syntax.tnil (Syntax.ttcons Syntax.tnil (Syntax.ttcons (Syntax.tcons (Syntax.tyInt Syntax.w64) Syntax.tnil)
-              (Syntax.ttcons Syntax.tnil (Syntax.ttcons Syntax.tnil (Syntax.ttcons Syntax.tnil (Syntax.ttcons Syntax.tnil (Syntax.ttcons Syntax.tnil (Syntax.ttcons Syntax.tnil (Syntax.ttcons (Syntax.tcons
-              (Syntax.tyInt Syntax.w64) Syntax.tnil) (Syntax.ttcons (Syntax.tcons (Syntax.tyInt Syntax.w64) Syntax.tnil) (Syntax.ttcons Syntax.tnil (Syntax.ttcons (Syntax.tcons (Syntax.tyInt Syntax.w64)
-              (Syntax.tcons (Syntax.tyInt Syntax.w64) Syntax.tnil)) (Syntax.ttcons (Syntax.tcons (Syntax.tyInt Syntax.w64) Syntax.tnil) Syntax.ttnil)))))))))))))))) Syntax.tnil) Syntax.ttnil))),
-        ) (List._∷_
-            (1, Rows.sslice (Referent.rtF (Referent.fInt Syntax.w8)) (Syntax.tyRef (Syntax.named 0) Syntax.imm (Syntax.tyInt Syntax.w8)) 0) (List._∷_ (
-              2,
-              Rows.sslice (Referent.rtF (Referent.fInt
-                  Syntax.w16)) (Syntax.tyRef (Syntax.named 1) Syntax.imm (Syntax.tyInt Syntax.w16)) 1,
-            ) (List._∷_ (
-              3,
-              Relend.mslice-owed (Referent.rtF (Referent.fInt Syntax.w8)) (Syntax.tyRef (Syntax.named 2)
-                  Syntax.mut (Syntax.tyInt Syntax.w8)) 2 5 (Row.lease (κs .1 .1 .0) (qs .1 .1 .0)),
-            ) (List._∷_ (
-              4,
-              PartMut.mslice-owedM (Referent.rtF (Referent.fInt Syntax.w16)) (Syntax.tyRef (Syntax.named 3)
-                  Syntax.mut (Syntax.tyInt Syntax.w16)) 3 6 (Row.lease (κs .1 .1 .1 .0) (qs .1 .1 .1 .0)),
-            ) (List._∷_ (
-              5,
-              PartMut.mslice-owedM (Element.type) (Syntax.tyRef (Syntax.named 4) Syntax.mut
-                  Element.behind) 4 7 (Row.lease (κs .1 .1 .1 .1 .0) (qs .1 .1 .1 .1 .0)),
-            ) (List._∷_ (
-              6,
-              Rows.any-gone (Syntax.tyEnum (List._∷_ 115 (List._∷_ 116 (List._∷_ 114 (List._∷_ 101 (List._∷_ 97
-                  (List._∷_ 109 (List._∷_ 58 (List._∷_ 58 (List._∷_ 80 (List._∷_ 97 (List._∷_ 114 (List._∷_ 115 (List._∷_ 101 (List._∷_ 100 List.[])))))))))))))) (Syntax.ttcons (Syntax.tcons (Syntax.tyStruct
-                  (List._∷_ 115 (List._∷_ 116 (List._∷_ 114 (List._∷_ 101 (List._∷_ 97 (List._∷_ 109 (List._∷_ 58 (List._∷_ 58 (List._∷_ 70 (List._∷_ 117 (List._∷_ 106 (List._∷_ 105 (List._∷_ 72 (List._∷_ 101
-                  (List._∷_ 97 (List._∷_ 100 (List._∷_ 101 (List._∷_ 114 List.[])))))))))))))))))) (Syntax.tcons Syntax.tyBool (Syntax.tcons Syntax.tyBool (Syntax.tcons (Syntax.tyInt Syntax.w32) (Syntax.tcons
-                  (Syntax.tyInt Syntax.w32) (Syntax.tcons (Syntax.tyInt Syntax.w32) (Syntax.tcons (Syntax.tyInt Syntax.w32) (Syntax.tcons (Syntax.tyInt Syntax.w32) (Syntax.tcons (Syntax.tyInt Syntax.w32)
-                  (Syntax.tcons (Syntax.tyInt Syntax.w32) Syntax.tnil)))))))))) Syntax.tnil) (Syntax.ttcons (Syntax.tcons (Syntax.tyEnum (List._∷_ 115 (List._∷_ 116 (List._∷_ 114 (List._∷_ 101 (List._∷_ 97
-                  (List._∷_ 109 (List._∷_ 58 (List._∷_ 58 (List._∷_ 82 (List._∷_ 101 (List._∷_ 102 (List._∷_ 117 (List._∷_ 115 (List._∷_ 97 (List._∷_ 108 List.[]))))))))))))))) (Syntax.ttcons Syntax.tnil
-                  (Syntax.ttcons Syntax.tnil (Syntax.ttcons Syntax.tnil (Syntax.ttcons (Syntax.tcons (Syntax.tyInt Syntax.w64) Syntax.tnil) (Syntax.ttcons Syntax.tnil (Syntax.ttcons Syntax.tnil (Syntax.ttcons
-                  Syntax.tnil (Syntax.ttcons Syntax.tnil (Syntax.ttcons Syntax.tnil (Syntax.ttcons Syntax.tnil (Syntax.ttcons (Syntax.tcons (Syntax.tyInt Syntax.w64) Syntax.tnil) (Syntax.ttcons (Syntax.tcons
-                  (Syntax.tyInt Syntax.w64) Syntax.tnil) (Syntax.ttcons Syntax.tnil (Syntax.ttcons (Syntax.tcons (Syntax.tyInt Syntax.w64) (Syntax.tcons (Syntax.tyInt Syntax.w64) Syntax.tnil)) (Syntax.ttcons
-                  (Syntax.tcons (Syntax.tyInt Syntax.w64) Syntax.tnil) Syntax.ttnil)))))))))))))))) Syntax.tnil) Syntax.ttnil))),
-            ) (List._∷_ (
-              7,
-              Rows.any-gone (Syntax.tyEnum (List._∷_ 115 (List._∷_ 116
-                  (List._∷_ 114 (List._∷_ 101 (List._∷_ 97 (List._∷_ 109 (List._∷_ 58 (List._∷_ 58 (List._∷_ 82 (List._∷_ 101 (List._∷_ 102 (List._∷_ 117 (List._∷_ 115 (List._∷_ 97 (List._∷_ 108
-                  List.[]))))))))))))))) (Syntax.ttcons Syntax.tnil (Syntax.ttcons Syntax.tnil (Syntax.ttcons Syntax.tnil (Syntax.ttcons (Syntax.tcons (Syntax.tyInt Syntax.w64) Syntax.tnil) (Syntax.ttcons
-                  Syntax.tnil (Syntax.ttcons Syntax.tnil (Syntax.ttcons Syntax.tnil (Syntax.ttcons Syntax.tnil (Syntax.ttcons Syntax.tnil (Syntax.ttcons Syntax.tnil (Syntax.ttcons (Syntax.tcons (Syntax.tyInt
-                  Syntax.w64) Syntax.tnil) (Syntax.ttcons (Syntax.tcons (Syntax.tyInt Syntax.w64) Syntax.tnil) (Syntax.ttcons Syntax.tnil (Syntax.ttcons (Syntax.tcons (Syntax.tyInt Syntax.w64) (Syntax.tcons
-                  (Syntax.tyInt Syntax.w64) Syntax.tnil)) (Syntax.ttcons (Syntax.tcons (Syntax.tyInt Syntax.w64) Syntax.tnil) Syntax.ttnil)))))))))))))))),
-            ) (List._∷_ (
-              8,
-              Rows.any-gone (Syntax.tyStruct
-                  (List._∷_ 115 (List._∷_ 116 (List._∷_ 114 (List._∷_ 101 (List._∷_ 97 (List._∷_ 109 (List._∷_ 58 (List._∷_ 58 (List._∷_ 70 (List._∷_ 117 (List._∷_ 106 (List._∷_ 105 (List._∷_ 72 (List._∷_ 101
-                  (List._∷_ 97 (List._∷_ 100 (List._∷_ 101 (List._∷_ 114 List.[])))))))))))))))))) (Syntax.tcons Syntax.tyBool (Syntax.tcons Syntax.tyBool (Syntax.tcons (Syntax.tyInt Syntax.w32) (Syntax.tcons
-                  (Syntax.tyInt Syntax.w32) (Syntax.tcons (Syntax.tyInt Syntax.w32) (Syntax.tcons (Syntax.tyInt Syntax.w32) (Syntax.tcons (Syntax.tyInt Syntax.w32) (Syntax.tcons (Syntax.tyInt Syntax.w32)
-                  (Syntax.tcons (Syntax.tyInt Syntax.w32) Syntax.tnil)))))))))),
-            ) (List._∷_ (9, Rows.any-gone (Syntax.tyInt Syntax.w64)) (List._∷_ (
-              10,
-              Rows.any-gone (Syntax.tyStruct (List._∷_ 98 (List._∷_
-                  108 (List._∷_ 111 (List._∷_ 99 (List._∷_ 107 (List._∷_ 58 (List._∷_ 58 (List._∷_ 70 (List._∷_ 111 (List._∷_ 114 (List._∷_ 109 List.[]))))))))))) (Syntax.tcons (Syntax.tyInt Syntax.w32)
-                  (Syntax.tcons Syntax.tyBool Syntax.tnil))),
-            ) (List._∷_ (11, Rows.any-gone (Syntax.tyInt Syntax.w64)) (List._∷_ (12, Rows.any-gone (Syntax.tyInt Syntax.w64)) (List._∷_ (
-              13,
-              Rows.any-gone
-                  (Syntax.tyInt Syntax.w64),
-            ) (List._∷_ (14, Rows.any-gone (Syntax.tyInt Syntax.w64)) (List._∷_ (15, Rows.whole (Declared.row Written.the-type)) List.[])))))))))))))))
+        g43 = List._∷_ e0 (List._∷_ e2 (List._∷_ e22 (List._∷_
+            (3, Relend.mslice-owed (Referent.rtF (Referent.fInt Syntax.w8)) (Syntax.tyRef (Syntax.named 2) Syntax.mut (Syntax.tyInt Syntax.w8)) 2 5 (Row.lease (κs .1 .1 .0) (qs .1 .1 .0))) (List._∷_
+            (4, PartMut.mslice-owedM (Referent.rtF (Referent.fInt Syntax.w16)) (Syntax.tyRef (Syntax.named 3) Syntax.mut (Syntax.tyInt Syntax.w16)) 3 6 (Row.lease (κs .1 .1 .1 .0) (qs .1 .1 .1 .0)))
+            (List._∷_ (5, PartMut.mslice-owedM (Element.type) (Syntax.tyRef (Syntax.named 4) Syntax.mut Element.behind) 4 7 (Row.lease (κs .1 .1 .1 .1 .0) (qs .1 .1 .1 .1 .0))) (List._∷_ e43 (List._∷_ e47
+            (List._∷_ e49 (List._∷_ e51 (List._∷_ e3 (List._∷_ e5 (List._∷_ e7 (List._∷_ e9 (List._∷_ e11 (List._∷_ e14 List.[])))))))))))))))
 
         abbrev g44 : List.List Row.Entry
-        g44 = List._∷_ (
-          0,
-          Rows.any-gone (Syntax.tyEnum (List._∷_ 98 (List._∷_ 108 (List._∷_ 111 (List._∷_ 99 (List._∷_ 107 (List._∷_ 58 (List._∷_ 58 (List._∷_ 87 (List._∷_ 114 (List._∷_ 105
-              (List._∷_ 116 (List._∷_ 116 (List._∷_ 101 (List._∷_ 110 List.[])))))))))))))) (Syntax.ttcons (Syntax.tcons (Syntax.tyInt Syntax.w64) Syntax.tnil) (Syntax.ttcons (Syntax.tcons (Syntax.tyEnum
-              (List._∷_ 115 (List._∷_ 116 (List._∷_ 114 (List._∷_ 101 (List._∷_ 97 (List._∷_ 109 (List._∷_ 58 (List._∷_ 58 (List._∷_ 82 (List._∷_ 101 (List._∷_ 102 (List._∷_ 117 (List._∷_ 115 (List._∷_ 97
-              (List._∷_ 108 List.[]))))))))))))))) (Syntax.ttcons Syntax.tnil (Syntax.ttcons Syntax.tnil (Syntax.ttcons Syntax.tnil (Syntax.ttcons (Syntax.tcons (Syntax.tyInt Syntax.w64) Syntax.tnil)
-              (Syntax.ttcons Syntax.tnil (Syntax.ttcons Syntax.tnil (Syntax.ttcons Syntax.tnil (Syntax.ttcons Syntax.tnil (Syntax.ttcons Syntax.tnil (Syntax.ttcons Syntax.tnil (Syntax.ttcons (Syntax.tcons
-              (Syntax.tyInt Syntax.w64) Syntax.tnil) (Syntax.ttcons (Syntax.tcons (Syntax.tyInt Syntax.w64) Syntax.tnil) (Syntax.ttcons Syntax.tnil (Syntax.ttcons (Syntax.tcons (Syntax.tyInt Syntax.w64)
-              (Syntax.tcons (Syntax.tyInt Syntax.w64) Syntax.tnil)) (Syntax.ttcons (Syntax.tcons (Syntax.tyInt Syntax.w64) Syntax.tnil) Syntax.ttnil)))))))))))))))) Syntax.tnil) Syntax.ttnil))),
-        ) (List._∷_
-            (1, Rows.sslice (Referent.rtF (Referent.fInt Syntax.w8)) (Syntax.tyRef (Syntax.named 0) Syntax.imm (Syntax.tyInt Syntax.w8)) 0) (List._∷_ (
-              2,
-              Rows.sslice (Referent.rtF (Referent.fInt
-                  Syntax.w16)) (Syntax.tyRef (Syntax.named 1) Syntax.imm (Syntax.tyInt Syntax.w16)) 1,
-            ) (List._∷_ (
-              3,
-              Mut.mslice (Referent.rtF (Referent.fInt Syntax.w8)) (Syntax.tyRef (Syntax.named 2)
-                  Syntax.mut (Syntax.tyInt Syntax.w8)) 2,
-            ) (List._∷_ (
-              4,
-              PartMut.mslice-owedM (Referent.rtF (Referent.fInt Syntax.w16)) (Syntax.tyRef (Syntax.named 3) Syntax.mut (Syntax.tyInt Syntax.w16)) 3 6
-                  (Row.lease (κs .1 .1 .1 .0) (qs .1 .1 .1 .0)),
-            ) (List._∷_ (
-              5,
-              PartMut.mslice-owedM (Element.type) (Syntax.tyRef (Syntax.named 4) Syntax.mut Element.behind) 4 7 (Row.lease (κs .1 .1 .1 .1 .0)
-                  (qs .1 .1 .1 .1 .0)),
-            ) (List._∷_ (
-              6,
-              Rows.any-gone (Syntax.tyEnum (List._∷_ 115 (List._∷_ 116 (List._∷_ 114 (List._∷_ 101 (List._∷_ 97 (List._∷_ 109 (List._∷_ 58 (List._∷_ 58 (List._∷_ 80
-                  (List._∷_ 97 (List._∷_ 114 (List._∷_ 115 (List._∷_ 101 (List._∷_ 100 List.[])))))))))))))) (Syntax.ttcons (Syntax.tcons (Syntax.tyStruct (List._∷_ 115 (List._∷_ 116 (List._∷_ 114 (List._∷_ 101
-                  (List._∷_ 97 (List._∷_ 109 (List._∷_ 58 (List._∷_ 58 (List._∷_ 70 (List._∷_ 117 (List._∷_ 106 (List._∷_ 105 (List._∷_ 72 (List._∷_ 101 (List._∷_ 97 (List._∷_ 100 (List._∷_ 101 (List._∷_ 114
-                  List.[])))))))))))))))))) (Syntax.tcons Syntax.tyBool (Syntax.tcons Syntax.tyBool (Syntax.tcons (Syntax.tyInt Syntax.w32) (Syntax.tcons (Syntax.tyInt Syntax.w32) (Syntax.tcons (Syntax.tyInt
-                  Syntax.w32) (Syntax.tcons (Syntax.tyInt Syntax.w32) (Syntax.tcons (Syntax.tyInt Syntax.w32) (Syntax.tcons (Syntax.tyInt Syntax.w32) (Syntax.tcons (Syntax.tyInt Syntax.w32)
-                  Syntax.tnil)))))))))) Syntax.tnil) (Syntax.ttcons (Syntax.tcons (Syntax.tyEnum (List._∷_ 115 (List._∷_ 116 (List._∷_ 114 (List._∷_ 101 (List._∷_ 97 (List._∷_ 109 (List._∷_ 58 (List._∷_ 58
-                  (List._∷_ 82 (List._∷_ 101 (List._∷_ 102 (List._∷_ 117 (List._∷_ 115 (List._∷_ 97 (List._∷_ 108 List.[]))))))))))))))) (Syntax.ttcons Syntax.tnil (Syntax.ttcons Syntax.tnil (Syntax.ttcons
-                  Syntax.tnil (Syntax.ttcons (Syntax.tcons (Syntax.tyInt Syntax.w64) Syntax.tnil) (Syntax.ttcons Syntax.tnil (Syntax.ttcons Syntax.tnil (Syntax.ttcons Syntax.tnil (Syntax.ttcons Syntax.tnil
-                  (Syntax.ttcons Syntax.tnil (Syntax.ttcons Syntax.tnil (Syntax.ttcons (Syntax.tcons (Syntax.tyInt Syntax.w64) Syntax.tnil) (Syntax.ttcons (Syntax.tcons (Syntax.tyInt Syntax.w64) Syntax.tnil)
-                  (Syntax.ttcons Syntax.tnil (Syntax.ttcons (Syntax.tcons (Syntax.tyInt Syntax.w64) (Syntax.tcons (Syntax.tyInt Syntax.w64) Syntax.tnil)) (Syntax.ttcons (Syntax.tcons (Syntax.tyInt Syntax.w64)
-                  Syntax.tnil) Syntax.ttnil)))))))))))))))) Syntax.tnil) Syntax.ttnil))),
-            ) (List._∷_ (
-              7,
-              Rows.any-gone (Syntax.tyEnum (List._∷_ 115 (List._∷_ 116 (List._∷_ 114 (List._∷_ 101 (List._∷_ 97
-                  (List._∷_ 109 (List._∷_ 58 (List._∷_ 58 (List._∷_ 82 (List._∷_ 101 (List._∷_ 102 (List._∷_ 117 (List._∷_ 115 (List._∷_ 97 (List._∷_ 108 List.[]))))))))))))))) (Syntax.ttcons Syntax.tnil
-                  (Syntax.ttcons Syntax.tnil (Syntax.ttcons Syntax.tnil (Syntax.ttcons (Syntax.tcons (Syntax.tyInt Syntax.w64) Syntax.tnil) (Syntax.ttcons Syntax.tnil (Syntax.ttcons Syntax.tnil (Syntax.ttcons
-                  Syntax.tnil (Syntax.ttcons Syntax.tnil (Syntax.ttcons Syntax.tnil (Syntax.ttcons Syntax.tnil (Syntax.ttcons (Syntax.tcons (Syntax.tyInt Syntax.w64) Syntax.tnil) (Syntax.ttcons (Syntax.tcons
-                  (Syntax.tyInt Syntax.w64) Syntax.tnil) (Syntax.ttcons Syntax.tnil (Syntax.ttcons (Syntax.tcons (Syntax.tyInt Syntax.w64) (Syntax.tcons (Syntax.tyInt Syntax.w64) Syntax.tnil)) (Syntax.ttcons
-                  (Syntax.tcons (Syntax.tyInt Syntax.w64) Syntax.tnil) Syntax.ttnil)))))))))))))))),
-            ) (List._∷_ (
-              8,
-              Rows.any-gone (Syntax.tyStruct (List._∷_ 115 (List._∷_ 116 (List._∷_ 114 (List._∷_ 101
-                  (List._∷_ 97 (List._∷_ 109 (List._∷_ 58 (List._∷_ 58 (List._∷_ 70 (List._∷_ 117 (List._∷_ 106 (List._∷_ 105 (List._∷_ 72 (List._∷_ 101 (List._∷_ 97 (List._∷_ 100 (List._∷_ 101 (List._∷_ 114
-                  List.[])))))))))))))))))) (Syntax.tcons Syntax.tyBool (Syntax.tcons Syntax.tyBool (Syntax.tcons (Syntax.tyInt Syntax.w32) (Syntax.tcons (Syntax.tyInt Syntax.w32) (Syntax.tcons (Syntax.tyInt
-                  Syntax.w32) (Syntax.tcons (Syntax.tyInt Syntax.w32) (Syntax.tcons (Syntax.tyInt Syntax.w32) (Syntax.tcons (Syntax.tyInt Syntax.w32) (Syntax.tcons (Syntax.tyInt Syntax.w32)
-                  Syntax.tnil)))))))))),
-            ) (List._∷_ (9, Rows.any-gone (Syntax.tyInt Syntax.w64)) (List._∷_ (
-              10,
-              Rows.any-gone (Syntax.tyStruct (List._∷_ 98 (List._∷_ 108 (List._∷_ 111 (List._∷_ 99 (List._∷_
-                  107 (List._∷_ 58 (List._∷_ 58 (List._∷_ 70 (List._∷_ 111 (List._∷_ 114 (List._∷_ 109 List.[]))))))))))) (Syntax.tcons (Syntax.tyInt Syntax.w32) (Syntax.tcons Syntax.tyBool Syntax.tnil))),
-            )
-            (List._∷_ (11, Rows.any-gone (Syntax.tyInt Syntax.w64)) (List._∷_ (12, Rows.any-gone (Syntax.tyInt Syntax.w64)) (List._∷_ (13, Rows.any-gone (Syntax.tyInt Syntax.w64)) (List._∷_ (
-              14,
-              Rows.any-gone (Syntax.tyInt Syntax.w64),
-            ) (List._∷_ (15, Rows.whole (Declared.row Written.the-type)) List.[])))))))))))))))
+        g44 = List._∷_ e0 (List._∷_ e2 (List._∷_ e22 (List._∷_ e37 (List._∷_
+            (4, PartMut.mslice-owedM (Referent.rtF (Referent.fInt Syntax.w16)) (Syntax.tyRef (Syntax.named 3) Syntax.mut (Syntax.tyInt Syntax.w16)) 3 6 (Row.lease (κs .1 .1 .1 .0) (qs .1 .1 .1 .0)))
+            (List._∷_ (5, PartMut.mslice-owedM (Element.type) (Syntax.tyRef (Syntax.named 4) Syntax.mut Element.behind) 4 7 (Row.lease (κs .1 .1 .1 .1 .0) (qs .1 .1 .1 .1 .0))) (List._∷_ e43 (List._∷_ e47
+            (List._∷_ e49 (List._∷_ e51 (List._∷_ e3 (List._∷_ e5 (List._∷_ e7 (List._∷_ e9 (List._∷_ e11 (List._∷_ e14 List.[])))))))))))))))
 
         abbrev g46 : List.List Row.Entry
-        g46 = List._∷_ (
-          0,
-          Rows.any-gone (Syntax.tyEnum (List._∷_ 98 (List._∷_ 108 (List._∷_ 111 (List._∷_ 99 (List._∷_ 107 (List._∷_ 58 (List._∷_ 58 (List._∷_ 87 (List._∷_ 114 (List._∷_ 105
-              (List._∷_ 116 (List._∷_ 116 (List._∷_ 101 (List._∷_ 110 List.[])))))))))))))) (Syntax.ttcons (Syntax.tcons (Syntax.tyInt Syntax.w64) Syntax.tnil) (Syntax.ttcons (Syntax.tcons (Syntax.tyEnum
-              (List._∷_ 115 (List._∷_ 116 (List._∷_ 114 (List._∷_ 101 (List._∷_ 97 (List._∷_ 109 (List._∷_ 58 (List._∷_ 58 (List._∷_ 82 (List._∷_ 101 (List._∷_ 102 (List._∷_ 117 (List._∷_ 115 (List._∷_ 97
-              (List._∷_ 108 List.[]))))))))))))))) (Syntax.ttcons Syntax.tnil (Syntax.ttcons Syntax.tnil (Syntax.ttcons Syntax.tnil (Syntax.ttcons (Syntax.tcons (Syntax.tyInt Syntax.w64) Syntax.tnil)
-              (Syntax.ttcons Syntax.tnil (Syntax.ttcons Syntax.tnil (Syntax.ttcons Syntax.tnil (Syntax.ttcons Syntax.tnil (Syntax.ttcons Syntax.tnil (Syntax.ttcons Syntax.tnil (Syntax.ttcons (Syntax.tcons
-              (Syntax.tyInt Syntax.w64) Syntax.tnil) (Syntax.ttcons (Syntax.tcons (Syntax.tyInt Syntax.w64) Syntax.tnil) (Syntax.ttcons Syntax.tnil (Syntax.ttcons (Syntax.tcons (Syntax.tyInt Syntax.w64)
-              (Syntax.tcons (Syntax.tyInt Syntax.w64) Syntax.tnil)) (Syntax.ttcons (Syntax.tcons (Syntax.tyInt Syntax.w64) Syntax.tnil) Syntax.ttnil)))))))))))))))) Syntax.tnil) Syntax.ttnil))),
-        ) (List._∷_
-            (1, Rows.sslice (Referent.rtF (Referent.fInt Syntax.w8)) (Syntax.tyRef (Syntax.named 0) Syntax.imm (Syntax.tyInt Syntax.w8)) 0) (List._∷_ (
-              2,
-              Rows.sslice (Referent.rtF (Referent.fInt
-                  Syntax.w16)) (Syntax.tyRef (Syntax.named 1) Syntax.imm (Syntax.tyInt Syntax.w16)) 1,
-            ) (List._∷_ (
-              3,
-              Mut.mslice (Referent.rtF (Referent.fInt Syntax.w8)) (Syntax.tyRef (Syntax.named 2)
-                  Syntax.mut (Syntax.tyInt Syntax.w8)) 2,
-            ) (List._∷_ (4, Mut.mslice (Referent.rtF (Referent.fInt Syntax.w16)) (Syntax.tyRef (Syntax.named 3) Syntax.mut (Syntax.tyInt Syntax.w16)) 3)
-            (List._∷_ (5, PartMut.mslice-owedM (Element.type) (Syntax.tyRef (Syntax.named 4) Syntax.mut Element.behind) 4 7 (Row.lease (κs .1 .1 .1 .1 .0) (qs .1 .1 .1 .1 .0))) (List._∷_ (
-              6,
-              Rows.any-gone (Syntax.tyEnum (List._∷_ 115 (List._∷_ 116 (List._∷_ 114 (List._∷_ 101 (List._∷_ 97 (List._∷_ 109 (List._∷_ 58 (List._∷_ 58 (List._∷_ 80 (List._∷_ 97 (List._∷_ 114 (List._∷_ 115
-                  (List._∷_ 101 (List._∷_ 100 List.[])))))))))))))) (Syntax.ttcons (Syntax.tcons (Syntax.tyStruct (List._∷_ 115 (List._∷_ 116 (List._∷_ 114 (List._∷_ 101 (List._∷_ 97 (List._∷_ 109 (List._∷_ 58
-                  (List._∷_ 58 (List._∷_ 70 (List._∷_ 117 (List._∷_ 106 (List._∷_ 105 (List._∷_ 72 (List._∷_ 101 (List._∷_ 97 (List._∷_ 100 (List._∷_ 101 (List._∷_ 114 List.[])))))))))))))))))) (Syntax.tcons
-                  Syntax.tyBool (Syntax.tcons Syntax.tyBool (Syntax.tcons (Syntax.tyInt Syntax.w32) (Syntax.tcons (Syntax.tyInt Syntax.w32) (Syntax.tcons (Syntax.tyInt Syntax.w32) (Syntax.tcons (Syntax.tyInt
-                  Syntax.w32) (Syntax.tcons (Syntax.tyInt Syntax.w32) (Syntax.tcons (Syntax.tyInt Syntax.w32) (Syntax.tcons (Syntax.tyInt Syntax.w32) Syntax.tnil)))))))))) Syntax.tnil) (Syntax.ttcons
-                  (Syntax.tcons (Syntax.tyEnum (List._∷_ 115 (List._∷_ 116 (List._∷_ 114 (List._∷_ 101 (List._∷_ 97 (List._∷_ 109 (List._∷_ 58 (List._∷_ 58 (List._∷_ 82 (List._∷_ 101 (List._∷_ 102 (List._∷_ 117
-                  (List._∷_ 115 (List._∷_ 97 (List._∷_ 108 List.[]))))))))))))))) (Syntax.ttcons Syntax.tnil (Syntax.ttcons Syntax.tnil (Syntax.ttcons Syntax.tnil (Syntax.ttcons (Syntax.tcons (Syntax.tyInt
-                  Syntax.w64) Syntax.tnil) (Syntax.ttcons Syntax.tnil (Syntax.ttcons Syntax.tnil (Syntax.ttcons Syntax.tnil (Syntax.ttcons Syntax.tnil (Syntax.ttcons Syntax.tnil (Syntax.ttcons Syntax.tnil
-                  (Syntax.ttcons (Syntax.tcons (Syntax.tyInt Syntax.w64) Syntax.tnil) (Syntax.ttcons (Syntax.tcons (Syntax.tyInt Syntax.w64) Syntax.tnil) (Syntax.ttcons Syntax.tnil (Syntax.ttcons (Syntax.tcons
-                  (Syntax.tyInt Syntax.w64) (Syntax.tcons (Syntax.tyInt Syntax.w64) Syntax.tnil)) (Syntax.ttcons (Syntax.tcons (Syntax.tyInt Syntax.w64) Syntax.tnil) Syntax.ttnil)))))))))))))))) Syntax.tnil)
-                  Syntax.ttnil))),
-            ) (List._∷_ (
-              7,
-              Rows.any-gone (Syntax.tyEnum (List._∷_ 115 (List._∷_ 116 (List._∷_ 114 (List._∷_ 101 (List._∷_ 97 (List._∷_ 109 (List._∷_ 58 (List._∷_ 58 (List._∷_ 82
-                  (List._∷_ 101 (List._∷_ 102 (List._∷_ 117 (List._∷_ 115 (List._∷_ 97 (List._∷_ 108 List.[]))))))))))))))) (Syntax.ttcons Syntax.tnil (Syntax.ttcons Syntax.tnil (Syntax.ttcons Syntax.tnil
-                  (Syntax.ttcons (Syntax.tcons (Syntax.tyInt Syntax.w64) Syntax.tnil) (Syntax.ttcons Syntax.tnil (Syntax.ttcons Syntax.tnil (Syntax.ttcons Syntax.tnil (Syntax.ttcons Syntax.tnil (Syntax.ttcons
-                  Syntax.tnil (Syntax.ttcons Syntax.tnil (Syntax.ttcons (Syntax.tcons (Syntax.tyInt Syntax.w64) Syntax.tnil) (Syntax.ttcons (Syntax.tcons (Syntax.tyInt Syntax.w64) Syntax.tnil) (Syntax.ttcons
-                  Syntax.tnil (Syntax.ttcons (Syntax.tcons (Syntax.tyInt Syntax.w64) (Syntax.tcons (Syntax.tyInt Syntax.w64) Syntax.tnil)) (Syntax.ttcons (Syntax.tcons (Syntax.tyInt Syntax.w64) Syntax.tnil)
-                  Syntax.ttnil)))))))))))))))),
-            ) (List._∷_ (
-              8,
-              Rows.any-gone (Syntax.tyStruct (List._∷_ 115 (List._∷_ 116 (List._∷_ 114 (List._∷_ 101 (List._∷_ 97 (List._∷_ 109 (List._∷_ 58 (List._∷_ 58
-                  (List._∷_ 70 (List._∷_ 117 (List._∷_ 106 (List._∷_ 105 (List._∷_ 72 (List._∷_ 101 (List._∷_ 97 (List._∷_ 100 (List._∷_ 101 (List._∷_ 114 List.[])))))))))))))))))) (Syntax.tcons Syntax.tyBool
-                  (Syntax.tcons Syntax.tyBool (Syntax.tcons (Syntax.tyInt Syntax.w32) (Syntax.tcons (Syntax.tyInt Syntax.w32) (Syntax.tcons (Syntax.tyInt Syntax.w32) (Syntax.tcons (Syntax.tyInt Syntax.w32)
-                  (Syntax.tcons (Syntax.tyInt Syntax.w32) (Syntax.tcons (Syntax.tyInt Syntax.w32) (Syntax.tcons (Syntax.tyInt Syntax.w32) Syntax.tnil)))))))))),
-            ) (List._∷_ (
-              9,
-              Rows.any-gone (Syntax.tyInt
-                  Syntax.w64),
-            ) (List._∷_ (
-              10,
-              Rows.any-gone (Syntax.tyStruct (List._∷_ 98 (List._∷_ 108 (List._∷_ 111 (List._∷_ 99 (List._∷_ 107 (List._∷_ 58 (List._∷_ 58 (List._∷_ 70 (List._∷_ 111 (List._∷_
-                  114 (List._∷_ 109 List.[]))))))))))) (Syntax.tcons (Syntax.tyInt Syntax.w32) (Syntax.tcons Syntax.tyBool Syntax.tnil))),
-            ) (List._∷_ (11, Rows.any-gone (Syntax.tyInt Syntax.w64)) (List._∷_ (
-              12,
-              Rows.any-gone (Syntax.tyInt Syntax.w64),
-            ) (List._∷_ (13, Rows.any-gone (Syntax.tyInt Syntax.w64)) (List._∷_ (14, Rows.any-gone (Syntax.tyInt Syntax.w64)) (List._∷_ (
-              15,
-              Rows.whole
-                  (Declared.row Written.the-type),
-            ) List.[])))))))))))))))
+        g46 = List._∷_ e0 (List._∷_ e2 (List._∷_ e22 (List._∷_ e37 (List._∷_ e39 (List._∷_
+            (5, PartMut.mslice-owedM (Element.type) (Syntax.tyRef (Syntax.named 4) Syntax.mut Element.behind) 4 7 (Row.lease (κs .1 .1 .1 .1 .0) (qs .1 .1 .1 .1 .0))) (List._∷_ e43 (List._∷_ e47 (List._∷_
+            e49 (List._∷_ e51 (List._∷_ e3 (List._∷_ e5 (List._∷_ e7 (List._∷_ e9 (List._∷_ e11 (List._∷_ e14 List.[])))))))))))))))
 
         abbrev G0 : Row.Cx
         G0 = record {
           locals = List._++_ t0 t1;
-          slots = List._∷_ (Row.lease (κs .0) (qs .0)) (List._∷_ (Row.lease (κs .1 .0) (qs .1 .0)) (List._∷_ (Row.lease (κs .1 .1 .0) (qs .1 .1 .0)) (List._∷_
-              (Row.lease (κs .1 .1 .1 .0) (qs .1 .1 .1 .0)) (List._∷_ (Row.lease (κs .1 .1 .1 .1 .0) (qs .1 .1 .1 .1 .0)) (List._∷_ Row.off (List._∷_ Row.off (List._∷_ Row.off List.[])))))));
+          slots = List._∷_ (Row.lease (κs .0) (qs .0)) (List._∷_ (Row.lease (κs .1 .0) (qs .1 .0)) (List._∷_ (Row.lease (κs .1 .1 .0) (qs .1 .1 .0)) (List._∷_ (Row.lease (κs
+              .1 .1 .1 .0) (qs .1 .1 .1 .0)) (List._∷_ (Row.lease (κs .1 .1 .1 .1 .0) (qs .1 .1 .1 .1 .0)) (List._∷_ Row.off (List._∷_ Row.off (List._∷_ Row.off List.[])))))));
         }
 
         abbrev G1 : Row.Cx
         G1 = record {
           locals = List._++_ t2 t1;
-          slots = List._∷_ (Row.lease (κs .0) (qs .0)) (List._∷_ (Row.lease (κs .1 .0) (qs .1 .0)) (List._∷_ (Row.lease (κs .1 .1 .0) (qs .1 .1 .0)) (List._∷_
-              (Row.lease (κs .1 .1 .1 .0) (qs .1 .1 .1 .0)) (List._∷_ (Row.lease (κs .1 .1 .1 .1 .0) (qs .1 .1 .1 .1 .0)) (List._∷_ Row.off (List._∷_ Row.off (List._∷_ Row.off List.[])))))));
+          slots = List._∷_ (Row.lease (κs .0) (qs .0)) (List._∷_ (Row.lease (κs .1 .0) (qs .1 .0)) (List._∷_ (Row.lease (κs .1 .1 .0) (qs .1 .1 .0)) (List._∷_ (Row.lease (κs
+              .1 .1 .1 .0) (qs .1 .1 .1 .0)) (List._∷_ (Row.lease (κs .1 .1 .1 .1 .0) (qs .1 .1 .1 .1 .0)) (List._∷_ Row.off (List._∷_ Row.off (List._∷_ Row.off List.[])))))));
         }
 
         abbrev G2 : Row.Cx
         G2 = record {
           locals = List._++_ t0 t1;
-          slots = List._∷_ (Row.lease (κs .0) (qs .0)) (List._∷_ (Row.lease (κs .1 .0) (qs .1 .0)) (List._∷_ (Row.lease (κs .1 .1 .0) (qs .1 .1 .0)) (List._∷_
-              (Row.lease (κs .1 .1 .1 .0) (qs .1 .1 .1 .0)) (List._∷_ (Row.lease (κs .1 .1 .1 .1 .0) (qs .1 .1 .1 .1 .0)) (List._∷_ Row.off (List._∷_ Row.off (List._∷_ Row.off List.[])))))));
+          slots = List._∷_ (Row.lease (κs .0) (qs .0)) (List._∷_ (Row.lease (κs .1 .0) (qs .1 .0)) (List._∷_ (Row.lease (κs .1 .1 .0) (qs .1 .1 .0)) (List._∷_ (Row.lease (κs
+              .1 .1 .1 .0) (qs .1 .1 .1 .0)) (List._∷_ (Row.lease (κs .1 .1 .1 .1 .0) (qs .1 .1 .1 .1 .0)) (List._∷_ Row.off (List._∷_ Row.off (List._∷_ Row.off List.[])))))));
         }
 
         abbrev G3 : Row.Cx
         G3 = record {
           locals = List._++_ t0 t1;
-          slots = List._∷_ (Row.lease (κs .0) (qs .0)) (List._∷_ (Row.lease (κs .1 .0) (qs .1 .0)) (List._∷_ (Row.lease (κs .1 .1 .0) (qs .1 .1 .0)) (List._∷_
-              (Row.lease (κs .1 .1 .1 .0) (qs .1 .1 .1 .0)) (List._∷_ (Row.lease (κs .1 .1 .1 .1 .0) (qs .1 .1 .1 .1 .0)) (List._∷_ Row.off (List._∷_ Row.off (List._∷_ Row.off List.[])))))));
+          slots = List._∷_ (Row.lease (κs .0) (qs .0)) (List._∷_ (Row.lease (κs .1 .0) (qs .1 .0)) (List._∷_ (Row.lease (κs .1 .1 .0) (qs .1 .1 .0)) (List._∷_ (Row.lease (κs
+              .1 .1 .1 .0) (qs .1 .1 .1 .0)) (List._∷_ (Row.lease (κs .1 .1 .1 .1 .0) (qs .1 .1 .1 .1 .0)) (List._∷_ Row.off (List._∷_ Row.off (List._∷_ Row.off List.[])))))));
         }
 
         abbrev G4 : Row.Cx
         G4 = record {
           locals = List._++_ t0 t1;
-          slots = List._∷_ (Row.lease (κs .0) (qs .0)) (List._∷_ (Row.lease (κs .1 .0) (qs .1 .0)) (List._∷_ (Row.lease (κs .1 .1 .0) (qs .1 .1 .0)) (List._∷_
-              (Row.lease (κs .1 .1 .1 .0) (qs .1 .1 .1 .0)) (List._∷_ (Row.lease (κs .1 .1 .1 .1 .0) (qs .1 .1 .1 .1 .0)) (List._∷_ Row.off (List._∷_ Row.off (List._∷_ Row.off List.[])))))));
+          slots = List._∷_ (Row.lease (κs .0) (qs .0)) (List._∷_ (Row.lease (κs .1 .0) (qs .1 .0)) (List._∷_ (Row.lease (κs .1 .1 .0) (qs .1 .1 .0)) (List._∷_ (Row.lease (κs
+              .1 .1 .1 .0) (qs .1 .1 .1 .0)) (List._∷_ (Row.lease (κs .1 .1 .1 .1 .0) (qs .1 .1 .1 .1 .0)) (List._∷_ Row.off (List._∷_ Row.off (List._∷_ Row.off List.[])))))));
         }
 
         abbrev G5 : Row.Cx
         G5 = record {
           locals = List._++_ t0 t1;
-          slots = List._∷_ (Row.lease (κs .0) (qs .0)) (List._∷_ (Row.lease (κs .1 .0) (qs .1 .0)) (List._∷_ (Row.lease (κs .1 .1 .0) (qs .1 .1 .0)) (List._∷_
-              (Row.lease (κs .1 .1 .1 .0) (qs .1 .1 .1 .0)) (List._∷_ (Row.lease (κs .1 .1 .1 .1 .0) (qs .1 .1 .1 .1 .0)) (List._∷_ Row.off (List._∷_ Row.off (List._∷_ Row.off List.[])))))));
+          slots = List._∷_ (Row.lease (κs .0) (qs .0)) (List._∷_ (Row.lease (κs .1 .0) (qs .1 .0)) (List._∷_ (Row.lease (κs .1 .1 .0) (qs .1 .1 .0)) (List._∷_ (Row.lease (κs
+              .1 .1 .1 .0) (qs .1 .1 .1 .0)) (List._∷_ (Row.lease (κs .1 .1 .1 .1 .0) (qs .1 .1 .1 .1 .0)) (List._∷_ Row.off (List._∷_ Row.off (List._∷_ Row.off List.[])))))));
         }
 
         abbrev G6 : Row.Cx
         G6 = record {
           locals = List._++_ t3 t1;
-          slots = List._∷_ (Row.lease (κs .0) (qs .0)) (List._∷_ (Row.lease (κs .1 .0) (qs .1 .0)) (List._∷_ (Row.lease (κs .1 .1 .0) (qs .1 .1 .0)) (List._∷_
-              (Row.lease (κs .1 .1 .1 .0) (qs .1 .1 .1 .0)) (List._∷_ (Row.lease (κs .1 .1 .1 .1 .0) (qs .1 .1 .1 .1 .0)) (List._∷_ Row.off (List._∷_ Row.off (List._∷_ Row.off List.[])))))));
+          slots = List._∷_ (Row.lease (κs .0) (qs .0)) (List._∷_ (Row.lease (κs .1 .0) (qs .1 .0)) (List._∷_ (Row.lease (κs .1 .1 .0) (qs .1 .1 .0)) (List._∷_ (Row.lease (κs
+              .1 .1 .1 .0) (qs .1 .1 .1 .0)) (List._∷_ (Row.lease (κs .1 .1 .1 .1 .0) (qs .1 .1 .1 .1 .0)) (List._∷_ Row.off (List._∷_ Row.off (List._∷_ Row.off List.[])))))));
         }
 
         abbrev G7 : Row.Cx
         G7 = record {
           locals = List._++_ t4 t1;
-          slots = List._∷_ (Row.lease (κs .0) (qs .0)) (List._∷_ (Row.lease (κs .1 .0) (qs .1 .0)) (List._∷_ (Row.lease (κs .1 .1 .0) (qs .1 .1 .0)) (List._∷_
-              (Row.lease (κs .1 .1 .1 .0) (qs .1 .1 .1 .0)) (List._∷_ (Row.lease (κs .1 .1 .1 .1 .0) (qs .1 .1 .1 .1 .0)) (List._∷_ Row.off (List._∷_ Row.off (List._∷_ Row.off List.[])))))));
+          slots = List._∷_ (Row.lease (κs .0) (qs .0)) (List._∷_ (Row.lease (κs .1 .0) (qs .1 .0)) (List._∷_ (Row.lease (κs .1 .1 .0) (qs .1 .1 .0)) (List._∷_ (Row.lease (κs
+              .1 .1 .1 .0) (qs .1 .1 .1 .0)) (List._∷_ (Row.lease (κs .1 .1 .1 .1 .0) (qs .1 .1 .1 .1 .0)) (List._∷_ Row.off (List._∷_ Row.off (List._∷_ Row.off List.[])))))));
         }
 
         abbrev G8 : Row.Cx
         G8 = record {
           locals = List._++_ t5 t1;
-          slots = List._∷_ (Row.lease (κs .0) (qs .0)) (List._∷_ (Row.lease (κs .1 .0) (qs .1 .0)) (List._∷_ (Row.lease (κs .1 .1 .0) (qs .1 .1 .0)) (List._∷_
-              (Row.lease (κs .1 .1 .1 .0) (qs .1 .1 .1 .0)) (List._∷_ (Row.lease (κs .1 .1 .1 .1 .0) (qs .1 .1 .1 .1 .0)) (List._∷_ Row.off (List._∷_ Row.off (List._∷_ Row.off List.[])))))));
+          slots = List._∷_ (Row.lease (κs .0) (qs .0)) (List._∷_ (Row.lease (κs .1 .0) (qs .1 .0)) (List._∷_ (Row.lease (κs .1 .1 .0) (qs .1 .1 .0)) (List._∷_ (Row.lease (κs
+              .1 .1 .1 .0) (qs .1 .1 .1 .0)) (List._∷_ (Row.lease (κs .1 .1 .1 .1 .0) (qs .1 .1 .1 .1 .0)) (List._∷_ Row.off (List._∷_ Row.off (List._∷_ Row.off List.[])))))));
         }
 
         abbrev G9 : Row.Cx
         G9 = record {
           locals = List._++_ t6 t1;
-          slots = List._∷_ (Row.lease (κs .0) (qs .0)) (List._∷_ (Row.lease (κs .1 .0) (qs .1 .0)) (List._∷_ (Row.lease (κs .1 .1 .0) (qs .1 .1 .0)) (List._∷_
-              (Row.lease (κs .1 .1 .1 .0) (qs .1 .1 .1 .0)) (List._∷_ (Row.lease (κs .1 .1 .1 .1 .0) (qs .1 .1 .1 .1 .0)) (List._∷_ Row.off (List._∷_ Row.off (List._∷_ Row.off List.[])))))));
+          slots = List._∷_ (Row.lease (κs .0) (qs .0)) (List._∷_ (Row.lease (κs .1 .0) (qs .1 .0)) (List._∷_ (Row.lease (κs .1 .1 .0) (qs .1 .1 .0)) (List._∷_ (Row.lease (κs
+              .1 .1 .1 .0) (qs .1 .1 .1 .0)) (List._∷_ (Row.lease (κs .1 .1 .1 .1 .0) (qs .1 .1 .1 .1 .0)) (List._∷_ Row.off (List._∷_ Row.off (List._∷_ Row.off List.[])))))));
         }
 
         abbrev G10 : Row.Cx
         G10 = record {
           locals = List._++_ t7 t1;
-          slots = List._∷_ (Row.lease (κs .0) (qs .0)) (List._∷_ (Row.lease (κs .1 .0) (qs .1 .0)) (List._∷_ (Row.lease (κs .1 .1 .0) (qs .1 .1 .0)) (List._∷_
-              (Row.lease (κs .1 .1 .1 .0) (qs .1 .1 .1 .0)) (List._∷_ (Row.lease (κs .1 .1 .1 .1 .0) (qs .1 .1 .1 .1 .0)) (List._∷_ Row.off (List._∷_ Row.off (List._∷_ Row.off List.[])))))));
+          slots = List._∷_ (Row.lease (κs .0) (qs .0)) (List._∷_ (Row.lease (κs .1 .0) (qs .1 .0)) (List._∷_ (Row.lease (κs .1 .1 .0) (qs .1 .1 .0)) (List._∷_ (Row.lease (κs
+              .1 .1 .1 .0) (qs .1 .1 .1 .0)) (List._∷_ (Row.lease (κs .1 .1 .1 .1 .0) (qs .1 .1 .1 .1 .0)) (List._∷_ Row.off (List._∷_ Row.off (List._∷_ Row.off List.[])))))));
         }
 
         abbrev G11 : Row.Cx
         G11 = record {
           locals = List._++_ t8 t1;
-          slots = List._∷_ (Row.lease (κs .0) (qs .0)) (List._∷_ (Row.lease (κs .1 .0) (qs .1 .0)) (List._∷_ (Row.lease (κs .1 .1 .0) (qs .1 .1 .0)) (List._∷_
-              (Row.lease (κs .1 .1 .1 .0) (qs .1 .1 .1 .0)) (List._∷_ (Row.lease (κs .1 .1 .1 .1 .0) (qs .1 .1 .1 .1 .0)) (List._∷_ Row.off (List._∷_ Row.off (List._∷_ Row.off List.[])))))));
+          slots = List._∷_ (Row.lease (κs .0) (qs .0)) (List._∷_ (Row.lease (κs .1 .0) (qs .1 .0)) (List._∷_ (Row.lease (κs .1 .1 .0) (qs .1 .1 .0)) (List._∷_ (Row.lease (κs
+              .1 .1 .1 .0) (qs .1 .1 .1 .0)) (List._∷_ (Row.lease (κs .1 .1 .1 .1 .0) (qs .1 .1 .1 .1 .0)) (List._∷_ Row.off (List._∷_ Row.off (List._∷_ Row.off List.[])))))));
         }
 
         abbrev G12 : Row.Cx
         G12 = record {
           locals = List._++_ t9 t1;
-          slots = List._∷_ (Row.lease (κs .0) (qs .0)) (List._∷_ (Row.lease (κs .1 .0) (qs .1 .0)) (List._∷_ (Row.lease (κs .1 .1 .0) (qs .1 .1 .0)) (List._∷_
-              (Row.lease (κs .1 .1 .1 .0) (qs .1 .1 .1 .0)) (List._∷_ (Row.lease (κs .1 .1 .1 .1 .0) (qs .1 .1 .1 .1 .0)) (List._∷_ Row.off (List._∷_ Row.off (List._∷_ Row.off List.[])))))));
+          slots = List._∷_ (Row.lease (κs .0) (qs .0)) (List._∷_ (Row.lease (κs .1 .0) (qs .1 .0)) (List._∷_ (Row.lease (κs .1 .1 .0) (qs .1 .1 .0)) (List._∷_ (Row.lease (κs
+              .1 .1 .1 .0) (qs .1 .1 .1 .0)) (List._∷_ (Row.lease (κs .1 .1 .1 .1 .0) (qs .1 .1 .1 .1 .0)) (List._∷_ Row.off (List._∷_ Row.off (List._∷_ Row.off List.[])))))));
         }
 
         abbrev G13 : Row.Cx
         G13 = record {
           locals = List._++_ t10 t1;
-          slots = List._∷_ (Row.lease (κs .0) (qs .0)) (List._∷_ (Row.lease (κs .1 .0) (qs .1 .0)) (List._∷_ (Row.lease (κs .1 .1 .0) (qs .1 .1 .0)) (List._∷_
-              (Row.lease (κs .1 .1 .1 .0) (qs .1 .1 .1 .0)) (List._∷_ (Row.lease (κs .1 .1 .1 .1 .0) (qs .1 .1 .1 .1 .0)) (List._∷_ Row.off (List._∷_ Row.off (List._∷_ Row.off List.[])))))));
+          slots = List._∷_ (Row.lease (κs .0) (qs .0)) (List._∷_ (Row.lease (κs .1 .0) (qs .1 .0)) (List._∷_ (Row.lease (κs .1 .1 .0) (qs .1 .1 .0)) (List._∷_ (Row.lease (κs
+              .1 .1 .1 .0) (qs .1 .1 .1 .0)) (List._∷_ (Row.lease (κs .1 .1 .1 .1 .0) (qs .1 .1 .1 .1 .0)) (List._∷_ Row.off (List._∷_ Row.off (List._∷_ Row.off List.[])))))));
         }
 
         abbrev G14 : Row.Cx
         G14 = record {
           locals = List._++_ t11 t1;
-          slots = List._∷_ (Row.lease (κs .0) (qs .0)) (List._∷_ (Row.lease (κs .1 .0) (qs .1 .0)) (List._∷_ (Row.lease (κs .1 .1 .0) (qs .1 .1 .0)) (List._∷_
-              (Row.lease (κs .1 .1 .1 .0) (qs .1 .1 .1 .0)) (List._∷_ (Row.lease (κs .1 .1 .1 .1 .0) (qs .1 .1 .1 .1 .0)) (List._∷_ Row.off (List._∷_ Row.off (List._∷_ Row.off List.[])))))));
+          slots = List._∷_ (Row.lease (κs .0) (qs .0)) (List._∷_ (Row.lease (κs .1 .0) (qs .1 .0)) (List._∷_ (Row.lease (κs .1 .1 .0) (qs .1 .1 .0)) (List._∷_ (Row.lease (κs
+              .1 .1 .1 .0) (qs .1 .1 .1 .0)) (List._∷_ (Row.lease (κs .1 .1 .1 .1 .0) (qs .1 .1 .1 .1 .0)) (List._∷_ Row.off (List._∷_ Row.off (List._∷_ Row.off List.[])))))));
         }
 
         abbrev G15 : Row.Cx
         G15 = record {
           locals = List._++_ t11 t1;
-          slots = List._∷_ (Row.lease (κs .0) (qs .0)) (List._∷_ (Row.lease (κs .1 .0) (qs .1 .0)) (List._∷_ (Row.lease (κs .1 .1 .0) (qs .1 .1 .0)) (List._∷_
-              (Row.lease (κs .1 .1 .1 .0) (qs .1 .1 .1 .0)) (List._∷_ (Row.lease (κs .1 .1 .1 .1 .0) (qs .1 .1 .1 .1 .0)) (List._∷_ Row.off (List._∷_ Row.off (List._∷_ Row.off List.[])))))));
+          slots = List._∷_ (Row.lease (κs .0) (qs .0)) (List._∷_ (Row.lease (κs .1 .0) (qs .1 .0)) (List._∷_ (Row.lease (κs .1 .1 .0) (qs .1 .1 .0)) (List._∷_ (Row.lease (κs
+              .1 .1 .1 .0) (qs .1 .1 .1 .0)) (List._∷_ (Row.lease (κs .1 .1 .1 .1 .0) (qs .1 .1 .1 .1 .0)) (List._∷_ Row.off (List._∷_ Row.off (List._∷_ Row.off List.[])))))));
         }
 
         abbrev G16 : Row.Cx
         G16 = record {
           locals = List._++_ t12 t1;
-          slots = List._∷_ (Row.lease (κs .0) (qs .0)) (List._∷_ (Row.lease (κs .1 .0) (qs .1 .0)) (List._∷_ (Row.lease (κs .1 .1 .0) (qs .1 .1 .0)) (List._∷_
-              (Row.lease (κs .1 .1 .1 .0) (qs .1 .1 .1 .0)) (List._∷_ (Row.lease (κs .1 .1 .1 .1 .0) (qs .1 .1 .1 .1 .0)) (List._∷_ Row.off (List._∷_ Row.off (List._∷_ Row.off List.[])))))));
+          slots = List._∷_ (Row.lease (κs .0) (qs .0)) (List._∷_ (Row.lease (κs .1 .0) (qs .1 .0)) (List._∷_ (Row.lease (κs .1 .1 .0) (qs .1 .1 .0)) (List._∷_ (Row.lease (κs
+              .1 .1 .1 .0) (qs .1 .1 .1 .0)) (List._∷_ (Row.lease (κs .1 .1 .1 .1 .0) (qs .1 .1 .1 .1 .0)) (List._∷_ Row.off (List._∷_ Row.off (List._∷_ Row.off List.[])))))));
         }
 
         abbrev G17 : Row.Cx
         G17 = record {
           locals = List._++_ t13 t1;
-          slots = List._∷_ (Row.lease (κs .0) (qs .0)) (List._∷_ (Row.lease (κs .1 .0) (qs .1 .0)) (List._∷_ (Row.lease (κs .1 .1 .0) (qs .1 .1 .0)) (List._∷_
-              (Row.lease (κs .1 .1 .1 .0) (qs .1 .1 .1 .0)) (List._∷_ (Row.lease (κs .1 .1 .1 .1 .0) (qs .1 .1 .1 .1 .0)) (List._∷_ Row.off (List._∷_ Row.off (List._∷_ Row.off List.[])))))));
+          slots = List._∷_ (Row.lease (κs .0) (qs .0)) (List._∷_ (Row.lease (κs .1 .0) (qs .1 .0)) (List._∷_ (Row.lease (κs .1 .1 .0) (qs .1 .1 .0)) (List._∷_ (Row.lease (κs
+              .1 .1 .1 .0) (qs .1 .1 .1 .0)) (List._∷_ (Row.lease (κs .1 .1 .1 .1 .0) (qs .1 .1 .1 .1 .0)) (List._∷_ Row.off (List._∷_ Row.off (List._∷_ Row.off List.[])))))));
         }
 
         abbrev G18 : Row.Cx
         G18 = record {
           locals = List._++_ t14 t1;
-          slots = List._∷_ (Row.lease (κs .0) (qs .0)) (List._∷_ (Row.lease (κs .1 .0) (qs .1 .0)) (List._∷_ (Row.lease (κs .1 .1 .0) (qs .1 .1 .0)) (List._∷_
-              (Row.lease (κs .1 .1 .1 .0) (qs .1 .1 .1 .0)) (List._∷_ (Row.lease (κs .1 .1 .1 .1 .0) (qs .1 .1 .1 .1 .0)) (List._∷_ Row.off (List._∷_ Row.off (List._∷_ Row.off List.[])))))));
+          slots = List._∷_ (Row.lease (κs .0) (qs .0)) (List._∷_ (Row.lease (κs .1 .0) (qs .1 .0)) (List._∷_ (Row.lease (κs .1 .1 .0) (qs .1 .1 .0)) (List._∷_ (Row.lease (κs
+              .1 .1 .1 .0) (qs .1 .1 .1 .0)) (List._∷_ (Row.lease (κs .1 .1 .1 .1 .0) (qs .1 .1 .1 .1 .0)) (List._∷_ Row.off (List._∷_ Row.off (List._∷_ Row.off List.[])))))));
         }
 
         abbrev G19 : Row.Cx
         G19 = record {
           locals = List._++_ t7 t1;
-          slots = List._∷_ (Row.lease (κs .0) (qs .0)) (List._∷_ (Row.lease (κs .1 .0) (qs .1 .0)) (List._∷_ (Row.lease (κs .1 .1 .0) (qs .1 .1 .0)) (List._∷_
-              (Row.lease (κs .1 .1 .1 .0) (qs .1 .1 .1 .0)) (List._∷_ (Row.lease (κs .1 .1 .1 .1 .0) (qs .1 .1 .1 .1 .0)) (List._∷_ Row.off (List._∷_ Row.off (List._∷_ Row.off List.[])))))));
+          slots = List._∷_ (Row.lease (κs .0) (qs .0)) (List._∷_ (Row.lease (κs .1 .0) (qs .1 .0)) (List._∷_ (Row.lease (κs .1 .1 .0) (qs .1 .1 .0)) (List._∷_ (Row.lease (κs
+              .1 .1 .1 .0) (qs .1 .1 .1 .0)) (List._∷_ (Row.lease (κs .1 .1 .1 .1 .0) (qs .1 .1 .1 .1 .0)) (List._∷_ Row.off (List._∷_ Row.off (List._∷_ Row.off List.[])))))));
         }
 
         abbrev G20 : Row.Cx
         G20 = record {
           locals = List._++_ t15 t1;
-          slots = List._∷_ (Row.lease (κs .0) (qs .0)) (List._∷_ (Row.lease (κs .1 .0) (qs .1 .0)) (List._∷_ (Row.lease (κs .1 .1 .0) (qs .1 .1 .0)) (List._∷_
-              (Row.lease (κs .1 .1 .1 .0) (qs .1 .1 .1 .0)) (List._∷_ (Row.lease (κs .1 .1 .1 .1 .0) (qs .1 .1 .1 .1 .0)) (List._∷_ Row.off (List._∷_ Row.off (List._∷_ Row.off List.[])))))));
+          slots = List._∷_ (Row.lease (κs .0) (qs .0)) (List._∷_ (Row.lease (κs .1 .0) (qs .1 .0)) (List._∷_ (Row.lease (κs .1 .1 .0) (qs .1 .1 .0)) (List._∷_ (Row.lease (κs
+              .1 .1 .1 .0) (qs .1 .1 .1 .0)) (List._∷_ (Row.lease (κs .1 .1 .1 .1 .0) (qs .1 .1 .1 .1 .0)) (List._∷_ Row.off (List._∷_ Row.off (List._∷_ Row.off List.[])))))));
         }
 
         abbrev G21 : Row.Cx
         G21 = record {
           locals = List._++_ t15 t1;
-          slots = List._∷_ (Row.lease (κs .0) (qs .0)) (List._∷_ (Row.lease (κs .1 .0) (qs .1 .0)) (List._∷_ (Row.lease (κs .1 .1 .0) (qs .1 .1 .0)) (List._∷_
-              (Row.lease (κs .1 .1 .1 .0) (qs .1 .1 .1 .0)) (List._∷_ (Row.lease (κs .1 .1 .1 .1 .0) (qs .1 .1 .1 .1 .0)) (List._∷_ Row.off (List._∷_ Row.off (List._∷_ Row.off List.[])))))));
+          slots = List._∷_ (Row.lease (κs .0) (qs .0)) (List._∷_ (Row.lease (κs .1 .0) (qs .1 .0)) (List._∷_ (Row.lease (κs .1 .1 .0) (qs .1 .1 .0)) (List._∷_ (Row.lease (κs
+              .1 .1 .1 .0) (qs .1 .1 .1 .0)) (List._∷_ (Row.lease (κs .1 .1 .1 .1 .0) (qs .1 .1 .1 .1 .0)) (List._∷_ Row.off (List._∷_ Row.off (List._∷_ Row.off List.[])))))));
         }
 
         abbrev G22 : Row.Cx
         G22 = record {
           locals = List._++_ t16 t1;
-          slots = List._∷_ (Row.lease (κs .0) (qs .0)) (List._∷_ (Row.lease (κs .1 .0) (qs .1 .0)) (List._∷_ (Row.lease (κs .1 .1 .0) (qs .1 .1 .0)) (List._∷_
-              (Row.lease (κs .1 .1 .1 .0) (qs .1 .1 .1 .0)) (List._∷_ (Row.lease (κs .1 .1 .1 .1 .0) (qs .1 .1 .1 .1 .0)) (List._∷_ Row.off (List._∷_ Row.off (List._∷_ Row.off List.[])))))));
+          slots = List._∷_ (Row.lease (κs .0) (qs .0)) (List._∷_ (Row.lease (κs .1 .0) (qs .1 .0)) (List._∷_ (Row.lease (κs .1 .1 .0) (qs .1 .1 .0)) (List._∷_ (Row.lease (κs
+              .1 .1 .1 .0) (qs .1 .1 .1 .0)) (List._∷_ (Row.lease (κs .1 .1 .1 .1 .0) (qs .1 .1 .1 .1 .0)) (List._∷_ Row.off (List._∷_ Row.off (List._∷_ Row.off List.[])))))));
         }
 
         abbrev G23 : Row.Cx
         G23 = record {
           locals = List._++_ t17 t1;
-          slots = List._∷_ (Row.lease (κs .0) (qs .0)) (List._∷_ (Row.lease (κs .1 .0) (qs .1 .0)) (List._∷_ (Row.lease (κs .1 .1 .0) (qs .1 .1 .0)) (List._∷_
-              (Row.lease (κs .1 .1 .1 .0) (qs .1 .1 .1 .0)) (List._∷_ (Row.lease (κs .1 .1 .1 .1 .0) (qs .1 .1 .1 .1 .0)) (List._∷_ Row.off (List._∷_ Row.off (List._∷_ Row.off List.[])))))));
+          slots = List._∷_ (Row.lease (κs .0) (qs .0)) (List._∷_ (Row.lease (κs .1 .0) (qs .1 .0)) (List._∷_ (Row.lease (κs .1 .1 .0) (qs .1 .1 .0)) (List._∷_ (Row.lease (κs
+              .1 .1 .1 .0) (qs .1 .1 .1 .0)) (List._∷_ (Row.lease (κs .1 .1 .1 .1 .0) (qs .1 .1 .1 .1 .0)) (List._∷_ Row.off (List._∷_ Row.off (List._∷_ Row.off List.[])))))));
         }
 
         abbrev G24 : Row.Cx
         G24 = record {
           locals = List._++_ t18 t1;
-          slots = List._∷_ (Row.lease (κs .0) (qs .0)) (List._∷_ (Row.lease (κs .1 .0) (qs .1 .0)) (List._∷_ (Row.lease (κs .1 .1 .0) (qs .1 .1 .0)) (List._∷_
-              (Row.lease (κs .1 .1 .1 .0) (qs .1 .1 .1 .0)) (List._∷_ (Row.lease (κs .1 .1 .1 .1 .0) (qs .1 .1 .1 .1 .0)) (List._∷_ Row.off (List._∷_ Row.off (List._∷_ Row.off List.[])))))));
+          slots = List._∷_ (Row.lease (κs .0) (qs .0)) (List._∷_ (Row.lease (κs .1 .0) (qs .1 .0)) (List._∷_ (Row.lease (κs .1 .1 .0) (qs .1 .1 .0)) (List._∷_ (Row.lease (κs
+              .1 .1 .1 .0) (qs .1 .1 .1 .0)) (List._∷_ (Row.lease (κs .1 .1 .1 .1 .0) (qs .1 .1 .1 .1 .0)) (List._∷_ Row.off (List._∷_ Row.off (List._∷_ Row.off List.[])))))));
         }
 
         abbrev G25 : Row.Cx
         G25 = record {
           locals = List._++_ t19 t1;
-          slots = List._∷_ (Row.lease (κs .0) (qs .0)) (List._∷_ (Row.lease (κs .1 .0) (qs .1 .0)) (List._∷_ (Row.lease (κs .1 .1 .0) (qs .1 .1 .0)) (List._∷_
-              (Row.lease (κs .1 .1 .1 .0) (qs .1 .1 .1 .0)) (List._∷_ (Row.lease (κs .1 .1 .1 .1 .0) (qs .1 .1 .1 .1 .0)) (List._∷_ Row.off (List._∷_ Row.off (List._∷_ Row.off List.[])))))));
+          slots = List._∷_ (Row.lease (κs .0) (qs .0)) (List._∷_ (Row.lease (κs .1 .0) (qs .1 .0)) (List._∷_ (Row.lease (κs .1 .1 .0) (qs .1 .1 .0)) (List._∷_ (Row.lease (κs
+              .1 .1 .1 .0) (qs .1 .1 .1 .0)) (List._∷_ (Row.lease (κs .1 .1 .1 .1 .0) (qs .1 .1 .1 .1 .0)) (List._∷_ Row.off (List._∷_ Row.off (List._∷_ Row.off List.[])))))));
         }
 
         abbrev G26 : Row.Cx
         G26 = record {
           locals = List._++_ t20 t1;
-          slots = List._∷_ (Row.lease (κs .0) (qs .0)) (List._∷_ (Row.lease (κs .1 .0) (qs .1 .0)) (List._∷_ (Row.lease (κs .1 .1 .0) (qs .1 .1 .0)) (List._∷_
-              (Row.lease (κs .1 .1 .1 .0) (qs .1 .1 .1 .0)) (List._∷_ (Row.lease (κs .1 .1 .1 .1 .0) (qs .1 .1 .1 .1 .0)) (List._∷_ Row.off (List._∷_ Row.off (List._∷_ Row.off List.[])))))));
+          slots = List._∷_ (Row.lease (κs .0) (qs .0)) (List._∷_ (Row.lease (κs .1 .0) (qs .1 .0)) (List._∷_ (Row.lease (κs .1 .1 .0) (qs .1 .1 .0)) (List._∷_ (Row.lease (κs
+              .1 .1 .1 .0) (qs .1 .1 .1 .0)) (List._∷_ (Row.lease (κs .1 .1 .1 .1 .0) (qs .1 .1 .1 .1 .0)) (List._∷_ Row.off (List._∷_ Row.off (List._∷_ Row.off List.[])))))));
         }
 
         abbrev G27 : Row.Cx
         G27 = record {
           locals = List._++_ t21 t1;
-          slots = List._∷_ (Row.lease (κs .0) (qs .0)) (List._∷_ (Row.lease (κs .1 .0) (qs .1 .0)) (List._∷_ (Row.lease (κs .1 .1 .0) (qs .1 .1 .0)) (List._∷_
-              (Row.lease (κs .1 .1 .1 .0) (qs .1 .1 .1 .0)) (List._∷_ (Row.lease (κs .1 .1 .1 .1 .0) (qs .1 .1 .1 .1 .0)) (List._∷_ Row.off (List._∷_ Row.off (List._∷_ Row.off List.[])))))));
+          slots = List._∷_ (Row.lease (κs .0) (qs .0)) (List._∷_ (Row.lease (κs .1 .0) (qs .1 .0)) (List._∷_ (Row.lease (κs .1 .1 .0) (qs .1 .1 .0)) (List._∷_ (Row.lease (κs
+              .1 .1 .1 .0) (qs .1 .1 .1 .0)) (List._∷_ (Row.lease (κs .1 .1 .1 .1 .0) (qs .1 .1 .1 .1 .0)) (List._∷_ Row.off (List._∷_ Row.off (List._∷_ Row.off List.[])))))));
         }
 
         abbrev G28 : Row.Cx
         G28 = record {
           locals = List._++_ t21 t1;
-          slots = List._∷_ (Row.lease (κs .0) (qs .0)) (List._∷_ (Row.lease (κs .1 .0) (qs .1 .0)) (List._∷_ (Row.lease (κs .1 .1 .0) (qs .1 .1 .0)) (List._∷_
-              (Row.lease (κs .1 .1 .1 .0) (qs .1 .1 .1 .0)) (List._∷_ (Row.lease (κs .1 .1 .1 .1 .0) (qs .1 .1 .1 .1 .0)) (List._∷_ Row.alive (List._∷_ Row.off (List._∷_ Row.off List.[])))))));
+          slots = List._∷_ (Row.lease (κs .0) (qs .0)) (List._∷_ (Row.lease (κs .1 .0) (qs .1 .0)) (List._∷_ (Row.lease (κs .1 .1 .0) (qs .1 .1 .0)) (List._∷_ (Row.lease (κs
+              .1 .1 .1 .0) (qs .1 .1 .1 .0)) (List._∷_ (Row.lease (κs .1 .1 .1 .1 .0) (qs .1 .1 .1 .1 .0)) (List._∷_ Row.alive (List._∷_ Row.off (List._∷_ Row.off List.[])))))));
         }
 
         abbrev G29 : Row.Cx
         G29 = record {
           locals = List._++_ g22 t23;
-          slots = List._∷_ (Row.lease (κs .0) (qs .0)) (List._∷_ (Row.lease (κs .1 .0) (qs .1 .0)) (List._∷_ Row.off (List._∷_ (Row.lease (κs .1 .1 .1 .0) (qs
-              .1 .1 .1 .0)) (List._∷_ (Row.lease (κs .1 .1 .1 .1 .0) (qs .1 .1 .1 .1 .0)) (List._∷_ Row.alive (List._∷_ Row.off (List._∷_ Row.off List.[])))))));
+          slots = List._∷_ (Row.lease (κs .0) (qs .0)) (List._∷_ (Row.lease (κs .1 .0) (qs .1 .0)) (List._∷_ Row.off (List._∷_ (Row.lease (κs .1 .1 .1 .0) (qs .1 .1 .1 .0))
+              (List._∷_ (Row.lease (κs .1 .1 .1 .1 .0) (qs .1 .1 .1 .1 .0)) (List._∷_ Row.alive (List._∷_ Row.off (List._∷_ Row.off List.[])))))));
         }
 
         abbrev G30 : Row.Cx
         G30 = record {
           locals = List._++_ g22 t24;
-          slots = List._∷_ (Row.lease (κs .0) (qs .0)) (List._∷_ (Row.lease (κs .1 .0) (qs .1 .0)) (List._∷_ Row.off (List._∷_ (Row.lease (κs .1 .1 .1 .0) (qs
-              .1 .1 .1 .0)) (List._∷_ (Row.lease (κs .1 .1 .1 .1 .0) (qs .1 .1 .1 .1 .0)) (List._∷_ Row.alive (List._∷_ Row.off (List._∷_ Row.off List.[])))))));
+          slots = List._∷_ (Row.lease (κs .0) (qs .0)) (List._∷_ (Row.lease (κs .1 .0) (qs .1 .0)) (List._∷_ Row.off (List._∷_ (Row.lease (κs .1 .1 .1 .0) (qs .1 .1 .1 .0))
+              (List._∷_ (Row.lease (κs .1 .1 .1 .1 .0) (qs .1 .1 .1 .1 .0)) (List._∷_ Row.alive (List._∷_ Row.off (List._∷_ Row.off List.[])))))));
         }
 
         abbrev G31 : Row.Cx
         G31 = record {
           locals = List._++_ g22 t25;
-          slots = List._∷_ (Row.lease (κs .0) (qs .0)) (List._∷_ (Row.lease (κs .1 .0) (qs .1 .0)) (List._∷_ Row.off (List._∷_ (Row.lease (κs .1 .1 .1 .0) (qs
-              .1 .1 .1 .0)) (List._∷_ (Row.lease (κs .1 .1 .1 .1 .0) (qs .1 .1 .1 .1 .0)) (List._∷_ Row.alive (List._∷_ Row.off (List._∷_ Row.off List.[])))))));
+          slots = List._∷_ (Row.lease (κs .0) (qs .0)) (List._∷_ (Row.lease (κs .1 .0) (qs .1 .0)) (List._∷_ Row.off (List._∷_ (Row.lease (κs .1 .1 .1 .0) (qs .1 .1 .1 .0))
+              (List._∷_ (Row.lease (κs .1 .1 .1 .1 .0) (qs .1 .1 .1 .1 .0)) (List._∷_ Row.alive (List._∷_ Row.off (List._∷_ Row.off List.[])))))));
         }
 
         abbrev G32 : Row.Cx
         G32 = record {
           locals = List._++_ g22 t26;
-          slots = List._∷_ (Row.lease (κs .0) (qs .0)) (List._∷_ (Row.lease (κs .1 .0) (qs .1 .0)) (List._∷_ Row.off (List._∷_ (Row.lease (κs .1 .1 .1 .0) (qs
-              .1 .1 .1 .0)) (List._∷_ (Row.lease (κs .1 .1 .1 .1 .0) (qs .1 .1 .1 .1 .0)) (List._∷_ Row.alive (List._∷_ Row.off (List._∷_ Row.off List.[])))))));
+          slots = List._∷_ (Row.lease (κs .0) (qs .0)) (List._∷_ (Row.lease (κs .1 .0) (qs .1 .0)) (List._∷_ Row.off (List._∷_ (Row.lease (κs .1 .1 .1 .0) (qs .1 .1 .1 .0))
+              (List._∷_ (Row.lease (κs .1 .1 .1 .1 .0) (qs .1 .1 .1 .1 .0)) (List._∷_ Row.alive (List._∷_ Row.off (List._∷_ Row.off List.[])))))));
         }
 
         abbrev G33 : Row.Cx
         G33 = record {
           locals = List._++_ g22 t26;
-          slots = List._∷_ (Row.lease (κs .0) (qs .0)) (List._∷_ (Row.lease (κs .1 .0) (qs .1 .0)) (List._∷_ Row.off (List._∷_ (Row.lease (κs .1 .1 .1 .0) (qs
-              .1 .1 .1 .0)) (List._∷_ (Row.lease (κs .1 .1 .1 .1 .0) (qs .1 .1 .1 .1 .0)) (List._∷_ Row.alive (List._∷_ Row.alive (List._∷_ Row.off List.[])))))));
+          slots = List._∷_ (Row.lease (κs .0) (qs .0)) (List._∷_ (Row.lease (κs .1 .0) (qs .1 .0)) (List._∷_ Row.off (List._∷_ (Row.lease (κs .1 .1 .1 .0) (qs .1 .1 .1 .0))
+              (List._∷_ (Row.lease (κs .1 .1 .1 .1 .0) (qs .1 .1 .1 .1 .0)) (List._∷_ Row.alive (List._∷_ Row.alive (List._∷_ Row.off List.[])))))));
         }
 
         abbrev G34 : Row.Cx
         G34 = record {
           locals = List._++_ g27 t28;
-          slots = List._∷_ (Row.lease (κs .0) (qs .0)) (List._∷_ (Row.lease (κs .1 .0) (qs .1 .0)) (List._∷_ Row.off (List._∷_ Row.off (List._∷_ (Row.lease (κs
-              .1 .1 .1 .1 .0) (qs .1 .1 .1 .1 .0)) (List._∷_ Row.alive (List._∷_ Row.alive (List._∷_ Row.off List.[])))))));
+          slots = List._∷_ (Row.lease (κs .0) (qs .0)) (List._∷_ (Row.lease (κs .1 .0) (qs .1 .0)) (List._∷_ Row.off (List._∷_ Row.off (List._∷_ (Row.lease (κs .1 .1 .1 .1
+              .0) (qs .1 .1 .1 .1 .0)) (List._∷_ Row.alive (List._∷_ Row.alive (List._∷_ Row.off List.[])))))));
         }
 
         abbrev G35 : Row.Cx
         G35 = record {
           locals = List._++_ g27 t29;
-          slots = List._∷_ (Row.lease (κs .0) (qs .0)) (List._∷_ (Row.lease (κs .1 .0) (qs .1 .0)) (List._∷_ Row.off (List._∷_ Row.off (List._∷_ (Row.lease (κs
-              .1 .1 .1 .1 .0) (qs .1 .1 .1 .1 .0)) (List._∷_ Row.alive (List._∷_ Row.alive (List._∷_ Row.off List.[])))))));
+          slots = List._∷_ (Row.lease (κs .0) (qs .0)) (List._∷_ (Row.lease (κs .1 .0) (qs .1 .0)) (List._∷_ Row.off (List._∷_ Row.off (List._∷_ (Row.lease (κs .1 .1 .1 .1
+              .0) (qs .1 .1 .1 .1 .0)) (List._∷_ Row.alive (List._∷_ Row.alive (List._∷_ Row.off List.[])))))));
         }
 
         abbrev G36 : Row.Cx
         G36 = record {
           locals = List._++_ g27 t30;
-          slots = List._∷_ (Row.lease (κs .0) (qs .0)) (List._∷_ (Row.lease (κs .1 .0) (qs .1 .0)) (List._∷_ Row.off (List._∷_ Row.off (List._∷_ (Row.lease (κs
-              .1 .1 .1 .1 .0) (qs .1 .1 .1 .1 .0)) (List._∷_ Row.alive (List._∷_ Row.alive (List._∷_ Row.off List.[])))))));
+          slots = List._∷_ (Row.lease (κs .0) (qs .0)) (List._∷_ (Row.lease (κs .1 .0) (qs .1 .0)) (List._∷_ Row.off (List._∷_ Row.off (List._∷_ (Row.lease (κs .1 .1 .1 .1
+              .0) (qs .1 .1 .1 .1 .0)) (List._∷_ Row.alive (List._∷_ Row.alive (List._∷_ Row.off List.[])))))));
         }
 
         abbrev G37 : Row.Cx
         G37 = record {
           locals = List._++_ g27 t31;
-          slots = List._∷_ (Row.lease (κs .0) (qs .0)) (List._∷_ (Row.lease (κs .1 .0) (qs .1 .0)) (List._∷_ Row.off (List._∷_ Row.off (List._∷_ (Row.lease (κs
-              .1 .1 .1 .1 .0) (qs .1 .1 .1 .1 .0)) (List._∷_ Row.alive (List._∷_ Row.alive (List._∷_ Row.off List.[])))))));
+          slots = List._∷_ (Row.lease (κs .0) (qs .0)) (List._∷_ (Row.lease (κs .1 .0) (qs .1 .0)) (List._∷_ Row.off (List._∷_ Row.off (List._∷_ (Row.lease (κs .1 .1 .1 .1
+              .0) (qs .1 .1 .1 .1 .0)) (List._∷_ Row.alive (List._∷_ Row.alive (List._∷_ Row.off List.[])))))));
         }
 
         abbrev G38 : Row.Cx
         G38 = record {
           locals = List._++_ g27 t32;
-          slots = List._∷_ (Row.lease (κs .0) (qs .0)) (List._∷_ (Row.lease (κs .1 .0) (qs .1 .0)) (List._∷_ Row.off (List._∷_ Row.off (List._∷_ (Row.lease (κs
-              .1 .1 .1 .1 .0) (qs .1 .1 .1 .1 .0)) (List._∷_ Row.alive (List._∷_ Row.alive (List._∷_ Row.off List.[])))))));
+          slots = List._∷_ (Row.lease (κs .0) (qs .0)) (List._∷_ (Row.lease (κs .1 .0) (qs .1 .0)) (List._∷_ Row.off (List._∷_ Row.off (List._∷_ (Row.lease (κs .1 .1 .1 .1
+              .0) (qs .1 .1 .1 .1 .0)) (List._∷_ Row.alive (List._∷_ Row.alive (List._∷_ Row.off List.[])))))));
         }
 
         abbrev G39 : Row.Cx
         G39 = record {
           locals = List._++_ g27 t33;
-          slots = List._∷_ (Row.lease (κs .0) (qs .0)) (List._∷_ (Row.lease (κs .1 .0) (qs .1 .0)) (List._∷_ Row.off (List._∷_ Row.off (List._∷_ (Row.lease (κs
-              .1 .1 .1 .1 .0) (qs .1 .1 .1 .1 .0)) (List._∷_ Row.alive (List._∷_ Row.alive (List._∷_ Row.off List.[])))))));
+          slots = List._∷_ (Row.lease (κs .0) (qs .0)) (List._∷_ (Row.lease (κs .1 .0) (qs .1 .0)) (List._∷_ Row.off (List._∷_ Row.off (List._∷_ (Row.lease (κs .1 .1 .1 .1
+              .0) (qs .1 .1 .1 .1 .0)) (List._∷_ Row.alive (List._∷_ Row.alive (List._∷_ Row.off List.[])))))));
         }
 
         abbrev G40 : Row.Cx
         G40 = record {
           locals = List._++_ g27 t33;
-          slots = List._∷_ (Row.lease (κs .0) (qs .0)) (List._∷_ (Row.lease (κs .1 .0) (qs .1 .0)) (List._∷_ Row.off (List._∷_ Row.off (List._∷_ (Row.lease (κs
-              .1 .1 .1 .1 .0) (qs .1 .1 .1 .1 .0)) (List._∷_ Row.alive (List._∷_ Row.alive (List._∷_ Row.alive List.[])))))));
+          slots = List._∷_ (Row.lease (κs .0) (qs .0)) (List._∷_ (Row.lease (κs .1 .0) (qs .1 .0)) (List._∷_ Row.off (List._∷_ Row.off (List._∷_ (Row.lease (κs .1 .1 .1 .1
+              .0) (qs .1 .1 .1 .1 .0)) (List._∷_ Row.alive (List._∷_ Row.alive (List._∷_ Row.alive List.[])))))));
         }
 
         abbrev G41 : Row.Cx
         G41 = record {
           locals = List._++_ g34 t35;
-          slots = List._∷_ (Row.lease (κs .0) (qs .0)) (List._∷_ (Row.lease (κs .1 .0) (qs .1 .0)) (List._∷_ Row.off (List._∷_ Row.off (List._∷_ Row.off
-              (List._∷_ Row.alive (List._∷_ Row.alive (List._∷_ Row.alive List.[])))))));
+          slots = List._∷_ (Row.lease (κs .0) (qs .0)) (List._∷_ (Row.lease (κs .1 .0) (qs .1 .0)) (List._∷_ Row.off (List._∷_ Row.off (List._∷_ Row.off (List._∷_ Row.alive
+              (List._∷_ Row.alive (List._∷_ Row.alive List.[])))))));
         }
 
         abbrev G42 : Row.Cx
         G42 = record {
           locals = List._++_ g34 t36;
-          slots = List._∷_ (Row.lease (κs .0) (qs .0)) (List._∷_ (Row.lease (κs .1 .0) (qs .1 .0)) (List._∷_ Row.off (List._∷_ Row.off (List._∷_ Row.off
-              (List._∷_ Row.alive (List._∷_ Row.alive (List._∷_ Row.alive List.[])))))));
+          slots = List._∷_ (Row.lease (κs .0) (qs .0)) (List._∷_ (Row.lease (κs .1 .0) (qs .1 .0)) (List._∷_ Row.off (List._∷_ Row.off (List._∷_ Row.off (List._∷_ Row.alive
+              (List._∷_ Row.alive (List._∷_ Row.alive List.[])))))));
         }
 
         abbrev G43 : Row.Cx
         G43 = record {
           locals = List._++_ g34 t37;
-          slots = List._∷_ (Row.lease (κs .0) (qs .0)) (List._∷_ (Row.lease (κs .1 .0) (qs .1 .0)) (List._∷_ Row.off (List._∷_ Row.off (List._∷_ Row.off
-              (List._∷_ Row.alive (List._∷_ Row.alive (List._∷_ Row.alive List.[])))))));
+          slots = List._∷_ (Row.lease (κs .0) (qs .0)) (List._∷_ (Row.lease (κs .1 .0) (qs .1 .0)) (List._∷_ Row.off (List._∷_ Row.off (List._∷_ Row.off (List._∷_ Row.alive
+              (List._∷_ Row.alive (List._∷_ Row.alive List.[])))))));
         }
 
         abbrev G44 : Row.Cx
         G44 = record {
           locals = List._++_ g34 t38;
-          slots = List._∷_ (Row.lease (κs .0) (qs .0)) (List._∷_ (Row.lease (κs .1 .0) (qs .1 .0)) (List._∷_ Row.off (List._∷_ Row.off (List._∷_ Row.off
-              (List._∷_ Row.alive (List._∷_ Row.alive (List._∷_ Row.alive List.[])))))));
+          slots = List._∷_ (Row.lease (κs .0) (qs .0)) (List._∷_ (Row.lease (κs .1 .0) (qs .1 .0)) (List._∷_ Row.off (List._∷_ Row.off (List._∷_ Row.off (List._∷_ Row.alive
+              (List._∷_ Row.alive (List._∷_ Row.alive List.[])))))));
         }
 
         abbrev G45 : Row.Cx
         G45 = record {
           locals = List._++_ g39 t40;
-          slots = List._∷_ (Row.lease (κs .0) (qs .0)) (List._∷_ (Row.lease (κs .1 .0) (qs .1 .0)) (List._∷_ Row.off (List._∷_ Row.off (List._∷_ Row.off
-              (List._∷_ Row.alive (List._∷_ Row.alive (List._∷_ Row.alive List.[])))))));
+          slots = List._∷_ (Row.lease (κs .0) (qs .0)) (List._∷_ (Row.lease (κs .1 .0) (qs .1 .0)) (List._∷_ Row.off (List._∷_ Row.off (List._∷_ Row.off (List._∷_ Row.alive
+              (List._∷_ Row.alive (List._∷_ Row.alive List.[])))))));
         }
 
         abbrev G46 : Row.Cx
         G46 = record {
           locals = List._++_ g41 t40;
-          slots = List._∷_ (Row.lease (κs .0) (qs .0)) (List._∷_ (Row.lease (κs .1 .0) (qs .1 .0)) (List._∷_ Row.off (List._∷_ Row.off (List._∷_ Row.off
-              (List._∷_ Row.alive (List._∷_ Row.alive (List._∷_ Row.alive List.[])))))));
+          slots = List._∷_ (Row.lease (κs .0) (qs .0)) (List._∷_ (Row.lease (κs .1 .0) (qs .1 .0)) (List._∷_ Row.off (List._∷_ Row.off (List._∷_ Row.off (List._∷_ Row.alive
+              (List._∷_ Row.alive (List._∷_ Row.alive List.[])))))));
         }
 
         abbrev G47 : Row.Cx
         G47 = record {
           locals = List._++_ g42 t40;
-          slots = List._∷_ (Row.lease (κs .0) (qs .0)) (List._∷_ (Row.lease (κs .1 .0) (qs .1 .0)) (List._∷_ Row.off (List._∷_ Row.off (List._∷_ Row.off
-              (List._∷_ Row.alive (List._∷_ Row.alive (List._∷_ Row.alive List.[])))))));
+          slots = List._∷_ (Row.lease (κs .0) (qs .0)) (List._∷_ (Row.lease (κs .1 .0) (qs .1 .0)) (List._∷_ Row.off (List._∷_ Row.off (List._∷_ Row.off (List._∷_ Row.alive
+              (List._∷_ Row.alive (List._∷_ Row.alive List.[])))))));
         }
 
         abbrev G48 : Row.Cx
         G48 = record {
           locals = List._++_ g43 t40;
-          slots = List._∷_ (Row.lease (κs .0) (qs .0)) (List._∷_ (Row.lease (κs .1 .0) (qs .1 .0)) (List._∷_ Row.off (List._∷_ Row.off (List._∷_ Row.off
-              (List._∷_ Row.alive (List._∷_ Row.alive (List._∷_ Row.alive List.[])))))));
+          slots = List._∷_ (Row.lease (κs .0) (qs .0)) (List._∷_ (Row.lease (κs .1 .0) (qs .1 .0)) (List._∷_ Row.off (List._∷_ Row.off (List._∷_ Row.off (List._∷_ Row.alive
+              (List._∷_ Row.alive (List._∷_ Row.alive List.[])))))));
         }
 
         abbrev G49 : Row.Cx
         G49 = record {
           locals = List._++_ g43 t40;
-          slots = List._∷_ (Row.lease (κs .0) (qs .0)) (List._∷_ (Row.lease (κs .1 .0) (qs .1 .0)) (List._∷_ Row.off (List._∷_ Row.off (List._∷_ Row.off
-              (List._∷_ Row.dead (List._∷_ Row.alive (List._∷_ Row.alive List.[])))))));
+          slots = List._∷_ (Row.lease (κs .0) (qs .0)) (List._∷_ (Row.lease (κs .1 .0) (qs .1 .0)) (List._∷_ Row.off (List._∷_ Row.off (List._∷_ Row.off (List._∷_ Row.dead
+              (List._∷_ Row.alive (List._∷_ Row.alive List.[])))))));
         }
 
         abbrev G50 : Row.Cx
         G50 = record {
           locals = List._++_ g44 t45;
-          slots = List._∷_ (Row.lease (κs .0) (qs .0)) (List._∷_ (Row.lease (κs .1 .0) (qs .1 .0)) (List._∷_ (Row.lease (κs .1 .1 .0) (qs .1 .1 .0)) (List._∷_
-              Row.off (List._∷_ Row.off (List._∷_ Row.dead (List._∷_ Row.alive (List._∷_ Row.alive List.[])))))));
+          slots = List._∷_ (Row.lease (κs .0) (qs .0)) (List._∷_ (Row.lease (κs .1 .0) (qs .1 .0)) (List._∷_ (Row.lease (κs .1 .1 .0) (qs .1 .1 .0)) (List._∷_ Row.off
+              (List._∷_ Row.off (List._∷_ Row.dead (List._∷_ Row.alive (List._∷_ Row.alive List.[])))))));
         }
 
         abbrev G51 : Row.Cx
         G51 = record {
           locals = List._++_ g44 t45;
-          slots = List._∷_ (Row.lease (κs .0) (qs .0)) (List._∷_ (Row.lease (κs .1 .0) (qs .1 .0)) (List._∷_ (Row.lease (κs .1 .1 .0) (qs .1 .1 .0)) (List._∷_
-              Row.off (List._∷_ Row.off (List._∷_ Row.dead (List._∷_ Row.alive (List._∷_ Row.alive List.[])))))));
+          slots = List._∷_ (Row.lease (κs .0) (qs .0)) (List._∷_ (Row.lease (κs .1 .0) (qs .1 .0)) (List._∷_ (Row.lease (κs .1 .1 .0) (qs .1 .1 .0)) (List._∷_ Row.off
+              (List._∷_ Row.off (List._∷_ Row.dead (List._∷_ Row.alive (List._∷_ Row.alive List.[])))))));
         }
 
         abbrev G52 : Row.Cx
         G52 = record {
           locals = List._++_ g44 t45;
-          slots = List._∷_ (Row.lease (κs .0) (qs .0)) (List._∷_ (Row.lease (κs .1 .0) (qs .1 .0)) (List._∷_ (Row.lease (κs .1 .1 .0) (qs .1 .1 .0)) (List._∷_
-              Row.off (List._∷_ Row.off (List._∷_ Row.off (List._∷_ Row.alive (List._∷_ Row.alive List.[])))))));
+          slots = List._∷_ (Row.lease (κs .0) (qs .0)) (List._∷_ (Row.lease (κs .1 .0) (qs .1 .0)) (List._∷_ (Row.lease (κs .1 .1 .0) (qs .1 .1 .0)) (List._∷_ Row.off
+              (List._∷_ Row.off (List._∷_ Row.off (List._∷_ Row.alive (List._∷_ Row.alive List.[])))))));
         }
 
         abbrev G53 : Row.Cx
         G53 = record {
           locals = List._++_ g44 t45;
-          slots = List._∷_ (Row.lease (κs .0) (qs .0)) (List._∷_ (Row.lease (κs .1 .0) (qs .1 .0)) (List._∷_ (Row.lease (κs .1 .1 .0) (qs .1 .1 .0)) (List._∷_
-              Row.off (List._∷_ Row.off (List._∷_ Row.off (List._∷_ Row.dead (List._∷_ Row.alive List.[])))))));
+          slots = List._∷_ (Row.lease (κs .0) (qs .0)) (List._∷_ (Row.lease (κs .1 .0) (qs .1 .0)) (List._∷_ (Row.lease (κs .1 .1 .0) (qs .1 .1 .0)) (List._∷_ Row.off
+              (List._∷_ Row.off (List._∷_ Row.off (List._∷_ Row.dead (List._∷_ Row.alive List.[])))))));
         }
 
         abbrev G54 : Row.Cx
         G54 = record {
           locals = List._++_ g46 t47;
-          slots = List._∷_ (Row.lease (κs .0) (qs .0)) (List._∷_ (Row.lease (κs .1 .0) (qs .1 .0)) (List._∷_ (Row.lease (κs .1 .1 .0) (qs .1 .1 .0)) (List._∷_
-              (Row.lease (κs .1 .1 .1 .0) (qs .1 .1 .1 .0)) (List._∷_ Row.off (List._∷_ Row.off (List._∷_ Row.dead (List._∷_ Row.alive List.[])))))));
+          slots = List._∷_ (Row.lease (κs .0) (qs .0)) (List._∷_ (Row.lease (κs .1 .0) (qs .1 .0)) (List._∷_ (Row.lease (κs .1 .1 .0) (qs .1 .1 .0)) (List._∷_ (Row.lease
+              (κs .1 .1 .1 .0) (qs .1 .1 .1 .0)) (List._∷_ Row.off (List._∷_ Row.off (List._∷_ Row.dead (List._∷_ Row.alive List.[])))))));
         }
 
         abbrev G55 : Row.Cx
         G55 = record {
           locals = List._++_ g46 t47;
-          slots = List._∷_ (Row.lease (κs .0) (qs .0)) (List._∷_ (Row.lease (κs .1 .0) (qs .1 .0)) (List._∷_ (Row.lease (κs .1 .1 .0) (qs .1 .1 .0)) (List._∷_
-              (Row.lease (κs .1 .1 .1 .0) (qs .1 .1 .1 .0)) (List._∷_ Row.off (List._∷_ Row.off (List._∷_ Row.dead (List._∷_ Row.alive List.[])))))));
+          slots = List._∷_ (Row.lease (κs .0) (qs .0)) (List._∷_ (Row.lease (κs .1 .0) (qs .1 .0)) (List._∷_ (Row.lease (κs .1 .1 .0) (qs .1 .1 .0)) (List._∷_ (Row.lease
+              (κs .1 .1 .1 .0) (qs .1 .1 .1 .0)) (List._∷_ Row.off (List._∷_ Row.off (List._∷_ Row.dead (List._∷_ Row.alive List.[])))))));
         }
 
         abbrev G56 : Row.Cx
         G56 = record {
           locals = List._++_ g46 t47;
-          slots = List._∷_ (Row.lease (κs .0) (qs .0)) (List._∷_ (Row.lease (κs .1 .0) (qs .1 .0)) (List._∷_ (Row.lease (κs .1 .1 .0) (qs .1 .1 .0)) (List._∷_
-              (Row.lease (κs .1 .1 .1 .0) (qs .1 .1 .1 .0)) (List._∷_ Row.off (List._∷_ Row.off (List._∷_ Row.off (List._∷_ Row.alive List.[])))))));
+          slots = List._∷_ (Row.lease (κs .0) (qs .0)) (List._∷_ (Row.lease (κs .1 .0) (qs .1 .0)) (List._∷_ (Row.lease (κs .1 .1 .0) (qs .1 .1 .0)) (List._∷_ (Row.lease
+              (κs .1 .1 .1 .0) (qs .1 .1 .1 .0)) (List._∷_ Row.off (List._∷_ Row.off (List._∷_ Row.off (List._∷_ Row.alive List.[])))))));
         }
 
         abbrev G57 : Row.Cx
         G57 = record {
           locals = List._++_ g46 t47;
-          slots = List._∷_ (Row.lease (κs .0) (qs .0)) (List._∷_ (Row.lease (κs .1 .0) (qs .1 .0)) (List._∷_ (Row.lease (κs .1 .1 .0) (qs .1 .1 .0)) (List._∷_
-              (Row.lease (κs .1 .1 .1 .0) (qs .1 .1 .1 .0)) (List._∷_ Row.off (List._∷_ Row.off (List._∷_ Row.off (List._∷_ Row.dead List.[])))))));
+          slots = List._∷_ (Row.lease (κs .0) (qs .0)) (List._∷_ (Row.lease (κs .1 .0) (qs .1 .0)) (List._∷_ (Row.lease (κs .1 .1 .0) (qs .1 .1 .0)) (List._∷_ (Row.lease
+              (κs .1 .1 .1 .0) (qs .1 .1 .1 .0)) (List._∷_ Row.off (List._∷_ Row.off (List._∷_ Row.off (List._∷_ Row.dead List.[])))))));
         }
 
         abbrev G58 : Row.Cx
         G58 = record {
           locals = List._++_ t7 t1;
-          slots = List._∷_ (Row.lease (κs .0) (qs .0)) (List._∷_ (Row.lease (κs .1 .0) (qs .1 .0)) (List._∷_ (Row.lease (κs .1 .1 .0) (qs .1 .1 .0)) (List._∷_
-              (Row.lease (κs .1 .1 .1 .0) (qs .1 .1 .1 .0)) (List._∷_ (Row.lease (κs .1 .1 .1 .1 .0) (qs .1 .1 .1 .1 .0)) (List._∷_ Row.off (List._∷_ Row.off (List._∷_ Row.dead List.[])))))));
+          slots = List._∷_ (Row.lease (κs .0) (qs .0)) (List._∷_ (Row.lease (κs .1 .0) (qs .1 .0)) (List._∷_ (Row.lease (κs .1 .1 .0) (qs .1 .1 .0)) (List._∷_ (Row.lease (κs
+              .1 .1 .1 .0) (qs .1 .1 .1 .0)) (List._∷_ (Row.lease (κs .1 .1 .1 .1 .0) (qs .1 .1 .1 .1 .0)) (List._∷_ Row.off (List._∷_ Row.off (List._∷_ Row.dead List.[])))))));
         }
 
         abbrev G59 : Row.Cx
         G59 = record {
           locals = List._++_ t7 t1;
-          slots = List._∷_ (Row.lease (κs .0) (qs .0)) (List._∷_ (Row.lease (κs .1 .0) (qs .1 .0)) (List._∷_ (Row.lease (κs .1 .1 .0) (qs .1 .1 .0)) (List._∷_
-              (Row.lease (κs .1 .1 .1 .0) (qs .1 .1 .1 .0)) (List._∷_ (Row.lease (κs .1 .1 .1 .1 .0) (qs .1 .1 .1 .1 .0)) (List._∷_ Row.off (List._∷_ Row.off (List._∷_ Row.off List.[])))))));
+          slots = List._∷_ (Row.lease (κs .0) (qs .0)) (List._∷_ (Row.lease (κs .1 .0) (qs .1 .0)) (List._∷_ (Row.lease (κs .1 .1 .0) (qs .1 .1 .0)) (List._∷_ (Row.lease (κs
+              .1 .1 .1 .0) (qs .1 .1 .1 .0)) (List._∷_ (Row.lease (κs .1 .1 .1 .1 .0) (qs .1 .1 .1 .1 .0)) (List._∷_ Row.off (List._∷_ Row.off (List._∷_ Row.off List.[])))))));
         }
 
         abbrev G60 : Row.Cx
         G60 = record {
           locals = List._++_ t48 t1;
-          slots = List._∷_ (Row.lease (κs .0) (qs .0)) (List._∷_ (Row.lease (κs .1 .0) (qs .1 .0)) (List._∷_ (Row.lease (κs .1 .1 .0) (qs .1 .1 .0)) (List._∷_
-              (Row.lease (κs .1 .1 .1 .0) (qs .1 .1 .1 .0)) (List._∷_ (Row.lease (κs .1 .1 .1 .1 .0) (qs .1 .1 .1 .1 .0)) (List._∷_ Row.off (List._∷_ Row.off (List._∷_ Row.off List.[])))))));
+          slots = List._∷_ (Row.lease (κs .0) (qs .0)) (List._∷_ (Row.lease (κs .1 .0) (qs .1 .0)) (List._∷_ (Row.lease (κs .1 .1 .0) (qs .1 .1 .0)) (List._∷_ (Row.lease (κs
+              .1 .1 .1 .0) (qs .1 .1 .1 .0)) (List._∷_ (Row.lease (κs .1 .1 .1 .1 .0) (qs .1 .1 .1 .1 .0)) (List._∷_ Row.off (List._∷_ Row.off (List._∷_ Row.off List.[])))))));
         }
 
         abbrev G61 : Row.Cx
         G61 = record {
           locals = List._++_ t2 t1;
-          slots = List._∷_ (Row.lease (κs .0) (qs .0)) (List._∷_ (Row.lease (κs .1 .0) (qs .1 .0)) (List._∷_ (Row.lease (κs .1 .1 .0) (qs .1 .1 .0)) (List._∷_
-              (Row.lease (κs .1 .1 .1 .0) (qs .1 .1 .1 .0)) (List._∷_ (Row.lease (κs .1 .1 .1 .1 .0) (qs .1 .1 .1 .1 .0)) (List._∷_ Row.off (List._∷_ Row.off (List._∷_ Row.off List.[])))))));
+          slots = List._∷_ (Row.lease (κs .0) (qs .0)) (List._∷_ (Row.lease (κs .1 .0) (qs .1 .0)) (List._∷_ (Row.lease (κs .1 .1 .0) (qs .1 .1 .0)) (List._∷_ (Row.lease (κs
+              .1 .1 .1 .0) (qs .1 .1 .1 .0)) (List._∷_ (Row.lease (κs .1 .1 .1 .1 .0) (qs .1 .1 .1 .1 .0)) (List._∷_ Row.off (List._∷_ Row.off (List._∷_ Row.off List.[])))))));
         }
 
         abbrev Δ0 : Typed.Outs
@@ -4354,121 +1853,47 @@ module _ (claims· : Claims) where
               Syntax.tnil (Syntax.ttcons (Syntax.tcons (Syntax.tyInt Syntax.w64) Syntax.tnil) (Syntax.ttcons Syntax.tnil (Syntax.ttcons Syntax.tnil (Syntax.ttcons Syntax.tnil (Syntax.ttcons Syntax.tnil
               (Syntax.ttcons Syntax.tnil (Syntax.ttcons Syntax.tnil (Syntax.ttcons (Syntax.tcons (Syntax.tyInt Syntax.w64) Syntax.tnil) (Syntax.ttcons (Syntax.tcons (Syntax.tyInt Syntax.w64) Syntax.tnil)
               (Syntax.ttcons Syntax.tnil (Syntax.ttcons (Syntax.tcons (Syntax.tyInt Syntax.w64) (Syntax.tcons (Syntax.tyInt Syntax.w64) Syntax.tnil)) (Syntax.ttcons (Syntax.tcons (Syntax.tyInt Syntax.w64)
-              Syntax.tnil) Syntax.ttnil)))))))))))))))) Syntax.tnil) Syntax.ttnil)))) (tt, ((Whole.reads-enum 𝓤 H A W Refusal.the-type Laws'4.the-laws, Path'.refl), tt)) Path'.refl (λ m wa.
-              Make.made-val Written.the-type Laws'.the-laws (List._∷_ (Laws'5.val Refusal.the-type Laws'4.the-laws (m .1 .1 .1 .1 .1 .1 .1 .0)) List.[]) (Written.enum .make (Logic.inr (Logic.inl (
-                m .1 .1
-                    .1 .1 .1 .1 .1 .0,
+              Syntax.tnil) Syntax.ttnil)))))))))))))))) Syntax.tnil) Syntax.ttnil)))) (tt, ((Whole.reads-enum 𝓤 H A W Refusal.the-type Laws'4.the-laws, Path'.refl), tt)) Path'.refl (λ m wa. Make.made-val
+              Written.the-type Laws'.the-laws (List._∷_ (Laws'5.val Refusal.the-type Laws'4.the-laws (m .1 .1 .1 .1 .1 .1 .1 .0)) List.[]) (Written.enum .make (Logic.inr (Logic.inl
+              (m .1 .1 .1 .1 .1 .1 .1 .0, tt)))) (
+                Signed.made-wt Refusal.the-field Laws'4.the-field-laws (Whole.enum-wt Refusal.the-type Laws'4.the-laws
+                    (tt, (tt, (tt, ((Make'.u64-wt, tt), (tt, (tt, (tt, (tt, (tt, (tt, ((Make'.u64-wt, tt), ((Make'.u64-wt, tt), (tt, ((Make'.u64-wt, (Make'.u64-wt, tt)), ((Make'.u64-wt, tt), tt))))))))))))))))
+                    (Refusal.the-type .to (m .1 .1 .1 .1 .1 .1 .1 .0)),
                 tt,
-              )))) (
-                Signed.made-wt Refusal.the-field Laws'4.the-field-laws (Whole.enum-wt Refusal.the-type Laws'4.the-laws (
-                  tt,
-                  (
-                    tt,
-                    (
-                      tt,
-                      (
-                        (Make'.u64-wt, tt),
-                        (
-                          tt,
-                          (
-                            tt,
-                            (
-                              tt,
-                              (
-                                tt,
-                                (tt, (tt, ((Make'.u64-wt, tt), ((Make'.u64-wt, tt), (tt, ((Make'.u64-wt, (Make'.u64-wt, tt)), ((Make'.u64-wt, tt), tt))))))),
-                              ),
-                            ),
-                          ),
-                        ),
-                      ),
-                    ),
-                  ),
-                )) (Refusal.the-type
-                    .to (m .1 .1 .1 .1 .1 .1 .1 .0)),
+              ) (wa .1)) λ m wa. Make.made-is Written.the-type Laws'.the-laws (List._∷_ (Laws'5.val Refusal.the-type Laws'4.the-laws (m .1 .1 .1 .1 .1
+              .1 .1 .0)) List.[]) (Written.enum .make (Logic.inr (Logic.inl (m .1 .1 .1 .1 .1 .1 .1 .0, tt)))) (
+                Signed.made-wt Refusal.the-field Laws'4.the-field-laws (Whole.enum-wt Refusal.the-type Laws'4.the-laws
+                    (tt, (tt, (tt, ((Make'.u64-wt, tt), (tt, (tt, (tt, (tt, (tt, (tt, ((Make'.u64-wt, tt), ((Make'.u64-wt, tt), (tt, ((Make'.u64-wt, (Make'.u64-wt, tt)), ((Make'.u64-wt, tt), tt))))))))))))))))
+                    (Refusal.the-type .to (m .1 .1 .1 .1 .1 .1 .1 .0)),
                 tt,
-              ) (wa .1)) λ m wa. Make.made-is Written.the-type Laws'.the-laws (List._∷_ (Laws'5.val Refusal.the-type Laws'4.the-laws (m .1 .1 .1 .1 .1 .1 .1 .0))
-              List.[]) (Written.enum .make (Logic.inr (Logic.inl (m .1 .1 .1 .1 .1 .1 .1 .0, tt)))) (
-                Signed.made-wt Refusal.the-field Laws'4.the-field-laws (Whole.enum-wt Refusal.the-type Laws'4.the-laws (
-                  tt,
-                  (
-                    tt,
-                    (
-                      tt,
-                      (
-                        (Make'.u64-wt, tt),
-                        (
-                          tt,
-                          (
-                            tt,
-                            (
-                              tt,
-                              (
-                                tt,
-                                (
-                                  tt,
-                                  (
-                                    tt,
-                                    (
-                                      (Make'.u64-wt, tt),
-                                      (
-                                        (Make'.u64-wt, tt),
-                                        (
-                                          tt,
-                                          (
-                                            (Make'.u64-wt, (Make'.u64-wt, tt)),
-                                            ((Make'.u64-wt, tt), tt),
-                                          ),
-                                        ),
-                                      ),
-                                    ),
-                                  ),
-                                ),
-                              ),
-                            ),
-                          ),
-                        ),
-                      ),
-                    ),
-                  ),
-                )) (Refusal.the-type .to (m .1 .1 .1 .1 .1 .1 .1 .0)),
-                tt,
-              ) (wa .1)) (Scalar.g-room 𝓤 H A W E G18 7 (Syntax.tyEnum (List._∷_ 115 (List._∷_ 116
+              ) (wa .1)) (Scalar.g-room 𝓤 H A W E G18 7 (Syntax.tyEnum (List._∷_ 115 (List._∷_ 116 (List._∷_ 114 (List._∷_ 101 (List._∷_ 97 (List._∷_
+              109 (List._∷_ 58 (List._∷_ 58 (List._∷_ 82 (List._∷_ 101 (List._∷_ 102 (List._∷_ 117 (List._∷_ 115 (List._∷_ 97 (List._∷_ 108 List.[]))))))))))))))) (Syntax.ttcons Syntax.tnil (Syntax.ttcons
+              Syntax.tnil (Syntax.ttcons Syntax.tnil (Syntax.ttcons (Syntax.tcons (Syntax.tyInt Syntax.w64) Syntax.tnil) (Syntax.ttcons Syntax.tnil (Syntax.ttcons Syntax.tnil (Syntax.ttcons Syntax.tnil
+              (Syntax.ttcons Syntax.tnil (Syntax.ttcons Syntax.tnil (Syntax.ttcons Syntax.tnil (Syntax.ttcons (Syntax.tcons (Syntax.tyInt Syntax.w64) Syntax.tnil) (Syntax.ttcons (Syntax.tcons
+              (Syntax.tyInt Syntax.w64) Syntax.tnil) (Syntax.ttcons Syntax.tnil (Syntax.ttcons (Syntax.tcons (Syntax.tyInt Syntax.w64) (Syntax.tcons (Syntax.tyInt Syntax.w64) Syntax.tnil)) (Syntax.ttcons
+              (Syntax.tcons (Syntax.tyInt Syntax.w64) Syntax.tnil) Syntax.ttnil)))))))))))))))) (Local.room-whole 𝓤 H A W (Declared.row Refusal.the-type) (Syntax.tyEnum (List._∷_ 115 (List._∷_ 116
               (List._∷_ 114 (List._∷_ 101 (List._∷_ 97 (List._∷_ 109 (List._∷_ 58 (List._∷_ 58 (List._∷_ 82 (List._∷_ 101 (List._∷_ 102 (List._∷_ 117 (List._∷_ 115 (List._∷_ 97 (List._∷_ 108
               List.[]))))))))))))))) (Syntax.ttcons Syntax.tnil (Syntax.ttcons Syntax.tnil (Syntax.ttcons Syntax.tnil (Syntax.ttcons (Syntax.tcons (Syntax.tyInt Syntax.w64) Syntax.tnil) (Syntax.ttcons
               Syntax.tnil (Syntax.ttcons Syntax.tnil (Syntax.ttcons Syntax.tnil (Syntax.ttcons Syntax.tnil (Syntax.ttcons Syntax.tnil (Syntax.ttcons Syntax.tnil (Syntax.ttcons (Syntax.tcons (Syntax.tyInt
               Syntax.w64) Syntax.tnil) (Syntax.ttcons (Syntax.tcons (Syntax.tyInt Syntax.w64) Syntax.tnil) (Syntax.ttcons Syntax.tnil (Syntax.ttcons (Syntax.tcons (Syntax.tyInt Syntax.w64) (Syntax.tcons
-              (Syntax.tyInt Syntax.w64) Syntax.tnil)) (Syntax.ttcons (Syntax.tcons (Syntax.tyInt Syntax.w64) Syntax.tnil) Syntax.ttnil)))))))))))))))) (Local.room-whole 𝓤 H A W (Declared.row
-              Refusal.the-type) (Syntax.tyEnum (List._∷_ 115 (List._∷_ 116 (List._∷_ 114 (List._∷_ 101 (List._∷_ 97 (List._∷_ 109 (List._∷_ 58 (List._∷_ 58 (List._∷_ 82 (List._∷_ 101 (List._∷_ 102
-              (List._∷_ 117 (List._∷_ 115 (List._∷_ 97 (List._∷_ 108 List.[]))))))))))))))) (Syntax.ttcons Syntax.tnil (Syntax.ttcons Syntax.tnil (Syntax.ttcons Syntax.tnil (Syntax.ttcons (Syntax.tcons
-              (Syntax.tyInt Syntax.w64) Syntax.tnil) (Syntax.ttcons Syntax.tnil (Syntax.ttcons Syntax.tnil (Syntax.ttcons Syntax.tnil (Syntax.ttcons Syntax.tnil (Syntax.ttcons Syntax.tnil (Syntax.ttcons
-              Syntax.tnil (Syntax.ttcons (Syntax.tcons (Syntax.tyInt Syntax.w64) Syntax.tnil) (Syntax.ttcons (Syntax.tcons (Syntax.tyInt Syntax.w64) Syntax.tnil) (Syntax.ttcons Syntax.tnil (Syntax.ttcons
-              (Syntax.tcons (Syntax.tyInt Syntax.w64) (Syntax.tcons (Syntax.tyInt Syntax.w64) Syntax.tnil)) (Syntax.ttcons (Syntax.tcons (Syntax.tyInt Syntax.w64) Syntax.tnil) Syntax.ttnil))))))))))))))))
-              Path'.refl)))
+              (Syntax.tyInt Syntax.w64) Syntax.tnil)) (Syntax.ttcons (Syntax.tcons (Syntax.tyInt Syntax.w64) Syntax.tnil) Syntax.ttnil)))))))))))))))) Path'.refl)))
 
           d1 : Typed.Typed 𝓤 H A 𝓣 E G16 b5 Δ1 at1
           d1 = Typed.g-pre 𝓤 H A W 𝓣 E G16 G17 b5 Δ1 (Typed.pass T16 T17 s14) at0 (Scalar.g-room 𝓤 H A W E G16 6 (Syntax.tyEnum (List._∷_ 115 (List._∷_ 116 (List._∷_ 114 (List._∷_ 101 (List._∷_ 97
-              (List._∷_ 109 (List._∷_ 58 (List._∷_ 58 (List._∷_ 80 (List._∷_ 97 (List._∷_ 114 (List._∷_ 115 (List._∷_ 101 (List._∷_ 100 List.[])))))))))))))) (Syntax.ttcons (Syntax.tcons (Syntax.tyStruct
-              (List._∷_ 115 (List._∷_ 116 (List._∷_ 114 (List._∷_ 101 (List._∷_ 97 (List._∷_ 109 (List._∷_ 58 (List._∷_ 58 (List._∷_ 70 (List._∷_ 117 (List._∷_ 106 (List._∷_ 105 (List._∷_ 72 (List._∷_ 101
-              (List._∷_ 97 (List._∷_ 100 (List._∷_ 101 (List._∷_ 114 List.[])))))))))))))))))) (Syntax.tcons Syntax.tyBool (Syntax.tcons Syntax.tyBool (Syntax.tcons (Syntax.tyInt Syntax.w32) (Syntax.tcons
-              (Syntax.tyInt Syntax.w32) (Syntax.tcons (Syntax.tyInt Syntax.w32) (Syntax.tcons (Syntax.tyInt Syntax.w32) (Syntax.tcons (Syntax.tyInt Syntax.w32) (Syntax.tcons (Syntax.tyInt Syntax.w32)
-              (Syntax.tcons (Syntax.tyInt Syntax.w32) Syntax.tnil)))))))))) Syntax.tnil) (Syntax.ttcons (Syntax.tcons (Syntax.tyEnum (List._∷_ 115 (List._∷_ 116 (List._∷_ 114 (List._∷_ 101 (List._∷_ 97
-              (List._∷_ 109 (List._∷_ 58 (List._∷_ 58 (List._∷_ 82 (List._∷_ 101 (List._∷_ 102 (List._∷_ 117 (List._∷_ 115 (List._∷_ 97 (List._∷_ 108 List.[]))))))))))))))) (Syntax.ttcons Syntax.tnil
-              (Syntax.ttcons Syntax.tnil (Syntax.ttcons Syntax.tnil (Syntax.ttcons (Syntax.tcons (Syntax.tyInt Syntax.w64) Syntax.tnil) (Syntax.ttcons Syntax.tnil (Syntax.ttcons Syntax.tnil (Syntax.ttcons
-              Syntax.tnil (Syntax.ttcons Syntax.tnil (Syntax.ttcons Syntax.tnil (Syntax.ttcons Syntax.tnil (Syntax.ttcons (Syntax.tcons (Syntax.tyInt Syntax.w64) Syntax.tnil) (Syntax.ttcons (Syntax.tcons
-              (Syntax.tyInt Syntax.w64) Syntax.tnil) (Syntax.ttcons Syntax.tnil (Syntax.ttcons (Syntax.tcons (Syntax.tyInt Syntax.w64) (Syntax.tcons (Syntax.tyInt Syntax.w64) Syntax.tnil)) (Syntax.ttcons
-              (Syntax.tcons (Syntax.tyInt Syntax.w64) Syntax.tnil) Syntax.ttnil)))))))))))))))) Syntax.tnil) Syntax.ttnil))) (Local.room-whole 𝓤 H A W (Known.Known Parsed.enum 1) (Syntax.tyEnum (List._∷_
-              115 (List._∷_ 116 (List._∷_ 114 (List._∷_ 101 (List._∷_ 97 (List._∷_ 109 (List._∷_ 58 (List._∷_ 58 (List._∷_ 80 (List._∷_ 97 (List._∷_ 114 (List._∷_ 115 (List._∷_ 101 (List._∷_ 100
-              List.[])))))))))))))) (Syntax.ttcons (Syntax.tcons (Syntax.tyStruct (List._∷_ 115 (List._∷_ 116 (List._∷_ 114 (List._∷_ 101 (List._∷_ 97 (List._∷_ 109 (List._∷_ 58 (List._∷_ 58 (List._∷_ 70
-              (List._∷_ 117 (List._∷_ 106 (List._∷_ 105 (List._∷_ 72 (List._∷_ 101 (List._∷_ 97 (List._∷_ 100 (List._∷_ 101 (List._∷_ 114 List.[])))))))))))))))))) (Syntax.tcons Syntax.tyBool
-              (Syntax.tcons Syntax.tyBool (Syntax.tcons (Syntax.tyInt Syntax.w32) (Syntax.tcons (Syntax.tyInt Syntax.w32) (Syntax.tcons (Syntax.tyInt Syntax.w32) (Syntax.tcons (Syntax.tyInt Syntax.w32)
-              (Syntax.tcons (Syntax.tyInt Syntax.w32) (Syntax.tcons (Syntax.tyInt Syntax.w32) (Syntax.tcons (Syntax.tyInt Syntax.w32) Syntax.tnil)))))))))) Syntax.tnil) (Syntax.ttcons (Syntax.tcons
-              (Syntax.tyEnum (List._∷_ 115 (List._∷_ 116 (List._∷_ 114 (List._∷_ 101 (List._∷_ 97 (List._∷_ 109 (List._∷_ 58 (List._∷_ 58 (List._∷_ 82 (List._∷_ 101 (List._∷_ 102 (List._∷_ 117 (List._∷_
-              115 (List._∷_ 97 (List._∷_ 108 List.[]))))))))))))))) (Syntax.ttcons Syntax.tnil (Syntax.ttcons Syntax.tnil (Syntax.ttcons Syntax.tnil (Syntax.ttcons (Syntax.tcons (Syntax.tyInt Syntax.w64)
-              Syntax.tnil) (Syntax.ttcons Syntax.tnil (Syntax.ttcons Syntax.tnil (Syntax.ttcons Syntax.tnil (Syntax.ttcons Syntax.tnil (Syntax.ttcons Syntax.tnil (Syntax.ttcons Syntax.tnil (Syntax.ttcons
-              (Syntax.tcons (Syntax.tyInt Syntax.w64) Syntax.tnil) (Syntax.ttcons (Syntax.tcons (Syntax.tyInt Syntax.w64) Syntax.tnil) (Syntax.ttcons Syntax.tnil (Syntax.ttcons (Syntax.tcons (Syntax.tyInt
-              Syntax.w64) (Syntax.tcons (Syntax.tyInt Syntax.w64) Syntax.tnil)) (Syntax.ttcons (Syntax.tcons (Syntax.tyInt Syntax.w64) Syntax.tnil) Syntax.ttnil)))))))))))))))) Syntax.tnil)
-              Syntax.ttnil))) Path'.refl)) d0
+              (List._∷_ 109 (List._∷_ 58 (List._∷_ 58 (List._∷_ 80 (List._∷_ 97 (List._∷_ 114 (List._∷_ 115 (List._∷_ 101 (List._∷_ 100 List.[])))))))))))))) (Syntax.ttcons (Syntax.tcons y0 Syntax.tnil)
+              (Syntax.ttcons (Syntax.tcons (Syntax.tyEnum (List._∷_ 115 (List._∷_ 116 (List._∷_ 114 (List._∷_ 101 (List._∷_ 97 (List._∷_ 109 (List._∷_ 58 (List._∷_ 58 (List._∷_ 82 (List._∷_ 101 (List._∷_
+              102 (List._∷_ 117 (List._∷_ 115 (List._∷_ 97 (List._∷_ 108 List.[]))))))))))))))) (Syntax.ttcons Syntax.tnil (Syntax.ttcons Syntax.tnil (Syntax.ttcons Syntax.tnil (Syntax.ttcons
+              (Syntax.tcons (Syntax.tyInt Syntax.w64) Syntax.tnil) (Syntax.ttcons Syntax.tnil (Syntax.ttcons Syntax.tnil (Syntax.ttcons Syntax.tnil (Syntax.ttcons Syntax.tnil (Syntax.ttcons Syntax.tnil
+              (Syntax.ttcons Syntax.tnil (Syntax.ttcons (Syntax.tcons (Syntax.tyInt Syntax.w64) Syntax.tnil) (Syntax.ttcons (Syntax.tcons (Syntax.tyInt Syntax.w64) Syntax.tnil) (Syntax.ttcons Syntax.tnil
+              (Syntax.ttcons (Syntax.tcons (Syntax.tyInt Syntax.w64) (Syntax.tcons (Syntax.tyInt Syntax.w64) Syntax.tnil)) (Syntax.ttcons (Syntax.tcons (Syntax.tyInt Syntax.w64) Syntax.tnil)
+              Syntax.ttnil)))))))))))))))) Syntax.tnil) Syntax.ttnil))) (Local.room-whole 𝓤 H A W (Known.Known Parsed.enum 1) (Syntax.tyEnum (List._∷_ 115 (List._∷_ 116 (List._∷_ 114 (List._∷_ 101
+              (List._∷_ 97 (List._∷_ 109 (List._∷_ 58 (List._∷_ 58 (List._∷_ 80 (List._∷_ 97 (List._∷_ 114 (List._∷_ 115 (List._∷_ 101 (List._∷_ 100 List.[])))))))))))))) (Syntax.ttcons (Syntax.tcons y0
+              Syntax.tnil) (Syntax.ttcons (Syntax.tcons (Syntax.tyEnum (List._∷_ 115 (List._∷_ 116 (List._∷_ 114 (List._∷_ 101 (List._∷_ 97 (List._∷_ 109 (List._∷_ 58 (List._∷_ 58 (List._∷_ 82 (List._∷_
+              101 (List._∷_ 102 (List._∷_ 117 (List._∷_ 115 (List._∷_ 97 (List._∷_ 108 List.[]))))))))))))))) (Syntax.ttcons Syntax.tnil (Syntax.ttcons Syntax.tnil (Syntax.ttcons Syntax.tnil
+              (Syntax.ttcons (Syntax.tcons (Syntax.tyInt Syntax.w64) Syntax.tnil) (Syntax.ttcons Syntax.tnil (Syntax.ttcons Syntax.tnil (Syntax.ttcons Syntax.tnil (Syntax.ttcons Syntax.tnil (Syntax.ttcons
+              Syntax.tnil (Syntax.ttcons Syntax.tnil (Syntax.ttcons (Syntax.tcons (Syntax.tyInt Syntax.w64) Syntax.tnil) (Syntax.ttcons (Syntax.tcons (Syntax.tyInt Syntax.w64) Syntax.tnil) (Syntax.ttcons
+              Syntax.tnil (Syntax.ttcons (Syntax.tcons (Syntax.tyInt Syntax.w64) (Syntax.tcons (Syntax.tyInt Syntax.w64) Syntax.tnil)) (Syntax.ttcons (Syntax.tcons (Syntax.tyInt Syntax.w64) Syntax.tnil)
+              Syntax.ttnil)))))))))))))))) Syntax.tnil) Syntax.ttnil))) Path'.refl)) d0
 
           d2 : Typed.Typed 𝓤 H A 𝓣 E G15 b6 Δ1 at2
           d2 = Typed.s-seq 𝓤 H A W 𝓣 E G15 G16 b4 b5 Δ1 (Typed.pass T15 T16 s13) at1 (CopyOut.t-copy-told 𝓤 H A W E 𝓣 (Declared.row Refusal.the-type) Path'.refl (Laws'5.val Refusal.the-type
@@ -4485,17 +1910,17 @@ module _ (claims· : Claims) where
               Syntax.tnil (Syntax.ttcons Syntax.tnil (Syntax.ttcons Syntax.tnil (Syntax.ttcons Syntax.tnil (Syntax.ttcons Syntax.tnil (Syntax.ttcons Syntax.tnil (Syntax.ttcons (Syntax.tcons (Syntax.tyInt
               Syntax.w64) Syntax.tnil) (Syntax.ttcons (Syntax.tcons (Syntax.tyInt Syntax.w64) Syntax.tnil) (Syntax.ttcons Syntax.tnil (Syntax.ttcons (Syntax.tcons (Syntax.tyInt Syntax.w64) (Syntax.tcons
               (Syntax.tyInt Syntax.w64) Syntax.tnil)) (Syntax.ttcons (Syntax.tcons (Syntax.tyInt Syntax.w64) Syntax.tnil) Syntax.ttnil))))))))))))))))) (
-                Match.reads-payload 𝓤 H A W Parsed.enum
-                    Laws'3.the-laws 1 Path'.refl Path'.refl (λ v. Val.vcons (Laws'5.val Refusal.the-type Laws'4.the-laws (v .0)) Val.vnil) (λ v. Path'.refl) 0 (Syntax.tyEnum (List._∷_ 115 (List._∷_ 116
-                    (List._∷_ 114 (List._∷_ 101 (List._∷_ 97 (List._∷_ 109 (List._∷_ 58 (List._∷_ 58 (List._∷_ 82 (List._∷_ 101 (List._∷_ 102 (List._∷_ 117 (List._∷_ 115 (List._∷_ 97 (List._∷_ 108
-                    List.[]))))))))))))))) (Syntax.ttcons Syntax.tnil (Syntax.ttcons Syntax.tnil (Syntax.ttcons Syntax.tnil (Syntax.ttcons (Syntax.tcons (Syntax.tyInt Syntax.w64) Syntax.tnil) (Syntax.ttcons
-                    Syntax.tnil (Syntax.ttcons Syntax.tnil (Syntax.ttcons Syntax.tnil (Syntax.ttcons Syntax.tnil (Syntax.ttcons Syntax.tnil (Syntax.ttcons Syntax.tnil (Syntax.ttcons (Syntax.tcons (Syntax.tyInt
-                    Syntax.w64) Syntax.tnil) (Syntax.ttcons (Syntax.tcons (Syntax.tyInt Syntax.w64) Syntax.tnil) (Syntax.ttcons Syntax.tnil (Syntax.ttcons (Syntax.tcons (Syntax.tyInt Syntax.w64) (Syntax.tcons
-                    (Syntax.tyInt Syntax.w64) Syntax.tnil)) (Syntax.ttcons (Syntax.tcons (Syntax.tyInt Syntax.w64) Syntax.tnil) Syntax.ttnil)))))))))))))))) 8 Path'.refl,
+                Match.reads-payload 𝓤 H A W Parsed.enum Laws'3.the-laws 1 Path'.refl Path'.refl (λ v. Val.vcons (Laws'5.val Refusal.the-type Laws'4.the-laws (v .0)) Val.vnil) (λ v. Path'.refl) 0
+                    (Syntax.tyEnum (List._∷_ 115 (List._∷_ 116 (List._∷_ 114 (List._∷_ 101 (List._∷_ 97 (List._∷_ 109 (List._∷_ 58 (List._∷_ 58 (List._∷_ 82 (List._∷_ 101 (List._∷_ 102 (List._∷_ 117 (List._∷_
+                    115 (List._∷_ 97 (List._∷_ 108 List.[]))))))))))))))) (Syntax.ttcons Syntax.tnil (Syntax.ttcons Syntax.tnil (Syntax.ttcons Syntax.tnil (Syntax.ttcons (Syntax.tcons (Syntax.tyInt Syntax.w64)
+                    Syntax.tnil) (Syntax.ttcons Syntax.tnil (Syntax.ttcons Syntax.tnil (Syntax.ttcons Syntax.tnil (Syntax.ttcons Syntax.tnil (Syntax.ttcons Syntax.tnil (Syntax.ttcons Syntax.tnil (Syntax.ttcons
+                    (Syntax.tcons (Syntax.tyInt Syntax.w64) Syntax.tnil) (Syntax.ttcons (Syntax.tcons (Syntax.tyInt Syntax.w64) Syntax.tnil) (Syntax.ttcons Syntax.tnil (Syntax.ttcons (Syntax.tcons (Syntax.tyInt
+                    Syntax.w64) (Syntax.tcons (Syntax.tyInt Syntax.w64) Syntax.tnil)) (Syntax.ttcons (Syntax.tcons (Syntax.tyInt Syntax.w64) Syntax.tnil) Syntax.ttnil)))))))))))))))) 8 Path'.refl,
                 Path'.refl,
-              ) Path'.refl (λ ρ m.
-              Make'.tells-row 𝓤 H A W E ρ (Row.out 7 (G15 .locals)) m 6 (Laws'5.Fields (Declared.variants Parsed.the-type) (Laws'5.spellss (Parsed.enum .parts) Laws'3.the-laws) (Parsed.the-type .to
-              (Known.at Parsed.enum 1 (m .1 .1 .1 .1 .1 .1 .0)))) (Known.known-is 𝓤 H A W E Parsed.enum 1 Laws'3.the-laws ρ 6 (m .1 .1 .1 .1 .1 .1 .0))) (λ m k wa. Path'.refl) λ m k wa. k .0) d1
+              )
+              Path'.refl (λ ρ m. Make'.tells-row 𝓤 H A W E ρ (Row.out 7 (G15 .locals)) m 6 (Laws'5.Fields (Declared.variants Parsed.the-type) (Laws'5.spellss (Parsed.enum .parts) Laws'3.the-laws)
+              (Parsed.the-type .to (Known.at Parsed.enum 1 (m .1 .1 .1 .1 .1 .1 .0)))) (Known.known-is 𝓤 H A W E Parsed.enum 1 Laws'3.the-laws ρ 6 (m .1 .1 .1 .1 .1 .1 .0))) (λ m k wa. Path'.refl) λ m k
+              wa. k .0) d1
 
           d3 : Typed.Typed 𝓤 H A 𝓣 E G14 b6 Δ1 at3
           d3 = Typed.g-pre 𝓤 H A W 𝓣 E G14 G15 b6 Δ1 (Typed.give s12) at2 (Known.g-known-told 𝓤 H A W E Parsed.enum 1 G14 6 Laws'3.the-laws (λ x. x) (Reads'.as-is 𝓤 H A (Rows.whole (Known.Known
@@ -4524,44 +1949,37 @@ module _ (claims· : Claims) where
               "block::writer::write_set" (known .4) E (λ pos β. β) G44 (
                 record { pos = 2; ty = Syntax.tyRef (Syntax.named 1) Syntax.imm (Syntax.tyInt Syntax.w16); ref = λ x. x },
                 (
-                  record {
-                    pos = 17;
-                    ty
-                        = Syntax.tyRef Syntax.erased Syntax.mut (Syntax.tyInt Syntax.w8);
-                    ref = λ x. x;
-                  },
+                  record { pos = 17; ty = Syntax.tyRef Syntax.erased Syntax.mut (Syntax.tyInt Syntax.w8); ref = λ x. x },
                   (
                     record { pos = 21; ty = Syntax.tyRef Syntax.erased Syntax.mut (Syntax.tyInt Syntax.w16); ref = λ x. x },
                     (record { pos = 25; ty = Syntax.tyRef Syntax.erased Syntax.mut Element.behind; ref = λ x. x }, (record { pos = 10; st = List.[]; d = 0; at = λ x. x }, (Num.vAt 11 λ x. x, tt))),
                   ),
                 ),
-              ) 15 (List._∷_ 1 (List._∷_ 5 (List._∷_ 6 (List._∷_ 7 List.[])))) (Call.sub-id 𝓤 H A W (G44 .slots)) (
-                ShrSlice.spares-sslice 𝓤 H A W (Referent.rtF (Referent.fInt Syntax.w16)) (Syntax.tyRef
-                    (Syntax.named 1) Syntax.imm (Syntax.tyInt Syntax.w16)) 1,
-                Shared.reads-sslice 𝓤 H A W (Referent.rtF (Referent.fInt Syntax.w16)) (Syntax.tyRef (Syntax.named 1) Syntax.imm (Syntax.tyInt
-                    Syntax.w16)) 1,
+              ) 15
+              (List._∷_ 1 (List._∷_ 5 (List._∷_ 6 (List._∷_ 7 List.[])))) (Call.sub-id 𝓤 H A W (G44 .slots)) (
+                ShrSlice.spares-sslice 𝓤 H A W (Referent.rtF (Referent.fInt Syntax.w16)) (Syntax.tyRef (Syntax.named 1) Syntax.imm (Syntax.tyInt Syntax.w16)) 1,
+                Shared.reads-sslice 𝓤 H A W (Referent.rtF
+                    (Referent.fInt Syntax.w16)) (Syntax.tyRef (Syntax.named 1) Syntax.imm (Syntax.tyInt Syntax.w16)) 1,
                 Path'.refl,
                 (
                   Reads'.as-is 𝓤 H A (Mut.mslice (Referent.rtF (Referent.fInt Syntax.w8)) (Syntax.tyRef Syntax.erased Syntax.mut (Syntax.tyInt Syntax.w8)) 5),
-                  Mut.reads-mslice 𝓤
-                      H A W (Referent.rtF (Referent.fInt Syntax.w8)) (Syntax.tyRef Syntax.erased Syntax.mut (Syntax.tyInt Syntax.w8)) 5,
+                  Mut.reads-mslice 𝓤 H A W (Referent.rtF
+                      (Referent.fInt Syntax.w8)) (Syntax.tyRef Syntax.erased Syntax.mut (Syntax.tyInt Syntax.w8)) 5,
                   Path'.refl,
                   (
-                    Reads'.as-is 𝓤 H A (Mut.mslice (Referent.rtF (Referent.fInt
-                        Syntax.w16)) (Syntax.tyRef Syntax.erased Syntax.mut (Syntax.tyInt Syntax.w16)) 6),
-                    Mut.reads-mslice 𝓤 H A W (Referent.rtF (Referent.fInt Syntax.w16)) (Syntax.tyRef Syntax.erased Syntax.mut
-                        (Syntax.tyInt Syntax.w16)) 6,
+                    Reads'.as-is 𝓤 H A (Mut.mslice (Referent.rtF (Referent.fInt Syntax.w16)) (Syntax.tyRef Syntax.erased Syntax.mut (Syntax.tyInt Syntax.w16)) 6),
+                    Mut.reads-mslice 𝓤 H A W (Referent.rtF
+                        (Referent.fInt Syntax.w16)) (Syntax.tyRef Syntax.erased Syntax.mut (Syntax.tyInt Syntax.w16)) 6,
                     Path'.refl,
                     (
                       Reads'.as-is 𝓤 H A (Mut.mslice (Element.type) (Syntax.tyRef Syntax.erased Syntax.mut Element.behind) 7),
-                      Mut.reads-mslice 𝓤 H A W (Element.type)
-                          (Syntax.tyRef Syntax.erased Syntax.mut Element.behind) 7,
+                      Mut.reads-mslice 𝓤 H A W (Element.type) (Syntax.tyRef Syntax.erased Syntax.mut
+                          Element.behind) 7,
                       Path'.refl,
                       (
                         (
-                          Yields.yields-copy 𝓤 H A W (λ ρ. Unit) (Declared'.row Form.the-type) Path'.refl (Copies.cStruct Form.the-type
-                              Laws.the-laws Laws.the-copy .copy 𝓤 H A W) (Rows.whole (Declared'.row Form.the-type)) (λ x. x) (λ x. x) (λ ρ told. Local.mem-whole 𝓤 H A W (Declared'.row Form.the-type) ρ) λ ρ told.
-                              Local.whole-mem 𝓤 H A W (Declared'.row Form.the-type) ρ,
+                          Yields.yields-copy 𝓤 H A W (λ ρ. Unit) (Declared'.row Form.the-type) Path'.refl (Copies.cStruct Form.the-type Laws.the-laws Laws.the-copy .copy 𝓤 H A W) (Rows.whole (Declared'.row
+                              Form.the-type)) (λ x. x) (λ x. x) (λ ρ told. Local.mem-whole 𝓤 H A W (Declared'.row Form.the-type) ρ) λ ρ told. Local.whole-mem 𝓤 H A W (Declared'.row Form.the-type) ρ,
                           Path'.refl,
                         ),
                         ((Scalar.reads-sc 𝓤 H A W (Row.sInt Syntax.w64), Path'.refl), tt),
@@ -4569,35 +1987,33 @@ module _ (claims· : Claims) where
                     ),
                   ),
                 ),
-              ) (Reads'.room-gone 𝓤 H A
-              (Syntax.tyEnum (List._∷_ 98 (List._∷_ 108 (List._∷_ 111 (List._∷_ 99 (List._∷_ 107 (List._∷_ 58 (List._∷_ 58 (List._∷_ 87 (List._∷_ 114 (List._∷_ 105 (List._∷_ 116 (List._∷_ 116 (List._∷_
-              101 (List._∷_ 110 List.[])))))))))))))) (Syntax.ttcons (Syntax.tcons (Syntax.tyInt Syntax.w64) Syntax.tnil) (Syntax.ttcons (Syntax.tcons (Syntax.tyEnum (List._∷_ 115 (List._∷_ 116 (List._∷_
-              114 (List._∷_ 101 (List._∷_ 97 (List._∷_ 109 (List._∷_ 58 (List._∷_ 58 (List._∷_ 82 (List._∷_ 101 (List._∷_ 102 (List._∷_ 117 (List._∷_ 115 (List._∷_ 97 (List._∷_ 108 List.[])))))))))))))))
-              (Syntax.ttcons Syntax.tnil (Syntax.ttcons Syntax.tnil (Syntax.ttcons Syntax.tnil (Syntax.ttcons (Syntax.tcons (Syntax.tyInt Syntax.w64) Syntax.tnil) (Syntax.ttcons Syntax.tnil (Syntax.ttcons
-              Syntax.tnil (Syntax.ttcons Syntax.tnil (Syntax.ttcons Syntax.tnil (Syntax.ttcons Syntax.tnil (Syntax.ttcons Syntax.tnil (Syntax.ttcons (Syntax.tcons (Syntax.tyInt Syntax.w64) Syntax.tnil)
-              (Syntax.ttcons (Syntax.tcons (Syntax.tyInt Syntax.w64) Syntax.tnil) (Syntax.ttcons Syntax.tnil (Syntax.ttcons (Syntax.tcons (Syntax.tyInt Syntax.w64) (Syntax.tcons (Syntax.tyInt Syntax.w64)
-              Syntax.tnil)) (Syntax.ttcons (Syntax.tcons (Syntax.tyInt Syntax.w64) Syntax.tnil) Syntax.ttnil)))))))))))))))) Syntax.tnil) Syntax.ttnil)))) (tt, (tt, (tt, (tt, tt)))) Path'.refl)
-              (Scalar.g-room 𝓤 H A W E G45 9 (Syntax.tyInt Syntax.w64) (Scalar.room-sc 𝓤 H A W (Row.sInt Syntax.w64)))) (Scalar.g-room 𝓤 H A W E G46 10 (Syntax.tyStruct (List._∷_ 98 (List._∷_ 108
-              (List._∷_ 111 (List._∷_ 99 (List._∷_ 107 (List._∷_ 58 (List._∷_ 58 (List._∷_ 70 (List._∷_ 111 (List._∷_ 114 (List._∷_ 109 List.[]))))))))))) (Syntax.tcons (Syntax.tyInt Syntax.w32)
-              (Syntax.tcons Syntax.tyBool Syntax.tnil))) (Local.room-whole 𝓤 H A W (Declared'.row Form.the-type) (Syntax.tyStruct (List._∷_ 98 (List._∷_ 108 (List._∷_ 111 (List._∷_ 99 (List._∷_ 107
-              (List._∷_ 58 (List._∷_ 58 (List._∷_ 70 (List._∷_ 111 (List._∷_ 114 (List._∷_ 109 List.[]))))))))))) (Syntax.tcons (Syntax.tyInt Syntax.w32) (Syntax.tcons Syntax.tyBool Syntax.tnil)))
-              Path'.refl))) (Scalar.g-room 𝓤 H A W E G47 11 (Syntax.tyInt Syntax.w64) (Scalar.room-sc 𝓤 H A W (Row.sInt Syntax.w64)))) (Lifetime.g-end 𝓤 H A W E G48 5 Path'.refl)) (Relend.g-back-sl 𝓤 H A
-              W E (Referent.rtF (Referent.fInt Syntax.w8)) G49 17 3 2 5 (Syntax.tyRef (Syntax.named 2) Syntax.mut (Syntax.tyInt Syntax.w8)) (Syntax.tyRef Syntax.erased Syntax.mut (Syntax.tyInt Syntax.w8))
-              (Row.lease (κs .1 .1 .0) (qs .1 .1 .0)) (λ x. x) (λ x. x) (Reads'.as-is 𝓤 H A (Mut.msleft (Referent.rtF (Referent.fInt Syntax.w8)) (Syntax.tyRef Syntax.erased Syntax.mut (Syntax.tyInt
-              Syntax.w8)))) (Reads'.as-is 𝓤 H A (Relend.mslice-owed (Referent.rtF (Referent.fInt Syntax.w8)) (Syntax.tyRef (Syntax.named 2) Syntax.mut (Syntax.tyInt Syntax.w8)) 2 5 (Row.lease (κs .1 .1
-              .0) (qs .1 .1 .0)))) Path'.refl Path'.refl)) (Know.g-sl-known 𝓤 H A W (Referent.fInt Syntax.w8) E G50 3 2 (Syntax.tyRef (Syntax.named 2) Syntax.mut (Syntax.tyInt Syntax.w8)) (Row.lease (κs
-              .1 .1 .0) (qs .1 .1 .0)) 0 (λ x. x) record { fits = Dec'.lit< tt } (Reads'.as-is 𝓤 H A (Mut.mslice (Referent.rtF (Referent.fInt Syntax.w8)) (Syntax.tyRef (Syntax.named 2) Syntax.mut
-              (Syntax.tyInt Syntax.w8)) 2)) Path'.refl tt)) (Lifetime.g-forget 𝓤 H A W E G51 5 Row.dead Path'.refl)) (Lifetime.g-end 𝓤 H A W E G52 6 Path'.refl)) (PartMut.g-back-slᵐ 𝓤 H A W E
-              (Referent.rtF (Referent.fInt Syntax.w16)) G53 21 4 3 6 (Syntax.tyRef (Syntax.named 3) Syntax.mut (Syntax.tyInt Syntax.w16)) (Syntax.tyRef Syntax.erased Syntax.mut (Syntax.tyInt Syntax.w16))
-              (Row.lease (κs .1 .1 .1 .0) (qs .1 .1 .1 .0)) (λ x. x) (λ x. x) (Reads'.as-is 𝓤 H A (Mut.msleft (Referent.rtF (Referent.fInt Syntax.w16)) (Syntax.tyRef Syntax.erased Syntax.mut (Syntax.tyInt
-              Syntax.w16)))) (Reads'.as-is 𝓤 H A (PartMut.mslice-owedM (Referent.rtF (Referent.fInt Syntax.w16)) (Syntax.tyRef (Syntax.named 3) Syntax.mut (Syntax.tyInt Syntax.w16)) 3 6 (Row.lease (κs .1
-              .1 .1 .0) (qs .1 .1 .1 .0)))) Path'.refl Path'.refl)) (Know.g-sl-known 𝓤 H A W (Referent.fInt Syntax.w16) E G54 4 3 (Syntax.tyRef (Syntax.named 3) Syntax.mut (Syntax.tyInt Syntax.w16))
-              (Row.lease (κs .1 .1 .1 .0) (qs .1 .1 .1 .0)) 0 (λ x. x) record { fits = Dec'.lit< tt } (Reads'.as-is 𝓤 H A (Mut.mslice (Referent.rtF (Referent.fInt Syntax.w16)) (Syntax.tyRef (Syntax.named
-              3) Syntax.mut (Syntax.tyInt Syntax.w16)) 3)) Path'.refl tt)) (Lifetime.g-forget 𝓤 H A W E G55 6 Row.dead Path'.refl)) (Lifetime.g-end 𝓤 H A W E G56 7 Path'.refl)) (PartMut.g-back-slᵐ 𝓤 H A W
-              E (Element.type) G57 25 5 4 7 (Syntax.tyRef (Syntax.named 4) Syntax.mut Element.behind) (Syntax.tyRef Syntax.erased Syntax.mut Element.behind) (Row.lease (κs .1 .1 .1 .1 .0) (qs .1 .1 .1 .1
-              .0)) (λ x. x) (λ x. x) (Reads'.as-is 𝓤 H A (Mut.msleft (Element.type) (Syntax.tyRef Syntax.erased Syntax.mut Element.behind))) (Reads'.as-is 𝓤 H A (PartMut.mslice-owedM (Element.type)
-              (Syntax.tyRef (Syntax.named 4) Syntax.mut Element.behind) 4 7 (Row.lease (κs .1 .1 .1 .1 .0) (qs .1 .1 .1 .1 .0)))) Path'.refl Path'.refl)) (Lifetime.g-forget 𝓤 H A W E G58 7 Row.dead
-              Path'.refl))
+              ) (Reads'.room-gone 𝓤 H A (Syntax.tyEnum (List._∷_ 98 (List._∷_ 108 (List._∷_ 111 (List._∷_ 99 (List._∷_ 107 (List._∷_ 58
+              (List._∷_ 58 (List._∷_ 87 (List._∷_ 114 (List._∷_ 105 (List._∷_ 116 (List._∷_ 116 (List._∷_ 101 (List._∷_ 110 List.[])))))))))))))) (Syntax.ttcons (Syntax.tcons (Syntax.tyInt Syntax.w64)
+              Syntax.tnil) (Syntax.ttcons (Syntax.tcons (Syntax.tyEnum (List._∷_ 115 (List._∷_ 116 (List._∷_ 114 (List._∷_ 101 (List._∷_ 97 (List._∷_ 109 (List._∷_ 58 (List._∷_ 58 (List._∷_ 82 (List._∷_
+              101 (List._∷_ 102 (List._∷_ 117 (List._∷_ 115 (List._∷_ 97 (List._∷_ 108 List.[]))))))))))))))) (Syntax.ttcons Syntax.tnil (Syntax.ttcons Syntax.tnil (Syntax.ttcons Syntax.tnil
+              (Syntax.ttcons (Syntax.tcons (Syntax.tyInt Syntax.w64) Syntax.tnil) (Syntax.ttcons Syntax.tnil (Syntax.ttcons Syntax.tnil (Syntax.ttcons Syntax.tnil (Syntax.ttcons Syntax.tnil (Syntax.ttcons
+              Syntax.tnil (Syntax.ttcons Syntax.tnil (Syntax.ttcons (Syntax.tcons (Syntax.tyInt Syntax.w64) Syntax.tnil) (Syntax.ttcons (Syntax.tcons (Syntax.tyInt Syntax.w64) Syntax.tnil) (Syntax.ttcons
+              Syntax.tnil (Syntax.ttcons (Syntax.tcons (Syntax.tyInt Syntax.w64) (Syntax.tcons (Syntax.tyInt Syntax.w64) Syntax.tnil)) (Syntax.ttcons (Syntax.tcons (Syntax.tyInt Syntax.w64) Syntax.tnil)
+              Syntax.ttnil)))))))))))))))) Syntax.tnil) Syntax.ttnil)))) (tt, (tt, (tt, (tt, tt)))) Path'.refl) (Scalar.g-room 𝓤 H A W E G45 9 (Syntax.tyInt Syntax.w64) (Scalar.room-sc 𝓤 H A W (Row.sInt
+              Syntax.w64)))) (Scalar.g-room 𝓤 H A W E G46 10 y4 (Local.room-whole 𝓤 H A W (Declared'.row Form.the-type) y4 Path'.refl))) (Scalar.g-room 𝓤 H A W E G47 11 (Syntax.tyInt Syntax.w64)
+              (Scalar.room-sc 𝓤 H A W (Row.sInt Syntax.w64)))) (Lifetime.g-end 𝓤 H A W E G48 5 Path'.refl)) (Relend.g-back-sl 𝓤 H A W E (Referent.rtF (Referent.fInt Syntax.w8)) G49 17 3 2 5 (Syntax.tyRef
+              (Syntax.named 2) Syntax.mut (Syntax.tyInt Syntax.w8)) (Syntax.tyRef Syntax.erased Syntax.mut (Syntax.tyInt Syntax.w8)) (Row.lease (κs .1 .1 .0) (qs .1 .1 .0)) (λ x. x) (λ x. x) (Reads'.as-is
+              𝓤 H A (Mut.msleft (Referent.rtF (Referent.fInt Syntax.w8)) (Syntax.tyRef Syntax.erased Syntax.mut (Syntax.tyInt Syntax.w8)))) (Reads'.as-is 𝓤 H A (Relend.mslice-owed (Referent.rtF
+              (Referent.fInt Syntax.w8)) (Syntax.tyRef (Syntax.named 2) Syntax.mut (Syntax.tyInt Syntax.w8)) 2 5 (Row.lease (κs .1 .1 .0) (qs .1 .1 .0)))) Path'.refl Path'.refl)) (Know.g-sl-known 𝓤 H A W
+              (Referent.fInt Syntax.w8) E G50 3 2 (Syntax.tyRef (Syntax.named 2) Syntax.mut (Syntax.tyInt Syntax.w8)) (Row.lease (κs .1 .1 .0) (qs .1 .1 .0)) 0 (λ x. x) record { fits = Dec'.lit< tt }
+              (Reads'.as-is 𝓤 H A (Mut.mslice (Referent.rtF (Referent.fInt Syntax.w8)) (Syntax.tyRef (Syntax.named 2) Syntax.mut (Syntax.tyInt Syntax.w8)) 2)) Path'.refl tt)) (Lifetime.g-forget 𝓤 H A W E
+              G51 5 Row.dead Path'.refl)) (Lifetime.g-end 𝓤 H A W E G52 6 Path'.refl)) (PartMut.g-back-slᵐ 𝓤 H A W E (Referent.rtF (Referent.fInt Syntax.w16)) G53 21 4 3 6 (Syntax.tyRef (Syntax.named 3)
+              Syntax.mut (Syntax.tyInt Syntax.w16)) (Syntax.tyRef Syntax.erased Syntax.mut (Syntax.tyInt Syntax.w16)) (Row.lease (κs .1 .1 .1 .0) (qs .1 .1 .1 .0)) (λ x. x) (λ x. x) (Reads'.as-is 𝓤 H A
+              (Mut.msleft (Referent.rtF (Referent.fInt Syntax.w16)) (Syntax.tyRef Syntax.erased Syntax.mut (Syntax.tyInt Syntax.w16)))) (Reads'.as-is 𝓤 H A (PartMut.mslice-owedM (Referent.rtF
+              (Referent.fInt Syntax.w16)) (Syntax.tyRef (Syntax.named 3) Syntax.mut (Syntax.tyInt Syntax.w16)) 3 6 (Row.lease (κs .1 .1 .1 .0) (qs .1 .1 .1 .0)))) Path'.refl Path'.refl)) (Know.g-sl-known
+              𝓤 H A W (Referent.fInt Syntax.w16) E G54 4 3 (Syntax.tyRef (Syntax.named 3) Syntax.mut (Syntax.tyInt Syntax.w16)) (Row.lease (κs .1 .1 .1 .0) (qs .1 .1 .1 .0)) 0 (λ x. x) record {
+                fits =
+                    Dec'.lit< tt;
+              } (Reads'.as-is 𝓤 H A (Mut.mslice (Referent.rtF (Referent.fInt Syntax.w16)) (Syntax.tyRef (Syntax.named 3) Syntax.mut (Syntax.tyInt Syntax.w16)) 3)) Path'.refl tt))
+              (Lifetime.g-forget 𝓤 H A W E G55 6 Row.dead Path'.refl)) (Lifetime.g-end 𝓤 H A W E G56 7 Path'.refl)) (PartMut.g-back-slᵐ 𝓤 H A W E (Element.type) G57 25 5 4 7 (Syntax.tyRef (Syntax.named 4)
+              Syntax.mut Element.behind) (Syntax.tyRef Syntax.erased Syntax.mut Element.behind) (Row.lease (κs .1 .1 .1 .1 .0) (qs .1 .1 .1 .1 .0)) (λ x. x) (λ x. x) (Reads'.as-is 𝓤 H A (Mut.msleft
+              (Element.type) (Syntax.tyRef Syntax.erased Syntax.mut Element.behind))) (Reads'.as-is 𝓤 H A (PartMut.mslice-owedM (Element.type) (Syntax.tyRef (Syntax.named 4) Syntax.mut Element.behind) 4 7
+              (Row.lease (κs .1 .1 .1 .1 .0) (qs .1 .1 .1 .1 .0)))) Path'.refl Path'.refl)) (Lifetime.g-forget 𝓤 H A W E G58 7 Row.dead Path'.refl))
 
           d6 : Typed.Typed 𝓤 H A 𝓣 E G43 b21 Δ1 at6
           d6 = Typed.g-pre 𝓤 H A W 𝓣 E G43 G44 b21 Δ1 (Typed.pass T43 T44 s41) at5 (Scalar.g-room 𝓤 H A W E G43 23 (Syntax.tyInt Syntax.w64) (Scalar.room-sc 𝓤 H A W (Row.sInt Syntax.w64))) d5
@@ -4605,9 +2021,8 @@ module _ (claims· : Claims) where
           d7 : Typed.Typed 𝓤 H A 𝓣 E G42 b22 Δ1 at7
           d7 = Typed.s-seq 𝓤 H A W 𝓣 E G42 G43 b20 b21 Δ1 (Typed.ask s40) at6 (Relend.t-sl-aggregate 𝓤 H A W E (Element.type) 𝓣 (Relend.asMut (Element.type)) G42 24 25 7 (Syntax.tyRef Syntax.erased
               Syntax.mut Element.behind) (Syntax.tyRef Syntax.erased Syntax.mut Element.behind) (λ x. x) (Scalar.oAt 23 (Syntax.tyInt Syntax.w64) (Row.valS (Row.sInt Syntax.w64))) (Reads'.as-is 𝓤 H A
-              (Relend.msptr (Element.type) (Syntax.tyRef Syntax.erased Syntax.mut Element.behind) 7)) (Reads'.room-gone 𝓤 H A (Syntax.tyStruct (List._∷_ 38 (List._∷_ 91 (List._∷_ 93 List.[])))
-              (Syntax.tcons (Syntax.tyRef Syntax.erased Syntax.mut Element.behind) (Syntax.tcons (Syntax.tyInt Syntax.w64) Syntax.tnil)))) (Scalar.reads-sc 𝓤 H A W (Row.sInt Syntax.w64), Path'.refl)
-              Path'.refl Path'.refl λ b o k. tt) d6
+              (Relend.msptr (Element.type) (Syntax.tyRef Syntax.erased Syntax.mut Element.behind) 7)) (Reads'.room-gone 𝓤 H A y3) (Scalar.reads-sc 𝓤 H A W (Row.sInt Syntax.w64), Path'.refl) Path'.refl
+              Path'.refl λ b o k. tt) d6
 
           d8 : Typed.Typed 𝓤 H A 𝓣 E G41 b22 Δ1 at8
           d8 = Typed.g-pre 𝓤 H A W 𝓣 E G41 G42 b22 Δ1 (Typed.pass T41 T42 s39) at7 (Scalar.g-room 𝓤 H A W E G41 22 Syntax.tyPtr (Scalar.room-sc 𝓤 H A W Row.sPtr)) d7
@@ -4619,52 +2034,8 @@ module _ (claims· : Claims) where
               (Reads'.room-gone 𝓤 H A (Syntax.tyRef Syntax.erased Syntax.mut Element.behind)) Path'.refl tt Path'.refl Path'.refl λ b o. tt) d8
 
           d10 : Typed.Typed 𝓤 H A 𝓣 E G39 b23 Δ1 at10
-          d10 = Typed.g-pre 𝓤 H A W 𝓣 E G39 G40 b23 Δ1 (λ Ψ. Ψ) at9 (Lifetime.g-begin 𝓤 H A W E G39 7 (
-            tt,
-            (
-              tt,
-              (
-                tt,
-                (
-                  (tt, tt),
-                  (
-                    (tt, tt),
-                    (
-                      tt,
-                      (
-                        tt,
-                        (
-                          tt,
-                          (
-                            tt,
-                            (
-                              tt,
-                              (
-                                tt,
-                                (
-                                  tt,
-                                  (
-                                    tt,
-                                    (
-                                      tt,
-                                      (
-                                        tt,
-                                        (tt, (tt, (tt, (tt, (tt, (tt, (tt, (tt, (tt, (tt, (tt, tt))))))))))),
-                                      ),
-                                    ),
-                                  ),
-                                ),
-                              ),
-                            ),
-                          ),
-                        ),
-                      ),
-                    ),
-                  ),
-                ),
-              ),
-            ),
-          )) d9
+          d10 = Typed.g-pre 𝓤 H A W 𝓣 E G39 G40 b23 Δ1 (λ Ψ. Ψ) at9 (Lifetime.g-begin 𝓤 H A W E G39 7
+              (tt, (tt, (tt, ((tt, tt), ((tt, tt), (tt, (tt, (tt, (tt, (tt, (tt, (tt, (tt, (tt, (tt, (tt, (tt, (tt, (tt, (tt, (tt, (tt, (tt, (tt, (tt, (tt, tt))))))))))))))))))))))))))) d9
 
           d11 : Typed.Typed 𝓤 H A 𝓣 E G38 b24 Δ1 at11
           d11 = Typed.s-seq 𝓤 H A W 𝓣 E G38 G39 b18 b23 Δ1 (Typed.ask s36) at10 (Scalar.t-op2 𝓤 H A W E 𝓣 G38 (Syntax.sub Syntax.unsigned) (Scalar.oInt Syntax.w64 336) (Scalar.oInt Syntax.w64 0) 23
@@ -4673,12 +2044,9 @@ module _ (claims· : Claims) where
 
           d12 : Typed.Typed 𝓤 H A 𝓣 E G37 b25 Δ1 at12
           d12 = Typed.s-seq 𝓤 H A W 𝓣 E G37 G38 b17 b24 Δ1 (Typed.ask s35) at11 (Scalar.t-op2 𝓤 H A W E 𝓣 G37 Syntax.offset (Scalar.oFld 5 (List._∷_ (Syntax.field 0) List.[]) (Syntax.tyRef
-              (Syntax.named 4) Syntax.mut Element.behind) 0 Reads'.ptrVal) (Scalar.oInt Syntax.w64 0) 22 (Rows.sc-here Row.sPtr) Syntax.tyPtr (Row.valS Row.sPtr) (Row.sPtr .of) (
-                Mut.reads-mslice-ptr 𝓤 H
-                    A W (Element.type) (Syntax.tyRef (Syntax.named 4) Syntax.mut Element.behind) 4 0 Path'.refl,
-                Path'.refl,
-              ) tt (Reads'.room-gone 𝓤 H A Syntax.tyPtr) (Scalar.holds-sc 𝓤 H A W Row.sPtr)
-              Path'.refl (λ u. Path'.refl) λ u. tt) d11
+              (Syntax.named 4) Syntax.mut Element.behind) 0 Reads'.ptrVal) (Scalar.oInt Syntax.w64 0) 22 (Rows.sc-here Row.sPtr) Syntax.tyPtr (Row.valS Row.sPtr) (Row.sPtr .of)
+              (Mut.reads-mslice-ptr 𝓤 H A W (Element.type) (Syntax.tyRef (Syntax.named 4) Syntax.mut Element.behind) 4 0 Path'.refl, Path'.refl) tt (Reads'.room-gone 𝓤 H A Syntax.tyPtr) (Scalar.holds-sc 𝓤
+              H A W Row.sPtr) Path'.refl (λ u. Path'.refl) λ u. tt) d11
 
           d13 : Typed.Typed 𝓤 H A 𝓣 E G36 b25 Δ1 at13
           d13 = Typed.g-pre 𝓤 H A W 𝓣 E G36 G37 b25 Δ1 (Typed.pass T36 T37 s34) at12 (Scalar.g-room 𝓤 H A W E G36 19 (Syntax.tyInt Syntax.w64) (Scalar.room-sc 𝓤 H A W (Row.sInt Syntax.w64))) d12
@@ -4687,8 +2055,7 @@ module _ (claims· : Claims) where
           d14 = Typed.s-seq 𝓤 H A W 𝓣 E G35 G36 b16 b25 Δ1 (Typed.ask s33) at13 (Relend.t-sl-aggregate 𝓤 H A W E (Referent.rtF (Referent.fInt Syntax.w16)) 𝓣 (Relend.asMut (Referent.rtF (Referent.fInt
               Syntax.w16))) G35 20 21 6 (Syntax.tyRef Syntax.erased Syntax.mut (Syntax.tyInt Syntax.w16)) (Syntax.tyRef Syntax.erased Syntax.mut (Syntax.tyInt Syntax.w16)) (λ x. x) (Scalar.oAt 19
               (Syntax.tyInt Syntax.w64) (Row.valS (Row.sInt Syntax.w64))) (Reads'.as-is 𝓤 H A (Relend.msptr (Referent.rtF (Referent.fInt Syntax.w16)) (Syntax.tyRef Syntax.erased Syntax.mut (Syntax.tyInt
-              Syntax.w16)) 6)) (Reads'.room-gone 𝓤 H A (Syntax.tyStruct (List._∷_ 38 (List._∷_ 91 (List._∷_ 93 List.[]))) (Syntax.tcons (Syntax.tyRef Syntax.erased Syntax.mut (Syntax.tyInt Syntax.w16))
-              (Syntax.tcons (Syntax.tyInt Syntax.w64) Syntax.tnil)))) (Scalar.reads-sc 𝓤 H A W (Row.sInt Syntax.w64), Path'.refl) Path'.refl Path'.refl λ b o k. tt) d13
+              Syntax.w16)) 6)) (Reads'.room-gone 𝓤 H A y1) (Scalar.reads-sc 𝓤 H A W (Row.sInt Syntax.w64), Path'.refl) Path'.refl Path'.refl λ b o k. tt) d13
 
           d15 : Typed.Typed 𝓤 H A 𝓣 E G34 b26 Δ1 at15
           d15 = Typed.g-pre 𝓤 H A W 𝓣 E G34 G35 b26 Δ1 (Typed.pass T34 T35 s32) at14 (Scalar.g-room 𝓤 H A W E G34 18 Syntax.tyPtr (Scalar.room-sc 𝓤 H A W Row.sPtr)) d14
@@ -4701,80 +2068,28 @@ module _ (claims· : Claims) where
               (Syntax.tyInt Syntax.w16))) Path'.refl tt Path'.refl Path'.refl λ b o. tt) d15
 
           d17 : Typed.Typed 𝓤 H A 𝓣 E G32 b27 Δ1 at17
-          d17 = Typed.g-pre 𝓤 H A W 𝓣 E G32 G33 b27 Δ1 (λ Ψ. Ψ) at16 (Lifetime.g-begin 𝓤 H A W E G32 6 (
-            tt,
-            (
-              tt,
-              (
-                tt,
-                (
-                  (tt, tt),
-                  (
-                    tt,
-                    (
-                      tt,
-                      (
-                        tt,
-                        (
-                          tt,
-                          (
-                            tt,
-                            (
-                              tt,
-                              (
-                                tt,
-                                (
-                                  tt,
-                                  (
-                                    tt,
-                                    (
-                                      tt,
-                                      (
-                                        tt,
-                                        (
-                                          tt,
-                                          (tt, (tt, (tt, (tt, (tt, (tt, (tt, (tt, (tt, (tt, tt)))))))))),
-                                        ),
-                                      ),
-                                    ),
-                                  ),
-                                ),
-                              ),
-                            ),
-                          ),
-                        ),
-                      ),
-                    ),
-                  ),
-                ),
-              ),
-            ),
-          )) d16
+          d17 = Typed.g-pre 𝓤 H A W 𝓣 E G32 G33 b27 Δ1 (λ Ψ. Ψ) at16 (Lifetime.g-begin 𝓤 H A W E G32 6
+              (tt, (tt, (tt, ((tt, tt), (tt, (tt, (tt, (tt, (tt, (tt, (tt, (tt, (tt, (tt, (tt, (tt, (tt, (tt, (tt, (tt, (tt, (tt, (tt, (tt, (tt, (tt, tt))))))))))))))))))))))))))) d16
 
           d18 : Typed.Typed 𝓤 H A 𝓣 E G31 b28 Δ1 at18
           d18 = Typed.s-seq 𝓤 H A W 𝓣 E G31 G32 b14 b27 Δ1 (Typed.ask s29) at17 (Scalar.t-op2 𝓤 H A W E 𝓣 G31 (Syntax.sub Syntax.unsigned) (Scalar.oAt 9 (Syntax.tyInt Syntax.w64) (Row.valS (Row.sInt
-              Syntax.w64))) (Scalar.oInt Syntax.w64 0) 19 (Rows.sc-here (Row.sInt Syntax.w64)) (Syntax.tyInt Syntax.w64) (Row.valS (Row.sInt Syntax.w64)) (Row.sInt Syntax.w64 .of) (
-                Scalar.reads-sc 𝓤 H A W
-                    (Row.sInt Syntax.w64),
-                Path'.refl,
-              ) tt (Reads'.room-gone 𝓤 H A (Syntax.tyInt Syntax.w64)) (Scalar.holds-sc 𝓤 H A W (Row.sInt Syntax.w64)) Path'.refl (λ u. Path'.refl) λ u. tt) d17
+              Syntax.w64))) (Scalar.oInt Syntax.w64 0) 19 (Rows.sc-here (Row.sInt Syntax.w64)) (Syntax.tyInt Syntax.w64) (Row.valS (Row.sInt Syntax.w64)) (Row.sInt Syntax.w64 .of)
+              (Scalar.reads-sc 𝓤 H A W (Row.sInt Syntax.w64), Path'.refl) tt (Reads'.room-gone 𝓤 H A (Syntax.tyInt Syntax.w64)) (Scalar.holds-sc 𝓤 H A W (Row.sInt Syntax.w64)) Path'.refl (λ u. Path'.refl)
+              λ u. tt) d17
 
           d19 : Typed.Typed 𝓤 H A 𝓣 E G30 b29 Δ1 at19
           d19 = Typed.s-seq 𝓤 H A W 𝓣 E G30 G31 b13 b28 Δ1 (Typed.ask s28) at18 (Scalar.t-op2 𝓤 H A W E 𝓣 G30 Syntax.offset (Scalar.oFld 4 (List._∷_ (Syntax.field 0) List.[]) (Syntax.tyRef
-              (Syntax.named 3) Syntax.mut (Syntax.tyInt Syntax.w16)) 0 Reads'.ptrVal) (Scalar.oInt Syntax.w64 0) 18 (Rows.sc-here Row.sPtr) Syntax.tyPtr (Row.valS Row.sPtr) (Row.sPtr .of) (
-                Mut.reads-mslice-ptr 𝓤 H A W (Referent.rtF (Referent.fInt Syntax.w16)) (Syntax.tyRef (Syntax.named 3) Syntax.mut (Syntax.tyInt Syntax.w16)) 3 0 Path'.refl,
-                Path'.refl,
-              ) tt (Reads'.room-gone
+              (Syntax.named 3) Syntax.mut (Syntax.tyInt Syntax.w16)) 0 Reads'.ptrVal) (Scalar.oInt Syntax.w64 0) 18 (Rows.sc-here Row.sPtr) Syntax.tyPtr (Row.valS Row.sPtr) (Row.sPtr .of)
+              (Mut.reads-mslice-ptr 𝓤 H A W (Referent.rtF (Referent.fInt Syntax.w16)) (Syntax.tyRef (Syntax.named 3) Syntax.mut (Syntax.tyInt Syntax.w16)) 3 0 Path'.refl, Path'.refl) tt (Reads'.room-gone
               𝓤 H A Syntax.tyPtr) (Scalar.holds-sc 𝓤 H A W Row.sPtr) Path'.refl (λ u. Path'.refl) λ u. tt) d18
 
           d20 : Typed.Typed 𝓤 H A 𝓣 E G29 b30 Δ1 at20
           d20 = Typed.s-seq 𝓤 H A W 𝓣 E G29 G30 b12 b29 Δ1 (Typed.ask s27) at19 (Relend.t-sl-aggregate 𝓤 H A W E (Referent.rtF (Referent.fInt Syntax.w8)) 𝓣 (Relend.asMut (Referent.rtF (Referent.fInt
               Syntax.w8))) G29 16 17 5 (Syntax.tyRef Syntax.erased Syntax.mut (Syntax.tyInt Syntax.w8)) (Syntax.tyRef Syntax.erased Syntax.mut (Syntax.tyInt Syntax.w8)) (λ x. x) (Scalar.oFld 3 (List._∷_
               (Syntax.field 1) List.[]) (Syntax.tyInt Syntax.w64) 8 λ v. Shared.lenV (v .0)) (Reads'.as-is 𝓤 H A (Relend.msptr (Referent.rtF (Referent.fInt Syntax.w8)) (Syntax.tyRef Syntax.erased
-              Syntax.mut (Syntax.tyInt Syntax.w8)) 5)) (Reads'.room-gone 𝓤 H A (Syntax.tyStruct (List._∷_ 38 (List._∷_ 91 (List._∷_ 93 List.[]))) (Syntax.tcons (Syntax.tyRef Syntax.erased Syntax.mut
-              (Syntax.tyInt Syntax.w8)) (Syntax.tcons (Syntax.tyInt Syntax.w64) Syntax.tnil)))) (
-                Relend.reads-owed-len 𝓤 H A W (Referent.rtF (Referent.fInt Syntax.w8)) (Syntax.tyRef (Syntax.named 2)
-                    Syntax.mut (Syntax.tyInt Syntax.w8)) 2 5 (Row.lease (κs .1 .1 .0) (qs .1 .1 .0)) 8 Path'.refl,
+              Syntax.mut (Syntax.tyInt Syntax.w8)) 5)) (Reads'.room-gone 𝓤 H A y2) (
+                Relend.reads-owed-len 𝓤 H A W (Referent.rtF (Referent.fInt Syntax.w8)) (Syntax.tyRef (Syntax.named 2) Syntax.mut (Syntax.tyInt Syntax.w8)) 2 5 (Row.lease (κs .1 .1 .0) (qs .1 .1 .0)) 8
+                    Path'.refl,
                 Path'.refl,
               ) Path'.refl Path'.refl λ b o k. tt) d19
 
@@ -4785,153 +2100,69 @@ module _ (claims· : Claims) where
               Syntax.w8))) Path'.refl tt Path'.refl Path'.refl Path'.refl λ b o. tt) d20
 
           d22 : Typed.Typed 𝓤 H A 𝓣 E G27 b31 Δ1 at22
-          d22 = Typed.g-pre 𝓤 H A W 𝓣 E G27 G28 b31 Δ1 (λ Ψ. Ψ) at21 (Lifetime.g-begin 𝓤 H A W E G27 5 (
-            tt,
-            (
-              tt,
-              (
-                tt,
-                (
-                  tt,
-                  (
-                    tt,
-                    (
-                      tt,
-                      (
-                        tt,
-                        (
-                          tt,
-                          (
-                            tt,
-                            (
-                              tt,
-                              (
-                                tt,
-                                (
-                                  tt,
-                                  (
-                                    tt,
-                                    (
-                                      tt,
-                                      (
-                                        tt,
-                                        (
-                                          tt,
-                                          (
-                                            tt,
-                                            (tt, (tt, (tt, (tt, (tt, (tt, (tt, (tt, (tt, tt))))))))),
-                                          ),
-                                        ),
-                                      ),
-                                    ),
-                                  ),
-                                ),
-                              ),
-                            ),
-                          ),
-                        ),
-                      ),
-                    ),
-                  ),
-                ),
-              ),
-            ),
-          )) d21
+          d22 = Typed.g-pre 𝓤 H A W 𝓣 E G27 G28 b31 Δ1 (λ Ψ. Ψ) at21 (Lifetime.g-begin 𝓤 H A W E G27 5
+              (tt, (tt, (tt, (tt, (tt, (tt, (tt, (tt, (tt, (tt, (tt, (tt, (tt, (tt, (tt, (tt, (tt, (tt, (tt, (tt, (tt, (tt, (tt, (tt, (tt, (tt, tt))))))))))))))))))))))))))) d21
 
           d23 : Typed.Typed 𝓤 H A 𝓣 E G26 b31 Δ1 at23
-          d23 = Typed.g-pre 𝓤 H A W 𝓣 E G26 G27 b31 Δ1 (Typed.pass T26 T27 s24) at22 (Scalar.g-room 𝓤 H A W E G26 8 (Syntax.tyStruct (List._∷_ 115 (List._∷_ 116 (List._∷_ 114 (List._∷_ 101 (List._∷_
-              97 (List._∷_ 109 (List._∷_ 58 (List._∷_ 58 (List._∷_ 70 (List._∷_ 117 (List._∷_ 106 (List._∷_ 105 (List._∷_ 72 (List._∷_ 101 (List._∷_ 97 (List._∷_ 100 (List._∷_ 101 (List._∷_ 114
-              List.[])))))))))))))))))) (Syntax.tcons Syntax.tyBool (Syntax.tcons Syntax.tyBool (Syntax.tcons (Syntax.tyInt Syntax.w32) (Syntax.tcons (Syntax.tyInt Syntax.w32) (Syntax.tcons (Syntax.tyInt
-              Syntax.w32) (Syntax.tcons (Syntax.tyInt Syntax.w32) (Syntax.tcons (Syntax.tyInt Syntax.w32) (Syntax.tcons (Syntax.tyInt Syntax.w32) (Syntax.tcons (Syntax.tyInt Syntax.w32)
-              Syntax.tnil)))))))))) (Local.room-whole 𝓤 H A W (Declared'.row FujiHeader.the-type) (Syntax.tyStruct (List._∷_ 115 (List._∷_ 116 (List._∷_ 114 (List._∷_ 101 (List._∷_ 97 (List._∷_ 109
-              (List._∷_ 58 (List._∷_ 58 (List._∷_ 70 (List._∷_ 117 (List._∷_ 106 (List._∷_ 105 (List._∷_ 72 (List._∷_ 101 (List._∷_ 97 (List._∷_ 100 (List._∷_ 101 (List._∷_ 114 List.[]))))))))))))))))))
-              (Syntax.tcons Syntax.tyBool (Syntax.tcons Syntax.tyBool (Syntax.tcons (Syntax.tyInt Syntax.w32) (Syntax.tcons (Syntax.tyInt Syntax.w32) (Syntax.tcons (Syntax.tyInt Syntax.w32) (Syntax.tcons
-              (Syntax.tyInt Syntax.w32) (Syntax.tcons (Syntax.tyInt Syntax.w32) (Syntax.tcons (Syntax.tyInt Syntax.w32) (Syntax.tcons (Syntax.tyInt Syntax.w32) Syntax.tnil)))))))))) Path'.refl)) d22
+          d23 = Typed.g-pre 𝓤 H A W 𝓣 E G26 G27 b31 Δ1 (Typed.pass T26 T27 s24) at22 (Scalar.g-room 𝓤 H A W E G26 8 y0 (Local.room-whole 𝓤 H A W (Declared'.row FujiHeader.the-type) y0 Path'.refl)) d22
 
           d24 : Typed.Typed 𝓤 H A 𝓣 E G25 b32 Δ1 at24
           d24 = Typed.s-seq 𝓤 H A W 𝓣 E G25 G26 b10 b31 Δ1 (Typed.both s23) at23 (Plain.t-call-plain 𝓤 H A W 𝓣 0 ps·3 r·3 (claims· .6) (claims· .7) "block::tight::line_count" (known .3) E (λ pos β. β)
               G25 (record { pos = 8; st = List.[]; d = 0; at = λ x. x }, tt) 11 List.[] (Call.sub-id 𝓤 H A W (G25 .slots)) (
                 (
-                  Yields.yields-copy 𝓤 H A W (λ ρ. Unit) (Declared'.row FujiHeader.the-type)
-                      Path'.refl (Copies.cStruct FujiHeader.the-type Laws''.the-laws Laws''.the-copy .copy 𝓤 H A W) (Rows.whole (Declared'.row FujiHeader.the-type)) (λ x. x) (λ x. x) (λ ρ told. Local.mem-whole 𝓤
-                      H A W (Declared'.row FujiHeader.the-type) ρ) λ ρ told. Local.whole-mem 𝓤 H A W (Declared'.row FujiHeader.the-type) ρ,
+                  Yields.yields-copy 𝓤 H A W (λ ρ. Unit) (Declared'.row FujiHeader.the-type) Path'.refl (Copies.cStruct FujiHeader.the-type Laws''.the-laws Laws''.the-copy .copy 𝓤 H A W) (Rows.whole
+                      (Declared'.row FujiHeader.the-type)) (λ x. x) (λ x. x) (λ ρ told. Local.mem-whole 𝓤 H A W (Declared'.row FujiHeader.the-type) ρ) λ ρ told. Local.whole-mem 𝓤 H A W (Declared'.row
+                      FujiHeader.the-type) ρ,
                   Path'.refl,
                 ),
                 tt,
-              ) (Reads'.room-gone 𝓤 H A (Syntax.tyInt Syntax.w64))
-              tt Path'.refl) d23
+              ) (Reads'.room-gone 𝓤 H A (Syntax.tyInt Syntax.w64)) tt Path'.refl) d23
 
           d25 : Typed.Typed 𝓤 H A 𝓣 E G24 b33 Δ1 at25
           d25 = Typed.s-seq 𝓤 H A W 𝓣 E G24 G25 b9 b32 Δ1 (Typed.both s22) at24 (Plain.t-call-plain 𝓤 H A W 𝓣 0 ps·2 r·2 (claims· .4) (claims· .5) "block::form_of" (known .2) E (λ pos β. β) G24
               (record { pos = 8; st = List.[]; d = 0; at = λ x. x }, tt) 10 List.[] (Call.sub-id 𝓤 H A W (G24 .slots)) (
                 (
-                  Yields.yields-copy 𝓤 H A W (λ ρ. Unit) (Declared'.row FujiHeader.the-type)
-                      Path'.refl (Copies.cStruct FujiHeader.the-type Laws''.the-laws Laws''.the-copy .copy 𝓤 H A W) (Rows.whole (Declared'.row FujiHeader.the-type)) (λ x. x) (λ x. x) (λ ρ told. Local.mem-whole 𝓤
-                      H A W (Declared'.row FujiHeader.the-type) ρ) λ ρ told. Local.whole-mem 𝓤 H A W (Declared'.row FujiHeader.the-type) ρ,
+                  Yields.yields-copy 𝓤 H A W (λ ρ. Unit) (Declared'.row FujiHeader.the-type) Path'.refl (Copies.cStruct FujiHeader.the-type Laws''.the-laws Laws''.the-copy .copy 𝓤 H A W) (Rows.whole
+                      (Declared'.row FujiHeader.the-type)) (λ x. x) (λ x. x) (λ ρ told. Local.mem-whole 𝓤 H A W (Declared'.row FujiHeader.the-type) ρ) λ ρ told. Local.whole-mem 𝓤 H A W (Declared'.row
+                      FujiHeader.the-type) ρ,
                   Path'.refl,
                 ),
                 tt,
-              ) (Reads'.room-gone 𝓤 H A (Syntax.tyStruct (List._∷_
-              98 (List._∷_ 108 (List._∷_ 111 (List._∷_ 99 (List._∷_ 107 (List._∷_ 58 (List._∷_ 58 (List._∷_ 70 (List._∷_ 111 (List._∷_ 114 (List._∷_ 109 List.[]))))))))))) (Syntax.tcons (Syntax.tyInt
-              Syntax.w32) (Syntax.tcons Syntax.tyBool Syntax.tnil)))) tt Path'.refl) d24
+              ) (Reads'.room-gone 𝓤 H A y4) tt Path'.refl) d24
 
           d26 : Typed.Typed 𝓤 H A 𝓣 E G23 b34 Δ1 at26
           d26 = Typed.s-seq 𝓤 H A W 𝓣 E G23 G24 b8 b33 Δ1 (Typed.both s21) at25 (Plain.t-call-plain 𝓤 H A W 𝓣 0 ps·1 r·1 (claims· .2) (claims· .3) "begin::samples_needed" (known .1) E (λ pos β. β) G23
-              (Bool.bFld 8 (List._∷_ (Syntax.field 1) List.[]) 1 λ x. FujiHeader.struct .as-values x .1 .0, tt) 9 List.[] (Call.sub-id 𝓤 H A W (G23 .slots)) (
-                (
-                  Reads.reads-field 𝓤 H A W
-                      FujiHeader.the-type Laws''.the-laws 1 Syntax.tyBool 1 Path'.refl,
-                  Path'.refl,
-                ),
-                tt,
-              ) (Reads'.room-gone 𝓤 H A (Syntax.tyInt Syntax.w64)) tt Path'.refl) d25
+              (Bool.bFld 8 (List._∷_ (Syntax.field 1) List.[]) 1 λ x. FujiHeader.struct .as-values x .1 .0, tt) 9 List.[] (Call.sub-id 𝓤 H A W (G23 .slots))
+              ((Reads.reads-field 𝓤 H A W FujiHeader.the-type Laws''.the-laws 1 Syntax.tyBool 1 Path'.refl, Path'.refl), tt) (Reads'.room-gone 𝓤 H A (Syntax.tyInt Syntax.w64)) tt Path'.refl) d25
 
           d27 : Typed.Typed 𝓤 H A 𝓣 E G22 b34 Δ1 at27
           d27 = Typed.g-pre 𝓤 H A W 𝓣 E G22 G23 b34 Δ1 (Typed.pass T22 T23 s20) at26 (Scalar.g-room 𝓤 H A W E G22 6 (Syntax.tyEnum (List._∷_ 115 (List._∷_ 116 (List._∷_ 114 (List._∷_ 101 (List._∷_ 97
-              (List._∷_ 109 (List._∷_ 58 (List._∷_ 58 (List._∷_ 80 (List._∷_ 97 (List._∷_ 114 (List._∷_ 115 (List._∷_ 101 (List._∷_ 100 List.[])))))))))))))) (Syntax.ttcons (Syntax.tcons (Syntax.tyStruct
-              (List._∷_ 115 (List._∷_ 116 (List._∷_ 114 (List._∷_ 101 (List._∷_ 97 (List._∷_ 109 (List._∷_ 58 (List._∷_ 58 (List._∷_ 70 (List._∷_ 117 (List._∷_ 106 (List._∷_ 105 (List._∷_ 72 (List._∷_ 101
-              (List._∷_ 97 (List._∷_ 100 (List._∷_ 101 (List._∷_ 114 List.[])))))))))))))))))) (Syntax.tcons Syntax.tyBool (Syntax.tcons Syntax.tyBool (Syntax.tcons (Syntax.tyInt Syntax.w32) (Syntax.tcons
-              (Syntax.tyInt Syntax.w32) (Syntax.tcons (Syntax.tyInt Syntax.w32) (Syntax.tcons (Syntax.tyInt Syntax.w32) (Syntax.tcons (Syntax.tyInt Syntax.w32) (Syntax.tcons (Syntax.tyInt Syntax.w32)
-              (Syntax.tcons (Syntax.tyInt Syntax.w32) Syntax.tnil)))))))))) Syntax.tnil) (Syntax.ttcons (Syntax.tcons (Syntax.tyEnum (List._∷_ 115 (List._∷_ 116 (List._∷_ 114 (List._∷_ 101 (List._∷_ 97
-              (List._∷_ 109 (List._∷_ 58 (List._∷_ 58 (List._∷_ 82 (List._∷_ 101 (List._∷_ 102 (List._∷_ 117 (List._∷_ 115 (List._∷_ 97 (List._∷_ 108 List.[]))))))))))))))) (Syntax.ttcons Syntax.tnil
-              (Syntax.ttcons Syntax.tnil (Syntax.ttcons Syntax.tnil (Syntax.ttcons (Syntax.tcons (Syntax.tyInt Syntax.w64) Syntax.tnil) (Syntax.ttcons Syntax.tnil (Syntax.ttcons Syntax.tnil (Syntax.ttcons
-              Syntax.tnil (Syntax.ttcons Syntax.tnil (Syntax.ttcons Syntax.tnil (Syntax.ttcons Syntax.tnil (Syntax.ttcons (Syntax.tcons (Syntax.tyInt Syntax.w64) Syntax.tnil) (Syntax.ttcons (Syntax.tcons
-              (Syntax.tyInt Syntax.w64) Syntax.tnil) (Syntax.ttcons Syntax.tnil (Syntax.ttcons (Syntax.tcons (Syntax.tyInt Syntax.w64) (Syntax.tcons (Syntax.tyInt Syntax.w64) Syntax.tnil)) (Syntax.ttcons
-              (Syntax.tcons (Syntax.tyInt Syntax.w64) Syntax.tnil) Syntax.ttnil)))))))))))))))) Syntax.tnil) Syntax.ttnil))) (Local.room-whole 𝓤 H A W (Known.Known Parsed.enum 0) (Syntax.tyEnum (List._∷_
-              115 (List._∷_ 116 (List._∷_ 114 (List._∷_ 101 (List._∷_ 97 (List._∷_ 109 (List._∷_ 58 (List._∷_ 58 (List._∷_ 80 (List._∷_ 97 (List._∷_ 114 (List._∷_ 115 (List._∷_ 101 (List._∷_ 100
-              List.[])))))))))))))) (Syntax.ttcons (Syntax.tcons (Syntax.tyStruct (List._∷_ 115 (List._∷_ 116 (List._∷_ 114 (List._∷_ 101 (List._∷_ 97 (List._∷_ 109 (List._∷_ 58 (List._∷_ 58 (List._∷_ 70
-              (List._∷_ 117 (List._∷_ 106 (List._∷_ 105 (List._∷_ 72 (List._∷_ 101 (List._∷_ 97 (List._∷_ 100 (List._∷_ 101 (List._∷_ 114 List.[])))))))))))))))))) (Syntax.tcons Syntax.tyBool
-              (Syntax.tcons Syntax.tyBool (Syntax.tcons (Syntax.tyInt Syntax.w32) (Syntax.tcons (Syntax.tyInt Syntax.w32) (Syntax.tcons (Syntax.tyInt Syntax.w32) (Syntax.tcons (Syntax.tyInt Syntax.w32)
-              (Syntax.tcons (Syntax.tyInt Syntax.w32) (Syntax.tcons (Syntax.tyInt Syntax.w32) (Syntax.tcons (Syntax.tyInt Syntax.w32) Syntax.tnil)))))))))) Syntax.tnil) (Syntax.ttcons (Syntax.tcons
-              (Syntax.tyEnum (List._∷_ 115 (List._∷_ 116 (List._∷_ 114 (List._∷_ 101 (List._∷_ 97 (List._∷_ 109 (List._∷_ 58 (List._∷_ 58 (List._∷_ 82 (List._∷_ 101 (List._∷_ 102 (List._∷_ 117 (List._∷_
-              115 (List._∷_ 97 (List._∷_ 108 List.[]))))))))))))))) (Syntax.ttcons Syntax.tnil (Syntax.ttcons Syntax.tnil (Syntax.ttcons Syntax.tnil (Syntax.ttcons (Syntax.tcons (Syntax.tyInt Syntax.w64)
-              Syntax.tnil) (Syntax.ttcons Syntax.tnil (Syntax.ttcons Syntax.tnil (Syntax.ttcons Syntax.tnil (Syntax.ttcons Syntax.tnil (Syntax.ttcons Syntax.tnil (Syntax.ttcons Syntax.tnil (Syntax.ttcons
-              (Syntax.tcons (Syntax.tyInt Syntax.w64) Syntax.tnil) (Syntax.ttcons (Syntax.tcons (Syntax.tyInt Syntax.w64) Syntax.tnil) (Syntax.ttcons Syntax.tnil (Syntax.ttcons (Syntax.tcons (Syntax.tyInt
-              Syntax.w64) (Syntax.tcons (Syntax.tyInt Syntax.w64) Syntax.tnil)) (Syntax.ttcons (Syntax.tcons (Syntax.tyInt Syntax.w64) Syntax.tnil) Syntax.ttnil)))))))))))))))) Syntax.tnil)
-              Syntax.ttnil))) Path'.refl)) d26
+              (List._∷_ 109 (List._∷_ 58 (List._∷_ 58 (List._∷_ 80 (List._∷_ 97 (List._∷_ 114 (List._∷_ 115 (List._∷_ 101 (List._∷_ 100 List.[])))))))))))))) (Syntax.ttcons (Syntax.tcons y0 Syntax.tnil)
+              (Syntax.ttcons (Syntax.tcons (Syntax.tyEnum (List._∷_ 115 (List._∷_ 116 (List._∷_ 114 (List._∷_ 101 (List._∷_ 97 (List._∷_ 109 (List._∷_ 58 (List._∷_ 58 (List._∷_ 82 (List._∷_ 101 (List._∷_
+              102 (List._∷_ 117 (List._∷_ 115 (List._∷_ 97 (List._∷_ 108 List.[]))))))))))))))) (Syntax.ttcons Syntax.tnil (Syntax.ttcons Syntax.tnil (Syntax.ttcons Syntax.tnil (Syntax.ttcons
+              (Syntax.tcons (Syntax.tyInt Syntax.w64) Syntax.tnil) (Syntax.ttcons Syntax.tnil (Syntax.ttcons Syntax.tnil (Syntax.ttcons Syntax.tnil (Syntax.ttcons Syntax.tnil (Syntax.ttcons Syntax.tnil
+              (Syntax.ttcons Syntax.tnil (Syntax.ttcons (Syntax.tcons (Syntax.tyInt Syntax.w64) Syntax.tnil) (Syntax.ttcons (Syntax.tcons (Syntax.tyInt Syntax.w64) Syntax.tnil) (Syntax.ttcons Syntax.tnil
+              (Syntax.ttcons (Syntax.tcons (Syntax.tyInt Syntax.w64) (Syntax.tcons (Syntax.tyInt Syntax.w64) Syntax.tnil)) (Syntax.ttcons (Syntax.tcons (Syntax.tyInt Syntax.w64) Syntax.tnil)
+              Syntax.ttnil)))))))))))))))) Syntax.tnil) Syntax.ttnil))) (Local.room-whole 𝓤 H A W (Known.Known Parsed.enum 0) (Syntax.tyEnum (List._∷_ 115 (List._∷_ 116 (List._∷_ 114 (List._∷_ 101
+              (List._∷_ 97 (List._∷_ 109 (List._∷_ 58 (List._∷_ 58 (List._∷_ 80 (List._∷_ 97 (List._∷_ 114 (List._∷_ 115 (List._∷_ 101 (List._∷_ 100 List.[])))))))))))))) (Syntax.ttcons (Syntax.tcons y0
+              Syntax.tnil) (Syntax.ttcons (Syntax.tcons (Syntax.tyEnum (List._∷_ 115 (List._∷_ 116 (List._∷_ 114 (List._∷_ 101 (List._∷_ 97 (List._∷_ 109 (List._∷_ 58 (List._∷_ 58 (List._∷_ 82 (List._∷_
+              101 (List._∷_ 102 (List._∷_ 117 (List._∷_ 115 (List._∷_ 97 (List._∷_ 108 List.[]))))))))))))))) (Syntax.ttcons Syntax.tnil (Syntax.ttcons Syntax.tnil (Syntax.ttcons Syntax.tnil
+              (Syntax.ttcons (Syntax.tcons (Syntax.tyInt Syntax.w64) Syntax.tnil) (Syntax.ttcons Syntax.tnil (Syntax.ttcons Syntax.tnil (Syntax.ttcons Syntax.tnil (Syntax.ttcons Syntax.tnil (Syntax.ttcons
+              Syntax.tnil (Syntax.ttcons Syntax.tnil (Syntax.ttcons (Syntax.tcons (Syntax.tyInt Syntax.w64) Syntax.tnil) (Syntax.ttcons (Syntax.tcons (Syntax.tyInt Syntax.w64) Syntax.tnil) (Syntax.ttcons
+              Syntax.tnil (Syntax.ttcons (Syntax.tcons (Syntax.tyInt Syntax.w64) (Syntax.tcons (Syntax.tyInt Syntax.w64) Syntax.tnil)) (Syntax.ttcons (Syntax.tcons (Syntax.tyInt Syntax.w64) Syntax.tnil)
+              Syntax.ttnil)))))))))))))))) Syntax.tnil) Syntax.ttnil))) Path'.refl)) d26
 
           d28 : Typed.Typed 𝓤 H A 𝓣 E G21 b35 Δ1 at28
           d28 = Typed.s-seq 𝓤 H A W 𝓣 E G21 G22 b7 b34 Δ1 (Typed.pass T21 T22 s19) at27 (CopyOut.t-copy-told 𝓤 H A W E 𝓣 (Declared'.row FujiHeader.the-type) Path'.refl (Laws'6.val FujiHeader.the-type
               Laws''.the-laws) (Laws'6.lawful FujiHeader.the-type Laws''.the-laws 𝓤 H A W) (Laws'6.makes FujiHeader.the-type Laws''.the-plain 𝓤 H A) G21 8 (Scalar.oFld 6 (List._∷_ (Syntax.variant 0)
-              (List._∷_ (Syntax.field 1) List.[])) (Syntax.tyStruct (List._∷_ 115 (List._∷_ 116 (List._∷_ 114 (List._∷_ 101 (List._∷_ 97 (List._∷_ 109 (List._∷_ 58 (List._∷_ 58 (List._∷_ 70 (List._∷_ 117
-              (List._∷_ 106 (List._∷_ 105 (List._∷_ 72 (List._∷_ 101 (List._∷_ 97 (List._∷_ 100 (List._∷_ 101 (List._∷_ 114 List.[])))))))))))))))))) (Syntax.tcons Syntax.tyBool (Syntax.tcons
-              Syntax.tyBool (Syntax.tcons (Syntax.tyInt Syntax.w32) (Syntax.tcons (Syntax.tyInt Syntax.w32) (Syntax.tcons (Syntax.tyInt Syntax.w32) (Syntax.tcons (Syntax.tyInt Syntax.w32) (Syntax.tcons
-              (Syntax.tyInt Syntax.w32) (Syntax.tcons (Syntax.tyInt Syntax.w32) (Syntax.tcons (Syntax.tyInt Syntax.w32) Syntax.tnil)))))))))) 4 λ v. Laws'6.val FujiHeader.the-type Laws''.the-laws (v .0))
-              (λ m. m .1 .1 .1 .1 .1 .1 .0 .0) (λ m. Laws'5.Fields (Declared.variants Parsed.the-type) (Laws'5.spellss (Parsed.enum .parts) Laws'3.the-laws) (Parsed.the-type .to (Known.at Parsed.enum 0 (m
-              .1 .1 .1 .1 .1 .1 .0)))) (Reads'.room-gone 𝓤 H A (Syntax.tyStruct (List._∷_ 115 (List._∷_ 116 (List._∷_ 114 (List._∷_ 101 (List._∷_ 97 (List._∷_ 109 (List._∷_ 58 (List._∷_ 58 (List._∷_ 70
-              (List._∷_ 117 (List._∷_ 106 (List._∷_ 105 (List._∷_ 72 (List._∷_ 101 (List._∷_ 97 (List._∷_ 100 (List._∷_ 101 (List._∷_ 114 List.[])))))))))))))))))) (Syntax.tcons Syntax.tyBool
-              (Syntax.tcons Syntax.tyBool (Syntax.tcons (Syntax.tyInt Syntax.w32) (Syntax.tcons (Syntax.tyInt Syntax.w32) (Syntax.tcons (Syntax.tyInt Syntax.w32) (Syntax.tcons (Syntax.tyInt Syntax.w32)
-              (Syntax.tcons (Syntax.tyInt Syntax.w32) (Syntax.tcons (Syntax.tyInt Syntax.w32) (Syntax.tcons (Syntax.tyInt Syntax.w32) Syntax.tnil))))))))))) (
-                Match.reads-payload 𝓤 H A W Parsed.enum
-                    Laws'3.the-laws 0 Path'.refl Path'.refl (λ v. Val.vcons (Laws'6.val FujiHeader.the-type Laws''.the-laws (v .0)) Val.vnil) (λ v. Path'.refl) 0 (Syntax.tyStruct (List._∷_ 115 (List._∷_ 116
-                    (List._∷_ 114 (List._∷_ 101 (List._∷_ 97 (List._∷_ 109 (List._∷_ 58 (List._∷_ 58 (List._∷_ 70 (List._∷_ 117 (List._∷_ 106 (List._∷_ 105 (List._∷_ 72 (List._∷_ 101 (List._∷_ 97 (List._∷_ 100
-                    (List._∷_ 101 (List._∷_ 114 List.[])))))))))))))))))) (Syntax.tcons Syntax.tyBool (Syntax.tcons Syntax.tyBool (Syntax.tcons (Syntax.tyInt Syntax.w32) (Syntax.tcons (Syntax.tyInt Syntax.w32)
-                    (Syntax.tcons (Syntax.tyInt Syntax.w32) (Syntax.tcons (Syntax.tyInt Syntax.w32) (Syntax.tcons (Syntax.tyInt Syntax.w32) (Syntax.tcons (Syntax.tyInt Syntax.w32) (Syntax.tcons (Syntax.tyInt
-                    Syntax.w32) Syntax.tnil)))))))))) 4 Path'.refl,
+              (List._∷_ (Syntax.field 1) List.[])) y0 4 λ v. Laws'6.val FujiHeader.the-type Laws''.the-laws (v .0)) (λ m. m .1 .1 .1 .1 .1 .1 .0 .0) (λ m. Laws'5.Fields (Declared.variants Parsed.the-type)
+              (Laws'5.spellss (Parsed.enum .parts) Laws'3.the-laws) (Parsed.the-type .to (Known.at Parsed.enum 0 (m .1 .1 .1 .1 .1 .1 .0)))) (Reads'.room-gone 𝓤 H A y0) (
+                Match.reads-payload 𝓤 H A W Parsed.enum Laws'3.the-laws 0 Path'.refl Path'.refl (λ v. Val.vcons (Laws'6.val FujiHeader.the-type Laws''.the-laws (v .0)) Val.vnil) (λ v. Path'.refl) 0 y0 4
+                    Path'.refl,
                 Path'.refl,
-              ) Path'.refl (λ ρ m. Make'.tells-row 𝓤 H A W E ρ (Row.out 8 (G21 .locals)) m 6 (Laws'5.Fields (Declared.variants Parsed.the-type)
-              (Laws'5.spellss (Parsed.enum .parts) Laws'3.the-laws) (Parsed.the-type .to (Known.at Parsed.enum 0 (m .1 .1 .1 .1 .1 .1 .0)))) (Known.known-is 𝓤 H A W E Parsed.enum 0 Laws'3.the-laws ρ 6 (m
-              .1 .1 .1 .1 .1 .1 .0))) (λ m k wa. Path'.refl) λ m k wa. k .0) d27
+              ) Path'.refl (λ ρ m. Make'.tells-row 𝓤 H A W E ρ (Row.out 8 (G21 .locals)) m 6 (Laws'5.Fields (Declared.variants Parsed.the-type) (Laws'5.spellss (Parsed.enum .parts)
+              Laws'3.the-laws) (Parsed.the-type .to (Known.at Parsed.enum 0 (m .1 .1 .1 .1 .1 .1 .0)))) (Known.known-is 𝓤 H A W E Parsed.enum 0 Laws'3.the-laws ρ 6 (m .1 .1 .1 .1 .1 .1 .0))) (λ m k wa.
+              Path'.refl) λ m k wa. k .0) d27
 
           d29 : Typed.Typed 𝓤 H A 𝓣 E G20 b35 Δ1 at29
           d29 = Typed.g-pre 𝓤 H A W 𝓣 E G20 G21 b35 Δ1 (Typed.give s18) at28 (Known.g-known-told 𝓤 H A W E Parsed.enum 0 G20 6 Laws'3.the-laws (λ x. x) (Reads'.as-is 𝓤 H A (Rows.whole (Known.Known
@@ -4944,10 +2175,9 @@ module _ (claims· : Claims) where
           d31 : Typed.Typed 𝓤 H A 𝓣 E G13 b36 Δ1 at31
           d31 = Switch.t-switch-on 𝓤 H A W E 𝓣 G13 (Scalar.oFld 6 (List._∷_ (Syntax.variant 0) (List._∷_ (Syntax.field 0) List.[])) (Syntax.tyInt Syntax.w8) 0 λ x. Val.vint Syntax.w8 (Declared.tagOf
               Parsed.the-type x)) Syntax.w8 (λ u. Declared.tagOf Parsed.the-type (u .1 .1 .1 .1 .1 .1 .0)) (Syntax.arm (List._∷_ 1 List.[]) b6 (Syntax.arm (List._∷_ 0 List.[]) b35 Syntax.noDefault)) Δ1
-              (at4, (at30, tt)) (
-                Match.reads-tag 𝓤 H A W Parsed.the-type Laws'3.the-laws (Rows.whole (Declared.row Parsed.the-type)) 0 (λ x. x) (Whole.reads-enum 𝓤 H A W Parsed.the-type Laws'3.the-laws),
-                Path'.refl,
-              ) (λ u. Path'.refl) (d4, (d30, tt))
+              (at4, (at30, tt))
+              (Match.reads-tag 𝓤 H A W Parsed.the-type Laws'3.the-laws (Rows.whole (Declared.row Parsed.the-type)) 0 (λ x. x) (Whole.reads-enum 𝓤 H A W Parsed.the-type Laws'3.the-laws), Path'.refl) (λ u.
+              Path'.refl) (d4, (d30, tt))
 
           d32 : Typed.Typed 𝓤 H A 𝓣 E G12 b36 Δ1 at32
           d32 = Typed.g-pre 𝓤 H A W 𝓣 E G12 G13 b36 Δ1 (Typed.pass T12 T13 s10) at31 (Scalar.g-room 𝓤 H A W E G12 14 (Syntax.tyInt Syntax.w64) (Scalar.room-sc 𝓤 H A W (Row.sInt Syntax.w64))) d31
@@ -5010,61 +2240,43 @@ module _ (claims· : Claims) where
           d38 = Typed.t-seq 𝓤 H A W 𝓣 E G9 G10 b36 b39 Δ0 at34 at37 d34 d37
 
           d39 : Typed.Typed 𝓤 H A 𝓣 E G8 b41 Δ0 at39
-          d39 = Typed.s-seq 𝓤 H A W 𝓣 E G8 G9 b3 b40 Δ0 (Typed.both s7) at38 (Plain.t-call-plain 𝓤 H A W 𝓣 1 ps·0 r·0 (claims· .0) (claims· .1) "begin::writing_begins" (known .0) E (λ pos β. β) G8 (
-            record { pos = 1; ty = Syntax.tyRef (Syntax.named 0) Syntax.imm (Syntax.tyInt Syntax.w8); ref = λ x. x },
-            (Num.vAt 12 λ x. x, (Num.vAt 13 λ x. x, (Num.vAt 14 λ x. x, tt))),
-          ) 6 (List._∷_ 0
+          d39 = Typed.s-seq 𝓤 H A W 𝓣 E G8 G9 b3 b40 Δ0 (Typed.both s7) at38 (Plain.t-call-plain 𝓤 H A W 𝓣 1 ps·0 r·0 (claims· .0) (claims· .1) "begin::writing_begins" (known .0) E (λ pos β. β) G8
+              (record { pos = 1; ty = Syntax.tyRef (Syntax.named 0) Syntax.imm (Syntax.tyInt Syntax.w8); ref = λ x. x }, (Num.vAt 12 λ x. x, (Num.vAt 13 λ x. x, (Num.vAt 14 λ x. x, tt)))) 6 (List._∷_ 0
               List.[]) (Call.sub-id 𝓤 H A W (G8 .slots)) (
                 ShrSlice.spares-sslice 𝓤 H A W (Referent.rtF (Referent.fInt Syntax.w8)) (Syntax.tyRef (Syntax.named 0) Syntax.imm (Syntax.tyInt Syntax.w8)) 0,
-                Shared.reads-sslice 𝓤 H A W (Referent.rtF (Referent.fInt Syntax.w8)) (Syntax.tyRef (Syntax.named 0) Syntax.imm (Syntax.tyInt Syntax.w8)) 0,
+                Shared.reads-sslice 𝓤 H A W (Referent.rtF
+                    (Referent.fInt Syntax.w8)) (Syntax.tyRef (Syntax.named 0) Syntax.imm (Syntax.tyInt Syntax.w8)) 0,
                 Path'.refl,
                 (
-                  (
-                    Scalar.reads-sc 𝓤 H A W (Row.sInt
-                        Syntax.w64),
-                    Path'.refl,
-                  ),
+                  (Scalar.reads-sc 𝓤 H A W (Row.sInt Syntax.w64), Path'.refl),
                   ((Scalar.reads-sc 𝓤 H A W (Row.sInt Syntax.w64), Path'.refl), ((Scalar.reads-sc 𝓤 H A W (Row.sInt Syntax.w64), Path'.refl), tt)),
                 ),
-              ) (Reads'.room-gone 𝓤 H A
-              (Syntax.tyEnum (List._∷_ 115 (List._∷_ 116 (List._∷_ 114 (List._∷_ 101 (List._∷_ 97 (List._∷_ 109 (List._∷_ 58 (List._∷_ 58 (List._∷_ 80 (List._∷_ 97 (List._∷_ 114 (List._∷_ 115 (List._∷_
-              101 (List._∷_ 100 List.[])))))))))))))) (Syntax.ttcons (Syntax.tcons (Syntax.tyStruct (List._∷_ 115 (List._∷_ 116 (List._∷_ 114 (List._∷_ 101 (List._∷_ 97 (List._∷_ 109 (List._∷_ 58
-              (List._∷_ 58 (List._∷_ 70 (List._∷_ 117 (List._∷_ 106 (List._∷_ 105 (List._∷_ 72 (List._∷_ 101 (List._∷_ 97 (List._∷_ 100 (List._∷_ 101 (List._∷_ 114 List.[])))))))))))))))))) (Syntax.tcons
-              Syntax.tyBool (Syntax.tcons Syntax.tyBool (Syntax.tcons (Syntax.tyInt Syntax.w32) (Syntax.tcons (Syntax.tyInt Syntax.w32) (Syntax.tcons (Syntax.tyInt Syntax.w32) (Syntax.tcons (Syntax.tyInt
-              Syntax.w32) (Syntax.tcons (Syntax.tyInt Syntax.w32) (Syntax.tcons (Syntax.tyInt Syntax.w32) (Syntax.tcons (Syntax.tyInt Syntax.w32) Syntax.tnil)))))))))) Syntax.tnil) (Syntax.ttcons
-              (Syntax.tcons (Syntax.tyEnum (List._∷_ 115 (List._∷_ 116 (List._∷_ 114 (List._∷_ 101 (List._∷_ 97 (List._∷_ 109 (List._∷_ 58 (List._∷_ 58 (List._∷_ 82 (List._∷_ 101 (List._∷_ 102 (List._∷_
-              117 (List._∷_ 115 (List._∷_ 97 (List._∷_ 108 List.[]))))))))))))))) (Syntax.ttcons Syntax.tnil (Syntax.ttcons Syntax.tnil (Syntax.ttcons Syntax.tnil (Syntax.ttcons (Syntax.tcons
-              (Syntax.tyInt Syntax.w64) Syntax.tnil) (Syntax.ttcons Syntax.tnil (Syntax.ttcons Syntax.tnil (Syntax.ttcons Syntax.tnil (Syntax.ttcons Syntax.tnil (Syntax.ttcons Syntax.tnil (Syntax.ttcons
-              Syntax.tnil (Syntax.ttcons (Syntax.tcons (Syntax.tyInt Syntax.w64) Syntax.tnil) (Syntax.ttcons (Syntax.tcons (Syntax.tyInt Syntax.w64) Syntax.tnil) (Syntax.ttcons Syntax.tnil (Syntax.ttcons
-              (Syntax.tcons (Syntax.tyInt Syntax.w64) (Syntax.tcons (Syntax.tyInt Syntax.w64) Syntax.tnil)) (Syntax.ttcons (Syntax.tcons (Syntax.tyInt Syntax.w64) Syntax.tnil) Syntax.ttnil))))))))))))))))
-              Syntax.tnil) Syntax.ttnil)))) (tt, tt) Path'.refl) d38
+              ) (Reads'.room-gone 𝓤 H A (Syntax.tyEnum (List._∷_ 115
+              (List._∷_ 116 (List._∷_ 114 (List._∷_ 101 (List._∷_ 97 (List._∷_ 109 (List._∷_ 58 (List._∷_ 58 (List._∷_ 80 (List._∷_ 97 (List._∷_ 114 (List._∷_ 115 (List._∷_ 101 (List._∷_ 100
+              List.[])))))))))))))) (Syntax.ttcons (Syntax.tcons y0 Syntax.tnil) (Syntax.ttcons (Syntax.tcons (Syntax.tyEnum (List._∷_ 115 (List._∷_ 116 (List._∷_ 114 (List._∷_ 101 (List._∷_ 97 (List._∷_
+              109 (List._∷_ 58 (List._∷_ 58 (List._∷_ 82 (List._∷_ 101 (List._∷_ 102 (List._∷_ 117 (List._∷_ 115 (List._∷_ 97 (List._∷_ 108 List.[]))))))))))))))) (Syntax.ttcons Syntax.tnil (Syntax.ttcons
+              Syntax.tnil (Syntax.ttcons Syntax.tnil (Syntax.ttcons (Syntax.tcons (Syntax.tyInt Syntax.w64) Syntax.tnil) (Syntax.ttcons Syntax.tnil (Syntax.ttcons Syntax.tnil (Syntax.ttcons Syntax.tnil
+              (Syntax.ttcons Syntax.tnil (Syntax.ttcons Syntax.tnil (Syntax.ttcons Syntax.tnil (Syntax.ttcons (Syntax.tcons (Syntax.tyInt Syntax.w64) Syntax.tnil) (Syntax.ttcons (Syntax.tcons
+              (Syntax.tyInt Syntax.w64) Syntax.tnil) (Syntax.ttcons Syntax.tnil (Syntax.ttcons (Syntax.tcons (Syntax.tyInt Syntax.w64) (Syntax.tcons (Syntax.tyInt Syntax.w64) Syntax.tnil)) (Syntax.ttcons
+              (Syntax.tcons (Syntax.tyInt Syntax.w64) Syntax.tnil) Syntax.ttnil)))))))))))))))) Syntax.tnil) Syntax.ttnil)))) (tt, tt) Path'.refl) d38
 
           d40 : Typed.Typed 𝓤 H A 𝓣 E G7 b42 Δ0 at40
           d40 = Typed.s-seq 𝓤 H A W 𝓣 E G7 G8 b2 b41 Δ0 (Typed.pass T7 T8 s6) at39 (Scalar.t-use 𝓤 H A W E 𝓣 G7 (Scalar.oFld 5 (List._∷_ (Syntax.field 1) List.[]) (Syntax.tyInt Syntax.w64) 8
-              Shared.lenV) 14 (Rows.sc-here (Row.sInt Syntax.w64)) (Syntax.tyInt Syntax.w64) (Row.valS (Row.sInt Syntax.w64)) (Row.sInt Syntax.w64 .of) (
-                Mut.reads-mslice-len 𝓤 H A W (Element.type)
-                    (Syntax.tyRef (Syntax.named 4) Syntax.mut Element.behind) 4 8 Path'.refl,
-                Path'.refl,
-              ) (Reads'.room-gone 𝓤 H A (Syntax.tyInt Syntax.w64)) (Scalar.holds-sc 𝓤 H A W (Row.sInt Syntax.w64))
-              Path'.refl (λ u. Path'.refl) λ u. tt) d39
+              Shared.lenV) 14 (Rows.sc-here (Row.sInt Syntax.w64)) (Syntax.tyInt Syntax.w64) (Row.valS (Row.sInt Syntax.w64)) (Row.sInt Syntax.w64 .of)
+              (Mut.reads-mslice-len 𝓤 H A W (Element.type) (Syntax.tyRef (Syntax.named 4) Syntax.mut Element.behind) 4 8 Path'.refl, Path'.refl) (Reads'.room-gone 𝓤 H A (Syntax.tyInt Syntax.w64))
+              (Scalar.holds-sc 𝓤 H A W (Row.sInt Syntax.w64)) Path'.refl (λ u. Path'.refl) λ u. tt) d39
 
           d41 : Typed.Typed 𝓤 H A 𝓣 E G6 b43 Δ0 at41
           d41 = Typed.s-seq 𝓤 H A W 𝓣 E G6 G7 b1 b42 Δ0 (Typed.pass T6 T7 s5) at40 (Scalar.t-use 𝓤 H A W E 𝓣 G6 (Scalar.oFld 4 (List._∷_ (Syntax.field 1) List.[]) (Syntax.tyInt Syntax.w64) 8
-              Shared.lenV) 13 (Rows.sc-here (Row.sInt Syntax.w64)) (Syntax.tyInt Syntax.w64) (Row.valS (Row.sInt Syntax.w64)) (Row.sInt Syntax.w64 .of) (
-                Mut.reads-mslice-len 𝓤 H A W (Referent.rtF
-                    (Referent.fInt Syntax.w16)) (Syntax.tyRef (Syntax.named 3) Syntax.mut (Syntax.tyInt Syntax.w16)) 3 8 Path'.refl,
-                Path'.refl,
-              ) (Reads'.room-gone 𝓤 H A (Syntax.tyInt Syntax.w64))
-              (Scalar.holds-sc 𝓤 H A W (Row.sInt Syntax.w64)) Path'.refl (λ u. Path'.refl) λ u. tt) d40
+              Shared.lenV) 13 (Rows.sc-here (Row.sInt Syntax.w64)) (Syntax.tyInt Syntax.w64) (Row.valS (Row.sInt Syntax.w64)) (Row.sInt Syntax.w64 .of)
+              (Mut.reads-mslice-len 𝓤 H A W (Referent.rtF (Referent.fInt Syntax.w16)) (Syntax.tyRef (Syntax.named 3) Syntax.mut (Syntax.tyInt Syntax.w16)) 3 8 Path'.refl, Path'.refl) (Reads'.room-gone 𝓤 H
+              A (Syntax.tyInt Syntax.w64)) (Scalar.holds-sc 𝓤 H A W (Row.sInt Syntax.w64)) Path'.refl (λ u. Path'.refl) λ u. tt) d40
 
           d42 : Typed.Typed 𝓤 H A 𝓣 E G5 b44 Δ0 at42
           d42 = Typed.s-seq 𝓤 H A W 𝓣 E G5 G6 b0 b43 Δ0 (Typed.pass T5 T6 s4) at41 (Scalar.t-use 𝓤 H A W E 𝓣 G5 (Scalar.oFld 2 (List._∷_ (Syntax.field 1) List.[]) (Syntax.tyInt Syntax.w64) 8
-              Shared.lenV) 12 (Rows.sc-here (Row.sInt Syntax.w64)) (Syntax.tyInt Syntax.w64) (Row.valS (Row.sInt Syntax.w64)) (Row.sInt Syntax.w64 .of) (
-                Shared.reads-sslice-len 𝓤 H A W (Referent.rtF
-                    (Referent.fInt Syntax.w16)) (Syntax.tyRef (Syntax.named 1) Syntax.imm (Syntax.tyInt Syntax.w16)) 1 8 Path'.refl,
-                Path'.refl,
-              ) (Reads'.room-gone 𝓤 H A (Syntax.tyInt Syntax.w64))
-              (Scalar.holds-sc 𝓤 H A W (Row.sInt Syntax.w64)) Path'.refl (λ u. Path'.refl) λ u. tt) d41
+              Shared.lenV) 12 (Rows.sc-here (Row.sInt Syntax.w64)) (Syntax.tyInt Syntax.w64) (Row.valS (Row.sInt Syntax.w64)) (Row.sInt Syntax.w64 .of)
+              (Shared.reads-sslice-len 𝓤 H A W (Referent.rtF (Referent.fInt Syntax.w16)) (Syntax.tyRef (Syntax.named 1) Syntax.imm (Syntax.tyInt Syntax.w16)) 1 8 Path'.refl, Path'.refl) (Reads'.room-gone
+              𝓤 H A (Syntax.tyInt Syntax.w64)) (Scalar.holds-sc 𝓤 H A W (Row.sInt Syntax.w64)) Path'.refl (λ u. Path'.refl) λ u. tt) d41
 
           d43 : Typed.Typed 𝓤 H A 𝓣 E G4 b44 Δ0 at43
           d43 = Typed.g-pre 𝓤 H A W 𝓣 E G4 G5 b44 Δ0 (Typed.give s3) at42 (Know.g-sl-known 𝓤 H A W (Referent.fInt Syntax.w16) E G4 4 3 (Syntax.tyRef (Syntax.named 3) Syntax.mut (Syntax.tyInt
@@ -5107,8 +2319,8 @@ module _ (claims· : Claims) where
       W0 = λ κs args. (
         λ u. ⊥,
         tt,
-        λ u. Enter.Fixs κs 1 ps xs (dens κs args) (u .1) × Post· κs (dens κs args) (Function.resV r κs (u .0)) (Clauses.atExit (Kinds.endedOf 5 ps r) κs (dens κs args)
-            (Enter.lastsP κs 1 ps xs (dens κs args) (u .1))),
+        λ u. Enter.Fixs κs 1 ps xs (dens κs args) (u .1) × Post· κs (dens κs args) (Function.resV r κs (u .0)) (Clauses.atExit (Kinds.endedOf 5 ps r) κs (dens κs args) (Enter.lastsP κs 1 ps
+            xs (dens κs args) (u .1))),
       )
 
       pub record Start : Type 0 where
@@ -5178,28 +2390,18 @@ module _ (claims· : Claims) where
 
       module _ (before· : After-slice-known2) where
         abbrev pub After-writing-begins·own : Type 0
-        After-writing-begins·own = Called.Called ps·0 r·0 (claims· .1) T8 (
-          record { pos = 1; ty = Syntax.tyRef (Syntax.named 0) Syntax.imm (Syntax.tyInt Syntax.w8); ref = λ x. x },
-          (
-            Num.vAt 12 λ x.
-                x,
-            (Num.vAt 13 λ x. x, (Num.vAt 14 λ x. x, tt)),
-          ),
-        ) (m7 (before· .before) (before· .slice-known2 .given))
+        After-writing-begins·own = Called.Called ps·0 r·0 (claims· .1) T8
+            (record { pos = 1; ty = Syntax.tyRef (Syntax.named 0) Syntax.imm (Syntax.tyInt Syntax.w8); ref = λ x. x }, (Num.vAt 12 λ x. x, (Num.vAt 13 λ x. x, (Num.vAt 14 λ x. x, tt)))) (m7 (before·
+            .before) (before· .slice-known2 .given))
 
       pub record After-writing-begins : Type 0 where
         pub before : After-slice-known2
         pub writing-begins : After-writing-begins·own before
 
       abbrev pub After-writing-begins·gave : (c : After-writing-begins) → s7 .gives (m7 (c .before .before) (c .before .slice-known2 .given))
-      After-writing-begins·gave = λ c. Called.given ps·0 r·0 (claims· .1) T8 (
-        record { pos = 1; ty = Syntax.tyRef (Syntax.named 0) Syntax.imm (Syntax.tyInt Syntax.w8); ref = λ x. x },
-        (
-          Num.vAt 12 λ
-              x. x,
-          (Num.vAt 13 λ x. x, (Num.vAt 14 λ x. x, tt)),
-        ),
-      ) (m7 (c .before .before) (c .before .slice-known2 .given)) (c .writing-begins)
+      After-writing-begins·gave = λ c. Called.given ps·0 r·0 (claims· .1) T8
+          (record { pos = 1; ty = Syntax.tyRef (Syntax.named 0) Syntax.imm (Syntax.tyInt Syntax.w8); ref = λ x. x }, (Num.vAt 12 λ x. x, (Num.vAt 13 λ x. x, (Num.vAt 14 λ x. x, tt)))) (m7 (c .before
+          .before) (c .before .slice-known2 .given)) (c .writing-begins)
 
       abbrev W1 : (before : After-slice-known2) → (given : s7 .gives (m7 (before .before) (before .slice-known2 .given))) → Typed.Want O1
       W1 = λ before given. Typed.wantNext T10 O0 (at37 (W0 (before .before .before .before .before .κs) (before .before .before .before .before .args))) (W0 (before .before .before .before .before
@@ -5314,8 +2516,8 @@ module _ (claims· : Claims) where
         pub samples-needed : After-samples-needed·own before
 
       abbrev pub After-samples-needed·gave : (c : After-samples-needed) → s21 .gives (m21 (c .before .before) (c .before .known-told2 .given))
-      After-samples-needed·gave = λ c. Called.given ps·1 r·1 (claims· .3) T23 (Bool.bFld 8 (List._∷_ (Syntax.field 1) List.[]) 1 λ x. FujiHeader.struct .as-values x .1 .0, tt) (m21 (c .before
-          .before) (c .before .known-told2 .given)) (c .samples-needed)
+      After-samples-needed·gave = λ c. Called.given ps·1 r·1 (claims· .3) T23 (Bool.bFld 8 (List._∷_ (Syntax.field 1) List.[]) 1 λ x. FujiHeader.struct .as-values x .1 .0, tt) (m21 (c .before .before)
+          (c .before .known-told2 .given)) (c .samples-needed)
 
       abbrev pub Need-form-of-requires : Type 0
       Need-form-of-requires = (c : After-samples-needed) → s22 .asks (m22 (c .before) (After-samples-needed·gave c))
@@ -5332,8 +2534,8 @@ module _ (claims· : Claims) where
         pub form-of : After-form-of·own before
 
       abbrev pub After-form-of·gave : (c : After-form-of) → s22 .gives (m22 (c .before .before) (After-samples-needed·gave (c .before)))
-      After-form-of·gave = λ c. Called.given ps·2 r·2 (claims· .5) T24 (record { pos = 8; st = List.[]; d = 0; at = λ x. x }, tt) (m22 (c .before .before) (After-samples-needed·gave (c .before)))
-          (c .form-of)
+      After-form-of·gave = λ c. Called.given ps·2 r·2 (claims· .5) T24 (record { pos = 8; st = List.[]; d = 0; at = λ x. x }, tt) (m22 (c .before .before) (After-samples-needed·gave (c .before))) (c
+          .form-of)
 
       abbrev pub Need-line-count-requires : Type 0
       Need-line-count-requires = (c : After-form-of) → s23 .asks (m23 (c .before) (After-form-of·gave c))
@@ -5460,22 +2662,14 @@ module _ (claims· : Claims) where
         After-write-set·own = Called.Called ps·4 r·4 (claims· .9) T44 (
           record { pos = 2; ty = Syntax.tyRef (Syntax.named 1) Syntax.imm (Syntax.tyInt Syntax.w16); ref = λ x. x },
           (
-            record {
-              pos = 17;
-              ty = Syntax.tyRef Syntax.erased Syntax.mut (Syntax.tyInt Syntax.w8);
-              ref = λ x. x;
-            },
+            record { pos = 17; ty = Syntax.tyRef Syntax.erased Syntax.mut (Syntax.tyInt Syntax.w8); ref = λ x. x },
             (
-              record {
-                pos = 21;
-                ty = Syntax.tyRef Syntax.erased Syntax.mut (Syntax.tyInt Syntax.w16);
-                ref = λ x. x;
-              },
+              record { pos = 21; ty = Syntax.tyRef Syntax.erased Syntax.mut (Syntax.tyInt Syntax.w16); ref = λ x. x },
               (record { pos = 25; ty = Syntax.tyRef Syntax.erased Syntax.mut Element.behind; ref = λ x. x }, (record { pos = 10; st = List.[]; d = 0; at = λ x. x }, (Num.vAt 11 λ x. x, tt))),
             ),
           ),
-        )
-            (m39 (before· .before) (before· .write-set-arg3 .given))
+        ) (m39
+            (before· .before) (before· .write-set-arg3 .given))
 
       pub record After-write-set : Type 0 where
         pub before : After-write-set-arg3
@@ -5485,23 +2679,14 @@ module _ (claims· : Claims) where
       After-write-set·gave = λ c. Called.given ps·4 r·4 (claims· .9) T44 (
         record { pos = 2; ty = Syntax.tyRef (Syntax.named 1) Syntax.imm (Syntax.tyInt Syntax.w16); ref = λ x. x },
         (
-          record {
-            pos =
-                17;
-            ty = Syntax.tyRef Syntax.erased Syntax.mut (Syntax.tyInt Syntax.w8);
-            ref = λ x. x;
-          },
+          record { pos = 17; ty = Syntax.tyRef Syntax.erased Syntax.mut (Syntax.tyInt Syntax.w8); ref = λ x. x },
           (
-            record {
-              pos = 21;
-              ty = Syntax.tyRef Syntax.erased Syntax.mut (Syntax.tyInt Syntax.w16);
-              ref = λ x. x;
-            },
+            record { pos = 21; ty = Syntax.tyRef Syntax.erased Syntax.mut (Syntax.tyInt Syntax.w16); ref = λ x. x },
             (record { pos = 25; ty = Syntax.tyRef Syntax.erased Syntax.mut Element.behind; ref = λ x. x }, (record { pos = 10; st = List.[]; d = 0; at = λ x. x }, (Num.vAt 11 λ x. x, tt))),
           ),
         ),
-      )
-          (m39 (c .before .before) (c .before .write-set-arg3 .given)) (c .write-set)
+      ) (m39 (c
+          .before .before) (c .before .write-set-arg3 .given)) (c .write-set)
 
       abbrev pub m44 : (before : After-write-set) → (given : s47 .gives (m43 (before .before) (After-write-set·gave before))) → Typed.Mo T50
       m44 = λ before given. s47 .next (m43 (before .before) (After-write-set·gave before)) given
@@ -5619,23 +2804,20 @@ module _ (claims· : Claims) where
             (
               Path'.refl,
               (
-                MutSlice.fix-len (Row.get 3 (T61 .locals) (m52 (c .before) (c .rs .given)) .ptr) (Row.get 3 (T61 .locals) (m52 (c .before) (c .rs .given)) .name)
-                    (Row.get 3 (T61 .locals) (m52 (c .before) (c .rs .given)) .now) (dens (c .before .before .before .before .before .before .before .before .before .before .before .before .before .before .before
-                    .before .before .before .before .before .κs) (c .before .before .before .before .before .before .before .before .before .before .before .before .before .before .before .before .before .before
-                    .before .before .args) .1 .1 .0 .now) (same-length record { before = c .before; rs = c .rs }),
+                MutSlice.fix-len (Row.get 3 (T61 .locals) (m52 (c .before) (c .rs .given)) .ptr) (Row.get 3 (T61 .locals) (m52 (c .before) (c .rs .given)) .name) (Row.get 3 (T61 .locals) (m52 (c .before) (c
+                    .rs .given)) .now) (dens (c .before .before .before .before .before .before .before .before .before .before .before .before .before .before .before .before .before .before .before .before .κs)
+                    (c .before .before .before .before .before .before .before .before .before .before .before .before .before .before .before .before .before .before .before .before .args) .1 .1 .0 .now)
+                    (same-length record { before = c .before; rs = c .rs }),
                 (
-                  MutSlice.fix-len (Row.get 4 (T61 .locals) (m52 (c .before) (c .rs .given)) .ptr) (Row.get 4
-                      (T61 .locals) (m52 (c .before) (c .rs .given)) .name) (Row.get 4 (T61 .locals) (m52 (c .before) (c .rs .given)) .now) (dens (c .before .before .before .before .before .before .before .before
-                      .before .before .before .before .before .before .before .before .before .before .before .before .κs) (c .before .before .before .before .before .before .before .before .before .before .before
-                      .before .before .before .before .before .before .before .before .before .args) .1 .1 .1 .0 .now) (same-length-2 record { before = c .before; rs = c .rs }),
+                  MutSlice.fix-len (Row.get 4 (T61 .locals) (m52 (c .before) (c .rs .given)) .ptr) (Row.get 4 (T61 .locals) (m52 (c .before) (c .rs .given)) .name) (Row.get 4 (T61 .locals) (m52 (c .before) (c
+                      .rs .given)) .now) (dens (c .before .before .before .before .before .before .before .before .before .before .before .before .before .before .before .before .before .before .before .before .κs)
+                      (c .before .before .before .before .before .before .before .before .before .before .before .before .before .before .before .before .before .before .before .before .args) .1 .1 .1 .0 .now)
+                      (same-length-2 record { before = c .before; rs = c .rs }),
                   (
-                    MutSlice.fix-len (Row.get 5 (T61
-                        .locals) (m52 (c .before) (c .rs .given)) .ptr) (Row.get 5 (T61 .locals) (m52 (c .before) (c .rs .given)) .name) (Row.get 5 (T61 .locals) (m52 (c .before) (c .rs .given)) .now) (dens (c
-                        .before .before .before .before .before .before .before .before .before .before .before .before .before .before .before .before .before .before .before .before .κs) (c .before .before .before
-                        .before .before .before .before .before .before .before .before .before .before .before .before .before .before .before .before .before .args) .1 .1 .1 .1 .0 .now) (same-length-3 record {
-                          before = c .before;
-                          rs = c .rs;
-                        }),
+                    MutSlice.fix-len (Row.get 5 (T61 .locals) (m52 (c .before) (c .rs .given)) .ptr) (Row.get 5 (T61 .locals) (m52 (c .before) (c .rs .given)) .name) (Row.get 5 (T61 .locals) (m52 (c .before) (c
+                        .rs .given)) .now) (dens (c .before .before .before .before .before .before .before .before .before .before .before .before .before .before .before .before .before .before .before .before .κs)
+                        (c .before .before .before .before .before .before .before .before .before .before .before .before .before .before .before .before .before .before .before .before .args) .1 .1 .1 .1 .0 .now)
+                        (same-length-3 record { before = c .before; rs = c .rs }),
                     tt,
                   ),
                 ),
@@ -5662,49 +2844,32 @@ module _ (claims· : Claims) where
                   Path'.refl,
                   Path'.refl,
                   part-write-set-start record { before = record { before = c .before; line-count = c .line-count }; write-set-arg = record { given = g } },
-                  part-write-set-end record {
-                    before =
-                        record { before = c .before; line-count = c .line-count };
-                    write-set-arg = record { given = g };
-                  },
+                  part-write-set-end record
+                      { before = record { before = c .before; line-count = c .line-count }; write-set-arg = record { given = g } },
                 ),
                 λ g'. (
-                  Relend.count-is T35 20 21 (λ x. x) (λ u. u .1 .1 .1 .1 .1 .1 .1 .1 .1 .1 .1 .1 .1
-                      .1 .1 .1 .1 .1 .1 .0) (m31 record { before = record { before = c .before; line-count = c .line-count }; write-set-arg = record { given = g } } g') (g' .1),
+                  Relend.count-is T35 20 21 (λ x. x) (λ u. u .1 .1 .1 .1 .1 .1 .1 .1 .1 .1 .1 .1 .1 .1 .1 .1 .1 .1 .1 .0) (m31 record
+                      { before = record { before = c .before; line-count = c .line-count }; write-set-arg = record { given = g } } g') (g' .1),
                   (
                     tt,
                     (
-                      sub-write-set-2 record {
-                        before = record { before = record { before = c .before; line-count = c .line-count }; write-set-arg = record { given = g } };
-                        write-set-arg2 = record { given = g' };
-                      },
+                      sub-write-set-2 record
+                          { before = record { before = record { before = c .before; line-count = c .line-count }; write-set-arg = record { given = g } }; write-set-arg2 = record { given = g' } },
                       (
                         (
                           Path'.refl,
                           Path'.refl,
-                          part-write-set-start-2 record {
-                            before = record { before = record { before = c .before; line-count = c .line-count }; write-set-arg = record { given = g } };
-                            write-set-arg2 =
-                                record { given = g' };
-                          },
-                          part-write-set-end-2 record {
-                            before = record { before = record { before = c .before; line-count = c .line-count }; write-set-arg = record { given = g } };
-                            write-set-arg2 = record { given = g' };
-                          },
+                          part-write-set-start-2 record
+                              { before = record { before = record { before = c .before; line-count = c .line-count }; write-set-arg = record { given = g } }; write-set-arg2 = record { given = g' } },
+                          part-write-set-end-2
+                              record { before = record { before = record { before = c .before; line-count = c .line-count }; write-set-arg = record { given = g } }; write-set-arg2 = record { given = g' } },
                         ),
                         λ g''. (
-                          Relend.count-is T42 24 25 (λ x. x) (λ u. u .1 .1 .1 .1 .1 .1 .1 .1 .1 .1 .1 .1 .1 .1 .1 .1 .1 .1 .1 .1 .1 .1 .1 .0) (m37 record {
-                            before
-                                = record { before = record { before = c .before; line-count = c .line-count }; write-set-arg = record { given = g } };
-                            write-set-arg2 = record { given = g' };
-                          } g'') (g'' .1),
+                          Relend.count-is T42 24 25 (λ x. x) (λ u. u .1 .1 .1 .1 .1 .1 .1 .1 .1 .1 .1 .1 .1 .1 .1 .1 .1 .1 .1 .1 .1 .1 .1 .0) (m37 record
+                              { before = record { before = record { before = c .before; line-count = c .line-count }; write-set-arg = record { given = g } }; write-set-arg2 = record { given = g' } } g'') (g'' .1),
                           (
                             write-set-requires record {
-                              before = record {
-                                before = record { before = record { before = c .before; line-count = c .line-count }; write-set-arg = record { given = g } };
-                                write-set-arg2 =
-                                    record { given = g' };
-                              };
+                              before = record { before = record { before = record { before = c .before; line-count = c .line-count }; write-set-arg = record { given = g } }; write-set-arg2 = record { given = g' } };
                               write-set-arg3 = record { given = g'' };
                             },
                             λ g'3. (
@@ -5715,67 +2880,32 @@ module _ (claims· : Claims) where
                                   Path'.refl,
                                   λ g'8. lay6 record {
                                     before = record {
-                                      before
-                                          = record {
+                                      before = record {
+                                        before = record {
+                                          before = record {
                                             before = record {
                                               before = record {
-                                                before = record {
-                                                  before = record {
-                                                    before = record {
-                                                      before = record {
-                                                        before = record { before = c .before; line-count = c .line-count };
-                                                        write-set-arg = record { given = g };
-                                                      };
-                                                      write-set-arg2 = record { given = g' };
-                                                    };
-                                                    write-set-arg3 = record { given = g'' };
-                                                  };
-                                                  write-set = Called.called ps·4 r·4 (claims· .9) T44 (
-                                                    record {
-                                                      pos = 2;
-                                                      ty = Syntax.tyRef (Syntax.named 1) Syntax.imm (Syntax.tyInt Syntax.w16);
-                                                      ref = λ x. x;
-                                                    },
-                                                    (
-                                                      record {
-                                                        pos = 17;
-                                                        ty = Syntax.tyRef Syntax.erased Syntax.mut (Syntax.tyInt Syntax.w8);
-                                                        ref
-                                                            = λ x. x;
-                                                      },
-                                                      (
-                                                        record { pos = 21; ty = Syntax.tyRef Syntax.erased Syntax.mut (Syntax.tyInt Syntax.w16); ref = λ x. x },
-                                                        (
-                                                          record {
-                                                            pos = 25;
-                                                            ty = Syntax.tyRef Syntax.erased Syntax.mut
-                                                                Element.behind;
-                                                            ref = λ x. x;
-                                                          },
-                                                          (record { pos = 10; st = List.[]; d = 0; at = λ x. x }, (Num.vAt 11 λ x. x, tt)),
-                                                        ),
-                                                      ),
-                                                    ),
-                                                  ) (m39 record {
-                                                    before = record {
-                                                      before = record {
-                                                        before = c
-                                                            .before;
-                                                        line-count = c .line-count;
-                                                      };
-                                                      write-set-arg = record { given = g };
-                                                    };
-                                                    write-set-arg2 = record { given = g' };
-                                                  } g'') g'3;
-                                                };
-                                                out = record { given = g'4 };
+                                                before = record { before = record { before = record { before = c .before; line-count = c .line-count }; write-set-arg = record { given = g } }; write-set-arg2 = record { given = g' } };
+                                                write-set-arg3 = record { given = g'' };
                                               };
-                                              slice-known3 = record {
-                                                given = g'5;
-                                              };
+                                              write-set = Called.called ps·4 r·4 (claims· .9) T44 (
+                                                record { pos = 2; ty = Syntax.tyRef (Syntax.named 1) Syntax.imm (Syntax.tyInt Syntax.w16); ref = λ x. x },
+                                                (
+                                                  record { pos = 17; ty = Syntax.tyRef Syntax.erased Syntax.mut (Syntax.tyInt Syntax.w8); ref = λ x. x },
+                                                  (
+                                                    record { pos = 21; ty = Syntax.tyRef Syntax.erased Syntax.mut (Syntax.tyInt Syntax.w16); ref = λ x. x },
+                                                    (record { pos = 25; ty = Syntax.tyRef Syntax.erased Syntax.mut Element.behind; ref = λ x. x }, (record { pos = 10; st = List.[]; d = 0; at = λ x. x }, (Num.vAt 11 λ x. x, tt))),
+                                                  ),
+                                                ),
+                                              ) (m39
+                                                  record { before = record { before = record { before = c .before; line-count = c .line-count }; write-set-arg = record { given = g } }; write-set-arg2 = record { given = g' } } g'') g'3;
                                             };
-                                            lines = record { given = g'6 };
+                                            out = record { given = g'4 };
                                           };
+                                          slice-known3 = record { given = g'5 };
+                                        };
+                                        lines = record { given = g'6 };
+                                      };
                                       slice-known4 = record { given = g'7 };
                                     };
                                     rs = record { given = g'8 };
@@ -5800,8 +2930,8 @@ module _ (claims· : Claims) where
           line-count-requires record { before = c .before; form-of = c .form-of },
           λ g. lay4 record {
             before = record { before = c .before; form-of = c .form-of };
-            line-count =
-                Called.called ps·3 r·3 (claims· .7) T25 (record { pos = 8; st = List.[]; d = 0; at = λ x. x }, tt) (m23 (c .before) (After-form-of·gave c)) g;
+            line-count = Called.called ps·3 r·3 (claims· .7) T25 (record { pos = 8; st = List.[]; d = 0; at = λ x. x }, tt) (m23 (c .before)
+                (After-form-of·gave c)) g;
           },
         )
 
@@ -5811,7 +2941,8 @@ module _ (claims· : Claims) where
           form-of-requires record { before = c .before; samples-needed = c .samples-needed },
           λ g. lay3 record {
             before = record { before = c .before; samples-needed = c .samples-needed };
-            form-of = Called.called ps·2 r·2 (claims· .5) T24 (record { pos = 8; st = List.[]; d = 0; at = λ x. x }, tt) (m22 (c .before) (After-samples-needed·gave c)) g;
+            form-of = Called.called ps·2 r·2 (claims· .5) T24 (record { pos = 8; st = List.[]; d = 0; at = λ x. x }, tt) (m22
+                (c .before) (After-samples-needed·gave c)) g;
           },
         )
 
@@ -5820,11 +2951,9 @@ module _ (claims· : Claims) where
           λ k. (
             enum-known-begins record { before = record { before = c .before; writing-begins = c .writing-begins }; match = record { keys1 = k } },
             λ g. λ g'. lay5 record {
-              before =
-                  record { before = record { before = record { before = c .before; writing-begins = c .writing-begins }; match = record { keys1 = k } }; begins = record { given = g } };
-              known-told = record {
-                given = g';
-              };
+              before = record { before = record { before = record { before = c .before; writing-begins = c .writing-begins }; match = record { keys1 = k } }; begins = record { given = g } };
+              known-told
+                  = record { given = g' };
             },
           ),
           (
@@ -5832,81 +2961,42 @@ module _ (claims· : Claims) where
               enum-known-begins-2 record { before = record { before = c .before; writing-begins = c .writing-begins }; match = record { keys2 = k } },
               λ g. λ g''. (
                 samples-needed-requires record {
-                  before = record {
-                    before = record { before = record { before = c .before; writing-begins = c .writing-begins }; match = record { keys2 = k } };
-                    begins2 =
-                        record { given = g };
-                  };
+                  before = record { before = record { before = record { before = c .before; writing-begins = c .writing-begins }; match = record { keys2 = k } }; begins2 = record { given = g } };
                   known-told2 = record { given = g'' };
                 },
                 λ g'3. lay2 record {
                   before = record {
-                    before = record {
-                      before = record {
-                        before = record {
-                          before = c .before;
-                          writing-begins = c .writing-begins;
-                        };
-                        match = record { keys2 = k };
-                      };
-                      begins2 = record { given = g };
-                    };
+                    before = record { before = record { before = record { before = c .before; writing-begins = c .writing-begins }; match = record { keys2 = k } }; begins2 = record { given = g } };
                     known-told2 = record { given = g'' };
                   };
-                  samples-needed = Called.called ps·1 r·1
-                      (claims· .3) T23 (Bool.bFld 8 (List._∷_ (Syntax.field 1) List.[]) 1 λ x. FujiHeader.struct .as-values x .1 .0, tt) (m21 record {
-                        before = record {
-                          before = record {
-                            before = c .before;
-                            writing-begins = c .writing-begins;
-                          };
-                          match = record { keys2 = k };
-                        };
-                        begins2 = record { given = g };
-                      } g'') g'3;
+                  samples-needed = Called.called ps·1 r·1 (claims· .3) T23
+                      (Bool.bFld 8 (List._∷_ (Syntax.field 1) List.[]) 1 λ x. FujiHeader.struct .as-values x .1 .0, tt) (m21 record
+                      { before = record { before = record { before = c .before; writing-begins = c .writing-begins }; match = record { keys2 = k } }; begins2 = record { given = g } } g'') g'3;
                 },
               ),
             ),
-            Match.each-below 2 (λ j. (Unit {0} × (Run.OneOf (List._∷_ 1 List.[])
-                j → ⊥)) × (Run.OneOf (List._∷_ 0 List.[]) j → ⊥) → ⊥) (λ n. n .0 .1 Path'.refl, (λ n. n .1 Path'.refl, tt)) (Declared.tagOf Parsed.the-type (Row.get 6 (T13 .locals) (m11 (c .before)
-                (After-writing-begins·gave c)))) (Match.tag-small Parsed.the-type (Row.get 6 (T13 .locals) (m11 (c .before) (After-writing-begins·gave c)))),
+            Match.each-below 2 (λ j. (Unit {0} × (Run.OneOf (List._∷_ 1 List.[]) j → ⊥)) × (Run.OneOf (List._∷_ 0 List.[]) j → ⊥) → ⊥) (λ n. n .0 .1 Path'.refl, (λ n. n .1 Path'.refl, tt)) (Declared.tagOf
+                Parsed.the-type (Row.get 6 (T13 .locals) (m11 (c .before) (After-writing-begins·gave c)))) (Match.tag-small Parsed.the-type (Row.get 6 (T13 .locals) (m11 (c .before) (After-writing-begins·gave
+                c)))),
           ),
         )
 
         pub laid : (c : Start) → at46 (W0 (c .κs) (c .args)) (m0 (c .κs) (c .args))
         laid = λ c. λ g. λ g'. λ g''. λ g'3. (
           writing-begins-requires record {
-            before = record {
-              before = record {
-                before = record { before = c; shared-slice-known = record { given = g } };
-                shared-slice-known2 = record { given = g' };
-              };
-              slice-known = record { given = g'' };
-            };
+            before = record
+                { before = record { before = record { before = c; shared-slice-known = record { given = g } }; shared-slice-known2 = record { given = g' } }; slice-known = record { given = g'' } };
             slice-known2 = record { given = g'3 };
           },
           λ g'4. lay1 record {
             before = record {
-              before = record {
-                before = record { before = record { before = c; shared-slice-known = record { given = g } }; shared-slice-known2 = record { given = g' } };
-                slice-known = record { given = g'' };
-              };
+              before = record
+                  { before = record { before = record { before = c; shared-slice-known = record { given = g } }; shared-slice-known2 = record { given = g' } }; slice-known = record { given = g'' } };
               slice-known2 = record { given = g'3 };
             };
-            writing-begins = Called.called ps·0 r·0 (claims· .1) T8 (
-              record {
-                pos = 1;
-                ty = Syntax.tyRef (Syntax.named 0) Syntax.imm (Syntax.tyInt Syntax.w8);
-                ref = λ x. x;
-              },
-              (Num.vAt 12 λ x. x, (Num.vAt 13 λ x. x, (Num.vAt 14 λ x. x, tt))),
-            ) (m7 record {
-              before = record {
-                before = record { before = c; shared-slice-known = record { given = g } };
-                shared-slice-known2 = record { given = g' };
-              };
-              slice-known = record { given = g'' };
-            } g'3) g'4;
+            writing-begins = Called.called ps·0 r·0 (claims· .1) T8
+                (record { pos = 1; ty = Syntax.tyRef (Syntax.named 0) Syntax.imm (Syntax.tyInt Syntax.w8); ref = λ x. x }, (Num.vAt 12 λ x. x, (Num.vAt 13 λ x. x, (Num.vAt 14 λ x. x, tt)))) (m7 record
+                { before = record { before = record { before = c; shared-slice-known = record { given = g } }; shared-slice-known2 = record { given = g' } }; slice-known = record { given = g'' } } g'3) g'4;
           },
         )
 
