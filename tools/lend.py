@@ -11,19 +11,21 @@ The borrow checker's rules hold of every element type, and only its front refuse
   1. writes a twin of the crate in target/lend, in which `[S]` is `[[u32; N]]` (N is SIZE, 2) and P<'a> is `[&'a [u8]; 1]`. A clause of a
      contract becomes a trivial one. There are up to three twins: of the functions that touch an element and of those that have an array of
      S of their own, in which S is the array by value too, and of those that pass the slice, or P, on, in which S by value stays S;
-  2. lets Rattle write the twin's derivations (`rt dev CRATE --generated`). Each listed function has a proof there that is a hole: no
+  2. lets Rattle write the twin's derivations (`rt dev CRATE --generated`). Each function has a proof there that is a hole: no
      search is run for what the twin, whose contracts say nothing, could not have anyway;
   3. puts the struct in the array's place, and writes below crates/CRATE/proofs, M being the function's module, if it has one:
        M/derived/F/Kinds, Reads       what a caller of F cites
        M/F/Proof/derived/Lts, Tie     F's derivation over the MIR, and its needs at F's contract
+     lend_layout.py gives a name to what a derivation says again and again, and breaks its lines.
 The check admits each derivation over the real function's MIR and contract, or refuses it: nothing here is trusted.
-WIDTH (200) is the width of what is written.
 """
 import filecmp, os, re, shutil, subprocess, sys
-SIZE, WIDTH = os.environ.get("SIZE", "2"), int(os.environ.get("WIDTH", "200"))
+sys.dont_write_bytecode = True
+from lend_layout import laid_out
+SIZE = os.environ.get("SIZE", "2")
 ARR, WORK = f"[u32; {SIZE}]", "target/lend"
 # A function: comments, head with its clauses, body. The layout is that of `rt fmt`.
-ITEM = re.compile(r"(?:^//[^\n]*\n)*^(?P<head>(?:#\[no_mangle\]\n)?(?:pub(?:\(crate\))? )?(?:extern \"C\" )?fn (?P<name>\w+)[^{]*?(?:\n    (?:requires|ensures)[^\n]*)*)\s*\{\n(?P<body>.*?)\n\}\n", re.S | re.M)
+ITEM = re.compile(r"(?:^//[^\n]*\n)*^(?P<head>(?:#\[no_mangle\]\n)?(?:pub(?:\(crate\))? )?(?:extern \"C\" )?fn (?P<name>\w+)[^{]*?(?:\n    (?:requires|ensures)[^\n]*(?:\n        [^\n]*)*)*)\s*\{\n(?P<body>.*?)\n\}\n", re.S | re.M)
 METHOD = re.compile(r"^    pub fn (?P<name>\w+)\(&(?P<mut>mut )?self(?P<args>[^)]*)\)(?P<rest>[^\n]*(?:\n        (?:requires|ensures)[^\n]*)*)\n    \{", re.M)
 
 def read(path):
@@ -109,7 +111,8 @@ class Crate:
 # ---- the twins' text, by module
 
 def trivial(text):
-    text = re.sub(r"⌜.*?⌝", "⌜ 0 < 1 ⌝", text, flags=re.S)     # the shape of a clause is kept, and not what it says
+    # the shape of a clause is kept, and not what it says
+    text = re.sub(r"((?:requires|ensures) \{(?:\s*λ \w+\.)?)[^⌜{}]*(?:\{[^⌜{}]*\}[^⌜{}]*)*⌜.*?⌝", r"\1 ⌜ 0 < 1 ⌝", text, flags=re.S)
     return "ghost use Prim.Native.Nat.{_<_};\n" + re.sub(r"ghost use [^\n]*\n", "", text)
 
 def function(head, body):
@@ -169,8 +172,8 @@ def twin_carry(c):
         files[module] = trivial(text)
     return files
 
-def generate(c, twin, files, stubs):
-    """Lets Rattle write what it derives for a twin; the answer is the folder that has it."""
+def generate(c, twin, files, bare=""):
+    """Lets Rattle write what it derives for a twin; the answer is the folder that has it. Each function has a hole for a proof, but not `bare`."""
     d = f"{WORK}/{c.name}-{twin}"
     shutil.rmtree(d, ignore_errors=True)
     lines = {l.split(":")[0].strip(): l for l in read("crates.txt").splitlines() if ":" in l}
@@ -187,7 +190,7 @@ def generate(c, twin, files, stubs):
     shutil.copytree("target", f"{d}/target", ignore=lambda p, n: [x for x in n if p == "target" and x in ("lend", "inc", "log")])
     for m, text in files.items():
         put(f"{d}/crates/{c.name}/src/{m or c.root}.rt", text)
-    for f in stubs:
+    for f in [i["name"] for text in files.values() for i in ITEM.finditer(text) if i["name"] != bare]:
         name = f.replace("_", "-") + "-spec"
         put(f"{d}/crates/{c.name}/proofs/{c.below(f, '/')}/Proof.antt", f"use {c.path(f)}.Statement.{{statement}}\npub {name} : {{M : Type 1}} → statement M\n{name} = ?\n")
     r = subprocess.run(["rt", "dev", c.name, "--generated", "gen"], cwd=d, capture_output=True, text=True)
@@ -269,35 +272,7 @@ def moved(c, text):
         if m + "." in text:
             lines.insert(first, f"use Rattle.{c.home}.proofs.{m}" if m == "Held" and c.home else f"use {P}.{m}")
     lines.insert(0, f"-- Written by tools/lend.py from Rattle's derivation of the twin of `{c.name}`; not edited by hand. Assumes nothing.")
-    return reflow(lines)
-
-def reflow(lines):                                             # one declaration's lines are joined, and broken at WIDTH
-    out, cur, ind = [], None, 0
-    def flush():
-        nonlocal cur
-        if cur is None:
-            return
-        pad, line, first = " " * ind, "", True
-        for tok in cur.split(" "):
-            if line and len(pad) + len(line) + 1 + len(tok) > WIDTH:
-                out.append((pad if first else pad + "    ") + line)
-                line, first = tok, False
-            else:
-                line = tok if not line else line + " " + tok
-        out.append((pad if first else pad + "    ") + line)
-        cur = None
-    for l in lines:
-        s, i = l.strip(), len(l) - len(l.lstrip())
-        if not s or s.startswith("--"):
-            flush()
-            out.append(l)
-        elif cur is not None and (i > ind or s[0] in ")}]") and not cur.endswith(" where"):
-            cur += " " + s
-        else:
-            flush()
-            cur, ind = s, i
-    flush()
-    return "\n".join(out)
+    return laid_out(lines)
 
 # ---- what is written
 
@@ -324,25 +299,23 @@ def declare(c, to):
 def make(c, to, only=()):
     wanted = lambda kind: [f for f in c.of(kind) if not only or f in only]
     if wanted("touch"):
-        root = generate(c, "touch", twin_small(c, c.of("touch")), c.of("touch"))
+        root = generate(c, "touch", twin_small(c, c.of("touch")))
         for f in wanted("touch"):
             place(c, root, f, to)
     if wanted("carry"):
-        root = generate(c, "carry", twin_carry(c), list(c.item))
+        root = generate(c, "carry", twin_carry(c))
         for f in wanted("carry") + [f for f in c.far if os.path.isdir(f"{root}/{f}")]:
             place(c, root, f, to)
     if wanted("own"):
-        root = generate(c, "own", twin_small(c, c.of("own")), c.of("own"))
+        root = generate(c, "own", twin_small(c, c.of("own")))
         for f in wanted("own"):
             place(c, root, f, to)
     declare(c, to)
 
 def skeleton(c, f):
     """A first proof of a function: its needs. The names of an invariant's arguments are as the check of the twin prints them."""
-    if c.kinds[f] == "carry":
-        root = generate(c, "skeleton", twin_carry(c), [g for g in c.item if g != f])
-    else:
-        root = generate(c, "skeleton", twin_small(c, c.of(c.kinds[f])), [g for g in c.of(c.kinds[f]) if g != f])
+    twin = twin_carry(c) if c.kinds[f] == "carry" else twin_small(c, c.of(c.kinds[f]))
+    root = generate(c, "skeleton", twin, f)
     tie = read(f"{root}/{c.below(f, '/')}/Tie.antt")
     names = dict(re.findall(r"^\s+Inv-(\S+) (.*) = \?$", read(f"{WORK}/{c.name}-skeleton.log"), flags=re.M))
     needs, loops = re.findall(r"abbrev pub Need-(\S+)", tie), re.findall(r"abbrev pub InvT-(\S+)", tie)

@@ -14,3 +14,4 @@ pub mod DecodeLaws
 pub mod BadCodeLaws
 pub mod TightLaws
 pub mod ImageLaws
+pub mod LeftLaws

@@ -2,6 +2,7 @@
 pub mod Records
 pub mod Between
 pub mod Blocks
+pub mod Lent
 pub mod Images
 pub mod BadCodes
 pub mod TightBlocks

@@ -3,24 +3,20 @@ use mathlib.Core.Bool.{Bool, true, false, cond}
 use mathlib.Core.List.{List, [], _∷_, _++_}
 use mathlib.Core.Option.{Option, none, some}
 use mathlib.Core.Path.{_≡_}
-use Prim.Native.Nat.{ℕ, suc, _+_, _*_}
-use lib.Dec.{leb, ltb, eqb}
+use Prim.Native.Nat.{ℕ, suc, _+_}
+use lib.Dec.{leb, ltb}
 use lib.ListN.{length, drop}
 use Rattle.statistics.specs.declared.Record.{Record}
 use Rattle.quantiser.specs.Quantisers.{largest}
-use Rattle.lines.specs.ColourLines.{zeroLines}
-use Rattle.map.specs.Places.{widthOf}
-use Rattle.stream.specs.Headers.{parseOf}
 use Rattle.stream.specs.declared.FujiHeader.{FujiHeader}
 use Rattle.stream.specs.declared.Parsed.{Parsed}
 use Rattle.stream.specs.declared.Parsed.the-variants as Parsing
-use Rattle.stream.specs.declared.Refusal.the-variants.{Lossy, WrongCount, AboveLargest, NotPredicted, ShortOutput}
-use Rattle.writing.specs.Sets.{setSize}
+use Rattle.stream.specs.declared.Refusal.the-variants.{AboveLargest, NotPredicted, ShortOutput}
 use Rattle.writing.specs.Puts.{putIf}
 use Rattle.writing.specs.declared.Put.{Put}
 use Rattle.writing.specs.declared.Put.the-variants.{At, Wrong}
-use Rattle.block.specs.Records.{clearRecords}
-use Rattle.block.specs.Images.{formOf, Beginning, refused, nothing, reading, withScratch}
+use Rattle.block.specs.Images.{formOf}
+use Rattle.block.specs.Lent.{Outputs, clearedLines, clearedRecords}
 use Rattle.block.specs.WrittenBlocks.{WriteState, repeats, writePassAt, writeLines, tightBlock}
 use Rattle.block.specs.declared.Form.{Form}
 use Rattle.block.specs.declared.Written.{Written}
@@ -86,28 +82,14 @@ writtenOut (Refused x) block out = out
 
 -- ---- a call
 
--- how it begins: refusals 1 and 2, then 8, 9 and 10
-abbrev pub withSet : FujiHeader → ℕ → ℕ → ℕ → Beginning
-withSet h count samples records =
-    cond (h .lossless)
-    (cond (eqb count (setSize (widthOf (h .xtrans)) (h .lines))) (withScratch h samples records) (refused WrongCount))
-    (refused Lossy)
+-- what a call leaves that writes the set t under this header
+pub record SetWriting (t : List ℕ) (h : FujiHeader) (before after : Outputs) (answer : Written) : Type 0 where
+  pub answered : answer ≡ writtenAnswer (formOf h) (h .lines) t (length (before .out))
+  pub output : after .out ≡ writtenOut answer (tightBlock (formOf h) (h .lines) t) (before .out)
+  pub lines : after .lines ≡ clearedLines (h .xtrans) (before .lines)
+  pub records : after .records ≡ clearedRecords (before .records)
 
-abbrev pub withParsed : Parsed → ℕ → ℕ → ℕ → Beginning
-withParsed (Parsing.Refused x) count samples records = refused x
-withParsed (Parsing.Header h) count samples records = withSet h count samples records
-
-unfoldable pub writingBegins : List ℕ → ℕ → ℕ → ℕ → Beginning
-writingBegins d count samples records = withParsed (parseOf d) count samples records
-
--- what it leaves: its answer, the output, and scratch, of which the used part is cleared once the set was looked at
-abbrev pub LeftWritten : List ℕ → Beginning → (out lines : List ℕ) → List Record → (out' lines' : List ℕ) → List Record → Written → Type 0
-LeftWritten t (refused x) out lines rs out' lines' rs' answer =
-    (answer ≡ Refused x) × (out' ≡ out) × (lines' ≡ lines) × (rs' ≡ rs)
--- (no call begins with nothing to do)
-LeftWritten t nothing out lines rs out' lines' rs' answer = (out' ≡ out) × (lines' ≡ lines) × (rs' ≡ rs)
-LeftWritten t (reading h) out lines rs out' lines' rs' answer =
-    let W = widthOf (h .xtrans) in
-    (answer ≡ writtenAnswer (formOf h) (h .lines) t (length out))
-    × (out' ≡ writtenOut (writtenAnswer (formOf h) (h .lines) t (length out)) (tightBlock (formOf h) (h .lines) t) out)
-    × (lines' ≡ zeroLines W ++ drop (18 * (W + 2)) lines) × (rs' ≡ clearRecords ++ drop 336 rs)
+-- what a call leaves, by how it begins
+abbrev pub LeftWritten : List ℕ → Parsed → (before after : Outputs) → Written → Type 0
+LeftWritten t (Parsing.Refused x) before after answer = (answer ≡ Refused x) × (after ≡ before)
+LeftWritten t (Parsing.Header h) before after answer = SetWriting t h before after answer

@@ -1,7 +1,9 @@
 // For C: answers as numbers, and the entries.
 ghost use mathlib.Core.Path.{_≡_};
 ghost use lib.ListN.{length};
-ghost use Rattle.block.specs.Images.{regionBegins, wholeOf, imageBegins};
+ghost use Rattle.region.specs.declared.Rect.{Rect};
+ghost use Rattle.begin.specs.Beginnings.{regionBegins, wholeOf, imageBegins};
+ghost use Rattle.block.specs.Lent.{Buffers, Scratch, Outputs};
 ghost use Rattle.block.specs.Words.{refusalWords, answerWords, Told, ToldTight, writtenWords, writtenRefusal, ToldWritten};
 use crate::Decoded;
 use crate::Written;
@@ -59,7 +61,12 @@ pub extern "C" fn fuji_decode_region(
     rs: &mut [Record],
     refusal: &mut [usize; 4],
 )
-    ensures { λ _. ⌜ Told (now (d .entry)) (record { x = x; y = y; width = width; height = height }) (now (tile .entry)) (regionBegins (now (d .entry)) (record { x = x; y = y; width = width; height = height }) (length (now (image .entry))) (length (now (lines .entry))) (length (now (rs .entry)))) (now (image .entry)) (now (lines .entry)) (now (rs .entry)) (now (image .exit)) (now (lines .exit)) (now (rs .exit)) (now (refusal .exit)) ⌝ }
+    ensures { λ _.
+        let r : Rect = record { x = x; y = y; width = width; height = height } in
+        let before : Buffers = record { image = now (image .entry); lines = now (lines .entry); records = now (rs .entry) } in
+        let after : Buffers = record { image = now (image .exit); lines = now (lines .exit); records = now (rs .exit) } in
+        let begins = regionBegins (now (d .entry)) r (length (before .image)) (length (before .lines)) (length (before .records)) in
+        ⌜ Told (now (d .entry)) r (now (tile .entry)) begins before after (now (refusal .exit)) ⌝ }
 {
     let r = Rect {
         x,
@@ -85,7 +92,11 @@ pub extern "C" fn fuji_decode(
     rs: &mut [Record],
     refusal: &mut [usize; 4],
 )
-    ensures { λ _. ⌜ Told (now (d .entry)) (wholeOf width height) (now (tile .entry)) (imageBegins (now (d .entry)) width height (length (now (image .entry))) (length (now (lines .entry))) (length (now (rs .entry)))) (now (image .entry)) (now (lines .entry)) (now (rs .entry)) (now (image .exit)) (now (lines .exit)) (now (rs .exit)) (now (refusal .exit)) ⌝ }
+    ensures { λ _.
+        let before : Buffers = record { image = now (image .entry); lines = now (lines .entry); records = now (rs .entry) } in
+        let after : Buffers = record { image = now (image .exit); lines = now (lines .exit); records = now (rs .exit) } in
+        let begins = imageBegins (now (d .entry)) width height (length (before .image)) (length (before .lines)) (length (before .records)) in
+        ⌜ Told (now (d .entry)) (wholeOf width height) (now (tile .entry)) begins before after (now (refusal .exit)) ⌝ }
 {
     let t = *tile;
     let a = decode(d, width, height, t, image, lines, rs);
@@ -102,7 +113,10 @@ pub extern "C" fn fuji_read_tight(
     rs: &mut [Record],
     refusal: &mut [usize; 4],
 )
-    ensures { λ _. ⌜ ToldTight (now (d .entry)) b (now (lines .entry)) (now (rs .entry)) (now (lines .exit)) (now (rs .exit)) (now (refusal .exit)) ⌝ }
+    ensures { λ _.
+        let before : Scratch = record { lines = now (lines .entry); records = now (rs .entry) } in
+        let after : Scratch = record { lines = now (lines .exit); records = now (rs .exit) } in
+        ⌜ ToldTight (now (d .entry)) b before after (now (refusal .exit)) ⌝ }
 {
     let a = read_tight(d, b, lines, rs);
     let w = answer_words(a);
@@ -139,7 +153,10 @@ pub extern "C" fn fuji_write_block(
     size: &mut [usize; 1],
     refusal: &mut [usize; 4],
 )
-    ensures { λ _. ⌜ ToldWritten (now (header .entry)) (now (samples .entry)) (now (out .entry)) (now (lines .entry)) (now (rs .entry)) (now (out .exit)) (now (lines .exit)) (now (rs .exit)) (now (size .exit)) (now (refusal .exit)) ⌝ }
+    ensures { λ _.
+        let before : Outputs = record { out = now (out .entry); lines = now (lines .entry); records = now (rs .entry) } in
+        let after : Outputs = record { out = now (out .exit); lines = now (lines .exit); records = now (rs .exit) } in
+        ⌜ ToldWritten (now (header .entry)) (now (samples .entry)) before after (now (size .exit)) (now (refusal .exit)) ⌝ }
 {
     let a = write_block(header, samples, out, lines, rs);
     let n = written_words(a);

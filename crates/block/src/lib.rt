@@ -1,7 +1,8 @@
 // Blocks: read, decoded, read tightly, and written. The types of the answers are here, the functions in a module for each role.
 ghost use mathlib.Core.Path.{_≡_};
-ghost use Rattle.map.specs.Places.{widthOf};
+ghost use Rattle.block.specs.Images.{formOf};
 use bits::BitPosition;
+use stream::FujiHeader;
 use stream::Refusal;
 
 mod c;
@@ -50,8 +51,11 @@ pub enum Written {
     Refused(Refusal),
 }
 
-pub fn width(xtrans: bool) -> usize
-    ensures { λ r. ⌜ r ≡ widthOf xtrans ⌝ }
+pub(crate) fn form_of(h: FujiHeader) -> Form
+    ensures { λ r. ⌜ r ≡ formOf h ⌝ }
 {
-    if xtrans { 512 } else { 384 }
+    Form {
+        bits: h.bits,
+        xtrans: h.xtrans,
+    }
 }

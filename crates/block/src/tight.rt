@@ -2,22 +2,24 @@
 ghost use mathlib.Core.Path.{_≡_};
 ghost use mathlib.Core.Bool.{true};
 ghost use mathlib.Core.List.{[], _∷_};
-ghost use Prim.Native.Nat.{_+_, _*_, _^_, _<_};
+ghost use Prim.Native.Nat.{_^_, _<_};
 ghost use lib.ListN.{length};
 ghost use Rattle.lines.specs.ColourLines.{zeroLines};
 ghost use Rattle.map.specs.Places.{widthOf, Fits};
 ghost use Rattle.block.specs.Records.{clearRecords};
 ghost use Rattle.block.specs.Blocks.{IsWalked};
-ghost use Rattle.block.specs.Images.{formOf, bytesOf, withScratch};
+ghost use Rattle.begin.specs.Beginnings.{tightBegins};
+ghost use Rattle.block.specs.Images.{formOf, bytesOf};
+ghost use Rattle.block.specs.Lent.{Scratch, ScratchOf};
 ghost use Rattle.block.specs.TightBlocks.{tightAnswer};
-ghost use Rattle.block.specs.TightReadings.{withBlock, tightBegins, LeftTight};
+ghost use Rattle.block.specs.TightReadings.{LeftTight};
 ghost use Rattle.stream.specs.Streams.{openOf};
 ghost use Rattle.stream.specs.declared.Parsed.the-variants.{Header};
 use crate::Decoded;
 use crate::Form;
 use crate::Walked;
+use crate::form_of;
 use crate::reading::walk;
-use crate::width;
 use map::Part;
 use statistics::Record;
 use stream::FujiHeader;
@@ -72,14 +74,11 @@ fn read_tight_block(
     rs: &mut [Record],
 ) -> Decoded
     requires { ⌜ (openOf (now d) ≡ Header h) × (h .lossless ≡ true) ⌝ }
-    requires { ⌜ (length (now lines) ≡ 18 * (widthOf (h .xtrans) + 2)) × (length (now rs) ≡ 336) ⌝ }
+    requires { ⌜ ScratchOf (h .xtrans) (now lines) (now rs) ⌝ }
     ensures { λ a. ⌜ a ≡ tightAnswer (formOf h) b (h .lines) (bytesOf (now (d .entry)) b) ⌝ }
     ensures { λ _. ⌜ (now (lines .exit) ≡ zeroLines (widthOf (h .xtrans))) × (now (rs .exit) ≡ clearRecords) ⌝ }
 {
-    let form = Form {
-        bits: h.bits,
-        xtrans: h.xtrans,
-    };
+    let form = form_of(h);
     let count = line_count(h);
     let block = stream::block_bytes(d, b);
     let bases = stream::base_row(d, b);
@@ -100,50 +99,20 @@ fn read_tight_block(
     tight_answer(block, form, b, count, got)
 }
 
-// Of the lent scratch only the first part is used.
-fn read_tight_in(d: &[u8], h: FujiHeader, b: usize, lines: &mut [u16], rs: &mut [Record]) -> Decoded
-    requires { ⌜ (openOf (now d) ≡ Header h) × (h .lossless ≡ true) ⌝ }
-    ensures { λ a. ⌜ LeftTight (now (d .entry)) b (withScratch h (length (now (lines .entry))) (length (now (rs .entry)))) (now (lines .entry)) (now (rs .entry)) (now (lines .exit)) (now (rs .exit)) a ⌝ }
-{
-    let used = 18 * (width(h.xtrans) + 2);
-    if lines.len() < used {
-        return Decoded::Refused(Refusal::ShortScratch);
-    }
-    if rs.len() < 336 {
-        return Decoded::Refused(Refusal::ShortScratch);
-    }
-    read_tight_block(d, h, b, &mut lines[0..used], &mut rs[0..336])
-}
-
-// A block of a stream that opens.
-fn read_tight_opened(
-    d: &[u8],
-    h: FujiHeader,
-    b: usize,
-    lines: &mut [u16],
-    rs: &mut [Record],
-) -> Decoded
-    requires { ⌜ openOf (now d) ≡ Header h ⌝ }
-    ensures { λ a. ⌜ LeftTight (now (d .entry)) b (withBlock h b (length (now (lines .entry))) (length (now (rs .entry)))) (now (lines .entry)) (now (rs .entry)) (now (lines .exit)) (now (rs .exit)) a ⌝ }
-{
-    let blocks = h.blocks as usize;
-    if blocks <= b {
-        return Decoded::Refused(Refusal::NoBlock);
-    }
-    let lossless = h.lossless;
-    if !lossless {
-        return Decoded::Refused(Refusal::Lossy);
-    }
-    read_tight_in(d, h, b, lines, rs)
-}
-
-// The tight reading of block b of the stream d: it accepts exactly the tight blocks, and writes nothing but scratch.
+// The tight reading of block b of the stream d: it accepts exactly the tight blocks, and writes nothing but scratch, of which only the first part
+// is used.
 pub fn read_tight(d: &[u8], b: usize, lines: &mut [u16], rs: &mut [Record]) -> Decoded
-    ensures { λ a. ⌜ LeftTight (now (d .entry)) b (tightBegins (now (d .entry)) b (length (now (lines .entry))) (length (now (rs .entry)))) (now (lines .entry)) (now (rs .entry)) (now (lines .exit)) (now (rs .exit)) a ⌝ }
+    ensures { λ a.
+        let before : Scratch = record { lines = now (lines .entry); records = now (rs .entry) } in
+        let after : Scratch = record { lines = now (lines .exit); records = now (rs .exit) } in
+        ⌜ LeftTight (now (d .entry)) b (tightBegins (now (d .entry)) b (length (before .lines)) (length (before .records))) before after a ⌝ }
 {
-    let opened = stream::open(d);
-    match opened {
+    let begins = begin::tight_begins(d, b, lines.len(), rs.len());
+    match begins {
         Parsed::Refused(x) => Decoded::Refused(x),
-        Parsed::Header(h) => read_tight_opened(d, h, b, lines, rs),
+        Parsed::Header(h) => {
+            let used = begin::samples_needed(h.xtrans);
+            read_tight_block(d, h, b, &mut lines[0..used], &mut rs[0..336])
+        }
     }
 }

@@ -14,20 +14,21 @@ ghost use Rattle.writing.specs.Sets.{lineSize, setSize};
 ghost use Rattle.writing.specs.Puts.{Room, Within};
 ghost use Rattle.block.specs.Records.{clearRecords};
 ghost use Rattle.block.specs.Blocks.{AllInRange};
-ghost use Rattle.block.specs.Images.{withScratch};
+ghost use Rattle.begin.specs.Beginnings.{writingBegins};
+ghost use Rattle.block.specs.Lent.{Outputs};
 ghost use Rattle.block.specs.WrittenBlocks.{writeLines, tightBlock};
-ghost use Rattle.block.specs.WrittenAnswers.{passesFrom, LineWritten, SetWritten, firstAbove, measuredAnswer, writtenAnswer, writtenOut, withSet, writingBegins, LeftWritten};
-ghost use Rattle.stream.specs.Headers.{Ruled};
+ghost use Rattle.block.specs.WrittenAnswers.{passesFrom, LineWritten, SetWritten, firstAbove, measuredAnswer, writtenAnswer, writtenOut, LeftWritten};
 use crate::Form;
 use crate::Written;
+use crate::form_of;
 use crate::records::clear_records;
 use crate::records::load_set;
 use crate::records::restart;
 use crate::records::start_records;
 use crate::records::store_set;
 use crate::tight::line_count;
-use crate::width;
 use bits::BitPosition;
+use map::width;
 use quantiser::Quantiser;
 use statistics::Record;
 use stream::FujiHeader;
@@ -53,14 +54,6 @@ fn first_above(samples: &[u16], m: u32) -> usize
         i = i + 1;
     }
     i
-}
-
-// How many samples a set has.
-fn set_size(xtrans: bool, lines: usize) -> usize
-    requires { ⌜ lines < 2 ^ 16 ⌝ }
-    ensures { λ r. ⌜ r ≡ setSize (widthOf xtrans) lines ⌝ }
-{
-    lines * (12 * width(xtrans))
 }
 
 // The bytes of a block that has bits up to this position.
@@ -242,63 +235,8 @@ fn write_set(
     write_measured(samples, out, lines, rs, form, count)
 }
 
-// Of the lent scratch only the first part is used.
-fn write_in(
-    h: FujiHeader,
-    samples: &[u16],
-    out: &mut [u8],
-    lines: &mut [u16],
-    rs: &mut [Record],
-) -> Written
-    requires { ⌜ Ruled h × (length (now samples) ≡ setSize (widthOf (h .xtrans)) (h .lines)) ⌝ }
-    ensures { λ a. ⌜ LeftWritten (now (samples .entry)) (withScratch h (length (now (lines .entry))) (length (now (rs .entry)))) (now (out .entry)) (now (lines .entry)) (now (rs .entry)) (now (out .exit)) (now (lines .exit)) (now (rs .exit)) a ⌝ }
-{
-    let used = 18 * (width(h.xtrans) + 2);
-    if lines.len() < used {
-        return Written::Refused(Refusal::ShortScratch);
-    }
-    if rs.len() < 336 {
-        return Written::Refused(Refusal::ShortScratch);
-    }
-    let form = Form {
-        bits: h.bits,
-        xtrans: h.xtrans,
-    };
-    let count = line_count(h);
-    write_set(
-        samples,
-        out,
-        &mut lines[0..used],
-        &mut rs[0..336],
-        form,
-        count,
-    )
-}
-
-// A set for a header that parses.
-fn write_parsed(
-    h: FujiHeader,
-    samples: &[u16],
-    out: &mut [u8],
-    lines: &mut [u16],
-    rs: &mut [Record],
-) -> Written
-    requires { ⌜ Ruled h ⌝ }
-    ensures { λ a. ⌜ LeftWritten (now (samples .entry)) (withSet h (length (now (samples .entry))) (length (now (lines .entry))) (length (now (rs .entry)))) (now (out .entry)) (now (lines .entry)) (now (rs .entry)) (now (out .exit)) (now (lines .exit)) (now (rs .exit)) a ⌝ }
-{
-    let lossless = h.lossless;
-    if !lossless {
-        return Written::Refused(Refusal::Lossy);
-    }
-    let size = set_size(h.xtrans, line_count(h));
-    if samples.len() != size {
-        return Written::Refused(Refusal::WrongCount);
-    }
-    write_in(h, samples, out, lines, rs)
-}
-
 // The writer: the tight block of a set of colour lines goes to the start of the output, and the answer is its length. Of the header the first
-// 16 bytes count. A refused call leaves the output as it was.
+// 16 bytes count, and of the lent scratch only the first part is used. A refused call leaves the output as it was.
 pub fn write_block(
     header: &[u8],
     samples: &[u16],
@@ -306,11 +244,27 @@ pub fn write_block(
     lines: &mut [u16],
     rs: &mut [Record],
 ) -> Written
-    ensures { λ a. ⌜ LeftWritten (now (samples .entry)) (writingBegins (now (header .entry)) (length (now (samples .entry))) (length (now (lines .entry))) (length (now (rs .entry)))) (now (out .entry)) (now (lines .entry)) (now (rs .entry)) (now (out .exit)) (now (lines .exit)) (now (rs .exit)) a ⌝ }
+    ensures { λ a.
+        let t = now (samples .entry) in
+        let before : Outputs = record { out = now (out .entry); lines = now (lines .entry); records = now (rs .entry) } in
+        let after : Outputs = record { out = now (out .exit); lines = now (lines .exit); records = now (rs .exit) } in
+        ⌜ LeftWritten t (writingBegins (now (header .entry)) (length t) (length (before .lines)) (length (before .records))) before after a ⌝ }
 {
-    let parsed = FujiHeader::parse(header);
-    match parsed {
+    let begins = begin::writing_begins(header, samples.len(), lines.len(), rs.len());
+    match begins {
         Parsed::Refused(x) => Written::Refused(x),
-        Parsed::Header(h) => write_parsed(h, samples, out, lines, rs),
+        Parsed::Header(h) => {
+            let used = begin::samples_needed(h.xtrans);
+            let form = form_of(h);
+            let count = line_count(h);
+            write_set(
+                samples,
+                out,
+                &mut lines[0..used],
+                &mut rs[0..336],
+                form,
+                count,
+            )
+        }
     }
 }

@@ -1,47 +1,59 @@
--- `block::decode_region` meets its contract, by the two ways in which opening ends. Assumes nothing.
+-- `block::decode_region` meets its contract, by the three ways in which a call begins. Assumes nothing.
 mod derived
 use borrow.Author.Needs.{needs}
-use mathlib.Core.List.{List}
-use mathlib.Core.Path.{_≡_, refl, sym, _∙_}
-use Prim.Native.Nat.{ℕ}
-use Rattle.statistics.specs.declared.Record.{Record}
-use Rattle.stream.specs.Streams.{openOf}
-use Rattle.stream.specs.declared.FujiHeader.{FujiHeader}
-use Rattle.stream.specs.declared.Parsed.the-variants as Parsing
-use Rattle.stream.specs.declared.Refusal.{Refusal}
-use Rattle.region.specs.Regions.{checkedOf}
-use Rattle.region.specs.declared.Rect.{Rect}
-use Rattle.block.specs.Images.{withRegion, regionBegins, Left}
-use Rattle.block.specs.declared.Decoded.{Decoded}
-use Rattle.block.specs.declared.Decoded.the-variants.{Refused}
+use mathlib.Core.Path.{sym, _∙_}
+use Rattle.begin.proofs.CallLaws.{region-reads}
+use Rattle.block.specs.Lent.{Buffers}
+use Rattle.block.proofs.LeftLaws.{left-refused, left-nothing, left-reading, lines-back, records-back}
 use Rattle.block.proofs.decoding.decode_region.Statement.{statement}
 use Rattle.block.proofs.decoding.decode_region.Proof.derived.Tie as tie
 
--- what is left, by how opening ends
-module _ (d : List ℕ) (r : Rect) (tile : List ℕ) (n a b : ℕ) (image lines : List ℕ) (rs : List Record) where
-  left-refused : (x : Refusal) → openOf d ≡ Parsing.Refused x → Left d r tile (regionBegins d r n a b) image lines rs image lines rs (Refused x)
-  unfolding regionBegins
-  left-refused x e = rw e (refl, refl, refl, refl)
-
-  left-opened : (image' lines' : List ℕ) (rs' : List Record) (y : Decoded) (h : FujiHeader) → openOf d ≡ Parsing.Header h
-      → Left d r tile (withRegion h (checkedOf h r n) a b) image lines rs image' lines' rs' y
-      → Left d r tile (regionBegins d r n a b) image lines rs image' lines' rs' y
-  unfolding regionBegins
-  left-opened image' lines' rs' y h e l = rw e l
-
-decode-in-requires : tie.Need-decode-in-requires
-decode-in-requires c κs =
-    let t = c .before .before .before .before in
-    sym (t .before .before .«open» .ensures) ∙ t .opened2 .given .1
+abbrev lent : tie.Start → Buffers
+lent s = record { image = s .args .image .now; lines = s .args .lines .now; records = s .args .rs .now }
 
 returns : tie.Need-returns
-returns c = left-refused _ _ _ _ _ _ _ _ _ _ (sym (c .before .before .before .«open» .ensures) ∙ c .before .opened .given .1)
+returns c =
+    let k = c .before .before .before in
+    let s = k .before .before .before .before in
+    left-refused (s .args .d .now) (s .args .r) (s .args .tile) (lent s) _ _ (sym (k .region-begins .ensures) ∙ c .before .begins .given .1)
 
 returns-2 : tie.Need-returns-2
 returns-2 c =
-    let k = c .before .before .before .before .before in
-    let t = k .before .before .before .before .before in
-    left-opened _ _ _ _ _ _ _ _ _ _ _ _ _ _ (sym (t .before .before .«open» .ensures) ∙ t .opened2 .given .1) (k .decode-in .ensures)
+    let k = c .before .before in
+    let s = k .before .before .before .before in
+    left-nothing (s .args .d .now) (s .args .r) (s .args .tile) (lent s) _ (sym (k .region-begins .ensures) ∙ c .enum-told .given .1)
+
+part-end : tie.Need-part-decode-blocks-end
+part-end c =
+    let m = c .before .before .before in
+    let k = region-reads _ _ _ _ _ _ (sym (m .before .before .region-begins .ensures) ∙ m .begins2 .given .1) in
+    search (needs, k .fits .lines)
+
+part-end-2 : tie.Need-part-decode-blocks-end-2
+part-end-2 c =
+    let m = c .before .before .before .before in
+    let k = region-reads _ _ _ _ _ _ (sym (m .before .before .region-begins .ensures) ∙ m .begins2 .given .1) in
+    search (needs, k .fits .records-fit)
+
+decode-blocks-requires : tie.Need-decode-blocks-requires
+decode-blocks-requires c κs =
+    let m = c .before .before .before .before .before in
+    let k = region-reads _ _ _ _ _ _ (sym (m .before .before .region-begins .ensures) ∙ m .begins2 .given .1) in
+    ((k .opens, k .region), (search needs, search needs))
+
+returns-3 : tie.Need-returns-3
+returns-3 c =
+    let x = c .before .before .before .before .before in
+    let n = x .before .before .before .before in
+    let m = n .before .before in
+    let s = m .before .before .before .before .before .before in
+    left-reading (s .args .d .now) (s .args .r) (s .args .tile) (lent s) _ _ (sym (m .before .before .region-begins .ensures) ∙ m .begins2 .given .1) _ _
+    (record {
+      answered = x .decode-blocks .ensures .0 .0;
+      pictured = x .decode-blocks .ensures .0 .1;
+      lines = lines-back (m .begins2 .given .0 .0 .xtrans) (n .samples-needed .result) (s .args .lines .now) _ (n .samples-needed .ensures .0) (x .decode-blocks .ensures .1 .0);
+      records = records-back (s .args .rs .now) _ (x .decode-blocks .ensures .1 .1);
+    })
 
 pub decode-region-spec : {M : Type 1} → statement M
 decode-region-spec =
@@ -50,9 +62,18 @@ decode-region-spec =
     (λ c κs. search needs)
     (λ c. search needs)
     (λ c. search needs)
-    decode-in-requires
+    (λ c. search needs)
+    (λ c κs. search needs)
+    (λ c. search needs)
+    (λ c. search needs)
+    part-end
+    (λ c. search needs)
+    (λ c. search needs)
+    part-end-2
+    decode-blocks-requires
     returns
+    returns-2
     (λ c. search needs)
     (λ c. search needs)
     (λ c. search needs)
-    returns-2)
+    returns-3)

@@ -1,53 +1,68 @@
--- `block::read_tight` meets its contract, by the two ways in which opening ends. Assumes nothing.
+-- `block::read_tight` meets its contract, by the two ways in which a call begins. Assumes nothing.
 mod derived
 use borrow.Author.Needs.{needs}
-use mathlib.Core.List.{List}
-use mathlib.Core.Path.{_≡_, refl, sym, _∙_}
-use Prim.Native.Nat.{ℕ}
-use Rattle.statistics.specs.declared.Record.{Record}
-use Rattle.stream.specs.Streams.{openOf}
-use Rattle.stream.specs.declared.FujiHeader.{FujiHeader}
-use Rattle.stream.specs.declared.Parsed.the-variants as Parsing
-use Rattle.stream.specs.declared.Refusal.{Refusal}
-use Rattle.block.specs.TightReadings.{withBlock, tightBegins, LeftTight}
-use Rattle.block.specs.declared.Decoded.{Decoded}
-use Rattle.block.specs.declared.Decoded.the-variants.{Refused}
+use mathlib.Core.Path.{sym, _∙_}
+use Rattle.begin.proofs.CallLaws.{tight-reads}
+use Rattle.block.specs.Lent.{Scratch}
+use Rattle.block.proofs.LeftLaws.{tight-refused, tight-reading, lines-back, records-back}
 use Rattle.block.proofs.tight.read_tight.Statement.{statement}
 use Rattle.block.proofs.tight.read_tight.Proof.derived.Tie as tie
 
--- what is left, by how opening ends
-module _ (d : List ℕ) (b m n : ℕ) (lines : List ℕ) (rs : List Record) where
-  left-refused : (x : Refusal) → openOf d ≡ Parsing.Refused x → LeftTight d b (tightBegins d b m n) lines rs lines rs (Refused x)
-  unfolding tightBegins
-  left-refused x e = rw e (refl, refl, refl)
-
-  left-opened : (lines' : List ℕ) (rs' : List Record) (y : Decoded) (h : FujiHeader) → openOf d ≡ Parsing.Header h → LeftTight d b (withBlock h b m n) lines rs lines' rs' y
-      → LeftTight d b (tightBegins d b m n) lines rs lines' rs' y
-  unfolding tightBegins
-  left-opened lines' rs' y h e l = rw e l
-
-read-tight-opened-requires : tie.Need-read-tight-opened-requires
-read-tight-opened-requires c κs =
-    let t = c .before .before .before in
-    sym (t .before .before .«open» .ensures) ∙ t .opened2 .given .1
+abbrev lent : tie.Start → Scratch
+lent s = record { lines = s .args .lines .now; records = s .args .rs .now }
 
 returns : tie.Need-returns
-returns c = left-refused _ _ _ _ _ _ _ (sym (c .before .before .before .«open» .ensures) ∙ c .before .opened .given .1)
+returns c =
+    let k = c .before .before .before in
+    let s = k .before .before .before in
+    tight-refused (s .args .d .now) (s .args .b) (lent s) _ _ (sym (k .tight-begins .ensures) ∙ c .before .begins .given .1)
+
+part-end : tie.Need-part-read-tight-block-end
+part-end c =
+    let m = c .before .before in
+    let k = tight-reads _ _ _ _ _ (sym (m .before .before .tight-begins .ensures) ∙ m .begins2 .given .1) in
+    search (needs, k .fits .lines)
+
+part-end-2 : tie.Need-part-read-tight-block-end-2
+part-end-2 c =
+    let m = c .before .before .before in
+    let k = tight-reads _ _ _ _ _ (sym (m .before .before .tight-begins .ensures) ∙ m .begins2 .given .1) in
+    search (needs, k .fits .records-fit)
+
+read-tight-block-requires : tie.Need-read-tight-block-requires
+read-tight-block-requires c κs =
+    let m = c .before .before .before .before in
+    let k = tight-reads _ _ _ _ _ (sym (m .before .before .tight-begins .ensures) ∙ m .begins2 .given .1) in
+    ((k .opens, k .lossless), (search needs, search needs))
 
 returns-2 : tie.Need-returns-2
 returns-2 c =
-    let k = c .before .before .before in
-    let t = k .before .before .before .before in
-    left-opened _ _ _ _ _ _ _ _ _ _ (sym (t .before .before .«open» .ensures) ∙ t .opened2 .given .1) (k .read-tight-opened .ensures)
+    let x = c .before .before .before in
+    let n = x .before .before .before in
+    let m = n .before .before in
+    let s = m .before .before .before .before .before in
+    tight-reading (s .args .d .now) (s .args .b) (lent s) _ _ (sym (m .before .before .tight-begins .ensures) ∙ m .begins2 .given .1) _ _
+    (record {
+      answered = x .read-tight-block .ensures .0;
+      lines = lines-back (m .begins2 .given .0 .0 .xtrans) (n .samples-needed .result) (s .args .lines .now) _ (n .samples-needed .ensures .0) (x .read-tight-block .ensures .1 .0);
+      records = records-back (s .args .rs .now) _ (x .read-tight-block .ensures .1 .1);
+    })
 
 pub read-tight-spec : {M : Type 1} → statement M
 read-tight-spec =
     tie.close
     (tie.spec
+    (λ c κs. search needs)
     (λ c. search needs)
     (λ c. search needs)
+    (λ c κs. search needs)
     (λ c. search needs)
-    read-tight-opened-requires
+    (λ c. search needs)
+    part-end
+    (λ c. search needs)
+    (λ c. search needs)
+    part-end-2
+    read-tight-block-requires
     returns
     (λ c. search needs)
     (λ c. search needs)

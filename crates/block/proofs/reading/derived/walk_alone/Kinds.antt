@@ -28,22 +28,21 @@ ps = List._∷_ (ShrSlice.pShrS (Referent.rtF (Referent.fInt Syntax.w8)) 0 tt) (
       ty = Declared'.row Form.the-type;
       one = Path'.refl;
       val = Laws'4.val Form.the-type Laws.the-laws;
-      tells = Laws'4.tells Form.the-type
-          Laws.the-laws;
-      still = Laws'4.still Form.the-type Laws.the-copy Exit.yes;
+      tells = Laws'4.tells Form.the-type Laws.the-laws;
+      still = Laws'4.still Form.the-type Laws.the-copy
+          Exit.yes;
       row = Rows.whole (Declared'.row Form.the-type);
       rd = λ x. x;
       mk = λ x. x;
     } λ M 𝓤 H A W. record {
-      copies = Laws'4.copy
-          Form.the-type Laws.the-copy 𝓤 H A W;
+      copies = Laws'4.copy Form.the-type Laws.the-copy 𝓤 H A W;
       lawful = Laws'4.lawful Form.the-type Laws.the-laws 𝓤 H A W;
       makes = Laws'4.makes Form.the-type Laws.the-plain 𝓤 H A;
-      in-mem = Local.mem-whole 𝓤 H A W
-          (Declared'.row Form.the-type);
+      in-mem =
+          Local.mem-whole 𝓤 H A W (Declared'.row Form.the-type);
       of-mem = Local.whole-mem 𝓤 H A W (Declared'.row Form.the-type);
-    }) (List._∷_ (Array.pArr (Array.eInt Syntax.w8) (Array.eInt-laws Syntax.w8) 36) (List._∷_ (Value.pVal
-    record {
+    }) (List._∷_ (Array.pArr (Array.eInt Syntax.w8) (Array.eInt-laws Syntax.w8) 36)
+    (List._∷_ (Value.pVal record {
       ty = Declared'.row Part.the-type;
       one = Path'.refl;
       val = Laws'4.val Part.the-type Laws''.the-laws;
@@ -55,12 +54,11 @@ ps = List._∷_ (ShrSlice.pShrS (Referent.rtF (Referent.fInt Syntax.w8)) 0 tt) (
       mk = λ x. x;
     } λ M 𝓤 H A W. record {
       copies = Laws'4.copy Part.the-type Laws''.the-copy 𝓤 H A W;
-      lawful =
-          Laws'4.lawful Part.the-type Laws''.the-laws 𝓤 H A W;
+      lawful = Laws'4.lawful Part.the-type Laws''.the-laws 𝓤 H A W;
       makes = Laws'4.makes Part.the-type Laws''.the-plain 𝓤 H A;
-      in-mem = Local.mem-whole 𝓤 H A W (Declared'.row Part.the-type);
-      of-mem = Local.whole-mem
-          𝓤 H A W (Declared'.row Part.the-type);
+      in-mem =
+          Local.mem-whole 𝓤 H A W (Declared'.row Part.the-type);
+      of-mem = Local.whole-mem 𝓤 H A W (Declared'.row Part.the-type);
     }) (List._∷_ (Kinds.pNum Syntax.w64) List.[]))))))
 
 abbrev pub r : Kinds.RK 3
@@ -69,8 +67,8 @@ r = Value.rVal record {
   one = Path'.refl;
   val = Laws'3.val Walked.the-type Laws'.the-laws;
   tells = Laws'3.tells Walked.the-type Laws'.the-laws;
-  still = Laws'3.still
-      Walked.the-type Laws'.the-copy Exit.yes;
+  still = Laws'3.still Walked.the-type
+      Laws'.the-copy Exit.yes;
   row = Rows.whole (Declared.row Walked.the-type);
   rd = λ x. x;
   mk = λ x. x;
@@ -78,7 +76,7 @@ r = Value.rVal record {
   copies = Laws'3.copy Walked.the-type Laws'.the-copy 𝓤 H A W;
   lawful = Laws'3.lawful Walked.the-type Laws'.the-laws 𝓤 H A W tt;
   makes = Laws'3.makes Walked.the-type Laws'.the-plain 𝓤 H A;
-  in-mem = Local.mem-whole 𝓤 H A W (Declared.row Walked.the-type);
-  of-mem =
-      Local.whole-mem 𝓤 H A W (Declared.row Walked.the-type);
+  in-mem =
+      Local.mem-whole 𝓤 H A W (Declared.row Walked.the-type);
+  of-mem = Local.whole-mem 𝓤 H A W (Declared.row Walked.the-type);
 }

@@ -48,11 +48,8 @@ module _ (κs : Lifetimes.Lfts 1) where
   pre-read = λ a g. requires-1·read a g
 
   abbrev pub ensures-1·read : (a : World.ArgsD start_records.signature κs) → (g : Ghost) → (r : World.ResD start_records.signature κs) → (s : Clauses.AtExit (Kinds'.endedOf 1 Kinds.ps Kinds.r) κs) →
-      Read.Read (Base a) (Owned r s) λ w. start_records.ensures-1 (w .𝓤) (w .H) κs (w .𝓖 .A) (w .𝓜 .mem) (w .𝓡 .run) (a .0) (a .1 .0) (a .1 .1 .0) record { entry = a .0; exit = s .0 } record {
-        entry = a
-            .1 .0;
-        exit = s .1 .0;
-      } record { entry = a .1 .1 .0; exit = s .1 .1 .0 } r
+      Read.Read (Base a) (Owned r s) λ w. start_records.ensures-1 (w .𝓤) (w .H) κs (w .𝓖 .A) (w .𝓜 .mem) (w .𝓡 .run) (a .0) (a .1 .0) (a .1 .1 .0) record { entry = a .0; exit = s .0 } record
+      { entry = a .1 .0; exit = s .1 .0 } record { entry = a .1 .1 .0; exit = s .1 .1 .0 } r
   ensures-1·read = λ a g r s. Read.all-models (λ w. start_records.ensures-1 (w .𝓤) (w .H) κs (w .𝓖 .A) (w .𝓜 .mem) (w .𝓡 .run) (a .0) (a .1 .0) (a .1 .1 .0) record { entry = a .0; exit = s .0 } record
       { entry = a .1 .0; exit = s .1 .0 } record { entry = a .1 .1 .0; exit = s .1 .1 .0 } r) (λ w. search Read.reads) (λ w. Path'.refl) (λ w. Path'.refl) λ w. Path'.refl
 

@@ -25,23 +25,21 @@ abbrev pub ps : List.List (Kinds.PK 3)
 ps = List._∷_ (ShrSlice.pShrS (Referent.rtF (Referent.fInt Syntax.w8)) 0 tt) (List._∷_ (Value.pVal record {
   ty = Declared'.row FujiHeader.the-type;
   one = Path'.refl;
-  val = Laws'3.val
-      FujiHeader.the-type Laws'.the-laws;
+  val = Laws'3.val FujiHeader.the-type Laws'.the-laws;
   tells = Laws'3.tells FujiHeader.the-type Laws'.the-laws;
-  still = Laws'3.still FujiHeader.the-type Laws'.the-copy Exit.yes;
-  row = Rows.whole (Declared'.row
-      FujiHeader.the-type);
+  still = Laws'3.still
+      FujiHeader.the-type Laws'.the-copy Exit.yes;
+  row = Rows.whole (Declared'.row FujiHeader.the-type);
   rd = λ x. x;
   mk = λ x. x;
 } λ M 𝓤 H A W. record {
   copies = Laws'3.copy FujiHeader.the-type Laws'.the-copy 𝓤 H A W;
-  lawful = Laws'3.lawful FujiHeader.the-type Laws'.the-laws 𝓤 H A
-      W;
+  lawful = Laws'3.lawful FujiHeader.the-type Laws'.the-laws 𝓤 H A W;
   makes = Laws'3.makes FujiHeader.the-type Laws'.the-plain 𝓤 H A;
   in-mem = Local.mem-whole 𝓤 H A W (Declared'.row FujiHeader.the-type);
-  of-mem = Local.whole-mem 𝓤 H A W (Declared'.row
-      FujiHeader.the-type);
-}) (List._∷_ (Kinds.pNum Syntax.w64) (List._∷_ (MutSlice.pMutS (Referent.rtF (Referent.fInt Syntax.w16)) 1 tt) (List._∷_ (MutSlice.pMutS (Element.type) 2 tt) List.[]))))
+  of-mem = Local.whole-mem 𝓤 H A W (Declared'.row FujiHeader.the-type);
+}) (List._∷_ (Kinds.pNum Syntax.w64) (List._∷_
+    (MutSlice.pMutS (Referent.rtF (Referent.fInt Syntax.w16)) 1 tt) (List._∷_ (MutSlice.pMutS (Element.type) 2 tt) List.[]))))
 
 abbrev pub r : Kinds.RK 3
 r = Value.rVal record {
@@ -49,16 +47,16 @@ r = Value.rVal record {
   one = Path'.refl;
   val = Laws''.val Decoded.the-type Laws.the-laws;
   tells = Laws''.tells Decoded.the-type Laws.the-laws;
-  still = Laws''.still
-      Decoded.the-type Laws.the-copy Exit.yes;
+  still = Laws''.still Decoded.the-type
+      Laws.the-copy Exit.yes;
   row = Rows.whole (Declared.row Decoded.the-type);
   rd = λ x. x;
   mk = λ x. x;
 } λ M 𝓤 H A W. record {
-  copies = Laws''.copy Decoded.the-type Laws.the-copy 𝓤 H A
-      W;
+  copies = Laws''.copy Decoded.the-type Laws.the-copy 𝓤 H A W;
   lawful = Laws''.lawful Decoded.the-type Laws.the-laws 𝓤 H A W tt;
   makes = Laws''.makes Decoded.the-type Laws.the-plain 𝓤 H A;
-  in-mem = Local.mem-whole 𝓤 H A W (Declared.row Decoded.the-type);
+  in-mem =
+      Local.mem-whole 𝓤 H A W (Declared.row Decoded.the-type);
   of-mem = Local.whole-mem 𝓤 H A W (Declared.row Decoded.the-type);
 }

@@ -27,8 +27,8 @@ r = Value.rVal record {
   one = Path'.refl;
   val = Laws'.val Written.the-type Laws.the-laws;
   tells = Laws'.tells Written.the-type Laws.the-laws;
-  still = Laws'.still
-      Written.the-type Laws.the-copy Exit.yes;
+  still = Laws'.still Written.the-type
+      Laws.the-copy Exit.yes;
   row = Rows.whole (Declared.row Written.the-type);
   rd = λ x. x;
   mk = λ x. x;
@@ -36,7 +36,7 @@ r = Value.rVal record {
   copies = Laws'.copy Written.the-type Laws.the-copy 𝓤 H A W;
   lawful = Laws'.lawful Written.the-type Laws.the-laws 𝓤 H A W tt;
   makes = Laws'.makes Written.the-type Laws.the-plain 𝓤 H A;
-  in-mem = Local.mem-whole 𝓤 H A W (Declared.row Written.the-type);
-  of-mem =
-      Local.whole-mem 𝓤 H A W (Declared.row Written.the-type);
+  in-mem =
+      Local.mem-whole 𝓤 H A W (Declared.row Written.the-type);
+  of-mem = Local.whole-mem 𝓤 H A W (Declared.row Written.the-type);
 }

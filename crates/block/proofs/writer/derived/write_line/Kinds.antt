@@ -29,19 +29,17 @@ ps = List._∷_ (ShrSlice.pShrS (Referent.rtF (Referent.fInt Syntax.w16)) 0 tt) 
       ty = Declared'.row BitPosition.the-type;
       one = Path'.refl;
       val = Laws'4.val BitPosition.the-type Laws.the-laws;
-      tells = Laws'4.tells BitPosition.the-type
-          Laws.the-laws;
-      still = Laws'4.still BitPosition.the-type Laws.the-copy Exit.yes;
+      tells = Laws'4.tells BitPosition.the-type Laws.the-laws;
+      still = Laws'4.still
+          BitPosition.the-type Laws.the-copy Exit.yes;
       row = Rows.whole (Declared'.row BitPosition.the-type);
       rd = λ x. x;
       mk = λ x. x;
     } λ M 𝓤 H A W. record {
-      copies =
-          Laws'4.copy BitPosition.the-type Laws.the-copy 𝓤 H A W;
+      copies = Laws'4.copy BitPosition.the-type Laws.the-copy 𝓤 H A W;
       lawful = Laws'4.lawful BitPosition.the-type Laws.the-laws 𝓤 H A W;
       makes = Laws'4.makes BitPosition.the-type Laws.the-plain 𝓤 H A;
-      in-mem =
-          Local.mem-whole 𝓤 H A W (Declared'.row BitPosition.the-type);
+      in-mem = Local.mem-whole 𝓤 H A W (Declared'.row BitPosition.the-type);
       of-mem = Local.whole-mem 𝓤 H A W (Declared'.row BitPosition.the-type);
     }) (List._∷_ (MutSlice.pMutS (Referent.rtF (Referent.fInt
     Syntax.w16)) 2 tt) (List._∷_ (MutSlice.pMutS (Element.type) 3 tt) (List._∷_ (Value.pVal record {
@@ -49,12 +47,12 @@ ps = List._∷_ (ShrSlice.pShrS (Referent.rtF (Referent.fInt Syntax.w16)) 0 tt) 
       one = Path'.refl;
       val = Laws'4.val Form.the-type Laws'.the-laws;
       tells = Laws'4.tells Form.the-type Laws'.the-laws;
-      still = Laws'4.still Form.the-type Laws'.the-copy Exit.yes;
+      still = Laws'4.still Form.the-type
+          Laws'.the-copy Exit.yes;
       row = Rows.whole (Declared'.row Form.the-type);
       rd = λ x. x;
       mk = λ x. x;
-    } λ M 𝓤 H A W.
-    record {
+    } λ M 𝓤 H A W. record {
       copies = Laws'4.copy Form.the-type Laws'.the-copy 𝓤 H A W;
       lawful = Laws'4.lawful Form.the-type Laws'.the-laws 𝓤 H A W;
       makes = Laws'4.makes Form.the-type Laws'.the-plain 𝓤 H A;
@@ -69,17 +67,16 @@ r = Value.rVal record {
   one = Path'.refl;
   val = Laws'3.val Put.the-type Laws''.the-laws;
   tells = Laws'3.tells Put.the-type Laws''.the-laws;
-  still = Laws'3.still
-      Put.the-type Laws''.the-copy Exit.yes;
+  still = Laws'3.still Put.the-type Laws''.the-copy
+      Exit.yes;
   row = Rows.whole (Declared.row Put.the-type);
   rd = λ x. x;
   mk = λ x. x;
 } λ M 𝓤 H A W. record {
   copies = Laws'3.copy Put.the-type Laws''.the-copy 𝓤 H A W;
-  lawful
-      = Laws'3.lawful Put.the-type Laws''.the-laws 𝓤 H A W tt;
+  lawful = Laws'3.lawful Put.the-type Laws''.the-laws 𝓤 H A W tt;
   makes = Laws'3.makes Put.the-type Laws''.the-plain 𝓤 H A;
-  in-mem = Local.mem-whole 𝓤 H A W (Declared.row Put.the-type);
-  of-mem =
-      Local.whole-mem 𝓤 H A W (Declared.row Put.the-type);
+  in-mem =
+      Local.mem-whole 𝓤 H A W (Declared.row Put.the-type);
+  of-mem = Local.whole-mem 𝓤 H A W (Declared.row Put.the-type);
 }

@@ -55,6 +55,13 @@ use mir.Val
 use prog.Wp
 use types.Kit
 
+abbrev pub y0 : Syntax.Ty
+y0 = Syntax.tyStruct (List._∷_ 38 (List._∷_ 91 (List._∷_ 93 List.[]))) (Syntax.tcons (Syntax.tyRef Syntax.erased Syntax.mut (Syntax.tyInt Syntax.w16)) (Syntax.tcons (Syntax.tyInt Syntax.w64)
+    Syntax.tnil))
+
+abbrev pub y1 : Syntax.Ty
+y1 = Syntax.tyStruct (List._∷_ 38 (List._∷_ 91 (List._∷_ 93 List.[]))) (Syntax.tcons (Syntax.tyRef Syntax.erased Syntax.mut Element.behind) (Syntax.tcons (Syntax.tyInt Syntax.w64) Syntax.tnil))
+
 abbrev pub ps : List.List (Kinds.PK 6)
 ps = List._∷_ (ShrSlice.pShrS (Referent.rtF (Referent.fInt Syntax.w8)) 0 tt) (List._∷_ (Num.pNum Syntax.w64) (List._∷_ (Num.pNum Syntax.w64) (List._∷_ (ShrRef.pShr (Array'.Array (Referent.rtF
     (Referent.fInt Syntax.w8)) 36) 1 tt) (List._∷_ (MutSlice.pMutS (Referent.rtF (Referent.fInt Syntax.w16)) 2 tt) (List._∷_ (MutSlice.pMutS (Referent.rtF (Referent.fInt Syntax.w16)) 3 tt) (List._∷_
@@ -71,11 +78,8 @@ xs = List._∷_ (Syntax.tyArray (Syntax.tyInt Syntax.w8) 36) (List._∷_ (Syntax
     Syntax.tnil (Syntax.ttcons Syntax.tnil (Syntax.ttcons Syntax.tnil (Syntax.ttcons Syntax.tnil (Syntax.ttcons Syntax.tnil (Syntax.ttcons (Syntax.tcons (Syntax.tyInt Syntax.w64) Syntax.tnil)
     (Syntax.ttcons (Syntax.tcons (Syntax.tyInt Syntax.w64) Syntax.tnil) (Syntax.ttcons Syntax.tnil (Syntax.ttcons (Syntax.tcons (Syntax.tyInt Syntax.w64) (Syntax.tcons (Syntax.tyInt Syntax.w64)
     Syntax.tnil)) (Syntax.ttcons (Syntax.tcons (Syntax.tyInt Syntax.w64) Syntax.tnil) Syntax.ttnil)))))))))))))))) Syntax.tnil) Syntax.ttnil))) (List._∷_ (Syntax.tyArray (Syntax.tyInt Syntax.w64) 4)
-    (List._∷_ (Syntax.tyRef Syntax.erased Syntax.mut (Syntax.tyInt Syntax.w16)) (List._∷_ (Syntax.tyStruct (List._∷_ 38 (List._∷_ 91 (List._∷_ 93 List.[]))) (Syntax.tcons (Syntax.tyRef Syntax.erased
-    Syntax.mut (Syntax.tyInt Syntax.w16)) (Syntax.tcons (Syntax.tyInt Syntax.w64) Syntax.tnil))) (List._∷_ (Syntax.tyRef Syntax.erased Syntax.mut (Syntax.tyInt Syntax.w16)) (List._∷_ (Syntax.tyStruct
-    (List._∷_ 38 (List._∷_ 91 (List._∷_ 93 List.[]))) (Syntax.tcons (Syntax.tyRef Syntax.erased Syntax.mut (Syntax.tyInt Syntax.w16)) (Syntax.tcons (Syntax.tyInt Syntax.w64) Syntax.tnil))) (List._∷_
-    (Syntax.tyRef Syntax.erased Syntax.mut Element.behind) (List._∷_ (Syntax.tyStruct (List._∷_ 38 (List._∷_ 91 (List._∷_ 93 List.[]))) (Syntax.tcons (Syntax.tyRef Syntax.erased Syntax.mut Element.behind)
-    (Syntax.tcons (Syntax.tyInt Syntax.w64) Syntax.tnil))) List.[]))))))))
+    (List._∷_ (Syntax.tyRef Syntax.erased Syntax.mut (Syntax.tyInt Syntax.w16)) (List._∷_ y0 (List._∷_ (Syntax.tyRef Syntax.erased Syntax.mut (Syntax.tyInt Syntax.w16)) (List._∷_ y0 (List._∷_
+    (Syntax.tyRef Syntax.erased Syntax.mut Element.behind) (List._∷_ y1 List.[]))))))))
 
 abbrev pub m : Nat.ℕ
 m = 3
@@ -91,19 +95,18 @@ r·0 = Value.rVal record {
   one = Path'.refl;
   val = Laws'.val Decoded.the-type Laws.the-laws;
   tells = Laws'.tells Decoded.the-type Laws.the-laws;
-  still = Laws'.still
-      Decoded.the-type Laws.the-copy Exit.yes;
+  still = Laws'.still Decoded.the-type
+      Laws.the-copy Exit.yes;
   row = Rows'.whole (Declared.row Decoded.the-type);
   rd = λ x. x;
   mk = λ x. x;
 } λ M 𝓤 H A W. record {
-  copies = Laws'.copy Decoded.the-type Laws.the-copy 𝓤 H A
-      W;
+  copies = Laws'.copy Decoded.the-type Laws.the-copy 𝓤 H A W;
   lawful = Laws'.lawful Decoded.the-type Laws.the-laws 𝓤 H A W tt;
   makes = Laws'.makes Decoded.the-type Laws.the-plain 𝓤 H A;
-  in-mem = Local.mem-whole 𝓤 H A W (Declared.row Decoded.the-type);
-  of-mem
-      = Local.whole-mem 𝓤 H A W (Declared.row Decoded.the-type);
+  in-mem =
+      Local.mem-whole 𝓤 H A W (Declared.row Decoded.the-type);
+  of-mem = Local.whole-mem 𝓤 H A W (Declared.row Decoded.the-type);
 }
 
 abbrev pub ps·1 : List.List (Kinds.PK 0)
@@ -112,18 +115,17 @@ ps·1 = List._∷_ (Value.pVal record {
   one = Path'.refl;
   val = Laws'.val Decoded.the-type Laws.the-laws;
   tells = Laws'.tells Decoded.the-type Laws.the-laws;
-  still =
-      Laws'.still Decoded.the-type Laws.the-copy Exit.yes;
+  still = Laws'.still Decoded.the-type
+      Laws.the-copy Exit.yes;
   row = Rows'.whole (Declared.row Decoded.the-type);
   rd = λ x. x;
   mk = λ x. x;
 } λ M 𝓤 H A W. record {
-  copies = Laws'.copy Decoded.the-type
-      Laws.the-copy 𝓤 H A W;
+  copies = Laws'.copy Decoded.the-type Laws.the-copy 𝓤 H A W;
   lawful = Laws'.lawful Decoded.the-type Laws.the-laws 𝓤 H A W tt;
   makes = Laws'.makes Decoded.the-type Laws.the-plain 𝓤 H A;
-  in-mem = Local.mem-whole 𝓤 H A W (Declared.row
-      Decoded.the-type);
+  in-mem =
+      Local.mem-whole 𝓤 H A W (Declared.row Decoded.the-type);
   of-mem = Local.whole-mem 𝓤 H A W (Declared.row Decoded.the-type);
 }) List.[]
 
@@ -212,677 +214,190 @@ body = b22
 abbrev pub Claims : Type 1
 Claims = Kinds.In 4 ps·0 × Kinds.Out 4 ps·0 r·0 × Kinds.In 0 ps·1 × Kinds.Out 0 ps·1 r·1
 
+abbrev pub e0 : Row.Entry
+e0 = (0, Rows'.any-gone Syntax.tyUnit)
+
+abbrev pub e1 : Row.Entry
+e1 = (0, Rows'.sc-here Row.sUnit)
+
+abbrev pub e2 : Row.Entry
+e2 = (1, Rows'.sslice (Referent.rtF (Referent.fInt Syntax.w8)) (Syntax.tyRef (Syntax.named 0) Syntax.imm (Syntax.tyInt Syntax.w8)) 0)
+
+abbrev pub e3 : Row.Entry
+e3 = (
+  10,
+  Rows'.any-gone (Syntax.tyEnum (List._∷_ 98 (List._∷_ 108 (List._∷_ 111 (List._∷_ 99 (List._∷_ 107 (List._∷_ 58 (List._∷_ 58 (List._∷_ 68 (List._∷_ 101 (List._∷_ 99 (List._∷_ 111 (List._∷_ 100
+      (List._∷_ 101 (List._∷_ 100 List.[])))))))))))))) (Syntax.ttcons Syntax.tnil (Syntax.ttcons (Syntax.tcons (Syntax.tyEnum (List._∷_ 115 (List._∷_ 116 (List._∷_ 114 (List._∷_ 101 (List._∷_ 97 (List._∷_
+      109 (List._∷_ 58 (List._∷_ 58 (List._∷_ 82 (List._∷_ 101 (List._∷_ 102 (List._∷_ 117 (List._∷_ 115 (List._∷_ 97 (List._∷_ 108 List.[]))))))))))))))) (Syntax.ttcons Syntax.tnil (Syntax.ttcons
+      Syntax.tnil (Syntax.ttcons Syntax.tnil (Syntax.ttcons (Syntax.tcons (Syntax.tyInt Syntax.w64) Syntax.tnil) (Syntax.ttcons Syntax.tnil (Syntax.ttcons Syntax.tnil (Syntax.ttcons Syntax.tnil
+      (Syntax.ttcons Syntax.tnil (Syntax.ttcons Syntax.tnil (Syntax.ttcons Syntax.tnil (Syntax.ttcons (Syntax.tcons (Syntax.tyInt Syntax.w64) Syntax.tnil) (Syntax.ttcons (Syntax.tcons (Syntax.tyInt
+      Syntax.w64) Syntax.tnil) (Syntax.ttcons Syntax.tnil (Syntax.ttcons (Syntax.tcons (Syntax.tyInt Syntax.w64) (Syntax.tcons (Syntax.tyInt Syntax.w64) Syntax.tnil)) (Syntax.ttcons (Syntax.tcons
+      (Syntax.tyInt Syntax.w64) Syntax.tnil) Syntax.ttnil)))))))))))))))) Syntax.tnil) Syntax.ttnil))),
+)
+
+abbrev pub e4 : Row.Entry
+e4 = (10, Rows'.whole (Declared.row Decoded.the-type))
+
+abbrev pub e5 : Row.Entry
+e5 = (11, Rows'.any-gone (Syntax.tyArray (Syntax.tyInt Syntax.w64) 4))
+
+abbrev pub e6 : Row.Entry
+e6 = (11, Rows.arrF (Referent.rtF (Referent.fInt Syntax.w64)) 4 0)
+
+abbrev pub e7 : Row.Entry
+e7 = (12, Relend.msptr (Referent.rtF (Referent.fInt Syntax.w16)) (Syntax.tyRef Syntax.erased Syntax.mut (Syntax.tyInt Syntax.w16)) 6)
+
+abbrev pub e8 : Row.Entry
+e8 = (12, Rows'.any-gone (Syntax.tyRef Syntax.erased Syntax.mut (Syntax.tyInt Syntax.w16)))
+
+abbrev pub e9 : Row.Entry
+e9 = (13, Mut.msleft (Referent.rtF (Referent.fInt Syntax.w16)) (Syntax.tyRef Syntax.erased Syntax.mut (Syntax.tyInt Syntax.w16)))
+
+abbrev pub e10 : Row.Entry
+e10 = (13, Mut.mslice (Referent.rtF (Referent.fInt Syntax.w16)) (Syntax.tyRef Syntax.erased Syntax.mut (Syntax.tyInt Syntax.w16)) 6)
+
+abbrev pub e11 : Row.Entry
+e11 = (13, Rows'.any-gone y0)
+
+abbrev pub e12 : Row.Entry
+e12 = (14, Relend.msptr (Referent.rtF (Referent.fInt Syntax.w16)) (Syntax.tyRef Syntax.erased Syntax.mut (Syntax.tyInt Syntax.w16)) 7)
+
+abbrev pub e13 : Row.Entry
+e13 = (14, Rows'.any-gone (Syntax.tyRef Syntax.erased Syntax.mut (Syntax.tyInt Syntax.w16)))
+
+abbrev pub e14 : Row.Entry
+e14 = (15, Mut.msleft (Referent.rtF (Referent.fInt Syntax.w16)) (Syntax.tyRef Syntax.erased Syntax.mut (Syntax.tyInt Syntax.w16)))
+
+abbrev pub e15 : Row.Entry
+e15 = (15, Mut.mslice (Referent.rtF (Referent.fInt Syntax.w16)) (Syntax.tyRef Syntax.erased Syntax.mut (Syntax.tyInt Syntax.w16)) 7)
+
+abbrev pub e16 : Row.Entry
+e16 = (15, Rows'.any-gone y0)
+
+abbrev pub e17 : Row.Entry
+e17 = (16, Rows'.any-gone (Syntax.tyRef Syntax.erased Syntax.mut Element.behind))
+
+abbrev pub e18 : Row.Entry
+e18 = (17, Rows'.any-gone y1)
+
+abbrev pub e19 : Row.Entry
+e19 = (2, Rows'.any-gone (Syntax.tyInt Syntax.w64))
+
+abbrev pub e20 : Row.Entry
+e20 = (2, Rows'.sc-here (Row.sInt Syntax.w64))
+
+abbrev pub e21 : Row.Entry
+e21 = (3, Rows'.sc-here (Row.sInt Syntax.w64))
+
+abbrev pub e22 : Row.Entry
+e22 = (4, Rows'.sref (Array'.Array (Referent.rtF (Referent.fInt Syntax.w8)) 36) (Syntax.tyRef (Syntax.named 1) Syntax.imm (Syntax.tyArray (Syntax.tyInt Syntax.w8) 36)) 1)
+
+abbrev pub e23 : Row.Entry
+e23 = (5, Mut.mslice (Referent.rtF (Referent.fInt Syntax.w16)) (Syntax.tyRef (Syntax.named 2) Syntax.mut (Syntax.tyInt Syntax.w16)) 2)
+
+abbrev pub e24 : Row.Entry
+e24 = (5, Relend.mslice-owed (Referent.rtF (Referent.fInt Syntax.w16)) (Syntax.tyRef (Syntax.named 2) Syntax.mut (Syntax.tyInt Syntax.w16)) 2 6 Row.off)
+
+abbrev pub e25 : Row.Entry
+e25 = (6, Mut.mslice (Referent.rtF (Referent.fInt Syntax.w16)) (Syntax.tyRef (Syntax.named 3) Syntax.mut (Syntax.tyInt Syntax.w16)) 3)
+
+abbrev pub e26 : Row.Entry
+e26 = (6, Relend.mslice-owed (Referent.rtF (Referent.fInt Syntax.w16)) (Syntax.tyRef (Syntax.named 3) Syntax.mut (Syntax.tyInt Syntax.w16)) 3 7 Row.off)
+
+abbrev pub e27 : Row.Entry
+e27 = (7, Mut.mslice (Element.type) (Syntax.tyRef (Syntax.named 4) Syntax.mut Element.behind) 4)
+
+abbrev pub e28 : Row.Entry
+e28 = (7, Relend.mslice-owed (Element.type) (Syntax.tyRef (Syntax.named 4) Syntax.mut Element.behind) 4 8 Row.off)
+
+abbrev pub e29 : Row.Entry
+e29 = (8, Rows'.mref (Array'.Array (Referent.rtF (Referent.fInt Syntax.w64)) 4) (Syntax.tyRef (Syntax.named 5) Syntax.mut (Syntax.tyArray (Syntax.tyInt Syntax.w64) 4)) 5)
+
+abbrev pub e30 : Row.Entry
+e30 = (9, Rows'.any-gone (Syntax.tyArray (Syntax.tyInt Syntax.w8) 36))
+
+abbrev pub e31 : Row.Entry
+e31 = (9, Rows.arrF (Referent.rtF (Referent.fInt Syntax.w8)) 36 0)
+
 abbrev pub t0 : List.List Row.Entry
-t0 = List._∷_ (0, Rows'.any-gone Syntax.tyUnit) (List._∷_ (1, Rows'.sslice (Referent.rtF (Referent.fInt Syntax.w8)) (Syntax.tyRef (Syntax.named 0) Syntax.imm (Syntax.tyInt Syntax.w8)) 0) (List._∷_
-    (2, Rows'.sc-here (Row.sInt Syntax.w64)) (List._∷_ (3, Rows'.sc-here (Row.sInt Syntax.w64)) (List._∷_ (
-      4,
-      Rows'.sref (Array'.Array (Referent.rtF (Referent.fInt Syntax.w8)) 36) (Syntax.tyRef
-          (Syntax.named 1) Syntax.imm (Syntax.tyArray (Syntax.tyInt Syntax.w8) 36)) 1,
-    ) (List._∷_ (
-      5,
-      Mut.mslice (Referent.rtF (Referent.fInt Syntax.w16)) (Syntax.tyRef (Syntax.named 2) Syntax.mut
-          (Syntax.tyInt Syntax.w16)) 2,
-    ) (List._∷_ (6, Mut.mslice (Referent.rtF (Referent.fInt Syntax.w16)) (Syntax.tyRef (Syntax.named 3) Syntax.mut (Syntax.tyInt Syntax.w16)) 3) (List._∷_ (
-      7,
-      Mut.mslice
-          (Element.type) (Syntax.tyRef (Syntax.named 4) Syntax.mut Element.behind) 4,
-    ) (List._∷_ (
-      8,
-      Rows'.mref (Array'.Array (Referent.rtF (Referent.fInt Syntax.w64)) 4) (Syntax.tyRef (Syntax.named 5)
-          Syntax.mut (Syntax.tyArray (Syntax.tyInt Syntax.w64) 4)) 5,
-    ) (List._∷_ (9, Rows'.any-gone (Syntax.tyArray (Syntax.tyInt Syntax.w8) 36)) (List._∷_ (
-      10,
-      Rows'.any-gone (Syntax.tyEnum (List._∷_ 98
-          (List._∷_ 108 (List._∷_ 111 (List._∷_ 99 (List._∷_ 107 (List._∷_ 58 (List._∷_ 58 (List._∷_ 68 (List._∷_ 101 (List._∷_ 99 (List._∷_ 111 (List._∷_ 100 (List._∷_ 101 (List._∷_ 100 List.[]))))))))))))))
-          (Syntax.ttcons Syntax.tnil (Syntax.ttcons (Syntax.tcons (Syntax.tyEnum (List._∷_ 115 (List._∷_ 116 (List._∷_ 114 (List._∷_ 101 (List._∷_ 97 (List._∷_ 109 (List._∷_ 58 (List._∷_ 58 (List._∷_ 82
-          (List._∷_ 101 (List._∷_ 102 (List._∷_ 117 (List._∷_ 115 (List._∷_ 97 (List._∷_ 108 List.[]))))))))))))))) (Syntax.ttcons Syntax.tnil (Syntax.ttcons Syntax.tnil (Syntax.ttcons Syntax.tnil
-          (Syntax.ttcons (Syntax.tcons (Syntax.tyInt Syntax.w64) Syntax.tnil) (Syntax.ttcons Syntax.tnil (Syntax.ttcons Syntax.tnil (Syntax.ttcons Syntax.tnil (Syntax.ttcons Syntax.tnil (Syntax.ttcons
-          Syntax.tnil (Syntax.ttcons Syntax.tnil (Syntax.ttcons (Syntax.tcons (Syntax.tyInt Syntax.w64) Syntax.tnil) (Syntax.ttcons (Syntax.tcons (Syntax.tyInt Syntax.w64) Syntax.tnil) (Syntax.ttcons
-          Syntax.tnil (Syntax.ttcons (Syntax.tcons (Syntax.tyInt Syntax.w64) (Syntax.tcons (Syntax.tyInt Syntax.w64) Syntax.tnil)) (Syntax.ttcons (Syntax.tcons (Syntax.tyInt Syntax.w64) Syntax.tnil)
-          Syntax.ttnil)))))))))))))))) Syntax.tnil) Syntax.ttnil))),
-    ) (List._∷_ (11, Rows'.any-gone (Syntax.tyArray (Syntax.tyInt Syntax.w64) 4)) (List._∷_ (
-      12,
-      Rows'.any-gone (Syntax.tyRef Syntax.erased
-          Syntax.mut (Syntax.tyInt Syntax.w16)),
-    ) (List._∷_ (
-      13,
-      Rows'.any-gone (Syntax.tyStruct (List._∷_ 38 (List._∷_ 91 (List._∷_ 93 List.[]))) (Syntax.tcons (Syntax.tyRef Syntax.erased Syntax.mut
-          (Syntax.tyInt Syntax.w16)) (Syntax.tcons (Syntax.tyInt Syntax.w64) Syntax.tnil))),
-    ) (List._∷_ (14, Rows'.any-gone (Syntax.tyRef Syntax.erased Syntax.mut (Syntax.tyInt Syntax.w16))) (List._∷_ (
-      15,
-      Rows'.any-gone (Syntax.tyStruct (List._∷_ 38 (List._∷_ 91 (List._∷_ 93 List.[]))) (Syntax.tcons (Syntax.tyRef Syntax.erased Syntax.mut (Syntax.tyInt Syntax.w16)) (Syntax.tcons (Syntax.tyInt
-          Syntax.w64) Syntax.tnil))),
-    ) List.[])))))))))))))))
+t0 = List._∷_ e0 (List._∷_ e2 (List._∷_ e20 (List._∷_ e21 (List._∷_ e22 (List._∷_ e23 (List._∷_ e25 (List._∷_ e27 (List._∷_ e29 (List._∷_ e30 (List._∷_ e3 (List._∷_ e5 (List._∷_ e8 (List._∷_ e11
+    (List._∷_ e13 (List._∷_ e16 List.[])))))))))))))))
 
 abbrev pub t1 : List.List Row.Entry
-t1 = List._∷_ (16, Rows'.any-gone (Syntax.tyRef Syntax.erased Syntax.mut Element.behind)) (List._∷_ (
-  17,
-  Rows'.any-gone (Syntax.tyStruct (List._∷_ 38 (List._∷_ 91 (List._∷_ 93 List.[])))
-      (Syntax.tcons (Syntax.tyRef Syntax.erased Syntax.mut Element.behind) (Syntax.tcons (Syntax.tyInt Syntax.w64) Syntax.tnil))),
-) List.[])
+t1 = List._∷_ e17 (List._∷_ e18 List.[])
 
 abbrev pub t2 : List.List Row.Entry
-t2 = List._∷_ (0, Rows'.sc-here Row.sUnit) (List._∷_ (1, Rows'.sslice (Referent.rtF (Referent.fInt Syntax.w8)) (Syntax.tyRef (Syntax.named 0) Syntax.imm (Syntax.tyInt Syntax.w8)) 0) (List._∷_ (
-  2,
-  Rows'.any-gone (Syntax.tyInt Syntax.w64),
-) (List._∷_ (3, Rows'.any-gone (Syntax.tyInt Syntax.w64)) (List._∷_ (
-  4,
-  Rows'.sref (Array'.Array (Referent.rtF (Referent.fInt Syntax.w8)) 36) (Syntax.tyRef
-      (Syntax.named 1) Syntax.imm (Syntax.tyArray (Syntax.tyInt Syntax.w8) 36)) 1,
-) (List._∷_ (
-  5,
-  Mut.mslice (Referent.rtF (Referent.fInt Syntax.w16)) (Syntax.tyRef (Syntax.named 2) Syntax.mut
-      (Syntax.tyInt Syntax.w16)) 2,
-) (List._∷_ (6, Mut.mslice (Referent.rtF (Referent.fInt Syntax.w16)) (Syntax.tyRef (Syntax.named 3) Syntax.mut (Syntax.tyInt Syntax.w16)) 3) (List._∷_ (
-  7,
-  Mut.mslice
-      (Element.type) (Syntax.tyRef (Syntax.named 4) Syntax.mut Element.behind) 4,
-) (List._∷_ (
-  8,
-  Rows'.mref (Array'.Array (Referent.rtF (Referent.fInt Syntax.w64)) 4) (Syntax.tyRef (Syntax.named 5)
-      Syntax.mut (Syntax.tyArray (Syntax.tyInt Syntax.w64) 4)) 5,
-) (List._∷_ (9, Rows'.any-gone (Syntax.tyArray (Syntax.tyInt Syntax.w8) 36)) (List._∷_ (
-  10,
-  Rows'.any-gone (Syntax.tyEnum (List._∷_ 98
-      (List._∷_ 108 (List._∷_ 111 (List._∷_ 99 (List._∷_ 107 (List._∷_ 58 (List._∷_ 58 (List._∷_ 68 (List._∷_ 101 (List._∷_ 99 (List._∷_ 111 (List._∷_ 100 (List._∷_ 101 (List._∷_ 100 List.[]))))))))))))))
-      (Syntax.ttcons Syntax.tnil (Syntax.ttcons (Syntax.tcons (Syntax.tyEnum (List._∷_ 115 (List._∷_ 116 (List._∷_ 114 (List._∷_ 101 (List._∷_ 97 (List._∷_ 109 (List._∷_ 58 (List._∷_ 58 (List._∷_ 82
-      (List._∷_ 101 (List._∷_ 102 (List._∷_ 117 (List._∷_ 115 (List._∷_ 97 (List._∷_ 108 List.[]))))))))))))))) (Syntax.ttcons Syntax.tnil (Syntax.ttcons Syntax.tnil (Syntax.ttcons Syntax.tnil
-      (Syntax.ttcons (Syntax.tcons (Syntax.tyInt Syntax.w64) Syntax.tnil) (Syntax.ttcons Syntax.tnil (Syntax.ttcons Syntax.tnil (Syntax.ttcons Syntax.tnil (Syntax.ttcons Syntax.tnil (Syntax.ttcons
-      Syntax.tnil (Syntax.ttcons Syntax.tnil (Syntax.ttcons (Syntax.tcons (Syntax.tyInt Syntax.w64) Syntax.tnil) (Syntax.ttcons (Syntax.tcons (Syntax.tyInt Syntax.w64) Syntax.tnil) (Syntax.ttcons
-      Syntax.tnil (Syntax.ttcons (Syntax.tcons (Syntax.tyInt Syntax.w64) (Syntax.tcons (Syntax.tyInt Syntax.w64) Syntax.tnil)) (Syntax.ttcons (Syntax.tcons (Syntax.tyInt Syntax.w64) Syntax.tnil)
-      Syntax.ttnil)))))))))))))))) Syntax.tnil) Syntax.ttnil))),
-) (List._∷_ (11, Rows'.any-gone (Syntax.tyArray (Syntax.tyInt Syntax.w64) 4)) (List._∷_ (
-  12,
-  Rows'.any-gone (Syntax.tyRef Syntax.erased
-      Syntax.mut (Syntax.tyInt Syntax.w16)),
-) (List._∷_ (
-  13,
-  Rows'.any-gone (Syntax.tyStruct (List._∷_ 38 (List._∷_ 91 (List._∷_ 93 List.[]))) (Syntax.tcons (Syntax.tyRef Syntax.erased Syntax.mut
-      (Syntax.tyInt Syntax.w16)) (Syntax.tcons (Syntax.tyInt Syntax.w64) Syntax.tnil))),
-) (List._∷_ (14, Rows'.any-gone (Syntax.tyRef Syntax.erased Syntax.mut (Syntax.tyInt Syntax.w16))) (List._∷_ (
-  15,
-  Rows'.any-gone (Syntax.tyStruct (List._∷_ 38 (List._∷_ 91 (List._∷_ 93 List.[]))) (Syntax.tcons (Syntax.tyRef Syntax.erased Syntax.mut (Syntax.tyInt Syntax.w16)) (Syntax.tcons (Syntax.tyInt
-      Syntax.w64) Syntax.tnil))),
-) List.[])))))))))))))))
+t2 = List._∷_ e1 (List._∷_ e2 (List._∷_ e19 (List._∷_ (3, Rows'.any-gone (Syntax.tyInt Syntax.w64)) (List._∷_ e22 (List._∷_ e23 (List._∷_ e25 (List._∷_ e27 (List._∷_ e29 (List._∷_ e30 (List._∷_ e3
+    (List._∷_ e5 (List._∷_ e8 (List._∷_ e11 (List._∷_ e13 (List._∷_ e16 List.[])))))))))))))))
 
 abbrev pub t3 : List.List Row.Entry
-t3 = List._∷_ (0, Rows'.any-gone Syntax.tyUnit) (List._∷_ (1, Rows'.sslice (Referent.rtF (Referent.fInt Syntax.w8)) (Syntax.tyRef (Syntax.named 0) Syntax.imm (Syntax.tyInt Syntax.w8)) 0) (List._∷_
-    (2, Rows'.sc-here (Row.sInt Syntax.w64)) (List._∷_ (3, Rows'.sc-here (Row.sInt Syntax.w64)) (List._∷_ (
-      4,
-      Rows'.sref (Array'.Array (Referent.rtF (Referent.fInt Syntax.w8)) 36) (Syntax.tyRef
-          (Syntax.named 1) Syntax.imm (Syntax.tyArray (Syntax.tyInt Syntax.w8) 36)) 1,
-    ) (List._∷_ (
-      5,
-      Mut.mslice (Referent.rtF (Referent.fInt Syntax.w16)) (Syntax.tyRef (Syntax.named 2) Syntax.mut
-          (Syntax.tyInt Syntax.w16)) 2,
-    ) (List._∷_ (6, Mut.mslice (Referent.rtF (Referent.fInt Syntax.w16)) (Syntax.tyRef (Syntax.named 3) Syntax.mut (Syntax.tyInt Syntax.w16)) 3) (List._∷_ (
-      7,
-      Mut.mslice
-          (Element.type) (Syntax.tyRef (Syntax.named 4) Syntax.mut Element.behind) 4,
-    ) (List._∷_ (
-      8,
-      Rows'.mref (Array'.Array (Referent.rtF (Referent.fInt Syntax.w64)) 4) (Syntax.tyRef (Syntax.named 5)
-          Syntax.mut (Syntax.tyArray (Syntax.tyInt Syntax.w64) 4)) 5,
-    ) (List._∷_ (9, Rows.arrF (Referent.rtF (Referent.fInt Syntax.w8)) 36 0) (List._∷_ (
-      10,
-      Rows'.any-gone (Syntax.tyEnum (List._∷_ 98
-          (List._∷_ 108 (List._∷_ 111 (List._∷_ 99 (List._∷_ 107 (List._∷_ 58 (List._∷_ 58 (List._∷_ 68 (List._∷_ 101 (List._∷_ 99 (List._∷_ 111 (List._∷_ 100 (List._∷_ 101 (List._∷_ 100 List.[]))))))))))))))
-          (Syntax.ttcons Syntax.tnil (Syntax.ttcons (Syntax.tcons (Syntax.tyEnum (List._∷_ 115 (List._∷_ 116 (List._∷_ 114 (List._∷_ 101 (List._∷_ 97 (List._∷_ 109 (List._∷_ 58 (List._∷_ 58 (List._∷_ 82
-          (List._∷_ 101 (List._∷_ 102 (List._∷_ 117 (List._∷_ 115 (List._∷_ 97 (List._∷_ 108 List.[]))))))))))))))) (Syntax.ttcons Syntax.tnil (Syntax.ttcons Syntax.tnil (Syntax.ttcons Syntax.tnil
-          (Syntax.ttcons (Syntax.tcons (Syntax.tyInt Syntax.w64) Syntax.tnil) (Syntax.ttcons Syntax.tnil (Syntax.ttcons Syntax.tnil (Syntax.ttcons Syntax.tnil (Syntax.ttcons Syntax.tnil (Syntax.ttcons
-          Syntax.tnil (Syntax.ttcons Syntax.tnil (Syntax.ttcons (Syntax.tcons (Syntax.tyInt Syntax.w64) Syntax.tnil) (Syntax.ttcons (Syntax.tcons (Syntax.tyInt Syntax.w64) Syntax.tnil) (Syntax.ttcons
-          Syntax.tnil (Syntax.ttcons (Syntax.tcons (Syntax.tyInt Syntax.w64) (Syntax.tcons (Syntax.tyInt Syntax.w64) Syntax.tnil)) (Syntax.ttcons (Syntax.tcons (Syntax.tyInt Syntax.w64) Syntax.tnil)
-          Syntax.ttnil)))))))))))))))) Syntax.tnil) Syntax.ttnil))),
-    ) (List._∷_ (11, Rows'.any-gone (Syntax.tyArray (Syntax.tyInt Syntax.w64) 4)) (List._∷_ (
-      12,
-      Rows'.any-gone (Syntax.tyRef Syntax.erased
-          Syntax.mut (Syntax.tyInt Syntax.w16)),
-    ) (List._∷_ (
-      13,
-      Rows'.any-gone (Syntax.tyStruct (List._∷_ 38 (List._∷_ 91 (List._∷_ 93 List.[]))) (Syntax.tcons (Syntax.tyRef Syntax.erased Syntax.mut
-          (Syntax.tyInt Syntax.w16)) (Syntax.tcons (Syntax.tyInt Syntax.w64) Syntax.tnil))),
-    ) (List._∷_ (14, Rows'.any-gone (Syntax.tyRef Syntax.erased Syntax.mut (Syntax.tyInt Syntax.w16))) (List._∷_ (
-      15,
-      Rows'.any-gone (Syntax.tyStruct (List._∷_ 38 (List._∷_ 91 (List._∷_ 93 List.[]))) (Syntax.tcons (Syntax.tyRef Syntax.erased Syntax.mut (Syntax.tyInt Syntax.w16)) (Syntax.tcons (Syntax.tyInt
-          Syntax.w64) Syntax.tnil))),
-    ) List.[])))))))))))))))
+t3 = List._∷_ e0 (List._∷_ e2 (List._∷_ e20 (List._∷_ e21 (List._∷_ e22 (List._∷_ e23 (List._∷_ e25 (List._∷_ e27 (List._∷_ e29 (List._∷_ e31 (List._∷_ e3 (List._∷_ e5 (List._∷_ e8 (List._∷_ e11
+    (List._∷_ e13 (List._∷_ e16 List.[])))))))))))))))
 
 abbrev pub t4 : List.List Row.Entry
-t4 = List._∷_ (0, Rows'.any-gone Syntax.tyUnit) (List._∷_ (1, Rows'.sslice (Referent.rtF (Referent.fInt Syntax.w8)) (Syntax.tyRef (Syntax.named 0) Syntax.imm (Syntax.tyInt Syntax.w8)) 0) (List._∷_
-    (2, Rows'.sc-here (Row.sInt Syntax.w64)) (List._∷_ (3, Rows'.sc-here (Row.sInt Syntax.w64)) (List._∷_ (
-      4,
-      Rows'.sref (Array'.Array (Referent.rtF (Referent.fInt Syntax.w8)) 36) (Syntax.tyRef
-          (Syntax.named 1) Syntax.imm (Syntax.tyArray (Syntax.tyInt Syntax.w8) 36)) 1,
-    ) (List._∷_ (
-      5,
-      Relend.mslice-owed (Referent.rtF (Referent.fInt Syntax.w16)) (Syntax.tyRef (Syntax.named 2) Syntax.mut
-          (Syntax.tyInt Syntax.w16)) 2 6 Row.off,
-    ) (List._∷_ (6, Mut.mslice (Referent.rtF (Referent.fInt Syntax.w16)) (Syntax.tyRef (Syntax.named 3) Syntax.mut (Syntax.tyInt Syntax.w16)) 3) (List._∷_ (
-      7,
-      Mut.mslice (Element.type) (Syntax.tyRef (Syntax.named 4) Syntax.mut Element.behind) 4,
-    ) (List._∷_ (
-      8,
-      Rows'.mref (Array'.Array (Referent.rtF (Referent.fInt Syntax.w64)) 4) (Syntax.tyRef
-          (Syntax.named 5) Syntax.mut (Syntax.tyArray (Syntax.tyInt Syntax.w64) 4)) 5,
-    ) (List._∷_ (9, Rows.arrF (Referent.rtF (Referent.fInt Syntax.w8)) 36 0) (List._∷_ (
-      10,
-      Rows'.any-gone (Syntax.tyEnum
-          (List._∷_ 98 (List._∷_ 108 (List._∷_ 111 (List._∷_ 99 (List._∷_ 107 (List._∷_ 58 (List._∷_ 58 (List._∷_ 68 (List._∷_ 101 (List._∷_ 99 (List._∷_ 111 (List._∷_ 100 (List._∷_ 101 (List._∷_ 100
-          List.[])))))))))))))) (Syntax.ttcons Syntax.tnil (Syntax.ttcons (Syntax.tcons (Syntax.tyEnum (List._∷_ 115 (List._∷_ 116 (List._∷_ 114 (List._∷_ 101 (List._∷_ 97 (List._∷_ 109 (List._∷_ 58 (List._∷_
-          58 (List._∷_ 82 (List._∷_ 101 (List._∷_ 102 (List._∷_ 117 (List._∷_ 115 (List._∷_ 97 (List._∷_ 108 List.[]))))))))))))))) (Syntax.ttcons Syntax.tnil (Syntax.ttcons Syntax.tnil (Syntax.ttcons
-          Syntax.tnil (Syntax.ttcons (Syntax.tcons (Syntax.tyInt Syntax.w64) Syntax.tnil) (Syntax.ttcons Syntax.tnil (Syntax.ttcons Syntax.tnil (Syntax.ttcons Syntax.tnil (Syntax.ttcons Syntax.tnil
-          (Syntax.ttcons Syntax.tnil (Syntax.ttcons Syntax.tnil (Syntax.ttcons (Syntax.tcons (Syntax.tyInt Syntax.w64) Syntax.tnil) (Syntax.ttcons (Syntax.tcons (Syntax.tyInt Syntax.w64) Syntax.tnil)
-          (Syntax.ttcons Syntax.tnil (Syntax.ttcons (Syntax.tcons (Syntax.tyInt Syntax.w64) (Syntax.tcons (Syntax.tyInt Syntax.w64) Syntax.tnil)) (Syntax.ttcons (Syntax.tcons (Syntax.tyInt Syntax.w64)
-          Syntax.tnil) Syntax.ttnil)))))))))))))))) Syntax.tnil) Syntax.ttnil))),
-    ) (List._∷_ (11, Rows'.any-gone (Syntax.tyArray (Syntax.tyInt Syntax.w64) 4)) (List._∷_ (
-      12,
-      Relend.msptr (Referent.rtF
-          (Referent.fInt Syntax.w16)) (Syntax.tyRef Syntax.erased Syntax.mut (Syntax.tyInt Syntax.w16)) 6,
-    ) (List._∷_ (
-      13,
-      Rows'.any-gone (Syntax.tyStruct (List._∷_ 38 (List._∷_ 91 (List._∷_ 93 List.[])))
-          (Syntax.tcons (Syntax.tyRef Syntax.erased Syntax.mut (Syntax.tyInt Syntax.w16)) (Syntax.tcons (Syntax.tyInt Syntax.w64) Syntax.tnil))),
-    ) (List._∷_ (
-      14,
-      Rows'.any-gone (Syntax.tyRef Syntax.erased
-          Syntax.mut (Syntax.tyInt Syntax.w16)),
-    ) (List._∷_ (
-      15,
-      Rows'.any-gone (Syntax.tyStruct (List._∷_ 38 (List._∷_ 91 (List._∷_ 93 List.[]))) (Syntax.tcons (Syntax.tyRef Syntax.erased Syntax.mut
-          (Syntax.tyInt Syntax.w16)) (Syntax.tcons (Syntax.tyInt Syntax.w64) Syntax.tnil))),
-    ) List.[])))))))))))))))
+t4 = List._∷_ e0 (List._∷_ e2 (List._∷_ e20 (List._∷_ e21 (List._∷_ e22 (List._∷_ e24 (List._∷_ e25 (List._∷_ e27 (List._∷_ e29 (List._∷_ e31 (List._∷_ e3 (List._∷_ e5 (List._∷_ e7 (List._∷_ e11
+    (List._∷_ e13 (List._∷_ e16 List.[])))))))))))))))
 
 abbrev pub t5 : List.List Row.Entry
-t5 = List._∷_ (0, Rows'.any-gone Syntax.tyUnit) (List._∷_ (1, Rows'.sslice (Referent.rtF (Referent.fInt Syntax.w8)) (Syntax.tyRef (Syntax.named 0) Syntax.imm (Syntax.tyInt Syntax.w8)) 0) (List._∷_
-    (2, Rows'.sc-here (Row.sInt Syntax.w64)) (List._∷_ (3, Rows'.sc-here (Row.sInt Syntax.w64)) (List._∷_ (
-      4,
-      Rows'.sref (Array'.Array (Referent.rtF (Referent.fInt Syntax.w8)) 36) (Syntax.tyRef
-          (Syntax.named 1) Syntax.imm (Syntax.tyArray (Syntax.tyInt Syntax.w8) 36)) 1,
-    ) (List._∷_ (
-      5,
-      Relend.mslice-owed (Referent.rtF (Referent.fInt Syntax.w16)) (Syntax.tyRef (Syntax.named 2) Syntax.mut
-          (Syntax.tyInt Syntax.w16)) 2 6 Row.off,
-    ) (List._∷_ (6, Mut.mslice (Referent.rtF (Referent.fInt Syntax.w16)) (Syntax.tyRef (Syntax.named 3) Syntax.mut (Syntax.tyInt Syntax.w16)) 3) (List._∷_ (
-      7,
-      Mut.mslice (Element.type) (Syntax.tyRef (Syntax.named 4) Syntax.mut Element.behind) 4,
-    ) (List._∷_ (
-      8,
-      Rows'.mref (Array'.Array (Referent.rtF (Referent.fInt Syntax.w64)) 4) (Syntax.tyRef
-          (Syntax.named 5) Syntax.mut (Syntax.tyArray (Syntax.tyInt Syntax.w64) 4)) 5,
-    ) (List._∷_ (9, Rows.arrF (Referent.rtF (Referent.fInt Syntax.w8)) 36 0) (List._∷_ (
-      10,
-      Rows'.any-gone (Syntax.tyEnum
-          (List._∷_ 98 (List._∷_ 108 (List._∷_ 111 (List._∷_ 99 (List._∷_ 107 (List._∷_ 58 (List._∷_ 58 (List._∷_ 68 (List._∷_ 101 (List._∷_ 99 (List._∷_ 111 (List._∷_ 100 (List._∷_ 101 (List._∷_ 100
-          List.[])))))))))))))) (Syntax.ttcons Syntax.tnil (Syntax.ttcons (Syntax.tcons (Syntax.tyEnum (List._∷_ 115 (List._∷_ 116 (List._∷_ 114 (List._∷_ 101 (List._∷_ 97 (List._∷_ 109 (List._∷_ 58 (List._∷_
-          58 (List._∷_ 82 (List._∷_ 101 (List._∷_ 102 (List._∷_ 117 (List._∷_ 115 (List._∷_ 97 (List._∷_ 108 List.[]))))))))))))))) (Syntax.ttcons Syntax.tnil (Syntax.ttcons Syntax.tnil (Syntax.ttcons
-          Syntax.tnil (Syntax.ttcons (Syntax.tcons (Syntax.tyInt Syntax.w64) Syntax.tnil) (Syntax.ttcons Syntax.tnil (Syntax.ttcons Syntax.tnil (Syntax.ttcons Syntax.tnil (Syntax.ttcons Syntax.tnil
-          (Syntax.ttcons Syntax.tnil (Syntax.ttcons Syntax.tnil (Syntax.ttcons (Syntax.tcons (Syntax.tyInt Syntax.w64) Syntax.tnil) (Syntax.ttcons (Syntax.tcons (Syntax.tyInt Syntax.w64) Syntax.tnil)
-          (Syntax.ttcons Syntax.tnil (Syntax.ttcons (Syntax.tcons (Syntax.tyInt Syntax.w64) (Syntax.tcons (Syntax.tyInt Syntax.w64) Syntax.tnil)) (Syntax.ttcons (Syntax.tcons (Syntax.tyInt Syntax.w64)
-          Syntax.tnil) Syntax.ttnil)))))))))))))))) Syntax.tnil) Syntax.ttnil))),
-    ) (List._∷_ (11, Rows'.any-gone (Syntax.tyArray (Syntax.tyInt Syntax.w64) 4)) (List._∷_ (
-      12,
-      Rows'.any-gone (Syntax.tyRef
-          Syntax.erased Syntax.mut (Syntax.tyInt Syntax.w16)),
-    ) (List._∷_ (13, Mut.mslice (Referent.rtF (Referent.fInt Syntax.w16)) (Syntax.tyRef Syntax.erased Syntax.mut (Syntax.tyInt Syntax.w16)) 6)
-    (List._∷_ (14, Rows'.any-gone (Syntax.tyRef Syntax.erased Syntax.mut (Syntax.tyInt Syntax.w16))) (List._∷_ (
-      15,
-      Rows'.any-gone (Syntax.tyStruct (List._∷_ 38 (List._∷_ 91 (List._∷_ 93 List.[])))
-          (Syntax.tcons (Syntax.tyRef Syntax.erased Syntax.mut (Syntax.tyInt Syntax.w16)) (Syntax.tcons (Syntax.tyInt Syntax.w64) Syntax.tnil))),
-    ) List.[])))))))))))))))
+t5 = List._∷_ e0 (List._∷_ e2 (List._∷_ e20 (List._∷_ e21 (List._∷_ e22 (List._∷_ e24 (List._∷_ e25 (List._∷_ e27 (List._∷_ e29 (List._∷_ e31 (List._∷_ e3 (List._∷_ e5 (List._∷_ e8 (List._∷_ e10
+    (List._∷_ e13 (List._∷_ e16 List.[])))))))))))))))
 
 abbrev pub t6 : List.List Row.Entry
-t6 = List._∷_ (0, Rows'.any-gone Syntax.tyUnit) (List._∷_ (1, Rows'.sslice (Referent.rtF (Referent.fInt Syntax.w8)) (Syntax.tyRef (Syntax.named 0) Syntax.imm (Syntax.tyInt Syntax.w8)) 0) (List._∷_
-    (2, Rows'.sc-here (Row.sInt Syntax.w64)) (List._∷_ (3, Rows'.sc-here (Row.sInt Syntax.w64)) (List._∷_ (
-      4,
-      Rows'.sref (Array'.Array (Referent.rtF (Referent.fInt Syntax.w8)) 36) (Syntax.tyRef
-          (Syntax.named 1) Syntax.imm (Syntax.tyArray (Syntax.tyInt Syntax.w8) 36)) 1,
-    ) (List._∷_ (
-      5,
-      Relend.mslice-owed (Referent.rtF (Referent.fInt Syntax.w16)) (Syntax.tyRef (Syntax.named 2) Syntax.mut
-          (Syntax.tyInt Syntax.w16)) 2 6 Row.off,
-    ) (List._∷_ (
-      6,
-      Relend.mslice-owed (Referent.rtF (Referent.fInt Syntax.w16)) (Syntax.tyRef (Syntax.named 3) Syntax.mut (Syntax.tyInt Syntax.w16)) 3 7 Row.off,
-    ) (List._∷_ (7, Mut.mslice (Element.type) (Syntax.tyRef (Syntax.named 4) Syntax.mut Element.behind) 4) (List._∷_ (
-      8,
-      Rows'.mref (Array'.Array (Referent.rtF (Referent.fInt Syntax.w64)) 4)
-          (Syntax.tyRef (Syntax.named 5) Syntax.mut (Syntax.tyArray (Syntax.tyInt Syntax.w64) 4)) 5,
-    ) (List._∷_ (9, Rows.arrF (Referent.rtF (Referent.fInt Syntax.w8)) 36 0) (List._∷_ (
-      10,
-      Rows'.any-gone
-          (Syntax.tyEnum (List._∷_ 98 (List._∷_ 108 (List._∷_ 111 (List._∷_ 99 (List._∷_ 107 (List._∷_ 58 (List._∷_ 58 (List._∷_ 68 (List._∷_ 101 (List._∷_ 99 (List._∷_ 111 (List._∷_ 100 (List._∷_ 101 (List._∷_
-          100 List.[])))))))))))))) (Syntax.ttcons Syntax.tnil (Syntax.ttcons (Syntax.tcons (Syntax.tyEnum (List._∷_ 115 (List._∷_ 116 (List._∷_ 114 (List._∷_ 101 (List._∷_ 97 (List._∷_ 109 (List._∷_ 58
-          (List._∷_ 58 (List._∷_ 82 (List._∷_ 101 (List._∷_ 102 (List._∷_ 117 (List._∷_ 115 (List._∷_ 97 (List._∷_ 108 List.[]))))))))))))))) (Syntax.ttcons Syntax.tnil (Syntax.ttcons Syntax.tnil (Syntax.ttcons
-          Syntax.tnil (Syntax.ttcons (Syntax.tcons (Syntax.tyInt Syntax.w64) Syntax.tnil) (Syntax.ttcons Syntax.tnil (Syntax.ttcons Syntax.tnil (Syntax.ttcons Syntax.tnil (Syntax.ttcons Syntax.tnil
-          (Syntax.ttcons Syntax.tnil (Syntax.ttcons Syntax.tnil (Syntax.ttcons (Syntax.tcons (Syntax.tyInt Syntax.w64) Syntax.tnil) (Syntax.ttcons (Syntax.tcons (Syntax.tyInt Syntax.w64) Syntax.tnil)
-          (Syntax.ttcons Syntax.tnil (Syntax.ttcons (Syntax.tcons (Syntax.tyInt Syntax.w64) (Syntax.tcons (Syntax.tyInt Syntax.w64) Syntax.tnil)) (Syntax.ttcons (Syntax.tcons (Syntax.tyInt Syntax.w64)
-          Syntax.tnil) Syntax.ttnil)))))))))))))))) Syntax.tnil) Syntax.ttnil))),
-    ) (List._∷_ (11, Rows'.any-gone (Syntax.tyArray (Syntax.tyInt Syntax.w64) 4)) (List._∷_ (
-      12,
-      Rows'.any-gone (Syntax.tyRef
-          Syntax.erased Syntax.mut (Syntax.tyInt Syntax.w16)),
-    ) (List._∷_ (13, Mut.mslice (Referent.rtF (Referent.fInt Syntax.w16)) (Syntax.tyRef Syntax.erased Syntax.mut (Syntax.tyInt Syntax.w16)) 6)
-    (List._∷_ (14, Relend.msptr (Referent.rtF (Referent.fInt Syntax.w16)) (Syntax.tyRef Syntax.erased Syntax.mut (Syntax.tyInt Syntax.w16)) 7) (List._∷_ (
-      15,
-      Rows'.any-gone (Syntax.tyStruct (List._∷_
-          38 (List._∷_ 91 (List._∷_ 93 List.[]))) (Syntax.tcons (Syntax.tyRef Syntax.erased Syntax.mut (Syntax.tyInt Syntax.w16)) (Syntax.tcons (Syntax.tyInt Syntax.w64) Syntax.tnil))),
-    ) List.[])))))))))))))))
+t6 = List._∷_ e0 (List._∷_ e2 (List._∷_ e20 (List._∷_ e21 (List._∷_ e22 (List._∷_ e24 (List._∷_ e26 (List._∷_ e27 (List._∷_ e29 (List._∷_ e31 (List._∷_ e3 (List._∷_ e5 (List._∷_ e8 (List._∷_ e10
+    (List._∷_ e12 (List._∷_ e16 List.[])))))))))))))))
 
 abbrev pub t7 : List.List Row.Entry
-t7 = List._∷_ (0, Rows'.any-gone Syntax.tyUnit) (List._∷_ (1, Rows'.sslice (Referent.rtF (Referent.fInt Syntax.w8)) (Syntax.tyRef (Syntax.named 0) Syntax.imm (Syntax.tyInt Syntax.w8)) 0) (List._∷_
-    (2, Rows'.sc-here (Row.sInt Syntax.w64)) (List._∷_ (3, Rows'.sc-here (Row.sInt Syntax.w64)) (List._∷_ (
-      4,
-      Rows'.sref (Array'.Array (Referent.rtF (Referent.fInt Syntax.w8)) 36) (Syntax.tyRef
-          (Syntax.named 1) Syntax.imm (Syntax.tyArray (Syntax.tyInt Syntax.w8) 36)) 1,
-    ) (List._∷_ (
-      5,
-      Relend.mslice-owed (Referent.rtF (Referent.fInt Syntax.w16)) (Syntax.tyRef (Syntax.named 2) Syntax.mut
-          (Syntax.tyInt Syntax.w16)) 2 6 Row.off,
-    ) (List._∷_ (
-      6,
-      Relend.mslice-owed (Referent.rtF (Referent.fInt Syntax.w16)) (Syntax.tyRef (Syntax.named 3) Syntax.mut (Syntax.tyInt Syntax.w16)) 3 7 Row.off,
-    ) (List._∷_ (7, Mut.mslice (Element.type) (Syntax.tyRef (Syntax.named 4) Syntax.mut Element.behind) 4) (List._∷_ (
-      8,
-      Rows'.mref (Array'.Array (Referent.rtF (Referent.fInt Syntax.w64)) 4)
-          (Syntax.tyRef (Syntax.named 5) Syntax.mut (Syntax.tyArray (Syntax.tyInt Syntax.w64) 4)) 5,
-    ) (List._∷_ (9, Rows.arrF (Referent.rtF (Referent.fInt Syntax.w8)) 36 0) (List._∷_ (
-      10,
-      Rows'.any-gone
-          (Syntax.tyEnum (List._∷_ 98 (List._∷_ 108 (List._∷_ 111 (List._∷_ 99 (List._∷_ 107 (List._∷_ 58 (List._∷_ 58 (List._∷_ 68 (List._∷_ 101 (List._∷_ 99 (List._∷_ 111 (List._∷_ 100 (List._∷_ 101 (List._∷_
-          100 List.[])))))))))))))) (Syntax.ttcons Syntax.tnil (Syntax.ttcons (Syntax.tcons (Syntax.tyEnum (List._∷_ 115 (List._∷_ 116 (List._∷_ 114 (List._∷_ 101 (List._∷_ 97 (List._∷_ 109 (List._∷_ 58
-          (List._∷_ 58 (List._∷_ 82 (List._∷_ 101 (List._∷_ 102 (List._∷_ 117 (List._∷_ 115 (List._∷_ 97 (List._∷_ 108 List.[]))))))))))))))) (Syntax.ttcons Syntax.tnil (Syntax.ttcons Syntax.tnil (Syntax.ttcons
-          Syntax.tnil (Syntax.ttcons (Syntax.tcons (Syntax.tyInt Syntax.w64) Syntax.tnil) (Syntax.ttcons Syntax.tnil (Syntax.ttcons Syntax.tnil (Syntax.ttcons Syntax.tnil (Syntax.ttcons Syntax.tnil
-          (Syntax.ttcons Syntax.tnil (Syntax.ttcons Syntax.tnil (Syntax.ttcons (Syntax.tcons (Syntax.tyInt Syntax.w64) Syntax.tnil) (Syntax.ttcons (Syntax.tcons (Syntax.tyInt Syntax.w64) Syntax.tnil)
-          (Syntax.ttcons Syntax.tnil (Syntax.ttcons (Syntax.tcons (Syntax.tyInt Syntax.w64) (Syntax.tcons (Syntax.tyInt Syntax.w64) Syntax.tnil)) (Syntax.ttcons (Syntax.tcons (Syntax.tyInt Syntax.w64)
-          Syntax.tnil) Syntax.ttnil)))))))))))))))) Syntax.tnil) Syntax.ttnil))),
-    ) (List._∷_ (11, Rows'.any-gone (Syntax.tyArray (Syntax.tyInt Syntax.w64) 4)) (List._∷_ (
-      12,
-      Rows'.any-gone (Syntax.tyRef
-          Syntax.erased Syntax.mut (Syntax.tyInt Syntax.w16)),
-    ) (List._∷_ (13, Mut.mslice (Referent.rtF (Referent.fInt Syntax.w16)) (Syntax.tyRef Syntax.erased Syntax.mut (Syntax.tyInt Syntax.w16)) 6)
-    (List._∷_ (14, Rows'.any-gone (Syntax.tyRef Syntax.erased Syntax.mut (Syntax.tyInt Syntax.w16))) (List._∷_ (
-      15,
-      Mut.mslice (Referent.rtF (Referent.fInt Syntax.w16)) (Syntax.tyRef Syntax.erased
-          Syntax.mut (Syntax.tyInt Syntax.w16)) 7,
-    ) List.[])))))))))))))))
+t7 = List._∷_ e0 (List._∷_ e2 (List._∷_ e20 (List._∷_ e21 (List._∷_ e22 (List._∷_ e24 (List._∷_ e26 (List._∷_ e27 (List._∷_ e29 (List._∷_ e31 (List._∷_ e3 (List._∷_ e5 (List._∷_ e8 (List._∷_ e10
+    (List._∷_ e13 (List._∷_ e15 List.[])))))))))))))))
 
 abbrev pub t8 : List.List Row.Entry
-t8 = List._∷_ (0, Rows'.any-gone Syntax.tyUnit) (List._∷_ (1, Rows'.sslice (Referent.rtF (Referent.fInt Syntax.w8)) (Syntax.tyRef (Syntax.named 0) Syntax.imm (Syntax.tyInt Syntax.w8)) 0) (List._∷_
-    (2, Rows'.sc-here (Row.sInt Syntax.w64)) (List._∷_ (3, Rows'.sc-here (Row.sInt Syntax.w64)) (List._∷_ (
-      4,
-      Rows'.sref (Array'.Array (Referent.rtF (Referent.fInt Syntax.w8)) 36) (Syntax.tyRef
-          (Syntax.named 1) Syntax.imm (Syntax.tyArray (Syntax.tyInt Syntax.w8) 36)) 1,
-    ) (List._∷_ (
-      5,
-      Relend.mslice-owed (Referent.rtF (Referent.fInt Syntax.w16)) (Syntax.tyRef (Syntax.named 2) Syntax.mut
-          (Syntax.tyInt Syntax.w16)) 2 6 Row.off,
-    ) (List._∷_ (
-      6,
-      Relend.mslice-owed (Referent.rtF (Referent.fInt Syntax.w16)) (Syntax.tyRef (Syntax.named 3) Syntax.mut (Syntax.tyInt Syntax.w16)) 3 7 Row.off,
-    ) (List._∷_ (7, Relend.mslice-owed (Element.type) (Syntax.tyRef (Syntax.named 4) Syntax.mut Element.behind) 4 8 Row.off) (List._∷_ (
-      8,
-      Rows'.mref (Array'.Array (Referent.rtF (Referent.fInt
-          Syntax.w64)) 4) (Syntax.tyRef (Syntax.named 5) Syntax.mut (Syntax.tyArray (Syntax.tyInt Syntax.w64) 4)) 5,
-    ) (List._∷_ (9, Rows.arrF (Referent.rtF (Referent.fInt Syntax.w8)) 36 0) (List._∷_ (
-      10,
-      Rows'.any-gone (Syntax.tyEnum (List._∷_ 98 (List._∷_ 108 (List._∷_ 111 (List._∷_ 99 (List._∷_ 107 (List._∷_ 58 (List._∷_ 58 (List._∷_ 68 (List._∷_ 101 (List._∷_ 99 (List._∷_ 111 (List._∷_ 100
-          (List._∷_ 101 (List._∷_ 100 List.[])))))))))))))) (Syntax.ttcons Syntax.tnil (Syntax.ttcons (Syntax.tcons (Syntax.tyEnum (List._∷_ 115 (List._∷_ 116 (List._∷_ 114 (List._∷_ 101 (List._∷_ 97 (List._∷_
-          109 (List._∷_ 58 (List._∷_ 58 (List._∷_ 82 (List._∷_ 101 (List._∷_ 102 (List._∷_ 117 (List._∷_ 115 (List._∷_ 97 (List._∷_ 108 List.[]))))))))))))))) (Syntax.ttcons Syntax.tnil (Syntax.ttcons
-          Syntax.tnil (Syntax.ttcons Syntax.tnil (Syntax.ttcons (Syntax.tcons (Syntax.tyInt Syntax.w64) Syntax.tnil) (Syntax.ttcons Syntax.tnil (Syntax.ttcons Syntax.tnil (Syntax.ttcons Syntax.tnil
-          (Syntax.ttcons Syntax.tnil (Syntax.ttcons Syntax.tnil (Syntax.ttcons Syntax.tnil (Syntax.ttcons (Syntax.tcons (Syntax.tyInt Syntax.w64) Syntax.tnil) (Syntax.ttcons (Syntax.tcons (Syntax.tyInt
-          Syntax.w64) Syntax.tnil) (Syntax.ttcons Syntax.tnil (Syntax.ttcons (Syntax.tcons (Syntax.tyInt Syntax.w64) (Syntax.tcons (Syntax.tyInt Syntax.w64) Syntax.tnil)) (Syntax.ttcons (Syntax.tcons
-          (Syntax.tyInt Syntax.w64) Syntax.tnil) Syntax.ttnil)))))))))))))))) Syntax.tnil) Syntax.ttnil))),
-    ) (List._∷_ (11, Rows'.any-gone (Syntax.tyArray (Syntax.tyInt Syntax.w64) 4)) (List._∷_ (
-      12,
-      Rows'.any-gone (Syntax.tyRef Syntax.erased Syntax.mut (Syntax.tyInt Syntax.w16)),
-    ) (List._∷_ (
-      13,
-      Mut.mslice (Referent.rtF (Referent.fInt Syntax.w16)) (Syntax.tyRef Syntax.erased Syntax.mut
-          (Syntax.tyInt Syntax.w16)) 6,
-    ) (List._∷_ (14, Rows'.any-gone (Syntax.tyRef Syntax.erased Syntax.mut (Syntax.tyInt Syntax.w16))) (List._∷_ (
-      15,
-      Mut.mslice (Referent.rtF (Referent.fInt Syntax.w16))
-          (Syntax.tyRef Syntax.erased Syntax.mut (Syntax.tyInt Syntax.w16)) 7,
-    ) List.[])))))))))))))))
+t8 = List._∷_ e0 (List._∷_ e2 (List._∷_ e20 (List._∷_ e21 (List._∷_ e22 (List._∷_ e24 (List._∷_ e26 (List._∷_ e28 (List._∷_ e29 (List._∷_ e31 (List._∷_ e3 (List._∷_ e5 (List._∷_ e8 (List._∷_ e10
+    (List._∷_ e13 (List._∷_ e15 List.[])))))))))))))))
 
 abbrev pub t9 : List.List Row.Entry
-t9 = List._∷_ (16, Relend.msptr (Element.type) (Syntax.tyRef Syntax.erased Syntax.mut Element.behind) 8) (List._∷_ (
-  17,
-  Rows'.any-gone (Syntax.tyStruct (List._∷_ 38 (List._∷_ 91 (List._∷_ 93
-      List.[]))) (Syntax.tcons (Syntax.tyRef Syntax.erased Syntax.mut Element.behind) (Syntax.tcons (Syntax.tyInt Syntax.w64) Syntax.tnil))),
-) List.[])
+t9 = List._∷_ (16, Relend.msptr (Element.type) (Syntax.tyRef Syntax.erased Syntax.mut Element.behind) 8) (List._∷_ e18 List.[])
 
 abbrev pub t10 : List.List Row.Entry
-t10 = List._∷_ (16, Rows'.any-gone (Syntax.tyRef Syntax.erased Syntax.mut Element.behind)) (List._∷_ (17, Mut.mslice (Element.type) (Syntax.tyRef Syntax.erased Syntax.mut Element.behind) 8)
-    List.[])
+t10 = List._∷_ e17 (List._∷_ (17, Mut.mslice (Element.type) (Syntax.tyRef Syntax.erased Syntax.mut Element.behind) 8) List.[])
 
 abbrev pub t11 : List.List Row.Entry
-t11 = List._∷_ (0, Rows'.any-gone Syntax.tyUnit) (List._∷_ (1, Rows'.sslice (Referent.rtF (Referent.fInt Syntax.w8)) (Syntax.tyRef (Syntax.named 0) Syntax.imm (Syntax.tyInt Syntax.w8)) 0) (List._∷_
-    (2, Rows'.sc-here (Row.sInt Syntax.w64)) (List._∷_ (3, Rows'.sc-here (Row.sInt Syntax.w64)) (List._∷_ (
-      4,
-      Rows'.sref (Array'.Array (Referent.rtF (Referent.fInt Syntax.w8)) 36) (Syntax.tyRef
-          (Syntax.named 1) Syntax.imm (Syntax.tyArray (Syntax.tyInt Syntax.w8) 36)) 1,
-    ) (List._∷_ (
-      5,
-      Relend.mslice-owed (Referent.rtF (Referent.fInt Syntax.w16)) (Syntax.tyRef (Syntax.named 2) Syntax.mut
-          (Syntax.tyInt Syntax.w16)) 2 6 Row.off,
-    ) (List._∷_ (
-      6,
-      Relend.mslice-owed (Referent.rtF (Referent.fInt Syntax.w16)) (Syntax.tyRef (Syntax.named 3) Syntax.mut (Syntax.tyInt Syntax.w16)) 3 7 Row.off,
-    ) (List._∷_ (7, Relend.mslice-owed (Element.type) (Syntax.tyRef (Syntax.named 4) Syntax.mut Element.behind) 4 8 Row.off) (List._∷_ (
-      8,
-      Rows'.mref (Array'.Array (Referent.rtF (Referent.fInt
-          Syntax.w64)) 4) (Syntax.tyRef (Syntax.named 5) Syntax.mut (Syntax.tyArray (Syntax.tyInt Syntax.w64) 4)) 5,
-    ) (List._∷_ (9, Rows.arrF (Referent.rtF (Referent.fInt Syntax.w8)) 36 0) (List._∷_ (
-      10,
-      Rows'.whole (Declared.row Decoded.the-type),
-    ) (List._∷_ (11, Rows'.any-gone (Syntax.tyArray (Syntax.tyInt Syntax.w64) 4)) (List._∷_ (
-      12,
-      Rows'.any-gone (Syntax.tyRef Syntax.erased Syntax.mut
-          (Syntax.tyInt Syntax.w16)),
-    ) (List._∷_ (13, Mut.msleft (Referent.rtF (Referent.fInt Syntax.w16)) (Syntax.tyRef Syntax.erased Syntax.mut (Syntax.tyInt Syntax.w16))) (List._∷_ (
-      14,
-      Rows'.any-gone
-          (Syntax.tyRef Syntax.erased Syntax.mut (Syntax.tyInt Syntax.w16)),
-    ) (List._∷_ (
-      15,
-      Mut.msleft (Referent.rtF (Referent.fInt Syntax.w16)) (Syntax.tyRef Syntax.erased Syntax.mut (Syntax.tyInt
-          Syntax.w16)),
-    ) List.[])))))))))))))))
+t11 = List._∷_ e0 (List._∷_ e2 (List._∷_ e20 (List._∷_ e21 (List._∷_ e22 (List._∷_ e24 (List._∷_ e26 (List._∷_ e28 (List._∷_ e29 (List._∷_ e31 (List._∷_ e4 (List._∷_ e5 (List._∷_ e8 (List._∷_ e9
+    (List._∷_ e13 (List._∷_ e14 List.[])))))))))))))))
 
 abbrev pub t12 : List.List Row.Entry
-t12 = List._∷_ (16, Rows'.any-gone (Syntax.tyRef Syntax.erased Syntax.mut Element.behind)) (List._∷_ (17, Mut.msleft (Element.type) (Syntax.tyRef Syntax.erased Syntax.mut Element.behind))
-    List.[])
+t12 = List._∷_ e17 (List._∷_ (17, Mut.msleft (Element.type) (Syntax.tyRef Syntax.erased Syntax.mut Element.behind)) List.[])
 
 abbrev pub t13 : List.List Row.Entry
-t13 = List._∷_ (0, Rows'.any-gone Syntax.tyUnit) (List._∷_ (1, Rows'.sslice (Referent.rtF (Referent.fInt Syntax.w8)) (Syntax.tyRef (Syntax.named 0) Syntax.imm (Syntax.tyInt Syntax.w8)) 0) (List._∷_
-    (2, Rows'.sc-here (Row.sInt Syntax.w64)) (List._∷_ (3, Rows'.sc-here (Row.sInt Syntax.w64)) (List._∷_ (
-      4,
-      Rows'.sref (Array'.Array (Referent.rtF (Referent.fInt Syntax.w8)) 36) (Syntax.tyRef
-          (Syntax.named 1) Syntax.imm (Syntax.tyArray (Syntax.tyInt Syntax.w8) 36)) 1,
-    ) (List._∷_ (
-      5,
-      Relend.mslice-owed (Referent.rtF (Referent.fInt Syntax.w16)) (Syntax.tyRef (Syntax.named 2) Syntax.mut
-          (Syntax.tyInt Syntax.w16)) 2 6 Row.off,
-    ) (List._∷_ (
-      6,
-      Relend.mslice-owed (Referent.rtF (Referent.fInt Syntax.w16)) (Syntax.tyRef (Syntax.named 3) Syntax.mut (Syntax.tyInt Syntax.w16)) 3 7 Row.off,
-    ) (List._∷_ (7, Relend.mslice-owed (Element.type) (Syntax.tyRef (Syntax.named 4) Syntax.mut Element.behind) 4 8 Row.off) (List._∷_ (
-      8,
-      Rows'.mref (Array'.Array (Referent.rtF (Referent.fInt
-          Syntax.w64)) 4) (Syntax.tyRef (Syntax.named 5) Syntax.mut (Syntax.tyArray (Syntax.tyInt Syntax.w64) 4)) 5,
-    ) (List._∷_ (9, Rows'.any-gone (Syntax.tyArray (Syntax.tyInt Syntax.w8) 36)) (List._∷_ (
-      10,
-      Rows'.whole (Declared.row Decoded.the-type),
-    ) (List._∷_ (11, Rows'.any-gone (Syntax.tyArray (Syntax.tyInt Syntax.w64) 4)) (List._∷_ (
-      12,
-      Rows'.any-gone (Syntax.tyRef Syntax.erased Syntax.mut
-          (Syntax.tyInt Syntax.w16)),
-    ) (List._∷_ (13, Mut.msleft (Referent.rtF (Referent.fInt Syntax.w16)) (Syntax.tyRef Syntax.erased Syntax.mut (Syntax.tyInt Syntax.w16))) (List._∷_ (
-      14,
-      Rows'.any-gone
-          (Syntax.tyRef Syntax.erased Syntax.mut (Syntax.tyInt Syntax.w16)),
-    ) (List._∷_ (
-      15,
-      Mut.msleft (Referent.rtF (Referent.fInt Syntax.w16)) (Syntax.tyRef Syntax.erased Syntax.mut (Syntax.tyInt
-          Syntax.w16)),
-    ) List.[])))))))))))))))
+t13 = List._∷_ e0 (List._∷_ e2 (List._∷_ e20 (List._∷_ e21 (List._∷_ e22 (List._∷_ e24 (List._∷_ e26 (List._∷_ e28 (List._∷_ e29 (List._∷_ e30 (List._∷_ e4 (List._∷_ e5 (List._∷_ e8 (List._∷_ e9
+    (List._∷_ e13 (List._∷_ e14 List.[])))))))))))))))
 
 abbrev pub t14 : List.List Row.Entry
-t14 = List._∷_ (0, Rows'.any-gone Syntax.tyUnit) (List._∷_ (1, Rows'.sslice (Referent.rtF (Referent.fInt Syntax.w8)) (Syntax.tyRef (Syntax.named 0) Syntax.imm (Syntax.tyInt Syntax.w8)) 0) (List._∷_
-    (2, Rows'.sc-here (Row.sInt Syntax.w64)) (List._∷_ (3, Rows'.sc-here (Row.sInt Syntax.w64)) (List._∷_ (
-      4,
-      Rows'.sref (Array'.Array (Referent.rtF (Referent.fInt Syntax.w8)) 36) (Syntax.tyRef
-          (Syntax.named 1) Syntax.imm (Syntax.tyArray (Syntax.tyInt Syntax.w8) 36)) 1,
-    ) (List._∷_ (
-      5,
-      Mut.mslice (Referent.rtF (Referent.fInt Syntax.w16)) (Syntax.tyRef (Syntax.named 2) Syntax.mut
-          (Syntax.tyInt Syntax.w16)) 2,
-    ) (List._∷_ (6, Relend.mslice-owed (Referent.rtF (Referent.fInt Syntax.w16)) (Syntax.tyRef (Syntax.named 3) Syntax.mut (Syntax.tyInt Syntax.w16)) 3 7 Row.off)
-    (List._∷_ (7, Relend.mslice-owed (Element.type) (Syntax.tyRef (Syntax.named 4) Syntax.mut Element.behind) 4 8 Row.off) (List._∷_ (
-      8,
-      Rows'.mref (Array'.Array (Referent.rtF (Referent.fInt
-          Syntax.w64)) 4) (Syntax.tyRef (Syntax.named 5) Syntax.mut (Syntax.tyArray (Syntax.tyInt Syntax.w64) 4)) 5,
-    ) (List._∷_ (9, Rows'.any-gone (Syntax.tyArray (Syntax.tyInt Syntax.w8) 36)) (List._∷_ (
-      10,
-      Rows'.whole (Declared.row Decoded.the-type),
-    ) (List._∷_ (11, Rows'.any-gone (Syntax.tyArray (Syntax.tyInt Syntax.w64) 4)) (List._∷_ (
-      12,
-      Rows'.any-gone (Syntax.tyRef Syntax.erased Syntax.mut
-          (Syntax.tyInt Syntax.w16)),
-    ) (List._∷_ (
-      13,
-      Rows'.any-gone (Syntax.tyStruct (List._∷_ 38 (List._∷_ 91 (List._∷_ 93 List.[]))) (Syntax.tcons (Syntax.tyRef Syntax.erased Syntax.mut (Syntax.tyInt
-          Syntax.w16)) (Syntax.tcons (Syntax.tyInt Syntax.w64) Syntax.tnil))),
-    ) (List._∷_ (14, Rows'.any-gone (Syntax.tyRef Syntax.erased Syntax.mut (Syntax.tyInt Syntax.w16))) (List._∷_ (
-      15,
-      Mut.msleft
-          (Referent.rtF (Referent.fInt Syntax.w16)) (Syntax.tyRef Syntax.erased Syntax.mut (Syntax.tyInt Syntax.w16)),
-    ) List.[])))))))))))))))
+t14 = List._∷_ e0 (List._∷_ e2 (List._∷_ e20 (List._∷_ e21 (List._∷_ e22 (List._∷_ e23 (List._∷_ e26 (List._∷_ e28 (List._∷_ e29 (List._∷_ e30 (List._∷_ e4 (List._∷_ e5 (List._∷_ e8 (List._∷_ e11
+    (List._∷_ e13 (List._∷_ e14 List.[])))))))))))))))
 
 abbrev pub t15 : List.List Row.Entry
-t15 = List._∷_ (0, Rows'.any-gone Syntax.tyUnit) (List._∷_ (1, Rows'.sslice (Referent.rtF (Referent.fInt Syntax.w8)) (Syntax.tyRef (Syntax.named 0) Syntax.imm (Syntax.tyInt Syntax.w8)) 0) (List._∷_
-    (2, Rows'.sc-here (Row.sInt Syntax.w64)) (List._∷_ (3, Rows'.sc-here (Row.sInt Syntax.w64)) (List._∷_ (
-      4,
-      Rows'.sref (Array'.Array (Referent.rtF (Referent.fInt Syntax.w8)) 36) (Syntax.tyRef
-          (Syntax.named 1) Syntax.imm (Syntax.tyArray (Syntax.tyInt Syntax.w8) 36)) 1,
-    ) (List._∷_ (
-      5,
-      Mut.mslice (Referent.rtF (Referent.fInt Syntax.w16)) (Syntax.tyRef (Syntax.named 2) Syntax.mut
-          (Syntax.tyInt Syntax.w16)) 2,
-    ) (List._∷_ (6, Mut.mslice (Referent.rtF (Referent.fInt Syntax.w16)) (Syntax.tyRef (Syntax.named 3) Syntax.mut (Syntax.tyInt Syntax.w16)) 3) (List._∷_ (
-      7,
-      Relend.mslice-owed (Element.type) (Syntax.tyRef (Syntax.named 4) Syntax.mut Element.behind) 4 8 Row.off,
-    ) (List._∷_ (
-      8,
-      Rows'.mref (Array'.Array (Referent.rtF (Referent.fInt Syntax.w64)) 4)
-          (Syntax.tyRef (Syntax.named 5) Syntax.mut (Syntax.tyArray (Syntax.tyInt Syntax.w64) 4)) 5,
-    ) (List._∷_ (9, Rows'.any-gone (Syntax.tyArray (Syntax.tyInt Syntax.w8) 36)) (List._∷_ (
-      10,
-      Rows'.whole
-          (Declared.row Decoded.the-type),
-    ) (List._∷_ (11, Rows'.any-gone (Syntax.tyArray (Syntax.tyInt Syntax.w64) 4)) (List._∷_ (
-      12,
-      Rows'.any-gone (Syntax.tyRef Syntax.erased Syntax.mut (Syntax.tyInt
-          Syntax.w16)),
-    ) (List._∷_ (
-      13,
-      Rows'.any-gone (Syntax.tyStruct (List._∷_ 38 (List._∷_ 91 (List._∷_ 93 List.[]))) (Syntax.tcons (Syntax.tyRef Syntax.erased Syntax.mut (Syntax.tyInt Syntax.w16))
-          (Syntax.tcons (Syntax.tyInt Syntax.w64) Syntax.tnil))),
-    ) (List._∷_ (14, Rows'.any-gone (Syntax.tyRef Syntax.erased Syntax.mut (Syntax.tyInt Syntax.w16))) (List._∷_ (
-      15,
-      Rows'.any-gone
-          (Syntax.tyStruct (List._∷_ 38 (List._∷_ 91 (List._∷_ 93 List.[]))) (Syntax.tcons (Syntax.tyRef Syntax.erased Syntax.mut (Syntax.tyInt Syntax.w16)) (Syntax.tcons (Syntax.tyInt Syntax.w64)
-          Syntax.tnil))),
-    ) List.[])))))))))))))))
+t15 = List._∷_ e0 (List._∷_ e2 (List._∷_ e20 (List._∷_ e21 (List._∷_ e22 (List._∷_ e23 (List._∷_ e25 (List._∷_ e28 (List._∷_ e29 (List._∷_ e30 (List._∷_ e4 (List._∷_ e5 (List._∷_ e8 (List._∷_ e11
+    (List._∷_ e13 (List._∷_ e16 List.[])))))))))))))))
 
 abbrev pub t16 : List.List Row.Entry
-t16 = List._∷_ (0, Rows'.any-gone Syntax.tyUnit) (List._∷_ (1, Rows'.sslice (Referent.rtF (Referent.fInt Syntax.w8)) (Syntax.tyRef (Syntax.named 0) Syntax.imm (Syntax.tyInt Syntax.w8)) 0) (List._∷_
-    (2, Rows'.sc-here (Row.sInt Syntax.w64)) (List._∷_ (3, Rows'.sc-here (Row.sInt Syntax.w64)) (List._∷_ (
-      4,
-      Rows'.sref (Array'.Array (Referent.rtF (Referent.fInt Syntax.w8)) 36) (Syntax.tyRef
-          (Syntax.named 1) Syntax.imm (Syntax.tyArray (Syntax.tyInt Syntax.w8) 36)) 1,
-    ) (List._∷_ (
-      5,
-      Mut.mslice (Referent.rtF (Referent.fInt Syntax.w16)) (Syntax.tyRef (Syntax.named 2) Syntax.mut
-          (Syntax.tyInt Syntax.w16)) 2,
-    ) (List._∷_ (6, Mut.mslice (Referent.rtF (Referent.fInt Syntax.w16)) (Syntax.tyRef (Syntax.named 3) Syntax.mut (Syntax.tyInt Syntax.w16)) 3) (List._∷_ (
-      7,
-      Mut.mslice
-          (Element.type) (Syntax.tyRef (Syntax.named 4) Syntax.mut Element.behind) 4,
-    ) (List._∷_ (
-      8,
-      Rows'.mref (Array'.Array (Referent.rtF (Referent.fInt Syntax.w64)) 4) (Syntax.tyRef (Syntax.named 5)
-          Syntax.mut (Syntax.tyArray (Syntax.tyInt Syntax.w64) 4)) 5,
-    ) (List._∷_ (9, Rows'.any-gone (Syntax.tyArray (Syntax.tyInt Syntax.w8) 36)) (List._∷_ (10, Rows'.whole (Declared.row Decoded.the-type))
-    (List._∷_ (11, Rows'.any-gone (Syntax.tyArray (Syntax.tyInt Syntax.w64) 4)) (List._∷_ (12, Rows'.any-gone (Syntax.tyRef Syntax.erased Syntax.mut (Syntax.tyInt Syntax.w16))) (List._∷_ (
-      13,
-      Rows'.any-gone (Syntax.tyStruct (List._∷_ 38 (List._∷_ 91 (List._∷_ 93 List.[]))) (Syntax.tcons (Syntax.tyRef Syntax.erased Syntax.mut (Syntax.tyInt Syntax.w16)) (Syntax.tcons (Syntax.tyInt
-          Syntax.w64) Syntax.tnil))),
-    ) (List._∷_ (14, Rows'.any-gone (Syntax.tyRef Syntax.erased Syntax.mut (Syntax.tyInt Syntax.w16))) (List._∷_ (
-      15,
-      Rows'.any-gone (Syntax.tyStruct (List._∷_ 38 (List._∷_
-          91 (List._∷_ 93 List.[]))) (Syntax.tcons (Syntax.tyRef Syntax.erased Syntax.mut (Syntax.tyInt Syntax.w16)) (Syntax.tcons (Syntax.tyInt Syntax.w64) Syntax.tnil))),
-    ) List.[])))))))))))))))
+t16 = List._∷_ e0 (List._∷_ e2 (List._∷_ e20 (List._∷_ e21 (List._∷_ e22 (List._∷_ e23 (List._∷_ e25 (List._∷_ e27 (List._∷_ e29 (List._∷_ e30 (List._∷_ e4 (List._∷_ e5 (List._∷_ e8 (List._∷_ e11
+    (List._∷_ e13 (List._∷_ e16 List.[])))))))))))))))
 
 abbrev pub t17 : List.List Row.Entry
-t17 = List._∷_ (0, Rows'.any-gone Syntax.tyUnit) (List._∷_ (1, Rows'.sslice (Referent.rtF (Referent.fInt Syntax.w8)) (Syntax.tyRef (Syntax.named 0) Syntax.imm (Syntax.tyInt Syntax.w8)) 0) (List._∷_
-    (2, Rows'.sc-here (Row.sInt Syntax.w64)) (List._∷_ (3, Rows'.sc-here (Row.sInt Syntax.w64)) (List._∷_ (
-      4,
-      Rows'.sref (Array'.Array (Referent.rtF (Referent.fInt Syntax.w8)) 36) (Syntax.tyRef
-          (Syntax.named 1) Syntax.imm (Syntax.tyArray (Syntax.tyInt Syntax.w8) 36)) 1,
-    ) (List._∷_ (
-      5,
-      Mut.mslice (Referent.rtF (Referent.fInt Syntax.w16)) (Syntax.tyRef (Syntax.named 2) Syntax.mut
-          (Syntax.tyInt Syntax.w16)) 2,
-    ) (List._∷_ (6, Mut.mslice (Referent.rtF (Referent.fInt Syntax.w16)) (Syntax.tyRef (Syntax.named 3) Syntax.mut (Syntax.tyInt Syntax.w16)) 3) (List._∷_ (
-      7,
-      Mut.mslice
-          (Element.type) (Syntax.tyRef (Syntax.named 4) Syntax.mut Element.behind) 4,
-    ) (List._∷_ (
-      8,
-      Rows'.mref (Array'.Array (Referent.rtF (Referent.fInt Syntax.w64)) 4) (Syntax.tyRef (Syntax.named 5)
-          Syntax.mut (Syntax.tyArray (Syntax.tyInt Syntax.w64) 4)) 5,
-    ) (List._∷_ (9, Rows'.any-gone (Syntax.tyArray (Syntax.tyInt Syntax.w8) 36)) (List._∷_ (10, Rows'.whole (Declared.row Decoded.the-type))
-    (List._∷_ (11, Rows.arrF (Referent.rtF (Referent.fInt Syntax.w64)) 4 0) (List._∷_ (12, Rows'.any-gone (Syntax.tyRef Syntax.erased Syntax.mut (Syntax.tyInt Syntax.w16))) (List._∷_ (
-      13,
-      Rows'.any-gone (Syntax.tyStruct (List._∷_ 38 (List._∷_ 91 (List._∷_ 93 List.[]))) (Syntax.tcons (Syntax.tyRef Syntax.erased Syntax.mut (Syntax.tyInt Syntax.w16)) (Syntax.tcons (Syntax.tyInt
-          Syntax.w64) Syntax.tnil))),
-    ) (List._∷_ (14, Rows'.any-gone (Syntax.tyRef Syntax.erased Syntax.mut (Syntax.tyInt Syntax.w16))) (List._∷_ (
-      15,
-      Rows'.any-gone (Syntax.tyStruct (List._∷_ 38 (List._∷_
-          91 (List._∷_ 93 List.[]))) (Syntax.tcons (Syntax.tyRef Syntax.erased Syntax.mut (Syntax.tyInt Syntax.w16)) (Syntax.tcons (Syntax.tyInt Syntax.w64) Syntax.tnil))),
-    ) List.[])))))))))))))))
+t17 = List._∷_ e0 (List._∷_ e2 (List._∷_ e20 (List._∷_ e21 (List._∷_ e22 (List._∷_ e23 (List._∷_ e25 (List._∷_ e27 (List._∷_ e29 (List._∷_ e30 (List._∷_ e4 (List._∷_ e6 (List._∷_ e8 (List._∷_ e11
+    (List._∷_ e13 (List._∷_ e16 List.[])))))))))))))))
 
 abbrev pub t18 : List.List Row.Entry
-t18 = List._∷_ (0, Rows'.any-gone Syntax.tyUnit) (List._∷_ (1, Rows'.sslice (Referent.rtF (Referent.fInt Syntax.w8)) (Syntax.tyRef (Syntax.named 0) Syntax.imm (Syntax.tyInt Syntax.w8)) 0) (List._∷_
-    (2, Rows'.sc-here (Row.sInt Syntax.w64)) (List._∷_ (3, Rows'.sc-here (Row.sInt Syntax.w64)) (List._∷_ (
-      4,
-      Rows'.sref (Array'.Array (Referent.rtF (Referent.fInt Syntax.w8)) 36) (Syntax.tyRef
-          (Syntax.named 1) Syntax.imm (Syntax.tyArray (Syntax.tyInt Syntax.w8) 36)) 1,
-    ) (List._∷_ (
-      5,
-      Mut.mslice (Referent.rtF (Referent.fInt Syntax.w16)) (Syntax.tyRef (Syntax.named 2) Syntax.mut
-          (Syntax.tyInt Syntax.w16)) 2,
-    ) (List._∷_ (6, Mut.mslice (Referent.rtF (Referent.fInt Syntax.w16)) (Syntax.tyRef (Syntax.named 3) Syntax.mut (Syntax.tyInt Syntax.w16)) 3) (List._∷_ (
-      7,
-      Mut.mslice
-          (Element.type) (Syntax.tyRef (Syntax.named 4) Syntax.mut Element.behind) 4,
-    ) (List._∷_ (
-      8,
-      Rows'.mref (Array'.Array (Referent.rtF (Referent.fInt Syntax.w64)) 4) (Syntax.tyRef (Syntax.named 5)
-          Syntax.mut (Syntax.tyArray (Syntax.tyInt Syntax.w64) 4)) 5,
-    ) (List._∷_ (9, Rows'.any-gone (Syntax.tyArray (Syntax.tyInt Syntax.w8) 36)) (List._∷_ (
-      10,
-      Rows'.any-gone (Syntax.tyEnum (List._∷_ 98
-          (List._∷_ 108 (List._∷_ 111 (List._∷_ 99 (List._∷_ 107 (List._∷_ 58 (List._∷_ 58 (List._∷_ 68 (List._∷_ 101 (List._∷_ 99 (List._∷_ 111 (List._∷_ 100 (List._∷_ 101 (List._∷_ 100 List.[]))))))))))))))
-          (Syntax.ttcons Syntax.tnil (Syntax.ttcons (Syntax.tcons (Syntax.tyEnum (List._∷_ 115 (List._∷_ 116 (List._∷_ 114 (List._∷_ 101 (List._∷_ 97 (List._∷_ 109 (List._∷_ 58 (List._∷_ 58 (List._∷_ 82
-          (List._∷_ 101 (List._∷_ 102 (List._∷_ 117 (List._∷_ 115 (List._∷_ 97 (List._∷_ 108 List.[]))))))))))))))) (Syntax.ttcons Syntax.tnil (Syntax.ttcons Syntax.tnil (Syntax.ttcons Syntax.tnil
-          (Syntax.ttcons (Syntax.tcons (Syntax.tyInt Syntax.w64) Syntax.tnil) (Syntax.ttcons Syntax.tnil (Syntax.ttcons Syntax.tnil (Syntax.ttcons Syntax.tnil (Syntax.ttcons Syntax.tnil (Syntax.ttcons
-          Syntax.tnil (Syntax.ttcons Syntax.tnil (Syntax.ttcons (Syntax.tcons (Syntax.tyInt Syntax.w64) Syntax.tnil) (Syntax.ttcons (Syntax.tcons (Syntax.tyInt Syntax.w64) Syntax.tnil) (Syntax.ttcons
-          Syntax.tnil (Syntax.ttcons (Syntax.tcons (Syntax.tyInt Syntax.w64) (Syntax.tcons (Syntax.tyInt Syntax.w64) Syntax.tnil)) (Syntax.ttcons (Syntax.tcons (Syntax.tyInt Syntax.w64) Syntax.tnil)
-          Syntax.ttnil)))))))))))))))) Syntax.tnil) Syntax.ttnil))),
-    ) (List._∷_ (11, Rows.arrF (Referent.rtF (Referent.fInt Syntax.w64)) 4 0) (List._∷_ (
-      12,
-      Rows'.any-gone (Syntax.tyRef Syntax.erased
-          Syntax.mut (Syntax.tyInt Syntax.w16)),
-    ) (List._∷_ (
-      13,
-      Rows'.any-gone (Syntax.tyStruct (List._∷_ 38 (List._∷_ 91 (List._∷_ 93 List.[]))) (Syntax.tcons (Syntax.tyRef Syntax.erased Syntax.mut
-          (Syntax.tyInt Syntax.w16)) (Syntax.tcons (Syntax.tyInt Syntax.w64) Syntax.tnil))),
-    ) (List._∷_ (14, Rows'.any-gone (Syntax.tyRef Syntax.erased Syntax.mut (Syntax.tyInt Syntax.w16))) (List._∷_ (
-      15,
-      Rows'.any-gone (Syntax.tyStruct (List._∷_ 38 (List._∷_ 91 (List._∷_ 93 List.[]))) (Syntax.tcons (Syntax.tyRef Syntax.erased Syntax.mut (Syntax.tyInt Syntax.w16)) (Syntax.tcons (Syntax.tyInt
-          Syntax.w64) Syntax.tnil))),
-    ) List.[])))))))))))))))
+t18 = List._∷_ e0 (List._∷_ e2 (List._∷_ e20 (List._∷_ e21 (List._∷_ e22 (List._∷_ e23 (List._∷_ e25 (List._∷_ e27 (List._∷_ e29 (List._∷_ e30 (List._∷_ e3 (List._∷_ e6 (List._∷_ e8 (List._∷_ e11
+    (List._∷_ e13 (List._∷_ e16 List.[])))))))))))))))
 
 abbrev pub t19 : List.List Row.Entry
-t19 = List._∷_ (0, Rows'.sc-here Row.sUnit) (List._∷_ (1, Rows'.sslice (Referent.rtF (Referent.fInt Syntax.w8)) (Syntax.tyRef (Syntax.named 0) Syntax.imm (Syntax.tyInt Syntax.w8)) 0) (List._∷_ (
-  2,
-  Rows'.sc-here (Row.sInt Syntax.w64),
-) (List._∷_ (3, Rows'.sc-here (Row.sInt Syntax.w64)) (List._∷_ (
-  4,
-  Rows'.sref (Array'.Array (Referent.rtF (Referent.fInt Syntax.w8)) 36) (Syntax.tyRef
-      (Syntax.named 1) Syntax.imm (Syntax.tyArray (Syntax.tyInt Syntax.w8) 36)) 1,
-) (List._∷_ (
-  5,
-  Mut.mslice (Referent.rtF (Referent.fInt Syntax.w16)) (Syntax.tyRef (Syntax.named 2) Syntax.mut
-      (Syntax.tyInt Syntax.w16)) 2,
-) (List._∷_ (6, Mut.mslice (Referent.rtF (Referent.fInt Syntax.w16)) (Syntax.tyRef (Syntax.named 3) Syntax.mut (Syntax.tyInt Syntax.w16)) 3) (List._∷_ (
-  7,
-  Mut.mslice
-      (Element.type) (Syntax.tyRef (Syntax.named 4) Syntax.mut Element.behind) 4,
-) (List._∷_ (
-  8,
-  Rows'.mref (Array'.Array (Referent.rtF (Referent.fInt Syntax.w64)) 4) (Syntax.tyRef (Syntax.named 5)
-      Syntax.mut (Syntax.tyArray (Syntax.tyInt Syntax.w64) 4)) 5,
-) (List._∷_ (9, Rows'.any-gone (Syntax.tyArray (Syntax.tyInt Syntax.w8) 36)) (List._∷_ (
-  10,
-  Rows'.any-gone (Syntax.tyEnum (List._∷_ 98
-      (List._∷_ 108 (List._∷_ 111 (List._∷_ 99 (List._∷_ 107 (List._∷_ 58 (List._∷_ 58 (List._∷_ 68 (List._∷_ 101 (List._∷_ 99 (List._∷_ 111 (List._∷_ 100 (List._∷_ 101 (List._∷_ 100 List.[]))))))))))))))
-      (Syntax.ttcons Syntax.tnil (Syntax.ttcons (Syntax.tcons (Syntax.tyEnum (List._∷_ 115 (List._∷_ 116 (List._∷_ 114 (List._∷_ 101 (List._∷_ 97 (List._∷_ 109 (List._∷_ 58 (List._∷_ 58 (List._∷_ 82
-      (List._∷_ 101 (List._∷_ 102 (List._∷_ 117 (List._∷_ 115 (List._∷_ 97 (List._∷_ 108 List.[]))))))))))))))) (Syntax.ttcons Syntax.tnil (Syntax.ttcons Syntax.tnil (Syntax.ttcons Syntax.tnil
-      (Syntax.ttcons (Syntax.tcons (Syntax.tyInt Syntax.w64) Syntax.tnil) (Syntax.ttcons Syntax.tnil (Syntax.ttcons Syntax.tnil (Syntax.ttcons Syntax.tnil (Syntax.ttcons Syntax.tnil (Syntax.ttcons
-      Syntax.tnil (Syntax.ttcons Syntax.tnil (Syntax.ttcons (Syntax.tcons (Syntax.tyInt Syntax.w64) Syntax.tnil) (Syntax.ttcons (Syntax.tcons (Syntax.tyInt Syntax.w64) Syntax.tnil) (Syntax.ttcons
-      Syntax.tnil (Syntax.ttcons (Syntax.tcons (Syntax.tyInt Syntax.w64) (Syntax.tcons (Syntax.tyInt Syntax.w64) Syntax.tnil)) (Syntax.ttcons (Syntax.tcons (Syntax.tyInt Syntax.w64) Syntax.tnil)
-      Syntax.ttnil)))))))))))))))) Syntax.tnil) Syntax.ttnil))),
-) (List._∷_ (11, Rows'.any-gone (Syntax.tyArray (Syntax.tyInt Syntax.w64) 4)) (List._∷_ (
-  12,
-  Rows'.any-gone (Syntax.tyRef Syntax.erased
-      Syntax.mut (Syntax.tyInt Syntax.w16)),
-) (List._∷_ (
-  13,
-  Rows'.any-gone (Syntax.tyStruct (List._∷_ 38 (List._∷_ 91 (List._∷_ 93 List.[]))) (Syntax.tcons (Syntax.tyRef Syntax.erased Syntax.mut
-      (Syntax.tyInt Syntax.w16)) (Syntax.tcons (Syntax.tyInt Syntax.w64) Syntax.tnil))),
-) (List._∷_ (14, Rows'.any-gone (Syntax.tyRef Syntax.erased Syntax.mut (Syntax.tyInt Syntax.w16))) (List._∷_ (
-  15,
-  Rows'.any-gone (Syntax.tyStruct (List._∷_ 38 (List._∷_ 91 (List._∷_ 93 List.[]))) (Syntax.tcons (Syntax.tyRef Syntax.erased Syntax.mut (Syntax.tyInt Syntax.w16)) (Syntax.tcons (Syntax.tyInt
-      Syntax.w64) Syntax.tnil))),
-) List.[])))))))))))))))
+t19 = List._∷_ e1 (List._∷_ e2 (List._∷_ e20 (List._∷_ e21 (List._∷_ e22 (List._∷_ e23 (List._∷_ e25 (List._∷_ e27 (List._∷_ e29 (List._∷_ e30 (List._∷_ e3 (List._∷_ e5 (List._∷_ e8 (List._∷_ e11
+    (List._∷_ e13 (List._∷_ e16 List.[])))))))))))))))
 
 abbrev pub t20 : List.List Row.Entry
-t20 = List._∷_ (0, Rows'.sc-here Row.sUnit) (List._∷_ (1, Rows'.sslice (Referent.rtF (Referent.fInt Syntax.w8)) (Syntax.tyRef (Syntax.named 0) Syntax.imm (Syntax.tyInt Syntax.w8)) 0) (List._∷_ (
-  2,
-  Rows'.any-gone (Syntax.tyInt Syntax.w64),
-) (List._∷_ (3, Rows'.sc-here (Row.sInt Syntax.w64)) (List._∷_ (
-  4,
-  Rows'.sref (Array'.Array (Referent.rtF (Referent.fInt Syntax.w8)) 36) (Syntax.tyRef
-      (Syntax.named 1) Syntax.imm (Syntax.tyArray (Syntax.tyInt Syntax.w8) 36)) 1,
-) (List._∷_ (
-  5,
-  Mut.mslice (Referent.rtF (Referent.fInt Syntax.w16)) (Syntax.tyRef (Syntax.named 2) Syntax.mut
-      (Syntax.tyInt Syntax.w16)) 2,
-) (List._∷_ (6, Mut.mslice (Referent.rtF (Referent.fInt Syntax.w16)) (Syntax.tyRef (Syntax.named 3) Syntax.mut (Syntax.tyInt Syntax.w16)) 3) (List._∷_ (
-  7,
-  Mut.mslice
-      (Element.type) (Syntax.tyRef (Syntax.named 4) Syntax.mut Element.behind) 4,
-) (List._∷_ (
-  8,
-  Rows'.mref (Array'.Array (Referent.rtF (Referent.fInt Syntax.w64)) 4) (Syntax.tyRef (Syntax.named 5)
-      Syntax.mut (Syntax.tyArray (Syntax.tyInt Syntax.w64) 4)) 5,
-) (List._∷_ (9, Rows'.any-gone (Syntax.tyArray (Syntax.tyInt Syntax.w8) 36)) (List._∷_ (
-  10,
-  Rows'.any-gone (Syntax.tyEnum (List._∷_ 98
-      (List._∷_ 108 (List._∷_ 111 (List._∷_ 99 (List._∷_ 107 (List._∷_ 58 (List._∷_ 58 (List._∷_ 68 (List._∷_ 101 (List._∷_ 99 (List._∷_ 111 (List._∷_ 100 (List._∷_ 101 (List._∷_ 100 List.[]))))))))))))))
-      (Syntax.ttcons Syntax.tnil (Syntax.ttcons (Syntax.tcons (Syntax.tyEnum (List._∷_ 115 (List._∷_ 116 (List._∷_ 114 (List._∷_ 101 (List._∷_ 97 (List._∷_ 109 (List._∷_ 58 (List._∷_ 58 (List._∷_ 82
-      (List._∷_ 101 (List._∷_ 102 (List._∷_ 117 (List._∷_ 115 (List._∷_ 97 (List._∷_ 108 List.[]))))))))))))))) (Syntax.ttcons Syntax.tnil (Syntax.ttcons Syntax.tnil (Syntax.ttcons Syntax.tnil
-      (Syntax.ttcons (Syntax.tcons (Syntax.tyInt Syntax.w64) Syntax.tnil) (Syntax.ttcons Syntax.tnil (Syntax.ttcons Syntax.tnil (Syntax.ttcons Syntax.tnil (Syntax.ttcons Syntax.tnil (Syntax.ttcons
-      Syntax.tnil (Syntax.ttcons Syntax.tnil (Syntax.ttcons (Syntax.tcons (Syntax.tyInt Syntax.w64) Syntax.tnil) (Syntax.ttcons (Syntax.tcons (Syntax.tyInt Syntax.w64) Syntax.tnil) (Syntax.ttcons
-      Syntax.tnil (Syntax.ttcons (Syntax.tcons (Syntax.tyInt Syntax.w64) (Syntax.tcons (Syntax.tyInt Syntax.w64) Syntax.tnil)) (Syntax.ttcons (Syntax.tcons (Syntax.tyInt Syntax.w64) Syntax.tnil)
-      Syntax.ttnil)))))))))))))))) Syntax.tnil) Syntax.ttnil))),
-) (List._∷_ (11, Rows'.any-gone (Syntax.tyArray (Syntax.tyInt Syntax.w64) 4)) (List._∷_ (
-  12,
-  Rows'.any-gone (Syntax.tyRef Syntax.erased
-      Syntax.mut (Syntax.tyInt Syntax.w16)),
-) (List._∷_ (
-  13,
-  Rows'.any-gone (Syntax.tyStruct (List._∷_ 38 (List._∷_ 91 (List._∷_ 93 List.[]))) (Syntax.tcons (Syntax.tyRef Syntax.erased Syntax.mut
-      (Syntax.tyInt Syntax.w16)) (Syntax.tcons (Syntax.tyInt Syntax.w64) Syntax.tnil))),
-) (List._∷_ (14, Rows'.any-gone (Syntax.tyRef Syntax.erased Syntax.mut (Syntax.tyInt Syntax.w16))) (List._∷_ (
-  15,
-  Rows'.any-gone (Syntax.tyStruct (List._∷_ 38 (List._∷_ 91 (List._∷_ 93 List.[]))) (Syntax.tcons (Syntax.tyRef Syntax.erased Syntax.mut (Syntax.tyInt Syntax.w16)) (Syntax.tcons (Syntax.tyInt
-      Syntax.w64) Syntax.tnil))),
-) List.[])))))))))))))))
+t20 = List._∷_ e1 (List._∷_ e2 (List._∷_ e19 (List._∷_ e21 (List._∷_ e22 (List._∷_ e23 (List._∷_ e25 (List._∷_ e27 (List._∷_ e29 (List._∷_ e30 (List._∷_ e3 (List._∷_ e5 (List._∷_ e8 (List._∷_ e11
+    (List._∷_ e13 (List._∷_ e16 List.[])))))))))))))))
 
 abbrev pub T0 : Row.Cx
 T0 = record { locals = List._++_ t0 t1; slots = List.[] }
@@ -1008,32 +523,27 @@ module _ (claims· : Claims) where
     (
       Num.vAt 2 λ x. x,
       (
-        Num.vAt 3 λ
-            x. x,
+        Num.vAt 3 λ x. x,
         (
           record { pos = 9; st = List.[]; d = 0; at = λ x. x },
           (
             record { pos = 13; ty = Syntax.tyRef Syntax.erased Syntax.mut (Syntax.tyInt Syntax.w16); ref = λ x. x },
             (
-              record {
-                pos = 15;
-                ty =
-                    Syntax.tyRef Syntax.erased Syntax.mut (Syntax.tyInt Syntax.w16);
-                ref = λ x. x;
-              },
+              record { pos = 15; ty = Syntax.tyRef Syntax.erased Syntax.mut (Syntax.tyInt Syntax.w16); ref = λ x. x },
               (record { pos = 17; ty = Syntax.tyRef Syntax.erased Syntax.mut Element.behind; ref = λ x. x }, tt),
             ),
           ),
         ),
       ),
     ),
-  ) 10 (List._∷_ 0 (List._∷_ 6 (List._∷_ 7 (List._∷_ 8 List.[])))) (Syntax.tyEnum (List._∷_ 98 (List._∷_ 108 (List._∷_ 111 (List._∷_ 99 (List._∷_ 107 (List._∷_ 58 (List._∷_ 58 (List._∷_ 68
-      (List._∷_ 101 (List._∷_ 99 (List._∷_ 111 (List._∷_ 100 (List._∷_ 101 (List._∷_ 100 List.[])))))))))))))) (Syntax.ttcons Syntax.tnil (Syntax.ttcons (Syntax.tcons (Syntax.tyEnum (List._∷_ 115
-      (List._∷_ 116 (List._∷_ 114 (List._∷_ 101 (List._∷_ 97 (List._∷_ 109 (List._∷_ 58 (List._∷_ 58 (List._∷_ 82 (List._∷_ 101 (List._∷_ 102 (List._∷_ 117 (List._∷_ 115 (List._∷_ 97 (List._∷_ 108
-      List.[]))))))))))))))) (Syntax.ttcons Syntax.tnil (Syntax.ttcons Syntax.tnil (Syntax.ttcons Syntax.tnil (Syntax.ttcons (Syntax.tcons (Syntax.tyInt Syntax.w64) Syntax.tnil) (Syntax.ttcons Syntax.tnil
-      (Syntax.ttcons Syntax.tnil (Syntax.ttcons Syntax.tnil (Syntax.ttcons Syntax.tnil (Syntax.ttcons Syntax.tnil (Syntax.ttcons Syntax.tnil (Syntax.ttcons (Syntax.tcons (Syntax.tyInt Syntax.w64)
-      Syntax.tnil) (Syntax.ttcons (Syntax.tcons (Syntax.tyInt Syntax.w64) Syntax.tnil) (Syntax.ttcons Syntax.tnil (Syntax.ttcons (Syntax.tcons (Syntax.tyInt Syntax.w64) (Syntax.tcons (Syntax.tyInt
-      Syntax.w64) Syntax.tnil)) (Syntax.ttcons (Syntax.tcons (Syntax.tyInt Syntax.w64) Syntax.tnil) Syntax.ttnil)))))))))))))))) Syntax.tnil) Syntax.ttnil)))
+  ) 10 (List._∷_ 0 (List._∷_ 6 (List._∷_ 7 (List._∷_ 8 List.[])))) (Syntax.tyEnum (List._∷_ 98
+      (List._∷_ 108 (List._∷_ 111 (List._∷_ 99 (List._∷_ 107 (List._∷_ 58 (List._∷_ 58 (List._∷_ 68 (List._∷_ 101 (List._∷_ 99 (List._∷_ 111 (List._∷_ 100 (List._∷_ 101 (List._∷_ 100 List.[]))))))))))))))
+      (Syntax.ttcons Syntax.tnil (Syntax.ttcons (Syntax.tcons (Syntax.tyEnum (List._∷_ 115 (List._∷_ 116 (List._∷_ 114 (List._∷_ 101 (List._∷_ 97 (List._∷_ 109 (List._∷_ 58 (List._∷_ 58 (List._∷_ 82
+      (List._∷_ 101 (List._∷_ 102 (List._∷_ 117 (List._∷_ 115 (List._∷_ 97 (List._∷_ 108 List.[]))))))))))))))) (Syntax.ttcons Syntax.tnil (Syntax.ttcons Syntax.tnil (Syntax.ttcons Syntax.tnil
+      (Syntax.ttcons (Syntax.tcons (Syntax.tyInt Syntax.w64) Syntax.tnil) (Syntax.ttcons Syntax.tnil (Syntax.ttcons Syntax.tnil (Syntax.ttcons Syntax.tnil (Syntax.ttcons Syntax.tnil (Syntax.ttcons
+      Syntax.tnil (Syntax.ttcons Syntax.tnil (Syntax.ttcons (Syntax.tcons (Syntax.tyInt Syntax.w64) Syntax.tnil) (Syntax.ttcons (Syntax.tcons (Syntax.tyInt Syntax.w64) Syntax.tnil) (Syntax.ttcons
+      Syntax.tnil (Syntax.ttcons (Syntax.tcons (Syntax.tyInt Syntax.w64) (Syntax.tcons (Syntax.tyInt Syntax.w64) Syntax.tnil)) (Syntax.ttcons (Syntax.tcons (Syntax.tyInt Syntax.w64) Syntax.tnil)
+      Syntax.ttnil)))))))))))))))) Syntax.tnil) Syntax.ttnil)))
 
   abbrev s14 : Typed.Mo T15 → Typed.Mo T16
   s14 = Scalar.n-room T15 9 (Syntax.tyArray (Syntax.tyInt Syntax.w8) 36)
@@ -1202,653 +712,324 @@ module _ (claims· : Claims) where
 
       module _ (κs : Lifetimes.Lfts 6) (qs : Lifetimes.Shares 6) where
         abbrev g4 : List.List Row.Entry
-        g4 = List._∷_ (0, Rows'.any-gone Syntax.tyUnit) (List._∷_ (1, Rows'.sslice (Referent.rtF (Referent.fInt Syntax.w8)) (Syntax.tyRef (Syntax.named 0) Syntax.imm (Syntax.tyInt Syntax.w8)) 0)
-            (List._∷_ (2, Rows'.sc-here (Row.sInt Syntax.w64)) (List._∷_ (3, Rows'.sc-here (Row.sInt Syntax.w64)) (List._∷_ (
-              4,
-              Rows'.sref (Array'.Array (Referent.rtF (Referent.fInt Syntax.w8)) 36)
-                  (Syntax.tyRef (Syntax.named 1) Syntax.imm (Syntax.tyArray (Syntax.tyInt Syntax.w8) 36)) 1,
-            ) (List._∷_ (
-              5,
-              Relend.mslice-owed (Referent.rtF (Referent.fInt Syntax.w16)) (Syntax.tyRef
-                  (Syntax.named 2) Syntax.mut (Syntax.tyInt Syntax.w16)) 2 6 (Row.lease (κs .1 .1 .0) (qs .1 .1 .0)),
-            ) (List._∷_ (
-              6,
-              Mut.mslice (Referent.rtF (Referent.fInt Syntax.w16)) (Syntax.tyRef
-                  (Syntax.named 3) Syntax.mut (Syntax.tyInt Syntax.w16)) 3,
-            ) (List._∷_ (7, Mut.mslice (Element.type) (Syntax.tyRef (Syntax.named 4) Syntax.mut Element.behind) 4) (List._∷_ (
-              8,
-              Rows'.mref
-                  (Array'.Array (Referent.rtF (Referent.fInt Syntax.w64)) 4) (Syntax.tyRef (Syntax.named 5) Syntax.mut (Syntax.tyArray (Syntax.tyInt Syntax.w64) 4)) 5,
-            ) (List._∷_ (
-              9,
-              Rows.arrF (Referent.rtF
-                  (Referent.fInt Syntax.w8)) 36 0,
-            ) (List._∷_ (
-              10,
-              Rows'.any-gone (Syntax.tyEnum (List._∷_ 98 (List._∷_ 108 (List._∷_ 111 (List._∷_ 99 (List._∷_ 107 (List._∷_ 58 (List._∷_ 58 (List._∷_ 68
-                  (List._∷_ 101 (List._∷_ 99 (List._∷_ 111 (List._∷_ 100 (List._∷_ 101 (List._∷_ 100 List.[])))))))))))))) (Syntax.ttcons Syntax.tnil (Syntax.ttcons (Syntax.tcons (Syntax.tyEnum (List._∷_ 115
-                  (List._∷_ 116 (List._∷_ 114 (List._∷_ 101 (List._∷_ 97 (List._∷_ 109 (List._∷_ 58 (List._∷_ 58 (List._∷_ 82 (List._∷_ 101 (List._∷_ 102 (List._∷_ 117 (List._∷_ 115 (List._∷_ 97 (List._∷_ 108
-                  List.[]))))))))))))))) (Syntax.ttcons Syntax.tnil (Syntax.ttcons Syntax.tnil (Syntax.ttcons Syntax.tnil (Syntax.ttcons (Syntax.tcons (Syntax.tyInt Syntax.w64) Syntax.tnil) (Syntax.ttcons
-                  Syntax.tnil (Syntax.ttcons Syntax.tnil (Syntax.ttcons Syntax.tnil (Syntax.ttcons Syntax.tnil (Syntax.ttcons Syntax.tnil (Syntax.ttcons Syntax.tnil (Syntax.ttcons (Syntax.tcons (Syntax.tyInt
-                  Syntax.w64) Syntax.tnil) (Syntax.ttcons (Syntax.tcons (Syntax.tyInt Syntax.w64) Syntax.tnil) (Syntax.ttcons Syntax.tnil (Syntax.ttcons (Syntax.tcons (Syntax.tyInt Syntax.w64) (Syntax.tcons
-                  (Syntax.tyInt Syntax.w64) Syntax.tnil)) (Syntax.ttcons (Syntax.tcons (Syntax.tyInt Syntax.w64) Syntax.tnil) Syntax.ttnil)))))))))))))))) Syntax.tnil) Syntax.ttnil))),
-            ) (List._∷_ (
-              11,
-              Rows'.any-gone (Syntax.tyArray (Syntax.tyInt Syntax.w64) 4),
-            ) (List._∷_ (
-              12,
-              Relend.msptr (Referent.rtF (Referent.fInt Syntax.w16)) (Syntax.tyRef Syntax.erased Syntax.mut (Syntax.tyInt
-                  Syntax.w16)) 6,
-            ) (List._∷_ (
-              13,
-              Rows'.any-gone (Syntax.tyStruct (List._∷_ 38 (List._∷_ 91 (List._∷_ 93 List.[]))) (Syntax.tcons (Syntax.tyRef Syntax.erased Syntax.mut (Syntax.tyInt
-                  Syntax.w16)) (Syntax.tcons (Syntax.tyInt Syntax.w64) Syntax.tnil))),
-            ) (List._∷_ (14, Rows'.any-gone (Syntax.tyRef Syntax.erased Syntax.mut (Syntax.tyInt Syntax.w16))) (List._∷_ (
-              15,
-              Rows'.any-gone (Syntax.tyStruct (List._∷_ 38 (List._∷_ 91 (List._∷_ 93 List.[]))) (Syntax.tcons (Syntax.tyRef Syntax.erased Syntax.mut (Syntax.tyInt Syntax.w16)) (Syntax.tcons (Syntax.tyInt
-                  Syntax.w64) Syntax.tnil))),
-            ) List.[])))))))))))))))
+        g4 = List._∷_ e0 (List._∷_ e2 (List._∷_ e20 (List._∷_ e21 (List._∷_ e22 (List._∷_
+            (5, Relend.mslice-owed (Referent.rtF (Referent.fInt Syntax.w16)) (Syntax.tyRef (Syntax.named 2) Syntax.mut (Syntax.tyInt Syntax.w16)) 2 6 (Row.lease (κs .1 .1 .0) (qs .1 .1 .0))) (List._∷_ e25
+            (List._∷_ e27 (List._∷_ e29 (List._∷_ e31 (List._∷_ e3 (List._∷_ e5 (List._∷_ e7 (List._∷_ e11 (List._∷_ e13 (List._∷_ e16 List.[])))))))))))))))
 
         abbrev g5 : List.List Row.Entry
-        g5 = List._∷_ (0, Rows'.any-gone Syntax.tyUnit) (List._∷_ (1, Rows'.sslice (Referent.rtF (Referent.fInt Syntax.w8)) (Syntax.tyRef (Syntax.named 0) Syntax.imm (Syntax.tyInt Syntax.w8)) 0)
-            (List._∷_ (2, Rows'.sc-here (Row.sInt Syntax.w64)) (List._∷_ (3, Rows'.sc-here (Row.sInt Syntax.w64)) (List._∷_ (
-              4,
-              Rows'.sref (Array'.Array (Referent.rtF (Referent.fInt Syntax.w8)) 36)
-                  (Syntax.tyRef (Syntax.named 1) Syntax.imm (Syntax.tyArray (Syntax.tyInt Syntax.w8) 36)) 1,
-            ) (List._∷_ (
-              5,
-              Relend.mslice-owed (Referent.rtF (Referent.fInt Syntax.w16)) (Syntax.tyRef
-                  (Syntax.named 2) Syntax.mut (Syntax.tyInt Syntax.w16)) 2 6 (Row.lease (κs .1 .1 .0) (qs .1 .1 .0)),
-            ) (List._∷_ (
-              6,
-              Mut.mslice (Referent.rtF (Referent.fInt Syntax.w16)) (Syntax.tyRef
-                  (Syntax.named 3) Syntax.mut (Syntax.tyInt Syntax.w16)) 3,
-            ) (List._∷_ (7, Mut.mslice (Element.type) (Syntax.tyRef (Syntax.named 4) Syntax.mut Element.behind) 4) (List._∷_ (
-              8,
-              Rows'.mref
-                  (Array'.Array (Referent.rtF (Referent.fInt Syntax.w64)) 4) (Syntax.tyRef (Syntax.named 5) Syntax.mut (Syntax.tyArray (Syntax.tyInt Syntax.w64) 4)) 5,
-            ) (List._∷_ (
-              9,
-              Rows.arrF (Referent.rtF
-                  (Referent.fInt Syntax.w8)) 36 0,
-            ) (List._∷_ (
-              10,
-              Rows'.any-gone (Syntax.tyEnum (List._∷_ 98 (List._∷_ 108 (List._∷_ 111 (List._∷_ 99 (List._∷_ 107 (List._∷_ 58 (List._∷_ 58 (List._∷_ 68
-                  (List._∷_ 101 (List._∷_ 99 (List._∷_ 111 (List._∷_ 100 (List._∷_ 101 (List._∷_ 100 List.[])))))))))))))) (Syntax.ttcons Syntax.tnil (Syntax.ttcons (Syntax.tcons (Syntax.tyEnum (List._∷_ 115
-                  (List._∷_ 116 (List._∷_ 114 (List._∷_ 101 (List._∷_ 97 (List._∷_ 109 (List._∷_ 58 (List._∷_ 58 (List._∷_ 82 (List._∷_ 101 (List._∷_ 102 (List._∷_ 117 (List._∷_ 115 (List._∷_ 97 (List._∷_ 108
-                  List.[]))))))))))))))) (Syntax.ttcons Syntax.tnil (Syntax.ttcons Syntax.tnil (Syntax.ttcons Syntax.tnil (Syntax.ttcons (Syntax.tcons (Syntax.tyInt Syntax.w64) Syntax.tnil) (Syntax.ttcons
-                  Syntax.tnil (Syntax.ttcons Syntax.tnil (Syntax.ttcons Syntax.tnil (Syntax.ttcons Syntax.tnil (Syntax.ttcons Syntax.tnil (Syntax.ttcons Syntax.tnil (Syntax.ttcons (Syntax.tcons (Syntax.tyInt
-                  Syntax.w64) Syntax.tnil) (Syntax.ttcons (Syntax.tcons (Syntax.tyInt Syntax.w64) Syntax.tnil) (Syntax.ttcons Syntax.tnil (Syntax.ttcons (Syntax.tcons (Syntax.tyInt Syntax.w64) (Syntax.tcons
-                  (Syntax.tyInt Syntax.w64) Syntax.tnil)) (Syntax.ttcons (Syntax.tcons (Syntax.tyInt Syntax.w64) Syntax.tnil) Syntax.ttnil)))))))))))))))) Syntax.tnil) Syntax.ttnil))),
-            ) (List._∷_ (
-              11,
-              Rows'.any-gone (Syntax.tyArray (Syntax.tyInt Syntax.w64) 4),
-            ) (List._∷_ (12, Rows'.any-gone (Syntax.tyRef Syntax.erased Syntax.mut (Syntax.tyInt Syntax.w16))) (List._∷_ (
-              13,
-              Mut.mslice
-                  (Referent.rtF (Referent.fInt Syntax.w16)) (Syntax.tyRef Syntax.erased Syntax.mut (Syntax.tyInt Syntax.w16)) 6,
-            ) (List._∷_ (
-              14,
-              Rows'.any-gone (Syntax.tyRef Syntax.erased Syntax.mut
-                  (Syntax.tyInt Syntax.w16)),
-            ) (List._∷_ (
-              15,
-              Rows'.any-gone (Syntax.tyStruct (List._∷_ 38 (List._∷_ 91 (List._∷_ 93 List.[]))) (Syntax.tcons (Syntax.tyRef Syntax.erased Syntax.mut
-                  (Syntax.tyInt Syntax.w16)) (Syntax.tcons (Syntax.tyInt Syntax.w64) Syntax.tnil))),
-            ) List.[])))))))))))))))
+        g5 = List._∷_ e0 (List._∷_ e2 (List._∷_ e20 (List._∷_ e21 (List._∷_ e22 (List._∷_
+            (5, Relend.mslice-owed (Referent.rtF (Referent.fInt Syntax.w16)) (Syntax.tyRef (Syntax.named 2) Syntax.mut (Syntax.tyInt Syntax.w16)) 2 6 (Row.lease (κs .1 .1 .0) (qs .1 .1 .0))) (List._∷_ e25
+            (List._∷_ e27 (List._∷_ e29 (List._∷_ e31 (List._∷_ e3 (List._∷_ e5 (List._∷_ e8 (List._∷_ e10 (List._∷_ e13 (List._∷_ e16 List.[])))))))))))))))
 
         abbrev g6 : List.List Row.Entry
-        g6 = List._∷_ (0, Rows'.any-gone Syntax.tyUnit) (List._∷_ (1, Rows'.sslice (Referent.rtF (Referent.fInt Syntax.w8)) (Syntax.tyRef (Syntax.named 0) Syntax.imm (Syntax.tyInt Syntax.w8)) 0)
-            (List._∷_ (2, Rows'.sc-here (Row.sInt Syntax.w64)) (List._∷_ (3, Rows'.sc-here (Row.sInt Syntax.w64)) (List._∷_ (
-              4,
-              Rows'.sref (Array'.Array (Referent.rtF (Referent.fInt Syntax.w8)) 36)
-                  (Syntax.tyRef (Syntax.named 1) Syntax.imm (Syntax.tyArray (Syntax.tyInt Syntax.w8) 36)) 1,
-            ) (List._∷_ (
-              5,
-              Relend.mslice-owed (Referent.rtF (Referent.fInt Syntax.w16)) (Syntax.tyRef
-                  (Syntax.named 2) Syntax.mut (Syntax.tyInt Syntax.w16)) 2 6 (Row.lease (κs .1 .1 .0) (qs .1 .1 .0)),
-            ) (List._∷_ (
-              6,
-              Relend.mslice-owed (Referent.rtF (Referent.fInt Syntax.w16)) (Syntax.tyRef
-                  (Syntax.named 3) Syntax.mut (Syntax.tyInt Syntax.w16)) 3 7 (Row.lease (κs .1 .1 .1 .0) (qs .1 .1 .1 .0)),
-            ) (List._∷_ (
-              7,
-              Mut.mslice (Element.type) (Syntax.tyRef (Syntax.named 4) Syntax.mut
-                  Element.behind) 4,
-            ) (List._∷_ (
-              8,
-              Rows'.mref (Array'.Array (Referent.rtF (Referent.fInt Syntax.w64)) 4) (Syntax.tyRef (Syntax.named 5) Syntax.mut (Syntax.tyArray (Syntax.tyInt Syntax.w64)
-                  4)) 5,
-            ) (List._∷_ (9, Rows.arrF (Referent.rtF (Referent.fInt Syntax.w8)) 36 0) (List._∷_ (
-              10,
-              Rows'.any-gone (Syntax.tyEnum (List._∷_ 98 (List._∷_ 108 (List._∷_ 111 (List._∷_ 99 (List._∷_
-                  107 (List._∷_ 58 (List._∷_ 58 (List._∷_ 68 (List._∷_ 101 (List._∷_ 99 (List._∷_ 111 (List._∷_ 100 (List._∷_ 101 (List._∷_ 100 List.[])))))))))))))) (Syntax.ttcons Syntax.tnil (Syntax.ttcons
-                  (Syntax.tcons (Syntax.tyEnum (List._∷_ 115 (List._∷_ 116 (List._∷_ 114 (List._∷_ 101 (List._∷_ 97 (List._∷_ 109 (List._∷_ 58 (List._∷_ 58 (List._∷_ 82 (List._∷_ 101 (List._∷_ 102 (List._∷_ 117
-                  (List._∷_ 115 (List._∷_ 97 (List._∷_ 108 List.[]))))))))))))))) (Syntax.ttcons Syntax.tnil (Syntax.ttcons Syntax.tnil (Syntax.ttcons Syntax.tnil (Syntax.ttcons (Syntax.tcons (Syntax.tyInt
-                  Syntax.w64) Syntax.tnil) (Syntax.ttcons Syntax.tnil (Syntax.ttcons Syntax.tnil (Syntax.ttcons Syntax.tnil (Syntax.ttcons Syntax.tnil (Syntax.ttcons Syntax.tnil (Syntax.ttcons Syntax.tnil
-                  (Syntax.ttcons (Syntax.tcons (Syntax.tyInt Syntax.w64) Syntax.tnil) (Syntax.ttcons (Syntax.tcons (Syntax.tyInt Syntax.w64) Syntax.tnil) (Syntax.ttcons Syntax.tnil (Syntax.ttcons (Syntax.tcons
-                  (Syntax.tyInt Syntax.w64) (Syntax.tcons (Syntax.tyInt Syntax.w64) Syntax.tnil)) (Syntax.ttcons (Syntax.tcons (Syntax.tyInt Syntax.w64) Syntax.tnil) Syntax.ttnil)))))))))))))))) Syntax.tnil)
-                  Syntax.ttnil))),
-            ) (List._∷_ (11, Rows'.any-gone (Syntax.tyArray (Syntax.tyInt Syntax.w64) 4)) (List._∷_ (
-              12,
-              Rows'.any-gone (Syntax.tyRef Syntax.erased Syntax.mut (Syntax.tyInt Syntax.w16)),
-            ) (List._∷_ (13, Mut.mslice (Referent.rtF (Referent.fInt Syntax.w16)) (Syntax.tyRef Syntax.erased Syntax.mut (Syntax.tyInt Syntax.w16)) 6) (List._∷_ (
-              14,
-              Relend.msptr (Referent.rtF
-                  (Referent.fInt Syntax.w16)) (Syntax.tyRef Syntax.erased Syntax.mut (Syntax.tyInt Syntax.w16)) 7,
-            ) (List._∷_ (
-              15,
-              Rows'.any-gone (Syntax.tyStruct (List._∷_ 38 (List._∷_ 91 (List._∷_ 93
-                  List.[]))) (Syntax.tcons (Syntax.tyRef Syntax.erased Syntax.mut (Syntax.tyInt Syntax.w16)) (Syntax.tcons (Syntax.tyInt Syntax.w64) Syntax.tnil))),
-            ) List.[])))))))))))))))
+        g6 = List._∷_ e0 (List._∷_ e2 (List._∷_ e20 (List._∷_ e21 (List._∷_ e22 (List._∷_
+            (5, Relend.mslice-owed (Referent.rtF (Referent.fInt Syntax.w16)) (Syntax.tyRef (Syntax.named 2) Syntax.mut (Syntax.tyInt Syntax.w16)) 2 6 (Row.lease (κs .1 .1 .0) (qs .1 .1 .0))) (List._∷_
+            (6, Relend.mslice-owed (Referent.rtF (Referent.fInt Syntax.w16)) (Syntax.tyRef (Syntax.named 3) Syntax.mut (Syntax.tyInt Syntax.w16)) 3 7 (Row.lease (κs .1 .1 .1 .0) (qs .1 .1 .1 .0)))
+            (List._∷_ e27 (List._∷_ e29 (List._∷_ e31 (List._∷_ e3 (List._∷_ e5 (List._∷_ e8 (List._∷_ e10 (List._∷_ e12 (List._∷_ e16 List.[])))))))))))))))
 
         abbrev g7 : List.List Row.Entry
-        g7 = List._∷_ (0, Rows'.any-gone Syntax.tyUnit) (List._∷_ (1, Rows'.sslice (Referent.rtF (Referent.fInt Syntax.w8)) (Syntax.tyRef (Syntax.named 0) Syntax.imm (Syntax.tyInt Syntax.w8)) 0)
-            (List._∷_ (2, Rows'.sc-here (Row.sInt Syntax.w64)) (List._∷_ (3, Rows'.sc-here (Row.sInt Syntax.w64)) (List._∷_ (
-              4,
-              Rows'.sref (Array'.Array (Referent.rtF (Referent.fInt Syntax.w8)) 36)
-                  (Syntax.tyRef (Syntax.named 1) Syntax.imm (Syntax.tyArray (Syntax.tyInt Syntax.w8) 36)) 1,
-            ) (List._∷_ (
-              5,
-              Relend.mslice-owed (Referent.rtF (Referent.fInt Syntax.w16)) (Syntax.tyRef
-                  (Syntax.named 2) Syntax.mut (Syntax.tyInt Syntax.w16)) 2 6 (Row.lease (κs .1 .1 .0) (qs .1 .1 .0)),
-            ) (List._∷_ (
-              6,
-              Relend.mslice-owed (Referent.rtF (Referent.fInt Syntax.w16)) (Syntax.tyRef
-                  (Syntax.named 3) Syntax.mut (Syntax.tyInt Syntax.w16)) 3 7 (Row.lease (κs .1 .1 .1 .0) (qs .1 .1 .1 .0)),
-            ) (List._∷_ (
-              7,
-              Mut.mslice (Element.type) (Syntax.tyRef (Syntax.named 4) Syntax.mut
-                  Element.behind) 4,
-            ) (List._∷_ (
-              8,
-              Rows'.mref (Array'.Array (Referent.rtF (Referent.fInt Syntax.w64)) 4) (Syntax.tyRef (Syntax.named 5) Syntax.mut (Syntax.tyArray (Syntax.tyInt Syntax.w64)
-                  4)) 5,
-            ) (List._∷_ (9, Rows.arrF (Referent.rtF (Referent.fInt Syntax.w8)) 36 0) (List._∷_ (
-              10,
-              Rows'.any-gone (Syntax.tyEnum (List._∷_ 98 (List._∷_ 108 (List._∷_ 111 (List._∷_ 99 (List._∷_
-                  107 (List._∷_ 58 (List._∷_ 58 (List._∷_ 68 (List._∷_ 101 (List._∷_ 99 (List._∷_ 111 (List._∷_ 100 (List._∷_ 101 (List._∷_ 100 List.[])))))))))))))) (Syntax.ttcons Syntax.tnil (Syntax.ttcons
-                  (Syntax.tcons (Syntax.tyEnum (List._∷_ 115 (List._∷_ 116 (List._∷_ 114 (List._∷_ 101 (List._∷_ 97 (List._∷_ 109 (List._∷_ 58 (List._∷_ 58 (List._∷_ 82 (List._∷_ 101 (List._∷_ 102 (List._∷_ 117
-                  (List._∷_ 115 (List._∷_ 97 (List._∷_ 108 List.[]))))))))))))))) (Syntax.ttcons Syntax.tnil (Syntax.ttcons Syntax.tnil (Syntax.ttcons Syntax.tnil (Syntax.ttcons (Syntax.tcons (Syntax.tyInt
-                  Syntax.w64) Syntax.tnil) (Syntax.ttcons Syntax.tnil (Syntax.ttcons Syntax.tnil (Syntax.ttcons Syntax.tnil (Syntax.ttcons Syntax.tnil (Syntax.ttcons Syntax.tnil (Syntax.ttcons Syntax.tnil
-                  (Syntax.ttcons (Syntax.tcons (Syntax.tyInt Syntax.w64) Syntax.tnil) (Syntax.ttcons (Syntax.tcons (Syntax.tyInt Syntax.w64) Syntax.tnil) (Syntax.ttcons Syntax.tnil (Syntax.ttcons (Syntax.tcons
-                  (Syntax.tyInt Syntax.w64) (Syntax.tcons (Syntax.tyInt Syntax.w64) Syntax.tnil)) (Syntax.ttcons (Syntax.tcons (Syntax.tyInt Syntax.w64) Syntax.tnil) Syntax.ttnil)))))))))))))))) Syntax.tnil)
-                  Syntax.ttnil))),
-            ) (List._∷_ (11, Rows'.any-gone (Syntax.tyArray (Syntax.tyInt Syntax.w64) 4)) (List._∷_ (
-              12,
-              Rows'.any-gone (Syntax.tyRef Syntax.erased Syntax.mut (Syntax.tyInt Syntax.w16)),
-            ) (List._∷_ (13, Mut.mslice (Referent.rtF (Referent.fInt Syntax.w16)) (Syntax.tyRef Syntax.erased Syntax.mut (Syntax.tyInt Syntax.w16)) 6) (List._∷_ (
-              14,
-              Rows'.any-gone (Syntax.tyRef
-                  Syntax.erased Syntax.mut (Syntax.tyInt Syntax.w16)),
-            ) (List._∷_ (
-              15,
-              Mut.mslice (Referent.rtF (Referent.fInt Syntax.w16)) (Syntax.tyRef Syntax.erased Syntax.mut (Syntax.tyInt Syntax.w16)) 7,
-            ) List.[])))))))))))))))
+        g7 = List._∷_ e0 (List._∷_ e2 (List._∷_ e20 (List._∷_ e21 (List._∷_ e22 (List._∷_
+            (5, Relend.mslice-owed (Referent.rtF (Referent.fInt Syntax.w16)) (Syntax.tyRef (Syntax.named 2) Syntax.mut (Syntax.tyInt Syntax.w16)) 2 6 (Row.lease (κs .1 .1 .0) (qs .1 .1 .0))) (List._∷_
+            (6, Relend.mslice-owed (Referent.rtF (Referent.fInt Syntax.w16)) (Syntax.tyRef (Syntax.named 3) Syntax.mut (Syntax.tyInt Syntax.w16)) 3 7 (Row.lease (κs .1 .1 .1 .0) (qs .1 .1 .1 .0)))
+            (List._∷_ e27 (List._∷_ e29 (List._∷_ e31 (List._∷_ e3 (List._∷_ e5 (List._∷_ e8 (List._∷_ e10 (List._∷_ e13 (List._∷_ e15 List.[])))))))))))))))
 
         abbrev g8 : List.List Row.Entry
-        g8 = List._∷_ (0, Rows'.any-gone Syntax.tyUnit) (List._∷_ (1, Rows'.sslice (Referent.rtF (Referent.fInt Syntax.w8)) (Syntax.tyRef (Syntax.named 0) Syntax.imm (Syntax.tyInt Syntax.w8)) 0)
-            (List._∷_ (2, Rows'.sc-here (Row.sInt Syntax.w64)) (List._∷_ (3, Rows'.sc-here (Row.sInt Syntax.w64)) (List._∷_ (
-              4,
-              Rows'.sref (Array'.Array (Referent.rtF (Referent.fInt Syntax.w8)) 36)
-                  (Syntax.tyRef (Syntax.named 1) Syntax.imm (Syntax.tyArray (Syntax.tyInt Syntax.w8) 36)) 1,
-            ) (List._∷_ (
-              5,
-              Relend.mslice-owed (Referent.rtF (Referent.fInt Syntax.w16)) (Syntax.tyRef
-                  (Syntax.named 2) Syntax.mut (Syntax.tyInt Syntax.w16)) 2 6 (Row.lease (κs .1 .1 .0) (qs .1 .1 .0)),
-            ) (List._∷_ (
-              6,
-              Relend.mslice-owed (Referent.rtF (Referent.fInt Syntax.w16)) (Syntax.tyRef
-                  (Syntax.named 3) Syntax.mut (Syntax.tyInt Syntax.w16)) 3 7 (Row.lease (κs .1 .1 .1 .0) (qs .1 .1 .1 .0)),
-            ) (List._∷_ (
-              7,
-              Relend.mslice-owed (Element.type) (Syntax.tyRef (Syntax.named 4)
-                  Syntax.mut Element.behind) 4 8 (Row.lease (κs .1 .1 .1 .1 .0) (qs .1 .1 .1 .1 .0)),
-            ) (List._∷_ (
-              8,
-              Rows'.mref (Array'.Array (Referent.rtF (Referent.fInt Syntax.w64)) 4) (Syntax.tyRef
-                  (Syntax.named 5) Syntax.mut (Syntax.tyArray (Syntax.tyInt Syntax.w64) 4)) 5,
-            ) (List._∷_ (9, Rows.arrF (Referent.rtF (Referent.fInt Syntax.w8)) 36 0) (List._∷_ (
-              10,
-              Rows'.any-gone
-                  (Syntax.tyEnum (List._∷_ 98 (List._∷_ 108 (List._∷_ 111 (List._∷_ 99 (List._∷_ 107 (List._∷_ 58 (List._∷_ 58 (List._∷_ 68 (List._∷_ 101 (List._∷_ 99 (List._∷_ 111 (List._∷_ 100 (List._∷_ 101
-                  (List._∷_ 100 List.[])))))))))))))) (Syntax.ttcons Syntax.tnil (Syntax.ttcons (Syntax.tcons (Syntax.tyEnum (List._∷_ 115 (List._∷_ 116 (List._∷_ 114 (List._∷_ 101 (List._∷_ 97 (List._∷_ 109
-                  (List._∷_ 58 (List._∷_ 58 (List._∷_ 82 (List._∷_ 101 (List._∷_ 102 (List._∷_ 117 (List._∷_ 115 (List._∷_ 97 (List._∷_ 108 List.[]))))))))))))))) (Syntax.ttcons Syntax.tnil (Syntax.ttcons
-                  Syntax.tnil (Syntax.ttcons Syntax.tnil (Syntax.ttcons (Syntax.tcons (Syntax.tyInt Syntax.w64) Syntax.tnil) (Syntax.ttcons Syntax.tnil (Syntax.ttcons Syntax.tnil (Syntax.ttcons Syntax.tnil
-                  (Syntax.ttcons Syntax.tnil (Syntax.ttcons Syntax.tnil (Syntax.ttcons Syntax.tnil (Syntax.ttcons (Syntax.tcons (Syntax.tyInt Syntax.w64) Syntax.tnil) (Syntax.ttcons (Syntax.tcons (Syntax.tyInt
-                  Syntax.w64) Syntax.tnil) (Syntax.ttcons Syntax.tnil (Syntax.ttcons (Syntax.tcons (Syntax.tyInt Syntax.w64) (Syntax.tcons (Syntax.tyInt Syntax.w64) Syntax.tnil)) (Syntax.ttcons (Syntax.tcons
-                  (Syntax.tyInt Syntax.w64) Syntax.tnil) Syntax.ttnil)))))))))))))))) Syntax.tnil) Syntax.ttnil))),
-            ) (List._∷_ (11, Rows'.any-gone (Syntax.tyArray (Syntax.tyInt Syntax.w64) 4)) (List._∷_ (
-              12,
-              Rows'.any-gone (Syntax.tyRef Syntax.erased Syntax.mut (Syntax.tyInt Syntax.w16)),
-            ) (List._∷_ (
-              13,
-              Mut.mslice (Referent.rtF (Referent.fInt Syntax.w16)) (Syntax.tyRef Syntax.erased Syntax.mut
-                  (Syntax.tyInt Syntax.w16)) 6,
-            ) (List._∷_ (14, Rows'.any-gone (Syntax.tyRef Syntax.erased Syntax.mut (Syntax.tyInt Syntax.w16))) (List._∷_ (
-              15,
-              Mut.mslice (Referent.rtF (Referent.fInt
-                  Syntax.w16)) (Syntax.tyRef Syntax.erased Syntax.mut (Syntax.tyInt Syntax.w16)) 7,
-            ) List.[])))))))))))))))
+        g8 = List._∷_ e0 (List._∷_ e2 (List._∷_ e20 (List._∷_ e21 (List._∷_ e22 (List._∷_
+            (5, Relend.mslice-owed (Referent.rtF (Referent.fInt Syntax.w16)) (Syntax.tyRef (Syntax.named 2) Syntax.mut (Syntax.tyInt Syntax.w16)) 2 6 (Row.lease (κs .1 .1 .0) (qs .1 .1 .0))) (List._∷_
+            (6, Relend.mslice-owed (Referent.rtF (Referent.fInt Syntax.w16)) (Syntax.tyRef (Syntax.named 3) Syntax.mut (Syntax.tyInt Syntax.w16)) 3 7 (Row.lease (κs .1 .1 .1 .0) (qs .1 .1 .1 .0)))
+            (List._∷_ (7, Relend.mslice-owed (Element.type) (Syntax.tyRef (Syntax.named 4) Syntax.mut Element.behind) 4 8 (Row.lease (κs .1 .1 .1 .1 .0) (qs .1 .1 .1 .1 .0))) (List._∷_ e29 (List._∷_ e31
+            (List._∷_ e3 (List._∷_ e5 (List._∷_ e8 (List._∷_ e10 (List._∷_ e13 (List._∷_ e15 List.[])))))))))))))))
 
         abbrev g11 : List.List Row.Entry
-        g11 = List._∷_ (0, Rows'.any-gone Syntax.tyUnit) (List._∷_ (1, Rows'.sslice (Referent.rtF (Referent.fInt Syntax.w8)) (Syntax.tyRef (Syntax.named 0) Syntax.imm (Syntax.tyInt Syntax.w8)) 0)
-            (List._∷_ (2, Rows'.sc-here (Row.sInt Syntax.w64)) (List._∷_ (3, Rows'.sc-here (Row.sInt Syntax.w64)) (List._∷_ (
-              4,
-              Rows'.sref (Array'.Array (Referent.rtF (Referent.fInt Syntax.w8)) 36)
-                  (Syntax.tyRef (Syntax.named 1) Syntax.imm (Syntax.tyArray (Syntax.tyInt Syntax.w8) 36)) 1,
-            ) (List._∷_ (
-              5,
-              Relend.mslice-owed (Referent.rtF (Referent.fInt Syntax.w16)) (Syntax.tyRef
-                  (Syntax.named 2) Syntax.mut (Syntax.tyInt Syntax.w16)) 2 6 (Row.lease (κs .1 .1 .0) (qs .1 .1 .0)),
-            ) (List._∷_ (
-              6,
-              Relend.mslice-owed (Referent.rtF (Referent.fInt Syntax.w16)) (Syntax.tyRef
-                  (Syntax.named 3) Syntax.mut (Syntax.tyInt Syntax.w16)) 3 7 (Row.lease (κs .1 .1 .1 .0) (qs .1 .1 .1 .0)),
-            ) (List._∷_ (
-              7,
-              Relend.mslice-owed (Element.type) (Syntax.tyRef (Syntax.named 4)
-                  Syntax.mut Element.behind) 4 8 (Row.lease (κs .1 .1 .1 .1 .0) (qs .1 .1 .1 .1 .0)),
-            ) (List._∷_ (
-              8,
-              Rows'.mref (Array'.Array (Referent.rtF (Referent.fInt Syntax.w64)) 4) (Syntax.tyRef
-                  (Syntax.named 5) Syntax.mut (Syntax.tyArray (Syntax.tyInt Syntax.w64) 4)) 5,
-            ) (List._∷_ (9, Rows.arrF (Referent.rtF (Referent.fInt Syntax.w8)) 36 0) (List._∷_ (
-              10,
-              Rows'.whole (Declared.row
-                  Decoded.the-type),
-            ) (List._∷_ (11, Rows'.any-gone (Syntax.tyArray (Syntax.tyInt Syntax.w64) 4)) (List._∷_ (
-              12,
-              Rows'.any-gone (Syntax.tyRef Syntax.erased Syntax.mut (Syntax.tyInt
-                  Syntax.w16)),
-            ) (List._∷_ (13, Mut.msleft (Referent.rtF (Referent.fInt Syntax.w16)) (Syntax.tyRef Syntax.erased Syntax.mut (Syntax.tyInt Syntax.w16))) (List._∷_ (
-              14,
-              Rows'.any-gone
-                  (Syntax.tyRef Syntax.erased Syntax.mut (Syntax.tyInt Syntax.w16)),
-            ) (List._∷_ (
-              15,
-              Mut.msleft (Referent.rtF (Referent.fInt Syntax.w16)) (Syntax.tyRef Syntax.erased Syntax.mut (Syntax.tyInt
-                  Syntax.w16)),
-            ) List.[])))))))))))))))
+        g11 = List._∷_ e0 (List._∷_ e2 (List._∷_ e20 (List._∷_ e21 (List._∷_ e22 (List._∷_
+            (5, Relend.mslice-owed (Referent.rtF (Referent.fInt Syntax.w16)) (Syntax.tyRef (Syntax.named 2) Syntax.mut (Syntax.tyInt Syntax.w16)) 2 6 (Row.lease (κs .1 .1 .0) (qs .1 .1 .0))) (List._∷_
+            (6, Relend.mslice-owed (Referent.rtF (Referent.fInt Syntax.w16)) (Syntax.tyRef (Syntax.named 3) Syntax.mut (Syntax.tyInt Syntax.w16)) 3 7 (Row.lease (κs .1 .1 .1 .0) (qs .1 .1 .1 .0)))
+            (List._∷_ (7, Relend.mslice-owed (Element.type) (Syntax.tyRef (Syntax.named 4) Syntax.mut Element.behind) 4 8 (Row.lease (κs .1 .1 .1 .1 .0) (qs .1 .1 .1 .1 .0))) (List._∷_ e29 (List._∷_ e31
+            (List._∷_ e4 (List._∷_ e5 (List._∷_ e8 (List._∷_ e9 (List._∷_ e13 (List._∷_ e14 List.[])))))))))))))))
 
         abbrev g13 : List.List Row.Entry
-        g13 = List._∷_ (0, Rows'.any-gone Syntax.tyUnit) (List._∷_ (1, Rows'.sslice (Referent.rtF (Referent.fInt Syntax.w8)) (Syntax.tyRef (Syntax.named 0) Syntax.imm (Syntax.tyInt Syntax.w8)) 0)
-            (List._∷_ (2, Rows'.sc-here (Row.sInt Syntax.w64)) (List._∷_ (3, Rows'.sc-here (Row.sInt Syntax.w64)) (List._∷_ (
-              4,
-              Rows'.sref (Array'.Array (Referent.rtF (Referent.fInt Syntax.w8)) 36)
-                  (Syntax.tyRef (Syntax.named 1) Syntax.imm (Syntax.tyArray (Syntax.tyInt Syntax.w8) 36)) 1,
-            ) (List._∷_ (
-              5,
-              Relend.mslice-owed (Referent.rtF (Referent.fInt Syntax.w16)) (Syntax.tyRef
-                  (Syntax.named 2) Syntax.mut (Syntax.tyInt Syntax.w16)) 2 6 (Row.lease (κs .1 .1 .0) (qs .1 .1 .0)),
-            ) (List._∷_ (
-              6,
-              Relend.mslice-owed (Referent.rtF (Referent.fInt Syntax.w16)) (Syntax.tyRef
-                  (Syntax.named 3) Syntax.mut (Syntax.tyInt Syntax.w16)) 3 7 (Row.lease (κs .1 .1 .1 .0) (qs .1 .1 .1 .0)),
-            ) (List._∷_ (
-              7,
-              Relend.mslice-owed (Element.type) (Syntax.tyRef (Syntax.named 4)
-                  Syntax.mut Element.behind) 4 8 (Row.lease (κs .1 .1 .1 .1 .0) (qs .1 .1 .1 .1 .0)),
-            ) (List._∷_ (
-              8,
-              Rows'.mref (Array'.Array (Referent.rtF (Referent.fInt Syntax.w64)) 4) (Syntax.tyRef
-                  (Syntax.named 5) Syntax.mut (Syntax.tyArray (Syntax.tyInt Syntax.w64) 4)) 5,
-            ) (List._∷_ (9, Rows'.any-gone (Syntax.tyArray (Syntax.tyInt Syntax.w8) 36)) (List._∷_ (
-              10,
-              Rows'.whole
-                  (Declared.row Decoded.the-type),
-            ) (List._∷_ (11, Rows'.any-gone (Syntax.tyArray (Syntax.tyInt Syntax.w64) 4)) (List._∷_ (
-              12,
-              Rows'.any-gone (Syntax.tyRef Syntax.erased Syntax.mut
-                  (Syntax.tyInt Syntax.w16)),
-            ) (List._∷_ (13, Mut.msleft (Referent.rtF (Referent.fInt Syntax.w16)) (Syntax.tyRef Syntax.erased Syntax.mut (Syntax.tyInt Syntax.w16))) (List._∷_ (
-              14,
-              Rows'.any-gone (Syntax.tyRef Syntax.erased Syntax.mut (Syntax.tyInt Syntax.w16)),
-            ) (List._∷_ (
-              15,
-              Mut.msleft (Referent.rtF (Referent.fInt Syntax.w16)) (Syntax.tyRef Syntax.erased Syntax.mut
-                  (Syntax.tyInt Syntax.w16)),
-            ) List.[])))))))))))))))
+        g13 = List._∷_ e0 (List._∷_ e2 (List._∷_ e20 (List._∷_ e21 (List._∷_ e22 (List._∷_
+            (5, Relend.mslice-owed (Referent.rtF (Referent.fInt Syntax.w16)) (Syntax.tyRef (Syntax.named 2) Syntax.mut (Syntax.tyInt Syntax.w16)) 2 6 (Row.lease (κs .1 .1 .0) (qs .1 .1 .0))) (List._∷_
+            (6, Relend.mslice-owed (Referent.rtF (Referent.fInt Syntax.w16)) (Syntax.tyRef (Syntax.named 3) Syntax.mut (Syntax.tyInt Syntax.w16)) 3 7 (Row.lease (κs .1 .1 .1 .0) (qs .1 .1 .1 .0)))
+            (List._∷_ (7, Relend.mslice-owed (Element.type) (Syntax.tyRef (Syntax.named 4) Syntax.mut Element.behind) 4 8 (Row.lease (κs .1 .1 .1 .1 .0) (qs .1 .1 .1 .1 .0))) (List._∷_ e29 (List._∷_ e30
+            (List._∷_ e4 (List._∷_ e5 (List._∷_ e8 (List._∷_ e9 (List._∷_ e13 (List._∷_ e14 List.[])))))))))))))))
 
         abbrev g14 : List.List Row.Entry
-        g14 = List._∷_ (0, Rows'.any-gone Syntax.tyUnit) (List._∷_ (1, Rows'.sslice (Referent.rtF (Referent.fInt Syntax.w8)) (Syntax.tyRef (Syntax.named 0) Syntax.imm (Syntax.tyInt Syntax.w8)) 0)
-            (List._∷_ (2, Rows'.sc-here (Row.sInt Syntax.w64)) (List._∷_ (3, Rows'.sc-here (Row.sInt Syntax.w64)) (List._∷_ (
-              4,
-              Rows'.sref (Array'.Array (Referent.rtF (Referent.fInt Syntax.w8)) 36)
-                  (Syntax.tyRef (Syntax.named 1) Syntax.imm (Syntax.tyArray (Syntax.tyInt Syntax.w8) 36)) 1,
-            ) (List._∷_ (
-              5,
-              Mut.mslice (Referent.rtF (Referent.fInt Syntax.w16)) (Syntax.tyRef (Syntax.named 2)
-                  Syntax.mut (Syntax.tyInt Syntax.w16)) 2,
-            ) (List._∷_ (
-              6,
-              Relend.mslice-owed (Referent.rtF (Referent.fInt Syntax.w16)) (Syntax.tyRef (Syntax.named 3) Syntax.mut (Syntax.tyInt Syntax.w16)) 3 7
-                  (Row.lease (κs .1 .1 .1 .0) (qs .1 .1 .1 .0)),
-            ) (List._∷_ (
-              7,
-              Relend.mslice-owed (Element.type) (Syntax.tyRef (Syntax.named 4) Syntax.mut Element.behind) 4 8 (Row.lease (κs .1 .1 .1 .1 .0)
-                  (qs .1 .1 .1 .1 .0)),
-            ) (List._∷_ (
-              8,
-              Rows'.mref (Array'.Array (Referent.rtF (Referent.fInt Syntax.w64)) 4) (Syntax.tyRef (Syntax.named 5) Syntax.mut (Syntax.tyArray (Syntax.tyInt Syntax.w64)
-                  4)) 5,
-            ) (List._∷_ (9, Rows'.any-gone (Syntax.tyArray (Syntax.tyInt Syntax.w8) 36)) (List._∷_ (10, Rows'.whole (Declared.row Decoded.the-type)) (List._∷_ (
-              11,
-              Rows'.any-gone (Syntax.tyArray
-                  (Syntax.tyInt Syntax.w64) 4),
-            ) (List._∷_ (12, Rows'.any-gone (Syntax.tyRef Syntax.erased Syntax.mut (Syntax.tyInt Syntax.w16))) (List._∷_ (
-              13,
-              Rows'.any-gone (Syntax.tyStruct (List._∷_ 38
-                  (List._∷_ 91 (List._∷_ 93 List.[]))) (Syntax.tcons (Syntax.tyRef Syntax.erased Syntax.mut (Syntax.tyInt Syntax.w16)) (Syntax.tcons (Syntax.tyInt Syntax.w64) Syntax.tnil))),
-            ) (List._∷_ (
-              14,
-              Rows'.any-gone (Syntax.tyRef Syntax.erased Syntax.mut (Syntax.tyInt Syntax.w16)),
-            ) (List._∷_ (
-              15,
-              Mut.msleft (Referent.rtF (Referent.fInt Syntax.w16)) (Syntax.tyRef Syntax.erased Syntax.mut
-                  (Syntax.tyInt Syntax.w16)),
-            ) List.[])))))))))))))))
+        g14 = List._∷_ e0 (List._∷_ e2 (List._∷_ e20 (List._∷_ e21 (List._∷_ e22 (List._∷_ e23 (List._∷_
+            (6, Relend.mslice-owed (Referent.rtF (Referent.fInt Syntax.w16)) (Syntax.tyRef (Syntax.named 3) Syntax.mut (Syntax.tyInt Syntax.w16)) 3 7 (Row.lease (κs .1 .1 .1 .0) (qs .1 .1 .1 .0)))
+            (List._∷_ (7, Relend.mslice-owed (Element.type) (Syntax.tyRef (Syntax.named 4) Syntax.mut Element.behind) 4 8 (Row.lease (κs .1 .1 .1 .1 .0) (qs .1 .1 .1 .1 .0))) (List._∷_ e29 (List._∷_ e30
+            (List._∷_ e4 (List._∷_ e5 (List._∷_ e8 (List._∷_ e11 (List._∷_ e13 (List._∷_ e14 List.[])))))))))))))))
 
         abbrev g15 : List.List Row.Entry
-        g15 = List._∷_ (0, Rows'.any-gone Syntax.tyUnit) (List._∷_ (1, Rows'.sslice (Referent.rtF (Referent.fInt Syntax.w8)) (Syntax.tyRef (Syntax.named 0) Syntax.imm (Syntax.tyInt Syntax.w8)) 0)
-            (List._∷_ (2, Rows'.sc-here (Row.sInt Syntax.w64)) (List._∷_ (3, Rows'.sc-here (Row.sInt Syntax.w64)) (List._∷_ (
-              4,
-              Rows'.sref (Array'.Array (Referent.rtF (Referent.fInt Syntax.w8)) 36)
-                  (Syntax.tyRef (Syntax.named 1) Syntax.imm (Syntax.tyArray (Syntax.tyInt Syntax.w8) 36)) 1,
-            ) (List._∷_ (
-              5,
-              Mut.mslice (Referent.rtF (Referent.fInt Syntax.w16)) (Syntax.tyRef (Syntax.named 2)
-                  Syntax.mut (Syntax.tyInt Syntax.w16)) 2,
-            ) (List._∷_ (6, Mut.mslice (Referent.rtF (Referent.fInt Syntax.w16)) (Syntax.tyRef (Syntax.named 3) Syntax.mut (Syntax.tyInt Syntax.w16)) 3)
-            (List._∷_ (7, Relend.mslice-owed (Element.type) (Syntax.tyRef (Syntax.named 4) Syntax.mut Element.behind) 4 8 (Row.lease (κs .1 .1 .1 .1 .0) (qs .1 .1 .1 .1 .0))) (List._∷_ (
-              8,
-              Rows'.mref
-                  (Array'.Array (Referent.rtF (Referent.fInt Syntax.w64)) 4) (Syntax.tyRef (Syntax.named 5) Syntax.mut (Syntax.tyArray (Syntax.tyInt Syntax.w64) 4)) 5,
-            ) (List._∷_ (
-              9,
-              Rows'.any-gone
-                  (Syntax.tyArray (Syntax.tyInt Syntax.w8) 36),
-            ) (List._∷_ (10, Rows'.whole (Declared.row Decoded.the-type)) (List._∷_ (11, Rows'.any-gone (Syntax.tyArray (Syntax.tyInt Syntax.w64) 4))
-            (List._∷_ (12, Rows'.any-gone (Syntax.tyRef Syntax.erased Syntax.mut (Syntax.tyInt Syntax.w16))) (List._∷_ (
-              13,
-              Rows'.any-gone (Syntax.tyStruct (List._∷_ 38 (List._∷_ 91 (List._∷_ 93
-                  List.[]))) (Syntax.tcons (Syntax.tyRef Syntax.erased Syntax.mut (Syntax.tyInt Syntax.w16)) (Syntax.tcons (Syntax.tyInt Syntax.w64) Syntax.tnil))),
-            ) (List._∷_ (
-              14,
-              Rows'.any-gone
-                  (Syntax.tyRef Syntax.erased Syntax.mut (Syntax.tyInt Syntax.w16)),
-            ) (List._∷_ (
-              15,
-              Rows'.any-gone (Syntax.tyStruct (List._∷_ 38 (List._∷_ 91 (List._∷_ 93 List.[]))) (Syntax.tcons
-                  (Syntax.tyRef Syntax.erased Syntax.mut (Syntax.tyInt Syntax.w16)) (Syntax.tcons (Syntax.tyInt Syntax.w64) Syntax.tnil))),
-            ) List.[])))))))))))))))
+        g15 = List._∷_ e0 (List._∷_ e2 (List._∷_ e20 (List._∷_ e21 (List._∷_ e22 (List._∷_ e23 (List._∷_ e25 (List._∷_
+            (7, Relend.mslice-owed (Element.type) (Syntax.tyRef (Syntax.named 4) Syntax.mut Element.behind) 4 8 (Row.lease (κs .1 .1 .1 .1 .0) (qs .1 .1 .1 .1 .0))) (List._∷_ e29 (List._∷_ e30 (List._∷_
+            e4 (List._∷_ e5 (List._∷_ e8 (List._∷_ e11 (List._∷_ e13 (List._∷_ e16 List.[])))))))))))))))
 
         abbrev G0 : Row.Cx
         G0 = record {
           locals = List._++_ t0 t1;
-          slots = List._∷_ (Row.lease (κs .0) (qs .0)) (List._∷_ (Row.lease (κs .1 .0) (qs .1 .0)) (List._∷_ (Row.lease (κs .1 .1 .0) (qs .1 .1 .0)) (List._∷_
-              (Row.lease (κs .1 .1 .1 .0) (qs .1 .1 .1 .0)) (List._∷_ (Row.lease (κs .1 .1 .1 .1 .0) (qs .1 .1 .1 .1 .0)) (List._∷_ (Row.lease (κs .1 .1 .1 .1 .1 .0) (qs .1 .1 .1 .1 .1 .0)) (List._∷_
-              Row.off (List._∷_ Row.off (List._∷_ Row.off List.[]))))))));
+          slots = List._∷_ (Row.lease (κs .0) (qs .0)) (List._∷_ (Row.lease (κs .1 .0) (qs .1 .0)) (List._∷_ (Row.lease (κs .1 .1 .0) (qs .1 .1 .0)) (List._∷_ (Row.lease (κs
+              .1 .1 .1 .0) (qs .1 .1 .1 .0)) (List._∷_ (Row.lease (κs .1 .1 .1 .1 .0) (qs .1 .1 .1 .1 .0)) (List._∷_ (Row.lease (κs .1 .1 .1 .1 .1 .0) (qs .1 .1 .1 .1 .1 .0)) (List._∷_ Row.off (List._∷_
+              Row.off (List._∷_ Row.off List.[]))))))));
         }
 
         abbrev G1 : Row.Cx
         G1 = record {
           locals = List._++_ t2 t1;
-          slots = List._∷_ (Row.lease (κs .0) (qs .0)) (List._∷_ (Row.lease (κs .1 .0) (qs .1 .0)) (List._∷_ (Row.lease (κs .1 .1 .0) (qs .1 .1 .0)) (List._∷_
-              (Row.lease (κs .1 .1 .1 .0) (qs .1 .1 .1 .0)) (List._∷_ (Row.lease (κs .1 .1 .1 .1 .0) (qs .1 .1 .1 .1 .0)) (List._∷_ (Row.lease (κs .1 .1 .1 .1 .1 .0) (qs .1 .1 .1 .1 .1 .0)) (List._∷_
-              Row.off (List._∷_ Row.off (List._∷_ Row.off List.[]))))))));
+          slots = List._∷_ (Row.lease (κs .0) (qs .0)) (List._∷_ (Row.lease (κs .1 .0) (qs .1 .0)) (List._∷_ (Row.lease (κs .1 .1 .0) (qs .1 .1 .0)) (List._∷_ (Row.lease (κs
+              .1 .1 .1 .0) (qs .1 .1 .1 .0)) (List._∷_ (Row.lease (κs .1 .1 .1 .1 .0) (qs .1 .1 .1 .1 .0)) (List._∷_ (Row.lease (κs .1 .1 .1 .1 .1 .0) (qs .1 .1 .1 .1 .1 .0)) (List._∷_ Row.off (List._∷_
+              Row.off (List._∷_ Row.off List.[]))))))));
         }
 
         abbrev G2 : Row.Cx
         G2 = record {
           locals = List._++_ t0 t1;
-          slots = List._∷_ (Row.lease (κs .0) (qs .0)) (List._∷_ (Row.lease (κs .1 .0) (qs .1 .0)) (List._∷_ (Row.lease (κs .1 .1 .0) (qs .1 .1 .0)) (List._∷_
-              (Row.lease (κs .1 .1 .1 .0) (qs .1 .1 .1 .0)) (List._∷_ (Row.lease (κs .1 .1 .1 .1 .0) (qs .1 .1 .1 .1 .0)) (List._∷_ (Row.lease (κs .1 .1 .1 .1 .1 .0) (qs .1 .1 .1 .1 .1 .0)) (List._∷_
-              Row.off (List._∷_ Row.off (List._∷_ Row.off List.[]))))))));
+          slots = List._∷_ (Row.lease (κs .0) (qs .0)) (List._∷_ (Row.lease (κs .1 .0) (qs .1 .0)) (List._∷_ (Row.lease (κs .1 .1 .0) (qs .1 .1 .0)) (List._∷_ (Row.lease (κs
+              .1 .1 .1 .0) (qs .1 .1 .1 .0)) (List._∷_ (Row.lease (κs .1 .1 .1 .1 .0) (qs .1 .1 .1 .1 .0)) (List._∷_ (Row.lease (κs .1 .1 .1 .1 .1 .0) (qs .1 .1 .1 .1 .1 .0)) (List._∷_ Row.off (List._∷_
+              Row.off (List._∷_ Row.off List.[]))))))));
         }
 
         abbrev G3 : Row.Cx
         G3 = record {
           locals = List._++_ t0 t1;
-          slots = List._∷_ (Row.lease (κs .0) (qs .0)) (List._∷_ (Row.lease (κs .1 .0) (qs .1 .0)) (List._∷_ (Row.lease (κs .1 .1 .0) (qs .1 .1 .0)) (List._∷_
-              (Row.lease (κs .1 .1 .1 .0) (qs .1 .1 .1 .0)) (List._∷_ (Row.lease (κs .1 .1 .1 .1 .0) (qs .1 .1 .1 .1 .0)) (List._∷_ (Row.lease (κs .1 .1 .1 .1 .1 .0) (qs .1 .1 .1 .1 .1 .0)) (List._∷_
-              Row.off (List._∷_ Row.off (List._∷_ Row.off List.[]))))))));
+          slots = List._∷_ (Row.lease (κs .0) (qs .0)) (List._∷_ (Row.lease (κs .1 .0) (qs .1 .0)) (List._∷_ (Row.lease (κs .1 .1 .0) (qs .1 .1 .0)) (List._∷_ (Row.lease (κs
+              .1 .1 .1 .0) (qs .1 .1 .1 .0)) (List._∷_ (Row.lease (κs .1 .1 .1 .1 .0) (qs .1 .1 .1 .1 .0)) (List._∷_ (Row.lease (κs .1 .1 .1 .1 .1 .0) (qs .1 .1 .1 .1 .1 .0)) (List._∷_ Row.off (List._∷_
+              Row.off (List._∷_ Row.off List.[]))))))));
         }
 
         abbrev G4 : Row.Cx
         G4 = record {
           locals = List._++_ t0 t1;
-          slots = List._∷_ (Row.lease (κs .0) (qs .0)) (List._∷_ (Row.lease (κs .1 .0) (qs .1 .0)) (List._∷_ (Row.lease (κs .1 .1 .0) (qs .1 .1 .0)) (List._∷_
-              (Row.lease (κs .1 .1 .1 .0) (qs .1 .1 .1 .0)) (List._∷_ (Row.lease (κs .1 .1 .1 .1 .0) (qs .1 .1 .1 .1 .0)) (List._∷_ (Row.lease (κs .1 .1 .1 .1 .1 .0) (qs .1 .1 .1 .1 .1 .0)) (List._∷_
-              Row.off (List._∷_ Row.off (List._∷_ Row.off List.[]))))))));
+          slots = List._∷_ (Row.lease (κs .0) (qs .0)) (List._∷_ (Row.lease (κs .1 .0) (qs .1 .0)) (List._∷_ (Row.lease (κs .1 .1 .0) (qs .1 .1 .0)) (List._∷_ (Row.lease (κs
+              .1 .1 .1 .0) (qs .1 .1 .1 .0)) (List._∷_ (Row.lease (κs .1 .1 .1 .1 .0) (qs .1 .1 .1 .1 .0)) (List._∷_ (Row.lease (κs .1 .1 .1 .1 .1 .0) (qs .1 .1 .1 .1 .1 .0)) (List._∷_ Row.off (List._∷_
+              Row.off (List._∷_ Row.off List.[]))))))));
         }
 
         abbrev G5 : Row.Cx
         G5 = record {
           locals = List._++_ t3 t1;
-          slots = List._∷_ (Row.lease (κs .0) (qs .0)) (List._∷_ (Row.lease (κs .1 .0) (qs .1 .0)) (List._∷_ (Row.lease (κs .1 .1 .0) (qs .1 .1 .0)) (List._∷_
-              (Row.lease (κs .1 .1 .1 .0) (qs .1 .1 .1 .0)) (List._∷_ (Row.lease (κs .1 .1 .1 .1 .0) (qs .1 .1 .1 .1 .0)) (List._∷_ (Row.lease (κs .1 .1 .1 .1 .1 .0) (qs .1 .1 .1 .1 .1 .0)) (List._∷_
-              Row.off (List._∷_ Row.off (List._∷_ Row.off List.[]))))))));
+          slots = List._∷_ (Row.lease (κs .0) (qs .0)) (List._∷_ (Row.lease (κs .1 .0) (qs .1 .0)) (List._∷_ (Row.lease (κs .1 .1 .0) (qs .1 .1 .0)) (List._∷_ (Row.lease (κs
+              .1 .1 .1 .0) (qs .1 .1 .1 .0)) (List._∷_ (Row.lease (κs .1 .1 .1 .1 .0) (qs .1 .1 .1 .1 .0)) (List._∷_ (Row.lease (κs .1 .1 .1 .1 .1 .0) (qs .1 .1 .1 .1 .1 .0)) (List._∷_ Row.off (List._∷_
+              Row.off (List._∷_ Row.off List.[]))))))));
         }
 
         abbrev G6 : Row.Cx
         G6 = record {
           locals = List._++_ t3 t1;
-          slots = List._∷_ (Row.lease (κs .0) (qs .0)) (List._∷_ (Row.lease (κs .1 .0) (qs .1 .0)) (List._∷_ (Row.lease (κs .1 .1 .0) (qs .1 .1 .0)) (List._∷_
-              (Row.lease (κs .1 .1 .1 .0) (qs .1 .1 .1 .0)) (List._∷_ (Row.lease (κs .1 .1 .1 .1 .0) (qs .1 .1 .1 .1 .0)) (List._∷_ (Row.lease (κs .1 .1 .1 .1 .1 .0) (qs .1 .1 .1 .1 .1 .0)) (List._∷_
-              Row.alive (List._∷_ Row.off (List._∷_ Row.off List.[]))))))));
+          slots = List._∷_ (Row.lease (κs .0) (qs .0)) (List._∷_ (Row.lease (κs .1 .0) (qs .1 .0)) (List._∷_ (Row.lease (κs .1 .1 .0) (qs .1 .1 .0)) (List._∷_ (Row.lease (κs
+              .1 .1 .1 .0) (qs .1 .1 .1 .0)) (List._∷_ (Row.lease (κs .1 .1 .1 .1 .0) (qs .1 .1 .1 .1 .0)) (List._∷_ (Row.lease (κs .1 .1 .1 .1 .1 .0) (qs .1 .1 .1 .1 .1 .0)) (List._∷_ Row.alive (List._∷_
+              Row.off (List._∷_ Row.off List.[]))))))));
         }
 
         abbrev G7 : Row.Cx
         G7 = record {
           locals = List._++_ g4 t1;
-          slots = List._∷_ (Row.lease (κs .0) (qs .0)) (List._∷_ (Row.lease (κs .1 .0) (qs .1 .0)) (List._∷_ Row.off (List._∷_ (Row.lease (κs .1 .1 .1 .0) (qs .1
-              .1 .1 .0)) (List._∷_ (Row.lease (κs .1 .1 .1 .1 .0) (qs .1 .1 .1 .1 .0)) (List._∷_ (Row.lease (κs .1 .1 .1 .1 .1 .0) (qs .1 .1 .1 .1 .1 .0)) (List._∷_ Row.alive (List._∷_ Row.off (List._∷_
-              Row.off List.[]))))))));
+          slots = List._∷_ (Row.lease (κs .0) (qs .0)) (List._∷_ (Row.lease (κs .1 .0) (qs .1 .0)) (List._∷_ Row.off (List._∷_ (Row.lease (κs .1 .1 .1 .0) (qs .1 .1 .1 .0))
+              (List._∷_ (Row.lease (κs .1 .1 .1 .1 .0) (qs .1 .1 .1 .1 .0)) (List._∷_ (Row.lease (κs .1 .1 .1 .1 .1 .0) (qs .1 .1 .1 .1 .1 .0)) (List._∷_ Row.alive (List._∷_ Row.off (List._∷_ Row.off
+              List.[]))))))));
         }
 
         abbrev G8 : Row.Cx
         G8 = record {
           locals = List._++_ g5 t1;
-          slots = List._∷_ (Row.lease (κs .0) (qs .0)) (List._∷_ (Row.lease (κs .1 .0) (qs .1 .0)) (List._∷_ Row.off (List._∷_ (Row.lease (κs .1 .1 .1 .0) (qs .1
-              .1 .1 .0)) (List._∷_ (Row.lease (κs .1 .1 .1 .1 .0) (qs .1 .1 .1 .1 .0)) (List._∷_ (Row.lease (κs .1 .1 .1 .1 .1 .0) (qs .1 .1 .1 .1 .1 .0)) (List._∷_ Row.alive (List._∷_ Row.off (List._∷_
-              Row.off List.[]))))))));
+          slots = List._∷_ (Row.lease (κs .0) (qs .0)) (List._∷_ (Row.lease (κs .1 .0) (qs .1 .0)) (List._∷_ Row.off (List._∷_ (Row.lease (κs .1 .1 .1 .0) (qs .1 .1 .1 .0))
+              (List._∷_ (Row.lease (κs .1 .1 .1 .1 .0) (qs .1 .1 .1 .1 .0)) (List._∷_ (Row.lease (κs .1 .1 .1 .1 .1 .0) (qs .1 .1 .1 .1 .1 .0)) (List._∷_ Row.alive (List._∷_ Row.off (List._∷_ Row.off
+              List.[]))))))));
         }
 
         abbrev G9 : Row.Cx
         G9 = record {
           locals = List._++_ g5 t1;
-          slots = List._∷_ (Row.lease (κs .0) (qs .0)) (List._∷_ (Row.lease (κs .1 .0) (qs .1 .0)) (List._∷_ Row.off (List._∷_ (Row.lease (κs .1 .1 .1 .0) (qs .1
-              .1 .1 .0)) (List._∷_ (Row.lease (κs .1 .1 .1 .1 .0) (qs .1 .1 .1 .1 .0)) (List._∷_ (Row.lease (κs .1 .1 .1 .1 .1 .0) (qs .1 .1 .1 .1 .1 .0)) (List._∷_ Row.alive (List._∷_ Row.alive (List._∷_
-              Row.off List.[]))))))));
+          slots = List._∷_ (Row.lease (κs .0) (qs .0)) (List._∷_ (Row.lease (κs .1 .0) (qs .1 .0)) (List._∷_ Row.off (List._∷_ (Row.lease (κs .1 .1 .1 .0) (qs .1 .1 .1 .0))
+              (List._∷_ (Row.lease (κs .1 .1 .1 .1 .0) (qs .1 .1 .1 .1 .0)) (List._∷_ (Row.lease (κs .1 .1 .1 .1 .1 .0) (qs .1 .1 .1 .1 .1 .0)) (List._∷_ Row.alive (List._∷_ Row.alive (List._∷_ Row.off
+              List.[]))))))));
         }
 
         abbrev G10 : Row.Cx
         G10 = record {
           locals = List._++_ g6 t1;
-          slots = List._∷_ (Row.lease (κs .0) (qs .0)) (List._∷_ (Row.lease (κs .1 .0) (qs .1 .0)) (List._∷_ Row.off (List._∷_ Row.off (List._∷_ (Row.lease (κs
-              .1 .1 .1 .1 .0) (qs .1 .1 .1 .1 .0)) (List._∷_ (Row.lease (κs .1 .1 .1 .1 .1 .0) (qs .1 .1 .1 .1 .1 .0)) (List._∷_ Row.alive (List._∷_ Row.alive (List._∷_ Row.off List.[]))))))));
+          slots = List._∷_ (Row.lease (κs .0) (qs .0)) (List._∷_ (Row.lease (κs .1 .0) (qs .1 .0)) (List._∷_ Row.off (List._∷_ Row.off (List._∷_ (Row.lease (κs .1 .1 .1 .1
+              .0) (qs .1 .1 .1 .1 .0)) (List._∷_ (Row.lease (κs .1 .1 .1 .1 .1 .0) (qs .1 .1 .1 .1 .1 .0)) (List._∷_ Row.alive (List._∷_ Row.alive (List._∷_ Row.off List.[]))))))));
         }
 
         abbrev G11 : Row.Cx
         G11 = record {
           locals = List._++_ g7 t1;
-          slots = List._∷_ (Row.lease (κs .0) (qs .0)) (List._∷_ (Row.lease (κs .1 .0) (qs .1 .0)) (List._∷_ Row.off (List._∷_ Row.off (List._∷_ (Row.lease (κs
-              .1 .1 .1 .1 .0) (qs .1 .1 .1 .1 .0)) (List._∷_ (Row.lease (κs .1 .1 .1 .1 .1 .0) (qs .1 .1 .1 .1 .1 .0)) (List._∷_ Row.alive (List._∷_ Row.alive (List._∷_ Row.off List.[]))))))));
+          slots = List._∷_ (Row.lease (κs .0) (qs .0)) (List._∷_ (Row.lease (κs .1 .0) (qs .1 .0)) (List._∷_ Row.off (List._∷_ Row.off (List._∷_ (Row.lease (κs .1 .1 .1 .1
+              .0) (qs .1 .1 .1 .1 .0)) (List._∷_ (Row.lease (κs .1 .1 .1 .1 .1 .0) (qs .1 .1 .1 .1 .1 .0)) (List._∷_ Row.alive (List._∷_ Row.alive (List._∷_ Row.off List.[]))))))));
         }
 
         abbrev G12 : Row.Cx
         G12 = record {
           locals = List._++_ g7 t1;
-          slots = List._∷_ (Row.lease (κs .0) (qs .0)) (List._∷_ (Row.lease (κs .1 .0) (qs .1 .0)) (List._∷_ Row.off (List._∷_ Row.off (List._∷_ (Row.lease (κs
-              .1 .1 .1 .1 .0) (qs .1 .1 .1 .1 .0)) (List._∷_ (Row.lease (κs .1 .1 .1 .1 .1 .0) (qs .1 .1 .1 .1 .1 .0)) (List._∷_ Row.alive (List._∷_ Row.alive (List._∷_ Row.alive List.[]))))))));
+          slots = List._∷_ (Row.lease (κs .0) (qs .0)) (List._∷_ (Row.lease (κs .1 .0) (qs .1 .0)) (List._∷_ Row.off (List._∷_ Row.off (List._∷_ (Row.lease (κs .1 .1 .1 .1
+              .0) (qs .1 .1 .1 .1 .0)) (List._∷_ (Row.lease (κs .1 .1 .1 .1 .1 .0) (qs .1 .1 .1 .1 .1 .0)) (List._∷_ Row.alive (List._∷_ Row.alive (List._∷_ Row.alive List.[]))))))));
         }
 
         abbrev G13 : Row.Cx
         G13 = record {
           locals = List._++_ g8 t9;
-          slots = List._∷_ (Row.lease (κs .0) (qs .0)) (List._∷_ (Row.lease (κs .1 .0) (qs .1 .0)) (List._∷_ Row.off (List._∷_ Row.off (List._∷_ Row.off
-              (List._∷_ (Row.lease (κs .1 .1 .1 .1 .1 .0) (qs .1 .1 .1 .1 .1 .0)) (List._∷_ Row.alive (List._∷_ Row.alive (List._∷_ Row.alive List.[]))))))));
+          slots = List._∷_ (Row.lease (κs .0) (qs .0)) (List._∷_ (Row.lease (κs .1 .0) (qs .1 .0)) (List._∷_ Row.off (List._∷_ Row.off (List._∷_ Row.off (List._∷_ (Row.lease
+              (κs .1 .1 .1 .1 .1 .0) (qs .1 .1 .1 .1 .1 .0)) (List._∷_ Row.alive (List._∷_ Row.alive (List._∷_ Row.alive List.[]))))))));
         }
 
         abbrev G14 : Row.Cx
         G14 = record {
           locals = List._++_ g8 t10;
-          slots = List._∷_ (Row.lease (κs .0) (qs .0)) (List._∷_ (Row.lease (κs .1 .0) (qs .1 .0)) (List._∷_ Row.off (List._∷_ Row.off (List._∷_ Row.off
-              (List._∷_ (Row.lease (κs .1 .1 .1 .1 .1 .0) (qs .1 .1 .1 .1 .1 .0)) (List._∷_ Row.alive (List._∷_ Row.alive (List._∷_ Row.alive List.[]))))))));
+          slots = List._∷_ (Row.lease (κs .0) (qs .0)) (List._∷_ (Row.lease (κs .1 .0) (qs .1 .0)) (List._∷_ Row.off (List._∷_ Row.off (List._∷_ Row.off (List._∷_ (Row.lease
+              (κs .1 .1 .1 .1 .1 .0) (qs .1 .1 .1 .1 .1 .0)) (List._∷_ Row.alive (List._∷_ Row.alive (List._∷_ Row.alive List.[]))))))));
         }
 
         abbrev G15 : Row.Cx
         G15 = record {
           locals = List._++_ g11 t12;
-          slots = List._∷_ (Row.lease (κs .0) (qs .0)) (List._∷_ (Row.lease (κs .1 .0) (qs .1 .0)) (List._∷_ Row.off (List._∷_ Row.off (List._∷_ Row.off
-              (List._∷_ (Row.lease (κs .1 .1 .1 .1 .1 .0) (qs .1 .1 .1 .1 .1 .0)) (List._∷_ Row.alive (List._∷_ Row.alive (List._∷_ Row.alive List.[]))))))));
+          slots = List._∷_ (Row.lease (κs .0) (qs .0)) (List._∷_ (Row.lease (κs .1 .0) (qs .1 .0)) (List._∷_ Row.off (List._∷_ Row.off (List._∷_ Row.off (List._∷_
+              (Row.lease (κs .1 .1 .1 .1 .1 .0) (qs .1 .1 .1 .1 .1 .0)) (List._∷_ Row.alive (List._∷_ Row.alive (List._∷_ Row.alive List.[]))))))));
         }
 
         abbrev G16 : Row.Cx
         G16 = record {
           locals = List._++_ g13 t12;
-          slots = List._∷_ (Row.lease (κs .0) (qs .0)) (List._∷_ (Row.lease (κs .1 .0) (qs .1 .0)) (List._∷_ Row.off (List._∷_ Row.off (List._∷_ Row.off
-              (List._∷_ (Row.lease (κs .1 .1 .1 .1 .1 .0) (qs .1 .1 .1 .1 .1 .0)) (List._∷_ Row.alive (List._∷_ Row.alive (List._∷_ Row.alive List.[]))))))));
+          slots = List._∷_ (Row.lease (κs .0) (qs .0)) (List._∷_ (Row.lease (κs .1 .0) (qs .1 .0)) (List._∷_ Row.off (List._∷_ Row.off (List._∷_ Row.off (List._∷_
+              (Row.lease (κs .1 .1 .1 .1 .1 .0) (qs .1 .1 .1 .1 .1 .0)) (List._∷_ Row.alive (List._∷_ Row.alive (List._∷_ Row.alive List.[]))))))));
         }
 
         abbrev G17 : Row.Cx
         G17 = record {
           locals = List._++_ g13 t12;
-          slots = List._∷_ (Row.lease (κs .0) (qs .0)) (List._∷_ (Row.lease (κs .1 .0) (qs .1 .0)) (List._∷_ Row.off (List._∷_ Row.off (List._∷_ Row.off
-              (List._∷_ (Row.lease (κs .1 .1 .1 .1 .1 .0) (qs .1 .1 .1 .1 .1 .0)) (List._∷_ Row.dead (List._∷_ Row.alive (List._∷_ Row.alive List.[]))))))));
+          slots = List._∷_ (Row.lease (κs .0) (qs .0)) (List._∷_ (Row.lease (κs .1 .0) (qs .1 .0)) (List._∷_ Row.off (List._∷_ Row.off (List._∷_ Row.off (List._∷_
+              (Row.lease (κs .1 .1 .1 .1 .1 .0) (qs .1 .1 .1 .1 .1 .0)) (List._∷_ Row.dead (List._∷_ Row.alive (List._∷_ Row.alive List.[]))))))));
         }
 
         abbrev G18 : Row.Cx
         G18 = record {
           locals = List._++_ g14 t12;
-          slots = List._∷_ (Row.lease (κs .0) (qs .0)) (List._∷_ (Row.lease (κs .1 .0) (qs .1 .0)) (List._∷_ (Row.lease (κs .1 .1 .0) (qs .1 .1 .0)) (List._∷_
-              Row.off (List._∷_ Row.off (List._∷_ (Row.lease (κs .1 .1 .1 .1 .1 .0) (qs .1 .1 .1 .1 .1 .0)) (List._∷_ Row.dead (List._∷_ Row.alive (List._∷_ Row.alive List.[]))))))));
+          slots = List._∷_ (Row.lease (κs .0) (qs .0)) (List._∷_ (Row.lease (κs .1 .0) (qs .1 .0)) (List._∷_ (Row.lease (κs .1 .1 .0) (qs .1 .1 .0)) (List._∷_ Row.off
+              (List._∷_ Row.off (List._∷_ (Row.lease (κs .1 .1 .1 .1 .1 .0) (qs .1 .1 .1 .1 .1 .0)) (List._∷_ Row.dead (List._∷_ Row.alive (List._∷_ Row.alive List.[]))))))));
         }
 
         abbrev G19 : Row.Cx
         G19 = record {
           locals = List._++_ g14 t12;
-          slots = List._∷_ (Row.lease (κs .0) (qs .0)) (List._∷_ (Row.lease (κs .1 .0) (qs .1 .0)) (List._∷_ (Row.lease (κs .1 .1 .0) (qs .1 .1 .0)) (List._∷_
-              Row.off (List._∷_ Row.off (List._∷_ (Row.lease (κs .1 .1 .1 .1 .1 .0) (qs .1 .1 .1 .1 .1 .0)) (List._∷_ Row.dead (List._∷_ Row.alive (List._∷_ Row.alive List.[]))))))));
+          slots = List._∷_ (Row.lease (κs .0) (qs .0)) (List._∷_ (Row.lease (κs .1 .0) (qs .1 .0)) (List._∷_ (Row.lease (κs .1 .1 .0) (qs .1 .1 .0)) (List._∷_ Row.off
+              (List._∷_ Row.off (List._∷_ (Row.lease (κs .1 .1 .1 .1 .1 .0) (qs .1 .1 .1 .1 .1 .0)) (List._∷_ Row.dead (List._∷_ Row.alive (List._∷_ Row.alive List.[]))))))));
         }
 
         abbrev G20 : Row.Cx
         G20 = record {
           locals = List._++_ g14 t12;
-          slots = List._∷_ (Row.lease (κs .0) (qs .0)) (List._∷_ (Row.lease (κs .1 .0) (qs .1 .0)) (List._∷_ (Row.lease (κs .1 .1 .0) (qs .1 .1 .0)) (List._∷_
-              Row.off (List._∷_ Row.off (List._∷_ (Row.lease (κs .1 .1 .1 .1 .1 .0) (qs .1 .1 .1 .1 .1 .0)) (List._∷_ Row.off (List._∷_ Row.alive (List._∷_ Row.alive List.[]))))))));
+          slots = List._∷_ (Row.lease (κs .0) (qs .0)) (List._∷_ (Row.lease (κs .1 .0) (qs .1 .0)) (List._∷_ (Row.lease (κs .1 .1 .0) (qs .1 .1 .0)) (List._∷_ Row.off
+              (List._∷_ Row.off (List._∷_ (Row.lease (κs .1 .1 .1 .1 .1 .0) (qs .1 .1 .1 .1 .1 .0)) (List._∷_ Row.off (List._∷_ Row.alive (List._∷_ Row.alive List.[]))))))));
         }
 
         abbrev G21 : Row.Cx
         G21 = record {
           locals = List._++_ g14 t12;
-          slots = List._∷_ (Row.lease (κs .0) (qs .0)) (List._∷_ (Row.lease (κs .1 .0) (qs .1 .0)) (List._∷_ (Row.lease (κs .1 .1 .0) (qs .1 .1 .0)) (List._∷_
-              Row.off (List._∷_ Row.off (List._∷_ (Row.lease (κs .1 .1 .1 .1 .1 .0) (qs .1 .1 .1 .1 .1 .0)) (List._∷_ Row.off (List._∷_ Row.dead (List._∷_ Row.alive List.[]))))))));
+          slots = List._∷_ (Row.lease (κs .0) (qs .0)) (List._∷_ (Row.lease (κs .1 .0) (qs .1 .0)) (List._∷_ (Row.lease (κs .1 .1 .0) (qs .1 .1 .0)) (List._∷_ Row.off
+              (List._∷_ Row.off (List._∷_ (Row.lease (κs .1 .1 .1 .1 .1 .0) (qs .1 .1 .1 .1 .1 .0)) (List._∷_ Row.off (List._∷_ Row.dead (List._∷_ Row.alive List.[]))))))));
         }
 
         abbrev G22 : Row.Cx
         G22 = record {
           locals = List._++_ g15 t12;
-          slots = List._∷_ (Row.lease (κs .0) (qs .0)) (List._∷_ (Row.lease (κs .1 .0) (qs .1 .0)) (List._∷_ (Row.lease (κs .1 .1 .0) (qs .1 .1 .0)) (List._∷_
-              (Row.lease (κs .1 .1 .1 .0) (qs .1 .1 .1 .0)) (List._∷_ Row.off (List._∷_ (Row.lease (κs .1 .1 .1 .1 .1 .0) (qs .1 .1 .1 .1 .1 .0)) (List._∷_ Row.off (List._∷_ Row.dead (List._∷_ Row.alive
+          slots = List._∷_ (Row.lease (κs .0) (qs .0)) (List._∷_ (Row.lease (κs .1 .0) (qs .1 .0)) (List._∷_ (Row.lease (κs .1 .1 .0) (qs .1 .1 .0)) (List._∷_ (Row.lease
+              (κs .1 .1 .1 .0) (qs .1 .1 .1 .0)) (List._∷_ Row.off (List._∷_ (Row.lease (κs .1 .1 .1 .1 .1 .0) (qs .1 .1 .1 .1 .1 .0)) (List._∷_ Row.off (List._∷_ Row.dead (List._∷_ Row.alive
               List.[]))))))));
         }
 
         abbrev G23 : Row.Cx
         G23 = record {
           locals = List._++_ g15 t12;
-          slots = List._∷_ (Row.lease (κs .0) (qs .0)) (List._∷_ (Row.lease (κs .1 .0) (qs .1 .0)) (List._∷_ (Row.lease (κs .1 .1 .0) (qs .1 .1 .0)) (List._∷_
-              (Row.lease (κs .1 .1 .1 .0) (qs .1 .1 .1 .0)) (List._∷_ Row.off (List._∷_ (Row.lease (κs .1 .1 .1 .1 .1 .0) (qs .1 .1 .1 .1 .1 .0)) (List._∷_ Row.off (List._∷_ Row.dead (List._∷_ Row.alive
+          slots = List._∷_ (Row.lease (κs .0) (qs .0)) (List._∷_ (Row.lease (κs .1 .0) (qs .1 .0)) (List._∷_ (Row.lease (κs .1 .1 .0) (qs .1 .1 .0)) (List._∷_ (Row.lease
+              (κs .1 .1 .1 .0) (qs .1 .1 .1 .0)) (List._∷_ Row.off (List._∷_ (Row.lease (κs .1 .1 .1 .1 .1 .0) (qs .1 .1 .1 .1 .1 .0)) (List._∷_ Row.off (List._∷_ Row.dead (List._∷_ Row.alive
               List.[]))))))));
         }
 
         abbrev G24 : Row.Cx
         G24 = record {
           locals = List._++_ g15 t12;
-          slots = List._∷_ (Row.lease (κs .0) (qs .0)) (List._∷_ (Row.lease (κs .1 .0) (qs .1 .0)) (List._∷_ (Row.lease (κs .1 .1 .0) (qs .1 .1 .0)) (List._∷_
-              (Row.lease (κs .1 .1 .1 .0) (qs .1 .1 .1 .0)) (List._∷_ Row.off (List._∷_ (Row.lease (κs .1 .1 .1 .1 .1 .0) (qs .1 .1 .1 .1 .1 .0)) (List._∷_ Row.off (List._∷_ Row.off (List._∷_ Row.alive
+          slots = List._∷_ (Row.lease (κs .0) (qs .0)) (List._∷_ (Row.lease (κs .1 .0) (qs .1 .0)) (List._∷_ (Row.lease (κs .1 .1 .0) (qs .1 .1 .0)) (List._∷_ (Row.lease
+              (κs .1 .1 .1 .0) (qs .1 .1 .1 .0)) (List._∷_ Row.off (List._∷_ (Row.lease (κs .1 .1 .1 .1 .1 .0) (qs .1 .1 .1 .1 .1 .0)) (List._∷_ Row.off (List._∷_ Row.off (List._∷_ Row.alive
               List.[]))))))));
         }
 
         abbrev G25 : Row.Cx
         G25 = record {
           locals = List._++_ g15 t12;
-          slots = List._∷_ (Row.lease (κs .0) (qs .0)) (List._∷_ (Row.lease (κs .1 .0) (qs .1 .0)) (List._∷_ (Row.lease (κs .1 .1 .0) (qs .1 .1 .0)) (List._∷_
-              (Row.lease (κs .1 .1 .1 .0) (qs .1 .1 .1 .0)) (List._∷_ Row.off (List._∷_ (Row.lease (κs .1 .1 .1 .1 .1 .0) (qs .1 .1 .1 .1 .1 .0)) (List._∷_ Row.off (List._∷_ Row.off (List._∷_ Row.dead
-              List.[]))))))));
+          slots = List._∷_ (Row.lease (κs .0) (qs .0)) (List._∷_ (Row.lease (κs .1 .0) (qs .1 .0)) (List._∷_ (Row.lease (κs .1 .1 .0) (qs .1 .1 .0)) (List._∷_ (Row.lease
+              (κs .1 .1 .1 .0) (qs .1 .1 .1 .0)) (List._∷_ Row.off (List._∷_ (Row.lease (κs .1 .1 .1 .1 .1 .0) (qs .1 .1 .1 .1 .1 .0)) (List._∷_ Row.off (List._∷_ Row.off (List._∷_ Row.dead List.[]))))))));
         }
 
         abbrev G26 : Row.Cx
         G26 = record {
           locals = List._++_ t16 t1;
-          slots = List._∷_ (Row.lease (κs .0) (qs .0)) (List._∷_ (Row.lease (κs .1 .0) (qs .1 .0)) (List._∷_ (Row.lease (κs .1 .1 .0) (qs .1 .1 .0)) (List._∷_
-              (Row.lease (κs .1 .1 .1 .0) (qs .1 .1 .1 .0)) (List._∷_ (Row.lease (κs .1 .1 .1 .1 .0) (qs .1 .1 .1 .1 .0)) (List._∷_ (Row.lease (κs .1 .1 .1 .1 .1 .0) (qs .1 .1 .1 .1 .1 .0)) (List._∷_
-              Row.off (List._∷_ Row.off (List._∷_ Row.dead List.[]))))))));
+          slots = List._∷_ (Row.lease (κs .0) (qs .0)) (List._∷_ (Row.lease (κs .1 .0) (qs .1 .0)) (List._∷_ (Row.lease (κs .1 .1 .0) (qs .1 .1 .0)) (List._∷_ (Row.lease (κs
+              .1 .1 .1 .0) (qs .1 .1 .1 .0)) (List._∷_ (Row.lease (κs .1 .1 .1 .1 .0) (qs .1 .1 .1 .1 .0)) (List._∷_ (Row.lease (κs .1 .1 .1 .1 .1 .0) (qs .1 .1 .1 .1 .1 .0)) (List._∷_ Row.off (List._∷_
+              Row.off (List._∷_ Row.dead List.[]))))))));
         }
 
         abbrev G27 : Row.Cx
         G27 = record {
           locals = List._++_ t16 t1;
-          slots = List._∷_ (Row.lease (κs .0) (qs .0)) (List._∷_ (Row.lease (κs .1 .0) (qs .1 .0)) (List._∷_ (Row.lease (κs .1 .1 .0) (qs .1 .1 .0)) (List._∷_
-              (Row.lease (κs .1 .1 .1 .0) (qs .1 .1 .1 .0)) (List._∷_ (Row.lease (κs .1 .1 .1 .1 .0) (qs .1 .1 .1 .1 .0)) (List._∷_ (Row.lease (κs .1 .1 .1 .1 .1 .0) (qs .1 .1 .1 .1 .1 .0)) (List._∷_
-              Row.off (List._∷_ Row.off (List._∷_ Row.off List.[]))))))));
+          slots = List._∷_ (Row.lease (κs .0) (qs .0)) (List._∷_ (Row.lease (κs .1 .0) (qs .1 .0)) (List._∷_ (Row.lease (κs .1 .1 .0) (qs .1 .1 .0)) (List._∷_ (Row.lease (κs
+              .1 .1 .1 .0) (qs .1 .1 .1 .0)) (List._∷_ (Row.lease (κs .1 .1 .1 .1 .0) (qs .1 .1 .1 .1 .0)) (List._∷_ (Row.lease (κs .1 .1 .1 .1 .1 .0) (qs .1 .1 .1 .1 .1 .0)) (List._∷_ Row.off (List._∷_
+              Row.off (List._∷_ Row.off List.[]))))))));
         }
 
         abbrev G28 : Row.Cx
         G28 = record {
           locals = List._++_ t17 t1;
-          slots = List._∷_ (Row.lease (κs .0) (qs .0)) (List._∷_ (Row.lease (κs .1 .0) (qs .1 .0)) (List._∷_ (Row.lease (κs .1 .1 .0) (qs .1 .1 .0)) (List._∷_
-              (Row.lease (κs .1 .1 .1 .0) (qs .1 .1 .1 .0)) (List._∷_ (Row.lease (κs .1 .1 .1 .1 .0) (qs .1 .1 .1 .1 .0)) (List._∷_ (Row.lease (κs .1 .1 .1 .1 .1 .0) (qs .1 .1 .1 .1 .1 .0)) (List._∷_
-              Row.off (List._∷_ Row.off (List._∷_ Row.off List.[]))))))));
+          slots = List._∷_ (Row.lease (κs .0) (qs .0)) (List._∷_ (Row.lease (κs .1 .0) (qs .1 .0)) (List._∷_ (Row.lease (κs .1 .1 .0) (qs .1 .1 .0)) (List._∷_ (Row.lease (κs
+              .1 .1 .1 .0) (qs .1 .1 .1 .0)) (List._∷_ (Row.lease (κs .1 .1 .1 .1 .0) (qs .1 .1 .1 .1 .0)) (List._∷_ (Row.lease (κs .1 .1 .1 .1 .1 .0) (qs .1 .1 .1 .1 .1 .0)) (List._∷_ Row.off (List._∷_
+              Row.off (List._∷_ Row.off List.[]))))))));
         }
 
         abbrev G29 : Row.Cx
         G29 = record {
           locals = List._++_ t18 t1;
-          slots = List._∷_ (Row.lease (κs .0) (qs .0)) (List._∷_ (Row.lease (κs .1 .0) (qs .1 .0)) (List._∷_ (Row.lease (κs .1 .1 .0) (qs .1 .1 .0)) (List._∷_
-              (Row.lease (κs .1 .1 .1 .0) (qs .1 .1 .1 .0)) (List._∷_ (Row.lease (κs .1 .1 .1 .1 .0) (qs .1 .1 .1 .1 .0)) (List._∷_ (Row.lease (κs .1 .1 .1 .1 .1 .0) (qs .1 .1 .1 .1 .1 .0)) (List._∷_
-              Row.off (List._∷_ Row.off (List._∷_ Row.off List.[]))))))));
+          slots = List._∷_ (Row.lease (κs .0) (qs .0)) (List._∷_ (Row.lease (κs .1 .0) (qs .1 .0)) (List._∷_ (Row.lease (κs .1 .1 .0) (qs .1 .1 .0)) (List._∷_ (Row.lease (κs
+              .1 .1 .1 .0) (qs .1 .1 .1 .0)) (List._∷_ (Row.lease (κs .1 .1 .1 .1 .0) (qs .1 .1 .1 .1 .0)) (List._∷_ (Row.lease (κs .1 .1 .1 .1 .1 .0) (qs .1 .1 .1 .1 .1 .0)) (List._∷_ Row.off (List._∷_
+              Row.off (List._∷_ Row.off List.[]))))))));
         }
 
         abbrev G30 : Row.Cx
         G30 = record {
           locals = List._++_ t18 t1;
-          slots = List._∷_ (Row.lease (κs .0) (qs .0)) (List._∷_ (Row.lease (κs .1 .0) (qs .1 .0)) (List._∷_ (Row.lease (κs .1 .1 .0) (qs .1 .1 .0)) (List._∷_
-              (Row.lease (κs .1 .1 .1 .0) (qs .1 .1 .1 .0)) (List._∷_ (Row.lease (κs .1 .1 .1 .1 .0) (qs .1 .1 .1 .1 .0)) (List._∷_ (Row.lease (κs .1 .1 .1 .1 .1 .0) (qs .1 .1 .1 .1 .1 .0)) (List._∷_
-              Row.off (List._∷_ Row.off (List._∷_ Row.off List.[]))))))));
+          slots = List._∷_ (Row.lease (κs .0) (qs .0)) (List._∷_ (Row.lease (κs .1 .0) (qs .1 .0)) (List._∷_ (Row.lease (κs .1 .1 .0) (qs .1 .1 .0)) (List._∷_ (Row.lease (κs
+              .1 .1 .1 .0) (qs .1 .1 .1 .0)) (List._∷_ (Row.lease (κs .1 .1 .1 .1 .0) (qs .1 .1 .1 .1 .0)) (List._∷_ (Row.lease (κs .1 .1 .1 .1 .1 .0) (qs .1 .1 .1 .1 .1 .0)) (List._∷_ Row.off (List._∷_
+              Row.off (List._∷_ Row.off List.[]))))))));
         }
 
         abbrev G31 : Row.Cx
         G31 = record {
           locals = List._++_ t0 t1;
-          slots = List._∷_ (Row.lease (κs .0) (qs .0)) (List._∷_ (Row.lease (κs .1 .0) (qs .1 .0)) (List._∷_ (Row.lease (κs .1 .1 .0) (qs .1 .1 .0)) (List._∷_
-              (Row.lease (κs .1 .1 .1 .0) (qs .1 .1 .1 .0)) (List._∷_ (Row.lease (κs .1 .1 .1 .1 .0) (qs .1 .1 .1 .1 .0)) (List._∷_ (Row.lease (κs .1 .1 .1 .1 .1 .0) (qs .1 .1 .1 .1 .1 .0)) (List._∷_
-              Row.off (List._∷_ Row.off (List._∷_ Row.off List.[]))))))));
+          slots = List._∷_ (Row.lease (κs .0) (qs .0)) (List._∷_ (Row.lease (κs .1 .0) (qs .1 .0)) (List._∷_ (Row.lease (κs .1 .1 .0) (qs .1 .1 .0)) (List._∷_ (Row.lease (κs
+              .1 .1 .1 .0) (qs .1 .1 .1 .0)) (List._∷_ (Row.lease (κs .1 .1 .1 .1 .0) (qs .1 .1 .1 .1 .0)) (List._∷_ (Row.lease (κs .1 .1 .1 .1 .1 .0) (qs .1 .1 .1 .1 .1 .0)) (List._∷_ Row.off (List._∷_
+              Row.off (List._∷_ Row.off List.[]))))))));
         }
 
         abbrev G32 : Row.Cx
         G32 = record {
           locals = List._++_ t19 t1;
-          slots = List._∷_ (Row.lease (κs .0) (qs .0)) (List._∷_ (Row.lease (κs .1 .0) (qs .1 .0)) (List._∷_ (Row.lease (κs .1 .1 .0) (qs .1 .1 .0)) (List._∷_
-              (Row.lease (κs .1 .1 .1 .0) (qs .1 .1 .1 .0)) (List._∷_ (Row.lease (κs .1 .1 .1 .1 .0) (qs .1 .1 .1 .1 .0)) (List._∷_ (Row.lease (κs .1 .1 .1 .1 .1 .0) (qs .1 .1 .1 .1 .1 .0)) (List._∷_
-              Row.off (List._∷_ Row.off (List._∷_ Row.off List.[]))))))));
+          slots = List._∷_ (Row.lease (κs .0) (qs .0)) (List._∷_ (Row.lease (κs .1 .0) (qs .1 .0)) (List._∷_ (Row.lease (κs .1 .1 .0) (qs .1 .1 .0)) (List._∷_ (Row.lease (κs
+              .1 .1 .1 .0) (qs .1 .1 .1 .0)) (List._∷_ (Row.lease (κs .1 .1 .1 .1 .0) (qs .1 .1 .1 .1 .0)) (List._∷_ (Row.lease (κs .1 .1 .1 .1 .1 .0) (qs .1 .1 .1 .1 .1 .0)) (List._∷_ Row.off (List._∷_
+              Row.off (List._∷_ Row.off List.[]))))))));
         }
 
         abbrev G33 : Row.Cx
         G33 = record {
           locals = List._++_ t20 t1;
-          slots = List._∷_ (Row.lease (κs .0) (qs .0)) (List._∷_ (Row.lease (κs .1 .0) (qs .1 .0)) (List._∷_ (Row.lease (κs .1 .1 .0) (qs .1 .1 .0)) (List._∷_
-              (Row.lease (κs .1 .1 .1 .0) (qs .1 .1 .1 .0)) (List._∷_ (Row.lease (κs .1 .1 .1 .1 .0) (qs .1 .1 .1 .1 .0)) (List._∷_ (Row.lease (κs .1 .1 .1 .1 .1 .0) (qs .1 .1 .1 .1 .1 .0)) (List._∷_
-              Row.off (List._∷_ Row.off (List._∷_ Row.off List.[]))))))));
+          slots = List._∷_ (Row.lease (κs .0) (qs .0)) (List._∷_ (Row.lease (κs .1 .0) (qs .1 .0)) (List._∷_ (Row.lease (κs .1 .1 .0) (qs .1 .1 .0)) (List._∷_ (Row.lease (κs
+              .1 .1 .1 .0) (qs .1 .1 .1 .0)) (List._∷_ (Row.lease (κs .1 .1 .1 .1 .0) (qs .1 .1 .1 .1 .0)) (List._∷_ (Row.lease (κs .1 .1 .1 .1 .1 .0) (qs .1 .1 .1 .1 .1 .0)) (List._∷_ Row.off (List._∷_
+              Row.off (List._∷_ Row.off List.[]))))))));
         }
 
         abbrev G34 : Row.Cx
         G34 = record {
           locals = List._++_ t2 t1;
-          slots = List._∷_ (Row.lease (κs .0) (qs .0)) (List._∷_ (Row.lease (κs .1 .0) (qs .1 .0)) (List._∷_ (Row.lease (κs .1 .1 .0) (qs .1 .1 .0)) (List._∷_
-              (Row.lease (κs .1 .1 .1 .0) (qs .1 .1 .1 .0)) (List._∷_ (Row.lease (κs .1 .1 .1 .1 .0) (qs .1 .1 .1 .1 .0)) (List._∷_ (Row.lease (κs .1 .1 .1 .1 .1 .0) (qs .1 .1 .1 .1 .1 .0)) (List._∷_
-              Row.off (List._∷_ Row.off (List._∷_ Row.off List.[]))))))));
+          slots = List._∷_ (Row.lease (κs .0) (qs .0)) (List._∷_ (Row.lease (κs .1 .0) (qs .1 .0)) (List._∷_ (Row.lease (κs .1 .1 .0) (qs .1 .1 .0)) (List._∷_ (Row.lease (κs
+              .1 .1 .1 .0) (qs .1 .1 .1 .0)) (List._∷_ (Row.lease (κs .1 .1 .1 .1 .0) (qs .1 .1 .1 .1 .0)) (List._∷_ (Row.lease (κs .1 .1 .1 .1 .1 .0) (qs .1 .1 .1 .1 .1 .0)) (List._∷_ Row.off (List._∷_
+              Row.off (List._∷_ Row.off List.[]))))))));
         }
 
         abbrev Δ0 : Typed.Outs
@@ -1906,14 +1087,12 @@ module _ (claims· : Claims) where
           d7 = Typed.s-seq 𝓤 H A W 𝓣 E G27 G28 b8 b13 Δ0 (Typed.both s26) at6 (Plain.t-call-plain 𝓤 H A W 𝓣 0 ps·1 r·1 (claims· .2) (claims· .3) "block::c::answer_words" (known .1) E (λ pos β. β) G27
               (record { pos = 10; st = List.[]; d = 0; at = λ x. x }, tt) 11 List.[] (Call.sub-id 𝓤 H A W (G27 .slots)) (
                 (
-                  Yields.yields-copy 𝓤 H A W (λ ρ. Unit) (Declared.row Decoded.the-type)
-                      Path'.refl (Copies.cEnum Decoded.the-type Laws.the-laws Laws.the-copy .copy 𝓤 H A W) (Rows'.whole (Declared.row Decoded.the-type)) (λ x. x) (λ x. x) (λ ρ told. Local.mem-whole 𝓤 H A W
-                      (Declared.row Decoded.the-type) ρ) λ ρ told. Local.whole-mem 𝓤 H A W (Declared.row Decoded.the-type) ρ,
+                  Yields.yields-copy 𝓤 H A W (λ ρ. Unit) (Declared.row Decoded.the-type) Path'.refl (Copies.cEnum Decoded.the-type Laws.the-laws Laws.the-copy .copy 𝓤 H A W) (Rows'.whole (Declared.row
+                      Decoded.the-type)) (λ x. x) (λ x. x) (λ ρ told. Local.mem-whole 𝓤 H A W (Declared.row Decoded.the-type) ρ) λ ρ told. Local.whole-mem 𝓤 H A W (Declared.row Decoded.the-type) ρ,
                   Path'.refl,
                 ),
                 tt,
-              ) (Reads.room-gone 𝓤 H A (Syntax.tyArray (Syntax.tyInt Syntax.w64)
-              4)) tt Path'.refl) d6
+              ) (Reads.room-gone 𝓤 H A (Syntax.tyArray (Syntax.tyInt Syntax.w64) 4)) tt Path'.refl) d6
 
           d8 : Typed.Typed 𝓤 H A 𝓣 E G26 b14 Δ0 at8
           d8 = Typed.g-pre 𝓤 H A W 𝓣 E G26 G27 b14 Δ0 (λ Ψ. Ψ) at7 (Lifetime.g-forget 𝓤 H A W E G26 8 Row.dead Path'.refl) d7
@@ -1974,57 +1153,43 @@ module _ (claims· : Claims) where
                   (
                     Num.vAt 3 λ x. x,
                     (
-                      record {
-                        pos = 9;
-                        st = List.[];
-                        d =
-                            0;
-                        at = λ x. x;
-                      },
+                      record { pos = 9; st = List.[]; d = 0; at = λ x. x },
                       (
                         record { pos = 13; ty = Syntax.tyRef Syntax.erased Syntax.mut (Syntax.tyInt Syntax.w16); ref = λ x. x },
                         (
-                          record {
-                            pos = 15;
-                            ty = Syntax.tyRef Syntax.erased Syntax.mut
-                                (Syntax.tyInt Syntax.w16);
-                            ref = λ x. x;
-                          },
+                          record { pos = 15; ty = Syntax.tyRef Syntax.erased Syntax.mut (Syntax.tyInt Syntax.w16); ref = λ x. x },
                           (record { pos = 17; ty = Syntax.tyRef Syntax.erased Syntax.mut Element.behind; ref = λ x. x }, tt),
                         ),
                       ),
                     ),
                   ),
                 ),
-              ) 10 (List._∷_ 0 (List._∷_
-              6 (List._∷_ 7 (List._∷_ 8 List.[])))) (Call.sub-id 𝓤 H A W (G14 .slots)) (
-                ShrSlice.spares-sslice 𝓤 H A W (Referent.rtF (Referent.fInt Syntax.w8)) (Syntax.tyRef (Syntax.named 0) Syntax.imm
-                    (Syntax.tyInt Syntax.w8)) 0,
-                Shared.reads-sslice 𝓤 H A W (Referent.rtF (Referent.fInt Syntax.w8)) (Syntax.tyRef (Syntax.named 0) Syntax.imm (Syntax.tyInt Syntax.w8)) 0,
+              ) 10 (List._∷_ 0 (List._∷_ 6 (List._∷_ 7 (List._∷_ 8 List.[])))) (Call.sub-id 𝓤 H A W
+              (G14 .slots)) (
+                ShrSlice.spares-sslice 𝓤 H A W (Referent.rtF (Referent.fInt Syntax.w8)) (Syntax.tyRef (Syntax.named 0) Syntax.imm (Syntax.tyInt Syntax.w8)) 0,
+                Shared.reads-sslice 𝓤 H A W (Referent.rtF
+                    (Referent.fInt Syntax.w8)) (Syntax.tyRef (Syntax.named 0) Syntax.imm (Syntax.tyInt Syntax.w8)) 0,
                 Path'.refl,
                 (
                   (Scalar.reads-sc 𝓤 H A W (Row.sInt Syntax.w64), Path'.refl),
                   (
                     (Scalar.reads-sc 𝓤 H A W (Row.sInt Syntax.w64), Path'.refl),
                     (
-                      (
-                        Array.arr-yields 𝓤 H A W (Array.eInt Syntax.w8)
-                            (Array.eInt-laws Syntax.w8) 36,
-                        Path'.refl,
-                      ),
+                      (Array.arr-yields 𝓤 H A W (Array.eInt Syntax.w8) (Array.eInt-laws Syntax.w8) 36, Path'.refl),
                       (
                         Reads.as-is 𝓤 H A (Mut.mslice (Referent.rtF (Referent.fInt Syntax.w16)) (Syntax.tyRef Syntax.erased Syntax.mut (Syntax.tyInt Syntax.w16)) 6),
-                        Mut.reads-mslice 𝓤 H A W (Referent.rtF (Referent.fInt Syntax.w16)) (Syntax.tyRef Syntax.erased Syntax.mut (Syntax.tyInt Syntax.w16)) 6,
+                        Mut.reads-mslice 𝓤 H A W (Referent.rtF
+                            (Referent.fInt Syntax.w16)) (Syntax.tyRef Syntax.erased Syntax.mut (Syntax.tyInt Syntax.w16)) 6,
                         Path'.refl,
                         (
-                          Reads.as-is 𝓤 H A (Mut.mslice
-                              (Referent.rtF (Referent.fInt Syntax.w16)) (Syntax.tyRef Syntax.erased Syntax.mut (Syntax.tyInt Syntax.w16)) 7),
-                          Mut.reads-mslice 𝓤 H A W (Referent.rtF (Referent.fInt Syntax.w16))
-                              (Syntax.tyRef Syntax.erased Syntax.mut (Syntax.tyInt Syntax.w16)) 7,
+                          Reads.as-is 𝓤 H A (Mut.mslice (Referent.rtF (Referent.fInt Syntax.w16)) (Syntax.tyRef Syntax.erased Syntax.mut (Syntax.tyInt Syntax.w16)) 7),
+                          Mut.reads-mslice 𝓤 H A W (Referent.rtF
+                              (Referent.fInt Syntax.w16)) (Syntax.tyRef Syntax.erased Syntax.mut (Syntax.tyInt Syntax.w16)) 7,
                           Path'.refl,
                           (
                             Reads.as-is 𝓤 H A (Mut.mslice (Element.type) (Syntax.tyRef Syntax.erased Syntax.mut Element.behind) 8),
-                            Mut.reads-mslice 𝓤 H A W (Element.type) (Syntax.tyRef Syntax.erased Syntax.mut Element.behind) 8,
+                            Mut.reads-mslice 𝓤 H A W (Element.type) (Syntax.tyRef Syntax.erased Syntax.mut
+                                Element.behind) 8,
                             Path'.refl,
                             tt,
                           ),
@@ -2033,24 +1198,21 @@ module _ (claims· : Claims) where
                     ),
                   ),
                 ),
-              ) (Reads.room-gone 𝓤 H A (Syntax.tyEnum (List._∷_ 98
-              (List._∷_ 108 (List._∷_ 111 (List._∷_ 99 (List._∷_ 107 (List._∷_ 58 (List._∷_ 58 (List._∷_ 68 (List._∷_ 101 (List._∷_ 99 (List._∷_ 111 (List._∷_ 100 (List._∷_ 101 (List._∷_ 100
-              List.[])))))))))))))) (Syntax.ttcons Syntax.tnil (Syntax.ttcons (Syntax.tcons (Syntax.tyEnum (List._∷_ 115 (List._∷_ 116 (List._∷_ 114 (List._∷_ 101 (List._∷_ 97 (List._∷_ 109 (List._∷_ 58
-              (List._∷_ 58 (List._∷_ 82 (List._∷_ 101 (List._∷_ 102 (List._∷_ 117 (List._∷_ 115 (List._∷_ 97 (List._∷_ 108 List.[]))))))))))))))) (Syntax.ttcons Syntax.tnil (Syntax.ttcons Syntax.tnil
-              (Syntax.ttcons Syntax.tnil (Syntax.ttcons (Syntax.tcons (Syntax.tyInt Syntax.w64) Syntax.tnil) (Syntax.ttcons Syntax.tnil (Syntax.ttcons Syntax.tnil (Syntax.ttcons Syntax.tnil (Syntax.ttcons
-              Syntax.tnil (Syntax.ttcons Syntax.tnil (Syntax.ttcons Syntax.tnil (Syntax.ttcons (Syntax.tcons (Syntax.tyInt Syntax.w64) Syntax.tnil) (Syntax.ttcons (Syntax.tcons (Syntax.tyInt Syntax.w64)
-              Syntax.tnil) (Syntax.ttcons Syntax.tnil (Syntax.ttcons (Syntax.tcons (Syntax.tyInt Syntax.w64) (Syntax.tcons (Syntax.tyInt Syntax.w64) Syntax.tnil)) (Syntax.ttcons (Syntax.tcons
-              (Syntax.tyInt Syntax.w64) Syntax.tnil) Syntax.ttnil)))))))))))))))) Syntax.tnil) Syntax.ttnil)))) (tt, (tt, (tt, (tt, tt)))) Path'.refl) d19
+              ) (Reads.room-gone 𝓤 H A (Syntax.tyEnum (List._∷_ 98 (List._∷_ 108 (List._∷_ 111 (List._∷_ 99 (List._∷_ 107 (List._∷_ 58 (List._∷_ 58 (List._∷_ 68
+              (List._∷_ 101 (List._∷_ 99 (List._∷_ 111 (List._∷_ 100 (List._∷_ 101 (List._∷_ 100 List.[])))))))))))))) (Syntax.ttcons Syntax.tnil (Syntax.ttcons (Syntax.tcons (Syntax.tyEnum (List._∷_ 115
+              (List._∷_ 116 (List._∷_ 114 (List._∷_ 101 (List._∷_ 97 (List._∷_ 109 (List._∷_ 58 (List._∷_ 58 (List._∷_ 82 (List._∷_ 101 (List._∷_ 102 (List._∷_ 117 (List._∷_ 115 (List._∷_ 97 (List._∷_ 108
+              List.[]))))))))))))))) (Syntax.ttcons Syntax.tnil (Syntax.ttcons Syntax.tnil (Syntax.ttcons Syntax.tnil (Syntax.ttcons (Syntax.tcons (Syntax.tyInt Syntax.w64) Syntax.tnil) (Syntax.ttcons
+              Syntax.tnil (Syntax.ttcons Syntax.tnil (Syntax.ttcons Syntax.tnil (Syntax.ttcons Syntax.tnil (Syntax.ttcons Syntax.tnil (Syntax.ttcons Syntax.tnil (Syntax.ttcons (Syntax.tcons (Syntax.tyInt
+              Syntax.w64) Syntax.tnil) (Syntax.ttcons (Syntax.tcons (Syntax.tyInt Syntax.w64) Syntax.tnil) (Syntax.ttcons Syntax.tnil (Syntax.ttcons (Syntax.tcons (Syntax.tyInt Syntax.w64) (Syntax.tcons
+              (Syntax.tyInt Syntax.w64) Syntax.tnil)) (Syntax.ttcons (Syntax.tcons (Syntax.tyInt Syntax.w64) Syntax.tnil) Syntax.ttnil)))))))))))))))) Syntax.tnil) Syntax.ttnil))))
+              (tt, (tt, (tt, (tt, tt)))) Path'.refl) d19
 
           d21 : Typed.Typed 𝓤 H A 𝓣 E G13 b16 Δ0 at21
           d21 = Typed.s-seq 𝓤 H A W 𝓣 E G13 G14 b6 b15 Δ0 (Typed.ask s12) at20 (Relend.t-sl-aggregate 𝓤 H A W E (Element.type) 𝓣 (Relend.asMut (Element.type)) G13 16 17 8 (Syntax.tyRef Syntax.erased
               Syntax.mut Element.behind) (Syntax.tyRef Syntax.erased Syntax.mut Element.behind) (λ x. x) (Scalar.oFld 7 (List._∷_ (Syntax.field 1) List.[]) (Syntax.tyInt Syntax.w64) 8 λ v. Shared.lenV (v
-              .0)) (Reads.as-is 𝓤 H A (Relend.msptr (Element.type) (Syntax.tyRef Syntax.erased Syntax.mut Element.behind) 8)) (Reads.room-gone 𝓤 H A (Syntax.tyStruct (List._∷_ 38 (List._∷_ 91 (List._∷_ 93
-              List.[]))) (Syntax.tcons (Syntax.tyRef Syntax.erased Syntax.mut Element.behind) (Syntax.tcons (Syntax.tyInt Syntax.w64) Syntax.tnil)))) (
-                Relend.reads-owed-len 𝓤 H A W (Element.type)
-                    (Syntax.tyRef (Syntax.named 4) Syntax.mut Element.behind) 4 8 (Row.lease (κs .1 .1 .1 .1 .0) (qs .1 .1 .1 .1 .0)) 8 Path'.refl,
-                Path'.refl,
-              ) Path'.refl Path'.refl λ b o k. tt) d20
+              .0)) (Reads.as-is 𝓤 H A (Relend.msptr (Element.type) (Syntax.tyRef Syntax.erased Syntax.mut Element.behind) 8)) (Reads.room-gone 𝓤 H A y1)
+              (Relend.reads-owed-len 𝓤 H A W (Element.type) (Syntax.tyRef (Syntax.named 4) Syntax.mut Element.behind) 4 8 (Row.lease (κs .1 .1 .1 .1 .0) (qs .1 .1 .1 .1 .0)) 8 Path'.refl, Path'.refl)
+              Path'.refl Path'.refl λ b o k. tt) d20
 
           d22 : Typed.Typed 𝓤 H A 𝓣 E G12 b17 Δ0 at22
           d22 = Typed.s-seq 𝓤 H A W 𝓣 E G12 G13 b5 b16 Δ0 (Typed.give s11) at21 (Relend.t-sl-relend 𝓤 H A W E (Element.type) 𝓣 G12 7 16 4 8 (Syntax.tyRef (Syntax.named 4) Syntax.mut Element.behind)
@@ -2058,61 +1220,16 @@ module _ (claims· : Claims) where
               (Syntax.named 4) Syntax.mut Element.behind) 4)) (Reads.room-gone 𝓤 H A (Syntax.tyRef Syntax.erased Syntax.mut Element.behind)) Path'.refl tt Path'.refl Path'.refl Path'.refl λ b o. tt) d21
 
           d23 : Typed.Typed 𝓤 H A 𝓣 E G11 b17 Δ0 at23
-          d23 = Typed.g-pre 𝓤 H A W 𝓣 E G11 G12 b17 Δ0 (λ Ψ. Ψ) at22 (Lifetime.g-begin 𝓤 H A W E G11 8 (
-            tt,
-            (
-              tt,
-              (
-                tt,
-                (
-                  tt,
-                  (
-                    tt,
-                    (
-                      (tt, tt),
-                      (
-                        (tt, tt),
-                        (
-                          tt,
-                          (
-                            tt,
-                            (
-                              tt,
-                              (
-                                tt,
-                                (
-                                  tt,
-                                  (
-                                    tt,
-                                    (
-                                      tt,
-                                      (
-                                        tt,
-                                        (tt, (tt, (tt, tt))),
-                                      ),
-                                    ),
-                                  ),
-                                ),
-                              ),
-                            ),
-                          ),
-                        ),
-                      ),
-                    ),
-                  ),
-                ),
-              ),
-            ),
-          )) d22
+          d23 = Typed.g-pre 𝓤 H A W 𝓣 E G11 G12 b17 Δ0 (λ Ψ. Ψ) at22 (Lifetime.g-begin 𝓤 H A W E G11 8
+              (tt, (tt, (tt, (tt, (tt, ((tt, tt), ((tt, tt), (tt, (tt, (tt, (tt, (tt, (tt, (tt, (tt, (tt, (tt, (tt, tt))))))))))))))))))) d22
 
           d24 : Typed.Typed 𝓤 H A 𝓣 E G10 b18 Δ0 at24
           d24 = Typed.s-seq 𝓤 H A W 𝓣 E G10 G11 b4 b17 Δ0 (Typed.ask s9) at23 (Relend.t-sl-aggregate 𝓤 H A W E (Referent.rtF (Referent.fInt Syntax.w16)) 𝓣 (Relend.asMut (Referent.rtF (Referent.fInt
               Syntax.w16))) G10 14 15 7 (Syntax.tyRef Syntax.erased Syntax.mut (Syntax.tyInt Syntax.w16)) (Syntax.tyRef Syntax.erased Syntax.mut (Syntax.tyInt Syntax.w16)) (λ x. x) (Scalar.oFld 6
               (List._∷_ (Syntax.field 1) List.[]) (Syntax.tyInt Syntax.w64) 8 λ v. Shared.lenV (v .0)) (Reads.as-is 𝓤 H A (Relend.msptr (Referent.rtF (Referent.fInt Syntax.w16)) (Syntax.tyRef
-              Syntax.erased Syntax.mut (Syntax.tyInt Syntax.w16)) 7)) (Reads.room-gone 𝓤 H A (Syntax.tyStruct (List._∷_ 38 (List._∷_ 91 (List._∷_ 93 List.[]))) (Syntax.tcons (Syntax.tyRef Syntax.erased
-              Syntax.mut (Syntax.tyInt Syntax.w16)) (Syntax.tcons (Syntax.tyInt Syntax.w64) Syntax.tnil)))) (
-                Relend.reads-owed-len 𝓤 H A W (Referent.rtF (Referent.fInt Syntax.w16)) (Syntax.tyRef
-                    (Syntax.named 3) Syntax.mut (Syntax.tyInt Syntax.w16)) 3 7 (Row.lease (κs .1 .1 .1 .0) (qs .1 .1 .1 .0)) 8 Path'.refl,
+              Syntax.erased Syntax.mut (Syntax.tyInt Syntax.w16)) 7)) (Reads.room-gone 𝓤 H A y0) (
+                Relend.reads-owed-len 𝓤 H A W (Referent.rtF (Referent.fInt Syntax.w16)) (Syntax.tyRef (Syntax.named 3) Syntax.mut (Syntax.tyInt Syntax.w16)) 3 7 (Row.lease (κs .1 .1 .1 .0) (qs .1 .1 .1
+                    .0)) 8 Path'.refl,
                 Path'.refl,
               ) Path'.refl Path'.refl λ b o k. tt) d23
 
@@ -2123,67 +1240,16 @@ module _ (claims· : Claims) where
               (Syntax.tyInt Syntax.w16))) Path'.refl tt Path'.refl Path'.refl Path'.refl λ b o. tt) d24
 
           d26 : Typed.Typed 𝓤 H A 𝓣 E G8 b19 Δ0 at26
-          d26 = Typed.g-pre 𝓤 H A W 𝓣 E G8 G9 b19 Δ0 (λ Ψ. Ψ) at25 (Lifetime.g-begin 𝓤 H A W E G8 7 (
-            tt,
-            (
-              tt,
-              (
-                tt,
-                (
-                  tt,
-                  (
-                    tt,
-                    (
-                      (tt, tt),
-                      (
-                        tt,
-                        (
-                          tt,
-                          (
-                            tt,
-                            (
-                              tt,
-                              (
-                                tt,
-                                (
-                                  tt,
-                                  (
-                                    tt,
-                                    (
-                                      tt,
-                                      (
-                                        tt,
-                                        (
-                                          tt,
-                                          (
-                                            tt,
-                                            (tt, tt),
-                                          ),
-                                        ),
-                                      ),
-                                    ),
-                                  ),
-                                ),
-                              ),
-                            ),
-                          ),
-                        ),
-                      ),
-                    ),
-                  ),
-                ),
-              ),
-            ),
-          )) d25
+          d26 = Typed.g-pre 𝓤 H A W 𝓣 E G8 G9 b19 Δ0 (λ Ψ. Ψ) at25 (Lifetime.g-begin 𝓤 H A W E G8 7
+              (tt, (tt, (tt, (tt, (tt, ((tt, tt), (tt, (tt, (tt, (tt, (tt, (tt, (tt, (tt, (tt, (tt, (tt, (tt, tt))))))))))))))))))) d25
 
           d27 : Typed.Typed 𝓤 H A 𝓣 E G7 b20 Δ0 at27
           d27 = Typed.s-seq 𝓤 H A W 𝓣 E G7 G8 b2 b19 Δ0 (Typed.ask s6) at26 (Relend.t-sl-aggregate 𝓤 H A W E (Referent.rtF (Referent.fInt Syntax.w16)) 𝓣 (Relend.asMut (Referent.rtF (Referent.fInt
               Syntax.w16))) G7 12 13 6 (Syntax.tyRef Syntax.erased Syntax.mut (Syntax.tyInt Syntax.w16)) (Syntax.tyRef Syntax.erased Syntax.mut (Syntax.tyInt Syntax.w16)) (λ x. x) (Scalar.oFld 5 (List._∷_
               (Syntax.field 1) List.[]) (Syntax.tyInt Syntax.w64) 8 λ v. Shared.lenV (v .0)) (Reads.as-is 𝓤 H A (Relend.msptr (Referent.rtF (Referent.fInt Syntax.w16)) (Syntax.tyRef Syntax.erased
-              Syntax.mut (Syntax.tyInt Syntax.w16)) 6)) (Reads.room-gone 𝓤 H A (Syntax.tyStruct (List._∷_ 38 (List._∷_ 91 (List._∷_ 93 List.[]))) (Syntax.tcons (Syntax.tyRef Syntax.erased Syntax.mut
-              (Syntax.tyInt Syntax.w16)) (Syntax.tcons (Syntax.tyInt Syntax.w64) Syntax.tnil)))) (
-                Relend.reads-owed-len 𝓤 H A W (Referent.rtF (Referent.fInt Syntax.w16)) (Syntax.tyRef (Syntax.named 2)
-                    Syntax.mut (Syntax.tyInt Syntax.w16)) 2 6 (Row.lease (κs .1 .1 .0) (qs .1 .1 .0)) 8 Path'.refl,
+              Syntax.mut (Syntax.tyInt Syntax.w16)) 6)) (Reads.room-gone 𝓤 H A y0) (
+                Relend.reads-owed-len 𝓤 H A W (Referent.rtF (Referent.fInt Syntax.w16)) (Syntax.tyRef (Syntax.named 2) Syntax.mut (Syntax.tyInt Syntax.w16)) 2 6 (Row.lease (κs .1 .1 .0) (qs .1 .1 .0)) 8
+                    Path'.refl,
                 Path'.refl,
               ) Path'.refl Path'.refl λ b o k. tt) d26
 
@@ -2194,61 +1260,8 @@ module _ (claims· : Claims) where
               Syntax.w16))) Path'.refl tt Path'.refl Path'.refl Path'.refl λ b o. tt) d27
 
           d29 : Typed.Typed 𝓤 H A 𝓣 E G5 b21 Δ0 at29
-          d29 = Typed.g-pre 𝓤 H A W 𝓣 E G5 G6 b21 Δ0 (λ Ψ. Ψ) at28 (Lifetime.g-begin 𝓤 H A W E G5 6 (
-            tt,
-            (
-              tt,
-              (
-                tt,
-                (
-                  tt,
-                  (
-                    tt,
-                    (
-                      tt,
-                      (
-                        tt,
-                        (
-                          tt,
-                          (
-                            tt,
-                            (
-                              tt,
-                              (
-                                tt,
-                                (
-                                  tt,
-                                  (
-                                    tt,
-                                    (
-                                      tt,
-                                      (
-                                        tt,
-                                        (
-                                          tt,
-                                          (
-                                            tt,
-                                            (
-                                              tt,
-                                              tt,
-                                            ),
-                                          ),
-                                        ),
-                                      ),
-                                    ),
-                                  ),
-                                ),
-                              ),
-                            ),
-                          ),
-                        ),
-                      ),
-                    ),
-                  ),
-                ),
-              ),
-            ),
-          )) d28
+          d29 = Typed.g-pre 𝓤 H A W 𝓣 E G5 G6 b21 Δ0 (λ Ψ. Ψ) at28 (Lifetime.g-begin 𝓤 H A W E G5 6
+              (tt, (tt, (tt, (tt, (tt, (tt, (tt, (tt, (tt, (tt, (tt, (tt, (tt, (tt, (tt, (tt, (tt, (tt, tt))))))))))))))))))) d28
 
           d30 : Typed.Typed 𝓤 H A 𝓣 E G4 b22 Δ0 at30
           d30 = Typed.s-seq 𝓤 H A W 𝓣 E G4 G5 b0 b21 Δ0 (Typed.give s3) at29 (DerefMove.t-sref-read-copy 𝓤 H A W E 𝓣 (λ ρ. Unit) G4 4 9 1 (Array'.Array (Referent.rtF (Referent.fInt Syntax.w8)) 36)
@@ -2304,8 +1317,8 @@ module _ (claims· : Claims) where
       W0 = λ κs args. (
         λ u. ⊥,
         tt,
-        λ u. Enter.Fixs κs 1 ps xs (dens κs args) (u .1) × Post· κs (dens κs args) (Function.resV r κs (u .0)) (Clauses.atExit (Kinds.endedOf 6 ps r) κs (dens κs args)
-            (Enter.lastsP κs 1 ps xs (dens κs args) (u .1))),
+        λ u. Enter.Fixs κs 1 ps xs (dens κs args) (u .1) × Post· κs (dens κs args) (Function.resV r κs (u .0)) (Clauses.atExit (Kinds.endedOf 6 ps r) κs (dens κs args) (Enter.lastsP κs 1 ps
+            xs (dens κs args) (u .1))),
       )
 
       pub record Start : Type 0 where
@@ -2420,19 +1433,8 @@ module _ (claims· : Claims) where
                 (
                   record { pos = 13; ty = Syntax.tyRef Syntax.erased Syntax.mut (Syntax.tyInt Syntax.w16); ref = λ x. x },
                   (
-                    record {
-                      pos = 15;
-                      ty = Syntax.tyRef Syntax.erased Syntax.mut (Syntax.tyInt Syntax.w16);
-                      ref = λ x. x;
-                    },
-                    (
-                      record {
-                        pos = 17;
-                        ty = Syntax.tyRef Syntax.erased Syntax.mut Element.behind;
-                        ref = λ x. x;
-                      },
-                      tt,
-                    ),
+                    record { pos = 15; ty = Syntax.tyRef Syntax.erased Syntax.mut (Syntax.tyInt Syntax.w16); ref = λ x. x },
+                    (record { pos = 17; ty = Syntax.tyRef Syntax.erased Syntax.mut Element.behind; ref = λ x. x }, tt),
                   ),
                 ),
               ),
@@ -2456,15 +1458,8 @@ module _ (claims· : Claims) where
               (
                 record { pos = 13; ty = Syntax.tyRef Syntax.erased Syntax.mut (Syntax.tyInt Syntax.w16); ref = λ x. x },
                 (
-                  record {
-                    pos = 15;
-                    ty = Syntax.tyRef Syntax.erased Syntax.mut (Syntax.tyInt Syntax.w16);
-                    ref = λ x. x;
-                  },
-                  (
-                    record { pos = 17; ty = Syntax.tyRef Syntax.erased Syntax.mut Element.behind; ref = λ x. x },
-                    tt,
-                  ),
+                  record { pos = 15; ty = Syntax.tyRef Syntax.erased Syntax.mut (Syntax.tyInt Syntax.w16); ref = λ x. x },
+                  (record { pos = 17; ty = Syntax.tyRef Syntax.erased Syntax.mut Element.behind; ref = λ x. x }, tt),
                 ),
               ),
             ),
@@ -2605,20 +1600,20 @@ module _ (claims· : Claims) where
                 (
                   Path'.refl,
                   (
-                    MutSlice.fix-len (Row.get 5 (T34 .locals) (m24 (c .before) (After-answer-words·gave c)) .ptr) (Row.get 5 (T34 .locals) (m24 (c .before)
-                        (After-answer-words·gave c)) .name) (Row.get 5 (T34 .locals) (m24 (c .before) (After-answer-words·gave c)) .now) (dens (c .before .before .before .before .before .before .before .before
-                        .before .before .before .before .before .before .κs) (c .before .before .before .before .before .before .before .before .before .before .before .before .before .before .args) .1 .1 .1 .1 .0
-                        .now) (same-length record { before = c .before; answer-words = c .answer-words }),
+                    MutSlice.fix-len (Row.get 5 (T34 .locals) (m24 (c .before) (After-answer-words·gave c)) .ptr) (Row.get 5 (T34 .locals) (m24 (c .before) (After-answer-words·gave c)) .name) (Row.get 5 (T34
+                        .locals) (m24 (c .before) (After-answer-words·gave c)) .now) (dens (c .before .before .before .before .before .before .before .before .before .before .before .before .before .before .κs) (c
+                        .before .before .before .before .before .before .before .before .before .before .before .before .before .before .args) .1 .1 .1 .1 .0 .now) (same-length record
+                        { before = c .before; answer-words = c .answer-words }),
                     (
-                      MutSlice.fix-len (Row.get 6 (T34 .locals) (m24 (c .before) (After-answer-words·gave c)) .ptr) (Row.get 6
-                          (T34 .locals) (m24 (c .before) (After-answer-words·gave c)) .name) (Row.get 6 (T34 .locals) (m24 (c .before) (After-answer-words·gave c)) .now) (dens (c .before .before .before .before .before
-                          .before .before .before .before .before .before .before .before .before .κs) (c .before .before .before .before .before .before .before .before .before .before .before .before .before .before
-                          .args) .1 .1 .1 .1 .1 .0 .now) (same-length-2 record { before = c .before; answer-words = c .answer-words }),
+                      MutSlice.fix-len (Row.get 6 (T34 .locals) (m24 (c .before) (After-answer-words·gave c)) .ptr) (Row.get 6 (T34 .locals) (m24 (c .before) (After-answer-words·gave c)) .name) (Row.get 6 (T34
+                          .locals) (m24 (c .before) (After-answer-words·gave c)) .now) (dens (c .before .before .before .before .before .before .before .before .before .before .before .before .before .before .κs) (c
+                          .before .before .before .before .before .before .before .before .before .before .before .before .before .before .args) .1 .1 .1 .1 .1 .0 .now) (same-length-2 record
+                          { before = c .before; answer-words = c .answer-words }),
                       (
-                        MutSlice.fix-len (Row.get 7 (T34 .locals) (m24 (c .before)
-                            (After-answer-words·gave c)) .ptr) (Row.get 7 (T34 .locals) (m24 (c .before) (After-answer-words·gave c)) .name) (Row.get 7 (T34 .locals) (m24 (c .before) (After-answer-words·gave c)) .now)
-                            (dens (c .before .before .before .before .before .before .before .before .before .before .before .before .before .before .κs) (c .before .before .before .before .before .before .before .before
-                            .before .before .before .before .before .before .args) .1 .1 .1 .1 .1 .1 .0 .now) (same-length-3 record { before = c .before; answer-words = c .answer-words }),
+                        MutSlice.fix-len (Row.get 7 (T34 .locals) (m24 (c .before) (After-answer-words·gave c)) .ptr) (Row.get 7 (T34 .locals) (m24 (c .before) (After-answer-words·gave c)) .name) (Row.get 7 (T34
+                            .locals) (m24 (c .before) (After-answer-words·gave c)) .now) (dens (c .before .before .before .before .before .before .before .before .before .before .before .before .before .before .κs) (c
+                            .before .before .before .before .before .before .before .before .before .before .before .before .before .before .args) .1 .1 .1 .1 .1 .1 .0 .now) (same-length-3 record
+                            { before = c .before; answer-words = c .answer-words }),
                         (Path'.refl, tt),
                       ),
                     ),
@@ -2642,18 +1637,12 @@ module _ (claims· : Claims) where
                 answer-words-requires record {
                   before = record {
                     before = record {
-                      before = record {
-                        before = record {
-                          before = record { before = c .before; decode = c .decode };
-                          image = record { given = g };
-                        };
-                        slice-known3 = record { given = g' };
+                      before = record { before = record { before = record { before = c .before; decode = c .decode }; image = record { given = g } }; slice-known3 = record { given = g' } };
+                      lines = record {
+                        given = g'';
                       };
-                      lines = record { given = g'' };
                     };
-                    slice-known4 = record {
-                      given = g'3;
-                    };
+                    slice-known4 = record { given = g'3 };
                   };
                   rs = record { given = g'4 };
                 },
@@ -2661,32 +1650,25 @@ module _ (claims· : Claims) where
                   before = record {
                     before = record {
                       before = record {
-                        before = record {
-                          before = record {
-                            before = record {
-                              before = c
-                                  .before;
-                              decode = c .decode;
-                            };
-                            image = record { given = g };
-                          };
-                          slice-known3 = record { given = g' };
+                        before = record { before = record { before = record { before = c .before; decode = c .decode }; image = record { given = g } }; slice-known3 = record { given = g' } };
+                        lines = record {
+                          given = g'';
                         };
-                        lines = record { given = g'' };
                       };
                       slice-known4 = record { given = g'3 };
                     };
-                    rs =
-                        record { given = g'4 };
+                    rs = record { given = g'4 };
                   };
-                  answer-words = Called.called ps·1 r·1 (claims· .3) T26 (record { pos = 10; st = List.[]; d = 0; at = λ x. x }, tt) (m17 record {
-                    before = record {
-                      before = record
-                          { before = record { before = record { before = c .before; decode = c .decode }; image = record { given = g } }; slice-known3 = record { given = g' } };
-                      lines = record { given = g'' };
-                    };
-                    slice-known4 = record { given = g'3 };
-                  } g'4) g'5;
+                  answer-words = Called.called ps·1 r·1 (claims· .3) T26
+                      (record { pos = 10; st = List.[]; d = 0; at = λ x. x }, tt) (m17 record {
+                        before = record {
+                          before = record { before = record { before = record { before = c .before; decode = c .decode }; image = record { given = g } }; slice-known3 = record { given = g' } };
+                          lines = record {
+                            given = g'';
+                          };
+                        };
+                        slice-known4 = record { given = g'3 };
+                      } g'4) g'5;
                 },
               ),
             ),
@@ -2705,10 +1687,11 @@ module _ (claims· : Claims) where
                   before = record {
                     before = record {
                       before = record {
-                        before =
-                            record { before = record { before = record { before = c; shared-slice-known = record { given = g } }; slice-known = record { given = g' } }; slice-known2 = record { given = g'' } };
-                        t =
-                            record { given = g'3 };
+                        before = record
+                            { before = record { before = record { before = c; shared-slice-known = record { given = g } }; slice-known = record { given = g' } }; slice-known2 = record { given = g'' } };
+                        t = record {
+                          given = g'3;
+                        };
                       };
                       decode-arg = record { given = g'4 };
                     };
@@ -2721,29 +1704,22 @@ module _ (claims· : Claims) where
                     before = record {
                       before = record {
                         before = record {
-                          before = record {
-                            before = record {
-                              before = record { before = c; shared-slice-known = record { given = g } };
-                              slice-known = record {
-                                given = g';
-                              };
-                            };
-                            slice-known2 = record { given = g'' };
+                          before = record
+                              { before = record { before = record { before = c; shared-slice-known = record { given = g } }; slice-known = record { given = g' } }; slice-known2 = record { given = g'' } };
+                          t = record {
+                            given = g'3;
                           };
-                          t = record { given = g'3 };
                         };
                         decode-arg = record { given = g'4 };
                       };
                       decode-arg2 = record { given = g'5 };
                     };
-                    decode-arg3 = record
-                        { given = g'6 };
+                    decode-arg3 = record { given = g'6 };
                   };
                   decode = Called.called ps·0 r·0 (claims· .1) T14 (
                     record { pos = 1; ty = Syntax.tyRef (Syntax.named 0) Syntax.imm (Syntax.tyInt Syntax.w8); ref = λ x. x },
                     (
-                      Num.vAt 2 λ
-                          x. x,
+                      Num.vAt 2 λ x. x,
                       (
                         Num.vAt 3 λ x. x,
                         (
@@ -2752,15 +1728,7 @@ module _ (claims· : Claims) where
                             record { pos = 13; ty = Syntax.tyRef Syntax.erased Syntax.mut (Syntax.tyInt Syntax.w16); ref = λ x. x },
                             (
                               record { pos = 15; ty = Syntax.tyRef Syntax.erased Syntax.mut (Syntax.tyInt Syntax.w16); ref = λ x. x },
-                              (
-                                record {
-                                  pos = 17;
-                                  ty = Syntax.tyRef Syntax.erased Syntax.mut Element.behind;
-                                  ref =
-                                      λ x. x;
-                                },
-                                tt,
-                              ),
+                              (record { pos = 17; ty = Syntax.tyRef Syntax.erased Syntax.mut Element.behind; ref = λ x. x }, tt),
                             ),
                           ),
                         ),
@@ -2769,26 +1737,15 @@ module _ (claims· : Claims) where
                   ) (m10 record {
                     before = record {
                       before = record {
-                        before = record {
-                          before = record {
-                            before = record {
-                              before = c;
-                              shared-slice-known = record {
-                                given = g;
-                              };
-                            };
-                            slice-known = record { given = g' };
-                          };
-                          slice-known2 = record { given = g'' };
+                        before = record
+                            { before = record { before = record { before = c; shared-slice-known = record { given = g } }; slice-known = record { given = g' } }; slice-known2 = record { given = g'' } };
+                        t = record {
+                          given = g'3;
                         };
-                        t = record { given = g'3 };
                       };
                       decode-arg = record { given = g'4 };
                     };
-                    decode-arg2 = record {
-                      given =
-                          g'5;
-                    };
+                    decode-arg2 = record { given = g'5 };
                   } g'6) g'7;
                 },
               ),
@@ -2809,12 +1766,12 @@ module _ (claims· : Claims) where
               image = a .1 .1 .1 .1 .0;
               lines = a .1 .1 .1 .1 .1 .0;
               rs = a .1 .1 .1 .1 .1 .1 .0;
-              refusal = a .1 .1 .1 .1 .1 .1 .1 .0;
+              refusal = a .1 .1 .1 .1 .1 .1 .1
+                  .0;
             };
             good = good;
             fits = record { width = record { fits = good .1 .0 .1 }; height = record { fits = good .1 .1 .0 .1 } };
-            pre
-                = pre;
+            pre = pre;
           }
 
         module _ {M : Type 1} (𝓤 : URA.URA M) (H : Wp.Heap 𝓤) (A : Atoms.Atoms 𝓤) (W : Kit.Given 𝓤 H A) (𝓣 : Wp.Tables 𝓤 H) (known0 : Plain.Known 𝓤 H A W 𝓣 4 ps·0 r·0 (claims· .0) (claims· .1)

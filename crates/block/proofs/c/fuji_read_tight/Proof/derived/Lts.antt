@@ -54,6 +54,13 @@ use mir.Val
 use prog.Wp
 use types.Kit
 
+abbrev pub y0 : Syntax.Ty
+y0 = Syntax.tyStruct (List._∷_ 38 (List._∷_ 91 (List._∷_ 93 List.[]))) (Syntax.tcons (Syntax.tyRef Syntax.erased Syntax.mut (Syntax.tyInt Syntax.w16)) (Syntax.tcons (Syntax.tyInt Syntax.w64)
+    Syntax.tnil))
+
+abbrev pub y1 : Syntax.Ty
+y1 = Syntax.tyStruct (List._∷_ 38 (List._∷_ 91 (List._∷_ 93 List.[]))) (Syntax.tcons (Syntax.tyRef Syntax.erased Syntax.mut Element.behind) (Syntax.tcons (Syntax.tyInt Syntax.w64) Syntax.tnil))
+
 abbrev pub ps : List.List (Kinds.PK 4)
 ps = List._∷_ (ShrSlice.pShrS (Referent.rtF (Referent.fInt Syntax.w8)) 0 tt) (List._∷_ (Num.pNum Syntax.w64) (List._∷_ (MutSlice.pMutS (Referent.rtF (Referent.fInt Syntax.w16)) 1 tt) (List._∷_
     (MutSlice.pMutS (Element.type) 2 tt) (List._∷_ (Kinds.pMut (Array'.Array (Referent.rtF (Referent.fInt Syntax.w64)) 4) 3 tt) List.[]))))
@@ -69,9 +76,7 @@ xs = List._∷_ (Syntax.tyEnum (List._∷_ 98 (List._∷_ 108 (List._∷_ 111 (L
     Syntax.tnil (Syntax.ttcons Syntax.tnil (Syntax.ttcons Syntax.tnil (Syntax.ttcons (Syntax.tcons (Syntax.tyInt Syntax.w64) Syntax.tnil) (Syntax.ttcons (Syntax.tcons (Syntax.tyInt Syntax.w64)
     Syntax.tnil) (Syntax.ttcons Syntax.tnil (Syntax.ttcons (Syntax.tcons (Syntax.tyInt Syntax.w64) (Syntax.tcons (Syntax.tyInt Syntax.w64) Syntax.tnil)) (Syntax.ttcons (Syntax.tcons (Syntax.tyInt
     Syntax.w64) Syntax.tnil) Syntax.ttnil)))))))))))))))) Syntax.tnil) Syntax.ttnil))) (List._∷_ (Syntax.tyArray (Syntax.tyInt Syntax.w64) 4) (List._∷_ (Syntax.tyRef Syntax.erased Syntax.mut (Syntax.tyInt
-    Syntax.w16)) (List._∷_ (Syntax.tyStruct (List._∷_ 38 (List._∷_ 91 (List._∷_ 93 List.[]))) (Syntax.tcons (Syntax.tyRef Syntax.erased Syntax.mut (Syntax.tyInt Syntax.w16)) (Syntax.tcons (Syntax.tyInt
-    Syntax.w64) Syntax.tnil))) (List._∷_ (Syntax.tyRef Syntax.erased Syntax.mut Element.behind) (List._∷_ (Syntax.tyStruct (List._∷_ 38 (List._∷_ 91 (List._∷_ 93 List.[]))) (Syntax.tcons (Syntax.tyRef
-    Syntax.erased Syntax.mut Element.behind) (Syntax.tcons (Syntax.tyInt Syntax.w64) Syntax.tnil))) List.[])))))
+    Syntax.w16)) (List._∷_ y0 (List._∷_ (Syntax.tyRef Syntax.erased Syntax.mut Element.behind) (List._∷_ y1 List.[])))))
 
 abbrev pub m : Nat.ℕ
 m = 2
@@ -86,19 +91,18 @@ r·0 = Value.rVal record {
   one = Path'.refl;
   val = Laws'.val Decoded.the-type Laws.the-laws;
   tells = Laws'.tells Decoded.the-type Laws.the-laws;
-  still = Laws'.still
-      Decoded.the-type Laws.the-copy Exit.yes;
+  still = Laws'.still Decoded.the-type
+      Laws.the-copy Exit.yes;
   row = Rows'.whole (Declared.row Decoded.the-type);
   rd = λ x. x;
   mk = λ x. x;
 } λ M 𝓤 H A W. record {
-  copies = Laws'.copy Decoded.the-type Laws.the-copy 𝓤 H A
-      W;
+  copies = Laws'.copy Decoded.the-type Laws.the-copy 𝓤 H A W;
   lawful = Laws'.lawful Decoded.the-type Laws.the-laws 𝓤 H A W tt;
   makes = Laws'.makes Decoded.the-type Laws.the-plain 𝓤 H A;
-  in-mem = Local.mem-whole 𝓤 H A W (Declared.row Decoded.the-type);
-  of-mem
-      = Local.whole-mem 𝓤 H A W (Declared.row Decoded.the-type);
+  in-mem =
+      Local.mem-whole 𝓤 H A W (Declared.row Decoded.the-type);
+  of-mem = Local.whole-mem 𝓤 H A W (Declared.row Decoded.the-type);
 }
 
 abbrev pub ps·1 : List.List (Kinds.PK 0)
@@ -107,18 +111,17 @@ ps·1 = List._∷_ (Value.pVal record {
   one = Path'.refl;
   val = Laws'.val Decoded.the-type Laws.the-laws;
   tells = Laws'.tells Decoded.the-type Laws.the-laws;
-  still =
-      Laws'.still Decoded.the-type Laws.the-copy Exit.yes;
+  still = Laws'.still Decoded.the-type
+      Laws.the-copy Exit.yes;
   row = Rows'.whole (Declared.row Decoded.the-type);
   rd = λ x. x;
   mk = λ x. x;
 } λ M 𝓤 H A W. record {
-  copies = Laws'.copy Decoded.the-type
-      Laws.the-copy 𝓤 H A W;
+  copies = Laws'.copy Decoded.the-type Laws.the-copy 𝓤 H A W;
   lawful = Laws'.lawful Decoded.the-type Laws.the-laws 𝓤 H A W tt;
   makes = Laws'.makes Decoded.the-type Laws.the-plain 𝓤 H A;
-  in-mem = Local.mem-whole 𝓤 H A W (Declared.row
-      Decoded.the-type);
+  in-mem =
+      Local.mem-whole 𝓤 H A W (Declared.row Decoded.the-type);
   of-mem = Local.whole-mem 𝓤 H A W (Declared.row Decoded.the-type);
 }) List.[]
 
@@ -187,347 +190,120 @@ body = b16
 abbrev pub Claims : Type 1
 Claims = Kinds.In 3 ps·0 × Kinds.Out 3 ps·0 r·0 × Kinds.In 0 ps·1 × Kinds.Out 0 ps·1 r·1
 
+abbrev pub e0 : Row.Entry
+e0 = (0, Rows'.any-gone Syntax.tyUnit)
+
+abbrev pub e1 : Row.Entry
+e1 = (0, Rows'.sc-here Row.sUnit)
+
+abbrev pub e2 : Row.Entry
+e2 = (1, Rows'.sslice (Referent.rtF (Referent.fInt Syntax.w8)) (Syntax.tyRef (Syntax.named 0) Syntax.imm (Syntax.tyInt Syntax.w8)) 0)
+
+abbrev pub e3 : Row.Entry
+e3 = (10, Relend.msptr (Element.type) (Syntax.tyRef Syntax.erased Syntax.mut Element.behind) 5)
+
+abbrev pub e4 : Row.Entry
+e4 = (10, Rows'.any-gone (Syntax.tyRef Syntax.erased Syntax.mut Element.behind))
+
+abbrev pub e5 : Row.Entry
+e5 = (11, Mut.msleft (Element.type) (Syntax.tyRef Syntax.erased Syntax.mut Element.behind))
+
+abbrev pub e6 : Row.Entry
+e6 = (11, Mut.mslice (Element.type) (Syntax.tyRef Syntax.erased Syntax.mut Element.behind) 5)
+
+abbrev pub e7 : Row.Entry
+e7 = (11, Rows'.any-gone y1)
+
+abbrev pub e8 : Row.Entry
+e8 = (2, Rows'.sc-here (Row.sInt Syntax.w64))
+
+abbrev pub e9 : Row.Entry
+e9 = (3, Mut.mslice (Referent.rtF (Referent.fInt Syntax.w16)) (Syntax.tyRef (Syntax.named 1) Syntax.mut (Syntax.tyInt Syntax.w16)) 1)
+
+abbrev pub e10 : Row.Entry
+e10 = (3, Relend.mslice-owed (Referent.rtF (Referent.fInt Syntax.w16)) (Syntax.tyRef (Syntax.named 1) Syntax.mut (Syntax.tyInt Syntax.w16)) 1 4 Row.off)
+
+abbrev pub e11 : Row.Entry
+e11 = (4, Mut.mslice (Element.type) (Syntax.tyRef (Syntax.named 2) Syntax.mut Element.behind) 2)
+
+abbrev pub e12 : Row.Entry
+e12 = (4, Relend.mslice-owed (Element.type) (Syntax.tyRef (Syntax.named 2) Syntax.mut Element.behind) 2 5 Row.off)
+
+abbrev pub e13 : Row.Entry
+e13 = (5, Rows'.mref (Array'.Array (Referent.rtF (Referent.fInt Syntax.w64)) 4) (Syntax.tyRef (Syntax.named 3) Syntax.mut (Syntax.tyArray (Syntax.tyInt Syntax.w64) 4)) 3)
+
+abbrev pub e14 : Row.Entry
+e14 = (
+  6,
+  Rows'.any-gone (Syntax.tyEnum (List._∷_ 98 (List._∷_ 108 (List._∷_ 111 (List._∷_ 99 (List._∷_ 107 (List._∷_ 58 (List._∷_ 58 (List._∷_ 68 (List._∷_ 101 (List._∷_ 99 (List._∷_ 111 (List._∷_ 100
+      (List._∷_ 101 (List._∷_ 100 List.[])))))))))))))) (Syntax.ttcons Syntax.tnil (Syntax.ttcons (Syntax.tcons (Syntax.tyEnum (List._∷_ 115 (List._∷_ 116 (List._∷_ 114 (List._∷_ 101 (List._∷_ 97 (List._∷_
+      109 (List._∷_ 58 (List._∷_ 58 (List._∷_ 82 (List._∷_ 101 (List._∷_ 102 (List._∷_ 117 (List._∷_ 115 (List._∷_ 97 (List._∷_ 108 List.[]))))))))))))))) (Syntax.ttcons Syntax.tnil (Syntax.ttcons
+      Syntax.tnil (Syntax.ttcons Syntax.tnil (Syntax.ttcons (Syntax.tcons (Syntax.tyInt Syntax.w64) Syntax.tnil) (Syntax.ttcons Syntax.tnil (Syntax.ttcons Syntax.tnil (Syntax.ttcons Syntax.tnil
+      (Syntax.ttcons Syntax.tnil (Syntax.ttcons Syntax.tnil (Syntax.ttcons Syntax.tnil (Syntax.ttcons (Syntax.tcons (Syntax.tyInt Syntax.w64) Syntax.tnil) (Syntax.ttcons (Syntax.tcons (Syntax.tyInt
+      Syntax.w64) Syntax.tnil) (Syntax.ttcons Syntax.tnil (Syntax.ttcons (Syntax.tcons (Syntax.tyInt Syntax.w64) (Syntax.tcons (Syntax.tyInt Syntax.w64) Syntax.tnil)) (Syntax.ttcons (Syntax.tcons
+      (Syntax.tyInt Syntax.w64) Syntax.tnil) Syntax.ttnil)))))))))))))))) Syntax.tnil) Syntax.ttnil))),
+)
+
+abbrev pub e15 : Row.Entry
+e15 = (6, Rows'.whole (Declared.row Decoded.the-type))
+
+abbrev pub e16 : Row.Entry
+e16 = (7, Rows'.any-gone (Syntax.tyArray (Syntax.tyInt Syntax.w64) 4))
+
+abbrev pub e17 : Row.Entry
+e17 = (7, Rows.arrF (Referent.rtF (Referent.fInt Syntax.w64)) 4 0)
+
+abbrev pub e18 : Row.Entry
+e18 = (8, Relend.msptr (Referent.rtF (Referent.fInt Syntax.w16)) (Syntax.tyRef Syntax.erased Syntax.mut (Syntax.tyInt Syntax.w16)) 4)
+
+abbrev pub e19 : Row.Entry
+e19 = (8, Rows'.any-gone (Syntax.tyRef Syntax.erased Syntax.mut (Syntax.tyInt Syntax.w16)))
+
+abbrev pub e20 : Row.Entry
+e20 = (9, Mut.msleft (Referent.rtF (Referent.fInt Syntax.w16)) (Syntax.tyRef Syntax.erased Syntax.mut (Syntax.tyInt Syntax.w16)))
+
+abbrev pub e21 : Row.Entry
+e21 = (9, Mut.mslice (Referent.rtF (Referent.fInt Syntax.w16)) (Syntax.tyRef Syntax.erased Syntax.mut (Syntax.tyInt Syntax.w16)) 4)
+
+abbrev pub e22 : Row.Entry
+e22 = (9, Rows'.any-gone y0)
+
 abbrev pub t0 : List.List Row.Entry
-t0 = List._∷_ (0, Rows'.any-gone Syntax.tyUnit) (List._∷_ (1, Rows'.sslice (Referent.rtF (Referent.fInt Syntax.w8)) (Syntax.tyRef (Syntax.named 0) Syntax.imm (Syntax.tyInt Syntax.w8)) 0) (List._∷_
-    (2, Rows'.sc-here (Row.sInt Syntax.w64)) (List._∷_ (3, Mut.mslice (Referent.rtF (Referent.fInt Syntax.w16)) (Syntax.tyRef (Syntax.named 1) Syntax.mut (Syntax.tyInt Syntax.w16)) 1) (List._∷_ (
-      4,
-      Mut.mslice (Element.type) (Syntax.tyRef (Syntax.named 2) Syntax.mut Element.behind) 2,
-    ) (List._∷_ (
-      5,
-      Rows'.mref (Array'.Array (Referent.rtF (Referent.fInt Syntax.w64)) 4) (Syntax.tyRef
-          (Syntax.named 3) Syntax.mut (Syntax.tyArray (Syntax.tyInt Syntax.w64) 4)) 3,
-    ) (List._∷_ (
-      6,
-      Rows'.any-gone (Syntax.tyEnum (List._∷_ 98 (List._∷_ 108 (List._∷_ 111 (List._∷_ 99 (List._∷_ 107
-          (List._∷_ 58 (List._∷_ 58 (List._∷_ 68 (List._∷_ 101 (List._∷_ 99 (List._∷_ 111 (List._∷_ 100 (List._∷_ 101 (List._∷_ 100 List.[])))))))))))))) (Syntax.ttcons Syntax.tnil (Syntax.ttcons (Syntax.tcons
-          (Syntax.tyEnum (List._∷_ 115 (List._∷_ 116 (List._∷_ 114 (List._∷_ 101 (List._∷_ 97 (List._∷_ 109 (List._∷_ 58 (List._∷_ 58 (List._∷_ 82 (List._∷_ 101 (List._∷_ 102 (List._∷_ 117 (List._∷_ 115
-          (List._∷_ 97 (List._∷_ 108 List.[]))))))))))))))) (Syntax.ttcons Syntax.tnil (Syntax.ttcons Syntax.tnil (Syntax.ttcons Syntax.tnil (Syntax.ttcons (Syntax.tcons (Syntax.tyInt Syntax.w64) Syntax.tnil)
-          (Syntax.ttcons Syntax.tnil (Syntax.ttcons Syntax.tnil (Syntax.ttcons Syntax.tnil (Syntax.ttcons Syntax.tnil (Syntax.ttcons Syntax.tnil (Syntax.ttcons Syntax.tnil (Syntax.ttcons (Syntax.tcons
-          (Syntax.tyInt Syntax.w64) Syntax.tnil) (Syntax.ttcons (Syntax.tcons (Syntax.tyInt Syntax.w64) Syntax.tnil) (Syntax.ttcons Syntax.tnil (Syntax.ttcons (Syntax.tcons (Syntax.tyInt Syntax.w64)
-          (Syntax.tcons (Syntax.tyInt Syntax.w64) Syntax.tnil)) (Syntax.ttcons (Syntax.tcons (Syntax.tyInt Syntax.w64) Syntax.tnil) Syntax.ttnil)))))))))))))))) Syntax.tnil) Syntax.ttnil))),
-    ) (List._∷_ (
-      7,
-      Rows'.any-gone (Syntax.tyArray (Syntax.tyInt Syntax.w64) 4),
-    ) (List._∷_ (8, Rows'.any-gone (Syntax.tyRef Syntax.erased Syntax.mut (Syntax.tyInt Syntax.w16))) (List._∷_ (
-      9,
-      Rows'.any-gone
-          (Syntax.tyStruct (List._∷_ 38 (List._∷_ 91 (List._∷_ 93 List.[]))) (Syntax.tcons (Syntax.tyRef Syntax.erased Syntax.mut (Syntax.tyInt Syntax.w16)) (Syntax.tcons (Syntax.tyInt Syntax.w64)
-          Syntax.tnil))),
-    ) (List._∷_ (10, Rows'.any-gone (Syntax.tyRef Syntax.erased Syntax.mut Element.behind)) (List._∷_ (
-      11,
-      Rows'.any-gone (Syntax.tyStruct (List._∷_ 38 (List._∷_ 91 (List._∷_ 93
-          List.[]))) (Syntax.tcons (Syntax.tyRef Syntax.erased Syntax.mut Element.behind) (Syntax.tcons (Syntax.tyInt Syntax.w64) Syntax.tnil))),
-    ) List.[])))))))))))
+t0 = List._∷_ e0 (List._∷_ e2 (List._∷_ e8 (List._∷_ e9 (List._∷_ e11 (List._∷_ e13 (List._∷_ e14 (List._∷_ e16 (List._∷_ e19 (List._∷_ e22 (List._∷_ e4 (List._∷_ e7 List.[])))))))))))
 
 abbrev pub t1 : List.List Row.Entry
-t1 = List._∷_ (0, Rows'.sc-here Row.sUnit) (List._∷_ (1, Rows'.sslice (Referent.rtF (Referent.fInt Syntax.w8)) (Syntax.tyRef (Syntax.named 0) Syntax.imm (Syntax.tyInt Syntax.w8)) 0) (List._∷_ (
-  2,
-  Rows'.any-gone (Syntax.tyInt Syntax.w64),
-) (List._∷_ (3, Mut.mslice (Referent.rtF (Referent.fInt Syntax.w16)) (Syntax.tyRef (Syntax.named 1) Syntax.mut (Syntax.tyInt Syntax.w16)) 1) (List._∷_ (
-  4,
-  Mut.mslice (Element.type) (Syntax.tyRef (Syntax.named 2) Syntax.mut Element.behind) 2,
-) (List._∷_ (
-  5,
-  Rows'.mref (Array'.Array (Referent.rtF (Referent.fInt Syntax.w64)) 4) (Syntax.tyRef
-      (Syntax.named 3) Syntax.mut (Syntax.tyArray (Syntax.tyInt Syntax.w64) 4)) 3,
-) (List._∷_ (
-  6,
-  Rows'.any-gone (Syntax.tyEnum (List._∷_ 98 (List._∷_ 108 (List._∷_ 111 (List._∷_ 99 (List._∷_ 107
-      (List._∷_ 58 (List._∷_ 58 (List._∷_ 68 (List._∷_ 101 (List._∷_ 99 (List._∷_ 111 (List._∷_ 100 (List._∷_ 101 (List._∷_ 100 List.[])))))))))))))) (Syntax.ttcons Syntax.tnil (Syntax.ttcons (Syntax.tcons
-      (Syntax.tyEnum (List._∷_ 115 (List._∷_ 116 (List._∷_ 114 (List._∷_ 101 (List._∷_ 97 (List._∷_ 109 (List._∷_ 58 (List._∷_ 58 (List._∷_ 82 (List._∷_ 101 (List._∷_ 102 (List._∷_ 117 (List._∷_ 115
-      (List._∷_ 97 (List._∷_ 108 List.[]))))))))))))))) (Syntax.ttcons Syntax.tnil (Syntax.ttcons Syntax.tnil (Syntax.ttcons Syntax.tnil (Syntax.ttcons (Syntax.tcons (Syntax.tyInt Syntax.w64) Syntax.tnil)
-      (Syntax.ttcons Syntax.tnil (Syntax.ttcons Syntax.tnil (Syntax.ttcons Syntax.tnil (Syntax.ttcons Syntax.tnil (Syntax.ttcons Syntax.tnil (Syntax.ttcons Syntax.tnil (Syntax.ttcons (Syntax.tcons
-      (Syntax.tyInt Syntax.w64) Syntax.tnil) (Syntax.ttcons (Syntax.tcons (Syntax.tyInt Syntax.w64) Syntax.tnil) (Syntax.ttcons Syntax.tnil (Syntax.ttcons (Syntax.tcons (Syntax.tyInt Syntax.w64)
-      (Syntax.tcons (Syntax.tyInt Syntax.w64) Syntax.tnil)) (Syntax.ttcons (Syntax.tcons (Syntax.tyInt Syntax.w64) Syntax.tnil) Syntax.ttnil)))))))))))))))) Syntax.tnil) Syntax.ttnil))),
-) (List._∷_ (
-  7,
-  Rows'.any-gone (Syntax.tyArray (Syntax.tyInt Syntax.w64) 4),
-) (List._∷_ (8, Rows'.any-gone (Syntax.tyRef Syntax.erased Syntax.mut (Syntax.tyInt Syntax.w16))) (List._∷_ (
-  9,
-  Rows'.any-gone
-      (Syntax.tyStruct (List._∷_ 38 (List._∷_ 91 (List._∷_ 93 List.[]))) (Syntax.tcons (Syntax.tyRef Syntax.erased Syntax.mut (Syntax.tyInt Syntax.w16)) (Syntax.tcons (Syntax.tyInt Syntax.w64)
-      Syntax.tnil))),
-) (List._∷_ (10, Rows'.any-gone (Syntax.tyRef Syntax.erased Syntax.mut Element.behind)) (List._∷_ (
-  11,
-  Rows'.any-gone (Syntax.tyStruct (List._∷_ 38 (List._∷_ 91 (List._∷_ 93
-      List.[]))) (Syntax.tcons (Syntax.tyRef Syntax.erased Syntax.mut Element.behind) (Syntax.tcons (Syntax.tyInt Syntax.w64) Syntax.tnil))),
-) List.[])))))))))))
+t1 = List._∷_ e1 (List._∷_ e2 (List._∷_ (2, Rows'.any-gone (Syntax.tyInt Syntax.w64)) (List._∷_ e9 (List._∷_ e11 (List._∷_ e13 (List._∷_ e14 (List._∷_ e16 (List._∷_ e19 (List._∷_ e22 (List._∷_ e4
+    (List._∷_ e7 List.[])))))))))))
 
 abbrev pub t2 : List.List Row.Entry
-t2 = List._∷_ (0, Rows'.any-gone Syntax.tyUnit) (List._∷_ (1, Rows'.sslice (Referent.rtF (Referent.fInt Syntax.w8)) (Syntax.tyRef (Syntax.named 0) Syntax.imm (Syntax.tyInt Syntax.w8)) 0) (List._∷_
-    (2, Rows'.sc-here (Row.sInt Syntax.w64)) (List._∷_ (3, Relend.mslice-owed (Referent.rtF (Referent.fInt Syntax.w16)) (Syntax.tyRef (Syntax.named 1) Syntax.mut (Syntax.tyInt Syntax.w16)) 1 4 Row.off)
-    (List._∷_ (4, Mut.mslice (Element.type) (Syntax.tyRef (Syntax.named 2) Syntax.mut Element.behind) 2) (List._∷_ (
-      5,
-      Rows'.mref (Array'.Array (Referent.rtF (Referent.fInt Syntax.w64)) 4)
-          (Syntax.tyRef (Syntax.named 3) Syntax.mut (Syntax.tyArray (Syntax.tyInt Syntax.w64) 4)) 3,
-    ) (List._∷_ (
-      6,
-      Rows'.any-gone (Syntax.tyEnum (List._∷_ 98 (List._∷_ 108 (List._∷_ 111 (List._∷_ 99
-          (List._∷_ 107 (List._∷_ 58 (List._∷_ 58 (List._∷_ 68 (List._∷_ 101 (List._∷_ 99 (List._∷_ 111 (List._∷_ 100 (List._∷_ 101 (List._∷_ 100 List.[])))))))))))))) (Syntax.ttcons Syntax.tnil (Syntax.ttcons
-          (Syntax.tcons (Syntax.tyEnum (List._∷_ 115 (List._∷_ 116 (List._∷_ 114 (List._∷_ 101 (List._∷_ 97 (List._∷_ 109 (List._∷_ 58 (List._∷_ 58 (List._∷_ 82 (List._∷_ 101 (List._∷_ 102 (List._∷_ 117
-          (List._∷_ 115 (List._∷_ 97 (List._∷_ 108 List.[]))))))))))))))) (Syntax.ttcons Syntax.tnil (Syntax.ttcons Syntax.tnil (Syntax.ttcons Syntax.tnil (Syntax.ttcons (Syntax.tcons (Syntax.tyInt Syntax.w64)
-          Syntax.tnil) (Syntax.ttcons Syntax.tnil (Syntax.ttcons Syntax.tnil (Syntax.ttcons Syntax.tnil (Syntax.ttcons Syntax.tnil (Syntax.ttcons Syntax.tnil (Syntax.ttcons Syntax.tnil (Syntax.ttcons
-          (Syntax.tcons (Syntax.tyInt Syntax.w64) Syntax.tnil) (Syntax.ttcons (Syntax.tcons (Syntax.tyInt Syntax.w64) Syntax.tnil) (Syntax.ttcons Syntax.tnil (Syntax.ttcons (Syntax.tcons (Syntax.tyInt
-          Syntax.w64) (Syntax.tcons (Syntax.tyInt Syntax.w64) Syntax.tnil)) (Syntax.ttcons (Syntax.tcons (Syntax.tyInt Syntax.w64) Syntax.tnil) Syntax.ttnil)))))))))))))))) Syntax.tnil) Syntax.ttnil))),
-    )
-    (List._∷_ (7, Rows'.any-gone (Syntax.tyArray (Syntax.tyInt Syntax.w64) 4)) (List._∷_ (
-      8,
-      Relend.msptr (Referent.rtF (Referent.fInt Syntax.w16)) (Syntax.tyRef Syntax.erased Syntax.mut (Syntax.tyInt
-          Syntax.w16)) 4,
-    ) (List._∷_ (
-      9,
-      Rows'.any-gone (Syntax.tyStruct (List._∷_ 38 (List._∷_ 91 (List._∷_ 93 List.[]))) (Syntax.tcons (Syntax.tyRef Syntax.erased Syntax.mut (Syntax.tyInt Syntax.w16))
-          (Syntax.tcons (Syntax.tyInt Syntax.w64) Syntax.tnil))),
-    ) (List._∷_ (10, Rows'.any-gone (Syntax.tyRef Syntax.erased Syntax.mut Element.behind)) (List._∷_ (
-      11,
-      Rows'.any-gone (Syntax.tyStruct
-          (List._∷_ 38 (List._∷_ 91 (List._∷_ 93 List.[]))) (Syntax.tcons (Syntax.tyRef Syntax.erased Syntax.mut Element.behind) (Syntax.tcons (Syntax.tyInt Syntax.w64) Syntax.tnil))),
-    ) List.[])))))))))))
+t2 = List._∷_ e0 (List._∷_ e2 (List._∷_ e8 (List._∷_ e10 (List._∷_ e11 (List._∷_ e13 (List._∷_ e14 (List._∷_ e16 (List._∷_ e18 (List._∷_ e22 (List._∷_ e4 (List._∷_ e7 List.[])))))))))))
 
 abbrev pub t3 : List.List Row.Entry
-t3 = List._∷_ (0, Rows'.any-gone Syntax.tyUnit) (List._∷_ (1, Rows'.sslice (Referent.rtF (Referent.fInt Syntax.w8)) (Syntax.tyRef (Syntax.named 0) Syntax.imm (Syntax.tyInt Syntax.w8)) 0) (List._∷_
-    (2, Rows'.sc-here (Row.sInt Syntax.w64)) (List._∷_ (3, Relend.mslice-owed (Referent.rtF (Referent.fInt Syntax.w16)) (Syntax.tyRef (Syntax.named 1) Syntax.mut (Syntax.tyInt Syntax.w16)) 1 4 Row.off)
-    (List._∷_ (4, Mut.mslice (Element.type) (Syntax.tyRef (Syntax.named 2) Syntax.mut Element.behind) 2) (List._∷_ (
-      5,
-      Rows'.mref (Array'.Array (Referent.rtF (Referent.fInt Syntax.w64)) 4)
-          (Syntax.tyRef (Syntax.named 3) Syntax.mut (Syntax.tyArray (Syntax.tyInt Syntax.w64) 4)) 3,
-    ) (List._∷_ (
-      6,
-      Rows'.any-gone (Syntax.tyEnum (List._∷_ 98 (List._∷_ 108 (List._∷_ 111 (List._∷_ 99
-          (List._∷_ 107 (List._∷_ 58 (List._∷_ 58 (List._∷_ 68 (List._∷_ 101 (List._∷_ 99 (List._∷_ 111 (List._∷_ 100 (List._∷_ 101 (List._∷_ 100 List.[])))))))))))))) (Syntax.ttcons Syntax.tnil (Syntax.ttcons
-          (Syntax.tcons (Syntax.tyEnum (List._∷_ 115 (List._∷_ 116 (List._∷_ 114 (List._∷_ 101 (List._∷_ 97 (List._∷_ 109 (List._∷_ 58 (List._∷_ 58 (List._∷_ 82 (List._∷_ 101 (List._∷_ 102 (List._∷_ 117
-          (List._∷_ 115 (List._∷_ 97 (List._∷_ 108 List.[]))))))))))))))) (Syntax.ttcons Syntax.tnil (Syntax.ttcons Syntax.tnil (Syntax.ttcons Syntax.tnil (Syntax.ttcons (Syntax.tcons (Syntax.tyInt Syntax.w64)
-          Syntax.tnil) (Syntax.ttcons Syntax.tnil (Syntax.ttcons Syntax.tnil (Syntax.ttcons Syntax.tnil (Syntax.ttcons Syntax.tnil (Syntax.ttcons Syntax.tnil (Syntax.ttcons Syntax.tnil (Syntax.ttcons
-          (Syntax.tcons (Syntax.tyInt Syntax.w64) Syntax.tnil) (Syntax.ttcons (Syntax.tcons (Syntax.tyInt Syntax.w64) Syntax.tnil) (Syntax.ttcons Syntax.tnil (Syntax.ttcons (Syntax.tcons (Syntax.tyInt
-          Syntax.w64) (Syntax.tcons (Syntax.tyInt Syntax.w64) Syntax.tnil)) (Syntax.ttcons (Syntax.tcons (Syntax.tyInt Syntax.w64) Syntax.tnil) Syntax.ttnil)))))))))))))))) Syntax.tnil) Syntax.ttnil))),
-    )
-    (List._∷_ (7, Rows'.any-gone (Syntax.tyArray (Syntax.tyInt Syntax.w64) 4)) (List._∷_ (8, Rows'.any-gone (Syntax.tyRef Syntax.erased Syntax.mut (Syntax.tyInt Syntax.w16))) (List._∷_ (
-      9,
-      Mut.mslice
-          (Referent.rtF (Referent.fInt Syntax.w16)) (Syntax.tyRef Syntax.erased Syntax.mut (Syntax.tyInt Syntax.w16)) 4,
-    ) (List._∷_ (
-      10,
-      Rows'.any-gone (Syntax.tyRef Syntax.erased Syntax.mut Element.behind),
-    ) (List._∷_ (
-      11,
-      Rows'.any-gone (Syntax.tyStruct (List._∷_ 38 (List._∷_ 91 (List._∷_ 93 List.[]))) (Syntax.tcons (Syntax.tyRef Syntax.erased Syntax.mut Element.behind) (Syntax.tcons (Syntax.tyInt
-          Syntax.w64) Syntax.tnil))),
-    ) List.[])))))))))))
+t3 = List._∷_ e0 (List._∷_ e2 (List._∷_ e8 (List._∷_ e10 (List._∷_ e11 (List._∷_ e13 (List._∷_ e14 (List._∷_ e16 (List._∷_ e19 (List._∷_ e21 (List._∷_ e4 (List._∷_ e7 List.[])))))))))))
 
 abbrev pub t4 : List.List Row.Entry
-t4 = List._∷_ (0, Rows'.any-gone Syntax.tyUnit) (List._∷_ (1, Rows'.sslice (Referent.rtF (Referent.fInt Syntax.w8)) (Syntax.tyRef (Syntax.named 0) Syntax.imm (Syntax.tyInt Syntax.w8)) 0) (List._∷_
-    (2, Rows'.sc-here (Row.sInt Syntax.w64)) (List._∷_ (3, Relend.mslice-owed (Referent.rtF (Referent.fInt Syntax.w16)) (Syntax.tyRef (Syntax.named 1) Syntax.mut (Syntax.tyInt Syntax.w16)) 1 4 Row.off)
-    (List._∷_ (4, Relend.mslice-owed (Element.type) (Syntax.tyRef (Syntax.named 2) Syntax.mut Element.behind) 2 5 Row.off) (List._∷_ (
-      5,
-      Rows'.mref (Array'.Array (Referent.rtF (Referent.fInt
-          Syntax.w64)) 4) (Syntax.tyRef (Syntax.named 3) Syntax.mut (Syntax.tyArray (Syntax.tyInt Syntax.w64) 4)) 3,
-    ) (List._∷_ (
-      6,
-      Rows'.any-gone (Syntax.tyEnum (List._∷_ 98 (List._∷_ 108 (List._∷_ 111
-          (List._∷_ 99 (List._∷_ 107 (List._∷_ 58 (List._∷_ 58 (List._∷_ 68 (List._∷_ 101 (List._∷_ 99 (List._∷_ 111 (List._∷_ 100 (List._∷_ 101 (List._∷_ 100 List.[])))))))))))))) (Syntax.ttcons Syntax.tnil
-          (Syntax.ttcons (Syntax.tcons (Syntax.tyEnum (List._∷_ 115 (List._∷_ 116 (List._∷_ 114 (List._∷_ 101 (List._∷_ 97 (List._∷_ 109 (List._∷_ 58 (List._∷_ 58 (List._∷_ 82 (List._∷_ 101 (List._∷_ 102
-          (List._∷_ 117 (List._∷_ 115 (List._∷_ 97 (List._∷_ 108 List.[]))))))))))))))) (Syntax.ttcons Syntax.tnil (Syntax.ttcons Syntax.tnil (Syntax.ttcons Syntax.tnil (Syntax.ttcons (Syntax.tcons
-          (Syntax.tyInt Syntax.w64) Syntax.tnil) (Syntax.ttcons Syntax.tnil (Syntax.ttcons Syntax.tnil (Syntax.ttcons Syntax.tnil (Syntax.ttcons Syntax.tnil (Syntax.ttcons Syntax.tnil (Syntax.ttcons Syntax.tnil
-          (Syntax.ttcons (Syntax.tcons (Syntax.tyInt Syntax.w64) Syntax.tnil) (Syntax.ttcons (Syntax.tcons (Syntax.tyInt Syntax.w64) Syntax.tnil) (Syntax.ttcons Syntax.tnil (Syntax.ttcons (Syntax.tcons
-          (Syntax.tyInt Syntax.w64) (Syntax.tcons (Syntax.tyInt Syntax.w64) Syntax.tnil)) (Syntax.ttcons (Syntax.tcons (Syntax.tyInt Syntax.w64) Syntax.tnil) Syntax.ttnil)))))))))))))))) Syntax.tnil)
-          Syntax.ttnil))),
-    ) (List._∷_ (7, Rows'.any-gone (Syntax.tyArray (Syntax.tyInt Syntax.w64) 4)) (List._∷_ (8, Rows'.any-gone (Syntax.tyRef Syntax.erased Syntax.mut (Syntax.tyInt Syntax.w16)))
-    (List._∷_ (9, Mut.mslice (Referent.rtF (Referent.fInt Syntax.w16)) (Syntax.tyRef Syntax.erased Syntax.mut (Syntax.tyInt Syntax.w16)) 4) (List._∷_ (
-      10,
-      Relend.msptr (Element.type) (Syntax.tyRef
-          Syntax.erased Syntax.mut Element.behind) 5,
-    ) (List._∷_ (
-      11,
-      Rows'.any-gone (Syntax.tyStruct (List._∷_ 38 (List._∷_ 91 (List._∷_ 93 List.[]))) (Syntax.tcons (Syntax.tyRef Syntax.erased Syntax.mut
-          Element.behind) (Syntax.tcons (Syntax.tyInt Syntax.w64) Syntax.tnil))),
-    ) List.[])))))))))))
+t4 = List._∷_ e0 (List._∷_ e2 (List._∷_ e8 (List._∷_ e10 (List._∷_ e12 (List._∷_ e13 (List._∷_ e14 (List._∷_ e16 (List._∷_ e19 (List._∷_ e21 (List._∷_ e3 (List._∷_ e7 List.[])))))))))))
 
 abbrev pub t5 : List.List Row.Entry
-t5 = List._∷_ (0, Rows'.any-gone Syntax.tyUnit) (List._∷_ (1, Rows'.sslice (Referent.rtF (Referent.fInt Syntax.w8)) (Syntax.tyRef (Syntax.named 0) Syntax.imm (Syntax.tyInt Syntax.w8)) 0) (List._∷_
-    (2, Rows'.sc-here (Row.sInt Syntax.w64)) (List._∷_ (3, Relend.mslice-owed (Referent.rtF (Referent.fInt Syntax.w16)) (Syntax.tyRef (Syntax.named 1) Syntax.mut (Syntax.tyInt Syntax.w16)) 1 4 Row.off)
-    (List._∷_ (4, Relend.mslice-owed (Element.type) (Syntax.tyRef (Syntax.named 2) Syntax.mut Element.behind) 2 5 Row.off) (List._∷_ (
-      5,
-      Rows'.mref (Array'.Array (Referent.rtF (Referent.fInt
-          Syntax.w64)) 4) (Syntax.tyRef (Syntax.named 3) Syntax.mut (Syntax.tyArray (Syntax.tyInt Syntax.w64) 4)) 3,
-    ) (List._∷_ (
-      6,
-      Rows'.any-gone (Syntax.tyEnum (List._∷_ 98 (List._∷_ 108 (List._∷_ 111
-          (List._∷_ 99 (List._∷_ 107 (List._∷_ 58 (List._∷_ 58 (List._∷_ 68 (List._∷_ 101 (List._∷_ 99 (List._∷_ 111 (List._∷_ 100 (List._∷_ 101 (List._∷_ 100 List.[])))))))))))))) (Syntax.ttcons Syntax.tnil
-          (Syntax.ttcons (Syntax.tcons (Syntax.tyEnum (List._∷_ 115 (List._∷_ 116 (List._∷_ 114 (List._∷_ 101 (List._∷_ 97 (List._∷_ 109 (List._∷_ 58 (List._∷_ 58 (List._∷_ 82 (List._∷_ 101 (List._∷_ 102
-          (List._∷_ 117 (List._∷_ 115 (List._∷_ 97 (List._∷_ 108 List.[]))))))))))))))) (Syntax.ttcons Syntax.tnil (Syntax.ttcons Syntax.tnil (Syntax.ttcons Syntax.tnil (Syntax.ttcons (Syntax.tcons
-          (Syntax.tyInt Syntax.w64) Syntax.tnil) (Syntax.ttcons Syntax.tnil (Syntax.ttcons Syntax.tnil (Syntax.ttcons Syntax.tnil (Syntax.ttcons Syntax.tnil (Syntax.ttcons Syntax.tnil (Syntax.ttcons Syntax.tnil
-          (Syntax.ttcons (Syntax.tcons (Syntax.tyInt Syntax.w64) Syntax.tnil) (Syntax.ttcons (Syntax.tcons (Syntax.tyInt Syntax.w64) Syntax.tnil) (Syntax.ttcons Syntax.tnil (Syntax.ttcons (Syntax.tcons
-          (Syntax.tyInt Syntax.w64) (Syntax.tcons (Syntax.tyInt Syntax.w64) Syntax.tnil)) (Syntax.ttcons (Syntax.tcons (Syntax.tyInt Syntax.w64) Syntax.tnil) Syntax.ttnil)))))))))))))))) Syntax.tnil)
-          Syntax.ttnil))),
-    ) (List._∷_ (7, Rows'.any-gone (Syntax.tyArray (Syntax.tyInt Syntax.w64) 4)) (List._∷_ (8, Rows'.any-gone (Syntax.tyRef Syntax.erased Syntax.mut (Syntax.tyInt Syntax.w16)))
-    (List._∷_ (9, Mut.mslice (Referent.rtF (Referent.fInt Syntax.w16)) (Syntax.tyRef Syntax.erased Syntax.mut (Syntax.tyInt Syntax.w16)) 4) (List._∷_ (
-      10,
-      Rows'.any-gone (Syntax.tyRef Syntax.erased
-          Syntax.mut Element.behind),
-    ) (List._∷_ (11, Mut.mslice (Element.type) (Syntax.tyRef Syntax.erased Syntax.mut Element.behind) 5) List.[])))))))))))
+t5 = List._∷_ e0 (List._∷_ e2 (List._∷_ e8 (List._∷_ e10 (List._∷_ e12 (List._∷_ e13 (List._∷_ e14 (List._∷_ e16 (List._∷_ e19 (List._∷_ e21 (List._∷_ e4 (List._∷_ e6 List.[])))))))))))
 
 abbrev pub t6 : List.List Row.Entry
-t6 = List._∷_ (0, Rows'.any-gone Syntax.tyUnit) (List._∷_ (1, Rows'.sslice (Referent.rtF (Referent.fInt Syntax.w8)) (Syntax.tyRef (Syntax.named 0) Syntax.imm (Syntax.tyInt Syntax.w8)) 0) (List._∷_
-    (2, Rows'.sc-here (Row.sInt Syntax.w64)) (List._∷_ (3, Relend.mslice-owed (Referent.rtF (Referent.fInt Syntax.w16)) (Syntax.tyRef (Syntax.named 1) Syntax.mut (Syntax.tyInt Syntax.w16)) 1 4 Row.off)
-    (List._∷_ (4, Relend.mslice-owed (Element.type) (Syntax.tyRef (Syntax.named 2) Syntax.mut Element.behind) 2 5 Row.off) (List._∷_ (
-      5,
-      Rows'.mref (Array'.Array (Referent.rtF (Referent.fInt
-          Syntax.w64)) 4) (Syntax.tyRef (Syntax.named 3) Syntax.mut (Syntax.tyArray (Syntax.tyInt Syntax.w64) 4)) 3,
-    ) (List._∷_ (6, Rows'.whole (Declared.row Decoded.the-type)) (List._∷_ (
-      7,
-      Rows'.any-gone
-          (Syntax.tyArray (Syntax.tyInt Syntax.w64) 4),
-    ) (List._∷_ (8, Rows'.any-gone (Syntax.tyRef Syntax.erased Syntax.mut (Syntax.tyInt Syntax.w16))) (List._∷_ (
-      9,
-      Mut.msleft (Referent.rtF
-          (Referent.fInt Syntax.w16)) (Syntax.tyRef Syntax.erased Syntax.mut (Syntax.tyInt Syntax.w16)),
-    ) (List._∷_ (10, Rows'.any-gone (Syntax.tyRef Syntax.erased Syntax.mut Element.behind)) (List._∷_ (
-      11,
-      Mut.msleft (Element.type) (Syntax.tyRef Syntax.erased Syntax.mut Element.behind),
-    ) List.[])))))))))))
+t6 = List._∷_ e0 (List._∷_ e2 (List._∷_ e8 (List._∷_ e10 (List._∷_ e12 (List._∷_ e13 (List._∷_ e15 (List._∷_ e16 (List._∷_ e19 (List._∷_ e20 (List._∷_ e4 (List._∷_ e5 List.[])))))))))))
 
 abbrev pub t7 : List.List Row.Entry
-t7 = List._∷_ (0, Rows'.any-gone Syntax.tyUnit) (List._∷_ (1, Rows'.sslice (Referent.rtF (Referent.fInt Syntax.w8)) (Syntax.tyRef (Syntax.named 0) Syntax.imm (Syntax.tyInt Syntax.w8)) 0) (List._∷_
-    (2, Rows'.sc-here (Row.sInt Syntax.w64)) (List._∷_ (3, Mut.mslice (Referent.rtF (Referent.fInt Syntax.w16)) (Syntax.tyRef (Syntax.named 1) Syntax.mut (Syntax.tyInt Syntax.w16)) 1) (List._∷_ (
-      4,
-      Relend.mslice-owed (Element.type) (Syntax.tyRef (Syntax.named 2) Syntax.mut Element.behind) 2 5 Row.off,
-    ) (List._∷_ (
-      5,
-      Rows'.mref (Array'.Array (Referent.rtF (Referent.fInt Syntax.w64)) 4)
-          (Syntax.tyRef (Syntax.named 3) Syntax.mut (Syntax.tyArray (Syntax.tyInt Syntax.w64) 4)) 3,
-    ) (List._∷_ (6, Rows'.whole (Declared.row Decoded.the-type)) (List._∷_ (
-      7,
-      Rows'.any-gone (Syntax.tyArray
-          (Syntax.tyInt Syntax.w64) 4),
-    ) (List._∷_ (8, Rows'.any-gone (Syntax.tyRef Syntax.erased Syntax.mut (Syntax.tyInt Syntax.w16))) (List._∷_ (
-      9,
-      Rows'.any-gone (Syntax.tyStruct (List._∷_ 38 (List._∷_
-          91 (List._∷_ 93 List.[]))) (Syntax.tcons (Syntax.tyRef Syntax.erased Syntax.mut (Syntax.tyInt Syntax.w16)) (Syntax.tcons (Syntax.tyInt Syntax.w64) Syntax.tnil))),
-    ) (List._∷_ (
-      10,
-      Rows'.any-gone
-          (Syntax.tyRef Syntax.erased Syntax.mut Element.behind),
-    ) (List._∷_ (11, Mut.msleft (Element.type) (Syntax.tyRef Syntax.erased Syntax.mut Element.behind)) List.[])))))))))))
+t7 = List._∷_ e0 (List._∷_ e2 (List._∷_ e8 (List._∷_ e9 (List._∷_ e12 (List._∷_ e13 (List._∷_ e15 (List._∷_ e16 (List._∷_ e19 (List._∷_ e22 (List._∷_ e4 (List._∷_ e5 List.[])))))))))))
 
 abbrev pub t8 : List.List Row.Entry
-t8 = List._∷_ (0, Rows'.any-gone Syntax.tyUnit) (List._∷_ (1, Rows'.sslice (Referent.rtF (Referent.fInt Syntax.w8)) (Syntax.tyRef (Syntax.named 0) Syntax.imm (Syntax.tyInt Syntax.w8)) 0) (List._∷_
-    (2, Rows'.sc-here (Row.sInt Syntax.w64)) (List._∷_ (3, Mut.mslice (Referent.rtF (Referent.fInt Syntax.w16)) (Syntax.tyRef (Syntax.named 1) Syntax.mut (Syntax.tyInt Syntax.w16)) 1) (List._∷_ (
-      4,
-      Mut.mslice (Element.type) (Syntax.tyRef (Syntax.named 2) Syntax.mut Element.behind) 2,
-    ) (List._∷_ (
-      5,
-      Rows'.mref (Array'.Array (Referent.rtF (Referent.fInt Syntax.w64)) 4) (Syntax.tyRef
-          (Syntax.named 3) Syntax.mut (Syntax.tyArray (Syntax.tyInt Syntax.w64) 4)) 3,
-    ) (List._∷_ (6, Rows'.whole (Declared.row Decoded.the-type)) (List._∷_ (
-      7,
-      Rows'.any-gone (Syntax.tyArray (Syntax.tyInt
-          Syntax.w64) 4),
-    ) (List._∷_ (8, Rows'.any-gone (Syntax.tyRef Syntax.erased Syntax.mut (Syntax.tyInt Syntax.w16))) (List._∷_ (
-      9,
-      Rows'.any-gone (Syntax.tyStruct (List._∷_ 38 (List._∷_ 91 (List._∷_
-          93 List.[]))) (Syntax.tcons (Syntax.tyRef Syntax.erased Syntax.mut (Syntax.tyInt Syntax.w16)) (Syntax.tcons (Syntax.tyInt Syntax.w64) Syntax.tnil))),
-    ) (List._∷_ (
-      10,
-      Rows'.any-gone (Syntax.tyRef
-          Syntax.erased Syntax.mut Element.behind),
-    ) (List._∷_ (
-      11,
-      Rows'.any-gone (Syntax.tyStruct (List._∷_ 38 (List._∷_ 91 (List._∷_ 93 List.[]))) (Syntax.tcons (Syntax.tyRef Syntax.erased Syntax.mut
-          Element.behind) (Syntax.tcons (Syntax.tyInt Syntax.w64) Syntax.tnil))),
-    ) List.[])))))))))))
+t8 = List._∷_ e0 (List._∷_ e2 (List._∷_ e8 (List._∷_ e9 (List._∷_ e11 (List._∷_ e13 (List._∷_ e15 (List._∷_ e16 (List._∷_ e19 (List._∷_ e22 (List._∷_ e4 (List._∷_ e7 List.[])))))))))))
 
 abbrev pub t9 : List.List Row.Entry
-t9 = List._∷_ (0, Rows'.any-gone Syntax.tyUnit) (List._∷_ (1, Rows'.sslice (Referent.rtF (Referent.fInt Syntax.w8)) (Syntax.tyRef (Syntax.named 0) Syntax.imm (Syntax.tyInt Syntax.w8)) 0) (List._∷_
-    (2, Rows'.sc-here (Row.sInt Syntax.w64)) (List._∷_ (3, Mut.mslice (Referent.rtF (Referent.fInt Syntax.w16)) (Syntax.tyRef (Syntax.named 1) Syntax.mut (Syntax.tyInt Syntax.w16)) 1) (List._∷_ (
-      4,
-      Mut.mslice (Element.type) (Syntax.tyRef (Syntax.named 2) Syntax.mut Element.behind) 2,
-    ) (List._∷_ (
-      5,
-      Rows'.mref (Array'.Array (Referent.rtF (Referent.fInt Syntax.w64)) 4) (Syntax.tyRef
-          (Syntax.named 3) Syntax.mut (Syntax.tyArray (Syntax.tyInt Syntax.w64) 4)) 3,
-    ) (List._∷_ (6, Rows'.whole (Declared.row Decoded.the-type)) (List._∷_ (
-      7,
-      Rows.arrF (Referent.rtF (Referent.fInt
-          Syntax.w64)) 4 0,
-    ) (List._∷_ (8, Rows'.any-gone (Syntax.tyRef Syntax.erased Syntax.mut (Syntax.tyInt Syntax.w16))) (List._∷_ (
-      9,
-      Rows'.any-gone (Syntax.tyStruct (List._∷_ 38 (List._∷_ 91
-          (List._∷_ 93 List.[]))) (Syntax.tcons (Syntax.tyRef Syntax.erased Syntax.mut (Syntax.tyInt Syntax.w16)) (Syntax.tcons (Syntax.tyInt Syntax.w64) Syntax.tnil))),
-    ) (List._∷_ (
-      10,
-      Rows'.any-gone
-          (Syntax.tyRef Syntax.erased Syntax.mut Element.behind),
-    ) (List._∷_ (
-      11,
-      Rows'.any-gone (Syntax.tyStruct (List._∷_ 38 (List._∷_ 91 (List._∷_ 93 List.[]))) (Syntax.tcons (Syntax.tyRef Syntax.erased
-          Syntax.mut Element.behind) (Syntax.tcons (Syntax.tyInt Syntax.w64) Syntax.tnil))),
-    ) List.[])))))))))))
+t9 = List._∷_ e0 (List._∷_ e2 (List._∷_ e8 (List._∷_ e9 (List._∷_ e11 (List._∷_ e13 (List._∷_ e15 (List._∷_ e17 (List._∷_ e19 (List._∷_ e22 (List._∷_ e4 (List._∷_ e7 List.[])))))))))))
 
 abbrev pub t10 : List.List Row.Entry
-t10 = List._∷_ (0, Rows'.any-gone Syntax.tyUnit) (List._∷_ (1, Rows'.sslice (Referent.rtF (Referent.fInt Syntax.w8)) (Syntax.tyRef (Syntax.named 0) Syntax.imm (Syntax.tyInt Syntax.w8)) 0) (List._∷_
-    (2, Rows'.sc-here (Row.sInt Syntax.w64)) (List._∷_ (3, Mut.mslice (Referent.rtF (Referent.fInt Syntax.w16)) (Syntax.tyRef (Syntax.named 1) Syntax.mut (Syntax.tyInt Syntax.w16)) 1) (List._∷_ (
-      4,
-      Mut.mslice (Element.type) (Syntax.tyRef (Syntax.named 2) Syntax.mut Element.behind) 2,
-    ) (List._∷_ (
-      5,
-      Rows'.mref (Array'.Array (Referent.rtF (Referent.fInt Syntax.w64)) 4) (Syntax.tyRef
-          (Syntax.named 3) Syntax.mut (Syntax.tyArray (Syntax.tyInt Syntax.w64) 4)) 3,
-    ) (List._∷_ (
-      6,
-      Rows'.any-gone (Syntax.tyEnum (List._∷_ 98 (List._∷_ 108 (List._∷_ 111 (List._∷_ 99 (List._∷_ 107
-          (List._∷_ 58 (List._∷_ 58 (List._∷_ 68 (List._∷_ 101 (List._∷_ 99 (List._∷_ 111 (List._∷_ 100 (List._∷_ 101 (List._∷_ 100 List.[])))))))))))))) (Syntax.ttcons Syntax.tnil (Syntax.ttcons (Syntax.tcons
-          (Syntax.tyEnum (List._∷_ 115 (List._∷_ 116 (List._∷_ 114 (List._∷_ 101 (List._∷_ 97 (List._∷_ 109 (List._∷_ 58 (List._∷_ 58 (List._∷_ 82 (List._∷_ 101 (List._∷_ 102 (List._∷_ 117 (List._∷_ 115
-          (List._∷_ 97 (List._∷_ 108 List.[]))))))))))))))) (Syntax.ttcons Syntax.tnil (Syntax.ttcons Syntax.tnil (Syntax.ttcons Syntax.tnil (Syntax.ttcons (Syntax.tcons (Syntax.tyInt Syntax.w64) Syntax.tnil)
-          (Syntax.ttcons Syntax.tnil (Syntax.ttcons Syntax.tnil (Syntax.ttcons Syntax.tnil (Syntax.ttcons Syntax.tnil (Syntax.ttcons Syntax.tnil (Syntax.ttcons Syntax.tnil (Syntax.ttcons (Syntax.tcons
-          (Syntax.tyInt Syntax.w64) Syntax.tnil) (Syntax.ttcons (Syntax.tcons (Syntax.tyInt Syntax.w64) Syntax.tnil) (Syntax.ttcons Syntax.tnil (Syntax.ttcons (Syntax.tcons (Syntax.tyInt Syntax.w64)
-          (Syntax.tcons (Syntax.tyInt Syntax.w64) Syntax.tnil)) (Syntax.ttcons (Syntax.tcons (Syntax.tyInt Syntax.w64) Syntax.tnil) Syntax.ttnil)))))))))))))))) Syntax.tnil) Syntax.ttnil))),
-    ) (List._∷_ (
-      7,
-      Rows.arrF (Referent.rtF (Referent.fInt Syntax.w64)) 4 0,
-    ) (List._∷_ (8, Rows'.any-gone (Syntax.tyRef Syntax.erased Syntax.mut (Syntax.tyInt Syntax.w16))) (List._∷_ (
-      9,
-      Rows'.any-gone
-          (Syntax.tyStruct (List._∷_ 38 (List._∷_ 91 (List._∷_ 93 List.[]))) (Syntax.tcons (Syntax.tyRef Syntax.erased Syntax.mut (Syntax.tyInt Syntax.w16)) (Syntax.tcons (Syntax.tyInt Syntax.w64)
-          Syntax.tnil))),
-    ) (List._∷_ (10, Rows'.any-gone (Syntax.tyRef Syntax.erased Syntax.mut Element.behind)) (List._∷_ (
-      11,
-      Rows'.any-gone (Syntax.tyStruct (List._∷_ 38 (List._∷_ 91 (List._∷_ 93
-          List.[]))) (Syntax.tcons (Syntax.tyRef Syntax.erased Syntax.mut Element.behind) (Syntax.tcons (Syntax.tyInt Syntax.w64) Syntax.tnil))),
-    ) List.[])))))))))))
+t10 = List._∷_ e0 (List._∷_ e2 (List._∷_ e8 (List._∷_ e9 (List._∷_ e11 (List._∷_ e13 (List._∷_ e14 (List._∷_ e17 (List._∷_ e19 (List._∷_ e22 (List._∷_ e4 (List._∷_ e7 List.[])))))))))))
 
 abbrev pub t11 : List.List Row.Entry
-t11 = List._∷_ (0, Rows'.sc-here Row.sUnit) (List._∷_ (1, Rows'.sslice (Referent.rtF (Referent.fInt Syntax.w8)) (Syntax.tyRef (Syntax.named 0) Syntax.imm (Syntax.tyInt Syntax.w8)) 0) (List._∷_ (
-  2,
-  Rows'.sc-here (Row.sInt Syntax.w64),
-) (List._∷_ (3, Mut.mslice (Referent.rtF (Referent.fInt Syntax.w16)) (Syntax.tyRef (Syntax.named 1) Syntax.mut (Syntax.tyInt Syntax.w16)) 1) (List._∷_ (
-  4,
-  Mut.mslice (Element.type) (Syntax.tyRef (Syntax.named 2) Syntax.mut Element.behind) 2,
-) (List._∷_ (
-  5,
-  Rows'.mref (Array'.Array (Referent.rtF (Referent.fInt Syntax.w64)) 4) (Syntax.tyRef
-      (Syntax.named 3) Syntax.mut (Syntax.tyArray (Syntax.tyInt Syntax.w64) 4)) 3,
-) (List._∷_ (
-  6,
-  Rows'.any-gone (Syntax.tyEnum (List._∷_ 98 (List._∷_ 108 (List._∷_ 111 (List._∷_ 99 (List._∷_ 107
-      (List._∷_ 58 (List._∷_ 58 (List._∷_ 68 (List._∷_ 101 (List._∷_ 99 (List._∷_ 111 (List._∷_ 100 (List._∷_ 101 (List._∷_ 100 List.[])))))))))))))) (Syntax.ttcons Syntax.tnil (Syntax.ttcons (Syntax.tcons
-      (Syntax.tyEnum (List._∷_ 115 (List._∷_ 116 (List._∷_ 114 (List._∷_ 101 (List._∷_ 97 (List._∷_ 109 (List._∷_ 58 (List._∷_ 58 (List._∷_ 82 (List._∷_ 101 (List._∷_ 102 (List._∷_ 117 (List._∷_ 115
-      (List._∷_ 97 (List._∷_ 108 List.[]))))))))))))))) (Syntax.ttcons Syntax.tnil (Syntax.ttcons Syntax.tnil (Syntax.ttcons Syntax.tnil (Syntax.ttcons (Syntax.tcons (Syntax.tyInt Syntax.w64) Syntax.tnil)
-      (Syntax.ttcons Syntax.tnil (Syntax.ttcons Syntax.tnil (Syntax.ttcons Syntax.tnil (Syntax.ttcons Syntax.tnil (Syntax.ttcons Syntax.tnil (Syntax.ttcons Syntax.tnil (Syntax.ttcons (Syntax.tcons
-      (Syntax.tyInt Syntax.w64) Syntax.tnil) (Syntax.ttcons (Syntax.tcons (Syntax.tyInt Syntax.w64) Syntax.tnil) (Syntax.ttcons Syntax.tnil (Syntax.ttcons (Syntax.tcons (Syntax.tyInt Syntax.w64)
-      (Syntax.tcons (Syntax.tyInt Syntax.w64) Syntax.tnil)) (Syntax.ttcons (Syntax.tcons (Syntax.tyInt Syntax.w64) Syntax.tnil) Syntax.ttnil)))))))))))))))) Syntax.tnil) Syntax.ttnil))),
-) (List._∷_ (
-  7,
-  Rows'.any-gone (Syntax.tyArray (Syntax.tyInt Syntax.w64) 4),
-) (List._∷_ (8, Rows'.any-gone (Syntax.tyRef Syntax.erased Syntax.mut (Syntax.tyInt Syntax.w16))) (List._∷_ (
-  9,
-  Rows'.any-gone
-      (Syntax.tyStruct (List._∷_ 38 (List._∷_ 91 (List._∷_ 93 List.[]))) (Syntax.tcons (Syntax.tyRef Syntax.erased Syntax.mut (Syntax.tyInt Syntax.w16)) (Syntax.tcons (Syntax.tyInt Syntax.w64)
-      Syntax.tnil))),
-) (List._∷_ (10, Rows'.any-gone (Syntax.tyRef Syntax.erased Syntax.mut Element.behind)) (List._∷_ (
-  11,
-  Rows'.any-gone (Syntax.tyStruct (List._∷_ 38 (List._∷_ 91 (List._∷_ 93
-      List.[]))) (Syntax.tcons (Syntax.tyRef Syntax.erased Syntax.mut Element.behind) (Syntax.tcons (Syntax.tyInt Syntax.w64) Syntax.tnil))),
-) List.[])))))))))))
+t11 = List._∷_ e1 (List._∷_ e2 (List._∷_ e8 (List._∷_ e9 (List._∷_ e11 (List._∷_ e13 (List._∷_ e14 (List._∷_ e16 (List._∷_ e19 (List._∷_ e22 (List._∷_ e4 (List._∷_ e7 List.[])))))))))))
 
 abbrev pub T0 : Row.Cx
 T0 = record { locals = t0; slots = List.[] }
@@ -614,22 +390,18 @@ module _ (claims· : Claims) where
     (
       Num.vAt 2 λ x. x,
       (
-        record {
-          pos
-              = 9;
-          ty = Syntax.tyRef Syntax.erased Syntax.mut (Syntax.tyInt Syntax.w16);
-          ref = λ x. x;
-        },
+        record { pos = 9; ty = Syntax.tyRef Syntax.erased Syntax.mut (Syntax.tyInt Syntax.w16); ref = λ x. x },
         (record { pos = 11; ty = Syntax.tyRef Syntax.erased Syntax.mut Element.behind; ref = λ x. x }, tt),
       ),
     ),
-  ) 6 (List._∷_ 0 (List._∷_ 4 (List._∷_ 5 List.[]))) (Syntax.tyEnum (List._∷_ 98 (List._∷_ 108 (List._∷_ 111 (List._∷_ 99 (List._∷_ 107 (List._∷_ 58 (List._∷_ 58 (List._∷_ 68 (List._∷_ 101
-      (List._∷_ 99 (List._∷_ 111 (List._∷_ 100 (List._∷_ 101 (List._∷_ 100 List.[])))))))))))))) (Syntax.ttcons Syntax.tnil (Syntax.ttcons (Syntax.tcons (Syntax.tyEnum (List._∷_ 115 (List._∷_ 116
-      (List._∷_ 114 (List._∷_ 101 (List._∷_ 97 (List._∷_ 109 (List._∷_ 58 (List._∷_ 58 (List._∷_ 82 (List._∷_ 101 (List._∷_ 102 (List._∷_ 117 (List._∷_ 115 (List._∷_ 97 (List._∷_ 108
-      List.[]))))))))))))))) (Syntax.ttcons Syntax.tnil (Syntax.ttcons Syntax.tnil (Syntax.ttcons Syntax.tnil (Syntax.ttcons (Syntax.tcons (Syntax.tyInt Syntax.w64) Syntax.tnil) (Syntax.ttcons Syntax.tnil
-      (Syntax.ttcons Syntax.tnil (Syntax.ttcons Syntax.tnil (Syntax.ttcons Syntax.tnil (Syntax.ttcons Syntax.tnil (Syntax.ttcons Syntax.tnil (Syntax.ttcons (Syntax.tcons (Syntax.tyInt Syntax.w64)
-      Syntax.tnil) (Syntax.ttcons (Syntax.tcons (Syntax.tyInt Syntax.w64) Syntax.tnil) (Syntax.ttcons Syntax.tnil (Syntax.ttcons (Syntax.tcons (Syntax.tyInt Syntax.w64) (Syntax.tcons (Syntax.tyInt
-      Syntax.w64) Syntax.tnil)) (Syntax.ttcons (Syntax.tcons (Syntax.tyInt Syntax.w64) Syntax.tnil) Syntax.ttnil)))))))))))))))) Syntax.tnil) Syntax.ttnil)))
+  ) 6 (List._∷_ 0 (List._∷_ 4 (List._∷_ 5 List.[]))) (Syntax.tyEnum (List._∷_ 98 (List._∷_ 108
+      (List._∷_ 111 (List._∷_ 99 (List._∷_ 107 (List._∷_ 58 (List._∷_ 58 (List._∷_ 68 (List._∷_ 101 (List._∷_ 99 (List._∷_ 111 (List._∷_ 100 (List._∷_ 101 (List._∷_ 100 List.[]))))))))))))))
+      (Syntax.ttcons Syntax.tnil (Syntax.ttcons (Syntax.tcons (Syntax.tyEnum (List._∷_ 115 (List._∷_ 116 (List._∷_ 114 (List._∷_ 101 (List._∷_ 97 (List._∷_ 109 (List._∷_ 58 (List._∷_ 58 (List._∷_ 82
+      (List._∷_ 101 (List._∷_ 102 (List._∷_ 117 (List._∷_ 115 (List._∷_ 97 (List._∷_ 108 List.[]))))))))))))))) (Syntax.ttcons Syntax.tnil (Syntax.ttcons Syntax.tnil (Syntax.ttcons Syntax.tnil
+      (Syntax.ttcons (Syntax.tcons (Syntax.tyInt Syntax.w64) Syntax.tnil) (Syntax.ttcons Syntax.tnil (Syntax.ttcons Syntax.tnil (Syntax.ttcons Syntax.tnil (Syntax.ttcons Syntax.tnil (Syntax.ttcons
+      Syntax.tnil (Syntax.ttcons Syntax.tnil (Syntax.ttcons (Syntax.tcons (Syntax.tyInt Syntax.w64) Syntax.tnil) (Syntax.ttcons (Syntax.tcons (Syntax.tyInt Syntax.w64) Syntax.tnil) (Syntax.ttcons
+      Syntax.tnil (Syntax.ttcons (Syntax.tcons (Syntax.tyInt Syntax.w64) (Syntax.tcons (Syntax.tyInt Syntax.w64) Syntax.tnil)) (Syntax.ttcons (Syntax.tcons (Syntax.tyInt Syntax.w64) Syntax.tnil)
+      Syntax.ttnil)))))))))))))))) Syntax.tnil) Syntax.ttnil)))
 
   abbrev s10 : Typed.Both T10 T12
   s10 = Relend.k-back-sl (Referent.rtF (Referent.fInt Syntax.w16)) T10 9 3 1 4 (Syntax.tyRef (Syntax.named 1) Syntax.mut (Syntax.tyInt Syntax.w16)) (Syntax.tyRef Syntax.erased Syntax.mut (Syntax.tyInt
@@ -752,361 +524,204 @@ module _ (claims· : Claims) where
 
       module _ (κs : Lifetimes.Lfts 4) (qs : Lifetimes.Shares 4) where
         abbrev g2 : List.List Row.Entry
-        g2 = List._∷_ (0, Rows'.any-gone Syntax.tyUnit) (List._∷_ (1, Rows'.sslice (Referent.rtF (Referent.fInt Syntax.w8)) (Syntax.tyRef (Syntax.named 0) Syntax.imm (Syntax.tyInt Syntax.w8)) 0)
-            (List._∷_ (2, Rows'.sc-here (Row.sInt Syntax.w64)) (List._∷_ (
-              3,
-              Relend.mslice-owed (Referent.rtF (Referent.fInt Syntax.w16)) (Syntax.tyRef (Syntax.named 1) Syntax.mut (Syntax.tyInt
-                  Syntax.w16)) 1 4 (Row.lease (κs .1 .0) (qs .1 .0)),
-            ) (List._∷_ (4, Mut.mslice (Element.type) (Syntax.tyRef (Syntax.named 2) Syntax.mut Element.behind) 2) (List._∷_ (
-              5,
-              Rows'.mref
-                  (Array'.Array (Referent.rtF (Referent.fInt Syntax.w64)) 4) (Syntax.tyRef (Syntax.named 3) Syntax.mut (Syntax.tyArray (Syntax.tyInt Syntax.w64) 4)) 3,
-            ) (List._∷_ (
-              6,
-              Rows'.any-gone
-                  (Syntax.tyEnum (List._∷_ 98 (List._∷_ 108 (List._∷_ 111 (List._∷_ 99 (List._∷_ 107 (List._∷_ 58 (List._∷_ 58 (List._∷_ 68 (List._∷_ 101 (List._∷_ 99 (List._∷_ 111 (List._∷_ 100 (List._∷_ 101
-                  (List._∷_ 100 List.[])))))))))))))) (Syntax.ttcons Syntax.tnil (Syntax.ttcons (Syntax.tcons (Syntax.tyEnum (List._∷_ 115 (List._∷_ 116 (List._∷_ 114 (List._∷_ 101 (List._∷_ 97 (List._∷_ 109
-                  (List._∷_ 58 (List._∷_ 58 (List._∷_ 82 (List._∷_ 101 (List._∷_ 102 (List._∷_ 117 (List._∷_ 115 (List._∷_ 97 (List._∷_ 108 List.[]))))))))))))))) (Syntax.ttcons Syntax.tnil (Syntax.ttcons
-                  Syntax.tnil (Syntax.ttcons Syntax.tnil (Syntax.ttcons (Syntax.tcons (Syntax.tyInt Syntax.w64) Syntax.tnil) (Syntax.ttcons Syntax.tnil (Syntax.ttcons Syntax.tnil (Syntax.ttcons Syntax.tnil
-                  (Syntax.ttcons Syntax.tnil (Syntax.ttcons Syntax.tnil (Syntax.ttcons Syntax.tnil (Syntax.ttcons (Syntax.tcons (Syntax.tyInt Syntax.w64) Syntax.tnil) (Syntax.ttcons (Syntax.tcons (Syntax.tyInt
-                  Syntax.w64) Syntax.tnil) (Syntax.ttcons Syntax.tnil (Syntax.ttcons (Syntax.tcons (Syntax.tyInt Syntax.w64) (Syntax.tcons (Syntax.tyInt Syntax.w64) Syntax.tnil)) (Syntax.ttcons (Syntax.tcons
-                  (Syntax.tyInt Syntax.w64) Syntax.tnil) Syntax.ttnil)))))))))))))))) Syntax.tnil) Syntax.ttnil))),
-            ) (List._∷_ (7, Rows'.any-gone (Syntax.tyArray (Syntax.tyInt Syntax.w64) 4)) (List._∷_ (
-              8,
-              Relend.msptr (Referent.rtF (Referent.fInt Syntax.w16)) (Syntax.tyRef Syntax.erased Syntax.mut (Syntax.tyInt Syntax.w16)) 4,
-            ) (List._∷_ (
-              9,
-              Rows'.any-gone (Syntax.tyStruct (List._∷_ 38
-                  (List._∷_ 91 (List._∷_ 93 List.[]))) (Syntax.tcons (Syntax.tyRef Syntax.erased Syntax.mut (Syntax.tyInt Syntax.w16)) (Syntax.tcons (Syntax.tyInt Syntax.w64) Syntax.tnil))),
-            ) (List._∷_ (
-              10,
-              Rows'.any-gone (Syntax.tyRef Syntax.erased Syntax.mut Element.behind),
-            ) (List._∷_ (
-              11,
-              Rows'.any-gone (Syntax.tyStruct (List._∷_ 38 (List._∷_ 91 (List._∷_ 93 List.[]))) (Syntax.tcons
-                  (Syntax.tyRef Syntax.erased Syntax.mut Element.behind) (Syntax.tcons (Syntax.tyInt Syntax.w64) Syntax.tnil))),
-            ) List.[])))))))))))
+        g2 = List._∷_ e0 (List._∷_ e2 (List._∷_ e8 (List._∷_
+            (3, Relend.mslice-owed (Referent.rtF (Referent.fInt Syntax.w16)) (Syntax.tyRef (Syntax.named 1) Syntax.mut (Syntax.tyInt Syntax.w16)) 1 4 (Row.lease (κs .1 .0) (qs .1 .0))) (List._∷_ e11
+            (List._∷_ e13 (List._∷_ e14 (List._∷_ e16 (List._∷_ e18 (List._∷_ e22 (List._∷_ e4 (List._∷_ e7 List.[])))))))))))
 
         abbrev g3 : List.List Row.Entry
-        g3 = List._∷_ (0, Rows'.any-gone Syntax.tyUnit) (List._∷_ (1, Rows'.sslice (Referent.rtF (Referent.fInt Syntax.w8)) (Syntax.tyRef (Syntax.named 0) Syntax.imm (Syntax.tyInt Syntax.w8)) 0)
-            (List._∷_ (2, Rows'.sc-here (Row.sInt Syntax.w64)) (List._∷_ (
-              3,
-              Relend.mslice-owed (Referent.rtF (Referent.fInt Syntax.w16)) (Syntax.tyRef (Syntax.named 1) Syntax.mut (Syntax.tyInt
-                  Syntax.w16)) 1 4 (Row.lease (κs .1 .0) (qs .1 .0)),
-            ) (List._∷_ (4, Mut.mslice (Element.type) (Syntax.tyRef (Syntax.named 2) Syntax.mut Element.behind) 2) (List._∷_ (
-              5,
-              Rows'.mref
-                  (Array'.Array (Referent.rtF (Referent.fInt Syntax.w64)) 4) (Syntax.tyRef (Syntax.named 3) Syntax.mut (Syntax.tyArray (Syntax.tyInt Syntax.w64) 4)) 3,
-            ) (List._∷_ (
-              6,
-              Rows'.any-gone
-                  (Syntax.tyEnum (List._∷_ 98 (List._∷_ 108 (List._∷_ 111 (List._∷_ 99 (List._∷_ 107 (List._∷_ 58 (List._∷_ 58 (List._∷_ 68 (List._∷_ 101 (List._∷_ 99 (List._∷_ 111 (List._∷_ 100 (List._∷_ 101
-                  (List._∷_ 100 List.[])))))))))))))) (Syntax.ttcons Syntax.tnil (Syntax.ttcons (Syntax.tcons (Syntax.tyEnum (List._∷_ 115 (List._∷_ 116 (List._∷_ 114 (List._∷_ 101 (List._∷_ 97 (List._∷_ 109
-                  (List._∷_ 58 (List._∷_ 58 (List._∷_ 82 (List._∷_ 101 (List._∷_ 102 (List._∷_ 117 (List._∷_ 115 (List._∷_ 97 (List._∷_ 108 List.[]))))))))))))))) (Syntax.ttcons Syntax.tnil (Syntax.ttcons
-                  Syntax.tnil (Syntax.ttcons Syntax.tnil (Syntax.ttcons (Syntax.tcons (Syntax.tyInt Syntax.w64) Syntax.tnil) (Syntax.ttcons Syntax.tnil (Syntax.ttcons Syntax.tnil (Syntax.ttcons Syntax.tnil
-                  (Syntax.ttcons Syntax.tnil (Syntax.ttcons Syntax.tnil (Syntax.ttcons Syntax.tnil (Syntax.ttcons (Syntax.tcons (Syntax.tyInt Syntax.w64) Syntax.tnil) (Syntax.ttcons (Syntax.tcons (Syntax.tyInt
-                  Syntax.w64) Syntax.tnil) (Syntax.ttcons Syntax.tnil (Syntax.ttcons (Syntax.tcons (Syntax.tyInt Syntax.w64) (Syntax.tcons (Syntax.tyInt Syntax.w64) Syntax.tnil)) (Syntax.ttcons (Syntax.tcons
-                  (Syntax.tyInt Syntax.w64) Syntax.tnil) Syntax.ttnil)))))))))))))))) Syntax.tnil) Syntax.ttnil))),
-            ) (List._∷_ (7, Rows'.any-gone (Syntax.tyArray (Syntax.tyInt Syntax.w64) 4)) (List._∷_ (
-              8,
-              Rows'.any-gone (Syntax.tyRef Syntax.erased Syntax.mut (Syntax.tyInt Syntax.w16)),
-            ) (List._∷_ (
-              9,
-              Mut.mslice (Referent.rtF (Referent.fInt Syntax.w16)) (Syntax.tyRef Syntax.erased Syntax.mut
-                  (Syntax.tyInt Syntax.w16)) 4,
-            ) (List._∷_ (10, Rows'.any-gone (Syntax.tyRef Syntax.erased Syntax.mut Element.behind)) (List._∷_ (
-              11,
-              Rows'.any-gone (Syntax.tyStruct (List._∷_ 38 (List._∷_
-                  91 (List._∷_ 93 List.[]))) (Syntax.tcons (Syntax.tyRef Syntax.erased Syntax.mut Element.behind) (Syntax.tcons (Syntax.tyInt Syntax.w64) Syntax.tnil))),
-            ) List.[])))))))))))
+        g3 = List._∷_ e0 (List._∷_ e2 (List._∷_ e8 (List._∷_
+            (3, Relend.mslice-owed (Referent.rtF (Referent.fInt Syntax.w16)) (Syntax.tyRef (Syntax.named 1) Syntax.mut (Syntax.tyInt Syntax.w16)) 1 4 (Row.lease (κs .1 .0) (qs .1 .0))) (List._∷_ e11
+            (List._∷_ e13 (List._∷_ e14 (List._∷_ e16 (List._∷_ e19 (List._∷_ e21 (List._∷_ e4 (List._∷_ e7 List.[])))))))))))
 
         abbrev g4 : List.List Row.Entry
-        g4 = List._∷_ (0, Rows'.any-gone Syntax.tyUnit) (List._∷_ (1, Rows'.sslice (Referent.rtF (Referent.fInt Syntax.w8)) (Syntax.tyRef (Syntax.named 0) Syntax.imm (Syntax.tyInt Syntax.w8)) 0)
-            (List._∷_ (2, Rows'.sc-here (Row.sInt Syntax.w64)) (List._∷_ (
-              3,
-              Relend.mslice-owed (Referent.rtF (Referent.fInt Syntax.w16)) (Syntax.tyRef (Syntax.named 1) Syntax.mut (Syntax.tyInt
-                  Syntax.w16)) 1 4 (Row.lease (κs .1 .0) (qs .1 .0)),
-            ) (List._∷_ (
-              4,
-              Relend.mslice-owed (Element.type) (Syntax.tyRef (Syntax.named 2) Syntax.mut Element.behind) 2 5 (Row.lease (κs .1 .1 .0)
-                  (qs .1 .1 .0)),
-            ) (List._∷_ (
-              5,
-              Rows'.mref (Array'.Array (Referent.rtF (Referent.fInt Syntax.w64)) 4) (Syntax.tyRef (Syntax.named 3) Syntax.mut (Syntax.tyArray (Syntax.tyInt Syntax.w64) 4))
-                  3,
-            ) (List._∷_ (
-              6,
-              Rows'.any-gone (Syntax.tyEnum (List._∷_ 98 (List._∷_ 108 (List._∷_ 111 (List._∷_ 99 (List._∷_ 107 (List._∷_ 58 (List._∷_ 58 (List._∷_ 68 (List._∷_ 101 (List._∷_ 99
-                  (List._∷_ 111 (List._∷_ 100 (List._∷_ 101 (List._∷_ 100 List.[])))))))))))))) (Syntax.ttcons Syntax.tnil (Syntax.ttcons (Syntax.tcons (Syntax.tyEnum (List._∷_ 115 (List._∷_ 116 (List._∷_ 114
-                  (List._∷_ 101 (List._∷_ 97 (List._∷_ 109 (List._∷_ 58 (List._∷_ 58 (List._∷_ 82 (List._∷_ 101 (List._∷_ 102 (List._∷_ 117 (List._∷_ 115 (List._∷_ 97 (List._∷_ 108 List.[])))))))))))))))
-                  (Syntax.ttcons Syntax.tnil (Syntax.ttcons Syntax.tnil (Syntax.ttcons Syntax.tnil (Syntax.ttcons (Syntax.tcons (Syntax.tyInt Syntax.w64) Syntax.tnil) (Syntax.ttcons Syntax.tnil (Syntax.ttcons
-                  Syntax.tnil (Syntax.ttcons Syntax.tnil (Syntax.ttcons Syntax.tnil (Syntax.ttcons Syntax.tnil (Syntax.ttcons Syntax.tnil (Syntax.ttcons (Syntax.tcons (Syntax.tyInt Syntax.w64) Syntax.tnil)
-                  (Syntax.ttcons (Syntax.tcons (Syntax.tyInt Syntax.w64) Syntax.tnil) (Syntax.ttcons Syntax.tnil (Syntax.ttcons (Syntax.tcons (Syntax.tyInt Syntax.w64) (Syntax.tcons (Syntax.tyInt Syntax.w64)
-                  Syntax.tnil)) (Syntax.ttcons (Syntax.tcons (Syntax.tyInt Syntax.w64) Syntax.tnil) Syntax.ttnil)))))))))))))))) Syntax.tnil) Syntax.ttnil))),
-            ) (List._∷_ (
-              7,
-              Rows'.any-gone (Syntax.tyArray
-                  (Syntax.tyInt Syntax.w64) 4),
-            ) (List._∷_ (8, Rows'.any-gone (Syntax.tyRef Syntax.erased Syntax.mut (Syntax.tyInt Syntax.w16))) (List._∷_ (
-              9,
-              Mut.mslice (Referent.rtF (Referent.fInt
-                  Syntax.w16)) (Syntax.tyRef Syntax.erased Syntax.mut (Syntax.tyInt Syntax.w16)) 4,
-            ) (List._∷_ (10, Relend.msptr (Element.type) (Syntax.tyRef Syntax.erased Syntax.mut Element.behind) 5)
-            (List._∷_ (
-              11,
-              Rows'.any-gone (Syntax.tyStruct (List._∷_ 38 (List._∷_ 91 (List._∷_ 93 List.[]))) (Syntax.tcons (Syntax.tyRef Syntax.erased Syntax.mut Element.behind) (Syntax.tcons
-                  (Syntax.tyInt Syntax.w64) Syntax.tnil))),
-            ) List.[])))))))))))
+        g4 = List._∷_ e0 (List._∷_ e2 (List._∷_ e8 (List._∷_
+            (3, Relend.mslice-owed (Referent.rtF (Referent.fInt Syntax.w16)) (Syntax.tyRef (Syntax.named 1) Syntax.mut (Syntax.tyInt Syntax.w16)) 1 4 (Row.lease (κs .1 .0) (qs .1 .0))) (List._∷_
+            (4, Relend.mslice-owed (Element.type) (Syntax.tyRef (Syntax.named 2) Syntax.mut Element.behind) 2 5 (Row.lease (κs .1 .1 .0) (qs .1 .1 .0))) (List._∷_ e13 (List._∷_ e14 (List._∷_ e16 (List._∷_
+            e19 (List._∷_ e21 (List._∷_ e3 (List._∷_ e7 List.[])))))))))))
 
         abbrev g5 : List.List Row.Entry
-        g5 = List._∷_ (0, Rows'.any-gone Syntax.tyUnit) (List._∷_ (1, Rows'.sslice (Referent.rtF (Referent.fInt Syntax.w8)) (Syntax.tyRef (Syntax.named 0) Syntax.imm (Syntax.tyInt Syntax.w8)) 0)
-            (List._∷_ (2, Rows'.sc-here (Row.sInt Syntax.w64)) (List._∷_ (
-              3,
-              Relend.mslice-owed (Referent.rtF (Referent.fInt Syntax.w16)) (Syntax.tyRef (Syntax.named 1) Syntax.mut (Syntax.tyInt
-                  Syntax.w16)) 1 4 (Row.lease (κs .1 .0) (qs .1 .0)),
-            ) (List._∷_ (
-              4,
-              Relend.mslice-owed (Element.type) (Syntax.tyRef (Syntax.named 2) Syntax.mut Element.behind) 2 5 (Row.lease (κs .1 .1 .0)
-                  (qs .1 .1 .0)),
-            ) (List._∷_ (
-              5,
-              Rows'.mref (Array'.Array (Referent.rtF (Referent.fInt Syntax.w64)) 4) (Syntax.tyRef (Syntax.named 3) Syntax.mut (Syntax.tyArray (Syntax.tyInt Syntax.w64) 4))
-                  3,
-            ) (List._∷_ (
-              6,
-              Rows'.any-gone (Syntax.tyEnum (List._∷_ 98 (List._∷_ 108 (List._∷_ 111 (List._∷_ 99 (List._∷_ 107 (List._∷_ 58 (List._∷_ 58 (List._∷_ 68 (List._∷_ 101 (List._∷_ 99
-                  (List._∷_ 111 (List._∷_ 100 (List._∷_ 101 (List._∷_ 100 List.[])))))))))))))) (Syntax.ttcons Syntax.tnil (Syntax.ttcons (Syntax.tcons (Syntax.tyEnum (List._∷_ 115 (List._∷_ 116 (List._∷_ 114
-                  (List._∷_ 101 (List._∷_ 97 (List._∷_ 109 (List._∷_ 58 (List._∷_ 58 (List._∷_ 82 (List._∷_ 101 (List._∷_ 102 (List._∷_ 117 (List._∷_ 115 (List._∷_ 97 (List._∷_ 108 List.[])))))))))))))))
-                  (Syntax.ttcons Syntax.tnil (Syntax.ttcons Syntax.tnil (Syntax.ttcons Syntax.tnil (Syntax.ttcons (Syntax.tcons (Syntax.tyInt Syntax.w64) Syntax.tnil) (Syntax.ttcons Syntax.tnil (Syntax.ttcons
-                  Syntax.tnil (Syntax.ttcons Syntax.tnil (Syntax.ttcons Syntax.tnil (Syntax.ttcons Syntax.tnil (Syntax.ttcons Syntax.tnil (Syntax.ttcons (Syntax.tcons (Syntax.tyInt Syntax.w64) Syntax.tnil)
-                  (Syntax.ttcons (Syntax.tcons (Syntax.tyInt Syntax.w64) Syntax.tnil) (Syntax.ttcons Syntax.tnil (Syntax.ttcons (Syntax.tcons (Syntax.tyInt Syntax.w64) (Syntax.tcons (Syntax.tyInt Syntax.w64)
-                  Syntax.tnil)) (Syntax.ttcons (Syntax.tcons (Syntax.tyInt Syntax.w64) Syntax.tnil) Syntax.ttnil)))))))))))))))) Syntax.tnil) Syntax.ttnil))),
-            ) (List._∷_ (
-              7,
-              Rows'.any-gone (Syntax.tyArray
-                  (Syntax.tyInt Syntax.w64) 4),
-            ) (List._∷_ (8, Rows'.any-gone (Syntax.tyRef Syntax.erased Syntax.mut (Syntax.tyInt Syntax.w16))) (List._∷_ (
-              9,
-              Mut.mslice (Referent.rtF (Referent.fInt
-                  Syntax.w16)) (Syntax.tyRef Syntax.erased Syntax.mut (Syntax.tyInt Syntax.w16)) 4,
-            ) (List._∷_ (10, Rows'.any-gone (Syntax.tyRef Syntax.erased Syntax.mut Element.behind)) (List._∷_ (
-              11,
-              Mut.mslice (Element.type) (Syntax.tyRef Syntax.erased Syntax.mut Element.behind) 5,
-            ) List.[])))))))))))
+        g5 = List._∷_ e0 (List._∷_ e2 (List._∷_ e8 (List._∷_
+            (3, Relend.mslice-owed (Referent.rtF (Referent.fInt Syntax.w16)) (Syntax.tyRef (Syntax.named 1) Syntax.mut (Syntax.tyInt Syntax.w16)) 1 4 (Row.lease (κs .1 .0) (qs .1 .0))) (List._∷_
+            (4, Relend.mslice-owed (Element.type) (Syntax.tyRef (Syntax.named 2) Syntax.mut Element.behind) 2 5 (Row.lease (κs .1 .1 .0) (qs .1 .1 .0))) (List._∷_ e13 (List._∷_ e14 (List._∷_ e16 (List._∷_
+            e19 (List._∷_ e21 (List._∷_ e4 (List._∷_ e6 List.[])))))))))))
 
         abbrev g6 : List.List Row.Entry
-        g6 = List._∷_ (0, Rows'.any-gone Syntax.tyUnit) (List._∷_ (1, Rows'.sslice (Referent.rtF (Referent.fInt Syntax.w8)) (Syntax.tyRef (Syntax.named 0) Syntax.imm (Syntax.tyInt Syntax.w8)) 0)
-            (List._∷_ (2, Rows'.sc-here (Row.sInt Syntax.w64)) (List._∷_ (
-              3,
-              Relend.mslice-owed (Referent.rtF (Referent.fInt Syntax.w16)) (Syntax.tyRef (Syntax.named 1) Syntax.mut (Syntax.tyInt
-                  Syntax.w16)) 1 4 (Row.lease (κs .1 .0) (qs .1 .0)),
-            ) (List._∷_ (
-              4,
-              Relend.mslice-owed (Element.type) (Syntax.tyRef (Syntax.named 2) Syntax.mut Element.behind) 2 5 (Row.lease (κs .1 .1 .0)
-                  (qs .1 .1 .0)),
-            ) (List._∷_ (
-              5,
-              Rows'.mref (Array'.Array (Referent.rtF (Referent.fInt Syntax.w64)) 4) (Syntax.tyRef (Syntax.named 3) Syntax.mut (Syntax.tyArray (Syntax.tyInt Syntax.w64) 4))
-                  3,
-            ) (List._∷_ (6, Rows'.whole (Declared.row Decoded.the-type)) (List._∷_ (7, Rows'.any-gone (Syntax.tyArray (Syntax.tyInt Syntax.w64) 4)) (List._∷_ (
-              8,
-              Rows'.any-gone (Syntax.tyRef
-                  Syntax.erased Syntax.mut (Syntax.tyInt Syntax.w16)),
-            ) (List._∷_ (9, Mut.msleft (Referent.rtF (Referent.fInt Syntax.w16)) (Syntax.tyRef Syntax.erased Syntax.mut (Syntax.tyInt Syntax.w16)))
-            (List._∷_ (10, Rows'.any-gone (Syntax.tyRef Syntax.erased Syntax.mut Element.behind)) (List._∷_ (11, Mut.msleft (Element.type) (Syntax.tyRef Syntax.erased Syntax.mut Element.behind))
-            List.[])))))))))))
+        g6 = List._∷_ e0 (List._∷_ e2 (List._∷_ e8 (List._∷_
+            (3, Relend.mslice-owed (Referent.rtF (Referent.fInt Syntax.w16)) (Syntax.tyRef (Syntax.named 1) Syntax.mut (Syntax.tyInt Syntax.w16)) 1 4 (Row.lease (κs .1 .0) (qs .1 .0))) (List._∷_
+            (4, Relend.mslice-owed (Element.type) (Syntax.tyRef (Syntax.named 2) Syntax.mut Element.behind) 2 5 (Row.lease (κs .1 .1 .0) (qs .1 .1 .0))) (List._∷_ e13 (List._∷_ e15 (List._∷_ e16 (List._∷_
+            e19 (List._∷_ e20 (List._∷_ e4 (List._∷_ e5 List.[])))))))))))
 
         abbrev g7 : List.List Row.Entry
-        g7 = List._∷_ (0, Rows'.any-gone Syntax.tyUnit) (List._∷_ (1, Rows'.sslice (Referent.rtF (Referent.fInt Syntax.w8)) (Syntax.tyRef (Syntax.named 0) Syntax.imm (Syntax.tyInt Syntax.w8)) 0)
-            (List._∷_ (2, Rows'.sc-here (Row.sInt Syntax.w64)) (List._∷_ (3, Mut.mslice (Referent.rtF (Referent.fInt Syntax.w16)) (Syntax.tyRef (Syntax.named 1) Syntax.mut (Syntax.tyInt Syntax.w16)) 1)
-            (List._∷_ (4, Relend.mslice-owed (Element.type) (Syntax.tyRef (Syntax.named 2) Syntax.mut Element.behind) 2 5 (Row.lease (κs .1 .1 .0) (qs .1 .1 .0))) (List._∷_ (
-              5,
-              Rows'.mref
-                  (Array'.Array (Referent.rtF (Referent.fInt Syntax.w64)) 4) (Syntax.tyRef (Syntax.named 3) Syntax.mut (Syntax.tyArray (Syntax.tyInt Syntax.w64) 4)) 3,
-            ) (List._∷_ (
-              6,
-              Rows'.whole (Declared.row
-                  Decoded.the-type),
-            ) (List._∷_ (7, Rows'.any-gone (Syntax.tyArray (Syntax.tyInt Syntax.w64) 4)) (List._∷_ (
-              8,
-              Rows'.any-gone (Syntax.tyRef Syntax.erased Syntax.mut (Syntax.tyInt
-                  Syntax.w16)),
-            ) (List._∷_ (
-              9,
-              Rows'.any-gone (Syntax.tyStruct (List._∷_ 38 (List._∷_ 91 (List._∷_ 93 List.[]))) (Syntax.tcons (Syntax.tyRef Syntax.erased Syntax.mut (Syntax.tyInt Syntax.w16))
-                  (Syntax.tcons (Syntax.tyInt Syntax.w64) Syntax.tnil))),
-            ) (List._∷_ (10, Rows'.any-gone (Syntax.tyRef Syntax.erased Syntax.mut Element.behind)) (List._∷_ (
-              11,
-              Mut.msleft (Element.type)
-                  (Syntax.tyRef Syntax.erased Syntax.mut Element.behind),
-            ) List.[])))))))))))
+        g7 = List._∷_ e0 (List._∷_ e2 (List._∷_ e8 (List._∷_ e9 (List._∷_
+            (4, Relend.mslice-owed (Element.type) (Syntax.tyRef (Syntax.named 2) Syntax.mut Element.behind) 2 5 (Row.lease (κs .1 .1 .0) (qs .1 .1 .0))) (List._∷_ e13 (List._∷_ e15 (List._∷_ e16 (List._∷_
+            e19 (List._∷_ e22 (List._∷_ e4 (List._∷_ e5 List.[])))))))))))
 
         abbrev G0 : Row.Cx
         G0 = record {
           locals = t0;
-          slots = List._∷_ (Row.lease (κs .0) (qs .0)) (List._∷_ (Row.lease (κs .1 .0) (qs .1 .0)) (List._∷_ (Row.lease (κs .1 .1 .0) (qs .1 .1 .0)) (List._∷_ (Row.lease (κs
-              .1 .1 .1 .0) (qs .1 .1 .1 .0)) (List._∷_ Row.off (List._∷_ Row.off List.[])))));
+          slots = List._∷_ (Row.lease (κs .0) (qs .0)) (List._∷_ (Row.lease (κs .1 .0) (qs .1 .0)) (List._∷_ (Row.lease (κs .1 .1 .0) (qs .1 .1 .0)) (List._∷_ (Row.lease (κs .1 .1 .1 .0)
+              (qs .1 .1 .1 .0)) (List._∷_ Row.off (List._∷_ Row.off List.[])))));
         }
 
         abbrev G1 : Row.Cx
         G1 = record {
           locals = t1;
-          slots = List._∷_ (Row.lease (κs .0) (qs .0)) (List._∷_ (Row.lease (κs .1 .0) (qs .1 .0)) (List._∷_ (Row.lease (κs .1 .1 .0) (qs .1 .1 .0)) (List._∷_ (Row.lease (κs
-              .1 .1 .1 .0) (qs .1 .1 .1 .0)) (List._∷_ Row.off (List._∷_ Row.off List.[])))));
+          slots = List._∷_ (Row.lease (κs .0) (qs .0)) (List._∷_ (Row.lease (κs .1 .0) (qs .1 .0)) (List._∷_ (Row.lease (κs .1 .1 .0) (qs .1 .1 .0)) (List._∷_ (Row.lease (κs .1 .1 .1 .0)
+              (qs .1 .1 .1 .0)) (List._∷_ Row.off (List._∷_ Row.off List.[])))));
         }
 
         abbrev G2 : Row.Cx
         G2 = record {
           locals = t0;
-          slots = List._∷_ (Row.lease (κs .0) (qs .0)) (List._∷_ (Row.lease (κs .1 .0) (qs .1 .0)) (List._∷_ (Row.lease (κs .1 .1 .0) (qs .1 .1 .0)) (List._∷_ (Row.lease (κs
-              .1 .1 .1 .0) (qs .1 .1 .1 .0)) (List._∷_ Row.off (List._∷_ Row.off List.[])))));
+          slots = List._∷_ (Row.lease (κs .0) (qs .0)) (List._∷_ (Row.lease (κs .1 .0) (qs .1 .0)) (List._∷_ (Row.lease (κs .1 .1 .0) (qs .1 .1 .0)) (List._∷_ (Row.lease (κs .1 .1 .1 .0)
+              (qs .1 .1 .1 .0)) (List._∷_ Row.off (List._∷_ Row.off List.[])))));
         }
 
         abbrev G3 : Row.Cx
         G3 = record {
           locals = t0;
-          slots = List._∷_ (Row.lease (κs .0) (qs .0)) (List._∷_ (Row.lease (κs .1 .0) (qs .1 .0)) (List._∷_ (Row.lease (κs .1 .1 .0) (qs .1 .1 .0)) (List._∷_ (Row.lease (κs
-              .1 .1 .1 .0) (qs .1 .1 .1 .0)) (List._∷_ Row.off (List._∷_ Row.off List.[])))));
+          slots = List._∷_ (Row.lease (κs .0) (qs .0)) (List._∷_ (Row.lease (κs .1 .0) (qs .1 .0)) (List._∷_ (Row.lease (κs .1 .1 .0) (qs .1 .1 .0)) (List._∷_ (Row.lease (κs .1 .1 .1 .0)
+              (qs .1 .1 .1 .0)) (List._∷_ Row.off (List._∷_ Row.off List.[])))));
         }
 
         abbrev G4 : Row.Cx
         G4 = record {
           locals = t0;
-          slots = List._∷_ (Row.lease (κs .0) (qs .0)) (List._∷_ (Row.lease (κs .1 .0) (qs .1 .0)) (List._∷_ (Row.lease (κs .1 .1 .0) (qs .1 .1 .0)) (List._∷_ (Row.lease (κs
-              .1 .1 .1 .0) (qs .1 .1 .1 .0)) (List._∷_ Row.alive (List._∷_ Row.off List.[])))));
+          slots = List._∷_ (Row.lease (κs .0) (qs .0)) (List._∷_ (Row.lease (κs .1 .0) (qs .1 .0)) (List._∷_ (Row.lease (κs .1 .1 .0) (qs .1 .1 .0)) (List._∷_ (Row.lease (κs .1 .1 .1 .0)
+              (qs .1 .1 .1 .0)) (List._∷_ Row.alive (List._∷_ Row.off List.[])))));
         }
 
         abbrev G5 : Row.Cx
         G5 = record {
           locals = g2;
-          slots = List._∷_ (Row.lease (κs .0) (qs .0)) (List._∷_ Row.off (List._∷_ (Row.lease (κs .1 .1 .0) (qs .1 .1 .0)) (List._∷_ (Row.lease (κs .1 .1 .1 .0) (qs .1 .1 .1
-              .0)) (List._∷_ Row.alive (List._∷_ Row.off List.[])))));
+          slots = List._∷_ (Row.lease (κs .0) (qs .0)) (List._∷_ Row.off (List._∷_ (Row.lease (κs .1 .1 .0) (qs .1 .1 .0)) (List._∷_ (Row.lease (κs .1 .1 .1 .0) (qs .1 .1 .1 .0))
+              (List._∷_ Row.alive (List._∷_ Row.off List.[])))));
         }
 
         abbrev G6 : Row.Cx
         G6 = record {
           locals = g3;
-          slots = List._∷_ (Row.lease (κs .0) (qs .0)) (List._∷_ Row.off (List._∷_ (Row.lease (κs .1 .1 .0) (qs .1 .1 .0)) (List._∷_ (Row.lease (κs .1 .1 .1 .0) (qs .1 .1 .1
-              .0)) (List._∷_ Row.alive (List._∷_ Row.off List.[])))));
+          slots = List._∷_ (Row.lease (κs .0) (qs .0)) (List._∷_ Row.off (List._∷_ (Row.lease (κs .1 .1 .0) (qs .1 .1 .0)) (List._∷_ (Row.lease (κs .1 .1 .1 .0) (qs .1 .1 .1 .0))
+              (List._∷_ Row.alive (List._∷_ Row.off List.[])))));
         }
 
         abbrev G7 : Row.Cx
         G7 = record {
           locals = g3;
-          slots = List._∷_ (Row.lease (κs .0) (qs .0)) (List._∷_ Row.off (List._∷_ (Row.lease (κs .1 .1 .0) (qs .1 .1 .0)) (List._∷_ (Row.lease (κs .1 .1 .1 .0) (qs .1 .1 .1
-              .0)) (List._∷_ Row.alive (List._∷_ Row.alive List.[])))));
+          slots = List._∷_ (Row.lease (κs .0) (qs .0)) (List._∷_ Row.off (List._∷_ (Row.lease (κs .1 .1 .0) (qs .1 .1 .0)) (List._∷_ (Row.lease (κs .1 .1 .1 .0) (qs .1 .1 .1 .0))
+              (List._∷_ Row.alive (List._∷_ Row.alive List.[])))));
         }
 
         abbrev G8 : Row.Cx
         G8 = record {
           locals = g4;
-          slots = List._∷_ (Row.lease (κs .0) (qs .0)) (List._∷_ Row.off (List._∷_ Row.off (List._∷_ (Row.lease (κs .1 .1 .1 .0) (qs .1 .1 .1 .0)) (List._∷_ Row.alive
-              (List._∷_ Row.alive List.[])))));
+          slots = List._∷_ (Row.lease (κs .0) (qs .0)) (List._∷_ Row.off (List._∷_ Row.off (List._∷_ (Row.lease (κs .1 .1 .1 .0) (qs .1 .1 .1 .0)) (List._∷_ Row.alive (List._∷_ Row.alive
+              List.[])))));
         }
 
         abbrev G9 : Row.Cx
         G9 = record {
           locals = g5;
-          slots = List._∷_ (Row.lease (κs .0) (qs .0)) (List._∷_ Row.off (List._∷_ Row.off (List._∷_ (Row.lease (κs .1 .1 .1 .0) (qs .1 .1 .1 .0)) (List._∷_ Row.alive
-              (List._∷_ Row.alive List.[])))));
+          slots = List._∷_ (Row.lease (κs .0) (qs .0)) (List._∷_ Row.off (List._∷_ Row.off (List._∷_ (Row.lease (κs .1 .1 .1 .0) (qs .1 .1 .1 .0)) (List._∷_ Row.alive (List._∷_ Row.alive
+              List.[])))));
         }
 
         abbrev G10 : Row.Cx
         G10 = record {
           locals = g6;
-          slots = List._∷_ (Row.lease (κs .0) (qs .0)) (List._∷_ Row.off (List._∷_ Row.off (List._∷_ (Row.lease (κs .1 .1 .1 .0) (qs .1 .1 .1 .0)) (List._∷_ Row.alive
-              (List._∷_ Row.alive List.[])))));
+          slots = List._∷_ (Row.lease (κs .0) (qs .0)) (List._∷_ Row.off (List._∷_ Row.off (List._∷_ (Row.lease (κs .1 .1 .1 .0) (qs .1 .1 .1 .0)) (List._∷_ Row.alive (List._∷_ Row.alive
+              List.[])))));
         }
 
         abbrev G11 : Row.Cx
         G11 = record {
           locals = g6;
-          slots = List._∷_ (Row.lease (κs .0) (qs .0)) (List._∷_ Row.off (List._∷_ Row.off (List._∷_ (Row.lease (κs .1 .1 .1 .0) (qs .1 .1 .1 .0)) (List._∷_ Row.dead
-              (List._∷_ Row.alive List.[])))));
+          slots = List._∷_ (Row.lease (κs .0) (qs .0)) (List._∷_ Row.off (List._∷_ Row.off (List._∷_ (Row.lease (κs .1 .1 .1 .0) (qs .1 .1 .1 .0)) (List._∷_ Row.dead (List._∷_ Row.alive
+              List.[])))));
         }
 
         abbrev G12 : Row.Cx
         G12 = record {
           locals = g7;
-          slots = List._∷_ (Row.lease (κs .0) (qs .0)) (List._∷_ (Row.lease (κs .1 .0) (qs .1 .0)) (List._∷_ Row.off (List._∷_ (Row.lease (κs .1 .1 .1 .0) (qs .1 .1 .1 .0))
-              (List._∷_ Row.dead (List._∷_ Row.alive List.[])))));
+          slots = List._∷_ (Row.lease (κs .0) (qs .0)) (List._∷_ (Row.lease (κs .1 .0) (qs .1 .0)) (List._∷_ Row.off (List._∷_ (Row.lease (κs .1 .1 .1 .0) (qs .1 .1 .1 .0)) (List._∷_
+              Row.dead (List._∷_ Row.alive List.[])))));
         }
 
         abbrev G13 : Row.Cx
         G13 = record {
           locals = g7;
-          slots = List._∷_ (Row.lease (κs .0) (qs .0)) (List._∷_ (Row.lease (κs .1 .0) (qs .1 .0)) (List._∷_ Row.off (List._∷_ (Row.lease (κs .1 .1 .1 .0) (qs .1 .1 .1 .0))
-              (List._∷_ Row.dead (List._∷_ Row.alive List.[])))));
+          slots = List._∷_ (Row.lease (κs .0) (qs .0)) (List._∷_ (Row.lease (κs .1 .0) (qs .1 .0)) (List._∷_ Row.off (List._∷_ (Row.lease (κs .1 .1 .1 .0) (qs .1 .1 .1 .0)) (List._∷_
+              Row.dead (List._∷_ Row.alive List.[])))));
         }
 
         abbrev G14 : Row.Cx
         G14 = record {
           locals = g7;
-          slots = List._∷_ (Row.lease (κs .0) (qs .0)) (List._∷_ (Row.lease (κs .1 .0) (qs .1 .0)) (List._∷_ Row.off (List._∷_ (Row.lease (κs .1 .1 .1 .0) (qs .1 .1 .1 .0))
-              (List._∷_ Row.off (List._∷_ Row.alive List.[])))));
+          slots = List._∷_ (Row.lease (κs .0) (qs .0)) (List._∷_ (Row.lease (κs .1 .0) (qs .1 .0)) (List._∷_ Row.off (List._∷_ (Row.lease (κs .1 .1 .1 .0) (qs .1 .1 .1 .0)) (List._∷_
+              Row.off (List._∷_ Row.alive List.[])))));
         }
 
         abbrev G15 : Row.Cx
         G15 = record {
           locals = g7;
-          slots = List._∷_ (Row.lease (κs .0) (qs .0)) (List._∷_ (Row.lease (κs .1 .0) (qs .1 .0)) (List._∷_ Row.off (List._∷_ (Row.lease (κs .1 .1 .1 .0) (qs .1 .1 .1 .0))
-              (List._∷_ Row.off (List._∷_ Row.dead List.[])))));
+          slots = List._∷_ (Row.lease (κs .0) (qs .0)) (List._∷_ (Row.lease (κs .1 .0) (qs .1 .0)) (List._∷_ Row.off (List._∷_ (Row.lease (κs .1 .1 .1 .0) (qs .1 .1 .1 .0)) (List._∷_
+              Row.off (List._∷_ Row.dead List.[])))));
         }
 
         abbrev G16 : Row.Cx
         G16 = record {
           locals = t8;
-          slots = List._∷_ (Row.lease (κs .0) (qs .0)) (List._∷_ (Row.lease (κs .1 .0) (qs .1 .0)) (List._∷_ (Row.lease (κs .1 .1 .0) (qs .1 .1 .0)) (List._∷_ (Row.lease (κs
-              .1 .1 .1 .0) (qs .1 .1 .1 .0)) (List._∷_ Row.off (List._∷_ Row.dead List.[])))));
+          slots = List._∷_ (Row.lease (κs .0) (qs .0)) (List._∷_ (Row.lease (κs .1 .0) (qs .1 .0)) (List._∷_ (Row.lease (κs .1 .1 .0) (qs .1 .1 .0)) (List._∷_ (Row.lease (κs .1 .1 .1 .0)
+              (qs .1 .1 .1 .0)) (List._∷_ Row.off (List._∷_ Row.dead List.[])))));
         }
 
         abbrev G17 : Row.Cx
         G17 = record {
           locals = t8;
-          slots = List._∷_ (Row.lease (κs .0) (qs .0)) (List._∷_ (Row.lease (κs .1 .0) (qs .1 .0)) (List._∷_ (Row.lease (κs .1 .1 .0) (qs .1 .1 .0)) (List._∷_ (Row.lease (κs
-              .1 .1 .1 .0) (qs .1 .1 .1 .0)) (List._∷_ Row.off (List._∷_ Row.off List.[])))));
+          slots = List._∷_ (Row.lease (κs .0) (qs .0)) (List._∷_ (Row.lease (κs .1 .0) (qs .1 .0)) (List._∷_ (Row.lease (κs .1 .1 .0) (qs .1 .1 .0)) (List._∷_ (Row.lease (κs .1 .1 .1 .0)
+              (qs .1 .1 .1 .0)) (List._∷_ Row.off (List._∷_ Row.off List.[])))));
         }
 
         abbrev G18 : Row.Cx
         G18 = record {
           locals = t9;
-          slots = List._∷_ (Row.lease (κs .0) (qs .0)) (List._∷_ (Row.lease (κs .1 .0) (qs .1 .0)) (List._∷_ (Row.lease (κs .1 .1 .0) (qs .1 .1 .0)) (List._∷_ (Row.lease (κs
-              .1 .1 .1 .0) (qs .1 .1 .1 .0)) (List._∷_ Row.off (List._∷_ Row.off List.[])))));
+          slots = List._∷_ (Row.lease (κs .0) (qs .0)) (List._∷_ (Row.lease (κs .1 .0) (qs .1 .0)) (List._∷_ (Row.lease (κs .1 .1 .0) (qs .1 .1 .0)) (List._∷_ (Row.lease (κs .1 .1 .1 .0)
+              (qs .1 .1 .1 .0)) (List._∷_ Row.off (List._∷_ Row.off List.[])))));
         }
 
         abbrev G19 : Row.Cx
         G19 = record {
           locals = t10;
-          slots = List._∷_ (Row.lease (κs .0) (qs .0)) (List._∷_ (Row.lease (κs .1 .0) (qs .1 .0)) (List._∷_ (Row.lease (κs .1 .1 .0) (qs .1 .1 .0)) (List._∷_ (Row.lease (κs
-              .1 .1 .1 .0) (qs .1 .1 .1 .0)) (List._∷_ Row.off (List._∷_ Row.off List.[])))));
+          slots = List._∷_ (Row.lease (κs .0) (qs .0)) (List._∷_ (Row.lease (κs .1 .0) (qs .1 .0)) (List._∷_ (Row.lease (κs .1 .1 .0) (qs .1 .1 .0)) (List._∷_ (Row.lease (κs .1 .1 .1 .0)
+              (qs .1 .1 .1 .0)) (List._∷_ Row.off (List._∷_ Row.off List.[])))));
         }
 
         abbrev G20 : Row.Cx
         G20 = record {
           locals = t10;
-          slots = List._∷_ (Row.lease (κs .0) (qs .0)) (List._∷_ (Row.lease (κs .1 .0) (qs .1 .0)) (List._∷_ (Row.lease (κs .1 .1 .0) (qs .1 .1 .0)) (List._∷_ (Row.lease (κs
-              .1 .1 .1 .0) (qs .1 .1 .1 .0)) (List._∷_ Row.off (List._∷_ Row.off List.[])))));
+          slots = List._∷_ (Row.lease (κs .0) (qs .0)) (List._∷_ (Row.lease (κs .1 .0) (qs .1 .0)) (List._∷_ (Row.lease (κs .1 .1 .0) (qs .1 .1 .0)) (List._∷_ (Row.lease (κs .1 .1 .1 .0)
+              (qs .1 .1 .1 .0)) (List._∷_ Row.off (List._∷_ Row.off List.[])))));
         }
 
         abbrev G21 : Row.Cx
         G21 = record {
           locals = t0;
-          slots = List._∷_ (Row.lease (κs .0) (qs .0)) (List._∷_ (Row.lease (κs .1 .0) (qs .1 .0)) (List._∷_ (Row.lease (κs .1 .1 .0) (qs .1 .1 .0)) (List._∷_ (Row.lease (κs
-              .1 .1 .1 .0) (qs .1 .1 .1 .0)) (List._∷_ Row.off (List._∷_ Row.off List.[])))));
+          slots = List._∷_ (Row.lease (κs .0) (qs .0)) (List._∷_ (Row.lease (κs .1 .0) (qs .1 .0)) (List._∷_ (Row.lease (κs .1 .1 .0) (qs .1 .1 .0)) (List._∷_ (Row.lease (κs .1 .1 .1 .0)
+              (qs .1 .1 .1 .0)) (List._∷_ Row.off (List._∷_ Row.off List.[])))));
         }
 
         abbrev G22 : Row.Cx
         G22 = record {
           locals = t11;
-          slots = List._∷_ (Row.lease (κs .0) (qs .0)) (List._∷_ (Row.lease (κs .1 .0) (qs .1 .0)) (List._∷_ (Row.lease (κs .1 .1 .0) (qs .1 .1 .0)) (List._∷_ (Row.lease (κs
-              .1 .1 .1 .0) (qs .1 .1 .1 .0)) (List._∷_ Row.off (List._∷_ Row.off List.[])))));
+          slots = List._∷_ (Row.lease (κs .0) (qs .0)) (List._∷_ (Row.lease (κs .1 .0) (qs .1 .0)) (List._∷_ (Row.lease (κs .1 .1 .0) (qs .1 .1 .0)) (List._∷_ (Row.lease (κs .1 .1 .1 .0)
+              (qs .1 .1 .1 .0)) (List._∷_ Row.off (List._∷_ Row.off List.[])))));
         }
 
         abbrev G23 : Row.Cx
         G23 = record {
           locals = t1;
-          slots = List._∷_ (Row.lease (κs .0) (qs .0)) (List._∷_ (Row.lease (κs .1 .0) (qs .1 .0)) (List._∷_ (Row.lease (κs .1 .1 .0) (qs .1 .1 .0)) (List._∷_ (Row.lease (κs
-              .1 .1 .1 .0) (qs .1 .1 .1 .0)) (List._∷_ Row.off (List._∷_ Row.off List.[])))));
+          slots = List._∷_ (Row.lease (κs .0) (qs .0)) (List._∷_ (Row.lease (κs .1 .0) (qs .1 .0)) (List._∷_ (Row.lease (κs .1 .1 .0) (qs .1 .1 .0)) (List._∷_ (Row.lease (κs .1 .1 .1 .0)
+              (qs .1 .1 .1 .0)) (List._∷_ Row.off (List._∷_ Row.off List.[])))));
         }
 
         abbrev Δ0 : Typed.Outs
@@ -1161,14 +776,12 @@ module _ (claims· : Claims) where
           d6 = Typed.s-seq 𝓤 H A W 𝓣 E G17 G18 b5 b10 Δ0 (Typed.both s16) at5 (Plain.t-call-plain 𝓤 H A W 𝓣 0 ps·1 r·1 (claims· .2) (claims· .3) "block::c::answer_words" (known .1) E (λ pos β. β) G17
               (record { pos = 6; st = List.[]; d = 0; at = λ x. x }, tt) 7 List.[] (Call.sub-id 𝓤 H A W (G17 .slots)) (
                 (
-                  Yields.yields-copy 𝓤 H A W (λ ρ. Unit) (Declared.row Decoded.the-type) Path'.refl
-                      (Copies.cEnum Decoded.the-type Laws.the-laws Laws.the-copy .copy 𝓤 H A W) (Rows'.whole (Declared.row Decoded.the-type)) (λ x. x) (λ x. x) (λ ρ told. Local.mem-whole 𝓤 H A W (Declared.row
-                      Decoded.the-type) ρ) λ ρ told. Local.whole-mem 𝓤 H A W (Declared.row Decoded.the-type) ρ,
+                  Yields.yields-copy 𝓤 H A W (λ ρ. Unit) (Declared.row Decoded.the-type) Path'.refl (Copies.cEnum Decoded.the-type Laws.the-laws Laws.the-copy .copy 𝓤 H A W) (Rows'.whole (Declared.row
+                      Decoded.the-type)) (λ x. x) (λ x. x) (λ ρ told. Local.mem-whole 𝓤 H A W (Declared.row Decoded.the-type) ρ) λ ρ told. Local.whole-mem 𝓤 H A W (Declared.row Decoded.the-type) ρ,
                   Path'.refl,
                 ),
                 tt,
-              ) (Reads.room-gone 𝓤 H A (Syntax.tyArray (Syntax.tyInt Syntax.w64) 4)) tt
-              Path'.refl) d5
+              ) (Reads.room-gone 𝓤 H A (Syntax.tyArray (Syntax.tyInt Syntax.w64) 4)) tt Path'.refl) d5
 
           d7 : Typed.Typed 𝓤 H A 𝓣 E G16 b11 Δ0 at7
           d7 = Typed.g-pre 𝓤 H A W 𝓣 E G16 G17 b11 Δ0 (λ Ψ. Ψ) at6 (Lifetime.g-forget 𝓤 H A W E G16 5 Row.dead Path'.refl) d6
@@ -1205,57 +818,46 @@ module _ (claims· : Claims) where
             (
               Num.vAt 2 λ x. x,
               (
-                record {
-                  pos = 9;
-                  ty = Syntax.tyRef Syntax.erased
-                      Syntax.mut (Syntax.tyInt Syntax.w16);
-                  ref = λ x. x;
-                },
+                record { pos = 9; ty = Syntax.tyRef Syntax.erased Syntax.mut (Syntax.tyInt Syntax.w16); ref = λ x. x },
                 (record { pos = 11; ty = Syntax.tyRef Syntax.erased Syntax.mut Element.behind; ref = λ x. x }, tt),
               ),
             ),
-          ) 6 (List._∷_ 0 (List._∷_
-              4 (List._∷_ 5 List.[]))) (Call.sub-id 𝓤 H A W (G9 .slots)) (
-                ShrSlice.spares-sslice 𝓤 H A W (Referent.rtF (Referent.fInt Syntax.w8)) (Syntax.tyRef (Syntax.named 0) Syntax.imm (Syntax.tyInt
-                    Syntax.w8)) 0,
-                Shared.reads-sslice 𝓤 H A W (Referent.rtF (Referent.fInt Syntax.w8)) (Syntax.tyRef (Syntax.named 0) Syntax.imm (Syntax.tyInt Syntax.w8)) 0,
+          ) 6 (List._∷_ 0 (List._∷_ 4 (List._∷_ 5 List.[]))) (Call.sub-id 𝓤 H A W (G9 .slots)) (
+            ShrSlice.spares-sslice 𝓤 H A W (Referent.rtF (Referent.fInt Syntax.w8)) (Syntax.tyRef (Syntax.named 0) Syntax.imm (Syntax.tyInt Syntax.w8)) 0,
+            Shared.reads-sslice 𝓤 H A W (Referent.rtF
+                (Referent.fInt Syntax.w8)) (Syntax.tyRef (Syntax.named 0) Syntax.imm (Syntax.tyInt Syntax.w8)) 0,
+            Path'.refl,
+            (
+              (Scalar.reads-sc 𝓤 H A W (Row.sInt Syntax.w64), Path'.refl),
+              (
+                Reads.as-is 𝓤 H A (Mut.mslice (Referent.rtF (Referent.fInt Syntax.w16)) (Syntax.tyRef Syntax.erased Syntax.mut (Syntax.tyInt Syntax.w16)) 4),
+                Mut.reads-mslice 𝓤 H A W (Referent.rtF
+                    (Referent.fInt Syntax.w16)) (Syntax.tyRef Syntax.erased Syntax.mut (Syntax.tyInt Syntax.w16)) 4,
                 Path'.refl,
                 (
-                  (
-                    Scalar.reads-sc 𝓤 H
-                        A W (Row.sInt Syntax.w64),
-                    Path'.refl,
-                  ),
-                  (
-                    Reads.as-is 𝓤 H A (Mut.mslice (Referent.rtF (Referent.fInt Syntax.w16)) (Syntax.tyRef Syntax.erased Syntax.mut (Syntax.tyInt Syntax.w16)) 4),
-                    Mut.reads-mslice 𝓤 H A W (Referent.rtF (Referent.fInt Syntax.w16)) (Syntax.tyRef Syntax.erased Syntax.mut (Syntax.tyInt Syntax.w16)) 4,
-                    Path'.refl,
-                    (
-                      Reads.as-is 𝓤 H A (Mut.mslice
-                          (Element.type) (Syntax.tyRef Syntax.erased Syntax.mut Element.behind) 5),
-                      Mut.reads-mslice 𝓤 H A W (Element.type) (Syntax.tyRef Syntax.erased Syntax.mut Element.behind) 5,
-                      Path'.refl,
-                      tt,
-                    ),
-                  ),
+                  Reads.as-is 𝓤 H A (Mut.mslice (Element.type) (Syntax.tyRef Syntax.erased Syntax.mut Element.behind) 5),
+                  Mut.reads-mslice 𝓤 H A W (Element.type) (Syntax.tyRef Syntax.erased Syntax.mut
+                      Element.behind) 5,
+                  Path'.refl,
+                  tt,
                 ),
-              ) (Reads.room-gone 𝓤 H A (Syntax.tyEnum (List._∷_ 98 (List._∷_ 108 (List._∷_ 111 (List._∷_ 99 (List._∷_ 107 (List._∷_ 58 (List._∷_ 58 (List._∷_ 68 (List._∷_ 101 (List._∷_ 99 (List._∷_
-              111 (List._∷_ 100 (List._∷_ 101 (List._∷_ 100 List.[])))))))))))))) (Syntax.ttcons Syntax.tnil (Syntax.ttcons (Syntax.tcons (Syntax.tyEnum (List._∷_ 115 (List._∷_ 116 (List._∷_ 114 (List._∷_
-              101 (List._∷_ 97 (List._∷_ 109 (List._∷_ 58 (List._∷_ 58 (List._∷_ 82 (List._∷_ 101 (List._∷_ 102 (List._∷_ 117 (List._∷_ 115 (List._∷_ 97 (List._∷_ 108 List.[]))))))))))))))) (Syntax.ttcons
-              Syntax.tnil (Syntax.ttcons Syntax.tnil (Syntax.ttcons Syntax.tnil (Syntax.ttcons (Syntax.tcons (Syntax.tyInt Syntax.w64) Syntax.tnil) (Syntax.ttcons Syntax.tnil (Syntax.ttcons Syntax.tnil
-              (Syntax.ttcons Syntax.tnil (Syntax.ttcons Syntax.tnil (Syntax.ttcons Syntax.tnil (Syntax.ttcons Syntax.tnil (Syntax.ttcons (Syntax.tcons (Syntax.tyInt Syntax.w64) Syntax.tnil) (Syntax.ttcons
-              (Syntax.tcons (Syntax.tyInt Syntax.w64) Syntax.tnil) (Syntax.ttcons Syntax.tnil (Syntax.ttcons (Syntax.tcons (Syntax.tyInt Syntax.w64) (Syntax.tcons (Syntax.tyInt Syntax.w64) Syntax.tnil))
-              (Syntax.ttcons (Syntax.tcons (Syntax.tyInt Syntax.w64) Syntax.tnil) Syntax.ttnil)))))))))))))))) Syntax.tnil) Syntax.ttnil)))) (tt, (tt, (tt, tt))) Path'.refl) d13
+              ),
+            ),
+          ) (Reads.room-gone 𝓤 H A (Syntax.tyEnum (List._∷_ 98 (List._∷_ 108 (List._∷_ 111 (List._∷_ 99 (List._∷_ 107 (List._∷_ 58 (List._∷_ 58 (List._∷_ 68
+              (List._∷_ 101 (List._∷_ 99 (List._∷_ 111 (List._∷_ 100 (List._∷_ 101 (List._∷_ 100 List.[])))))))))))))) (Syntax.ttcons Syntax.tnil (Syntax.ttcons (Syntax.tcons (Syntax.tyEnum (List._∷_ 115
+              (List._∷_ 116 (List._∷_ 114 (List._∷_ 101 (List._∷_ 97 (List._∷_ 109 (List._∷_ 58 (List._∷_ 58 (List._∷_ 82 (List._∷_ 101 (List._∷_ 102 (List._∷_ 117 (List._∷_ 115 (List._∷_ 97 (List._∷_ 108
+              List.[]))))))))))))))) (Syntax.ttcons Syntax.tnil (Syntax.ttcons Syntax.tnil (Syntax.ttcons Syntax.tnil (Syntax.ttcons (Syntax.tcons (Syntax.tyInt Syntax.w64) Syntax.tnil) (Syntax.ttcons
+              Syntax.tnil (Syntax.ttcons Syntax.tnil (Syntax.ttcons Syntax.tnil (Syntax.ttcons Syntax.tnil (Syntax.ttcons Syntax.tnil (Syntax.ttcons Syntax.tnil (Syntax.ttcons (Syntax.tcons (Syntax.tyInt
+              Syntax.w64) Syntax.tnil) (Syntax.ttcons (Syntax.tcons (Syntax.tyInt Syntax.w64) Syntax.tnil) (Syntax.ttcons Syntax.tnil (Syntax.ttcons (Syntax.tcons (Syntax.tyInt Syntax.w64) (Syntax.tcons
+              (Syntax.tyInt Syntax.w64) Syntax.tnil)) (Syntax.ttcons (Syntax.tcons (Syntax.tyInt Syntax.w64) Syntax.tnil) Syntax.ttnil)))))))))))))))) Syntax.tnil) Syntax.ttnil)))) (tt, (tt, (tt, tt)))
+              Path'.refl) d13
 
           d15 : Typed.Typed 𝓤 H A 𝓣 E G8 b13 Δ0 at15
           d15 = Typed.s-seq 𝓤 H A W 𝓣 E G8 G9 b3 b12 Δ0 (Typed.ask s7) at14 (Relend.t-sl-aggregate 𝓤 H A W E (Element.type) 𝓣 (Relend.asMut (Element.type)) G8 10 11 5 (Syntax.tyRef Syntax.erased
               Syntax.mut Element.behind) (Syntax.tyRef Syntax.erased Syntax.mut Element.behind) (λ x. x) (Scalar.oFld 4 (List._∷_ (Syntax.field 1) List.[]) (Syntax.tyInt Syntax.w64) 8 λ v. Shared.lenV (v
-              .0)) (Reads.as-is 𝓤 H A (Relend.msptr (Element.type) (Syntax.tyRef Syntax.erased Syntax.mut Element.behind) 5)) (Reads.room-gone 𝓤 H A (Syntax.tyStruct (List._∷_ 38 (List._∷_ 91 (List._∷_ 93
-              List.[]))) (Syntax.tcons (Syntax.tyRef Syntax.erased Syntax.mut Element.behind) (Syntax.tcons (Syntax.tyInt Syntax.w64) Syntax.tnil)))) (
-                Relend.reads-owed-len 𝓤 H A W (Element.type)
-                    (Syntax.tyRef (Syntax.named 2) Syntax.mut Element.behind) 2 5 (Row.lease (κs .1 .1 .0) (qs .1 .1 .0)) 8 Path'.refl,
-                Path'.refl,
-              ) Path'.refl Path'.refl λ b o k. tt) d14
+              .0)) (Reads.as-is 𝓤 H A (Relend.msptr (Element.type) (Syntax.tyRef Syntax.erased Syntax.mut Element.behind) 5)) (Reads.room-gone 𝓤 H A y1)
+              (Relend.reads-owed-len 𝓤 H A W (Element.type) (Syntax.tyRef (Syntax.named 2) Syntax.mut Element.behind) 2 5 (Row.lease (κs .1 .1 .0) (qs .1 .1 .0)) 8 Path'.refl, Path'.refl) Path'.refl
+              Path'.refl λ b o k. tt) d14
 
           d16 : Typed.Typed 𝓤 H A 𝓣 E G7 b14 Δ0 at16
           d16 = Typed.s-seq 𝓤 H A W 𝓣 E G7 G8 b2 b13 Δ0 (Typed.give s6) at15 (Relend.t-sl-relend 𝓤 H A W E (Element.type) 𝓣 G7 4 10 2 5 (Syntax.tyRef (Syntax.named 2) Syntax.mut Element.behind)
@@ -1269,10 +871,9 @@ module _ (claims· : Claims) where
           d18 = Typed.s-seq 𝓤 H A W 𝓣 E G5 G6 b1 b14 Δ0 (Typed.ask s4) at17 (Relend.t-sl-aggregate 𝓤 H A W E (Referent.rtF (Referent.fInt Syntax.w16)) 𝓣 (Relend.asMut (Referent.rtF (Referent.fInt
               Syntax.w16))) G5 8 9 4 (Syntax.tyRef Syntax.erased Syntax.mut (Syntax.tyInt Syntax.w16)) (Syntax.tyRef Syntax.erased Syntax.mut (Syntax.tyInt Syntax.w16)) (λ x. x) (Scalar.oFld 3 (List._∷_
               (Syntax.field 1) List.[]) (Syntax.tyInt Syntax.w64) 8 λ v. Shared.lenV (v .0)) (Reads.as-is 𝓤 H A (Relend.msptr (Referent.rtF (Referent.fInt Syntax.w16)) (Syntax.tyRef Syntax.erased
-              Syntax.mut (Syntax.tyInt Syntax.w16)) 4)) (Reads.room-gone 𝓤 H A (Syntax.tyStruct (List._∷_ 38 (List._∷_ 91 (List._∷_ 93 List.[]))) (Syntax.tcons (Syntax.tyRef Syntax.erased Syntax.mut
-              (Syntax.tyInt Syntax.w16)) (Syntax.tcons (Syntax.tyInt Syntax.w64) Syntax.tnil)))) (
-                Relend.reads-owed-len 𝓤 H A W (Referent.rtF (Referent.fInt Syntax.w16)) (Syntax.tyRef (Syntax.named 1)
-                    Syntax.mut (Syntax.tyInt Syntax.w16)) 1 4 (Row.lease (κs .1 .0) (qs .1 .0)) 8 Path'.refl,
+              Syntax.mut (Syntax.tyInt Syntax.w16)) 4)) (Reads.room-gone 𝓤 H A y0) (
+                Relend.reads-owed-len 𝓤 H A W (Referent.rtF (Referent.fInt Syntax.w16)) (Syntax.tyRef (Syntax.named 1) Syntax.mut (Syntax.tyInt Syntax.w16)) 1 4 (Row.lease (κs .1 .0) (qs .1 .0)) 8
+                    Path'.refl,
                 Path'.refl,
               ) Path'.refl Path'.refl λ b o k. tt) d17
 
@@ -1320,8 +921,8 @@ module _ (claims· : Claims) where
       W0 = λ κs args. (
         λ u. ⊥,
         tt,
-        λ u. Enter.Fixs κs 1 ps xs (dens κs args) (u .1) × Post· κs (dens κs args) (Function.resV r κs (u .0)) (Clauses.atExit (Kinds.endedOf 4 ps r) κs (dens κs args)
-            (Enter.lastsP κs 1 ps xs (dens κs args) (u .1))),
+        λ u. Enter.Fixs κs 1 ps xs (dens κs args) (u .1) × Post· κs (dens κs args) (Function.resV r κs (u .0)) (Clauses.atExit (Kinds.endedOf 4 ps r) κs (dens κs args) (Enter.lastsP κs 1 ps
+            xs (dens κs args) (u .1))),
       )
 
       pub record Start : Type 0 where
@@ -1395,15 +996,7 @@ module _ (claims· : Claims) where
             Num.vAt 2 λ x. x,
             (
               record { pos = 9; ty = Syntax.tyRef Syntax.erased Syntax.mut (Syntax.tyInt Syntax.w16); ref = λ x. x },
-              (
-                record {
-                  pos = 11;
-                  ty = Syntax.tyRef Syntax.erased Syntax.mut Element.behind;
-                  ref = λ
-                      x. x;
-                },
-                tt,
-              ),
+              (record { pos = 11; ty = Syntax.tyRef Syntax.erased Syntax.mut Element.behind; ref = λ x. x }, tt),
             ),
           ),
         ) (m6 (before· .before) (before· .read-tight-arg2 .given))
@@ -1416,19 +1009,10 @@ module _ (claims· : Claims) where
       After-read-tight·gave = λ c. Called.given ps·0 r·0 (claims· .1) T9 (
         record { pos = 1; ty = Syntax.tyRef (Syntax.named 0) Syntax.imm (Syntax.tyInt Syntax.w8); ref = λ x. x },
         (
-          Num.vAt 2 λ x.
-              x,
+          Num.vAt 2 λ x. x,
           (
             record { pos = 9; ty = Syntax.tyRef Syntax.erased Syntax.mut (Syntax.tyInt Syntax.w16); ref = λ x. x },
-            (
-              record {
-                pos = 11;
-                ty = Syntax.tyRef Syntax.erased Syntax.mut Element.behind;
-                ref
-                    = λ x. x;
-              },
-              tt,
-            ),
+            (record { pos = 11; ty = Syntax.tyRef Syntax.erased Syntax.mut Element.behind; ref = λ x. x }, tt),
           ),
         ),
       ) (m6 (c .before .before) (c .before .read-tight-arg2 .given)) (c .read-tight)
@@ -1525,9 +1109,9 @@ module _ (claims· : Claims) where
             (
               tt,
               (
-                MutSlice.fix-len (Row.get 3 (T23 .locals) (m16 (c .before) (After-answer-words·gave c)) .ptr) (Row.get 3 (T23 .locals) (m16 (c .before)
-                    (After-answer-words·gave c)) .name) (Row.get 3 (T23 .locals) (m16 (c .before) (After-answer-words·gave c)) .now) (dens (c .before .before .before .before .before .before .before .before
-                    .before .κs) (c .before .before .before .before .before .before .before .before .before .args) .1 .1 .0 .now) (same-length record { before = c .before; answer-words = c .answer-words }),
+                MutSlice.fix-len (Row.get 3 (T23 .locals) (m16 (c .before) (After-answer-words·gave c)) .ptr) (Row.get 3 (T23 .locals) (m16 (c .before) (After-answer-words·gave c)) .name) (Row.get 3 (T23
+                    .locals) (m16 (c .before) (After-answer-words·gave c)) .now) (dens (c .before .before .before .before .before .before .before .before .before .κs) (c .before .before .before .before .before
+                    .before .before .before .before .args) .1 .1 .0 .now) (same-length record { before = c .before; answer-words = c .answer-words }),
                 (
                   MutSlice.fix-len (Row.get 4 (T23 .locals) (m16 (c .before) (After-answer-words·gave c)) .ptr) (Row.get 4 (T23 .locals) (m16 (c .before) (After-answer-words·gave c)) .name) (Row.get 4 (T23
                       .locals) (m16 (c .before) (After-answer-words·gave c)) .now) (dens (c .before .before .before .before .before .before .before .before .before .κs) (c .before .before .before .before .before
@@ -1537,11 +1121,8 @@ module _ (claims· : Claims) where
               ),
             ),
           ),
-          returns record {
-            before =
-                c .before;
-            answer-words = c .answer-words;
-          },
+          returns record
+              { before = c .before; answer-words = c .answer-words },
         )
 
         lay1 : (c : After-read-tight) → at13 (W0 (c .before .before .before .before .before .κs) (c .before .before .before .before .before .args)) (m7 (c .before) (After-read-tight·gave c))
@@ -1551,42 +1132,18 @@ module _ (claims· : Claims) where
             Path'.refl,
             λ g''. (
               answer-words-requires record {
-                before = record {
-                  before = record {
-                    before = record {
-                      before = c .before;
-                      read-tight = c .read-tight;
-                    };
-                    lines = record { given = g };
-                  };
-                  slice-known2 = record { given = g' };
-                };
-                rs = record { given = g'' };
+                before = record { before = record { before = record { before = c .before; read-tight = c .read-tight }; lines = record { given = g } }; slice-known2 = record { given = g' } };
+                rs = record
+                    { given = g'' };
               },
               λ g'3. lay2 record {
                 before = record {
-                  before = record {
-                    before = record {
-                      before =
-                          record { before = c .before; read-tight = c .read-tight };
-                      lines = record { given = g };
-                    };
-                    slice-known2 = record { given = g' };
-                  };
-                  rs = record { given = g'' };
+                  before = record { before = record { before = record { before = c .before; read-tight = c .read-tight }; lines = record { given = g } }; slice-known2 = record { given = g' } };
+                  rs = record
+                      { given = g'' };
                 };
-                answer-words =
-                    Called.called ps·1 r·1 (claims· .3) T16 (record { pos = 6; st = List.[]; d = 0; at = λ x. x }, tt) (m10 record {
-                      before = record {
-                        before = record {
-                          before = c .before;
-                          read-tight = c
-                              .read-tight;
-                        };
-                        lines = record { given = g };
-                      };
-                      slice-known2 = record { given = g' };
-                    } g'') g'3;
+                answer-words = Called.called ps·1 r·1 (claims· .3) T16 (record { pos = 6; st = List.[]; d = 0; at = λ x. x }, tt) (m10 record
+                    { before = record { before = record { before = c .before; read-tight = c .read-tight }; lines = record { given = g } }; slice-known2 = record { given = g' } } g'') g'3;
               },
             ),
           ),
@@ -1599,57 +1156,27 @@ module _ (claims· : Claims) where
             Path'.refl,
             (
               read-tight-requires record {
-                before = record {
-                  before = record {
-                    before = record {
-                      before = c;
-                      shared-slice-known = record {
-                        given = g;
-                      };
-                    };
-                    slice-known = record { given = g' };
-                  };
-                  read-tight-arg = record { given = g'' };
-                };
+                before = record
+                    { before = record { before = record { before = c; shared-slice-known = record { given = g } }; slice-known = record { given = g' } }; read-tight-arg = record { given = g'' } };
                 read-tight-arg2 = record { given = g'3 };
               },
               λ g'4. lay1 record {
                 before = record {
-                  before =
-                      record { before = record { before = record { before = c; shared-slice-known = record { given = g } }; slice-known = record { given = g' } }; read-tight-arg = record { given = g'' } };
+                  before = record
+                      { before = record { before = record { before = c; shared-slice-known = record { given = g } }; slice-known = record { given = g' } }; read-tight-arg = record { given = g'' } };
                   read-tight-arg2 = record { given = g'3 };
                 };
                 read-tight = Called.called ps·0 r·0 (claims· .1) T9 (
-                  record {
-                    pos = 1;
-                    ty = Syntax.tyRef (Syntax.named 0) Syntax.imm (Syntax.tyInt Syntax.w8);
-                    ref
-                        = λ x. x;
-                  },
+                  record { pos = 1; ty = Syntax.tyRef (Syntax.named 0) Syntax.imm (Syntax.tyInt Syntax.w8); ref = λ x. x },
                   (
                     Num.vAt 2 λ x. x,
                     (
                       record { pos = 9; ty = Syntax.tyRef Syntax.erased Syntax.mut (Syntax.tyInt Syntax.w16); ref = λ x. x },
-                      (
-                        record {
-                          pos = 11;
-                          ty = Syntax.tyRef Syntax.erased
-                              Syntax.mut Element.behind;
-                          ref = λ x. x;
-                        },
-                        tt,
-                      ),
+                      (record { pos = 11; ty = Syntax.tyRef Syntax.erased Syntax.mut Element.behind; ref = λ x. x }, tt),
                     ),
                   ),
-                ) (m6 record {
-                  before = record {
-                    before = record { before = c; shared-slice-known = record { given = g } };
-                    slice-known = record {
-                      given = g';
-                    };
-                  };
-                  read-tight-arg = record { given = g'' };
-                } g'3) g'4;
+                ) (m6 record
+                    { before = record { before = record { before = c; shared-slice-known = record { given = g } }; slice-known = record { given = g' } }; read-tight-arg = record { given = g'' } } g'3) g'4;
               },
             ),
           ),
@@ -1662,10 +1189,7 @@ module _ (claims· : Claims) where
             κs = κs;
             args = record { d = a .0; b = a .1 .0; lines = a .1 .1 .0; rs = a .1 .1 .1 .0; refusal = a .1 .1 .1 .1 .0 };
             good = good;
-            fits = record {
-              b =
-                  record { fits = good .1 .0 .1 };
-            };
+            fits = record { b = record { fits = good .1 .0 .1 } };
             pre = pre;
           }
 

@@ -60,27 +60,37 @@ use mir.Syntax
 use prog.Wp
 use types.Kit
 
+abbrev pub y0 : Syntax.Ty
+y0 = Syntax.tyStruct (List._∷_ 114 (List._∷_ 101 (List._∷_ 103 (List._∷_ 105 (List._∷_ 111 (List._∷_ 110 (List._∷_ 58 (List._∷_ 58 (List._∷_ 82 (List._∷_ 101 (List._∷_ 99 (List._∷_ 116
+    List.[])))))))))))) (Syntax.tcons (Syntax.tyInt Syntax.w64) (Syntax.tcons (Syntax.tyInt Syntax.w64) (Syntax.tcons (Syntax.tyInt Syntax.w64) (Syntax.tcons (Syntax.tyInt Syntax.w64) Syntax.tnil))))
+
+abbrev pub y1 : Syntax.Ty
+y1 = Syntax.tyStruct (List._∷_ 38 (List._∷_ 91 (List._∷_ 93 List.[]))) (Syntax.tcons (Syntax.tyRef Syntax.erased Syntax.mut (Syntax.tyInt Syntax.w16)) (Syntax.tcons (Syntax.tyInt Syntax.w64)
+    Syntax.tnil))
+
+abbrev pub y2 : Syntax.Ty
+y2 = Syntax.tyStruct (List._∷_ 38 (List._∷_ 91 (List._∷_ 93 List.[]))) (Syntax.tcons (Syntax.tyRef Syntax.erased Syntax.mut Element.behind) (Syntax.tcons (Syntax.tyInt Syntax.w64) Syntax.tnil))
+
 abbrev pub ps : List.List (Kinds.PK 2)
 ps = List._∷_ (ShrSlice.pShrS (Referent.rtF (Referent.fInt Syntax.w8)) 0 tt) (List._∷_ (Value.pVal record {
   ty = Declared'.row Rect.the-type;
   one = Path'.refl;
-  val = Laws'3.val Rect.the-type
-      Laws'.the-laws;
+  val = Laws'3.val Rect.the-type Laws'.the-laws;
   tells = Laws'3.tells Rect.the-type Laws'.the-laws;
-  still = Laws'3.still Rect.the-type Laws'.the-copy Exit.yes;
+  still = Laws'3.still Rect.the-type
+      Laws'.the-copy Exit.yes;
   row = Rows'.whole (Declared'.row Rect.the-type);
   rd = λ x. x;
-  mk = λ x.
-      x;
+  mk = λ x. x;
 } λ M 𝓤 H A W. record {
   copies = Laws'3.copy Rect.the-type Laws'.the-copy 𝓤 H A W;
   lawful = Laws'3.lawful Rect.the-type Laws'.the-laws 𝓤 H A W;
-  makes = Laws'3.makes Rect.the-type Laws'.the-plain 𝓤
-      H A;
-  in-mem = Local.mem-whole 𝓤 H A W (Declared'.row Rect.the-type);
+  makes = Laws'3.makes Rect.the-type Laws'.the-plain 𝓤 H A;
+  in-mem =
+      Local.mem-whole 𝓤 H A W (Declared'.row Rect.the-type);
   of-mem = Local.whole-mem 𝓤 H A W (Declared'.row Rect.the-type);
-}) (List._∷_ (Array.pArr (Array.eInt Syntax.w8) (Array.eInt-laws
-    Syntax.w8) 36) (List._∷_ (MutSlice.pMutS (Referent.rtF (Referent.fInt Syntax.w16)) 1 tt) List.[])))
+}) (List._∷_ (Array.pArr (Array.eInt Syntax.w8) (Array.eInt-laws Syntax.w8) 36)
+    (List._∷_ (MutSlice.pMutS (Referent.rtF (Referent.fInt Syntax.w16)) 1 tt) List.[])))
 
 abbrev pub r : Kinds.RK 2
 r = Value.rVal record {
@@ -88,27 +98,24 @@ r = Value.rVal record {
   one = Path'.refl;
   val = Laws''.val Decoded.the-type Laws.the-laws;
   tells = Laws''.tells Decoded.the-type Laws.the-laws;
-  still = Laws''.still
-      Decoded.the-type Laws.the-copy Exit.yes;
+  still = Laws''.still Decoded.the-type
+      Laws.the-copy Exit.yes;
   row = Rows'.whole (Declared.row Decoded.the-type);
   rd = λ x. x;
   mk = λ x. x;
 } λ M 𝓤 H A W. record {
-  copies = Laws''.copy Decoded.the-type Laws.the-copy 𝓤 H A
-      W;
+  copies = Laws''.copy Decoded.the-type Laws.the-copy 𝓤 H A W;
   lawful = Laws''.lawful Decoded.the-type Laws.the-laws 𝓤 H A W tt;
   makes = Laws''.makes Decoded.the-type Laws.the-plain 𝓤 H A;
-  in-mem = Local.mem-whole 𝓤 H A W (Declared.row Decoded.the-type);
+  in-mem =
+      Local.mem-whole 𝓤 H A W (Declared.row Decoded.the-type);
   of-mem = Local.whole-mem 𝓤 H A W (Declared.row Decoded.the-type);
 }
 
 abbrev pub xs : List.List Syntax.Ty
 xs = List._∷_ (Syntax.tyArray (Syntax.tyInt Syntax.w16) 9252) (List._∷_ (Syntax.tyArray (Element.held) 336) (List._∷_ (Element.held) (List._∷_ (Syntax.tyRef Syntax.erased Syntax.mut (Syntax.tyInt
-    Syntax.w16)) (List._∷_ (Syntax.tyStruct (List._∷_ 38 (List._∷_ 91 (List._∷_ 93 List.[]))) (Syntax.tcons (Syntax.tyRef Syntax.erased Syntax.mut (Syntax.tyInt Syntax.w16)) (Syntax.tcons (Syntax.tyInt
-    Syntax.w64) Syntax.tnil))) (List._∷_ (Syntax.tyRef Syntax.erased Syntax.mut (Syntax.tyArray (Syntax.tyInt Syntax.w16) 9252)) (List._∷_ (Syntax.tyStruct (List._∷_ 38 (List._∷_ 91 (List._∷_ 93
-    List.[]))) (Syntax.tcons (Syntax.tyRef Syntax.erased Syntax.mut (Syntax.tyInt Syntax.w16)) (Syntax.tcons (Syntax.tyInt Syntax.w64) Syntax.tnil))) (List._∷_ (Syntax.tyRef Syntax.erased Syntax.mut
-    (Syntax.tyArray Element.behind 336)) (List._∷_ (Syntax.tyStruct (List._∷_ 38 (List._∷_ 91 (List._∷_ 93 List.[]))) (Syntax.tcons (Syntax.tyRef Syntax.erased Syntax.mut Element.behind) (Syntax.tcons
-    (Syntax.tyInt Syntax.w64) Syntax.tnil))) List.[]))))))))
+    Syntax.w16)) (List._∷_ y1 (List._∷_ (Syntax.tyRef Syntax.erased Syntax.mut (Syntax.tyArray (Syntax.tyInt Syntax.w16) 9252)) (List._∷_ y1 (List._∷_ (Syntax.tyRef Syntax.erased Syntax.mut
+    (Syntax.tyArray Element.behind 336)) (List._∷_ y2 List.[]))))))))
 
 abbrev pub m : Nat.ℕ
 m = 3
@@ -123,24 +130,23 @@ abbrev pub ps·1 : List.List (Kinds.PK 4)
 ps·1 = List._∷_ (ShrSlice.pShrS (Referent.rtF (Referent.fInt Syntax.w8)) 0 tt) (List._∷_ (Value.pVal record {
   ty = Declared'.row Rect.the-type;
   one = Path'.refl;
-  val = Laws'3.val Rect.the-type
-      Laws'.the-laws;
+  val = Laws'3.val Rect.the-type Laws'.the-laws;
   tells = Laws'3.tells Rect.the-type Laws'.the-laws;
-  still = Laws'3.still Rect.the-type Laws'.the-copy Exit.yes;
+  still = Laws'3.still Rect.the-type
+      Laws'.the-copy Exit.yes;
   row = Rows'.whole (Declared'.row Rect.the-type);
   rd = λ x. x;
-  mk = λ x.
-      x;
+  mk = λ x. x;
 } λ M 𝓤 H A W. record {
   copies = Laws'3.copy Rect.the-type Laws'.the-copy 𝓤 H A W;
   lawful = Laws'3.lawful Rect.the-type Laws'.the-laws 𝓤 H A W;
-  makes = Laws'3.makes Rect.the-type Laws'.the-plain 𝓤
-      H A;
-  in-mem = Local.mem-whole 𝓤 H A W (Declared'.row Rect.the-type);
+  makes = Laws'3.makes Rect.the-type Laws'.the-plain 𝓤 H A;
+  in-mem =
+      Local.mem-whole 𝓤 H A W (Declared'.row Rect.the-type);
   of-mem = Local.whole-mem 𝓤 H A W (Declared'.row Rect.the-type);
-}) (List._∷_ (Array.pArr (Array.eInt Syntax.w8) (Array.eInt-laws
-    Syntax.w8) 36) (List._∷_ (MutSlice.pMutS (Referent.rtF (Referent.fInt Syntax.w16)) 1 tt) (List._∷_ (MutSlice.pMutS (Referent.rtF (Referent.fInt Syntax.w16)) 2 tt) (List._∷_ (MutSlice.pMutS
-    (Element.type) 3 tt) List.[])))))
+}) (List._∷_ (Array.pArr (Array.eInt Syntax.w8) (Array.eInt-laws Syntax.w8) 36)
+    (List._∷_ (MutSlice.pMutS (Referent.rtF (Referent.fInt Syntax.w16)) 1 tt) (List._∷_ (MutSlice.pMutS (Referent.rtF (Referent.fInt Syntax.w16)) 2 tt) (List._∷_ (MutSlice.pMutS (Element.type) 3 tt)
+    List.[])))))
 
 abbrev pub r·1 : Kinds.RK 4
 r·1 = Value.rVal record {
@@ -148,18 +154,17 @@ r·1 = Value.rVal record {
   one = Path'.refl;
   val = Laws''.val Decoded.the-type Laws.the-laws;
   tells = Laws''.tells Decoded.the-type Laws.the-laws;
-  still =
-      Laws''.still Decoded.the-type Laws.the-copy Exit.yes;
+  still = Laws''.still Decoded.the-type
+      Laws.the-copy Exit.yes;
   row = Rows'.whole (Declared.row Decoded.the-type);
   rd = λ x. x;
   mk = λ x. x;
 } λ M 𝓤 H A W. record {
-  copies = Laws''.copy Decoded.the-type
-      Laws.the-copy 𝓤 H A W;
+  copies = Laws''.copy Decoded.the-type Laws.the-copy 𝓤 H A W;
   lawful = Laws''.lawful Decoded.the-type Laws.the-laws 𝓤 H A W tt;
   makes = Laws''.makes Decoded.the-type Laws.the-plain 𝓤 H A;
-  in-mem = Local.mem-whole 𝓤 H A W (Declared.row
-      Decoded.the-type);
+  in-mem =
+      Local.mem-whole 𝓤 H A W (Declared.row Decoded.the-type);
   of-mem = Local.whole-mem 𝓤 H A W (Declared.row Decoded.the-type);
 }
 
@@ -238,763 +243,194 @@ body = b20
 abbrev pub Claims : Type 1
 Claims = Kinds.In 0 ps·0 × Kinds.Out 0 ps·0 r·0 × Kinds.In 4 ps·1 × Kinds.Out 4 ps·1 r·1
 
-abbrev pub t0 : List.List Row.Entry
-t0 = List._∷_ (
+abbrev pub e0 : Row.Entry
+e0 = (
   0,
-  Rows'.any-gone (Syntax.tyEnum (List._∷_ 98 (List._∷_ 108 (List._∷_ 111 (List._∷_ 99 (List._∷_ 107 (List._∷_ 58 (List._∷_ 58 (List._∷_ 68 (List._∷_ 101 (List._∷_ 99 (List._∷_ 111
-      (List._∷_ 100 (List._∷_ 101 (List._∷_ 100 List.[])))))))))))))) (Syntax.ttcons Syntax.tnil (Syntax.ttcons (Syntax.tcons (Syntax.tyEnum (List._∷_ 115 (List._∷_ 116 (List._∷_ 114 (List._∷_ 101 (List._∷_
-      97 (List._∷_ 109 (List._∷_ 58 (List._∷_ 58 (List._∷_ 82 (List._∷_ 101 (List._∷_ 102 (List._∷_ 117 (List._∷_ 115 (List._∷_ 97 (List._∷_ 108 List.[]))))))))))))))) (Syntax.ttcons Syntax.tnil
-      (Syntax.ttcons Syntax.tnil (Syntax.ttcons Syntax.tnil (Syntax.ttcons (Syntax.tcons (Syntax.tyInt Syntax.w64) Syntax.tnil) (Syntax.ttcons Syntax.tnil (Syntax.ttcons Syntax.tnil (Syntax.ttcons
-      Syntax.tnil (Syntax.ttcons Syntax.tnil (Syntax.ttcons Syntax.tnil (Syntax.ttcons Syntax.tnil (Syntax.ttcons (Syntax.tcons (Syntax.tyInt Syntax.w64) Syntax.tnil) (Syntax.ttcons (Syntax.tcons
-      (Syntax.tyInt Syntax.w64) Syntax.tnil) (Syntax.ttcons Syntax.tnil (Syntax.ttcons (Syntax.tcons (Syntax.tyInt Syntax.w64) (Syntax.tcons (Syntax.tyInt Syntax.w64) Syntax.tnil)) (Syntax.ttcons
-      (Syntax.tcons (Syntax.tyInt Syntax.w64) Syntax.tnil) Syntax.ttnil)))))))))))))))) Syntax.tnil) Syntax.ttnil))),
-) (List._∷_ (
-  1,
-  Rows'.sslice (Referent.rtF (Referent.fInt Syntax.w8)) (Syntax.tyRef
-      (Syntax.named 0) Syntax.imm (Syntax.tyInt Syntax.w8)) 0,
-) (List._∷_ (2, Rows'.whole (Declared'.row Rect.the-type)) (List._∷_ (3, Rows.arrF (Referent.rtF (Referent.fInt Syntax.w8)) 36 0) (List._∷_
-    (4, Mut.mslice (Referent.rtF (Referent.fInt Syntax.w16)) (Syntax.tyRef (Syntax.named 1) Syntax.mut (Syntax.tyInt Syntax.w16)) 1) (List._∷_ (
-      5,
-      Rows'.any-gone (Syntax.tyArray (Syntax.tyInt
-          Syntax.w16) 9252),
-    ) (List._∷_ (6, Rows'.any-gone (Syntax.tyArray (Element.held) 336)) (List._∷_ (7, Rows'.any-gone (Element.held)) (List._∷_ (
-      8,
-      Rows'.any-gone (Syntax.tyRef Syntax.erased
-          Syntax.mut (Syntax.tyInt Syntax.w16)),
-    ) (List._∷_ (
-      9,
-      Rows'.any-gone (Syntax.tyStruct (List._∷_ 38 (List._∷_ 91 (List._∷_ 93 List.[]))) (Syntax.tcons (Syntax.tyRef Syntax.erased Syntax.mut
-          (Syntax.tyInt Syntax.w16)) (Syntax.tcons (Syntax.tyInt Syntax.w64) Syntax.tnil))),
-    ) (List._∷_ (
-      10,
-      Rows'.any-gone (Syntax.tyRef Syntax.erased Syntax.mut (Syntax.tyArray (Syntax.tyInt Syntax.w16)
-          9252)),
-    ) (List._∷_ (
-      11,
-      Rows'.any-gone (Syntax.tyStruct (List._∷_ 38 (List._∷_ 91 (List._∷_ 93 List.[]))) (Syntax.tcons (Syntax.tyRef Syntax.erased Syntax.mut (Syntax.tyInt Syntax.w16))
-          (Syntax.tcons (Syntax.tyInt Syntax.w64) Syntax.tnil))),
-    ) (List._∷_ (12, Rows'.any-gone (Syntax.tyRef Syntax.erased Syntax.mut (Syntax.tyArray Element.behind 336))) (List._∷_ (
-      13,
-      Rows'.any-gone
-          (Syntax.tyStruct (List._∷_ 38 (List._∷_ 91 (List._∷_ 93 List.[]))) (Syntax.tcons (Syntax.tyRef Syntax.erased Syntax.mut Element.behind) (Syntax.tcons (Syntax.tyInt Syntax.w64) Syntax.tnil))),
-    )
+  Rows'.any-gone (Syntax.tyEnum (List._∷_ 98 (List._∷_ 108 (List._∷_ 111 (List._∷_ 99 (List._∷_ 107 (List._∷_ 58 (List._∷_ 58 (List._∷_ 68 (List._∷_ 101 (List._∷_ 99 (List._∷_ 111 (List._∷_ 100
+      (List._∷_ 101 (List._∷_ 100 List.[])))))))))))))) (Syntax.ttcons Syntax.tnil (Syntax.ttcons (Syntax.tcons (Syntax.tyEnum (List._∷_ 115 (List._∷_ 116 (List._∷_ 114 (List._∷_ 101 (List._∷_ 97 (List._∷_
+      109 (List._∷_ 58 (List._∷_ 58 (List._∷_ 82 (List._∷_ 101 (List._∷_ 102 (List._∷_ 117 (List._∷_ 115 (List._∷_ 97 (List._∷_ 108 List.[]))))))))))))))) (Syntax.ttcons Syntax.tnil (Syntax.ttcons
+      Syntax.tnil (Syntax.ttcons Syntax.tnil (Syntax.ttcons (Syntax.tcons (Syntax.tyInt Syntax.w64) Syntax.tnil) (Syntax.ttcons Syntax.tnil (Syntax.ttcons Syntax.tnil (Syntax.ttcons Syntax.tnil
+      (Syntax.ttcons Syntax.tnil (Syntax.ttcons Syntax.tnil (Syntax.ttcons Syntax.tnil (Syntax.ttcons (Syntax.tcons (Syntax.tyInt Syntax.w64) Syntax.tnil) (Syntax.ttcons (Syntax.tcons (Syntax.tyInt
+      Syntax.w64) Syntax.tnil) (Syntax.ttcons Syntax.tnil (Syntax.ttcons (Syntax.tcons (Syntax.tyInt Syntax.w64) (Syntax.tcons (Syntax.tyInt Syntax.w64) Syntax.tnil)) (Syntax.ttcons (Syntax.tcons
+      (Syntax.tyInt Syntax.w64) Syntax.tnil) Syntax.ttnil)))))))))))))))) Syntax.tnil) Syntax.ttnil))),
+)
+
+abbrev pub e1 : Row.Entry
+e1 = (0, Rows'.whole (Declared.row Decoded.the-type))
+
+abbrev pub e2 : Row.Entry
+e2 = (1, Rows'.sslice (Referent.rtF (Referent.fInt Syntax.w8)) (Syntax.tyRef (Syntax.named 0) Syntax.imm (Syntax.tyInt Syntax.w8)) 0)
+
+abbrev pub e3 : Row.Entry
+e3 = (10, Relend.msptr (Referent.rtF (Referent.fInt Syntax.w16)) (Syntax.tyRef Syntax.erased Syntax.mut (Syntax.tyArray (Syntax.tyInt Syntax.w16) 9252)) 3)
+
+abbrev pub e4 : Row.Entry
+e4 = (10, Rows'.any-gone (Syntax.tyRef Syntax.erased Syntax.mut (Syntax.tyArray (Syntax.tyInt Syntax.w16) 9252)))
+
+abbrev pub e5 : Row.Entry
+e5 = (11, Mut.msleft (Referent.rtF (Referent.fInt Syntax.w16)) (Syntax.tyRef Syntax.erased Syntax.mut (Syntax.tyInt Syntax.w16)))
+
+abbrev pub e6 : Row.Entry
+e6 = (11, Mut.mslice (Referent.rtF (Referent.fInt Syntax.w16)) (Syntax.tyRef Syntax.erased Syntax.mut (Syntax.tyInt Syntax.w16)) 3)
+
+abbrev pub e7 : Row.Entry
+e7 = (11, Rows'.any-gone y1)
+
+abbrev pub e8 : Row.Entry
+e8 = (12, Relend.msptr (Element.type) (Syntax.tyRef Syntax.erased Syntax.mut (Syntax.tyArray Element.behind 336)) 4)
+
+abbrev pub e9 : Row.Entry
+e9 = (12, Rows'.any-gone (Syntax.tyRef Syntax.erased Syntax.mut (Syntax.tyArray Element.behind 336)))
+
+abbrev pub e10 : Row.Entry
+e10 = (13, Mut.msleft (Element.type) (Syntax.tyRef Syntax.erased Syntax.mut Element.behind))
+
+abbrev pub e11 : Row.Entry
+e11 = (13, Mut.mslice (Element.type) (Syntax.tyRef Syntax.erased Syntax.mut Element.behind) 4)
+
+abbrev pub e12 : Row.Entry
+e12 = (13, Rows'.any-gone y2)
+
+abbrev pub e13 : Row.Entry
+e13 = (2, Rows'.any-gone y0)
+
+abbrev pub e14 : Row.Entry
+e14 = (2, Rows'.whole (Declared'.row Rect.the-type))
+
+abbrev pub e15 : Row.Entry
+e15 = (3, Rows'.any-gone (Syntax.tyArray (Syntax.tyInt Syntax.w8) 36))
+
+abbrev pub e16 : Row.Entry
+e16 = (3, Rows.arrF (Referent.rtF (Referent.fInt Syntax.w8)) 36 0)
+
+abbrev pub e17 : Row.Entry
+e17 = (4, Mut.mslice (Referent.rtF (Referent.fInt Syntax.w16)) (Syntax.tyRef (Syntax.named 1) Syntax.mut (Syntax.tyInt Syntax.w16)) 1)
+
+abbrev pub e18 : Row.Entry
+e18 = (4, Relend.mslice-owed (Referent.rtF (Referent.fInt Syntax.w16)) (Syntax.tyRef (Syntax.named 1) Syntax.mut (Syntax.tyInt Syntax.w16)) 1 2 Row.off)
+
+abbrev pub e19 : Row.Entry
+e19 = (5, Rows'.any-gone (Syntax.tyArray (Syntax.tyInt Syntax.w16) 9252))
+
+abbrev pub e20 : Row.Entry
+e20 = (5, Rows.arr-owed (Referent.rtF (Referent.fInt Syntax.w16)) 9252 3)
+
+abbrev pub e21 : Row.Entry
+e21 = (5, Rows.arrF (Referent.rtF (Referent.fInt Syntax.w16)) 9252 0)
+
+abbrev pub e22 : Row.Entry
+e22 = (6, Rows'.any-gone (Syntax.tyArray (Element.held) 336))
+
+abbrev pub e23 : Row.Entry
+e23 = (6, Rows.arr-owed (Element.type) 336 4)
+
+abbrev pub e24 : Row.Entry
+e24 = (6, Rows.arrF (Element.type) 336 0)
+
+abbrev pub e25 : Row.Entry
+e25 = (7, Element.row)
+
+abbrev pub e26 : Row.Entry
+e26 = (7, Rows'.any-gone (Element.held))
+
+abbrev pub e27 : Row.Entry
+e27 = (8, Relend.msptr (Referent.rtF (Referent.fInt Syntax.w16)) (Syntax.tyRef Syntax.erased Syntax.mut (Syntax.tyInt Syntax.w16)) 2)
+
+abbrev pub e28 : Row.Entry
+e28 = (8, Rows'.any-gone (Syntax.tyRef Syntax.erased Syntax.mut (Syntax.tyInt Syntax.w16)))
+
+abbrev pub e29 : Row.Entry
+e29 = (9, Mut.msleft (Referent.rtF (Referent.fInt Syntax.w16)) (Syntax.tyRef Syntax.erased Syntax.mut (Syntax.tyInt Syntax.w16)))
+
+abbrev pub e30 : Row.Entry
+e30 = (9, Mut.mslice (Referent.rtF (Referent.fInt Syntax.w16)) (Syntax.tyRef Syntax.erased Syntax.mut (Syntax.tyInt Syntax.w16)) 2)
+
+abbrev pub e31 : Row.Entry
+e31 = (9, Rows'.any-gone y1)
+
+abbrev pub t0 : List.List Row.Entry
+t0 = List._∷_ e0 (List._∷_ e2 (List._∷_ e14 (List._∷_ e16 (List._∷_ e17 (List._∷_ e19 (List._∷_ e22 (List._∷_ e26 (List._∷_ e28 (List._∷_ e31 (List._∷_ e4 (List._∷_ e7 (List._∷_ e9 (List._∷_ e12
     List.[])))))))))))))
 
 abbrev pub t1 : List.List Row.Entry
-t1 = List._∷_ (0, Rows'.whole (Declared.row Decoded.the-type)) (List._∷_ (
-  1,
-  Rows'.sslice (Referent.rtF (Referent.fInt Syntax.w8)) (Syntax.tyRef (Syntax.named 0) Syntax.imm (Syntax.tyInt Syntax.w8))
-      0,
-) (List._∷_ (
-  2,
-  Rows'.any-gone (Syntax.tyStruct (List._∷_ 114 (List._∷_ 101 (List._∷_ 103 (List._∷_ 105 (List._∷_ 111 (List._∷_ 110 (List._∷_ 58 (List._∷_ 58 (List._∷_ 82 (List._∷_ 101 (List._∷_
-      99 (List._∷_ 116 List.[])))))))))))) (Syntax.tcons (Syntax.tyInt Syntax.w64) (Syntax.tcons (Syntax.tyInt Syntax.w64) (Syntax.tcons (Syntax.tyInt Syntax.w64) (Syntax.tcons (Syntax.tyInt Syntax.w64)
-      Syntax.tnil))))),
-) (List._∷_ (3, Rows'.any-gone (Syntax.tyArray (Syntax.tyInt Syntax.w8) 36)) (List._∷_ (
-  4,
-  Mut.mslice (Referent.rtF (Referent.fInt Syntax.w16)) (Syntax.tyRef (Syntax.named 1)
-      Syntax.mut (Syntax.tyInt Syntax.w16)) 1,
-) (List._∷_ (5, Rows'.any-gone (Syntax.tyArray (Syntax.tyInt Syntax.w16) 9252)) (List._∷_ (6, Rows'.any-gone (Syntax.tyArray (Element.held) 336)) (List._∷_
-    (7, Rows'.any-gone (Element.held)) (List._∷_ (8, Rows'.any-gone (Syntax.tyRef Syntax.erased Syntax.mut (Syntax.tyInt Syntax.w16))) (List._∷_ (
-      9,
-      Rows'.any-gone (Syntax.tyStruct (List._∷_ 38
-          (List._∷_ 91 (List._∷_ 93 List.[]))) (Syntax.tcons (Syntax.tyRef Syntax.erased Syntax.mut (Syntax.tyInt Syntax.w16)) (Syntax.tcons (Syntax.tyInt Syntax.w64) Syntax.tnil))),
-    ) (List._∷_ (
-      10,
-      Rows'.any-gone (Syntax.tyRef Syntax.erased Syntax.mut (Syntax.tyArray (Syntax.tyInt Syntax.w16) 9252)),
-    ) (List._∷_ (
-      11,
-      Rows'.any-gone (Syntax.tyStruct (List._∷_ 38 (List._∷_ 91 (List._∷_ 93
-          List.[]))) (Syntax.tcons (Syntax.tyRef Syntax.erased Syntax.mut (Syntax.tyInt Syntax.w16)) (Syntax.tcons (Syntax.tyInt Syntax.w64) Syntax.tnil))),
-    ) (List._∷_ (
-      12,
-      Rows'.any-gone (Syntax.tyRef
-          Syntax.erased Syntax.mut (Syntax.tyArray Element.behind 336)),
-    ) (List._∷_ (
-      13,
-      Rows'.any-gone (Syntax.tyStruct (List._∷_ 38 (List._∷_ 91 (List._∷_ 93 List.[]))) (Syntax.tcons (Syntax.tyRef
-          Syntax.erased Syntax.mut Element.behind) (Syntax.tcons (Syntax.tyInt Syntax.w64) Syntax.tnil))),
-    ) List.[])))))))))))))
-
-abbrev pub t2 : List.List Row.Entry
-t2 = List._∷_ (
-  0,
-  Rows'.any-gone (Syntax.tyEnum (List._∷_ 98 (List._∷_ 108 (List._∷_ 111 (List._∷_ 99 (List._∷_ 107 (List._∷_ 58 (List._∷_ 58 (List._∷_ 68 (List._∷_ 101 (List._∷_ 99 (List._∷_ 111
-      (List._∷_ 100 (List._∷_ 101 (List._∷_ 100 List.[])))))))))))))) (Syntax.ttcons Syntax.tnil (Syntax.ttcons (Syntax.tcons (Syntax.tyEnum (List._∷_ 115 (List._∷_ 116 (List._∷_ 114 (List._∷_ 101 (List._∷_
-      97 (List._∷_ 109 (List._∷_ 58 (List._∷_ 58 (List._∷_ 82 (List._∷_ 101 (List._∷_ 102 (List._∷_ 117 (List._∷_ 115 (List._∷_ 97 (List._∷_ 108 List.[]))))))))))))))) (Syntax.ttcons Syntax.tnil
-      (Syntax.ttcons Syntax.tnil (Syntax.ttcons Syntax.tnil (Syntax.ttcons (Syntax.tcons (Syntax.tyInt Syntax.w64) Syntax.tnil) (Syntax.ttcons Syntax.tnil (Syntax.ttcons Syntax.tnil (Syntax.ttcons
-      Syntax.tnil (Syntax.ttcons Syntax.tnil (Syntax.ttcons Syntax.tnil (Syntax.ttcons Syntax.tnil (Syntax.ttcons (Syntax.tcons (Syntax.tyInt Syntax.w64) Syntax.tnil) (Syntax.ttcons (Syntax.tcons
-      (Syntax.tyInt Syntax.w64) Syntax.tnil) (Syntax.ttcons Syntax.tnil (Syntax.ttcons (Syntax.tcons (Syntax.tyInt Syntax.w64) (Syntax.tcons (Syntax.tyInt Syntax.w64) Syntax.tnil)) (Syntax.ttcons
-      (Syntax.tcons (Syntax.tyInt Syntax.w64) Syntax.tnil) Syntax.ttnil)))))))))))))))) Syntax.tnil) Syntax.ttnil))),
-) (List._∷_ (
-  1,
-  Rows'.sslice (Referent.rtF (Referent.fInt Syntax.w8)) (Syntax.tyRef
-      (Syntax.named 0) Syntax.imm (Syntax.tyInt Syntax.w8)) 0,
-) (List._∷_ (2, Rows'.whole (Declared'.row Rect.the-type)) (List._∷_ (3, Rows.arrF (Referent.rtF (Referent.fInt Syntax.w8)) 36 0) (List._∷_
-    (4, Mut.mslice (Referent.rtF (Referent.fInt Syntax.w16)) (Syntax.tyRef (Syntax.named 1) Syntax.mut (Syntax.tyInt Syntax.w16)) 1) (List._∷_ (
-      5,
-      Rows'.whole (Array'.Array (Referent.rtF (Referent.fInt
-          Syntax.w16)) 9252),
-    ) (List._∷_ (6, Rows'.any-gone (Syntax.tyArray (Element.held) 336)) (List._∷_ (7, Rows'.any-gone (Element.held)) (List._∷_ (
-      8,
-      Rows'.any-gone (Syntax.tyRef Syntax.erased
-          Syntax.mut (Syntax.tyInt Syntax.w16)),
-    ) (List._∷_ (
-      9,
-      Rows'.any-gone (Syntax.tyStruct (List._∷_ 38 (List._∷_ 91 (List._∷_ 93 List.[]))) (Syntax.tcons (Syntax.tyRef Syntax.erased Syntax.mut
-          (Syntax.tyInt Syntax.w16)) (Syntax.tcons (Syntax.tyInt Syntax.w64) Syntax.tnil))),
-    ) (List._∷_ (
-      10,
-      Rows'.any-gone (Syntax.tyRef Syntax.erased Syntax.mut (Syntax.tyArray (Syntax.tyInt Syntax.w16)
-          9252)),
-    ) (List._∷_ (
-      11,
-      Rows'.any-gone (Syntax.tyStruct (List._∷_ 38 (List._∷_ 91 (List._∷_ 93 List.[]))) (Syntax.tcons (Syntax.tyRef Syntax.erased Syntax.mut (Syntax.tyInt Syntax.w16))
-          (Syntax.tcons (Syntax.tyInt Syntax.w64) Syntax.tnil))),
-    ) (List._∷_ (12, Rows'.any-gone (Syntax.tyRef Syntax.erased Syntax.mut (Syntax.tyArray Element.behind 336))) (List._∷_ (
-      13,
-      Rows'.any-gone
-          (Syntax.tyStruct (List._∷_ 38 (List._∷_ 91 (List._∷_ 93 List.[]))) (Syntax.tcons (Syntax.tyRef Syntax.erased Syntax.mut Element.behind) (Syntax.tcons (Syntax.tyInt Syntax.w64) Syntax.tnil))),
-    )
+t1 = List._∷_ e1 (List._∷_ e2 (List._∷_ e13 (List._∷_ e15 (List._∷_ e17 (List._∷_ e19 (List._∷_ e22 (List._∷_ e26 (List._∷_ e28 (List._∷_ e31 (List._∷_ e4 (List._∷_ e7 (List._∷_ e9 (List._∷_ e12
     List.[])))))))))))))
 
+abbrev pub t2 : List.List Row.Entry
+t2 = List._∷_ e0 (List._∷_ e2 (List._∷_ e14 (List._∷_ e16 (List._∷_ e17 (List._∷_ (5, Rows'.whole (Array'.Array (Referent.rtF (Referent.fInt Syntax.w16)) 9252)) (List._∷_ e22 (List._∷_ e26 (List._∷_
+    e28 (List._∷_ e31 (List._∷_ e4 (List._∷_ e7 (List._∷_ e9 (List._∷_ e12 List.[])))))))))))))
+
 abbrev pub t3 : List.List Row.Entry
-t3 = List._∷_ (
-  0,
-  Rows'.any-gone (Syntax.tyEnum (List._∷_ 98 (List._∷_ 108 (List._∷_ 111 (List._∷_ 99 (List._∷_ 107 (List._∷_ 58 (List._∷_ 58 (List._∷_ 68 (List._∷_ 101 (List._∷_ 99 (List._∷_ 111
-      (List._∷_ 100 (List._∷_ 101 (List._∷_ 100 List.[])))))))))))))) (Syntax.ttcons Syntax.tnil (Syntax.ttcons (Syntax.tcons (Syntax.tyEnum (List._∷_ 115 (List._∷_ 116 (List._∷_ 114 (List._∷_ 101 (List._∷_
-      97 (List._∷_ 109 (List._∷_ 58 (List._∷_ 58 (List._∷_ 82 (List._∷_ 101 (List._∷_ 102 (List._∷_ 117 (List._∷_ 115 (List._∷_ 97 (List._∷_ 108 List.[]))))))))))))))) (Syntax.ttcons Syntax.tnil
-      (Syntax.ttcons Syntax.tnil (Syntax.ttcons Syntax.tnil (Syntax.ttcons (Syntax.tcons (Syntax.tyInt Syntax.w64) Syntax.tnil) (Syntax.ttcons Syntax.tnil (Syntax.ttcons Syntax.tnil (Syntax.ttcons
-      Syntax.tnil (Syntax.ttcons Syntax.tnil (Syntax.ttcons Syntax.tnil (Syntax.ttcons Syntax.tnil (Syntax.ttcons (Syntax.tcons (Syntax.tyInt Syntax.w64) Syntax.tnil) (Syntax.ttcons (Syntax.tcons
-      (Syntax.tyInt Syntax.w64) Syntax.tnil) (Syntax.ttcons Syntax.tnil (Syntax.ttcons (Syntax.tcons (Syntax.tyInt Syntax.w64) (Syntax.tcons (Syntax.tyInt Syntax.w64) Syntax.tnil)) (Syntax.ttcons
-      (Syntax.tcons (Syntax.tyInt Syntax.w64) Syntax.tnil) Syntax.ttnil)))))))))))))))) Syntax.tnil) Syntax.ttnil))),
-) (List._∷_ (
-  1,
-  Rows'.sslice (Referent.rtF (Referent.fInt Syntax.w8)) (Syntax.tyRef
-      (Syntax.named 0) Syntax.imm (Syntax.tyInt Syntax.w8)) 0,
-) (List._∷_ (2, Rows'.whole (Declared'.row Rect.the-type)) (List._∷_ (3, Rows.arrF (Referent.rtF (Referent.fInt Syntax.w8)) 36 0) (List._∷_
-    (4, Mut.mslice (Referent.rtF (Referent.fInt Syntax.w16)) (Syntax.tyRef (Syntax.named 1) Syntax.mut (Syntax.tyInt Syntax.w16)) 1) (List._∷_ (
-      5,
-      Rows.arrF (Referent.rtF (Referent.fInt Syntax.w16))
-          9252 0,
-    ) (List._∷_ (6, Rows'.any-gone (Syntax.tyArray (Element.held) 336)) (List._∷_ (7, Rows'.any-gone (Element.held)) (List._∷_ (
-      8,
-      Rows'.any-gone (Syntax.tyRef Syntax.erased Syntax.mut
-          (Syntax.tyInt Syntax.w16)),
-    ) (List._∷_ (
-      9,
-      Rows'.any-gone (Syntax.tyStruct (List._∷_ 38 (List._∷_ 91 (List._∷_ 93 List.[]))) (Syntax.tcons (Syntax.tyRef Syntax.erased Syntax.mut (Syntax.tyInt
-          Syntax.w16)) (Syntax.tcons (Syntax.tyInt Syntax.w64) Syntax.tnil))),
-    ) (List._∷_ (10, Rows'.any-gone (Syntax.tyRef Syntax.erased Syntax.mut (Syntax.tyArray (Syntax.tyInt Syntax.w16) 9252)))
-    (List._∷_ (
-      11,
-      Rows'.any-gone (Syntax.tyStruct (List._∷_ 38 (List._∷_ 91 (List._∷_ 93 List.[]))) (Syntax.tcons (Syntax.tyRef Syntax.erased Syntax.mut (Syntax.tyInt Syntax.w16)) (Syntax.tcons
-          (Syntax.tyInt Syntax.w64) Syntax.tnil))),
-    ) (List._∷_ (12, Rows'.any-gone (Syntax.tyRef Syntax.erased Syntax.mut (Syntax.tyArray Element.behind 336))) (List._∷_ (
-      13,
-      Rows'.any-gone
-          (Syntax.tyStruct (List._∷_ 38 (List._∷_ 91 (List._∷_ 93 List.[]))) (Syntax.tcons (Syntax.tyRef Syntax.erased Syntax.mut Element.behind) (Syntax.tcons (Syntax.tyInt Syntax.w64) Syntax.tnil))),
-    )
+t3 = List._∷_ e0 (List._∷_ e2 (List._∷_ e14 (List._∷_ e16 (List._∷_ e17 (List._∷_ e21 (List._∷_ e22 (List._∷_ e26 (List._∷_ e28 (List._∷_ e31 (List._∷_ e4 (List._∷_ e7 (List._∷_ e9 (List._∷_ e12
     List.[])))))))))))))
 
 abbrev pub t4 : List.List Row.Entry
-t4 = List._∷_ (
-  0,
-  Rows'.any-gone (Syntax.tyEnum (List._∷_ 98 (List._∷_ 108 (List._∷_ 111 (List._∷_ 99 (List._∷_ 107 (List._∷_ 58 (List._∷_ 58 (List._∷_ 68 (List._∷_ 101 (List._∷_ 99 (List._∷_ 111
-      (List._∷_ 100 (List._∷_ 101 (List._∷_ 100 List.[])))))))))))))) (Syntax.ttcons Syntax.tnil (Syntax.ttcons (Syntax.tcons (Syntax.tyEnum (List._∷_ 115 (List._∷_ 116 (List._∷_ 114 (List._∷_ 101 (List._∷_
-      97 (List._∷_ 109 (List._∷_ 58 (List._∷_ 58 (List._∷_ 82 (List._∷_ 101 (List._∷_ 102 (List._∷_ 117 (List._∷_ 115 (List._∷_ 97 (List._∷_ 108 List.[]))))))))))))))) (Syntax.ttcons Syntax.tnil
-      (Syntax.ttcons Syntax.tnil (Syntax.ttcons Syntax.tnil (Syntax.ttcons (Syntax.tcons (Syntax.tyInt Syntax.w64) Syntax.tnil) (Syntax.ttcons Syntax.tnil (Syntax.ttcons Syntax.tnil (Syntax.ttcons
-      Syntax.tnil (Syntax.ttcons Syntax.tnil (Syntax.ttcons Syntax.tnil (Syntax.ttcons Syntax.tnil (Syntax.ttcons (Syntax.tcons (Syntax.tyInt Syntax.w64) Syntax.tnil) (Syntax.ttcons (Syntax.tcons
-      (Syntax.tyInt Syntax.w64) Syntax.tnil) (Syntax.ttcons Syntax.tnil (Syntax.ttcons (Syntax.tcons (Syntax.tyInt Syntax.w64) (Syntax.tcons (Syntax.tyInt Syntax.w64) Syntax.tnil)) (Syntax.ttcons
-      (Syntax.tcons (Syntax.tyInt Syntax.w64) Syntax.tnil) Syntax.ttnil)))))))))))))))) Syntax.tnil) Syntax.ttnil))),
-) (List._∷_ (
-  1,
-  Rows'.sslice (Referent.rtF (Referent.fInt Syntax.w8)) (Syntax.tyRef
-      (Syntax.named 0) Syntax.imm (Syntax.tyInt Syntax.w8)) 0,
-) (List._∷_ (2, Rows'.whole (Declared'.row Rect.the-type)) (List._∷_ (3, Rows.arrF (Referent.rtF (Referent.fInt Syntax.w8)) 36 0) (List._∷_
-    (4, Mut.mslice (Referent.rtF (Referent.fInt Syntax.w16)) (Syntax.tyRef (Syntax.named 1) Syntax.mut (Syntax.tyInt Syntax.w16)) 1) (List._∷_ (
-      5,
-      Rows.arrF (Referent.rtF (Referent.fInt Syntax.w16))
-          9252 0,
-    ) (List._∷_ (6, Rows'.any-gone (Syntax.tyArray (Element.held) 336)) (List._∷_ (7, Element.row) (List._∷_ (
-      8,
-      Rows'.any-gone (Syntax.tyRef Syntax.erased Syntax.mut (Syntax.tyInt Syntax.w16)),
-    ) (List._∷_ (
-      9,
-      Rows'.any-gone (Syntax.tyStruct (List._∷_ 38 (List._∷_ 91 (List._∷_ 93 List.[]))) (Syntax.tcons (Syntax.tyRef Syntax.erased Syntax.mut (Syntax.tyInt Syntax.w16)) (Syntax.tcons
-          (Syntax.tyInt Syntax.w64) Syntax.tnil))),
-    ) (List._∷_ (10, Rows'.any-gone (Syntax.tyRef Syntax.erased Syntax.mut (Syntax.tyArray (Syntax.tyInt Syntax.w16) 9252))) (List._∷_ (
-      11,
-      Rows'.any-gone
-          (Syntax.tyStruct (List._∷_ 38 (List._∷_ 91 (List._∷_ 93 List.[]))) (Syntax.tcons (Syntax.tyRef Syntax.erased Syntax.mut (Syntax.tyInt Syntax.w16)) (Syntax.tcons (Syntax.tyInt Syntax.w64)
-          Syntax.tnil))),
-    ) (List._∷_ (12, Rows'.any-gone (Syntax.tyRef Syntax.erased Syntax.mut (Syntax.tyArray Element.behind 336))) (List._∷_ (
-      13,
-      Rows'.any-gone (Syntax.tyStruct (List._∷_ 38 (List._∷_
-          91 (List._∷_ 93 List.[]))) (Syntax.tcons (Syntax.tyRef Syntax.erased Syntax.mut Element.behind) (Syntax.tcons (Syntax.tyInt Syntax.w64) Syntax.tnil))),
-    ) List.[])))))))))))))
+t4 = List._∷_ e0 (List._∷_ e2 (List._∷_ e14 (List._∷_ e16 (List._∷_ e17 (List._∷_ e21 (List._∷_ e22 (List._∷_ e25 (List._∷_ e28 (List._∷_ e31 (List._∷_ e4 (List._∷_ e7 (List._∷_ e9 (List._∷_ e12
+    List.[])))))))))))))
 
 abbrev pub t5 : List.List Row.Entry
-t5 = List._∷_ (
-  0,
-  Rows'.any-gone (Syntax.tyEnum (List._∷_ 98 (List._∷_ 108 (List._∷_ 111 (List._∷_ 99 (List._∷_ 107 (List._∷_ 58 (List._∷_ 58 (List._∷_ 68 (List._∷_ 101 (List._∷_ 99 (List._∷_ 111
-      (List._∷_ 100 (List._∷_ 101 (List._∷_ 100 List.[])))))))))))))) (Syntax.ttcons Syntax.tnil (Syntax.ttcons (Syntax.tcons (Syntax.tyEnum (List._∷_ 115 (List._∷_ 116 (List._∷_ 114 (List._∷_ 101 (List._∷_
-      97 (List._∷_ 109 (List._∷_ 58 (List._∷_ 58 (List._∷_ 82 (List._∷_ 101 (List._∷_ 102 (List._∷_ 117 (List._∷_ 115 (List._∷_ 97 (List._∷_ 108 List.[]))))))))))))))) (Syntax.ttcons Syntax.tnil
-      (Syntax.ttcons Syntax.tnil (Syntax.ttcons Syntax.tnil (Syntax.ttcons (Syntax.tcons (Syntax.tyInt Syntax.w64) Syntax.tnil) (Syntax.ttcons Syntax.tnil (Syntax.ttcons Syntax.tnil (Syntax.ttcons
-      Syntax.tnil (Syntax.ttcons Syntax.tnil (Syntax.ttcons Syntax.tnil (Syntax.ttcons Syntax.tnil (Syntax.ttcons (Syntax.tcons (Syntax.tyInt Syntax.w64) Syntax.tnil) (Syntax.ttcons (Syntax.tcons
-      (Syntax.tyInt Syntax.w64) Syntax.tnil) (Syntax.ttcons Syntax.tnil (Syntax.ttcons (Syntax.tcons (Syntax.tyInt Syntax.w64) (Syntax.tcons (Syntax.tyInt Syntax.w64) Syntax.tnil)) (Syntax.ttcons
-      (Syntax.tcons (Syntax.tyInt Syntax.w64) Syntax.tnil) Syntax.ttnil)))))))))))))))) Syntax.tnil) Syntax.ttnil))),
-) (List._∷_ (
-  1,
-  Rows'.sslice (Referent.rtF (Referent.fInt Syntax.w8)) (Syntax.tyRef
-      (Syntax.named 0) Syntax.imm (Syntax.tyInt Syntax.w8)) 0,
-) (List._∷_ (2, Rows'.whole (Declared'.row Rect.the-type)) (List._∷_ (3, Rows.arrF (Referent.rtF (Referent.fInt Syntax.w8)) 36 0) (List._∷_
-    (4, Mut.mslice (Referent.rtF (Referent.fInt Syntax.w16)) (Syntax.tyRef (Syntax.named 1) Syntax.mut (Syntax.tyInt Syntax.w16)) 1) (List._∷_ (
-      5,
-      Rows.arrF (Referent.rtF (Referent.fInt Syntax.w16))
-          9252 0,
-    ) (List._∷_ (6, Rows'.whole (Array'.Array (Element.type) 336)) (List._∷_ (7, Element.row) (List._∷_ (8, Rows'.any-gone (Syntax.tyRef Syntax.erased Syntax.mut (Syntax.tyInt Syntax.w16)))
-    (List._∷_ (
-      9,
-      Rows'.any-gone (Syntax.tyStruct (List._∷_ 38 (List._∷_ 91 (List._∷_ 93 List.[]))) (Syntax.tcons (Syntax.tyRef Syntax.erased Syntax.mut (Syntax.tyInt Syntax.w16)) (Syntax.tcons
-          (Syntax.tyInt Syntax.w64) Syntax.tnil))),
-    ) (List._∷_ (10, Rows'.any-gone (Syntax.tyRef Syntax.erased Syntax.mut (Syntax.tyArray (Syntax.tyInt Syntax.w16) 9252))) (List._∷_ (
-      11,
-      Rows'.any-gone
-          (Syntax.tyStruct (List._∷_ 38 (List._∷_ 91 (List._∷_ 93 List.[]))) (Syntax.tcons (Syntax.tyRef Syntax.erased Syntax.mut (Syntax.tyInt Syntax.w16)) (Syntax.tcons (Syntax.tyInt Syntax.w64)
-          Syntax.tnil))),
-    ) (List._∷_ (12, Rows'.any-gone (Syntax.tyRef Syntax.erased Syntax.mut (Syntax.tyArray Element.behind 336))) (List._∷_ (
-      13,
-      Rows'.any-gone (Syntax.tyStruct (List._∷_ 38 (List._∷_
-          91 (List._∷_ 93 List.[]))) (Syntax.tcons (Syntax.tyRef Syntax.erased Syntax.mut Element.behind) (Syntax.tcons (Syntax.tyInt Syntax.w64) Syntax.tnil))),
-    ) List.[])))))))))))))
+t5 = List._∷_ e0 (List._∷_ e2 (List._∷_ e14 (List._∷_ e16 (List._∷_ e17 (List._∷_ e21 (List._∷_ (6, Rows'.whole (Array'.Array (Element.type) 336)) (List._∷_ e25 (List._∷_ e28 (List._∷_ e31 (List._∷_
+    e4 (List._∷_ e7 (List._∷_ e9 (List._∷_ e12 List.[])))))))))))))
 
 abbrev pub t6 : List.List Row.Entry
-t6 = List._∷_ (
-  0,
-  Rows'.any-gone (Syntax.tyEnum (List._∷_ 98 (List._∷_ 108 (List._∷_ 111 (List._∷_ 99 (List._∷_ 107 (List._∷_ 58 (List._∷_ 58 (List._∷_ 68 (List._∷_ 101 (List._∷_ 99 (List._∷_ 111
-      (List._∷_ 100 (List._∷_ 101 (List._∷_ 100 List.[])))))))))))))) (Syntax.ttcons Syntax.tnil (Syntax.ttcons (Syntax.tcons (Syntax.tyEnum (List._∷_ 115 (List._∷_ 116 (List._∷_ 114 (List._∷_ 101 (List._∷_
-      97 (List._∷_ 109 (List._∷_ 58 (List._∷_ 58 (List._∷_ 82 (List._∷_ 101 (List._∷_ 102 (List._∷_ 117 (List._∷_ 115 (List._∷_ 97 (List._∷_ 108 List.[]))))))))))))))) (Syntax.ttcons Syntax.tnil
-      (Syntax.ttcons Syntax.tnil (Syntax.ttcons Syntax.tnil (Syntax.ttcons (Syntax.tcons (Syntax.tyInt Syntax.w64) Syntax.tnil) (Syntax.ttcons Syntax.tnil (Syntax.ttcons Syntax.tnil (Syntax.ttcons
-      Syntax.tnil (Syntax.ttcons Syntax.tnil (Syntax.ttcons Syntax.tnil (Syntax.ttcons Syntax.tnil (Syntax.ttcons (Syntax.tcons (Syntax.tyInt Syntax.w64) Syntax.tnil) (Syntax.ttcons (Syntax.tcons
-      (Syntax.tyInt Syntax.w64) Syntax.tnil) (Syntax.ttcons Syntax.tnil (Syntax.ttcons (Syntax.tcons (Syntax.tyInt Syntax.w64) (Syntax.tcons (Syntax.tyInt Syntax.w64) Syntax.tnil)) (Syntax.ttcons
-      (Syntax.tcons (Syntax.tyInt Syntax.w64) Syntax.tnil) Syntax.ttnil)))))))))))))))) Syntax.tnil) Syntax.ttnil))),
-) (List._∷_ (
-  1,
-  Rows'.sslice (Referent.rtF (Referent.fInt Syntax.w8)) (Syntax.tyRef
-      (Syntax.named 0) Syntax.imm (Syntax.tyInt Syntax.w8)) 0,
-) (List._∷_ (2, Rows'.whole (Declared'.row Rect.the-type)) (List._∷_ (3, Rows.arrF (Referent.rtF (Referent.fInt Syntax.w8)) 36 0) (List._∷_
-    (4, Mut.mslice (Referent.rtF (Referent.fInt Syntax.w16)) (Syntax.tyRef (Syntax.named 1) Syntax.mut (Syntax.tyInt Syntax.w16)) 1) (List._∷_ (
-      5,
-      Rows.arrF (Referent.rtF (Referent.fInt Syntax.w16))
-          9252 0,
-    ) (List._∷_ (6, Rows.arrF (Element.type) 336 0) (List._∷_ (7, Element.row) (List._∷_ (8, Rows'.any-gone (Syntax.tyRef Syntax.erased Syntax.mut (Syntax.tyInt Syntax.w16))) (List._∷_ (
-      9,
-      Rows'.any-gone (Syntax.tyStruct (List._∷_ 38 (List._∷_ 91 (List._∷_ 93 List.[]))) (Syntax.tcons (Syntax.tyRef Syntax.erased Syntax.mut (Syntax.tyInt Syntax.w16)) (Syntax.tcons (Syntax.tyInt
-          Syntax.w64) Syntax.tnil))),
-    ) (List._∷_ (10, Rows'.any-gone (Syntax.tyRef Syntax.erased Syntax.mut (Syntax.tyArray (Syntax.tyInt Syntax.w16) 9252))) (List._∷_ (
-      11,
-      Rows'.any-gone (Syntax.tyStruct
-          (List._∷_ 38 (List._∷_ 91 (List._∷_ 93 List.[]))) (Syntax.tcons (Syntax.tyRef Syntax.erased Syntax.mut (Syntax.tyInt Syntax.w16)) (Syntax.tcons (Syntax.tyInt Syntax.w64) Syntax.tnil))),
-    ) (List._∷_ (
-      12,
-      Rows'.any-gone (Syntax.tyRef Syntax.erased Syntax.mut (Syntax.tyArray Element.behind 336)),
-    ) (List._∷_ (
-      13,
-      Rows'.any-gone (Syntax.tyStruct (List._∷_ 38 (List._∷_ 91 (List._∷_ 93 List.[])))
-          (Syntax.tcons (Syntax.tyRef Syntax.erased Syntax.mut Element.behind) (Syntax.tcons (Syntax.tyInt Syntax.w64) Syntax.tnil))),
-    ) List.[])))))))))))))
+t6 = List._∷_ e0 (List._∷_ e2 (List._∷_ e14 (List._∷_ e16 (List._∷_ e17 (List._∷_ e21 (List._∷_ e24 (List._∷_ e25 (List._∷_ e28 (List._∷_ e31 (List._∷_ e4 (List._∷_ e7 (List._∷_ e9 (List._∷_ e12
+    List.[])))))))))))))
 
 abbrev pub t7 : List.List Row.Entry
-t7 = List._∷_ (
-  0,
-  Rows'.any-gone (Syntax.tyEnum (List._∷_ 98 (List._∷_ 108 (List._∷_ 111 (List._∷_ 99 (List._∷_ 107 (List._∷_ 58 (List._∷_ 58 (List._∷_ 68 (List._∷_ 101 (List._∷_ 99 (List._∷_ 111
-      (List._∷_ 100 (List._∷_ 101 (List._∷_ 100 List.[])))))))))))))) (Syntax.ttcons Syntax.tnil (Syntax.ttcons (Syntax.tcons (Syntax.tyEnum (List._∷_ 115 (List._∷_ 116 (List._∷_ 114 (List._∷_ 101 (List._∷_
-      97 (List._∷_ 109 (List._∷_ 58 (List._∷_ 58 (List._∷_ 82 (List._∷_ 101 (List._∷_ 102 (List._∷_ 117 (List._∷_ 115 (List._∷_ 97 (List._∷_ 108 List.[]))))))))))))))) (Syntax.ttcons Syntax.tnil
-      (Syntax.ttcons Syntax.tnil (Syntax.ttcons Syntax.tnil (Syntax.ttcons (Syntax.tcons (Syntax.tyInt Syntax.w64) Syntax.tnil) (Syntax.ttcons Syntax.tnil (Syntax.ttcons Syntax.tnil (Syntax.ttcons
-      Syntax.tnil (Syntax.ttcons Syntax.tnil (Syntax.ttcons Syntax.tnil (Syntax.ttcons Syntax.tnil (Syntax.ttcons (Syntax.tcons (Syntax.tyInt Syntax.w64) Syntax.tnil) (Syntax.ttcons (Syntax.tcons
-      (Syntax.tyInt Syntax.w64) Syntax.tnil) (Syntax.ttcons Syntax.tnil (Syntax.ttcons (Syntax.tcons (Syntax.tyInt Syntax.w64) (Syntax.tcons (Syntax.tyInt Syntax.w64) Syntax.tnil)) (Syntax.ttcons
-      (Syntax.tcons (Syntax.tyInt Syntax.w64) Syntax.tnil) Syntax.ttnil)))))))))))))))) Syntax.tnil) Syntax.ttnil))),
-) (List._∷_ (
-  1,
-  Rows'.sslice (Referent.rtF (Referent.fInt Syntax.w8)) (Syntax.tyRef
-      (Syntax.named 0) Syntax.imm (Syntax.tyInt Syntax.w8)) 0,
-) (List._∷_ (2, Rows'.whole (Declared'.row Rect.the-type)) (List._∷_ (3, Rows.arrF (Referent.rtF (Referent.fInt Syntax.w8)) 36 0) (List._∷_
-    (4, Mut.mslice (Referent.rtF (Referent.fInt Syntax.w16)) (Syntax.tyRef (Syntax.named 1) Syntax.mut (Syntax.tyInt Syntax.w16)) 1) (List._∷_ (
-      5,
-      Rows.arrF (Referent.rtF (Referent.fInt Syntax.w16))
-          9252 0,
-    ) (List._∷_ (6, Rows.arrF (Element.type) 336 0) (List._∷_ (7, Rows'.any-gone (Element.held)) (List._∷_ (8, Rows'.any-gone (Syntax.tyRef Syntax.erased Syntax.mut (Syntax.tyInt Syntax.w16)))
-    (List._∷_ (
-      9,
-      Rows'.any-gone (Syntax.tyStruct (List._∷_ 38 (List._∷_ 91 (List._∷_ 93 List.[]))) (Syntax.tcons (Syntax.tyRef Syntax.erased Syntax.mut (Syntax.tyInt Syntax.w16)) (Syntax.tcons
-          (Syntax.tyInt Syntax.w64) Syntax.tnil))),
-    ) (List._∷_ (10, Rows'.any-gone (Syntax.tyRef Syntax.erased Syntax.mut (Syntax.tyArray (Syntax.tyInt Syntax.w16) 9252))) (List._∷_ (
-      11,
-      Rows'.any-gone
-          (Syntax.tyStruct (List._∷_ 38 (List._∷_ 91 (List._∷_ 93 List.[]))) (Syntax.tcons (Syntax.tyRef Syntax.erased Syntax.mut (Syntax.tyInt Syntax.w16)) (Syntax.tcons (Syntax.tyInt Syntax.w64)
-          Syntax.tnil))),
-    ) (List._∷_ (12, Rows'.any-gone (Syntax.tyRef Syntax.erased Syntax.mut (Syntax.tyArray Element.behind 336))) (List._∷_ (
-      13,
-      Rows'.any-gone (Syntax.tyStruct (List._∷_ 38 (List._∷_
-          91 (List._∷_ 93 List.[]))) (Syntax.tcons (Syntax.tyRef Syntax.erased Syntax.mut Element.behind) (Syntax.tcons (Syntax.tyInt Syntax.w64) Syntax.tnil))),
-    ) List.[])))))))))))))
+t7 = List._∷_ e0 (List._∷_ e2 (List._∷_ e14 (List._∷_ e16 (List._∷_ e17 (List._∷_ e21 (List._∷_ e24 (List._∷_ e26 (List._∷_ e28 (List._∷_ e31 (List._∷_ e4 (List._∷_ e7 (List._∷_ e9 (List._∷_ e12
+    List.[])))))))))))))
 
 abbrev pub t8 : List.List Row.Entry
-t8 = List._∷_ (
-  0,
-  Rows'.any-gone (Syntax.tyEnum (List._∷_ 98 (List._∷_ 108 (List._∷_ 111 (List._∷_ 99 (List._∷_ 107 (List._∷_ 58 (List._∷_ 58 (List._∷_ 68 (List._∷_ 101 (List._∷_ 99 (List._∷_ 111
-      (List._∷_ 100 (List._∷_ 101 (List._∷_ 100 List.[])))))))))))))) (Syntax.ttcons Syntax.tnil (Syntax.ttcons (Syntax.tcons (Syntax.tyEnum (List._∷_ 115 (List._∷_ 116 (List._∷_ 114 (List._∷_ 101 (List._∷_
-      97 (List._∷_ 109 (List._∷_ 58 (List._∷_ 58 (List._∷_ 82 (List._∷_ 101 (List._∷_ 102 (List._∷_ 117 (List._∷_ 115 (List._∷_ 97 (List._∷_ 108 List.[]))))))))))))))) (Syntax.ttcons Syntax.tnil
-      (Syntax.ttcons Syntax.tnil (Syntax.ttcons Syntax.tnil (Syntax.ttcons (Syntax.tcons (Syntax.tyInt Syntax.w64) Syntax.tnil) (Syntax.ttcons Syntax.tnil (Syntax.ttcons Syntax.tnil (Syntax.ttcons
-      Syntax.tnil (Syntax.ttcons Syntax.tnil (Syntax.ttcons Syntax.tnil (Syntax.ttcons Syntax.tnil (Syntax.ttcons (Syntax.tcons (Syntax.tyInt Syntax.w64) Syntax.tnil) (Syntax.ttcons (Syntax.tcons
-      (Syntax.tyInt Syntax.w64) Syntax.tnil) (Syntax.ttcons Syntax.tnil (Syntax.ttcons (Syntax.tcons (Syntax.tyInt Syntax.w64) (Syntax.tcons (Syntax.tyInt Syntax.w64) Syntax.tnil)) (Syntax.ttcons
-      (Syntax.tcons (Syntax.tyInt Syntax.w64) Syntax.tnil) Syntax.ttnil)))))))))))))))) Syntax.tnil) Syntax.ttnil))),
-) (List._∷_ (
-  1,
-  Rows'.sslice (Referent.rtF (Referent.fInt Syntax.w8)) (Syntax.tyRef
-      (Syntax.named 0) Syntax.imm (Syntax.tyInt Syntax.w8)) 0,
-) (List._∷_ (2, Rows'.whole (Declared'.row Rect.the-type)) (List._∷_ (3, Rows.arrF (Referent.rtF (Referent.fInt Syntax.w8)) 36 0) (List._∷_
-    (4, Relend.mslice-owed (Referent.rtF (Referent.fInt Syntax.w16)) (Syntax.tyRef (Syntax.named 1) Syntax.mut (Syntax.tyInt Syntax.w16)) 1 2 Row.off) (List._∷_ (
-      5,
-      Rows.arrF (Referent.rtF
-          (Referent.fInt Syntax.w16)) 9252 0,
-    ) (List._∷_ (6, Rows.arrF (Element.type) 336 0) (List._∷_ (7, Rows'.any-gone (Element.held)) (List._∷_ (
-      8,
-      Relend.msptr (Referent.rtF (Referent.fInt Syntax.w16))
-          (Syntax.tyRef Syntax.erased Syntax.mut (Syntax.tyInt Syntax.w16)) 2,
-    ) (List._∷_ (
-      9,
-      Rows'.any-gone (Syntax.tyStruct (List._∷_ 38 (List._∷_ 91 (List._∷_ 93 List.[]))) (Syntax.tcons (Syntax.tyRef
-          Syntax.erased Syntax.mut (Syntax.tyInt Syntax.w16)) (Syntax.tcons (Syntax.tyInt Syntax.w64) Syntax.tnil))),
-    ) (List._∷_ (
-      10,
-      Rows'.any-gone (Syntax.tyRef Syntax.erased Syntax.mut (Syntax.tyArray
-          (Syntax.tyInt Syntax.w16) 9252)),
-    ) (List._∷_ (
-      11,
-      Rows'.any-gone (Syntax.tyStruct (List._∷_ 38 (List._∷_ 91 (List._∷_ 93 List.[]))) (Syntax.tcons (Syntax.tyRef Syntax.erased Syntax.mut (Syntax.tyInt
-          Syntax.w16)) (Syntax.tcons (Syntax.tyInt Syntax.w64) Syntax.tnil))),
-    ) (List._∷_ (12, Rows'.any-gone (Syntax.tyRef Syntax.erased Syntax.mut (Syntax.tyArray Element.behind 336))) (List._∷_ (
-      13,
-      Rows'.any-gone (Syntax.tyStruct (List._∷_ 38 (List._∷_ 91 (List._∷_ 93 List.[]))) (Syntax.tcons (Syntax.tyRef Syntax.erased Syntax.mut Element.behind) (Syntax.tcons (Syntax.tyInt Syntax.w64)
-          Syntax.tnil))),
-    ) List.[])))))))))))))
+t8 = List._∷_ e0 (List._∷_ e2 (List._∷_ e14 (List._∷_ e16 (List._∷_ e18 (List._∷_ e21 (List._∷_ e24 (List._∷_ e26 (List._∷_ e27 (List._∷_ e31 (List._∷_ e4 (List._∷_ e7 (List._∷_ e9 (List._∷_ e12
+    List.[])))))))))))))
 
 abbrev pub t9 : List.List Row.Entry
-t9 = List._∷_ (
-  0,
-  Rows'.any-gone (Syntax.tyEnum (List._∷_ 98 (List._∷_ 108 (List._∷_ 111 (List._∷_ 99 (List._∷_ 107 (List._∷_ 58 (List._∷_ 58 (List._∷_ 68 (List._∷_ 101 (List._∷_ 99 (List._∷_ 111
-      (List._∷_ 100 (List._∷_ 101 (List._∷_ 100 List.[])))))))))))))) (Syntax.ttcons Syntax.tnil (Syntax.ttcons (Syntax.tcons (Syntax.tyEnum (List._∷_ 115 (List._∷_ 116 (List._∷_ 114 (List._∷_ 101 (List._∷_
-      97 (List._∷_ 109 (List._∷_ 58 (List._∷_ 58 (List._∷_ 82 (List._∷_ 101 (List._∷_ 102 (List._∷_ 117 (List._∷_ 115 (List._∷_ 97 (List._∷_ 108 List.[]))))))))))))))) (Syntax.ttcons Syntax.tnil
-      (Syntax.ttcons Syntax.tnil (Syntax.ttcons Syntax.tnil (Syntax.ttcons (Syntax.tcons (Syntax.tyInt Syntax.w64) Syntax.tnil) (Syntax.ttcons Syntax.tnil (Syntax.ttcons Syntax.tnil (Syntax.ttcons
-      Syntax.tnil (Syntax.ttcons Syntax.tnil (Syntax.ttcons Syntax.tnil (Syntax.ttcons Syntax.tnil (Syntax.ttcons (Syntax.tcons (Syntax.tyInt Syntax.w64) Syntax.tnil) (Syntax.ttcons (Syntax.tcons
-      (Syntax.tyInt Syntax.w64) Syntax.tnil) (Syntax.ttcons Syntax.tnil (Syntax.ttcons (Syntax.tcons (Syntax.tyInt Syntax.w64) (Syntax.tcons (Syntax.tyInt Syntax.w64) Syntax.tnil)) (Syntax.ttcons
-      (Syntax.tcons (Syntax.tyInt Syntax.w64) Syntax.tnil) Syntax.ttnil)))))))))))))))) Syntax.tnil) Syntax.ttnil))),
-) (List._∷_ (
-  1,
-  Rows'.sslice (Referent.rtF (Referent.fInt Syntax.w8)) (Syntax.tyRef
-      (Syntax.named 0) Syntax.imm (Syntax.tyInt Syntax.w8)) 0,
-) (List._∷_ (2, Rows'.whole (Declared'.row Rect.the-type)) (List._∷_ (3, Rows.arrF (Referent.rtF (Referent.fInt Syntax.w8)) 36 0) (List._∷_
-    (4, Relend.mslice-owed (Referent.rtF (Referent.fInt Syntax.w16)) (Syntax.tyRef (Syntax.named 1) Syntax.mut (Syntax.tyInt Syntax.w16)) 1 2 Row.off) (List._∷_ (
-      5,
-      Rows.arrF (Referent.rtF
-          (Referent.fInt Syntax.w16)) 9252 0,
-    ) (List._∷_ (6, Rows.arrF (Element.type) 336 0) (List._∷_ (7, Rows'.any-gone (Element.held)) (List._∷_ (
-      8,
-      Rows'.any-gone (Syntax.tyRef Syntax.erased Syntax.mut
-          (Syntax.tyInt Syntax.w16)),
-    ) (List._∷_ (9, Mut.mslice (Referent.rtF (Referent.fInt Syntax.w16)) (Syntax.tyRef Syntax.erased Syntax.mut (Syntax.tyInt Syntax.w16)) 2) (List._∷_ (
-      10,
-      Rows'.any-gone
-          (Syntax.tyRef Syntax.erased Syntax.mut (Syntax.tyArray (Syntax.tyInt Syntax.w16) 9252)),
-    ) (List._∷_ (
-      11,
-      Rows'.any-gone (Syntax.tyStruct (List._∷_ 38 (List._∷_ 91 (List._∷_ 93 List.[])))
-          (Syntax.tcons (Syntax.tyRef Syntax.erased Syntax.mut (Syntax.tyInt Syntax.w16)) (Syntax.tcons (Syntax.tyInt Syntax.w64) Syntax.tnil))),
-    ) (List._∷_ (
-      12,
-      Rows'.any-gone (Syntax.tyRef Syntax.erased
-          Syntax.mut (Syntax.tyArray Element.behind 336)),
-    ) (List._∷_ (
-      13,
-      Rows'.any-gone (Syntax.tyStruct (List._∷_ 38 (List._∷_ 91 (List._∷_ 93 List.[]))) (Syntax.tcons (Syntax.tyRef Syntax.erased
-          Syntax.mut Element.behind) (Syntax.tcons (Syntax.tyInt Syntax.w64) Syntax.tnil))),
-    ) List.[])))))))))))))
+t9 = List._∷_ e0 (List._∷_ e2 (List._∷_ e14 (List._∷_ e16 (List._∷_ e18 (List._∷_ e21 (List._∷_ e24 (List._∷_ e26 (List._∷_ e28 (List._∷_ e30 (List._∷_ e4 (List._∷_ e7 (List._∷_ e9 (List._∷_ e12
+    List.[])))))))))))))
 
 abbrev pub t10 : List.List Row.Entry
-t10 = List._∷_ (
-  0,
-  Rows'.any-gone (Syntax.tyEnum (List._∷_ 98 (List._∷_ 108 (List._∷_ 111 (List._∷_ 99 (List._∷_ 107 (List._∷_ 58 (List._∷_ 58 (List._∷_ 68 (List._∷_ 101 (List._∷_ 99 (List._∷_ 111
-      (List._∷_ 100 (List._∷_ 101 (List._∷_ 100 List.[])))))))))))))) (Syntax.ttcons Syntax.tnil (Syntax.ttcons (Syntax.tcons (Syntax.tyEnum (List._∷_ 115 (List._∷_ 116 (List._∷_ 114 (List._∷_ 101 (List._∷_
-      97 (List._∷_ 109 (List._∷_ 58 (List._∷_ 58 (List._∷_ 82 (List._∷_ 101 (List._∷_ 102 (List._∷_ 117 (List._∷_ 115 (List._∷_ 97 (List._∷_ 108 List.[]))))))))))))))) (Syntax.ttcons Syntax.tnil
-      (Syntax.ttcons Syntax.tnil (Syntax.ttcons Syntax.tnil (Syntax.ttcons (Syntax.tcons (Syntax.tyInt Syntax.w64) Syntax.tnil) (Syntax.ttcons Syntax.tnil (Syntax.ttcons Syntax.tnil (Syntax.ttcons
-      Syntax.tnil (Syntax.ttcons Syntax.tnil (Syntax.ttcons Syntax.tnil (Syntax.ttcons Syntax.tnil (Syntax.ttcons (Syntax.tcons (Syntax.tyInt Syntax.w64) Syntax.tnil) (Syntax.ttcons (Syntax.tcons
-      (Syntax.tyInt Syntax.w64) Syntax.tnil) (Syntax.ttcons Syntax.tnil (Syntax.ttcons (Syntax.tcons (Syntax.tyInt Syntax.w64) (Syntax.tcons (Syntax.tyInt Syntax.w64) Syntax.tnil)) (Syntax.ttcons
-      (Syntax.tcons (Syntax.tyInt Syntax.w64) Syntax.tnil) Syntax.ttnil)))))))))))))))) Syntax.tnil) Syntax.ttnil))),
-) (List._∷_ (
-  1,
-  Rows'.sslice (Referent.rtF (Referent.fInt Syntax.w8)) (Syntax.tyRef
-      (Syntax.named 0) Syntax.imm (Syntax.tyInt Syntax.w8)) 0,
-) (List._∷_ (2, Rows'.whole (Declared'.row Rect.the-type)) (List._∷_ (3, Rows.arrF (Referent.rtF (Referent.fInt Syntax.w8)) 36 0) (List._∷_
-    (4, Relend.mslice-owed (Referent.rtF (Referent.fInt Syntax.w16)) (Syntax.tyRef (Syntax.named 1) Syntax.mut (Syntax.tyInt Syntax.w16)) 1 2 Row.off) (List._∷_ (
-      5,
-      Rows.arr-owed (Referent.rtF
-          (Referent.fInt Syntax.w16)) 9252 3,
-    ) (List._∷_ (6, Rows.arrF (Element.type) 336 0) (List._∷_ (7, Rows'.any-gone (Element.held)) (List._∷_ (
-      8,
-      Rows'.any-gone (Syntax.tyRef Syntax.erased Syntax.mut
-          (Syntax.tyInt Syntax.w16)),
-    ) (List._∷_ (9, Mut.mslice (Referent.rtF (Referent.fInt Syntax.w16)) (Syntax.tyRef Syntax.erased Syntax.mut (Syntax.tyInt Syntax.w16)) 2) (List._∷_ (
-      10,
-      Relend.msptr
-          (Referent.rtF (Referent.fInt Syntax.w16)) (Syntax.tyRef Syntax.erased Syntax.mut (Syntax.tyArray (Syntax.tyInt Syntax.w16) 9252)) 3,
-    ) (List._∷_ (
-      11,
-      Rows'.any-gone (Syntax.tyStruct (List._∷_ 38
-          (List._∷_ 91 (List._∷_ 93 List.[]))) (Syntax.tcons (Syntax.tyRef Syntax.erased Syntax.mut (Syntax.tyInt Syntax.w16)) (Syntax.tcons (Syntax.tyInt Syntax.w64) Syntax.tnil))),
-    ) (List._∷_ (
-      12,
-      Rows'.any-gone (Syntax.tyRef Syntax.erased Syntax.mut (Syntax.tyArray Element.behind 336)),
-    ) (List._∷_ (
-      13,
-      Rows'.any-gone (Syntax.tyStruct (List._∷_ 38 (List._∷_ 91 (List._∷_ 93 List.[])))
-          (Syntax.tcons (Syntax.tyRef Syntax.erased Syntax.mut Element.behind) (Syntax.tcons (Syntax.tyInt Syntax.w64) Syntax.tnil))),
-    ) List.[])))))))))))))
+t10 = List._∷_ e0 (List._∷_ e2 (List._∷_ e14 (List._∷_ e16 (List._∷_ e18 (List._∷_ e20 (List._∷_ e24 (List._∷_ e26 (List._∷_ e28 (List._∷_ e30 (List._∷_ e3 (List._∷_ e7 (List._∷_ e9 (List._∷_ e12
+    List.[])))))))))))))
 
 abbrev pub t11 : List.List Row.Entry
-t11 = List._∷_ (
-  0,
-  Rows'.any-gone (Syntax.tyEnum (List._∷_ 98 (List._∷_ 108 (List._∷_ 111 (List._∷_ 99 (List._∷_ 107 (List._∷_ 58 (List._∷_ 58 (List._∷_ 68 (List._∷_ 101 (List._∷_ 99 (List._∷_ 111
-      (List._∷_ 100 (List._∷_ 101 (List._∷_ 100 List.[])))))))))))))) (Syntax.ttcons Syntax.tnil (Syntax.ttcons (Syntax.tcons (Syntax.tyEnum (List._∷_ 115 (List._∷_ 116 (List._∷_ 114 (List._∷_ 101 (List._∷_
-      97 (List._∷_ 109 (List._∷_ 58 (List._∷_ 58 (List._∷_ 82 (List._∷_ 101 (List._∷_ 102 (List._∷_ 117 (List._∷_ 115 (List._∷_ 97 (List._∷_ 108 List.[]))))))))))))))) (Syntax.ttcons Syntax.tnil
-      (Syntax.ttcons Syntax.tnil (Syntax.ttcons Syntax.tnil (Syntax.ttcons (Syntax.tcons (Syntax.tyInt Syntax.w64) Syntax.tnil) (Syntax.ttcons Syntax.tnil (Syntax.ttcons Syntax.tnil (Syntax.ttcons
-      Syntax.tnil (Syntax.ttcons Syntax.tnil (Syntax.ttcons Syntax.tnil (Syntax.ttcons Syntax.tnil (Syntax.ttcons (Syntax.tcons (Syntax.tyInt Syntax.w64) Syntax.tnil) (Syntax.ttcons (Syntax.tcons
-      (Syntax.tyInt Syntax.w64) Syntax.tnil) (Syntax.ttcons Syntax.tnil (Syntax.ttcons (Syntax.tcons (Syntax.tyInt Syntax.w64) (Syntax.tcons (Syntax.tyInt Syntax.w64) Syntax.tnil)) (Syntax.ttcons
-      (Syntax.tcons (Syntax.tyInt Syntax.w64) Syntax.tnil) Syntax.ttnil)))))))))))))))) Syntax.tnil) Syntax.ttnil))),
-) (List._∷_ (
-  1,
-  Rows'.sslice (Referent.rtF (Referent.fInt Syntax.w8)) (Syntax.tyRef
-      (Syntax.named 0) Syntax.imm (Syntax.tyInt Syntax.w8)) 0,
-) (List._∷_ (2, Rows'.whole (Declared'.row Rect.the-type)) (List._∷_ (3, Rows.arrF (Referent.rtF (Referent.fInt Syntax.w8)) 36 0) (List._∷_
-    (4, Relend.mslice-owed (Referent.rtF (Referent.fInt Syntax.w16)) (Syntax.tyRef (Syntax.named 1) Syntax.mut (Syntax.tyInt Syntax.w16)) 1 2 Row.off) (List._∷_ (
-      5,
-      Rows.arr-owed (Referent.rtF
-          (Referent.fInt Syntax.w16)) 9252 3,
-    ) (List._∷_ (6, Rows.arrF (Element.type) 336 0) (List._∷_ (7, Rows'.any-gone (Element.held)) (List._∷_ (
-      8,
-      Rows'.any-gone (Syntax.tyRef Syntax.erased Syntax.mut
-          (Syntax.tyInt Syntax.w16)),
-    ) (List._∷_ (9, Mut.mslice (Referent.rtF (Referent.fInt Syntax.w16)) (Syntax.tyRef Syntax.erased Syntax.mut (Syntax.tyInt Syntax.w16)) 2) (List._∷_ (
-      10,
-      Rows'.any-gone
-          (Syntax.tyRef Syntax.erased Syntax.mut (Syntax.tyArray (Syntax.tyInt Syntax.w16) 9252)),
-    ) (List._∷_ (
-      11,
-      Mut.mslice (Referent.rtF (Referent.fInt Syntax.w16)) (Syntax.tyRef Syntax.erased Syntax.mut
-          (Syntax.tyInt Syntax.w16)) 3,
-    ) (List._∷_ (12, Rows'.any-gone (Syntax.tyRef Syntax.erased Syntax.mut (Syntax.tyArray Element.behind 336))) (List._∷_ (
-      13,
-      Rows'.any-gone (Syntax.tyStruct (List._∷_
-          38 (List._∷_ 91 (List._∷_ 93 List.[]))) (Syntax.tcons (Syntax.tyRef Syntax.erased Syntax.mut Element.behind) (Syntax.tcons (Syntax.tyInt Syntax.w64) Syntax.tnil))),
-    ) List.[])))))))))))))
+t11 = List._∷_ e0 (List._∷_ e2 (List._∷_ e14 (List._∷_ e16 (List._∷_ e18 (List._∷_ e20 (List._∷_ e24 (List._∷_ e26 (List._∷_ e28 (List._∷_ e30 (List._∷_ e4 (List._∷_ e6 (List._∷_ e9 (List._∷_ e12
+    List.[])))))))))))))
 
 abbrev pub t12 : List.List Row.Entry
-t12 = List._∷_ (
-  0,
-  Rows'.any-gone (Syntax.tyEnum (List._∷_ 98 (List._∷_ 108 (List._∷_ 111 (List._∷_ 99 (List._∷_ 107 (List._∷_ 58 (List._∷_ 58 (List._∷_ 68 (List._∷_ 101 (List._∷_ 99 (List._∷_ 111
-      (List._∷_ 100 (List._∷_ 101 (List._∷_ 100 List.[])))))))))))))) (Syntax.ttcons Syntax.tnil (Syntax.ttcons (Syntax.tcons (Syntax.tyEnum (List._∷_ 115 (List._∷_ 116 (List._∷_ 114 (List._∷_ 101 (List._∷_
-      97 (List._∷_ 109 (List._∷_ 58 (List._∷_ 58 (List._∷_ 82 (List._∷_ 101 (List._∷_ 102 (List._∷_ 117 (List._∷_ 115 (List._∷_ 97 (List._∷_ 108 List.[]))))))))))))))) (Syntax.ttcons Syntax.tnil
-      (Syntax.ttcons Syntax.tnil (Syntax.ttcons Syntax.tnil (Syntax.ttcons (Syntax.tcons (Syntax.tyInt Syntax.w64) Syntax.tnil) (Syntax.ttcons Syntax.tnil (Syntax.ttcons Syntax.tnil (Syntax.ttcons
-      Syntax.tnil (Syntax.ttcons Syntax.tnil (Syntax.ttcons Syntax.tnil (Syntax.ttcons Syntax.tnil (Syntax.ttcons (Syntax.tcons (Syntax.tyInt Syntax.w64) Syntax.tnil) (Syntax.ttcons (Syntax.tcons
-      (Syntax.tyInt Syntax.w64) Syntax.tnil) (Syntax.ttcons Syntax.tnil (Syntax.ttcons (Syntax.tcons (Syntax.tyInt Syntax.w64) (Syntax.tcons (Syntax.tyInt Syntax.w64) Syntax.tnil)) (Syntax.ttcons
-      (Syntax.tcons (Syntax.tyInt Syntax.w64) Syntax.tnil) Syntax.ttnil)))))))))))))))) Syntax.tnil) Syntax.ttnil))),
-) (List._∷_ (
-  1,
-  Rows'.sslice (Referent.rtF (Referent.fInt Syntax.w8)) (Syntax.tyRef
-      (Syntax.named 0) Syntax.imm (Syntax.tyInt Syntax.w8)) 0,
-) (List._∷_ (2, Rows'.whole (Declared'.row Rect.the-type)) (List._∷_ (3, Rows.arrF (Referent.rtF (Referent.fInt Syntax.w8)) 36 0) (List._∷_
-    (4, Relend.mslice-owed (Referent.rtF (Referent.fInt Syntax.w16)) (Syntax.tyRef (Syntax.named 1) Syntax.mut (Syntax.tyInt Syntax.w16)) 1 2 Row.off) (List._∷_ (
-      5,
-      Rows.arr-owed (Referent.rtF
-          (Referent.fInt Syntax.w16)) 9252 3,
-    ) (List._∷_ (6, Rows.arr-owed (Element.type) 336 4) (List._∷_ (7, Rows'.any-gone (Element.held)) (List._∷_ (
-      8,
-      Rows'.any-gone (Syntax.tyRef Syntax.erased
-          Syntax.mut (Syntax.tyInt Syntax.w16)),
-    ) (List._∷_ (9, Mut.mslice (Referent.rtF (Referent.fInt Syntax.w16)) (Syntax.tyRef Syntax.erased Syntax.mut (Syntax.tyInt Syntax.w16)) 2) (List._∷_ (
-      10,
-      Rows'.any-gone (Syntax.tyRef Syntax.erased Syntax.mut (Syntax.tyArray (Syntax.tyInt Syntax.w16) 9252)),
-    ) (List._∷_ (
-      11,
-      Mut.mslice (Referent.rtF (Referent.fInt Syntax.w16)) (Syntax.tyRef
-          Syntax.erased Syntax.mut (Syntax.tyInt Syntax.w16)) 3,
-    ) (List._∷_ (12, Relend.msptr (Element.type) (Syntax.tyRef Syntax.erased Syntax.mut (Syntax.tyArray Element.behind 336)) 4) (List._∷_ (
-      13,
-      Rows'.any-gone (Syntax.tyStruct (List._∷_ 38 (List._∷_ 91 (List._∷_ 93 List.[]))) (Syntax.tcons (Syntax.tyRef Syntax.erased Syntax.mut Element.behind) (Syntax.tcons (Syntax.tyInt Syntax.w64)
-          Syntax.tnil))),
-    ) List.[])))))))))))))
+t12 = List._∷_ e0 (List._∷_ e2 (List._∷_ e14 (List._∷_ e16 (List._∷_ e18 (List._∷_ e20 (List._∷_ e23 (List._∷_ e26 (List._∷_ e28 (List._∷_ e30 (List._∷_ e4 (List._∷_ e6 (List._∷_ e8 (List._∷_ e12
+    List.[])))))))))))))
 
 abbrev pub t13 : List.List Row.Entry
-t13 = List._∷_ (
-  0,
-  Rows'.any-gone (Syntax.tyEnum (List._∷_ 98 (List._∷_ 108 (List._∷_ 111 (List._∷_ 99 (List._∷_ 107 (List._∷_ 58 (List._∷_ 58 (List._∷_ 68 (List._∷_ 101 (List._∷_ 99 (List._∷_ 111
-      (List._∷_ 100 (List._∷_ 101 (List._∷_ 100 List.[])))))))))))))) (Syntax.ttcons Syntax.tnil (Syntax.ttcons (Syntax.tcons (Syntax.tyEnum (List._∷_ 115 (List._∷_ 116 (List._∷_ 114 (List._∷_ 101 (List._∷_
-      97 (List._∷_ 109 (List._∷_ 58 (List._∷_ 58 (List._∷_ 82 (List._∷_ 101 (List._∷_ 102 (List._∷_ 117 (List._∷_ 115 (List._∷_ 97 (List._∷_ 108 List.[]))))))))))))))) (Syntax.ttcons Syntax.tnil
-      (Syntax.ttcons Syntax.tnil (Syntax.ttcons Syntax.tnil (Syntax.ttcons (Syntax.tcons (Syntax.tyInt Syntax.w64) Syntax.tnil) (Syntax.ttcons Syntax.tnil (Syntax.ttcons Syntax.tnil (Syntax.ttcons
-      Syntax.tnil (Syntax.ttcons Syntax.tnil (Syntax.ttcons Syntax.tnil (Syntax.ttcons Syntax.tnil (Syntax.ttcons (Syntax.tcons (Syntax.tyInt Syntax.w64) Syntax.tnil) (Syntax.ttcons (Syntax.tcons
-      (Syntax.tyInt Syntax.w64) Syntax.tnil) (Syntax.ttcons Syntax.tnil (Syntax.ttcons (Syntax.tcons (Syntax.tyInt Syntax.w64) (Syntax.tcons (Syntax.tyInt Syntax.w64) Syntax.tnil)) (Syntax.ttcons
-      (Syntax.tcons (Syntax.tyInt Syntax.w64) Syntax.tnil) Syntax.ttnil)))))))))))))))) Syntax.tnil) Syntax.ttnil))),
-) (List._∷_ (
-  1,
-  Rows'.sslice (Referent.rtF (Referent.fInt Syntax.w8)) (Syntax.tyRef
-      (Syntax.named 0) Syntax.imm (Syntax.tyInt Syntax.w8)) 0,
-) (List._∷_ (2, Rows'.whole (Declared'.row Rect.the-type)) (List._∷_ (3, Rows.arrF (Referent.rtF (Referent.fInt Syntax.w8)) 36 0) (List._∷_
-    (4, Relend.mslice-owed (Referent.rtF (Referent.fInt Syntax.w16)) (Syntax.tyRef (Syntax.named 1) Syntax.mut (Syntax.tyInt Syntax.w16)) 1 2 Row.off) (List._∷_ (
-      5,
-      Rows.arr-owed (Referent.rtF
-          (Referent.fInt Syntax.w16)) 9252 3,
-    ) (List._∷_ (6, Rows.arr-owed (Element.type) 336 4) (List._∷_ (7, Rows'.any-gone (Element.held)) (List._∷_ (
-      8,
-      Rows'.any-gone (Syntax.tyRef Syntax.erased
-          Syntax.mut (Syntax.tyInt Syntax.w16)),
-    ) (List._∷_ (9, Mut.mslice (Referent.rtF (Referent.fInt Syntax.w16)) (Syntax.tyRef Syntax.erased Syntax.mut (Syntax.tyInt Syntax.w16)) 2) (List._∷_ (
-      10,
-      Rows'.any-gone (Syntax.tyRef Syntax.erased Syntax.mut (Syntax.tyArray (Syntax.tyInt Syntax.w16) 9252)),
-    ) (List._∷_ (
-      11,
-      Mut.mslice (Referent.rtF (Referent.fInt Syntax.w16)) (Syntax.tyRef
-          Syntax.erased Syntax.mut (Syntax.tyInt Syntax.w16)) 3,
-    ) (List._∷_ (12, Rows'.any-gone (Syntax.tyRef Syntax.erased Syntax.mut (Syntax.tyArray Element.behind 336))) (List._∷_ (
-      13,
-      Mut.mslice
-          (Element.type) (Syntax.tyRef Syntax.erased Syntax.mut Element.behind) 4,
-    ) List.[])))))))))))))
+t13 = List._∷_ e0 (List._∷_ e2 (List._∷_ e14 (List._∷_ e16 (List._∷_ e18 (List._∷_ e20 (List._∷_ e23 (List._∷_ e26 (List._∷_ e28 (List._∷_ e30 (List._∷_ e4 (List._∷_ e6 (List._∷_ e9 (List._∷_ e11
+    List.[])))))))))))))
 
 abbrev pub t14 : List.List Row.Entry
-t14 = List._∷_ (0, Rows'.whole (Declared.row Decoded.the-type)) (List._∷_ (
-  1,
-  Rows'.sslice (Referent.rtF (Referent.fInt Syntax.w8)) (Syntax.tyRef (Syntax.named 0) Syntax.imm (Syntax.tyInt Syntax.w8))
-      0,
-) (List._∷_ (2, Rows'.whole (Declared'.row Rect.the-type)) (List._∷_ (3, Rows.arrF (Referent.rtF (Referent.fInt Syntax.w8)) 36 0) (List._∷_ (
-  4,
-  Relend.mslice-owed (Referent.rtF (Referent.fInt
-      Syntax.w16)) (Syntax.tyRef (Syntax.named 1) Syntax.mut (Syntax.tyInt Syntax.w16)) 1 2 Row.off,
-) (List._∷_ (5, Rows.arr-owed (Referent.rtF (Referent.fInt Syntax.w16)) 9252 3) (List._∷_ (
-  6,
-  Rows.arr-owed (Element.type) 336 4,
-) (List._∷_ (7, Rows'.any-gone (Element.held)) (List._∷_ (8, Rows'.any-gone (Syntax.tyRef Syntax.erased Syntax.mut (Syntax.tyInt Syntax.w16))) (List._∷_ (
-  9,
-  Mut.msleft (Referent.rtF (Referent.fInt Syntax.w16)) (Syntax.tyRef Syntax.erased Syntax.mut (Syntax.tyInt Syntax.w16)),
-) (List._∷_ (
-  10,
-  Rows'.any-gone (Syntax.tyRef Syntax.erased Syntax.mut
-      (Syntax.tyArray (Syntax.tyInt Syntax.w16) 9252)),
-) (List._∷_ (11, Mut.msleft (Referent.rtF (Referent.fInt Syntax.w16)) (Syntax.tyRef Syntax.erased Syntax.mut (Syntax.tyInt Syntax.w16))) (List._∷_
-    (12, Rows'.any-gone (Syntax.tyRef Syntax.erased Syntax.mut (Syntax.tyArray Element.behind 336))) (List._∷_ (13, Mut.msleft (Element.type) (Syntax.tyRef Syntax.erased Syntax.mut Element.behind))
+t14 = List._∷_ e1 (List._∷_ e2 (List._∷_ e14 (List._∷_ e16 (List._∷_ e18 (List._∷_ e20 (List._∷_ e23 (List._∷_ e26 (List._∷_ e28 (List._∷_ e29 (List._∷_ e4 (List._∷_ e5 (List._∷_ e9 (List._∷_ e10
     List.[])))))))))))))
 
 abbrev pub t15 : List.List Row.Entry
-t15 = List._∷_ (0, Rows'.whole (Declared.row Decoded.the-type)) (List._∷_ (
-  1,
-  Rows'.sslice (Referent.rtF (Referent.fInt Syntax.w8)) (Syntax.tyRef (Syntax.named 0) Syntax.imm (Syntax.tyInt Syntax.w8))
-      0,
-) (List._∷_ (
-  2,
-  Rows'.any-gone (Syntax.tyStruct (List._∷_ 114 (List._∷_ 101 (List._∷_ 103 (List._∷_ 105 (List._∷_ 111 (List._∷_ 110 (List._∷_ 58 (List._∷_ 58 (List._∷_ 82 (List._∷_ 101 (List._∷_
-      99 (List._∷_ 116 List.[])))))))))))) (Syntax.tcons (Syntax.tyInt Syntax.w64) (Syntax.tcons (Syntax.tyInt Syntax.w64) (Syntax.tcons (Syntax.tyInt Syntax.w64) (Syntax.tcons (Syntax.tyInt Syntax.w64)
-      Syntax.tnil))))),
-) (List._∷_ (3, Rows.arrF (Referent.rtF (Referent.fInt Syntax.w8)) 36 0) (List._∷_ (
-  4,
-  Relend.mslice-owed (Referent.rtF (Referent.fInt Syntax.w16)) (Syntax.tyRef (Syntax.named 1)
-      Syntax.mut (Syntax.tyInt Syntax.w16)) 1 2 Row.off,
-) (List._∷_ (5, Rows.arr-owed (Referent.rtF (Referent.fInt Syntax.w16)) 9252 3) (List._∷_ (6, Rows.arr-owed (Element.type) 336 4) (List._∷_ (
-  7,
-  Rows'.any-gone (Element.held),
-) (List._∷_ (8, Rows'.any-gone (Syntax.tyRef Syntax.erased Syntax.mut (Syntax.tyInt Syntax.w16))) (List._∷_ (
-  9,
-  Mut.msleft (Referent.rtF (Referent.fInt Syntax.w16))
-      (Syntax.tyRef Syntax.erased Syntax.mut (Syntax.tyInt Syntax.w16)),
-) (List._∷_ (10, Rows'.any-gone (Syntax.tyRef Syntax.erased Syntax.mut (Syntax.tyArray (Syntax.tyInt Syntax.w16) 9252))) (List._∷_
-    (11, Mut.msleft (Referent.rtF (Referent.fInt Syntax.w16)) (Syntax.tyRef Syntax.erased Syntax.mut (Syntax.tyInt Syntax.w16))) (List._∷_ (
-      12,
-      Rows'.any-gone (Syntax.tyRef Syntax.erased Syntax.mut
-          (Syntax.tyArray Element.behind 336)),
-    ) (List._∷_ (13, Mut.msleft (Element.type) (Syntax.tyRef Syntax.erased Syntax.mut Element.behind)) List.[])))))))))))))
+t15 = List._∷_ e1 (List._∷_ e2 (List._∷_ e13 (List._∷_ e16 (List._∷_ e18 (List._∷_ e20 (List._∷_ e23 (List._∷_ e26 (List._∷_ e28 (List._∷_ e29 (List._∷_ e4 (List._∷_ e5 (List._∷_ e9 (List._∷_ e10
+    List.[])))))))))))))
 
 abbrev pub t16 : List.List Row.Entry
-t16 = List._∷_ (0, Rows'.whole (Declared.row Decoded.the-type)) (List._∷_ (
-  1,
-  Rows'.sslice (Referent.rtF (Referent.fInt Syntax.w8)) (Syntax.tyRef (Syntax.named 0) Syntax.imm (Syntax.tyInt Syntax.w8))
-      0,
-) (List._∷_ (
-  2,
-  Rows'.any-gone (Syntax.tyStruct (List._∷_ 114 (List._∷_ 101 (List._∷_ 103 (List._∷_ 105 (List._∷_ 111 (List._∷_ 110 (List._∷_ 58 (List._∷_ 58 (List._∷_ 82 (List._∷_ 101 (List._∷_
-      99 (List._∷_ 116 List.[])))))))))))) (Syntax.tcons (Syntax.tyInt Syntax.w64) (Syntax.tcons (Syntax.tyInt Syntax.w64) (Syntax.tcons (Syntax.tyInt Syntax.w64) (Syntax.tcons (Syntax.tyInt Syntax.w64)
-      Syntax.tnil))))),
-) (List._∷_ (3, Rows'.any-gone (Syntax.tyArray (Syntax.tyInt Syntax.w8) 36)) (List._∷_ (
-  4,
-  Relend.mslice-owed (Referent.rtF (Referent.fInt Syntax.w16)) (Syntax.tyRef (Syntax.named
-      1) Syntax.mut (Syntax.tyInt Syntax.w16)) 1 2 Row.off,
-) (List._∷_ (5, Rows.arr-owed (Referent.rtF (Referent.fInt Syntax.w16)) 9252 3) (List._∷_ (6, Rows.arr-owed (Element.type) 336 4) (List._∷_ (
-  7,
-  Rows'.any-gone (Element.held),
-) (List._∷_ (8, Rows'.any-gone (Syntax.tyRef Syntax.erased Syntax.mut (Syntax.tyInt Syntax.w16))) (List._∷_ (
-  9,
-  Mut.msleft (Referent.rtF (Referent.fInt Syntax.w16))
-      (Syntax.tyRef Syntax.erased Syntax.mut (Syntax.tyInt Syntax.w16)),
-) (List._∷_ (10, Rows'.any-gone (Syntax.tyRef Syntax.erased Syntax.mut (Syntax.tyArray (Syntax.tyInt Syntax.w16) 9252))) (List._∷_
-    (11, Mut.msleft (Referent.rtF (Referent.fInt Syntax.w16)) (Syntax.tyRef Syntax.erased Syntax.mut (Syntax.tyInt Syntax.w16))) (List._∷_ (
-      12,
-      Rows'.any-gone (Syntax.tyRef Syntax.erased Syntax.mut
-          (Syntax.tyArray Element.behind 336)),
-    ) (List._∷_ (13, Mut.msleft (Element.type) (Syntax.tyRef Syntax.erased Syntax.mut Element.behind)) List.[])))))))))))))
+t16 = List._∷_ e1 (List._∷_ e2 (List._∷_ e13 (List._∷_ e15 (List._∷_ e18 (List._∷_ e20 (List._∷_ e23 (List._∷_ e26 (List._∷_ e28 (List._∷_ e29 (List._∷_ e4 (List._∷_ e5 (List._∷_ e9 (List._∷_ e10
+    List.[])))))))))))))
 
 abbrev pub t17 : List.List Row.Entry
-t17 = List._∷_ (0, Rows'.whole (Declared.row Decoded.the-type)) (List._∷_ (
-  1,
-  Rows'.sslice (Referent.rtF (Referent.fInt Syntax.w8)) (Syntax.tyRef (Syntax.named 0) Syntax.imm (Syntax.tyInt Syntax.w8))
-      0,
-) (List._∷_ (
-  2,
-  Rows'.any-gone (Syntax.tyStruct (List._∷_ 114 (List._∷_ 101 (List._∷_ 103 (List._∷_ 105 (List._∷_ 111 (List._∷_ 110 (List._∷_ 58 (List._∷_ 58 (List._∷_ 82 (List._∷_ 101 (List._∷_
-      99 (List._∷_ 116 List.[])))))))))))) (Syntax.tcons (Syntax.tyInt Syntax.w64) (Syntax.tcons (Syntax.tyInt Syntax.w64) (Syntax.tcons (Syntax.tyInt Syntax.w64) (Syntax.tcons (Syntax.tyInt Syntax.w64)
-      Syntax.tnil))))),
-) (List._∷_ (3, Rows'.any-gone (Syntax.tyArray (Syntax.tyInt Syntax.w8) 36)) (List._∷_ (
-  4,
-  Mut.mslice (Referent.rtF (Referent.fInt Syntax.w16)) (Syntax.tyRef (Syntax.named 1)
-      Syntax.mut (Syntax.tyInt Syntax.w16)) 1,
-) (List._∷_ (5, Rows.arr-owed (Referent.rtF (Referent.fInt Syntax.w16)) 9252 3) (List._∷_ (6, Rows.arr-owed (Element.type) 336 4) (List._∷_ (
-  7,
-  Rows'.any-gone (Element.held),
-) (List._∷_ (8, Rows'.any-gone (Syntax.tyRef Syntax.erased Syntax.mut (Syntax.tyInt Syntax.w16))) (List._∷_ (
-  9,
-  Rows'.any-gone (Syntax.tyStruct (List._∷_ 38 (List._∷_
-      91 (List._∷_ 93 List.[]))) (Syntax.tcons (Syntax.tyRef Syntax.erased Syntax.mut (Syntax.tyInt Syntax.w16)) (Syntax.tcons (Syntax.tyInt Syntax.w64) Syntax.tnil))),
-) (List._∷_ (
-  10,
-  Rows'.any-gone
-      (Syntax.tyRef Syntax.erased Syntax.mut (Syntax.tyArray (Syntax.tyInt Syntax.w16) 9252)),
-) (List._∷_ (
-  11,
-  Mut.msleft (Referent.rtF (Referent.fInt Syntax.w16)) (Syntax.tyRef Syntax.erased Syntax.mut
-      (Syntax.tyInt Syntax.w16)),
-) (List._∷_ (12, Rows'.any-gone (Syntax.tyRef Syntax.erased Syntax.mut (Syntax.tyArray Element.behind 336))) (List._∷_ (
-  13,
-  Mut.msleft (Element.type) (Syntax.tyRef
-      Syntax.erased Syntax.mut Element.behind),
-) List.[])))))))))))))
+t17 = List._∷_ e1 (List._∷_ e2 (List._∷_ e13 (List._∷_ e15 (List._∷_ e17 (List._∷_ e20 (List._∷_ e23 (List._∷_ e26 (List._∷_ e28 (List._∷_ e31 (List._∷_ e4 (List._∷_ e5 (List._∷_ e9 (List._∷_ e10
+    List.[])))))))))))))
 
 abbrev pub t18 : List.List Row.Entry
-t18 = List._∷_ (0, Rows'.whole (Declared.row Decoded.the-type)) (List._∷_ (
-  1,
-  Rows'.sslice (Referent.rtF (Referent.fInt Syntax.w8)) (Syntax.tyRef (Syntax.named 0) Syntax.imm (Syntax.tyInt Syntax.w8))
-      0,
-) (List._∷_ (
-  2,
-  Rows'.any-gone (Syntax.tyStruct (List._∷_ 114 (List._∷_ 101 (List._∷_ 103 (List._∷_ 105 (List._∷_ 111 (List._∷_ 110 (List._∷_ 58 (List._∷_ 58 (List._∷_ 82 (List._∷_ 101 (List._∷_
-      99 (List._∷_ 116 List.[])))))))))))) (Syntax.tcons (Syntax.tyInt Syntax.w64) (Syntax.tcons (Syntax.tyInt Syntax.w64) (Syntax.tcons (Syntax.tyInt Syntax.w64) (Syntax.tcons (Syntax.tyInt Syntax.w64)
-      Syntax.tnil))))),
-) (List._∷_ (3, Rows'.any-gone (Syntax.tyArray (Syntax.tyInt Syntax.w8) 36)) (List._∷_ (
-  4,
-  Mut.mslice (Referent.rtF (Referent.fInt Syntax.w16)) (Syntax.tyRef (Syntax.named 1)
-      Syntax.mut (Syntax.tyInt Syntax.w16)) 1,
-) (List._∷_ (5, Rows.arrF (Referent.rtF (Referent.fInt Syntax.w16)) 9252 0) (List._∷_ (6, Rows.arr-owed (Element.type) 336 4) (List._∷_ (
-  7,
-  Rows'.any-gone
-      (Element.held),
-) (List._∷_ (8, Rows'.any-gone (Syntax.tyRef Syntax.erased Syntax.mut (Syntax.tyInt Syntax.w16))) (List._∷_ (
-  9,
-  Rows'.any-gone (Syntax.tyStruct (List._∷_ 38 (List._∷_ 91 (List._∷_ 93
-      List.[]))) (Syntax.tcons (Syntax.tyRef Syntax.erased Syntax.mut (Syntax.tyInt Syntax.w16)) (Syntax.tcons (Syntax.tyInt Syntax.w64) Syntax.tnil))),
-) (List._∷_ (
-  10,
-  Rows'.any-gone (Syntax.tyRef
-      Syntax.erased Syntax.mut (Syntax.tyArray (Syntax.tyInt Syntax.w16) 9252)),
-) (List._∷_ (
-  11,
-  Rows'.any-gone (Syntax.tyStruct (List._∷_ 38 (List._∷_ 91 (List._∷_ 93 List.[]))) (Syntax.tcons
-      (Syntax.tyRef Syntax.erased Syntax.mut (Syntax.tyInt Syntax.w16)) (Syntax.tcons (Syntax.tyInt Syntax.w64) Syntax.tnil))),
-) (List._∷_ (
-  12,
-  Rows'.any-gone (Syntax.tyRef Syntax.erased Syntax.mut
-      (Syntax.tyArray Element.behind 336)),
-) (List._∷_ (13, Mut.msleft (Element.type) (Syntax.tyRef Syntax.erased Syntax.mut Element.behind)) List.[])))))))))))))
+t18 = List._∷_ e1 (List._∷_ e2 (List._∷_ e13 (List._∷_ e15 (List._∷_ e17 (List._∷_ e21 (List._∷_ e23 (List._∷_ e26 (List._∷_ e28 (List._∷_ e31 (List._∷_ e4 (List._∷_ e7 (List._∷_ e9 (List._∷_ e10
+    List.[])))))))))))))
 
 abbrev pub t19 : List.List Row.Entry
-t19 = List._∷_ (0, Rows'.whole (Declared.row Decoded.the-type)) (List._∷_ (
-  1,
-  Rows'.sslice (Referent.rtF (Referent.fInt Syntax.w8)) (Syntax.tyRef (Syntax.named 0) Syntax.imm (Syntax.tyInt Syntax.w8))
-      0,
-) (List._∷_ (
-  2,
-  Rows'.any-gone (Syntax.tyStruct (List._∷_ 114 (List._∷_ 101 (List._∷_ 103 (List._∷_ 105 (List._∷_ 111 (List._∷_ 110 (List._∷_ 58 (List._∷_ 58 (List._∷_ 82 (List._∷_ 101 (List._∷_
-      99 (List._∷_ 116 List.[])))))))))))) (Syntax.tcons (Syntax.tyInt Syntax.w64) (Syntax.tcons (Syntax.tyInt Syntax.w64) (Syntax.tcons (Syntax.tyInt Syntax.w64) (Syntax.tcons (Syntax.tyInt Syntax.w64)
-      Syntax.tnil))))),
-) (List._∷_ (3, Rows'.any-gone (Syntax.tyArray (Syntax.tyInt Syntax.w8) 36)) (List._∷_ (
-  4,
-  Mut.mslice (Referent.rtF (Referent.fInt Syntax.w16)) (Syntax.tyRef (Syntax.named 1)
-      Syntax.mut (Syntax.tyInt Syntax.w16)) 1,
-) (List._∷_ (5, Rows'.any-gone (Syntax.tyArray (Syntax.tyInt Syntax.w16) 9252)) (List._∷_ (6, Rows.arr-owed (Element.type) 336 4) (List._∷_ (
-  7,
-  Rows'.any-gone (Element.held),
-) (List._∷_ (8, Rows'.any-gone (Syntax.tyRef Syntax.erased Syntax.mut (Syntax.tyInt Syntax.w16))) (List._∷_ (
-  9,
-  Rows'.any-gone (Syntax.tyStruct (List._∷_ 38 (List._∷_
-      91 (List._∷_ 93 List.[]))) (Syntax.tcons (Syntax.tyRef Syntax.erased Syntax.mut (Syntax.tyInt Syntax.w16)) (Syntax.tcons (Syntax.tyInt Syntax.w64) Syntax.tnil))),
-) (List._∷_ (
-  10,
-  Rows'.any-gone
-      (Syntax.tyRef Syntax.erased Syntax.mut (Syntax.tyArray (Syntax.tyInt Syntax.w16) 9252)),
-) (List._∷_ (
-  11,
-  Rows'.any-gone (Syntax.tyStruct (List._∷_ 38 (List._∷_ 91 (List._∷_ 93 List.[])))
-      (Syntax.tcons (Syntax.tyRef Syntax.erased Syntax.mut (Syntax.tyInt Syntax.w16)) (Syntax.tcons (Syntax.tyInt Syntax.w64) Syntax.tnil))),
-) (List._∷_ (
-  12,
-  Rows'.any-gone (Syntax.tyRef Syntax.erased
-      Syntax.mut (Syntax.tyArray Element.behind 336)),
-) (List._∷_ (13, Mut.msleft (Element.type) (Syntax.tyRef Syntax.erased Syntax.mut Element.behind)) List.[])))))))))))))
+t19 = List._∷_ e1 (List._∷_ e2 (List._∷_ e13 (List._∷_ e15 (List._∷_ e17 (List._∷_ e19 (List._∷_ e23 (List._∷_ e26 (List._∷_ e28 (List._∷_ e31 (List._∷_ e4 (List._∷_ e7 (List._∷_ e9 (List._∷_ e10
+    List.[])))))))))))))
 
 abbrev pub t20 : List.List Row.Entry
-t20 = List._∷_ (0, Rows'.whole (Declared.row Decoded.the-type)) (List._∷_ (
-  1,
-  Rows'.sslice (Referent.rtF (Referent.fInt Syntax.w8)) (Syntax.tyRef (Syntax.named 0) Syntax.imm (Syntax.tyInt Syntax.w8))
-      0,
-) (List._∷_ (
-  2,
-  Rows'.any-gone (Syntax.tyStruct (List._∷_ 114 (List._∷_ 101 (List._∷_ 103 (List._∷_ 105 (List._∷_ 111 (List._∷_ 110 (List._∷_ 58 (List._∷_ 58 (List._∷_ 82 (List._∷_ 101 (List._∷_
-      99 (List._∷_ 116 List.[])))))))))))) (Syntax.tcons (Syntax.tyInt Syntax.w64) (Syntax.tcons (Syntax.tyInt Syntax.w64) (Syntax.tcons (Syntax.tyInt Syntax.w64) (Syntax.tcons (Syntax.tyInt Syntax.w64)
-      Syntax.tnil))))),
-) (List._∷_ (3, Rows'.any-gone (Syntax.tyArray (Syntax.tyInt Syntax.w8) 36)) (List._∷_ (
-  4,
-  Mut.mslice (Referent.rtF (Referent.fInt Syntax.w16)) (Syntax.tyRef (Syntax.named 1)
-      Syntax.mut (Syntax.tyInt Syntax.w16)) 1,
-) (List._∷_ (5, Rows'.any-gone (Syntax.tyArray (Syntax.tyInt Syntax.w16) 9252)) (List._∷_ (6, Rows.arrF (Element.type) 336 0) (List._∷_ (
-  7,
-  Rows'.any-gone
-      (Element.held),
-) (List._∷_ (8, Rows'.any-gone (Syntax.tyRef Syntax.erased Syntax.mut (Syntax.tyInt Syntax.w16))) (List._∷_ (
-  9,
-  Rows'.any-gone (Syntax.tyStruct (List._∷_ 38 (List._∷_ 91 (List._∷_ 93
-      List.[]))) (Syntax.tcons (Syntax.tyRef Syntax.erased Syntax.mut (Syntax.tyInt Syntax.w16)) (Syntax.tcons (Syntax.tyInt Syntax.w64) Syntax.tnil))),
-) (List._∷_ (
-  10,
-  Rows'.any-gone (Syntax.tyRef
-      Syntax.erased Syntax.mut (Syntax.tyArray (Syntax.tyInt Syntax.w16) 9252)),
-) (List._∷_ (
-  11,
-  Rows'.any-gone (Syntax.tyStruct (List._∷_ 38 (List._∷_ 91 (List._∷_ 93 List.[]))) (Syntax.tcons
-      (Syntax.tyRef Syntax.erased Syntax.mut (Syntax.tyInt Syntax.w16)) (Syntax.tcons (Syntax.tyInt Syntax.w64) Syntax.tnil))),
-) (List._∷_ (
-  12,
-  Rows'.any-gone (Syntax.tyRef Syntax.erased Syntax.mut
-      (Syntax.tyArray Element.behind 336)),
-) (List._∷_ (
-  13,
-  Rows'.any-gone (Syntax.tyStruct (List._∷_ 38 (List._∷_ 91 (List._∷_ 93 List.[]))) (Syntax.tcons (Syntax.tyRef Syntax.erased Syntax.mut
-      Element.behind) (Syntax.tcons (Syntax.tyInt Syntax.w64) Syntax.tnil))),
-) List.[])))))))))))))
+t20 = List._∷_ e1 (List._∷_ e2 (List._∷_ e13 (List._∷_ e15 (List._∷_ e17 (List._∷_ e19 (List._∷_ e24 (List._∷_ e26 (List._∷_ e28 (List._∷_ e31 (List._∷_ e4 (List._∷_ e7 (List._∷_ e9 (List._∷_ e12
+    List.[])))))))))))))
 
 abbrev pub T0 : Row.Cx
 T0 = record { locals = t0; slots = List.[] }
@@ -1127,44 +563,29 @@ module _ (claims· : Claims) where
   s17 = λ bs. Call.callB ps·1 r·1 (claims· .2) (claims· .3) T18 (
     record { pos = 1; ty = Syntax.tyRef (Syntax.named 0) Syntax.imm (Syntax.tyInt Syntax.w8); ref = λ x. x },
     (
-      record {
-        pos = 2;
-        st =
-            List.[];
-        d = 0;
-        at = λ x. x;
-      },
+      record { pos = 2; st = List.[]; d = 0; at = λ x. x },
       (
         record { pos = 3; st = List.[]; d = 0; at = λ x. x },
         (
           record { pos = 9; ty = Syntax.tyRef Syntax.erased Syntax.mut (Syntax.tyInt Syntax.w16); ref = λ x. x },
           (
             record { pos = 11; ty = Syntax.tyRef Syntax.erased Syntax.mut (Syntax.tyInt Syntax.w16); ref = λ x. x },
-            (
-              record {
-                pos = 13;
-                ty = Syntax.tyRef Syntax.erased Syntax.mut Element.behind;
-                ref = λ x.
-                    x;
-              },
-              tt,
-            ),
+            (record { pos = 13; ty = Syntax.tyRef Syntax.erased Syntax.mut Element.behind; ref = λ x. x }, tt),
           ),
         ),
       ),
     ),
-  ) 0 (List._∷_ 0 (List._∷_ 2 (List._∷_ 3 (List._∷_ 4 List.[])))) (Syntax.tyEnum (List._∷_ 98 (List._∷_ 108 (List._∷_ 111 (List._∷_ 99 (List._∷_ 107 (List._∷_ 58 (List._∷_ 58
-      (List._∷_ 68 (List._∷_ 101 (List._∷_ 99 (List._∷_ 111 (List._∷_ 100 (List._∷_ 101 (List._∷_ 100 List.[])))))))))))))) (Syntax.ttcons Syntax.tnil (Syntax.ttcons (Syntax.tcons (Syntax.tyEnum (List._∷_
-      115 (List._∷_ 116 (List._∷_ 114 (List._∷_ 101 (List._∷_ 97 (List._∷_ 109 (List._∷_ 58 (List._∷_ 58 (List._∷_ 82 (List._∷_ 101 (List._∷_ 102 (List._∷_ 117 (List._∷_ 115 (List._∷_ 97 (List._∷_ 108
-      List.[]))))))))))))))) (Syntax.ttcons Syntax.tnil (Syntax.ttcons Syntax.tnil (Syntax.ttcons Syntax.tnil (Syntax.ttcons (Syntax.tcons (Syntax.tyInt Syntax.w64) Syntax.tnil) (Syntax.ttcons Syntax.tnil
-      (Syntax.ttcons Syntax.tnil (Syntax.ttcons Syntax.tnil (Syntax.ttcons Syntax.tnil (Syntax.ttcons Syntax.tnil (Syntax.ttcons Syntax.tnil (Syntax.ttcons (Syntax.tcons (Syntax.tyInt Syntax.w64)
-      Syntax.tnil) (Syntax.ttcons (Syntax.tcons (Syntax.tyInt Syntax.w64) Syntax.tnil) (Syntax.ttcons Syntax.tnil (Syntax.ttcons (Syntax.tcons (Syntax.tyInt Syntax.w64) (Syntax.tcons (Syntax.tyInt
-      Syntax.w64) Syntax.tnil)) (Syntax.ttcons (Syntax.tcons (Syntax.tyInt Syntax.w64) Syntax.tnil) Syntax.ttnil)))))))))))))))) Syntax.tnil) Syntax.ttnil)))
+  ) 0 (List._∷_ 0 (List._∷_ 2 (List._∷_ 3 (List._∷_ 4 List.[])))) (Syntax.tyEnum (List._∷_ 98
+      (List._∷_ 108 (List._∷_ 111 (List._∷_ 99 (List._∷_ 107 (List._∷_ 58 (List._∷_ 58 (List._∷_ 68 (List._∷_ 101 (List._∷_ 99 (List._∷_ 111 (List._∷_ 100 (List._∷_ 101 (List._∷_ 100 List.[]))))))))))))))
+      (Syntax.ttcons Syntax.tnil (Syntax.ttcons (Syntax.tcons (Syntax.tyEnum (List._∷_ 115 (List._∷_ 116 (List._∷_ 114 (List._∷_ 101 (List._∷_ 97 (List._∷_ 109 (List._∷_ 58 (List._∷_ 58 (List._∷_ 82
+      (List._∷_ 101 (List._∷_ 102 (List._∷_ 117 (List._∷_ 115 (List._∷_ 97 (List._∷_ 108 List.[]))))))))))))))) (Syntax.ttcons Syntax.tnil (Syntax.ttcons Syntax.tnil (Syntax.ttcons Syntax.tnil
+      (Syntax.ttcons (Syntax.tcons (Syntax.tyInt Syntax.w64) Syntax.tnil) (Syntax.ttcons Syntax.tnil (Syntax.ttcons Syntax.tnil (Syntax.ttcons Syntax.tnil (Syntax.ttcons Syntax.tnil (Syntax.ttcons
+      Syntax.tnil (Syntax.ttcons Syntax.tnil (Syntax.ttcons (Syntax.tcons (Syntax.tyInt Syntax.w64) Syntax.tnil) (Syntax.ttcons (Syntax.tcons (Syntax.tyInt Syntax.w64) Syntax.tnil) (Syntax.ttcons
+      Syntax.tnil (Syntax.ttcons (Syntax.tcons (Syntax.tyInt Syntax.w64) (Syntax.tcons (Syntax.tyInt Syntax.w64) Syntax.tnil)) (Syntax.ttcons (Syntax.tcons (Syntax.tyInt Syntax.w64) Syntax.tnil)
+      Syntax.ttnil)))))))))))))))) Syntax.tnil) Syntax.ttnil)))
 
   abbrev s18 : (bs : List.List Nat.ℕ) → Typed.Mo T19 → Typed.Mo T20
-  s18 = λ bs. Scalar.n-room T19 2 (Syntax.tyStruct (List._∷_ 114 (List._∷_ 101 (List._∷_ 103 (List._∷_ 105 (List._∷_ 111 (List._∷_ 110 (List._∷_ 58 (List._∷_ 58 (List._∷_ 82 (List._∷_ 101 (List._∷_ 99
-      (List._∷_ 116 List.[])))))))))))) (Syntax.tcons (Syntax.tyInt Syntax.w64) (Syntax.tcons (Syntax.tyInt Syntax.w64) (Syntax.tcons (Syntax.tyInt Syntax.w64) (Syntax.tcons (Syntax.tyInt Syntax.w64)
-      Syntax.tnil)))))
+  s18 = λ bs. Scalar.n-room T19 2 y0
 
   abbrev s19 : (bs : List.List Nat.ℕ) → Typed.Mo T20 → Typed.Mo T21
   s19 = λ bs. Scalar.n-room T20 3 (Syntax.tyArray (Syntax.tyInt Syntax.w8) 36)
@@ -1304,350 +725,49 @@ module _ (claims· : Claims) where
 
       module _ (κs : Lifetimes.Lfts 2) (qs : Lifetimes.Shares 2) where
         abbrev g8 : List.List Row.Entry
-        g8 = List._∷_ (
-          0,
-          Rows'.any-gone (Syntax.tyEnum (List._∷_ 98 (List._∷_ 108 (List._∷_ 111 (List._∷_ 99 (List._∷_ 107 (List._∷_ 58 (List._∷_ 58 (List._∷_ 68 (List._∷_ 101 (List._∷_ 99 (List._∷_
-              111 (List._∷_ 100 (List._∷_ 101 (List._∷_ 100 List.[])))))))))))))) (Syntax.ttcons Syntax.tnil (Syntax.ttcons (Syntax.tcons (Syntax.tyEnum (List._∷_ 115 (List._∷_ 116 (List._∷_ 114 (List._∷_
-              101 (List._∷_ 97 (List._∷_ 109 (List._∷_ 58 (List._∷_ 58 (List._∷_ 82 (List._∷_ 101 (List._∷_ 102 (List._∷_ 117 (List._∷_ 115 (List._∷_ 97 (List._∷_ 108 List.[]))))))))))))))) (Syntax.ttcons
-              Syntax.tnil (Syntax.ttcons Syntax.tnil (Syntax.ttcons Syntax.tnil (Syntax.ttcons (Syntax.tcons (Syntax.tyInt Syntax.w64) Syntax.tnil) (Syntax.ttcons Syntax.tnil (Syntax.ttcons Syntax.tnil
-              (Syntax.ttcons Syntax.tnil (Syntax.ttcons Syntax.tnil (Syntax.ttcons Syntax.tnil (Syntax.ttcons Syntax.tnil (Syntax.ttcons (Syntax.tcons (Syntax.tyInt Syntax.w64) Syntax.tnil) (Syntax.ttcons
-              (Syntax.tcons (Syntax.tyInt Syntax.w64) Syntax.tnil) (Syntax.ttcons Syntax.tnil (Syntax.ttcons (Syntax.tcons (Syntax.tyInt Syntax.w64) (Syntax.tcons (Syntax.tyInt Syntax.w64) Syntax.tnil))
-              (Syntax.ttcons (Syntax.tcons (Syntax.tyInt Syntax.w64) Syntax.tnil) Syntax.ttnil)))))))))))))))) Syntax.tnil) Syntax.ttnil))),
-        ) (List._∷_ (
-          1,
-          Rows'.sslice (Referent.rtF (Referent.fInt
-              Syntax.w8)) (Syntax.tyRef (Syntax.named 0) Syntax.imm (Syntax.tyInt Syntax.w8)) 0,
-        ) (List._∷_ (2, Rows'.whole (Declared'.row Rect.the-type)) (List._∷_ (
-          3,
-          Rows.arrF (Referent.rtF
-              (Referent.fInt Syntax.w8)) 36 0,
-        ) (List._∷_ (
-          4,
-          Relend.mslice-owed (Referent.rtF (Referent.fInt Syntax.w16)) (Syntax.tyRef (Syntax.named 1) Syntax.mut (Syntax.tyInt Syntax.w16)) 1 2
-              (Row.lease (κs .1 .0) (qs .1 .0)),
-        ) (List._∷_ (5, Rows.arrF (Referent.rtF (Referent.fInt Syntax.w16)) 9252 0) (List._∷_ (6, Rows.arrF (Element.type) 336 0) (List._∷_ (
-          7,
-          Rows'.any-gone
-              (Element.held),
-        ) (List._∷_ (8, Relend.msptr (Referent.rtF (Referent.fInt Syntax.w16)) (Syntax.tyRef Syntax.erased Syntax.mut (Syntax.tyInt Syntax.w16)) 2) (List._∷_ (
-          9,
-          Rows'.any-gone
-              (Syntax.tyStruct (List._∷_ 38 (List._∷_ 91 (List._∷_ 93 List.[]))) (Syntax.tcons (Syntax.tyRef Syntax.erased Syntax.mut (Syntax.tyInt Syntax.w16)) (Syntax.tcons (Syntax.tyInt Syntax.w64)
-              Syntax.tnil))),
-        ) (List._∷_ (10, Rows'.any-gone (Syntax.tyRef Syntax.erased Syntax.mut (Syntax.tyArray (Syntax.tyInt Syntax.w16) 9252))) (List._∷_ (
-          11,
-          Rows'.any-gone (Syntax.tyStruct
-              (List._∷_ 38 (List._∷_ 91 (List._∷_ 93 List.[]))) (Syntax.tcons (Syntax.tyRef Syntax.erased Syntax.mut (Syntax.tyInt Syntax.w16)) (Syntax.tcons (Syntax.tyInt Syntax.w64) Syntax.tnil))),
-        )
-            (List._∷_ (12, Rows'.any-gone (Syntax.tyRef Syntax.erased Syntax.mut (Syntax.tyArray Element.behind 336))) (List._∷_ (
-              13,
-              Rows'.any-gone (Syntax.tyStruct (List._∷_ 38 (List._∷_ 91
-                  (List._∷_ 93 List.[]))) (Syntax.tcons (Syntax.tyRef Syntax.erased Syntax.mut Element.behind) (Syntax.tcons (Syntax.tyInt Syntax.w64) Syntax.tnil))),
-            ) List.[])))))))))))))
+        g8 = List._∷_ e0 (List._∷_ e2 (List._∷_ e14 (List._∷_ e16 (List._∷_
+            (4, Relend.mslice-owed (Referent.rtF (Referent.fInt Syntax.w16)) (Syntax.tyRef (Syntax.named 1) Syntax.mut (Syntax.tyInt Syntax.w16)) 1 2 (Row.lease (κs .1 .0) (qs .1 .0))) (List._∷_ e21
+            (List._∷_ e24 (List._∷_ e26 (List._∷_ e27 (List._∷_ e31 (List._∷_ e4 (List._∷_ e7 (List._∷_ e9 (List._∷_ e12 List.[])))))))))))))
 
         abbrev g9 : List.List Row.Entry
-        g9 = List._∷_ (
-          0,
-          Rows'.any-gone (Syntax.tyEnum (List._∷_ 98 (List._∷_ 108 (List._∷_ 111 (List._∷_ 99 (List._∷_ 107 (List._∷_ 58 (List._∷_ 58 (List._∷_ 68 (List._∷_ 101 (List._∷_ 99 (List._∷_
-              111 (List._∷_ 100 (List._∷_ 101 (List._∷_ 100 List.[])))))))))))))) (Syntax.ttcons Syntax.tnil (Syntax.ttcons (Syntax.tcons (Syntax.tyEnum (List._∷_ 115 (List._∷_ 116 (List._∷_ 114 (List._∷_
-              101 (List._∷_ 97 (List._∷_ 109 (List._∷_ 58 (List._∷_ 58 (List._∷_ 82 (List._∷_ 101 (List._∷_ 102 (List._∷_ 117 (List._∷_ 115 (List._∷_ 97 (List._∷_ 108 List.[]))))))))))))))) (Syntax.ttcons
-              Syntax.tnil (Syntax.ttcons Syntax.tnil (Syntax.ttcons Syntax.tnil (Syntax.ttcons (Syntax.tcons (Syntax.tyInt Syntax.w64) Syntax.tnil) (Syntax.ttcons Syntax.tnil (Syntax.ttcons Syntax.tnil
-              (Syntax.ttcons Syntax.tnil (Syntax.ttcons Syntax.tnil (Syntax.ttcons Syntax.tnil (Syntax.ttcons Syntax.tnil (Syntax.ttcons (Syntax.tcons (Syntax.tyInt Syntax.w64) Syntax.tnil) (Syntax.ttcons
-              (Syntax.tcons (Syntax.tyInt Syntax.w64) Syntax.tnil) (Syntax.ttcons Syntax.tnil (Syntax.ttcons (Syntax.tcons (Syntax.tyInt Syntax.w64) (Syntax.tcons (Syntax.tyInt Syntax.w64) Syntax.tnil))
-              (Syntax.ttcons (Syntax.tcons (Syntax.tyInt Syntax.w64) Syntax.tnil) Syntax.ttnil)))))))))))))))) Syntax.tnil) Syntax.ttnil))),
-        ) (List._∷_ (
-          1,
-          Rows'.sslice (Referent.rtF (Referent.fInt
-              Syntax.w8)) (Syntax.tyRef (Syntax.named 0) Syntax.imm (Syntax.tyInt Syntax.w8)) 0,
-        ) (List._∷_ (2, Rows'.whole (Declared'.row Rect.the-type)) (List._∷_ (
-          3,
-          Rows.arrF (Referent.rtF
-              (Referent.fInt Syntax.w8)) 36 0,
-        ) (List._∷_ (
-          4,
-          Relend.mslice-owed (Referent.rtF (Referent.fInt Syntax.w16)) (Syntax.tyRef (Syntax.named 1) Syntax.mut (Syntax.tyInt Syntax.w16)) 1 2
-              (Row.lease (κs .1 .0) (qs .1 .0)),
-        ) (List._∷_ (5, Rows.arrF (Referent.rtF (Referent.fInt Syntax.w16)) 9252 0) (List._∷_ (6, Rows.arrF (Element.type) 336 0) (List._∷_ (
-          7,
-          Rows'.any-gone
-              (Element.held),
-        ) (List._∷_ (8, Rows'.any-gone (Syntax.tyRef Syntax.erased Syntax.mut (Syntax.tyInt Syntax.w16))) (List._∷_ (
-          9,
-          Mut.mslice (Referent.rtF (Referent.fInt Syntax.w16))
-              (Syntax.tyRef Syntax.erased Syntax.mut (Syntax.tyInt Syntax.w16)) 2,
-        ) (List._∷_ (10, Rows'.any-gone (Syntax.tyRef Syntax.erased Syntax.mut (Syntax.tyArray (Syntax.tyInt Syntax.w16) 9252)))
-            (List._∷_ (
-              11,
-              Rows'.any-gone (Syntax.tyStruct (List._∷_ 38 (List._∷_ 91 (List._∷_ 93 List.[]))) (Syntax.tcons (Syntax.tyRef Syntax.erased Syntax.mut (Syntax.tyInt Syntax.w16)) (Syntax.tcons
-                  (Syntax.tyInt Syntax.w64) Syntax.tnil))),
-            ) (List._∷_ (12, Rows'.any-gone (Syntax.tyRef Syntax.erased Syntax.mut (Syntax.tyArray Element.behind 336))) (List._∷_ (
-              13,
-              Rows'.any-gone
-                  (Syntax.tyStruct (List._∷_ 38 (List._∷_ 91 (List._∷_ 93 List.[]))) (Syntax.tcons (Syntax.tyRef Syntax.erased Syntax.mut Element.behind) (Syntax.tcons (Syntax.tyInt Syntax.w64) Syntax.tnil))),
-            ) List.[])))))))))))))
+        g9 = List._∷_ e0 (List._∷_ e2 (List._∷_ e14 (List._∷_ e16 (List._∷_
+            (4, Relend.mslice-owed (Referent.rtF (Referent.fInt Syntax.w16)) (Syntax.tyRef (Syntax.named 1) Syntax.mut (Syntax.tyInt Syntax.w16)) 1 2 (Row.lease (κs .1 .0) (qs .1 .0))) (List._∷_ e21
+            (List._∷_ e24 (List._∷_ e26 (List._∷_ e28 (List._∷_ e30 (List._∷_ e4 (List._∷_ e7 (List._∷_ e9 (List._∷_ e12 List.[])))))))))))))
 
         abbrev g10 : List.List Row.Entry
-        g10 = List._∷_ (
-          0,
-          Rows'.any-gone (Syntax.tyEnum (List._∷_ 98 (List._∷_ 108 (List._∷_ 111 (List._∷_ 99 (List._∷_ 107 (List._∷_ 58 (List._∷_ 58 (List._∷_ 68 (List._∷_ 101 (List._∷_ 99
-              (List._∷_ 111 (List._∷_ 100 (List._∷_ 101 (List._∷_ 100 List.[])))))))))))))) (Syntax.ttcons Syntax.tnil (Syntax.ttcons (Syntax.tcons (Syntax.tyEnum (List._∷_ 115 (List._∷_ 116 (List._∷_ 114
-              (List._∷_ 101 (List._∷_ 97 (List._∷_ 109 (List._∷_ 58 (List._∷_ 58 (List._∷_ 82 (List._∷_ 101 (List._∷_ 102 (List._∷_ 117 (List._∷_ 115 (List._∷_ 97 (List._∷_ 108 List.[])))))))))))))))
-              (Syntax.ttcons Syntax.tnil (Syntax.ttcons Syntax.tnil (Syntax.ttcons Syntax.tnil (Syntax.ttcons (Syntax.tcons (Syntax.tyInt Syntax.w64) Syntax.tnil) (Syntax.ttcons Syntax.tnil (Syntax.ttcons
-              Syntax.tnil (Syntax.ttcons Syntax.tnil (Syntax.ttcons Syntax.tnil (Syntax.ttcons Syntax.tnil (Syntax.ttcons Syntax.tnil (Syntax.ttcons (Syntax.tcons (Syntax.tyInt Syntax.w64) Syntax.tnil)
-              (Syntax.ttcons (Syntax.tcons (Syntax.tyInt Syntax.w64) Syntax.tnil) (Syntax.ttcons Syntax.tnil (Syntax.ttcons (Syntax.tcons (Syntax.tyInt Syntax.w64) (Syntax.tcons (Syntax.tyInt Syntax.w64)
-              Syntax.tnil)) (Syntax.ttcons (Syntax.tcons (Syntax.tyInt Syntax.w64) Syntax.tnil) Syntax.ttnil)))))))))))))))) Syntax.tnil) Syntax.ttnil))),
-        ) (List._∷_ (
-          1,
-          Rows'.sslice (Referent.rtF
-              (Referent.fInt Syntax.w8)) (Syntax.tyRef (Syntax.named 0) Syntax.imm (Syntax.tyInt Syntax.w8)) 0,
-        ) (List._∷_ (2, Rows'.whole (Declared'.row Rect.the-type)) (List._∷_ (
-          3,
-          Rows.arrF
-              (Referent.rtF (Referent.fInt Syntax.w8)) 36 0,
-        ) (List._∷_ (
-          4,
-          Relend.mslice-owed (Referent.rtF (Referent.fInt Syntax.w16)) (Syntax.tyRef (Syntax.named 1) Syntax.mut (Syntax.tyInt
-              Syntax.w16)) 1 2 (Row.lease (κs .1 .0) (qs .1 .0)),
-        ) (List._∷_ (5, Rows.arr-owed (Referent.rtF (Referent.fInt Syntax.w16)) 9252 3) (List._∷_ (6, Rows.arrF (Element.type) 336 0) (List._∷_
-            (7, Rows'.any-gone (Element.held)) (List._∷_ (8, Rows'.any-gone (Syntax.tyRef Syntax.erased Syntax.mut (Syntax.tyInt Syntax.w16))) (List._∷_ (
-              9,
-              Mut.mslice (Referent.rtF (Referent.fInt
-                  Syntax.w16)) (Syntax.tyRef Syntax.erased Syntax.mut (Syntax.tyInt Syntax.w16)) 2,
-            ) (List._∷_ (
-              10,
-              Relend.msptr (Referent.rtF (Referent.fInt Syntax.w16)) (Syntax.tyRef Syntax.erased
-                  Syntax.mut (Syntax.tyArray (Syntax.tyInt Syntax.w16) 9252)) 3,
-            ) (List._∷_ (
-              11,
-              Rows'.any-gone (Syntax.tyStruct (List._∷_ 38 (List._∷_ 91 (List._∷_ 93 List.[]))) (Syntax.tcons (Syntax.tyRef
-                  Syntax.erased Syntax.mut (Syntax.tyInt Syntax.w16)) (Syntax.tcons (Syntax.tyInt Syntax.w64) Syntax.tnil))),
-            ) (List._∷_ (
-              12,
-              Rows'.any-gone (Syntax.tyRef Syntax.erased Syntax.mut
-                  (Syntax.tyArray Element.behind 336)),
-            ) (List._∷_ (
-              13,
-              Rows'.any-gone (Syntax.tyStruct (List._∷_ 38 (List._∷_ 91 (List._∷_ 93 List.[]))) (Syntax.tcons (Syntax.tyRef Syntax.erased Syntax.mut
-                  Element.behind) (Syntax.tcons (Syntax.tyInt Syntax.w64) Syntax.tnil))),
-            ) List.[])))))))))))))
+        g10 = List._∷_ e0 (List._∷_ e2 (List._∷_ e14 (List._∷_ e16 (List._∷_
+            (4, Relend.mslice-owed (Referent.rtF (Referent.fInt Syntax.w16)) (Syntax.tyRef (Syntax.named 1) Syntax.mut (Syntax.tyInt Syntax.w16)) 1 2 (Row.lease (κs .1 .0) (qs .1 .0))) (List._∷_ e20
+            (List._∷_ e24 (List._∷_ e26 (List._∷_ e28 (List._∷_ e30 (List._∷_ e3 (List._∷_ e7 (List._∷_ e9 (List._∷_ e12 List.[])))))))))))))
 
         abbrev g11 : List.List Row.Entry
-        g11 = List._∷_ (
-          0,
-          Rows'.any-gone (Syntax.tyEnum (List._∷_ 98 (List._∷_ 108 (List._∷_ 111 (List._∷_ 99 (List._∷_ 107 (List._∷_ 58 (List._∷_ 58 (List._∷_ 68 (List._∷_ 101 (List._∷_ 99
-              (List._∷_ 111 (List._∷_ 100 (List._∷_ 101 (List._∷_ 100 List.[])))))))))))))) (Syntax.ttcons Syntax.tnil (Syntax.ttcons (Syntax.tcons (Syntax.tyEnum (List._∷_ 115 (List._∷_ 116 (List._∷_ 114
-              (List._∷_ 101 (List._∷_ 97 (List._∷_ 109 (List._∷_ 58 (List._∷_ 58 (List._∷_ 82 (List._∷_ 101 (List._∷_ 102 (List._∷_ 117 (List._∷_ 115 (List._∷_ 97 (List._∷_ 108 List.[])))))))))))))))
-              (Syntax.ttcons Syntax.tnil (Syntax.ttcons Syntax.tnil (Syntax.ttcons Syntax.tnil (Syntax.ttcons (Syntax.tcons (Syntax.tyInt Syntax.w64) Syntax.tnil) (Syntax.ttcons Syntax.tnil (Syntax.ttcons
-              Syntax.tnil (Syntax.ttcons Syntax.tnil (Syntax.ttcons Syntax.tnil (Syntax.ttcons Syntax.tnil (Syntax.ttcons Syntax.tnil (Syntax.ttcons (Syntax.tcons (Syntax.tyInt Syntax.w64) Syntax.tnil)
-              (Syntax.ttcons (Syntax.tcons (Syntax.tyInt Syntax.w64) Syntax.tnil) (Syntax.ttcons Syntax.tnil (Syntax.ttcons (Syntax.tcons (Syntax.tyInt Syntax.w64) (Syntax.tcons (Syntax.tyInt Syntax.w64)
-              Syntax.tnil)) (Syntax.ttcons (Syntax.tcons (Syntax.tyInt Syntax.w64) Syntax.tnil) Syntax.ttnil)))))))))))))))) Syntax.tnil) Syntax.ttnil))),
-        ) (List._∷_ (
-          1,
-          Rows'.sslice (Referent.rtF
-              (Referent.fInt Syntax.w8)) (Syntax.tyRef (Syntax.named 0) Syntax.imm (Syntax.tyInt Syntax.w8)) 0,
-        ) (List._∷_ (2, Rows'.whole (Declared'.row Rect.the-type)) (List._∷_ (
-          3,
-          Rows.arrF
-              (Referent.rtF (Referent.fInt Syntax.w8)) 36 0,
-        ) (List._∷_ (
-          4,
-          Relend.mslice-owed (Referent.rtF (Referent.fInt Syntax.w16)) (Syntax.tyRef (Syntax.named 1) Syntax.mut (Syntax.tyInt
-              Syntax.w16)) 1 2 (Row.lease (κs .1 .0) (qs .1 .0)),
-        ) (List._∷_ (5, Rows.arr-owed (Referent.rtF (Referent.fInt Syntax.w16)) 9252 3) (List._∷_ (6, Rows.arrF (Element.type) 336 0) (List._∷_
-            (7, Rows'.any-gone (Element.held)) (List._∷_ (8, Rows'.any-gone (Syntax.tyRef Syntax.erased Syntax.mut (Syntax.tyInt Syntax.w16))) (List._∷_ (
-              9,
-              Mut.mslice (Referent.rtF (Referent.fInt
-                  Syntax.w16)) (Syntax.tyRef Syntax.erased Syntax.mut (Syntax.tyInt Syntax.w16)) 2,
-            ) (List._∷_ (
-              10,
-              Rows'.any-gone (Syntax.tyRef Syntax.erased Syntax.mut (Syntax.tyArray (Syntax.tyInt
-                  Syntax.w16) 9252)),
-            ) (List._∷_ (11, Mut.mslice (Referent.rtF (Referent.fInt Syntax.w16)) (Syntax.tyRef Syntax.erased Syntax.mut (Syntax.tyInt Syntax.w16)) 3) (List._∷_ (
-              12,
-              Rows'.any-gone
-                  (Syntax.tyRef Syntax.erased Syntax.mut (Syntax.tyArray Element.behind 336)),
-            ) (List._∷_ (
-              13,
-              Rows'.any-gone (Syntax.tyStruct (List._∷_ 38 (List._∷_ 91 (List._∷_ 93 List.[]))) (Syntax.tcons
-                  (Syntax.tyRef Syntax.erased Syntax.mut Element.behind) (Syntax.tcons (Syntax.tyInt Syntax.w64) Syntax.tnil))),
-            ) List.[])))))))))))))
+        g11 = List._∷_ e0 (List._∷_ e2 (List._∷_ e14 (List._∷_ e16 (List._∷_
+            (4, Relend.mslice-owed (Referent.rtF (Referent.fInt Syntax.w16)) (Syntax.tyRef (Syntax.named 1) Syntax.mut (Syntax.tyInt Syntax.w16)) 1 2 (Row.lease (κs .1 .0) (qs .1 .0))) (List._∷_ e20
+            (List._∷_ e24 (List._∷_ e26 (List._∷_ e28 (List._∷_ e30 (List._∷_ e4 (List._∷_ e6 (List._∷_ e9 (List._∷_ e12 List.[])))))))))))))
 
         abbrev g12 : List.List Row.Entry
-        g12 = List._∷_ (
-          0,
-          Rows'.any-gone (Syntax.tyEnum (List._∷_ 98 (List._∷_ 108 (List._∷_ 111 (List._∷_ 99 (List._∷_ 107 (List._∷_ 58 (List._∷_ 58 (List._∷_ 68 (List._∷_ 101 (List._∷_ 99
-              (List._∷_ 111 (List._∷_ 100 (List._∷_ 101 (List._∷_ 100 List.[])))))))))))))) (Syntax.ttcons Syntax.tnil (Syntax.ttcons (Syntax.tcons (Syntax.tyEnum (List._∷_ 115 (List._∷_ 116 (List._∷_ 114
-              (List._∷_ 101 (List._∷_ 97 (List._∷_ 109 (List._∷_ 58 (List._∷_ 58 (List._∷_ 82 (List._∷_ 101 (List._∷_ 102 (List._∷_ 117 (List._∷_ 115 (List._∷_ 97 (List._∷_ 108 List.[])))))))))))))))
-              (Syntax.ttcons Syntax.tnil (Syntax.ttcons Syntax.tnil (Syntax.ttcons Syntax.tnil (Syntax.ttcons (Syntax.tcons (Syntax.tyInt Syntax.w64) Syntax.tnil) (Syntax.ttcons Syntax.tnil (Syntax.ttcons
-              Syntax.tnil (Syntax.ttcons Syntax.tnil (Syntax.ttcons Syntax.tnil (Syntax.ttcons Syntax.tnil (Syntax.ttcons Syntax.tnil (Syntax.ttcons (Syntax.tcons (Syntax.tyInt Syntax.w64) Syntax.tnil)
-              (Syntax.ttcons (Syntax.tcons (Syntax.tyInt Syntax.w64) Syntax.tnil) (Syntax.ttcons Syntax.tnil (Syntax.ttcons (Syntax.tcons (Syntax.tyInt Syntax.w64) (Syntax.tcons (Syntax.tyInt Syntax.w64)
-              Syntax.tnil)) (Syntax.ttcons (Syntax.tcons (Syntax.tyInt Syntax.w64) Syntax.tnil) Syntax.ttnil)))))))))))))))) Syntax.tnil) Syntax.ttnil))),
-        ) (List._∷_ (
-          1,
-          Rows'.sslice (Referent.rtF
-              (Referent.fInt Syntax.w8)) (Syntax.tyRef (Syntax.named 0) Syntax.imm (Syntax.tyInt Syntax.w8)) 0,
-        ) (List._∷_ (2, Rows'.whole (Declared'.row Rect.the-type)) (List._∷_ (
-          3,
-          Rows.arrF
-              (Referent.rtF (Referent.fInt Syntax.w8)) 36 0,
-        ) (List._∷_ (
-          4,
-          Relend.mslice-owed (Referent.rtF (Referent.fInt Syntax.w16)) (Syntax.tyRef (Syntax.named 1) Syntax.mut (Syntax.tyInt
-              Syntax.w16)) 1 2 (Row.lease (κs .1 .0) (qs .1 .0)),
-        ) (List._∷_ (5, Rows.arr-owed (Referent.rtF (Referent.fInt Syntax.w16)) 9252 3) (List._∷_ (6, Rows.arr-owed (Element.type) 336 4)
-            (List._∷_ (7, Rows'.any-gone (Element.held)) (List._∷_ (8, Rows'.any-gone (Syntax.tyRef Syntax.erased Syntax.mut (Syntax.tyInt Syntax.w16))) (List._∷_ (
-              9,
-              Mut.mslice (Referent.rtF
-                  (Referent.fInt Syntax.w16)) (Syntax.tyRef Syntax.erased Syntax.mut (Syntax.tyInt Syntax.w16)) 2,
-            ) (List._∷_ (
-              10,
-              Rows'.any-gone (Syntax.tyRef Syntax.erased Syntax.mut (Syntax.tyArray
-                  (Syntax.tyInt Syntax.w16) 9252)),
-            ) (List._∷_ (11, Mut.mslice (Referent.rtF (Referent.fInt Syntax.w16)) (Syntax.tyRef Syntax.erased Syntax.mut (Syntax.tyInt Syntax.w16)) 3) (List._∷_ (
-              12,
-              Relend.msptr (Element.type) (Syntax.tyRef Syntax.erased Syntax.mut (Syntax.tyArray Element.behind 336)) 4,
-            ) (List._∷_ (
-              13,
-              Rows'.any-gone (Syntax.tyStruct (List._∷_ 38 (List._∷_ 91 (List._∷_
-                  93 List.[]))) (Syntax.tcons (Syntax.tyRef Syntax.erased Syntax.mut Element.behind) (Syntax.tcons (Syntax.tyInt Syntax.w64) Syntax.tnil))),
-            ) List.[])))))))))))))
+        g12 = List._∷_ e0 (List._∷_ e2 (List._∷_ e14 (List._∷_ e16 (List._∷_
+            (4, Relend.mslice-owed (Referent.rtF (Referent.fInt Syntax.w16)) (Syntax.tyRef (Syntax.named 1) Syntax.mut (Syntax.tyInt Syntax.w16)) 1 2 (Row.lease (κs .1 .0) (qs .1 .0))) (List._∷_ e20
+            (List._∷_ e23 (List._∷_ e26 (List._∷_ e28 (List._∷_ e30 (List._∷_ e4 (List._∷_ e6 (List._∷_ e8 (List._∷_ e12 List.[])))))))))))))
 
         abbrev g13 : List.List Row.Entry
-        g13 = List._∷_ (
-          0,
-          Rows'.any-gone (Syntax.tyEnum (List._∷_ 98 (List._∷_ 108 (List._∷_ 111 (List._∷_ 99 (List._∷_ 107 (List._∷_ 58 (List._∷_ 58 (List._∷_ 68 (List._∷_ 101 (List._∷_ 99
-              (List._∷_ 111 (List._∷_ 100 (List._∷_ 101 (List._∷_ 100 List.[])))))))))))))) (Syntax.ttcons Syntax.tnil (Syntax.ttcons (Syntax.tcons (Syntax.tyEnum (List._∷_ 115 (List._∷_ 116 (List._∷_ 114
-              (List._∷_ 101 (List._∷_ 97 (List._∷_ 109 (List._∷_ 58 (List._∷_ 58 (List._∷_ 82 (List._∷_ 101 (List._∷_ 102 (List._∷_ 117 (List._∷_ 115 (List._∷_ 97 (List._∷_ 108 List.[])))))))))))))))
-              (Syntax.ttcons Syntax.tnil (Syntax.ttcons Syntax.tnil (Syntax.ttcons Syntax.tnil (Syntax.ttcons (Syntax.tcons (Syntax.tyInt Syntax.w64) Syntax.tnil) (Syntax.ttcons Syntax.tnil (Syntax.ttcons
-              Syntax.tnil (Syntax.ttcons Syntax.tnil (Syntax.ttcons Syntax.tnil (Syntax.ttcons Syntax.tnil (Syntax.ttcons Syntax.tnil (Syntax.ttcons (Syntax.tcons (Syntax.tyInt Syntax.w64) Syntax.tnil)
-              (Syntax.ttcons (Syntax.tcons (Syntax.tyInt Syntax.w64) Syntax.tnil) (Syntax.ttcons Syntax.tnil (Syntax.ttcons (Syntax.tcons (Syntax.tyInt Syntax.w64) (Syntax.tcons (Syntax.tyInt Syntax.w64)
-              Syntax.tnil)) (Syntax.ttcons (Syntax.tcons (Syntax.tyInt Syntax.w64) Syntax.tnil) Syntax.ttnil)))))))))))))))) Syntax.tnil) Syntax.ttnil))),
-        ) (List._∷_ (
-          1,
-          Rows'.sslice (Referent.rtF
-              (Referent.fInt Syntax.w8)) (Syntax.tyRef (Syntax.named 0) Syntax.imm (Syntax.tyInt Syntax.w8)) 0,
-        ) (List._∷_ (2, Rows'.whole (Declared'.row Rect.the-type)) (List._∷_ (
-          3,
-          Rows.arrF
-              (Referent.rtF (Referent.fInt Syntax.w8)) 36 0,
-        ) (List._∷_ (
-          4,
-          Relend.mslice-owed (Referent.rtF (Referent.fInt Syntax.w16)) (Syntax.tyRef (Syntax.named 1) Syntax.mut (Syntax.tyInt
-              Syntax.w16)) 1 2 (Row.lease (κs .1 .0) (qs .1 .0)),
-        ) (List._∷_ (5, Rows.arr-owed (Referent.rtF (Referent.fInt Syntax.w16)) 9252 3) (List._∷_ (6, Rows.arr-owed (Element.type) 336 4)
-            (List._∷_ (7, Rows'.any-gone (Element.held)) (List._∷_ (8, Rows'.any-gone (Syntax.tyRef Syntax.erased Syntax.mut (Syntax.tyInt Syntax.w16))) (List._∷_ (
-              9,
-              Mut.mslice (Referent.rtF
-                  (Referent.fInt Syntax.w16)) (Syntax.tyRef Syntax.erased Syntax.mut (Syntax.tyInt Syntax.w16)) 2,
-            ) (List._∷_ (
-              10,
-              Rows'.any-gone (Syntax.tyRef Syntax.erased Syntax.mut (Syntax.tyArray
-                  (Syntax.tyInt Syntax.w16) 9252)),
-            ) (List._∷_ (11, Mut.mslice (Referent.rtF (Referent.fInt Syntax.w16)) (Syntax.tyRef Syntax.erased Syntax.mut (Syntax.tyInt Syntax.w16)) 3) (List._∷_ (
-              12,
-              Rows'.any-gone (Syntax.tyRef Syntax.erased Syntax.mut (Syntax.tyArray Element.behind 336)),
-            ) (List._∷_ (
-              13,
-              Mut.mslice (Element.type) (Syntax.tyRef Syntax.erased Syntax.mut Element.behind)
-                  4,
-            ) List.[])))))))))))))
+        g13 = List._∷_ e0 (List._∷_ e2 (List._∷_ e14 (List._∷_ e16 (List._∷_
+            (4, Relend.mslice-owed (Referent.rtF (Referent.fInt Syntax.w16)) (Syntax.tyRef (Syntax.named 1) Syntax.mut (Syntax.tyInt Syntax.w16)) 1 2 (Row.lease (κs .1 .0) (qs .1 .0))) (List._∷_ e20
+            (List._∷_ e23 (List._∷_ e26 (List._∷_ e28 (List._∷_ e30 (List._∷_ e4 (List._∷_ e6 (List._∷_ e9 (List._∷_ e11 List.[])))))))))))))
 
         abbrev g14 : List.List Row.Entry
-        g14 = List._∷_ (0, Rows'.whole (Declared.row Decoded.the-type)) (List._∷_ (
-          1,
-          Rows'.sslice (Referent.rtF (Referent.fInt Syntax.w8)) (Syntax.tyRef (Syntax.named 0) Syntax.imm (Syntax.tyInt
-              Syntax.w8)) 0,
-        ) (List._∷_ (2, Rows'.whole (Declared'.row Rect.the-type)) (List._∷_ (3, Rows.arrF (Referent.rtF (Referent.fInt Syntax.w8)) 36 0) (List._∷_ (
-          4,
-          Relend.mslice-owed
-              (Referent.rtF (Referent.fInt Syntax.w16)) (Syntax.tyRef (Syntax.named 1) Syntax.mut (Syntax.tyInt Syntax.w16)) 1 2 (Row.lease (κs .1 .0) (qs .1 .0)),
-        ) (List._∷_ (
-          5,
-          Rows.arr-owed
-              (Referent.rtF (Referent.fInt Syntax.w16)) 9252 3,
-        ) (List._∷_ (6, Rows.arr-owed (Element.type) 336 4) (List._∷_ (7, Rows'.any-gone (Element.held)) (List._∷_ (
-          8,
-          Rows'.any-gone (Syntax.tyRef
-              Syntax.erased Syntax.mut (Syntax.tyInt Syntax.w16)),
-        ) (List._∷_ (9, Mut.msleft (Referent.rtF (Referent.fInt Syntax.w16)) (Syntax.tyRef Syntax.erased Syntax.mut (Syntax.tyInt Syntax.w16)))
-            (List._∷_ (10, Rows'.any-gone (Syntax.tyRef Syntax.erased Syntax.mut (Syntax.tyArray (Syntax.tyInt Syntax.w16) 9252))) (List._∷_ (
-              11,
-              Mut.msleft (Referent.rtF (Referent.fInt Syntax.w16))
-                  (Syntax.tyRef Syntax.erased Syntax.mut (Syntax.tyInt Syntax.w16)),
-            ) (List._∷_ (12, Rows'.any-gone (Syntax.tyRef Syntax.erased Syntax.mut (Syntax.tyArray Element.behind 336))) (List._∷_ (
-              13,
-              Mut.msleft (Element.type) (Syntax.tyRef Syntax.erased Syntax.mut Element.behind),
-            ) List.[])))))))))))))
+        g14 = List._∷_ e1 (List._∷_ e2 (List._∷_ e14 (List._∷_ e16 (List._∷_
+            (4, Relend.mslice-owed (Referent.rtF (Referent.fInt Syntax.w16)) (Syntax.tyRef (Syntax.named 1) Syntax.mut (Syntax.tyInt Syntax.w16)) 1 2 (Row.lease (κs .1 .0) (qs .1 .0))) (List._∷_ e20
+            (List._∷_ e23 (List._∷_ e26 (List._∷_ e28 (List._∷_ e29 (List._∷_ e4 (List._∷_ e5 (List._∷_ e9 (List._∷_ e10 List.[])))))))))))))
 
         abbrev g15 : List.List Row.Entry
-        g15 = List._∷_ (0, Rows'.whole (Declared.row Decoded.the-type)) (List._∷_ (
-          1,
-          Rows'.sslice (Referent.rtF (Referent.fInt Syntax.w8)) (Syntax.tyRef (Syntax.named 0) Syntax.imm (Syntax.tyInt
-              Syntax.w8)) 0,
-        ) (List._∷_ (
-          2,
-          Rows'.any-gone (Syntax.tyStruct (List._∷_ 114 (List._∷_ 101 (List._∷_ 103 (List._∷_ 105 (List._∷_ 111 (List._∷_ 110 (List._∷_ 58 (List._∷_ 58 (List._∷_ 82
-              (List._∷_ 101 (List._∷_ 99 (List._∷_ 116 List.[])))))))))))) (Syntax.tcons (Syntax.tyInt Syntax.w64) (Syntax.tcons (Syntax.tyInt Syntax.w64) (Syntax.tcons (Syntax.tyInt Syntax.w64)
-              (Syntax.tcons (Syntax.tyInt Syntax.w64) Syntax.tnil))))),
-        ) (List._∷_ (3, Rows.arrF (Referent.rtF (Referent.fInt Syntax.w8)) 36 0) (List._∷_ (
-          4,
-          Relend.mslice-owed (Referent.rtF
-              (Referent.fInt Syntax.w16)) (Syntax.tyRef (Syntax.named 1) Syntax.mut (Syntax.tyInt Syntax.w16)) 1 2 (Row.lease (κs .1 .0) (qs .1 .0)),
-        ) (List._∷_ (
-          5,
-          Rows.arr-owed (Referent.rtF
-              (Referent.fInt Syntax.w16)) 9252 3,
-        ) (List._∷_ (6, Rows.arr-owed (Element.type) 336 4) (List._∷_ (7, Rows'.any-gone (Element.held)) (List._∷_ (
-          8,
-          Rows'.any-gone (Syntax.tyRef Syntax.erased
-              Syntax.mut (Syntax.tyInt Syntax.w16)),
-        ) (List._∷_ (9, Mut.msleft (Referent.rtF (Referent.fInt Syntax.w16)) (Syntax.tyRef Syntax.erased Syntax.mut (Syntax.tyInt Syntax.w16))) (List._∷_ (
-          10,
-          Rows'.any-gone (Syntax.tyRef Syntax.erased Syntax.mut (Syntax.tyArray (Syntax.tyInt Syntax.w16) 9252)),
-        ) (List._∷_ (
-          11,
-          Mut.msleft (Referent.rtF (Referent.fInt Syntax.w16)) (Syntax.tyRef
-              Syntax.erased Syntax.mut (Syntax.tyInt Syntax.w16)),
-        ) (List._∷_ (12, Rows'.any-gone (Syntax.tyRef Syntax.erased Syntax.mut (Syntax.tyArray Element.behind 336))) (List._∷_ (
-          13,
-          Mut.msleft
-              (Element.type) (Syntax.tyRef Syntax.erased Syntax.mut Element.behind),
-        ) List.[])))))))))))))
+        g15 = List._∷_ e1 (List._∷_ e2 (List._∷_ e13 (List._∷_ e16 (List._∷_
+            (4, Relend.mslice-owed (Referent.rtF (Referent.fInt Syntax.w16)) (Syntax.tyRef (Syntax.named 1) Syntax.mut (Syntax.tyInt Syntax.w16)) 1 2 (Row.lease (κs .1 .0) (qs .1 .0))) (List._∷_ e20
+            (List._∷_ e23 (List._∷_ e26 (List._∷_ e28 (List._∷_ e29 (List._∷_ e4 (List._∷_ e5 (List._∷_ e9 (List._∷_ e10 List.[])))))))))))))
 
         abbrev g16 : List.List Row.Entry
-        g16 = List._∷_ (0, Rows'.whole (Declared.row Decoded.the-type)) (List._∷_ (
-          1,
-          Rows'.sslice (Referent.rtF (Referent.fInt Syntax.w8)) (Syntax.tyRef (Syntax.named 0) Syntax.imm (Syntax.tyInt
-              Syntax.w8)) 0,
-        ) (List._∷_ (
-          2,
-          Rows'.any-gone (Syntax.tyStruct (List._∷_ 114 (List._∷_ 101 (List._∷_ 103 (List._∷_ 105 (List._∷_ 111 (List._∷_ 110 (List._∷_ 58 (List._∷_ 58 (List._∷_ 82
-              (List._∷_ 101 (List._∷_ 99 (List._∷_ 116 List.[])))))))))))) (Syntax.tcons (Syntax.tyInt Syntax.w64) (Syntax.tcons (Syntax.tyInt Syntax.w64) (Syntax.tcons (Syntax.tyInt Syntax.w64)
-              (Syntax.tcons (Syntax.tyInt Syntax.w64) Syntax.tnil))))),
-        ) (List._∷_ (3, Rows'.any-gone (Syntax.tyArray (Syntax.tyInt Syntax.w8) 36)) (List._∷_ (
-          4,
-          Relend.mslice-owed (Referent.rtF
-              (Referent.fInt Syntax.w16)) (Syntax.tyRef (Syntax.named 1) Syntax.mut (Syntax.tyInt Syntax.w16)) 1 2 (Row.lease (κs .1 .0) (qs .1 .0)),
-        ) (List._∷_ (
-          5,
-          Rows.arr-owed (Referent.rtF
-              (Referent.fInt Syntax.w16)) 9252 3,
-        ) (List._∷_ (6, Rows.arr-owed (Element.type) 336 4) (List._∷_ (7, Rows'.any-gone (Element.held)) (List._∷_ (
-          8,
-          Rows'.any-gone (Syntax.tyRef Syntax.erased
-              Syntax.mut (Syntax.tyInt Syntax.w16)),
-        ) (List._∷_ (9, Mut.msleft (Referent.rtF (Referent.fInt Syntax.w16)) (Syntax.tyRef Syntax.erased Syntax.mut (Syntax.tyInt Syntax.w16))) (List._∷_ (
-          10,
-          Rows'.any-gone (Syntax.tyRef Syntax.erased Syntax.mut (Syntax.tyArray (Syntax.tyInt Syntax.w16) 9252)),
-        ) (List._∷_ (
-          11,
-          Mut.msleft (Referent.rtF (Referent.fInt Syntax.w16)) (Syntax.tyRef
-              Syntax.erased Syntax.mut (Syntax.tyInt Syntax.w16)),
-        ) (List._∷_ (12, Rows'.any-gone (Syntax.tyRef Syntax.erased Syntax.mut (Syntax.tyArray Element.behind 336))) (List._∷_ (
-          13,
-          Mut.msleft
-              (Element.type) (Syntax.tyRef Syntax.erased Syntax.mut Element.behind),
-        ) List.[])))))))))))))
+        g16 = List._∷_ e1 (List._∷_ e2 (List._∷_ e13 (List._∷_ e15 (List._∷_
+            (4, Relend.mslice-owed (Referent.rtF (Referent.fInt Syntax.w16)) (Syntax.tyRef (Syntax.named 1) Syntax.mut (Syntax.tyInt Syntax.w16)) 1 2 (Row.lease (κs .1 .0) (qs .1 .0))) (List._∷_ e20
+            (List._∷_ e23 (List._∷_ e26 (List._∷_ e28 (List._∷_ e29 (List._∷_ e4 (List._∷_ e5 (List._∷_ e9 (List._∷_ e10 List.[])))))))))))))
 
         abbrev G0 : Row.Cx
         G0 = record { locals = t0; slots = List._∷_ (Row.lease (κs .0) (qs .0)) (List._∷_ (Row.lease (κs .1 .0) (qs .1 .0)) (List._∷_ Row.off (List._∷_ Row.off (List._∷_ Row.off List.[])))) }
@@ -1814,12 +934,8 @@ module _ (claims· : Claims) where
               (Referent.rtF (Referent.fInt Syntax.w8)) 36 0 36 Path'.refl)) d12
 
           d14 : Typed.Typed 𝓤 H A 𝓣 E G19 b10 Δ0 (at14 bs)
-          d14 = Typed.g-pre 𝓤 H A W 𝓣 E G19 G20 b10 Δ0 (Typed.pass T19 T20 (s18 bs)) (at13 bs) (Scalar.g-room 𝓤 H A W E G19 2 (Syntax.tyStruct (List._∷_ 114 (List._∷_ 101 (List._∷_ 103 (List._∷_ 105
-              (List._∷_ 111 (List._∷_ 110 (List._∷_ 58 (List._∷_ 58 (List._∷_ 82 (List._∷_ 101 (List._∷_ 99 (List._∷_ 116 List.[])))))))))))) (Syntax.tcons (Syntax.tyInt Syntax.w64) (Syntax.tcons
-              (Syntax.tyInt Syntax.w64) (Syntax.tcons (Syntax.tyInt Syntax.w64) (Syntax.tcons (Syntax.tyInt Syntax.w64) Syntax.tnil))))) (Local.room-whole 𝓤 H A W (Declared'.row Rect.the-type)
-              (Syntax.tyStruct (List._∷_ 114 (List._∷_ 101 (List._∷_ 103 (List._∷_ 105 (List._∷_ 111 (List._∷_ 110 (List._∷_ 58 (List._∷_ 58 (List._∷_ 82 (List._∷_ 101 (List._∷_ 99 (List._∷_ 116
-              List.[])))))))))))) (Syntax.tcons (Syntax.tyInt Syntax.w64) (Syntax.tcons (Syntax.tyInt Syntax.w64) (Syntax.tcons (Syntax.tyInt Syntax.w64) (Syntax.tcons (Syntax.tyInt Syntax.w64)
-              Syntax.tnil))))) Path'.refl)) d13
+          d14 = Typed.g-pre 𝓤 H A W 𝓣 E G19 G20 b10 Δ0 (Typed.pass T19 T20 (s18 bs)) (at13 bs) (Scalar.g-room 𝓤 H A W E G19 2 y0 (Local.room-whole 𝓤 H A W (Declared'.row Rect.the-type) y0 Path'.refl))
+              d13
 
           d15 : Typed.Typed 𝓤 H A 𝓣 E G18 b11 Δ0 (at15 bs)
           d15 = Typed.s-seq 𝓤 H A W 𝓣 E G18 G19 b9 b10 Δ0 (Typed.both (s17 bs)) (at14 bs) (Plain.t-call-plain 𝓤 H A W 𝓣 4 ps·1 r·1 (claims· .2) (claims· .3) "block::decoding::decode_region" (known .1)
@@ -1832,42 +948,35 @@ module _ (claims· : Claims) where
                     (
                       record { pos = 9; ty = Syntax.tyRef Syntax.erased Syntax.mut (Syntax.tyInt Syntax.w16); ref = λ x. x },
                       (
-                        record {
-                          pos = 11;
-                          ty =
-                              Syntax.tyRef Syntax.erased Syntax.mut (Syntax.tyInt Syntax.w16);
-                          ref = λ x. x;
-                        },
+                        record { pos = 11; ty = Syntax.tyRef Syntax.erased Syntax.mut (Syntax.tyInt Syntax.w16); ref = λ x. x },
                         (record { pos = 13; ty = Syntax.tyRef Syntax.erased Syntax.mut Element.behind; ref = λ x. x }, tt),
                       ),
                     ),
                   ),
                 ),
-              ) 0 (List._∷_ 0 (List._∷_ 2 (List._∷_ 3 (List._∷_ 4 List.[])))) (Call.sub-id 𝓤 H A W (G18 .slots)) (
-                ShrSlice.spares-sslice 𝓤 H A W (Referent.rtF (Referent.fInt Syntax.w8))
-                    (Syntax.tyRef (Syntax.named 0) Syntax.imm (Syntax.tyInt Syntax.w8)) 0,
-                Shared.reads-sslice 𝓤 H A W (Referent.rtF (Referent.fInt Syntax.w8)) (Syntax.tyRef (Syntax.named 0) Syntax.imm
-                    (Syntax.tyInt Syntax.w8)) 0,
+              ) 0 (List._∷_ 0 (List._∷_ 2 (List._∷_ 3 (List._∷_ 4 List.[])))) (Call.sub-id 𝓤 H A W
+              (G18 .slots)) (
+                ShrSlice.spares-sslice 𝓤 H A W (Referent.rtF (Referent.fInt Syntax.w8)) (Syntax.tyRef (Syntax.named 0) Syntax.imm (Syntax.tyInt Syntax.w8)) 0,
+                Shared.reads-sslice 𝓤 H A W (Referent.rtF
+                    (Referent.fInt Syntax.w8)) (Syntax.tyRef (Syntax.named 0) Syntax.imm (Syntax.tyInt Syntax.w8)) 0,
                 Path'.refl,
                 (
                   (
-                    Yields.yields-copy 𝓤 H A W (λ ρ. Unit) (Declared'.row Rect.the-type) Path'.refl (Copies.cStruct Rect.the-type Laws'.the-laws Laws'.the-copy .copy
-                        𝓤 H A W) (Rows'.whole (Declared'.row Rect.the-type)) (λ x. x) (λ x. x) (λ ρ told. Local.mem-whole 𝓤 H A W (Declared'.row Rect.the-type) ρ) λ ρ told. Local.whole-mem 𝓤 H A W (Declared'.row
-                        Rect.the-type) ρ,
+                    Yields.yields-copy 𝓤 H A W (λ ρ. Unit) (Declared'.row Rect.the-type) Path'.refl (Copies.cStruct Rect.the-type Laws'.the-laws Laws'.the-copy .copy 𝓤 H A W) (Rows'.whole (Declared'.row
+                        Rect.the-type)) (λ x. x) (λ x. x) (λ ρ told. Local.mem-whole 𝓤 H A W (Declared'.row Rect.the-type) ρ) λ ρ told. Local.whole-mem 𝓤 H A W (Declared'.row Rect.the-type) ρ,
                     Path'.refl,
                   ),
                   (
                     (Array.arr-yields 𝓤 H A W (Array.eInt Syntax.w8) (Array.eInt-laws Syntax.w8) 36, Path'.refl),
                     (
-                      Reads.as-is 𝓤 H A (Mut.mslice (Referent.rtF
-                          (Referent.fInt Syntax.w16)) (Syntax.tyRef Syntax.erased Syntax.mut (Syntax.tyInt Syntax.w16)) 2),
-                      Mut.reads-mslice 𝓤 H A W (Referent.rtF (Referent.fInt Syntax.w16)) (Syntax.tyRef
-                          Syntax.erased Syntax.mut (Syntax.tyInt Syntax.w16)) 2,
+                      Reads.as-is 𝓤 H A (Mut.mslice (Referent.rtF (Referent.fInt Syntax.w16)) (Syntax.tyRef Syntax.erased Syntax.mut (Syntax.tyInt Syntax.w16)) 2),
+                      Mut.reads-mslice 𝓤 H A W (Referent.rtF
+                          (Referent.fInt Syntax.w16)) (Syntax.tyRef Syntax.erased Syntax.mut (Syntax.tyInt Syntax.w16)) 2,
                       Path'.refl,
                       (
-                        Reads.as-is 𝓤 H A (Mut.mslice (Referent.rtF (Referent.fInt Syntax.w16)) (Syntax.tyRef Syntax.erased Syntax.mut
-                            (Syntax.tyInt Syntax.w16)) 3),
-                        Mut.reads-mslice 𝓤 H A W (Referent.rtF (Referent.fInt Syntax.w16)) (Syntax.tyRef Syntax.erased Syntax.mut (Syntax.tyInt Syntax.w16)) 3,
+                        Reads.as-is 𝓤 H A (Mut.mslice (Referent.rtF (Referent.fInt Syntax.w16)) (Syntax.tyRef Syntax.erased Syntax.mut (Syntax.tyInt Syntax.w16)) 3),
+                        Mut.reads-mslice 𝓤 H A W (Referent.rtF
+                            (Referent.fInt Syntax.w16)) (Syntax.tyRef Syntax.erased Syntax.mut (Syntax.tyInt Syntax.w16)) 3,
                         Path'.refl,
                         (
                           Reads.as-is 𝓤 H A (Mut.mslice (Element.type) (Syntax.tyRef Syntax.erased Syntax.mut Element.behind) 4),
@@ -1880,25 +989,19 @@ module _ (claims· : Claims) where
                     ),
                   ),
                 ),
-              ) (Reads.room-gone 𝓤 H A (Syntax.tyEnum (List._∷_ 98 (List._∷_ 108 (List._∷_ 111 (List._∷_ 99 (List._∷_ 107 (List._∷_ 58 (List._∷_ 58
-              (List._∷_ 68 (List._∷_ 101 (List._∷_ 99 (List._∷_ 111 (List._∷_ 100 (List._∷_ 101 (List._∷_ 100 List.[])))))))))))))) (Syntax.ttcons Syntax.tnil (Syntax.ttcons (Syntax.tcons (Syntax.tyEnum
-              (List._∷_ 115 (List._∷_ 116 (List._∷_ 114 (List._∷_ 101 (List._∷_ 97 (List._∷_ 109 (List._∷_ 58 (List._∷_ 58 (List._∷_ 82 (List._∷_ 101 (List._∷_ 102 (List._∷_ 117 (List._∷_ 115 (List._∷_ 97
-              (List._∷_ 108 List.[]))))))))))))))) (Syntax.ttcons Syntax.tnil (Syntax.ttcons Syntax.tnil (Syntax.ttcons Syntax.tnil (Syntax.ttcons (Syntax.tcons (Syntax.tyInt Syntax.w64) Syntax.tnil)
-              (Syntax.ttcons Syntax.tnil (Syntax.ttcons Syntax.tnil (Syntax.ttcons Syntax.tnil (Syntax.ttcons Syntax.tnil (Syntax.ttcons Syntax.tnil (Syntax.ttcons Syntax.tnil (Syntax.ttcons (Syntax.tcons
-              (Syntax.tyInt Syntax.w64) Syntax.tnil) (Syntax.ttcons (Syntax.tcons (Syntax.tyInt Syntax.w64) Syntax.tnil) (Syntax.ttcons Syntax.tnil (Syntax.ttcons (Syntax.tcons (Syntax.tyInt Syntax.w64)
-              (Syntax.tcons (Syntax.tyInt Syntax.w64) Syntax.tnil)) (Syntax.ttcons (Syntax.tcons (Syntax.tyInt Syntax.w64) Syntax.tnil) Syntax.ttnil)))))))))))))))) Syntax.tnil) Syntax.ttnil)))) (
-                tt,
-                (
-                  tt,
-                  (tt, (tt, tt)),
-                ),
-              ) Path'.refl) d14
+              ) (Reads.room-gone 𝓤 H A (Syntax.tyEnum (List._∷_ 98 (List._∷_ 108 (List._∷_ 111 (List._∷_ 99 (List._∷_ 107 (List._∷_ 58 (List._∷_ 58 (List._∷_ 68
+              (List._∷_ 101 (List._∷_ 99 (List._∷_ 111 (List._∷_ 100 (List._∷_ 101 (List._∷_ 100 List.[])))))))))))))) (Syntax.ttcons Syntax.tnil (Syntax.ttcons (Syntax.tcons (Syntax.tyEnum (List._∷_ 115
+              (List._∷_ 116 (List._∷_ 114 (List._∷_ 101 (List._∷_ 97 (List._∷_ 109 (List._∷_ 58 (List._∷_ 58 (List._∷_ 82 (List._∷_ 101 (List._∷_ 102 (List._∷_ 117 (List._∷_ 115 (List._∷_ 97 (List._∷_ 108
+              List.[]))))))))))))))) (Syntax.ttcons Syntax.tnil (Syntax.ttcons Syntax.tnil (Syntax.ttcons Syntax.tnil (Syntax.ttcons (Syntax.tcons (Syntax.tyInt Syntax.w64) Syntax.tnil) (Syntax.ttcons
+              Syntax.tnil (Syntax.ttcons Syntax.tnil (Syntax.ttcons Syntax.tnil (Syntax.ttcons Syntax.tnil (Syntax.ttcons Syntax.tnil (Syntax.ttcons Syntax.tnil (Syntax.ttcons (Syntax.tcons (Syntax.tyInt
+              Syntax.w64) Syntax.tnil) (Syntax.ttcons (Syntax.tcons (Syntax.tyInt Syntax.w64) Syntax.tnil) (Syntax.ttcons Syntax.tnil (Syntax.ttcons (Syntax.tcons (Syntax.tyInt Syntax.w64) (Syntax.tcons
+              (Syntax.tyInt Syntax.w64) Syntax.tnil)) (Syntax.ttcons (Syntax.tcons (Syntax.tyInt Syntax.w64) Syntax.tnil) Syntax.ttnil)))))))))))))))) Syntax.tnil) Syntax.ttnil))))
+              (tt, (tt, (tt, (tt, tt)))) Path'.refl) d14
 
           d16 : Typed.Typed 𝓤 H A 𝓣 E G17 b12 Δ0 (at16 bs)
           d16 = Typed.s-seq 𝓤 H A W 𝓣 E G17 G18 b8 b11 Δ0 (Typed.ask (s16 bs)) (at15 bs) (Relend.t-sl-aggregate 𝓤 H A W E (Element.type) 𝓣 (Relend.asMut (Element.type)) G17 12 13 4 (Syntax.tyRef
               Syntax.erased Syntax.mut (Syntax.tyArray Element.behind 336)) (Syntax.tyRef Syntax.erased Syntax.mut Element.behind) (λ x. x) (Scalar.oInt Syntax.w64 336) (Reads.as-is 𝓤 H A (Relend.msptr
-              (Element.type) (Syntax.tyRef Syntax.erased Syntax.mut (Syntax.tyArray Element.behind 336)) 4)) (Reads.room-gone 𝓤 H A (Syntax.tyStruct (List._∷_ 38 (List._∷_ 91 (List._∷_ 93 List.[])))
-              (Syntax.tcons (Syntax.tyRef Syntax.erased Syntax.mut Element.behind) (Syntax.tcons (Syntax.tyInt Syntax.w64) Syntax.tnil)))) tt Path'.refl Path'.refl λ b o k. tt) d15
+              (Element.type) (Syntax.tyRef Syntax.erased Syntax.mut (Syntax.tyArray Element.behind 336)) 4)) (Reads.room-gone 𝓤 H A y2) tt Path'.refl Path'.refl λ b o k. tt) d15
 
           d17 : Typed.Typed 𝓤 H A 𝓣 E G16 b13 Δ0 (at17 bs)
           d17 = Typed.s-seq 𝓤 H A W 𝓣 E G16 G17 b7 b12 Δ0 (Typed.give (s15 bs)) (at16 bs) (Borrow.t-arr-borrow 𝓤 H A W E 𝓣 (Element.type) G16 6 12 336 4 (Syntax.tyRef Syntax.erased Syntax.mut
@@ -1906,56 +1009,14 @@ module _ (claims· : Claims) where
               Element.behind 336))) Path'.refl (λ b o. tt) (Dec'.lit< tt, Dec'.lit< tt)) d16
 
           d18 : Typed.Typed 𝓤 H A 𝓣 E G15 b13 Δ0 (at18 bs)
-          d18 = Typed.g-pre 𝓤 H A W 𝓣 E G15 G16 b13 Δ0 (λ Ψ. Ψ) (at17 bs) (Lifetime.g-begin 𝓤 H A W E G15 4 (
-            tt,
-            (
-              tt,
-              (
-                tt,
-                (
-                  tt,
-                  (
-                    (tt, tt),
-                    (
-                      tt,
-                      (
-                        tt,
-                        (
-                          tt,
-                          (
-                            tt,
-                            (
-                              tt,
-                              (
-                                tt,
-                                (
-                                  tt,
-                                  (
-                                    tt,
-                                    (
-                                      tt,
-                                      tt,
-                                    ),
-                                  ),
-                                ),
-                              ),
-                            ),
-                          ),
-                        ),
-                      ),
-                    ),
-                  ),
-                ),
-              ),
-            ),
-          )) d17
+          d18 = Typed.g-pre 𝓤 H A W 𝓣 E G15 G16 b13 Δ0 (λ Ψ. Ψ) (at17 bs) (Lifetime.g-begin 𝓤 H A W E G15 4
+              (tt, (tt, (tt, (tt, ((tt, tt), (tt, (tt, (tt, (tt, (tt, (tt, (tt, (tt, (tt, tt))))))))))))))) d17
 
           d19 : Typed.Typed 𝓤 H A 𝓣 E G14 b14 Δ0 (at19 bs)
           d19 = Typed.s-seq 𝓤 H A W 𝓣 E G14 G15 b6 b13 Δ0 (Typed.ask (s13 bs)) (at18 bs) (Relend.t-sl-aggregate 𝓤 H A W E (Referent.rtF (Referent.fInt Syntax.w16)) 𝓣 (Relend.asMut (Referent.rtF
               (Referent.fInt Syntax.w16))) G14 10 11 3 (Syntax.tyRef Syntax.erased Syntax.mut (Syntax.tyArray (Syntax.tyInt Syntax.w16) 9252)) (Syntax.tyRef Syntax.erased Syntax.mut (Syntax.tyInt
               Syntax.w16)) (λ x. x) (Scalar.oBig Syntax.w64 9252) (Reads.as-is 𝓤 H A (Relend.msptr (Referent.rtF (Referent.fInt Syntax.w16)) (Syntax.tyRef Syntax.erased Syntax.mut (Syntax.tyArray
-              (Syntax.tyInt Syntax.w16) 9252)) 3)) (Reads.room-gone 𝓤 H A (Syntax.tyStruct (List._∷_ 38 (List._∷_ 91 (List._∷_ 93 List.[]))) (Syntax.tcons (Syntax.tyRef Syntax.erased Syntax.mut
-              (Syntax.tyInt Syntax.w16)) (Syntax.tcons (Syntax.tyInt Syntax.w64) Syntax.tnil)))) record { lower = record { fits = Dec'.lit< tt } } Path'.refl Path'.refl λ b o k. tt) d18
+              (Syntax.tyInt Syntax.w16) 9252)) 3)) (Reads.room-gone 𝓤 H A y1) record { lower = record { fits = Dec'.lit< tt } } Path'.refl Path'.refl λ b o k. tt) d18
 
           d20 : Typed.Typed 𝓤 H A 𝓣 E G13 b15 Δ0 (at20 bs)
           d20 = Typed.s-seq 𝓤 H A W 𝓣 E G13 G14 b5 b14 Δ0 (Typed.give (s12 bs)) (at19 bs) (Borrow.t-arr-borrow 𝓤 H A W E 𝓣 (Referent.rtF (Referent.fInt Syntax.w16)) G13 5 10 9252 3 (Syntax.tyRef
@@ -1963,58 +1024,16 @@ module _ (claims· : Claims) where
               (Syntax.tyRef Syntax.erased Syntax.mut (Syntax.tyArray (Syntax.tyInt Syntax.w16) 9252))) Path'.refl (λ b o. tt) (Dec'.lit< tt, Dec'.lit< tt)) d19
 
           d21 : Typed.Typed 𝓤 H A 𝓣 E G12 b15 Δ0 (at21 bs)
-          d21 = Typed.g-pre 𝓤 H A W 𝓣 E G12 G13 b15 Δ0 (λ Ψ. Ψ) (at20 bs) (Lifetime.g-begin 𝓤 H A W E G12 3 (
-            tt,
-            (
-              tt,
-              (
-                tt,
-                (
-                  tt,
-                  (
-                    (tt, tt),
-                    (
-                      tt,
-                      (
-                        tt,
-                        (
-                          tt,
-                          (
-                            tt,
-                            (
-                              tt,
-                              (
-                                tt,
-                                (
-                                  tt,
-                                  (
-                                    tt,
-                                    (
-                                      tt,
-                                      tt,
-                                    ),
-                                  ),
-                                ),
-                              ),
-                            ),
-                          ),
-                        ),
-                      ),
-                    ),
-                  ),
-                ),
-              ),
-            ),
-          )) d20
+          d21 = Typed.g-pre 𝓤 H A W 𝓣 E G12 G13 b15 Δ0 (λ Ψ. Ψ) (at20 bs) (Lifetime.g-begin 𝓤 H A W E G12 3
+              (tt, (tt, (tt, (tt, ((tt, tt), (tt, (tt, (tt, (tt, (tt, (tt, (tt, (tt, (tt, tt))))))))))))))) d20
 
           d22 : Typed.Typed 𝓤 H A 𝓣 E G11 b16 Δ0 (at22 bs)
           d22 = Typed.s-seq 𝓤 H A W 𝓣 E G11 G12 b4 b15 Δ0 (Typed.ask (s10 bs)) (at21 bs) (Relend.t-sl-aggregate 𝓤 H A W E (Referent.rtF (Referent.fInt Syntax.w16)) 𝓣 (Relend.asMut (Referent.rtF
               (Referent.fInt Syntax.w16))) G11 8 9 2 (Syntax.tyRef Syntax.erased Syntax.mut (Syntax.tyInt Syntax.w16)) (Syntax.tyRef Syntax.erased Syntax.mut (Syntax.tyInt Syntax.w16)) (λ x. x)
               (Scalar.oFld 4 (List._∷_ (Syntax.field 1) List.[]) (Syntax.tyInt Syntax.w64) 8 λ v. Shared.lenV (v .0)) (Reads.as-is 𝓤 H A (Relend.msptr (Referent.rtF (Referent.fInt Syntax.w16))
-              (Syntax.tyRef Syntax.erased Syntax.mut (Syntax.tyInt Syntax.w16)) 2)) (Reads.room-gone 𝓤 H A (Syntax.tyStruct (List._∷_ 38 (List._∷_ 91 (List._∷_ 93 List.[]))) (Syntax.tcons (Syntax.tyRef
-              Syntax.erased Syntax.mut (Syntax.tyInt Syntax.w16)) (Syntax.tcons (Syntax.tyInt Syntax.w64) Syntax.tnil)))) (
-                Relend.reads-owed-len 𝓤 H A W (Referent.rtF (Referent.fInt Syntax.w16))
-                    (Syntax.tyRef (Syntax.named 1) Syntax.mut (Syntax.tyInt Syntax.w16)) 1 2 (Row.lease (κs .1 .0) (qs .1 .0)) 8 Path'.refl,
+              (Syntax.tyRef Syntax.erased Syntax.mut (Syntax.tyInt Syntax.w16)) 2)) (Reads.room-gone 𝓤 H A y1) (
+                Relend.reads-owed-len 𝓤 H A W (Referent.rtF (Referent.fInt Syntax.w16)) (Syntax.tyRef (Syntax.named 1) Syntax.mut (Syntax.tyInt Syntax.w16)) 1 2 (Row.lease (κs .1 .0) (qs .1 .0)) 8
+                    Path'.refl,
                 Path'.refl,
               ) Path'.refl Path'.refl λ b o k. tt) d21
 
@@ -2025,10 +1044,7 @@ module _ (claims· : Claims) where
               (Syntax.tyInt Syntax.w16))) Path'.refl tt Path'.refl Path'.refl Path'.refl λ b o. tt) d22
 
           d24 : Typed.Typed 𝓤 H A 𝓣 E G9 b17 Δ0 (at24 bs)
-          d24 = Typed.g-pre 𝓤 H A W 𝓣 E G9 G10 b17 Δ0 (λ Ψ. Ψ) (at23 bs) (Lifetime.g-begin 𝓤 H A W E G9 2 (
-            tt,
-            (tt, (tt, (tt, (tt, (tt, (tt, (tt, (tt, (tt, (tt, (tt, (tt, (tt, tt))))))))))))),
-          )) d23
+          d24 = Typed.g-pre 𝓤 H A W 𝓣 E G9 G10 b17 Δ0 (λ Ψ. Ψ) (at23 bs) (Lifetime.g-begin 𝓤 H A W E G9 2 (tt, (tt, (tt, (tt, (tt, (tt, (tt, (tt, (tt, (tt, (tt, (tt, (tt, (tt, tt))))))))))))))) d23
 
           d25 : Typed.Typed 𝓤 H A 𝓣 E G8 b17 Δ0 (at25 bs)
           d25 = Typed.g-pre 𝓤 H A W 𝓣 E G8 G9 b17 Δ0 (Typed.pass T8 T9 (s7 bs)) (at24 bs) (Scalar.g-room 𝓤 H A W E G8 7 (Element.held) (Element.room 𝓤 H A W)) d24
@@ -2039,10 +1055,8 @@ module _ (claims· : Claims) where
 
           d27 : Typed.Typed 𝓤 H A 𝓣 E G6 b18 Δ0 (at27 bs)
           d27 = Typed.s-seq 𝓤 H A W 𝓣 E G6 G7 b2 b17 Δ0 (Typed.pass T6 T7 (s5 bs)) (at26 bs) (Repeat.t-repeat-by 𝓤 H A W E 𝓣 (Element.type) (Element.lawful 𝓤 H A W) (Element.copies .copy 𝓤 H A W) 336
-              G6 6 (Scalar.oAt 7 (Element.held) λ x. Steps.only (Element.copies .vals x)) (λ m. m .1 .1 .1 .1 .1 .1 .1 .0) (λ ρ. Unit) (Reads.room-gone 𝓤 H A (Syntax.tyArray (Element.held) 336)) (
-                Element.reads 𝓤 H A W,
-                Path'.refl,
-              ) Path'.refl (Own.told-none 𝓤 H A (G6 .slots)) λ ρ m pf wa. Gives.elem-local 𝓤 H A W E ρ (Element.type) (λ x. Steps.only (Element.copies .vals x))
+              G6 6 (Scalar.oAt 7 (Element.held) λ x. Steps.only (Element.copies .vals x)) (λ m. m .1 .1 .1 .1 .1 .1 .1 .0) (λ ρ. Unit) (Reads.room-gone 𝓤 H A (Syntax.tyArray (Element.held) 336))
+              (Element.reads 𝓤 H A W, Path'.refl) Path'.refl (Own.told-none 𝓤 H A (G6 .slots)) λ ρ m pf wa. Gives.elem-local 𝓤 H A W E ρ (Element.type) (λ x. Steps.only (Element.copies .vals x))
               (Element.copies .tells) (Row.out 6 (G6 .locals)) m (λ ρ. Unit) pf 7 (Element.held) (λ x. x) (Yields.yields-copy 𝓤 H A W (λ ρ. Unit) (Element.type) Path'.refl (Element.copies .copy 𝓤 H A W)
               (Element.row) (λ x. x) (λ x. x) (λ ρ told. Element.in-mem 𝓤 H A W ρ) λ ρ told. Element.of-mem 𝓤 H A W ρ)) d26
 
@@ -2079,15 +1093,14 @@ module _ (claims· : Claims) where
             ty = Declared'.row Rect.the-type;
             one = Path'.refl;
             val = Laws'3.val Rect.the-type Laws'.the-laws;
-            tells = Laws'3.tells Rect.the-type
-                Laws'.the-laws;
-            still = Laws'3.still Rect.the-type Laws'.the-copy Exit.yes;
+            tells = Laws'3.tells Rect.the-type Laws'.the-laws;
+            still = Laws'3.still Rect.the-type
+                Laws'.the-copy Exit.yes;
             row = Rows'.whole (Declared'.row Rect.the-type);
             rd = λ x. x;
             mk = λ x. x;
           } λ M 𝓤 H A W. record {
-            copies =
-                Laws'3.copy Rect.the-type Laws'.the-copy 𝓤 H A W;
+            copies = Laws'3.copy Rect.the-type Laws'.the-copy 𝓤 H A W;
             lawful = Laws'3.lawful Rect.the-type Laws'.the-laws 𝓤 H A W;
             makes = Laws'3.makes Rect.the-type Laws'.the-plain 𝓤 H A;
             in-mem =
@@ -2107,8 +1120,8 @@ module _ (claims· : Claims) where
       W0 = λ κs args blocks. (
         λ u. ⊥,
         tt,
-        λ u. Enter.Fixs κs 1 ps xs (dens κs args) (u .1) × Post· κs (dens κs args) (Function.resV r κs (u .0)) (Clauses.atExit (Kinds.endedOf 2 ps r) κs (dens κs
-            args) (Enter.lastsP κs 1 ps xs (dens κs args) (u .1))),
+        λ u. Enter.Fixs κs 1 ps xs (dens κs args) (u .1) × Post· κs (dens κs args) (Function.resV r κs (u .0)) (Clauses.atExit (Kinds.endedOf 2 ps r) κs (dens κs args) (Enter.lastsP κs 1 ps
+            xs (dens κs args) (u .1))),
       )
 
       pub record Start : Type 0 where
@@ -2233,33 +1246,14 @@ module _ (claims· : Claims) where
         After-decode-region·own = Called.Called ps·1 r·1 (claims· .3) T18 (
           record { pos = 1; ty = Syntax.tyRef (Syntax.named 0) Syntax.imm (Syntax.tyInt Syntax.w8); ref = λ x. x },
           (
-            record {
-              pos =
-                  2;
-              st = List.[];
-              d = 0;
-              at = λ x. x;
-            },
+            record { pos = 2; st = List.[]; d = 0; at = λ x. x },
             (
               record { pos = 3; st = List.[]; d = 0; at = λ x. x },
               (
-                record {
-                  pos = 9;
-                  ty = Syntax.tyRef Syntax.erased Syntax.mut (Syntax.tyInt Syntax.w16);
-                  ref = λ
-                      x. x;
-                },
+                record { pos = 9; ty = Syntax.tyRef Syntax.erased Syntax.mut (Syntax.tyInt Syntax.w16); ref = λ x. x },
                 (
                   record { pos = 11; ty = Syntax.tyRef Syntax.erased Syntax.mut (Syntax.tyInt Syntax.w16); ref = λ x. x },
-                  (
-                    record {
-                      pos = 13;
-                      ty = Syntax.tyRef Syntax.erased Syntax.mut
-                          Element.behind;
-                      ref = λ x. x;
-                    },
-                    tt,
-                  ),
+                  (record { pos = 13; ty = Syntax.tyRef Syntax.erased Syntax.mut Element.behind; ref = λ x. x }, tt),
                 ),
               ),
             ),
@@ -2274,33 +1268,14 @@ module _ (claims· : Claims) where
       After-decode-region·gave = λ c. Called.given ps·1 r·1 (claims· .3) T18 (
         record { pos = 1; ty = Syntax.tyRef (Syntax.named 0) Syntax.imm (Syntax.tyInt Syntax.w8); ref = λ x. x },
         (
-          record {
-            pos
-                = 2;
-            st = List.[];
-            d = 0;
-            at = λ x. x;
-          },
+          record { pos = 2; st = List.[]; d = 0; at = λ x. x },
           (
             record { pos = 3; st = List.[]; d = 0; at = λ x. x },
             (
-              record {
-                pos = 9;
-                ty = Syntax.tyRef Syntax.erased Syntax.mut (Syntax.tyInt Syntax.w16);
-                ref = λ
-                    x. x;
-              },
+              record { pos = 9; ty = Syntax.tyRef Syntax.erased Syntax.mut (Syntax.tyInt Syntax.w16); ref = λ x. x },
               (
                 record { pos = 11; ty = Syntax.tyRef Syntax.erased Syntax.mut (Syntax.tyInt Syntax.w16); ref = λ x. x },
-                (
-                  record {
-                    pos = 13;
-                    ty = Syntax.tyRef Syntax.erased Syntax.mut
-                        Element.behind;
-                    ref = λ x. x;
-                  },
-                  tt,
-                ),
+                (record { pos = 13; ty = Syntax.tyRef Syntax.erased Syntax.mut Element.behind; ref = λ x. x }, tt),
               ),
             ),
           ),
@@ -2401,46 +1376,19 @@ module _ (claims· : Claims) where
                       tt,
                       (
                         MutSlice.fix-len (Row.get 4 (T33 .locals) (m23 record {
-                          before = record {
-                            before =
-                                record { before = record { before = c .before; decode-region = c .decode-region }; image = record { given = g } };
-                            slice-known2 = record { given = g' };
-                          };
+                          before = record { before = record { before = record { before = c .before; decode-region = c .decode-region }; image = record { given = g } }; slice-known2 = record { given = g' } };
                           lines2 = record { given = g'' };
-                        }
-                            g'3) .ptr) (Row.get 4 (T33 .locals) (m23 record {
+                        } g'3) .ptr) (Row.get 4 (T33 .locals) (m23 record {
+                          before = record { before = record { before = record { before = c .before; decode-region = c .decode-region }; image = record { given = g } }; slice-known2 = record { given = g' } };
+                          lines2 = record { given = g'' };
+                        } g'3) .name) (Row.get 4 (T33 .locals) (m23 record {
+                          before = record { before = record { before = record { before = c .before; decode-region = c .decode-region }; image = record { given = g } }; slice-known2 = record { given = g' } };
+                          lines2 = record { given = g'' };
+                        } g'3) .now) (dens (c .before .before .before .before .before .before .before .κs) (c .before .before .before .before .before .before .before .args) .1 .1 .1
+                            .0 .now) (same-length record {
                               before = record {
-                                before = record {
-                                  before = record { before = c .before; decode-region = c .decode-region };
-                                  image = record { given = g };
-                                };
-                                slice-known2 = record { given = g' };
-                              };
-                              lines2 = record { given = g'' };
-                            } g'3) .name) (Row.get 4 (T33 .locals) (m23 record {
-                              before = record {
-                                before = record {
-                                  before = record {
-                                    before =
-                                        c .before;
-                                    decode-region = c .decode-region;
-                                  };
-                                  image = record { given = g };
-                                };
-                                slice-known2 = record { given = g' };
-                              };
-                              lines2 = record { given = g'' };
-                            } g'3) .now) (dens (c .before .before
-                            .before .before .before .before .before .κs) (c .before .before .before .before .before .before .before .args) .1 .1 .1 .0 .now) (same-length record {
-                              before = record {
-                                before = record {
-                                  before = record { before = record { before = c .before; decode-region = c .decode-region }; image = record { given = g } };
-                                  slice-known2 = record { given = g' };
-                                };
-                                lines2 = record {
-                                  given =
-                                      g'';
-                                };
+                                before = record { before = record { before = record { before = c .before; decode-region = c .decode-region }; image = record { given = g } }; slice-known2 = record { given = g' } };
+                                lines2 = record { given = g'' };
                               };
                               rs2 = record { given = g'3 };
                             }),
@@ -2451,18 +1399,9 @@ module _ (claims· : Claims) where
                 ),
                 returns record {
                   before = record {
-                    before = record {
-                      before = record {
-                        before = record {
-                          before = c .before;
-                          decode-region = c
-                              .decode-region;
-                        };
-                        image = record { given = g };
-                      };
-                      slice-known2 = record { given = g' };
-                    };
-                    lines2 = record { given = g'' };
+                    before = record { before = record { before = record { before = c .before; decode-region = c .decode-region }; image = record { given = g } }; slice-known2 = record { given = g' } };
+                    lines2
+                        = record { given = g'' };
                   };
                   rs2 = record { given = g'3 };
                 },
@@ -2476,98 +1415,49 @@ module _ (claims· : Claims) where
         lay1 = λ c. λ g. (
           Path'.refl,
           λ g'. (
-            Relend.count-is T14 10 11 (λ x. x) (λ u. 9252) (m11 record {
-              before = record { before = c .before; cleared = c .cleared };
-              decode-region-arg = record {
-                given = g;
-              };
-            } g') (slice-aggregate-decode-region record {
-              before = record { before = record { before = c .before; cleared = c .cleared }; decode-region-arg = record { given = g } };
-              lines =
-                  record { given = g' };
-            }),
+            Relend.count-is T14 10 11 (λ x. x) (λ u. 9252) (m11 record { before = record { before = c .before; cleared = c .cleared }; decode-region-arg = record { given = g } } g')
+                (slice-aggregate-decode-region record
+                { before = record { before = record { before = c .before; cleared = c .cleared }; decode-region-arg = record { given = g } }; lines = record { given = g' } }),
             λ g''. (
-              Relend.count-is T17 12 13 (λ x. x) (λ u. 336) (m13 record {
-                before = record {
-                  before = record { before = c .before; cleared = c .cleared };
-                  decode-region-arg = record { given = g };
-                };
-                lines = record { given = g' };
-              } g'') (slice-aggregate-decode-region-2 record {
-                before = record {
-                  before = record {
-                    before = record {
-                      before = c
-                          .before;
-                      cleared = c .cleared;
+              Relend.count-is T17 12 13 (λ x. x) (λ u. 336) (m13 record
+                  { before = record { before = record { before = c .before; cleared = c .cleared }; decode-region-arg = record { given = g } }; lines = record { given = g' } } g'')
+                  (slice-aggregate-decode-region-2 record {
+                    before = record { before = record { before = record { before = c .before; cleared = c .cleared }; decode-region-arg = record { given = g } }; lines = record { given = g' } };
+                    rs = record {
+                      given = g'';
                     };
-                    decode-region-arg = record { given = g };
-                  };
-                  lines = record { given = g' };
-                };
-                rs = record { given = g'' };
-              }),
+                  }),
               (
                 decode-region-requires record {
-                  before =
-                      record { before = record { before = record { before = c .before; cleared = c .cleared }; decode-region-arg = record { given = g } }; lines = record { given = g' } };
+                  before = record { before = record { before = record { before = c .before; cleared = c .cleared }; decode-region-arg = record { given = g } }; lines = record { given = g' } };
                   rs = record {
-                    given =
-                        g'';
+                    given = g'';
                   };
                 },
                 λ g'3. lay2 record {
                   before = record {
-                    before = record {
-                      before = record { before = record { before = c .before; cleared = c .cleared }; decode-region-arg = record { given = g } };
-                      lines = record { given = g' };
+                    before = record { before = record { before = record { before = c .before; cleared = c .cleared }; decode-region-arg = record { given = g } }; lines = record { given = g' } };
+                    rs = record {
+                      given = g'';
                     };
-                    rs = record { given = g'' };
                   };
                   decode-region = Called.called ps·1 r·1 (claims· .3) T18 (
-                    record {
-                      pos = 1;
-                      ty = Syntax.tyRef (Syntax.named 0) Syntax.imm
-                          (Syntax.tyInt Syntax.w8);
-                      ref = λ x. x;
-                    },
+                    record { pos = 1; ty = Syntax.tyRef (Syntax.named 0) Syntax.imm (Syntax.tyInt Syntax.w8); ref = λ x. x },
                     (
                       record { pos = 2; st = List.[]; d = 0; at = λ x. x },
                       (
                         record { pos = 3; st = List.[]; d = 0; at = λ x. x },
                         (
-                          record {
-                            pos = 9;
-                            ty = Syntax.tyRef
-                                Syntax.erased Syntax.mut (Syntax.tyInt Syntax.w16);
-                            ref = λ x. x;
-                          },
+                          record { pos = 9; ty = Syntax.tyRef Syntax.erased Syntax.mut (Syntax.tyInt Syntax.w16); ref = λ x. x },
                           (
                             record { pos = 11; ty = Syntax.tyRef Syntax.erased Syntax.mut (Syntax.tyInt Syntax.w16); ref = λ x. x },
-                            (
-                              record {
-                                pos
-                                    = 13;
-                                ty = Syntax.tyRef Syntax.erased Syntax.mut Element.behind;
-                                ref = λ x. x;
-                              },
-                              tt,
-                            ),
+                            (record { pos = 13; ty = Syntax.tyRef Syntax.erased Syntax.mut Element.behind; ref = λ x. x }, tt),
                           ),
                         ),
                       ),
                     ),
-                  ) (m14 record {
-                    before = record {
-                      before = record {
-                        before = c .before;
-                        cleared = c
-                            .cleared;
-                      };
-                      decode-region-arg = record { given = g };
-                    };
-                    lines = record { given = g' };
-                  } g'') g'3;
+                  ) (m14 record
+                      { before = record { before = record { before = c .before; cleared = c .cleared }; decode-region-arg = record { given = g } }; lines = record { given = g' } } g'') g'3;
                 },
               ),
             ),

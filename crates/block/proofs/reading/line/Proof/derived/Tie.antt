@@ -14,12 +14,12 @@ use Rattle.block.proofs.records.load_set.Symbol as Symbol'
 use Rattle.block.proofs.records.store_set.Met as Met''
 use Rattle.block.proofs.records.derived.store_set.Reads as Reads'3
 use Rattle.block.proofs.records.store_set.Symbol as Symbol''
-use Rattle.block.proofs.width.Met as Met'3
-use Rattle.block.proofs.width.Reads as Reads'4
-use Rattle.block.proofs.width.Symbol as Symbol'3
-use Rattle.lines.proofs.set_guards.Met as Met'4
-use Rattle.lines.proofs.set_guards.Reads as Reads'5
-use Rattle.lines.proofs.set_guards.Symbol as Symbol'4
+use Rattle.lines.proofs.set_guards.Met as Met'3
+use Rattle.lines.proofs.set_guards.Reads as Reads'4
+use Rattle.lines.proofs.set_guards.Symbol as Symbol'3
+use Rattle.map.proofs.width.Met as Met'4
+use Rattle.map.proofs.width.Reads as Reads'5
+use Rattle.map.proofs.width.Symbol as Symbol'4
 use Rattle.pass.proofs.pass.Met as Met'5
 use Rattle.pass.proofs.pass.Reads as Reads'6
 use Rattle.pass.proofs.pass.Symbol as Symbol'5
@@ -38,12 +38,12 @@ MeasureT-loop = Lts.MeasureT-loop
 
 abbrev pub Start : (Inv : InvT-loop) → (μ : MeasureT-loop) → Type 0
 Start = λ Inv μ. Lts.Start (
-  Reads'4.Asked,
-  Reads'4.Learnt,
-  Reads'7.Asked,
-  Reads'7.Learnt,
   Reads'5.Asked,
   Reads'5.Learnt,
+  Reads'7.Asked,
+  Reads'7.Learnt,
+  Reads'4.Asked,
+  Reads'4.Learnt,
   Reads''.Asked,
   Reads''.Learnt,
   Reads'6.Asked,
@@ -56,12 +56,12 @@ Start = λ Inv μ. Lts.Start (
 
 abbrev pub After-shared-slice-known : (Inv : InvT-loop) → (μ : MeasureT-loop) → Type 0
 After-shared-slice-known = λ Inv μ. Lts.After-shared-slice-known (
-  Reads'4.Asked,
-  Reads'4.Learnt,
-  Reads'7.Asked,
-  Reads'7.Learnt,
   Reads'5.Asked,
   Reads'5.Learnt,
+  Reads'7.Asked,
+  Reads'7.Learnt,
+  Reads'4.Asked,
+  Reads'4.Learnt,
   Reads''.Asked,
   Reads''.Learnt,
   Reads'6.Asked,
@@ -74,12 +74,12 @@ After-shared-slice-known = λ Inv μ. Lts.After-shared-slice-known (
 
 abbrev pub After-slice-known : (Inv : InvT-loop) → (μ : MeasureT-loop) → Type 0
 After-slice-known = λ Inv μ. Lts.After-slice-known (
-  Reads'4.Asked,
-  Reads'4.Learnt,
-  Reads'7.Asked,
-  Reads'7.Learnt,
   Reads'5.Asked,
   Reads'5.Learnt,
+  Reads'7.Asked,
+  Reads'7.Learnt,
+  Reads'4.Asked,
+  Reads'4.Learnt,
   Reads''.Asked,
   Reads''.Learnt,
   Reads'6.Asked,
@@ -92,12 +92,12 @@ After-slice-known = λ Inv μ. Lts.After-slice-known (
 
 abbrev pub After-width : (Inv : InvT-loop) → (μ : MeasureT-loop) → Type 0
 After-width = λ Inv μ. Lts.After-width (
-  Reads'4.Asked,
-  Reads'4.Learnt,
-  Reads'7.Asked,
-  Reads'7.Learnt,
   Reads'5.Asked,
   Reads'5.Learnt,
+  Reads'7.Asked,
+  Reads'7.Learnt,
+  Reads'4.Asked,
+  Reads'4.Learnt,
   Reads''.Asked,
   Reads''.Learnt,
   Reads'6.Asked,
@@ -110,12 +110,12 @@ After-width = λ Inv μ. Lts.After-width (
 
 abbrev pub At-loop : (Inv : InvT-loop) → (μ : MeasureT-loop) → Type 0
 At-loop = λ Inv μ. Lts.At-loop (
-  Reads'4.Asked,
-  Reads'4.Learnt,
-  Reads'7.Asked,
-  Reads'7.Learnt,
   Reads'5.Asked,
   Reads'5.Learnt,
+  Reads'7.Asked,
+  Reads'7.Learnt,
+  Reads'4.Asked,
+  Reads'4.Learnt,
   Reads''.Asked,
   Reads''.Learnt,
   Reads'6.Asked,
@@ -128,12 +128,12 @@ At-loop = λ Inv μ. Lts.At-loop (
 
 abbrev pub In-loop : (Inv : InvT-loop) → (μ : MeasureT-loop) → Type 0
 In-loop = λ Inv μ. Lts.In-loop (
-  Reads'4.Asked,
-  Reads'4.Learnt,
-  Reads'7.Asked,
-  Reads'7.Learnt,
   Reads'5.Asked,
   Reads'5.Learnt,
+  Reads'7.Asked,
+  Reads'7.Learnt,
+  Reads'4.Asked,
+  Reads'4.Learnt,
   Reads''.Asked,
   Reads''.Learnt,
   Reads'6.Asked,
@@ -146,12 +146,12 @@ In-loop = λ Inv μ. Lts.In-loop (
 
 abbrev pub After-loop : (Inv : InvT-loop) → (μ : MeasureT-loop) → Type 0
 After-loop = λ Inv μ. Lts.After-loop (
-  Reads'4.Asked,
-  Reads'4.Learnt,
-  Reads'7.Asked,
-  Reads'7.Learnt,
   Reads'5.Asked,
   Reads'5.Learnt,
+  Reads'7.Asked,
+  Reads'7.Learnt,
+  Reads'4.Asked,
+  Reads'4.Learnt,
   Reads''.Asked,
   Reads''.Learnt,
   Reads'6.Asked,
@@ -164,12 +164,12 @@ After-loop = λ Inv μ. Lts.After-loop (
 
 abbrev pub After-plan-at : (Inv : InvT-loop) → (μ : MeasureT-loop) → Type 0
 After-plan-at = λ Inv μ. Lts.After-plan-at (
-  Reads'4.Asked,
-  Reads'4.Learnt,
-  Reads'7.Asked,
-  Reads'7.Learnt,
   Reads'5.Asked,
   Reads'5.Learnt,
+  Reads'7.Asked,
+  Reads'7.Learnt,
+  Reads'4.Asked,
+  Reads'4.Learnt,
   Reads''.Asked,
   Reads''.Learnt,
   Reads'6.Asked,
@@ -182,12 +182,12 @@ After-plan-at = λ Inv μ. Lts.After-plan-at (
 
 abbrev pub After-set-guards-arg : (Inv : InvT-loop) → (μ : MeasureT-loop) → Type 0
 After-set-guards-arg = λ Inv μ. Lts.After-set-guards-arg (
-  Reads'4.Asked,
-  Reads'4.Learnt,
-  Reads'7.Asked,
-  Reads'7.Learnt,
   Reads'5.Asked,
   Reads'5.Learnt,
+  Reads'7.Asked,
+  Reads'7.Learnt,
+  Reads'4.Asked,
+  Reads'4.Learnt,
   Reads''.Asked,
   Reads''.Learnt,
   Reads'6.Asked,
@@ -200,12 +200,12 @@ After-set-guards-arg = λ Inv μ. Lts.After-set-guards-arg (
 
 abbrev pub After-set-guards : (Inv : InvT-loop) → (μ : MeasureT-loop) → Type 0
 After-set-guards = λ Inv μ. Lts.After-set-guards (
-  Reads'4.Asked,
-  Reads'4.Learnt,
-  Reads'7.Asked,
-  Reads'7.Learnt,
   Reads'5.Asked,
   Reads'5.Learnt,
+  Reads'7.Asked,
+  Reads'7.Learnt,
+  Reads'4.Asked,
+  Reads'4.Learnt,
   Reads''.Asked,
   Reads''.Learnt,
   Reads'6.Asked,
@@ -218,12 +218,12 @@ After-set-guards = λ Inv μ. Lts.After-set-guards (
 
 abbrev pub After-lines : (Inv : InvT-loop) → (μ : MeasureT-loop) → Type 0
 After-lines = λ Inv μ. Lts.After-lines (
-  Reads'4.Asked,
-  Reads'4.Learnt,
-  Reads'7.Asked,
-  Reads'7.Learnt,
   Reads'5.Asked,
   Reads'5.Learnt,
+  Reads'7.Asked,
+  Reads'7.Learnt,
+  Reads'4.Asked,
+  Reads'4.Learnt,
   Reads''.Asked,
   Reads''.Learnt,
   Reads'6.Asked,
@@ -236,12 +236,12 @@ After-lines = λ Inv μ. Lts.After-lines (
 
 abbrev pub After-slice-known2 : (Inv : InvT-loop) → (μ : MeasureT-loop) → Type 0
 After-slice-known2 = λ Inv μ. Lts.After-slice-known2 (
-  Reads'4.Asked,
-  Reads'4.Learnt,
-  Reads'7.Asked,
-  Reads'7.Learnt,
   Reads'5.Asked,
   Reads'5.Learnt,
+  Reads'7.Asked,
+  Reads'7.Learnt,
+  Reads'4.Asked,
+  Reads'4.Learnt,
   Reads''.Asked,
   Reads''.Learnt,
   Reads'6.Asked,
@@ -254,12 +254,12 @@ After-slice-known2 = λ Inv μ. Lts.After-slice-known2 (
 
 abbrev pub After-set-guards-arg2 : (Inv : InvT-loop) → (μ : MeasureT-loop) → Type 0
 After-set-guards-arg2 = λ Inv μ. Lts.After-set-guards-arg2 (
-  Reads'4.Asked,
-  Reads'4.Learnt,
-  Reads'7.Asked,
-  Reads'7.Learnt,
   Reads'5.Asked,
   Reads'5.Learnt,
+  Reads'7.Asked,
+  Reads'7.Learnt,
+  Reads'4.Asked,
+  Reads'4.Learnt,
   Reads''.Asked,
   Reads''.Learnt,
   Reads'6.Asked,
@@ -272,12 +272,12 @@ After-set-guards-arg2 = λ Inv μ. Lts.After-set-guards-arg2 (
 
 abbrev pub After-set-guards2 : (Inv : InvT-loop) → (μ : MeasureT-loop) → Type 0
 After-set-guards2 = λ Inv μ. Lts.After-set-guards2 (
-  Reads'4.Asked,
-  Reads'4.Learnt,
-  Reads'7.Asked,
-  Reads'7.Learnt,
   Reads'5.Asked,
   Reads'5.Learnt,
+  Reads'7.Asked,
+  Reads'7.Learnt,
+  Reads'4.Asked,
+  Reads'4.Learnt,
   Reads''.Asked,
   Reads''.Learnt,
   Reads'6.Asked,
@@ -290,12 +290,12 @@ After-set-guards2 = λ Inv μ. Lts.After-set-guards2 (
 
 abbrev pub After-lines2 : (Inv : InvT-loop) → (μ : MeasureT-loop) → Type 0
 After-lines2 = λ Inv μ. Lts.After-lines2 (
-  Reads'4.Asked,
-  Reads'4.Learnt,
-  Reads'7.Asked,
-  Reads'7.Learnt,
   Reads'5.Asked,
   Reads'5.Learnt,
+  Reads'7.Asked,
+  Reads'7.Learnt,
+  Reads'4.Asked,
+  Reads'4.Learnt,
   Reads''.Asked,
   Reads''.Learnt,
   Reads'6.Asked,
@@ -308,12 +308,12 @@ After-lines2 = λ Inv μ. Lts.After-lines2 (
 
 abbrev pub After-slice-known3 : (Inv : InvT-loop) → (μ : MeasureT-loop) → Type 0
 After-slice-known3 = λ Inv μ. Lts.After-slice-known3 (
-  Reads'4.Asked,
-  Reads'4.Learnt,
-  Reads'7.Asked,
-  Reads'7.Learnt,
   Reads'5.Asked,
   Reads'5.Learnt,
+  Reads'7.Asked,
+  Reads'7.Learnt,
+  Reads'4.Asked,
+  Reads'4.Learnt,
   Reads''.Asked,
   Reads''.Learnt,
   Reads'6.Asked,
@@ -326,12 +326,12 @@ After-slice-known3 = λ Inv μ. Lts.After-slice-known3 (
 
 abbrev pub After-load-set-arg : (Inv : InvT-loop) → (μ : MeasureT-loop) → Type 0
 After-load-set-arg = λ Inv μ. Lts.After-load-set-arg (
-  Reads'4.Asked,
-  Reads'4.Learnt,
-  Reads'7.Asked,
-  Reads'7.Learnt,
   Reads'5.Asked,
   Reads'5.Learnt,
+  Reads'7.Asked,
+  Reads'7.Learnt,
+  Reads'4.Asked,
+  Reads'4.Learnt,
   Reads''.Asked,
   Reads''.Learnt,
   Reads'6.Asked,
@@ -344,12 +344,12 @@ After-load-set-arg = λ Inv μ. Lts.After-load-set-arg (
 
 abbrev pub After-load-set : (Inv : InvT-loop) → (μ : MeasureT-loop) → Type 0
 After-load-set = λ Inv μ. Lts.After-load-set (
-  Reads'4.Asked,
-  Reads'4.Learnt,
-  Reads'7.Asked,
-  Reads'7.Learnt,
   Reads'5.Asked,
   Reads'5.Learnt,
+  Reads'7.Asked,
+  Reads'7.Learnt,
+  Reads'4.Asked,
+  Reads'4.Learnt,
   Reads''.Asked,
   Reads''.Learnt,
   Reads'6.Asked,
@@ -362,12 +362,12 @@ After-load-set = λ Inv μ. Lts.After-load-set (
 
 abbrev pub After-rs : (Inv : InvT-loop) → (μ : MeasureT-loop) → Type 0
 After-rs = λ Inv μ. Lts.After-rs (
-  Reads'4.Asked,
-  Reads'4.Learnt,
-  Reads'7.Asked,
-  Reads'7.Learnt,
   Reads'5.Asked,
   Reads'5.Learnt,
+  Reads'7.Asked,
+  Reads'7.Learnt,
+  Reads'4.Asked,
+  Reads'4.Learnt,
   Reads''.Asked,
   Reads''.Learnt,
   Reads'6.Asked,
@@ -380,12 +380,12 @@ After-rs = λ Inv μ. Lts.After-rs (
 
 abbrev pub After-pass-arg : (Inv : InvT-loop) → (μ : MeasureT-loop) → Type 0
 After-pass-arg = λ Inv μ. Lts.After-pass-arg (
-  Reads'4.Asked,
-  Reads'4.Learnt,
-  Reads'7.Asked,
-  Reads'7.Learnt,
   Reads'5.Asked,
   Reads'5.Learnt,
+  Reads'7.Asked,
+  Reads'7.Learnt,
+  Reads'4.Asked,
+  Reads'4.Learnt,
   Reads''.Asked,
   Reads''.Learnt,
   Reads'6.Asked,
@@ -398,12 +398,12 @@ After-pass-arg = λ Inv μ. Lts.After-pass-arg (
 
 abbrev pub After-pass : (Inv : InvT-loop) → (μ : MeasureT-loop) → Type 0
 After-pass = λ Inv μ. Lts.After-pass (
-  Reads'4.Asked,
-  Reads'4.Learnt,
-  Reads'7.Asked,
-  Reads'7.Learnt,
   Reads'5.Asked,
   Reads'5.Learnt,
+  Reads'7.Asked,
+  Reads'7.Learnt,
+  Reads'4.Asked,
+  Reads'4.Learnt,
   Reads''.Asked,
   Reads''.Learnt,
   Reads'6.Asked,
@@ -416,12 +416,12 @@ After-pass = λ Inv μ. Lts.After-pass (
 
 abbrev pub After-lines3 : (Inv : InvT-loop) → (μ : MeasureT-loop) → Type 0
 After-lines3 = λ Inv μ. Lts.After-lines3 (
-  Reads'4.Asked,
-  Reads'4.Learnt,
-  Reads'7.Asked,
-  Reads'7.Learnt,
   Reads'5.Asked,
   Reads'5.Learnt,
+  Reads'7.Asked,
+  Reads'7.Learnt,
+  Reads'4.Asked,
+  Reads'4.Learnt,
   Reads''.Asked,
   Reads''.Learnt,
   Reads'6.Asked,
@@ -434,12 +434,12 @@ After-lines3 = λ Inv μ. Lts.After-lines3 (
 
 abbrev pub After-slice-known4 : (Inv : InvT-loop) → (μ : MeasureT-loop) → Type 0
 After-slice-known4 = λ Inv μ. Lts.After-slice-known4 (
-  Reads'4.Asked,
-  Reads'4.Learnt,
-  Reads'7.Asked,
-  Reads'7.Learnt,
   Reads'5.Asked,
   Reads'5.Learnt,
+  Reads'7.Asked,
+  Reads'7.Learnt,
+  Reads'4.Asked,
+  Reads'4.Learnt,
   Reads''.Asked,
   Reads''.Learnt,
   Reads'6.Asked,
@@ -452,12 +452,12 @@ After-slice-known4 = λ Inv μ. Lts.After-slice-known4 (
 
 abbrev pub Then1 : (Inv : InvT-loop) → (μ : MeasureT-loop) → Type 0
 Then1 = λ Inv μ. Lts.Then1 (
-  Reads'4.Asked,
-  Reads'4.Learnt,
-  Reads'7.Asked,
-  Reads'7.Learnt,
   Reads'5.Asked,
   Reads'5.Learnt,
+  Reads'7.Asked,
+  Reads'7.Learnt,
+  Reads'4.Asked,
+  Reads'4.Learnt,
   Reads''.Asked,
   Reads''.Learnt,
   Reads'6.Asked,
@@ -470,12 +470,12 @@ Then1 = λ Inv μ. Lts.Then1 (
 
 abbrev pub Else1 : (Inv : InvT-loop) → (μ : MeasureT-loop) → Type 0
 Else1 = λ Inv μ. Lts.Else1 (
-  Reads'4.Asked,
-  Reads'4.Learnt,
-  Reads'7.Asked,
-  Reads'7.Learnt,
   Reads'5.Asked,
   Reads'5.Learnt,
+  Reads'7.Asked,
+  Reads'7.Learnt,
+  Reads'4.Asked,
+  Reads'4.Learnt,
   Reads''.Asked,
   Reads''.Learnt,
   Reads'6.Asked,
@@ -488,12 +488,12 @@ Else1 = λ Inv μ. Lts.Else1 (
 
 abbrev pub After-new : (Inv : InvT-loop) → (μ : MeasureT-loop) → Type 0
 After-new = λ Inv μ. Lts.After-new (
-  Reads'4.Asked,
-  Reads'4.Learnt,
-  Reads'7.Asked,
-  Reads'7.Learnt,
   Reads'5.Asked,
   Reads'5.Learnt,
+  Reads'7.Asked,
+  Reads'7.Learnt,
+  Reads'4.Asked,
+  Reads'4.Learnt,
   Reads''.Asked,
   Reads''.Learnt,
   Reads'6.Asked,
@@ -506,12 +506,12 @@ After-new = λ Inv μ. Lts.After-new (
 
 abbrev pub After-store-set-arg : (Inv : InvT-loop) → (μ : MeasureT-loop) → Type 0
 After-store-set-arg = λ Inv μ. Lts.After-store-set-arg (
-  Reads'4.Asked,
-  Reads'4.Learnt,
-  Reads'7.Asked,
-  Reads'7.Learnt,
   Reads'5.Asked,
   Reads'5.Learnt,
+  Reads'7.Asked,
+  Reads'7.Learnt,
+  Reads'4.Asked,
+  Reads'4.Learnt,
   Reads''.Asked,
   Reads''.Learnt,
   Reads'6.Asked,
@@ -524,12 +524,12 @@ After-store-set-arg = λ Inv μ. Lts.After-store-set-arg (
 
 abbrev pub After-store-set : (Inv : InvT-loop) → (μ : MeasureT-loop) → Type 0
 After-store-set = λ Inv μ. Lts.After-store-set (
-  Reads'4.Asked,
-  Reads'4.Learnt,
-  Reads'7.Asked,
-  Reads'7.Learnt,
   Reads'5.Asked,
   Reads'5.Learnt,
+  Reads'7.Asked,
+  Reads'7.Learnt,
+  Reads'4.Asked,
+  Reads'4.Learnt,
   Reads''.Asked,
   Reads''.Learnt,
   Reads'6.Asked,
@@ -542,12 +542,12 @@ After-store-set = λ Inv μ. Lts.After-store-set (
 
 abbrev pub After-rs2 : (Inv : InvT-loop) → (μ : MeasureT-loop) → Type 0
 After-rs2 = λ Inv μ. Lts.After-rs2 (
-  Reads'4.Asked,
-  Reads'4.Learnt,
-  Reads'7.Asked,
-  Reads'7.Learnt,
   Reads'5.Asked,
   Reads'5.Learnt,
+  Reads'7.Asked,
+  Reads'7.Learnt,
+  Reads'4.Asked,
+  Reads'4.Learnt,
   Reads''.Asked,
   Reads''.Learnt,
   Reads'6.Asked,
@@ -560,12 +560,12 @@ After-rs2 = λ Inv μ. Lts.After-rs2 (
 
 abbrev pub After-at : (Inv : InvT-loop) → (μ : MeasureT-loop) → Type 0
 After-at = λ Inv μ. Lts.After-at (
-  Reads'4.Asked,
-  Reads'4.Learnt,
-  Reads'7.Asked,
-  Reads'7.Learnt,
   Reads'5.Asked,
   Reads'5.Learnt,
+  Reads'7.Asked,
+  Reads'7.Learnt,
+  Reads'4.Asked,
+  Reads'4.Learnt,
   Reads''.Asked,
   Reads''.Learnt,
   Reads'6.Asked,
@@ -578,12 +578,12 @@ After-at = λ Inv μ. Lts.After-at (
 
 abbrev pub After-is-past : (Inv : InvT-loop) → (μ : MeasureT-loop) → Type 0
 After-is-past = λ Inv μ. Lts.After-is-past (
-  Reads'4.Asked,
-  Reads'4.Learnt,
-  Reads'7.Asked,
-  Reads'7.Learnt,
   Reads'5.Asked,
   Reads'5.Learnt,
+  Reads'7.Asked,
+  Reads'7.Learnt,
+  Reads'4.Asked,
+  Reads'4.Learnt,
   Reads''.Asked,
   Reads''.Learnt,
   Reads'6.Asked,
@@ -596,12 +596,12 @@ After-is-past = λ Inv μ. Lts.After-is-past (
 
 abbrev pub Then2 : (Inv : InvT-loop) → (μ : MeasureT-loop) → Type 0
 Then2 = λ Inv μ. Lts.Then2 (
-  Reads'4.Asked,
-  Reads'4.Learnt,
-  Reads'7.Asked,
-  Reads'7.Learnt,
   Reads'5.Asked,
   Reads'5.Learnt,
+  Reads'7.Asked,
+  Reads'7.Learnt,
+  Reads'4.Asked,
+  Reads'4.Learnt,
   Reads''.Asked,
   Reads''.Learnt,
   Reads'6.Asked,
@@ -614,12 +614,12 @@ Then2 = λ Inv μ. Lts.Then2 (
 
 abbrev pub Else2 : (Inv : InvT-loop) → (μ : MeasureT-loop) → Type 0
 Else2 = λ Inv μ. Lts.Else2 (
-  Reads'4.Asked,
-  Reads'4.Learnt,
-  Reads'7.Asked,
-  Reads'7.Learnt,
   Reads'5.Asked,
   Reads'5.Learnt,
+  Reads'7.Asked,
+  Reads'7.Learnt,
+  Reads'4.Asked,
+  Reads'4.Learnt,
   Reads''.Asked,
   Reads''.Learnt,
   Reads'6.Asked,
@@ -632,12 +632,12 @@ Else2 = λ Inv μ. Lts.Else2 (
 
 abbrev pub Need-width-requires : (Inv : InvT-loop) → (μ : MeasureT-loop) → Type 0
 Need-width-requires = λ Inv μ. Lts.Need-width-requires (
-  Reads'4.Asked,
-  Reads'4.Learnt,
-  Reads'7.Asked,
-  Reads'7.Learnt,
   Reads'5.Asked,
   Reads'5.Learnt,
+  Reads'7.Asked,
+  Reads'7.Learnt,
+  Reads'4.Asked,
+  Reads'4.Learnt,
   Reads''.Asked,
   Reads''.Learnt,
   Reads'6.Asked,
@@ -650,12 +650,12 @@ Need-width-requires = λ Inv μ. Lts.Need-width-requires (
 
 abbrev pub Need-loop-holds : (Inv : InvT-loop) → (μ : MeasureT-loop) → Type 0
 Need-loop-holds = λ Inv μ. Lts.Need-loop-holds (
-  Reads'4.Asked,
-  Reads'4.Learnt,
-  Reads'7.Asked,
-  Reads'7.Learnt,
   Reads'5.Asked,
   Reads'5.Learnt,
+  Reads'7.Asked,
+  Reads'7.Learnt,
+  Reads'4.Asked,
+  Reads'4.Learnt,
   Reads''.Asked,
   Reads''.Learnt,
   Reads'6.Asked,
@@ -668,12 +668,12 @@ Need-loop-holds = λ Inv μ. Lts.Need-loop-holds (
 
 abbrev pub Need-plan-at-requires : (Inv : InvT-loop) → (μ : MeasureT-loop) → Type 0
 Need-plan-at-requires = λ Inv μ. Lts.Need-plan-at-requires (
-  Reads'4.Asked,
-  Reads'4.Learnt,
-  Reads'7.Asked,
-  Reads'7.Learnt,
   Reads'5.Asked,
   Reads'5.Learnt,
+  Reads'7.Asked,
+  Reads'7.Learnt,
+  Reads'4.Asked,
+  Reads'4.Learnt,
   Reads''.Asked,
   Reads''.Learnt,
   Reads'6.Asked,
@@ -686,12 +686,12 @@ Need-plan-at-requires = λ Inv μ. Lts.Need-plan-at-requires (
 
 abbrev pub Need-set-guards-requires : (Inv : InvT-loop) → (μ : MeasureT-loop) → Type 0
 Need-set-guards-requires = λ Inv μ. Lts.Need-set-guards-requires (
-  Reads'4.Asked,
-  Reads'4.Learnt,
-  Reads'7.Asked,
-  Reads'7.Learnt,
   Reads'5.Asked,
   Reads'5.Learnt,
+  Reads'7.Asked,
+  Reads'7.Learnt,
+  Reads'4.Asked,
+  Reads'4.Learnt,
   Reads''.Asked,
   Reads''.Learnt,
   Reads'6.Asked,
@@ -704,12 +704,12 @@ Need-set-guards-requires = λ Inv μ. Lts.Need-set-guards-requires (
 
 abbrev pub Need-set-guards-requires-2 : (Inv : InvT-loop) → (μ : MeasureT-loop) → Type 0
 Need-set-guards-requires-2 = λ Inv μ. Lts.Need-set-guards-requires-2 (
-  Reads'4.Asked,
-  Reads'4.Learnt,
-  Reads'7.Asked,
-  Reads'7.Learnt,
   Reads'5.Asked,
   Reads'5.Learnt,
+  Reads'7.Asked,
+  Reads'7.Learnt,
+  Reads'4.Asked,
+  Reads'4.Learnt,
   Reads''.Asked,
   Reads''.Learnt,
   Reads'6.Asked,
@@ -722,12 +722,12 @@ Need-set-guards-requires-2 = λ Inv μ. Lts.Need-set-guards-requires-2 (
 
 abbrev pub Need-load-set-requires : (Inv : InvT-loop) → (μ : MeasureT-loop) → Type 0
 Need-load-set-requires = λ Inv μ. Lts.Need-load-set-requires (
-  Reads'4.Asked,
-  Reads'4.Learnt,
-  Reads'7.Asked,
-  Reads'7.Learnt,
   Reads'5.Asked,
   Reads'5.Learnt,
+  Reads'7.Asked,
+  Reads'7.Learnt,
+  Reads'4.Asked,
+  Reads'4.Learnt,
   Reads''.Asked,
   Reads''.Learnt,
   Reads'6.Asked,
@@ -740,12 +740,12 @@ Need-load-set-requires = λ Inv μ. Lts.Need-load-set-requires (
 
 abbrev pub Need-pass-requires : (Inv : InvT-loop) → (μ : MeasureT-loop) → Type 0
 Need-pass-requires = λ Inv μ. Lts.Need-pass-requires (
-  Reads'4.Asked,
-  Reads'4.Learnt,
-  Reads'7.Asked,
-  Reads'7.Learnt,
   Reads'5.Asked,
   Reads'5.Learnt,
+  Reads'7.Asked,
+  Reads'7.Learnt,
+  Reads'4.Asked,
+  Reads'4.Learnt,
   Reads''.Asked,
   Reads''.Learnt,
   Reads'6.Asked,
@@ -758,12 +758,12 @@ Need-pass-requires = λ Inv μ. Lts.Need-pass-requires (
 
 abbrev pub Need-same-length : (Inv : InvT-loop) → (μ : MeasureT-loop) → Type 0
 Need-same-length = λ Inv μ. Lts.Need-same-length (
-  Reads'4.Asked,
-  Reads'4.Learnt,
-  Reads'7.Asked,
-  Reads'7.Learnt,
   Reads'5.Asked,
   Reads'5.Learnt,
+  Reads'7.Asked,
+  Reads'7.Learnt,
+  Reads'4.Asked,
+  Reads'4.Learnt,
   Reads''.Asked,
   Reads''.Learnt,
   Reads'6.Asked,
@@ -776,12 +776,12 @@ Need-same-length = λ Inv μ. Lts.Need-same-length (
 
 abbrev pub Need-same-length-2 : (Inv : InvT-loop) → (μ : MeasureT-loop) → Type 0
 Need-same-length-2 = λ Inv μ. Lts.Need-same-length-2 (
-  Reads'4.Asked,
-  Reads'4.Learnt,
-  Reads'7.Asked,
-  Reads'7.Learnt,
   Reads'5.Asked,
   Reads'5.Learnt,
+  Reads'7.Asked,
+  Reads'7.Learnt,
+  Reads'4.Asked,
+  Reads'4.Learnt,
   Reads''.Asked,
   Reads''.Learnt,
   Reads'6.Asked,
@@ -794,12 +794,12 @@ Need-same-length-2 = λ Inv μ. Lts.Need-same-length-2 (
 
 abbrev pub Need-returns : (Inv : InvT-loop) → (μ : MeasureT-loop) → Type 0
 Need-returns = λ Inv μ. Lts.Need-returns (
-  Reads'4.Asked,
-  Reads'4.Learnt,
-  Reads'7.Asked,
-  Reads'7.Learnt,
   Reads'5.Asked,
   Reads'5.Learnt,
+  Reads'7.Asked,
+  Reads'7.Learnt,
+  Reads'4.Asked,
+  Reads'4.Learnt,
   Reads''.Asked,
   Reads''.Learnt,
   Reads'6.Asked,
@@ -812,12 +812,12 @@ Need-returns = λ Inv μ. Lts.Need-returns (
 
 abbrev pub Need-store-set-requires : (Inv : InvT-loop) → (μ : MeasureT-loop) → Type 0
 Need-store-set-requires = λ Inv μ. Lts.Need-store-set-requires (
-  Reads'4.Asked,
-  Reads'4.Learnt,
-  Reads'7.Asked,
-  Reads'7.Learnt,
   Reads'5.Asked,
   Reads'5.Learnt,
+  Reads'7.Asked,
+  Reads'7.Learnt,
+  Reads'4.Asked,
+  Reads'4.Learnt,
   Reads''.Asked,
   Reads''.Learnt,
   Reads'6.Asked,
@@ -830,12 +830,12 @@ Need-store-set-requires = λ Inv μ. Lts.Need-store-set-requires (
 
 abbrev pub Need-add-i : (Inv : InvT-loop) → (μ : MeasureT-loop) → Type 0
 Need-add-i = λ Inv μ. Lts.Need-add-i (
-  Reads'4.Asked,
-  Reads'4.Learnt,
-  Reads'7.Asked,
-  Reads'7.Learnt,
   Reads'5.Asked,
   Reads'5.Learnt,
+  Reads'7.Asked,
+  Reads'7.Learnt,
+  Reads'4.Asked,
+  Reads'4.Learnt,
   Reads''.Asked,
   Reads''.Learnt,
   Reads'6.Asked,
@@ -848,12 +848,12 @@ Need-add-i = λ Inv μ. Lts.Need-add-i (
 
 abbrev pub Need-loop-less : (Inv : InvT-loop) → (μ : MeasureT-loop) → Type 0
 Need-loop-less = λ Inv μ. Lts.Need-loop-less (
-  Reads'4.Asked,
-  Reads'4.Learnt,
-  Reads'7.Asked,
-  Reads'7.Learnt,
   Reads'5.Asked,
   Reads'5.Learnt,
+  Reads'7.Asked,
+  Reads'7.Learnt,
+  Reads'4.Asked,
+  Reads'4.Learnt,
   Reads''.Asked,
   Reads''.Learnt,
   Reads'6.Asked,
@@ -866,12 +866,12 @@ Need-loop-less = λ Inv μ. Lts.Need-loop-less (
 
 abbrev pub Need-loop-again : (Inv : InvT-loop) → (μ : MeasureT-loop) → Type 0
 Need-loop-again = λ Inv μ. Lts.Need-loop-again (
-  Reads'4.Asked,
-  Reads'4.Learnt,
-  Reads'7.Asked,
-  Reads'7.Learnt,
   Reads'5.Asked,
   Reads'5.Learnt,
+  Reads'7.Asked,
+  Reads'7.Learnt,
+  Reads'4.Asked,
+  Reads'4.Learnt,
   Reads''.Asked,
   Reads''.Learnt,
   Reads'6.Asked,
@@ -884,12 +884,12 @@ Need-loop-again = λ Inv μ. Lts.Need-loop-again (
 
 abbrev pub Need-is-past-requires : (Inv : InvT-loop) → (μ : MeasureT-loop) → Type 0
 Need-is-past-requires = λ Inv μ. Lts.Need-is-past-requires (
-  Reads'4.Asked,
-  Reads'4.Learnt,
-  Reads'7.Asked,
-  Reads'7.Learnt,
   Reads'5.Asked,
   Reads'5.Learnt,
+  Reads'7.Asked,
+  Reads'7.Learnt,
+  Reads'4.Asked,
+  Reads'4.Learnt,
   Reads''.Asked,
   Reads''.Learnt,
   Reads'6.Asked,
@@ -902,12 +902,12 @@ Need-is-past-requires = λ Inv μ. Lts.Need-is-past-requires (
 
 abbrev pub Need-same-length-3 : (Inv : InvT-loop) → (μ : MeasureT-loop) → Type 0
 Need-same-length-3 = λ Inv μ. Lts.Need-same-length-3 (
-  Reads'4.Asked,
-  Reads'4.Learnt,
-  Reads'7.Asked,
-  Reads'7.Learnt,
   Reads'5.Asked,
   Reads'5.Learnt,
+  Reads'7.Asked,
+  Reads'7.Learnt,
+  Reads'4.Asked,
+  Reads'4.Learnt,
   Reads''.Asked,
   Reads''.Learnt,
   Reads'6.Asked,
@@ -920,12 +920,12 @@ Need-same-length-3 = λ Inv μ. Lts.Need-same-length-3 (
 
 abbrev pub Need-same-length-4 : (Inv : InvT-loop) → (μ : MeasureT-loop) → Type 0
 Need-same-length-4 = λ Inv μ. Lts.Need-same-length-4 (
-  Reads'4.Asked,
-  Reads'4.Learnt,
-  Reads'7.Asked,
-  Reads'7.Learnt,
   Reads'5.Asked,
   Reads'5.Learnt,
+  Reads'7.Asked,
+  Reads'7.Learnt,
+  Reads'4.Asked,
+  Reads'4.Learnt,
   Reads''.Asked,
   Reads''.Learnt,
   Reads'6.Asked,
@@ -938,12 +938,12 @@ Need-same-length-4 = λ Inv μ. Lts.Need-same-length-4 (
 
 abbrev pub Need-returns-2 : (Inv : InvT-loop) → (μ : MeasureT-loop) → Type 0
 Need-returns-2 = λ Inv μ. Lts.Need-returns-2 (
-  Reads'4.Asked,
-  Reads'4.Learnt,
-  Reads'7.Asked,
-  Reads'7.Learnt,
   Reads'5.Asked,
   Reads'5.Learnt,
+  Reads'7.Asked,
+  Reads'7.Learnt,
+  Reads'4.Asked,
+  Reads'4.Learnt,
   Reads''.Asked,
   Reads''.Learnt,
   Reads'6.Asked,
@@ -956,12 +956,12 @@ Need-returns-2 = λ Inv μ. Lts.Need-returns-2 (
 
 abbrev pub Need-same-length-5 : (Inv : InvT-loop) → (μ : MeasureT-loop) → Type 0
 Need-same-length-5 = λ Inv μ. Lts.Need-same-length-5 (
-  Reads'4.Asked,
-  Reads'4.Learnt,
-  Reads'7.Asked,
-  Reads'7.Learnt,
   Reads'5.Asked,
   Reads'5.Learnt,
+  Reads'7.Asked,
+  Reads'7.Learnt,
+  Reads'4.Asked,
+  Reads'4.Learnt,
   Reads''.Asked,
   Reads''.Learnt,
   Reads'6.Asked,
@@ -974,12 +974,12 @@ Need-same-length-5 = λ Inv μ. Lts.Need-same-length-5 (
 
 abbrev pub Need-same-length-6 : (Inv : InvT-loop) → (μ : MeasureT-loop) → Type 0
 Need-same-length-6 = λ Inv μ. Lts.Need-same-length-6 (
-  Reads'4.Asked,
-  Reads'4.Learnt,
-  Reads'7.Asked,
-  Reads'7.Learnt,
   Reads'5.Asked,
   Reads'5.Learnt,
+  Reads'7.Asked,
+  Reads'7.Learnt,
+  Reads'4.Asked,
+  Reads'4.Learnt,
   Reads''.Asked,
   Reads''.Learnt,
   Reads'6.Asked,
@@ -992,12 +992,12 @@ Need-same-length-6 = λ Inv μ. Lts.Need-same-length-6 (
 
 abbrev pub Need-returns-3 : (Inv : InvT-loop) → (μ : MeasureT-loop) → Type 0
 Need-returns-3 = λ Inv μ. Lts.Need-returns-3 (
-  Reads'4.Asked,
-  Reads'4.Learnt,
-  Reads'7.Asked,
-  Reads'7.Learnt,
   Reads'5.Asked,
   Reads'5.Learnt,
+  Reads'7.Asked,
+  Reads'7.Learnt,
+  Reads'4.Asked,
+  Reads'4.Learnt,
   Reads''.Asked,
   Reads''.Learnt,
   Reads'6.Asked,
@@ -1014,12 +1014,12 @@ module _ {M : Type 1} where
       (answer : Need-same-length-2 Inv μ) → (answer : Need-returns Inv μ) → (answer : Need-store-set-requires Inv μ) → (answer : Need-add-i Inv μ) → (answer : Need-loop-less Inv μ) → (answer :
       Need-loop-again Inv μ) → (answer : Need-is-past-requires Inv μ) → (answer : Need-same-length-3 Inv μ) → (answer : Need-same-length-4 Inv μ) → (answer : Need-returns-2 Inv μ) → (answer :
       Need-same-length-5 Inv μ) → (answer : Need-same-length-6 Inv μ) → (answer : Need-returns-3 Inv μ) → Lts.Closed (
-        Reads'4.Asked,
-        Reads'4.Learnt,
-        Reads'7.Asked,
-        Reads'7.Learnt,
         Reads'5.Asked,
         Reads'5.Learnt,
+        Reads'7.Asked,
+        Reads'7.Learnt,
+        Reads'4.Asked,
+        Reads'4.Learnt,
         Reads''.Asked,
         Reads''.Learnt,
         Reads'6.Asked,
@@ -1031,12 +1031,12 @@ module _ {M : Type 1} where
       ) Reads'.Pre Reads'.Post M
   spec = λ Inv μ answer answer' answer'' answer'3 answer'4 answer'5 answer'6 answer'7 answer'8 answer'9 answer'10 answer'11 answer'12 answer'13 answer'14 answer'15 answer'16 answer'17 answer'18
       answer'19 answer'20. Lts.spec (
-        Reads'4.Asked,
-        Reads'4.Learnt,
-        Reads'7.Asked,
-        Reads'7.Learnt,
         Reads'5.Asked,
         Reads'5.Learnt,
+        Reads'7.Asked,
+        Reads'7.Learnt,
+        Reads'4.Asked,
+        Reads'4.Learnt,
         Reads''.Asked,
         Reads''.Learnt,
         Reads'6.Asked,
@@ -1045,16 +1045,16 @@ module _ {M : Type 1} where
         Reads'3.Learnt,
         Reads.Asked,
         Reads.Learnt,
-      ) Reads'.Pre Reads'.Post Inv μ answer answer' answer'' answer'3 answer'4 answer'5 answer'6 answer'7 answer'8 answer'9 answer'10 answer'11
-      answer'12 answer'13 answer'14 answer'15 answer'16 answer'17 answer'18 answer'19 answer'20
+      ) Reads'.Pre Reads'.Post Inv μ answer answer' answer'' answer'3 answer'4 answer'5 answer'6 answer'7 answer'8 answer'9 answer'10 answer'11 answer'12 answer'13 answer'14
+      answer'15 answer'16 answer'17 answer'18 answer'19 answer'20
 
   pub close : Lts.Closed (
-    Reads'4.Asked,
-    Reads'4.Learnt,
-    Reads'7.Asked,
-    Reads'7.Learnt,
     Reads'5.Asked,
     Reads'5.Learnt,
+    Reads'7.Asked,
+    Reads'7.Learnt,
+    Reads'4.Asked,
+    Reads'4.Learnt,
     Reads''.Asked,
     Reads''.Learnt,
     Reads'6.Asked,
@@ -1065,32 +1065,12 @@ module _ {M : Type 1} where
     Reads.Learnt,
   ) Reads'.Pre Reads'.Post M → Statement.statement M
   unfolding Code.routine Running.tablesOf
-  close = λ closed 𝓤 H 𝓜 𝓖 𝓡. Written.close 3 Kinds.ps Kinds.r Reads'.Ghost Reads'.requires Reads'.ensures Reads'.pre-read Reads'.Pinned Reads'.Owned Reads'.post-read record {
-    M = M;
-    𝓤 = 𝓤;
-    H = H;
-    𝓜 =
-        𝓜;
-    𝓖 = 𝓖;
-    𝓡 = 𝓡;
-  } Code.env Key.name Code.function (Code.unfolded 𝓤 H 𝓜 𝓡) (λ κs a g. tt) (λ κs. Reads'.owns κs record { M = M; 𝓤 = 𝓤; H = H; 𝓜 = 𝓜; 𝓖 = 𝓖; 𝓡 = 𝓡 }) (Reads'.passes record {
-    M = M;
-    𝓤 =
-        𝓤;
-    H = H;
-    𝓜 = 𝓜;
-    𝓖 = 𝓖;
-    𝓡 = 𝓡;
-  }) λ g. closed 𝓤 H (𝓖 .A) (Running.givenOf 𝓤 H 𝓜 𝓖) (Run.Over 𝓤 H 𝓜 𝓖 𝓡 Code.env) (Reads'4.known record { M = M; 𝓤 = 𝓤; H = H; 𝓜 = 𝓜; 𝓖 = 𝓖; 𝓡 = 𝓡 } Code.env
-      Symbol'3.name Symbol'3.routine Code.calls-block·width (Met'3.met 𝓤 H 𝓜 𝓖 𝓡)) (Reads'7.known record { M = M; 𝓤 = 𝓤; H = H; 𝓜 = 𝓜; 𝓖 = 𝓖; 𝓡 = 𝓡 } Code.env Symbol'6.name Symbol'6.routine
-      Code.calls-pass·plan-at (Met'6.met 𝓤 H 𝓜 𝓖 𝓡)) (Reads'5.known record { M = M; 𝓤 = 𝓤; H = H; 𝓜 = 𝓜; 𝓖 = 𝓖; 𝓡 = 𝓡 } Code.env Symbol'4.name Symbol'4.routine Code.calls-lines·set-guards (Met'4.met 𝓤 H 𝓜
-      𝓖 𝓡)) (Reads''.known record { M = M; 𝓤 = 𝓤; H = H; 𝓜 = 𝓜; 𝓖 = 𝓖; 𝓡 = 𝓡 } Code.env Symbol'.name Symbol'.routine Code.calls-block·records·load-set (Met'.met 𝓤 H 𝓜 𝓖 𝓡)) (Reads'6.known record {
-        M = M;
-        𝓤 = 𝓤;
-        H = H;
-        𝓜 = 𝓜;
-        𝓖 = 𝓖;
-        𝓡 = 𝓡;
-      } Code.env Symbol'5.name Symbol'5.routine Code.calls-pass·pass (Met'5.met 𝓤 H 𝓜 𝓖 𝓡)) (Reads'3.known record { M = M; 𝓤 = 𝓤; H = H; 𝓜 = 𝓜; 𝓖 = 𝓖; 𝓡 = 𝓡 } Code.env
-      Symbol''.name Symbol''.routine Code.calls-block·records·store-set (Met''.met 𝓤 H 𝓜 𝓖 𝓡)) (Reads.known record { M = M; 𝓤 = 𝓤; H = H; 𝓜 = 𝓜; 𝓖 = 𝓖; 𝓡 = 𝓡 } Code.env Symbol.name Symbol.routine
-      Code.calls-block·reading·is-past (Met.met 𝓤 H 𝓜 𝓖 𝓡))
+  close = λ closed 𝓤 H 𝓜 𝓖 𝓡. Written.close 3 Kinds.ps Kinds.r Reads'.Ghost Reads'.requires Reads'.ensures Reads'.pre-read Reads'.Pinned Reads'.Owned Reads'.post-read record
+      { M = M; 𝓤 = 𝓤; H = H; 𝓜 = 𝓜; 𝓖 = 𝓖; 𝓡 = 𝓡 } Code.env Key.name Code.function (Code.unfolded 𝓤 H 𝓜 𝓡) (λ κs a g. tt) (λ κs. Reads'.owns κs record { M = M; 𝓤 = 𝓤; H = H; 𝓜 = 𝓜; 𝓖 = 𝓖; 𝓡 = 𝓡 })
+      (Reads'.passes record { M = M; 𝓤 = 𝓤; H = H; 𝓜 = 𝓜; 𝓖 = 𝓖; 𝓡 = 𝓡 }) λ g. closed 𝓤 H (𝓖 .A) (Running.givenOf 𝓤 H 𝓜 𝓖) (Run.Over 𝓤 H 𝓜 𝓖 𝓡 Code.env) (Reads'5.known record
+      { M = M; 𝓤 = 𝓤; H = H; 𝓜 = 𝓜; 𝓖 = 𝓖; 𝓡 = 𝓡 } Code.env Symbol'4.name Symbol'4.routine Code.calls-map·width (Met'4.met 𝓤 H 𝓜 𝓖 𝓡)) (Reads'7.known record { M = M; 𝓤 = 𝓤; H = H; 𝓜 = 𝓜; 𝓖 = 𝓖; 𝓡 = 𝓡 }
+      Code.env Symbol'6.name Symbol'6.routine Code.calls-pass·plan-at (Met'6.met 𝓤 H 𝓜 𝓖 𝓡)) (Reads'4.known record { M = M; 𝓤 = 𝓤; H = H; 𝓜 = 𝓜; 𝓖 = 𝓖; 𝓡 = 𝓡 } Code.env Symbol'3.name Symbol'3.routine
+      Code.calls-lines·set-guards (Met'3.met 𝓤 H 𝓜 𝓖 𝓡)) (Reads''.known record { M = M; 𝓤 = 𝓤; H = H; 𝓜 = 𝓜; 𝓖 = 𝓖; 𝓡 = 𝓡 } Code.env Symbol'.name Symbol'.routine Code.calls-block·records·load-set
+      (Met'.met 𝓤 H 𝓜 𝓖 𝓡)) (Reads'6.known record { M = M; 𝓤 = 𝓤; H = H; 𝓜 = 𝓜; 𝓖 = 𝓖; 𝓡 = 𝓡 } Code.env Symbol'5.name Symbol'5.routine Code.calls-pass·pass (Met'5.met 𝓤 H 𝓜 𝓖 𝓡)) (Reads'3.known record
+      { M = M; 𝓤 = 𝓤; H = H; 𝓜 = 𝓜; 𝓖 = 𝓖; 𝓡 = 𝓡 } Code.env Symbol''.name Symbol''.routine Code.calls-block·records·store-set (Met''.met 𝓤 H 𝓜 𝓖 𝓡)) (Reads.known record
+      { M = M; 𝓤 = 𝓤; H = H; 𝓜 = 𝓜; 𝓖 = 𝓖; 𝓡 = 𝓡 } Code.env Symbol.name Symbol.routine Code.calls-block·reading·is-past (Met.met 𝓤 H 𝓜 𝓖 𝓡))

@@ -26,18 +26,18 @@ use Rattle.block.proofs.records.restart.Symbol as Symbol'5
 use Rattle.block.proofs.records.start_records.Met as Met'6
 use Rattle.block.proofs.records.derived.start_records.Reads as Reads'7
 use Rattle.block.proofs.records.start_records.Symbol as Symbol'6
-use Rattle.block.proofs.width.Met as Met'7
-use Rattle.block.proofs.width.Reads as Reads'8
-use Rattle.block.proofs.width.Symbol as Symbol'7
-use Rattle.lines.proofs.clear.Met as Met'8
-use Rattle.lines.proofs.clear.Reads as Reads'9
-use Rattle.lines.proofs.clear.Symbol as Symbol'8
-use Rattle.lines.proofs.turn.Met as Met'9
-use Rattle.lines.proofs.turn.Reads as Reads'10
-use Rattle.lines.proofs.turn.Symbol as Symbol'9
-use Rattle.map.proofs.emit_line.Met as Met'10
-use Rattle.map.proofs.emit_line.Reads as Reads'11
-use Rattle.map.proofs.emit_line.Symbol as Symbol'10
+use Rattle.lines.proofs.clear.Met as Met'7
+use Rattle.lines.proofs.clear.Reads as Reads'8
+use Rattle.lines.proofs.clear.Symbol as Symbol'7
+use Rattle.lines.proofs.turn.Met as Met'8
+use Rattle.lines.proofs.turn.Reads as Reads'9
+use Rattle.lines.proofs.turn.Symbol as Symbol'8
+use Rattle.map.proofs.emit_line.Met as Met'9
+use Rattle.map.proofs.emit_line.Reads as Reads'10
+use Rattle.map.proofs.emit_line.Symbol as Symbol'9
+use Rattle.map.proofs.width.Met as Met'10
+use Rattle.map.proofs.width.Reads as Reads'11
+use Rattle.map.proofs.width.Symbol as Symbol'10
 use borrow.Fn.Run
 use borrow.Fn.Written
 use contract.Running
@@ -50,16 +50,16 @@ MeasureT-loop = Lts.MeasureT-loop
 
 abbrev pub Start : (Inv : InvT-loop) → (μ : MeasureT-loop) → Type 0
 Start = λ Inv μ. Lts.Start (
+  Reads'11.Asked,
+  Reads'11.Learnt,
   Reads'8.Asked,
   Reads'8.Learnt,
-  Reads'9.Asked,
-  Reads'9.Learnt,
   Reads.Asked,
   Reads.Learnt,
   Reads'7.Asked,
   Reads'7.Learnt,
-  Reads'10.Asked,
-  Reads'10.Learnt,
+  Reads'9.Asked,
+  Reads'9.Learnt,
   Reads'.Asked,
   Reads'.Learnt,
   Reads'6.Asked,
@@ -70,23 +70,22 @@ Start = λ Inv μ. Lts.Start (
   Reads''.Learnt,
   Reads'5.Asked,
   Reads'5.Learnt,
-  Reads'11.Asked,
-  Reads'11.Learnt,
-) Reads'4.Pre Reads'4.Post
-    Inv μ
+  Reads'10.Asked,
+  Reads'10.Learnt,
+) Reads'4.Pre Reads'4.Post Inv μ
 
 abbrev pub After-shared-slice-known : (Inv : InvT-loop) → (μ : MeasureT-loop) → Type 0
 After-shared-slice-known = λ Inv μ. Lts.After-shared-slice-known (
+  Reads'11.Asked,
+  Reads'11.Learnt,
   Reads'8.Asked,
   Reads'8.Learnt,
-  Reads'9.Asked,
-  Reads'9.Learnt,
   Reads.Asked,
   Reads.Learnt,
   Reads'7.Asked,
   Reads'7.Learnt,
-  Reads'10.Asked,
-  Reads'10.Learnt,
+  Reads'9.Asked,
+  Reads'9.Learnt,
   Reads'.Asked,
   Reads'.Learnt,
   Reads'6.Asked,
@@ -97,22 +96,22 @@ After-shared-slice-known = λ Inv μ. Lts.After-shared-slice-known (
   Reads''.Learnt,
   Reads'5.Asked,
   Reads'5.Learnt,
-  Reads'11.Asked,
-  Reads'11.Learnt,
+  Reads'10.Asked,
+  Reads'10.Learnt,
 ) Reads'4.Pre Reads'4.Post Inv μ
 
 abbrev pub After-shared-slice-known2 : (Inv : InvT-loop) → (μ : MeasureT-loop) → Type 0
 After-shared-slice-known2 = λ Inv μ. Lts.After-shared-slice-known2 (
+  Reads'11.Asked,
+  Reads'11.Learnt,
   Reads'8.Asked,
   Reads'8.Learnt,
-  Reads'9.Asked,
-  Reads'9.Learnt,
   Reads.Asked,
   Reads.Learnt,
   Reads'7.Asked,
   Reads'7.Learnt,
-  Reads'10.Asked,
-  Reads'10.Learnt,
+  Reads'9.Asked,
+  Reads'9.Learnt,
   Reads'.Asked,
   Reads'.Learnt,
   Reads'6.Asked,
@@ -123,22 +122,22 @@ After-shared-slice-known2 = λ Inv μ. Lts.After-shared-slice-known2 (
   Reads''.Learnt,
   Reads'5.Asked,
   Reads'5.Learnt,
-  Reads'11.Asked,
-  Reads'11.Learnt,
+  Reads'10.Asked,
+  Reads'10.Learnt,
 ) Reads'4.Pre Reads'4.Post Inv μ
 
 abbrev pub After-slice-known : (Inv : InvT-loop) → (μ : MeasureT-loop) → Type 0
 After-slice-known = λ Inv μ. Lts.After-slice-known (
+  Reads'11.Asked,
+  Reads'11.Learnt,
   Reads'8.Asked,
   Reads'8.Learnt,
-  Reads'9.Asked,
-  Reads'9.Learnt,
   Reads.Asked,
   Reads.Learnt,
   Reads'7.Asked,
   Reads'7.Learnt,
-  Reads'10.Asked,
-  Reads'10.Learnt,
+  Reads'9.Asked,
+  Reads'9.Learnt,
   Reads'.Asked,
   Reads'.Learnt,
   Reads'6.Asked,
@@ -149,22 +148,22 @@ After-slice-known = λ Inv μ. Lts.After-slice-known (
   Reads''.Learnt,
   Reads'5.Asked,
   Reads'5.Learnt,
-  Reads'11.Asked,
-  Reads'11.Learnt,
+  Reads'10.Asked,
+  Reads'10.Learnt,
 ) Reads'4.Pre Reads'4.Post Inv μ
 
 abbrev pub After-slice-known2 : (Inv : InvT-loop) → (μ : MeasureT-loop) → Type 0
 After-slice-known2 = λ Inv μ. Lts.After-slice-known2 (
+  Reads'11.Asked,
+  Reads'11.Learnt,
   Reads'8.Asked,
   Reads'8.Learnt,
-  Reads'9.Asked,
-  Reads'9.Learnt,
   Reads.Asked,
   Reads.Learnt,
   Reads'7.Asked,
   Reads'7.Learnt,
-  Reads'10.Asked,
-  Reads'10.Learnt,
+  Reads'9.Asked,
+  Reads'9.Learnt,
   Reads'.Asked,
   Reads'.Learnt,
   Reads'6.Asked,
@@ -175,22 +174,22 @@ After-slice-known2 = λ Inv μ. Lts.After-slice-known2 (
   Reads''.Learnt,
   Reads'5.Asked,
   Reads'5.Learnt,
-  Reads'11.Asked,
-  Reads'11.Learnt,
+  Reads'10.Asked,
+  Reads'10.Learnt,
 ) Reads'4.Pre Reads'4.Post Inv μ
 
 abbrev pub After-width : (Inv : InvT-loop) → (μ : MeasureT-loop) → Type 0
 After-width = λ Inv μ. Lts.After-width (
+  Reads'11.Asked,
+  Reads'11.Learnt,
   Reads'8.Asked,
   Reads'8.Learnt,
-  Reads'9.Asked,
-  Reads'9.Learnt,
   Reads.Asked,
   Reads.Learnt,
   Reads'7.Asked,
   Reads'7.Learnt,
-  Reads'10.Asked,
-  Reads'10.Learnt,
+  Reads'9.Asked,
+  Reads'9.Learnt,
   Reads'.Asked,
   Reads'.Learnt,
   Reads'6.Asked,
@@ -201,23 +200,22 @@ After-width = λ Inv μ. Lts.After-width (
   Reads''.Learnt,
   Reads'5.Asked,
   Reads'5.Learnt,
-  Reads'11.Asked,
-  Reads'11.Learnt,
-) Reads'4.Pre
-    Reads'4.Post Inv μ
+  Reads'10.Asked,
+  Reads'10.Learnt,
+) Reads'4.Pre Reads'4.Post Inv μ
 
 abbrev pub After-clear-arg : (Inv : InvT-loop) → (μ : MeasureT-loop) → Type 0
 After-clear-arg = λ Inv μ. Lts.After-clear-arg (
+  Reads'11.Asked,
+  Reads'11.Learnt,
   Reads'8.Asked,
   Reads'8.Learnt,
-  Reads'9.Asked,
-  Reads'9.Learnt,
   Reads.Asked,
   Reads.Learnt,
   Reads'7.Asked,
   Reads'7.Learnt,
-  Reads'10.Asked,
-  Reads'10.Learnt,
+  Reads'9.Asked,
+  Reads'9.Learnt,
   Reads'.Asked,
   Reads'.Learnt,
   Reads'6.Asked,
@@ -228,22 +226,22 @@ After-clear-arg = λ Inv μ. Lts.After-clear-arg (
   Reads''.Learnt,
   Reads'5.Asked,
   Reads'5.Learnt,
-  Reads'11.Asked,
-  Reads'11.Learnt,
+  Reads'10.Asked,
+  Reads'10.Learnt,
 ) Reads'4.Pre Reads'4.Post Inv μ
 
 abbrev pub After-clear : (Inv : InvT-loop) → (μ : MeasureT-loop) → Type 0
 After-clear = λ Inv μ. Lts.After-clear (
+  Reads'11.Asked,
+  Reads'11.Learnt,
   Reads'8.Asked,
   Reads'8.Learnt,
-  Reads'9.Asked,
-  Reads'9.Learnt,
   Reads.Asked,
   Reads.Learnt,
   Reads'7.Asked,
   Reads'7.Learnt,
-  Reads'10.Asked,
-  Reads'10.Learnt,
+  Reads'9.Asked,
+  Reads'9.Learnt,
   Reads'.Asked,
   Reads'.Learnt,
   Reads'6.Asked,
@@ -254,23 +252,22 @@ After-clear = λ Inv μ. Lts.After-clear (
   Reads''.Learnt,
   Reads'5.Asked,
   Reads'5.Learnt,
-  Reads'11.Asked,
-  Reads'11.Learnt,
-) Reads'4.Pre
-    Reads'4.Post Inv μ
+  Reads'10.Asked,
+  Reads'10.Learnt,
+) Reads'4.Pre Reads'4.Post Inv μ
 
 abbrev pub After-lines : (Inv : InvT-loop) → (μ : MeasureT-loop) → Type 0
 After-lines = λ Inv μ. Lts.After-lines (
+  Reads'11.Asked,
+  Reads'11.Learnt,
   Reads'8.Asked,
   Reads'8.Learnt,
-  Reads'9.Asked,
-  Reads'9.Learnt,
   Reads.Asked,
   Reads.Learnt,
   Reads'7.Asked,
   Reads'7.Learnt,
-  Reads'10.Asked,
-  Reads'10.Learnt,
+  Reads'9.Asked,
+  Reads'9.Learnt,
   Reads'.Asked,
   Reads'.Learnt,
   Reads'6.Asked,
@@ -281,23 +278,22 @@ After-lines = λ Inv μ. Lts.After-lines (
   Reads''.Learnt,
   Reads'5.Asked,
   Reads'5.Learnt,
-  Reads'11.Asked,
-  Reads'11.Learnt,
-) Reads'4.Pre
-    Reads'4.Post Inv μ
+  Reads'10.Asked,
+  Reads'10.Learnt,
+) Reads'4.Pre Reads'4.Post Inv μ
 
 abbrev pub After-slice-known3 : (Inv : InvT-loop) → (μ : MeasureT-loop) → Type 0
 After-slice-known3 = λ Inv μ. Lts.After-slice-known3 (
+  Reads'11.Asked,
+  Reads'11.Learnt,
   Reads'8.Asked,
   Reads'8.Learnt,
-  Reads'9.Asked,
-  Reads'9.Learnt,
   Reads.Asked,
   Reads.Learnt,
   Reads'7.Asked,
   Reads'7.Learnt,
-  Reads'10.Asked,
-  Reads'10.Learnt,
+  Reads'9.Asked,
+  Reads'9.Learnt,
   Reads'.Asked,
   Reads'.Learnt,
   Reads'6.Asked,
@@ -308,22 +304,22 @@ After-slice-known3 = λ Inv μ. Lts.After-slice-known3 (
   Reads''.Learnt,
   Reads'5.Asked,
   Reads'5.Learnt,
-  Reads'11.Asked,
-  Reads'11.Learnt,
+  Reads'10.Asked,
+  Reads'10.Learnt,
 ) Reads'4.Pre Reads'4.Post Inv μ
 
 abbrev pub After-start-records-arg : (Inv : InvT-loop) → (μ : MeasureT-loop) → Type 0
 After-start-records-arg = λ Inv μ. Lts.After-start-records-arg (
+  Reads'11.Asked,
+  Reads'11.Learnt,
   Reads'8.Asked,
   Reads'8.Learnt,
-  Reads'9.Asked,
-  Reads'9.Learnt,
   Reads.Asked,
   Reads.Learnt,
   Reads'7.Asked,
   Reads'7.Learnt,
-  Reads'10.Asked,
-  Reads'10.Learnt,
+  Reads'9.Asked,
+  Reads'9.Learnt,
   Reads'.Asked,
   Reads'.Learnt,
   Reads'6.Asked,
@@ -334,22 +330,22 @@ After-start-records-arg = λ Inv μ. Lts.After-start-records-arg (
   Reads''.Learnt,
   Reads'5.Asked,
   Reads'5.Learnt,
-  Reads'11.Asked,
-  Reads'11.Learnt,
+  Reads'10.Asked,
+  Reads'10.Learnt,
 ) Reads'4.Pre Reads'4.Post Inv μ
 
 abbrev pub After-base-of : (Inv : InvT-loop) → (μ : MeasureT-loop) → Type 0
 After-base-of = λ Inv μ. Lts.After-base-of (
+  Reads'11.Asked,
+  Reads'11.Learnt,
   Reads'8.Asked,
   Reads'8.Learnt,
-  Reads'9.Asked,
-  Reads'9.Learnt,
   Reads.Asked,
   Reads.Learnt,
   Reads'7.Asked,
   Reads'7.Learnt,
-  Reads'10.Asked,
-  Reads'10.Learnt,
+  Reads'9.Asked,
+  Reads'9.Learnt,
   Reads'.Asked,
   Reads'.Learnt,
   Reads'6.Asked,
@@ -360,23 +356,22 @@ After-base-of = λ Inv μ. Lts.After-base-of (
   Reads''.Learnt,
   Reads'5.Asked,
   Reads'5.Learnt,
-  Reads'11.Asked,
-  Reads'11.Learnt,
-) Reads'4.Pre
-    Reads'4.Post Inv μ
+  Reads'10.Asked,
+  Reads'10.Learnt,
+) Reads'4.Pre Reads'4.Post Inv μ
 
 abbrev pub After-start-records : (Inv : InvT-loop) → (μ : MeasureT-loop) → Type 0
 After-start-records = λ Inv μ. Lts.After-start-records (
+  Reads'11.Asked,
+  Reads'11.Learnt,
   Reads'8.Asked,
   Reads'8.Learnt,
-  Reads'9.Asked,
-  Reads'9.Learnt,
   Reads.Asked,
   Reads.Learnt,
   Reads'7.Asked,
   Reads'7.Learnt,
-  Reads'10.Asked,
-  Reads'10.Learnt,
+  Reads'9.Asked,
+  Reads'9.Learnt,
   Reads'.Asked,
   Reads'.Learnt,
   Reads'6.Asked,
@@ -387,22 +382,22 @@ After-start-records = λ Inv μ. Lts.After-start-records (
   Reads''.Learnt,
   Reads'5.Asked,
   Reads'5.Learnt,
-  Reads'11.Asked,
-  Reads'11.Learnt,
+  Reads'10.Asked,
+  Reads'10.Learnt,
 ) Reads'4.Pre Reads'4.Post Inv μ
 
 abbrev pub After-rs : (Inv : InvT-loop) → (μ : MeasureT-loop) → Type 0
 After-rs = λ Inv μ. Lts.After-rs (
+  Reads'11.Asked,
+  Reads'11.Learnt,
   Reads'8.Asked,
   Reads'8.Learnt,
-  Reads'9.Asked,
-  Reads'9.Learnt,
   Reads.Asked,
   Reads.Learnt,
   Reads'7.Asked,
   Reads'7.Learnt,
-  Reads'10.Asked,
-  Reads'10.Learnt,
+  Reads'9.Asked,
+  Reads'9.Learnt,
   Reads'.Asked,
   Reads'.Learnt,
   Reads'6.Asked,
@@ -413,23 +408,22 @@ After-rs = λ Inv μ. Lts.After-rs (
   Reads''.Learnt,
   Reads'5.Asked,
   Reads'5.Learnt,
-  Reads'11.Asked,
-  Reads'11.Learnt,
-) Reads'4.Pre
-    Reads'4.Post Inv μ
+  Reads'10.Asked,
+  Reads'10.Learnt,
+) Reads'4.Pre Reads'4.Post Inv μ
 
 abbrev pub At-loop : (Inv : InvT-loop) → (μ : MeasureT-loop) → Type 0
 At-loop = λ Inv μ. Lts.At-loop (
+  Reads'11.Asked,
+  Reads'11.Learnt,
   Reads'8.Asked,
   Reads'8.Learnt,
-  Reads'9.Asked,
-  Reads'9.Learnt,
   Reads.Asked,
   Reads.Learnt,
   Reads'7.Asked,
   Reads'7.Learnt,
-  Reads'10.Asked,
-  Reads'10.Learnt,
+  Reads'9.Asked,
+  Reads'9.Learnt,
   Reads'.Asked,
   Reads'.Learnt,
   Reads'6.Asked,
@@ -440,23 +434,22 @@ At-loop = λ Inv μ. Lts.At-loop (
   Reads''.Learnt,
   Reads'5.Asked,
   Reads'5.Learnt,
-  Reads'11.Asked,
-  Reads'11.Learnt,
-) Reads'4.Pre Reads'4.Post
-    Inv μ
+  Reads'10.Asked,
+  Reads'10.Learnt,
+) Reads'4.Pre Reads'4.Post Inv μ
 
 abbrev pub In-loop : (Inv : InvT-loop) → (μ : MeasureT-loop) → Type 0
 In-loop = λ Inv μ. Lts.In-loop (
+  Reads'11.Asked,
+  Reads'11.Learnt,
   Reads'8.Asked,
   Reads'8.Learnt,
-  Reads'9.Asked,
-  Reads'9.Learnt,
   Reads.Asked,
   Reads.Learnt,
   Reads'7.Asked,
   Reads'7.Learnt,
-  Reads'10.Asked,
-  Reads'10.Learnt,
+  Reads'9.Asked,
+  Reads'9.Learnt,
   Reads'.Asked,
   Reads'.Learnt,
   Reads'6.Asked,
@@ -467,23 +460,22 @@ In-loop = λ Inv μ. Lts.In-loop (
   Reads''.Learnt,
   Reads'5.Asked,
   Reads'5.Learnt,
-  Reads'11.Asked,
-  Reads'11.Learnt,
-) Reads'4.Pre Reads'4.Post
-    Inv μ
+  Reads'10.Asked,
+  Reads'10.Learnt,
+) Reads'4.Pre Reads'4.Post Inv μ
 
 abbrev pub After-loop : (Inv : InvT-loop) → (μ : MeasureT-loop) → Type 0
 After-loop = λ Inv μ. Lts.After-loop (
+  Reads'11.Asked,
+  Reads'11.Learnt,
   Reads'8.Asked,
   Reads'8.Learnt,
-  Reads'9.Asked,
-  Reads'9.Learnt,
   Reads.Asked,
   Reads.Learnt,
   Reads'7.Asked,
   Reads'7.Learnt,
-  Reads'10.Asked,
-  Reads'10.Learnt,
+  Reads'9.Asked,
+  Reads'9.Learnt,
   Reads'.Asked,
   Reads'.Learnt,
   Reads'6.Asked,
@@ -494,23 +486,22 @@ After-loop = λ Inv μ. Lts.After-loop (
   Reads''.Learnt,
   Reads'5.Asked,
   Reads'5.Learnt,
-  Reads'11.Asked,
-  Reads'11.Learnt,
-) Reads'4.Pre
-    Reads'4.Post Inv μ
+  Reads'10.Asked,
+  Reads'10.Learnt,
+) Reads'4.Pre Reads'4.Post Inv μ
 
 abbrev pub After-turn-arg : (Inv : InvT-loop) → (μ : MeasureT-loop) → Type 0
 After-turn-arg = λ Inv μ. Lts.After-turn-arg (
+  Reads'11.Asked,
+  Reads'11.Learnt,
   Reads'8.Asked,
   Reads'8.Learnt,
-  Reads'9.Asked,
-  Reads'9.Learnt,
   Reads.Asked,
   Reads.Learnt,
   Reads'7.Asked,
   Reads'7.Learnt,
-  Reads'10.Asked,
-  Reads'10.Learnt,
+  Reads'9.Asked,
+  Reads'9.Learnt,
   Reads'.Asked,
   Reads'.Learnt,
   Reads'6.Asked,
@@ -521,23 +512,22 @@ After-turn-arg = λ Inv μ. Lts.After-turn-arg (
   Reads''.Learnt,
   Reads'5.Asked,
   Reads'5.Learnt,
-  Reads'11.Asked,
-  Reads'11.Learnt,
-) Reads'4.Pre
-    Reads'4.Post Inv μ
+  Reads'10.Asked,
+  Reads'10.Learnt,
+) Reads'4.Pre Reads'4.Post Inv μ
 
 abbrev pub After-turn : (Inv : InvT-loop) → (μ : MeasureT-loop) → Type 0
 After-turn = λ Inv μ. Lts.After-turn (
+  Reads'11.Asked,
+  Reads'11.Learnt,
   Reads'8.Asked,
   Reads'8.Learnt,
-  Reads'9.Asked,
-  Reads'9.Learnt,
   Reads.Asked,
   Reads.Learnt,
   Reads'7.Asked,
   Reads'7.Learnt,
-  Reads'10.Asked,
-  Reads'10.Learnt,
+  Reads'9.Asked,
+  Reads'9.Learnt,
   Reads'.Asked,
   Reads'.Learnt,
   Reads'6.Asked,
@@ -548,23 +538,22 @@ After-turn = λ Inv μ. Lts.After-turn (
   Reads''.Learnt,
   Reads'5.Asked,
   Reads'5.Learnt,
-  Reads'11.Asked,
-  Reads'11.Learnt,
-) Reads'4.Pre
-    Reads'4.Post Inv μ
+  Reads'10.Asked,
+  Reads'10.Learnt,
+) Reads'4.Pre Reads'4.Post Inv μ
 
 abbrev pub After-lines2 : (Inv : InvT-loop) → (μ : MeasureT-loop) → Type 0
 After-lines2 = λ Inv μ. Lts.After-lines2 (
+  Reads'11.Asked,
+  Reads'11.Learnt,
   Reads'8.Asked,
   Reads'8.Learnt,
-  Reads'9.Asked,
-  Reads'9.Learnt,
   Reads.Asked,
   Reads.Learnt,
   Reads'7.Asked,
   Reads'7.Learnt,
-  Reads'10.Asked,
-  Reads'10.Learnt,
+  Reads'9.Asked,
+  Reads'9.Learnt,
   Reads'.Asked,
   Reads'.Learnt,
   Reads'6.Asked,
@@ -575,23 +564,22 @@ After-lines2 = λ Inv μ. Lts.After-lines2 (
   Reads''.Learnt,
   Reads'5.Asked,
   Reads'5.Learnt,
-  Reads'11.Asked,
-  Reads'11.Learnt,
-) Reads'4.Pre
-    Reads'4.Post Inv μ
+  Reads'10.Asked,
+  Reads'10.Learnt,
+) Reads'4.Pre Reads'4.Post Inv μ
 
 abbrev pub After-slice-known4 : (Inv : InvT-loop) → (μ : MeasureT-loop) → Type 0
 After-slice-known4 = λ Inv μ. Lts.After-slice-known4 (
+  Reads'11.Asked,
+  Reads'11.Learnt,
   Reads'8.Asked,
   Reads'8.Learnt,
-  Reads'9.Asked,
-  Reads'9.Learnt,
   Reads.Asked,
   Reads.Learnt,
   Reads'7.Asked,
   Reads'7.Learnt,
-  Reads'10.Asked,
-  Reads'10.Learnt,
+  Reads'9.Asked,
+  Reads'9.Learnt,
   Reads'.Asked,
   Reads'.Learnt,
   Reads'6.Asked,
@@ -602,22 +590,22 @@ After-slice-known4 = λ Inv μ. Lts.After-slice-known4 (
   Reads''.Learnt,
   Reads'5.Asked,
   Reads'5.Learnt,
-  Reads'11.Asked,
-  Reads'11.Learnt,
+  Reads'10.Asked,
+  Reads'10.Learnt,
 ) Reads'4.Pre Reads'4.Post Inv μ
 
 abbrev pub After-base-of2 : (Inv : InvT-loop) → (μ : MeasureT-loop) → Type 0
 After-base-of2 = λ Inv μ. Lts.After-base-of2 (
+  Reads'11.Asked,
+  Reads'11.Learnt,
   Reads'8.Asked,
   Reads'8.Learnt,
-  Reads'9.Asked,
-  Reads'9.Learnt,
   Reads.Asked,
   Reads.Learnt,
   Reads'7.Asked,
   Reads'7.Learnt,
-  Reads'10.Asked,
-  Reads'10.Learnt,
+  Reads'9.Asked,
+  Reads'9.Learnt,
   Reads'.Asked,
   Reads'.Learnt,
   Reads'6.Asked,
@@ -628,23 +616,22 @@ After-base-of2 = λ Inv μ. Lts.After-base-of2 (
   Reads''.Learnt,
   Reads'5.Asked,
   Reads'5.Learnt,
-  Reads'11.Asked,
-  Reads'11.Learnt,
-) Reads'4.Pre
-    Reads'4.Post Inv μ
+  Reads'10.Asked,
+  Reads'10.Learnt,
+) Reads'4.Pre Reads'4.Post Inv μ
 
 abbrev pub After-restart-arg : (Inv : InvT-loop) → (μ : MeasureT-loop) → Type 0
 After-restart-arg = λ Inv μ. Lts.After-restart-arg (
+  Reads'11.Asked,
+  Reads'11.Learnt,
   Reads'8.Asked,
   Reads'8.Learnt,
-  Reads'9.Asked,
-  Reads'9.Learnt,
   Reads.Asked,
   Reads.Learnt,
   Reads'7.Asked,
   Reads'7.Learnt,
-  Reads'10.Asked,
-  Reads'10.Learnt,
+  Reads'9.Asked,
+  Reads'9.Learnt,
   Reads'.Asked,
   Reads'.Learnt,
   Reads'6.Asked,
@@ -655,22 +642,22 @@ After-restart-arg = λ Inv μ. Lts.After-restart-arg (
   Reads''.Learnt,
   Reads'5.Asked,
   Reads'5.Learnt,
-  Reads'11.Asked,
-  Reads'11.Learnt,
+  Reads'10.Asked,
+  Reads'10.Learnt,
 ) Reads'4.Pre Reads'4.Post Inv μ
 
 abbrev pub After-is-restarted : (Inv : InvT-loop) → (μ : MeasureT-loop) → Type 0
 After-is-restarted = λ Inv μ. Lts.After-is-restarted (
+  Reads'11.Asked,
+  Reads'11.Learnt,
   Reads'8.Asked,
   Reads'8.Learnt,
-  Reads'9.Asked,
-  Reads'9.Learnt,
   Reads.Asked,
   Reads.Learnt,
   Reads'7.Asked,
   Reads'7.Learnt,
-  Reads'10.Asked,
-  Reads'10.Learnt,
+  Reads'9.Asked,
+  Reads'9.Learnt,
   Reads'.Asked,
   Reads'.Learnt,
   Reads'6.Asked,
@@ -681,22 +668,22 @@ After-is-restarted = λ Inv μ. Lts.After-is-restarted (
   Reads''.Learnt,
   Reads'5.Asked,
   Reads'5.Learnt,
-  Reads'11.Asked,
-  Reads'11.Learnt,
+  Reads'10.Asked,
+  Reads'10.Learnt,
 ) Reads'4.Pre Reads'4.Post Inv μ
 
 abbrev pub After-restart : (Inv : InvT-loop) → (μ : MeasureT-loop) → Type 0
 After-restart = λ Inv μ. Lts.After-restart (
+  Reads'11.Asked,
+  Reads'11.Learnt,
   Reads'8.Asked,
   Reads'8.Learnt,
-  Reads'9.Asked,
-  Reads'9.Learnt,
   Reads.Asked,
   Reads.Learnt,
   Reads'7.Asked,
   Reads'7.Learnt,
-  Reads'10.Asked,
-  Reads'10.Learnt,
+  Reads'9.Asked,
+  Reads'9.Learnt,
   Reads'.Asked,
   Reads'.Learnt,
   Reads'6.Asked,
@@ -707,23 +694,22 @@ After-restart = λ Inv μ. Lts.After-restart (
   Reads''.Learnt,
   Reads'5.Asked,
   Reads'5.Learnt,
-  Reads'11.Asked,
-  Reads'11.Learnt,
-) Reads'4.Pre
-    Reads'4.Post Inv μ
+  Reads'10.Asked,
+  Reads'10.Learnt,
+) Reads'4.Pre Reads'4.Post Inv μ
 
 abbrev pub After-rs2 : (Inv : InvT-loop) → (μ : MeasureT-loop) → Type 0
 After-rs2 = λ Inv μ. Lts.After-rs2 (
+  Reads'11.Asked,
+  Reads'11.Learnt,
   Reads'8.Asked,
   Reads'8.Learnt,
-  Reads'9.Asked,
-  Reads'9.Learnt,
   Reads.Asked,
   Reads.Learnt,
   Reads'7.Asked,
   Reads'7.Learnt,
-  Reads'10.Asked,
-  Reads'10.Learnt,
+  Reads'9.Asked,
+  Reads'9.Learnt,
   Reads'.Asked,
   Reads'.Learnt,
   Reads'6.Asked,
@@ -734,23 +720,22 @@ After-rs2 = λ Inv μ. Lts.After-rs2 (
   Reads''.Learnt,
   Reads'5.Asked,
   Reads'5.Learnt,
-  Reads'11.Asked,
-  Reads'11.Learnt,
-) Reads'4.Pre
-    Reads'4.Post Inv μ
+  Reads'10.Asked,
+  Reads'10.Learnt,
+) Reads'4.Pre Reads'4.Post Inv μ
 
 abbrev pub After-line-arg : (Inv : InvT-loop) → (μ : MeasureT-loop) → Type 0
 After-line-arg = λ Inv μ. Lts.After-line-arg (
+  Reads'11.Asked,
+  Reads'11.Learnt,
   Reads'8.Asked,
   Reads'8.Learnt,
-  Reads'9.Asked,
-  Reads'9.Learnt,
   Reads.Asked,
   Reads.Learnt,
   Reads'7.Asked,
   Reads'7.Learnt,
-  Reads'10.Asked,
-  Reads'10.Learnt,
+  Reads'9.Asked,
+  Reads'9.Learnt,
   Reads'.Asked,
   Reads'.Learnt,
   Reads'6.Asked,
@@ -761,23 +746,22 @@ After-line-arg = λ Inv μ. Lts.After-line-arg (
   Reads''.Learnt,
   Reads'5.Asked,
   Reads'5.Learnt,
-  Reads'11.Asked,
-  Reads'11.Learnt,
-) Reads'4.Pre
-    Reads'4.Post Inv μ
+  Reads'10.Asked,
+  Reads'10.Learnt,
+) Reads'4.Pre Reads'4.Post Inv μ
 
 abbrev pub After-line-arg2 : (Inv : InvT-loop) → (μ : MeasureT-loop) → Type 0
 After-line-arg2 = λ Inv μ. Lts.After-line-arg2 (
+  Reads'11.Asked,
+  Reads'11.Learnt,
   Reads'8.Asked,
   Reads'8.Learnt,
-  Reads'9.Asked,
-  Reads'9.Learnt,
   Reads.Asked,
   Reads.Learnt,
   Reads'7.Asked,
   Reads'7.Learnt,
-  Reads'10.Asked,
-  Reads'10.Learnt,
+  Reads'9.Asked,
+  Reads'9.Learnt,
   Reads'.Asked,
   Reads'.Learnt,
   Reads'6.Asked,
@@ -788,22 +772,22 @@ After-line-arg2 = λ Inv μ. Lts.After-line-arg2 (
   Reads''.Learnt,
   Reads'5.Asked,
   Reads'5.Learnt,
-  Reads'11.Asked,
-  Reads'11.Learnt,
+  Reads'10.Asked,
+  Reads'10.Learnt,
 ) Reads'4.Pre Reads'4.Post Inv μ
 
 abbrev pub After-quantisers-of : (Inv : InvT-loop) → (μ : MeasureT-loop) → Type 0
 After-quantisers-of = λ Inv μ. Lts.After-quantisers-of (
+  Reads'11.Asked,
+  Reads'11.Learnt,
   Reads'8.Asked,
   Reads'8.Learnt,
-  Reads'9.Asked,
-  Reads'9.Learnt,
   Reads.Asked,
   Reads.Learnt,
   Reads'7.Asked,
   Reads'7.Learnt,
-  Reads'10.Asked,
-  Reads'10.Learnt,
+  Reads'9.Asked,
+  Reads'9.Learnt,
   Reads'.Asked,
   Reads'.Learnt,
   Reads'6.Asked,
@@ -814,22 +798,22 @@ After-quantisers-of = λ Inv μ. Lts.After-quantisers-of (
   Reads''.Learnt,
   Reads'5.Asked,
   Reads'5.Learnt,
-  Reads'11.Asked,
-  Reads'11.Learnt,
+  Reads'10.Asked,
+  Reads'10.Learnt,
 ) Reads'4.Pre Reads'4.Post Inv μ
 
 abbrev pub After-line : (Inv : InvT-loop) → (μ : MeasureT-loop) → Type 0
 After-line = λ Inv μ. Lts.After-line (
+  Reads'11.Asked,
+  Reads'11.Learnt,
   Reads'8.Asked,
   Reads'8.Learnt,
-  Reads'9.Asked,
-  Reads'9.Learnt,
   Reads.Asked,
   Reads.Learnt,
   Reads'7.Asked,
   Reads'7.Learnt,
-  Reads'10.Asked,
-  Reads'10.Learnt,
+  Reads'9.Asked,
+  Reads'9.Learnt,
   Reads'.Asked,
   Reads'.Learnt,
   Reads'6.Asked,
@@ -840,23 +824,22 @@ After-line = λ Inv μ. Lts.After-line (
   Reads''.Learnt,
   Reads'5.Asked,
   Reads'5.Learnt,
-  Reads'11.Asked,
-  Reads'11.Learnt,
-) Reads'4.Pre
-    Reads'4.Post Inv μ
+  Reads'10.Asked,
+  Reads'10.Learnt,
+) Reads'4.Pre Reads'4.Post Inv μ
 
 abbrev pub After-lines3 : (Inv : InvT-loop) → (μ : MeasureT-loop) → Type 0
 After-lines3 = λ Inv μ. Lts.After-lines3 (
+  Reads'11.Asked,
+  Reads'11.Learnt,
   Reads'8.Asked,
   Reads'8.Learnt,
-  Reads'9.Asked,
-  Reads'9.Learnt,
   Reads.Asked,
   Reads.Learnt,
   Reads'7.Asked,
   Reads'7.Learnt,
-  Reads'10.Asked,
-  Reads'10.Learnt,
+  Reads'9.Asked,
+  Reads'9.Learnt,
   Reads'.Asked,
   Reads'.Learnt,
   Reads'6.Asked,
@@ -867,23 +850,22 @@ After-lines3 = λ Inv μ. Lts.After-lines3 (
   Reads''.Learnt,
   Reads'5.Asked,
   Reads'5.Learnt,
-  Reads'11.Asked,
-  Reads'11.Learnt,
-) Reads'4.Pre
-    Reads'4.Post Inv μ
+  Reads'10.Asked,
+  Reads'10.Learnt,
+) Reads'4.Pre Reads'4.Post Inv μ
 
 abbrev pub After-slice-known5 : (Inv : InvT-loop) → (μ : MeasureT-loop) → Type 0
 After-slice-known5 = λ Inv μ. Lts.After-slice-known5 (
+  Reads'11.Asked,
+  Reads'11.Learnt,
   Reads'8.Asked,
   Reads'8.Learnt,
-  Reads'9.Asked,
-  Reads'9.Learnt,
   Reads.Asked,
   Reads.Learnt,
   Reads'7.Asked,
   Reads'7.Learnt,
-  Reads'10.Asked,
-  Reads'10.Learnt,
+  Reads'9.Asked,
+  Reads'9.Learnt,
   Reads'.Asked,
   Reads'.Learnt,
   Reads'6.Asked,
@@ -894,22 +876,22 @@ After-slice-known5 = λ Inv μ. Lts.After-slice-known5 (
   Reads''.Learnt,
   Reads'5.Asked,
   Reads'5.Learnt,
-  Reads'11.Asked,
-  Reads'11.Learnt,
+  Reads'10.Asked,
+  Reads'10.Learnt,
 ) Reads'4.Pre Reads'4.Post Inv μ
 
 abbrev pub After-rs3 : (Inv : InvT-loop) → (μ : MeasureT-loop) → Type 0
 After-rs3 = λ Inv μ. Lts.After-rs3 (
+  Reads'11.Asked,
+  Reads'11.Learnt,
   Reads'8.Asked,
   Reads'8.Learnt,
-  Reads'9.Asked,
-  Reads'9.Learnt,
   Reads.Asked,
   Reads.Learnt,
   Reads'7.Asked,
   Reads'7.Learnt,
-  Reads'10.Asked,
-  Reads'10.Learnt,
+  Reads'9.Asked,
+  Reads'9.Learnt,
   Reads'.Asked,
   Reads'.Learnt,
   Reads'6.Asked,
@@ -920,23 +902,22 @@ After-rs3 = λ Inv μ. Lts.After-rs3 (
   Reads''.Learnt,
   Reads'5.Asked,
   Reads'5.Learnt,
-  Reads'11.Asked,
-  Reads'11.Learnt,
-) Reads'4.Pre
-    Reads'4.Post Inv μ
+  Reads'10.Asked,
+  Reads'10.Learnt,
+) Reads'4.Pre Reads'4.Post Inv μ
 
 abbrev pub At-match-keys1 : (Inv : InvT-loop) → (μ : MeasureT-loop) → Type 0
 At-match-keys1 = λ Inv μ. Lts.At-match-keys1 (
+  Reads'11.Asked,
+  Reads'11.Learnt,
   Reads'8.Asked,
   Reads'8.Learnt,
-  Reads'9.Asked,
-  Reads'9.Learnt,
   Reads.Asked,
   Reads.Learnt,
   Reads'7.Asked,
   Reads'7.Learnt,
-  Reads'10.Asked,
-  Reads'10.Learnt,
+  Reads'9.Asked,
+  Reads'9.Learnt,
   Reads'.Asked,
   Reads'.Learnt,
   Reads'6.Asked,
@@ -947,23 +928,22 @@ At-match-keys1 = λ Inv μ. Lts.At-match-keys1 (
   Reads''.Learnt,
   Reads'5.Asked,
   Reads'5.Learnt,
-  Reads'11.Asked,
-  Reads'11.Learnt,
-) Reads'4.Pre
-    Reads'4.Post Inv μ
+  Reads'10.Asked,
+  Reads'10.Learnt,
+) Reads'4.Pre Reads'4.Post Inv μ
 
 abbrev pub After-got : (Inv : InvT-loop) → (μ : MeasureT-loop) → Type 0
 After-got = λ Inv μ. Lts.After-got (
+  Reads'11.Asked,
+  Reads'11.Learnt,
   Reads'8.Asked,
   Reads'8.Learnt,
-  Reads'9.Asked,
-  Reads'9.Learnt,
   Reads.Asked,
   Reads.Learnt,
   Reads'7.Asked,
   Reads'7.Learnt,
-  Reads'10.Asked,
-  Reads'10.Learnt,
+  Reads'9.Asked,
+  Reads'9.Learnt,
   Reads'.Asked,
   Reads'.Learnt,
   Reads'6.Asked,
@@ -974,23 +954,22 @@ After-got = λ Inv μ. Lts.After-got (
   Reads''.Learnt,
   Reads'5.Asked,
   Reads'5.Learnt,
-  Reads'11.Asked,
-  Reads'11.Learnt,
-) Reads'4.Pre
-    Reads'4.Post Inv μ
+  Reads'10.Asked,
+  Reads'10.Learnt,
+) Reads'4.Pre Reads'4.Post Inv μ
 
 abbrev pub After-known-told : (Inv : InvT-loop) → (μ : MeasureT-loop) → Type 0
 After-known-told = λ Inv μ. Lts.After-known-told (
+  Reads'11.Asked,
+  Reads'11.Learnt,
   Reads'8.Asked,
   Reads'8.Learnt,
-  Reads'9.Asked,
-  Reads'9.Learnt,
   Reads.Asked,
   Reads.Learnt,
   Reads'7.Asked,
   Reads'7.Learnt,
-  Reads'10.Asked,
-  Reads'10.Learnt,
+  Reads'9.Asked,
+  Reads'9.Learnt,
   Reads'.Asked,
   Reads'.Learnt,
   Reads'6.Asked,
@@ -1001,22 +980,22 @@ After-known-told = λ Inv μ. Lts.After-known-told (
   Reads''.Learnt,
   Reads'5.Asked,
   Reads'5.Learnt,
-  Reads'11.Asked,
-  Reads'11.Learnt,
+  Reads'10.Asked,
+  Reads'10.Learnt,
 ) Reads'4.Pre Reads'4.Post Inv μ
 
 abbrev pub At-match-keys2 : (Inv : InvT-loop) → (μ : MeasureT-loop) → Type 0
 At-match-keys2 = λ Inv μ. Lts.At-match-keys2 (
+  Reads'11.Asked,
+  Reads'11.Learnt,
   Reads'8.Asked,
   Reads'8.Learnt,
-  Reads'9.Asked,
-  Reads'9.Learnt,
   Reads.Asked,
   Reads.Learnt,
   Reads'7.Asked,
   Reads'7.Learnt,
-  Reads'10.Asked,
-  Reads'10.Learnt,
+  Reads'9.Asked,
+  Reads'9.Learnt,
   Reads'.Asked,
   Reads'.Learnt,
   Reads'6.Asked,
@@ -1027,23 +1006,22 @@ At-match-keys2 = λ Inv μ. Lts.At-match-keys2 (
   Reads''.Learnt,
   Reads'5.Asked,
   Reads'5.Learnt,
-  Reads'11.Asked,
-  Reads'11.Learnt,
-) Reads'4.Pre
-    Reads'4.Post Inv μ
+  Reads'10.Asked,
+  Reads'10.Learnt,
+) Reads'4.Pre Reads'4.Post Inv μ
 
 abbrev pub After-enum-told : (Inv : InvT-loop) → (μ : MeasureT-loop) → Type 0
 After-enum-told = λ Inv μ. Lts.After-enum-told (
+  Reads'11.Asked,
+  Reads'11.Learnt,
   Reads'8.Asked,
   Reads'8.Learnt,
-  Reads'9.Asked,
-  Reads'9.Learnt,
   Reads.Asked,
   Reads.Learnt,
   Reads'7.Asked,
   Reads'7.Learnt,
-  Reads'10.Asked,
-  Reads'10.Learnt,
+  Reads'9.Asked,
+  Reads'9.Learnt,
   Reads'.Asked,
   Reads'.Learnt,
   Reads'6.Asked,
@@ -1054,22 +1032,22 @@ After-enum-told = λ Inv μ. Lts.After-enum-told (
   Reads''.Learnt,
   Reads'5.Asked,
   Reads'5.Learnt,
-  Reads'11.Asked,
-  Reads'11.Learnt,
+  Reads'10.Asked,
+  Reads'10.Learnt,
 ) Reads'4.Pre Reads'4.Post Inv μ
 
 abbrev pub After-tight-count : (Inv : InvT-loop) → (μ : MeasureT-loop) → Type 0
 After-tight-count = λ Inv μ. Lts.After-tight-count (
+  Reads'11.Asked,
+  Reads'11.Learnt,
   Reads'8.Asked,
   Reads'8.Learnt,
-  Reads'9.Asked,
-  Reads'9.Learnt,
   Reads.Asked,
   Reads.Learnt,
   Reads'7.Asked,
   Reads'7.Learnt,
-  Reads'10.Asked,
-  Reads'10.Learnt,
+  Reads'9.Asked,
+  Reads'9.Learnt,
   Reads'.Asked,
   Reads'.Learnt,
   Reads'6.Asked,
@@ -1080,22 +1058,22 @@ After-tight-count = λ Inv μ. Lts.After-tight-count (
   Reads''.Learnt,
   Reads'5.Asked,
   Reads'5.Learnt,
-  Reads'11.Asked,
-  Reads'11.Learnt,
+  Reads'10.Asked,
+  Reads'10.Learnt,
 ) Reads'4.Pre Reads'4.Post Inv μ
 
 abbrev pub After-emit-line-arg : (Inv : InvT-loop) → (μ : MeasureT-loop) → Type 0
 After-emit-line-arg = λ Inv μ. Lts.After-emit-line-arg (
+  Reads'11.Asked,
+  Reads'11.Learnt,
   Reads'8.Asked,
   Reads'8.Learnt,
-  Reads'9.Asked,
-  Reads'9.Learnt,
   Reads.Asked,
   Reads.Learnt,
   Reads'7.Asked,
   Reads'7.Learnt,
-  Reads'10.Asked,
-  Reads'10.Learnt,
+  Reads'9.Asked,
+  Reads'9.Learnt,
   Reads'.Asked,
   Reads'.Learnt,
   Reads'6.Asked,
@@ -1106,22 +1084,22 @@ After-emit-line-arg = λ Inv μ. Lts.After-emit-line-arg (
   Reads''.Learnt,
   Reads'5.Asked,
   Reads'5.Learnt,
-  Reads'11.Asked,
-  Reads'11.Learnt,
+  Reads'10.Asked,
+  Reads'10.Learnt,
 ) Reads'4.Pre Reads'4.Post Inv μ
 
 abbrev pub After-emit-line-arg2 : (Inv : InvT-loop) → (μ : MeasureT-loop) → Type 0
 After-emit-line-arg2 = λ Inv μ. Lts.After-emit-line-arg2 (
+  Reads'11.Asked,
+  Reads'11.Learnt,
   Reads'8.Asked,
   Reads'8.Learnt,
-  Reads'9.Asked,
-  Reads'9.Learnt,
   Reads.Asked,
   Reads.Learnt,
   Reads'7.Asked,
   Reads'7.Learnt,
-  Reads'10.Asked,
-  Reads'10.Learnt,
+  Reads'9.Asked,
+  Reads'9.Learnt,
   Reads'.Asked,
   Reads'.Learnt,
   Reads'6.Asked,
@@ -1132,22 +1110,22 @@ After-emit-line-arg2 = λ Inv μ. Lts.After-emit-line-arg2 (
   Reads''.Learnt,
   Reads'5.Asked,
   Reads'5.Learnt,
-  Reads'11.Asked,
-  Reads'11.Learnt,
+  Reads'10.Asked,
+  Reads'10.Learnt,
 ) Reads'4.Pre Reads'4.Post Inv μ
 
 abbrev pub After-emit-line : (Inv : InvT-loop) → (μ : MeasureT-loop) → Type 0
 After-emit-line = λ Inv μ. Lts.After-emit-line (
+  Reads'11.Asked,
+  Reads'11.Learnt,
   Reads'8.Asked,
   Reads'8.Learnt,
-  Reads'9.Asked,
-  Reads'9.Learnt,
   Reads.Asked,
   Reads.Learnt,
   Reads'7.Asked,
   Reads'7.Learnt,
-  Reads'10.Asked,
-  Reads'10.Learnt,
+  Reads'9.Asked,
+  Reads'9.Learnt,
   Reads'.Asked,
   Reads'.Learnt,
   Reads'6.Asked,
@@ -1158,22 +1136,22 @@ After-emit-line = λ Inv μ. Lts.After-emit-line (
   Reads''.Learnt,
   Reads'5.Asked,
   Reads'5.Learnt,
-  Reads'11.Asked,
-  Reads'11.Learnt,
+  Reads'10.Asked,
+  Reads'10.Learnt,
 ) Reads'4.Pre Reads'4.Post Inv μ
 
 abbrev pub After-image : (Inv : InvT-loop) → (μ : MeasureT-loop) → Type 0
 After-image = λ Inv μ. Lts.After-image (
+  Reads'11.Asked,
+  Reads'11.Learnt,
   Reads'8.Asked,
   Reads'8.Learnt,
-  Reads'9.Asked,
-  Reads'9.Learnt,
   Reads.Asked,
   Reads.Learnt,
   Reads'7.Asked,
   Reads'7.Learnt,
-  Reads'10.Asked,
-  Reads'10.Learnt,
+  Reads'9.Asked,
+  Reads'9.Learnt,
   Reads'.Asked,
   Reads'.Learnt,
   Reads'6.Asked,
@@ -1184,23 +1162,22 @@ After-image = λ Inv μ. Lts.After-image (
   Reads''.Learnt,
   Reads'5.Asked,
   Reads'5.Learnt,
-  Reads'11.Asked,
-  Reads'11.Learnt,
-) Reads'4.Pre
-    Reads'4.Post Inv μ
+  Reads'10.Asked,
+  Reads'10.Learnt,
+) Reads'4.Pre Reads'4.Post Inv μ
 
 abbrev pub After-slice-known6 : (Inv : InvT-loop) → (μ : MeasureT-loop) → Type 0
 After-slice-known6 = λ Inv μ. Lts.After-slice-known6 (
+  Reads'11.Asked,
+  Reads'11.Learnt,
   Reads'8.Asked,
   Reads'8.Learnt,
-  Reads'9.Asked,
-  Reads'9.Learnt,
   Reads.Asked,
   Reads.Learnt,
   Reads'7.Asked,
   Reads'7.Learnt,
-  Reads'10.Asked,
-  Reads'10.Learnt,
+  Reads'9.Asked,
+  Reads'9.Learnt,
   Reads'.Asked,
   Reads'.Learnt,
   Reads'6.Asked,
@@ -1211,22 +1188,22 @@ After-slice-known6 = λ Inv μ. Lts.After-slice-known6 (
   Reads''.Learnt,
   Reads'5.Asked,
   Reads'5.Learnt,
-  Reads'11.Asked,
-  Reads'11.Learnt,
+  Reads'10.Asked,
+  Reads'10.Learnt,
 ) Reads'4.Pre Reads'4.Post Inv μ
 
 abbrev pub Need-width-requires : (Inv : InvT-loop) → (μ : MeasureT-loop) → Type 0
 Need-width-requires = λ Inv μ. Lts.Need-width-requires (
+  Reads'11.Asked,
+  Reads'11.Learnt,
   Reads'8.Asked,
   Reads'8.Learnt,
-  Reads'9.Asked,
-  Reads'9.Learnt,
   Reads.Asked,
   Reads.Learnt,
   Reads'7.Asked,
   Reads'7.Learnt,
-  Reads'10.Asked,
-  Reads'10.Learnt,
+  Reads'9.Asked,
+  Reads'9.Learnt,
   Reads'.Asked,
   Reads'.Learnt,
   Reads'6.Asked,
@@ -1237,22 +1214,22 @@ Need-width-requires = λ Inv μ. Lts.Need-width-requires (
   Reads''.Learnt,
   Reads'5.Asked,
   Reads'5.Learnt,
-  Reads'11.Asked,
-  Reads'11.Learnt,
+  Reads'10.Asked,
+  Reads'10.Learnt,
 ) Reads'4.Pre Reads'4.Post Inv μ
 
 abbrev pub Need-clear-requires : (Inv : InvT-loop) → (μ : MeasureT-loop) → Type 0
 Need-clear-requires = λ Inv μ. Lts.Need-clear-requires (
+  Reads'11.Asked,
+  Reads'11.Learnt,
   Reads'8.Asked,
   Reads'8.Learnt,
-  Reads'9.Asked,
-  Reads'9.Learnt,
   Reads.Asked,
   Reads.Learnt,
   Reads'7.Asked,
   Reads'7.Learnt,
-  Reads'10.Asked,
-  Reads'10.Learnt,
+  Reads'9.Asked,
+  Reads'9.Learnt,
   Reads'.Asked,
   Reads'.Learnt,
   Reads'6.Asked,
@@ -1263,22 +1240,22 @@ Need-clear-requires = λ Inv μ. Lts.Need-clear-requires (
   Reads''.Learnt,
   Reads'5.Asked,
   Reads'5.Learnt,
-  Reads'11.Asked,
-  Reads'11.Learnt,
+  Reads'10.Asked,
+  Reads'10.Learnt,
 ) Reads'4.Pre Reads'4.Post Inv μ
 
 abbrev pub Need-base-of-requires : (Inv : InvT-loop) → (μ : MeasureT-loop) → Type 0
 Need-base-of-requires = λ Inv μ. Lts.Need-base-of-requires (
+  Reads'11.Asked,
+  Reads'11.Learnt,
   Reads'8.Asked,
   Reads'8.Learnt,
-  Reads'9.Asked,
-  Reads'9.Learnt,
   Reads.Asked,
   Reads.Learnt,
   Reads'7.Asked,
   Reads'7.Learnt,
-  Reads'10.Asked,
-  Reads'10.Learnt,
+  Reads'9.Asked,
+  Reads'9.Learnt,
   Reads'.Asked,
   Reads'.Learnt,
   Reads'6.Asked,
@@ -1289,22 +1266,22 @@ Need-base-of-requires = λ Inv μ. Lts.Need-base-of-requires (
   Reads''.Learnt,
   Reads'5.Asked,
   Reads'5.Learnt,
-  Reads'11.Asked,
-  Reads'11.Learnt,
+  Reads'10.Asked,
+  Reads'10.Learnt,
 ) Reads'4.Pre Reads'4.Post Inv μ
 
 abbrev pub Need-start-records-requires : (Inv : InvT-loop) → (μ : MeasureT-loop) → Type 0
 Need-start-records-requires = λ Inv μ. Lts.Need-start-records-requires (
+  Reads'11.Asked,
+  Reads'11.Learnt,
   Reads'8.Asked,
   Reads'8.Learnt,
-  Reads'9.Asked,
-  Reads'9.Learnt,
   Reads.Asked,
   Reads.Learnt,
   Reads'7.Asked,
   Reads'7.Learnt,
-  Reads'10.Asked,
-  Reads'10.Learnt,
+  Reads'9.Asked,
+  Reads'9.Learnt,
   Reads'.Asked,
   Reads'.Learnt,
   Reads'6.Asked,
@@ -1315,22 +1292,22 @@ Need-start-records-requires = λ Inv μ. Lts.Need-start-records-requires (
   Reads''.Learnt,
   Reads'5.Asked,
   Reads'5.Learnt,
-  Reads'11.Asked,
-  Reads'11.Learnt,
+  Reads'10.Asked,
+  Reads'10.Learnt,
 ) Reads'4.Pre Reads'4.Post Inv μ
 
 abbrev pub Need-loop-holds : (Inv : InvT-loop) → (μ : MeasureT-loop) → Type 0
 Need-loop-holds = λ Inv μ. Lts.Need-loop-holds (
+  Reads'11.Asked,
+  Reads'11.Learnt,
   Reads'8.Asked,
   Reads'8.Learnt,
-  Reads'9.Asked,
-  Reads'9.Learnt,
   Reads.Asked,
   Reads.Learnt,
   Reads'7.Asked,
   Reads'7.Learnt,
-  Reads'10.Asked,
-  Reads'10.Learnt,
+  Reads'9.Asked,
+  Reads'9.Learnt,
   Reads'.Asked,
   Reads'.Learnt,
   Reads'6.Asked,
@@ -1341,22 +1318,22 @@ Need-loop-holds = λ Inv μ. Lts.Need-loop-holds (
   Reads''.Learnt,
   Reads'5.Asked,
   Reads'5.Learnt,
-  Reads'11.Asked,
-  Reads'11.Learnt,
+  Reads'10.Asked,
+  Reads'10.Learnt,
 ) Reads'4.Pre Reads'4.Post Inv μ
 
 abbrev pub Need-turn-requires : (Inv : InvT-loop) → (μ : MeasureT-loop) → Type 0
 Need-turn-requires = λ Inv μ. Lts.Need-turn-requires (
+  Reads'11.Asked,
+  Reads'11.Learnt,
   Reads'8.Asked,
   Reads'8.Learnt,
-  Reads'9.Asked,
-  Reads'9.Learnt,
   Reads.Asked,
   Reads.Learnt,
   Reads'7.Asked,
   Reads'7.Learnt,
-  Reads'10.Asked,
-  Reads'10.Learnt,
+  Reads'9.Asked,
+  Reads'9.Learnt,
   Reads'.Asked,
   Reads'.Learnt,
   Reads'6.Asked,
@@ -1367,22 +1344,22 @@ Need-turn-requires = λ Inv μ. Lts.Need-turn-requires (
   Reads''.Learnt,
   Reads'5.Asked,
   Reads'5.Learnt,
-  Reads'11.Asked,
-  Reads'11.Learnt,
+  Reads'10.Asked,
+  Reads'10.Learnt,
 ) Reads'4.Pre Reads'4.Post Inv μ
 
 abbrev pub Need-base-of-requires-2 : (Inv : InvT-loop) → (μ : MeasureT-loop) → Type 0
 Need-base-of-requires-2 = λ Inv μ. Lts.Need-base-of-requires-2 (
+  Reads'11.Asked,
+  Reads'11.Learnt,
   Reads'8.Asked,
   Reads'8.Learnt,
-  Reads'9.Asked,
-  Reads'9.Learnt,
   Reads.Asked,
   Reads.Learnt,
   Reads'7.Asked,
   Reads'7.Learnt,
-  Reads'10.Asked,
-  Reads'10.Learnt,
+  Reads'9.Asked,
+  Reads'9.Learnt,
   Reads'.Asked,
   Reads'.Learnt,
   Reads'6.Asked,
@@ -1393,22 +1370,22 @@ Need-base-of-requires-2 = λ Inv μ. Lts.Need-base-of-requires-2 (
   Reads''.Learnt,
   Reads'5.Asked,
   Reads'5.Learnt,
-  Reads'11.Asked,
-  Reads'11.Learnt,
+  Reads'10.Asked,
+  Reads'10.Learnt,
 ) Reads'4.Pre Reads'4.Post Inv μ
 
 abbrev pub Need-is-restarted-requires : (Inv : InvT-loop) → (μ : MeasureT-loop) → Type 0
 Need-is-restarted-requires = λ Inv μ. Lts.Need-is-restarted-requires (
+  Reads'11.Asked,
+  Reads'11.Learnt,
   Reads'8.Asked,
   Reads'8.Learnt,
-  Reads'9.Asked,
-  Reads'9.Learnt,
   Reads.Asked,
   Reads.Learnt,
   Reads'7.Asked,
   Reads'7.Learnt,
-  Reads'10.Asked,
-  Reads'10.Learnt,
+  Reads'9.Asked,
+  Reads'9.Learnt,
   Reads'.Asked,
   Reads'.Learnt,
   Reads'6.Asked,
@@ -1419,22 +1396,22 @@ Need-is-restarted-requires = λ Inv μ. Lts.Need-is-restarted-requires (
   Reads''.Learnt,
   Reads'5.Asked,
   Reads'5.Learnt,
-  Reads'11.Asked,
-  Reads'11.Learnt,
+  Reads'10.Asked,
+  Reads'10.Learnt,
 ) Reads'4.Pre Reads'4.Post Inv μ
 
 abbrev pub Need-restart-requires : (Inv : InvT-loop) → (μ : MeasureT-loop) → Type 0
 Need-restart-requires = λ Inv μ. Lts.Need-restart-requires (
+  Reads'11.Asked,
+  Reads'11.Learnt,
   Reads'8.Asked,
   Reads'8.Learnt,
-  Reads'9.Asked,
-  Reads'9.Learnt,
   Reads.Asked,
   Reads.Learnt,
   Reads'7.Asked,
   Reads'7.Learnt,
-  Reads'10.Asked,
-  Reads'10.Learnt,
+  Reads'9.Asked,
+  Reads'9.Learnt,
   Reads'.Asked,
   Reads'.Learnt,
   Reads'6.Asked,
@@ -1445,22 +1422,22 @@ Need-restart-requires = λ Inv μ. Lts.Need-restart-requires (
   Reads''.Learnt,
   Reads'5.Asked,
   Reads'5.Learnt,
-  Reads'11.Asked,
-  Reads'11.Learnt,
+  Reads'10.Asked,
+  Reads'10.Learnt,
 ) Reads'4.Pre Reads'4.Post Inv μ
 
 abbrev pub Need-quantisers-of-requires : (Inv : InvT-loop) → (μ : MeasureT-loop) → Type 0
 Need-quantisers-of-requires = λ Inv μ. Lts.Need-quantisers-of-requires (
+  Reads'11.Asked,
+  Reads'11.Learnt,
   Reads'8.Asked,
   Reads'8.Learnt,
-  Reads'9.Asked,
-  Reads'9.Learnt,
   Reads.Asked,
   Reads.Learnt,
   Reads'7.Asked,
   Reads'7.Learnt,
-  Reads'10.Asked,
-  Reads'10.Learnt,
+  Reads'9.Asked,
+  Reads'9.Learnt,
   Reads'.Asked,
   Reads'.Learnt,
   Reads'6.Asked,
@@ -1471,22 +1448,22 @@ Need-quantisers-of-requires = λ Inv μ. Lts.Need-quantisers-of-requires (
   Reads''.Learnt,
   Reads'5.Asked,
   Reads'5.Learnt,
-  Reads'11.Asked,
-  Reads'11.Learnt,
+  Reads'10.Asked,
+  Reads'10.Learnt,
 ) Reads'4.Pre Reads'4.Post Inv μ
 
 abbrev pub Need-line-requires : (Inv : InvT-loop) → (μ : MeasureT-loop) → Type 0
 Need-line-requires = λ Inv μ. Lts.Need-line-requires (
+  Reads'11.Asked,
+  Reads'11.Learnt,
   Reads'8.Asked,
   Reads'8.Learnt,
-  Reads'9.Asked,
-  Reads'9.Learnt,
   Reads.Asked,
   Reads.Learnt,
   Reads'7.Asked,
   Reads'7.Learnt,
-  Reads'10.Asked,
-  Reads'10.Learnt,
+  Reads'9.Asked,
+  Reads'9.Learnt,
   Reads'.Asked,
   Reads'.Learnt,
   Reads'6.Asked,
@@ -1497,22 +1474,22 @@ Need-line-requires = λ Inv μ. Lts.Need-line-requires (
   Reads''.Learnt,
   Reads'5.Asked,
   Reads'5.Learnt,
-  Reads'11.Asked,
-  Reads'11.Learnt,
+  Reads'10.Asked,
+  Reads'10.Learnt,
 ) Reads'4.Pre Reads'4.Post Inv μ
 
 abbrev pub Need-enum-known-got : (Inv : InvT-loop) → (μ : MeasureT-loop) → Type 0
 Need-enum-known-got = λ Inv μ. Lts.Need-enum-known-got (
+  Reads'11.Asked,
+  Reads'11.Learnt,
   Reads'8.Asked,
   Reads'8.Learnt,
-  Reads'9.Asked,
-  Reads'9.Learnt,
   Reads.Asked,
   Reads.Learnt,
   Reads'7.Asked,
   Reads'7.Learnt,
-  Reads'10.Asked,
-  Reads'10.Learnt,
+  Reads'9.Asked,
+  Reads'9.Learnt,
   Reads'.Asked,
   Reads'.Learnt,
   Reads'6.Asked,
@@ -1523,22 +1500,22 @@ Need-enum-known-got = λ Inv μ. Lts.Need-enum-known-got (
   Reads''.Learnt,
   Reads'5.Asked,
   Reads'5.Learnt,
-  Reads'11.Asked,
-  Reads'11.Learnt,
+  Reads'10.Asked,
+  Reads'10.Learnt,
 ) Reads'4.Pre Reads'4.Post Inv μ
 
 abbrev pub Need-enum-told : (Inv : InvT-loop) → (μ : MeasureT-loop) → Type 0
 Need-enum-told = λ Inv μ. Lts.Need-enum-told (
+  Reads'11.Asked,
+  Reads'11.Learnt,
   Reads'8.Asked,
   Reads'8.Learnt,
-  Reads'9.Asked,
-  Reads'9.Learnt,
   Reads.Asked,
   Reads.Learnt,
   Reads'7.Asked,
   Reads'7.Learnt,
-  Reads'10.Asked,
-  Reads'10.Learnt,
+  Reads'9.Asked,
+  Reads'9.Learnt,
   Reads'.Asked,
   Reads'.Learnt,
   Reads'6.Asked,
@@ -1549,23 +1526,22 @@ Need-enum-told = λ Inv μ. Lts.Need-enum-told (
   Reads''.Learnt,
   Reads'5.Asked,
   Reads'5.Learnt,
-  Reads'11.Asked,
-  Reads'11.Learnt,
-) Reads'4.Pre
-    Reads'4.Post Inv μ
+  Reads'10.Asked,
+  Reads'10.Learnt,
+) Reads'4.Pre Reads'4.Post Inv μ
 
 abbrev pub Need-same-length : (Inv : InvT-loop) → (μ : MeasureT-loop) → Type 0
 Need-same-length = λ Inv μ. Lts.Need-same-length (
+  Reads'11.Asked,
+  Reads'11.Learnt,
   Reads'8.Asked,
   Reads'8.Learnt,
-  Reads'9.Asked,
-  Reads'9.Learnt,
   Reads.Asked,
   Reads.Learnt,
   Reads'7.Asked,
   Reads'7.Learnt,
-  Reads'10.Asked,
-  Reads'10.Learnt,
+  Reads'9.Asked,
+  Reads'9.Learnt,
   Reads'.Asked,
   Reads'.Learnt,
   Reads'6.Asked,
@@ -1576,22 +1552,22 @@ Need-same-length = λ Inv μ. Lts.Need-same-length (
   Reads''.Learnt,
   Reads'5.Asked,
   Reads'5.Learnt,
-  Reads'11.Asked,
-  Reads'11.Learnt,
+  Reads'10.Asked,
+  Reads'10.Learnt,
 ) Reads'4.Pre Reads'4.Post Inv μ
 
 abbrev pub Need-same-length-2 : (Inv : InvT-loop) → (μ : MeasureT-loop) → Type 0
 Need-same-length-2 = λ Inv μ. Lts.Need-same-length-2 (
+  Reads'11.Asked,
+  Reads'11.Learnt,
   Reads'8.Asked,
   Reads'8.Learnt,
-  Reads'9.Asked,
-  Reads'9.Learnt,
   Reads.Asked,
   Reads.Learnt,
   Reads'7.Asked,
   Reads'7.Learnt,
-  Reads'10.Asked,
-  Reads'10.Learnt,
+  Reads'9.Asked,
+  Reads'9.Learnt,
   Reads'.Asked,
   Reads'.Learnt,
   Reads'6.Asked,
@@ -1602,22 +1578,22 @@ Need-same-length-2 = λ Inv μ. Lts.Need-same-length-2 (
   Reads''.Learnt,
   Reads'5.Asked,
   Reads'5.Learnt,
-  Reads'11.Asked,
-  Reads'11.Learnt,
+  Reads'10.Asked,
+  Reads'10.Learnt,
 ) Reads'4.Pre Reads'4.Post Inv μ
 
 abbrev pub Need-same-length-3 : (Inv : InvT-loop) → (μ : MeasureT-loop) → Type 0
 Need-same-length-3 = λ Inv μ. Lts.Need-same-length-3 (
+  Reads'11.Asked,
+  Reads'11.Learnt,
   Reads'8.Asked,
   Reads'8.Learnt,
-  Reads'9.Asked,
-  Reads'9.Learnt,
   Reads.Asked,
   Reads.Learnt,
   Reads'7.Asked,
   Reads'7.Learnt,
-  Reads'10.Asked,
-  Reads'10.Learnt,
+  Reads'9.Asked,
+  Reads'9.Learnt,
   Reads'.Asked,
   Reads'.Learnt,
   Reads'6.Asked,
@@ -1628,22 +1604,22 @@ Need-same-length-3 = λ Inv μ. Lts.Need-same-length-3 (
   Reads''.Learnt,
   Reads'5.Asked,
   Reads'5.Learnt,
-  Reads'11.Asked,
-  Reads'11.Learnt,
+  Reads'10.Asked,
+  Reads'10.Learnt,
 ) Reads'4.Pre Reads'4.Post Inv μ
 
 abbrev pub Need-returns : (Inv : InvT-loop) → (μ : MeasureT-loop) → Type 0
 Need-returns = λ Inv μ. Lts.Need-returns (
+  Reads'11.Asked,
+  Reads'11.Learnt,
   Reads'8.Asked,
   Reads'8.Learnt,
-  Reads'9.Asked,
-  Reads'9.Learnt,
   Reads.Asked,
   Reads.Learnt,
   Reads'7.Asked,
   Reads'7.Learnt,
-  Reads'10.Asked,
-  Reads'10.Learnt,
+  Reads'9.Asked,
+  Reads'9.Learnt,
   Reads'.Asked,
   Reads'.Learnt,
   Reads'6.Asked,
@@ -1654,23 +1630,22 @@ Need-returns = λ Inv μ. Lts.Need-returns (
   Reads''.Learnt,
   Reads'5.Asked,
   Reads'5.Learnt,
-  Reads'11.Asked,
-  Reads'11.Learnt,
-) Reads'4.Pre
-    Reads'4.Post Inv μ
+  Reads'10.Asked,
+  Reads'10.Learnt,
+) Reads'4.Pre Reads'4.Post Inv μ
 
 abbrev pub Need-tight-count-requires : (Inv : InvT-loop) → (μ : MeasureT-loop) → Type 0
 Need-tight-count-requires = λ Inv μ. Lts.Need-tight-count-requires (
+  Reads'11.Asked,
+  Reads'11.Learnt,
   Reads'8.Asked,
   Reads'8.Learnt,
-  Reads'9.Asked,
-  Reads'9.Learnt,
   Reads.Asked,
   Reads.Learnt,
   Reads'7.Asked,
   Reads'7.Learnt,
-  Reads'10.Asked,
-  Reads'10.Learnt,
+  Reads'9.Asked,
+  Reads'9.Learnt,
   Reads'.Asked,
   Reads'.Learnt,
   Reads'6.Asked,
@@ -1681,22 +1656,22 @@ Need-tight-count-requires = λ Inv μ. Lts.Need-tight-count-requires (
   Reads''.Learnt,
   Reads'5.Asked,
   Reads'5.Learnt,
-  Reads'11.Asked,
-  Reads'11.Learnt,
+  Reads'10.Asked,
+  Reads'10.Learnt,
 ) Reads'4.Pre Reads'4.Post Inv μ
 
 abbrev pub Need-emit-line-requires : (Inv : InvT-loop) → (μ : MeasureT-loop) → Type 0
 Need-emit-line-requires = λ Inv μ. Lts.Need-emit-line-requires (
+  Reads'11.Asked,
+  Reads'11.Learnt,
   Reads'8.Asked,
   Reads'8.Learnt,
-  Reads'9.Asked,
-  Reads'9.Learnt,
   Reads.Asked,
   Reads.Learnt,
   Reads'7.Asked,
   Reads'7.Learnt,
-  Reads'10.Asked,
-  Reads'10.Learnt,
+  Reads'9.Asked,
+  Reads'9.Learnt,
   Reads'.Asked,
   Reads'.Learnt,
   Reads'6.Asked,
@@ -1707,22 +1682,22 @@ Need-emit-line-requires = λ Inv μ. Lts.Need-emit-line-requires (
   Reads''.Learnt,
   Reads'5.Asked,
   Reads'5.Learnt,
-  Reads'11.Asked,
-  Reads'11.Learnt,
+  Reads'10.Asked,
+  Reads'10.Learnt,
 ) Reads'4.Pre Reads'4.Post Inv μ
 
 abbrev pub Need-add-n : (Inv : InvT-loop) → (μ : MeasureT-loop) → Type 0
 Need-add-n = λ Inv μ. Lts.Need-add-n (
+  Reads'11.Asked,
+  Reads'11.Learnt,
   Reads'8.Asked,
   Reads'8.Learnt,
-  Reads'9.Asked,
-  Reads'9.Learnt,
   Reads.Asked,
   Reads.Learnt,
   Reads'7.Asked,
   Reads'7.Learnt,
-  Reads'10.Asked,
-  Reads'10.Learnt,
+  Reads'9.Asked,
+  Reads'9.Learnt,
   Reads'.Asked,
   Reads'.Learnt,
   Reads'6.Asked,
@@ -1733,23 +1708,22 @@ Need-add-n = λ Inv μ. Lts.Need-add-n (
   Reads''.Learnt,
   Reads'5.Asked,
   Reads'5.Learnt,
-  Reads'11.Asked,
-  Reads'11.Learnt,
-) Reads'4.Pre
-    Reads'4.Post Inv μ
+  Reads'10.Asked,
+  Reads'10.Learnt,
+) Reads'4.Pre Reads'4.Post Inv μ
 
 abbrev pub Need-loop-less : (Inv : InvT-loop) → (μ : MeasureT-loop) → Type 0
 Need-loop-less = λ Inv μ. Lts.Need-loop-less (
+  Reads'11.Asked,
+  Reads'11.Learnt,
   Reads'8.Asked,
   Reads'8.Learnt,
-  Reads'9.Asked,
-  Reads'9.Learnt,
   Reads.Asked,
   Reads.Learnt,
   Reads'7.Asked,
   Reads'7.Learnt,
-  Reads'10.Asked,
-  Reads'10.Learnt,
+  Reads'9.Asked,
+  Reads'9.Learnt,
   Reads'.Asked,
   Reads'.Learnt,
   Reads'6.Asked,
@@ -1760,23 +1734,22 @@ Need-loop-less = λ Inv μ. Lts.Need-loop-less (
   Reads''.Learnt,
   Reads'5.Asked,
   Reads'5.Learnt,
-  Reads'11.Asked,
-  Reads'11.Learnt,
-) Reads'4.Pre
-    Reads'4.Post Inv μ
+  Reads'10.Asked,
+  Reads'10.Learnt,
+) Reads'4.Pre Reads'4.Post Inv μ
 
 abbrev pub Need-loop-again : (Inv : InvT-loop) → (μ : MeasureT-loop) → Type 0
 Need-loop-again = λ Inv μ. Lts.Need-loop-again (
+  Reads'11.Asked,
+  Reads'11.Learnt,
   Reads'8.Asked,
   Reads'8.Learnt,
-  Reads'9.Asked,
-  Reads'9.Learnt,
   Reads.Asked,
   Reads.Learnt,
   Reads'7.Asked,
   Reads'7.Learnt,
-  Reads'10.Asked,
-  Reads'10.Learnt,
+  Reads'9.Asked,
+  Reads'9.Learnt,
   Reads'.Asked,
   Reads'.Learnt,
   Reads'6.Asked,
@@ -1787,22 +1760,22 @@ Need-loop-again = λ Inv μ. Lts.Need-loop-again (
   Reads''.Learnt,
   Reads'5.Asked,
   Reads'5.Learnt,
-  Reads'11.Asked,
-  Reads'11.Learnt,
+  Reads'10.Asked,
+  Reads'10.Learnt,
 ) Reads'4.Pre Reads'4.Post Inv μ
 
 abbrev pub Need-same-length-4 : (Inv : InvT-loop) → (μ : MeasureT-loop) → Type 0
 Need-same-length-4 = λ Inv μ. Lts.Need-same-length-4 (
+  Reads'11.Asked,
+  Reads'11.Learnt,
   Reads'8.Asked,
   Reads'8.Learnt,
-  Reads'9.Asked,
-  Reads'9.Learnt,
   Reads.Asked,
   Reads.Learnt,
   Reads'7.Asked,
   Reads'7.Learnt,
-  Reads'10.Asked,
-  Reads'10.Learnt,
+  Reads'9.Asked,
+  Reads'9.Learnt,
   Reads'.Asked,
   Reads'.Learnt,
   Reads'6.Asked,
@@ -1813,22 +1786,22 @@ Need-same-length-4 = λ Inv μ. Lts.Need-same-length-4 (
   Reads''.Learnt,
   Reads'5.Asked,
   Reads'5.Learnt,
-  Reads'11.Asked,
-  Reads'11.Learnt,
+  Reads'10.Asked,
+  Reads'10.Learnt,
 ) Reads'4.Pre Reads'4.Post Inv μ
 
 abbrev pub Need-same-length-5 : (Inv : InvT-loop) → (μ : MeasureT-loop) → Type 0
 Need-same-length-5 = λ Inv μ. Lts.Need-same-length-5 (
+  Reads'11.Asked,
+  Reads'11.Learnt,
   Reads'8.Asked,
   Reads'8.Learnt,
-  Reads'9.Asked,
-  Reads'9.Learnt,
   Reads.Asked,
   Reads.Learnt,
   Reads'7.Asked,
   Reads'7.Learnt,
-  Reads'10.Asked,
-  Reads'10.Learnt,
+  Reads'9.Asked,
+  Reads'9.Learnt,
   Reads'.Asked,
   Reads'.Learnt,
   Reads'6.Asked,
@@ -1839,22 +1812,22 @@ Need-same-length-5 = λ Inv μ. Lts.Need-same-length-5 (
   Reads''.Learnt,
   Reads'5.Asked,
   Reads'5.Learnt,
-  Reads'11.Asked,
-  Reads'11.Learnt,
+  Reads'10.Asked,
+  Reads'10.Learnt,
 ) Reads'4.Pre Reads'4.Post Inv μ
 
 abbrev pub Need-same-length-6 : (Inv : InvT-loop) → (μ : MeasureT-loop) → Type 0
 Need-same-length-6 = λ Inv μ. Lts.Need-same-length-6 (
+  Reads'11.Asked,
+  Reads'11.Learnt,
   Reads'8.Asked,
   Reads'8.Learnt,
-  Reads'9.Asked,
-  Reads'9.Learnt,
   Reads.Asked,
   Reads.Learnt,
   Reads'7.Asked,
   Reads'7.Learnt,
-  Reads'10.Asked,
-  Reads'10.Learnt,
+  Reads'9.Asked,
+  Reads'9.Learnt,
   Reads'.Asked,
   Reads'.Learnt,
   Reads'6.Asked,
@@ -1865,22 +1838,22 @@ Need-same-length-6 = λ Inv μ. Lts.Need-same-length-6 (
   Reads''.Learnt,
   Reads'5.Asked,
   Reads'5.Learnt,
-  Reads'11.Asked,
-  Reads'11.Learnt,
+  Reads'10.Asked,
+  Reads'10.Learnt,
 ) Reads'4.Pre Reads'4.Post Inv μ
 
 abbrev pub Need-returns-2 : (Inv : InvT-loop) → (μ : MeasureT-loop) → Type 0
 Need-returns-2 = λ Inv μ. Lts.Need-returns-2 (
+  Reads'11.Asked,
+  Reads'11.Learnt,
   Reads'8.Asked,
   Reads'8.Learnt,
-  Reads'9.Asked,
-  Reads'9.Learnt,
   Reads.Asked,
   Reads.Learnt,
   Reads'7.Asked,
   Reads'7.Learnt,
-  Reads'10.Asked,
-  Reads'10.Learnt,
+  Reads'9.Asked,
+  Reads'9.Learnt,
   Reads'.Asked,
   Reads'.Learnt,
   Reads'6.Asked,
@@ -1891,10 +1864,9 @@ Need-returns-2 = λ Inv μ. Lts.Need-returns-2 (
   Reads''.Learnt,
   Reads'5.Asked,
   Reads'5.Learnt,
-  Reads'11.Asked,
-  Reads'11.Learnt,
-) Reads'4.Pre
-    Reads'4.Post Inv μ
+  Reads'10.Asked,
+  Reads'10.Learnt,
+) Reads'4.Pre Reads'4.Post Inv μ
 
 module _ {M : Type 1} where
   pub spec : (Inv : InvT-loop) → (μ : MeasureT-loop) → (answer : Need-width-requires Inv μ) → (answer : Need-clear-requires Inv μ) → (answer : Need-base-of-requires Inv μ) → (answer :
@@ -1903,16 +1875,16 @@ module _ {M : Type 1} where
       (answer : Need-same-length Inv μ) → (answer : Need-same-length-2 Inv μ) → (answer : Need-same-length-3 Inv μ) → (answer : Need-returns Inv μ) → (answer : Need-tight-count-requires Inv μ) → (answer :
       Need-emit-line-requires Inv μ) → (answer : Need-add-n Inv μ) → (answer : Need-loop-less Inv μ) → (answer : Need-loop-again Inv μ) → (answer : Need-same-length-4 Inv μ) → (answer : Need-same-length-5
       Inv μ) → (answer : Need-same-length-6 Inv μ) → (answer : Need-returns-2 Inv μ) → Lts.Closed (
+        Reads'11.Asked,
+        Reads'11.Learnt,
         Reads'8.Asked,
         Reads'8.Learnt,
-        Reads'9.Asked,
-        Reads'9.Learnt,
         Reads.Asked,
         Reads.Learnt,
         Reads'7.Asked,
         Reads'7.Learnt,
-        Reads'10.Asked,
-        Reads'10.Learnt,
+        Reads'9.Asked,
+        Reads'9.Learnt,
         Reads'.Asked,
         Reads'.Learnt,
         Reads'6.Asked,
@@ -1923,21 +1895,21 @@ module _ {M : Type 1} where
         Reads''.Learnt,
         Reads'5.Asked,
         Reads'5.Learnt,
-        Reads'11.Asked,
-        Reads'11.Learnt,
+        Reads'10.Asked,
+        Reads'10.Learnt,
       ) Reads'4.Pre Reads'4.Post M
   spec = λ Inv μ answer answer' answer'' answer'3 answer'4 answer'5 answer'6 answer'7 answer'8 answer'9 answer'10 answer'11 answer'12 answer'13 answer'14 answer'15 answer'16 answer'17 answer'18
       answer'19 answer'20 answer'21 answer'22 answer'23 answer'24 answer'25. Lts.spec (
+        Reads'11.Asked,
+        Reads'11.Learnt,
         Reads'8.Asked,
         Reads'8.Learnt,
-        Reads'9.Asked,
-        Reads'9.Learnt,
         Reads.Asked,
         Reads.Learnt,
         Reads'7.Asked,
         Reads'7.Learnt,
-        Reads'10.Asked,
-        Reads'10.Learnt,
+        Reads'9.Asked,
+        Reads'9.Learnt,
         Reads'.Asked,
         Reads'.Learnt,
         Reads'6.Asked,
@@ -1948,22 +1920,23 @@ module _ {M : Type 1} where
         Reads''.Learnt,
         Reads'5.Asked,
         Reads'5.Learnt,
-        Reads'11.Asked,
-        Reads'11.Learnt,
-      ) Reads'4.Pre Reads'4.Post Inv μ answer answer' answer'' answer'3 answer'4 answer'5 answer'6 answer'7 answer'8 answer'9 answer'10 answer'11 answer'12
-      answer'13 answer'14 answer'15 answer'16 answer'17 answer'18 answer'19 answer'20 answer'21 answer'22 answer'23 answer'24 answer'25
+        Reads'10.Asked,
+        Reads'10.Learnt,
+      ) Reads'4.Pre Reads'4.Post Inv μ answer answer' answer''
+      answer'3 answer'4 answer'5 answer'6 answer'7 answer'8 answer'9 answer'10 answer'11 answer'12 answer'13 answer'14 answer'15 answer'16 answer'17 answer'18 answer'19 answer'20 answer'21 answer'22
+      answer'23 answer'24 answer'25
 
   pub close : Lts.Closed (
+    Reads'11.Asked,
+    Reads'11.Learnt,
     Reads'8.Asked,
     Reads'8.Learnt,
-    Reads'9.Asked,
-    Reads'9.Learnt,
     Reads.Asked,
     Reads.Learnt,
     Reads'7.Asked,
     Reads'7.Learnt,
-    Reads'10.Asked,
-    Reads'10.Learnt,
+    Reads'9.Asked,
+    Reads'9.Learnt,
     Reads'.Asked,
     Reads'.Learnt,
     Reads'6.Asked,
@@ -1974,40 +1947,20 @@ module _ {M : Type 1} where
     Reads''.Learnt,
     Reads'5.Asked,
     Reads'5.Learnt,
-    Reads'11.Asked,
-    Reads'11.Learnt,
-  ) Reads'4.Pre Reads'4.Post
-      M → Statement.statement M
+    Reads'10.Asked,
+    Reads'10.Learnt,
+  ) Reads'4.Pre Reads'4.Post M → Statement.statement M
   unfolding Code.routine Running.tablesOf
-  close = λ closed 𝓤 H 𝓜 𝓖 𝓡. Written.close 6 Kinds.ps Kinds.r Reads'4.Ghost Reads'4.requires Reads'4.ensures Reads'4.pre-read Reads'4.Pinned Reads'4.Owned Reads'4.post-read record {
-    M = M;
-    𝓤 = 𝓤;
-    H =
-        H;
-    𝓜 = 𝓜;
-    𝓖 = 𝓖;
-    𝓡 = 𝓡;
-  } Code.env Key.name Code.function (Code.unfolded 𝓤 H 𝓜 𝓡) (λ κs a g. tt) (λ κs. Reads'4.owns κs record { M = M; 𝓤 = 𝓤; H = H; 𝓜 = 𝓜; 𝓖 = 𝓖; 𝓡 = 𝓡 }) (Reads'4.passes record {
-    M
-        = M;
-    𝓤 = 𝓤;
-    H = H;
-    𝓜 = 𝓜;
-    𝓖 = 𝓖;
-    𝓡 = 𝓡;
-  }) λ g. closed 𝓤 H (𝓖 .A) (Running.givenOf 𝓤 H 𝓜 𝓖) (Run.Over 𝓤 H 𝓜 𝓖 𝓡 Code.env) (Reads'8.known record { M = M; 𝓤 = 𝓤; H = H; 𝓜 = 𝓜; 𝓖 = 𝓖; 𝓡 = 𝓡 } Code.env
-      Symbol'7.name Symbol'7.routine Code.calls-block·width (Met'7.met 𝓤 H 𝓜 𝓖 𝓡)) (Reads'9.known record { M = M; 𝓤 = 𝓤; H = H; 𝓜 = 𝓜; 𝓖 = 𝓖; 𝓡 = 𝓡 } Code.env Symbol'8.name Symbol'8.routine
-      Code.calls-lines·clear (Met'8.met 𝓤 H 𝓜 𝓖 𝓡)) (Reads.known record { M = M; 𝓤 = 𝓤; H = H; 𝓜 = 𝓜; 𝓖 = 𝓖; 𝓡 = 𝓡 } Code.env Symbol.name Symbol.routine Code.calls-block·reading·base-of (Met.met 𝓤 H 𝓜 𝓖
-      𝓡)) (Reads'7.known record { M = M; 𝓤 = 𝓤; H = H; 𝓜 = 𝓜; 𝓖 = 𝓖; 𝓡 = 𝓡 } Code.env Symbol'6.name Symbol'6.routine Code.calls-block·records·start-records (Met'6.met 𝓤 H 𝓜 𝓖 𝓡)) (Reads'10.known record {
-        M = M;
-        𝓤 = 𝓤;
-        H = H;
-        𝓜 = 𝓜;
-        𝓖 = 𝓖;
-        𝓡 = 𝓡;
-      } Code.env Symbol'9.name Symbol'9.routine Code.calls-lines·turn (Met'9.met 𝓤 H 𝓜 𝓖 𝓡)) (Reads'.known record { M = M; 𝓤 = 𝓤; H = H; 𝓜 = 𝓜; 𝓖 = 𝓖; 𝓡 = 𝓡 }
-      Code.env Symbol'.name Symbol'.routine Code.calls-block·reading·is-restarted (Met'.met 𝓤 H 𝓜 𝓖 𝓡)) (Reads'6.known record { M = M; 𝓤 = 𝓤; H = H; 𝓜 = 𝓜; 𝓖 = 𝓖; 𝓡 = 𝓡 } Code.env Symbol'5.name
-      Symbol'5.routine Code.calls-block·records·restart (Met'5.met 𝓤 H 𝓜 𝓖 𝓡)) (Reads'3.known record { M = M; 𝓤 = 𝓤; H = H; 𝓜 = 𝓜; 𝓖 = 𝓖; 𝓡 = 𝓡 } Code.env Symbol'3.name Symbol'3.routine
-      Code.calls-block·reading·quantisers-of (Met'3.met 𝓤 H 𝓜 𝓖 𝓡)) (Reads''.known record { M = M; 𝓤 = 𝓤; H = H; 𝓜 = 𝓜; 𝓖 = 𝓖; 𝓡 = 𝓡 } Code.env Symbol''.name Symbol''.routine Code.calls-block·reading·line
-      (Met''.met 𝓤 H 𝓜 𝓖 𝓡)) (Reads'5.known record { M = M; 𝓤 = 𝓤; H = H; 𝓜 = 𝓜; 𝓖 = 𝓖; 𝓡 = 𝓡 } Code.env Symbol'4.name Symbol'4.routine Code.calls-block·reading·tight-count (Met'4.met 𝓤 H 𝓜 𝓖 𝓡))
-      (Reads'11.known record { M = M; 𝓤 = 𝓤; H = H; 𝓜 = 𝓜; 𝓖 = 𝓖; 𝓡 = 𝓡 } Code.env Symbol'10.name Symbol'10.routine Code.calls-map·emit-line (Met'10.met 𝓤 H 𝓜 𝓖 𝓡))
+  close = λ closed 𝓤 H 𝓜 𝓖 𝓡. Written.close 6 Kinds.ps Kinds.r Reads'4.Ghost Reads'4.requires Reads'4.ensures Reads'4.pre-read Reads'4.Pinned Reads'4.Owned Reads'4.post-read record
+      { M = M; 𝓤 = 𝓤; H = H; 𝓜 = 𝓜; 𝓖 = 𝓖; 𝓡 = 𝓡 } Code.env Key.name Code.function (Code.unfolded 𝓤 H 𝓜 𝓡) (λ κs a g. tt) (λ κs. Reads'4.owns κs record { M = M; 𝓤 = 𝓤; H = H; 𝓜 = 𝓜; 𝓖 = 𝓖; 𝓡 = 𝓡 })
+      (Reads'4.passes record { M = M; 𝓤 = 𝓤; H = H; 𝓜 = 𝓜; 𝓖 = 𝓖; 𝓡 = 𝓡 }) λ g. closed 𝓤 H (𝓖 .A) (Running.givenOf 𝓤 H 𝓜 𝓖) (Run.Over 𝓤 H 𝓜 𝓖 𝓡 Code.env) (Reads'11.known record
+      { M = M; 𝓤 = 𝓤; H = H; 𝓜 = 𝓜; 𝓖 = 𝓖; 𝓡 = 𝓡 } Code.env Symbol'10.name Symbol'10.routine Code.calls-map·width (Met'10.met 𝓤 H 𝓜 𝓖 𝓡)) (Reads'8.known record { M = M; 𝓤 = 𝓤; H = H; 𝓜 = 𝓜; 𝓖 = 𝓖; 𝓡 = 𝓡 }
+      Code.env Symbol'7.name Symbol'7.routine Code.calls-lines·clear (Met'7.met 𝓤 H 𝓜 𝓖 𝓡)) (Reads.known record { M = M; 𝓤 = 𝓤; H = H; 𝓜 = 𝓜; 𝓖 = 𝓖; 𝓡 = 𝓡 } Code.env Symbol.name Symbol.routine
+      Code.calls-block·reading·base-of (Met.met 𝓤 H 𝓜 𝓖 𝓡)) (Reads'7.known record { M = M; 𝓤 = 𝓤; H = H; 𝓜 = 𝓜; 𝓖 = 𝓖; 𝓡 = 𝓡 } Code.env Symbol'6.name Symbol'6.routine
+      Code.calls-block·records·start-records (Met'6.met 𝓤 H 𝓜 𝓖 𝓡)) (Reads'9.known record { M = M; 𝓤 = 𝓤; H = H; 𝓜 = 𝓜; 𝓖 = 𝓖; 𝓡 = 𝓡 } Code.env Symbol'8.name Symbol'8.routine Code.calls-lines·turn
+      (Met'8.met 𝓤 H 𝓜 𝓖 𝓡)) (Reads'.known record { M = M; 𝓤 = 𝓤; H = H; 𝓜 = 𝓜; 𝓖 = 𝓖; 𝓡 = 𝓡 } Code.env Symbol'.name Symbol'.routine Code.calls-block·reading·is-restarted (Met'.met 𝓤 H 𝓜 𝓖 𝓡))
+      (Reads'6.known record { M = M; 𝓤 = 𝓤; H = H; 𝓜 = 𝓜; 𝓖 = 𝓖; 𝓡 = 𝓡 } Code.env Symbol'5.name Symbol'5.routine Code.calls-block·records·restart (Met'5.met 𝓤 H 𝓜 𝓖 𝓡)) (Reads'3.known record
+      { M = M; 𝓤 = 𝓤; H = H; 𝓜 = 𝓜; 𝓖 = 𝓖; 𝓡 = 𝓡 } Code.env Symbol'3.name Symbol'3.routine Code.calls-block·reading·quantisers-of (Met'3.met 𝓤 H 𝓜 𝓖 𝓡)) (Reads''.known record
+      { M = M; 𝓤 = 𝓤; H = H; 𝓜 = 𝓜; 𝓖 = 𝓖; 𝓡 = 𝓡 } Code.env Symbol''.name Symbol''.routine Code.calls-block·reading·line (Met''.met 𝓤 H 𝓜 𝓖 𝓡)) (Reads'5.known record
+      { M = M; 𝓤 = 𝓤; H = H; 𝓜 = 𝓜; 𝓖 = 𝓖; 𝓡 = 𝓡 } Code.env Symbol'4.name Symbol'4.routine Code.calls-block·reading·tight-count (Met'4.met 𝓤 H 𝓜 𝓖 𝓡)) (Reads'10.known record
+      { M = M; 𝓤 = 𝓤; H = H; 𝓜 = 𝓜; 𝓖 = 𝓖; 𝓡 = 𝓡 } Code.env Symbol'9.name Symbol'9.routine Code.calls-map·emit-line (Met'9.met 𝓤 H 𝓜 𝓖 𝓡))

@@ -71,28 +71,47 @@ use mir.Val
 use prog.Wp
 use types.Kit
 
+abbrev pub y0 : Syntax.Ty
+y0 = Syntax.tyStruct (List._∷_ 109 (List._∷_ 97 (List._∷_ 112 (List._∷_ 58 (List._∷_ 58 (List._∷_ 80 (List._∷_ 97 (List._∷_ 114 (List._∷_ 116 List.[]))))))))) (Syntax.tcons (Syntax.tyInt Syntax.w64)
+    (Syntax.tcons (Syntax.tyInt Syntax.w64) (Syntax.tcons (Syntax.tyInt Syntax.w64) (Syntax.tcons (Syntax.tyInt Syntax.w64) (Syntax.tcons (Syntax.tyInt Syntax.w64) (Syntax.tcons (Syntax.tyInt Syntax.w64)
+    Syntax.tnil))))))
+
+abbrev pub y1 : Syntax.Ty
+y1 = Syntax.tyStruct (List._∷_ 38 (List._∷_ 91 (List._∷_ 93 List.[]))) (Syntax.tcons (Syntax.tyRef Syntax.erased Syntax.mut (Syntax.tyInt Syntax.w16)) (Syntax.tcons (Syntax.tyInt Syntax.w64)
+    Syntax.tnil))
+
+abbrev pub y2 : Syntax.Ty
+y2 = Syntax.tyStruct (List._∷_ 38 (List._∷_ 91 (List._∷_ 93 List.[]))) (Syntax.tcons (Syntax.tyRef Syntax.erased Syntax.mut Element.behind) (Syntax.tcons (Syntax.tyInt Syntax.w64) Syntax.tnil))
+
+abbrev pub y3 : Syntax.Ty
+y3 = Syntax.tyStruct (List._∷_ 98 (List._∷_ 105 (List._∷_ 116 (List._∷_ 115 (List._∷_ 58 (List._∷_ 58 (List._∷_ 66 (List._∷_ 105 (List._∷_ 116 (List._∷_ 80 (List._∷_ 111 (List._∷_ 115 (List._∷_ 105
+    (List._∷_ 116 (List._∷_ 105 (List._∷_ 111 (List._∷_ 110 List.[]))))))))))))))))) (Syntax.tcons (Syntax.tyInt Syntax.w64) Syntax.tnil)
+
+abbrev pub y4 : Syntax.Ty
+y4 = Syntax.tyStruct (List._∷_ 98 (List._∷_ 108 (List._∷_ 111 (List._∷_ 99 (List._∷_ 107 (List._∷_ 58 (List._∷_ 58 (List._∷_ 70 (List._∷_ 111 (List._∷_ 114 (List._∷_ 109 List.[])))))))))))
+    (Syntax.tcons (Syntax.tyInt Syntax.w32) (Syntax.tcons Syntax.tyBool Syntax.tnil))
+
 abbrev pub ps : List.List (Kinds.PK 3)
 ps = List._∷_ (ShrSlice.pShrS (Referent.rtF (Referent.fInt Syntax.w8)) 0 tt) (List._∷_ (ShrSlice.pShrS (Referent.rtF (Referent.fInt Syntax.w8)) 1 tt) (List._∷_ (MutSlice.pMutS (Referent.rtF
     (Referent.fInt Syntax.w16)) 2 tt) (List._∷_ (Value.pVal record {
       ty = Declared'.row Form.the-type;
       one = Path'.refl;
       val = Laws'4.val Form.the-type Laws.the-laws;
-      tells = Laws'4.tells Form.the-type
-          Laws.the-laws;
-      still = Laws'4.still Form.the-type Laws.the-copy Exit.yes;
+      tells = Laws'4.tells Form.the-type Laws.the-laws;
+      still = Laws'4.still Form.the-type Laws.the-copy
+          Exit.yes;
       row = Rows'.whole (Declared'.row Form.the-type);
       rd = λ x. x;
       mk = λ x. x;
     } λ M 𝓤 H A W. record {
-      copies = Laws'4.copy
-          Form.the-type Laws.the-copy 𝓤 H A W;
+      copies = Laws'4.copy Form.the-type Laws.the-copy 𝓤 H A W;
       lawful = Laws'4.lawful Form.the-type Laws.the-laws 𝓤 H A W;
       makes = Laws'4.makes Form.the-type Laws.the-plain 𝓤 H A;
-      in-mem = Local.mem-whole 𝓤 H A W
-          (Declared'.row Form.the-type);
+      in-mem =
+          Local.mem-whole 𝓤 H A W (Declared'.row Form.the-type);
       of-mem = Local.whole-mem 𝓤 H A W (Declared'.row Form.the-type);
-    }) (List._∷_ (Array.pArr (Array.eInt Syntax.w8) (Array.eInt-laws Syntax.w8) 36) (List._∷_ (Value.pVal
-    record {
+    }) (List._∷_ (Array.pArr (Array.eInt Syntax.w8) (Array.eInt-laws Syntax.w8) 36)
+    (List._∷_ (Value.pVal record {
       ty = Declared'.row Part.the-type;
       one = Path'.refl;
       val = Laws'4.val Part.the-type Laws''.the-laws;
@@ -104,12 +123,11 @@ ps = List._∷_ (ShrSlice.pShrS (Referent.rtF (Referent.fInt Syntax.w8)) 0 tt) (
       mk = λ x. x;
     } λ M 𝓤 H A W. record {
       copies = Laws'4.copy Part.the-type Laws''.the-copy 𝓤 H A W;
-      lawful =
-          Laws'4.lawful Part.the-type Laws''.the-laws 𝓤 H A W;
+      lawful = Laws'4.lawful Part.the-type Laws''.the-laws 𝓤 H A W;
       makes = Laws'4.makes Part.the-type Laws''.the-plain 𝓤 H A;
-      in-mem = Local.mem-whole 𝓤 H A W (Declared'.row Part.the-type);
-      of-mem = Local.whole-mem
-          𝓤 H A W (Declared'.row Part.the-type);
+      in-mem =
+          Local.mem-whole 𝓤 H A W (Declared'.row Part.the-type);
+      of-mem = Local.whole-mem 𝓤 H A W (Declared'.row Part.the-type);
     }) (List._∷_ (Num.pNum Syntax.w64) List.[]))))))
 
 abbrev pub r : Kinds.RK 3
@@ -118,30 +136,25 @@ r = Value.rVal record {
   one = Path'.refl;
   val = Laws'3.val Walked.the-type Laws'.the-laws;
   tells = Laws'3.tells Walked.the-type Laws'.the-laws;
-  still = Laws'3.still
-      Walked.the-type Laws'.the-copy Exit.yes;
+  still = Laws'3.still Walked.the-type
+      Laws'.the-copy Exit.yes;
   row = Rows'.whole (Declared.row Walked.the-type);
   rd = λ x. x;
   mk = λ x. x;
 } λ M 𝓤 H A W. record {
-  copies = Laws'3.copy Walked.the-type Laws'.the-copy 𝓤 H A
-      W;
+  copies = Laws'3.copy Walked.the-type Laws'.the-copy 𝓤 H A W;
   lawful = Laws'3.lawful Walked.the-type Laws'.the-laws 𝓤 H A W tt;
   makes = Laws'3.makes Walked.the-type Laws'.the-plain 𝓤 H A;
-  in-mem = Local.mem-whole 𝓤 H A W (Declared.row Walked.the-type);
-  of-mem
-      = Local.whole-mem 𝓤 H A W (Declared.row Walked.the-type);
+  in-mem =
+      Local.mem-whole 𝓤 H A W (Declared.row Walked.the-type);
+  of-mem = Local.whole-mem 𝓤 H A W (Declared.row Walked.the-type);
 }
 
 abbrev pub xs : List.List Syntax.Ty
 xs = List._∷_ (Syntax.tyArray (Syntax.tyInt Syntax.w16) 768) (List._∷_ (Syntax.tyArray (Syntax.tyInt Syntax.w16) 9252) (List._∷_ (Syntax.tyArray (Element.held) 336) (List._∷_ (Syntax.tyInt Syntax.w64)
     (List._∷_ (Syntax.tyArray (Syntax.tyInt Syntax.w16) 768) (List._∷_ (Element.held) (List._∷_ (Syntax.tyInt Syntax.w64) (List._∷_ (Syntax.tyInt Syntax.w64) (List._∷_ Syntax.tyPtr (List._∷_ Syntax.tyPtr
-    (List._∷_ (Syntax.tyRef Syntax.erased Syntax.mut (Syntax.tyInt Syntax.w16)) (List._∷_ (Syntax.tyStruct (List._∷_ 38 (List._∷_ 91 (List._∷_ 93 List.[]))) (Syntax.tcons (Syntax.tyRef Syntax.erased
-    Syntax.mut (Syntax.tyInt Syntax.w16)) (Syntax.tcons (Syntax.tyInt Syntax.w64) Syntax.tnil))) (List._∷_ (Syntax.tyRef Syntax.erased Syntax.mut (Syntax.tyArray Element.behind 336)) (List._∷_
-    (Syntax.tyStruct (List._∷_ 38 (List._∷_ 91 (List._∷_ 93 List.[]))) (Syntax.tcons (Syntax.tyRef Syntax.erased Syntax.mut Element.behind) (Syntax.tcons (Syntax.tyInt Syntax.w64) Syntax.tnil))) (List._∷_
-    (Syntax.tyRef Syntax.erased Syntax.mut (Syntax.tyInt Syntax.w16)) (List._∷_ (Syntax.tyStruct (List._∷_ 38 (List._∷_ 91 (List._∷_ 93 List.[]))) (Syntax.tcons (Syntax.tyRef Syntax.erased Syntax.mut
-    (Syntax.tyInt Syntax.w16)) (Syntax.tcons (Syntax.tyInt Syntax.w64) Syntax.tnil))) (List._∷_ (Syntax.tyRef Syntax.erased Syntax.imm (Syntax.tyArray (Syntax.tyInt Syntax.w16) 768))
-    List.[]))))))))))))))))
+    (List._∷_ (Syntax.tyRef Syntax.erased Syntax.mut (Syntax.tyInt Syntax.w16)) (List._∷_ y1 (List._∷_ (Syntax.tyRef Syntax.erased Syntax.mut (Syntax.tyArray Element.behind 336)) (List._∷_ y2 (List._∷_
+    (Syntax.tyRef Syntax.erased Syntax.mut (Syntax.tyInt Syntax.w16)) (List._∷_ y1 (List._∷_ (Syntax.tyRef Syntax.erased Syntax.imm (Syntax.tyArray (Syntax.tyInt Syntax.w16) 768)) List.[]))))))))))))))))
 
 abbrev pub m : Nat.ℕ
 m = 4
@@ -167,8 +180,7 @@ r·2 = Num.rNum Syntax.w64
 abbrev pub ps·3 : List.List (Kinds.PK 6)
 ps·3 = List._∷_ (ShrSlice.pShrS (Referent.rtF (Referent.fInt Syntax.w8)) 0 tt) (List._∷_ (ShrSlice.pShrS (Referent.rtF (Referent.fInt Syntax.w8)) 1 tt) (List._∷_ (MutSlice.pMutS (Referent.rtF
     (Referent.fInt Syntax.w16)) 2 tt) (List._∷_ (MutSlice.pMutS (Element.type) 3 tt) (List._∷_ (MutSlice.pMutS (Referent.rtF (Referent.fInt Syntax.w16)) 4 tt) (List._∷_ (Value.pVal record {
-      ty =
-          Declared'.row Form.the-type;
+      ty = Declared'.row Form.the-type;
       one = Path'.refl;
       val = Laws'4.val Form.the-type Laws.the-laws;
       tells = Laws'4.tells Form.the-type Laws.the-laws;
@@ -179,30 +191,28 @@ ps·3 = List._∷_ (ShrSlice.pShrS (Referent.rtF (Referent.fInt Syntax.w8)) 0 tt
       mk = λ x. x;
     } λ M 𝓤 H A W. record {
       copies = Laws'4.copy Form.the-type Laws.the-copy 𝓤 H A W;
-      lawful = Laws'4.lawful
-          Form.the-type Laws.the-laws 𝓤 H A W;
+      lawful = Laws'4.lawful Form.the-type Laws.the-laws 𝓤 H A W;
       makes = Laws'4.makes Form.the-type Laws.the-plain 𝓤 H A;
-      in-mem = Local.mem-whole 𝓤 H A W (Declared'.row Form.the-type);
-      of-mem = Local.whole-mem 𝓤 H A W
-          (Declared'.row Form.the-type);
-    }) (List._∷_ (ShrRef.pShr (Array'.Array (Referent.rtF (Referent.fInt Syntax.w16)) 768) 5 tt) (List._∷_ (Array.pArr (Array.eInt Syntax.w8) (Array.eInt-laws Syntax.w8) 36)
-    (List._∷_ (Value.pVal record {
+      in-mem =
+          Local.mem-whole 𝓤 H A W (Declared'.row Form.the-type);
+      of-mem = Local.whole-mem 𝓤 H A W (Declared'.row Form.the-type);
+    }) (List._∷_ (ShrRef.pShr (Array'.Array (Referent.rtF (Referent.fInt Syntax.w16))
+    768) 5 tt) (List._∷_ (Array.pArr (Array.eInt Syntax.w8) (Array.eInt-laws Syntax.w8) 36) (List._∷_ (Value.pVal record {
       ty = Declared'.row Part.the-type;
       one = Path'.refl;
       val = Laws'4.val Part.the-type Laws''.the-laws;
       tells = Laws'4.tells Part.the-type Laws''.the-laws;
-      still =
-          Laws'4.still Part.the-type Laws''.the-copy Exit.yes;
+      still = Laws'4.still Part.the-type
+          Laws''.the-copy Exit.yes;
       row = Rows'.whole (Declared'.row Part.the-type);
       rd = λ x. x;
       mk = λ x. x;
     } λ M 𝓤 H A W. record {
-      copies = Laws'4.copy Part.the-type
-          Laws''.the-copy 𝓤 H A W;
+      copies = Laws'4.copy Part.the-type Laws''.the-copy 𝓤 H A W;
       lawful = Laws'4.lawful Part.the-type Laws''.the-laws 𝓤 H A W;
       makes = Laws'4.makes Part.the-type Laws''.the-plain 𝓤 H A;
-      in-mem = Local.mem-whole 𝓤 H A W (Declared'.row
-          Part.the-type);
+      in-mem =
+          Local.mem-whole 𝓤 H A W (Declared'.row Part.the-type);
       of-mem = Local.whole-mem 𝓤 H A W (Declared'.row Part.the-type);
     }) (List._∷_ (Num.pNum Syntax.w64) List.[])))))))))
 
@@ -212,18 +222,17 @@ r·3 = Value.rVal record {
   one = Path'.refl;
   val = Laws'3.val Walked.the-type Laws'.the-laws;
   tells = Laws'3.tells Walked.the-type Laws'.the-laws;
-  still =
-      Laws'3.still Walked.the-type Laws'.the-copy Exit.yes;
+  still = Laws'3.still Walked.the-type
+      Laws'.the-copy Exit.yes;
   row = Rows'.whole (Declared.row Walked.the-type);
   rd = λ x. x;
   mk = λ x. x;
 } λ M 𝓤 H A W. record {
-  copies = Laws'3.copy Walked.the-type
-      Laws'.the-copy 𝓤 H A W;
+  copies = Laws'3.copy Walked.the-type Laws'.the-copy 𝓤 H A W;
   lawful = Laws'3.lawful Walked.the-type Laws'.the-laws 𝓤 H A W tt;
   makes = Laws'3.makes Walked.the-type Laws'.the-plain 𝓤 H A;
-  in-mem = Local.mem-whole 𝓤 H A W (Declared.row
-      Walked.the-type);
+  in-mem =
+      Local.mem-whole 𝓤 H A W (Declared.row Walked.the-type);
   of-mem = Local.whole-mem 𝓤 H A W (Declared.row Walked.the-type);
 }
 
@@ -249,7 +258,7 @@ abbrev b4 : Syntax.Body
 b4 = Syntax.assign (Syntax.place 10 List.[]) (Syntax.repeat (Syntax.copy (Syntax.place 13 List.[])) 336)
 
 abbrev b5 : Syntax.Body
-b5 = Syntax.call "block::width" (List._∷_ (Syntax.copy (Syntax.place 4 (List._∷_ (Syntax.field 1) List.[]))) List.[]) (Syntax.place 14 List.[])
+b5 = Syntax.call "map::width" (List._∷_ (Syntax.copy (Syntax.place 4 (List._∷_ (Syntax.field 1) List.[]))) List.[]) (Syntax.place 14 List.[])
 
 abbrev b6 : Syntax.Body
 b6 = Syntax.assign (Syntax.place 15 List.[]) (Syntax.op2 (Syntax.add Syntax.unsigned) (Syntax.copy (Syntax.place 14 List.[])) (Syntax.int Syntax.w64 2))
@@ -359,1298 +368,349 @@ body = b38
 abbrev pub Claims : Type 1
 Claims = Kinds.In 0 ps·0 × Kinds.Out 0 ps·0 r·0 × Kinds.In 0 ps·1 × Kinds.Out 0 ps·1 r·1 × Kinds.In 0 ps·2 × Kinds.Out 0 ps·2 r·2 × Kinds.In 6 ps·3 × Kinds.Out 6 ps·3 r·3
 
-abbrev pub t0 : List.List Row.Entry
-t0 = List._∷_ (
+abbrev pub e0 : Row.Entry
+e0 = (
   0,
-  Rows'.any-gone (Syntax.tyEnum (List._∷_ 98 (List._∷_ 108 (List._∷_ 111 (List._∷_ 99 (List._∷_ 107 (List._∷_ 58 (List._∷_ 58 (List._∷_ 87 (List._∷_ 97 (List._∷_ 108 (List._∷_ 107
-      (List._∷_ 101 (List._∷_ 100 List.[]))))))))))))) (Syntax.ttcons (Syntax.tcons (Syntax.tyStruct (List._∷_ 98 (List._∷_ 105 (List._∷_ 116 (List._∷_ 115 (List._∷_ 58 (List._∷_ 58 (List._∷_ 66 (List._∷_
-      105 (List._∷_ 116 (List._∷_ 80 (List._∷_ 111 (List._∷_ 115 (List._∷_ 105 (List._∷_ 116 (List._∷_ 105 (List._∷_ 111 (List._∷_ 110 List.[]))))))))))))))))) (Syntax.tcons (Syntax.tyInt Syntax.w64)
-      Syntax.tnil)) (Syntax.tcons (Syntax.tyInt Syntax.w64) Syntax.tnil)) (Syntax.ttcons (Syntax.tcons (Syntax.tyInt Syntax.w64) Syntax.tnil) Syntax.ttnil))),
-) (List._∷_ (
-  1,
-  Rows'.sslice (Referent.rtF
-      (Referent.fInt Syntax.w8)) (Syntax.tyRef (Syntax.named 0) Syntax.imm (Syntax.tyInt Syntax.w8)) 0,
-) (List._∷_ (
-  2,
-  Rows'.sslice (Referent.rtF (Referent.fInt Syntax.w8)) (Syntax.tyRef (Syntax.named 1)
-      Syntax.imm (Syntax.tyInt Syntax.w8)) 1,
-) (List._∷_ (3, Mut.mslice (Referent.rtF (Referent.fInt Syntax.w16)) (Syntax.tyRef (Syntax.named 2) Syntax.mut (Syntax.tyInt Syntax.w16)) 2) (List._∷_ (
-  4,
-  Rows'.whole (Declared'.row Form.the-type),
-) (List._∷_ (5, Rows.arrF (Referent.rtF (Referent.fInt Syntax.w8)) 36 0) (List._∷_ (6, Rows'.whole (Declared'.row Part.the-type)) (List._∷_ (
-  7,
-  Rows'.sc-here (Row.sInt Syntax.w64),
-) (List._∷_ (8, Rows'.any-gone (Syntax.tyArray (Syntax.tyInt Syntax.w16) 768)) (List._∷_ (9, Rows'.any-gone (Syntax.tyArray (Syntax.tyInt Syntax.w16) 9252))
-    (List._∷_ (10, Rows'.any-gone (Syntax.tyArray (Element.held) 336)) (List._∷_ (11, Rows'.any-gone (Syntax.tyInt Syntax.w64)) (List._∷_ (
-      12,
-      Rows'.any-gone (Syntax.tyArray (Syntax.tyInt Syntax.w16)
-          768),
-    ) (List._∷_ (13, Rows'.any-gone (Element.held)) (List._∷_ (14, Rows'.any-gone (Syntax.tyInt Syntax.w64)) (List._∷_ (15, Rows'.any-gone (Syntax.tyInt Syntax.w64)) List.[])))))))))))))))
+  Rows'.any-gone (Syntax.tyEnum (List._∷_ 98 (List._∷_ 108 (List._∷_ 111 (List._∷_ 99 (List._∷_ 107 (List._∷_ 58 (List._∷_ 58 (List._∷_ 87 (List._∷_ 97 (List._∷_ 108 (List._∷_ 107 (List._∷_ 101
+      (List._∷_ 100 List.[]))))))))))))) (Syntax.ttcons (Syntax.tcons y3 (Syntax.tcons (Syntax.tyInt Syntax.w64) Syntax.tnil)) (Syntax.ttcons (Syntax.tcons (Syntax.tyInt Syntax.w64) Syntax.tnil)
+      Syntax.ttnil))),
+)
+
+abbrev pub e1 : Row.Entry
+e1 = (0, Rows'.whole (Declared.row Walked.the-type))
+
+abbrev pub e2 : Row.Entry
+e2 = (1, Rows'.sslice (Referent.rtF (Referent.fInt Syntax.w8)) (Syntax.tyRef (Syntax.named 0) Syntax.imm (Syntax.tyInt Syntax.w8)) 0)
+
+abbrev pub e3 : Row.Entry
+e3 = (10, Rows'.any-gone (Syntax.tyArray (Element.held) 336))
+
+abbrev pub e4 : Row.Entry
+e4 = (10, Rows.arr-owed (Element.type) 336 4)
+
+abbrev pub e5 : Row.Entry
+e5 = (10, Rows.arrF (Element.type) 336 0)
+
+abbrev pub e6 : Row.Entry
+e6 = (11, Rows'.any-gone (Syntax.tyInt Syntax.w64))
+
+abbrev pub e7 : Row.Entry
+e7 = (11, Rows'.sc-here (Row.sInt Syntax.w64))
+
+abbrev pub e8 : Row.Entry
+e8 = (12, Rows'.any-gone (Syntax.tyArray (Syntax.tyInt Syntax.w16) 768))
+
+abbrev pub e9 : Row.Entry
+e9 = (12, Rows.arrF (Referent.rtF (Referent.fInt Syntax.w16)) 768 0)
+
+abbrev pub e10 : Row.Entry
+e10 = (13, Element.row)
+
+abbrev pub e11 : Row.Entry
+e11 = (13, Rows'.any-gone (Element.held))
+
+abbrev pub e12 : Row.Entry
+e12 = (14, Rows'.any-gone (Syntax.tyInt Syntax.w64))
+
+abbrev pub e13 : Row.Entry
+e13 = (14, Rows'.sc-here (Row.sInt Syntax.w64))
+
+abbrev pub e14 : Row.Entry
+e14 = (15, Rows'.any-gone (Syntax.tyInt Syntax.w64))
+
+abbrev pub e15 : Row.Entry
+e15 = (15, Rows'.sc-here (Row.sInt Syntax.w64))
+
+abbrev pub e16 : Row.Entry
+e16 = (16, Rows'.any-gone Syntax.tyPtr)
+
+abbrev pub e17 : Row.Entry
+e17 = (16, Rows'.sc-here Row.sPtr)
+
+abbrev pub e18 : Row.Entry
+e18 = (17, Rows'.any-gone Syntax.tyPtr)
+
+abbrev pub e19 : Row.Entry
+e19 = (17, Rows'.sc-here Row.sPtr)
+
+abbrev pub e20 : Row.Entry
+e20 = (18, Relend.msptr (Referent.rtF (Referent.fInt Syntax.w16)) (Syntax.tyRef Syntax.erased Syntax.mut (Syntax.tyInt Syntax.w16)) 3)
+
+abbrev pub e21 : Row.Entry
+e21 = (18, Rows'.any-gone (Syntax.tyRef Syntax.erased Syntax.mut (Syntax.tyInt Syntax.w16)))
+
+abbrev pub e22 : Row.Entry
+e22 = (19, Mut.msleft (Referent.rtF (Referent.fInt Syntax.w16)) (Syntax.tyRef Syntax.erased Syntax.mut (Syntax.tyInt Syntax.w16)))
+
+abbrev pub e23 : Row.Entry
+e23 = (19, Mut.mslice (Referent.rtF (Referent.fInt Syntax.w16)) (Syntax.tyRef Syntax.erased Syntax.mut (Syntax.tyInt Syntax.w16)) 3)
+
+abbrev pub e24 : Row.Entry
+e24 = (19, Rows'.any-gone y1)
+
+abbrev pub e25 : Row.Entry
+e25 = (2, Rows'.sslice (Referent.rtF (Referent.fInt Syntax.w8)) (Syntax.tyRef (Syntax.named 1) Syntax.imm (Syntax.tyInt Syntax.w8)) 1)
+
+abbrev pub e26 : Row.Entry
+e26 = (20, Rows'.any-gone (Syntax.tyRef Syntax.erased Syntax.mut (Syntax.tyArray Element.behind 336)))
+
+abbrev pub e27 : Row.Entry
+e27 = (21, Mut.msleft (Element.type) (Syntax.tyRef Syntax.erased Syntax.mut Element.behind))
+
+abbrev pub e28 : Row.Entry
+e28 = (21, Mut.mslice (Element.type) (Syntax.tyRef Syntax.erased Syntax.mut Element.behind) 4)
+
+abbrev pub e29 : Row.Entry
+e29 = (21, Rows'.any-gone y2)
+
+abbrev pub e30 : Row.Entry
+e30 = (22, Rows'.any-gone (Syntax.tyRef Syntax.erased Syntax.mut (Syntax.tyInt Syntax.w16)))
+
+abbrev pub e31 : Row.Entry
+e31 = (23, Mut.msleft (Referent.rtF (Referent.fInt Syntax.w16)) (Syntax.tyRef Syntax.erased Syntax.mut (Syntax.tyInt Syntax.w16)))
+
+abbrev pub e32 : Row.Entry
+e32 = (23, Mut.mslice (Referent.rtF (Referent.fInt Syntax.w16)) (Syntax.tyRef Syntax.erased Syntax.mut (Syntax.tyInt Syntax.w16)) 5)
+
+abbrev pub e33 : Row.Entry
+e33 = (23, Rows'.any-gone y1)
+
+abbrev pub e34 : Row.Entry
+e34 = (24, Rows'.any-gone (Syntax.tyRef Syntax.erased Syntax.imm (Syntax.tyArray (Syntax.tyInt Syntax.w16) 768)))
+
+abbrev pub e35 : Row.Entry
+e35 = (24, Rows'.sref (Array'.Array (Referent.rtF (Referent.fInt Syntax.w16)) 768) (Syntax.tyRef Syntax.erased Syntax.imm (Syntax.tyArray (Syntax.tyInt Syntax.w16) 768)) 6)
+
+abbrev pub e36 : Row.Entry
+e36 = (3, Mut.mslice (Referent.rtF (Referent.fInt Syntax.w16)) (Syntax.tyRef (Syntax.named 2) Syntax.mut (Syntax.tyInt Syntax.w16)) 2)
+
+abbrev pub e37 : Row.Entry
+e37 = (3, Relend.mslice-owed (Referent.rtF (Referent.fInt Syntax.w16)) (Syntax.tyRef (Syntax.named 2) Syntax.mut (Syntax.tyInt Syntax.w16)) 2 5 Row.off)
+
+abbrev pub e38 : Row.Entry
+e38 = (4, Rows'.any-gone y4)
+
+abbrev pub e39 : Row.Entry
+e39 = (4, Rows'.whole (Declared'.row Form.the-type))
+
+abbrev pub e40 : Row.Entry
+e40 = (5, Rows'.any-gone (Syntax.tyArray (Syntax.tyInt Syntax.w8) 36))
+
+abbrev pub e41 : Row.Entry
+e41 = (5, Rows.arrF (Referent.rtF (Referent.fInt Syntax.w8)) 36 0)
+
+abbrev pub e42 : Row.Entry
+e42 = (6, Rows'.any-gone y0)
+
+abbrev pub e43 : Row.Entry
+e43 = (6, Rows'.whole (Declared'.row Part.the-type))
+
+abbrev pub e44 : Row.Entry
+e44 = (7, Rows'.sc-here (Row.sInt Syntax.w64))
+
+abbrev pub e45 : Row.Entry
+e45 = (8, Rows'.any-gone (Syntax.tyArray (Syntax.tyInt Syntax.w16) 768))
+
+abbrev pub e46 : Row.Entry
+e46 = (8, Rows'.sc-shr (Rows.arrF (Referent.rtF (Referent.fInt Syntax.w16)) 768 0) (Array'.Array (Referent.rtF (Referent.fInt Syntax.w16)) 768) (λ x. x) 6)
+
+abbrev pub e47 : Row.Entry
+e47 = (8, Rows.arrF (Referent.rtF (Referent.fInt Syntax.w16)) 768 0)
+
+abbrev pub e48 : Row.Entry
+e48 = (9, Rows'.any-gone (Syntax.tyArray (Syntax.tyInt Syntax.w16) 9252))
+
+abbrev pub e49 : Row.Entry
+e49 = (9, Rows.arr-owedM (Referent.rtF (Referent.fInt Syntax.w16)) 9252 3)
+
+abbrev pub e50 : Row.Entry
+e50 = (9, Rows.arrF (Referent.rtF (Referent.fInt Syntax.w16)) 9252 0)
+
+abbrev pub t0 : List.List Row.Entry
+t0 = List._∷_ e0 (List._∷_ e2 (List._∷_ e25 (List._∷_ e36 (List._∷_ e39 (List._∷_ e41 (List._∷_ e43 (List._∷_ e44 (List._∷_ e45 (List._∷_ e48 (List._∷_ e3 (List._∷_ e6 (List._∷_ e8 (List._∷_ e11
+    (List._∷_ e12 (List._∷_ e14 List.[])))))))))))))))
 
 abbrev pub t1 : List.List Row.Entry
-t1 = List._∷_ (16, Rows'.any-gone Syntax.tyPtr) (List._∷_ (17, Rows'.any-gone Syntax.tyPtr) (List._∷_ (18, Rows'.any-gone (Syntax.tyRef Syntax.erased Syntax.mut (Syntax.tyInt Syntax.w16)))
-    (List._∷_ (
-      19,
-      Rows'.any-gone (Syntax.tyStruct (List._∷_ 38 (List._∷_ 91 (List._∷_ 93 List.[]))) (Syntax.tcons (Syntax.tyRef Syntax.erased Syntax.mut (Syntax.tyInt Syntax.w16)) (Syntax.tcons
-          (Syntax.tyInt Syntax.w64) Syntax.tnil))),
-    ) (List._∷_ (20, Rows'.any-gone (Syntax.tyRef Syntax.erased Syntax.mut (Syntax.tyArray Element.behind 336))) (List._∷_ (
-      21,
-      Rows'.any-gone
-          (Syntax.tyStruct (List._∷_ 38 (List._∷_ 91 (List._∷_ 93 List.[]))) (Syntax.tcons (Syntax.tyRef Syntax.erased Syntax.mut Element.behind) (Syntax.tcons (Syntax.tyInt Syntax.w64) Syntax.tnil))),
-    )
-    (List._∷_ (22, Rows'.any-gone (Syntax.tyRef Syntax.erased Syntax.mut (Syntax.tyInt Syntax.w16))) (List._∷_ (
-      23,
-      Rows'.any-gone (Syntax.tyStruct (List._∷_ 38 (List._∷_ 91 (List._∷_ 93 List.[])))
-          (Syntax.tcons (Syntax.tyRef Syntax.erased Syntax.mut (Syntax.tyInt Syntax.w16)) (Syntax.tcons (Syntax.tyInt Syntax.w64) Syntax.tnil))),
-    ) (List._∷_ (
-      24,
-      Rows'.any-gone (Syntax.tyRef Syntax.erased
-          Syntax.imm (Syntax.tyArray (Syntax.tyInt Syntax.w16) 768)),
-    ) List.[]))))))))
+t1 = List._∷_ e16 (List._∷_ e18 (List._∷_ e21 (List._∷_ e24 (List._∷_ e26 (List._∷_ e29 (List._∷_ e30 (List._∷_ e33 (List._∷_ e34 List.[]))))))))
 
 abbrev pub t2 : List.List Row.Entry
-t2 = List._∷_ (0, Rows'.whole (Declared.row Walked.the-type)) (List._∷_ (
-  1,
-  Rows'.sslice (Referent.rtF (Referent.fInt Syntax.w8)) (Syntax.tyRef (Syntax.named 0) Syntax.imm (Syntax.tyInt Syntax.w8))
-      0,
-) (List._∷_ (2, Rows'.sslice (Referent.rtF (Referent.fInt Syntax.w8)) (Syntax.tyRef (Syntax.named 1) Syntax.imm (Syntax.tyInt Syntax.w8)) 1) (List._∷_ (
-  3,
-  Mut.mslice (Referent.rtF
-      (Referent.fInt Syntax.w16)) (Syntax.tyRef (Syntax.named 2) Syntax.mut (Syntax.tyInt Syntax.w16)) 2,
-) (List._∷_ (
-  4,
-  Rows'.any-gone (Syntax.tyStruct (List._∷_ 98 (List._∷_ 108 (List._∷_ 111 (List._∷_
-      99 (List._∷_ 107 (List._∷_ 58 (List._∷_ 58 (List._∷_ 70 (List._∷_ 111 (List._∷_ 114 (List._∷_ 109 List.[]))))))))))) (Syntax.tcons (Syntax.tyInt Syntax.w32) (Syntax.tcons Syntax.tyBool Syntax.tnil))),
-) (List._∷_ (5, Rows'.any-gone (Syntax.tyArray (Syntax.tyInt Syntax.w8) 36)) (List._∷_ (
-  6,
-  Rows'.any-gone (Syntax.tyStruct (List._∷_ 109 (List._∷_ 97 (List._∷_ 112 (List._∷_ 58 (List._∷_ 58 (List._∷_
-      80 (List._∷_ 97 (List._∷_ 114 (List._∷_ 116 List.[]))))))))) (Syntax.tcons (Syntax.tyInt Syntax.w64) (Syntax.tcons (Syntax.tyInt Syntax.w64) (Syntax.tcons (Syntax.tyInt Syntax.w64) (Syntax.tcons
-      (Syntax.tyInt Syntax.w64) (Syntax.tcons (Syntax.tyInt Syntax.w64) (Syntax.tcons (Syntax.tyInt Syntax.w64) Syntax.tnil))))))),
-) (List._∷_ (7, Rows'.any-gone (Syntax.tyInt Syntax.w64)) (List._∷_ (
-  8,
-  Rows'.any-gone (Syntax.tyArray (Syntax.tyInt Syntax.w16) 768),
-) (List._∷_ (9, Rows'.any-gone (Syntax.tyArray (Syntax.tyInt Syntax.w16) 9252)) (List._∷_ (
-  10,
-  Rows'.any-gone (Syntax.tyArray
-      (Element.held) 336),
-) (List._∷_ (11, Rows'.any-gone (Syntax.tyInt Syntax.w64)) (List._∷_ (12, Rows'.any-gone (Syntax.tyArray (Syntax.tyInt Syntax.w16) 768)) (List._∷_ (
-  13,
-  Rows'.any-gone
-      (Element.held),
-) (List._∷_ (14, Rows'.any-gone (Syntax.tyInt Syntax.w64)) (List._∷_ (15, Rows'.any-gone (Syntax.tyInt Syntax.w64)) List.[])))))))))))))))
+t2 = List._∷_ e1 (List._∷_ e2 (List._∷_ e25 (List._∷_ e36 (List._∷_ e38 (List._∷_ e40 (List._∷_ e42 (List._∷_ (7, Rows'.any-gone (Syntax.tyInt Syntax.w64)) (List._∷_ e45 (List._∷_ e48 (List._∷_ e3
+    (List._∷_ e6 (List._∷_ e8 (List._∷_ e11 (List._∷_ e12 (List._∷_ e14 List.[])))))))))))))))
 
 abbrev pub t3 : List.List Row.Entry
-t3 = List._∷_ (
-  0,
-  Rows'.any-gone (Syntax.tyEnum (List._∷_ 98 (List._∷_ 108 (List._∷_ 111 (List._∷_ 99 (List._∷_ 107 (List._∷_ 58 (List._∷_ 58 (List._∷_ 87 (List._∷_ 97 (List._∷_ 108 (List._∷_ 107
-      (List._∷_ 101 (List._∷_ 100 List.[]))))))))))))) (Syntax.ttcons (Syntax.tcons (Syntax.tyStruct (List._∷_ 98 (List._∷_ 105 (List._∷_ 116 (List._∷_ 115 (List._∷_ 58 (List._∷_ 58 (List._∷_ 66 (List._∷_
-      105 (List._∷_ 116 (List._∷_ 80 (List._∷_ 111 (List._∷_ 115 (List._∷_ 105 (List._∷_ 116 (List._∷_ 105 (List._∷_ 111 (List._∷_ 110 List.[]))))))))))))))))) (Syntax.tcons (Syntax.tyInt Syntax.w64)
-      Syntax.tnil)) (Syntax.tcons (Syntax.tyInt Syntax.w64) Syntax.tnil)) (Syntax.ttcons (Syntax.tcons (Syntax.tyInt Syntax.w64) Syntax.tnil) Syntax.ttnil))),
-) (List._∷_ (
-  1,
-  Rows'.sslice (Referent.rtF
-      (Referent.fInt Syntax.w8)) (Syntax.tyRef (Syntax.named 0) Syntax.imm (Syntax.tyInt Syntax.w8)) 0,
-) (List._∷_ (
-  2,
-  Rows'.sslice (Referent.rtF (Referent.fInt Syntax.w8)) (Syntax.tyRef (Syntax.named 1)
-      Syntax.imm (Syntax.tyInt Syntax.w8)) 1,
-) (List._∷_ (3, Mut.mslice (Referent.rtF (Referent.fInt Syntax.w16)) (Syntax.tyRef (Syntax.named 2) Syntax.mut (Syntax.tyInt Syntax.w16)) 2) (List._∷_ (
-  4,
-  Rows'.whole (Declared'.row Form.the-type),
-) (List._∷_ (5, Rows.arrF (Referent.rtF (Referent.fInt Syntax.w8)) 36 0) (List._∷_ (6, Rows'.whole (Declared'.row Part.the-type)) (List._∷_ (
-  7,
-  Rows'.sc-here (Row.sInt Syntax.w64),
-) (List._∷_ (8, Rows'.any-gone (Syntax.tyArray (Syntax.tyInt Syntax.w16) 768)) (List._∷_ (9, Rows'.any-gone (Syntax.tyArray (Syntax.tyInt Syntax.w16) 9252))
-    (List._∷_ (10, Rows'.any-gone (Syntax.tyArray (Element.held) 336)) (List._∷_ (11, Rows'.any-gone (Syntax.tyInt Syntax.w64)) (List._∷_ (
-      12,
-      Rows.arrF (Referent.rtF (Referent.fInt Syntax.w16)) 768
-          0,
-    ) (List._∷_ (13, Rows'.any-gone (Element.held)) (List._∷_ (14, Rows'.any-gone (Syntax.tyInt Syntax.w64)) (List._∷_ (15, Rows'.any-gone (Syntax.tyInt Syntax.w64)) List.[])))))))))))))))
+t3 = List._∷_ e0 (List._∷_ e2 (List._∷_ e25 (List._∷_ e36 (List._∷_ e39 (List._∷_ e41 (List._∷_ e43 (List._∷_ e44 (List._∷_ e45 (List._∷_ e48 (List._∷_ e3 (List._∷_ e6 (List._∷_ e9 (List._∷_ e11
+    (List._∷_ e12 (List._∷_ e14 List.[])))))))))))))))
 
 abbrev pub t4 : List.List Row.Entry
-t4 = List._∷_ (
-  0,
-  Rows'.any-gone (Syntax.tyEnum (List._∷_ 98 (List._∷_ 108 (List._∷_ 111 (List._∷_ 99 (List._∷_ 107 (List._∷_ 58 (List._∷_ 58 (List._∷_ 87 (List._∷_ 97 (List._∷_ 108 (List._∷_ 107
-      (List._∷_ 101 (List._∷_ 100 List.[]))))))))))))) (Syntax.ttcons (Syntax.tcons (Syntax.tyStruct (List._∷_ 98 (List._∷_ 105 (List._∷_ 116 (List._∷_ 115 (List._∷_ 58 (List._∷_ 58 (List._∷_ 66 (List._∷_
-      105 (List._∷_ 116 (List._∷_ 80 (List._∷_ 111 (List._∷_ 115 (List._∷_ 105 (List._∷_ 116 (List._∷_ 105 (List._∷_ 111 (List._∷_ 110 List.[]))))))))))))))))) (Syntax.tcons (Syntax.tyInt Syntax.w64)
-      Syntax.tnil)) (Syntax.tcons (Syntax.tyInt Syntax.w64) Syntax.tnil)) (Syntax.ttcons (Syntax.tcons (Syntax.tyInt Syntax.w64) Syntax.tnil) Syntax.ttnil))),
-) (List._∷_ (
-  1,
-  Rows'.sslice (Referent.rtF
-      (Referent.fInt Syntax.w8)) (Syntax.tyRef (Syntax.named 0) Syntax.imm (Syntax.tyInt Syntax.w8)) 0,
-) (List._∷_ (
-  2,
-  Rows'.sslice (Referent.rtF (Referent.fInt Syntax.w8)) (Syntax.tyRef (Syntax.named 1)
-      Syntax.imm (Syntax.tyInt Syntax.w8)) 1,
-) (List._∷_ (3, Mut.mslice (Referent.rtF (Referent.fInt Syntax.w16)) (Syntax.tyRef (Syntax.named 2) Syntax.mut (Syntax.tyInt Syntax.w16)) 2) (List._∷_ (
-  4,
-  Rows'.whole (Declared'.row Form.the-type),
-) (List._∷_ (5, Rows.arrF (Referent.rtF (Referent.fInt Syntax.w8)) 36 0) (List._∷_ (6, Rows'.whole (Declared'.row Part.the-type)) (List._∷_ (
-  7,
-  Rows'.sc-here (Row.sInt Syntax.w64),
-) (List._∷_ (8, Rows.arrF (Referent.rtF (Referent.fInt Syntax.w16)) 768 0) (List._∷_ (9, Rows'.any-gone (Syntax.tyArray (Syntax.tyInt Syntax.w16) 9252))
-    (List._∷_ (10, Rows'.any-gone (Syntax.tyArray (Element.held) 336)) (List._∷_ (11, Rows'.any-gone (Syntax.tyInt Syntax.w64)) (List._∷_ (
-      12,
-      Rows.arrF (Referent.rtF (Referent.fInt Syntax.w16)) 768
-          0,
-    ) (List._∷_ (13, Rows'.any-gone (Element.held)) (List._∷_ (14, Rows'.any-gone (Syntax.tyInt Syntax.w64)) (List._∷_ (15, Rows'.any-gone (Syntax.tyInt Syntax.w64)) List.[])))))))))))))))
+t4 = List._∷_ e0 (List._∷_ e2 (List._∷_ e25 (List._∷_ e36 (List._∷_ e39 (List._∷_ e41 (List._∷_ e43 (List._∷_ e44 (List._∷_ e47 (List._∷_ e48 (List._∷_ e3 (List._∷_ e6 (List._∷_ e9 (List._∷_ e11
+    (List._∷_ e12 (List._∷_ e14 List.[])))))))))))))))
 
 abbrev pub t5 : List.List Row.Entry
-t5 = List._∷_ (
-  0,
-  Rows'.any-gone (Syntax.tyEnum (List._∷_ 98 (List._∷_ 108 (List._∷_ 111 (List._∷_ 99 (List._∷_ 107 (List._∷_ 58 (List._∷_ 58 (List._∷_ 87 (List._∷_ 97 (List._∷_ 108 (List._∷_ 107
-      (List._∷_ 101 (List._∷_ 100 List.[]))))))))))))) (Syntax.ttcons (Syntax.tcons (Syntax.tyStruct (List._∷_ 98 (List._∷_ 105 (List._∷_ 116 (List._∷_ 115 (List._∷_ 58 (List._∷_ 58 (List._∷_ 66 (List._∷_
-      105 (List._∷_ 116 (List._∷_ 80 (List._∷_ 111 (List._∷_ 115 (List._∷_ 105 (List._∷_ 116 (List._∷_ 105 (List._∷_ 111 (List._∷_ 110 List.[]))))))))))))))))) (Syntax.tcons (Syntax.tyInt Syntax.w64)
-      Syntax.tnil)) (Syntax.tcons (Syntax.tyInt Syntax.w64) Syntax.tnil)) (Syntax.ttcons (Syntax.tcons (Syntax.tyInt Syntax.w64) Syntax.tnil) Syntax.ttnil))),
-) (List._∷_ (
-  1,
-  Rows'.sslice (Referent.rtF
-      (Referent.fInt Syntax.w8)) (Syntax.tyRef (Syntax.named 0) Syntax.imm (Syntax.tyInt Syntax.w8)) 0,
-) (List._∷_ (
-  2,
-  Rows'.sslice (Referent.rtF (Referent.fInt Syntax.w8)) (Syntax.tyRef (Syntax.named 1)
-      Syntax.imm (Syntax.tyInt Syntax.w8)) 1,
-) (List._∷_ (3, Mut.mslice (Referent.rtF (Referent.fInt Syntax.w16)) (Syntax.tyRef (Syntax.named 2) Syntax.mut (Syntax.tyInt Syntax.w16)) 2) (List._∷_ (
-  4,
-  Rows'.whole (Declared'.row Form.the-type),
-) (List._∷_ (5, Rows.arrF (Referent.rtF (Referent.fInt Syntax.w8)) 36 0) (List._∷_ (6, Rows'.whole (Declared'.row Part.the-type)) (List._∷_ (
-  7,
-  Rows'.sc-here (Row.sInt Syntax.w64),
-) (List._∷_ (8, Rows.arrF (Referent.rtF (Referent.fInt Syntax.w16)) 768 0) (List._∷_ (9, Rows'.any-gone (Syntax.tyArray (Syntax.tyInt Syntax.w16) 9252))
-    (List._∷_ (10, Rows'.any-gone (Syntax.tyArray (Element.held) 336)) (List._∷_ (11, Rows'.any-gone (Syntax.tyInt Syntax.w64)) (List._∷_ (
-      12,
-      Rows'.any-gone (Syntax.tyArray (Syntax.tyInt Syntax.w16)
-          768),
-    ) (List._∷_ (13, Rows'.any-gone (Element.held)) (List._∷_ (14, Rows'.any-gone (Syntax.tyInt Syntax.w64)) (List._∷_ (15, Rows'.any-gone (Syntax.tyInt Syntax.w64)) List.[])))))))))))))))
+t5 = List._∷_ e0 (List._∷_ e2 (List._∷_ e25 (List._∷_ e36 (List._∷_ e39 (List._∷_ e41 (List._∷_ e43 (List._∷_ e44 (List._∷_ e47 (List._∷_ e48 (List._∷_ e3 (List._∷_ e6 (List._∷_ e8 (List._∷_ e11
+    (List._∷_ e12 (List._∷_ e14 List.[])))))))))))))))
 
 abbrev pub t6 : List.List Row.Entry
-t6 = List._∷_ (
-  0,
-  Rows'.any-gone (Syntax.tyEnum (List._∷_ 98 (List._∷_ 108 (List._∷_ 111 (List._∷_ 99 (List._∷_ 107 (List._∷_ 58 (List._∷_ 58 (List._∷_ 87 (List._∷_ 97 (List._∷_ 108 (List._∷_ 107
-      (List._∷_ 101 (List._∷_ 100 List.[]))))))))))))) (Syntax.ttcons (Syntax.tcons (Syntax.tyStruct (List._∷_ 98 (List._∷_ 105 (List._∷_ 116 (List._∷_ 115 (List._∷_ 58 (List._∷_ 58 (List._∷_ 66 (List._∷_
-      105 (List._∷_ 116 (List._∷_ 80 (List._∷_ 111 (List._∷_ 115 (List._∷_ 105 (List._∷_ 116 (List._∷_ 105 (List._∷_ 111 (List._∷_ 110 List.[]))))))))))))))))) (Syntax.tcons (Syntax.tyInt Syntax.w64)
-      Syntax.tnil)) (Syntax.tcons (Syntax.tyInt Syntax.w64) Syntax.tnil)) (Syntax.ttcons (Syntax.tcons (Syntax.tyInt Syntax.w64) Syntax.tnil) Syntax.ttnil))),
-) (List._∷_ (
-  1,
-  Rows'.sslice (Referent.rtF
-      (Referent.fInt Syntax.w8)) (Syntax.tyRef (Syntax.named 0) Syntax.imm (Syntax.tyInt Syntax.w8)) 0,
-) (List._∷_ (
-  2,
-  Rows'.sslice (Referent.rtF (Referent.fInt Syntax.w8)) (Syntax.tyRef (Syntax.named 1)
-      Syntax.imm (Syntax.tyInt Syntax.w8)) 1,
-) (List._∷_ (3, Mut.mslice (Referent.rtF (Referent.fInt Syntax.w16)) (Syntax.tyRef (Syntax.named 2) Syntax.mut (Syntax.tyInt Syntax.w16)) 2) (List._∷_ (
-  4,
-  Rows'.whole (Declared'.row Form.the-type),
-) (List._∷_ (5, Rows.arrF (Referent.rtF (Referent.fInt Syntax.w8)) 36 0) (List._∷_ (6, Rows'.whole (Declared'.row Part.the-type)) (List._∷_ (
-  7,
-  Rows'.sc-here (Row.sInt Syntax.w64),
-) (List._∷_ (8, Rows.arrF (Referent.rtF (Referent.fInt Syntax.w16)) 768 0) (List._∷_ (
-  9,
-  Rows'.whole (Array'.Array (Referent.rtF (Referent.fInt Syntax.w16))
-      9252),
-) (List._∷_ (10, Rows'.any-gone (Syntax.tyArray (Element.held) 336)) (List._∷_ (11, Rows'.any-gone (Syntax.tyInt Syntax.w64)) (List._∷_ (
-  12,
-  Rows'.any-gone (Syntax.tyArray (Syntax.tyInt
-      Syntax.w16) 768),
-) (List._∷_ (13, Rows'.any-gone (Element.held)) (List._∷_ (14, Rows'.any-gone (Syntax.tyInt Syntax.w64)) (List._∷_ (15, Rows'.any-gone (Syntax.tyInt Syntax.w64))
-    List.[])))))))))))))))
+t6 = List._∷_ e0 (List._∷_ e2 (List._∷_ e25 (List._∷_ e36 (List._∷_ e39 (List._∷_ e41 (List._∷_ e43 (List._∷_ e44 (List._∷_ e47 (List._∷_
+    (9, Rows'.whole (Array'.Array (Referent.rtF (Referent.fInt Syntax.w16)) 9252)) (List._∷_ e3 (List._∷_ e6 (List._∷_ e8 (List._∷_ e11 (List._∷_ e12 (List._∷_ e14 List.[])))))))))))))))
 
 abbrev pub t7 : List.List Row.Entry
-t7 = List._∷_ (
-  0,
-  Rows'.any-gone (Syntax.tyEnum (List._∷_ 98 (List._∷_ 108 (List._∷_ 111 (List._∷_ 99 (List._∷_ 107 (List._∷_ 58 (List._∷_ 58 (List._∷_ 87 (List._∷_ 97 (List._∷_ 108 (List._∷_ 107
-      (List._∷_ 101 (List._∷_ 100 List.[]))))))))))))) (Syntax.ttcons (Syntax.tcons (Syntax.tyStruct (List._∷_ 98 (List._∷_ 105 (List._∷_ 116 (List._∷_ 115 (List._∷_ 58 (List._∷_ 58 (List._∷_ 66 (List._∷_
-      105 (List._∷_ 116 (List._∷_ 80 (List._∷_ 111 (List._∷_ 115 (List._∷_ 105 (List._∷_ 116 (List._∷_ 105 (List._∷_ 111 (List._∷_ 110 List.[]))))))))))))))))) (Syntax.tcons (Syntax.tyInt Syntax.w64)
-      Syntax.tnil)) (Syntax.tcons (Syntax.tyInt Syntax.w64) Syntax.tnil)) (Syntax.ttcons (Syntax.tcons (Syntax.tyInt Syntax.w64) Syntax.tnil) Syntax.ttnil))),
-) (List._∷_ (
-  1,
-  Rows'.sslice (Referent.rtF
-      (Referent.fInt Syntax.w8)) (Syntax.tyRef (Syntax.named 0) Syntax.imm (Syntax.tyInt Syntax.w8)) 0,
-) (List._∷_ (
-  2,
-  Rows'.sslice (Referent.rtF (Referent.fInt Syntax.w8)) (Syntax.tyRef (Syntax.named 1)
-      Syntax.imm (Syntax.tyInt Syntax.w8)) 1,
-) (List._∷_ (3, Mut.mslice (Referent.rtF (Referent.fInt Syntax.w16)) (Syntax.tyRef (Syntax.named 2) Syntax.mut (Syntax.tyInt Syntax.w16)) 2) (List._∷_ (
-  4,
-  Rows'.whole (Declared'.row Form.the-type),
-) (List._∷_ (5, Rows.arrF (Referent.rtF (Referent.fInt Syntax.w8)) 36 0) (List._∷_ (6, Rows'.whole (Declared'.row Part.the-type)) (List._∷_ (
-  7,
-  Rows'.sc-here (Row.sInt Syntax.w64),
-) (List._∷_ (8, Rows.arrF (Referent.rtF (Referent.fInt Syntax.w16)) 768 0) (List._∷_ (9, Rows.arrF (Referent.rtF (Referent.fInt Syntax.w16)) 9252 0) (List._∷_ (
-  10,
-  Rows'.any-gone (Syntax.tyArray (Element.held) 336),
-) (List._∷_ (11, Rows'.any-gone (Syntax.tyInt Syntax.w64)) (List._∷_ (12, Rows'.any-gone (Syntax.tyArray (Syntax.tyInt Syntax.w16) 768))
-    (List._∷_ (13, Rows'.any-gone (Element.held)) (List._∷_ (14, Rows'.any-gone (Syntax.tyInt Syntax.w64)) (List._∷_ (15, Rows'.any-gone (Syntax.tyInt Syntax.w64)) List.[])))))))))))))))
+t7 = List._∷_ e0 (List._∷_ e2 (List._∷_ e25 (List._∷_ e36 (List._∷_ e39 (List._∷_ e41 (List._∷_ e43 (List._∷_ e44 (List._∷_ e47 (List._∷_ e50 (List._∷_ e3 (List._∷_ e6 (List._∷_ e8 (List._∷_ e11
+    (List._∷_ e12 (List._∷_ e14 List.[])))))))))))))))
 
 abbrev pub t8 : List.List Row.Entry
-t8 = List._∷_ (
-  0,
-  Rows'.any-gone (Syntax.tyEnum (List._∷_ 98 (List._∷_ 108 (List._∷_ 111 (List._∷_ 99 (List._∷_ 107 (List._∷_ 58 (List._∷_ 58 (List._∷_ 87 (List._∷_ 97 (List._∷_ 108 (List._∷_ 107
-      (List._∷_ 101 (List._∷_ 100 List.[]))))))))))))) (Syntax.ttcons (Syntax.tcons (Syntax.tyStruct (List._∷_ 98 (List._∷_ 105 (List._∷_ 116 (List._∷_ 115 (List._∷_ 58 (List._∷_ 58 (List._∷_ 66 (List._∷_
-      105 (List._∷_ 116 (List._∷_ 80 (List._∷_ 111 (List._∷_ 115 (List._∷_ 105 (List._∷_ 116 (List._∷_ 105 (List._∷_ 111 (List._∷_ 110 List.[]))))))))))))))))) (Syntax.tcons (Syntax.tyInt Syntax.w64)
-      Syntax.tnil)) (Syntax.tcons (Syntax.tyInt Syntax.w64) Syntax.tnil)) (Syntax.ttcons (Syntax.tcons (Syntax.tyInt Syntax.w64) Syntax.tnil) Syntax.ttnil))),
-) (List._∷_ (
-  1,
-  Rows'.sslice (Referent.rtF
-      (Referent.fInt Syntax.w8)) (Syntax.tyRef (Syntax.named 0) Syntax.imm (Syntax.tyInt Syntax.w8)) 0,
-) (List._∷_ (
-  2,
-  Rows'.sslice (Referent.rtF (Referent.fInt Syntax.w8)) (Syntax.tyRef (Syntax.named 1)
-      Syntax.imm (Syntax.tyInt Syntax.w8)) 1,
-) (List._∷_ (3, Mut.mslice (Referent.rtF (Referent.fInt Syntax.w16)) (Syntax.tyRef (Syntax.named 2) Syntax.mut (Syntax.tyInt Syntax.w16)) 2) (List._∷_ (
-  4,
-  Rows'.whole (Declared'.row Form.the-type),
-) (List._∷_ (5, Rows.arrF (Referent.rtF (Referent.fInt Syntax.w8)) 36 0) (List._∷_ (6, Rows'.whole (Declared'.row Part.the-type)) (List._∷_ (
-  7,
-  Rows'.sc-here (Row.sInt Syntax.w64),
-) (List._∷_ (8, Rows.arrF (Referent.rtF (Referent.fInt Syntax.w16)) 768 0) (List._∷_ (9, Rows.arrF (Referent.rtF (Referent.fInt Syntax.w16)) 9252 0) (List._∷_ (
-  10,
-  Rows'.any-gone (Syntax.tyArray (Element.held) 336),
-) (List._∷_ (11, Rows'.any-gone (Syntax.tyInt Syntax.w64)) (List._∷_ (12, Rows'.any-gone (Syntax.tyArray (Syntax.tyInt Syntax.w16) 768))
-    (List._∷_ (13, Element.row) (List._∷_ (14, Rows'.any-gone (Syntax.tyInt Syntax.w64)) (List._∷_ (15, Rows'.any-gone (Syntax.tyInt Syntax.w64)) List.[])))))))))))))))
+t8 = List._∷_ e0 (List._∷_ e2 (List._∷_ e25 (List._∷_ e36 (List._∷_ e39 (List._∷_ e41 (List._∷_ e43 (List._∷_ e44 (List._∷_ e47 (List._∷_ e50 (List._∷_ e3 (List._∷_ e6 (List._∷_ e8 (List._∷_ e10
+    (List._∷_ e12 (List._∷_ e14 List.[])))))))))))))))
 
 abbrev pub t9 : List.List Row.Entry
-t9 = List._∷_ (
-  0,
-  Rows'.any-gone (Syntax.tyEnum (List._∷_ 98 (List._∷_ 108 (List._∷_ 111 (List._∷_ 99 (List._∷_ 107 (List._∷_ 58 (List._∷_ 58 (List._∷_ 87 (List._∷_ 97 (List._∷_ 108 (List._∷_ 107
-      (List._∷_ 101 (List._∷_ 100 List.[]))))))))))))) (Syntax.ttcons (Syntax.tcons (Syntax.tyStruct (List._∷_ 98 (List._∷_ 105 (List._∷_ 116 (List._∷_ 115 (List._∷_ 58 (List._∷_ 58 (List._∷_ 66 (List._∷_
-      105 (List._∷_ 116 (List._∷_ 80 (List._∷_ 111 (List._∷_ 115 (List._∷_ 105 (List._∷_ 116 (List._∷_ 105 (List._∷_ 111 (List._∷_ 110 List.[]))))))))))))))))) (Syntax.tcons (Syntax.tyInt Syntax.w64)
-      Syntax.tnil)) (Syntax.tcons (Syntax.tyInt Syntax.w64) Syntax.tnil)) (Syntax.ttcons (Syntax.tcons (Syntax.tyInt Syntax.w64) Syntax.tnil) Syntax.ttnil))),
-) (List._∷_ (
-  1,
-  Rows'.sslice (Referent.rtF
-      (Referent.fInt Syntax.w8)) (Syntax.tyRef (Syntax.named 0) Syntax.imm (Syntax.tyInt Syntax.w8)) 0,
-) (List._∷_ (
-  2,
-  Rows'.sslice (Referent.rtF (Referent.fInt Syntax.w8)) (Syntax.tyRef (Syntax.named 1)
-      Syntax.imm (Syntax.tyInt Syntax.w8)) 1,
-) (List._∷_ (3, Mut.mslice (Referent.rtF (Referent.fInt Syntax.w16)) (Syntax.tyRef (Syntax.named 2) Syntax.mut (Syntax.tyInt Syntax.w16)) 2) (List._∷_ (
-  4,
-  Rows'.whole (Declared'.row Form.the-type),
-) (List._∷_ (5, Rows.arrF (Referent.rtF (Referent.fInt Syntax.w8)) 36 0) (List._∷_ (6, Rows'.whole (Declared'.row Part.the-type)) (List._∷_ (
-  7,
-  Rows'.sc-here (Row.sInt Syntax.w64),
-) (List._∷_ (8, Rows.arrF (Referent.rtF (Referent.fInt Syntax.w16)) 768 0) (List._∷_ (9, Rows.arrF (Referent.rtF (Referent.fInt Syntax.w16)) 9252 0) (List._∷_ (
-  10,
-  Rows'.whole (Array'.Array (Element.type) 336),
-) (List._∷_ (11, Rows'.any-gone (Syntax.tyInt Syntax.w64)) (List._∷_ (12, Rows'.any-gone (Syntax.tyArray (Syntax.tyInt Syntax.w16) 768)) (List._∷_
-    (13, Element.row) (List._∷_ (14, Rows'.any-gone (Syntax.tyInt Syntax.w64)) (List._∷_ (15, Rows'.any-gone (Syntax.tyInt Syntax.w64)) List.[])))))))))))))))
+t9 = List._∷_ e0 (List._∷_ e2 (List._∷_ e25 (List._∷_ e36 (List._∷_ e39 (List._∷_ e41 (List._∷_ e43 (List._∷_ e44 (List._∷_ e47 (List._∷_ e50 (List._∷_
+    (10, Rows'.whole (Array'.Array (Element.type) 336)) (List._∷_ e6 (List._∷_ e8 (List._∷_ e10 (List._∷_ e12 (List._∷_ e14 List.[])))))))))))))))
 
 abbrev pub t10 : List.List Row.Entry
-t10 = List._∷_ (
-  0,
-  Rows'.any-gone (Syntax.tyEnum (List._∷_ 98 (List._∷_ 108 (List._∷_ 111 (List._∷_ 99 (List._∷_ 107 (List._∷_ 58 (List._∷_ 58 (List._∷_ 87 (List._∷_ 97 (List._∷_ 108 (List._∷_ 107
-      (List._∷_ 101 (List._∷_ 100 List.[]))))))))))))) (Syntax.ttcons (Syntax.tcons (Syntax.tyStruct (List._∷_ 98 (List._∷_ 105 (List._∷_ 116 (List._∷_ 115 (List._∷_ 58 (List._∷_ 58 (List._∷_ 66 (List._∷_
-      105 (List._∷_ 116 (List._∷_ 80 (List._∷_ 111 (List._∷_ 115 (List._∷_ 105 (List._∷_ 116 (List._∷_ 105 (List._∷_ 111 (List._∷_ 110 List.[]))))))))))))))))) (Syntax.tcons (Syntax.tyInt Syntax.w64)
-      Syntax.tnil)) (Syntax.tcons (Syntax.tyInt Syntax.w64) Syntax.tnil)) (Syntax.ttcons (Syntax.tcons (Syntax.tyInt Syntax.w64) Syntax.tnil) Syntax.ttnil))),
-) (List._∷_ (
-  1,
-  Rows'.sslice (Referent.rtF
-      (Referent.fInt Syntax.w8)) (Syntax.tyRef (Syntax.named 0) Syntax.imm (Syntax.tyInt Syntax.w8)) 0,
-) (List._∷_ (
-  2,
-  Rows'.sslice (Referent.rtF (Referent.fInt Syntax.w8)) (Syntax.tyRef (Syntax.named 1)
-      Syntax.imm (Syntax.tyInt Syntax.w8)) 1,
-) (List._∷_ (3, Mut.mslice (Referent.rtF (Referent.fInt Syntax.w16)) (Syntax.tyRef (Syntax.named 2) Syntax.mut (Syntax.tyInt Syntax.w16)) 2) (List._∷_ (
-  4,
-  Rows'.whole (Declared'.row Form.the-type),
-) (List._∷_ (5, Rows.arrF (Referent.rtF (Referent.fInt Syntax.w8)) 36 0) (List._∷_ (6, Rows'.whole (Declared'.row Part.the-type)) (List._∷_ (
-  7,
-  Rows'.sc-here (Row.sInt Syntax.w64),
-) (List._∷_ (8, Rows.arrF (Referent.rtF (Referent.fInt Syntax.w16)) 768 0) (List._∷_ (9, Rows.arrF (Referent.rtF (Referent.fInt Syntax.w16)) 9252 0) (List._∷_
-    (10, Rows.arrF (Element.type) 336 0) (List._∷_ (11, Rows'.any-gone (Syntax.tyInt Syntax.w64)) (List._∷_ (12, Rows'.any-gone (Syntax.tyArray (Syntax.tyInt Syntax.w16) 768)) (List._∷_ (
-      13,
-      Element.row,
-    ) (List._∷_ (14, Rows'.any-gone (Syntax.tyInt Syntax.w64)) (List._∷_ (15, Rows'.any-gone (Syntax.tyInt Syntax.w64)) List.[])))))))))))))))
+t10 = List._∷_ e0 (List._∷_ e2 (List._∷_ e25 (List._∷_ e36 (List._∷_ e39 (List._∷_ e41 (List._∷_ e43 (List._∷_ e44 (List._∷_ e47 (List._∷_ e50 (List._∷_ e5 (List._∷_ e6 (List._∷_ e8 (List._∷_ e10
+    (List._∷_ e12 (List._∷_ e14 List.[])))))))))))))))
 
 abbrev pub t11 : List.List Row.Entry
-t11 = List._∷_ (
-  0,
-  Rows'.any-gone (Syntax.tyEnum (List._∷_ 98 (List._∷_ 108 (List._∷_ 111 (List._∷_ 99 (List._∷_ 107 (List._∷_ 58 (List._∷_ 58 (List._∷_ 87 (List._∷_ 97 (List._∷_ 108 (List._∷_ 107
-      (List._∷_ 101 (List._∷_ 100 List.[]))))))))))))) (Syntax.ttcons (Syntax.tcons (Syntax.tyStruct (List._∷_ 98 (List._∷_ 105 (List._∷_ 116 (List._∷_ 115 (List._∷_ 58 (List._∷_ 58 (List._∷_ 66 (List._∷_
-      105 (List._∷_ 116 (List._∷_ 80 (List._∷_ 111 (List._∷_ 115 (List._∷_ 105 (List._∷_ 116 (List._∷_ 105 (List._∷_ 111 (List._∷_ 110 List.[]))))))))))))))))) (Syntax.tcons (Syntax.tyInt Syntax.w64)
-      Syntax.tnil)) (Syntax.tcons (Syntax.tyInt Syntax.w64) Syntax.tnil)) (Syntax.ttcons (Syntax.tcons (Syntax.tyInt Syntax.w64) Syntax.tnil) Syntax.ttnil))),
-) (List._∷_ (
-  1,
-  Rows'.sslice (Referent.rtF
-      (Referent.fInt Syntax.w8)) (Syntax.tyRef (Syntax.named 0) Syntax.imm (Syntax.tyInt Syntax.w8)) 0,
-) (List._∷_ (
-  2,
-  Rows'.sslice (Referent.rtF (Referent.fInt Syntax.w8)) (Syntax.tyRef (Syntax.named 1)
-      Syntax.imm (Syntax.tyInt Syntax.w8)) 1,
-) (List._∷_ (3, Mut.mslice (Referent.rtF (Referent.fInt Syntax.w16)) (Syntax.tyRef (Syntax.named 2) Syntax.mut (Syntax.tyInt Syntax.w16)) 2) (List._∷_ (
-  4,
-  Rows'.whole (Declared'.row Form.the-type),
-) (List._∷_ (5, Rows.arrF (Referent.rtF (Referent.fInt Syntax.w8)) 36 0) (List._∷_ (6, Rows'.whole (Declared'.row Part.the-type)) (List._∷_ (
-  7,
-  Rows'.sc-here (Row.sInt Syntax.w64),
-) (List._∷_ (8, Rows.arrF (Referent.rtF (Referent.fInt Syntax.w16)) 768 0) (List._∷_ (9, Rows.arrF (Referent.rtF (Referent.fInt Syntax.w16)) 9252 0) (List._∷_
-    (10, Rows.arrF (Element.type) 336 0) (List._∷_ (11, Rows'.any-gone (Syntax.tyInt Syntax.w64)) (List._∷_ (12, Rows'.any-gone (Syntax.tyArray (Syntax.tyInt Syntax.w16) 768)) (List._∷_ (
-      13,
-      Rows'.any-gone (Element.held),
-    ) (List._∷_ (14, Rows'.any-gone (Syntax.tyInt Syntax.w64)) (List._∷_ (15, Rows'.any-gone (Syntax.tyInt Syntax.w64)) List.[])))))))))))))))
+t11 = List._∷_ e0 (List._∷_ e2 (List._∷_ e25 (List._∷_ e36 (List._∷_ e39 (List._∷_ e41 (List._∷_ e43 (List._∷_ e44 (List._∷_ e47 (List._∷_ e50 (List._∷_ e5 (List._∷_ e6 (List._∷_ e8 (List._∷_ e11
+    (List._∷_ e12 (List._∷_ e14 List.[])))))))))))))))
 
 abbrev pub t12 : List.List Row.Entry
-t12 = List._∷_ (
-  0,
-  Rows'.any-gone (Syntax.tyEnum (List._∷_ 98 (List._∷_ 108 (List._∷_ 111 (List._∷_ 99 (List._∷_ 107 (List._∷_ 58 (List._∷_ 58 (List._∷_ 87 (List._∷_ 97 (List._∷_ 108 (List._∷_ 107
-      (List._∷_ 101 (List._∷_ 100 List.[]))))))))))))) (Syntax.ttcons (Syntax.tcons (Syntax.tyStruct (List._∷_ 98 (List._∷_ 105 (List._∷_ 116 (List._∷_ 115 (List._∷_ 58 (List._∷_ 58 (List._∷_ 66 (List._∷_
-      105 (List._∷_ 116 (List._∷_ 80 (List._∷_ 111 (List._∷_ 115 (List._∷_ 105 (List._∷_ 116 (List._∷_ 105 (List._∷_ 111 (List._∷_ 110 List.[]))))))))))))))))) (Syntax.tcons (Syntax.tyInt Syntax.w64)
-      Syntax.tnil)) (Syntax.tcons (Syntax.tyInt Syntax.w64) Syntax.tnil)) (Syntax.ttcons (Syntax.tcons (Syntax.tyInt Syntax.w64) Syntax.tnil) Syntax.ttnil))),
-) (List._∷_ (
-  1,
-  Rows'.sslice (Referent.rtF
-      (Referent.fInt Syntax.w8)) (Syntax.tyRef (Syntax.named 0) Syntax.imm (Syntax.tyInt Syntax.w8)) 0,
-) (List._∷_ (
-  2,
-  Rows'.sslice (Referent.rtF (Referent.fInt Syntax.w8)) (Syntax.tyRef (Syntax.named 1)
-      Syntax.imm (Syntax.tyInt Syntax.w8)) 1,
-) (List._∷_ (3, Mut.mslice (Referent.rtF (Referent.fInt Syntax.w16)) (Syntax.tyRef (Syntax.named 2) Syntax.mut (Syntax.tyInt Syntax.w16)) 2) (List._∷_ (
-  4,
-  Rows'.whole (Declared'.row Form.the-type),
-) (List._∷_ (5, Rows.arrF (Referent.rtF (Referent.fInt Syntax.w8)) 36 0) (List._∷_ (6, Rows'.whole (Declared'.row Part.the-type)) (List._∷_ (
-  7,
-  Rows'.sc-here (Row.sInt Syntax.w64),
-) (List._∷_ (8, Rows.arrF (Referent.rtF (Referent.fInt Syntax.w16)) 768 0) (List._∷_ (9, Rows.arrF (Referent.rtF (Referent.fInt Syntax.w16)) 9252 0) (List._∷_
-    (10, Rows.arrF (Element.type) 336 0) (List._∷_ (11, Rows'.any-gone (Syntax.tyInt Syntax.w64)) (List._∷_ (12, Rows'.any-gone (Syntax.tyArray (Syntax.tyInt Syntax.w16) 768)) (List._∷_ (
-      13,
-      Rows'.any-gone (Element.held),
-    ) (List._∷_ (14, Rows'.sc-here (Row.sInt Syntax.w64)) (List._∷_ (15, Rows'.any-gone (Syntax.tyInt Syntax.w64)) List.[])))))))))))))))
+t12 = List._∷_ e0 (List._∷_ e2 (List._∷_ e25 (List._∷_ e36 (List._∷_ e39 (List._∷_ e41 (List._∷_ e43 (List._∷_ e44 (List._∷_ e47 (List._∷_ e50 (List._∷_ e5 (List._∷_ e6 (List._∷_ e8 (List._∷_ e11
+    (List._∷_ e13 (List._∷_ e14 List.[])))))))))))))))
 
 abbrev pub t13 : List.List Row.Entry
-t13 = List._∷_ (
-  0,
-  Rows'.any-gone (Syntax.tyEnum (List._∷_ 98 (List._∷_ 108 (List._∷_ 111 (List._∷_ 99 (List._∷_ 107 (List._∷_ 58 (List._∷_ 58 (List._∷_ 87 (List._∷_ 97 (List._∷_ 108 (List._∷_ 107
-      (List._∷_ 101 (List._∷_ 100 List.[]))))))))))))) (Syntax.ttcons (Syntax.tcons (Syntax.tyStruct (List._∷_ 98 (List._∷_ 105 (List._∷_ 116 (List._∷_ 115 (List._∷_ 58 (List._∷_ 58 (List._∷_ 66 (List._∷_
-      105 (List._∷_ 116 (List._∷_ 80 (List._∷_ 111 (List._∷_ 115 (List._∷_ 105 (List._∷_ 116 (List._∷_ 105 (List._∷_ 111 (List._∷_ 110 List.[]))))))))))))))))) (Syntax.tcons (Syntax.tyInt Syntax.w64)
-      Syntax.tnil)) (Syntax.tcons (Syntax.tyInt Syntax.w64) Syntax.tnil)) (Syntax.ttcons (Syntax.tcons (Syntax.tyInt Syntax.w64) Syntax.tnil) Syntax.ttnil))),
-) (List._∷_ (
-  1,
-  Rows'.sslice (Referent.rtF
-      (Referent.fInt Syntax.w8)) (Syntax.tyRef (Syntax.named 0) Syntax.imm (Syntax.tyInt Syntax.w8)) 0,
-) (List._∷_ (
-  2,
-  Rows'.sslice (Referent.rtF (Referent.fInt Syntax.w8)) (Syntax.tyRef (Syntax.named 1)
-      Syntax.imm (Syntax.tyInt Syntax.w8)) 1,
-) (List._∷_ (3, Mut.mslice (Referent.rtF (Referent.fInt Syntax.w16)) (Syntax.tyRef (Syntax.named 2) Syntax.mut (Syntax.tyInt Syntax.w16)) 2) (List._∷_ (
-  4,
-  Rows'.whole (Declared'.row Form.the-type),
-) (List._∷_ (5, Rows.arrF (Referent.rtF (Referent.fInt Syntax.w8)) 36 0) (List._∷_ (6, Rows'.whole (Declared'.row Part.the-type)) (List._∷_ (
-  7,
-  Rows'.sc-here (Row.sInt Syntax.w64),
-) (List._∷_ (8, Rows.arrF (Referent.rtF (Referent.fInt Syntax.w16)) 768 0) (List._∷_ (9, Rows.arrF (Referent.rtF (Referent.fInt Syntax.w16)) 9252 0) (List._∷_
-    (10, Rows.arrF (Element.type) 336 0) (List._∷_ (11, Rows'.any-gone (Syntax.tyInt Syntax.w64)) (List._∷_ (12, Rows'.any-gone (Syntax.tyArray (Syntax.tyInt Syntax.w16) 768)) (List._∷_ (
-      13,
-      Rows'.any-gone (Element.held),
-    ) (List._∷_ (14, Rows'.sc-here (Row.sInt Syntax.w64)) (List._∷_ (15, Rows'.sc-here (Row.sInt Syntax.w64)) List.[])))))))))))))))
+t13 = List._∷_ e0 (List._∷_ e2 (List._∷_ e25 (List._∷_ e36 (List._∷_ e39 (List._∷_ e41 (List._∷_ e43 (List._∷_ e44 (List._∷_ e47 (List._∷_ e50 (List._∷_ e5 (List._∷_ e6 (List._∷_ e8 (List._∷_ e11
+    (List._∷_ e13 (List._∷_ e15 List.[])))))))))))))))
 
 abbrev pub t14 : List.List Row.Entry
-t14 = List._∷_ (
-  0,
-  Rows'.any-gone (Syntax.tyEnum (List._∷_ 98 (List._∷_ 108 (List._∷_ 111 (List._∷_ 99 (List._∷_ 107 (List._∷_ 58 (List._∷_ 58 (List._∷_ 87 (List._∷_ 97 (List._∷_ 108 (List._∷_ 107
-      (List._∷_ 101 (List._∷_ 100 List.[]))))))))))))) (Syntax.ttcons (Syntax.tcons (Syntax.tyStruct (List._∷_ 98 (List._∷_ 105 (List._∷_ 116 (List._∷_ 115 (List._∷_ 58 (List._∷_ 58 (List._∷_ 66 (List._∷_
-      105 (List._∷_ 116 (List._∷_ 80 (List._∷_ 111 (List._∷_ 115 (List._∷_ 105 (List._∷_ 116 (List._∷_ 105 (List._∷_ 111 (List._∷_ 110 List.[]))))))))))))))))) (Syntax.tcons (Syntax.tyInt Syntax.w64)
-      Syntax.tnil)) (Syntax.tcons (Syntax.tyInt Syntax.w64) Syntax.tnil)) (Syntax.ttcons (Syntax.tcons (Syntax.tyInt Syntax.w64) Syntax.tnil) Syntax.ttnil))),
-) (List._∷_ (
-  1,
-  Rows'.sslice (Referent.rtF
-      (Referent.fInt Syntax.w8)) (Syntax.tyRef (Syntax.named 0) Syntax.imm (Syntax.tyInt Syntax.w8)) 0,
-) (List._∷_ (
-  2,
-  Rows'.sslice (Referent.rtF (Referent.fInt Syntax.w8)) (Syntax.tyRef (Syntax.named 1)
-      Syntax.imm (Syntax.tyInt Syntax.w8)) 1,
-) (List._∷_ (3, Mut.mslice (Referent.rtF (Referent.fInt Syntax.w16)) (Syntax.tyRef (Syntax.named 2) Syntax.mut (Syntax.tyInt Syntax.w16)) 2) (List._∷_ (
-  4,
-  Rows'.whole (Declared'.row Form.the-type),
-) (List._∷_ (5, Rows.arrF (Referent.rtF (Referent.fInt Syntax.w8)) 36 0) (List._∷_ (6, Rows'.whole (Declared'.row Part.the-type)) (List._∷_ (
-  7,
-  Rows'.sc-here (Row.sInt Syntax.w64),
-) (List._∷_ (8, Rows.arrF (Referent.rtF (Referent.fInt Syntax.w16)) 768 0) (List._∷_ (9, Rows.arrF (Referent.rtF (Referent.fInt Syntax.w16)) 9252 0) (List._∷_
-    (10, Rows.arrF (Element.type) 336 0) (List._∷_ (11, Rows'.any-gone (Syntax.tyInt Syntax.w64)) (List._∷_ (12, Rows'.any-gone (Syntax.tyArray (Syntax.tyInt Syntax.w16) 768)) (List._∷_ (
-      13,
-      Rows'.any-gone (Element.held),
-    ) (List._∷_ (14, Rows'.any-gone (Syntax.tyInt Syntax.w64)) (List._∷_ (15, Rows'.sc-here (Row.sInt Syntax.w64)) List.[])))))))))))))))
+t14 = List._∷_ e0 (List._∷_ e2 (List._∷_ e25 (List._∷_ e36 (List._∷_ e39 (List._∷_ e41 (List._∷_ e43 (List._∷_ e44 (List._∷_ e47 (List._∷_ e50 (List._∷_ e5 (List._∷_ e6 (List._∷_ e8 (List._∷_ e11
+    (List._∷_ e12 (List._∷_ e15 List.[])))))))))))))))
 
 abbrev pub t15 : List.List Row.Entry
-t15 = List._∷_ (
-  0,
-  Rows'.any-gone (Syntax.tyEnum (List._∷_ 98 (List._∷_ 108 (List._∷_ 111 (List._∷_ 99 (List._∷_ 107 (List._∷_ 58 (List._∷_ 58 (List._∷_ 87 (List._∷_ 97 (List._∷_ 108 (List._∷_ 107
-      (List._∷_ 101 (List._∷_ 100 List.[]))))))))))))) (Syntax.ttcons (Syntax.tcons (Syntax.tyStruct (List._∷_ 98 (List._∷_ 105 (List._∷_ 116 (List._∷_ 115 (List._∷_ 58 (List._∷_ 58 (List._∷_ 66 (List._∷_
-      105 (List._∷_ 116 (List._∷_ 80 (List._∷_ 111 (List._∷_ 115 (List._∷_ 105 (List._∷_ 116 (List._∷_ 105 (List._∷_ 111 (List._∷_ 110 List.[]))))))))))))))))) (Syntax.tcons (Syntax.tyInt Syntax.w64)
-      Syntax.tnil)) (Syntax.tcons (Syntax.tyInt Syntax.w64) Syntax.tnil)) (Syntax.ttcons (Syntax.tcons (Syntax.tyInt Syntax.w64) Syntax.tnil) Syntax.ttnil))),
-) (List._∷_ (
-  1,
-  Rows'.sslice (Referent.rtF
-      (Referent.fInt Syntax.w8)) (Syntax.tyRef (Syntax.named 0) Syntax.imm (Syntax.tyInt Syntax.w8)) 0,
-) (List._∷_ (
-  2,
-  Rows'.sslice (Referent.rtF (Referent.fInt Syntax.w8)) (Syntax.tyRef (Syntax.named 1)
-      Syntax.imm (Syntax.tyInt Syntax.w8)) 1,
-) (List._∷_ (3, Mut.mslice (Referent.rtF (Referent.fInt Syntax.w16)) (Syntax.tyRef (Syntax.named 2) Syntax.mut (Syntax.tyInt Syntax.w16)) 2) (List._∷_ (
-  4,
-  Rows'.whole (Declared'.row Form.the-type),
-) (List._∷_ (5, Rows.arrF (Referent.rtF (Referent.fInt Syntax.w8)) 36 0) (List._∷_ (6, Rows'.whole (Declared'.row Part.the-type)) (List._∷_ (
-  7,
-  Rows'.sc-here (Row.sInt Syntax.w64),
-) (List._∷_ (8, Rows.arrF (Referent.rtF (Referent.fInt Syntax.w16)) 768 0) (List._∷_ (9, Rows.arrF (Referent.rtF (Referent.fInt Syntax.w16)) 9252 0) (List._∷_
-    (10, Rows.arrF (Element.type) 336 0) (List._∷_ (11, Rows'.sc-here (Row.sInt Syntax.w64)) (List._∷_ (12, Rows'.any-gone (Syntax.tyArray (Syntax.tyInt Syntax.w16) 768)) (List._∷_ (
-      13,
-      Rows'.any-gone
-          (Element.held),
-    ) (List._∷_ (14, Rows'.any-gone (Syntax.tyInt Syntax.w64)) (List._∷_ (15, Rows'.sc-here (Row.sInt Syntax.w64)) List.[])))))))))))))))
+t15 = List._∷_ e0 (List._∷_ e2 (List._∷_ e25 (List._∷_ e36 (List._∷_ e39 (List._∷_ e41 (List._∷_ e43 (List._∷_ e44 (List._∷_ e47 (List._∷_ e50 (List._∷_ e5 (List._∷_ e7 (List._∷_ e8 (List._∷_ e11
+    (List._∷_ e12 (List._∷_ e15 List.[])))))))))))))))
 
 abbrev pub t16 : List.List Row.Entry
-t16 = List._∷_ (
-  0,
-  Rows'.any-gone (Syntax.tyEnum (List._∷_ 98 (List._∷_ 108 (List._∷_ 111 (List._∷_ 99 (List._∷_ 107 (List._∷_ 58 (List._∷_ 58 (List._∷_ 87 (List._∷_ 97 (List._∷_ 108 (List._∷_ 107
-      (List._∷_ 101 (List._∷_ 100 List.[]))))))))))))) (Syntax.ttcons (Syntax.tcons (Syntax.tyStruct (List._∷_ 98 (List._∷_ 105 (List._∷_ 116 (List._∷_ 115 (List._∷_ 58 (List._∷_ 58 (List._∷_ 66 (List._∷_
-      105 (List._∷_ 116 (List._∷_ 80 (List._∷_ 111 (List._∷_ 115 (List._∷_ 105 (List._∷_ 116 (List._∷_ 105 (List._∷_ 111 (List._∷_ 110 List.[]))))))))))))))))) (Syntax.tcons (Syntax.tyInt Syntax.w64)
-      Syntax.tnil)) (Syntax.tcons (Syntax.tyInt Syntax.w64) Syntax.tnil)) (Syntax.ttcons (Syntax.tcons (Syntax.tyInt Syntax.w64) Syntax.tnil) Syntax.ttnil))),
-) (List._∷_ (
-  1,
-  Rows'.sslice (Referent.rtF
-      (Referent.fInt Syntax.w8)) (Syntax.tyRef (Syntax.named 0) Syntax.imm (Syntax.tyInt Syntax.w8)) 0,
-) (List._∷_ (
-  2,
-  Rows'.sslice (Referent.rtF (Referent.fInt Syntax.w8)) (Syntax.tyRef (Syntax.named 1)
-      Syntax.imm (Syntax.tyInt Syntax.w8)) 1,
-) (List._∷_ (3, Mut.mslice (Referent.rtF (Referent.fInt Syntax.w16)) (Syntax.tyRef (Syntax.named 2) Syntax.mut (Syntax.tyInt Syntax.w16)) 2) (List._∷_ (
-  4,
-  Rows'.whole (Declared'.row Form.the-type),
-) (List._∷_ (5, Rows.arrF (Referent.rtF (Referent.fInt Syntax.w8)) 36 0) (List._∷_ (6, Rows'.whole (Declared'.row Part.the-type)) (List._∷_ (
-  7,
-  Rows'.sc-here (Row.sInt Syntax.w64),
-) (List._∷_ (8, Rows.arrF (Referent.rtF (Referent.fInt Syntax.w16)) 768 0) (List._∷_ (9, Rows.arrF (Referent.rtF (Referent.fInt Syntax.w16)) 9252 0) (List._∷_
-    (10, Rows.arrF (Element.type) 336 0) (List._∷_ (11, Rows'.sc-here (Row.sInt Syntax.w64)) (List._∷_ (12, Rows'.any-gone (Syntax.tyArray (Syntax.tyInt Syntax.w16) 768)) (List._∷_ (
-      13,
-      Rows'.any-gone
-          (Element.held),
-    ) (List._∷_ (14, Rows'.any-gone (Syntax.tyInt Syntax.w64)) (List._∷_ (15, Rows'.any-gone (Syntax.tyInt Syntax.w64)) List.[])))))))))))))))
+t16 = List._∷_ e0 (List._∷_ e2 (List._∷_ e25 (List._∷_ e36 (List._∷_ e39 (List._∷_ e41 (List._∷_ e43 (List._∷_ e44 (List._∷_ e47 (List._∷_ e50 (List._∷_ e5 (List._∷_ e7 (List._∷_ e8 (List._∷_ e11
+    (List._∷_ e12 (List._∷_ e14 List.[])))))))))))))))
 
 abbrev pub t17 : List.List Row.Entry
-t17 = List._∷_ (16, Rows'.sc-here Row.sPtr) (List._∷_ (17, Rows'.any-gone Syntax.tyPtr) (List._∷_ (18, Rows'.any-gone (Syntax.tyRef Syntax.erased Syntax.mut (Syntax.tyInt Syntax.w16))) (List._∷_ (
-  19,
-  Rows'.any-gone (Syntax.tyStruct (List._∷_ 38 (List._∷_ 91 (List._∷_ 93 List.[]))) (Syntax.tcons (Syntax.tyRef Syntax.erased Syntax.mut (Syntax.tyInt Syntax.w16)) (Syntax.tcons (Syntax.tyInt
-      Syntax.w64) Syntax.tnil))),
-) (List._∷_ (20, Rows'.any-gone (Syntax.tyRef Syntax.erased Syntax.mut (Syntax.tyArray Element.behind 336))) (List._∷_ (
-  21,
-  Rows'.any-gone (Syntax.tyStruct (List._∷_ 38
-      (List._∷_ 91 (List._∷_ 93 List.[]))) (Syntax.tcons (Syntax.tyRef Syntax.erased Syntax.mut Element.behind) (Syntax.tcons (Syntax.tyInt Syntax.w64) Syntax.tnil))),
-) (List._∷_ (
-  22,
-  Rows'.any-gone
-      (Syntax.tyRef Syntax.erased Syntax.mut (Syntax.tyInt Syntax.w16)),
-) (List._∷_ (
-  23,
-  Rows'.any-gone (Syntax.tyStruct (List._∷_ 38 (List._∷_ 91 (List._∷_ 93 List.[]))) (Syntax.tcons (Syntax.tyRef
-      Syntax.erased Syntax.mut (Syntax.tyInt Syntax.w16)) (Syntax.tcons (Syntax.tyInt Syntax.w64) Syntax.tnil))),
-) (List._∷_ (
-  24,
-  Rows'.any-gone (Syntax.tyRef Syntax.erased Syntax.imm (Syntax.tyArray
-      (Syntax.tyInt Syntax.w16) 768)),
-) List.[]))))))))
+t17 = List._∷_ e17 (List._∷_ e18 (List._∷_ e21 (List._∷_ e24 (List._∷_ e26 (List._∷_ e29 (List._∷_ e30 (List._∷_ e33 (List._∷_ e34 List.[]))))))))
 
 abbrev pub t18 : List.List Row.Entry
-t18 = List._∷_ (16, Rows'.sc-here Row.sPtr) (List._∷_ (17, Rows'.sc-here Row.sPtr) (List._∷_ (18, Rows'.any-gone (Syntax.tyRef Syntax.erased Syntax.mut (Syntax.tyInt Syntax.w16))) (List._∷_ (
-  19,
-  Rows'.any-gone (Syntax.tyStruct (List._∷_ 38 (List._∷_ 91 (List._∷_ 93 List.[]))) (Syntax.tcons (Syntax.tyRef Syntax.erased Syntax.mut (Syntax.tyInt Syntax.w16)) (Syntax.tcons (Syntax.tyInt
-      Syntax.w64) Syntax.tnil))),
-) (List._∷_ (20, Rows'.any-gone (Syntax.tyRef Syntax.erased Syntax.mut (Syntax.tyArray Element.behind 336))) (List._∷_ (
-  21,
-  Rows'.any-gone (Syntax.tyStruct (List._∷_ 38
-      (List._∷_ 91 (List._∷_ 93 List.[]))) (Syntax.tcons (Syntax.tyRef Syntax.erased Syntax.mut Element.behind) (Syntax.tcons (Syntax.tyInt Syntax.w64) Syntax.tnil))),
-) (List._∷_ (
-  22,
-  Rows'.any-gone
-      (Syntax.tyRef Syntax.erased Syntax.mut (Syntax.tyInt Syntax.w16)),
-) (List._∷_ (
-  23,
-  Rows'.any-gone (Syntax.tyStruct (List._∷_ 38 (List._∷_ 91 (List._∷_ 93 List.[]))) (Syntax.tcons (Syntax.tyRef
-      Syntax.erased Syntax.mut (Syntax.tyInt Syntax.w16)) (Syntax.tcons (Syntax.tyInt Syntax.w64) Syntax.tnil))),
-) (List._∷_ (
-  24,
-  Rows'.any-gone (Syntax.tyRef Syntax.erased Syntax.imm (Syntax.tyArray
-      (Syntax.tyInt Syntax.w16) 768)),
-) List.[]))))))))
+t18 = List._∷_ e17 (List._∷_ e19 (List._∷_ e21 (List._∷_ e24 (List._∷_ e26 (List._∷_ e29 (List._∷_ e30 (List._∷_ e33 (List._∷_ e34 List.[]))))))))
 
 abbrev pub t19 : List.List Row.Entry
-t19 = List._∷_ (16, Rows'.any-gone Syntax.tyPtr) (List._∷_ (17, Rows'.sc-here Row.sPtr) (List._∷_ (18, Rows'.any-gone (Syntax.tyRef Syntax.erased Syntax.mut (Syntax.tyInt Syntax.w16))) (List._∷_ (
-  19,
-  Rows'.any-gone (Syntax.tyStruct (List._∷_ 38 (List._∷_ 91 (List._∷_ 93 List.[]))) (Syntax.tcons (Syntax.tyRef Syntax.erased Syntax.mut (Syntax.tyInt Syntax.w16)) (Syntax.tcons (Syntax.tyInt
-      Syntax.w64) Syntax.tnil))),
-) (List._∷_ (20, Rows'.any-gone (Syntax.tyRef Syntax.erased Syntax.mut (Syntax.tyArray Element.behind 336))) (List._∷_ (
-  21,
-  Rows'.any-gone (Syntax.tyStruct (List._∷_ 38
-      (List._∷_ 91 (List._∷_ 93 List.[]))) (Syntax.tcons (Syntax.tyRef Syntax.erased Syntax.mut Element.behind) (Syntax.tcons (Syntax.tyInt Syntax.w64) Syntax.tnil))),
-) (List._∷_ (
-  22,
-  Rows'.any-gone
-      (Syntax.tyRef Syntax.erased Syntax.mut (Syntax.tyInt Syntax.w16)),
-) (List._∷_ (
-  23,
-  Rows'.any-gone (Syntax.tyStruct (List._∷_ 38 (List._∷_ 91 (List._∷_ 93 List.[]))) (Syntax.tcons (Syntax.tyRef
-      Syntax.erased Syntax.mut (Syntax.tyInt Syntax.w16)) (Syntax.tcons (Syntax.tyInt Syntax.w64) Syntax.tnil))),
-) (List._∷_ (
-  24,
-  Rows'.any-gone (Syntax.tyRef Syntax.erased Syntax.imm (Syntax.tyArray
-      (Syntax.tyInt Syntax.w16) 768)),
-) List.[]))))))))
+t19 = List._∷_ e16 (List._∷_ e19 (List._∷_ e21 (List._∷_ e24 (List._∷_ e26 (List._∷_ e29 (List._∷_ e30 (List._∷_ e33 (List._∷_ e34 List.[]))))))))
 
 abbrev pub t20 : List.List Row.Entry
-t20 = List._∷_ (
-  0,
-  Rows'.any-gone (Syntax.tyEnum (List._∷_ 98 (List._∷_ 108 (List._∷_ 111 (List._∷_ 99 (List._∷_ 107 (List._∷_ 58 (List._∷_ 58 (List._∷_ 87 (List._∷_ 97 (List._∷_ 108 (List._∷_ 107
-      (List._∷_ 101 (List._∷_ 100 List.[]))))))))))))) (Syntax.ttcons (Syntax.tcons (Syntax.tyStruct (List._∷_ 98 (List._∷_ 105 (List._∷_ 116 (List._∷_ 115 (List._∷_ 58 (List._∷_ 58 (List._∷_ 66 (List._∷_
-      105 (List._∷_ 116 (List._∷_ 80 (List._∷_ 111 (List._∷_ 115 (List._∷_ 105 (List._∷_ 116 (List._∷_ 105 (List._∷_ 111 (List._∷_ 110 List.[]))))))))))))))))) (Syntax.tcons (Syntax.tyInt Syntax.w64)
-      Syntax.tnil)) (Syntax.tcons (Syntax.tyInt Syntax.w64) Syntax.tnil)) (Syntax.ttcons (Syntax.tcons (Syntax.tyInt Syntax.w64) Syntax.tnil) Syntax.ttnil))),
-) (List._∷_ (
-  1,
-  Rows'.sslice (Referent.rtF
-      (Referent.fInt Syntax.w8)) (Syntax.tyRef (Syntax.named 0) Syntax.imm (Syntax.tyInt Syntax.w8)) 0,
-) (List._∷_ (
-  2,
-  Rows'.sslice (Referent.rtF (Referent.fInt Syntax.w8)) (Syntax.tyRef (Syntax.named 1)
-      Syntax.imm (Syntax.tyInt Syntax.w8)) 1,
-) (List._∷_ (3, Mut.mslice (Referent.rtF (Referent.fInt Syntax.w16)) (Syntax.tyRef (Syntax.named 2) Syntax.mut (Syntax.tyInt Syntax.w16)) 2) (List._∷_ (
-  4,
-  Rows'.whole (Declared'.row Form.the-type),
-) (List._∷_ (5, Rows.arrF (Referent.rtF (Referent.fInt Syntax.w8)) 36 0) (List._∷_ (6, Rows'.whole (Declared'.row Part.the-type)) (List._∷_ (
-  7,
-  Rows'.sc-here (Row.sInt Syntax.w64),
-) (List._∷_ (8, Rows.arrF (Referent.rtF (Referent.fInt Syntax.w16)) 768 0) (List._∷_ (9, Rows.arrF (Referent.rtF (Referent.fInt Syntax.w16)) 9252 0) (List._∷_
-    (10, Rows.arrF (Element.type) 336 0) (List._∷_ (11, Rows'.sc-here (Row.sInt Syntax.w64)) (List._∷_ (12, Rows'.any-gone (Syntax.tyArray (Syntax.tyInt Syntax.w16) 768)) (List._∷_ (
-      13,
-      Rows'.any-gone
-          (Element.held),
-    ) (List._∷_ (14, Rows'.sc-here (Row.sInt Syntax.w64)) (List._∷_ (15, Rows'.any-gone (Syntax.tyInt Syntax.w64)) List.[])))))))))))))))
+t20 = List._∷_ e0 (List._∷_ e2 (List._∷_ e25 (List._∷_ e36 (List._∷_ e39 (List._∷_ e41 (List._∷_ e43 (List._∷_ e44 (List._∷_ e47 (List._∷_ e50 (List._∷_ e5 (List._∷_ e7 (List._∷_ e8 (List._∷_ e11
+    (List._∷_ e13 (List._∷_ e14 List.[])))))))))))))))
 
 abbrev pub t21 : List.List Row.Entry
-t21 = List._∷_ (
-  0,
-  Rows'.any-gone (Syntax.tyEnum (List._∷_ 98 (List._∷_ 108 (List._∷_ 111 (List._∷_ 99 (List._∷_ 107 (List._∷_ 58 (List._∷_ 58 (List._∷_ 87 (List._∷_ 97 (List._∷_ 108 (List._∷_ 107
-      (List._∷_ 101 (List._∷_ 100 List.[]))))))))))))) (Syntax.ttcons (Syntax.tcons (Syntax.tyStruct (List._∷_ 98 (List._∷_ 105 (List._∷_ 116 (List._∷_ 115 (List._∷_ 58 (List._∷_ 58 (List._∷_ 66 (List._∷_
-      105 (List._∷_ 116 (List._∷_ 80 (List._∷_ 111 (List._∷_ 115 (List._∷_ 105 (List._∷_ 116 (List._∷_ 105 (List._∷_ 111 (List._∷_ 110 List.[]))))))))))))))))) (Syntax.tcons (Syntax.tyInt Syntax.w64)
-      Syntax.tnil)) (Syntax.tcons (Syntax.tyInt Syntax.w64) Syntax.tnil)) (Syntax.ttcons (Syntax.tcons (Syntax.tyInt Syntax.w64) Syntax.tnil) Syntax.ttnil))),
-) (List._∷_ (
-  1,
-  Rows'.sslice (Referent.rtF
-      (Referent.fInt Syntax.w8)) (Syntax.tyRef (Syntax.named 0) Syntax.imm (Syntax.tyInt Syntax.w8)) 0,
-) (List._∷_ (
-  2,
-  Rows'.sslice (Referent.rtF (Referent.fInt Syntax.w8)) (Syntax.tyRef (Syntax.named 1)
-      Syntax.imm (Syntax.tyInt Syntax.w8)) 1,
-) (List._∷_ (3, Mut.mslice (Referent.rtF (Referent.fInt Syntax.w16)) (Syntax.tyRef (Syntax.named 2) Syntax.mut (Syntax.tyInt Syntax.w16)) 2) (List._∷_ (
-  4,
-  Rows'.whole (Declared'.row Form.the-type),
-) (List._∷_ (5, Rows.arrF (Referent.rtF (Referent.fInt Syntax.w8)) 36 0) (List._∷_ (6, Rows'.whole (Declared'.row Part.the-type)) (List._∷_ (
-  7,
-  Rows'.sc-here (Row.sInt Syntax.w64),
-) (List._∷_ (8, Rows.arrF (Referent.rtF (Referent.fInt Syntax.w16)) 768 0) (List._∷_ (9, Rows.arr-owedM (Referent.rtF (Referent.fInt Syntax.w16)) 9252 3)
-    (List._∷_ (10, Rows.arrF (Element.type) 336 0) (List._∷_ (11, Rows'.sc-here (Row.sInt Syntax.w64)) (List._∷_ (12, Rows'.any-gone (Syntax.tyArray (Syntax.tyInt Syntax.w16) 768)) (List._∷_ (
-      13,
-      Rows'.any-gone (Element.held),
-    ) (List._∷_ (14, Rows'.sc-here (Row.sInt Syntax.w64)) (List._∷_ (15, Rows'.any-gone (Syntax.tyInt Syntax.w64)) List.[])))))))))))))))
+t21 = List._∷_ e0 (List._∷_ e2 (List._∷_ e25 (List._∷_ e36 (List._∷_ e39 (List._∷_ e41 (List._∷_ e43 (List._∷_ e44 (List._∷_ e47 (List._∷_ e49 (List._∷_ e5 (List._∷_ e7 (List._∷_ e8 (List._∷_ e11
+    (List._∷_ e13 (List._∷_ e14 List.[])))))))))))))))
 
 abbrev pub t22 : List.List Row.Entry
-t22 = List._∷_ (16, Rows'.any-gone Syntax.tyPtr) (List._∷_ (17, Rows'.sc-here Row.sPtr) (List._∷_ (
-  18,
-  Relend.msptr (Referent.rtF (Referent.fInt Syntax.w16)) (Syntax.tyRef Syntax.erased Syntax.mut
-      (Syntax.tyInt Syntax.w16)) 3,
-) (List._∷_ (
-  19,
-  Rows'.any-gone (Syntax.tyStruct (List._∷_ 38 (List._∷_ 91 (List._∷_ 93 List.[]))) (Syntax.tcons (Syntax.tyRef Syntax.erased Syntax.mut (Syntax.tyInt
-      Syntax.w16)) (Syntax.tcons (Syntax.tyInt Syntax.w64) Syntax.tnil))),
-) (List._∷_ (20, Rows'.any-gone (Syntax.tyRef Syntax.erased Syntax.mut (Syntax.tyArray Element.behind 336))) (List._∷_ (
-  21,
-  Rows'.any-gone (Syntax.tyStruct (List._∷_ 38 (List._∷_ 91 (List._∷_ 93 List.[]))) (Syntax.tcons (Syntax.tyRef Syntax.erased Syntax.mut Element.behind) (Syntax.tcons (Syntax.tyInt Syntax.w64)
-      Syntax.tnil))),
-) (List._∷_ (22, Rows'.any-gone (Syntax.tyRef Syntax.erased Syntax.mut (Syntax.tyInt Syntax.w16))) (List._∷_ (
-  23,
-  Rows'.any-gone (Syntax.tyStruct (List._∷_ 38 (List._∷_ 91
-      (List._∷_ 93 List.[]))) (Syntax.tcons (Syntax.tyRef Syntax.erased Syntax.mut (Syntax.tyInt Syntax.w16)) (Syntax.tcons (Syntax.tyInt Syntax.w64) Syntax.tnil))),
-) (List._∷_ (
-  24,
-  Rows'.any-gone
-      (Syntax.tyRef Syntax.erased Syntax.imm (Syntax.tyArray (Syntax.tyInt Syntax.w16) 768)),
-) List.[]))))))))
+t22 = List._∷_ e16 (List._∷_ e19 (List._∷_ e20 (List._∷_ e24 (List._∷_ e26 (List._∷_ e29 (List._∷_ e30 (List._∷_ e33 (List._∷_ e34 List.[]))))))))
 
 abbrev pub t23 : List.List Row.Entry
-t23 = List._∷_ (16, Rows'.any-gone Syntax.tyPtr) (List._∷_ (17, Rows'.any-gone Syntax.tyPtr) (List._∷_ (
-  18,
-  Relend.msptr (Referent.rtF (Referent.fInt Syntax.w16)) (Syntax.tyRef Syntax.erased
-      Syntax.mut (Syntax.tyInt Syntax.w16)) 3,
-) (List._∷_ (
-  19,
-  Rows'.any-gone (Syntax.tyStruct (List._∷_ 38 (List._∷_ 91 (List._∷_ 93 List.[]))) (Syntax.tcons (Syntax.tyRef Syntax.erased Syntax.mut
-      (Syntax.tyInt Syntax.w16)) (Syntax.tcons (Syntax.tyInt Syntax.w64) Syntax.tnil))),
-) (List._∷_ (20, Rows'.any-gone (Syntax.tyRef Syntax.erased Syntax.mut (Syntax.tyArray Element.behind 336)))
-    (List._∷_ (
-      21,
-      Rows'.any-gone (Syntax.tyStruct (List._∷_ 38 (List._∷_ 91 (List._∷_ 93 List.[]))) (Syntax.tcons (Syntax.tyRef Syntax.erased Syntax.mut Element.behind) (Syntax.tcons (Syntax.tyInt
-          Syntax.w64) Syntax.tnil))),
-    ) (List._∷_ (22, Rows'.any-gone (Syntax.tyRef Syntax.erased Syntax.mut (Syntax.tyInt Syntax.w16))) (List._∷_ (
-      23,
-      Rows'.any-gone (Syntax.tyStruct (List._∷_ 38 (List._∷_
-          91 (List._∷_ 93 List.[]))) (Syntax.tcons (Syntax.tyRef Syntax.erased Syntax.mut (Syntax.tyInt Syntax.w16)) (Syntax.tcons (Syntax.tyInt Syntax.w64) Syntax.tnil))),
-    ) (List._∷_ (
-      24,
-      Rows'.any-gone
-          (Syntax.tyRef Syntax.erased Syntax.imm (Syntax.tyArray (Syntax.tyInt Syntax.w16) 768)),
-    ) List.[]))))))))
+t23 = List._∷_ e16 (List._∷_ e18 (List._∷_ e20 (List._∷_ e24 (List._∷_ e26 (List._∷_ e29 (List._∷_ e30 (List._∷_ e33 (List._∷_ e34 List.[]))))))))
 
 abbrev pub t24 : List.List Row.Entry
-t24 = List._∷_ (16, Rows'.any-gone Syntax.tyPtr) (List._∷_ (17, Rows'.any-gone Syntax.tyPtr) (List._∷_ (18, Rows'.any-gone (Syntax.tyRef Syntax.erased Syntax.mut (Syntax.tyInt Syntax.w16)))
-    (List._∷_ (19, Mut.mslice (Referent.rtF (Referent.fInt Syntax.w16)) (Syntax.tyRef Syntax.erased Syntax.mut (Syntax.tyInt Syntax.w16)) 3) (List._∷_ (
-      20,
-      Rows'.any-gone (Syntax.tyRef Syntax.erased
-          Syntax.mut (Syntax.tyArray Element.behind 336)),
-    ) (List._∷_ (
-      21,
-      Rows'.any-gone (Syntax.tyStruct (List._∷_ 38 (List._∷_ 91 (List._∷_ 93 List.[]))) (Syntax.tcons (Syntax.tyRef Syntax.erased
-          Syntax.mut Element.behind) (Syntax.tcons (Syntax.tyInt Syntax.w64) Syntax.tnil))),
-    ) (List._∷_ (22, Rows'.any-gone (Syntax.tyRef Syntax.erased Syntax.mut (Syntax.tyInt Syntax.w16))) (List._∷_ (
-      23,
-      Rows'.any-gone (Syntax.tyStruct (List._∷_ 38 (List._∷_ 91 (List._∷_ 93 List.[]))) (Syntax.tcons (Syntax.tyRef Syntax.erased Syntax.mut (Syntax.tyInt Syntax.w16)) (Syntax.tcons (Syntax.tyInt
-          Syntax.w64) Syntax.tnil))),
-    ) (List._∷_ (24, Rows'.any-gone (Syntax.tyRef Syntax.erased Syntax.imm (Syntax.tyArray (Syntax.tyInt Syntax.w16) 768))) List.[]))))))))
+t24 = List._∷_ e16 (List._∷_ e18 (List._∷_ e21 (List._∷_ e23 (List._∷_ e26 (List._∷_ e29 (List._∷_ e30 (List._∷_ e33 (List._∷_ e34 List.[]))))))))
 
 abbrev pub t25 : List.List Row.Entry
-t25 = List._∷_ (
-  0,
-  Rows'.any-gone (Syntax.tyEnum (List._∷_ 98 (List._∷_ 108 (List._∷_ 111 (List._∷_ 99 (List._∷_ 107 (List._∷_ 58 (List._∷_ 58 (List._∷_ 87 (List._∷_ 97 (List._∷_ 108 (List._∷_ 107
-      (List._∷_ 101 (List._∷_ 100 List.[]))))))))))))) (Syntax.ttcons (Syntax.tcons (Syntax.tyStruct (List._∷_ 98 (List._∷_ 105 (List._∷_ 116 (List._∷_ 115 (List._∷_ 58 (List._∷_ 58 (List._∷_ 66 (List._∷_
-      105 (List._∷_ 116 (List._∷_ 80 (List._∷_ 111 (List._∷_ 115 (List._∷_ 105 (List._∷_ 116 (List._∷_ 105 (List._∷_ 111 (List._∷_ 110 List.[]))))))))))))))))) (Syntax.tcons (Syntax.tyInt Syntax.w64)
-      Syntax.tnil)) (Syntax.tcons (Syntax.tyInt Syntax.w64) Syntax.tnil)) (Syntax.ttcons (Syntax.tcons (Syntax.tyInt Syntax.w64) Syntax.tnil) Syntax.ttnil))),
-) (List._∷_ (
-  1,
-  Rows'.sslice (Referent.rtF
-      (Referent.fInt Syntax.w8)) (Syntax.tyRef (Syntax.named 0) Syntax.imm (Syntax.tyInt Syntax.w8)) 0,
-) (List._∷_ (
-  2,
-  Rows'.sslice (Referent.rtF (Referent.fInt Syntax.w8)) (Syntax.tyRef (Syntax.named 1)
-      Syntax.imm (Syntax.tyInt Syntax.w8)) 1,
-) (List._∷_ (3, Mut.mslice (Referent.rtF (Referent.fInt Syntax.w16)) (Syntax.tyRef (Syntax.named 2) Syntax.mut (Syntax.tyInt Syntax.w16)) 2) (List._∷_ (
-  4,
-  Rows'.whole (Declared'.row Form.the-type),
-) (List._∷_ (5, Rows.arrF (Referent.rtF (Referent.fInt Syntax.w8)) 36 0) (List._∷_ (6, Rows'.whole (Declared'.row Part.the-type)) (List._∷_ (
-  7,
-  Rows'.sc-here (Row.sInt Syntax.w64),
-) (List._∷_ (8, Rows.arrF (Referent.rtF (Referent.fInt Syntax.w16)) 768 0) (List._∷_ (9, Rows.arr-owedM (Referent.rtF (Referent.fInt Syntax.w16)) 9252 3)
-    (List._∷_ (10, Rows.arrF (Element.type) 336 0) (List._∷_ (11, Rows'.sc-here (Row.sInt Syntax.w64)) (List._∷_ (12, Rows'.any-gone (Syntax.tyArray (Syntax.tyInt Syntax.w16) 768)) (List._∷_ (
-      13,
-      Rows'.any-gone (Element.held),
-    ) (List._∷_ (14, Rows'.any-gone (Syntax.tyInt Syntax.w64)) (List._∷_ (15, Rows'.any-gone (Syntax.tyInt Syntax.w64)) List.[])))))))))))))))
+t25 = List._∷_ e0 (List._∷_ e2 (List._∷_ e25 (List._∷_ e36 (List._∷_ e39 (List._∷_ e41 (List._∷_ e43 (List._∷_ e44 (List._∷_ e47 (List._∷_ e49 (List._∷_ e5 (List._∷_ e7 (List._∷_ e8 (List._∷_ e11
+    (List._∷_ e12 (List._∷_ e14 List.[])))))))))))))))
 
 abbrev pub t26 : List.List Row.Entry
-t26 = List._∷_ (
-  0,
-  Rows'.any-gone (Syntax.tyEnum (List._∷_ 98 (List._∷_ 108 (List._∷_ 111 (List._∷_ 99 (List._∷_ 107 (List._∷_ 58 (List._∷_ 58 (List._∷_ 87 (List._∷_ 97 (List._∷_ 108 (List._∷_ 107
-      (List._∷_ 101 (List._∷_ 100 List.[]))))))))))))) (Syntax.ttcons (Syntax.tcons (Syntax.tyStruct (List._∷_ 98 (List._∷_ 105 (List._∷_ 116 (List._∷_ 115 (List._∷_ 58 (List._∷_ 58 (List._∷_ 66 (List._∷_
-      105 (List._∷_ 116 (List._∷_ 80 (List._∷_ 111 (List._∷_ 115 (List._∷_ 105 (List._∷_ 116 (List._∷_ 105 (List._∷_ 111 (List._∷_ 110 List.[]))))))))))))))))) (Syntax.tcons (Syntax.tyInt Syntax.w64)
-      Syntax.tnil)) (Syntax.tcons (Syntax.tyInt Syntax.w64) Syntax.tnil)) (Syntax.ttcons (Syntax.tcons (Syntax.tyInt Syntax.w64) Syntax.tnil) Syntax.ttnil))),
-) (List._∷_ (
-  1,
-  Rows'.sslice (Referent.rtF
-      (Referent.fInt Syntax.w8)) (Syntax.tyRef (Syntax.named 0) Syntax.imm (Syntax.tyInt Syntax.w8)) 0,
-) (List._∷_ (
-  2,
-  Rows'.sslice (Referent.rtF (Referent.fInt Syntax.w8)) (Syntax.tyRef (Syntax.named 1)
-      Syntax.imm (Syntax.tyInt Syntax.w8)) 1,
-) (List._∷_ (3, Mut.mslice (Referent.rtF (Referent.fInt Syntax.w16)) (Syntax.tyRef (Syntax.named 2) Syntax.mut (Syntax.tyInt Syntax.w16)) 2) (List._∷_ (
-  4,
-  Rows'.whole (Declared'.row Form.the-type),
-) (List._∷_ (5, Rows.arrF (Referent.rtF (Referent.fInt Syntax.w8)) 36 0) (List._∷_ (6, Rows'.whole (Declared'.row Part.the-type)) (List._∷_ (
-  7,
-  Rows'.sc-here (Row.sInt Syntax.w64),
-) (List._∷_ (8, Rows.arrF (Referent.rtF (Referent.fInt Syntax.w16)) 768 0) (List._∷_ (9, Rows.arr-owedM (Referent.rtF (Referent.fInt Syntax.w16)) 9252 3)
-    (List._∷_ (10, Rows.arr-owed (Element.type) 336 4) (List._∷_ (11, Rows'.sc-here (Row.sInt Syntax.w64)) (List._∷_ (12, Rows'.any-gone (Syntax.tyArray (Syntax.tyInt Syntax.w16) 768)) (List._∷_ (
-      13,
-      Rows'.any-gone (Element.held),
-    ) (List._∷_ (14, Rows'.any-gone (Syntax.tyInt Syntax.w64)) (List._∷_ (15, Rows'.any-gone (Syntax.tyInt Syntax.w64)) List.[])))))))))))))))
+t26 = List._∷_ e0 (List._∷_ e2 (List._∷_ e25 (List._∷_ e36 (List._∷_ e39 (List._∷_ e41 (List._∷_ e43 (List._∷_ e44 (List._∷_ e47 (List._∷_ e49 (List._∷_ e4 (List._∷_ e7 (List._∷_ e8 (List._∷_ e11
+    (List._∷_ e12 (List._∷_ e14 List.[])))))))))))))))
 
 abbrev pub t27 : List.List Row.Entry
-t27 = List._∷_ (16, Rows'.any-gone Syntax.tyPtr) (List._∷_ (17, Rows'.any-gone Syntax.tyPtr) (List._∷_ (18, Rows'.any-gone (Syntax.tyRef Syntax.erased Syntax.mut (Syntax.tyInt Syntax.w16)))
-    (List._∷_ (19, Mut.mslice (Referent.rtF (Referent.fInt Syntax.w16)) (Syntax.tyRef Syntax.erased Syntax.mut (Syntax.tyInt Syntax.w16)) 3) (List._∷_ (
-      20,
-      Relend.msptr (Element.type) (Syntax.tyRef
-          Syntax.erased Syntax.mut (Syntax.tyArray Element.behind 336)) 4,
-    ) (List._∷_ (
-      21,
-      Rows'.any-gone (Syntax.tyStruct (List._∷_ 38 (List._∷_ 91 (List._∷_ 93 List.[]))) (Syntax.tcons (Syntax.tyRef
-          Syntax.erased Syntax.mut Element.behind) (Syntax.tcons (Syntax.tyInt Syntax.w64) Syntax.tnil))),
-    ) (List._∷_ (22, Rows'.any-gone (Syntax.tyRef Syntax.erased Syntax.mut (Syntax.tyInt Syntax.w16)))
-    (List._∷_ (
-      23,
-      Rows'.any-gone (Syntax.tyStruct (List._∷_ 38 (List._∷_ 91 (List._∷_ 93 List.[]))) (Syntax.tcons (Syntax.tyRef Syntax.erased Syntax.mut (Syntax.tyInt Syntax.w16)) (Syntax.tcons
-          (Syntax.tyInt Syntax.w64) Syntax.tnil))),
-    ) (List._∷_ (24, Rows'.any-gone (Syntax.tyRef Syntax.erased Syntax.imm (Syntax.tyArray (Syntax.tyInt Syntax.w16) 768))) List.[]))))))))
+t27 = List._∷_ e16 (List._∷_ e18 (List._∷_ e21 (List._∷_ e23 (List._∷_ (20, Relend.msptr (Element.type) (Syntax.tyRef Syntax.erased Syntax.mut (Syntax.tyArray Element.behind 336)) 4) (List._∷_ e29
+    (List._∷_ e30 (List._∷_ e33 (List._∷_ e34 List.[]))))))))
 
 abbrev pub t28 : List.List Row.Entry
-t28 = List._∷_ (16, Rows'.any-gone Syntax.tyPtr) (List._∷_ (17, Rows'.any-gone Syntax.tyPtr) (List._∷_ (18, Rows'.any-gone (Syntax.tyRef Syntax.erased Syntax.mut (Syntax.tyInt Syntax.w16)))
-    (List._∷_ (19, Mut.mslice (Referent.rtF (Referent.fInt Syntax.w16)) (Syntax.tyRef Syntax.erased Syntax.mut (Syntax.tyInt Syntax.w16)) 3) (List._∷_ (
-      20,
-      Rows'.any-gone (Syntax.tyRef Syntax.erased
-          Syntax.mut (Syntax.tyArray Element.behind 336)),
-    ) (List._∷_ (21, Mut.mslice (Element.type) (Syntax.tyRef Syntax.erased Syntax.mut Element.behind) 4) (List._∷_ (
-      22,
-      Rows'.any-gone (Syntax.tyRef
-          Syntax.erased Syntax.mut (Syntax.tyInt Syntax.w16)),
-    ) (List._∷_ (
-      23,
-      Rows'.any-gone (Syntax.tyStruct (List._∷_ 38 (List._∷_ 91 (List._∷_ 93 List.[]))) (Syntax.tcons (Syntax.tyRef Syntax.erased
-          Syntax.mut (Syntax.tyInt Syntax.w16)) (Syntax.tcons (Syntax.tyInt Syntax.w64) Syntax.tnil))),
-    ) (List._∷_ (
-      24,
-      Rows'.any-gone (Syntax.tyRef Syntax.erased Syntax.imm (Syntax.tyArray (Syntax.tyInt
-          Syntax.w16) 768)),
-    ) List.[]))))))))
+t28 = List._∷_ e16 (List._∷_ e18 (List._∷_ e21 (List._∷_ e23 (List._∷_ e26 (List._∷_ e28 (List._∷_ e30 (List._∷_ e33 (List._∷_ e34 List.[]))))))))
 
 abbrev pub t29 : List.List Row.Entry
-t29 = List._∷_ (
-  0,
-  Rows'.any-gone (Syntax.tyEnum (List._∷_ 98 (List._∷_ 108 (List._∷_ 111 (List._∷_ 99 (List._∷_ 107 (List._∷_ 58 (List._∷_ 58 (List._∷_ 87 (List._∷_ 97 (List._∷_ 108 (List._∷_ 107
-      (List._∷_ 101 (List._∷_ 100 List.[]))))))))))))) (Syntax.ttcons (Syntax.tcons (Syntax.tyStruct (List._∷_ 98 (List._∷_ 105 (List._∷_ 116 (List._∷_ 115 (List._∷_ 58 (List._∷_ 58 (List._∷_ 66 (List._∷_
-      105 (List._∷_ 116 (List._∷_ 80 (List._∷_ 111 (List._∷_ 115 (List._∷_ 105 (List._∷_ 116 (List._∷_ 105 (List._∷_ 111 (List._∷_ 110 List.[]))))))))))))))))) (Syntax.tcons (Syntax.tyInt Syntax.w64)
-      Syntax.tnil)) (Syntax.tcons (Syntax.tyInt Syntax.w64) Syntax.tnil)) (Syntax.ttcons (Syntax.tcons (Syntax.tyInt Syntax.w64) Syntax.tnil) Syntax.ttnil))),
-) (List._∷_ (
-  1,
-  Rows'.sslice (Referent.rtF
-      (Referent.fInt Syntax.w8)) (Syntax.tyRef (Syntax.named 0) Syntax.imm (Syntax.tyInt Syntax.w8)) 0,
-) (List._∷_ (
-  2,
-  Rows'.sslice (Referent.rtF (Referent.fInt Syntax.w8)) (Syntax.tyRef (Syntax.named 1)
-      Syntax.imm (Syntax.tyInt Syntax.w8)) 1,
-) (List._∷_ (
-  3,
-  Relend.mslice-owed (Referent.rtF (Referent.fInt Syntax.w16)) (Syntax.tyRef (Syntax.named 2) Syntax.mut (Syntax.tyInt Syntax.w16)) 2 5 Row.off,
-) (List._∷_ (4, Rows'.whole (Declared'.row Form.the-type)) (List._∷_ (5, Rows.arrF (Referent.rtF (Referent.fInt Syntax.w8)) 36 0) (List._∷_ (6, Rows'.whole (Declared'.row Part.the-type)) (List._∷_
-    (7, Rows'.sc-here (Row.sInt Syntax.w64)) (List._∷_ (8, Rows.arrF (Referent.rtF (Referent.fInt Syntax.w16)) 768 0) (List._∷_ (9, Rows.arr-owedM (Referent.rtF (Referent.fInt Syntax.w16)) 9252 3)
-    (List._∷_ (10, Rows.arr-owed (Element.type) 336 4) (List._∷_ (11, Rows'.sc-here (Row.sInt Syntax.w64)) (List._∷_ (12, Rows'.any-gone (Syntax.tyArray (Syntax.tyInt Syntax.w16) 768)) (List._∷_ (
-      13,
-      Rows'.any-gone (Element.held),
-    ) (List._∷_ (14, Rows'.any-gone (Syntax.tyInt Syntax.w64)) (List._∷_ (15, Rows'.any-gone (Syntax.tyInt Syntax.w64)) List.[])))))))))))))))
+t29 = List._∷_ e0 (List._∷_ e2 (List._∷_ e25 (List._∷_ e37 (List._∷_ e39 (List._∷_ e41 (List._∷_ e43 (List._∷_ e44 (List._∷_ e47 (List._∷_ e49 (List._∷_ e4 (List._∷_ e7 (List._∷_ e8 (List._∷_ e11
+    (List._∷_ e12 (List._∷_ e14 List.[])))))))))))))))
 
 abbrev pub t30 : List.List Row.Entry
-t30 = List._∷_ (16, Rows'.any-gone Syntax.tyPtr) (List._∷_ (17, Rows'.any-gone Syntax.tyPtr) (List._∷_ (18, Rows'.any-gone (Syntax.tyRef Syntax.erased Syntax.mut (Syntax.tyInt Syntax.w16)))
-    (List._∷_ (19, Mut.mslice (Referent.rtF (Referent.fInt Syntax.w16)) (Syntax.tyRef Syntax.erased Syntax.mut (Syntax.tyInt Syntax.w16)) 3) (List._∷_ (
-      20,
-      Rows'.any-gone (Syntax.tyRef Syntax.erased
-          Syntax.mut (Syntax.tyArray Element.behind 336)),
-    ) (List._∷_ (21, Mut.mslice (Element.type) (Syntax.tyRef Syntax.erased Syntax.mut Element.behind) 4) (List._∷_ (
-      22,
-      Relend.msptr (Referent.rtF
-          (Referent.fInt Syntax.w16)) (Syntax.tyRef Syntax.erased Syntax.mut (Syntax.tyInt Syntax.w16)) 5,
-    ) (List._∷_ (
-      23,
-      Rows'.any-gone (Syntax.tyStruct (List._∷_ 38 (List._∷_ 91 (List._∷_ 93 List.[])))
-          (Syntax.tcons (Syntax.tyRef Syntax.erased Syntax.mut (Syntax.tyInt Syntax.w16)) (Syntax.tcons (Syntax.tyInt Syntax.w64) Syntax.tnil))),
-    ) (List._∷_ (
-      24,
-      Rows'.any-gone (Syntax.tyRef Syntax.erased
-          Syntax.imm (Syntax.tyArray (Syntax.tyInt Syntax.w16) 768)),
-    ) List.[]))))))))
+t30 = List._∷_ e16 (List._∷_ e18 (List._∷_ e21 (List._∷_ e23 (List._∷_ e26 (List._∷_ e28 (List._∷_
+    (22, Relend.msptr (Referent.rtF (Referent.fInt Syntax.w16)) (Syntax.tyRef Syntax.erased Syntax.mut (Syntax.tyInt Syntax.w16)) 5) (List._∷_ e33 (List._∷_ e34 List.[]))))))))
 
 abbrev pub t31 : List.List Row.Entry
-t31 = List._∷_ (16, Rows'.any-gone Syntax.tyPtr) (List._∷_ (17, Rows'.any-gone Syntax.tyPtr) (List._∷_ (18, Rows'.any-gone (Syntax.tyRef Syntax.erased Syntax.mut (Syntax.tyInt Syntax.w16)))
-    (List._∷_ (19, Mut.mslice (Referent.rtF (Referent.fInt Syntax.w16)) (Syntax.tyRef Syntax.erased Syntax.mut (Syntax.tyInt Syntax.w16)) 3) (List._∷_ (
-      20,
-      Rows'.any-gone (Syntax.tyRef Syntax.erased
-          Syntax.mut (Syntax.tyArray Element.behind 336)),
-    ) (List._∷_ (21, Mut.mslice (Element.type) (Syntax.tyRef Syntax.erased Syntax.mut Element.behind) 4) (List._∷_ (
-      22,
-      Rows'.any-gone (Syntax.tyRef
-          Syntax.erased Syntax.mut (Syntax.tyInt Syntax.w16)),
-    ) (List._∷_ (23, Mut.mslice (Referent.rtF (Referent.fInt Syntax.w16)) (Syntax.tyRef Syntax.erased Syntax.mut (Syntax.tyInt Syntax.w16)) 5)
-    (List._∷_ (24, Rows'.any-gone (Syntax.tyRef Syntax.erased Syntax.imm (Syntax.tyArray (Syntax.tyInt Syntax.w16) 768))) List.[]))))))))
+t31 = List._∷_ e16 (List._∷_ e18 (List._∷_ e21 (List._∷_ e23 (List._∷_ e26 (List._∷_ e28 (List._∷_ e30 (List._∷_ e32 (List._∷_ e34 List.[]))))))))
 
 abbrev pub t32 : List.List Row.Entry
-t32 = List._∷_ (
-  0,
-  Rows'.any-gone (Syntax.tyEnum (List._∷_ 98 (List._∷_ 108 (List._∷_ 111 (List._∷_ 99 (List._∷_ 107 (List._∷_ 58 (List._∷_ 58 (List._∷_ 87 (List._∷_ 97 (List._∷_ 108 (List._∷_ 107
-      (List._∷_ 101 (List._∷_ 100 List.[]))))))))))))) (Syntax.ttcons (Syntax.tcons (Syntax.tyStruct (List._∷_ 98 (List._∷_ 105 (List._∷_ 116 (List._∷_ 115 (List._∷_ 58 (List._∷_ 58 (List._∷_ 66 (List._∷_
-      105 (List._∷_ 116 (List._∷_ 80 (List._∷_ 111 (List._∷_ 115 (List._∷_ 105 (List._∷_ 116 (List._∷_ 105 (List._∷_ 111 (List._∷_ 110 List.[]))))))))))))))))) (Syntax.tcons (Syntax.tyInt Syntax.w64)
-      Syntax.tnil)) (Syntax.tcons (Syntax.tyInt Syntax.w64) Syntax.tnil)) (Syntax.ttcons (Syntax.tcons (Syntax.tyInt Syntax.w64) Syntax.tnil) Syntax.ttnil))),
-) (List._∷_ (
-  1,
-  Rows'.sslice (Referent.rtF
-      (Referent.fInt Syntax.w8)) (Syntax.tyRef (Syntax.named 0) Syntax.imm (Syntax.tyInt Syntax.w8)) 0,
-) (List._∷_ (
-  2,
-  Rows'.sslice (Referent.rtF (Referent.fInt Syntax.w8)) (Syntax.tyRef (Syntax.named 1)
-      Syntax.imm (Syntax.tyInt Syntax.w8)) 1,
-) (List._∷_ (
-  3,
-  Relend.mslice-owed (Referent.rtF (Referent.fInt Syntax.w16)) (Syntax.tyRef (Syntax.named 2) Syntax.mut (Syntax.tyInt Syntax.w16)) 2 5 Row.off,
-) (List._∷_ (4, Rows'.whole (Declared'.row Form.the-type)) (List._∷_ (5, Rows.arrF (Referent.rtF (Referent.fInt Syntax.w8)) 36 0) (List._∷_ (6, Rows'.whole (Declared'.row Part.the-type)) (List._∷_
-    (7, Rows'.sc-here (Row.sInt Syntax.w64)) (List._∷_ (
-      8,
-      Rows'.sc-shr (Rows.arrF (Referent.rtF (Referent.fInt Syntax.w16)) 768 0) (Array'.Array (Referent.rtF (Referent.fInt Syntax.w16)) 768) (λ x.
-          x) 6,
-    ) (List._∷_ (9, Rows.arr-owedM (Referent.rtF (Referent.fInt Syntax.w16)) 9252 3) (List._∷_ (10, Rows.arr-owed (Element.type) 336 4) (List._∷_ (11, Rows'.sc-here (Row.sInt Syntax.w64))
-    (List._∷_ (12, Rows'.any-gone (Syntax.tyArray (Syntax.tyInt Syntax.w16) 768)) (List._∷_ (13, Rows'.any-gone (Element.held)) (List._∷_ (14, Rows'.any-gone (Syntax.tyInt Syntax.w64)) (List._∷_
-    (15, Rows'.any-gone (Syntax.tyInt Syntax.w64)) List.[])))))))))))))))
+t32 = List._∷_ e0 (List._∷_ e2 (List._∷_ e25 (List._∷_ e37 (List._∷_ e39 (List._∷_ e41 (List._∷_ e43 (List._∷_ e44 (List._∷_ e46 (List._∷_ e49 (List._∷_ e4 (List._∷_ e7 (List._∷_ e8 (List._∷_ e11
+    (List._∷_ e12 (List._∷_ e14 List.[])))))))))))))))
 
 abbrev pub t33 : List.List Row.Entry
-t33 = List._∷_ (16, Rows'.any-gone Syntax.tyPtr) (List._∷_ (17, Rows'.any-gone Syntax.tyPtr) (List._∷_ (18, Rows'.any-gone (Syntax.tyRef Syntax.erased Syntax.mut (Syntax.tyInt Syntax.w16)))
-    (List._∷_ (19, Mut.mslice (Referent.rtF (Referent.fInt Syntax.w16)) (Syntax.tyRef Syntax.erased Syntax.mut (Syntax.tyInt Syntax.w16)) 3) (List._∷_ (
-      20,
-      Rows'.any-gone (Syntax.tyRef Syntax.erased
-          Syntax.mut (Syntax.tyArray Element.behind 336)),
-    ) (List._∷_ (21, Mut.mslice (Element.type) (Syntax.tyRef Syntax.erased Syntax.mut Element.behind) 4) (List._∷_ (
-      22,
-      Rows'.any-gone (Syntax.tyRef
-          Syntax.erased Syntax.mut (Syntax.tyInt Syntax.w16)),
-    ) (List._∷_ (23, Mut.mslice (Referent.rtF (Referent.fInt Syntax.w16)) (Syntax.tyRef Syntax.erased Syntax.mut (Syntax.tyInt Syntax.w16)) 5)
-    (List._∷_ (24, Rows'.sref (Array'.Array (Referent.rtF (Referent.fInt Syntax.w16)) 768) (Syntax.tyRef Syntax.erased Syntax.imm (Syntax.tyArray (Syntax.tyInt Syntax.w16) 768)) 6) List.[]))))))))
+t33 = List._∷_ e16 (List._∷_ e18 (List._∷_ e21 (List._∷_ e23 (List._∷_ e26 (List._∷_ e28 (List._∷_ e30 (List._∷_ e32 (List._∷_ e35 List.[]))))))))
 
 abbrev pub t34 : List.List Row.Entry
-t34 = List._∷_ (0, Rows'.whole (Declared.row Walked.the-type)) (List._∷_ (
-  1,
-  Rows'.sslice (Referent.rtF (Referent.fInt Syntax.w8)) (Syntax.tyRef (Syntax.named 0) Syntax.imm (Syntax.tyInt Syntax.w8))
-      0,
-) (List._∷_ (2, Rows'.sslice (Referent.rtF (Referent.fInt Syntax.w8)) (Syntax.tyRef (Syntax.named 1) Syntax.imm (Syntax.tyInt Syntax.w8)) 1) (List._∷_ (
-  3,
-  Relend.mslice-owed (Referent.rtF
-      (Referent.fInt Syntax.w16)) (Syntax.tyRef (Syntax.named 2) Syntax.mut (Syntax.tyInt Syntax.w16)) 2 5 Row.off,
-) (List._∷_ (4, Rows'.whole (Declared'.row Form.the-type)) (List._∷_ (
-  5,
-  Rows.arrF
-      (Referent.rtF (Referent.fInt Syntax.w8)) 36 0,
-) (List._∷_ (6, Rows'.whole (Declared'.row Part.the-type)) (List._∷_ (7, Rows'.sc-here (Row.sInt Syntax.w64)) (List._∷_ (
-  8,
-  Rows'.sc-shr (Rows.arrF
-      (Referent.rtF (Referent.fInt Syntax.w16)) 768 0) (Array'.Array (Referent.rtF (Referent.fInt Syntax.w16)) 768) (λ x. x) 6,
-) (List._∷_ (
-  9,
-  Rows.arr-owedM (Referent.rtF (Referent.fInt Syntax.w16)) 9252
-      3,
-) (List._∷_ (10, Rows.arr-owed (Element.type) 336 4) (List._∷_ (11, Rows'.sc-here (Row.sInt Syntax.w64)) (List._∷_ (12, Rows'.any-gone (Syntax.tyArray (Syntax.tyInt Syntax.w16) 768)) (List._∷_
-    (13, Rows'.any-gone (Element.held)) (List._∷_ (14, Rows'.any-gone (Syntax.tyInt Syntax.w64)) (List._∷_ (15, Rows'.any-gone (Syntax.tyInt Syntax.w64)) List.[])))))))))))))))
+t34 = List._∷_ e1 (List._∷_ e2 (List._∷_ e25 (List._∷_ e37 (List._∷_ e39 (List._∷_ e41 (List._∷_ e43 (List._∷_ e44 (List._∷_ e46 (List._∷_ e49 (List._∷_ e4 (List._∷_ e7 (List._∷_ e8 (List._∷_ e11
+    (List._∷_ e12 (List._∷_ e14 List.[])))))))))))))))
 
 abbrev pub t35 : List.List Row.Entry
-t35 = List._∷_ (16, Rows'.any-gone Syntax.tyPtr) (List._∷_ (17, Rows'.any-gone Syntax.tyPtr) (List._∷_ (18, Rows'.any-gone (Syntax.tyRef Syntax.erased Syntax.mut (Syntax.tyInt Syntax.w16)))
-    (List._∷_ (19, Mut.msleft (Referent.rtF (Referent.fInt Syntax.w16)) (Syntax.tyRef Syntax.erased Syntax.mut (Syntax.tyInt Syntax.w16))) (List._∷_ (
-      20,
-      Rows'.any-gone (Syntax.tyRef Syntax.erased
-          Syntax.mut (Syntax.tyArray Element.behind 336)),
-    ) (List._∷_ (21, Mut.msleft (Element.type) (Syntax.tyRef Syntax.erased Syntax.mut Element.behind)) (List._∷_ (
-      22,
-      Rows'.any-gone (Syntax.tyRef
-          Syntax.erased Syntax.mut (Syntax.tyInt Syntax.w16)),
-    ) (List._∷_ (23, Mut.msleft (Referent.rtF (Referent.fInt Syntax.w16)) (Syntax.tyRef Syntax.erased Syntax.mut (Syntax.tyInt Syntax.w16)))
-    (List._∷_ (24, Rows'.sref (Array'.Array (Referent.rtF (Referent.fInt Syntax.w16)) 768) (Syntax.tyRef Syntax.erased Syntax.imm (Syntax.tyArray (Syntax.tyInt Syntax.w16) 768)) 6) List.[]))))))))
+t35 = List._∷_ e16 (List._∷_ e18 (List._∷_ e21 (List._∷_ e22 (List._∷_ e26 (List._∷_ e27 (List._∷_ e30 (List._∷_ e31 (List._∷_ e35 List.[]))))))))
 
 abbrev pub t36 : List.List Row.Entry
-t36 = List._∷_ (16, Rows'.any-gone Syntax.tyPtr) (List._∷_ (17, Rows'.any-gone Syntax.tyPtr) (List._∷_ (18, Rows'.any-gone (Syntax.tyRef Syntax.erased Syntax.mut (Syntax.tyInt Syntax.w16)))
-    (List._∷_ (19, Mut.msleft (Referent.rtF (Referent.fInt Syntax.w16)) (Syntax.tyRef Syntax.erased Syntax.mut (Syntax.tyInt Syntax.w16))) (List._∷_ (
-      20,
-      Rows'.any-gone (Syntax.tyRef Syntax.erased
-          Syntax.mut (Syntax.tyArray Element.behind 336)),
-    ) (List._∷_ (21, Mut.msleft (Element.type) (Syntax.tyRef Syntax.erased Syntax.mut Element.behind)) (List._∷_ (
-      22,
-      Rows'.any-gone (Syntax.tyRef
-          Syntax.erased Syntax.mut (Syntax.tyInt Syntax.w16)),
-    ) (List._∷_ (23, Mut.msleft (Referent.rtF (Referent.fInt Syntax.w16)) (Syntax.tyRef Syntax.erased Syntax.mut (Syntax.tyInt Syntax.w16)))
-    (List._∷_ (24, Rows'.any-gone (Syntax.tyRef Syntax.erased Syntax.imm (Syntax.tyArray (Syntax.tyInt Syntax.w16) 768))) List.[]))))))))
+t36 = List._∷_ e16 (List._∷_ e18 (List._∷_ e21 (List._∷_ e22 (List._∷_ e26 (List._∷_ e27 (List._∷_ e30 (List._∷_ e31 (List._∷_ e34 List.[]))))))))
 
 abbrev pub t37 : List.List Row.Entry
-t37 = List._∷_ (0, Rows'.whole (Declared.row Walked.the-type)) (List._∷_ (
-  1,
-  Rows'.sslice (Referent.rtF (Referent.fInt Syntax.w8)) (Syntax.tyRef (Syntax.named 0) Syntax.imm (Syntax.tyInt Syntax.w8))
-      0,
-) (List._∷_ (2, Rows'.sslice (Referent.rtF (Referent.fInt Syntax.w8)) (Syntax.tyRef (Syntax.named 1) Syntax.imm (Syntax.tyInt Syntax.w8)) 1) (List._∷_ (
-  3,
-  Relend.mslice-owed (Referent.rtF
-      (Referent.fInt Syntax.w16)) (Syntax.tyRef (Syntax.named 2) Syntax.mut (Syntax.tyInt Syntax.w16)) 2 5 Row.off,
-) (List._∷_ (
-  4,
-  Rows'.any-gone (Syntax.tyStruct (List._∷_ 98 (List._∷_ 108 (List._∷_ 111
-      (List._∷_ 99 (List._∷_ 107 (List._∷_ 58 (List._∷_ 58 (List._∷_ 70 (List._∷_ 111 (List._∷_ 114 (List._∷_ 109 List.[]))))))))))) (Syntax.tcons (Syntax.tyInt Syntax.w32) (Syntax.tcons Syntax.tyBool
-      Syntax.tnil))),
-) (List._∷_ (5, Rows.arrF (Referent.rtF (Referent.fInt Syntax.w8)) 36 0) (List._∷_ (6, Rows'.whole (Declared'.row Part.the-type)) (List._∷_ (7, Rows'.sc-here (Row.sInt Syntax.w64))
-    (List._∷_ (8, Rows'.sc-shr (Rows.arrF (Referent.rtF (Referent.fInt Syntax.w16)) 768 0) (Array'.Array (Referent.rtF (Referent.fInt Syntax.w16)) 768) (λ x. x) 6) (List._∷_ (
-      9,
-      Rows.arr-owedM
-          (Referent.rtF (Referent.fInt Syntax.w16)) 9252 3,
-    ) (List._∷_ (10, Rows.arr-owed (Element.type) 336 4) (List._∷_ (11, Rows'.sc-here (Row.sInt Syntax.w64)) (List._∷_ (
-      12,
-      Rows'.any-gone
-          (Syntax.tyArray (Syntax.tyInt Syntax.w16) 768),
-    ) (List._∷_ (13, Rows'.any-gone (Element.held)) (List._∷_ (14, Rows'.any-gone (Syntax.tyInt Syntax.w64)) (List._∷_ (
-      15,
-      Rows'.any-gone (Syntax.tyInt
-          Syntax.w64),
-    ) List.[])))))))))))))))
+t37 = List._∷_ e1 (List._∷_ e2 (List._∷_ e25 (List._∷_ e37 (List._∷_ e38 (List._∷_ e41 (List._∷_ e43 (List._∷_ e44 (List._∷_ e46 (List._∷_ e49 (List._∷_ e4 (List._∷_ e7 (List._∷_ e8 (List._∷_ e11
+    (List._∷_ e12 (List._∷_ e14 List.[])))))))))))))))
 
 abbrev pub t38 : List.List Row.Entry
-t38 = List._∷_ (0, Rows'.whole (Declared.row Walked.the-type)) (List._∷_ (
-  1,
-  Rows'.sslice (Referent.rtF (Referent.fInt Syntax.w8)) (Syntax.tyRef (Syntax.named 0) Syntax.imm (Syntax.tyInt Syntax.w8))
-      0,
-) (List._∷_ (2, Rows'.sslice (Referent.rtF (Referent.fInt Syntax.w8)) (Syntax.tyRef (Syntax.named 1) Syntax.imm (Syntax.tyInt Syntax.w8)) 1) (List._∷_ (
-  3,
-  Relend.mslice-owed (Referent.rtF
-      (Referent.fInt Syntax.w16)) (Syntax.tyRef (Syntax.named 2) Syntax.mut (Syntax.tyInt Syntax.w16)) 2 5 Row.off,
-) (List._∷_ (
-  4,
-  Rows'.any-gone (Syntax.tyStruct (List._∷_ 98 (List._∷_ 108 (List._∷_ 111
-      (List._∷_ 99 (List._∷_ 107 (List._∷_ 58 (List._∷_ 58 (List._∷_ 70 (List._∷_ 111 (List._∷_ 114 (List._∷_ 109 List.[]))))))))))) (Syntax.tcons (Syntax.tyInt Syntax.w32) (Syntax.tcons Syntax.tyBool
-      Syntax.tnil))),
-) (List._∷_ (5, Rows'.any-gone (Syntax.tyArray (Syntax.tyInt Syntax.w8) 36)) (List._∷_ (6, Rows'.whole (Declared'.row Part.the-type)) (List._∷_ (
-  7,
-  Rows'.sc-here (Row.sInt
-      Syntax.w64),
-) (List._∷_ (8, Rows'.sc-shr (Rows.arrF (Referent.rtF (Referent.fInt Syntax.w16)) 768 0) (Array'.Array (Referent.rtF (Referent.fInt Syntax.w16)) 768) (λ x. x) 6) (List._∷_ (
-  9,
-  Rows.arr-owedM (Referent.rtF (Referent.fInt Syntax.w16)) 9252 3,
-) (List._∷_ (10, Rows.arr-owed (Element.type) 336 4) (List._∷_ (11, Rows'.sc-here (Row.sInt Syntax.w64)) (List._∷_ (
-  12,
-  Rows'.any-gone (Syntax.tyArray (Syntax.tyInt Syntax.w16) 768),
-) (List._∷_ (13, Rows'.any-gone (Element.held)) (List._∷_ (14, Rows'.any-gone (Syntax.tyInt Syntax.w64)) (List._∷_ (
-  15,
-  Rows'.any-gone
-      (Syntax.tyInt Syntax.w64),
-) List.[])))))))))))))))
+t38 = List._∷_ e1 (List._∷_ e2 (List._∷_ e25 (List._∷_ e37 (List._∷_ e38 (List._∷_ e40 (List._∷_ e43 (List._∷_ e44 (List._∷_ e46 (List._∷_ e49 (List._∷_ e4 (List._∷_ e7 (List._∷_ e8 (List._∷_ e11
+    (List._∷_ e12 (List._∷_ e14 List.[])))))))))))))))
 
 abbrev pub t39 : List.List Row.Entry
-t39 = List._∷_ (0, Rows'.whole (Declared.row Walked.the-type)) (List._∷_ (
-  1,
-  Rows'.sslice (Referent.rtF (Referent.fInt Syntax.w8)) (Syntax.tyRef (Syntax.named 0) Syntax.imm (Syntax.tyInt Syntax.w8))
-      0,
-) (List._∷_ (2, Rows'.sslice (Referent.rtF (Referent.fInt Syntax.w8)) (Syntax.tyRef (Syntax.named 1) Syntax.imm (Syntax.tyInt Syntax.w8)) 1) (List._∷_ (
-  3,
-  Relend.mslice-owed (Referent.rtF
-      (Referent.fInt Syntax.w16)) (Syntax.tyRef (Syntax.named 2) Syntax.mut (Syntax.tyInt Syntax.w16)) 2 5 Row.off,
-) (List._∷_ (
-  4,
-  Rows'.any-gone (Syntax.tyStruct (List._∷_ 98 (List._∷_ 108 (List._∷_ 111
-      (List._∷_ 99 (List._∷_ 107 (List._∷_ 58 (List._∷_ 58 (List._∷_ 70 (List._∷_ 111 (List._∷_ 114 (List._∷_ 109 List.[]))))))))))) (Syntax.tcons (Syntax.tyInt Syntax.w32) (Syntax.tcons Syntax.tyBool
-      Syntax.tnil))),
-) (List._∷_ (5, Rows'.any-gone (Syntax.tyArray (Syntax.tyInt Syntax.w8) 36)) (List._∷_ (
-  6,
-  Rows'.any-gone (Syntax.tyStruct (List._∷_ 109 (List._∷_ 97 (List._∷_ 112 (List._∷_ 58
-      (List._∷_ 58 (List._∷_ 80 (List._∷_ 97 (List._∷_ 114 (List._∷_ 116 List.[]))))))))) (Syntax.tcons (Syntax.tyInt Syntax.w64) (Syntax.tcons (Syntax.tyInt Syntax.w64) (Syntax.tcons (Syntax.tyInt
-      Syntax.w64) (Syntax.tcons (Syntax.tyInt Syntax.w64) (Syntax.tcons (Syntax.tyInt Syntax.w64) (Syntax.tcons (Syntax.tyInt Syntax.w64) Syntax.tnil))))))),
-) (List._∷_ (
-  7,
-  Rows'.sc-here (Row.sInt
-      Syntax.w64),
-) (List._∷_ (8, Rows'.sc-shr (Rows.arrF (Referent.rtF (Referent.fInt Syntax.w16)) 768 0) (Array'.Array (Referent.rtF (Referent.fInt Syntax.w16)) 768) (λ x. x) 6) (List._∷_ (
-  9,
-  Rows.arr-owedM (Referent.rtF (Referent.fInt Syntax.w16)) 9252 3,
-) (List._∷_ (10, Rows.arr-owed (Element.type) 336 4) (List._∷_ (11, Rows'.sc-here (Row.sInt Syntax.w64)) (List._∷_ (
-  12,
-  Rows'.any-gone (Syntax.tyArray (Syntax.tyInt Syntax.w16) 768),
-) (List._∷_ (13, Rows'.any-gone (Element.held)) (List._∷_ (14, Rows'.any-gone (Syntax.tyInt Syntax.w64)) (List._∷_ (
-  15,
-  Rows'.any-gone
-      (Syntax.tyInt Syntax.w64),
-) List.[])))))))))))))))
+t39 = List._∷_ e1 (List._∷_ e2 (List._∷_ e25 (List._∷_ e37 (List._∷_ e38 (List._∷_ e40 (List._∷_ e42 (List._∷_ e44 (List._∷_ e46 (List._∷_ e49 (List._∷_ e4 (List._∷_ e7 (List._∷_ e8 (List._∷_ e11
+    (List._∷_ e12 (List._∷_ e14 List.[])))))))))))))))
 
 abbrev pub t40 : List.List Row.Entry
-t40 = List._∷_ (0, Rows'.whole (Declared.row Walked.the-type)) (List._∷_ (
-  1,
-  Rows'.sslice (Referent.rtF (Referent.fInt Syntax.w8)) (Syntax.tyRef (Syntax.named 0) Syntax.imm (Syntax.tyInt Syntax.w8))
-      0,
-) (List._∷_ (2, Rows'.sslice (Referent.rtF (Referent.fInt Syntax.w8)) (Syntax.tyRef (Syntax.named 1) Syntax.imm (Syntax.tyInt Syntax.w8)) 1) (List._∷_ (
-  3,
-  Relend.mslice-owed (Referent.rtF
-      (Referent.fInt Syntax.w16)) (Syntax.tyRef (Syntax.named 2) Syntax.mut (Syntax.tyInt Syntax.w16)) 2 5 Row.off,
-) (List._∷_ (
-  4,
-  Rows'.any-gone (Syntax.tyStruct (List._∷_ 98 (List._∷_ 108 (List._∷_ 111
-      (List._∷_ 99 (List._∷_ 107 (List._∷_ 58 (List._∷_ 58 (List._∷_ 70 (List._∷_ 111 (List._∷_ 114 (List._∷_ 109 List.[]))))))))))) (Syntax.tcons (Syntax.tyInt Syntax.w32) (Syntax.tcons Syntax.tyBool
-      Syntax.tnil))),
-) (List._∷_ (5, Rows'.any-gone (Syntax.tyArray (Syntax.tyInt Syntax.w8) 36)) (List._∷_ (
-  6,
-  Rows'.any-gone (Syntax.tyStruct (List._∷_ 109 (List._∷_ 97 (List._∷_ 112 (List._∷_ 58
-      (List._∷_ 58 (List._∷_ 80 (List._∷_ 97 (List._∷_ 114 (List._∷_ 116 List.[]))))))))) (Syntax.tcons (Syntax.tyInt Syntax.w64) (Syntax.tcons (Syntax.tyInt Syntax.w64) (Syntax.tcons (Syntax.tyInt
-      Syntax.w64) (Syntax.tcons (Syntax.tyInt Syntax.w64) (Syntax.tcons (Syntax.tyInt Syntax.w64) (Syntax.tcons (Syntax.tyInt Syntax.w64) Syntax.tnil))))))),
-) (List._∷_ (
-  7,
-  Rows'.sc-here (Row.sInt
-      Syntax.w64),
-) (List._∷_ (8, Rows'.sc-shr (Rows.arrF (Referent.rtF (Referent.fInt Syntax.w16)) 768 0) (Array'.Array (Referent.rtF (Referent.fInt Syntax.w16)) 768) (λ x. x) 6) (List._∷_ (
-  9,
-  Rows.arr-owedM (Referent.rtF (Referent.fInt Syntax.w16)) 9252 3,
-) (List._∷_ (10, Rows.arr-owed (Element.type) 336 4) (List._∷_ (11, Rows'.any-gone (Syntax.tyInt Syntax.w64)) (List._∷_ (
-  12,
-  Rows'.any-gone (Syntax.tyArray (Syntax.tyInt Syntax.w16) 768),
-) (List._∷_ (13, Rows'.any-gone (Element.held)) (List._∷_ (14, Rows'.any-gone (Syntax.tyInt Syntax.w64)) (List._∷_ (
-  15,
-  Rows'.any-gone
-      (Syntax.tyInt Syntax.w64),
-) List.[])))))))))))))))
+t40 = List._∷_ e1 (List._∷_ e2 (List._∷_ e25 (List._∷_ e37 (List._∷_ e38 (List._∷_ e40 (List._∷_ e42 (List._∷_ e44 (List._∷_ e46 (List._∷_ e49 (List._∷_ e4 (List._∷_ e6 (List._∷_ e8 (List._∷_ e11
+    (List._∷_ e12 (List._∷_ e14 List.[])))))))))))))))
 
 abbrev pub t41 : List.List Row.Entry
-t41 = List._∷_ (0, Rows'.whole (Declared.row Walked.the-type)) (List._∷_ (
-  1,
-  Rows'.sslice (Referent.rtF (Referent.fInt Syntax.w8)) (Syntax.tyRef (Syntax.named 0) Syntax.imm (Syntax.tyInt Syntax.w8))
-      0,
-) (List._∷_ (2, Rows'.sslice (Referent.rtF (Referent.fInt Syntax.w8)) (Syntax.tyRef (Syntax.named 1) Syntax.imm (Syntax.tyInt Syntax.w8)) 1) (List._∷_ (
-  3,
-  Relend.mslice-owed (Referent.rtF
-      (Referent.fInt Syntax.w16)) (Syntax.tyRef (Syntax.named 2) Syntax.mut (Syntax.tyInt Syntax.w16)) 2 5 Row.off,
-) (List._∷_ (
-  4,
-  Rows'.any-gone (Syntax.tyStruct (List._∷_ 98 (List._∷_ 108 (List._∷_ 111
-      (List._∷_ 99 (List._∷_ 107 (List._∷_ 58 (List._∷_ 58 (List._∷_ 70 (List._∷_ 111 (List._∷_ 114 (List._∷_ 109 List.[]))))))))))) (Syntax.tcons (Syntax.tyInt Syntax.w32) (Syntax.tcons Syntax.tyBool
-      Syntax.tnil))),
-) (List._∷_ (5, Rows'.any-gone (Syntax.tyArray (Syntax.tyInt Syntax.w8) 36)) (List._∷_ (
-  6,
-  Rows'.any-gone (Syntax.tyStruct (List._∷_ 109 (List._∷_ 97 (List._∷_ 112 (List._∷_ 58
-      (List._∷_ 58 (List._∷_ 80 (List._∷_ 97 (List._∷_ 114 (List._∷_ 116 List.[]))))))))) (Syntax.tcons (Syntax.tyInt Syntax.w64) (Syntax.tcons (Syntax.tyInt Syntax.w64) (Syntax.tcons (Syntax.tyInt
-      Syntax.w64) (Syntax.tcons (Syntax.tyInt Syntax.w64) (Syntax.tcons (Syntax.tyInt Syntax.w64) (Syntax.tcons (Syntax.tyInt Syntax.w64) Syntax.tnil))))))),
-) (List._∷_ (
-  7,
-  Rows'.sc-here (Row.sInt
-      Syntax.w64),
-) (List._∷_ (8, Rows'.sc-shr (Rows.arrF (Referent.rtF (Referent.fInt Syntax.w16)) 768 0) (Array'.Array (Referent.rtF (Referent.fInt Syntax.w16)) 768) (λ x. x) 6) (List._∷_ (
-  9,
-  Rows.arrF
-      (Referent.rtF (Referent.fInt Syntax.w16)) 9252 0,
-) (List._∷_ (10, Rows.arr-owed (Element.type) 336 4) (List._∷_ (11, Rows'.any-gone (Syntax.tyInt Syntax.w64)) (List._∷_ (
-  12,
-  Rows'.any-gone
-      (Syntax.tyArray (Syntax.tyInt Syntax.w16) 768),
-) (List._∷_ (13, Rows'.any-gone (Element.held)) (List._∷_ (14, Rows'.any-gone (Syntax.tyInt Syntax.w64)) (List._∷_ (
-  15,
-  Rows'.any-gone (Syntax.tyInt
-      Syntax.w64),
-) List.[])))))))))))))))
+t41 = List._∷_ e1 (List._∷_ e2 (List._∷_ e25 (List._∷_ e37 (List._∷_ e38 (List._∷_ e40 (List._∷_ e42 (List._∷_ e44 (List._∷_ e46 (List._∷_ e50 (List._∷_ e4 (List._∷_ e6 (List._∷_ e8 (List._∷_ e11
+    (List._∷_ e12 (List._∷_ e14 List.[])))))))))))))))
 
 abbrev pub t42 : List.List Row.Entry
-t42 = List._∷_ (16, Rows'.any-gone Syntax.tyPtr) (List._∷_ (17, Rows'.any-gone Syntax.tyPtr) (List._∷_ (18, Rows'.any-gone (Syntax.tyRef Syntax.erased Syntax.mut (Syntax.tyInt Syntax.w16)))
-    (List._∷_ (
-      19,
-      Rows'.any-gone (Syntax.tyStruct (List._∷_ 38 (List._∷_ 91 (List._∷_ 93 List.[]))) (Syntax.tcons (Syntax.tyRef Syntax.erased Syntax.mut (Syntax.tyInt Syntax.w16)) (Syntax.tcons
-          (Syntax.tyInt Syntax.w64) Syntax.tnil))),
-    ) (List._∷_ (20, Rows'.any-gone (Syntax.tyRef Syntax.erased Syntax.mut (Syntax.tyArray Element.behind 336))) (List._∷_ (
-      21,
-      Mut.msleft (Element.type)
-          (Syntax.tyRef Syntax.erased Syntax.mut Element.behind),
-    ) (List._∷_ (22, Rows'.any-gone (Syntax.tyRef Syntax.erased Syntax.mut (Syntax.tyInt Syntax.w16))) (List._∷_ (
-      23,
-      Mut.msleft (Referent.rtF
-          (Referent.fInt Syntax.w16)) (Syntax.tyRef Syntax.erased Syntax.mut (Syntax.tyInt Syntax.w16)),
-    ) (List._∷_ (
-      24,
-      Rows'.any-gone (Syntax.tyRef Syntax.erased Syntax.imm (Syntax.tyArray (Syntax.tyInt
-          Syntax.w16) 768)),
-    ) List.[]))))))))
+t42 = List._∷_ e16 (List._∷_ e18 (List._∷_ e21 (List._∷_ e24 (List._∷_ e26 (List._∷_ e27 (List._∷_ e30 (List._∷_ e31 (List._∷_ e34 List.[]))))))))
 
 abbrev pub t43 : List.List Row.Entry
-t43 = List._∷_ (0, Rows'.whole (Declared.row Walked.the-type)) (List._∷_ (
-  1,
-  Rows'.sslice (Referent.rtF (Referent.fInt Syntax.w8)) (Syntax.tyRef (Syntax.named 0) Syntax.imm (Syntax.tyInt Syntax.w8))
-      0,
-) (List._∷_ (2, Rows'.sslice (Referent.rtF (Referent.fInt Syntax.w8)) (Syntax.tyRef (Syntax.named 1) Syntax.imm (Syntax.tyInt Syntax.w8)) 1) (List._∷_ (
-  3,
-  Relend.mslice-owed (Referent.rtF
-      (Referent.fInt Syntax.w16)) (Syntax.tyRef (Syntax.named 2) Syntax.mut (Syntax.tyInt Syntax.w16)) 2 5 Row.off,
-) (List._∷_ (
-  4,
-  Rows'.any-gone (Syntax.tyStruct (List._∷_ 98 (List._∷_ 108 (List._∷_ 111
-      (List._∷_ 99 (List._∷_ 107 (List._∷_ 58 (List._∷_ 58 (List._∷_ 70 (List._∷_ 111 (List._∷_ 114 (List._∷_ 109 List.[]))))))))))) (Syntax.tcons (Syntax.tyInt Syntax.w32) (Syntax.tcons Syntax.tyBool
-      Syntax.tnil))),
-) (List._∷_ (5, Rows'.any-gone (Syntax.tyArray (Syntax.tyInt Syntax.w8) 36)) (List._∷_ (
-  6,
-  Rows'.any-gone (Syntax.tyStruct (List._∷_ 109 (List._∷_ 97 (List._∷_ 112 (List._∷_ 58
-      (List._∷_ 58 (List._∷_ 80 (List._∷_ 97 (List._∷_ 114 (List._∷_ 116 List.[]))))))))) (Syntax.tcons (Syntax.tyInt Syntax.w64) (Syntax.tcons (Syntax.tyInt Syntax.w64) (Syntax.tcons (Syntax.tyInt
-      Syntax.w64) (Syntax.tcons (Syntax.tyInt Syntax.w64) (Syntax.tcons (Syntax.tyInt Syntax.w64) (Syntax.tcons (Syntax.tyInt Syntax.w64) Syntax.tnil))))))),
-) (List._∷_ (
-  7,
-  Rows'.sc-here (Row.sInt
-      Syntax.w64),
-) (List._∷_ (8, Rows'.sc-shr (Rows.arrF (Referent.rtF (Referent.fInt Syntax.w16)) 768 0) (Array'.Array (Referent.rtF (Referent.fInt Syntax.w16)) 768) (λ x. x) 6) (List._∷_ (
-  9,
-  Rows'.any-gone (Syntax.tyArray (Syntax.tyInt Syntax.w16) 9252),
-) (List._∷_ (10, Rows.arr-owed (Element.type) 336 4) (List._∷_ (11, Rows'.any-gone (Syntax.tyInt Syntax.w64)) (List._∷_ (
-  12,
-  Rows'.any-gone (Syntax.tyArray (Syntax.tyInt Syntax.w16) 768),
-) (List._∷_ (13, Rows'.any-gone (Element.held)) (List._∷_ (14, Rows'.any-gone (Syntax.tyInt Syntax.w64)) (List._∷_ (
-  15,
-  Rows'.any-gone
-      (Syntax.tyInt Syntax.w64),
-) List.[])))))))))))))))
+t43 = List._∷_ e1 (List._∷_ e2 (List._∷_ e25 (List._∷_ e37 (List._∷_ e38 (List._∷_ e40 (List._∷_ e42 (List._∷_ e44 (List._∷_ e46 (List._∷_ e48 (List._∷_ e4 (List._∷_ e6 (List._∷_ e8 (List._∷_ e11
+    (List._∷_ e12 (List._∷_ e14 List.[])))))))))))))))
 
 abbrev pub t44 : List.List Row.Entry
-t44 = List._∷_ (0, Rows'.whole (Declared.row Walked.the-type)) (List._∷_ (
-  1,
-  Rows'.sslice (Referent.rtF (Referent.fInt Syntax.w8)) (Syntax.tyRef (Syntax.named 0) Syntax.imm (Syntax.tyInt Syntax.w8))
-      0,
-) (List._∷_ (2, Rows'.sslice (Referent.rtF (Referent.fInt Syntax.w8)) (Syntax.tyRef (Syntax.named 1) Syntax.imm (Syntax.tyInt Syntax.w8)) 1) (List._∷_ (
-  3,
-  Relend.mslice-owed (Referent.rtF
-      (Referent.fInt Syntax.w16)) (Syntax.tyRef (Syntax.named 2) Syntax.mut (Syntax.tyInt Syntax.w16)) 2 5 Row.off,
-) (List._∷_ (
-  4,
-  Rows'.any-gone (Syntax.tyStruct (List._∷_ 98 (List._∷_ 108 (List._∷_ 111
-      (List._∷_ 99 (List._∷_ 107 (List._∷_ 58 (List._∷_ 58 (List._∷_ 70 (List._∷_ 111 (List._∷_ 114 (List._∷_ 109 List.[]))))))))))) (Syntax.tcons (Syntax.tyInt Syntax.w32) (Syntax.tcons Syntax.tyBool
-      Syntax.tnil))),
-) (List._∷_ (5, Rows'.any-gone (Syntax.tyArray (Syntax.tyInt Syntax.w8) 36)) (List._∷_ (
-  6,
-  Rows'.any-gone (Syntax.tyStruct (List._∷_ 109 (List._∷_ 97 (List._∷_ 112 (List._∷_ 58
-      (List._∷_ 58 (List._∷_ 80 (List._∷_ 97 (List._∷_ 114 (List._∷_ 116 List.[]))))))))) (Syntax.tcons (Syntax.tyInt Syntax.w64) (Syntax.tcons (Syntax.tyInt Syntax.w64) (Syntax.tcons (Syntax.tyInt
-      Syntax.w64) (Syntax.tcons (Syntax.tyInt Syntax.w64) (Syntax.tcons (Syntax.tyInt Syntax.w64) (Syntax.tcons (Syntax.tyInt Syntax.w64) Syntax.tnil))))))),
-) (List._∷_ (
-  7,
-  Rows'.sc-here (Row.sInt
-      Syntax.w64),
-) (List._∷_ (8, Rows'.sc-shr (Rows.arrF (Referent.rtF (Referent.fInt Syntax.w16)) 768 0) (Array'.Array (Referent.rtF (Referent.fInt Syntax.w16)) 768) (λ x. x) 6) (List._∷_ (
-  9,
-  Rows'.any-gone (Syntax.tyArray (Syntax.tyInt Syntax.w16) 9252),
-) (List._∷_ (10, Rows.arrF (Element.type) 336 0) (List._∷_ (11, Rows'.any-gone (Syntax.tyInt Syntax.w64)) (List._∷_ (
-  12,
-  Rows'.any-gone (Syntax.tyArray (Syntax.tyInt Syntax.w16) 768),
-) (List._∷_ (13, Rows'.any-gone (Element.held)) (List._∷_ (14, Rows'.any-gone (Syntax.tyInt Syntax.w64)) (List._∷_ (
-  15,
-  Rows'.any-gone
-      (Syntax.tyInt Syntax.w64),
-) List.[])))))))))))))))
+t44 = List._∷_ e1 (List._∷_ e2 (List._∷_ e25 (List._∷_ e37 (List._∷_ e38 (List._∷_ e40 (List._∷_ e42 (List._∷_ e44 (List._∷_ e46 (List._∷_ e48 (List._∷_ e5 (List._∷_ e6 (List._∷_ e8 (List._∷_ e11
+    (List._∷_ e12 (List._∷_ e14 List.[])))))))))))))))
 
 abbrev pub t45 : List.List Row.Entry
-t45 = List._∷_ (16, Rows'.any-gone Syntax.tyPtr) (List._∷_ (17, Rows'.any-gone Syntax.tyPtr) (List._∷_ (18, Rows'.any-gone (Syntax.tyRef Syntax.erased Syntax.mut (Syntax.tyInt Syntax.w16)))
-    (List._∷_ (
-      19,
-      Rows'.any-gone (Syntax.tyStruct (List._∷_ 38 (List._∷_ 91 (List._∷_ 93 List.[]))) (Syntax.tcons (Syntax.tyRef Syntax.erased Syntax.mut (Syntax.tyInt Syntax.w16)) (Syntax.tcons
-          (Syntax.tyInt Syntax.w64) Syntax.tnil))),
-    ) (List._∷_ (20, Rows'.any-gone (Syntax.tyRef Syntax.erased Syntax.mut (Syntax.tyArray Element.behind 336))) (List._∷_ (
-      21,
-      Rows'.any-gone
-          (Syntax.tyStruct (List._∷_ 38 (List._∷_ 91 (List._∷_ 93 List.[]))) (Syntax.tcons (Syntax.tyRef Syntax.erased Syntax.mut Element.behind) (Syntax.tcons (Syntax.tyInt Syntax.w64) Syntax.tnil))),
-    )
-    (List._∷_ (22, Rows'.any-gone (Syntax.tyRef Syntax.erased Syntax.mut (Syntax.tyInt Syntax.w16))) (List._∷_ (
-      23,
-      Mut.msleft (Referent.rtF (Referent.fInt Syntax.w16)) (Syntax.tyRef Syntax.erased
-          Syntax.mut (Syntax.tyInt Syntax.w16)),
-    ) (List._∷_ (24, Rows'.any-gone (Syntax.tyRef Syntax.erased Syntax.imm (Syntax.tyArray (Syntax.tyInt Syntax.w16) 768))) List.[]))))))))
+t45 = List._∷_ e16 (List._∷_ e18 (List._∷_ e21 (List._∷_ e24 (List._∷_ e26 (List._∷_ e29 (List._∷_ e30 (List._∷_ e31 (List._∷_ e34 List.[]))))))))
 
 abbrev pub t46 : List.List Row.Entry
-t46 = List._∷_ (0, Rows'.whole (Declared.row Walked.the-type)) (List._∷_ (
-  1,
-  Rows'.sslice (Referent.rtF (Referent.fInt Syntax.w8)) (Syntax.tyRef (Syntax.named 0) Syntax.imm (Syntax.tyInt Syntax.w8))
-      0,
-) (List._∷_ (2, Rows'.sslice (Referent.rtF (Referent.fInt Syntax.w8)) (Syntax.tyRef (Syntax.named 1) Syntax.imm (Syntax.tyInt Syntax.w8)) 1) (List._∷_ (
-  3,
-  Relend.mslice-owed (Referent.rtF
-      (Referent.fInt Syntax.w16)) (Syntax.tyRef (Syntax.named 2) Syntax.mut (Syntax.tyInt Syntax.w16)) 2 5 Row.off,
-) (List._∷_ (
-  4,
-  Rows'.any-gone (Syntax.tyStruct (List._∷_ 98 (List._∷_ 108 (List._∷_ 111
-      (List._∷_ 99 (List._∷_ 107 (List._∷_ 58 (List._∷_ 58 (List._∷_ 70 (List._∷_ 111 (List._∷_ 114 (List._∷_ 109 List.[]))))))))))) (Syntax.tcons (Syntax.tyInt Syntax.w32) (Syntax.tcons Syntax.tyBool
-      Syntax.tnil))),
-) (List._∷_ (5, Rows'.any-gone (Syntax.tyArray (Syntax.tyInt Syntax.w8) 36)) (List._∷_ (
-  6,
-  Rows'.any-gone (Syntax.tyStruct (List._∷_ 109 (List._∷_ 97 (List._∷_ 112 (List._∷_ 58
-      (List._∷_ 58 (List._∷_ 80 (List._∷_ 97 (List._∷_ 114 (List._∷_ 116 List.[]))))))))) (Syntax.tcons (Syntax.tyInt Syntax.w64) (Syntax.tcons (Syntax.tyInt Syntax.w64) (Syntax.tcons (Syntax.tyInt
-      Syntax.w64) (Syntax.tcons (Syntax.tyInt Syntax.w64) (Syntax.tcons (Syntax.tyInt Syntax.w64) (Syntax.tcons (Syntax.tyInt Syntax.w64) Syntax.tnil))))))),
-) (List._∷_ (
-  7,
-  Rows'.sc-here (Row.sInt
-      Syntax.w64),
-) (List._∷_ (8, Rows'.sc-shr (Rows.arrF (Referent.rtF (Referent.fInt Syntax.w16)) 768 0) (Array'.Array (Referent.rtF (Referent.fInt Syntax.w16)) 768) (λ x. x) 6) (List._∷_ (
-  9,
-  Rows'.any-gone (Syntax.tyArray (Syntax.tyInt Syntax.w16) 9252),
-) (List._∷_ (10, Rows'.any-gone (Syntax.tyArray (Element.held) 336)) (List._∷_ (11, Rows'.any-gone (Syntax.tyInt Syntax.w64)) (List._∷_
-    (12, Rows'.any-gone (Syntax.tyArray (Syntax.tyInt Syntax.w16) 768)) (List._∷_ (13, Rows'.any-gone (Element.held)) (List._∷_ (14, Rows'.any-gone (Syntax.tyInt Syntax.w64)) (List._∷_ (
-      15,
-      Rows'.any-gone (Syntax.tyInt Syntax.w64),
-    ) List.[])))))))))))))))
+t46 = List._∷_ e1 (List._∷_ e2 (List._∷_ e25 (List._∷_ e37 (List._∷_ e38 (List._∷_ e40 (List._∷_ e42 (List._∷_ e44 (List._∷_ e46 (List._∷_ e48 (List._∷_ e3 (List._∷_ e6 (List._∷_ e8 (List._∷_ e11
+    (List._∷_ e12 (List._∷_ e14 List.[])))))))))))))))
 
 abbrev pub t47 : List.List Row.Entry
-t47 = List._∷_ (0, Rows'.whole (Declared.row Walked.the-type)) (List._∷_ (
-  1,
-  Rows'.sslice (Referent.rtF (Referent.fInt Syntax.w8)) (Syntax.tyRef (Syntax.named 0) Syntax.imm (Syntax.tyInt Syntax.w8))
-      0,
-) (List._∷_ (2, Rows'.sslice (Referent.rtF (Referent.fInt Syntax.w8)) (Syntax.tyRef (Syntax.named 1) Syntax.imm (Syntax.tyInt Syntax.w8)) 1) (List._∷_ (
-  3,
-  Mut.mslice (Referent.rtF
-      (Referent.fInt Syntax.w16)) (Syntax.tyRef (Syntax.named 2) Syntax.mut (Syntax.tyInt Syntax.w16)) 2,
-) (List._∷_ (
-  4,
-  Rows'.any-gone (Syntax.tyStruct (List._∷_ 98 (List._∷_ 108 (List._∷_ 111 (List._∷_
-      99 (List._∷_ 107 (List._∷_ 58 (List._∷_ 58 (List._∷_ 70 (List._∷_ 111 (List._∷_ 114 (List._∷_ 109 List.[]))))))))))) (Syntax.tcons (Syntax.tyInt Syntax.w32) (Syntax.tcons Syntax.tyBool Syntax.tnil))),
-) (List._∷_ (5, Rows'.any-gone (Syntax.tyArray (Syntax.tyInt Syntax.w8) 36)) (List._∷_ (
-  6,
-  Rows'.any-gone (Syntax.tyStruct (List._∷_ 109 (List._∷_ 97 (List._∷_ 112 (List._∷_ 58 (List._∷_ 58 (List._∷_
-      80 (List._∷_ 97 (List._∷_ 114 (List._∷_ 116 List.[]))))))))) (Syntax.tcons (Syntax.tyInt Syntax.w64) (Syntax.tcons (Syntax.tyInt Syntax.w64) (Syntax.tcons (Syntax.tyInt Syntax.w64) (Syntax.tcons
-      (Syntax.tyInt Syntax.w64) (Syntax.tcons (Syntax.tyInt Syntax.w64) (Syntax.tcons (Syntax.tyInt Syntax.w64) Syntax.tnil))))))),
-) (List._∷_ (7, Rows'.sc-here (Row.sInt Syntax.w64)) (List._∷_ (
-  8,
-  Rows'.sc-shr (Rows.arrF (Referent.rtF (Referent.fInt Syntax.w16)) 768 0) (Array'.Array (Referent.rtF (Referent.fInt Syntax.w16)) 768) (λ x. x) 6,
-) (List._∷_ (
-  9,
-  Rows'.any-gone (Syntax.tyArray
-      (Syntax.tyInt Syntax.w16) 9252),
-) (List._∷_ (10, Rows'.any-gone (Syntax.tyArray (Element.held) 336)) (List._∷_ (11, Rows'.any-gone (Syntax.tyInt Syntax.w64)) (List._∷_ (
-  12,
-  Rows'.any-gone
-      (Syntax.tyArray (Syntax.tyInt Syntax.w16) 768),
-) (List._∷_ (13, Rows'.any-gone (Element.held)) (List._∷_ (14, Rows'.any-gone (Syntax.tyInt Syntax.w64)) (List._∷_ (
-  15,
-  Rows'.any-gone (Syntax.tyInt
-      Syntax.w64),
-) List.[])))))))))))))))
+t47 = List._∷_ e1 (List._∷_ e2 (List._∷_ e25 (List._∷_ e36 (List._∷_ e38 (List._∷_ e40 (List._∷_ e42 (List._∷_ e44 (List._∷_ e46 (List._∷_ e48 (List._∷_ e3 (List._∷_ e6 (List._∷_ e8 (List._∷_ e11
+    (List._∷_ e12 (List._∷_ e14 List.[])))))))))))))))
 
 abbrev pub t48 : List.List Row.Entry
-t48 = List._∷_ (0, Rows'.whole (Declared.row Walked.the-type)) (List._∷_ (
-  1,
-  Rows'.sslice (Referent.rtF (Referent.fInt Syntax.w8)) (Syntax.tyRef (Syntax.named 0) Syntax.imm (Syntax.tyInt Syntax.w8))
-      0,
-) (List._∷_ (2, Rows'.sslice (Referent.rtF (Referent.fInt Syntax.w8)) (Syntax.tyRef (Syntax.named 1) Syntax.imm (Syntax.tyInt Syntax.w8)) 1) (List._∷_ (
-  3,
-  Mut.mslice (Referent.rtF
-      (Referent.fInt Syntax.w16)) (Syntax.tyRef (Syntax.named 2) Syntax.mut (Syntax.tyInt Syntax.w16)) 2,
-) (List._∷_ (
-  4,
-  Rows'.any-gone (Syntax.tyStruct (List._∷_ 98 (List._∷_ 108 (List._∷_ 111 (List._∷_
-      99 (List._∷_ 107 (List._∷_ 58 (List._∷_ 58 (List._∷_ 70 (List._∷_ 111 (List._∷_ 114 (List._∷_ 109 List.[]))))))))))) (Syntax.tcons (Syntax.tyInt Syntax.w32) (Syntax.tcons Syntax.tyBool Syntax.tnil))),
-) (List._∷_ (5, Rows'.any-gone (Syntax.tyArray (Syntax.tyInt Syntax.w8) 36)) (List._∷_ (
-  6,
-  Rows'.any-gone (Syntax.tyStruct (List._∷_ 109 (List._∷_ 97 (List._∷_ 112 (List._∷_ 58 (List._∷_ 58 (List._∷_
-      80 (List._∷_ 97 (List._∷_ 114 (List._∷_ 116 List.[]))))))))) (Syntax.tcons (Syntax.tyInt Syntax.w64) (Syntax.tcons (Syntax.tyInt Syntax.w64) (Syntax.tcons (Syntax.tyInt Syntax.w64) (Syntax.tcons
-      (Syntax.tyInt Syntax.w64) (Syntax.tcons (Syntax.tyInt Syntax.w64) (Syntax.tcons (Syntax.tyInt Syntax.w64) Syntax.tnil))))))),
-) (List._∷_ (7, Rows'.sc-here (Row.sInt Syntax.w64)) (List._∷_ (
-  8,
-  Rows.arrF (Referent.rtF (Referent.fInt Syntax.w16)) 768 0,
-) (List._∷_ (9, Rows'.any-gone (Syntax.tyArray (Syntax.tyInt Syntax.w16) 9252)) (List._∷_ (
-  10,
-  Rows'.any-gone (Syntax.tyArray (Element.held)
-      336),
-) (List._∷_ (11, Rows'.any-gone (Syntax.tyInt Syntax.w64)) (List._∷_ (12, Rows'.any-gone (Syntax.tyArray (Syntax.tyInt Syntax.w16) 768)) (List._∷_ (13, Rows'.any-gone (Element.held))
-    (List._∷_ (14, Rows'.any-gone (Syntax.tyInt Syntax.w64)) (List._∷_ (15, Rows'.any-gone (Syntax.tyInt Syntax.w64)) List.[])))))))))))))))
+t48 = List._∷_ e1 (List._∷_ e2 (List._∷_ e25 (List._∷_ e36 (List._∷_ e38 (List._∷_ e40 (List._∷_ e42 (List._∷_ e44 (List._∷_ e47 (List._∷_ e48 (List._∷_ e3 (List._∷_ e6 (List._∷_ e8 (List._∷_ e11
+    (List._∷_ e12 (List._∷_ e14 List.[])))))))))))))))
 
 abbrev pub t49 : List.List Row.Entry
-t49 = List._∷_ (0, Rows'.whole (Declared.row Walked.the-type)) (List._∷_ (
-  1,
-  Rows'.sslice (Referent.rtF (Referent.fInt Syntax.w8)) (Syntax.tyRef (Syntax.named 0) Syntax.imm (Syntax.tyInt Syntax.w8))
-      0,
-) (List._∷_ (2, Rows'.sslice (Referent.rtF (Referent.fInt Syntax.w8)) (Syntax.tyRef (Syntax.named 1) Syntax.imm (Syntax.tyInt Syntax.w8)) 1) (List._∷_ (
-  3,
-  Mut.mslice (Referent.rtF
-      (Referent.fInt Syntax.w16)) (Syntax.tyRef (Syntax.named 2) Syntax.mut (Syntax.tyInt Syntax.w16)) 2,
-) (List._∷_ (
-  4,
-  Rows'.any-gone (Syntax.tyStruct (List._∷_ 98 (List._∷_ 108 (List._∷_ 111 (List._∷_
-      99 (List._∷_ 107 (List._∷_ 58 (List._∷_ 58 (List._∷_ 70 (List._∷_ 111 (List._∷_ 114 (List._∷_ 109 List.[]))))))))))) (Syntax.tcons (Syntax.tyInt Syntax.w32) (Syntax.tcons Syntax.tyBool Syntax.tnil))),
-) (List._∷_ (5, Rows'.any-gone (Syntax.tyArray (Syntax.tyInt Syntax.w8) 36)) (List._∷_ (
-  6,
-  Rows'.any-gone (Syntax.tyStruct (List._∷_ 109 (List._∷_ 97 (List._∷_ 112 (List._∷_ 58 (List._∷_ 58 (List._∷_
-      80 (List._∷_ 97 (List._∷_ 114 (List._∷_ 116 List.[]))))))))) (Syntax.tcons (Syntax.tyInt Syntax.w64) (Syntax.tcons (Syntax.tyInt Syntax.w64) (Syntax.tcons (Syntax.tyInt Syntax.w64) (Syntax.tcons
-      (Syntax.tyInt Syntax.w64) (Syntax.tcons (Syntax.tyInt Syntax.w64) (Syntax.tcons (Syntax.tyInt Syntax.w64) Syntax.tnil))))))),
-) (List._∷_ (7, Rows'.sc-here (Row.sInt Syntax.w64)) (List._∷_ (
-  8,
-  Rows'.any-gone (Syntax.tyArray (Syntax.tyInt Syntax.w16) 768),
-) (List._∷_ (9, Rows'.any-gone (Syntax.tyArray (Syntax.tyInt Syntax.w16) 9252)) (List._∷_ (
-  10,
-  Rows'.any-gone (Syntax.tyArray
-      (Element.held) 336),
-) (List._∷_ (11, Rows'.any-gone (Syntax.tyInt Syntax.w64)) (List._∷_ (12, Rows'.any-gone (Syntax.tyArray (Syntax.tyInt Syntax.w16) 768)) (List._∷_ (
-  13,
-  Rows'.any-gone
-      (Element.held),
-) (List._∷_ (14, Rows'.any-gone (Syntax.tyInt Syntax.w64)) (List._∷_ (15, Rows'.any-gone (Syntax.tyInt Syntax.w64)) List.[])))))))))))))))
+t49 = List._∷_ e1 (List._∷_ e2 (List._∷_ e25 (List._∷_ e36 (List._∷_ e38 (List._∷_ e40 (List._∷_ e42 (List._∷_ e44 (List._∷_ e45 (List._∷_ e48 (List._∷_ e3 (List._∷_ e6 (List._∷_ e8 (List._∷_ e11
+    (List._∷_ e12 (List._∷_ e14 List.[])))))))))))))))
 
 abbrev pub T0 : Row.Cx
 T0 = record { locals = List._++_ t0 t1; slots = List.[] }
@@ -1901,57 +961,40 @@ module _ (claims· : Claims) where
   s34 = λ bs. Call.callB ps·3 r·3 (claims· .6) (claims· .7) T35 (
     record { pos = 1; ty = Syntax.tyRef (Syntax.named 0) Syntax.imm (Syntax.tyInt Syntax.w8); ref = λ x. x },
     (
-      record {
-        pos = 2;
-        ty =
-            Syntax.tyRef (Syntax.named 1) Syntax.imm (Syntax.tyInt Syntax.w8);
-        ref = λ x. x;
-      },
+      record { pos = 2; ty = Syntax.tyRef (Syntax.named 1) Syntax.imm (Syntax.tyInt Syntax.w8); ref = λ x. x },
       (
         record { pos = 19; ty = Syntax.tyRef Syntax.erased Syntax.mut (Syntax.tyInt Syntax.w16); ref = λ x. x },
         (
           record { pos = 21; ty = Syntax.tyRef Syntax.erased Syntax.mut Element.behind; ref = λ x. x },
           (
-            record {
-              pos = 23;
-              ty = Syntax.tyRef Syntax.erased Syntax.mut (Syntax.tyInt Syntax.w16);
-              ref = λ x.
-                  x;
-            },
+            record { pos = 23; ty = Syntax.tyRef Syntax.erased Syntax.mut (Syntax.tyInt Syntax.w16); ref = λ x. x },
             (
               record { pos = 4; st = List.[]; d = 0; at = λ x. x },
               (
                 record { pos = 24; ty = Syntax.tyRef Syntax.erased Syntax.imm (Syntax.tyArray (Syntax.tyInt Syntax.w16) 768); ref = λ x. x },
-                (
-                  record { pos = 5; st = List.[]; d = 0; at = λ x. x },
-                  (record { pos = 6; st = List.[]; d = 0; at = λ x. x }, (Num.vAt 7 λ x. x, tt)),
-                ),
+                (record { pos = 5; st = List.[]; d = 0; at = λ x. x }, (record { pos = 6; st = List.[]; d = 0; at = λ x. x }, (Num.vAt 7 λ x. x, tt))),
               ),
             ),
           ),
         ),
       ),
     ),
-  ) 0 (List._∷_ 0 (List._∷_ 1 (List._∷_ 3
-      (List._∷_ 4 (List._∷_ 5 (List._∷_ 6 List.[])))))) (Syntax.tyEnum (List._∷_ 98 (List._∷_ 108 (List._∷_ 111 (List._∷_ 99 (List._∷_ 107 (List._∷_ 58 (List._∷_ 58 (List._∷_ 87 (List._∷_ 97 (List._∷_ 108
-      (List._∷_ 107 (List._∷_ 101 (List._∷_ 100 List.[]))))))))))))) (Syntax.ttcons (Syntax.tcons (Syntax.tyStruct (List._∷_ 98 (List._∷_ 105 (List._∷_ 116 (List._∷_ 115 (List._∷_ 58 (List._∷_ 58
-      (List._∷_ 66 (List._∷_ 105 (List._∷_ 116 (List._∷_ 80 (List._∷_ 111 (List._∷_ 115 (List._∷_ 105 (List._∷_ 116 (List._∷_ 105 (List._∷_ 111 (List._∷_ 110 List.[]))))))))))))))))) (Syntax.tcons
-      (Syntax.tyInt Syntax.w64) Syntax.tnil)) (Syntax.tcons (Syntax.tyInt Syntax.w64) Syntax.tnil)) (Syntax.ttcons (Syntax.tcons (Syntax.tyInt Syntax.w64) Syntax.tnil) Syntax.ttnil)))
+  ) 0 (List._∷_ 0 (List._∷_ 1 (List._∷_ 3 (List._∷_ 4
+      (List._∷_ 5 (List._∷_ 6 List.[])))))) (Syntax.tyEnum (List._∷_ 98 (List._∷_ 108 (List._∷_ 111 (List._∷_ 99 (List._∷_ 107 (List._∷_ 58 (List._∷_ 58 (List._∷_ 87 (List._∷_ 97 (List._∷_ 108 (List._∷_
+      107 (List._∷_ 101 (List._∷_ 100 List.[]))))))))))))) (Syntax.ttcons (Syntax.tcons y3 (Syntax.tcons (Syntax.tyInt Syntax.w64) Syntax.tnil)) (Syntax.ttcons (Syntax.tcons (Syntax.tyInt Syntax.w64)
+      Syntax.tnil) Syntax.ttnil)))
 
   abbrev s35 : (bs : List.List Nat.ℕ) → Typed.Mo T36 → Typed.Mo T37
   s35 = λ bs. Scalar.n-room T36 24 (Syntax.tyRef Syntax.erased Syntax.imm (Syntax.tyArray (Syntax.tyInt Syntax.w16) 768))
 
   abbrev s36 : (bs : List.List Nat.ℕ) → Typed.Mo T37 → Typed.Mo T38
-  s36 = λ bs. Scalar.n-room T37 4 (Syntax.tyStruct (List._∷_ 98 (List._∷_ 108 (List._∷_ 111 (List._∷_ 99 (List._∷_ 107 (List._∷_ 58 (List._∷_ 58 (List._∷_ 70 (List._∷_ 111 (List._∷_ 114 (List._∷_ 109
-      List.[]))))))))))) (Syntax.tcons (Syntax.tyInt Syntax.w32) (Syntax.tcons Syntax.tyBool Syntax.tnil)))
+  s36 = λ bs. Scalar.n-room T37 4 y4
 
   abbrev s37 : (bs : List.List Nat.ℕ) → Typed.Mo T38 → Typed.Mo T39
   s37 = λ bs. Scalar.n-room T38 5 (Syntax.tyArray (Syntax.tyInt Syntax.w8) 36)
 
   abbrev s38 : (bs : List.List Nat.ℕ) → Typed.Mo T39 → Typed.Mo T40
-  s38 = λ bs. Scalar.n-room T39 6 (Syntax.tyStruct (List._∷_ 109 (List._∷_ 97 (List._∷_ 112 (List._∷_ 58 (List._∷_ 58 (List._∷_ 80 (List._∷_ 97 (List._∷_ 114 (List._∷_ 116 List.[])))))))))
-      (Syntax.tcons (Syntax.tyInt Syntax.w64) (Syntax.tcons (Syntax.tyInt Syntax.w64) (Syntax.tcons (Syntax.tyInt Syntax.w64) (Syntax.tcons (Syntax.tyInt Syntax.w64) (Syntax.tcons (Syntax.tyInt
-      Syntax.w64) (Syntax.tcons (Syntax.tyInt Syntax.w64) Syntax.tnil)))))))
+  s38 = λ bs. Scalar.n-room T39 6 y0
 
   abbrev s39 : (bs : List.List Nat.ℕ) → Typed.Mo T40 → Typed.Mo T41
   s39 = λ bs. Scalar.n-room T40 11 (Syntax.tyInt Syntax.w64)
@@ -1988,7 +1031,7 @@ module _ (claims· : Claims) where
     module _ (M : Type 1) where
       abbrev pub Closed : Type 2
       Closed = (𝓤 : URA.URA M) (H : Wp.Heap 𝓤) (A : Atoms.Atoms 𝓤) (W : Kit.Given 𝓤 H A) (𝓣 : Wp.Tables 𝓤 H) (known0 : Plain.Known 𝓤 H A W 𝓣 0 ps·0 r·0 (claims· .0) (claims· .1) "map::xtrans_places")
-          (known1 : Plain.Known 𝓤 H A W 𝓣 0 ps·1 r·1 (claims· .2) (claims· .3) "block::records::cleared") (known2 : Plain.Known 𝓤 H A W 𝓣 0 ps·2 r·2 (claims· .4) (claims· .5) "block::width") (known3 :
+          (known1 : Plain.Known 𝓤 H A W 𝓣 0 ps·1 r·1 (claims· .2) (claims· .3) "block::records::cleared") (known2 : Plain.Known 𝓤 H A W 𝓣 0 ps·2 r·2 (claims· .4) (claims· .5) "map::width") (known3 :
           Plain.Known 𝓤 H A W 𝓣 6 ps·3 r·3 (claims· .6) (claims· .7) "block::reading::walk") → Statement.Triple 𝓤 (Wp.WpFn 𝓤 H (𝓣 .C) (𝓣 .Λ) (Function.fnOf 3 ps r xs m hs body)) (Function.plainOf 𝓤 H A 3
           ps r Pre· Post·)
 
@@ -2173,776 +1216,475 @@ module _ (claims· : Claims) where
       module _ {M : Type 1} (𝓤 : URA.URA M) (H : Wp.Heap 𝓤) (A : Atoms.Atoms 𝓤) (W : Kit.Given 𝓤 H A) (𝓣 : Wp.Tables 𝓤 H) where
         abbrev Knowns : Type 1
         Knowns = Plain.Known 𝓤 H A W 𝓣 0 ps·0 r·0 (claims· .0) (claims· .1) "map::xtrans_places" × Plain.Known 𝓤 H A W 𝓣 0 ps·1 r·1 (claims· .2) (claims· .3) "block::records::cleared" × Plain.Known 𝓤
-            H A W 𝓣 0 ps·2 r·2 (claims· .4) (claims· .5) "block::width" × Plain.Known 𝓤 H A W 𝓣 6 ps·3 r·3 (claims· .6) (claims· .7) "block::reading::walk"
+            H A W 𝓣 0 ps·2 r·2 (claims· .4) (claims· .5) "map::width" × Plain.Known 𝓤 H A W 𝓣 6 ps·3 r·3 (claims· .6) (claims· .7) "block::reading::walk"
 
       module _ (κs : Lifetimes.Lfts 3) (qs : Lifetimes.Shares 3) where
         abbrev g29 : List.List Row.Entry
-        g29 = List._∷_ (
-          0,
-          Rows'.any-gone (Syntax.tyEnum (List._∷_ 98 (List._∷_ 108 (List._∷_ 111 (List._∷_ 99 (List._∷_ 107 (List._∷_ 58 (List._∷_ 58 (List._∷_ 87 (List._∷_ 97 (List._∷_ 108
-              (List._∷_ 107 (List._∷_ 101 (List._∷_ 100 List.[]))))))))))))) (Syntax.ttcons (Syntax.tcons (Syntax.tyStruct (List._∷_ 98 (List._∷_ 105 (List._∷_ 116 (List._∷_ 115 (List._∷_ 58 (List._∷_ 58
-              (List._∷_ 66 (List._∷_ 105 (List._∷_ 116 (List._∷_ 80 (List._∷_ 111 (List._∷_ 115 (List._∷_ 105 (List._∷_ 116 (List._∷_ 105 (List._∷_ 111 (List._∷_ 110 List.[]))))))))))))))))) (Syntax.tcons
-              (Syntax.tyInt Syntax.w64) Syntax.tnil)) (Syntax.tcons (Syntax.tyInt Syntax.w64) Syntax.tnil)) (Syntax.ttcons (Syntax.tcons (Syntax.tyInt Syntax.w64) Syntax.tnil) Syntax.ttnil))),
-        ) (List._∷_ (
-          1,
-          Rows'.sslice (Referent.rtF (Referent.fInt Syntax.w8)) (Syntax.tyRef (Syntax.named 0) Syntax.imm (Syntax.tyInt Syntax.w8)) 0,
-        ) (List._∷_ (
-          2,
-          Rows'.sslice (Referent.rtF (Referent.fInt
-              Syntax.w8)) (Syntax.tyRef (Syntax.named 1) Syntax.imm (Syntax.tyInt Syntax.w8)) 1,
-        ) (List._∷_ (
-          3,
-          Relend.mslice-owed (Referent.rtF (Referent.fInt Syntax.w16)) (Syntax.tyRef (Syntax.named 2)
-              Syntax.mut (Syntax.tyInt Syntax.w16)) 2 5 (Row.lease (κs .1 .1 .0) (qs .1 .1 .0)),
-        ) (List._∷_ (4, Rows'.whole (Declared'.row Form.the-type)) (List._∷_ (
-          5,
-          Rows.arrF (Referent.rtF
-              (Referent.fInt Syntax.w8)) 36 0,
-        ) (List._∷_ (6, Rows'.whole (Declared'.row Part.the-type)) (List._∷_ (7, Rows'.sc-here (Row.sInt Syntax.w64)) (List._∷_ (
-          8,
-          Rows.arrF (Referent.rtF
-              (Referent.fInt Syntax.w16)) 768 0,
-        ) (List._∷_ (9, Rows.arr-owedM (Referent.rtF (Referent.fInt Syntax.w16)) 9252 3) (List._∷_ (10, Rows.arr-owed (Element.type) 336 4) (List._∷_ (
-          11,
-          Rows'.sc-here (Row.sInt Syntax.w64),
-        ) (List._∷_ (12, Rows'.any-gone (Syntax.tyArray (Syntax.tyInt Syntax.w16) 768)) (List._∷_ (13, Rows'.any-gone (Element.held)) (List._∷_ (
-          14,
-          Rows'.any-gone (Syntax.tyInt Syntax.w64),
-        ) (List._∷_ (15, Rows'.any-gone (Syntax.tyInt Syntax.w64)) List.[])))))))))))))))
+        g29 = List._∷_ e0 (List._∷_ e2 (List._∷_ e25 (List._∷_
+            (3, Relend.mslice-owed (Referent.rtF (Referent.fInt Syntax.w16)) (Syntax.tyRef (Syntax.named 2) Syntax.mut (Syntax.tyInt Syntax.w16)) 2 5 (Row.lease (κs .1 .1 .0) (qs .1 .1 .0))) (List._∷_ e39
+            (List._∷_ e41 (List._∷_ e43 (List._∷_ e44 (List._∷_ e47 (List._∷_ e49 (List._∷_ e4 (List._∷_ e7 (List._∷_ e8 (List._∷_ e11 (List._∷_ e12 (List._∷_ e14 List.[])))))))))))))))
 
         abbrev g32 : List.List Row.Entry
-        g32 = List._∷_ (
-          0,
-          Rows'.any-gone (Syntax.tyEnum (List._∷_ 98 (List._∷_ 108 (List._∷_ 111 (List._∷_ 99 (List._∷_ 107 (List._∷_ 58 (List._∷_ 58 (List._∷_ 87 (List._∷_ 97 (List._∷_ 108
-              (List._∷_ 107 (List._∷_ 101 (List._∷_ 100 List.[]))))))))))))) (Syntax.ttcons (Syntax.tcons (Syntax.tyStruct (List._∷_ 98 (List._∷_ 105 (List._∷_ 116 (List._∷_ 115 (List._∷_ 58 (List._∷_ 58
-              (List._∷_ 66 (List._∷_ 105 (List._∷_ 116 (List._∷_ 80 (List._∷_ 111 (List._∷_ 115 (List._∷_ 105 (List._∷_ 116 (List._∷_ 105 (List._∷_ 111 (List._∷_ 110 List.[]))))))))))))))))) (Syntax.tcons
-              (Syntax.tyInt Syntax.w64) Syntax.tnil)) (Syntax.tcons (Syntax.tyInt Syntax.w64) Syntax.tnil)) (Syntax.ttcons (Syntax.tcons (Syntax.tyInt Syntax.w64) Syntax.tnil) Syntax.ttnil))),
-        ) (List._∷_ (
-          1,
-          Rows'.sslice (Referent.rtF (Referent.fInt Syntax.w8)) (Syntax.tyRef (Syntax.named 0) Syntax.imm (Syntax.tyInt Syntax.w8)) 0,
-        ) (List._∷_ (
-          2,
-          Rows'.sslice (Referent.rtF (Referent.fInt
-              Syntax.w8)) (Syntax.tyRef (Syntax.named 1) Syntax.imm (Syntax.tyInt Syntax.w8)) 1,
-        ) (List._∷_ (
-          3,
-          Relend.mslice-owed (Referent.rtF (Referent.fInt Syntax.w16)) (Syntax.tyRef (Syntax.named 2)
-              Syntax.mut (Syntax.tyInt Syntax.w16)) 2 5 (Row.lease (κs .1 .1 .0) (qs .1 .1 .0)),
-        ) (List._∷_ (4, Rows'.whole (Declared'.row Form.the-type)) (List._∷_ (
-          5,
-          Rows.arrF (Referent.rtF
-              (Referent.fInt Syntax.w8)) 36 0,
-        ) (List._∷_ (6, Rows'.whole (Declared'.row Part.the-type)) (List._∷_ (7, Rows'.sc-here (Row.sInt Syntax.w64)) (List._∷_ (
-          8,
-          Rows'.sc-shr (Rows.arrF
-              (Referent.rtF (Referent.fInt Syntax.w16)) 768 0) (Array'.Array (Referent.rtF (Referent.fInt Syntax.w16)) 768) (λ x. x) 6,
-        ) (List._∷_ (
-          9,
-          Rows.arr-owedM (Referent.rtF (Referent.fInt
-              Syntax.w16)) 9252 3,
-        ) (List._∷_ (10, Rows.arr-owed (Element.type) 336 4) (List._∷_ (11, Rows'.sc-here (Row.sInt Syntax.w64)) (List._∷_ (
-          12,
-          Rows'.any-gone (Syntax.tyArray (Syntax.tyInt
-              Syntax.w16) 768),
-        ) (List._∷_ (13, Rows'.any-gone (Element.held)) (List._∷_ (14, Rows'.any-gone (Syntax.tyInt Syntax.w64)) (List._∷_ (15, Rows'.any-gone (Syntax.tyInt Syntax.w64))
-            List.[])))))))))))))))
+        g32 = List._∷_ e0 (List._∷_ e2 (List._∷_ e25 (List._∷_
+            (3, Relend.mslice-owed (Referent.rtF (Referent.fInt Syntax.w16)) (Syntax.tyRef (Syntax.named 2) Syntax.mut (Syntax.tyInt Syntax.w16)) 2 5 (Row.lease (κs .1 .1 .0) (qs .1 .1 .0))) (List._∷_ e39
+            (List._∷_ e41 (List._∷_ e43 (List._∷_ e44 (List._∷_ e46 (List._∷_ e49 (List._∷_ e4 (List._∷_ e7 (List._∷_ e8 (List._∷_ e11 (List._∷_ e12 (List._∷_ e14 List.[])))))))))))))))
 
         abbrev g34 : List.List Row.Entry
-        g34 = List._∷_ (0, Rows'.whole (Declared.row Walked.the-type)) (List._∷_ (
-          1,
-          Rows'.sslice (Referent.rtF (Referent.fInt Syntax.w8)) (Syntax.tyRef (Syntax.named 0) Syntax.imm (Syntax.tyInt
-              Syntax.w8)) 0,
-        ) (List._∷_ (2, Rows'.sslice (Referent.rtF (Referent.fInt Syntax.w8)) (Syntax.tyRef (Syntax.named 1) Syntax.imm (Syntax.tyInt Syntax.w8)) 1) (List._∷_ (
-          3,
-          Relend.mslice-owed
-              (Referent.rtF (Referent.fInt Syntax.w16)) (Syntax.tyRef (Syntax.named 2) Syntax.mut (Syntax.tyInt Syntax.w16)) 2 5 (Row.lease (κs .1 .1 .0) (qs .1 .1 .0)),
-        ) (List._∷_ (
-          4,
-          Rows'.whole
-              (Declared'.row Form.the-type),
-        ) (List._∷_ (5, Rows.arrF (Referent.rtF (Referent.fInt Syntax.w8)) 36 0) (List._∷_ (6, Rows'.whole (Declared'.row Part.the-type)) (List._∷_ (
-          7,
-          Rows'.sc-here
-              (Row.sInt Syntax.w64),
-        ) (List._∷_ (8, Rows'.sc-shr (Rows.arrF (Referent.rtF (Referent.fInt Syntax.w16)) 768 0) (Array'.Array (Referent.rtF (Referent.fInt Syntax.w16)) 768) (λ x. x) 6)
-            (List._∷_ (9, Rows.arr-owedM (Referent.rtF (Referent.fInt Syntax.w16)) 9252 3) (List._∷_ (10, Rows.arr-owed (Element.type) 336 4) (List._∷_ (11, Rows'.sc-here (Row.sInt Syntax.w64))
-            (List._∷_ (12, Rows'.any-gone (Syntax.tyArray (Syntax.tyInt Syntax.w16) 768)) (List._∷_ (13, Rows'.any-gone (Element.held)) (List._∷_ (14, Rows'.any-gone (Syntax.tyInt Syntax.w64))
-            (List._∷_ (15, Rows'.any-gone (Syntax.tyInt Syntax.w64)) List.[])))))))))))))))
+        g34 = List._∷_ e1 (List._∷_ e2 (List._∷_ e25 (List._∷_
+            (3, Relend.mslice-owed (Referent.rtF (Referent.fInt Syntax.w16)) (Syntax.tyRef (Syntax.named 2) Syntax.mut (Syntax.tyInt Syntax.w16)) 2 5 (Row.lease (κs .1 .1 .0) (qs .1 .1 .0))) (List._∷_ e39
+            (List._∷_ e41 (List._∷_ e43 (List._∷_ e44 (List._∷_ e46 (List._∷_ e49 (List._∷_ e4 (List._∷_ e7 (List._∷_ e8 (List._∷_ e11 (List._∷_ e12 (List._∷_ e14 List.[])))))))))))))))
 
         abbrev g37 : List.List Row.Entry
-        g37 = List._∷_ (0, Rows'.whole (Declared.row Walked.the-type)) (List._∷_ (
-          1,
-          Rows'.sslice (Referent.rtF (Referent.fInt Syntax.w8)) (Syntax.tyRef (Syntax.named 0) Syntax.imm (Syntax.tyInt
-              Syntax.w8)) 0,
-        ) (List._∷_ (2, Rows'.sslice (Referent.rtF (Referent.fInt Syntax.w8)) (Syntax.tyRef (Syntax.named 1) Syntax.imm (Syntax.tyInt Syntax.w8)) 1) (List._∷_ (
-          3,
-          Relend.mslice-owed
-              (Referent.rtF (Referent.fInt Syntax.w16)) (Syntax.tyRef (Syntax.named 2) Syntax.mut (Syntax.tyInt Syntax.w16)) 2 5 (Row.lease (κs .1 .1 .0) (qs .1 .1 .0)),
-        ) (List._∷_ (
-          4,
-          Rows'.any-gone
-              (Syntax.tyStruct (List._∷_ 98 (List._∷_ 108 (List._∷_ 111 (List._∷_ 99 (List._∷_ 107 (List._∷_ 58 (List._∷_ 58 (List._∷_ 70 (List._∷_ 111 (List._∷_ 114 (List._∷_ 109 List.[])))))))))))
-              (Syntax.tcons (Syntax.tyInt Syntax.w32) (Syntax.tcons Syntax.tyBool Syntax.tnil))),
-        ) (List._∷_ (5, Rows.arrF (Referent.rtF (Referent.fInt Syntax.w8)) 36 0) (List._∷_ (
-          6,
-          Rows'.whole
-              (Declared'.row Part.the-type),
-        ) (List._∷_ (7, Rows'.sc-here (Row.sInt Syntax.w64)) (List._∷_ (
-          8,
-          Rows'.sc-shr (Rows.arrF (Referent.rtF (Referent.fInt Syntax.w16)) 768 0) (Array'.Array
-              (Referent.rtF (Referent.fInt Syntax.w16)) 768) (λ x. x) 6,
-        ) (List._∷_ (9, Rows.arr-owedM (Referent.rtF (Referent.fInt Syntax.w16)) 9252 3) (List._∷_ (
-          10,
-          Rows.arr-owed (Element.type) 336 4,
-        ) (List._∷_ (11, Rows'.sc-here (Row.sInt Syntax.w64)) (List._∷_ (12, Rows'.any-gone (Syntax.tyArray (Syntax.tyInt Syntax.w16) 768)) (List._∷_ (13, Rows'.any-gone (Element.held)) (List._∷_ (
-          14,
-          Rows'.any-gone (Syntax.tyInt Syntax.w64),
-        ) (List._∷_ (15, Rows'.any-gone (Syntax.tyInt Syntax.w64)) List.[])))))))))))))))
+        g37 = List._∷_ e1 (List._∷_ e2 (List._∷_ e25 (List._∷_
+            (3, Relend.mslice-owed (Referent.rtF (Referent.fInt Syntax.w16)) (Syntax.tyRef (Syntax.named 2) Syntax.mut (Syntax.tyInt Syntax.w16)) 2 5 (Row.lease (κs .1 .1 .0) (qs .1 .1 .0))) (List._∷_ e38
+            (List._∷_ e41 (List._∷_ e43 (List._∷_ e44 (List._∷_ e46 (List._∷_ e49 (List._∷_ e4 (List._∷_ e7 (List._∷_ e8 (List._∷_ e11 (List._∷_ e12 (List._∷_ e14 List.[])))))))))))))))
 
         abbrev g38 : List.List Row.Entry
-        g38 = List._∷_ (0, Rows'.whole (Declared.row Walked.the-type)) (List._∷_ (
-          1,
-          Rows'.sslice (Referent.rtF (Referent.fInt Syntax.w8)) (Syntax.tyRef (Syntax.named 0) Syntax.imm (Syntax.tyInt
-              Syntax.w8)) 0,
-        ) (List._∷_ (2, Rows'.sslice (Referent.rtF (Referent.fInt Syntax.w8)) (Syntax.tyRef (Syntax.named 1) Syntax.imm (Syntax.tyInt Syntax.w8)) 1) (List._∷_ (
-          3,
-          Relend.mslice-owed
-              (Referent.rtF (Referent.fInt Syntax.w16)) (Syntax.tyRef (Syntax.named 2) Syntax.mut (Syntax.tyInt Syntax.w16)) 2 5 (Row.lease (κs .1 .1 .0) (qs .1 .1 .0)),
-        ) (List._∷_ (
-          4,
-          Rows'.any-gone
-              (Syntax.tyStruct (List._∷_ 98 (List._∷_ 108 (List._∷_ 111 (List._∷_ 99 (List._∷_ 107 (List._∷_ 58 (List._∷_ 58 (List._∷_ 70 (List._∷_ 111 (List._∷_ 114 (List._∷_ 109 List.[])))))))))))
-              (Syntax.tcons (Syntax.tyInt Syntax.w32) (Syntax.tcons Syntax.tyBool Syntax.tnil))),
-        ) (List._∷_ (5, Rows'.any-gone (Syntax.tyArray (Syntax.tyInt Syntax.w8) 36)) (List._∷_ (
-          6,
-          Rows'.whole
-              (Declared'.row Part.the-type),
-        ) (List._∷_ (7, Rows'.sc-here (Row.sInt Syntax.w64)) (List._∷_ (
-          8,
-          Rows'.sc-shr (Rows.arrF (Referent.rtF (Referent.fInt Syntax.w16)) 768 0) (Array'.Array
-              (Referent.rtF (Referent.fInt Syntax.w16)) 768) (λ x. x) 6,
-        ) (List._∷_ (9, Rows.arr-owedM (Referent.rtF (Referent.fInt Syntax.w16)) 9252 3) (List._∷_ (
-          10,
-          Rows.arr-owed (Element.type) 336 4,
-        ) (List._∷_ (11, Rows'.sc-here (Row.sInt Syntax.w64)) (List._∷_ (12, Rows'.any-gone (Syntax.tyArray (Syntax.tyInt Syntax.w16) 768)) (List._∷_ (13, Rows'.any-gone (Element.held)) (List._∷_ (
-          14,
-          Rows'.any-gone (Syntax.tyInt Syntax.w64),
-        ) (List._∷_ (15, Rows'.any-gone (Syntax.tyInt Syntax.w64)) List.[])))))))))))))))
+        g38 = List._∷_ e1 (List._∷_ e2 (List._∷_ e25 (List._∷_
+            (3, Relend.mslice-owed (Referent.rtF (Referent.fInt Syntax.w16)) (Syntax.tyRef (Syntax.named 2) Syntax.mut (Syntax.tyInt Syntax.w16)) 2 5 (Row.lease (κs .1 .1 .0) (qs .1 .1 .0))) (List._∷_ e38
+            (List._∷_ e40 (List._∷_ e43 (List._∷_ e44 (List._∷_ e46 (List._∷_ e49 (List._∷_ e4 (List._∷_ e7 (List._∷_ e8 (List._∷_ e11 (List._∷_ e12 (List._∷_ e14 List.[])))))))))))))))
 
         abbrev g39 : List.List Row.Entry
-        g39 = List._∷_ (0, Rows'.whole (Declared.row Walked.the-type)) (List._∷_ (
-          1,
-          Rows'.sslice (Referent.rtF (Referent.fInt Syntax.w8)) (Syntax.tyRef (Syntax.named 0) Syntax.imm (Syntax.tyInt
-              Syntax.w8)) 0,
-        ) (List._∷_ (2, Rows'.sslice (Referent.rtF (Referent.fInt Syntax.w8)) (Syntax.tyRef (Syntax.named 1) Syntax.imm (Syntax.tyInt Syntax.w8)) 1) (List._∷_ (
-          3,
-          Relend.mslice-owed
-              (Referent.rtF (Referent.fInt Syntax.w16)) (Syntax.tyRef (Syntax.named 2) Syntax.mut (Syntax.tyInt Syntax.w16)) 2 5 (Row.lease (κs .1 .1 .0) (qs .1 .1 .0)),
-        ) (List._∷_ (
-          4,
-          Rows'.any-gone
-              (Syntax.tyStruct (List._∷_ 98 (List._∷_ 108 (List._∷_ 111 (List._∷_ 99 (List._∷_ 107 (List._∷_ 58 (List._∷_ 58 (List._∷_ 70 (List._∷_ 111 (List._∷_ 114 (List._∷_ 109 List.[])))))))))))
-              (Syntax.tcons (Syntax.tyInt Syntax.w32) (Syntax.tcons Syntax.tyBool Syntax.tnil))),
-        ) (List._∷_ (5, Rows'.any-gone (Syntax.tyArray (Syntax.tyInt Syntax.w8) 36)) (List._∷_ (
-          6,
-          Rows'.any-gone
-              (Syntax.tyStruct (List._∷_ 109 (List._∷_ 97 (List._∷_ 112 (List._∷_ 58 (List._∷_ 58 (List._∷_ 80 (List._∷_ 97 (List._∷_ 114 (List._∷_ 116 List.[]))))))))) (Syntax.tcons (Syntax.tyInt
-              Syntax.w64) (Syntax.tcons (Syntax.tyInt Syntax.w64) (Syntax.tcons (Syntax.tyInt Syntax.w64) (Syntax.tcons (Syntax.tyInt Syntax.w64) (Syntax.tcons (Syntax.tyInt Syntax.w64) (Syntax.tcons
-              (Syntax.tyInt Syntax.w64) Syntax.tnil))))))),
-        ) (List._∷_ (7, Rows'.sc-here (Row.sInt Syntax.w64)) (List._∷_ (
-          8,
-          Rows'.sc-shr (Rows.arrF (Referent.rtF (Referent.fInt Syntax.w16)) 768 0)
-              (Array'.Array (Referent.rtF (Referent.fInt Syntax.w16)) 768) (λ x. x) 6,
-        ) (List._∷_ (9, Rows.arr-owedM (Referent.rtF (Referent.fInt Syntax.w16)) 9252 3) (List._∷_ (
-          10,
-          Rows.arr-owed
-              (Element.type) 336 4,
-        ) (List._∷_ (11, Rows'.sc-here (Row.sInt Syntax.w64)) (List._∷_ (12, Rows'.any-gone (Syntax.tyArray (Syntax.tyInt Syntax.w16) 768)) (List._∷_ (
-          13,
-          Rows'.any-gone
-              (Element.held),
-        ) (List._∷_ (14, Rows'.any-gone (Syntax.tyInt Syntax.w64)) (List._∷_ (15, Rows'.any-gone (Syntax.tyInt Syntax.w64)) List.[])))))))))))))))
+        g39 = List._∷_ e1 (List._∷_ e2 (List._∷_ e25 (List._∷_
+            (3, Relend.mslice-owed (Referent.rtF (Referent.fInt Syntax.w16)) (Syntax.tyRef (Syntax.named 2) Syntax.mut (Syntax.tyInt Syntax.w16)) 2 5 (Row.lease (κs .1 .1 .0) (qs .1 .1 .0))) (List._∷_ e38
+            (List._∷_ e40 (List._∷_ e42 (List._∷_ e44 (List._∷_ e46 (List._∷_ e49 (List._∷_ e4 (List._∷_ e7 (List._∷_ e8 (List._∷_ e11 (List._∷_ e12 (List._∷_ e14 List.[])))))))))))))))
 
         abbrev g40 : List.List Row.Entry
-        g40 = List._∷_ (0, Rows'.whole (Declared.row Walked.the-type)) (List._∷_ (
-          1,
-          Rows'.sslice (Referent.rtF (Referent.fInt Syntax.w8)) (Syntax.tyRef (Syntax.named 0) Syntax.imm (Syntax.tyInt
-              Syntax.w8)) 0,
-        ) (List._∷_ (2, Rows'.sslice (Referent.rtF (Referent.fInt Syntax.w8)) (Syntax.tyRef (Syntax.named 1) Syntax.imm (Syntax.tyInt Syntax.w8)) 1) (List._∷_ (
-          3,
-          Relend.mslice-owed
-              (Referent.rtF (Referent.fInt Syntax.w16)) (Syntax.tyRef (Syntax.named 2) Syntax.mut (Syntax.tyInt Syntax.w16)) 2 5 (Row.lease (κs .1 .1 .0) (qs .1 .1 .0)),
-        ) (List._∷_ (
-          4,
-          Rows'.any-gone
-              (Syntax.tyStruct (List._∷_ 98 (List._∷_ 108 (List._∷_ 111 (List._∷_ 99 (List._∷_ 107 (List._∷_ 58 (List._∷_ 58 (List._∷_ 70 (List._∷_ 111 (List._∷_ 114 (List._∷_ 109 List.[])))))))))))
-              (Syntax.tcons (Syntax.tyInt Syntax.w32) (Syntax.tcons Syntax.tyBool Syntax.tnil))),
-        ) (List._∷_ (5, Rows'.any-gone (Syntax.tyArray (Syntax.tyInt Syntax.w8) 36)) (List._∷_ (
-          6,
-          Rows'.any-gone
-              (Syntax.tyStruct (List._∷_ 109 (List._∷_ 97 (List._∷_ 112 (List._∷_ 58 (List._∷_ 58 (List._∷_ 80 (List._∷_ 97 (List._∷_ 114 (List._∷_ 116 List.[]))))))))) (Syntax.tcons (Syntax.tyInt
-              Syntax.w64) (Syntax.tcons (Syntax.tyInt Syntax.w64) (Syntax.tcons (Syntax.tyInt Syntax.w64) (Syntax.tcons (Syntax.tyInt Syntax.w64) (Syntax.tcons (Syntax.tyInt Syntax.w64) (Syntax.tcons
-              (Syntax.tyInt Syntax.w64) Syntax.tnil))))))),
-        ) (List._∷_ (7, Rows'.sc-here (Row.sInt Syntax.w64)) (List._∷_ (
-          8,
-          Rows'.sc-shr (Rows.arrF (Referent.rtF (Referent.fInt Syntax.w16)) 768 0)
-              (Array'.Array (Referent.rtF (Referent.fInt Syntax.w16)) 768) (λ x. x) 6,
-        ) (List._∷_ (9, Rows.arr-owedM (Referent.rtF (Referent.fInt Syntax.w16)) 9252 3) (List._∷_ (
-          10,
-          Rows.arr-owed
-              (Element.type) 336 4,
-        ) (List._∷_ (11, Rows'.any-gone (Syntax.tyInt Syntax.w64)) (List._∷_ (12, Rows'.any-gone (Syntax.tyArray (Syntax.tyInt Syntax.w16) 768)) (List._∷_ (
-          13,
-          Rows'.any-gone
-              (Element.held),
-        ) (List._∷_ (14, Rows'.any-gone (Syntax.tyInt Syntax.w64)) (List._∷_ (15, Rows'.any-gone (Syntax.tyInt Syntax.w64)) List.[])))))))))))))))
+        g40 = List._∷_ e1 (List._∷_ e2 (List._∷_ e25 (List._∷_
+            (3, Relend.mslice-owed (Referent.rtF (Referent.fInt Syntax.w16)) (Syntax.tyRef (Syntax.named 2) Syntax.mut (Syntax.tyInt Syntax.w16)) 2 5 (Row.lease (κs .1 .1 .0) (qs .1 .1 .0))) (List._∷_ e38
+            (List._∷_ e40 (List._∷_ e42 (List._∷_ e44 (List._∷_ e46 (List._∷_ e49 (List._∷_ e4 (List._∷_ e6 (List._∷_ e8 (List._∷_ e11 (List._∷_ e12 (List._∷_ e14 List.[])))))))))))))))
 
         abbrev g41 : List.List Row.Entry
-        g41 = List._∷_ (0, Rows'.whole (Declared.row Walked.the-type)) (List._∷_ (
-          1,
-          Rows'.sslice (Referent.rtF (Referent.fInt Syntax.w8)) (Syntax.tyRef (Syntax.named 0) Syntax.imm (Syntax.tyInt
-              Syntax.w8)) 0,
-        ) (List._∷_ (2, Rows'.sslice (Referent.rtF (Referent.fInt Syntax.w8)) (Syntax.tyRef (Syntax.named 1) Syntax.imm (Syntax.tyInt Syntax.w8)) 1) (List._∷_ (
-          3,
-          Relend.mslice-owed
-              (Referent.rtF (Referent.fInt Syntax.w16)) (Syntax.tyRef (Syntax.named 2) Syntax.mut (Syntax.tyInt Syntax.w16)) 2 5 (Row.lease (κs .1 .1 .0) (qs .1 .1 .0)),
-        ) (List._∷_ (
-          4,
-          Rows'.any-gone
-              (Syntax.tyStruct (List._∷_ 98 (List._∷_ 108 (List._∷_ 111 (List._∷_ 99 (List._∷_ 107 (List._∷_ 58 (List._∷_ 58 (List._∷_ 70 (List._∷_ 111 (List._∷_ 114 (List._∷_ 109 List.[])))))))))))
-              (Syntax.tcons (Syntax.tyInt Syntax.w32) (Syntax.tcons Syntax.tyBool Syntax.tnil))),
-        ) (List._∷_ (5, Rows'.any-gone (Syntax.tyArray (Syntax.tyInt Syntax.w8) 36)) (List._∷_ (
-          6,
-          Rows'.any-gone
-              (Syntax.tyStruct (List._∷_ 109 (List._∷_ 97 (List._∷_ 112 (List._∷_ 58 (List._∷_ 58 (List._∷_ 80 (List._∷_ 97 (List._∷_ 114 (List._∷_ 116 List.[]))))))))) (Syntax.tcons (Syntax.tyInt
-              Syntax.w64) (Syntax.tcons (Syntax.tyInt Syntax.w64) (Syntax.tcons (Syntax.tyInt Syntax.w64) (Syntax.tcons (Syntax.tyInt Syntax.w64) (Syntax.tcons (Syntax.tyInt Syntax.w64) (Syntax.tcons
-              (Syntax.tyInt Syntax.w64) Syntax.tnil))))))),
-        ) (List._∷_ (7, Rows'.sc-here (Row.sInt Syntax.w64)) (List._∷_ (
-          8,
-          Rows'.sc-shr (Rows.arrF (Referent.rtF (Referent.fInt Syntax.w16)) 768 0)
-              (Array'.Array (Referent.rtF (Referent.fInt Syntax.w16)) 768) (λ x. x) 6,
-        ) (List._∷_ (9, Rows.arrF (Referent.rtF (Referent.fInt Syntax.w16)) 9252 0) (List._∷_ (
-          10,
-          Rows.arr-owed
-              (Element.type) 336 4,
-        ) (List._∷_ (11, Rows'.any-gone (Syntax.tyInt Syntax.w64)) (List._∷_ (12, Rows'.any-gone (Syntax.tyArray (Syntax.tyInt Syntax.w16) 768)) (List._∷_ (
-          13,
-          Rows'.any-gone
-              (Element.held),
-        ) (List._∷_ (14, Rows'.any-gone (Syntax.tyInt Syntax.w64)) (List._∷_ (15, Rows'.any-gone (Syntax.tyInt Syntax.w64)) List.[])))))))))))))))
+        g41 = List._∷_ e1 (List._∷_ e2 (List._∷_ e25 (List._∷_
+            (3, Relend.mslice-owed (Referent.rtF (Referent.fInt Syntax.w16)) (Syntax.tyRef (Syntax.named 2) Syntax.mut (Syntax.tyInt Syntax.w16)) 2 5 (Row.lease (κs .1 .1 .0) (qs .1 .1 .0))) (List._∷_ e38
+            (List._∷_ e40 (List._∷_ e42 (List._∷_ e44 (List._∷_ e46 (List._∷_ e50 (List._∷_ e4 (List._∷_ e6 (List._∷_ e8 (List._∷_ e11 (List._∷_ e12 (List._∷_ e14 List.[])))))))))))))))
 
         abbrev g43 : List.List Row.Entry
-        g43 = List._∷_ (0, Rows'.whole (Declared.row Walked.the-type)) (List._∷_ (
-          1,
-          Rows'.sslice (Referent.rtF (Referent.fInt Syntax.w8)) (Syntax.tyRef (Syntax.named 0) Syntax.imm (Syntax.tyInt
-              Syntax.w8)) 0,
-        ) (List._∷_ (2, Rows'.sslice (Referent.rtF (Referent.fInt Syntax.w8)) (Syntax.tyRef (Syntax.named 1) Syntax.imm (Syntax.tyInt Syntax.w8)) 1) (List._∷_ (
-          3,
-          Relend.mslice-owed
-              (Referent.rtF (Referent.fInt Syntax.w16)) (Syntax.tyRef (Syntax.named 2) Syntax.mut (Syntax.tyInt Syntax.w16)) 2 5 (Row.lease (κs .1 .1 .0) (qs .1 .1 .0)),
-        ) (List._∷_ (
-          4,
-          Rows'.any-gone
-              (Syntax.tyStruct (List._∷_ 98 (List._∷_ 108 (List._∷_ 111 (List._∷_ 99 (List._∷_ 107 (List._∷_ 58 (List._∷_ 58 (List._∷_ 70 (List._∷_ 111 (List._∷_ 114 (List._∷_ 109 List.[])))))))))))
-              (Syntax.tcons (Syntax.tyInt Syntax.w32) (Syntax.tcons Syntax.tyBool Syntax.tnil))),
-        ) (List._∷_ (5, Rows'.any-gone (Syntax.tyArray (Syntax.tyInt Syntax.w8) 36)) (List._∷_ (
-          6,
-          Rows'.any-gone
-              (Syntax.tyStruct (List._∷_ 109 (List._∷_ 97 (List._∷_ 112 (List._∷_ 58 (List._∷_ 58 (List._∷_ 80 (List._∷_ 97 (List._∷_ 114 (List._∷_ 116 List.[]))))))))) (Syntax.tcons (Syntax.tyInt
-              Syntax.w64) (Syntax.tcons (Syntax.tyInt Syntax.w64) (Syntax.tcons (Syntax.tyInt Syntax.w64) (Syntax.tcons (Syntax.tyInt Syntax.w64) (Syntax.tcons (Syntax.tyInt Syntax.w64) (Syntax.tcons
-              (Syntax.tyInt Syntax.w64) Syntax.tnil))))))),
-        ) (List._∷_ (7, Rows'.sc-here (Row.sInt Syntax.w64)) (List._∷_ (
-          8,
-          Rows'.sc-shr (Rows.arrF (Referent.rtF (Referent.fInt Syntax.w16)) 768 0)
-              (Array'.Array (Referent.rtF (Referent.fInt Syntax.w16)) 768) (λ x. x) 6,
-        ) (List._∷_ (9, Rows'.any-gone (Syntax.tyArray (Syntax.tyInt Syntax.w16) 9252)) (List._∷_ (
-          10,
-          Rows.arr-owed
-              (Element.type) 336 4,
-        ) (List._∷_ (11, Rows'.any-gone (Syntax.tyInt Syntax.w64)) (List._∷_ (12, Rows'.any-gone (Syntax.tyArray (Syntax.tyInt Syntax.w16) 768)) (List._∷_ (
-          13,
-          Rows'.any-gone
-              (Element.held),
-        ) (List._∷_ (14, Rows'.any-gone (Syntax.tyInt Syntax.w64)) (List._∷_ (15, Rows'.any-gone (Syntax.tyInt Syntax.w64)) List.[])))))))))))))))
+        g43 = List._∷_ e1 (List._∷_ e2 (List._∷_ e25 (List._∷_
+            (3, Relend.mslice-owed (Referent.rtF (Referent.fInt Syntax.w16)) (Syntax.tyRef (Syntax.named 2) Syntax.mut (Syntax.tyInt Syntax.w16)) 2 5 (Row.lease (κs .1 .1 .0) (qs .1 .1 .0))) (List._∷_ e38
+            (List._∷_ e40 (List._∷_ e42 (List._∷_ e44 (List._∷_ e46 (List._∷_ e48 (List._∷_ e4 (List._∷_ e6 (List._∷_ e8 (List._∷_ e11 (List._∷_ e12 (List._∷_ e14 List.[])))))))))))))))
 
         abbrev g44 : List.List Row.Entry
-        g44 = List._∷_ (0, Rows'.whole (Declared.row Walked.the-type)) (List._∷_ (
-          1,
-          Rows'.sslice (Referent.rtF (Referent.fInt Syntax.w8)) (Syntax.tyRef (Syntax.named 0) Syntax.imm (Syntax.tyInt
-              Syntax.w8)) 0,
-        ) (List._∷_ (2, Rows'.sslice (Referent.rtF (Referent.fInt Syntax.w8)) (Syntax.tyRef (Syntax.named 1) Syntax.imm (Syntax.tyInt Syntax.w8)) 1) (List._∷_ (
-          3,
-          Relend.mslice-owed
-              (Referent.rtF (Referent.fInt Syntax.w16)) (Syntax.tyRef (Syntax.named 2) Syntax.mut (Syntax.tyInt Syntax.w16)) 2 5 (Row.lease (κs .1 .1 .0) (qs .1 .1 .0)),
-        ) (List._∷_ (
-          4,
-          Rows'.any-gone
-              (Syntax.tyStruct (List._∷_ 98 (List._∷_ 108 (List._∷_ 111 (List._∷_ 99 (List._∷_ 107 (List._∷_ 58 (List._∷_ 58 (List._∷_ 70 (List._∷_ 111 (List._∷_ 114 (List._∷_ 109 List.[])))))))))))
-              (Syntax.tcons (Syntax.tyInt Syntax.w32) (Syntax.tcons Syntax.tyBool Syntax.tnil))),
-        ) (List._∷_ (5, Rows'.any-gone (Syntax.tyArray (Syntax.tyInt Syntax.w8) 36)) (List._∷_ (
-          6,
-          Rows'.any-gone
-              (Syntax.tyStruct (List._∷_ 109 (List._∷_ 97 (List._∷_ 112 (List._∷_ 58 (List._∷_ 58 (List._∷_ 80 (List._∷_ 97 (List._∷_ 114 (List._∷_ 116 List.[]))))))))) (Syntax.tcons (Syntax.tyInt
-              Syntax.w64) (Syntax.tcons (Syntax.tyInt Syntax.w64) (Syntax.tcons (Syntax.tyInt Syntax.w64) (Syntax.tcons (Syntax.tyInt Syntax.w64) (Syntax.tcons (Syntax.tyInt Syntax.w64) (Syntax.tcons
-              (Syntax.tyInt Syntax.w64) Syntax.tnil))))))),
-        ) (List._∷_ (7, Rows'.sc-here (Row.sInt Syntax.w64)) (List._∷_ (
-          8,
-          Rows'.sc-shr (Rows.arrF (Referent.rtF (Referent.fInt Syntax.w16)) 768 0)
-              (Array'.Array (Referent.rtF (Referent.fInt Syntax.w16)) 768) (λ x. x) 6,
-        ) (List._∷_ (9, Rows'.any-gone (Syntax.tyArray (Syntax.tyInt Syntax.w16) 9252)) (List._∷_ (
-          10,
-          Rows.arrF
-              (Element.type) 336 0,
-        ) (List._∷_ (11, Rows'.any-gone (Syntax.tyInt Syntax.w64)) (List._∷_ (12, Rows'.any-gone (Syntax.tyArray (Syntax.tyInt Syntax.w16) 768)) (List._∷_ (
-          13,
-          Rows'.any-gone
-              (Element.held),
-        ) (List._∷_ (14, Rows'.any-gone (Syntax.tyInt Syntax.w64)) (List._∷_ (15, Rows'.any-gone (Syntax.tyInt Syntax.w64)) List.[])))))))))))))))
+        g44 = List._∷_ e1 (List._∷_ e2 (List._∷_ e25 (List._∷_
+            (3, Relend.mslice-owed (Referent.rtF (Referent.fInt Syntax.w16)) (Syntax.tyRef (Syntax.named 2) Syntax.mut (Syntax.tyInt Syntax.w16)) 2 5 (Row.lease (κs .1 .1 .0) (qs .1 .1 .0))) (List._∷_ e38
+            (List._∷_ e40 (List._∷_ e42 (List._∷_ e44 (List._∷_ e46 (List._∷_ e48 (List._∷_ e5 (List._∷_ e6 (List._∷_ e8 (List._∷_ e11 (List._∷_ e12 (List._∷_ e14 List.[])))))))))))))))
 
         abbrev g46 : List.List Row.Entry
-        g46 = List._∷_ (0, Rows'.whole (Declared.row Walked.the-type)) (List._∷_ (
-          1,
-          Rows'.sslice (Referent.rtF (Referent.fInt Syntax.w8)) (Syntax.tyRef (Syntax.named 0) Syntax.imm (Syntax.tyInt
-              Syntax.w8)) 0,
-        ) (List._∷_ (2, Rows'.sslice (Referent.rtF (Referent.fInt Syntax.w8)) (Syntax.tyRef (Syntax.named 1) Syntax.imm (Syntax.tyInt Syntax.w8)) 1) (List._∷_ (
-          3,
-          Relend.mslice-owed
-              (Referent.rtF (Referent.fInt Syntax.w16)) (Syntax.tyRef (Syntax.named 2) Syntax.mut (Syntax.tyInt Syntax.w16)) 2 5 (Row.lease (κs .1 .1 .0) (qs .1 .1 .0)),
-        ) (List._∷_ (
-          4,
-          Rows'.any-gone
-              (Syntax.tyStruct (List._∷_ 98 (List._∷_ 108 (List._∷_ 111 (List._∷_ 99 (List._∷_ 107 (List._∷_ 58 (List._∷_ 58 (List._∷_ 70 (List._∷_ 111 (List._∷_ 114 (List._∷_ 109 List.[])))))))))))
-              (Syntax.tcons (Syntax.tyInt Syntax.w32) (Syntax.tcons Syntax.tyBool Syntax.tnil))),
-        ) (List._∷_ (5, Rows'.any-gone (Syntax.tyArray (Syntax.tyInt Syntax.w8) 36)) (List._∷_ (
-          6,
-          Rows'.any-gone
-              (Syntax.tyStruct (List._∷_ 109 (List._∷_ 97 (List._∷_ 112 (List._∷_ 58 (List._∷_ 58 (List._∷_ 80 (List._∷_ 97 (List._∷_ 114 (List._∷_ 116 List.[]))))))))) (Syntax.tcons (Syntax.tyInt
-              Syntax.w64) (Syntax.tcons (Syntax.tyInt Syntax.w64) (Syntax.tcons (Syntax.tyInt Syntax.w64) (Syntax.tcons (Syntax.tyInt Syntax.w64) (Syntax.tcons (Syntax.tyInt Syntax.w64) (Syntax.tcons
-              (Syntax.tyInt Syntax.w64) Syntax.tnil))))))),
-        ) (List._∷_ (7, Rows'.sc-here (Row.sInt Syntax.w64)) (List._∷_ (
-          8,
-          Rows'.sc-shr (Rows.arrF (Referent.rtF (Referent.fInt Syntax.w16)) 768 0)
-              (Array'.Array (Referent.rtF (Referent.fInt Syntax.w16)) 768) (λ x. x) 6,
-        ) (List._∷_ (9, Rows'.any-gone (Syntax.tyArray (Syntax.tyInt Syntax.w16) 9252)) (List._∷_ (
-          10,
-          Rows'.any-gone
-              (Syntax.tyArray (Element.held) 336),
-        ) (List._∷_ (11, Rows'.any-gone (Syntax.tyInt Syntax.w64)) (List._∷_ (12, Rows'.any-gone (Syntax.tyArray (Syntax.tyInt Syntax.w16) 768)) (List._∷_ (
-          13,
-          Rows'.any-gone (Element.held),
-        ) (List._∷_ (14, Rows'.any-gone (Syntax.tyInt Syntax.w64)) (List._∷_ (15, Rows'.any-gone (Syntax.tyInt Syntax.w64)) List.[])))))))))))))))
+        g46 = List._∷_ e1 (List._∷_ e2 (List._∷_ e25 (List._∷_
+            (3, Relend.mslice-owed (Referent.rtF (Referent.fInt Syntax.w16)) (Syntax.tyRef (Syntax.named 2) Syntax.mut (Syntax.tyInt Syntax.w16)) 2 5 (Row.lease (κs .1 .1 .0) (qs .1 .1 .0))) (List._∷_ e38
+            (List._∷_ e40 (List._∷_ e42 (List._∷_ e44 (List._∷_ e46 (List._∷_ e48 (List._∷_ e3 (List._∷_ e6 (List._∷_ e8 (List._∷_ e11 (List._∷_ e12 (List._∷_ e14 List.[])))))))))))))))
 
         abbrev G0 : Row.Cx
         G0 = record {
           locals = List._++_ t0 t1;
-          slots = List._∷_ (Row.lease (κs .0) (qs .0)) (List._∷_ (Row.lease (κs .1 .0) (qs .1 .0)) (List._∷_ (Row.lease (κs .1 .1 .0) (qs .1 .1 .0)) (List._∷_
-              Row.off (List._∷_ Row.off (List._∷_ Row.off (List._∷_ Row.off List.[]))))));
+          slots = List._∷_ (Row.lease (κs .0) (qs .0)) (List._∷_ (Row.lease (κs .1 .0) (qs .1 .0)) (List._∷_ (Row.lease (κs .1 .1 .0) (qs .1 .1 .0)) (List._∷_ Row.off
+              (List._∷_ Row.off (List._∷_ Row.off (List._∷_ Row.off List.[]))))));
         }
 
         abbrev G1 : Row.Cx
         G1 = record {
           locals = List._++_ t2 t1;
-          slots = List._∷_ (Row.lease (κs .0) (qs .0)) (List._∷_ (Row.lease (κs .1 .0) (qs .1 .0)) (List._∷_ (Row.lease (κs .1 .1 .0) (qs .1 .1 .0)) (List._∷_
-              Row.off (List._∷_ Row.off (List._∷_ Row.off (List._∷_ Row.off List.[]))))));
+          slots = List._∷_ (Row.lease (κs .0) (qs .0)) (List._∷_ (Row.lease (κs .1 .0) (qs .1 .0)) (List._∷_ (Row.lease (κs .1 .1 .0) (qs .1 .1 .0)) (List._∷_ Row.off
+              (List._∷_ Row.off (List._∷_ Row.off (List._∷_ Row.off List.[]))))));
         }
 
         abbrev G2 : Row.Cx
         G2 = record {
           locals = List._++_ t0 t1;
-          slots = List._∷_ (Row.lease (κs .0) (qs .0)) (List._∷_ (Row.lease (κs .1 .0) (qs .1 .0)) (List._∷_ (Row.lease (κs .1 .1 .0) (qs .1 .1 .0)) (List._∷_
-              Row.off (List._∷_ Row.off (List._∷_ Row.off (List._∷_ Row.off List.[]))))));
+          slots = List._∷_ (Row.lease (κs .0) (qs .0)) (List._∷_ (Row.lease (κs .1 .0) (qs .1 .0)) (List._∷_ (Row.lease (κs .1 .1 .0) (qs .1 .1 .0)) (List._∷_ Row.off
+              (List._∷_ Row.off (List._∷_ Row.off (List._∷_ Row.off List.[]))))));
         }
 
         abbrev G3 : Row.Cx
         G3 = record {
           locals = List._++_ t0 t1;
-          slots = List._∷_ (Row.lease (κs .0) (qs .0)) (List._∷_ (Row.lease (κs .1 .0) (qs .1 .0)) (List._∷_ (Row.lease (κs .1 .1 .0) (qs .1 .1 .0)) (List._∷_
-              Row.off (List._∷_ Row.off (List._∷_ Row.off (List._∷_ Row.off List.[]))))));
+          slots = List._∷_ (Row.lease (κs .0) (qs .0)) (List._∷_ (Row.lease (κs .1 .0) (qs .1 .0)) (List._∷_ (Row.lease (κs .1 .1 .0) (qs .1 .1 .0)) (List._∷_ Row.off
+              (List._∷_ Row.off (List._∷_ Row.off (List._∷_ Row.off List.[]))))));
         }
 
         abbrev G4 : Row.Cx
         G4 = record {
           locals = List._++_ t0 t1;
-          slots = List._∷_ (Row.lease (κs .0) (qs .0)) (List._∷_ (Row.lease (κs .1 .0) (qs .1 .0)) (List._∷_ (Row.lease (κs .1 .1 .0) (qs .1 .1 .0)) (List._∷_
-              Row.off (List._∷_ Row.off (List._∷_ Row.off (List._∷_ Row.off List.[]))))));
+          slots = List._∷_ (Row.lease (κs .0) (qs .0)) (List._∷_ (Row.lease (κs .1 .0) (qs .1 .0)) (List._∷_ (Row.lease (κs .1 .1 .0) (qs .1 .1 .0)) (List._∷_ Row.off
+              (List._∷_ Row.off (List._∷_ Row.off (List._∷_ Row.off List.[]))))));
         }
 
         abbrev G5 : Row.Cx
         G5 = record {
           locals = List._++_ t3 t1;
-          slots = List._∷_ (Row.lease (κs .0) (qs .0)) (List._∷_ (Row.lease (κs .1 .0) (qs .1 .0)) (List._∷_ (Row.lease (κs .1 .1 .0) (qs .1 .1 .0)) (List._∷_
-              Row.off (List._∷_ Row.off (List._∷_ Row.off (List._∷_ Row.off List.[]))))));
+          slots = List._∷_ (Row.lease (κs .0) (qs .0)) (List._∷_ (Row.lease (κs .1 .0) (qs .1 .0)) (List._∷_ (Row.lease (κs .1 .1 .0) (qs .1 .1 .0)) (List._∷_ Row.off
+              (List._∷_ Row.off (List._∷_ Row.off (List._∷_ Row.off List.[]))))));
         }
 
         abbrev G6 : Row.Cx
         G6 = record {
           locals = List._++_ t4 t1;
-          slots = List._∷_ (Row.lease (κs .0) (qs .0)) (List._∷_ (Row.lease (κs .1 .0) (qs .1 .0)) (List._∷_ (Row.lease (κs .1 .1 .0) (qs .1 .1 .0)) (List._∷_
-              Row.off (List._∷_ Row.off (List._∷_ Row.off (List._∷_ Row.off List.[]))))));
+          slots = List._∷_ (Row.lease (κs .0) (qs .0)) (List._∷_ (Row.lease (κs .1 .0) (qs .1 .0)) (List._∷_ (Row.lease (κs .1 .1 .0) (qs .1 .1 .0)) (List._∷_ Row.off
+              (List._∷_ Row.off (List._∷_ Row.off (List._∷_ Row.off List.[]))))));
         }
 
         abbrev G7 : Row.Cx
         G7 = record {
           locals = List._++_ t5 t1;
-          slots = List._∷_ (Row.lease (κs .0) (qs .0)) (List._∷_ (Row.lease (κs .1 .0) (qs .1 .0)) (List._∷_ (Row.lease (κs .1 .1 .0) (qs .1 .1 .0)) (List._∷_
-              Row.off (List._∷_ Row.off (List._∷_ Row.off (List._∷_ Row.off List.[]))))));
+          slots = List._∷_ (Row.lease (κs .0) (qs .0)) (List._∷_ (Row.lease (κs .1 .0) (qs .1 .0)) (List._∷_ (Row.lease (κs .1 .1 .0) (qs .1 .1 .0)) (List._∷_ Row.off
+              (List._∷_ Row.off (List._∷_ Row.off (List._∷_ Row.off List.[]))))));
         }
 
         abbrev G8 : Row.Cx
         G8 = record {
           locals = List._++_ t6 t1;
-          slots = List._∷_ (Row.lease (κs .0) (qs .0)) (List._∷_ (Row.lease (κs .1 .0) (qs .1 .0)) (List._∷_ (Row.lease (κs .1 .1 .0) (qs .1 .1 .0)) (List._∷_
-              Row.off (List._∷_ Row.off (List._∷_ Row.off (List._∷_ Row.off List.[]))))));
+          slots = List._∷_ (Row.lease (κs .0) (qs .0)) (List._∷_ (Row.lease (κs .1 .0) (qs .1 .0)) (List._∷_ (Row.lease (κs .1 .1 .0) (qs .1 .1 .0)) (List._∷_ Row.off
+              (List._∷_ Row.off (List._∷_ Row.off (List._∷_ Row.off List.[]))))));
         }
 
         abbrev G9 : Row.Cx
         G9 = record {
           locals = List._++_ t7 t1;
-          slots = List._∷_ (Row.lease (κs .0) (qs .0)) (List._∷_ (Row.lease (κs .1 .0) (qs .1 .0)) (List._∷_ (Row.lease (κs .1 .1 .0) (qs .1 .1 .0)) (List._∷_
-              Row.off (List._∷_ Row.off (List._∷_ Row.off (List._∷_ Row.off List.[]))))));
+          slots = List._∷_ (Row.lease (κs .0) (qs .0)) (List._∷_ (Row.lease (κs .1 .0) (qs .1 .0)) (List._∷_ (Row.lease (κs .1 .1 .0) (qs .1 .1 .0)) (List._∷_ Row.off
+              (List._∷_ Row.off (List._∷_ Row.off (List._∷_ Row.off List.[]))))));
         }
 
         abbrev G10 : Row.Cx
         G10 = record {
           locals = List._++_ t8 t1;
-          slots = List._∷_ (Row.lease (κs .0) (qs .0)) (List._∷_ (Row.lease (κs .1 .0) (qs .1 .0)) (List._∷_ (Row.lease (κs .1 .1 .0) (qs .1 .1 .0)) (List._∷_
-              Row.off (List._∷_ Row.off (List._∷_ Row.off (List._∷_ Row.off List.[]))))));
+          slots = List._∷_ (Row.lease (κs .0) (qs .0)) (List._∷_ (Row.lease (κs .1 .0) (qs .1 .0)) (List._∷_ (Row.lease (κs .1 .1 .0) (qs .1 .1 .0)) (List._∷_ Row.off
+              (List._∷_ Row.off (List._∷_ Row.off (List._∷_ Row.off List.[]))))));
         }
 
         abbrev G11 : Row.Cx
         G11 = record {
           locals = List._++_ t9 t1;
-          slots = List._∷_ (Row.lease (κs .0) (qs .0)) (List._∷_ (Row.lease (κs .1 .0) (qs .1 .0)) (List._∷_ (Row.lease (κs .1 .1 .0) (qs .1 .1 .0)) (List._∷_
-              Row.off (List._∷_ Row.off (List._∷_ Row.off (List._∷_ Row.off List.[]))))));
+          slots = List._∷_ (Row.lease (κs .0) (qs .0)) (List._∷_ (Row.lease (κs .1 .0) (qs .1 .0)) (List._∷_ (Row.lease (κs .1 .1 .0) (qs .1 .1 .0)) (List._∷_ Row.off
+              (List._∷_ Row.off (List._∷_ Row.off (List._∷_ Row.off List.[]))))));
         }
 
         abbrev G12 : Row.Cx
         G12 = record {
           locals = List._++_ t10 t1;
-          slots = List._∷_ (Row.lease (κs .0) (qs .0)) (List._∷_ (Row.lease (κs .1 .0) (qs .1 .0)) (List._∷_ (Row.lease (κs .1 .1 .0) (qs .1 .1 .0)) (List._∷_
-              Row.off (List._∷_ Row.off (List._∷_ Row.off (List._∷_ Row.off List.[]))))));
+          slots = List._∷_ (Row.lease (κs .0) (qs .0)) (List._∷_ (Row.lease (κs .1 .0) (qs .1 .0)) (List._∷_ (Row.lease (κs .1 .1 .0) (qs .1 .1 .0)) (List._∷_ Row.off
+              (List._∷_ Row.off (List._∷_ Row.off (List._∷_ Row.off List.[]))))));
         }
 
         abbrev G13 : Row.Cx
         G13 = record {
           locals = List._++_ t11 t1;
-          slots = List._∷_ (Row.lease (κs .0) (qs .0)) (List._∷_ (Row.lease (κs .1 .0) (qs .1 .0)) (List._∷_ (Row.lease (κs .1 .1 .0) (qs .1 .1 .0)) (List._∷_
-              Row.off (List._∷_ Row.off (List._∷_ Row.off (List._∷_ Row.off List.[]))))));
+          slots = List._∷_ (Row.lease (κs .0) (qs .0)) (List._∷_ (Row.lease (κs .1 .0) (qs .1 .0)) (List._∷_ (Row.lease (κs .1 .1 .0) (qs .1 .1 .0)) (List._∷_ Row.off
+              (List._∷_ Row.off (List._∷_ Row.off (List._∷_ Row.off List.[]))))));
         }
 
         abbrev G14 : Row.Cx
         G14 = record {
           locals = List._++_ t12 t1;
-          slots = List._∷_ (Row.lease (κs .0) (qs .0)) (List._∷_ (Row.lease (κs .1 .0) (qs .1 .0)) (List._∷_ (Row.lease (κs .1 .1 .0) (qs .1 .1 .0)) (List._∷_
-              Row.off (List._∷_ Row.off (List._∷_ Row.off (List._∷_ Row.off List.[]))))));
+          slots = List._∷_ (Row.lease (κs .0) (qs .0)) (List._∷_ (Row.lease (κs .1 .0) (qs .1 .0)) (List._∷_ (Row.lease (κs .1 .1 .0) (qs .1 .1 .0)) (List._∷_ Row.off
+              (List._∷_ Row.off (List._∷_ Row.off (List._∷_ Row.off List.[]))))));
         }
 
         abbrev G15 : Row.Cx
         G15 = record {
           locals = List._++_ t13 t1;
-          slots = List._∷_ (Row.lease (κs .0) (qs .0)) (List._∷_ (Row.lease (κs .1 .0) (qs .1 .0)) (List._∷_ (Row.lease (κs .1 .1 .0) (qs .1 .1 .0)) (List._∷_
-              Row.off (List._∷_ Row.off (List._∷_ Row.off (List._∷_ Row.off List.[]))))));
+          slots = List._∷_ (Row.lease (κs .0) (qs .0)) (List._∷_ (Row.lease (κs .1 .0) (qs .1 .0)) (List._∷_ (Row.lease (κs .1 .1 .0) (qs .1 .1 .0)) (List._∷_ Row.off
+              (List._∷_ Row.off (List._∷_ Row.off (List._∷_ Row.off List.[]))))));
         }
 
         abbrev G16 : Row.Cx
         G16 = record {
           locals = List._++_ t14 t1;
-          slots = List._∷_ (Row.lease (κs .0) (qs .0)) (List._∷_ (Row.lease (κs .1 .0) (qs .1 .0)) (List._∷_ (Row.lease (κs .1 .1 .0) (qs .1 .1 .0)) (List._∷_
-              Row.off (List._∷_ Row.off (List._∷_ Row.off (List._∷_ Row.off List.[]))))));
+          slots = List._∷_ (Row.lease (κs .0) (qs .0)) (List._∷_ (Row.lease (κs .1 .0) (qs .1 .0)) (List._∷_ (Row.lease (κs .1 .1 .0) (qs .1 .1 .0)) (List._∷_ Row.off
+              (List._∷_ Row.off (List._∷_ Row.off (List._∷_ Row.off List.[]))))));
         }
 
         abbrev G17 : Row.Cx
         G17 = record {
           locals = List._++_ t15 t1;
-          slots = List._∷_ (Row.lease (κs .0) (qs .0)) (List._∷_ (Row.lease (κs .1 .0) (qs .1 .0)) (List._∷_ (Row.lease (κs .1 .1 .0) (qs .1 .1 .0)) (List._∷_
-              Row.off (List._∷_ Row.off (List._∷_ Row.off (List._∷_ Row.off List.[]))))));
+          slots = List._∷_ (Row.lease (κs .0) (qs .0)) (List._∷_ (Row.lease (κs .1 .0) (qs .1 .0)) (List._∷_ (Row.lease (κs .1 .1 .0) (qs .1 .1 .0)) (List._∷_ Row.off
+              (List._∷_ Row.off (List._∷_ Row.off (List._∷_ Row.off List.[]))))));
         }
 
         abbrev G18 : Row.Cx
         G18 = record {
           locals = List._++_ t16 t1;
-          slots = List._∷_ (Row.lease (κs .0) (qs .0)) (List._∷_ (Row.lease (κs .1 .0) (qs .1 .0)) (List._∷_ (Row.lease (κs .1 .1 .0) (qs .1 .1 .0)) (List._∷_
-              Row.off (List._∷_ Row.off (List._∷_ Row.off (List._∷_ Row.off List.[]))))));
+          slots = List._∷_ (Row.lease (κs .0) (qs .0)) (List._∷_ (Row.lease (κs .1 .0) (qs .1 .0)) (List._∷_ (Row.lease (κs .1 .1 .0) (qs .1 .1 .0)) (List._∷_ Row.off
+              (List._∷_ Row.off (List._∷_ Row.off (List._∷_ Row.off List.[]))))));
         }
 
         abbrev G19 : Row.Cx
         G19 = record {
           locals = List._++_ t16 t17;
-          slots = List._∷_ (Row.lease (κs .0) (qs .0)) (List._∷_ (Row.lease (κs .1 .0) (qs .1 .0)) (List._∷_ (Row.lease (κs .1 .1 .0) (qs .1 .1 .0)) (List._∷_
-              Row.off (List._∷_ Row.off (List._∷_ Row.off (List._∷_ Row.off List.[]))))));
+          slots = List._∷_ (Row.lease (κs .0) (qs .0)) (List._∷_ (Row.lease (κs .1 .0) (qs .1 .0)) (List._∷_ (Row.lease (κs .1 .1 .0) (qs .1 .1 .0)) (List._∷_ Row.off
+              (List._∷_ Row.off (List._∷_ Row.off (List._∷_ Row.off List.[]))))));
         }
 
         abbrev G20 : Row.Cx
         G20 = record {
           locals = List._++_ t16 t18;
-          slots = List._∷_ (Row.lease (κs .0) (qs .0)) (List._∷_ (Row.lease (κs .1 .0) (qs .1 .0)) (List._∷_ (Row.lease (κs .1 .1 .0) (qs .1 .1 .0)) (List._∷_
-              Row.off (List._∷_ Row.off (List._∷_ Row.off (List._∷_ Row.off List.[]))))));
+          slots = List._∷_ (Row.lease (κs .0) (qs .0)) (List._∷_ (Row.lease (κs .1 .0) (qs .1 .0)) (List._∷_ (Row.lease (κs .1 .1 .0) (qs .1 .1 .0)) (List._∷_ Row.off
+              (List._∷_ Row.off (List._∷_ Row.off (List._∷_ Row.off List.[]))))));
         }
 
         abbrev G21 : Row.Cx
         G21 = record {
           locals = List._++_ t16 t19;
-          slots = List._∷_ (Row.lease (κs .0) (qs .0)) (List._∷_ (Row.lease (κs .1 .0) (qs .1 .0)) (List._∷_ (Row.lease (κs .1 .1 .0) (qs .1 .1 .0)) (List._∷_
-              Row.off (List._∷_ Row.off (List._∷_ Row.off (List._∷_ Row.off List.[]))))));
+          slots = List._∷_ (Row.lease (κs .0) (qs .0)) (List._∷_ (Row.lease (κs .1 .0) (qs .1 .0)) (List._∷_ (Row.lease (κs .1 .1 .0) (qs .1 .1 .0)) (List._∷_ Row.off
+              (List._∷_ Row.off (List._∷_ Row.off (List._∷_ Row.off List.[]))))));
         }
 
         abbrev G22 : Row.Cx
         G22 = record {
           locals = List._++_ t20 t19;
-          slots = List._∷_ (Row.lease (κs .0) (qs .0)) (List._∷_ (Row.lease (κs .1 .0) (qs .1 .0)) (List._∷_ (Row.lease (κs .1 .1 .0) (qs .1 .1 .0)) (List._∷_
-              Row.off (List._∷_ Row.off (List._∷_ Row.off (List._∷_ Row.off List.[]))))));
+          slots = List._∷_ (Row.lease (κs .0) (qs .0)) (List._∷_ (Row.lease (κs .1 .0) (qs .1 .0)) (List._∷_ (Row.lease (κs .1 .1 .0) (qs .1 .1 .0)) (List._∷_ Row.off
+              (List._∷_ Row.off (List._∷_ Row.off (List._∷_ Row.off List.[]))))));
         }
 
         abbrev G23 : Row.Cx
         G23 = record {
           locals = List._++_ t20 t19;
-          slots = List._∷_ (Row.lease (κs .0) (qs .0)) (List._∷_ (Row.lease (κs .1 .0) (qs .1 .0)) (List._∷_ (Row.lease (κs .1 .1 .0) (qs .1 .1 .0)) (List._∷_
-              Row.alive (List._∷_ Row.off (List._∷_ Row.off (List._∷_ Row.off List.[]))))));
+          slots = List._∷_ (Row.lease (κs .0) (qs .0)) (List._∷_ (Row.lease (κs .1 .0) (qs .1 .0)) (List._∷_ (Row.lease (κs .1 .1 .0) (qs .1 .1 .0)) (List._∷_ Row.alive
+              (List._∷_ Row.off (List._∷_ Row.off (List._∷_ Row.off List.[]))))));
         }
 
         abbrev G24 : Row.Cx
         G24 = record {
           locals = List._++_ t21 t22;
-          slots = List._∷_ (Row.lease (κs .0) (qs .0)) (List._∷_ (Row.lease (κs .1 .0) (qs .1 .0)) (List._∷_ (Row.lease (κs .1 .1 .0) (qs .1 .1 .0)) (List._∷_
-              Row.alive (List._∷_ Row.off (List._∷_ Row.off (List._∷_ Row.off List.[]))))));
+          slots = List._∷_ (Row.lease (κs .0) (qs .0)) (List._∷_ (Row.lease (κs .1 .0) (qs .1 .0)) (List._∷_ (Row.lease (κs .1 .1 .0) (qs .1 .1 .0)) (List._∷_ Row.alive
+              (List._∷_ Row.off (List._∷_ Row.off (List._∷_ Row.off List.[]))))));
         }
 
         abbrev G25 : Row.Cx
         G25 = record {
           locals = List._++_ t21 t23;
-          slots = List._∷_ (Row.lease (κs .0) (qs .0)) (List._∷_ (Row.lease (κs .1 .0) (qs .1 .0)) (List._∷_ (Row.lease (κs .1 .1 .0) (qs .1 .1 .0)) (List._∷_
-              Row.alive (List._∷_ Row.off (List._∷_ Row.off (List._∷_ Row.off List.[]))))));
+          slots = List._∷_ (Row.lease (κs .0) (qs .0)) (List._∷_ (Row.lease (κs .1 .0) (qs .1 .0)) (List._∷_ (Row.lease (κs .1 .1 .0) (qs .1 .1 .0)) (List._∷_ Row.alive
+              (List._∷_ Row.off (List._∷_ Row.off (List._∷_ Row.off List.[]))))));
         }
 
         abbrev G26 : Row.Cx
         G26 = record {
           locals = List._++_ t21 t24;
-          slots = List._∷_ (Row.lease (κs .0) (qs .0)) (List._∷_ (Row.lease (κs .1 .0) (qs .1 .0)) (List._∷_ (Row.lease (κs .1 .1 .0) (qs .1 .1 .0)) (List._∷_
-              Row.alive (List._∷_ Row.off (List._∷_ Row.off (List._∷_ Row.off List.[]))))));
+          slots = List._∷_ (Row.lease (κs .0) (qs .0)) (List._∷_ (Row.lease (κs .1 .0) (qs .1 .0)) (List._∷_ (Row.lease (κs .1 .1 .0) (qs .1 .1 .0)) (List._∷_ Row.alive
+              (List._∷_ Row.off (List._∷_ Row.off (List._∷_ Row.off List.[]))))));
         }
 
         abbrev G27 : Row.Cx
         G27 = record {
           locals = List._++_ t25 t24;
-          slots = List._∷_ (Row.lease (κs .0) (qs .0)) (List._∷_ (Row.lease (κs .1 .0) (qs .1 .0)) (List._∷_ (Row.lease (κs .1 .1 .0) (qs .1 .1 .0)) (List._∷_
-              Row.alive (List._∷_ Row.off (List._∷_ Row.off (List._∷_ Row.off List.[]))))));
+          slots = List._∷_ (Row.lease (κs .0) (qs .0)) (List._∷_ (Row.lease (κs .1 .0) (qs .1 .0)) (List._∷_ (Row.lease (κs .1 .1 .0) (qs .1 .1 .0)) (List._∷_ Row.alive
+              (List._∷_ Row.off (List._∷_ Row.off (List._∷_ Row.off List.[]))))));
         }
 
         abbrev G28 : Row.Cx
         G28 = record {
           locals = List._++_ t25 t24;
-          slots = List._∷_ (Row.lease (κs .0) (qs .0)) (List._∷_ (Row.lease (κs .1 .0) (qs .1 .0)) (List._∷_ (Row.lease (κs .1 .1 .0) (qs .1 .1 .0)) (List._∷_
-              Row.alive (List._∷_ Row.alive (List._∷_ Row.off (List._∷_ Row.off List.[]))))));
+          slots = List._∷_ (Row.lease (κs .0) (qs .0)) (List._∷_ (Row.lease (κs .1 .0) (qs .1 .0)) (List._∷_ (Row.lease (κs .1 .1 .0) (qs .1 .1 .0)) (List._∷_ Row.alive
+              (List._∷_ Row.alive (List._∷_ Row.off (List._∷_ Row.off List.[]))))));
         }
 
         abbrev G29 : Row.Cx
         G29 = record {
           locals = List._++_ t26 t27;
-          slots = List._∷_ (Row.lease (κs .0) (qs .0)) (List._∷_ (Row.lease (κs .1 .0) (qs .1 .0)) (List._∷_ (Row.lease (κs .1 .1 .0) (qs .1 .1 .0)) (List._∷_
-              Row.alive (List._∷_ Row.alive (List._∷_ Row.off (List._∷_ Row.off List.[]))))));
+          slots = List._∷_ (Row.lease (κs .0) (qs .0)) (List._∷_ (Row.lease (κs .1 .0) (qs .1 .0)) (List._∷_ (Row.lease (κs .1 .1 .0) (qs .1 .1 .0)) (List._∷_ Row.alive
+              (List._∷_ Row.alive (List._∷_ Row.off (List._∷_ Row.off List.[]))))));
         }
 
         abbrev G30 : Row.Cx
         G30 = record {
           locals = List._++_ t26 t28;
-          slots = List._∷_ (Row.lease (κs .0) (qs .0)) (List._∷_ (Row.lease (κs .1 .0) (qs .1 .0)) (List._∷_ (Row.lease (κs .1 .1 .0) (qs .1 .1 .0)) (List._∷_
-              Row.alive (List._∷_ Row.alive (List._∷_ Row.off (List._∷_ Row.off List.[]))))));
+          slots = List._∷_ (Row.lease (κs .0) (qs .0)) (List._∷_ (Row.lease (κs .1 .0) (qs .1 .0)) (List._∷_ (Row.lease (κs .1 .1 .0) (qs .1 .1 .0)) (List._∷_ Row.alive
+              (List._∷_ Row.alive (List._∷_ Row.off (List._∷_ Row.off List.[]))))));
         }
 
         abbrev G31 : Row.Cx
         G31 = record {
           locals = List._++_ t26 t28;
-          slots = List._∷_ (Row.lease (κs .0) (qs .0)) (List._∷_ (Row.lease (κs .1 .0) (qs .1 .0)) (List._∷_ (Row.lease (κs .1 .1 .0) (qs .1 .1 .0)) (List._∷_
-              Row.alive (List._∷_ Row.alive (List._∷_ Row.alive (List._∷_ Row.off List.[]))))));
+          slots = List._∷_ (Row.lease (κs .0) (qs .0)) (List._∷_ (Row.lease (κs .1 .0) (qs .1 .0)) (List._∷_ (Row.lease (κs .1 .1 .0) (qs .1 .1 .0)) (List._∷_ Row.alive
+              (List._∷_ Row.alive (List._∷_ Row.alive (List._∷_ Row.off List.[]))))));
         }
 
         abbrev G32 : Row.Cx
         G32 = record {
           locals = List._++_ g29 t30;
-          slots = List._∷_ (Row.lease (κs .0) (qs .0)) (List._∷_ (Row.lease (κs .1 .0) (qs .1 .0)) (List._∷_ Row.off (List._∷_ Row.alive (List._∷_ Row.alive
-              (List._∷_ Row.alive (List._∷_ Row.off List.[]))))));
+          slots = List._∷_ (Row.lease (κs .0) (qs .0)) (List._∷_ (Row.lease (κs .1 .0) (qs .1 .0)) (List._∷_ Row.off (List._∷_ Row.alive (List._∷_ Row.alive (List._∷_
+              Row.alive (List._∷_ Row.off List.[]))))));
         }
 
         abbrev G33 : Row.Cx
         G33 = record {
           locals = List._++_ g29 t31;
-          slots = List._∷_ (Row.lease (κs .0) (qs .0)) (List._∷_ (Row.lease (κs .1 .0) (qs .1 .0)) (List._∷_ Row.off (List._∷_ Row.alive (List._∷_ Row.alive
-              (List._∷_ Row.alive (List._∷_ Row.off List.[]))))));
+          slots = List._∷_ (Row.lease (κs .0) (qs .0)) (List._∷_ (Row.lease (κs .1 .0) (qs .1 .0)) (List._∷_ Row.off (List._∷_ Row.alive (List._∷_ Row.alive (List._∷_
+              Row.alive (List._∷_ Row.off List.[]))))));
         }
 
         abbrev G34 : Row.Cx
         G34 = record {
           locals = List._++_ g29 t31;
-          slots = List._∷_ (Row.lease (κs .0) (qs .0)) (List._∷_ (Row.lease (κs .1 .0) (qs .1 .0)) (List._∷_ Row.off (List._∷_ Row.alive (List._∷_ Row.alive
-              (List._∷_ Row.alive (List._∷_ Row.alive List.[]))))));
+          slots = List._∷_ (Row.lease (κs .0) (qs .0)) (List._∷_ (Row.lease (κs .1 .0) (qs .1 .0)) (List._∷_ Row.off (List._∷_ Row.alive (List._∷_ Row.alive (List._∷_
+              Row.alive (List._∷_ Row.alive List.[]))))));
         }
 
         abbrev G35 : Row.Cx
         G35 = record {
           locals = List._++_ g32 t33;
-          slots = List._∷_ (Row.lease (κs .0) (qs .0)) (List._∷_ (Row.lease (κs .1 .0) (qs .1 .0)) (List._∷_ Row.off (List._∷_ Row.alive (List._∷_ Row.alive
-              (List._∷_ Row.alive (List._∷_ Row.alive List.[]))))));
+          slots = List._∷_ (Row.lease (κs .0) (qs .0)) (List._∷_ (Row.lease (κs .1 .0) (qs .1 .0)) (List._∷_ Row.off (List._∷_ Row.alive (List._∷_ Row.alive (List._∷_
+              Row.alive (List._∷_ Row.alive List.[]))))));
         }
 
         abbrev G36 : Row.Cx
         G36 = record {
           locals = List._++_ g34 t35;
-          slots = List._∷_ (Row.lease (κs .0) (qs .0)) (List._∷_ (Row.lease (κs .1 .0) (qs .1 .0)) (List._∷_ Row.off (List._∷_ Row.alive (List._∷_ Row.alive
-              (List._∷_ Row.alive (List._∷_ Row.alive List.[]))))));
+          slots = List._∷_ (Row.lease (κs .0) (qs .0)) (List._∷_ (Row.lease (κs .1 .0) (qs .1 .0)) (List._∷_ Row.off (List._∷_ Row.alive (List._∷_ Row.alive (List._∷_
+              Row.alive (List._∷_ Row.alive List.[]))))));
         }
 
         abbrev G37 : Row.Cx
         G37 = record {
           locals = List._++_ g34 t36;
-          slots = List._∷_ (Row.lease (κs .0) (qs .0)) (List._∷_ (Row.lease (κs .1 .0) (qs .1 .0)) (List._∷_ Row.off (List._∷_ Row.alive (List._∷_ Row.alive
-              (List._∷_ Row.alive (List._∷_ Row.alive List.[]))))));
+          slots = List._∷_ (Row.lease (κs .0) (qs .0)) (List._∷_ (Row.lease (κs .1 .0) (qs .1 .0)) (List._∷_ Row.off (List._∷_ Row.alive (List._∷_ Row.alive (List._∷_
+              Row.alive (List._∷_ Row.alive List.[]))))));
         }
 
         abbrev G38 : Row.Cx
         G38 = record {
           locals = List._++_ g37 t36;
-          slots = List._∷_ (Row.lease (κs .0) (qs .0)) (List._∷_ (Row.lease (κs .1 .0) (qs .1 .0)) (List._∷_ Row.off (List._∷_ Row.alive (List._∷_ Row.alive
-              (List._∷_ Row.alive (List._∷_ Row.alive List.[]))))));
+          slots = List._∷_ (Row.lease (κs .0) (qs .0)) (List._∷_ (Row.lease (κs .1 .0) (qs .1 .0)) (List._∷_ Row.off (List._∷_ Row.alive (List._∷_ Row.alive (List._∷_
+              Row.alive (List._∷_ Row.alive List.[]))))));
         }
 
         abbrev G39 : Row.Cx
         G39 = record {
           locals = List._++_ g38 t36;
-          slots = List._∷_ (Row.lease (κs .0) (qs .0)) (List._∷_ (Row.lease (κs .1 .0) (qs .1 .0)) (List._∷_ Row.off (List._∷_ Row.alive (List._∷_ Row.alive
-              (List._∷_ Row.alive (List._∷_ Row.alive List.[]))))));
+          slots = List._∷_ (Row.lease (κs .0) (qs .0)) (List._∷_ (Row.lease (κs .1 .0) (qs .1 .0)) (List._∷_ Row.off (List._∷_ Row.alive (List._∷_ Row.alive (List._∷_
+              Row.alive (List._∷_ Row.alive List.[]))))));
         }
 
         abbrev G40 : Row.Cx
         G40 = record {
           locals = List._++_ g39 t36;
-          slots = List._∷_ (Row.lease (κs .0) (qs .0)) (List._∷_ (Row.lease (κs .1 .0) (qs .1 .0)) (List._∷_ Row.off (List._∷_ Row.alive (List._∷_ Row.alive
-              (List._∷_ Row.alive (List._∷_ Row.alive List.[]))))));
+          slots = List._∷_ (Row.lease (κs .0) (qs .0)) (List._∷_ (Row.lease (κs .1 .0) (qs .1 .0)) (List._∷_ Row.off (List._∷_ Row.alive (List._∷_ Row.alive (List._∷_
+              Row.alive (List._∷_ Row.alive List.[]))))));
         }
 
         abbrev G41 : Row.Cx
         G41 = record {
           locals = List._++_ g40 t36;
-          slots = List._∷_ (Row.lease (κs .0) (qs .0)) (List._∷_ (Row.lease (κs .1 .0) (qs .1 .0)) (List._∷_ Row.off (List._∷_ Row.alive (List._∷_ Row.alive
-              (List._∷_ Row.alive (List._∷_ Row.alive List.[]))))));
+          slots = List._∷_ (Row.lease (κs .0) (qs .0)) (List._∷_ (Row.lease (κs .1 .0) (qs .1 .0)) (List._∷_ Row.off (List._∷_ Row.alive (List._∷_ Row.alive (List._∷_
+              Row.alive (List._∷_ Row.alive List.[]))))));
         }
 
         abbrev G42 : Row.Cx
         G42 = record {
           locals = List._++_ g40 t36;
-          slots = List._∷_ (Row.lease (κs .0) (qs .0)) (List._∷_ (Row.lease (κs .1 .0) (qs .1 .0)) (List._∷_ Row.off (List._∷_ Row.dead (List._∷_ Row.alive
-              (List._∷_ Row.alive (List._∷_ Row.alive List.[]))))));
+          slots = List._∷_ (Row.lease (κs .0) (qs .0)) (List._∷_ (Row.lease (κs .1 .0) (qs .1 .0)) (List._∷_ Row.off (List._∷_ Row.dead (List._∷_ Row.alive (List._∷_
+              Row.alive (List._∷_ Row.alive List.[]))))));
         }
 
         abbrev G43 : Row.Cx
         G43 = record {
           locals = List._++_ g41 t42;
-          slots = List._∷_ (Row.lease (κs .0) (qs .0)) (List._∷_ (Row.lease (κs .1 .0) (qs .1 .0)) (List._∷_ Row.off (List._∷_ Row.dead (List._∷_ Row.alive
-              (List._∷_ Row.alive (List._∷_ Row.alive List.[]))))));
+          slots = List._∷_ (Row.lease (κs .0) (qs .0)) (List._∷_ (Row.lease (κs .1 .0) (qs .1 .0)) (List._∷_ Row.off (List._∷_ Row.dead (List._∷_ Row.alive (List._∷_
+              Row.alive (List._∷_ Row.alive List.[]))))));
         }
 
         abbrev G44 : Row.Cx
         G44 = record {
           locals = List._++_ g41 t42;
-          slots = List._∷_ (Row.lease (κs .0) (qs .0)) (List._∷_ (Row.lease (κs .1 .0) (qs .1 .0)) (List._∷_ Row.off (List._∷_ Row.off (List._∷_ Row.alive
-              (List._∷_ Row.alive (List._∷_ Row.alive List.[]))))));
+          slots = List._∷_ (Row.lease (κs .0) (qs .0)) (List._∷_ (Row.lease (κs .1 .0) (qs .1 .0)) (List._∷_ Row.off (List._∷_ Row.off (List._∷_ Row.alive (List._∷_
+              Row.alive (List._∷_ Row.alive List.[]))))));
         }
 
         abbrev G45 : Row.Cx
         G45 = record {
           locals = List._++_ g43 t42;
-          slots = List._∷_ (Row.lease (κs .0) (qs .0)) (List._∷_ (Row.lease (κs .1 .0) (qs .1 .0)) (List._∷_ Row.off (List._∷_ Row.off (List._∷_ Row.alive
-              (List._∷_ Row.alive (List._∷_ Row.alive List.[]))))));
+          slots = List._∷_ (Row.lease (κs .0) (qs .0)) (List._∷_ (Row.lease (κs .1 .0) (qs .1 .0)) (List._∷_ Row.off (List._∷_ Row.off (List._∷_ Row.alive (List._∷_
+              Row.alive (List._∷_ Row.alive List.[]))))));
         }
 
         abbrev G46 : Row.Cx
         G46 = record {
           locals = List._++_ g43 t42;
-          slots = List._∷_ (Row.lease (κs .0) (qs .0)) (List._∷_ (Row.lease (κs .1 .0) (qs .1 .0)) (List._∷_ Row.off (List._∷_ Row.off (List._∷_ Row.dead
-              (List._∷_ Row.alive (List._∷_ Row.alive List.[]))))));
+          slots = List._∷_ (Row.lease (κs .0) (qs .0)) (List._∷_ (Row.lease (κs .1 .0) (qs .1 .0)) (List._∷_ Row.off (List._∷_ Row.off (List._∷_ Row.dead (List._∷_
+              Row.alive (List._∷_ Row.alive List.[]))))));
         }
 
         abbrev G47 : Row.Cx
         G47 = record {
           locals = List._++_ g44 t45;
-          slots = List._∷_ (Row.lease (κs .0) (qs .0)) (List._∷_ (Row.lease (κs .1 .0) (qs .1 .0)) (List._∷_ Row.off (List._∷_ Row.off (List._∷_ Row.dead
-              (List._∷_ Row.alive (List._∷_ Row.alive List.[]))))));
+          slots = List._∷_ (Row.lease (κs .0) (qs .0)) (List._∷_ (Row.lease (κs .1 .0) (qs .1 .0)) (List._∷_ Row.off (List._∷_ Row.off (List._∷_ Row.dead (List._∷_
+              Row.alive (List._∷_ Row.alive List.[]))))));
         }
 
         abbrev G48 : Row.Cx
         G48 = record {
           locals = List._++_ g44 t45;
-          slots = List._∷_ (Row.lease (κs .0) (qs .0)) (List._∷_ (Row.lease (κs .1 .0) (qs .1 .0)) (List._∷_ Row.off (List._∷_ Row.off (List._∷_ Row.off
-              (List._∷_ Row.alive (List._∷_ Row.alive List.[]))))));
+          slots = List._∷_ (Row.lease (κs .0) (qs .0)) (List._∷_ (Row.lease (κs .1 .0) (qs .1 .0)) (List._∷_ Row.off (List._∷_ Row.off (List._∷_ Row.off (List._∷_ Row.alive
+              (List._∷_ Row.alive List.[]))))));
         }
 
         abbrev G49 : Row.Cx
         G49 = record {
           locals = List._++_ g46 t45;
-          slots = List._∷_ (Row.lease (κs .0) (qs .0)) (List._∷_ (Row.lease (κs .1 .0) (qs .1 .0)) (List._∷_ Row.off (List._∷_ Row.off (List._∷_ Row.off
-              (List._∷_ Row.alive (List._∷_ Row.alive List.[]))))));
+          slots = List._∷_ (Row.lease (κs .0) (qs .0)) (List._∷_ (Row.lease (κs .1 .0) (qs .1 .0)) (List._∷_ Row.off (List._∷_ Row.off (List._∷_ Row.off (List._∷_ Row.alive
+              (List._∷_ Row.alive List.[]))))));
         }
 
         abbrev G50 : Row.Cx
         G50 = record {
           locals = List._++_ g46 t45;
-          slots = List._∷_ (Row.lease (κs .0) (qs .0)) (List._∷_ (Row.lease (κs .1 .0) (qs .1 .0)) (List._∷_ Row.off (List._∷_ Row.off (List._∷_ Row.off
-              (List._∷_ Row.dead (List._∷_ Row.alive List.[]))))));
+          slots = List._∷_ (Row.lease (κs .0) (qs .0)) (List._∷_ (Row.lease (κs .1 .0) (qs .1 .0)) (List._∷_ Row.off (List._∷_ Row.off (List._∷_ Row.off (List._∷_ Row.dead
+              (List._∷_ Row.alive List.[]))))));
         }
 
         abbrev G51 : Row.Cx
         G51 = record {
           locals = List._++_ t47 t1;
-          slots = List._∷_ (Row.lease (κs .0) (qs .0)) (List._∷_ (Row.lease (κs .1 .0) (qs .1 .0)) (List._∷_ (Row.lease (κs .1 .1 .0) (qs .1 .1 .0)) (List._∷_
-              Row.off (List._∷_ Row.off (List._∷_ Row.dead (List._∷_ Row.alive List.[]))))));
+          slots = List._∷_ (Row.lease (κs .0) (qs .0)) (List._∷_ (Row.lease (κs .1 .0) (qs .1 .0)) (List._∷_ (Row.lease (κs .1 .1 .0) (qs .1 .1 .0)) (List._∷_ Row.off
+              (List._∷_ Row.off (List._∷_ Row.dead (List._∷_ Row.alive List.[]))))));
         }
 
         abbrev G52 : Row.Cx
         G52 = record {
           locals = List._++_ t47 t1;
-          slots = List._∷_ (Row.lease (κs .0) (qs .0)) (List._∷_ (Row.lease (κs .1 .0) (qs .1 .0)) (List._∷_ (Row.lease (κs .1 .1 .0) (qs .1 .1 .0)) (List._∷_
-              Row.off (List._∷_ Row.off (List._∷_ Row.dead (List._∷_ Row.alive List.[]))))));
+          slots = List._∷_ (Row.lease (κs .0) (qs .0)) (List._∷_ (Row.lease (κs .1 .0) (qs .1 .0)) (List._∷_ (Row.lease (κs .1 .1 .0) (qs .1 .1 .0)) (List._∷_ Row.off
+              (List._∷_ Row.off (List._∷_ Row.dead (List._∷_ Row.alive List.[]))))));
         }
 
         abbrev G53 : Row.Cx
         G53 = record {
           locals = List._++_ t47 t1;
-          slots = List._∷_ (Row.lease (κs .0) (qs .0)) (List._∷_ (Row.lease (κs .1 .0) (qs .1 .0)) (List._∷_ (Row.lease (κs .1 .1 .0) (qs .1 .1 .0)) (List._∷_
-              Row.off (List._∷_ Row.off (List._∷_ Row.off (List._∷_ Row.alive List.[]))))));
+          slots = List._∷_ (Row.lease (κs .0) (qs .0)) (List._∷_ (Row.lease (κs .1 .0) (qs .1 .0)) (List._∷_ (Row.lease (κs .1 .1 .0) (qs .1 .1 .0)) (List._∷_ Row.off
+              (List._∷_ Row.off (List._∷_ Row.off (List._∷_ Row.alive List.[]))))));
         }
 
         abbrev G54 : Row.Cx
         G54 = record {
           locals = List._++_ t47 t1;
-          slots = List._∷_ (Row.lease (κs .0) (qs .0)) (List._∷_ (Row.lease (κs .1 .0) (qs .1 .0)) (List._∷_ (Row.lease (κs .1 .1 .0) (qs .1 .1 .0)) (List._∷_
-              Row.off (List._∷_ Row.off (List._∷_ Row.off (List._∷_ Row.dead List.[]))))));
+          slots = List._∷_ (Row.lease (κs .0) (qs .0)) (List._∷_ (Row.lease (κs .1 .0) (qs .1 .0)) (List._∷_ (Row.lease (κs .1 .1 .0) (qs .1 .1 .0)) (List._∷_ Row.off
+              (List._∷_ Row.off (List._∷_ Row.off (List._∷_ Row.dead List.[]))))));
         }
 
         abbrev G55 : Row.Cx
         G55 = record {
           locals = List._++_ t48 t1;
-          slots = List._∷_ (Row.lease (κs .0) (qs .0)) (List._∷_ (Row.lease (κs .1 .0) (qs .1 .0)) (List._∷_ (Row.lease (κs .1 .1 .0) (qs .1 .1 .0)) (List._∷_
-              Row.off (List._∷_ Row.off (List._∷_ Row.off (List._∷_ Row.dead List.[]))))));
+          slots = List._∷_ (Row.lease (κs .0) (qs .0)) (List._∷_ (Row.lease (κs .1 .0) (qs .1 .0)) (List._∷_ (Row.lease (κs .1 .1 .0) (qs .1 .1 .0)) (List._∷_ Row.off
+              (List._∷_ Row.off (List._∷_ Row.off (List._∷_ Row.dead List.[]))))));
         }
 
         abbrev G56 : Row.Cx
         G56 = record {
           locals = List._++_ t48 t1;
-          slots = List._∷_ (Row.lease (κs .0) (qs .0)) (List._∷_ (Row.lease (κs .1 .0) (qs .1 .0)) (List._∷_ (Row.lease (κs .1 .1 .0) (qs .1 .1 .0)) (List._∷_
-              Row.off (List._∷_ Row.off (List._∷_ Row.off (List._∷_ Row.off List.[]))))));
+          slots = List._∷_ (Row.lease (κs .0) (qs .0)) (List._∷_ (Row.lease (κs .1 .0) (qs .1 .0)) (List._∷_ (Row.lease (κs .1 .1 .0) (qs .1 .1 .0)) (List._∷_ Row.off
+              (List._∷_ Row.off (List._∷_ Row.off (List._∷_ Row.off List.[]))))));
         }
 
         abbrev G57 : Row.Cx
         G57 = record {
           locals = List._++_ t49 t1;
-          slots = List._∷_ (Row.lease (κs .0) (qs .0)) (List._∷_ (Row.lease (κs .1 .0) (qs .1 .0)) (List._∷_ (Row.lease (κs .1 .1 .0) (qs .1 .1 .0)) (List._∷_
-              Row.off (List._∷_ Row.off (List._∷_ Row.off (List._∷_ Row.off List.[]))))));
+          slots = List._∷_ (Row.lease (κs .0) (qs .0)) (List._∷_ (Row.lease (κs .1 .0) (qs .1 .0)) (List._∷_ (Row.lease (κs .1 .1 .0) (qs .1 .1 .0)) (List._∷_ Row.off
+              (List._∷_ Row.off (List._∷_ Row.off (List._∷_ Row.off List.[]))))));
         }
 
         abbrev G58 : Row.Cx
         G58 = record {
           locals = List._++_ t2 t1;
-          slots = List._∷_ (Row.lease (κs .0) (qs .0)) (List._∷_ (Row.lease (κs .1 .0) (qs .1 .0)) (List._∷_ (Row.lease (κs .1 .1 .0) (qs .1 .1 .0)) (List._∷_
-              Row.off (List._∷_ Row.off (List._∷_ Row.off (List._∷_ Row.off List.[]))))));
+          slots = List._∷_ (Row.lease (κs .0) (qs .0)) (List._∷_ (Row.lease (κs .1 .0) (qs .1 .0)) (List._∷_ (Row.lease (κs .1 .1 .0) (qs .1 .1 .0)) (List._∷_ Row.off
+              (List._∷_ Row.off (List._∷_ Row.off (List._∷_ Row.off List.[]))))));
         }
 
         abbrev Δ0 : Typed.Outs
@@ -3027,22 +1769,16 @@ module _ (claims· : Claims) where
               d17
 
           d19 : Typed.Typed 𝓤 H A 𝓣 E G39 b19 Δ0 (at19 bs)
-          d19 = Typed.g-pre 𝓤 H A W 𝓣 E G39 G40 b19 Δ0 (Typed.pass T39 T40 (s38 bs)) (at18 bs) (Scalar.g-room 𝓤 H A W E G39 6 (Syntax.tyStruct (List._∷_ 109 (List._∷_ 97 (List._∷_ 112 (List._∷_ 58
-              (List._∷_ 58 (List._∷_ 80 (List._∷_ 97 (List._∷_ 114 (List._∷_ 116 List.[]))))))))) (Syntax.tcons (Syntax.tyInt Syntax.w64) (Syntax.tcons (Syntax.tyInt Syntax.w64) (Syntax.tcons
-              (Syntax.tyInt Syntax.w64) (Syntax.tcons (Syntax.tyInt Syntax.w64) (Syntax.tcons (Syntax.tyInt Syntax.w64) (Syntax.tcons (Syntax.tyInt Syntax.w64) Syntax.tnil))))))) (Local.room-whole 𝓤 H A W
-              (Declared'.row Part.the-type) (Syntax.tyStruct (List._∷_ 109 (List._∷_ 97 (List._∷_ 112 (List._∷_ 58 (List._∷_ 58 (List._∷_ 80 (List._∷_ 97 (List._∷_ 114 (List._∷_ 116 List.[])))))))))
-              (Syntax.tcons (Syntax.tyInt Syntax.w64) (Syntax.tcons (Syntax.tyInt Syntax.w64) (Syntax.tcons (Syntax.tyInt Syntax.w64) (Syntax.tcons (Syntax.tyInt Syntax.w64) (Syntax.tcons (Syntax.tyInt
-              Syntax.w64) (Syntax.tcons (Syntax.tyInt Syntax.w64) Syntax.tnil))))))) Path'.refl)) d18
+          d19 = Typed.g-pre 𝓤 H A W 𝓣 E G39 G40 b19 Δ0 (Typed.pass T39 T40 (s38 bs)) (at18 bs) (Scalar.g-room 𝓤 H A W E G39 6 y0 (Local.room-whole 𝓤 H A W (Declared'.row Part.the-type) y0 Path'.refl))
+              d18
 
           d20 : Typed.Typed 𝓤 H A 𝓣 E G38 b19 Δ0 (at20 bs)
           d20 = Typed.g-pre 𝓤 H A W 𝓣 E G38 G39 b19 Δ0 (Typed.pass T38 T39 (s37 bs)) (at19 bs) (Scalar.g-room 𝓤 H A W E G38 5 (Syntax.tyArray (Syntax.tyInt Syntax.w8) 36) (Init.room-arr 𝓤 H A W
               (Referent.rtF (Referent.fInt Syntax.w8)) 36 0 36 Path'.refl)) d19
 
           d21 : Typed.Typed 𝓤 H A 𝓣 E G37 b19 Δ0 (at21 bs)
-          d21 = Typed.g-pre 𝓤 H A W 𝓣 E G37 G38 b19 Δ0 (Typed.pass T37 T38 (s36 bs)) (at20 bs) (Scalar.g-room 𝓤 H A W E G37 4 (Syntax.tyStruct (List._∷_ 98 (List._∷_ 108 (List._∷_ 111 (List._∷_ 99
-              (List._∷_ 107 (List._∷_ 58 (List._∷_ 58 (List._∷_ 70 (List._∷_ 111 (List._∷_ 114 (List._∷_ 109 List.[]))))))))))) (Syntax.tcons (Syntax.tyInt Syntax.w32) (Syntax.tcons Syntax.tyBool
-              Syntax.tnil))) (Local.room-whole 𝓤 H A W (Declared'.row Form.the-type) (Syntax.tyStruct (List._∷_ 98 (List._∷_ 108 (List._∷_ 111 (List._∷_ 99 (List._∷_ 107 (List._∷_ 58 (List._∷_ 58
-              (List._∷_ 70 (List._∷_ 111 (List._∷_ 114 (List._∷_ 109 List.[]))))))))))) (Syntax.tcons (Syntax.tyInt Syntax.w32) (Syntax.tcons Syntax.tyBool Syntax.tnil))) Path'.refl)) d20
+          d21 = Typed.g-pre 𝓤 H A W 𝓣 E G37 G38 b19 Δ0 (Typed.pass T37 T38 (s36 bs)) (at20 bs) (Scalar.g-room 𝓤 H A W E G37 4 y4 (Local.room-whole 𝓤 H A W (Declared'.row Form.the-type) y4 Path'.refl))
+              d20
 
           d22 : Typed.Typed 𝓤 H A 𝓣 E G36 b19 Δ0 (at22 bs)
           d22 = Typed.g-pre 𝓤 H A W 𝓣 E G36 G37 b19 Δ0 (Typed.pass T36 T37 (s35 bs)) (at21 bs) (Local.g-drop-sref 𝓤 H A W E G36 24 6 (Array'.Array (Referent.rtF (Referent.fInt Syntax.w16)) 768)
@@ -3054,54 +1790,29 @@ module _ (claims· : Claims) where
               β. β) G35 (
                 record { pos = 1; ty = Syntax.tyRef (Syntax.named 0) Syntax.imm (Syntax.tyInt Syntax.w8); ref = λ x. x },
                 (
-                  record {
-                    pos = 2;
-                    ty = Syntax.tyRef (Syntax.named 1) Syntax.imm
-                        (Syntax.tyInt Syntax.w8);
-                    ref = λ x. x;
-                  },
+                  record { pos = 2; ty = Syntax.tyRef (Syntax.named 1) Syntax.imm (Syntax.tyInt Syntax.w8); ref = λ x. x },
                   (
                     record { pos = 19; ty = Syntax.tyRef Syntax.erased Syntax.mut (Syntax.tyInt Syntax.w16); ref = λ x. x },
                     (
-                      record {
-                        pos = 21;
-                        ty = Syntax.tyRef
-                            Syntax.erased Syntax.mut Element.behind;
-                        ref = λ x. x;
-                      },
+                      record { pos = 21; ty = Syntax.tyRef Syntax.erased Syntax.mut Element.behind; ref = λ x. x },
                       (
                         record { pos = 23; ty = Syntax.tyRef Syntax.erased Syntax.mut (Syntax.tyInt Syntax.w16); ref = λ x. x },
                         (
-                          record {
-                            pos = 4;
-                            st =
-                                List.[];
-                            d = 0;
-                            at = λ x. x;
-                          },
+                          record { pos = 4; st = List.[]; d = 0; at = λ x. x },
                           (
                             record { pos = 24; ty = Syntax.tyRef Syntax.erased Syntax.imm (Syntax.tyArray (Syntax.tyInt Syntax.w16) 768); ref = λ x. x },
-                            (
-                              record {
-                                pos = 5;
-                                st =
-                                    List.[];
-                                d = 0;
-                                at = λ x. x;
-                              },
-                              (record { pos = 6; st = List.[]; d = 0; at = λ x. x }, (Num.vAt 7 λ x. x, tt)),
-                            ),
+                            (record { pos = 5; st = List.[]; d = 0; at = λ x. x }, (record { pos = 6; st = List.[]; d = 0; at = λ x. x }, (Num.vAt 7 λ x. x, tt))),
                           ),
                         ),
                       ),
                     ),
                   ),
                 ),
-              ) 0 (List._∷_ 0 (List._∷_ 1 (List._∷_ 3 (List._∷_ 4
-              (List._∷_ 5 (List._∷_ 6 List.[])))))) (Call.sub-id 𝓤 H A W (G35 .slots)) (
-                ShrSlice.spares-sslice 𝓤 H A W (Referent.rtF (Referent.fInt Syntax.w8)) (Syntax.tyRef (Syntax.named 0) Syntax.imm
-                    (Syntax.tyInt Syntax.w8)) 0,
-                Shared.reads-sslice 𝓤 H A W (Referent.rtF (Referent.fInt Syntax.w8)) (Syntax.tyRef (Syntax.named 0) Syntax.imm (Syntax.tyInt Syntax.w8)) 0,
+              ) 0 (List._∷_ 0 (List._∷_ 1 (List._∷_ 3 (List._∷_
+              4 (List._∷_ 5 (List._∷_ 6 List.[])))))) (Call.sub-id 𝓤 H A W (G35 .slots)) (
+                ShrSlice.spares-sslice 𝓤 H A W (Referent.rtF (Referent.fInt Syntax.w8)) (Syntax.tyRef (Syntax.named 0) Syntax.imm (Syntax.tyInt Syntax.w8)) 0,
+                Shared.reads-sslice 𝓤 H A W (Referent.rtF
+                    (Referent.fInt Syntax.w8)) (Syntax.tyRef (Syntax.named 0) Syntax.imm (Syntax.tyInt Syntax.w8)) 0,
                 Path'.refl,
                 (
                   ShrSlice.spares-sslice 𝓤 H A W (Referent.rtF (Referent.fInt Syntax.w8)) (Syntax.tyRef (Syntax.named 1) Syntax.imm (Syntax.tyInt Syntax.w8)) 1,
@@ -3109,45 +1820,36 @@ module _ (claims· : Claims) where
                       (Referent.fInt Syntax.w8)) (Syntax.tyRef (Syntax.named 1) Syntax.imm (Syntax.tyInt Syntax.w8)) 1,
                   Path'.refl,
                   (
-                    Reads'.as-is 𝓤 H A (Mut.mslice (Referent.rtF (Referent.fInt Syntax.w16))
-                        (Syntax.tyRef Syntax.erased Syntax.mut (Syntax.tyInt Syntax.w16)) 3),
-                    Mut.reads-mslice 𝓤 H A W (Referent.rtF (Referent.fInt Syntax.w16)) (Syntax.tyRef Syntax.erased Syntax.mut (Syntax.tyInt
-                        Syntax.w16)) 3,
+                    Reads'.as-is 𝓤 H A (Mut.mslice (Referent.rtF (Referent.fInt Syntax.w16)) (Syntax.tyRef Syntax.erased Syntax.mut (Syntax.tyInt Syntax.w16)) 3),
+                    Mut.reads-mslice 𝓤 H A W (Referent.rtF
+                        (Referent.fInt Syntax.w16)) (Syntax.tyRef Syntax.erased Syntax.mut (Syntax.tyInt Syntax.w16)) 3,
                     Path'.refl,
                     (
                       Reads'.as-is 𝓤 H A (Mut.mslice (Element.type) (Syntax.tyRef Syntax.erased Syntax.mut Element.behind) 4),
-                      Mut.reads-mslice 𝓤 H A W (Element.type) (Syntax.tyRef
-                          Syntax.erased Syntax.mut Element.behind) 4,
+                      Mut.reads-mslice 𝓤 H A W (Element.type) (Syntax.tyRef Syntax.erased Syntax.mut
+                          Element.behind) 4,
                       Path'.refl,
                       (
-                        Reads'.as-is 𝓤 H A (Mut.mslice (Referent.rtF (Referent.fInt Syntax.w16)) (Syntax.tyRef Syntax.erased Syntax.mut (Syntax.tyInt
-                            Syntax.w16)) 5),
-                        Mut.reads-mslice 𝓤 H A W (Referent.rtF (Referent.fInt Syntax.w16)) (Syntax.tyRef Syntax.erased Syntax.mut (Syntax.tyInt Syntax.w16)) 5,
+                        Reads'.as-is 𝓤 H A (Mut.mslice (Referent.rtF (Referent.fInt Syntax.w16)) (Syntax.tyRef Syntax.erased Syntax.mut (Syntax.tyInt Syntax.w16)) 5),
+                        Mut.reads-mslice 𝓤 H A W (Referent.rtF
+                            (Referent.fInt Syntax.w16)) (Syntax.tyRef Syntax.erased Syntax.mut (Syntax.tyInt Syntax.w16)) 5,
                         Path'.refl,
                         (
                           (
-                            Yields.yields-copy 𝓤
-                                H A W (λ ρ. Unit) (Declared'.row Form.the-type) Path'.refl (Copies.cStruct Form.the-type Laws.the-laws Laws.the-copy .copy 𝓤 H A W) (Rows'.whole (Declared'.row Form.the-type)) (λ x. x) (λ x.
-                                x) (λ ρ told. Local.mem-whole 𝓤 H A W (Declared'.row Form.the-type) ρ) λ ρ told. Local.whole-mem 𝓤 H A W (Declared'.row Form.the-type) ρ,
+                            Yields.yields-copy 𝓤 H A W (λ ρ. Unit) (Declared'.row Form.the-type) Path'.refl (Copies.cStruct Form.the-type Laws.the-laws Laws.the-copy .copy 𝓤 H A W) (Rows'.whole (Declared'.row
+                                Form.the-type)) (λ x. x) (λ x. x) (λ ρ told. Local.mem-whole 𝓤 H A W (Declared'.row Form.the-type) ρ) λ ρ told. Local.whole-mem 𝓤 H A W (Declared'.row Form.the-type) ρ,
                             Path'.refl,
                           ),
                           (
-                            ShrRef.spares-sref 𝓤 H A W
-                                (Array'.Array (Referent.rtF (Referent.fInt Syntax.w16)) 768) (Syntax.tyRef Syntax.erased Syntax.imm (Syntax.tyArray (Syntax.tyInt Syntax.w16) 768)) 6,
-                            Reads'.reads-sref 𝓤 H A W (Array'.Array
-                                (Referent.rtF (Referent.fInt Syntax.w16)) 768) (Syntax.tyRef Syntax.erased Syntax.imm (Syntax.tyArray (Syntax.tyInt Syntax.w16) 768)) 6,
+                            ShrRef.spares-sref 𝓤 H A W (Array'.Array (Referent.rtF (Referent.fInt Syntax.w16)) 768) (Syntax.tyRef Syntax.erased Syntax.imm (Syntax.tyArray (Syntax.tyInt Syntax.w16) 768)) 6,
+                            Reads'.reads-sref 𝓤 H A W (Array'.Array (Referent.rtF (Referent.fInt Syntax.w16)) 768) (Syntax.tyRef Syntax.erased Syntax.imm (Syntax.tyArray (Syntax.tyInt Syntax.w16) 768)) 6,
                             Path'.refl,
                             (
-                              (
-                                Array.arr-yields 𝓤 H A W (Array.eInt
-                                    Syntax.w8) (Array.eInt-laws Syntax.w8) 36,
-                                Path'.refl,
-                              ),
+                              (Array.arr-yields 𝓤 H A W (Array.eInt Syntax.w8) (Array.eInt-laws Syntax.w8) 36, Path'.refl),
                               (
                                 (
-                                  Yields.yields-copy 𝓤 H A W (λ ρ. Unit) (Declared'.row Part.the-type) Path'.refl (Copies.cStruct Part.the-type Laws''.the-laws
-                                      Laws''.the-copy .copy 𝓤 H A W) (Rows'.whole (Declared'.row Part.the-type)) (λ x. x) (λ x. x) (λ ρ told. Local.mem-whole 𝓤 H A W (Declared'.row Part.the-type) ρ) λ ρ told. Local.whole-mem 𝓤 H
-                                      A W (Declared'.row Part.the-type) ρ,
+                                  Yields.yields-copy 𝓤 H A W (λ ρ. Unit) (Declared'.row Part.the-type) Path'.refl (Copies.cStruct Part.the-type Laws''.the-laws Laws''.the-copy .copy 𝓤 H A W) (Rows'.whole (Declared'.row
+                                      Part.the-type)) (λ x. x) (λ x. x) (λ ρ told. Local.mem-whole 𝓤 H A W (Declared'.row Part.the-type) ρ) λ ρ told. Local.whole-mem 𝓤 H A W (Declared'.row Part.the-type) ρ,
                                   Path'.refl,
                                 ),
                                 ((Scalar.reads-sc 𝓤 H A W (Row.sInt Syntax.w64), Path'.refl), tt),
@@ -3159,12 +1861,9 @@ module _ (claims· : Claims) where
                     ),
                   ),
                 ),
-              ) (Reads'.room-gone 𝓤 H A (Syntax.tyEnum
-              (List._∷_ 98 (List._∷_ 108 (List._∷_ 111 (List._∷_ 99 (List._∷_ 107 (List._∷_ 58 (List._∷_ 58 (List._∷_ 87 (List._∷_ 97 (List._∷_ 108 (List._∷_ 107 (List._∷_ 101 (List._∷_ 100
-              List.[]))))))))))))) (Syntax.ttcons (Syntax.tcons (Syntax.tyStruct (List._∷_ 98 (List._∷_ 105 (List._∷_ 116 (List._∷_ 115 (List._∷_ 58 (List._∷_ 58 (List._∷_ 66 (List._∷_ 105 (List._∷_ 116
-              (List._∷_ 80 (List._∷_ 111 (List._∷_ 115 (List._∷_ 105 (List._∷_ 116 (List._∷_ 105 (List._∷_ 111 (List._∷_ 110 List.[]))))))))))))))))) (Syntax.tcons (Syntax.tyInt Syntax.w64) Syntax.tnil))
-              (Syntax.tcons (Syntax.tyInt Syntax.w64) Syntax.tnil)) (Syntax.ttcons (Syntax.tcons (Syntax.tyInt Syntax.w64) Syntax.tnil) Syntax.ttnil)))) (tt, (tt, (tt, (tt, (tt, (tt, tt)))))) Path'.refl)
-              d22
+              ) (Reads'.room-gone 𝓤 H A (Syntax.tyEnum (List._∷_ 98 (List._∷_ 108 (List._∷_ 111 (List._∷_ 99 (List._∷_ 107
+              (List._∷_ 58 (List._∷_ 58 (List._∷_ 87 (List._∷_ 97 (List._∷_ 108 (List._∷_ 107 (List._∷_ 101 (List._∷_ 100 List.[]))))))))))))) (Syntax.ttcons (Syntax.tcons y3 (Syntax.tcons (Syntax.tyInt
+              Syntax.w64) Syntax.tnil)) (Syntax.ttcons (Syntax.tcons (Syntax.tyInt Syntax.w64) Syntax.tnil) Syntax.ttnil)))) (tt, (tt, (tt, (tt, (tt, (tt, tt)))))) Path'.refl) d22
 
           d24 : Typed.Typed 𝓤 H A 𝓣 E G34 b21 Δ0 (at24 bs)
           d24 = Typed.s-seq 𝓤 H A W 𝓣 E G34 G35 b17 b20 Δ0 (Typed.give (s33 bs)) (at23 bs) (Local.t-sc-share 𝓤 H A W E 𝓣 G34 8 24 6 (Array'.Array (Referent.rtF (Referent.fInt Syntax.w16)) 768)
@@ -3172,61 +1871,16 @@ module _ (claims· : Claims) where
               (Syntax.tyRef Syntax.erased Syntax.imm (Syntax.tyArray (Syntax.tyInt Syntax.w16) 768))) Path'.refl λ b o. tt) d23
 
           d25 : Typed.Typed 𝓤 H A 𝓣 E G33 b21 Δ0 (at25 bs)
-          d25 = Typed.g-pre 𝓤 H A W 𝓣 E G33 G34 b21 Δ0 (λ Ψ. Ψ) (at24 bs) (Lifetime.g-begin 𝓤 H A W E G33 6 (
-            tt,
-            (
-              tt,
-              (
-                tt,
-                (
-                  (tt, tt),
-                  (
-                    tt,
-                    (
-                      tt,
-                      (
-                        tt,
-                        (
-                          tt,
-                          (
-                            tt,
-                            (
-                              tt,
-                              (
-                                tt,
-                                (
-                                  tt,
-                                  (
-                                    tt,
-                                    (
-                                      tt,
-                                      (
-                                        tt,
-                                        (tt, (tt, (tt, (tt, (tt, (tt, (tt, (tt, (tt, (tt, tt)))))))))),
-                                      ),
-                                    ),
-                                  ),
-                                ),
-                              ),
-                            ),
-                          ),
-                        ),
-                      ),
-                    ),
-                  ),
-                ),
-              ),
-            ),
-          )) d24
+          d25 = Typed.g-pre 𝓤 H A W 𝓣 E G33 G34 b21 Δ0 (λ Ψ. Ψ) (at24 bs) (Lifetime.g-begin 𝓤 H A W E G33 6
+              (tt, (tt, (tt, ((tt, tt), (tt, (tt, (tt, (tt, (tt, (tt, (tt, (tt, (tt, (tt, (tt, (tt, (tt, (tt, (tt, (tt, (tt, (tt, (tt, (tt, (tt, tt)))))))))))))))))))))))))) d24
 
           d26 : Typed.Typed 𝓤 H A 𝓣 E G32 b22 Δ0 (at26 bs)
           d26 = Typed.s-seq 𝓤 H A W 𝓣 E G32 G33 b16 b21 Δ0 (Typed.ask (s31 bs)) (at25 bs) (Relend.t-sl-aggregate 𝓤 H A W E (Referent.rtF (Referent.fInt Syntax.w16)) 𝓣 (Relend.asMut (Referent.rtF
               (Referent.fInt Syntax.w16))) G32 22 23 5 (Syntax.tyRef Syntax.erased Syntax.mut (Syntax.tyInt Syntax.w16)) (Syntax.tyRef Syntax.erased Syntax.mut (Syntax.tyInt Syntax.w16)) (λ x. x)
               (Scalar.oFld 3 (List._∷_ (Syntax.field 1) List.[]) (Syntax.tyInt Syntax.w64) 8 λ v. Shared.lenV (v .0)) (Reads'.as-is 𝓤 H A (Relend.msptr (Referent.rtF (Referent.fInt Syntax.w16))
-              (Syntax.tyRef Syntax.erased Syntax.mut (Syntax.tyInt Syntax.w16)) 5)) (Reads'.room-gone 𝓤 H A (Syntax.tyStruct (List._∷_ 38 (List._∷_ 91 (List._∷_ 93 List.[]))) (Syntax.tcons (Syntax.tyRef
-              Syntax.erased Syntax.mut (Syntax.tyInt Syntax.w16)) (Syntax.tcons (Syntax.tyInt Syntax.w64) Syntax.tnil)))) (
-                Relend.reads-owed-len 𝓤 H A W (Referent.rtF (Referent.fInt Syntax.w16))
-                    (Syntax.tyRef (Syntax.named 2) Syntax.mut (Syntax.tyInt Syntax.w16)) 2 5 (Row.lease (κs .1 .1 .0) (qs .1 .1 .0)) 8 Path'.refl,
+              (Syntax.tyRef Syntax.erased Syntax.mut (Syntax.tyInt Syntax.w16)) 5)) (Reads'.room-gone 𝓤 H A y1) (
+                Relend.reads-owed-len 𝓤 H A W (Referent.rtF (Referent.fInt Syntax.w16)) (Syntax.tyRef (Syntax.named 2) Syntax.mut (Syntax.tyInt Syntax.w16)) 2 5 (Row.lease (κs .1 .1 .0) (qs .1 .1 .0)) 8
+                    Path'.refl,
                 Path'.refl,
               ) Path'.refl Path'.refl λ b o k. tt) d25
 
@@ -3237,61 +1891,13 @@ module _ (claims· : Claims) where
               Syntax.mut (Syntax.tyInt Syntax.w16))) Path'.refl tt Path'.refl Path'.refl Path'.refl λ b o. tt) d26
 
           d28 : Typed.Typed 𝓤 H A 𝓣 E G30 b23 Δ0 (at28 bs)
-          d28 = Typed.g-pre 𝓤 H A W 𝓣 E G30 G31 b23 Δ0 (λ Ψ. Ψ) (at27 bs) (Lifetime.g-begin 𝓤 H A W E G30 5 (
-            tt,
-            (
-              tt,
-              (
-                tt,
-                (
-                  tt,
-                  (
-                    tt,
-                    (
-                      tt,
-                      (
-                        tt,
-                        (
-                          tt,
-                          (
-                            tt,
-                            (
-                              tt,
-                              (
-                                tt,
-                                (
-                                  tt,
-                                  (
-                                    tt,
-                                    (
-                                      tt,
-                                      (
-                                        tt,
-                                        (
-                                          tt,
-                                          (tt, (tt, (tt, (tt, (tt, (tt, (tt, (tt, (tt, tt))))))))),
-                                        ),
-                                      ),
-                                    ),
-                                  ),
-                                ),
-                              ),
-                            ),
-                          ),
-                        ),
-                      ),
-                    ),
-                  ),
-                ),
-              ),
-            ),
-          )) d27
+          d28 = Typed.g-pre 𝓤 H A W 𝓣 E G30 G31 b23 Δ0 (λ Ψ. Ψ) (at27 bs) (Lifetime.g-begin 𝓤 H A W E G30 5
+              (tt, (tt, (tt, (tt, (tt, (tt, (tt, (tt, (tt, (tt, (tt, (tt, (tt, (tt, (tt, (tt, (tt, (tt, (tt, (tt, (tt, (tt, (tt, (tt, (tt, tt)))))))))))))))))))))))))) d27
 
           d29 : Typed.Typed 𝓤 H A 𝓣 E G29 b24 Δ0 (at29 bs)
           d29 = Typed.s-seq 𝓤 H A W 𝓣 E G29 G30 b14 b23 Δ0 (Typed.ask (s28 bs)) (at28 bs) (Relend.t-sl-aggregate 𝓤 H A W E (Element.type) 𝓣 (Relend.asMut (Element.type)) G29 20 21 4 (Syntax.tyRef
               Syntax.erased Syntax.mut (Syntax.tyArray Element.behind 336)) (Syntax.tyRef Syntax.erased Syntax.mut Element.behind) (λ x. x) (Scalar.oInt Syntax.w64 336) (Reads'.as-is 𝓤 H A (Relend.msptr
-              (Element.type) (Syntax.tyRef Syntax.erased Syntax.mut (Syntax.tyArray Element.behind 336)) 4)) (Reads'.room-gone 𝓤 H A (Syntax.tyStruct (List._∷_ 38 (List._∷_ 91 (List._∷_ 93 List.[])))
-              (Syntax.tcons (Syntax.tyRef Syntax.erased Syntax.mut Element.behind) (Syntax.tcons (Syntax.tyInt Syntax.w64) Syntax.tnil)))) tt Path'.refl Path'.refl λ b o k. tt) d28
+              (Element.type) (Syntax.tyRef Syntax.erased Syntax.mut (Syntax.tyArray Element.behind 336)) 4)) (Reads'.room-gone 𝓤 H A y2) tt Path'.refl Path'.refl λ b o k. tt) d28
 
           d30 : Typed.Typed 𝓤 H A 𝓣 E G28 b25 Δ0 (at30 bs)
           d30 = Typed.s-seq 𝓤 H A W 𝓣 E G28 G29 b13 b24 Δ0 (Typed.give (s27 bs)) (at29 bs) (Borrow.t-arr-borrow 𝓤 H A W E 𝓣 (Element.type) G28 10 20 336 4 (Syntax.tyRef Syntax.erased Syntax.mut
@@ -3299,55 +1905,8 @@ module _ (claims· : Claims) where
               Element.behind 336))) Path'.refl (λ b o. tt) (Dec'.lit< tt, Dec'.lit< tt)) d29
 
           d31 : Typed.Typed 𝓤 H A 𝓣 E G27 b25 Δ0 (at31 bs)
-          d31 = Typed.g-pre 𝓤 H A W 𝓣 E G27 G28 b25 Δ0 (λ Ψ. Ψ) (at30 bs) (Lifetime.g-begin 𝓤 H A W E G27 4 (
-            tt,
-            (
-              tt,
-              (
-                tt,
-                (
-                  tt,
-                  (
-                    tt,
-                    (
-                      tt,
-                      (
-                        tt,
-                        (
-                          tt,
-                          (
-                            tt,
-                            (
-                              tt,
-                              (
-                                tt,
-                                (
-                                  tt,
-                                  (
-                                    tt,
-                                    (
-                                      tt,
-                                      (
-                                        tt,
-                                        (
-                                          tt,
-                                          (tt, (tt, (tt, (tt, (tt, (tt, (tt, (tt, (tt, tt))))))))),
-                                        ),
-                                      ),
-                                    ),
-                                  ),
-                                ),
-                              ),
-                            ),
-                          ),
-                        ),
-                      ),
-                    ),
-                  ),
-                ),
-              ),
-            ),
-          )) d30
+          d31 = Typed.g-pre 𝓤 H A W 𝓣 E G27 G28 b25 Δ0 (λ Ψ. Ψ) (at30 bs) (Lifetime.g-begin 𝓤 H A W E G27 4
+              (tt, (tt, (tt, (tt, (tt, (tt, (tt, (tt, (tt, (tt, (tt, (tt, (tt, (tt, (tt, (tt, (tt, (tt, (tt, (tt, (tt, (tt, (tt, (tt, (tt, tt)))))))))))))))))))))))))) d30
 
           d32 : Typed.Typed 𝓤 H A 𝓣 E G26 b25 Δ0 (at32 bs)
           d32 = Typed.g-pre 𝓤 H A W 𝓣 E G26 G27 b25 Δ0 (Typed.pass T26 T27 (s25 bs)) (at31 bs) (Scalar.g-room 𝓤 H A W E G26 14 (Syntax.tyInt Syntax.w64) (Scalar.room-sc 𝓤 H A W (Row.sInt Syntax.w64)))
@@ -3357,8 +1916,7 @@ module _ (claims· : Claims) where
           d33 = Typed.s-seq 𝓤 H A W 𝓣 E G25 G26 b12 b25 Δ0 (Typed.ask (s24 bs)) (at32 bs) (Relend.t-sl-aggregate 𝓤 H A W E (Referent.rtF (Referent.fInt Syntax.w16)) 𝓣 (Relend.asMut (Referent.rtF
               (Referent.fInt Syntax.w16))) G25 18 19 3 (Syntax.tyRef Syntax.erased Syntax.mut (Syntax.tyInt Syntax.w16)) (Syntax.tyRef Syntax.erased Syntax.mut (Syntax.tyInt Syntax.w16)) (λ x. x)
               (Scalar.oAt 14 (Syntax.tyInt Syntax.w64) (Row.valS (Row.sInt Syntax.w64))) (Reads'.as-is 𝓤 H A (Relend.msptr (Referent.rtF (Referent.fInt Syntax.w16)) (Syntax.tyRef Syntax.erased Syntax.mut
-              (Syntax.tyInt Syntax.w16)) 3)) (Reads'.room-gone 𝓤 H A (Syntax.tyStruct (List._∷_ 38 (List._∷_ 91 (List._∷_ 93 List.[]))) (Syntax.tcons (Syntax.tyRef Syntax.erased Syntax.mut (Syntax.tyInt
-              Syntax.w16)) (Syntax.tcons (Syntax.tyInt Syntax.w64) Syntax.tnil)))) (Scalar.reads-sc 𝓤 H A W (Row.sInt Syntax.w64), Path'.refl) Path'.refl Path'.refl λ b o k. tt) d32
+              (Syntax.tyInt Syntax.w16)) 3)) (Reads'.room-gone 𝓤 H A y1) (Scalar.reads-sc 𝓤 H A W (Row.sInt Syntax.w64), Path'.refl) Path'.refl Path'.refl λ b o k. tt) d32
 
           d34 : Typed.Typed 𝓤 H A 𝓣 E G24 b26 Δ0 (at34 bs)
           d34 = Typed.g-pre 𝓤 H A W 𝓣 E G24 G25 b26 Δ0 (Typed.pass T24 T25 (s23 bs)) (at33 bs) (Scalar.g-room 𝓤 H A W E G24 17 Syntax.tyPtr (Scalar.room-sc 𝓤 H A W Row.sPtr)) d33
@@ -3370,55 +1928,8 @@ module _ (claims· : Claims) where
               Syntax.erased Syntax.mut (Syntax.tyInt Syntax.w16))) Path'.refl Path'.refl (λ b o. tt) (Dec'.lit< tt, Dec'.lit< tt)) d34
 
           d36 : Typed.Typed 𝓤 H A 𝓣 E G22 b27 Δ0 (at36 bs)
-          d36 = Typed.g-pre 𝓤 H A W 𝓣 E G22 G23 b27 Δ0 (λ Ψ. Ψ) (at35 bs) (Lifetime.g-begin 𝓤 H A W E G22 3 (
-            tt,
-            (
-              tt,
-              (
-                tt,
-                (
-                  tt,
-                  (
-                    tt,
-                    (
-                      tt,
-                      (
-                        tt,
-                        (
-                          tt,
-                          (
-                            tt,
-                            (
-                              tt,
-                              (
-                                tt,
-                                (
-                                  tt,
-                                  (
-                                    tt,
-                                    (
-                                      tt,
-                                      (
-                                        tt,
-                                        (
-                                          tt,
-                                          (tt, (tt, (tt, (tt, (tt, (tt, (tt, (tt, (tt, tt))))))))),
-                                        ),
-                                      ),
-                                    ),
-                                  ),
-                                ),
-                              ),
-                            ),
-                          ),
-                        ),
-                      ),
-                    ),
-                  ),
-                ),
-              ),
-            ),
-          )) d35
+          d36 = Typed.g-pre 𝓤 H A W 𝓣 E G22 G23 b27 Δ0 (λ Ψ. Ψ) (at35 bs) (Lifetime.g-begin 𝓤 H A W E G22 3
+              (tt, (tt, (tt, (tt, (tt, (tt, (tt, (tt, (tt, (tt, (tt, (tt, (tt, (tt, (tt, (tt, (tt, (tt, (tt, (tt, (tt, (tt, (tt, (tt, (tt, tt)))))))))))))))))))))))))) d35
 
           d37 : Typed.Typed 𝓤 H A 𝓣 E G21 b28 Δ0 (at37 bs)
           d37 = Typed.s-seq 𝓤 H A W 𝓣 E G21 G22 b10 b27 Δ0 (Typed.ask (s20 bs)) (at36 bs) (Scalar.t-op2 𝓤 H A W E 𝓣 G21 (Syntax.sub Syntax.unsigned) (Scalar.oAt 11 (Syntax.tyInt Syntax.w64) (Row.valS
@@ -3458,15 +1969,9 @@ module _ (claims· : Claims) where
               λ u. tt) d43
 
           d45 : Typed.Typed 𝓤 H A 𝓣 E G13 b33 Δ0 (at45 bs)
-          d45 = Typed.s-seq 𝓤 H A W 𝓣 E G13 G14 b5 b32 Δ0 (Typed.both (s12 bs)) (at44 bs) (Plain.t-call-plain 𝓤 H A W 𝓣 0 ps·2 r·2 (claims· .4) (claims· .5) "block::width" (known .2) E (λ pos β. β)
-              G13 (Bool.bFld 4 (List._∷_ (Syntax.field 1) List.[]) 4 λ x. Form.struct .as-values x .1 .0, tt) 14 List.[] (Call.sub-id 𝓤 H A W (G13 .slots)) (
-                (
-                  Reads.reads-field 𝓤 H A W Form.the-type
-                      Laws.the-laws 1 Syntax.tyBool 4 Path'.refl,
-                  Path'.refl,
-                ),
-                tt,
-              ) (Reads'.room-gone 𝓤 H A (Syntax.tyInt Syntax.w64)) tt Path'.refl) d44
+          d45 = Typed.s-seq 𝓤 H A W 𝓣 E G13 G14 b5 b32 Δ0 (Typed.both (s12 bs)) (at44 bs) (Plain.t-call-plain 𝓤 H A W 𝓣 0 ps·2 r·2 (claims· .4) (claims· .5) "map::width" (known .2) E (λ pos β. β) G13
+              (Bool.bFld 4 (List._∷_ (Syntax.field 1) List.[]) 4 λ x. Form.struct .as-values x .1 .0, tt) 14 List.[] (Call.sub-id 𝓤 H A W (G13 .slots))
+              ((Reads.reads-field 𝓤 H A W Form.the-type Laws.the-laws 1 Syntax.tyBool 4 Path'.refl, Path'.refl), tt) (Reads'.room-gone 𝓤 H A (Syntax.tyInt Syntax.w64)) tt Path'.refl) d44
 
           d46 : Typed.Typed 𝓤 H A 𝓣 E G12 b33 Δ0 (at46 bs)
           d46 = Typed.g-pre 𝓤 H A W 𝓣 E G12 G13 b33 Δ0 (Typed.pass T12 T13 (s11 bs)) (at45 bs) (Scalar.g-room 𝓤 H A W E G12 13 (Element.held) (Element.room 𝓤 H A W)) d45
@@ -3540,19 +2045,18 @@ module _ (claims· : Claims) where
             ty = Declared'.row Form.the-type;
             one = Path'.refl;
             val = Laws'4.val Form.the-type Laws.the-laws;
-            tells = Laws'4.tells Form.the-type
-                Laws.the-laws;
-            still = Laws'4.still Form.the-type Laws.the-copy Exit.yes;
+            tells = Laws'4.tells Form.the-type Laws.the-laws;
+            still = Laws'4.still Form.the-type
+                Laws.the-copy Exit.yes;
             row = Rows'.whole (Declared'.row Form.the-type);
             rd = λ x. x;
             mk = λ x. x;
           } λ M 𝓤 H A W. record {
-            copies =
-                Laws'4.copy Form.the-type Laws.the-copy 𝓤 H A W;
+            copies = Laws'4.copy Form.the-type Laws.the-copy 𝓤 H A W;
             lawful = Laws'4.lawful Form.the-type Laws.the-laws 𝓤 H A W;
             makes = Laws'4.makes Form.the-type Laws.the-plain 𝓤 H A;
-            in-mem = Local.mem-whole
-                𝓤 H A W (Declared'.row Form.the-type);
+            in-mem =
+                Local.mem-whole 𝓤 H A W (Declared'.row Form.the-type);
             of-mem = Local.whole-mem 𝓤 H A W (Declared'.row Form.the-type);
           })
           pub tile : Kinds.Den {n = 3} κs (Array.pArr (Array.eInt Syntax.w8) (Array.eInt-laws Syntax.w8) 36)
@@ -3560,19 +2064,18 @@ module _ (claims· : Claims) where
             ty = Declared'.row Part.the-type;
             one = Path'.refl;
             val = Laws'4.val Part.the-type Laws''.the-laws;
-            tells = Laws'4.tells Part.the-type
-                Laws''.the-laws;
-            still = Laws'4.still Part.the-type Laws''.the-copy Exit.yes;
+            tells = Laws'4.tells Part.the-type Laws''.the-laws;
+            still = Laws'4.still Part.the-type
+                Laws''.the-copy Exit.yes;
             row = Rows'.whole (Declared'.row Part.the-type);
             rd = λ x. x;
             mk = λ x. x;
           } λ M 𝓤 H A W. record {
-            copies =
-                Laws'4.copy Part.the-type Laws''.the-copy 𝓤 H A W;
+            copies = Laws'4.copy Part.the-type Laws''.the-copy 𝓤 H A W;
             lawful = Laws'4.lawful Part.the-type Laws''.the-laws 𝓤 H A W;
             makes = Laws'4.makes Part.the-type Laws''.the-plain 𝓤 H A;
-            in-mem =
-                Local.mem-whole 𝓤 H A W (Declared'.row Part.the-type);
+            in-mem
+                = Local.mem-whole 𝓤 H A W (Declared'.row Part.the-type);
             of-mem = Local.whole-mem 𝓤 H A W (Declared'.row Part.the-type);
           })
           pub count : Kinds.Den {n = 3} κs (Num.pNum Syntax.w64)
@@ -3591,8 +2094,8 @@ module _ (claims· : Claims) where
       W0 = λ κs args blocks. (
         λ u. ⊥,
         tt,
-        λ u. Enter.Fixs κs 1 ps xs (dens κs args) (u .1) × Post· κs (dens κs args) (Function.resV r κs (u .0)) (Clauses.atExit (Kinds.endedOf 3 ps r) κs (dens κs
-            args) (Enter.lastsP κs 1 ps xs (dens κs args) (u .1))),
+        λ u. Enter.Fixs κs 1 ps xs (dens κs args) (u .1) × Post· κs (dens κs args) (Function.resV r κs (u .0)) (Clauses.atExit (Kinds.endedOf 3 ps r) κs (dens κs args) (Enter.lastsP κs 1 ps
+            xs (dens κs args) (u .1))),
       )
 
       pub record Start : Type 0 where
@@ -3699,8 +2202,8 @@ module _ (claims· : Claims) where
 
       module _ (before· : After-cleared) where
         abbrev pub After-width·own : Type 0
-        After-width·own = Called.Called ps·2 r·2 (claims· .5) T13 (Bool.bFld 4 (List._∷_ (Syntax.field 1) List.[]) 4 λ x. Form.struct .as-values x .1 .0, tt) (m12 (before· .before)
-            (After-cleared·gave before·))
+        After-width·own = Called.Called ps·2 r·2 (claims· .5) T13 (Bool.bFld 4 (List._∷_ (Syntax.field 1) List.[]) 4 λ x. Form.struct .as-values x .1 .0, tt) (m12 (before· .before) (After-cleared·gave
+            before·))
 
       pub record After-width : Type 0 where
         pub before : After-cleared
@@ -3829,32 +2332,17 @@ module _ (claims· : Claims) where
         After-walk·own = Called.Called ps·3 r·3 (claims· .7) T35 (
           record { pos = 1; ty = Syntax.tyRef (Syntax.named 0) Syntax.imm (Syntax.tyInt Syntax.w8); ref = λ x. x },
           (
-            record {
-              pos = 2;
-              ty =
-                  Syntax.tyRef (Syntax.named 1) Syntax.imm (Syntax.tyInt Syntax.w8);
-              ref = λ x. x;
-            },
+            record { pos = 2; ty = Syntax.tyRef (Syntax.named 1) Syntax.imm (Syntax.tyInt Syntax.w8); ref = λ x. x },
             (
               record { pos = 19; ty = Syntax.tyRef Syntax.erased Syntax.mut (Syntax.tyInt Syntax.w16); ref = λ x. x },
               (
                 record { pos = 21; ty = Syntax.tyRef Syntax.erased Syntax.mut Element.behind; ref = λ x. x },
                 (
-                  record {
-                    pos = 23;
-                    ty = Syntax.tyRef Syntax.erased Syntax.mut (Syntax.tyInt Syntax.w16);
-                    ref
-                        = λ x. x;
-                  },
+                  record { pos = 23; ty = Syntax.tyRef Syntax.erased Syntax.mut (Syntax.tyInt Syntax.w16); ref = λ x. x },
                   (
                     record { pos = 4; st = List.[]; d = 0; at = λ x. x },
                     (
-                      record {
-                        pos = 24;
-                        ty = Syntax.tyRef Syntax.erased Syntax.imm (Syntax.tyArray (Syntax.tyInt Syntax.w16) 768);
-                        ref = λ x.
-                            x;
-                      },
+                      record { pos = 24; ty = Syntax.tyRef Syntax.erased Syntax.imm (Syntax.tyArray (Syntax.tyInt Syntax.w16) 768); ref = λ x. x },
                       (record { pos = 5; st = List.[]; d = 0; at = λ x. x }, (record { pos = 6; st = List.[]; d = 0; at = λ x. x }, (Num.vAt 7 λ x. x, tt))),
                     ),
                   ),
@@ -3862,8 +2350,7 @@ module _ (claims· : Claims) where
               ),
             ),
           ),
-        ) (m30 (before· .before)
-            (before· .places .given))
+        ) (m30 (before· .before) (before· .places .given))
 
       pub record After-walk : Type 0 where
         pub before : After-places
@@ -3874,31 +2361,17 @@ module _ (claims· : Claims) where
       After-walk·gave = λ c. Called.given ps·3 r·3 (claims· .7) T35 (
         record { pos = 1; ty = Syntax.tyRef (Syntax.named 0) Syntax.imm (Syntax.tyInt Syntax.w8); ref = λ x. x },
         (
-          record {
-            pos = 2;
-            ty
-                = Syntax.tyRef (Syntax.named 1) Syntax.imm (Syntax.tyInt Syntax.w8);
-            ref = λ x. x;
-          },
+          record { pos = 2; ty = Syntax.tyRef (Syntax.named 1) Syntax.imm (Syntax.tyInt Syntax.w8); ref = λ x. x },
           (
             record { pos = 19; ty = Syntax.tyRef Syntax.erased Syntax.mut (Syntax.tyInt Syntax.w16); ref = λ x. x },
             (
               record { pos = 21; ty = Syntax.tyRef Syntax.erased Syntax.mut Element.behind; ref = λ x. x },
               (
-                record {
-                  pos = 23;
-                  ty = Syntax.tyRef Syntax.erased Syntax.mut (Syntax.tyInt Syntax.w16);
-                  ref =
-                      λ x. x;
-                },
+                record { pos = 23; ty = Syntax.tyRef Syntax.erased Syntax.mut (Syntax.tyInt Syntax.w16); ref = λ x. x },
                 (
                   record { pos = 4; st = List.[]; d = 0; at = λ x. x },
                   (
-                    record {
-                      pos = 24;
-                      ty = Syntax.tyRef Syntax.erased Syntax.imm (Syntax.tyArray (Syntax.tyInt Syntax.w16) 768);
-                      ref = λ x. x;
-                    },
+                    record { pos = 24; ty = Syntax.tyRef Syntax.erased Syntax.imm (Syntax.tyArray (Syntax.tyInt Syntax.w16) 768); ref = λ x. x },
                     (record { pos = 5; st = List.[]; d = 0; at = λ x. x }, (record { pos = 6; st = List.[]; d = 0; at = λ x. x }, (Num.vAt 7 λ x. x, tt))),
                   ),
                 ),
@@ -3906,8 +2379,8 @@ module _ (claims· : Claims) where
             ),
           ),
         ),
-      ) (m30 (c .before .before) (c
-          .before .places .given)) (c .walk)
+      ) (m30 (c .before .before) (c .before .places .given))
+          (c .walk)
 
       abbrev pub m32 : (before : After-places) → (given : s34 (before .before .before .before .before .before .before .before .before .before .before .blocks) .gives (m30 (before .before) (before
           .places .given))) → Typed.Mo T37
@@ -4035,42 +2508,21 @@ module _ (claims· : Claims) where
                     Path'.refl,
                     (
                       MutSlice.fix-len (Row.get 3 (T58 .locals) (m45 record {
-                        before = record {
-                          before
-                              = record { before = record { before = c .before; walk = c .walk }; lines2 = record { given = g } };
-                          rs2 = record { given = g' };
-                        };
+                        before = record { before = record { before = record { before = c .before; walk = c .walk }; lines2 = record { given = g } }; rs2 = record { given = g' } };
                         image = record { given = g'' };
-                      } g'3) .ptr) (Row.get 3
-                          (T58 .locals) (m45 record {
-                            before = record { before = record { before = record { before = c .before; walk = c .walk }; lines2 = record { given = g } }; rs2 = record { given = g' } };
-                            image
-                                = record { given = g'' };
-                          } g'3) .name) (Row.get 3 (T58 .locals) (m45 record {
+                      } g'3) .ptr) (Row.get 3 (T58 .locals) (m45 record {
+                        before = record { before = record { before = record { before = c .before; walk = c .walk }; lines2 = record { given = g } }; rs2 = record { given = g' } };
+                        image = record { given = g'' };
+                      } g'3) .name) (Row.get 3 (T58 .locals) (m45 record {
+                        before = record { before = record { before = record { before = c .before; walk = c .walk }; lines2 = record { given = g } }; rs2 = record { given = g' } };
+                        image = record { given = g'' };
+                      } g'3) .now) (dens (c .before .before .before .before .before .before .before .before .before .before .before .κs) (c .before .before .before .before .before .before .before .before .before
+                          .before .before .args) .1 .1 .0 .now) (same-length record {
                             before = record {
-                              before = record {
-                                before = record { before = c .before; walk = c .walk };
-                                lines2 = record {
-                                  given = g;
-                                };
-                              };
-                              rs2 = record { given = g' };
-                            };
-                            image = record { given = g'' };
-                          } g'3) .now) (dens (c .before .before .before .before .before .before .before .before .before .before .before
-                          .κs) (c .before .before .before .before .before .before .before .before .before .before .before .args) .1 .1 .0 .now) (same-length record {
-                            before = record {
-                              before = record {
-                                before = record
-                                    { before = record { before = c .before; walk = c .walk }; lines2 = record { given = g } };
-                                rs2 = record { given = g' };
-                              };
+                              before = record { before = record { before = record { before = c .before; walk = c .walk }; lines2 = record { given = g } }; rs2 = record { given = g' } };
                               image = record { given = g'' };
                             };
-                            slice-known2 = record {
-                              given =
-                                  g'3;
-                            };
+                            slice-known2 = record { given = g'3 };
                           }),
                       (tt, (tt, (tt, (tt, tt)))),
                     ),
@@ -4078,15 +2530,7 @@ module _ (claims· : Claims) where
                 ),
                 returns record {
                   before = record {
-                    before = record {
-                      before = record {
-                        before = record { before = c .before; walk = c .walk };
-                        lines2 = record {
-                          given = g;
-                        };
-                      };
-                      rs2 = record { given = g' };
-                    };
+                    before = record { before = record { before = record { before = c .before; walk = c .walk }; lines2 = record { given = g } }; rs2 = record { given = g' } };
                     image = record { given = g'' };
                   };
                   slice-known2 = record { given = g'3 };
@@ -4105,98 +2549,51 @@ module _ (claims· : Claims) where
             (
               tt,
               (
-                sub-walk record {
-                  before = c .before;
-                  width = c
-                      .width;
-                },
+                sub-walk record { before = c .before; width = c .width },
                 (
                   (Path'.refl, Path'.refl, part-lines-start record { before = c .before; width = c .width }, part-lines-end record { before = c .before; width = c .width }),
                   λ g. (
                     Relend.count-is T25 18 19 (λ x. x) (λ u. u .1 .1 .1 .1 .1 .1 .1 .1 .1 .1 .1 .1 .1 .1 .0) (m23 record { before = c .before; width = c .width } g) (g .1),
                     λ g'. (
-                      Relend.count-is T29 20 21 (λ x.
-                          x) (λ u. 336) (m26 record { before = record { before = c .before; width = c .width }; lines = record { given = g } } g') (slice-aggregate-walk record {
-                            before = record {
-                              before = record {
-                                before = c .before;
-                                width = c .width;
-                              };
-                              lines = record { given = g };
-                            };
-                            rs = record { given = g' };
-                          }),
+                      Relend.count-is T29 20 21 (λ x. x) (λ u. 336) (m26 record { before = record { before = c .before; width = c .width }; lines = record { given = g } } g') (slice-aggregate-walk record
+                          { before = record { before = record { before = c .before; width = c .width }; lines = record { given = g } }; rs = record { given = g' } }),
                       λ g''. (
                         Path'.refl,
                         λ g'3. (
                           walk-requires record {
                             before = record {
-                              before = record
-                                  { before = record { before = record { before = c .before; width = c .width }; lines = record { given = g } }; rs = record { given = g' } };
-                              walk-arg = record { given = g'' };
+                              before = record { before = record { before = record { before = c .before; width = c .width }; lines = record { given = g } }; rs = record { given = g' } };
+                              walk-arg = record {
+                                given = g'';
+                              };
                             };
-                            places =
-                                record { given = g'3 };
+                            places = record { given = g'3 };
                           },
                           λ g'4. lay4 record {
                             before = record {
                               before = record {
-                                before = record {
-                                  before = record {
-                                    before = record { before = c .before; width = c .width };
-                                    lines = record
-                                        { given = g };
-                                  };
-                                  rs = record { given = g' };
+                                before = record { before = record { before = record { before = c .before; width = c .width }; lines = record { given = g } }; rs = record { given = g' } };
+                                walk-arg = record {
+                                  given = g'';
                                 };
-                                walk-arg = record { given = g'' };
                               };
                               places = record { given = g'3 };
                             };
                             walk = Called.called ps·3 r·3 (claims· .7) T35 (
-                              record {
-                                pos = 1;
-                                ty
-                                    = Syntax.tyRef (Syntax.named 0) Syntax.imm (Syntax.tyInt Syntax.w8);
-                                ref = λ x. x;
-                              },
+                              record { pos = 1; ty = Syntax.tyRef (Syntax.named 0) Syntax.imm (Syntax.tyInt Syntax.w8); ref = λ x. x },
                               (
-                                record {
-                                  pos = 2;
-                                  ty = Syntax.tyRef (Syntax.named 1) Syntax.imm (Syntax.tyInt Syntax.w8);
-                                  ref = λ x. x;
-                                },
+                                record { pos = 2; ty = Syntax.tyRef (Syntax.named 1) Syntax.imm (Syntax.tyInt Syntax.w8); ref = λ x. x },
                                 (
                                   record { pos = 19; ty = Syntax.tyRef Syntax.erased Syntax.mut (Syntax.tyInt Syntax.w16); ref = λ x. x },
                                   (
-                                    record {
-                                      pos = 21;
-                                      ty = Syntax.tyRef Syntax.erased Syntax.mut Element.behind;
-                                      ref = λ x. x;
-                                    },
+                                    record { pos = 21; ty = Syntax.tyRef Syntax.erased Syntax.mut Element.behind; ref = λ x. x },
                                     (
                                       record { pos = 23; ty = Syntax.tyRef Syntax.erased Syntax.mut (Syntax.tyInt Syntax.w16); ref = λ x. x },
                                       (
                                         record { pos = 4; st = List.[]; d = 0; at = λ x. x },
                                         (
-                                          record {
-                                            pos = 24;
-                                            ty = Syntax.tyRef Syntax.erased Syntax.imm (Syntax.tyArray (Syntax.tyInt Syntax.w16) 768);
-                                            ref = λ x. x;
-                                          },
-                                          (
-                                            record { pos = 5; st = List.[]; d = 0; at = λ x. x },
-                                            (
-                                              record {
-                                                pos =
-                                                    6;
-                                                st = List.[];
-                                                d = 0;
-                                                at = λ x. x;
-                                              },
-                                              (Num.vAt 7 λ x. x, tt),
-                                            ),
-                                          ),
+                                          record { pos = 24; ty = Syntax.tyRef Syntax.erased Syntax.imm (Syntax.tyArray (Syntax.tyInt Syntax.w16) 768); ref = λ x. x },
+                                          (record { pos = 5; st = List.[]; d = 0; at = λ x. x }, (record { pos = 6; st = List.[]; d = 0; at = λ x. x }, (Num.vAt 7 λ x. x, tt))),
                                         ),
                                       ),
                                     ),
@@ -4204,18 +2601,10 @@ module _ (claims· : Claims) where
                                 ),
                               ),
                             ) (m30 record {
-                              before = record {
-                                before = record {
-                                  before = record {
-                                    before = c .before;
-                                    width = c
-                                        .width;
-                                  };
-                                  lines = record { given = g };
-                                };
-                                rs = record { given = g' };
+                              before = record { before = record { before = record { before = c .before; width = c .width }; lines = record { given = g } }; rs = record { given = g' } };
+                              walk-arg = record {
+                                given = g'';
                               };
-                              walk-arg = record { given = g'' };
                             } g'3) g'4;
                           },
                         ),
@@ -4234,8 +2623,8 @@ module _ (claims· : Claims) where
           width-requires record { before = c .before; cleared = c .cleared },
           λ g. lay3 record {
             before = record { before = c .before; cleared = c .cleared };
-            width = Called.called ps·2
-                r·2 (claims· .5) T13 (Bool.bFld 4 (List._∷_ (Syntax.field 1) List.[]) 4 λ x. Form.struct .as-values x .1 .0, tt) (m12 (c .before) (After-cleared·gave c)) g;
+            width = Called.called ps·2 r·2 (claims· .5) T13
+                (Bool.bFld 4 (List._∷_ (Syntax.field 1) List.[]) 4 λ x. Form.struct .as-values x .1 .0, tt) (m12 (c .before) (After-cleared·gave c)) g;
           },
         )
 
@@ -4243,39 +2632,21 @@ module _ (claims· : Claims) where
             .before .before .blocks)) (m4 (c .before) (After-xtrans-places·gave c))
         lay1 = λ c. (
           cleared-requires record { before = c .before; xtrans-places = c .xtrans-places },
-          λ g. lay2 record {
-            before = record { before = c .before; xtrans-places = c .xtrans-places };
-            cleared = Called.called ps·1 r·1 (claims· .3) T9 tt (m8 (c .before) (After-xtrans-places·gave c)) g;
-          },
+          λ g. lay2 record
+              { before = record { before = c .before; xtrans-places = c .xtrans-places }; cleared = Called.called ps·1 r·1 (claims· .3) T9 tt (m8 (c .before) (After-xtrans-places·gave c)) g },
         )
 
         pub laid : (c : Start) → at57 (c .blocks) (W0 (c .κs) (c .args) (c .blocks)) (m0 (c .κs) (c .args) (c .blocks))
         laid = λ c. λ g. λ g'. λ g''. (
-          xtrans-places-requires record {
-            before = record {
-              before = record { before = c; shared-slice-known = record { given = g } };
-              shared-slice-known2 = record {
-                given = g';
-              };
-            };
-            slice-known = record { given = g'' };
-          },
-          λ g'3. lay1 record {
-            before = record {
-              before = record {
-                before = record { before = c; shared-slice-known = record { given = g } };
-                shared-slice-known2 = record { given = g' };
-              };
-              slice-known = record { given = g'' };
-            };
-            xtrans-places = Called.called ps·0 r·0 (claims· .1) T4 tt (m3 record {
-              before = record {
-                before = c;
-                shared-slice-known = record { given = g };
-              };
-              shared-slice-known2 = record { given = g' };
-            } g'') g'3;
-          },
+          xtrans-places-requires record
+              { before = record { before = record { before = c; shared-slice-known = record { given = g } }; shared-slice-known2 = record { given = g' } }; slice-known = record { given = g'' } },
+          λ g'3.
+              lay1 record {
+                before = record
+                    { before = record { before = record { before = c; shared-slice-known = record { given = g } }; shared-slice-known2 = record { given = g' } }; slice-known = record { given = g'' } };
+                xtrans-places = Called.called ps·0 r·0 (claims· .1) T4 tt (m3 record { before = record { before = c; shared-slice-known = record { given = g } }; shared-slice-known2 = record { given = g' } }
+                    g'') g'3;
+              },
         )
 
         module _ (κs : Lifetimes.Lfts 3) (qs : Lifetimes.Shares 3) where
@@ -4283,15 +2654,7 @@ module _ (claims· : Claims) where
               κs qs a)
           asked = λ a good pre bs. laid record {
             κs = κs;
-            args = record {
-              block = a .0;
-              bases = a .1 .0;
-              image = a .1 .1 .0;
-              form = a .1 .1 .1 .0;
-              tile = a .1 .1 .1 .1 .0;
-              part = a .1 .1 .1 .1 .1 .0;
-              count = a .1 .1 .1 .1 .1 .1 .0;
-            };
+            args = record { block = a .0; bases = a .1 .0; image = a .1 .1 .0; form = a .1 .1 .1 .0; tile = a .1 .1 .1 .1 .0; part = a .1 .1 .1 .1 .1 .0; count = a .1 .1 .1 .1 .1 .1 .0 };
             blocks = bs;
             good = good;
             fits = record { count = record { fits = good .1 .1 .1 .1 .1 .1 .0 .1 } };
@@ -4300,6 +2663,6 @@ module _ (claims· : Claims) where
 
         module _ {M : Type 1} (𝓤 : URA.URA M) (H : Wp.Heap 𝓤) (A : Atoms.Atoms 𝓤) (W : Kit.Given 𝓤 H A) (𝓣 : Wp.Tables 𝓤 H) (known0 : Plain.Known 𝓤 H A W 𝓣 0 ps·0 r·0 (claims· .0) (claims· .1)
             "map::xtrans_places") (known1 : Plain.Known 𝓤 H A W 𝓣 0 ps·1 r·1 (claims· .2) (claims· .3) "block::records::cleared") (known2 : Plain.Known 𝓤 H A W 𝓣 0 ps·2 r·2 (claims· .4) (claims· .5)
-            "block::width") (known3 : Plain.Known 𝓤 H A W 𝓣 6 ps·3 r·3 (claims· .6) (claims· .7) "block::reading::walk") where
+            "map::width") (known3 : Plain.Known 𝓤 H A W 𝓣 6 ps·3 r·3 (claims· .6) (claims· .7) "block::reading::walk") where
           pub spec : Statement.Triple 𝓤 (Wp.WpFn 𝓤 H (𝓣 .C) (𝓣 .Λ) (Function.fnOf 3 ps r xs m hs body)) (Function.plainOf 𝓤 H A 3 ps r Pre· Post·)
           spec = Plain.t-fn-plain 𝓤 H A W 𝓣 3 ps r xs m hs body (λ κs qs bs. Φ bs) (λ κs qs bs bd. typed κs qs 𝓤 H A W 𝓣 (known0, known1, known2, known3) bs bd) Pre· Post· asked

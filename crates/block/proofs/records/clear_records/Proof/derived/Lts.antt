@@ -45,6 +45,13 @@ use mir.Syntax
 use prog.Wp
 use types.Kit
 
+abbrev pub y0 : Syntax.Ty
+y0 = Syntax.tyStruct (List._∷_ 115 (List._∷_ 116 (List._∷_ 97 (List._∷_ 116 (List._∷_ 105 (List._∷_ 115 (List._∷_ 116 (List._∷_ 105 (List._∷_ 99 (List._∷_ 115 (List._∷_ 58 (List._∷_ 58 (List._∷_ 82
+    (List._∷_ 101 (List._∷_ 99 (List._∷_ 111 (List._∷_ 114 (List._∷_ 100 List.[])))))))))))))))))) (Syntax.tcons (Syntax.tyInt Syntax.w32) (Syntax.tcons (Syntax.tyInt Syntax.w32) Syntax.tnil))
+
+abbrev pub y1 : Syntax.Ty
+y1 = Syntax.tyStruct (List._∷_ 38 (List._∷_ 91 (List._∷_ 93 List.[]))) (Syntax.tcons (Syntax.tyRef Syntax.erased Syntax.mut Element.behind) (Syntax.tcons (Syntax.tyInt Syntax.w64) Syntax.tnil))
+
 abbrev pub ps : List.List (Kinds.PK 1)
 ps = List._∷_ (MutSlice.pMutS (Element.type) 0 tt) List.[]
 
@@ -52,10 +59,7 @@ abbrev pub r : Kinds.RK 1
 r = Unit'.rUnit
 
 abbrev pub xs : List.List Syntax.Ty
-xs = List._∷_ (Syntax.tyInt Syntax.w64) (List._∷_ Syntax.tyBool (List._∷_ Syntax.tyUnit (List._∷_ (Syntax.tyRef Syntax.erased Syntax.mut Element.behind) (List._∷_ (Syntax.tyStruct (List._∷_ 38
-    (List._∷_ 91 (List._∷_ 93 List.[]))) (Syntax.tcons (Syntax.tyRef Syntax.erased Syntax.mut Element.behind) (Syntax.tcons (Syntax.tyInt Syntax.w64) Syntax.tnil))) (List._∷_ (Syntax.tyStruct (List._∷_
-    115 (List._∷_ 116 (List._∷_ 97 (List._∷_ 116 (List._∷_ 105 (List._∷_ 115 (List._∷_ 116 (List._∷_ 105 (List._∷_ 99 (List._∷_ 115 (List._∷_ 58 (List._∷_ 58 (List._∷_ 82 (List._∷_ 101 (List._∷_ 99
-    (List._∷_ 111 (List._∷_ 114 (List._∷_ 100 List.[])))))))))))))))))) (Syntax.tcons (Syntax.tyInt Syntax.w32) (Syntax.tcons (Syntax.tyInt Syntax.w32) Syntax.tnil))) List.[])))))
+xs = List._∷_ (Syntax.tyInt Syntax.w64) (List._∷_ Syntax.tyBool (List._∷_ Syntax.tyUnit (List._∷_ (Syntax.tyRef Syntax.erased Syntax.mut Element.behind) (List._∷_ y1 (List._∷_ y0 List.[])))))
 
 abbrev pub m : Nat.ℕ
 m = 1
@@ -69,8 +73,8 @@ r·0 = Value.rVal record {
   one = Path'.refl;
   val = Laws'.val Record.the-type Laws.the-laws;
   tells = Laws'.tells Record.the-type Laws.the-laws;
-  still = Laws'.still
-      Record.the-type Laws.the-copy Exit.yes;
+  still = Laws'.still Record.the-type
+      Laws.the-copy Exit.yes;
   row = Rows.whole (Declared.row Record.the-type);
   rd = λ x. x;
   mk = λ x. x;
@@ -78,28 +82,28 @@ r·0 = Value.rVal record {
   copies = Laws'.copy Record.the-type Laws.the-copy 𝓤 H A W;
   lawful = Laws'.lawful Record.the-type Laws.the-laws 𝓤 H A W;
   makes = Laws'.makes Record.the-type Laws.the-plain 𝓤 H A;
-  in-mem = Local.mem-whole 𝓤 H A W (Declared.row Record.the-type);
-  of-mem =
-      Local.whole-mem 𝓤 H A W (Declared.row Record.the-type);
+  in-mem =
+      Local.mem-whole 𝓤 H A W (Declared.row Record.the-type);
+  of-mem = Local.whole-mem 𝓤 H A W (Declared.row Record.the-type);
 }
 
 abbrev pub ps·1 : List.List (Kinds.PK 1)
 ps·1 = List._∷_ (MutSlice.pMutS (Element.type) 0 tt) (List._∷_ (Num.pNum Syntax.w64) (List._∷_ (Value.pVal record {
   ty = Declared.row Record.the-type;
   one = Path'.refl;
-  val = Laws'.val Record.the-type
-      Laws.the-laws;
+  val = Laws'.val Record.the-type Laws.the-laws;
   tells = Laws'.tells Record.the-type Laws.the-laws;
-  still = Laws'.still Record.the-type Laws.the-copy Exit.yes;
+  still = Laws'.still Record.the-type
+      Laws.the-copy Exit.yes;
   row = Rows.whole (Declared.row Record.the-type);
   rd = λ x. x;
   mk = λ x. x;
 } λ M 𝓤 H A W. record {
   copies = Laws'.copy Record.the-type Laws.the-copy 𝓤 H A W;
   lawful = Laws'.lawful Record.the-type Laws.the-laws 𝓤 H A W;
-  makes = Laws'.makes Record.the-type Laws.the-plain 𝓤 H
-      A;
-  in-mem = Local.mem-whole 𝓤 H A W (Declared.row Record.the-type);
+  makes = Laws'.makes Record.the-type Laws.the-plain 𝓤 H A;
+  in-mem =
+      Local.mem-whole 𝓤 H A W (Declared.row Record.the-type);
   of-mem = Local.whole-mem 𝓤 H A W (Declared.row Record.the-type);
 }) List.[]))
 
@@ -186,144 +190,86 @@ body = b22
 abbrev pub Claims : Type 1
 Claims = Kinds.In 0 ps·0 × Kinds.Out 0 ps·0 r·0 × Kinds.In 1 ps·1 × Kinds.Out 1 ps·1 r·1
 
+abbrev pub e0 : Row.Entry
+e0 = (0, Rows.any-gone Syntax.tyUnit)
+
+abbrev pub e1 : Row.Entry
+e1 = (0, Rows.sc-here Row.sUnit)
+
+abbrev pub e2 : Row.Entry
+e2 = (1, Mut.mslice (Element.type) (Syntax.tyRef (Syntax.named 0) Syntax.mut Element.behind) 0)
+
+abbrev pub e3 : Row.Entry
+e3 = (1, Relend.mslice-owed (Element.type) (Syntax.tyRef (Syntax.named 0) Syntax.mut Element.behind) 0 1 Row.off)
+
+abbrev pub e4 : Row.Entry
+e4 = (2, Rows.any-gone (Syntax.tyInt Syntax.w64))
+
+abbrev pub e5 : Row.Entry
+e5 = (2, Rows.sc-here (Row.sInt Syntax.w64))
+
+abbrev pub e6 : Row.Entry
+e6 = (3, Rows.any-gone Syntax.tyBool)
+
+abbrev pub e7 : Row.Entry
+e7 = (4, Rows.any-gone Syntax.tyUnit)
+
+abbrev pub e8 : Row.Entry
+e8 = (4, Rows.sc-here Row.sUnit)
+
+abbrev pub e9 : Row.Entry
+e9 = (5, Relend.msptr (Element.type) (Syntax.tyRef Syntax.erased Syntax.mut Element.behind) 1)
+
+abbrev pub e10 : Row.Entry
+e10 = (5, Rows.any-gone (Syntax.tyRef Syntax.erased Syntax.mut Element.behind))
+
+abbrev pub e11 : Row.Entry
+e11 = (6, Mut.msleft (Element.type) (Syntax.tyRef Syntax.erased Syntax.mut Element.behind))
+
+abbrev pub e12 : Row.Entry
+e12 = (6, Mut.mslice (Element.type) (Syntax.tyRef Syntax.erased Syntax.mut Element.behind) 1)
+
+abbrev pub e13 : Row.Entry
+e13 = (6, Rows.any-gone y1)
+
+abbrev pub e14 : Row.Entry
+e14 = (7, Rows.any-gone y0)
+
+abbrev pub e15 : Row.Entry
+e15 = (7, Rows.whole (Declared.row Record.the-type))
+
 abbrev pub t0 : List.List Row.Entry
-t0 = List._∷_ (0, Rows.any-gone Syntax.tyUnit) (List._∷_ (1, Mut.mslice (Element.type) (Syntax.tyRef (Syntax.named 0) Syntax.mut Element.behind) 0) (List._∷_ (
-  2,
-  Rows.any-gone (Syntax.tyInt
-      Syntax.w64),
-) (List._∷_ (3, Rows.any-gone Syntax.tyBool) (List._∷_ (4, Rows.any-gone Syntax.tyUnit) (List._∷_ (5, Rows.any-gone (Syntax.tyRef Syntax.erased Syntax.mut Element.behind)) (List._∷_ (
-  6,
-  Rows.any-gone (Syntax.tyStruct (List._∷_ 38 (List._∷_ 91 (List._∷_ 93 List.[]))) (Syntax.tcons (Syntax.tyRef Syntax.erased Syntax.mut Element.behind) (Syntax.tcons (Syntax.tyInt Syntax.w64)
-      Syntax.tnil))),
-) (List._∷_ (
-  7,
-  Rows.any-gone (Syntax.tyStruct (List._∷_ 115 (List._∷_ 116 (List._∷_ 97 (List._∷_ 116 (List._∷_ 105 (List._∷_ 115 (List._∷_ 116 (List._∷_ 105 (List._∷_ 99 (List._∷_
-      115 (List._∷_ 58 (List._∷_ 58 (List._∷_ 82 (List._∷_ 101 (List._∷_ 99 (List._∷_ 111 (List._∷_ 114 (List._∷_ 100 List.[])))))))))))))))))) (Syntax.tcons (Syntax.tyInt Syntax.w32) (Syntax.tcons
-      (Syntax.tyInt Syntax.w32) Syntax.tnil))),
-) List.[])))))))
+t0 = List._∷_ e0 (List._∷_ e2 (List._∷_ e4 (List._∷_ e6 (List._∷_ e7 (List._∷_ e10 (List._∷_ e13 (List._∷_ e14 List.[])))))))
 
 abbrev pub t1 : List.List Row.Entry
-t1 = List._∷_ (0, Rows.sc-here Row.sUnit) (List._∷_ (1, Mut.mslice (Element.type) (Syntax.tyRef (Syntax.named 0) Syntax.mut Element.behind) 0) (List._∷_ (2, Rows.any-gone (Syntax.tyInt Syntax.w64))
-    (List._∷_ (3, Rows.any-gone Syntax.tyBool) (List._∷_ (4, Rows.any-gone Syntax.tyUnit) (List._∷_ (5, Rows.any-gone (Syntax.tyRef Syntax.erased Syntax.mut Element.behind)) (List._∷_ (
-      6,
-      Rows.any-gone (Syntax.tyStruct (List._∷_ 38 (List._∷_ 91 (List._∷_ 93 List.[]))) (Syntax.tcons (Syntax.tyRef Syntax.erased Syntax.mut Element.behind) (Syntax.tcons (Syntax.tyInt Syntax.w64)
-          Syntax.tnil))),
-    ) (List._∷_ (
-      7,
-      Rows.any-gone (Syntax.tyStruct (List._∷_ 115 (List._∷_ 116 (List._∷_ 97 (List._∷_ 116 (List._∷_ 105 (List._∷_ 115 (List._∷_ 116 (List._∷_ 105 (List._∷_ 99 (List._∷_
-          115 (List._∷_ 58 (List._∷_ 58 (List._∷_ 82 (List._∷_ 101 (List._∷_ 99 (List._∷_ 111 (List._∷_ 114 (List._∷_ 100 List.[])))))))))))))))))) (Syntax.tcons (Syntax.tyInt Syntax.w32) (Syntax.tcons
-          (Syntax.tyInt Syntax.w32) Syntax.tnil))),
-    ) List.[])))))))
+t1 = List._∷_ e1 (List._∷_ e2 (List._∷_ e4 (List._∷_ e6 (List._∷_ e7 (List._∷_ e10 (List._∷_ e13 (List._∷_ e14 List.[])))))))
 
 abbrev pub t2 : List.List Row.Entry
-t2 = List._∷_ (0, Rows.any-gone Syntax.tyUnit) (List._∷_ (1, Mut.mslice (Element.type) (Syntax.tyRef (Syntax.named 0) Syntax.mut Element.behind) 0) (List._∷_ (2, Rows.sc-here (Row.sInt Syntax.w64))
-    (List._∷_ (3, Rows.any-gone Syntax.tyBool) (List._∷_ (4, Rows.any-gone Syntax.tyUnit) (List._∷_ (5, Rows.any-gone (Syntax.tyRef Syntax.erased Syntax.mut Element.behind)) (List._∷_ (
-      6,
-      Rows.any-gone (Syntax.tyStruct (List._∷_ 38 (List._∷_ 91 (List._∷_ 93 List.[]))) (Syntax.tcons (Syntax.tyRef Syntax.erased Syntax.mut Element.behind) (Syntax.tcons (Syntax.tyInt Syntax.w64)
-          Syntax.tnil))),
-    ) (List._∷_ (
-      7,
-      Rows.any-gone (Syntax.tyStruct (List._∷_ 115 (List._∷_ 116 (List._∷_ 97 (List._∷_ 116 (List._∷_ 105 (List._∷_ 115 (List._∷_ 116 (List._∷_ 105 (List._∷_ 99 (List._∷_
-          115 (List._∷_ 58 (List._∷_ 58 (List._∷_ 82 (List._∷_ 101 (List._∷_ 99 (List._∷_ 111 (List._∷_ 114 (List._∷_ 100 List.[])))))))))))))))))) (Syntax.tcons (Syntax.tyInt Syntax.w32) (Syntax.tcons
-          (Syntax.tyInt Syntax.w32) Syntax.tnil))),
-    ) List.[])))))))
+t2 = List._∷_ e0 (List._∷_ e2 (List._∷_ e5 (List._∷_ e6 (List._∷_ e7 (List._∷_ e10 (List._∷_ e13 (List._∷_ e14 List.[])))))))
 
 abbrev pub t3 : List.List Row.Entry
-t3 = List._∷_ (0, Rows.any-gone Syntax.tyUnit) (List._∷_ (1, Mut.mslice (Element.type) (Syntax.tyRef (Syntax.named 0) Syntax.mut Element.behind) 0) (List._∷_ (2, Rows.sc-here (Row.sInt Syntax.w64))
-    (List._∷_ (3, Rows.sc-here Row.sBool) (List._∷_ (4, Rows.any-gone Syntax.tyUnit) (List._∷_ (5, Rows.any-gone (Syntax.tyRef Syntax.erased Syntax.mut Element.behind)) (List._∷_ (
-      6,
-      Rows.any-gone
-          (Syntax.tyStruct (List._∷_ 38 (List._∷_ 91 (List._∷_ 93 List.[]))) (Syntax.tcons (Syntax.tyRef Syntax.erased Syntax.mut Element.behind) (Syntax.tcons (Syntax.tyInt Syntax.w64) Syntax.tnil))),
-    )
-    (List._∷_ (
-      7,
-      Rows.any-gone (Syntax.tyStruct (List._∷_ 115 (List._∷_ 116 (List._∷_ 97 (List._∷_ 116 (List._∷_ 105 (List._∷_ 115 (List._∷_ 116 (List._∷_ 105 (List._∷_ 99 (List._∷_ 115 (List._∷_ 58
-          (List._∷_ 58 (List._∷_ 82 (List._∷_ 101 (List._∷_ 99 (List._∷_ 111 (List._∷_ 114 (List._∷_ 100 List.[])))))))))))))))))) (Syntax.tcons (Syntax.tyInt Syntax.w32) (Syntax.tcons (Syntax.tyInt Syntax.w32)
-          Syntax.tnil))),
-    ) List.[])))))))
+t3 = List._∷_ e0 (List._∷_ e2 (List._∷_ e5 (List._∷_ (3, Rows.sc-here Row.sBool) (List._∷_ e7 (List._∷_ e10 (List._∷_ e13 (List._∷_ e14 List.[])))))))
 
 abbrev pub t4 : List.List Row.Entry
-t4 = List._∷_ (0, Rows.any-gone Syntax.tyUnit) (List._∷_ (1, Relend.mslice-owed (Element.type) (Syntax.tyRef (Syntax.named 0) Syntax.mut Element.behind) 0 1 Row.off) (List._∷_ (
-  2,
-  Rows.sc-here
-      (Row.sInt Syntax.w64),
-) (List._∷_ (3, Rows.any-gone Syntax.tyBool) (List._∷_ (4, Rows.any-gone Syntax.tyUnit) (List._∷_ (
-  5,
-  Relend.msptr (Element.type) (Syntax.tyRef Syntax.erased Syntax.mut
-      Element.behind) 1,
-) (List._∷_ (
-  6,
-  Rows.any-gone (Syntax.tyStruct (List._∷_ 38 (List._∷_ 91 (List._∷_ 93 List.[]))) (Syntax.tcons (Syntax.tyRef Syntax.erased Syntax.mut Element.behind) (Syntax.tcons
-      (Syntax.tyInt Syntax.w64) Syntax.tnil))),
-) (List._∷_ (
-  7,
-  Rows.any-gone (Syntax.tyStruct (List._∷_ 115 (List._∷_ 116 (List._∷_ 97 (List._∷_ 116 (List._∷_ 105 (List._∷_ 115 (List._∷_ 116 (List._∷_ 105
-      (List._∷_ 99 (List._∷_ 115 (List._∷_ 58 (List._∷_ 58 (List._∷_ 82 (List._∷_ 101 (List._∷_ 99 (List._∷_ 111 (List._∷_ 114 (List._∷_ 100 List.[])))))))))))))))))) (Syntax.tcons (Syntax.tyInt Syntax.w32)
-      (Syntax.tcons (Syntax.tyInt Syntax.w32) Syntax.tnil))),
-) List.[])))))))
+t4 = List._∷_ e0 (List._∷_ e3 (List._∷_ e5 (List._∷_ e6 (List._∷_ e7 (List._∷_ e9 (List._∷_ e13 (List._∷_ e14 List.[])))))))
 
 abbrev pub t5 : List.List Row.Entry
-t5 = List._∷_ (0, Rows.any-gone Syntax.tyUnit) (List._∷_ (1, Relend.mslice-owed (Element.type) (Syntax.tyRef (Syntax.named 0) Syntax.mut Element.behind) 0 1 Row.off) (List._∷_ (
-  2,
-  Rows.sc-here
-      (Row.sInt Syntax.w64),
-) (List._∷_ (3, Rows.any-gone Syntax.tyBool) (List._∷_ (4, Rows.any-gone Syntax.tyUnit) (List._∷_ (5, Rows.any-gone (Syntax.tyRef Syntax.erased Syntax.mut Element.behind))
-    (List._∷_ (6, Mut.mslice (Element.type) (Syntax.tyRef Syntax.erased Syntax.mut Element.behind) 1) (List._∷_ (
-      7,
-      Rows.any-gone (Syntax.tyStruct (List._∷_ 115 (List._∷_ 116 (List._∷_ 97 (List._∷_
-          116 (List._∷_ 105 (List._∷_ 115 (List._∷_ 116 (List._∷_ 105 (List._∷_ 99 (List._∷_ 115 (List._∷_ 58 (List._∷_ 58 (List._∷_ 82 (List._∷_ 101 (List._∷_ 99 (List._∷_ 111 (List._∷_ 114 (List._∷_ 100
-          List.[])))))))))))))))))) (Syntax.tcons (Syntax.tyInt Syntax.w32) (Syntax.tcons (Syntax.tyInt Syntax.w32) Syntax.tnil))),
-    ) List.[])))))))
+t5 = List._∷_ e0 (List._∷_ e3 (List._∷_ e5 (List._∷_ e6 (List._∷_ e7 (List._∷_ e10 (List._∷_ e12 (List._∷_ e14 List.[])))))))
 
 abbrev pub t6 : List.List Row.Entry
-t6 = List._∷_ (0, Rows.any-gone Syntax.tyUnit) (List._∷_ (1, Relend.mslice-owed (Element.type) (Syntax.tyRef (Syntax.named 0) Syntax.mut Element.behind) 0 1 Row.off) (List._∷_ (
-  2,
-  Rows.sc-here
-      (Row.sInt Syntax.w64),
-) (List._∷_ (3, Rows.any-gone Syntax.tyBool) (List._∷_ (4, Rows.any-gone Syntax.tyUnit) (List._∷_ (5, Rows.any-gone (Syntax.tyRef Syntax.erased Syntax.mut Element.behind))
-    (List._∷_ (6, Mut.mslice (Element.type) (Syntax.tyRef Syntax.erased Syntax.mut Element.behind) 1) (List._∷_ (7, Rows.whole (Declared.row Record.the-type)) List.[])))))))
+t6 = List._∷_ e0 (List._∷_ e3 (List._∷_ e5 (List._∷_ e6 (List._∷_ e7 (List._∷_ e10 (List._∷_ e12 (List._∷_ e15 List.[])))))))
 
 abbrev pub t7 : List.List Row.Entry
-t7 = List._∷_ (0, Rows.any-gone Syntax.tyUnit) (List._∷_ (1, Relend.mslice-owed (Element.type) (Syntax.tyRef (Syntax.named 0) Syntax.mut Element.behind) 0 1 Row.off) (List._∷_ (
-  2,
-  Rows.sc-here
-      (Row.sInt Syntax.w64),
-) (List._∷_ (3, Rows.any-gone Syntax.tyBool) (List._∷_ (4, Rows.sc-here Row.sUnit) (List._∷_ (5, Rows.any-gone (Syntax.tyRef Syntax.erased Syntax.mut Element.behind)) (List._∷_
-    (6, Mut.msleft (Element.type) (Syntax.tyRef Syntax.erased Syntax.mut Element.behind)) (List._∷_ (7, Rows.whole (Declared.row Record.the-type)) List.[])))))))
+t7 = List._∷_ e0 (List._∷_ e3 (List._∷_ e5 (List._∷_ e6 (List._∷_ e8 (List._∷_ e10 (List._∷_ e11 (List._∷_ e15 List.[])))))))
 
 abbrev pub t8 : List.List Row.Entry
-t8 = List._∷_ (0, Rows.any-gone Syntax.tyUnit) (List._∷_ (1, Relend.mslice-owed (Element.type) (Syntax.tyRef (Syntax.named 0) Syntax.mut Element.behind) 0 1 Row.off) (List._∷_ (
-  2,
-  Rows.sc-here
-      (Row.sInt Syntax.w64),
-) (List._∷_ (3, Rows.any-gone Syntax.tyBool) (List._∷_ (4, Rows.any-gone Syntax.tyUnit) (List._∷_ (5, Rows.any-gone (Syntax.tyRef Syntax.erased Syntax.mut Element.behind))
-    (List._∷_ (6, Mut.msleft (Element.type) (Syntax.tyRef Syntax.erased Syntax.mut Element.behind)) (List._∷_ (7, Rows.whole (Declared.row Record.the-type)) List.[])))))))
+t8 = List._∷_ e0 (List._∷_ e3 (List._∷_ e5 (List._∷_ e6 (List._∷_ e7 (List._∷_ e10 (List._∷_ e11 (List._∷_ e15 List.[])))))))
 
 abbrev pub t9 : List.List Row.Entry
-t9 = List._∷_ (0, Rows.any-gone Syntax.tyUnit) (List._∷_ (1, Relend.mslice-owed (Element.type) (Syntax.tyRef (Syntax.named 0) Syntax.mut Element.behind) 0 1 Row.off) (List._∷_ (
-  2,
-  Rows.sc-here
-      (Row.sInt Syntax.w64),
-) (List._∷_ (3, Rows.any-gone Syntax.tyBool) (List._∷_ (4, Rows.any-gone Syntax.tyUnit) (List._∷_ (5, Rows.any-gone (Syntax.tyRef Syntax.erased Syntax.mut Element.behind))
-    (List._∷_ (6, Mut.msleft (Element.type) (Syntax.tyRef Syntax.erased Syntax.mut Element.behind)) (List._∷_ (
-      7,
-      Rows.any-gone (Syntax.tyStruct (List._∷_ 115 (List._∷_ 116 (List._∷_ 97 (List._∷_ 116
-          (List._∷_ 105 (List._∷_ 115 (List._∷_ 116 (List._∷_ 105 (List._∷_ 99 (List._∷_ 115 (List._∷_ 58 (List._∷_ 58 (List._∷_ 82 (List._∷_ 101 (List._∷_ 99 (List._∷_ 111 (List._∷_ 114 (List._∷_ 100
-          List.[])))))))))))))))))) (Syntax.tcons (Syntax.tyInt Syntax.w32) (Syntax.tcons (Syntax.tyInt Syntax.w32) Syntax.tnil))),
-    ) List.[])))))))
+t9 = List._∷_ e0 (List._∷_ e3 (List._∷_ e5 (List._∷_ e6 (List._∷_ e7 (List._∷_ e10 (List._∷_ e11 (List._∷_ e14 List.[])))))))
 
 abbrev pub t10 : List.List Row.Entry
-t10 = List._∷_ (0, Rows.sc-here Row.sUnit) (List._∷_ (1, Mut.mslice (Element.type) (Syntax.tyRef (Syntax.named 0) Syntax.mut Element.behind) 0) (List._∷_ (2, Rows.sc-here (Row.sInt Syntax.w64))
-    (List._∷_ (3, Rows.any-gone Syntax.tyBool) (List._∷_ (4, Rows.any-gone Syntax.tyUnit) (List._∷_ (5, Rows.any-gone (Syntax.tyRef Syntax.erased Syntax.mut Element.behind)) (List._∷_ (
-      6,
-      Rows.any-gone (Syntax.tyStruct (List._∷_ 38 (List._∷_ 91 (List._∷_ 93 List.[]))) (Syntax.tcons (Syntax.tyRef Syntax.erased Syntax.mut Element.behind) (Syntax.tcons (Syntax.tyInt Syntax.w64)
-          Syntax.tnil))),
-    ) (List._∷_ (
-      7,
-      Rows.any-gone (Syntax.tyStruct (List._∷_ 115 (List._∷_ 116 (List._∷_ 97 (List._∷_ 116 (List._∷_ 105 (List._∷_ 115 (List._∷_ 116 (List._∷_ 105 (List._∷_ 99 (List._∷_
-          115 (List._∷_ 58 (List._∷_ 58 (List._∷_ 82 (List._∷_ 101 (List._∷_ 99 (List._∷_ 111 (List._∷_ 114 (List._∷_ 100 List.[])))))))))))))))))) (Syntax.tcons (Syntax.tyInt Syntax.w32) (Syntax.tcons
-          (Syntax.tyInt Syntax.w32) Syntax.tnil))),
-    ) List.[])))))))
+t10 = List._∷_ e1 (List._∷_ e2 (List._∷_ e5 (List._∷_ e6 (List._∷_ e7 (List._∷_ e10 (List._∷_ e13 (List._∷_ e14 List.[])))))))
 
 abbrev pub T0 : Row.Cx
 T0 = record { locals = t0; slots = List.[] }
@@ -421,35 +367,18 @@ module _ (claims· : Claims) where
       x) (Scalar.oFld 1 (List._∷_ (Syntax.field 1) List.[]) (Syntax.tyInt Syntax.w64) 8 λ v. Shared.lenV (v .0))
 
   abbrev s7 : Typed.Both T10 T11
-  s7 = Call.callB ps·0 r·0 (claims· .0) (claims· .1) T10 tt 7 List.[] (Syntax.tyStruct (List._∷_ 115 (List._∷_ 116 (List._∷_ 97 (List._∷_ 116 (List._∷_ 105 (List._∷_ 115 (List._∷_ 116 (List._∷_ 105
-      (List._∷_ 99 (List._∷_ 115 (List._∷_ 58 (List._∷_ 58 (List._∷_ 82 (List._∷_ 101 (List._∷_ 99 (List._∷_ 111 (List._∷_ 114 (List._∷_ 100 List.[])))))))))))))))))) (Syntax.tcons (Syntax.tyInt
-      Syntax.w32) (Syntax.tcons (Syntax.tyInt Syntax.w32) Syntax.tnil)))
+  s7 = Call.callB ps·0 r·0 (claims· .0) (claims· .1) T10 tt 7 List.[] y0
 
   abbrev s8 : Typed.Both T11 T12
-  s8 = Call.callB ps·1 r·1 (claims· .2) (claims· .3) T11 (
-    record { pos = 6; ty = Syntax.tyRef Syntax.erased Syntax.mut Element.behind; ref = λ x. x },
-    (
-      Num.vAt 2 λ x. x,
-      (
-        record {
-          pos = 7;
-          st =
-              List.[];
-          d = 0;
-          at = λ x. x;
-        },
-        tt,
-      ),
-    ),
-  ) 4 (List._∷_ 1 List.[]) Syntax.tyUnit
+  s8 = Call.callB ps·1 r·1 (claims· .2) (claims· .3) T11
+      (record { pos = 6; ty = Syntax.tyRef Syntax.erased Syntax.mut Element.behind; ref = λ x. x }, (Num.vAt 2 λ x. x, (record { pos = 7; st = List.[]; d = 0; at = λ x. x }, tt))) 4 (List._∷_ 1 List.[])
+      Syntax.tyUnit
 
   abbrev s9 : Typed.Mo T12 → Typed.Mo T13
   s9 = Scalar.n-room T12 4 Syntax.tyUnit
 
   abbrev s10 : Typed.Mo T13 → Typed.Mo T14
-  s10 = Scalar.n-room T13 7 (Syntax.tyStruct (List._∷_ 115 (List._∷_ 116 (List._∷_ 97 (List._∷_ 116 (List._∷_ 105 (List._∷_ 115 (List._∷_ 116 (List._∷_ 105 (List._∷_ 99 (List._∷_ 115 (List._∷_ 58
-      (List._∷_ 58 (List._∷_ 82 (List._∷_ 101 (List._∷_ 99 (List._∷_ 111 (List._∷_ 114 (List._∷_ 100 List.[])))))))))))))))))) (Syntax.tcons (Syntax.tyInt Syntax.w32) (Syntax.tcons (Syntax.tyInt
-      Syntax.w32) Syntax.tnil)))
+  s10 = Scalar.n-room T13 7 y0
 
   abbrev s12 : Typed.Both T14 T16
   s12 = Relend.k-back-sl (Element.type) T14 6 1 0 1 (Syntax.tyRef (Syntax.named 0) Syntax.mut Element.behind) (Syntax.tyRef Syntax.erased Syntax.mut Element.behind) Row.off (λ x. x) λ x. x
@@ -561,82 +490,28 @@ module _ (claims· : Claims) where
 
       module _ (κs : Lifetimes.Lfts 1) (qs : Lifetimes.Shares 1) where
         abbrev g4 : List.List Row.Entry
-        g4 = List._∷_ (0, Rows.any-gone Syntax.tyUnit) (List._∷_ (1, Relend.mslice-owed (Element.type) (Syntax.tyRef (Syntax.named 0) Syntax.mut Element.behind) 0 1 (Row.lease (κs .0) (qs .0)))
-            (List._∷_ (2, Rows.sc-here (Row.sInt Syntax.w64)) (List._∷_ (3, Rows.any-gone Syntax.tyBool) (List._∷_ (4, Rows.any-gone Syntax.tyUnit) (List._∷_ (
-              5,
-              Relend.msptr (Element.type)
-                  (Syntax.tyRef Syntax.erased Syntax.mut Element.behind) 1,
-            ) (List._∷_ (
-              6,
-              Rows.any-gone (Syntax.tyStruct (List._∷_ 38 (List._∷_ 91 (List._∷_ 93 List.[]))) (Syntax.tcons (Syntax.tyRef
-                  Syntax.erased Syntax.mut Element.behind) (Syntax.tcons (Syntax.tyInt Syntax.w64) Syntax.tnil))),
-            ) (List._∷_ (
-              7,
-              Rows.any-gone (Syntax.tyStruct (List._∷_ 115 (List._∷_ 116 (List._∷_ 97
-                  (List._∷_ 116 (List._∷_ 105 (List._∷_ 115 (List._∷_ 116 (List._∷_ 105 (List._∷_ 99 (List._∷_ 115 (List._∷_ 58 (List._∷_ 58 (List._∷_ 82 (List._∷_ 101 (List._∷_ 99 (List._∷_ 111 (List._∷_ 114
-                  (List._∷_ 100 List.[])))))))))))))))))) (Syntax.tcons (Syntax.tyInt Syntax.w32) (Syntax.tcons (Syntax.tyInt Syntax.w32) Syntax.tnil))),
-            ) List.[])))))))
+        g4 = List._∷_ e0 (List._∷_ (1, Relend.mslice-owed (Element.type) (Syntax.tyRef (Syntax.named 0) Syntax.mut Element.behind) 0 1 (Row.lease (κs .0) (qs .0))) (List._∷_ e5 (List._∷_ e6 (List._∷_
+            e7 (List._∷_ e9 (List._∷_ e13 (List._∷_ e14 List.[])))))))
 
         abbrev g5 : List.List Row.Entry
-        g5 = List._∷_ (0, Rows.any-gone Syntax.tyUnit) (List._∷_ (1, Relend.mslice-owed (Element.type) (Syntax.tyRef (Syntax.named 0) Syntax.mut Element.behind) 0 1 (Row.lease (κs .0) (qs .0)))
-            (List._∷_ (2, Rows.sc-here (Row.sInt Syntax.w64)) (List._∷_ (3, Rows.any-gone Syntax.tyBool) (List._∷_ (4, Rows.any-gone Syntax.tyUnit) (List._∷_ (
-              5,
-              Rows.any-gone (Syntax.tyRef
-                  Syntax.erased Syntax.mut Element.behind),
-            ) (List._∷_ (6, Mut.mslice (Element.type) (Syntax.tyRef Syntax.erased Syntax.mut Element.behind) 1) (List._∷_ (
-              7,
-              Rows.any-gone (Syntax.tyStruct
-                  (List._∷_ 115 (List._∷_ 116 (List._∷_ 97 (List._∷_ 116 (List._∷_ 105 (List._∷_ 115 (List._∷_ 116 (List._∷_ 105 (List._∷_ 99 (List._∷_ 115 (List._∷_ 58 (List._∷_ 58 (List._∷_ 82 (List._∷_ 101
-                  (List._∷_ 99 (List._∷_ 111 (List._∷_ 114 (List._∷_ 100 List.[])))))))))))))))))) (Syntax.tcons (Syntax.tyInt Syntax.w32) (Syntax.tcons (Syntax.tyInt Syntax.w32) Syntax.tnil))),
-            )
-            List.[])))))))
+        g5 = List._∷_ e0 (List._∷_ (1, Relend.mslice-owed (Element.type) (Syntax.tyRef (Syntax.named 0) Syntax.mut Element.behind) 0 1 (Row.lease (κs .0) (qs .0))) (List._∷_ e5 (List._∷_ e6 (List._∷_
+            e7 (List._∷_ e10 (List._∷_ e12 (List._∷_ e14 List.[])))))))
 
         abbrev g6 : List.List Row.Entry
-        g6 = List._∷_ (0, Rows.any-gone Syntax.tyUnit) (List._∷_ (1, Relend.mslice-owed (Element.type) (Syntax.tyRef (Syntax.named 0) Syntax.mut Element.behind) 0 1 (Row.lease (κs .0) (qs .0)))
-            (List._∷_ (2, Rows.sc-here (Row.sInt Syntax.w64)) (List._∷_ (3, Rows.any-gone Syntax.tyBool) (List._∷_ (4, Rows.any-gone Syntax.tyUnit) (List._∷_ (
-              5,
-              Rows.any-gone (Syntax.tyRef
-                  Syntax.erased Syntax.mut Element.behind),
-            ) (List._∷_ (6, Mut.mslice (Element.type) (Syntax.tyRef Syntax.erased Syntax.mut Element.behind) 1) (List._∷_ (
-              7,
-              Rows.whole (Declared.row
-                  Record.the-type),
-            ) List.[])))))))
+        g6 = List._∷_ e0 (List._∷_ (1, Relend.mslice-owed (Element.type) (Syntax.tyRef (Syntax.named 0) Syntax.mut Element.behind) 0 1 (Row.lease (κs .0) (qs .0))) (List._∷_ e5 (List._∷_ e6 (List._∷_
+            e7 (List._∷_ e10 (List._∷_ e12 (List._∷_ e15 List.[])))))))
 
         abbrev g7 : List.List Row.Entry
-        g7 = List._∷_ (0, Rows.any-gone Syntax.tyUnit) (List._∷_ (1, Relend.mslice-owed (Element.type) (Syntax.tyRef (Syntax.named 0) Syntax.mut Element.behind) 0 1 (Row.lease (κs .0) (qs .0)))
-            (List._∷_ (2, Rows.sc-here (Row.sInt Syntax.w64)) (List._∷_ (3, Rows.any-gone Syntax.tyBool) (List._∷_ (4, Rows.sc-here Row.sUnit) (List._∷_ (
-              5,
-              Rows.any-gone (Syntax.tyRef Syntax.erased
-                  Syntax.mut Element.behind),
-            ) (List._∷_ (6, Mut.msleft (Element.type) (Syntax.tyRef Syntax.erased Syntax.mut Element.behind)) (List._∷_ (7, Rows.whole (Declared.row Record.the-type))
-            List.[])))))))
+        g7 = List._∷_ e0 (List._∷_ (1, Relend.mslice-owed (Element.type) (Syntax.tyRef (Syntax.named 0) Syntax.mut Element.behind) 0 1 (Row.lease (κs .0) (qs .0))) (List._∷_ e5 (List._∷_ e6 (List._∷_
+            e8 (List._∷_ e10 (List._∷_ e11 (List._∷_ e15 List.[])))))))
 
         abbrev g8 : List.List Row.Entry
-        g8 = List._∷_ (0, Rows.any-gone Syntax.tyUnit) (List._∷_ (1, Relend.mslice-owed (Element.type) (Syntax.tyRef (Syntax.named 0) Syntax.mut Element.behind) 0 1 (Row.lease (κs .0) (qs .0)))
-            (List._∷_ (2, Rows.sc-here (Row.sInt Syntax.w64)) (List._∷_ (3, Rows.any-gone Syntax.tyBool) (List._∷_ (4, Rows.any-gone Syntax.tyUnit) (List._∷_ (
-              5,
-              Rows.any-gone (Syntax.tyRef
-                  Syntax.erased Syntax.mut Element.behind),
-            ) (List._∷_ (6, Mut.msleft (Element.type) (Syntax.tyRef Syntax.erased Syntax.mut Element.behind)) (List._∷_ (
-              7,
-              Rows.whole (Declared.row
-                  Record.the-type),
-            ) List.[])))))))
+        g8 = List._∷_ e0 (List._∷_ (1, Relend.mslice-owed (Element.type) (Syntax.tyRef (Syntax.named 0) Syntax.mut Element.behind) 0 1 (Row.lease (κs .0) (qs .0))) (List._∷_ e5 (List._∷_ e6 (List._∷_
+            e7 (List._∷_ e10 (List._∷_ e11 (List._∷_ e15 List.[])))))))
 
         abbrev g9 : List.List Row.Entry
-        g9 = List._∷_ (0, Rows.any-gone Syntax.tyUnit) (List._∷_ (1, Relend.mslice-owed (Element.type) (Syntax.tyRef (Syntax.named 0) Syntax.mut Element.behind) 0 1 (Row.lease (κs .0) (qs .0)))
-            (List._∷_ (2, Rows.sc-here (Row.sInt Syntax.w64)) (List._∷_ (3, Rows.any-gone Syntax.tyBool) (List._∷_ (4, Rows.any-gone Syntax.tyUnit) (List._∷_ (
-              5,
-              Rows.any-gone (Syntax.tyRef
-                  Syntax.erased Syntax.mut Element.behind),
-            ) (List._∷_ (6, Mut.msleft (Element.type) (Syntax.tyRef Syntax.erased Syntax.mut Element.behind)) (List._∷_ (
-              7,
-              Rows.any-gone (Syntax.tyStruct
-                  (List._∷_ 115 (List._∷_ 116 (List._∷_ 97 (List._∷_ 116 (List._∷_ 105 (List._∷_ 115 (List._∷_ 116 (List._∷_ 105 (List._∷_ 99 (List._∷_ 115 (List._∷_ 58 (List._∷_ 58 (List._∷_ 82 (List._∷_ 101
-                  (List._∷_ 99 (List._∷_ 111 (List._∷_ 114 (List._∷_ 100 List.[])))))))))))))))))) (Syntax.tcons (Syntax.tyInt Syntax.w32) (Syntax.tcons (Syntax.tyInt Syntax.w32) Syntax.tnil))),
-            )
-            List.[])))))))
+        g9 = List._∷_ e0 (List._∷_ (1, Relend.mslice-owed (Element.type) (Syntax.tyRef (Syntax.named 0) Syntax.mut Element.behind) 0 1 (Row.lease (κs .0) (qs .0))) (List._∷_ e5 (List._∷_ e6 (List._∷_
+            e7 (List._∷_ e10 (List._∷_ e11 (List._∷_ e14 List.[])))))))
 
         abbrev G0 : Row.Cx
         G0 = record { locals = t0; slots = List._∷_ (Row.lease (κs .0) (qs .0)) (List._∷_ Row.off List.[]) }
@@ -738,11 +613,9 @@ module _ (claims· : Claims) where
 
           d5 : Typed.Typed 𝓤 H A 𝓣 E G17 b9 Δ3 at5
           d5 = Typed.s-typed 𝓤 H A W 𝓣 E G17 b9 Δ3 (Typed.ask s14) tt (Scalar.t-op2 𝓤 H A W E 𝓣 G17 (Syntax.add Syntax.unsigned) (Scalar.oAt 2 (Syntax.tyInt Syntax.w64) (Row.valS (Row.sInt
-              Syntax.w64))) (Scalar.oInt Syntax.w64 1) 2 (Rows.sc-here (Row.sInt Syntax.w64)) (Syntax.tyInt Syntax.w64) (Row.valS (Row.sInt Syntax.w64)) (Row.sInt Syntax.w64 .of) (
-                Scalar.reads-sc 𝓤 H A W
-                    (Row.sInt Syntax.w64),
-                Path'.refl,
-              ) tt (Scalar.room-sc 𝓤 H A W (Row.sInt Syntax.w64)) (Scalar.holds-sc 𝓤 H A W (Row.sInt Syntax.w64)) Path'.refl (λ u. Path'.refl) λ u. tt)
+              Syntax.w64))) (Scalar.oInt Syntax.w64 1) 2 (Rows.sc-here (Row.sInt Syntax.w64)) (Syntax.tyInt Syntax.w64) (Row.valS (Row.sInt Syntax.w64)) (Row.sInt Syntax.w64 .of)
+              (Scalar.reads-sc 𝓤 H A W (Row.sInt Syntax.w64), Path'.refl) tt (Scalar.room-sc 𝓤 H A W (Row.sInt Syntax.w64)) (Scalar.holds-sc 𝓤 H A W (Row.sInt Syntax.w64)) Path'.refl (λ u. Path'.refl) λ
+              u. tt)
 
           d6 : Typed.Typed 𝓤 H A 𝓣 E G16 b9 Δ3 at6
           d6 = Typed.g-pre 𝓤 H A W 𝓣 E G16 G17 b9 Δ3 (λ Ψ. Ψ) at5 (Lifetime.g-forget 𝓤 H A W E G16 1 Row.dead Path'.refl) d5
@@ -756,54 +629,42 @@ module _ (claims· : Claims) where
           d8 = Typed.g-pre 𝓤 H A W 𝓣 E G14 G15 b9 Δ3 (λ Ψ. Ψ) at7 (Lifetime.g-end 𝓤 H A W E G14 1 Path'.refl) d7
 
           d9 : Typed.Typed 𝓤 H A 𝓣 E G13 b9 Δ3 at9
-          d9 = Typed.g-pre 𝓤 H A W 𝓣 E G13 G14 b9 Δ3 (Typed.pass T13 T14 s10) at8 (Scalar.g-room 𝓤 H A W E G13 7 (Syntax.tyStruct (List._∷_ 115 (List._∷_ 116 (List._∷_ 97 (List._∷_ 116 (List._∷_ 105
-              (List._∷_ 115 (List._∷_ 116 (List._∷_ 105 (List._∷_ 99 (List._∷_ 115 (List._∷_ 58 (List._∷_ 58 (List._∷_ 82 (List._∷_ 101 (List._∷_ 99 (List._∷_ 111 (List._∷_ 114 (List._∷_ 100
-              List.[])))))))))))))))))) (Syntax.tcons (Syntax.tyInt Syntax.w32) (Syntax.tcons (Syntax.tyInt Syntax.w32) Syntax.tnil))) (Local.room-whole 𝓤 H A W (Declared.row Record.the-type)
-              (Syntax.tyStruct (List._∷_ 115 (List._∷_ 116 (List._∷_ 97 (List._∷_ 116 (List._∷_ 105 (List._∷_ 115 (List._∷_ 116 (List._∷_ 105 (List._∷_ 99 (List._∷_ 115 (List._∷_ 58 (List._∷_ 58 (List._∷_
-              82 (List._∷_ 101 (List._∷_ 99 (List._∷_ 111 (List._∷_ 114 (List._∷_ 100 List.[])))))))))))))))))) (Syntax.tcons (Syntax.tyInt Syntax.w32) (Syntax.tcons (Syntax.tyInt Syntax.w32)
-              Syntax.tnil))) Path'.refl)) d8
+          d9 = Typed.g-pre 𝓤 H A W 𝓣 E G13 G14 b9 Δ3 (Typed.pass T13 T14 s10) at8 (Scalar.g-room 𝓤 H A W E G13 7 y0 (Local.room-whole 𝓤 H A W (Declared.row Record.the-type) y0 Path'.refl)) d8
 
           d10 : Typed.Typed 𝓤 H A 𝓣 E G12 b9 Δ3 at10
           d10 = Typed.g-pre 𝓤 H A W 𝓣 E G12 G13 b9 Δ3 (Typed.pass T12 T13 s9) at9 (Scalar.g-room 𝓤 H A W E G12 4 Syntax.tyUnit (Scalar.room-sc 𝓤 H A W Row.sUnit)) d9
 
           d11 : Typed.Typed 𝓤 H A 𝓣 E G11 b10 Δ3 at11
           d11 = Typed.s-seq 𝓤 H A W 𝓣 E G11 G12 b8 b9 Δ3 (Typed.both s8) at10 (Plain.t-call-plain 𝓤 H A W 𝓣 1 ps·1 r·1 (claims· .2) (claims· .3) "block::records::update" (known .1) E (λ pos β. β) G11
-              (record { pos = 6; ty = Syntax.tyRef Syntax.erased Syntax.mut Element.behind; ref = λ x. x }, (Num.vAt 2 λ x. x, (record { pos = 7; st = List.[]; d = 0; at = λ x. x }, tt))) 4 (List._∷_
-              1 List.[]) (Call.sub-id 𝓤 H A W (G11 .slots)) (
+              (record { pos = 6; ty = Syntax.tyRef Syntax.erased Syntax.mut Element.behind; ref = λ x. x }, (Num.vAt 2 λ x. x, (record { pos = 7; st = List.[]; d = 0; at = λ x. x }, tt))) 4 (List._∷_ 1
+              List.[]) (Call.sub-id 𝓤 H A W (G11 .slots)) (
                 Reads.as-is 𝓤 H A (Mut.mslice (Element.type) (Syntax.tyRef Syntax.erased Syntax.mut Element.behind) 1),
-                Mut.reads-mslice 𝓤 H A W
-                    (Element.type) (Syntax.tyRef Syntax.erased Syntax.mut Element.behind) 1,
+                Mut.reads-mslice 𝓤 H A W (Element.type) (Syntax.tyRef Syntax.erased Syntax.mut
+                    Element.behind) 1,
                 Path'.refl,
                 (
                   (Scalar.reads-sc 𝓤 H A W (Row.sInt Syntax.w64), Path'.refl),
                   (
                     (
-                      Yields.yields-copy 𝓤 H A W (λ ρ. Unit)
-                          (Declared.row Record.the-type) Path'.refl (Copies.cStruct Record.the-type Laws.the-laws Laws.the-copy .copy 𝓤 H A W) (Rows.whole (Declared.row Record.the-type)) (λ x. x) (λ x. x) (λ ρ told.
-                          Local.mem-whole 𝓤 H A W (Declared.row Record.the-type) ρ) λ ρ told. Local.whole-mem 𝓤 H A W (Declared.row Record.the-type) ρ,
+                      Yields.yields-copy 𝓤 H A W (λ ρ. Unit) (Declared.row Record.the-type) Path'.refl (Copies.cStruct Record.the-type Laws.the-laws Laws.the-copy .copy 𝓤 H A W) (Rows.whole (Declared.row
+                          Record.the-type)) (λ x. x) (λ x. x) (λ ρ told. Local.mem-whole 𝓤 H A W (Declared.row Record.the-type) ρ) λ ρ told. Local.whole-mem 𝓤 H A W (Declared.row Record.the-type) ρ,
                       Path'.refl,
                     ),
                     tt,
                   ),
                 ),
-              ) (Reads.room-gone 𝓤 H A Syntax.tyUnit)
-              (tt, tt) Path'.refl) d10
+              ) (Reads.room-gone 𝓤 H A Syntax.tyUnit) (tt, tt) Path'.refl) d10
 
           d12 : Typed.Typed 𝓤 H A 𝓣 E G10 b11 Δ3 at12
           d12 = Typed.s-seq 𝓤 H A W 𝓣 E G10 G11 b7 b10 Δ3 (Typed.both s7) at11 (Plain.t-call-plain 𝓤 H A W 𝓣 0 ps·0 r·0 (claims· .0) (claims· .1) "block::records::cleared" (known .0) E (λ pos β. β)
-              G10 tt 7 List.[] (Call.sub-id 𝓤 H A W (G10 .slots)) tt (Reads.room-gone 𝓤 H A (Syntax.tyStruct (List._∷_ 115 (List._∷_ 116 (List._∷_ 97 (List._∷_ 116 (List._∷_ 105 (List._∷_ 115 (List._∷_
-              116 (List._∷_ 105 (List._∷_ 99 (List._∷_ 115 (List._∷_ 58 (List._∷_ 58 (List._∷_ 82 (List._∷_ 101 (List._∷_ 99 (List._∷_ 111 (List._∷_ 114 (List._∷_ 100 List.[]))))))))))))))))))
-              (Syntax.tcons (Syntax.tyInt Syntax.w32) (Syntax.tcons (Syntax.tyInt Syntax.w32) Syntax.tnil)))) tt Path'.refl) d11
+              G10 tt 7 List.[] (Call.sub-id 𝓤 H A W (G10 .slots)) tt (Reads.room-gone 𝓤 H A y0) tt Path'.refl) d11
 
           d13 : Typed.Typed 𝓤 H A 𝓣 E G9 b12 Δ3 at13
           d13 = Typed.s-seq 𝓤 H A W 𝓣 E G9 G10 b6 b11 Δ3 (Typed.ask s6) at12 (Relend.t-sl-aggregate 𝓤 H A W E (Element.type) 𝓣 (Relend.asMut (Element.type)) G9 5 6 1 (Syntax.tyRef Syntax.erased
               Syntax.mut Element.behind) (Syntax.tyRef Syntax.erased Syntax.mut Element.behind) (λ x. x) (Scalar.oFld 1 (List._∷_ (Syntax.field 1) List.[]) (Syntax.tyInt Syntax.w64) 8 λ v. Shared.lenV (v
-              .0)) (Reads.as-is 𝓤 H A (Relend.msptr (Element.type) (Syntax.tyRef Syntax.erased Syntax.mut Element.behind) 1)) (Reads.room-gone 𝓤 H A (Syntax.tyStruct (List._∷_ 38 (List._∷_ 91 (List._∷_ 93
-              List.[]))) (Syntax.tcons (Syntax.tyRef Syntax.erased Syntax.mut Element.behind) (Syntax.tcons (Syntax.tyInt Syntax.w64) Syntax.tnil)))) (
-                Relend.reads-owed-len 𝓤 H A W (Element.type)
-                    (Syntax.tyRef (Syntax.named 0) Syntax.mut Element.behind) 0 1 (Row.lease (κs .0) (qs .0)) 8 Path'.refl,
-                Path'.refl,
-              ) Path'.refl Path'.refl λ b o k. tt) d12
+              .0)) (Reads.as-is 𝓤 H A (Relend.msptr (Element.type) (Syntax.tyRef Syntax.erased Syntax.mut Element.behind) 1)) (Reads.room-gone 𝓤 H A y1)
+              (Relend.reads-owed-len 𝓤 H A W (Element.type) (Syntax.tyRef (Syntax.named 0) Syntax.mut Element.behind) 0 1 (Row.lease (κs .0) (qs .0)) 8 Path'.refl, Path'.refl) Path'.refl Path'.refl λ b o
+              k. tt) d12
 
           d14 : Typed.Typed 𝓤 H A 𝓣 E G8 b13 Δ3 at14
           d14 = Typed.s-seq 𝓤 H A W 𝓣 E G8 G9 b5 b12 Δ3 (Typed.give s5) at13 (Relend.t-sl-relend 𝓤 H A W E (Element.type) 𝓣 G8 1 5 0 1 (Syntax.tyRef (Syntax.named 0) Syntax.mut Element.behind)
@@ -863,8 +724,8 @@ module _ (claims· : Claims) where
       W0 = λ κs args. (
         λ u. ⊥,
         tt,
-        λ u. Enter.Fixs κs 1 ps xs (dens κs args) (u .1) × Post· κs (dens κs args) (Function.resV r κs (u .0)) (Clauses.atExit (Kinds.endedOf 1 ps r) κs (dens κs args)
-            (Enter.lastsP κs 1 ps xs (dens κs args) (u .1))),
+        λ u. Enter.Fixs κs 1 ps xs (dens κs args) (u .1) × Post· κs (dens κs args) (Function.resV r κs (u .0)) (Clauses.atExit (Kinds.endedOf 1 ps r) κs (dens κs args) (Enter.lastsP κs 1 ps
+            xs (dens κs args) (u .1))),
       )
 
       pub record Start : Type 0 where
@@ -888,12 +749,9 @@ module _ (claims· : Claims) where
 
       abbrev pub m2 : (before : Start) → (rs : List.List (Element.type .Denot)) → (j : Rows.sc-here (Row.sInt Syntax.w64) .Mod) → Typed.Mo T2
       m2 = λ before rs j. Row.set 2 (2, Rows.sc-here (Row.sInt Syntax.w64)) j (Row.setRow 1 (1, Mut.mslice (Element.type) (Syntax.tyRef (Syntax.named 0) Syntax.mut Element.behind) 0) (T2 .locals))
-          (Row.set 1 (1, Mut.mslice (Element.type) (Syntax.tyRef (Syntax.named 0) Syntax.mut Element.behind) 0) record {
-            ptr = Row.get 1 (T2 .locals) (m1 (before .κs) (before .args)) .ptr;
-            name =
-                Row.get 1 (T2 .locals) (m1 (before .κs) (before .args)) .name;
-            now = rs;
-          } (T2 .locals) (m1 (before .κs) (before .args)))
+          (Row.set 1 (1, Mut.mslice (Element.type) (Syntax.tyRef (Syntax.named 0) Syntax.mut Element.behind) 0) record
+          { ptr = Row.get 1 (T2 .locals) (m1 (before .κs) (before .args)) .ptr; name = Row.get 1 (T2 .locals) (m1 (before .κs) (before .args)) .name; now = rs } (T2 .locals) (m1 (before .κs) (before
+          .args)))
 
       abbrev W3 : (before : Start) → (rs : List.List (Element.type .Denot)) → (j : Rows.sc-here (Row.sInt Syntax.w64) .Mod) → Typed.Want O3
       W3 = λ before rs j. Typed.inLoop T2 O2 (Typed.Round T2 O2 put0 (λ u vs. Inv·0 (Row.get 1 (T2 .locals) u .now) (Row.get 2 (T2 .locals) u) (vs .0) (vs .1)) (λ u vs. μ·0 (Row.get 1 (T2 .locals) u
@@ -976,43 +834,18 @@ module _ (claims· : Claims) where
 
       module _ (before· : After-cleared) where
         abbrev pub After-update·own : Type 0
-        After-update·own = Called.Called ps·1 r·1 (claims· .3) T11 (
-          record { pos = 6; ty = Syntax.tyRef Syntax.erased Syntax.mut Element.behind; ref = λ x. x },
-          (
-            Num.vAt 2 λ x. x,
-            (
-              record {
-                pos = 7;
-                st = List.[];
-                d = 0;
-                at = λ x. x;
-              },
-              tt,
-            ),
-          ),
-        ) (m8 (before· .before) (After-cleared·gave before·))
+        After-update·own = Called.Called ps·1 r·1 (claims· .3) T11
+            (record { pos = 6; ty = Syntax.tyRef Syntax.erased Syntax.mut Element.behind; ref = λ x. x }, (Num.vAt 2 λ x. x, (record { pos = 7; st = List.[]; d = 0; at = λ x. x }, tt))) (m8 (before·
+            .before) (After-cleared·gave before·))
 
       pub record After-update : Type 0 where
         pub before : After-cleared
         pub update : After-update·own before
 
       abbrev pub After-update·gave : (c : After-update) → s8 .gives (m8 (c .before .before) (After-cleared·gave (c .before)))
-      After-update·gave = λ c. Called.given ps·1 r·1 (claims· .3) T11 (
-        record { pos = 6; ty = Syntax.tyRef Syntax.erased Syntax.mut Element.behind; ref = λ x. x },
-        (
-          Num.vAt 2 λ x. x,
-          (
-            record {
-              pos =
-                  7;
-              st = List.[];
-              d = 0;
-              at = λ x. x;
-            },
-            tt,
-          ),
-        ),
-      ) (m8 (c .before .before) (After-cleared·gave (c .before))) (c .update)
+      After-update·gave = λ c. Called.given ps·1 r·1 (claims· .3) T11
+          (record { pos = 6; ty = Syntax.tyRef Syntax.erased Syntax.mut Element.behind; ref = λ x. x }, (Num.vAt 2 λ x. x, (record { pos = 7; st = List.[]; d = 0; at = λ x. x }, tt))) (m8 (c .before
+          .before) (After-cleared·gave (c .before))) (c .update)
 
       abbrev pub m10 : (before : After-cleared) → (given : s8 .gives (m8 (before .before) (After-cleared·gave before))) → Typed.Mo T13
       m10 = λ before given. s9 (m9 before given)
@@ -1068,15 +901,11 @@ module _ (claims· : Claims) where
         lay6 : (c : After-loop) → at22 (W0 (c .before .before .κs) (c .before .before .args)) (m5 (c .before))
         lay6 = λ c. (
           (
-            MutSlice.fix-len (Row.get 1 (T20 .locals) (m15 (c .before)) .ptr) (Row.get 1 (T20 .locals) (m15 (c .before)) .name) (Row.get 1 (T20 .locals) (m15 (c .before)) .now) (dens (c
-                .before .before .κs) (c .before .before .args) .0 .now) (same-length record { before = c .before; loop-test = c .loop-test }),
+            MutSlice.fix-len (Row.get 1 (T20 .locals) (m15 (c .before)) .ptr) (Row.get 1 (T20 .locals) (m15 (c .before)) .name) (Row.get 1 (T20 .locals) (m15 (c .before)) .now) (dens (c .before .before
+                .κs) (c .before .before .args) .0 .now) (same-length record { before = c .before; loop-test = c .loop-test }),
             tt,
           ),
-          returns record {
-            before = c .before;
-            loop-test = c
-                .loop-test;
-          },
+          returns record { before = c .before; loop-test = c .loop-test },
         )
 
         lay5 : (c : After-update) → at10 (W3 (c .before .before .before .before .before) (c .before .before .before .before .loop .rs) (c .before .before .before .before .loop .j)) (m9 (c .before)
@@ -1086,26 +915,19 @@ module _ (claims· : Claims) where
           λ g. (
             add-j record { before = record { before = c .before; update = c .update }; rs = record { given = g } },
             (
-              μ·0 (Row.get 1 (T2 .locals) (m1 (c .before .before
-                  .before .before .before .κs) (c .before .before .before .before .before .args)) .now) (Row.get 2 (T2 .locals) (m1 (c .before .before .before .before .before .κs) (c .before .before .before
-                  .before .before .args))) (Row.get 1 (T2 .locals) (m13 record { before = c .before; update = c .update } g) .now) (Row.get 2 (T2 .locals) (m13 record { before = c .before; update = c .update }
-                  g)),
+              μ·0 (Row.get 1 (T2 .locals) (m1 (c .before .before .before .before .before .κs) (c .before .before .before .before .before .args)) .now) (Row.get 2 (T2 .locals) (m1 (c .before .before .before
+                  .before .before .κs) (c .before .before .before .before .before .args))) (Row.get 1 (T2 .locals) (m13 record { before = c .before; update = c .update } g) .now) (Row.get 2 (T2 .locals) (m13
+                  record { before = c .before; update = c .update } g)),
               loop-less record { before = record { before = c .before; update = c .update }; rs = record { given = g } },
               (
-                (
-                  Row.get 1 (T2 .locals) (m13 record {
-                    before = c .before;
-                    update = c
-                        .update;
-                  } g) .now,
-                  Row.get 2 (T2 .locals) (m13 record { before = c .before; update = c .update } g),
-                ),
-                Path'.refl {a = m13 record { before = c .before; update = c .update } g},
-                loop-again
-                    record { before = record { before = c .before; update = c .update }; rs = record { given = g } },
-                Path'.refl {a = μ·0 (Row.get 1 (T2 .locals) (m1 (c .before .before .before .before .before
-                    .κs) (c .before .before .before .before .before .args)) .now) (Row.get 2 (T2 .locals) (m1 (c .before .before .before .before .before .κs) (c .before .before .before .before .before .args)))
-                    (Row.get 1 (T2 .locals) (m13 record { before = c .before; update = c .update } g) .now) (Row.get 2 (T2 .locals) (m13 record { before = c .before; update = c .update } g))},
+                (Row.get 1 (T2 .locals) (m13 record { before = c .before; update = c .update } g) .now, Row.get 2 (T2 .locals) (m13 record { before = c .before; update = c .update } g)),
+                Path'.refl {a = m13
+                    record { before = c .before; update = c .update } g},
+                loop-again record { before = record { before = c .before; update = c .update }; rs = record { given = g } },
+                Path'.refl {a = μ·0 (Row.get
+                    1 (T2 .locals) (m1 (c .before .before .before .before .before .κs) (c .before .before .before .before .before .args)) .now) (Row.get 2 (T2 .locals) (m1 (c .before .before .before .before
+                    .before .κs) (c .before .before .before .before .before .args))) (Row.get 1 (T2 .locals) (m13 record { before = c .before; update = c .update } g) .now) (Row.get 2 (T2 .locals) (m13 record
+                    { before = c .before; update = c .update } g))},
               ),
             ),
           ),
@@ -1116,17 +938,9 @@ module _ (claims· : Claims) where
           update-requires record { before = c .before; cleared = c .cleared },
           λ g. lay5 record {
             before = record { before = c .before; cleared = c .cleared };
-            update = Called.called ps·1
-                r·1 (claims· .3) T11 (
-                  record { pos = 6; ty = Syntax.tyRef Syntax.erased Syntax.mut Element.behind; ref = λ x. x },
-                  (
-                    Num.vAt 2 λ x. x,
-                    (
-                      record { pos = 7; st = List.[]; d = 0; at = λ x. x },
-                      tt,
-                    ),
-                  ),
-                ) (m8 (c .before) (After-cleared·gave c)) g;
+            update = Called.called ps·1 r·1 (claims· .3) T11
+                (record { pos = 6; ty = Syntax.tyRef Syntax.erased Syntax.mut Element.behind; ref = λ x. x }, (Num.vAt 2 λ x. x, (record { pos = 7; st = List.[]; d = 0; at = λ x. x }, tt))) (m8 (c .before)
+                (After-cleared·gave c)) g;
           },
         )
 
@@ -1136,13 +950,9 @@ module _ (claims· : Claims) where
           (
             cleared-requires record { before = record { before = c .before; loop-test = c .loop-test }; update-arg = record { given = g } },
             λ g'. lay4 record {
-              before =
-                  record { before = record { before = c .before; loop-test = c .loop-test }; update-arg = record { given = g } };
-              cleared = Called.called ps·0 r·0 (claims· .1) T10 tt (m7 record {
-                before = c
-                    .before;
-                loop-test = c .loop-test;
-              } g) g';
+              before = record { before = record { before = c .before; loop-test = c .loop-test }; update-arg = record { given = g } };
+              cleared = Called.called ps·0 r·0 (claims· .1) T10 tt (m7 record
+                  { before = c .before; loop-test = c .loop-test } g) g';
             },
           ),
         )
@@ -1161,17 +971,11 @@ module _ (claims· : Claims) where
             (
               λ taken. lay1 record {
                 before = record { before = c; loop = record { rs = vs .0; j = vs .1; inv = inv } };
-                loop-test = record {
-                  taken = Tests.ltb-true (Row.get 2 (T2 .locals) (m2 c (vs .0)
-                      (vs .1))) 336 taken;
-                };
+                loop-test = record { taken = Tests.ltb-true (Row.get 2 (T2 .locals) (m2 c (vs .0) (vs .1))) 336 taken };
               },
               λ left. lay2 record {
                 before = record { before = c; loop = record { rs = vs .0; j = vs .1; inv = inv } };
-                loop-test = record {
-                  left = Tests.ltb-false (Row.get 2 (T2
-                      .locals) (m2 c (vs .0) (vs .1))) 336 left;
-                };
+                loop-test = record { left = Tests.ltb-false (Row.get 2 (T2 .locals) (m2 c (vs .0) (vs .1))) 336 left };
               },
             ),
           ),

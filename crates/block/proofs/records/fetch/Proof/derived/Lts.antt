@@ -87,63 +87,62 @@ b8 = Syntax.seq b0 b7
 abbrev pub body : Syntax.Body
 body = b8
 
+abbrev pub e0 : Row.Entry
+e0 = (0, Element.row)
+
+abbrev pub e1 : Row.Entry
+e1 = (0, Rows'.any-gone (Element.held))
+
+abbrev pub e2 : Row.Entry
+e2 = (1, Mut.mslice (Element.type) (Syntax.tyRef (Syntax.named 0) Syntax.mut Element.behind) 0)
+
+abbrev pub e3 : Row.Entry
+e3 = (2, Rows'.sc-here (Row.sInt Syntax.w64))
+
+abbrev pub e4 : Row.Entry
+e4 = (3, Rows'.any-gone (Syntax.tyInt Syntax.w64))
+
+abbrev pub e5 : Row.Entry
+e5 = (3, Rows'.sc-here (Row.sInt Syntax.w64))
+
+abbrev pub e6 : Row.Entry
+e6 = (4, Rows'.any-gone Syntax.tyPtr)
+
+abbrev pub e7 : Row.Entry
+e7 = (4, Rows'.sc-here Row.sPtr)
+
+abbrev pub e8 : Row.Entry
+e8 = (5, Element.row)
+
+abbrev pub e9 : Row.Entry
+e9 = (5, Rows'.any-gone (Element.held))
+
 abbrev pub t0 : List.List Row.Entry
-t0 = List._∷_ (0, Rows'.any-gone (Element.held)) (List._∷_ (1, Mut.mslice (Element.type) (Syntax.tyRef (Syntax.named 0) Syntax.mut Element.behind) 0) (List._∷_ (
-  2,
-  Rows'.sc-here (Row.sInt
-      Syntax.w64),
-) (List._∷_ (3, Rows'.any-gone (Syntax.tyInt Syntax.w64)) (List._∷_ (4, Rows'.any-gone Syntax.tyPtr) (List._∷_ (5, Rows'.any-gone (Element.held)) List.[])))))
+t0 = List._∷_ e1 (List._∷_ e2 (List._∷_ e3 (List._∷_ e4 (List._∷_ e6 (List._∷_ e9 List.[])))))
 
 abbrev pub t1 : List.List Row.Entry
-t1 = List._∷_ (0, Element.row) (List._∷_ (1, Mut.mslice (Element.type) (Syntax.tyRef (Syntax.named 0) Syntax.mut Element.behind) 0) (List._∷_ (2, Rows'.any-gone (Syntax.tyInt Syntax.w64)) (List._∷_
-    (3, Rows'.any-gone (Syntax.tyInt Syntax.w64)) (List._∷_ (4, Rows'.any-gone Syntax.tyPtr) (List._∷_ (5, Rows'.any-gone (Element.held)) List.[])))))
+t1 = List._∷_ e0 (List._∷_ e2 (List._∷_ (2, Rows'.any-gone (Syntax.tyInt Syntax.w64)) (List._∷_ e4 (List._∷_ e6 (List._∷_ e9 List.[])))))
 
 abbrev pub t2 : List.List Row.Entry
-t2 = List._∷_ (0, Rows'.any-gone (Element.held)) (List._∷_ (1, Mut.mslice (Element.type) (Syntax.tyRef (Syntax.named 0) Syntax.mut Element.behind) 0) (List._∷_ (
-  2,
-  Rows'.sc-here (Row.sInt
-      Syntax.w64),
-) (List._∷_ (3, Rows'.sc-here (Row.sInt Syntax.w64)) (List._∷_ (4, Rows'.any-gone Syntax.tyPtr) (List._∷_ (5, Rows'.any-gone (Element.held)) List.[])))))
+t2 = List._∷_ e1 (List._∷_ e2 (List._∷_ e3 (List._∷_ e5 (List._∷_ e6 (List._∷_ e9 List.[])))))
 
 abbrev pub t3 : List.List Row.Entry
-t3 = List._∷_ (0, Rows'.any-gone (Element.held)) (List._∷_ (1, Mut.mslice (Element.type) (Syntax.tyRef (Syntax.named 0) Syntax.mut Element.behind) 0) (List._∷_ (
-  2,
-  Rows'.sc-here (Row.sInt
-      Syntax.w64),
-) (List._∷_ (3, Rows'.sc-here (Row.sInt Syntax.w64)) (List._∷_ (4, Rows'.sc-here Row.sPtr) (List._∷_ (5, Rows'.any-gone (Element.held)) List.[])))))
+t3 = List._∷_ e1 (List._∷_ e2 (List._∷_ e3 (List._∷_ e5 (List._∷_ e7 (List._∷_ e9 List.[])))))
 
 abbrev pub t4 : List.List Row.Entry
-t4 = List._∷_ (0, Rows'.any-gone (Element.held)) (List._∷_ (1, Mut.mslice (Element.type) (Syntax.tyRef (Syntax.named 0) Syntax.mut Element.behind) 0) (List._∷_ (
-  2,
-  Rows'.sc-here (Row.sInt
-      Syntax.w64),
-) (List._∷_ (3, Rows'.sc-here (Row.sInt Syntax.w64)) (List._∷_ (4, Rows'.sc-here Row.sPtr) (List._∷_ (5, Element.row) List.[])))))
+t4 = List._∷_ e1 (List._∷_ e2 (List._∷_ e3 (List._∷_ e5 (List._∷_ e7 (List._∷_ e8 List.[])))))
 
 abbrev pub t5 : List.List Row.Entry
-t5 = List._∷_ (0, Rows'.any-gone (Element.held)) (List._∷_ (1, Mut.mslice (Element.type) (Syntax.tyRef (Syntax.named 0) Syntax.mut Element.behind) 0) (List._∷_ (
-  2,
-  Rows'.sc-here (Row.sInt
-      Syntax.w64),
-) (List._∷_ (3, Rows'.any-gone (Syntax.tyInt Syntax.w64)) (List._∷_ (4, Rows'.sc-here Row.sPtr) (List._∷_ (5, Element.row) List.[])))))
+t5 = List._∷_ e1 (List._∷_ e2 (List._∷_ e3 (List._∷_ e4 (List._∷_ e7 (List._∷_ e8 List.[])))))
 
 abbrev pub t6 : List.List Row.Entry
-t6 = List._∷_ (0, Rows'.any-gone (Element.held)) (List._∷_ (1, Mut.mslice (Element.type) (Syntax.tyRef (Syntax.named 0) Syntax.mut Element.behind) 0) (List._∷_ (
-  2,
-  Rows'.sc-here (Row.sInt
-      Syntax.w64),
-) (List._∷_ (3, Rows'.any-gone (Syntax.tyInt Syntax.w64)) (List._∷_ (4, Rows'.any-gone Syntax.tyPtr) (List._∷_ (5, Element.row) List.[])))))
+t6 = List._∷_ e1 (List._∷_ e2 (List._∷_ e3 (List._∷_ e4 (List._∷_ e6 (List._∷_ e8 List.[])))))
 
 abbrev pub t7 : List.List Row.Entry
-t7 = List._∷_ (0, Element.row) (List._∷_ (1, Mut.mslice (Element.type) (Syntax.tyRef (Syntax.named 0) Syntax.mut Element.behind) 0) (List._∷_ (2, Rows'.sc-here (Row.sInt Syntax.w64)) (List._∷_ (
-  3,
-  Rows'.any-gone (Syntax.tyInt Syntax.w64),
-) (List._∷_ (4, Rows'.any-gone Syntax.tyPtr) (List._∷_ (5, Element.row) List.[])))))
+t7 = List._∷_ e0 (List._∷_ e2 (List._∷_ e3 (List._∷_ e4 (List._∷_ e6 (List._∷_ e8 List.[])))))
 
 abbrev pub t8 : List.List Row.Entry
-t8 = List._∷_ (0, Element.row) (List._∷_ (1, Mut.mslice (Element.type) (Syntax.tyRef (Syntax.named 0) Syntax.mut Element.behind) 0) (List._∷_ (2, Rows'.sc-here (Row.sInt Syntax.w64)) (List._∷_ (
-  3,
-  Rows'.any-gone (Syntax.tyInt Syntax.w64),
-) (List._∷_ (4, Rows'.any-gone Syntax.tyPtr) (List._∷_ (5, Rows'.any-gone (Element.held)) List.[])))))
+t8 = List._∷_ e0 (List._∷_ e2 (List._∷_ e3 (List._∷_ e4 (List._∷_ e6 (List._∷_ e9 List.[])))))
 
 abbrev pub T0 : Row.Cx
 T0 = record { locals = t0; slots = List.[] }
@@ -312,18 +311,14 @@ module _ where
           d7 : Typed.Typed 𝓤 H A 𝓣 E G2 b7 Δ0 at7
           d7 = Typed.s-seq 𝓤 H A W 𝓣 E G2 G3 b1 b6 Δ0 (Typed.ask s1) at6 (Scalar.t-op2 𝓤 H A W E 𝓣 G2 Syntax.offset (Scalar.oFld 1 (List._∷_ (Syntax.field 0) List.[]) (Syntax.tyRef (Syntax.named 0)
               Syntax.mut Element.behind) 0 Reads.ptrVal) (Scalar.oAt 3 (Syntax.tyInt Syntax.w64) (Row.valS (Row.sInt Syntax.w64))) 4 (Rows'.sc-here Row.sPtr) Syntax.tyPtr (Row.valS Row.sPtr) (Row.sPtr
-              .of) (Mut.reads-mslice-ptr 𝓤 H A W (Element.type) (Syntax.tyRef (Syntax.named 0) Syntax.mut Element.behind) 0 0 Path'.refl, Path'.refl) (
-                Scalar.reads-sc 𝓤 H A W (Row.sInt Syntax.w64),
-                Path'.refl,
-              ) (Reads.room-gone 𝓤 H A Syntax.tyPtr) (Scalar.holds-sc 𝓤 H A W Row.sPtr) Path'.refl (λ u. Path'.refl) λ u. tt) d6
+              .of) (Mut.reads-mslice-ptr 𝓤 H A W (Element.type) (Syntax.tyRef (Syntax.named 0) Syntax.mut Element.behind) 0 0 Path'.refl, Path'.refl)
+              (Scalar.reads-sc 𝓤 H A W (Row.sInt Syntax.w64), Path'.refl) (Reads.room-gone 𝓤 H A Syntax.tyPtr) (Scalar.holds-sc 𝓤 H A W Row.sPtr) Path'.refl (λ u. Path'.refl) λ u. tt) d6
 
           d8 : Typed.Typed 𝓤 H A 𝓣 E G0 b8 Δ0 at8
           d8 = Typed.s-seq 𝓤 H A W 𝓣 E G0 G2 b0 b7 Δ0 (Typed.ask s0) at7 (Scalar.t-op2 𝓤 H A W E 𝓣 G0 (Syntax.mul Syntax.unsigned) (Scalar.oAt 2 (Syntax.tyInt Syntax.w64) (Row.valS (Row.sInt
-              Syntax.w64))) (Scalar.oInt Syntax.w64 8) 3 (Rows'.sc-here (Row.sInt Syntax.w64)) (Syntax.tyInt Syntax.w64) (Row.valS (Row.sInt Syntax.w64)) (Row.sInt Syntax.w64 .of) (
-                Scalar.reads-sc 𝓤 H A W
-                    (Row.sInt Syntax.w64),
-                Path'.refl,
-              ) tt (Reads.room-gone 𝓤 H A (Syntax.tyInt Syntax.w64)) (Scalar.holds-sc 𝓤 H A W (Row.sInt Syntax.w64)) Path'.refl (λ u. Path'.refl) λ u. tt) d7
+              Syntax.w64))) (Scalar.oInt Syntax.w64 8) 3 (Rows'.sc-here (Row.sInt Syntax.w64)) (Syntax.tyInt Syntax.w64) (Row.valS (Row.sInt Syntax.w64)) (Row.sInt Syntax.w64 .of)
+              (Scalar.reads-sc 𝓤 H A W (Row.sInt Syntax.w64), Path'.refl) tt (Reads.room-gone 𝓤 H A (Syntax.tyInt Syntax.w64)) (Scalar.holds-sc 𝓤 H A W (Row.sInt Syntax.w64)) Path'.refl (λ u. Path'.refl)
+              λ u. tt) d7
 
           pub typed : Typed.Typed 𝓤 H A 𝓣 E (Function.Γin 1 ps r xs m κs qs) b8 (Function.Δret 1 ps r xs m κs qs) Φ
           typed = d8
@@ -347,8 +342,8 @@ module _ where
       W0 = λ κs args. (
         λ u. ⊥,
         tt,
-        λ u. Enter.Fixs κs 1 ps xs (dens κs args) (u .1) × Post· κs (dens κs args) (Function.resV r κs (u .0)) (Clauses.atExit (Kinds.endedOf 1 ps r) κs (dens κs args)
-            (Enter.lastsP κs 1 ps xs (dens κs args) (u .1))),
+        λ u. Enter.Fixs κs 1 ps xs (dens κs args) (u .1) × Post· κs (dens κs args) (Function.resV r κs (u .0)) (Clauses.atExit (Kinds.endedOf 1 ps r) κs (dens κs args) (Enter.lastsP κs 1 ps
+            xs (dens κs args) (u .1))),
       )
 
       pub record Start : Type 0 where

@@ -66,6 +66,17 @@ use mir.Val
 use prog.Wp
 use types.Kit
 
+abbrev pub y0 : Syntax.Ty
+y0 = Syntax.tyStruct (List._∷_ 112 (List._∷_ 97 (List._∷_ 115 (List._∷_ 115 (List._∷_ 58 (List._∷_ 58 (List._∷_ 83 (List._∷_ 101 (List._∷_ 116 List.[]))))))))) (Syntax.tcons (Syntax.tyArray
+    (Syntax.tyInt Syntax.w32) 112) (Syntax.tcons (Syntax.tyArray (Syntax.tyInt Syntax.w32) 112) Syntax.tnil))
+
+abbrev pub y1 : Syntax.Ty
+y1 = Syntax.tyStruct (List._∷_ 115 (List._∷_ 116 (List._∷_ 97 (List._∷_ 116 (List._∷_ 105 (List._∷_ 115 (List._∷_ 116 (List._∷_ 105 (List._∷_ 99 (List._∷_ 115 (List._∷_ 58 (List._∷_ 58 (List._∷_ 82
+    (List._∷_ 101 (List._∷_ 99 (List._∷_ 111 (List._∷_ 114 (List._∷_ 100 List.[])))))))))))))))))) (Syntax.tcons (Syntax.tyInt Syntax.w32) (Syntax.tcons (Syntax.tyInt Syntax.w32) Syntax.tnil))
+
+abbrev pub y2 : Syntax.Ty
+y2 = Syntax.tyStruct (List._∷_ 38 (List._∷_ 91 (List._∷_ 93 List.[]))) (Syntax.tcons (Syntax.tyRef Syntax.erased Syntax.mut Element.behind) (Syntax.tcons (Syntax.tyInt Syntax.w64) Syntax.tnil))
+
 abbrev pub ps : List.List (Kinds.PK 1)
 ps = List._∷_ (MutSlice.pMutS (Element.type) 0 tt) (List._∷_ (Num.pNum Syntax.w64) List.[])
 
@@ -75,28 +86,24 @@ r = Value.rVal record {
   one = Path'.refl;
   val = Laws''.val Set.the-type Laws.the-laws;
   tells = Laws''.tells Set.the-type Laws.the-laws;
-  still = Laws''.still
-      Set.the-type Laws.the-copy Exit.yes;
+  still = Laws''.still Set.the-type Laws.the-copy
+      Exit.yes;
   row = Rows'.whole (Declared.row Set.the-type);
   rd = λ x. x;
   mk = λ x. x;
 } λ M 𝓤 H A W. record {
   copies = Laws''.copy Set.the-type Laws.the-copy 𝓤 H A W;
-  lawful =
-      Laws''.lawful Set.the-type Laws.the-laws 𝓤 H A W;
+  lawful = Laws''.lawful Set.the-type Laws.the-laws 𝓤 H A W;
   makes = Laws''.makes Set.the-type Laws.the-plain 𝓤 H A;
-  in-mem = Local.mem-whole 𝓤 H A W (Declared.row Set.the-type);
-  of-mem = Local.whole-mem 𝓤 H A W
-      (Declared.row Set.the-type);
+  in-mem = Local.mem-whole 𝓤
+      H A W (Declared.row Set.the-type);
+  of-mem = Local.whole-mem 𝓤 H A W (Declared.row Set.the-type);
 }
 
 abbrev pub xs : List.List Syntax.Ty
-xs = List._∷_ (Syntax.tyArray (Syntax.tyInt Syntax.w32) 112) (List._∷_ (Syntax.tyArray (Syntax.tyInt Syntax.w32) 112) (List._∷_ (Syntax.tyInt Syntax.w64) (List._∷_ (Syntax.tyStruct (List._∷_ 115
-    (List._∷_ 116 (List._∷_ 97 (List._∷_ 116 (List._∷_ 105 (List._∷_ 115 (List._∷_ 116 (List._∷_ 105 (List._∷_ 99 (List._∷_ 115 (List._∷_ 58 (List._∷_ 58 (List._∷_ 82 (List._∷_ 101 (List._∷_ 99 (List._∷_
-    111 (List._∷_ 114 (List._∷_ 100 List.[])))))))))))))))))) (Syntax.tcons (Syntax.tyInt Syntax.w32) (Syntax.tcons (Syntax.tyInt Syntax.w32) Syntax.tnil))) (List._∷_ Syntax.tyBool (List._∷_ (Syntax.tyRef
-    Syntax.erased Syntax.mut Element.behind) (List._∷_ (Syntax.tyStruct (List._∷_ 38 (List._∷_ 91 (List._∷_ 93 List.[]))) (Syntax.tcons (Syntax.tyRef Syntax.erased Syntax.mut Element.behind) (Syntax.tcons
-    (Syntax.tyInt Syntax.w64) Syntax.tnil))) (List._∷_ (Syntax.tyInt Syntax.w64) (List._∷_ (Syntax.tyInt Syntax.w64) (List._∷_ Syntax.tyPtr (List._∷_ Syntax.tyPtr (List._∷_ Syntax.tyPtr (List._∷_
-    Syntax.tyPtr (List._∷_ (Syntax.tyArray (Syntax.tyInt Syntax.w32) 112) (List._∷_ (Syntax.tyArray (Syntax.tyInt Syntax.w32) 112) List.[]))))))))))))))
+xs = List._∷_ (Syntax.tyArray (Syntax.tyInt Syntax.w32) 112) (List._∷_ (Syntax.tyArray (Syntax.tyInt Syntax.w32) 112) (List._∷_ (Syntax.tyInt Syntax.w64) (List._∷_ y1 (List._∷_ Syntax.tyBool (List._∷_
+    (Syntax.tyRef Syntax.erased Syntax.mut Element.behind) (List._∷_ y2 (List._∷_ (Syntax.tyInt Syntax.w64) (List._∷_ (Syntax.tyInt Syntax.w64) (List._∷_ Syntax.tyPtr (List._∷_ Syntax.tyPtr (List._∷_
+    Syntax.tyPtr (List._∷_ Syntax.tyPtr (List._∷_ (Syntax.tyArray (Syntax.tyInt Syntax.w32) 112) (List._∷_ (Syntax.tyArray (Syntax.tyInt Syntax.w32) 112) List.[]))))))))))))))
 
 abbrev pub m : Nat.ℕ
 m = 1
@@ -110,18 +117,17 @@ r·0 = Value.rVal record {
   one = Path'.refl;
   val = Laws''.val Record.the-type Laws'.the-laws;
   tells = Laws''.tells Record.the-type Laws'.the-laws;
-  still =
-      Laws''.still Record.the-type Laws'.the-copy Exit.yes;
+  still = Laws''.still Record.the-type
+      Laws'.the-copy Exit.yes;
   row = Rows'.whole (Declared.row Record.the-type);
   rd = λ x. x;
   mk = λ x. x;
 } λ M 𝓤 H A W. record {
-  copies = Laws''.copy Record.the-type
-      Laws'.the-copy 𝓤 H A W;
+  copies = Laws''.copy Record.the-type Laws'.the-copy 𝓤 H A W;
   lawful = Laws''.lawful Record.the-type Laws'.the-laws 𝓤 H A W;
   makes = Laws''.makes Record.the-type Laws'.the-plain 𝓤 H A;
-  in-mem = Local.mem-whole 𝓤 H A W (Declared.row
-      Record.the-type);
+  in-mem =
+      Local.mem-whole 𝓤 H A W (Declared.row Record.the-type);
   of-mem = Local.whole-mem 𝓤 H A W (Declared.row Record.the-type);
 }
 
@@ -283,867 +289,253 @@ body = b48
 abbrev pub Claims : Type 1
 Claims = Kinds.In 1 ps·0 × Kinds.Out 1 ps·0 r·0
 
+abbrev pub e0 : Row.Entry
+e0 = (0, Rows'.any-gone y0)
+
+abbrev pub e1 : Row.Entry
+e1 = (0, Rows'.whole (Declared.row (Apart.apartT Set.the-type)))
+
+abbrev pub e2 : Row.Entry
+e2 = (1, Mut.mslice (Element.type) (Syntax.tyRef (Syntax.named 0) Syntax.mut Element.behind) 0)
+
+abbrev pub e3 : Row.Entry
+e3 = (1, Relend.mslice-owed (Element.type) (Syntax.tyRef (Syntax.named 0) Syntax.mut Element.behind) 0 1 Row.off)
+
+abbrev pub e4 : Row.Entry
+e4 = (10, Rows'.any-gone (Syntax.tyInt Syntax.w64))
+
+abbrev pub e5 : Row.Entry
+e5 = (10, Rows'.sc-here (Row.sInt Syntax.w64))
+
+abbrev pub e6 : Row.Entry
+e6 = (11, Rows'.any-gone (Syntax.tyInt Syntax.w64))
+
+abbrev pub e7 : Row.Entry
+e7 = (11, Rows'.sc-here (Row.sInt Syntax.w64))
+
+abbrev pub e8 : Row.Entry
+e8 = (12, Rows'.any-gone Syntax.tyPtr)
+
+abbrev pub e9 : Row.Entry
+e9 = (12, Rows'.sc-here Row.sPtr)
+
+abbrev pub e10 : Row.Entry
+e10 = (13, Rows'.any-gone Syntax.tyPtr)
+
+abbrev pub e11 : Row.Entry
+e11 = (13, Rows'.sc-here Row.sPtr)
+
+abbrev pub e12 : Row.Entry
+e12 = (14, Rows'.any-gone Syntax.tyPtr)
+
+abbrev pub e13 : Row.Entry
+e13 = (14, Rows'.sc-here Row.sPtr)
+
+abbrev pub e14 : Row.Entry
+e14 = (15, Rows'.any-gone Syntax.tyPtr)
+
+abbrev pub e15 : Row.Entry
+e15 = (15, Rows'.sc-here Row.sPtr)
+
+abbrev pub e16 : Row.Entry
+e16 = (16, Rows'.any-gone (Syntax.tyArray (Syntax.tyInt Syntax.w32) 112))
+
+abbrev pub e17 : Row.Entry
+e17 = (16, Rows.arrF (Referent.rtF (Referent.fInt Syntax.w32)) 112 0)
+
+abbrev pub e18 : Row.Entry
+e18 = (17, Rows'.any-gone (Syntax.tyArray (Syntax.tyInt Syntax.w32) 112))
+
+abbrev pub e19 : Row.Entry
+e19 = (17, Rows.arrF (Referent.rtF (Referent.fInt Syntax.w32)) 112 0)
+
+abbrev pub e20 : Row.Entry
+e20 = (2, Rows'.any-gone (Syntax.tyInt Syntax.w64))
+
+abbrev pub e21 : Row.Entry
+e21 = (2, Rows'.sc-here (Row.sInt Syntax.w64))
+
+abbrev pub e22 : Row.Entry
+e22 = (3, Rows'.any-gone (Syntax.tyArray (Syntax.tyInt Syntax.w32) 112))
+
+abbrev pub e23 : Row.Entry
+e23 = (3, Rows.arrF (Referent.rtF (Referent.fInt Syntax.w32)) 112 0)
+
+abbrev pub e24 : Row.Entry
+e24 = (4, Rows'.any-gone (Syntax.tyArray (Syntax.tyInt Syntax.w32) 112))
+
+abbrev pub e25 : Row.Entry
+e25 = (4, Rows.arrF (Referent.rtF (Referent.fInt Syntax.w32)) 112 0)
+
+abbrev pub e26 : Row.Entry
+e26 = (5, Rows'.any-gone (Syntax.tyInt Syntax.w64))
+
+abbrev pub e27 : Row.Entry
+e27 = (5, Rows'.sc-here (Row.sInt Syntax.w64))
+
+abbrev pub e28 : Row.Entry
+e28 = (6, Rows'.any-gone y1)
+
+abbrev pub e29 : Row.Entry
+e29 = (6, Rows'.whole (Declared.row Record.the-type))
+
+abbrev pub e30 : Row.Entry
+e30 = (7, Rows'.any-gone Syntax.tyBool)
+
+abbrev pub e31 : Row.Entry
+e31 = (8, Relend.msptr (Element.type) (Syntax.tyRef Syntax.erased Syntax.mut Element.behind) 1)
+
+abbrev pub e32 : Row.Entry
+e32 = (8, Rows'.any-gone (Syntax.tyRef Syntax.erased Syntax.mut Element.behind))
+
+abbrev pub e33 : Row.Entry
+e33 = (9, Mut.msleft (Element.type) (Syntax.tyRef Syntax.erased Syntax.mut Element.behind))
+
+abbrev pub e34 : Row.Entry
+e34 = (9, Mut.mslice (Element.type) (Syntax.tyRef Syntax.erased Syntax.mut Element.behind) 1)
+
+abbrev pub e35 : Row.Entry
+e35 = (9, Rows'.any-gone y2)
+
 abbrev pub t0 : List.List Row.Entry
-t0 = List._∷_ (
-  0,
-  Rows'.any-gone (Syntax.tyStruct (List._∷_ 112 (List._∷_ 97 (List._∷_ 115 (List._∷_ 115 (List._∷_ 58 (List._∷_ 58 (List._∷_ 83 (List._∷_ 101 (List._∷_ 116 List.[])))))))))
-      (Syntax.tcons (Syntax.tyArray (Syntax.tyInt Syntax.w32) 112) (Syntax.tcons (Syntax.tyArray (Syntax.tyInt Syntax.w32) 112) Syntax.tnil))),
-) (List._∷_ (
-  1,
-  Mut.mslice (Element.type) (Syntax.tyRef
-      (Syntax.named 0) Syntax.mut Element.behind) 0,
-) (List._∷_ (2, Rows'.sc-here (Row.sInt Syntax.w64)) (List._∷_ (3, Rows'.any-gone (Syntax.tyArray (Syntax.tyInt Syntax.w32) 112)) (List._∷_ (
-  4,
-  Rows'.any-gone (Syntax.tyArray (Syntax.tyInt Syntax.w32) 112),
-) (List._∷_ (5, Rows'.any-gone (Syntax.tyInt Syntax.w64)) (List._∷_ (
-  6,
-  Rows'.any-gone (Syntax.tyStruct (List._∷_ 115 (List._∷_ 116
-      (List._∷_ 97 (List._∷_ 116 (List._∷_ 105 (List._∷_ 115 (List._∷_ 116 (List._∷_ 105 (List._∷_ 99 (List._∷_ 115 (List._∷_ 58 (List._∷_ 58 (List._∷_ 82 (List._∷_ 101 (List._∷_ 99 (List._∷_ 111 (List._∷_
-      114 (List._∷_ 100 List.[])))))))))))))))))) (Syntax.tcons (Syntax.tyInt Syntax.w32) (Syntax.tcons (Syntax.tyInt Syntax.w32) Syntax.tnil))),
-) (List._∷_ (7, Rows'.any-gone Syntax.tyBool) (List._∷_ (
-  8,
-  Rows'.any-gone (Syntax.tyRef Syntax.erased Syntax.mut Element.behind),
-) (List._∷_ (
-  9,
-  Rows'.any-gone (Syntax.tyStruct (List._∷_ 38 (List._∷_ 91 (List._∷_ 93 List.[]))) (Syntax.tcons (Syntax.tyRef
-      Syntax.erased Syntax.mut Element.behind) (Syntax.tcons (Syntax.tyInt Syntax.w64) Syntax.tnil))),
-) (List._∷_ (10, Rows'.any-gone (Syntax.tyInt Syntax.w64)) (List._∷_ (
-  11,
-  Rows'.any-gone (Syntax.tyInt
-      Syntax.w64),
-) (List._∷_ (12, Rows'.any-gone Syntax.tyPtr) (List._∷_ (13, Rows'.any-gone Syntax.tyPtr) (List._∷_ (14, Rows'.any-gone Syntax.tyPtr) (List._∷_ (15, Rows'.any-gone Syntax.tyPtr)
-    List.[])))))))))))))))
+t0 = List._∷_ e0 (List._∷_ e2 (List._∷_ e21 (List._∷_ e22 (List._∷_ e24 (List._∷_ e26 (List._∷_ e28 (List._∷_ e30 (List._∷_ e32 (List._∷_ e35 (List._∷_ e4 (List._∷_ e6 (List._∷_ e8 (List._∷_ e10
+    (List._∷_ e12 (List._∷_ e14 List.[])))))))))))))))
 
 abbrev pub t1 : List.List Row.Entry
-t1 = List._∷_ (16, Rows'.any-gone (Syntax.tyArray (Syntax.tyInt Syntax.w32) 112)) (List._∷_ (17, Rows'.any-gone (Syntax.tyArray (Syntax.tyInt Syntax.w32) 112)) List.[])
+t1 = List._∷_ e16 (List._∷_ e18 List.[])
 
 abbrev pub t2 : List.List Row.Entry
-t2 = List._∷_ (0, Rows'.whole (Declared.row Set.the-type)) (List._∷_ (1, Mut.mslice (Element.type) (Syntax.tyRef (Syntax.named 0) Syntax.mut Element.behind) 0) (List._∷_ (
-  2,
-  Rows'.any-gone
-      (Syntax.tyInt Syntax.w64),
-) (List._∷_ (3, Rows'.any-gone (Syntax.tyArray (Syntax.tyInt Syntax.w32) 112)) (List._∷_ (4, Rows'.any-gone (Syntax.tyArray (Syntax.tyInt Syntax.w32) 112)) (List._∷_ (
-  5,
-  Rows'.any-gone (Syntax.tyInt Syntax.w64),
-) (List._∷_ (
-  6,
-  Rows'.any-gone (Syntax.tyStruct (List._∷_ 115 (List._∷_ 116 (List._∷_ 97 (List._∷_ 116 (List._∷_ 105 (List._∷_ 115 (List._∷_ 116 (List._∷_
-      105 (List._∷_ 99 (List._∷_ 115 (List._∷_ 58 (List._∷_ 58 (List._∷_ 82 (List._∷_ 101 (List._∷_ 99 (List._∷_ 111 (List._∷_ 114 (List._∷_ 100 List.[])))))))))))))))))) (Syntax.tcons (Syntax.tyInt
-      Syntax.w32) (Syntax.tcons (Syntax.tyInt Syntax.w32) Syntax.tnil))),
-) (List._∷_ (7, Rows'.any-gone Syntax.tyBool) (List._∷_ (
-  8,
-  Rows'.any-gone (Syntax.tyRef Syntax.erased Syntax.mut Element.behind),
-) (List._∷_ (
-  9,
-  Rows'.any-gone (Syntax.tyStruct (List._∷_ 38 (List._∷_ 91 (List._∷_ 93 List.[]))) (Syntax.tcons (Syntax.tyRef Syntax.erased Syntax.mut Element.behind) (Syntax.tcons (Syntax.tyInt
-      Syntax.w64) Syntax.tnil))),
-) (List._∷_ (10, Rows'.any-gone (Syntax.tyInt Syntax.w64)) (List._∷_ (11, Rows'.any-gone (Syntax.tyInt Syntax.w64)) (List._∷_ (12, Rows'.any-gone Syntax.tyPtr) (List._∷_
-    (13, Rows'.any-gone Syntax.tyPtr) (List._∷_ (14, Rows'.any-gone Syntax.tyPtr) (List._∷_ (15, Rows'.any-gone Syntax.tyPtr) List.[])))))))))))))))
+t2 = List._∷_ (0, Rows'.whole (Declared.row Set.the-type)) (List._∷_ e2 (List._∷_ e20 (List._∷_ e22 (List._∷_ e24 (List._∷_ e26 (List._∷_ e28 (List._∷_ e30 (List._∷_ e32 (List._∷_ e35 (List._∷_ e4
+    (List._∷_ e6 (List._∷_ e8 (List._∷_ e10 (List._∷_ e12 (List._∷_ e14 List.[])))))))))))))))
 
 abbrev pub t3 : List.List Row.Entry
-t3 = List._∷_ (
-  0,
-  Rows'.any-gone (Syntax.tyStruct (List._∷_ 112 (List._∷_ 97 (List._∷_ 115 (List._∷_ 115 (List._∷_ 58 (List._∷_ 58 (List._∷_ 83 (List._∷_ 101 (List._∷_ 116 List.[])))))))))
-      (Syntax.tcons (Syntax.tyArray (Syntax.tyInt Syntax.w32) 112) (Syntax.tcons (Syntax.tyArray (Syntax.tyInt Syntax.w32) 112) Syntax.tnil))),
-) (List._∷_ (
-  1,
-  Mut.mslice (Element.type) (Syntax.tyRef
-      (Syntax.named 0) Syntax.mut Element.behind) 0,
-) (List._∷_ (2, Rows'.sc-here (Row.sInt Syntax.w64)) (List._∷_ (3, Rows'.whole (Array'.Array (Referent.rtF (Referent.fInt Syntax.w32)) 112)) (List._∷_
-    (4, Rows'.any-gone (Syntax.tyArray (Syntax.tyInt Syntax.w32) 112)) (List._∷_ (5, Rows'.any-gone (Syntax.tyInt Syntax.w64)) (List._∷_ (
-      6,
-      Rows'.any-gone (Syntax.tyStruct (List._∷_ 115 (List._∷_ 116
-          (List._∷_ 97 (List._∷_ 116 (List._∷_ 105 (List._∷_ 115 (List._∷_ 116 (List._∷_ 105 (List._∷_ 99 (List._∷_ 115 (List._∷_ 58 (List._∷_ 58 (List._∷_ 82 (List._∷_ 101 (List._∷_ 99 (List._∷_ 111 (List._∷_
-          114 (List._∷_ 100 List.[])))))))))))))))))) (Syntax.tcons (Syntax.tyInt Syntax.w32) (Syntax.tcons (Syntax.tyInt Syntax.w32) Syntax.tnil))),
-    ) (List._∷_ (7, Rows'.any-gone Syntax.tyBool) (List._∷_ (
-      8,
-      Rows'.any-gone (Syntax.tyRef Syntax.erased Syntax.mut Element.behind),
-    ) (List._∷_ (
-      9,
-      Rows'.any-gone (Syntax.tyStruct (List._∷_ 38 (List._∷_ 91 (List._∷_ 93 List.[]))) (Syntax.tcons (Syntax.tyRef
-          Syntax.erased Syntax.mut Element.behind) (Syntax.tcons (Syntax.tyInt Syntax.w64) Syntax.tnil))),
-    ) (List._∷_ (10, Rows'.any-gone (Syntax.tyInt Syntax.w64)) (List._∷_ (
-      11,
-      Rows'.any-gone (Syntax.tyInt
-          Syntax.w64),
-    ) (List._∷_ (12, Rows'.any-gone Syntax.tyPtr) (List._∷_ (13, Rows'.any-gone Syntax.tyPtr) (List._∷_ (14, Rows'.any-gone Syntax.tyPtr) (List._∷_ (15, Rows'.any-gone Syntax.tyPtr)
-    List.[])))))))))))))))
+t3 = List._∷_ e0 (List._∷_ e2 (List._∷_ e21 (List._∷_ (3, Rows'.whole (Array'.Array (Referent.rtF (Referent.fInt Syntax.w32)) 112)) (List._∷_ e24 (List._∷_ e26 (List._∷_ e28 (List._∷_ e30 (List._∷_
+    e32 (List._∷_ e35 (List._∷_ e4 (List._∷_ e6 (List._∷_ e8 (List._∷_ e10 (List._∷_ e12 (List._∷_ e14 List.[])))))))))))))))
 
 abbrev pub t4 : List.List Row.Entry
-t4 = List._∷_ (
-  0,
-  Rows'.any-gone (Syntax.tyStruct (List._∷_ 112 (List._∷_ 97 (List._∷_ 115 (List._∷_ 115 (List._∷_ 58 (List._∷_ 58 (List._∷_ 83 (List._∷_ 101 (List._∷_ 116 List.[])))))))))
-      (Syntax.tcons (Syntax.tyArray (Syntax.tyInt Syntax.w32) 112) (Syntax.tcons (Syntax.tyArray (Syntax.tyInt Syntax.w32) 112) Syntax.tnil))),
-) (List._∷_ (
-  1,
-  Mut.mslice (Element.type) (Syntax.tyRef
-      (Syntax.named 0) Syntax.mut Element.behind) 0,
-) (List._∷_ (2, Rows'.sc-here (Row.sInt Syntax.w64)) (List._∷_ (3, Rows.arrF (Referent.rtF (Referent.fInt Syntax.w32)) 112 0) (List._∷_ (
-  4,
-  Rows'.any-gone (Syntax.tyArray (Syntax.tyInt Syntax.w32) 112),
-) (List._∷_ (5, Rows'.any-gone (Syntax.tyInt Syntax.w64)) (List._∷_ (
-  6,
-  Rows'.any-gone (Syntax.tyStruct (List._∷_ 115 (List._∷_ 116
-      (List._∷_ 97 (List._∷_ 116 (List._∷_ 105 (List._∷_ 115 (List._∷_ 116 (List._∷_ 105 (List._∷_ 99 (List._∷_ 115 (List._∷_ 58 (List._∷_ 58 (List._∷_ 82 (List._∷_ 101 (List._∷_ 99 (List._∷_ 111 (List._∷_
-      114 (List._∷_ 100 List.[])))))))))))))))))) (Syntax.tcons (Syntax.tyInt Syntax.w32) (Syntax.tcons (Syntax.tyInt Syntax.w32) Syntax.tnil))),
-) (List._∷_ (7, Rows'.any-gone Syntax.tyBool) (List._∷_ (
-  8,
-  Rows'.any-gone (Syntax.tyRef Syntax.erased Syntax.mut Element.behind),
-) (List._∷_ (
-  9,
-  Rows'.any-gone (Syntax.tyStruct (List._∷_ 38 (List._∷_ 91 (List._∷_ 93 List.[]))) (Syntax.tcons (Syntax.tyRef
-      Syntax.erased Syntax.mut Element.behind) (Syntax.tcons (Syntax.tyInt Syntax.w64) Syntax.tnil))),
-) (List._∷_ (10, Rows'.any-gone (Syntax.tyInt Syntax.w64)) (List._∷_ (
-  11,
-  Rows'.any-gone (Syntax.tyInt
-      Syntax.w64),
-) (List._∷_ (12, Rows'.any-gone Syntax.tyPtr) (List._∷_ (13, Rows'.any-gone Syntax.tyPtr) (List._∷_ (14, Rows'.any-gone Syntax.tyPtr) (List._∷_ (15, Rows'.any-gone Syntax.tyPtr)
-    List.[])))))))))))))))
+t4 = List._∷_ e0 (List._∷_ e2 (List._∷_ e21 (List._∷_ e23 (List._∷_ e24 (List._∷_ e26 (List._∷_ e28 (List._∷_ e30 (List._∷_ e32 (List._∷_ e35 (List._∷_ e4 (List._∷_ e6 (List._∷_ e8 (List._∷_ e10
+    (List._∷_ e12 (List._∷_ e14 List.[])))))))))))))))
 
 abbrev pub t5 : List.List Row.Entry
-t5 = List._∷_ (
-  0,
-  Rows'.any-gone (Syntax.tyStruct (List._∷_ 112 (List._∷_ 97 (List._∷_ 115 (List._∷_ 115 (List._∷_ 58 (List._∷_ 58 (List._∷_ 83 (List._∷_ 101 (List._∷_ 116 List.[])))))))))
-      (Syntax.tcons (Syntax.tyArray (Syntax.tyInt Syntax.w32) 112) (Syntax.tcons (Syntax.tyArray (Syntax.tyInt Syntax.w32) 112) Syntax.tnil))),
-) (List._∷_ (
-  1,
-  Mut.mslice (Element.type) (Syntax.tyRef
-      (Syntax.named 0) Syntax.mut Element.behind) 0,
-) (List._∷_ (2, Rows'.sc-here (Row.sInt Syntax.w64)) (List._∷_ (3, Rows.arrF (Referent.rtF (Referent.fInt Syntax.w32)) 112 0) (List._∷_ (
-  4,
-  Rows'.whole (Array'.Array (Referent.rtF (Referent.fInt Syntax.w32)) 112),
-) (List._∷_ (5, Rows'.any-gone (Syntax.tyInt Syntax.w64)) (List._∷_ (
-  6,
-  Rows'.any-gone (Syntax.tyStruct (List._∷_ 115 (List._∷_
-      116 (List._∷_ 97 (List._∷_ 116 (List._∷_ 105 (List._∷_ 115 (List._∷_ 116 (List._∷_ 105 (List._∷_ 99 (List._∷_ 115 (List._∷_ 58 (List._∷_ 58 (List._∷_ 82 (List._∷_ 101 (List._∷_ 99 (List._∷_ 111
-      (List._∷_ 114 (List._∷_ 100 List.[])))))))))))))))))) (Syntax.tcons (Syntax.tyInt Syntax.w32) (Syntax.tcons (Syntax.tyInt Syntax.w32) Syntax.tnil))),
-) (List._∷_ (7, Rows'.any-gone Syntax.tyBool)
-    (List._∷_ (8, Rows'.any-gone (Syntax.tyRef Syntax.erased Syntax.mut Element.behind)) (List._∷_ (
-      9,
-      Rows'.any-gone (Syntax.tyStruct (List._∷_ 38 (List._∷_ 91 (List._∷_ 93 List.[]))) (Syntax.tcons
-          (Syntax.tyRef Syntax.erased Syntax.mut Element.behind) (Syntax.tcons (Syntax.tyInt Syntax.w64) Syntax.tnil))),
-    ) (List._∷_ (10, Rows'.any-gone (Syntax.tyInt Syntax.w64)) (List._∷_ (
-      11,
-      Rows'.any-gone
-          (Syntax.tyInt Syntax.w64),
-    ) (List._∷_ (12, Rows'.any-gone Syntax.tyPtr) (List._∷_ (13, Rows'.any-gone Syntax.tyPtr) (List._∷_ (14, Rows'.any-gone Syntax.tyPtr) (List._∷_ (
-      15,
-      Rows'.any-gone
-          Syntax.tyPtr,
-    ) List.[])))))))))))))))
+t5 = List._∷_ e0 (List._∷_ e2 (List._∷_ e21 (List._∷_ e23 (List._∷_ (4, Rows'.whole (Array'.Array (Referent.rtF (Referent.fInt Syntax.w32)) 112)) (List._∷_ e26 (List._∷_ e28 (List._∷_ e30 (List._∷_
+    e32 (List._∷_ e35 (List._∷_ e4 (List._∷_ e6 (List._∷_ e8 (List._∷_ e10 (List._∷_ e12 (List._∷_ e14 List.[])))))))))))))))
 
 abbrev pub t6 : List.List Row.Entry
-t6 = List._∷_ (
-  0,
-  Rows'.any-gone (Syntax.tyStruct (List._∷_ 112 (List._∷_ 97 (List._∷_ 115 (List._∷_ 115 (List._∷_ 58 (List._∷_ 58 (List._∷_ 83 (List._∷_ 101 (List._∷_ 116 List.[])))))))))
-      (Syntax.tcons (Syntax.tyArray (Syntax.tyInt Syntax.w32) 112) (Syntax.tcons (Syntax.tyArray (Syntax.tyInt Syntax.w32) 112) Syntax.tnil))),
-) (List._∷_ (
-  1,
-  Mut.mslice (Element.type) (Syntax.tyRef
-      (Syntax.named 0) Syntax.mut Element.behind) 0,
-) (List._∷_ (2, Rows'.sc-here (Row.sInt Syntax.w64)) (List._∷_ (3, Rows.arrF (Referent.rtF (Referent.fInt Syntax.w32)) 112 0) (List._∷_ (
-  4,
-  Rows.arrF
-      (Referent.rtF (Referent.fInt Syntax.w32)) 112 0,
-) (List._∷_ (5, Rows'.any-gone (Syntax.tyInt Syntax.w64)) (List._∷_ (
-  6,
-  Rows'.any-gone (Syntax.tyStruct (List._∷_ 115 (List._∷_ 116 (List._∷_ 97
-      (List._∷_ 116 (List._∷_ 105 (List._∷_ 115 (List._∷_ 116 (List._∷_ 105 (List._∷_ 99 (List._∷_ 115 (List._∷_ 58 (List._∷_ 58 (List._∷_ 82 (List._∷_ 101 (List._∷_ 99 (List._∷_ 111 (List._∷_ 114 (List._∷_
-      100 List.[])))))))))))))))))) (Syntax.tcons (Syntax.tyInt Syntax.w32) (Syntax.tcons (Syntax.tyInt Syntax.w32) Syntax.tnil))),
-) (List._∷_ (7, Rows'.any-gone Syntax.tyBool) (List._∷_ (
-  8,
-  Rows'.any-gone (Syntax.tyRef Syntax.erased Syntax.mut Element.behind),
-) (List._∷_ (
-  9,
-  Rows'.any-gone (Syntax.tyStruct (List._∷_ 38 (List._∷_ 91 (List._∷_ 93 List.[]))) (Syntax.tcons (Syntax.tyRef
-      Syntax.erased Syntax.mut Element.behind) (Syntax.tcons (Syntax.tyInt Syntax.w64) Syntax.tnil))),
-) (List._∷_ (10, Rows'.any-gone (Syntax.tyInt Syntax.w64)) (List._∷_ (
-  11,
-  Rows'.any-gone (Syntax.tyInt
-      Syntax.w64),
-) (List._∷_ (12, Rows'.any-gone Syntax.tyPtr) (List._∷_ (13, Rows'.any-gone Syntax.tyPtr) (List._∷_ (14, Rows'.any-gone Syntax.tyPtr) (List._∷_ (15, Rows'.any-gone Syntax.tyPtr)
-    List.[])))))))))))))))
+t6 = List._∷_ e0 (List._∷_ e2 (List._∷_ e21 (List._∷_ e23 (List._∷_ e25 (List._∷_ e26 (List._∷_ e28 (List._∷_ e30 (List._∷_ e32 (List._∷_ e35 (List._∷_ e4 (List._∷_ e6 (List._∷_ e8 (List._∷_ e10
+    (List._∷_ e12 (List._∷_ e14 List.[])))))))))))))))
 
 abbrev pub t7 : List.List Row.Entry
-t7 = List._∷_ (
-  0,
-  Rows'.any-gone (Syntax.tyStruct (List._∷_ 112 (List._∷_ 97 (List._∷_ 115 (List._∷_ 115 (List._∷_ 58 (List._∷_ 58 (List._∷_ 83 (List._∷_ 101 (List._∷_ 116 List.[])))))))))
-      (Syntax.tcons (Syntax.tyArray (Syntax.tyInt Syntax.w32) 112) (Syntax.tcons (Syntax.tyArray (Syntax.tyInt Syntax.w32) 112) Syntax.tnil))),
-) (List._∷_ (
-  1,
-  Mut.mslice (Element.type) (Syntax.tyRef
-      (Syntax.named 0) Syntax.mut Element.behind) 0,
-) (List._∷_ (2, Rows'.sc-here (Row.sInt Syntax.w64)) (List._∷_ (3, Rows.arrF (Referent.rtF (Referent.fInt Syntax.w32)) 112 0) (List._∷_ (
-  4,
-  Rows.arrF
-      (Referent.rtF (Referent.fInt Syntax.w32)) 112 0,
-) (List._∷_ (5, Rows'.sc-here (Row.sInt Syntax.w64)) (List._∷_ (
-  6,
-  Rows'.any-gone (Syntax.tyStruct (List._∷_ 115 (List._∷_ 116 (List._∷_ 97 (List._∷_
-      116 (List._∷_ 105 (List._∷_ 115 (List._∷_ 116 (List._∷_ 105 (List._∷_ 99 (List._∷_ 115 (List._∷_ 58 (List._∷_ 58 (List._∷_ 82 (List._∷_ 101 (List._∷_ 99 (List._∷_ 111 (List._∷_ 114 (List._∷_ 100
-      List.[])))))))))))))))))) (Syntax.tcons (Syntax.tyInt Syntax.w32) (Syntax.tcons (Syntax.tyInt Syntax.w32) Syntax.tnil))),
-) (List._∷_ (7, Rows'.any-gone Syntax.tyBool) (List._∷_ (
-  8,
-  Rows'.any-gone
-      (Syntax.tyRef Syntax.erased Syntax.mut Element.behind),
-) (List._∷_ (
-  9,
-  Rows'.any-gone (Syntax.tyStruct (List._∷_ 38 (List._∷_ 91 (List._∷_ 93 List.[]))) (Syntax.tcons (Syntax.tyRef Syntax.erased
-      Syntax.mut Element.behind) (Syntax.tcons (Syntax.tyInt Syntax.w64) Syntax.tnil))),
-) (List._∷_ (10, Rows'.any-gone (Syntax.tyInt Syntax.w64)) (List._∷_ (
-  11,
-  Rows'.any-gone (Syntax.tyInt Syntax.w64),
-) (List._∷_ (12, Rows'.any-gone Syntax.tyPtr) (List._∷_ (13, Rows'.any-gone Syntax.tyPtr) (List._∷_ (14, Rows'.any-gone Syntax.tyPtr) (List._∷_ (15, Rows'.any-gone Syntax.tyPtr) List.[])))))))))))))))
+t7 = List._∷_ e0 (List._∷_ e2 (List._∷_ e21 (List._∷_ e23 (List._∷_ e25 (List._∷_ e27 (List._∷_ e28 (List._∷_ e30 (List._∷_ e32 (List._∷_ e35 (List._∷_ e4 (List._∷_ e6 (List._∷_ e8 (List._∷_ e10
+    (List._∷_ e12 (List._∷_ e14 List.[])))))))))))))))
 
 abbrev pub t8 : List.List Row.Entry
-t8 = List._∷_ (
-  0,
-  Rows'.any-gone (Syntax.tyStruct (List._∷_ 112 (List._∷_ 97 (List._∷_ 115 (List._∷_ 115 (List._∷_ 58 (List._∷_ 58 (List._∷_ 83 (List._∷_ 101 (List._∷_ 116 List.[])))))))))
-      (Syntax.tcons (Syntax.tyArray (Syntax.tyInt Syntax.w32) 112) (Syntax.tcons (Syntax.tyArray (Syntax.tyInt Syntax.w32) 112) Syntax.tnil))),
-) (List._∷_ (
-  1,
-  Mut.mslice (Element.type) (Syntax.tyRef
-      (Syntax.named 0) Syntax.mut Element.behind) 0,
-) (List._∷_ (2, Rows'.sc-here (Row.sInt Syntax.w64)) (List._∷_ (3, Rows.arrF (Referent.rtF (Referent.fInt Syntax.w32)) 112 0) (List._∷_ (
-  4,
-  Rows.arrF
-      (Referent.rtF (Referent.fInt Syntax.w32)) 112 0,
-) (List._∷_ (5, Rows'.sc-here (Row.sInt Syntax.w64)) (List._∷_ (
-  6,
-  Rows'.any-gone (Syntax.tyStruct (List._∷_ 115 (List._∷_ 116 (List._∷_ 97 (List._∷_
-      116 (List._∷_ 105 (List._∷_ 115 (List._∷_ 116 (List._∷_ 105 (List._∷_ 99 (List._∷_ 115 (List._∷_ 58 (List._∷_ 58 (List._∷_ 82 (List._∷_ 101 (List._∷_ 99 (List._∷_ 111 (List._∷_ 114 (List._∷_ 100
-      List.[])))))))))))))))))) (Syntax.tcons (Syntax.tyInt Syntax.w32) (Syntax.tcons (Syntax.tyInt Syntax.w32) Syntax.tnil))),
-) (List._∷_ (7, Rows'.sc-here Row.sBool) (List._∷_ (
-  8,
-  Rows'.any-gone
-      (Syntax.tyRef Syntax.erased Syntax.mut Element.behind),
-) (List._∷_ (
-  9,
-  Rows'.any-gone (Syntax.tyStruct (List._∷_ 38 (List._∷_ 91 (List._∷_ 93 List.[]))) (Syntax.tcons (Syntax.tyRef Syntax.erased
-      Syntax.mut Element.behind) (Syntax.tcons (Syntax.tyInt Syntax.w64) Syntax.tnil))),
-) (List._∷_ (10, Rows'.any-gone (Syntax.tyInt Syntax.w64)) (List._∷_ (
-  11,
-  Rows'.any-gone (Syntax.tyInt Syntax.w64),
-) (List._∷_ (12, Rows'.any-gone Syntax.tyPtr) (List._∷_ (13, Rows'.any-gone Syntax.tyPtr) (List._∷_ (14, Rows'.any-gone Syntax.tyPtr) (List._∷_ (15, Rows'.any-gone Syntax.tyPtr) List.[])))))))))))))))
+t8 = List._∷_ e0 (List._∷_ e2 (List._∷_ e21 (List._∷_ e23 (List._∷_ e25 (List._∷_ e27 (List._∷_ e28 (List._∷_ (7, Rows'.sc-here Row.sBool) (List._∷_ e32 (List._∷_ e35 (List._∷_ e4 (List._∷_ e6
+    (List._∷_ e8 (List._∷_ e10 (List._∷_ e12 (List._∷_ e14 List.[])))))))))))))))
 
 abbrev pub t9 : List.List Row.Entry
-t9 = List._∷_ (
-  0,
-  Rows'.any-gone (Syntax.tyStruct (List._∷_ 112 (List._∷_ 97 (List._∷_ 115 (List._∷_ 115 (List._∷_ 58 (List._∷_ 58 (List._∷_ 83 (List._∷_ 101 (List._∷_ 116 List.[])))))))))
-      (Syntax.tcons (Syntax.tyArray (Syntax.tyInt Syntax.w32) 112) (Syntax.tcons (Syntax.tyArray (Syntax.tyInt Syntax.w32) 112) Syntax.tnil))),
-) (List._∷_ (
-  1,
-  Relend.mslice-owed (Element.type)
-      (Syntax.tyRef (Syntax.named 0) Syntax.mut Element.behind) 0 1 Row.off,
-) (List._∷_ (2, Rows'.sc-here (Row.sInt Syntax.w64)) (List._∷_ (3, Rows.arrF (Referent.rtF (Referent.fInt Syntax.w32)) 112 0)
-    (List._∷_ (4, Rows.arrF (Referent.rtF (Referent.fInt Syntax.w32)) 112 0) (List._∷_ (5, Rows'.sc-here (Row.sInt Syntax.w64)) (List._∷_ (
-      6,
-      Rows'.any-gone (Syntax.tyStruct (List._∷_ 115 (List._∷_
-          116 (List._∷_ 97 (List._∷_ 116 (List._∷_ 105 (List._∷_ 115 (List._∷_ 116 (List._∷_ 105 (List._∷_ 99 (List._∷_ 115 (List._∷_ 58 (List._∷_ 58 (List._∷_ 82 (List._∷_ 101 (List._∷_ 99 (List._∷_ 111
-          (List._∷_ 114 (List._∷_ 100 List.[])))))))))))))))))) (Syntax.tcons (Syntax.tyInt Syntax.w32) (Syntax.tcons (Syntax.tyInt Syntax.w32) Syntax.tnil))),
-    ) (List._∷_ (7, Rows'.any-gone Syntax.tyBool)
-    (List._∷_ (8, Relend.msptr (Element.type) (Syntax.tyRef Syntax.erased Syntax.mut Element.behind) 1) (List._∷_ (
-      9,
-      Rows'.any-gone (Syntax.tyStruct (List._∷_ 38 (List._∷_ 91 (List._∷_ 93 List.[])))
-          (Syntax.tcons (Syntax.tyRef Syntax.erased Syntax.mut Element.behind) (Syntax.tcons (Syntax.tyInt Syntax.w64) Syntax.tnil))),
-    ) (List._∷_ (10, Rows'.any-gone (Syntax.tyInt Syntax.w64)) (List._∷_ (
-      11,
-      Rows'.any-gone (Syntax.tyInt Syntax.w64),
-    ) (List._∷_ (12, Rows'.any-gone Syntax.tyPtr) (List._∷_ (13, Rows'.any-gone Syntax.tyPtr) (List._∷_ (14, Rows'.any-gone Syntax.tyPtr) (List._∷_ (
-      15,
-      Rows'.any-gone Syntax.tyPtr,
-    ) List.[])))))))))))))))
+t9 = List._∷_ e0 (List._∷_ e3 (List._∷_ e21 (List._∷_ e23 (List._∷_ e25 (List._∷_ e27 (List._∷_ e28 (List._∷_ e30 (List._∷_ e31 (List._∷_ e35 (List._∷_ e4 (List._∷_ e6 (List._∷_ e8 (List._∷_ e10
+    (List._∷_ e12 (List._∷_ e14 List.[])))))))))))))))
 
 abbrev pub t10 : List.List Row.Entry
-t10 = List._∷_ (
-  0,
-  Rows'.any-gone (Syntax.tyStruct (List._∷_ 112 (List._∷_ 97 (List._∷_ 115 (List._∷_ 115 (List._∷_ 58 (List._∷_ 58 (List._∷_ 83 (List._∷_ 101 (List._∷_ 116 List.[])))))))))
-      (Syntax.tcons (Syntax.tyArray (Syntax.tyInt Syntax.w32) 112) (Syntax.tcons (Syntax.tyArray (Syntax.tyInt Syntax.w32) 112) Syntax.tnil))),
-) (List._∷_ (
-  1,
-  Relend.mslice-owed (Element.type)
-      (Syntax.tyRef (Syntax.named 0) Syntax.mut Element.behind) 0 1 Row.off,
-) (List._∷_ (2, Rows'.sc-here (Row.sInt Syntax.w64)) (List._∷_ (3, Rows.arrF (Referent.rtF (Referent.fInt Syntax.w32)) 112 0)
-    (List._∷_ (4, Rows.arrF (Referent.rtF (Referent.fInt Syntax.w32)) 112 0) (List._∷_ (5, Rows'.sc-here (Row.sInt Syntax.w64)) (List._∷_ (
-      6,
-      Rows'.any-gone (Syntax.tyStruct (List._∷_ 115 (List._∷_
-          116 (List._∷_ 97 (List._∷_ 116 (List._∷_ 105 (List._∷_ 115 (List._∷_ 116 (List._∷_ 105 (List._∷_ 99 (List._∷_ 115 (List._∷_ 58 (List._∷_ 58 (List._∷_ 82 (List._∷_ 101 (List._∷_ 99 (List._∷_ 111
-          (List._∷_ 114 (List._∷_ 100 List.[])))))))))))))))))) (Syntax.tcons (Syntax.tyInt Syntax.w32) (Syntax.tcons (Syntax.tyInt Syntax.w32) Syntax.tnil))),
-    ) (List._∷_ (7, Rows'.any-gone Syntax.tyBool)
-    (List._∷_ (8, Rows'.any-gone (Syntax.tyRef Syntax.erased Syntax.mut Element.behind)) (List._∷_ (9, Mut.mslice (Element.type) (Syntax.tyRef Syntax.erased Syntax.mut Element.behind) 1) (List._∷_
-    (10, Rows'.any-gone (Syntax.tyInt Syntax.w64)) (List._∷_ (11, Rows'.any-gone (Syntax.tyInt Syntax.w64)) (List._∷_ (12, Rows'.any-gone Syntax.tyPtr) (List._∷_ (13, Rows'.any-gone Syntax.tyPtr)
-    (List._∷_ (14, Rows'.any-gone Syntax.tyPtr) (List._∷_ (15, Rows'.any-gone Syntax.tyPtr) List.[])))))))))))))))
+t10 = List._∷_ e0 (List._∷_ e3 (List._∷_ e21 (List._∷_ e23 (List._∷_ e25 (List._∷_ e27 (List._∷_ e28 (List._∷_ e30 (List._∷_ e32 (List._∷_ e34 (List._∷_ e4 (List._∷_ e6 (List._∷_ e8 (List._∷_ e10
+    (List._∷_ e12 (List._∷_ e14 List.[])))))))))))))))
 
 abbrev pub t11 : List.List Row.Entry
-t11 = List._∷_ (
-  0,
-  Rows'.any-gone (Syntax.tyStruct (List._∷_ 112 (List._∷_ 97 (List._∷_ 115 (List._∷_ 115 (List._∷_ 58 (List._∷_ 58 (List._∷_ 83 (List._∷_ 101 (List._∷_ 116 List.[])))))))))
-      (Syntax.tcons (Syntax.tyArray (Syntax.tyInt Syntax.w32) 112) (Syntax.tcons (Syntax.tyArray (Syntax.tyInt Syntax.w32) 112) Syntax.tnil))),
-) (List._∷_ (
-  1,
-  Relend.mslice-owed (Element.type)
-      (Syntax.tyRef (Syntax.named 0) Syntax.mut Element.behind) 0 1 Row.off,
-) (List._∷_ (2, Rows'.sc-here (Row.sInt Syntax.w64)) (List._∷_ (3, Rows.arrF (Referent.rtF (Referent.fInt Syntax.w32)) 112 0)
-    (List._∷_ (4, Rows.arrF (Referent.rtF (Referent.fInt Syntax.w32)) 112 0) (List._∷_ (5, Rows'.sc-here (Row.sInt Syntax.w64)) (List._∷_ (
-      6,
-      Rows'.any-gone (Syntax.tyStruct (List._∷_ 115 (List._∷_
-          116 (List._∷_ 97 (List._∷_ 116 (List._∷_ 105 (List._∷_ 115 (List._∷_ 116 (List._∷_ 105 (List._∷_ 99 (List._∷_ 115 (List._∷_ 58 (List._∷_ 58 (List._∷_ 82 (List._∷_ 101 (List._∷_ 99 (List._∷_ 111
-          (List._∷_ 114 (List._∷_ 100 List.[])))))))))))))))))) (Syntax.tcons (Syntax.tyInt Syntax.w32) (Syntax.tcons (Syntax.tyInt Syntax.w32) Syntax.tnil))),
-    ) (List._∷_ (7, Rows'.any-gone Syntax.tyBool)
-    (List._∷_ (8, Rows'.any-gone (Syntax.tyRef Syntax.erased Syntax.mut Element.behind)) (List._∷_ (9, Mut.mslice (Element.type) (Syntax.tyRef Syntax.erased Syntax.mut Element.behind) 1) (List._∷_
-    (10, Rows'.sc-here (Row.sInt Syntax.w64)) (List._∷_ (11, Rows'.any-gone (Syntax.tyInt Syntax.w64)) (List._∷_ (12, Rows'.any-gone Syntax.tyPtr) (List._∷_ (13, Rows'.any-gone Syntax.tyPtr) (List._∷_
-    (14, Rows'.any-gone Syntax.tyPtr) (List._∷_ (15, Rows'.any-gone Syntax.tyPtr) List.[])))))))))))))))
+t11 = List._∷_ e0 (List._∷_ e3 (List._∷_ e21 (List._∷_ e23 (List._∷_ e25 (List._∷_ e27 (List._∷_ e28 (List._∷_ e30 (List._∷_ e32 (List._∷_ e34 (List._∷_ e5 (List._∷_ e6 (List._∷_ e8 (List._∷_ e10
+    (List._∷_ e12 (List._∷_ e14 List.[])))))))))))))))
 
 abbrev pub t12 : List.List Row.Entry
-t12 = List._∷_ (
-  0,
-  Rows'.any-gone (Syntax.tyStruct (List._∷_ 112 (List._∷_ 97 (List._∷_ 115 (List._∷_ 115 (List._∷_ 58 (List._∷_ 58 (List._∷_ 83 (List._∷_ 101 (List._∷_ 116 List.[])))))))))
-      (Syntax.tcons (Syntax.tyArray (Syntax.tyInt Syntax.w32) 112) (Syntax.tcons (Syntax.tyArray (Syntax.tyInt Syntax.w32) 112) Syntax.tnil))),
-) (List._∷_ (
-  1,
-  Relend.mslice-owed (Element.type)
-      (Syntax.tyRef (Syntax.named 0) Syntax.mut Element.behind) 0 1 Row.off,
-) (List._∷_ (2, Rows'.sc-here (Row.sInt Syntax.w64)) (List._∷_ (3, Rows.arrF (Referent.rtF (Referent.fInt Syntax.w32)) 112 0)
-    (List._∷_ (4, Rows.arrF (Referent.rtF (Referent.fInt Syntax.w32)) 112 0) (List._∷_ (5, Rows'.sc-here (Row.sInt Syntax.w64)) (List._∷_ (
-      6,
-      Rows'.any-gone (Syntax.tyStruct (List._∷_ 115 (List._∷_
-          116 (List._∷_ 97 (List._∷_ 116 (List._∷_ 105 (List._∷_ 115 (List._∷_ 116 (List._∷_ 105 (List._∷_ 99 (List._∷_ 115 (List._∷_ 58 (List._∷_ 58 (List._∷_ 82 (List._∷_ 101 (List._∷_ 99 (List._∷_ 111
-          (List._∷_ 114 (List._∷_ 100 List.[])))))))))))))))))) (Syntax.tcons (Syntax.tyInt Syntax.w32) (Syntax.tcons (Syntax.tyInt Syntax.w32) Syntax.tnil))),
-    ) (List._∷_ (7, Rows'.any-gone Syntax.tyBool)
-    (List._∷_ (8, Rows'.any-gone (Syntax.tyRef Syntax.erased Syntax.mut Element.behind)) (List._∷_ (9, Mut.mslice (Element.type) (Syntax.tyRef Syntax.erased Syntax.mut Element.behind) 1) (List._∷_
-    (10, Rows'.sc-here (Row.sInt Syntax.w64)) (List._∷_ (11, Rows'.sc-here (Row.sInt Syntax.w64)) (List._∷_ (12, Rows'.any-gone Syntax.tyPtr) (List._∷_ (13, Rows'.any-gone Syntax.tyPtr) (List._∷_ (
-      14,
-      Rows'.any-gone Syntax.tyPtr,
-    ) (List._∷_ (15, Rows'.any-gone Syntax.tyPtr) List.[])))))))))))))))
+t12 = List._∷_ e0 (List._∷_ e3 (List._∷_ e21 (List._∷_ e23 (List._∷_ e25 (List._∷_ e27 (List._∷_ e28 (List._∷_ e30 (List._∷_ e32 (List._∷_ e34 (List._∷_ e5 (List._∷_ e7 (List._∷_ e8 (List._∷_ e10
+    (List._∷_ e12 (List._∷_ e14 List.[])))))))))))))))
 
 abbrev pub t13 : List.List Row.Entry
-t13 = List._∷_ (
-  0,
-  Rows'.any-gone (Syntax.tyStruct (List._∷_ 112 (List._∷_ 97 (List._∷_ 115 (List._∷_ 115 (List._∷_ 58 (List._∷_ 58 (List._∷_ 83 (List._∷_ 101 (List._∷_ 116 List.[])))))))))
-      (Syntax.tcons (Syntax.tyArray (Syntax.tyInt Syntax.w32) 112) (Syntax.tcons (Syntax.tyArray (Syntax.tyInt Syntax.w32) 112) Syntax.tnil))),
-) (List._∷_ (
-  1,
-  Relend.mslice-owed (Element.type)
-      (Syntax.tyRef (Syntax.named 0) Syntax.mut Element.behind) 0 1 Row.off,
-) (List._∷_ (2, Rows'.sc-here (Row.sInt Syntax.w64)) (List._∷_ (3, Rows.arrF (Referent.rtF (Referent.fInt Syntax.w32)) 112 0)
-    (List._∷_ (4, Rows.arrF (Referent.rtF (Referent.fInt Syntax.w32)) 112 0) (List._∷_ (5, Rows'.sc-here (Row.sInt Syntax.w64)) (List._∷_ (
-      6,
-      Rows'.any-gone (Syntax.tyStruct (List._∷_ 115 (List._∷_
-          116 (List._∷_ 97 (List._∷_ 116 (List._∷_ 105 (List._∷_ 115 (List._∷_ 116 (List._∷_ 105 (List._∷_ 99 (List._∷_ 115 (List._∷_ 58 (List._∷_ 58 (List._∷_ 82 (List._∷_ 101 (List._∷_ 99 (List._∷_ 111
-          (List._∷_ 114 (List._∷_ 100 List.[])))))))))))))))))) (Syntax.tcons (Syntax.tyInt Syntax.w32) (Syntax.tcons (Syntax.tyInt Syntax.w32) Syntax.tnil))),
-    ) (List._∷_ (7, Rows'.any-gone Syntax.tyBool)
-    (List._∷_ (8, Rows'.any-gone (Syntax.tyRef Syntax.erased Syntax.mut Element.behind)) (List._∷_ (9, Mut.mslice (Element.type) (Syntax.tyRef Syntax.erased Syntax.mut Element.behind) 1) (List._∷_
-    (10, Rows'.any-gone (Syntax.tyInt Syntax.w64)) (List._∷_ (11, Rows'.sc-here (Row.sInt Syntax.w64)) (List._∷_ (12, Rows'.any-gone Syntax.tyPtr) (List._∷_ (13, Rows'.any-gone Syntax.tyPtr) (List._∷_
-    (14, Rows'.any-gone Syntax.tyPtr) (List._∷_ (15, Rows'.any-gone Syntax.tyPtr) List.[])))))))))))))))
+t13 = List._∷_ e0 (List._∷_ e3 (List._∷_ e21 (List._∷_ e23 (List._∷_ e25 (List._∷_ e27 (List._∷_ e28 (List._∷_ e30 (List._∷_ e32 (List._∷_ e34 (List._∷_ e4 (List._∷_ e7 (List._∷_ e8 (List._∷_ e10
+    (List._∷_ e12 (List._∷_ e14 List.[])))))))))))))))
 
 abbrev pub t14 : List.List Row.Entry
-t14 = List._∷_ (
-  0,
-  Rows'.any-gone (Syntax.tyStruct (List._∷_ 112 (List._∷_ 97 (List._∷_ 115 (List._∷_ 115 (List._∷_ 58 (List._∷_ 58 (List._∷_ 83 (List._∷_ 101 (List._∷_ 116 List.[])))))))))
-      (Syntax.tcons (Syntax.tyArray (Syntax.tyInt Syntax.w32) 112) (Syntax.tcons (Syntax.tyArray (Syntax.tyInt Syntax.w32) 112) Syntax.tnil))),
-) (List._∷_ (
-  1,
-  Relend.mslice-owed (Element.type)
-      (Syntax.tyRef (Syntax.named 0) Syntax.mut Element.behind) 0 1 Row.off,
-) (List._∷_ (2, Rows'.sc-here (Row.sInt Syntax.w64)) (List._∷_ (3, Rows.arrF (Referent.rtF (Referent.fInt Syntax.w32)) 112 0)
-    (List._∷_ (4, Rows.arrF (Referent.rtF (Referent.fInt Syntax.w32)) 112 0) (List._∷_ (5, Rows'.sc-here (Row.sInt Syntax.w64)) (List._∷_ (6, Rows'.whole (Declared.row Record.the-type)) (List._∷_ (
-      7,
-      Rows'.any-gone Syntax.tyBool,
-    ) (List._∷_ (8, Rows'.any-gone (Syntax.tyRef Syntax.erased Syntax.mut Element.behind)) (List._∷_ (
-      9,
-      Mut.msleft (Element.type) (Syntax.tyRef Syntax.erased Syntax.mut
-          Element.behind),
-    ) (List._∷_ (10, Rows'.any-gone (Syntax.tyInt Syntax.w64)) (List._∷_ (11, Rows'.sc-here (Row.sInt Syntax.w64)) (List._∷_ (12, Rows'.any-gone Syntax.tyPtr) (List._∷_ (
-      13,
-      Rows'.any-gone Syntax.tyPtr,
-    ) (List._∷_ (14, Rows'.any-gone Syntax.tyPtr) (List._∷_ (15, Rows'.any-gone Syntax.tyPtr) List.[])))))))))))))))
+t14 = List._∷_ e0 (List._∷_ e3 (List._∷_ e21 (List._∷_ e23 (List._∷_ e25 (List._∷_ e27 (List._∷_ e29 (List._∷_ e30 (List._∷_ e32 (List._∷_ e33 (List._∷_ e4 (List._∷_ e7 (List._∷_ e8 (List._∷_ e10
+    (List._∷_ e12 (List._∷_ e14 List.[])))))))))))))))
 
 abbrev pub t15 : List.List Row.Entry
-t15 = List._∷_ (
-  0,
-  Rows'.any-gone (Syntax.tyStruct (List._∷_ 112 (List._∷_ 97 (List._∷_ 115 (List._∷_ 115 (List._∷_ 58 (List._∷_ 58 (List._∷_ 83 (List._∷_ 101 (List._∷_ 116 List.[])))))))))
-      (Syntax.tcons (Syntax.tyArray (Syntax.tyInt Syntax.w32) 112) (Syntax.tcons (Syntax.tyArray (Syntax.tyInt Syntax.w32) 112) Syntax.tnil))),
-) (List._∷_ (
-  1,
-  Relend.mslice-owed (Element.type)
-      (Syntax.tyRef (Syntax.named 0) Syntax.mut Element.behind) 0 1 Row.off,
-) (List._∷_ (2, Rows'.sc-here (Row.sInt Syntax.w64)) (List._∷_ (3, Rows.arrF (Referent.rtF (Referent.fInt Syntax.w32)) 112 0)
-    (List._∷_ (4, Rows.arrF (Referent.rtF (Referent.fInt Syntax.w32)) 112 0) (List._∷_ (5, Rows'.sc-here (Row.sInt Syntax.w64)) (List._∷_ (6, Rows'.whole (Declared.row Record.the-type)) (List._∷_ (
-      7,
-      Rows'.any-gone Syntax.tyBool,
-    ) (List._∷_ (8, Rows'.any-gone (Syntax.tyRef Syntax.erased Syntax.mut Element.behind)) (List._∷_ (
-      9,
-      Mut.msleft (Element.type) (Syntax.tyRef Syntax.erased Syntax.mut
-          Element.behind),
-    ) (List._∷_ (10, Rows'.any-gone (Syntax.tyInt Syntax.w64)) (List._∷_ (11, Rows'.any-gone (Syntax.tyInt Syntax.w64)) (List._∷_ (12, Rows'.any-gone Syntax.tyPtr) (List._∷_ (
-      13,
-      Rows'.any-gone Syntax.tyPtr,
-    ) (List._∷_ (14, Rows'.any-gone Syntax.tyPtr) (List._∷_ (15, Rows'.any-gone Syntax.tyPtr) List.[])))))))))))))))
+t15 = List._∷_ e0 (List._∷_ e3 (List._∷_ e21 (List._∷_ e23 (List._∷_ e25 (List._∷_ e27 (List._∷_ e29 (List._∷_ e30 (List._∷_ e32 (List._∷_ e33 (List._∷_ e4 (List._∷_ e6 (List._∷_ e8 (List._∷_ e10
+    (List._∷_ e12 (List._∷_ e14 List.[])))))))))))))))
 
 abbrev pub t16 : List.List Row.Entry
-t16 = List._∷_ (
-  0,
-  Rows'.any-gone (Syntax.tyStruct (List._∷_ 112 (List._∷_ 97 (List._∷_ 115 (List._∷_ 115 (List._∷_ 58 (List._∷_ 58 (List._∷_ 83 (List._∷_ 101 (List._∷_ 116 List.[])))))))))
-      (Syntax.tcons (Syntax.tyArray (Syntax.tyInt Syntax.w32) 112) (Syntax.tcons (Syntax.tyArray (Syntax.tyInt Syntax.w32) 112) Syntax.tnil))),
-) (List._∷_ (
-  1,
-  Mut.mslice (Element.type) (Syntax.tyRef
-      (Syntax.named 0) Syntax.mut Element.behind) 0,
-) (List._∷_ (2, Rows'.sc-here (Row.sInt Syntax.w64)) (List._∷_ (3, Rows.arrF (Referent.rtF (Referent.fInt Syntax.w32)) 112 0) (List._∷_ (
-  4,
-  Rows.arrF
-      (Referent.rtF (Referent.fInt Syntax.w32)) 112 0,
-) (List._∷_ (5, Rows'.sc-here (Row.sInt Syntax.w64)) (List._∷_ (6, Rows'.whole (Declared.row Record.the-type)) (List._∷_ (
-  7,
-  Rows'.any-gone
-      Syntax.tyBool,
-) (List._∷_ (8, Rows'.any-gone (Syntax.tyRef Syntax.erased Syntax.mut Element.behind)) (List._∷_ (
-  9,
-  Rows'.any-gone (Syntax.tyStruct (List._∷_ 38 (List._∷_ 91 (List._∷_ 93
-      List.[]))) (Syntax.tcons (Syntax.tyRef Syntax.erased Syntax.mut Element.behind) (Syntax.tcons (Syntax.tyInt Syntax.w64) Syntax.tnil))),
-) (List._∷_ (10, Rows'.any-gone (Syntax.tyInt Syntax.w64))
-    (List._∷_ (11, Rows'.any-gone (Syntax.tyInt Syntax.w64)) (List._∷_ (12, Rows'.any-gone Syntax.tyPtr) (List._∷_ (13, Rows'.any-gone Syntax.tyPtr) (List._∷_ (14, Rows'.any-gone Syntax.tyPtr)
-    (List._∷_ (15, Rows'.any-gone Syntax.tyPtr) List.[])))))))))))))))
+t16 = List._∷_ e0 (List._∷_ e2 (List._∷_ e21 (List._∷_ e23 (List._∷_ e25 (List._∷_ e27 (List._∷_ e29 (List._∷_ e30 (List._∷_ e32 (List._∷_ e35 (List._∷_ e4 (List._∷_ e6 (List._∷_ e8 (List._∷_ e10
+    (List._∷_ e12 (List._∷_ e14 List.[])))))))))))))))
 
 abbrev pub t17 : List.List Row.Entry
-t17 = List._∷_ (
-  0,
-  Rows'.any-gone (Syntax.tyStruct (List._∷_ 112 (List._∷_ 97 (List._∷_ 115 (List._∷_ 115 (List._∷_ 58 (List._∷_ 58 (List._∷_ 83 (List._∷_ 101 (List._∷_ 116 List.[])))))))))
-      (Syntax.tcons (Syntax.tyArray (Syntax.tyInt Syntax.w32) 112) (Syntax.tcons (Syntax.tyArray (Syntax.tyInt Syntax.w32) 112) Syntax.tnil))),
-) (List._∷_ (
-  1,
-  Mut.mslice (Element.type) (Syntax.tyRef
-      (Syntax.named 0) Syntax.mut Element.behind) 0,
-) (List._∷_ (2, Rows'.sc-here (Row.sInt Syntax.w64)) (List._∷_ (3, Rows.arrF (Referent.rtF (Referent.fInt Syntax.w32)) 112 0) (List._∷_ (
-  4,
-  Rows.arrF
-      (Referent.rtF (Referent.fInt Syntax.w32)) 112 0,
-) (List._∷_ (5, Rows'.sc-here (Row.sInt Syntax.w64)) (List._∷_ (6, Rows'.whole (Declared.row Record.the-type)) (List._∷_ (
-  7,
-  Rows'.any-gone
-      Syntax.tyBool,
-) (List._∷_ (8, Rows'.any-gone (Syntax.tyRef Syntax.erased Syntax.mut Element.behind)) (List._∷_ (
-  9,
-  Rows'.any-gone (Syntax.tyStruct (List._∷_ 38 (List._∷_ 91 (List._∷_ 93
-      List.[]))) (Syntax.tcons (Syntax.tyRef Syntax.erased Syntax.mut Element.behind) (Syntax.tcons (Syntax.tyInt Syntax.w64) Syntax.tnil))),
-) (List._∷_ (10, Rows'.sc-here (Row.sInt Syntax.w64)) (List._∷_
-    (11, Rows'.any-gone (Syntax.tyInt Syntax.w64)) (List._∷_ (12, Rows'.any-gone Syntax.tyPtr) (List._∷_ (13, Rows'.any-gone Syntax.tyPtr) (List._∷_ (14, Rows'.any-gone Syntax.tyPtr) (List._∷_ (
-      15,
-      Rows'.any-gone Syntax.tyPtr,
-    ) List.[])))))))))))))))
+t17 = List._∷_ e0 (List._∷_ e2 (List._∷_ e21 (List._∷_ e23 (List._∷_ e25 (List._∷_ e27 (List._∷_ e29 (List._∷_ e30 (List._∷_ e32 (List._∷_ e35 (List._∷_ e5 (List._∷_ e6 (List._∷_ e8 (List._∷_ e10
+    (List._∷_ e12 (List._∷_ e14 List.[])))))))))))))))
 
 abbrev pub t18 : List.List Row.Entry
-t18 = List._∷_ (
-  0,
-  Rows'.any-gone (Syntax.tyStruct (List._∷_ 112 (List._∷_ 97 (List._∷_ 115 (List._∷_ 115 (List._∷_ 58 (List._∷_ 58 (List._∷_ 83 (List._∷_ 101 (List._∷_ 116 List.[])))))))))
-      (Syntax.tcons (Syntax.tyArray (Syntax.tyInt Syntax.w32) 112) (Syntax.tcons (Syntax.tyArray (Syntax.tyInt Syntax.w32) 112) Syntax.tnil))),
-) (List._∷_ (
-  1,
-  Mut.mslice (Element.type) (Syntax.tyRef
-      (Syntax.named 0) Syntax.mut Element.behind) 0,
-) (List._∷_ (2, Rows'.sc-here (Row.sInt Syntax.w64)) (List._∷_ (3, Rows.arrF (Referent.rtF (Referent.fInt Syntax.w32)) 112 0) (List._∷_ (
-  4,
-  Rows.arrF
-      (Referent.rtF (Referent.fInt Syntax.w32)) 112 0,
-) (List._∷_ (5, Rows'.sc-here (Row.sInt Syntax.w64)) (List._∷_ (6, Rows'.whole (Declared.row Record.the-type)) (List._∷_ (
-  7,
-  Rows'.any-gone
-      Syntax.tyBool,
-) (List._∷_ (8, Rows'.any-gone (Syntax.tyRef Syntax.erased Syntax.mut Element.behind)) (List._∷_ (
-  9,
-  Rows'.any-gone (Syntax.tyStruct (List._∷_ 38 (List._∷_ 91 (List._∷_ 93
-      List.[]))) (Syntax.tcons (Syntax.tyRef Syntax.erased Syntax.mut Element.behind) (Syntax.tcons (Syntax.tyInt Syntax.w64) Syntax.tnil))),
-) (List._∷_ (10, Rows'.sc-here (Row.sInt Syntax.w64)) (List._∷_
-    (11, Rows'.any-gone (Syntax.tyInt Syntax.w64)) (List._∷_ (12, Rows'.sc-here Row.sPtr) (List._∷_ (13, Rows'.any-gone Syntax.tyPtr) (List._∷_ (14, Rows'.any-gone Syntax.tyPtr) (List._∷_ (
-      15,
-      Rows'.any-gone Syntax.tyPtr,
-    ) List.[])))))))))))))))
+t18 = List._∷_ e0 (List._∷_ e2 (List._∷_ e21 (List._∷_ e23 (List._∷_ e25 (List._∷_ e27 (List._∷_ e29 (List._∷_ e30 (List._∷_ e32 (List._∷_ e35 (List._∷_ e5 (List._∷_ e6 (List._∷_ e9 (List._∷_ e10
+    (List._∷_ e12 (List._∷_ e14 List.[])))))))))))))))
 
 abbrev pub t19 : List.List Row.Entry
-t19 = List._∷_ (
-  0,
-  Rows'.any-gone (Syntax.tyStruct (List._∷_ 112 (List._∷_ 97 (List._∷_ 115 (List._∷_ 115 (List._∷_ 58 (List._∷_ 58 (List._∷_ 83 (List._∷_ 101 (List._∷_ 116 List.[])))))))))
-      (Syntax.tcons (Syntax.tyArray (Syntax.tyInt Syntax.w32) 112) (Syntax.tcons (Syntax.tyArray (Syntax.tyInt Syntax.w32) 112) Syntax.tnil))),
-) (List._∷_ (
-  1,
-  Mut.mslice (Element.type) (Syntax.tyRef
-      (Syntax.named 0) Syntax.mut Element.behind) 0,
-) (List._∷_ (2, Rows'.sc-here (Row.sInt Syntax.w64)) (List._∷_ (3, Rows.arrF (Referent.rtF (Referent.fInt Syntax.w32)) 112 0) (List._∷_ (
-  4,
-  Rows.arrF
-      (Referent.rtF (Referent.fInt Syntax.w32)) 112 0,
-) (List._∷_ (5, Rows'.sc-here (Row.sInt Syntax.w64)) (List._∷_ (6, Rows'.whole (Declared.row Record.the-type)) (List._∷_ (
-  7,
-  Rows'.any-gone
-      Syntax.tyBool,
-) (List._∷_ (8, Rows'.any-gone (Syntax.tyRef Syntax.erased Syntax.mut Element.behind)) (List._∷_ (
-  9,
-  Rows'.any-gone (Syntax.tyStruct (List._∷_ 38 (List._∷_ 91 (List._∷_ 93
-      List.[]))) (Syntax.tcons (Syntax.tyRef Syntax.erased Syntax.mut Element.behind) (Syntax.tcons (Syntax.tyInt Syntax.w64) Syntax.tnil))),
-) (List._∷_ (10, Rows'.sc-here (Row.sInt Syntax.w64)) (List._∷_
-    (11, Rows'.any-gone (Syntax.tyInt Syntax.w64)) (List._∷_ (12, Rows'.sc-here Row.sPtr) (List._∷_ (13, Rows'.sc-here Row.sPtr) (List._∷_ (14, Rows'.any-gone Syntax.tyPtr) (List._∷_ (
-      15,
-      Rows'.any-gone Syntax.tyPtr,
-    ) List.[])))))))))))))))
+t19 = List._∷_ e0 (List._∷_ e2 (List._∷_ e21 (List._∷_ e23 (List._∷_ e25 (List._∷_ e27 (List._∷_ e29 (List._∷_ e30 (List._∷_ e32 (List._∷_ e35 (List._∷_ e5 (List._∷_ e6 (List._∷_ e9 (List._∷_ e11
+    (List._∷_ e12 (List._∷_ e14 List.[])))))))))))))))
 
 abbrev pub t20 : List.List Row.Entry
-t20 = List._∷_ (
-  0,
-  Rows'.any-gone (Syntax.tyStruct (List._∷_ 112 (List._∷_ 97 (List._∷_ 115 (List._∷_ 115 (List._∷_ 58 (List._∷_ 58 (List._∷_ 83 (List._∷_ 101 (List._∷_ 116 List.[])))))))))
-      (Syntax.tcons (Syntax.tyArray (Syntax.tyInt Syntax.w32) 112) (Syntax.tcons (Syntax.tyArray (Syntax.tyInt Syntax.w32) 112) Syntax.tnil))),
-) (List._∷_ (
-  1,
-  Mut.mslice (Element.type) (Syntax.tyRef
-      (Syntax.named 0) Syntax.mut Element.behind) 0,
-) (List._∷_ (2, Rows'.sc-here (Row.sInt Syntax.w64)) (List._∷_ (3, Rows.arrF (Referent.rtF (Referent.fInt Syntax.w32)) 112 0) (List._∷_ (
-  4,
-  Rows.arrF
-      (Referent.rtF (Referent.fInt Syntax.w32)) 112 0,
-) (List._∷_ (5, Rows'.sc-here (Row.sInt Syntax.w64)) (List._∷_ (6, Rows'.whole (Declared.row Record.the-type)) (List._∷_ (
-  7,
-  Rows'.any-gone
-      Syntax.tyBool,
-) (List._∷_ (8, Rows'.any-gone (Syntax.tyRef Syntax.erased Syntax.mut Element.behind)) (List._∷_ (
-  9,
-  Rows'.any-gone (Syntax.tyStruct (List._∷_ 38 (List._∷_ 91 (List._∷_ 93
-      List.[]))) (Syntax.tcons (Syntax.tyRef Syntax.erased Syntax.mut Element.behind) (Syntax.tcons (Syntax.tyInt Syntax.w64) Syntax.tnil))),
-) (List._∷_ (10, Rows'.sc-here (Row.sInt Syntax.w64)) (List._∷_
-    (11, Rows'.any-gone (Syntax.tyInt Syntax.w64)) (List._∷_ (12, Rows'.any-gone Syntax.tyPtr) (List._∷_ (13, Rows'.sc-here Row.sPtr) (List._∷_ (14, Rows'.any-gone Syntax.tyPtr) (List._∷_ (
-      15,
-      Rows'.any-gone Syntax.tyPtr,
-    ) List.[])))))))))))))))
+t20 = List._∷_ e0 (List._∷_ e2 (List._∷_ e21 (List._∷_ e23 (List._∷_ e25 (List._∷_ e27 (List._∷_ e29 (List._∷_ e30 (List._∷_ e32 (List._∷_ e35 (List._∷_ e5 (List._∷_ e6 (List._∷_ e8 (List._∷_ e11
+    (List._∷_ e12 (List._∷_ e14 List.[])))))))))))))))
 
 abbrev pub t21 : List.List Row.Entry
-t21 = List._∷_ (
-  0,
-  Rows'.any-gone (Syntax.tyStruct (List._∷_ 112 (List._∷_ 97 (List._∷_ 115 (List._∷_ 115 (List._∷_ 58 (List._∷_ 58 (List._∷_ 83 (List._∷_ 101 (List._∷_ 116 List.[])))))))))
-      (Syntax.tcons (Syntax.tyArray (Syntax.tyInt Syntax.w32) 112) (Syntax.tcons (Syntax.tyArray (Syntax.tyInt Syntax.w32) 112) Syntax.tnil))),
-) (List._∷_ (
-  1,
-  Mut.mslice (Element.type) (Syntax.tyRef
-      (Syntax.named 0) Syntax.mut Element.behind) 0,
-) (List._∷_ (2, Rows'.sc-here (Row.sInt Syntax.w64)) (List._∷_ (3, Rows.arrF (Referent.rtF (Referent.fInt Syntax.w32)) 112 0) (List._∷_ (
-  4,
-  Rows.arrF
-      (Referent.rtF (Referent.fInt Syntax.w32)) 112 0,
-) (List._∷_ (5, Rows'.sc-here (Row.sInt Syntax.w64)) (List._∷_ (6, Rows'.whole (Declared.row Record.the-type)) (List._∷_ (
-  7,
-  Rows'.any-gone
-      Syntax.tyBool,
-) (List._∷_ (8, Rows'.any-gone (Syntax.tyRef Syntax.erased Syntax.mut Element.behind)) (List._∷_ (
-  9,
-  Rows'.any-gone (Syntax.tyStruct (List._∷_ 38 (List._∷_ 91 (List._∷_ 93
-      List.[]))) (Syntax.tcons (Syntax.tyRef Syntax.erased Syntax.mut Element.behind) (Syntax.tcons (Syntax.tyInt Syntax.w64) Syntax.tnil))),
-) (List._∷_ (10, Rows'.any-gone (Syntax.tyInt Syntax.w64))
-    (List._∷_ (11, Rows'.any-gone (Syntax.tyInt Syntax.w64)) (List._∷_ (12, Rows'.any-gone Syntax.tyPtr) (List._∷_ (13, Rows'.sc-here Row.sPtr) (List._∷_ (14, Rows'.any-gone Syntax.tyPtr) (List._∷_
-    (15, Rows'.any-gone Syntax.tyPtr) List.[])))))))))))))))
+t21 = List._∷_ e0 (List._∷_ e2 (List._∷_ e21 (List._∷_ e23 (List._∷_ e25 (List._∷_ e27 (List._∷_ e29 (List._∷_ e30 (List._∷_ e32 (List._∷_ e35 (List._∷_ e4 (List._∷_ e6 (List._∷_ e8 (List._∷_ e11
+    (List._∷_ e12 (List._∷_ e14 List.[])))))))))))))))
 
 abbrev pub t22 : List.List Row.Entry
-t22 = List._∷_ (
-  0,
-  Rows'.any-gone (Syntax.tyStruct (List._∷_ 112 (List._∷_ 97 (List._∷_ 115 (List._∷_ 115 (List._∷_ 58 (List._∷_ 58 (List._∷_ 83 (List._∷_ 101 (List._∷_ 116 List.[])))))))))
-      (Syntax.tcons (Syntax.tyArray (Syntax.tyInt Syntax.w32) 112) (Syntax.tcons (Syntax.tyArray (Syntax.tyInt Syntax.w32) 112) Syntax.tnil))),
-) (List._∷_ (
-  1,
-  Mut.mslice (Element.type) (Syntax.tyRef
-      (Syntax.named 0) Syntax.mut Element.behind) 0,
-) (List._∷_ (2, Rows'.sc-here (Row.sInt Syntax.w64)) (List._∷_ (3, Rows.arrF (Referent.rtF (Referent.fInt Syntax.w32)) 112 0) (List._∷_ (
-  4,
-  Rows.arrF
-      (Referent.rtF (Referent.fInt Syntax.w32)) 112 0,
-) (List._∷_ (5, Rows'.sc-here (Row.sInt Syntax.w64)) (List._∷_ (6, Rows'.whole (Declared.row Record.the-type)) (List._∷_ (
-  7,
-  Rows'.any-gone
-      Syntax.tyBool,
-) (List._∷_ (8, Rows'.any-gone (Syntax.tyRef Syntax.erased Syntax.mut Element.behind)) (List._∷_ (
-  9,
-  Rows'.any-gone (Syntax.tyStruct (List._∷_ 38 (List._∷_ 91 (List._∷_ 93
-      List.[]))) (Syntax.tcons (Syntax.tyRef Syntax.erased Syntax.mut Element.behind) (Syntax.tcons (Syntax.tyInt Syntax.w64) Syntax.tnil))),
-) (List._∷_ (10, Rows'.any-gone (Syntax.tyInt Syntax.w64))
-    (List._∷_ (11, Rows'.sc-here (Row.sInt Syntax.w64)) (List._∷_ (12, Rows'.any-gone Syntax.tyPtr) (List._∷_ (13, Rows'.any-gone Syntax.tyPtr) (List._∷_ (14, Rows'.any-gone Syntax.tyPtr) (List._∷_
-    (15, Rows'.any-gone Syntax.tyPtr) List.[])))))))))))))))
+t22 = List._∷_ e0 (List._∷_ e2 (List._∷_ e21 (List._∷_ e23 (List._∷_ e25 (List._∷_ e27 (List._∷_ e29 (List._∷_ e30 (List._∷_ e32 (List._∷_ e35 (List._∷_ e4 (List._∷_ e7 (List._∷_ e8 (List._∷_ e10
+    (List._∷_ e12 (List._∷_ e14 List.[])))))))))))))))
 
 abbrev pub t23 : List.List Row.Entry
-t23 = List._∷_ (
-  0,
-  Rows'.any-gone (Syntax.tyStruct (List._∷_ 112 (List._∷_ 97 (List._∷_ 115 (List._∷_ 115 (List._∷_ 58 (List._∷_ 58 (List._∷_ 83 (List._∷_ 101 (List._∷_ 116 List.[])))))))))
-      (Syntax.tcons (Syntax.tyArray (Syntax.tyInt Syntax.w32) 112) (Syntax.tcons (Syntax.tyArray (Syntax.tyInt Syntax.w32) 112) Syntax.tnil))),
-) (List._∷_ (
-  1,
-  Mut.mslice (Element.type) (Syntax.tyRef
-      (Syntax.named 0) Syntax.mut Element.behind) 0,
-) (List._∷_ (2, Rows'.sc-here (Row.sInt Syntax.w64)) (List._∷_ (3, Rows.arrF (Referent.rtF (Referent.fInt Syntax.w32)) 112 0) (List._∷_ (
-  4,
-  Rows.arrF
-      (Referent.rtF (Referent.fInt Syntax.w32)) 112 0,
-) (List._∷_ (5, Rows'.sc-here (Row.sInt Syntax.w64)) (List._∷_ (6, Rows'.whole (Declared.row Record.the-type)) (List._∷_ (
-  7,
-  Rows'.any-gone
-      Syntax.tyBool,
-) (List._∷_ (8, Rows'.any-gone (Syntax.tyRef Syntax.erased Syntax.mut Element.behind)) (List._∷_ (
-  9,
-  Rows'.any-gone (Syntax.tyStruct (List._∷_ 38 (List._∷_ 91 (List._∷_ 93
-      List.[]))) (Syntax.tcons (Syntax.tyRef Syntax.erased Syntax.mut Element.behind) (Syntax.tcons (Syntax.tyInt Syntax.w64) Syntax.tnil))),
-) (List._∷_ (10, Rows'.any-gone (Syntax.tyInt Syntax.w64))
-    (List._∷_ (11, Rows'.sc-here (Row.sInt Syntax.w64)) (List._∷_ (12, Rows'.any-gone Syntax.tyPtr) (List._∷_ (13, Rows'.any-gone Syntax.tyPtr) (List._∷_ (14, Rows'.sc-here Row.sPtr) (List._∷_ (
-      15,
-      Rows'.any-gone Syntax.tyPtr,
-    ) List.[])))))))))))))))
+t23 = List._∷_ e0 (List._∷_ e2 (List._∷_ e21 (List._∷_ e23 (List._∷_ e25 (List._∷_ e27 (List._∷_ e29 (List._∷_ e30 (List._∷_ e32 (List._∷_ e35 (List._∷_ e4 (List._∷_ e7 (List._∷_ e8 (List._∷_ e10
+    (List._∷_ e13 (List._∷_ e14 List.[])))))))))))))))
 
 abbrev pub t24 : List.List Row.Entry
-t24 = List._∷_ (
-  0,
-  Rows'.any-gone (Syntax.tyStruct (List._∷_ 112 (List._∷_ 97 (List._∷_ 115 (List._∷_ 115 (List._∷_ 58 (List._∷_ 58 (List._∷_ 83 (List._∷_ 101 (List._∷_ 116 List.[])))))))))
-      (Syntax.tcons (Syntax.tyArray (Syntax.tyInt Syntax.w32) 112) (Syntax.tcons (Syntax.tyArray (Syntax.tyInt Syntax.w32) 112) Syntax.tnil))),
-) (List._∷_ (
-  1,
-  Mut.mslice (Element.type) (Syntax.tyRef
-      (Syntax.named 0) Syntax.mut Element.behind) 0,
-) (List._∷_ (2, Rows'.sc-here (Row.sInt Syntax.w64)) (List._∷_ (3, Rows.arrF (Referent.rtF (Referent.fInt Syntax.w32)) 112 0) (List._∷_ (
-  4,
-  Rows.arrF
-      (Referent.rtF (Referent.fInt Syntax.w32)) 112 0,
-) (List._∷_ (5, Rows'.sc-here (Row.sInt Syntax.w64)) (List._∷_ (6, Rows'.whole (Declared.row Record.the-type)) (List._∷_ (
-  7,
-  Rows'.any-gone
-      Syntax.tyBool,
-) (List._∷_ (8, Rows'.any-gone (Syntax.tyRef Syntax.erased Syntax.mut Element.behind)) (List._∷_ (
-  9,
-  Rows'.any-gone (Syntax.tyStruct (List._∷_ 38 (List._∷_ 91 (List._∷_ 93
-      List.[]))) (Syntax.tcons (Syntax.tyRef Syntax.erased Syntax.mut Element.behind) (Syntax.tcons (Syntax.tyInt Syntax.w64) Syntax.tnil))),
-) (List._∷_ (10, Rows'.any-gone (Syntax.tyInt Syntax.w64))
-    (List._∷_ (11, Rows'.sc-here (Row.sInt Syntax.w64)) (List._∷_ (12, Rows'.any-gone Syntax.tyPtr) (List._∷_ (13, Rows'.any-gone Syntax.tyPtr) (List._∷_ (14, Rows'.sc-here Row.sPtr) (List._∷_ (
-      15,
-      Rows'.sc-here Row.sPtr,
-    ) List.[])))))))))))))))
+t24 = List._∷_ e0 (List._∷_ e2 (List._∷_ e21 (List._∷_ e23 (List._∷_ e25 (List._∷_ e27 (List._∷_ e29 (List._∷_ e30 (List._∷_ e32 (List._∷_ e35 (List._∷_ e4 (List._∷_ e7 (List._∷_ e8 (List._∷_ e10
+    (List._∷_ e13 (List._∷_ e15 List.[])))))))))))))))
 
 abbrev pub t25 : List.List Row.Entry
-t25 = List._∷_ (
-  0,
-  Rows'.any-gone (Syntax.tyStruct (List._∷_ 112 (List._∷_ 97 (List._∷_ 115 (List._∷_ 115 (List._∷_ 58 (List._∷_ 58 (List._∷_ 83 (List._∷_ 101 (List._∷_ 116 List.[])))))))))
-      (Syntax.tcons (Syntax.tyArray (Syntax.tyInt Syntax.w32) 112) (Syntax.tcons (Syntax.tyArray (Syntax.tyInt Syntax.w32) 112) Syntax.tnil))),
-) (List._∷_ (
-  1,
-  Mut.mslice (Element.type) (Syntax.tyRef
-      (Syntax.named 0) Syntax.mut Element.behind) 0,
-) (List._∷_ (2, Rows'.sc-here (Row.sInt Syntax.w64)) (List._∷_ (3, Rows.arrF (Referent.rtF (Referent.fInt Syntax.w32)) 112 0) (List._∷_ (
-  4,
-  Rows.arrF
-      (Referent.rtF (Referent.fInt Syntax.w32)) 112 0,
-) (List._∷_ (5, Rows'.sc-here (Row.sInt Syntax.w64)) (List._∷_ (6, Rows'.whole (Declared.row Record.the-type)) (List._∷_ (
-  7,
-  Rows'.any-gone
-      Syntax.tyBool,
-) (List._∷_ (8, Rows'.any-gone (Syntax.tyRef Syntax.erased Syntax.mut Element.behind)) (List._∷_ (
-  9,
-  Rows'.any-gone (Syntax.tyStruct (List._∷_ 38 (List._∷_ 91 (List._∷_ 93
-      List.[]))) (Syntax.tcons (Syntax.tyRef Syntax.erased Syntax.mut Element.behind) (Syntax.tcons (Syntax.tyInt Syntax.w64) Syntax.tnil))),
-) (List._∷_ (10, Rows'.any-gone (Syntax.tyInt Syntax.w64))
-    (List._∷_ (11, Rows'.sc-here (Row.sInt Syntax.w64)) (List._∷_ (12, Rows'.any-gone Syntax.tyPtr) (List._∷_ (13, Rows'.any-gone Syntax.tyPtr) (List._∷_ (14, Rows'.any-gone Syntax.tyPtr) (List._∷_
-    (15, Rows'.sc-here Row.sPtr) List.[])))))))))))))))
+t25 = List._∷_ e0 (List._∷_ e2 (List._∷_ e21 (List._∷_ e23 (List._∷_ e25 (List._∷_ e27 (List._∷_ e29 (List._∷_ e30 (List._∷_ e32 (List._∷_ e35 (List._∷_ e4 (List._∷_ e7 (List._∷_ e8 (List._∷_ e10
+    (List._∷_ e12 (List._∷_ e15 List.[])))))))))))))))
 
 abbrev pub t26 : List.List Row.Entry
-t26 = List._∷_ (
-  0,
-  Rows'.any-gone (Syntax.tyStruct (List._∷_ 112 (List._∷_ 97 (List._∷_ 115 (List._∷_ 115 (List._∷_ 58 (List._∷_ 58 (List._∷_ 83 (List._∷_ 101 (List._∷_ 116 List.[])))))))))
-      (Syntax.tcons (Syntax.tyArray (Syntax.tyInt Syntax.w32) 112) (Syntax.tcons (Syntax.tyArray (Syntax.tyInt Syntax.w32) 112) Syntax.tnil))),
-) (List._∷_ (
-  1,
-  Mut.mslice (Element.type) (Syntax.tyRef
-      (Syntax.named 0) Syntax.mut Element.behind) 0,
-) (List._∷_ (2, Rows'.sc-here (Row.sInt Syntax.w64)) (List._∷_ (3, Rows.arrF (Referent.rtF (Referent.fInt Syntax.w32)) 112 0) (List._∷_ (
-  4,
-  Rows.arrF
-      (Referent.rtF (Referent.fInt Syntax.w32)) 112 0,
-) (List._∷_ (5, Rows'.sc-here (Row.sInt Syntax.w64)) (List._∷_ (
-  6,
-  Rows'.any-gone (Syntax.tyStruct (List._∷_ 115 (List._∷_ 116 (List._∷_ 97 (List._∷_
-      116 (List._∷_ 105 (List._∷_ 115 (List._∷_ 116 (List._∷_ 105 (List._∷_ 99 (List._∷_ 115 (List._∷_ 58 (List._∷_ 58 (List._∷_ 82 (List._∷_ 101 (List._∷_ 99 (List._∷_ 111 (List._∷_ 114 (List._∷_ 100
-      List.[])))))))))))))))))) (Syntax.tcons (Syntax.tyInt Syntax.w32) (Syntax.tcons (Syntax.tyInt Syntax.w32) Syntax.tnil))),
-) (List._∷_ (7, Rows'.any-gone Syntax.tyBool) (List._∷_ (
-  8,
-  Rows'.any-gone
-      (Syntax.tyRef Syntax.erased Syntax.mut Element.behind),
-) (List._∷_ (
-  9,
-  Rows'.any-gone (Syntax.tyStruct (List._∷_ 38 (List._∷_ 91 (List._∷_ 93 List.[]))) (Syntax.tcons (Syntax.tyRef Syntax.erased
-      Syntax.mut Element.behind) (Syntax.tcons (Syntax.tyInt Syntax.w64) Syntax.tnil))),
-) (List._∷_ (10, Rows'.any-gone (Syntax.tyInt Syntax.w64)) (List._∷_ (11, Rows'.sc-here (Row.sInt Syntax.w64))
-    (List._∷_ (12, Rows'.any-gone Syntax.tyPtr) (List._∷_ (13, Rows'.any-gone Syntax.tyPtr) (List._∷_ (14, Rows'.any-gone Syntax.tyPtr) (List._∷_ (15, Rows'.sc-here Row.sPtr) List.[])))))))))))))))
+t26 = List._∷_ e0 (List._∷_ e2 (List._∷_ e21 (List._∷_ e23 (List._∷_ e25 (List._∷_ e27 (List._∷_ e28 (List._∷_ e30 (List._∷_ e32 (List._∷_ e35 (List._∷_ e4 (List._∷_ e7 (List._∷_ e8 (List._∷_ e10
+    (List._∷_ e12 (List._∷_ e15 List.[])))))))))))))))
 
 abbrev pub t27 : List.List Row.Entry
-t27 = List._∷_ (
-  0,
-  Rows'.any-gone (Syntax.tyStruct (List._∷_ 112 (List._∷_ 97 (List._∷_ 115 (List._∷_ 115 (List._∷_ 58 (List._∷_ 58 (List._∷_ 83 (List._∷_ 101 (List._∷_ 116 List.[])))))))))
-      (Syntax.tcons (Syntax.tyArray (Syntax.tyInt Syntax.w32) 112) (Syntax.tcons (Syntax.tyArray (Syntax.tyInt Syntax.w32) 112) Syntax.tnil))),
-) (List._∷_ (
-  1,
-  Mut.mslice (Element.type) (Syntax.tyRef
-      (Syntax.named 0) Syntax.mut Element.behind) 0,
-) (List._∷_ (2, Rows'.sc-here (Row.sInt Syntax.w64)) (List._∷_ (3, Rows.arrF (Referent.rtF (Referent.fInt Syntax.w32)) 112 0) (List._∷_ (
-  4,
-  Rows.arrF
-      (Referent.rtF (Referent.fInt Syntax.w32)) 112 0,
-) (List._∷_ (5, Rows'.sc-here (Row.sInt Syntax.w64)) (List._∷_ (
-  6,
-  Rows'.any-gone (Syntax.tyStruct (List._∷_ 115 (List._∷_ 116 (List._∷_ 97 (List._∷_
-      116 (List._∷_ 105 (List._∷_ 115 (List._∷_ 116 (List._∷_ 105 (List._∷_ 99 (List._∷_ 115 (List._∷_ 58 (List._∷_ 58 (List._∷_ 82 (List._∷_ 101 (List._∷_ 99 (List._∷_ 111 (List._∷_ 114 (List._∷_ 100
-      List.[])))))))))))))))))) (Syntax.tcons (Syntax.tyInt Syntax.w32) (Syntax.tcons (Syntax.tyInt Syntax.w32) Syntax.tnil))),
-) (List._∷_ (7, Rows'.any-gone Syntax.tyBool) (List._∷_ (
-  8,
-  Rows'.any-gone
-      (Syntax.tyRef Syntax.erased Syntax.mut Element.behind),
-) (List._∷_ (
-  9,
-  Rows'.any-gone (Syntax.tyStruct (List._∷_ 38 (List._∷_ 91 (List._∷_ 93 List.[]))) (Syntax.tcons (Syntax.tyRef Syntax.erased
-      Syntax.mut Element.behind) (Syntax.tcons (Syntax.tyInt Syntax.w64) Syntax.tnil))),
-) (List._∷_ (10, Rows'.any-gone (Syntax.tyInt Syntax.w64)) (List._∷_ (
-  11,
-  Rows'.any-gone (Syntax.tyInt Syntax.w64),
-) (List._∷_ (12, Rows'.any-gone Syntax.tyPtr) (List._∷_ (13, Rows'.any-gone Syntax.tyPtr) (List._∷_ (14, Rows'.any-gone Syntax.tyPtr) (List._∷_ (15, Rows'.sc-here Row.sPtr) List.[])))))))))))))))
+t27 = List._∷_ e0 (List._∷_ e2 (List._∷_ e21 (List._∷_ e23 (List._∷_ e25 (List._∷_ e27 (List._∷_ e28 (List._∷_ e30 (List._∷_ e32 (List._∷_ e35 (List._∷_ e4 (List._∷_ e6 (List._∷_ e8 (List._∷_ e10
+    (List._∷_ e12 (List._∷_ e15 List.[])))))))))))))))
 
 abbrev pub t28 : List.List Row.Entry
-t28 = List._∷_ (16, Rows.arrF (Referent.rtF (Referent.fInt Syntax.w32)) 112 0) (List._∷_ (17, Rows'.any-gone (Syntax.tyArray (Syntax.tyInt Syntax.w32) 112)) List.[])
+t28 = List._∷_ e17 (List._∷_ e18 List.[])
 
 abbrev pub t29 : List.List Row.Entry
-t29 = List._∷_ (
-  0,
-  Rows'.any-gone (Syntax.tyStruct (List._∷_ 112 (List._∷_ 97 (List._∷_ 115 (List._∷_ 115 (List._∷_ 58 (List._∷_ 58 (List._∷_ 83 (List._∷_ 101 (List._∷_ 116 List.[])))))))))
-      (Syntax.tcons (Syntax.tyArray (Syntax.tyInt Syntax.w32) 112) (Syntax.tcons (Syntax.tyArray (Syntax.tyInt Syntax.w32) 112) Syntax.tnil))),
-) (List._∷_ (
-  1,
-  Mut.mslice (Element.type) (Syntax.tyRef
-      (Syntax.named 0) Syntax.mut Element.behind) 0,
-) (List._∷_ (2, Rows'.sc-here (Row.sInt Syntax.w64)) (List._∷_ (3, Rows'.any-gone (Syntax.tyArray (Syntax.tyInt Syntax.w32) 112)) (List._∷_ (
-  4,
-  Rows.arrF (Referent.rtF (Referent.fInt Syntax.w32)) 112 0,
-) (List._∷_ (5, Rows'.sc-here (Row.sInt Syntax.w64)) (List._∷_ (
-  6,
-  Rows'.any-gone (Syntax.tyStruct (List._∷_ 115 (List._∷_ 116 (List._∷_ 97
-      (List._∷_ 116 (List._∷_ 105 (List._∷_ 115 (List._∷_ 116 (List._∷_ 105 (List._∷_ 99 (List._∷_ 115 (List._∷_ 58 (List._∷_ 58 (List._∷_ 82 (List._∷_ 101 (List._∷_ 99 (List._∷_ 111 (List._∷_ 114 (List._∷_
-      100 List.[])))))))))))))))))) (Syntax.tcons (Syntax.tyInt Syntax.w32) (Syntax.tcons (Syntax.tyInt Syntax.w32) Syntax.tnil))),
-) (List._∷_ (7, Rows'.any-gone Syntax.tyBool) (List._∷_ (
-  8,
-  Rows'.any-gone (Syntax.tyRef Syntax.erased Syntax.mut Element.behind),
-) (List._∷_ (
-  9,
-  Rows'.any-gone (Syntax.tyStruct (List._∷_ 38 (List._∷_ 91 (List._∷_ 93 List.[]))) (Syntax.tcons (Syntax.tyRef
-      Syntax.erased Syntax.mut Element.behind) (Syntax.tcons (Syntax.tyInt Syntax.w64) Syntax.tnil))),
-) (List._∷_ (10, Rows'.any-gone (Syntax.tyInt Syntax.w64)) (List._∷_ (
-  11,
-  Rows'.any-gone (Syntax.tyInt
-      Syntax.w64),
-) (List._∷_ (12, Rows'.any-gone Syntax.tyPtr) (List._∷_ (13, Rows'.any-gone Syntax.tyPtr) (List._∷_ (14, Rows'.any-gone Syntax.tyPtr) (List._∷_ (15, Rows'.any-gone Syntax.tyPtr)
-    List.[])))))))))))))))
+t29 = List._∷_ e0 (List._∷_ e2 (List._∷_ e21 (List._∷_ e22 (List._∷_ e25 (List._∷_ e27 (List._∷_ e28 (List._∷_ e30 (List._∷_ e32 (List._∷_ e35 (List._∷_ e4 (List._∷_ e6 (List._∷_ e8 (List._∷_ e10
+    (List._∷_ e12 (List._∷_ e14 List.[])))))))))))))))
 
 abbrev pub t30 : List.List Row.Entry
-t30 = List._∷_ (16, Rows.arrF (Referent.rtF (Referent.fInt Syntax.w32)) 112 0) (List._∷_ (17, Rows.arrF (Referent.rtF (Referent.fInt Syntax.w32)) 112 0) List.[])
+t30 = List._∷_ e17 (List._∷_ e19 List.[])
 
 abbrev pub t31 : List.List Row.Entry
-t31 = List._∷_ (
-  0,
-  Rows'.any-gone (Syntax.tyStruct (List._∷_ 112 (List._∷_ 97 (List._∷_ 115 (List._∷_ 115 (List._∷_ 58 (List._∷_ 58 (List._∷_ 83 (List._∷_ 101 (List._∷_ 116 List.[])))))))))
-      (Syntax.tcons (Syntax.tyArray (Syntax.tyInt Syntax.w32) 112) (Syntax.tcons (Syntax.tyArray (Syntax.tyInt Syntax.w32) 112) Syntax.tnil))),
-) (List._∷_ (
-  1,
-  Mut.mslice (Element.type) (Syntax.tyRef
-      (Syntax.named 0) Syntax.mut Element.behind) 0,
-) (List._∷_ (2, Rows'.sc-here (Row.sInt Syntax.w64)) (List._∷_ (3, Rows'.any-gone (Syntax.tyArray (Syntax.tyInt Syntax.w32) 112)) (List._∷_ (
-  4,
-  Rows'.any-gone (Syntax.tyArray (Syntax.tyInt Syntax.w32) 112),
-) (List._∷_ (5, Rows'.sc-here (Row.sInt Syntax.w64)) (List._∷_ (
-  6,
-  Rows'.any-gone (Syntax.tyStruct (List._∷_ 115 (List._∷_ 116
-      (List._∷_ 97 (List._∷_ 116 (List._∷_ 105 (List._∷_ 115 (List._∷_ 116 (List._∷_ 105 (List._∷_ 99 (List._∷_ 115 (List._∷_ 58 (List._∷_ 58 (List._∷_ 82 (List._∷_ 101 (List._∷_ 99 (List._∷_ 111 (List._∷_
-      114 (List._∷_ 100 List.[])))))))))))))))))) (Syntax.tcons (Syntax.tyInt Syntax.w32) (Syntax.tcons (Syntax.tyInt Syntax.w32) Syntax.tnil))),
-) (List._∷_ (7, Rows'.any-gone Syntax.tyBool) (List._∷_ (
-  8,
-  Rows'.any-gone (Syntax.tyRef Syntax.erased Syntax.mut Element.behind),
-) (List._∷_ (
-  9,
-  Rows'.any-gone (Syntax.tyStruct (List._∷_ 38 (List._∷_ 91 (List._∷_ 93 List.[]))) (Syntax.tcons (Syntax.tyRef
-      Syntax.erased Syntax.mut Element.behind) (Syntax.tcons (Syntax.tyInt Syntax.w64) Syntax.tnil))),
-) (List._∷_ (10, Rows'.any-gone (Syntax.tyInt Syntax.w64)) (List._∷_ (
-  11,
-  Rows'.any-gone (Syntax.tyInt
-      Syntax.w64),
-) (List._∷_ (12, Rows'.any-gone Syntax.tyPtr) (List._∷_ (13, Rows'.any-gone Syntax.tyPtr) (List._∷_ (14, Rows'.any-gone Syntax.tyPtr) (List._∷_ (15, Rows'.any-gone Syntax.tyPtr)
-    List.[])))))))))))))))
+t31 = List._∷_ e0 (List._∷_ e2 (List._∷_ e21 (List._∷_ e22 (List._∷_ e24 (List._∷_ e27 (List._∷_ e28 (List._∷_ e30 (List._∷_ e32 (List._∷_ e35 (List._∷_ e4 (List._∷_ e6 (List._∷_ e8 (List._∷_ e10
+    (List._∷_ e12 (List._∷_ e14 List.[])))))))))))))))
 
 abbrev pub t32 : List.List Row.Entry
-t32 = List._∷_ (0, Rows'.whole (Declared.row (Apart.apartT Set.the-type))) (List._∷_ (1, Mut.mslice (Element.type) (Syntax.tyRef (Syntax.named 0) Syntax.mut Element.behind) 0) (List._∷_ (
-  2,
-  Rows'.sc-here (Row.sInt Syntax.w64),
-) (List._∷_ (3, Rows'.any-gone (Syntax.tyArray (Syntax.tyInt Syntax.w32) 112)) (List._∷_ (4, Rows'.any-gone (Syntax.tyArray (Syntax.tyInt Syntax.w32) 112))
-    (List._∷_ (5, Rows'.sc-here (Row.sInt Syntax.w64)) (List._∷_ (
-      6,
-      Rows'.any-gone (Syntax.tyStruct (List._∷_ 115 (List._∷_ 116 (List._∷_ 97 (List._∷_ 116 (List._∷_ 105 (List._∷_ 115 (List._∷_ 116
-          (List._∷_ 105 (List._∷_ 99 (List._∷_ 115 (List._∷_ 58 (List._∷_ 58 (List._∷_ 82 (List._∷_ 101 (List._∷_ 99 (List._∷_ 111 (List._∷_ 114 (List._∷_ 100 List.[])))))))))))))))))) (Syntax.tcons
-          (Syntax.tyInt Syntax.w32) (Syntax.tcons (Syntax.tyInt Syntax.w32) Syntax.tnil))),
-    ) (List._∷_ (7, Rows'.any-gone Syntax.tyBool) (List._∷_ (
-      8,
-      Rows'.any-gone (Syntax.tyRef Syntax.erased Syntax.mut
-          Element.behind),
-    ) (List._∷_ (
-      9,
-      Rows'.any-gone (Syntax.tyStruct (List._∷_ 38 (List._∷_ 91 (List._∷_ 93 List.[]))) (Syntax.tcons (Syntax.tyRef Syntax.erased Syntax.mut Element.behind) (Syntax.tcons
-          (Syntax.tyInt Syntax.w64) Syntax.tnil))),
-    ) (List._∷_ (10, Rows'.any-gone (Syntax.tyInt Syntax.w64)) (List._∷_ (11, Rows'.any-gone (Syntax.tyInt Syntax.w64)) (List._∷_ (
-      12,
-      Rows'.any-gone
-          Syntax.tyPtr,
-    ) (List._∷_ (13, Rows'.any-gone Syntax.tyPtr) (List._∷_ (14, Rows'.any-gone Syntax.tyPtr) (List._∷_ (15, Rows'.any-gone Syntax.tyPtr) List.[])))))))))))))))
+t32 = List._∷_ e1 (List._∷_ e2 (List._∷_ e21 (List._∷_ e22 (List._∷_ e24 (List._∷_ e27 (List._∷_ e28 (List._∷_ e30 (List._∷_ e32 (List._∷_ e35 (List._∷_ e4 (List._∷_ e6 (List._∷_ e8 (List._∷_ e10
+    (List._∷_ e12 (List._∷_ e14 List.[])))))))))))))))
 
 abbrev pub t33 : List.List Row.Entry
-t33 = List._∷_ (0, Rows'.whole (Declared.row (Apart.apartT Set.the-type))) (List._∷_ (1, Mut.mslice (Element.type) (Syntax.tyRef (Syntax.named 0) Syntax.mut Element.behind) 0) (List._∷_ (
-  2,
-  Rows'.sc-here (Row.sInt Syntax.w64),
-) (List._∷_ (3, Rows'.any-gone (Syntax.tyArray (Syntax.tyInt Syntax.w32) 112)) (List._∷_ (4, Rows'.any-gone (Syntax.tyArray (Syntax.tyInt Syntax.w32) 112))
-    (List._∷_ (5, Rows'.any-gone (Syntax.tyInt Syntax.w64)) (List._∷_ (
-      6,
-      Rows'.any-gone (Syntax.tyStruct (List._∷_ 115 (List._∷_ 116 (List._∷_ 97 (List._∷_ 116 (List._∷_ 105 (List._∷_ 115 (List._∷_
-          116 (List._∷_ 105 (List._∷_ 99 (List._∷_ 115 (List._∷_ 58 (List._∷_ 58 (List._∷_ 82 (List._∷_ 101 (List._∷_ 99 (List._∷_ 111 (List._∷_ 114 (List._∷_ 100 List.[])))))))))))))))))) (Syntax.tcons
-          (Syntax.tyInt Syntax.w32) (Syntax.tcons (Syntax.tyInt Syntax.w32) Syntax.tnil))),
-    ) (List._∷_ (7, Rows'.any-gone Syntax.tyBool) (List._∷_ (
-      8,
-      Rows'.any-gone (Syntax.tyRef Syntax.erased Syntax.mut
-          Element.behind),
-    ) (List._∷_ (
-      9,
-      Rows'.any-gone (Syntax.tyStruct (List._∷_ 38 (List._∷_ 91 (List._∷_ 93 List.[]))) (Syntax.tcons (Syntax.tyRef Syntax.erased Syntax.mut Element.behind) (Syntax.tcons
-          (Syntax.tyInt Syntax.w64) Syntax.tnil))),
-    ) (List._∷_ (10, Rows'.any-gone (Syntax.tyInt Syntax.w64)) (List._∷_ (11, Rows'.any-gone (Syntax.tyInt Syntax.w64)) (List._∷_ (
-      12,
-      Rows'.any-gone
-          Syntax.tyPtr,
-    ) (List._∷_ (13, Rows'.any-gone Syntax.tyPtr) (List._∷_ (14, Rows'.any-gone Syntax.tyPtr) (List._∷_ (15, Rows'.any-gone Syntax.tyPtr) List.[])))))))))))))))
+t33 = List._∷_ e1 (List._∷_ e2 (List._∷_ e21 (List._∷_ e22 (List._∷_ e24 (List._∷_ e26 (List._∷_ e28 (List._∷_ e30 (List._∷_ e32 (List._∷_ e35 (List._∷_ e4 (List._∷_ e6 (List._∷_ e8 (List._∷_ e10
+    (List._∷_ e12 (List._∷_ e14 List.[])))))))))))))))
 
 abbrev pub t34 : List.List Row.Entry
-t34 = List._∷_ (16, Rows'.any-gone (Syntax.tyArray (Syntax.tyInt Syntax.w32) 112)) (List._∷_ (17, Rows.arrF (Referent.rtF (Referent.fInt Syntax.w32)) 112 0) List.[])
+t34 = List._∷_ e16 (List._∷_ e19 List.[])
 
 abbrev pub t35 : List.List Row.Entry
-t35 = List._∷_ (0, Rows'.whole (Declared.row (Apart.apartT Set.the-type))) (List._∷_ (1, Mut.mslice (Element.type) (Syntax.tyRef (Syntax.named 0) Syntax.mut Element.behind) 0) (List._∷_ (
-  2,
-  Rows'.any-gone (Syntax.tyInt Syntax.w64),
-) (List._∷_ (3, Rows'.any-gone (Syntax.tyArray (Syntax.tyInt Syntax.w32) 112)) (List._∷_ (4, Rows'.any-gone (Syntax.tyArray (Syntax.tyInt Syntax.w32) 112))
-    (List._∷_ (5, Rows'.any-gone (Syntax.tyInt Syntax.w64)) (List._∷_ (
-      6,
-      Rows'.any-gone (Syntax.tyStruct (List._∷_ 115 (List._∷_ 116 (List._∷_ 97 (List._∷_ 116 (List._∷_ 105 (List._∷_ 115 (List._∷_
-          116 (List._∷_ 105 (List._∷_ 99 (List._∷_ 115 (List._∷_ 58 (List._∷_ 58 (List._∷_ 82 (List._∷_ 101 (List._∷_ 99 (List._∷_ 111 (List._∷_ 114 (List._∷_ 100 List.[])))))))))))))))))) (Syntax.tcons
-          (Syntax.tyInt Syntax.w32) (Syntax.tcons (Syntax.tyInt Syntax.w32) Syntax.tnil))),
-    ) (List._∷_ (7, Rows'.any-gone Syntax.tyBool) (List._∷_ (
-      8,
-      Rows'.any-gone (Syntax.tyRef Syntax.erased Syntax.mut
-          Element.behind),
-    ) (List._∷_ (
-      9,
-      Rows'.any-gone (Syntax.tyStruct (List._∷_ 38 (List._∷_ 91 (List._∷_ 93 List.[]))) (Syntax.tcons (Syntax.tyRef Syntax.erased Syntax.mut Element.behind) (Syntax.tcons
-          (Syntax.tyInt Syntax.w64) Syntax.tnil))),
-    ) (List._∷_ (10, Rows'.any-gone (Syntax.tyInt Syntax.w64)) (List._∷_ (11, Rows'.any-gone (Syntax.tyInt Syntax.w64)) (List._∷_ (
-      12,
-      Rows'.any-gone
-          Syntax.tyPtr,
-    ) (List._∷_ (13, Rows'.any-gone Syntax.tyPtr) (List._∷_ (14, Rows'.any-gone Syntax.tyPtr) (List._∷_ (15, Rows'.any-gone Syntax.tyPtr) List.[])))))))))))))))
+t35 = List._∷_ e1 (List._∷_ e2 (List._∷_ e20 (List._∷_ e22 (List._∷_ e24 (List._∷_ e26 (List._∷_ e28 (List._∷_ e30 (List._∷_ e32 (List._∷_ e35 (List._∷_ e4 (List._∷_ e6 (List._∷_ e8 (List._∷_ e10
+    (List._∷_ e12 (List._∷_ e14 List.[])))))))))))))))
 
 abbrev pub T0 : Row.Cx
 T0 = record { locals = List._++_ t0 t1; slots = List.[] }
@@ -1354,9 +746,7 @@ module _ (claims· : Claims) where
 
   abbrev s14 : (bs : List.List Nat.ℕ) → Typed.Both T17 T18
   s14 = λ bs. Call.callB ps·0 r·0 (claims· .0) (claims· .1) T17 (record { pos = 9; ty = Syntax.tyRef Syntax.erased Syntax.mut Element.behind; ref = λ x. x }, (Num.vAt 11 λ x. x, tt)) 6 (List._∷_ 1
-      List.[]) (Syntax.tyStruct (List._∷_ 115 (List._∷_ 116 (List._∷_ 97 (List._∷_ 116 (List._∷_ 105 (List._∷_ 115 (List._∷_ 116 (List._∷_ 105 (List._∷_ 99 (List._∷_ 115 (List._∷_ 58 (List._∷_ 58
-      (List._∷_ 82 (List._∷_ 101 (List._∷_ 99 (List._∷_ 111 (List._∷_ 114 (List._∷_ 100 List.[])))))))))))))))))) (Syntax.tcons (Syntax.tyInt Syntax.w32) (Syntax.tcons (Syntax.tyInt Syntax.w32)
-      Syntax.tnil)))
+      List.[]) y1
 
   abbrev s15 : (bs : List.List Nat.ℕ) → Typed.Mo T18 → Typed.Mo T19
   s15 = λ bs. Scalar.n-room T18 11 (Syntax.tyInt Syntax.w64)
@@ -1407,9 +797,7 @@ module _ (claims· : Claims) where
       x) (λ u. u .1 .1 .1 .1 .1 .0) (Scalar.oFld 6 (List._∷_ (Syntax.field 1) List.[]) (Syntax.tyInt Syntax.w32) 4 (Reads.fieldV Record.the-type Laws'.the-laws 1))
 
   abbrev s31 : (bs : List.List Nat.ℕ) → Typed.Mo T34 → Typed.Mo T35
-  s31 = λ bs. Scalar.n-room T34 6 (Syntax.tyStruct (List._∷_ 115 (List._∷_ 116 (List._∷_ 97 (List._∷_ 116 (List._∷_ 105 (List._∷_ 115 (List._∷_ 116 (List._∷_ 105 (List._∷_ 99 (List._∷_ 115 (List._∷_
-      58 (List._∷_ 58 (List._∷_ 82 (List._∷_ 101 (List._∷_ 99 (List._∷_ 111 (List._∷_ 114 (List._∷_ 100 List.[])))))))))))))))))) (Syntax.tcons (Syntax.tyInt Syntax.w32) (Syntax.tcons (Syntax.tyInt
-      Syntax.w32) Syntax.tnil)))
+  s31 = λ bs. Scalar.n-room T34 6 y1
 
   abbrev s32 : (bs : List.List Nat.ℕ) → Typed.Mo T35 → Typed.Mo T36
   s32 = λ bs. Scalar.n-room T35 11 (Syntax.tyInt Syntax.w64)
@@ -1455,14 +843,9 @@ module _ (claims· : Claims) where
 
   abbrev put0 : List.List (Element.type .Denot) × Rows.arrF (Referent.rtF (Referent.fInt Syntax.w32)) 112 0 .Mod × Rows.arrF (Referent.rtF (Referent.fInt Syntax.w32)) 112 0 .Mod × Rows'.sc-here
       (Row.sInt Syntax.w64) .Mod → Typed.Mo T6 → Typed.Mo T6
-  put0 = λ vs u. Row.set 5 (5, Rows'.sc-here (Row.sInt Syntax.w64)) (vs .3) (T6 .locals) (Row.set 4 (4, Rows.arrF (Referent.rtF (Referent.fInt Syntax.w32)) 112 0) (vs .2) (T6 .locals) (Row.set 3 (
-    3,
-    Rows.arrF (Referent.rtF (Referent.fInt Syntax.w32)) 112 0,
-  ) (vs .1) (T6 .locals) (Row.set 1 (1, Mut.mslice (Element.type) (Syntax.tyRef (Syntax.named 0) Syntax.mut Element.behind) 0) record {
-    ptr = Row.get 1 (T6 .locals) u .ptr;
-    name = Row.get 1 (T6 .locals) u .name;
-    now = vs .0;
-  } (T6 .locals) u)))
+  put0 = λ vs u. Row.set 5 (5, Rows'.sc-here (Row.sInt Syntax.w64)) (vs .3) (T6 .locals) (Row.set 4 (4, Rows.arrF (Referent.rtF (Referent.fInt Syntax.w32)) 112 0) (vs .2) (T6 .locals) (Row.set 3
+      (3, Rows.arrF (Referent.rtF (Referent.fInt Syntax.w32)) 112 0) (vs .1) (T6 .locals) (Row.set 1 (1, Mut.mslice (Element.type) (Syntax.tyRef (Syntax.named 0) Syntax.mut Element.behind) 0) record
+      { ptr = Row.get 1 (T6 .locals) u .ptr; name = Row.get 1 (T6 .locals) u .name; now = vs .0 } (T6 .locals) u)))
 
   module _ (Pre· : (κs : Lifetimes.Lfts 1) → Kinds.Dens κs ps → Type 0) (Post· : (κs : Lifetimes.Lfts 1) → (a : Kinds.Dens κs ps) → Kinds.Plain 1 ps r κs) where
     module _ (M : Type 1) where
@@ -1641,189 +1024,32 @@ module _ (claims· : Claims) where
 
       module _ (κs : Lifetimes.Lfts 1) (qs : Lifetimes.Shares 1) where
         abbrev g9 : List.List Row.Entry
-        g9 = List._∷_ (
-          0,
-          Rows'.any-gone (Syntax.tyStruct (List._∷_ 112 (List._∷_ 97 (List._∷_ 115 (List._∷_ 115 (List._∷_ 58 (List._∷_ 58 (List._∷_ 83 (List._∷_ 101 (List._∷_ 116 List.[])))))))))
-              (Syntax.tcons (Syntax.tyArray (Syntax.tyInt Syntax.w32) 112) (Syntax.tcons (Syntax.tyArray (Syntax.tyInt Syntax.w32) 112) Syntax.tnil))),
-        ) (List._∷_ (
-          1,
-          Relend.mslice-owed (Element.type)
-              (Syntax.tyRef (Syntax.named 0) Syntax.mut Element.behind) 0 1 (Row.lease (κs .0) (qs .0)),
-        ) (List._∷_ (2, Rows'.sc-here (Row.sInt Syntax.w64)) (List._∷_ (
-          3,
-          Rows.arrF (Referent.rtF
-              (Referent.fInt Syntax.w32)) 112 0,
-        ) (List._∷_ (4, Rows.arrF (Referent.rtF (Referent.fInt Syntax.w32)) 112 0) (List._∷_ (5, Rows'.sc-here (Row.sInt Syntax.w64)) (List._∷_ (
-          6,
-          Rows'.any-gone (Syntax.tyStruct (List._∷_ 115 (List._∷_ 116 (List._∷_ 97 (List._∷_ 116 (List._∷_ 105 (List._∷_ 115 (List._∷_ 116 (List._∷_ 105 (List._∷_ 99 (List._∷_ 115 (List._∷_ 58 (List._∷_
-              58 (List._∷_ 82 (List._∷_ 101 (List._∷_ 99 (List._∷_ 111 (List._∷_ 114 (List._∷_ 100 List.[])))))))))))))))))) (Syntax.tcons (Syntax.tyInt Syntax.w32) (Syntax.tcons (Syntax.tyInt Syntax.w32)
-              Syntax.tnil))),
-        ) (List._∷_ (7, Rows'.any-gone Syntax.tyBool) (List._∷_ (8, Relend.msptr (Element.type) (Syntax.tyRef Syntax.erased Syntax.mut Element.behind) 1) (List._∷_ (
-          9,
-          Rows'.any-gone (Syntax.tyStruct (List._∷_ 38 (List._∷_ 91 (List._∷_ 93 List.[]))) (Syntax.tcons (Syntax.tyRef Syntax.erased Syntax.mut Element.behind) (Syntax.tcons (Syntax.tyInt Syntax.w64)
-              Syntax.tnil))),
-        ) (List._∷_ (10, Rows'.any-gone (Syntax.tyInt Syntax.w64)) (List._∷_ (11, Rows'.any-gone (Syntax.tyInt Syntax.w64)) (List._∷_ (12, Rows'.any-gone Syntax.tyPtr) (List._∷_ (
-          13,
-          Rows'.any-gone Syntax.tyPtr,
-        ) (List._∷_ (14, Rows'.any-gone Syntax.tyPtr) (List._∷_ (15, Rows'.any-gone Syntax.tyPtr) List.[])))))))))))))))
+        g9 = List._∷_ e0 (List._∷_ (1, Relend.mslice-owed (Element.type) (Syntax.tyRef (Syntax.named 0) Syntax.mut Element.behind) 0 1 (Row.lease (κs .0) (qs .0))) (List._∷_ e21 (List._∷_ e23
+            (List._∷_ e25 (List._∷_ e27 (List._∷_ e28 (List._∷_ e30 (List._∷_ e31 (List._∷_ e35 (List._∷_ e4 (List._∷_ e6 (List._∷_ e8 (List._∷_ e10 (List._∷_ e12 (List._∷_ e14 List.[])))))))))))))))
 
         abbrev g10 : List.List Row.Entry
-        g10 = List._∷_ (
-          0,
-          Rows'.any-gone (Syntax.tyStruct (List._∷_ 112 (List._∷_ 97 (List._∷_ 115 (List._∷_ 115 (List._∷_ 58 (List._∷_ 58 (List._∷_ 83 (List._∷_ 101 (List._∷_ 116 List.[])))))))))
-              (Syntax.tcons (Syntax.tyArray (Syntax.tyInt Syntax.w32) 112) (Syntax.tcons (Syntax.tyArray (Syntax.tyInt Syntax.w32) 112) Syntax.tnil))),
-        ) (List._∷_ (
-          1,
-          Relend.mslice-owed (Element.type)
-              (Syntax.tyRef (Syntax.named 0) Syntax.mut Element.behind) 0 1 (Row.lease (κs .0) (qs .0)),
-        ) (List._∷_ (2, Rows'.sc-here (Row.sInt Syntax.w64)) (List._∷_ (
-          3,
-          Rows.arrF (Referent.rtF
-              (Referent.fInt Syntax.w32)) 112 0,
-        ) (List._∷_ (4, Rows.arrF (Referent.rtF (Referent.fInt Syntax.w32)) 112 0) (List._∷_ (5, Rows'.sc-here (Row.sInt Syntax.w64)) (List._∷_ (
-          6,
-          Rows'.any-gone (Syntax.tyStruct (List._∷_ 115 (List._∷_ 116 (List._∷_ 97 (List._∷_ 116 (List._∷_ 105 (List._∷_ 115 (List._∷_ 116 (List._∷_ 105 (List._∷_ 99 (List._∷_ 115 (List._∷_ 58 (List._∷_
-              58 (List._∷_ 82 (List._∷_ 101 (List._∷_ 99 (List._∷_ 111 (List._∷_ 114 (List._∷_ 100 List.[])))))))))))))))))) (Syntax.tcons (Syntax.tyInt Syntax.w32) (Syntax.tcons (Syntax.tyInt Syntax.w32)
-              Syntax.tnil))),
-        ) (List._∷_ (7, Rows'.any-gone Syntax.tyBool) (List._∷_ (8, Rows'.any-gone (Syntax.tyRef Syntax.erased Syntax.mut Element.behind)) (List._∷_ (
-          9,
-          Mut.mslice (Element.type)
-              (Syntax.tyRef Syntax.erased Syntax.mut Element.behind) 1,
-        ) (List._∷_ (10, Rows'.any-gone (Syntax.tyInt Syntax.w64)) (List._∷_ (11, Rows'.any-gone (Syntax.tyInt Syntax.w64)) (List._∷_ (
-          12,
-          Rows'.any-gone Syntax.tyPtr,
-        ) (List._∷_ (13, Rows'.any-gone Syntax.tyPtr) (List._∷_ (14, Rows'.any-gone Syntax.tyPtr) (List._∷_ (15, Rows'.any-gone Syntax.tyPtr) List.[])))))))))))))))
+        g10 = List._∷_ e0 (List._∷_ (1, Relend.mslice-owed (Element.type) (Syntax.tyRef (Syntax.named 0) Syntax.mut Element.behind) 0 1 (Row.lease (κs .0) (qs .0))) (List._∷_ e21 (List._∷_ e23
+            (List._∷_ e25 (List._∷_ e27 (List._∷_ e28 (List._∷_ e30 (List._∷_ e32 (List._∷_ e34 (List._∷_ e4 (List._∷_ e6 (List._∷_ e8 (List._∷_ e10 (List._∷_ e12 (List._∷_ e14 List.[])))))))))))))))
 
         abbrev g11 : List.List Row.Entry
-        g11 = List._∷_ (
-          0,
-          Rows'.any-gone (Syntax.tyStruct (List._∷_ 112 (List._∷_ 97 (List._∷_ 115 (List._∷_ 115 (List._∷_ 58 (List._∷_ 58 (List._∷_ 83 (List._∷_ 101 (List._∷_ 116 List.[])))))))))
-              (Syntax.tcons (Syntax.tyArray (Syntax.tyInt Syntax.w32) 112) (Syntax.tcons (Syntax.tyArray (Syntax.tyInt Syntax.w32) 112) Syntax.tnil))),
-        ) (List._∷_ (
-          1,
-          Relend.mslice-owed (Element.type)
-              (Syntax.tyRef (Syntax.named 0) Syntax.mut Element.behind) 0 1 (Row.lease (κs .0) (qs .0)),
-        ) (List._∷_ (2, Rows'.sc-here (Row.sInt Syntax.w64)) (List._∷_ (
-          3,
-          Rows.arrF (Referent.rtF
-              (Referent.fInt Syntax.w32)) 112 0,
-        ) (List._∷_ (4, Rows.arrF (Referent.rtF (Referent.fInt Syntax.w32)) 112 0) (List._∷_ (5, Rows'.sc-here (Row.sInt Syntax.w64)) (List._∷_ (
-          6,
-          Rows'.any-gone (Syntax.tyStruct (List._∷_ 115 (List._∷_ 116 (List._∷_ 97 (List._∷_ 116 (List._∷_ 105 (List._∷_ 115 (List._∷_ 116 (List._∷_ 105 (List._∷_ 99 (List._∷_ 115 (List._∷_ 58 (List._∷_
-              58 (List._∷_ 82 (List._∷_ 101 (List._∷_ 99 (List._∷_ 111 (List._∷_ 114 (List._∷_ 100 List.[])))))))))))))))))) (Syntax.tcons (Syntax.tyInt Syntax.w32) (Syntax.tcons (Syntax.tyInt Syntax.w32)
-              Syntax.tnil))),
-        ) (List._∷_ (7, Rows'.any-gone Syntax.tyBool) (List._∷_ (8, Rows'.any-gone (Syntax.tyRef Syntax.erased Syntax.mut Element.behind)) (List._∷_ (
-          9,
-          Mut.mslice (Element.type)
-              (Syntax.tyRef Syntax.erased Syntax.mut Element.behind) 1,
-        ) (List._∷_ (10, Rows'.sc-here (Row.sInt Syntax.w64)) (List._∷_ (11, Rows'.any-gone (Syntax.tyInt Syntax.w64)) (List._∷_ (
-          12,
-          Rows'.any-gone Syntax.tyPtr,
-        ) (List._∷_ (13, Rows'.any-gone Syntax.tyPtr) (List._∷_ (14, Rows'.any-gone Syntax.tyPtr) (List._∷_ (15, Rows'.any-gone Syntax.tyPtr) List.[])))))))))))))))
+        g11 = List._∷_ e0 (List._∷_ (1, Relend.mslice-owed (Element.type) (Syntax.tyRef (Syntax.named 0) Syntax.mut Element.behind) 0 1 (Row.lease (κs .0) (qs .0))) (List._∷_ e21 (List._∷_ e23
+            (List._∷_ e25 (List._∷_ e27 (List._∷_ e28 (List._∷_ e30 (List._∷_ e32 (List._∷_ e34 (List._∷_ e5 (List._∷_ e6 (List._∷_ e8 (List._∷_ e10 (List._∷_ e12 (List._∷_ e14 List.[])))))))))))))))
 
         abbrev g12 : List.List Row.Entry
-        g12 = List._∷_ (
-          0,
-          Rows'.any-gone (Syntax.tyStruct (List._∷_ 112 (List._∷_ 97 (List._∷_ 115 (List._∷_ 115 (List._∷_ 58 (List._∷_ 58 (List._∷_ 83 (List._∷_ 101 (List._∷_ 116 List.[])))))))))
-              (Syntax.tcons (Syntax.tyArray (Syntax.tyInt Syntax.w32) 112) (Syntax.tcons (Syntax.tyArray (Syntax.tyInt Syntax.w32) 112) Syntax.tnil))),
-        ) (List._∷_ (
-          1,
-          Relend.mslice-owed (Element.type)
-              (Syntax.tyRef (Syntax.named 0) Syntax.mut Element.behind) 0 1 (Row.lease (κs .0) (qs .0)),
-        ) (List._∷_ (2, Rows'.sc-here (Row.sInt Syntax.w64)) (List._∷_ (
-          3,
-          Rows.arrF (Referent.rtF
-              (Referent.fInt Syntax.w32)) 112 0,
-        ) (List._∷_ (4, Rows.arrF (Referent.rtF (Referent.fInt Syntax.w32)) 112 0) (List._∷_ (5, Rows'.sc-here (Row.sInt Syntax.w64)) (List._∷_ (
-          6,
-          Rows'.any-gone (Syntax.tyStruct (List._∷_ 115 (List._∷_ 116 (List._∷_ 97 (List._∷_ 116 (List._∷_ 105 (List._∷_ 115 (List._∷_ 116 (List._∷_ 105 (List._∷_ 99 (List._∷_ 115 (List._∷_ 58 (List._∷_
-              58 (List._∷_ 82 (List._∷_ 101 (List._∷_ 99 (List._∷_ 111 (List._∷_ 114 (List._∷_ 100 List.[])))))))))))))))))) (Syntax.tcons (Syntax.tyInt Syntax.w32) (Syntax.tcons (Syntax.tyInt Syntax.w32)
-              Syntax.tnil))),
-        ) (List._∷_ (7, Rows'.any-gone Syntax.tyBool) (List._∷_ (8, Rows'.any-gone (Syntax.tyRef Syntax.erased Syntax.mut Element.behind)) (List._∷_ (
-          9,
-          Mut.mslice (Element.type)
-              (Syntax.tyRef Syntax.erased Syntax.mut Element.behind) 1,
-        ) (List._∷_ (10, Rows'.sc-here (Row.sInt Syntax.w64)) (List._∷_ (11, Rows'.sc-here (Row.sInt Syntax.w64)) (List._∷_ (
-          12,
-          Rows'.any-gone Syntax.tyPtr,
-        ) (List._∷_ (13, Rows'.any-gone Syntax.tyPtr) (List._∷_ (14, Rows'.any-gone Syntax.tyPtr) (List._∷_ (15, Rows'.any-gone Syntax.tyPtr) List.[])))))))))))))))
+        g12 = List._∷_ e0 (List._∷_ (1, Relend.mslice-owed (Element.type) (Syntax.tyRef (Syntax.named 0) Syntax.mut Element.behind) 0 1 (Row.lease (κs .0) (qs .0))) (List._∷_ e21 (List._∷_ e23
+            (List._∷_ e25 (List._∷_ e27 (List._∷_ e28 (List._∷_ e30 (List._∷_ e32 (List._∷_ e34 (List._∷_ e5 (List._∷_ e7 (List._∷_ e8 (List._∷_ e10 (List._∷_ e12 (List._∷_ e14 List.[])))))))))))))))
 
         abbrev g13 : List.List Row.Entry
-        g13 = List._∷_ (
-          0,
-          Rows'.any-gone (Syntax.tyStruct (List._∷_ 112 (List._∷_ 97 (List._∷_ 115 (List._∷_ 115 (List._∷_ 58 (List._∷_ 58 (List._∷_ 83 (List._∷_ 101 (List._∷_ 116 List.[])))))))))
-              (Syntax.tcons (Syntax.tyArray (Syntax.tyInt Syntax.w32) 112) (Syntax.tcons (Syntax.tyArray (Syntax.tyInt Syntax.w32) 112) Syntax.tnil))),
-        ) (List._∷_ (
-          1,
-          Relend.mslice-owed (Element.type)
-              (Syntax.tyRef (Syntax.named 0) Syntax.mut Element.behind) 0 1 (Row.lease (κs .0) (qs .0)),
-        ) (List._∷_ (2, Rows'.sc-here (Row.sInt Syntax.w64)) (List._∷_ (
-          3,
-          Rows.arrF (Referent.rtF
-              (Referent.fInt Syntax.w32)) 112 0,
-        ) (List._∷_ (4, Rows.arrF (Referent.rtF (Referent.fInt Syntax.w32)) 112 0) (List._∷_ (5, Rows'.sc-here (Row.sInt Syntax.w64)) (List._∷_ (
-          6,
-          Rows'.any-gone (Syntax.tyStruct (List._∷_ 115 (List._∷_ 116 (List._∷_ 97 (List._∷_ 116 (List._∷_ 105 (List._∷_ 115 (List._∷_ 116 (List._∷_ 105 (List._∷_ 99 (List._∷_ 115 (List._∷_ 58 (List._∷_
-              58 (List._∷_ 82 (List._∷_ 101 (List._∷_ 99 (List._∷_ 111 (List._∷_ 114 (List._∷_ 100 List.[])))))))))))))))))) (Syntax.tcons (Syntax.tyInt Syntax.w32) (Syntax.tcons (Syntax.tyInt Syntax.w32)
-              Syntax.tnil))),
-        ) (List._∷_ (7, Rows'.any-gone Syntax.tyBool) (List._∷_ (8, Rows'.any-gone (Syntax.tyRef Syntax.erased Syntax.mut Element.behind)) (List._∷_ (
-          9,
-          Mut.mslice (Element.type)
-              (Syntax.tyRef Syntax.erased Syntax.mut Element.behind) 1,
-        ) (List._∷_ (10, Rows'.any-gone (Syntax.tyInt Syntax.w64)) (List._∷_ (11, Rows'.sc-here (Row.sInt Syntax.w64)) (List._∷_ (
-          12,
-          Rows'.any-gone Syntax.tyPtr,
-        ) (List._∷_ (13, Rows'.any-gone Syntax.tyPtr) (List._∷_ (14, Rows'.any-gone Syntax.tyPtr) (List._∷_ (15, Rows'.any-gone Syntax.tyPtr) List.[])))))))))))))))
+        g13 = List._∷_ e0 (List._∷_ (1, Relend.mslice-owed (Element.type) (Syntax.tyRef (Syntax.named 0) Syntax.mut Element.behind) 0 1 (Row.lease (κs .0) (qs .0))) (List._∷_ e21 (List._∷_ e23
+            (List._∷_ e25 (List._∷_ e27 (List._∷_ e28 (List._∷_ e30 (List._∷_ e32 (List._∷_ e34 (List._∷_ e4 (List._∷_ e7 (List._∷_ e8 (List._∷_ e10 (List._∷_ e12 (List._∷_ e14 List.[])))))))))))))))
 
         abbrev g14 : List.List Row.Entry
-        g14 = List._∷_ (
-          0,
-          Rows'.any-gone (Syntax.tyStruct (List._∷_ 112 (List._∷_ 97 (List._∷_ 115 (List._∷_ 115 (List._∷_ 58 (List._∷_ 58 (List._∷_ 83 (List._∷_ 101 (List._∷_ 116 List.[])))))))))
-              (Syntax.tcons (Syntax.tyArray (Syntax.tyInt Syntax.w32) 112) (Syntax.tcons (Syntax.tyArray (Syntax.tyInt Syntax.w32) 112) Syntax.tnil))),
-        ) (List._∷_ (
-          1,
-          Relend.mslice-owed (Element.type)
-              (Syntax.tyRef (Syntax.named 0) Syntax.mut Element.behind) 0 1 (Row.lease (κs .0) (qs .0)),
-        ) (List._∷_ (2, Rows'.sc-here (Row.sInt Syntax.w64)) (List._∷_ (
-          3,
-          Rows.arrF (Referent.rtF
-              (Referent.fInt Syntax.w32)) 112 0,
-        ) (List._∷_ (4, Rows.arrF (Referent.rtF (Referent.fInt Syntax.w32)) 112 0) (List._∷_ (5, Rows'.sc-here (Row.sInt Syntax.w64)) (List._∷_ (
-          6,
-          Rows'.whole
-              (Declared.row Record.the-type),
-        ) (List._∷_ (7, Rows'.any-gone Syntax.tyBool) (List._∷_ (8, Rows'.any-gone (Syntax.tyRef Syntax.erased Syntax.mut Element.behind)) (List._∷_ (
-          9,
-          Mut.msleft
-              (Element.type) (Syntax.tyRef Syntax.erased Syntax.mut Element.behind),
-        ) (List._∷_ (10, Rows'.any-gone (Syntax.tyInt Syntax.w64)) (List._∷_ (11, Rows'.sc-here (Row.sInt Syntax.w64))
-            (List._∷_ (12, Rows'.any-gone Syntax.tyPtr) (List._∷_ (13, Rows'.any-gone Syntax.tyPtr) (List._∷_ (14, Rows'.any-gone Syntax.tyPtr) (List._∷_ (15, Rows'.any-gone Syntax.tyPtr)
-            List.[])))))))))))))))
+        g14 = List._∷_ e0 (List._∷_ (1, Relend.mslice-owed (Element.type) (Syntax.tyRef (Syntax.named 0) Syntax.mut Element.behind) 0 1 (Row.lease (κs .0) (qs .0))) (List._∷_ e21 (List._∷_ e23
+            (List._∷_ e25 (List._∷_ e27 (List._∷_ e29 (List._∷_ e30 (List._∷_ e32 (List._∷_ e33 (List._∷_ e4 (List._∷_ e7 (List._∷_ e8 (List._∷_ e10 (List._∷_ e12 (List._∷_ e14 List.[])))))))))))))))
 
         abbrev g15 : List.List Row.Entry
-        g15 = List._∷_ (
-          0,
-          Rows'.any-gone (Syntax.tyStruct (List._∷_ 112 (List._∷_ 97 (List._∷_ 115 (List._∷_ 115 (List._∷_ 58 (List._∷_ 58 (List._∷_ 83 (List._∷_ 101 (List._∷_ 116 List.[])))))))))
-              (Syntax.tcons (Syntax.tyArray (Syntax.tyInt Syntax.w32) 112) (Syntax.tcons (Syntax.tyArray (Syntax.tyInt Syntax.w32) 112) Syntax.tnil))),
-        ) (List._∷_ (
-          1,
-          Relend.mslice-owed (Element.type)
-              (Syntax.tyRef (Syntax.named 0) Syntax.mut Element.behind) 0 1 (Row.lease (κs .0) (qs .0)),
-        ) (List._∷_ (2, Rows'.sc-here (Row.sInt Syntax.w64)) (List._∷_ (
-          3,
-          Rows.arrF (Referent.rtF
-              (Referent.fInt Syntax.w32)) 112 0,
-        ) (List._∷_ (4, Rows.arrF (Referent.rtF (Referent.fInt Syntax.w32)) 112 0) (List._∷_ (5, Rows'.sc-here (Row.sInt Syntax.w64)) (List._∷_ (
-          6,
-          Rows'.whole
-              (Declared.row Record.the-type),
-        ) (List._∷_ (7, Rows'.any-gone Syntax.tyBool) (List._∷_ (8, Rows'.any-gone (Syntax.tyRef Syntax.erased Syntax.mut Element.behind)) (List._∷_ (
-          9,
-          Mut.msleft
-              (Element.type) (Syntax.tyRef Syntax.erased Syntax.mut Element.behind),
-        ) (List._∷_ (10, Rows'.any-gone (Syntax.tyInt Syntax.w64)) (List._∷_ (11, Rows'.any-gone (Syntax.tyInt Syntax.w64))
-            (List._∷_ (12, Rows'.any-gone Syntax.tyPtr) (List._∷_ (13, Rows'.any-gone Syntax.tyPtr) (List._∷_ (14, Rows'.any-gone Syntax.tyPtr) (List._∷_ (15, Rows'.any-gone Syntax.tyPtr)
-            List.[])))))))))))))))
+        g15 = List._∷_ e0 (List._∷_ (1, Relend.mslice-owed (Element.type) (Syntax.tyRef (Syntax.named 0) Syntax.mut Element.behind) 0 1 (Row.lease (κs .0) (qs .0))) (List._∷_ e21 (List._∷_ e23
+            (List._∷_ e25 (List._∷_ e27 (List._∷_ e29 (List._∷_ e30 (List._∷_ e32 (List._∷_ e33 (List._∷_ e4 (List._∷_ e6 (List._∷_ e8 (List._∷_ e10 (List._∷_ e12 (List._∷_ e14 List.[])))))))))))))))
 
         abbrev G0 : Row.Cx
         G0 = record { locals = List._++_ t0 t1; slots = List._∷_ (Row.lease (κs .0) (qs .0)) (List._∷_ Row.off List.[]) }
@@ -2009,11 +1235,9 @@ module _ (claims· : Claims) where
 
           d5 : Typed.Typed 𝓤 H A 𝓣 E G37 b20 Δ3 (at5 bs)
           d5 = Typed.s-typed 𝓤 H A W 𝓣 E G37 b20 Δ3 (Typed.ask (s34 bs)) tt (Scalar.t-op2 𝓤 H A W E 𝓣 G37 (Syntax.add Syntax.unsigned) (Scalar.oAt 5 (Syntax.tyInt Syntax.w64) (Row.valS (Row.sInt
-              Syntax.w64))) (Scalar.oInt Syntax.w64 1) 5 (Rows'.sc-here (Row.sInt Syntax.w64)) (Syntax.tyInt Syntax.w64) (Row.valS (Row.sInt Syntax.w64)) (Row.sInt Syntax.w64 .of) (
-                Scalar.reads-sc 𝓤 H A W
-                    (Row.sInt Syntax.w64),
-                Path'.refl,
-              ) tt (Scalar.room-sc 𝓤 H A W (Row.sInt Syntax.w64)) (Scalar.holds-sc 𝓤 H A W (Row.sInt Syntax.w64)) Path'.refl (λ u. Path'.refl) λ u. tt)
+              Syntax.w64))) (Scalar.oInt Syntax.w64 1) 5 (Rows'.sc-here (Row.sInt Syntax.w64)) (Syntax.tyInt Syntax.w64) (Row.valS (Row.sInt Syntax.w64)) (Row.sInt Syntax.w64 .of)
+              (Scalar.reads-sc 𝓤 H A W (Row.sInt Syntax.w64), Path'.refl) tt (Scalar.room-sc 𝓤 H A W (Row.sInt Syntax.w64)) (Scalar.holds-sc 𝓤 H A W (Row.sInt Syntax.w64)) Path'.refl (λ u. Path'.refl) λ
+              u. tt)
 
           d6 : Typed.Typed 𝓤 H A 𝓣 E G36 b20 Δ3 (at6 bs)
           d6 = Typed.g-pre 𝓤 H A W 𝓣 E G36 G37 b20 Δ3 (Typed.pass T36 T37 (s33 bs)) (at5 bs) (Scalar.g-room 𝓤 H A W E G36 15 Syntax.tyPtr (Scalar.room-sc 𝓤 H A W Row.sPtr)) d5
@@ -2023,21 +1247,14 @@ module _ (claims· : Claims) where
               d6
 
           d8 : Typed.Typed 𝓤 H A 𝓣 E G34 b20 Δ3 (at8 bs)
-          d8 = Typed.g-pre 𝓤 H A W 𝓣 E G34 G35 b20 Δ3 (Typed.pass T34 T35 (s31 bs)) (at7 bs) (Scalar.g-room 𝓤 H A W E G34 6 (Syntax.tyStruct (List._∷_ 115 (List._∷_ 116 (List._∷_ 97 (List._∷_ 116
-              (List._∷_ 105 (List._∷_ 115 (List._∷_ 116 (List._∷_ 105 (List._∷_ 99 (List._∷_ 115 (List._∷_ 58 (List._∷_ 58 (List._∷_ 82 (List._∷_ 101 (List._∷_ 99 (List._∷_ 111 (List._∷_ 114 (List._∷_ 100
-              List.[])))))))))))))))))) (Syntax.tcons (Syntax.tyInt Syntax.w32) (Syntax.tcons (Syntax.tyInt Syntax.w32) Syntax.tnil))) (Local.room-whole 𝓤 H A W (Declared.row Record.the-type)
-              (Syntax.tyStruct (List._∷_ 115 (List._∷_ 116 (List._∷_ 97 (List._∷_ 116 (List._∷_ 105 (List._∷_ 115 (List._∷_ 116 (List._∷_ 105 (List._∷_ 99 (List._∷_ 115 (List._∷_ 58 (List._∷_ 58 (List._∷_
-              82 (List._∷_ 101 (List._∷_ 99 (List._∷_ 111 (List._∷_ 114 (List._∷_ 100 List.[])))))))))))))))))) (Syntax.tcons (Syntax.tyInt Syntax.w32) (Syntax.tcons (Syntax.tyInt Syntax.w32)
-              Syntax.tnil))) Path'.refl)) d7
+          d8 = Typed.g-pre 𝓤 H A W 𝓣 E G34 G35 b20 Δ3 (Typed.pass T34 T35 (s31 bs)) (at7 bs) (Scalar.g-room 𝓤 H A W E G34 6 y1 (Local.room-whole 𝓤 H A W (Declared.row Record.the-type) y1 Path'.refl))
+              d7
 
           d9 : Typed.Typed 𝓤 H A 𝓣 E G33 b21 Δ3 (at9 bs)
           d9 = Typed.s-seq 𝓤 H A W 𝓣 E G33 G34 b19 b20 Δ3 (Typed.ask (s30 bs)) (at8 bs) (Borrow.t-arr-write 𝓤 H A W E 𝓣 (Referent.fInt Syntax.w32) (Init.scaled (Referent.rtF (Referent.fInt
               Syntax.w32))) G33 4 15 112 0 (λ x. x) (λ x. x) (Scalar.oFld 6 (List._∷_ (Syntax.field 1) List.[]) (Syntax.tyInt Syntax.w32) 4 (Reads.fieldV Record.the-type Laws'.the-laws 1)) (λ u. u .1 .1
-              .1 .1 .1 .0) (Reads'.as-is 𝓤 H A (Rows.arrF (Referent.rtF (Referent.fInt Syntax.w32)) 112 0)) (Reads'.as-is 𝓤 H A (Rows'.sc-here Row.sPtr)) (
-                Reads.reads-field 𝓤 H A W Record.the-type
-                    Laws'.the-laws 1 (Syntax.tyInt Syntax.w32) 4 Path'.refl,
-                Path'.refl,
-              ) Path'.refl λ u. Path'.refl) d8
+              .1 .1 .1 .0) (Reads'.as-is 𝓤 H A (Rows.arrF (Referent.rtF (Referent.fInt Syntax.w32)) 112 0)) (Reads'.as-is 𝓤 H A (Rows'.sc-here Row.sPtr))
+              (Reads.reads-field 𝓤 H A W Record.the-type Laws'.the-laws 1 (Syntax.tyInt Syntax.w32) 4 Path'.refl, Path'.refl) Path'.refl λ u. Path'.refl) d8
 
           d10 : Typed.Typed 𝓤 H A 𝓣 E G32 b21 Δ3 (at10 bs)
           d10 = Typed.g-pre 𝓤 H A W 𝓣 E G32 G33 b21 Δ3 (Typed.pass T32 T33 (s29 bs)) (at9 bs) (Scalar.g-room 𝓤 H A W E G32 14 Syntax.tyPtr (Scalar.room-sc 𝓤 H A W Row.sPtr)) d9
@@ -2066,11 +1283,8 @@ module _ (claims· : Claims) where
           d16 : Typed.Typed 𝓤 H A 𝓣 E G26 b25 Δ3 (at16 bs)
           d16 = Typed.s-seq 𝓤 H A W 𝓣 E G26 G27 b15 b24 Δ3 (Typed.ask (s23 bs)) (at15 bs) (Borrow.t-arr-write 𝓤 H A W E 𝓣 (Referent.fInt Syntax.w32) (Init.scaled (Referent.rtF (Referent.fInt
               Syntax.w32))) G26 3 13 112 0 (λ x. x) (λ x. x) (Scalar.oFld 6 (List._∷_ (Syntax.field 0) List.[]) (Syntax.tyInt Syntax.w32) 0 (Reads.fieldV Record.the-type Laws'.the-laws 0)) (λ u. u .1 .1
-              .1 .1 .1 .0) (Reads'.as-is 𝓤 H A (Rows.arrF (Referent.rtF (Referent.fInt Syntax.w32)) 112 0)) (Reads'.as-is 𝓤 H A (Rows'.sc-here Row.sPtr)) (
-                Reads.reads-field 𝓤 H A W Record.the-type
-                    Laws'.the-laws 0 (Syntax.tyInt Syntax.w32) 0 Path'.refl,
-                Path'.refl,
-              ) Path'.refl λ u. Path'.refl) d15
+              .1 .1 .1 .0) (Reads'.as-is 𝓤 H A (Rows.arrF (Referent.rtF (Referent.fInt Syntax.w32)) 112 0)) (Reads'.as-is 𝓤 H A (Rows'.sc-here Row.sPtr))
+              (Reads.reads-field 𝓤 H A W Record.the-type Laws'.the-laws 0 (Syntax.tyInt Syntax.w32) 0 Path'.refl, Path'.refl) Path'.refl λ u. Path'.refl) d15
 
           d17 : Typed.Typed 𝓤 H A 𝓣 E G25 b25 Δ3 (at17 bs)
           d17 = Typed.g-pre 𝓤 H A W 𝓣 E G25 G26 b25 Δ3 (Typed.pass T25 T26 (s22 bs)) (at16 bs) (Scalar.g-room 𝓤 H A W E G25 12 Syntax.tyPtr (Scalar.room-sc 𝓤 H A W Row.sPtr)) d16
@@ -2113,9 +1327,7 @@ module _ (claims· : Claims) where
                     Element.behind) 1,
                 Path'.refl,
                 ((Scalar.reads-sc 𝓤 H A W (Row.sInt Syntax.w64), Path'.refl), tt),
-              ) (Reads'.room-gone 𝓤 H A (Syntax.tyStruct (List._∷_ 115 (List._∷_ 116 (List._∷_ 97
-              (List._∷_ 116 (List._∷_ 105 (List._∷_ 115 (List._∷_ 116 (List._∷_ 105 (List._∷_ 99 (List._∷_ 115 (List._∷_ 58 (List._∷_ 58 (List._∷_ 82 (List._∷_ 101 (List._∷_ 99 (List._∷_ 111 (List._∷_ 114
-              (List._∷_ 100 List.[])))))))))))))))))) (Syntax.tcons (Syntax.tyInt Syntax.w32) (Syntax.tcons (Syntax.tyInt Syntax.w32) Syntax.tnil)))) (tt, tt) Path'.refl) d24
+              ) (Reads'.room-gone 𝓤 H A y1) (tt, tt) Path'.refl) d24
 
           d26 : Typed.Typed 𝓤 H A 𝓣 E G16 b29 Δ3 (at26 bs)
           d26 = Typed.g-pre 𝓤 H A W 𝓣 E G16 G17 b29 Δ3 (Typed.pass T16 T17 (s13 bs)) (at25 bs) (Scalar.g-room 𝓤 H A W E G16 10 (Syntax.tyInt Syntax.w64) (Scalar.room-sc 𝓤 H A W (Row.sInt Syntax.w64)))
@@ -2136,12 +1348,9 @@ module _ (claims· : Claims) where
           d29 : Typed.Typed 𝓤 H A 𝓣 E G13 b32 Δ3 (at29 bs)
           d29 = Typed.s-seq 𝓤 H A W 𝓣 E G13 G14 b8 b31 Δ3 (Typed.ask (s10 bs)) (at28 bs) (Relend.t-sl-aggregate 𝓤 H A W E (Element.type) 𝓣 (Relend.asMut (Element.type)) G13 8 9 1 (Syntax.tyRef
               Syntax.erased Syntax.mut Element.behind) (Syntax.tyRef Syntax.erased Syntax.mut Element.behind) (λ x. x) (Scalar.oFld 1 (List._∷_ (Syntax.field 1) List.[]) (Syntax.tyInt Syntax.w64) 8 λ v.
-              Shared.lenV (v .0)) (Reads'.as-is 𝓤 H A (Relend.msptr (Element.type) (Syntax.tyRef Syntax.erased Syntax.mut Element.behind) 1)) (Reads'.room-gone 𝓤 H A (Syntax.tyStruct (List._∷_ 38
-              (List._∷_ 91 (List._∷_ 93 List.[]))) (Syntax.tcons (Syntax.tyRef Syntax.erased Syntax.mut Element.behind) (Syntax.tcons (Syntax.tyInt Syntax.w64) Syntax.tnil)))) (
-                Relend.reads-owed-len 𝓤 H
-                    A W (Element.type) (Syntax.tyRef (Syntax.named 0) Syntax.mut Element.behind) 0 1 (Row.lease (κs .0) (qs .0)) 8 Path'.refl,
-                Path'.refl,
-              ) Path'.refl Path'.refl λ b o k. tt) d28
+              Shared.lenV (v .0)) (Reads'.as-is 𝓤 H A (Relend.msptr (Element.type) (Syntax.tyRef Syntax.erased Syntax.mut Element.behind) 1)) (Reads'.room-gone 𝓤 H A y2)
+              (Relend.reads-owed-len 𝓤 H A W (Element.type) (Syntax.tyRef (Syntax.named 0) Syntax.mut Element.behind) 0 1 (Row.lease (κs .0) (qs .0)) 8 Path'.refl, Path'.refl) Path'.refl Path'.refl λ b o
+              k. tt) d28
 
           d30 : Typed.Typed 𝓤 H A 𝓣 E G12 b33 Δ3 (at30 bs)
           d30 = Typed.s-seq 𝓤 H A W 𝓣 E G12 G13 b7 b32 Δ3 (Typed.give (s9 bs)) (at29 bs) (Relend.t-sl-relend 𝓤 H A W E (Element.type) 𝓣 G12 1 8 0 1 (Syntax.tyRef (Syntax.named 0) Syntax.mut
@@ -2149,68 +1358,16 @@ module _ (claims· : Claims) where
               Syntax.mut Element.behind) 0)) (Reads'.room-gone 𝓤 H A (Syntax.tyRef Syntax.erased Syntax.mut Element.behind)) Path'.refl tt Path'.refl Path'.refl Path'.refl λ b o. tt) d29
 
           d31 : Typed.Typed 𝓤 H A 𝓣 E G9 b33 Δ3 (at31 bs)
-          d31 = Typed.g-pre 𝓤 H A W 𝓣 E G9 G12 b33 Δ3 (λ Ψ. Ψ) (at30 bs) (Lifetime.g-begin 𝓤 H A W E G9 1 (
-            tt,
-            (
-              tt,
-              (
-                tt,
-                (
-                  tt,
-                  (
-                    tt,
-                    (
-                      tt,
-                      (
-                        tt,
-                        (
-                          tt,
-                          (
-                            tt,
-                            (
-                              tt,
-                              (
-                                tt,
-                                (
-                                  tt,
-                                  (
-                                    tt,
-                                    (
-                                      tt,
-                                      (
-                                        tt,
-                                        (
-                                          tt,
-                                          (
-                                            tt,
-                                            (tt, tt),
-                                          ),
-                                        ),
-                                      ),
-                                    ),
-                                  ),
-                                ),
-                              ),
-                            ),
-                          ),
-                        ),
-                      ),
-                    ),
-                  ),
-                ),
-              ),
-            ),
-          )) d30
+          d31 = Typed.g-pre 𝓤 H A W 𝓣 E G9 G12 b33 Δ3 (λ Ψ. Ψ) (at30 bs) (Lifetime.g-begin 𝓤 H A W E G9 1
+              (tt, (tt, (tt, (tt, (tt, (tt, (tt, (tt, (tt, (tt, (tt, (tt, (tt, (tt, (tt, (tt, (tt, (tt, tt))))))))))))))))))) d30
 
           d32 : Typed.Typed 𝓤 H A 𝓣 E G8 b34 Δ3 (at32 bs)
           d32 = Typed.t-seq 𝓤 H A W 𝓣 E G8 G9 b6 b33 Δ3 (at4 bs) (at31 bs) d4 d31
 
           d33 : Typed.Typed 𝓤 H A 𝓣 E G6 b35 Δ3 (at33 bs)
           d33 = Typed.s-seq 𝓤 H A W 𝓣 E G6 G8 b3 b34 Δ3 (Typed.ask (s5 bs)) (at32 bs) (Scalar.t-op2 𝓤 H A W E 𝓣 G6 (Syntax.lt Syntax.unsigned) (Scalar.oAt 5 (Syntax.tyInt Syntax.w64) (Row.valS
-              (Row.sInt Syntax.w64))) (Scalar.oInt Syntax.w64 112) 7 (Rows'.sc-here Row.sBool) Syntax.tyBool (Row.valS Row.sBool) (Row.sBool .of) (
-                Scalar.reads-sc 𝓤 H A W (Row.sInt Syntax.w64),
-                Path'.refl,
-              ) tt (Reads'.room-gone 𝓤 H A Syntax.tyBool) (Scalar.holds-sc 𝓤 H A W Row.sBool) Path'.refl (λ u. Path'.refl) λ u. tt) d32
+              (Row.sInt Syntax.w64))) (Scalar.oInt Syntax.w64 112) 7 (Rows'.sc-here Row.sBool) Syntax.tyBool (Row.valS Row.sBool) (Row.sBool .of)
+              (Scalar.reads-sc 𝓤 H A W (Row.sInt Syntax.w64), Path'.refl) tt (Reads'.room-gone 𝓤 H A Syntax.tyBool) (Scalar.holds-sc 𝓤 H A W Row.sBool) Path'.refl (λ u. Path'.refl) λ u. tt) d32
 
           d34 : Typed.Typed 𝓤 H A 𝓣 E G6 b36 Δ2 (at34 bs)
           d34 = Typed.t-loop-by 𝓤 H A W 𝓣 E G6 b35 Δ2 put0 (λ u vs. Inv·0 (Row.get 1 (T6 .locals) u .now) (Row.get 2 (T6 .locals) u) (Row.get 3 (T6 .locals) u) (Row.get 4 (T6 .locals) u) (Row.get 5
@@ -2247,47 +1404,25 @@ module _ (claims· : Claims) where
           d42 = Typed.s-seq 𝓤 H A W 𝓣 E G42 G43 b40 b41 Δ0 (Typed.pass T42 T43 (s39 bs)) (at41 bs) (Make.t-make-told 𝓤 H A W E 𝓣 (Declared.row (Apart.apartT Set.the-type)) Path'.refl (Laws''.val
               (Apart.apartT Set.the-type) Laws.the-laws) (Laws''.lawful (Apart.apartT Set.the-type) Laws.the-laws 𝓤 H A W) (Laws''.makes (Apart.apartT Set.the-type) Laws.the-plain 𝓤 H A) G42 0 (List._∷_
               (Scalar.oAt 16 (Syntax.tyArray (Syntax.tyInt Syntax.w32) 112) λ xs. Array'.arrayVal (List.map (Laws''.u32-laws .val) xs)) (List._∷_ (Scalar.oAt 17 (Syntax.tyArray (Syntax.tyInt Syntax.w32)
-              112) λ xs. Array'.arrayVal (List.map (Laws''.u32-laws .val) xs)) List.[])) (λ m. (
-                m .1 .1 .1 .1 .1 .1 .1 .1 .1 .1 .1 .1 .1 .1 .1 .1 .0,
-                (
-                  m .1 .1 .1 .1 .1 .1 .1 .1 .1 .1 .1 .1 .1 .1 .1 .1 .1
-                      .0,
-                  tt,
-                ),
-              )) (λ m. Path'._≡_ (ListN.length (m .1 .1 .1 .1 .1 .1 .1 .1 .1 .1 .1 .1 .1 .1 .1 .1 .0)) 112 × Path'._≡_ (ListN.length (m .1 .1 .1 .1 .1 .1 .1 .1 .1 .1 .1 .1 .1 .1 .1 .1 .1 .0))
-              112) (Reads'.room-gone 𝓤 H A (Syntax.tyStruct (List._∷_ 112 (List._∷_ 97 (List._∷_ 115 (List._∷_ 115 (List._∷_ 58 (List._∷_ 58 (List._∷_ 83 (List._∷_ 101 (List._∷_ 116 List.[])))))))))
-              (Syntax.tcons (Syntax.tyArray (Syntax.tyInt Syntax.w32) 112) (Syntax.tcons (Syntax.tyArray (Syntax.tyInt Syntax.w32) 112) Syntax.tnil)))) (
-                (
-                  Array.arr-reads 𝓤 H A W (Array.eInt Syntax.w32)
-                      (Array.eInt-laws Syntax.w32) 112,
-                  Path'.refl,
-                ),
+              112) λ xs. Array'.arrayVal (List.map (Laws''.u32-laws .val) xs)) List.[])) (λ m.
+              (m .1 .1 .1 .1 .1 .1 .1 .1 .1 .1 .1 .1 .1 .1 .1 .1 .0, (m .1 .1 .1 .1 .1 .1 .1 .1 .1 .1 .1 .1 .1 .1 .1 .1 .1 .0, tt))) (λ m. Path'._≡_ (ListN.length (m .1 .1 .1 .1 .1 .1 .1 .1 .1 .1 .1 .1 .1
+              .1 .1 .1 .0)) 112 × Path'._≡_ (ListN.length (m .1 .1 .1 .1 .1 .1 .1 .1 .1 .1 .1 .1 .1 .1 .1 .1 .1 .0)) 112) (Reads'.room-gone 𝓤 H A y0) (
+                (Array.arr-reads 𝓤 H A W (Array.eInt Syntax.w32) (Array.eInt-laws Syntax.w32) 112, Path'.refl),
                 ((Array.arr-reads 𝓤 H A W (Array.eInt Syntax.w32) (Array.eInt-laws Syntax.w32) 112, Path'.refl), tt),
-              ) Path'.refl (λ ρ m.
-              Make.tells-both 𝓤 H A W E ρ (Row.out 0 (G42 .locals)) m (Path'._≡_ (ListN.length (m .1 .1 .1 .1 .1 .1 .1 .1 .1 .1 .1 .1 .1 .1 .1 .1 .0)) 112) (Path'._≡_ (ListN.length (m .1 .1 .1 .1 .1 .1 .1
-              .1 .1 .1 .1 .1 .1 .1 .1 .1 .1 .0)) 112) (Make.tells-row 𝓤 H A W E ρ (Row.out 0 (G42 .locals)) m 16 (Path'._≡_ (ListN.length (m .1 .1 .1 .1 .1 .1 .1 .1 .1 .1 .1 .1 .1 .1 .1 .1 .0)) 112)
-              (Init.arr-len 𝓤 H A W E (Referent.rtF (Referent.fInt Syntax.w32)) ρ 16 112 Nat.zero (m .1 .1 .1 .1 .1 .1 .1 .1 .1 .1 .1 .1 .1 .1 .1 .1 .0))) (Make.tells-row 𝓤 H A W E ρ (Row.out 0 (G42
-              .locals)) m 17 (Path'._≡_ (ListN.length (m .1 .1 .1 .1 .1 .1 .1 .1 .1 .1 .1 .1 .1 .1 .1 .1 .1 .0)) 112) (Init.arr-len 𝓤 H A W E (Referent.rtF (Referent.fInt Syntax.w32)) ρ 17 112 Nat.zero (m
-              .1 .1 .1 .1 .1 .1 .1 .1 .1 .1 .1 .1 .1 .1 .1 .1 .1 .0)))) (λ m q. Signed.made-val (Apart.apartT Set.the-type) Laws.the-laws (List._∷_ (Array'.arrayVal (List.map (Laws''.u32-laws .val) (m .1
-              .1 .1 .1 .1 .1 .1 .1 .1 .1 .1 .1 .1 .1 .1 .1 .0))) (List._∷_ (Array'.arrayVal (List.map (Laws''.u32-laws .val) (m .1 .1 .1 .1 .1 .1 .1 .1 .1 .1 .1 .1 .1 .1 .1 .1 .1 .0))) List.[])) (
-                m .1 .1
-                    .1 .1 .1 .1 .1 .1 .1 .1 .1 .1 .1 .1 .1 .1 .0,
-                (m .1 .1 .1 .1 .1 .1 .1 .1 .1 .1 .1 .1 .1 .1 .1 .1 .1 .0, tt),
-              ) (
-                Items.array-made Field.u32-field Laws''.u32-laws Make.u32-wt 112 (m .1 .1 .1
-                    .1 .1 .1 .1 .1 .1 .1 .1 .1 .1 .1 .1 .1 .0) (q .0),
+              ) Path'.refl (λ ρ m. Make.tells-both 𝓤 H A W E ρ (Row.out 0 (G42 .locals)) m (Path'._≡_
+              (ListN.length (m .1 .1 .1 .1 .1 .1 .1 .1 .1 .1 .1 .1 .1 .1 .1 .1 .0)) 112) (Path'._≡_ (ListN.length (m .1 .1 .1 .1 .1 .1 .1 .1 .1 .1 .1 .1 .1 .1 .1 .1 .1 .0)) 112) (Make.tells-row 𝓤 H A W E
+              ρ (Row.out 0 (G42 .locals)) m 16 (Path'._≡_ (ListN.length (m .1 .1 .1 .1 .1 .1 .1 .1 .1 .1 .1 .1 .1 .1 .1 .1 .0)) 112) (Init.arr-len 𝓤 H A W E (Referent.rtF (Referent.fInt Syntax.w32)) ρ 16
+              112 Nat.zero (m .1 .1 .1 .1 .1 .1 .1 .1 .1 .1 .1 .1 .1 .1 .1 .1 .0))) (Make.tells-row 𝓤 H A W E ρ (Row.out 0 (G42 .locals)) m 17 (Path'._≡_ (ListN.length (m .1 .1 .1 .1 .1 .1 .1 .1 .1 .1 .1
+              .1 .1 .1 .1 .1 .1 .0)) 112) (Init.arr-len 𝓤 H A W E (Referent.rtF (Referent.fInt Syntax.w32)) ρ 17 112 Nat.zero (m .1 .1 .1 .1 .1 .1 .1 .1 .1 .1 .1 .1 .1 .1 .1 .1 .1 .0)))) (λ m q.
+              Signed.made-val (Apart.apartT Set.the-type) Laws.the-laws (List._∷_ (Array'.arrayVal (List.map (Laws''.u32-laws .val) (m .1 .1 .1 .1 .1 .1 .1 .1 .1 .1 .1 .1 .1 .1 .1 .1 .0))) (List._∷_
+              (Array'.arrayVal (List.map (Laws''.u32-laws .val) (m .1 .1 .1 .1 .1 .1 .1 .1 .1 .1 .1 .1 .1 .1 .1 .1 .1 .0))) List.[]))
+              (m .1 .1 .1 .1 .1 .1 .1 .1 .1 .1 .1 .1 .1 .1 .1 .1 .0, (m .1 .1 .1 .1 .1 .1 .1 .1 .1 .1 .1 .1 .1 .1 .1 .1 .1 .0, tt)) (
+                Items.array-made Field.u32-field Laws''.u32-laws Make.u32-wt 112 (m .1 .1 .1 .1 .1 .1 .1 .1 .1 .1 .1 .1 .1 .1 .1 .1 .0) (q .0),
                 (Items.array-made Field.u32-field Laws''.u32-laws Make.u32-wt 112 (m .1 .1 .1 .1 .1 .1 .1 .1 .1 .1 .1 .1 .1 .1 .1 .1 .1 .0) (q .1), tt),
-              )) λ m q. Signed.made-is (Apart.apartT Set.the-type) Laws.the-laws (List._∷_ (Array'.arrayVal (List.map (Laws''.u32-laws .val) (m .1 .1 .1 .1 .1 .1 .1 .1 .1 .1 .1 .1 .1 .1 .1 .1 .0)))
-              (List._∷_ (Array'.arrayVal (List.map (Laws''.u32-laws .val) (m .1 .1 .1 .1 .1 .1 .1 .1 .1 .1 .1 .1 .1 .1 .1 .1 .1 .0))) List.[])) (
-                m .1 .1 .1 .1 .1 .1 .1 .1 .1 .1 .1 .1 .1 .1 .1 .1 .0,
-                (
-                  m
-                      .1 .1 .1 .1 .1 .1 .1 .1 .1 .1 .1 .1 .1 .1 .1 .1 .1 .0,
-                  tt,
-                ),
-              ) (
-                Items.array-made Field.u32-field Laws''.u32-laws Make.u32-wt 112 (m .1 .1 .1 .1 .1 .1 .1 .1 .1 .1 .1 .1 .1 .1 .1 .1 .0) (q
-                    .0),
+              )) λ m q. Signed.made-is (Apart.apartT Set.the-type)
+              Laws.the-laws (List._∷_ (Array'.arrayVal (List.map (Laws''.u32-laws .val) (m .1 .1 .1 .1 .1 .1 .1 .1 .1 .1 .1 .1 .1 .1 .1 .1 .0))) (List._∷_ (Array'.arrayVal (List.map (Laws''.u32-laws .val)
+              (m .1 .1 .1 .1 .1 .1 .1 .1 .1 .1 .1 .1 .1 .1 .1 .1 .1 .0))) List.[])) (m .1 .1 .1 .1 .1 .1 .1 .1 .1 .1 .1 .1 .1 .1 .1 .1 .0, (m .1 .1 .1 .1 .1 .1 .1 .1 .1 .1 .1 .1 .1 .1 .1 .1 .1 .0, tt)) (
+                Items.array-made Field.u32-field Laws''.u32-laws Make.u32-wt 112 (m .1 .1 .1 .1 .1 .1 .1 .1 .1 .1 .1 .1 .1 .1 .1 .1 .0) (q .0),
                 (Items.array-made Field.u32-field Laws''.u32-laws Make.u32-wt 112 (m .1 .1 .1 .1 .1 .1 .1 .1 .1 .1 .1 .1 .1 .1 .1 .1 .1 .0) (q .1), tt),
               )) d41
 
@@ -2367,8 +1502,8 @@ module _ (claims· : Claims) where
       W0 = λ κs args blocks. (
         λ u. ⊥,
         tt,
-        λ u. Enter.Fixs κs 1 ps xs (dens κs args) (u .1) × Post· κs (dens κs args) (Function.resV r κs (u .0)) (Clauses.atExit (Kinds.endedOf 1 ps r) κs (dens κs
-            args) (Enter.lastsP κs 1 ps xs (dens κs args) (u .1))),
+        λ u. Enter.Fixs κs 1 ps xs (dens κs args) (u .1) × Post· κs (dens κs args) (Function.resV r κs (u .0)) (Clauses.atExit (Kinds.endedOf 1 ps r) κs (dens κs args) (Enter.lastsP κs 1 ps
+            xs (dens κs args) (u .1))),
       )
 
       pub record Start : Type 0 where
@@ -2408,26 +1543,14 @@ module _ (claims· : Claims) where
 
       abbrev pub m6 : (before : Start) → (rs : List.List (Element.type .Denot)) → (sums : Rows.arrF (Referent.rtF (Referent.fInt Syntax.w32)) 112 0 .Mod) → (ns : Rows.arrF (Referent.rtF (Referent.fInt
           Syntax.w32)) 112 0 .Mod) → (i : Rows'.sc-here (Row.sInt Syntax.w64) .Mod) → Typed.Mo T6
-      m6 = λ before rs sums ns i. Row.set 5 (5, Rows'.sc-here (Row.sInt Syntax.w64)) i (Row.setRow 4 (4, Rows.arrF (Referent.rtF (Referent.fInt Syntax.w32)) 112 0) (Row.setRow 3 (
-        3,
-        Rows.arrF
-            (Referent.rtF (Referent.fInt Syntax.w32)) 112 0,
-      ) (Row.setRow 1 (1, Mut.mslice (Element.type) (Syntax.tyRef (Syntax.named 0) Syntax.mut Element.behind) 0) (T6 .locals)))) (Row.set 4 (
-        4,
-        Rows.arrF (Referent.rtF (Referent.fInt Syntax.w32)) 112 0,
-      ) ns (Row.setRow 3 (3, Rows.arrF (Referent.rtF (Referent.fInt Syntax.w32)) 112 0) (Row.setRow 1 (
-        1,
-        Mut.mslice (Element.type)
-            (Syntax.tyRef (Syntax.named 0) Syntax.mut Element.behind) 0,
-      ) (T6 .locals))) (Row.set 3 (3, Rows.arrF (Referent.rtF (Referent.fInt Syntax.w32)) 112 0) sums (Row.setRow 1 (
-        1,
-        Mut.mslice
-            (Element.type) (Syntax.tyRef (Syntax.named 0) Syntax.mut Element.behind) 0,
-      ) (T6 .locals)) (Row.set 1 (
-        1,
-        Mut.mslice (Element.type) (Syntax.tyRef (Syntax.named 0) Syntax.mut Element.behind) 0,
-      ) record { ptr = Row.get 1 (T6 .locals) (m5 (before .κs) (before .args) (before .blocks)) .ptr; name = Row.get 1 (T6 .locals) (m5 (before .κs) (before .args) (before .blocks)) .name; now = rs }
-          (T6 .locals) (m5 (before .κs) (before .args) (before .blocks)))))
+      m6 = λ before rs sums ns i. Row.set 5 (5, Rows'.sc-here (Row.sInt Syntax.w64)) i (Row.setRow 4 (4, Rows.arrF (Referent.rtF (Referent.fInt Syntax.w32)) 112 0) (Row.setRow 3
+          (3, Rows.arrF (Referent.rtF (Referent.fInt Syntax.w32)) 112 0) (Row.setRow 1 (1, Mut.mslice (Element.type) (Syntax.tyRef (Syntax.named 0) Syntax.mut Element.behind) 0) (T6 .locals)))) (Row.set 4
+          (4, Rows.arrF (Referent.rtF (Referent.fInt Syntax.w32)) 112 0) ns (Row.setRow 3 (3, Rows.arrF (Referent.rtF (Referent.fInt Syntax.w32)) 112 0) (Row.setRow 1
+          (1, Mut.mslice (Element.type) (Syntax.tyRef (Syntax.named 0) Syntax.mut Element.behind) 0) (T6 .locals))) (Row.set 3 (3, Rows.arrF (Referent.rtF (Referent.fInt Syntax.w32)) 112 0) sums
+          (Row.setRow 1 (1, Mut.mslice (Element.type) (Syntax.tyRef (Syntax.named 0) Syntax.mut Element.behind) 0) (T6 .locals)) (Row.set 1
+          (1, Mut.mslice (Element.type) (Syntax.tyRef (Syntax.named 0) Syntax.mut Element.behind) 0) record
+          { ptr = Row.get 1 (T6 .locals) (m5 (before .κs) (before .args) (before .blocks)) .ptr; name = Row.get 1 (T6 .locals) (m5 (before .κs) (before .args) (before .blocks)) .name; now = rs } (T6
+          .locals) (m5 (before .κs) (before .args) (before .blocks)))))
 
       abbrev W3 : (before : Start) → (rs : List.List (Element.type .Denot)) → (sums : Rows.arrF (Referent.rtF (Referent.fInt Syntax.w32)) 112 0 .Mod) → (ns : Rows.arrF (Referent.rtF (Referent.fInt
           Syntax.w32)) 112 0 .Mod) → (i : Rows'.sc-here (Row.sInt Syntax.w64) .Mod) → Typed.Want O3
@@ -2517,8 +1640,8 @@ module _ (claims· : Claims) where
 
       module _ (before· : After-fetch-arg) where
         abbrev pub After-fetch·own : Type 0
-        After-fetch·own = Called.Called ps·0 r·0 (claims· .1) T17 (record { pos = 9; ty = Syntax.tyRef Syntax.erased Syntax.mut Element.behind; ref = λ x. x }, (Num.vAt 11 λ x. x, tt)) (m14
-            (before· .before) (before· .fetch-arg .given))
+        After-fetch·own = Called.Called ps·0 r·0 (claims· .1) T17 (record { pos = 9; ty = Syntax.tyRef Syntax.erased Syntax.mut Element.behind; ref = λ x. x }, (Num.vAt 11 λ x. x, tt)) (m14 (before·
+            .before) (before· .fetch-arg .given))
 
       pub record After-fetch : Type 0 where
         pub before : After-fetch-arg
@@ -2672,15 +1795,11 @@ module _ (claims· : Claims) where
         lay5 : (c : After-loop) → at46 (c .before .before .blocks) (W0 (c .before .before .κs) (c .before .before .args) (c .before .before .blocks)) (m9 (c .before))
         lay5 = λ c. (
           (
-            MutSlice.fix-len (Row.get 1 (T48 .locals) (m43 (c .before)) .ptr) (Row.get 1 (T48 .locals) (m43 (c .before)) .name) (Row.get 1 (T48 .locals) (m43 (c .before)) .now) (dens (c
-                .before .before .κs) (c .before .before .args) .0 .now) (same-length record { before = c .before; loop-test = c .loop-test }),
+            MutSlice.fix-len (Row.get 1 (T48 .locals) (m43 (c .before)) .ptr) (Row.get 1 (T48 .locals) (m43 (c .before)) .name) (Row.get 1 (T48 .locals) (m43 (c .before)) .now) (dens (c .before .before
+                .κs) (c .before .before .args) .0 .now) (same-length record { before = c .before; loop-test = c .loop-test }),
             (tt, tt),
           ),
-          returns record {
-            before = c .before;
-            loop-test = c
-                .loop-test;
-          },
+          returns record { before = c .before; loop-test = c .loop-test },
         )
 
         lay4 : (c : After-fetch) → at24 (c .before .before .before .before .blocks) (W3 (c .before .before .before .before) (c .before .before .before .loop .rs) (c .before .before .before .loop
@@ -2692,66 +1811,42 @@ module _ (claims· : Claims) where
             (
               tt,
               (
+                ((Path'.refl, Path'.refl), array-write-sums record { before = record { before = c .before; fetch = c .fetch }; rs = record { given = g } }),
                 (
-                  (Path'.refl, Path'.refl),
-                  array-write-sums
-                      record { before = record { before = c .before; fetch = c .fetch }; rs = record { given = g } },
-                ),
-                (
-                  mul-ns record {
-                    before = record { before = c .before; fetch = c .fetch };
-                    rs = record {
-                      given = g;
-                    };
-                  },
+                  mul-ns record { before = record { before = c .before; fetch = c .fetch }; rs = record { given = g } },
                   (
                     tt,
                     (
                       ((Path'.refl, Path'.refl), array-write-ns record { before = record { before = c .before; fetch = c .fetch }; rs = record { given = g } }),
                       (
-                        add-i record {
-                          before =
-                              record { before = c .before; fetch = c .fetch };
-                          rs = record { given = g };
-                        },
+                        add-i record { before = record { before = c .before; fetch = c .fetch }; rs = record { given = g } },
                         (
-                          μ·0 (Row.get 1 (T6 .locals) (m5 (c .before .before .before .before .κs) (c .before .before .before .before
-                              .args) (c .before .before .before .before .blocks)) .now) (Row.get 2 (T6 .locals) (m5 (c .before .before .before .before .κs) (c .before .before .before .before .args) (c .before .before
-                              .before .before .blocks))) (Row.get 3 (T6 .locals) (m5 (c .before .before .before .before .κs) (c .before .before .before .before .args) (c .before .before .before .before .blocks))) (Row.get
-                              4 (T6 .locals) (m5 (c .before .before .before .before .κs) (c .before .before .before .before .args) (c .before .before .before .before .blocks))) (Row.get 5 (T6 .locals) (m5 (c .before
-                              .before .before .before .κs) (c .before .before .before .before .args) (c .before .before .before .before .blocks))) (Row.get 1 (T6 .locals) (m33 record {
-                                before = c .before;
-                                fetch = c .fetch;
-                              } g) .now) (Row.get 3 (T6 .locals) (m33 record { before = c .before; fetch = c .fetch } g)) (Row.get 4 (T6 .locals) (m33 record { before = c .before; fetch = c .fetch } g)) (Row.get 5 (T6
-                              .locals) (m33 record { before = c .before; fetch = c .fetch } g)),
+                          μ·0 (Row.get 1 (T6 .locals) (m5 (c .before .before .before .before .κs) (c .before .before .before .before .args) (c .before .before .before .before .blocks)) .now) (Row.get 2 (T6 .locals)
+                              (m5 (c .before .before .before .before .κs) (c .before .before .before .before .args) (c .before .before .before .before .blocks))) (Row.get 3 (T6 .locals) (m5 (c .before .before .before
+                              .before .κs) (c .before .before .before .before .args) (c .before .before .before .before .blocks))) (Row.get 4 (T6 .locals) (m5 (c .before .before .before .before .κs) (c .before .before
+                              .before .before .args) (c .before .before .before .before .blocks))) (Row.get 5 (T6 .locals) (m5 (c .before .before .before .before .κs) (c .before .before .before .before .args) (c .before
+                              .before .before .before .blocks))) (Row.get 1 (T6 .locals) (m33 record { before = c .before; fetch = c .fetch } g) .now) (Row.get 3 (T6 .locals) (m33 record
+                              { before = c .before; fetch = c .fetch } g)) (Row.get 4 (T6 .locals) (m33 record { before = c .before; fetch = c .fetch } g)) (Row.get 5 (T6 .locals) (m33 record
+                              { before = c .before; fetch = c .fetch } g)),
                           loop-less record { before = record { before = c .before; fetch = c .fetch }; rs = record { given = g } },
                           (
                             (
-                              Row.get 1 (T6
-                                  .locals) (m33 record { before = c .before; fetch = c .fetch } g) .now,
+                              Row.get 1 (T6 .locals) (m33 record { before = c .before; fetch = c .fetch } g) .now,
                               Row.get 3 (T6 .locals) (m33 record { before = c .before; fetch = c .fetch } g),
-                              Row.get 4 (T6 .locals) (m33 record {
-                                before = c .before;
-                                fetch = c .fetch;
-                              } g),
+                              Row.get 4 (T6 .locals)
+                                  (m33 record { before = c .before; fetch = c .fetch } g),
                               Row.get 5 (T6 .locals) (m33 record { before = c .before; fetch = c .fetch } g),
                             ),
-                            Path'.refl {a = m33 record {
-                              before = c .before;
-                              fetch = c
-                                  .fetch;
-                            } g},
+                            Path'.refl {a = m33 record
+                                { before = c .before; fetch = c .fetch } g},
                             loop-again record { before = record { before = c .before; fetch = c .fetch }; rs = record { given = g } },
-                            Path'.refl {a = μ·0 (Row.get 1 (T6 .locals) (m5 (c .before .before
-                                .before .before .κs) (c .before .before .before .before .args) (c .before .before .before .before .blocks)) .now) (Row.get 2 (T6 .locals) (m5 (c .before .before .before .before .κs) (c .before
-                                .before .before .before .args) (c .before .before .before .before .blocks))) (Row.get 3 (T6 .locals) (m5 (c .before .before .before .before .κs) (c .before .before .before .before .args) (c
-                                .before .before .before .before .blocks))) (Row.get 4 (T6 .locals) (m5 (c .before .before .before .before .κs) (c .before .before .before .before .args) (c .before .before .before .before
-                                .blocks))) (Row.get 5 (T6 .locals) (m5 (c .before .before .before .before .κs) (c .before .before .before .before .args) (c .before .before .before .before .blocks))) (Row.get 1 (T6 .locals)
-                                (m33 record { before = c .before; fetch = c .fetch } g) .now) (Row.get 3 (T6 .locals) (m33 record { before = c .before; fetch = c .fetch } g)) (Row.get 4 (T6 .locals) (m33 record {
-                                  before =
-                                      c .before;
-                                  fetch = c .fetch;
-                                } g)) (Row.get 5 (T6 .locals) (m33 record { before = c .before; fetch = c .fetch } g))},
+                            Path'.refl {a = μ·0 (Row.get 1 (T6
+                                .locals) (m5 (c .before .before .before .before .κs) (c .before .before .before .before .args) (c .before .before .before .before .blocks)) .now) (Row.get 2 (T6 .locals) (m5 (c .before .before
+                                .before .before .κs) (c .before .before .before .before .args) (c .before .before .before .before .blocks))) (Row.get 3 (T6 .locals) (m5 (c .before .before .before .before .κs) (c .before
+                                .before .before .before .args) (c .before .before .before .before .blocks))) (Row.get 4 (T6 .locals) (m5 (c .before .before .before .before .κs) (c .before .before .before .before .args) (c
+                                .before .before .before .before .blocks))) (Row.get 5 (T6 .locals) (m5 (c .before .before .before .before .κs) (c .before .before .before .before .args) (c .before .before .before .before
+                                .blocks))) (Row.get 1 (T6 .locals) (m33 record { before = c .before; fetch = c .fetch } g) .now) (Row.get 3 (T6 .locals) (m33 record { before = c .before; fetch = c .fetch } g)) (Row.get 4
+                                (T6 .locals) (m33 record { before = c .before; fetch = c .fetch } g)) (Row.get 5 (T6 .locals) (m33 record { before = c .before; fetch = c .fetch } g))},
                           ),
                         ),
                       ),
@@ -2769,25 +1864,13 @@ module _ (claims· : Claims) where
           (
             mul-fetch record { before = record { before = c .before; loop-test = c .loop-test }; fetch-arg = record { given = g } },
             (
-              add-fetch record {
-                before = record
-                    { before = c .before; loop-test = c .loop-test };
-                fetch-arg = record { given = g };
-              },
+              add-fetch record { before = record { before = c .before; loop-test = c .loop-test }; fetch-arg = record { given = g } },
               (
-                fetch-requires record {
-                  before = record { before = c .before; loop-test = c .loop-test };
-                  fetch-arg =
-                      record { given = g };
-                },
+                fetch-requires record { before = record { before = c .before; loop-test = c .loop-test }; fetch-arg = record { given = g } },
                 λ g'. lay4 record {
                   before = record { before = record { before = c .before; loop-test = c .loop-test }; fetch-arg = record { given = g } };
-                  fetch = Called.called ps·0
-                      r·0 (claims· .1) T17 (record { pos = 9; ty = Syntax.tyRef Syntax.erased Syntax.mut Element.behind; ref = λ x. x }, (Num.vAt 11 λ x. x, tt)) (m14 record {
-                        before = c .before;
-                        loop-test = c
-                            .loop-test;
-                      } g) g';
+                  fetch = Called.called ps·0 r·0 (claims· .1) T17
+                      (record { pos = 9; ty = Syntax.tyRef Syntax.erased Syntax.mut Element.behind; ref = λ x. x }, (Num.vAt 11 λ x. x, tt)) (m14 record { before = c .before; loop-test = c .loop-test } g) g';
                 },
               ),
             ),
@@ -2808,9 +1891,9 @@ module _ (claims· : Claims) where
             (
               Row.get 1 (T6 .locals) (m5 (c .κs) (c .args) (c .blocks)) .now,
               Row.get 3 (T6 .locals) (m5 (c .κs) (c .args) (c .blocks)),
-              Row.get 4 (T6 .locals) (m5 (c .κs) (c .args) (c
-                  .blocks)),
-              Row.get 5 (T6 .locals) (m5 (c .κs) (c .args) (c .blocks)),
+              Row.get 4 (T6 .locals) (m5 (c .κs) (c .args) (c .blocks)),
+              Row.get
+                  5 (T6 .locals) (m5 (c .κs) (c .args) (c .blocks)),
             ),
             Path'.refl {a = m5 (c .κs) (c .args) (c .blocks)},
             loop-holds c,
@@ -2819,18 +1902,14 @@ module _ (claims· : Claims) where
             tt,
             (
               λ taken. lay1 record {
-                before =
-                    record { before = c; loop = record { rs = vs .0; sums = vs .1; ns = vs .2; i = vs .3; inv = inv } };
-                loop-test = record {
-                  taken = Tests.ltb-true (Row.get 5 (T6 .locals) (m6 c (vs .0) (vs .1)
-                      (vs .2) (vs .3))) 112 taken;
-                };
+                before = record { before = c; loop = record { rs = vs .0; sums = vs .1; ns = vs .2; i = vs .3; inv = inv } };
+                loop-test = record
+                    { taken = Tests.ltb-true (Row.get 5 (T6 .locals) (m6 c (vs .0) (vs .1) (vs .2) (vs .3))) 112 taken };
               },
               λ left. lay2 record {
                 before = record { before = c; loop = record { rs = vs .0; sums = vs .1; ns = vs .2; i = vs .3; inv = inv } };
-                loop-test = record {
-                  left = Tests.ltb-false (Row.get 5 (T6 .locals) (m6 c (vs .0) (vs .1) (vs .2) (vs .3))) 112 left;
-                };
+                loop-test = record
+                    { left = Tests.ltb-false (Row.get 5 (T6 .locals) (m6 c (vs .0) (vs .1) (vs .2) (vs .3))) 112 left };
               },
             ),
           ),

@@ -38,6 +38,9 @@ use mir.Val
 use prog.Wp
 use types.Kit
 
+abbrev pub y0 : Syntax.Ty
+y0 = Syntax.tyStruct (List._∷_ 38 (List._∷_ 91 (List._∷_ 93 List.[]))) (Syntax.tcons (Syntax.tyRef Syntax.erased Syntax.mut Element.behind) (Syntax.tcons (Syntax.tyInt Syntax.w64) Syntax.tnil))
+
 abbrev pub ps : List.List (Kinds.PK 1)
 ps = List._∷_ (MutSlice.pMutS (Element.type) 0 tt) (List._∷_ (Num.pNum Syntax.w32) (List._∷_ (Num.pNum Syntax.w32) (List._∷_ Bool.pBool List.[])))
 
@@ -45,8 +48,7 @@ abbrev pub r : Kinds.RK 1
 r = Unit'.rUnit
 
 abbrev pub xs : List.List Syntax.Ty
-xs = List._∷_ Syntax.tyBool (List._∷_ Syntax.tyUnit (List._∷_ (Syntax.tyRef Syntax.erased Syntax.mut Element.behind) (List._∷_ (Syntax.tyStruct (List._∷_ 38 (List._∷_ 91 (List._∷_ 93 List.[])))
-    (Syntax.tcons (Syntax.tyRef Syntax.erased Syntax.mut Element.behind) (Syntax.tcons (Syntax.tyInt Syntax.w64) Syntax.tnil))) List.[])))
+xs = List._∷_ Syntax.tyBool (List._∷_ Syntax.tyUnit (List._∷_ (Syntax.tyRef Syntax.erased Syntax.mut Element.behind) (List._∷_ y0 List.[])))
 
 abbrev pub m : Nat.ℕ
 m = 1
@@ -107,116 +109,86 @@ body = b12
 abbrev pub Claims : Type 1
 Claims = Kinds.In 1 ps·0 × Kinds.Out 1 ps·0 r·0
 
+abbrev pub e0 : Row.Entry
+e0 = (0, Rows.any-gone Syntax.tyUnit)
+
+abbrev pub e1 : Row.Entry
+e1 = (0, Rows.sc-here Row.sUnit)
+
+abbrev pub e2 : Row.Entry
+e2 = (1, Mut.mslice (Element.type) (Syntax.tyRef (Syntax.named 0) Syntax.mut Element.behind) 0)
+
+abbrev pub e3 : Row.Entry
+e3 = (1, Relend.mslice-owed (Element.type) (Syntax.tyRef (Syntax.named 0) Syntax.mut Element.behind) 0 1 Row.off)
+
+abbrev pub e4 : Row.Entry
+e4 = (2, Rows.any-gone (Syntax.tyInt Syntax.w32))
+
+abbrev pub e5 : Row.Entry
+e5 = (2, Rows.sc-here (Row.sInt Syntax.w32))
+
+abbrev pub e6 : Row.Entry
+e6 = (3, Rows.any-gone (Syntax.tyInt Syntax.w32))
+
+abbrev pub e7 : Row.Entry
+e7 = (3, Rows.sc-here (Row.sInt Syntax.w32))
+
+abbrev pub e8 : Row.Entry
+e8 = (4, Rows.sc-here Row.sBool)
+
+abbrev pub e9 : Row.Entry
+e9 = (5, Rows.any-gone Syntax.tyBool)
+
+abbrev pub e10 : Row.Entry
+e10 = (6, Rows.any-gone Syntax.tyUnit)
+
+abbrev pub e11 : Row.Entry
+e11 = (6, Rows.sc-here Row.sUnit)
+
+abbrev pub e12 : Row.Entry
+e12 = (7, Relend.msptr (Element.type) (Syntax.tyRef Syntax.erased Syntax.mut Element.behind) 1)
+
+abbrev pub e13 : Row.Entry
+e13 = (7, Rows.any-gone (Syntax.tyRef Syntax.erased Syntax.mut Element.behind))
+
+abbrev pub e14 : Row.Entry
+e14 = (8, Mut.msleft (Element.type) (Syntax.tyRef Syntax.erased Syntax.mut Element.behind))
+
+abbrev pub e15 : Row.Entry
+e15 = (8, Mut.mslice (Element.type) (Syntax.tyRef Syntax.erased Syntax.mut Element.behind) 1)
+
+abbrev pub e16 : Row.Entry
+e16 = (8, Rows.any-gone y0)
+
 abbrev pub t0 : List.List Row.Entry
-t0 = List._∷_ (0, Rows.any-gone Syntax.tyUnit) (List._∷_ (1, Mut.mslice (Element.type) (Syntax.tyRef (Syntax.named 0) Syntax.mut Element.behind) 0) (List._∷_ (2, Rows.sc-here (Row.sInt Syntax.w32))
-    (List._∷_ (3, Rows.sc-here (Row.sInt Syntax.w32)) (List._∷_ (4, Rows.sc-here Row.sBool) (List._∷_ (5, Rows.any-gone Syntax.tyBool) (List._∷_ (6, Rows.any-gone Syntax.tyUnit) (List._∷_ (
-      7,
-      Rows.any-gone (Syntax.tyRef Syntax.erased Syntax.mut Element.behind),
-    ) (List._∷_ (
-      8,
-      Rows.any-gone (Syntax.tyStruct (List._∷_ 38 (List._∷_ 91 (List._∷_ 93 List.[]))) (Syntax.tcons (Syntax.tyRef
-          Syntax.erased Syntax.mut Element.behind) (Syntax.tcons (Syntax.tyInt Syntax.w64) Syntax.tnil))),
-    ) List.[]))))))))
+t0 = List._∷_ e0 (List._∷_ e2 (List._∷_ e5 (List._∷_ e7 (List._∷_ e8 (List._∷_ e9 (List._∷_ e10 (List._∷_ e13 (List._∷_ e16 List.[]))))))))
 
 abbrev pub t1 : List.List Row.Entry
-t1 = List._∷_ (0, Rows.sc-here Row.sUnit) (List._∷_ (1, Mut.mslice (Element.type) (Syntax.tyRef (Syntax.named 0) Syntax.mut Element.behind) 0) (List._∷_ (2, Rows.any-gone (Syntax.tyInt Syntax.w32))
-    (List._∷_ (3, Rows.any-gone (Syntax.tyInt Syntax.w32)) (List._∷_ (4, Rows.any-gone Syntax.tyBool) (List._∷_ (5, Rows.any-gone Syntax.tyBool) (List._∷_ (6, Rows.any-gone Syntax.tyUnit) (List._∷_ (
-      7,
-      Rows.any-gone (Syntax.tyRef Syntax.erased Syntax.mut Element.behind),
-    ) (List._∷_ (
-      8,
-      Rows.any-gone (Syntax.tyStruct (List._∷_ 38 (List._∷_ 91 (List._∷_ 93 List.[]))) (Syntax.tcons (Syntax.tyRef
-          Syntax.erased Syntax.mut Element.behind) (Syntax.tcons (Syntax.tyInt Syntax.w64) Syntax.tnil))),
-    ) List.[]))))))))
+t1 = List._∷_ e1 (List._∷_ e2 (List._∷_ e4 (List._∷_ e6 (List._∷_ (4, Rows.any-gone Syntax.tyBool) (List._∷_ e9 (List._∷_ e10 (List._∷_ e13 (List._∷_ e16 List.[]))))))))
 
 abbrev pub t2 : List.List Row.Entry
-t2 = List._∷_ (0, Rows.any-gone Syntax.tyUnit) (List._∷_ (1, Mut.mslice (Element.type) (Syntax.tyRef (Syntax.named 0) Syntax.mut Element.behind) 0) (List._∷_ (2, Rows.sc-here (Row.sInt Syntax.w32))
-    (List._∷_ (3, Rows.sc-here (Row.sInt Syntax.w32)) (List._∷_ (4, Rows.sc-here Row.sBool) (List._∷_ (5, Rows.sc-here Row.sBool) (List._∷_ (6, Rows.any-gone Syntax.tyUnit) (List._∷_ (
-      7,
-      Rows.any-gone (Syntax.tyRef Syntax.erased Syntax.mut Element.behind),
-    ) (List._∷_ (
-      8,
-      Rows.any-gone (Syntax.tyStruct (List._∷_ 38 (List._∷_ 91 (List._∷_ 93 List.[]))) (Syntax.tcons (Syntax.tyRef
-          Syntax.erased Syntax.mut Element.behind) (Syntax.tcons (Syntax.tyInt Syntax.w64) Syntax.tnil))),
-    ) List.[]))))))))
+t2 = List._∷_ e0 (List._∷_ e2 (List._∷_ e5 (List._∷_ e7 (List._∷_ e8 (List._∷_ (5, Rows.sc-here Row.sBool) (List._∷_ e10 (List._∷_ e13 (List._∷_ e16 List.[]))))))))
 
 abbrev pub t3 : List.List Row.Entry
-t3 = List._∷_ (0, Rows.any-gone Syntax.tyUnit) (List._∷_ (1, Relend.mslice-owed (Element.type) (Syntax.tyRef (Syntax.named 0) Syntax.mut Element.behind) 0 1 Row.off) (List._∷_ (
-  2,
-  Rows.sc-here
-      (Row.sInt Syntax.w32),
-) (List._∷_ (3, Rows.sc-here (Row.sInt Syntax.w32)) (List._∷_ (4, Rows.sc-here Row.sBool) (List._∷_ (5, Rows.any-gone Syntax.tyBool) (List._∷_ (
-  6,
-  Rows.any-gone Syntax.tyUnit,
-) (List._∷_ (7, Relend.msptr (Element.type) (Syntax.tyRef Syntax.erased Syntax.mut Element.behind) 1) (List._∷_ (
-  8,
-  Rows.any-gone (Syntax.tyStruct (List._∷_ 38 (List._∷_ 91 (List._∷_ 93 List.[])))
-      (Syntax.tcons (Syntax.tyRef Syntax.erased Syntax.mut Element.behind) (Syntax.tcons (Syntax.tyInt Syntax.w64) Syntax.tnil))),
-) List.[]))))))))
+t3 = List._∷_ e0 (List._∷_ e3 (List._∷_ e5 (List._∷_ e7 (List._∷_ e8 (List._∷_ e9 (List._∷_ e10 (List._∷_ e12 (List._∷_ e16 List.[]))))))))
 
 abbrev pub t4 : List.List Row.Entry
-t4 = List._∷_ (0, Rows.any-gone Syntax.tyUnit) (List._∷_ (1, Relend.mslice-owed (Element.type) (Syntax.tyRef (Syntax.named 0) Syntax.mut Element.behind) 0 1 Row.off) (List._∷_ (
-  2,
-  Rows.sc-here
-      (Row.sInt Syntax.w32),
-) (List._∷_ (3, Rows.sc-here (Row.sInt Syntax.w32)) (List._∷_ (4, Rows.sc-here Row.sBool) (List._∷_ (5, Rows.any-gone Syntax.tyBool) (List._∷_ (
-  6,
-  Rows.any-gone Syntax.tyUnit,
-) (List._∷_ (7, Rows.any-gone (Syntax.tyRef Syntax.erased Syntax.mut Element.behind)) (List._∷_ (8, Mut.mslice (Element.type) (Syntax.tyRef Syntax.erased Syntax.mut Element.behind) 1)
-    List.[]))))))))
+t4 = List._∷_ e0 (List._∷_ e3 (List._∷_ e5 (List._∷_ e7 (List._∷_ e8 (List._∷_ e9 (List._∷_ e10 (List._∷_ e13 (List._∷_ e15 List.[]))))))))
 
 abbrev pub t5 : List.List Row.Entry
-t5 = List._∷_ (0, Rows.any-gone Syntax.tyUnit) (List._∷_ (1, Relend.mslice-owed (Element.type) (Syntax.tyRef (Syntax.named 0) Syntax.mut Element.behind) 0 1 Row.off) (List._∷_ (
-  2,
-  Rows.sc-here
-      (Row.sInt Syntax.w32),
-) (List._∷_ (3, Rows.sc-here (Row.sInt Syntax.w32)) (List._∷_ (4, Rows.sc-here Row.sBool) (List._∷_ (5, Rows.any-gone Syntax.tyBool) (List._∷_ (6, Rows.sc-here Row.sUnit)
-    (List._∷_ (7, Rows.any-gone (Syntax.tyRef Syntax.erased Syntax.mut Element.behind)) (List._∷_ (8, Mut.msleft (Element.type) (Syntax.tyRef Syntax.erased Syntax.mut Element.behind))
-    List.[]))))))))
+t5 = List._∷_ e0 (List._∷_ e3 (List._∷_ e5 (List._∷_ e7 (List._∷_ e8 (List._∷_ e9 (List._∷_ e11 (List._∷_ e13 (List._∷_ e14 List.[]))))))))
 
 abbrev pub t6 : List.List Row.Entry
-t6 = List._∷_ (0, Rows.any-gone Syntax.tyUnit) (List._∷_ (1, Relend.mslice-owed (Element.type) (Syntax.tyRef (Syntax.named 0) Syntax.mut Element.behind) 0 1 Row.off) (List._∷_ (
-  2,
-  Rows.sc-here
-      (Row.sInt Syntax.w32),
-) (List._∷_ (3, Rows.sc-here (Row.sInt Syntax.w32)) (List._∷_ (4, Rows.sc-here Row.sBool) (List._∷_ (5, Rows.any-gone Syntax.tyBool) (List._∷_ (
-  6,
-  Rows.any-gone Syntax.tyUnit,
-) (List._∷_ (7, Rows.any-gone (Syntax.tyRef Syntax.erased Syntax.mut Element.behind)) (List._∷_ (8, Mut.msleft (Element.type) (Syntax.tyRef Syntax.erased Syntax.mut Element.behind))
-    List.[]))))))))
+t6 = List._∷_ e0 (List._∷_ e3 (List._∷_ e5 (List._∷_ e7 (List._∷_ e8 (List._∷_ e9 (List._∷_ e10 (List._∷_ e13 (List._∷_ e14 List.[]))))))))
 
 abbrev pub t7 : List.List Row.Entry
-t7 = List._∷_ (0, Rows.sc-here Row.sUnit) (List._∷_ (1, Mut.mslice (Element.type) (Syntax.tyRef (Syntax.named 0) Syntax.mut Element.behind) 0) (List._∷_ (2, Rows.sc-here (Row.sInt Syntax.w32))
-    (List._∷_ (3, Rows.sc-here (Row.sInt Syntax.w32)) (List._∷_ (4, Rows.sc-here Row.sBool) (List._∷_ (5, Rows.any-gone Syntax.tyBool) (List._∷_ (6, Rows.any-gone Syntax.tyUnit) (List._∷_ (
-      7,
-      Rows.any-gone (Syntax.tyRef Syntax.erased Syntax.mut Element.behind),
-    ) (List._∷_ (
-      8,
-      Rows.any-gone (Syntax.tyStruct (List._∷_ 38 (List._∷_ 91 (List._∷_ 93 List.[]))) (Syntax.tcons (Syntax.tyRef
-          Syntax.erased Syntax.mut Element.behind) (Syntax.tcons (Syntax.tyInt Syntax.w64) Syntax.tnil))),
-    ) List.[]))))))))
+t7 = List._∷_ e1 (List._∷_ e2 (List._∷_ e5 (List._∷_ e7 (List._∷_ e8 (List._∷_ e9 (List._∷_ e10 (List._∷_ e13 (List._∷_ e16 List.[]))))))))
 
 abbrev pub t8 : List.List Row.Entry
-t8 = List._∷_ (0, Rows.sc-here Row.sUnit) (List._∷_ (1, Mut.mslice (Element.type) (Syntax.tyRef (Syntax.named 0) Syntax.mut Element.behind) 0) (List._∷_ (2, Rows.any-gone (Syntax.tyInt Syntax.w32))
-    (List._∷_ (3, Rows.sc-here (Row.sInt Syntax.w32)) (List._∷_ (4, Rows.sc-here Row.sBool) (List._∷_ (5, Rows.any-gone Syntax.tyBool) (List._∷_ (6, Rows.any-gone Syntax.tyUnit) (List._∷_ (
-      7,
-      Rows.any-gone (Syntax.tyRef Syntax.erased Syntax.mut Element.behind),
-    ) (List._∷_ (
-      8,
-      Rows.any-gone (Syntax.tyStruct (List._∷_ 38 (List._∷_ 91 (List._∷_ 93 List.[]))) (Syntax.tcons (Syntax.tyRef
-          Syntax.erased Syntax.mut Element.behind) (Syntax.tcons (Syntax.tyInt Syntax.w64) Syntax.tnil))),
-    ) List.[]))))))))
+t8 = List._∷_ e1 (List._∷_ e2 (List._∷_ e4 (List._∷_ e7 (List._∷_ e8 (List._∷_ e9 (List._∷_ e10 (List._∷_ e13 (List._∷_ e16 List.[]))))))))
 
 abbrev pub t9 : List.List Row.Entry
-t9 = List._∷_ (0, Rows.sc-here Row.sUnit) (List._∷_ (1, Mut.mslice (Element.type) (Syntax.tyRef (Syntax.named 0) Syntax.mut Element.behind) 0) (List._∷_ (2, Rows.any-gone (Syntax.tyInt Syntax.w32))
-    (List._∷_ (3, Rows.any-gone (Syntax.tyInt Syntax.w32)) (List._∷_ (4, Rows.sc-here Row.sBool) (List._∷_ (5, Rows.any-gone Syntax.tyBool) (List._∷_ (6, Rows.any-gone Syntax.tyUnit) (List._∷_ (
-      7,
-      Rows.any-gone (Syntax.tyRef Syntax.erased Syntax.mut Element.behind),
-    ) (List._∷_ (
-      8,
-      Rows.any-gone (Syntax.tyStruct (List._∷_ 38 (List._∷_ 91 (List._∷_ 93 List.[]))) (Syntax.tcons (Syntax.tyRef
-          Syntax.erased Syntax.mut Element.behind) (Syntax.tcons (Syntax.tyInt Syntax.w64) Syntax.tnil))),
-    ) List.[]))))))))
+t9 = List._∷_ e1 (List._∷_ e2 (List._∷_ e4 (List._∷_ e6 (List._∷_ e8 (List._∷_ e9 (List._∷_ e10 (List._∷_ e13 (List._∷_ e16 List.[]))))))))
 
 abbrev pub T0 : Row.Cx
 T0 = record { locals = t0; slots = List.[] }
@@ -369,40 +341,20 @@ module _ (claims· : Claims) where
 
       module _ (κs : Lifetimes.Lfts 1) (qs : Lifetimes.Shares 1) where
         abbrev g3 : List.List Row.Entry
-        g3 = List._∷_ (0, Rows.any-gone Syntax.tyUnit) (List._∷_ (1, Relend.mslice-owed (Element.type) (Syntax.tyRef (Syntax.named 0) Syntax.mut Element.behind) 0 1 (Row.lease (κs .0) (qs .0)))
-            (List._∷_ (2, Rows.sc-here (Row.sInt Syntax.w32)) (List._∷_ (3, Rows.sc-here (Row.sInt Syntax.w32)) (List._∷_ (4, Rows.sc-here Row.sBool) (List._∷_ (5, Rows.any-gone Syntax.tyBool)
-            (List._∷_ (6, Rows.any-gone Syntax.tyUnit) (List._∷_ (7, Relend.msptr (Element.type) (Syntax.tyRef Syntax.erased Syntax.mut Element.behind) 1) (List._∷_ (
-              8,
-              Rows.any-gone (Syntax.tyStruct
-                  (List._∷_ 38 (List._∷_ 91 (List._∷_ 93 List.[]))) (Syntax.tcons (Syntax.tyRef Syntax.erased Syntax.mut Element.behind) (Syntax.tcons (Syntax.tyInt Syntax.w64) Syntax.tnil))),
-            ) List.[]))))))))
+        g3 = List._∷_ e0 (List._∷_ (1, Relend.mslice-owed (Element.type) (Syntax.tyRef (Syntax.named 0) Syntax.mut Element.behind) 0 1 (Row.lease (κs .0) (qs .0))) (List._∷_ e5 (List._∷_ e7 (List._∷_
+            e8 (List._∷_ e9 (List._∷_ e10 (List._∷_ e12 (List._∷_ e16 List.[]))))))))
 
         abbrev g4 : List.List Row.Entry
-        g4 = List._∷_ (0, Rows.any-gone Syntax.tyUnit) (List._∷_ (1, Relend.mslice-owed (Element.type) (Syntax.tyRef (Syntax.named 0) Syntax.mut Element.behind) 0 1 (Row.lease (κs .0) (qs .0)))
-            (List._∷_ (2, Rows.sc-here (Row.sInt Syntax.w32)) (List._∷_ (3, Rows.sc-here (Row.sInt Syntax.w32)) (List._∷_ (4, Rows.sc-here Row.sBool) (List._∷_ (5, Rows.any-gone Syntax.tyBool)
-            (List._∷_ (6, Rows.any-gone Syntax.tyUnit) (List._∷_ (7, Rows.any-gone (Syntax.tyRef Syntax.erased Syntax.mut Element.behind)) (List._∷_ (
-              8,
-              Mut.mslice (Element.type) (Syntax.tyRef
-                  Syntax.erased Syntax.mut Element.behind) 1,
-            ) List.[]))))))))
+        g4 = List._∷_ e0 (List._∷_ (1, Relend.mslice-owed (Element.type) (Syntax.tyRef (Syntax.named 0) Syntax.mut Element.behind) 0 1 (Row.lease (κs .0) (qs .0))) (List._∷_ e5 (List._∷_ e7 (List._∷_
+            e8 (List._∷_ e9 (List._∷_ e10 (List._∷_ e13 (List._∷_ e15 List.[]))))))))
 
         abbrev g5 : List.List Row.Entry
-        g5 = List._∷_ (0, Rows.any-gone Syntax.tyUnit) (List._∷_ (1, Relend.mslice-owed (Element.type) (Syntax.tyRef (Syntax.named 0) Syntax.mut Element.behind) 0 1 (Row.lease (κs .0) (qs .0)))
-            (List._∷_ (2, Rows.sc-here (Row.sInt Syntax.w32)) (List._∷_ (3, Rows.sc-here (Row.sInt Syntax.w32)) (List._∷_ (4, Rows.sc-here Row.sBool) (List._∷_ (5, Rows.any-gone Syntax.tyBool)
-            (List._∷_ (6, Rows.sc-here Row.sUnit) (List._∷_ (7, Rows.any-gone (Syntax.tyRef Syntax.erased Syntax.mut Element.behind)) (List._∷_ (
-              8,
-              Mut.msleft (Element.type) (Syntax.tyRef
-                  Syntax.erased Syntax.mut Element.behind),
-            ) List.[]))))))))
+        g5 = List._∷_ e0 (List._∷_ (1, Relend.mslice-owed (Element.type) (Syntax.tyRef (Syntax.named 0) Syntax.mut Element.behind) 0 1 (Row.lease (κs .0) (qs .0))) (List._∷_ e5 (List._∷_ e7 (List._∷_
+            e8 (List._∷_ e9 (List._∷_ e11 (List._∷_ e13 (List._∷_ e14 List.[]))))))))
 
         abbrev g6 : List.List Row.Entry
-        g6 = List._∷_ (0, Rows.any-gone Syntax.tyUnit) (List._∷_ (1, Relend.mslice-owed (Element.type) (Syntax.tyRef (Syntax.named 0) Syntax.mut Element.behind) 0 1 (Row.lease (κs .0) (qs .0)))
-            (List._∷_ (2, Rows.sc-here (Row.sInt Syntax.w32)) (List._∷_ (3, Rows.sc-here (Row.sInt Syntax.w32)) (List._∷_ (4, Rows.sc-here Row.sBool) (List._∷_ (5, Rows.any-gone Syntax.tyBool)
-            (List._∷_ (6, Rows.any-gone Syntax.tyUnit) (List._∷_ (7, Rows.any-gone (Syntax.tyRef Syntax.erased Syntax.mut Element.behind)) (List._∷_ (
-              8,
-              Mut.msleft (Element.type) (Syntax.tyRef
-                  Syntax.erased Syntax.mut Element.behind),
-            ) List.[]))))))))
+        g6 = List._∷_ e0 (List._∷_ (1, Relend.mslice-owed (Element.type) (Syntax.tyRef (Syntax.named 0) Syntax.mut Element.behind) 0 1 (Row.lease (κs .0) (qs .0))) (List._∷_ e5 (List._∷_ e7 (List._∷_
+            e8 (List._∷_ e9 (List._∷_ e10 (List._∷_ e13 (List._∷_ e14 List.[]))))))))
 
         abbrev G0 : Row.Cx
         G0 = record { locals = t0; slots = List._∷_ (Row.lease (κs .0) (qs .0)) (List._∷_ Row.off List.[]) }
@@ -473,46 +425,26 @@ module _ (claims· : Claims) where
           d0 = Typed.s-typed 𝓤 H A W 𝓣 E G7 b3 Δ1 (λ Ψ. Typed.both s5 (Typed.pass T8 T9 s6 (Typed.both s8 Ψ))) tt (Typed.g-post 𝓤 H A W 𝓣 E G7 G11 G12 b3 (λ Ψ. Typed.both s5 (Typed.pass T8 T9 s6
               (Typed.both s8 Ψ))) (λ Ψ. Ψ) (Typed.g-post 𝓤 H A W 𝓣 E G7 G10 G11 b3 (λ Ψ. Typed.both s5 (Typed.pass T8 T9 s6 Ψ)) (Typed.both s8) (Typed.g-post 𝓤 H A W 𝓣 E G7 G9 G10 b3 (λ Ψ. Typed.both s5
               (Typed.pass T8 T9 s6 Ψ)) (λ Ψ. Ψ) (Typed.g-post 𝓤 H A W 𝓣 E G7 G8 G9 b3 (Typed.both s5) (Typed.pass T8 T9 s6) (Plain.t-call-plain 𝓤 H A W 𝓣 1 ps·0 r·0 (claims· .0) (claims· .1)
-              "block::records::restart_main" known E (λ pos β. β) G7 (
-                record { pos = 8; ty = Syntax.tyRef Syntax.erased Syntax.mut Element.behind; ref = λ x. x },
-                (
-                  Num.vAt 2 λ x. x,
-                  (
-                    Num.vAt 3 λ x. x,
-                    tt,
-                  ),
-                ),
-              ) 6 (List._∷_ 1 List.[]) (Call.sub-id 𝓤 H A W (G7 .slots)) (
+              "block::records::restart_main" known E (λ pos β. β) G7
+              (record { pos = 8; ty = Syntax.tyRef Syntax.erased Syntax.mut Element.behind; ref = λ x. x }, (Num.vAt 2 λ x. x, (Num.vAt 3 λ x. x, tt))) 6 (List._∷_ 1 List.[]) (Call.sub-id 𝓤 H A W (G7
+              .slots)) (
                 Reads.as-is 𝓤 H A (Mut.mslice (Element.type) (Syntax.tyRef Syntax.erased Syntax.mut Element.behind) 1),
-                Mut.reads-mslice 𝓤
-                    H A W (Element.type) (Syntax.tyRef Syntax.erased Syntax.mut Element.behind) 1,
+                Mut.reads-mslice 𝓤 H A W (Element.type) (Syntax.tyRef Syntax.erased Syntax.mut
+                    Element.behind) 1,
                 Path'.refl,
-                (
-                  (Scalar.reads-sc 𝓤 H A W (Row.sInt Syntax.w32), Path'.refl),
-                  (
-                    (
-                      Scalar.reads-sc 𝓤 H A W (Row.sInt
-                          Syntax.w32),
-                      Path'.refl,
-                    ),
-                    tt,
-                  ),
-                ),
-              ) (Reads.room-gone 𝓤 H A Syntax.tyUnit) (tt, tt) Path'.refl) (Scalar.g-room 𝓤 H A W E G8 6 Syntax.tyUnit (Scalar.room-sc 𝓤 H A W Row.sUnit)))
-              (Lifetime.g-end 𝓤 H A W E G9 1 Path'.refl)) (Relend.g-back-sl 𝓤 H A W E (Element.type) G10 8 1 0 1 (Syntax.tyRef (Syntax.named 0) Syntax.mut Element.behind) (Syntax.tyRef Syntax.erased
-              Syntax.mut Element.behind) (Row.lease (κs .0) (qs .0)) (λ x. x) (λ x. x) (Reads.as-is 𝓤 H A (Mut.msleft (Element.type) (Syntax.tyRef Syntax.erased Syntax.mut Element.behind))) (Reads.as-is 𝓤
-              H A (Relend.mslice-owed (Element.type) (Syntax.tyRef (Syntax.named 0) Syntax.mut Element.behind) 0 1 (Row.lease (κs .0) (qs .0)))) Path'.refl Path'.refl)) (Lifetime.g-forget 𝓤 H A W E G11 1
-              Row.dead Path'.refl))
+                ((Scalar.reads-sc 𝓤 H A W (Row.sInt Syntax.w32), Path'.refl), ((Scalar.reads-sc 𝓤 H A W (Row.sInt Syntax.w32), Path'.refl), tt)),
+              ) (Reads.room-gone 𝓤 H A
+              Syntax.tyUnit) (tt, tt) Path'.refl) (Scalar.g-room 𝓤 H A W E G8 6 Syntax.tyUnit (Scalar.room-sc 𝓤 H A W Row.sUnit))) (Lifetime.g-end 𝓤 H A W E G9 1 Path'.refl)) (Relend.g-back-sl 𝓤 H A W E
+              (Element.type) G10 8 1 0 1 (Syntax.tyRef (Syntax.named 0) Syntax.mut Element.behind) (Syntax.tyRef Syntax.erased Syntax.mut Element.behind) (Row.lease (κs .0) (qs .0)) (λ x. x) (λ x. x)
+              (Reads.as-is 𝓤 H A (Mut.msleft (Element.type) (Syntax.tyRef Syntax.erased Syntax.mut Element.behind))) (Reads.as-is 𝓤 H A (Relend.mslice-owed (Element.type) (Syntax.tyRef (Syntax.named 0)
+              Syntax.mut Element.behind) 0 1 (Row.lease (κs .0) (qs .0)))) Path'.refl Path'.refl)) (Lifetime.g-forget 𝓤 H A W E G11 1 Row.dead Path'.refl))
 
           d1 : Typed.Typed 𝓤 H A 𝓣 E G6 b4 Δ1 at1
           d1 = Typed.s-seq 𝓤 H A W 𝓣 E G6 G7 b2 b3 Δ1 (Typed.ask s4) at0 (Relend.t-sl-aggregate 𝓤 H A W E (Element.type) 𝓣 (Relend.asMut (Element.type)) G6 7 8 1 (Syntax.tyRef Syntax.erased Syntax.mut
               Element.behind) (Syntax.tyRef Syntax.erased Syntax.mut Element.behind) (λ x. x) (Scalar.oFld 1 (List._∷_ (Syntax.field 1) List.[]) (Syntax.tyInt Syntax.w64) 8 λ v. Shared.lenV (v .0))
-              (Reads.as-is 𝓤 H A (Relend.msptr (Element.type) (Syntax.tyRef Syntax.erased Syntax.mut Element.behind) 1)) (Reads.room-gone 𝓤 H A (Syntax.tyStruct (List._∷_ 38 (List._∷_ 91 (List._∷_ 93
-              List.[]))) (Syntax.tcons (Syntax.tyRef Syntax.erased Syntax.mut Element.behind) (Syntax.tcons (Syntax.tyInt Syntax.w64) Syntax.tnil)))) (
-                Relend.reads-owed-len 𝓤 H A W (Element.type)
-                    (Syntax.tyRef (Syntax.named 0) Syntax.mut Element.behind) 0 1 (Row.lease (κs .0) (qs .0)) 8 Path'.refl,
-                Path'.refl,
-              ) Path'.refl Path'.refl λ b o k. tt) d0
+              (Reads.as-is 𝓤 H A (Relend.msptr (Element.type) (Syntax.tyRef Syntax.erased Syntax.mut Element.behind) 1)) (Reads.room-gone 𝓤 H A y0)
+              (Relend.reads-owed-len 𝓤 H A W (Element.type) (Syntax.tyRef (Syntax.named 0) Syntax.mut Element.behind) 0 1 (Row.lease (κs .0) (qs .0)) 8 Path'.refl, Path'.refl) Path'.refl Path'.refl λ b o
+              k. tt) d0
 
           d2 : Typed.Typed 𝓤 H A 𝓣 E G5 b5 Δ1 at2
           d2 = Typed.s-seq 𝓤 H A W 𝓣 E G5 G6 b1 b4 Δ1 (Typed.give s3) at1 (Relend.t-sl-relend 𝓤 H A W E (Element.type) 𝓣 G5 1 7 0 1 (Syntax.tyRef (Syntax.named 0) Syntax.mut Element.behind)
@@ -583,8 +515,8 @@ module _ (claims· : Claims) where
       W0 = λ κs args. (
         λ u. ⊥,
         tt,
-        λ u. Enter.Fixs κs 1 ps xs (dens κs args) (u .1) × Post· κs (dens κs args) (Function.resV r κs (u .0)) (Clauses.atExit (Kinds.endedOf 1 ps r) κs (dens κs args)
-            (Enter.lastsP κs 1 ps xs (dens κs args) (u .1))),
+        λ u. Enter.Fixs κs 1 ps xs (dens κs args) (u .1) × Post· κs (dens κs args) (Function.resV r κs (u .0)) (Clauses.atExit (Kinds.endedOf 1 ps r) κs (dens κs args) (Enter.lastsP κs 1 ps
+            xs (dens κs args) (u .1))),
       )
 
       pub record Start : Type 0 where
@@ -636,34 +568,18 @@ module _ (claims· : Claims) where
 
       module _ (before· : After-restart-main-arg) where
         abbrev pub After-restart-main·own : Type 0
-        After-restart-main·own = Called.Called ps·0 r·0 (claims· .1) T7 (
-          record { pos = 8; ty = Syntax.tyRef Syntax.erased Syntax.mut Element.behind; ref = λ x. x },
-          (
-            Num.vAt 2 λ x. x,
-            (
-              Num.vAt 3 λ
-                  x. x,
-              tt,
-            ),
-          ),
-        ) (m4 (before· .before) (before· .restart-main-arg .given))
+        After-restart-main·own = Called.Called ps·0 r·0 (claims· .1) T7
+            (record { pos = 8; ty = Syntax.tyRef Syntax.erased Syntax.mut Element.behind; ref = λ x. x }, (Num.vAt 2 λ x. x, (Num.vAt 3 λ x. x, tt))) (m4 (before· .before) (before· .restart-main-arg
+            .given))
 
       pub record After-restart-main : Type 0 where
         pub before : After-restart-main-arg
         pub restart-main : After-restart-main·own before
 
       abbrev pub After-restart-main·gave : (c : After-restart-main) → s5 .gives (m4 (c .before .before) (c .before .restart-main-arg .given))
-      After-restart-main·gave = λ c. Called.given ps·0 r·0 (claims· .1) T7 (
-        record { pos = 8; ty = Syntax.tyRef Syntax.erased Syntax.mut Element.behind; ref = λ x. x },
-        (
-          Num.vAt 2 λ x. x,
-          (
-            Num.vAt 3
-                λ x. x,
-            tt,
-          ),
-        ),
-      ) (m4 (c .before .before) (c .before .restart-main-arg .given)) (c .restart-main)
+      After-restart-main·gave = λ c. Called.given ps·0 r·0 (claims· .1) T7
+          (record { pos = 8; ty = Syntax.tyRef Syntax.erased Syntax.mut Element.behind; ref = λ x. x }, (Num.vAt 2 λ x. x, (Num.vAt 3 λ x. x, tt))) (m4 (c .before .before) (c .before .restart-main-arg
+          .given)) (c .restart-main)
 
       abbrev pub m7 : (before : After-restart-main) → (given : s8 .gives (m6 (before .before) (After-restart-main·gave before))) → Typed.Mo T11
       m7 = λ before given. s8 .next (m6 (before .before) (After-restart-main·gave before)) given
@@ -732,12 +648,9 @@ module _ (claims· : Claims) where
         lay1 : (c : After-rs) → at12 (W0 (c .before .before .before .before .κs) (c .before .before .before .before .args)) (m7 (c .before) (c .rs .given))
         lay1 = λ c. (
           (
-            MutSlice.fix-len (Row.get 1 (T17 .locals) (m12 (c .before) (c .rs .given)) .ptr) (Row.get 1 (T17 .locals) (m12 (c .before) (c .rs .given)) .name) (Row.get 1 (T17 .locals) (m12
-                (c .before) (c .rs .given)) .now) (dens (c .before .before .before .before .κs) (c .before .before .before .before .args) .0 .now) (same-length record { before = c .before; rs = c .rs }),
-            (
-              tt,
-              (tt, (tt, tt)),
-            ),
+            MutSlice.fix-len (Row.get 1 (T17 .locals) (m12 (c .before) (c .rs .given)) .ptr) (Row.get 1 (T17 .locals) (m12 (c .before) (c .rs .given)) .name) (Row.get 1 (T17 .locals) (m12 (c .before) (c
+                .rs .given)) .now) (dens (c .before .before .before .before .κs) (c .before .before .before .before .args) .0 .now) (same-length record { before = c .before; rs = c .rs }),
+            (tt, (tt, (tt, tt))),
           ),
           returns record { before = c .before; rs = c .rs },
         )
@@ -753,8 +666,8 @@ module _ (claims· : Claims) where
                 λ g''. lay1 record {
                   before = record {
                     before = record { before = record { before = c; if1 = record { taken = taken } }; restart-main-arg = record { given = g } };
-                    restart-main =
-                        Called.called ps·0 r·0 (claims· .1) T7 (record { pos = 8; ty = Syntax.tyRef Syntax.erased Syntax.mut Element.behind; ref = λ x. x }, (Num.vAt 2 λ x. x, (Num.vAt 3 λ x. x, tt))) (m4 record
+                    restart-main = Called.called ps·0 r·0 (claims· .1) T7
+                        (record { pos = 8; ty = Syntax.tyRef Syntax.erased Syntax.mut Element.behind; ref = λ x. x }, (Num.vAt 2 λ x. x, (Num.vAt 3 λ x. x, tt))) (m4 record
                         { before = c; if1 = record { taken = taken } } g) g';
                   };
                   rs = record { given = g'' };
@@ -772,13 +685,8 @@ module _ (claims· : Claims) where
             κs = κs;
             args = record { rs = a .0; bits = a .1 .0; base = a .1 .1 .0; wanted = a .1 .1 .1 .0 };
             good = good;
-            fits = record {
-              bits = record {
-                fits =
-                    good .1 .0 .1;
-              };
-              base = record { fits = good .1 .1 .0 .1 };
-            };
+            fits = record
+                { bits = record { fits = good .1 .0 .1 }; base = record { fits = good .1 .1 .0 .1 } };
             pre = pre;
           }
 

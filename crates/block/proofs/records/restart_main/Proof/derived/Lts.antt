@@ -46,6 +46,13 @@ use mir.Val
 use prog.Wp
 use types.Kit
 
+abbrev pub y0 : Syntax.Ty
+y0 = Syntax.tyStruct (List._∷_ 115 (List._∷_ 116 (List._∷_ 97 (List._∷_ 116 (List._∷_ 105 (List._∷_ 115 (List._∷_ 116 (List._∷_ 105 (List._∷_ 99 (List._∷_ 115 (List._∷_ 58 (List._∷_ 58 (List._∷_ 82
+    (List._∷_ 101 (List._∷_ 99 (List._∷_ 111 (List._∷_ 114 (List._∷_ 100 List.[])))))))))))))))))) (Syntax.tcons (Syntax.tyInt Syntax.w32) (Syntax.tcons (Syntax.tyInt Syntax.w32) Syntax.tnil))
+
+abbrev pub y1 : Syntax.Ty
+y1 = Syntax.tyStruct (List._∷_ 38 (List._∷_ 91 (List._∷_ 93 List.[]))) (Syntax.tcons (Syntax.tyRef Syntax.erased Syntax.mut Element.behind) (Syntax.tcons (Syntax.tyInt Syntax.w64) Syntax.tnil))
+
 abbrev pub ps : List.List (Kinds.PK 1)
 ps = List._∷_ (MutSlice.pMutS (Element.type) 0 tt) (List._∷_ (Num.pNum Syntax.w32) (List._∷_ (Num.pNum Syntax.w32) List.[]))
 
@@ -53,14 +60,8 @@ abbrev pub r : Kinds.RK 1
 r = Unit'.rUnit
 
 abbrev pub xs : List.List Syntax.Ty
-xs = List._∷_ (Syntax.tyInt Syntax.w64) (List._∷_ (Syntax.tyStruct (List._∷_ 115 (List._∷_ 116 (List._∷_ 97 (List._∷_ 116 (List._∷_ 105 (List._∷_ 115 (List._∷_ 116 (List._∷_ 105 (List._∷_ 99 (List._∷_
-    115 (List._∷_ 58 (List._∷_ 58 (List._∷_ 82 (List._∷_ 101 (List._∷_ 99 (List._∷_ 111 (List._∷_ 114 (List._∷_ 100 List.[])))))))))))))))))) (Syntax.tcons (Syntax.tyInt Syntax.w32) (Syntax.tcons
-    (Syntax.tyInt Syntax.w32) Syntax.tnil))) (List._∷_ (Syntax.tyStruct (List._∷_ 115 (List._∷_ 116 (List._∷_ 97 (List._∷_ 116 (List._∷_ 105 (List._∷_ 115 (List._∷_ 116 (List._∷_ 105 (List._∷_ 99
-    (List._∷_ 115 (List._∷_ 58 (List._∷_ 58 (List._∷_ 82 (List._∷_ 101 (List._∷_ 99 (List._∷_ 111 (List._∷_ 114 (List._∷_ 100 List.[])))))))))))))))))) (Syntax.tcons (Syntax.tyInt Syntax.w32)
-    (Syntax.tcons (Syntax.tyInt Syntax.w32) Syntax.tnil))) (List._∷_ Syntax.tyBool (List._∷_ (Syntax.tyRef Syntax.erased Syntax.mut Element.behind) (List._∷_ (Syntax.tyStruct (List._∷_ 38 (List._∷_ 91
-    (List._∷_ 93 List.[]))) (Syntax.tcons (Syntax.tyRef Syntax.erased Syntax.mut Element.behind) (Syntax.tcons (Syntax.tyInt Syntax.w64) Syntax.tnil))) (List._∷_ Syntax.tyUnit (List._∷_ (Syntax.tyRef
-    Syntax.erased Syntax.mut Element.behind) (List._∷_ (Syntax.tyStruct (List._∷_ 38 (List._∷_ 91 (List._∷_ 93 List.[]))) (Syntax.tcons (Syntax.tyRef Syntax.erased Syntax.mut Element.behind) (Syntax.tcons
-    (Syntax.tyInt Syntax.w64) Syntax.tnil))) List.[]))))))))
+xs = List._∷_ (Syntax.tyInt Syntax.w64) (List._∷_ y0 (List._∷_ y0 (List._∷_ Syntax.tyBool (List._∷_ (Syntax.tyRef Syntax.erased Syntax.mut Element.behind) (List._∷_ y1 (List._∷_ Syntax.tyUnit
+    (List._∷_ (Syntax.tyRef Syntax.erased Syntax.mut Element.behind) (List._∷_ y1 List.[]))))))))
 
 abbrev pub m : Nat.ℕ
 m = 2
@@ -74,8 +75,8 @@ r·0 = Value.rVal record {
   one = Path'.refl;
   val = Laws'.val Record.the-type Laws.the-laws;
   tells = Laws'.tells Record.the-type Laws.the-laws;
-  still = Laws'.still
-      Record.the-type Laws.the-copy Exit.yes;
+  still = Laws'.still Record.the-type
+      Laws.the-copy Exit.yes;
   row = Rows.whole (Declared.row Record.the-type);
   rd = λ x. x;
   mk = λ x. x;
@@ -83,9 +84,9 @@ r·0 = Value.rVal record {
   copies = Laws'.copy Record.the-type Laws.the-copy 𝓤 H A W;
   lawful = Laws'.lawful Record.the-type Laws.the-laws 𝓤 H A W;
   makes = Laws'.makes Record.the-type Laws.the-plain 𝓤 H A;
-  in-mem = Local.mem-whole 𝓤 H A W (Declared.row Record.the-type);
-  of-mem =
-      Local.whole-mem 𝓤 H A W (Declared.row Record.the-type);
+  in-mem =
+      Local.mem-whole 𝓤 H A W (Declared.row Record.the-type);
+  of-mem = Local.whole-mem 𝓤 H A W (Declared.row Record.the-type);
 }
 
 abbrev pub ps·1 : List.List (Kinds.PK 0)
@@ -94,20 +95,20 @@ ps·1 = List._∷_ (Value.pVal record {
   one = Path'.refl;
   val = Laws'.val Record.the-type Laws.the-laws;
   tells = Laws'.tells Record.the-type Laws.the-laws;
-  still =
-      Laws'.still Record.the-type Laws.the-copy Exit.yes;
+  still = Laws'.still Record.the-type
+      Laws.the-copy Exit.yes;
   row = Rows.whole (Declared.row Record.the-type);
   rd = λ x. x;
   mk = λ x. x;
 } λ M 𝓤 H A W. record {
-  copies = Laws'.copy Record.the-type Laws.the-copy
-      𝓤 H A W;
+  copies = Laws'.copy Record.the-type Laws.the-copy 𝓤 H A W;
   lawful = Laws'.lawful Record.the-type Laws.the-laws 𝓤 H A W;
   makes = Laws'.makes Record.the-type Laws.the-plain 𝓤 H A;
-  in-mem = Local.mem-whole 𝓤 H A W (Declared.row Record.the-type);
-  of-mem
-      = Local.whole-mem 𝓤 H A W (Declared.row Record.the-type);
-}) (List._∷_ (Num.pNum Syntax.w32) (List._∷_ (Num.pNum Syntax.w32) (List._∷_ (Num.pNum Syntax.w64) List.[])))
+  in-mem =
+      Local.mem-whole 𝓤 H A W (Declared.row Record.the-type);
+  of-mem = Local.whole-mem 𝓤 H A W (Declared.row Record.the-type);
+}) (List._∷_ (Num.pNum Syntax.w32) (List._∷_ (Num.pNum Syntax.w32) (List._∷_
+    (Num.pNum Syntax.w64) List.[])))
 
 abbrev pub r·1 : Kinds.RK 0
 r·1 = Value.rVal record {
@@ -115,8 +116,8 @@ r·1 = Value.rVal record {
   one = Path'.refl;
   val = Laws'.val Record.the-type Laws.the-laws;
   tells = Laws'.tells Record.the-type Laws.the-laws;
-  still = Laws'.still
-      Record.the-type Laws.the-copy Exit.yes;
+  still = Laws'.still Record.the-type
+      Laws.the-copy Exit.yes;
   row = Rows.whole (Declared.row Record.the-type);
   rd = λ x. x;
   mk = λ x. x;
@@ -124,28 +125,28 @@ r·1 = Value.rVal record {
   copies = Laws'.copy Record.the-type Laws.the-copy 𝓤 H A W;
   lawful = Laws'.lawful Record.the-type Laws.the-laws 𝓤 H A W;
   makes = Laws'.makes Record.the-type Laws.the-plain 𝓤 H A;
-  in-mem = Local.mem-whole 𝓤 H A W (Declared.row Record.the-type);
-  of-mem =
-      Local.whole-mem 𝓤 H A W (Declared.row Record.the-type);
+  in-mem =
+      Local.mem-whole 𝓤 H A W (Declared.row Record.the-type);
+  of-mem = Local.whole-mem 𝓤 H A W (Declared.row Record.the-type);
 }
 
 abbrev pub ps·2 : List.List (Kinds.PK 1)
 ps·2 = List._∷_ (MutSlice.pMutS (Element.type) 0 tt) (List._∷_ (Num.pNum Syntax.w64) (List._∷_ (Value.pVal record {
   ty = Declared.row Record.the-type;
   one = Path'.refl;
-  val = Laws'.val Record.the-type
-      Laws.the-laws;
+  val = Laws'.val Record.the-type Laws.the-laws;
   tells = Laws'.tells Record.the-type Laws.the-laws;
-  still = Laws'.still Record.the-type Laws.the-copy Exit.yes;
+  still = Laws'.still Record.the-type
+      Laws.the-copy Exit.yes;
   row = Rows.whole (Declared.row Record.the-type);
   rd = λ x. x;
   mk = λ x. x;
 } λ M 𝓤 H A W. record {
   copies = Laws'.copy Record.the-type Laws.the-copy 𝓤 H A W;
   lawful = Laws'.lawful Record.the-type Laws.the-laws 𝓤 H A W;
-  makes = Laws'.makes Record.the-type Laws.the-plain 𝓤 H
-      A;
-  in-mem = Local.mem-whole 𝓤 H A W (Declared.row Record.the-type);
+  makes = Laws'.makes Record.the-type Laws.the-plain 𝓤 H A;
+  in-mem =
+      Local.mem-whole 𝓤 H A W (Declared.row Record.the-type);
   of-mem = Local.whole-mem 𝓤 H A W (Declared.row Record.the-type);
 }) List.[]))
 
@@ -252,475 +253,158 @@ body = b28
 abbrev pub Claims : Type 1
 Claims = Kinds.In 1 ps·0 × Kinds.Out 1 ps·0 r·0 × Kinds.In 0 ps·1 × Kinds.Out 0 ps·1 r·1 × Kinds.In 1 ps·2 × Kinds.Out 1 ps·2 r·2
 
+abbrev pub e0 : Row.Entry
+e0 = (0, Rows.any-gone Syntax.tyUnit)
+
+abbrev pub e1 : Row.Entry
+e1 = (0, Rows.sc-here Row.sUnit)
+
+abbrev pub e2 : Row.Entry
+e2 = (1, Mut.mslice (Element.type) (Syntax.tyRef (Syntax.named 0) Syntax.mut Element.behind) 0)
+
+abbrev pub e3 : Row.Entry
+e3 = (1, Relend.mslice-owed (Element.type) (Syntax.tyRef (Syntax.named 0) Syntax.mut Element.behind) 0 1 Row.off)
+
+abbrev pub e4 : Row.Entry
+e4 = (1, Relend.mslice-owed (Element.type) (Syntax.tyRef (Syntax.named 0) Syntax.mut Element.behind) 0 2 Row.off)
+
+abbrev pub e5 : Row.Entry
+e5 = (10, Rows.any-gone Syntax.tyUnit)
+
+abbrev pub e6 : Row.Entry
+e6 = (10, Rows.sc-here Row.sUnit)
+
+abbrev pub e7 : Row.Entry
+e7 = (11, Relend.msptr (Element.type) (Syntax.tyRef Syntax.erased Syntax.mut Element.behind) 2)
+
+abbrev pub e8 : Row.Entry
+e8 = (11, Rows.any-gone (Syntax.tyRef Syntax.erased Syntax.mut Element.behind))
+
+abbrev pub e9 : Row.Entry
+e9 = (12, Mut.msleft (Element.type) (Syntax.tyRef Syntax.erased Syntax.mut Element.behind))
+
+abbrev pub e10 : Row.Entry
+e10 = (12, Mut.mslice (Element.type) (Syntax.tyRef Syntax.erased Syntax.mut Element.behind) 2)
+
+abbrev pub e11 : Row.Entry
+e11 = (12, Rows.any-gone y1)
+
+abbrev pub e12 : Row.Entry
+e12 = (2, Rows.any-gone (Syntax.tyInt Syntax.w32))
+
+abbrev pub e13 : Row.Entry
+e13 = (2, Rows.sc-here (Row.sInt Syntax.w32))
+
+abbrev pub e14 : Row.Entry
+e14 = (3, Rows.sc-here (Row.sInt Syntax.w32))
+
+abbrev pub e15 : Row.Entry
+e15 = (4, Rows.any-gone (Syntax.tyInt Syntax.w64))
+
+abbrev pub e16 : Row.Entry
+e16 = (4, Rows.sc-here (Row.sInt Syntax.w64))
+
+abbrev pub e17 : Row.Entry
+e17 = (5, Rows.any-gone y0)
+
+abbrev pub e18 : Row.Entry
+e18 = (5, Rows.whole (Declared.row Record.the-type))
+
+abbrev pub e19 : Row.Entry
+e19 = (6, Rows.any-gone y0)
+
+abbrev pub e20 : Row.Entry
+e20 = (6, Rows.whole (Declared.row Record.the-type))
+
+abbrev pub e21 : Row.Entry
+e21 = (7, Rows.any-gone Syntax.tyBool)
+
+abbrev pub e22 : Row.Entry
+e22 = (8, Relend.msptr (Element.type) (Syntax.tyRef Syntax.erased Syntax.mut Element.behind) 1)
+
+abbrev pub e23 : Row.Entry
+e23 = (8, Rows.any-gone (Syntax.tyRef Syntax.erased Syntax.mut Element.behind))
+
+abbrev pub e24 : Row.Entry
+e24 = (9, Mut.msleft (Element.type) (Syntax.tyRef Syntax.erased Syntax.mut Element.behind))
+
+abbrev pub e25 : Row.Entry
+e25 = (9, Mut.mslice (Element.type) (Syntax.tyRef Syntax.erased Syntax.mut Element.behind) 1)
+
+abbrev pub e26 : Row.Entry
+e26 = (9, Rows.any-gone y1)
+
 abbrev pub t0 : List.List Row.Entry
-t0 = List._∷_ (0, Rows.any-gone Syntax.tyUnit) (List._∷_ (1, Mut.mslice (Element.type) (Syntax.tyRef (Syntax.named 0) Syntax.mut Element.behind) 0) (List._∷_ (2, Rows.sc-here (Row.sInt Syntax.w32))
-    (List._∷_ (3, Rows.sc-here (Row.sInt Syntax.w32)) (List._∷_ (4, Rows.any-gone (Syntax.tyInt Syntax.w64)) (List._∷_ (
-      5,
-      Rows.any-gone (Syntax.tyStruct (List._∷_ 115 (List._∷_ 116 (List._∷_ 97
-          (List._∷_ 116 (List._∷_ 105 (List._∷_ 115 (List._∷_ 116 (List._∷_ 105 (List._∷_ 99 (List._∷_ 115 (List._∷_ 58 (List._∷_ 58 (List._∷_ 82 (List._∷_ 101 (List._∷_ 99 (List._∷_ 111 (List._∷_ 114 (List._∷_
-          100 List.[])))))))))))))))))) (Syntax.tcons (Syntax.tyInt Syntax.w32) (Syntax.tcons (Syntax.tyInt Syntax.w32) Syntax.tnil))),
-    ) (List._∷_ (
-      6,
-      Rows.any-gone (Syntax.tyStruct (List._∷_ 115 (List._∷_
-          116 (List._∷_ 97 (List._∷_ 116 (List._∷_ 105 (List._∷_ 115 (List._∷_ 116 (List._∷_ 105 (List._∷_ 99 (List._∷_ 115 (List._∷_ 58 (List._∷_ 58 (List._∷_ 82 (List._∷_ 101 (List._∷_ 99 (List._∷_ 111
-          (List._∷_ 114 (List._∷_ 100 List.[])))))))))))))))))) (Syntax.tcons (Syntax.tyInt Syntax.w32) (Syntax.tcons (Syntax.tyInt Syntax.w32) Syntax.tnil))),
-    ) (List._∷_ (7, Rows.any-gone Syntax.tyBool)
-    (List._∷_ (8, Rows.any-gone (Syntax.tyRef Syntax.erased Syntax.mut Element.behind)) (List._∷_ (
-      9,
-      Rows.any-gone (Syntax.tyStruct (List._∷_ 38 (List._∷_ 91 (List._∷_ 93 List.[]))) (Syntax.tcons
-          (Syntax.tyRef Syntax.erased Syntax.mut Element.behind) (Syntax.tcons (Syntax.tyInt Syntax.w64) Syntax.tnil))),
-    ) (List._∷_ (10, Rows.any-gone Syntax.tyUnit) (List._∷_ (
-      11,
-      Rows.any-gone (Syntax.tyRef
-          Syntax.erased Syntax.mut Element.behind),
-    ) (List._∷_ (
-      12,
-      Rows.any-gone (Syntax.tyStruct (List._∷_ 38 (List._∷_ 91 (List._∷_ 93 List.[]))) (Syntax.tcons (Syntax.tyRef Syntax.erased Syntax.mut
-          Element.behind) (Syntax.tcons (Syntax.tyInt Syntax.w64) Syntax.tnil))),
-    ) List.[]))))))))))))
+t0 = List._∷_ e0 (List._∷_ e2 (List._∷_ e13 (List._∷_ e14 (List._∷_ e15 (List._∷_ e17 (List._∷_ e19 (List._∷_ e21 (List._∷_ e23 (List._∷_ e26 (List._∷_ e5 (List._∷_ e8 (List._∷_ e11
+    List.[]))))))))))))
 
 abbrev pub t1 : List.List Row.Entry
-t1 = List._∷_ (0, Rows.sc-here Row.sUnit) (List._∷_ (1, Mut.mslice (Element.type) (Syntax.tyRef (Syntax.named 0) Syntax.mut Element.behind) 0) (List._∷_ (2, Rows.any-gone (Syntax.tyInt Syntax.w32))
-    (List._∷_ (3, Rows.any-gone (Syntax.tyInt Syntax.w32)) (List._∷_ (4, Rows.any-gone (Syntax.tyInt Syntax.w64)) (List._∷_ (
-      5,
-      Rows.any-gone (Syntax.tyStruct (List._∷_ 115 (List._∷_ 116 (List._∷_ 97
-          (List._∷_ 116 (List._∷_ 105 (List._∷_ 115 (List._∷_ 116 (List._∷_ 105 (List._∷_ 99 (List._∷_ 115 (List._∷_ 58 (List._∷_ 58 (List._∷_ 82 (List._∷_ 101 (List._∷_ 99 (List._∷_ 111 (List._∷_ 114 (List._∷_
-          100 List.[])))))))))))))))))) (Syntax.tcons (Syntax.tyInt Syntax.w32) (Syntax.tcons (Syntax.tyInt Syntax.w32) Syntax.tnil))),
-    ) (List._∷_ (
-      6,
-      Rows.any-gone (Syntax.tyStruct (List._∷_ 115 (List._∷_
-          116 (List._∷_ 97 (List._∷_ 116 (List._∷_ 105 (List._∷_ 115 (List._∷_ 116 (List._∷_ 105 (List._∷_ 99 (List._∷_ 115 (List._∷_ 58 (List._∷_ 58 (List._∷_ 82 (List._∷_ 101 (List._∷_ 99 (List._∷_ 111
-          (List._∷_ 114 (List._∷_ 100 List.[])))))))))))))))))) (Syntax.tcons (Syntax.tyInt Syntax.w32) (Syntax.tcons (Syntax.tyInt Syntax.w32) Syntax.tnil))),
-    ) (List._∷_ (7, Rows.any-gone Syntax.tyBool)
-    (List._∷_ (8, Rows.any-gone (Syntax.tyRef Syntax.erased Syntax.mut Element.behind)) (List._∷_ (
-      9,
-      Rows.any-gone (Syntax.tyStruct (List._∷_ 38 (List._∷_ 91 (List._∷_ 93 List.[]))) (Syntax.tcons
-          (Syntax.tyRef Syntax.erased Syntax.mut Element.behind) (Syntax.tcons (Syntax.tyInt Syntax.w64) Syntax.tnil))),
-    ) (List._∷_ (10, Rows.any-gone Syntax.tyUnit) (List._∷_ (
-      11,
-      Rows.any-gone (Syntax.tyRef
-          Syntax.erased Syntax.mut Element.behind),
-    ) (List._∷_ (
-      12,
-      Rows.any-gone (Syntax.tyStruct (List._∷_ 38 (List._∷_ 91 (List._∷_ 93 List.[]))) (Syntax.tcons (Syntax.tyRef Syntax.erased Syntax.mut
-          Element.behind) (Syntax.tcons (Syntax.tyInt Syntax.w64) Syntax.tnil))),
-    ) List.[]))))))))))))
+t1 = List._∷_ e1 (List._∷_ e2 (List._∷_ e12 (List._∷_ (3, Rows.any-gone (Syntax.tyInt Syntax.w32)) (List._∷_ e15 (List._∷_ e17 (List._∷_ e19 (List._∷_ e21 (List._∷_ e23 (List._∷_ e26 (List._∷_ e5
+    (List._∷_ e8 (List._∷_ e11 List.[]))))))))))))
 
 abbrev pub t2 : List.List Row.Entry
-t2 = List._∷_ (0, Rows.any-gone Syntax.tyUnit) (List._∷_ (1, Mut.mslice (Element.type) (Syntax.tyRef (Syntax.named 0) Syntax.mut Element.behind) 0) (List._∷_ (2, Rows.sc-here (Row.sInt Syntax.w32))
-    (List._∷_ (3, Rows.sc-here (Row.sInt Syntax.w32)) (List._∷_ (4, Rows.sc-here (Row.sInt Syntax.w64)) (List._∷_ (
-      5,
-      Rows.any-gone (Syntax.tyStruct (List._∷_ 115 (List._∷_ 116 (List._∷_ 97 (List._∷_
-          116 (List._∷_ 105 (List._∷_ 115 (List._∷_ 116 (List._∷_ 105 (List._∷_ 99 (List._∷_ 115 (List._∷_ 58 (List._∷_ 58 (List._∷_ 82 (List._∷_ 101 (List._∷_ 99 (List._∷_ 111 (List._∷_ 114 (List._∷_ 100
-          List.[])))))))))))))))))) (Syntax.tcons (Syntax.tyInt Syntax.w32) (Syntax.tcons (Syntax.tyInt Syntax.w32) Syntax.tnil))),
-    ) (List._∷_ (
-      6,
-      Rows.any-gone (Syntax.tyStruct (List._∷_ 115 (List._∷_ 116
-          (List._∷_ 97 (List._∷_ 116 (List._∷_ 105 (List._∷_ 115 (List._∷_ 116 (List._∷_ 105 (List._∷_ 99 (List._∷_ 115 (List._∷_ 58 (List._∷_ 58 (List._∷_ 82 (List._∷_ 101 (List._∷_ 99 (List._∷_ 111 (List._∷_
-          114 (List._∷_ 100 List.[])))))))))))))))))) (Syntax.tcons (Syntax.tyInt Syntax.w32) (Syntax.tcons (Syntax.tyInt Syntax.w32) Syntax.tnil))),
-    ) (List._∷_ (7, Rows.any-gone Syntax.tyBool) (List._∷_ (
-      8,
-      Rows.any-gone (Syntax.tyRef Syntax.erased Syntax.mut Element.behind),
-    ) (List._∷_ (
-      9,
-      Rows.any-gone (Syntax.tyStruct (List._∷_ 38 (List._∷_ 91 (List._∷_ 93 List.[]))) (Syntax.tcons (Syntax.tyRef
-          Syntax.erased Syntax.mut Element.behind) (Syntax.tcons (Syntax.tyInt Syntax.w64) Syntax.tnil))),
-    ) (List._∷_ (10, Rows.any-gone Syntax.tyUnit) (List._∷_ (
-      11,
-      Rows.any-gone (Syntax.tyRef Syntax.erased
-          Syntax.mut Element.behind),
-    ) (List._∷_ (
-      12,
-      Rows.any-gone (Syntax.tyStruct (List._∷_ 38 (List._∷_ 91 (List._∷_ 93 List.[]))) (Syntax.tcons (Syntax.tyRef Syntax.erased Syntax.mut Element.behind)
-          (Syntax.tcons (Syntax.tyInt Syntax.w64) Syntax.tnil))),
-    ) List.[]))))))))))))
+t2 = List._∷_ e0 (List._∷_ e2 (List._∷_ e13 (List._∷_ e14 (List._∷_ e16 (List._∷_ e17 (List._∷_ e19 (List._∷_ e21 (List._∷_ e23 (List._∷_ e26 (List._∷_ e5 (List._∷_ e8 (List._∷_ e11
+    List.[]))))))))))))
 
 abbrev pub t3 : List.List Row.Entry
-t3 = List._∷_ (0, Rows.any-gone Syntax.tyUnit) (List._∷_ (1, Mut.mslice (Element.type) (Syntax.tyRef (Syntax.named 0) Syntax.mut Element.behind) 0) (List._∷_ (2, Rows.sc-here (Row.sInt Syntax.w32))
-    (List._∷_ (3, Rows.sc-here (Row.sInt Syntax.w32)) (List._∷_ (4, Rows.sc-here (Row.sInt Syntax.w64)) (List._∷_ (
-      5,
-      Rows.any-gone (Syntax.tyStruct (List._∷_ 115 (List._∷_ 116 (List._∷_ 97 (List._∷_
-          116 (List._∷_ 105 (List._∷_ 115 (List._∷_ 116 (List._∷_ 105 (List._∷_ 99 (List._∷_ 115 (List._∷_ 58 (List._∷_ 58 (List._∷_ 82 (List._∷_ 101 (List._∷_ 99 (List._∷_ 111 (List._∷_ 114 (List._∷_ 100
-          List.[])))))))))))))))))) (Syntax.tcons (Syntax.tyInt Syntax.w32) (Syntax.tcons (Syntax.tyInt Syntax.w32) Syntax.tnil))),
-    ) (List._∷_ (
-      6,
-      Rows.any-gone (Syntax.tyStruct (List._∷_ 115 (List._∷_ 116
-          (List._∷_ 97 (List._∷_ 116 (List._∷_ 105 (List._∷_ 115 (List._∷_ 116 (List._∷_ 105 (List._∷_ 99 (List._∷_ 115 (List._∷_ 58 (List._∷_ 58 (List._∷_ 82 (List._∷_ 101 (List._∷_ 99 (List._∷_ 111 (List._∷_
-          114 (List._∷_ 100 List.[])))))))))))))))))) (Syntax.tcons (Syntax.tyInt Syntax.w32) (Syntax.tcons (Syntax.tyInt Syntax.w32) Syntax.tnil))),
-    ) (List._∷_ (7, Rows.sc-here Row.sBool) (List._∷_ (
-      8,
-      Rows.any-gone (Syntax.tyRef Syntax.erased Syntax.mut Element.behind),
-    ) (List._∷_ (
-      9,
-      Rows.any-gone (Syntax.tyStruct (List._∷_ 38 (List._∷_ 91 (List._∷_ 93 List.[]))) (Syntax.tcons (Syntax.tyRef
-          Syntax.erased Syntax.mut Element.behind) (Syntax.tcons (Syntax.tyInt Syntax.w64) Syntax.tnil))),
-    ) (List._∷_ (10, Rows.any-gone Syntax.tyUnit) (List._∷_ (
-      11,
-      Rows.any-gone (Syntax.tyRef Syntax.erased
-          Syntax.mut Element.behind),
-    ) (List._∷_ (
-      12,
-      Rows.any-gone (Syntax.tyStruct (List._∷_ 38 (List._∷_ 91 (List._∷_ 93 List.[]))) (Syntax.tcons (Syntax.tyRef Syntax.erased Syntax.mut Element.behind)
-          (Syntax.tcons (Syntax.tyInt Syntax.w64) Syntax.tnil))),
-    ) List.[]))))))))))))
+t3 = List._∷_ e0 (List._∷_ e2 (List._∷_ e13 (List._∷_ e14 (List._∷_ e16 (List._∷_ e17 (List._∷_ e19 (List._∷_ (7, Rows.sc-here Row.sBool) (List._∷_ e23 (List._∷_ e26 (List._∷_ e5 (List._∷_ e8
+    (List._∷_ e11 List.[]))))))))))))
 
 abbrev pub t4 : List.List Row.Entry
-t4 = List._∷_ (0, Rows.any-gone Syntax.tyUnit) (List._∷_ (1, Relend.mslice-owed (Element.type) (Syntax.tyRef (Syntax.named 0) Syntax.mut Element.behind) 0 1 Row.off) (List._∷_ (
-  2,
-  Rows.sc-here
-      (Row.sInt Syntax.w32),
-) (List._∷_ (3, Rows.sc-here (Row.sInt Syntax.w32)) (List._∷_ (4, Rows.sc-here (Row.sInt Syntax.w64)) (List._∷_ (
-  5,
-  Rows.any-gone (Syntax.tyStruct (List._∷_ 115 (List._∷_ 116
-      (List._∷_ 97 (List._∷_ 116 (List._∷_ 105 (List._∷_ 115 (List._∷_ 116 (List._∷_ 105 (List._∷_ 99 (List._∷_ 115 (List._∷_ 58 (List._∷_ 58 (List._∷_ 82 (List._∷_ 101 (List._∷_ 99 (List._∷_ 111 (List._∷_
-      114 (List._∷_ 100 List.[])))))))))))))))))) (Syntax.tcons (Syntax.tyInt Syntax.w32) (Syntax.tcons (Syntax.tyInt Syntax.w32) Syntax.tnil))),
-) (List._∷_ (
-  6,
-  Rows.any-gone (Syntax.tyStruct (List._∷_
-      115 (List._∷_ 116 (List._∷_ 97 (List._∷_ 116 (List._∷_ 105 (List._∷_ 115 (List._∷_ 116 (List._∷_ 105 (List._∷_ 99 (List._∷_ 115 (List._∷_ 58 (List._∷_ 58 (List._∷_ 82 (List._∷_ 101 (List._∷_ 99
-      (List._∷_ 111 (List._∷_ 114 (List._∷_ 100 List.[])))))))))))))))))) (Syntax.tcons (Syntax.tyInt Syntax.w32) (Syntax.tcons (Syntax.tyInt Syntax.w32) Syntax.tnil))),
-) (List._∷_ (
-  7,
-  Rows.any-gone
-      Syntax.tyBool,
-) (List._∷_ (8, Relend.msptr (Element.type) (Syntax.tyRef Syntax.erased Syntax.mut Element.behind) 1) (List._∷_ (
-  9,
-  Rows.any-gone (Syntax.tyStruct (List._∷_ 38 (List._∷_ 91 (List._∷_
-      93 List.[]))) (Syntax.tcons (Syntax.tyRef Syntax.erased Syntax.mut Element.behind) (Syntax.tcons (Syntax.tyInt Syntax.w64) Syntax.tnil))),
-) (List._∷_ (10, Rows.any-gone Syntax.tyUnit) (List._∷_ (
-  11,
-  Rows.any-gone (Syntax.tyRef Syntax.erased Syntax.mut Element.behind),
-) (List._∷_ (
-  12,
-  Rows.any-gone (Syntax.tyStruct (List._∷_ 38 (List._∷_ 91 (List._∷_ 93 List.[]))) (Syntax.tcons (Syntax.tyRef
-      Syntax.erased Syntax.mut Element.behind) (Syntax.tcons (Syntax.tyInt Syntax.w64) Syntax.tnil))),
-) List.[]))))))))))))
+t4 = List._∷_ e0 (List._∷_ e3 (List._∷_ e13 (List._∷_ e14 (List._∷_ e16 (List._∷_ e17 (List._∷_ e19 (List._∷_ e21 (List._∷_ e22 (List._∷_ e26 (List._∷_ e5 (List._∷_ e8 (List._∷_ e11
+    List.[]))))))))))))
 
 abbrev pub t5 : List.List Row.Entry
-t5 = List._∷_ (0, Rows.any-gone Syntax.tyUnit) (List._∷_ (1, Relend.mslice-owed (Element.type) (Syntax.tyRef (Syntax.named 0) Syntax.mut Element.behind) 0 1 Row.off) (List._∷_ (
-  2,
-  Rows.sc-here
-      (Row.sInt Syntax.w32),
-) (List._∷_ (3, Rows.sc-here (Row.sInt Syntax.w32)) (List._∷_ (4, Rows.sc-here (Row.sInt Syntax.w64)) (List._∷_ (
-  5,
-  Rows.any-gone (Syntax.tyStruct (List._∷_ 115 (List._∷_ 116
-      (List._∷_ 97 (List._∷_ 116 (List._∷_ 105 (List._∷_ 115 (List._∷_ 116 (List._∷_ 105 (List._∷_ 99 (List._∷_ 115 (List._∷_ 58 (List._∷_ 58 (List._∷_ 82 (List._∷_ 101 (List._∷_ 99 (List._∷_ 111 (List._∷_
-      114 (List._∷_ 100 List.[])))))))))))))))))) (Syntax.tcons (Syntax.tyInt Syntax.w32) (Syntax.tcons (Syntax.tyInt Syntax.w32) Syntax.tnil))),
-) (List._∷_ (
-  6,
-  Rows.any-gone (Syntax.tyStruct (List._∷_
-      115 (List._∷_ 116 (List._∷_ 97 (List._∷_ 116 (List._∷_ 105 (List._∷_ 115 (List._∷_ 116 (List._∷_ 105 (List._∷_ 99 (List._∷_ 115 (List._∷_ 58 (List._∷_ 58 (List._∷_ 82 (List._∷_ 101 (List._∷_ 99
-      (List._∷_ 111 (List._∷_ 114 (List._∷_ 100 List.[])))))))))))))))))) (Syntax.tcons (Syntax.tyInt Syntax.w32) (Syntax.tcons (Syntax.tyInt Syntax.w32) Syntax.tnil))),
-) (List._∷_ (
-  7,
-  Rows.any-gone
-      Syntax.tyBool,
-) (List._∷_ (8, Rows.any-gone (Syntax.tyRef Syntax.erased Syntax.mut Element.behind)) (List._∷_ (
-  9,
-  Mut.mslice (Element.type) (Syntax.tyRef Syntax.erased Syntax.mut Element.behind) 1,
-) (List._∷_ (10, Rows.any-gone Syntax.tyUnit) (List._∷_ (11, Rows.any-gone (Syntax.tyRef Syntax.erased Syntax.mut Element.behind)) (List._∷_ (
-  12,
-  Rows.any-gone (Syntax.tyStruct (List._∷_ 38
-      (List._∷_ 91 (List._∷_ 93 List.[]))) (Syntax.tcons (Syntax.tyRef Syntax.erased Syntax.mut Element.behind) (Syntax.tcons (Syntax.tyInt Syntax.w64) Syntax.tnil))),
-) List.[]))))))))))))
+t5 = List._∷_ e0 (List._∷_ e3 (List._∷_ e13 (List._∷_ e14 (List._∷_ e16 (List._∷_ e17 (List._∷_ e19 (List._∷_ e21 (List._∷_ e23 (List._∷_ e25 (List._∷_ e5 (List._∷_ e8 (List._∷_ e11
+    List.[]))))))))))))
 
 abbrev pub t6 : List.List Row.Entry
-t6 = List._∷_ (0, Rows.any-gone Syntax.tyUnit) (List._∷_ (1, Relend.mslice-owed (Element.type) (Syntax.tyRef (Syntax.named 0) Syntax.mut Element.behind) 0 1 Row.off) (List._∷_ (
-  2,
-  Rows.sc-here
-      (Row.sInt Syntax.w32),
-) (List._∷_ (3, Rows.sc-here (Row.sInt Syntax.w32)) (List._∷_ (4, Rows.sc-here (Row.sInt Syntax.w64)) (List._∷_ (5, Rows.whole (Declared.row Record.the-type)) (List._∷_ (
-  6,
-  Rows.any-gone (Syntax.tyStruct (List._∷_ 115 (List._∷_ 116 (List._∷_ 97 (List._∷_ 116 (List._∷_ 105 (List._∷_ 115 (List._∷_ 116 (List._∷_ 105 (List._∷_ 99 (List._∷_ 115 (List._∷_ 58 (List._∷_ 58
-      (List._∷_ 82 (List._∷_ 101 (List._∷_ 99 (List._∷_ 111 (List._∷_ 114 (List._∷_ 100 List.[])))))))))))))))))) (Syntax.tcons (Syntax.tyInt Syntax.w32) (Syntax.tcons (Syntax.tyInt Syntax.w32)
-      Syntax.tnil))),
-) (List._∷_ (7, Rows.any-gone Syntax.tyBool) (List._∷_ (8, Rows.any-gone (Syntax.tyRef Syntax.erased Syntax.mut Element.behind)) (List._∷_ (
-  9,
-  Mut.msleft (Element.type)
-      (Syntax.tyRef Syntax.erased Syntax.mut Element.behind),
-) (List._∷_ (10, Rows.any-gone Syntax.tyUnit) (List._∷_ (11, Rows.any-gone (Syntax.tyRef Syntax.erased Syntax.mut Element.behind)) (List._∷_ (
-  12,
-  Rows.any-gone (Syntax.tyStruct (List._∷_ 38 (List._∷_ 91 (List._∷_ 93 List.[]))) (Syntax.tcons (Syntax.tyRef Syntax.erased Syntax.mut Element.behind) (Syntax.tcons (Syntax.tyInt Syntax.w64)
-      Syntax.tnil))),
-) List.[]))))))))))))
+t6 = List._∷_ e0 (List._∷_ e3 (List._∷_ e13 (List._∷_ e14 (List._∷_ e16 (List._∷_ e18 (List._∷_ e19 (List._∷_ e21 (List._∷_ e23 (List._∷_ e24 (List._∷_ e5 (List._∷_ e8 (List._∷_ e11
+    List.[]))))))))))))
 
 abbrev pub t7 : List.List Row.Entry
-t7 = List._∷_ (0, Rows.any-gone Syntax.tyUnit) (List._∷_ (1, Mut.mslice (Element.type) (Syntax.tyRef (Syntax.named 0) Syntax.mut Element.behind) 0) (List._∷_ (2, Rows.sc-here (Row.sInt Syntax.w32))
-    (List._∷_ (3, Rows.sc-here (Row.sInt Syntax.w32)) (List._∷_ (4, Rows.sc-here (Row.sInt Syntax.w64)) (List._∷_ (5, Rows.whole (Declared.row Record.the-type)) (List._∷_ (
-      6,
-      Rows.any-gone
-          (Syntax.tyStruct (List._∷_ 115 (List._∷_ 116 (List._∷_ 97 (List._∷_ 116 (List._∷_ 105 (List._∷_ 115 (List._∷_ 116 (List._∷_ 105 (List._∷_ 99 (List._∷_ 115 (List._∷_ 58 (List._∷_ 58 (List._∷_ 82
-          (List._∷_ 101 (List._∷_ 99 (List._∷_ 111 (List._∷_ 114 (List._∷_ 100 List.[])))))))))))))))))) (Syntax.tcons (Syntax.tyInt Syntax.w32) (Syntax.tcons (Syntax.tyInt Syntax.w32) Syntax.tnil))),
-    )
-    (List._∷_ (7, Rows.any-gone Syntax.tyBool) (List._∷_ (8, Rows.any-gone (Syntax.tyRef Syntax.erased Syntax.mut Element.behind)) (List._∷_ (
-      9,
-      Rows.any-gone (Syntax.tyStruct (List._∷_ 38 (List._∷_
-          91 (List._∷_ 93 List.[]))) (Syntax.tcons (Syntax.tyRef Syntax.erased Syntax.mut Element.behind) (Syntax.tcons (Syntax.tyInt Syntax.w64) Syntax.tnil))),
-    ) (List._∷_ (10, Rows.any-gone Syntax.tyUnit)
-    (List._∷_ (11, Rows.any-gone (Syntax.tyRef Syntax.erased Syntax.mut Element.behind)) (List._∷_ (
-      12,
-      Rows.any-gone (Syntax.tyStruct (List._∷_ 38 (List._∷_ 91 (List._∷_ 93 List.[]))) (Syntax.tcons
-          (Syntax.tyRef Syntax.erased Syntax.mut Element.behind) (Syntax.tcons (Syntax.tyInt Syntax.w64) Syntax.tnil))),
-    ) List.[]))))))))))))
+t7 = List._∷_ e0 (List._∷_ e2 (List._∷_ e13 (List._∷_ e14 (List._∷_ e16 (List._∷_ e18 (List._∷_ e19 (List._∷_ e21 (List._∷_ e23 (List._∷_ e26 (List._∷_ e5 (List._∷_ e8 (List._∷_ e11
+    List.[]))))))))))))
 
 abbrev pub t8 : List.List Row.Entry
-t8 = List._∷_ (0, Rows.any-gone Syntax.tyUnit) (List._∷_ (1, Mut.mslice (Element.type) (Syntax.tyRef (Syntax.named 0) Syntax.mut Element.behind) 0) (List._∷_ (2, Rows.sc-here (Row.sInt Syntax.w32))
-    (List._∷_ (3, Rows.sc-here (Row.sInt Syntax.w32)) (List._∷_ (4, Rows.sc-here (Row.sInt Syntax.w64)) (List._∷_ (5, Rows.whole (Declared.row Record.the-type)) (List._∷_ (
-      6,
-      Rows.whole
-          (Declared.row Record.the-type),
-    ) (List._∷_ (7, Rows.any-gone Syntax.tyBool) (List._∷_ (8, Rows.any-gone (Syntax.tyRef Syntax.erased Syntax.mut Element.behind)) (List._∷_ (
-      9,
-      Rows.any-gone
-          (Syntax.tyStruct (List._∷_ 38 (List._∷_ 91 (List._∷_ 93 List.[]))) (Syntax.tcons (Syntax.tyRef Syntax.erased Syntax.mut Element.behind) (Syntax.tcons (Syntax.tyInt Syntax.w64) Syntax.tnil))),
-    )
-    (List._∷_ (10, Rows.any-gone Syntax.tyUnit) (List._∷_ (11, Rows.any-gone (Syntax.tyRef Syntax.erased Syntax.mut Element.behind)) (List._∷_ (
-      12,
-      Rows.any-gone (Syntax.tyStruct (List._∷_ 38
-          (List._∷_ 91 (List._∷_ 93 List.[]))) (Syntax.tcons (Syntax.tyRef Syntax.erased Syntax.mut Element.behind) (Syntax.tcons (Syntax.tyInt Syntax.w64) Syntax.tnil))),
-    ) List.[]))))))))))))
+t8 = List._∷_ e0 (List._∷_ e2 (List._∷_ e13 (List._∷_ e14 (List._∷_ e16 (List._∷_ e18 (List._∷_ e20 (List._∷_ e21 (List._∷_ e23 (List._∷_ e26 (List._∷_ e5 (List._∷_ e8 (List._∷_ e11
+    List.[]))))))))))))
 
 abbrev pub t9 : List.List Row.Entry
-t9 = List._∷_ (0, Rows.any-gone Syntax.tyUnit) (List._∷_ (1, Mut.mslice (Element.type) (Syntax.tyRef (Syntax.named 0) Syntax.mut Element.behind) 0) (List._∷_ (2, Rows.sc-here (Row.sInt Syntax.w32))
-    (List._∷_ (3, Rows.sc-here (Row.sInt Syntax.w32)) (List._∷_ (4, Rows.sc-here (Row.sInt Syntax.w64)) (List._∷_ (
-      5,
-      Rows.any-gone (Syntax.tyStruct (List._∷_ 115 (List._∷_ 116 (List._∷_ 97 (List._∷_
-          116 (List._∷_ 105 (List._∷_ 115 (List._∷_ 116 (List._∷_ 105 (List._∷_ 99 (List._∷_ 115 (List._∷_ 58 (List._∷_ 58 (List._∷_ 82 (List._∷_ 101 (List._∷_ 99 (List._∷_ 111 (List._∷_ 114 (List._∷_ 100
-          List.[])))))))))))))))))) (Syntax.tcons (Syntax.tyInt Syntax.w32) (Syntax.tcons (Syntax.tyInt Syntax.w32) Syntax.tnil))),
-    ) (List._∷_ (6, Rows.whole (Declared.row Record.the-type)) (List._∷_ (
-      7,
-      Rows.any-gone Syntax.tyBool,
-    ) (List._∷_ (8, Rows.any-gone (Syntax.tyRef Syntax.erased Syntax.mut Element.behind)) (List._∷_ (
-      9,
-      Rows.any-gone (Syntax.tyStruct (List._∷_ 38 (List._∷_ 91 (List._∷_
-          93 List.[]))) (Syntax.tcons (Syntax.tyRef Syntax.erased Syntax.mut Element.behind) (Syntax.tcons (Syntax.tyInt Syntax.w64) Syntax.tnil))),
-    ) (List._∷_ (10, Rows.any-gone Syntax.tyUnit) (List._∷_ (
-      11,
-      Rows.any-gone (Syntax.tyRef Syntax.erased Syntax.mut Element.behind),
-    ) (List._∷_ (
-      12,
-      Rows.any-gone (Syntax.tyStruct (List._∷_ 38 (List._∷_ 91 (List._∷_ 93 List.[]))) (Syntax.tcons (Syntax.tyRef
-          Syntax.erased Syntax.mut Element.behind) (Syntax.tcons (Syntax.tyInt Syntax.w64) Syntax.tnil))),
-    ) List.[]))))))))))))
+t9 = List._∷_ e0 (List._∷_ e2 (List._∷_ e13 (List._∷_ e14 (List._∷_ e16 (List._∷_ e17 (List._∷_ e20 (List._∷_ e21 (List._∷_ e23 (List._∷_ e26 (List._∷_ e5 (List._∷_ e8 (List._∷_ e11
+    List.[]))))))))))))
 
 abbrev pub t10 : List.List Row.Entry
-t10 = List._∷_ (0, Rows.any-gone Syntax.tyUnit) (List._∷_ (1, Relend.mslice-owed (Element.type) (Syntax.tyRef (Syntax.named 0) Syntax.mut Element.behind) 0 2 Row.off) (List._∷_ (
-  2,
-  Rows.sc-here
-      (Row.sInt Syntax.w32),
-) (List._∷_ (3, Rows.sc-here (Row.sInt Syntax.w32)) (List._∷_ (4, Rows.sc-here (Row.sInt Syntax.w64)) (List._∷_ (
-  5,
-  Rows.any-gone (Syntax.tyStruct (List._∷_ 115 (List._∷_ 116
-      (List._∷_ 97 (List._∷_ 116 (List._∷_ 105 (List._∷_ 115 (List._∷_ 116 (List._∷_ 105 (List._∷_ 99 (List._∷_ 115 (List._∷_ 58 (List._∷_ 58 (List._∷_ 82 (List._∷_ 101 (List._∷_ 99 (List._∷_ 111 (List._∷_
-      114 (List._∷_ 100 List.[])))))))))))))))))) (Syntax.tcons (Syntax.tyInt Syntax.w32) (Syntax.tcons (Syntax.tyInt Syntax.w32) Syntax.tnil))),
-) (List._∷_ (6, Rows.whole (Declared.row Record.the-type))
-    (List._∷_ (7, Rows.any-gone Syntax.tyBool) (List._∷_ (8, Rows.any-gone (Syntax.tyRef Syntax.erased Syntax.mut Element.behind)) (List._∷_ (
-      9,
-      Rows.any-gone (Syntax.tyStruct (List._∷_ 38
-          (List._∷_ 91 (List._∷_ 93 List.[]))) (Syntax.tcons (Syntax.tyRef Syntax.erased Syntax.mut Element.behind) (Syntax.tcons (Syntax.tyInt Syntax.w64) Syntax.tnil))),
-    ) (List._∷_ (
-      10,
-      Rows.any-gone
-          Syntax.tyUnit,
-    ) (List._∷_ (11, Relend.msptr (Element.type) (Syntax.tyRef Syntax.erased Syntax.mut Element.behind) 2) (List._∷_ (
-      12,
-      Rows.any-gone (Syntax.tyStruct (List._∷_ 38 (List._∷_ 91
-          (List._∷_ 93 List.[]))) (Syntax.tcons (Syntax.tyRef Syntax.erased Syntax.mut Element.behind) (Syntax.tcons (Syntax.tyInt Syntax.w64) Syntax.tnil))),
-    ) List.[]))))))))))))
+t10 = List._∷_ e0 (List._∷_ e4 (List._∷_ e13 (List._∷_ e14 (List._∷_ e16 (List._∷_ e17 (List._∷_ e20 (List._∷_ e21 (List._∷_ e23 (List._∷_ e26 (List._∷_ e5 (List._∷_ e7 (List._∷_ e11
+    List.[]))))))))))))
 
 abbrev pub t11 : List.List Row.Entry
-t11 = List._∷_ (0, Rows.any-gone Syntax.tyUnit) (List._∷_ (1, Relend.mslice-owed (Element.type) (Syntax.tyRef (Syntax.named 0) Syntax.mut Element.behind) 0 2 Row.off) (List._∷_ (
-  2,
-  Rows.sc-here
-      (Row.sInt Syntax.w32),
-) (List._∷_ (3, Rows.sc-here (Row.sInt Syntax.w32)) (List._∷_ (4, Rows.sc-here (Row.sInt Syntax.w64)) (List._∷_ (
-  5,
-  Rows.any-gone (Syntax.tyStruct (List._∷_ 115 (List._∷_ 116
-      (List._∷_ 97 (List._∷_ 116 (List._∷_ 105 (List._∷_ 115 (List._∷_ 116 (List._∷_ 105 (List._∷_ 99 (List._∷_ 115 (List._∷_ 58 (List._∷_ 58 (List._∷_ 82 (List._∷_ 101 (List._∷_ 99 (List._∷_ 111 (List._∷_
-      114 (List._∷_ 100 List.[])))))))))))))))))) (Syntax.tcons (Syntax.tyInt Syntax.w32) (Syntax.tcons (Syntax.tyInt Syntax.w32) Syntax.tnil))),
-) (List._∷_ (6, Rows.whole (Declared.row Record.the-type))
-    (List._∷_ (7, Rows.any-gone Syntax.tyBool) (List._∷_ (8, Rows.any-gone (Syntax.tyRef Syntax.erased Syntax.mut Element.behind)) (List._∷_ (
-      9,
-      Rows.any-gone (Syntax.tyStruct (List._∷_ 38
-          (List._∷_ 91 (List._∷_ 93 List.[]))) (Syntax.tcons (Syntax.tyRef Syntax.erased Syntax.mut Element.behind) (Syntax.tcons (Syntax.tyInt Syntax.w64) Syntax.tnil))),
-    ) (List._∷_ (
-      10,
-      Rows.any-gone
-          Syntax.tyUnit,
-    ) (List._∷_ (11, Rows.any-gone (Syntax.tyRef Syntax.erased Syntax.mut Element.behind)) (List._∷_ (
-      12,
-      Mut.mslice (Element.type) (Syntax.tyRef Syntax.erased Syntax.mut Element.behind)
-          2,
-    ) List.[]))))))))))))
+t11 = List._∷_ e0 (List._∷_ e4 (List._∷_ e13 (List._∷_ e14 (List._∷_ e16 (List._∷_ e17 (List._∷_ e20 (List._∷_ e21 (List._∷_ e23 (List._∷_ e26 (List._∷_ e5 (List._∷_ e8 (List._∷_ e10
+    List.[]))))))))))))
 
 abbrev pub t12 : List.List Row.Entry
-t12 = List._∷_ (0, Rows.any-gone Syntax.tyUnit) (List._∷_ (1, Relend.mslice-owed (Element.type) (Syntax.tyRef (Syntax.named 0) Syntax.mut Element.behind) 0 2 Row.off) (List._∷_ (
-  2,
-  Rows.sc-here
-      (Row.sInt Syntax.w32),
-) (List._∷_ (3, Rows.sc-here (Row.sInt Syntax.w32)) (List._∷_ (4, Rows.sc-here (Row.sInt Syntax.w64)) (List._∷_ (
-  5,
-  Rows.any-gone (Syntax.tyStruct (List._∷_ 115 (List._∷_ 116
-      (List._∷_ 97 (List._∷_ 116 (List._∷_ 105 (List._∷_ 115 (List._∷_ 116 (List._∷_ 105 (List._∷_ 99 (List._∷_ 115 (List._∷_ 58 (List._∷_ 58 (List._∷_ 82 (List._∷_ 101 (List._∷_ 99 (List._∷_ 111 (List._∷_
-      114 (List._∷_ 100 List.[])))))))))))))))))) (Syntax.tcons (Syntax.tyInt Syntax.w32) (Syntax.tcons (Syntax.tyInt Syntax.w32) Syntax.tnil))),
-) (List._∷_ (6, Rows.whole (Declared.row Record.the-type))
-    (List._∷_ (7, Rows.any-gone Syntax.tyBool) (List._∷_ (8, Rows.any-gone (Syntax.tyRef Syntax.erased Syntax.mut Element.behind)) (List._∷_ (
-      9,
-      Rows.any-gone (Syntax.tyStruct (List._∷_ 38
-          (List._∷_ 91 (List._∷_ 93 List.[]))) (Syntax.tcons (Syntax.tyRef Syntax.erased Syntax.mut Element.behind) (Syntax.tcons (Syntax.tyInt Syntax.w64) Syntax.tnil))),
-    ) (List._∷_ (
-      10,
-      Rows.sc-here
-          Row.sUnit,
-    ) (List._∷_ (11, Rows.any-gone (Syntax.tyRef Syntax.erased Syntax.mut Element.behind)) (List._∷_ (12, Mut.msleft (Element.type) (Syntax.tyRef Syntax.erased Syntax.mut Element.behind))
+t12 = List._∷_ e0 (List._∷_ e4 (List._∷_ e13 (List._∷_ e14 (List._∷_ e16 (List._∷_ e17 (List._∷_ e20 (List._∷_ e21 (List._∷_ e23 (List._∷_ e26 (List._∷_ e6 (List._∷_ e8 (List._∷_ e9
     List.[]))))))))))))
 
 abbrev pub t13 : List.List Row.Entry
-t13 = List._∷_ (0, Rows.any-gone Syntax.tyUnit) (List._∷_ (1, Relend.mslice-owed (Element.type) (Syntax.tyRef (Syntax.named 0) Syntax.mut Element.behind) 0 2 Row.off) (List._∷_ (
-  2,
-  Rows.sc-here
-      (Row.sInt Syntax.w32),
-) (List._∷_ (3, Rows.sc-here (Row.sInt Syntax.w32)) (List._∷_ (4, Rows.sc-here (Row.sInt Syntax.w64)) (List._∷_ (
-  5,
-  Rows.any-gone (Syntax.tyStruct (List._∷_ 115 (List._∷_ 116
-      (List._∷_ 97 (List._∷_ 116 (List._∷_ 105 (List._∷_ 115 (List._∷_ 116 (List._∷_ 105 (List._∷_ 99 (List._∷_ 115 (List._∷_ 58 (List._∷_ 58 (List._∷_ 82 (List._∷_ 101 (List._∷_ 99 (List._∷_ 111 (List._∷_
-      114 (List._∷_ 100 List.[])))))))))))))))))) (Syntax.tcons (Syntax.tyInt Syntax.w32) (Syntax.tcons (Syntax.tyInt Syntax.w32) Syntax.tnil))),
-) (List._∷_ (
-  6,
-  Rows.any-gone (Syntax.tyStruct (List._∷_
-      115 (List._∷_ 116 (List._∷_ 97 (List._∷_ 116 (List._∷_ 105 (List._∷_ 115 (List._∷_ 116 (List._∷_ 105 (List._∷_ 99 (List._∷_ 115 (List._∷_ 58 (List._∷_ 58 (List._∷_ 82 (List._∷_ 101 (List._∷_ 99
-      (List._∷_ 111 (List._∷_ 114 (List._∷_ 100 List.[])))))))))))))))))) (Syntax.tcons (Syntax.tyInt Syntax.w32) (Syntax.tcons (Syntax.tyInt Syntax.w32) Syntax.tnil))),
-) (List._∷_ (
-  7,
-  Rows.any-gone
-      Syntax.tyBool,
-) (List._∷_ (8, Rows.any-gone (Syntax.tyRef Syntax.erased Syntax.mut Element.behind)) (List._∷_ (
-  9,
-  Rows.any-gone (Syntax.tyStruct (List._∷_ 38 (List._∷_ 91 (List._∷_ 93 List.[])))
-      (Syntax.tcons (Syntax.tyRef Syntax.erased Syntax.mut Element.behind) (Syntax.tcons (Syntax.tyInt Syntax.w64) Syntax.tnil))),
-) (List._∷_ (10, Rows.sc-here Row.sUnit) (List._∷_ (
-  11,
-  Rows.any-gone
-      (Syntax.tyRef Syntax.erased Syntax.mut Element.behind),
-) (List._∷_ (12, Mut.msleft (Element.type) (Syntax.tyRef Syntax.erased Syntax.mut Element.behind)) List.[]))))))))))))
+t13 = List._∷_ e0 (List._∷_ e4 (List._∷_ e13 (List._∷_ e14 (List._∷_ e16 (List._∷_ e17 (List._∷_ e19 (List._∷_ e21 (List._∷_ e23 (List._∷_ e26 (List._∷_ e6 (List._∷_ e8 (List._∷_ e9
+    List.[]))))))))))))
 
 abbrev pub t14 : List.List Row.Entry
-t14 = List._∷_ (0, Rows.any-gone Syntax.tyUnit) (List._∷_ (1, Relend.mslice-owed (Element.type) (Syntax.tyRef (Syntax.named 0) Syntax.mut Element.behind) 0 2 Row.off) (List._∷_ (
-  2,
-  Rows.sc-here
-      (Row.sInt Syntax.w32),
-) (List._∷_ (3, Rows.sc-here (Row.sInt Syntax.w32)) (List._∷_ (4, Rows.sc-here (Row.sInt Syntax.w64)) (List._∷_ (
-  5,
-  Rows.any-gone (Syntax.tyStruct (List._∷_ 115 (List._∷_ 116
-      (List._∷_ 97 (List._∷_ 116 (List._∷_ 105 (List._∷_ 115 (List._∷_ 116 (List._∷_ 105 (List._∷_ 99 (List._∷_ 115 (List._∷_ 58 (List._∷_ 58 (List._∷_ 82 (List._∷_ 101 (List._∷_ 99 (List._∷_ 111 (List._∷_
-      114 (List._∷_ 100 List.[])))))))))))))))))) (Syntax.tcons (Syntax.tyInt Syntax.w32) (Syntax.tcons (Syntax.tyInt Syntax.w32) Syntax.tnil))),
-) (List._∷_ (
-  6,
-  Rows.any-gone (Syntax.tyStruct (List._∷_
-      115 (List._∷_ 116 (List._∷_ 97 (List._∷_ 116 (List._∷_ 105 (List._∷_ 115 (List._∷_ 116 (List._∷_ 105 (List._∷_ 99 (List._∷_ 115 (List._∷_ 58 (List._∷_ 58 (List._∷_ 82 (List._∷_ 101 (List._∷_ 99
-      (List._∷_ 111 (List._∷_ 114 (List._∷_ 100 List.[])))))))))))))))))) (Syntax.tcons (Syntax.tyInt Syntax.w32) (Syntax.tcons (Syntax.tyInt Syntax.w32) Syntax.tnil))),
-) (List._∷_ (
-  7,
-  Rows.any-gone
-      Syntax.tyBool,
-) (List._∷_ (8, Rows.any-gone (Syntax.tyRef Syntax.erased Syntax.mut Element.behind)) (List._∷_ (
-  9,
-  Rows.any-gone (Syntax.tyStruct (List._∷_ 38 (List._∷_ 91 (List._∷_ 93 List.[])))
-      (Syntax.tcons (Syntax.tyRef Syntax.erased Syntax.mut Element.behind) (Syntax.tcons (Syntax.tyInt Syntax.w64) Syntax.tnil))),
-) (List._∷_ (10, Rows.any-gone Syntax.tyUnit) (List._∷_ (
-  11,
-  Rows.any-gone
-      (Syntax.tyRef Syntax.erased Syntax.mut Element.behind),
-) (List._∷_ (12, Mut.msleft (Element.type) (Syntax.tyRef Syntax.erased Syntax.mut Element.behind)) List.[]))))))))))))
+t14 = List._∷_ e0 (List._∷_ e4 (List._∷_ e13 (List._∷_ e14 (List._∷_ e16 (List._∷_ e17 (List._∷_ e19 (List._∷_ e21 (List._∷_ e23 (List._∷_ e26 (List._∷_ e5 (List._∷_ e8 (List._∷_ e9
+    List.[]))))))))))))
 
 abbrev pub t15 : List.List Row.Entry
-t15 = List._∷_ (0, Rows.sc-here Row.sUnit) (List._∷_ (1, Mut.mslice (Element.type) (Syntax.tyRef (Syntax.named 0) Syntax.mut Element.behind) 0) (List._∷_ (2, Rows.sc-here (Row.sInt Syntax.w32))
-    (List._∷_ (3, Rows.sc-here (Row.sInt Syntax.w32)) (List._∷_ (4, Rows.sc-here (Row.sInt Syntax.w64)) (List._∷_ (
-      5,
-      Rows.any-gone (Syntax.tyStruct (List._∷_ 115 (List._∷_ 116 (List._∷_ 97 (List._∷_
-          116 (List._∷_ 105 (List._∷_ 115 (List._∷_ 116 (List._∷_ 105 (List._∷_ 99 (List._∷_ 115 (List._∷_ 58 (List._∷_ 58 (List._∷_ 82 (List._∷_ 101 (List._∷_ 99 (List._∷_ 111 (List._∷_ 114 (List._∷_ 100
-          List.[])))))))))))))))))) (Syntax.tcons (Syntax.tyInt Syntax.w32) (Syntax.tcons (Syntax.tyInt Syntax.w32) Syntax.tnil))),
-    ) (List._∷_ (
-      6,
-      Rows.any-gone (Syntax.tyStruct (List._∷_ 115 (List._∷_ 116
-          (List._∷_ 97 (List._∷_ 116 (List._∷_ 105 (List._∷_ 115 (List._∷_ 116 (List._∷_ 105 (List._∷_ 99 (List._∷_ 115 (List._∷_ 58 (List._∷_ 58 (List._∷_ 82 (List._∷_ 101 (List._∷_ 99 (List._∷_ 111 (List._∷_
-          114 (List._∷_ 100 List.[])))))))))))))))))) (Syntax.tcons (Syntax.tyInt Syntax.w32) (Syntax.tcons (Syntax.tyInt Syntax.w32) Syntax.tnil))),
-    ) (List._∷_ (7, Rows.any-gone Syntax.tyBool) (List._∷_ (
-      8,
-      Rows.any-gone (Syntax.tyRef Syntax.erased Syntax.mut Element.behind),
-    ) (List._∷_ (
-      9,
-      Rows.any-gone (Syntax.tyStruct (List._∷_ 38 (List._∷_ 91 (List._∷_ 93 List.[]))) (Syntax.tcons (Syntax.tyRef
-          Syntax.erased Syntax.mut Element.behind) (Syntax.tcons (Syntax.tyInt Syntax.w64) Syntax.tnil))),
-    ) (List._∷_ (10, Rows.any-gone Syntax.tyUnit) (List._∷_ (
-      11,
-      Rows.any-gone (Syntax.tyRef Syntax.erased
-          Syntax.mut Element.behind),
-    ) (List._∷_ (
-      12,
-      Rows.any-gone (Syntax.tyStruct (List._∷_ 38 (List._∷_ 91 (List._∷_ 93 List.[]))) (Syntax.tcons (Syntax.tyRef Syntax.erased Syntax.mut Element.behind)
-          (Syntax.tcons (Syntax.tyInt Syntax.w64) Syntax.tnil))),
-    ) List.[]))))))))))))
+t15 = List._∷_ e1 (List._∷_ e2 (List._∷_ e13 (List._∷_ e14 (List._∷_ e16 (List._∷_ e17 (List._∷_ e19 (List._∷_ e21 (List._∷_ e23 (List._∷_ e26 (List._∷_ e5 (List._∷_ e8 (List._∷_ e11
+    List.[]))))))))))))
 
 abbrev pub t16 : List.List Row.Entry
-t16 = List._∷_ (0, Rows.sc-here Row.sUnit) (List._∷_ (1, Mut.mslice (Element.type) (Syntax.tyRef (Syntax.named 0) Syntax.mut Element.behind) 0) (List._∷_ (2, Rows.sc-here (Row.sInt Syntax.w32))
-    (List._∷_ (3, Rows.sc-here (Row.sInt Syntax.w32)) (List._∷_ (4, Rows.any-gone (Syntax.tyInt Syntax.w64)) (List._∷_ (
-      5,
-      Rows.any-gone (Syntax.tyStruct (List._∷_ 115 (List._∷_ 116 (List._∷_ 97
-          (List._∷_ 116 (List._∷_ 105 (List._∷_ 115 (List._∷_ 116 (List._∷_ 105 (List._∷_ 99 (List._∷_ 115 (List._∷_ 58 (List._∷_ 58 (List._∷_ 82 (List._∷_ 101 (List._∷_ 99 (List._∷_ 111 (List._∷_ 114 (List._∷_
-          100 List.[])))))))))))))))))) (Syntax.tcons (Syntax.tyInt Syntax.w32) (Syntax.tcons (Syntax.tyInt Syntax.w32) Syntax.tnil))),
-    ) (List._∷_ (
-      6,
-      Rows.any-gone (Syntax.tyStruct (List._∷_ 115 (List._∷_
-          116 (List._∷_ 97 (List._∷_ 116 (List._∷_ 105 (List._∷_ 115 (List._∷_ 116 (List._∷_ 105 (List._∷_ 99 (List._∷_ 115 (List._∷_ 58 (List._∷_ 58 (List._∷_ 82 (List._∷_ 101 (List._∷_ 99 (List._∷_ 111
-          (List._∷_ 114 (List._∷_ 100 List.[])))))))))))))))))) (Syntax.tcons (Syntax.tyInt Syntax.w32) (Syntax.tcons (Syntax.tyInt Syntax.w32) Syntax.tnil))),
-    ) (List._∷_ (7, Rows.any-gone Syntax.tyBool)
-    (List._∷_ (8, Rows.any-gone (Syntax.tyRef Syntax.erased Syntax.mut Element.behind)) (List._∷_ (
-      9,
-      Rows.any-gone (Syntax.tyStruct (List._∷_ 38 (List._∷_ 91 (List._∷_ 93 List.[]))) (Syntax.tcons
-          (Syntax.tyRef Syntax.erased Syntax.mut Element.behind) (Syntax.tcons (Syntax.tyInt Syntax.w64) Syntax.tnil))),
-    ) (List._∷_ (10, Rows.any-gone Syntax.tyUnit) (List._∷_ (
-      11,
-      Rows.any-gone (Syntax.tyRef
-          Syntax.erased Syntax.mut Element.behind),
-    ) (List._∷_ (
-      12,
-      Rows.any-gone (Syntax.tyStruct (List._∷_ 38 (List._∷_ 91 (List._∷_ 93 List.[]))) (Syntax.tcons (Syntax.tyRef Syntax.erased Syntax.mut
-          Element.behind) (Syntax.tcons (Syntax.tyInt Syntax.w64) Syntax.tnil))),
-    ) List.[]))))))))))))
+t16 = List._∷_ e1 (List._∷_ e2 (List._∷_ e13 (List._∷_ e14 (List._∷_ e15 (List._∷_ e17 (List._∷_ e19 (List._∷_ e21 (List._∷_ e23 (List._∷_ e26 (List._∷_ e5 (List._∷_ e8 (List._∷_ e11
+    List.[]))))))))))))
 
 abbrev pub t17 : List.List Row.Entry
-t17 = List._∷_ (0, Rows.sc-here Row.sUnit) (List._∷_ (1, Mut.mslice (Element.type) (Syntax.tyRef (Syntax.named 0) Syntax.mut Element.behind) 0) (List._∷_ (
-  2,
-  Rows.any-gone (Syntax.tyInt
-      Syntax.w32),
-) (List._∷_ (3, Rows.sc-here (Row.sInt Syntax.w32)) (List._∷_ (4, Rows.any-gone (Syntax.tyInt Syntax.w64)) (List._∷_ (
-  5,
-  Rows.any-gone (Syntax.tyStruct (List._∷_ 115 (List._∷_ 116
-      (List._∷_ 97 (List._∷_ 116 (List._∷_ 105 (List._∷_ 115 (List._∷_ 116 (List._∷_ 105 (List._∷_ 99 (List._∷_ 115 (List._∷_ 58 (List._∷_ 58 (List._∷_ 82 (List._∷_ 101 (List._∷_ 99 (List._∷_ 111 (List._∷_
-      114 (List._∷_ 100 List.[])))))))))))))))))) (Syntax.tcons (Syntax.tyInt Syntax.w32) (Syntax.tcons (Syntax.tyInt Syntax.w32) Syntax.tnil))),
-) (List._∷_ (
-  6,
-  Rows.any-gone (Syntax.tyStruct (List._∷_
-      115 (List._∷_ 116 (List._∷_ 97 (List._∷_ 116 (List._∷_ 105 (List._∷_ 115 (List._∷_ 116 (List._∷_ 105 (List._∷_ 99 (List._∷_ 115 (List._∷_ 58 (List._∷_ 58 (List._∷_ 82 (List._∷_ 101 (List._∷_ 99
-      (List._∷_ 111 (List._∷_ 114 (List._∷_ 100 List.[])))))))))))))))))) (Syntax.tcons (Syntax.tyInt Syntax.w32) (Syntax.tcons (Syntax.tyInt Syntax.w32) Syntax.tnil))),
-) (List._∷_ (
-  7,
-  Rows.any-gone
-      Syntax.tyBool,
-) (List._∷_ (8, Rows.any-gone (Syntax.tyRef Syntax.erased Syntax.mut Element.behind)) (List._∷_ (
-  9,
-  Rows.any-gone (Syntax.tyStruct (List._∷_ 38 (List._∷_ 91 (List._∷_ 93 List.[])))
-      (Syntax.tcons (Syntax.tyRef Syntax.erased Syntax.mut Element.behind) (Syntax.tcons (Syntax.tyInt Syntax.w64) Syntax.tnil))),
-) (List._∷_ (10, Rows.any-gone Syntax.tyUnit) (List._∷_ (
-  11,
-  Rows.any-gone
-      (Syntax.tyRef Syntax.erased Syntax.mut Element.behind),
-) (List._∷_ (
-  12,
-  Rows.any-gone (Syntax.tyStruct (List._∷_ 38 (List._∷_ 91 (List._∷_ 93 List.[]))) (Syntax.tcons (Syntax.tyRef Syntax.erased
-      Syntax.mut Element.behind) (Syntax.tcons (Syntax.tyInt Syntax.w64) Syntax.tnil))),
-) List.[]))))))))))))
+t17 = List._∷_ e1 (List._∷_ e2 (List._∷_ e12 (List._∷_ e14 (List._∷_ e15 (List._∷_ e17 (List._∷_ e19 (List._∷_ e21 (List._∷_ e23 (List._∷_ e26 (List._∷_ e5 (List._∷_ e8 (List._∷_ e11
+    List.[]))))))))))))
 
 abbrev pub T0 : Row.Cx
 T0 = record { locals = t0; slots = List.[] }
@@ -841,23 +525,17 @@ module _ (claims· : Claims) where
       x) (Scalar.oFld 1 (List._∷_ (Syntax.field 1) List.[]) (Syntax.tyInt Syntax.w64) 8 λ v. Shared.lenV (v .0))
 
   abbrev s7 : Typed.Both T10 T11
-  s7 = Call.callB ps·0 r·0 (claims· .0) (claims· .1) T10 (record { pos = 9; ty = Syntax.tyRef Syntax.erased Syntax.mut Element.behind; ref = λ x. x }, (Num.vAt 4 λ x. x, tt)) 5 (List._∷_ 1
-      List.[]) (Syntax.tyStruct (List._∷_ 115 (List._∷_ 116 (List._∷_ 97 (List._∷_ 116 (List._∷_ 105 (List._∷_ 115 (List._∷_ 116 (List._∷_ 105 (List._∷_ 99 (List._∷_ 115 (List._∷_ 58 (List._∷_ 58
-      (List._∷_ 82 (List._∷_ 101 (List._∷_ 99 (List._∷_ 111 (List._∷_ 114 (List._∷_ 100 List.[])))))))))))))))))) (Syntax.tcons (Syntax.tyInt Syntax.w32) (Syntax.tcons (Syntax.tyInt Syntax.w32)
-      Syntax.tnil)))
+  s7 = Call.callB ps·0 r·0 (claims· .0) (claims· .1) T10 (record { pos = 9; ty = Syntax.tyRef Syntax.erased Syntax.mut Element.behind; ref = λ x. x }, (Num.vAt 4 λ x. x, tt)) 5 (List._∷_ 1 List.[])
+      y0
 
   abbrev s9 : Typed.Both T11 T13
   s9 = Relend.k-back-sl (Element.type) T11 9 1 0 1 (Syntax.tyRef (Syntax.named 0) Syntax.mut Element.behind) (Syntax.tyRef Syntax.erased Syntax.mut Element.behind) Row.off (λ x. x) λ x. x
 
   abbrev s11 : Typed.Both T13 T15
-  s11 = Call.callB ps·1 r·1 (claims· .2) (claims· .3) T13 (record { pos = 5; st = List.[]; d = 0; at = λ x. x }, (Num.vAt 2 λ x. x, (Num.vAt 3 λ x. x, (Num.vAt 4 λ x. x, tt)))) 6 List.[]
-      (Syntax.tyStruct (List._∷_ 115 (List._∷_ 116 (List._∷_ 97 (List._∷_ 116 (List._∷_ 105 (List._∷_ 115 (List._∷_ 116 (List._∷_ 105 (List._∷_ 99 (List._∷_ 115 (List._∷_ 58 (List._∷_ 58 (List._∷_ 82
-      (List._∷_ 101 (List._∷_ 99 (List._∷_ 111 (List._∷_ 114 (List._∷_ 100 List.[])))))))))))))))))) (Syntax.tcons (Syntax.tyInt Syntax.w32) (Syntax.tcons (Syntax.tyInt Syntax.w32) Syntax.tnil)))
+  s11 = Call.callB ps·1 r·1 (claims· .2) (claims· .3) T13 (record { pos = 5; st = List.[]; d = 0; at = λ x. x }, (Num.vAt 2 λ x. x, (Num.vAt 3 λ x. x, (Num.vAt 4 λ x. x, tt)))) 6 List.[] y0
 
   abbrev s12 : Typed.Mo T15 → Typed.Mo T16
-  s12 = Scalar.n-room T15 5 (Syntax.tyStruct (List._∷_ 115 (List._∷_ 116 (List._∷_ 97 (List._∷_ 116 (List._∷_ 105 (List._∷_ 115 (List._∷_ 116 (List._∷_ 105 (List._∷_ 99 (List._∷_ 115 (List._∷_ 58
-      (List._∷_ 58 (List._∷_ 82 (List._∷_ 101 (List._∷_ 99 (List._∷_ 111 (List._∷_ 114 (List._∷_ 100 List.[])))))))))))))))))) (Syntax.tcons (Syntax.tyInt Syntax.w32) (Syntax.tcons (Syntax.tyInt
-      Syntax.w32) Syntax.tnil)))
+  s12 = Scalar.n-room T15 5 y0
 
   abbrev s14 : Typed.Gives T16 T18
   s14 = Relend.k-sl-relend (Element.type) T16 1 11 0 2 (Syntax.tyRef (Syntax.named 0) Syntax.mut Element.behind) (Syntax.tyRef Syntax.erased Syntax.mut Element.behind) Row.off λ x. x
@@ -867,27 +545,12 @@ module _ (claims· : Claims) where
       x. x) (Scalar.oFld 1 (List._∷_ (Syntax.field 1) List.[]) (Syntax.tyInt Syntax.w64) 8 λ v. Shared.lenV (v .0))
 
   abbrev s16 : Typed.Both T19 T20
-  s16 = Call.callB ps·2 r·2 (claims· .4) (claims· .5) T19 (
-    record { pos = 12; ty = Syntax.tyRef Syntax.erased Syntax.mut Element.behind; ref = λ x. x },
-    (
-      Num.vAt 4 λ x. x,
-      (
-        record {
-          pos = 6;
-          st =
-              List.[];
-          d = 0;
-          at = λ x. x;
-        },
-        tt,
-      ),
-    ),
-  ) 10 (List._∷_ 2 List.[]) Syntax.tyUnit
+  s16 = Call.callB ps·2 r·2 (claims· .4) (claims· .5) T19
+      (record { pos = 12; ty = Syntax.tyRef Syntax.erased Syntax.mut Element.behind; ref = λ x. x }, (Num.vAt 4 λ x. x, (record { pos = 6; st = List.[]; d = 0; at = λ x. x }, tt))) 10 (List._∷_ 2
+      List.[]) Syntax.tyUnit
 
   abbrev s17 : Typed.Mo T20 → Typed.Mo T21
-  s17 = Scalar.n-room T20 6 (Syntax.tyStruct (List._∷_ 115 (List._∷_ 116 (List._∷_ 97 (List._∷_ 116 (List._∷_ 105 (List._∷_ 115 (List._∷_ 116 (List._∷_ 105 (List._∷_ 99 (List._∷_ 115 (List._∷_ 58
-      (List._∷_ 58 (List._∷_ 82 (List._∷_ 101 (List._∷_ 99 (List._∷_ 111 (List._∷_ 114 (List._∷_ 100 List.[])))))))))))))))))) (Syntax.tcons (Syntax.tyInt Syntax.w32) (Syntax.tcons (Syntax.tyInt
-      Syntax.w32) Syntax.tnil)))
+  s17 = Scalar.n-room T20 6 y0
 
   abbrev s18 : Typed.Mo T21 → Typed.Mo T22
   s18 = Scalar.n-room T21 10 Syntax.tyUnit
@@ -1039,190 +702,36 @@ module _ (claims· : Claims) where
 
       module _ (κs : Lifetimes.Lfts 1) (qs : Lifetimes.Shares 1) where
         abbrev g4 : List.List Row.Entry
-        g4 = List._∷_ (0, Rows.any-gone Syntax.tyUnit) (List._∷_ (1, Relend.mslice-owed (Element.type) (Syntax.tyRef (Syntax.named 0) Syntax.mut Element.behind) 0 1 (Row.lease (κs .0) (qs .0)))
-            (List._∷_ (2, Rows.sc-here (Row.sInt Syntax.w32)) (List._∷_ (3, Rows.sc-here (Row.sInt Syntax.w32)) (List._∷_ (4, Rows.sc-here (Row.sInt Syntax.w64)) (List._∷_ (
-              5,
-              Rows.any-gone
-                  (Syntax.tyStruct (List._∷_ 115 (List._∷_ 116 (List._∷_ 97 (List._∷_ 116 (List._∷_ 105 (List._∷_ 115 (List._∷_ 116 (List._∷_ 105 (List._∷_ 99 (List._∷_ 115 (List._∷_ 58 (List._∷_ 58 (List._∷_
-                  82 (List._∷_ 101 (List._∷_ 99 (List._∷_ 111 (List._∷_ 114 (List._∷_ 100 List.[])))))))))))))))))) (Syntax.tcons (Syntax.tyInt Syntax.w32) (Syntax.tcons (Syntax.tyInt Syntax.w32)
-                  Syntax.tnil))),
-            ) (List._∷_ (
-              6,
-              Rows.any-gone (Syntax.tyStruct (List._∷_ 115 (List._∷_ 116 (List._∷_ 97 (List._∷_ 116 (List._∷_ 105 (List._∷_ 115 (List._∷_ 116 (List._∷_ 105 (List._∷_ 99
-                  (List._∷_ 115 (List._∷_ 58 (List._∷_ 58 (List._∷_ 82 (List._∷_ 101 (List._∷_ 99 (List._∷_ 111 (List._∷_ 114 (List._∷_ 100 List.[])))))))))))))))))) (Syntax.tcons (Syntax.tyInt Syntax.w32)
-                  (Syntax.tcons (Syntax.tyInt Syntax.w32) Syntax.tnil))),
-            ) (List._∷_ (7, Rows.any-gone Syntax.tyBool) (List._∷_ (
-              8,
-              Relend.msptr (Element.type) (Syntax.tyRef Syntax.erased Syntax.mut
-                  Element.behind) 1,
-            ) (List._∷_ (
-              9,
-              Rows.any-gone (Syntax.tyStruct (List._∷_ 38 (List._∷_ 91 (List._∷_ 93 List.[]))) (Syntax.tcons (Syntax.tyRef Syntax.erased Syntax.mut Element.behind)
-                  (Syntax.tcons (Syntax.tyInt Syntax.w64) Syntax.tnil))),
-            ) (List._∷_ (10, Rows.any-gone Syntax.tyUnit) (List._∷_ (11, Rows.any-gone (Syntax.tyRef Syntax.erased Syntax.mut Element.behind))
-            (List._∷_ (
-              12,
-              Rows.any-gone (Syntax.tyStruct (List._∷_ 38 (List._∷_ 91 (List._∷_ 93 List.[]))) (Syntax.tcons (Syntax.tyRef Syntax.erased Syntax.mut Element.behind) (Syntax.tcons
-                  (Syntax.tyInt Syntax.w64) Syntax.tnil))),
-            ) List.[]))))))))))))
+        g4 = List._∷_ e0 (List._∷_ (1, Relend.mslice-owed (Element.type) (Syntax.tyRef (Syntax.named 0) Syntax.mut Element.behind) 0 1 (Row.lease (κs .0) (qs .0))) (List._∷_ e13 (List._∷_ e14
+            (List._∷_ e16 (List._∷_ e17 (List._∷_ e19 (List._∷_ e21 (List._∷_ e22 (List._∷_ e26 (List._∷_ e5 (List._∷_ e8 (List._∷_ e11 List.[]))))))))))))
 
         abbrev g5 : List.List Row.Entry
-        g5 = List._∷_ (0, Rows.any-gone Syntax.tyUnit) (List._∷_ (1, Relend.mslice-owed (Element.type) (Syntax.tyRef (Syntax.named 0) Syntax.mut Element.behind) 0 1 (Row.lease (κs .0) (qs .0)))
-            (List._∷_ (2, Rows.sc-here (Row.sInt Syntax.w32)) (List._∷_ (3, Rows.sc-here (Row.sInt Syntax.w32)) (List._∷_ (4, Rows.sc-here (Row.sInt Syntax.w64)) (List._∷_ (
-              5,
-              Rows.any-gone
-                  (Syntax.tyStruct (List._∷_ 115 (List._∷_ 116 (List._∷_ 97 (List._∷_ 116 (List._∷_ 105 (List._∷_ 115 (List._∷_ 116 (List._∷_ 105 (List._∷_ 99 (List._∷_ 115 (List._∷_ 58 (List._∷_ 58 (List._∷_
-                  82 (List._∷_ 101 (List._∷_ 99 (List._∷_ 111 (List._∷_ 114 (List._∷_ 100 List.[])))))))))))))))))) (Syntax.tcons (Syntax.tyInt Syntax.w32) (Syntax.tcons (Syntax.tyInt Syntax.w32)
-                  Syntax.tnil))),
-            ) (List._∷_ (
-              6,
-              Rows.any-gone (Syntax.tyStruct (List._∷_ 115 (List._∷_ 116 (List._∷_ 97 (List._∷_ 116 (List._∷_ 105 (List._∷_ 115 (List._∷_ 116 (List._∷_ 105 (List._∷_ 99
-                  (List._∷_ 115 (List._∷_ 58 (List._∷_ 58 (List._∷_ 82 (List._∷_ 101 (List._∷_ 99 (List._∷_ 111 (List._∷_ 114 (List._∷_ 100 List.[])))))))))))))))))) (Syntax.tcons (Syntax.tyInt Syntax.w32)
-                  (Syntax.tcons (Syntax.tyInt Syntax.w32) Syntax.tnil))),
-            ) (List._∷_ (7, Rows.any-gone Syntax.tyBool) (List._∷_ (8, Rows.any-gone (Syntax.tyRef Syntax.erased Syntax.mut Element.behind))
-            (List._∷_ (9, Mut.mslice (Element.type) (Syntax.tyRef Syntax.erased Syntax.mut Element.behind) 1) (List._∷_ (10, Rows.any-gone Syntax.tyUnit) (List._∷_ (
-              11,
-              Rows.any-gone (Syntax.tyRef
-                  Syntax.erased Syntax.mut Element.behind),
-            ) (List._∷_ (
-              12,
-              Rows.any-gone (Syntax.tyStruct (List._∷_ 38 (List._∷_ 91 (List._∷_ 93 List.[]))) (Syntax.tcons (Syntax.tyRef Syntax.erased
-                  Syntax.mut Element.behind) (Syntax.tcons (Syntax.tyInt Syntax.w64) Syntax.tnil))),
-            ) List.[]))))))))))))
+        g5 = List._∷_ e0 (List._∷_ (1, Relend.mslice-owed (Element.type) (Syntax.tyRef (Syntax.named 0) Syntax.mut Element.behind) 0 1 (Row.lease (κs .0) (qs .0))) (List._∷_ e13 (List._∷_ e14
+            (List._∷_ e16 (List._∷_ e17 (List._∷_ e19 (List._∷_ e21 (List._∷_ e23 (List._∷_ e25 (List._∷_ e5 (List._∷_ e8 (List._∷_ e11 List.[]))))))))))))
 
         abbrev g6 : List.List Row.Entry
-        g6 = List._∷_ (0, Rows.any-gone Syntax.tyUnit) (List._∷_ (1, Relend.mslice-owed (Element.type) (Syntax.tyRef (Syntax.named 0) Syntax.mut Element.behind) 0 1 (Row.lease (κs .0) (qs .0)))
-            (List._∷_ (2, Rows.sc-here (Row.sInt Syntax.w32)) (List._∷_ (3, Rows.sc-here (Row.sInt Syntax.w32)) (List._∷_ (4, Rows.sc-here (Row.sInt Syntax.w64)) (List._∷_ (
-              5,
-              Rows.whole (Declared.row
-                  Record.the-type),
-            ) (List._∷_ (
-              6,
-              Rows.any-gone (Syntax.tyStruct (List._∷_ 115 (List._∷_ 116 (List._∷_ 97 (List._∷_ 116 (List._∷_ 105 (List._∷_ 115 (List._∷_ 116 (List._∷_ 105 (List._∷_ 99
-                  (List._∷_ 115 (List._∷_ 58 (List._∷_ 58 (List._∷_ 82 (List._∷_ 101 (List._∷_ 99 (List._∷_ 111 (List._∷_ 114 (List._∷_ 100 List.[])))))))))))))))))) (Syntax.tcons (Syntax.tyInt Syntax.w32)
-                  (Syntax.tcons (Syntax.tyInt Syntax.w32) Syntax.tnil))),
-            ) (List._∷_ (7, Rows.any-gone Syntax.tyBool) (List._∷_ (8, Rows.any-gone (Syntax.tyRef Syntax.erased Syntax.mut Element.behind))
-            (List._∷_ (9, Mut.msleft (Element.type) (Syntax.tyRef Syntax.erased Syntax.mut Element.behind)) (List._∷_ (10, Rows.any-gone Syntax.tyUnit) (List._∷_ (
-              11,
-              Rows.any-gone (Syntax.tyRef
-                  Syntax.erased Syntax.mut Element.behind),
-            ) (List._∷_ (
-              12,
-              Rows.any-gone (Syntax.tyStruct (List._∷_ 38 (List._∷_ 91 (List._∷_ 93 List.[]))) (Syntax.tcons (Syntax.tyRef Syntax.erased
-                  Syntax.mut Element.behind) (Syntax.tcons (Syntax.tyInt Syntax.w64) Syntax.tnil))),
-            ) List.[]))))))))))))
+        g6 = List._∷_ e0 (List._∷_ (1, Relend.mslice-owed (Element.type) (Syntax.tyRef (Syntax.named 0) Syntax.mut Element.behind) 0 1 (Row.lease (κs .0) (qs .0))) (List._∷_ e13 (List._∷_ e14
+            (List._∷_ e16 (List._∷_ e18 (List._∷_ e19 (List._∷_ e21 (List._∷_ e23 (List._∷_ e24 (List._∷_ e5 (List._∷_ e8 (List._∷_ e11 List.[]))))))))))))
 
         abbrev g10 : List.List Row.Entry
-        g10 = List._∷_ (0, Rows.any-gone Syntax.tyUnit) (List._∷_ (1, Relend.mslice-owed (Element.type) (Syntax.tyRef (Syntax.named 0) Syntax.mut Element.behind) 0 2 (Row.lease (κs .0) (qs .0)))
-            (List._∷_ (2, Rows.sc-here (Row.sInt Syntax.w32)) (List._∷_ (3, Rows.sc-here (Row.sInt Syntax.w32)) (List._∷_ (4, Rows.sc-here (Row.sInt Syntax.w64)) (List._∷_ (
-              5,
-              Rows.any-gone
-                  (Syntax.tyStruct (List._∷_ 115 (List._∷_ 116 (List._∷_ 97 (List._∷_ 116 (List._∷_ 105 (List._∷_ 115 (List._∷_ 116 (List._∷_ 105 (List._∷_ 99 (List._∷_ 115 (List._∷_ 58 (List._∷_ 58 (List._∷_
-                  82 (List._∷_ 101 (List._∷_ 99 (List._∷_ 111 (List._∷_ 114 (List._∷_ 100 List.[])))))))))))))))))) (Syntax.tcons (Syntax.tyInt Syntax.w32) (Syntax.tcons (Syntax.tyInt Syntax.w32)
-                  Syntax.tnil))),
-            ) (List._∷_ (6, Rows.whole (Declared.row Record.the-type)) (List._∷_ (7, Rows.any-gone Syntax.tyBool) (List._∷_ (
-              8,
-              Rows.any-gone (Syntax.tyRef Syntax.erased Syntax.mut
-                  Element.behind),
-            ) (List._∷_ (
-              9,
-              Rows.any-gone (Syntax.tyStruct (List._∷_ 38 (List._∷_ 91 (List._∷_ 93 List.[]))) (Syntax.tcons (Syntax.tyRef Syntax.erased Syntax.mut Element.behind)
-                  (Syntax.tcons (Syntax.tyInt Syntax.w64) Syntax.tnil))),
-            ) (List._∷_ (10, Rows.any-gone Syntax.tyUnit) (List._∷_ (
-              11,
-              Relend.msptr (Element.type) (Syntax.tyRef Syntax.erased Syntax.mut
-                  Element.behind) 2,
-            ) (List._∷_ (
-              12,
-              Rows.any-gone (Syntax.tyStruct (List._∷_ 38 (List._∷_ 91 (List._∷_ 93 List.[]))) (Syntax.tcons (Syntax.tyRef Syntax.erased Syntax.mut Element.behind)
-                  (Syntax.tcons (Syntax.tyInt Syntax.w64) Syntax.tnil))),
-            ) List.[]))))))))))))
+        g10 = List._∷_ e0 (List._∷_ (1, Relend.mslice-owed (Element.type) (Syntax.tyRef (Syntax.named 0) Syntax.mut Element.behind) 0 2 (Row.lease (κs .0) (qs .0))) (List._∷_ e13 (List._∷_ e14
+            (List._∷_ e16 (List._∷_ e17 (List._∷_ e20 (List._∷_ e21 (List._∷_ e23 (List._∷_ e26 (List._∷_ e5 (List._∷_ e7 (List._∷_ e11 List.[]))))))))))))
 
         abbrev g11 : List.List Row.Entry
-        g11 = List._∷_ (0, Rows.any-gone Syntax.tyUnit) (List._∷_ (1, Relend.mslice-owed (Element.type) (Syntax.tyRef (Syntax.named 0) Syntax.mut Element.behind) 0 2 (Row.lease (κs .0) (qs .0)))
-            (List._∷_ (2, Rows.sc-here (Row.sInt Syntax.w32)) (List._∷_ (3, Rows.sc-here (Row.sInt Syntax.w32)) (List._∷_ (4, Rows.sc-here (Row.sInt Syntax.w64)) (List._∷_ (
-              5,
-              Rows.any-gone
-                  (Syntax.tyStruct (List._∷_ 115 (List._∷_ 116 (List._∷_ 97 (List._∷_ 116 (List._∷_ 105 (List._∷_ 115 (List._∷_ 116 (List._∷_ 105 (List._∷_ 99 (List._∷_ 115 (List._∷_ 58 (List._∷_ 58 (List._∷_
-                  82 (List._∷_ 101 (List._∷_ 99 (List._∷_ 111 (List._∷_ 114 (List._∷_ 100 List.[])))))))))))))))))) (Syntax.tcons (Syntax.tyInt Syntax.w32) (Syntax.tcons (Syntax.tyInt Syntax.w32)
-                  Syntax.tnil))),
-            ) (List._∷_ (6, Rows.whole (Declared.row Record.the-type)) (List._∷_ (7, Rows.any-gone Syntax.tyBool) (List._∷_ (
-              8,
-              Rows.any-gone (Syntax.tyRef Syntax.erased Syntax.mut
-                  Element.behind),
-            ) (List._∷_ (
-              9,
-              Rows.any-gone (Syntax.tyStruct (List._∷_ 38 (List._∷_ 91 (List._∷_ 93 List.[]))) (Syntax.tcons (Syntax.tyRef Syntax.erased Syntax.mut Element.behind)
-                  (Syntax.tcons (Syntax.tyInt Syntax.w64) Syntax.tnil))),
-            ) (List._∷_ (10, Rows.any-gone Syntax.tyUnit) (List._∷_ (11, Rows.any-gone (Syntax.tyRef Syntax.erased Syntax.mut Element.behind))
-            (List._∷_ (12, Mut.mslice (Element.type) (Syntax.tyRef Syntax.erased Syntax.mut Element.behind) 2) List.[]))))))))))))
+        g11 = List._∷_ e0 (List._∷_ (1, Relend.mslice-owed (Element.type) (Syntax.tyRef (Syntax.named 0) Syntax.mut Element.behind) 0 2 (Row.lease (κs .0) (qs .0))) (List._∷_ e13 (List._∷_ e14
+            (List._∷_ e16 (List._∷_ e17 (List._∷_ e20 (List._∷_ e21 (List._∷_ e23 (List._∷_ e26 (List._∷_ e5 (List._∷_ e8 (List._∷_ e10 List.[]))))))))))))
 
         abbrev g12 : List.List Row.Entry
-        g12 = List._∷_ (0, Rows.any-gone Syntax.tyUnit) (List._∷_ (1, Relend.mslice-owed (Element.type) (Syntax.tyRef (Syntax.named 0) Syntax.mut Element.behind) 0 2 (Row.lease (κs .0) (qs .0)))
-            (List._∷_ (2, Rows.sc-here (Row.sInt Syntax.w32)) (List._∷_ (3, Rows.sc-here (Row.sInt Syntax.w32)) (List._∷_ (4, Rows.sc-here (Row.sInt Syntax.w64)) (List._∷_ (
-              5,
-              Rows.any-gone
-                  (Syntax.tyStruct (List._∷_ 115 (List._∷_ 116 (List._∷_ 97 (List._∷_ 116 (List._∷_ 105 (List._∷_ 115 (List._∷_ 116 (List._∷_ 105 (List._∷_ 99 (List._∷_ 115 (List._∷_ 58 (List._∷_ 58 (List._∷_
-                  82 (List._∷_ 101 (List._∷_ 99 (List._∷_ 111 (List._∷_ 114 (List._∷_ 100 List.[])))))))))))))))))) (Syntax.tcons (Syntax.tyInt Syntax.w32) (Syntax.tcons (Syntax.tyInt Syntax.w32)
-                  Syntax.tnil))),
-            ) (List._∷_ (6, Rows.whole (Declared.row Record.the-type)) (List._∷_ (7, Rows.any-gone Syntax.tyBool) (List._∷_ (
-              8,
-              Rows.any-gone (Syntax.tyRef Syntax.erased Syntax.mut
-                  Element.behind),
-            ) (List._∷_ (
-              9,
-              Rows.any-gone (Syntax.tyStruct (List._∷_ 38 (List._∷_ 91 (List._∷_ 93 List.[]))) (Syntax.tcons (Syntax.tyRef Syntax.erased Syntax.mut Element.behind)
-                  (Syntax.tcons (Syntax.tyInt Syntax.w64) Syntax.tnil))),
-            ) (List._∷_ (10, Rows.sc-here Row.sUnit) (List._∷_ (11, Rows.any-gone (Syntax.tyRef Syntax.erased Syntax.mut Element.behind))
-            (List._∷_ (12, Mut.msleft (Element.type) (Syntax.tyRef Syntax.erased Syntax.mut Element.behind)) List.[]))))))))))))
+        g12 = List._∷_ e0 (List._∷_ (1, Relend.mslice-owed (Element.type) (Syntax.tyRef (Syntax.named 0) Syntax.mut Element.behind) 0 2 (Row.lease (κs .0) (qs .0))) (List._∷_ e13 (List._∷_ e14
+            (List._∷_ e16 (List._∷_ e17 (List._∷_ e20 (List._∷_ e21 (List._∷_ e23 (List._∷_ e26 (List._∷_ e6 (List._∷_ e8 (List._∷_ e9 List.[]))))))))))))
 
         abbrev g13 : List.List Row.Entry
-        g13 = List._∷_ (0, Rows.any-gone Syntax.tyUnit) (List._∷_ (1, Relend.mslice-owed (Element.type) (Syntax.tyRef (Syntax.named 0) Syntax.mut Element.behind) 0 2 (Row.lease (κs .0) (qs .0)))
-            (List._∷_ (2, Rows.sc-here (Row.sInt Syntax.w32)) (List._∷_ (3, Rows.sc-here (Row.sInt Syntax.w32)) (List._∷_ (4, Rows.sc-here (Row.sInt Syntax.w64)) (List._∷_ (
-              5,
-              Rows.any-gone
-                  (Syntax.tyStruct (List._∷_ 115 (List._∷_ 116 (List._∷_ 97 (List._∷_ 116 (List._∷_ 105 (List._∷_ 115 (List._∷_ 116 (List._∷_ 105 (List._∷_ 99 (List._∷_ 115 (List._∷_ 58 (List._∷_ 58 (List._∷_
-                  82 (List._∷_ 101 (List._∷_ 99 (List._∷_ 111 (List._∷_ 114 (List._∷_ 100 List.[])))))))))))))))))) (Syntax.tcons (Syntax.tyInt Syntax.w32) (Syntax.tcons (Syntax.tyInt Syntax.w32)
-                  Syntax.tnil))),
-            ) (List._∷_ (
-              6,
-              Rows.any-gone (Syntax.tyStruct (List._∷_ 115 (List._∷_ 116 (List._∷_ 97 (List._∷_ 116 (List._∷_ 105 (List._∷_ 115 (List._∷_ 116 (List._∷_ 105 (List._∷_ 99
-                  (List._∷_ 115 (List._∷_ 58 (List._∷_ 58 (List._∷_ 82 (List._∷_ 101 (List._∷_ 99 (List._∷_ 111 (List._∷_ 114 (List._∷_ 100 List.[])))))))))))))))))) (Syntax.tcons (Syntax.tyInt Syntax.w32)
-                  (Syntax.tcons (Syntax.tyInt Syntax.w32) Syntax.tnil))),
-            ) (List._∷_ (7, Rows.any-gone Syntax.tyBool) (List._∷_ (8, Rows.any-gone (Syntax.tyRef Syntax.erased Syntax.mut Element.behind))
-            (List._∷_ (
-              9,
-              Rows.any-gone (Syntax.tyStruct (List._∷_ 38 (List._∷_ 91 (List._∷_ 93 List.[]))) (Syntax.tcons (Syntax.tyRef Syntax.erased Syntax.mut Element.behind) (Syntax.tcons (Syntax.tyInt
-                  Syntax.w64) Syntax.tnil))),
-            ) (List._∷_ (10, Rows.sc-here Row.sUnit) (List._∷_ (11, Rows.any-gone (Syntax.tyRef Syntax.erased Syntax.mut Element.behind)) (List._∷_ (
-              12,
-              Mut.msleft
-                  (Element.type) (Syntax.tyRef Syntax.erased Syntax.mut Element.behind),
-            ) List.[]))))))))))))
+        g13 = List._∷_ e0 (List._∷_ (1, Relend.mslice-owed (Element.type) (Syntax.tyRef (Syntax.named 0) Syntax.mut Element.behind) 0 2 (Row.lease (κs .0) (qs .0))) (List._∷_ e13 (List._∷_ e14
+            (List._∷_ e16 (List._∷_ e17 (List._∷_ e19 (List._∷_ e21 (List._∷_ e23 (List._∷_ e26 (List._∷_ e6 (List._∷_ e8 (List._∷_ e9 List.[]))))))))))))
 
         abbrev g14 : List.List Row.Entry
-        g14 = List._∷_ (0, Rows.any-gone Syntax.tyUnit) (List._∷_ (1, Relend.mslice-owed (Element.type) (Syntax.tyRef (Syntax.named 0) Syntax.mut Element.behind) 0 2 (Row.lease (κs .0) (qs .0)))
-            (List._∷_ (2, Rows.sc-here (Row.sInt Syntax.w32)) (List._∷_ (3, Rows.sc-here (Row.sInt Syntax.w32)) (List._∷_ (4, Rows.sc-here (Row.sInt Syntax.w64)) (List._∷_ (
-              5,
-              Rows.any-gone
-                  (Syntax.tyStruct (List._∷_ 115 (List._∷_ 116 (List._∷_ 97 (List._∷_ 116 (List._∷_ 105 (List._∷_ 115 (List._∷_ 116 (List._∷_ 105 (List._∷_ 99 (List._∷_ 115 (List._∷_ 58 (List._∷_ 58 (List._∷_
-                  82 (List._∷_ 101 (List._∷_ 99 (List._∷_ 111 (List._∷_ 114 (List._∷_ 100 List.[])))))))))))))))))) (Syntax.tcons (Syntax.tyInt Syntax.w32) (Syntax.tcons (Syntax.tyInt Syntax.w32)
-                  Syntax.tnil))),
-            ) (List._∷_ (
-              6,
-              Rows.any-gone (Syntax.tyStruct (List._∷_ 115 (List._∷_ 116 (List._∷_ 97 (List._∷_ 116 (List._∷_ 105 (List._∷_ 115 (List._∷_ 116 (List._∷_ 105 (List._∷_ 99
-                  (List._∷_ 115 (List._∷_ 58 (List._∷_ 58 (List._∷_ 82 (List._∷_ 101 (List._∷_ 99 (List._∷_ 111 (List._∷_ 114 (List._∷_ 100 List.[])))))))))))))))))) (Syntax.tcons (Syntax.tyInt Syntax.w32)
-                  (Syntax.tcons (Syntax.tyInt Syntax.w32) Syntax.tnil))),
-            ) (List._∷_ (7, Rows.any-gone Syntax.tyBool) (List._∷_ (8, Rows.any-gone (Syntax.tyRef Syntax.erased Syntax.mut Element.behind))
-            (List._∷_ (
-              9,
-              Rows.any-gone (Syntax.tyStruct (List._∷_ 38 (List._∷_ 91 (List._∷_ 93 List.[]))) (Syntax.tcons (Syntax.tyRef Syntax.erased Syntax.mut Element.behind) (Syntax.tcons (Syntax.tyInt
-                  Syntax.w64) Syntax.tnil))),
-            ) (List._∷_ (10, Rows.any-gone Syntax.tyUnit) (List._∷_ (11, Rows.any-gone (Syntax.tyRef Syntax.erased Syntax.mut Element.behind)) (List._∷_ (
-              12,
-              Mut.msleft
-                  (Element.type) (Syntax.tyRef Syntax.erased Syntax.mut Element.behind),
-            ) List.[]))))))))))))
+        g14 = List._∷_ e0 (List._∷_ (1, Relend.mslice-owed (Element.type) (Syntax.tyRef (Syntax.named 0) Syntax.mut Element.behind) 0 2 (Row.lease (κs .0) (qs .0))) (List._∷_ e13 (List._∷_ e14
+            (List._∷_ e16 (List._∷_ e17 (List._∷_ e19 (List._∷_ e21 (List._∷_ e23 (List._∷_ e26 (List._∷_ e5 (List._∷_ e8 (List._∷_ e9 List.[]))))))))))))
 
         abbrev G0 : Row.Cx
         G0 = record { locals = t0; slots = List._∷_ (Row.lease (κs .0) (qs .0)) (List._∷_ Row.off (List._∷_ Row.off List.[])) }
@@ -1354,11 +863,9 @@ module _ (claims· : Claims) where
 
           d5 : Typed.Typed 𝓤 H A 𝓣 E G25 b12 Δ3 at5
           d5 = Typed.s-typed 𝓤 H A W 𝓣 E G25 b12 Δ3 (Typed.ask s22) tt (Scalar.t-op2 𝓤 H A W E 𝓣 G25 (Syntax.add Syntax.unsigned) (Scalar.oAt 4 (Syntax.tyInt Syntax.w64) (Row.valS (Row.sInt
-              Syntax.w64))) (Scalar.oInt Syntax.w64 1) 4 (Rows.sc-here (Row.sInt Syntax.w64)) (Syntax.tyInt Syntax.w64) (Row.valS (Row.sInt Syntax.w64)) (Row.sInt Syntax.w64 .of) (
-                Scalar.reads-sc 𝓤 H A W
-                    (Row.sInt Syntax.w64),
-                Path'.refl,
-              ) tt (Scalar.room-sc 𝓤 H A W (Row.sInt Syntax.w64)) (Scalar.holds-sc 𝓤 H A W (Row.sInt Syntax.w64)) Path'.refl (λ u. Path'.refl) λ u. tt)
+              Syntax.w64))) (Scalar.oInt Syntax.w64 1) 4 (Rows.sc-here (Row.sInt Syntax.w64)) (Syntax.tyInt Syntax.w64) (Row.valS (Row.sInt Syntax.w64)) (Row.sInt Syntax.w64 .of)
+              (Scalar.reads-sc 𝓤 H A W (Row.sInt Syntax.w64), Path'.refl) tt (Scalar.room-sc 𝓤 H A W (Row.sInt Syntax.w64)) (Scalar.holds-sc 𝓤 H A W (Row.sInt Syntax.w64)) Path'.refl (λ u. Path'.refl) λ
+              u. tt)
 
           d6 : Typed.Typed 𝓤 H A 𝓣 E G24 b12 Δ3 at6
           d6 = Typed.g-pre 𝓤 H A W 𝓣 E G24 G25 b12 Δ3 (λ Ψ. Ψ) at5 (Lifetime.g-forget 𝓤 H A W E G24 2 Row.dead Path'.refl) d5
@@ -1375,45 +882,35 @@ module _ (claims· : Claims) where
           d9 = Typed.g-pre 𝓤 H A W 𝓣 E G21 G22 b12 Δ3 (Typed.pass T21 T22 s18) at8 (Scalar.g-room 𝓤 H A W E G21 10 Syntax.tyUnit (Scalar.room-sc 𝓤 H A W Row.sUnit)) d8
 
           d10 : Typed.Typed 𝓤 H A 𝓣 E G20 b12 Δ3 at10
-          d10 = Typed.g-pre 𝓤 H A W 𝓣 E G20 G21 b12 Δ3 (Typed.pass T20 T21 s17) at9 (Scalar.g-room 𝓤 H A W E G20 6 (Syntax.tyStruct (List._∷_ 115 (List._∷_ 116 (List._∷_ 97 (List._∷_ 116 (List._∷_ 105
-              (List._∷_ 115 (List._∷_ 116 (List._∷_ 105 (List._∷_ 99 (List._∷_ 115 (List._∷_ 58 (List._∷_ 58 (List._∷_ 82 (List._∷_ 101 (List._∷_ 99 (List._∷_ 111 (List._∷_ 114 (List._∷_ 100
-              List.[])))))))))))))))))) (Syntax.tcons (Syntax.tyInt Syntax.w32) (Syntax.tcons (Syntax.tyInt Syntax.w32) Syntax.tnil))) (Local.room-whole 𝓤 H A W (Declared.row Record.the-type)
-              (Syntax.tyStruct (List._∷_ 115 (List._∷_ 116 (List._∷_ 97 (List._∷_ 116 (List._∷_ 105 (List._∷_ 115 (List._∷_ 116 (List._∷_ 105 (List._∷_ 99 (List._∷_ 115 (List._∷_ 58 (List._∷_ 58 (List._∷_
-              82 (List._∷_ 101 (List._∷_ 99 (List._∷_ 111 (List._∷_ 114 (List._∷_ 100 List.[])))))))))))))))))) (Syntax.tcons (Syntax.tyInt Syntax.w32) (Syntax.tcons (Syntax.tyInt Syntax.w32)
-              Syntax.tnil))) Path'.refl)) d9
+          d10 = Typed.g-pre 𝓤 H A W 𝓣 E G20 G21 b12 Δ3 (Typed.pass T20 T21 s17) at9 (Scalar.g-room 𝓤 H A W E G20 6 y0 (Local.room-whole 𝓤 H A W (Declared.row Record.the-type) y0 Path'.refl)) d9
 
           d11 : Typed.Typed 𝓤 H A 𝓣 E G19 b13 Δ3 at11
           d11 = Typed.s-seq 𝓤 H A W 𝓣 E G19 G20 b11 b12 Δ3 (Typed.both s16) at10 (Plain.t-call-plain 𝓤 H A W 𝓣 1 ps·2 r·2 (claims· .4) (claims· .5) "block::records::update" (known .2) E (λ pos β. β)
               G19 (record { pos = 12; ty = Syntax.tyRef Syntax.erased Syntax.mut Element.behind; ref = λ x. x }, (Num.vAt 4 λ x. x, (record { pos = 6; st = List.[]; d = 0; at = λ x. x }, tt))) 10
               (List._∷_ 2 List.[]) (Call.sub-id 𝓤 H A W (G19 .slots)) (
                 Reads.as-is 𝓤 H A (Mut.mslice (Element.type) (Syntax.tyRef Syntax.erased Syntax.mut Element.behind) 2),
-                Mut.reads-mslice 𝓤 H A W
-                    (Element.type) (Syntax.tyRef Syntax.erased Syntax.mut Element.behind) 2,
+                Mut.reads-mslice 𝓤 H A W (Element.type) (Syntax.tyRef Syntax.erased Syntax.mut
+                    Element.behind) 2,
                 Path'.refl,
                 (
                   (Scalar.reads-sc 𝓤 H A W (Row.sInt Syntax.w64), Path'.refl),
                   (
                     (
-                      Yields.yields-copy 𝓤 H A W (λ ρ. Unit)
-                          (Declared.row Record.the-type) Path'.refl (Copies.cStruct Record.the-type Laws.the-laws Laws.the-copy .copy 𝓤 H A W) (Rows.whole (Declared.row Record.the-type)) (λ x. x) (λ x. x) (λ ρ told.
-                          Local.mem-whole 𝓤 H A W (Declared.row Record.the-type) ρ) λ ρ told. Local.whole-mem 𝓤 H A W (Declared.row Record.the-type) ρ,
+                      Yields.yields-copy 𝓤 H A W (λ ρ. Unit) (Declared.row Record.the-type) Path'.refl (Copies.cStruct Record.the-type Laws.the-laws Laws.the-copy .copy 𝓤 H A W) (Rows.whole (Declared.row
+                          Record.the-type)) (λ x. x) (λ x. x) (λ ρ told. Local.mem-whole 𝓤 H A W (Declared.row Record.the-type) ρ) λ ρ told. Local.whole-mem 𝓤 H A W (Declared.row Record.the-type) ρ,
                       Path'.refl,
                     ),
                     tt,
                   ),
                 ),
-              ) (Reads.room-gone 𝓤 H A Syntax.tyUnit)
-              (tt, tt) Path'.refl) d10
+              ) (Reads.room-gone 𝓤 H A Syntax.tyUnit) (tt, tt) Path'.refl) d10
 
           d12 : Typed.Typed 𝓤 H A 𝓣 E G18 b14 Δ3 at12
           d12 = Typed.s-seq 𝓤 H A W 𝓣 E G18 G19 b10 b13 Δ3 (Typed.ask s15) at11 (Relend.t-sl-aggregate 𝓤 H A W E (Element.type) 𝓣 (Relend.asMut (Element.type)) G18 11 12 2 (Syntax.tyRef Syntax.erased
               Syntax.mut Element.behind) (Syntax.tyRef Syntax.erased Syntax.mut Element.behind) (λ x. x) (Scalar.oFld 1 (List._∷_ (Syntax.field 1) List.[]) (Syntax.tyInt Syntax.w64) 8 λ v. Shared.lenV (v
-              .0)) (Reads.as-is 𝓤 H A (Relend.msptr (Element.type) (Syntax.tyRef Syntax.erased Syntax.mut Element.behind) 2)) (Reads.room-gone 𝓤 H A (Syntax.tyStruct (List._∷_ 38 (List._∷_ 91 (List._∷_ 93
-              List.[]))) (Syntax.tcons (Syntax.tyRef Syntax.erased Syntax.mut Element.behind) (Syntax.tcons (Syntax.tyInt Syntax.w64) Syntax.tnil)))) (
-                Relend.reads-owed-len 𝓤 H A W (Element.type)
-                    (Syntax.tyRef (Syntax.named 0) Syntax.mut Element.behind) 0 2 (Row.lease (κs .0) (qs .0)) 8 Path'.refl,
-                Path'.refl,
-              ) Path'.refl Path'.refl λ b o k. tt) d11
+              .0)) (Reads.as-is 𝓤 H A (Relend.msptr (Element.type) (Syntax.tyRef Syntax.erased Syntax.mut Element.behind) 2)) (Reads.room-gone 𝓤 H A y1)
+              (Relend.reads-owed-len 𝓤 H A W (Element.type) (Syntax.tyRef (Syntax.named 0) Syntax.mut Element.behind) 0 2 (Row.lease (κs .0) (qs .0)) 8 Path'.refl, Path'.refl) Path'.refl Path'.refl λ b o
+              k. tt) d11
 
           d13 : Typed.Typed 𝓤 H A 𝓣 E G17 b15 Δ3 at13
           d13 = Typed.s-seq 𝓤 H A W 𝓣 E G17 G18 b9 b14 Δ3 (Typed.give s14) at12 (Relend.t-sl-relend 𝓤 H A W E (Element.type) 𝓣 G17 1 11 0 2 (Syntax.tyRef (Syntax.named 0) Syntax.mut Element.behind)
@@ -1424,12 +921,7 @@ module _ (claims· : Claims) where
           d14 = Typed.g-pre 𝓤 H A W 𝓣 E G16 G17 b15 Δ3 (λ Ψ. Ψ) at13 (Lifetime.g-begin 𝓤 H A W E G16 2 (tt, (tt, (tt, (tt, (tt, (tt, (tt, (tt, (tt, (tt, (tt, (tt, (tt, tt)))))))))))))) d13
 
           d15 : Typed.Typed 𝓤 H A 𝓣 E G15 b15 Δ3 at15
-          d15 = Typed.g-pre 𝓤 H A W 𝓣 E G15 G16 b15 Δ3 (Typed.pass T15 T16 s12) at14 (Scalar.g-room 𝓤 H A W E G15 5 (Syntax.tyStruct (List._∷_ 115 (List._∷_ 116 (List._∷_ 97 (List._∷_ 116 (List._∷_
-              105 (List._∷_ 115 (List._∷_ 116 (List._∷_ 105 (List._∷_ 99 (List._∷_ 115 (List._∷_ 58 (List._∷_ 58 (List._∷_ 82 (List._∷_ 101 (List._∷_ 99 (List._∷_ 111 (List._∷_ 114 (List._∷_ 100
-              List.[])))))))))))))))))) (Syntax.tcons (Syntax.tyInt Syntax.w32) (Syntax.tcons (Syntax.tyInt Syntax.w32) Syntax.tnil))) (Local.room-whole 𝓤 H A W (Declared.row Record.the-type)
-              (Syntax.tyStruct (List._∷_ 115 (List._∷_ 116 (List._∷_ 97 (List._∷_ 116 (List._∷_ 105 (List._∷_ 115 (List._∷_ 116 (List._∷_ 105 (List._∷_ 99 (List._∷_ 115 (List._∷_ 58 (List._∷_ 58 (List._∷_
-              82 (List._∷_ 101 (List._∷_ 99 (List._∷_ 111 (List._∷_ 114 (List._∷_ 100 List.[])))))))))))))))))) (Syntax.tcons (Syntax.tyInt Syntax.w32) (Syntax.tcons (Syntax.tyInt Syntax.w32)
-              Syntax.tnil))) Path'.refl)) d14
+          d15 = Typed.g-pre 𝓤 H A W 𝓣 E G15 G16 b15 Δ3 (Typed.pass T15 T16 s12) at14 (Scalar.g-room 𝓤 H A W E G15 5 y0 (Local.room-whole 𝓤 H A W (Declared.row Record.the-type) y0 Path'.refl)) d14
 
           d16 : Typed.Typed 𝓤 H A 𝓣 E G14 b16 Δ3 at16
           d16 = Typed.s-seq 𝓤 H A W 𝓣 E G14 G15 b8 b15 Δ3 (Typed.both s11) at15 (Plain.t-call-plain 𝓤 H A W 𝓣 0 ps·1 r·1 (claims· .2) (claims· .3) "block::records::restarted_record" (known .1) E (λ
@@ -1441,14 +933,9 @@ module _ (claims· : Claims) where
                 ),
                 (
                   (Scalar.reads-sc 𝓤 H A W (Row.sInt Syntax.w32), Path'.refl),
-                  (
-                    (Scalar.reads-sc 𝓤 H A W (Row.sInt Syntax.w32), Path'.refl),
-                    ((Scalar.reads-sc 𝓤 H A W (Row.sInt Syntax.w64), Path'.refl), tt),
-                  ),
+                  ((Scalar.reads-sc 𝓤 H A W (Row.sInt Syntax.w32), Path'.refl), ((Scalar.reads-sc 𝓤 H A W (Row.sInt Syntax.w64), Path'.refl), tt)),
                 ),
-              ) (Reads.room-gone 𝓤 H A (Syntax.tyStruct (List._∷_ 115 (List._∷_ 116 (List._∷_ 97 (List._∷_ 116 (List._∷_ 105 (List._∷_ 115 (List._∷_ 116 (List._∷_ 105 (List._∷_ 99 (List._∷_ 115
-              (List._∷_ 58 (List._∷_ 58 (List._∷_ 82 (List._∷_ 101 (List._∷_ 99 (List._∷_ 111 (List._∷_ 114 (List._∷_ 100 List.[])))))))))))))))))) (Syntax.tcons (Syntax.tyInt Syntax.w32) (Syntax.tcons
-              (Syntax.tyInt Syntax.w32) Syntax.tnil)))) tt Path'.refl) d15
+              ) (Reads.room-gone 𝓤 H A y0) tt Path'.refl) d15
 
           d17 : Typed.Typed 𝓤 H A 𝓣 E G13 b16 Δ3 at17
           d17 = Typed.g-pre 𝓤 H A W 𝓣 E G13 G14 b16 Δ3 (λ Ψ. Ψ) at16 (Lifetime.g-forget 𝓤 H A W E G13 1 Row.dead Path'.refl) d16
@@ -1469,19 +956,14 @@ module _ (claims· : Claims) where
                     Element.behind) 1,
                 Path'.refl,
                 ((Scalar.reads-sc 𝓤 H A W (Row.sInt Syntax.w64), Path'.refl), tt),
-              ) (Reads.room-gone 𝓤 H A (Syntax.tyStruct (List._∷_ 115 (List._∷_ 116 (List._∷_ 97 (List._∷_
-              116 (List._∷_ 105 (List._∷_ 115 (List._∷_ 116 (List._∷_ 105 (List._∷_ 99 (List._∷_ 115 (List._∷_ 58 (List._∷_ 58 (List._∷_ 82 (List._∷_ 101 (List._∷_ 99 (List._∷_ 111 (List._∷_ 114 (List._∷_
-              100 List.[])))))))))))))))))) (Syntax.tcons (Syntax.tyInt Syntax.w32) (Syntax.tcons (Syntax.tyInt Syntax.w32) Syntax.tnil)))) (tt, tt) Path'.refl) d19
+              ) (Reads.room-gone 𝓤 H A y0) (tt, tt) Path'.refl) d19
 
           d21 : Typed.Typed 𝓤 H A 𝓣 E G9 b18 Δ3 at21
           d21 = Typed.s-seq 𝓤 H A W 𝓣 E G9 G10 b6 b17 Δ3 (Typed.ask s6) at20 (Relend.t-sl-aggregate 𝓤 H A W E (Element.type) 𝓣 (Relend.asMut (Element.type)) G9 8 9 1 (Syntax.tyRef Syntax.erased
               Syntax.mut Element.behind) (Syntax.tyRef Syntax.erased Syntax.mut Element.behind) (λ x. x) (Scalar.oFld 1 (List._∷_ (Syntax.field 1) List.[]) (Syntax.tyInt Syntax.w64) 8 λ v. Shared.lenV (v
-              .0)) (Reads.as-is 𝓤 H A (Relend.msptr (Element.type) (Syntax.tyRef Syntax.erased Syntax.mut Element.behind) 1)) (Reads.room-gone 𝓤 H A (Syntax.tyStruct (List._∷_ 38 (List._∷_ 91 (List._∷_ 93
-              List.[]))) (Syntax.tcons (Syntax.tyRef Syntax.erased Syntax.mut Element.behind) (Syntax.tcons (Syntax.tyInt Syntax.w64) Syntax.tnil)))) (
-                Relend.reads-owed-len 𝓤 H A W (Element.type)
-                    (Syntax.tyRef (Syntax.named 0) Syntax.mut Element.behind) 0 1 (Row.lease (κs .0) (qs .0)) 8 Path'.refl,
-                Path'.refl,
-              ) Path'.refl Path'.refl λ b o k. tt) d20
+              .0)) (Reads.as-is 𝓤 H A (Relend.msptr (Element.type) (Syntax.tyRef Syntax.erased Syntax.mut Element.behind) 1)) (Reads.room-gone 𝓤 H A y1)
+              (Relend.reads-owed-len 𝓤 H A W (Element.type) (Syntax.tyRef (Syntax.named 0) Syntax.mut Element.behind) 0 1 (Row.lease (κs .0) (qs .0)) 8 Path'.refl, Path'.refl) Path'.refl Path'.refl λ b o
+              k. tt) d20
 
           d22 : Typed.Typed 𝓤 H A 𝓣 E G8 b19 Δ3 at22
           d22 = Typed.s-seq 𝓤 H A W 𝓣 E G8 G9 b5 b18 Δ3 (Typed.give s5) at21 (Relend.t-sl-relend 𝓤 H A W E (Element.type) 𝓣 G8 1 8 0 1 (Syntax.tyRef (Syntax.named 0) Syntax.mut Element.behind)
@@ -1554,8 +1036,8 @@ module _ (claims· : Claims) where
       W0 = λ κs args. (
         λ u. ⊥,
         tt,
-        λ u. Enter.Fixs κs 1 ps xs (dens κs args) (u .1) × Post· κs (dens κs args) (Function.resV r κs (u .0)) (Clauses.atExit (Kinds.endedOf 1 ps r) κs (dens κs args)
-            (Enter.lastsP κs 1 ps xs (dens κs args) (u .1))),
+        λ u. Enter.Fixs κs 1 ps xs (dens κs args) (u .1) × Post· κs (dens κs args) (Function.resV r κs (u .0)) (Clauses.atExit (Kinds.endedOf 1 ps r) κs (dens κs args) (Enter.lastsP κs 1 ps
+            xs (dens κs args) (u .1))),
       )
 
       pub record Start : Type 0 where
@@ -1580,12 +1062,9 @@ module _ (claims· : Claims) where
 
       abbrev pub m2 : (before : Start) → (rs : List.List (Element.type .Denot)) → (j : Rows.sc-here (Row.sInt Syntax.w64) .Mod) → Typed.Mo T2
       m2 = λ before rs j. Row.set 4 (4, Rows.sc-here (Row.sInt Syntax.w64)) j (Row.setRow 1 (1, Mut.mslice (Element.type) (Syntax.tyRef (Syntax.named 0) Syntax.mut Element.behind) 0) (T2 .locals))
-          (Row.set 1 (1, Mut.mslice (Element.type) (Syntax.tyRef (Syntax.named 0) Syntax.mut Element.behind) 0) record {
-            ptr = Row.get 1 (T2 .locals) (m1 (before .κs) (before .args)) .ptr;
-            name =
-                Row.get 1 (T2 .locals) (m1 (before .κs) (before .args)) .name;
-            now = rs;
-          } (T2 .locals) (m1 (before .κs) (before .args)))
+          (Row.set 1 (1, Mut.mslice (Element.type) (Syntax.tyRef (Syntax.named 0) Syntax.mut Element.behind) 0) record
+          { ptr = Row.get 1 (T2 .locals) (m1 (before .κs) (before .args)) .ptr; name = Row.get 1 (T2 .locals) (m1 (before .κs) (before .args)) .name; now = rs } (T2 .locals) (m1 (before .κs) (before
+          .args)))
 
       abbrev W3 : (before : Start) → (rs : List.List (Element.type .Denot)) → (j : Rows.sc-here (Row.sInt Syntax.w64) .Mod) → Typed.Want O3
       W3 = λ before rs j. Typed.inLoop T2 O2 (Typed.Round T2 O2 put0 (λ u vs. Inv·0 (Row.get 1 (T2 .locals) u .now) (Row.get 2 (T2 .locals) u) (Row.get 3 (T2 .locals) u) (Row.get 4 (T2 .locals) u) (vs
@@ -1683,18 +1162,16 @@ module _ (claims· : Claims) where
 
       module _ (before· : After-rs) where
         abbrev pub After-restarted-record·own : Type 0
-        After-restarted-record·own = Called.Called ps·1 r·1 (claims· .3) T13 (record { pos = 5; st = List.[]; d = 0; at = λ x. x }, (Num.vAt 2 λ x. x, (Num.vAt 3 λ x. x, (Num.vAt 4 λ x. x, tt))))
-            (m9 (before· .before) (before· .rs .given))
+        After-restarted-record·own = Called.Called ps·1 r·1 (claims· .3) T13 (record { pos = 5; st = List.[]; d = 0; at = λ x. x }, (Num.vAt 2 λ x. x, (Num.vAt 3 λ x. x, (Num.vAt 4 λ x. x, tt)))) (m9
+            (before· .before) (before· .rs .given))
 
       pub record After-restarted-record : Type 0 where
         pub before : After-rs
         pub restarted-record : After-restarted-record·own before
 
       abbrev pub After-restarted-record·gave : (c : After-restarted-record) → s11 .gives (m9 (c .before .before) (c .before .rs .given))
-      After-restarted-record·gave = λ c. Called.given ps·1 r·1 (claims· .3) T13 (
-        record { pos = 5; st = List.[]; d = 0; at = λ x. x },
-        (Num.vAt 2 λ x. x, (Num.vAt 3 λ x. x, (Num.vAt 4 λ x. x, tt))),
-      ) (m9 (c .before .before) (c .before .rs .given)) (c .restarted-record)
+      After-restarted-record·gave = λ c. Called.given ps·1 r·1 (claims· .3) T13 (record { pos = 5; st = List.[]; d = 0; at = λ x. x }, (Num.vAt 2 λ x. x, (Num.vAt 3 λ x. x, (Num.vAt 4 λ x. x, tt))))
+          (m9 (c .before .before) (c .before .rs .given)) (c .restarted-record)
 
       abbrev pub m11 : (before : After-rs) → (given : s11 .gives (m9 (before .before) (before .rs .given))) → Typed.Mo T16
       m11 = λ before given. s12 (m10 before given)
@@ -1721,44 +1198,18 @@ module _ (claims· : Claims) where
 
       module _ (before· : After-update-arg) where
         abbrev pub After-update·own : Type 0
-        After-update·own = Called.Called ps·2 r·2 (claims· .5) T19 (
-          record { pos = 12; ty = Syntax.tyRef Syntax.erased Syntax.mut Element.behind; ref = λ x. x },
-          (
-            Num.vAt 4 λ x. x,
-            (
-              record {
-                pos =
-                    6;
-                st = List.[];
-                d = 0;
-                at = λ x. x;
-              },
-              tt,
-            ),
-          ),
-        ) (m13 (before· .before) (before· .update-arg .given))
+        After-update·own = Called.Called ps·2 r·2 (claims· .5) T19
+            (record { pos = 12; ty = Syntax.tyRef Syntax.erased Syntax.mut Element.behind; ref = λ x. x }, (Num.vAt 4 λ x. x, (record { pos = 6; st = List.[]; d = 0; at = λ x. x }, tt))) (m13 (before·
+            .before) (before· .update-arg .given))
 
       pub record After-update : Type 0 where
         pub before : After-update-arg
         pub update : After-update·own before
 
       abbrev pub After-update·gave : (c : After-update) → s16 .gives (m13 (c .before .before) (c .before .update-arg .given))
-      After-update·gave = λ c. Called.given ps·2 r·2 (claims· .5) T19 (
-        record { pos = 12; ty = Syntax.tyRef Syntax.erased Syntax.mut Element.behind; ref = λ x. x },
-        (
-          Num.vAt 4 λ x. x,
-          (
-            record {
-              pos
-                  = 6;
-              st = List.[];
-              d = 0;
-              at = λ x. x;
-            },
-            tt,
-          ),
-        ),
-      ) (m13 (c .before .before) (c .before .update-arg .given)) (c .update)
+      After-update·gave = λ c. Called.given ps·2 r·2 (claims· .5) T19
+          (record { pos = 12; ty = Syntax.tyRef Syntax.erased Syntax.mut Element.behind; ref = λ x. x }, (Num.vAt 4 λ x. x, (record { pos = 6; st = List.[]; d = 0; at = λ x. x }, tt))) (m13 (c .before
+          .before) (c .before .update-arg .given)) (c .update)
 
       abbrev pub m15 : (before : After-update-arg) → (given : s16 .gives (m13 (before .before) (before .update-arg .given))) → Typed.Mo T21
       m15 = λ before given. s17 (m14 before given)
@@ -1827,15 +1278,11 @@ module _ (claims· : Claims) where
         lay7 : (c : After-loop) → at32 (W0 (c .before .before .κs) (c .before .before .args)) (m5 (c .before))
         lay7 = λ c. (
           (
-            MutSlice.fix-len (Row.get 1 (T30 .locals) (m22 (c .before)) .ptr) (Row.get 1 (T30 .locals) (m22 (c .before)) .name) (Row.get 1 (T30 .locals) (m22 (c .before)) .now) (dens (c
-                .before .before .κs) (c .before .before .args) .0 .now) (same-length record { before = c .before; loop-test = c .loop-test }),
+            MutSlice.fix-len (Row.get 1 (T30 .locals) (m22 (c .before)) .ptr) (Row.get 1 (T30 .locals) (m22 (c .before)) .name) (Row.get 1 (T30 .locals) (m22 (c .before)) .now) (dens (c .before .before
+                .κs) (c .before .before .args) .0 .now) (same-length record { before = c .before; loop-test = c .loop-test }),
             (tt, (tt, tt)),
           ),
-          returns record {
-            before = c .before;
-            loop-test
-                = c .loop-test;
-          },
+          returns record { before = c .before; loop-test = c .loop-test },
         )
 
         lay6 : (c : After-update) → at10 (W3 (c .before .before .before .before .before .before .before .before) (c .before .before .before .before .before .before .before .loop .rs) (c .before
@@ -1845,33 +1292,24 @@ module _ (claims· : Claims) where
           λ g. (
             add-j record { before = record { before = c .before; update = c .update }; rs2 = record { given = g } },
             (
-              μ·0 (Row.get 1 (T2 .locals) (m1 (c .before .before
-                  .before .before .before .before .before .before .κs) (c .before .before .before .before .before .before .before .before .args)) .now) (Row.get 2 (T2 .locals) (m1 (c .before .before .before
-                  .before .before .before .before .before .κs) (c .before .before .before .before .before .before .before .before .args))) (Row.get 3 (T2 .locals) (m1 (c .before .before .before .before .before
-                  .before .before .before .κs) (c .before .before .before .before .before .before .before .before .args))) (Row.get 4 (T2 .locals) (m1 (c .before .before .before .before .before .before .before
-                  .before .κs) (c .before .before .before .before .before .before .before .before .args))) (Row.get 1 (T2 .locals) (m18 record { before = c .before; update = c .update } g) .now) (Row.get 4 (T2
-                  .locals) (m18 record { before = c .before; update = c .update } g)),
-              loop-less record { before = record { before = c .before; update = c .update }; rs2 = record { given = g } },
+              μ·0 (Row.get 1 (T2 .locals) (m1 (c .before .before .before .before .before .before .before .before .κs) (c .before .before .before .before .before .before .before .before .args)) .now)
+                  (Row.get 2 (T2 .locals) (m1 (c .before .before .before .before .before .before .before .before .κs) (c .before .before .before .before .before .before .before .before .args))) (Row.get 3 (T2
+                  .locals) (m1 (c .before .before .before .before .before .before .before .before .κs) (c .before .before .before .before .before .before .before .before .args))) (Row.get 4 (T2 .locals) (m1 (c
+                  .before .before .before .before .before .before .before .before .κs) (c .before .before .before .before .before .before .before .before .args))) (Row.get 1 (T2 .locals) (m18 record
+                  { before = c .before; update = c .update } g) .now) (Row.get 4 (T2 .locals) (m18 record { before = c .before; update = c .update } g)),
+              loop-less record
+                  { before = record { before = c .before; update = c .update }; rs2 = record { given = g } },
               (
-                (
-                  Row.get 1
-                      (T2 .locals) (m18 record { before = c .before; update = c .update } g) .now,
-                  Row.get 4 (T2 .locals) (m18 record { before = c .before; update = c .update } g),
-                ),
-                Path'.refl {a = m18 record {
-                  before = c .before;
-                  update = c .update;
-                } g},
+                (Row.get 1 (T2 .locals) (m18 record { before = c .before; update = c .update } g) .now, Row.get 4 (T2 .locals) (m18 record { before = c .before; update = c .update } g)),
+                Path'.refl {a = m18
+                    record { before = c .before; update = c .update } g},
                 loop-again record { before = record { before = c .before; update = c .update }; rs2 = record { given = g } },
-                Path'.refl {a = μ·0 (Row.get 1 (T2
-                    .locals) (m1 (c .before .before .before .before .before .before .before .before .κs) (c .before .before .before .before .before .before .before .before .args)) .now) (Row.get 2 (T2 .locals)
-                    (m1 (c .before .before .before .before .before .before .before .before .κs) (c .before .before .before .before .before .before .before .before .args))) (Row.get 3 (T2 .locals) (m1 (c .before
-                    .before .before .before .before .before .before .before .κs) (c .before .before .before .before .before .before .before .before .args))) (Row.get 4 (T2 .locals) (m1 (c .before .before .before
-                    .before .before .before .before .before .κs) (c .before .before .before .before .before .before .before .before .args))) (Row.get 1 (T2 .locals) (m18 record {
-                      before = c .before;
-                      update = c
-                          .update;
-                    } g) .now) (Row.get 4 (T2 .locals) (m18 record { before = c .before; update = c .update } g))},
+                Path'.refl {a = μ·0
+                    (Row.get 1 (T2 .locals) (m1 (c .before .before .before .before .before .before .before .before .κs) (c .before .before .before .before .before .before .before .before .args)) .now) (Row.get 2
+                    (T2 .locals) (m1 (c .before .before .before .before .before .before .before .before .κs) (c .before .before .before .before .before .before .before .before .args))) (Row.get 3 (T2 .locals) (m1
+                    (c .before .before .before .before .before .before .before .before .κs) (c .before .before .before .before .before .before .before .before .args))) (Row.get 4 (T2 .locals) (m1 (c .before
+                    .before .before .before .before .before .before .before .κs) (c .before .before .before .before .before .before .before .before .args))) (Row.get 1 (T2 .locals) (m18 record
+                    { before = c .before; update = c .update } g) .now) (Row.get 4 (T2 .locals) (m18 record { before = c .before; update = c .update } g))},
               ),
             ),
           ),
@@ -1883,13 +1321,12 @@ module _ (claims· : Claims) where
           Path'.refl,
           (
             update-requires record { before = record { before = c .before; restarted-record = c .restarted-record }; update-arg = record { given = g } },
-            λ g'. lay6
-                record {
-                  before = record { before = record { before = c .before; restarted-record = c .restarted-record }; update-arg = record { given = g } };
-                  update = Called.called ps·2 r·2 (claims· .5)
-                      T19 (record { pos = 12; ty = Syntax.tyRef Syntax.erased Syntax.mut Element.behind; ref = λ x. x }, (Num.vAt 4 λ x. x, (record { pos = 6; st = List.[]; d = 0; at = λ x. x }, tt))) (m13
-                      record { before = c .before; restarted-record = c .restarted-record } g) g';
-                },
+            λ g'. lay6 record {
+              before = record { before = record { before = c .before; restarted-record = c .restarted-record }; update-arg = record { given = g } };
+              update = Called.called ps·2 r·2 (claims· .5) T19
+                  (record { pos = 12; ty = Syntax.tyRef Syntax.erased Syntax.mut Element.behind; ref = λ x. x }, (Num.vAt 4 λ x. x, (record { pos = 6; st = List.[]; d = 0; at = λ x. x }, tt))) (m13 record
+                  { before = c .before; restarted-record = c .restarted-record } g) g';
+            },
           ),
         )
 
@@ -1899,18 +1336,9 @@ module _ (claims· : Claims) where
           λ g. (
             restarted-record-requires record { before = record { before = c .before; fetch = c .fetch }; rs = record { given = g } },
             λ g'. lay5 record {
-              before = record
-                  { before = record { before = c .before; fetch = c .fetch }; rs = record { given = g } };
-              restarted-record = Called.called ps·1 r·1 (claims· .3) T13 (
-                record {
-                  pos = 5;
-                  st = List.[];
-                  d = 0;
-                  at
-                      = λ x. x;
-                },
-                (Num.vAt 2 λ x. x, (Num.vAt 3 λ x. x, (Num.vAt 4 λ x. x, tt))),
-              ) (m9 record { before = c .before; fetch = c .fetch } g) g';
+              before = record { before = record { before = c .before; fetch = c .fetch }; rs = record { given = g } };
+              restarted-record = Called.called ps·1 r·1 (claims· .3) T13
+                  (record { pos = 5; st = List.[]; d = 0; at = λ x. x }, (Num.vAt 2 λ x. x, (Num.vAt 3 λ x. x, (Num.vAt 4 λ x. x, tt)))) (m9 record { before = c .before; fetch = c .fetch } g) g';
             },
           ),
         )
@@ -1921,17 +1349,9 @@ module _ (claims· : Claims) where
           (
             fetch-requires record { before = record { before = c .before; loop-test = c .loop-test }; fetch-arg = record { given = g } },
             λ g'. lay4 record {
-              before =
-                  record { before = record { before = c .before; loop-test = c .loop-test }; fetch-arg = record { given = g } };
-              fetch = Called.called ps·0 r·0 (claims· .1) T10 (
-                record {
-                  pos = 9;
-                  ty =
-                      Syntax.tyRef Syntax.erased Syntax.mut Element.behind;
-                  ref = λ x. x;
-                },
-                (Num.vAt 4 λ x. x, tt),
-              ) (m7 record { before = c .before; loop-test = c .loop-test } g) g';
+              before = record { before = record { before = c .before; loop-test = c .loop-test }; fetch-arg = record { given = g } };
+              fetch = Called.called ps·0 r·0 (claims· .1) T10
+                  (record { pos = 9; ty = Syntax.tyRef Syntax.erased Syntax.mut Element.behind; ref = λ x. x }, (Num.vAt 4 λ x. x, tt)) (m7 record { before = c .before; loop-test = c .loop-test } g) g';
             },
           ),
         )
@@ -1950,17 +1370,11 @@ module _ (claims· : Claims) where
             (
               λ taken. lay1 record {
                 before = record { before = c; loop = record { rs = vs .0; j = vs .1; inv = inv } };
-                loop-test = record {
-                  taken = Tests.ltb-true (Row.get 4 (T2 .locals) (m2 c (vs .0)
-                      (vs .1))) 336 taken;
-                };
+                loop-test = record { taken = Tests.ltb-true (Row.get 4 (T2 .locals) (m2 c (vs .0) (vs .1))) 336 taken };
               },
               λ left. lay2 record {
                 before = record { before = c; loop = record { rs = vs .0; j = vs .1; inv = inv } };
-                loop-test = record {
-                  left = Tests.ltb-false (Row.get 4 (T2
-                      .locals) (m2 c (vs .0) (vs .1))) 336 left;
-                };
+                loop-test = record { left = Tests.ltb-false (Row.get 4 (T2 .locals) (m2 c (vs .0) (vs .1))) 336 left };
               },
             ),
           ),
@@ -1973,11 +1387,7 @@ module _ (claims· : Claims) where
             κs = κs;
             args = record { rs = a .0; bits = a .1 .0; base = a .1 .1 .0 };
             good = good;
-            fits = record {
-              bits = record { fits = good .1 .0 .1 };
-              base =
-                  record { fits = good .1 .1 .0 .1 };
-            };
+            fits = record { bits = record { fits = good .1 .0 .1 }; base = record { fits = good .1 .1 .0 .1 } };
             pre = pre;
           }
 

@@ -64,37 +64,44 @@ use mir.Val
 use prog.Wp
 use types.Kit
 
+abbrev pub y0 : Syntax.Ty
+y0 = Syntax.tyStruct (List._∷_ 112 (List._∷_ 97 (List._∷_ 115 (List._∷_ 115 (List._∷_ 58 (List._∷_ 58 (List._∷_ 83 (List._∷_ 101 (List._∷_ 116 List.[]))))))))) (Syntax.tcons (Syntax.tyArray
+    (Syntax.tyInt Syntax.w32) 112) (Syntax.tcons (Syntax.tyArray (Syntax.tyInt Syntax.w32) 112) Syntax.tnil))
+
+abbrev pub y1 : Syntax.Ty
+y1 = Syntax.tyStruct (List._∷_ 115 (List._∷_ 116 (List._∷_ 97 (List._∷_ 116 (List._∷_ 105 (List._∷_ 115 (List._∷_ 116 (List._∷_ 105 (List._∷_ 99 (List._∷_ 115 (List._∷_ 58 (List._∷_ 58 (List._∷_ 82
+    (List._∷_ 101 (List._∷_ 99 (List._∷_ 111 (List._∷_ 114 (List._∷_ 100 List.[])))))))))))))))))) (Syntax.tcons (Syntax.tyInt Syntax.w32) (Syntax.tcons (Syntax.tyInt Syntax.w32) Syntax.tnil))
+
+abbrev pub y2 : Syntax.Ty
+y2 = Syntax.tyStruct (List._∷_ 38 (List._∷_ 91 (List._∷_ 93 List.[]))) (Syntax.tcons (Syntax.tyRef Syntax.erased Syntax.mut Element.behind) (Syntax.tcons (Syntax.tyInt Syntax.w64) Syntax.tnil))
+
 abbrev pub ps : List.List (Kinds.PK 1)
 ps = List._∷_ (MutSlice.pMutS (Element.type) 0 tt) (List._∷_ (Num.pNum Syntax.w64) (List._∷_ (Value.pVal record {
   ty = Declared.row Set.the-type;
   one = Path'.refl;
-  val = Laws''.val Set.the-type
-      Laws.the-laws;
+  val = Laws''.val Set.the-type Laws.the-laws;
   tells = Laws''.tells Set.the-type Laws.the-laws;
-  still = Laws''.still Set.the-type Laws.the-copy Exit.yes;
+  still = Laws''.still Set.the-type Laws.the-copy
+      Exit.yes;
   row = Rows'.whole (Declared.row Set.the-type);
   rd = λ x. x;
   mk = λ x. x;
-} λ M
-    𝓤 H A W. record {
-      copies = Laws''.copy Set.the-type Laws.the-copy 𝓤 H A W;
-      lawful = Laws''.lawful Set.the-type Laws.the-laws 𝓤 H A W;
-      makes = Laws''.makes Set.the-type Laws.the-plain 𝓤 H A;
-      in-mem =
-          Local.mem-whole 𝓤 H A W (Declared.row Set.the-type);
-      of-mem = Local.whole-mem 𝓤 H A W (Declared.row Set.the-type);
-    }) List.[]))
+} λ M 𝓤 H A W. record {
+  copies = Laws''.copy Set.the-type Laws.the-copy 𝓤 H A W;
+  lawful = Laws''.lawful Set.the-type Laws.the-laws 𝓤 H A W;
+  makes = Laws''.makes Set.the-type Laws.the-plain 𝓤 H A;
+  in-mem = Local.mem-whole 𝓤
+      H A W (Declared.row Set.the-type);
+  of-mem = Local.whole-mem 𝓤 H A W (Declared.row Set.the-type);
+}) List.[]))
 
 abbrev pub r : Kinds.RK 1
 r = Unit'.rUnit
 
 abbrev pub xs : List.List Syntax.Ty
-xs = List._∷_ (Syntax.tyArray (Syntax.tyInt Syntax.w32) 112) (List._∷_ (Syntax.tyArray (Syntax.tyInt Syntax.w32) 112) (List._∷_ (Syntax.tyInt Syntax.w64) (List._∷_ (Syntax.tyStruct (List._∷_ 115
-    (List._∷_ 116 (List._∷_ 97 (List._∷_ 116 (List._∷_ 105 (List._∷_ 115 (List._∷_ 116 (List._∷_ 105 (List._∷_ 99 (List._∷_ 115 (List._∷_ 58 (List._∷_ 58 (List._∷_ 82 (List._∷_ 101 (List._∷_ 99 (List._∷_
-    111 (List._∷_ 114 (List._∷_ 100 List.[])))))))))))))))))) (Syntax.tcons (Syntax.tyInt Syntax.w32) (Syntax.tcons (Syntax.tyInt Syntax.w32) Syntax.tnil))) (List._∷_ Syntax.tyBool (List._∷_ (Syntax.tyInt
-    Syntax.w64) (List._∷_ Syntax.tyPtr (List._∷_ Syntax.tyPtr (List._∷_ (Syntax.tyInt Syntax.w32) (List._∷_ (Syntax.tyInt Syntax.w64) (List._∷_ Syntax.tyPtr (List._∷_ Syntax.tyPtr (List._∷_ (Syntax.tyInt
-    Syntax.w32) (List._∷_ Syntax.tyUnit (List._∷_ (Syntax.tyRef Syntax.erased Syntax.mut Element.behind) (List._∷_ (Syntax.tyStruct (List._∷_ 38 (List._∷_ 91 (List._∷_ 93 List.[]))) (Syntax.tcons
-    (Syntax.tyRef Syntax.erased Syntax.mut Element.behind) (Syntax.tcons (Syntax.tyInt Syntax.w64) Syntax.tnil))) List.[])))))))))))))))
+xs = List._∷_ (Syntax.tyArray (Syntax.tyInt Syntax.w32) 112) (List._∷_ (Syntax.tyArray (Syntax.tyInt Syntax.w32) 112) (List._∷_ (Syntax.tyInt Syntax.w64) (List._∷_ y1 (List._∷_ Syntax.tyBool (List._∷_
+    (Syntax.tyInt Syntax.w64) (List._∷_ Syntax.tyPtr (List._∷_ Syntax.tyPtr (List._∷_ (Syntax.tyInt Syntax.w32) (List._∷_ (Syntax.tyInt Syntax.w64) (List._∷_ Syntax.tyPtr (List._∷_ Syntax.tyPtr (List._∷_
+    (Syntax.tyInt Syntax.w32) (List._∷_ Syntax.tyUnit (List._∷_ (Syntax.tyRef Syntax.erased Syntax.mut Element.behind) (List._∷_ y2 List.[])))))))))))))))
 
 abbrev pub m : Nat.ℕ
 m = 1
@@ -103,20 +110,19 @@ abbrev pub ps·0 : List.List (Kinds.PK 1)
 ps·0 = List._∷_ (MutSlice.pMutS (Element.type) 0 tt) (List._∷_ (Num.pNum Syntax.w64) (List._∷_ (Value.pVal record {
   ty = Declared.row Record.the-type;
   one = Path'.refl;
-  val = Laws''.val
-      Record.the-type Laws'.the-laws;
+  val = Laws''.val Record.the-type Laws'.the-laws;
   tells = Laws''.tells Record.the-type Laws'.the-laws;
-  still = Laws''.still Record.the-type Laws'.the-copy Exit.yes;
+  still = Laws''.still Record.the-type
+      Laws'.the-copy Exit.yes;
   row = Rows'.whole (Declared.row Record.the-type);
-  rd
-      = λ x. x;
+  rd = λ x. x;
   mk = λ x. x;
 } λ M 𝓤 H A W. record {
   copies = Laws''.copy Record.the-type Laws'.the-copy 𝓤 H A W;
   lawful = Laws''.lawful Record.the-type Laws'.the-laws 𝓤 H A W;
-  makes = Laws''.makes
-      Record.the-type Laws'.the-plain 𝓤 H A;
-  in-mem = Local.mem-whole 𝓤 H A W (Declared.row Record.the-type);
+  makes = Laws''.makes Record.the-type Laws'.the-plain 𝓤 H A;
+  in-mem =
+      Local.mem-whole 𝓤 H A W (Declared.row Record.the-type);
   of-mem = Local.whole-mem 𝓤 H A W (Declared.row Record.the-type);
 }) List.[]))
 
@@ -277,896 +283,266 @@ body = b46
 abbrev pub Claims : Type 1
 Claims = Kinds.In 1 ps·0 × Kinds.Out 1 ps·0 r·0
 
+abbrev pub e0 : Row.Entry
+e0 = (0, Rows'.any-gone Syntax.tyUnit)
+
+abbrev pub e1 : Row.Entry
+e1 = (0, Rows'.sc-here Row.sUnit)
+
+abbrev pub e2 : Row.Entry
+e2 = (1, Mut.mslice (Element.type) (Syntax.tyRef (Syntax.named 0) Syntax.mut Element.behind) 0)
+
+abbrev pub e3 : Row.Entry
+e3 = (1, Relend.mslice-owed (Element.type) (Syntax.tyRef (Syntax.named 0) Syntax.mut Element.behind) 0 1 Row.off)
+
+abbrev pub e4 : Row.Entry
+e4 = (10, Rows'.any-gone Syntax.tyPtr)
+
+abbrev pub e5 : Row.Entry
+e5 = (10, Rows'.sc-here Row.sPtr)
+
+abbrev pub e6 : Row.Entry
+e6 = (11, Rows'.any-gone Syntax.tyPtr)
+
+abbrev pub e7 : Row.Entry
+e7 = (11, Rows'.sc-here Row.sPtr)
+
+abbrev pub e8 : Row.Entry
+e8 = (12, Rows'.any-gone (Syntax.tyInt Syntax.w32))
+
+abbrev pub e9 : Row.Entry
+e9 = (12, Rows'.sc-here (Row.sInt Syntax.w32))
+
+abbrev pub e10 : Row.Entry
+e10 = (13, Rows'.any-gone (Syntax.tyInt Syntax.w64))
+
+abbrev pub e11 : Row.Entry
+e11 = (13, Rows'.sc-here (Row.sInt Syntax.w64))
+
+abbrev pub e12 : Row.Entry
+e12 = (14, Rows'.any-gone Syntax.tyPtr)
+
+abbrev pub e13 : Row.Entry
+e13 = (14, Rows'.sc-here Row.sPtr)
+
+abbrev pub e14 : Row.Entry
+e14 = (15, Rows'.any-gone Syntax.tyPtr)
+
+abbrev pub e15 : Row.Entry
+e15 = (15, Rows'.sc-here Row.sPtr)
+
+abbrev pub e16 : Row.Entry
+e16 = (16, Rows'.any-gone (Syntax.tyInt Syntax.w32))
+
+abbrev pub e17 : Row.Entry
+e17 = (17, Rows'.any-gone Syntax.tyUnit)
+
+abbrev pub e18 : Row.Entry
+e18 = (18, Rows'.any-gone (Syntax.tyRef Syntax.erased Syntax.mut Element.behind))
+
+abbrev pub e19 : Row.Entry
+e19 = (19, Mut.msleft (Element.type) (Syntax.tyRef Syntax.erased Syntax.mut Element.behind))
+
+abbrev pub e20 : Row.Entry
+e20 = (19, Rows'.any-gone y2)
+
+abbrev pub e21 : Row.Entry
+e21 = (2, Rows'.sc-here (Row.sInt Syntax.w64))
+
+abbrev pub e22 : Row.Entry
+e22 = (3, Rows'.any-gone y0)
+
+abbrev pub e23 : Row.Entry
+e23 = (3, Rows'.whole (Declared.row Set.the-type))
+
+abbrev pub e24 : Row.Entry
+e24 = (4, Rows'.any-gone (Syntax.tyArray (Syntax.tyInt Syntax.w32) 112))
+
+abbrev pub e25 : Row.Entry
+e25 = (4, Rows.arrF (Referent.rtF (Referent.fInt Syntax.w32)) 112 0)
+
+abbrev pub e26 : Row.Entry
+e26 = (5, Rows'.any-gone (Syntax.tyArray (Syntax.tyInt Syntax.w32) 112))
+
+abbrev pub e27 : Row.Entry
+e27 = (5, Rows.arrF (Referent.rtF (Referent.fInt Syntax.w32)) 112 0)
+
+abbrev pub e28 : Row.Entry
+e28 = (6, Rows'.any-gone (Syntax.tyInt Syntax.w64))
+
+abbrev pub e29 : Row.Entry
+e29 = (6, Rows'.sc-here (Row.sInt Syntax.w64))
+
+abbrev pub e30 : Row.Entry
+e30 = (7, Rows'.any-gone y1)
+
+abbrev pub e31 : Row.Entry
+e31 = (7, Rows'.whole (Declared.row (Apart.apartT Record.the-type)))
+
+abbrev pub e32 : Row.Entry
+e32 = (7, Rows'.whole (Declared.row Record.the-type))
+
+abbrev pub e33 : Row.Entry
+e33 = (8, Rows'.any-gone Syntax.tyBool)
+
+abbrev pub e34 : Row.Entry
+e34 = (8, Rows'.sc-here Row.sBool)
+
+abbrev pub e35 : Row.Entry
+e35 = (9, Rows'.any-gone (Syntax.tyInt Syntax.w64))
+
+abbrev pub e36 : Row.Entry
+e36 = (9, Rows'.sc-here (Row.sInt Syntax.w64))
+
 abbrev pub t0 : List.List Row.Entry
-t0 = List._∷_ (0, Rows'.any-gone Syntax.tyUnit) (List._∷_ (1, Mut.mslice (Element.type) (Syntax.tyRef (Syntax.named 0) Syntax.mut Element.behind) 0) (List._∷_ (
-  2,
-  Rows'.sc-here (Row.sInt
-      Syntax.w64),
-) (List._∷_ (3, Rows'.whole (Declared.row Set.the-type)) (List._∷_ (4, Rows'.any-gone (Syntax.tyArray (Syntax.tyInt Syntax.w32) 112)) (List._∷_ (
-  5,
-  Rows'.any-gone (Syntax.tyArray
-      (Syntax.tyInt Syntax.w32) 112),
-) (List._∷_ (6, Rows'.any-gone (Syntax.tyInt Syntax.w64)) (List._∷_ (
-  7,
-  Rows'.any-gone (Syntax.tyStruct (List._∷_ 115 (List._∷_ 116 (List._∷_ 97 (List._∷_ 116
-      (List._∷_ 105 (List._∷_ 115 (List._∷_ 116 (List._∷_ 105 (List._∷_ 99 (List._∷_ 115 (List._∷_ 58 (List._∷_ 58 (List._∷_ 82 (List._∷_ 101 (List._∷_ 99 (List._∷_ 111 (List._∷_ 114 (List._∷_ 100
-      List.[])))))))))))))))))) (Syntax.tcons (Syntax.tyInt Syntax.w32) (Syntax.tcons (Syntax.tyInt Syntax.w32) Syntax.tnil))),
-) (List._∷_ (8, Rows'.any-gone Syntax.tyBool) (List._∷_ (
-  9,
-  Rows'.any-gone
-      (Syntax.tyInt Syntax.w64),
-) (List._∷_ (10, Rows'.any-gone Syntax.tyPtr) (List._∷_ (11, Rows'.any-gone Syntax.tyPtr) (List._∷_ (12, Rows'.any-gone (Syntax.tyInt Syntax.w32)) (List._∷_ (
-  13,
-  Rows'.any-gone (Syntax.tyInt Syntax.w64),
-) (List._∷_ (14, Rows'.any-gone Syntax.tyPtr) (List._∷_ (15, Rows'.any-gone Syntax.tyPtr) List.[])))))))))))))))
+t0 = List._∷_ e0 (List._∷_ e2 (List._∷_ e21 (List._∷_ e23 (List._∷_ e24 (List._∷_ e26 (List._∷_ e28 (List._∷_ e30 (List._∷_ e33 (List._∷_ e35 (List._∷_ e4 (List._∷_ e6 (List._∷_ e8 (List._∷_ e10
+    (List._∷_ e12 (List._∷_ e14 List.[])))))))))))))))
 
 abbrev pub t1 : List.List Row.Entry
-t1 = List._∷_ (16, Rows'.any-gone (Syntax.tyInt Syntax.w32)) (List._∷_ (17, Rows'.any-gone Syntax.tyUnit) (List._∷_ (18, Rows'.any-gone (Syntax.tyRef Syntax.erased Syntax.mut Element.behind))
-    (List._∷_ (
-      19,
-      Rows'.any-gone (Syntax.tyStruct (List._∷_ 38 (List._∷_ 91 (List._∷_ 93 List.[]))) (Syntax.tcons (Syntax.tyRef Syntax.erased Syntax.mut Element.behind) (Syntax.tcons (Syntax.tyInt
-          Syntax.w64) Syntax.tnil))),
-    ) List.[])))
+t1 = List._∷_ e16 (List._∷_ e17 (List._∷_ e18 (List._∷_ e20 List.[])))
 
 abbrev pub t2 : List.List Row.Entry
-t2 = List._∷_ (0, Rows'.sc-here Row.sUnit) (List._∷_ (1, Mut.mslice (Element.type) (Syntax.tyRef (Syntax.named 0) Syntax.mut Element.behind) 0) (List._∷_ (
-  2,
-  Rows'.any-gone (Syntax.tyInt
-      Syntax.w64),
-) (List._∷_ (
-  3,
-  Rows'.any-gone (Syntax.tyStruct (List._∷_ 112 (List._∷_ 97 (List._∷_ 115 (List._∷_ 115 (List._∷_ 58 (List._∷_ 58 (List._∷_ 83 (List._∷_ 101 (List._∷_ 116 List.[])))))))))
-      (Syntax.tcons (Syntax.tyArray (Syntax.tyInt Syntax.w32) 112) (Syntax.tcons (Syntax.tyArray (Syntax.tyInt Syntax.w32) 112) Syntax.tnil))),
-) (List._∷_ (
-  4,
-  Rows'.any-gone (Syntax.tyArray (Syntax.tyInt
-      Syntax.w32) 112),
-) (List._∷_ (5, Rows'.any-gone (Syntax.tyArray (Syntax.tyInt Syntax.w32) 112)) (List._∷_ (6, Rows'.any-gone (Syntax.tyInt Syntax.w64)) (List._∷_ (
-  7,
-  Rows'.any-gone (Syntax.tyStruct
-      (List._∷_ 115 (List._∷_ 116 (List._∷_ 97 (List._∷_ 116 (List._∷_ 105 (List._∷_ 115 (List._∷_ 116 (List._∷_ 105 (List._∷_ 99 (List._∷_ 115 (List._∷_ 58 (List._∷_ 58 (List._∷_ 82 (List._∷_ 101 (List._∷_
-      99 (List._∷_ 111 (List._∷_ 114 (List._∷_ 100 List.[])))))))))))))))))) (Syntax.tcons (Syntax.tyInt Syntax.w32) (Syntax.tcons (Syntax.tyInt Syntax.w32) Syntax.tnil))),
-) (List._∷_ (
-  8,
-  Rows'.any-gone
-      Syntax.tyBool,
-) (List._∷_ (9, Rows'.any-gone (Syntax.tyInt Syntax.w64)) (List._∷_ (10, Rows'.any-gone Syntax.tyPtr) (List._∷_ (11, Rows'.any-gone Syntax.tyPtr) (List._∷_ (
-  12,
-  Rows'.any-gone
-      (Syntax.tyInt Syntax.w32),
-) (List._∷_ (13, Rows'.any-gone (Syntax.tyInt Syntax.w64)) (List._∷_ (14, Rows'.any-gone Syntax.tyPtr) (List._∷_ (15, Rows'.any-gone Syntax.tyPtr) List.[])))))))))))))))
+t2 = List._∷_ e1 (List._∷_ e2 (List._∷_ (2, Rows'.any-gone (Syntax.tyInt Syntax.w64)) (List._∷_ e22 (List._∷_ e24 (List._∷_ e26 (List._∷_ e28 (List._∷_ e30 (List._∷_ e33 (List._∷_ e35 (List._∷_ e4
+    (List._∷_ e6 (List._∷_ e8 (List._∷_ e10 (List._∷_ e12 (List._∷_ e14 List.[])))))))))))))))
 
 abbrev pub t3 : List.List Row.Entry
-t3 = List._∷_ (0, Rows'.any-gone Syntax.tyUnit) (List._∷_ (1, Mut.mslice (Element.type) (Syntax.tyRef (Syntax.named 0) Syntax.mut Element.behind) 0) (List._∷_ (
-  2,
-  Rows'.sc-here (Row.sInt
-      Syntax.w64),
-) (List._∷_ (3, Rows'.whole (Declared.row Set.the-type)) (List._∷_ (4, Rows.arrF (Referent.rtF (Referent.fInt Syntax.w32)) 112 0) (List._∷_ (
-  5,
-  Rows'.any-gone (Syntax.tyArray
-      (Syntax.tyInt Syntax.w32) 112),
-) (List._∷_ (6, Rows'.any-gone (Syntax.tyInt Syntax.w64)) (List._∷_ (
-  7,
-  Rows'.any-gone (Syntax.tyStruct (List._∷_ 115 (List._∷_ 116 (List._∷_ 97 (List._∷_ 116
-      (List._∷_ 105 (List._∷_ 115 (List._∷_ 116 (List._∷_ 105 (List._∷_ 99 (List._∷_ 115 (List._∷_ 58 (List._∷_ 58 (List._∷_ 82 (List._∷_ 101 (List._∷_ 99 (List._∷_ 111 (List._∷_ 114 (List._∷_ 100
-      List.[])))))))))))))))))) (Syntax.tcons (Syntax.tyInt Syntax.w32) (Syntax.tcons (Syntax.tyInt Syntax.w32) Syntax.tnil))),
-) (List._∷_ (8, Rows'.any-gone Syntax.tyBool) (List._∷_ (
-  9,
-  Rows'.any-gone
-      (Syntax.tyInt Syntax.w64),
-) (List._∷_ (10, Rows'.any-gone Syntax.tyPtr) (List._∷_ (11, Rows'.any-gone Syntax.tyPtr) (List._∷_ (12, Rows'.any-gone (Syntax.tyInt Syntax.w32)) (List._∷_ (
-  13,
-  Rows'.any-gone (Syntax.tyInt Syntax.w64),
-) (List._∷_ (14, Rows'.any-gone Syntax.tyPtr) (List._∷_ (15, Rows'.any-gone Syntax.tyPtr) List.[])))))))))))))))
+t3 = List._∷_ e0 (List._∷_ e2 (List._∷_ e21 (List._∷_ e23 (List._∷_ e25 (List._∷_ e26 (List._∷_ e28 (List._∷_ e30 (List._∷_ e33 (List._∷_ e35 (List._∷_ e4 (List._∷_ e6 (List._∷_ e8 (List._∷_ e10
+    (List._∷_ e12 (List._∷_ e14 List.[])))))))))))))))
 
 abbrev pub t4 : List.List Row.Entry
-t4 = List._∷_ (0, Rows'.any-gone Syntax.tyUnit) (List._∷_ (1, Mut.mslice (Element.type) (Syntax.tyRef (Syntax.named 0) Syntax.mut Element.behind) 0) (List._∷_ (
-  2,
-  Rows'.sc-here (Row.sInt
-      Syntax.w64),
-) (List._∷_ (3, Rows'.whole (Declared.row Set.the-type)) (List._∷_ (4, Rows.arrF (Referent.rtF (Referent.fInt Syntax.w32)) 112 0) (List._∷_ (
-  5,
-  Rows.arrF (Referent.rtF (Referent.fInt
-      Syntax.w32)) 112 0,
-) (List._∷_ (6, Rows'.any-gone (Syntax.tyInt Syntax.w64)) (List._∷_ (
-  7,
-  Rows'.any-gone (Syntax.tyStruct (List._∷_ 115 (List._∷_ 116 (List._∷_ 97 (List._∷_ 116 (List._∷_ 105
-      (List._∷_ 115 (List._∷_ 116 (List._∷_ 105 (List._∷_ 99 (List._∷_ 115 (List._∷_ 58 (List._∷_ 58 (List._∷_ 82 (List._∷_ 101 (List._∷_ 99 (List._∷_ 111 (List._∷_ 114 (List._∷_ 100
-      List.[])))))))))))))))))) (Syntax.tcons (Syntax.tyInt Syntax.w32) (Syntax.tcons (Syntax.tyInt Syntax.w32) Syntax.tnil))),
-) (List._∷_ (8, Rows'.any-gone Syntax.tyBool) (List._∷_ (
-  9,
-  Rows'.any-gone
-      (Syntax.tyInt Syntax.w64),
-) (List._∷_ (10, Rows'.any-gone Syntax.tyPtr) (List._∷_ (11, Rows'.any-gone Syntax.tyPtr) (List._∷_ (12, Rows'.any-gone (Syntax.tyInt Syntax.w32)) (List._∷_ (
-  13,
-  Rows'.any-gone (Syntax.tyInt Syntax.w64),
-) (List._∷_ (14, Rows'.any-gone Syntax.tyPtr) (List._∷_ (15, Rows'.any-gone Syntax.tyPtr) List.[])))))))))))))))
+t4 = List._∷_ e0 (List._∷_ e2 (List._∷_ e21 (List._∷_ e23 (List._∷_ e25 (List._∷_ e27 (List._∷_ e28 (List._∷_ e30 (List._∷_ e33 (List._∷_ e35 (List._∷_ e4 (List._∷_ e6 (List._∷_ e8 (List._∷_ e10
+    (List._∷_ e12 (List._∷_ e14 List.[])))))))))))))))
 
 abbrev pub t5 : List.List Row.Entry
-t5 = List._∷_ (0, Rows'.any-gone Syntax.tyUnit) (List._∷_ (1, Mut.mslice (Element.type) (Syntax.tyRef (Syntax.named 0) Syntax.mut Element.behind) 0) (List._∷_ (
-  2,
-  Rows'.sc-here (Row.sInt
-      Syntax.w64),
-) (List._∷_ (
-  3,
-  Rows'.any-gone (Syntax.tyStruct (List._∷_ 112 (List._∷_ 97 (List._∷_ 115 (List._∷_ 115 (List._∷_ 58 (List._∷_ 58 (List._∷_ 83 (List._∷_ 101 (List._∷_ 116 List.[])))))))))
-      (Syntax.tcons (Syntax.tyArray (Syntax.tyInt Syntax.w32) 112) (Syntax.tcons (Syntax.tyArray (Syntax.tyInt Syntax.w32) 112) Syntax.tnil))),
-) (List._∷_ (
-  4,
-  Rows.arrF (Referent.rtF (Referent.fInt
-      Syntax.w32)) 112 0,
-) (List._∷_ (5, Rows.arrF (Referent.rtF (Referent.fInt Syntax.w32)) 112 0) (List._∷_ (6, Rows'.any-gone (Syntax.tyInt Syntax.w64)) (List._∷_ (
-  7,
-  Rows'.any-gone (Syntax.tyStruct
-      (List._∷_ 115 (List._∷_ 116 (List._∷_ 97 (List._∷_ 116 (List._∷_ 105 (List._∷_ 115 (List._∷_ 116 (List._∷_ 105 (List._∷_ 99 (List._∷_ 115 (List._∷_ 58 (List._∷_ 58 (List._∷_ 82 (List._∷_ 101 (List._∷_
-      99 (List._∷_ 111 (List._∷_ 114 (List._∷_ 100 List.[])))))))))))))))))) (Syntax.tcons (Syntax.tyInt Syntax.w32) (Syntax.tcons (Syntax.tyInt Syntax.w32) Syntax.tnil))),
-) (List._∷_ (
-  8,
-  Rows'.any-gone
-      Syntax.tyBool,
-) (List._∷_ (9, Rows'.any-gone (Syntax.tyInt Syntax.w64)) (List._∷_ (10, Rows'.any-gone Syntax.tyPtr) (List._∷_ (11, Rows'.any-gone Syntax.tyPtr) (List._∷_ (
-  12,
-  Rows'.any-gone
-      (Syntax.tyInt Syntax.w32),
-) (List._∷_ (13, Rows'.any-gone (Syntax.tyInt Syntax.w64)) (List._∷_ (14, Rows'.any-gone Syntax.tyPtr) (List._∷_ (15, Rows'.any-gone Syntax.tyPtr) List.[])))))))))))))))
+t5 = List._∷_ e0 (List._∷_ e2 (List._∷_ e21 (List._∷_ e22 (List._∷_ e25 (List._∷_ e27 (List._∷_ e28 (List._∷_ e30 (List._∷_ e33 (List._∷_ e35 (List._∷_ e4 (List._∷_ e6 (List._∷_ e8 (List._∷_ e10
+    (List._∷_ e12 (List._∷_ e14 List.[])))))))))))))))
 
 abbrev pub t6 : List.List Row.Entry
-t6 = List._∷_ (0, Rows'.any-gone Syntax.tyUnit) (List._∷_ (1, Mut.mslice (Element.type) (Syntax.tyRef (Syntax.named 0) Syntax.mut Element.behind) 0) (List._∷_ (
-  2,
-  Rows'.sc-here (Row.sInt
-      Syntax.w64),
-) (List._∷_ (
-  3,
-  Rows'.any-gone (Syntax.tyStruct (List._∷_ 112 (List._∷_ 97 (List._∷_ 115 (List._∷_ 115 (List._∷_ 58 (List._∷_ 58 (List._∷_ 83 (List._∷_ 101 (List._∷_ 116 List.[])))))))))
-      (Syntax.tcons (Syntax.tyArray (Syntax.tyInt Syntax.w32) 112) (Syntax.tcons (Syntax.tyArray (Syntax.tyInt Syntax.w32) 112) Syntax.tnil))),
-) (List._∷_ (
-  4,
-  Rows.arrF (Referent.rtF (Referent.fInt
-      Syntax.w32)) 112 0,
-) (List._∷_ (5, Rows.arrF (Referent.rtF (Referent.fInt Syntax.w32)) 112 0) (List._∷_ (6, Rows'.sc-here (Row.sInt Syntax.w64)) (List._∷_ (
-  7,
-  Rows'.any-gone (Syntax.tyStruct
-      (List._∷_ 115 (List._∷_ 116 (List._∷_ 97 (List._∷_ 116 (List._∷_ 105 (List._∷_ 115 (List._∷_ 116 (List._∷_ 105 (List._∷_ 99 (List._∷_ 115 (List._∷_ 58 (List._∷_ 58 (List._∷_ 82 (List._∷_ 101 (List._∷_
-      99 (List._∷_ 111 (List._∷_ 114 (List._∷_ 100 List.[])))))))))))))))))) (Syntax.tcons (Syntax.tyInt Syntax.w32) (Syntax.tcons (Syntax.tyInt Syntax.w32) Syntax.tnil))),
-) (List._∷_ (
-  8,
-  Rows'.any-gone
-      Syntax.tyBool,
-) (List._∷_ (9, Rows'.any-gone (Syntax.tyInt Syntax.w64)) (List._∷_ (10, Rows'.any-gone Syntax.tyPtr) (List._∷_ (11, Rows'.any-gone Syntax.tyPtr) (List._∷_ (
-  12,
-  Rows'.any-gone
-      (Syntax.tyInt Syntax.w32),
-) (List._∷_ (13, Rows'.any-gone (Syntax.tyInt Syntax.w64)) (List._∷_ (14, Rows'.any-gone Syntax.tyPtr) (List._∷_ (15, Rows'.any-gone Syntax.tyPtr) List.[])))))))))))))))
+t6 = List._∷_ e0 (List._∷_ e2 (List._∷_ e21 (List._∷_ e22 (List._∷_ e25 (List._∷_ e27 (List._∷_ e29 (List._∷_ e30 (List._∷_ e33 (List._∷_ e35 (List._∷_ e4 (List._∷_ e6 (List._∷_ e8 (List._∷_ e10
+    (List._∷_ e12 (List._∷_ e14 List.[])))))))))))))))
 
 abbrev pub t7 : List.List Row.Entry
-t7 = List._∷_ (0, Rows'.any-gone Syntax.tyUnit) (List._∷_ (1, Mut.mslice (Element.type) (Syntax.tyRef (Syntax.named 0) Syntax.mut Element.behind) 0) (List._∷_ (
-  2,
-  Rows'.sc-here (Row.sInt
-      Syntax.w64),
-) (List._∷_ (
-  3,
-  Rows'.any-gone (Syntax.tyStruct (List._∷_ 112 (List._∷_ 97 (List._∷_ 115 (List._∷_ 115 (List._∷_ 58 (List._∷_ 58 (List._∷_ 83 (List._∷_ 101 (List._∷_ 116 List.[])))))))))
-      (Syntax.tcons (Syntax.tyArray (Syntax.tyInt Syntax.w32) 112) (Syntax.tcons (Syntax.tyArray (Syntax.tyInt Syntax.w32) 112) Syntax.tnil))),
-) (List._∷_ (
-  4,
-  Rows'.any-gone (Syntax.tyArray (Syntax.tyInt
-      Syntax.w32) 112),
-) (List._∷_ (5, Rows'.any-gone (Syntax.tyArray (Syntax.tyInt Syntax.w32) 112)) (List._∷_ (6, Rows'.sc-here (Row.sInt Syntax.w64)) (List._∷_ (
-  7,
-  Rows'.any-gone (Syntax.tyStruct
-      (List._∷_ 115 (List._∷_ 116 (List._∷_ 97 (List._∷_ 116 (List._∷_ 105 (List._∷_ 115 (List._∷_ 116 (List._∷_ 105 (List._∷_ 99 (List._∷_ 115 (List._∷_ 58 (List._∷_ 58 (List._∷_ 82 (List._∷_ 101 (List._∷_
-      99 (List._∷_ 111 (List._∷_ 114 (List._∷_ 100 List.[])))))))))))))))))) (Syntax.tcons (Syntax.tyInt Syntax.w32) (Syntax.tcons (Syntax.tyInt Syntax.w32) Syntax.tnil))),
-) (List._∷_ (
-  8,
-  Rows'.any-gone
-      Syntax.tyBool,
-) (List._∷_ (9, Rows'.any-gone (Syntax.tyInt Syntax.w64)) (List._∷_ (10, Rows'.any-gone Syntax.tyPtr) (List._∷_ (11, Rows'.any-gone Syntax.tyPtr) (List._∷_ (
-  12,
-  Rows'.any-gone
-      (Syntax.tyInt Syntax.w32),
-) (List._∷_ (13, Rows'.any-gone (Syntax.tyInt Syntax.w64)) (List._∷_ (14, Rows'.any-gone Syntax.tyPtr) (List._∷_ (15, Rows'.any-gone Syntax.tyPtr) List.[])))))))))))))))
+t7 = List._∷_ e0 (List._∷_ e2 (List._∷_ e21 (List._∷_ e22 (List._∷_ e24 (List._∷_ e26 (List._∷_ e29 (List._∷_ e30 (List._∷_ e33 (List._∷_ e35 (List._∷_ e4 (List._∷_ e6 (List._∷_ e8 (List._∷_ e10
+    (List._∷_ e12 (List._∷_ e14 List.[])))))))))))))))
 
 abbrev pub t8 : List.List Row.Entry
-t8 = List._∷_ (0, Rows'.any-gone Syntax.tyUnit) (List._∷_ (1, Mut.mslice (Element.type) (Syntax.tyRef (Syntax.named 0) Syntax.mut Element.behind) 0) (List._∷_ (
-  2,
-  Rows'.sc-here (Row.sInt
-      Syntax.w64),
-) (List._∷_ (
-  3,
-  Rows'.any-gone (Syntax.tyStruct (List._∷_ 112 (List._∷_ 97 (List._∷_ 115 (List._∷_ 115 (List._∷_ 58 (List._∷_ 58 (List._∷_ 83 (List._∷_ 101 (List._∷_ 116 List.[])))))))))
-      (Syntax.tcons (Syntax.tyArray (Syntax.tyInt Syntax.w32) 112) (Syntax.tcons (Syntax.tyArray (Syntax.tyInt Syntax.w32) 112) Syntax.tnil))),
-) (List._∷_ (
-  4,
-  Rows.arrF (Referent.rtF (Referent.fInt
-      Syntax.w32)) 112 0,
-) (List._∷_ (5, Rows.arrF (Referent.rtF (Referent.fInt Syntax.w32)) 112 0) (List._∷_ (6, Rows'.sc-here (Row.sInt Syntax.w64)) (List._∷_ (
-  7,
-  Rows'.any-gone (Syntax.tyStruct
-      (List._∷_ 115 (List._∷_ 116 (List._∷_ 97 (List._∷_ 116 (List._∷_ 105 (List._∷_ 115 (List._∷_ 116 (List._∷_ 105 (List._∷_ 99 (List._∷_ 115 (List._∷_ 58 (List._∷_ 58 (List._∷_ 82 (List._∷_ 101 (List._∷_
-      99 (List._∷_ 111 (List._∷_ 114 (List._∷_ 100 List.[])))))))))))))))))) (Syntax.tcons (Syntax.tyInt Syntax.w32) (Syntax.tcons (Syntax.tyInt Syntax.w32) Syntax.tnil))),
-) (List._∷_ (
-  8,
-  Rows'.sc-here
-      Row.sBool,
-) (List._∷_ (9, Rows'.any-gone (Syntax.tyInt Syntax.w64)) (List._∷_ (10, Rows'.any-gone Syntax.tyPtr) (List._∷_ (11, Rows'.any-gone Syntax.tyPtr) (List._∷_ (
-  12,
-  Rows'.any-gone
-      (Syntax.tyInt Syntax.w32),
-) (List._∷_ (13, Rows'.any-gone (Syntax.tyInt Syntax.w64)) (List._∷_ (14, Rows'.any-gone Syntax.tyPtr) (List._∷_ (15, Rows'.any-gone Syntax.tyPtr) List.[])))))))))))))))
+t8 = List._∷_ e0 (List._∷_ e2 (List._∷_ e21 (List._∷_ e22 (List._∷_ e25 (List._∷_ e27 (List._∷_ e29 (List._∷_ e30 (List._∷_ e34 (List._∷_ e35 (List._∷_ e4 (List._∷_ e6 (List._∷_ e8 (List._∷_ e10
+    (List._∷_ e12 (List._∷_ e14 List.[])))))))))))))))
 
 abbrev pub t9 : List.List Row.Entry
-t9 = List._∷_ (0, Rows'.any-gone Syntax.tyUnit) (List._∷_ (1, Mut.mslice (Element.type) (Syntax.tyRef (Syntax.named 0) Syntax.mut Element.behind) 0) (List._∷_ (
-  2,
-  Rows'.sc-here (Row.sInt
-      Syntax.w64),
-) (List._∷_ (
-  3,
-  Rows'.any-gone (Syntax.tyStruct (List._∷_ 112 (List._∷_ 97 (List._∷_ 115 (List._∷_ 115 (List._∷_ 58 (List._∷_ 58 (List._∷_ 83 (List._∷_ 101 (List._∷_ 116 List.[])))))))))
-      (Syntax.tcons (Syntax.tyArray (Syntax.tyInt Syntax.w32) 112) (Syntax.tcons (Syntax.tyArray (Syntax.tyInt Syntax.w32) 112) Syntax.tnil))),
-) (List._∷_ (
-  4,
-  Rows'.any-gone (Syntax.tyArray (Syntax.tyInt
-      Syntax.w32) 112),
-) (List._∷_ (5, Rows.arrF (Referent.rtF (Referent.fInt Syntax.w32)) 112 0) (List._∷_ (6, Rows'.sc-here (Row.sInt Syntax.w64)) (List._∷_ (
-  7,
-  Rows'.any-gone (Syntax.tyStruct
-      (List._∷_ 115 (List._∷_ 116 (List._∷_ 97 (List._∷_ 116 (List._∷_ 105 (List._∷_ 115 (List._∷_ 116 (List._∷_ 105 (List._∷_ 99 (List._∷_ 115 (List._∷_ 58 (List._∷_ 58 (List._∷_ 82 (List._∷_ 101 (List._∷_
-      99 (List._∷_ 111 (List._∷_ 114 (List._∷_ 100 List.[])))))))))))))))))) (Syntax.tcons (Syntax.tyInt Syntax.w32) (Syntax.tcons (Syntax.tyInt Syntax.w32) Syntax.tnil))),
-) (List._∷_ (
-  8,
-  Rows'.sc-here
-      Row.sBool,
-) (List._∷_ (9, Rows'.any-gone (Syntax.tyInt Syntax.w64)) (List._∷_ (10, Rows'.any-gone Syntax.tyPtr) (List._∷_ (11, Rows'.any-gone Syntax.tyPtr) (List._∷_ (
-  12,
-  Rows'.any-gone
-      (Syntax.tyInt Syntax.w32),
-) (List._∷_ (13, Rows'.any-gone (Syntax.tyInt Syntax.w64)) (List._∷_ (14, Rows'.any-gone Syntax.tyPtr) (List._∷_ (15, Rows'.any-gone Syntax.tyPtr) List.[])))))))))))))))
+t9 = List._∷_ e0 (List._∷_ e2 (List._∷_ e21 (List._∷_ e22 (List._∷_ e24 (List._∷_ e27 (List._∷_ e29 (List._∷_ e30 (List._∷_ e34 (List._∷_ e35 (List._∷_ e4 (List._∷_ e6 (List._∷_ e8 (List._∷_ e10
+    (List._∷_ e12 (List._∷_ e14 List.[])))))))))))))))
 
 abbrev pub t10 : List.List Row.Entry
-t10 = List._∷_ (0, Rows'.any-gone Syntax.tyUnit) (List._∷_ (1, Mut.mslice (Element.type) (Syntax.tyRef (Syntax.named 0) Syntax.mut Element.behind) 0) (List._∷_ (
-  2,
-  Rows'.sc-here (Row.sInt
-      Syntax.w64),
-) (List._∷_ (
-  3,
-  Rows'.any-gone (Syntax.tyStruct (List._∷_ 112 (List._∷_ 97 (List._∷_ 115 (List._∷_ 115 (List._∷_ 58 (List._∷_ 58 (List._∷_ 83 (List._∷_ 101 (List._∷_ 116 List.[])))))))))
-      (Syntax.tcons (Syntax.tyArray (Syntax.tyInt Syntax.w32) 112) (Syntax.tcons (Syntax.tyArray (Syntax.tyInt Syntax.w32) 112) Syntax.tnil))),
-) (List._∷_ (
-  4,
-  Rows'.any-gone (Syntax.tyArray (Syntax.tyInt
-      Syntax.w32) 112),
-) (List._∷_ (5, Rows'.any-gone (Syntax.tyArray (Syntax.tyInt Syntax.w32) 112)) (List._∷_ (6, Rows'.sc-here (Row.sInt Syntax.w64)) (List._∷_ (
-  7,
-  Rows'.any-gone (Syntax.tyStruct
-      (List._∷_ 115 (List._∷_ 116 (List._∷_ 97 (List._∷_ 116 (List._∷_ 105 (List._∷_ 115 (List._∷_ 116 (List._∷_ 105 (List._∷_ 99 (List._∷_ 115 (List._∷_ 58 (List._∷_ 58 (List._∷_ 82 (List._∷_ 101 (List._∷_
-      99 (List._∷_ 111 (List._∷_ 114 (List._∷_ 100 List.[])))))))))))))))))) (Syntax.tcons (Syntax.tyInt Syntax.w32) (Syntax.tcons (Syntax.tyInt Syntax.w32) Syntax.tnil))),
-) (List._∷_ (
-  8,
-  Rows'.sc-here
-      Row.sBool,
-) (List._∷_ (9, Rows'.any-gone (Syntax.tyInt Syntax.w64)) (List._∷_ (10, Rows'.any-gone Syntax.tyPtr) (List._∷_ (11, Rows'.any-gone Syntax.tyPtr) (List._∷_ (
-  12,
-  Rows'.any-gone
-      (Syntax.tyInt Syntax.w32),
-) (List._∷_ (13, Rows'.any-gone (Syntax.tyInt Syntax.w64)) (List._∷_ (14, Rows'.any-gone Syntax.tyPtr) (List._∷_ (15, Rows'.any-gone Syntax.tyPtr) List.[])))))))))))))))
+t10 = List._∷_ e0 (List._∷_ e2 (List._∷_ e21 (List._∷_ e22 (List._∷_ e24 (List._∷_ e26 (List._∷_ e29 (List._∷_ e30 (List._∷_ e34 (List._∷_ e35 (List._∷_ e4 (List._∷_ e6 (List._∷_ e8 (List._∷_ e10
+    (List._∷_ e12 (List._∷_ e14 List.[])))))))))))))))
 
 abbrev pub t11 : List.List Row.Entry
-t11 = List._∷_ (0, Rows'.any-gone Syntax.tyUnit) (List._∷_ (1, Mut.mslice (Element.type) (Syntax.tyRef (Syntax.named 0) Syntax.mut Element.behind) 0) (List._∷_ (
-  2,
-  Rows'.sc-here (Row.sInt
-      Syntax.w64),
-) (List._∷_ (
-  3,
-  Rows'.any-gone (Syntax.tyStruct (List._∷_ 112 (List._∷_ 97 (List._∷_ 115 (List._∷_ 115 (List._∷_ 58 (List._∷_ 58 (List._∷_ 83 (List._∷_ 101 (List._∷_ 116 List.[])))))))))
-      (Syntax.tcons (Syntax.tyArray (Syntax.tyInt Syntax.w32) 112) (Syntax.tcons (Syntax.tyArray (Syntax.tyInt Syntax.w32) 112) Syntax.tnil))),
-) (List._∷_ (
-  4,
-  Rows.arrF (Referent.rtF (Referent.fInt
-      Syntax.w32)) 112 0,
-) (List._∷_ (5, Rows.arrF (Referent.rtF (Referent.fInt Syntax.w32)) 112 0) (List._∷_ (6, Rows'.sc-here (Row.sInt Syntax.w64)) (List._∷_ (
-  7,
-  Rows'.any-gone (Syntax.tyStruct
-      (List._∷_ 115 (List._∷_ 116 (List._∷_ 97 (List._∷_ 116 (List._∷_ 105 (List._∷_ 115 (List._∷_ 116 (List._∷_ 105 (List._∷_ 99 (List._∷_ 115 (List._∷_ 58 (List._∷_ 58 (List._∷_ 82 (List._∷_ 101 (List._∷_
-      99 (List._∷_ 111 (List._∷_ 114 (List._∷_ 100 List.[])))))))))))))))))) (Syntax.tcons (Syntax.tyInt Syntax.w32) (Syntax.tcons (Syntax.tyInt Syntax.w32) Syntax.tnil))),
-) (List._∷_ (
-  8,
-  Rows'.any-gone
-      Syntax.tyBool,
-) (List._∷_ (9, Rows'.sc-here (Row.sInt Syntax.w64)) (List._∷_ (10, Rows'.any-gone Syntax.tyPtr) (List._∷_ (11, Rows'.any-gone Syntax.tyPtr) (List._∷_ (
-  12,
-  Rows'.any-gone
-      (Syntax.tyInt Syntax.w32),
-) (List._∷_ (13, Rows'.any-gone (Syntax.tyInt Syntax.w64)) (List._∷_ (14, Rows'.any-gone Syntax.tyPtr) (List._∷_ (15, Rows'.any-gone Syntax.tyPtr) List.[])))))))))))))))
+t11 = List._∷_ e0 (List._∷_ e2 (List._∷_ e21 (List._∷_ e22 (List._∷_ e25 (List._∷_ e27 (List._∷_ e29 (List._∷_ e30 (List._∷_ e33 (List._∷_ e36 (List._∷_ e4 (List._∷_ e6 (List._∷_ e8 (List._∷_ e10
+    (List._∷_ e12 (List._∷_ e14 List.[])))))))))))))))
 
 abbrev pub t12 : List.List Row.Entry
-t12 = List._∷_ (0, Rows'.any-gone Syntax.tyUnit) (List._∷_ (1, Mut.mslice (Element.type) (Syntax.tyRef (Syntax.named 0) Syntax.mut Element.behind) 0) (List._∷_ (
-  2,
-  Rows'.sc-here (Row.sInt
-      Syntax.w64),
-) (List._∷_ (
-  3,
-  Rows'.any-gone (Syntax.tyStruct (List._∷_ 112 (List._∷_ 97 (List._∷_ 115 (List._∷_ 115 (List._∷_ 58 (List._∷_ 58 (List._∷_ 83 (List._∷_ 101 (List._∷_ 116 List.[])))))))))
-      (Syntax.tcons (Syntax.tyArray (Syntax.tyInt Syntax.w32) 112) (Syntax.tcons (Syntax.tyArray (Syntax.tyInt Syntax.w32) 112) Syntax.tnil))),
-) (List._∷_ (
-  4,
-  Rows.arrF (Referent.rtF (Referent.fInt
-      Syntax.w32)) 112 0,
-) (List._∷_ (5, Rows.arrF (Referent.rtF (Referent.fInt Syntax.w32)) 112 0) (List._∷_ (6, Rows'.sc-here (Row.sInt Syntax.w64)) (List._∷_ (
-  7,
-  Rows'.any-gone (Syntax.tyStruct
-      (List._∷_ 115 (List._∷_ 116 (List._∷_ 97 (List._∷_ 116 (List._∷_ 105 (List._∷_ 115 (List._∷_ 116 (List._∷_ 105 (List._∷_ 99 (List._∷_ 115 (List._∷_ 58 (List._∷_ 58 (List._∷_ 82 (List._∷_ 101 (List._∷_
-      99 (List._∷_ 111 (List._∷_ 114 (List._∷_ 100 List.[])))))))))))))))))) (Syntax.tcons (Syntax.tyInt Syntax.w32) (Syntax.tcons (Syntax.tyInt Syntax.w32) Syntax.tnil))),
-) (List._∷_ (
-  8,
-  Rows'.any-gone
-      Syntax.tyBool,
-) (List._∷_ (9, Rows'.sc-here (Row.sInt Syntax.w64)) (List._∷_ (10, Rows'.sc-here Row.sPtr) (List._∷_ (11, Rows'.any-gone Syntax.tyPtr) (List._∷_ (
-  12,
-  Rows'.any-gone (Syntax.tyInt
-      Syntax.w32),
-) (List._∷_ (13, Rows'.any-gone (Syntax.tyInt Syntax.w64)) (List._∷_ (14, Rows'.any-gone Syntax.tyPtr) (List._∷_ (15, Rows'.any-gone Syntax.tyPtr) List.[])))))))))))))))
+t12 = List._∷_ e0 (List._∷_ e2 (List._∷_ e21 (List._∷_ e22 (List._∷_ e25 (List._∷_ e27 (List._∷_ e29 (List._∷_ e30 (List._∷_ e33 (List._∷_ e36 (List._∷_ e5 (List._∷_ e6 (List._∷_ e8 (List._∷_ e10
+    (List._∷_ e12 (List._∷_ e14 List.[])))))))))))))))
 
 abbrev pub t13 : List.List Row.Entry
-t13 = List._∷_ (0, Rows'.any-gone Syntax.tyUnit) (List._∷_ (1, Mut.mslice (Element.type) (Syntax.tyRef (Syntax.named 0) Syntax.mut Element.behind) 0) (List._∷_ (
-  2,
-  Rows'.sc-here (Row.sInt
-      Syntax.w64),
-) (List._∷_ (
-  3,
-  Rows'.any-gone (Syntax.tyStruct (List._∷_ 112 (List._∷_ 97 (List._∷_ 115 (List._∷_ 115 (List._∷_ 58 (List._∷_ 58 (List._∷_ 83 (List._∷_ 101 (List._∷_ 116 List.[])))))))))
-      (Syntax.tcons (Syntax.tyArray (Syntax.tyInt Syntax.w32) 112) (Syntax.tcons (Syntax.tyArray (Syntax.tyInt Syntax.w32) 112) Syntax.tnil))),
-) (List._∷_ (
-  4,
-  Rows.arrF (Referent.rtF (Referent.fInt
-      Syntax.w32)) 112 0,
-) (List._∷_ (5, Rows.arrF (Referent.rtF (Referent.fInt Syntax.w32)) 112 0) (List._∷_ (6, Rows'.sc-here (Row.sInt Syntax.w64)) (List._∷_ (
-  7,
-  Rows'.any-gone (Syntax.tyStruct
-      (List._∷_ 115 (List._∷_ 116 (List._∷_ 97 (List._∷_ 116 (List._∷_ 105 (List._∷_ 115 (List._∷_ 116 (List._∷_ 105 (List._∷_ 99 (List._∷_ 115 (List._∷_ 58 (List._∷_ 58 (List._∷_ 82 (List._∷_ 101 (List._∷_
-      99 (List._∷_ 111 (List._∷_ 114 (List._∷_ 100 List.[])))))))))))))))))) (Syntax.tcons (Syntax.tyInt Syntax.w32) (Syntax.tcons (Syntax.tyInt Syntax.w32) Syntax.tnil))),
-) (List._∷_ (
-  8,
-  Rows'.any-gone
-      Syntax.tyBool,
-) (List._∷_ (9, Rows'.sc-here (Row.sInt Syntax.w64)) (List._∷_ (10, Rows'.sc-here Row.sPtr) (List._∷_ (11, Rows'.sc-here Row.sPtr) (List._∷_ (
-  12,
-  Rows'.any-gone (Syntax.tyInt
-      Syntax.w32),
-) (List._∷_ (13, Rows'.any-gone (Syntax.tyInt Syntax.w64)) (List._∷_ (14, Rows'.any-gone Syntax.tyPtr) (List._∷_ (15, Rows'.any-gone Syntax.tyPtr) List.[])))))))))))))))
+t13 = List._∷_ e0 (List._∷_ e2 (List._∷_ e21 (List._∷_ e22 (List._∷_ e25 (List._∷_ e27 (List._∷_ e29 (List._∷_ e30 (List._∷_ e33 (List._∷_ e36 (List._∷_ e5 (List._∷_ e7 (List._∷_ e8 (List._∷_ e10
+    (List._∷_ e12 (List._∷_ e14 List.[])))))))))))))))
 
 abbrev pub t14 : List.List Row.Entry
-t14 = List._∷_ (0, Rows'.any-gone Syntax.tyUnit) (List._∷_ (1, Mut.mslice (Element.type) (Syntax.tyRef (Syntax.named 0) Syntax.mut Element.behind) 0) (List._∷_ (
-  2,
-  Rows'.sc-here (Row.sInt
-      Syntax.w64),
-) (List._∷_ (
-  3,
-  Rows'.any-gone (Syntax.tyStruct (List._∷_ 112 (List._∷_ 97 (List._∷_ 115 (List._∷_ 115 (List._∷_ 58 (List._∷_ 58 (List._∷_ 83 (List._∷_ 101 (List._∷_ 116 List.[])))))))))
-      (Syntax.tcons (Syntax.tyArray (Syntax.tyInt Syntax.w32) 112) (Syntax.tcons (Syntax.tyArray (Syntax.tyInt Syntax.w32) 112) Syntax.tnil))),
-) (List._∷_ (
-  4,
-  Rows.arrF (Referent.rtF (Referent.fInt
-      Syntax.w32)) 112 0,
-) (List._∷_ (5, Rows.arrF (Referent.rtF (Referent.fInt Syntax.w32)) 112 0) (List._∷_ (6, Rows'.sc-here (Row.sInt Syntax.w64)) (List._∷_ (
-  7,
-  Rows'.any-gone (Syntax.tyStruct
-      (List._∷_ 115 (List._∷_ 116 (List._∷_ 97 (List._∷_ 116 (List._∷_ 105 (List._∷_ 115 (List._∷_ 116 (List._∷_ 105 (List._∷_ 99 (List._∷_ 115 (List._∷_ 58 (List._∷_ 58 (List._∷_ 82 (List._∷_ 101 (List._∷_
-      99 (List._∷_ 111 (List._∷_ 114 (List._∷_ 100 List.[])))))))))))))))))) (Syntax.tcons (Syntax.tyInt Syntax.w32) (Syntax.tcons (Syntax.tyInt Syntax.w32) Syntax.tnil))),
-) (List._∷_ (
-  8,
-  Rows'.any-gone
-      Syntax.tyBool,
-) (List._∷_ (9, Rows'.sc-here (Row.sInt Syntax.w64)) (List._∷_ (10, Rows'.any-gone Syntax.tyPtr) (List._∷_ (11, Rows'.sc-here Row.sPtr) (List._∷_ (
-  12,
-  Rows'.any-gone (Syntax.tyInt
-      Syntax.w32),
-) (List._∷_ (13, Rows'.any-gone (Syntax.tyInt Syntax.w64)) (List._∷_ (14, Rows'.any-gone Syntax.tyPtr) (List._∷_ (15, Rows'.any-gone Syntax.tyPtr) List.[])))))))))))))))
+t14 = List._∷_ e0 (List._∷_ e2 (List._∷_ e21 (List._∷_ e22 (List._∷_ e25 (List._∷_ e27 (List._∷_ e29 (List._∷_ e30 (List._∷_ e33 (List._∷_ e36 (List._∷_ e4 (List._∷_ e7 (List._∷_ e8 (List._∷_ e10
+    (List._∷_ e12 (List._∷_ e14 List.[])))))))))))))))
 
 abbrev pub t15 : List.List Row.Entry
-t15 = List._∷_ (0, Rows'.any-gone Syntax.tyUnit) (List._∷_ (1, Mut.mslice (Element.type) (Syntax.tyRef (Syntax.named 0) Syntax.mut Element.behind) 0) (List._∷_ (
-  2,
-  Rows'.sc-here (Row.sInt
-      Syntax.w64),
-) (List._∷_ (
-  3,
-  Rows'.any-gone (Syntax.tyStruct (List._∷_ 112 (List._∷_ 97 (List._∷_ 115 (List._∷_ 115 (List._∷_ 58 (List._∷_ 58 (List._∷_ 83 (List._∷_ 101 (List._∷_ 116 List.[])))))))))
-      (Syntax.tcons (Syntax.tyArray (Syntax.tyInt Syntax.w32) 112) (Syntax.tcons (Syntax.tyArray (Syntax.tyInt Syntax.w32) 112) Syntax.tnil))),
-) (List._∷_ (
-  4,
-  Rows.arrF (Referent.rtF (Referent.fInt
-      Syntax.w32)) 112 0,
-) (List._∷_ (5, Rows.arrF (Referent.rtF (Referent.fInt Syntax.w32)) 112 0) (List._∷_ (6, Rows'.sc-here (Row.sInt Syntax.w64)) (List._∷_ (
-  7,
-  Rows'.any-gone (Syntax.tyStruct
-      (List._∷_ 115 (List._∷_ 116 (List._∷_ 97 (List._∷_ 116 (List._∷_ 105 (List._∷_ 115 (List._∷_ 116 (List._∷_ 105 (List._∷_ 99 (List._∷_ 115 (List._∷_ 58 (List._∷_ 58 (List._∷_ 82 (List._∷_ 101 (List._∷_
-      99 (List._∷_ 111 (List._∷_ 114 (List._∷_ 100 List.[])))))))))))))))))) (Syntax.tcons (Syntax.tyInt Syntax.w32) (Syntax.tcons (Syntax.tyInt Syntax.w32) Syntax.tnil))),
-) (List._∷_ (
-  8,
-  Rows'.any-gone
-      Syntax.tyBool,
-) (List._∷_ (9, Rows'.sc-here (Row.sInt Syntax.w64)) (List._∷_ (10, Rows'.any-gone Syntax.tyPtr) (List._∷_ (11, Rows'.sc-here Row.sPtr) (List._∷_ (
-  12,
-  Rows'.sc-here (Row.sInt
-      Syntax.w32),
-) (List._∷_ (13, Rows'.any-gone (Syntax.tyInt Syntax.w64)) (List._∷_ (14, Rows'.any-gone Syntax.tyPtr) (List._∷_ (15, Rows'.any-gone Syntax.tyPtr) List.[])))))))))))))))
+t15 = List._∷_ e0 (List._∷_ e2 (List._∷_ e21 (List._∷_ e22 (List._∷_ e25 (List._∷_ e27 (List._∷_ e29 (List._∷_ e30 (List._∷_ e33 (List._∷_ e36 (List._∷_ e4 (List._∷_ e7 (List._∷_ e9 (List._∷_ e10
+    (List._∷_ e12 (List._∷_ e14 List.[])))))))))))))))
 
 abbrev pub t16 : List.List Row.Entry
-t16 = List._∷_ (0, Rows'.any-gone Syntax.tyUnit) (List._∷_ (1, Mut.mslice (Element.type) (Syntax.tyRef (Syntax.named 0) Syntax.mut Element.behind) 0) (List._∷_ (
-  2,
-  Rows'.sc-here (Row.sInt
-      Syntax.w64),
-) (List._∷_ (
-  3,
-  Rows'.any-gone (Syntax.tyStruct (List._∷_ 112 (List._∷_ 97 (List._∷_ 115 (List._∷_ 115 (List._∷_ 58 (List._∷_ 58 (List._∷_ 83 (List._∷_ 101 (List._∷_ 116 List.[])))))))))
-      (Syntax.tcons (Syntax.tyArray (Syntax.tyInt Syntax.w32) 112) (Syntax.tcons (Syntax.tyArray (Syntax.tyInt Syntax.w32) 112) Syntax.tnil))),
-) (List._∷_ (
-  4,
-  Rows.arrF (Referent.rtF (Referent.fInt
-      Syntax.w32)) 112 0,
-) (List._∷_ (5, Rows.arrF (Referent.rtF (Referent.fInt Syntax.w32)) 112 0) (List._∷_ (6, Rows'.sc-here (Row.sInt Syntax.w64)) (List._∷_ (
-  7,
-  Rows'.any-gone (Syntax.tyStruct
-      (List._∷_ 115 (List._∷_ 116 (List._∷_ 97 (List._∷_ 116 (List._∷_ 105 (List._∷_ 115 (List._∷_ 116 (List._∷_ 105 (List._∷_ 99 (List._∷_ 115 (List._∷_ 58 (List._∷_ 58 (List._∷_ 82 (List._∷_ 101 (List._∷_
-      99 (List._∷_ 111 (List._∷_ 114 (List._∷_ 100 List.[])))))))))))))))))) (Syntax.tcons (Syntax.tyInt Syntax.w32) (Syntax.tcons (Syntax.tyInt Syntax.w32) Syntax.tnil))),
-) (List._∷_ (
-  8,
-  Rows'.any-gone
-      Syntax.tyBool,
-) (List._∷_ (9, Rows'.any-gone (Syntax.tyInt Syntax.w64)) (List._∷_ (10, Rows'.any-gone Syntax.tyPtr) (List._∷_ (11, Rows'.sc-here Row.sPtr) (List._∷_ (
-  12,
-  Rows'.sc-here (Row.sInt
-      Syntax.w32),
-) (List._∷_ (13, Rows'.any-gone (Syntax.tyInt Syntax.w64)) (List._∷_ (14, Rows'.any-gone Syntax.tyPtr) (List._∷_ (15, Rows'.any-gone Syntax.tyPtr) List.[])))))))))))))))
+t16 = List._∷_ e0 (List._∷_ e2 (List._∷_ e21 (List._∷_ e22 (List._∷_ e25 (List._∷_ e27 (List._∷_ e29 (List._∷_ e30 (List._∷_ e33 (List._∷_ e35 (List._∷_ e4 (List._∷_ e7 (List._∷_ e9 (List._∷_ e10
+    (List._∷_ e12 (List._∷_ e14 List.[])))))))))))))))
 
 abbrev pub t17 : List.List Row.Entry
-t17 = List._∷_ (0, Rows'.any-gone Syntax.tyUnit) (List._∷_ (1, Mut.mslice (Element.type) (Syntax.tyRef (Syntax.named 0) Syntax.mut Element.behind) 0) (List._∷_ (
-  2,
-  Rows'.sc-here (Row.sInt
-      Syntax.w64),
-) (List._∷_ (
-  3,
-  Rows'.any-gone (Syntax.tyStruct (List._∷_ 112 (List._∷_ 97 (List._∷_ 115 (List._∷_ 115 (List._∷_ 58 (List._∷_ 58 (List._∷_ 83 (List._∷_ 101 (List._∷_ 116 List.[])))))))))
-      (Syntax.tcons (Syntax.tyArray (Syntax.tyInt Syntax.w32) 112) (Syntax.tcons (Syntax.tyArray (Syntax.tyInt Syntax.w32) 112) Syntax.tnil))),
-) (List._∷_ (
-  4,
-  Rows.arrF (Referent.rtF (Referent.fInt
-      Syntax.w32)) 112 0,
-) (List._∷_ (5, Rows.arrF (Referent.rtF (Referent.fInt Syntax.w32)) 112 0) (List._∷_ (6, Rows'.sc-here (Row.sInt Syntax.w64)) (List._∷_ (
-  7,
-  Rows'.any-gone (Syntax.tyStruct
-      (List._∷_ 115 (List._∷_ 116 (List._∷_ 97 (List._∷_ 116 (List._∷_ 105 (List._∷_ 115 (List._∷_ 116 (List._∷_ 105 (List._∷_ 99 (List._∷_ 115 (List._∷_ 58 (List._∷_ 58 (List._∷_ 82 (List._∷_ 101 (List._∷_
-      99 (List._∷_ 111 (List._∷_ 114 (List._∷_ 100 List.[])))))))))))))))))) (Syntax.tcons (Syntax.tyInt Syntax.w32) (Syntax.tcons (Syntax.tyInt Syntax.w32) Syntax.tnil))),
-) (List._∷_ (
-  8,
-  Rows'.any-gone
-      Syntax.tyBool,
-) (List._∷_ (9, Rows'.any-gone (Syntax.tyInt Syntax.w64)) (List._∷_ (10, Rows'.any-gone Syntax.tyPtr) (List._∷_ (11, Rows'.any-gone Syntax.tyPtr) (List._∷_ (
-  12,
-  Rows'.sc-here
-      (Row.sInt Syntax.w32),
-) (List._∷_ (13, Rows'.any-gone (Syntax.tyInt Syntax.w64)) (List._∷_ (14, Rows'.any-gone Syntax.tyPtr) (List._∷_ (15, Rows'.any-gone Syntax.tyPtr) List.[])))))))))))))))
+t17 = List._∷_ e0 (List._∷_ e2 (List._∷_ e21 (List._∷_ e22 (List._∷_ e25 (List._∷_ e27 (List._∷_ e29 (List._∷_ e30 (List._∷_ e33 (List._∷_ e35 (List._∷_ e4 (List._∷_ e6 (List._∷_ e9 (List._∷_ e10
+    (List._∷_ e12 (List._∷_ e14 List.[])))))))))))))))
 
 abbrev pub t18 : List.List Row.Entry
-t18 = List._∷_ (0, Rows'.any-gone Syntax.tyUnit) (List._∷_ (1, Mut.mslice (Element.type) (Syntax.tyRef (Syntax.named 0) Syntax.mut Element.behind) 0) (List._∷_ (
-  2,
-  Rows'.sc-here (Row.sInt
-      Syntax.w64),
-) (List._∷_ (
-  3,
-  Rows'.any-gone (Syntax.tyStruct (List._∷_ 112 (List._∷_ 97 (List._∷_ 115 (List._∷_ 115 (List._∷_ 58 (List._∷_ 58 (List._∷_ 83 (List._∷_ 101 (List._∷_ 116 List.[])))))))))
-      (Syntax.tcons (Syntax.tyArray (Syntax.tyInt Syntax.w32) 112) (Syntax.tcons (Syntax.tyArray (Syntax.tyInt Syntax.w32) 112) Syntax.tnil))),
-) (List._∷_ (
-  4,
-  Rows.arrF (Referent.rtF (Referent.fInt
-      Syntax.w32)) 112 0,
-) (List._∷_ (5, Rows.arrF (Referent.rtF (Referent.fInt Syntax.w32)) 112 0) (List._∷_ (6, Rows'.sc-here (Row.sInt Syntax.w64)) (List._∷_ (
-  7,
-  Rows'.any-gone (Syntax.tyStruct
-      (List._∷_ 115 (List._∷_ 116 (List._∷_ 97 (List._∷_ 116 (List._∷_ 105 (List._∷_ 115 (List._∷_ 116 (List._∷_ 105 (List._∷_ 99 (List._∷_ 115 (List._∷_ 58 (List._∷_ 58 (List._∷_ 82 (List._∷_ 101 (List._∷_
-      99 (List._∷_ 111 (List._∷_ 114 (List._∷_ 100 List.[])))))))))))))))))) (Syntax.tcons (Syntax.tyInt Syntax.w32) (Syntax.tcons (Syntax.tyInt Syntax.w32) Syntax.tnil))),
-) (List._∷_ (
-  8,
-  Rows'.any-gone
-      Syntax.tyBool,
-) (List._∷_ (9, Rows'.any-gone (Syntax.tyInt Syntax.w64)) (List._∷_ (10, Rows'.any-gone Syntax.tyPtr) (List._∷_ (11, Rows'.any-gone Syntax.tyPtr) (List._∷_ (
-  12,
-  Rows'.sc-here
-      (Row.sInt Syntax.w32),
-) (List._∷_ (13, Rows'.sc-here (Row.sInt Syntax.w64)) (List._∷_ (14, Rows'.any-gone Syntax.tyPtr) (List._∷_ (15, Rows'.any-gone Syntax.tyPtr) List.[])))))))))))))))
+t18 = List._∷_ e0 (List._∷_ e2 (List._∷_ e21 (List._∷_ e22 (List._∷_ e25 (List._∷_ e27 (List._∷_ e29 (List._∷_ e30 (List._∷_ e33 (List._∷_ e35 (List._∷_ e4 (List._∷_ e6 (List._∷_ e9 (List._∷_ e11
+    (List._∷_ e12 (List._∷_ e14 List.[])))))))))))))))
 
 abbrev pub t19 : List.List Row.Entry
-t19 = List._∷_ (0, Rows'.any-gone Syntax.tyUnit) (List._∷_ (1, Mut.mslice (Element.type) (Syntax.tyRef (Syntax.named 0) Syntax.mut Element.behind) 0) (List._∷_ (
-  2,
-  Rows'.sc-here (Row.sInt
-      Syntax.w64),
-) (List._∷_ (
-  3,
-  Rows'.any-gone (Syntax.tyStruct (List._∷_ 112 (List._∷_ 97 (List._∷_ 115 (List._∷_ 115 (List._∷_ 58 (List._∷_ 58 (List._∷_ 83 (List._∷_ 101 (List._∷_ 116 List.[])))))))))
-      (Syntax.tcons (Syntax.tyArray (Syntax.tyInt Syntax.w32) 112) (Syntax.tcons (Syntax.tyArray (Syntax.tyInt Syntax.w32) 112) Syntax.tnil))),
-) (List._∷_ (
-  4,
-  Rows.arrF (Referent.rtF (Referent.fInt
-      Syntax.w32)) 112 0,
-) (List._∷_ (5, Rows.arrF (Referent.rtF (Referent.fInt Syntax.w32)) 112 0) (List._∷_ (6, Rows'.sc-here (Row.sInt Syntax.w64)) (List._∷_ (
-  7,
-  Rows'.any-gone (Syntax.tyStruct
-      (List._∷_ 115 (List._∷_ 116 (List._∷_ 97 (List._∷_ 116 (List._∷_ 105 (List._∷_ 115 (List._∷_ 116 (List._∷_ 105 (List._∷_ 99 (List._∷_ 115 (List._∷_ 58 (List._∷_ 58 (List._∷_ 82 (List._∷_ 101 (List._∷_
-      99 (List._∷_ 111 (List._∷_ 114 (List._∷_ 100 List.[])))))))))))))))))) (Syntax.tcons (Syntax.tyInt Syntax.w32) (Syntax.tcons (Syntax.tyInt Syntax.w32) Syntax.tnil))),
-) (List._∷_ (
-  8,
-  Rows'.any-gone
-      Syntax.tyBool,
-) (List._∷_ (9, Rows'.any-gone (Syntax.tyInt Syntax.w64)) (List._∷_ (10, Rows'.any-gone Syntax.tyPtr) (List._∷_ (11, Rows'.any-gone Syntax.tyPtr) (List._∷_ (
-  12,
-  Rows'.sc-here
-      (Row.sInt Syntax.w32),
-) (List._∷_ (13, Rows'.sc-here (Row.sInt Syntax.w64)) (List._∷_ (14, Rows'.sc-here Row.sPtr) (List._∷_ (15, Rows'.any-gone Syntax.tyPtr) List.[])))))))))))))))
+t19 = List._∷_ e0 (List._∷_ e2 (List._∷_ e21 (List._∷_ e22 (List._∷_ e25 (List._∷_ e27 (List._∷_ e29 (List._∷_ e30 (List._∷_ e33 (List._∷_ e35 (List._∷_ e4 (List._∷_ e6 (List._∷_ e9 (List._∷_ e11
+    (List._∷_ e13 (List._∷_ e14 List.[])))))))))))))))
 
 abbrev pub t20 : List.List Row.Entry
-t20 = List._∷_ (0, Rows'.any-gone Syntax.tyUnit) (List._∷_ (1, Mut.mslice (Element.type) (Syntax.tyRef (Syntax.named 0) Syntax.mut Element.behind) 0) (List._∷_ (
-  2,
-  Rows'.sc-here (Row.sInt
-      Syntax.w64),
-) (List._∷_ (
-  3,
-  Rows'.any-gone (Syntax.tyStruct (List._∷_ 112 (List._∷_ 97 (List._∷_ 115 (List._∷_ 115 (List._∷_ 58 (List._∷_ 58 (List._∷_ 83 (List._∷_ 101 (List._∷_ 116 List.[])))))))))
-      (Syntax.tcons (Syntax.tyArray (Syntax.tyInt Syntax.w32) 112) (Syntax.tcons (Syntax.tyArray (Syntax.tyInt Syntax.w32) 112) Syntax.tnil))),
-) (List._∷_ (
-  4,
-  Rows.arrF (Referent.rtF (Referent.fInt
-      Syntax.w32)) 112 0,
-) (List._∷_ (5, Rows.arrF (Referent.rtF (Referent.fInt Syntax.w32)) 112 0) (List._∷_ (6, Rows'.sc-here (Row.sInt Syntax.w64)) (List._∷_ (
-  7,
-  Rows'.any-gone (Syntax.tyStruct
-      (List._∷_ 115 (List._∷_ 116 (List._∷_ 97 (List._∷_ 116 (List._∷_ 105 (List._∷_ 115 (List._∷_ 116 (List._∷_ 105 (List._∷_ 99 (List._∷_ 115 (List._∷_ 58 (List._∷_ 58 (List._∷_ 82 (List._∷_ 101 (List._∷_
-      99 (List._∷_ 111 (List._∷_ 114 (List._∷_ 100 List.[])))))))))))))))))) (Syntax.tcons (Syntax.tyInt Syntax.w32) (Syntax.tcons (Syntax.tyInt Syntax.w32) Syntax.tnil))),
-) (List._∷_ (
-  8,
-  Rows'.any-gone
-      Syntax.tyBool,
-) (List._∷_ (9, Rows'.any-gone (Syntax.tyInt Syntax.w64)) (List._∷_ (10, Rows'.any-gone Syntax.tyPtr) (List._∷_ (11, Rows'.any-gone Syntax.tyPtr) (List._∷_ (
-  12,
-  Rows'.sc-here
-      (Row.sInt Syntax.w32),
-) (List._∷_ (13, Rows'.sc-here (Row.sInt Syntax.w64)) (List._∷_ (14, Rows'.sc-here Row.sPtr) (List._∷_ (15, Rows'.sc-here Row.sPtr) List.[])))))))))))))))
+t20 = List._∷_ e0 (List._∷_ e2 (List._∷_ e21 (List._∷_ e22 (List._∷_ e25 (List._∷_ e27 (List._∷_ e29 (List._∷_ e30 (List._∷_ e33 (List._∷_ e35 (List._∷_ e4 (List._∷_ e6 (List._∷_ e9 (List._∷_ e11
+    (List._∷_ e13 (List._∷_ e15 List.[])))))))))))))))
 
 abbrev pub t21 : List.List Row.Entry
-t21 = List._∷_ (0, Rows'.any-gone Syntax.tyUnit) (List._∷_ (1, Mut.mslice (Element.type) (Syntax.tyRef (Syntax.named 0) Syntax.mut Element.behind) 0) (List._∷_ (
-  2,
-  Rows'.sc-here (Row.sInt
-      Syntax.w64),
-) (List._∷_ (
-  3,
-  Rows'.any-gone (Syntax.tyStruct (List._∷_ 112 (List._∷_ 97 (List._∷_ 115 (List._∷_ 115 (List._∷_ 58 (List._∷_ 58 (List._∷_ 83 (List._∷_ 101 (List._∷_ 116 List.[])))))))))
-      (Syntax.tcons (Syntax.tyArray (Syntax.tyInt Syntax.w32) 112) (Syntax.tcons (Syntax.tyArray (Syntax.tyInt Syntax.w32) 112) Syntax.tnil))),
-) (List._∷_ (
-  4,
-  Rows.arrF (Referent.rtF (Referent.fInt
-      Syntax.w32)) 112 0,
-) (List._∷_ (5, Rows.arrF (Referent.rtF (Referent.fInt Syntax.w32)) 112 0) (List._∷_ (6, Rows'.sc-here (Row.sInt Syntax.w64)) (List._∷_ (
-  7,
-  Rows'.any-gone (Syntax.tyStruct
-      (List._∷_ 115 (List._∷_ 116 (List._∷_ 97 (List._∷_ 116 (List._∷_ 105 (List._∷_ 115 (List._∷_ 116 (List._∷_ 105 (List._∷_ 99 (List._∷_ 115 (List._∷_ 58 (List._∷_ 58 (List._∷_ 82 (List._∷_ 101 (List._∷_
-      99 (List._∷_ 111 (List._∷_ 114 (List._∷_ 100 List.[])))))))))))))))))) (Syntax.tcons (Syntax.tyInt Syntax.w32) (Syntax.tcons (Syntax.tyInt Syntax.w32) Syntax.tnil))),
-) (List._∷_ (
-  8,
-  Rows'.any-gone
-      Syntax.tyBool,
-) (List._∷_ (9, Rows'.any-gone (Syntax.tyInt Syntax.w64)) (List._∷_ (10, Rows'.any-gone Syntax.tyPtr) (List._∷_ (11, Rows'.any-gone Syntax.tyPtr) (List._∷_ (
-  12,
-  Rows'.sc-here
-      (Row.sInt Syntax.w32),
-) (List._∷_ (13, Rows'.sc-here (Row.sInt Syntax.w64)) (List._∷_ (14, Rows'.any-gone Syntax.tyPtr) (List._∷_ (15, Rows'.sc-here Row.sPtr) List.[])))))))))))))))
+t21 = List._∷_ e0 (List._∷_ e2 (List._∷_ e21 (List._∷_ e22 (List._∷_ e25 (List._∷_ e27 (List._∷_ e29 (List._∷_ e30 (List._∷_ e33 (List._∷_ e35 (List._∷_ e4 (List._∷_ e6 (List._∷_ e9 (List._∷_ e11
+    (List._∷_ e12 (List._∷_ e15 List.[])))))))))))))))
 
 abbrev pub t22 : List.List Row.Entry
-t22 = List._∷_ (16, Rows'.sc-here (Row.sInt Syntax.w32)) (List._∷_ (17, Rows'.any-gone Syntax.tyUnit) (List._∷_ (18, Rows'.any-gone (Syntax.tyRef Syntax.erased Syntax.mut Element.behind))
-    (List._∷_ (
-      19,
-      Rows'.any-gone (Syntax.tyStruct (List._∷_ 38 (List._∷_ 91 (List._∷_ 93 List.[]))) (Syntax.tcons (Syntax.tyRef Syntax.erased Syntax.mut Element.behind) (Syntax.tcons (Syntax.tyInt
-          Syntax.w64) Syntax.tnil))),
-    ) List.[])))
+t22 = List._∷_ (16, Rows'.sc-here (Row.sInt Syntax.w32)) (List._∷_ e17 (List._∷_ e18 (List._∷_ e20 List.[])))
 
 abbrev pub t23 : List.List Row.Entry
-t23 = List._∷_ (0, Rows'.any-gone Syntax.tyUnit) (List._∷_ (1, Mut.mslice (Element.type) (Syntax.tyRef (Syntax.named 0) Syntax.mut Element.behind) 0) (List._∷_ (
-  2,
-  Rows'.sc-here (Row.sInt
-      Syntax.w64),
-) (List._∷_ (
-  3,
-  Rows'.any-gone (Syntax.tyStruct (List._∷_ 112 (List._∷_ 97 (List._∷_ 115 (List._∷_ 115 (List._∷_ 58 (List._∷_ 58 (List._∷_ 83 (List._∷_ 101 (List._∷_ 116 List.[])))))))))
-      (Syntax.tcons (Syntax.tyArray (Syntax.tyInt Syntax.w32) 112) (Syntax.tcons (Syntax.tyArray (Syntax.tyInt Syntax.w32) 112) Syntax.tnil))),
-) (List._∷_ (
-  4,
-  Rows.arrF (Referent.rtF (Referent.fInt
-      Syntax.w32)) 112 0,
-) (List._∷_ (5, Rows.arrF (Referent.rtF (Referent.fInt Syntax.w32)) 112 0) (List._∷_ (6, Rows'.sc-here (Row.sInt Syntax.w64)) (List._∷_ (
-  7,
-  Rows'.any-gone (Syntax.tyStruct
-      (List._∷_ 115 (List._∷_ 116 (List._∷_ 97 (List._∷_ 116 (List._∷_ 105 (List._∷_ 115 (List._∷_ 116 (List._∷_ 105 (List._∷_ 99 (List._∷_ 115 (List._∷_ 58 (List._∷_ 58 (List._∷_ 82 (List._∷_ 101 (List._∷_
-      99 (List._∷_ 111 (List._∷_ 114 (List._∷_ 100 List.[])))))))))))))))))) (Syntax.tcons (Syntax.tyInt Syntax.w32) (Syntax.tcons (Syntax.tyInt Syntax.w32) Syntax.tnil))),
-) (List._∷_ (
-  8,
-  Rows'.any-gone
-      Syntax.tyBool,
-) (List._∷_ (9, Rows'.any-gone (Syntax.tyInt Syntax.w64)) (List._∷_ (10, Rows'.any-gone Syntax.tyPtr) (List._∷_ (11, Rows'.any-gone Syntax.tyPtr) (List._∷_ (
-  12,
-  Rows'.sc-here
-      (Row.sInt Syntax.w32),
-) (List._∷_ (13, Rows'.any-gone (Syntax.tyInt Syntax.w64)) (List._∷_ (14, Rows'.any-gone Syntax.tyPtr) (List._∷_ (15, Rows'.sc-here Row.sPtr) List.[])))))))))))))))
+t23 = List._∷_ e0 (List._∷_ e2 (List._∷_ e21 (List._∷_ e22 (List._∷_ e25 (List._∷_ e27 (List._∷_ e29 (List._∷_ e30 (List._∷_ e33 (List._∷_ e35 (List._∷_ e4 (List._∷_ e6 (List._∷_ e9 (List._∷_ e10
+    (List._∷_ e12 (List._∷_ e15 List.[])))))))))))))))
 
 abbrev pub t24 : List.List Row.Entry
-t24 = List._∷_ (0, Rows'.any-gone Syntax.tyUnit) (List._∷_ (1, Mut.mslice (Element.type) (Syntax.tyRef (Syntax.named 0) Syntax.mut Element.behind) 0) (List._∷_ (
-  2,
-  Rows'.sc-here (Row.sInt
-      Syntax.w64),
-) (List._∷_ (
-  3,
-  Rows'.any-gone (Syntax.tyStruct (List._∷_ 112 (List._∷_ 97 (List._∷_ 115 (List._∷_ 115 (List._∷_ 58 (List._∷_ 58 (List._∷_ 83 (List._∷_ 101 (List._∷_ 116 List.[])))))))))
-      (Syntax.tcons (Syntax.tyArray (Syntax.tyInt Syntax.w32) 112) (Syntax.tcons (Syntax.tyArray (Syntax.tyInt Syntax.w32) 112) Syntax.tnil))),
-) (List._∷_ (
-  4,
-  Rows.arrF (Referent.rtF (Referent.fInt
-      Syntax.w32)) 112 0,
-) (List._∷_ (5, Rows.arrF (Referent.rtF (Referent.fInt Syntax.w32)) 112 0) (List._∷_ (6, Rows'.sc-here (Row.sInt Syntax.w64)) (List._∷_ (
-  7,
-  Rows'.whole (Declared.row
-      (Apart.apartT Record.the-type)),
-) (List._∷_ (8, Rows'.any-gone Syntax.tyBool) (List._∷_ (9, Rows'.any-gone (Syntax.tyInt Syntax.w64)) (List._∷_ (10, Rows'.any-gone Syntax.tyPtr) (List._∷_ (
-  11,
-  Rows'.any-gone Syntax.tyPtr,
-) (List._∷_ (12, Rows'.sc-here (Row.sInt Syntax.w32)) (List._∷_ (13, Rows'.any-gone (Syntax.tyInt Syntax.w64)) (List._∷_ (14, Rows'.any-gone Syntax.tyPtr) (List._∷_
-    (15, Rows'.any-gone Syntax.tyPtr) List.[])))))))))))))))
+t24 = List._∷_ e0 (List._∷_ e2 (List._∷_ e21 (List._∷_ e22 (List._∷_ e25 (List._∷_ e27 (List._∷_ e29 (List._∷_ e31 (List._∷_ e33 (List._∷_ e35 (List._∷_ e4 (List._∷_ e6 (List._∷_ e9 (List._∷_ e10
+    (List._∷_ e12 (List._∷_ e14 List.[])))))))))))))))
 
 abbrev pub t25 : List.List Row.Entry
-t25 = List._∷_ (0, Rows'.any-gone Syntax.tyUnit) (List._∷_ (1, Mut.mslice (Element.type) (Syntax.tyRef (Syntax.named 0) Syntax.mut Element.behind) 0) (List._∷_ (
-  2,
-  Rows'.sc-here (Row.sInt
-      Syntax.w64),
-) (List._∷_ (
-  3,
-  Rows'.any-gone (Syntax.tyStruct (List._∷_ 112 (List._∷_ 97 (List._∷_ 115 (List._∷_ 115 (List._∷_ 58 (List._∷_ 58 (List._∷_ 83 (List._∷_ 101 (List._∷_ 116 List.[])))))))))
-      (Syntax.tcons (Syntax.tyArray (Syntax.tyInt Syntax.w32) 112) (Syntax.tcons (Syntax.tyArray (Syntax.tyInt Syntax.w32) 112) Syntax.tnil))),
-) (List._∷_ (
-  4,
-  Rows.arrF (Referent.rtF (Referent.fInt
-      Syntax.w32)) 112 0,
-) (List._∷_ (5, Rows.arrF (Referent.rtF (Referent.fInt Syntax.w32)) 112 0) (List._∷_ (6, Rows'.sc-here (Row.sInt Syntax.w64)) (List._∷_ (
-  7,
-  Rows'.whole (Declared.row
-      (Apart.apartT Record.the-type)),
-) (List._∷_ (8, Rows'.any-gone Syntax.tyBool) (List._∷_ (9, Rows'.any-gone (Syntax.tyInt Syntax.w64)) (List._∷_ (10, Rows'.any-gone Syntax.tyPtr) (List._∷_ (
-  11,
-  Rows'.any-gone Syntax.tyPtr,
-) (List._∷_ (12, Rows'.any-gone (Syntax.tyInt Syntax.w32)) (List._∷_ (13, Rows'.any-gone (Syntax.tyInt Syntax.w64)) (List._∷_ (14, Rows'.any-gone Syntax.tyPtr)
-    (List._∷_ (15, Rows'.any-gone Syntax.tyPtr) List.[])))))))))))))))
+t25 = List._∷_ e0 (List._∷_ e2 (List._∷_ e21 (List._∷_ e22 (List._∷_ e25 (List._∷_ e27 (List._∷_ e29 (List._∷_ e31 (List._∷_ e33 (List._∷_ e35 (List._∷_ e4 (List._∷_ e6 (List._∷_ e8 (List._∷_ e10
+    (List._∷_ e12 (List._∷_ e14 List.[])))))))))))))))
 
 abbrev pub t26 : List.List Row.Entry
-t26 = List._∷_ (0, Rows'.any-gone Syntax.tyUnit) (List._∷_ (1, Relend.mslice-owed (Element.type) (Syntax.tyRef (Syntax.named 0) Syntax.mut Element.behind) 0 1 Row.off) (List._∷_ (
-  2,
-  Rows'.sc-here
-      (Row.sInt Syntax.w64),
-) (List._∷_ (
-  3,
-  Rows'.any-gone (Syntax.tyStruct (List._∷_ 112 (List._∷_ 97 (List._∷_ 115 (List._∷_ 115 (List._∷_ 58 (List._∷_ 58 (List._∷_ 83 (List._∷_ 101 (List._∷_ 116
-      List.[]))))))))) (Syntax.tcons (Syntax.tyArray (Syntax.tyInt Syntax.w32) 112) (Syntax.tcons (Syntax.tyArray (Syntax.tyInt Syntax.w32) 112) Syntax.tnil))),
-) (List._∷_ (
-  4,
-  Rows.arrF (Referent.rtF
-      (Referent.fInt Syntax.w32)) 112 0,
-) (List._∷_ (5, Rows.arrF (Referent.rtF (Referent.fInt Syntax.w32)) 112 0) (List._∷_ (6, Rows'.sc-here (Row.sInt Syntax.w64)) (List._∷_ (
-  7,
-  Rows'.whole
-      (Declared.row (Apart.apartT Record.the-type)),
-) (List._∷_ (8, Rows'.any-gone Syntax.tyBool) (List._∷_ (9, Rows'.any-gone (Syntax.tyInt Syntax.w64)) (List._∷_ (10, Rows'.any-gone Syntax.tyPtr)
-    (List._∷_ (11, Rows'.any-gone Syntax.tyPtr) (List._∷_ (12, Rows'.any-gone (Syntax.tyInt Syntax.w32)) (List._∷_ (13, Rows'.any-gone (Syntax.tyInt Syntax.w64)) (List._∷_ (
-      14,
-      Rows'.any-gone
-          Syntax.tyPtr,
-    ) (List._∷_ (15, Rows'.any-gone Syntax.tyPtr) List.[])))))))))))))))
+t26 = List._∷_ e0 (List._∷_ e3 (List._∷_ e21 (List._∷_ e22 (List._∷_ e25 (List._∷_ e27 (List._∷_ e29 (List._∷_ e31 (List._∷_ e33 (List._∷_ e35 (List._∷_ e4 (List._∷_ e6 (List._∷_ e8 (List._∷_ e10
+    (List._∷_ e12 (List._∷_ e14 List.[])))))))))))))))
 
 abbrev pub t27 : List.List Row.Entry
-t27 = List._∷_ (16, Rows'.any-gone (Syntax.tyInt Syntax.w32)) (List._∷_ (17, Rows'.any-gone Syntax.tyUnit) (List._∷_ (
-  18,
-  Relend.msptr (Element.type) (Syntax.tyRef Syntax.erased Syntax.mut
-      Element.behind) 1,
-) (List._∷_ (
-  19,
-  Rows'.any-gone (Syntax.tyStruct (List._∷_ 38 (List._∷_ 91 (List._∷_ 93 List.[]))) (Syntax.tcons (Syntax.tyRef Syntax.erased Syntax.mut Element.behind)
-      (Syntax.tcons (Syntax.tyInt Syntax.w64) Syntax.tnil))),
-) List.[])))
+t27 = List._∷_ e16 (List._∷_ e17 (List._∷_ (18, Relend.msptr (Element.type) (Syntax.tyRef Syntax.erased Syntax.mut Element.behind) 1) (List._∷_ e20 List.[])))
 
 abbrev pub t28 : List.List Row.Entry
-t28 = List._∷_ (16, Rows'.any-gone (Syntax.tyInt Syntax.w32)) (List._∷_ (17, Rows'.any-gone Syntax.tyUnit) (List._∷_ (18, Rows'.any-gone (Syntax.tyRef Syntax.erased Syntax.mut Element.behind))
-    (List._∷_ (19, Mut.mslice (Element.type) (Syntax.tyRef Syntax.erased Syntax.mut Element.behind) 1) List.[])))
+t28 = List._∷_ e16 (List._∷_ e17 (List._∷_ e18 (List._∷_ (19, Mut.mslice (Element.type) (Syntax.tyRef Syntax.erased Syntax.mut Element.behind) 1) List.[])))
 
 abbrev pub t29 : List.List Row.Entry
-t29 = List._∷_ (0, Rows'.any-gone Syntax.tyUnit) (List._∷_ (1, Relend.mslice-owed (Element.type) (Syntax.tyRef (Syntax.named 0) Syntax.mut Element.behind) 0 1 Row.off) (List._∷_ (
-  2,
-  Rows'.sc-here
-      (Row.sInt Syntax.w64),
-) (List._∷_ (
-  3,
-  Rows'.any-gone (Syntax.tyStruct (List._∷_ 112 (List._∷_ 97 (List._∷_ 115 (List._∷_ 115 (List._∷_ 58 (List._∷_ 58 (List._∷_ 83 (List._∷_ 101 (List._∷_ 116
-      List.[]))))))))) (Syntax.tcons (Syntax.tyArray (Syntax.tyInt Syntax.w32) 112) (Syntax.tcons (Syntax.tyArray (Syntax.tyInt Syntax.w32) 112) Syntax.tnil))),
-) (List._∷_ (
-  4,
-  Rows.arrF (Referent.rtF
-      (Referent.fInt Syntax.w32)) 112 0,
-) (List._∷_ (5, Rows.arrF (Referent.rtF (Referent.fInt Syntax.w32)) 112 0) (List._∷_ (6, Rows'.sc-here (Row.sInt Syntax.w64)) (List._∷_ (
-  7,
-  Rows'.whole
-      (Declared.row (Apart.apartT Record.the-type)),
-) (List._∷_ (8, Rows'.any-gone Syntax.tyBool) (List._∷_ (9, Rows'.sc-here (Row.sInt Syntax.w64)) (List._∷_ (10, Rows'.any-gone Syntax.tyPtr) (List._∷_
-    (11, Rows'.any-gone Syntax.tyPtr) (List._∷_ (12, Rows'.any-gone (Syntax.tyInt Syntax.w32)) (List._∷_ (13, Rows'.any-gone (Syntax.tyInt Syntax.w64)) (List._∷_ (14, Rows'.any-gone Syntax.tyPtr)
-    (List._∷_ (15, Rows'.any-gone Syntax.tyPtr) List.[])))))))))))))))
+t29 = List._∷_ e0 (List._∷_ e3 (List._∷_ e21 (List._∷_ e22 (List._∷_ e25 (List._∷_ e27 (List._∷_ e29 (List._∷_ e31 (List._∷_ e33 (List._∷_ e36 (List._∷_ e4 (List._∷_ e6 (List._∷_ e8 (List._∷_ e10
+    (List._∷_ e12 (List._∷_ e14 List.[])))))))))))))))
 
 abbrev pub t30 : List.List Row.Entry
-t30 = List._∷_ (0, Rows'.any-gone Syntax.tyUnit) (List._∷_ (1, Relend.mslice-owed (Element.type) (Syntax.tyRef (Syntax.named 0) Syntax.mut Element.behind) 0 1 Row.off) (List._∷_ (
-  2,
-  Rows'.sc-here
-      (Row.sInt Syntax.w64),
-) (List._∷_ (
-  3,
-  Rows'.any-gone (Syntax.tyStruct (List._∷_ 112 (List._∷_ 97 (List._∷_ 115 (List._∷_ 115 (List._∷_ 58 (List._∷_ 58 (List._∷_ 83 (List._∷_ 101 (List._∷_ 116
-      List.[]))))))))) (Syntax.tcons (Syntax.tyArray (Syntax.tyInt Syntax.w32) 112) (Syntax.tcons (Syntax.tyArray (Syntax.tyInt Syntax.w32) 112) Syntax.tnil))),
-) (List._∷_ (
-  4,
-  Rows.arrF (Referent.rtF
-      (Referent.fInt Syntax.w32)) 112 0,
-) (List._∷_ (5, Rows.arrF (Referent.rtF (Referent.fInt Syntax.w32)) 112 0) (List._∷_ (6, Rows'.sc-here (Row.sInt Syntax.w64)) (List._∷_ (
-  7,
-  Rows'.whole
-      (Declared.row (Apart.apartT Record.the-type)),
-) (List._∷_ (8, Rows'.any-gone Syntax.tyBool) (List._∷_ (9, Rows'.sc-here (Row.sInt Syntax.w64)) (List._∷_ (10, Rows'.any-gone Syntax.tyPtr) (List._∷_
-    (11, Rows'.any-gone Syntax.tyPtr) (List._∷_ (12, Rows'.any-gone (Syntax.tyInt Syntax.w32)) (List._∷_ (13, Rows'.sc-here (Row.sInt Syntax.w64)) (List._∷_ (14, Rows'.any-gone Syntax.tyPtr)
-    (List._∷_ (15, Rows'.any-gone Syntax.tyPtr) List.[])))))))))))))))
+t30 = List._∷_ e0 (List._∷_ e3 (List._∷_ e21 (List._∷_ e22 (List._∷_ e25 (List._∷_ e27 (List._∷_ e29 (List._∷_ e31 (List._∷_ e33 (List._∷_ e36 (List._∷_ e4 (List._∷_ e6 (List._∷_ e8 (List._∷_ e11
+    (List._∷_ e12 (List._∷_ e14 List.[])))))))))))))))
 
 abbrev pub t31 : List.List Row.Entry
-t31 = List._∷_ (0, Rows'.any-gone Syntax.tyUnit) (List._∷_ (1, Relend.mslice-owed (Element.type) (Syntax.tyRef (Syntax.named 0) Syntax.mut Element.behind) 0 1 Row.off) (List._∷_ (
-  2,
-  Rows'.sc-here
-      (Row.sInt Syntax.w64),
-) (List._∷_ (
-  3,
-  Rows'.any-gone (Syntax.tyStruct (List._∷_ 112 (List._∷_ 97 (List._∷_ 115 (List._∷_ 115 (List._∷_ 58 (List._∷_ 58 (List._∷_ 83 (List._∷_ 101 (List._∷_ 116
-      List.[]))))))))) (Syntax.tcons (Syntax.tyArray (Syntax.tyInt Syntax.w32) 112) (Syntax.tcons (Syntax.tyArray (Syntax.tyInt Syntax.w32) 112) Syntax.tnil))),
-) (List._∷_ (
-  4,
-  Rows.arrF (Referent.rtF
-      (Referent.fInt Syntax.w32)) 112 0,
-) (List._∷_ (5, Rows.arrF (Referent.rtF (Referent.fInt Syntax.w32)) 112 0) (List._∷_ (6, Rows'.sc-here (Row.sInt Syntax.w64)) (List._∷_ (
-  7,
-  Rows'.whole
-      (Declared.row (Apart.apartT Record.the-type)),
-) (List._∷_ (8, Rows'.any-gone Syntax.tyBool) (List._∷_ (9, Rows'.any-gone (Syntax.tyInt Syntax.w64)) (List._∷_ (10, Rows'.any-gone Syntax.tyPtr)
-    (List._∷_ (11, Rows'.any-gone Syntax.tyPtr) (List._∷_ (12, Rows'.any-gone (Syntax.tyInt Syntax.w32)) (List._∷_ (13, Rows'.sc-here (Row.sInt Syntax.w64)) (List._∷_ (
-      14,
-      Rows'.any-gone Syntax.tyPtr,
-    ) (List._∷_ (15, Rows'.any-gone Syntax.tyPtr) List.[])))))))))))))))
+t31 = List._∷_ e0 (List._∷_ e3 (List._∷_ e21 (List._∷_ e22 (List._∷_ e25 (List._∷_ e27 (List._∷_ e29 (List._∷_ e31 (List._∷_ e33 (List._∷_ e35 (List._∷_ e4 (List._∷_ e6 (List._∷_ e8 (List._∷_ e11
+    (List._∷_ e12 (List._∷_ e14 List.[])))))))))))))))
 
 abbrev pub t32 : List.List Row.Entry
-t32 = List._∷_ (0, Rows'.any-gone Syntax.tyUnit) (List._∷_ (1, Relend.mslice-owed (Element.type) (Syntax.tyRef (Syntax.named 0) Syntax.mut Element.behind) 0 1 Row.off) (List._∷_ (
-  2,
-  Rows'.sc-here
-      (Row.sInt Syntax.w64),
-) (List._∷_ (
-  3,
-  Rows'.any-gone (Syntax.tyStruct (List._∷_ 112 (List._∷_ 97 (List._∷_ 115 (List._∷_ 115 (List._∷_ 58 (List._∷_ 58 (List._∷_ 83 (List._∷_ 101 (List._∷_ 116
-      List.[]))))))))) (Syntax.tcons (Syntax.tyArray (Syntax.tyInt Syntax.w32) 112) (Syntax.tcons (Syntax.tyArray (Syntax.tyInt Syntax.w32) 112) Syntax.tnil))),
-) (List._∷_ (
-  4,
-  Rows.arrF (Referent.rtF
-      (Referent.fInt Syntax.w32)) 112 0,
-) (List._∷_ (5, Rows.arrF (Referent.rtF (Referent.fInt Syntax.w32)) 112 0) (List._∷_ (6, Rows'.sc-here (Row.sInt Syntax.w64)) (List._∷_ (
-  7,
-  Rows'.whole
-      (Declared.row Record.the-type),
-) (List._∷_ (8, Rows'.any-gone Syntax.tyBool) (List._∷_ (9, Rows'.any-gone (Syntax.tyInt Syntax.w64)) (List._∷_ (10, Rows'.any-gone Syntax.tyPtr) (List._∷_ (
-  11,
-  Rows'.any-gone Syntax.tyPtr,
-) (List._∷_ (12, Rows'.any-gone (Syntax.tyInt Syntax.w32)) (List._∷_ (13, Rows'.sc-here (Row.sInt Syntax.w64)) (List._∷_ (14, Rows'.any-gone Syntax.tyPtr) (List._∷_
-    (15, Rows'.any-gone Syntax.tyPtr) List.[])))))))))))))))
+t32 = List._∷_ e0 (List._∷_ e3 (List._∷_ e21 (List._∷_ e22 (List._∷_ e25 (List._∷_ e27 (List._∷_ e29 (List._∷_ e32 (List._∷_ e33 (List._∷_ e35 (List._∷_ e4 (List._∷_ e6 (List._∷_ e8 (List._∷_ e11
+    (List._∷_ e12 (List._∷_ e14 List.[])))))))))))))))
 
 abbrev pub t33 : List.List Row.Entry
-t33 = List._∷_ (16, Rows'.any-gone (Syntax.tyInt Syntax.w32)) (List._∷_ (17, Rows'.sc-here Row.sUnit) (List._∷_ (18, Rows'.any-gone (Syntax.tyRef Syntax.erased Syntax.mut Element.behind))
-    (List._∷_ (19, Mut.msleft (Element.type) (Syntax.tyRef Syntax.erased Syntax.mut Element.behind)) List.[])))
+t33 = List._∷_ e16 (List._∷_ (17, Rows'.sc-here Row.sUnit) (List._∷_ e18 (List._∷_ e19 List.[])))
 
 abbrev pub t34 : List.List Row.Entry
-t34 = List._∷_ (0, Rows'.any-gone Syntax.tyUnit) (List._∷_ (1, Relend.mslice-owed (Element.type) (Syntax.tyRef (Syntax.named 0) Syntax.mut Element.behind) 0 1 Row.off) (List._∷_ (
-  2,
-  Rows'.sc-here
-      (Row.sInt Syntax.w64),
-) (List._∷_ (
-  3,
-  Rows'.any-gone (Syntax.tyStruct (List._∷_ 112 (List._∷_ 97 (List._∷_ 115 (List._∷_ 115 (List._∷_ 58 (List._∷_ 58 (List._∷_ 83 (List._∷_ 101 (List._∷_ 116
-      List.[]))))))))) (Syntax.tcons (Syntax.tyArray (Syntax.tyInt Syntax.w32) 112) (Syntax.tcons (Syntax.tyArray (Syntax.tyInt Syntax.w32) 112) Syntax.tnil))),
-) (List._∷_ (
-  4,
-  Rows.arrF (Referent.rtF
-      (Referent.fInt Syntax.w32)) 112 0,
-) (List._∷_ (5, Rows.arrF (Referent.rtF (Referent.fInt Syntax.w32)) 112 0) (List._∷_ (6, Rows'.sc-here (Row.sInt Syntax.w64)) (List._∷_ (
-  7,
-  Rows'.any-gone
-      (Syntax.tyStruct (List._∷_ 115 (List._∷_ 116 (List._∷_ 97 (List._∷_ 116 (List._∷_ 105 (List._∷_ 115 (List._∷_ 116 (List._∷_ 105 (List._∷_ 99 (List._∷_ 115 (List._∷_ 58 (List._∷_ 58 (List._∷_ 82
-      (List._∷_ 101 (List._∷_ 99 (List._∷_ 111 (List._∷_ 114 (List._∷_ 100 List.[])))))))))))))))))) (Syntax.tcons (Syntax.tyInt Syntax.w32) (Syntax.tcons (Syntax.tyInt Syntax.w32) Syntax.tnil))),
-)
-    (List._∷_ (8, Rows'.any-gone Syntax.tyBool) (List._∷_ (9, Rows'.any-gone (Syntax.tyInt Syntax.w64)) (List._∷_ (10, Rows'.any-gone Syntax.tyPtr) (List._∷_ (11, Rows'.any-gone Syntax.tyPtr) (List._∷_
-    (12, Rows'.any-gone (Syntax.tyInt Syntax.w32)) (List._∷_ (13, Rows'.sc-here (Row.sInt Syntax.w64)) (List._∷_ (14, Rows'.any-gone Syntax.tyPtr) (List._∷_ (15, Rows'.any-gone Syntax.tyPtr)
-    List.[])))))))))))))))
+t34 = List._∷_ e0 (List._∷_ e3 (List._∷_ e21 (List._∷_ e22 (List._∷_ e25 (List._∷_ e27 (List._∷_ e29 (List._∷_ e30 (List._∷_ e33 (List._∷_ e35 (List._∷_ e4 (List._∷_ e6 (List._∷_ e8 (List._∷_ e11
+    (List._∷_ e12 (List._∷_ e14 List.[])))))))))))))))
 
 abbrev pub t35 : List.List Row.Entry
-t35 = List._∷_ (0, Rows'.any-gone Syntax.tyUnit) (List._∷_ (1, Relend.mslice-owed (Element.type) (Syntax.tyRef (Syntax.named 0) Syntax.mut Element.behind) 0 1 Row.off) (List._∷_ (
-  2,
-  Rows'.sc-here
-      (Row.sInt Syntax.w64),
-) (List._∷_ (
-  3,
-  Rows'.any-gone (Syntax.tyStruct (List._∷_ 112 (List._∷_ 97 (List._∷_ 115 (List._∷_ 115 (List._∷_ 58 (List._∷_ 58 (List._∷_ 83 (List._∷_ 101 (List._∷_ 116
-      List.[]))))))))) (Syntax.tcons (Syntax.tyArray (Syntax.tyInt Syntax.w32) 112) (Syntax.tcons (Syntax.tyArray (Syntax.tyInt Syntax.w32) 112) Syntax.tnil))),
-) (List._∷_ (
-  4,
-  Rows.arrF (Referent.rtF
-      (Referent.fInt Syntax.w32)) 112 0,
-) (List._∷_ (5, Rows.arrF (Referent.rtF (Referent.fInt Syntax.w32)) 112 0) (List._∷_ (6, Rows'.sc-here (Row.sInt Syntax.w64)) (List._∷_ (
-  7,
-  Rows'.any-gone
-      (Syntax.tyStruct (List._∷_ 115 (List._∷_ 116 (List._∷_ 97 (List._∷_ 116 (List._∷_ 105 (List._∷_ 115 (List._∷_ 116 (List._∷_ 105 (List._∷_ 99 (List._∷_ 115 (List._∷_ 58 (List._∷_ 58 (List._∷_ 82
-      (List._∷_ 101 (List._∷_ 99 (List._∷_ 111 (List._∷_ 114 (List._∷_ 100 List.[])))))))))))))))))) (Syntax.tcons (Syntax.tyInt Syntax.w32) (Syntax.tcons (Syntax.tyInt Syntax.w32) Syntax.tnil))),
-)
-    (List._∷_ (8, Rows'.any-gone Syntax.tyBool) (List._∷_ (9, Rows'.any-gone (Syntax.tyInt Syntax.w64)) (List._∷_ (10, Rows'.any-gone Syntax.tyPtr) (List._∷_ (11, Rows'.any-gone Syntax.tyPtr) (List._∷_
-    (12, Rows'.any-gone (Syntax.tyInt Syntax.w32)) (List._∷_ (13, Rows'.any-gone (Syntax.tyInt Syntax.w64)) (List._∷_ (14, Rows'.any-gone Syntax.tyPtr) (List._∷_ (15, Rows'.any-gone Syntax.tyPtr)
-    List.[])))))))))))))))
+t35 = List._∷_ e0 (List._∷_ e3 (List._∷_ e21 (List._∷_ e22 (List._∷_ e25 (List._∷_ e27 (List._∷_ e29 (List._∷_ e30 (List._∷_ e33 (List._∷_ e35 (List._∷_ e4 (List._∷_ e6 (List._∷_ e8 (List._∷_ e10
+    (List._∷_ e12 (List._∷_ e14 List.[])))))))))))))))
 
 abbrev pub t36 : List.List Row.Entry
-t36 = List._∷_ (16, Rows'.any-gone (Syntax.tyInt Syntax.w32)) (List._∷_ (17, Rows'.any-gone Syntax.tyUnit) (List._∷_ (18, Rows'.any-gone (Syntax.tyRef Syntax.erased Syntax.mut Element.behind))
-    (List._∷_ (19, Mut.msleft (Element.type) (Syntax.tyRef Syntax.erased Syntax.mut Element.behind)) List.[])))
+t36 = List._∷_ e16 (List._∷_ e17 (List._∷_ e18 (List._∷_ e19 List.[])))
 
 abbrev pub t37 : List.List Row.Entry
-t37 = List._∷_ (0, Rows'.sc-here Row.sUnit) (List._∷_ (1, Mut.mslice (Element.type) (Syntax.tyRef (Syntax.named 0) Syntax.mut Element.behind) 0) (List._∷_ (2, Rows'.sc-here (Row.sInt Syntax.w64))
-    (List._∷_ (
-      3,
-      Rows'.any-gone (Syntax.tyStruct (List._∷_ 112 (List._∷_ 97 (List._∷_ 115 (List._∷_ 115 (List._∷_ 58 (List._∷_ 58 (List._∷_ 83 (List._∷_ 101 (List._∷_ 116 List.[]))))))))) (Syntax.tcons
-          (Syntax.tyArray (Syntax.tyInt Syntax.w32) 112) (Syntax.tcons (Syntax.tyArray (Syntax.tyInt Syntax.w32) 112) Syntax.tnil))),
-    ) (List._∷_ (
-      4,
-      Rows'.any-gone (Syntax.tyArray (Syntax.tyInt Syntax.w32)
-          112),
-    ) (List._∷_ (5, Rows'.any-gone (Syntax.tyArray (Syntax.tyInt Syntax.w32) 112)) (List._∷_ (6, Rows'.sc-here (Row.sInt Syntax.w64)) (List._∷_ (
-      7,
-      Rows'.any-gone (Syntax.tyStruct (List._∷_ 115
-          (List._∷_ 116 (List._∷_ 97 (List._∷_ 116 (List._∷_ 105 (List._∷_ 115 (List._∷_ 116 (List._∷_ 105 (List._∷_ 99 (List._∷_ 115 (List._∷_ 58 (List._∷_ 58 (List._∷_ 82 (List._∷_ 101 (List._∷_ 99 (List._∷_
-          111 (List._∷_ 114 (List._∷_ 100 List.[])))))))))))))))))) (Syntax.tcons (Syntax.tyInt Syntax.w32) (Syntax.tcons (Syntax.tyInt Syntax.w32) Syntax.tnil))),
-    ) (List._∷_ (8, Rows'.any-gone Syntax.tyBool)
-    (List._∷_ (9, Rows'.any-gone (Syntax.tyInt Syntax.w64)) (List._∷_ (10, Rows'.any-gone Syntax.tyPtr) (List._∷_ (11, Rows'.any-gone Syntax.tyPtr) (List._∷_ (
-      12,
-      Rows'.any-gone (Syntax.tyInt
-          Syntax.w32),
-    ) (List._∷_ (13, Rows'.any-gone (Syntax.tyInt Syntax.w64)) (List._∷_ (14, Rows'.any-gone Syntax.tyPtr) (List._∷_ (15, Rows'.any-gone Syntax.tyPtr) List.[])))))))))))))))
+t37 = List._∷_ e1 (List._∷_ e2 (List._∷_ e21 (List._∷_ e22 (List._∷_ e24 (List._∷_ e26 (List._∷_ e29 (List._∷_ e30 (List._∷_ e33 (List._∷_ e35 (List._∷_ e4 (List._∷_ e6 (List._∷_ e8 (List._∷_ e10
+    (List._∷_ e12 (List._∷_ e14 List.[])))))))))))))))
 
 abbrev pub t38 : List.List Row.Entry
-t38 = List._∷_ (0, Rows'.sc-here Row.sUnit) (List._∷_ (1, Mut.mslice (Element.type) (Syntax.tyRef (Syntax.named 0) Syntax.mut Element.behind) 0) (List._∷_ (2, Rows'.sc-here (Row.sInt Syntax.w64))
-    (List._∷_ (
-      3,
-      Rows'.any-gone (Syntax.tyStruct (List._∷_ 112 (List._∷_ 97 (List._∷_ 115 (List._∷_ 115 (List._∷_ 58 (List._∷_ 58 (List._∷_ 83 (List._∷_ 101 (List._∷_ 116 List.[]))))))))) (Syntax.tcons
-          (Syntax.tyArray (Syntax.tyInt Syntax.w32) 112) (Syntax.tcons (Syntax.tyArray (Syntax.tyInt Syntax.w32) 112) Syntax.tnil))),
-    ) (List._∷_ (
-      4,
-      Rows'.any-gone (Syntax.tyArray (Syntax.tyInt Syntax.w32)
-          112),
-    ) (List._∷_ (5, Rows'.any-gone (Syntax.tyArray (Syntax.tyInt Syntax.w32) 112)) (List._∷_ (6, Rows'.any-gone (Syntax.tyInt Syntax.w64)) (List._∷_ (
-      7,
-      Rows'.any-gone (Syntax.tyStruct (List._∷_
-          115 (List._∷_ 116 (List._∷_ 97 (List._∷_ 116 (List._∷_ 105 (List._∷_ 115 (List._∷_ 116 (List._∷_ 105 (List._∷_ 99 (List._∷_ 115 (List._∷_ 58 (List._∷_ 58 (List._∷_ 82 (List._∷_ 101 (List._∷_ 99
-          (List._∷_ 111 (List._∷_ 114 (List._∷_ 100 List.[])))))))))))))))))) (Syntax.tcons (Syntax.tyInt Syntax.w32) (Syntax.tcons (Syntax.tyInt Syntax.w32) Syntax.tnil))),
-    ) (List._∷_ (
-      8,
-      Rows'.any-gone
-          Syntax.tyBool,
-    ) (List._∷_ (9, Rows'.any-gone (Syntax.tyInt Syntax.w64)) (List._∷_ (10, Rows'.any-gone Syntax.tyPtr) (List._∷_ (11, Rows'.any-gone Syntax.tyPtr) (List._∷_ (
-      12,
-      Rows'.any-gone
-          (Syntax.tyInt Syntax.w32),
-    ) (List._∷_ (13, Rows'.any-gone (Syntax.tyInt Syntax.w64)) (List._∷_ (14, Rows'.any-gone Syntax.tyPtr) (List._∷_ (15, Rows'.any-gone Syntax.tyPtr) List.[])))))))))))))))
+t38 = List._∷_ e1 (List._∷_ e2 (List._∷_ e21 (List._∷_ e22 (List._∷_ e24 (List._∷_ e26 (List._∷_ e28 (List._∷_ e30 (List._∷_ e33 (List._∷_ e35 (List._∷_ e4 (List._∷_ e6 (List._∷_ e8 (List._∷_ e10
+    (List._∷_ e12 (List._∷_ e14 List.[])))))))))))))))
 
 abbrev pub T0 : Row.Cx
 T0 = record { locals = List._++_ t0 t1; slots = List.[] }
@@ -1329,23 +705,16 @@ MeasureT-loop = List.List (Element.type .Denot) → Rows'.sc-here (Row.sInt Synt
 module _ (claims· : Claims) where
   abbrev s0 : (bs : List.List Nat.ℕ) → Typed.Both T0 T2
   s0 = λ bs. WayStmt.k-way-copy-out T0 (Row.out 3 (T0 .locals)) (λ u. Row.drop 3 (T0 .locals) u) 4 (Rows.arrF (Referent.rtF (Referent.fInt Syntax.w32)) 112 0) (λ u. At.getAt (Set.the-type .parts) 0
-      (Set.struct .as-values (u .1 .1 .1 .0))) (λ T′. record { locals = Row.setRow 3 (3, Rows'.whole (Declared.row Set.the-type)) T′; slots = List.[] }) (λ u T′ m′. Row.set 3 (
-        3,
-        Rows'.whole
-            (Declared.row Set.the-type),
-      ) (u .1 .1 .1 .0) T′ m′) (λ u. Unit) λ u. Unit
+      (Set.struct .as-values (u .1 .1 .1 .0))) (λ T′. record { locals = Row.setRow 3 (3, Rows'.whole (Declared.row Set.the-type)) T′; slots = List.[] }) (λ u T′ m′. Row.set 3
+      (3, Rows'.whole (Declared.row Set.the-type)) (u .1 .1 .1 .0) T′ m′) (λ u. Unit) λ u. Unit
 
   abbrev s1 : (bs : List.List Nat.ℕ) → Typed.Both T2 T3
   s1 = λ bs. WayStmt.k-way-copy-out T2 (Row.out 3 (T2 .locals)) (λ u. Row.drop 3 (T2 .locals) u) 5 (Rows.arrF (Referent.rtF (Referent.fInt Syntax.w32)) 112 0) (λ u. At.getAt (Set.the-type .parts) 1
-      (Set.struct .as-values (u .1 .1 .1 .0))) (λ T′. record { locals = Row.setRow 3 (3, Rows'.whole (Declared.row Set.the-type)) T′; slots = List.[] }) (λ u T′ m′. Row.set 3 (
-        3,
-        Rows'.whole
-            (Declared.row Set.the-type),
-      ) (u .1 .1 .1 .0) T′ m′) (λ u. Unit) λ u. Unit
+      (Set.struct .as-values (u .1 .1 .1 .0))) (λ T′. record { locals = Row.setRow 3 (3, Rows'.whole (Declared.row Set.the-type)) T′; slots = List.[] }) (λ u T′ m′. Row.set 3
+      (3, Rows'.whole (Declared.row Set.the-type)) (u .1 .1 .1 .0) T′ m′) (λ u. Unit) λ u. Unit
 
   abbrev s2 : (bs : List.List Nat.ℕ) → Typed.Mo T3 → Typed.Mo T4
-  s2 = λ bs. Scalar.n-room T3 3 (Syntax.tyStruct (List._∷_ 112 (List._∷_ 97 (List._∷_ 115 (List._∷_ 115 (List._∷_ 58 (List._∷_ 58 (List._∷_ 83 (List._∷_ 101 (List._∷_ 116 List.[])))))))))
-      (Syntax.tcons (Syntax.tyArray (Syntax.tyInt Syntax.w32) 112) (Syntax.tcons (Syntax.tyArray (Syntax.tyInt Syntax.w32) 112) Syntax.tnil)))
+  s2 = λ bs. Scalar.n-room T3 3 y0
 
   abbrev s3 : (bs : List.List Nat.ℕ) → Typed.Mo T4 → Typed.Mo T5
   s3 = λ bs. Scalar.n-use T4 (Scalar.oInt Syntax.w64 0) 6 (Rows'.sc-here (Row.sInt Syntax.w64)) (Row.sInt Syntax.w64 .of)
@@ -1445,26 +814,12 @@ module _ (claims· : Claims) where
   s32 = λ bs. AtSlots.n-as-by T35 7 (Rows'.whole (Declared.row Record.the-type)) λ v. Record.struct .make v tt
 
   abbrev s33 : (bs : List.List Nat.ℕ) → Typed.Both T36 T37
-  s33 = λ bs. Call.callB ps·0 r·0 (claims· .0) (claims· .1) T36 (
-    record { pos = 19; ty = Syntax.tyRef Syntax.erased Syntax.mut Element.behind; ref = λ x. x },
-    (
-      Num.vAt 13 λ x. x,
-      (
-        record {
-          pos = 7;
-          st = List.[];
-          d = 0;
-          at = λ x. x;
-        },
-        tt,
-      ),
-    ),
-  ) 17 (List._∷_ 1 List.[]) Syntax.tyUnit
+  s33 = λ bs. Call.callB ps·0 r·0 (claims· .0) (claims· .1) T36
+      (record { pos = 19; ty = Syntax.tyRef Syntax.erased Syntax.mut Element.behind; ref = λ x. x }, (Num.vAt 13 λ x. x, (record { pos = 7; st = List.[]; d = 0; at = λ x. x }, tt))) 17 (List._∷_ 1
+      List.[]) Syntax.tyUnit
 
   abbrev s34 : (bs : List.List Nat.ℕ) → Typed.Mo T37 → Typed.Mo T38
-  s34 = λ bs. Scalar.n-room T37 7 (Syntax.tyStruct (List._∷_ 115 (List._∷_ 116 (List._∷_ 97 (List._∷_ 116 (List._∷_ 105 (List._∷_ 115 (List._∷_ 116 (List._∷_ 105 (List._∷_ 99 (List._∷_ 115 (List._∷_
-      58 (List._∷_ 58 (List._∷_ 82 (List._∷_ 101 (List._∷_ 99 (List._∷_ 111 (List._∷_ 114 (List._∷_ 100 List.[])))))))))))))))))) (Syntax.tcons (Syntax.tyInt Syntax.w32) (Syntax.tcons (Syntax.tyInt
-      Syntax.w32) Syntax.tnil)))
+  s34 = λ bs. Scalar.n-room T37 7 y1
 
   abbrev s35 : (bs : List.List Nat.ℕ) → Typed.Mo T38 → Typed.Mo T39
   s35 = λ bs. Scalar.n-room T38 13 (Syntax.tyInt Syntax.w64)
@@ -1666,143 +1021,32 @@ module _ (claims· : Claims) where
 
       module _ (κs : Lifetimes.Lfts 1) (qs : Lifetimes.Shares 1) where
         abbrev g26 : List.List Row.Entry
-        g26 = List._∷_ (0, Rows'.any-gone Syntax.tyUnit) (List._∷_ (1, Relend.mslice-owed (Element.type) (Syntax.tyRef (Syntax.named 0) Syntax.mut Element.behind) 0 1 (Row.lease (κs .0) (qs .0)))
-            (List._∷_ (2, Rows'.sc-here (Row.sInt Syntax.w64)) (List._∷_ (
-              3,
-              Rows'.any-gone (Syntax.tyStruct (List._∷_ 112 (List._∷_ 97 (List._∷_ 115 (List._∷_ 115 (List._∷_ 58 (List._∷_ 58 (List._∷_ 83
-                  (List._∷_ 101 (List._∷_ 116 List.[]))))))))) (Syntax.tcons (Syntax.tyArray (Syntax.tyInt Syntax.w32) 112) (Syntax.tcons (Syntax.tyArray (Syntax.tyInt Syntax.w32) 112) Syntax.tnil))),
-            )
-            (List._∷_ (4, Rows.arrF (Referent.rtF (Referent.fInt Syntax.w32)) 112 0) (List._∷_ (5, Rows.arrF (Referent.rtF (Referent.fInt Syntax.w32)) 112 0) (List._∷_ (
-              6,
-              Rows'.sc-here (Row.sInt
-                  Syntax.w64),
-            ) (List._∷_ (7, Rows'.whole (Declared.row (Apart.apartT Record.the-type))) (List._∷_ (8, Rows'.any-gone Syntax.tyBool) (List._∷_ (9, Rows'.any-gone (Syntax.tyInt Syntax.w64))
-            (List._∷_ (10, Rows'.any-gone Syntax.tyPtr) (List._∷_ (11, Rows'.any-gone Syntax.tyPtr) (List._∷_ (12, Rows'.any-gone (Syntax.tyInt Syntax.w32)) (List._∷_ (
-              13,
-              Rows'.any-gone (Syntax.tyInt
-                  Syntax.w64),
-            ) (List._∷_ (14, Rows'.any-gone Syntax.tyPtr) (List._∷_ (15, Rows'.any-gone Syntax.tyPtr) List.[])))))))))))))))
+        g26 = List._∷_ e0 (List._∷_ (1, Relend.mslice-owed (Element.type) (Syntax.tyRef (Syntax.named 0) Syntax.mut Element.behind) 0 1 (Row.lease (κs .0) (qs .0))) (List._∷_ e21 (List._∷_ e22
+            (List._∷_ e25 (List._∷_ e27 (List._∷_ e29 (List._∷_ e31 (List._∷_ e33 (List._∷_ e35 (List._∷_ e4 (List._∷_ e6 (List._∷_ e8 (List._∷_ e10 (List._∷_ e12 (List._∷_ e14 List.[])))))))))))))))
 
         abbrev g29 : List.List Row.Entry
-        g29 = List._∷_ (0, Rows'.any-gone Syntax.tyUnit) (List._∷_ (1, Relend.mslice-owed (Element.type) (Syntax.tyRef (Syntax.named 0) Syntax.mut Element.behind) 0 1 (Row.lease (κs .0) (qs .0)))
-            (List._∷_ (2, Rows'.sc-here (Row.sInt Syntax.w64)) (List._∷_ (
-              3,
-              Rows'.any-gone (Syntax.tyStruct (List._∷_ 112 (List._∷_ 97 (List._∷_ 115 (List._∷_ 115 (List._∷_ 58 (List._∷_ 58 (List._∷_ 83
-                  (List._∷_ 101 (List._∷_ 116 List.[]))))))))) (Syntax.tcons (Syntax.tyArray (Syntax.tyInt Syntax.w32) 112) (Syntax.tcons (Syntax.tyArray (Syntax.tyInt Syntax.w32) 112) Syntax.tnil))),
-            )
-            (List._∷_ (4, Rows.arrF (Referent.rtF (Referent.fInt Syntax.w32)) 112 0) (List._∷_ (5, Rows.arrF (Referent.rtF (Referent.fInt Syntax.w32)) 112 0) (List._∷_ (
-              6,
-              Rows'.sc-here (Row.sInt
-                  Syntax.w64),
-            ) (List._∷_ (7, Rows'.whole (Declared.row (Apart.apartT Record.the-type))) (List._∷_ (8, Rows'.any-gone Syntax.tyBool) (List._∷_ (9, Rows'.sc-here (Row.sInt Syntax.w64))
-            (List._∷_ (10, Rows'.any-gone Syntax.tyPtr) (List._∷_ (11, Rows'.any-gone Syntax.tyPtr) (List._∷_ (12, Rows'.any-gone (Syntax.tyInt Syntax.w32)) (List._∷_ (
-              13,
-              Rows'.any-gone (Syntax.tyInt
-                  Syntax.w64),
-            ) (List._∷_ (14, Rows'.any-gone Syntax.tyPtr) (List._∷_ (15, Rows'.any-gone Syntax.tyPtr) List.[])))))))))))))))
+        g29 = List._∷_ e0 (List._∷_ (1, Relend.mslice-owed (Element.type) (Syntax.tyRef (Syntax.named 0) Syntax.mut Element.behind) 0 1 (Row.lease (κs .0) (qs .0))) (List._∷_ e21 (List._∷_ e22
+            (List._∷_ e25 (List._∷_ e27 (List._∷_ e29 (List._∷_ e31 (List._∷_ e33 (List._∷_ e36 (List._∷_ e4 (List._∷_ e6 (List._∷_ e8 (List._∷_ e10 (List._∷_ e12 (List._∷_ e14 List.[])))))))))))))))
 
         abbrev g30 : List.List Row.Entry
-        g30 = List._∷_ (0, Rows'.any-gone Syntax.tyUnit) (List._∷_ (1, Relend.mslice-owed (Element.type) (Syntax.tyRef (Syntax.named 0) Syntax.mut Element.behind) 0 1 (Row.lease (κs .0) (qs .0)))
-            (List._∷_ (2, Rows'.sc-here (Row.sInt Syntax.w64)) (List._∷_ (
-              3,
-              Rows'.any-gone (Syntax.tyStruct (List._∷_ 112 (List._∷_ 97 (List._∷_ 115 (List._∷_ 115 (List._∷_ 58 (List._∷_ 58 (List._∷_ 83
-                  (List._∷_ 101 (List._∷_ 116 List.[]))))))))) (Syntax.tcons (Syntax.tyArray (Syntax.tyInt Syntax.w32) 112) (Syntax.tcons (Syntax.tyArray (Syntax.tyInt Syntax.w32) 112) Syntax.tnil))),
-            )
-            (List._∷_ (4, Rows.arrF (Referent.rtF (Referent.fInt Syntax.w32)) 112 0) (List._∷_ (5, Rows.arrF (Referent.rtF (Referent.fInt Syntax.w32)) 112 0) (List._∷_ (
-              6,
-              Rows'.sc-here (Row.sInt
-                  Syntax.w64),
-            ) (List._∷_ (7, Rows'.whole (Declared.row (Apart.apartT Record.the-type))) (List._∷_ (8, Rows'.any-gone Syntax.tyBool) (List._∷_ (9, Rows'.sc-here (Row.sInt Syntax.w64))
-            (List._∷_ (10, Rows'.any-gone Syntax.tyPtr) (List._∷_ (11, Rows'.any-gone Syntax.tyPtr) (List._∷_ (12, Rows'.any-gone (Syntax.tyInt Syntax.w32)) (List._∷_ (
-              13,
-              Rows'.sc-here (Row.sInt
-                  Syntax.w64),
-            ) (List._∷_ (14, Rows'.any-gone Syntax.tyPtr) (List._∷_ (15, Rows'.any-gone Syntax.tyPtr) List.[])))))))))))))))
+        g30 = List._∷_ e0 (List._∷_ (1, Relend.mslice-owed (Element.type) (Syntax.tyRef (Syntax.named 0) Syntax.mut Element.behind) 0 1 (Row.lease (κs .0) (qs .0))) (List._∷_ e21 (List._∷_ e22
+            (List._∷_ e25 (List._∷_ e27 (List._∷_ e29 (List._∷_ e31 (List._∷_ e33 (List._∷_ e36 (List._∷_ e4 (List._∷_ e6 (List._∷_ e8 (List._∷_ e11 (List._∷_ e12 (List._∷_ e14 List.[])))))))))))))))
 
         abbrev g31 : List.List Row.Entry
-        g31 = List._∷_ (0, Rows'.any-gone Syntax.tyUnit) (List._∷_ (1, Relend.mslice-owed (Element.type) (Syntax.tyRef (Syntax.named 0) Syntax.mut Element.behind) 0 1 (Row.lease (κs .0) (qs .0)))
-            (List._∷_ (2, Rows'.sc-here (Row.sInt Syntax.w64)) (List._∷_ (
-              3,
-              Rows'.any-gone (Syntax.tyStruct (List._∷_ 112 (List._∷_ 97 (List._∷_ 115 (List._∷_ 115 (List._∷_ 58 (List._∷_ 58 (List._∷_ 83
-                  (List._∷_ 101 (List._∷_ 116 List.[]))))))))) (Syntax.tcons (Syntax.tyArray (Syntax.tyInt Syntax.w32) 112) (Syntax.tcons (Syntax.tyArray (Syntax.tyInt Syntax.w32) 112) Syntax.tnil))),
-            )
-            (List._∷_ (4, Rows.arrF (Referent.rtF (Referent.fInt Syntax.w32)) 112 0) (List._∷_ (5, Rows.arrF (Referent.rtF (Referent.fInt Syntax.w32)) 112 0) (List._∷_ (
-              6,
-              Rows'.sc-here (Row.sInt
-                  Syntax.w64),
-            ) (List._∷_ (7, Rows'.whole (Declared.row (Apart.apartT Record.the-type))) (List._∷_ (8, Rows'.any-gone Syntax.tyBool) (List._∷_ (9, Rows'.any-gone (Syntax.tyInt Syntax.w64))
-            (List._∷_ (10, Rows'.any-gone Syntax.tyPtr) (List._∷_ (11, Rows'.any-gone Syntax.tyPtr) (List._∷_ (12, Rows'.any-gone (Syntax.tyInt Syntax.w32)) (List._∷_ (
-              13,
-              Rows'.sc-here (Row.sInt
-                  Syntax.w64),
-            ) (List._∷_ (14, Rows'.any-gone Syntax.tyPtr) (List._∷_ (15, Rows'.any-gone Syntax.tyPtr) List.[])))))))))))))))
+        g31 = List._∷_ e0 (List._∷_ (1, Relend.mslice-owed (Element.type) (Syntax.tyRef (Syntax.named 0) Syntax.mut Element.behind) 0 1 (Row.lease (κs .0) (qs .0))) (List._∷_ e21 (List._∷_ e22
+            (List._∷_ e25 (List._∷_ e27 (List._∷_ e29 (List._∷_ e31 (List._∷_ e33 (List._∷_ e35 (List._∷_ e4 (List._∷_ e6 (List._∷_ e8 (List._∷_ e11 (List._∷_ e12 (List._∷_ e14 List.[])))))))))))))))
 
         abbrev g32 : List.List Row.Entry
-        g32 = List._∷_ (0, Rows'.any-gone Syntax.tyUnit) (List._∷_ (1, Relend.mslice-owed (Element.type) (Syntax.tyRef (Syntax.named 0) Syntax.mut Element.behind) 0 1 (Row.lease (κs .0) (qs .0)))
-            (List._∷_ (2, Rows'.sc-here (Row.sInt Syntax.w64)) (List._∷_ (
-              3,
-              Rows'.any-gone (Syntax.tyStruct (List._∷_ 112 (List._∷_ 97 (List._∷_ 115 (List._∷_ 115 (List._∷_ 58 (List._∷_ 58 (List._∷_ 83
-                  (List._∷_ 101 (List._∷_ 116 List.[]))))))))) (Syntax.tcons (Syntax.tyArray (Syntax.tyInt Syntax.w32) 112) (Syntax.tcons (Syntax.tyArray (Syntax.tyInt Syntax.w32) 112) Syntax.tnil))),
-            )
-            (List._∷_ (4, Rows.arrF (Referent.rtF (Referent.fInt Syntax.w32)) 112 0) (List._∷_ (5, Rows.arrF (Referent.rtF (Referent.fInt Syntax.w32)) 112 0) (List._∷_ (
-              6,
-              Rows'.sc-here (Row.sInt
-                  Syntax.w64),
-            ) (List._∷_ (7, Rows'.whole (Declared.row Record.the-type)) (List._∷_ (8, Rows'.any-gone Syntax.tyBool) (List._∷_ (9, Rows'.any-gone (Syntax.tyInt Syntax.w64)) (List._∷_ (
-              10,
-              Rows'.any-gone Syntax.tyPtr,
-            ) (List._∷_ (11, Rows'.any-gone Syntax.tyPtr) (List._∷_ (12, Rows'.any-gone (Syntax.tyInt Syntax.w32)) (List._∷_ (13, Rows'.sc-here (Row.sInt Syntax.w64))
-            (List._∷_ (14, Rows'.any-gone Syntax.tyPtr) (List._∷_ (15, Rows'.any-gone Syntax.tyPtr) List.[])))))))))))))))
+        g32 = List._∷_ e0 (List._∷_ (1, Relend.mslice-owed (Element.type) (Syntax.tyRef (Syntax.named 0) Syntax.mut Element.behind) 0 1 (Row.lease (κs .0) (qs .0))) (List._∷_ e21 (List._∷_ e22
+            (List._∷_ e25 (List._∷_ e27 (List._∷_ e29 (List._∷_ e32 (List._∷_ e33 (List._∷_ e35 (List._∷_ e4 (List._∷_ e6 (List._∷_ e8 (List._∷_ e11 (List._∷_ e12 (List._∷_ e14 List.[])))))))))))))))
 
         abbrev g34 : List.List Row.Entry
-        g34 = List._∷_ (0, Rows'.any-gone Syntax.tyUnit) (List._∷_ (1, Relend.mslice-owed (Element.type) (Syntax.tyRef (Syntax.named 0) Syntax.mut Element.behind) 0 1 (Row.lease (κs .0) (qs .0)))
-            (List._∷_ (2, Rows'.sc-here (Row.sInt Syntax.w64)) (List._∷_ (
-              3,
-              Rows'.any-gone (Syntax.tyStruct (List._∷_ 112 (List._∷_ 97 (List._∷_ 115 (List._∷_ 115 (List._∷_ 58 (List._∷_ 58 (List._∷_ 83
-                  (List._∷_ 101 (List._∷_ 116 List.[]))))))))) (Syntax.tcons (Syntax.tyArray (Syntax.tyInt Syntax.w32) 112) (Syntax.tcons (Syntax.tyArray (Syntax.tyInt Syntax.w32) 112) Syntax.tnil))),
-            )
-            (List._∷_ (4, Rows.arrF (Referent.rtF (Referent.fInt Syntax.w32)) 112 0) (List._∷_ (5, Rows.arrF (Referent.rtF (Referent.fInt Syntax.w32)) 112 0) (List._∷_ (
-              6,
-              Rows'.sc-here (Row.sInt
-                  Syntax.w64),
-            ) (List._∷_ (
-              7,
-              Rows'.any-gone (Syntax.tyStruct (List._∷_ 115 (List._∷_ 116 (List._∷_ 97 (List._∷_ 116 (List._∷_ 105 (List._∷_ 115 (List._∷_ 116 (List._∷_ 105 (List._∷_ 99
-                  (List._∷_ 115 (List._∷_ 58 (List._∷_ 58 (List._∷_ 82 (List._∷_ 101 (List._∷_ 99 (List._∷_ 111 (List._∷_ 114 (List._∷_ 100 List.[])))))))))))))))))) (Syntax.tcons (Syntax.tyInt Syntax.w32)
-                  (Syntax.tcons (Syntax.tyInt Syntax.w32) Syntax.tnil))),
-            ) (List._∷_ (8, Rows'.any-gone Syntax.tyBool) (List._∷_ (9, Rows'.any-gone (Syntax.tyInt Syntax.w64)) (List._∷_ (
-              10,
-              Rows'.any-gone
-                  Syntax.tyPtr,
-            ) (List._∷_ (11, Rows'.any-gone Syntax.tyPtr) (List._∷_ (12, Rows'.any-gone (Syntax.tyInt Syntax.w32)) (List._∷_ (13, Rows'.sc-here (Row.sInt Syntax.w64)) (List._∷_ (
-              14,
-              Rows'.any-gone Syntax.tyPtr,
-            ) (List._∷_ (15, Rows'.any-gone Syntax.tyPtr) List.[])))))))))))))))
+        g34 = List._∷_ e0 (List._∷_ (1, Relend.mslice-owed (Element.type) (Syntax.tyRef (Syntax.named 0) Syntax.mut Element.behind) 0 1 (Row.lease (κs .0) (qs .0))) (List._∷_ e21 (List._∷_ e22
+            (List._∷_ e25 (List._∷_ e27 (List._∷_ e29 (List._∷_ e30 (List._∷_ e33 (List._∷_ e35 (List._∷_ e4 (List._∷_ e6 (List._∷_ e8 (List._∷_ e11 (List._∷_ e12 (List._∷_ e14 List.[])))))))))))))))
 
         abbrev g35 : List.List Row.Entry
-        g35 = List._∷_ (0, Rows'.any-gone Syntax.tyUnit) (List._∷_ (1, Relend.mslice-owed (Element.type) (Syntax.tyRef (Syntax.named 0) Syntax.mut Element.behind) 0 1 (Row.lease (κs .0) (qs .0)))
-            (List._∷_ (2, Rows'.sc-here (Row.sInt Syntax.w64)) (List._∷_ (
-              3,
-              Rows'.any-gone (Syntax.tyStruct (List._∷_ 112 (List._∷_ 97 (List._∷_ 115 (List._∷_ 115 (List._∷_ 58 (List._∷_ 58 (List._∷_ 83
-                  (List._∷_ 101 (List._∷_ 116 List.[]))))))))) (Syntax.tcons (Syntax.tyArray (Syntax.tyInt Syntax.w32) 112) (Syntax.tcons (Syntax.tyArray (Syntax.tyInt Syntax.w32) 112) Syntax.tnil))),
-            )
-            (List._∷_ (4, Rows.arrF (Referent.rtF (Referent.fInt Syntax.w32)) 112 0) (List._∷_ (5, Rows.arrF (Referent.rtF (Referent.fInt Syntax.w32)) 112 0) (List._∷_ (
-              6,
-              Rows'.sc-here (Row.sInt
-                  Syntax.w64),
-            ) (List._∷_ (
-              7,
-              Rows'.any-gone (Syntax.tyStruct (List._∷_ 115 (List._∷_ 116 (List._∷_ 97 (List._∷_ 116 (List._∷_ 105 (List._∷_ 115 (List._∷_ 116 (List._∷_ 105 (List._∷_ 99
-                  (List._∷_ 115 (List._∷_ 58 (List._∷_ 58 (List._∷_ 82 (List._∷_ 101 (List._∷_ 99 (List._∷_ 111 (List._∷_ 114 (List._∷_ 100 List.[])))))))))))))))))) (Syntax.tcons (Syntax.tyInt Syntax.w32)
-                  (Syntax.tcons (Syntax.tyInt Syntax.w32) Syntax.tnil))),
-            ) (List._∷_ (8, Rows'.any-gone Syntax.tyBool) (List._∷_ (9, Rows'.any-gone (Syntax.tyInt Syntax.w64)) (List._∷_ (
-              10,
-              Rows'.any-gone
-                  Syntax.tyPtr,
-            ) (List._∷_ (11, Rows'.any-gone Syntax.tyPtr) (List._∷_ (12, Rows'.any-gone (Syntax.tyInt Syntax.w32)) (List._∷_ (13, Rows'.any-gone (Syntax.tyInt Syntax.w64)) (List._∷_ (
-              14,
-              Rows'.any-gone Syntax.tyPtr,
-            ) (List._∷_ (15, Rows'.any-gone Syntax.tyPtr) List.[])))))))))))))))
+        g35 = List._∷_ e0 (List._∷_ (1, Relend.mslice-owed (Element.type) (Syntax.tyRef (Syntax.named 0) Syntax.mut Element.behind) 0 1 (Row.lease (κs .0) (qs .0))) (List._∷_ e21 (List._∷_ e22
+            (List._∷_ e25 (List._∷_ e27 (List._∷_ e29 (List._∷_ e30 (List._∷_ e33 (List._∷_ e35 (List._∷_ e4 (List._∷_ e6 (List._∷_ e8 (List._∷_ e10 (List._∷_ e12 (List._∷_ e14 List.[])))))))))))))))
 
         abbrev G0 : Row.Cx
         G0 = record { locals = List._++_ t0 t1; slots = List._∷_ (Row.lease (κs .0) (qs .0)) (List._∷_ Row.off List.[]) }
@@ -1993,11 +1237,9 @@ module _ (claims· : Claims) where
 
           d7 : Typed.Typed 𝓤 H A 𝓣 E G43 b21 Δ3 (at7 bs)
           d7 = Typed.s-typed 𝓤 H A W 𝓣 E G43 b21 Δ3 (Typed.ask (s40 bs)) tt (Scalar.t-op2 𝓤 H A W E 𝓣 G43 (Syntax.add Syntax.unsigned) (Scalar.oAt 6 (Syntax.tyInt Syntax.w64) (Row.valS (Row.sInt
-              Syntax.w64))) (Scalar.oInt Syntax.w64 1) 6 (Rows'.sc-here (Row.sInt Syntax.w64)) (Syntax.tyInt Syntax.w64) (Row.valS (Row.sInt Syntax.w64)) (Row.sInt Syntax.w64 .of) (
-                Scalar.reads-sc 𝓤 H A W
-                    (Row.sInt Syntax.w64),
-                Path'.refl,
-              ) tt (Scalar.room-sc 𝓤 H A W (Row.sInt Syntax.w64)) (Scalar.holds-sc 𝓤 H A W (Row.sInt Syntax.w64)) Path'.refl (λ u. Path'.refl) λ u. tt)
+              Syntax.w64))) (Scalar.oInt Syntax.w64 1) 6 (Rows'.sc-here (Row.sInt Syntax.w64)) (Syntax.tyInt Syntax.w64) (Row.valS (Row.sInt Syntax.w64)) (Row.sInt Syntax.w64 .of)
+              (Scalar.reads-sc 𝓤 H A W (Row.sInt Syntax.w64), Path'.refl) tt (Scalar.room-sc 𝓤 H A W (Row.sInt Syntax.w64)) (Scalar.holds-sc 𝓤 H A W (Row.sInt Syntax.w64)) Path'.refl (λ u. Path'.refl) λ
+              u. tt)
 
           d8 : Typed.Typed 𝓤 H A 𝓣 E G42 b21 Δ3 (at8 bs)
           d8 = Typed.g-pre 𝓤 H A W 𝓣 E G42 G43 b21 Δ3 (λ Ψ. Ψ) (at7 bs) (Lifetime.g-forget 𝓤 H A W E G42 1 Row.dead Path'.refl) d7
@@ -2018,35 +1260,29 @@ module _ (claims· : Claims) where
               d11
 
           d13 : Typed.Typed 𝓤 H A 𝓣 E G37 b21 Δ3 (at13 bs)
-          d13 = Typed.g-pre 𝓤 H A W 𝓣 E G37 G38 b21 Δ3 (Typed.pass T37 T38 (s34 bs)) (at12 bs) (Scalar.g-room 𝓤 H A W E G37 7 (Syntax.tyStruct (List._∷_ 115 (List._∷_ 116 (List._∷_ 97 (List._∷_ 116
-              (List._∷_ 105 (List._∷_ 115 (List._∷_ 116 (List._∷_ 105 (List._∷_ 99 (List._∷_ 115 (List._∷_ 58 (List._∷_ 58 (List._∷_ 82 (List._∷_ 101 (List._∷_ 99 (List._∷_ 111 (List._∷_ 114 (List._∷_ 100
-              List.[])))))))))))))))))) (Syntax.tcons (Syntax.tyInt Syntax.w32) (Syntax.tcons (Syntax.tyInt Syntax.w32) Syntax.tnil))) (Local.room-whole 𝓤 H A W (Declared.row Record.the-type)
-              (Syntax.tyStruct (List._∷_ 115 (List._∷_ 116 (List._∷_ 97 (List._∷_ 116 (List._∷_ 105 (List._∷_ 115 (List._∷_ 116 (List._∷_ 105 (List._∷_ 99 (List._∷_ 115 (List._∷_ 58 (List._∷_ 58 (List._∷_
-              82 (List._∷_ 101 (List._∷_ 99 (List._∷_ 111 (List._∷_ 114 (List._∷_ 100 List.[])))))))))))))))))) (Syntax.tcons (Syntax.tyInt Syntax.w32) (Syntax.tcons (Syntax.tyInt Syntax.w32)
-              Syntax.tnil))) Path'.refl)) d12
+          d13 = Typed.g-pre 𝓤 H A W 𝓣 E G37 G38 b21 Δ3 (Typed.pass T37 T38 (s34 bs)) (at12 bs) (Scalar.g-room 𝓤 H A W E G37 7 y1 (Local.room-whole 𝓤 H A W (Declared.row Record.the-type) y1
+              Path'.refl)) d12
 
           d14 : Typed.Typed 𝓤 H A 𝓣 E G36 b22 Δ3 (at14 bs)
           d14 = Typed.s-seq 𝓤 H A W 𝓣 E G36 G37 b20 b21 Δ3 (Typed.both (s33 bs)) (at13 bs) (Plain.t-call-plain 𝓤 H A W 𝓣 1 ps·0 r·0 (claims· .0) (claims· .1) "block::records::update" known E (λ pos β.
               β) G36 (record { pos = 19; ty = Syntax.tyRef Syntax.erased Syntax.mut Element.behind; ref = λ x. x }, (Num.vAt 13 λ x. x, (record { pos = 7; st = List.[]; d = 0; at = λ x. x }, tt))) 17
               (List._∷_ 1 List.[]) (Call.sub-id 𝓤 H A W (G36 .slots)) (
                 Reads.as-is 𝓤 H A (Mut.mslice (Element.type) (Syntax.tyRef Syntax.erased Syntax.mut Element.behind) 1),
-                Mut.reads-mslice 𝓤 H A W
-                    (Element.type) (Syntax.tyRef Syntax.erased Syntax.mut Element.behind) 1,
+                Mut.reads-mslice 𝓤 H A W (Element.type) (Syntax.tyRef Syntax.erased Syntax.mut
+                    Element.behind) 1,
                 Path'.refl,
                 (
                   (Scalar.reads-sc 𝓤 H A W (Row.sInt Syntax.w64), Path'.refl),
                   (
                     (
-                      Yields.yields-copy 𝓤 H A W (λ ρ. Unit)
-                          (Declared.row Record.the-type) Path'.refl (Copies.cStruct Record.the-type Laws'.the-laws Laws'.the-copy .copy 𝓤 H A W) (Rows'.whole (Declared.row Record.the-type)) (λ x. x) (λ x. x) (λ ρ
-                          told. Local.mem-whole 𝓤 H A W (Declared.row Record.the-type) ρ) λ ρ told. Local.whole-mem 𝓤 H A W (Declared.row Record.the-type) ρ,
+                      Yields.yields-copy 𝓤 H A W (λ ρ. Unit) (Declared.row Record.the-type) Path'.refl (Copies.cStruct Record.the-type Laws'.the-laws Laws'.the-copy .copy 𝓤 H A W) (Rows'.whole (Declared.row
+                          Record.the-type)) (λ x. x) (λ x. x) (λ ρ told. Local.mem-whole 𝓤 H A W (Declared.row Record.the-type) ρ) λ ρ told. Local.whole-mem 𝓤 H A W (Declared.row Record.the-type) ρ,
                       Path'.refl,
                     ),
                     tt,
                   ),
                 ),
-              ) (Reads.room-gone 𝓤 H A
-              Syntax.tyUnit) (tt, tt) Path'.refl) d13
+              ) (Reads.room-gone 𝓤 H A Syntax.tyUnit) (tt, tt) Path'.refl) d13
 
           d15 : Typed.Typed 𝓤 H A 𝓣 E G35 b22 Δ3 (at15 bs)
           d15 = Typed.g-pre 𝓤 H A W 𝓣 E G35 G36 b22 Δ3 (Typed.pass T35 T36 (s32 bs)) (at14 bs) (AtSlots.g-as-by 𝓤 H A W E (λ ρ. Unit) G35 7 (Rows'.whole (Declared.row Record.the-type)) (λ v.
@@ -2071,12 +1307,9 @@ module _ (claims· : Claims) where
           d19 : Typed.Typed 𝓤 H A 𝓣 E G31 b25 Δ3 (at19 bs)
           d19 = Typed.s-seq 𝓤 H A W 𝓣 E G31 G32 b17 b24 Δ3 (Typed.ask (s28 bs)) (at18 bs) (Relend.t-sl-aggregate 𝓤 H A W E (Element.type) 𝓣 (Relend.asMut (Element.type)) G31 18 19 1 (Syntax.tyRef
               Syntax.erased Syntax.mut Element.behind) (Syntax.tyRef Syntax.erased Syntax.mut Element.behind) (λ x. x) (Scalar.oFld 1 (List._∷_ (Syntax.field 1) List.[]) (Syntax.tyInt Syntax.w64) 8 λ v.
-              Shared.lenV (v .0)) (Reads.as-is 𝓤 H A (Relend.msptr (Element.type) (Syntax.tyRef Syntax.erased Syntax.mut Element.behind) 1)) (Reads.room-gone 𝓤 H A (Syntax.tyStruct (List._∷_ 38 (List._∷_
-              91 (List._∷_ 93 List.[]))) (Syntax.tcons (Syntax.tyRef Syntax.erased Syntax.mut Element.behind) (Syntax.tcons (Syntax.tyInt Syntax.w64) Syntax.tnil)))) (
-                Relend.reads-owed-len 𝓤 H A W
-                    (Element.type) (Syntax.tyRef (Syntax.named 0) Syntax.mut Element.behind) 0 1 (Row.lease (κs .0) (qs .0)) 8 Path'.refl,
-                Path'.refl,
-              ) Path'.refl Path'.refl λ b o k. tt) d18
+              Shared.lenV (v .0)) (Reads.as-is 𝓤 H A (Relend.msptr (Element.type) (Syntax.tyRef Syntax.erased Syntax.mut Element.behind) 1)) (Reads.room-gone 𝓤 H A y2)
+              (Relend.reads-owed-len 𝓤 H A W (Element.type) (Syntax.tyRef (Syntax.named 0) Syntax.mut Element.behind) 0 1 (Row.lease (κs .0) (qs .0)) 8 Path'.refl, Path'.refl) Path'.refl Path'.refl λ b o
+              k. tt) d18
 
           d20 : Typed.Typed 𝓤 H A 𝓣 E G30 b26 Δ3 (at20 bs)
           d20 = Typed.s-seq 𝓤 H A W 𝓣 E G30 G31 b16 b25 Δ3 (Typed.give (s27 bs)) (at19 bs) (Relend.t-sl-relend 𝓤 H A W E (Element.type) 𝓣 G30 1 18 0 1 (Syntax.tyRef (Syntax.named 0) Syntax.mut
@@ -2084,55 +1317,8 @@ module _ (claims· : Claims) where
               Syntax.mut Element.behind) 0)) (Reads.room-gone 𝓤 H A (Syntax.tyRef Syntax.erased Syntax.mut Element.behind)) Path'.refl tt Path'.refl Path'.refl Path'.refl λ b o. tt) d19
 
           d21 : Typed.Typed 𝓤 H A 𝓣 E G29 b26 Δ3 (at21 bs)
-          d21 = Typed.g-pre 𝓤 H A W 𝓣 E G29 G30 b26 Δ3 (λ Ψ. Ψ) (at20 bs) (Lifetime.g-begin 𝓤 H A W E G29 1 (
-            tt,
-            (
-              tt,
-              (
-                tt,
-                (
-                  tt,
-                  (
-                    tt,
-                    (
-                      tt,
-                      (
-                        tt,
-                        (
-                          tt,
-                          (
-                            tt,
-                            (
-                              tt,
-                              (
-                                tt,
-                                (
-                                  tt,
-                                  (
-                                    tt,
-                                    (
-                                      tt,
-                                      (
-                                        tt,
-                                        (
-                                          tt,
-                                          (tt, (tt, (tt, (tt, tt)))),
-                                        ),
-                                      ),
-                                    ),
-                                  ),
-                                ),
-                              ),
-                            ),
-                          ),
-                        ),
-                      ),
-                    ),
-                  ),
-                ),
-              ),
-            ),
-          )) d20
+          d21 = Typed.g-pre 𝓤 H A W 𝓣 E G29 G30 b26 Δ3 (λ Ψ. Ψ) (at20 bs) (Lifetime.g-begin 𝓤 H A W E G29 1
+              (tt, (tt, (tt, (tt, (tt, (tt, (tt, (tt, (tt, (tt, (tt, (tt, (tt, (tt, (tt, (tt, (tt, (tt, (tt, (tt, tt))))))))))))))))))))) d20
 
           d22 : Typed.Typed 𝓤 H A 𝓣 E G28 b26 Δ3 (at22 bs)
           d22 = Typed.g-pre 𝓤 H A W 𝓣 E G28 G29 b26 Δ3 (Typed.pass T28 T29 (s25 bs)) (at21 bs) (Scalar.g-room 𝓤 H A W E G28 16 (Syntax.tyInt Syntax.w32) (Scalar.room-sc 𝓤 H A W (Row.sInt Syntax.w32)))
@@ -2144,22 +1330,10 @@ module _ (claims· : Claims) where
 
           d24 : Typed.Typed 𝓤 H A 𝓣 E G26 b27 Δ3 (at24 bs)
           d24 = Typed.s-seq 𝓤 H A W 𝓣 E G26 G27 b15 b26 Δ3 (Typed.pass T26 T27 (s23 bs)) (at23 bs) (Make.t-struct-make 𝓤 H A W E 𝓣 (Apart.apartT Record.the-type) Laws'.the-laws Laws'.the-plain G26 7
-              (List._∷_ (Scalar.oAt 12 (Syntax.tyInt Syntax.w32) (Row.valS (Row.sInt Syntax.w32))) (List._∷_ (Scalar.oAt 16 (Syntax.tyInt Syntax.w32) (Row.valS (Row.sInt Syntax.w32))) List.[])) (λ m. (
-                m
-                    .1 .1 .1 .1 .1 .1 .1 .1 .1 .1 .1 .1 .0,
-                (m .1 .1 .1 .1 .1 .1 .1 .1 .1 .1 .1 .1 .1 .1 .1 .1 .0, tt),
-              )) (Reads.room-gone 𝓤 H A (Syntax.tyStruct (List._∷_ 115 (List._∷_ 116 (List._∷_ 97
-              (List._∷_ 116 (List._∷_ 105 (List._∷_ 115 (List._∷_ 116 (List._∷_ 105 (List._∷_ 99 (List._∷_ 115 (List._∷_ 58 (List._∷_ 58 (List._∷_ 82 (List._∷_ 101 (List._∷_ 99 (List._∷_ 111 (List._∷_ 114
-              (List._∷_ 100 List.[])))))))))))))))))) (Syntax.tcons (Syntax.tyInt Syntax.w32) (Syntax.tcons (Syntax.tyInt Syntax.w32) Syntax.tnil)))) (
-                (
-                  Scalar.reads-sc 𝓤 H A W (Row.sInt Syntax.w32),
-                  Path'.refl,
-                ),
-                ((Scalar.reads-sc 𝓤 H A W (Row.sInt Syntax.w32), Path'.refl), tt),
-              ) Path'.refl (λ u. Path'.refl) λ m. Make.is-wt (Apart.apartT Record.the-type) Laws'.the-laws (
-                Make.u32-wt,
-                (Make.u32-wt, tt),
-              ) (m .1 .1 .1 .1 .1 .1 .1 .1 .1 .1 .1 .1 .0, (m .1 .1 .1 .1 .1 .1 .1 .1 .1 .1 .1 .1 .1 .1 .1 .1 .0, tt))) d23
+              (List._∷_ (Scalar.oAt 12 (Syntax.tyInt Syntax.w32) (Row.valS (Row.sInt Syntax.w32))) (List._∷_ (Scalar.oAt 16 (Syntax.tyInt Syntax.w32) (Row.valS (Row.sInt Syntax.w32))) List.[])) (λ m.
+              (m .1 .1 .1 .1 .1 .1 .1 .1 .1 .1 .1 .1 .0, (m .1 .1 .1 .1 .1 .1 .1 .1 .1 .1 .1 .1 .1 .1 .1 .1 .0, tt))) (Reads.room-gone 𝓤 H A y1)
+              ((Scalar.reads-sc 𝓤 H A W (Row.sInt Syntax.w32), Path'.refl), ((Scalar.reads-sc 𝓤 H A W (Row.sInt Syntax.w32), Path'.refl), tt)) Path'.refl (λ u. Path'.refl) λ m. Make.is-wt (Apart.apartT
+              Record.the-type) Laws'.the-laws (Make.u32-wt, (Make.u32-wt, tt)) (m .1 .1 .1 .1 .1 .1 .1 .1 .1 .1 .1 .1 .0, (m .1 .1 .1 .1 .1 .1 .1 .1 .1 .1 .1 .1 .1 .1 .1 .1 .0, tt))) d23
 
           d25 : Typed.Typed 𝓤 H A 𝓣 E G25 b27 Δ3 (at25 bs)
           d25 = Typed.g-pre 𝓤 H A W 𝓣 E G25 G26 b27 Δ3 (Typed.pass T25 T26 (s22 bs)) (at24 bs) (Scalar.g-room 𝓤 H A W E G25 15 Syntax.tyPtr (Scalar.room-sc 𝓤 H A W Row.sPtr)) d24
@@ -2226,10 +1400,8 @@ module _ (claims· : Claims) where
 
           d40 : Typed.Typed 𝓤 H A 𝓣 E G5 b37 Δ3 (at40 bs)
           d40 = Typed.s-seq 𝓤 H A W 𝓣 E G5 G7 b3 b36 Δ3 (Typed.ask (s4 bs)) (at39 bs) (Scalar.t-op2 𝓤 H A W E 𝓣 G5 (Syntax.lt Syntax.unsigned) (Scalar.oAt 6 (Syntax.tyInt Syntax.w64) (Row.valS
-              (Row.sInt Syntax.w64))) (Scalar.oInt Syntax.w64 112) 8 (Rows'.sc-here Row.sBool) Syntax.tyBool (Row.valS Row.sBool) (Row.sBool .of) (
-                Scalar.reads-sc 𝓤 H A W (Row.sInt Syntax.w64),
-                Path'.refl,
-              ) tt (Reads.room-gone 𝓤 H A Syntax.tyBool) (Scalar.holds-sc 𝓤 H A W Row.sBool) Path'.refl (λ u. Path'.refl) λ u. tt) d39
+              (Row.sInt Syntax.w64))) (Scalar.oInt Syntax.w64 112) 8 (Rows'.sc-here Row.sBool) Syntax.tyBool (Row.valS Row.sBool) (Row.sBool .of)
+              (Scalar.reads-sc 𝓤 H A W (Row.sInt Syntax.w64), Path'.refl) tt (Reads.room-gone 𝓤 H A Syntax.tyBool) (Scalar.holds-sc 𝓤 H A W Row.sBool) Path'.refl (λ u. Path'.refl) λ u. tt) d39
 
           d41 : Typed.Typed 𝓤 H A 𝓣 E G5 b38 Δ2 (at41 bs)
           d41 = Typed.t-loop-by 𝓤 H A W 𝓣 E G5 b37 Δ2 put0 (λ u vs. Inv·0 (Row.get 1 (T5 .locals) u .now) (Row.get 2 (T5 .locals) u) (Row.get 4 (T5 .locals) u) (Row.get 5 (T5 .locals) u) (Row.get 6
@@ -2263,65 +1435,41 @@ module _ (claims· : Claims) where
               Path'.refl (λ u. Path'.refl) λ u. tt) d47
 
           d49 : Typed.Typed 𝓤 H A 𝓣 E G3 b44 Δ0 (at49 bs)
-          d49 = Typed.g-pre 𝓤 H A W 𝓣 E G3 G4 b44 Δ0 (Typed.pass T3 T4 (s2 bs)) (at48 bs) (Scalar.g-room 𝓤 H A W E G3 3 (Syntax.tyStruct (List._∷_ 112 (List._∷_ 97 (List._∷_ 115 (List._∷_ 115
-              (List._∷_ 58 (List._∷_ 58 (List._∷_ 83 (List._∷_ 101 (List._∷_ 116 List.[]))))))))) (Syntax.tcons (Syntax.tyArray (Syntax.tyInt Syntax.w32) 112) (Syntax.tcons (Syntax.tyArray (Syntax.tyInt
-              Syntax.w32) 112) Syntax.tnil))) (Local.room-whole 𝓤 H A W (Declared.row Set.the-type) (Syntax.tyStruct (List._∷_ 112 (List._∷_ 97 (List._∷_ 115 (List._∷_ 115 (List._∷_ 58 (List._∷_ 58
-              (List._∷_ 83 (List._∷_ 101 (List._∷_ 116 List.[]))))))))) (Syntax.tcons (Syntax.tyArray (Syntax.tyInt Syntax.w32) 112) (Syntax.tcons (Syntax.tyArray (Syntax.tyInt Syntax.w32) 112)
-              Syntax.tnil))) Path'.refl)) d48
+          d49 = Typed.g-pre 𝓤 H A W 𝓣 E G3 G4 b44 Δ0 (Typed.pass T3 T4 (s2 bs)) (at48 bs) (Scalar.g-room 𝓤 H A W E G3 3 y0 (Local.room-whole 𝓤 H A W (Declared.row Set.the-type) y0 Path'.refl)) d48
 
           d50 : Typed.Typed 𝓤 H A 𝓣 E G2 b45 Δ0 (at50 bs)
           d50 = Typed.s-seq 𝓤 H A W 𝓣 E G2 G3 b1 b44 Δ0 (Typed.both (s1 bs)) (at49 bs) (WayStmt.t-way-copy-out 𝓤 H A W E 𝓣 (Array.Array (Referent.rtF (Referent.fInt Syntax.w32)) 112) Path'.refl
               (Copies.cArr (Referent.rtF (Referent.fInt Syntax.w32)) (Copies.cRf (Referent.fInt Syntax.w32)) 112 .copy 𝓤 H A W) (λ ρ. Unit) G2 (Row.out 3 (G2 .locals)) (λ u. Row.drop 3 (G2 .locals) u) (G2
               .slots) 3 (λ t. List._∷_ (Syntax.field 1) t) (Syntax.tyArray (Syntax.tyInt Syntax.w32) 112) (Syntax.tyArray (Syntax.tyInt Syntax.w32) 112) 5 (Rows.arrF (Referent.rtF (Referent.fInt
-              Syntax.w32)) 112 0) (λ x. x) (λ u. At.getAt (Set.the-type .parts) 1 (Set.struct .as-values (u .1 .1 .1 .0))) (λ u. (Row.hd 0 (Row.tl (Row.tl (Row.tl bs))), Nat._+_ 0 448)) (λ T′. record {
-                locals = Row.setRow 3 (3, Rows'.whole (Declared.row Set.the-type)) T′;
-                slots = G2 .slots;
-              }) (λ u T′ m′. Row.set 3 (3, Rows'.whole (Declared.row Set.the-type)) (u .1 .1 .1 .0) T′ m′) (λ u.
+              Syntax.w32)) 112 0) (λ x. x) (λ u. At.getAt (Set.the-type .parts) 1 (Set.struct .as-values (u .1 .1 .1 .0))) (λ u. (Row.hd 0 (Row.tl (Row.tl (Row.tl bs))), Nat._+_ 0 448)) (λ T′. record
+              { locals = Row.setRow 3 (3, Rows'.whole (Declared.row Set.the-type)) T′; slots = G2 .slots }) (λ u T′ m′. Row.set 3 (3, Rows'.whole (Declared.row Set.the-type)) (u .1 .1 .1 .0) T′ m′) (λ u.
               Unit) (λ x. Unit) (Own.told-none 𝓤 H A (G2 .slots)) (DerefMove.learns-nothing 𝓤 H A (Array.Array (Referent.rtF (Referent.fInt Syntax.w32)) 112)) (λ ρ told u asked. Way'.w-partˢ 𝓤 H A W E
-              (Declared.row Set.the-type) (Array.Array (Referent.rtF (Referent.fInt Syntax.w32)) 112) (Syntax.tyStruct (List._∷_ 112 (List._∷_ 97 (List._∷_ 115 (List._∷_ 115 (List._∷_ 58 (List._∷_ 58
-              (List._∷_ 83 (List._∷_ 101 (List._∷_ 116 List.[]))))))))) (Syntax.tcons (Syntax.tyArray (Syntax.tyInt Syntax.w32) 112) (Syntax.tcons (Syntax.tyArray (Syntax.tyInt Syntax.w32) 112)
-              Syntax.tnil))) (Syntax.tyArray (Syntax.tyInt Syntax.w32) 112) 1 448 (u .1 .1 .1 .0) (At.getAt (Set.the-type .parts) 1 (Set.struct .as-values (u .1 .1 .1 .0))) (
-                Row.hd 0 (Row.tl (Row.tl
-                    (Row.tl bs))),
-                0,
-              ) (Way.w-look 𝓤 H A W E (Way.w-local 𝓤 H A W E G2 ρ u (G2 .slots) 3 (Declared.row Set.the-type) (Rows'.whole (Declared.row Set.the-type)) (λ x. x) (λ x. x) (u .1 .1 .1 .0)
-              (Local.mem-whole 𝓤 H A W (Declared.row Set.the-type) ρ (u .1 .1 .1 .0) (Row.hd 0 (Row.tl (Row.tl (Row.tl bs))))) (Local.whole-mem 𝓤 H A W (Declared.row Set.the-type) ρ (u .1 .1 .1 .0)
-              (Row.hd 0 (Row.tl (Row.tl (Row.tl bs))))))) Path'.refl λ q. Items.cut-array 𝓤 H A q (Declared.row Set.the-type) (Referent.rtF (Referent.fInt Syntax.w32)) 112 448 (u .1 .1 .1 .0) (u .1 .1 .1
-              .0) (At.getAt (Set.the-type .parts) 1 (Set.struct .as-values (u .1 .1 .1 .0))) (At.getAt (Set.the-type .parts) 1 (Set.struct .as-values (u .1 .1 .1 .0))) (
-                Row.hd 0 (Row.tl (Row.tl (Row.tl
-                    bs))),
-                0,
-              ) (Behind.look-at 𝓤 H A W q Set.the-type Laws.the-laws 1 448 Path'.refl Path'.refl (Row.hd 0 (Row.tl (Row.tl (Row.tl bs))), 0) (u .1 .1 .1 .0) (Set.struct .as-values (u .1 .1 .1
-              .0)) Path'.refl)) (Reads.room-gone 𝓤 H A (Syntax.tyArray (Syntax.tyInt Syntax.w32) 112)) (Yields.makes-mem 𝓤 H A W (λ ρ. Unit) (Array.Array (Referent.rtF (Referent.fInt Syntax.w32)) 112)
-              Path'.refl (Rows.arrF (Referent.rtF (Referent.fInt Syntax.w32)) 112 0) (λ x. x) λ ρ told. Whole.arr-mem 𝓤 H A W (Referent.rtF (Referent.fInt Syntax.w32)) 112 tt ρ) Path'.refl Path'.refl
-              Path'.refl) d49
+              (Declared.row Set.the-type) (Array.Array (Referent.rtF (Referent.fInt Syntax.w32)) 112) y0 (Syntax.tyArray (Syntax.tyInt Syntax.w32) 112) 1 448 (u .1 .1 .1 .0) (At.getAt (Set.the-type
+              .parts) 1 (Set.struct .as-values (u .1 .1 .1 .0))) (Row.hd 0 (Row.tl (Row.tl (Row.tl bs))), 0) (Way.w-look 𝓤 H A W E (Way.w-local 𝓤 H A W E G2 ρ u (G2 .slots) 3 (Declared.row Set.the-type)
+              (Rows'.whole (Declared.row Set.the-type)) (λ x. x) (λ x. x) (u .1 .1 .1 .0) (Local.mem-whole 𝓤 H A W (Declared.row Set.the-type) ρ (u .1 .1 .1 .0) (Row.hd 0 (Row.tl (Row.tl (Row.tl bs)))))
+              (Local.whole-mem 𝓤 H A W (Declared.row Set.the-type) ρ (u .1 .1 .1 .0) (Row.hd 0 (Row.tl (Row.tl (Row.tl bs))))))) Path'.refl λ q. Items.cut-array 𝓤 H A q (Declared.row Set.the-type)
+              (Referent.rtF (Referent.fInt Syntax.w32)) 112 448 (u .1 .1 .1 .0) (u .1 .1 .1 .0) (At.getAt (Set.the-type .parts) 1 (Set.struct .as-values (u .1 .1 .1 .0))) (At.getAt (Set.the-type .parts) 1
+              (Set.struct .as-values (u .1 .1 .1 .0))) (Row.hd 0 (Row.tl (Row.tl (Row.tl bs))), 0) (Behind.look-at 𝓤 H A W q Set.the-type Laws.the-laws 1 448 Path'.refl Path'.refl
+              (Row.hd 0 (Row.tl (Row.tl (Row.tl bs))), 0) (u .1 .1 .1 .0) (Set.struct .as-values (u .1 .1 .1 .0)) Path'.refl)) (Reads.room-gone 𝓤 H A (Syntax.tyArray (Syntax.tyInt Syntax.w32) 112))
+              (Yields.makes-mem 𝓤 H A W (λ ρ. Unit) (Array.Array (Referent.rtF (Referent.fInt Syntax.w32)) 112) Path'.refl (Rows.arrF (Referent.rtF (Referent.fInt Syntax.w32)) 112 0) (λ x. x) λ ρ told.
+              Whole.arr-mem 𝓤 H A W (Referent.rtF (Referent.fInt Syntax.w32)) 112 tt ρ) Path'.refl Path'.refl Path'.refl) d49
 
           d51 : Typed.Typed 𝓤 H A 𝓣 E G0 b46 Δ0 (at51 bs)
           d51 = Typed.s-seq 𝓤 H A W 𝓣 E G0 G2 b0 b45 Δ0 (Typed.both (s0 bs)) (at50 bs) (WayStmt.t-way-copy-out 𝓤 H A W E 𝓣 (Array.Array (Referent.rtF (Referent.fInt Syntax.w32)) 112) Path'.refl
               (Copies.cArr (Referent.rtF (Referent.fInt Syntax.w32)) (Copies.cRf (Referent.fInt Syntax.w32)) 112 .copy 𝓤 H A W) (λ ρ. Unit) G0 (Row.out 3 (G0 .locals)) (λ u. Row.drop 3 (G0 .locals) u) (G0
               .slots) 3 (λ t. List._∷_ (Syntax.field 0) t) (Syntax.tyArray (Syntax.tyInt Syntax.w32) 112) (Syntax.tyArray (Syntax.tyInt Syntax.w32) 112) 4 (Rows.arrF (Referent.rtF (Referent.fInt
-              Syntax.w32)) 112 0) (λ x. x) (λ u. At.getAt (Set.the-type .parts) 0 (Set.struct .as-values (u .1 .1 .1 .0))) (λ u. (Row.hd 0 (Row.tl (Row.tl (Row.tl bs))), Nat._+_ 0 0)) (λ T′. record {
-                locals = Row.setRow 3 (3, Rows'.whole (Declared.row Set.the-type)) T′;
-                slots = G0 .slots;
-              }) (λ u T′ m′. Row.set 3 (3, Rows'.whole (Declared.row Set.the-type)) (u .1 .1 .1 .0) T′ m′) (λ u.
+              Syntax.w32)) 112 0) (λ x. x) (λ u. At.getAt (Set.the-type .parts) 0 (Set.struct .as-values (u .1 .1 .1 .0))) (λ u. (Row.hd 0 (Row.tl (Row.tl (Row.tl bs))), Nat._+_ 0 0)) (λ T′. record
+              { locals = Row.setRow 3 (3, Rows'.whole (Declared.row Set.the-type)) T′; slots = G0 .slots }) (λ u T′ m′. Row.set 3 (3, Rows'.whole (Declared.row Set.the-type)) (u .1 .1 .1 .0) T′ m′) (λ u.
               Unit) (λ x. Unit) (Own.told-none 𝓤 H A (G0 .slots)) (DerefMove.learns-nothing 𝓤 H A (Array.Array (Referent.rtF (Referent.fInt Syntax.w32)) 112)) (λ ρ told u asked. Way'.w-partˢ 𝓤 H A W E
-              (Declared.row Set.the-type) (Array.Array (Referent.rtF (Referent.fInt Syntax.w32)) 112) (Syntax.tyStruct (List._∷_ 112 (List._∷_ 97 (List._∷_ 115 (List._∷_ 115 (List._∷_ 58 (List._∷_ 58
-              (List._∷_ 83 (List._∷_ 101 (List._∷_ 116 List.[]))))))))) (Syntax.tcons (Syntax.tyArray (Syntax.tyInt Syntax.w32) 112) (Syntax.tcons (Syntax.tyArray (Syntax.tyInt Syntax.w32) 112)
-              Syntax.tnil))) (Syntax.tyArray (Syntax.tyInt Syntax.w32) 112) 0 0 (u .1 .1 .1 .0) (At.getAt (Set.the-type .parts) 0 (Set.struct .as-values (u .1 .1 .1 .0))) (
-                Row.hd 0 (Row.tl (Row.tl (Row.tl
-                    bs))),
-                0,
-              ) (Way.w-look 𝓤 H A W E (Way.w-local 𝓤 H A W E G0 ρ u (G0 .slots) 3 (Declared.row Set.the-type) (Rows'.whole (Declared.row Set.the-type)) (λ x. x) (λ x. x) (u .1 .1 .1 .0)
-              (Local.mem-whole 𝓤 H A W (Declared.row Set.the-type) ρ (u .1 .1 .1 .0) (Row.hd 0 (Row.tl (Row.tl (Row.tl bs))))) (Local.whole-mem 𝓤 H A W (Declared.row Set.the-type) ρ (u .1 .1 .1 .0)
-              (Row.hd 0 (Row.tl (Row.tl (Row.tl bs))))))) Path'.refl λ q. Items.cut-array 𝓤 H A q (Declared.row Set.the-type) (Referent.rtF (Referent.fInt Syntax.w32)) 112 0 (u .1 .1 .1 .0) (u .1 .1 .1
-              .0) (At.getAt (Set.the-type .parts) 0 (Set.struct .as-values (u .1 .1 .1 .0))) (At.getAt (Set.the-type .parts) 0 (Set.struct .as-values (u .1 .1 .1 .0))) (
-                Row.hd 0 (Row.tl (Row.tl (Row.tl
-                    bs))),
-                0,
-              ) (Behind.look-at 𝓤 H A W q Set.the-type Laws.the-laws 0 0 Path'.refl Path'.refl (Row.hd 0 (Row.tl (Row.tl (Row.tl bs))), 0) (u .1 .1 .1 .0) (Set.struct .as-values (u .1 .1 .1
-              .0)) Path'.refl)) (Reads.room-gone 𝓤 H A (Syntax.tyArray (Syntax.tyInt Syntax.w32) 112)) (Yields.makes-mem 𝓤 H A W (λ ρ. Unit) (Array.Array (Referent.rtF (Referent.fInt Syntax.w32)) 112)
-              Path'.refl (Rows.arrF (Referent.rtF (Referent.fInt Syntax.w32)) 112 0) (λ x. x) λ ρ told. Whole.arr-mem 𝓤 H A W (Referent.rtF (Referent.fInt Syntax.w32)) 112 tt ρ) Path'.refl Path'.refl
-              Path'.refl) d50
+              (Declared.row Set.the-type) (Array.Array (Referent.rtF (Referent.fInt Syntax.w32)) 112) y0 (Syntax.tyArray (Syntax.tyInt Syntax.w32) 112) 0 0 (u .1 .1 .1 .0) (At.getAt (Set.the-type .parts)
+              0 (Set.struct .as-values (u .1 .1 .1 .0))) (Row.hd 0 (Row.tl (Row.tl (Row.tl bs))), 0) (Way.w-look 𝓤 H A W E (Way.w-local 𝓤 H A W E G0 ρ u (G0 .slots) 3 (Declared.row Set.the-type)
+              (Rows'.whole (Declared.row Set.the-type)) (λ x. x) (λ x. x) (u .1 .1 .1 .0) (Local.mem-whole 𝓤 H A W (Declared.row Set.the-type) ρ (u .1 .1 .1 .0) (Row.hd 0 (Row.tl (Row.tl (Row.tl bs)))))
+              (Local.whole-mem 𝓤 H A W (Declared.row Set.the-type) ρ (u .1 .1 .1 .0) (Row.hd 0 (Row.tl (Row.tl (Row.tl bs))))))) Path'.refl λ q. Items.cut-array 𝓤 H A q (Declared.row Set.the-type)
+              (Referent.rtF (Referent.fInt Syntax.w32)) 112 0 (u .1 .1 .1 .0) (u .1 .1 .1 .0) (At.getAt (Set.the-type .parts) 0 (Set.struct .as-values (u .1 .1 .1 .0))) (At.getAt (Set.the-type .parts) 0
+              (Set.struct .as-values (u .1 .1 .1 .0))) (Row.hd 0 (Row.tl (Row.tl (Row.tl bs))), 0) (Behind.look-at 𝓤 H A W q Set.the-type Laws.the-laws 0 0 Path'.refl Path'.refl
+              (Row.hd 0 (Row.tl (Row.tl (Row.tl bs))), 0) (u .1 .1 .1 .0) (Set.struct .as-values (u .1 .1 .1 .0)) Path'.refl)) (Reads.room-gone 𝓤 H A (Syntax.tyArray (Syntax.tyInt Syntax.w32) 112))
+              (Yields.makes-mem 𝓤 H A W (λ ρ. Unit) (Array.Array (Referent.rtF (Referent.fInt Syntax.w32)) 112) Path'.refl (Rows.arrF (Referent.rtF (Referent.fInt Syntax.w32)) 112 0) (λ x. x) λ ρ told.
+              Whole.arr-mem 𝓤 H A W (Referent.rtF (Referent.fInt Syntax.w32)) 112 tt ρ) Path'.refl Path'.refl Path'.refl) d50
 
           pub typed : Typed.Typed 𝓤 H A 𝓣 E (Function.Γin 1 ps r xs m κs qs) b46 (Function.Δret 1 ps r xs m κs qs) (Φ bs)
           typed = d51
@@ -2334,19 +1482,18 @@ module _ (claims· : Claims) where
             ty = Declared.row Set.the-type;
             one = Path'.refl;
             val = Laws''.val Set.the-type Laws.the-laws;
-            tells = Laws''.tells Set.the-type
-                Laws.the-laws;
-            still = Laws''.still Set.the-type Laws.the-copy Exit.yes;
+            tells = Laws''.tells Set.the-type Laws.the-laws;
+            still = Laws''.still Set.the-type
+                Laws.the-copy Exit.yes;
             row = Rows'.whole (Declared.row Set.the-type);
             rd = λ x. x;
             mk = λ x. x;
           } λ M 𝓤 H A W. record {
-            copies = Laws''.copy
-                Set.the-type Laws.the-copy 𝓤 H A W;
+            copies = Laws''.copy Set.the-type Laws.the-copy 𝓤 H A W;
             lawful = Laws''.lawful Set.the-type Laws.the-laws 𝓤 H A W;
             makes = Laws''.makes Set.the-type Laws.the-plain 𝓤 H A;
-            in-mem = Local.mem-whole 𝓤 H A W
-                (Declared.row Set.the-type);
+            in-mem =
+                Local.mem-whole 𝓤 H A W (Declared.row Set.the-type);
             of-mem = Local.whole-mem 𝓤 H A W (Declared.row Set.the-type);
           })
 
@@ -2364,8 +1511,8 @@ module _ (claims· : Claims) where
       W0 = λ κs args blocks. (
         λ u. ⊥,
         tt,
-        λ u. Enter.Fixs κs 1 ps xs (dens κs args) (u .1) × Post· κs (dens κs args) (Function.resV r κs (u .0)) (Clauses.atExit (Kinds.endedOf 1 ps r) κs (dens κs
-            args) (Enter.lastsP κs 1 ps xs (dens κs args) (u .1))),
+        λ u. Enter.Fixs κs 1 ps xs (dens κs args) (u .1) × Post· κs (dens κs args) (Function.resV r κs (u .0)) (Clauses.atExit (Kinds.endedOf 1 ps r) κs (dens κs args) (Enter.lastsP κs 1 ps
+            xs (dens κs args) (u .1))),
       )
 
       pub record Start : Type 0 where
@@ -2418,11 +1565,9 @@ module _ (claims· : Claims) where
 
       abbrev pub m5 : (before : After-ns) → (rs : List.List (Element.type .Denot)) → (i : Rows'.sc-here (Row.sInt Syntax.w64) .Mod) → Typed.Mo T5
       m5 = λ before rs i. Row.set 6 (6, Rows'.sc-here (Row.sInt Syntax.w64)) i (Row.setRow 1 (1, Mut.mslice (Element.type) (Syntax.tyRef (Syntax.named 0) Syntax.mut Element.behind) 0) (T5 .locals))
-          (Row.set 1 (1, Mut.mslice (Element.type) (Syntax.tyRef (Syntax.named 0) Syntax.mut Element.behind) 0) record {
-            ptr = Row.get 1 (T5 .locals) (m4 (before .before) (before .ns .given)) .ptr;
-            name = Row.get 1 (T5 .locals) (m4 (before .before) (before .ns .given)) .name;
-            now = rs;
-          } (T5 .locals) (m4 (before .before) (before .ns .given)))
+          (Row.set 1 (1, Mut.mslice (Element.type) (Syntax.tyRef (Syntax.named 0) Syntax.mut Element.behind) 0) record
+          { ptr = Row.get 1 (T5 .locals) (m4 (before .before) (before .ns .given)) .ptr; name = Row.get 1 (T5 .locals) (m4 (before .before) (before .ns .given)) .name; now = rs } (T5 .locals) (m4 (before
+          .before) (before .ns .given)))
 
       abbrev W3 : (before : After-ns) → (rs : List.List (Element.type .Denot)) → (i : Rows'.sc-here (Row.sInt Syntax.w64) .Mod) → Typed.Want O3
       W3 = λ before rs i. Typed.inLoop T5 O2 (Typed.Round T5 O2 put0 (λ u vs. Inv·0 (Row.get 1 (T5 .locals) u .now) (Row.get 2 (T5 .locals) u) (Row.get 4 (T5 .locals) u) (Row.get 5 (T5 .locals) u)
@@ -2577,44 +1722,18 @@ module _ (claims· : Claims) where
 
       module _ (before· : After-update-arg) where
         abbrev pub After-update·own : Type 0
-        After-update·own = Called.Called ps·0 r·0 (claims· .1) T36 (
-          record { pos = 19; ty = Syntax.tyRef Syntax.erased Syntax.mut Element.behind; ref = λ x. x },
-          (
-            Num.vAt 13 λ x. x,
-            (
-              record {
-                pos =
-                    7;
-                st = List.[];
-                d = 0;
-                at = λ x. x;
-              },
-              tt,
-            ),
-          ),
-        ) (m33 (before· .before) (before· .update-arg .given))
+        After-update·own = Called.Called ps·0 r·0 (claims· .1) T36
+            (record { pos = 19; ty = Syntax.tyRef Syntax.erased Syntax.mut Element.behind; ref = λ x. x }, (Num.vAt 13 λ x. x, (record { pos = 7; st = List.[]; d = 0; at = λ x. x }, tt))) (m33 (before·
+            .before) (before· .update-arg .given))
 
       pub record After-update : Type 0 where
         pub before : After-update-arg
         pub update : After-update·own before
 
       abbrev pub After-update·gave : (c : After-update) → s33 (c .before .before .before .before .before .before .blocks) .gives (m33 (c .before .before) (c .before .update-arg .given))
-      After-update·gave = λ c. Called.given ps·0 r·0 (claims· .1) T36 (
-        record { pos = 19; ty = Syntax.tyRef Syntax.erased Syntax.mut Element.behind; ref = λ x. x },
-        (
-          Num.vAt 13 λ x. x,
-          (
-            record {
-              pos
-                  = 7;
-              st = List.[];
-              d = 0;
-              at = λ x. x;
-            },
-            tt,
-          ),
-        ),
-      ) (m33 (c .before .before) (c .before .update-arg .given)) (c .update)
+      After-update·gave = λ c. Called.given ps·0 r·0 (claims· .1) T36
+          (record { pos = 19; ty = Syntax.tyRef Syntax.erased Syntax.mut Element.behind; ref = λ x. x }, (Num.vAt 13 λ x. x, (record { pos = 7; st = List.[]; d = 0; at = λ x. x }, tt))) (m33 (c .before
+          .before) (c .before .update-arg .given)) (c .update)
 
       abbrev pub m35 : (before : After-update-arg) → (given : s33 (before .before .before .before .before .before .blocks) .gives (m33 (before .before) (before .update-arg .given))) → Typed.Mo T38
       m35 = λ before given. s34 (before .before .before .before .before .before .blocks) (m34 before given)
@@ -2685,8 +1804,8 @@ module _ (claims· : Claims) where
             .before .blocks)) (m10 (c .before))
         lay5 = λ c. (
           (
-            MutSlice.fix-len (Row.get 1 (T47 .locals) (m42 (c .before)) .ptr) (Row.get 1 (T47 .locals) (m42 (c .before)) .name) (Row.get 1 (T47 .locals) (m42 (c .before)) .now) (dens (c
-                .before .before .before .before .κs) (c .before .before .before .before .args) .0 .now) (same-length record { before = c .before; loop-test = c .loop-test }),
+            MutSlice.fix-len (Row.get 1 (T47 .locals) (m42 (c .before)) .ptr) (Row.get 1 (T47 .locals) (m42 (c .before)) .name) (Row.get 1 (T47 .locals) (m42 (c .before)) .now) (dens (c .before .before
+                .before .before .κs) (c .before .before .before .before .args) .0 .now) (same-length record { before = c .before; loop-test = c .loop-test }),
             (tt, (tt, tt)),
           ),
           returns record
@@ -2700,36 +1819,23 @@ module _ (claims· : Claims) where
           λ g. (
             add-i record { before = record { before = c .before; update = c .update }; rs = record { given = g } },
             (
-              μ·0 (Row.get 1 (T5 .locals) (m4 (c .before .before
-                  .before .before .before) (c .before .before .before .before .ns .given)) .now) (Row.get 2 (T5 .locals) (m4 (c .before .before .before .before .before) (c .before .before .before .before .ns
-                  .given))) (Row.get 4 (T5 .locals) (m4 (c .before .before .before .before .before) (c .before .before .before .before .ns .given))) (Row.get 5 (T5 .locals) (m4 (c .before .before .before
-                  .before .before) (c .before .before .before .before .ns .given))) (Row.get 6 (T5 .locals) (m4 (c .before .before .before .before .before) (c .before .before .before .before .ns .given)))
-                  (Row.get 1 (T5 .locals) (m39 record { before = c .before; update = c .update } g) .now) (Row.get 6 (T5 .locals) (m39 record { before = c .before; update = c .update } g)),
-              loop-less record {
-                before = record { before = c .before; update = c .update };
-                rs = record { given = g };
-              },
+              μ·0 (Row.get 1 (T5 .locals) (m4 (c .before .before .before .before .before) (c .before .before .before .before .ns .given)) .now) (Row.get 2 (T5 .locals) (m4 (c .before .before .before
+                  .before .before) (c .before .before .before .before .ns .given))) (Row.get 4 (T5 .locals) (m4 (c .before .before .before .before .before) (c .before .before .before .before .ns .given)))
+                  (Row.get 5 (T5 .locals) (m4 (c .before .before .before .before .before) (c .before .before .before .before .ns .given))) (Row.get 6 (T5 .locals) (m4 (c .before .before .before .before .before)
+                  (c .before .before .before .before .ns .given))) (Row.get 1 (T5 .locals) (m39 record { before = c .before; update = c .update } g) .now) (Row.get 6 (T5 .locals) (m39 record
+                  { before = c .before; update = c .update } g)),
+              loop-less record { before = record { before = c .before; update = c .update }; rs = record { given = g } },
               (
-                (
-                  Row.get 1 (T5 .locals) (m39 record { before = c .before; update = c .update } g) .now,
-                  Row.get 6
-                      (T5 .locals) (m39 record { before = c .before; update = c .update } g),
-                ),
-                Path'.refl {a = m39 record { before = c .before; update = c .update } g},
-                loop-again record {
-                  before = record {
-                    before = c .before;
-                    update = c .update;
-                  };
-                  rs = record { given = g };
-                },
-                Path'.refl {a = μ·0 (Row.get 1 (T5 .locals) (m4 (c .before .before .before .before .before) (c .before .before .before
-                    .before .ns .given)) .now) (Row.get 2 (T5 .locals) (m4 (c .before .before .before .before .before) (c .before .before .before .before .ns .given))) (Row.get 4 (T5 .locals) (m4 (c .before
-                    .before .before .before .before) (c .before .before .before .before .ns .given))) (Row.get 5 (T5 .locals) (m4 (c .before .before .before .before .before) (c .before .before .before .before .ns
-                    .given))) (Row.get 6 (T5 .locals) (m4 (c .before .before .before .before .before) (c .before .before .before .before .ns .given))) (Row.get 1 (T5 .locals) (m39 record {
-                      before = c .before;
-                      update = c .update;
-                    } g) .now) (Row.get 6 (T5 .locals) (m39 record { before = c .before; update = c .update } g))},
+                (Row.get 1 (T5 .locals) (m39 record { before = c .before; update = c .update } g) .now, Row.get 6 (T5 .locals) (m39 record { before = c .before; update = c .update } g)),
+                Path'.refl {a = m39
+                    record { before = c .before; update = c .update } g},
+                loop-again record { before = record { before = c .before; update = c .update }; rs = record { given = g } },
+                Path'.refl {a = μ·0 (Row.get
+                    1 (T5 .locals) (m4 (c .before .before .before .before .before) (c .before .before .before .before .ns .given)) .now) (Row.get 2 (T5 .locals) (m4 (c .before .before .before .before .before) (c
+                    .before .before .before .before .ns .given))) (Row.get 4 (T5 .locals) (m4 (c .before .before .before .before .before) (c .before .before .before .before .ns .given))) (Row.get 5 (T5 .locals)
+                    (m4 (c .before .before .before .before .before) (c .before .before .before .before .ns .given))) (Row.get 6 (T5 .locals) (m4 (c .before .before .before .before .before) (c .before .before
+                    .before .before .ns .given))) (Row.get 1 (T5 .locals) (m39 record { before = c .before; update = c .update } g) .now) (Row.get 6 (T5 .locals) (m39 record
+                    { before = c .before; update = c .update } g))},
               ),
             ),
           ),
@@ -2753,34 +1859,14 @@ module _ (claims· : Claims) where
                       (
                         mul-update record { before = record { before = c .before; loop-test = c .loop-test }; update-arg = record { given = g } },
                         (
-                          add-update record {
-                            before = record {
-                              before = c
-                                  .before;
-                              loop-test = c .loop-test;
-                            };
-                            update-arg = record { given = g };
-                          },
+                          add-update record { before = record { before = c .before; loop-test = c .loop-test }; update-arg = record { given = g } },
                           (
-                            update-requires record {
-                              before = record { before = c .before; loop-test = c .loop-test };
-                              update-arg = record {
-                                given = g;
-                              };
-                            },
+                            update-requires record { before = record { before = c .before; loop-test = c .loop-test }; update-arg = record { given = g } },
                             λ g'. lay4 record {
                               before = record { before = record { before = c .before; loop-test = c .loop-test }; update-arg = record { given = g } };
-                              update = Called.called ps·0 r·0
-                                  (claims· .1) T36 (
-                                    record { pos = 19; ty = Syntax.tyRef Syntax.erased Syntax.mut Element.behind; ref = λ x. x },
-                                    (
-                                      Num.vAt 13 λ x. x,
-                                      (
-                                        record { pos = 7; st = List.[]; d = 0; at = λ x. x },
-                                        tt,
-                                      ),
-                                    ),
-                                  ) (m33 record { before = c .before; loop-test = c .loop-test } g) g';
+                              update = Called.called ps·0 r·0 (claims· .1) T36
+                                  (record { pos = 19; ty = Syntax.tyRef Syntax.erased Syntax.mut Element.behind; ref = λ x. x }, (Num.vAt 13 λ x. x, (record { pos = 7; st = List.[]; d = 0; at = λ x. x }, tt))) (m33 record
+                                  { before = c .before; loop-test = c .loop-test } g) g';
                             },
                           ),
                         ),
@@ -2808,63 +1894,25 @@ module _ (claims· : Claims) where
             tt,
             λ g'. (
               (
-                (
-                  Row.get 1 (T5 .locals) (m4 record { before = c; sums = record { given = g } } g') .now,
-                  Row.get 6 (T5 .locals) (m4 record {
-                    before = c;
-                    sums = record {
-                      given = g;
-                    };
-                  } g'),
-                ),
-                Path'.refl {a = m4 record { before = c; sums = record { given = g } } g'},
-                loop-holds record {
-                  before = record { before = c; sums = record { given = g } };
-                  ns = record {
-                    given = g';
-                  };
-                },
+                (Row.get 1 (T5 .locals) (m4 record { before = c; sums = record { given = g } } g') .now, Row.get 6 (T5 .locals) (m4 record { before = c; sums = record { given = g } } g')),
+                Path'.refl {a =
+                    m4 record { before = c; sums = record { given = g } } g'},
+                loop-holds record { before = record { before = c; sums = record { given = g } }; ns = record { given = g' } },
               ),
               λ vs inv. (
                 tt,
                 (
                   λ taken. lay1 record {
-                    before = record {
-                      before = record { before = record { before = c; sums = record { given = g } }; ns = record { given = g' } };
-                      loop = record { rs = vs .0; i = vs .1; inv = inv };
-                    };
-                    loop-test = record {
-                      taken = Tests.ltb-true (Row.get 6 (T5 .locals) (m5 record {
-                        before = record {
-                          before = c;
-                          sums = record {
-                            given = g;
-                          };
-                        };
-                        ns = record { given = g' };
-                      } (vs .0) (vs .1))) 112 taken;
-                    };
+                    before = record { before = record { before = record { before = c; sums = record { given = g } }; ns = record { given = g' } }; loop = record { rs = vs .0; i = vs .1; inv = inv } };
+                    loop-test = record
+                        { taken = Tests.ltb-true (Row.get 6 (T5 .locals) (m5 record { before = record { before = c; sums = record { given = g } }; ns = record { given = g' } } (vs .0) (vs .1))) 112 taken };
                   },
-                  λ left. lay2 record {
-                    before = record {
-                      before = record {
-                        before = record { before = c; sums = record { given = g } };
-                        ns
-                            = record { given = g' };
-                      };
-                      loop = record { rs = vs .0; i = vs .1; inv = inv };
-                    };
-                    loop-test = record {
-                      left = Tests.ltb-false (Row.get 6 (T5 .locals) (m5 record {
-                        before = record {
-                          before =
-                              c;
-                          sums = record { given = g };
-                        };
-                        ns = record { given = g' };
-                      } (vs .0) (vs .1))) 112 left;
-                    };
-                  },
+                  λ
+                      left. lay2 record {
+                        before = record { before = record { before = record { before = c; sums = record { given = g } }; ns = record { given = g' } }; loop = record { rs = vs .0; i = vs .1; inv = inv } };
+                        loop-test = record
+                            { left = Tests.ltb-false (Row.get 6 (T5 .locals) (m5 record { before = record { before = c; sums = record { given = g } }; ns = record { given = g' } } (vs .0) (vs .1))) 112 left };
+                      },
                 ),
               ),
             ),
@@ -2874,14 +1922,8 @@ module _ (claims· : Claims) where
         module _ (κs : Lifetimes.Lfts 1) (qs : Lifetimes.Shares 1) where
           pub asked : (a : Kinds.Dens κs ps) → (good : Kinds.GoodsP κs ps a) → (pre : Pre· κs a) → (bs : List.List Nat.ℕ) → Φ bs (Any.wantQ 1 ps r xs m κs qs a (Post· κs a)) (Function.init 1 ps r xs m
               κs qs a)
-          asked = λ a good pre bs. laid record {
-            κs = κs;
-            args = record { rs = a .0; g = a .1 .0; set = a .1 .1 .0 };
-            blocks = bs;
-            good = good;
-            fits = record { g = record { fits = good .1 .0 .1 } };
-            pre = pre;
-          }
+          asked = λ a good pre bs. laid record
+              { κs = κs; args = record { rs = a .0; g = a .1 .0; set = a .1 .1 .0 }; blocks = bs; good = good; fits = record { g = record { fits = good .1 .0 .1 } }; pre = pre }
 
         module _ {M : Type 1} (𝓤 : URA.URA M) (H : Wp.Heap 𝓤) (A : Atoms.Atoms 𝓤) (W : Kit.Given 𝓤 H A) (𝓣 : Wp.Tables 𝓤 H) (known0 : Plain.Known 𝓤 H A W 𝓣 1 ps·0 r·0 (claims· .0) (claims· .1)
             "block::records::update") where

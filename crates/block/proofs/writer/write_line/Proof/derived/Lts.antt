@@ -80,25 +80,60 @@ use mir.Val
 use prog.Wp
 use types.Kit
 
+abbrev pub y0 : Syntax.Ty
+y0 = Syntax.tyStruct (List._∷_ 112 (List._∷_ 97 (List._∷_ 115 (List._∷_ 115 (List._∷_ 58 (List._∷_ 58 (List._∷_ 80 (List._∷_ 108 (List._∷_ 97 (List._∷_ 110 List.[])))))))))) (Syntax.tcons
+    (Syntax.tyInt Syntax.w64) (Syntax.tcons (Syntax.tyInt Syntax.w64) (Syntax.tcons (Syntax.tyInt Syntax.w64) (Syntax.tcons (Syntax.tyInt Syntax.w32) (Syntax.tcons (Syntax.tyInt Syntax.w32)
+    Syntax.tnil)))))
+
+abbrev pub y1 : Syntax.Ty
+y1 = Syntax.tyStruct (List._∷_ 112 (List._∷_ 97 (List._∷_ 115 (List._∷_ 115 (List._∷_ 58 (List._∷_ 58 (List._∷_ 83 (List._∷_ 101 (List._∷_ 116 List.[]))))))))) (Syntax.tcons (Syntax.tyArray
+    (Syntax.tyInt Syntax.w32) 112) (Syntax.tcons (Syntax.tyArray (Syntax.tyInt Syntax.w32) 112) Syntax.tnil))
+
+abbrev pub y2 : Syntax.Ty
+y2 = Syntax.tyStruct (List._∷_ 113 (List._∷_ 117 (List._∷_ 97 (List._∷_ 110 (List._∷_ 116 (List._∷_ 105 (List._∷_ 115 (List._∷_ 101 (List._∷_ 114 (List._∷_ 58 (List._∷_ 58 (List._∷_ 81 (List._∷_ 117
+    (List._∷_ 97 (List._∷_ 110 (List._∷_ 116 (List._∷_ 105 (List._∷_ 115 (List._∷_ 101 (List._∷_ 114 List.[])))))))))))))))))))) (Syntax.tcons (Syntax.tyInt Syntax.w32) (Syntax.tcons (Syntax.tyInt
+    Syntax.w32) (Syntax.tcons (Syntax.tyInt Syntax.w32) (Syntax.tcons (Syntax.tyInt Syntax.w32) (Syntax.tcons (Syntax.tyInt Syntax.w32) Syntax.tnil)))))
+
+abbrev pub y3 : Syntax.Ty
+y3 = Syntax.tyStruct (List._∷_ 38 (List._∷_ 91 (List._∷_ 93 List.[]))) (Syntax.tcons (Syntax.tyRef Syntax.erased Syntax.mut (Syntax.tyInt Syntax.w16)) (Syntax.tcons (Syntax.tyInt Syntax.w64)
+    Syntax.tnil))
+
+abbrev pub y4 : Syntax.Ty
+y4 = Syntax.tyStruct (List._∷_ 38 (List._∷_ 91 (List._∷_ 93 List.[]))) (Syntax.tcons (Syntax.tyRef Syntax.erased Syntax.mut (Syntax.tyInt Syntax.w8)) (Syntax.tcons (Syntax.tyInt Syntax.w64)
+    Syntax.tnil))
+
+abbrev pub y5 : Syntax.Ty
+y5 = Syntax.tyStruct (List._∷_ 38 (List._∷_ 91 (List._∷_ 93 List.[]))) (Syntax.tcons (Syntax.tyRef Syntax.erased Syntax.mut Element.behind) (Syntax.tcons (Syntax.tyInt Syntax.w64) Syntax.tnil))
+
+abbrev pub y6 : Syntax.Ty
+y6 = Syntax.tyStruct (List._∷_ 98 (List._∷_ 105 (List._∷_ 116 (List._∷_ 115 (List._∷_ 58 (List._∷_ 58 (List._∷_ 66 (List._∷_ 105 (List._∷_ 116 (List._∷_ 80 (List._∷_ 111 (List._∷_ 115 (List._∷_ 105
+    (List._∷_ 116 (List._∷_ 105 (List._∷_ 111 (List._∷_ 110 List.[]))))))))))))))))) (Syntax.tcons (Syntax.tyInt Syntax.w64) Syntax.tnil)
+
+abbrev pub y7 : Syntax.Ty
+y7 = Syntax.tyStruct (List._∷_ 98 (List._∷_ 108 (List._∷_ 111 (List._∷_ 99 (List._∷_ 107 (List._∷_ 58 (List._∷_ 58 (List._∷_ 70 (List._∷_ 111 (List._∷_ 114 (List._∷_ 109 List.[])))))))))))
+    (Syntax.tcons (Syntax.tyInt Syntax.w32) (Syntax.tcons Syntax.tyBool Syntax.tnil))
+
+abbrev pub y8 : Syntax.Ty
+y8 = Syntax.tyStruct (List._∷_ 119 (List._∷_ 114 (List._∷_ 105 (List._∷_ 116 (List._∷_ 105 (List._∷_ 110 (List._∷_ 103 (List._∷_ 58 (List._∷_ 58 (List._∷_ 80 (List._∷_ 97 (List._∷_ 115 (List._∷_ 115
+    (List._∷_ 80 (List._∷_ 117 (List._∷_ 116 List.[])))))))))))))))) (Syntax.tcons Syntax.tyBool (Syntax.tcons (Syntax.tyInt Syntax.w64) (Syntax.tcons y6 (Syntax.tcons y1 Syntax.tnil))))
+
 abbrev pub ps : List.List (Kinds.PK 4)
 ps = List._∷_ (ShrSlice.pShrS (Referent.rtF (Referent.fInt Syntax.w16)) 0 tt) (List._∷_ (Num.pNum Syntax.w64) (List._∷_ (MutSlice.pMutS (Referent.rtF (Referent.fInt Syntax.w8)) 1 tt) (List._∷_
     Bool.pBool (List._∷_ (Value.pVal record {
       ty = Declared'.row BitPosition.the-type;
       one = Path'.refl;
       val = Laws'8.val BitPosition.the-type Laws.the-laws;
-      tells = Laws'8.tells BitPosition.the-type
-          Laws.the-laws;
-      still = Laws'8.still BitPosition.the-type Laws.the-copy Exit.yes;
+      tells = Laws'8.tells BitPosition.the-type Laws.the-laws;
+      still = Laws'8.still
+          BitPosition.the-type Laws.the-copy Exit.yes;
       row = Rows.whole (Declared'.row BitPosition.the-type);
       rd = λ x. x;
       mk = λ x. x;
     } λ M 𝓤 H A W. record {
-      copies =
-          Laws'8.copy BitPosition.the-type Laws.the-copy 𝓤 H A W;
+      copies = Laws'8.copy BitPosition.the-type Laws.the-copy 𝓤 H A W;
       lawful = Laws'8.lawful BitPosition.the-type Laws.the-laws 𝓤 H A W;
       makes = Laws'8.makes BitPosition.the-type Laws.the-plain 𝓤 H A;
-      in-mem =
-          Local.mem-whole 𝓤 H A W (Declared'.row BitPosition.the-type);
+      in-mem = Local.mem-whole 𝓤 H A W (Declared'.row BitPosition.the-type);
       of-mem = Local.whole-mem 𝓤 H A W (Declared'.row BitPosition.the-type);
     }) (List._∷_ (MutSlice.pMutS (Referent.rtF (Referent.fInt
     Syntax.w16)) 2 tt) (List._∷_ (MutSlice.pMutS (Element.type) 3 tt) (List._∷_ (Value.pVal record {
@@ -106,12 +141,12 @@ ps = List._∷_ (ShrSlice.pShrS (Referent.rtF (Referent.fInt Syntax.w16)) 0 tt) 
       one = Path'.refl;
       val = Laws'8.val Form.the-type Laws'.the-laws;
       tells = Laws'8.tells Form.the-type Laws'.the-laws;
-      still = Laws'8.still Form.the-type Laws'.the-copy Exit.yes;
+      still = Laws'8.still Form.the-type
+          Laws'.the-copy Exit.yes;
       row = Rows.whole (Declared'.row Form.the-type);
       rd = λ x. x;
       mk = λ x. x;
-    } λ M 𝓤 H A W.
-    record {
+    } λ M 𝓤 H A W. record {
       copies = Laws'8.copy Form.the-type Laws'.the-copy 𝓤 H A W;
       lawful = Laws'8.lawful Form.the-type Laws'.the-laws 𝓤 H A W;
       makes = Laws'8.makes Form.the-type Laws'.the-plain 𝓤 H A;
@@ -126,48 +161,26 @@ r = Value.rVal record {
   one = Path'.refl;
   val = Laws'7.val Put.the-type Laws'6.the-laws;
   tells = Laws'7.tells Put.the-type Laws'6.the-laws;
-  still = Laws'7.still
-      Put.the-type Laws'6.the-copy Exit.yes;
+  still = Laws'7.still Put.the-type Laws'6.the-copy
+      Exit.yes;
   row = Rows.whole (Declared.row Put.the-type);
   rd = λ x. x;
   mk = λ x. x;
 } λ M 𝓤 H A W. record {
   copies = Laws'7.copy Put.the-type Laws'6.the-copy 𝓤 H A W;
-  lawful
-      = Laws'7.lawful Put.the-type Laws'6.the-laws 𝓤 H A W tt;
+  lawful = Laws'7.lawful Put.the-type Laws'6.the-laws 𝓤 H A W tt;
   makes = Laws'7.makes Put.the-type Laws'6.the-plain 𝓤 H A;
-  in-mem = Local.mem-whole 𝓤 H A W (Declared.row Put.the-type);
-  of-mem =
-      Local.whole-mem 𝓤 H A W (Declared.row Put.the-type);
+  in-mem =
+      Local.mem-whole 𝓤 H A W (Declared.row Put.the-type);
+  of-mem = Local.whole-mem 𝓤 H A W (Declared.row Put.the-type);
 }
 
 abbrev pub xs : List.List Syntax.Ty
-xs = List._∷_ (Syntax.tyInt Syntax.w32) (List._∷_ Syntax.tyBool (List._∷_ (Syntax.tyInt Syntax.w64) (List._∷_ (Syntax.tyStruct (List._∷_ 113 (List._∷_ 117 (List._∷_ 97 (List._∷_ 110 (List._∷_ 116
-    (List._∷_ 105 (List._∷_ 115 (List._∷_ 101 (List._∷_ 114 (List._∷_ 58 (List._∷_ 58 (List._∷_ 81 (List._∷_ 117 (List._∷_ 97 (List._∷_ 110 (List._∷_ 116 (List._∷_ 105 (List._∷_ 115 (List._∷_ 101
-    (List._∷_ 114 List.[])))))))))))))))))))) (Syntax.tcons (Syntax.tyInt Syntax.w32) (Syntax.tcons (Syntax.tyInt Syntax.w32) (Syntax.tcons (Syntax.tyInt Syntax.w32) (Syntax.tcons (Syntax.tyInt
-    Syntax.w32) (Syntax.tcons (Syntax.tyInt Syntax.w32) Syntax.tnil)))))) (List._∷_ (Syntax.tyInt Syntax.w32) (List._∷_ (Syntax.tyInt Syntax.w32) (List._∷_ (Syntax.tyStruct (List._∷_ 98 (List._∷_ 105
-    (List._∷_ 116 (List._∷_ 115 (List._∷_ 58 (List._∷_ 58 (List._∷_ 66 (List._∷_ 105 (List._∷_ 116 (List._∷_ 80 (List._∷_ 111 (List._∷_ 115 (List._∷_ 105 (List._∷_ 116 (List._∷_ 105 (List._∷_ 111
-    (List._∷_ 110 List.[]))))))))))))))))) (Syntax.tcons (Syntax.tyInt Syntax.w64) Syntax.tnil)) (List._∷_ (Syntax.tyInt Syntax.w64) (List._∷_ (Syntax.tyStruct (List._∷_ 112 (List._∷_ 97 (List._∷_ 115
-    (List._∷_ 115 (List._∷_ 58 (List._∷_ 58 (List._∷_ 80 (List._∷_ 108 (List._∷_ 97 (List._∷_ 110 List.[])))))))))) (Syntax.tcons (Syntax.tyInt Syntax.w64) (Syntax.tcons (Syntax.tyInt Syntax.w64)
-    (Syntax.tcons (Syntax.tyInt Syntax.w64) (Syntax.tcons (Syntax.tyInt Syntax.w32) (Syntax.tcons (Syntax.tyInt Syntax.w32) Syntax.tnil)))))) (List._∷_ (Syntax.tyStruct (List._∷_ 112 (List._∷_ 97
-    (List._∷_ 115 (List._∷_ 115 (List._∷_ 58 (List._∷_ 58 (List._∷_ 83 (List._∷_ 101 (List._∷_ 116 List.[]))))))))) (Syntax.tcons (Syntax.tyArray (Syntax.tyInt Syntax.w32) 112) (Syntax.tcons
-    (Syntax.tyArray (Syntax.tyInt Syntax.w32) 112) Syntax.tnil))) (List._∷_ (Syntax.tyStruct (List._∷_ 119 (List._∷_ 114 (List._∷_ 105 (List._∷_ 116 (List._∷_ 105 (List._∷_ 110 (List._∷_ 103 (List._∷_ 58
-    (List._∷_ 58 (List._∷_ 80 (List._∷_ 97 (List._∷_ 115 (List._∷_ 115 (List._∷_ 80 (List._∷_ 117 (List._∷_ 116 List.[])))))))))))))))) (Syntax.tcons Syntax.tyBool (Syntax.tcons (Syntax.tyInt Syntax.w64)
-    (Syntax.tcons (Syntax.tyStruct (List._∷_ 98 (List._∷_ 105 (List._∷_ 116 (List._∷_ 115 (List._∷_ 58 (List._∷_ 58 (List._∷_ 66 (List._∷_ 105 (List._∷_ 116 (List._∷_ 80 (List._∷_ 111 (List._∷_ 115
-    (List._∷_ 105 (List._∷_ 116 (List._∷_ 105 (List._∷_ 111 (List._∷_ 110 List.[]))))))))))))))))) (Syntax.tcons (Syntax.tyInt Syntax.w64) Syntax.tnil)) (Syntax.tcons (Syntax.tyStruct (List._∷_ 112
-    (List._∷_ 97 (List._∷_ 115 (List._∷_ 115 (List._∷_ 58 (List._∷_ 58 (List._∷_ 83 (List._∷_ 101 (List._∷_ 116 List.[]))))))))) (Syntax.tcons (Syntax.tyArray (Syntax.tyInt Syntax.w32) 112) (Syntax.tcons
-    (Syntax.tyArray (Syntax.tyInt Syntax.w32) 112) Syntax.tnil))) Syntax.tnil))))) (List._∷_ Syntax.tyBool (List._∷_ (Syntax.tyStruct (List._∷_ 112 (List._∷_ 97 (List._∷_ 115 (List._∷_ 115 (List._∷_ 58
-    (List._∷_ 58 (List._∷_ 83 (List._∷_ 101 (List._∷_ 116 List.[]))))))))) (Syntax.tcons (Syntax.tyArray (Syntax.tyInt Syntax.w32) 112) (Syntax.tcons (Syntax.tyArray (Syntax.tyInt Syntax.w32) 112)
-    Syntax.tnil))) (List._∷_ Syntax.tyBool (List._∷_ Syntax.tyUnit (List._∷_ (Syntax.tyRef Syntax.erased Syntax.mut (Syntax.tyInt Syntax.w16)) (List._∷_ (Syntax.tyStruct (List._∷_ 38 (List._∷_ 91
-    (List._∷_ 93 List.[]))) (Syntax.tcons (Syntax.tyRef Syntax.erased Syntax.mut (Syntax.tyInt Syntax.w16)) (Syntax.tcons (Syntax.tyInt Syntax.w64) Syntax.tnil))) (List._∷_ (Syntax.tyRef Syntax.erased
-    Syntax.mut (Syntax.tyInt Syntax.w16)) (List._∷_ (Syntax.tyStruct (List._∷_ 38 (List._∷_ 91 (List._∷_ 93 List.[]))) (Syntax.tcons (Syntax.tyRef Syntax.erased Syntax.mut (Syntax.tyInt Syntax.w16))
-    (Syntax.tcons (Syntax.tyInt Syntax.w64) Syntax.tnil))) (List._∷_ (Syntax.tyRef Syntax.erased Syntax.mut Element.behind) (List._∷_ (Syntax.tyStruct (List._∷_ 38 (List._∷_ 91 (List._∷_ 93 List.[])))
-    (Syntax.tcons (Syntax.tyRef Syntax.erased Syntax.mut Element.behind) (Syntax.tcons (Syntax.tyInt Syntax.w64) Syntax.tnil))) (List._∷_ (Syntax.tyRef Syntax.erased Syntax.mut (Syntax.tyInt Syntax.w8))
-    (List._∷_ (Syntax.tyStruct (List._∷_ 38 (List._∷_ 91 (List._∷_ 93 List.[]))) (Syntax.tcons (Syntax.tyRef Syntax.erased Syntax.mut (Syntax.tyInt Syntax.w8)) (Syntax.tcons (Syntax.tyInt Syntax.w64)
-    Syntax.tnil))) (List._∷_ (Syntax.tyRef Syntax.erased Syntax.mut (Syntax.tyInt Syntax.w16)) (List._∷_ (Syntax.tyStruct (List._∷_ 38 (List._∷_ 91 (List._∷_ 93 List.[]))) (Syntax.tcons (Syntax.tyRef
-    Syntax.erased Syntax.mut (Syntax.tyInt Syntax.w16)) (Syntax.tcons (Syntax.tyInt Syntax.w64) Syntax.tnil))) (List._∷_ (Syntax.tyRef Syntax.erased Syntax.mut Element.behind) (List._∷_ (Syntax.tyStruct
-    (List._∷_ 38 (List._∷_ 91 (List._∷_ 93 List.[]))) (Syntax.tcons (Syntax.tyRef Syntax.erased Syntax.mut Element.behind) (Syntax.tcons (Syntax.tyInt Syntax.w64) Syntax.tnil)))
-    List.[]))))))))))))))))))))))))))
+xs = List._∷_ (Syntax.tyInt Syntax.w32) (List._∷_ Syntax.tyBool (List._∷_ (Syntax.tyInt Syntax.w64) (List._∷_ y2 (List._∷_ (Syntax.tyInt Syntax.w32) (List._∷_ (Syntax.tyInt Syntax.w32) (List._∷_ y6
+    (List._∷_ (Syntax.tyInt Syntax.w64) (List._∷_ y0 (List._∷_ y1 (List._∷_ y8 (List._∷_ Syntax.tyBool (List._∷_ y1 (List._∷_ Syntax.tyBool (List._∷_ Syntax.tyUnit (List._∷_ (Syntax.tyRef Syntax.erased
+    Syntax.mut (Syntax.tyInt Syntax.w16)) (List._∷_ y3 (List._∷_ (Syntax.tyRef Syntax.erased Syntax.mut (Syntax.tyInt Syntax.w16)) (List._∷_ y3 (List._∷_ (Syntax.tyRef Syntax.erased Syntax.mut
+    Element.behind) (List._∷_ y5 (List._∷_ (Syntax.tyRef Syntax.erased Syntax.mut (Syntax.tyInt Syntax.w8)) (List._∷_ y4 (List._∷_ (Syntax.tyRef Syntax.erased Syntax.mut (Syntax.tyInt Syntax.w16))
+    (List._∷_ y3 (List._∷_ (Syntax.tyRef Syntax.erased Syntax.mut Element.behind) (List._∷_ y5 List.[]))))))))))))))))))))))))))
 
 abbrev pub m : Nat.ℕ
 m = 6
@@ -187,18 +200,16 @@ r·1 = Value.rVal record {
   one = Path'.refl;
   val = Laws'8.val Quantiser.the-type Laws'4.the-laws;
   tells = Laws'8.tells Quantiser.the-type Laws'4.the-laws;
-  still =
-      Laws'8.still Quantiser.the-type Laws'4.the-copy Exit.yes;
+  still = Laws'8.still
+      Quantiser.the-type Laws'4.the-copy Exit.yes;
   row = Rows.whole (Declared'.row Quantiser.the-type);
   rd = λ x. x;
   mk = λ x. x;
 } λ M 𝓤 H A W. record {
-  copies = Laws'8.copy Quantiser.the-type
-      Laws'4.the-copy 𝓤 H A W;
+  copies = Laws'8.copy Quantiser.the-type Laws'4.the-copy 𝓤 H A W;
   lawful = Laws'8.lawful Quantiser.the-type Laws'4.the-laws 𝓤 H A W;
   makes = Laws'8.makes Quantiser.the-type Laws'4.the-plain 𝓤 H A;
-  in-mem = Local.mem-whole 𝓤 H A W
-      (Declared'.row Quantiser.the-type);
+  in-mem = Local.mem-whole 𝓤 H A W (Declared'.row Quantiser.the-type);
   of-mem = Local.whole-mem 𝓤 H A W (Declared'.row Quantiser.the-type);
 }
 
@@ -211,8 +222,8 @@ r·2 = Value.rVal record {
   one = Path'.refl;
   val = Laws'8.val Plan.the-type Laws''.the-laws;
   tells = Laws'8.tells Plan.the-type Laws''.the-laws;
-  still = Laws'8.still
-      Plan.the-type Laws''.the-copy Exit.yes;
+  still = Laws'8.still Plan.the-type
+      Laws''.the-copy Exit.yes;
   row = Rows.whole (Declared'.row Plan.the-type);
   rd = λ x. x;
   mk = λ x. x;
@@ -220,9 +231,9 @@ r·2 = Value.rVal record {
   copies = Laws'8.copy Plan.the-type Laws''.the-copy 𝓤 H A W;
   lawful = Laws'8.lawful Plan.the-type Laws''.the-laws 𝓤 H A W;
   makes = Laws'8.makes Plan.the-type Laws''.the-plain 𝓤 H A;
-  in-mem = Local.mem-whole 𝓤 H A W (Declared'.row Plan.the-type);
-  of-mem =
-      Local.whole-mem 𝓤 H A W (Declared'.row Plan.the-type);
+  in-mem =
+      Local.mem-whole 𝓤 H A W (Declared'.row Plan.the-type);
+  of-mem = Local.whole-mem 𝓤 H A W (Declared'.row Plan.the-type);
 }
 
 abbrev pub ps·3 : List.List (Kinds.PK 1)
@@ -240,8 +251,8 @@ r·4 = Value.rVal record {
   one = Path'.refl;
   val = Laws'8.val Set.the-type Laws'3.the-laws;
   tells = Laws'8.tells Set.the-type Laws'3.the-laws;
-  still = Laws'8.still
-      Set.the-type Laws'3.the-copy Exit.yes;
+  still = Laws'8.still Set.the-type Laws'3.the-copy
+      Exit.yes;
   row = Rows.whole (Declared'.row Set.the-type);
   rd = λ x. x;
   mk = λ x. x;
@@ -249,9 +260,9 @@ r·4 = Value.rVal record {
   copies = Laws'8.copy Set.the-type Laws'3.the-copy 𝓤 H A W;
   lawful = Laws'8.lawful Set.the-type Laws'3.the-laws 𝓤 H A W;
   makes = Laws'8.makes Set.the-type Laws'3.the-plain 𝓤 H A;
-  in-mem = Local.mem-whole 𝓤 H A W (Declared'.row Set.the-type);
-  of-mem =
-      Local.whole-mem 𝓤 H A W (Declared'.row Set.the-type);
+  in-mem =
+      Local.mem-whole 𝓤 H A W (Declared'.row Set.the-type);
+  of-mem = Local.whole-mem 𝓤 H A W (Declared'.row Set.the-type);
 }
 
 abbrev pub ps·5 : List.List (Kinds.PK 3)
@@ -260,19 +271,17 @@ ps·5 = List._∷_ (ShrSlice.pShrS (Referent.rtF (Referent.fInt Syntax.w16)) 0 t
       ty = Declared'.row BitPosition.the-type;
       one = Path'.refl;
       val = Laws'8.val BitPosition.the-type Laws.the-laws;
-      tells = Laws'8.tells BitPosition.the-type
-          Laws.the-laws;
-      still = Laws'8.still BitPosition.the-type Laws.the-copy Exit.yes;
+      tells = Laws'8.tells BitPosition.the-type Laws.the-laws;
+      still = Laws'8.still
+          BitPosition.the-type Laws.the-copy Exit.yes;
       row = Rows.whole (Declared'.row BitPosition.the-type);
       rd = λ x. x;
       mk = λ x. x;
     } λ M 𝓤 H A W. record {
-      copies =
-          Laws'8.copy BitPosition.the-type Laws.the-copy 𝓤 H A W;
+      copies = Laws'8.copy BitPosition.the-type Laws.the-copy 𝓤 H A W;
       lawful = Laws'8.lawful BitPosition.the-type Laws.the-laws 𝓤 H A W;
       makes = Laws'8.makes BitPosition.the-type Laws.the-plain 𝓤 H A;
-      in-mem =
-          Local.mem-whole 𝓤 H A W (Declared'.row BitPosition.the-type);
+      in-mem = Local.mem-whole 𝓤 H A W (Declared'.row BitPosition.the-type);
       of-mem = Local.whole-mem 𝓤 H A W (Declared'.row BitPosition.the-type);
     }) (List._∷_ (MutSlice.pMutS (Referent.rtF (Referent.fInt
     Syntax.w16)) 2 tt) (List._∷_ (Value.pVal record {
@@ -280,38 +289,37 @@ ps·5 = List._∷_ (ShrSlice.pShrS (Referent.rtF (Referent.fInt Syntax.w16)) 0 t
       one = Path'.refl;
       val = Laws'8.val Set.the-type Laws'3.the-laws;
       tells = Laws'8.tells Set.the-type Laws'3.the-laws;
-      still = Laws'8.still Set.the-type Laws'3.the-copy Exit.yes;
+      still = Laws'8.still Set.the-type Laws'3.the-copy
+          Exit.yes;
       row = Rows.whole (Declared'.row Set.the-type);
       rd = λ x. x;
       mk = λ x. x;
     } λ M 𝓤 H A W. record {
-      copies = Laws'8.copy Set.the-type
-          Laws'3.the-copy 𝓤 H A W;
+      copies = Laws'8.copy Set.the-type Laws'3.the-copy 𝓤 H A W;
       lawful = Laws'8.lawful Set.the-type Laws'3.the-laws 𝓤 H A W;
       makes = Laws'8.makes Set.the-type Laws'3.the-plain 𝓤 H A;
-      in-mem = Local.mem-whole 𝓤 H A W (Declared'.row
-          Set.the-type);
+      in-mem =
+          Local.mem-whole 𝓤 H A W (Declared'.row Set.the-type);
       of-mem = Local.whole-mem 𝓤 H A W (Declared'.row Set.the-type);
     }) (List._∷_ (Num.pNum Syntax.w64) (List._∷_ (Value.pVal record {
       ty = Declared'.row Plan.the-type;
       one = Path'.refl;
-      val
-          = Laws'8.val Plan.the-type Laws''.the-laws;
+      val = Laws'8.val Plan.the-type Laws''.the-laws;
       tells = Laws'8.tells Plan.the-type Laws''.the-laws;
-      still = Laws'8.still Plan.the-type Laws''.the-copy Exit.yes;
-      row = Rows.whole (Declared'.row
-          Plan.the-type);
+      still = Laws'8.still Plan.the-type
+          Laws''.the-copy Exit.yes;
+      row = Rows.whole (Declared'.row Plan.the-type);
       rd = λ x. x;
       mk = λ x. x;
     } λ M 𝓤 H A W. record {
       copies = Laws'8.copy Plan.the-type Laws''.the-copy 𝓤 H A W;
       lawful = Laws'8.lawful Plan.the-type Laws''.the-laws 𝓤 H A W;
-      makes =
-          Laws'8.makes Plan.the-type Laws''.the-plain 𝓤 H A;
-      in-mem = Local.mem-whole 𝓤 H A W (Declared'.row Plan.the-type);
+      makes = Laws'8.makes Plan.the-type Laws''.the-plain 𝓤 H A;
+      in-mem =
+          Local.mem-whole 𝓤 H A W (Declared'.row Plan.the-type);
       of-mem = Local.whole-mem 𝓤 H A W (Declared'.row Plan.the-type);
-    }) (List._∷_
-    (Num.pNum Syntax.w32) (List._∷_ (Num.pNum Syntax.w32) (List._∷_ (Num.pNum Syntax.w32) List.[])))))))))))
+    }) (List._∷_ (Num.pNum Syntax.w32) (List._∷_ (Num.pNum Syntax.w32) (List._∷_
+    (Num.pNum Syntax.w32) List.[])))))))))))
 
 abbrev pub r·5 : Kinds.RK 3
 r·5 = Value.rVal record {
@@ -319,18 +327,17 @@ r·5 = Value.rVal record {
   one = Path'.refl;
   val = Laws'8.val PassPut.the-type Laws'5.the-laws;
   tells = Laws'8.tells PassPut.the-type Laws'5.the-laws;
-  still =
-      Laws'8.still PassPut.the-type Laws'5.the-copy Exit.yes;
+  still = Laws'8.still PassPut.the-type
+      Laws'5.the-copy Exit.yes;
   row = Rows.whole (Declared'.row PassPut.the-type);
   rd = λ x. x;
   mk = λ x. x;
 } λ M 𝓤 H A W. record {
-  copies = Laws'8.copy PassPut.the-type
-      Laws'5.the-copy 𝓤 H A W;
+  copies = Laws'8.copy PassPut.the-type Laws'5.the-copy 𝓤 H A W;
   lawful = Laws'8.lawful PassPut.the-type Laws'5.the-laws 𝓤 H A W;
   makes = Laws'8.makes PassPut.the-type Laws'5.the-plain 𝓤 H A;
-  in-mem = Local.mem-whole 𝓤 H A W (Declared'.row
-      PassPut.the-type);
+  in-mem =
+      Local.mem-whole 𝓤 H A W (Declared'.row PassPut.the-type);
   of-mem = Local.whole-mem 𝓤 H A W (Declared'.row PassPut.the-type);
 }
 
@@ -338,19 +345,19 @@ abbrev pub ps·6 : List.List (Kinds.PK 1)
 ps·6 = List._∷_ (MutSlice.pMutS (Element.type) 0 tt) (List._∷_ (Num.pNum Syntax.w64) (List._∷_ (Value.pVal record {
   ty = Declared'.row Set.the-type;
   one = Path'.refl;
-  val = Laws'8.val Set.the-type
-      Laws'3.the-laws;
+  val = Laws'8.val Set.the-type Laws'3.the-laws;
   tells = Laws'8.tells Set.the-type Laws'3.the-laws;
-  still = Laws'8.still Set.the-type Laws'3.the-copy Exit.yes;
+  still = Laws'8.still Set.the-type Laws'3.the-copy
+      Exit.yes;
   row = Rows.whole (Declared'.row Set.the-type);
   rd = λ x. x;
   mk = λ x. x;
 } λ M 𝓤 H A W. record {
   copies = Laws'8.copy Set.the-type Laws'3.the-copy 𝓤 H A W;
   lawful = Laws'8.lawful Set.the-type Laws'3.the-laws 𝓤 H A W;
-  makes = Laws'8.makes Set.the-type Laws'3.the-plain 𝓤 H
-      A;
-  in-mem = Local.mem-whole 𝓤 H A W (Declared'.row Set.the-type);
+  makes = Laws'8.makes Set.the-type Laws'3.the-plain 𝓤 H A;
+  in-mem =
+      Local.mem-whole 𝓤 H A W (Declared'.row Set.the-type);
   of-mem = Local.whole-mem 𝓤 H A W (Declared'.row Set.the-type);
 }) List.[]))
 
@@ -372,7 +379,7 @@ abbrev b1 : Syntax.Body
 b1 = Syntax.assign (Syntax.place 10 List.[]) (Syntax.rvOpd (Syntax.copy (Syntax.place 8 (List._∷_ (Syntax.field 1) List.[]))))
 
 abbrev b2 : Syntax.Body
-b2 = Syntax.call "block::width" (List._∷_ (Syntax.copy (Syntax.place 10 List.[])) List.[]) (Syntax.place 11 List.[])
+b2 = Syntax.call "map::width" (List._∷_ (Syntax.copy (Syntax.place 10 List.[])) List.[]) (Syntax.place 11 List.[])
 
 abbrev b3 : Syntax.Body
 b3 = Syntax.call "quantiser::Quantiser::main" (List._∷_ (Syntax.copy (Syntax.place 9 List.[])) (List._∷_ (Syntax.int Syntax.w32 0) List.[])) (Syntax.place 12 List.[])
@@ -622,2747 +629,489 @@ abbrev pub Claims : Type 1
 Claims = Kinds.In 0 ps·0 × Kinds.Out 0 ps·0 r·0 × Kinds.In 0 ps·1 × Kinds.Out 0 ps·1 r·1 × Kinds.In 0 ps·2 × Kinds.Out 0 ps·2 r·2 × Kinds.In 1 ps·3 × Kinds.Out 1 ps·3 r·3 × Kinds.In 1 ps·4 × Kinds.Out
     1 ps·4 r·4 × Kinds.In 3 ps·5 × Kinds.Out 3 ps·5 r·5 × Kinds.In 1 ps·6 × Kinds.Out 1 ps·6 r·6
 
-abbrev pub t0 : List.List Row.Entry
-t0 = List._∷_ (
+abbrev pub e0 : Row.Entry
+e0 = (
   0,
-  Rows.any-gone (Syntax.tyEnum (List._∷_ 119 (List._∷_ 114 (List._∷_ 105 (List._∷_ 116 (List._∷_ 105 (List._∷_ 110 (List._∷_ 103 (List._∷_ 58 (List._∷_ 58 (List._∷_ 80 (List._∷_ 117
-      (List._∷_ 116 List.[])))))))))))) (Syntax.ttcons (Syntax.tcons (Syntax.tyStruct (List._∷_ 98 (List._∷_ 105 (List._∷_ 116 (List._∷_ 115 (List._∷_ 58 (List._∷_ 58 (List._∷_ 66 (List._∷_ 105 (List._∷_
-      116 (List._∷_ 80 (List._∷_ 111 (List._∷_ 115 (List._∷_ 105 (List._∷_ 116 (List._∷_ 105 (List._∷_ 111 (List._∷_ 110 List.[]))))))))))))))))) (Syntax.tcons (Syntax.tyInt Syntax.w64) Syntax.tnil))
-      Syntax.tnil) (Syntax.ttcons (Syntax.tcons (Syntax.tyInt Syntax.w64) Syntax.tnil) Syntax.ttnil))),
-) (List._∷_ (
-  1,
-  Rows.sslice (Referent.rtF (Referent.fInt Syntax.w16)) (Syntax.tyRef (Syntax.named 0)
-      Syntax.imm (Syntax.tyInt Syntax.w16)) 0,
-) (List._∷_ (2, Rows.sc-here (Row.sInt Syntax.w64)) (List._∷_ (
-  3,
-  Mut.mslice (Referent.rtF (Referent.fInt Syntax.w8)) (Syntax.tyRef (Syntax.named 1)
-      Syntax.mut (Syntax.tyInt Syntax.w8)) 1,
-) (List._∷_ (4, Rows.sc-here Row.sBool) (List._∷_ (5, Rows.whole (Declared'.row BitPosition.the-type)) (List._∷_ (
-  6,
-  Mut.mslice (Referent.rtF (Referent.fInt
-      Syntax.w16)) (Syntax.tyRef (Syntax.named 2) Syntax.mut (Syntax.tyInt Syntax.w16)) 2,
-) (List._∷_ (7, Mut.mslice (Element.type) (Syntax.tyRef (Syntax.named 3) Syntax.mut Element.behind) 3) (List._∷_
-    (8, Rows.whole (Declared'.row Form.the-type)) (List._∷_ (9, Rows.any-gone (Syntax.tyInt Syntax.w32)) (List._∷_ (10, Rows.any-gone Syntax.tyBool) (List._∷_ (
-      11,
-      Rows.any-gone (Syntax.tyInt
-          Syntax.w64),
-    ) (List._∷_ (
-      12,
-      Rows.any-gone (Syntax.tyStruct (List._∷_ 113 (List._∷_ 117 (List._∷_ 97 (List._∷_ 110 (List._∷_ 116 (List._∷_ 105 (List._∷_ 115 (List._∷_ 101 (List._∷_ 114 (List._∷_ 58
-          (List._∷_ 58 (List._∷_ 81 (List._∷_ 117 (List._∷_ 97 (List._∷_ 110 (List._∷_ 116 (List._∷_ 105 (List._∷_ 115 (List._∷_ 101 (List._∷_ 114 List.[])))))))))))))))))))) (Syntax.tcons (Syntax.tyInt
-          Syntax.w32) (Syntax.tcons (Syntax.tyInt Syntax.w32) (Syntax.tcons (Syntax.tyInt Syntax.w32) (Syntax.tcons (Syntax.tyInt Syntax.w32) (Syntax.tcons (Syntax.tyInt Syntax.w32) Syntax.tnil)))))),
-    )
-    (List._∷_ (13, Rows.any-gone (Syntax.tyInt Syntax.w32)) (List._∷_ (14, Rows.any-gone (Syntax.tyInt Syntax.w32)) (List._∷_ (
-      15,
-      Rows.any-gone (Syntax.tyStruct (List._∷_ 98 (List._∷_ 105 (List._∷_
-          116 (List._∷_ 115 (List._∷_ 58 (List._∷_ 58 (List._∷_ 66 (List._∷_ 105 (List._∷_ 116 (List._∷_ 80 (List._∷_ 111 (List._∷_ 115 (List._∷_ 105 (List._∷_ 116 (List._∷_ 105 (List._∷_ 111 (List._∷_ 110
-          List.[]))))))))))))))))) (Syntax.tcons (Syntax.tyInt Syntax.w64) Syntax.tnil)),
-    ) List.[])))))))))))))))
+  Rows.any-gone (Syntax.tyEnum (List._∷_ 119 (List._∷_ 114 (List._∷_ 105 (List._∷_ 116 (List._∷_ 105 (List._∷_ 110 (List._∷_ 103 (List._∷_ 58 (List._∷_ 58 (List._∷_ 80 (List._∷_ 117 (List._∷_ 116
+      List.[])))))))))))) (Syntax.ttcons (Syntax.tcons y6 Syntax.tnil) (Syntax.ttcons (Syntax.tcons (Syntax.tyInt Syntax.w64) Syntax.tnil) Syntax.ttnil))),
+)
+
+abbrev pub e1 : Row.Entry
+e1 = (0, Rows.whole (Declared.row Put.the-type))
+
+abbrev pub e2 : Row.Entry
+e2 = (1, Rows.sslice (Referent.rtF (Referent.fInt Syntax.w16)) (Syntax.tyRef (Syntax.named 0) Syntax.imm (Syntax.tyInt Syntax.w16)) 0)
+
+abbrev pub e3 : Row.Entry
+e3 = (10, Rows.any-gone Syntax.tyBool)
+
+abbrev pub e4 : Row.Entry
+e4 = (10, Rows.sc-here Row.sBool)
+
+abbrev pub e5 : Row.Entry
+e5 = (11, Rows.any-gone (Syntax.tyInt Syntax.w64))
+
+abbrev pub e6 : Row.Entry
+e6 = (11, Rows.sc-here (Row.sInt Syntax.w64))
+
+abbrev pub e7 : Row.Entry
+e7 = (12, Rows.any-gone y2)
+
+abbrev pub e8 : Row.Entry
+e8 = (12, Rows.whole (Declared'.row Quantiser.the-type))
+
+abbrev pub e9 : Row.Entry
+e9 = (13, Rows.any-gone (Syntax.tyInt Syntax.w32))
+
+abbrev pub e10 : Row.Entry
+e10 = (13, Rows.sc-here (Row.sInt Syntax.w32))
+
+abbrev pub e11 : Row.Entry
+e11 = (14, Rows.any-gone (Syntax.tyInt Syntax.w32))
+
+abbrev pub e12 : Row.Entry
+e12 = (14, Rows.sc-here (Row.sInt Syntax.w32))
+
+abbrev pub e13 : Row.Entry
+e13 = (15, Rows.any-gone y6)
+
+abbrev pub e14 : Row.Entry
+e14 = (15, Rows.whole (Declared'.row BitPosition.the-type))
+
+abbrev pub e15 : Row.Entry
+e15 = (16, Rows.any-gone (Syntax.tyInt Syntax.w64))
+
+abbrev pub e16 : Row.Entry
+e16 = (16, Rows.sc-here (Row.sInt Syntax.w64))
+
+abbrev pub e17 : Row.Entry
+e17 = (17, Rows.any-gone y0)
+
+abbrev pub e18 : Row.Entry
+e18 = (17, Rows.whole (Declared'.row Plan.the-type))
+
+abbrev pub e19 : Row.Entry
+e19 = (18, Rows.any-gone y1)
+
+abbrev pub e20 : Row.Entry
+e20 = (18, Rows.whole (Declared'.row Set.the-type))
+
+abbrev pub e21 : Row.Entry
+e21 = (19, Rows.any-gone y8)
+
+abbrev pub e22 : Row.Entry
+e22 = (19, Rows.whole (Declared'.row PassPut.the-type))
+
+abbrev pub e23 : Row.Entry
+e23 = (2, Rows.any-gone (Syntax.tyInt Syntax.w64))
+
+abbrev pub e24 : Row.Entry
+e24 = (2, Rows.sc-here (Row.sInt Syntax.w64))
+
+abbrev pub e25 : Row.Entry
+e25 = (20, Rows.any-gone Syntax.tyBool)
+
+abbrev pub e26 : Row.Entry
+e26 = (20, Rows.sc-here Row.sBool)
+
+abbrev pub e27 : Row.Entry
+e27 = (21, Rows.any-gone y1)
+
+abbrev pub e28 : Row.Entry
+e28 = (21, Rows.whole (Declared'.row Set.the-type))
+
+abbrev pub e29 : Row.Entry
+e29 = (22, Rows.any-gone Syntax.tyBool)
+
+abbrev pub e30 : Row.Entry
+e30 = (22, Rows.sc-here Row.sBool)
+
+abbrev pub e31 : Row.Entry
+e31 = (23, Rows.any-gone Syntax.tyUnit)
+
+abbrev pub e32 : Row.Entry
+e32 = (23, Rows.sc-here Row.sUnit)
+
+abbrev pub e33 : Row.Entry
+e33 = (24, Rows.any-gone (Syntax.tyRef Syntax.erased Syntax.mut (Syntax.tyInt Syntax.w16)))
+
+abbrev pub e34 : Row.Entry
+e34 = (25, Mut.msleft (Referent.rtF (Referent.fInt Syntax.w16)) (Syntax.tyRef Syntax.erased Syntax.mut (Syntax.tyInt Syntax.w16)))
+
+abbrev pub e35 : Row.Entry
+e35 = (25, Rows.any-gone y3)
+
+abbrev pub e36 : Row.Entry
+e36 = (26, Rows.any-gone (Syntax.tyRef Syntax.erased Syntax.mut (Syntax.tyInt Syntax.w16)))
+
+abbrev pub e37 : Row.Entry
+e37 = (27, Mut.msleft (Referent.rtF (Referent.fInt Syntax.w16)) (Syntax.tyRef Syntax.erased Syntax.mut (Syntax.tyInt Syntax.w16)))
+
+abbrev pub e38 : Row.Entry
+e38 = (27, Rows.any-gone y3)
+
+abbrev pub e39 : Row.Entry
+e39 = (28, Rows.any-gone (Syntax.tyRef Syntax.erased Syntax.mut Element.behind))
+
+abbrev pub e40 : Row.Entry
+e40 = (29, Rows.any-gone y5)
+
+abbrev pub e41 : Row.Entry
+e41 = (3, Mut.mslice (Referent.rtF (Referent.fInt Syntax.w8)) (Syntax.tyRef (Syntax.named 1) Syntax.mut (Syntax.tyInt Syntax.w8)) 1)
+
+abbrev pub e42 : Row.Entry
+e42 = (3, Relend.mslice-owed (Referent.rtF (Referent.fInt Syntax.w8)) (Syntax.tyRef (Syntax.named 1) Syntax.mut (Syntax.tyInt Syntax.w8)) 1 7 Row.off)
+
+abbrev pub e43 : Row.Entry
+e43 = (30, Rows.any-gone (Syntax.tyRef Syntax.erased Syntax.mut (Syntax.tyInt Syntax.w8)))
+
+abbrev pub e44 : Row.Entry
+e44 = (31, Mut.msleft (Referent.rtF (Referent.fInt Syntax.w8)) (Syntax.tyRef Syntax.erased Syntax.mut (Syntax.tyInt Syntax.w8)))
+
+abbrev pub e45 : Row.Entry
+e45 = (31, Rows.any-gone y4)
+
+abbrev pub e46 : Row.Entry
+e46 = (32, Rows.any-gone (Syntax.tyRef Syntax.erased Syntax.mut (Syntax.tyInt Syntax.w16)))
+
+abbrev pub e47 : Row.Entry
+e47 = (33, Rows.any-gone y3)
+
+abbrev pub e48 : Row.Entry
+e48 = (34, Rows.any-gone (Syntax.tyRef Syntax.erased Syntax.mut Element.behind))
+
+abbrev pub e49 : Row.Entry
+e49 = (35, Rows.any-gone y5)
+
+abbrev pub e50 : Row.Entry
+e50 = (4, Rows.any-gone Syntax.tyBool)
+
+abbrev pub e51 : Row.Entry
+e51 = (4, Rows.sc-here Row.sBool)
+
+abbrev pub e52 : Row.Entry
+e52 = (5, Rows.any-gone y6)
+
+abbrev pub e53 : Row.Entry
+e53 = (5, Rows.whole (Declared'.row BitPosition.the-type))
+
+abbrev pub e54 : Row.Entry
+e54 = (6, Mut.mslice (Referent.rtF (Referent.fInt Syntax.w16)) (Syntax.tyRef (Syntax.named 2) Syntax.mut (Syntax.tyInt Syntax.w16)) 2)
+
+abbrev pub e55 : Row.Entry
+e55 = (6, Relend.mslice-owed (Referent.rtF (Referent.fInt Syntax.w16)) (Syntax.tyRef (Syntax.named 2) Syntax.mut (Syntax.tyInt Syntax.w16)) 2 8 Row.off)
+
+abbrev pub e56 : Row.Entry
+e56 = (7, Mut.mslice (Element.type) (Syntax.tyRef (Syntax.named 3) Syntax.mut Element.behind) 3)
+
+abbrev pub e57 : Row.Entry
+e57 = (8, Rows.any-gone y7)
+
+abbrev pub e58 : Row.Entry
+e58 = (8, Rows.whole (Declared'.row Form.the-type))
+
+abbrev pub e59 : Row.Entry
+e59 = (9, Rows.any-gone (Syntax.tyInt Syntax.w32))
+
+abbrev pub e60 : Row.Entry
+e60 = (9, Rows.sc-here (Row.sInt Syntax.w32))
+
+abbrev pub t0 : List.List Row.Entry
+t0 = List._∷_ e0 (List._∷_ e2 (List._∷_ e24 (List._∷_ e41 (List._∷_ e51 (List._∷_ e53 (List._∷_ e54 (List._∷_ e56 (List._∷_ e58 (List._∷_ e59 (List._∷_ e3 (List._∷_ e5 (List._∷_ e7 (List._∷_ e9
+    (List._∷_ e11 (List._∷_ e13 List.[])))))))))))))))
 
 abbrev pub t1 : List.List Row.Entry
-t1 = List._∷_ (16, Rows.any-gone (Syntax.tyInt Syntax.w64)) (List._∷_ (
-  17,
-  Rows.any-gone (Syntax.tyStruct (List._∷_ 112 (List._∷_ 97 (List._∷_ 115 (List._∷_ 115 (List._∷_ 58 (List._∷_ 58 (List._∷_ 80
-      (List._∷_ 108 (List._∷_ 97 (List._∷_ 110 List.[])))))))))) (Syntax.tcons (Syntax.tyInt Syntax.w64) (Syntax.tcons (Syntax.tyInt Syntax.w64) (Syntax.tcons (Syntax.tyInt Syntax.w64) (Syntax.tcons
-      (Syntax.tyInt Syntax.w32) (Syntax.tcons (Syntax.tyInt Syntax.w32) Syntax.tnil)))))),
-) (List._∷_ (
-  18,
-  Rows.any-gone (Syntax.tyStruct (List._∷_ 112 (List._∷_ 97 (List._∷_ 115 (List._∷_ 115 (List._∷_
-      58 (List._∷_ 58 (List._∷_ 83 (List._∷_ 101 (List._∷_ 116 List.[]))))))))) (Syntax.tcons (Syntax.tyArray (Syntax.tyInt Syntax.w32) 112) (Syntax.tcons (Syntax.tyArray (Syntax.tyInt Syntax.w32) 112)
-      Syntax.tnil))),
-) (List._∷_ (
-  19,
-  Rows.any-gone (Syntax.tyStruct (List._∷_ 119 (List._∷_ 114 (List._∷_ 105 (List._∷_ 116 (List._∷_ 105 (List._∷_ 110 (List._∷_ 103 (List._∷_ 58 (List._∷_ 58 (List._∷_
-      80 (List._∷_ 97 (List._∷_ 115 (List._∷_ 115 (List._∷_ 80 (List._∷_ 117 (List._∷_ 116 List.[])))))))))))))))) (Syntax.tcons Syntax.tyBool (Syntax.tcons (Syntax.tyInt Syntax.w64) (Syntax.tcons
-      (Syntax.tyStruct (List._∷_ 98 (List._∷_ 105 (List._∷_ 116 (List._∷_ 115 (List._∷_ 58 (List._∷_ 58 (List._∷_ 66 (List._∷_ 105 (List._∷_ 116 (List._∷_ 80 (List._∷_ 111 (List._∷_ 115 (List._∷_ 105
-      (List._∷_ 116 (List._∷_ 105 (List._∷_ 111 (List._∷_ 110 List.[]))))))))))))))))) (Syntax.tcons (Syntax.tyInt Syntax.w64) Syntax.tnil)) (Syntax.tcons (Syntax.tyStruct (List._∷_ 112 (List._∷_ 97
-      (List._∷_ 115 (List._∷_ 115 (List._∷_ 58 (List._∷_ 58 (List._∷_ 83 (List._∷_ 101 (List._∷_ 116 List.[]))))))))) (Syntax.tcons (Syntax.tyArray (Syntax.tyInt Syntax.w32) 112) (Syntax.tcons
-      (Syntax.tyArray (Syntax.tyInt Syntax.w32) 112) Syntax.tnil))) Syntax.tnil))))),
-) (List._∷_ (20, Rows.any-gone Syntax.tyBool) (List._∷_ (
-  21,
-  Rows.any-gone (Syntax.tyStruct (List._∷_ 112 (List._∷_ 97
-      (List._∷_ 115 (List._∷_ 115 (List._∷_ 58 (List._∷_ 58 (List._∷_ 83 (List._∷_ 101 (List._∷_ 116 List.[]))))))))) (Syntax.tcons (Syntax.tyArray (Syntax.tyInt Syntax.w32) 112) (Syntax.tcons
-      (Syntax.tyArray (Syntax.tyInt Syntax.w32) 112) Syntax.tnil))),
-) (List._∷_ (22, Rows.any-gone Syntax.tyBool) (List._∷_ (23, Rows.any-gone Syntax.tyUnit) (List._∷_ (
-  24,
-  Rows.any-gone (Syntax.tyRef
-      Syntax.erased Syntax.mut (Syntax.tyInt Syntax.w16)),
-) (List._∷_ (
-  25,
-  Rows.any-gone (Syntax.tyStruct (List._∷_ 38 (List._∷_ 91 (List._∷_ 93 List.[]))) (Syntax.tcons (Syntax.tyRef Syntax.erased
-      Syntax.mut (Syntax.tyInt Syntax.w16)) (Syntax.tcons (Syntax.tyInt Syntax.w64) Syntax.tnil))),
-) (List._∷_ (26, Rows.any-gone (Syntax.tyRef Syntax.erased Syntax.mut (Syntax.tyInt Syntax.w16)))
-    (List._∷_ (
-      27,
-      Rows.any-gone (Syntax.tyStruct (List._∷_ 38 (List._∷_ 91 (List._∷_ 93 List.[]))) (Syntax.tcons (Syntax.tyRef Syntax.erased Syntax.mut (Syntax.tyInt Syntax.w16)) (Syntax.tcons
-          (Syntax.tyInt Syntax.w64) Syntax.tnil))),
-    ) (List._∷_ (28, Rows.any-gone (Syntax.tyRef Syntax.erased Syntax.mut Element.behind)) (List._∷_ (
-      29,
-      Rows.any-gone (Syntax.tyStruct (List._∷_ 38
-          (List._∷_ 91 (List._∷_ 93 List.[]))) (Syntax.tcons (Syntax.tyRef Syntax.erased Syntax.mut Element.behind) (Syntax.tcons (Syntax.tyInt Syntax.w64) Syntax.tnil))),
-    ) (List._∷_ (
-      30,
-      Rows.any-gone
-          (Syntax.tyRef Syntax.erased Syntax.mut (Syntax.tyInt Syntax.w8)),
-    ) (List._∷_ (
-      31,
-      Rows.any-gone (Syntax.tyStruct (List._∷_ 38 (List._∷_ 91 (List._∷_ 93 List.[]))) (Syntax.tcons (Syntax.tyRef
-          Syntax.erased Syntax.mut (Syntax.tyInt Syntax.w8)) (Syntax.tcons (Syntax.tyInt Syntax.w64) Syntax.tnil))),
-    ) List.[])))))))))))))))
+t1 = List._∷_ e15 (List._∷_ e17 (List._∷_ e19 (List._∷_ e21 (List._∷_ e25 (List._∷_ e27 (List._∷_ e29 (List._∷_ e31 (List._∷_ e33 (List._∷_ e35 (List._∷_ e36 (List._∷_ e38 (List._∷_ e39 (List._∷_ e40
+    (List._∷_ e43 (List._∷_ e45 List.[])))))))))))))))
 
 abbrev pub t2 : List.List Row.Entry
-t2 = List._∷_ (32, Rows.any-gone (Syntax.tyRef Syntax.erased Syntax.mut (Syntax.tyInt Syntax.w16))) (List._∷_ (
-  33,
-  Rows.any-gone (Syntax.tyStruct (List._∷_ 38 (List._∷_ 91 (List._∷_ 93 List.[])))
-      (Syntax.tcons (Syntax.tyRef Syntax.erased Syntax.mut (Syntax.tyInt Syntax.w16)) (Syntax.tcons (Syntax.tyInt Syntax.w64) Syntax.tnil))),
-) (List._∷_ (
-  34,
-  Rows.any-gone (Syntax.tyRef Syntax.erased
-      Syntax.mut Element.behind),
-) (List._∷_ (
-  35,
-  Rows.any-gone (Syntax.tyStruct (List._∷_ 38 (List._∷_ 91 (List._∷_ 93 List.[]))) (Syntax.tcons (Syntax.tyRef Syntax.erased Syntax.mut Element.behind)
-      (Syntax.tcons (Syntax.tyInt Syntax.w64) Syntax.tnil))),
-) List.[])))
+t2 = List._∷_ e46 (List._∷_ e47 (List._∷_ e48 (List._∷_ e49 List.[])))
 
 abbrev pub t3 : List.List Row.Entry
-t3 = List._∷_ (0, Rows.whole (Declared.row Put.the-type)) (List._∷_ (1, Rows.sslice (Referent.rtF (Referent.fInt Syntax.w16)) (Syntax.tyRef (Syntax.named 0) Syntax.imm (Syntax.tyInt Syntax.w16)) 0)
-    (List._∷_ (2, Rows.any-gone (Syntax.tyInt Syntax.w64)) (List._∷_ (3, Mut.mslice (Referent.rtF (Referent.fInt Syntax.w8)) (Syntax.tyRef (Syntax.named 1) Syntax.mut (Syntax.tyInt Syntax.w8)) 1)
-    (List._∷_ (4, Rows.any-gone Syntax.tyBool) (List._∷_ (
-      5,
-      Rows.any-gone (Syntax.tyStruct (List._∷_ 98 (List._∷_ 105 (List._∷_ 116 (List._∷_ 115 (List._∷_ 58 (List._∷_ 58 (List._∷_ 66 (List._∷_ 105
-          (List._∷_ 116 (List._∷_ 80 (List._∷_ 111 (List._∷_ 115 (List._∷_ 105 (List._∷_ 116 (List._∷_ 105 (List._∷_ 111 (List._∷_ 110 List.[]))))))))))))))))) (Syntax.tcons (Syntax.tyInt Syntax.w64)
-          Syntax.tnil)),
-    ) (List._∷_ (6, Mut.mslice (Referent.rtF (Referent.fInt Syntax.w16)) (Syntax.tyRef (Syntax.named 2) Syntax.mut (Syntax.tyInt Syntax.w16)) 2) (List._∷_ (
-      7,
-      Mut.mslice (Element.type)
-          (Syntax.tyRef (Syntax.named 3) Syntax.mut Element.behind) 3,
-    ) (List._∷_ (
-      8,
-      Rows.any-gone (Syntax.tyStruct (List._∷_ 98 (List._∷_ 108 (List._∷_ 111 (List._∷_ 99 (List._∷_ 107 (List._∷_ 58 (List._∷_
-          58 (List._∷_ 70 (List._∷_ 111 (List._∷_ 114 (List._∷_ 109 List.[]))))))))))) (Syntax.tcons (Syntax.tyInt Syntax.w32) (Syntax.tcons Syntax.tyBool Syntax.tnil))),
-    ) (List._∷_ (
-      9,
-      Rows.any-gone
-          (Syntax.tyInt Syntax.w32),
-    ) (List._∷_ (10, Rows.any-gone Syntax.tyBool) (List._∷_ (11, Rows.any-gone (Syntax.tyInt Syntax.w64)) (List._∷_ (
-      12,
-      Rows.any-gone (Syntax.tyStruct (List._∷_ 113 (List._∷_
-          117 (List._∷_ 97 (List._∷_ 110 (List._∷_ 116 (List._∷_ 105 (List._∷_ 115 (List._∷_ 101 (List._∷_ 114 (List._∷_ 58 (List._∷_ 58 (List._∷_ 81 (List._∷_ 117 (List._∷_ 97 (List._∷_ 110 (List._∷_ 116
-          (List._∷_ 105 (List._∷_ 115 (List._∷_ 101 (List._∷_ 114 List.[])))))))))))))))))))) (Syntax.tcons (Syntax.tyInt Syntax.w32) (Syntax.tcons (Syntax.tyInt Syntax.w32) (Syntax.tcons (Syntax.tyInt
-          Syntax.w32) (Syntax.tcons (Syntax.tyInt Syntax.w32) (Syntax.tcons (Syntax.tyInt Syntax.w32) Syntax.tnil)))))),
-    ) (List._∷_ (13, Rows.any-gone (Syntax.tyInt Syntax.w32)) (List._∷_ (
-      14,
-      Rows.any-gone
-          (Syntax.tyInt Syntax.w32),
-    ) (List._∷_ (
-      15,
-      Rows.any-gone (Syntax.tyStruct (List._∷_ 98 (List._∷_ 105 (List._∷_ 116 (List._∷_ 115 (List._∷_ 58 (List._∷_ 58 (List._∷_ 66 (List._∷_ 105 (List._∷_ 116
-          (List._∷_ 80 (List._∷_ 111 (List._∷_ 115 (List._∷_ 105 (List._∷_ 116 (List._∷_ 105 (List._∷_ 111 (List._∷_ 110 List.[]))))))))))))))))) (Syntax.tcons (Syntax.tyInt Syntax.w64) Syntax.tnil)),
-    )
-    List.[])))))))))))))))
+t3 = List._∷_ e1 (List._∷_ e2 (List._∷_ e23 (List._∷_ e41 (List._∷_ e50 (List._∷_ e52 (List._∷_ e54 (List._∷_ e56 (List._∷_ e57 (List._∷_ e59 (List._∷_ e3 (List._∷_ e5 (List._∷_ e7 (List._∷_ e9
+    (List._∷_ e11 (List._∷_ e13 List.[])))))))))))))))
 
 abbrev pub t4 : List.List Row.Entry
-t4 = List._∷_ (
-  0,
-  Rows.any-gone (Syntax.tyEnum (List._∷_ 119 (List._∷_ 114 (List._∷_ 105 (List._∷_ 116 (List._∷_ 105 (List._∷_ 110 (List._∷_ 103 (List._∷_ 58 (List._∷_ 58 (List._∷_ 80 (List._∷_ 117
-      (List._∷_ 116 List.[])))))))))))) (Syntax.ttcons (Syntax.tcons (Syntax.tyStruct (List._∷_ 98 (List._∷_ 105 (List._∷_ 116 (List._∷_ 115 (List._∷_ 58 (List._∷_ 58 (List._∷_ 66 (List._∷_ 105 (List._∷_
-      116 (List._∷_ 80 (List._∷_ 111 (List._∷_ 115 (List._∷_ 105 (List._∷_ 116 (List._∷_ 105 (List._∷_ 111 (List._∷_ 110 List.[]))))))))))))))))) (Syntax.tcons (Syntax.tyInt Syntax.w64) Syntax.tnil))
-      Syntax.tnil) (Syntax.ttcons (Syntax.tcons (Syntax.tyInt Syntax.w64) Syntax.tnil) Syntax.ttnil))),
-) (List._∷_ (
-  1,
-  Rows.sslice (Referent.rtF (Referent.fInt Syntax.w16)) (Syntax.tyRef (Syntax.named 0)
-      Syntax.imm (Syntax.tyInt Syntax.w16)) 0,
-) (List._∷_ (2, Rows.sc-here (Row.sInt Syntax.w64)) (List._∷_ (
-  3,
-  Mut.mslice (Referent.rtF (Referent.fInt Syntax.w8)) (Syntax.tyRef (Syntax.named 1)
-      Syntax.mut (Syntax.tyInt Syntax.w8)) 1,
-) (List._∷_ (4, Rows.sc-here Row.sBool) (List._∷_ (5, Rows.whole (Declared'.row BitPosition.the-type)) (List._∷_ (
-  6,
-  Mut.mslice (Referent.rtF (Referent.fInt
-      Syntax.w16)) (Syntax.tyRef (Syntax.named 2) Syntax.mut (Syntax.tyInt Syntax.w16)) 2,
-) (List._∷_ (7, Mut.mslice (Element.type) (Syntax.tyRef (Syntax.named 3) Syntax.mut Element.behind) 3) (List._∷_
-    (8, Rows.whole (Declared'.row Form.the-type)) (List._∷_ (9, Rows.sc-here (Row.sInt Syntax.w32)) (List._∷_ (10, Rows.any-gone Syntax.tyBool) (List._∷_ (
-      11,
-      Rows.any-gone (Syntax.tyInt Syntax.w64),
-    ) (List._∷_ (
-      12,
-      Rows.any-gone (Syntax.tyStruct (List._∷_ 113 (List._∷_ 117 (List._∷_ 97 (List._∷_ 110 (List._∷_ 116 (List._∷_ 105 (List._∷_ 115 (List._∷_ 101 (List._∷_ 114 (List._∷_ 58 (List._∷_ 58
-          (List._∷_ 81 (List._∷_ 117 (List._∷_ 97 (List._∷_ 110 (List._∷_ 116 (List._∷_ 105 (List._∷_ 115 (List._∷_ 101 (List._∷_ 114 List.[])))))))))))))))))))) (Syntax.tcons (Syntax.tyInt Syntax.w32)
-          (Syntax.tcons (Syntax.tyInt Syntax.w32) (Syntax.tcons (Syntax.tyInt Syntax.w32) (Syntax.tcons (Syntax.tyInt Syntax.w32) (Syntax.tcons (Syntax.tyInt Syntax.w32) Syntax.tnil)))))),
-    ) (List._∷_ (
-      13,
-      Rows.any-gone (Syntax.tyInt Syntax.w32),
-    ) (List._∷_ (14, Rows.any-gone (Syntax.tyInt Syntax.w32)) (List._∷_ (
-      15,
-      Rows.any-gone (Syntax.tyStruct (List._∷_ 98 (List._∷_ 105 (List._∷_ 116 (List._∷_
-          115 (List._∷_ 58 (List._∷_ 58 (List._∷_ 66 (List._∷_ 105 (List._∷_ 116 (List._∷_ 80 (List._∷_ 111 (List._∷_ 115 (List._∷_ 105 (List._∷_ 116 (List._∷_ 105 (List._∷_ 111 (List._∷_ 110
-          List.[]))))))))))))))))) (Syntax.tcons (Syntax.tyInt Syntax.w64) Syntax.tnil)),
-    ) List.[])))))))))))))))
+t4 = List._∷_ e0 (List._∷_ e2 (List._∷_ e24 (List._∷_ e41 (List._∷_ e51 (List._∷_ e53 (List._∷_ e54 (List._∷_ e56 (List._∷_ e58 (List._∷_ e60 (List._∷_ e3 (List._∷_ e5 (List._∷_ e7 (List._∷_ e9
+    (List._∷_ e11 (List._∷_ e13 List.[])))))))))))))))
 
 abbrev pub t5 : List.List Row.Entry
-t5 = List._∷_ (
-  0,
-  Rows.any-gone (Syntax.tyEnum (List._∷_ 119 (List._∷_ 114 (List._∷_ 105 (List._∷_ 116 (List._∷_ 105 (List._∷_ 110 (List._∷_ 103 (List._∷_ 58 (List._∷_ 58 (List._∷_ 80 (List._∷_ 117
-      (List._∷_ 116 List.[])))))))))))) (Syntax.ttcons (Syntax.tcons (Syntax.tyStruct (List._∷_ 98 (List._∷_ 105 (List._∷_ 116 (List._∷_ 115 (List._∷_ 58 (List._∷_ 58 (List._∷_ 66 (List._∷_ 105 (List._∷_
-      116 (List._∷_ 80 (List._∷_ 111 (List._∷_ 115 (List._∷_ 105 (List._∷_ 116 (List._∷_ 105 (List._∷_ 111 (List._∷_ 110 List.[]))))))))))))))))) (Syntax.tcons (Syntax.tyInt Syntax.w64) Syntax.tnil))
-      Syntax.tnil) (Syntax.ttcons (Syntax.tcons (Syntax.tyInt Syntax.w64) Syntax.tnil) Syntax.ttnil))),
-) (List._∷_ (
-  1,
-  Rows.sslice (Referent.rtF (Referent.fInt Syntax.w16)) (Syntax.tyRef (Syntax.named 0)
-      Syntax.imm (Syntax.tyInt Syntax.w16)) 0,
-) (List._∷_ (2, Rows.sc-here (Row.sInt Syntax.w64)) (List._∷_ (
-  3,
-  Mut.mslice (Referent.rtF (Referent.fInt Syntax.w8)) (Syntax.tyRef (Syntax.named 1)
-      Syntax.mut (Syntax.tyInt Syntax.w8)) 1,
-) (List._∷_ (4, Rows.sc-here Row.sBool) (List._∷_ (5, Rows.whole (Declared'.row BitPosition.the-type)) (List._∷_ (
-  6,
-  Mut.mslice (Referent.rtF (Referent.fInt
-      Syntax.w16)) (Syntax.tyRef (Syntax.named 2) Syntax.mut (Syntax.tyInt Syntax.w16)) 2,
-) (List._∷_ (7, Mut.mslice (Element.type) (Syntax.tyRef (Syntax.named 3) Syntax.mut Element.behind) 3) (List._∷_
-    (8, Rows.whole (Declared'.row Form.the-type)) (List._∷_ (9, Rows.sc-here (Row.sInt Syntax.w32)) (List._∷_ (10, Rows.sc-here Row.sBool) (List._∷_ (11, Rows.any-gone (Syntax.tyInt Syntax.w64))
-    (List._∷_ (
-      12,
-      Rows.any-gone (Syntax.tyStruct (List._∷_ 113 (List._∷_ 117 (List._∷_ 97 (List._∷_ 110 (List._∷_ 116 (List._∷_ 105 (List._∷_ 115 (List._∷_ 101 (List._∷_ 114 (List._∷_ 58 (List._∷_ 58
-          (List._∷_ 81 (List._∷_ 117 (List._∷_ 97 (List._∷_ 110 (List._∷_ 116 (List._∷_ 105 (List._∷_ 115 (List._∷_ 101 (List._∷_ 114 List.[])))))))))))))))))))) (Syntax.tcons (Syntax.tyInt Syntax.w32)
-          (Syntax.tcons (Syntax.tyInt Syntax.w32) (Syntax.tcons (Syntax.tyInt Syntax.w32) (Syntax.tcons (Syntax.tyInt Syntax.w32) (Syntax.tcons (Syntax.tyInt Syntax.w32) Syntax.tnil)))))),
-    ) (List._∷_ (
-      13,
-      Rows.any-gone (Syntax.tyInt Syntax.w32),
-    ) (List._∷_ (14, Rows.any-gone (Syntax.tyInt Syntax.w32)) (List._∷_ (
-      15,
-      Rows.any-gone (Syntax.tyStruct (List._∷_ 98 (List._∷_ 105 (List._∷_ 116 (List._∷_
-          115 (List._∷_ 58 (List._∷_ 58 (List._∷_ 66 (List._∷_ 105 (List._∷_ 116 (List._∷_ 80 (List._∷_ 111 (List._∷_ 115 (List._∷_ 105 (List._∷_ 116 (List._∷_ 105 (List._∷_ 111 (List._∷_ 110
-          List.[]))))))))))))))))) (Syntax.tcons (Syntax.tyInt Syntax.w64) Syntax.tnil)),
-    ) List.[])))))))))))))))
+t5 = List._∷_ e0 (List._∷_ e2 (List._∷_ e24 (List._∷_ e41 (List._∷_ e51 (List._∷_ e53 (List._∷_ e54 (List._∷_ e56 (List._∷_ e58 (List._∷_ e60 (List._∷_ e4 (List._∷_ e5 (List._∷_ e7 (List._∷_ e9
+    (List._∷_ e11 (List._∷_ e13 List.[])))))))))))))))
 
 abbrev pub t6 : List.List Row.Entry
-t6 = List._∷_ (
-  0,
-  Rows.any-gone (Syntax.tyEnum (List._∷_ 119 (List._∷_ 114 (List._∷_ 105 (List._∷_ 116 (List._∷_ 105 (List._∷_ 110 (List._∷_ 103 (List._∷_ 58 (List._∷_ 58 (List._∷_ 80 (List._∷_ 117
-      (List._∷_ 116 List.[])))))))))))) (Syntax.ttcons (Syntax.tcons (Syntax.tyStruct (List._∷_ 98 (List._∷_ 105 (List._∷_ 116 (List._∷_ 115 (List._∷_ 58 (List._∷_ 58 (List._∷_ 66 (List._∷_ 105 (List._∷_
-      116 (List._∷_ 80 (List._∷_ 111 (List._∷_ 115 (List._∷_ 105 (List._∷_ 116 (List._∷_ 105 (List._∷_ 111 (List._∷_ 110 List.[]))))))))))))))))) (Syntax.tcons (Syntax.tyInt Syntax.w64) Syntax.tnil))
-      Syntax.tnil) (Syntax.ttcons (Syntax.tcons (Syntax.tyInt Syntax.w64) Syntax.tnil) Syntax.ttnil))),
-) (List._∷_ (
-  1,
-  Rows.sslice (Referent.rtF (Referent.fInt Syntax.w16)) (Syntax.tyRef (Syntax.named 0)
-      Syntax.imm (Syntax.tyInt Syntax.w16)) 0,
-) (List._∷_ (2, Rows.sc-here (Row.sInt Syntax.w64)) (List._∷_ (
-  3,
-  Mut.mslice (Referent.rtF (Referent.fInt Syntax.w8)) (Syntax.tyRef (Syntax.named 1)
-      Syntax.mut (Syntax.tyInt Syntax.w8)) 1,
-) (List._∷_ (4, Rows.sc-here Row.sBool) (List._∷_ (5, Rows.whole (Declared'.row BitPosition.the-type)) (List._∷_ (
-  6,
-  Mut.mslice (Referent.rtF (Referent.fInt
-      Syntax.w16)) (Syntax.tyRef (Syntax.named 2) Syntax.mut (Syntax.tyInt Syntax.w16)) 2,
-) (List._∷_ (7, Mut.mslice (Element.type) (Syntax.tyRef (Syntax.named 3) Syntax.mut Element.behind) 3) (List._∷_ (
-  8,
-  Rows.any-gone (Syntax.tyStruct (List._∷_ 98 (List._∷_ 108 (List._∷_ 111 (List._∷_ 99 (List._∷_ 107 (List._∷_ 58 (List._∷_ 58 (List._∷_ 70 (List._∷_ 111 (List._∷_ 114 (List._∷_ 109
-      List.[]))))))))))) (Syntax.tcons (Syntax.tyInt Syntax.w32) (Syntax.tcons Syntax.tyBool Syntax.tnil))),
-) (List._∷_ (9, Rows.sc-here (Row.sInt Syntax.w32)) (List._∷_ (10, Rows.sc-here Row.sBool)
-    (List._∷_ (11, Rows.any-gone (Syntax.tyInt Syntax.w64)) (List._∷_ (
-      12,
-      Rows.any-gone (Syntax.tyStruct (List._∷_ 113 (List._∷_ 117 (List._∷_ 97 (List._∷_ 110 (List._∷_ 116 (List._∷_ 105 (List._∷_
-          115 (List._∷_ 101 (List._∷_ 114 (List._∷_ 58 (List._∷_ 58 (List._∷_ 81 (List._∷_ 117 (List._∷_ 97 (List._∷_ 110 (List._∷_ 116 (List._∷_ 105 (List._∷_ 115 (List._∷_ 101 (List._∷_ 114
-          List.[])))))))))))))))))))) (Syntax.tcons (Syntax.tyInt Syntax.w32) (Syntax.tcons (Syntax.tyInt Syntax.w32) (Syntax.tcons (Syntax.tyInt Syntax.w32) (Syntax.tcons (Syntax.tyInt Syntax.w32)
-          (Syntax.tcons (Syntax.tyInt Syntax.w32) Syntax.tnil)))))),
-    ) (List._∷_ (13, Rows.any-gone (Syntax.tyInt Syntax.w32)) (List._∷_ (14, Rows.any-gone (Syntax.tyInt Syntax.w32)) (List._∷_ (
-      15,
-      Rows.any-gone (Syntax.tyStruct (List._∷_ 98 (List._∷_ 105 (List._∷_ 116 (List._∷_ 115 (List._∷_ 58 (List._∷_ 58 (List._∷_ 66 (List._∷_ 105 (List._∷_ 116 (List._∷_ 80 (List._∷_ 111 (List._∷_ 115
-          (List._∷_ 105 (List._∷_ 116 (List._∷_ 105 (List._∷_ 111 (List._∷_ 110 List.[]))))))))))))))))) (Syntax.tcons (Syntax.tyInt Syntax.w64) Syntax.tnil)),
-    ) List.[])))))))))))))))
+t6 = List._∷_ e0 (List._∷_ e2 (List._∷_ e24 (List._∷_ e41 (List._∷_ e51 (List._∷_ e53 (List._∷_ e54 (List._∷_ e56 (List._∷_ e57 (List._∷_ e60 (List._∷_ e4 (List._∷_ e5 (List._∷_ e7 (List._∷_ e9
+    (List._∷_ e11 (List._∷_ e13 List.[])))))))))))))))
 
 abbrev pub t7 : List.List Row.Entry
-t7 = List._∷_ (
-  0,
-  Rows.any-gone (Syntax.tyEnum (List._∷_ 119 (List._∷_ 114 (List._∷_ 105 (List._∷_ 116 (List._∷_ 105 (List._∷_ 110 (List._∷_ 103 (List._∷_ 58 (List._∷_ 58 (List._∷_ 80 (List._∷_ 117
-      (List._∷_ 116 List.[])))))))))))) (Syntax.ttcons (Syntax.tcons (Syntax.tyStruct (List._∷_ 98 (List._∷_ 105 (List._∷_ 116 (List._∷_ 115 (List._∷_ 58 (List._∷_ 58 (List._∷_ 66 (List._∷_ 105 (List._∷_
-      116 (List._∷_ 80 (List._∷_ 111 (List._∷_ 115 (List._∷_ 105 (List._∷_ 116 (List._∷_ 105 (List._∷_ 111 (List._∷_ 110 List.[]))))))))))))))))) (Syntax.tcons (Syntax.tyInt Syntax.w64) Syntax.tnil))
-      Syntax.tnil) (Syntax.ttcons (Syntax.tcons (Syntax.tyInt Syntax.w64) Syntax.tnil) Syntax.ttnil))),
-) (List._∷_ (
-  1,
-  Rows.sslice (Referent.rtF (Referent.fInt Syntax.w16)) (Syntax.tyRef (Syntax.named 0)
-      Syntax.imm (Syntax.tyInt Syntax.w16)) 0,
-) (List._∷_ (2, Rows.sc-here (Row.sInt Syntax.w64)) (List._∷_ (
-  3,
-  Mut.mslice (Referent.rtF (Referent.fInt Syntax.w8)) (Syntax.tyRef (Syntax.named 1)
-      Syntax.mut (Syntax.tyInt Syntax.w8)) 1,
-) (List._∷_ (4, Rows.sc-here Row.sBool) (List._∷_ (5, Rows.whole (Declared'.row BitPosition.the-type)) (List._∷_ (
-  6,
-  Mut.mslice (Referent.rtF (Referent.fInt
-      Syntax.w16)) (Syntax.tyRef (Syntax.named 2) Syntax.mut (Syntax.tyInt Syntax.w16)) 2,
-) (List._∷_ (7, Mut.mslice (Element.type) (Syntax.tyRef (Syntax.named 3) Syntax.mut Element.behind) 3) (List._∷_ (
-  8,
-  Rows.any-gone (Syntax.tyStruct (List._∷_ 98 (List._∷_ 108 (List._∷_ 111 (List._∷_ 99 (List._∷_ 107 (List._∷_ 58 (List._∷_ 58 (List._∷_ 70 (List._∷_ 111 (List._∷_ 114 (List._∷_ 109
-      List.[]))))))))))) (Syntax.tcons (Syntax.tyInt Syntax.w32) (Syntax.tcons Syntax.tyBool Syntax.tnil))),
-) (List._∷_ (9, Rows.sc-here (Row.sInt Syntax.w32)) (List._∷_ (10, Rows.sc-here Row.sBool)
-    (List._∷_ (11, Rows.sc-here (Row.sInt Syntax.w64)) (List._∷_ (
-      12,
-      Rows.any-gone (Syntax.tyStruct (List._∷_ 113 (List._∷_ 117 (List._∷_ 97 (List._∷_ 110 (List._∷_ 116 (List._∷_ 105 (List._∷_ 115
-          (List._∷_ 101 (List._∷_ 114 (List._∷_ 58 (List._∷_ 58 (List._∷_ 81 (List._∷_ 117 (List._∷_ 97 (List._∷_ 110 (List._∷_ 116 (List._∷_ 105 (List._∷_ 115 (List._∷_ 101 (List._∷_ 114
-          List.[])))))))))))))))))))) (Syntax.tcons (Syntax.tyInt Syntax.w32) (Syntax.tcons (Syntax.tyInt Syntax.w32) (Syntax.tcons (Syntax.tyInt Syntax.w32) (Syntax.tcons (Syntax.tyInt Syntax.w32)
-          (Syntax.tcons (Syntax.tyInt Syntax.w32) Syntax.tnil)))))),
-    ) (List._∷_ (13, Rows.any-gone (Syntax.tyInt Syntax.w32)) (List._∷_ (14, Rows.any-gone (Syntax.tyInt Syntax.w32)) (List._∷_ (
-      15,
-      Rows.any-gone (Syntax.tyStruct (List._∷_ 98 (List._∷_ 105 (List._∷_ 116 (List._∷_ 115 (List._∷_ 58 (List._∷_ 58 (List._∷_ 66 (List._∷_ 105 (List._∷_ 116 (List._∷_ 80 (List._∷_ 111 (List._∷_ 115
-          (List._∷_ 105 (List._∷_ 116 (List._∷_ 105 (List._∷_ 111 (List._∷_ 110 List.[]))))))))))))))))) (Syntax.tcons (Syntax.tyInt Syntax.w64) Syntax.tnil)),
-    ) List.[])))))))))))))))
+t7 = List._∷_ e0 (List._∷_ e2 (List._∷_ e24 (List._∷_ e41 (List._∷_ e51 (List._∷_ e53 (List._∷_ e54 (List._∷_ e56 (List._∷_ e57 (List._∷_ e60 (List._∷_ e4 (List._∷_ e6 (List._∷_ e7 (List._∷_ e9
+    (List._∷_ e11 (List._∷_ e13 List.[])))))))))))))))
 
 abbrev pub t8 : List.List Row.Entry
-t8 = List._∷_ (
-  0,
-  Rows.any-gone (Syntax.tyEnum (List._∷_ 119 (List._∷_ 114 (List._∷_ 105 (List._∷_ 116 (List._∷_ 105 (List._∷_ 110 (List._∷_ 103 (List._∷_ 58 (List._∷_ 58 (List._∷_ 80 (List._∷_ 117
-      (List._∷_ 116 List.[])))))))))))) (Syntax.ttcons (Syntax.tcons (Syntax.tyStruct (List._∷_ 98 (List._∷_ 105 (List._∷_ 116 (List._∷_ 115 (List._∷_ 58 (List._∷_ 58 (List._∷_ 66 (List._∷_ 105 (List._∷_
-      116 (List._∷_ 80 (List._∷_ 111 (List._∷_ 115 (List._∷_ 105 (List._∷_ 116 (List._∷_ 105 (List._∷_ 111 (List._∷_ 110 List.[]))))))))))))))))) (Syntax.tcons (Syntax.tyInt Syntax.w64) Syntax.tnil))
-      Syntax.tnil) (Syntax.ttcons (Syntax.tcons (Syntax.tyInt Syntax.w64) Syntax.tnil) Syntax.ttnil))),
-) (List._∷_ (
-  1,
-  Rows.sslice (Referent.rtF (Referent.fInt Syntax.w16)) (Syntax.tyRef (Syntax.named 0)
-      Syntax.imm (Syntax.tyInt Syntax.w16)) 0,
-) (List._∷_ (2, Rows.sc-here (Row.sInt Syntax.w64)) (List._∷_ (
-  3,
-  Mut.mslice (Referent.rtF (Referent.fInt Syntax.w8)) (Syntax.tyRef (Syntax.named 1)
-      Syntax.mut (Syntax.tyInt Syntax.w8)) 1,
-) (List._∷_ (4, Rows.sc-here Row.sBool) (List._∷_ (5, Rows.whole (Declared'.row BitPosition.the-type)) (List._∷_ (
-  6,
-  Mut.mslice (Referent.rtF (Referent.fInt
-      Syntax.w16)) (Syntax.tyRef (Syntax.named 2) Syntax.mut (Syntax.tyInt Syntax.w16)) 2,
-) (List._∷_ (7, Mut.mslice (Element.type) (Syntax.tyRef (Syntax.named 3) Syntax.mut Element.behind) 3) (List._∷_ (
-  8,
-  Rows.any-gone (Syntax.tyStruct (List._∷_ 98 (List._∷_ 108 (List._∷_ 111 (List._∷_ 99 (List._∷_ 107 (List._∷_ 58 (List._∷_ 58 (List._∷_ 70 (List._∷_ 111 (List._∷_ 114 (List._∷_ 109
-      List.[]))))))))))) (Syntax.tcons (Syntax.tyInt Syntax.w32) (Syntax.tcons Syntax.tyBool Syntax.tnil))),
-) (List._∷_ (9, Rows.sc-here (Row.sInt Syntax.w32)) (List._∷_ (10, Rows.sc-here Row.sBool)
-    (List._∷_ (11, Rows.sc-here (Row.sInt Syntax.w64)) (List._∷_ (12, Rows.whole (Declared'.row Quantiser.the-type)) (List._∷_ (13, Rows.any-gone (Syntax.tyInt Syntax.w32)) (List._∷_ (
-      14,
-      Rows.any-gone (Syntax.tyInt Syntax.w32),
-    ) (List._∷_ (
-      15,
-      Rows.any-gone (Syntax.tyStruct (List._∷_ 98 (List._∷_ 105 (List._∷_ 116 (List._∷_ 115 (List._∷_ 58 (List._∷_ 58 (List._∷_ 66 (List._∷_ 105
-          (List._∷_ 116 (List._∷_ 80 (List._∷_ 111 (List._∷_ 115 (List._∷_ 105 (List._∷_ 116 (List._∷_ 105 (List._∷_ 111 (List._∷_ 110 List.[]))))))))))))))))) (Syntax.tcons (Syntax.tyInt Syntax.w64)
-          Syntax.tnil)),
-    ) List.[])))))))))))))))
+t8 = List._∷_ e0 (List._∷_ e2 (List._∷_ e24 (List._∷_ e41 (List._∷_ e51 (List._∷_ e53 (List._∷_ e54 (List._∷_ e56 (List._∷_ e57 (List._∷_ e60 (List._∷_ e4 (List._∷_ e6 (List._∷_ e8 (List._∷_ e9
+    (List._∷_ e11 (List._∷_ e13 List.[])))))))))))))))
 
 abbrev pub t9 : List.List Row.Entry
-t9 = List._∷_ (
-  0,
-  Rows.any-gone (Syntax.tyEnum (List._∷_ 119 (List._∷_ 114 (List._∷_ 105 (List._∷_ 116 (List._∷_ 105 (List._∷_ 110 (List._∷_ 103 (List._∷_ 58 (List._∷_ 58 (List._∷_ 80 (List._∷_ 117
-      (List._∷_ 116 List.[])))))))))))) (Syntax.ttcons (Syntax.tcons (Syntax.tyStruct (List._∷_ 98 (List._∷_ 105 (List._∷_ 116 (List._∷_ 115 (List._∷_ 58 (List._∷_ 58 (List._∷_ 66 (List._∷_ 105 (List._∷_
-      116 (List._∷_ 80 (List._∷_ 111 (List._∷_ 115 (List._∷_ 105 (List._∷_ 116 (List._∷_ 105 (List._∷_ 111 (List._∷_ 110 List.[]))))))))))))))))) (Syntax.tcons (Syntax.tyInt Syntax.w64) Syntax.tnil))
-      Syntax.tnil) (Syntax.ttcons (Syntax.tcons (Syntax.tyInt Syntax.w64) Syntax.tnil) Syntax.ttnil))),
-) (List._∷_ (
-  1,
-  Rows.sslice (Referent.rtF (Referent.fInt Syntax.w16)) (Syntax.tyRef (Syntax.named 0)
-      Syntax.imm (Syntax.tyInt Syntax.w16)) 0,
-) (List._∷_ (2, Rows.sc-here (Row.sInt Syntax.w64)) (List._∷_ (
-  3,
-  Mut.mslice (Referent.rtF (Referent.fInt Syntax.w8)) (Syntax.tyRef (Syntax.named 1)
-      Syntax.mut (Syntax.tyInt Syntax.w8)) 1,
-) (List._∷_ (4, Rows.sc-here Row.sBool) (List._∷_ (5, Rows.whole (Declared'.row BitPosition.the-type)) (List._∷_ (
-  6,
-  Mut.mslice (Referent.rtF (Referent.fInt
-      Syntax.w16)) (Syntax.tyRef (Syntax.named 2) Syntax.mut (Syntax.tyInt Syntax.w16)) 2,
-) (List._∷_ (7, Mut.mslice (Element.type) (Syntax.tyRef (Syntax.named 3) Syntax.mut Element.behind) 3) (List._∷_ (
-  8,
-  Rows.any-gone (Syntax.tyStruct (List._∷_ 98 (List._∷_ 108 (List._∷_ 111 (List._∷_ 99 (List._∷_ 107 (List._∷_ 58 (List._∷_ 58 (List._∷_ 70 (List._∷_ 111 (List._∷_ 114 (List._∷_ 109
-      List.[]))))))))))) (Syntax.tcons (Syntax.tyInt Syntax.w32) (Syntax.tcons Syntax.tyBool Syntax.tnil))),
-) (List._∷_ (9, Rows.sc-here (Row.sInt Syntax.w32)) (List._∷_ (10, Rows.sc-here Row.sBool)
-    (List._∷_ (11, Rows.sc-here (Row.sInt Syntax.w64)) (List._∷_ (12, Rows.whole (Declared'.row Quantiser.the-type)) (List._∷_ (13, Rows.sc-here (Row.sInt Syntax.w32)) (List._∷_ (
-      14,
-      Rows.any-gone
-          (Syntax.tyInt Syntax.w32),
-    ) (List._∷_ (
-      15,
-      Rows.any-gone (Syntax.tyStruct (List._∷_ 98 (List._∷_ 105 (List._∷_ 116 (List._∷_ 115 (List._∷_ 58 (List._∷_ 58 (List._∷_ 66 (List._∷_ 105 (List._∷_ 116
-          (List._∷_ 80 (List._∷_ 111 (List._∷_ 115 (List._∷_ 105 (List._∷_ 116 (List._∷_ 105 (List._∷_ 111 (List._∷_ 110 List.[]))))))))))))))))) (Syntax.tcons (Syntax.tyInt Syntax.w64) Syntax.tnil)),
-    )
-    List.[])))))))))))))))
+t9 = List._∷_ e0 (List._∷_ e2 (List._∷_ e24 (List._∷_ e41 (List._∷_ e51 (List._∷_ e53 (List._∷_ e54 (List._∷_ e56 (List._∷_ e57 (List._∷_ e60 (List._∷_ e4 (List._∷_ e6 (List._∷_ e8 (List._∷_ e10
+    (List._∷_ e11 (List._∷_ e13 List.[])))))))))))))))
 
 abbrev pub t10 : List.List Row.Entry
-t10 = List._∷_ (
-  0,
-  Rows.any-gone (Syntax.tyEnum (List._∷_ 119 (List._∷_ 114 (List._∷_ 105 (List._∷_ 116 (List._∷_ 105 (List._∷_ 110 (List._∷_ 103 (List._∷_ 58 (List._∷_ 58 (List._∷_ 80 (List._∷_ 117
-      (List._∷_ 116 List.[])))))))))))) (Syntax.ttcons (Syntax.tcons (Syntax.tyStruct (List._∷_ 98 (List._∷_ 105 (List._∷_ 116 (List._∷_ 115 (List._∷_ 58 (List._∷_ 58 (List._∷_ 66 (List._∷_ 105 (List._∷_
-      116 (List._∷_ 80 (List._∷_ 111 (List._∷_ 115 (List._∷_ 105 (List._∷_ 116 (List._∷_ 105 (List._∷_ 111 (List._∷_ 110 List.[]))))))))))))))))) (Syntax.tcons (Syntax.tyInt Syntax.w64) Syntax.tnil))
-      Syntax.tnil) (Syntax.ttcons (Syntax.tcons (Syntax.tyInt Syntax.w64) Syntax.tnil) Syntax.ttnil))),
-) (List._∷_ (
-  1,
-  Rows.sslice (Referent.rtF (Referent.fInt Syntax.w16)) (Syntax.tyRef (Syntax.named 0)
-      Syntax.imm (Syntax.tyInt Syntax.w16)) 0,
-) (List._∷_ (2, Rows.sc-here (Row.sInt Syntax.w64)) (List._∷_ (
-  3,
-  Mut.mslice (Referent.rtF (Referent.fInt Syntax.w8)) (Syntax.tyRef (Syntax.named 1)
-      Syntax.mut (Syntax.tyInt Syntax.w8)) 1,
-) (List._∷_ (4, Rows.sc-here Row.sBool) (List._∷_ (5, Rows.whole (Declared'.row BitPosition.the-type)) (List._∷_ (
-  6,
-  Mut.mslice (Referent.rtF (Referent.fInt
-      Syntax.w16)) (Syntax.tyRef (Syntax.named 2) Syntax.mut (Syntax.tyInt Syntax.w16)) 2,
-) (List._∷_ (7, Mut.mslice (Element.type) (Syntax.tyRef (Syntax.named 3) Syntax.mut Element.behind) 3) (List._∷_ (
-  8,
-  Rows.any-gone (Syntax.tyStruct (List._∷_ 98 (List._∷_ 108 (List._∷_ 111 (List._∷_ 99 (List._∷_ 107 (List._∷_ 58 (List._∷_ 58 (List._∷_ 70 (List._∷_ 111 (List._∷_ 114 (List._∷_ 109
-      List.[]))))))))))) (Syntax.tcons (Syntax.tyInt Syntax.w32) (Syntax.tcons Syntax.tyBool Syntax.tnil))),
-) (List._∷_ (9, Rows.sc-here (Row.sInt Syntax.w32)) (List._∷_ (10, Rows.sc-here Row.sBool)
-    (List._∷_ (11, Rows.sc-here (Row.sInt Syntax.w64)) (List._∷_ (12, Rows.whole (Declared'.row Quantiser.the-type)) (List._∷_ (13, Rows.sc-here (Row.sInt Syntax.w32)) (List._∷_ (
-      14,
-      Rows.sc-here
-          (Row.sInt Syntax.w32),
-    ) (List._∷_ (
-      15,
-      Rows.any-gone (Syntax.tyStruct (List._∷_ 98 (List._∷_ 105 (List._∷_ 116 (List._∷_ 115 (List._∷_ 58 (List._∷_ 58 (List._∷_ 66 (List._∷_ 105 (List._∷_ 116
-          (List._∷_ 80 (List._∷_ 111 (List._∷_ 115 (List._∷_ 105 (List._∷_ 116 (List._∷_ 105 (List._∷_ 111 (List._∷_ 110 List.[]))))))))))))))))) (Syntax.tcons (Syntax.tyInt Syntax.w64) Syntax.tnil)),
-    )
-    List.[])))))))))))))))
+t10 = List._∷_ e0 (List._∷_ e2 (List._∷_ e24 (List._∷_ e41 (List._∷_ e51 (List._∷_ e53 (List._∷_ e54 (List._∷_ e56 (List._∷_ e57 (List._∷_ e60 (List._∷_ e4 (List._∷_ e6 (List._∷_ e8 (List._∷_ e10
+    (List._∷_ e12 (List._∷_ e13 List.[])))))))))))))))
 
 abbrev pub t11 : List.List Row.Entry
-t11 = List._∷_ (
-  0,
-  Rows.any-gone (Syntax.tyEnum (List._∷_ 119 (List._∷_ 114 (List._∷_ 105 (List._∷_ 116 (List._∷_ 105 (List._∷_ 110 (List._∷_ 103 (List._∷_ 58 (List._∷_ 58 (List._∷_ 80 (List._∷_ 117
-      (List._∷_ 116 List.[])))))))))))) (Syntax.ttcons (Syntax.tcons (Syntax.tyStruct (List._∷_ 98 (List._∷_ 105 (List._∷_ 116 (List._∷_ 115 (List._∷_ 58 (List._∷_ 58 (List._∷_ 66 (List._∷_ 105 (List._∷_
-      116 (List._∷_ 80 (List._∷_ 111 (List._∷_ 115 (List._∷_ 105 (List._∷_ 116 (List._∷_ 105 (List._∷_ 111 (List._∷_ 110 List.[]))))))))))))))))) (Syntax.tcons (Syntax.tyInt Syntax.w64) Syntax.tnil))
-      Syntax.tnil) (Syntax.ttcons (Syntax.tcons (Syntax.tyInt Syntax.w64) Syntax.tnil) Syntax.ttnil))),
-) (List._∷_ (
-  1,
-  Rows.sslice (Referent.rtF (Referent.fInt Syntax.w16)) (Syntax.tyRef (Syntax.named 0)
-      Syntax.imm (Syntax.tyInt Syntax.w16)) 0,
-) (List._∷_ (2, Rows.sc-here (Row.sInt Syntax.w64)) (List._∷_ (
-  3,
-  Mut.mslice (Referent.rtF (Referent.fInt Syntax.w8)) (Syntax.tyRef (Syntax.named 1)
-      Syntax.mut (Syntax.tyInt Syntax.w8)) 1,
-) (List._∷_ (4, Rows.sc-here Row.sBool) (List._∷_ (5, Rows.whole (Declared'.row BitPosition.the-type)) (List._∷_ (
-  6,
-  Mut.mslice (Referent.rtF (Referent.fInt
-      Syntax.w16)) (Syntax.tyRef (Syntax.named 2) Syntax.mut (Syntax.tyInt Syntax.w16)) 2,
-) (List._∷_ (7, Mut.mslice (Element.type) (Syntax.tyRef (Syntax.named 3) Syntax.mut Element.behind) 3) (List._∷_ (
-  8,
-  Rows.any-gone (Syntax.tyStruct (List._∷_ 98 (List._∷_ 108 (List._∷_ 111 (List._∷_ 99 (List._∷_ 107 (List._∷_ 58 (List._∷_ 58 (List._∷_ 70 (List._∷_ 111 (List._∷_ 114 (List._∷_ 109
-      List.[]))))))))))) (Syntax.tcons (Syntax.tyInt Syntax.w32) (Syntax.tcons Syntax.tyBool Syntax.tnil))),
-) (List._∷_ (9, Rows.sc-here (Row.sInt Syntax.w32)) (List._∷_ (10, Rows.sc-here Row.sBool)
-    (List._∷_ (11, Rows.sc-here (Row.sInt Syntax.w64)) (List._∷_ (
-      12,
-      Rows.any-gone (Syntax.tyStruct (List._∷_ 113 (List._∷_ 117 (List._∷_ 97 (List._∷_ 110 (List._∷_ 116 (List._∷_ 105 (List._∷_ 115
-          (List._∷_ 101 (List._∷_ 114 (List._∷_ 58 (List._∷_ 58 (List._∷_ 81 (List._∷_ 117 (List._∷_ 97 (List._∷_ 110 (List._∷_ 116 (List._∷_ 105 (List._∷_ 115 (List._∷_ 101 (List._∷_ 114
-          List.[])))))))))))))))))))) (Syntax.tcons (Syntax.tyInt Syntax.w32) (Syntax.tcons (Syntax.tyInt Syntax.w32) (Syntax.tcons (Syntax.tyInt Syntax.w32) (Syntax.tcons (Syntax.tyInt Syntax.w32)
-          (Syntax.tcons (Syntax.tyInt Syntax.w32) Syntax.tnil)))))),
-    ) (List._∷_ (13, Rows.sc-here (Row.sInt Syntax.w32)) (List._∷_ (14, Rows.sc-here (Row.sInt Syntax.w32)) (List._∷_ (
-      15,
-      Rows.any-gone
-          (Syntax.tyStruct (List._∷_ 98 (List._∷_ 105 (List._∷_ 116 (List._∷_ 115 (List._∷_ 58 (List._∷_ 58 (List._∷_ 66 (List._∷_ 105 (List._∷_ 116 (List._∷_ 80 (List._∷_ 111 (List._∷_ 115 (List._∷_ 105
-          (List._∷_ 116 (List._∷_ 105 (List._∷_ 111 (List._∷_ 110 List.[]))))))))))))))))) (Syntax.tcons (Syntax.tyInt Syntax.w64) Syntax.tnil)),
-    ) List.[])))))))))))))))
+t11 = List._∷_ e0 (List._∷_ e2 (List._∷_ e24 (List._∷_ e41 (List._∷_ e51 (List._∷_ e53 (List._∷_ e54 (List._∷_ e56 (List._∷_ e57 (List._∷_ e60 (List._∷_ e4 (List._∷_ e6 (List._∷_ e7 (List._∷_ e10
+    (List._∷_ e12 (List._∷_ e13 List.[])))))))))))))))
 
 abbrev pub t12 : List.List Row.Entry
-t12 = List._∷_ (
-  0,
-  Rows.any-gone (Syntax.tyEnum (List._∷_ 119 (List._∷_ 114 (List._∷_ 105 (List._∷_ 116 (List._∷_ 105 (List._∷_ 110 (List._∷_ 103 (List._∷_ 58 (List._∷_ 58 (List._∷_ 80 (List._∷_ 117
-      (List._∷_ 116 List.[])))))))))))) (Syntax.ttcons (Syntax.tcons (Syntax.tyStruct (List._∷_ 98 (List._∷_ 105 (List._∷_ 116 (List._∷_ 115 (List._∷_ 58 (List._∷_ 58 (List._∷_ 66 (List._∷_ 105 (List._∷_
-      116 (List._∷_ 80 (List._∷_ 111 (List._∷_ 115 (List._∷_ 105 (List._∷_ 116 (List._∷_ 105 (List._∷_ 111 (List._∷_ 110 List.[]))))))))))))))))) (Syntax.tcons (Syntax.tyInt Syntax.w64) Syntax.tnil))
-      Syntax.tnil) (Syntax.ttcons (Syntax.tcons (Syntax.tyInt Syntax.w64) Syntax.tnil) Syntax.ttnil))),
-) (List._∷_ (
-  1,
-  Rows.sslice (Referent.rtF (Referent.fInt Syntax.w16)) (Syntax.tyRef (Syntax.named 0)
-      Syntax.imm (Syntax.tyInt Syntax.w16)) 0,
-) (List._∷_ (2, Rows.sc-here (Row.sInt Syntax.w64)) (List._∷_ (
-  3,
-  Mut.mslice (Referent.rtF (Referent.fInt Syntax.w8)) (Syntax.tyRef (Syntax.named 1)
-      Syntax.mut (Syntax.tyInt Syntax.w8)) 1,
-) (List._∷_ (4, Rows.sc-here Row.sBool) (List._∷_ (5, Rows.whole (Declared'.row BitPosition.the-type)) (List._∷_ (
-  6,
-  Mut.mslice (Referent.rtF (Referent.fInt
-      Syntax.w16)) (Syntax.tyRef (Syntax.named 2) Syntax.mut (Syntax.tyInt Syntax.w16)) 2,
-) (List._∷_ (7, Mut.mslice (Element.type) (Syntax.tyRef (Syntax.named 3) Syntax.mut Element.behind) 3) (List._∷_ (
-  8,
-  Rows.any-gone (Syntax.tyStruct (List._∷_ 98 (List._∷_ 108 (List._∷_ 111 (List._∷_ 99 (List._∷_ 107 (List._∷_ 58 (List._∷_ 58 (List._∷_ 70 (List._∷_ 111 (List._∷_ 114 (List._∷_ 109
-      List.[]))))))))))) (Syntax.tcons (Syntax.tyInt Syntax.w32) (Syntax.tcons Syntax.tyBool Syntax.tnil))),
-) (List._∷_ (9, Rows.sc-here (Row.sInt Syntax.w32)) (List._∷_ (10, Rows.sc-here Row.sBool)
-    (List._∷_ (11, Rows.sc-here (Row.sInt Syntax.w64)) (List._∷_ (
-      12,
-      Rows.any-gone (Syntax.tyStruct (List._∷_ 113 (List._∷_ 117 (List._∷_ 97 (List._∷_ 110 (List._∷_ 116 (List._∷_ 105 (List._∷_ 115
-          (List._∷_ 101 (List._∷_ 114 (List._∷_ 58 (List._∷_ 58 (List._∷_ 81 (List._∷_ 117 (List._∷_ 97 (List._∷_ 110 (List._∷_ 116 (List._∷_ 105 (List._∷_ 115 (List._∷_ 101 (List._∷_ 114
-          List.[])))))))))))))))))))) (Syntax.tcons (Syntax.tyInt Syntax.w32) (Syntax.tcons (Syntax.tyInt Syntax.w32) (Syntax.tcons (Syntax.tyInt Syntax.w32) (Syntax.tcons (Syntax.tyInt Syntax.w32)
-          (Syntax.tcons (Syntax.tyInt Syntax.w32) Syntax.tnil)))))),
-    ) (List._∷_ (13, Rows.sc-here (Row.sInt Syntax.w32)) (List._∷_ (14, Rows.sc-here (Row.sInt Syntax.w32)) (List._∷_ (
-      15,
-      Rows.whole
-          (Declared'.row BitPosition.the-type),
-    ) List.[])))))))))))))))
+t12 = List._∷_ e0 (List._∷_ e2 (List._∷_ e24 (List._∷_ e41 (List._∷_ e51 (List._∷_ e53 (List._∷_ e54 (List._∷_ e56 (List._∷_ e57 (List._∷_ e60 (List._∷_ e4 (List._∷_ e6 (List._∷_ e7 (List._∷_ e10
+    (List._∷_ e12 (List._∷_ e14 List.[])))))))))))))))
 
 abbrev pub t13 : List.List Row.Entry
-t13 = List._∷_ (
-  0,
-  Rows.any-gone (Syntax.tyEnum (List._∷_ 119 (List._∷_ 114 (List._∷_ 105 (List._∷_ 116 (List._∷_ 105 (List._∷_ 110 (List._∷_ 103 (List._∷_ 58 (List._∷_ 58 (List._∷_ 80 (List._∷_ 117
-      (List._∷_ 116 List.[])))))))))))) (Syntax.ttcons (Syntax.tcons (Syntax.tyStruct (List._∷_ 98 (List._∷_ 105 (List._∷_ 116 (List._∷_ 115 (List._∷_ 58 (List._∷_ 58 (List._∷_ 66 (List._∷_ 105 (List._∷_
-      116 (List._∷_ 80 (List._∷_ 111 (List._∷_ 115 (List._∷_ 105 (List._∷_ 116 (List._∷_ 105 (List._∷_ 111 (List._∷_ 110 List.[]))))))))))))))))) (Syntax.tcons (Syntax.tyInt Syntax.w64) Syntax.tnil))
-      Syntax.tnil) (Syntax.ttcons (Syntax.tcons (Syntax.tyInt Syntax.w64) Syntax.tnil) Syntax.ttnil))),
-) (List._∷_ (
-  1,
-  Rows.sslice (Referent.rtF (Referent.fInt Syntax.w16)) (Syntax.tyRef (Syntax.named 0)
-      Syntax.imm (Syntax.tyInt Syntax.w16)) 0,
-) (List._∷_ (2, Rows.sc-here (Row.sInt Syntax.w64)) (List._∷_ (
-  3,
-  Mut.mslice (Referent.rtF (Referent.fInt Syntax.w8)) (Syntax.tyRef (Syntax.named 1)
-      Syntax.mut (Syntax.tyInt Syntax.w8)) 1,
-) (List._∷_ (4, Rows.sc-here Row.sBool) (List._∷_ (
-  5,
-  Rows.any-gone (Syntax.tyStruct (List._∷_ 98 (List._∷_ 105 (List._∷_ 116 (List._∷_ 115 (List._∷_ 58
-      (List._∷_ 58 (List._∷_ 66 (List._∷_ 105 (List._∷_ 116 (List._∷_ 80 (List._∷_ 111 (List._∷_ 115 (List._∷_ 105 (List._∷_ 116 (List._∷_ 105 (List._∷_ 111 (List._∷_ 110 List.[])))))))))))))))))
-      (Syntax.tcons (Syntax.tyInt Syntax.w64) Syntax.tnil)),
-) (List._∷_ (6, Mut.mslice (Referent.rtF (Referent.fInt Syntax.w16)) (Syntax.tyRef (Syntax.named 2) Syntax.mut (Syntax.tyInt Syntax.w16)) 2)
-    (List._∷_ (7, Mut.mslice (Element.type) (Syntax.tyRef (Syntax.named 3) Syntax.mut Element.behind) 3) (List._∷_ (
-      8,
-      Rows.any-gone (Syntax.tyStruct (List._∷_ 98 (List._∷_ 108 (List._∷_ 111 (List._∷_
-          99 (List._∷_ 107 (List._∷_ 58 (List._∷_ 58 (List._∷_ 70 (List._∷_ 111 (List._∷_ 114 (List._∷_ 109 List.[]))))))))))) (Syntax.tcons (Syntax.tyInt Syntax.w32) (Syntax.tcons Syntax.tyBool Syntax.tnil))),
-    ) (List._∷_ (9, Rows.sc-here (Row.sInt Syntax.w32)) (List._∷_ (10, Rows.sc-here Row.sBool) (List._∷_ (11, Rows.sc-here (Row.sInt Syntax.w64)) (List._∷_ (
-      12,
-      Rows.any-gone (Syntax.tyStruct (List._∷_
-          113 (List._∷_ 117 (List._∷_ 97 (List._∷_ 110 (List._∷_ 116 (List._∷_ 105 (List._∷_ 115 (List._∷_ 101 (List._∷_ 114 (List._∷_ 58 (List._∷_ 58 (List._∷_ 81 (List._∷_ 117 (List._∷_ 97 (List._∷_ 110
-          (List._∷_ 116 (List._∷_ 105 (List._∷_ 115 (List._∷_ 101 (List._∷_ 114 List.[])))))))))))))))))))) (Syntax.tcons (Syntax.tyInt Syntax.w32) (Syntax.tcons (Syntax.tyInt Syntax.w32) (Syntax.tcons
-          (Syntax.tyInt Syntax.w32) (Syntax.tcons (Syntax.tyInt Syntax.w32) (Syntax.tcons (Syntax.tyInt Syntax.w32) Syntax.tnil)))))),
-    ) (List._∷_ (13, Rows.sc-here (Row.sInt Syntax.w32)) (List._∷_ (
-      14,
-      Rows.sc-here (Row.sInt Syntax.w32),
-    ) (List._∷_ (15, Rows.whole (Declared'.row BitPosition.the-type)) List.[])))))))))))))))
+t13 = List._∷_ e0 (List._∷_ e2 (List._∷_ e24 (List._∷_ e41 (List._∷_ e51 (List._∷_ e52 (List._∷_ e54 (List._∷_ e56 (List._∷_ e57 (List._∷_ e60 (List._∷_ e4 (List._∷_ e6 (List._∷_ e7 (List._∷_ e10
+    (List._∷_ e12 (List._∷_ e14 List.[])))))))))))))))
 
 abbrev pub t14 : List.List Row.Entry
-t14 = List._∷_ (16, Rows.sc-here (Row.sInt Syntax.w64)) (List._∷_ (
-  17,
-  Rows.any-gone (Syntax.tyStruct (List._∷_ 112 (List._∷_ 97 (List._∷_ 115 (List._∷_ 115 (List._∷_ 58 (List._∷_ 58 (List._∷_ 80
-      (List._∷_ 108 (List._∷_ 97 (List._∷_ 110 List.[])))))))))) (Syntax.tcons (Syntax.tyInt Syntax.w64) (Syntax.tcons (Syntax.tyInt Syntax.w64) (Syntax.tcons (Syntax.tyInt Syntax.w64) (Syntax.tcons
-      (Syntax.tyInt Syntax.w32) (Syntax.tcons (Syntax.tyInt Syntax.w32) Syntax.tnil)))))),
-) (List._∷_ (
-  18,
-  Rows.any-gone (Syntax.tyStruct (List._∷_ 112 (List._∷_ 97 (List._∷_ 115 (List._∷_ 115 (List._∷_
-      58 (List._∷_ 58 (List._∷_ 83 (List._∷_ 101 (List._∷_ 116 List.[]))))))))) (Syntax.tcons (Syntax.tyArray (Syntax.tyInt Syntax.w32) 112) (Syntax.tcons (Syntax.tyArray (Syntax.tyInt Syntax.w32) 112)
-      Syntax.tnil))),
-) (List._∷_ (
-  19,
-  Rows.any-gone (Syntax.tyStruct (List._∷_ 119 (List._∷_ 114 (List._∷_ 105 (List._∷_ 116 (List._∷_ 105 (List._∷_ 110 (List._∷_ 103 (List._∷_ 58 (List._∷_ 58 (List._∷_
-      80 (List._∷_ 97 (List._∷_ 115 (List._∷_ 115 (List._∷_ 80 (List._∷_ 117 (List._∷_ 116 List.[])))))))))))))))) (Syntax.tcons Syntax.tyBool (Syntax.tcons (Syntax.tyInt Syntax.w64) (Syntax.tcons
-      (Syntax.tyStruct (List._∷_ 98 (List._∷_ 105 (List._∷_ 116 (List._∷_ 115 (List._∷_ 58 (List._∷_ 58 (List._∷_ 66 (List._∷_ 105 (List._∷_ 116 (List._∷_ 80 (List._∷_ 111 (List._∷_ 115 (List._∷_ 105
-      (List._∷_ 116 (List._∷_ 105 (List._∷_ 111 (List._∷_ 110 List.[]))))))))))))))))) (Syntax.tcons (Syntax.tyInt Syntax.w64) Syntax.tnil)) (Syntax.tcons (Syntax.tyStruct (List._∷_ 112 (List._∷_ 97
-      (List._∷_ 115 (List._∷_ 115 (List._∷_ 58 (List._∷_ 58 (List._∷_ 83 (List._∷_ 101 (List._∷_ 116 List.[]))))))))) (Syntax.tcons (Syntax.tyArray (Syntax.tyInt Syntax.w32) 112) (Syntax.tcons
-      (Syntax.tyArray (Syntax.tyInt Syntax.w32) 112) Syntax.tnil))) Syntax.tnil))))),
-) (List._∷_ (20, Rows.any-gone Syntax.tyBool) (List._∷_ (
-  21,
-  Rows.any-gone (Syntax.tyStruct (List._∷_ 112 (List._∷_ 97
-      (List._∷_ 115 (List._∷_ 115 (List._∷_ 58 (List._∷_ 58 (List._∷_ 83 (List._∷_ 101 (List._∷_ 116 List.[]))))))))) (Syntax.tcons (Syntax.tyArray (Syntax.tyInt Syntax.w32) 112) (Syntax.tcons
-      (Syntax.tyArray (Syntax.tyInt Syntax.w32) 112) Syntax.tnil))),
-) (List._∷_ (22, Rows.any-gone Syntax.tyBool) (List._∷_ (23, Rows.any-gone Syntax.tyUnit) (List._∷_ (
-  24,
-  Rows.any-gone (Syntax.tyRef
-      Syntax.erased Syntax.mut (Syntax.tyInt Syntax.w16)),
-) (List._∷_ (
-  25,
-  Rows.any-gone (Syntax.tyStruct (List._∷_ 38 (List._∷_ 91 (List._∷_ 93 List.[]))) (Syntax.tcons (Syntax.tyRef Syntax.erased
-      Syntax.mut (Syntax.tyInt Syntax.w16)) (Syntax.tcons (Syntax.tyInt Syntax.w64) Syntax.tnil))),
-) (List._∷_ (26, Rows.any-gone (Syntax.tyRef Syntax.erased Syntax.mut (Syntax.tyInt Syntax.w16)))
-    (List._∷_ (
-      27,
-      Rows.any-gone (Syntax.tyStruct (List._∷_ 38 (List._∷_ 91 (List._∷_ 93 List.[]))) (Syntax.tcons (Syntax.tyRef Syntax.erased Syntax.mut (Syntax.tyInt Syntax.w16)) (Syntax.tcons
-          (Syntax.tyInt Syntax.w64) Syntax.tnil))),
-    ) (List._∷_ (28, Rows.any-gone (Syntax.tyRef Syntax.erased Syntax.mut Element.behind)) (List._∷_ (
-      29,
-      Rows.any-gone (Syntax.tyStruct (List._∷_ 38
-          (List._∷_ 91 (List._∷_ 93 List.[]))) (Syntax.tcons (Syntax.tyRef Syntax.erased Syntax.mut Element.behind) (Syntax.tcons (Syntax.tyInt Syntax.w64) Syntax.tnil))),
-    ) (List._∷_ (
-      30,
-      Rows.any-gone
-          (Syntax.tyRef Syntax.erased Syntax.mut (Syntax.tyInt Syntax.w8)),
-    ) (List._∷_ (
-      31,
-      Rows.any-gone (Syntax.tyStruct (List._∷_ 38 (List._∷_ 91 (List._∷_ 93 List.[]))) (Syntax.tcons (Syntax.tyRef
-          Syntax.erased Syntax.mut (Syntax.tyInt Syntax.w8)) (Syntax.tcons (Syntax.tyInt Syntax.w64) Syntax.tnil))),
-    ) List.[])))))))))))))))
+t14 = List._∷_ e16 (List._∷_ e17 (List._∷_ e19 (List._∷_ e21 (List._∷_ e25 (List._∷_ e27 (List._∷_ e29 (List._∷_ e31 (List._∷_ e33 (List._∷_ e35 (List._∷_ e36 (List._∷_ e38 (List._∷_ e39 (List._∷_ e40
+    (List._∷_ e43 (List._∷_ e45 List.[])))))))))))))))
 
 abbrev pub t15 : List.List Row.Entry
-t15 = List._∷_ (16, Rows.sc-here (Row.sInt Syntax.w64)) (List._∷_ (
-  17,
-  Rows.any-gone (Syntax.tyStruct (List._∷_ 112 (List._∷_ 97 (List._∷_ 115 (List._∷_ 115 (List._∷_ 58 (List._∷_ 58 (List._∷_ 80
-      (List._∷_ 108 (List._∷_ 97 (List._∷_ 110 List.[])))))))))) (Syntax.tcons (Syntax.tyInt Syntax.w64) (Syntax.tcons (Syntax.tyInt Syntax.w64) (Syntax.tcons (Syntax.tyInt Syntax.w64) (Syntax.tcons
-      (Syntax.tyInt Syntax.w32) (Syntax.tcons (Syntax.tyInt Syntax.w32) Syntax.tnil)))))),
-) (List._∷_ (
-  18,
-  Rows.any-gone (Syntax.tyStruct (List._∷_ 112 (List._∷_ 97 (List._∷_ 115 (List._∷_ 115 (List._∷_
-      58 (List._∷_ 58 (List._∷_ 83 (List._∷_ 101 (List._∷_ 116 List.[]))))))))) (Syntax.tcons (Syntax.tyArray (Syntax.tyInt Syntax.w32) 112) (Syntax.tcons (Syntax.tyArray (Syntax.tyInt Syntax.w32) 112)
-      Syntax.tnil))),
-) (List._∷_ (
-  19,
-  Rows.any-gone (Syntax.tyStruct (List._∷_ 119 (List._∷_ 114 (List._∷_ 105 (List._∷_ 116 (List._∷_ 105 (List._∷_ 110 (List._∷_ 103 (List._∷_ 58 (List._∷_ 58 (List._∷_
-      80 (List._∷_ 97 (List._∷_ 115 (List._∷_ 115 (List._∷_ 80 (List._∷_ 117 (List._∷_ 116 List.[])))))))))))))))) (Syntax.tcons Syntax.tyBool (Syntax.tcons (Syntax.tyInt Syntax.w64) (Syntax.tcons
-      (Syntax.tyStruct (List._∷_ 98 (List._∷_ 105 (List._∷_ 116 (List._∷_ 115 (List._∷_ 58 (List._∷_ 58 (List._∷_ 66 (List._∷_ 105 (List._∷_ 116 (List._∷_ 80 (List._∷_ 111 (List._∷_ 115 (List._∷_ 105
-      (List._∷_ 116 (List._∷_ 105 (List._∷_ 111 (List._∷_ 110 List.[]))))))))))))))))) (Syntax.tcons (Syntax.tyInt Syntax.w64) Syntax.tnil)) (Syntax.tcons (Syntax.tyStruct (List._∷_ 112 (List._∷_ 97
-      (List._∷_ 115 (List._∷_ 115 (List._∷_ 58 (List._∷_ 58 (List._∷_ 83 (List._∷_ 101 (List._∷_ 116 List.[]))))))))) (Syntax.tcons (Syntax.tyArray (Syntax.tyInt Syntax.w32) 112) (Syntax.tcons
-      (Syntax.tyArray (Syntax.tyInt Syntax.w32) 112) Syntax.tnil))) Syntax.tnil))))),
-) (List._∷_ (20, Rows.any-gone Syntax.tyBool) (List._∷_ (
-  21,
-  Rows.any-gone (Syntax.tyStruct (List._∷_ 112 (List._∷_ 97
-      (List._∷_ 115 (List._∷_ 115 (List._∷_ 58 (List._∷_ 58 (List._∷_ 83 (List._∷_ 101 (List._∷_ 116 List.[]))))))))) (Syntax.tcons (Syntax.tyArray (Syntax.tyInt Syntax.w32) 112) (Syntax.tcons
-      (Syntax.tyArray (Syntax.tyInt Syntax.w32) 112) Syntax.tnil))),
-) (List._∷_ (22, Rows.sc-here Row.sBool) (List._∷_ (23, Rows.any-gone Syntax.tyUnit) (List._∷_ (
-  24,
-  Rows.any-gone (Syntax.tyRef
-      Syntax.erased Syntax.mut (Syntax.tyInt Syntax.w16)),
-) (List._∷_ (
-  25,
-  Rows.any-gone (Syntax.tyStruct (List._∷_ 38 (List._∷_ 91 (List._∷_ 93 List.[]))) (Syntax.tcons (Syntax.tyRef Syntax.erased
-      Syntax.mut (Syntax.tyInt Syntax.w16)) (Syntax.tcons (Syntax.tyInt Syntax.w64) Syntax.tnil))),
-) (List._∷_ (26, Rows.any-gone (Syntax.tyRef Syntax.erased Syntax.mut (Syntax.tyInt Syntax.w16)))
-    (List._∷_ (
-      27,
-      Rows.any-gone (Syntax.tyStruct (List._∷_ 38 (List._∷_ 91 (List._∷_ 93 List.[]))) (Syntax.tcons (Syntax.tyRef Syntax.erased Syntax.mut (Syntax.tyInt Syntax.w16)) (Syntax.tcons
-          (Syntax.tyInt Syntax.w64) Syntax.tnil))),
-    ) (List._∷_ (28, Rows.any-gone (Syntax.tyRef Syntax.erased Syntax.mut Element.behind)) (List._∷_ (
-      29,
-      Rows.any-gone (Syntax.tyStruct (List._∷_ 38
-          (List._∷_ 91 (List._∷_ 93 List.[]))) (Syntax.tcons (Syntax.tyRef Syntax.erased Syntax.mut Element.behind) (Syntax.tcons (Syntax.tyInt Syntax.w64) Syntax.tnil))),
-    ) (List._∷_ (
-      30,
-      Rows.any-gone
-          (Syntax.tyRef Syntax.erased Syntax.mut (Syntax.tyInt Syntax.w8)),
-    ) (List._∷_ (
-      31,
-      Rows.any-gone (Syntax.tyStruct (List._∷_ 38 (List._∷_ 91 (List._∷_ 93 List.[]))) (Syntax.tcons (Syntax.tyRef
-          Syntax.erased Syntax.mut (Syntax.tyInt Syntax.w8)) (Syntax.tcons (Syntax.tyInt Syntax.w64) Syntax.tnil))),
-    ) List.[])))))))))))))))
+t15 = List._∷_ e16 (List._∷_ e17 (List._∷_ e19 (List._∷_ e21 (List._∷_ e25 (List._∷_ e27 (List._∷_ e30 (List._∷_ e31 (List._∷_ e33 (List._∷_ e35 (List._∷_ e36 (List._∷_ e38 (List._∷_ e39 (List._∷_ e40
+    (List._∷_ e43 (List._∷_ e45 List.[])))))))))))))))
 
 abbrev pub t16 : List.List Row.Entry
-t16 = List._∷_ (16, Rows.sc-here (Row.sInt Syntax.w64)) (List._∷_ (17, Rows.whole (Declared'.row Plan.the-type)) (List._∷_ (
-  18,
-  Rows.any-gone (Syntax.tyStruct (List._∷_ 112 (List._∷_ 97 (List._∷_
-      115 (List._∷_ 115 (List._∷_ 58 (List._∷_ 58 (List._∷_ 83 (List._∷_ 101 (List._∷_ 116 List.[]))))))))) (Syntax.tcons (Syntax.tyArray (Syntax.tyInt Syntax.w32) 112) (Syntax.tcons (Syntax.tyArray
-      (Syntax.tyInt Syntax.w32) 112) Syntax.tnil))),
-) (List._∷_ (
-  19,
-  Rows.any-gone (Syntax.tyStruct (List._∷_ 119 (List._∷_ 114 (List._∷_ 105 (List._∷_ 116 (List._∷_ 105 (List._∷_ 110 (List._∷_ 103
-      (List._∷_ 58 (List._∷_ 58 (List._∷_ 80 (List._∷_ 97 (List._∷_ 115 (List._∷_ 115 (List._∷_ 80 (List._∷_ 117 (List._∷_ 116 List.[])))))))))))))))) (Syntax.tcons Syntax.tyBool (Syntax.tcons (Syntax.tyInt
-      Syntax.w64) (Syntax.tcons (Syntax.tyStruct (List._∷_ 98 (List._∷_ 105 (List._∷_ 116 (List._∷_ 115 (List._∷_ 58 (List._∷_ 58 (List._∷_ 66 (List._∷_ 105 (List._∷_ 116 (List._∷_ 80 (List._∷_ 111
-      (List._∷_ 115 (List._∷_ 105 (List._∷_ 116 (List._∷_ 105 (List._∷_ 111 (List._∷_ 110 List.[]))))))))))))))))) (Syntax.tcons (Syntax.tyInt Syntax.w64) Syntax.tnil)) (Syntax.tcons (Syntax.tyStruct
-      (List._∷_ 112 (List._∷_ 97 (List._∷_ 115 (List._∷_ 115 (List._∷_ 58 (List._∷_ 58 (List._∷_ 83 (List._∷_ 101 (List._∷_ 116 List.[]))))))))) (Syntax.tcons (Syntax.tyArray (Syntax.tyInt Syntax.w32) 112)
-      (Syntax.tcons (Syntax.tyArray (Syntax.tyInt Syntax.w32) 112) Syntax.tnil))) Syntax.tnil))))),
-) (List._∷_ (20, Rows.any-gone Syntax.tyBool) (List._∷_ (
-  21,
-  Rows.any-gone (Syntax.tyStruct (List._∷_ 112
-      (List._∷_ 97 (List._∷_ 115 (List._∷_ 115 (List._∷_ 58 (List._∷_ 58 (List._∷_ 83 (List._∷_ 101 (List._∷_ 116 List.[]))))))))) (Syntax.tcons (Syntax.tyArray (Syntax.tyInt Syntax.w32) 112) (Syntax.tcons
-      (Syntax.tyArray (Syntax.tyInt Syntax.w32) 112) Syntax.tnil))),
-) (List._∷_ (22, Rows.any-gone Syntax.tyBool) (List._∷_ (23, Rows.any-gone Syntax.tyUnit) (List._∷_ (
-  24,
-  Rows.any-gone (Syntax.tyRef
-      Syntax.erased Syntax.mut (Syntax.tyInt Syntax.w16)),
-) (List._∷_ (
-  25,
-  Rows.any-gone (Syntax.tyStruct (List._∷_ 38 (List._∷_ 91 (List._∷_ 93 List.[]))) (Syntax.tcons (Syntax.tyRef Syntax.erased
-      Syntax.mut (Syntax.tyInt Syntax.w16)) (Syntax.tcons (Syntax.tyInt Syntax.w64) Syntax.tnil))),
-) (List._∷_ (26, Rows.any-gone (Syntax.tyRef Syntax.erased Syntax.mut (Syntax.tyInt Syntax.w16)))
-    (List._∷_ (
-      27,
-      Rows.any-gone (Syntax.tyStruct (List._∷_ 38 (List._∷_ 91 (List._∷_ 93 List.[]))) (Syntax.tcons (Syntax.tyRef Syntax.erased Syntax.mut (Syntax.tyInt Syntax.w16)) (Syntax.tcons
-          (Syntax.tyInt Syntax.w64) Syntax.tnil))),
-    ) (List._∷_ (28, Rows.any-gone (Syntax.tyRef Syntax.erased Syntax.mut Element.behind)) (List._∷_ (
-      29,
-      Rows.any-gone (Syntax.tyStruct (List._∷_ 38
-          (List._∷_ 91 (List._∷_ 93 List.[]))) (Syntax.tcons (Syntax.tyRef Syntax.erased Syntax.mut Element.behind) (Syntax.tcons (Syntax.tyInt Syntax.w64) Syntax.tnil))),
-    ) (List._∷_ (
-      30,
-      Rows.any-gone
-          (Syntax.tyRef Syntax.erased Syntax.mut (Syntax.tyInt Syntax.w8)),
-    ) (List._∷_ (
-      31,
-      Rows.any-gone (Syntax.tyStruct (List._∷_ 38 (List._∷_ 91 (List._∷_ 93 List.[]))) (Syntax.tcons (Syntax.tyRef
-          Syntax.erased Syntax.mut (Syntax.tyInt Syntax.w8)) (Syntax.tcons (Syntax.tyInt Syntax.w64) Syntax.tnil))),
-    ) List.[])))))))))))))))
+t16 = List._∷_ e16 (List._∷_ e18 (List._∷_ e19 (List._∷_ e21 (List._∷_ e25 (List._∷_ e27 (List._∷_ e29 (List._∷_ e31 (List._∷_ e33 (List._∷_ e35 (List._∷_ e36 (List._∷_ e38 (List._∷_ e39 (List._∷_ e40
+    (List._∷_ e43 (List._∷_ e45 List.[])))))))))))))))
 
 abbrev pub t17 : List.List Row.Entry
-t17 = List._∷_ (
-  0,
-  Rows.any-gone (Syntax.tyEnum (List._∷_ 119 (List._∷_ 114 (List._∷_ 105 (List._∷_ 116 (List._∷_ 105 (List._∷_ 110 (List._∷_ 103 (List._∷_ 58 (List._∷_ 58 (List._∷_ 80 (List._∷_ 117
-      (List._∷_ 116 List.[])))))))))))) (Syntax.ttcons (Syntax.tcons (Syntax.tyStruct (List._∷_ 98 (List._∷_ 105 (List._∷_ 116 (List._∷_ 115 (List._∷_ 58 (List._∷_ 58 (List._∷_ 66 (List._∷_ 105 (List._∷_
-      116 (List._∷_ 80 (List._∷_ 111 (List._∷_ 115 (List._∷_ 105 (List._∷_ 116 (List._∷_ 105 (List._∷_ 111 (List._∷_ 110 List.[]))))))))))))))))) (Syntax.tcons (Syntax.tyInt Syntax.w64) Syntax.tnil))
-      Syntax.tnil) (Syntax.ttcons (Syntax.tcons (Syntax.tyInt Syntax.w64) Syntax.tnil) Syntax.ttnil))),
-) (List._∷_ (
-  1,
-  Rows.sslice (Referent.rtF (Referent.fInt Syntax.w16)) (Syntax.tyRef (Syntax.named 0)
-      Syntax.imm (Syntax.tyInt Syntax.w16)) 0,
-) (List._∷_ (2, Rows.sc-here (Row.sInt Syntax.w64)) (List._∷_ (
-  3,
-  Mut.mslice (Referent.rtF (Referent.fInt Syntax.w8)) (Syntax.tyRef (Syntax.named 1)
-      Syntax.mut (Syntax.tyInt Syntax.w8)) 1,
-) (List._∷_ (4, Rows.sc-here Row.sBool) (List._∷_ (
-  5,
-  Rows.any-gone (Syntax.tyStruct (List._∷_ 98 (List._∷_ 105 (List._∷_ 116 (List._∷_ 115 (List._∷_ 58
-      (List._∷_ 58 (List._∷_ 66 (List._∷_ 105 (List._∷_ 116 (List._∷_ 80 (List._∷_ 111 (List._∷_ 115 (List._∷_ 105 (List._∷_ 116 (List._∷_ 105 (List._∷_ 111 (List._∷_ 110 List.[])))))))))))))))))
-      (Syntax.tcons (Syntax.tyInt Syntax.w64) Syntax.tnil)),
-) (List._∷_ (
-  6,
-  Relend.mslice-owed (Referent.rtF (Referent.fInt Syntax.w16)) (Syntax.tyRef (Syntax.named 2) Syntax.mut (Syntax.tyInt
-      Syntax.w16)) 2 4 Row.off,
-) (List._∷_ (7, Mut.mslice (Element.type) (Syntax.tyRef (Syntax.named 3) Syntax.mut Element.behind) 3) (List._∷_ (
-  8,
-  Rows.any-gone (Syntax.tyStruct (List._∷_ 98 (List._∷_
-      108 (List._∷_ 111 (List._∷_ 99 (List._∷_ 107 (List._∷_ 58 (List._∷_ 58 (List._∷_ 70 (List._∷_ 111 (List._∷_ 114 (List._∷_ 109 List.[]))))))))))) (Syntax.tcons (Syntax.tyInt Syntax.w32) (Syntax.tcons
-      Syntax.tyBool Syntax.tnil))),
-) (List._∷_ (9, Rows.sc-here (Row.sInt Syntax.w32)) (List._∷_ (10, Rows.sc-here Row.sBool) (List._∷_ (11, Rows.sc-here (Row.sInt Syntax.w64)) (List._∷_ (
-  12,
-  Rows.any-gone (Syntax.tyStruct (List._∷_ 113 (List._∷_ 117 (List._∷_ 97 (List._∷_ 110 (List._∷_ 116 (List._∷_ 105 (List._∷_ 115 (List._∷_ 101 (List._∷_ 114 (List._∷_ 58 (List._∷_ 58 (List._∷_ 81
-      (List._∷_ 117 (List._∷_ 97 (List._∷_ 110 (List._∷_ 116 (List._∷_ 105 (List._∷_ 115 (List._∷_ 101 (List._∷_ 114 List.[])))))))))))))))))))) (Syntax.tcons (Syntax.tyInt Syntax.w32) (Syntax.tcons
-      (Syntax.tyInt Syntax.w32) (Syntax.tcons (Syntax.tyInt Syntax.w32) (Syntax.tcons (Syntax.tyInt Syntax.w32) (Syntax.tcons (Syntax.tyInt Syntax.w32) Syntax.tnil)))))),
-) (List._∷_ (
-  13,
-  Rows.sc-here
-      (Row.sInt Syntax.w32),
-) (List._∷_ (14, Rows.sc-here (Row.sInt Syntax.w32)) (List._∷_ (15, Rows.whole (Declared'.row BitPosition.the-type)) List.[])))))))))))))))
+t17 = List._∷_ e0 (List._∷_ e2 (List._∷_ e24 (List._∷_ e41 (List._∷_ e51 (List._∷_ e52 (List._∷_
+    (6, Relend.mslice-owed (Referent.rtF (Referent.fInt Syntax.w16)) (Syntax.tyRef (Syntax.named 2) Syntax.mut (Syntax.tyInt Syntax.w16)) 2 4 Row.off) (List._∷_ e56 (List._∷_ e57 (List._∷_ e60 (List._∷_
+    e4 (List._∷_ e6 (List._∷_ e7 (List._∷_ e10 (List._∷_ e12 (List._∷_ e14 List.[])))))))))))))))
 
 abbrev pub t18 : List.List Row.Entry
-t18 = List._∷_ (16, Rows.sc-here (Row.sInt Syntax.w64)) (List._∷_ (17, Rows.whole (Declared'.row Plan.the-type)) (List._∷_ (
-  18,
-  Rows.any-gone (Syntax.tyStruct (List._∷_ 112 (List._∷_ 97 (List._∷_
-      115 (List._∷_ 115 (List._∷_ 58 (List._∷_ 58 (List._∷_ 83 (List._∷_ 101 (List._∷_ 116 List.[]))))))))) (Syntax.tcons (Syntax.tyArray (Syntax.tyInt Syntax.w32) 112) (Syntax.tcons (Syntax.tyArray
-      (Syntax.tyInt Syntax.w32) 112) Syntax.tnil))),
-) (List._∷_ (
-  19,
-  Rows.any-gone (Syntax.tyStruct (List._∷_ 119 (List._∷_ 114 (List._∷_ 105 (List._∷_ 116 (List._∷_ 105 (List._∷_ 110 (List._∷_ 103
-      (List._∷_ 58 (List._∷_ 58 (List._∷_ 80 (List._∷_ 97 (List._∷_ 115 (List._∷_ 115 (List._∷_ 80 (List._∷_ 117 (List._∷_ 116 List.[])))))))))))))))) (Syntax.tcons Syntax.tyBool (Syntax.tcons (Syntax.tyInt
-      Syntax.w64) (Syntax.tcons (Syntax.tyStruct (List._∷_ 98 (List._∷_ 105 (List._∷_ 116 (List._∷_ 115 (List._∷_ 58 (List._∷_ 58 (List._∷_ 66 (List._∷_ 105 (List._∷_ 116 (List._∷_ 80 (List._∷_ 111
-      (List._∷_ 115 (List._∷_ 105 (List._∷_ 116 (List._∷_ 105 (List._∷_ 111 (List._∷_ 110 List.[]))))))))))))))))) (Syntax.tcons (Syntax.tyInt Syntax.w64) Syntax.tnil)) (Syntax.tcons (Syntax.tyStruct
-      (List._∷_ 112 (List._∷_ 97 (List._∷_ 115 (List._∷_ 115 (List._∷_ 58 (List._∷_ 58 (List._∷_ 83 (List._∷_ 101 (List._∷_ 116 List.[]))))))))) (Syntax.tcons (Syntax.tyArray (Syntax.tyInt Syntax.w32) 112)
-      (Syntax.tcons (Syntax.tyArray (Syntax.tyInt Syntax.w32) 112) Syntax.tnil))) Syntax.tnil))))),
-) (List._∷_ (20, Rows.any-gone Syntax.tyBool) (List._∷_ (
-  21,
-  Rows.any-gone (Syntax.tyStruct (List._∷_ 112
-      (List._∷_ 97 (List._∷_ 115 (List._∷_ 115 (List._∷_ 58 (List._∷_ 58 (List._∷_ 83 (List._∷_ 101 (List._∷_ 116 List.[]))))))))) (Syntax.tcons (Syntax.tyArray (Syntax.tyInt Syntax.w32) 112) (Syntax.tcons
-      (Syntax.tyArray (Syntax.tyInt Syntax.w32) 112) Syntax.tnil))),
-) (List._∷_ (22, Rows.any-gone Syntax.tyBool) (List._∷_ (23, Rows.any-gone Syntax.tyUnit) (List._∷_ (
-  24,
-  Relend.msptr (Referent.rtF
-      (Referent.fInt Syntax.w16)) (Syntax.tyRef Syntax.erased Syntax.mut (Syntax.tyInt Syntax.w16)) 4,
-) (List._∷_ (
-  25,
-  Rows.any-gone (Syntax.tyStruct (List._∷_ 38 (List._∷_ 91 (List._∷_ 93 List.[])))
-      (Syntax.tcons (Syntax.tyRef Syntax.erased Syntax.mut (Syntax.tyInt Syntax.w16)) (Syntax.tcons (Syntax.tyInt Syntax.w64) Syntax.tnil))),
-) (List._∷_ (
-  26,
-  Rows.any-gone (Syntax.tyRef Syntax.erased
-      Syntax.mut (Syntax.tyInt Syntax.w16)),
-) (List._∷_ (
-  27,
-  Rows.any-gone (Syntax.tyStruct (List._∷_ 38 (List._∷_ 91 (List._∷_ 93 List.[]))) (Syntax.tcons (Syntax.tyRef Syntax.erased Syntax.mut
-      (Syntax.tyInt Syntax.w16)) (Syntax.tcons (Syntax.tyInt Syntax.w64) Syntax.tnil))),
-) (List._∷_ (28, Rows.any-gone (Syntax.tyRef Syntax.erased Syntax.mut Element.behind)) (List._∷_ (
-  29,
-  Rows.any-gone (Syntax.tyStruct (List._∷_ 38 (List._∷_ 91 (List._∷_ 93 List.[]))) (Syntax.tcons (Syntax.tyRef Syntax.erased Syntax.mut Element.behind) (Syntax.tcons (Syntax.tyInt Syntax.w64)
-      Syntax.tnil))),
-) (List._∷_ (30, Rows.any-gone (Syntax.tyRef Syntax.erased Syntax.mut (Syntax.tyInt Syntax.w8))) (List._∷_ (
-  31,
-  Rows.any-gone (Syntax.tyStruct (List._∷_ 38 (List._∷_ 91 (List._∷_
-      93 List.[]))) (Syntax.tcons (Syntax.tyRef Syntax.erased Syntax.mut (Syntax.tyInt Syntax.w8)) (Syntax.tcons (Syntax.tyInt Syntax.w64) Syntax.tnil))),
-) List.[])))))))))))))))
+t18 = List._∷_ e16 (List._∷_ e18 (List._∷_ e19 (List._∷_ e21 (List._∷_ e25 (List._∷_ e27 (List._∷_ e29 (List._∷_ e31 (List._∷_
+    (24, Relend.msptr (Referent.rtF (Referent.fInt Syntax.w16)) (Syntax.tyRef Syntax.erased Syntax.mut (Syntax.tyInt Syntax.w16)) 4) (List._∷_ e35 (List._∷_ e36 (List._∷_ e38 (List._∷_ e39 (List._∷_ e40
+    (List._∷_ e43 (List._∷_ e45 List.[])))))))))))))))
 
 abbrev pub t19 : List.List Row.Entry
-t19 = List._∷_ (16, Rows.sc-here (Row.sInt Syntax.w64)) (List._∷_ (17, Rows.whole (Declared'.row Plan.the-type)) (List._∷_ (
-  18,
-  Rows.any-gone (Syntax.tyStruct (List._∷_ 112 (List._∷_ 97 (List._∷_
-      115 (List._∷_ 115 (List._∷_ 58 (List._∷_ 58 (List._∷_ 83 (List._∷_ 101 (List._∷_ 116 List.[]))))))))) (Syntax.tcons (Syntax.tyArray (Syntax.tyInt Syntax.w32) 112) (Syntax.tcons (Syntax.tyArray
-      (Syntax.tyInt Syntax.w32) 112) Syntax.tnil))),
-) (List._∷_ (
-  19,
-  Rows.any-gone (Syntax.tyStruct (List._∷_ 119 (List._∷_ 114 (List._∷_ 105 (List._∷_ 116 (List._∷_ 105 (List._∷_ 110 (List._∷_ 103
-      (List._∷_ 58 (List._∷_ 58 (List._∷_ 80 (List._∷_ 97 (List._∷_ 115 (List._∷_ 115 (List._∷_ 80 (List._∷_ 117 (List._∷_ 116 List.[])))))))))))))))) (Syntax.tcons Syntax.tyBool (Syntax.tcons (Syntax.tyInt
-      Syntax.w64) (Syntax.tcons (Syntax.tyStruct (List._∷_ 98 (List._∷_ 105 (List._∷_ 116 (List._∷_ 115 (List._∷_ 58 (List._∷_ 58 (List._∷_ 66 (List._∷_ 105 (List._∷_ 116 (List._∷_ 80 (List._∷_ 111
-      (List._∷_ 115 (List._∷_ 105 (List._∷_ 116 (List._∷_ 105 (List._∷_ 111 (List._∷_ 110 List.[]))))))))))))))))) (Syntax.tcons (Syntax.tyInt Syntax.w64) Syntax.tnil)) (Syntax.tcons (Syntax.tyStruct
-      (List._∷_ 112 (List._∷_ 97 (List._∷_ 115 (List._∷_ 115 (List._∷_ 58 (List._∷_ 58 (List._∷_ 83 (List._∷_ 101 (List._∷_ 116 List.[]))))))))) (Syntax.tcons (Syntax.tyArray (Syntax.tyInt Syntax.w32) 112)
-      (Syntax.tcons (Syntax.tyArray (Syntax.tyInt Syntax.w32) 112) Syntax.tnil))) Syntax.tnil))))),
-) (List._∷_ (20, Rows.any-gone Syntax.tyBool) (List._∷_ (
-  21,
-  Rows.any-gone (Syntax.tyStruct (List._∷_ 112
-      (List._∷_ 97 (List._∷_ 115 (List._∷_ 115 (List._∷_ 58 (List._∷_ 58 (List._∷_ 83 (List._∷_ 101 (List._∷_ 116 List.[]))))))))) (Syntax.tcons (Syntax.tyArray (Syntax.tyInt Syntax.w32) 112) (Syntax.tcons
-      (Syntax.tyArray (Syntax.tyInt Syntax.w32) 112) Syntax.tnil))),
-) (List._∷_ (22, Rows.any-gone Syntax.tyBool) (List._∷_ (23, Rows.any-gone Syntax.tyUnit) (List._∷_ (
-  24,
-  Rows.any-gone (Syntax.tyRef
-      Syntax.erased Syntax.mut (Syntax.tyInt Syntax.w16)),
-) (List._∷_ (25, Mut.mslice (Referent.rtF (Referent.fInt Syntax.w16)) (Syntax.tyRef Syntax.erased Syntax.mut (Syntax.tyInt Syntax.w16)) 4)
-    (List._∷_ (26, Rows.any-gone (Syntax.tyRef Syntax.erased Syntax.mut (Syntax.tyInt Syntax.w16))) (List._∷_ (
-      27,
-      Rows.any-gone (Syntax.tyStruct (List._∷_ 38 (List._∷_ 91 (List._∷_ 93 List.[])))
-          (Syntax.tcons (Syntax.tyRef Syntax.erased Syntax.mut (Syntax.tyInt Syntax.w16)) (Syntax.tcons (Syntax.tyInt Syntax.w64) Syntax.tnil))),
-    ) (List._∷_ (
-      28,
-      Rows.any-gone (Syntax.tyRef Syntax.erased
-          Syntax.mut Element.behind),
-    ) (List._∷_ (
-      29,
-      Rows.any-gone (Syntax.tyStruct (List._∷_ 38 (List._∷_ 91 (List._∷_ 93 List.[]))) (Syntax.tcons (Syntax.tyRef Syntax.erased Syntax.mut Element.behind)
-          (Syntax.tcons (Syntax.tyInt Syntax.w64) Syntax.tnil))),
-    ) (List._∷_ (30, Rows.any-gone (Syntax.tyRef Syntax.erased Syntax.mut (Syntax.tyInt Syntax.w8))) (List._∷_ (
-      31,
-      Rows.any-gone
-          (Syntax.tyStruct (List._∷_ 38 (List._∷_ 91 (List._∷_ 93 List.[]))) (Syntax.tcons (Syntax.tyRef Syntax.erased Syntax.mut (Syntax.tyInt Syntax.w8)) (Syntax.tcons (Syntax.tyInt Syntax.w64)
-          Syntax.tnil))),
-    ) List.[])))))))))))))))
+t19 = List._∷_ e16 (List._∷_ e18 (List._∷_ e19 (List._∷_ e21 (List._∷_ e25 (List._∷_ e27 (List._∷_ e29 (List._∷_ e31 (List._∷_ e33 (List._∷_
+    (25, Mut.mslice (Referent.rtF (Referent.fInt Syntax.w16)) (Syntax.tyRef Syntax.erased Syntax.mut (Syntax.tyInt Syntax.w16)) 4) (List._∷_ e36 (List._∷_ e38 (List._∷_ e39 (List._∷_ e40 (List._∷_ e43
+    (List._∷_ e45 List.[])))))))))))))))
 
 abbrev pub t20 : List.List Row.Entry
-t20 = List._∷_ (16, Rows.sc-here (Row.sInt Syntax.w64)) (List._∷_ (17, Rows.whole (Declared'.row Plan.the-type)) (List._∷_ (
-  18,
-  Rows.any-gone (Syntax.tyStruct (List._∷_ 112 (List._∷_ 97 (List._∷_
-      115 (List._∷_ 115 (List._∷_ 58 (List._∷_ 58 (List._∷_ 83 (List._∷_ 101 (List._∷_ 116 List.[]))))))))) (Syntax.tcons (Syntax.tyArray (Syntax.tyInt Syntax.w32) 112) (Syntax.tcons (Syntax.tyArray
-      (Syntax.tyInt Syntax.w32) 112) Syntax.tnil))),
-) (List._∷_ (
-  19,
-  Rows.any-gone (Syntax.tyStruct (List._∷_ 119 (List._∷_ 114 (List._∷_ 105 (List._∷_ 116 (List._∷_ 105 (List._∷_ 110 (List._∷_ 103
-      (List._∷_ 58 (List._∷_ 58 (List._∷_ 80 (List._∷_ 97 (List._∷_ 115 (List._∷_ 115 (List._∷_ 80 (List._∷_ 117 (List._∷_ 116 List.[])))))))))))))))) (Syntax.tcons Syntax.tyBool (Syntax.tcons (Syntax.tyInt
-      Syntax.w64) (Syntax.tcons (Syntax.tyStruct (List._∷_ 98 (List._∷_ 105 (List._∷_ 116 (List._∷_ 115 (List._∷_ 58 (List._∷_ 58 (List._∷_ 66 (List._∷_ 105 (List._∷_ 116 (List._∷_ 80 (List._∷_ 111
-      (List._∷_ 115 (List._∷_ 105 (List._∷_ 116 (List._∷_ 105 (List._∷_ 111 (List._∷_ 110 List.[]))))))))))))))))) (Syntax.tcons (Syntax.tyInt Syntax.w64) Syntax.tnil)) (Syntax.tcons (Syntax.tyStruct
-      (List._∷_ 112 (List._∷_ 97 (List._∷_ 115 (List._∷_ 115 (List._∷_ 58 (List._∷_ 58 (List._∷_ 83 (List._∷_ 101 (List._∷_ 116 List.[]))))))))) (Syntax.tcons (Syntax.tyArray (Syntax.tyInt Syntax.w32) 112)
-      (Syntax.tcons (Syntax.tyArray (Syntax.tyInt Syntax.w32) 112) Syntax.tnil))) Syntax.tnil))))),
-) (List._∷_ (20, Rows.any-gone Syntax.tyBool) (List._∷_ (
-  21,
-  Rows.any-gone (Syntax.tyStruct (List._∷_ 112
-      (List._∷_ 97 (List._∷_ 115 (List._∷_ 115 (List._∷_ 58 (List._∷_ 58 (List._∷_ 83 (List._∷_ 101 (List._∷_ 116 List.[]))))))))) (Syntax.tcons (Syntax.tyArray (Syntax.tyInt Syntax.w32) 112) (Syntax.tcons
-      (Syntax.tyArray (Syntax.tyInt Syntax.w32) 112) Syntax.tnil))),
-) (List._∷_ (22, Rows.any-gone Syntax.tyBool) (List._∷_ (23, Rows.sc-here Row.sUnit) (List._∷_ (
-  24,
-  Rows.any-gone (Syntax.tyRef
-      Syntax.erased Syntax.mut (Syntax.tyInt Syntax.w16)),
-) (List._∷_ (25, Mut.msleft (Referent.rtF (Referent.fInt Syntax.w16)) (Syntax.tyRef Syntax.erased Syntax.mut (Syntax.tyInt Syntax.w16)))
-    (List._∷_ (26, Rows.any-gone (Syntax.tyRef Syntax.erased Syntax.mut (Syntax.tyInt Syntax.w16))) (List._∷_ (
-      27,
-      Rows.any-gone (Syntax.tyStruct (List._∷_ 38 (List._∷_ 91 (List._∷_ 93 List.[])))
-          (Syntax.tcons (Syntax.tyRef Syntax.erased Syntax.mut (Syntax.tyInt Syntax.w16)) (Syntax.tcons (Syntax.tyInt Syntax.w64) Syntax.tnil))),
-    ) (List._∷_ (
-      28,
-      Rows.any-gone (Syntax.tyRef Syntax.erased
-          Syntax.mut Element.behind),
-    ) (List._∷_ (
-      29,
-      Rows.any-gone (Syntax.tyStruct (List._∷_ 38 (List._∷_ 91 (List._∷_ 93 List.[]))) (Syntax.tcons (Syntax.tyRef Syntax.erased Syntax.mut Element.behind)
-          (Syntax.tcons (Syntax.tyInt Syntax.w64) Syntax.tnil))),
-    ) (List._∷_ (30, Rows.any-gone (Syntax.tyRef Syntax.erased Syntax.mut (Syntax.tyInt Syntax.w8))) (List._∷_ (
-      31,
-      Rows.any-gone
-          (Syntax.tyStruct (List._∷_ 38 (List._∷_ 91 (List._∷_ 93 List.[]))) (Syntax.tcons (Syntax.tyRef Syntax.erased Syntax.mut (Syntax.tyInt Syntax.w8)) (Syntax.tcons (Syntax.tyInt Syntax.w64)
-          Syntax.tnil))),
-    ) List.[])))))))))))))))
+t20 = List._∷_ e16 (List._∷_ e18 (List._∷_ e19 (List._∷_ e21 (List._∷_ e25 (List._∷_ e27 (List._∷_ e29 (List._∷_ e32 (List._∷_ e33 (List._∷_ e34 (List._∷_ e36 (List._∷_ e38 (List._∷_ e39 (List._∷_ e40
+    (List._∷_ e43 (List._∷_ e45 List.[])))))))))))))))
 
 abbrev pub t21 : List.List Row.Entry
-t21 = List._∷_ (16, Rows.sc-here (Row.sInt Syntax.w64)) (List._∷_ (17, Rows.whole (Declared'.row Plan.the-type)) (List._∷_ (
-  18,
-  Rows.any-gone (Syntax.tyStruct (List._∷_ 112 (List._∷_ 97 (List._∷_
-      115 (List._∷_ 115 (List._∷_ 58 (List._∷_ 58 (List._∷_ 83 (List._∷_ 101 (List._∷_ 116 List.[]))))))))) (Syntax.tcons (Syntax.tyArray (Syntax.tyInt Syntax.w32) 112) (Syntax.tcons (Syntax.tyArray
-      (Syntax.tyInt Syntax.w32) 112) Syntax.tnil))),
-) (List._∷_ (
-  19,
-  Rows.any-gone (Syntax.tyStruct (List._∷_ 119 (List._∷_ 114 (List._∷_ 105 (List._∷_ 116 (List._∷_ 105 (List._∷_ 110 (List._∷_ 103
-      (List._∷_ 58 (List._∷_ 58 (List._∷_ 80 (List._∷_ 97 (List._∷_ 115 (List._∷_ 115 (List._∷_ 80 (List._∷_ 117 (List._∷_ 116 List.[])))))))))))))))) (Syntax.tcons Syntax.tyBool (Syntax.tcons (Syntax.tyInt
-      Syntax.w64) (Syntax.tcons (Syntax.tyStruct (List._∷_ 98 (List._∷_ 105 (List._∷_ 116 (List._∷_ 115 (List._∷_ 58 (List._∷_ 58 (List._∷_ 66 (List._∷_ 105 (List._∷_ 116 (List._∷_ 80 (List._∷_ 111
-      (List._∷_ 115 (List._∷_ 105 (List._∷_ 116 (List._∷_ 105 (List._∷_ 111 (List._∷_ 110 List.[]))))))))))))))))) (Syntax.tcons (Syntax.tyInt Syntax.w64) Syntax.tnil)) (Syntax.tcons (Syntax.tyStruct
-      (List._∷_ 112 (List._∷_ 97 (List._∷_ 115 (List._∷_ 115 (List._∷_ 58 (List._∷_ 58 (List._∷_ 83 (List._∷_ 101 (List._∷_ 116 List.[]))))))))) (Syntax.tcons (Syntax.tyArray (Syntax.tyInt Syntax.w32) 112)
-      (Syntax.tcons (Syntax.tyArray (Syntax.tyInt Syntax.w32) 112) Syntax.tnil))) Syntax.tnil))))),
-) (List._∷_ (20, Rows.any-gone Syntax.tyBool) (List._∷_ (
-  21,
-  Rows.any-gone (Syntax.tyStruct (List._∷_ 112
-      (List._∷_ 97 (List._∷_ 115 (List._∷_ 115 (List._∷_ 58 (List._∷_ 58 (List._∷_ 83 (List._∷_ 101 (List._∷_ 116 List.[]))))))))) (Syntax.tcons (Syntax.tyArray (Syntax.tyInt Syntax.w32) 112) (Syntax.tcons
-      (Syntax.tyArray (Syntax.tyInt Syntax.w32) 112) Syntax.tnil))),
-) (List._∷_ (22, Rows.any-gone Syntax.tyBool) (List._∷_ (23, Rows.any-gone Syntax.tyUnit) (List._∷_ (
-  24,
-  Rows.any-gone (Syntax.tyRef
-      Syntax.erased Syntax.mut (Syntax.tyInt Syntax.w16)),
-) (List._∷_ (25, Mut.msleft (Referent.rtF (Referent.fInt Syntax.w16)) (Syntax.tyRef Syntax.erased Syntax.mut (Syntax.tyInt Syntax.w16)))
-    (List._∷_ (26, Rows.any-gone (Syntax.tyRef Syntax.erased Syntax.mut (Syntax.tyInt Syntax.w16))) (List._∷_ (
-      27,
-      Rows.any-gone (Syntax.tyStruct (List._∷_ 38 (List._∷_ 91 (List._∷_ 93 List.[])))
-          (Syntax.tcons (Syntax.tyRef Syntax.erased Syntax.mut (Syntax.tyInt Syntax.w16)) (Syntax.tcons (Syntax.tyInt Syntax.w64) Syntax.tnil))),
-    ) (List._∷_ (
-      28,
-      Rows.any-gone (Syntax.tyRef Syntax.erased
-          Syntax.mut Element.behind),
-    ) (List._∷_ (
-      29,
-      Rows.any-gone (Syntax.tyStruct (List._∷_ 38 (List._∷_ 91 (List._∷_ 93 List.[]))) (Syntax.tcons (Syntax.tyRef Syntax.erased Syntax.mut Element.behind)
-          (Syntax.tcons (Syntax.tyInt Syntax.w64) Syntax.tnil))),
-    ) (List._∷_ (30, Rows.any-gone (Syntax.tyRef Syntax.erased Syntax.mut (Syntax.tyInt Syntax.w8))) (List._∷_ (
-      31,
-      Rows.any-gone
-          (Syntax.tyStruct (List._∷_ 38 (List._∷_ 91 (List._∷_ 93 List.[]))) (Syntax.tcons (Syntax.tyRef Syntax.erased Syntax.mut (Syntax.tyInt Syntax.w8)) (Syntax.tcons (Syntax.tyInt Syntax.w64)
-          Syntax.tnil))),
-    ) List.[])))))))))))))))
+t21 = List._∷_ e16 (List._∷_ e18 (List._∷_ e19 (List._∷_ e21 (List._∷_ e25 (List._∷_ e27 (List._∷_ e29 (List._∷_ e31 (List._∷_ e33 (List._∷_ e34 (List._∷_ e36 (List._∷_ e38 (List._∷_ e39 (List._∷_ e40
+    (List._∷_ e43 (List._∷_ e45 List.[])))))))))))))))
 
 abbrev pub t22 : List.List Row.Entry
-t22 = List._∷_ (
-  0,
-  Rows.any-gone (Syntax.tyEnum (List._∷_ 119 (List._∷_ 114 (List._∷_ 105 (List._∷_ 116 (List._∷_ 105 (List._∷_ 110 (List._∷_ 103 (List._∷_ 58 (List._∷_ 58 (List._∷_ 80 (List._∷_ 117
-      (List._∷_ 116 List.[])))))))))))) (Syntax.ttcons (Syntax.tcons (Syntax.tyStruct (List._∷_ 98 (List._∷_ 105 (List._∷_ 116 (List._∷_ 115 (List._∷_ 58 (List._∷_ 58 (List._∷_ 66 (List._∷_ 105 (List._∷_
-      116 (List._∷_ 80 (List._∷_ 111 (List._∷_ 115 (List._∷_ 105 (List._∷_ 116 (List._∷_ 105 (List._∷_ 111 (List._∷_ 110 List.[]))))))))))))))))) (Syntax.tcons (Syntax.tyInt Syntax.w64) Syntax.tnil))
-      Syntax.tnil) (Syntax.ttcons (Syntax.tcons (Syntax.tyInt Syntax.w64) Syntax.tnil) Syntax.ttnil))),
-) (List._∷_ (
-  1,
-  Rows.sslice (Referent.rtF (Referent.fInt Syntax.w16)) (Syntax.tyRef (Syntax.named 0)
-      Syntax.imm (Syntax.tyInt Syntax.w16)) 0,
-) (List._∷_ (2, Rows.sc-here (Row.sInt Syntax.w64)) (List._∷_ (
-  3,
-  Mut.mslice (Referent.rtF (Referent.fInt Syntax.w8)) (Syntax.tyRef (Syntax.named 1)
-      Syntax.mut (Syntax.tyInt Syntax.w8)) 1,
-) (List._∷_ (4, Rows.sc-here Row.sBool) (List._∷_ (
-  5,
-  Rows.any-gone (Syntax.tyStruct (List._∷_ 98 (List._∷_ 105 (List._∷_ 116 (List._∷_ 115 (List._∷_ 58
-      (List._∷_ 58 (List._∷_ 66 (List._∷_ 105 (List._∷_ 116 (List._∷_ 80 (List._∷_ 111 (List._∷_ 115 (List._∷_ 105 (List._∷_ 116 (List._∷_ 105 (List._∷_ 111 (List._∷_ 110 List.[])))))))))))))))))
-      (Syntax.tcons (Syntax.tyInt Syntax.w64) Syntax.tnil)),
-) (List._∷_ (
-  6,
-  Relend.mslice-owed (Referent.rtF (Referent.fInt Syntax.w16)) (Syntax.tyRef (Syntax.named 2) Syntax.mut (Syntax.tyInt
-      Syntax.w16)) 2 5 Row.off,
-) (List._∷_ (7, Mut.mslice (Element.type) (Syntax.tyRef (Syntax.named 3) Syntax.mut Element.behind) 3) (List._∷_ (
-  8,
-  Rows.any-gone (Syntax.tyStruct (List._∷_ 98 (List._∷_
-      108 (List._∷_ 111 (List._∷_ 99 (List._∷_ 107 (List._∷_ 58 (List._∷_ 58 (List._∷_ 70 (List._∷_ 111 (List._∷_ 114 (List._∷_ 109 List.[]))))))))))) (Syntax.tcons (Syntax.tyInt Syntax.w32) (Syntax.tcons
-      Syntax.tyBool Syntax.tnil))),
-) (List._∷_ (9, Rows.sc-here (Row.sInt Syntax.w32)) (List._∷_ (10, Rows.sc-here Row.sBool) (List._∷_ (11, Rows.sc-here (Row.sInt Syntax.w64)) (List._∷_ (
-  12,
-  Rows.any-gone (Syntax.tyStruct (List._∷_ 113 (List._∷_ 117 (List._∷_ 97 (List._∷_ 110 (List._∷_ 116 (List._∷_ 105 (List._∷_ 115 (List._∷_ 101 (List._∷_ 114 (List._∷_ 58 (List._∷_ 58 (List._∷_ 81
-      (List._∷_ 117 (List._∷_ 97 (List._∷_ 110 (List._∷_ 116 (List._∷_ 105 (List._∷_ 115 (List._∷_ 101 (List._∷_ 114 List.[])))))))))))))))))))) (Syntax.tcons (Syntax.tyInt Syntax.w32) (Syntax.tcons
-      (Syntax.tyInt Syntax.w32) (Syntax.tcons (Syntax.tyInt Syntax.w32) (Syntax.tcons (Syntax.tyInt Syntax.w32) (Syntax.tcons (Syntax.tyInt Syntax.w32) Syntax.tnil)))))),
-) (List._∷_ (
-  13,
-  Rows.sc-here
-      (Row.sInt Syntax.w32),
-) (List._∷_ (14, Rows.sc-here (Row.sInt Syntax.w32)) (List._∷_ (15, Rows.whole (Declared'.row BitPosition.the-type)) List.[])))))))))))))))
+t22 = List._∷_ e0 (List._∷_ e2 (List._∷_ e24 (List._∷_ e41 (List._∷_ e51 (List._∷_ e52 (List._∷_
+    (6, Relend.mslice-owed (Referent.rtF (Referent.fInt Syntax.w16)) (Syntax.tyRef (Syntax.named 2) Syntax.mut (Syntax.tyInt Syntax.w16)) 2 5 Row.off) (List._∷_ e56 (List._∷_ e57 (List._∷_ e60 (List._∷_
+    e4 (List._∷_ e6 (List._∷_ e7 (List._∷_ e10 (List._∷_ e12 (List._∷_ e14 List.[])))))))))))))))
 
 abbrev pub t23 : List.List Row.Entry
-t23 = List._∷_ (16, Rows.sc-here (Row.sInt Syntax.w64)) (List._∷_ (17, Rows.whole (Declared'.row Plan.the-type)) (List._∷_ (
-  18,
-  Rows.any-gone (Syntax.tyStruct (List._∷_ 112 (List._∷_ 97 (List._∷_
-      115 (List._∷_ 115 (List._∷_ 58 (List._∷_ 58 (List._∷_ 83 (List._∷_ 101 (List._∷_ 116 List.[]))))))))) (Syntax.tcons (Syntax.tyArray (Syntax.tyInt Syntax.w32) 112) (Syntax.tcons (Syntax.tyArray
-      (Syntax.tyInt Syntax.w32) 112) Syntax.tnil))),
-) (List._∷_ (
-  19,
-  Rows.any-gone (Syntax.tyStruct (List._∷_ 119 (List._∷_ 114 (List._∷_ 105 (List._∷_ 116 (List._∷_ 105 (List._∷_ 110 (List._∷_ 103
-      (List._∷_ 58 (List._∷_ 58 (List._∷_ 80 (List._∷_ 97 (List._∷_ 115 (List._∷_ 115 (List._∷_ 80 (List._∷_ 117 (List._∷_ 116 List.[])))))))))))))))) (Syntax.tcons Syntax.tyBool (Syntax.tcons (Syntax.tyInt
-      Syntax.w64) (Syntax.tcons (Syntax.tyStruct (List._∷_ 98 (List._∷_ 105 (List._∷_ 116 (List._∷_ 115 (List._∷_ 58 (List._∷_ 58 (List._∷_ 66 (List._∷_ 105 (List._∷_ 116 (List._∷_ 80 (List._∷_ 111
-      (List._∷_ 115 (List._∷_ 105 (List._∷_ 116 (List._∷_ 105 (List._∷_ 111 (List._∷_ 110 List.[]))))))))))))))))) (Syntax.tcons (Syntax.tyInt Syntax.w64) Syntax.tnil)) (Syntax.tcons (Syntax.tyStruct
-      (List._∷_ 112 (List._∷_ 97 (List._∷_ 115 (List._∷_ 115 (List._∷_ 58 (List._∷_ 58 (List._∷_ 83 (List._∷_ 101 (List._∷_ 116 List.[]))))))))) (Syntax.tcons (Syntax.tyArray (Syntax.tyInt Syntax.w32) 112)
-      (Syntax.tcons (Syntax.tyArray (Syntax.tyInt Syntax.w32) 112) Syntax.tnil))) Syntax.tnil))))),
-) (List._∷_ (20, Rows.any-gone Syntax.tyBool) (List._∷_ (
-  21,
-  Rows.any-gone (Syntax.tyStruct (List._∷_ 112
-      (List._∷_ 97 (List._∷_ 115 (List._∷_ 115 (List._∷_ 58 (List._∷_ 58 (List._∷_ 83 (List._∷_ 101 (List._∷_ 116 List.[]))))))))) (Syntax.tcons (Syntax.tyArray (Syntax.tyInt Syntax.w32) 112) (Syntax.tcons
-      (Syntax.tyArray (Syntax.tyInt Syntax.w32) 112) Syntax.tnil))),
-) (List._∷_ (22, Rows.any-gone Syntax.tyBool) (List._∷_ (23, Rows.any-gone Syntax.tyUnit) (List._∷_ (
-  24,
-  Rows.any-gone (Syntax.tyRef
-      Syntax.erased Syntax.mut (Syntax.tyInt Syntax.w16)),
-) (List._∷_ (
-  25,
-  Rows.any-gone (Syntax.tyStruct (List._∷_ 38 (List._∷_ 91 (List._∷_ 93 List.[]))) (Syntax.tcons (Syntax.tyRef Syntax.erased
-      Syntax.mut (Syntax.tyInt Syntax.w16)) (Syntax.tcons (Syntax.tyInt Syntax.w64) Syntax.tnil))),
-) (List._∷_ (
-  26,
-  Relend.msptr (Referent.rtF (Referent.fInt Syntax.w16)) (Syntax.tyRef Syntax.erased
-      Syntax.mut (Syntax.tyInt Syntax.w16)) 5,
-) (List._∷_ (
-  27,
-  Rows.any-gone (Syntax.tyStruct (List._∷_ 38 (List._∷_ 91 (List._∷_ 93 List.[]))) (Syntax.tcons (Syntax.tyRef Syntax.erased Syntax.mut
-      (Syntax.tyInt Syntax.w16)) (Syntax.tcons (Syntax.tyInt Syntax.w64) Syntax.tnil))),
-) (List._∷_ (28, Rows.any-gone (Syntax.tyRef Syntax.erased Syntax.mut Element.behind)) (List._∷_ (
-  29,
-  Rows.any-gone (Syntax.tyStruct (List._∷_ 38 (List._∷_ 91 (List._∷_ 93 List.[]))) (Syntax.tcons (Syntax.tyRef Syntax.erased Syntax.mut Element.behind) (Syntax.tcons (Syntax.tyInt Syntax.w64)
-      Syntax.tnil))),
-) (List._∷_ (30, Rows.any-gone (Syntax.tyRef Syntax.erased Syntax.mut (Syntax.tyInt Syntax.w8))) (List._∷_ (
-  31,
-  Rows.any-gone (Syntax.tyStruct (List._∷_ 38 (List._∷_ 91 (List._∷_
-      93 List.[]))) (Syntax.tcons (Syntax.tyRef Syntax.erased Syntax.mut (Syntax.tyInt Syntax.w8)) (Syntax.tcons (Syntax.tyInt Syntax.w64) Syntax.tnil))),
-) List.[])))))))))))))))
+t23 = List._∷_ e16 (List._∷_ e18 (List._∷_ e19 (List._∷_ e21 (List._∷_ e25 (List._∷_ e27 (List._∷_ e29 (List._∷_ e31 (List._∷_ e33 (List._∷_ e35 (List._∷_
+    (26, Relend.msptr (Referent.rtF (Referent.fInt Syntax.w16)) (Syntax.tyRef Syntax.erased Syntax.mut (Syntax.tyInt Syntax.w16)) 5) (List._∷_ e38 (List._∷_ e39 (List._∷_ e40 (List._∷_ e43 (List._∷_ e45
+    List.[])))))))))))))))
 
 abbrev pub t24 : List.List Row.Entry
-t24 = List._∷_ (16, Rows.sc-here (Row.sInt Syntax.w64)) (List._∷_ (17, Rows.whole (Declared'.row Plan.the-type)) (List._∷_ (
-  18,
-  Rows.any-gone (Syntax.tyStruct (List._∷_ 112 (List._∷_ 97 (List._∷_
-      115 (List._∷_ 115 (List._∷_ 58 (List._∷_ 58 (List._∷_ 83 (List._∷_ 101 (List._∷_ 116 List.[]))))))))) (Syntax.tcons (Syntax.tyArray (Syntax.tyInt Syntax.w32) 112) (Syntax.tcons (Syntax.tyArray
-      (Syntax.tyInt Syntax.w32) 112) Syntax.tnil))),
-) (List._∷_ (
-  19,
-  Rows.any-gone (Syntax.tyStruct (List._∷_ 119 (List._∷_ 114 (List._∷_ 105 (List._∷_ 116 (List._∷_ 105 (List._∷_ 110 (List._∷_ 103
-      (List._∷_ 58 (List._∷_ 58 (List._∷_ 80 (List._∷_ 97 (List._∷_ 115 (List._∷_ 115 (List._∷_ 80 (List._∷_ 117 (List._∷_ 116 List.[])))))))))))))))) (Syntax.tcons Syntax.tyBool (Syntax.tcons (Syntax.tyInt
-      Syntax.w64) (Syntax.tcons (Syntax.tyStruct (List._∷_ 98 (List._∷_ 105 (List._∷_ 116 (List._∷_ 115 (List._∷_ 58 (List._∷_ 58 (List._∷_ 66 (List._∷_ 105 (List._∷_ 116 (List._∷_ 80 (List._∷_ 111
-      (List._∷_ 115 (List._∷_ 105 (List._∷_ 116 (List._∷_ 105 (List._∷_ 111 (List._∷_ 110 List.[]))))))))))))))))) (Syntax.tcons (Syntax.tyInt Syntax.w64) Syntax.tnil)) (Syntax.tcons (Syntax.tyStruct
-      (List._∷_ 112 (List._∷_ 97 (List._∷_ 115 (List._∷_ 115 (List._∷_ 58 (List._∷_ 58 (List._∷_ 83 (List._∷_ 101 (List._∷_ 116 List.[]))))))))) (Syntax.tcons (Syntax.tyArray (Syntax.tyInt Syntax.w32) 112)
-      (Syntax.tcons (Syntax.tyArray (Syntax.tyInt Syntax.w32) 112) Syntax.tnil))) Syntax.tnil))))),
-) (List._∷_ (20, Rows.any-gone Syntax.tyBool) (List._∷_ (
-  21,
-  Rows.any-gone (Syntax.tyStruct (List._∷_ 112
-      (List._∷_ 97 (List._∷_ 115 (List._∷_ 115 (List._∷_ 58 (List._∷_ 58 (List._∷_ 83 (List._∷_ 101 (List._∷_ 116 List.[]))))))))) (Syntax.tcons (Syntax.tyArray (Syntax.tyInt Syntax.w32) 112) (Syntax.tcons
-      (Syntax.tyArray (Syntax.tyInt Syntax.w32) 112) Syntax.tnil))),
-) (List._∷_ (22, Rows.any-gone Syntax.tyBool) (List._∷_ (23, Rows.any-gone Syntax.tyUnit) (List._∷_ (
-  24,
-  Rows.any-gone (Syntax.tyRef
-      Syntax.erased Syntax.mut (Syntax.tyInt Syntax.w16)),
-) (List._∷_ (
-  25,
-  Rows.any-gone (Syntax.tyStruct (List._∷_ 38 (List._∷_ 91 (List._∷_ 93 List.[]))) (Syntax.tcons (Syntax.tyRef Syntax.erased
-      Syntax.mut (Syntax.tyInt Syntax.w16)) (Syntax.tcons (Syntax.tyInt Syntax.w64) Syntax.tnil))),
-) (List._∷_ (26, Rows.any-gone (Syntax.tyRef Syntax.erased Syntax.mut (Syntax.tyInt Syntax.w16)))
-    (List._∷_ (27, Mut.mslice (Referent.rtF (Referent.fInt Syntax.w16)) (Syntax.tyRef Syntax.erased Syntax.mut (Syntax.tyInt Syntax.w16)) 5) (List._∷_ (
-      28,
-      Rows.any-gone (Syntax.tyRef Syntax.erased
-          Syntax.mut Element.behind),
-    ) (List._∷_ (
-      29,
-      Rows.any-gone (Syntax.tyStruct (List._∷_ 38 (List._∷_ 91 (List._∷_ 93 List.[]))) (Syntax.tcons (Syntax.tyRef Syntax.erased Syntax.mut Element.behind)
-          (Syntax.tcons (Syntax.tyInt Syntax.w64) Syntax.tnil))),
-    ) (List._∷_ (30, Rows.any-gone (Syntax.tyRef Syntax.erased Syntax.mut (Syntax.tyInt Syntax.w8))) (List._∷_ (
-      31,
-      Rows.any-gone
-          (Syntax.tyStruct (List._∷_ 38 (List._∷_ 91 (List._∷_ 93 List.[]))) (Syntax.tcons (Syntax.tyRef Syntax.erased Syntax.mut (Syntax.tyInt Syntax.w8)) (Syntax.tcons (Syntax.tyInt Syntax.w64)
-          Syntax.tnil))),
-    ) List.[])))))))))))))))
+t24 = List._∷_ e16 (List._∷_ e18 (List._∷_ e19 (List._∷_ e21 (List._∷_ e25 (List._∷_ e27 (List._∷_ e29 (List._∷_ e31 (List._∷_ e33 (List._∷_ e35 (List._∷_ e36 (List._∷_
+    (27, Mut.mslice (Referent.rtF (Referent.fInt Syntax.w16)) (Syntax.tyRef Syntax.erased Syntax.mut (Syntax.tyInt Syntax.w16)) 5) (List._∷_ e39 (List._∷_ e40 (List._∷_ e43 (List._∷_ e45
+    List.[])))))))))))))))
 
 abbrev pub t25 : List.List Row.Entry
-t25 = List._∷_ (16, Rows.sc-here (Row.sInt Syntax.w64)) (List._∷_ (17, Rows.whole (Declared'.row Plan.the-type)) (List._∷_ (
-  18,
-  Rows.any-gone (Syntax.tyStruct (List._∷_ 112 (List._∷_ 97 (List._∷_
-      115 (List._∷_ 115 (List._∷_ 58 (List._∷_ 58 (List._∷_ 83 (List._∷_ 101 (List._∷_ 116 List.[]))))))))) (Syntax.tcons (Syntax.tyArray (Syntax.tyInt Syntax.w32) 112) (Syntax.tcons (Syntax.tyArray
-      (Syntax.tyInt Syntax.w32) 112) Syntax.tnil))),
-) (List._∷_ (
-  19,
-  Rows.any-gone (Syntax.tyStruct (List._∷_ 119 (List._∷_ 114 (List._∷_ 105 (List._∷_ 116 (List._∷_ 105 (List._∷_ 110 (List._∷_ 103
-      (List._∷_ 58 (List._∷_ 58 (List._∷_ 80 (List._∷_ 97 (List._∷_ 115 (List._∷_ 115 (List._∷_ 80 (List._∷_ 117 (List._∷_ 116 List.[])))))))))))))))) (Syntax.tcons Syntax.tyBool (Syntax.tcons (Syntax.tyInt
-      Syntax.w64) (Syntax.tcons (Syntax.tyStruct (List._∷_ 98 (List._∷_ 105 (List._∷_ 116 (List._∷_ 115 (List._∷_ 58 (List._∷_ 58 (List._∷_ 66 (List._∷_ 105 (List._∷_ 116 (List._∷_ 80 (List._∷_ 111
-      (List._∷_ 115 (List._∷_ 105 (List._∷_ 116 (List._∷_ 105 (List._∷_ 111 (List._∷_ 110 List.[]))))))))))))))))) (Syntax.tcons (Syntax.tyInt Syntax.w64) Syntax.tnil)) (Syntax.tcons (Syntax.tyStruct
-      (List._∷_ 112 (List._∷_ 97 (List._∷_ 115 (List._∷_ 115 (List._∷_ 58 (List._∷_ 58 (List._∷_ 83 (List._∷_ 101 (List._∷_ 116 List.[]))))))))) (Syntax.tcons (Syntax.tyArray (Syntax.tyInt Syntax.w32) 112)
-      (Syntax.tcons (Syntax.tyArray (Syntax.tyInt Syntax.w32) 112) Syntax.tnil))) Syntax.tnil))))),
-) (List._∷_ (20, Rows.any-gone Syntax.tyBool) (List._∷_ (
-  21,
-  Rows.any-gone (Syntax.tyStruct (List._∷_ 112
-      (List._∷_ 97 (List._∷_ 115 (List._∷_ 115 (List._∷_ 58 (List._∷_ 58 (List._∷_ 83 (List._∷_ 101 (List._∷_ 116 List.[]))))))))) (Syntax.tcons (Syntax.tyArray (Syntax.tyInt Syntax.w32) 112) (Syntax.tcons
-      (Syntax.tyArray (Syntax.tyInt Syntax.w32) 112) Syntax.tnil))),
-) (List._∷_ (22, Rows.any-gone Syntax.tyBool) (List._∷_ (23, Rows.sc-here Row.sUnit) (List._∷_ (
-  24,
-  Rows.any-gone (Syntax.tyRef
-      Syntax.erased Syntax.mut (Syntax.tyInt Syntax.w16)),
-) (List._∷_ (
-  25,
-  Rows.any-gone (Syntax.tyStruct (List._∷_ 38 (List._∷_ 91 (List._∷_ 93 List.[]))) (Syntax.tcons (Syntax.tyRef Syntax.erased
-      Syntax.mut (Syntax.tyInt Syntax.w16)) (Syntax.tcons (Syntax.tyInt Syntax.w64) Syntax.tnil))),
-) (List._∷_ (26, Rows.any-gone (Syntax.tyRef Syntax.erased Syntax.mut (Syntax.tyInt Syntax.w16)))
-    (List._∷_ (27, Mut.msleft (Referent.rtF (Referent.fInt Syntax.w16)) (Syntax.tyRef Syntax.erased Syntax.mut (Syntax.tyInt Syntax.w16))) (List._∷_ (
-      28,
-      Rows.any-gone (Syntax.tyRef Syntax.erased
-          Syntax.mut Element.behind),
-    ) (List._∷_ (
-      29,
-      Rows.any-gone (Syntax.tyStruct (List._∷_ 38 (List._∷_ 91 (List._∷_ 93 List.[]))) (Syntax.tcons (Syntax.tyRef Syntax.erased Syntax.mut Element.behind)
-          (Syntax.tcons (Syntax.tyInt Syntax.w64) Syntax.tnil))),
-    ) (List._∷_ (30, Rows.any-gone (Syntax.tyRef Syntax.erased Syntax.mut (Syntax.tyInt Syntax.w8))) (List._∷_ (
-      31,
-      Rows.any-gone
-          (Syntax.tyStruct (List._∷_ 38 (List._∷_ 91 (List._∷_ 93 List.[]))) (Syntax.tcons (Syntax.tyRef Syntax.erased Syntax.mut (Syntax.tyInt Syntax.w8)) (Syntax.tcons (Syntax.tyInt Syntax.w64)
-          Syntax.tnil))),
-    ) List.[])))))))))))))))
+t25 = List._∷_ e16 (List._∷_ e18 (List._∷_ e19 (List._∷_ e21 (List._∷_ e25 (List._∷_ e27 (List._∷_ e29 (List._∷_ e32 (List._∷_ e33 (List._∷_ e35 (List._∷_ e36 (List._∷_ e37 (List._∷_ e39 (List._∷_ e40
+    (List._∷_ e43 (List._∷_ e45 List.[])))))))))))))))
 
 abbrev pub t26 : List.List Row.Entry
-t26 = List._∷_ (16, Rows.sc-here (Row.sInt Syntax.w64)) (List._∷_ (17, Rows.whole (Declared'.row Plan.the-type)) (List._∷_ (
-  18,
-  Rows.any-gone (Syntax.tyStruct (List._∷_ 112 (List._∷_ 97 (List._∷_
-      115 (List._∷_ 115 (List._∷_ 58 (List._∷_ 58 (List._∷_ 83 (List._∷_ 101 (List._∷_ 116 List.[]))))))))) (Syntax.tcons (Syntax.tyArray (Syntax.tyInt Syntax.w32) 112) (Syntax.tcons (Syntax.tyArray
-      (Syntax.tyInt Syntax.w32) 112) Syntax.tnil))),
-) (List._∷_ (
-  19,
-  Rows.any-gone (Syntax.tyStruct (List._∷_ 119 (List._∷_ 114 (List._∷_ 105 (List._∷_ 116 (List._∷_ 105 (List._∷_ 110 (List._∷_ 103
-      (List._∷_ 58 (List._∷_ 58 (List._∷_ 80 (List._∷_ 97 (List._∷_ 115 (List._∷_ 115 (List._∷_ 80 (List._∷_ 117 (List._∷_ 116 List.[])))))))))))))))) (Syntax.tcons Syntax.tyBool (Syntax.tcons (Syntax.tyInt
-      Syntax.w64) (Syntax.tcons (Syntax.tyStruct (List._∷_ 98 (List._∷_ 105 (List._∷_ 116 (List._∷_ 115 (List._∷_ 58 (List._∷_ 58 (List._∷_ 66 (List._∷_ 105 (List._∷_ 116 (List._∷_ 80 (List._∷_ 111
-      (List._∷_ 115 (List._∷_ 105 (List._∷_ 116 (List._∷_ 105 (List._∷_ 111 (List._∷_ 110 List.[]))))))))))))))))) (Syntax.tcons (Syntax.tyInt Syntax.w64) Syntax.tnil)) (Syntax.tcons (Syntax.tyStruct
-      (List._∷_ 112 (List._∷_ 97 (List._∷_ 115 (List._∷_ 115 (List._∷_ 58 (List._∷_ 58 (List._∷_ 83 (List._∷_ 101 (List._∷_ 116 List.[]))))))))) (Syntax.tcons (Syntax.tyArray (Syntax.tyInt Syntax.w32) 112)
-      (Syntax.tcons (Syntax.tyArray (Syntax.tyInt Syntax.w32) 112) Syntax.tnil))) Syntax.tnil))))),
-) (List._∷_ (20, Rows.any-gone Syntax.tyBool) (List._∷_ (
-  21,
-  Rows.any-gone (Syntax.tyStruct (List._∷_ 112
-      (List._∷_ 97 (List._∷_ 115 (List._∷_ 115 (List._∷_ 58 (List._∷_ 58 (List._∷_ 83 (List._∷_ 101 (List._∷_ 116 List.[]))))))))) (Syntax.tcons (Syntax.tyArray (Syntax.tyInt Syntax.w32) 112) (Syntax.tcons
-      (Syntax.tyArray (Syntax.tyInt Syntax.w32) 112) Syntax.tnil))),
-) (List._∷_ (22, Rows.any-gone Syntax.tyBool) (List._∷_ (23, Rows.any-gone Syntax.tyUnit) (List._∷_ (
-  24,
-  Rows.any-gone (Syntax.tyRef
-      Syntax.erased Syntax.mut (Syntax.tyInt Syntax.w16)),
-) (List._∷_ (
-  25,
-  Rows.any-gone (Syntax.tyStruct (List._∷_ 38 (List._∷_ 91 (List._∷_ 93 List.[]))) (Syntax.tcons (Syntax.tyRef Syntax.erased
-      Syntax.mut (Syntax.tyInt Syntax.w16)) (Syntax.tcons (Syntax.tyInt Syntax.w64) Syntax.tnil))),
-) (List._∷_ (26, Rows.any-gone (Syntax.tyRef Syntax.erased Syntax.mut (Syntax.tyInt Syntax.w16)))
-    (List._∷_ (27, Mut.msleft (Referent.rtF (Referent.fInt Syntax.w16)) (Syntax.tyRef Syntax.erased Syntax.mut (Syntax.tyInt Syntax.w16))) (List._∷_ (
-      28,
-      Rows.any-gone (Syntax.tyRef Syntax.erased
-          Syntax.mut Element.behind),
-    ) (List._∷_ (
-      29,
-      Rows.any-gone (Syntax.tyStruct (List._∷_ 38 (List._∷_ 91 (List._∷_ 93 List.[]))) (Syntax.tcons (Syntax.tyRef Syntax.erased Syntax.mut Element.behind)
-          (Syntax.tcons (Syntax.tyInt Syntax.w64) Syntax.tnil))),
-    ) (List._∷_ (30, Rows.any-gone (Syntax.tyRef Syntax.erased Syntax.mut (Syntax.tyInt Syntax.w8))) (List._∷_ (
-      31,
-      Rows.any-gone
-          (Syntax.tyStruct (List._∷_ 38 (List._∷_ 91 (List._∷_ 93 List.[]))) (Syntax.tcons (Syntax.tyRef Syntax.erased Syntax.mut (Syntax.tyInt Syntax.w8)) (Syntax.tcons (Syntax.tyInt Syntax.w64)
-          Syntax.tnil))),
-    ) List.[])))))))))))))))
+t26 = List._∷_ e16 (List._∷_ e18 (List._∷_ e19 (List._∷_ e21 (List._∷_ e25 (List._∷_ e27 (List._∷_ e29 (List._∷_ e31 (List._∷_ e33 (List._∷_ e35 (List._∷_ e36 (List._∷_ e37 (List._∷_ e39 (List._∷_ e40
+    (List._∷_ e43 (List._∷_ e45 List.[])))))))))))))))
 
 abbrev pub t27 : List.List Row.Entry
-t27 = List._∷_ (
-  0,
-  Rows.any-gone (Syntax.tyEnum (List._∷_ 119 (List._∷_ 114 (List._∷_ 105 (List._∷_ 116 (List._∷_ 105 (List._∷_ 110 (List._∷_ 103 (List._∷_ 58 (List._∷_ 58 (List._∷_ 80 (List._∷_ 117
-      (List._∷_ 116 List.[])))))))))))) (Syntax.ttcons (Syntax.tcons (Syntax.tyStruct (List._∷_ 98 (List._∷_ 105 (List._∷_ 116 (List._∷_ 115 (List._∷_ 58 (List._∷_ 58 (List._∷_ 66 (List._∷_ 105 (List._∷_
-      116 (List._∷_ 80 (List._∷_ 111 (List._∷_ 115 (List._∷_ 105 (List._∷_ 116 (List._∷_ 105 (List._∷_ 111 (List._∷_ 110 List.[]))))))))))))))))) (Syntax.tcons (Syntax.tyInt Syntax.w64) Syntax.tnil))
-      Syntax.tnil) (Syntax.ttcons (Syntax.tcons (Syntax.tyInt Syntax.w64) Syntax.tnil) Syntax.ttnil))),
-) (List._∷_ (
-  1,
-  Rows.sslice (Referent.rtF (Referent.fInt Syntax.w16)) (Syntax.tyRef (Syntax.named 0)
-      Syntax.imm (Syntax.tyInt Syntax.w16)) 0,
-) (List._∷_ (2, Rows.sc-here (Row.sInt Syntax.w64)) (List._∷_ (
-  3,
-  Mut.mslice (Referent.rtF (Referent.fInt Syntax.w8)) (Syntax.tyRef (Syntax.named 1)
-      Syntax.mut (Syntax.tyInt Syntax.w8)) 1,
-) (List._∷_ (4, Rows.sc-here Row.sBool) (List._∷_ (
-  5,
-  Rows.any-gone (Syntax.tyStruct (List._∷_ 98 (List._∷_ 105 (List._∷_ 116 (List._∷_ 115 (List._∷_ 58
-      (List._∷_ 58 (List._∷_ 66 (List._∷_ 105 (List._∷_ 116 (List._∷_ 80 (List._∷_ 111 (List._∷_ 115 (List._∷_ 105 (List._∷_ 116 (List._∷_ 105 (List._∷_ 111 (List._∷_ 110 List.[])))))))))))))))))
-      (Syntax.tcons (Syntax.tyInt Syntax.w64) Syntax.tnil)),
-) (List._∷_ (6, Mut.mslice (Referent.rtF (Referent.fInt Syntax.w16)) (Syntax.tyRef (Syntax.named 2) Syntax.mut (Syntax.tyInt Syntax.w16)) 2)
-    (List._∷_ (7, Relend.mslice-owed (Element.type) (Syntax.tyRef (Syntax.named 3) Syntax.mut Element.behind) 3 6 Row.off) (List._∷_ (
-      8,
-      Rows.any-gone (Syntax.tyStruct (List._∷_ 98 (List._∷_ 108
-          (List._∷_ 111 (List._∷_ 99 (List._∷_ 107 (List._∷_ 58 (List._∷_ 58 (List._∷_ 70 (List._∷_ 111 (List._∷_ 114 (List._∷_ 109 List.[]))))))))))) (Syntax.tcons (Syntax.tyInt Syntax.w32) (Syntax.tcons
-          Syntax.tyBool Syntax.tnil))),
-    ) (List._∷_ (9, Rows.sc-here (Row.sInt Syntax.w32)) (List._∷_ (10, Rows.sc-here Row.sBool) (List._∷_ (11, Rows.sc-here (Row.sInt Syntax.w64)) (List._∷_ (
-      12,
-      Rows.any-gone (Syntax.tyStruct (List._∷_ 113 (List._∷_ 117 (List._∷_ 97 (List._∷_ 110 (List._∷_ 116 (List._∷_ 105 (List._∷_ 115 (List._∷_ 101 (List._∷_ 114 (List._∷_ 58 (List._∷_ 58 (List._∷_ 81
-          (List._∷_ 117 (List._∷_ 97 (List._∷_ 110 (List._∷_ 116 (List._∷_ 105 (List._∷_ 115 (List._∷_ 101 (List._∷_ 114 List.[])))))))))))))))))))) (Syntax.tcons (Syntax.tyInt Syntax.w32) (Syntax.tcons
-          (Syntax.tyInt Syntax.w32) (Syntax.tcons (Syntax.tyInt Syntax.w32) (Syntax.tcons (Syntax.tyInt Syntax.w32) (Syntax.tcons (Syntax.tyInt Syntax.w32) Syntax.tnil)))))),
-    ) (List._∷_ (
-      13,
-      Rows.sc-here
-          (Row.sInt Syntax.w32),
-    ) (List._∷_ (14, Rows.sc-here (Row.sInt Syntax.w32)) (List._∷_ (15, Rows.whole (Declared'.row BitPosition.the-type)) List.[])))))))))))))))
+t27 = List._∷_ e0 (List._∷_ e2 (List._∷_ e24 (List._∷_ e41 (List._∷_ e51 (List._∷_ e52 (List._∷_ e54 (List._∷_
+    (7, Relend.mslice-owed (Element.type) (Syntax.tyRef (Syntax.named 3) Syntax.mut Element.behind) 3 6 Row.off) (List._∷_ e57 (List._∷_ e60 (List._∷_ e4 (List._∷_ e6 (List._∷_ e7 (List._∷_ e10 (List._∷_
+    e12 (List._∷_ e14 List.[])))))))))))))))
 
 abbrev pub t28 : List.List Row.Entry
-t28 = List._∷_ (16, Rows.sc-here (Row.sInt Syntax.w64)) (List._∷_ (17, Rows.whole (Declared'.row Plan.the-type)) (List._∷_ (
-  18,
-  Rows.any-gone (Syntax.tyStruct (List._∷_ 112 (List._∷_ 97 (List._∷_
-      115 (List._∷_ 115 (List._∷_ 58 (List._∷_ 58 (List._∷_ 83 (List._∷_ 101 (List._∷_ 116 List.[]))))))))) (Syntax.tcons (Syntax.tyArray (Syntax.tyInt Syntax.w32) 112) (Syntax.tcons (Syntax.tyArray
-      (Syntax.tyInt Syntax.w32) 112) Syntax.tnil))),
-) (List._∷_ (
-  19,
-  Rows.any-gone (Syntax.tyStruct (List._∷_ 119 (List._∷_ 114 (List._∷_ 105 (List._∷_ 116 (List._∷_ 105 (List._∷_ 110 (List._∷_ 103
-      (List._∷_ 58 (List._∷_ 58 (List._∷_ 80 (List._∷_ 97 (List._∷_ 115 (List._∷_ 115 (List._∷_ 80 (List._∷_ 117 (List._∷_ 116 List.[])))))))))))))))) (Syntax.tcons Syntax.tyBool (Syntax.tcons (Syntax.tyInt
-      Syntax.w64) (Syntax.tcons (Syntax.tyStruct (List._∷_ 98 (List._∷_ 105 (List._∷_ 116 (List._∷_ 115 (List._∷_ 58 (List._∷_ 58 (List._∷_ 66 (List._∷_ 105 (List._∷_ 116 (List._∷_ 80 (List._∷_ 111
-      (List._∷_ 115 (List._∷_ 105 (List._∷_ 116 (List._∷_ 105 (List._∷_ 111 (List._∷_ 110 List.[]))))))))))))))))) (Syntax.tcons (Syntax.tyInt Syntax.w64) Syntax.tnil)) (Syntax.tcons (Syntax.tyStruct
-      (List._∷_ 112 (List._∷_ 97 (List._∷_ 115 (List._∷_ 115 (List._∷_ 58 (List._∷_ 58 (List._∷_ 83 (List._∷_ 101 (List._∷_ 116 List.[]))))))))) (Syntax.tcons (Syntax.tyArray (Syntax.tyInt Syntax.w32) 112)
-      (Syntax.tcons (Syntax.tyArray (Syntax.tyInt Syntax.w32) 112) Syntax.tnil))) Syntax.tnil))))),
-) (List._∷_ (20, Rows.any-gone Syntax.tyBool) (List._∷_ (
-  21,
-  Rows.any-gone (Syntax.tyStruct (List._∷_ 112
-      (List._∷_ 97 (List._∷_ 115 (List._∷_ 115 (List._∷_ 58 (List._∷_ 58 (List._∷_ 83 (List._∷_ 101 (List._∷_ 116 List.[]))))))))) (Syntax.tcons (Syntax.tyArray (Syntax.tyInt Syntax.w32) 112) (Syntax.tcons
-      (Syntax.tyArray (Syntax.tyInt Syntax.w32) 112) Syntax.tnil))),
-) (List._∷_ (22, Rows.any-gone Syntax.tyBool) (List._∷_ (23, Rows.any-gone Syntax.tyUnit) (List._∷_ (
-  24,
-  Rows.any-gone (Syntax.tyRef
-      Syntax.erased Syntax.mut (Syntax.tyInt Syntax.w16)),
-) (List._∷_ (
-  25,
-  Rows.any-gone (Syntax.tyStruct (List._∷_ 38 (List._∷_ 91 (List._∷_ 93 List.[]))) (Syntax.tcons (Syntax.tyRef Syntax.erased
-      Syntax.mut (Syntax.tyInt Syntax.w16)) (Syntax.tcons (Syntax.tyInt Syntax.w64) Syntax.tnil))),
-) (List._∷_ (26, Rows.any-gone (Syntax.tyRef Syntax.erased Syntax.mut (Syntax.tyInt Syntax.w16)))
-    (List._∷_ (
-      27,
-      Rows.any-gone (Syntax.tyStruct (List._∷_ 38 (List._∷_ 91 (List._∷_ 93 List.[]))) (Syntax.tcons (Syntax.tyRef Syntax.erased Syntax.mut (Syntax.tyInt Syntax.w16)) (Syntax.tcons
-          (Syntax.tyInt Syntax.w64) Syntax.tnil))),
-    ) (List._∷_ (28, Relend.msptr (Element.type) (Syntax.tyRef Syntax.erased Syntax.mut Element.behind) 6) (List._∷_ (
-      29,
-      Rows.any-gone (Syntax.tyStruct
-          (List._∷_ 38 (List._∷_ 91 (List._∷_ 93 List.[]))) (Syntax.tcons (Syntax.tyRef Syntax.erased Syntax.mut Element.behind) (Syntax.tcons (Syntax.tyInt Syntax.w64) Syntax.tnil))),
-    ) (List._∷_ (
-      30,
-      Rows.any-gone (Syntax.tyRef Syntax.erased Syntax.mut (Syntax.tyInt Syntax.w8)),
-    ) (List._∷_ (
-      31,
-      Rows.any-gone (Syntax.tyStruct (List._∷_ 38 (List._∷_ 91 (List._∷_ 93 List.[]))) (Syntax.tcons
-          (Syntax.tyRef Syntax.erased Syntax.mut (Syntax.tyInt Syntax.w8)) (Syntax.tcons (Syntax.tyInt Syntax.w64) Syntax.tnil))),
-    ) List.[])))))))))))))))
+t28 = List._∷_ e16 (List._∷_ e18 (List._∷_ e19 (List._∷_ e21 (List._∷_ e25 (List._∷_ e27 (List._∷_ e29 (List._∷_ e31 (List._∷_ e33 (List._∷_ e35 (List._∷_ e36 (List._∷_ e38 (List._∷_
+    (28, Relend.msptr (Element.type) (Syntax.tyRef Syntax.erased Syntax.mut Element.behind) 6) (List._∷_ e40 (List._∷_ e43 (List._∷_ e45 List.[])))))))))))))))
 
 abbrev pub t29 : List.List Row.Entry
-t29 = List._∷_ (16, Rows.sc-here (Row.sInt Syntax.w64)) (List._∷_ (17, Rows.whole (Declared'.row Plan.the-type)) (List._∷_ (
-  18,
-  Rows.any-gone (Syntax.tyStruct (List._∷_ 112 (List._∷_ 97 (List._∷_
-      115 (List._∷_ 115 (List._∷_ 58 (List._∷_ 58 (List._∷_ 83 (List._∷_ 101 (List._∷_ 116 List.[]))))))))) (Syntax.tcons (Syntax.tyArray (Syntax.tyInt Syntax.w32) 112) (Syntax.tcons (Syntax.tyArray
-      (Syntax.tyInt Syntax.w32) 112) Syntax.tnil))),
-) (List._∷_ (
-  19,
-  Rows.any-gone (Syntax.tyStruct (List._∷_ 119 (List._∷_ 114 (List._∷_ 105 (List._∷_ 116 (List._∷_ 105 (List._∷_ 110 (List._∷_ 103
-      (List._∷_ 58 (List._∷_ 58 (List._∷_ 80 (List._∷_ 97 (List._∷_ 115 (List._∷_ 115 (List._∷_ 80 (List._∷_ 117 (List._∷_ 116 List.[])))))))))))))))) (Syntax.tcons Syntax.tyBool (Syntax.tcons (Syntax.tyInt
-      Syntax.w64) (Syntax.tcons (Syntax.tyStruct (List._∷_ 98 (List._∷_ 105 (List._∷_ 116 (List._∷_ 115 (List._∷_ 58 (List._∷_ 58 (List._∷_ 66 (List._∷_ 105 (List._∷_ 116 (List._∷_ 80 (List._∷_ 111
-      (List._∷_ 115 (List._∷_ 105 (List._∷_ 116 (List._∷_ 105 (List._∷_ 111 (List._∷_ 110 List.[]))))))))))))))))) (Syntax.tcons (Syntax.tyInt Syntax.w64) Syntax.tnil)) (Syntax.tcons (Syntax.tyStruct
-      (List._∷_ 112 (List._∷_ 97 (List._∷_ 115 (List._∷_ 115 (List._∷_ 58 (List._∷_ 58 (List._∷_ 83 (List._∷_ 101 (List._∷_ 116 List.[]))))))))) (Syntax.tcons (Syntax.tyArray (Syntax.tyInt Syntax.w32) 112)
-      (Syntax.tcons (Syntax.tyArray (Syntax.tyInt Syntax.w32) 112) Syntax.tnil))) Syntax.tnil))))),
-) (List._∷_ (20, Rows.any-gone Syntax.tyBool) (List._∷_ (
-  21,
-  Rows.any-gone (Syntax.tyStruct (List._∷_ 112
-      (List._∷_ 97 (List._∷_ 115 (List._∷_ 115 (List._∷_ 58 (List._∷_ 58 (List._∷_ 83 (List._∷_ 101 (List._∷_ 116 List.[]))))))))) (Syntax.tcons (Syntax.tyArray (Syntax.tyInt Syntax.w32) 112) (Syntax.tcons
-      (Syntax.tyArray (Syntax.tyInt Syntax.w32) 112) Syntax.tnil))),
-) (List._∷_ (22, Rows.any-gone Syntax.tyBool) (List._∷_ (23, Rows.any-gone Syntax.tyUnit) (List._∷_ (
-  24,
-  Rows.any-gone (Syntax.tyRef
-      Syntax.erased Syntax.mut (Syntax.tyInt Syntax.w16)),
-) (List._∷_ (
-  25,
-  Rows.any-gone (Syntax.tyStruct (List._∷_ 38 (List._∷_ 91 (List._∷_ 93 List.[]))) (Syntax.tcons (Syntax.tyRef Syntax.erased
-      Syntax.mut (Syntax.tyInt Syntax.w16)) (Syntax.tcons (Syntax.tyInt Syntax.w64) Syntax.tnil))),
-) (List._∷_ (26, Rows.any-gone (Syntax.tyRef Syntax.erased Syntax.mut (Syntax.tyInt Syntax.w16)))
-    (List._∷_ (
-      27,
-      Rows.any-gone (Syntax.tyStruct (List._∷_ 38 (List._∷_ 91 (List._∷_ 93 List.[]))) (Syntax.tcons (Syntax.tyRef Syntax.erased Syntax.mut (Syntax.tyInt Syntax.w16)) (Syntax.tcons
-          (Syntax.tyInt Syntax.w64) Syntax.tnil))),
-    ) (List._∷_ (28, Rows.any-gone (Syntax.tyRef Syntax.erased Syntax.mut Element.behind)) (List._∷_ (
-      29,
-      Mut.mslice (Element.type) (Syntax.tyRef
-          Syntax.erased Syntax.mut Element.behind) 6,
-    ) (List._∷_ (30, Rows.any-gone (Syntax.tyRef Syntax.erased Syntax.mut (Syntax.tyInt Syntax.w8))) (List._∷_ (
-      31,
-      Rows.any-gone (Syntax.tyStruct (List._∷_
-          38 (List._∷_ 91 (List._∷_ 93 List.[]))) (Syntax.tcons (Syntax.tyRef Syntax.erased Syntax.mut (Syntax.tyInt Syntax.w8)) (Syntax.tcons (Syntax.tyInt Syntax.w64) Syntax.tnil))),
-    ) List.[])))))))))))))))
+t29 = List._∷_ e16 (List._∷_ e18 (List._∷_ e19 (List._∷_ e21 (List._∷_ e25 (List._∷_ e27 (List._∷_ e29 (List._∷_ e31 (List._∷_ e33 (List._∷_ e35 (List._∷_ e36 (List._∷_ e38 (List._∷_ e39 (List._∷_
+    (29, Mut.mslice (Element.type) (Syntax.tyRef Syntax.erased Syntax.mut Element.behind) 6) (List._∷_ e43 (List._∷_ e45 List.[])))))))))))))))
 
 abbrev pub t30 : List.List Row.Entry
-t30 = List._∷_ (16, Rows.sc-here (Row.sInt Syntax.w64)) (List._∷_ (17, Rows.whole (Declared'.row Plan.the-type)) (List._∷_ (18, Rows.whole (Declared'.row Set.the-type)) (List._∷_ (
-  19,
-  Rows.any-gone (Syntax.tyStruct (List._∷_ 119 (List._∷_ 114 (List._∷_ 105 (List._∷_ 116 (List._∷_ 105 (List._∷_ 110 (List._∷_ 103 (List._∷_ 58 (List._∷_ 58 (List._∷_ 80 (List._∷_ 97 (List._∷_ 115
-      (List._∷_ 115 (List._∷_ 80 (List._∷_ 117 (List._∷_ 116 List.[])))))))))))))))) (Syntax.tcons Syntax.tyBool (Syntax.tcons (Syntax.tyInt Syntax.w64) (Syntax.tcons (Syntax.tyStruct (List._∷_ 98 (List._∷_
-      105 (List._∷_ 116 (List._∷_ 115 (List._∷_ 58 (List._∷_ 58 (List._∷_ 66 (List._∷_ 105 (List._∷_ 116 (List._∷_ 80 (List._∷_ 111 (List._∷_ 115 (List._∷_ 105 (List._∷_ 116 (List._∷_ 105 (List._∷_ 111
-      (List._∷_ 110 List.[]))))))))))))))))) (Syntax.tcons (Syntax.tyInt Syntax.w64) Syntax.tnil)) (Syntax.tcons (Syntax.tyStruct (List._∷_ 112 (List._∷_ 97 (List._∷_ 115 (List._∷_ 115 (List._∷_ 58
-      (List._∷_ 58 (List._∷_ 83 (List._∷_ 101 (List._∷_ 116 List.[]))))))))) (Syntax.tcons (Syntax.tyArray (Syntax.tyInt Syntax.w32) 112) (Syntax.tcons (Syntax.tyArray (Syntax.tyInt Syntax.w32) 112)
-      Syntax.tnil))) Syntax.tnil))))),
-) (List._∷_ (20, Rows.any-gone Syntax.tyBool) (List._∷_ (
-  21,
-  Rows.any-gone (Syntax.tyStruct (List._∷_ 112 (List._∷_ 97 (List._∷_ 115 (List._∷_ 115 (List._∷_ 58
-      (List._∷_ 58 (List._∷_ 83 (List._∷_ 101 (List._∷_ 116 List.[]))))))))) (Syntax.tcons (Syntax.tyArray (Syntax.tyInt Syntax.w32) 112) (Syntax.tcons (Syntax.tyArray (Syntax.tyInt Syntax.w32) 112)
-      Syntax.tnil))),
-) (List._∷_ (22, Rows.any-gone Syntax.tyBool) (List._∷_ (23, Rows.any-gone Syntax.tyUnit) (List._∷_ (
-  24,
-  Rows.any-gone (Syntax.tyRef Syntax.erased Syntax.mut (Syntax.tyInt
-      Syntax.w16)),
-) (List._∷_ (
-  25,
-  Rows.any-gone (Syntax.tyStruct (List._∷_ 38 (List._∷_ 91 (List._∷_ 93 List.[]))) (Syntax.tcons (Syntax.tyRef Syntax.erased Syntax.mut (Syntax.tyInt Syntax.w16))
-      (Syntax.tcons (Syntax.tyInt Syntax.w64) Syntax.tnil))),
-) (List._∷_ (26, Rows.any-gone (Syntax.tyRef Syntax.erased Syntax.mut (Syntax.tyInt Syntax.w16))) (List._∷_ (
-  27,
-  Rows.any-gone
-      (Syntax.tyStruct (List._∷_ 38 (List._∷_ 91 (List._∷_ 93 List.[]))) (Syntax.tcons (Syntax.tyRef Syntax.erased Syntax.mut (Syntax.tyInt Syntax.w16)) (Syntax.tcons (Syntax.tyInt Syntax.w64)
-      Syntax.tnil))),
-) (List._∷_ (28, Rows.any-gone (Syntax.tyRef Syntax.erased Syntax.mut Element.behind)) (List._∷_ (
-  29,
-  Mut.msleft (Element.type) (Syntax.tyRef Syntax.erased Syntax.mut
-      Element.behind),
-) (List._∷_ (30, Rows.any-gone (Syntax.tyRef Syntax.erased Syntax.mut (Syntax.tyInt Syntax.w8))) (List._∷_ (
-  31,
-  Rows.any-gone (Syntax.tyStruct (List._∷_ 38 (List._∷_ 91 (List._∷_
-      93 List.[]))) (Syntax.tcons (Syntax.tyRef Syntax.erased Syntax.mut (Syntax.tyInt Syntax.w8)) (Syntax.tcons (Syntax.tyInt Syntax.w64) Syntax.tnil))),
-) List.[])))))))))))))))
+t30 = List._∷_ e16 (List._∷_ e18 (List._∷_ e20 (List._∷_ e21 (List._∷_ e25 (List._∷_ e27 (List._∷_ e29 (List._∷_ e31 (List._∷_ e33 (List._∷_ e35 (List._∷_ e36 (List._∷_ e38 (List._∷_ e39 (List._∷_
+    (29, Mut.msleft (Element.type) (Syntax.tyRef Syntax.erased Syntax.mut Element.behind)) (List._∷_ e43 (List._∷_ e45 List.[])))))))))))))))
 
 abbrev pub t31 : List.List Row.Entry
-t31 = List._∷_ (16, Rows.sc-here (Row.sInt Syntax.w64)) (List._∷_ (17, Rows.whole (Declared'.row Plan.the-type)) (List._∷_ (18, Rows.whole (Declared'.row Set.the-type)) (List._∷_ (
-  19,
-  Rows.any-gone (Syntax.tyStruct (List._∷_ 119 (List._∷_ 114 (List._∷_ 105 (List._∷_ 116 (List._∷_ 105 (List._∷_ 110 (List._∷_ 103 (List._∷_ 58 (List._∷_ 58 (List._∷_ 80 (List._∷_ 97 (List._∷_ 115
-      (List._∷_ 115 (List._∷_ 80 (List._∷_ 117 (List._∷_ 116 List.[])))))))))))))))) (Syntax.tcons Syntax.tyBool (Syntax.tcons (Syntax.tyInt Syntax.w64) (Syntax.tcons (Syntax.tyStruct (List._∷_ 98 (List._∷_
-      105 (List._∷_ 116 (List._∷_ 115 (List._∷_ 58 (List._∷_ 58 (List._∷_ 66 (List._∷_ 105 (List._∷_ 116 (List._∷_ 80 (List._∷_ 111 (List._∷_ 115 (List._∷_ 105 (List._∷_ 116 (List._∷_ 105 (List._∷_ 111
-      (List._∷_ 110 List.[]))))))))))))))))) (Syntax.tcons (Syntax.tyInt Syntax.w64) Syntax.tnil)) (Syntax.tcons (Syntax.tyStruct (List._∷_ 112 (List._∷_ 97 (List._∷_ 115 (List._∷_ 115 (List._∷_ 58
-      (List._∷_ 58 (List._∷_ 83 (List._∷_ 101 (List._∷_ 116 List.[]))))))))) (Syntax.tcons (Syntax.tyArray (Syntax.tyInt Syntax.w32) 112) (Syntax.tcons (Syntax.tyArray (Syntax.tyInt Syntax.w32) 112)
-      Syntax.tnil))) Syntax.tnil))))),
-) (List._∷_ (20, Rows.any-gone Syntax.tyBool) (List._∷_ (
-  21,
-  Rows.any-gone (Syntax.tyStruct (List._∷_ 112 (List._∷_ 97 (List._∷_ 115 (List._∷_ 115 (List._∷_ 58
-      (List._∷_ 58 (List._∷_ 83 (List._∷_ 101 (List._∷_ 116 List.[]))))))))) (Syntax.tcons (Syntax.tyArray (Syntax.tyInt Syntax.w32) 112) (Syntax.tcons (Syntax.tyArray (Syntax.tyInt Syntax.w32) 112)
-      Syntax.tnil))),
-) (List._∷_ (22, Rows.any-gone Syntax.tyBool) (List._∷_ (23, Rows.any-gone Syntax.tyUnit) (List._∷_ (
-  24,
-  Rows.any-gone (Syntax.tyRef Syntax.erased Syntax.mut (Syntax.tyInt
-      Syntax.w16)),
-) (List._∷_ (
-  25,
-  Rows.any-gone (Syntax.tyStruct (List._∷_ 38 (List._∷_ 91 (List._∷_ 93 List.[]))) (Syntax.tcons (Syntax.tyRef Syntax.erased Syntax.mut (Syntax.tyInt Syntax.w16))
-      (Syntax.tcons (Syntax.tyInt Syntax.w64) Syntax.tnil))),
-) (List._∷_ (26, Rows.any-gone (Syntax.tyRef Syntax.erased Syntax.mut (Syntax.tyInt Syntax.w16))) (List._∷_ (
-  27,
-  Rows.any-gone
-      (Syntax.tyStruct (List._∷_ 38 (List._∷_ 91 (List._∷_ 93 List.[]))) (Syntax.tcons (Syntax.tyRef Syntax.erased Syntax.mut (Syntax.tyInt Syntax.w16)) (Syntax.tcons (Syntax.tyInt Syntax.w64)
-      Syntax.tnil))),
-) (List._∷_ (28, Rows.any-gone (Syntax.tyRef Syntax.erased Syntax.mut Element.behind)) (List._∷_ (
-  29,
-  Rows.any-gone (Syntax.tyStruct (List._∷_ 38 (List._∷_ 91 (List._∷_ 93
-      List.[]))) (Syntax.tcons (Syntax.tyRef Syntax.erased Syntax.mut Element.behind) (Syntax.tcons (Syntax.tyInt Syntax.w64) Syntax.tnil))),
-) (List._∷_ (
-  30,
-  Rows.any-gone (Syntax.tyRef Syntax.erased
-      Syntax.mut (Syntax.tyInt Syntax.w8)),
-) (List._∷_ (
-  31,
-  Rows.any-gone (Syntax.tyStruct (List._∷_ 38 (List._∷_ 91 (List._∷_ 93 List.[]))) (Syntax.tcons (Syntax.tyRef Syntax.erased Syntax.mut
-      (Syntax.tyInt Syntax.w8)) (Syntax.tcons (Syntax.tyInt Syntax.w64) Syntax.tnil))),
-) List.[])))))))))))))))
+t31 = List._∷_ e16 (List._∷_ e18 (List._∷_ e20 (List._∷_ e21 (List._∷_ e25 (List._∷_ e27 (List._∷_ e29 (List._∷_ e31 (List._∷_ e33 (List._∷_ e35 (List._∷_ e36 (List._∷_ e38 (List._∷_ e39 (List._∷_ e40
+    (List._∷_ e43 (List._∷_ e45 List.[])))))))))))))))
 
 abbrev pub t32 : List.List Row.Entry
-t32 = List._∷_ (
-  0,
-  Rows.any-gone (Syntax.tyEnum (List._∷_ 119 (List._∷_ 114 (List._∷_ 105 (List._∷_ 116 (List._∷_ 105 (List._∷_ 110 (List._∷_ 103 (List._∷_ 58 (List._∷_ 58 (List._∷_ 80 (List._∷_ 117
-      (List._∷_ 116 List.[])))))))))))) (Syntax.ttcons (Syntax.tcons (Syntax.tyStruct (List._∷_ 98 (List._∷_ 105 (List._∷_ 116 (List._∷_ 115 (List._∷_ 58 (List._∷_ 58 (List._∷_ 66 (List._∷_ 105 (List._∷_
-      116 (List._∷_ 80 (List._∷_ 111 (List._∷_ 115 (List._∷_ 105 (List._∷_ 116 (List._∷_ 105 (List._∷_ 111 (List._∷_ 110 List.[]))))))))))))))))) (Syntax.tcons (Syntax.tyInt Syntax.w64) Syntax.tnil))
-      Syntax.tnil) (Syntax.ttcons (Syntax.tcons (Syntax.tyInt Syntax.w64) Syntax.tnil) Syntax.ttnil))),
-) (List._∷_ (
-  1,
-  Rows.sslice (Referent.rtF (Referent.fInt Syntax.w16)) (Syntax.tyRef (Syntax.named 0)
-      Syntax.imm (Syntax.tyInt Syntax.w16)) 0,
-) (List._∷_ (2, Rows.sc-here (Row.sInt Syntax.w64)) (List._∷_ (
-  3,
-  Relend.mslice-owed (Referent.rtF (Referent.fInt Syntax.w8)) (Syntax.tyRef (Syntax.named 1)
-      Syntax.mut (Syntax.tyInt Syntax.w8)) 1 7 Row.off,
-) (List._∷_ (4, Rows.sc-here Row.sBool) (List._∷_ (
-  5,
-  Rows.any-gone (Syntax.tyStruct (List._∷_ 98 (List._∷_ 105 (List._∷_ 116 (List._∷_ 115 (List._∷_
-      58 (List._∷_ 58 (List._∷_ 66 (List._∷_ 105 (List._∷_ 116 (List._∷_ 80 (List._∷_ 111 (List._∷_ 115 (List._∷_ 105 (List._∷_ 116 (List._∷_ 105 (List._∷_ 111 (List._∷_ 110 List.[])))))))))))))))))
-      (Syntax.tcons (Syntax.tyInt Syntax.w64) Syntax.tnil)),
-) (List._∷_ (6, Mut.mslice (Referent.rtF (Referent.fInt Syntax.w16)) (Syntax.tyRef (Syntax.named 2) Syntax.mut (Syntax.tyInt Syntax.w16)) 2)
-    (List._∷_ (7, Mut.mslice (Element.type) (Syntax.tyRef (Syntax.named 3) Syntax.mut Element.behind) 3) (List._∷_ (
-      8,
-      Rows.any-gone (Syntax.tyStruct (List._∷_ 98 (List._∷_ 108 (List._∷_ 111 (List._∷_
-          99 (List._∷_ 107 (List._∷_ 58 (List._∷_ 58 (List._∷_ 70 (List._∷_ 111 (List._∷_ 114 (List._∷_ 109 List.[]))))))))))) (Syntax.tcons (Syntax.tyInt Syntax.w32) (Syntax.tcons Syntax.tyBool Syntax.tnil))),
-    ) (List._∷_ (9, Rows.sc-here (Row.sInt Syntax.w32)) (List._∷_ (10, Rows.sc-here Row.sBool) (List._∷_ (11, Rows.sc-here (Row.sInt Syntax.w64)) (List._∷_ (
-      12,
-      Rows.any-gone (Syntax.tyStruct (List._∷_
-          113 (List._∷_ 117 (List._∷_ 97 (List._∷_ 110 (List._∷_ 116 (List._∷_ 105 (List._∷_ 115 (List._∷_ 101 (List._∷_ 114 (List._∷_ 58 (List._∷_ 58 (List._∷_ 81 (List._∷_ 117 (List._∷_ 97 (List._∷_ 110
-          (List._∷_ 116 (List._∷_ 105 (List._∷_ 115 (List._∷_ 101 (List._∷_ 114 List.[])))))))))))))))))))) (Syntax.tcons (Syntax.tyInt Syntax.w32) (Syntax.tcons (Syntax.tyInt Syntax.w32) (Syntax.tcons
-          (Syntax.tyInt Syntax.w32) (Syntax.tcons (Syntax.tyInt Syntax.w32) (Syntax.tcons (Syntax.tyInt Syntax.w32) Syntax.tnil)))))),
-    ) (List._∷_ (13, Rows.sc-here (Row.sInt Syntax.w32)) (List._∷_ (
-      14,
-      Rows.sc-here (Row.sInt Syntax.w32),
-    ) (List._∷_ (15, Rows.whole (Declared'.row BitPosition.the-type)) List.[])))))))))))))))
+t32 = List._∷_ e0 (List._∷_ e2 (List._∷_ e24 (List._∷_ e42 (List._∷_ e51 (List._∷_ e52 (List._∷_ e54 (List._∷_ e56 (List._∷_ e57 (List._∷_ e60 (List._∷_ e4 (List._∷_ e6 (List._∷_ e7 (List._∷_ e10
+    (List._∷_ e12 (List._∷_ e14 List.[])))))))))))))))
 
 abbrev pub t33 : List.List Row.Entry
-t33 = List._∷_ (16, Rows.sc-here (Row.sInt Syntax.w64)) (List._∷_ (17, Rows.whole (Declared'.row Plan.the-type)) (List._∷_ (18, Rows.whole (Declared'.row Set.the-type)) (List._∷_ (
-  19,
-  Rows.any-gone (Syntax.tyStruct (List._∷_ 119 (List._∷_ 114 (List._∷_ 105 (List._∷_ 116 (List._∷_ 105 (List._∷_ 110 (List._∷_ 103 (List._∷_ 58 (List._∷_ 58 (List._∷_ 80 (List._∷_ 97 (List._∷_ 115
-      (List._∷_ 115 (List._∷_ 80 (List._∷_ 117 (List._∷_ 116 List.[])))))))))))))))) (Syntax.tcons Syntax.tyBool (Syntax.tcons (Syntax.tyInt Syntax.w64) (Syntax.tcons (Syntax.tyStruct (List._∷_ 98 (List._∷_
-      105 (List._∷_ 116 (List._∷_ 115 (List._∷_ 58 (List._∷_ 58 (List._∷_ 66 (List._∷_ 105 (List._∷_ 116 (List._∷_ 80 (List._∷_ 111 (List._∷_ 115 (List._∷_ 105 (List._∷_ 116 (List._∷_ 105 (List._∷_ 111
-      (List._∷_ 110 List.[]))))))))))))))))) (Syntax.tcons (Syntax.tyInt Syntax.w64) Syntax.tnil)) (Syntax.tcons (Syntax.tyStruct (List._∷_ 112 (List._∷_ 97 (List._∷_ 115 (List._∷_ 115 (List._∷_ 58
-      (List._∷_ 58 (List._∷_ 83 (List._∷_ 101 (List._∷_ 116 List.[]))))))))) (Syntax.tcons (Syntax.tyArray (Syntax.tyInt Syntax.w32) 112) (Syntax.tcons (Syntax.tyArray (Syntax.tyInt Syntax.w32) 112)
-      Syntax.tnil))) Syntax.tnil))))),
-) (List._∷_ (20, Rows.any-gone Syntax.tyBool) (List._∷_ (
-  21,
-  Rows.any-gone (Syntax.tyStruct (List._∷_ 112 (List._∷_ 97 (List._∷_ 115 (List._∷_ 115 (List._∷_ 58
-      (List._∷_ 58 (List._∷_ 83 (List._∷_ 101 (List._∷_ 116 List.[]))))))))) (Syntax.tcons (Syntax.tyArray (Syntax.tyInt Syntax.w32) 112) (Syntax.tcons (Syntax.tyArray (Syntax.tyInt Syntax.w32) 112)
-      Syntax.tnil))),
-) (List._∷_ (22, Rows.any-gone Syntax.tyBool) (List._∷_ (23, Rows.any-gone Syntax.tyUnit) (List._∷_ (
-  24,
-  Rows.any-gone (Syntax.tyRef Syntax.erased Syntax.mut (Syntax.tyInt
-      Syntax.w16)),
-) (List._∷_ (
-  25,
-  Rows.any-gone (Syntax.tyStruct (List._∷_ 38 (List._∷_ 91 (List._∷_ 93 List.[]))) (Syntax.tcons (Syntax.tyRef Syntax.erased Syntax.mut (Syntax.tyInt Syntax.w16))
-      (Syntax.tcons (Syntax.tyInt Syntax.w64) Syntax.tnil))),
-) (List._∷_ (26, Rows.any-gone (Syntax.tyRef Syntax.erased Syntax.mut (Syntax.tyInt Syntax.w16))) (List._∷_ (
-  27,
-  Rows.any-gone
-      (Syntax.tyStruct (List._∷_ 38 (List._∷_ 91 (List._∷_ 93 List.[]))) (Syntax.tcons (Syntax.tyRef Syntax.erased Syntax.mut (Syntax.tyInt Syntax.w16)) (Syntax.tcons (Syntax.tyInt Syntax.w64)
-      Syntax.tnil))),
-) (List._∷_ (28, Rows.any-gone (Syntax.tyRef Syntax.erased Syntax.mut Element.behind)) (List._∷_ (
-  29,
-  Rows.any-gone (Syntax.tyStruct (List._∷_ 38 (List._∷_ 91 (List._∷_ 93
-      List.[]))) (Syntax.tcons (Syntax.tyRef Syntax.erased Syntax.mut Element.behind) (Syntax.tcons (Syntax.tyInt Syntax.w64) Syntax.tnil))),
-) (List._∷_ (
-  30,
-  Relend.msptr (Referent.rtF (Referent.fInt
-      Syntax.w8)) (Syntax.tyRef Syntax.erased Syntax.mut (Syntax.tyInt Syntax.w8)) 7,
-) (List._∷_ (
-  31,
-  Rows.any-gone (Syntax.tyStruct (List._∷_ 38 (List._∷_ 91 (List._∷_ 93 List.[]))) (Syntax.tcons
-      (Syntax.tyRef Syntax.erased Syntax.mut (Syntax.tyInt Syntax.w8)) (Syntax.tcons (Syntax.tyInt Syntax.w64) Syntax.tnil))),
-) List.[])))))))))))))))
+t33 = List._∷_ e16 (List._∷_ e18 (List._∷_ e20 (List._∷_ e21 (List._∷_ e25 (List._∷_ e27 (List._∷_ e29 (List._∷_ e31 (List._∷_ e33 (List._∷_ e35 (List._∷_ e36 (List._∷_ e38 (List._∷_ e39 (List._∷_ e40
+    (List._∷_ (30, Relend.msptr (Referent.rtF (Referent.fInt Syntax.w8)) (Syntax.tyRef Syntax.erased Syntax.mut (Syntax.tyInt Syntax.w8)) 7) (List._∷_ e45 List.[])))))))))))))))
 
 abbrev pub t34 : List.List Row.Entry
-t34 = List._∷_ (16, Rows.sc-here (Row.sInt Syntax.w64)) (List._∷_ (17, Rows.whole (Declared'.row Plan.the-type)) (List._∷_ (18, Rows.whole (Declared'.row Set.the-type)) (List._∷_ (
-  19,
-  Rows.any-gone (Syntax.tyStruct (List._∷_ 119 (List._∷_ 114 (List._∷_ 105 (List._∷_ 116 (List._∷_ 105 (List._∷_ 110 (List._∷_ 103 (List._∷_ 58 (List._∷_ 58 (List._∷_ 80 (List._∷_ 97 (List._∷_ 115
-      (List._∷_ 115 (List._∷_ 80 (List._∷_ 117 (List._∷_ 116 List.[])))))))))))))))) (Syntax.tcons Syntax.tyBool (Syntax.tcons (Syntax.tyInt Syntax.w64) (Syntax.tcons (Syntax.tyStruct (List._∷_ 98 (List._∷_
-      105 (List._∷_ 116 (List._∷_ 115 (List._∷_ 58 (List._∷_ 58 (List._∷_ 66 (List._∷_ 105 (List._∷_ 116 (List._∷_ 80 (List._∷_ 111 (List._∷_ 115 (List._∷_ 105 (List._∷_ 116 (List._∷_ 105 (List._∷_ 111
-      (List._∷_ 110 List.[]))))))))))))))))) (Syntax.tcons (Syntax.tyInt Syntax.w64) Syntax.tnil)) (Syntax.tcons (Syntax.tyStruct (List._∷_ 112 (List._∷_ 97 (List._∷_ 115 (List._∷_ 115 (List._∷_ 58
-      (List._∷_ 58 (List._∷_ 83 (List._∷_ 101 (List._∷_ 116 List.[]))))))))) (Syntax.tcons (Syntax.tyArray (Syntax.tyInt Syntax.w32) 112) (Syntax.tcons (Syntax.tyArray (Syntax.tyInt Syntax.w32) 112)
-      Syntax.tnil))) Syntax.tnil))))),
-) (List._∷_ (20, Rows.any-gone Syntax.tyBool) (List._∷_ (
-  21,
-  Rows.any-gone (Syntax.tyStruct (List._∷_ 112 (List._∷_ 97 (List._∷_ 115 (List._∷_ 115 (List._∷_ 58
-      (List._∷_ 58 (List._∷_ 83 (List._∷_ 101 (List._∷_ 116 List.[]))))))))) (Syntax.tcons (Syntax.tyArray (Syntax.tyInt Syntax.w32) 112) (Syntax.tcons (Syntax.tyArray (Syntax.tyInt Syntax.w32) 112)
-      Syntax.tnil))),
-) (List._∷_ (22, Rows.any-gone Syntax.tyBool) (List._∷_ (23, Rows.any-gone Syntax.tyUnit) (List._∷_ (
-  24,
-  Rows.any-gone (Syntax.tyRef Syntax.erased Syntax.mut (Syntax.tyInt
-      Syntax.w16)),
-) (List._∷_ (
-  25,
-  Rows.any-gone (Syntax.tyStruct (List._∷_ 38 (List._∷_ 91 (List._∷_ 93 List.[]))) (Syntax.tcons (Syntax.tyRef Syntax.erased Syntax.mut (Syntax.tyInt Syntax.w16))
-      (Syntax.tcons (Syntax.tyInt Syntax.w64) Syntax.tnil))),
-) (List._∷_ (26, Rows.any-gone (Syntax.tyRef Syntax.erased Syntax.mut (Syntax.tyInt Syntax.w16))) (List._∷_ (
-  27,
-  Rows.any-gone
-      (Syntax.tyStruct (List._∷_ 38 (List._∷_ 91 (List._∷_ 93 List.[]))) (Syntax.tcons (Syntax.tyRef Syntax.erased Syntax.mut (Syntax.tyInt Syntax.w16)) (Syntax.tcons (Syntax.tyInt Syntax.w64)
-      Syntax.tnil))),
-) (List._∷_ (28, Rows.any-gone (Syntax.tyRef Syntax.erased Syntax.mut Element.behind)) (List._∷_ (
-  29,
-  Rows.any-gone (Syntax.tyStruct (List._∷_ 38 (List._∷_ 91 (List._∷_ 93
-      List.[]))) (Syntax.tcons (Syntax.tyRef Syntax.erased Syntax.mut Element.behind) (Syntax.tcons (Syntax.tyInt Syntax.w64) Syntax.tnil))),
-) (List._∷_ (
-  30,
-  Rows.any-gone (Syntax.tyRef Syntax.erased
-      Syntax.mut (Syntax.tyInt Syntax.w8)),
-) (List._∷_ (31, Mut.mslice (Referent.rtF (Referent.fInt Syntax.w8)) (Syntax.tyRef Syntax.erased Syntax.mut (Syntax.tyInt Syntax.w8)) 7) List.[])))))))))))))))
+t34 = List._∷_ e16 (List._∷_ e18 (List._∷_ e20 (List._∷_ e21 (List._∷_ e25 (List._∷_ e27 (List._∷_ e29 (List._∷_ e31 (List._∷_ e33 (List._∷_ e35 (List._∷_ e36 (List._∷_ e38 (List._∷_ e39 (List._∷_ e40
+    (List._∷_ e43 (List._∷_ (31, Mut.mslice (Referent.rtF (Referent.fInt Syntax.w8)) (Syntax.tyRef Syntax.erased Syntax.mut (Syntax.tyInt Syntax.w8)) 7) List.[])))))))))))))))
 
 abbrev pub t35 : List.List Row.Entry
-t35 = List._∷_ (
-  0,
-  Rows.any-gone (Syntax.tyEnum (List._∷_ 119 (List._∷_ 114 (List._∷_ 105 (List._∷_ 116 (List._∷_ 105 (List._∷_ 110 (List._∷_ 103 (List._∷_ 58 (List._∷_ 58 (List._∷_ 80 (List._∷_ 117
-      (List._∷_ 116 List.[])))))))))))) (Syntax.ttcons (Syntax.tcons (Syntax.tyStruct (List._∷_ 98 (List._∷_ 105 (List._∷_ 116 (List._∷_ 115 (List._∷_ 58 (List._∷_ 58 (List._∷_ 66 (List._∷_ 105 (List._∷_
-      116 (List._∷_ 80 (List._∷_ 111 (List._∷_ 115 (List._∷_ 105 (List._∷_ 116 (List._∷_ 105 (List._∷_ 111 (List._∷_ 110 List.[]))))))))))))))))) (Syntax.tcons (Syntax.tyInt Syntax.w64) Syntax.tnil))
-      Syntax.tnil) (Syntax.ttcons (Syntax.tcons (Syntax.tyInt Syntax.w64) Syntax.tnil) Syntax.ttnil))),
-) (List._∷_ (
-  1,
-  Rows.sslice (Referent.rtF (Referent.fInt Syntax.w16)) (Syntax.tyRef (Syntax.named 0)
-      Syntax.imm (Syntax.tyInt Syntax.w16)) 0,
-) (List._∷_ (2, Rows.sc-here (Row.sInt Syntax.w64)) (List._∷_ (
-  3,
-  Relend.mslice-owed (Referent.rtF (Referent.fInt Syntax.w8)) (Syntax.tyRef (Syntax.named 1)
-      Syntax.mut (Syntax.tyInt Syntax.w8)) 1 7 Row.off,
-) (List._∷_ (4, Rows.sc-here Row.sBool) (List._∷_ (
-  5,
-  Rows.any-gone (Syntax.tyStruct (List._∷_ 98 (List._∷_ 105 (List._∷_ 116 (List._∷_ 115 (List._∷_
-      58 (List._∷_ 58 (List._∷_ 66 (List._∷_ 105 (List._∷_ 116 (List._∷_ 80 (List._∷_ 111 (List._∷_ 115 (List._∷_ 105 (List._∷_ 116 (List._∷_ 105 (List._∷_ 111 (List._∷_ 110 List.[])))))))))))))))))
-      (Syntax.tcons (Syntax.tyInt Syntax.w64) Syntax.tnil)),
-) (List._∷_ (
-  6,
-  Relend.mslice-owed (Referent.rtF (Referent.fInt Syntax.w16)) (Syntax.tyRef (Syntax.named 2) Syntax.mut (Syntax.tyInt
-      Syntax.w16)) 2 8 Row.off,
-) (List._∷_ (7, Mut.mslice (Element.type) (Syntax.tyRef (Syntax.named 3) Syntax.mut Element.behind) 3) (List._∷_ (
-  8,
-  Rows.any-gone (Syntax.tyStruct (List._∷_ 98 (List._∷_
-      108 (List._∷_ 111 (List._∷_ 99 (List._∷_ 107 (List._∷_ 58 (List._∷_ 58 (List._∷_ 70 (List._∷_ 111 (List._∷_ 114 (List._∷_ 109 List.[]))))))))))) (Syntax.tcons (Syntax.tyInt Syntax.w32) (Syntax.tcons
-      Syntax.tyBool Syntax.tnil))),
-) (List._∷_ (9, Rows.sc-here (Row.sInt Syntax.w32)) (List._∷_ (10, Rows.sc-here Row.sBool) (List._∷_ (11, Rows.sc-here (Row.sInt Syntax.w64)) (List._∷_ (
-  12,
-  Rows.any-gone (Syntax.tyStruct (List._∷_ 113 (List._∷_ 117 (List._∷_ 97 (List._∷_ 110 (List._∷_ 116 (List._∷_ 105 (List._∷_ 115 (List._∷_ 101 (List._∷_ 114 (List._∷_ 58 (List._∷_ 58 (List._∷_ 81
-      (List._∷_ 117 (List._∷_ 97 (List._∷_ 110 (List._∷_ 116 (List._∷_ 105 (List._∷_ 115 (List._∷_ 101 (List._∷_ 114 List.[])))))))))))))))))))) (Syntax.tcons (Syntax.tyInt Syntax.w32) (Syntax.tcons
-      (Syntax.tyInt Syntax.w32) (Syntax.tcons (Syntax.tyInt Syntax.w32) (Syntax.tcons (Syntax.tyInt Syntax.w32) (Syntax.tcons (Syntax.tyInt Syntax.w32) Syntax.tnil)))))),
-) (List._∷_ (
-  13,
-  Rows.sc-here
-      (Row.sInt Syntax.w32),
-) (List._∷_ (14, Rows.sc-here (Row.sInt Syntax.w32)) (List._∷_ (15, Rows.whole (Declared'.row BitPosition.the-type)) List.[])))))))))))))))
+t35 = List._∷_ e0 (List._∷_ e2 (List._∷_ e24 (List._∷_ e42 (List._∷_ e51 (List._∷_ e52 (List._∷_ e55 (List._∷_ e56 (List._∷_ e57 (List._∷_ e60 (List._∷_ e4 (List._∷_ e6 (List._∷_ e7 (List._∷_ e10
+    (List._∷_ e12 (List._∷_ e14 List.[])))))))))))))))
 
 abbrev pub t36 : List.List Row.Entry
-t36 = List._∷_ (32, Relend.msptr (Referent.rtF (Referent.fInt Syntax.w16)) (Syntax.tyRef Syntax.erased Syntax.mut (Syntax.tyInt Syntax.w16)) 8) (List._∷_ (
-  33,
-  Rows.any-gone (Syntax.tyStruct
-      (List._∷_ 38 (List._∷_ 91 (List._∷_ 93 List.[]))) (Syntax.tcons (Syntax.tyRef Syntax.erased Syntax.mut (Syntax.tyInt Syntax.w16)) (Syntax.tcons (Syntax.tyInt Syntax.w64) Syntax.tnil))),
-) (List._∷_ (
-  34,
-  Rows.any-gone (Syntax.tyRef Syntax.erased Syntax.mut Element.behind),
-) (List._∷_ (
-  35,
-  Rows.any-gone (Syntax.tyStruct (List._∷_ 38 (List._∷_ 91 (List._∷_ 93 List.[]))) (Syntax.tcons (Syntax.tyRef
-      Syntax.erased Syntax.mut Element.behind) (Syntax.tcons (Syntax.tyInt Syntax.w64) Syntax.tnil))),
-) List.[])))
+t36 = List._∷_ (32, Relend.msptr (Referent.rtF (Referent.fInt Syntax.w16)) (Syntax.tyRef Syntax.erased Syntax.mut (Syntax.tyInt Syntax.w16)) 8) (List._∷_ e47 (List._∷_ e48 (List._∷_ e49 List.[])))
 
 abbrev pub t37 : List.List Row.Entry
-t37 = List._∷_ (32, Rows.any-gone (Syntax.tyRef Syntax.erased Syntax.mut (Syntax.tyInt Syntax.w16))) (List._∷_ (
-  33,
-  Mut.mslice (Referent.rtF (Referent.fInt Syntax.w16)) (Syntax.tyRef Syntax.erased
-      Syntax.mut (Syntax.tyInt Syntax.w16)) 8,
-) (List._∷_ (34, Rows.any-gone (Syntax.tyRef Syntax.erased Syntax.mut Element.behind)) (List._∷_ (
-  35,
-  Rows.any-gone (Syntax.tyStruct (List._∷_ 38 (List._∷_
-      91 (List._∷_ 93 List.[]))) (Syntax.tcons (Syntax.tyRef Syntax.erased Syntax.mut Element.behind) (Syntax.tcons (Syntax.tyInt Syntax.w64) Syntax.tnil))),
-) List.[])))
+t37 = List._∷_ e46 (List._∷_ (33, Mut.mslice (Referent.rtF (Referent.fInt Syntax.w16)) (Syntax.tyRef Syntax.erased Syntax.mut (Syntax.tyInt Syntax.w16)) 8) (List._∷_ e48 (List._∷_ e49 List.[])))
 
 abbrev pub t38 : List.List Row.Entry
-t38 = List._∷_ (16, Rows.sc-here (Row.sInt Syntax.w64)) (List._∷_ (17, Rows.whole (Declared'.row Plan.the-type)) (List._∷_ (18, Rows.whole (Declared'.row Set.the-type)) (List._∷_ (
-  19,
-  Rows.whole
-      (Declared'.row PassPut.the-type),
-) (List._∷_ (20, Rows.any-gone Syntax.tyBool) (List._∷_ (
-  21,
-  Rows.any-gone (Syntax.tyStruct (List._∷_ 112 (List._∷_ 97 (List._∷_ 115 (List._∷_ 115 (List._∷_ 58
-      (List._∷_ 58 (List._∷_ 83 (List._∷_ 101 (List._∷_ 116 List.[]))))))))) (Syntax.tcons (Syntax.tyArray (Syntax.tyInt Syntax.w32) 112) (Syntax.tcons (Syntax.tyArray (Syntax.tyInt Syntax.w32) 112)
-      Syntax.tnil))),
-) (List._∷_ (22, Rows.any-gone Syntax.tyBool) (List._∷_ (23, Rows.any-gone Syntax.tyUnit) (List._∷_ (
-  24,
-  Rows.any-gone (Syntax.tyRef Syntax.erased Syntax.mut (Syntax.tyInt
-      Syntax.w16)),
-) (List._∷_ (
-  25,
-  Rows.any-gone (Syntax.tyStruct (List._∷_ 38 (List._∷_ 91 (List._∷_ 93 List.[]))) (Syntax.tcons (Syntax.tyRef Syntax.erased Syntax.mut (Syntax.tyInt Syntax.w16))
-      (Syntax.tcons (Syntax.tyInt Syntax.w64) Syntax.tnil))),
-) (List._∷_ (26, Rows.any-gone (Syntax.tyRef Syntax.erased Syntax.mut (Syntax.tyInt Syntax.w16))) (List._∷_ (
-  27,
-  Rows.any-gone
-      (Syntax.tyStruct (List._∷_ 38 (List._∷_ 91 (List._∷_ 93 List.[]))) (Syntax.tcons (Syntax.tyRef Syntax.erased Syntax.mut (Syntax.tyInt Syntax.w16)) (Syntax.tcons (Syntax.tyInt Syntax.w64)
-      Syntax.tnil))),
-) (List._∷_ (28, Rows.any-gone (Syntax.tyRef Syntax.erased Syntax.mut Element.behind)) (List._∷_ (
-  29,
-  Rows.any-gone (Syntax.tyStruct (List._∷_ 38 (List._∷_ 91 (List._∷_ 93
-      List.[]))) (Syntax.tcons (Syntax.tyRef Syntax.erased Syntax.mut Element.behind) (Syntax.tcons (Syntax.tyInt Syntax.w64) Syntax.tnil))),
-) (List._∷_ (
-  30,
-  Rows.any-gone (Syntax.tyRef Syntax.erased
-      Syntax.mut (Syntax.tyInt Syntax.w8)),
-) (List._∷_ (31, Mut.msleft (Referent.rtF (Referent.fInt Syntax.w8)) (Syntax.tyRef Syntax.erased Syntax.mut (Syntax.tyInt Syntax.w8))) List.[])))))))))))))))
+t38 = List._∷_ e16 (List._∷_ e18 (List._∷_ e20 (List._∷_ e22 (List._∷_ e25 (List._∷_ e27 (List._∷_ e29 (List._∷_ e31 (List._∷_ e33 (List._∷_ e35 (List._∷_ e36 (List._∷_ e38 (List._∷_ e39 (List._∷_ e40
+    (List._∷_ e43 (List._∷_ e44 List.[])))))))))))))))
 
 abbrev pub t39 : List.List Row.Entry
-t39 = List._∷_ (32, Rows.any-gone (Syntax.tyRef Syntax.erased Syntax.mut (Syntax.tyInt Syntax.w16))) (List._∷_ (
-  33,
-  Mut.msleft (Referent.rtF (Referent.fInt Syntax.w16)) (Syntax.tyRef Syntax.erased
-      Syntax.mut (Syntax.tyInt Syntax.w16)),
-) (List._∷_ (34, Rows.any-gone (Syntax.tyRef Syntax.erased Syntax.mut Element.behind)) (List._∷_ (
-  35,
-  Rows.any-gone (Syntax.tyStruct (List._∷_ 38 (List._∷_
-      91 (List._∷_ 93 List.[]))) (Syntax.tcons (Syntax.tyRef Syntax.erased Syntax.mut Element.behind) (Syntax.tcons (Syntax.tyInt Syntax.w64) Syntax.tnil))),
-) List.[])))
+t39 = List._∷_ e46 (List._∷_ (33, Mut.msleft (Referent.rtF (Referent.fInt Syntax.w16)) (Syntax.tyRef Syntax.erased Syntax.mut (Syntax.tyInt Syntax.w16))) (List._∷_ e48 (List._∷_ e49 List.[])))
 
 abbrev pub t40 : List.List Row.Entry
-t40 = List._∷_ (
-  0,
-  Rows.any-gone (Syntax.tyEnum (List._∷_ 119 (List._∷_ 114 (List._∷_ 105 (List._∷_ 116 (List._∷_ 105 (List._∷_ 110 (List._∷_ 103 (List._∷_ 58 (List._∷_ 58 (List._∷_ 80 (List._∷_ 117
-      (List._∷_ 116 List.[])))))))))))) (Syntax.ttcons (Syntax.tcons (Syntax.tyStruct (List._∷_ 98 (List._∷_ 105 (List._∷_ 116 (List._∷_ 115 (List._∷_ 58 (List._∷_ 58 (List._∷_ 66 (List._∷_ 105 (List._∷_
-      116 (List._∷_ 80 (List._∷_ 111 (List._∷_ 115 (List._∷_ 105 (List._∷_ 116 (List._∷_ 105 (List._∷_ 111 (List._∷_ 110 List.[]))))))))))))))))) (Syntax.tcons (Syntax.tyInt Syntax.w64) Syntax.tnil))
-      Syntax.tnil) (Syntax.ttcons (Syntax.tcons (Syntax.tyInt Syntax.w64) Syntax.tnil) Syntax.ttnil))),
-) (List._∷_ (
-  1,
-  Rows.sslice (Referent.rtF (Referent.fInt Syntax.w16)) (Syntax.tyRef (Syntax.named 0)
-      Syntax.imm (Syntax.tyInt Syntax.w16)) 0,
-) (List._∷_ (2, Rows.sc-here (Row.sInt Syntax.w64)) (List._∷_ (
-  3,
-  Relend.mslice-owed (Referent.rtF (Referent.fInt Syntax.w8)) (Syntax.tyRef (Syntax.named 1)
-      Syntax.mut (Syntax.tyInt Syntax.w8)) 1 7 Row.off,
-) (List._∷_ (4, Rows.sc-here Row.sBool) (List._∷_ (
-  5,
-  Rows.any-gone (Syntax.tyStruct (List._∷_ 98 (List._∷_ 105 (List._∷_ 116 (List._∷_ 115 (List._∷_
-      58 (List._∷_ 58 (List._∷_ 66 (List._∷_ 105 (List._∷_ 116 (List._∷_ 80 (List._∷_ 111 (List._∷_ 115 (List._∷_ 105 (List._∷_ 116 (List._∷_ 105 (List._∷_ 111 (List._∷_ 110 List.[])))))))))))))))))
-      (Syntax.tcons (Syntax.tyInt Syntax.w64) Syntax.tnil)),
-) (List._∷_ (
-  6,
-  Relend.mslice-owed (Referent.rtF (Referent.fInt Syntax.w16)) (Syntax.tyRef (Syntax.named 2) Syntax.mut (Syntax.tyInt
-      Syntax.w16)) 2 8 Row.off,
-) (List._∷_ (7, Mut.mslice (Element.type) (Syntax.tyRef (Syntax.named 3) Syntax.mut Element.behind) 3) (List._∷_ (
-  8,
-  Rows.any-gone (Syntax.tyStruct (List._∷_ 98 (List._∷_
-      108 (List._∷_ 111 (List._∷_ 99 (List._∷_ 107 (List._∷_ 58 (List._∷_ 58 (List._∷_ 70 (List._∷_ 111 (List._∷_ 114 (List._∷_ 109 List.[]))))))))))) (Syntax.tcons (Syntax.tyInt Syntax.w32) (Syntax.tcons
-      Syntax.tyBool Syntax.tnil))),
-) (List._∷_ (9, Rows.sc-here (Row.sInt Syntax.w32)) (List._∷_ (10, Rows.sc-here Row.sBool) (List._∷_ (11, Rows.sc-here (Row.sInt Syntax.w64)) (List._∷_ (
-  12,
-  Rows.any-gone (Syntax.tyStruct (List._∷_ 113 (List._∷_ 117 (List._∷_ 97 (List._∷_ 110 (List._∷_ 116 (List._∷_ 105 (List._∷_ 115 (List._∷_ 101 (List._∷_ 114 (List._∷_ 58 (List._∷_ 58 (List._∷_ 81
-      (List._∷_ 117 (List._∷_ 97 (List._∷_ 110 (List._∷_ 116 (List._∷_ 105 (List._∷_ 115 (List._∷_ 101 (List._∷_ 114 List.[])))))))))))))))))))) (Syntax.tcons (Syntax.tyInt Syntax.w32) (Syntax.tcons
-      (Syntax.tyInt Syntax.w32) (Syntax.tcons (Syntax.tyInt Syntax.w32) (Syntax.tcons (Syntax.tyInt Syntax.w32) (Syntax.tcons (Syntax.tyInt Syntax.w32) Syntax.tnil)))))),
-) (List._∷_ (
-  13,
-  Rows.sc-here
-      (Row.sInt Syntax.w32),
-) (List._∷_ (14, Rows.sc-here (Row.sInt Syntax.w32)) (List._∷_ (
-  15,
-  Rows.any-gone (Syntax.tyStruct (List._∷_ 98 (List._∷_ 105 (List._∷_ 116 (List._∷_ 115 (List._∷_ 58
-      (List._∷_ 58 (List._∷_ 66 (List._∷_ 105 (List._∷_ 116 (List._∷_ 80 (List._∷_ 111 (List._∷_ 115 (List._∷_ 105 (List._∷_ 116 (List._∷_ 105 (List._∷_ 111 (List._∷_ 110 List.[])))))))))))))))))
-      (Syntax.tcons (Syntax.tyInt Syntax.w64) Syntax.tnil)),
-) List.[])))))))))))))))
+t40 = List._∷_ e0 (List._∷_ e2 (List._∷_ e24 (List._∷_ e42 (List._∷_ e51 (List._∷_ e52 (List._∷_ e55 (List._∷_ e56 (List._∷_ e57 (List._∷_ e60 (List._∷_ e4 (List._∷_ e6 (List._∷_ e7 (List._∷_ e10
+    (List._∷_ e12 (List._∷_ e13 List.[])))))))))))))))
 
 abbrev pub t41 : List.List Row.Entry
-t41 = List._∷_ (16, Rows.sc-here (Row.sInt Syntax.w64)) (List._∷_ (17, Rows.whole (Declared'.row Plan.the-type)) (List._∷_ (
-  18,
-  Rows.any-gone (Syntax.tyStruct (List._∷_ 112 (List._∷_ 97 (List._∷_
-      115 (List._∷_ 115 (List._∷_ 58 (List._∷_ 58 (List._∷_ 83 (List._∷_ 101 (List._∷_ 116 List.[]))))))))) (Syntax.tcons (Syntax.tyArray (Syntax.tyInt Syntax.w32) 112) (Syntax.tcons (Syntax.tyArray
-      (Syntax.tyInt Syntax.w32) 112) Syntax.tnil))),
-) (List._∷_ (19, Rows.whole (Declared'.row PassPut.the-type)) (List._∷_ (20, Rows.any-gone Syntax.tyBool) (List._∷_ (
-  21,
-  Rows.any-gone
-      (Syntax.tyStruct (List._∷_ 112 (List._∷_ 97 (List._∷_ 115 (List._∷_ 115 (List._∷_ 58 (List._∷_ 58 (List._∷_ 83 (List._∷_ 101 (List._∷_ 116 List.[]))))))))) (Syntax.tcons (Syntax.tyArray (Syntax.tyInt
-      Syntax.w32) 112) (Syntax.tcons (Syntax.tyArray (Syntax.tyInt Syntax.w32) 112) Syntax.tnil))),
-) (List._∷_ (22, Rows.any-gone Syntax.tyBool) (List._∷_ (23, Rows.any-gone Syntax.tyUnit) (List._∷_ (
-  24,
-  Rows.any-gone (Syntax.tyRef Syntax.erased Syntax.mut (Syntax.tyInt Syntax.w16)),
-) (List._∷_ (
-  25,
-  Rows.any-gone (Syntax.tyStruct (List._∷_ 38 (List._∷_ 91 (List._∷_ 93 List.[]))) (Syntax.tcons
-      (Syntax.tyRef Syntax.erased Syntax.mut (Syntax.tyInt Syntax.w16)) (Syntax.tcons (Syntax.tyInt Syntax.w64) Syntax.tnil))),
-) (List._∷_ (
-  26,
-  Rows.any-gone (Syntax.tyRef Syntax.erased Syntax.mut
-      (Syntax.tyInt Syntax.w16)),
-) (List._∷_ (
-  27,
-  Rows.any-gone (Syntax.tyStruct (List._∷_ 38 (List._∷_ 91 (List._∷_ 93 List.[]))) (Syntax.tcons (Syntax.tyRef Syntax.erased Syntax.mut (Syntax.tyInt
-      Syntax.w16)) (Syntax.tcons (Syntax.tyInt Syntax.w64) Syntax.tnil))),
-) (List._∷_ (28, Rows.any-gone (Syntax.tyRef Syntax.erased Syntax.mut Element.behind)) (List._∷_ (
-  29,
-  Rows.any-gone
-      (Syntax.tyStruct (List._∷_ 38 (List._∷_ 91 (List._∷_ 93 List.[]))) (Syntax.tcons (Syntax.tyRef Syntax.erased Syntax.mut Element.behind) (Syntax.tcons (Syntax.tyInt Syntax.w64) Syntax.tnil))),
-)
-    (List._∷_ (30, Rows.any-gone (Syntax.tyRef Syntax.erased Syntax.mut (Syntax.tyInt Syntax.w8))) (List._∷_ (
-      31,
-      Mut.msleft (Referent.rtF (Referent.fInt Syntax.w8)) (Syntax.tyRef Syntax.erased
-          Syntax.mut (Syntax.tyInt Syntax.w8)),
-    ) List.[])))))))))))))))
+t41 = List._∷_ e16 (List._∷_ e18 (List._∷_ e19 (List._∷_ e22 (List._∷_ e25 (List._∷_ e27 (List._∷_ e29 (List._∷_ e31 (List._∷_ e33 (List._∷_ e35 (List._∷_ e36 (List._∷_ e38 (List._∷_ e39 (List._∷_ e40
+    (List._∷_ e43 (List._∷_ e44 List.[])))))))))))))))
 
 abbrev pub t42 : List.List Row.Entry
-t42 = List._∷_ (
-  0,
-  Rows.any-gone (Syntax.tyEnum (List._∷_ 119 (List._∷_ 114 (List._∷_ 105 (List._∷_ 116 (List._∷_ 105 (List._∷_ 110 (List._∷_ 103 (List._∷_ 58 (List._∷_ 58 (List._∷_ 80 (List._∷_ 117
-      (List._∷_ 116 List.[])))))))))))) (Syntax.ttcons (Syntax.tcons (Syntax.tyStruct (List._∷_ 98 (List._∷_ 105 (List._∷_ 116 (List._∷_ 115 (List._∷_ 58 (List._∷_ 58 (List._∷_ 66 (List._∷_ 105 (List._∷_
-      116 (List._∷_ 80 (List._∷_ 111 (List._∷_ 115 (List._∷_ 105 (List._∷_ 116 (List._∷_ 105 (List._∷_ 111 (List._∷_ 110 List.[]))))))))))))))))) (Syntax.tcons (Syntax.tyInt Syntax.w64) Syntax.tnil))
-      Syntax.tnil) (Syntax.ttcons (Syntax.tcons (Syntax.tyInt Syntax.w64) Syntax.tnil) Syntax.ttnil))),
-) (List._∷_ (
-  1,
-  Rows.sslice (Referent.rtF (Referent.fInt Syntax.w16)) (Syntax.tyRef (Syntax.named 0)
-      Syntax.imm (Syntax.tyInt Syntax.w16)) 0,
-) (List._∷_ (2, Rows.sc-here (Row.sInt Syntax.w64)) (List._∷_ (
-  3,
-  Mut.mslice (Referent.rtF (Referent.fInt Syntax.w8)) (Syntax.tyRef (Syntax.named 1)
-      Syntax.mut (Syntax.tyInt Syntax.w8)) 1,
-) (List._∷_ (4, Rows.sc-here Row.sBool) (List._∷_ (
-  5,
-  Rows.any-gone (Syntax.tyStruct (List._∷_ 98 (List._∷_ 105 (List._∷_ 116 (List._∷_ 115 (List._∷_ 58
-      (List._∷_ 58 (List._∷_ 66 (List._∷_ 105 (List._∷_ 116 (List._∷_ 80 (List._∷_ 111 (List._∷_ 115 (List._∷_ 105 (List._∷_ 116 (List._∷_ 105 (List._∷_ 111 (List._∷_ 110 List.[])))))))))))))))))
-      (Syntax.tcons (Syntax.tyInt Syntax.w64) Syntax.tnil)),
-) (List._∷_ (
-  6,
-  Relend.mslice-owed (Referent.rtF (Referent.fInt Syntax.w16)) (Syntax.tyRef (Syntax.named 2) Syntax.mut (Syntax.tyInt
-      Syntax.w16)) 2 8 Row.off,
-) (List._∷_ (7, Mut.mslice (Element.type) (Syntax.tyRef (Syntax.named 3) Syntax.mut Element.behind) 3) (List._∷_ (
-  8,
-  Rows.any-gone (Syntax.tyStruct (List._∷_ 98 (List._∷_
-      108 (List._∷_ 111 (List._∷_ 99 (List._∷_ 107 (List._∷_ 58 (List._∷_ 58 (List._∷_ 70 (List._∷_ 111 (List._∷_ 114 (List._∷_ 109 List.[]))))))))))) (Syntax.tcons (Syntax.tyInt Syntax.w32) (Syntax.tcons
-      Syntax.tyBool Syntax.tnil))),
-) (List._∷_ (9, Rows.sc-here (Row.sInt Syntax.w32)) (List._∷_ (10, Rows.sc-here Row.sBool) (List._∷_ (11, Rows.sc-here (Row.sInt Syntax.w64)) (List._∷_ (
-  12,
-  Rows.any-gone (Syntax.tyStruct (List._∷_ 113 (List._∷_ 117 (List._∷_ 97 (List._∷_ 110 (List._∷_ 116 (List._∷_ 105 (List._∷_ 115 (List._∷_ 101 (List._∷_ 114 (List._∷_ 58 (List._∷_ 58 (List._∷_ 81
-      (List._∷_ 117 (List._∷_ 97 (List._∷_ 110 (List._∷_ 116 (List._∷_ 105 (List._∷_ 115 (List._∷_ 101 (List._∷_ 114 List.[])))))))))))))))))))) (Syntax.tcons (Syntax.tyInt Syntax.w32) (Syntax.tcons
-      (Syntax.tyInt Syntax.w32) (Syntax.tcons (Syntax.tyInt Syntax.w32) (Syntax.tcons (Syntax.tyInt Syntax.w32) (Syntax.tcons (Syntax.tyInt Syntax.w32) Syntax.tnil)))))),
-) (List._∷_ (
-  13,
-  Rows.sc-here
-      (Row.sInt Syntax.w32),
-) (List._∷_ (14, Rows.sc-here (Row.sInt Syntax.w32)) (List._∷_ (
-  15,
-  Rows.any-gone (Syntax.tyStruct (List._∷_ 98 (List._∷_ 105 (List._∷_ 116 (List._∷_ 115 (List._∷_ 58
-      (List._∷_ 58 (List._∷_ 66 (List._∷_ 105 (List._∷_ 116 (List._∷_ 80 (List._∷_ 111 (List._∷_ 115 (List._∷_ 105 (List._∷_ 116 (List._∷_ 105 (List._∷_ 111 (List._∷_ 110 List.[])))))))))))))))))
-      (Syntax.tcons (Syntax.tyInt Syntax.w64) Syntax.tnil)),
-) List.[])))))))))))))))
+t42 = List._∷_ e0 (List._∷_ e2 (List._∷_ e24 (List._∷_ e41 (List._∷_ e51 (List._∷_ e52 (List._∷_ e55 (List._∷_ e56 (List._∷_ e57 (List._∷_ e60 (List._∷_ e4 (List._∷_ e6 (List._∷_ e7 (List._∷_ e10
+    (List._∷_ e12 (List._∷_ e13 List.[])))))))))))))))
 
 abbrev pub t43 : List.List Row.Entry
-t43 = List._∷_ (16, Rows.sc-here (Row.sInt Syntax.w64)) (List._∷_ (17, Rows.whole (Declared'.row Plan.the-type)) (List._∷_ (
-  18,
-  Rows.any-gone (Syntax.tyStruct (List._∷_ 112 (List._∷_ 97 (List._∷_
-      115 (List._∷_ 115 (List._∷_ 58 (List._∷_ 58 (List._∷_ 83 (List._∷_ 101 (List._∷_ 116 List.[]))))))))) (Syntax.tcons (Syntax.tyArray (Syntax.tyInt Syntax.w32) 112) (Syntax.tcons (Syntax.tyArray
-      (Syntax.tyInt Syntax.w32) 112) Syntax.tnil))),
-) (List._∷_ (19, Rows.whole (Declared'.row PassPut.the-type)) (List._∷_ (20, Rows.any-gone Syntax.tyBool) (List._∷_ (
-  21,
-  Rows.any-gone
-      (Syntax.tyStruct (List._∷_ 112 (List._∷_ 97 (List._∷_ 115 (List._∷_ 115 (List._∷_ 58 (List._∷_ 58 (List._∷_ 83 (List._∷_ 101 (List._∷_ 116 List.[]))))))))) (Syntax.tcons (Syntax.tyArray (Syntax.tyInt
-      Syntax.w32) 112) (Syntax.tcons (Syntax.tyArray (Syntax.tyInt Syntax.w32) 112) Syntax.tnil))),
-) (List._∷_ (22, Rows.any-gone Syntax.tyBool) (List._∷_ (23, Rows.any-gone Syntax.tyUnit) (List._∷_ (
-  24,
-  Rows.any-gone (Syntax.tyRef Syntax.erased Syntax.mut (Syntax.tyInt Syntax.w16)),
-) (List._∷_ (
-  25,
-  Rows.any-gone (Syntax.tyStruct (List._∷_ 38 (List._∷_ 91 (List._∷_ 93 List.[]))) (Syntax.tcons
-      (Syntax.tyRef Syntax.erased Syntax.mut (Syntax.tyInt Syntax.w16)) (Syntax.tcons (Syntax.tyInt Syntax.w64) Syntax.tnil))),
-) (List._∷_ (
-  26,
-  Rows.any-gone (Syntax.tyRef Syntax.erased Syntax.mut
-      (Syntax.tyInt Syntax.w16)),
-) (List._∷_ (
-  27,
-  Rows.any-gone (Syntax.tyStruct (List._∷_ 38 (List._∷_ 91 (List._∷_ 93 List.[]))) (Syntax.tcons (Syntax.tyRef Syntax.erased Syntax.mut (Syntax.tyInt
-      Syntax.w16)) (Syntax.tcons (Syntax.tyInt Syntax.w64) Syntax.tnil))),
-) (List._∷_ (28, Rows.any-gone (Syntax.tyRef Syntax.erased Syntax.mut Element.behind)) (List._∷_ (
-  29,
-  Rows.any-gone
-      (Syntax.tyStruct (List._∷_ 38 (List._∷_ 91 (List._∷_ 93 List.[]))) (Syntax.tcons (Syntax.tyRef Syntax.erased Syntax.mut Element.behind) (Syntax.tcons (Syntax.tyInt Syntax.w64) Syntax.tnil))),
-)
-    (List._∷_ (30, Rows.any-gone (Syntax.tyRef Syntax.erased Syntax.mut (Syntax.tyInt Syntax.w8))) (List._∷_ (
-      31,
-      Rows.any-gone (Syntax.tyStruct (List._∷_ 38 (List._∷_ 91 (List._∷_ 93 List.[])))
-          (Syntax.tcons (Syntax.tyRef Syntax.erased Syntax.mut (Syntax.tyInt Syntax.w8)) (Syntax.tcons (Syntax.tyInt Syntax.w64) Syntax.tnil))),
-    ) List.[])))))))))))))))
+t43 = List._∷_ e16 (List._∷_ e18 (List._∷_ e19 (List._∷_ e22 (List._∷_ e25 (List._∷_ e27 (List._∷_ e29 (List._∷_ e31 (List._∷_ e33 (List._∷_ e35 (List._∷_ e36 (List._∷_ e38 (List._∷_ e39 (List._∷_ e40
+    (List._∷_ e43 (List._∷_ e45 List.[])))))))))))))))
 
 abbrev pub t44 : List.List Row.Entry
-t44 = List._∷_ (
-  0,
-  Rows.any-gone (Syntax.tyEnum (List._∷_ 119 (List._∷_ 114 (List._∷_ 105 (List._∷_ 116 (List._∷_ 105 (List._∷_ 110 (List._∷_ 103 (List._∷_ 58 (List._∷_ 58 (List._∷_ 80 (List._∷_ 117
-      (List._∷_ 116 List.[])))))))))))) (Syntax.ttcons (Syntax.tcons (Syntax.tyStruct (List._∷_ 98 (List._∷_ 105 (List._∷_ 116 (List._∷_ 115 (List._∷_ 58 (List._∷_ 58 (List._∷_ 66 (List._∷_ 105 (List._∷_
-      116 (List._∷_ 80 (List._∷_ 111 (List._∷_ 115 (List._∷_ 105 (List._∷_ 116 (List._∷_ 105 (List._∷_ 111 (List._∷_ 110 List.[]))))))))))))))))) (Syntax.tcons (Syntax.tyInt Syntax.w64) Syntax.tnil))
-      Syntax.tnil) (Syntax.ttcons (Syntax.tcons (Syntax.tyInt Syntax.w64) Syntax.tnil) Syntax.ttnil))),
-) (List._∷_ (
-  1,
-  Rows.sslice (Referent.rtF (Referent.fInt Syntax.w16)) (Syntax.tyRef (Syntax.named 0)
-      Syntax.imm (Syntax.tyInt Syntax.w16)) 0,
-) (List._∷_ (2, Rows.sc-here (Row.sInt Syntax.w64)) (List._∷_ (
-  3,
-  Mut.mslice (Referent.rtF (Referent.fInt Syntax.w8)) (Syntax.tyRef (Syntax.named 1)
-      Syntax.mut (Syntax.tyInt Syntax.w8)) 1,
-) (List._∷_ (4, Rows.sc-here Row.sBool) (List._∷_ (
-  5,
-  Rows.any-gone (Syntax.tyStruct (List._∷_ 98 (List._∷_ 105 (List._∷_ 116 (List._∷_ 115 (List._∷_ 58
-      (List._∷_ 58 (List._∷_ 66 (List._∷_ 105 (List._∷_ 116 (List._∷_ 80 (List._∷_ 111 (List._∷_ 115 (List._∷_ 105 (List._∷_ 116 (List._∷_ 105 (List._∷_ 111 (List._∷_ 110 List.[])))))))))))))))))
-      (Syntax.tcons (Syntax.tyInt Syntax.w64) Syntax.tnil)),
-) (List._∷_ (6, Mut.mslice (Referent.rtF (Referent.fInt Syntax.w16)) (Syntax.tyRef (Syntax.named 2) Syntax.mut (Syntax.tyInt Syntax.w16)) 2)
-    (List._∷_ (7, Mut.mslice (Element.type) (Syntax.tyRef (Syntax.named 3) Syntax.mut Element.behind) 3) (List._∷_ (
-      8,
-      Rows.any-gone (Syntax.tyStruct (List._∷_ 98 (List._∷_ 108 (List._∷_ 111 (List._∷_
-          99 (List._∷_ 107 (List._∷_ 58 (List._∷_ 58 (List._∷_ 70 (List._∷_ 111 (List._∷_ 114 (List._∷_ 109 List.[]))))))))))) (Syntax.tcons (Syntax.tyInt Syntax.w32) (Syntax.tcons Syntax.tyBool Syntax.tnil))),
-    ) (List._∷_ (9, Rows.sc-here (Row.sInt Syntax.w32)) (List._∷_ (10, Rows.sc-here Row.sBool) (List._∷_ (11, Rows.sc-here (Row.sInt Syntax.w64)) (List._∷_ (
-      12,
-      Rows.any-gone (Syntax.tyStruct (List._∷_
-          113 (List._∷_ 117 (List._∷_ 97 (List._∷_ 110 (List._∷_ 116 (List._∷_ 105 (List._∷_ 115 (List._∷_ 101 (List._∷_ 114 (List._∷_ 58 (List._∷_ 58 (List._∷_ 81 (List._∷_ 117 (List._∷_ 97 (List._∷_ 110
-          (List._∷_ 116 (List._∷_ 105 (List._∷_ 115 (List._∷_ 101 (List._∷_ 114 List.[])))))))))))))))))))) (Syntax.tcons (Syntax.tyInt Syntax.w32) (Syntax.tcons (Syntax.tyInt Syntax.w32) (Syntax.tcons
-          (Syntax.tyInt Syntax.w32) (Syntax.tcons (Syntax.tyInt Syntax.w32) (Syntax.tcons (Syntax.tyInt Syntax.w32) Syntax.tnil)))))),
-    ) (List._∷_ (13, Rows.sc-here (Row.sInt Syntax.w32)) (List._∷_ (
-      14,
-      Rows.sc-here (Row.sInt Syntax.w32),
-    ) (List._∷_ (
-      15,
-      Rows.any-gone (Syntax.tyStruct (List._∷_ 98 (List._∷_ 105 (List._∷_ 116 (List._∷_ 115 (List._∷_ 58 (List._∷_ 58 (List._∷_ 66 (List._∷_ 105
-          (List._∷_ 116 (List._∷_ 80 (List._∷_ 111 (List._∷_ 115 (List._∷_ 105 (List._∷_ 116 (List._∷_ 105 (List._∷_ 111 (List._∷_ 110 List.[]))))))))))))))))) (Syntax.tcons (Syntax.tyInt Syntax.w64)
-          Syntax.tnil)),
-    ) List.[])))))))))))))))
+t44 = List._∷_ e0 (List._∷_ e2 (List._∷_ e24 (List._∷_ e41 (List._∷_ e51 (List._∷_ e52 (List._∷_ e54 (List._∷_ e56 (List._∷_ e57 (List._∷_ e60 (List._∷_ e4 (List._∷_ e6 (List._∷_ e7 (List._∷_ e10
+    (List._∷_ e12 (List._∷_ e13 List.[])))))))))))))))
 
 abbrev pub t45 : List.List Row.Entry
-t45 = List._∷_ (16, Rows.sc-here (Row.sInt Syntax.w64)) (List._∷_ (17, Rows.whole (Declared'.row Plan.the-type)) (List._∷_ (
-  18,
-  Rows.any-gone (Syntax.tyStruct (List._∷_ 112 (List._∷_ 97 (List._∷_
-      115 (List._∷_ 115 (List._∷_ 58 (List._∷_ 58 (List._∷_ 83 (List._∷_ 101 (List._∷_ 116 List.[]))))))))) (Syntax.tcons (Syntax.tyArray (Syntax.tyInt Syntax.w32) 112) (Syntax.tcons (Syntax.tyArray
-      (Syntax.tyInt Syntax.w32) 112) Syntax.tnil))),
-) (List._∷_ (19, Rows.whole (Declared'.row PassPut.the-type)) (List._∷_ (20, Rows.sc-here Row.sBool) (List._∷_ (
-  21,
-  Rows.any-gone (Syntax.tyStruct
-      (List._∷_ 112 (List._∷_ 97 (List._∷_ 115 (List._∷_ 115 (List._∷_ 58 (List._∷_ 58 (List._∷_ 83 (List._∷_ 101 (List._∷_ 116 List.[]))))))))) (Syntax.tcons (Syntax.tyArray (Syntax.tyInt Syntax.w32) 112)
-      (Syntax.tcons (Syntax.tyArray (Syntax.tyInt Syntax.w32) 112) Syntax.tnil))),
-) (List._∷_ (22, Rows.any-gone Syntax.tyBool) (List._∷_ (23, Rows.any-gone Syntax.tyUnit) (List._∷_ (
-  24,
-  Rows.any-gone
-      (Syntax.tyRef Syntax.erased Syntax.mut (Syntax.tyInt Syntax.w16)),
-) (List._∷_ (
-  25,
-  Rows.any-gone (Syntax.tyStruct (List._∷_ 38 (List._∷_ 91 (List._∷_ 93 List.[]))) (Syntax.tcons (Syntax.tyRef
-      Syntax.erased Syntax.mut (Syntax.tyInt Syntax.w16)) (Syntax.tcons (Syntax.tyInt Syntax.w64) Syntax.tnil))),
-) (List._∷_ (
-  26,
-  Rows.any-gone (Syntax.tyRef Syntax.erased Syntax.mut (Syntax.tyInt
-      Syntax.w16)),
-) (List._∷_ (
-  27,
-  Rows.any-gone (Syntax.tyStruct (List._∷_ 38 (List._∷_ 91 (List._∷_ 93 List.[]))) (Syntax.tcons (Syntax.tyRef Syntax.erased Syntax.mut (Syntax.tyInt Syntax.w16))
-      (Syntax.tcons (Syntax.tyInt Syntax.w64) Syntax.tnil))),
-) (List._∷_ (28, Rows.any-gone (Syntax.tyRef Syntax.erased Syntax.mut Element.behind)) (List._∷_ (
-  29,
-  Rows.any-gone (Syntax.tyStruct
-      (List._∷_ 38 (List._∷_ 91 (List._∷_ 93 List.[]))) (Syntax.tcons (Syntax.tyRef Syntax.erased Syntax.mut Element.behind) (Syntax.tcons (Syntax.tyInt Syntax.w64) Syntax.tnil))),
-) (List._∷_ (
-  30,
-  Rows.any-gone (Syntax.tyRef Syntax.erased Syntax.mut (Syntax.tyInt Syntax.w8)),
-) (List._∷_ (
-  31,
-  Rows.any-gone (Syntax.tyStruct (List._∷_ 38 (List._∷_ 91 (List._∷_ 93 List.[]))) (Syntax.tcons
-      (Syntax.tyRef Syntax.erased Syntax.mut (Syntax.tyInt Syntax.w8)) (Syntax.tcons (Syntax.tyInt Syntax.w64) Syntax.tnil))),
-) List.[])))))))))))))))
+t45 = List._∷_ e16 (List._∷_ e18 (List._∷_ e19 (List._∷_ e22 (List._∷_ e26 (List._∷_ e27 (List._∷_ e29 (List._∷_ e31 (List._∷_ e33 (List._∷_ e35 (List._∷_ e36 (List._∷_ e38 (List._∷_ e39 (List._∷_ e40
+    (List._∷_ e43 (List._∷_ e45 List.[])))))))))))))))
 
 abbrev pub t46 : List.List Row.Entry
-t46 = List._∷_ (16, Rows.sc-here (Row.sInt Syntax.w64)) (List._∷_ (17, Rows.whole (Declared'.row Plan.the-type)) (List._∷_ (
-  18,
-  Rows.any-gone (Syntax.tyStruct (List._∷_ 112 (List._∷_ 97 (List._∷_
-      115 (List._∷_ 115 (List._∷_ 58 (List._∷_ 58 (List._∷_ 83 (List._∷_ 101 (List._∷_ 116 List.[]))))))))) (Syntax.tcons (Syntax.tyArray (Syntax.tyInt Syntax.w32) 112) (Syntax.tcons (Syntax.tyArray
-      (Syntax.tyInt Syntax.w32) 112) Syntax.tnil))),
-) (List._∷_ (19, Rows.whole (Declared'.row PassPut.the-type)) (List._∷_ (20, Rows.sc-here Row.sBool) (List._∷_ (
-  21,
-  Rows.any-gone (Syntax.tyStruct
-      (List._∷_ 112 (List._∷_ 97 (List._∷_ 115 (List._∷_ 115 (List._∷_ 58 (List._∷_ 58 (List._∷_ 83 (List._∷_ 101 (List._∷_ 116 List.[]))))))))) (Syntax.tcons (Syntax.tyArray (Syntax.tyInt Syntax.w32) 112)
-      (Syntax.tcons (Syntax.tyArray (Syntax.tyInt Syntax.w32) 112) Syntax.tnil))),
-) (List._∷_ (22, Rows.sc-here Row.sBool) (List._∷_ (23, Rows.any-gone Syntax.tyUnit) (List._∷_ (
-  24,
-  Rows.any-gone
-      (Syntax.tyRef Syntax.erased Syntax.mut (Syntax.tyInt Syntax.w16)),
-) (List._∷_ (
-  25,
-  Rows.any-gone (Syntax.tyStruct (List._∷_ 38 (List._∷_ 91 (List._∷_ 93 List.[]))) (Syntax.tcons (Syntax.tyRef
-      Syntax.erased Syntax.mut (Syntax.tyInt Syntax.w16)) (Syntax.tcons (Syntax.tyInt Syntax.w64) Syntax.tnil))),
-) (List._∷_ (
-  26,
-  Rows.any-gone (Syntax.tyRef Syntax.erased Syntax.mut (Syntax.tyInt
-      Syntax.w16)),
-) (List._∷_ (
-  27,
-  Rows.any-gone (Syntax.tyStruct (List._∷_ 38 (List._∷_ 91 (List._∷_ 93 List.[]))) (Syntax.tcons (Syntax.tyRef Syntax.erased Syntax.mut (Syntax.tyInt Syntax.w16))
-      (Syntax.tcons (Syntax.tyInt Syntax.w64) Syntax.tnil))),
-) (List._∷_ (28, Rows.any-gone (Syntax.tyRef Syntax.erased Syntax.mut Element.behind)) (List._∷_ (
-  29,
-  Rows.any-gone (Syntax.tyStruct
-      (List._∷_ 38 (List._∷_ 91 (List._∷_ 93 List.[]))) (Syntax.tcons (Syntax.tyRef Syntax.erased Syntax.mut Element.behind) (Syntax.tcons (Syntax.tyInt Syntax.w64) Syntax.tnil))),
-) (List._∷_ (
-  30,
-  Rows.any-gone (Syntax.tyRef Syntax.erased Syntax.mut (Syntax.tyInt Syntax.w8)),
-) (List._∷_ (
-  31,
-  Rows.any-gone (Syntax.tyStruct (List._∷_ 38 (List._∷_ 91 (List._∷_ 93 List.[]))) (Syntax.tcons
-      (Syntax.tyRef Syntax.erased Syntax.mut (Syntax.tyInt Syntax.w8)) (Syntax.tcons (Syntax.tyInt Syntax.w64) Syntax.tnil))),
-) List.[])))))))))))))))
+t46 = List._∷_ e16 (List._∷_ e18 (List._∷_ e19 (List._∷_ e22 (List._∷_ e26 (List._∷_ e27 (List._∷_ e30 (List._∷_ e31 (List._∷_ e33 (List._∷_ e35 (List._∷_ e36 (List._∷_ e38 (List._∷_ e39 (List._∷_ e40
+    (List._∷_ e43 (List._∷_ e45 List.[])))))))))))))))
 
 abbrev pub t47 : List.List Row.Entry
-t47 = List._∷_ (16, Rows.sc-here (Row.sInt Syntax.w64)) (List._∷_ (
-  17,
-  Rows.any-gone (Syntax.tyStruct (List._∷_ 112 (List._∷_ 97 (List._∷_ 115 (List._∷_ 115 (List._∷_ 58 (List._∷_ 58 (List._∷_ 80
-      (List._∷_ 108 (List._∷_ 97 (List._∷_ 110 List.[])))))))))) (Syntax.tcons (Syntax.tyInt Syntax.w64) (Syntax.tcons (Syntax.tyInt Syntax.w64) (Syntax.tcons (Syntax.tyInt Syntax.w64) (Syntax.tcons
-      (Syntax.tyInt Syntax.w32) (Syntax.tcons (Syntax.tyInt Syntax.w32) Syntax.tnil)))))),
-) (List._∷_ (
-  18,
-  Rows.any-gone (Syntax.tyStruct (List._∷_ 112 (List._∷_ 97 (List._∷_ 115 (List._∷_ 115 (List._∷_
-      58 (List._∷_ 58 (List._∷_ 83 (List._∷_ 101 (List._∷_ 116 List.[]))))))))) (Syntax.tcons (Syntax.tyArray (Syntax.tyInt Syntax.w32) 112) (Syntax.tcons (Syntax.tyArray (Syntax.tyInt Syntax.w32) 112)
-      Syntax.tnil))),
-) (List._∷_ (19, Rows.whole (Declared'.row PassPut.the-type)) (List._∷_ (20, Rows.sc-here Row.sBool) (List._∷_ (
-  21,
-  Rows.any-gone (Syntax.tyStruct (List._∷_ 112 (List._∷_ 97
-      (List._∷_ 115 (List._∷_ 115 (List._∷_ 58 (List._∷_ 58 (List._∷_ 83 (List._∷_ 101 (List._∷_ 116 List.[]))))))))) (Syntax.tcons (Syntax.tyArray (Syntax.tyInt Syntax.w32) 112) (Syntax.tcons
-      (Syntax.tyArray (Syntax.tyInt Syntax.w32) 112) Syntax.tnil))),
-) (List._∷_ (22, Rows.sc-here Row.sBool) (List._∷_ (23, Rows.any-gone Syntax.tyUnit) (List._∷_ (
-  24,
-  Rows.any-gone (Syntax.tyRef
-      Syntax.erased Syntax.mut (Syntax.tyInt Syntax.w16)),
-) (List._∷_ (
-  25,
-  Rows.any-gone (Syntax.tyStruct (List._∷_ 38 (List._∷_ 91 (List._∷_ 93 List.[]))) (Syntax.tcons (Syntax.tyRef Syntax.erased
-      Syntax.mut (Syntax.tyInt Syntax.w16)) (Syntax.tcons (Syntax.tyInt Syntax.w64) Syntax.tnil))),
-) (List._∷_ (26, Rows.any-gone (Syntax.tyRef Syntax.erased Syntax.mut (Syntax.tyInt Syntax.w16)))
-    (List._∷_ (
-      27,
-      Rows.any-gone (Syntax.tyStruct (List._∷_ 38 (List._∷_ 91 (List._∷_ 93 List.[]))) (Syntax.tcons (Syntax.tyRef Syntax.erased Syntax.mut (Syntax.tyInt Syntax.w16)) (Syntax.tcons
-          (Syntax.tyInt Syntax.w64) Syntax.tnil))),
-    ) (List._∷_ (28, Rows.any-gone (Syntax.tyRef Syntax.erased Syntax.mut Element.behind)) (List._∷_ (
-      29,
-      Rows.any-gone (Syntax.tyStruct (List._∷_ 38
-          (List._∷_ 91 (List._∷_ 93 List.[]))) (Syntax.tcons (Syntax.tyRef Syntax.erased Syntax.mut Element.behind) (Syntax.tcons (Syntax.tyInt Syntax.w64) Syntax.tnil))),
-    ) (List._∷_ (
-      30,
-      Rows.any-gone
-          (Syntax.tyRef Syntax.erased Syntax.mut (Syntax.tyInt Syntax.w8)),
-    ) (List._∷_ (
-      31,
-      Rows.any-gone (Syntax.tyStruct (List._∷_ 38 (List._∷_ 91 (List._∷_ 93 List.[]))) (Syntax.tcons (Syntax.tyRef
-          Syntax.erased Syntax.mut (Syntax.tyInt Syntax.w8)) (Syntax.tcons (Syntax.tyInt Syntax.w64) Syntax.tnil))),
-    ) List.[])))))))))))))))
+t47 = List._∷_ e16 (List._∷_ e17 (List._∷_ e19 (List._∷_ e22 (List._∷_ e26 (List._∷_ e27 (List._∷_ e30 (List._∷_ e31 (List._∷_ e33 (List._∷_ e35 (List._∷_ e36 (List._∷_ e38 (List._∷_ e39 (List._∷_ e40
+    (List._∷_ e43 (List._∷_ e45 List.[])))))))))))))))
 
 abbrev pub t48 : List.List Row.Entry
-t48 = List._∷_ (16, Rows.sc-here (Row.sInt Syntax.w64)) (List._∷_ (
-  17,
-  Rows.any-gone (Syntax.tyStruct (List._∷_ 112 (List._∷_ 97 (List._∷_ 115 (List._∷_ 115 (List._∷_ 58 (List._∷_ 58 (List._∷_ 80
-      (List._∷_ 108 (List._∷_ 97 (List._∷_ 110 List.[])))))))))) (Syntax.tcons (Syntax.tyInt Syntax.w64) (Syntax.tcons (Syntax.tyInt Syntax.w64) (Syntax.tcons (Syntax.tyInt Syntax.w64) (Syntax.tcons
-      (Syntax.tyInt Syntax.w32) (Syntax.tcons (Syntax.tyInt Syntax.w32) Syntax.tnil)))))),
-) (List._∷_ (
-  18,
-  Rows.any-gone (Syntax.tyStruct (List._∷_ 112 (List._∷_ 97 (List._∷_ 115 (List._∷_ 115 (List._∷_
-      58 (List._∷_ 58 (List._∷_ 83 (List._∷_ 101 (List._∷_ 116 List.[]))))))))) (Syntax.tcons (Syntax.tyArray (Syntax.tyInt Syntax.w32) 112) (Syntax.tcons (Syntax.tyArray (Syntax.tyInt Syntax.w32) 112)
-      Syntax.tnil))),
-) (List._∷_ (19, Rows.whole (Declared'.row PassPut.the-type)) (List._∷_ (20, Rows.sc-here Row.sBool) (List._∷_ (
-  21,
-  Rows.any-gone (Syntax.tyStruct (List._∷_ 112 (List._∷_ 97
-      (List._∷_ 115 (List._∷_ 115 (List._∷_ 58 (List._∷_ 58 (List._∷_ 83 (List._∷_ 101 (List._∷_ 116 List.[]))))))))) (Syntax.tcons (Syntax.tyArray (Syntax.tyInt Syntax.w32) 112) (Syntax.tcons
-      (Syntax.tyArray (Syntax.tyInt Syntax.w32) 112) Syntax.tnil))),
-) (List._∷_ (22, Rows.any-gone Syntax.tyBool) (List._∷_ (23, Rows.any-gone Syntax.tyUnit) (List._∷_ (
-  24,
-  Rows.any-gone (Syntax.tyRef
-      Syntax.erased Syntax.mut (Syntax.tyInt Syntax.w16)),
-) (List._∷_ (
-  25,
-  Rows.any-gone (Syntax.tyStruct (List._∷_ 38 (List._∷_ 91 (List._∷_ 93 List.[]))) (Syntax.tcons (Syntax.tyRef Syntax.erased
-      Syntax.mut (Syntax.tyInt Syntax.w16)) (Syntax.tcons (Syntax.tyInt Syntax.w64) Syntax.tnil))),
-) (List._∷_ (26, Rows.any-gone (Syntax.tyRef Syntax.erased Syntax.mut (Syntax.tyInt Syntax.w16)))
-    (List._∷_ (
-      27,
-      Rows.any-gone (Syntax.tyStruct (List._∷_ 38 (List._∷_ 91 (List._∷_ 93 List.[]))) (Syntax.tcons (Syntax.tyRef Syntax.erased Syntax.mut (Syntax.tyInt Syntax.w16)) (Syntax.tcons
-          (Syntax.tyInt Syntax.w64) Syntax.tnil))),
-    ) (List._∷_ (28, Rows.any-gone (Syntax.tyRef Syntax.erased Syntax.mut Element.behind)) (List._∷_ (
-      29,
-      Rows.any-gone (Syntax.tyStruct (List._∷_ 38
-          (List._∷_ 91 (List._∷_ 93 List.[]))) (Syntax.tcons (Syntax.tyRef Syntax.erased Syntax.mut Element.behind) (Syntax.tcons (Syntax.tyInt Syntax.w64) Syntax.tnil))),
-    ) (List._∷_ (
-      30,
-      Rows.any-gone
-          (Syntax.tyRef Syntax.erased Syntax.mut (Syntax.tyInt Syntax.w8)),
-    ) (List._∷_ (
-      31,
-      Rows.any-gone (Syntax.tyStruct (List._∷_ 38 (List._∷_ 91 (List._∷_ 93 List.[]))) (Syntax.tcons (Syntax.tyRef
-          Syntax.erased Syntax.mut (Syntax.tyInt Syntax.w8)) (Syntax.tcons (Syntax.tyInt Syntax.w64) Syntax.tnil))),
-    ) List.[])))))))))))))))
+t48 = List._∷_ e16 (List._∷_ e17 (List._∷_ e19 (List._∷_ e22 (List._∷_ e26 (List._∷_ e27 (List._∷_ e29 (List._∷_ e31 (List._∷_ e33 (List._∷_ e35 (List._∷_ e36 (List._∷_ e38 (List._∷_ e39 (List._∷_ e40
+    (List._∷_ e43 (List._∷_ e45 List.[])))))))))))))))
 
 abbrev pub t49 : List.List Row.Entry
-t49 = List._∷_ (0, Rows.whole (Declared.row Put.the-type)) (List._∷_ (
-  1,
-  Rows.sslice (Referent.rtF (Referent.fInt Syntax.w16)) (Syntax.tyRef (Syntax.named 0) Syntax.imm (Syntax.tyInt Syntax.w16)) 0,
-) (List._∷_ (2, Rows.sc-here (Row.sInt Syntax.w64)) (List._∷_ (3, Mut.mslice (Referent.rtF (Referent.fInt Syntax.w8)) (Syntax.tyRef (Syntax.named 1) Syntax.mut (Syntax.tyInt Syntax.w8)) 1)
-    (List._∷_ (4, Rows.sc-here Row.sBool) (List._∷_ (
-      5,
-      Rows.any-gone (Syntax.tyStruct (List._∷_ 98 (List._∷_ 105 (List._∷_ 116 (List._∷_ 115 (List._∷_ 58 (List._∷_ 58 (List._∷_ 66 (List._∷_ 105
-          (List._∷_ 116 (List._∷_ 80 (List._∷_ 111 (List._∷_ 115 (List._∷_ 105 (List._∷_ 116 (List._∷_ 105 (List._∷_ 111 (List._∷_ 110 List.[]))))))))))))))))) (Syntax.tcons (Syntax.tyInt Syntax.w64)
-          Syntax.tnil)),
-    ) (List._∷_ (6, Mut.mslice (Referent.rtF (Referent.fInt Syntax.w16)) (Syntax.tyRef (Syntax.named 2) Syntax.mut (Syntax.tyInt Syntax.w16)) 2) (List._∷_ (
-      7,
-      Mut.mslice (Element.type)
-          (Syntax.tyRef (Syntax.named 3) Syntax.mut Element.behind) 3,
-    ) (List._∷_ (
-      8,
-      Rows.any-gone (Syntax.tyStruct (List._∷_ 98 (List._∷_ 108 (List._∷_ 111 (List._∷_ 99 (List._∷_ 107 (List._∷_ 58 (List._∷_
-          58 (List._∷_ 70 (List._∷_ 111 (List._∷_ 114 (List._∷_ 109 List.[]))))))))))) (Syntax.tcons (Syntax.tyInt Syntax.w32) (Syntax.tcons Syntax.tyBool Syntax.tnil))),
-    ) (List._∷_ (
-      9,
-      Rows.sc-here (Row.sInt
-          Syntax.w32),
-    ) (List._∷_ (10, Rows.sc-here Row.sBool) (List._∷_ (11, Rows.sc-here (Row.sInt Syntax.w64)) (List._∷_ (
-      12,
-      Rows.any-gone (Syntax.tyStruct (List._∷_ 113 (List._∷_ 117 (List._∷_ 97 (List._∷_
-          110 (List._∷_ 116 (List._∷_ 105 (List._∷_ 115 (List._∷_ 101 (List._∷_ 114 (List._∷_ 58 (List._∷_ 58 (List._∷_ 81 (List._∷_ 117 (List._∷_ 97 (List._∷_ 110 (List._∷_ 116 (List._∷_ 105 (List._∷_ 115
-          (List._∷_ 101 (List._∷_ 114 List.[])))))))))))))))))))) (Syntax.tcons (Syntax.tyInt Syntax.w32) (Syntax.tcons (Syntax.tyInt Syntax.w32) (Syntax.tcons (Syntax.tyInt Syntax.w32) (Syntax.tcons
-          (Syntax.tyInt Syntax.w32) (Syntax.tcons (Syntax.tyInt Syntax.w32) Syntax.tnil)))))),
-    ) (List._∷_ (13, Rows.sc-here (Row.sInt Syntax.w32)) (List._∷_ (14, Rows.sc-here (Row.sInt Syntax.w32))
-    (List._∷_ (
-      15,
-      Rows.any-gone (Syntax.tyStruct (List._∷_ 98 (List._∷_ 105 (List._∷_ 116 (List._∷_ 115 (List._∷_ 58 (List._∷_ 58 (List._∷_ 66 (List._∷_ 105 (List._∷_ 116 (List._∷_ 80 (List._∷_ 111
-          (List._∷_ 115 (List._∷_ 105 (List._∷_ 116 (List._∷_ 105 (List._∷_ 111 (List._∷_ 110 List.[]))))))))))))))))) (Syntax.tcons (Syntax.tyInt Syntax.w64) Syntax.tnil)),
-    ) List.[])))))))))))))))
+t49 = List._∷_ e1 (List._∷_ e2 (List._∷_ e24 (List._∷_ e41 (List._∷_ e51 (List._∷_ e52 (List._∷_ e54 (List._∷_ e56 (List._∷_ e57 (List._∷_ e60 (List._∷_ e4 (List._∷_ e6 (List._∷_ e7 (List._∷_ e10
+    (List._∷_ e12 (List._∷_ e13 List.[])))))))))))))))
 
 abbrev pub t50 : List.List Row.Entry
-t50 = List._∷_ (16, Rows.sc-here (Row.sInt Syntax.w64)) (List._∷_ (
-  17,
-  Rows.any-gone (Syntax.tyStruct (List._∷_ 112 (List._∷_ 97 (List._∷_ 115 (List._∷_ 115 (List._∷_ 58 (List._∷_ 58 (List._∷_ 80
-      (List._∷_ 108 (List._∷_ 97 (List._∷_ 110 List.[])))))))))) (Syntax.tcons (Syntax.tyInt Syntax.w64) (Syntax.tcons (Syntax.tyInt Syntax.w64) (Syntax.tcons (Syntax.tyInt Syntax.w64) (Syntax.tcons
-      (Syntax.tyInt Syntax.w32) (Syntax.tcons (Syntax.tyInt Syntax.w32) Syntax.tnil)))))),
-) (List._∷_ (
-  18,
-  Rows.any-gone (Syntax.tyStruct (List._∷_ 112 (List._∷_ 97 (List._∷_ 115 (List._∷_ 115 (List._∷_
-      58 (List._∷_ 58 (List._∷_ 83 (List._∷_ 101 (List._∷_ 116 List.[]))))))))) (Syntax.tcons (Syntax.tyArray (Syntax.tyInt Syntax.w32) 112) (Syntax.tcons (Syntax.tyArray (Syntax.tyInt Syntax.w32) 112)
-      Syntax.tnil))),
-) (List._∷_ (
-  19,
-  Rows.any-gone (Syntax.tyStruct (List._∷_ 119 (List._∷_ 114 (List._∷_ 105 (List._∷_ 116 (List._∷_ 105 (List._∷_ 110 (List._∷_ 103 (List._∷_ 58 (List._∷_ 58 (List._∷_
-      80 (List._∷_ 97 (List._∷_ 115 (List._∷_ 115 (List._∷_ 80 (List._∷_ 117 (List._∷_ 116 List.[])))))))))))))))) (Syntax.tcons Syntax.tyBool (Syntax.tcons (Syntax.tyInt Syntax.w64) (Syntax.tcons
-      (Syntax.tyStruct (List._∷_ 98 (List._∷_ 105 (List._∷_ 116 (List._∷_ 115 (List._∷_ 58 (List._∷_ 58 (List._∷_ 66 (List._∷_ 105 (List._∷_ 116 (List._∷_ 80 (List._∷_ 111 (List._∷_ 115 (List._∷_ 105
-      (List._∷_ 116 (List._∷_ 105 (List._∷_ 111 (List._∷_ 110 List.[]))))))))))))))))) (Syntax.tcons (Syntax.tyInt Syntax.w64) Syntax.tnil)) (Syntax.tcons (Syntax.tyStruct (List._∷_ 112 (List._∷_ 97
-      (List._∷_ 115 (List._∷_ 115 (List._∷_ 58 (List._∷_ 58 (List._∷_ 83 (List._∷_ 101 (List._∷_ 116 List.[]))))))))) (Syntax.tcons (Syntax.tyArray (Syntax.tyInt Syntax.w32) 112) (Syntax.tcons
-      (Syntax.tyArray (Syntax.tyInt Syntax.w32) 112) Syntax.tnil))) Syntax.tnil))))),
-) (List._∷_ (20, Rows.sc-here Row.sBool) (List._∷_ (
-  21,
-  Rows.any-gone (Syntax.tyStruct (List._∷_ 112 (List._∷_ 97
-      (List._∷_ 115 (List._∷_ 115 (List._∷_ 58 (List._∷_ 58 (List._∷_ 83 (List._∷_ 101 (List._∷_ 116 List.[]))))))))) (Syntax.tcons (Syntax.tyArray (Syntax.tyInt Syntax.w32) 112) (Syntax.tcons
-      (Syntax.tyArray (Syntax.tyInt Syntax.w32) 112) Syntax.tnil))),
-) (List._∷_ (22, Rows.any-gone Syntax.tyBool) (List._∷_ (23, Rows.any-gone Syntax.tyUnit) (List._∷_ (
-  24,
-  Rows.any-gone (Syntax.tyRef
-      Syntax.erased Syntax.mut (Syntax.tyInt Syntax.w16)),
-) (List._∷_ (
-  25,
-  Rows.any-gone (Syntax.tyStruct (List._∷_ 38 (List._∷_ 91 (List._∷_ 93 List.[]))) (Syntax.tcons (Syntax.tyRef Syntax.erased
-      Syntax.mut (Syntax.tyInt Syntax.w16)) (Syntax.tcons (Syntax.tyInt Syntax.w64) Syntax.tnil))),
-) (List._∷_ (26, Rows.any-gone (Syntax.tyRef Syntax.erased Syntax.mut (Syntax.tyInt Syntax.w16)))
-    (List._∷_ (
-      27,
-      Rows.any-gone (Syntax.tyStruct (List._∷_ 38 (List._∷_ 91 (List._∷_ 93 List.[]))) (Syntax.tcons (Syntax.tyRef Syntax.erased Syntax.mut (Syntax.tyInt Syntax.w16)) (Syntax.tcons
-          (Syntax.tyInt Syntax.w64) Syntax.tnil))),
-    ) (List._∷_ (28, Rows.any-gone (Syntax.tyRef Syntax.erased Syntax.mut Element.behind)) (List._∷_ (
-      29,
-      Rows.any-gone (Syntax.tyStruct (List._∷_ 38
-          (List._∷_ 91 (List._∷_ 93 List.[]))) (Syntax.tcons (Syntax.tyRef Syntax.erased Syntax.mut Element.behind) (Syntax.tcons (Syntax.tyInt Syntax.w64) Syntax.tnil))),
-    ) (List._∷_ (
-      30,
-      Rows.any-gone
-          (Syntax.tyRef Syntax.erased Syntax.mut (Syntax.tyInt Syntax.w8)),
-    ) (List._∷_ (
-      31,
-      Rows.any-gone (Syntax.tyStruct (List._∷_ 38 (List._∷_ 91 (List._∷_ 93 List.[]))) (Syntax.tcons (Syntax.tyRef
-          Syntax.erased Syntax.mut (Syntax.tyInt Syntax.w8)) (Syntax.tcons (Syntax.tyInt Syntax.w64) Syntax.tnil))),
-    ) List.[])))))))))))))))
+t50 = List._∷_ e16 (List._∷_ e17 (List._∷_ e19 (List._∷_ e21 (List._∷_ e26 (List._∷_ e27 (List._∷_ e29 (List._∷_ e31 (List._∷_ e33 (List._∷_ e35 (List._∷_ e36 (List._∷_ e38 (List._∷_ e39 (List._∷_ e40
+    (List._∷_ e43 (List._∷_ e45 List.[])))))))))))))))
 
 abbrev pub t51 : List.List Row.Entry
-t51 = List._∷_ (0, Rows.whole (Declared.row Put.the-type)) (List._∷_ (
-  1,
-  Rows.sslice (Referent.rtF (Referent.fInt Syntax.w16)) (Syntax.tyRef (Syntax.named 0) Syntax.imm (Syntax.tyInt Syntax.w16)) 0,
-) (List._∷_ (2, Rows.any-gone (Syntax.tyInt Syntax.w64)) (List._∷_ (3, Mut.mslice (Referent.rtF (Referent.fInt Syntax.w8)) (Syntax.tyRef (Syntax.named 1) Syntax.mut (Syntax.tyInt Syntax.w8)) 1)
-    (List._∷_ (4, Rows.sc-here Row.sBool) (List._∷_ (
-      5,
-      Rows.any-gone (Syntax.tyStruct (List._∷_ 98 (List._∷_ 105 (List._∷_ 116 (List._∷_ 115 (List._∷_ 58 (List._∷_ 58 (List._∷_ 66 (List._∷_ 105
-          (List._∷_ 116 (List._∷_ 80 (List._∷_ 111 (List._∷_ 115 (List._∷_ 105 (List._∷_ 116 (List._∷_ 105 (List._∷_ 111 (List._∷_ 110 List.[]))))))))))))))))) (Syntax.tcons (Syntax.tyInt Syntax.w64)
-          Syntax.tnil)),
-    ) (List._∷_ (6, Mut.mslice (Referent.rtF (Referent.fInt Syntax.w16)) (Syntax.tyRef (Syntax.named 2) Syntax.mut (Syntax.tyInt Syntax.w16)) 2) (List._∷_ (
-      7,
-      Mut.mslice (Element.type)
-          (Syntax.tyRef (Syntax.named 3) Syntax.mut Element.behind) 3,
-    ) (List._∷_ (
-      8,
-      Rows.any-gone (Syntax.tyStruct (List._∷_ 98 (List._∷_ 108 (List._∷_ 111 (List._∷_ 99 (List._∷_ 107 (List._∷_ 58 (List._∷_
-          58 (List._∷_ 70 (List._∷_ 111 (List._∷_ 114 (List._∷_ 109 List.[]))))))))))) (Syntax.tcons (Syntax.tyInt Syntax.w32) (Syntax.tcons Syntax.tyBool Syntax.tnil))),
-    ) (List._∷_ (
-      9,
-      Rows.sc-here (Row.sInt
-          Syntax.w32),
-    ) (List._∷_ (10, Rows.sc-here Row.sBool) (List._∷_ (11, Rows.sc-here (Row.sInt Syntax.w64)) (List._∷_ (
-      12,
-      Rows.any-gone (Syntax.tyStruct (List._∷_ 113 (List._∷_ 117 (List._∷_ 97 (List._∷_
-          110 (List._∷_ 116 (List._∷_ 105 (List._∷_ 115 (List._∷_ 101 (List._∷_ 114 (List._∷_ 58 (List._∷_ 58 (List._∷_ 81 (List._∷_ 117 (List._∷_ 97 (List._∷_ 110 (List._∷_ 116 (List._∷_ 105 (List._∷_ 115
-          (List._∷_ 101 (List._∷_ 114 List.[])))))))))))))))))))) (Syntax.tcons (Syntax.tyInt Syntax.w32) (Syntax.tcons (Syntax.tyInt Syntax.w32) (Syntax.tcons (Syntax.tyInt Syntax.w32) (Syntax.tcons
-          (Syntax.tyInt Syntax.w32) (Syntax.tcons (Syntax.tyInt Syntax.w32) Syntax.tnil)))))),
-    ) (List._∷_ (13, Rows.sc-here (Row.sInt Syntax.w32)) (List._∷_ (14, Rows.sc-here (Row.sInt Syntax.w32))
-    (List._∷_ (
-      15,
-      Rows.any-gone (Syntax.tyStruct (List._∷_ 98 (List._∷_ 105 (List._∷_ 116 (List._∷_ 115 (List._∷_ 58 (List._∷_ 58 (List._∷_ 66 (List._∷_ 105 (List._∷_ 116 (List._∷_ 80 (List._∷_ 111
-          (List._∷_ 115 (List._∷_ 105 (List._∷_ 116 (List._∷_ 105 (List._∷_ 111 (List._∷_ 110 List.[]))))))))))))))))) (Syntax.tcons (Syntax.tyInt Syntax.w64) Syntax.tnil)),
-    ) List.[])))))))))))))))
+t51 = List._∷_ e1 (List._∷_ e2 (List._∷_ e23 (List._∷_ e41 (List._∷_ e51 (List._∷_ e52 (List._∷_ e54 (List._∷_ e56 (List._∷_ e57 (List._∷_ e60 (List._∷_ e4 (List._∷_ e6 (List._∷_ e7 (List._∷_ e10
+    (List._∷_ e12 (List._∷_ e13 List.[])))))))))))))))
 
 abbrev pub t52 : List.List Row.Entry
-t52 = List._∷_ (0, Rows.whole (Declared.row Put.the-type)) (List._∷_ (
-  1,
-  Rows.sslice (Referent.rtF (Referent.fInt Syntax.w16)) (Syntax.tyRef (Syntax.named 0) Syntax.imm (Syntax.tyInt Syntax.w16)) 0,
-) (List._∷_ (2, Rows.any-gone (Syntax.tyInt Syntax.w64)) (List._∷_ (3, Mut.mslice (Referent.rtF (Referent.fInt Syntax.w8)) (Syntax.tyRef (Syntax.named 1) Syntax.mut (Syntax.tyInt Syntax.w8)) 1)
-    (List._∷_ (4, Rows.any-gone Syntax.tyBool) (List._∷_ (
-      5,
-      Rows.any-gone (Syntax.tyStruct (List._∷_ 98 (List._∷_ 105 (List._∷_ 116 (List._∷_ 115 (List._∷_ 58 (List._∷_ 58 (List._∷_ 66 (List._∷_ 105
-          (List._∷_ 116 (List._∷_ 80 (List._∷_ 111 (List._∷_ 115 (List._∷_ 105 (List._∷_ 116 (List._∷_ 105 (List._∷_ 111 (List._∷_ 110 List.[]))))))))))))))))) (Syntax.tcons (Syntax.tyInt Syntax.w64)
-          Syntax.tnil)),
-    ) (List._∷_ (6, Mut.mslice (Referent.rtF (Referent.fInt Syntax.w16)) (Syntax.tyRef (Syntax.named 2) Syntax.mut (Syntax.tyInt Syntax.w16)) 2) (List._∷_ (
-      7,
-      Mut.mslice (Element.type)
-          (Syntax.tyRef (Syntax.named 3) Syntax.mut Element.behind) 3,
-    ) (List._∷_ (
-      8,
-      Rows.any-gone (Syntax.tyStruct (List._∷_ 98 (List._∷_ 108 (List._∷_ 111 (List._∷_ 99 (List._∷_ 107 (List._∷_ 58 (List._∷_
-          58 (List._∷_ 70 (List._∷_ 111 (List._∷_ 114 (List._∷_ 109 List.[]))))))))))) (Syntax.tcons (Syntax.tyInt Syntax.w32) (Syntax.tcons Syntax.tyBool Syntax.tnil))),
-    ) (List._∷_ (
-      9,
-      Rows.sc-here (Row.sInt
-          Syntax.w32),
-    ) (List._∷_ (10, Rows.sc-here Row.sBool) (List._∷_ (11, Rows.sc-here (Row.sInt Syntax.w64)) (List._∷_ (
-      12,
-      Rows.any-gone (Syntax.tyStruct (List._∷_ 113 (List._∷_ 117 (List._∷_ 97 (List._∷_
-          110 (List._∷_ 116 (List._∷_ 105 (List._∷_ 115 (List._∷_ 101 (List._∷_ 114 (List._∷_ 58 (List._∷_ 58 (List._∷_ 81 (List._∷_ 117 (List._∷_ 97 (List._∷_ 110 (List._∷_ 116 (List._∷_ 105 (List._∷_ 115
-          (List._∷_ 101 (List._∷_ 114 List.[])))))))))))))))))))) (Syntax.tcons (Syntax.tyInt Syntax.w32) (Syntax.tcons (Syntax.tyInt Syntax.w32) (Syntax.tcons (Syntax.tyInt Syntax.w32) (Syntax.tcons
-          (Syntax.tyInt Syntax.w32) (Syntax.tcons (Syntax.tyInt Syntax.w32) Syntax.tnil)))))),
-    ) (List._∷_ (13, Rows.sc-here (Row.sInt Syntax.w32)) (List._∷_ (14, Rows.sc-here (Row.sInt Syntax.w32))
-    (List._∷_ (
-      15,
-      Rows.any-gone (Syntax.tyStruct (List._∷_ 98 (List._∷_ 105 (List._∷_ 116 (List._∷_ 115 (List._∷_ 58 (List._∷_ 58 (List._∷_ 66 (List._∷_ 105 (List._∷_ 116 (List._∷_ 80 (List._∷_ 111
-          (List._∷_ 115 (List._∷_ 105 (List._∷_ 116 (List._∷_ 105 (List._∷_ 111 (List._∷_ 110 List.[]))))))))))))))))) (Syntax.tcons (Syntax.tyInt Syntax.w64) Syntax.tnil)),
-    ) List.[])))))))))))))))
+t52 = List._∷_ e1 (List._∷_ e2 (List._∷_ e23 (List._∷_ e41 (List._∷_ e50 (List._∷_ e52 (List._∷_ e54 (List._∷_ e56 (List._∷_ e57 (List._∷_ e60 (List._∷_ e4 (List._∷_ e6 (List._∷_ e7 (List._∷_ e10
+    (List._∷_ e12 (List._∷_ e13 List.[])))))))))))))))
 
 abbrev pub t53 : List.List Row.Entry
-t53 = List._∷_ (0, Rows.whole (Declared.row Put.the-type)) (List._∷_ (
-  1,
-  Rows.sslice (Referent.rtF (Referent.fInt Syntax.w16)) (Syntax.tyRef (Syntax.named 0) Syntax.imm (Syntax.tyInt Syntax.w16)) 0,
-) (List._∷_ (2, Rows.any-gone (Syntax.tyInt Syntax.w64)) (List._∷_ (3, Mut.mslice (Referent.rtF (Referent.fInt Syntax.w8)) (Syntax.tyRef (Syntax.named 1) Syntax.mut (Syntax.tyInt Syntax.w8)) 1)
-    (List._∷_ (4, Rows.any-gone Syntax.tyBool) (List._∷_ (
-      5,
-      Rows.any-gone (Syntax.tyStruct (List._∷_ 98 (List._∷_ 105 (List._∷_ 116 (List._∷_ 115 (List._∷_ 58 (List._∷_ 58 (List._∷_ 66 (List._∷_ 105
-          (List._∷_ 116 (List._∷_ 80 (List._∷_ 111 (List._∷_ 115 (List._∷_ 105 (List._∷_ 116 (List._∷_ 105 (List._∷_ 111 (List._∷_ 110 List.[]))))))))))))))))) (Syntax.tcons (Syntax.tyInt Syntax.w64)
-          Syntax.tnil)),
-    ) (List._∷_ (6, Mut.mslice (Referent.rtF (Referent.fInt Syntax.w16)) (Syntax.tyRef (Syntax.named 2) Syntax.mut (Syntax.tyInt Syntax.w16)) 2) (List._∷_ (
-      7,
-      Mut.mslice (Element.type)
-          (Syntax.tyRef (Syntax.named 3) Syntax.mut Element.behind) 3,
-    ) (List._∷_ (
-      8,
-      Rows.any-gone (Syntax.tyStruct (List._∷_ 98 (List._∷_ 108 (List._∷_ 111 (List._∷_ 99 (List._∷_ 107 (List._∷_ 58 (List._∷_
-          58 (List._∷_ 70 (List._∷_ 111 (List._∷_ 114 (List._∷_ 109 List.[]))))))))))) (Syntax.tcons (Syntax.tyInt Syntax.w32) (Syntax.tcons Syntax.tyBool Syntax.tnil))),
-    ) (List._∷_ (
-      9,
-      Rows.any-gone
-          (Syntax.tyInt Syntax.w32),
-    ) (List._∷_ (10, Rows.sc-here Row.sBool) (List._∷_ (11, Rows.sc-here (Row.sInt Syntax.w64)) (List._∷_ (
-      12,
-      Rows.any-gone (Syntax.tyStruct (List._∷_ 113 (List._∷_ 117
-          (List._∷_ 97 (List._∷_ 110 (List._∷_ 116 (List._∷_ 105 (List._∷_ 115 (List._∷_ 101 (List._∷_ 114 (List._∷_ 58 (List._∷_ 58 (List._∷_ 81 (List._∷_ 117 (List._∷_ 97 (List._∷_ 110 (List._∷_ 116 (List._∷_
-          105 (List._∷_ 115 (List._∷_ 101 (List._∷_ 114 List.[])))))))))))))))))))) (Syntax.tcons (Syntax.tyInt Syntax.w32) (Syntax.tcons (Syntax.tyInt Syntax.w32) (Syntax.tcons (Syntax.tyInt Syntax.w32)
-          (Syntax.tcons (Syntax.tyInt Syntax.w32) (Syntax.tcons (Syntax.tyInt Syntax.w32) Syntax.tnil)))))),
-    ) (List._∷_ (13, Rows.sc-here (Row.sInt Syntax.w32)) (List._∷_ (
-      14,
-      Rows.sc-here (Row.sInt
-          Syntax.w32),
-    ) (List._∷_ (
-      15,
-      Rows.any-gone (Syntax.tyStruct (List._∷_ 98 (List._∷_ 105 (List._∷_ 116 (List._∷_ 115 (List._∷_ 58 (List._∷_ 58 (List._∷_ 66 (List._∷_ 105 (List._∷_ 116 (List._∷_ 80
-          (List._∷_ 111 (List._∷_ 115 (List._∷_ 105 (List._∷_ 116 (List._∷_ 105 (List._∷_ 111 (List._∷_ 110 List.[]))))))))))))))))) (Syntax.tcons (Syntax.tyInt Syntax.w64) Syntax.tnil)),
-    )
-    List.[])))))))))))))))
+t53 = List._∷_ e1 (List._∷_ e2 (List._∷_ e23 (List._∷_ e41 (List._∷_ e50 (List._∷_ e52 (List._∷_ e54 (List._∷_ e56 (List._∷_ e57 (List._∷_ e59 (List._∷_ e4 (List._∷_ e6 (List._∷_ e7 (List._∷_ e10
+    (List._∷_ e12 (List._∷_ e13 List.[])))))))))))))))
 
 abbrev pub t54 : List.List Row.Entry
-t54 = List._∷_ (0, Rows.whole (Declared.row Put.the-type)) (List._∷_ (
-  1,
-  Rows.sslice (Referent.rtF (Referent.fInt Syntax.w16)) (Syntax.tyRef (Syntax.named 0) Syntax.imm (Syntax.tyInt Syntax.w16)) 0,
-) (List._∷_ (2, Rows.any-gone (Syntax.tyInt Syntax.w64)) (List._∷_ (3, Mut.mslice (Referent.rtF (Referent.fInt Syntax.w8)) (Syntax.tyRef (Syntax.named 1) Syntax.mut (Syntax.tyInt Syntax.w8)) 1)
-    (List._∷_ (4, Rows.any-gone Syntax.tyBool) (List._∷_ (
-      5,
-      Rows.any-gone (Syntax.tyStruct (List._∷_ 98 (List._∷_ 105 (List._∷_ 116 (List._∷_ 115 (List._∷_ 58 (List._∷_ 58 (List._∷_ 66 (List._∷_ 105
-          (List._∷_ 116 (List._∷_ 80 (List._∷_ 111 (List._∷_ 115 (List._∷_ 105 (List._∷_ 116 (List._∷_ 105 (List._∷_ 111 (List._∷_ 110 List.[]))))))))))))))))) (Syntax.tcons (Syntax.tyInt Syntax.w64)
-          Syntax.tnil)),
-    ) (List._∷_ (6, Mut.mslice (Referent.rtF (Referent.fInt Syntax.w16)) (Syntax.tyRef (Syntax.named 2) Syntax.mut (Syntax.tyInt Syntax.w16)) 2) (List._∷_ (
-      7,
-      Mut.mslice (Element.type)
-          (Syntax.tyRef (Syntax.named 3) Syntax.mut Element.behind) 3,
-    ) (List._∷_ (
-      8,
-      Rows.any-gone (Syntax.tyStruct (List._∷_ 98 (List._∷_ 108 (List._∷_ 111 (List._∷_ 99 (List._∷_ 107 (List._∷_ 58 (List._∷_
-          58 (List._∷_ 70 (List._∷_ 111 (List._∷_ 114 (List._∷_ 109 List.[]))))))))))) (Syntax.tcons (Syntax.tyInt Syntax.w32) (Syntax.tcons Syntax.tyBool Syntax.tnil))),
-    ) (List._∷_ (
-      9,
-      Rows.any-gone
-          (Syntax.tyInt Syntax.w32),
-    ) (List._∷_ (10, Rows.any-gone Syntax.tyBool) (List._∷_ (11, Rows.sc-here (Row.sInt Syntax.w64)) (List._∷_ (
-      12,
-      Rows.any-gone (Syntax.tyStruct (List._∷_ 113 (List._∷_ 117
-          (List._∷_ 97 (List._∷_ 110 (List._∷_ 116 (List._∷_ 105 (List._∷_ 115 (List._∷_ 101 (List._∷_ 114 (List._∷_ 58 (List._∷_ 58 (List._∷_ 81 (List._∷_ 117 (List._∷_ 97 (List._∷_ 110 (List._∷_ 116 (List._∷_
-          105 (List._∷_ 115 (List._∷_ 101 (List._∷_ 114 List.[])))))))))))))))))))) (Syntax.tcons (Syntax.tyInt Syntax.w32) (Syntax.tcons (Syntax.tyInt Syntax.w32) (Syntax.tcons (Syntax.tyInt Syntax.w32)
-          (Syntax.tcons (Syntax.tyInt Syntax.w32) (Syntax.tcons (Syntax.tyInt Syntax.w32) Syntax.tnil)))))),
-    ) (List._∷_ (13, Rows.sc-here (Row.sInt Syntax.w32)) (List._∷_ (
-      14,
-      Rows.sc-here (Row.sInt
-          Syntax.w32),
-    ) (List._∷_ (
-      15,
-      Rows.any-gone (Syntax.tyStruct (List._∷_ 98 (List._∷_ 105 (List._∷_ 116 (List._∷_ 115 (List._∷_ 58 (List._∷_ 58 (List._∷_ 66 (List._∷_ 105 (List._∷_ 116 (List._∷_ 80
-          (List._∷_ 111 (List._∷_ 115 (List._∷_ 105 (List._∷_ 116 (List._∷_ 105 (List._∷_ 111 (List._∷_ 110 List.[]))))))))))))))))) (Syntax.tcons (Syntax.tyInt Syntax.w64) Syntax.tnil)),
-    )
-    List.[])))))))))))))))
+t54 = List._∷_ e1 (List._∷_ e2 (List._∷_ e23 (List._∷_ e41 (List._∷_ e50 (List._∷_ e52 (List._∷_ e54 (List._∷_ e56 (List._∷_ e57 (List._∷_ e59 (List._∷_ e3 (List._∷_ e6 (List._∷_ e7 (List._∷_ e10
+    (List._∷_ e12 (List._∷_ e13 List.[])))))))))))))))
 
 abbrev pub t55 : List.List Row.Entry
-t55 = List._∷_ (0, Rows.whole (Declared.row Put.the-type)) (List._∷_ (
-  1,
-  Rows.sslice (Referent.rtF (Referent.fInt Syntax.w16)) (Syntax.tyRef (Syntax.named 0) Syntax.imm (Syntax.tyInt Syntax.w16)) 0,
-) (List._∷_ (2, Rows.any-gone (Syntax.tyInt Syntax.w64)) (List._∷_ (3, Mut.mslice (Referent.rtF (Referent.fInt Syntax.w8)) (Syntax.tyRef (Syntax.named 1) Syntax.mut (Syntax.tyInt Syntax.w8)) 1)
-    (List._∷_ (4, Rows.any-gone Syntax.tyBool) (List._∷_ (
-      5,
-      Rows.any-gone (Syntax.tyStruct (List._∷_ 98 (List._∷_ 105 (List._∷_ 116 (List._∷_ 115 (List._∷_ 58 (List._∷_ 58 (List._∷_ 66 (List._∷_ 105
-          (List._∷_ 116 (List._∷_ 80 (List._∷_ 111 (List._∷_ 115 (List._∷_ 105 (List._∷_ 116 (List._∷_ 105 (List._∷_ 111 (List._∷_ 110 List.[]))))))))))))))))) (Syntax.tcons (Syntax.tyInt Syntax.w64)
-          Syntax.tnil)),
-    ) (List._∷_ (6, Mut.mslice (Referent.rtF (Referent.fInt Syntax.w16)) (Syntax.tyRef (Syntax.named 2) Syntax.mut (Syntax.tyInt Syntax.w16)) 2) (List._∷_ (
-      7,
-      Mut.mslice (Element.type)
-          (Syntax.tyRef (Syntax.named 3) Syntax.mut Element.behind) 3,
-    ) (List._∷_ (
-      8,
-      Rows.any-gone (Syntax.tyStruct (List._∷_ 98 (List._∷_ 108 (List._∷_ 111 (List._∷_ 99 (List._∷_ 107 (List._∷_ 58 (List._∷_
-          58 (List._∷_ 70 (List._∷_ 111 (List._∷_ 114 (List._∷_ 109 List.[]))))))))))) (Syntax.tcons (Syntax.tyInt Syntax.w32) (Syntax.tcons Syntax.tyBool Syntax.tnil))),
-    ) (List._∷_ (
-      9,
-      Rows.any-gone
-          (Syntax.tyInt Syntax.w32),
-    ) (List._∷_ (10, Rows.any-gone Syntax.tyBool) (List._∷_ (11, Rows.any-gone (Syntax.tyInt Syntax.w64)) (List._∷_ (
-      12,
-      Rows.any-gone (Syntax.tyStruct (List._∷_ 113 (List._∷_
-          117 (List._∷_ 97 (List._∷_ 110 (List._∷_ 116 (List._∷_ 105 (List._∷_ 115 (List._∷_ 101 (List._∷_ 114 (List._∷_ 58 (List._∷_ 58 (List._∷_ 81 (List._∷_ 117 (List._∷_ 97 (List._∷_ 110 (List._∷_ 116
-          (List._∷_ 105 (List._∷_ 115 (List._∷_ 101 (List._∷_ 114 List.[])))))))))))))))))))) (Syntax.tcons (Syntax.tyInt Syntax.w32) (Syntax.tcons (Syntax.tyInt Syntax.w32) (Syntax.tcons (Syntax.tyInt
-          Syntax.w32) (Syntax.tcons (Syntax.tyInt Syntax.w32) (Syntax.tcons (Syntax.tyInt Syntax.w32) Syntax.tnil)))))),
-    ) (List._∷_ (13, Rows.sc-here (Row.sInt Syntax.w32)) (List._∷_ (
-      14,
-      Rows.sc-here
-          (Row.sInt Syntax.w32),
-    ) (List._∷_ (
-      15,
-      Rows.any-gone (Syntax.tyStruct (List._∷_ 98 (List._∷_ 105 (List._∷_ 116 (List._∷_ 115 (List._∷_ 58 (List._∷_ 58 (List._∷_ 66 (List._∷_ 105 (List._∷_ 116
-          (List._∷_ 80 (List._∷_ 111 (List._∷_ 115 (List._∷_ 105 (List._∷_ 116 (List._∷_ 105 (List._∷_ 111 (List._∷_ 110 List.[]))))))))))))))))) (Syntax.tcons (Syntax.tyInt Syntax.w64) Syntax.tnil)),
-    )
-    List.[])))))))))))))))
+t55 = List._∷_ e1 (List._∷_ e2 (List._∷_ e23 (List._∷_ e41 (List._∷_ e50 (List._∷_ e52 (List._∷_ e54 (List._∷_ e56 (List._∷_ e57 (List._∷_ e59 (List._∷_ e3 (List._∷_ e5 (List._∷_ e7 (List._∷_ e10
+    (List._∷_ e12 (List._∷_ e13 List.[])))))))))))))))
 
 abbrev pub t56 : List.List Row.Entry
-t56 = List._∷_ (0, Rows.whole (Declared.row Put.the-type)) (List._∷_ (
-  1,
-  Rows.sslice (Referent.rtF (Referent.fInt Syntax.w16)) (Syntax.tyRef (Syntax.named 0) Syntax.imm (Syntax.tyInt Syntax.w16)) 0,
-) (List._∷_ (2, Rows.any-gone (Syntax.tyInt Syntax.w64)) (List._∷_ (3, Mut.mslice (Referent.rtF (Referent.fInt Syntax.w8)) (Syntax.tyRef (Syntax.named 1) Syntax.mut (Syntax.tyInt Syntax.w8)) 1)
-    (List._∷_ (4, Rows.any-gone Syntax.tyBool) (List._∷_ (
-      5,
-      Rows.any-gone (Syntax.tyStruct (List._∷_ 98 (List._∷_ 105 (List._∷_ 116 (List._∷_ 115 (List._∷_ 58 (List._∷_ 58 (List._∷_ 66 (List._∷_ 105
-          (List._∷_ 116 (List._∷_ 80 (List._∷_ 111 (List._∷_ 115 (List._∷_ 105 (List._∷_ 116 (List._∷_ 105 (List._∷_ 111 (List._∷_ 110 List.[]))))))))))))))))) (Syntax.tcons (Syntax.tyInt Syntax.w64)
-          Syntax.tnil)),
-    ) (List._∷_ (6, Mut.mslice (Referent.rtF (Referent.fInt Syntax.w16)) (Syntax.tyRef (Syntax.named 2) Syntax.mut (Syntax.tyInt Syntax.w16)) 2) (List._∷_ (
-      7,
-      Mut.mslice (Element.type)
-          (Syntax.tyRef (Syntax.named 3) Syntax.mut Element.behind) 3,
-    ) (List._∷_ (
-      8,
-      Rows.any-gone (Syntax.tyStruct (List._∷_ 98 (List._∷_ 108 (List._∷_ 111 (List._∷_ 99 (List._∷_ 107 (List._∷_ 58 (List._∷_
-          58 (List._∷_ 70 (List._∷_ 111 (List._∷_ 114 (List._∷_ 109 List.[]))))))))))) (Syntax.tcons (Syntax.tyInt Syntax.w32) (Syntax.tcons Syntax.tyBool Syntax.tnil))),
-    ) (List._∷_ (
-      9,
-      Rows.any-gone
-          (Syntax.tyInt Syntax.w32),
-    ) (List._∷_ (10, Rows.any-gone Syntax.tyBool) (List._∷_ (11, Rows.any-gone (Syntax.tyInt Syntax.w64)) (List._∷_ (
-      12,
-      Rows.any-gone (Syntax.tyStruct (List._∷_ 113 (List._∷_
-          117 (List._∷_ 97 (List._∷_ 110 (List._∷_ 116 (List._∷_ 105 (List._∷_ 115 (List._∷_ 101 (List._∷_ 114 (List._∷_ 58 (List._∷_ 58 (List._∷_ 81 (List._∷_ 117 (List._∷_ 97 (List._∷_ 110 (List._∷_ 116
-          (List._∷_ 105 (List._∷_ 115 (List._∷_ 101 (List._∷_ 114 List.[])))))))))))))))))))) (Syntax.tcons (Syntax.tyInt Syntax.w32) (Syntax.tcons (Syntax.tyInt Syntax.w32) (Syntax.tcons (Syntax.tyInt
-          Syntax.w32) (Syntax.tcons (Syntax.tyInt Syntax.w32) (Syntax.tcons (Syntax.tyInt Syntax.w32) Syntax.tnil)))))),
-    ) (List._∷_ (13, Rows.any-gone (Syntax.tyInt Syntax.w32)) (List._∷_ (
-      14,
-      Rows.sc-here
-          (Row.sInt Syntax.w32),
-    ) (List._∷_ (
-      15,
-      Rows.any-gone (Syntax.tyStruct (List._∷_ 98 (List._∷_ 105 (List._∷_ 116 (List._∷_ 115 (List._∷_ 58 (List._∷_ 58 (List._∷_ 66 (List._∷_ 105 (List._∷_ 116
-          (List._∷_ 80 (List._∷_ 111 (List._∷_ 115 (List._∷_ 105 (List._∷_ 116 (List._∷_ 105 (List._∷_ 111 (List._∷_ 110 List.[]))))))))))))))))) (Syntax.tcons (Syntax.tyInt Syntax.w64) Syntax.tnil)),
-    )
-    List.[])))))))))))))))
+t56 = List._∷_ e1 (List._∷_ e2 (List._∷_ e23 (List._∷_ e41 (List._∷_ e50 (List._∷_ e52 (List._∷_ e54 (List._∷_ e56 (List._∷_ e57 (List._∷_ e59 (List._∷_ e3 (List._∷_ e5 (List._∷_ e7 (List._∷_ e9
+    (List._∷_ e12 (List._∷_ e13 List.[])))))))))))))))
 
 abbrev pub t57 : List.List Row.Entry
-t57 = List._∷_ (16, Rows.any-gone (Syntax.tyInt Syntax.w64)) (List._∷_ (
-  17,
-  Rows.any-gone (Syntax.tyStruct (List._∷_ 112 (List._∷_ 97 (List._∷_ 115 (List._∷_ 115 (List._∷_ 58 (List._∷_ 58 (List._∷_
-      80 (List._∷_ 108 (List._∷_ 97 (List._∷_ 110 List.[])))))))))) (Syntax.tcons (Syntax.tyInt Syntax.w64) (Syntax.tcons (Syntax.tyInt Syntax.w64) (Syntax.tcons (Syntax.tyInt Syntax.w64) (Syntax.tcons
-      (Syntax.tyInt Syntax.w32) (Syntax.tcons (Syntax.tyInt Syntax.w32) Syntax.tnil)))))),
-) (List._∷_ (
-  18,
-  Rows.any-gone (Syntax.tyStruct (List._∷_ 112 (List._∷_ 97 (List._∷_ 115 (List._∷_ 115 (List._∷_
-      58 (List._∷_ 58 (List._∷_ 83 (List._∷_ 101 (List._∷_ 116 List.[]))))))))) (Syntax.tcons (Syntax.tyArray (Syntax.tyInt Syntax.w32) 112) (Syntax.tcons (Syntax.tyArray (Syntax.tyInt Syntax.w32) 112)
-      Syntax.tnil))),
-) (List._∷_ (
-  19,
-  Rows.any-gone (Syntax.tyStruct (List._∷_ 119 (List._∷_ 114 (List._∷_ 105 (List._∷_ 116 (List._∷_ 105 (List._∷_ 110 (List._∷_ 103 (List._∷_ 58 (List._∷_ 58 (List._∷_
-      80 (List._∷_ 97 (List._∷_ 115 (List._∷_ 115 (List._∷_ 80 (List._∷_ 117 (List._∷_ 116 List.[])))))))))))))))) (Syntax.tcons Syntax.tyBool (Syntax.tcons (Syntax.tyInt Syntax.w64) (Syntax.tcons
-      (Syntax.tyStruct (List._∷_ 98 (List._∷_ 105 (List._∷_ 116 (List._∷_ 115 (List._∷_ 58 (List._∷_ 58 (List._∷_ 66 (List._∷_ 105 (List._∷_ 116 (List._∷_ 80 (List._∷_ 111 (List._∷_ 115 (List._∷_ 105
-      (List._∷_ 116 (List._∷_ 105 (List._∷_ 111 (List._∷_ 110 List.[]))))))))))))))))) (Syntax.tcons (Syntax.tyInt Syntax.w64) Syntax.tnil)) (Syntax.tcons (Syntax.tyStruct (List._∷_ 112 (List._∷_ 97
-      (List._∷_ 115 (List._∷_ 115 (List._∷_ 58 (List._∷_ 58 (List._∷_ 83 (List._∷_ 101 (List._∷_ 116 List.[]))))))))) (Syntax.tcons (Syntax.tyArray (Syntax.tyInt Syntax.w32) 112) (Syntax.tcons
-      (Syntax.tyArray (Syntax.tyInt Syntax.w32) 112) Syntax.tnil))) Syntax.tnil))))),
-) (List._∷_ (20, Rows.sc-here Row.sBool) (List._∷_ (
-  21,
-  Rows.any-gone (Syntax.tyStruct (List._∷_ 112 (List._∷_ 97
-      (List._∷_ 115 (List._∷_ 115 (List._∷_ 58 (List._∷_ 58 (List._∷_ 83 (List._∷_ 101 (List._∷_ 116 List.[]))))))))) (Syntax.tcons (Syntax.tyArray (Syntax.tyInt Syntax.w32) 112) (Syntax.tcons
-      (Syntax.tyArray (Syntax.tyInt Syntax.w32) 112) Syntax.tnil))),
-) (List._∷_ (22, Rows.any-gone Syntax.tyBool) (List._∷_ (23, Rows.any-gone Syntax.tyUnit) (List._∷_ (
-  24,
-  Rows.any-gone (Syntax.tyRef
-      Syntax.erased Syntax.mut (Syntax.tyInt Syntax.w16)),
-) (List._∷_ (
-  25,
-  Rows.any-gone (Syntax.tyStruct (List._∷_ 38 (List._∷_ 91 (List._∷_ 93 List.[]))) (Syntax.tcons (Syntax.tyRef Syntax.erased
-      Syntax.mut (Syntax.tyInt Syntax.w16)) (Syntax.tcons (Syntax.tyInt Syntax.w64) Syntax.tnil))),
-) (List._∷_ (26, Rows.any-gone (Syntax.tyRef Syntax.erased Syntax.mut (Syntax.tyInt Syntax.w16)))
-    (List._∷_ (
-      27,
-      Rows.any-gone (Syntax.tyStruct (List._∷_ 38 (List._∷_ 91 (List._∷_ 93 List.[]))) (Syntax.tcons (Syntax.tyRef Syntax.erased Syntax.mut (Syntax.tyInt Syntax.w16)) (Syntax.tcons
-          (Syntax.tyInt Syntax.w64) Syntax.tnil))),
-    ) (List._∷_ (28, Rows.any-gone (Syntax.tyRef Syntax.erased Syntax.mut Element.behind)) (List._∷_ (
-      29,
-      Rows.any-gone (Syntax.tyStruct (List._∷_ 38
-          (List._∷_ 91 (List._∷_ 93 List.[]))) (Syntax.tcons (Syntax.tyRef Syntax.erased Syntax.mut Element.behind) (Syntax.tcons (Syntax.tyInt Syntax.w64) Syntax.tnil))),
-    ) (List._∷_ (
-      30,
-      Rows.any-gone
-          (Syntax.tyRef Syntax.erased Syntax.mut (Syntax.tyInt Syntax.w8)),
-    ) (List._∷_ (
-      31,
-      Rows.any-gone (Syntax.tyStruct (List._∷_ 38 (List._∷_ 91 (List._∷_ 93 List.[]))) (Syntax.tcons (Syntax.tyRef
-          Syntax.erased Syntax.mut (Syntax.tyInt Syntax.w8)) (Syntax.tcons (Syntax.tyInt Syntax.w64) Syntax.tnil))),
-    ) List.[])))))))))))))))
+t57 = List._∷_ e15 (List._∷_ e17 (List._∷_ e19 (List._∷_ e21 (List._∷_ e26 (List._∷_ e27 (List._∷_ e29 (List._∷_ e31 (List._∷_ e33 (List._∷_ e35 (List._∷_ e36 (List._∷_ e38 (List._∷_ e39 (List._∷_ e40
+    (List._∷_ e43 (List._∷_ e45 List.[])))))))))))))))
 
 abbrev pub t58 : List.List Row.Entry
-t58 = List._∷_ (16, Rows.sc-here (Row.sInt Syntax.w64)) (List._∷_ (17, Rows.whole (Declared'.row Plan.the-type)) (List._∷_ (
-  18,
-  Rows.any-gone (Syntax.tyStruct (List._∷_ 112 (List._∷_ 97 (List._∷_
-      115 (List._∷_ 115 (List._∷_ 58 (List._∷_ 58 (List._∷_ 83 (List._∷_ 101 (List._∷_ 116 List.[]))))))))) (Syntax.tcons (Syntax.tyArray (Syntax.tyInt Syntax.w32) 112) (Syntax.tcons (Syntax.tyArray
-      (Syntax.tyInt Syntax.w32) 112) Syntax.tnil))),
-) (List._∷_ (19, Rows.whole (Declared'.row PassPut.the-type)) (List._∷_ (20, Rows.sc-here Row.sBool) (List._∷_ (
-  21,
-  Rows.whole (Declared'.row
-      Set.the-type),
-) (List._∷_ (22, Rows.any-gone Syntax.tyBool) (List._∷_ (23, Rows.any-gone Syntax.tyUnit) (List._∷_ (
-  24,
-  Rows.any-gone (Syntax.tyRef Syntax.erased Syntax.mut (Syntax.tyInt
-      Syntax.w16)),
-) (List._∷_ (
-  25,
-  Rows.any-gone (Syntax.tyStruct (List._∷_ 38 (List._∷_ 91 (List._∷_ 93 List.[]))) (Syntax.tcons (Syntax.tyRef Syntax.erased Syntax.mut (Syntax.tyInt Syntax.w16))
-      (Syntax.tcons (Syntax.tyInt Syntax.w64) Syntax.tnil))),
-) (List._∷_ (26, Rows.any-gone (Syntax.tyRef Syntax.erased Syntax.mut (Syntax.tyInt Syntax.w16))) (List._∷_ (
-  27,
-  Rows.any-gone
-      (Syntax.tyStruct (List._∷_ 38 (List._∷_ 91 (List._∷_ 93 List.[]))) (Syntax.tcons (Syntax.tyRef Syntax.erased Syntax.mut (Syntax.tyInt Syntax.w16)) (Syntax.tcons (Syntax.tyInt Syntax.w64)
-      Syntax.tnil))),
-) (List._∷_ (28, Rows.any-gone (Syntax.tyRef Syntax.erased Syntax.mut Element.behind)) (List._∷_ (
-  29,
-  Rows.any-gone (Syntax.tyStruct (List._∷_ 38 (List._∷_ 91 (List._∷_ 93
-      List.[]))) (Syntax.tcons (Syntax.tyRef Syntax.erased Syntax.mut Element.behind) (Syntax.tcons (Syntax.tyInt Syntax.w64) Syntax.tnil))),
-) (List._∷_ (
-  30,
-  Rows.any-gone (Syntax.tyRef Syntax.erased
-      Syntax.mut (Syntax.tyInt Syntax.w8)),
-) (List._∷_ (
-  31,
-  Rows.any-gone (Syntax.tyStruct (List._∷_ 38 (List._∷_ 91 (List._∷_ 93 List.[]))) (Syntax.tcons (Syntax.tyRef Syntax.erased Syntax.mut
-      (Syntax.tyInt Syntax.w8)) (Syntax.tcons (Syntax.tyInt Syntax.w64) Syntax.tnil))),
-) List.[])))))))))))))))
+t58 = List._∷_ e16 (List._∷_ e18 (List._∷_ e19 (List._∷_ e22 (List._∷_ e26 (List._∷_ e28 (List._∷_ e29 (List._∷_ e31 (List._∷_ e33 (List._∷_ e35 (List._∷_ e36 (List._∷_ e38 (List._∷_ e39 (List._∷_ e40
+    (List._∷_ e43 (List._∷_ e45 List.[])))))))))))))))
 
 abbrev pub t59 : List.List Row.Entry
-t59 = List._∷_ (
-  0,
-  Rows.any-gone (Syntax.tyEnum (List._∷_ 119 (List._∷_ 114 (List._∷_ 105 (List._∷_ 116 (List._∷_ 105 (List._∷_ 110 (List._∷_ 103 (List._∷_ 58 (List._∷_ 58 (List._∷_ 80 (List._∷_ 117
-      (List._∷_ 116 List.[])))))))))))) (Syntax.ttcons (Syntax.tcons (Syntax.tyStruct (List._∷_ 98 (List._∷_ 105 (List._∷_ 116 (List._∷_ 115 (List._∷_ 58 (List._∷_ 58 (List._∷_ 66 (List._∷_ 105 (List._∷_
-      116 (List._∷_ 80 (List._∷_ 111 (List._∷_ 115 (List._∷_ 105 (List._∷_ 116 (List._∷_ 105 (List._∷_ 111 (List._∷_ 110 List.[]))))))))))))))))) (Syntax.tcons (Syntax.tyInt Syntax.w64) Syntax.tnil))
-      Syntax.tnil) (Syntax.ttcons (Syntax.tcons (Syntax.tyInt Syntax.w64) Syntax.tnil) Syntax.ttnil))),
-) (List._∷_ (
-  1,
-  Rows.sslice (Referent.rtF (Referent.fInt Syntax.w16)) (Syntax.tyRef (Syntax.named 0)
-      Syntax.imm (Syntax.tyInt Syntax.w16)) 0,
-) (List._∷_ (2, Rows.sc-here (Row.sInt Syntax.w64)) (List._∷_ (
-  3,
-  Mut.mslice (Referent.rtF (Referent.fInt Syntax.w8)) (Syntax.tyRef (Syntax.named 1)
-      Syntax.mut (Syntax.tyInt Syntax.w8)) 1,
-) (List._∷_ (4, Rows.sc-here Row.sBool) (List._∷_ (
-  5,
-  Rows.any-gone (Syntax.tyStruct (List._∷_ 98 (List._∷_ 105 (List._∷_ 116 (List._∷_ 115 (List._∷_ 58
-      (List._∷_ 58 (List._∷_ 66 (List._∷_ 105 (List._∷_ 116 (List._∷_ 80 (List._∷_ 111 (List._∷_ 115 (List._∷_ 105 (List._∷_ 116 (List._∷_ 105 (List._∷_ 111 (List._∷_ 110 List.[])))))))))))))))))
-      (Syntax.tcons (Syntax.tyInt Syntax.w64) Syntax.tnil)),
-) (List._∷_ (6, Mut.mslice (Referent.rtF (Referent.fInt Syntax.w16)) (Syntax.tyRef (Syntax.named 2) Syntax.mut (Syntax.tyInt Syntax.w16)) 2)
-    (List._∷_ (7, Relend.mslice-owed (Element.type) (Syntax.tyRef (Syntax.named 3) Syntax.mut Element.behind) 3 9 Row.off) (List._∷_ (
-      8,
-      Rows.any-gone (Syntax.tyStruct (List._∷_ 98 (List._∷_ 108
-          (List._∷_ 111 (List._∷_ 99 (List._∷_ 107 (List._∷_ 58 (List._∷_ 58 (List._∷_ 70 (List._∷_ 111 (List._∷_ 114 (List._∷_ 109 List.[]))))))))))) (Syntax.tcons (Syntax.tyInt Syntax.w32) (Syntax.tcons
-          Syntax.tyBool Syntax.tnil))),
-    ) (List._∷_ (9, Rows.sc-here (Row.sInt Syntax.w32)) (List._∷_ (10, Rows.sc-here Row.sBool) (List._∷_ (11, Rows.sc-here (Row.sInt Syntax.w64)) (List._∷_ (
-      12,
-      Rows.any-gone (Syntax.tyStruct (List._∷_ 113 (List._∷_ 117 (List._∷_ 97 (List._∷_ 110 (List._∷_ 116 (List._∷_ 105 (List._∷_ 115 (List._∷_ 101 (List._∷_ 114 (List._∷_ 58 (List._∷_ 58 (List._∷_ 81
-          (List._∷_ 117 (List._∷_ 97 (List._∷_ 110 (List._∷_ 116 (List._∷_ 105 (List._∷_ 115 (List._∷_ 101 (List._∷_ 114 List.[])))))))))))))))))))) (Syntax.tcons (Syntax.tyInt Syntax.w32) (Syntax.tcons
-          (Syntax.tyInt Syntax.w32) (Syntax.tcons (Syntax.tyInt Syntax.w32) (Syntax.tcons (Syntax.tyInt Syntax.w32) (Syntax.tcons (Syntax.tyInt Syntax.w32) Syntax.tnil)))))),
-    ) (List._∷_ (
-      13,
-      Rows.sc-here
-          (Row.sInt Syntax.w32),
-    ) (List._∷_ (14, Rows.sc-here (Row.sInt Syntax.w32)) (List._∷_ (
-      15,
-      Rows.any-gone (Syntax.tyStruct (List._∷_ 98 (List._∷_ 105 (List._∷_ 116 (List._∷_ 115 (List._∷_ 58
-          (List._∷_ 58 (List._∷_ 66 (List._∷_ 105 (List._∷_ 116 (List._∷_ 80 (List._∷_ 111 (List._∷_ 115 (List._∷_ 105 (List._∷_ 116 (List._∷_ 105 (List._∷_ 111 (List._∷_ 110 List.[])))))))))))))))))
-          (Syntax.tcons (Syntax.tyInt Syntax.w64) Syntax.tnil)),
-    ) List.[])))))))))))))))
+t59 = List._∷_ e0 (List._∷_ e2 (List._∷_ e24 (List._∷_ e41 (List._∷_ e51 (List._∷_ e52 (List._∷_ e54 (List._∷_
+    (7, Relend.mslice-owed (Element.type) (Syntax.tyRef (Syntax.named 3) Syntax.mut Element.behind) 3 9 Row.off) (List._∷_ e57 (List._∷_ e60 (List._∷_ e4 (List._∷_ e6 (List._∷_ e7 (List._∷_ e10 (List._∷_
+    e12 (List._∷_ e13 List.[])))))))))))))))
 
 abbrev pub t60 : List.List Row.Entry
-t60 = List._∷_ (32, Rows.any-gone (Syntax.tyRef Syntax.erased Syntax.mut (Syntax.tyInt Syntax.w16))) (List._∷_ (
-  33,
-  Rows.any-gone (Syntax.tyStruct (List._∷_ 38 (List._∷_ 91 (List._∷_ 93 List.[])))
-      (Syntax.tcons (Syntax.tyRef Syntax.erased Syntax.mut (Syntax.tyInt Syntax.w16)) (Syntax.tcons (Syntax.tyInt Syntax.w64) Syntax.tnil))),
-) (List._∷_ (
-  34,
-  Relend.msptr (Element.type) (Syntax.tyRef
-      Syntax.erased Syntax.mut Element.behind) 9,
-) (List._∷_ (
-  35,
-  Rows.any-gone (Syntax.tyStruct (List._∷_ 38 (List._∷_ 91 (List._∷_ 93 List.[]))) (Syntax.tcons (Syntax.tyRef Syntax.erased Syntax.mut
-      Element.behind) (Syntax.tcons (Syntax.tyInt Syntax.w64) Syntax.tnil))),
-) List.[])))
+t60 = List._∷_ e46 (List._∷_ e47 (List._∷_ (34, Relend.msptr (Element.type) (Syntax.tyRef Syntax.erased Syntax.mut Element.behind) 9) (List._∷_ e49 List.[])))
 
 abbrev pub t61 : List.List Row.Entry
-t61 = List._∷_ (32, Rows.any-gone (Syntax.tyRef Syntax.erased Syntax.mut (Syntax.tyInt Syntax.w16))) (List._∷_ (
-  33,
-  Rows.any-gone (Syntax.tyStruct (List._∷_ 38 (List._∷_ 91 (List._∷_ 93 List.[])))
-      (Syntax.tcons (Syntax.tyRef Syntax.erased Syntax.mut (Syntax.tyInt Syntax.w16)) (Syntax.tcons (Syntax.tyInt Syntax.w64) Syntax.tnil))),
-) (List._∷_ (
-  34,
-  Rows.any-gone (Syntax.tyRef Syntax.erased
-      Syntax.mut Element.behind),
-) (List._∷_ (35, Mut.mslice (Element.type) (Syntax.tyRef Syntax.erased Syntax.mut Element.behind) 9) List.[])))
+t61 = List._∷_ e46 (List._∷_ e47 (List._∷_ e48 (List._∷_ (35, Mut.mslice (Element.type) (Syntax.tyRef Syntax.erased Syntax.mut Element.behind) 9) List.[])))
 
 abbrev pub t62 : List.List Row.Entry
-t62 = List._∷_ (16, Rows.sc-here (Row.sInt Syntax.w64)) (List._∷_ (17, Rows.whole (Declared'.row Plan.the-type)) (List._∷_ (
-  18,
-  Rows.any-gone (Syntax.tyStruct (List._∷_ 112 (List._∷_ 97 (List._∷_
-      115 (List._∷_ 115 (List._∷_ 58 (List._∷_ 58 (List._∷_ 83 (List._∷_ 101 (List._∷_ 116 List.[]))))))))) (Syntax.tcons (Syntax.tyArray (Syntax.tyInt Syntax.w32) 112) (Syntax.tcons (Syntax.tyArray
-      (Syntax.tyInt Syntax.w32) 112) Syntax.tnil))),
-) (List._∷_ (19, Rows.whole (Declared'.row PassPut.the-type)) (List._∷_ (20, Rows.sc-here Row.sBool) (List._∷_ (
-  21,
-  Rows.whole (Declared'.row
-      Set.the-type),
-) (List._∷_ (22, Rows.any-gone Syntax.tyBool) (List._∷_ (23, Rows.sc-here Row.sUnit) (List._∷_ (24, Rows.any-gone (Syntax.tyRef Syntax.erased Syntax.mut (Syntax.tyInt Syntax.w16)))
-    (List._∷_ (
-      25,
-      Rows.any-gone (Syntax.tyStruct (List._∷_ 38 (List._∷_ 91 (List._∷_ 93 List.[]))) (Syntax.tcons (Syntax.tyRef Syntax.erased Syntax.mut (Syntax.tyInt Syntax.w16)) (Syntax.tcons
-          (Syntax.tyInt Syntax.w64) Syntax.tnil))),
-    ) (List._∷_ (26, Rows.any-gone (Syntax.tyRef Syntax.erased Syntax.mut (Syntax.tyInt Syntax.w16))) (List._∷_ (
-      27,
-      Rows.any-gone (Syntax.tyStruct (List._∷_
-          38 (List._∷_ 91 (List._∷_ 93 List.[]))) (Syntax.tcons (Syntax.tyRef Syntax.erased Syntax.mut (Syntax.tyInt Syntax.w16)) (Syntax.tcons (Syntax.tyInt Syntax.w64) Syntax.tnil))),
-    ) (List._∷_ (
-      28,
-      Rows.any-gone (Syntax.tyRef Syntax.erased Syntax.mut Element.behind),
-    ) (List._∷_ (
-      29,
-      Rows.any-gone (Syntax.tyStruct (List._∷_ 38 (List._∷_ 91 (List._∷_ 93 List.[]))) (Syntax.tcons (Syntax.tyRef
-          Syntax.erased Syntax.mut Element.behind) (Syntax.tcons (Syntax.tyInt Syntax.w64) Syntax.tnil))),
-    ) (List._∷_ (30, Rows.any-gone (Syntax.tyRef Syntax.erased Syntax.mut (Syntax.tyInt Syntax.w8)))
-    (List._∷_ (
-      31,
-      Rows.any-gone (Syntax.tyStruct (List._∷_ 38 (List._∷_ 91 (List._∷_ 93 List.[]))) (Syntax.tcons (Syntax.tyRef Syntax.erased Syntax.mut (Syntax.tyInt Syntax.w8)) (Syntax.tcons
-          (Syntax.tyInt Syntax.w64) Syntax.tnil))),
-    ) List.[])))))))))))))))
+t62 = List._∷_ e16 (List._∷_ e18 (List._∷_ e19 (List._∷_ e22 (List._∷_ e26 (List._∷_ e28 (List._∷_ e29 (List._∷_ e32 (List._∷_ e33 (List._∷_ e35 (List._∷_ e36 (List._∷_ e38 (List._∷_ e39 (List._∷_ e40
+    (List._∷_ e43 (List._∷_ e45 List.[])))))))))))))))
 
 abbrev pub t63 : List.List Row.Entry
-t63 = List._∷_ (32, Rows.any-gone (Syntax.tyRef Syntax.erased Syntax.mut (Syntax.tyInt Syntax.w16))) (List._∷_ (
-  33,
-  Rows.any-gone (Syntax.tyStruct (List._∷_ 38 (List._∷_ 91 (List._∷_ 93 List.[])))
-      (Syntax.tcons (Syntax.tyRef Syntax.erased Syntax.mut (Syntax.tyInt Syntax.w16)) (Syntax.tcons (Syntax.tyInt Syntax.w64) Syntax.tnil))),
-) (List._∷_ (
-  34,
-  Rows.any-gone (Syntax.tyRef Syntax.erased
-      Syntax.mut Element.behind),
-) (List._∷_ (35, Mut.msleft (Element.type) (Syntax.tyRef Syntax.erased Syntax.mut Element.behind)) List.[])))
+t63 = List._∷_ e46 (List._∷_ e47 (List._∷_ e48 (List._∷_ (35, Mut.msleft (Element.type) (Syntax.tyRef Syntax.erased Syntax.mut Element.behind)) List.[])))
 
 abbrev pub t64 : List.List Row.Entry
-t64 = List._∷_ (16, Rows.sc-here (Row.sInt Syntax.w64)) (List._∷_ (
-  17,
-  Rows.any-gone (Syntax.tyStruct (List._∷_ 112 (List._∷_ 97 (List._∷_ 115 (List._∷_ 115 (List._∷_ 58 (List._∷_ 58 (List._∷_ 80
-      (List._∷_ 108 (List._∷_ 97 (List._∷_ 110 List.[])))))))))) (Syntax.tcons (Syntax.tyInt Syntax.w64) (Syntax.tcons (Syntax.tyInt Syntax.w64) (Syntax.tcons (Syntax.tyInt Syntax.w64) (Syntax.tcons
-      (Syntax.tyInt Syntax.w32) (Syntax.tcons (Syntax.tyInt Syntax.w32) Syntax.tnil)))))),
-) (List._∷_ (
-  18,
-  Rows.any-gone (Syntax.tyStruct (List._∷_ 112 (List._∷_ 97 (List._∷_ 115 (List._∷_ 115 (List._∷_
-      58 (List._∷_ 58 (List._∷_ 83 (List._∷_ 101 (List._∷_ 116 List.[]))))))))) (Syntax.tcons (Syntax.tyArray (Syntax.tyInt Syntax.w32) 112) (Syntax.tcons (Syntax.tyArray (Syntax.tyInt Syntax.w32) 112)
-      Syntax.tnil))),
-) (List._∷_ (19, Rows.whole (Declared'.row PassPut.the-type)) (List._∷_ (20, Rows.sc-here Row.sBool) (List._∷_ (21, Rows.whole (Declared'.row Set.the-type)) (List._∷_ (
-  22,
-  Rows.any-gone Syntax.tyBool,
-) (List._∷_ (23, Rows.sc-here Row.sUnit) (List._∷_ (24, Rows.any-gone (Syntax.tyRef Syntax.erased Syntax.mut (Syntax.tyInt Syntax.w16))) (List._∷_ (
-  25,
-  Rows.any-gone
-      (Syntax.tyStruct (List._∷_ 38 (List._∷_ 91 (List._∷_ 93 List.[]))) (Syntax.tcons (Syntax.tyRef Syntax.erased Syntax.mut (Syntax.tyInt Syntax.w16)) (Syntax.tcons (Syntax.tyInt Syntax.w64)
-      Syntax.tnil))),
-) (List._∷_ (26, Rows.any-gone (Syntax.tyRef Syntax.erased Syntax.mut (Syntax.tyInt Syntax.w16))) (List._∷_ (
-  27,
-  Rows.any-gone (Syntax.tyStruct (List._∷_ 38 (List._∷_ 91 (List._∷_
-      93 List.[]))) (Syntax.tcons (Syntax.tyRef Syntax.erased Syntax.mut (Syntax.tyInt Syntax.w16)) (Syntax.tcons (Syntax.tyInt Syntax.w64) Syntax.tnil))),
-) (List._∷_ (
-  28,
-  Rows.any-gone (Syntax.tyRef
-      Syntax.erased Syntax.mut Element.behind),
-) (List._∷_ (
-  29,
-  Rows.any-gone (Syntax.tyStruct (List._∷_ 38 (List._∷_ 91 (List._∷_ 93 List.[]))) (Syntax.tcons (Syntax.tyRef Syntax.erased Syntax.mut
-      Element.behind) (Syntax.tcons (Syntax.tyInt Syntax.w64) Syntax.tnil))),
-) (List._∷_ (30, Rows.any-gone (Syntax.tyRef Syntax.erased Syntax.mut (Syntax.tyInt Syntax.w8))) (List._∷_ (
-  31,
-  Rows.any-gone (Syntax.tyStruct (List._∷_ 38 (List._∷_ 91 (List._∷_ 93 List.[]))) (Syntax.tcons (Syntax.tyRef Syntax.erased Syntax.mut (Syntax.tyInt Syntax.w8)) (Syntax.tcons (Syntax.tyInt Syntax.w64)
-      Syntax.tnil))),
-) List.[])))))))))))))))
+t64 = List._∷_ e16 (List._∷_ e17 (List._∷_ e19 (List._∷_ e22 (List._∷_ e26 (List._∷_ e28 (List._∷_ e29 (List._∷_ e32 (List._∷_ e33 (List._∷_ e35 (List._∷_ e36 (List._∷_ e38 (List._∷_ e39 (List._∷_ e40
+    (List._∷_ e43 (List._∷_ e45 List.[])))))))))))))))
 
 abbrev pub t65 : List.List Row.Entry
-t65 = List._∷_ (16, Rows.sc-here (Row.sInt Syntax.w64)) (List._∷_ (
-  17,
-  Rows.any-gone (Syntax.tyStruct (List._∷_ 112 (List._∷_ 97 (List._∷_ 115 (List._∷_ 115 (List._∷_ 58 (List._∷_ 58 (List._∷_ 80
-      (List._∷_ 108 (List._∷_ 97 (List._∷_ 110 List.[])))))))))) (Syntax.tcons (Syntax.tyInt Syntax.w64) (Syntax.tcons (Syntax.tyInt Syntax.w64) (Syntax.tcons (Syntax.tyInt Syntax.w64) (Syntax.tcons
-      (Syntax.tyInt Syntax.w32) (Syntax.tcons (Syntax.tyInt Syntax.w32) Syntax.tnil)))))),
-) (List._∷_ (
-  18,
-  Rows.any-gone (Syntax.tyStruct (List._∷_ 112 (List._∷_ 97 (List._∷_ 115 (List._∷_ 115 (List._∷_
-      58 (List._∷_ 58 (List._∷_ 83 (List._∷_ 101 (List._∷_ 116 List.[]))))))))) (Syntax.tcons (Syntax.tyArray (Syntax.tyInt Syntax.w32) 112) (Syntax.tcons (Syntax.tyArray (Syntax.tyInt Syntax.w32) 112)
-      Syntax.tnil))),
-) (List._∷_ (19, Rows.whole (Declared'.row PassPut.the-type)) (List._∷_ (20, Rows.sc-here Row.sBool) (List._∷_ (
-  21,
-  Rows.any-gone (Syntax.tyStruct (List._∷_ 112 (List._∷_ 97
-      (List._∷_ 115 (List._∷_ 115 (List._∷_ 58 (List._∷_ 58 (List._∷_ 83 (List._∷_ 101 (List._∷_ 116 List.[]))))))))) (Syntax.tcons (Syntax.tyArray (Syntax.tyInt Syntax.w32) 112) (Syntax.tcons
-      (Syntax.tyArray (Syntax.tyInt Syntax.w32) 112) Syntax.tnil))),
-) (List._∷_ (22, Rows.any-gone Syntax.tyBool) (List._∷_ (23, Rows.sc-here Row.sUnit) (List._∷_ (
-  24,
-  Rows.any-gone (Syntax.tyRef
-      Syntax.erased Syntax.mut (Syntax.tyInt Syntax.w16)),
-) (List._∷_ (
-  25,
-  Rows.any-gone (Syntax.tyStruct (List._∷_ 38 (List._∷_ 91 (List._∷_ 93 List.[]))) (Syntax.tcons (Syntax.tyRef Syntax.erased
-      Syntax.mut (Syntax.tyInt Syntax.w16)) (Syntax.tcons (Syntax.tyInt Syntax.w64) Syntax.tnil))),
-) (List._∷_ (26, Rows.any-gone (Syntax.tyRef Syntax.erased Syntax.mut (Syntax.tyInt Syntax.w16)))
-    (List._∷_ (
-      27,
-      Rows.any-gone (Syntax.tyStruct (List._∷_ 38 (List._∷_ 91 (List._∷_ 93 List.[]))) (Syntax.tcons (Syntax.tyRef Syntax.erased Syntax.mut (Syntax.tyInt Syntax.w16)) (Syntax.tcons
-          (Syntax.tyInt Syntax.w64) Syntax.tnil))),
-    ) (List._∷_ (28, Rows.any-gone (Syntax.tyRef Syntax.erased Syntax.mut Element.behind)) (List._∷_ (
-      29,
-      Rows.any-gone (Syntax.tyStruct (List._∷_ 38
-          (List._∷_ 91 (List._∷_ 93 List.[]))) (Syntax.tcons (Syntax.tyRef Syntax.erased Syntax.mut Element.behind) (Syntax.tcons (Syntax.tyInt Syntax.w64) Syntax.tnil))),
-    ) (List._∷_ (
-      30,
-      Rows.any-gone
-          (Syntax.tyRef Syntax.erased Syntax.mut (Syntax.tyInt Syntax.w8)),
-    ) (List._∷_ (
-      31,
-      Rows.any-gone (Syntax.tyStruct (List._∷_ 38 (List._∷_ 91 (List._∷_ 93 List.[]))) (Syntax.tcons (Syntax.tyRef
-          Syntax.erased Syntax.mut (Syntax.tyInt Syntax.w8)) (Syntax.tcons (Syntax.tyInt Syntax.w64) Syntax.tnil))),
-    ) List.[])))))))))))))))
+t65 = List._∷_ e16 (List._∷_ e17 (List._∷_ e19 (List._∷_ e22 (List._∷_ e26 (List._∷_ e27 (List._∷_ e29 (List._∷_ e32 (List._∷_ e33 (List._∷_ e35 (List._∷_ e36 (List._∷_ e38 (List._∷_ e39 (List._∷_ e40
+    (List._∷_ e43 (List._∷_ e45 List.[])))))))))))))))
 
 abbrev pub t66 : List.List Row.Entry
-t66 = List._∷_ (0, Rows.whole (Declared.row Put.the-type)) (List._∷_ (
-  1,
-  Rows.sslice (Referent.rtF (Referent.fInt Syntax.w16)) (Syntax.tyRef (Syntax.named 0) Syntax.imm (Syntax.tyInt Syntax.w16)) 0,
-) (List._∷_ (2, Rows.sc-here (Row.sInt Syntax.w64)) (List._∷_ (3, Mut.mslice (Referent.rtF (Referent.fInt Syntax.w8)) (Syntax.tyRef (Syntax.named 1) Syntax.mut (Syntax.tyInt Syntax.w8)) 1)
-    (List._∷_ (4, Rows.sc-here Row.sBool) (List._∷_ (
-      5,
-      Rows.any-gone (Syntax.tyStruct (List._∷_ 98 (List._∷_ 105 (List._∷_ 116 (List._∷_ 115 (List._∷_ 58 (List._∷_ 58 (List._∷_ 66 (List._∷_ 105
-          (List._∷_ 116 (List._∷_ 80 (List._∷_ 111 (List._∷_ 115 (List._∷_ 105 (List._∷_ 116 (List._∷_ 105 (List._∷_ 111 (List._∷_ 110 List.[]))))))))))))))))) (Syntax.tcons (Syntax.tyInt Syntax.w64)
-          Syntax.tnil)),
-    ) (List._∷_ (6, Mut.mslice (Referent.rtF (Referent.fInt Syntax.w16)) (Syntax.tyRef (Syntax.named 2) Syntax.mut (Syntax.tyInt Syntax.w16)) 2) (List._∷_ (
-      7,
-      Mut.mslice (Element.type)
-          (Syntax.tyRef (Syntax.named 3) Syntax.mut Element.behind) 3,
-    ) (List._∷_ (
-      8,
-      Rows.any-gone (Syntax.tyStruct (List._∷_ 98 (List._∷_ 108 (List._∷_ 111 (List._∷_ 99 (List._∷_ 107 (List._∷_ 58 (List._∷_
-          58 (List._∷_ 70 (List._∷_ 111 (List._∷_ 114 (List._∷_ 109 List.[]))))))))))) (Syntax.tcons (Syntax.tyInt Syntax.w32) (Syntax.tcons Syntax.tyBool Syntax.tnil))),
-    ) (List._∷_ (
-      9,
-      Rows.sc-here (Row.sInt
-          Syntax.w32),
-    ) (List._∷_ (10, Rows.sc-here Row.sBool) (List._∷_ (11, Rows.sc-here (Row.sInt Syntax.w64)) (List._∷_ (
-      12,
-      Rows.any-gone (Syntax.tyStruct (List._∷_ 113 (List._∷_ 117 (List._∷_ 97 (List._∷_
-          110 (List._∷_ 116 (List._∷_ 105 (List._∷_ 115 (List._∷_ 101 (List._∷_ 114 (List._∷_ 58 (List._∷_ 58 (List._∷_ 81 (List._∷_ 117 (List._∷_ 97 (List._∷_ 110 (List._∷_ 116 (List._∷_ 105 (List._∷_ 115
-          (List._∷_ 101 (List._∷_ 114 List.[])))))))))))))))))))) (Syntax.tcons (Syntax.tyInt Syntax.w32) (Syntax.tcons (Syntax.tyInt Syntax.w32) (Syntax.tcons (Syntax.tyInt Syntax.w32) (Syntax.tcons
-          (Syntax.tyInt Syntax.w32) (Syntax.tcons (Syntax.tyInt Syntax.w32) Syntax.tnil)))))),
-    ) (List._∷_ (13, Rows.sc-here (Row.sInt Syntax.w32)) (List._∷_ (14, Rows.sc-here (Row.sInt Syntax.w32))
-    (List._∷_ (15, Rows.whole (Declared'.row BitPosition.the-type)) List.[])))))))))))))))
+t66 = List._∷_ e1 (List._∷_ e2 (List._∷_ e24 (List._∷_ e41 (List._∷_ e51 (List._∷_ e52 (List._∷_ e54 (List._∷_ e56 (List._∷_ e57 (List._∷_ e60 (List._∷_ e4 (List._∷_ e6 (List._∷_ e7 (List._∷_ e10
+    (List._∷_ e12 (List._∷_ e14 List.[])))))))))))))))
 
 abbrev pub t67 : List.List Row.Entry
-t67 = List._∷_ (0, Rows.whole (Declared.row Put.the-type)) (List._∷_ (
-  1,
-  Rows.sslice (Referent.rtF (Referent.fInt Syntax.w16)) (Syntax.tyRef (Syntax.named 0) Syntax.imm (Syntax.tyInt Syntax.w16)) 0,
-) (List._∷_ (2, Rows.sc-here (Row.sInt Syntax.w64)) (List._∷_ (3, Mut.mslice (Referent.rtF (Referent.fInt Syntax.w8)) (Syntax.tyRef (Syntax.named 1) Syntax.mut (Syntax.tyInt Syntax.w8)) 1)
-    (List._∷_ (4, Rows.sc-here Row.sBool) (List._∷_ (
-      5,
-      Rows.any-gone (Syntax.tyStruct (List._∷_ 98 (List._∷_ 105 (List._∷_ 116 (List._∷_ 115 (List._∷_ 58 (List._∷_ 58 (List._∷_ 66 (List._∷_ 105
-          (List._∷_ 116 (List._∷_ 80 (List._∷_ 111 (List._∷_ 115 (List._∷_ 105 (List._∷_ 116 (List._∷_ 105 (List._∷_ 111 (List._∷_ 110 List.[]))))))))))))))))) (Syntax.tcons (Syntax.tyInt Syntax.w64)
-          Syntax.tnil)),
-    ) (List._∷_ (6, Mut.mslice (Referent.rtF (Referent.fInt Syntax.w16)) (Syntax.tyRef (Syntax.named 2) Syntax.mut (Syntax.tyInt Syntax.w16)) 2) (List._∷_ (
-      7,
-      Mut.mslice (Element.type)
-          (Syntax.tyRef (Syntax.named 3) Syntax.mut Element.behind) 3,
-    ) (List._∷_ (
-      8,
-      Rows.any-gone (Syntax.tyStruct (List._∷_ 98 (List._∷_ 108 (List._∷_ 111 (List._∷_ 99 (List._∷_ 107 (List._∷_ 58 (List._∷_
-          58 (List._∷_ 70 (List._∷_ 111 (List._∷_ 114 (List._∷_ 109 List.[]))))))))))) (Syntax.tcons (Syntax.tyInt Syntax.w32) (Syntax.tcons Syntax.tyBool Syntax.tnil))),
-    ) (List._∷_ (
-      9,
-      Rows.any-gone
-          (Syntax.tyInt Syntax.w32),
-    ) (List._∷_ (10, Rows.sc-here Row.sBool) (List._∷_ (11, Rows.sc-here (Row.sInt Syntax.w64)) (List._∷_ (
-      12,
-      Rows.any-gone (Syntax.tyStruct (List._∷_ 113 (List._∷_ 117
-          (List._∷_ 97 (List._∷_ 110 (List._∷_ 116 (List._∷_ 105 (List._∷_ 115 (List._∷_ 101 (List._∷_ 114 (List._∷_ 58 (List._∷_ 58 (List._∷_ 81 (List._∷_ 117 (List._∷_ 97 (List._∷_ 110 (List._∷_ 116 (List._∷_
-          105 (List._∷_ 115 (List._∷_ 101 (List._∷_ 114 List.[])))))))))))))))))))) (Syntax.tcons (Syntax.tyInt Syntax.w32) (Syntax.tcons (Syntax.tyInt Syntax.w32) (Syntax.tcons (Syntax.tyInt Syntax.w32)
-          (Syntax.tcons (Syntax.tyInt Syntax.w32) (Syntax.tcons (Syntax.tyInt Syntax.w32) Syntax.tnil)))))),
-    ) (List._∷_ (13, Rows.sc-here (Row.sInt Syntax.w32)) (List._∷_ (
-      14,
-      Rows.sc-here (Row.sInt
-          Syntax.w32),
-    ) (List._∷_ (15, Rows.whole (Declared'.row BitPosition.the-type)) List.[])))))))))))))))
+t67 = List._∷_ e1 (List._∷_ e2 (List._∷_ e24 (List._∷_ e41 (List._∷_ e51 (List._∷_ e52 (List._∷_ e54 (List._∷_ e56 (List._∷_ e57 (List._∷_ e59 (List._∷_ e4 (List._∷_ e6 (List._∷_ e7 (List._∷_ e10
+    (List._∷_ e12 (List._∷_ e14 List.[])))))))))))))))
 
 abbrev pub t68 : List.List Row.Entry
-t68 = List._∷_ (0, Rows.whole (Declared.row Put.the-type)) (List._∷_ (
-  1,
-  Rows.sslice (Referent.rtF (Referent.fInt Syntax.w16)) (Syntax.tyRef (Syntax.named 0) Syntax.imm (Syntax.tyInt Syntax.w16)) 0,
-) (List._∷_ (2, Rows.sc-here (Row.sInt Syntax.w64)) (List._∷_ (3, Mut.mslice (Referent.rtF (Referent.fInt Syntax.w8)) (Syntax.tyRef (Syntax.named 1) Syntax.mut (Syntax.tyInt Syntax.w8)) 1)
-    (List._∷_ (4, Rows.sc-here Row.sBool) (List._∷_ (
-      5,
-      Rows.any-gone (Syntax.tyStruct (List._∷_ 98 (List._∷_ 105 (List._∷_ 116 (List._∷_ 115 (List._∷_ 58 (List._∷_ 58 (List._∷_ 66 (List._∷_ 105
-          (List._∷_ 116 (List._∷_ 80 (List._∷_ 111 (List._∷_ 115 (List._∷_ 105 (List._∷_ 116 (List._∷_ 105 (List._∷_ 111 (List._∷_ 110 List.[]))))))))))))))))) (Syntax.tcons (Syntax.tyInt Syntax.w64)
-          Syntax.tnil)),
-    ) (List._∷_ (6, Mut.mslice (Referent.rtF (Referent.fInt Syntax.w16)) (Syntax.tyRef (Syntax.named 2) Syntax.mut (Syntax.tyInt Syntax.w16)) 2) (List._∷_ (
-      7,
-      Mut.mslice (Element.type)
-          (Syntax.tyRef (Syntax.named 3) Syntax.mut Element.behind) 3,
-    ) (List._∷_ (
-      8,
-      Rows.any-gone (Syntax.tyStruct (List._∷_ 98 (List._∷_ 108 (List._∷_ 111 (List._∷_ 99 (List._∷_ 107 (List._∷_ 58 (List._∷_
-          58 (List._∷_ 70 (List._∷_ 111 (List._∷_ 114 (List._∷_ 109 List.[]))))))))))) (Syntax.tcons (Syntax.tyInt Syntax.w32) (Syntax.tcons Syntax.tyBool Syntax.tnil))),
-    ) (List._∷_ (
-      9,
-      Rows.any-gone
-          (Syntax.tyInt Syntax.w32),
-    ) (List._∷_ (10, Rows.any-gone Syntax.tyBool) (List._∷_ (11, Rows.sc-here (Row.sInt Syntax.w64)) (List._∷_ (
-      12,
-      Rows.any-gone (Syntax.tyStruct (List._∷_ 113 (List._∷_ 117
-          (List._∷_ 97 (List._∷_ 110 (List._∷_ 116 (List._∷_ 105 (List._∷_ 115 (List._∷_ 101 (List._∷_ 114 (List._∷_ 58 (List._∷_ 58 (List._∷_ 81 (List._∷_ 117 (List._∷_ 97 (List._∷_ 110 (List._∷_ 116 (List._∷_
-          105 (List._∷_ 115 (List._∷_ 101 (List._∷_ 114 List.[])))))))))))))))))))) (Syntax.tcons (Syntax.tyInt Syntax.w32) (Syntax.tcons (Syntax.tyInt Syntax.w32) (Syntax.tcons (Syntax.tyInt Syntax.w32)
-          (Syntax.tcons (Syntax.tyInt Syntax.w32) (Syntax.tcons (Syntax.tyInt Syntax.w32) Syntax.tnil)))))),
-    ) (List._∷_ (13, Rows.sc-here (Row.sInt Syntax.w32)) (List._∷_ (
-      14,
-      Rows.sc-here (Row.sInt
-          Syntax.w32),
-    ) (List._∷_ (15, Rows.whole (Declared'.row BitPosition.the-type)) List.[])))))))))))))))
+t68 = List._∷_ e1 (List._∷_ e2 (List._∷_ e24 (List._∷_ e41 (List._∷_ e51 (List._∷_ e52 (List._∷_ e54 (List._∷_ e56 (List._∷_ e57 (List._∷_ e59 (List._∷_ e3 (List._∷_ e6 (List._∷_ e7 (List._∷_ e10
+    (List._∷_ e12 (List._∷_ e14 List.[])))))))))))))))
 
 abbrev pub t69 : List.List Row.Entry
-t69 = List._∷_ (0, Rows.whole (Declared.row Put.the-type)) (List._∷_ (
-  1,
-  Rows.sslice (Referent.rtF (Referent.fInt Syntax.w16)) (Syntax.tyRef (Syntax.named 0) Syntax.imm (Syntax.tyInt Syntax.w16)) 0,
-) (List._∷_ (2, Rows.sc-here (Row.sInt Syntax.w64)) (List._∷_ (3, Mut.mslice (Referent.rtF (Referent.fInt Syntax.w8)) (Syntax.tyRef (Syntax.named 1) Syntax.mut (Syntax.tyInt Syntax.w8)) 1)
-    (List._∷_ (4, Rows.sc-here Row.sBool) (List._∷_ (
-      5,
-      Rows.any-gone (Syntax.tyStruct (List._∷_ 98 (List._∷_ 105 (List._∷_ 116 (List._∷_ 115 (List._∷_ 58 (List._∷_ 58 (List._∷_ 66 (List._∷_ 105
-          (List._∷_ 116 (List._∷_ 80 (List._∷_ 111 (List._∷_ 115 (List._∷_ 105 (List._∷_ 116 (List._∷_ 105 (List._∷_ 111 (List._∷_ 110 List.[]))))))))))))))))) (Syntax.tcons (Syntax.tyInt Syntax.w64)
-          Syntax.tnil)),
-    ) (List._∷_ (6, Mut.mslice (Referent.rtF (Referent.fInt Syntax.w16)) (Syntax.tyRef (Syntax.named 2) Syntax.mut (Syntax.tyInt Syntax.w16)) 2) (List._∷_ (
-      7,
-      Mut.mslice (Element.type)
-          (Syntax.tyRef (Syntax.named 3) Syntax.mut Element.behind) 3,
-    ) (List._∷_ (
-      8,
-      Rows.any-gone (Syntax.tyStruct (List._∷_ 98 (List._∷_ 108 (List._∷_ 111 (List._∷_ 99 (List._∷_ 107 (List._∷_ 58 (List._∷_
-          58 (List._∷_ 70 (List._∷_ 111 (List._∷_ 114 (List._∷_ 109 List.[]))))))))))) (Syntax.tcons (Syntax.tyInt Syntax.w32) (Syntax.tcons Syntax.tyBool Syntax.tnil))),
-    ) (List._∷_ (
-      9,
-      Rows.any-gone
-          (Syntax.tyInt Syntax.w32),
-    ) (List._∷_ (10, Rows.any-gone Syntax.tyBool) (List._∷_ (11, Rows.any-gone (Syntax.tyInt Syntax.w64)) (List._∷_ (
-      12,
-      Rows.any-gone (Syntax.tyStruct (List._∷_ 113 (List._∷_
-          117 (List._∷_ 97 (List._∷_ 110 (List._∷_ 116 (List._∷_ 105 (List._∷_ 115 (List._∷_ 101 (List._∷_ 114 (List._∷_ 58 (List._∷_ 58 (List._∷_ 81 (List._∷_ 117 (List._∷_ 97 (List._∷_ 110 (List._∷_ 116
-          (List._∷_ 105 (List._∷_ 115 (List._∷_ 101 (List._∷_ 114 List.[])))))))))))))))))))) (Syntax.tcons (Syntax.tyInt Syntax.w32) (Syntax.tcons (Syntax.tyInt Syntax.w32) (Syntax.tcons (Syntax.tyInt
-          Syntax.w32) (Syntax.tcons (Syntax.tyInt Syntax.w32) (Syntax.tcons (Syntax.tyInt Syntax.w32) Syntax.tnil)))))),
-    ) (List._∷_ (13, Rows.sc-here (Row.sInt Syntax.w32)) (List._∷_ (
-      14,
-      Rows.sc-here
-          (Row.sInt Syntax.w32),
-    ) (List._∷_ (15, Rows.whole (Declared'.row BitPosition.the-type)) List.[])))))))))))))))
+t69 = List._∷_ e1 (List._∷_ e2 (List._∷_ e24 (List._∷_ e41 (List._∷_ e51 (List._∷_ e52 (List._∷_ e54 (List._∷_ e56 (List._∷_ e57 (List._∷_ e59 (List._∷_ e3 (List._∷_ e5 (List._∷_ e7 (List._∷_ e10
+    (List._∷_ e12 (List._∷_ e14 List.[])))))))))))))))
 
 abbrev pub t70 : List.List Row.Entry
-t70 = List._∷_ (0, Rows.whole (Declared.row Put.the-type)) (List._∷_ (
-  1,
-  Rows.sslice (Referent.rtF (Referent.fInt Syntax.w16)) (Syntax.tyRef (Syntax.named 0) Syntax.imm (Syntax.tyInt Syntax.w16)) 0,
-) (List._∷_ (2, Rows.sc-here (Row.sInt Syntax.w64)) (List._∷_ (3, Mut.mslice (Referent.rtF (Referent.fInt Syntax.w8)) (Syntax.tyRef (Syntax.named 1) Syntax.mut (Syntax.tyInt Syntax.w8)) 1)
-    (List._∷_ (4, Rows.sc-here Row.sBool) (List._∷_ (
-      5,
-      Rows.any-gone (Syntax.tyStruct (List._∷_ 98 (List._∷_ 105 (List._∷_ 116 (List._∷_ 115 (List._∷_ 58 (List._∷_ 58 (List._∷_ 66 (List._∷_ 105
-          (List._∷_ 116 (List._∷_ 80 (List._∷_ 111 (List._∷_ 115 (List._∷_ 105 (List._∷_ 116 (List._∷_ 105 (List._∷_ 111 (List._∷_ 110 List.[]))))))))))))))))) (Syntax.tcons (Syntax.tyInt Syntax.w64)
-          Syntax.tnil)),
-    ) (List._∷_ (6, Mut.mslice (Referent.rtF (Referent.fInt Syntax.w16)) (Syntax.tyRef (Syntax.named 2) Syntax.mut (Syntax.tyInt Syntax.w16)) 2) (List._∷_ (
-      7,
-      Mut.mslice (Element.type)
-          (Syntax.tyRef (Syntax.named 3) Syntax.mut Element.behind) 3,
-    ) (List._∷_ (
-      8,
-      Rows.any-gone (Syntax.tyStruct (List._∷_ 98 (List._∷_ 108 (List._∷_ 111 (List._∷_ 99 (List._∷_ 107 (List._∷_ 58 (List._∷_
-          58 (List._∷_ 70 (List._∷_ 111 (List._∷_ 114 (List._∷_ 109 List.[]))))))))))) (Syntax.tcons (Syntax.tyInt Syntax.w32) (Syntax.tcons Syntax.tyBool Syntax.tnil))),
-    ) (List._∷_ (
-      9,
-      Rows.any-gone
-          (Syntax.tyInt Syntax.w32),
-    ) (List._∷_ (10, Rows.any-gone Syntax.tyBool) (List._∷_ (11, Rows.any-gone (Syntax.tyInt Syntax.w64)) (List._∷_ (
-      12,
-      Rows.any-gone (Syntax.tyStruct (List._∷_ 113 (List._∷_
-          117 (List._∷_ 97 (List._∷_ 110 (List._∷_ 116 (List._∷_ 105 (List._∷_ 115 (List._∷_ 101 (List._∷_ 114 (List._∷_ 58 (List._∷_ 58 (List._∷_ 81 (List._∷_ 117 (List._∷_ 97 (List._∷_ 110 (List._∷_ 116
-          (List._∷_ 105 (List._∷_ 115 (List._∷_ 101 (List._∷_ 114 List.[])))))))))))))))))))) (Syntax.tcons (Syntax.tyInt Syntax.w32) (Syntax.tcons (Syntax.tyInt Syntax.w32) (Syntax.tcons (Syntax.tyInt
-          Syntax.w32) (Syntax.tcons (Syntax.tyInt Syntax.w32) (Syntax.tcons (Syntax.tyInt Syntax.w32) Syntax.tnil)))))),
-    ) (List._∷_ (13, Rows.any-gone (Syntax.tyInt Syntax.w32)) (List._∷_ (
-      14,
-      Rows.sc-here
-          (Row.sInt Syntax.w32),
-    ) (List._∷_ (15, Rows.whole (Declared'.row BitPosition.the-type)) List.[])))))))))))))))
+t70 = List._∷_ e1 (List._∷_ e2 (List._∷_ e24 (List._∷_ e41 (List._∷_ e51 (List._∷_ e52 (List._∷_ e54 (List._∷_ e56 (List._∷_ e57 (List._∷_ e59 (List._∷_ e3 (List._∷_ e5 (List._∷_ e7 (List._∷_ e9
+    (List._∷_ e12 (List._∷_ e14 List.[])))))))))))))))
 
 abbrev pub t71 : List.List Row.Entry
-t71 = List._∷_ (0, Rows.whole (Declared.row Put.the-type)) (List._∷_ (
-  1,
-  Rows.sslice (Referent.rtF (Referent.fInt Syntax.w16)) (Syntax.tyRef (Syntax.named 0) Syntax.imm (Syntax.tyInt Syntax.w16)) 0,
-) (List._∷_ (2, Rows.sc-here (Row.sInt Syntax.w64)) (List._∷_ (3, Mut.mslice (Referent.rtF (Referent.fInt Syntax.w8)) (Syntax.tyRef (Syntax.named 1) Syntax.mut (Syntax.tyInt Syntax.w8)) 1)
-    (List._∷_ (4, Rows.sc-here Row.sBool) (List._∷_ (
-      5,
-      Rows.any-gone (Syntax.tyStruct (List._∷_ 98 (List._∷_ 105 (List._∷_ 116 (List._∷_ 115 (List._∷_ 58 (List._∷_ 58 (List._∷_ 66 (List._∷_ 105
-          (List._∷_ 116 (List._∷_ 80 (List._∷_ 111 (List._∷_ 115 (List._∷_ 105 (List._∷_ 116 (List._∷_ 105 (List._∷_ 111 (List._∷_ 110 List.[]))))))))))))))))) (Syntax.tcons (Syntax.tyInt Syntax.w64)
-          Syntax.tnil)),
-    ) (List._∷_ (6, Mut.mslice (Referent.rtF (Referent.fInt Syntax.w16)) (Syntax.tyRef (Syntax.named 2) Syntax.mut (Syntax.tyInt Syntax.w16)) 2) (List._∷_ (
-      7,
-      Mut.mslice (Element.type)
-          (Syntax.tyRef (Syntax.named 3) Syntax.mut Element.behind) 3,
-    ) (List._∷_ (
-      8,
-      Rows.any-gone (Syntax.tyStruct (List._∷_ 98 (List._∷_ 108 (List._∷_ 111 (List._∷_ 99 (List._∷_ 107 (List._∷_ 58 (List._∷_
-          58 (List._∷_ 70 (List._∷_ 111 (List._∷_ 114 (List._∷_ 109 List.[]))))))))))) (Syntax.tcons (Syntax.tyInt Syntax.w32) (Syntax.tcons Syntax.tyBool Syntax.tnil))),
-    ) (List._∷_ (
-      9,
-      Rows.any-gone
-          (Syntax.tyInt Syntax.w32),
-    ) (List._∷_ (10, Rows.any-gone Syntax.tyBool) (List._∷_ (11, Rows.any-gone (Syntax.tyInt Syntax.w64)) (List._∷_ (
-      12,
-      Rows.any-gone (Syntax.tyStruct (List._∷_ 113 (List._∷_
-          117 (List._∷_ 97 (List._∷_ 110 (List._∷_ 116 (List._∷_ 105 (List._∷_ 115 (List._∷_ 101 (List._∷_ 114 (List._∷_ 58 (List._∷_ 58 (List._∷_ 81 (List._∷_ 117 (List._∷_ 97 (List._∷_ 110 (List._∷_ 116
-          (List._∷_ 105 (List._∷_ 115 (List._∷_ 101 (List._∷_ 114 List.[])))))))))))))))))))) (Syntax.tcons (Syntax.tyInt Syntax.w32) (Syntax.tcons (Syntax.tyInt Syntax.w32) (Syntax.tcons (Syntax.tyInt
-          Syntax.w32) (Syntax.tcons (Syntax.tyInt Syntax.w32) (Syntax.tcons (Syntax.tyInt Syntax.w32) Syntax.tnil)))))),
-    ) (List._∷_ (13, Rows.any-gone (Syntax.tyInt Syntax.w32)) (List._∷_ (
-      14,
-      Rows.any-gone
-          (Syntax.tyInt Syntax.w32),
-    ) (List._∷_ (15, Rows.whole (Declared'.row BitPosition.the-type)) List.[])))))))))))))))
+t71 = List._∷_ e1 (List._∷_ e2 (List._∷_ e24 (List._∷_ e41 (List._∷_ e51 (List._∷_ e52 (List._∷_ e54 (List._∷_ e56 (List._∷_ e57 (List._∷_ e59 (List._∷_ e3 (List._∷_ e5 (List._∷_ e7 (List._∷_ e9
+    (List._∷_ e11 (List._∷_ e14 List.[])))))))))))))))
 
 abbrev pub t72 : List.List Row.Entry
-t72 = List._∷_ (0, Rows.whole (Declared.row Put.the-type)) (List._∷_ (
-  1,
-  Rows.sslice (Referent.rtF (Referent.fInt Syntax.w16)) (Syntax.tyRef (Syntax.named 0) Syntax.imm (Syntax.tyInt Syntax.w16)) 0,
-) (List._∷_ (2, Rows.sc-here (Row.sInt Syntax.w64)) (List._∷_ (3, Mut.mslice (Referent.rtF (Referent.fInt Syntax.w8)) (Syntax.tyRef (Syntax.named 1) Syntax.mut (Syntax.tyInt Syntax.w8)) 1)
-    (List._∷_ (4, Rows.sc-here Row.sBool) (List._∷_ (
-      5,
-      Rows.any-gone (Syntax.tyStruct (List._∷_ 98 (List._∷_ 105 (List._∷_ 116 (List._∷_ 115 (List._∷_ 58 (List._∷_ 58 (List._∷_ 66 (List._∷_ 105
-          (List._∷_ 116 (List._∷_ 80 (List._∷_ 111 (List._∷_ 115 (List._∷_ 105 (List._∷_ 116 (List._∷_ 105 (List._∷_ 111 (List._∷_ 110 List.[]))))))))))))))))) (Syntax.tcons (Syntax.tyInt Syntax.w64)
-          Syntax.tnil)),
-    ) (List._∷_ (6, Mut.mslice (Referent.rtF (Referent.fInt Syntax.w16)) (Syntax.tyRef (Syntax.named 2) Syntax.mut (Syntax.tyInt Syntax.w16)) 2) (List._∷_ (
-      7,
-      Mut.mslice (Element.type)
-          (Syntax.tyRef (Syntax.named 3) Syntax.mut Element.behind) 3,
-    ) (List._∷_ (
-      8,
-      Rows.any-gone (Syntax.tyStruct (List._∷_ 98 (List._∷_ 108 (List._∷_ 111 (List._∷_ 99 (List._∷_ 107 (List._∷_ 58 (List._∷_
-          58 (List._∷_ 70 (List._∷_ 111 (List._∷_ 114 (List._∷_ 109 List.[]))))))))))) (Syntax.tcons (Syntax.tyInt Syntax.w32) (Syntax.tcons Syntax.tyBool Syntax.tnil))),
-    ) (List._∷_ (
-      9,
-      Rows.any-gone
-          (Syntax.tyInt Syntax.w32),
-    ) (List._∷_ (10, Rows.any-gone Syntax.tyBool) (List._∷_ (11, Rows.any-gone (Syntax.tyInt Syntax.w64)) (List._∷_ (
-      12,
-      Rows.any-gone (Syntax.tyStruct (List._∷_ 113 (List._∷_
-          117 (List._∷_ 97 (List._∷_ 110 (List._∷_ 116 (List._∷_ 105 (List._∷_ 115 (List._∷_ 101 (List._∷_ 114 (List._∷_ 58 (List._∷_ 58 (List._∷_ 81 (List._∷_ 117 (List._∷_ 97 (List._∷_ 110 (List._∷_ 116
-          (List._∷_ 105 (List._∷_ 115 (List._∷_ 101 (List._∷_ 114 List.[])))))))))))))))))))) (Syntax.tcons (Syntax.tyInt Syntax.w32) (Syntax.tcons (Syntax.tyInt Syntax.w32) (Syntax.tcons (Syntax.tyInt
-          Syntax.w32) (Syntax.tcons (Syntax.tyInt Syntax.w32) (Syntax.tcons (Syntax.tyInt Syntax.w32) Syntax.tnil)))))),
-    ) (List._∷_ (13, Rows.any-gone (Syntax.tyInt Syntax.w32)) (List._∷_ (
-      14,
-      Rows.any-gone
-          (Syntax.tyInt Syntax.w32),
-    ) (List._∷_ (
-      15,
-      Rows.any-gone (Syntax.tyStruct (List._∷_ 98 (List._∷_ 105 (List._∷_ 116 (List._∷_ 115 (List._∷_ 58 (List._∷_ 58 (List._∷_ 66 (List._∷_ 105 (List._∷_ 116
-          (List._∷_ 80 (List._∷_ 111 (List._∷_ 115 (List._∷_ 105 (List._∷_ 116 (List._∷_ 105 (List._∷_ 111 (List._∷_ 110 List.[]))))))))))))))))) (Syntax.tcons (Syntax.tyInt Syntax.w64) Syntax.tnil)),
-    )
-    List.[])))))))))))))))
+t72 = List._∷_ e1 (List._∷_ e2 (List._∷_ e24 (List._∷_ e41 (List._∷_ e51 (List._∷_ e52 (List._∷_ e54 (List._∷_ e56 (List._∷_ e57 (List._∷_ e59 (List._∷_ e3 (List._∷_ e5 (List._∷_ e7 (List._∷_ e9
+    (List._∷_ e11 (List._∷_ e13 List.[])))))))))))))))
 
 abbrev pub t73 : List.List Row.Entry
-t73 = List._∷_ (0, Rows.whole (Declared.row Put.the-type)) (List._∷_ (
-  1,
-  Rows.sslice (Referent.rtF (Referent.fInt Syntax.w16)) (Syntax.tyRef (Syntax.named 0) Syntax.imm (Syntax.tyInt Syntax.w16)) 0,
-) (List._∷_ (2, Rows.any-gone (Syntax.tyInt Syntax.w64)) (List._∷_ (3, Mut.mslice (Referent.rtF (Referent.fInt Syntax.w8)) (Syntax.tyRef (Syntax.named 1) Syntax.mut (Syntax.tyInt Syntax.w8)) 1)
-    (List._∷_ (4, Rows.sc-here Row.sBool) (List._∷_ (
-      5,
-      Rows.any-gone (Syntax.tyStruct (List._∷_ 98 (List._∷_ 105 (List._∷_ 116 (List._∷_ 115 (List._∷_ 58 (List._∷_ 58 (List._∷_ 66 (List._∷_ 105
-          (List._∷_ 116 (List._∷_ 80 (List._∷_ 111 (List._∷_ 115 (List._∷_ 105 (List._∷_ 116 (List._∷_ 105 (List._∷_ 111 (List._∷_ 110 List.[]))))))))))))))))) (Syntax.tcons (Syntax.tyInt Syntax.w64)
-          Syntax.tnil)),
-    ) (List._∷_ (6, Mut.mslice (Referent.rtF (Referent.fInt Syntax.w16)) (Syntax.tyRef (Syntax.named 2) Syntax.mut (Syntax.tyInt Syntax.w16)) 2) (List._∷_ (
-      7,
-      Mut.mslice (Element.type)
-          (Syntax.tyRef (Syntax.named 3) Syntax.mut Element.behind) 3,
-    ) (List._∷_ (
-      8,
-      Rows.any-gone (Syntax.tyStruct (List._∷_ 98 (List._∷_ 108 (List._∷_ 111 (List._∷_ 99 (List._∷_ 107 (List._∷_ 58 (List._∷_
-          58 (List._∷_ 70 (List._∷_ 111 (List._∷_ 114 (List._∷_ 109 List.[]))))))))))) (Syntax.tcons (Syntax.tyInt Syntax.w32) (Syntax.tcons Syntax.tyBool Syntax.tnil))),
-    ) (List._∷_ (
-      9,
-      Rows.any-gone
-          (Syntax.tyInt Syntax.w32),
-    ) (List._∷_ (10, Rows.any-gone Syntax.tyBool) (List._∷_ (11, Rows.any-gone (Syntax.tyInt Syntax.w64)) (List._∷_ (
-      12,
-      Rows.any-gone (Syntax.tyStruct (List._∷_ 113 (List._∷_
-          117 (List._∷_ 97 (List._∷_ 110 (List._∷_ 116 (List._∷_ 105 (List._∷_ 115 (List._∷_ 101 (List._∷_ 114 (List._∷_ 58 (List._∷_ 58 (List._∷_ 81 (List._∷_ 117 (List._∷_ 97 (List._∷_ 110 (List._∷_ 116
-          (List._∷_ 105 (List._∷_ 115 (List._∷_ 101 (List._∷_ 114 List.[])))))))))))))))))))) (Syntax.tcons (Syntax.tyInt Syntax.w32) (Syntax.tcons (Syntax.tyInt Syntax.w32) (Syntax.tcons (Syntax.tyInt
-          Syntax.w32) (Syntax.tcons (Syntax.tyInt Syntax.w32) (Syntax.tcons (Syntax.tyInt Syntax.w32) Syntax.tnil)))))),
-    ) (List._∷_ (13, Rows.any-gone (Syntax.tyInt Syntax.w32)) (List._∷_ (
-      14,
-      Rows.any-gone
-          (Syntax.tyInt Syntax.w32),
-    ) (List._∷_ (
-      15,
-      Rows.any-gone (Syntax.tyStruct (List._∷_ 98 (List._∷_ 105 (List._∷_ 116 (List._∷_ 115 (List._∷_ 58 (List._∷_ 58 (List._∷_ 66 (List._∷_ 105 (List._∷_ 116
-          (List._∷_ 80 (List._∷_ 111 (List._∷_ 115 (List._∷_ 105 (List._∷_ 116 (List._∷_ 105 (List._∷_ 111 (List._∷_ 110 List.[]))))))))))))))))) (Syntax.tcons (Syntax.tyInt Syntax.w64) Syntax.tnil)),
-    )
-    List.[])))))))))))))))
+t73 = List._∷_ e1 (List._∷_ e2 (List._∷_ e23 (List._∷_ e41 (List._∷_ e51 (List._∷_ e52 (List._∷_ e54 (List._∷_ e56 (List._∷_ e57 (List._∷_ e59 (List._∷_ e3 (List._∷_ e5 (List._∷_ e7 (List._∷_ e9
+    (List._∷_ e11 (List._∷_ e13 List.[])))))))))))))))
 
 abbrev pub T0 : Row.Cx
 T0 = record { locals = List._++_ t0 (List._++_ t1 t2); slots = List.[] }
@@ -3678,17 +1427,13 @@ module _ (claims· : Claims) where
   s4 = λ bs. Scalar.n-use T5 (Scalar.oFld 8 (List._∷_ (Syntax.field 1) List.[]) Syntax.tyBool 4 (Reads.fieldV Form.the-type Laws'.the-laws 1)) 10 (Rows.sc-here Row.sBool) (Row.sBool .of)
 
   abbrev s5 : (bs : List.List Nat.ℕ) → Typed.Mo T6 → Typed.Mo T7
-  s5 = λ bs. Scalar.n-room T6 8 (Syntax.tyStruct (List._∷_ 98 (List._∷_ 108 (List._∷_ 111 (List._∷_ 99 (List._∷_ 107 (List._∷_ 58 (List._∷_ 58 (List._∷_ 70 (List._∷_ 111 (List._∷_ 114 (List._∷_ 109
-      List.[]))))))))))) (Syntax.tcons (Syntax.tyInt Syntax.w32) (Syntax.tcons Syntax.tyBool Syntax.tnil)))
+  s5 = λ bs. Scalar.n-room T6 8 y7
 
   abbrev s6 : (bs : List.List Nat.ℕ) → Typed.Both T7 T8
   s6 = λ bs. Call.callB ps·0 r·0 (claims· .0) (claims· .1) T7 (Bool.bAt 10 λ x. x, tt) 11 List.[] (Syntax.tyInt Syntax.w64)
 
   abbrev s7 : (bs : List.List Nat.ℕ) → Typed.Both T8 T9
-  s7 = λ bs. Call.callB ps·1 r·1 (claims· .2) (claims· .3) T8 (Num.vAt 9 λ x. x, (Num.vLit 0, tt)) 12 List.[] (Syntax.tyStruct (List._∷_ 113 (List._∷_ 117 (List._∷_ 97 (List._∷_ 110 (List._∷_ 116
-      (List._∷_ 105 (List._∷_ 115 (List._∷_ 101 (List._∷_ 114 (List._∷_ 58 (List._∷_ 58 (List._∷_ 81 (List._∷_ 117 (List._∷_ 97 (List._∷_ 110 (List._∷_ 116 (List._∷_ 105 (List._∷_ 115 (List._∷_ 101
-      (List._∷_ 114 List.[])))))))))))))))))))) (Syntax.tcons (Syntax.tyInt Syntax.w32) (Syntax.tcons (Syntax.tyInt Syntax.w32) (Syntax.tcons (Syntax.tyInt Syntax.w32) (Syntax.tcons (Syntax.tyInt
-      Syntax.w32) (Syntax.tcons (Syntax.tyInt Syntax.w32) Syntax.tnil))))))
+  s7 = λ bs. Call.callB ps·1 r·1 (claims· .2) (claims· .3) T8 (Num.vAt 9 λ x. x, (Num.vLit 0, tt)) 12 List.[] y2
 
   abbrev s8 : (bs : List.List Nat.ℕ) → Typed.Mo T9 → Typed.Mo T10
   s8 = λ bs. Scalar.n-use T9 (Scalar.oFld 12 (List._∷_ (Syntax.field 4) List.[]) (Syntax.tyInt Syntax.w32) 16 (Reads.fieldV Quantiser.the-type Laws'4.the-laws 4)) 13 (Rows.sc-here (Row.sInt
@@ -3699,17 +1444,14 @@ module _ (claims· : Claims) where
       Syntax.w32)) (Row.sInt Syntax.w32 .of)
 
   abbrev s10 : (bs : List.List Nat.ℕ) → Typed.Mo T11 → Typed.Mo T12
-  s10 = λ bs. Scalar.n-room T11 12 (Syntax.tyStruct (List._∷_ 113 (List._∷_ 117 (List._∷_ 97 (List._∷_ 110 (List._∷_ 116 (List._∷_ 105 (List._∷_ 115 (List._∷_ 101 (List._∷_ 114 (List._∷_ 58 (List._∷_
-      58 (List._∷_ 81 (List._∷_ 117 (List._∷_ 97 (List._∷_ 110 (List._∷_ 116 (List._∷_ 105 (List._∷_ 115 (List._∷_ 101 (List._∷_ 114 List.[])))))))))))))))))))) (Syntax.tcons (Syntax.tyInt Syntax.w32)
-      (Syntax.tcons (Syntax.tyInt Syntax.w32) (Syntax.tcons (Syntax.tyInt Syntax.w32) (Syntax.tcons (Syntax.tyInt Syntax.w32) (Syntax.tcons (Syntax.tyInt Syntax.w32) Syntax.tnil))))))
+  s10 = λ bs. Scalar.n-room T11 12 y2
 
   abbrev s11 : (bs : List.List Nat.ℕ) → Typed.Mo T12 → Typed.Mo T13
   s11 = λ bs. LocalCopy.n-val-copy T12 5 15 (Declared'.row BitPosition.the-type) (Rows.whole (Declared'.row BitPosition.the-type)) (Rows.whole (Declared'.row BitPosition.the-type)) (λ x. x) (λ x. x) λ
       x. x
 
   abbrev s12 : (bs : List.List Nat.ℕ) → Typed.Mo T13 → Typed.Mo T14
-  s12 = λ bs. Scalar.n-room T13 5 (Syntax.tyStruct (List._∷_ 98 (List._∷_ 105 (List._∷_ 116 (List._∷_ 115 (List._∷_ 58 (List._∷_ 58 (List._∷_ 66 (List._∷_ 105 (List._∷_ 116 (List._∷_ 80 (List._∷_ 111
-      (List._∷_ 115 (List._∷_ 105 (List._∷_ 116 (List._∷_ 105 (List._∷_ 111 (List._∷_ 110 List.[]))))))))))))))))) (Syntax.tcons (Syntax.tyInt Syntax.w64) Syntax.tnil))
+  s12 = λ bs. Scalar.n-room T13 5 y6
 
   abbrev s13 : (bs : List.List Nat.ℕ) → Typed.Mo T14 → Typed.Mo T15
   s13 = λ bs. Scalar.n-use T14 (Scalar.oInt Syntax.w64 0) 16 (Rows.sc-here (Row.sInt Syntax.w64)) (Row.sInt Syntax.w64 .of)
@@ -3725,9 +1467,7 @@ module _ (claims· : Claims) where
   s16 = λ bs. Scalar.n-room T17 22 Syntax.tyBool
 
   abbrev s17 : (bs : List.List Nat.ℕ) → Typed.Both T18 T21
-  s17 = λ bs. Call.callB ps·2 r·2 (claims· .4) (claims· .5) T18 (Num.vAt 16 λ x. x, (Bool.bAt 10 λ x. x, tt)) 17 List.[] (Syntax.tyStruct (List._∷_ 112 (List._∷_ 97 (List._∷_ 115 (List._∷_ 115
-      (List._∷_ 58 (List._∷_ 58 (List._∷_ 80 (List._∷_ 108 (List._∷_ 97 (List._∷_ 110 List.[])))))))))) (Syntax.tcons (Syntax.tyInt Syntax.w64) (Syntax.tcons (Syntax.tyInt Syntax.w64) (Syntax.tcons
-      (Syntax.tyInt Syntax.w64) (Syntax.tcons (Syntax.tyInt Syntax.w32) (Syntax.tcons (Syntax.tyInt Syntax.w32) Syntax.tnil))))))
+  s17 = λ bs. Call.callB ps·2 r·2 (claims· .4) (claims· .5) T18 (Num.vAt 16 λ x. x, (Bool.bAt 10 λ x. x, tt)) 17 List.[] y0
 
   abbrev s19 : (bs : List.List Nat.ℕ) → Typed.Gives T21 T23
   s19 = λ bs. Relend.k-sl-relend (Referent.rtF (Referent.fInt Syntax.w16)) T21 6 24 2 4 (Syntax.tyRef (Syntax.named 2) Syntax.mut (Syntax.tyInt Syntax.w16)) (Syntax.tyRef Syntax.erased Syntax.mut
@@ -3740,10 +1480,7 @@ module _ (claims· : Claims) where
   abbrev s21 : (bs : List.List Nat.ℕ) → Typed.Both T24 T25
   s21 = λ bs. Call.callB ps·3 r·3 (claims· .6) (claims· .7) T24 (
     record { pos = 25; ty = Syntax.tyRef Syntax.erased Syntax.mut (Syntax.tyInt Syntax.w16); ref = λ x. x },
-    (
-      Num.vAt 11 λ x. x,
-      (Num.vFld 17 (List._∷_ (Syntax.field 0) List.[]) 0 λ x. Plan.struct .as-values x .0, tt),
-    ),
+    (Num.vAt 11 λ x. x, (Num.vFld 17 (List._∷_ (Syntax.field 0) List.[]) 0 λ x. Plan.struct .as-values x .0, tt)),
   ) 23 (List._∷_ 4 List.[]) Syntax.tyUnit
 
   abbrev s22 : (bs : List.List Nat.ℕ) → Typed.Mo T25 → Typed.Mo T26
@@ -3767,10 +1504,7 @@ module _ (claims· : Claims) where
   abbrev s30 : (bs : List.List Nat.ℕ) → Typed.Both T33 T34
   s30 = λ bs. Call.callB ps·3 r·3 (claims· .6) (claims· .7) T33 (
     record { pos = 27; ty = Syntax.tyRef Syntax.erased Syntax.mut (Syntax.tyInt Syntax.w16); ref = λ x. x },
-    (
-      Num.vAt 11 λ x. x,
-      (Num.vFld 17 (List._∷_ (Syntax.field 1) List.[]) 8 λ x. Plan.struct .as-values x .1 .0, tt),
-    ),
+    (Num.vAt 11 λ x. x, (Num.vFld 17 (List._∷_ (Syntax.field 1) List.[]) 8 λ x. Plan.struct .as-values x .1 .0, tt)),
   ) 23 (List._∷_ 5 List.[]) Syntax.tyUnit
 
   abbrev s31 : (bs : List.List Nat.ℕ) → Typed.Mo T34 → Typed.Mo T35
@@ -3791,15 +1525,9 @@ module _ (claims· : Claims) where
       Element.behind) (λ x. x) (Scalar.oFld 7 (List._∷_ (Syntax.field 1) List.[]) (Syntax.tyInt Syntax.w64) 8 λ v. Shared.lenV (v .0))
 
   abbrev s39 : (bs : List.List Nat.ℕ) → Typed.Both T42 T43
-  s39 = λ bs. Call.callB ps·4 r·4 (claims· .8) (claims· .9) T42 (
-    record { pos = 29; ty = Syntax.tyRef Syntax.erased Syntax.mut Element.behind; ref = λ x. x },
-    (
-      Num.vFld 17 (List._∷_ (Syntax.field
-          2) List.[]) 16 λ x. Plan.struct .as-values x .1 .1 .0,
-      tt,
-    ),
-  ) 18 (List._∷_ 6 List.[]) (Syntax.tyStruct (List._∷_ 112 (List._∷_ 97 (List._∷_ 115 (List._∷_ 115 (List._∷_ 58 (List._∷_ 58 (List._∷_ 83
-      (List._∷_ 101 (List._∷_ 116 List.[]))))))))) (Syntax.tcons (Syntax.tyArray (Syntax.tyInt Syntax.w32) 112) (Syntax.tcons (Syntax.tyArray (Syntax.tyInt Syntax.w32) 112) Syntax.tnil)))
+  s39 = λ bs. Call.callB ps·4 r·4 (claims· .8) (claims· .9) T42
+      (record { pos = 29; ty = Syntax.tyRef Syntax.erased Syntax.mut Element.behind; ref = λ x. x }, (Num.vFld 17 (List._∷_ (Syntax.field 2) List.[]) 16 λ x. Plan.struct .as-values x .1 .1 .0, tt)) 18
+      (List._∷_ 6 List.[]) y1
 
   abbrev s41 : (bs : List.List Nat.ℕ) → Typed.Both T43 T45
   s41 = λ bs. Relend.k-back-sl (Element.type) T43 29 7 3 6 (Syntax.tyRef (Syntax.named 3) Syntax.mut Element.behind) (Syntax.tyRef Syntax.erased Syntax.mut Element.behind) Row.off (λ x. x) λ x. x
@@ -3832,48 +1560,24 @@ module _ (claims· : Claims) where
           (
             record { pos = 15; st = List.[]; d = 0; at = λ x. x },
             (
-              record {
-                pos
-                    = 33;
-                ty = Syntax.tyRef Syntax.erased Syntax.mut (Syntax.tyInt Syntax.w16);
-                ref = λ x. x;
-              },
+              record { pos = 33; ty = Syntax.tyRef Syntax.erased Syntax.mut (Syntax.tyInt Syntax.w16); ref = λ x. x },
               (
                 record { pos = 18; st = List.[]; d = 0; at = λ x. x },
-                (
-                  Num.vAt 11 λ x. x,
-                  (
-                    record {
-                      pos = 17;
-                      st =
-                          List.[];
-                      d = 0;
-                      at = λ x. x;
-                    },
-                    (Num.vAt 9 λ x. x, (Num.vAt 13 λ x. x, (Num.vAt 14 λ x. x, tt))),
-                  ),
-                ),
+                (Num.vAt 11 λ x. x, (record { pos = 17; st = List.[]; d = 0; at = λ x. x }, (Num.vAt 9 λ x. x, (Num.vAt 13 λ x. x, (Num.vAt 14 λ x. x, tt))))),
               ),
             ),
           ),
         ),
       ),
     ),
-  ) 19 (List._∷_ 0 (List._∷_ 7 (List._∷_ 8 List.[]))) (Syntax.tyStruct
-      (List._∷_ 119 (List._∷_ 114 (List._∷_ 105 (List._∷_ 116 (List._∷_ 105 (List._∷_ 110 (List._∷_ 103 (List._∷_ 58 (List._∷_ 58 (List._∷_ 80 (List._∷_ 97 (List._∷_ 115 (List._∷_ 115 (List._∷_ 80
-      (List._∷_ 117 (List._∷_ 116 List.[])))))))))))))))) (Syntax.tcons Syntax.tyBool (Syntax.tcons (Syntax.tyInt Syntax.w64) (Syntax.tcons (Syntax.tyStruct (List._∷_ 98 (List._∷_ 105 (List._∷_ 116
-      (List._∷_ 115 (List._∷_ 58 (List._∷_ 58 (List._∷_ 66 (List._∷_ 105 (List._∷_ 116 (List._∷_ 80 (List._∷_ 111 (List._∷_ 115 (List._∷_ 105 (List._∷_ 116 (List._∷_ 105 (List._∷_ 111 (List._∷_ 110
-      List.[]))))))))))))))))) (Syntax.tcons (Syntax.tyInt Syntax.w64) Syntax.tnil)) (Syntax.tcons (Syntax.tyStruct (List._∷_ 112 (List._∷_ 97 (List._∷_ 115 (List._∷_ 115 (List._∷_ 58 (List._∷_ 58
-      (List._∷_ 83 (List._∷_ 101 (List._∷_ 116 List.[]))))))))) (Syntax.tcons (Syntax.tyArray (Syntax.tyInt Syntax.w32) 112) (Syntax.tcons (Syntax.tyArray (Syntax.tyInt Syntax.w32) 112) Syntax.tnil)))
-      Syntax.tnil)))))
+  ) 19 (List._∷_ 0 (List._∷_ 7 (List._∷_ 8
+      List.[]))) y8
 
   abbrev s50 : (bs : List.List Nat.ℕ) → Typed.Mo T53 → Typed.Mo T54
-  s50 = λ bs. Scalar.n-room T53 15 (Syntax.tyStruct (List._∷_ 98 (List._∷_ 105 (List._∷_ 116 (List._∷_ 115 (List._∷_ 58 (List._∷_ 58 (List._∷_ 66 (List._∷_ 105 (List._∷_ 116 (List._∷_ 80 (List._∷_ 111
-      (List._∷_ 115 (List._∷_ 105 (List._∷_ 116 (List._∷_ 105 (List._∷_ 111 (List._∷_ 110 List.[]))))))))))))))))) (Syntax.tcons (Syntax.tyInt Syntax.w64) Syntax.tnil))
+  s50 = λ bs. Scalar.n-room T53 15 y6
 
   abbrev s51 : (bs : List.List Nat.ℕ) → Typed.Mo T54 → Typed.Mo T55
-  s51 = λ bs. Scalar.n-room T54 18 (Syntax.tyStruct (List._∷_ 112 (List._∷_ 97 (List._∷_ 115 (List._∷_ 115 (List._∷_ 58 (List._∷_ 58 (List._∷_ 83 (List._∷_ 101 (List._∷_ 116 List.[])))))))))
-      (Syntax.tcons (Syntax.tyArray (Syntax.tyInt Syntax.w32) 112) (Syntax.tcons (Syntax.tyArray (Syntax.tyInt Syntax.w32) 112) Syntax.tnil)))
+  s51 = λ bs. Scalar.n-room T54 18 y1
 
   abbrev s53 : (bs : List.List Nat.ℕ) → Typed.Both T55 T57
   s53 = λ bs. Relend.k-back-sl (Referent.rtF (Referent.fInt Syntax.w8)) T55 31 3 1 7 (Syntax.tyRef (Syntax.named 1) Syntax.mut (Syntax.tyInt Syntax.w8)) (Syntax.tyRef Syntax.erased Syntax.mut
@@ -3896,9 +1600,7 @@ module _ (claims· : Claims) where
   s61 = λ bs. Scalar.k-op1 T64 Syntax.bitNot (Scalar.oAt 20 Syntax.tyBool (Row.valS Row.sBool)) 22 (Rows.sc-here Row.sBool) (Row.sBool .of)
 
   abbrev s62 : (bs : List.List Nat.ℕ) → Typed.Mo T65 → Typed.Mo T67
-  s62 = λ bs. Scalar.n-room T65 17 (Syntax.tyStruct (List._∷_ 112 (List._∷_ 97 (List._∷_ 115 (List._∷_ 115 (List._∷_ 58 (List._∷_ 58 (List._∷_ 80 (List._∷_ 108 (List._∷_ 97 (List._∷_ 110
-      List.[])))))))))) (Syntax.tcons (Syntax.tyInt Syntax.w64) (Syntax.tcons (Syntax.tyInt Syntax.w64) (Syntax.tcons (Syntax.tyInt Syntax.w64) (Syntax.tcons (Syntax.tyInt Syntax.w32) (Syntax.tcons
-      (Syntax.tyInt Syntax.w32) Syntax.tnil))))))
+  s62 = λ bs. Scalar.n-room T65 17 y0
 
   abbrev s63 : (bs : List.List Nat.ℕ) → Typed.Mo T67 → Typed.Mo T68
   s63 = λ bs. Scalar.n-room T67 22 Syntax.tyBool
@@ -3907,12 +1609,7 @@ module _ (claims· : Claims) where
   s64 = λ bs. Make.n-enum-make Put.the-type T68 0 λ m. Put.enum .make (Logic.inr (Logic.inl (PassPut.struct .as-values (m .1 .1 .1 .1 .1 .1 .1 .1 .1 .1 .1 .1 .1 .1 .1 .1 .1 .1 .1 .0) .1 .0, tt)))
 
   abbrev s65 : (bs : List.List Nat.ℕ) → Typed.Mo T69 → Typed.Mo T70
-  s65 = λ bs. Scalar.n-room T69 19 (Syntax.tyStruct (List._∷_ 119 (List._∷_ 114 (List._∷_ 105 (List._∷_ 116 (List._∷_ 105 (List._∷_ 110 (List._∷_ 103 (List._∷_ 58 (List._∷_ 58 (List._∷_ 80 (List._∷_
-      97 (List._∷_ 115 (List._∷_ 115 (List._∷_ 80 (List._∷_ 117 (List._∷_ 116 List.[])))))))))))))))) (Syntax.tcons Syntax.tyBool (Syntax.tcons (Syntax.tyInt Syntax.w64) (Syntax.tcons (Syntax.tyStruct
-      (List._∷_ 98 (List._∷_ 105 (List._∷_ 116 (List._∷_ 115 (List._∷_ 58 (List._∷_ 58 (List._∷_ 66 (List._∷_ 105 (List._∷_ 116 (List._∷_ 80 (List._∷_ 111 (List._∷_ 115 (List._∷_ 105 (List._∷_ 116
-      (List._∷_ 105 (List._∷_ 111 (List._∷_ 110 List.[]))))))))))))))))) (Syntax.tcons (Syntax.tyInt Syntax.w64) Syntax.tnil)) (Syntax.tcons (Syntax.tyStruct (List._∷_ 112 (List._∷_ 97 (List._∷_ 115
-      (List._∷_ 115 (List._∷_ 58 (List._∷_ 58 (List._∷_ 83 (List._∷_ 101 (List._∷_ 116 List.[]))))))))) (Syntax.tcons (Syntax.tyArray (Syntax.tyInt Syntax.w32) 112) (Syntax.tcons (Syntax.tyArray
-      (Syntax.tyInt Syntax.w32) 112) Syntax.tnil))) Syntax.tnil)))))
+  s65 = λ bs. Scalar.n-room T69 19 y8
 
   abbrev s66 : (bs : List.List Nat.ℕ) → Typed.Mo T70 → Typed.Mo T71
   s66 = λ bs. Scalar.n-room T70 2 (Syntax.tyInt Syntax.w64)
@@ -3946,11 +1643,9 @@ module _ (claims· : Claims) where
 
   abbrev s76 : (bs : List.List Nat.ℕ) → Typed.Both T66 T81
   s76 = λ bs. WayStmt.k-way-copy-out T66 (Row.out 19 (T66 .locals)) (λ u. Row.drop 19 (T66 .locals) u) 21 (Rows.whole (Declared'.row Set.the-type)) (λ u. At.getAt (PassPut.the-type .parts) 3
-      (PassPut.struct .as-values (u .1 .1 .1 .1 .1 .1 .1 .1 .1 .1 .1 .1 .1 .1 .1 .1 .1 .1 .1 .0))) (λ T′. record {
-        locals = Row.setRow 19 (19, Rows.whole (Declared'.row PassPut.the-type)) T′;
-        slots =
-            List.[];
-      }) (λ u T′ m′. Row.set 19 (19, Rows.whole (Declared'.row PassPut.the-type)) (u .1 .1 .1 .1 .1 .1 .1 .1 .1 .1 .1 .1 .1 .1 .1 .1 .1 .1 .1 .0) T′ m′) (λ u. Unit) λ u. Unit
+      (PassPut.struct .as-values (u .1 .1 .1 .1 .1 .1 .1 .1 .1 .1 .1 .1 .1 .1 .1 .1 .1 .1 .1 .0))) (λ T′. record
+      { locals = Row.setRow 19 (19, Rows.whole (Declared'.row PassPut.the-type)) T′; slots = List.[] }) (λ u T′ m′. Row.set 19 (19, Rows.whole (Declared'.row PassPut.the-type)) (u .1 .1 .1 .1 .1 .1 .1 .1
+      .1 .1 .1 .1 .1 .1 .1 .1 .1 .1 .1 .0) T′ m′) (λ u. Unit) λ u. Unit
 
   abbrev s78 : (bs : List.List Nat.ℕ) → Typed.Gives T81 T83
   s78 = λ bs. Relend.k-sl-relend (Element.type) T81 7 34 3 9 (Syntax.tyRef (Syntax.named 3) Syntax.mut Element.behind) (Syntax.tyRef Syntax.erased Syntax.mut Element.behind) Row.off λ x. x
@@ -3962,21 +1657,14 @@ module _ (claims· : Claims) where
   abbrev s80 : (bs : List.List Nat.ℕ) → Typed.Both T84 T85
   s80 = λ bs. Call.callB ps·6 r·6 (claims· .12) (claims· .13) T84 (
     record { pos = 35; ty = Syntax.tyRef Syntax.erased Syntax.mut Element.behind; ref = λ x. x },
-    (
-      Num.vFld 17 (List._∷_ (Syntax.field
-          2) List.[]) 16 λ x. Plan.struct .as-values x .1 .1 .0,
-      (record { pos = 21; st = List.[]; d = 0; at = λ x. x }, tt),
-    ),
+    (Num.vFld 17 (List._∷_ (Syntax.field 2) List.[]) 16 λ x. Plan.struct .as-values x .1 .1 .0, (record { pos = 21; st = List.[]; d = 0; at = λ x. x }, tt)),
   ) 23 (List._∷_ 9 List.[]) Syntax.tyUnit
 
   abbrev s81 : (bs : List.List Nat.ℕ) → Typed.Mo T85 → Typed.Mo T86
-  s81 = λ bs. Scalar.n-room T85 17 (Syntax.tyStruct (List._∷_ 112 (List._∷_ 97 (List._∷_ 115 (List._∷_ 115 (List._∷_ 58 (List._∷_ 58 (List._∷_ 80 (List._∷_ 108 (List._∷_ 97 (List._∷_ 110
-      List.[])))))))))) (Syntax.tcons (Syntax.tyInt Syntax.w64) (Syntax.tcons (Syntax.tyInt Syntax.w64) (Syntax.tcons (Syntax.tyInt Syntax.w64) (Syntax.tcons (Syntax.tyInt Syntax.w32) (Syntax.tcons
-      (Syntax.tyInt Syntax.w32) Syntax.tnil))))))
+  s81 = λ bs. Scalar.n-room T85 17 y0
 
   abbrev s82 : (bs : List.List Nat.ℕ) → Typed.Mo T86 → Typed.Mo T87
-  s82 = λ bs. Scalar.n-room T86 21 (Syntax.tyStruct (List._∷_ 112 (List._∷_ 97 (List._∷_ 115 (List._∷_ 115 (List._∷_ 58 (List._∷_ 58 (List._∷_ 83 (List._∷_ 101 (List._∷_ 116 List.[])))))))))
-      (Syntax.tcons (Syntax.tyArray (Syntax.tyInt Syntax.w32) 112) (Syntax.tcons (Syntax.tyArray (Syntax.tyInt Syntax.w32) 112) Syntax.tnil)))
+  s82 = λ bs. Scalar.n-room T86 21 y1
 
   abbrev s83 : (bs : List.List Nat.ℕ) → Typed.Mo T87 → Typed.Mo T88
   s83 = λ bs. Scalar.n-room T87 23 Syntax.tyUnit
@@ -3986,19 +1674,12 @@ module _ (claims· : Claims) where
 
   abbrev s87 : (bs : List.List Nat.ℕ) → Typed.Both T90 T92
   s87 = λ bs. WayStmt.k-way-copy-out T90 (Row.out 19 (T90 .locals)) (λ u. Row.drop 19 (T90 .locals) u) 15 (Rows.whole (Declared'.row BitPosition.the-type)) (λ u. At.getAt (PassPut.the-type .parts) 2
-      (PassPut.struct .as-values (u .1 .1 .1 .1 .1 .1 .1 .1 .1 .1 .1 .1 .1 .1 .1 .1 .1 .1 .1 .0))) (λ T′. record {
-        locals = Row.setRow 19 (19, Rows.whole (Declared'.row PassPut.the-type)) T′;
-        slots =
-            List.[];
-      }) (λ u T′ m′. Row.set 19 (19, Rows.whole (Declared'.row PassPut.the-type)) (u .1 .1 .1 .1 .1 .1 .1 .1 .1 .1 .1 .1 .1 .1 .1 .1 .1 .1 .1 .0) T′ m′) (λ u. Unit) λ u. Unit
+      (PassPut.struct .as-values (u .1 .1 .1 .1 .1 .1 .1 .1 .1 .1 .1 .1 .1 .1 .1 .1 .1 .1 .1 .0))) (λ T′. record
+      { locals = Row.setRow 19 (19, Rows.whole (Declared'.row PassPut.the-type)) T′; slots = List.[] }) (λ u T′ m′. Row.set 19 (19, Rows.whole (Declared'.row PassPut.the-type)) (u .1 .1 .1 .1 .1 .1 .1 .1
+      .1 .1 .1 .1 .1 .1 .1 .1 .1 .1 .1 .0) T′ m′) (λ u. Unit) λ u. Unit
 
   abbrev s88 : (bs : List.List Nat.ℕ) → Typed.Mo T92 → Typed.Mo T93
-  s88 = λ bs. Scalar.n-room T92 19 (Syntax.tyStruct (List._∷_ 119 (List._∷_ 114 (List._∷_ 105 (List._∷_ 116 (List._∷_ 105 (List._∷_ 110 (List._∷_ 103 (List._∷_ 58 (List._∷_ 58 (List._∷_ 80 (List._∷_
-      97 (List._∷_ 115 (List._∷_ 115 (List._∷_ 80 (List._∷_ 117 (List._∷_ 116 List.[])))))))))))))))) (Syntax.tcons Syntax.tyBool (Syntax.tcons (Syntax.tyInt Syntax.w64) (Syntax.tcons (Syntax.tyStruct
-      (List._∷_ 98 (List._∷_ 105 (List._∷_ 116 (List._∷_ 115 (List._∷_ 58 (List._∷_ 58 (List._∷_ 66 (List._∷_ 105 (List._∷_ 116 (List._∷_ 80 (List._∷_ 111 (List._∷_ 115 (List._∷_ 105 (List._∷_ 116
-      (List._∷_ 105 (List._∷_ 111 (List._∷_ 110 List.[]))))))))))))))))) (Syntax.tcons (Syntax.tyInt Syntax.w64) Syntax.tnil)) (Syntax.tcons (Syntax.tyStruct (List._∷_ 112 (List._∷_ 97 (List._∷_ 115
-      (List._∷_ 115 (List._∷_ 58 (List._∷_ 58 (List._∷_ 83 (List._∷_ 101 (List._∷_ 116 List.[]))))))))) (Syntax.tcons (Syntax.tyArray (Syntax.tyInt Syntax.w32) 112) (Syntax.tcons (Syntax.tyArray
-      (Syntax.tyInt Syntax.w32) 112) Syntax.tnil))) Syntax.tnil)))))
+  s88 = λ bs. Scalar.n-room T92 19 y8
 
   abbrev s89 : (bs : List.List Nat.ℕ) → Typed.Asks T93 T94
   s89 = λ bs. Scalar.k-op2 T93 (Syntax.add Syntax.unsigned) (Scalar.oAt 16 (Syntax.tyInt Syntax.w64) (Row.valS (Row.sInt Syntax.w64))) (Scalar.oInt Syntax.w64 1) 16 (Rows.sc-here (Row.sInt
@@ -4026,8 +1707,7 @@ module _ (claims· : Claims) where
   s96 = λ bs. Scalar.n-room T100 14 (Syntax.tyInt Syntax.w32)
 
   abbrev s97 : (bs : List.List Nat.ℕ) → Typed.Mo T101 → Typed.Mo T102
-  s97 = λ bs. Scalar.n-room T101 15 (Syntax.tyStruct (List._∷_ 98 (List._∷_ 105 (List._∷_ 116 (List._∷_ 115 (List._∷_ 58 (List._∷_ 58 (List._∷_ 66 (List._∷_ 105 (List._∷_ 116 (List._∷_ 80 (List._∷_
-      111 (List._∷_ 115 (List._∷_ 105 (List._∷_ 116 (List._∷_ 105 (List._∷_ 111 (List._∷_ 110 List.[]))))))))))))))))) (Syntax.tcons (Syntax.tyInt Syntax.w64) Syntax.tnil))
+  s97 = λ bs. Scalar.n-room T101 15 y6
 
   abbrev s98 : (bs : List.List Nat.ℕ) → Typed.Mo T102 → Typed.Mo T103
   s98 = λ bs. Scalar.n-room T102 16 (Syntax.tyInt Syntax.w64)
@@ -4040,25 +1720,18 @@ module _ (claims· : Claims) where
 
   abbrev put0 : List.List (Referent.rtF (Referent.fInt Syntax.w8) .Denot) × List.List (Referent.rtF (Referent.fInt Syntax.w16) .Denot) × List.List (Element.type .Denot) × Rows.whole (Declared'.row
       BitPosition.the-type) .Mod × Rows.sc-here (Row.sInt Syntax.w64) .Mod → Typed.Mo T15 → Typed.Mo T15
-  put0 = λ vs u. Row.set 16 (16, Rows.sc-here (Row.sInt Syntax.w64)) (vs .4) (T15 .locals) (Row.set 15 (15, Rows.whole (Declared'.row BitPosition.the-type)) (vs .3) (T15 .locals) (Row.set 7 (
-    7,
-    Mut.mslice (Element.type) (Syntax.tyRef (Syntax.named 3) Syntax.mut Element.behind) 3,
-  ) record { ptr = Row.get 7 (T15 .locals) u .ptr; name = Row.get 7 (T15 .locals) u .name; now = vs .2 } (T15
-      .locals) (Row.set 6 (6, Mut.mslice (Referent.rtF (Referent.fInt Syntax.w16)) (Syntax.tyRef (Syntax.named 2) Syntax.mut (Syntax.tyInt Syntax.w16)) 2) record {
-        ptr = Row.get 6 (T15 .locals) u .ptr;
-        name = Row.get 6 (T15 .locals) u .name;
-        now = vs .1;
-      } (T15 .locals) (Row.set 3 (
-        3,
-        Mut.mslice (Referent.rtF (Referent.fInt Syntax.w8)) (Syntax.tyRef (Syntax.named 1) Syntax.mut (Syntax.tyInt
-            Syntax.w8)) 1,
-      ) record { ptr = Row.get 3 (T15 .locals) u .ptr; name = Row.get 3 (T15 .locals) u .name; now = vs .0 } (T15 .locals) u))))
+  put0 = λ vs u. Row.set 16 (16, Rows.sc-here (Row.sInt Syntax.w64)) (vs .4) (T15 .locals) (Row.set 15 (15, Rows.whole (Declared'.row BitPosition.the-type)) (vs .3) (T15 .locals) (Row.set 7
+      (7, Mut.mslice (Element.type) (Syntax.tyRef (Syntax.named 3) Syntax.mut Element.behind) 3) record { ptr = Row.get 7 (T15 .locals) u .ptr; name = Row.get 7 (T15 .locals) u .name; now = vs .2 } (T15
+      .locals) (Row.set 6 (6, Mut.mslice (Referent.rtF (Referent.fInt Syntax.w16)) (Syntax.tyRef (Syntax.named 2) Syntax.mut (Syntax.tyInt Syntax.w16)) 2) record
+      { ptr = Row.get 6 (T15 .locals) u .ptr; name = Row.get 6 (T15 .locals) u .name; now = vs .1 } (T15 .locals) (Row.set 3
+      (3, Mut.mslice (Referent.rtF (Referent.fInt Syntax.w8)) (Syntax.tyRef (Syntax.named 1) Syntax.mut (Syntax.tyInt Syntax.w8)) 1) record
+      { ptr = Row.get 3 (T15 .locals) u .ptr; name = Row.get 3 (T15 .locals) u .name; now = vs .0 } (T15 .locals) u))))
 
   module _ (Pre· : (κs : Lifetimes.Lfts 4) → Kinds.Dens κs ps → Type 0) (Post· : (κs : Lifetimes.Lfts 4) → (a : Kinds.Dens κs ps) → Kinds.Plain 4 ps r κs) where
     module _ (M : Type 1) where
       abbrev pub Closed : Type 2
-      Closed = (𝓤 : URA.URA M) (H : Wp.Heap 𝓤) (A : Atoms.Atoms 𝓤) (W : Kit.Given 𝓤 H A) (𝓣 : Wp.Tables 𝓤 H) (known0 : Plain.Known 𝓤 H A W 𝓣 0 ps·0 r·0 (claims· .0) (claims· .1) "block::width")
-          (known1 : Plain.Known 𝓤 H A W 𝓣 0 ps·1 r·1 (claims· .2) (claims· .3) "quantiser::Quantiser::main") (known2 : Plain.Known 𝓤 H A W 𝓣 0 ps·2 r·2 (claims· .4) (claims· .5) "pass::plan_at") (known3 :
+      Closed = (𝓤 : URA.URA M) (H : Wp.Heap 𝓤) (A : Atoms.Atoms 𝓤) (W : Kit.Given 𝓤 H A) (𝓣 : Wp.Tables 𝓤 H) (known0 : Plain.Known 𝓤 H A W 𝓣 0 ps·0 r·0 (claims· .0) (claims· .1) "map::width") (known1
+          : Plain.Known 𝓤 H A W 𝓣 0 ps·1 r·1 (claims· .2) (claims· .3) "quantiser::Quantiser::main") (known2 : Plain.Known 𝓤 H A W 𝓣 0 ps·2 r·2 (claims· .4) (claims· .5) "pass::plan_at") (known3 :
           Plain.Known 𝓤 H A W 𝓣 1 ps·3 r·3 (claims· .6) (claims· .7) "lines::set_guards") (known4 : Plain.Known 𝓤 H A W 𝓣 1 ps·4 r·4 (claims· .8) (claims· .9) "block::records::load_set") (known5 :
           Plain.Known 𝓤 H A W 𝓣 3 ps·5 r·5 (claims· .10) (claims· .11) "writing::write_pass") (known6 : Plain.Known 𝓤 H A W 𝓣 1 ps·6 r·6 (claims· .12) (claims· .13) "block::records::store_set") →
           Statement.Triple 𝓤 (Wp.WpFn 𝓤 H (𝓣 .C) (𝓣 .Λ) (Function.fnOf 4 ps r xs m hs body)) (Function.plainOf 𝓤 H A 4 ps r Pre· Post·)
@@ -4409,1111 +2082,796 @@ module _ (claims· : Claims) where
 
       module _ {M : Type 1} (𝓤 : URA.URA M) (H : Wp.Heap 𝓤) (A : Atoms.Atoms 𝓤) (W : Kit.Given 𝓤 H A) (𝓣 : Wp.Tables 𝓤 H) where
         abbrev Knowns : Type 1
-        Knowns = Plain.Known 𝓤 H A W 𝓣 0 ps·0 r·0 (claims· .0) (claims· .1) "block::width" × Plain.Known 𝓤 H A W 𝓣 0 ps·1 r·1 (claims· .2) (claims· .3) "quantiser::Quantiser::main" × Plain.Known 𝓤 H A
-            W 𝓣 0 ps·2 r·2 (claims· .4) (claims· .5) "pass::plan_at" × Plain.Known 𝓤 H A W 𝓣 1 ps·3 r·3 (claims· .6) (claims· .7) "lines::set_guards" × Plain.Known 𝓤 H A W 𝓣 1 ps·4 r·4 (claims· .8)
-            (claims· .9) "block::records::load_set" × Plain.Known 𝓤 H A W 𝓣 3 ps·5 r·5 (claims· .10) (claims· .11) "writing::write_pass" × Plain.Known 𝓤 H A W 𝓣 1 ps·6 r·6 (claims· .12) (claims· .13)
+        Knowns = Plain.Known 𝓤 H A W 𝓣 0 ps·0 r·0 (claims· .0) (claims· .1) "map::width" × Plain.Known 𝓤 H A W 𝓣 0 ps·1 r·1 (claims· .2) (claims· .3) "quantiser::Quantiser::main" × Plain.Known 𝓤 H A W
+            𝓣 0 ps·2 r·2 (claims· .4) (claims· .5) "pass::plan_at" × Plain.Known 𝓤 H A W 𝓣 1 ps·3 r·3 (claims· .6) (claims· .7) "lines::set_guards" × Plain.Known 𝓤 H A W 𝓣 1 ps·4 r·4 (claims· .8) (claims·
+            .9) "block::records::load_set" × Plain.Known 𝓤 H A W 𝓣 3 ps·5 r·5 (claims· .10) (claims· .11) "writing::write_pass" × Plain.Known 𝓤 H A W 𝓣 1 ps·6 r·6 (claims· .12) (claims· .13)
             "block::records::store_set"
 
       module _ (κs : Lifetimes.Lfts 4) (qs : Lifetimes.Shares 4) where
         abbrev g17 : List.List Row.Entry
-        g17 = List._∷_ (
-          0,
-          Rows.any-gone (Syntax.tyEnum (List._∷_ 119 (List._∷_ 114 (List._∷_ 105 (List._∷_ 116 (List._∷_ 105 (List._∷_ 110 (List._∷_ 103 (List._∷_ 58 (List._∷_ 58 (List._∷_ 80
-              (List._∷_ 117 (List._∷_ 116 List.[])))))))))))) (Syntax.ttcons (Syntax.tcons (Syntax.tyStruct (List._∷_ 98 (List._∷_ 105 (List._∷_ 116 (List._∷_ 115 (List._∷_ 58 (List._∷_ 58 (List._∷_ 66
-              (List._∷_ 105 (List._∷_ 116 (List._∷_ 80 (List._∷_ 111 (List._∷_ 115 (List._∷_ 105 (List._∷_ 116 (List._∷_ 105 (List._∷_ 111 (List._∷_ 110 List.[]))))))))))))))))) (Syntax.tcons (Syntax.tyInt
-              Syntax.w64) Syntax.tnil)) Syntax.tnil) (Syntax.ttcons (Syntax.tcons (Syntax.tyInt Syntax.w64) Syntax.tnil) Syntax.ttnil))),
-        ) (List._∷_ (
-          1,
-          Rows.sslice (Referent.rtF (Referent.fInt
-              Syntax.w16)) (Syntax.tyRef (Syntax.named 0) Syntax.imm (Syntax.tyInt Syntax.w16)) 0,
-        ) (List._∷_ (2, Rows.sc-here (Row.sInt Syntax.w64)) (List._∷_ (
-          3,
-          Mut.mslice (Referent.rtF (Referent.fInt
-              Syntax.w8)) (Syntax.tyRef (Syntax.named 1) Syntax.mut (Syntax.tyInt Syntax.w8)) 1,
-        ) (List._∷_ (4, Rows.sc-here Row.sBool) (List._∷_ (
-          5,
-          Rows.any-gone (Syntax.tyStruct (List._∷_ 98 (List._∷_
-              105 (List._∷_ 116 (List._∷_ 115 (List._∷_ 58 (List._∷_ 58 (List._∷_ 66 (List._∷_ 105 (List._∷_ 116 (List._∷_ 80 (List._∷_ 111 (List._∷_ 115 (List._∷_ 105 (List._∷_ 116 (List._∷_ 105 (List._∷_
-              111 (List._∷_ 110 List.[]))))))))))))))))) (Syntax.tcons (Syntax.tyInt Syntax.w64) Syntax.tnil)),
-        ) (List._∷_ (
-          6,
-          Relend.mslice-owed (Referent.rtF (Referent.fInt Syntax.w16)) (Syntax.tyRef
-              (Syntax.named 2) Syntax.mut (Syntax.tyInt Syntax.w16)) 2 4 (Row.lease (κs .1 .1 .0) (qs .1 .1 .0)),
-        ) (List._∷_ (
-          7,
-          Mut.mslice (Element.type) (Syntax.tyRef (Syntax.named 3) Syntax.mut
-              Element.behind) 3,
-        ) (List._∷_ (
-          8,
-          Rows.any-gone (Syntax.tyStruct (List._∷_ 98 (List._∷_ 108 (List._∷_ 111 (List._∷_ 99 (List._∷_ 107 (List._∷_ 58 (List._∷_ 58 (List._∷_ 70 (List._∷_ 111
-              (List._∷_ 114 (List._∷_ 109 List.[]))))))))))) (Syntax.tcons (Syntax.tyInt Syntax.w32) (Syntax.tcons Syntax.tyBool Syntax.tnil))),
-        ) (List._∷_ (9, Rows.sc-here (Row.sInt Syntax.w32)) (List._∷_
-            (10, Rows.sc-here Row.sBool) (List._∷_ (11, Rows.sc-here (Row.sInt Syntax.w64)) (List._∷_ (
-              12,
-              Rows.any-gone (Syntax.tyStruct (List._∷_ 113 (List._∷_ 117 (List._∷_ 97 (List._∷_ 110
-                  (List._∷_ 116 (List._∷_ 105 (List._∷_ 115 (List._∷_ 101 (List._∷_ 114 (List._∷_ 58 (List._∷_ 58 (List._∷_ 81 (List._∷_ 117 (List._∷_ 97 (List._∷_ 110 (List._∷_ 116 (List._∷_ 105 (List._∷_ 115
-                  (List._∷_ 101 (List._∷_ 114 List.[])))))))))))))))))))) (Syntax.tcons (Syntax.tyInt Syntax.w32) (Syntax.tcons (Syntax.tyInt Syntax.w32) (Syntax.tcons (Syntax.tyInt Syntax.w32) (Syntax.tcons
-                  (Syntax.tyInt Syntax.w32) (Syntax.tcons (Syntax.tyInt Syntax.w32) Syntax.tnil)))))),
-            ) (List._∷_ (13, Rows.sc-here (Row.sInt Syntax.w32)) (List._∷_ (14, Rows.sc-here (Row.sInt Syntax.w32))
-            (List._∷_ (15, Rows.whole (Declared'.row BitPosition.the-type)) List.[])))))))))))))))
+        g17 = List._∷_ e0 (List._∷_ e2 (List._∷_ e24 (List._∷_ e41 (List._∷_ e51 (List._∷_ e52 (List._∷_
+            (6, Relend.mslice-owed (Referent.rtF (Referent.fInt Syntax.w16)) (Syntax.tyRef (Syntax.named 2) Syntax.mut (Syntax.tyInt Syntax.w16)) 2 4 (Row.lease (κs .1 .1 .0) (qs .1 .1 .0))) (List._∷_ e56
+            (List._∷_ e57 (List._∷_ e60 (List._∷_ e4 (List._∷_ e6 (List._∷_ e7 (List._∷_ e10 (List._∷_ e12 (List._∷_ e14 List.[])))))))))))))))
 
         abbrev g22 : List.List Row.Entry
-        g22 = List._∷_ (
-          0,
-          Rows.any-gone (Syntax.tyEnum (List._∷_ 119 (List._∷_ 114 (List._∷_ 105 (List._∷_ 116 (List._∷_ 105 (List._∷_ 110 (List._∷_ 103 (List._∷_ 58 (List._∷_ 58 (List._∷_ 80
-              (List._∷_ 117 (List._∷_ 116 List.[])))))))))))) (Syntax.ttcons (Syntax.tcons (Syntax.tyStruct (List._∷_ 98 (List._∷_ 105 (List._∷_ 116 (List._∷_ 115 (List._∷_ 58 (List._∷_ 58 (List._∷_ 66
-              (List._∷_ 105 (List._∷_ 116 (List._∷_ 80 (List._∷_ 111 (List._∷_ 115 (List._∷_ 105 (List._∷_ 116 (List._∷_ 105 (List._∷_ 111 (List._∷_ 110 List.[]))))))))))))))))) (Syntax.tcons (Syntax.tyInt
-              Syntax.w64) Syntax.tnil)) Syntax.tnil) (Syntax.ttcons (Syntax.tcons (Syntax.tyInt Syntax.w64) Syntax.tnil) Syntax.ttnil))),
-        ) (List._∷_ (
-          1,
-          Rows.sslice (Referent.rtF (Referent.fInt
-              Syntax.w16)) (Syntax.tyRef (Syntax.named 0) Syntax.imm (Syntax.tyInt Syntax.w16)) 0,
-        ) (List._∷_ (2, Rows.sc-here (Row.sInt Syntax.w64)) (List._∷_ (
-          3,
-          Mut.mslice (Referent.rtF (Referent.fInt
-              Syntax.w8)) (Syntax.tyRef (Syntax.named 1) Syntax.mut (Syntax.tyInt Syntax.w8)) 1,
-        ) (List._∷_ (4, Rows.sc-here Row.sBool) (List._∷_ (
-          5,
-          Rows.any-gone (Syntax.tyStruct (List._∷_ 98 (List._∷_
-              105 (List._∷_ 116 (List._∷_ 115 (List._∷_ 58 (List._∷_ 58 (List._∷_ 66 (List._∷_ 105 (List._∷_ 116 (List._∷_ 80 (List._∷_ 111 (List._∷_ 115 (List._∷_ 105 (List._∷_ 116 (List._∷_ 105 (List._∷_
-              111 (List._∷_ 110 List.[]))))))))))))))))) (Syntax.tcons (Syntax.tyInt Syntax.w64) Syntax.tnil)),
-        ) (List._∷_ (
-          6,
-          Relend.mslice-owed (Referent.rtF (Referent.fInt Syntax.w16)) (Syntax.tyRef
-              (Syntax.named 2) Syntax.mut (Syntax.tyInt Syntax.w16)) 2 5 (Row.lease (κs .1 .1 .0) (qs .1 .1 .0)),
-        ) (List._∷_ (
-          7,
-          Mut.mslice (Element.type) (Syntax.tyRef (Syntax.named 3) Syntax.mut
-              Element.behind) 3,
-        ) (List._∷_ (
-          8,
-          Rows.any-gone (Syntax.tyStruct (List._∷_ 98 (List._∷_ 108 (List._∷_ 111 (List._∷_ 99 (List._∷_ 107 (List._∷_ 58 (List._∷_ 58 (List._∷_ 70 (List._∷_ 111
-              (List._∷_ 114 (List._∷_ 109 List.[]))))))))))) (Syntax.tcons (Syntax.tyInt Syntax.w32) (Syntax.tcons Syntax.tyBool Syntax.tnil))),
-        ) (List._∷_ (9, Rows.sc-here (Row.sInt Syntax.w32)) (List._∷_
-            (10, Rows.sc-here Row.sBool) (List._∷_ (11, Rows.sc-here (Row.sInt Syntax.w64)) (List._∷_ (
-              12,
-              Rows.any-gone (Syntax.tyStruct (List._∷_ 113 (List._∷_ 117 (List._∷_ 97 (List._∷_ 110
-                  (List._∷_ 116 (List._∷_ 105 (List._∷_ 115 (List._∷_ 101 (List._∷_ 114 (List._∷_ 58 (List._∷_ 58 (List._∷_ 81 (List._∷_ 117 (List._∷_ 97 (List._∷_ 110 (List._∷_ 116 (List._∷_ 105 (List._∷_ 115
-                  (List._∷_ 101 (List._∷_ 114 List.[])))))))))))))))))))) (Syntax.tcons (Syntax.tyInt Syntax.w32) (Syntax.tcons (Syntax.tyInt Syntax.w32) (Syntax.tcons (Syntax.tyInt Syntax.w32) (Syntax.tcons
-                  (Syntax.tyInt Syntax.w32) (Syntax.tcons (Syntax.tyInt Syntax.w32) Syntax.tnil)))))),
-            ) (List._∷_ (13, Rows.sc-here (Row.sInt Syntax.w32)) (List._∷_ (14, Rows.sc-here (Row.sInt Syntax.w32))
-            (List._∷_ (15, Rows.whole (Declared'.row BitPosition.the-type)) List.[])))))))))))))))
+        g22 = List._∷_ e0 (List._∷_ e2 (List._∷_ e24 (List._∷_ e41 (List._∷_ e51 (List._∷_ e52 (List._∷_
+            (6, Relend.mslice-owed (Referent.rtF (Referent.fInt Syntax.w16)) (Syntax.tyRef (Syntax.named 2) Syntax.mut (Syntax.tyInt Syntax.w16)) 2 5 (Row.lease (κs .1 .1 .0) (qs .1 .1 .0))) (List._∷_ e56
+            (List._∷_ e57 (List._∷_ e60 (List._∷_ e4 (List._∷_ e6 (List._∷_ e7 (List._∷_ e10 (List._∷_ e12 (List._∷_ e14 List.[])))))))))))))))
 
         abbrev g27 : List.List Row.Entry
-        g27 = List._∷_ (
-          0,
-          Rows.any-gone (Syntax.tyEnum (List._∷_ 119 (List._∷_ 114 (List._∷_ 105 (List._∷_ 116 (List._∷_ 105 (List._∷_ 110 (List._∷_ 103 (List._∷_ 58 (List._∷_ 58 (List._∷_ 80
-              (List._∷_ 117 (List._∷_ 116 List.[])))))))))))) (Syntax.ttcons (Syntax.tcons (Syntax.tyStruct (List._∷_ 98 (List._∷_ 105 (List._∷_ 116 (List._∷_ 115 (List._∷_ 58 (List._∷_ 58 (List._∷_ 66
-              (List._∷_ 105 (List._∷_ 116 (List._∷_ 80 (List._∷_ 111 (List._∷_ 115 (List._∷_ 105 (List._∷_ 116 (List._∷_ 105 (List._∷_ 111 (List._∷_ 110 List.[]))))))))))))))))) (Syntax.tcons (Syntax.tyInt
-              Syntax.w64) Syntax.tnil)) Syntax.tnil) (Syntax.ttcons (Syntax.tcons (Syntax.tyInt Syntax.w64) Syntax.tnil) Syntax.ttnil))),
-        ) (List._∷_ (
-          1,
-          Rows.sslice (Referent.rtF (Referent.fInt
-              Syntax.w16)) (Syntax.tyRef (Syntax.named 0) Syntax.imm (Syntax.tyInt Syntax.w16)) 0,
-        ) (List._∷_ (2, Rows.sc-here (Row.sInt Syntax.w64)) (List._∷_ (
-          3,
-          Mut.mslice (Referent.rtF (Referent.fInt
-              Syntax.w8)) (Syntax.tyRef (Syntax.named 1) Syntax.mut (Syntax.tyInt Syntax.w8)) 1,
-        ) (List._∷_ (4, Rows.sc-here Row.sBool) (List._∷_ (
-          5,
-          Rows.any-gone (Syntax.tyStruct (List._∷_ 98 (List._∷_
-              105 (List._∷_ 116 (List._∷_ 115 (List._∷_ 58 (List._∷_ 58 (List._∷_ 66 (List._∷_ 105 (List._∷_ 116 (List._∷_ 80 (List._∷_ 111 (List._∷_ 115 (List._∷_ 105 (List._∷_ 116 (List._∷_ 105 (List._∷_
-              111 (List._∷_ 110 List.[]))))))))))))))))) (Syntax.tcons (Syntax.tyInt Syntax.w64) Syntax.tnil)),
-        ) (List._∷_ (
-          6,
-          Mut.mslice (Referent.rtF (Referent.fInt Syntax.w16)) (Syntax.tyRef
-              (Syntax.named 2) Syntax.mut (Syntax.tyInt Syntax.w16)) 2,
-        ) (List._∷_ (
-          7,
-          Relend.mslice-owed (Element.type) (Syntax.tyRef (Syntax.named 3) Syntax.mut Element.behind) 3 6 (Row.lease (κs .1 .1
-              .1 .0) (qs .1 .1 .1 .0)),
-        ) (List._∷_ (
-          8,
-          Rows.any-gone (Syntax.tyStruct (List._∷_ 98 (List._∷_ 108 (List._∷_ 111 (List._∷_ 99 (List._∷_ 107 (List._∷_ 58 (List._∷_ 58 (List._∷_ 70 (List._∷_
-              111 (List._∷_ 114 (List._∷_ 109 List.[]))))))))))) (Syntax.tcons (Syntax.tyInt Syntax.w32) (Syntax.tcons Syntax.tyBool Syntax.tnil))),
-        ) (List._∷_ (9, Rows.sc-here (Row.sInt Syntax.w32))
-            (List._∷_ (10, Rows.sc-here Row.sBool) (List._∷_ (11, Rows.sc-here (Row.sInt Syntax.w64)) (List._∷_ (
-              12,
-              Rows.any-gone (Syntax.tyStruct (List._∷_ 113 (List._∷_ 117 (List._∷_ 97 (List._∷_
-                  110 (List._∷_ 116 (List._∷_ 105 (List._∷_ 115 (List._∷_ 101 (List._∷_ 114 (List._∷_ 58 (List._∷_ 58 (List._∷_ 81 (List._∷_ 117 (List._∷_ 97 (List._∷_ 110 (List._∷_ 116 (List._∷_ 105 (List._∷_
-                  115 (List._∷_ 101 (List._∷_ 114 List.[])))))))))))))))))))) (Syntax.tcons (Syntax.tyInt Syntax.w32) (Syntax.tcons (Syntax.tyInt Syntax.w32) (Syntax.tcons (Syntax.tyInt Syntax.w32)
-                  (Syntax.tcons (Syntax.tyInt Syntax.w32) (Syntax.tcons (Syntax.tyInt Syntax.w32) Syntax.tnil)))))),
-            ) (List._∷_ (13, Rows.sc-here (Row.sInt Syntax.w32)) (List._∷_ (
-              14,
-              Rows.sc-here (Row.sInt
-                  Syntax.w32),
-            ) (List._∷_ (15, Rows.whole (Declared'.row BitPosition.the-type)) List.[])))))))))))))))
+        g27 = List._∷_ e0 (List._∷_ e2 (List._∷_ e24 (List._∷_ e41 (List._∷_ e51 (List._∷_ e52 (List._∷_ e54 (List._∷_
+            (7, Relend.mslice-owed (Element.type) (Syntax.tyRef (Syntax.named 3) Syntax.mut Element.behind) 3 6 (Row.lease (κs .1 .1 .1 .0) (qs .1 .1 .1 .0))) (List._∷_ e57 (List._∷_ e60 (List._∷_ e4
+            (List._∷_ e6 (List._∷_ e7 (List._∷_ e10 (List._∷_ e12 (List._∷_ e14 List.[])))))))))))))))
 
         abbrev g32 : List.List Row.Entry
-        g32 = List._∷_ (
-          0,
-          Rows.any-gone (Syntax.tyEnum (List._∷_ 119 (List._∷_ 114 (List._∷_ 105 (List._∷_ 116 (List._∷_ 105 (List._∷_ 110 (List._∷_ 103 (List._∷_ 58 (List._∷_ 58 (List._∷_ 80
-              (List._∷_ 117 (List._∷_ 116 List.[])))))))))))) (Syntax.ttcons (Syntax.tcons (Syntax.tyStruct (List._∷_ 98 (List._∷_ 105 (List._∷_ 116 (List._∷_ 115 (List._∷_ 58 (List._∷_ 58 (List._∷_ 66
-              (List._∷_ 105 (List._∷_ 116 (List._∷_ 80 (List._∷_ 111 (List._∷_ 115 (List._∷_ 105 (List._∷_ 116 (List._∷_ 105 (List._∷_ 111 (List._∷_ 110 List.[]))))))))))))))))) (Syntax.tcons (Syntax.tyInt
-              Syntax.w64) Syntax.tnil)) Syntax.tnil) (Syntax.ttcons (Syntax.tcons (Syntax.tyInt Syntax.w64) Syntax.tnil) Syntax.ttnil))),
-        ) (List._∷_ (
-          1,
-          Rows.sslice (Referent.rtF (Referent.fInt
-              Syntax.w16)) (Syntax.tyRef (Syntax.named 0) Syntax.imm (Syntax.tyInt Syntax.w16)) 0,
-        ) (List._∷_ (2, Rows.sc-here (Row.sInt Syntax.w64)) (List._∷_ (
-          3,
-          Relend.mslice-owed (Referent.rtF
-              (Referent.fInt Syntax.w8)) (Syntax.tyRef (Syntax.named 1) Syntax.mut (Syntax.tyInt Syntax.w8)) 1 7 (Row.lease (κs .1 .0) (qs .1 .0)),
-        ) (List._∷_ (4, Rows.sc-here Row.sBool) (List._∷_ (
-          5,
-          Rows.any-gone (Syntax.tyStruct (List._∷_ 98 (List._∷_ 105 (List._∷_ 116 (List._∷_ 115 (List._∷_ 58 (List._∷_ 58 (List._∷_ 66 (List._∷_ 105 (List._∷_ 116 (List._∷_ 80 (List._∷_ 111 (List._∷_
-              115 (List._∷_ 105 (List._∷_ 116 (List._∷_ 105 (List._∷_ 111 (List._∷_ 110 List.[]))))))))))))))))) (Syntax.tcons (Syntax.tyInt Syntax.w64) Syntax.tnil)),
-        ) (List._∷_ (
-          6,
-          Mut.mslice
-              (Referent.rtF (Referent.fInt Syntax.w16)) (Syntax.tyRef (Syntax.named 2) Syntax.mut (Syntax.tyInt Syntax.w16)) 2,
-        ) (List._∷_ (
-          7,
-          Mut.mslice (Element.type) (Syntax.tyRef (Syntax.named 3)
-              Syntax.mut Element.behind) 3,
-        ) (List._∷_ (
-          8,
-          Rows.any-gone (Syntax.tyStruct (List._∷_ 98 (List._∷_ 108 (List._∷_ 111 (List._∷_ 99 (List._∷_ 107 (List._∷_ 58 (List._∷_ 58 (List._∷_ 70
-              (List._∷_ 111 (List._∷_ 114 (List._∷_ 109 List.[]))))))))))) (Syntax.tcons (Syntax.tyInt Syntax.w32) (Syntax.tcons Syntax.tyBool Syntax.tnil))),
-        ) (List._∷_ (
-          9,
-          Rows.sc-here (Row.sInt
-              Syntax.w32),
-        ) (List._∷_ (10, Rows.sc-here Row.sBool) (List._∷_ (11, Rows.sc-here (Row.sInt Syntax.w64)) (List._∷_ (
-          12,
-          Rows.any-gone (Syntax.tyStruct (List._∷_ 113 (List._∷_ 117 (List._∷_
-              97 (List._∷_ 110 (List._∷_ 116 (List._∷_ 105 (List._∷_ 115 (List._∷_ 101 (List._∷_ 114 (List._∷_ 58 (List._∷_ 58 (List._∷_ 81 (List._∷_ 117 (List._∷_ 97 (List._∷_ 110 (List._∷_ 116 (List._∷_
-              105 (List._∷_ 115 (List._∷_ 101 (List._∷_ 114 List.[])))))))))))))))))))) (Syntax.tcons (Syntax.tyInt Syntax.w32) (Syntax.tcons (Syntax.tyInt Syntax.w32) (Syntax.tcons (Syntax.tyInt
-              Syntax.w32) (Syntax.tcons (Syntax.tyInt Syntax.w32) (Syntax.tcons (Syntax.tyInt Syntax.w32) Syntax.tnil)))))),
-        ) (List._∷_ (13, Rows.sc-here (Row.sInt Syntax.w32)) (List._∷_ (
-          14,
-          Rows.sc-here
-              (Row.sInt Syntax.w32),
-        ) (List._∷_ (15, Rows.whole (Declared'.row BitPosition.the-type)) List.[])))))))))))))))
+        g32 = List._∷_ e0 (List._∷_ e2 (List._∷_ e24 (List._∷_
+            (3, Relend.mslice-owed (Referent.rtF (Referent.fInt Syntax.w8)) (Syntax.tyRef (Syntax.named 1) Syntax.mut (Syntax.tyInt Syntax.w8)) 1 7 (Row.lease (κs .1 .0) (qs .1 .0))) (List._∷_ e51
+            (List._∷_ e52 (List._∷_ e54 (List._∷_ e56 (List._∷_ e57 (List._∷_ e60 (List._∷_ e4 (List._∷_ e6 (List._∷_ e7 (List._∷_ e10 (List._∷_ e12 (List._∷_ e14 List.[])))))))))))))))
 
         abbrev g35 : List.List Row.Entry
-        g35 = List._∷_ (
-          0,
-          Rows.any-gone (Syntax.tyEnum (List._∷_ 119 (List._∷_ 114 (List._∷_ 105 (List._∷_ 116 (List._∷_ 105 (List._∷_ 110 (List._∷_ 103 (List._∷_ 58 (List._∷_ 58 (List._∷_ 80
-              (List._∷_ 117 (List._∷_ 116 List.[])))))))))))) (Syntax.ttcons (Syntax.tcons (Syntax.tyStruct (List._∷_ 98 (List._∷_ 105 (List._∷_ 116 (List._∷_ 115 (List._∷_ 58 (List._∷_ 58 (List._∷_ 66
-              (List._∷_ 105 (List._∷_ 116 (List._∷_ 80 (List._∷_ 111 (List._∷_ 115 (List._∷_ 105 (List._∷_ 116 (List._∷_ 105 (List._∷_ 111 (List._∷_ 110 List.[]))))))))))))))))) (Syntax.tcons (Syntax.tyInt
-              Syntax.w64) Syntax.tnil)) Syntax.tnil) (Syntax.ttcons (Syntax.tcons (Syntax.tyInt Syntax.w64) Syntax.tnil) Syntax.ttnil))),
-        ) (List._∷_ (
-          1,
-          Rows.sslice (Referent.rtF (Referent.fInt
-              Syntax.w16)) (Syntax.tyRef (Syntax.named 0) Syntax.imm (Syntax.tyInt Syntax.w16)) 0,
-        ) (List._∷_ (2, Rows.sc-here (Row.sInt Syntax.w64)) (List._∷_ (
-          3,
-          Relend.mslice-owed (Referent.rtF
-              (Referent.fInt Syntax.w8)) (Syntax.tyRef (Syntax.named 1) Syntax.mut (Syntax.tyInt Syntax.w8)) 1 7 (Row.lease (κs .1 .0) (qs .1 .0)),
-        ) (List._∷_ (4, Rows.sc-here Row.sBool) (List._∷_ (
-          5,
-          Rows.any-gone (Syntax.tyStruct (List._∷_ 98 (List._∷_ 105 (List._∷_ 116 (List._∷_ 115 (List._∷_ 58 (List._∷_ 58 (List._∷_ 66 (List._∷_ 105 (List._∷_ 116 (List._∷_ 80 (List._∷_ 111 (List._∷_
-              115 (List._∷_ 105 (List._∷_ 116 (List._∷_ 105 (List._∷_ 111 (List._∷_ 110 List.[]))))))))))))))))) (Syntax.tcons (Syntax.tyInt Syntax.w64) Syntax.tnil)),
-        ) (List._∷_ (
-          6,
-          Relend.mslice-owed
-              (Referent.rtF (Referent.fInt Syntax.w16)) (Syntax.tyRef (Syntax.named 2) Syntax.mut (Syntax.tyInt Syntax.w16)) 2 8 (Row.lease (κs .1 .1 .0) (qs .1 .1 .0)),
-        ) (List._∷_ (
-          7,
-          Mut.mslice
-              (Element.type) (Syntax.tyRef (Syntax.named 3) Syntax.mut Element.behind) 3,
-        ) (List._∷_ (
-          8,
-          Rows.any-gone (Syntax.tyStruct (List._∷_ 98 (List._∷_ 108 (List._∷_ 111 (List._∷_ 99 (List._∷_ 107
-              (List._∷_ 58 (List._∷_ 58 (List._∷_ 70 (List._∷_ 111 (List._∷_ 114 (List._∷_ 109 List.[]))))))))))) (Syntax.tcons (Syntax.tyInt Syntax.w32) (Syntax.tcons Syntax.tyBool Syntax.tnil))),
-        )
-            (List._∷_ (9, Rows.sc-here (Row.sInt Syntax.w32)) (List._∷_ (10, Rows.sc-here Row.sBool) (List._∷_ (11, Rows.sc-here (Row.sInt Syntax.w64)) (List._∷_ (
-              12,
-              Rows.any-gone (Syntax.tyStruct
-                  (List._∷_ 113 (List._∷_ 117 (List._∷_ 97 (List._∷_ 110 (List._∷_ 116 (List._∷_ 105 (List._∷_ 115 (List._∷_ 101 (List._∷_ 114 (List._∷_ 58 (List._∷_ 58 (List._∷_ 81 (List._∷_ 117 (List._∷_ 97
-                  (List._∷_ 110 (List._∷_ 116 (List._∷_ 105 (List._∷_ 115 (List._∷_ 101 (List._∷_ 114 List.[])))))))))))))))))))) (Syntax.tcons (Syntax.tyInt Syntax.w32) (Syntax.tcons (Syntax.tyInt Syntax.w32)
-                  (Syntax.tcons (Syntax.tyInt Syntax.w32) (Syntax.tcons (Syntax.tyInt Syntax.w32) (Syntax.tcons (Syntax.tyInt Syntax.w32) Syntax.tnil)))))),
-            ) (List._∷_ (13, Rows.sc-here (Row.sInt Syntax.w32))
-            (List._∷_ (14, Rows.sc-here (Row.sInt Syntax.w32)) (List._∷_ (15, Rows.whole (Declared'.row BitPosition.the-type)) List.[])))))))))))))))
+        g35 = List._∷_ e0 (List._∷_ e2 (List._∷_ e24 (List._∷_
+            (3, Relend.mslice-owed (Referent.rtF (Referent.fInt Syntax.w8)) (Syntax.tyRef (Syntax.named 1) Syntax.mut (Syntax.tyInt Syntax.w8)) 1 7 (Row.lease (κs .1 .0) (qs .1 .0))) (List._∷_ e51
+            (List._∷_ e52 (List._∷_
+            (6, Relend.mslice-owed (Referent.rtF (Referent.fInt Syntax.w16)) (Syntax.tyRef (Syntax.named 2) Syntax.mut (Syntax.tyInt Syntax.w16)) 2 8 (Row.lease (κs .1 .1 .0) (qs .1 .1 .0))) (List._∷_ e56
+            (List._∷_ e57 (List._∷_ e60 (List._∷_ e4 (List._∷_ e6 (List._∷_ e7 (List._∷_ e10 (List._∷_ e12 (List._∷_ e14 List.[])))))))))))))))
 
         abbrev g40 : List.List Row.Entry
-        g40 = List._∷_ (
-          0,
-          Rows.any-gone (Syntax.tyEnum (List._∷_ 119 (List._∷_ 114 (List._∷_ 105 (List._∷_ 116 (List._∷_ 105 (List._∷_ 110 (List._∷_ 103 (List._∷_ 58 (List._∷_ 58 (List._∷_ 80
-              (List._∷_ 117 (List._∷_ 116 List.[])))))))))))) (Syntax.ttcons (Syntax.tcons (Syntax.tyStruct (List._∷_ 98 (List._∷_ 105 (List._∷_ 116 (List._∷_ 115 (List._∷_ 58 (List._∷_ 58 (List._∷_ 66
-              (List._∷_ 105 (List._∷_ 116 (List._∷_ 80 (List._∷_ 111 (List._∷_ 115 (List._∷_ 105 (List._∷_ 116 (List._∷_ 105 (List._∷_ 111 (List._∷_ 110 List.[]))))))))))))))))) (Syntax.tcons (Syntax.tyInt
-              Syntax.w64) Syntax.tnil)) Syntax.tnil) (Syntax.ttcons (Syntax.tcons (Syntax.tyInt Syntax.w64) Syntax.tnil) Syntax.ttnil))),
-        ) (List._∷_ (
-          1,
-          Rows.sslice (Referent.rtF (Referent.fInt
-              Syntax.w16)) (Syntax.tyRef (Syntax.named 0) Syntax.imm (Syntax.tyInt Syntax.w16)) 0,
-        ) (List._∷_ (2, Rows.sc-here (Row.sInt Syntax.w64)) (List._∷_ (
-          3,
-          Relend.mslice-owed (Referent.rtF
-              (Referent.fInt Syntax.w8)) (Syntax.tyRef (Syntax.named 1) Syntax.mut (Syntax.tyInt Syntax.w8)) 1 7 (Row.lease (κs .1 .0) (qs .1 .0)),
-        ) (List._∷_ (4, Rows.sc-here Row.sBool) (List._∷_ (
-          5,
-          Rows.any-gone (Syntax.tyStruct (List._∷_ 98 (List._∷_ 105 (List._∷_ 116 (List._∷_ 115 (List._∷_ 58 (List._∷_ 58 (List._∷_ 66 (List._∷_ 105 (List._∷_ 116 (List._∷_ 80 (List._∷_ 111 (List._∷_
-              115 (List._∷_ 105 (List._∷_ 116 (List._∷_ 105 (List._∷_ 111 (List._∷_ 110 List.[]))))))))))))))))) (Syntax.tcons (Syntax.tyInt Syntax.w64) Syntax.tnil)),
-        ) (List._∷_ (
-          6,
-          Relend.mslice-owed
-              (Referent.rtF (Referent.fInt Syntax.w16)) (Syntax.tyRef (Syntax.named 2) Syntax.mut (Syntax.tyInt Syntax.w16)) 2 8 (Row.lease (κs .1 .1 .0) (qs .1 .1 .0)),
-        ) (List._∷_ (
-          7,
-          Mut.mslice
-              (Element.type) (Syntax.tyRef (Syntax.named 3) Syntax.mut Element.behind) 3,
-        ) (List._∷_ (
-          8,
-          Rows.any-gone (Syntax.tyStruct (List._∷_ 98 (List._∷_ 108 (List._∷_ 111 (List._∷_ 99 (List._∷_ 107
-              (List._∷_ 58 (List._∷_ 58 (List._∷_ 70 (List._∷_ 111 (List._∷_ 114 (List._∷_ 109 List.[]))))))))))) (Syntax.tcons (Syntax.tyInt Syntax.w32) (Syntax.tcons Syntax.tyBool Syntax.tnil))),
-        )
-            (List._∷_ (9, Rows.sc-here (Row.sInt Syntax.w32)) (List._∷_ (10, Rows.sc-here Row.sBool) (List._∷_ (11, Rows.sc-here (Row.sInt Syntax.w64)) (List._∷_ (
-              12,
-              Rows.any-gone (Syntax.tyStruct
-                  (List._∷_ 113 (List._∷_ 117 (List._∷_ 97 (List._∷_ 110 (List._∷_ 116 (List._∷_ 105 (List._∷_ 115 (List._∷_ 101 (List._∷_ 114 (List._∷_ 58 (List._∷_ 58 (List._∷_ 81 (List._∷_ 117 (List._∷_ 97
-                  (List._∷_ 110 (List._∷_ 116 (List._∷_ 105 (List._∷_ 115 (List._∷_ 101 (List._∷_ 114 List.[])))))))))))))))))))) (Syntax.tcons (Syntax.tyInt Syntax.w32) (Syntax.tcons (Syntax.tyInt Syntax.w32)
-                  (Syntax.tcons (Syntax.tyInt Syntax.w32) (Syntax.tcons (Syntax.tyInt Syntax.w32) (Syntax.tcons (Syntax.tyInt Syntax.w32) Syntax.tnil)))))),
-            ) (List._∷_ (13, Rows.sc-here (Row.sInt Syntax.w32))
-            (List._∷_ (14, Rows.sc-here (Row.sInt Syntax.w32)) (List._∷_ (
-              15,
-              Rows.any-gone (Syntax.tyStruct (List._∷_ 98 (List._∷_ 105 (List._∷_ 116 (List._∷_ 115 (List._∷_ 58 (List._∷_ 58 (List._∷_
-                  66 (List._∷_ 105 (List._∷_ 116 (List._∷_ 80 (List._∷_ 111 (List._∷_ 115 (List._∷_ 105 (List._∷_ 116 (List._∷_ 105 (List._∷_ 111 (List._∷_ 110 List.[]))))))))))))))))) (Syntax.tcons
-                  (Syntax.tyInt Syntax.w64) Syntax.tnil)),
-            ) List.[])))))))))))))))
+        g40 = List._∷_ e0 (List._∷_ e2 (List._∷_ e24 (List._∷_
+            (3, Relend.mslice-owed (Referent.rtF (Referent.fInt Syntax.w8)) (Syntax.tyRef (Syntax.named 1) Syntax.mut (Syntax.tyInt Syntax.w8)) 1 7 (Row.lease (κs .1 .0) (qs .1 .0))) (List._∷_ e51
+            (List._∷_ e52 (List._∷_
+            (6, Relend.mslice-owed (Referent.rtF (Referent.fInt Syntax.w16)) (Syntax.tyRef (Syntax.named 2) Syntax.mut (Syntax.tyInt Syntax.w16)) 2 8 (Row.lease (κs .1 .1 .0) (qs .1 .1 .0))) (List._∷_ e56
+            (List._∷_ e57 (List._∷_ e60 (List._∷_ e4 (List._∷_ e6 (List._∷_ e7 (List._∷_ e10 (List._∷_ e12 (List._∷_ e13 List.[])))))))))))))))
 
         abbrev g42 : List.List Row.Entry
-        g42 = List._∷_ (
-          0,
-          Rows.any-gone (Syntax.tyEnum (List._∷_ 119 (List._∷_ 114 (List._∷_ 105 (List._∷_ 116 (List._∷_ 105 (List._∷_ 110 (List._∷_ 103 (List._∷_ 58 (List._∷_ 58 (List._∷_ 80
-              (List._∷_ 117 (List._∷_ 116 List.[])))))))))))) (Syntax.ttcons (Syntax.tcons (Syntax.tyStruct (List._∷_ 98 (List._∷_ 105 (List._∷_ 116 (List._∷_ 115 (List._∷_ 58 (List._∷_ 58 (List._∷_ 66
-              (List._∷_ 105 (List._∷_ 116 (List._∷_ 80 (List._∷_ 111 (List._∷_ 115 (List._∷_ 105 (List._∷_ 116 (List._∷_ 105 (List._∷_ 111 (List._∷_ 110 List.[]))))))))))))))))) (Syntax.tcons (Syntax.tyInt
-              Syntax.w64) Syntax.tnil)) Syntax.tnil) (Syntax.ttcons (Syntax.tcons (Syntax.tyInt Syntax.w64) Syntax.tnil) Syntax.ttnil))),
-        ) (List._∷_ (
-          1,
-          Rows.sslice (Referent.rtF (Referent.fInt
-              Syntax.w16)) (Syntax.tyRef (Syntax.named 0) Syntax.imm (Syntax.tyInt Syntax.w16)) 0,
-        ) (List._∷_ (2, Rows.sc-here (Row.sInt Syntax.w64)) (List._∷_ (
-          3,
-          Mut.mslice (Referent.rtF (Referent.fInt
-              Syntax.w8)) (Syntax.tyRef (Syntax.named 1) Syntax.mut (Syntax.tyInt Syntax.w8)) 1,
-        ) (List._∷_ (4, Rows.sc-here Row.sBool) (List._∷_ (
-          5,
-          Rows.any-gone (Syntax.tyStruct (List._∷_ 98 (List._∷_
-              105 (List._∷_ 116 (List._∷_ 115 (List._∷_ 58 (List._∷_ 58 (List._∷_ 66 (List._∷_ 105 (List._∷_ 116 (List._∷_ 80 (List._∷_ 111 (List._∷_ 115 (List._∷_ 105 (List._∷_ 116 (List._∷_ 105 (List._∷_
-              111 (List._∷_ 110 List.[]))))))))))))))))) (Syntax.tcons (Syntax.tyInt Syntax.w64) Syntax.tnil)),
-        ) (List._∷_ (
-          6,
-          Relend.mslice-owed (Referent.rtF (Referent.fInt Syntax.w16)) (Syntax.tyRef
-              (Syntax.named 2) Syntax.mut (Syntax.tyInt Syntax.w16)) 2 8 (Row.lease (κs .1 .1 .0) (qs .1 .1 .0)),
-        ) (List._∷_ (
-          7,
-          Mut.mslice (Element.type) (Syntax.tyRef (Syntax.named 3) Syntax.mut
-              Element.behind) 3,
-        ) (List._∷_ (
-          8,
-          Rows.any-gone (Syntax.tyStruct (List._∷_ 98 (List._∷_ 108 (List._∷_ 111 (List._∷_ 99 (List._∷_ 107 (List._∷_ 58 (List._∷_ 58 (List._∷_ 70 (List._∷_ 111
-              (List._∷_ 114 (List._∷_ 109 List.[]))))))))))) (Syntax.tcons (Syntax.tyInt Syntax.w32) (Syntax.tcons Syntax.tyBool Syntax.tnil))),
-        ) (List._∷_ (9, Rows.sc-here (Row.sInt Syntax.w32)) (List._∷_
-            (10, Rows.sc-here Row.sBool) (List._∷_ (11, Rows.sc-here (Row.sInt Syntax.w64)) (List._∷_ (
-              12,
-              Rows.any-gone (Syntax.tyStruct (List._∷_ 113 (List._∷_ 117 (List._∷_ 97 (List._∷_ 110
-                  (List._∷_ 116 (List._∷_ 105 (List._∷_ 115 (List._∷_ 101 (List._∷_ 114 (List._∷_ 58 (List._∷_ 58 (List._∷_ 81 (List._∷_ 117 (List._∷_ 97 (List._∷_ 110 (List._∷_ 116 (List._∷_ 105 (List._∷_ 115
-                  (List._∷_ 101 (List._∷_ 114 List.[])))))))))))))))))))) (Syntax.tcons (Syntax.tyInt Syntax.w32) (Syntax.tcons (Syntax.tyInt Syntax.w32) (Syntax.tcons (Syntax.tyInt Syntax.w32) (Syntax.tcons
-                  (Syntax.tyInt Syntax.w32) (Syntax.tcons (Syntax.tyInt Syntax.w32) Syntax.tnil)))))),
-            ) (List._∷_ (13, Rows.sc-here (Row.sInt Syntax.w32)) (List._∷_ (14, Rows.sc-here (Row.sInt Syntax.w32))
-            (List._∷_ (
-              15,
-              Rows.any-gone (Syntax.tyStruct (List._∷_ 98 (List._∷_ 105 (List._∷_ 116 (List._∷_ 115 (List._∷_ 58 (List._∷_ 58 (List._∷_ 66 (List._∷_ 105 (List._∷_ 116 (List._∷_ 80 (List._∷_
-                  111 (List._∷_ 115 (List._∷_ 105 (List._∷_ 116 (List._∷_ 105 (List._∷_ 111 (List._∷_ 110 List.[]))))))))))))))))) (Syntax.tcons (Syntax.tyInt Syntax.w64) Syntax.tnil)),
-            ) List.[])))))))))))))))
+        g42 = List._∷_ e0 (List._∷_ e2 (List._∷_ e24 (List._∷_ e41 (List._∷_ e51 (List._∷_ e52 (List._∷_
+            (6, Relend.mslice-owed (Referent.rtF (Referent.fInt Syntax.w16)) (Syntax.tyRef (Syntax.named 2) Syntax.mut (Syntax.tyInt Syntax.w16)) 2 8 (Row.lease (κs .1 .1 .0) (qs .1 .1 .0))) (List._∷_ e56
+            (List._∷_ e57 (List._∷_ e60 (List._∷_ e4 (List._∷_ e6 (List._∷_ e7 (List._∷_ e10 (List._∷_ e12 (List._∷_ e13 List.[])))))))))))))))
 
         abbrev g59 : List.List Row.Entry
-        g59 = List._∷_ (
-          0,
-          Rows.any-gone (Syntax.tyEnum (List._∷_ 119 (List._∷_ 114 (List._∷_ 105 (List._∷_ 116 (List._∷_ 105 (List._∷_ 110 (List._∷_ 103 (List._∷_ 58 (List._∷_ 58 (List._∷_ 80
-              (List._∷_ 117 (List._∷_ 116 List.[])))))))))))) (Syntax.ttcons (Syntax.tcons (Syntax.tyStruct (List._∷_ 98 (List._∷_ 105 (List._∷_ 116 (List._∷_ 115 (List._∷_ 58 (List._∷_ 58 (List._∷_ 66
-              (List._∷_ 105 (List._∷_ 116 (List._∷_ 80 (List._∷_ 111 (List._∷_ 115 (List._∷_ 105 (List._∷_ 116 (List._∷_ 105 (List._∷_ 111 (List._∷_ 110 List.[]))))))))))))))))) (Syntax.tcons (Syntax.tyInt
-              Syntax.w64) Syntax.tnil)) Syntax.tnil) (Syntax.ttcons (Syntax.tcons (Syntax.tyInt Syntax.w64) Syntax.tnil) Syntax.ttnil))),
-        ) (List._∷_ (
-          1,
-          Rows.sslice (Referent.rtF (Referent.fInt
-              Syntax.w16)) (Syntax.tyRef (Syntax.named 0) Syntax.imm (Syntax.tyInt Syntax.w16)) 0,
-        ) (List._∷_ (2, Rows.sc-here (Row.sInt Syntax.w64)) (List._∷_ (
-          3,
-          Mut.mslice (Referent.rtF (Referent.fInt
-              Syntax.w8)) (Syntax.tyRef (Syntax.named 1) Syntax.mut (Syntax.tyInt Syntax.w8)) 1,
-        ) (List._∷_ (4, Rows.sc-here Row.sBool) (List._∷_ (
-          5,
-          Rows.any-gone (Syntax.tyStruct (List._∷_ 98 (List._∷_
-              105 (List._∷_ 116 (List._∷_ 115 (List._∷_ 58 (List._∷_ 58 (List._∷_ 66 (List._∷_ 105 (List._∷_ 116 (List._∷_ 80 (List._∷_ 111 (List._∷_ 115 (List._∷_ 105 (List._∷_ 116 (List._∷_ 105 (List._∷_
-              111 (List._∷_ 110 List.[]))))))))))))))))) (Syntax.tcons (Syntax.tyInt Syntax.w64) Syntax.tnil)),
-        ) (List._∷_ (
-          6,
-          Mut.mslice (Referent.rtF (Referent.fInt Syntax.w16)) (Syntax.tyRef
-              (Syntax.named 2) Syntax.mut (Syntax.tyInt Syntax.w16)) 2,
-        ) (List._∷_ (
-          7,
-          Relend.mslice-owed (Element.type) (Syntax.tyRef (Syntax.named 3) Syntax.mut Element.behind) 3 9 (Row.lease (κs .1 .1
-              .1 .0) (qs .1 .1 .1 .0)),
-        ) (List._∷_ (
-          8,
-          Rows.any-gone (Syntax.tyStruct (List._∷_ 98 (List._∷_ 108 (List._∷_ 111 (List._∷_ 99 (List._∷_ 107 (List._∷_ 58 (List._∷_ 58 (List._∷_ 70 (List._∷_
-              111 (List._∷_ 114 (List._∷_ 109 List.[]))))))))))) (Syntax.tcons (Syntax.tyInt Syntax.w32) (Syntax.tcons Syntax.tyBool Syntax.tnil))),
-        ) (List._∷_ (9, Rows.sc-here (Row.sInt Syntax.w32))
-            (List._∷_ (10, Rows.sc-here Row.sBool) (List._∷_ (11, Rows.sc-here (Row.sInt Syntax.w64)) (List._∷_ (
-              12,
-              Rows.any-gone (Syntax.tyStruct (List._∷_ 113 (List._∷_ 117 (List._∷_ 97 (List._∷_
-                  110 (List._∷_ 116 (List._∷_ 105 (List._∷_ 115 (List._∷_ 101 (List._∷_ 114 (List._∷_ 58 (List._∷_ 58 (List._∷_ 81 (List._∷_ 117 (List._∷_ 97 (List._∷_ 110 (List._∷_ 116 (List._∷_ 105 (List._∷_
-                  115 (List._∷_ 101 (List._∷_ 114 List.[])))))))))))))))))))) (Syntax.tcons (Syntax.tyInt Syntax.w32) (Syntax.tcons (Syntax.tyInt Syntax.w32) (Syntax.tcons (Syntax.tyInt Syntax.w32)
-                  (Syntax.tcons (Syntax.tyInt Syntax.w32) (Syntax.tcons (Syntax.tyInt Syntax.w32) Syntax.tnil)))))),
-            ) (List._∷_ (13, Rows.sc-here (Row.sInt Syntax.w32)) (List._∷_ (
-              14,
-              Rows.sc-here (Row.sInt
-                  Syntax.w32),
-            ) (List._∷_ (
-              15,
-              Rows.any-gone (Syntax.tyStruct (List._∷_ 98 (List._∷_ 105 (List._∷_ 116 (List._∷_ 115 (List._∷_ 58 (List._∷_ 58 (List._∷_ 66 (List._∷_ 105 (List._∷_ 116
-                  (List._∷_ 80 (List._∷_ 111 (List._∷_ 115 (List._∷_ 105 (List._∷_ 116 (List._∷_ 105 (List._∷_ 111 (List._∷_ 110 List.[]))))))))))))))))) (Syntax.tcons (Syntax.tyInt Syntax.w64) Syntax.tnil)),
-            )
-            List.[])))))))))))))))
+        g59 = List._∷_ e0 (List._∷_ e2 (List._∷_ e24 (List._∷_ e41 (List._∷_ e51 (List._∷_ e52 (List._∷_ e54 (List._∷_
+            (7, Relend.mslice-owed (Element.type) (Syntax.tyRef (Syntax.named 3) Syntax.mut Element.behind) 3 9 (Row.lease (κs .1 .1 .1 .0) (qs .1 .1 .1 .0))) (List._∷_ e57 (List._∷_ e60 (List._∷_ e4
+            (List._∷_ e6 (List._∷_ e7 (List._∷_ e10 (List._∷_ e12 (List._∷_ e13 List.[])))))))))))))))
 
         abbrev G0 : Row.Cx
         G0 = record {
           locals = List._++_ t0 (List._++_ t1 t2);
-          slots = List._∷_ (Row.lease (κs .0) (qs .0)) (List._∷_ (Row.lease (κs .1 .0) (qs .1 .0)) (List._∷_ (Row.lease (κs .1 .1 .0) (qs .1 .1
-              .0)) (List._∷_ (Row.lease (κs .1 .1 .1 .0) (qs .1 .1 .1 .0)) (List._∷_ Row.off (List._∷_ Row.off (List._∷_ Row.off (List._∷_ Row.off (List._∷_ Row.off (List._∷_ Row.off List.[])))))))));
+          slots = List._∷_ (Row.lease (κs .0) (qs .0)) (List._∷_ (Row.lease (κs .1 .0) (qs .1 .0)) (List._∷_ (Row.lease (κs .1 .1 .0) (qs .1 .1 .0)) (List._∷_
+              (Row.lease (κs .1 .1 .1 .0) (qs .1 .1 .1 .0)) (List._∷_ Row.off (List._∷_ Row.off (List._∷_ Row.off (List._∷_ Row.off (List._∷_ Row.off (List._∷_ Row.off List.[])))))))));
         }
 
         abbrev G1 : Row.Cx
         G1 = record {
           locals = List._++_ t3 (List._++_ t1 t2);
-          slots = List._∷_ (Row.lease (κs .0) (qs .0)) (List._∷_ (Row.lease (κs .1 .0) (qs .1 .0)) (List._∷_ (Row.lease (κs .1 .1 .0) (qs .1 .1
-              .0)) (List._∷_ (Row.lease (κs .1 .1 .1 .0) (qs .1 .1 .1 .0)) (List._∷_ Row.off (List._∷_ Row.off (List._∷_ Row.off (List._∷_ Row.off (List._∷_ Row.off (List._∷_ Row.off List.[])))))))));
+          slots = List._∷_ (Row.lease (κs .0) (qs .0)) (List._∷_ (Row.lease (κs .1 .0) (qs .1 .0)) (List._∷_ (Row.lease (κs .1 .1 .0) (qs .1 .1 .0)) (List._∷_
+              (Row.lease (κs .1 .1 .1 .0) (qs .1 .1 .1 .0)) (List._∷_ Row.off (List._∷_ Row.off (List._∷_ Row.off (List._∷_ Row.off (List._∷_ Row.off (List._∷_ Row.off List.[])))))))));
         }
 
         abbrev G2 : Row.Cx
         G2 = record {
           locals = List._++_ t0 (List._++_ t1 t2);
-          slots = List._∷_ (Row.lease (κs .0) (qs .0)) (List._∷_ (Row.lease (κs .1 .0) (qs .1 .0)) (List._∷_ (Row.lease (κs .1 .1 .0) (qs .1 .1
-              .0)) (List._∷_ (Row.lease (κs .1 .1 .1 .0) (qs .1 .1 .1 .0)) (List._∷_ Row.off (List._∷_ Row.off (List._∷_ Row.off (List._∷_ Row.off (List._∷_ Row.off (List._∷_ Row.off List.[])))))))));
+          slots = List._∷_ (Row.lease (κs .0) (qs .0)) (List._∷_ (Row.lease (κs .1 .0) (qs .1 .0)) (List._∷_ (Row.lease (κs .1 .1 .0) (qs .1 .1 .0)) (List._∷_
+              (Row.lease (κs .1 .1 .1 .0) (qs .1 .1 .1 .0)) (List._∷_ Row.off (List._∷_ Row.off (List._∷_ Row.off (List._∷_ Row.off (List._∷_ Row.off (List._∷_ Row.off List.[])))))))));
         }
 
         abbrev G3 : Row.Cx
         G3 = record {
           locals = List._++_ t0 (List._++_ t1 t2);
-          slots = List._∷_ (Row.lease (κs .0) (qs .0)) (List._∷_ (Row.lease (κs .1 .0) (qs .1 .0)) (List._∷_ (Row.lease (κs .1 .1 .0) (qs .1 .1
-              .0)) (List._∷_ (Row.lease (κs .1 .1 .1 .0) (qs .1 .1 .1 .0)) (List._∷_ Row.off (List._∷_ Row.off (List._∷_ Row.off (List._∷_ Row.off (List._∷_ Row.off (List._∷_ Row.off List.[])))))))));
+          slots = List._∷_ (Row.lease (κs .0) (qs .0)) (List._∷_ (Row.lease (κs .1 .0) (qs .1 .0)) (List._∷_ (Row.lease (κs .1 .1 .0) (qs .1 .1 .0)) (List._∷_
+              (Row.lease (κs .1 .1 .1 .0) (qs .1 .1 .1 .0)) (List._∷_ Row.off (List._∷_ Row.off (List._∷_ Row.off (List._∷_ Row.off (List._∷_ Row.off (List._∷_ Row.off List.[])))))))));
         }
 
         abbrev G4 : Row.Cx
         G4 = record {
           locals = List._++_ t0 (List._++_ t1 t2);
-          slots = List._∷_ (Row.lease (κs .0) (qs .0)) (List._∷_ (Row.lease (κs .1 .0) (qs .1 .0)) (List._∷_ (Row.lease (κs .1 .1 .0) (qs .1 .1
-              .0)) (List._∷_ (Row.lease (κs .1 .1 .1 .0) (qs .1 .1 .1 .0)) (List._∷_ Row.off (List._∷_ Row.off (List._∷_ Row.off (List._∷_ Row.off (List._∷_ Row.off (List._∷_ Row.off List.[])))))))));
+          slots = List._∷_ (Row.lease (κs .0) (qs .0)) (List._∷_ (Row.lease (κs .1 .0) (qs .1 .0)) (List._∷_ (Row.lease (κs .1 .1 .0) (qs .1 .1 .0)) (List._∷_
+              (Row.lease (κs .1 .1 .1 .0) (qs .1 .1 .1 .0)) (List._∷_ Row.off (List._∷_ Row.off (List._∷_ Row.off (List._∷_ Row.off (List._∷_ Row.off (List._∷_ Row.off List.[])))))))));
         }
 
         abbrev G5 : Row.Cx
         G5 = record {
           locals = List._++_ t4 (List._++_ t1 t2);
-          slots = List._∷_ (Row.lease (κs .0) (qs .0)) (List._∷_ (Row.lease (κs .1 .0) (qs .1 .0)) (List._∷_ (Row.lease (κs .1 .1 .0) (qs .1 .1
-              .0)) (List._∷_ (Row.lease (κs .1 .1 .1 .0) (qs .1 .1 .1 .0)) (List._∷_ Row.off (List._∷_ Row.off (List._∷_ Row.off (List._∷_ Row.off (List._∷_ Row.off (List._∷_ Row.off List.[])))))))));
+          slots = List._∷_ (Row.lease (κs .0) (qs .0)) (List._∷_ (Row.lease (κs .1 .0) (qs .1 .0)) (List._∷_ (Row.lease (κs .1 .1 .0) (qs .1 .1 .0)) (List._∷_
+              (Row.lease (κs .1 .1 .1 .0) (qs .1 .1 .1 .0)) (List._∷_ Row.off (List._∷_ Row.off (List._∷_ Row.off (List._∷_ Row.off (List._∷_ Row.off (List._∷_ Row.off List.[])))))))));
         }
 
         abbrev G6 : Row.Cx
         G6 = record {
           locals = List._++_ t5 (List._++_ t1 t2);
-          slots = List._∷_ (Row.lease (κs .0) (qs .0)) (List._∷_ (Row.lease (κs .1 .0) (qs .1 .0)) (List._∷_ (Row.lease (κs .1 .1 .0) (qs .1 .1
-              .0)) (List._∷_ (Row.lease (κs .1 .1 .1 .0) (qs .1 .1 .1 .0)) (List._∷_ Row.off (List._∷_ Row.off (List._∷_ Row.off (List._∷_ Row.off (List._∷_ Row.off (List._∷_ Row.off List.[])))))))));
+          slots = List._∷_ (Row.lease (κs .0) (qs .0)) (List._∷_ (Row.lease (κs .1 .0) (qs .1 .0)) (List._∷_ (Row.lease (κs .1 .1 .0) (qs .1 .1 .0)) (List._∷_
+              (Row.lease (κs .1 .1 .1 .0) (qs .1 .1 .1 .0)) (List._∷_ Row.off (List._∷_ Row.off (List._∷_ Row.off (List._∷_ Row.off (List._∷_ Row.off (List._∷_ Row.off List.[])))))))));
         }
 
         abbrev G7 : Row.Cx
         G7 = record {
           locals = List._++_ t6 (List._++_ t1 t2);
-          slots = List._∷_ (Row.lease (κs .0) (qs .0)) (List._∷_ (Row.lease (κs .1 .0) (qs .1 .0)) (List._∷_ (Row.lease (κs .1 .1 .0) (qs .1 .1
-              .0)) (List._∷_ (Row.lease (κs .1 .1 .1 .0) (qs .1 .1 .1 .0)) (List._∷_ Row.off (List._∷_ Row.off (List._∷_ Row.off (List._∷_ Row.off (List._∷_ Row.off (List._∷_ Row.off List.[])))))))));
+          slots = List._∷_ (Row.lease (κs .0) (qs .0)) (List._∷_ (Row.lease (κs .1 .0) (qs .1 .0)) (List._∷_ (Row.lease (κs .1 .1 .0) (qs .1 .1 .0)) (List._∷_
+              (Row.lease (κs .1 .1 .1 .0) (qs .1 .1 .1 .0)) (List._∷_ Row.off (List._∷_ Row.off (List._∷_ Row.off (List._∷_ Row.off (List._∷_ Row.off (List._∷_ Row.off List.[])))))))));
         }
 
         abbrev G8 : Row.Cx
         G8 = record {
           locals = List._++_ t7 (List._++_ t1 t2);
-          slots = List._∷_ (Row.lease (κs .0) (qs .0)) (List._∷_ (Row.lease (κs .1 .0) (qs .1 .0)) (List._∷_ (Row.lease (κs .1 .1 .0) (qs .1 .1
-              .0)) (List._∷_ (Row.lease (κs .1 .1 .1 .0) (qs .1 .1 .1 .0)) (List._∷_ Row.off (List._∷_ Row.off (List._∷_ Row.off (List._∷_ Row.off (List._∷_ Row.off (List._∷_ Row.off List.[])))))))));
+          slots = List._∷_ (Row.lease (κs .0) (qs .0)) (List._∷_ (Row.lease (κs .1 .0) (qs .1 .0)) (List._∷_ (Row.lease (κs .1 .1 .0) (qs .1 .1 .0)) (List._∷_
+              (Row.lease (κs .1 .1 .1 .0) (qs .1 .1 .1 .0)) (List._∷_ Row.off (List._∷_ Row.off (List._∷_ Row.off (List._∷_ Row.off (List._∷_ Row.off (List._∷_ Row.off List.[])))))))));
         }
 
         abbrev G9 : Row.Cx
         G9 = record {
           locals = List._++_ t8 (List._++_ t1 t2);
-          slots = List._∷_ (Row.lease (κs .0) (qs .0)) (List._∷_ (Row.lease (κs .1 .0) (qs .1 .0)) (List._∷_ (Row.lease (κs .1 .1 .0) (qs .1 .1
-              .0)) (List._∷_ (Row.lease (κs .1 .1 .1 .0) (qs .1 .1 .1 .0)) (List._∷_ Row.off (List._∷_ Row.off (List._∷_ Row.off (List._∷_ Row.off (List._∷_ Row.off (List._∷_ Row.off List.[])))))))));
+          slots = List._∷_ (Row.lease (κs .0) (qs .0)) (List._∷_ (Row.lease (κs .1 .0) (qs .1 .0)) (List._∷_ (Row.lease (κs .1 .1 .0) (qs .1 .1 .0)) (List._∷_
+              (Row.lease (κs .1 .1 .1 .0) (qs .1 .1 .1 .0)) (List._∷_ Row.off (List._∷_ Row.off (List._∷_ Row.off (List._∷_ Row.off (List._∷_ Row.off (List._∷_ Row.off List.[])))))))));
         }
 
         abbrev G10 : Row.Cx
         G10 = record {
           locals = List._++_ t9 (List._++_ t1 t2);
-          slots = List._∷_ (Row.lease (κs .0) (qs .0)) (List._∷_ (Row.lease (κs .1 .0) (qs .1 .0)) (List._∷_ (Row.lease (κs .1 .1 .0) (qs .1 .1
-              .0)) (List._∷_ (Row.lease (κs .1 .1 .1 .0) (qs .1 .1 .1 .0)) (List._∷_ Row.off (List._∷_ Row.off (List._∷_ Row.off (List._∷_ Row.off (List._∷_ Row.off (List._∷_ Row.off List.[])))))))));
+          slots = List._∷_ (Row.lease (κs .0) (qs .0)) (List._∷_ (Row.lease (κs .1 .0) (qs .1 .0)) (List._∷_ (Row.lease (κs .1 .1 .0) (qs .1 .1 .0)) (List._∷_
+              (Row.lease (κs .1 .1 .1 .0) (qs .1 .1 .1 .0)) (List._∷_ Row.off (List._∷_ Row.off (List._∷_ Row.off (List._∷_ Row.off (List._∷_ Row.off (List._∷_ Row.off List.[])))))))));
         }
 
         abbrev G11 : Row.Cx
         G11 = record {
           locals = List._++_ t10 (List._++_ t1 t2);
-          slots = List._∷_ (Row.lease (κs .0) (qs .0)) (List._∷_ (Row.lease (κs .1 .0) (qs .1 .0)) (List._∷_ (Row.lease (κs .1 .1 .0) (qs .1 .1
-              .0)) (List._∷_ (Row.lease (κs .1 .1 .1 .0) (qs .1 .1 .1 .0)) (List._∷_ Row.off (List._∷_ Row.off (List._∷_ Row.off (List._∷_ Row.off (List._∷_ Row.off (List._∷_ Row.off List.[])))))))));
+          slots = List._∷_ (Row.lease (κs .0) (qs .0)) (List._∷_ (Row.lease (κs .1 .0) (qs .1 .0)) (List._∷_ (Row.lease (κs .1 .1 .0) (qs .1 .1 .0)) (List._∷_
+              (Row.lease (κs .1 .1 .1 .0) (qs .1 .1 .1 .0)) (List._∷_ Row.off (List._∷_ Row.off (List._∷_ Row.off (List._∷_ Row.off (List._∷_ Row.off (List._∷_ Row.off List.[])))))))));
         }
 
         abbrev G12 : Row.Cx
         G12 = record {
           locals = List._++_ t11 (List._++_ t1 t2);
-          slots = List._∷_ (Row.lease (κs .0) (qs .0)) (List._∷_ (Row.lease (κs .1 .0) (qs .1 .0)) (List._∷_ (Row.lease (κs .1 .1 .0) (qs .1 .1
-              .0)) (List._∷_ (Row.lease (κs .1 .1 .1 .0) (qs .1 .1 .1 .0)) (List._∷_ Row.off (List._∷_ Row.off (List._∷_ Row.off (List._∷_ Row.off (List._∷_ Row.off (List._∷_ Row.off List.[])))))))));
+          slots = List._∷_ (Row.lease (κs .0) (qs .0)) (List._∷_ (Row.lease (κs .1 .0) (qs .1 .0)) (List._∷_ (Row.lease (κs .1 .1 .0) (qs .1 .1 .0)) (List._∷_
+              (Row.lease (κs .1 .1 .1 .0) (qs .1 .1 .1 .0)) (List._∷_ Row.off (List._∷_ Row.off (List._∷_ Row.off (List._∷_ Row.off (List._∷_ Row.off (List._∷_ Row.off List.[])))))))));
         }
 
         abbrev G13 : Row.Cx
         G13 = record {
           locals = List._++_ t12 (List._++_ t1 t2);
-          slots = List._∷_ (Row.lease (κs .0) (qs .0)) (List._∷_ (Row.lease (κs .1 .0) (qs .1 .0)) (List._∷_ (Row.lease (κs .1 .1 .0) (qs .1 .1
-              .0)) (List._∷_ (Row.lease (κs .1 .1 .1 .0) (qs .1 .1 .1 .0)) (List._∷_ Row.off (List._∷_ Row.off (List._∷_ Row.off (List._∷_ Row.off (List._∷_ Row.off (List._∷_ Row.off List.[])))))))));
+          slots = List._∷_ (Row.lease (κs .0) (qs .0)) (List._∷_ (Row.lease (κs .1 .0) (qs .1 .0)) (List._∷_ (Row.lease (κs .1 .1 .0) (qs .1 .1 .0)) (List._∷_
+              (Row.lease (κs .1 .1 .1 .0) (qs .1 .1 .1 .0)) (List._∷_ Row.off (List._∷_ Row.off (List._∷_ Row.off (List._∷_ Row.off (List._∷_ Row.off (List._∷_ Row.off List.[])))))))));
         }
 
         abbrev G14 : Row.Cx
         G14 = record {
           locals = List._++_ t13 (List._++_ t1 t2);
-          slots = List._∷_ (Row.lease (κs .0) (qs .0)) (List._∷_ (Row.lease (κs .1 .0) (qs .1 .0)) (List._∷_ (Row.lease (κs .1 .1 .0) (qs .1 .1
-              .0)) (List._∷_ (Row.lease (κs .1 .1 .1 .0) (qs .1 .1 .1 .0)) (List._∷_ Row.off (List._∷_ Row.off (List._∷_ Row.off (List._∷_ Row.off (List._∷_ Row.off (List._∷_ Row.off List.[])))))))));
+          slots = List._∷_ (Row.lease (κs .0) (qs .0)) (List._∷_ (Row.lease (κs .1 .0) (qs .1 .0)) (List._∷_ (Row.lease (κs .1 .1 .0) (qs .1 .1 .0)) (List._∷_
+              (Row.lease (κs .1 .1 .1 .0) (qs .1 .1 .1 .0)) (List._∷_ Row.off (List._∷_ Row.off (List._∷_ Row.off (List._∷_ Row.off (List._∷_ Row.off (List._∷_ Row.off List.[])))))))));
         }
 
         abbrev G15 : Row.Cx
         G15 = record {
           locals = List._++_ t13 (List._++_ t14 t2);
-          slots = List._∷_ (Row.lease (κs .0) (qs .0)) (List._∷_ (Row.lease (κs .1 .0) (qs .1 .0)) (List._∷_ (Row.lease (κs .1 .1 .0) (qs .1 .1
-              .0)) (List._∷_ (Row.lease (κs .1 .1 .1 .0) (qs .1 .1 .1 .0)) (List._∷_ Row.off (List._∷_ Row.off (List._∷_ Row.off (List._∷_ Row.off (List._∷_ Row.off (List._∷_ Row.off List.[])))))))));
+          slots = List._∷_ (Row.lease (κs .0) (qs .0)) (List._∷_ (Row.lease (κs .1 .0) (qs .1 .0)) (List._∷_ (Row.lease (κs .1 .1 .0) (qs .1 .1 .0))
+              (List._∷_ (Row.lease (κs .1 .1 .1 .0) (qs .1 .1 .1 .0)) (List._∷_ Row.off (List._∷_ Row.off (List._∷_ Row.off (List._∷_ Row.off (List._∷_ Row.off (List._∷_ Row.off List.[])))))))));
         }
 
         abbrev G16 : Row.Cx
         G16 = record {
           locals = List._++_ t13 (List._++_ t14 t2);
-          slots = List._∷_ (Row.lease (κs .0) (qs .0)) (List._∷_ (Row.lease (κs .1 .0) (qs .1 .0)) (List._∷_ (Row.lease (κs .1 .1 .0) (qs .1 .1
-              .0)) (List._∷_ (Row.lease (κs .1 .1 .1 .0) (qs .1 .1 .1 .0)) (List._∷_ Row.off (List._∷_ Row.off (List._∷_ Row.off (List._∷_ Row.off (List._∷_ Row.off (List._∷_ Row.off List.[])))))))));
+          slots = List._∷_ (Row.lease (κs .0) (qs .0)) (List._∷_ (Row.lease (κs .1 .0) (qs .1 .0)) (List._∷_ (Row.lease (κs .1 .1 .0) (qs .1 .1 .0))
+              (List._∷_ (Row.lease (κs .1 .1 .1 .0) (qs .1 .1 .1 .0)) (List._∷_ Row.off (List._∷_ Row.off (List._∷_ Row.off (List._∷_ Row.off (List._∷_ Row.off (List._∷_ Row.off List.[])))))))));
         }
 
         abbrev G17 : Row.Cx
         G17 = record {
           locals = List._++_ t13 (List._++_ t15 t2);
-          slots = List._∷_ (Row.lease (κs .0) (qs .0)) (List._∷_ (Row.lease (κs .1 .0) (qs .1 .0)) (List._∷_ (Row.lease (κs .1 .1 .0) (qs .1 .1
-              .0)) (List._∷_ (Row.lease (κs .1 .1 .1 .0) (qs .1 .1 .1 .0)) (List._∷_ Row.off (List._∷_ Row.off (List._∷_ Row.off (List._∷_ Row.off (List._∷_ Row.off (List._∷_ Row.off List.[])))))))));
+          slots = List._∷_ (Row.lease (κs .0) (qs .0)) (List._∷_ (Row.lease (κs .1 .0) (qs .1 .0)) (List._∷_ (Row.lease (κs .1 .1 .0) (qs .1 .1 .0))
+              (List._∷_ (Row.lease (κs .1 .1 .1 .0) (qs .1 .1 .1 .0)) (List._∷_ Row.off (List._∷_ Row.off (List._∷_ Row.off (List._∷_ Row.off (List._∷_ Row.off (List._∷_ Row.off List.[])))))))));
         }
 
         abbrev G18 : Row.Cx
         G18 = record {
           locals = List._++_ t13 (List._++_ t14 t2);
-          slots = List._∷_ (Row.lease (κs .0) (qs .0)) (List._∷_ (Row.lease (κs .1 .0) (qs .1 .0)) (List._∷_ (Row.lease (κs .1 .1 .0) (qs .1 .1
-              .0)) (List._∷_ (Row.lease (κs .1 .1 .1 .0) (qs .1 .1 .1 .0)) (List._∷_ Row.off (List._∷_ Row.off (List._∷_ Row.off (List._∷_ Row.off (List._∷_ Row.off (List._∷_ Row.off List.[])))))))));
+          slots = List._∷_ (Row.lease (κs .0) (qs .0)) (List._∷_ (Row.lease (κs .1 .0) (qs .1 .0)) (List._∷_ (Row.lease (κs .1 .1 .0) (qs .1 .1 .0))
+              (List._∷_ (Row.lease (κs .1 .1 .1 .0) (qs .1 .1 .1 .0)) (List._∷_ Row.off (List._∷_ Row.off (List._∷_ Row.off (List._∷_ Row.off (List._∷_ Row.off (List._∷_ Row.off List.[])))))))));
         }
 
         abbrev G19 : Row.Cx
         G19 = record {
           locals = List._++_ t13 (List._++_ t14 t2);
-          slots = List._∷_ (Row.lease (κs .0) (qs .0)) (List._∷_ (Row.lease (κs .1 .0) (qs .1 .0)) (List._∷_ (Row.lease (κs .1 .1 .0) (qs .1 .1
-              .0)) (List._∷_ (Row.lease (κs .1 .1 .1 .0) (qs .1 .1 .1 .0)) (List._∷_ Row.off (List._∷_ Row.off (List._∷_ Row.off (List._∷_ Row.off (List._∷_ Row.off (List._∷_ Row.off List.[])))))))));
+          slots = List._∷_ (Row.lease (κs .0) (qs .0)) (List._∷_ (Row.lease (κs .1 .0) (qs .1 .0)) (List._∷_ (Row.lease (κs .1 .1 .0) (qs .1 .1 .0))
+              (List._∷_ (Row.lease (κs .1 .1 .1 .0) (qs .1 .1 .1 .0)) (List._∷_ Row.off (List._∷_ Row.off (List._∷_ Row.off (List._∷_ Row.off (List._∷_ Row.off (List._∷_ Row.off List.[])))))))));
         }
 
         abbrev G20 : Row.Cx
         G20 = record {
           locals = List._++_ t13 (List._++_ t14 t2);
-          slots = List._∷_ (Row.lease (κs .0) (qs .0)) (List._∷_ (Row.lease (κs .1 .0) (qs .1 .0)) (List._∷_ (Row.lease (κs .1 .1 .0) (qs .1 .1
-              .0)) (List._∷_ (Row.lease (κs .1 .1 .1 .0) (qs .1 .1 .1 .0)) (List._∷_ Row.off (List._∷_ Row.off (List._∷_ Row.off (List._∷_ Row.off (List._∷_ Row.off (List._∷_ Row.off List.[])))))))));
+          slots = List._∷_ (Row.lease (κs .0) (qs .0)) (List._∷_ (Row.lease (κs .1 .0) (qs .1 .0)) (List._∷_ (Row.lease (κs .1 .1 .0) (qs .1 .1 .0))
+              (List._∷_ (Row.lease (κs .1 .1 .1 .0) (qs .1 .1 .1 .0)) (List._∷_ Row.off (List._∷_ Row.off (List._∷_ Row.off (List._∷_ Row.off (List._∷_ Row.off (List._∷_ Row.off List.[])))))))));
         }
 
         abbrev G21 : Row.Cx
         G21 = record {
           locals = List._++_ t13 (List._++_ t16 t2);
-          slots = List._∷_ (Row.lease (κs .0) (qs .0)) (List._∷_ (Row.lease (κs .1 .0) (qs .1 .0)) (List._∷_ (Row.lease (κs .1 .1 .0) (qs .1 .1
-              .0)) (List._∷_ (Row.lease (κs .1 .1 .1 .0) (qs .1 .1 .1 .0)) (List._∷_ Row.off (List._∷_ Row.off (List._∷_ Row.off (List._∷_ Row.off (List._∷_ Row.off (List._∷_ Row.off List.[])))))))));
+          slots = List._∷_ (Row.lease (κs .0) (qs .0)) (List._∷_ (Row.lease (κs .1 .0) (qs .1 .0)) (List._∷_ (Row.lease (κs .1 .1 .0) (qs .1 .1 .0))
+              (List._∷_ (Row.lease (κs .1 .1 .1 .0) (qs .1 .1 .1 .0)) (List._∷_ Row.off (List._∷_ Row.off (List._∷_ Row.off (List._∷_ Row.off (List._∷_ Row.off (List._∷_ Row.off List.[])))))))));
         }
 
         abbrev G22 : Row.Cx
         G22 = record {
           locals = List._++_ t13 (List._++_ t16 t2);
-          slots = List._∷_ (Row.lease (κs .0) (qs .0)) (List._∷_ (Row.lease (κs .1 .0) (qs .1 .0)) (List._∷_ (Row.lease (κs .1 .1 .0) (qs .1 .1
-              .0)) (List._∷_ (Row.lease (κs .1 .1 .1 .0) (qs .1 .1 .1 .0)) (List._∷_ Row.alive (List._∷_ Row.off (List._∷_ Row.off (List._∷_ Row.off (List._∷_ Row.off (List._∷_ Row.off List.[])))))))));
+          slots = List._∷_ (Row.lease (κs .0) (qs .0)) (List._∷_ (Row.lease (κs .1 .0) (qs .1 .0)) (List._∷_ (Row.lease (κs .1 .1 .0) (qs .1 .1 .0))
+              (List._∷_ (Row.lease (κs .1 .1 .1 .0) (qs .1 .1 .1 .0)) (List._∷_ Row.alive (List._∷_ Row.off (List._∷_ Row.off (List._∷_ Row.off (List._∷_ Row.off (List._∷_ Row.off List.[])))))))));
         }
 
         abbrev G23 : Row.Cx
         G23 = record {
           locals = List._++_ g17 (List._++_ t18 t2);
-          slots = List._∷_ (Row.lease (κs .0) (qs .0)) (List._∷_ (Row.lease (κs .1 .0) (qs .1 .0)) (List._∷_ Row.off (List._∷_ (Row.lease (κs .1
-              .1 .1 .0) (qs .1 .1 .1 .0)) (List._∷_ Row.alive (List._∷_ Row.off (List._∷_ Row.off (List._∷_ Row.off (List._∷_ Row.off (List._∷_ Row.off List.[])))))))));
+          slots = List._∷_ (Row.lease (κs .0) (qs .0)) (List._∷_ (Row.lease (κs .1 .0) (qs .1 .0)) (List._∷_ Row.off (List._∷_ (Row.lease (κs .1 .1 .1 .0)
+              (qs .1 .1 .1 .0)) (List._∷_ Row.alive (List._∷_ Row.off (List._∷_ Row.off (List._∷_ Row.off (List._∷_ Row.off (List._∷_ Row.off List.[])))))))));
         }
 
         abbrev G24 : Row.Cx
         G24 = record {
           locals = List._++_ g17 (List._++_ t19 t2);
-          slots = List._∷_ (Row.lease (κs .0) (qs .0)) (List._∷_ (Row.lease (κs .1 .0) (qs .1 .0)) (List._∷_ Row.off (List._∷_ (Row.lease (κs .1
-              .1 .1 .0) (qs .1 .1 .1 .0)) (List._∷_ Row.alive (List._∷_ Row.off (List._∷_ Row.off (List._∷_ Row.off (List._∷_ Row.off (List._∷_ Row.off List.[])))))))));
+          slots = List._∷_ (Row.lease (κs .0) (qs .0)) (List._∷_ (Row.lease (κs .1 .0) (qs .1 .0)) (List._∷_ Row.off (List._∷_ (Row.lease (κs .1 .1 .1 .0)
+              (qs .1 .1 .1 .0)) (List._∷_ Row.alive (List._∷_ Row.off (List._∷_ Row.off (List._∷_ Row.off (List._∷_ Row.off (List._∷_ Row.off List.[])))))))));
         }
 
         abbrev G25 : Row.Cx
         G25 = record {
           locals = List._++_ g17 (List._++_ t20 t2);
-          slots = List._∷_ (Row.lease (κs .0) (qs .0)) (List._∷_ (Row.lease (κs .1 .0) (qs .1 .0)) (List._∷_ Row.off (List._∷_ (Row.lease (κs .1
-              .1 .1 .0) (qs .1 .1 .1 .0)) (List._∷_ Row.alive (List._∷_ Row.off (List._∷_ Row.off (List._∷_ Row.off (List._∷_ Row.off (List._∷_ Row.off List.[])))))))));
+          slots = List._∷_ (Row.lease (κs .0) (qs .0)) (List._∷_ (Row.lease (κs .1 .0) (qs .1 .0)) (List._∷_ Row.off (List._∷_ (Row.lease (κs .1 .1 .1 .0)
+              (qs .1 .1 .1 .0)) (List._∷_ Row.alive (List._∷_ Row.off (List._∷_ Row.off (List._∷_ Row.off (List._∷_ Row.off (List._∷_ Row.off List.[])))))))));
         }
 
         abbrev G26 : Row.Cx
         G26 = record {
           locals = List._++_ g17 (List._++_ t21 t2);
-          slots = List._∷_ (Row.lease (κs .0) (qs .0)) (List._∷_ (Row.lease (κs .1 .0) (qs .1 .0)) (List._∷_ Row.off (List._∷_ (Row.lease (κs .1
-              .1 .1 .0) (qs .1 .1 .1 .0)) (List._∷_ Row.alive (List._∷_ Row.off (List._∷_ Row.off (List._∷_ Row.off (List._∷_ Row.off (List._∷_ Row.off List.[])))))))));
+          slots = List._∷_ (Row.lease (κs .0) (qs .0)) (List._∷_ (Row.lease (κs .1 .0) (qs .1 .0)) (List._∷_ Row.off (List._∷_ (Row.lease (κs .1 .1 .1 .0)
+              (qs .1 .1 .1 .0)) (List._∷_ Row.alive (List._∷_ Row.off (List._∷_ Row.off (List._∷_ Row.off (List._∷_ Row.off (List._∷_ Row.off List.[])))))))));
         }
 
         abbrev G27 : Row.Cx
         G27 = record {
           locals = List._++_ g17 (List._++_ t21 t2);
-          slots = List._∷_ (Row.lease (κs .0) (qs .0)) (List._∷_ (Row.lease (κs .1 .0) (qs .1 .0)) (List._∷_ Row.off (List._∷_ (Row.lease (κs .1
-              .1 .1 .0) (qs .1 .1 .1 .0)) (List._∷_ Row.dead (List._∷_ Row.off (List._∷_ Row.off (List._∷_ Row.off (List._∷_ Row.off (List._∷_ Row.off List.[])))))))));
+          slots = List._∷_ (Row.lease (κs .0) (qs .0)) (List._∷_ (Row.lease (κs .1 .0) (qs .1 .0)) (List._∷_ Row.off (List._∷_ (Row.lease (κs .1 .1 .1 .0)
+              (qs .1 .1 .1 .0)) (List._∷_ Row.dead (List._∷_ Row.off (List._∷_ Row.off (List._∷_ Row.off (List._∷_ Row.off (List._∷_ Row.off List.[])))))))));
         }
 
         abbrev G28 : Row.Cx
         G28 = record {
           locals = List._++_ t13 (List._++_ t16 t2);
-          slots = List._∷_ (Row.lease (κs .0) (qs .0)) (List._∷_ (Row.lease (κs .1 .0) (qs .1 .0)) (List._∷_ (Row.lease (κs .1 .1 .0) (qs .1 .1
-              .0)) (List._∷_ (Row.lease (κs .1 .1 .1 .0) (qs .1 .1 .1 .0)) (List._∷_ Row.dead (List._∷_ Row.off (List._∷_ Row.off (List._∷_ Row.off (List._∷_ Row.off (List._∷_ Row.off List.[])))))))));
+          slots = List._∷_ (Row.lease (κs .0) (qs .0)) (List._∷_ (Row.lease (κs .1 .0) (qs .1 .0)) (List._∷_ (Row.lease (κs .1 .1 .0) (qs .1 .1 .0))
+              (List._∷_ (Row.lease (κs .1 .1 .1 .0) (qs .1 .1 .1 .0)) (List._∷_ Row.dead (List._∷_ Row.off (List._∷_ Row.off (List._∷_ Row.off (List._∷_ Row.off (List._∷_ Row.off List.[])))))))));
         }
 
         abbrev G29 : Row.Cx
         G29 = record {
           locals = List._++_ t13 (List._++_ t16 t2);
-          slots = List._∷_ (Row.lease (κs .0) (qs .0)) (List._∷_ (Row.lease (κs .1 .0) (qs .1 .0)) (List._∷_ (Row.lease (κs .1 .1 .0) (qs .1 .1
-              .0)) (List._∷_ (Row.lease (κs .1 .1 .1 .0) (qs .1 .1 .1 .0)) (List._∷_ Row.dead (List._∷_ Row.off (List._∷_ Row.off (List._∷_ Row.off (List._∷_ Row.off (List._∷_ Row.off List.[])))))))));
+          slots = List._∷_ (Row.lease (κs .0) (qs .0)) (List._∷_ (Row.lease (κs .1 .0) (qs .1 .0)) (List._∷_ (Row.lease (κs .1 .1 .0) (qs .1 .1 .0))
+              (List._∷_ (Row.lease (κs .1 .1 .1 .0) (qs .1 .1 .1 .0)) (List._∷_ Row.dead (List._∷_ Row.off (List._∷_ Row.off (List._∷_ Row.off (List._∷_ Row.off (List._∷_ Row.off List.[])))))))));
         }
 
         abbrev G30 : Row.Cx
         G30 = record {
           locals = List._++_ t13 (List._++_ t16 t2);
-          slots = List._∷_ (Row.lease (κs .0) (qs .0)) (List._∷_ (Row.lease (κs .1 .0) (qs .1 .0)) (List._∷_ (Row.lease (κs .1 .1 .0) (qs .1 .1
-              .0)) (List._∷_ (Row.lease (κs .1 .1 .1 .0) (qs .1 .1 .1 .0)) (List._∷_ Row.off (List._∷_ Row.off (List._∷_ Row.off (List._∷_ Row.off (List._∷_ Row.off (List._∷_ Row.off List.[])))))))));
+          slots = List._∷_ (Row.lease (κs .0) (qs .0)) (List._∷_ (Row.lease (κs .1 .0) (qs .1 .0)) (List._∷_ (Row.lease (κs .1 .1 .0) (qs .1 .1 .0))
+              (List._∷_ (Row.lease (κs .1 .1 .1 .0) (qs .1 .1 .1 .0)) (List._∷_ Row.off (List._∷_ Row.off (List._∷_ Row.off (List._∷_ Row.off (List._∷_ Row.off (List._∷_ Row.off List.[])))))))));
         }
 
         abbrev G31 : Row.Cx
         G31 = record {
           locals = List._++_ t13 (List._++_ t16 t2);
-          slots = List._∷_ (Row.lease (κs .0) (qs .0)) (List._∷_ (Row.lease (κs .1 .0) (qs .1 .0)) (List._∷_ (Row.lease (κs .1 .1 .0) (qs .1 .1
-              .0)) (List._∷_ (Row.lease (κs .1 .1 .1 .0) (qs .1 .1 .1 .0)) (List._∷_ Row.off (List._∷_ Row.alive (List._∷_ Row.off (List._∷_ Row.off (List._∷_ Row.off (List._∷_ Row.off List.[])))))))));
+          slots = List._∷_ (Row.lease (κs .0) (qs .0)) (List._∷_ (Row.lease (κs .1 .0) (qs .1 .0)) (List._∷_ (Row.lease (κs .1 .1 .0) (qs .1 .1 .0))
+              (List._∷_ (Row.lease (κs .1 .1 .1 .0) (qs .1 .1 .1 .0)) (List._∷_ Row.off (List._∷_ Row.alive (List._∷_ Row.off (List._∷_ Row.off (List._∷_ Row.off (List._∷_ Row.off List.[])))))))));
         }
 
         abbrev G32 : Row.Cx
         G32 = record {
           locals = List._++_ g22 (List._++_ t23 t2);
-          slots = List._∷_ (Row.lease (κs .0) (qs .0)) (List._∷_ (Row.lease (κs .1 .0) (qs .1 .0)) (List._∷_ Row.off (List._∷_ (Row.lease (κs .1
-              .1 .1 .0) (qs .1 .1 .1 .0)) (List._∷_ Row.off (List._∷_ Row.alive (List._∷_ Row.off (List._∷_ Row.off (List._∷_ Row.off (List._∷_ Row.off List.[])))))))));
+          slots = List._∷_ (Row.lease (κs .0) (qs .0)) (List._∷_ (Row.lease (κs .1 .0) (qs .1 .0)) (List._∷_ Row.off (List._∷_ (Row.lease (κs .1 .1 .1 .0)
+              (qs .1 .1 .1 .0)) (List._∷_ Row.off (List._∷_ Row.alive (List._∷_ Row.off (List._∷_ Row.off (List._∷_ Row.off (List._∷_ Row.off List.[])))))))));
         }
 
         abbrev G33 : Row.Cx
         G33 = record {
           locals = List._++_ g22 (List._++_ t24 t2);
-          slots = List._∷_ (Row.lease (κs .0) (qs .0)) (List._∷_ (Row.lease (κs .1 .0) (qs .1 .0)) (List._∷_ Row.off (List._∷_ (Row.lease (κs .1
-              .1 .1 .0) (qs .1 .1 .1 .0)) (List._∷_ Row.off (List._∷_ Row.alive (List._∷_ Row.off (List._∷_ Row.off (List._∷_ Row.off (List._∷_ Row.off List.[])))))))));
+          slots = List._∷_ (Row.lease (κs .0) (qs .0)) (List._∷_ (Row.lease (κs .1 .0) (qs .1 .0)) (List._∷_ Row.off (List._∷_ (Row.lease (κs .1 .1 .1 .0)
+              (qs .1 .1 .1 .0)) (List._∷_ Row.off (List._∷_ Row.alive (List._∷_ Row.off (List._∷_ Row.off (List._∷_ Row.off (List._∷_ Row.off List.[])))))))));
         }
 
         abbrev G34 : Row.Cx
         G34 = record {
           locals = List._++_ g22 (List._++_ t25 t2);
-          slots = List._∷_ (Row.lease (κs .0) (qs .0)) (List._∷_ (Row.lease (κs .1 .0) (qs .1 .0)) (List._∷_ Row.off (List._∷_ (Row.lease (κs .1
-              .1 .1 .0) (qs .1 .1 .1 .0)) (List._∷_ Row.off (List._∷_ Row.alive (List._∷_ Row.off (List._∷_ Row.off (List._∷_ Row.off (List._∷_ Row.off List.[])))))))));
+          slots = List._∷_ (Row.lease (κs .0) (qs .0)) (List._∷_ (Row.lease (κs .1 .0) (qs .1 .0)) (List._∷_ Row.off (List._∷_ (Row.lease (κs .1 .1 .1 .0)
+              (qs .1 .1 .1 .0)) (List._∷_ Row.off (List._∷_ Row.alive (List._∷_ Row.off (List._∷_ Row.off (List._∷_ Row.off (List._∷_ Row.off List.[])))))))));
         }
 
         abbrev G35 : Row.Cx
         G35 = record {
           locals = List._++_ g22 (List._++_ t26 t2);
-          slots = List._∷_ (Row.lease (κs .0) (qs .0)) (List._∷_ (Row.lease (κs .1 .0) (qs .1 .0)) (List._∷_ Row.off (List._∷_ (Row.lease (κs .1
-              .1 .1 .0) (qs .1 .1 .1 .0)) (List._∷_ Row.off (List._∷_ Row.alive (List._∷_ Row.off (List._∷_ Row.off (List._∷_ Row.off (List._∷_ Row.off List.[])))))))));
+          slots = List._∷_ (Row.lease (κs .0) (qs .0)) (List._∷_ (Row.lease (κs .1 .0) (qs .1 .0)) (List._∷_ Row.off (List._∷_ (Row.lease (κs .1 .1 .1 .0)
+              (qs .1 .1 .1 .0)) (List._∷_ Row.off (List._∷_ Row.alive (List._∷_ Row.off (List._∷_ Row.off (List._∷_ Row.off (List._∷_ Row.off List.[])))))))));
         }
 
         abbrev G36 : Row.Cx
         G36 = record {
           locals = List._++_ g22 (List._++_ t26 t2);
-          slots = List._∷_ (Row.lease (κs .0) (qs .0)) (List._∷_ (Row.lease (κs .1 .0) (qs .1 .0)) (List._∷_ Row.off (List._∷_ (Row.lease (κs .1
-              .1 .1 .0) (qs .1 .1 .1 .0)) (List._∷_ Row.off (List._∷_ Row.dead (List._∷_ Row.off (List._∷_ Row.off (List._∷_ Row.off (List._∷_ Row.off List.[])))))))));
+          slots = List._∷_ (Row.lease (κs .0) (qs .0)) (List._∷_ (Row.lease (κs .1 .0) (qs .1 .0)) (List._∷_ Row.off (List._∷_ (Row.lease (κs .1 .1 .1 .0)
+              (qs .1 .1 .1 .0)) (List._∷_ Row.off (List._∷_ Row.dead (List._∷_ Row.off (List._∷_ Row.off (List._∷_ Row.off (List._∷_ Row.off List.[])))))))));
         }
 
         abbrev G37 : Row.Cx
         G37 = record {
           locals = List._++_ t13 (List._++_ t16 t2);
-          slots = List._∷_ (Row.lease (κs .0) (qs .0)) (List._∷_ (Row.lease (κs .1 .0) (qs .1 .0)) (List._∷_ (Row.lease (κs .1 .1 .0) (qs .1 .1
-              .0)) (List._∷_ (Row.lease (κs .1 .1 .1 .0) (qs .1 .1 .1 .0)) (List._∷_ Row.off (List._∷_ Row.dead (List._∷_ Row.off (List._∷_ Row.off (List._∷_ Row.off (List._∷_ Row.off List.[])))))))));
+          slots = List._∷_ (Row.lease (κs .0) (qs .0)) (List._∷_ (Row.lease (κs .1 .0) (qs .1 .0)) (List._∷_ (Row.lease (κs .1 .1 .0) (qs .1 .1 .0))
+              (List._∷_ (Row.lease (κs .1 .1 .1 .0) (qs .1 .1 .1 .0)) (List._∷_ Row.off (List._∷_ Row.dead (List._∷_ Row.off (List._∷_ Row.off (List._∷_ Row.off (List._∷_ Row.off List.[])))))))));
         }
 
         abbrev G38 : Row.Cx
         G38 = record {
           locals = List._++_ t13 (List._++_ t16 t2);
-          slots = List._∷_ (Row.lease (κs .0) (qs .0)) (List._∷_ (Row.lease (κs .1 .0) (qs .1 .0)) (List._∷_ (Row.lease (κs .1 .1 .0) (qs .1 .1
-              .0)) (List._∷_ (Row.lease (κs .1 .1 .1 .0) (qs .1 .1 .1 .0)) (List._∷_ Row.off (List._∷_ Row.dead (List._∷_ Row.off (List._∷_ Row.off (List._∷_ Row.off (List._∷_ Row.off List.[])))))))));
+          slots = List._∷_ (Row.lease (κs .0) (qs .0)) (List._∷_ (Row.lease (κs .1 .0) (qs .1 .0)) (List._∷_ (Row.lease (κs .1 .1 .0) (qs .1 .1 .0))
+              (List._∷_ (Row.lease (κs .1 .1 .1 .0) (qs .1 .1 .1 .0)) (List._∷_ Row.off (List._∷_ Row.dead (List._∷_ Row.off (List._∷_ Row.off (List._∷_ Row.off (List._∷_ Row.off List.[])))))))));
         }
 
         abbrev G39 : Row.Cx
         G39 = record {
           locals = List._++_ t13 (List._++_ t16 t2);
-          slots = List._∷_ (Row.lease (κs .0) (qs .0)) (List._∷_ (Row.lease (κs .1 .0) (qs .1 .0)) (List._∷_ (Row.lease (κs .1 .1 .0) (qs .1 .1
-              .0)) (List._∷_ (Row.lease (κs .1 .1 .1 .0) (qs .1 .1 .1 .0)) (List._∷_ Row.off (List._∷_ Row.off (List._∷_ Row.off (List._∷_ Row.off (List._∷_ Row.off (List._∷_ Row.off List.[])))))))));
+          slots = List._∷_ (Row.lease (κs .0) (qs .0)) (List._∷_ (Row.lease (κs .1 .0) (qs .1 .0)) (List._∷_ (Row.lease (κs .1 .1 .0) (qs .1 .1 .0))
+              (List._∷_ (Row.lease (κs .1 .1 .1 .0) (qs .1 .1 .1 .0)) (List._∷_ Row.off (List._∷_ Row.off (List._∷_ Row.off (List._∷_ Row.off (List._∷_ Row.off (List._∷_ Row.off List.[])))))))));
         }
 
         abbrev G40 : Row.Cx
         G40 = record {
           locals = List._++_ t13 (List._++_ t16 t2);
-          slots = List._∷_ (Row.lease (κs .0) (qs .0)) (List._∷_ (Row.lease (κs .1 .0) (qs .1 .0)) (List._∷_ (Row.lease (κs .1 .1 .0) (qs .1 .1
-              .0)) (List._∷_ (Row.lease (κs .1 .1 .1 .0) (qs .1 .1 .1 .0)) (List._∷_ Row.off (List._∷_ Row.off (List._∷_ Row.alive (List._∷_ Row.off (List._∷_ Row.off (List._∷_ Row.off List.[])))))))));
+          slots = List._∷_ (Row.lease (κs .0) (qs .0)) (List._∷_ (Row.lease (κs .1 .0) (qs .1 .0)) (List._∷_ (Row.lease (κs .1 .1 .0) (qs .1 .1 .0))
+              (List._∷_ (Row.lease (κs .1 .1 .1 .0) (qs .1 .1 .1 .0)) (List._∷_ Row.off (List._∷_ Row.off (List._∷_ Row.alive (List._∷_ Row.off (List._∷_ Row.off (List._∷_ Row.off List.[])))))))));
         }
 
         abbrev G41 : Row.Cx
         G41 = record {
           locals = List._++_ g27 (List._++_ t28 t2);
-          slots = List._∷_ (Row.lease (κs .0) (qs .0)) (List._∷_ (Row.lease (κs .1 .0) (qs .1 .0)) (List._∷_ (Row.lease (κs .1 .1 .0) (qs .1 .1
-              .0)) (List._∷_ Row.off (List._∷_ Row.off (List._∷_ Row.off (List._∷_ Row.alive (List._∷_ Row.off (List._∷_ Row.off (List._∷_ Row.off List.[])))))))));
+          slots = List._∷_ (Row.lease (κs .0) (qs .0)) (List._∷_ (Row.lease (κs .1 .0) (qs .1 .0)) (List._∷_ (Row.lease (κs .1 .1 .0) (qs .1 .1 .0))
+              (List._∷_ Row.off (List._∷_ Row.off (List._∷_ Row.off (List._∷_ Row.alive (List._∷_ Row.off (List._∷_ Row.off (List._∷_ Row.off List.[])))))))));
         }
 
         abbrev G42 : Row.Cx
         G42 = record {
           locals = List._++_ g27 (List._++_ t29 t2);
-          slots = List._∷_ (Row.lease (κs .0) (qs .0)) (List._∷_ (Row.lease (κs .1 .0) (qs .1 .0)) (List._∷_ (Row.lease (κs .1 .1 .0) (qs .1 .1
-              .0)) (List._∷_ Row.off (List._∷_ Row.off (List._∷_ Row.off (List._∷_ Row.alive (List._∷_ Row.off (List._∷_ Row.off (List._∷_ Row.off List.[])))))))));
+          slots = List._∷_ (Row.lease (κs .0) (qs .0)) (List._∷_ (Row.lease (κs .1 .0) (qs .1 .0)) (List._∷_ (Row.lease (κs .1 .1 .0) (qs .1 .1 .0))
+              (List._∷_ Row.off (List._∷_ Row.off (List._∷_ Row.off (List._∷_ Row.alive (List._∷_ Row.off (List._∷_ Row.off (List._∷_ Row.off List.[])))))))));
         }
 
         abbrev G43 : Row.Cx
         G43 = record {
           locals = List._++_ g27 (List._++_ t30 t2);
-          slots = List._∷_ (Row.lease (κs .0) (qs .0)) (List._∷_ (Row.lease (κs .1 .0) (qs .1 .0)) (List._∷_ (Row.lease (κs .1 .1 .0) (qs .1 .1
-              .0)) (List._∷_ Row.off (List._∷_ Row.off (List._∷_ Row.off (List._∷_ Row.alive (List._∷_ Row.off (List._∷_ Row.off (List._∷_ Row.off List.[])))))))));
+          slots = List._∷_ (Row.lease (κs .0) (qs .0)) (List._∷_ (Row.lease (κs .1 .0) (qs .1 .0)) (List._∷_ (Row.lease (κs .1 .1 .0) (qs .1 .1 .0))
+              (List._∷_ Row.off (List._∷_ Row.off (List._∷_ Row.off (List._∷_ Row.alive (List._∷_ Row.off (List._∷_ Row.off (List._∷_ Row.off List.[])))))))));
         }
 
         abbrev G44 : Row.Cx
         G44 = record {
           locals = List._++_ g27 (List._++_ t30 t2);
-          slots = List._∷_ (Row.lease (κs .0) (qs .0)) (List._∷_ (Row.lease (κs .1 .0) (qs .1 .0)) (List._∷_ (Row.lease (κs .1 .1 .0) (qs .1 .1
-              .0)) (List._∷_ Row.off (List._∷_ Row.off (List._∷_ Row.off (List._∷_ Row.dead (List._∷_ Row.off (List._∷_ Row.off (List._∷_ Row.off List.[])))))))));
+          slots = List._∷_ (Row.lease (κs .0) (qs .0)) (List._∷_ (Row.lease (κs .1 .0) (qs .1 .0)) (List._∷_ (Row.lease (κs .1 .1 .0) (qs .1 .1 .0))
+              (List._∷_ Row.off (List._∷_ Row.off (List._∷_ Row.off (List._∷_ Row.dead (List._∷_ Row.off (List._∷_ Row.off (List._∷_ Row.off List.[])))))))));
         }
 
         abbrev G45 : Row.Cx
         G45 = record {
           locals = List._++_ t13 (List._++_ t31 t2);
-          slots = List._∷_ (Row.lease (κs .0) (qs .0)) (List._∷_ (Row.lease (κs .1 .0) (qs .1 .0)) (List._∷_ (Row.lease (κs .1 .1 .0) (qs .1 .1
-              .0)) (List._∷_ (Row.lease (κs .1 .1 .1 .0) (qs .1 .1 .1 .0)) (List._∷_ Row.off (List._∷_ Row.off (List._∷_ Row.dead (List._∷_ Row.off (List._∷_ Row.off (List._∷_ Row.off List.[])))))))));
+          slots = List._∷_ (Row.lease (κs .0) (qs .0)) (List._∷_ (Row.lease (κs .1 .0) (qs .1 .0)) (List._∷_ (Row.lease (κs .1 .1 .0) (qs .1 .1 .0))
+              (List._∷_ (Row.lease (κs .1 .1 .1 .0) (qs .1 .1 .1 .0)) (List._∷_ Row.off (List._∷_ Row.off (List._∷_ Row.dead (List._∷_ Row.off (List._∷_ Row.off (List._∷_ Row.off List.[])))))))));
         }
 
         abbrev G46 : Row.Cx
         G46 = record {
           locals = List._++_ t13 (List._++_ t31 t2);
-          slots = List._∷_ (Row.lease (κs .0) (qs .0)) (List._∷_ (Row.lease (κs .1 .0) (qs .1 .0)) (List._∷_ (Row.lease (κs .1 .1 .0) (qs .1 .1
-              .0)) (List._∷_ (Row.lease (κs .1 .1 .1 .0) (qs .1 .1 .1 .0)) (List._∷_ Row.off (List._∷_ Row.off (List._∷_ Row.off (List._∷_ Row.off (List._∷_ Row.off (List._∷_ Row.off List.[])))))))));
+          slots = List._∷_ (Row.lease (κs .0) (qs .0)) (List._∷_ (Row.lease (κs .1 .0) (qs .1 .0)) (List._∷_ (Row.lease (κs .1 .1 .0) (qs .1 .1 .0))
+              (List._∷_ (Row.lease (κs .1 .1 .1 .0) (qs .1 .1 .1 .0)) (List._∷_ Row.off (List._∷_ Row.off (List._∷_ Row.off (List._∷_ Row.off (List._∷_ Row.off (List._∷_ Row.off List.[])))))))));
         }
 
         abbrev G47 : Row.Cx
         G47 = record {
           locals = List._++_ t13 (List._++_ t31 t2);
-          slots = List._∷_ (Row.lease (κs .0) (qs .0)) (List._∷_ (Row.lease (κs .1 .0) (qs .1 .0)) (List._∷_ (Row.lease (κs .1 .1 .0) (qs .1 .1
-              .0)) (List._∷_ (Row.lease (κs .1 .1 .1 .0) (qs .1 .1 .1 .0)) (List._∷_ Row.off (List._∷_ Row.off (List._∷_ Row.off (List._∷_ Row.alive (List._∷_ Row.off (List._∷_ Row.off List.[])))))))));
+          slots = List._∷_ (Row.lease (κs .0) (qs .0)) (List._∷_ (Row.lease (κs .1 .0) (qs .1 .0)) (List._∷_ (Row.lease (κs .1 .1 .0) (qs .1 .1 .0))
+              (List._∷_ (Row.lease (κs .1 .1 .1 .0) (qs .1 .1 .1 .0)) (List._∷_ Row.off (List._∷_ Row.off (List._∷_ Row.off (List._∷_ Row.alive (List._∷_ Row.off (List._∷_ Row.off List.[])))))))));
         }
 
         abbrev G48 : Row.Cx
         G48 = record {
           locals = List._++_ g32 (List._++_ t33 t2);
-          slots = List._∷_ (Row.lease (κs .0) (qs .0)) (List._∷_ Row.off (List._∷_ (Row.lease (κs .1 .1 .0) (qs .1 .1 .0)) (List._∷_ (Row.lease
-              (κs .1 .1 .1 .0) (qs .1 .1 .1 .0)) (List._∷_ Row.off (List._∷_ Row.off (List._∷_ Row.off (List._∷_ Row.alive (List._∷_ Row.off (List._∷_ Row.off List.[])))))))));
+          slots = List._∷_ (Row.lease (κs .0) (qs .0)) (List._∷_ Row.off (List._∷_ (Row.lease (κs .1 .1 .0) (qs .1 .1 .0)) (List._∷_ (Row.lease (κs .1 .1 .1
+              .0) (qs .1 .1 .1 .0)) (List._∷_ Row.off (List._∷_ Row.off (List._∷_ Row.off (List._∷_ Row.alive (List._∷_ Row.off (List._∷_ Row.off List.[])))))))));
         }
 
         abbrev G49 : Row.Cx
         G49 = record {
           locals = List._++_ g32 (List._++_ t34 t2);
-          slots = List._∷_ (Row.lease (κs .0) (qs .0)) (List._∷_ Row.off (List._∷_ (Row.lease (κs .1 .1 .0) (qs .1 .1 .0)) (List._∷_ (Row.lease
-              (κs .1 .1 .1 .0) (qs .1 .1 .1 .0)) (List._∷_ Row.off (List._∷_ Row.off (List._∷_ Row.off (List._∷_ Row.alive (List._∷_ Row.off (List._∷_ Row.off List.[])))))))));
+          slots = List._∷_ (Row.lease (κs .0) (qs .0)) (List._∷_ Row.off (List._∷_ (Row.lease (κs .1 .1 .0) (qs .1 .1 .0)) (List._∷_ (Row.lease (κs .1 .1 .1
+              .0) (qs .1 .1 .1 .0)) (List._∷_ Row.off (List._∷_ Row.off (List._∷_ Row.off (List._∷_ Row.alive (List._∷_ Row.off (List._∷_ Row.off List.[])))))))));
         }
 
         abbrev G50 : Row.Cx
         G50 = record {
           locals = List._++_ g32 (List._++_ t34 t2);
-          slots = List._∷_ (Row.lease (κs .0) (qs .0)) (List._∷_ Row.off (List._∷_ (Row.lease (κs .1 .1 .0) (qs .1 .1 .0)) (List._∷_ (Row.lease
-              (κs .1 .1 .1 .0) (qs .1 .1 .1 .0)) (List._∷_ Row.off (List._∷_ Row.off (List._∷_ Row.off (List._∷_ Row.alive (List._∷_ Row.alive (List._∷_ Row.off List.[])))))))));
+          slots = List._∷_ (Row.lease (κs .0) (qs .0)) (List._∷_ Row.off (List._∷_ (Row.lease (κs .1 .1 .0) (qs .1 .1 .0)) (List._∷_ (Row.lease (κs .1 .1 .1
+              .0) (qs .1 .1 .1 .0)) (List._∷_ Row.off (List._∷_ Row.off (List._∷_ Row.off (List._∷_ Row.alive (List._∷_ Row.alive (List._∷_ Row.off List.[])))))))));
         }
 
         abbrev G51 : Row.Cx
         G51 = record {
           locals = List._++_ g35 (List._++_ t34 t36);
-          slots = List._∷_ (Row.lease (κs .0) (qs .0)) (List._∷_ Row.off (List._∷_ Row.off (List._∷_ (Row.lease (κs .1 .1 .1 .0) (qs .1 .1 .1
-              .0)) (List._∷_ Row.off (List._∷_ Row.off (List._∷_ Row.off (List._∷_ Row.alive (List._∷_ Row.alive (List._∷_ Row.off List.[])))))))));
+          slots = List._∷_ (Row.lease (κs .0) (qs .0)) (List._∷_ Row.off (List._∷_ Row.off (List._∷_ (Row.lease (κs .1 .1 .1 .0) (qs .1 .1 .1 .0)) (List._∷_
+              Row.off (List._∷_ Row.off (List._∷_ Row.off (List._∷_ Row.alive (List._∷_ Row.alive (List._∷_ Row.off List.[])))))))));
         }
 
         abbrev G52 : Row.Cx
         G52 = record {
           locals = List._++_ g35 (List._++_ t34 t37);
-          slots = List._∷_ (Row.lease (κs .0) (qs .0)) (List._∷_ Row.off (List._∷_ Row.off (List._∷_ (Row.lease (κs .1 .1 .1 .0) (qs .1 .1 .1
-              .0)) (List._∷_ Row.off (List._∷_ Row.off (List._∷_ Row.off (List._∷_ Row.alive (List._∷_ Row.alive (List._∷_ Row.off List.[])))))))));
+          slots = List._∷_ (Row.lease (κs .0) (qs .0)) (List._∷_ Row.off (List._∷_ Row.off (List._∷_ (Row.lease (κs .1 .1 .1 .0) (qs .1 .1 .1 .0)) (List._∷_
+              Row.off (List._∷_ Row.off (List._∷_ Row.off (List._∷_ Row.alive (List._∷_ Row.alive (List._∷_ Row.off List.[])))))))));
         }
 
         abbrev G53 : Row.Cx
         G53 = record {
           locals = List._++_ g35 (List._++_ t38 t39);
-          slots = List._∷_ (Row.lease (κs .0) (qs .0)) (List._∷_ Row.off (List._∷_ Row.off (List._∷_ (Row.lease (κs .1 .1 .1 .0) (qs .1 .1 .1
-              .0)) (List._∷_ Row.off (List._∷_ Row.off (List._∷_ Row.off (List._∷_ Row.alive (List._∷_ Row.alive (List._∷_ Row.off List.[])))))))));
+          slots = List._∷_ (Row.lease (κs .0) (qs .0)) (List._∷_ Row.off (List._∷_ Row.off (List._∷_ (Row.lease (κs .1 .1 .1 .0) (qs .1 .1 .1 .0)) (List._∷_
+              Row.off (List._∷_ Row.off (List._∷_ Row.off (List._∷_ Row.alive (List._∷_ Row.alive (List._∷_ Row.off List.[])))))))));
         }
 
         abbrev G54 : Row.Cx
         G54 = record {
           locals = List._++_ g40 (List._++_ t38 t39);
-          slots = List._∷_ (Row.lease (κs .0) (qs .0)) (List._∷_ Row.off (List._∷_ Row.off (List._∷_ (Row.lease (κs .1 .1 .1 .0) (qs .1 .1 .1
-              .0)) (List._∷_ Row.off (List._∷_ Row.off (List._∷_ Row.off (List._∷_ Row.alive (List._∷_ Row.alive (List._∷_ Row.off List.[])))))))));
+          slots = List._∷_ (Row.lease (κs .0) (qs .0)) (List._∷_ Row.off (List._∷_ Row.off (List._∷_ (Row.lease (κs .1 .1 .1 .0) (qs .1 .1 .1 .0)) (List._∷_
+              Row.off (List._∷_ Row.off (List._∷_ Row.off (List._∷_ Row.alive (List._∷_ Row.alive (List._∷_ Row.off List.[])))))))));
         }
 
         abbrev G55 : Row.Cx
         G55 = record {
           locals = List._++_ g40 (List._++_ t41 t39);
-          slots = List._∷_ (Row.lease (κs .0) (qs .0)) (List._∷_ Row.off (List._∷_ Row.off (List._∷_ (Row.lease (κs .1 .1 .1 .0) (qs .1 .1 .1
-              .0)) (List._∷_ Row.off (List._∷_ Row.off (List._∷_ Row.off (List._∷_ Row.alive (List._∷_ Row.alive (List._∷_ Row.off List.[])))))))));
+          slots = List._∷_ (Row.lease (κs .0) (qs .0)) (List._∷_ Row.off (List._∷_ Row.off (List._∷_ (Row.lease (κs .1 .1 .1 .0) (qs .1 .1 .1 .0)) (List._∷_
+              Row.off (List._∷_ Row.off (List._∷_ Row.off (List._∷_ Row.alive (List._∷_ Row.alive (List._∷_ Row.off List.[])))))))));
         }
 
         abbrev G56 : Row.Cx
         G56 = record {
           locals = List._++_ g40 (List._++_ t41 t39);
-          slots = List._∷_ (Row.lease (κs .0) (qs .0)) (List._∷_ Row.off (List._∷_ Row.off (List._∷_ (Row.lease (κs .1 .1 .1 .0) (qs .1 .1 .1
-              .0)) (List._∷_ Row.off (List._∷_ Row.off (List._∷_ Row.off (List._∷_ Row.dead (List._∷_ Row.alive (List._∷_ Row.off List.[])))))))));
+          slots = List._∷_ (Row.lease (κs .0) (qs .0)) (List._∷_ Row.off (List._∷_ Row.off (List._∷_ (Row.lease (κs .1 .1 .1 .0) (qs .1 .1 .1 .0)) (List._∷_
+              Row.off (List._∷_ Row.off (List._∷_ Row.off (List._∷_ Row.dead (List._∷_ Row.alive (List._∷_ Row.off List.[])))))))));
         }
 
         abbrev G57 : Row.Cx
         G57 = record {
           locals = List._++_ g42 (List._++_ t43 t39);
-          slots = List._∷_ (Row.lease (κs .0) (qs .0)) (List._∷_ (Row.lease (κs .1 .0) (qs .1 .0)) (List._∷_ Row.off (List._∷_ (Row.lease (κs
-              .1 .1 .1 .0) (qs .1 .1 .1 .0)) (List._∷_ Row.off (List._∷_ Row.off (List._∷_ Row.off (List._∷_ Row.dead (List._∷_ Row.alive (List._∷_ Row.off List.[])))))))));
+          slots = List._∷_ (Row.lease (κs .0) (qs .0)) (List._∷_ (Row.lease (κs .1 .0) (qs .1 .0)) (List._∷_ Row.off (List._∷_ (Row.lease (κs .1 .1 .1 .0)
+              (qs .1 .1 .1 .0)) (List._∷_ Row.off (List._∷_ Row.off (List._∷_ Row.off (List._∷_ Row.dead (List._∷_ Row.alive (List._∷_ Row.off List.[])))))))));
         }
 
         abbrev G58 : Row.Cx
         G58 = record {
           locals = List._++_ g42 (List._++_ t43 t39);
-          slots = List._∷_ (Row.lease (κs .0) (qs .0)) (List._∷_ (Row.lease (κs .1 .0) (qs .1 .0)) (List._∷_ Row.off (List._∷_ (Row.lease (κs
-              .1 .1 .1 .0) (qs .1 .1 .1 .0)) (List._∷_ Row.off (List._∷_ Row.off (List._∷_ Row.off (List._∷_ Row.dead (List._∷_ Row.alive (List._∷_ Row.off List.[])))))))));
+          slots = List._∷_ (Row.lease (κs .0) (qs .0)) (List._∷_ (Row.lease (κs .1 .0) (qs .1 .0)) (List._∷_ Row.off (List._∷_ (Row.lease (κs .1 .1 .1 .0)
+              (qs .1 .1 .1 .0)) (List._∷_ Row.off (List._∷_ Row.off (List._∷_ Row.off (List._∷_ Row.dead (List._∷_ Row.alive (List._∷_ Row.off List.[])))))))));
         }
 
         abbrev G59 : Row.Cx
         G59 = record {
           locals = List._++_ g42 (List._++_ t43 t39);
-          slots = List._∷_ (Row.lease (κs .0) (qs .0)) (List._∷_ (Row.lease (κs .1 .0) (qs .1 .0)) (List._∷_ Row.off (List._∷_ (Row.lease (κs
-              .1 .1 .1 .0) (qs .1 .1 .1 .0)) (List._∷_ Row.off (List._∷_ Row.off (List._∷_ Row.off (List._∷_ Row.off (List._∷_ Row.alive (List._∷_ Row.off List.[])))))))));
+          slots = List._∷_ (Row.lease (κs .0) (qs .0)) (List._∷_ (Row.lease (κs .1 .0) (qs .1 .0)) (List._∷_ Row.off (List._∷_ (Row.lease (κs .1 .1 .1 .0)
+              (qs .1 .1 .1 .0)) (List._∷_ Row.off (List._∷_ Row.off (List._∷_ Row.off (List._∷_ Row.off (List._∷_ Row.alive (List._∷_ Row.off List.[])))))))));
         }
 
         abbrev G60 : Row.Cx
         G60 = record {
           locals = List._++_ g42 (List._++_ t43 t39);
-          slots = List._∷_ (Row.lease (κs .0) (qs .0)) (List._∷_ (Row.lease (κs .1 .0) (qs .1 .0)) (List._∷_ Row.off (List._∷_ (Row.lease (κs
-              .1 .1 .1 .0) (qs .1 .1 .1 .0)) (List._∷_ Row.off (List._∷_ Row.off (List._∷_ Row.off (List._∷_ Row.off (List._∷_ Row.dead (List._∷_ Row.off List.[])))))))));
+          slots = List._∷_ (Row.lease (κs .0) (qs .0)) (List._∷_ (Row.lease (κs .1 .0) (qs .1 .0)) (List._∷_ Row.off (List._∷_ (Row.lease (κs .1 .1 .1 .0)
+              (qs .1 .1 .1 .0)) (List._∷_ Row.off (List._∷_ Row.off (List._∷_ Row.off (List._∷_ Row.off (List._∷_ Row.dead (List._∷_ Row.off List.[])))))))));
         }
 
         abbrev G61 : Row.Cx
         G61 = record {
           locals = List._++_ t44 (List._++_ t43 t2);
-          slots = List._∷_ (Row.lease (κs .0) (qs .0)) (List._∷_ (Row.lease (κs .1 .0) (qs .1 .0)) (List._∷_ (Row.lease (κs .1 .1 .0) (qs .1 .1
-              .0)) (List._∷_ (Row.lease (κs .1 .1 .1 .0) (qs .1 .1 .1 .0)) (List._∷_ Row.off (List._∷_ Row.off (List._∷_ Row.off (List._∷_ Row.off (List._∷_ Row.dead (List._∷_ Row.off List.[])))))))));
+          slots = List._∷_ (Row.lease (κs .0) (qs .0)) (List._∷_ (Row.lease (κs .1 .0) (qs .1 .0)) (List._∷_ (Row.lease (κs .1 .1 .0) (qs .1 .1 .0))
+              (List._∷_ (Row.lease (κs .1 .1 .1 .0) (qs .1 .1 .1 .0)) (List._∷_ Row.off (List._∷_ Row.off (List._∷_ Row.off (List._∷_ Row.off (List._∷_ Row.dead (List._∷_ Row.off List.[])))))))));
         }
 
         abbrev G62 : Row.Cx
         G62 = record {
           locals = List._++_ t44 (List._++_ t43 t2);
-          slots = List._∷_ (Row.lease (κs .0) (qs .0)) (List._∷_ (Row.lease (κs .1 .0) (qs .1 .0)) (List._∷_ (Row.lease (κs .1 .1 .0) (qs .1 .1
-              .0)) (List._∷_ (Row.lease (κs .1 .1 .1 .0) (qs .1 .1 .1 .0)) (List._∷_ Row.off (List._∷_ Row.off (List._∷_ Row.off (List._∷_ Row.off (List._∷_ Row.dead (List._∷_ Row.off List.[])))))))));
+          slots = List._∷_ (Row.lease (κs .0) (qs .0)) (List._∷_ (Row.lease (κs .1 .0) (qs .1 .0)) (List._∷_ (Row.lease (κs .1 .1 .0) (qs .1 .1 .0))
+              (List._∷_ (Row.lease (κs .1 .1 .1 .0) (qs .1 .1 .1 .0)) (List._∷_ Row.off (List._∷_ Row.off (List._∷_ Row.off (List._∷_ Row.off (List._∷_ Row.dead (List._∷_ Row.off List.[])))))))));
         }
 
         abbrev G63 : Row.Cx
         G63 = record {
           locals = List._++_ t44 (List._++_ t43 t2);
-          slots = List._∷_ (Row.lease (κs .0) (qs .0)) (List._∷_ (Row.lease (κs .1 .0) (qs .1 .0)) (List._∷_ (Row.lease (κs .1 .1 .0) (qs .1 .1
-              .0)) (List._∷_ (Row.lease (κs .1 .1 .1 .0) (qs .1 .1 .1 .0)) (List._∷_ Row.off (List._∷_ Row.off (List._∷_ Row.off (List._∷_ Row.off (List._∷_ Row.off (List._∷_ Row.off List.[])))))))));
+          slots = List._∷_ (Row.lease (κs .0) (qs .0)) (List._∷_ (Row.lease (κs .1 .0) (qs .1 .0)) (List._∷_ (Row.lease (κs .1 .1 .0) (qs .1 .1 .0))
+              (List._∷_ (Row.lease (κs .1 .1 .1 .0) (qs .1 .1 .1 .0)) (List._∷_ Row.off (List._∷_ Row.off (List._∷_ Row.off (List._∷_ Row.off (List._∷_ Row.off (List._∷_ Row.off List.[])))))))));
         }
 
         abbrev G64 : Row.Cx
         G64 = record {
           locals = List._++_ t44 (List._++_ t45 t2);
-          slots = List._∷_ (Row.lease (κs .0) (qs .0)) (List._∷_ (Row.lease (κs .1 .0) (qs .1 .0)) (List._∷_ (Row.lease (κs .1 .1 .0) (qs .1 .1
-              .0)) (List._∷_ (Row.lease (κs .1 .1 .1 .0) (qs .1 .1 .1 .0)) (List._∷_ Row.off (List._∷_ Row.off (List._∷_ Row.off (List._∷_ Row.off (List._∷_ Row.off (List._∷_ Row.off List.[])))))))));
+          slots = List._∷_ (Row.lease (κs .0) (qs .0)) (List._∷_ (Row.lease (κs .1 .0) (qs .1 .0)) (List._∷_ (Row.lease (κs .1 .1 .0) (qs .1 .1 .0))
+              (List._∷_ (Row.lease (κs .1 .1 .1 .0) (qs .1 .1 .1 .0)) (List._∷_ Row.off (List._∷_ Row.off (List._∷_ Row.off (List._∷_ Row.off (List._∷_ Row.off (List._∷_ Row.off List.[])))))))));
         }
 
         abbrev G65 : Row.Cx
         G65 = record {
           locals = List._++_ t44 (List._++_ t46 t2);
-          slots = List._∷_ (Row.lease (κs .0) (qs .0)) (List._∷_ (Row.lease (κs .1 .0) (qs .1 .0)) (List._∷_ (Row.lease (κs .1 .1 .0) (qs .1 .1
-              .0)) (List._∷_ (Row.lease (κs .1 .1 .1 .0) (qs .1 .1 .1 .0)) (List._∷_ Row.off (List._∷_ Row.off (List._∷_ Row.off (List._∷_ Row.off (List._∷_ Row.off (List._∷_ Row.off List.[])))))))));
+          slots = List._∷_ (Row.lease (κs .0) (qs .0)) (List._∷_ (Row.lease (κs .1 .0) (qs .1 .0)) (List._∷_ (Row.lease (κs .1 .1 .0) (qs .1 .1 .0))
+              (List._∷_ (Row.lease (κs .1 .1 .1 .0) (qs .1 .1 .1 .0)) (List._∷_ Row.off (List._∷_ Row.off (List._∷_ Row.off (List._∷_ Row.off (List._∷_ Row.off (List._∷_ Row.off List.[])))))))));
         }
 
         abbrev G66 : Row.Cx
         G66 = record {
           locals = List._++_ t44 (List._++_ t45 t2);
-          slots = List._∷_ (Row.lease (κs .0) (qs .0)) (List._∷_ (Row.lease (κs .1 .0) (qs .1 .0)) (List._∷_ (Row.lease (κs .1 .1 .0) (qs .1 .1
-              .0)) (List._∷_ (Row.lease (κs .1 .1 .1 .0) (qs .1 .1 .1 .0)) (List._∷_ Row.off (List._∷_ Row.off (List._∷_ Row.off (List._∷_ Row.off (List._∷_ Row.off (List._∷_ Row.off List.[])))))))));
+          slots = List._∷_ (Row.lease (κs .0) (qs .0)) (List._∷_ (Row.lease (κs .1 .0) (qs .1 .0)) (List._∷_ (Row.lease (κs .1 .1 .0) (qs .1 .1 .0))
+              (List._∷_ (Row.lease (κs .1 .1 .1 .0) (qs .1 .1 .1 .0)) (List._∷_ Row.off (List._∷_ Row.off (List._∷_ Row.off (List._∷_ Row.off (List._∷_ Row.off (List._∷_ Row.off List.[])))))))));
         }
 
         abbrev G67 : Row.Cx
         G67 = record {
           locals = List._++_ t44 (List._++_ t47 t2);
-          slots = List._∷_ (Row.lease (κs .0) (qs .0)) (List._∷_ (Row.lease (κs .1 .0) (qs .1 .0)) (List._∷_ (Row.lease (κs .1 .1 .0) (qs .1 .1
-              .0)) (List._∷_ (Row.lease (κs .1 .1 .1 .0) (qs .1 .1 .1 .0)) (List._∷_ Row.off (List._∷_ Row.off (List._∷_ Row.off (List._∷_ Row.off (List._∷_ Row.off (List._∷_ Row.off List.[])))))))));
+          slots = List._∷_ (Row.lease (κs .0) (qs .0)) (List._∷_ (Row.lease (κs .1 .0) (qs .1 .0)) (List._∷_ (Row.lease (κs .1 .1 .0) (qs .1 .1 .0))
+              (List._∷_ (Row.lease (κs .1 .1 .1 .0) (qs .1 .1 .1 .0)) (List._∷_ Row.off (List._∷_ Row.off (List._∷_ Row.off (List._∷_ Row.off (List._∷_ Row.off (List._∷_ Row.off List.[])))))))));
         }
 
         abbrev G68 : Row.Cx
         G68 = record {
           locals = List._++_ t44 (List._++_ t48 t2);
-          slots = List._∷_ (Row.lease (κs .0) (qs .0)) (List._∷_ (Row.lease (κs .1 .0) (qs .1 .0)) (List._∷_ (Row.lease (κs .1 .1 .0) (qs .1 .1
-              .0)) (List._∷_ (Row.lease (κs .1 .1 .1 .0) (qs .1 .1 .1 .0)) (List._∷_ Row.off (List._∷_ Row.off (List._∷_ Row.off (List._∷_ Row.off (List._∷_ Row.off (List._∷_ Row.off List.[])))))))));
+          slots = List._∷_ (Row.lease (κs .0) (qs .0)) (List._∷_ (Row.lease (κs .1 .0) (qs .1 .0)) (List._∷_ (Row.lease (κs .1 .1 .0) (qs .1 .1 .0))
+              (List._∷_ (Row.lease (κs .1 .1 .1 .0) (qs .1 .1 .1 .0)) (List._∷_ Row.off (List._∷_ Row.off (List._∷_ Row.off (List._∷_ Row.off (List._∷_ Row.off (List._∷_ Row.off List.[])))))))));
         }
 
         abbrev G69 : Row.Cx
         G69 = record {
           locals = List._++_ t49 (List._++_ t48 t2);
-          slots = List._∷_ (Row.lease (κs .0) (qs .0)) (List._∷_ (Row.lease (κs .1 .0) (qs .1 .0)) (List._∷_ (Row.lease (κs .1 .1 .0) (qs .1 .1
-              .0)) (List._∷_ (Row.lease (κs .1 .1 .1 .0) (qs .1 .1 .1 .0)) (List._∷_ Row.off (List._∷_ Row.off (List._∷_ Row.off (List._∷_ Row.off (List._∷_ Row.off (List._∷_ Row.off List.[])))))))));
+          slots = List._∷_ (Row.lease (κs .0) (qs .0)) (List._∷_ (Row.lease (κs .1 .0) (qs .1 .0)) (List._∷_ (Row.lease (κs .1 .1 .0) (qs .1 .1 .0))
+              (List._∷_ (Row.lease (κs .1 .1 .1 .0) (qs .1 .1 .1 .0)) (List._∷_ Row.off (List._∷_ Row.off (List._∷_ Row.off (List._∷_ Row.off (List._∷_ Row.off (List._∷_ Row.off List.[])))))))));
         }
 
         abbrev G70 : Row.Cx
         G70 = record {
           locals = List._++_ t49 (List._++_ t50 t2);
-          slots = List._∷_ (Row.lease (κs .0) (qs .0)) (List._∷_ (Row.lease (κs .1 .0) (qs .1 .0)) (List._∷_ (Row.lease (κs .1 .1 .0) (qs .1 .1
-              .0)) (List._∷_ (Row.lease (κs .1 .1 .1 .0) (qs .1 .1 .1 .0)) (List._∷_ Row.off (List._∷_ Row.off (List._∷_ Row.off (List._∷_ Row.off (List._∷_ Row.off (List._∷_ Row.off List.[])))))))));
+          slots = List._∷_ (Row.lease (κs .0) (qs .0)) (List._∷_ (Row.lease (κs .1 .0) (qs .1 .0)) (List._∷_ (Row.lease (κs .1 .1 .0) (qs .1 .1 .0))
+              (List._∷_ (Row.lease (κs .1 .1 .1 .0) (qs .1 .1 .1 .0)) (List._∷_ Row.off (List._∷_ Row.off (List._∷_ Row.off (List._∷_ Row.off (List._∷_ Row.off (List._∷_ Row.off List.[])))))))));
         }
 
         abbrev G71 : Row.Cx
         G71 = record {
           locals = List._++_ t51 (List._++_ t50 t2);
-          slots = List._∷_ (Row.lease (κs .0) (qs .0)) (List._∷_ (Row.lease (κs .1 .0) (qs .1 .0)) (List._∷_ (Row.lease (κs .1 .1 .0) (qs .1 .1
-              .0)) (List._∷_ (Row.lease (κs .1 .1 .1 .0) (qs .1 .1 .1 .0)) (List._∷_ Row.off (List._∷_ Row.off (List._∷_ Row.off (List._∷_ Row.off (List._∷_ Row.off (List._∷_ Row.off List.[])))))))));
+          slots = List._∷_ (Row.lease (κs .0) (qs .0)) (List._∷_ (Row.lease (κs .1 .0) (qs .1 .0)) (List._∷_ (Row.lease (κs .1 .1 .0) (qs .1 .1 .0))
+              (List._∷_ (Row.lease (κs .1 .1 .1 .0) (qs .1 .1 .1 .0)) (List._∷_ Row.off (List._∷_ Row.off (List._∷_ Row.off (List._∷_ Row.off (List._∷_ Row.off (List._∷_ Row.off List.[])))))))));
         }
 
         abbrev G72 : Row.Cx
         G72 = record {
           locals = List._++_ t52 (List._++_ t50 t2);
-          slots = List._∷_ (Row.lease (κs .0) (qs .0)) (List._∷_ (Row.lease (κs .1 .0) (qs .1 .0)) (List._∷_ (Row.lease (κs .1 .1 .0) (qs .1 .1
-              .0)) (List._∷_ (Row.lease (κs .1 .1 .1 .0) (qs .1 .1 .1 .0)) (List._∷_ Row.off (List._∷_ Row.off (List._∷_ Row.off (List._∷_ Row.off (List._∷_ Row.off (List._∷_ Row.off List.[])))))))));
+          slots = List._∷_ (Row.lease (κs .0) (qs .0)) (List._∷_ (Row.lease (κs .1 .0) (qs .1 .0)) (List._∷_ (Row.lease (κs .1 .1 .0) (qs .1 .1 .0))
+              (List._∷_ (Row.lease (κs .1 .1 .1 .0) (qs .1 .1 .1 .0)) (List._∷_ Row.off (List._∷_ Row.off (List._∷_ Row.off (List._∷_ Row.off (List._∷_ Row.off (List._∷_ Row.off List.[])))))))));
         }
 
         abbrev G73 : Row.Cx
         G73 = record {
           locals = List._++_ t53 (List._++_ t50 t2);
-          slots = List._∷_ (Row.lease (κs .0) (qs .0)) (List._∷_ (Row.lease (κs .1 .0) (qs .1 .0)) (List._∷_ (Row.lease (κs .1 .1 .0) (qs .1 .1
-              .0)) (List._∷_ (Row.lease (κs .1 .1 .1 .0) (qs .1 .1 .1 .0)) (List._∷_ Row.off (List._∷_ Row.off (List._∷_ Row.off (List._∷_ Row.off (List._∷_ Row.off (List._∷_ Row.off List.[])))))))));
+          slots = List._∷_ (Row.lease (κs .0) (qs .0)) (List._∷_ (Row.lease (κs .1 .0) (qs .1 .0)) (List._∷_ (Row.lease (κs .1 .1 .0) (qs .1 .1 .0))
+              (List._∷_ (Row.lease (κs .1 .1 .1 .0) (qs .1 .1 .1 .0)) (List._∷_ Row.off (List._∷_ Row.off (List._∷_ Row.off (List._∷_ Row.off (List._∷_ Row.off (List._∷_ Row.off List.[])))))))));
         }
 
         abbrev G74 : Row.Cx
         G74 = record {
           locals = List._++_ t54 (List._++_ t50 t2);
-          slots = List._∷_ (Row.lease (κs .0) (qs .0)) (List._∷_ (Row.lease (κs .1 .0) (qs .1 .0)) (List._∷_ (Row.lease (κs .1 .1 .0) (qs .1 .1
-              .0)) (List._∷_ (Row.lease (κs .1 .1 .1 .0) (qs .1 .1 .1 .0)) (List._∷_ Row.off (List._∷_ Row.off (List._∷_ Row.off (List._∷_ Row.off (List._∷_ Row.off (List._∷_ Row.off List.[])))))))));
+          slots = List._∷_ (Row.lease (κs .0) (qs .0)) (List._∷_ (Row.lease (κs .1 .0) (qs .1 .0)) (List._∷_ (Row.lease (κs .1 .1 .0) (qs .1 .1 .0))
+              (List._∷_ (Row.lease (κs .1 .1 .1 .0) (qs .1 .1 .1 .0)) (List._∷_ Row.off (List._∷_ Row.off (List._∷_ Row.off (List._∷_ Row.off (List._∷_ Row.off (List._∷_ Row.off List.[])))))))));
         }
 
         abbrev G75 : Row.Cx
         G75 = record {
           locals = List._++_ t55 (List._++_ t50 t2);
-          slots = List._∷_ (Row.lease (κs .0) (qs .0)) (List._∷_ (Row.lease (κs .1 .0) (qs .1 .0)) (List._∷_ (Row.lease (κs .1 .1 .0) (qs .1 .1
-              .0)) (List._∷_ (Row.lease (κs .1 .1 .1 .0) (qs .1 .1 .1 .0)) (List._∷_ Row.off (List._∷_ Row.off (List._∷_ Row.off (List._∷_ Row.off (List._∷_ Row.off (List._∷_ Row.off List.[])))))))));
+          slots = List._∷_ (Row.lease (κs .0) (qs .0)) (List._∷_ (Row.lease (κs .1 .0) (qs .1 .0)) (List._∷_ (Row.lease (κs .1 .1 .0) (qs .1 .1 .0))
+              (List._∷_ (Row.lease (κs .1 .1 .1 .0) (qs .1 .1 .1 .0)) (List._∷_ Row.off (List._∷_ Row.off (List._∷_ Row.off (List._∷_ Row.off (List._∷_ Row.off (List._∷_ Row.off List.[])))))))));
         }
 
         abbrev G76 : Row.Cx
         G76 = record {
           locals = List._++_ t56 (List._++_ t50 t2);
-          slots = List._∷_ (Row.lease (κs .0) (qs .0)) (List._∷_ (Row.lease (κs .1 .0) (qs .1 .0)) (List._∷_ (Row.lease (κs .1 .1 .0) (qs .1 .1
-              .0)) (List._∷_ (Row.lease (κs .1 .1 .1 .0) (qs .1 .1 .1 .0)) (List._∷_ Row.off (List._∷_ Row.off (List._∷_ Row.off (List._∷_ Row.off (List._∷_ Row.off (List._∷_ Row.off List.[])))))))));
+          slots = List._∷_ (Row.lease (κs .0) (qs .0)) (List._∷_ (Row.lease (κs .1 .0) (qs .1 .0)) (List._∷_ (Row.lease (κs .1 .1 .0) (qs .1 .1 .0))
+              (List._∷_ (Row.lease (κs .1 .1 .1 .0) (qs .1 .1 .1 .0)) (List._∷_ Row.off (List._∷_ Row.off (List._∷_ Row.off (List._∷_ Row.off (List._∷_ Row.off (List._∷_ Row.off List.[])))))))));
         }
 
         abbrev G77 : Row.Cx
         G77 = record {
           locals = List._++_ t3 (List._++_ t50 t2);
-          slots = List._∷_ (Row.lease (κs .0) (qs .0)) (List._∷_ (Row.lease (κs .1 .0) (qs .1 .0)) (List._∷_ (Row.lease (κs .1 .1 .0) (qs .1 .1
-              .0)) (List._∷_ (Row.lease (κs .1 .1 .1 .0) (qs .1 .1 .1 .0)) (List._∷_ Row.off (List._∷_ Row.off (List._∷_ Row.off (List._∷_ Row.off (List._∷_ Row.off (List._∷_ Row.off List.[])))))))));
+          slots = List._∷_ (Row.lease (κs .0) (qs .0)) (List._∷_ (Row.lease (κs .1 .0) (qs .1 .0)) (List._∷_ (Row.lease (κs .1 .1 .0) (qs .1 .1 .0)) (List._∷_
+              (Row.lease (κs .1 .1 .1 .0) (qs .1 .1 .1 .0)) (List._∷_ Row.off (List._∷_ Row.off (List._∷_ Row.off (List._∷_ Row.off (List._∷_ Row.off (List._∷_ Row.off List.[])))))))));
         }
 
         abbrev G78 : Row.Cx
         G78 = record {
           locals = List._++_ t3 (List._++_ t57 t2);
-          slots = List._∷_ (Row.lease (κs .0) (qs .0)) (List._∷_ (Row.lease (κs .1 .0) (qs .1 .0)) (List._∷_ (Row.lease (κs .1 .1 .0) (qs .1 .1
-              .0)) (List._∷_ (Row.lease (κs .1 .1 .1 .0) (qs .1 .1 .1 .0)) (List._∷_ Row.off (List._∷_ Row.off (List._∷_ Row.off (List._∷_ Row.off (List._∷_ Row.off (List._∷_ Row.off List.[])))))))));
+          slots = List._∷_ (Row.lease (κs .0) (qs .0)) (List._∷_ (Row.lease (κs .1 .0) (qs .1 .0)) (List._∷_ (Row.lease (κs .1 .1 .0) (qs .1 .1 .0)) (List._∷_
+              (Row.lease (κs .1 .1 .1 .0) (qs .1 .1 .1 .0)) (List._∷_ Row.off (List._∷_ Row.off (List._∷_ Row.off (List._∷_ Row.off (List._∷_ Row.off (List._∷_ Row.off List.[])))))))));
         }
 
         abbrev G79 : Row.Cx
         G79 = record {
           locals = List._++_ t3 (List._++_ t1 t2);
-          slots = List._∷_ (Row.lease (κs .0) (qs .0)) (List._∷_ (Row.lease (κs .1 .0) (qs .1 .0)) (List._∷_ (Row.lease (κs .1 .1 .0) (qs .1 .1
-              .0)) (List._∷_ (Row.lease (κs .1 .1 .1 .0) (qs .1 .1 .1 .0)) (List._∷_ Row.off (List._∷_ Row.off (List._∷_ Row.off (List._∷_ Row.off (List._∷_ Row.off (List._∷_ Row.off List.[])))))))));
+          slots = List._∷_ (Row.lease (κs .0) (qs .0)) (List._∷_ (Row.lease (κs .1 .0) (qs .1 .0)) (List._∷_ (Row.lease (κs .1 .1 .0) (qs .1 .1 .0)) (List._∷_
+              (Row.lease (κs .1 .1 .1 .0) (qs .1 .1 .1 .0)) (List._∷_ Row.off (List._∷_ Row.off (List._∷_ Row.off (List._∷_ Row.off (List._∷_ Row.off (List._∷_ Row.off List.[])))))))));
         }
 
         abbrev G80 : Row.Cx
         G80 = record {
           locals = List._++_ t44 (List._++_ t45 t2);
-          slots = List._∷_ (Row.lease (κs .0) (qs .0)) (List._∷_ (Row.lease (κs .1 .0) (qs .1 .0)) (List._∷_ (Row.lease (κs .1 .1 .0) (qs .1 .1
-              .0)) (List._∷_ (Row.lease (κs .1 .1 .1 .0) (qs .1 .1 .1 .0)) (List._∷_ Row.off (List._∷_ Row.off (List._∷_ Row.off (List._∷_ Row.off (List._∷_ Row.off (List._∷_ Row.off List.[])))))))));
+          slots = List._∷_ (Row.lease (κs .0) (qs .0)) (List._∷_ (Row.lease (κs .1 .0) (qs .1 .0)) (List._∷_ (Row.lease (κs .1 .1 .0) (qs .1 .1 .0))
+              (List._∷_ (Row.lease (κs .1 .1 .1 .0) (qs .1 .1 .1 .0)) (List._∷_ Row.off (List._∷_ Row.off (List._∷_ Row.off (List._∷_ Row.off (List._∷_ Row.off (List._∷_ Row.off List.[])))))))));
         }
 
         abbrev G81 : Row.Cx
         G81 = record {
           locals = List._++_ t44 (List._++_ t58 t2);
-          slots = List._∷_ (Row.lease (κs .0) (qs .0)) (List._∷_ (Row.lease (κs .1 .0) (qs .1 .0)) (List._∷_ (Row.lease (κs .1 .1 .0) (qs .1 .1
-              .0)) (List._∷_ (Row.lease (κs .1 .1 .1 .0) (qs .1 .1 .1 .0)) (List._∷_ Row.off (List._∷_ Row.off (List._∷_ Row.off (List._∷_ Row.off (List._∷_ Row.off (List._∷_ Row.off List.[])))))))));
+          slots = List._∷_ (Row.lease (κs .0) (qs .0)) (List._∷_ (Row.lease (κs .1 .0) (qs .1 .0)) (List._∷_ (Row.lease (κs .1 .1 .0) (qs .1 .1 .0))
+              (List._∷_ (Row.lease (κs .1 .1 .1 .0) (qs .1 .1 .1 .0)) (List._∷_ Row.off (List._∷_ Row.off (List._∷_ Row.off (List._∷_ Row.off (List._∷_ Row.off (List._∷_ Row.off List.[])))))))));
         }
 
         abbrev G82 : Row.Cx
         G82 = record {
           locals = List._++_ t44 (List._++_ t58 t2);
-          slots = List._∷_ (Row.lease (κs .0) (qs .0)) (List._∷_ (Row.lease (κs .1 .0) (qs .1 .0)) (List._∷_ (Row.lease (κs .1 .1 .0) (qs .1 .1
-              .0)) (List._∷_ (Row.lease (κs .1 .1 .1 .0) (qs .1 .1 .1 .0)) (List._∷_ Row.off (List._∷_ Row.off (List._∷_ Row.off (List._∷_ Row.off (List._∷_ Row.off (List._∷_ Row.alive List.[])))))))));
+          slots = List._∷_ (Row.lease (κs .0) (qs .0)) (List._∷_ (Row.lease (κs .1 .0) (qs .1 .0)) (List._∷_ (Row.lease (κs .1 .1 .0) (qs .1 .1 .0))
+              (List._∷_ (Row.lease (κs .1 .1 .1 .0) (qs .1 .1 .1 .0)) (List._∷_ Row.off (List._∷_ Row.off (List._∷_ Row.off (List._∷_ Row.off (List._∷_ Row.off (List._∷_ Row.alive List.[])))))))));
         }
 
         abbrev G83 : Row.Cx
         G83 = record {
           locals = List._++_ g59 (List._++_ t58 t60);
-          slots = List._∷_ (Row.lease (κs .0) (qs .0)) (List._∷_ (Row.lease (κs .1 .0) (qs .1 .0)) (List._∷_ (Row.lease (κs .1 .1 .0) (qs .1 .1
-              .0)) (List._∷_ Row.off (List._∷_ Row.off (List._∷_ Row.off (List._∷_ Row.off (List._∷_ Row.off (List._∷_ Row.off (List._∷_ Row.alive List.[])))))))));
+          slots = List._∷_ (Row.lease (κs .0) (qs .0)) (List._∷_ (Row.lease (κs .1 .0) (qs .1 .0)) (List._∷_ (Row.lease (κs .1 .1 .0) (qs .1 .1 .0))
+              (List._∷_ Row.off (List._∷_ Row.off (List._∷_ Row.off (List._∷_ Row.off (List._∷_ Row.off (List._∷_ Row.off (List._∷_ Row.alive List.[])))))))));
         }
 
         abbrev G84 : Row.Cx
         G84 = record {
           locals = List._++_ g59 (List._++_ t58 t61);
-          slots = List._∷_ (Row.lease (κs .0) (qs .0)) (List._∷_ (Row.lease (κs .1 .0) (qs .1 .0)) (List._∷_ (Row.lease (κs .1 .1 .0) (qs .1 .1
-              .0)) (List._∷_ Row.off (List._∷_ Row.off (List._∷_ Row.off (List._∷_ Row.off (List._∷_ Row.off (List._∷_ Row.off (List._∷_ Row.alive List.[])))))))));
+          slots = List._∷_ (Row.lease (κs .0) (qs .0)) (List._∷_ (Row.lease (κs .1 .0) (qs .1 .0)) (List._∷_ (Row.lease (κs .1 .1 .0) (qs .1 .1 .0))
+              (List._∷_ Row.off (List._∷_ Row.off (List._∷_ Row.off (List._∷_ Row.off (List._∷_ Row.off (List._∷_ Row.off (List._∷_ Row.alive List.[])))))))));
         }
 
         abbrev G85 : Row.Cx
         G85 = record {
           locals = List._++_ g59 (List._++_ t62 t63);
-          slots = List._∷_ (Row.lease (κs .0) (qs .0)) (List._∷_ (Row.lease (κs .1 .0) (qs .1 .0)) (List._∷_ (Row.lease (κs .1 .1 .0) (qs .1 .1
-              .0)) (List._∷_ Row.off (List._∷_ Row.off (List._∷_ Row.off (List._∷_ Row.off (List._∷_ Row.off (List._∷_ Row.off (List._∷_ Row.alive List.[])))))))));
+          slots = List._∷_ (Row.lease (κs .0) (qs .0)) (List._∷_ (Row.lease (κs .1 .0) (qs .1 .0)) (List._∷_ (Row.lease (κs .1 .1 .0) (qs .1 .1 .0))
+              (List._∷_ Row.off (List._∷_ Row.off (List._∷_ Row.off (List._∷_ Row.off (List._∷_ Row.off (List._∷_ Row.off (List._∷_ Row.alive List.[])))))))));
         }
 
         abbrev G86 : Row.Cx
         G86 = record {
           locals = List._++_ g59 (List._++_ t64 t63);
-          slots = List._∷_ (Row.lease (κs .0) (qs .0)) (List._∷_ (Row.lease (κs .1 .0) (qs .1 .0)) (List._∷_ (Row.lease (κs .1 .1 .0) (qs .1 .1
-              .0)) (List._∷_ Row.off (List._∷_ Row.off (List._∷_ Row.off (List._∷_ Row.off (List._∷_ Row.off (List._∷_ Row.off (List._∷_ Row.alive List.[])))))))));
+          slots = List._∷_ (Row.lease (κs .0) (qs .0)) (List._∷_ (Row.lease (κs .1 .0) (qs .1 .0)) (List._∷_ (Row.lease (κs .1 .1 .0) (qs .1 .1 .0))
+              (List._∷_ Row.off (List._∷_ Row.off (List._∷_ Row.off (List._∷_ Row.off (List._∷_ Row.off (List._∷_ Row.off (List._∷_ Row.alive List.[])))))))));
         }
 
         abbrev G87 : Row.Cx
         G87 = record {
           locals = List._++_ g59 (List._++_ t65 t63);
-          slots = List._∷_ (Row.lease (κs .0) (qs .0)) (List._∷_ (Row.lease (κs .1 .0) (qs .1 .0)) (List._∷_ (Row.lease (κs .1 .1 .0) (qs .1 .1
-              .0)) (List._∷_ Row.off (List._∷_ Row.off (List._∷_ Row.off (List._∷_ Row.off (List._∷_ Row.off (List._∷_ Row.off (List._∷_ Row.alive List.[])))))))));
+          slots = List._∷_ (Row.lease (κs .0) (qs .0)) (List._∷_ (Row.lease (κs .1 .0) (qs .1 .0)) (List._∷_ (Row.lease (κs .1 .1 .0) (qs .1 .1 .0))
+              (List._∷_ Row.off (List._∷_ Row.off (List._∷_ Row.off (List._∷_ Row.off (List._∷_ Row.off (List._∷_ Row.off (List._∷_ Row.alive List.[])))))))));
         }
 
         abbrev G88 : Row.Cx
         G88 = record {
           locals = List._++_ g59 (List._++_ t48 t63);
-          slots = List._∷_ (Row.lease (κs .0) (qs .0)) (List._∷_ (Row.lease (κs .1 .0) (qs .1 .0)) (List._∷_ (Row.lease (κs .1 .1 .0) (qs .1 .1
-              .0)) (List._∷_ Row.off (List._∷_ Row.off (List._∷_ Row.off (List._∷_ Row.off (List._∷_ Row.off (List._∷_ Row.off (List._∷_ Row.alive List.[])))))))));
+          slots = List._∷_ (Row.lease (κs .0) (qs .0)) (List._∷_ (Row.lease (κs .1 .0) (qs .1 .0)) (List._∷_ (Row.lease (κs .1 .1 .0) (qs .1 .1 .0))
+              (List._∷_ Row.off (List._∷_ Row.off (List._∷_ Row.off (List._∷_ Row.off (List._∷_ Row.off (List._∷_ Row.off (List._∷_ Row.alive List.[])))))))));
         }
 
         abbrev G89 : Row.Cx
         G89 = record {
           locals = List._++_ g59 (List._++_ t48 t63);
-          slots = List._∷_ (Row.lease (κs .0) (qs .0)) (List._∷_ (Row.lease (κs .1 .0) (qs .1 .0)) (List._∷_ (Row.lease (κs .1 .1 .0) (qs .1 .1
-              .0)) (List._∷_ Row.off (List._∷_ Row.off (List._∷_ Row.off (List._∷_ Row.off (List._∷_ Row.off (List._∷_ Row.off (List._∷_ Row.dead List.[])))))))));
+          slots = List._∷_ (Row.lease (κs .0) (qs .0)) (List._∷_ (Row.lease (κs .1 .0) (qs .1 .0)) (List._∷_ (Row.lease (κs .1 .1 .0) (qs .1 .1 .0))
+              (List._∷_ Row.off (List._∷_ Row.off (List._∷_ Row.off (List._∷_ Row.off (List._∷_ Row.off (List._∷_ Row.off (List._∷_ Row.dead List.[])))))))));
         }
 
         abbrev G90 : Row.Cx
         G90 = record {
           locals = List._++_ t44 (List._++_ t48 t2);
-          slots = List._∷_ (Row.lease (κs .0) (qs .0)) (List._∷_ (Row.lease (κs .1 .0) (qs .1 .0)) (List._∷_ (Row.lease (κs .1 .1 .0) (qs .1 .1
-              .0)) (List._∷_ (Row.lease (κs .1 .1 .1 .0) (qs .1 .1 .1 .0)) (List._∷_ Row.off (List._∷_ Row.off (List._∷_ Row.off (List._∷_ Row.off (List._∷_ Row.off (List._∷_ Row.dead List.[])))))))));
+          slots = List._∷_ (Row.lease (κs .0) (qs .0)) (List._∷_ (Row.lease (κs .1 .0) (qs .1 .0)) (List._∷_ (Row.lease (κs .1 .1 .0) (qs .1 .1 .0))
+              (List._∷_ (Row.lease (κs .1 .1 .1 .0) (qs .1 .1 .1 .0)) (List._∷_ Row.off (List._∷_ Row.off (List._∷_ Row.off (List._∷_ Row.off (List._∷_ Row.off (List._∷_ Row.dead List.[])))))))));
         }
 
         abbrev G91 : Row.Cx
         G91 = record {
           locals = List._++_ t44 (List._++_ t48 t2);
-          slots = List._∷_ (Row.lease (κs .0) (qs .0)) (List._∷_ (Row.lease (κs .1 .0) (qs .1 .0)) (List._∷_ (Row.lease (κs .1 .1 .0) (qs .1 .1
-              .0)) (List._∷_ (Row.lease (κs .1 .1 .1 .0) (qs .1 .1 .1 .0)) (List._∷_ Row.off (List._∷_ Row.off (List._∷_ Row.off (List._∷_ Row.off (List._∷_ Row.off (List._∷_ Row.off List.[])))))))));
+          slots = List._∷_ (Row.lease (κs .0) (qs .0)) (List._∷_ (Row.lease (κs .1 .0) (qs .1 .0)) (List._∷_ (Row.lease (κs .1 .1 .0) (qs .1 .1 .0))
+              (List._∷_ (Row.lease (κs .1 .1 .1 .0) (qs .1 .1 .1 .0)) (List._∷_ Row.off (List._∷_ Row.off (List._∷_ Row.off (List._∷_ Row.off (List._∷_ Row.off (List._∷_ Row.off List.[])))))))));
         }
 
         abbrev G92 : Row.Cx
         G92 = record {
           locals = List._++_ t13 (List._++_ t48 t2);
-          slots = List._∷_ (Row.lease (κs .0) (qs .0)) (List._∷_ (Row.lease (κs .1 .0) (qs .1 .0)) (List._∷_ (Row.lease (κs .1 .1 .0) (qs .1 .1
-              .0)) (List._∷_ (Row.lease (κs .1 .1 .1 .0) (qs .1 .1 .1 .0)) (List._∷_ Row.off (List._∷_ Row.off (List._∷_ Row.off (List._∷_ Row.off (List._∷_ Row.off (List._∷_ Row.off List.[])))))))));
+          slots = List._∷_ (Row.lease (κs .0) (qs .0)) (List._∷_ (Row.lease (κs .1 .0) (qs .1 .0)) (List._∷_ (Row.lease (κs .1 .1 .0) (qs .1 .1 .0))
+              (List._∷_ (Row.lease (κs .1 .1 .1 .0) (qs .1 .1 .1 .0)) (List._∷_ Row.off (List._∷_ Row.off (List._∷_ Row.off (List._∷_ Row.off (List._∷_ Row.off (List._∷_ Row.off List.[])))))))));
         }
 
         abbrev G93 : Row.Cx
         G93 = record {
           locals = List._++_ t13 (List._++_ t50 t2);
-          slots = List._∷_ (Row.lease (κs .0) (qs .0)) (List._∷_ (Row.lease (κs .1 .0) (qs .1 .0)) (List._∷_ (Row.lease (κs .1 .1 .0) (qs .1 .1
-              .0)) (List._∷_ (Row.lease (κs .1 .1 .1 .0) (qs .1 .1 .1 .0)) (List._∷_ Row.off (List._∷_ Row.off (List._∷_ Row.off (List._∷_ Row.off (List._∷_ Row.off (List._∷_ Row.off List.[])))))))));
+          slots = List._∷_ (Row.lease (κs .0) (qs .0)) (List._∷_ (Row.lease (κs .1 .0) (qs .1 .0)) (List._∷_ (Row.lease (κs .1 .1 .0) (qs .1 .1 .0))
+              (List._∷_ (Row.lease (κs .1 .1 .1 .0) (qs .1 .1 .1 .0)) (List._∷_ Row.off (List._∷_ Row.off (List._∷_ Row.off (List._∷_ Row.off (List._∷_ Row.off (List._∷_ Row.off List.[])))))))));
         }
 
         abbrev G94 : Row.Cx
         G94 = record {
           locals = List._++_ t13 (List._++_ t50 t2);
-          slots = List._∷_ (Row.lease (κs .0) (qs .0)) (List._∷_ (Row.lease (κs .1 .0) (qs .1 .0)) (List._∷_ (Row.lease (κs .1 .1 .0) (qs .1 .1
-              .0)) (List._∷_ (Row.lease (κs .1 .1 .1 .0) (qs .1 .1 .1 .0)) (List._∷_ Row.off (List._∷_ Row.off (List._∷_ Row.off (List._∷_ Row.off (List._∷_ Row.off (List._∷_ Row.off List.[])))))))));
+          slots = List._∷_ (Row.lease (κs .0) (qs .0)) (List._∷_ (Row.lease (κs .1 .0) (qs .1 .0)) (List._∷_ (Row.lease (κs .1 .1 .0) (qs .1 .1 .0))
+              (List._∷_ (Row.lease (κs .1 .1 .1 .0) (qs .1 .1 .1 .0)) (List._∷_ Row.off (List._∷_ Row.off (List._∷_ Row.off (List._∷_ Row.off (List._∷_ Row.off (List._∷_ Row.off List.[])))))))));
         }
 
         abbrev G95 : Row.Cx
         G95 = record {
           locals = List._++_ t13 (List._++_ t14 t2);
-          slots = List._∷_ (Row.lease (κs .0) (qs .0)) (List._∷_ (Row.lease (κs .1 .0) (qs .1 .0)) (List._∷_ (Row.lease (κs .1 .1 .0) (qs .1 .1
-              .0)) (List._∷_ (Row.lease (κs .1 .1 .1 .0) (qs .1 .1 .1 .0)) (List._∷_ Row.off (List._∷_ Row.off (List._∷_ Row.off (List._∷_ Row.off (List._∷_ Row.off (List._∷_ Row.off List.[])))))))));
+          slots = List._∷_ (Row.lease (κs .0) (qs .0)) (List._∷_ (Row.lease (κs .1 .0) (qs .1 .0)) (List._∷_ (Row.lease (κs .1 .1 .0) (qs .1 .1 .0))
+              (List._∷_ (Row.lease (κs .1 .1 .1 .0) (qs .1 .1 .1 .0)) (List._∷_ Row.off (List._∷_ Row.off (List._∷_ Row.off (List._∷_ Row.off (List._∷_ Row.off (List._∷_ Row.off List.[])))))))));
         }
 
         abbrev G96 : Row.Cx
         G96 = record {
           locals = List._++_ t66 (List._++_ t14 t2);
-          slots = List._∷_ (Row.lease (κs .0) (qs .0)) (List._∷_ (Row.lease (κs .1 .0) (qs .1 .0)) (List._∷_ (Row.lease (κs .1 .1 .0) (qs .1 .1
-              .0)) (List._∷_ (Row.lease (κs .1 .1 .1 .0) (qs .1 .1 .1 .0)) (List._∷_ Row.off (List._∷_ Row.off (List._∷_ Row.off (List._∷_ Row.off (List._∷_ Row.off (List._∷_ Row.off List.[])))))))));
+          slots = List._∷_ (Row.lease (κs .0) (qs .0)) (List._∷_ (Row.lease (κs .1 .0) (qs .1 .0)) (List._∷_ (Row.lease (κs .1 .1 .0) (qs .1 .1 .0))
+              (List._∷_ (Row.lease (κs .1 .1 .1 .0) (qs .1 .1 .1 .0)) (List._∷_ Row.off (List._∷_ Row.off (List._∷_ Row.off (List._∷_ Row.off (List._∷_ Row.off (List._∷_ Row.off List.[])))))))));
         }
 
         abbrev G97 : Row.Cx
         G97 = record {
           locals = List._++_ t67 (List._++_ t14 t2);
-          slots = List._∷_ (Row.lease (κs .0) (qs .0)) (List._∷_ (Row.lease (κs .1 .0) (qs .1 .0)) (List._∷_ (Row.lease (κs .1 .1 .0) (qs .1 .1
-              .0)) (List._∷_ (Row.lease (κs .1 .1 .1 .0) (qs .1 .1 .1 .0)) (List._∷_ Row.off (List._∷_ Row.off (List._∷_ Row.off (List._∷_ Row.off (List._∷_ Row.off (List._∷_ Row.off List.[])))))))));
+          slots = List._∷_ (Row.lease (κs .0) (qs .0)) (List._∷_ (Row.lease (κs .1 .0) (qs .1 .0)) (List._∷_ (Row.lease (κs .1 .1 .0) (qs .1 .1 .0))
+              (List._∷_ (Row.lease (κs .1 .1 .1 .0) (qs .1 .1 .1 .0)) (List._∷_ Row.off (List._∷_ Row.off (List._∷_ Row.off (List._∷_ Row.off (List._∷_ Row.off (List._∷_ Row.off List.[])))))))));
         }
 
         abbrev G98 : Row.Cx
         G98 = record {
           locals = List._++_ t68 (List._++_ t14 t2);
-          slots = List._∷_ (Row.lease (κs .0) (qs .0)) (List._∷_ (Row.lease (κs .1 .0) (qs .1 .0)) (List._∷_ (Row.lease (κs .1 .1 .0) (qs .1 .1
-              .0)) (List._∷_ (Row.lease (κs .1 .1 .1 .0) (qs .1 .1 .1 .0)) (List._∷_ Row.off (List._∷_ Row.off (List._∷_ Row.off (List._∷_ Row.off (List._∷_ Row.off (List._∷_ Row.off List.[])))))))));
+          slots = List._∷_ (Row.lease (κs .0) (qs .0)) (List._∷_ (Row.lease (κs .1 .0) (qs .1 .0)) (List._∷_ (Row.lease (κs .1 .1 .0) (qs .1 .1 .0))
+              (List._∷_ (Row.lease (κs .1 .1 .1 .0) (qs .1 .1 .1 .0)) (List._∷_ Row.off (List._∷_ Row.off (List._∷_ Row.off (List._∷_ Row.off (List._∷_ Row.off (List._∷_ Row.off List.[])))))))));
         }
 
         abbrev G99 : Row.Cx
         G99 = record {
           locals = List._++_ t69 (List._++_ t14 t2);
-          slots = List._∷_ (Row.lease (κs .0) (qs .0)) (List._∷_ (Row.lease (κs .1 .0) (qs .1 .0)) (List._∷_ (Row.lease (κs .1 .1 .0) (qs .1 .1
-              .0)) (List._∷_ (Row.lease (κs .1 .1 .1 .0) (qs .1 .1 .1 .0)) (List._∷_ Row.off (List._∷_ Row.off (List._∷_ Row.off (List._∷_ Row.off (List._∷_ Row.off (List._∷_ Row.off List.[])))))))));
+          slots = List._∷_ (Row.lease (κs .0) (qs .0)) (List._∷_ (Row.lease (κs .1 .0) (qs .1 .0)) (List._∷_ (Row.lease (κs .1 .1 .0) (qs .1 .1 .0))
+              (List._∷_ (Row.lease (κs .1 .1 .1 .0) (qs .1 .1 .1 .0)) (List._∷_ Row.off (List._∷_ Row.off (List._∷_ Row.off (List._∷_ Row.off (List._∷_ Row.off (List._∷_ Row.off List.[])))))))));
         }
 
         abbrev G100 : Row.Cx
         G100 = record {
           locals = List._++_ t70 (List._++_ t14 t2);
-          slots = List._∷_ (Row.lease (κs .0) (qs .0)) (List._∷_ (Row.lease (κs .1 .0) (qs .1 .0)) (List._∷_ (Row.lease (κs .1 .1 .0) (qs .1 .1
-              .0)) (List._∷_ (Row.lease (κs .1 .1 .1 .0) (qs .1 .1 .1 .0)) (List._∷_ Row.off (List._∷_ Row.off (List._∷_ Row.off (List._∷_ Row.off (List._∷_ Row.off (List._∷_ Row.off List.[])))))))));
+          slots = List._∷_ (Row.lease (κs .0) (qs .0)) (List._∷_ (Row.lease (κs .1 .0) (qs .1 .0)) (List._∷_ (Row.lease (κs .1 .1 .0) (qs .1 .1 .0))
+              (List._∷_ (Row.lease (κs .1 .1 .1 .0) (qs .1 .1 .1 .0)) (List._∷_ Row.off (List._∷_ Row.off (List._∷_ Row.off (List._∷_ Row.off (List._∷_ Row.off (List._∷_ Row.off List.[])))))))));
         }
 
         abbrev G101 : Row.Cx
         G101 = record {
           locals = List._++_ t71 (List._++_ t14 t2);
-          slots = List._∷_ (Row.lease (κs .0) (qs .0)) (List._∷_ (Row.lease (κs .1 .0) (qs .1 .0)) (List._∷_ (Row.lease (κs .1 .1 .0) (qs .1 .1
-              .0)) (List._∷_ (Row.lease (κs .1 .1 .1 .0) (qs .1 .1 .1 .0)) (List._∷_ Row.off (List._∷_ Row.off (List._∷_ Row.off (List._∷_ Row.off (List._∷_ Row.off (List._∷_ Row.off List.[])))))))));
+          slots = List._∷_ (Row.lease (κs .0) (qs .0)) (List._∷_ (Row.lease (κs .1 .0) (qs .1 .0)) (List._∷_ (Row.lease (κs .1 .1 .0) (qs .1 .1 .0))
+              (List._∷_ (Row.lease (κs .1 .1 .1 .0) (qs .1 .1 .1 .0)) (List._∷_ Row.off (List._∷_ Row.off (List._∷_ Row.off (List._∷_ Row.off (List._∷_ Row.off (List._∷_ Row.off List.[])))))))));
         }
 
         abbrev G102 : Row.Cx
         G102 = record {
           locals = List._++_ t72 (List._++_ t14 t2);
-          slots = List._∷_ (Row.lease (κs .0) (qs .0)) (List._∷_ (Row.lease (κs .1 .0) (qs .1 .0)) (List._∷_ (Row.lease (κs .1 .1 .0) (qs .1 .1
-              .0)) (List._∷_ (Row.lease (κs .1 .1 .1 .0) (qs .1 .1 .1 .0)) (List._∷_ Row.off (List._∷_ Row.off (List._∷_ Row.off (List._∷_ Row.off (List._∷_ Row.off (List._∷_ Row.off List.[])))))))));
+          slots = List._∷_ (Row.lease (κs .0) (qs .0)) (List._∷_ (Row.lease (κs .1 .0) (qs .1 .0)) (List._∷_ (Row.lease (κs .1 .1 .0) (qs .1 .1 .0))
+              (List._∷_ (Row.lease (κs .1 .1 .1 .0) (qs .1 .1 .1 .0)) (List._∷_ Row.off (List._∷_ Row.off (List._∷_ Row.off (List._∷_ Row.off (List._∷_ Row.off (List._∷_ Row.off List.[])))))))));
         }
 
         abbrev G103 : Row.Cx
         G103 = record {
           locals = List._++_ t72 (List._++_ t1 t2);
-          slots = List._∷_ (Row.lease (κs .0) (qs .0)) (List._∷_ (Row.lease (κs .1 .0) (qs .1 .0)) (List._∷_ (Row.lease (κs .1 .1 .0) (qs .1 .1
-              .0)) (List._∷_ (Row.lease (κs .1 .1 .1 .0) (qs .1 .1 .1 .0)) (List._∷_ Row.off (List._∷_ Row.off (List._∷_ Row.off (List._∷_ Row.off (List._∷_ Row.off (List._∷_ Row.off List.[])))))))));
+          slots = List._∷_ (Row.lease (κs .0) (qs .0)) (List._∷_ (Row.lease (κs .1 .0) (qs .1 .0)) (List._∷_ (Row.lease (κs .1 .1 .0) (qs .1 .1 .0)) (List._∷_
+              (Row.lease (κs .1 .1 .1 .0) (qs .1 .1 .1 .0)) (List._∷_ Row.off (List._∷_ Row.off (List._∷_ Row.off (List._∷_ Row.off (List._∷_ Row.off (List._∷_ Row.off List.[])))))))));
         }
 
         abbrev G104 : Row.Cx
         G104 = record {
           locals = List._++_ t73 (List._++_ t1 t2);
-          slots = List._∷_ (Row.lease (κs .0) (qs .0)) (List._∷_ (Row.lease (κs .1 .0) (qs .1 .0)) (List._∷_ (Row.lease (κs .1 .1 .0) (qs .1 .1
-              .0)) (List._∷_ (Row.lease (κs .1 .1 .1 .0) (qs .1 .1 .1 .0)) (List._∷_ Row.off (List._∷_ Row.off (List._∷_ Row.off (List._∷_ Row.off (List._∷_ Row.off (List._∷_ Row.off List.[])))))))));
+          slots = List._∷_ (Row.lease (κs .0) (qs .0)) (List._∷_ (Row.lease (κs .1 .0) (qs .1 .0)) (List._∷_ (Row.lease (κs .1 .1 .0) (qs .1 .1 .0)) (List._∷_
+              (Row.lease (κs .1 .1 .1 .0) (qs .1 .1 .1 .0)) (List._∷_ Row.off (List._∷_ Row.off (List._∷_ Row.off (List._∷_ Row.off (List._∷_ Row.off (List._∷_ Row.off List.[])))))))));
         }
 
         abbrev G105 : Row.Cx
         G105 = record {
           locals = List._++_ t3 (List._++_ t1 t2);
-          slots = List._∷_ (Row.lease (κs .0) (qs .0)) (List._∷_ (Row.lease (κs .1 .0) (qs .1 .0)) (List._∷_ (Row.lease (κs .1 .1 .0) (qs .1 .1
-              .0)) (List._∷_ (Row.lease (κs .1 .1 .1 .0) (qs .1 .1 .1 .0)) (List._∷_ Row.off (List._∷_ Row.off (List._∷_ Row.off (List._∷_ Row.off (List._∷_ Row.off (List._∷_ Row.off List.[])))))))));
+          slots = List._∷_ (Row.lease (κs .0) (qs .0)) (List._∷_ (Row.lease (κs .1 .0) (qs .1 .0)) (List._∷_ (Row.lease (κs .1 .1 .0) (qs .1 .1 .0)) (List._∷_
+              (Row.lease (κs .1 .1 .1 .0) (qs .1 .1 .1 .0)) (List._∷_ Row.off (List._∷_ Row.off (List._∷_ Row.off (List._∷_ Row.off (List._∷_ Row.off (List._∷_ Row.off List.[])))))))));
         }
 
         abbrev Δ0 : Typed.Outs
@@ -5591,59 +2949,29 @@ module _ (claims· : Claims) where
               d13
 
           d15 : Typed.Typed 𝓤 H A 𝓣 E G69 b30 Δ5 (at15 bs)
-          d15 = Typed.g-pre 𝓤 H A W 𝓣 E G69 G70 b30 Δ5 (Typed.pass T69 T70 (s65 bs)) (at14 bs) (Scalar.g-room 𝓤 H A W E G69 19 (Syntax.tyStruct (List._∷_ 119 (List._∷_ 114 (List._∷_ 105 (List._∷_ 116
-              (List._∷_ 105 (List._∷_ 110 (List._∷_ 103 (List._∷_ 58 (List._∷_ 58 (List._∷_ 80 (List._∷_ 97 (List._∷_ 115 (List._∷_ 115 (List._∷_ 80 (List._∷_ 117 (List._∷_ 116 List.[]))))))))))))))))
-              (Syntax.tcons Syntax.tyBool (Syntax.tcons (Syntax.tyInt Syntax.w64) (Syntax.tcons (Syntax.tyStruct (List._∷_ 98 (List._∷_ 105 (List._∷_ 116 (List._∷_ 115 (List._∷_ 58 (List._∷_ 58 (List._∷_
-              66 (List._∷_ 105 (List._∷_ 116 (List._∷_ 80 (List._∷_ 111 (List._∷_ 115 (List._∷_ 105 (List._∷_ 116 (List._∷_ 105 (List._∷_ 111 (List._∷_ 110 List.[]))))))))))))))))) (Syntax.tcons
-              (Syntax.tyInt Syntax.w64) Syntax.tnil)) (Syntax.tcons (Syntax.tyStruct (List._∷_ 112 (List._∷_ 97 (List._∷_ 115 (List._∷_ 115 (List._∷_ 58 (List._∷_ 58 (List._∷_ 83 (List._∷_ 101 (List._∷_
-              116 List.[]))))))))) (Syntax.tcons (Syntax.tyArray (Syntax.tyInt Syntax.w32) 112) (Syntax.tcons (Syntax.tyArray (Syntax.tyInt Syntax.w32) 112) Syntax.tnil))) Syntax.tnil)))))
-              (Local.room-whole 𝓤 H A W (Declared'.row PassPut.the-type) (Syntax.tyStruct (List._∷_ 119 (List._∷_ 114 (List._∷_ 105 (List._∷_ 116 (List._∷_ 105 (List._∷_ 110 (List._∷_ 103 (List._∷_ 58
-              (List._∷_ 58 (List._∷_ 80 (List._∷_ 97 (List._∷_ 115 (List._∷_ 115 (List._∷_ 80 (List._∷_ 117 (List._∷_ 116 List.[])))))))))))))))) (Syntax.tcons Syntax.tyBool (Syntax.tcons (Syntax.tyInt
-              Syntax.w64) (Syntax.tcons (Syntax.tyStruct (List._∷_ 98 (List._∷_ 105 (List._∷_ 116 (List._∷_ 115 (List._∷_ 58 (List._∷_ 58 (List._∷_ 66 (List._∷_ 105 (List._∷_ 116 (List._∷_ 80 (List._∷_
-              111 (List._∷_ 115 (List._∷_ 105 (List._∷_ 116 (List._∷_ 105 (List._∷_ 111 (List._∷_ 110 List.[]))))))))))))))))) (Syntax.tcons (Syntax.tyInt Syntax.w64) Syntax.tnil)) (Syntax.tcons
-              (Syntax.tyStruct (List._∷_ 112 (List._∷_ 97 (List._∷_ 115 (List._∷_ 115 (List._∷_ 58 (List._∷_ 58 (List._∷_ 83 (List._∷_ 101 (List._∷_ 116 List.[]))))))))) (Syntax.tcons (Syntax.tyArray
-              (Syntax.tyInt Syntax.w32) 112) (Syntax.tcons (Syntax.tyArray (Syntax.tyInt Syntax.w32) 112) Syntax.tnil))) Syntax.tnil))))) Path'.refl)) d14
+          d15 = Typed.g-pre 𝓤 H A W 𝓣 E G69 G70 b30 Δ5 (Typed.pass T69 T70 (s65 bs)) (at14 bs) (Scalar.g-room 𝓤 H A W E G69 19 y8 (Local.room-whole 𝓤 H A W (Declared'.row PassPut.the-type) y8
+              Path'.refl)) d14
 
           d16 : Typed.Typed 𝓤 H A 𝓣 E G68 b31 Δ5 (at16 bs)
           d16 = Typed.s-seq 𝓤 H A W 𝓣 E G68 G69 b29 b30 Δ5 (Typed.pass T68 T69 (s64 bs)) (at15 bs) (Make.t-enum-make-wt 𝓤 H A W E 𝓣 Put.the-type Laws'6.the-laws Laws'6.the-plain tt G68 0 (List._∷_
               (Scalar.oInt Syntax.w8 1) (List._∷_ (Scalar.oFld 19 (List._∷_ (Syntax.field 1) List.[]) (Syntax.tyInt Syntax.w64) 8 (Reads.fieldV PassPut.the-type Laws'5.the-laws 1)) List.[])) (λ m.
-              Put.enum .make (Logic.inr (Logic.inl (PassPut.struct .as-values (m .1 .1 .1 .1 .1 .1 .1 .1 .1 .1 .1 .1 .1 .1 .1 .1 .1 .1 .1 .0) .1 .0, tt)))) (Reads'.room-gone 𝓤 H A (Syntax.tyEnum
-              (List._∷_ 119 (List._∷_ 114 (List._∷_ 105 (List._∷_ 116 (List._∷_ 105 (List._∷_ 110 (List._∷_ 103 (List._∷_ 58 (List._∷_ 58 (List._∷_ 80 (List._∷_ 117 (List._∷_ 116 List.[]))))))))))))
-              (Syntax.ttcons (Syntax.tcons (Syntax.tyStruct (List._∷_ 98 (List._∷_ 105 (List._∷_ 116 (List._∷_ 115 (List._∷_ 58 (List._∷_ 58 (List._∷_ 66 (List._∷_ 105 (List._∷_ 116 (List._∷_ 80 (List._∷_
-              111 (List._∷_ 115 (List._∷_ 105 (List._∷_ 116 (List._∷_ 105 (List._∷_ 111 (List._∷_ 110 List.[]))))))))))))))))) (Syntax.tcons (Syntax.tyInt Syntax.w64) Syntax.tnil)) Syntax.tnil)
-              (Syntax.ttcons (Syntax.tcons (Syntax.tyInt Syntax.w64) Syntax.tnil) Syntax.ttnil)))) (
-                tt,
-                (
-                  (
-                    Reads.reads-field 𝓤 H A W PassPut.the-type Laws'5.the-laws 1 (Syntax.tyInt Syntax.w64) 8
-                        Path'.refl,
-                    Path'.refl,
-                  ),
-                  tt,
-                ),
-              ) Path'.refl (λ m wa. Make.made-val Put.the-type Laws'6.the-laws (List._∷_ (Laws'6.the-laws .1 .0 .0 .val (PassPut.struct .as-values (m .1 .1 .1 .1 .1 .1 .1
-              .1 .1 .1 .1 .1 .1 .1 .1 .1 .1 .1 .1 .0) .1 .0)) List.[]) (Put.enum .make (Logic.inr (Logic.inl (
-                PassPut.struct .as-values (m .1 .1 .1 .1 .1 .1 .1 .1 .1 .1 .1 .1 .1 .1 .1 .1 .1 .1 .1 .0) .1
-                    .0,
-                tt,
-              )))) (Signed.made-wt Field.u64-field (Laws'6.the-laws .1 .0 .0) Make'.u64-wt (PassPut.struct .as-values (m .1 .1 .1 .1 .1 .1 .1 .1 .1 .1 .1 .1 .1 .1 .1 .1 .1 .1 .1 .0) .1 .0), tt)
-              (wa .1)) λ m wa. Make.made-is Put.the-type Laws'6.the-laws (List._∷_ (Laws'6.the-laws .1 .0 .0 .val (PassPut.struct .as-values (m .1 .1 .1 .1 .1 .1 .1 .1 .1 .1 .1 .1 .1 .1 .1 .1 .1 .1 .1 .0)
-              .1 .0)) List.[]) (Put.enum .make (Logic.inr (Logic.inl (PassPut.struct .as-values (m .1 .1 .1 .1 .1 .1 .1 .1 .1 .1 .1 .1 .1 .1 .1 .1 .1 .1 .1 .0) .1 .0, tt)))) (
-                Signed.made-wt
-                    Field.u64-field (Laws'6.the-laws .1 .0 .0) Make'.u64-wt (PassPut.struct .as-values (m .1 .1 .1 .1 .1 .1 .1 .1 .1 .1 .1 .1 .1 .1 .1 .1 .1 .1 .1 .0) .1 .0),
-                tt,
-              ) (wa .1)) d15
+              Put.enum .make (Logic.inr (Logic.inl (PassPut.struct .as-values (m .1 .1 .1 .1 .1 .1 .1 .1 .1 .1 .1 .1 .1 .1 .1 .1 .1 .1 .1 .0) .1 .0, tt)))) (Reads'.room-gone 𝓤 H A (Syntax.tyEnum (List._∷_
+              119 (List._∷_ 114 (List._∷_ 105 (List._∷_ 116 (List._∷_ 105 (List._∷_ 110 (List._∷_ 103 (List._∷_ 58 (List._∷_ 58 (List._∷_ 80 (List._∷_ 117 (List._∷_ 116 List.[])))))))))))) (Syntax.ttcons
+              (Syntax.tcons y6 Syntax.tnil) (Syntax.ttcons (Syntax.tcons (Syntax.tyInt Syntax.w64) Syntax.tnil) Syntax.ttnil))))
+              (tt, ((Reads.reads-field 𝓤 H A W PassPut.the-type Laws'5.the-laws 1 (Syntax.tyInt Syntax.w64) 8 Path'.refl, Path'.refl), tt)) Path'.refl (λ m wa. Make.made-val Put.the-type Laws'6.the-laws
+              (List._∷_ (Laws'6.the-laws .1 .0 .0 .val (PassPut.struct .as-values (m .1 .1 .1 .1 .1 .1 .1 .1 .1 .1 .1 .1 .1 .1 .1 .1 .1 .1 .1 .0) .1 .0)) List.[]) (Put.enum .make (Logic.inr (Logic.inl
+              (PassPut.struct .as-values (m .1 .1 .1 .1 .1 .1 .1 .1 .1 .1 .1 .1 .1 .1 .1 .1 .1 .1 .1 .0) .1 .0, tt))))
+              (Signed.made-wt Field.u64-field (Laws'6.the-laws .1 .0 .0) Make'.u64-wt (PassPut.struct .as-values (m .1 .1 .1 .1 .1 .1 .1 .1 .1 .1 .1 .1 .1 .1 .1 .1 .1 .1 .1 .0) .1 .0), tt) (wa .1)) λ m
+              wa. Make.made-is Put.the-type Laws'6.the-laws (List._∷_ (Laws'6.the-laws .1 .0 .0 .val (PassPut.struct .as-values (m .1 .1 .1 .1 .1 .1 .1 .1 .1 .1 .1 .1 .1 .1 .1 .1 .1 .1 .1 .0) .1 .0))
+              List.[]) (Put.enum .make (Logic.inr (Logic.inl (PassPut.struct .as-values (m .1 .1 .1 .1 .1 .1 .1 .1 .1 .1 .1 .1 .1 .1 .1 .1 .1 .1 .1 .0) .1 .0, tt))))
+              (Signed.made-wt Field.u64-field (Laws'6.the-laws .1 .0 .0) Make'.u64-wt (PassPut.struct .as-values (m .1 .1 .1 .1 .1 .1 .1 .1 .1 .1 .1 .1 .1 .1 .1 .1 .1 .1 .1 .0) .1 .0), tt) (wa .1)) d15
 
           d17 : Typed.Typed 𝓤 H A 𝓣 E G67 b31 Δ5 (at17 bs)
           d17 = Typed.g-pre 𝓤 H A W 𝓣 E G67 G68 b31 Δ5 (Typed.pass T67 T68 (s63 bs)) (at16 bs) (Scalar.g-room 𝓤 H A W E G67 22 Syntax.tyBool (Scalar.room-sc 𝓤 H A W Row.sBool)) d16
 
           d18 : Typed.Typed 𝓤 H A 𝓣 E G65 b31 Δ5 (at18 bs)
-          d18 = Typed.g-pre 𝓤 H A W 𝓣 E G65 G67 b31 Δ5 (Typed.pass T65 T67 (s62 bs)) (at17 bs) (Scalar.g-room 𝓤 H A W E G65 17 (Syntax.tyStruct (List._∷_ 112 (List._∷_ 97 (List._∷_ 115 (List._∷_ 115
-              (List._∷_ 58 (List._∷_ 58 (List._∷_ 80 (List._∷_ 108 (List._∷_ 97 (List._∷_ 110 List.[])))))))))) (Syntax.tcons (Syntax.tyInt Syntax.w64) (Syntax.tcons (Syntax.tyInt Syntax.w64)
-              (Syntax.tcons (Syntax.tyInt Syntax.w64) (Syntax.tcons (Syntax.tyInt Syntax.w32) (Syntax.tcons (Syntax.tyInt Syntax.w32) Syntax.tnil)))))) (Local.room-whole 𝓤 H A W (Declared'.row
-              Plan.the-type) (Syntax.tyStruct (List._∷_ 112 (List._∷_ 97 (List._∷_ 115 (List._∷_ 115 (List._∷_ 58 (List._∷_ 58 (List._∷_ 80 (List._∷_ 108 (List._∷_ 97 (List._∷_ 110 List.[]))))))))))
-              (Syntax.tcons (Syntax.tyInt Syntax.w64) (Syntax.tcons (Syntax.tyInt Syntax.w64) (Syntax.tcons (Syntax.tyInt Syntax.w64) (Syntax.tcons (Syntax.tyInt Syntax.w32) (Syntax.tcons (Syntax.tyInt
-              Syntax.w32) Syntax.tnil)))))) Path'.refl)) d17
+          d18 = Typed.g-pre 𝓤 H A W 𝓣 E G65 G67 b31 Δ5 (Typed.pass T65 T67 (s62 bs)) (at17 bs) (Scalar.g-room 𝓤 H A W E G65 17 y0 (Local.room-whole 𝓤 H A W (Declared'.row Plan.the-type) y0
+              Path'.refl)) d17
 
           d19 : Typed.Typed 𝓤 H A 𝓣 E G80 b32 Δ5 (at19 bs)
           d19 = Typed.t-skip 𝓤 H A W 𝓣 E Δ5 tt
@@ -5662,70 +2990,35 @@ module _ (claims· : Claims) where
               Row.sBool)))
 
           d23 : Typed.Typed 𝓤 H A 𝓣 E G92 b39 Δ3 (at23 bs)
-          d23 = Typed.g-pre 𝓤 H A W 𝓣 E G92 G93 b39 Δ3 (Typed.pass T92 T93 (s88 bs)) (at22 bs) (Scalar.g-room 𝓤 H A W E G92 19 (Syntax.tyStruct (List._∷_ 119 (List._∷_ 114 (List._∷_ 105 (List._∷_ 116
-              (List._∷_ 105 (List._∷_ 110 (List._∷_ 103 (List._∷_ 58 (List._∷_ 58 (List._∷_ 80 (List._∷_ 97 (List._∷_ 115 (List._∷_ 115 (List._∷_ 80 (List._∷_ 117 (List._∷_ 116 List.[]))))))))))))))))
-              (Syntax.tcons Syntax.tyBool (Syntax.tcons (Syntax.tyInt Syntax.w64) (Syntax.tcons (Syntax.tyStruct (List._∷_ 98 (List._∷_ 105 (List._∷_ 116 (List._∷_ 115 (List._∷_ 58 (List._∷_ 58 (List._∷_
-              66 (List._∷_ 105 (List._∷_ 116 (List._∷_ 80 (List._∷_ 111 (List._∷_ 115 (List._∷_ 105 (List._∷_ 116 (List._∷_ 105 (List._∷_ 111 (List._∷_ 110 List.[]))))))))))))))))) (Syntax.tcons
-              (Syntax.tyInt Syntax.w64) Syntax.tnil)) (Syntax.tcons (Syntax.tyStruct (List._∷_ 112 (List._∷_ 97 (List._∷_ 115 (List._∷_ 115 (List._∷_ 58 (List._∷_ 58 (List._∷_ 83 (List._∷_ 101 (List._∷_
-              116 List.[]))))))))) (Syntax.tcons (Syntax.tyArray (Syntax.tyInt Syntax.w32) 112) (Syntax.tcons (Syntax.tyArray (Syntax.tyInt Syntax.w32) 112) Syntax.tnil))) Syntax.tnil)))))
-              (Local.room-whole 𝓤 H A W (Declared'.row PassPut.the-type) (Syntax.tyStruct (List._∷_ 119 (List._∷_ 114 (List._∷_ 105 (List._∷_ 116 (List._∷_ 105 (List._∷_ 110 (List._∷_ 103 (List._∷_ 58
-              (List._∷_ 58 (List._∷_ 80 (List._∷_ 97 (List._∷_ 115 (List._∷_ 115 (List._∷_ 80 (List._∷_ 117 (List._∷_ 116 List.[])))))))))))))))) (Syntax.tcons Syntax.tyBool (Syntax.tcons (Syntax.tyInt
-              Syntax.w64) (Syntax.tcons (Syntax.tyStruct (List._∷_ 98 (List._∷_ 105 (List._∷_ 116 (List._∷_ 115 (List._∷_ 58 (List._∷_ 58 (List._∷_ 66 (List._∷_ 105 (List._∷_ 116 (List._∷_ 80 (List._∷_
-              111 (List._∷_ 115 (List._∷_ 105 (List._∷_ 116 (List._∷_ 105 (List._∷_ 111 (List._∷_ 110 List.[]))))))))))))))))) (Syntax.tcons (Syntax.tyInt Syntax.w64) Syntax.tnil)) (Syntax.tcons
-              (Syntax.tyStruct (List._∷_ 112 (List._∷_ 97 (List._∷_ 115 (List._∷_ 115 (List._∷_ 58 (List._∷_ 58 (List._∷_ 83 (List._∷_ 101 (List._∷_ 116 List.[]))))))))) (Syntax.tcons (Syntax.tyArray
-              (Syntax.tyInt Syntax.w32) 112) (Syntax.tcons (Syntax.tyArray (Syntax.tyInt Syntax.w32) 112) Syntax.tnil))) Syntax.tnil))))) Path'.refl)) d22
+          d23 = Typed.g-pre 𝓤 H A W 𝓣 E G92 G93 b39 Δ3 (Typed.pass T92 T93 (s88 bs)) (at22 bs) (Scalar.g-room 𝓤 H A W E G92 19 y8 (Local.room-whole 𝓤 H A W (Declared'.row PassPut.the-type) y8
+              Path'.refl)) d22
 
           d24 : Typed.Typed 𝓤 H A 𝓣 E G91 b40 Δ3 (at24 bs)
           d24 = Typed.s-seq 𝓤 H A W 𝓣 E G91 G92 b38 b39 Δ3 (Typed.both (s87 bs)) (at23 bs) (WayStmt.t-way-copy-out 𝓤 H A W E 𝓣 (Declared'.row BitPosition.the-type) Path'.refl (Copies.cStruct
               BitPosition.the-type Laws.the-laws Laws.the-copy .copy 𝓤 H A W) (λ ρ. Unit) G91 (Row.out 19 (G91 .locals)) (λ u. Row.drop 19 (G91 .locals) u) (G91 .slots) 19 (λ t. List._∷_ (Syntax.field 2)
-              t) (Syntax.tyStruct (List._∷_ 98 (List._∷_ 105 (List._∷_ 116 (List._∷_ 115 (List._∷_ 58 (List._∷_ 58 (List._∷_ 66 (List._∷_ 105 (List._∷_ 116 (List._∷_ 80 (List._∷_ 111 (List._∷_ 115
-              (List._∷_ 105 (List._∷_ 116 (List._∷_ 105 (List._∷_ 111 (List._∷_ 110 List.[]))))))))))))))))) (Syntax.tcons (Syntax.tyInt Syntax.w64) Syntax.tnil)) (Syntax.tyStruct (List._∷_ 98 (List._∷_
-              105 (List._∷_ 116 (List._∷_ 115 (List._∷_ 58 (List._∷_ 58 (List._∷_ 66 (List._∷_ 105 (List._∷_ 116 (List._∷_ 80 (List._∷_ 111 (List._∷_ 115 (List._∷_ 105 (List._∷_ 116 (List._∷_ 105
-              (List._∷_ 111 (List._∷_ 110 List.[]))))))))))))))))) (Syntax.tcons (Syntax.tyInt Syntax.w64) Syntax.tnil)) 15 (Rows.whole (Declared'.row BitPosition.the-type)) (λ x. x) (λ u. At.getAt
-              (PassPut.the-type .parts) 2 (PassPut.struct .as-values (u .1 .1 .1 .1 .1 .1 .1 .1 .1 .1 .1 .1 .1 .1 .1 .1 .1 .1 .1 .0))) (λ u. (
-                Row.hd 0 (Row.tl (Row.tl (Row.tl (Row.tl (Row.tl (Row.tl
-                    (Row.tl (Row.tl (Row.tl (Row.tl (Row.tl (Row.tl (Row.tl (Row.tl (Row.tl (Row.tl (Row.tl (Row.tl (Row.tl bs))))))))))))))))))),
+              t) y6 y6 15 (Rows.whole (Declared'.row BitPosition.the-type)) (λ x. x) (λ u. At.getAt (PassPut.the-type .parts) 2 (PassPut.struct .as-values (u .1 .1 .1 .1 .1 .1 .1 .1 .1 .1 .1 .1 .1 .1 .1
+              .1 .1 .1 .1 .0))) (λ u. (
+                Row.hd 0 (Row.tl (Row.tl (Row.tl (Row.tl (Row.tl (Row.tl (Row.tl (Row.tl (Row.tl (Row.tl (Row.tl (Row.tl (Row.tl (Row.tl (Row.tl (Row.tl (Row.tl (Row.tl (Row.tl bs))))))))))))))))))),
                 Nat._+_ 0 16,
-              )) (λ T′. record {
-                locals = Row.setRow 19 (
-                  19,
-                  Rows.whole (Declared'.row PassPut.the-type),
-                ) T′;
-                slots = G91 .slots;
-              }) (λ u T′ m′. Row.set 19 (19, Rows.whole (Declared'.row PassPut.the-type)) (u .1 .1 .1 .1 .1 .1 .1 .1 .1 .1 .1 .1 .1 .1
-              .1 .1 .1 .1 .1 .0) T′ m′) (λ u. Unit) (λ x. Unit) (Own.told-none 𝓤 H A (G91 .slots)) (DerefMove.learns-nothing 𝓤 H A (Declared'.row BitPosition.the-type)) (λ ρ told u asked. Way'.w-partˢ 𝓤 H
-              A W E (Declared'.row PassPut.the-type) (Declared'.row BitPosition.the-type) (Syntax.tyStruct (List._∷_ 119 (List._∷_ 114 (List._∷_ 105 (List._∷_ 116 (List._∷_ 105 (List._∷_ 110 (List._∷_ 103
-              (List._∷_ 58 (List._∷_ 58 (List._∷_ 80 (List._∷_ 97 (List._∷_ 115 (List._∷_ 115 (List._∷_ 80 (List._∷_ 117 (List._∷_ 116 List.[])))))))))))))))) (Syntax.tcons Syntax.tyBool (Syntax.tcons
-              (Syntax.tyInt Syntax.w64) (Syntax.tcons (Syntax.tyStruct (List._∷_ 98 (List._∷_ 105 (List._∷_ 116 (List._∷_ 115 (List._∷_ 58 (List._∷_ 58 (List._∷_ 66 (List._∷_ 105 (List._∷_ 116 (List._∷_
-              80 (List._∷_ 111 (List._∷_ 115 (List._∷_ 105 (List._∷_ 116 (List._∷_ 105 (List._∷_ 111 (List._∷_ 110 List.[]))))))))))))))))) (Syntax.tcons (Syntax.tyInt Syntax.w64) Syntax.tnil))
-              (Syntax.tcons (Syntax.tyStruct (List._∷_ 112 (List._∷_ 97 (List._∷_ 115 (List._∷_ 115 (List._∷_ 58 (List._∷_ 58 (List._∷_ 83 (List._∷_ 101 (List._∷_ 116 List.[]))))))))) (Syntax.tcons
-              (Syntax.tyArray (Syntax.tyInt Syntax.w32) 112) (Syntax.tcons (Syntax.tyArray (Syntax.tyInt Syntax.w32) 112) Syntax.tnil))) Syntax.tnil))))) (Syntax.tyStruct (List._∷_ 98 (List._∷_ 105
-              (List._∷_ 116 (List._∷_ 115 (List._∷_ 58 (List._∷_ 58 (List._∷_ 66 (List._∷_ 105 (List._∷_ 116 (List._∷_ 80 (List._∷_ 111 (List._∷_ 115 (List._∷_ 105 (List._∷_ 116 (List._∷_ 105 (List._∷_
-              111 (List._∷_ 110 List.[]))))))))))))))))) (Syntax.tcons (Syntax.tyInt Syntax.w64) Syntax.tnil)) 2 16 (u .1 .1 .1 .1 .1 .1 .1 .1 .1 .1 .1 .1 .1 .1 .1 .1 .1 .1 .1 .0) (At.getAt
-              (PassPut.the-type .parts) 2 (PassPut.struct .as-values (u .1 .1 .1 .1 .1 .1 .1 .1 .1 .1 .1 .1 .1 .1 .1 .1 .1 .1 .1 .0))) (
-                Row.hd 0 (Row.tl (Row.tl (Row.tl (Row.tl (Row.tl (Row.tl (Row.tl
-                    (Row.tl (Row.tl (Row.tl (Row.tl (Row.tl (Row.tl (Row.tl (Row.tl (Row.tl (Row.tl (Row.tl (Row.tl bs))))))))))))))))))),
-                0,
-              ) (Way.w-look 𝓤 H A W E (Way.w-local 𝓤 H A W E G91 ρ u (G91 .slots)
-              19 (Declared'.row PassPut.the-type) (Rows.whole (Declared'.row PassPut.the-type)) (λ x. x) (λ x. x) (u .1 .1 .1 .1 .1 .1 .1 .1 .1 .1 .1 .1 .1 .1 .1 .1 .1 .1 .1 .0) (Local.mem-whole 𝓤 H A W
+              )) (λ T′. record { locals = Row.setRow 19 (19, Rows.whole (Declared'.row PassPut.the-type)) T′; slots = G91 .slots }) (λ u T′ m′. Row.set 19
+              (19, Rows.whole (Declared'.row PassPut.the-type)) (u .1 .1 .1 .1 .1 .1 .1 .1 .1 .1 .1 .1 .1 .1 .1 .1 .1 .1 .1 .0) T′ m′) (λ u. Unit) (λ x. Unit) (Own.told-none 𝓤 H A (G91 .slots))
+              (DerefMove.learns-nothing 𝓤 H A (Declared'.row BitPosition.the-type)) (λ ρ told u asked. Way'.w-partˢ 𝓤 H A W E (Declared'.row PassPut.the-type) (Declared'.row BitPosition.the-type) y8 y6 2
+              16 (u .1 .1 .1 .1 .1 .1 .1 .1 .1 .1 .1 .1 .1 .1 .1 .1 .1 .1 .1 .0) (At.getAt (PassPut.the-type .parts) 2 (PassPut.struct .as-values (u .1 .1 .1 .1 .1 .1 .1 .1 .1 .1 .1 .1 .1 .1 .1 .1 .1 .1
+              .1 .0)))
+              (Row.hd 0 (Row.tl (Row.tl (Row.tl (Row.tl (Row.tl (Row.tl (Row.tl (Row.tl (Row.tl (Row.tl (Row.tl (Row.tl (Row.tl (Row.tl (Row.tl (Row.tl (Row.tl (Row.tl (Row.tl bs))))))))))))))))))), 0)
+              (Way.w-look 𝓤 H A W E (Way.w-local 𝓤 H A W E G91 ρ u (G91 .slots) 19 (Declared'.row PassPut.the-type) (Rows.whole (Declared'.row PassPut.the-type)) (λ x. x) (λ x. x) (u .1 .1 .1 .1 .1 .1 .1
+              .1 .1 .1 .1 .1 .1 .1 .1 .1 .1 .1 .1 .0) (Local.mem-whole 𝓤 H A W (Declared'.row PassPut.the-type) ρ (u .1 .1 .1 .1 .1 .1 .1 .1 .1 .1 .1 .1 .1 .1 .1 .1 .1 .1 .1 .0) (Row.hd 0 (Row.tl (Row.tl
+              (Row.tl (Row.tl (Row.tl (Row.tl (Row.tl (Row.tl (Row.tl (Row.tl (Row.tl (Row.tl (Row.tl (Row.tl (Row.tl (Row.tl (Row.tl (Row.tl (Row.tl bs))))))))))))))))))))) (Local.whole-mem 𝓤 H A W
               (Declared'.row PassPut.the-type) ρ (u .1 .1 .1 .1 .1 .1 .1 .1 .1 .1 .1 .1 .1 .1 .1 .1 .1 .1 .1 .0) (Row.hd 0 (Row.tl (Row.tl (Row.tl (Row.tl (Row.tl (Row.tl (Row.tl (Row.tl (Row.tl (Row.tl
-              (Row.tl (Row.tl (Row.tl (Row.tl (Row.tl (Row.tl (Row.tl (Row.tl (Row.tl bs))))))))))))))))))))) (Local.whole-mem 𝓤 H A W (Declared'.row PassPut.the-type) ρ (u .1 .1 .1 .1 .1 .1 .1 .1 .1 .1
-              .1 .1 .1 .1 .1 .1 .1 .1 .1 .0) (Row.hd 0 (Row.tl (Row.tl (Row.tl (Row.tl (Row.tl (Row.tl (Row.tl (Row.tl (Row.tl (Row.tl (Row.tl (Row.tl (Row.tl (Row.tl (Row.tl (Row.tl (Row.tl (Row.tl
-              (Row.tl bs))))))))))))))))))))))) Path'.refl λ q. Inner.cut-record 𝓤 H A q (Declared'.row PassPut.the-type) BitPosition.the-type 16 (u .1 .1 .1 .1 .1 .1 .1 .1 .1 .1 .1 .1 .1 .1 .1 .1 .1 .1
-              .1 .0) (u .1 .1 .1 .1 .1 .1 .1 .1 .1 .1 .1 .1 .1 .1 .1 .1 .1 .1 .1 .0) (At.getAt (PassPut.the-type .parts) 2 (PassPut.struct .as-values (u .1 .1 .1 .1 .1 .1 .1 .1 .1 .1 .1 .1 .1 .1 .1 .1 .1
-              .1 .1 .0))) (At.getAt (PassPut.the-type .parts) 2 (PassPut.struct .as-values (u .1 .1 .1 .1 .1 .1 .1 .1 .1 .1 .1 .1 .1 .1 .1 .1 .1 .1 .1 .0))) (
-                Row.hd 0 (Row.tl (Row.tl (Row.tl (Row.tl
-                    (Row.tl (Row.tl (Row.tl (Row.tl (Row.tl (Row.tl (Row.tl (Row.tl (Row.tl (Row.tl (Row.tl (Row.tl (Row.tl (Row.tl (Row.tl bs))))))))))))))))))),
-                0,
-              ) (Behind.look-at 𝓤 H A W q PassPut.the-type
-              Laws'5.the-laws 2 16 Path'.refl Path'.refl (
-                Row.hd 0 (Row.tl (Row.tl (Row.tl (Row.tl (Row.tl (Row.tl (Row.tl (Row.tl (Row.tl (Row.tl (Row.tl (Row.tl (Row.tl (Row.tl (Row.tl (Row.tl (Row.tl
-                    (Row.tl (Row.tl bs))))))))))))))))))),
-                0,
-              ) (u .1 .1 .1 .1 .1 .1 .1 .1 .1 .1 .1 .1 .1 .1 .1 .1 .1 .1 .1 .0) (PassPut.struct .as-values (u .1 .1 .1 .1 .1 .1 .1 .1 .1 .1 .1 .1 .1 .1 .1 .1 .1
-              .1 .1 .0)) Path'.refl)) (Reads'.room-gone 𝓤 H A (Syntax.tyStruct (List._∷_ 98 (List._∷_ 105 (List._∷_ 116 (List._∷_ 115 (List._∷_ 58 (List._∷_ 58 (List._∷_ 66 (List._∷_ 105 (List._∷_ 116
-              (List._∷_ 80 (List._∷_ 111 (List._∷_ 115 (List._∷_ 105 (List._∷_ 116 (List._∷_ 105 (List._∷_ 111 (List._∷_ 110 List.[]))))))))))))))))) (Syntax.tcons (Syntax.tyInt Syntax.w64) Syntax.tnil)))
-              (Yields.makes-mem 𝓤 H A W (λ ρ. Unit) (Declared'.row BitPosition.the-type) Path'.refl (Rows.whole (Declared'.row BitPosition.the-type)) (λ x. x) λ ρ told. Local.whole-mem 𝓤 H A W
+              (Row.tl (Row.tl (Row.tl (Row.tl (Row.tl (Row.tl (Row.tl (Row.tl (Row.tl bs))))))))))))))))))))))) Path'.refl λ q. Inner.cut-record 𝓤 H A q (Declared'.row PassPut.the-type)
+              BitPosition.the-type 16 (u .1 .1 .1 .1 .1 .1 .1 .1 .1 .1 .1 .1 .1 .1 .1 .1 .1 .1 .1 .0) (u .1 .1 .1 .1 .1 .1 .1 .1 .1 .1 .1 .1 .1 .1 .1 .1 .1 .1 .1 .0) (At.getAt (PassPut.the-type .parts) 2
+              (PassPut.struct .as-values (u .1 .1 .1 .1 .1 .1 .1 .1 .1 .1 .1 .1 .1 .1 .1 .1 .1 .1 .1 .0))) (At.getAt (PassPut.the-type .parts) 2 (PassPut.struct .as-values (u .1 .1 .1 .1 .1 .1 .1 .1 .1 .1
+              .1 .1 .1 .1 .1 .1 .1 .1 .1 .0)))
+              (Row.hd 0 (Row.tl (Row.tl (Row.tl (Row.tl (Row.tl (Row.tl (Row.tl (Row.tl (Row.tl (Row.tl (Row.tl (Row.tl (Row.tl (Row.tl (Row.tl (Row.tl (Row.tl (Row.tl (Row.tl bs))))))))))))))))))), 0)
+              (Behind.look-at 𝓤 H A W q PassPut.the-type Laws'5.the-laws 2 16 Path'.refl Path'.refl
+              (Row.hd 0 (Row.tl (Row.tl (Row.tl (Row.tl (Row.tl (Row.tl (Row.tl (Row.tl (Row.tl (Row.tl (Row.tl (Row.tl (Row.tl (Row.tl (Row.tl (Row.tl (Row.tl (Row.tl (Row.tl bs))))))))))))))))))), 0) (u
+              .1 .1 .1 .1 .1 .1 .1 .1 .1 .1 .1 .1 .1 .1 .1 .1 .1 .1 .1 .0) (PassPut.struct .as-values (u .1 .1 .1 .1 .1 .1 .1 .1 .1 .1 .1 .1 .1 .1 .1 .1 .1 .1 .1 .0)) Path'.refl)) (Reads'.room-gone 𝓤 H A
+              y6) (Yields.makes-mem 𝓤 H A W (λ ρ. Unit) (Declared'.row BitPosition.the-type) Path'.refl (Rows.whole (Declared'.row BitPosition.the-type)) (λ x. x) λ ρ told. Local.whole-mem 𝓤 H A W
               (Declared'.row BitPosition.the-type) ρ) Path'.refl Path'.refl Path'.refl) d23
 
           d25 : Typed.Typed 𝓤 H A 𝓣 E G90 b40 Δ3 (at25 bs)
@@ -5744,61 +3037,44 @@ module _ (claims· : Claims) where
           d28 = Typed.g-pre 𝓤 H A W 𝓣 E G87 G88 b40 Δ3 (Typed.pass T87 T88 (s83 bs)) (at27 bs) (Scalar.g-room 𝓤 H A W E G87 23 Syntax.tyUnit (Scalar.room-sc 𝓤 H A W Row.sUnit)) d27
 
           d29 : Typed.Typed 𝓤 H A 𝓣 E G86 b40 Δ3 (at29 bs)
-          d29 = Typed.g-pre 𝓤 H A W 𝓣 E G86 G87 b40 Δ3 (Typed.pass T86 T87 (s82 bs)) (at28 bs) (Scalar.g-room 𝓤 H A W E G86 21 (Syntax.tyStruct (List._∷_ 112 (List._∷_ 97 (List._∷_ 115 (List._∷_ 115
-              (List._∷_ 58 (List._∷_ 58 (List._∷_ 83 (List._∷_ 101 (List._∷_ 116 List.[]))))))))) (Syntax.tcons (Syntax.tyArray (Syntax.tyInt Syntax.w32) 112) (Syntax.tcons (Syntax.tyArray (Syntax.tyInt
-              Syntax.w32) 112) Syntax.tnil))) (Local.room-whole 𝓤 H A W (Declared'.row Set.the-type) (Syntax.tyStruct (List._∷_ 112 (List._∷_ 97 (List._∷_ 115 (List._∷_ 115 (List._∷_ 58 (List._∷_ 58
-              (List._∷_ 83 (List._∷_ 101 (List._∷_ 116 List.[]))))))))) (Syntax.tcons (Syntax.tyArray (Syntax.tyInt Syntax.w32) 112) (Syntax.tcons (Syntax.tyArray (Syntax.tyInt Syntax.w32) 112)
-              Syntax.tnil))) Path'.refl)) d28
+          d29 = Typed.g-pre 𝓤 H A W 𝓣 E G86 G87 b40 Δ3 (Typed.pass T86 T87 (s82 bs)) (at28 bs) (Scalar.g-room 𝓤 H A W E G86 21 y1 (Local.room-whole 𝓤 H A W (Declared'.row Set.the-type) y1 Path'.refl))
+              d28
 
           d30 : Typed.Typed 𝓤 H A 𝓣 E G85 b40 Δ3 (at30 bs)
-          d30 = Typed.g-pre 𝓤 H A W 𝓣 E G85 G86 b40 Δ3 (Typed.pass T85 T86 (s81 bs)) (at29 bs) (Scalar.g-room 𝓤 H A W E G85 17 (Syntax.tyStruct (List._∷_ 112 (List._∷_ 97 (List._∷_ 115 (List._∷_ 115
-              (List._∷_ 58 (List._∷_ 58 (List._∷_ 80 (List._∷_ 108 (List._∷_ 97 (List._∷_ 110 List.[])))))))))) (Syntax.tcons (Syntax.tyInt Syntax.w64) (Syntax.tcons (Syntax.tyInt Syntax.w64)
-              (Syntax.tcons (Syntax.tyInt Syntax.w64) (Syntax.tcons (Syntax.tyInt Syntax.w32) (Syntax.tcons (Syntax.tyInt Syntax.w32) Syntax.tnil)))))) (Local.room-whole 𝓤 H A W (Declared'.row
-              Plan.the-type) (Syntax.tyStruct (List._∷_ 112 (List._∷_ 97 (List._∷_ 115 (List._∷_ 115 (List._∷_ 58 (List._∷_ 58 (List._∷_ 80 (List._∷_ 108 (List._∷_ 97 (List._∷_ 110 List.[]))))))))))
-              (Syntax.tcons (Syntax.tyInt Syntax.w64) (Syntax.tcons (Syntax.tyInt Syntax.w64) (Syntax.tcons (Syntax.tyInt Syntax.w64) (Syntax.tcons (Syntax.tyInt Syntax.w32) (Syntax.tcons (Syntax.tyInt
-              Syntax.w32) Syntax.tnil)))))) Path'.refl)) d29
+          d30 = Typed.g-pre 𝓤 H A W 𝓣 E G85 G86 b40 Δ3 (Typed.pass T85 T86 (s81 bs)) (at29 bs) (Scalar.g-room 𝓤 H A W E G85 17 y0 (Local.room-whole 𝓤 H A W (Declared'.row Plan.the-type) y0
+              Path'.refl)) d29
 
           d31 : Typed.Typed 𝓤 H A 𝓣 E G84 b41 Δ3 (at31 bs)
           d31 = Typed.s-seq 𝓤 H A W 𝓣 E G84 G85 b37 b40 Δ3 (Typed.both (s80 bs)) (at30 bs) (Plain.t-call-plain 𝓤 H A W 𝓣 1 ps·6 r·6 (claims· .12) (claims· .13) "block::records::store_set" (known .6) E
               (λ pos β. β) G84 (
                 record { pos = 35; ty = Syntax.tyRef Syntax.erased Syntax.mut Element.behind; ref = λ x. x },
-                (
-                  Num.vFld 17 (List._∷_ (Syntax.field 2) List.[]) 16 λ x. Plan.struct
-                      .as-values x .1 .1 .0,
-                  (record { pos = 21; st = List.[]; d = 0; at = λ x. x }, tt),
-                ),
-              ) 23 (List._∷_ 9 List.[]) (Call.sub-id 𝓤 H A W (G84 .slots)) (
-                Reads'.as-is 𝓤 H A (Mut.mslice
-                    (Element.type) (Syntax.tyRef Syntax.erased Syntax.mut Element.behind) 9),
-                Mut.reads-mslice 𝓤 H A W (Element.type) (Syntax.tyRef Syntax.erased Syntax.mut Element.behind) 9,
+                (Num.vFld 17 (List._∷_ (Syntax.field 2) List.[]) 16 λ x. Plan.struct .as-values x .1 .1 .0, (record { pos = 21; st = List.[]; d = 0; at = λ x. x }, tt)),
+              ) 23 (List._∷_ 9 List.[]) (Call.sub-id
+              𝓤 H A W (G84 .slots)) (
+                Reads'.as-is 𝓤 H A (Mut.mslice (Element.type) (Syntax.tyRef Syntax.erased Syntax.mut Element.behind) 9),
+                Mut.reads-mslice 𝓤 H A W (Element.type) (Syntax.tyRef Syntax.erased Syntax.mut
+                    Element.behind) 9,
                 Path'.refl,
                 (
-                  (
-                    Reads.reads-field 𝓤 H A W Plan.the-type Laws''.the-laws 2 (Syntax.tyInt Syntax.w64) 16 Path'.refl,
-                    Path'.refl,
-                  ),
+                  (Reads.reads-field 𝓤 H A W Plan.the-type Laws''.the-laws 2 (Syntax.tyInt Syntax.w64) 16 Path'.refl, Path'.refl),
                   (
                     (
-                      Yields.yields-copy 𝓤 H A W (λ ρ. Unit) (Declared'.row Set.the-type)
-                          Path'.refl (Copies.cStruct Set.the-type Laws'3.the-laws Laws'3.the-copy .copy 𝓤 H A W) (Rows.whole (Declared'.row Set.the-type)) (λ x. x) (λ x. x) (λ ρ told. Local.mem-whole 𝓤 H A W
-                          (Declared'.row Set.the-type) ρ) λ ρ told. Local.whole-mem 𝓤 H A W (Declared'.row Set.the-type) ρ,
+                      Yields.yields-copy 𝓤 H A W (λ ρ. Unit) (Declared'.row Set.the-type) Path'.refl (Copies.cStruct Set.the-type Laws'3.the-laws Laws'3.the-copy .copy 𝓤 H A W) (Rows.whole (Declared'.row
+                          Set.the-type)) (λ x. x) (λ x. x) (λ ρ told. Local.mem-whole 𝓤 H A W (Declared'.row Set.the-type) ρ) λ ρ told. Local.whole-mem 𝓤 H A W (Declared'.row Set.the-type) ρ,
                       Path'.refl,
                     ),
                     tt,
                   ),
                 ),
-              ) (Reads'.room-gone 𝓤 H A Syntax.tyUnit) (tt, tt) Path'.refl) d30
+              )
+              (Reads'.room-gone 𝓤 H A Syntax.tyUnit) (tt, tt) Path'.refl) d30
 
           d32 : Typed.Typed 𝓤 H A 𝓣 E G83 b42 Δ3 (at32 bs)
           d32 = Typed.s-seq 𝓤 H A W 𝓣 E G83 G84 b36 b41 Δ3 (Typed.ask (s79 bs)) (at31 bs) (Relend.t-sl-aggregate 𝓤 H A W E (Element.type) 𝓣 (Relend.asMut (Element.type)) G83 34 35 9 (Syntax.tyRef
               Syntax.erased Syntax.mut Element.behind) (Syntax.tyRef Syntax.erased Syntax.mut Element.behind) (λ x. x) (Scalar.oFld 7 (List._∷_ (Syntax.field 1) List.[]) (Syntax.tyInt Syntax.w64) 8 λ v.
-              Shared.lenV (v .0)) (Reads'.as-is 𝓤 H A (Relend.msptr (Element.type) (Syntax.tyRef Syntax.erased Syntax.mut Element.behind) 9)) (Reads'.room-gone 𝓤 H A (Syntax.tyStruct (List._∷_ 38
-              (List._∷_ 91 (List._∷_ 93 List.[]))) (Syntax.tcons (Syntax.tyRef Syntax.erased Syntax.mut Element.behind) (Syntax.tcons (Syntax.tyInt Syntax.w64) Syntax.tnil)))) (
-                Relend.reads-owed-len 𝓤 H
-                    A W (Element.type) (Syntax.tyRef (Syntax.named 3) Syntax.mut Element.behind) 3 9 (Row.lease (κs .1 .1 .1 .0) (qs .1 .1 .1 .0)) 8 Path'.refl,
-                Path'.refl,
-              ) Path'.refl Path'.refl λ b o k. tt)
-              d31
+              Shared.lenV (v .0)) (Reads'.as-is 𝓤 H A (Relend.msptr (Element.type) (Syntax.tyRef Syntax.erased Syntax.mut Element.behind) 9)) (Reads'.room-gone 𝓤 H A y5)
+              (Relend.reads-owed-len 𝓤 H A W (Element.type) (Syntax.tyRef (Syntax.named 3) Syntax.mut Element.behind) 3 9 (Row.lease (κs .1 .1 .1 .0) (qs .1 .1 .1 .0)) 8 Path'.refl, Path'.refl) Path'.refl
+              Path'.refl λ b o k. tt) d31
 
           d33 : Typed.Typed 𝓤 H A 𝓣 E G82 b43 Δ3 (at33 bs)
           d33 = Typed.s-seq 𝓤 H A W 𝓣 E G82 G83 b35 b42 Δ3 (Typed.give (s78 bs)) (at32 bs) (Relend.t-sl-relend 𝓤 H A W E (Element.type) 𝓣 G82 7 34 3 9 (Syntax.tyRef (Syntax.named 3) Syntax.mut
@@ -5818,92 +3094,41 @@ module _ (claims· : Claims) where
                     tt,
                     (
                       tt,
-                      (
-                        tt,
-                        (
-                          tt,
-                          (
-                            tt,
-                            (
-                              tt,
-                              (
-                                tt,
-                                (
-                                  tt,
-                                  (
-                                    tt,
-                                    (
-                                      tt,
-                                      (
-                                        tt,
-                                        (
-                                          tt,
-                                          (tt, (tt, (tt, (tt, (tt, (tt, (tt, (tt, (tt, (tt, (tt, (tt, (tt, (tt, (tt, (tt, (tt, (tt, (tt, (tt, tt)))))))))))))))))))),
-                                        ),
-                                      ),
-                                    ),
-                                  ),
-                                ),
-                              ),
-                            ),
-                          ),
-                        ),
-                      ),
+                      (tt, (tt, (tt, (tt, (tt, (tt, (tt, (tt, (tt, (tt, (tt, (tt, (tt, (tt, (tt, (tt, (tt, (tt, (tt, (tt, (tt, (tt, (tt, (tt, (tt, (tt, (tt, (tt, (tt, (tt, tt)))))))))))))))))))))))))))))),
                     ),
                   ),
                 ),
               ),
             ),
-          )) d33
+          ))
+              d33
 
           d35 : Typed.Typed 𝓤 H A 𝓣 E G66 b44 Δ3 (at35 bs)
           d35 = Typed.s-seq 𝓤 H A W 𝓣 E G66 G81 b34 b43 Δ3 (Typed.both (s76 bs)) (at34 bs) (WayStmt.t-way-copy-out 𝓤 H A W E 𝓣 (Declared'.row Set.the-type) Path'.refl (Copies.cStruct Set.the-type
-              Laws'3.the-laws Laws'3.the-copy .copy 𝓤 H A W) (λ ρ. Unit) G66 (Row.out 19 (G66 .locals)) (λ u. Row.drop 19 (G66 .locals) u) (G66 .slots) 19 (λ t. List._∷_ (Syntax.field 3) t)
-              (Syntax.tyStruct (List._∷_ 112 (List._∷_ 97 (List._∷_ 115 (List._∷_ 115 (List._∷_ 58 (List._∷_ 58 (List._∷_ 83 (List._∷_ 101 (List._∷_ 116 List.[]))))))))) (Syntax.tcons (Syntax.tyArray
-              (Syntax.tyInt Syntax.w32) 112) (Syntax.tcons (Syntax.tyArray (Syntax.tyInt Syntax.w32) 112) Syntax.tnil))) (Syntax.tyStruct (List._∷_ 112 (List._∷_ 97 (List._∷_ 115 (List._∷_ 115 (List._∷_
-              58 (List._∷_ 58 (List._∷_ 83 (List._∷_ 101 (List._∷_ 116 List.[]))))))))) (Syntax.tcons (Syntax.tyArray (Syntax.tyInt Syntax.w32) 112) (Syntax.tcons (Syntax.tyArray (Syntax.tyInt Syntax.w32)
-              112) Syntax.tnil))) 21 (Rows.whole (Declared'.row Set.the-type)) (λ x. x) (λ u. At.getAt (PassPut.the-type .parts) 3 (PassPut.struct .as-values (u .1 .1 .1 .1 .1 .1 .1 .1 .1 .1 .1 .1 .1 .1
-              .1 .1 .1 .1 .1 .0))) (λ u. (
-                Row.hd 0 (Row.tl (Row.tl (Row.tl (Row.tl (Row.tl (Row.tl (Row.tl (Row.tl (Row.tl (Row.tl (Row.tl (Row.tl (Row.tl (Row.tl (Row.tl (Row.tl (Row.tl (Row.tl (Row.tl
-                    bs))))))))))))))))))),
+              Laws'3.the-laws Laws'3.the-copy .copy 𝓤 H A W) (λ ρ. Unit) G66 (Row.out 19 (G66 .locals)) (λ u. Row.drop 19 (G66 .locals) u) (G66 .slots) 19 (λ t. List._∷_ (Syntax.field 3) t) y1 y1 21
+              (Rows.whole (Declared'.row Set.the-type)) (λ x. x) (λ u. At.getAt (PassPut.the-type .parts) 3 (PassPut.struct .as-values (u .1 .1 .1 .1 .1 .1 .1 .1 .1 .1 .1 .1 .1 .1 .1 .1 .1 .1 .1 .0))) (λ
+              u. (
+                Row.hd 0 (Row.tl (Row.tl (Row.tl (Row.tl (Row.tl (Row.tl (Row.tl (Row.tl (Row.tl (Row.tl (Row.tl (Row.tl (Row.tl (Row.tl (Row.tl (Row.tl (Row.tl (Row.tl (Row.tl bs))))))))))))))))))),
                 Nat._+_ 0 24,
-              )) (λ T′. record { locals = Row.setRow 19 (19, Rows.whole (Declared'.row PassPut.the-type)) T′; slots = G66 .slots }) (λ u T′ m′. Row.set 19 (
-                19,
-                Rows.whole (Declared'.row PassPut.the-type),
-              ) (u .1 .1 .1 .1 .1 .1 .1 .1 .1 .1 .1 .1 .1 .1 .1 .1 .1 .1 .1 .0) T′ m′) (λ u. Unit) (λ x. Unit) (Own.told-none 𝓤 H A (G66 .slots))
-              (DerefMove.learns-nothing 𝓤 H A (Declared'.row Set.the-type)) (λ ρ told u asked. Way'.w-partˢ 𝓤 H A W E (Declared'.row PassPut.the-type) (Declared'.row Set.the-type) (Syntax.tyStruct
-              (List._∷_ 119 (List._∷_ 114 (List._∷_ 105 (List._∷_ 116 (List._∷_ 105 (List._∷_ 110 (List._∷_ 103 (List._∷_ 58 (List._∷_ 58 (List._∷_ 80 (List._∷_ 97 (List._∷_ 115 (List._∷_ 115 (List._∷_ 80
-              (List._∷_ 117 (List._∷_ 116 List.[])))))))))))))))) (Syntax.tcons Syntax.tyBool (Syntax.tcons (Syntax.tyInt Syntax.w64) (Syntax.tcons (Syntax.tyStruct (List._∷_ 98 (List._∷_ 105 (List._∷_
-              116 (List._∷_ 115 (List._∷_ 58 (List._∷_ 58 (List._∷_ 66 (List._∷_ 105 (List._∷_ 116 (List._∷_ 80 (List._∷_ 111 (List._∷_ 115 (List._∷_ 105 (List._∷_ 116 (List._∷_ 105 (List._∷_ 111
-              (List._∷_ 110 List.[]))))))))))))))))) (Syntax.tcons (Syntax.tyInt Syntax.w64) Syntax.tnil)) (Syntax.tcons (Syntax.tyStruct (List._∷_ 112 (List._∷_ 97 (List._∷_ 115 (List._∷_ 115 (List._∷_
-              58 (List._∷_ 58 (List._∷_ 83 (List._∷_ 101 (List._∷_ 116 List.[]))))))))) (Syntax.tcons (Syntax.tyArray (Syntax.tyInt Syntax.w32) 112) (Syntax.tcons (Syntax.tyArray (Syntax.tyInt Syntax.w32)
-              112) Syntax.tnil))) Syntax.tnil))))) (Syntax.tyStruct (List._∷_ 112 (List._∷_ 97 (List._∷_ 115 (List._∷_ 115 (List._∷_ 58 (List._∷_ 58 (List._∷_ 83 (List._∷_ 101 (List._∷_ 116
-              List.[]))))))))) (Syntax.tcons (Syntax.tyArray (Syntax.tyInt Syntax.w32) 112) (Syntax.tcons (Syntax.tyArray (Syntax.tyInt Syntax.w32) 112) Syntax.tnil))) 3 24 (u .1 .1 .1 .1 .1 .1 .1 .1 .1
-              .1 .1 .1 .1 .1 .1 .1 .1 .1 .1 .0) (At.getAt (PassPut.the-type .parts) 3 (PassPut.struct .as-values (u .1 .1 .1 .1 .1 .1 .1 .1 .1 .1 .1 .1 .1 .1 .1 .1 .1 .1 .1 .0))) (
-                Row.hd 0 (Row.tl
-                    (Row.tl (Row.tl (Row.tl (Row.tl (Row.tl (Row.tl (Row.tl (Row.tl (Row.tl (Row.tl (Row.tl (Row.tl (Row.tl (Row.tl (Row.tl (Row.tl (Row.tl (Row.tl bs))))))))))))))))))),
-                0,
-              ) (Way.w-look 𝓤 H A
-              W E (Way.w-local 𝓤 H A W E G66 ρ u (G66 .slots) 19 (Declared'.row PassPut.the-type) (Rows.whole (Declared'.row PassPut.the-type)) (λ x. x) (λ x. x) (u .1 .1 .1 .1 .1 .1 .1 .1 .1 .1 .1 .1 .1
-              .1 .1 .1 .1 .1 .1 .0) (Local.mem-whole 𝓤 H A W (Declared'.row PassPut.the-type) ρ (u .1 .1 .1 .1 .1 .1 .1 .1 .1 .1 .1 .1 .1 .1 .1 .1 .1 .1 .1 .0) (Row.hd 0 (Row.tl (Row.tl (Row.tl (Row.tl
-              (Row.tl (Row.tl (Row.tl (Row.tl (Row.tl (Row.tl (Row.tl (Row.tl (Row.tl (Row.tl (Row.tl (Row.tl (Row.tl (Row.tl (Row.tl bs))))))))))))))))))))) (Local.whole-mem 𝓤 H A W (Declared'.row
-              PassPut.the-type) ρ (u .1 .1 .1 .1 .1 .1 .1 .1 .1 .1 .1 .1 .1 .1 .1 .1 .1 .1 .1 .0) (Row.hd 0 (Row.tl (Row.tl (Row.tl (Row.tl (Row.tl (Row.tl (Row.tl (Row.tl (Row.tl (Row.tl (Row.tl (Row.tl
-              (Row.tl (Row.tl (Row.tl (Row.tl (Row.tl (Row.tl (Row.tl bs))))))))))))))))))))))) Path'.refl λ q. Inner.cut-record 𝓤 H A q (Declared'.row PassPut.the-type) Set.the-type 24 (u .1 .1 .1 .1 .1
-              .1 .1 .1 .1 .1 .1 .1 .1 .1 .1 .1 .1 .1 .1 .0) (u .1 .1 .1 .1 .1 .1 .1 .1 .1 .1 .1 .1 .1 .1 .1 .1 .1 .1 .1 .0) (At.getAt (PassPut.the-type .parts) 3 (PassPut.struct .as-values (u .1 .1 .1 .1
-              .1 .1 .1 .1 .1 .1 .1 .1 .1 .1 .1 .1 .1 .1 .1 .0))) (At.getAt (PassPut.the-type .parts) 3 (PassPut.struct .as-values (u .1 .1 .1 .1 .1 .1 .1 .1 .1 .1 .1 .1 .1 .1 .1 .1 .1 .1 .1 .0))) (
-                Row.hd
-                    0 (Row.tl (Row.tl (Row.tl (Row.tl (Row.tl (Row.tl (Row.tl (Row.tl (Row.tl (Row.tl (Row.tl (Row.tl (Row.tl (Row.tl (Row.tl (Row.tl (Row.tl (Row.tl (Row.tl bs))))))))))))))))))),
-                0,
-              )
-              (Behind.look-at 𝓤 H A W q PassPut.the-type Laws'5.the-laws 3 24 Path'.refl Path'.refl (
-                Row.hd 0 (Row.tl (Row.tl (Row.tl (Row.tl (Row.tl (Row.tl (Row.tl (Row.tl (Row.tl (Row.tl (Row.tl
-                    (Row.tl (Row.tl (Row.tl (Row.tl (Row.tl (Row.tl (Row.tl (Row.tl bs))))))))))))))))))),
-                0,
-              ) (u .1 .1 .1 .1 .1 .1 .1 .1 .1 .1 .1 .1 .1 .1 .1 .1 .1 .1 .1 .0) (PassPut.struct .as-values (u .1
-              .1 .1 .1 .1 .1 .1 .1 .1 .1 .1 .1 .1 .1 .1 .1 .1 .1 .1 .0)) Path'.refl)) (Reads'.room-gone 𝓤 H A (Syntax.tyStruct (List._∷_ 112 (List._∷_ 97 (List._∷_ 115 (List._∷_ 115 (List._∷_ 58 (List._∷_
-              58 (List._∷_ 83 (List._∷_ 101 (List._∷_ 116 List.[]))))))))) (Syntax.tcons (Syntax.tyArray (Syntax.tyInt Syntax.w32) 112) (Syntax.tcons (Syntax.tyArray (Syntax.tyInt Syntax.w32) 112)
-              Syntax.tnil)))) (Yields.makes-mem 𝓤 H A W (λ ρ. Unit) (Declared'.row Set.the-type) Path'.refl (Rows.whole (Declared'.row Set.the-type)) (λ x. x) λ ρ told. Local.whole-mem 𝓤 H A W
-              (Declared'.row Set.the-type) ρ) Path'.refl Path'.refl Path'.refl) d34
+              )) (λ T′. record { locals = Row.setRow 19 (19, Rows.whole (Declared'.row PassPut.the-type)) T′; slots = G66 .slots }) (λ u T′ m′. Row.set 19
+              (19, Rows.whole (Declared'.row PassPut.the-type)) (u .1 .1 .1 .1 .1 .1 .1 .1 .1 .1 .1 .1 .1 .1 .1 .1 .1 .1 .1 .0) T′ m′) (λ u. Unit) (λ x. Unit) (Own.told-none 𝓤 H A (G66 .slots))
+              (DerefMove.learns-nothing 𝓤 H A (Declared'.row Set.the-type)) (λ ρ told u asked. Way'.w-partˢ 𝓤 H A W E (Declared'.row PassPut.the-type) (Declared'.row Set.the-type) y8 y1 3 24 (u .1 .1 .1
+              .1 .1 .1 .1 .1 .1 .1 .1 .1 .1 .1 .1 .1 .1 .1 .1 .0) (At.getAt (PassPut.the-type .parts) 3 (PassPut.struct .as-values (u .1 .1 .1 .1 .1 .1 .1 .1 .1 .1 .1 .1 .1 .1 .1 .1 .1 .1 .1 .0)))
+              (Row.hd 0 (Row.tl (Row.tl (Row.tl (Row.tl (Row.tl (Row.tl (Row.tl (Row.tl (Row.tl (Row.tl (Row.tl (Row.tl (Row.tl (Row.tl (Row.tl (Row.tl (Row.tl (Row.tl (Row.tl bs))))))))))))))))))), 0)
+              (Way.w-look 𝓤 H A W E (Way.w-local 𝓤 H A W E G66 ρ u (G66 .slots) 19 (Declared'.row PassPut.the-type) (Rows.whole (Declared'.row PassPut.the-type)) (λ x. x) (λ x. x) (u .1 .1 .1 .1 .1 .1 .1
+              .1 .1 .1 .1 .1 .1 .1 .1 .1 .1 .1 .1 .0) (Local.mem-whole 𝓤 H A W (Declared'.row PassPut.the-type) ρ (u .1 .1 .1 .1 .1 .1 .1 .1 .1 .1 .1 .1 .1 .1 .1 .1 .1 .1 .1 .0) (Row.hd 0 (Row.tl (Row.tl
+              (Row.tl (Row.tl (Row.tl (Row.tl (Row.tl (Row.tl (Row.tl (Row.tl (Row.tl (Row.tl (Row.tl (Row.tl (Row.tl (Row.tl (Row.tl (Row.tl (Row.tl bs))))))))))))))))))))) (Local.whole-mem 𝓤 H A W
+              (Declared'.row PassPut.the-type) ρ (u .1 .1 .1 .1 .1 .1 .1 .1 .1 .1 .1 .1 .1 .1 .1 .1 .1 .1 .1 .0) (Row.hd 0 (Row.tl (Row.tl (Row.tl (Row.tl (Row.tl (Row.tl (Row.tl (Row.tl (Row.tl (Row.tl
+              (Row.tl (Row.tl (Row.tl (Row.tl (Row.tl (Row.tl (Row.tl (Row.tl (Row.tl bs))))))))))))))))))))))) Path'.refl λ q. Inner.cut-record 𝓤 H A q (Declared'.row PassPut.the-type) Set.the-type 24 (u
+              .1 .1 .1 .1 .1 .1 .1 .1 .1 .1 .1 .1 .1 .1 .1 .1 .1 .1 .1 .0) (u .1 .1 .1 .1 .1 .1 .1 .1 .1 .1 .1 .1 .1 .1 .1 .1 .1 .1 .1 .0) (At.getAt (PassPut.the-type .parts) 3 (PassPut.struct .as-values
+              (u .1 .1 .1 .1 .1 .1 .1 .1 .1 .1 .1 .1 .1 .1 .1 .1 .1 .1 .1 .0))) (At.getAt (PassPut.the-type .parts) 3 (PassPut.struct .as-values (u .1 .1 .1 .1 .1 .1 .1 .1 .1 .1 .1 .1 .1 .1 .1 .1 .1 .1 .1
+              .0)))
+              (Row.hd 0 (Row.tl (Row.tl (Row.tl (Row.tl (Row.tl (Row.tl (Row.tl (Row.tl (Row.tl (Row.tl (Row.tl (Row.tl (Row.tl (Row.tl (Row.tl (Row.tl (Row.tl (Row.tl (Row.tl bs))))))))))))))))))), 0)
+              (Behind.look-at 𝓤 H A W q PassPut.the-type Laws'5.the-laws 3 24 Path'.refl Path'.refl
+              (Row.hd 0 (Row.tl (Row.tl (Row.tl (Row.tl (Row.tl (Row.tl (Row.tl (Row.tl (Row.tl (Row.tl (Row.tl (Row.tl (Row.tl (Row.tl (Row.tl (Row.tl (Row.tl (Row.tl (Row.tl bs))))))))))))))))))), 0) (u
+              .1 .1 .1 .1 .1 .1 .1 .1 .1 .1 .1 .1 .1 .1 .1 .1 .1 .1 .1 .0) (PassPut.struct .as-values (u .1 .1 .1 .1 .1 .1 .1 .1 .1 .1 .1 .1 .1 .1 .1 .1 .1 .1 .1 .0)) Path'.refl)) (Reads'.room-gone 𝓤 H A
+              y1) (Yields.makes-mem 𝓤 H A W (λ ρ. Unit) (Declared'.row Set.the-type) Path'.refl (Rows.whole (Declared'.row Set.the-type)) (λ x. x) λ ρ told. Local.whole-mem 𝓤 H A W (Declared'.row
+              Set.the-type) ρ) Path'.refl Path'.refl Path'.refl) d34
 
           d36 : Typed.Typed 𝓤 H A 𝓣 E G65 b45 Δ3 (at36 bs)
           d36 = Typed.t-seq 𝓤 H A W 𝓣 E G65 G66 b33 b44 Δ3 (at21 bs) (at35 bs) d21 d35
@@ -5915,11 +3140,9 @@ module _ (claims· : Claims) where
 
           d38 : Typed.Typed 𝓤 H A 𝓣 E G63 b47 Δ3 (at38 bs)
           d38 = Typed.s-seq 𝓤 H A W 𝓣 E G63 G64 b27 b46 Δ3 (Typed.pass T62 T64 (s60 bs)) (at37 bs) (Scalar.t-use 𝓤 H A W E 𝓣 G63 (Scalar.oFld 19 (List._∷_ (Syntax.field 0) List.[]) Syntax.tyBool 0
-              (Reads.fieldV PassPut.the-type Laws'5.the-laws 0)) 20 (Rows.sc-here Row.sBool) Syntax.tyBool (Row.valS Row.sBool) (Row.sBool .of) (
-                Reads.reads-field 𝓤 H A W PassPut.the-type Laws'5.the-laws
-                    0 Syntax.tyBool 0 Path'.refl,
-                Path'.refl,
-              ) (Reads'.room-gone 𝓤 H A Syntax.tyBool) (Scalar.holds-sc 𝓤 H A W Row.sBool) Path'.refl (λ u. Path'.refl) λ u. tt) d37
+              (Reads.fieldV PassPut.the-type Laws'5.the-laws 0)) 20 (Rows.sc-here Row.sBool) Syntax.tyBool (Row.valS Row.sBool) (Row.sBool .of)
+              (Reads.reads-field 𝓤 H A W PassPut.the-type Laws'5.the-laws 0 Syntax.tyBool 0 Path'.refl, Path'.refl) (Reads'.room-gone 𝓤 H A Syntax.tyBool) (Scalar.holds-sc 𝓤 H A W Row.sBool) Path'.refl (λ
+              u. Path'.refl) λ u. tt) d37
 
           d39 : Typed.Typed 𝓤 H A 𝓣 E G62 b47 Δ3 (at39 bs)
           d39 = Typed.g-pre 𝓤 H A W 𝓣 E G62 G63 b47 Δ3 (λ Ψ. Ψ) (at38 bs) (Lifetime.g-forget 𝓤 H A W E G62 8 Row.dead Path'.refl) d38
@@ -5956,18 +3179,12 @@ module _ (claims· : Claims) where
           d46 = Typed.g-pre 𝓤 H A W 𝓣 E G55 G56 b47 Δ3 (λ Ψ. Ψ) (at45 bs) (Lifetime.g-end 𝓤 H A W E G55 7 Path'.refl) d45
 
           d47 : Typed.Typed 𝓤 H A 𝓣 E G54 b47 Δ3 (at47 bs)
-          d47 = Typed.g-pre 𝓤 H A W 𝓣 E G54 G55 b47 Δ3 (Typed.pass T54 T55 (s51 bs)) (at46 bs) (Scalar.g-room 𝓤 H A W E G54 18 (Syntax.tyStruct (List._∷_ 112 (List._∷_ 97 (List._∷_ 115 (List._∷_ 115
-              (List._∷_ 58 (List._∷_ 58 (List._∷_ 83 (List._∷_ 101 (List._∷_ 116 List.[]))))))))) (Syntax.tcons (Syntax.tyArray (Syntax.tyInt Syntax.w32) 112) (Syntax.tcons (Syntax.tyArray (Syntax.tyInt
-              Syntax.w32) 112) Syntax.tnil))) (Local.room-whole 𝓤 H A W (Declared'.row Set.the-type) (Syntax.tyStruct (List._∷_ 112 (List._∷_ 97 (List._∷_ 115 (List._∷_ 115 (List._∷_ 58 (List._∷_ 58
-              (List._∷_ 83 (List._∷_ 101 (List._∷_ 116 List.[]))))))))) (Syntax.tcons (Syntax.tyArray (Syntax.tyInt Syntax.w32) 112) (Syntax.tcons (Syntax.tyArray (Syntax.tyInt Syntax.w32) 112)
-              Syntax.tnil))) Path'.refl)) d46
+          d47 = Typed.g-pre 𝓤 H A W 𝓣 E G54 G55 b47 Δ3 (Typed.pass T54 T55 (s51 bs)) (at46 bs) (Scalar.g-room 𝓤 H A W E G54 18 y1 (Local.room-whole 𝓤 H A W (Declared'.row Set.the-type) y1 Path'.refl))
+              d46
 
           d48 : Typed.Typed 𝓤 H A 𝓣 E G53 b47 Δ3 (at48 bs)
-          d48 = Typed.g-pre 𝓤 H A W 𝓣 E G53 G54 b47 Δ3 (Typed.pass T53 T54 (s50 bs)) (at47 bs) (Scalar.g-room 𝓤 H A W E G53 15 (Syntax.tyStruct (List._∷_ 98 (List._∷_ 105 (List._∷_ 116 (List._∷_ 115
-              (List._∷_ 58 (List._∷_ 58 (List._∷_ 66 (List._∷_ 105 (List._∷_ 116 (List._∷_ 80 (List._∷_ 111 (List._∷_ 115 (List._∷_ 105 (List._∷_ 116 (List._∷_ 105 (List._∷_ 111 (List._∷_ 110
-              List.[]))))))))))))))))) (Syntax.tcons (Syntax.tyInt Syntax.w64) Syntax.tnil)) (Local.room-whole 𝓤 H A W (Declared'.row BitPosition.the-type) (Syntax.tyStruct (List._∷_ 98 (List._∷_ 105
-              (List._∷_ 116 (List._∷_ 115 (List._∷_ 58 (List._∷_ 58 (List._∷_ 66 (List._∷_ 105 (List._∷_ 116 (List._∷_ 80 (List._∷_ 111 (List._∷_ 115 (List._∷_ 105 (List._∷_ 116 (List._∷_ 105 (List._∷_
-              111 (List._∷_ 110 List.[]))))))))))))))))) (Syntax.tcons (Syntax.tyInt Syntax.w64) Syntax.tnil)) Path'.refl)) d47
+          d48 = Typed.g-pre 𝓤 H A W 𝓣 E G53 G54 b47 Δ3 (Typed.pass T53 T54 (s50 bs)) (at47 bs) (Scalar.g-room 𝓤 H A W E G53 15 y6 (Local.room-whole 𝓤 H A W (Declared'.row BitPosition.the-type) y6
+              Path'.refl)) d47
 
           d49 : Typed.Typed 𝓤 H A 𝓣 E G52 b48 Δ3 (at49 bs)
           d49 = Typed.s-seq 𝓤 H A W 𝓣 E G52 G53 b26 b47 Δ3 (Typed.both (s49 bs)) (at48 bs) (Plain.t-call-plain 𝓤 H A W 𝓣 3 ps·5 r·5 (claims· .10) (claims· .11) "writing::write_pass" (known .5) E (λ
@@ -5976,48 +3193,27 @@ module _ (claims· : Claims) where
                 (
                   Num.vAt 2 λ x. x,
                   (
-                    record {
-                      pos = 31;
-                      ty = Syntax.tyRef
-                          Syntax.erased Syntax.mut (Syntax.tyInt Syntax.w8);
-                      ref = λ x. x;
-                    },
+                    record { pos = 31; ty = Syntax.tyRef Syntax.erased Syntax.mut (Syntax.tyInt Syntax.w8); ref = λ x. x },
                     (
                       Bool.bAt 4 λ x. x,
                       (
                         record { pos = 15; st = List.[]; d = 0; at = λ x. x },
                         (
-                          record {
-                            pos = 33;
-                            ty = Syntax.tyRef
-                                Syntax.erased Syntax.mut (Syntax.tyInt Syntax.w16);
-                            ref = λ x. x;
-                          },
+                          record { pos = 33; ty = Syntax.tyRef Syntax.erased Syntax.mut (Syntax.tyInt Syntax.w16); ref = λ x. x },
                           (
                             record { pos = 18; st = List.[]; d = 0; at = λ x. x },
-                            (
-                              Num.vAt 11 λ x. x,
-                              (
-                                record {
-                                  pos = 17;
-                                  st = List.[];
-                                  d = 0;
-                                  at = λ x. x;
-                                },
-                                (Num.vAt 9 λ x. x, (Num.vAt 13 λ x. x, (Num.vAt 14 λ x. x, tt))),
-                              ),
-                            ),
+                            (Num.vAt 11 λ x. x, (record { pos = 17; st = List.[]; d = 0; at = λ x. x }, (Num.vAt 9 λ x. x, (Num.vAt 13 λ x. x, (Num.vAt 14 λ x. x, tt))))),
                           ),
                         ),
                       ),
                     ),
                   ),
                 ),
-              ) 19 (List._∷_ 0 (List._∷_ 7 (List._∷_ 8 List.[]))) (Call.sub-id 𝓤 H A W (G52
-              .slots)) (
+              ) 19 (List._∷_ 0 (List._∷_ 7 (List._∷_ 8
+              List.[]))) (Call.sub-id 𝓤 H A W (G52 .slots)) (
                 ShrSlice.spares-sslice 𝓤 H A W (Referent.rtF (Referent.fInt Syntax.w16)) (Syntax.tyRef (Syntax.named 0) Syntax.imm (Syntax.tyInt Syntax.w16)) 0,
-                Shared.reads-sslice 𝓤 H A W
-                    (Referent.rtF (Referent.fInt Syntax.w16)) (Syntax.tyRef (Syntax.named 0) Syntax.imm (Syntax.tyInt Syntax.w16)) 0,
+                Shared.reads-sslice 𝓤 H A W (Referent.rtF
+                    (Referent.fInt Syntax.w16)) (Syntax.tyRef (Syntax.named 0) Syntax.imm (Syntax.tyInt Syntax.w16)) 0,
                 Path'.refl,
                 (
                   (Scalar.reads-sc 𝓤 H A W (Row.sInt Syntax.w64), Path'.refl),
@@ -6030,9 +3226,9 @@ module _ (claims· : Claims) where
                       (Scalar.reads-sc 𝓤 H A W Row.sBool, Path'.refl),
                       (
                         (
-                          Yields.yields-copy 𝓤 H A W
-                              (λ ρ. Unit) (Declared'.row BitPosition.the-type) Path'.refl (Copies.cStruct BitPosition.the-type Laws.the-laws Laws.the-copy .copy 𝓤 H A W) (Rows.whole (Declared'.row BitPosition.the-type))
-                              (λ x. x) (λ x. x) (λ ρ told. Local.mem-whole 𝓤 H A W (Declared'.row BitPosition.the-type) ρ) λ ρ told. Local.whole-mem 𝓤 H A W (Declared'.row BitPosition.the-type) ρ,
+                          Yields.yields-copy 𝓤 H A W (λ ρ. Unit) (Declared'.row BitPosition.the-type) Path'.refl (Copies.cStruct BitPosition.the-type Laws.the-laws Laws.the-copy .copy 𝓤 H A W) (Rows.whole
+                              (Declared'.row BitPosition.the-type)) (λ x. x) (λ x. x) (λ ρ told. Local.mem-whole 𝓤 H A W (Declared'.row BitPosition.the-type) ρ) λ ρ told. Local.whole-mem 𝓤 H A W (Declared'.row
+                              BitPosition.the-type) ρ,
                           Path'.refl,
                         ),
                         (
@@ -6042,9 +3238,8 @@ module _ (claims· : Claims) where
                           Path'.refl,
                           (
                             (
-                              Yields.yields-copy 𝓤 H A W (λ ρ. Unit) (Declared'.row Set.the-type)
-                                  Path'.refl (Copies.cStruct Set.the-type Laws'3.the-laws Laws'3.the-copy .copy 𝓤 H A W) (Rows.whole (Declared'.row Set.the-type)) (λ x. x) (λ x. x) (λ ρ told. Local.mem-whole 𝓤 H A W
-                                  (Declared'.row Set.the-type) ρ) λ ρ told. Local.whole-mem 𝓤 H A W (Declared'.row Set.the-type) ρ,
+                              Yields.yields-copy 𝓤 H A W (λ ρ. Unit) (Declared'.row Set.the-type) Path'.refl (Copies.cStruct Set.the-type Laws'3.the-laws Laws'3.the-copy .copy 𝓤 H A W) (Rows.whole (Declared'.row
+                                  Set.the-type)) (λ x. x) (λ x. x) (λ ρ told. Local.mem-whole 𝓤 H A W (Declared'.row Set.the-type) ρ) λ ρ told. Local.whole-mem 𝓤 H A W (Declared'.row Set.the-type) ρ,
                               Path'.refl,
                             ),
                             (
@@ -6057,13 +3252,7 @@ module _ (claims· : Claims) where
                                 ),
                                 (
                                   (Scalar.reads-sc 𝓤 H A W (Row.sInt Syntax.w32), Path'.refl),
-                                  (
-                                    (Scalar.reads-sc 𝓤 H A W (Row.sInt Syntax.w32), Path'.refl),
-                                    (
-                                      (Scalar.reads-sc 𝓤 H A W (Row.sInt Syntax.w32), Path'.refl),
-                                      tt,
-                                    ),
-                                  ),
+                                  ((Scalar.reads-sc 𝓤 H A W (Row.sInt Syntax.w32), Path'.refl), ((Scalar.reads-sc 𝓤 H A W (Row.sInt Syntax.w32), Path'.refl), tt)),
                                 ),
                               ),
                             ),
@@ -6073,21 +3262,16 @@ module _ (claims· : Claims) where
                     ),
                   ),
                 ),
-              ) (Reads'.room-gone 𝓤 H A (Syntax.tyStruct (List._∷_ 119 (List._∷_ 114 (List._∷_ 105 (List._∷_ 116 (List._∷_ 105 (List._∷_ 110 (List._∷_ 103 (List._∷_ 58
-              (List._∷_ 58 (List._∷_ 80 (List._∷_ 97 (List._∷_ 115 (List._∷_ 115 (List._∷_ 80 (List._∷_ 117 (List._∷_ 116 List.[])))))))))))))))) (Syntax.tcons Syntax.tyBool (Syntax.tcons (Syntax.tyInt
-              Syntax.w64) (Syntax.tcons (Syntax.tyStruct (List._∷_ 98 (List._∷_ 105 (List._∷_ 116 (List._∷_ 115 (List._∷_ 58 (List._∷_ 58 (List._∷_ 66 (List._∷_ 105 (List._∷_ 116 (List._∷_ 80 (List._∷_
-              111 (List._∷_ 115 (List._∷_ 105 (List._∷_ 116 (List._∷_ 105 (List._∷_ 111 (List._∷_ 110 List.[]))))))))))))))))) (Syntax.tcons (Syntax.tyInt Syntax.w64) Syntax.tnil)) (Syntax.tcons
-              (Syntax.tyStruct (List._∷_ 112 (List._∷_ 97 (List._∷_ 115 (List._∷_ 115 (List._∷_ 58 (List._∷_ 58 (List._∷_ 83 (List._∷_ 101 (List._∷_ 116 List.[]))))))))) (Syntax.tcons (Syntax.tyArray
-              (Syntax.tyInt Syntax.w32) 112) (Syntax.tcons (Syntax.tyArray (Syntax.tyInt Syntax.w32) 112) Syntax.tnil))) Syntax.tnil)))))) (tt, (tt, (tt, tt))) Path'.refl) d48
+              ) (Reads'.room-gone 𝓤 H A y8) (tt, (tt, (tt, tt)))
+              Path'.refl) d48
 
           d50 : Typed.Typed 𝓤 H A 𝓣 E G51 b49 Δ3 (at50 bs)
           d50 = Typed.s-seq 𝓤 H A W 𝓣 E G51 G52 b25 b48 Δ3 (Typed.ask (s48 bs)) (at49 bs) (Relend.t-sl-aggregate 𝓤 H A W E (Referent.rtF (Referent.fInt Syntax.w16)) 𝓣 (Relend.asMut (Referent.rtF
               (Referent.fInt Syntax.w16))) G51 32 33 8 (Syntax.tyRef Syntax.erased Syntax.mut (Syntax.tyInt Syntax.w16)) (Syntax.tyRef Syntax.erased Syntax.mut (Syntax.tyInt Syntax.w16)) (λ x. x)
               (Scalar.oFld 6 (List._∷_ (Syntax.field 1) List.[]) (Syntax.tyInt Syntax.w64) 8 λ v. Shared.lenV (v .0)) (Reads'.as-is 𝓤 H A (Relend.msptr (Referent.rtF (Referent.fInt Syntax.w16))
-              (Syntax.tyRef Syntax.erased Syntax.mut (Syntax.tyInt Syntax.w16)) 8)) (Reads'.room-gone 𝓤 H A (Syntax.tyStruct (List._∷_ 38 (List._∷_ 91 (List._∷_ 93 List.[]))) (Syntax.tcons (Syntax.tyRef
-              Syntax.erased Syntax.mut (Syntax.tyInt Syntax.w16)) (Syntax.tcons (Syntax.tyInt Syntax.w64) Syntax.tnil)))) (
-                Relend.reads-owed-len 𝓤 H A W (Referent.rtF (Referent.fInt Syntax.w16))
-                    (Syntax.tyRef (Syntax.named 2) Syntax.mut (Syntax.tyInt Syntax.w16)) 2 8 (Row.lease (κs .1 .1 .0) (qs .1 .1 .0)) 8 Path'.refl,
+              (Syntax.tyRef Syntax.erased Syntax.mut (Syntax.tyInt Syntax.w16)) 8)) (Reads'.room-gone 𝓤 H A y3) (
+                Relend.reads-owed-len 𝓤 H A W (Referent.rtF (Referent.fInt Syntax.w16)) (Syntax.tyRef (Syntax.named 2) Syntax.mut (Syntax.tyInt Syntax.w16)) 2 8 (Row.lease (κs .1 .1 .0) (qs .1 .1 .0)) 8
+                    Path'.refl,
                 Path'.refl,
               ) Path'.refl Path'.refl λ b o k. tt) d49
 
@@ -6110,49 +3294,22 @@ module _ (claims· : Claims) where
                     tt,
                     (
                       tt,
-                      (
-                        tt,
-                        (
-                          tt,
-                          (
-                            tt,
-                            (
-                              tt,
-                              (
-                                tt,
-                                (
-                                  tt,
-                                  (
-                                    tt,
-                                    (
-                                      tt,
-                                      (
-                                        tt,
-                                        (tt, (tt, (tt, (tt, (tt, (tt, (tt, (tt, (tt, (tt, (tt, (tt, (tt, (tt, (tt, (tt, (tt, (tt, (tt, (tt, (tt, tt))))))))))))))))))))),
-                                      ),
-                                    ),
-                                  ),
-                                ),
-                              ),
-                            ),
-                          ),
-                        ),
-                      ),
+                      (tt, (tt, (tt, (tt, (tt, (tt, (tt, (tt, (tt, (tt, (tt, (tt, (tt, (tt, (tt, (tt, (tt, (tt, (tt, (tt, (tt, (tt, (tt, (tt, (tt, (tt, (tt, (tt, (tt, (tt, tt)))))))))))))))))))))))))))))),
                     ),
                   ),
                 ),
               ),
             ),
-          )) d51
+          ))
+              d51
 
           d53 : Typed.Typed 𝓤 H A 𝓣 E G48 b51 Δ3 (at53 bs)
           d53 = Typed.s-seq 𝓤 H A W 𝓣 E G48 G49 b23 b50 Δ3 (Typed.ask (s45 bs)) (at52 bs) (Relend.t-sl-aggregate 𝓤 H A W E (Referent.rtF (Referent.fInt Syntax.w8)) 𝓣 (Relend.asMut (Referent.rtF
               (Referent.fInt Syntax.w8))) G48 30 31 7 (Syntax.tyRef Syntax.erased Syntax.mut (Syntax.tyInt Syntax.w8)) (Syntax.tyRef Syntax.erased Syntax.mut (Syntax.tyInt Syntax.w8)) (λ x. x)
               (Scalar.oFld 3 (List._∷_ (Syntax.field 1) List.[]) (Syntax.tyInt Syntax.w64) 8 λ v. Shared.lenV (v .0)) (Reads'.as-is 𝓤 H A (Relend.msptr (Referent.rtF (Referent.fInt Syntax.w8))
-              (Syntax.tyRef Syntax.erased Syntax.mut (Syntax.tyInt Syntax.w8)) 7)) (Reads'.room-gone 𝓤 H A (Syntax.tyStruct (List._∷_ 38 (List._∷_ 91 (List._∷_ 93 List.[]))) (Syntax.tcons (Syntax.tyRef
-              Syntax.erased Syntax.mut (Syntax.tyInt Syntax.w8)) (Syntax.tcons (Syntax.tyInt Syntax.w64) Syntax.tnil)))) (
-                Relend.reads-owed-len 𝓤 H A W (Referent.rtF (Referent.fInt Syntax.w8))
-                    (Syntax.tyRef (Syntax.named 1) Syntax.mut (Syntax.tyInt Syntax.w8)) 1 7 (Row.lease (κs .1 .0) (qs .1 .0)) 8 Path'.refl,
+              (Syntax.tyRef Syntax.erased Syntax.mut (Syntax.tyInt Syntax.w8)) 7)) (Reads'.room-gone 𝓤 H A y4) (
+                Relend.reads-owed-len 𝓤 H A W (Referent.rtF (Referent.fInt Syntax.w8)) (Syntax.tyRef (Syntax.named 1) Syntax.mut (Syntax.tyInt Syntax.w8)) 1 7 (Row.lease (κs .1 .0) (qs .1 .0)) 8
+                    Path'.refl,
                 Path'.refl,
               ) Path'.refl Path'.refl λ b o k. tt) d52
 
@@ -6175,43 +3332,14 @@ module _ (claims· : Claims) where
                     tt,
                     (
                       tt,
-                      (
-                        tt,
-                        (
-                          tt,
-                          (
-                            tt,
-                            (
-                              tt,
-                              (
-                                tt,
-                                (
-                                  tt,
-                                  (
-                                    tt,
-                                    (
-                                      tt,
-                                      (
-                                        tt,
-                                        (
-                                          tt,
-                                          (tt, (tt, (tt, (tt, (tt, (tt, (tt, (tt, (tt, (tt, (tt, (tt, (tt, (tt, (tt, (tt, (tt, (tt, (tt, (tt, tt)))))))))))))))))))),
-                                        ),
-                                      ),
-                                    ),
-                                  ),
-                                ),
-                              ),
-                            ),
-                          ),
-                        ),
-                      ),
+                      (tt, (tt, (tt, (tt, (tt, (tt, (tt, (tt, (tt, (tt, (tt, (tt, (tt, (tt, (tt, (tt, (tt, (tt, (tt, (tt, (tt, (tt, (tt, (tt, (tt, (tt, (tt, (tt, (tt, (tt, tt)))))))))))))))))))))))))))))),
                     ),
                   ),
                 ),
               ),
             ),
-          )) d54
+          ))
+              d54
 
           d56 : Typed.Typed 𝓤 H A 𝓣 E G45 b52 Δ3 (at56 bs)
           d56 = Typed.g-pre 𝓤 H A W 𝓣 E G45 G46 b52 Δ3 (λ Ψ. Ψ) (at55 bs) (Lifetime.g-forget 𝓤 H A W E G45 6 Row.dead Path'.refl) d55
@@ -6229,38 +3357,22 @@ module _ (claims· : Claims) where
           d59 = Typed.s-seq 𝓤 H A W 𝓣 E G42 G43 b21 b52 Δ3 (Typed.both (s39 bs)) (at58 bs) (Plain.t-call-plain 𝓤 H A W 𝓣 1 ps·4 r·4 (claims· .8) (claims· .9) "block::records::load_set" (known .4) E (λ
               pos β. β) G42 (
                 record { pos = 29; ty = Syntax.tyRef Syntax.erased Syntax.mut Element.behind; ref = λ x. x },
-                (
-                  Num.vFld 17 (List._∷_ (Syntax.field 2) List.[]) 16 λ x. Plan.struct
-                      .as-values x .1 .1 .0,
-                  tt,
-                ),
+                (Num.vFld 17 (List._∷_ (Syntax.field 2) List.[]) 16 λ x. Plan.struct .as-values x .1 .1 .0, tt),
               ) 18 (List._∷_ 6 List.[]) (Call.sub-id 𝓤 H A W (G42 .slots)) (
-                Reads'.as-is 𝓤 H A (Mut.mslice (Element.type) (Syntax.tyRef Syntax.erased Syntax.mut
-                    Element.behind) 6),
-                Mut.reads-mslice 𝓤 H A W (Element.type) (Syntax.tyRef Syntax.erased Syntax.mut Element.behind) 6,
+                Reads'.as-is 𝓤 H A (Mut.mslice (Element.type) (Syntax.tyRef Syntax.erased Syntax.mut Element.behind) 6),
+                Mut.reads-mslice 𝓤 H A W (Element.type) (Syntax.tyRef Syntax.erased Syntax.mut
+                    Element.behind) 6,
                 Path'.refl,
-                (
-                  (
-                    Reads.reads-field 𝓤 H A W Plan.the-type Laws''.the-laws
-                        2 (Syntax.tyInt Syntax.w64) 16 Path'.refl,
-                    Path'.refl,
-                  ),
-                  tt,
-                ),
-              ) (Reads'.room-gone 𝓤 H A (Syntax.tyStruct (List._∷_ 112 (List._∷_ 97 (List._∷_ 115 (List._∷_ 115 (List._∷_ 58 (List._∷_ 58
-              (List._∷_ 83 (List._∷_ 101 (List._∷_ 116 List.[]))))))))) (Syntax.tcons (Syntax.tyArray (Syntax.tyInt Syntax.w32) 112) (Syntax.tcons (Syntax.tyArray (Syntax.tyInt Syntax.w32) 112)
-              Syntax.tnil)))) (tt, tt) Path'.refl) d58
+                ((Reads.reads-field 𝓤 H A W Plan.the-type Laws''.the-laws 2 (Syntax.tyInt Syntax.w64) 16 Path'.refl, Path'.refl), tt),
+              ) (Reads'.room-gone 𝓤 H A y1) (tt, tt)
+              Path'.refl) d58
 
           d60 : Typed.Typed 𝓤 H A 𝓣 E G41 b54 Δ3 (at60 bs)
           d60 = Typed.s-seq 𝓤 H A W 𝓣 E G41 G42 b20 b53 Δ3 (Typed.ask (s38 bs)) (at59 bs) (Relend.t-sl-aggregate 𝓤 H A W E (Element.type) 𝓣 (Relend.asMut (Element.type)) G41 28 29 6 (Syntax.tyRef
               Syntax.erased Syntax.mut Element.behind) (Syntax.tyRef Syntax.erased Syntax.mut Element.behind) (λ x. x) (Scalar.oFld 7 (List._∷_ (Syntax.field 1) List.[]) (Syntax.tyInt Syntax.w64) 8 λ v.
-              Shared.lenV (v .0)) (Reads'.as-is 𝓤 H A (Relend.msptr (Element.type) (Syntax.tyRef Syntax.erased Syntax.mut Element.behind) 6)) (Reads'.room-gone 𝓤 H A (Syntax.tyStruct (List._∷_ 38
-              (List._∷_ 91 (List._∷_ 93 List.[]))) (Syntax.tcons (Syntax.tyRef Syntax.erased Syntax.mut Element.behind) (Syntax.tcons (Syntax.tyInt Syntax.w64) Syntax.tnil)))) (
-                Relend.reads-owed-len 𝓤 H
-                    A W (Element.type) (Syntax.tyRef (Syntax.named 3) Syntax.mut Element.behind) 3 6 (Row.lease (κs .1 .1 .1 .0) (qs .1 .1 .1 .0)) 8 Path'.refl,
-                Path'.refl,
-              ) Path'.refl Path'.refl λ b o k. tt)
-              d59
+              Shared.lenV (v .0)) (Reads'.as-is 𝓤 H A (Relend.msptr (Element.type) (Syntax.tyRef Syntax.erased Syntax.mut Element.behind) 6)) (Reads'.room-gone 𝓤 H A y5)
+              (Relend.reads-owed-len 𝓤 H A W (Element.type) (Syntax.tyRef (Syntax.named 3) Syntax.mut Element.behind) 3 6 (Row.lease (κs .1 .1 .1 .0) (qs .1 .1 .1 .0)) 8 Path'.refl, Path'.refl) Path'.refl
+              Path'.refl λ b o k. tt) d59
 
           d61 : Typed.Typed 𝓤 H A 𝓣 E G40 b55 Δ3 (at61 bs)
           d61 = Typed.s-seq 𝓤 H A W 𝓣 E G40 G41 b19 b54 Δ3 (Typed.give (s37 bs)) (at60 bs) (Relend.t-sl-relend 𝓤 H A W E (Element.type) 𝓣 G40 7 28 3 6 (Syntax.tyRef (Syntax.named 3) Syntax.mut
@@ -6280,43 +3392,14 @@ module _ (claims· : Claims) where
                     tt,
                     (
                       tt,
-                      (
-                        tt,
-                        (
-                          tt,
-                          (
-                            tt,
-                            (
-                              tt,
-                              (
-                                tt,
-                                (
-                                  tt,
-                                  (
-                                    tt,
-                                    (
-                                      tt,
-                                      (
-                                        tt,
-                                        (
-                                          tt,
-                                          (tt, (tt, (tt, (tt, (tt, (tt, (tt, (tt, (tt, (tt, (tt, (tt, (tt, (tt, (tt, (tt, (tt, (tt, (tt, (tt, tt)))))))))))))))))))),
-                                        ),
-                                      ),
-                                    ),
-                                  ),
-                                ),
-                              ),
-                            ),
-                          ),
-                        ),
-                      ),
+                      (tt, (tt, (tt, (tt, (tt, (tt, (tt, (tt, (tt, (tt, (tt, (tt, (tt, (tt, (tt, (tt, (tt, (tt, (tt, (tt, (tt, (tt, (tt, (tt, (tt, (tt, (tt, (tt, (tt, (tt, tt)))))))))))))))))))))))))))))),
                     ),
                   ),
                 ),
               ),
             ),
-          )) d61
+          ))
+              d61
 
           d63 : Typed.Typed 𝓤 H A 𝓣 E G38 b55 Δ3 (at63 bs)
           d63 = Typed.g-pre 𝓤 H A W 𝓣 E G38 G39 b55 Δ3 (λ Ψ. Ψ) (at62 bs) (Lifetime.g-forget 𝓤 H A W E G38 5 Row.dead Path'.refl) d62
@@ -6342,41 +3425,23 @@ module _ (claims· : Claims) where
           d68 = Typed.s-seq 𝓤 H A W 𝓣 E G33 G34 b18 b55 Δ3 (Typed.both (s30 bs)) (at67 bs) (Plain.t-call-plain 𝓤 H A W 𝓣 1 ps·3 r·3 (claims· .6) (claims· .7) "lines::set_guards" (known .3) E (λ pos β.
               β) G33 (
                 record { pos = 27; ty = Syntax.tyRef Syntax.erased Syntax.mut (Syntax.tyInt Syntax.w16); ref = λ x. x },
-                (
-                  Num.vAt 11 λ x. x,
-                  (
-                    Num.vFld 17 (List._∷_ (Syntax.field 1) List.[]) 8 λ
-                        x. Plan.struct .as-values x .1 .0,
-                    tt,
-                  ),
-                ),
+                (Num.vAt 11 λ x. x, (Num.vFld 17 (List._∷_ (Syntax.field 1) List.[]) 8 λ x. Plan.struct .as-values x .1 .0, tt)),
               ) 23 (List._∷_ 5 List.[]) (Call.sub-id 𝓤 H A W (G33 .slots)) (
-                Reads'.as-is 𝓤 H A (Mut.mslice (Referent.rtF (Referent.fInt Syntax.w16))
-                    (Syntax.tyRef Syntax.erased Syntax.mut (Syntax.tyInt Syntax.w16)) 5),
-                Mut.reads-mslice 𝓤 H A W (Referent.rtF (Referent.fInt Syntax.w16)) (Syntax.tyRef Syntax.erased Syntax.mut (Syntax.tyInt
-                    Syntax.w16)) 5,
+                Reads'.as-is 𝓤 H A (Mut.mslice (Referent.rtF (Referent.fInt Syntax.w16)) (Syntax.tyRef Syntax.erased Syntax.mut (Syntax.tyInt Syntax.w16)) 5),
+                Mut.reads-mslice 𝓤 H A W (Referent.rtF
+                    (Referent.fInt Syntax.w16)) (Syntax.tyRef Syntax.erased Syntax.mut (Syntax.tyInt Syntax.w16)) 5,
                 Path'.refl,
-                (
-                  (Scalar.reads-sc 𝓤 H A W (Row.sInt Syntax.w64), Path'.refl),
-                  (
-                    (
-                      Reads.reads-field 𝓤 H A W Plan.the-type Laws''.the-laws 1 (Syntax.tyInt Syntax.w64) 8
-                          Path'.refl,
-                      Path'.refl,
-                    ),
-                    tt,
-                  ),
-                ),
-              ) (Reads'.room-gone 𝓤 H A Syntax.tyUnit) (tt, tt) Path'.refl) d67
+                ((Scalar.reads-sc 𝓤 H A W (Row.sInt Syntax.w64), Path'.refl), ((Reads.reads-field 𝓤 H A W Plan.the-type Laws''.the-laws 1 (Syntax.tyInt Syntax.w64) 8 Path'.refl, Path'.refl), tt)),
+              )
+              (Reads'.room-gone 𝓤 H A Syntax.tyUnit) (tt, tt) Path'.refl) d67
 
           d69 : Typed.Typed 𝓤 H A 𝓣 E G32 b57 Δ3 (at69 bs)
           d69 = Typed.s-seq 𝓤 H A W 𝓣 E G32 G33 b17 b56 Δ3 (Typed.ask (s29 bs)) (at68 bs) (Relend.t-sl-aggregate 𝓤 H A W E (Referent.rtF (Referent.fInt Syntax.w16)) 𝓣 (Relend.asMut (Referent.rtF
               (Referent.fInt Syntax.w16))) G32 26 27 5 (Syntax.tyRef Syntax.erased Syntax.mut (Syntax.tyInt Syntax.w16)) (Syntax.tyRef Syntax.erased Syntax.mut (Syntax.tyInt Syntax.w16)) (λ x. x)
               (Scalar.oFld 6 (List._∷_ (Syntax.field 1) List.[]) (Syntax.tyInt Syntax.w64) 8 λ v. Shared.lenV (v .0)) (Reads'.as-is 𝓤 H A (Relend.msptr (Referent.rtF (Referent.fInt Syntax.w16))
-              (Syntax.tyRef Syntax.erased Syntax.mut (Syntax.tyInt Syntax.w16)) 5)) (Reads'.room-gone 𝓤 H A (Syntax.tyStruct (List._∷_ 38 (List._∷_ 91 (List._∷_ 93 List.[]))) (Syntax.tcons (Syntax.tyRef
-              Syntax.erased Syntax.mut (Syntax.tyInt Syntax.w16)) (Syntax.tcons (Syntax.tyInt Syntax.w64) Syntax.tnil)))) (
-                Relend.reads-owed-len 𝓤 H A W (Referent.rtF (Referent.fInt Syntax.w16))
-                    (Syntax.tyRef (Syntax.named 2) Syntax.mut (Syntax.tyInt Syntax.w16)) 2 5 (Row.lease (κs .1 .1 .0) (qs .1 .1 .0)) 8 Path'.refl,
+              (Syntax.tyRef Syntax.erased Syntax.mut (Syntax.tyInt Syntax.w16)) 5)) (Reads'.room-gone 𝓤 H A y3) (
+                Relend.reads-owed-len 𝓤 H A W (Referent.rtF (Referent.fInt Syntax.w16)) (Syntax.tyRef (Syntax.named 2) Syntax.mut (Syntax.tyInt Syntax.w16)) 2 5 (Row.lease (κs .1 .1 .0) (qs .1 .1 .0)) 8
+                    Path'.refl,
                 Path'.refl,
               ) Path'.refl Path'.refl λ b o k. tt) d68
 
@@ -6399,43 +3464,14 @@ module _ (claims· : Claims) where
                     tt,
                     (
                       tt,
-                      (
-                        tt,
-                        (
-                          tt,
-                          (
-                            tt,
-                            (
-                              tt,
-                              (
-                                tt,
-                                (
-                                  tt,
-                                  (
-                                    tt,
-                                    (
-                                      tt,
-                                      (
-                                        tt,
-                                        (
-                                          tt,
-                                          (tt, (tt, (tt, (tt, (tt, (tt, (tt, (tt, (tt, (tt, (tt, (tt, (tt, (tt, (tt, (tt, (tt, (tt, (tt, (tt, tt)))))))))))))))))))),
-                                        ),
-                                      ),
-                                    ),
-                                  ),
-                                ),
-                              ),
-                            ),
-                          ),
-                        ),
-                      ),
+                      (tt, (tt, (tt, (tt, (tt, (tt, (tt, (tt, (tt, (tt, (tt, (tt, (tt, (tt, (tt, (tt, (tt, (tt, (tt, (tt, (tt, (tt, (tt, (tt, (tt, (tt, (tt, (tt, (tt, (tt, tt)))))))))))))))))))))))))))))),
                     ),
                   ),
                 ),
               ),
             ),
-          )) d70
+          ))
+              d70
 
           d72 : Typed.Typed 𝓤 H A 𝓣 E G29 b58 Δ3 (at72 bs)
           d72 = Typed.g-pre 𝓤 H A W 𝓣 E G29 G30 b58 Δ3 (λ Ψ. Ψ) (at71 bs) (Lifetime.g-forget 𝓤 H A W E G29 4 Row.dead Path'.refl) d71
@@ -6461,41 +3497,23 @@ module _ (claims· : Claims) where
           d77 = Typed.s-seq 𝓤 H A W 𝓣 E G24 G25 b15 b58 Δ3 (Typed.both (s21 bs)) (at76 bs) (Plain.t-call-plain 𝓤 H A W 𝓣 1 ps·3 r·3 (claims· .6) (claims· .7) "lines::set_guards" (known .3) E (λ pos β.
               β) G24 (
                 record { pos = 25; ty = Syntax.tyRef Syntax.erased Syntax.mut (Syntax.tyInt Syntax.w16); ref = λ x. x },
-                (
-                  Num.vAt 11 λ x. x,
-                  (
-                    Num.vFld 17 (List._∷_ (Syntax.field 0) List.[]) 0 λ
-                        x. Plan.struct .as-values x .0,
-                    tt,
-                  ),
-                ),
+                (Num.vAt 11 λ x. x, (Num.vFld 17 (List._∷_ (Syntax.field 0) List.[]) 0 λ x. Plan.struct .as-values x .0, tt)),
               ) 23 (List._∷_ 4 List.[]) (Call.sub-id 𝓤 H A W (G24 .slots)) (
-                Reads'.as-is 𝓤 H A (Mut.mslice (Referent.rtF (Referent.fInt Syntax.w16))
-                    (Syntax.tyRef Syntax.erased Syntax.mut (Syntax.tyInt Syntax.w16)) 4),
-                Mut.reads-mslice 𝓤 H A W (Referent.rtF (Referent.fInt Syntax.w16)) (Syntax.tyRef Syntax.erased Syntax.mut (Syntax.tyInt
-                    Syntax.w16)) 4,
+                Reads'.as-is 𝓤 H A (Mut.mslice (Referent.rtF (Referent.fInt Syntax.w16)) (Syntax.tyRef Syntax.erased Syntax.mut (Syntax.tyInt Syntax.w16)) 4),
+                Mut.reads-mslice 𝓤 H A W (Referent.rtF
+                    (Referent.fInt Syntax.w16)) (Syntax.tyRef Syntax.erased Syntax.mut (Syntax.tyInt Syntax.w16)) 4,
                 Path'.refl,
-                (
-                  (Scalar.reads-sc 𝓤 H A W (Row.sInt Syntax.w64), Path'.refl),
-                  (
-                    (
-                      Reads.reads-field 𝓤 H A W Plan.the-type Laws''.the-laws 0 (Syntax.tyInt Syntax.w64) 0
-                          Path'.refl,
-                      Path'.refl,
-                    ),
-                    tt,
-                  ),
-                ),
-              ) (Reads'.room-gone 𝓤 H A Syntax.tyUnit) (tt, tt) Path'.refl) d76
+                ((Scalar.reads-sc 𝓤 H A W (Row.sInt Syntax.w64), Path'.refl), ((Reads.reads-field 𝓤 H A W Plan.the-type Laws''.the-laws 0 (Syntax.tyInt Syntax.w64) 0 Path'.refl, Path'.refl), tt)),
+              )
+              (Reads'.room-gone 𝓤 H A Syntax.tyUnit) (tt, tt) Path'.refl) d76
 
           d78 : Typed.Typed 𝓤 H A 𝓣 E G23 b60 Δ3 (at78 bs)
           d78 = Typed.s-seq 𝓤 H A W 𝓣 E G23 G24 b14 b59 Δ3 (Typed.ask (s20 bs)) (at77 bs) (Relend.t-sl-aggregate 𝓤 H A W E (Referent.rtF (Referent.fInt Syntax.w16)) 𝓣 (Relend.asMut (Referent.rtF
               (Referent.fInt Syntax.w16))) G23 24 25 4 (Syntax.tyRef Syntax.erased Syntax.mut (Syntax.tyInt Syntax.w16)) (Syntax.tyRef Syntax.erased Syntax.mut (Syntax.tyInt Syntax.w16)) (λ x. x)
               (Scalar.oFld 6 (List._∷_ (Syntax.field 1) List.[]) (Syntax.tyInt Syntax.w64) 8 λ v. Shared.lenV (v .0)) (Reads'.as-is 𝓤 H A (Relend.msptr (Referent.rtF (Referent.fInt Syntax.w16))
-              (Syntax.tyRef Syntax.erased Syntax.mut (Syntax.tyInt Syntax.w16)) 4)) (Reads'.room-gone 𝓤 H A (Syntax.tyStruct (List._∷_ 38 (List._∷_ 91 (List._∷_ 93 List.[]))) (Syntax.tcons (Syntax.tyRef
-              Syntax.erased Syntax.mut (Syntax.tyInt Syntax.w16)) (Syntax.tcons (Syntax.tyInt Syntax.w64) Syntax.tnil)))) (
-                Relend.reads-owed-len 𝓤 H A W (Referent.rtF (Referent.fInt Syntax.w16))
-                    (Syntax.tyRef (Syntax.named 2) Syntax.mut (Syntax.tyInt Syntax.w16)) 2 4 (Row.lease (κs .1 .1 .0) (qs .1 .1 .0)) 8 Path'.refl,
+              (Syntax.tyRef Syntax.erased Syntax.mut (Syntax.tyInt Syntax.w16)) 4)) (Reads'.room-gone 𝓤 H A y3) (
+                Relend.reads-owed-len 𝓤 H A W (Referent.rtF (Referent.fInt Syntax.w16)) (Syntax.tyRef (Syntax.named 2) Syntax.mut (Syntax.tyInt Syntax.w16)) 2 4 (Row.lease (κs .1 .1 .0) (qs .1 .1 .0)) 8
+                    Path'.refl,
                 Path'.refl,
               ) Path'.refl Path'.refl λ b o k. tt) d77
 
@@ -6518,59 +3536,19 @@ module _ (claims· : Claims) where
                     tt,
                     (
                       tt,
-                      (
-                        tt,
-                        (
-                          tt,
-                          (
-                            tt,
-                            (
-                              tt,
-                              (
-                                tt,
-                                (
-                                  tt,
-                                  (
-                                    tt,
-                                    (
-                                      tt,
-                                      (
-                                        tt,
-                                        (
-                                          tt,
-                                          (tt, (tt, (tt, (tt, (tt, (tt, (tt, (tt, (tt, (tt, (tt, (tt, (tt, (tt, (tt, (tt, (tt, (tt, (tt, (tt, tt)))))))))))))))))))),
-                                        ),
-                                      ),
-                                    ),
-                                  ),
-                                ),
-                              ),
-                            ),
-                          ),
-                        ),
-                      ),
+                      (tt, (tt, (tt, (tt, (tt, (tt, (tt, (tt, (tt, (tt, (tt, (tt, (tt, (tt, (tt, (tt, (tt, (tt, (tt, (tt, (tt, (tt, (tt, (tt, (tt, (tt, (tt, (tt, (tt, (tt, tt)))))))))))))))))))))))))))))),
                     ),
                   ),
                 ),
               ),
             ),
-          )) d79
+          ))
+              d79
 
           d81 : Typed.Typed 𝓤 H A 𝓣 E G18 b62 Δ3 (at81 bs)
           d81 = Typed.s-seq 𝓤 H A W 𝓣 E G18 G21 b12 b61 Δ3 (Typed.both (s17 bs)) (at80 bs) (Plain.t-call-plain 𝓤 H A W 𝓣 0 ps·2 r·2 (claims· .4) (claims· .5) "pass::plan_at" (known .2) E (λ pos β. β)
-              G18 (Num.vAt 16 λ x. x, (Bool.bAt 10 λ x. x, tt)) 17 List.[] (Call.sub-id 𝓤 H A W (G18 .slots)) (
-                (Scalar.reads-sc 𝓤 H A W (Row.sInt Syntax.w64), Path'.refl),
-                (
-                  (
-                    Scalar.reads-sc 𝓤 H A W
-                        Row.sBool,
-                    Path'.refl,
-                  ),
-                  tt,
-                ),
-              ) (Reads'.room-gone 𝓤 H A (Syntax.tyStruct (List._∷_ 112 (List._∷_ 97 (List._∷_ 115 (List._∷_ 115 (List._∷_ 58 (List._∷_ 58 (List._∷_ 80 (List._∷_ 108 (List._∷_
-              97 (List._∷_ 110 List.[])))))))))) (Syntax.tcons (Syntax.tyInt Syntax.w64) (Syntax.tcons (Syntax.tyInt Syntax.w64) (Syntax.tcons (Syntax.tyInt Syntax.w64) (Syntax.tcons (Syntax.tyInt
-              Syntax.w32) (Syntax.tcons (Syntax.tyInt Syntax.w32) Syntax.tnil))))))) tt Path'.refl) d80
+              G18 (Num.vAt 16 λ x. x, (Bool.bAt 10 λ x. x, tt)) 17 List.[] (Call.sub-id 𝓤 H A W (G18 .slots))
+              ((Scalar.reads-sc 𝓤 H A W (Row.sInt Syntax.w64), Path'.refl), ((Scalar.reads-sc 𝓤 H A W Row.sBool, Path'.refl), tt)) (Reads'.room-gone 𝓤 H A y0) tt Path'.refl) d80
 
           d82 : Typed.Typed 𝓤 H A 𝓣 E G17 b63 Δ3 (at82 bs)
           d82 = Typed.t-seq 𝓤 H A W 𝓣 E G17 G18 b11 b62 Δ3 (at4 bs) (at81 bs) d4 d81
@@ -6606,11 +3584,8 @@ module _ (claims· : Claims) where
               Syntax.w64))) d88
 
           d90 : Typed.Typed 𝓤 H A 𝓣 E G101 b68 Δ0 (at90 bs)
-          d90 = Typed.g-pre 𝓤 H A W 𝓣 E G101 G102 b68 Δ0 (Typed.pass T101 T102 (s97 bs)) (at89 bs) (Scalar.g-room 𝓤 H A W E G101 15 (Syntax.tyStruct (List._∷_ 98 (List._∷_ 105 (List._∷_ 116 (List._∷_
-              115 (List._∷_ 58 (List._∷_ 58 (List._∷_ 66 (List._∷_ 105 (List._∷_ 116 (List._∷_ 80 (List._∷_ 111 (List._∷_ 115 (List._∷_ 105 (List._∷_ 116 (List._∷_ 105 (List._∷_ 111 (List._∷_ 110
-              List.[]))))))))))))))))) (Syntax.tcons (Syntax.tyInt Syntax.w64) Syntax.tnil)) (Local.room-whole 𝓤 H A W (Declared'.row BitPosition.the-type) (Syntax.tyStruct (List._∷_ 98 (List._∷_ 105
-              (List._∷_ 116 (List._∷_ 115 (List._∷_ 58 (List._∷_ 58 (List._∷_ 66 (List._∷_ 105 (List._∷_ 116 (List._∷_ 80 (List._∷_ 111 (List._∷_ 115 (List._∷_ 105 (List._∷_ 116 (List._∷_ 105 (List._∷_
-              111 (List._∷_ 110 List.[]))))))))))))))))) (Syntax.tcons (Syntax.tyInt Syntax.w64) Syntax.tnil)) Path'.refl)) d89
+          d90 = Typed.g-pre 𝓤 H A W 𝓣 E G101 G102 b68 Δ0 (Typed.pass T101 T102 (s97 bs)) (at89 bs) (Scalar.g-room 𝓤 H A W E G101 15 y6 (Local.room-whole 𝓤 H A W (Declared'.row BitPosition.the-type) y6
+              Path'.refl)) d89
 
           d91 : Typed.Typed 𝓤 H A 𝓣 E G100 b68 Δ0 (at91 bs)
           d91 = Typed.g-pre 𝓤 H A W 𝓣 E G100 G101 b68 Δ0 (Typed.pass T100 T101 (s96 bs)) (at90 bs) (Scalar.g-room 𝓤 H A W E G100 14 (Syntax.tyInt Syntax.w32) (Scalar.room-sc 𝓤 H A W (Row.sInt
@@ -6633,22 +3608,19 @@ module _ (claims· : Claims) where
 
           d96 : Typed.Typed 𝓤 H A 𝓣 E G16 b69 Δ0 (at96 bs)
           d96 = Typed.s-seq 𝓤 H A W 𝓣 E G16 G96 b67 b68 Δ0 (Typed.pass T16 T96 (s91 bs)) (at95 bs) (Make.t-enum-make-wt 𝓤 H A W E 𝓣 Put.the-type Laws'6.the-laws Laws'6.the-plain tt G16 0 (List._∷_
-              (Scalar.oInt Syntax.w8 0) (List._∷_ (Scalar.oAt 15 (Syntax.tyStruct (List._∷_ 98 (List._∷_ 105 (List._∷_ 116 (List._∷_ 115 (List._∷_ 58 (List._∷_ 58 (List._∷_ 66 (List._∷_ 105 (List._∷_ 116
-              (List._∷_ 80 (List._∷_ 111 (List._∷_ 115 (List._∷_ 105 (List._∷_ 116 (List._∷_ 105 (List._∷_ 111 (List._∷_ 110 List.[]))))))))))))))))) (Syntax.tcons (Syntax.tyInt Syntax.w64) Syntax.tnil))
-              (Laws'8.val BitPosition.the-type Laws.the-laws)) List.[])) (λ m. Put.enum .make (Logic.inl (m .1 .1 .1 .1 .1 .1 .1 .1 .1 .1 .1 .1 .1 .1 .1 .0, tt))) (Reads'.room-gone 𝓤 H A (Syntax.tyEnum
-              (List._∷_ 119 (List._∷_ 114 (List._∷_ 105 (List._∷_ 116 (List._∷_ 105 (List._∷_ 110 (List._∷_ 103 (List._∷_ 58 (List._∷_ 58 (List._∷_ 80 (List._∷_ 117 (List._∷_ 116 List.[]))))))))))))
-              (Syntax.ttcons (Syntax.tcons (Syntax.tyStruct (List._∷_ 98 (List._∷_ 105 (List._∷_ 116 (List._∷_ 115 (List._∷_ 58 (List._∷_ 58 (List._∷_ 66 (List._∷_ 105 (List._∷_ 116 (List._∷_ 80 (List._∷_
-              111 (List._∷_ 115 (List._∷_ 105 (List._∷_ 116 (List._∷_ 105 (List._∷_ 111 (List._∷_ 110 List.[]))))))))))))))))) (Syntax.tcons (Syntax.tyInt Syntax.w64) Syntax.tnil)) Syntax.tnil)
-              (Syntax.ttcons (Syntax.tcons (Syntax.tyInt Syntax.w64) Syntax.tnil) Syntax.ttnil)))) (tt, ((Reads.reads-struct 𝓤 H A W BitPosition.the-type Laws.the-laws, Path'.refl), tt)) Path'.refl (λ
-              m wa. Make.made-val Put.the-type Laws'6.the-laws (List._∷_ (Laws'8.val BitPosition.the-type Laws.the-laws (m .1 .1 .1 .1 .1 .1 .1 .1 .1 .1 .1 .1 .1 .1 .1 .0)) List.[]) (Put.enum .make
-              (Logic.inl (m .1 .1 .1 .1 .1 .1 .1 .1 .1 .1 .1 .1 .1 .1 .1 .0, tt))) (
-                Signed.made-wt BitPosition.the-field Laws.the-field-laws (Make'.struct-wt BitPosition.the-type Laws.the-laws
-                    (Make'.u64-wt, tt)) (BitPosition.the-type .to (m .1 .1 .1 .1 .1 .1 .1 .1 .1 .1 .1 .1 .1 .1 .1 .0)),
+              (Scalar.oInt Syntax.w8 0) (List._∷_ (Scalar.oAt 15 y6 (Laws'8.val BitPosition.the-type Laws.the-laws)) List.[])) (λ m. Put.enum .make (Logic.inl
+              (m .1 .1 .1 .1 .1 .1 .1 .1 .1 .1 .1 .1 .1 .1 .1 .0, tt))) (Reads'.room-gone 𝓤 H A (Syntax.tyEnum (List._∷_ 119 (List._∷_ 114 (List._∷_ 105 (List._∷_ 116 (List._∷_ 105 (List._∷_ 110 (List._∷_
+              103 (List._∷_ 58 (List._∷_ 58 (List._∷_ 80 (List._∷_ 117 (List._∷_ 116 List.[])))))))))))) (Syntax.ttcons (Syntax.tcons y6 Syntax.tnil) (Syntax.ttcons (Syntax.tcons (Syntax.tyInt Syntax.w64)
+              Syntax.tnil) Syntax.ttnil)))) (tt, ((Reads.reads-struct 𝓤 H A W BitPosition.the-type Laws.the-laws, Path'.refl), tt)) Path'.refl (λ m wa. Make.made-val Put.the-type Laws'6.the-laws (List._∷_
+              (Laws'8.val BitPosition.the-type Laws.the-laws (m .1 .1 .1 .1 .1 .1 .1 .1 .1 .1 .1 .1 .1 .1 .1 .0)) List.[]) (Put.enum .make (Logic.inl
+              (m .1 .1 .1 .1 .1 .1 .1 .1 .1 .1 .1 .1 .1 .1 .1 .0, tt))) (
+                Signed.made-wt BitPosition.the-field Laws.the-field-laws (Make'.struct-wt BitPosition.the-type Laws.the-laws (Make'.u64-wt, tt)) (BitPosition.the-type .to (m .1 .1 .1 .1 .1 .1 .1 .1 .1 .1
+                    .1 .1 .1 .1 .1 .0)),
                 tt,
-              ) (wa .1)) λ m wa. Make.made-is Put.the-type Laws'6.the-laws (List._∷_ (Laws'8.val
-              BitPosition.the-type Laws.the-laws (m .1 .1 .1 .1 .1 .1 .1 .1 .1 .1 .1 .1 .1 .1 .1 .0)) List.[]) (Put.enum .make (Logic.inl (m .1 .1 .1 .1 .1 .1 .1 .1 .1 .1 .1 .1 .1 .1 .1 .0, tt))) (
-                Signed.made-wt BitPosition.the-field Laws.the-field-laws (Make'.struct-wt BitPosition.the-type Laws.the-laws (Make'.u64-wt, tt)) (BitPosition.the-type .to (m .1 .1 .1 .1 .1 .1 .1 .1 .1 .1 .1
-                    .1 .1 .1 .1 .0)),
+              ) (wa .1)) λ m wa. Make.made-is Put.the-type Laws'6.the-laws (List._∷_ (Laws'8.val BitPosition.the-type Laws.the-laws (m .1 .1 .1 .1 .1 .1 .1 .1 .1 .1 .1 .1 .1 .1 .1
+              .0)) List.[]) (Put.enum .make (Logic.inl (m .1 .1 .1 .1 .1 .1 .1 .1 .1 .1 .1 .1 .1 .1 .1 .0, tt))) (
+                Signed.made-wt BitPosition.the-field Laws.the-field-laws (Make'.struct-wt BitPosition.the-type Laws.the-laws (Make'.u64-wt, tt)) (BitPosition.the-type .to (m .1 .1 .1 .1 .1 .1 .1 .1 .1 .1
+                    .1 .1 .1 .1 .1 .0)),
                 tt,
               ) (wa .1)) d95
 
@@ -6661,78 +3633,57 @@ module _ (claims· : Claims) where
               Path'.refl (λ u. Path'.refl) λ u. tt) d97
 
           d99 : Typed.Typed 𝓤 H A 𝓣 E G13 b71 Δ0 (at99 bs)
-          d99 = Typed.g-pre 𝓤 H A W 𝓣 E G13 G14 b71 Δ0 (Typed.pass T13 T14 (s12 bs)) (at98 bs) (Scalar.g-room 𝓤 H A W E G13 5 (Syntax.tyStruct (List._∷_ 98 (List._∷_ 105 (List._∷_ 116 (List._∷_ 115
-              (List._∷_ 58 (List._∷_ 58 (List._∷_ 66 (List._∷_ 105 (List._∷_ 116 (List._∷_ 80 (List._∷_ 111 (List._∷_ 115 (List._∷_ 105 (List._∷_ 116 (List._∷_ 105 (List._∷_ 111 (List._∷_ 110
-              List.[]))))))))))))))))) (Syntax.tcons (Syntax.tyInt Syntax.w64) Syntax.tnil)) (Local.room-whole 𝓤 H A W (Declared'.row BitPosition.the-type) (Syntax.tyStruct (List._∷_ 98 (List._∷_ 105
-              (List._∷_ 116 (List._∷_ 115 (List._∷_ 58 (List._∷_ 58 (List._∷_ 66 (List._∷_ 105 (List._∷_ 116 (List._∷_ 80 (List._∷_ 111 (List._∷_ 115 (List._∷_ 105 (List._∷_ 116 (List._∷_ 105 (List._∷_
-              111 (List._∷_ 110 List.[]))))))))))))))))) (Syntax.tcons (Syntax.tyInt Syntax.w64) Syntax.tnil)) Path'.refl)) d98
+          d99 = Typed.g-pre 𝓤 H A W 𝓣 E G13 G14 b71 Δ0 (Typed.pass T13 T14 (s12 bs)) (at98 bs) (Scalar.g-room 𝓤 H A W E G13 5 y6 (Local.room-whole 𝓤 H A W (Declared'.row BitPosition.the-type) y6
+              Path'.refl)) d98
 
           d100 : Typed.Typed 𝓤 H A 𝓣 E G12 b72 Δ0 (at100 bs)
-          d100 = Typed.s-seq 𝓤 H A W 𝓣 E G12 G13 b6 b71 Δ0 (Typed.pass T12 T13 (s11 bs)) (at99 bs) (LocalCopy.t-val-copy 𝓤 H A W E 𝓣 (λ ρ. Unit) G12 5 15 (Declared'.row BitPosition.the-type)
-              (Syntax.tyStruct (List._∷_ 98 (List._∷_ 105 (List._∷_ 116 (List._∷_ 115 (List._∷_ 58 (List._∷_ 58 (List._∷_ 66 (List._∷_ 105 (List._∷_ 116 (List._∷_ 80 (List._∷_ 111 (List._∷_ 115 (List._∷_
-              105 (List._∷_ 116 (List._∷_ 105 (List._∷_ 111 (List._∷_ 110 List.[]))))))))))))))))) (Syntax.tcons (Syntax.tyInt Syntax.w64) Syntax.tnil)) (Syntax.tyStruct (List._∷_ 98 (List._∷_ 105
-              (List._∷_ 116 (List._∷_ 115 (List._∷_ 58 (List._∷_ 58 (List._∷_ 66 (List._∷_ 105 (List._∷_ 116 (List._∷_ 80 (List._∷_ 111 (List._∷_ 115 (List._∷_ 105 (List._∷_ 116 (List._∷_ 105 (List._∷_
-              111 (List._∷_ 110 List.[]))))))))))))))))) (Syntax.tcons (Syntax.tyInt Syntax.w64) Syntax.tnil)) (Rows.whole (Declared'.row BitPosition.the-type)) (Rows.whole (Declared'.row
-              BitPosition.the-type)) (λ x. x) (λ x. x) (λ x. x) Path'.refl (Own.told-none 𝓤 H A (G12 .slots)) (Yields.yields-copy 𝓤 H A W (λ ρ. Unit) (Declared'.row BitPosition.the-type) Path'.refl
-              (Copies.cStruct BitPosition.the-type Laws.the-laws Laws.the-copy .copy 𝓤 H A W) (Rows.whole (Declared'.row BitPosition.the-type)) (λ x. x) (λ x. x) (λ ρ told. Local.mem-whole 𝓤 H A W
-              (Declared'.row BitPosition.the-type) ρ) λ ρ told. Local.whole-mem 𝓤 H A W (Declared'.row BitPosition.the-type) ρ) (Reads'.room-gone 𝓤 H A (Syntax.tyStruct (List._∷_ 98 (List._∷_ 105
-              (List._∷_ 116 (List._∷_ 115 (List._∷_ 58 (List._∷_ 58 (List._∷_ 66 (List._∷_ 105 (List._∷_ 116 (List._∷_ 80 (List._∷_ 111 (List._∷_ 115 (List._∷_ 105 (List._∷_ 116 (List._∷_ 105 (List._∷_
-              111 (List._∷_ 110 List.[]))))))))))))))))) (Syntax.tcons (Syntax.tyInt Syntax.w64) Syntax.tnil))) (Yields.makes-mem 𝓤 H A W (λ ρ. Unit) (Declared'.row BitPosition.the-type) Path'.refl
-              (Rows.whole (Declared'.row BitPosition.the-type)) (λ x. x) λ ρ told. Local.whole-mem 𝓤 H A W (Declared'.row BitPosition.the-type) ρ) Path'.refl Path'.refl) d99
+          d100 = Typed.s-seq 𝓤 H A W 𝓣 E G12 G13 b6 b71 Δ0 (Typed.pass T12 T13 (s11 bs)) (at99 bs) (LocalCopy.t-val-copy 𝓤 H A W E 𝓣 (λ ρ. Unit) G12 5 15 (Declared'.row BitPosition.the-type) y6 y6
+              (Rows.whole (Declared'.row BitPosition.the-type)) (Rows.whole (Declared'.row BitPosition.the-type)) (λ x. x) (λ x. x) (λ x. x) Path'.refl (Own.told-none 𝓤 H A (G12 .slots))
+              (Yields.yields-copy 𝓤 H A W (λ ρ. Unit) (Declared'.row BitPosition.the-type) Path'.refl (Copies.cStruct BitPosition.the-type Laws.the-laws Laws.the-copy .copy 𝓤 H A W) (Rows.whole
+              (Declared'.row BitPosition.the-type)) (λ x. x) (λ x. x) (λ ρ told. Local.mem-whole 𝓤 H A W (Declared'.row BitPosition.the-type) ρ) λ ρ told. Local.whole-mem 𝓤 H A W (Declared'.row
+              BitPosition.the-type) ρ) (Reads'.room-gone 𝓤 H A y6) (Yields.makes-mem 𝓤 H A W (λ ρ. Unit) (Declared'.row BitPosition.the-type) Path'.refl (Rows.whole (Declared'.row BitPosition.the-type))
+              (λ x. x) λ ρ told. Local.whole-mem 𝓤 H A W (Declared'.row BitPosition.the-type) ρ) Path'.refl Path'.refl) d99
 
           d101 : Typed.Typed 𝓤 H A 𝓣 E G11 b72 Δ0 (at101 bs)
-          d101 = Typed.g-pre 𝓤 H A W 𝓣 E G11 G12 b72 Δ0 (Typed.pass T11 T12 (s10 bs)) (at100 bs) (Scalar.g-room 𝓤 H A W E G11 12 (Syntax.tyStruct (List._∷_ 113 (List._∷_ 117 (List._∷_ 97 (List._∷_ 110
-              (List._∷_ 116 (List._∷_ 105 (List._∷_ 115 (List._∷_ 101 (List._∷_ 114 (List._∷_ 58 (List._∷_ 58 (List._∷_ 81 (List._∷_ 117 (List._∷_ 97 (List._∷_ 110 (List._∷_ 116 (List._∷_ 105 (List._∷_
-              115 (List._∷_ 101 (List._∷_ 114 List.[])))))))))))))))))))) (Syntax.tcons (Syntax.tyInt Syntax.w32) (Syntax.tcons (Syntax.tyInt Syntax.w32) (Syntax.tcons (Syntax.tyInt Syntax.w32)
-              (Syntax.tcons (Syntax.tyInt Syntax.w32) (Syntax.tcons (Syntax.tyInt Syntax.w32) Syntax.tnil)))))) (Local.room-whole 𝓤 H A W (Declared'.row Quantiser.the-type) (Syntax.tyStruct (List._∷_ 113
-              (List._∷_ 117 (List._∷_ 97 (List._∷_ 110 (List._∷_ 116 (List._∷_ 105 (List._∷_ 115 (List._∷_ 101 (List._∷_ 114 (List._∷_ 58 (List._∷_ 58 (List._∷_ 81 (List._∷_ 117 (List._∷_ 97 (List._∷_ 110
-              (List._∷_ 116 (List._∷_ 105 (List._∷_ 115 (List._∷_ 101 (List._∷_ 114 List.[])))))))))))))))))))) (Syntax.tcons (Syntax.tyInt Syntax.w32) (Syntax.tcons (Syntax.tyInt Syntax.w32)
-              (Syntax.tcons (Syntax.tyInt Syntax.w32) (Syntax.tcons (Syntax.tyInt Syntax.w32) (Syntax.tcons (Syntax.tyInt Syntax.w32) Syntax.tnil)))))) Path'.refl)) d100
+          d101 = Typed.g-pre 𝓤 H A W 𝓣 E G11 G12 b72 Δ0 (Typed.pass T11 T12 (s10 bs)) (at100 bs) (Scalar.g-room 𝓤 H A W E G11 12 y2 (Local.room-whole 𝓤 H A W (Declared'.row Quantiser.the-type) y2
+              Path'.refl)) d100
 
           d102 : Typed.Typed 𝓤 H A 𝓣 E G10 b73 Δ0 (at102 bs)
           d102 = Typed.s-seq 𝓤 H A W 𝓣 E G10 G11 b5 b72 Δ0 (Typed.pass T10 T11 (s9 bs)) (at101 bs) (Scalar.t-use 𝓤 H A W E 𝓣 G10 (Scalar.oFld 12 (List._∷_ (Syntax.field 3) List.[]) (Syntax.tyInt
               Syntax.w32) 12 (Reads.fieldV Quantiser.the-type Laws'4.the-laws 3)) 14 (Rows.sc-here (Row.sInt Syntax.w32)) (Syntax.tyInt Syntax.w32) (Row.valS (Row.sInt Syntax.w32)) (Row.sInt Syntax.w32
-              .of) (Reads.reads-field 𝓤 H A W Quantiser.the-type Laws'4.the-laws 3 (Syntax.tyInt Syntax.w32) 12 Path'.refl, Path'.refl) (Reads'.room-gone 𝓤 H A (Syntax.tyInt Syntax.w32))
-              (Scalar.holds-sc 𝓤 H A W (Row.sInt Syntax.w32)) Path'.refl (λ u. Path'.refl) λ u. tt) d101
+              .of) (Reads.reads-field 𝓤 H A W Quantiser.the-type Laws'4.the-laws 3 (Syntax.tyInt Syntax.w32) 12 Path'.refl, Path'.refl) (Reads'.room-gone 𝓤 H A (Syntax.tyInt Syntax.w32)) (Scalar.holds-sc
+              𝓤 H A W (Row.sInt Syntax.w32)) Path'.refl (λ u. Path'.refl) λ u. tt) d101
 
           d103 : Typed.Typed 𝓤 H A 𝓣 E G9 b74 Δ0 (at103 bs)
           d103 = Typed.s-seq 𝓤 H A W 𝓣 E G9 G10 b4 b73 Δ0 (Typed.pass T9 T10 (s8 bs)) (at102 bs) (Scalar.t-use 𝓤 H A W E 𝓣 G9 (Scalar.oFld 12 (List._∷_ (Syntax.field 4) List.[]) (Syntax.tyInt
               Syntax.w32) 16 (Reads.fieldV Quantiser.the-type Laws'4.the-laws 4)) 13 (Rows.sc-here (Row.sInt Syntax.w32)) (Syntax.tyInt Syntax.w32) (Row.valS (Row.sInt Syntax.w32)) (Row.sInt Syntax.w32
-              .of) (Reads.reads-field 𝓤 H A W Quantiser.the-type Laws'4.the-laws 4 (Syntax.tyInt Syntax.w32) 16 Path'.refl, Path'.refl) (Reads'.room-gone 𝓤 H A (Syntax.tyInt Syntax.w32))
-              (Scalar.holds-sc 𝓤 H A W (Row.sInt Syntax.w32)) Path'.refl (λ u. Path'.refl) λ u. tt) d102
+              .of) (Reads.reads-field 𝓤 H A W Quantiser.the-type Laws'4.the-laws 4 (Syntax.tyInt Syntax.w32) 16 Path'.refl, Path'.refl) (Reads'.room-gone 𝓤 H A (Syntax.tyInt Syntax.w32)) (Scalar.holds-sc
+              𝓤 H A W (Row.sInt Syntax.w32)) Path'.refl (λ u. Path'.refl) λ u. tt) d102
 
           d104 : Typed.Typed 𝓤 H A 𝓣 E G8 b75 Δ0 (at104 bs)
           d104 = Typed.s-seq 𝓤 H A W 𝓣 E G8 G9 b3 b74 Δ0 (Typed.both (s7 bs)) (at103 bs) (Plain.t-call-plain 𝓤 H A W 𝓣 0 ps·1 r·1 (claims· .2) (claims· .3) "quantiser::Quantiser::main" (known .1) E (λ
               pos β. β) G8 (Num.vAt 9 λ x. x, (Num.vLit 0, tt)) 12 List.[] (Call.sub-id 𝓤 H A W (G8 .slots)) ((Scalar.reads-sc 𝓤 H A W (Row.sInt Syntax.w32), Path'.refl), (tt, tt)) (Reads'.room-gone 𝓤 H A
-              (Syntax.tyStruct (List._∷_ 113 (List._∷_ 117 (List._∷_ 97 (List._∷_ 110 (List._∷_ 116 (List._∷_ 105 (List._∷_ 115 (List._∷_ 101 (List._∷_ 114 (List._∷_ 58 (List._∷_ 58 (List._∷_ 81 (List._∷_
-              117 (List._∷_ 97 (List._∷_ 110 (List._∷_ 116 (List._∷_ 105 (List._∷_ 115 (List._∷_ 101 (List._∷_ 114 List.[])))))))))))))))))))) (Syntax.tcons (Syntax.tyInt Syntax.w32) (Syntax.tcons
-              (Syntax.tyInt Syntax.w32) (Syntax.tcons (Syntax.tyInt Syntax.w32) (Syntax.tcons (Syntax.tyInt Syntax.w32) (Syntax.tcons (Syntax.tyInt Syntax.w32) Syntax.tnil))))))) tt Path'.refl) d103
+              y2) tt Path'.refl) d103
 
           d105 : Typed.Typed 𝓤 H A 𝓣 E G7 b76 Δ0 (at105 bs)
-          d105 = Typed.s-seq 𝓤 H A W 𝓣 E G7 G8 b2 b75 Δ0 (Typed.both (s6 bs)) (at104 bs) (Plain.t-call-plain 𝓤 H A W 𝓣 0 ps·0 r·0 (claims· .0) (claims· .1) "block::width" (known .0) E (λ pos β. β) G7
+          d105 = Typed.s-seq 𝓤 H A W 𝓣 E G7 G8 b2 b75 Δ0 (Typed.both (s6 bs)) (at104 bs) (Plain.t-call-plain 𝓤 H A W 𝓣 0 ps·0 r·0 (claims· .0) (claims· .1) "map::width" (known .0) E (λ pos β. β) G7
               (Bool.bAt 10 λ x. x, tt) 11 List.[] (Call.sub-id 𝓤 H A W (G7 .slots)) ((Scalar.reads-sc 𝓤 H A W Row.sBool, Path'.refl), tt) (Reads'.room-gone 𝓤 H A (Syntax.tyInt Syntax.w64)) tt Path'.refl)
               d104
 
           d106 : Typed.Typed 𝓤 H A 𝓣 E G6 b76 Δ0 (at106 bs)
-          d106 = Typed.g-pre 𝓤 H A W 𝓣 E G6 G7 b76 Δ0 (Typed.pass T6 T7 (s5 bs)) (at105 bs) (Scalar.g-room 𝓤 H A W E G6 8 (Syntax.tyStruct (List._∷_ 98 (List._∷_ 108 (List._∷_ 111 (List._∷_ 99
-              (List._∷_ 107 (List._∷_ 58 (List._∷_ 58 (List._∷_ 70 (List._∷_ 111 (List._∷_ 114 (List._∷_ 109 List.[]))))))))))) (Syntax.tcons (Syntax.tyInt Syntax.w32) (Syntax.tcons Syntax.tyBool
-              Syntax.tnil))) (Local.room-whole 𝓤 H A W (Declared'.row Form.the-type) (Syntax.tyStruct (List._∷_ 98 (List._∷_ 108 (List._∷_ 111 (List._∷_ 99 (List._∷_ 107 (List._∷_ 58 (List._∷_ 58
-              (List._∷_ 70 (List._∷_ 111 (List._∷_ 114 (List._∷_ 109 List.[]))))))))))) (Syntax.tcons (Syntax.tyInt Syntax.w32) (Syntax.tcons Syntax.tyBool Syntax.tnil))) Path'.refl)) d105
+          d106 = Typed.g-pre 𝓤 H A W 𝓣 E G6 G7 b76 Δ0 (Typed.pass T6 T7 (s5 bs)) (at105 bs) (Scalar.g-room 𝓤 H A W E G6 8 y7 (Local.room-whole 𝓤 H A W (Declared'.row Form.the-type) y7 Path'.refl))
+              d105
 
           d107 : Typed.Typed 𝓤 H A 𝓣 E G5 b77 Δ0 (at107 bs)
           d107 = Typed.s-seq 𝓤 H A W 𝓣 E G5 G6 b1 b76 Δ0 (Typed.pass T5 T6 (s4 bs)) (at106 bs) (Scalar.t-use 𝓤 H A W E 𝓣 G5 (Scalar.oFld 8 (List._∷_ (Syntax.field 1) List.[]) Syntax.tyBool 4
-              (Reads.fieldV Form.the-type Laws'.the-laws 1)) 10 (Rows.sc-here Row.sBool) Syntax.tyBool (Row.valS Row.sBool) (Row.sBool .of) (
-                Reads.reads-field 𝓤 H A W Form.the-type Laws'.the-laws 1
-                    Syntax.tyBool 4 Path'.refl,
-                Path'.refl,
-              ) (Reads'.room-gone 𝓤 H A Syntax.tyBool) (Scalar.holds-sc 𝓤 H A W Row.sBool) Path'.refl (λ u. Path'.refl) λ u. tt) d106
+              (Reads.fieldV Form.the-type Laws'.the-laws 1)) 10 (Rows.sc-here Row.sBool) Syntax.tyBool (Row.valS Row.sBool) (Row.sBool .of)
+              (Reads.reads-field 𝓤 H A W Form.the-type Laws'.the-laws 1 Syntax.tyBool 4 Path'.refl, Path'.refl) (Reads'.room-gone 𝓤 H A Syntax.tyBool) (Scalar.holds-sc 𝓤 H A W Row.sBool) Path'.refl (λ u.
+              Path'.refl) λ u. tt) d106
 
           d108 : Typed.Typed 𝓤 H A 𝓣 E G4 b78 Δ0 (at108 bs)
           d108 = Typed.s-seq 𝓤 H A W 𝓣 E G4 G5 b0 b77 Δ0 (Typed.pass T4 T5 (s3 bs)) (at107 bs) (Scalar.t-use 𝓤 H A W E 𝓣 G4 (Scalar.oFld 8 (List._∷_ (Syntax.field 0) List.[]) (Syntax.tyInt Syntax.w32)
-              0 (Reads.fieldV Form.the-type Laws'.the-laws 0)) 9 (Rows.sc-here (Row.sInt Syntax.w32)) (Syntax.tyInt Syntax.w32) (Row.valS (Row.sInt Syntax.w32)) (Row.sInt Syntax.w32 .of) (
-                Reads.reads-field 𝓤 H A W Form.the-type Laws'.the-laws 0 (Syntax.tyInt Syntax.w32) 0 Path'.refl,
-                Path'.refl,
-              ) (Reads'.room-gone 𝓤 H A (Syntax.tyInt Syntax.w32)) (Scalar.holds-sc 𝓤 H A W
+              0 (Reads.fieldV Form.the-type Laws'.the-laws 0)) 9 (Rows.sc-here (Row.sInt Syntax.w32)) (Syntax.tyInt Syntax.w32) (Row.valS (Row.sInt Syntax.w32)) (Row.sInt Syntax.w32 .of)
+              (Reads.reads-field 𝓤 H A W Form.the-type Laws'.the-laws 0 (Syntax.tyInt Syntax.w32) 0 Path'.refl, Path'.refl) (Reads'.room-gone 𝓤 H A (Syntax.tyInt Syntax.w32)) (Scalar.holds-sc 𝓤 H A W
               (Row.sInt Syntax.w32)) Path'.refl (λ u. Path'.refl) λ u. tt) d107
 
           d109 : Typed.Typed 𝓤 H A 𝓣 E G3 b78 Δ0 (at109 bs)
@@ -6763,36 +3714,34 @@ module _ (claims· : Claims) where
             ty = Declared'.row BitPosition.the-type;
             one = Path'.refl;
             val = Laws'8.val BitPosition.the-type Laws.the-laws;
-            tells = Laws'8.tells
-                BitPosition.the-type Laws.the-laws;
-            still = Laws'8.still BitPosition.the-type Laws.the-copy Exit.yes;
+            tells = Laws'8.tells BitPosition.the-type Laws.the-laws;
+            still =
+                Laws'8.still BitPosition.the-type Laws.the-copy Exit.yes;
             row = Rows.whole (Declared'.row BitPosition.the-type);
             rd = λ x. x;
             mk = λ x. x;
-          } λ M 𝓤
-              H A W. record {
-                copies = Laws'8.copy BitPosition.the-type Laws.the-copy 𝓤 H A W;
-                lawful = Laws'8.lawful BitPosition.the-type Laws.the-laws 𝓤 H A W;
-                makes = Laws'8.makes BitPosition.the-type
-                    Laws.the-plain 𝓤 H A;
-                in-mem = Local.mem-whole 𝓤 H A W (Declared'.row BitPosition.the-type);
-                of-mem = Local.whole-mem 𝓤 H A W (Declared'.row BitPosition.the-type);
-              })
+          } λ M 𝓤 H A W. record {
+            copies = Laws'8.copy BitPosition.the-type Laws.the-copy 𝓤 H A W;
+            lawful = Laws'8.lawful BitPosition.the-type Laws.the-laws 𝓤 H A W;
+            makes = Laws'8.makes BitPosition.the-type Laws.the-plain
+                𝓤 H A;
+            in-mem = Local.mem-whole 𝓤 H A W (Declared'.row BitPosition.the-type);
+            of-mem = Local.whole-mem 𝓤 H A W (Declared'.row BitPosition.the-type);
+          })
           pub lines : Kinds.Den {n = 4} κs (MutSlice.pMutS (Referent.rtF (Referent.fInt Syntax.w16)) 2 tt)
           pub rs : Kinds.Den {n = 4} κs (MutSlice.pMutS (Element.type) 3 tt)
           pub form : Kinds.Den {n = 4} κs (Value.pVal record {
             ty = Declared'.row Form.the-type;
             one = Path'.refl;
             val = Laws'8.val Form.the-type Laws'.the-laws;
-            tells = Laws'8.tells Form.the-type
-                Laws'.the-laws;
-            still = Laws'8.still Form.the-type Laws'.the-copy Exit.yes;
+            tells = Laws'8.tells Form.the-type Laws'.the-laws;
+            still = Laws'8.still Form.the-type
+                Laws'.the-copy Exit.yes;
             row = Rows.whole (Declared'.row Form.the-type);
             rd = λ x. x;
             mk = λ x. x;
           } λ M 𝓤 H A W. record {
-            copies =
-                Laws'8.copy Form.the-type Laws'.the-copy 𝓤 H A W;
+            copies = Laws'8.copy Form.the-type Laws'.the-copy 𝓤 H A W;
             lawful = Laws'8.lawful Form.the-type Laws'.the-laws 𝓤 H A W;
             makes = Laws'8.makes Form.the-type Laws'.the-plain 𝓤 H A;
             in-mem =
@@ -6814,8 +3763,8 @@ module _ (claims· : Claims) where
       W0 = λ κs args blocks. (
         λ u. ⊥,
         tt,
-        λ u. Enter.Fixs κs 1 ps xs (dens κs args) (u .1) × Post· κs (dens κs args) (Function.resV r κs (u .0)) (Clauses.atExit (Kinds.endedOf 4 ps r) κs (dens κs
-            args) (Enter.lastsP κs 1 ps xs (dens κs args) (u .1))),
+        λ u. Enter.Fixs κs 1 ps xs (dens κs args) (u .1) × Post· κs (dens κs args) (Function.resV r κs (u .0)) (Clauses.atExit (Kinds.endedOf 4 ps r) κs (dens κs args) (Enter.lastsP κs 1 ps
+            xs (dens κs args) (u .1))),
       )
 
       pub record Start : Type 0 where
@@ -6939,57 +3888,23 @@ module _ (claims· : Claims) where
 
       abbrev pub m15 : (before : After-main) → (out : List.List (Referent.rtF (Referent.fInt Syntax.w8) .Denot)) → (lines : List.List (Referent.rtF (Referent.fInt Syntax.w16) .Denot)) → (rs :
           List.List (Element.type .Denot)) → (at : Rows.whole (Declared'.row BitPosition.the-type) .Mod) → (i : Rows.sc-here (Row.sInt Syntax.w64) .Mod) → Typed.Mo T15
-      m15 = λ before out lines rs at i. Row.set 16 (16, Rows.sc-here (Row.sInt Syntax.w64)) i (Row.setRow 15 (15, Rows.whole (Declared'.row BitPosition.the-type)) (Row.setRow 7 (
-        7,
-        Mut.mslice
-            (Element.type) (Syntax.tyRef (Syntax.named 3) Syntax.mut Element.behind) 3,
-      ) (Row.setRow 6 (
-        6,
-        Mut.mslice (Referent.rtF (Referent.fInt Syntax.w16)) (Syntax.tyRef (Syntax.named 2) Syntax.mut
-            (Syntax.tyInt Syntax.w16)) 2,
-      ) (Row.setRow 3 (3, Mut.mslice (Referent.rtF (Referent.fInt Syntax.w8)) (Syntax.tyRef (Syntax.named 1) Syntax.mut (Syntax.tyInt Syntax.w8)) 1) (T15 .locals)))))
-          (Row.set 15 (15, Rows.whole (Declared'.row BitPosition.the-type)) at (Row.setRow 7 (7, Mut.mslice (Element.type) (Syntax.tyRef (Syntax.named 3) Syntax.mut Element.behind) 3) (Row.setRow 6 (
-            6,
-            Mut.mslice (Referent.rtF (Referent.fInt Syntax.w16)) (Syntax.tyRef (Syntax.named 2) Syntax.mut (Syntax.tyInt Syntax.w16)) 2,
-          ) (Row.setRow 3 (
-            3,
-            Mut.mslice (Referent.rtF (Referent.fInt
-                Syntax.w8)) (Syntax.tyRef (Syntax.named 1) Syntax.mut (Syntax.tyInt Syntax.w8)) 1,
-          ) (T15 .locals)))) (Row.set 7 (
-            7,
-            Mut.mslice (Element.type) (Syntax.tyRef (Syntax.named 3) Syntax.mut
-                Element.behind) 3,
-          ) record {
-            ptr = Row.get 7 (T15 .locals) (m14 (before .before) (After-main·gave before)) .ptr;
-            name = Row.get 7 (T15 .locals) (m14 (before .before) (After-main·gave before))
-                .name;
-            now = rs;
-          } (Row.setRow 6 (6, Mut.mslice (Referent.rtF (Referent.fInt Syntax.w16)) (Syntax.tyRef (Syntax.named 2) Syntax.mut (Syntax.tyInt Syntax.w16)) 2) (Row.setRow 3 (
-            3,
-            Mut.mslice
-                (Referent.rtF (Referent.fInt Syntax.w8)) (Syntax.tyRef (Syntax.named 1) Syntax.mut (Syntax.tyInt Syntax.w8)) 1,
-          ) (T15 .locals))) (Row.set 6 (
-            6,
-            Mut.mslice (Referent.rtF (Referent.fInt
-                Syntax.w16)) (Syntax.tyRef (Syntax.named 2) Syntax.mut (Syntax.tyInt Syntax.w16)) 2,
-          ) record {
-            ptr = Row.get 6 (T15 .locals) (m14 (before .before) (After-main·gave before)) .ptr;
-            name = Row.get
-                6 (T15 .locals) (m14 (before .before) (After-main·gave before)) .name;
-            now = lines;
-          } (Row.setRow 3 (
-            3,
-            Mut.mslice (Referent.rtF (Referent.fInt Syntax.w8)) (Syntax.tyRef (Syntax.named 1)
-                Syntax.mut (Syntax.tyInt Syntax.w8)) 1,
-          ) (T15 .locals)) (Row.set 3 (
-            3,
-            Mut.mslice (Referent.rtF (Referent.fInt Syntax.w8)) (Syntax.tyRef (Syntax.named 1) Syntax.mut (Syntax.tyInt Syntax.w8))
-                1,
-          ) record {
-            ptr = Row.get 3 (T15 .locals) (m14 (before .before) (After-main·gave before)) .ptr;
-            name = Row.get 3 (T15 .locals) (m14 (before .before) (After-main·gave before)) .name;
-            now = out;
-          } (T15 .locals) (m14 (before .before) (After-main·gave before))))))
+      m15 = λ before out lines rs at i. Row.set 16 (16, Rows.sc-here (Row.sInt Syntax.w64)) i (Row.setRow 15 (15, Rows.whole (Declared'.row BitPosition.the-type)) (Row.setRow 7
+          (7, Mut.mslice (Element.type) (Syntax.tyRef (Syntax.named 3) Syntax.mut Element.behind) 3) (Row.setRow 6
+          (6, Mut.mslice (Referent.rtF (Referent.fInt Syntax.w16)) (Syntax.tyRef (Syntax.named 2) Syntax.mut (Syntax.tyInt Syntax.w16)) 2) (Row.setRow 3
+          (3, Mut.mslice (Referent.rtF (Referent.fInt Syntax.w8)) (Syntax.tyRef (Syntax.named 1) Syntax.mut (Syntax.tyInt Syntax.w8)) 1) (T15 .locals))))) (Row.set 15
+          (15, Rows.whole (Declared'.row BitPosition.the-type)) at (Row.setRow 7 (7, Mut.mslice (Element.type) (Syntax.tyRef (Syntax.named 3) Syntax.mut Element.behind) 3) (Row.setRow 6
+          (6, Mut.mslice (Referent.rtF (Referent.fInt Syntax.w16)) (Syntax.tyRef (Syntax.named 2) Syntax.mut (Syntax.tyInt Syntax.w16)) 2) (Row.setRow 3
+          (3, Mut.mslice (Referent.rtF (Referent.fInt Syntax.w8)) (Syntax.tyRef (Syntax.named 1) Syntax.mut (Syntax.tyInt Syntax.w8)) 1) (T15 .locals)))) (Row.set 7
+          (7, Mut.mslice (Element.type) (Syntax.tyRef (Syntax.named 3) Syntax.mut Element.behind) 3) record
+          { ptr = Row.get 7 (T15 .locals) (m14 (before .before) (After-main·gave before)) .ptr; name = Row.get 7 (T15 .locals) (m14 (before .before) (After-main·gave before)) .name; now = rs }
+          (Row.setRow 6 (6, Mut.mslice (Referent.rtF (Referent.fInt Syntax.w16)) (Syntax.tyRef (Syntax.named 2) Syntax.mut (Syntax.tyInt Syntax.w16)) 2) (Row.setRow 3
+          (3, Mut.mslice (Referent.rtF (Referent.fInt Syntax.w8)) (Syntax.tyRef (Syntax.named 1) Syntax.mut (Syntax.tyInt Syntax.w8)) 1) (T15 .locals))) (Row.set 6
+          (6, Mut.mslice (Referent.rtF (Referent.fInt Syntax.w16)) (Syntax.tyRef (Syntax.named 2) Syntax.mut (Syntax.tyInt Syntax.w16)) 2) record
+          { ptr = Row.get 6 (T15 .locals) (m14 (before .before) (After-main·gave before)) .ptr; name = Row.get 6 (T15 .locals) (m14 (before .before) (After-main·gave before)) .name; now = lines }
+          (Row.setRow 3 (3, Mut.mslice (Referent.rtF (Referent.fInt Syntax.w8)) (Syntax.tyRef (Syntax.named 1) Syntax.mut (Syntax.tyInt Syntax.w8)) 1) (T15 .locals)) (Row.set 3
+          (3, Mut.mslice (Referent.rtF (Referent.fInt Syntax.w8)) (Syntax.tyRef (Syntax.named 1) Syntax.mut (Syntax.tyInt Syntax.w8)) 1) record
+          { ptr = Row.get 3 (T15 .locals) (m14 (before .before) (After-main·gave before)) .ptr; name = Row.get 3 (T15 .locals) (m14 (before .before) (After-main·gave before)) .name; now = out } (T15
+          .locals) (m14 (before .before) (After-main·gave before))))))
 
       abbrev W3 : (before : After-main) → (out : List.List (Referent.rtF (Referent.fInt Syntax.w8) .Denot)) → (lines : List.List (Referent.rtF (Referent.fInt Syntax.w16) .Denot)) → (rs : List.List
           (Element.type .Denot)) → (at : Rows.whole (Declared'.row BitPosition.the-type) .Mod) → (i : Rows.sc-here (Row.sInt Syntax.w64) .Mod) → Typed.Want O3
@@ -7094,10 +4009,7 @@ module _ (claims· : Claims) where
         abbrev pub After-set-guards·own : Type 0
         After-set-guards·own = Called.Called ps·3 r·3 (claims· .7) T24 (
           record { pos = 25; ty = Syntax.tyRef Syntax.erased Syntax.mut (Syntax.tyInt Syntax.w16); ref = λ x. x },
-          (
-            Num.vAt 11 λ x. x,
-            (Num.vFld 17 (List._∷_ (Syntax.field 0) List.[]) 0 λ x. Plan.struct .as-values x .0, tt),
-          ),
+          (Num.vAt 11 λ x. x, (Num.vFld 17 (List._∷_ (Syntax.field 0) List.[]) 0 λ x. Plan.struct .as-values x .0, tt)),
         ) (m21 (before· .before) (before· .set-guards-arg .given))
 
       pub record After-set-guards : Type 0 where
@@ -7108,11 +4020,7 @@ module _ (claims· : Claims) where
           .before .set-guards-arg .given))
       After-set-guards·gave = λ c. Called.given ps·3 r·3 (claims· .7) T24 (
         record { pos = 25; ty = Syntax.tyRef Syntax.erased Syntax.mut (Syntax.tyInt Syntax.w16); ref = λ x. x },
-        (
-          Num.vAt 11 λ x.
-              x,
-          (Num.vFld 17 (List._∷_ (Syntax.field 0) List.[]) 0 λ x. Plan.struct .as-values x .0, tt),
-        ),
+        (Num.vAt 11 λ x. x, (Num.vFld 17 (List._∷_ (Syntax.field 0) List.[]) 0 λ x. Plan.struct .as-values x .0, tt)),
       ) (m21 (c .before .before) (c .before .set-guards-arg .given)) (c .set-guards)
 
       abbrev pub m23 : (before : After-set-guards-arg) → (given : s21 (before .before .before .before .before .before .before .before .before .before .blocks) .gives (m21 (before .before) (before
@@ -7174,10 +4082,7 @@ module _ (claims· : Claims) where
         abbrev pub After-set-guards2·own : Type 0
         After-set-guards2·own = Called.Called ps·3 r·3 (claims· .7) T33 (
           record { pos = 27; ty = Syntax.tyRef Syntax.erased Syntax.mut (Syntax.tyInt Syntax.w16); ref = λ x. x },
-          (
-            Num.vAt 11 λ x. x,
-            (Num.vFld 17 (List._∷_ (Syntax.field 1) List.[]) 8 λ x. Plan.struct .as-values x .1 .0, tt),
-          ),
+          (Num.vAt 11 λ x. x, (Num.vFld 17 (List._∷_ (Syntax.field 1) List.[]) 8 λ x. Plan.struct .as-values x .1 .0, tt)),
         ) (m27 (before· .before) (before· .set-guards-arg2 .given))
 
       pub record After-set-guards2 : Type 0 where
@@ -7188,11 +4093,7 @@ module _ (claims· : Claims) where
           .gives (m27 (c .before .before) (c .before .set-guards-arg2 .given))
       After-set-guards2·gave = λ c. Called.given ps·3 r·3 (claims· .7) T33 (
         record { pos = 27; ty = Syntax.tyRef Syntax.erased Syntax.mut (Syntax.tyInt Syntax.w16); ref = λ x. x },
-        (
-          Num.vAt 11 λ x.
-              x,
-          (Num.vFld 17 (List._∷_ (Syntax.field 1) List.[]) 8 λ x. Plan.struct .as-values x .1 .0, tt),
-        ),
+        (Num.vAt 11 λ x. x, (Num.vFld 17 (List._∷_ (Syntax.field 1) List.[]) 8 λ x. Plan.struct .as-values x .1 .0, tt)),
       ) (m27 (c .before .before) (c .before .set-guards-arg2 .given)) (c .set-guards2)
 
       abbrev pub m29 : (before : After-set-guards-arg2) → (given : s30 (before .before .before .before .before .before .before .before .before .before .before .before .before .before .blocks) .gives
@@ -7257,14 +4158,9 @@ module _ (claims· : Claims) where
 
       module _ (before· : After-load-set-arg) where
         abbrev pub After-load-set·own : Type 0
-        After-load-set·own = Called.Called ps·4 r·4 (claims· .9) T42 (
-          record { pos = 29; ty = Syntax.tyRef Syntax.erased Syntax.mut Element.behind; ref = λ x. x },
-          (
-            Num.vFld 17 (List._∷_
-                (Syntax.field 2) List.[]) 16 λ x. Plan.struct .as-values x .1 .1 .0,
-            tt,
-          ),
-        ) (m33 (before· .before) (before· .load-set-arg .given))
+        After-load-set·own = Called.Called ps·4 r·4 (claims· .9) T42
+            (record { pos = 29; ty = Syntax.tyRef Syntax.erased Syntax.mut Element.behind; ref = λ x. x }, (Num.vFld 17 (List._∷_ (Syntax.field 2) List.[]) 16 λ x. Plan.struct .as-values x .1 .1 .0, tt))
+            (m33 (before· .before) (before· .load-set-arg .given))
 
       pub record After-load-set : Type 0 where
         pub before : After-load-set-arg
@@ -7272,14 +4168,9 @@ module _ (claims· : Claims) where
 
       abbrev pub After-load-set·gave : (c : After-load-set) → s39 (c .before .before .before .before .before .before .before .before .before .before .before .before .before .before .before .before
           .before .before .blocks) .gives (m33 (c .before .before) (c .before .load-set-arg .given))
-      After-load-set·gave = λ c. Called.given ps·4 r·4 (claims· .9) T42 (
-        record { pos = 29; ty = Syntax.tyRef Syntax.erased Syntax.mut Element.behind; ref = λ x. x },
-        (
-          Num.vFld 17 (List._∷_
-              (Syntax.field 2) List.[]) 16 λ x. Plan.struct .as-values x .1 .1 .0,
-          tt,
-        ),
-      ) (m33 (c .before .before) (c .before .load-set-arg .given)) (c .load-set)
+      After-load-set·gave = λ c. Called.given ps·4 r·4 (claims· .9) T42
+          (record { pos = 29; ty = Syntax.tyRef Syntax.erased Syntax.mut Element.behind; ref = λ x. x }, (Num.vFld 17 (List._∷_ (Syntax.field 2) List.[]) 16 λ x. Plan.struct .as-values x .1 .1 .0, tt))
+          (m33 (c .before .before) (c .before .load-set-arg .given)) (c .load-set)
 
       abbrev pub m35 : (before : After-load-set) → (given : s41 (before .before .before .before .before .before .before .before .before .before .before .before .before .before .before .before .before
           .before .before .blocks) .gives (m34 (before .before) (After-load-set·gave before))) → Typed.Mo T45
@@ -7347,8 +4238,7 @@ module _ (claims· : Claims) where
         After-write-pass·own = Called.Called ps·5 r·5 (claims· .11) T52 (
           record { pos = 1; ty = Syntax.tyRef (Syntax.named 0) Syntax.imm (Syntax.tyInt Syntax.w16); ref = λ x. x },
           (
-            Num.vAt 2 λ x.
-                x,
+            Num.vAt 2 λ x. x,
             (
               record { pos = 31; ty = Syntax.tyRef Syntax.erased Syntax.mut (Syntax.tyInt Syntax.w8); ref = λ x. x },
               (
@@ -7359,22 +4249,15 @@ module _ (claims· : Claims) where
                     record { pos = 33; ty = Syntax.tyRef Syntax.erased Syntax.mut (Syntax.tyInt Syntax.w16); ref = λ x. x },
                     (
                       record { pos = 18; st = List.[]; d = 0; at = λ x. x },
-                      (
-                        Num.vAt 11 λ x. x,
-                        (
-                          record
-                              { pos = 17; st = List.[]; d = 0; at = λ x. x },
-                          (Num.vAt 9 λ x. x, (Num.vAt 13 λ x. x, (Num.vAt 14 λ x. x, tt))),
-                        ),
-                      ),
+                      (Num.vAt 11 λ x. x, (record { pos = 17; st = List.[]; d = 0; at = λ x. x }, (Num.vAt 9 λ x. x, (Num.vAt 13 λ x. x, (Num.vAt 14 λ x. x, tt))))),
                     ),
                   ),
                 ),
               ),
             ),
           ),
-        ) (m39 (before· .before) (before· .write-pass-arg2
-            .given))
+        ) (m39 (before· .before) (before·
+            .write-pass-arg2 .given))
 
       pub record After-write-pass : Type 0 where
         pub before : After-write-pass-arg2
@@ -7385,8 +4268,7 @@ module _ (claims· : Claims) where
       After-write-pass·gave = λ c. Called.given ps·5 r·5 (claims· .11) T52 (
         record { pos = 1; ty = Syntax.tyRef (Syntax.named 0) Syntax.imm (Syntax.tyInt Syntax.w16); ref = λ x. x },
         (
-          Num.vAt 2 λ
-              x. x,
+          Num.vAt 2 λ x. x,
           (
             record { pos = 31; ty = Syntax.tyRef Syntax.erased Syntax.mut (Syntax.tyInt Syntax.w8); ref = λ x. x },
             (
@@ -7397,26 +4279,15 @@ module _ (claims· : Claims) where
                   record { pos = 33; ty = Syntax.tyRef Syntax.erased Syntax.mut (Syntax.tyInt Syntax.w16); ref = λ x. x },
                   (
                     record { pos = 18; st = List.[]; d = 0; at = λ x. x },
-                    (
-                      Num.vAt 11 λ x. x,
-                      (
-                        record {
-                          pos = 17;
-                          st = List.[];
-                          d = 0;
-                          at = λ x. x;
-                        },
-                        (Num.vAt 9 λ x. x, (Num.vAt 13 λ x. x, (Num.vAt 14 λ x. x, tt))),
-                      ),
-                    ),
+                    (Num.vAt 11 λ x. x, (record { pos = 17; st = List.[]; d = 0; at = λ x. x }, (Num.vAt 9 λ x. x, (Num.vAt 13 λ x. x, (Num.vAt 14 λ x. x, tt))))),
                   ),
                 ),
               ),
             ),
           ),
         ),
-      ) (m39 (c .before .before) (c .before .write-pass-arg2
-          .given)) (c .write-pass)
+      ) (m39 (c .before .before) (c .before
+          .write-pass-arg2 .given)) (c .write-pass)
 
       abbrev pub m41 : (before : After-write-pass-arg2) → (given : s49 (before .before .before .before .before .before .before .before .before .before .before .before .before .before .before .before
           .before .before .before .before .before .before .blocks) .gives (m39 (before .before) (before .write-pass-arg2 .given))) → Typed.Mo T54
@@ -7659,12 +4530,9 @@ module _ (claims· : Claims) where
         abbrev pub After-store-set·own : Type 0
         After-store-set·own = Called.Called ps·6 r·6 (claims· .13) T84 (
           record { pos = 35; ty = Syntax.tyRef Syntax.erased Syntax.mut Element.behind; ref = λ x. x },
-          (
-            Num.vFld 17 (List._∷_
-                (Syntax.field 2) List.[]) 16 λ x. Plan.struct .as-values x .1 .1 .0,
-            (record { pos = 21; st = List.[]; d = 0; at = λ x. x }, tt),
-          ),
-        ) (m65 (before· .before) (before· .store-set-arg .given))
+          (Num.vFld 17 (List._∷_ (Syntax.field 2) List.[]) 16 λ x. Plan.struct .as-values x .1 .1 .0, (record { pos = 21; st = List.[]; d = 0; at = λ x. x }, tt)),
+        ) (m65 (before· .before) (before·
+            .store-set-arg .given))
 
       pub record After-store-set : Type 0 where
         pub before : After-store-set-arg
@@ -7674,13 +4542,9 @@ module _ (claims· : Claims) where
           .before .before .before .before .before .before .before .before .before .before .before .before .before .before .blocks) .gives (m65 (c .before .before) (c .before .store-set-arg .given))
       After-store-set·gave = λ c. Called.given ps·6 r·6 (claims· .13) T84 (
         record { pos = 35; ty = Syntax.tyRef Syntax.erased Syntax.mut Element.behind; ref = λ x. x },
-        (
-          Num.vFld 17 (List._∷_
-              (Syntax.field 2) List.[]) 16 λ x. Plan.struct .as-values x .1 .1 .0,
-          (record { pos = 21; st = List.[]; d = 0; at = λ x. x }, tt),
-        ),
-      ) (m65 (c .before .before) (c .before .store-set-arg .given))
-          (c .store-set)
+        (Num.vFld 17 (List._∷_ (Syntax.field 2) List.[]) 16 λ x. Plan.struct .as-values x .1 .1 .0, (record { pos = 21; st = List.[]; d = 0; at = λ x. x }, tt)),
+      ) (m65 (c .before .before) (c .before
+          .store-set-arg .given)) (c .store-set)
 
       abbrev pub m67 : (before : After-store-set-arg) → (given : s80 (before .before .before .before .before .before .before .before .before .before .before .before .before .before .before .before
           .before .before .before .before .before .before .before .before .before .before .before .before .before .before .blocks) .gives (m65 (before .before) (before .store-set-arg .given))) → Typed.Mo
@@ -7930,23 +4794,21 @@ module _ (claims· : Claims) where
             (
               tt,
               (
-                MutSlice.fix-len (Row.get 3 (T105 .locals) (m84 (c .before)) .ptr) (Row.get 3 (T105 .locals) (m84 (c .before)) .name) (Row.get 3 (T105 .locals) (m84 (c
-                    .before)) .now) (dens (c .before .before .before .before .before .before .before .κs) (c .before .before .before .before .before .before .before .args) .1 .1 .0 .now) (same-length-4 record {
-                      before = c .before;
-                      loop-test = c .loop-test;
-                    }),
+                MutSlice.fix-len (Row.get 3 (T105 .locals) (m84 (c .before)) .ptr) (Row.get 3 (T105 .locals) (m84 (c .before)) .name) (Row.get 3 (T105 .locals) (m84 (c .before)) .now) (dens (c .before
+                    .before .before .before .before .before .before .κs) (c .before .before .before .before .before .before .before .args) .1 .1 .0 .now) (same-length-4 record
+                    { before = c .before; loop-test = c .loop-test }),
                 (
                   tt,
                   (
                     tt,
                     (
-                      MutSlice.fix-len (Row.get 6 (T105 .locals) (m84 (c .before)) .ptr) (Row.get 6 (T105 .locals) (m84 (c .before)) .name) (Row.get 6
-                          (T105 .locals) (m84 (c .before)) .now) (dens (c .before .before .before .before .before .before .before .κs) (c .before .before .before .before .before .before .before .args) .1 .1 .1 .1 .1 .0
-                          .now) (same-length-5 record { before = c .before; loop-test = c .loop-test }),
+                      MutSlice.fix-len (Row.get 6 (T105 .locals) (m84 (c .before)) .ptr) (Row.get 6 (T105 .locals) (m84 (c .before)) .name) (Row.get 6 (T105 .locals) (m84 (c .before)) .now) (dens (c .before
+                          .before .before .before .before .before .before .κs) (c .before .before .before .before .before .before .before .args) .1 .1 .1 .1 .1 .0 .now) (same-length-5 record
+                          { before = c .before; loop-test = c .loop-test }),
                       (
-                        MutSlice.fix-len (Row.get 7 (T105 .locals) (m84 (c .before)) .ptr) (Row.get 7 (T105 .locals) (m84 (c .before))
-                            .name) (Row.get 7 (T105 .locals) (m84 (c .before)) .now) (dens (c .before .before .before .before .before .before .before .κs) (c .before .before .before .before .before .before .before .args)
-                            .1 .1 .1 .1 .1 .1 .0 .now) (same-length-6 record { before = c .before; loop-test = c .loop-test }),
+                        MutSlice.fix-len (Row.get 7 (T105 .locals) (m84 (c .before)) .ptr) (Row.get 7 (T105 .locals) (m84 (c .before)) .name) (Row.get 7 (T105 .locals) (m84 (c .before)) .now) (dens (c .before
+                            .before .before .before .before .before .before .κs) (c .before .before .before .before .before .before .before .args) .1 .1 .1 .1 .1 .1 .0 .now) (same-length-6 record
+                            { before = c .before; loop-test = c .loop-test }),
                         (tt, tt),
                       ),
                     ),
@@ -7955,11 +4817,7 @@ module _ (claims· : Claims) where
               ),
             ),
           ),
-          returns-2 record {
-            before = c .before;
-            loop-test = c
-                .loop-test;
-          },
+          returns-2 record { before = c .before; loop-test = c .loop-test },
         )
 
         lay12 : (c : After-store-set) → at30 (c .before .before .before .before .before .before .before .before .before .before .before .before .before .before .before .before .before .before .before
@@ -7976,150 +4834,101 @@ module _ (claims· : Claims) where
           λ g. (
             tt,
             λ g'. (
-              add-i record {
-                before = record { before = record { before = c .before; store-set = c .store-set }; rs2 = record { given = g } };
-                at = record {
-                  given = g';
-                };
-              },
+              add-i record { before = record { before = record { before = c .before; store-set = c .store-set }; rs2 = record { given = g } }; at = record { given = g' } },
               (
-                μ·0 (Row.get 1 (T15 .locals) (m14 (c .before .before .before .before .before .before .before .before .before .before .before .before .before .before .before .before .before
-                    .before .before .before .before .before .before .before .before .before) (After-main·gave (c .before .before .before .before .before .before .before .before .before .before .before .before
-                    .before .before .before .before .before .before .before .before .before .before .before .before .before))) .now) (Row.get 2 (T15 .locals) (m14 (c .before .before .before .before .before
-                    .before .before .before .before .before .before .before .before .before .before .before .before .before .before .before .before .before .before .before .before .before) (After-main·gave (c
-                    .before .before .before .before .before .before .before .before .before .before .before .before .before .before .before .before .before .before .before .before .before .before .before .before
-                    .before)))) (Row.get 3 (T15 .locals) (m14 (c .before .before .before .before .before .before .before .before .before .before .before .before .before .before .before .before .before .before
-                    .before .before .before .before .before .before .before .before) (After-main·gave (c .before .before .before .before .before .before .before .before .before .before .before .before .before
-                    .before .before .before .before .before .before .before .before .before .before .before .before))) .now) (Row.get 4 (T15 .locals) (m14 (c .before .before .before .before .before .before
-                    .before .before .before .before .before .before .before .before .before .before .before .before .before .before .before .before .before .before .before .before) (After-main·gave (c .before
-                    .before .before .before .before .before .before .before .before .before .before .before .before .before .before .before .before .before .before .before .before .before .before .before
-                    .before)))) (Row.get 6 (T15 .locals) (m14 (c .before .before .before .before .before .before .before .before .before .before .before .before .before .before .before .before .before .before
-                    .before .before .before .before .before .before .before .before) (After-main·gave (c .before .before .before .before .before .before .before .before .before .before .before .before .before
-                    .before .before .before .before .before .before .before .before .before .before .before .before))) .now) (Row.get 7 (T15 .locals) (m14 (c .before .before .before .before .before .before
-                    .before .before .before .before .before .before .before .before .before .before .before .before .before .before .before .before .before .before .before .before) (After-main·gave (c .before
-                    .before .before .before .before .before .before .before .before .before .before .before .before .before .before .before .before .before .before .before .before .before .before .before
-                    .before))) .now) (Row.get 9 (T15 .locals) (m14 (c .before .before .before .before .before .before .before .before .before .before .before .before .before .before .before .before .before
-                    .before .before .before .before .before .before .before .before .before) (After-main·gave (c .before .before .before .before .before .before .before .before .before .before .before .before
-                    .before .before .before .before .before .before .before .before .before .before .before .before .before)))) (Row.get 10 (T15 .locals) (m14 (c .before .before .before .before .before .before
-                    .before .before .before .before .before .before .before .before .before .before .before .before .before .before .before .before .before .before .before .before) (After-main·gave (c .before
-                    .before .before .before .before .before .before .before .before .before .before .before .before .before .before .before .before .before .before .before .before .before .before .before
-                    .before)))) (Row.get 11 (T15 .locals) (m14 (c .before .before .before .before .before .before .before .before .before .before .before .before .before .before .before .before .before .before
-                    .before .before .before .before .before .before .before .before) (After-main·gave (c .before .before .before .before .before .before .before .before .before .before .before .before .before
-                    .before .before .before .before .before .before .before .before .before .before .before .before)))) (Row.get 13 (T15 .locals) (m14 (c .before .before .before .before .before .before .before
+                μ·0 (Row.get 1 (T15 .locals) (m14 (c .before .before .before .before .before .before .before .before .before .before .before .before .before .before .before .before .before .before .before
+                    .before .before .before .before .before .before .before) (After-main·gave (c .before .before .before .before .before .before .before .before .before .before .before .before .before .before
+                    .before .before .before .before .before .before .before .before .before .before .before))) .now) (Row.get 2 (T15 .locals) (m14 (c .before .before .before .before .before .before .before
                     .before .before .before .before .before .before .before .before .before .before .before .before .before .before .before .before .before .before .before) (After-main·gave (c .before .before
                     .before .before .before .before .before .before .before .before .before .before .before .before .before .before .before .before .before .before .before .before .before .before .before))))
-                    (Row.get 14 (T15 .locals) (m14 (c .before .before .before .before .before .before .before .before .before .before .before .before .before .before .before .before .before .before .before
-                    .before .before .before .before .before .before .before) (After-main·gave (c .before .before .before .before .before .before .before .before .before .before .before .before .before .before
-                    .before .before .before .before .before .before .before .before .before .before .before)))) (Row.get 15 (T15 .locals) (m14 (c .before .before .before .before .before .before .before .before
+                    (Row.get 3 (T15 .locals) (m14 (c .before .before .before .before .before .before .before .before .before .before .before .before .before .before .before .before .before .before .before .before
+                    .before .before .before .before .before .before) (After-main·gave (c .before .before .before .before .before .before .before .before .before .before .before .before .before .before .before
+                    .before .before .before .before .before .before .before .before .before .before))) .now) (Row.get 4 (T15 .locals) (m14 (c .before .before .before .before .before .before .before .before
                     .before .before .before .before .before .before .before .before .before .before .before .before .before .before .before .before .before .before) (After-main·gave (c .before .before .before
-                    .before .before .before .before .before .before .before .before .before .before .before .before .before .before .before .before .before .before .before .before .before .before)))) (Row.get 16
+                    .before .before .before .before .before .before .before .before .before .before .before .before .before .before .before .before .before .before .before .before .before .before)))) (Row.get 6
                     (T15 .locals) (m14 (c .before .before .before .before .before .before .before .before .before .before .before .before .before .before .before .before .before .before .before .before .before
                     .before .before .before .before .before) (After-main·gave (c .before .before .before .before .before .before .before .before .before .before .before .before .before .before .before .before
-                    .before .before .before .before .before .before .before .before .before)))) (Row.get 3 (T15 .locals) (m74 record {
-                      before = record { before = c .before; store-set = c .store-set };
-                      rs2 =
-                          record { given = g };
-                    } g') .now) (Row.get 6 (T15 .locals) (m74 record { before = record { before = c .before; store-set = c .store-set }; rs2 = record { given = g } } g') .now) (Row.get 7
-                    (T15 .locals) (m74 record { before = record { before = c .before; store-set = c .store-set }; rs2 = record { given = g } } g') .now) (Row.get 15 (T15 .locals) (m74 record {
-                      before = record {
-                        before = c .before;
-                        store-set = c .store-set;
-                      };
-                      rs2 = record { given = g };
-                    } g')) (Row.get 16 (T15 .locals) (m74 record {
-                      before = record { before = c .before; store-set = c .store-set };
-                      rs2
-                          = record { given = g };
-                    } g')),
-                loop-less record {
-                  before = record { before = record { before = c .before; store-set = c .store-set }; rs2 = record { given = g } };
-                  at = record {
-                    given = g';
-                  };
-                },
+                    .before .before .before .before .before .before .before .before .before))) .now) (Row.get 7 (T15 .locals) (m14 (c .before .before .before .before .before .before .before .before .before
+                    .before .before .before .before .before .before .before .before .before .before .before .before .before .before .before .before .before) (After-main·gave (c .before .before .before .before
+                    .before .before .before .before .before .before .before .before .before .before .before .before .before .before .before .before .before .before .before .before .before))) .now) (Row.get 9 (T15
+                    .locals) (m14 (c .before .before .before .before .before .before .before .before .before .before .before .before .before .before .before .before .before .before .before .before .before .before
+                    .before .before .before .before) (After-main·gave (c .before .before .before .before .before .before .before .before .before .before .before .before .before .before .before .before .before
+                    .before .before .before .before .before .before .before .before)))) (Row.get 10 (T15 .locals) (m14 (c .before .before .before .before .before .before .before .before .before .before .before
+                    .before .before .before .before .before .before .before .before .before .before .before .before .before .before .before) (After-main·gave (c .before .before .before .before .before .before
+                    .before .before .before .before .before .before .before .before .before .before .before .before .before .before .before .before .before .before .before)))) (Row.get 11 (T15 .locals) (m14 (c
+                    .before .before .before .before .before .before .before .before .before .before .before .before .before .before .before .before .before .before .before .before .before .before .before .before
+                    .before .before) (After-main·gave (c .before .before .before .before .before .before .before .before .before .before .before .before .before .before .before .before .before .before .before
+                    .before .before .before .before .before .before)))) (Row.get 13 (T15 .locals) (m14 (c .before .before .before .before .before .before .before .before .before .before .before .before .before
+                    .before .before .before .before .before .before .before .before .before .before .before .before .before) (After-main·gave (c .before .before .before .before .before .before .before .before
+                    .before .before .before .before .before .before .before .before .before .before .before .before .before .before .before .before .before)))) (Row.get 14 (T15 .locals) (m14 (c .before .before
+                    .before .before .before .before .before .before .before .before .before .before .before .before .before .before .before .before .before .before .before .before .before .before .before .before)
+                    (After-main·gave (c .before .before .before .before .before .before .before .before .before .before .before .before .before .before .before .before .before .before .before .before .before
+                    .before .before .before .before)))) (Row.get 15 (T15 .locals) (m14 (c .before .before .before .before .before .before .before .before .before .before .before .before .before .before .before
+                    .before .before .before .before .before .before .before .before .before .before .before) (After-main·gave (c .before .before .before .before .before .before .before .before .before .before
+                    .before .before .before .before .before .before .before .before .before .before .before .before .before .before .before)))) (Row.get 16 (T15 .locals) (m14 (c .before .before .before .before
+                    .before .before .before .before .before .before .before .before .before .before .before .before .before .before .before .before .before .before .before .before .before .before)
+                    (After-main·gave (c .before .before .before .before .before .before .before .before .before .before .before .before .before .before .before .before .before .before .before .before .before
+                    .before .before .before .before)))) (Row.get 3 (T15 .locals) (m74 record { before = record { before = c .before; store-set = c .store-set }; rs2 = record { given = g } } g') .now) (Row.get 6
+                    (T15 .locals) (m74 record { before = record { before = c .before; store-set = c .store-set }; rs2 = record { given = g } } g') .now) (Row.get 7 (T15 .locals) (m74 record
+                    { before = record { before = c .before; store-set = c .store-set }; rs2 = record { given = g } } g') .now) (Row.get 15 (T15 .locals) (m74 record
+                    { before = record { before = c .before; store-set = c .store-set }; rs2 = record { given = g } } g')) (Row.get 16 (T15 .locals) (m74 record
+                    { before = record { before = c .before; store-set = c .store-set }; rs2 = record { given = g } } g')),
+                loop-less record
+                    { before = record { before = record { before = c .before; store-set = c .store-set }; rs2 = record { given = g } }; at = record { given = g' } },
                 (
                   (
                     Row.get 3 (T15 .locals) (m74 record { before = record { before = c .before; store-set = c .store-set }; rs2 = record { given = g } } g') .now,
-                    Row.get 6 (T15 .locals) (m74 record {
-                      before = record { before = c .before; store-set = c .store-set };
-                      rs2 = record { given = g };
-                    } g') .now,
-                    Row.get 7 (T15 .locals) (m74 record {
-                      before = record {
-                        before = c .before;
-                        store-set
-                            = c .store-set;
-                      };
-                      rs2 = record { given = g };
-                    } g') .now,
-                    Row.get 15 (T15 .locals) (m74 record { before = record { before = c .before; store-set = c .store-set }; rs2 = record { given = g } }
-                        g'),
-                    Row.get 16 (T15 .locals) (m74 record { before = record { before = c .before; store-set = c .store-set }; rs2 = record { given = g } } g'),
+                    Row.get 6 (T15 .locals) (m74 record
+                        { before = record { before = c .before; store-set = c .store-set }; rs2 = record { given = g } } g') .now,
+                    Row.get 7 (T15 .locals) (m74 record
+                        { before = record { before = c .before; store-set = c .store-set }; rs2 = record { given = g } } g') .now,
+                    Row.get 15 (T15 .locals) (m74 record
+                        { before = record { before = c .before; store-set = c .store-set }; rs2 = record { given = g } } g'),
+                    Row.get 16 (T15 .locals) (m74 record
+                        { before = record { before = c .before; store-set = c .store-set }; rs2 = record { given = g } } g'),
                   ),
-                  Path'.refl {a = m74 record {
-                    before = record
-                        { before = c .before; store-set = c .store-set };
-                    rs2 = record { given = g };
-                  } g'},
-                  loop-again record {
-                    before = record {
-                      before = record { before = c .before; store-set = c .store-set };
-                      rs2
-                          = record { given = g };
-                    };
-                    at = record { given = g' };
-                  },
-                  Path'.refl {a = μ·0 (Row.get 1 (T15 .locals) (m14 (c .before .before .before .before .before .before .before .before .before .before
-                      .before .before .before .before .before .before .before .before .before .before .before .before .before .before .before .before) (After-main·gave (c .before .before .before .before .before
-                      .before .before .before .before .before .before .before .before .before .before .before .before .before .before .before .before .before .before .before .before))) .now) (Row.get 2 (T15
-                      .locals) (m14 (c .before .before .before .before .before .before .before .before .before .before .before .before .before .before .before .before .before .before .before .before .before .before
-                      .before .before .before .before) (After-main·gave (c .before .before .before .before .before .before .before .before .before .before .before .before .before .before .before .before .before
-                      .before .before .before .before .before .before .before .before)))) (Row.get 3 (T15 .locals) (m14 (c .before .before .before .before .before .before .before .before .before .before .before
-                      .before .before .before .before .before .before .before .before .before .before .before .before .before .before .before) (After-main·gave (c .before .before .before .before .before .before
-                      .before .before .before .before .before .before .before .before .before .before .before .before .before .before .before .before .before .before .before))) .now) (Row.get 4 (T15 .locals) (m14
-                      (c .before .before .before .before .before .before .before .before .before .before .before .before .before .before .before .before .before .before .before .before .before .before .before
+                  Path'.refl {a = m74 record
+                      { before = record { before = c .before; store-set = c .store-set }; rs2 = record { given = g } } g'},
+                  loop-again record
+                      { before = record { before = record { before = c .before; store-set = c .store-set }; rs2 = record { given = g } }; at = record { given = g' } },
+                  Path'.refl {a = μ·0 (Row.get 1 (T15 .locals)
+                      (m14 (c .before .before .before .before .before .before .before .before .before .before .before .before .before .before .before .before .before .before .before .before .before .before .before
                       .before .before .before) (After-main·gave (c .before .before .before .before .before .before .before .before .before .before .before .before .before .before .before .before .before .before
-                      .before .before .before .before .before .before .before)))) (Row.get 6 (T15 .locals) (m14 (c .before .before .before .before .before .before .before .before .before .before .before .before
-                      .before .before .before .before .before .before .before .before .before .before .before .before .before .before) (After-main·gave (c .before .before .before .before .before .before .before
-                      .before .before .before .before .before .before .before .before .before .before .before .before .before .before .before .before .before .before))) .now) (Row.get 7 (T15 .locals) (m14 (c
+                      .before .before .before .before .before .before .before))) .now) (Row.get 2 (T15 .locals) (m14 (c .before .before .before .before .before .before .before .before .before .before .before
+                      .before .before .before .before .before .before .before .before .before .before .before .before .before .before .before) (After-main·gave (c .before .before .before .before .before .before
+                      .before .before .before .before .before .before .before .before .before .before .before .before .before .before .before .before .before .before .before)))) (Row.get 3 (T15 .locals) (m14 (c
                       .before .before .before .before .before .before .before .before .before .before .before .before .before .before .before .before .before .before .before .before .before .before .before .before
                       .before .before) (After-main·gave (c .before .before .before .before .before .before .before .before .before .before .before .before .before .before .before .before .before .before .before
-                      .before .before .before .before .before .before))) .now) (Row.get 9 (T15 .locals) (m14 (c .before .before .before .before .before .before .before .before .before .before .before .before
+                      .before .before .before .before .before .before))) .now) (Row.get 4 (T15 .locals) (m14 (c .before .before .before .before .before .before .before .before .before .before .before .before
                       .before .before .before .before .before .before .before .before .before .before .before .before .before .before) (After-main·gave (c .before .before .before .before .before .before .before
-                      .before .before .before .before .before .before .before .before .before .before .before .before .before .before .before .before .before .before)))) (Row.get 10 (T15 .locals) (m14 (c .before
+                      .before .before .before .before .before .before .before .before .before .before .before .before .before .before .before .before .before .before)))) (Row.get 6 (T15 .locals) (m14 (c .before
                       .before .before .before .before .before .before .before .before .before .before .before .before .before .before .before .before .before .before .before .before .before .before .before .before
                       .before) (After-main·gave (c .before .before .before .before .before .before .before .before .before .before .before .before .before .before .before .before .before .before .before .before
-                      .before .before .before .before .before)))) (Row.get 11 (T15 .locals) (m14 (c .before .before .before .before .before .before .before .before .before .before .before .before .before .before
+                      .before .before .before .before .before))) .now) (Row.get 7 (T15 .locals) (m14 (c .before .before .before .before .before .before .before .before .before .before .before .before .before
+                      .before .before .before .before .before .before .before .before .before .before .before .before .before) (After-main·gave (c .before .before .before .before .before .before .before .before
+                      .before .before .before .before .before .before .before .before .before .before .before .before .before .before .before .before .before))) .now) (Row.get 9 (T15 .locals) (m14 (c .before
+                      .before .before .before .before .before .before .before .before .before .before .before .before .before .before .before .before .before .before .before .before .before .before .before .before
+                      .before) (After-main·gave (c .before .before .before .before .before .before .before .before .before .before .before .before .before .before .before .before .before .before .before .before
+                      .before .before .before .before .before)))) (Row.get 10 (T15 .locals) (m14 (c .before .before .before .before .before .before .before .before .before .before .before .before .before .before
                       .before .before .before .before .before .before .before .before .before .before .before .before) (After-main·gave (c .before .before .before .before .before .before .before .before .before
-                      .before .before .before .before .before .before .before .before .before .before .before .before .before .before .before .before)))) (Row.get 13 (T15 .locals) (m14 (c .before .before .before
+                      .before .before .before .before .before .before .before .before .before .before .before .before .before .before .before .before)))) (Row.get 11 (T15 .locals) (m14 (c .before .before .before
                       .before .before .before .before .before .before .before .before .before .before .before .before .before .before .before .before .before .before .before .before .before .before .before)
                       (After-main·gave (c .before .before .before .before .before .before .before .before .before .before .before .before .before .before .before .before .before .before .before .before .before
-                      .before .before .before .before)))) (Row.get 14 (T15 .locals) (m14 (c .before .before .before .before .before .before .before .before .before .before .before .before .before .before .before
+                      .before .before .before .before)))) (Row.get 13 (T15 .locals) (m14 (c .before .before .before .before .before .before .before .before .before .before .before .before .before .before .before
                       .before .before .before .before .before .before .before .before .before .before .before) (After-main·gave (c .before .before .before .before .before .before .before .before .before .before
-                      .before .before .before .before .before .before .before .before .before .before .before .before .before .before .before)))) (Row.get 15 (T15 .locals) (m14 (c .before .before .before .before
+                      .before .before .before .before .before .before .before .before .before .before .before .before .before .before .before)))) (Row.get 14 (T15 .locals) (m14 (c .before .before .before .before
                       .before .before .before .before .before .before .before .before .before .before .before .before .before .before .before .before .before .before .before .before .before .before)
                       (After-main·gave (c .before .before .before .before .before .before .before .before .before .before .before .before .before .before .before .before .before .before .before .before .before
-                      .before .before .before .before)))) (Row.get 16 (T15 .locals) (m14 (c .before .before .before .before .before .before .before .before .before .before .before .before .before .before .before
+                      .before .before .before .before)))) (Row.get 15 (T15 .locals) (m14 (c .before .before .before .before .before .before .before .before .before .before .before .before .before .before .before
                       .before .before .before .before .before .before .before .before .before .before .before) (After-main·gave (c .before .before .before .before .before .before .before .before .before .before
-                      .before .before .before .before .before .before .before .before .before .before .before .before .before .before .before)))) (Row.get 3 (T15 .locals) (m74 record {
-                        before = record {
-                          before = c
-                              .before;
-                          store-set = c .store-set;
-                        };
-                        rs2 = record { given = g };
-                      } g') .now) (Row.get 6 (T15 .locals) (m74 record {
-                        before = record { before = c .before; store-set = c .store-set };
-                        rs2 =
-                            record { given = g };
-                      } g') .now) (Row.get 7 (T15 .locals) (m74 record { before = record { before = c .before; store-set = c .store-set }; rs2 = record { given = g } } g') .now) (Row.get 15
-                      (T15 .locals) (m74 record { before = record { before = c .before; store-set = c .store-set }; rs2 = record { given = g } } g')) (Row.get 16 (T15 .locals) (m74 record {
-                        before = record {
-                          before = c .before;
-                          store-set = c .store-set;
-                        };
-                        rs2 = record { given = g };
-                      } g'))},
+                      .before .before .before .before .before .before .before .before .before .before .before .before .before .before .before)))) (Row.get 16 (T15 .locals) (m14 (c .before .before .before .before
+                      .before .before .before .before .before .before .before .before .before .before .before .before .before .before .before .before .before .before .before .before .before .before)
+                      (After-main·gave (c .before .before .before .before .before .before .before .before .before .before .before .before .before .before .before .before .before .before .before .before .before
+                      .before .before .before .before)))) (Row.get 3 (T15 .locals) (m74 record { before = record { before = c .before; store-set = c .store-set }; rs2 = record { given = g } } g') .now) (Row.get 6
+                      (T15 .locals) (m74 record { before = record { before = c .before; store-set = c .store-set }; rs2 = record { given = g } } g') .now) (Row.get 7 (T15 .locals) (m74 record
+                      { before = record { before = c .before; store-set = c .store-set }; rs2 = record { given = g } } g') .now) (Row.get 15 (T15 .locals) (m74 record
+                      { before = record { before = c .before; store-set = c .store-set }; rs2 = record { given = g } } g')) (Row.get 16 (T15 .locals) (m74 record
+                      { before = record { before = c .before; store-set = c .store-set }; rs2 = record { given = g } } g'))},
                 ),
               ),
             ),
@@ -8139,33 +4948,17 @@ module _ (claims· : Claims) where
           λ g. λ g'. (
             Path'.refl,
             (
-              store-set-requires record {
-                before = record { before = record { before = c .before; if1 = c .if1 }; new = record { given = g } };
-                store-set-arg =
-                    record { given = g' };
-              },
-              λ g''. lay12 record {
-                before = record {
-                  before = record { before = record { before = c .before; if1 = c .if1 }; new = record { given = g } };
-                  store-set-arg = record
-                      { given = g' };
-                };
-                store-set = Called.called ps·6 r·6 (claims· .13) T84 (
-                  record { pos = 35; ty = Syntax.tyRef Syntax.erased Syntax.mut Element.behind; ref = λ x. x },
-                  (
-                    Num.vFld 17 (List._∷_
-                        (Syntax.field 2) List.[]) 16 λ x. Plan.struct .as-values x .1 .1 .0,
-                    (record { pos = 21; st = List.[]; d = 0; at = λ x. x }, tt),
-                  ),
-                ) (m65 record {
-                  before = record {
-                    before = c .before;
-                    if1 =
-                        c .if1;
-                  };
-                  new = record { given = g };
-                } g') g'';
-              },
+              store-set-requires record { before = record { before = record { before = c .before; if1 = c .if1 }; new = record { given = g } }; store-set-arg = record { given = g' } },
+              λ g''. lay12
+                  record {
+                    before = record { before = record { before = record { before = c .before; if1 = c .if1 }; new = record { given = g } }; store-set-arg = record { given = g' } };
+                    store-set = Called.called
+                        ps·6 r·6 (claims· .13) T84 (
+                          record { pos = 35; ty = Syntax.tyRef Syntax.erased Syntax.mut Element.behind; ref = λ x. x },
+                          (Num.vFld 17 (List._∷_ (Syntax.field 2) List.[]) 16 λ x. Plan.struct .as-values x .1 .1 .0, (record { pos = 21; st = List.[]; d = 0; at = λ x. x }, tt)),
+                        ) (m65 record
+                        { before = record { before = c .before; if1 = c .if1 }; new = record { given = g } } g') g'';
+                  },
             ),
           ),
         )
@@ -8191,47 +4984,33 @@ module _ (claims· : Claims) where
                       (
                         MutSlice.fix-len (Row.get 3 (T79 .locals) (m61 record {
                           before = record {
-                            before =
-                                record { before = record { before = record { before = c .before; write-pass = c .write-pass }; out = record { given = g } }; slice-known5 = record { given = g' } };
-                            lines3 = record {
-                              given
-                                  = g'';
-                            };
+                            before = record { before = record { before = record { before = c .before; write-pass = c .write-pass }; out = record { given = g } }; slice-known5 = record { given = g' } };
+                            lines3 =
+                                record { given = g'' };
                           };
                           slice-known6 = record { given = g'3 };
                         }) .ptr) (Row.get 3 (T79 .locals) (m61 record {
                           before = record {
-                            before = record {
-                              before = record {
-                                before = record {
-                                  before = c .before;
-                                  write-pass = c .write-pass;
-                                };
-                                out = record { given = g };
-                              };
-                              slice-known5 = record { given = g' };
-                            };
-                            lines3 = record { given = g'' };
+                            before = record { before = record { before = record { before = c .before; write-pass = c .write-pass }; out = record { given = g } }; slice-known5 = record { given = g' } };
+                            lines3 =
+                                record { given = g'' };
                           };
                           slice-known6 = record { given = g'3 };
-                        }) .name)
-                            (Row.get 3 (T79 .locals) (m61 record {
-                              before = record {
-                                before = record {
-                                  before = record { before = record { before = c .before; write-pass = c .write-pass }; out = record { given = g } };
-                                  slice-known5 = record { given = g' };
-                                };
-                                lines3 = record { given = g'' };
-                              };
-                              slice-known6 = record { given = g'3 };
-                            }) .now) (dens (c .before .before .before .before .before .before .before
-                            .before .before .before .before .before .before .before .before .before .before .before .before .before .before .before .κs) (c .before .before .before .before .before .before .before .before
-                            .before .before .before .before .before .before .before .before .before .before .before .before .before .before .args) .1 .1 .0 .now) (same-length record {
+                        }) .name) (Row.get 3 (T79 .locals) (m61 record {
+                          before = record {
+                            before = record { before = record { before = record { before = c .before; write-pass = c .write-pass }; out = record { given = g } }; slice-known5 = record { given = g' } };
+                            lines3 =
+                                record { given = g'' };
+                          };
+                          slice-known6 = record { given = g'3 };
+                        }) .now) (dens (c .before .before .before .before .before .before .before .before .before .before .before .before .before
+                            .before .before .before .before .before .before .before .before .before .κs) (c .before .before .before .before .before .before .before .before .before .before .before .before .before .before
+                            .before .before .before .before .before .before .before .before .args) .1 .1 .0 .now) (same-length record {
                               before = record {
                                 before = record {
                                   before = record { before = record { before = record { before = c .before; write-pass = c .write-pass }; out = record { given = g } }; slice-known5 = record { given = g' } };
-                                  lines3 = record
-                                      { given = g'' };
+                                  lines3 =
+                                      record { given = g'' };
                                 };
                                 slice-known6 = record { given = g'3 };
                               };
@@ -8244,55 +5023,33 @@ module _ (claims· : Claims) where
                             (
                               MutSlice.fix-len (Row.get 6 (T79 .locals) (m61 record {
                                 before = record {
-                                  before
-                                      = record { before = record { before = record { before = c .before; write-pass = c .write-pass }; out = record { given = g } }; slice-known5 = record { given = g' } };
-                                  lines3 = record {
-                                    given = g'';
-                                  };
+                                  before = record { before = record { before = record { before = c .before; write-pass = c .write-pass }; out = record { given = g } }; slice-known5 = record { given = g' } };
+                                  lines3 =
+                                      record { given = g'' };
                                 };
                                 slice-known6 = record { given = g'3 };
                               }) .ptr) (Row.get 6 (T79 .locals) (m61 record {
                                 before = record {
-                                  before = record {
-                                    before = record {
-                                      before = record {
-                                        before = c
-                                            .before;
-                                        write-pass = c .write-pass;
-                                      };
-                                      out = record { given = g };
-                                    };
-                                    slice-known5 = record { given = g' };
-                                  };
-                                  lines3 = record { given = g'' };
+                                  before = record { before = record { before = record { before = c .before; write-pass = c .write-pass }; out = record { given = g } }; slice-known5 = record { given = g' } };
+                                  lines3 =
+                                      record { given = g'' };
                                 };
                                 slice-known6 = record { given = g'3 };
-                              })
-                                  .name) (Row.get 6 (T79 .locals) (m61 record {
+                              }) .name) (Row.get 6 (T79 .locals) (m61 record {
+                                before = record {
+                                  before = record { before = record { before = record { before = c .before; write-pass = c .write-pass }; out = record { given = g } }; slice-known5 = record { given = g' } };
+                                  lines3 =
+                                      record { given = g'' };
+                                };
+                                slice-known6 = record { given = g'3 };
+                              }) .now) (dens (c .before .before .before .before .before .before .before .before .before .before .before .before .before
+                                  .before .before .before .before .before .before .before .before .before .κs) (c .before .before .before .before .before .before .before .before .before .before .before .before .before .before
+                                  .before .before .before .before .before .before .before .before .args) .1 .1 .1 .1 .1 .0 .now) (same-length-2 record {
                                     before = record {
                                       before = record {
-                                        before = record {
-                                          before = record { before = c .before; write-pass = c .write-pass };
-                                          out = record {
-                                            given =
-                                                g;
-                                          };
-                                        };
-                                        slice-known5 = record { given = g' };
-                                      };
-                                      lines3 = record { given = g'' };
-                                    };
-                                    slice-known6 = record { given = g'3 };
-                                  }) .now) (dens (c .before .before .before .before .before .before
-                                  .before .before .before .before .before .before .before .before .before .before .before .before .before .before .before .before .κs) (c .before .before .before .before .before .before .before
-                                  .before .before .before .before .before .before .before .before .before .before .before .before .before .before .before .args) .1 .1 .1 .1 .1 .0 .now) (same-length-2 record {
-                                    before = record {
-                                      before = record {
-                                        before = record {
-                                          before = record { before = record { before = c .before; write-pass = c .write-pass }; out = record { given = g } };
-                                          slice-known5 = record { given = g' };
-                                        };
-                                        lines3 = record { given = g'' };
+                                        before = record { before = record { before = record { before = c .before; write-pass = c .write-pass }; out = record { given = g } }; slice-known5 = record { given = g' } };
+                                        lines3 =
+                                            record { given = g'' };
                                       };
                                       slice-known6 = record { given = g'3 };
                                     };
@@ -8302,59 +5059,35 @@ module _ (claims· : Claims) where
                                 MutSlice.fix-len (Row.get 7 (T79 .locals) (m61 record {
                                   before = record {
                                     before = record { before = record { before = record { before = c .before; write-pass = c .write-pass }; out = record { given = g } }; slice-known5 = record { given = g' } };
-                                    lines3 = record
-                                        { given = g'' };
+                                    lines3 =
+                                        record { given = g'' };
                                   };
                                   slice-known6 = record { given = g'3 };
                                 }) .ptr) (Row.get 7 (T79 .locals) (m61 record {
                                   before = record {
-                                    before = record {
-                                      before = record {
-                                        before = record {
-                                          before = c
-                                              .before;
-                                          write-pass = c .write-pass;
-                                        };
-                                        out = record { given = g };
-                                      };
-                                      slice-known5 = record { given = g' };
-                                    };
-                                    lines3 = record { given = g'' };
+                                    before = record { before = record { before = record { before = c .before; write-pass = c .write-pass }; out = record { given = g } }; slice-known5 = record { given = g' } };
+                                    lines3 =
+                                        record { given = g'' };
                                   };
                                   slice-known6 = record { given = g'3 };
-                                })
-                                    .name) (Row.get 7 (T79 .locals) (m61 record {
+                                }) .name) (Row.get 7 (T79 .locals) (m61 record {
+                                  before = record {
+                                    before = record { before = record { before = record { before = c .before; write-pass = c .write-pass }; out = record { given = g } }; slice-known5 = record { given = g' } };
+                                    lines3 =
+                                        record { given = g'' };
+                                  };
+                                  slice-known6 = record { given = g'3 };
+                                }) .now) (dens (c .before .before .before .before .before .before .before .before .before .before .before .before .before
+                                    .before .before .before .before .before .before .before .before .before .κs) (c .before .before .before .before .before .before .before .before .before .before .before .before .before .before
+                                    .before .before .before .before .before .before .before .before .args) .1 .1 .1 .1 .1 .1 .0 .now) (same-length-3 record {
                                       before = record {
                                         before = record {
-                                          before = record {
-                                            before = record { before = c .before; write-pass = c .write-pass };
-                                            out = record {
-                                              given =
-                                                  g;
-                                            };
-                                          };
-                                          slice-known5 = record { given = g' };
+                                          before = record { before = record { before = record { before = c .before; write-pass = c .write-pass }; out = record { given = g } }; slice-known5 = record { given = g' } };
+                                          lines3 =
+                                              record { given = g'' };
                                         };
-                                        lines3 = record { given = g'' };
+                                        slice-known6 = record { given = g'3 };
                                       };
-                                      slice-known6 = record { given = g'3 };
-                                    }) .now) (dens (c .before .before .before .before .before .before
-                                    .before .before .before .before .before .before .before .before .before .before .before .before .before .before .before .before .κs) (c .before .before .before .before .before .before .before
-                                    .before .before .before .before .before .before .before .before .before .before .before .before .before .before .before .args) .1 .1 .1 .1 .1 .1 .0 .now) (same-length-3 record {
-                                      before =
-                                          record {
-                                            before = record {
-                                              before = record {
-                                                before = record { before = record { before = c .before; write-pass = c .write-pass }; out = record { given = g } };
-                                                slice-known5 = record {
-                                                  given
-                                                      = g';
-                                                };
-                                              };
-                                              lines3 = record { given = g'' };
-                                            };
-                                            slice-known6 = record { given = g'3 };
-                                          };
                                       if1 = record { taken = taken };
                                     }),
                                 (tt, tt),
@@ -8368,11 +5101,9 @@ module _ (claims· : Claims) where
                   returns record {
                     before = record {
                       before = record {
-                        before = record {
-                          before = record { before = record { before = c .before; write-pass = c .write-pass }; out = record { given = g } };
-                          slice-known5 = record { given = g' };
-                        };
-                        lines3 = record { given = g'' };
+                        before = record { before = record { before = record { before = c .before; write-pass = c .write-pass }; out = record { given = g } }; slice-known5 = record { given = g' } };
+                        lines3 =
+                            record { given = g'' };
                       };
                       slice-known6 = record { given = g'3 };
                     };
@@ -8382,12 +5113,9 @@ module _ (claims· : Claims) where
                 λ left. lay11 record {
                   before = record {
                     before = record {
-                      before =
-                          record { before = record { before = record { before = c .before; write-pass = c .write-pass }; out = record { given = g } }; slice-known5 = record { given = g' } };
-                      lines3 = record {
-                        given =
-                            g'';
-                      };
+                      before = record { before = record { before = record { before = c .before; write-pass = c .write-pass }; out = record { given = g } }; slice-known5 = record { given = g' } };
+                      lines3 =
+                          record { given = g'' };
                     };
                     slice-known6 = record { given = g'3 };
                   };
@@ -8411,35 +5139,20 @@ module _ (claims· : Claims) where
               Path'.refl,
               (
                 write-pass-requires record {
-                  before = record {
-                    before = record {
-                      before = record {
-                        before = c .before;
-                        load-set = c
-                            .load-set;
-                      };
-                      rs = record { given = g };
-                    };
-                    write-pass-arg = record { given = g' };
-                  };
-                  write-pass-arg2 = record { given = g'' };
+                  before = record { before = record { before = record { before = c .before; load-set = c .load-set }; rs = record { given = g } }; write-pass-arg = record { given = g' } };
+                  write-pass-arg2 =
+                      record { given = g'' };
                 },
                 λ g'3. lay10 record {
                   before = record {
-                    before = record {
-                      before = record { before = record { before = c .before; load-set = c .load-set }; rs = record { given = g } };
-                      write-pass-arg = record { given = g' };
-                    };
-                    write-pass-arg2 = record {
-                      given =
-                          g'';
-                    };
+                    before = record { before = record { before = record { before = c .before; load-set = c .load-set }; rs = record { given = g } }; write-pass-arg = record { given = g' } };
+                    write-pass-arg2 =
+                        record { given = g'' };
                   };
                   write-pass = Called.called ps·5 r·5 (claims· .11) T52 (
                     record { pos = 1; ty = Syntax.tyRef (Syntax.named 0) Syntax.imm (Syntax.tyInt Syntax.w16); ref = λ x. x },
                     (
-                      Num.vAt 2 λ x.
-                          x,
+                      Num.vAt 2 λ x. x,
                       (
                         record { pos = 31; ty = Syntax.tyRef Syntax.erased Syntax.mut (Syntax.tyInt Syntax.w8); ref = λ x. x },
                         (
@@ -8450,30 +5163,15 @@ module _ (claims· : Claims) where
                               record { pos = 33; ty = Syntax.tyRef Syntax.erased Syntax.mut (Syntax.tyInt Syntax.w16); ref = λ x. x },
                               (
                                 record { pos = 18; st = List.[]; d = 0; at = λ x. x },
-                                (
-                                  Num.vAt 11 λ x. x,
-                                  (
-                                    record
-                                        { pos = 17; st = List.[]; d = 0; at = λ x. x },
-                                    (Num.vAt 9 λ x. x, (Num.vAt 13 λ x. x, (Num.vAt 14 λ x. x, tt))),
-                                  ),
-                                ),
+                                (Num.vAt 11 λ x. x, (record { pos = 17; st = List.[]; d = 0; at = λ x. x }, (Num.vAt 9 λ x. x, (Num.vAt 13 λ x. x, (Num.vAt 14 λ x. x, tt))))),
                               ),
                             ),
                           ),
                         ),
                       ),
                     ),
-                  ) (m39 record {
-                    before = record {
-                      before = record {
-                        before = c .before;
-                        load-set = c .load-set;
-                      };
-                      rs = record { given = g };
-                    };
-                    write-pass-arg = record { given = g' };
-                  } g'') g'3;
+                  ) (m39 record
+                      { before = record { before = record { before = c .before; load-set = c .load-set }; rs = record { given = g } }; write-pass-arg = record { given = g' } } g'') g'3;
                 },
               ),
             ),
@@ -8490,42 +5188,17 @@ module _ (claims· : Claims) where
             Path'.refl,
             (
               load-set-requires record {
-                before = record {
-                  before = record {
-                    before = record { before = c .before; set-guards2 = c .set-guards2 };
-                    lines2 = record { given = g };
-                  };
-                  slice-known4 = record { given = g' };
-                };
+                before = record { before = record { before = record { before = c .before; set-guards2 = c .set-guards2 }; lines2 = record { given = g } }; slice-known4 = record { given = g' } };
                 load-set-arg = record { given = g'' };
               },
               λ g'3. lay9 record {
                 before = record {
-                  before = record {
-                    before = record {
-                      before = record { before = c .before; set-guards2 = c .set-guards2 };
-                      lines2 = record { given = g };
-                    };
-                    slice-known4 = record { given = g' };
-                  };
+                  before = record { before = record { before = record { before = c .before; set-guards2 = c .set-guards2 }; lines2 = record { given = g } }; slice-known4 = record { given = g' } };
                   load-set-arg = record { given = g'' };
                 };
-                load-set = Called.called ps·4 r·4 (claims· .9) T42 (
-                  record { pos = 29; ty = Syntax.tyRef Syntax.erased Syntax.mut Element.behind; ref = λ x. x },
-                  (
-                    Num.vFld 17 (List._∷_ (Syntax.field 2)
-                        List.[]) 16 λ x. Plan.struct .as-values x .1 .1 .0,
-                    tt,
-                  ),
-                ) (m33 record {
-                  before = record {
-                    before = record { before = c .before; set-guards2 = c .set-guards2 };
-                    lines2 = record {
-                      given = g;
-                    };
-                  };
-                  slice-known4 = record { given = g' };
-                } g'') g'3;
+                load-set = Called.called ps·4 r·4 (claims· .9) T42
+                    (record { pos = 29; ty = Syntax.tyRef Syntax.erased Syntax.mut Element.behind; ref = λ x. x }, (Num.vFld 17 (List._∷_ (Syntax.field 2) List.[]) 16 λ x. Plan.struct .as-values x .1 .1 .0, tt))
+                    (m33 record { before = record { before = record { before = c .before; set-guards2 = c .set-guards2 }; lines2 = record { given = g } }; slice-known4 = record { given = g' } } g'') g'3;
               },
             ),
           ),
@@ -8540,47 +5213,19 @@ module _ (claims· : Claims) where
             Path'.refl,
             (
               set-guards-requires-2 record {
-                before = record {
-                  before = record {
-                    before = record {
-                      before = c .before;
-                      set-guards = c .set-guards;
-                    };
-                    lines = record { given = g };
-                  };
-                  slice-known3 = record { given = g' };
-                };
+                before = record { before = record { before = record { before = c .before; set-guards = c .set-guards }; lines = record { given = g } }; slice-known3 = record { given = g' } };
                 set-guards-arg2 = record { given = g'' };
               },
               λ g'3. lay8 record {
                 before = record {
-                  before = record {
-                    before =
-                        record { before = record { before = c .before; set-guards = c .set-guards }; lines = record { given = g } };
-                    slice-known3 = record { given = g' };
-                  };
+                  before = record { before = record { before = record { before = c .before; set-guards = c .set-guards }; lines = record { given = g } }; slice-known3 = record { given = g' } };
                   set-guards-arg2 = record { given = g'' };
                 };
                 set-guards2 = Called.called ps·3 r·3 (claims· .7) T33 (
                   record { pos = 27; ty = Syntax.tyRef Syntax.erased Syntax.mut (Syntax.tyInt Syntax.w16); ref = λ x. x },
-                  (
-                    Num.vAt 11 λ x. x,
-                    (
-                      Num.vFld 17 (List._∷_ (Syntax.field 1) List.[]) 8 λ x. Plan.struct .as-values x .1 .0,
-                      tt,
-                    ),
-                  ),
-                ) (m27 record {
-                  before = record {
-                    before = record {
-                      before = c .before;
-                      set-guards = c
-                          .set-guards;
-                    };
-                    lines = record { given = g };
-                  };
-                  slice-known3 = record { given = g' };
-                } g'') g'3;
+                  (Num.vAt 11 λ x. x, (Num.vFld 17 (List._∷_ (Syntax.field 1) List.[]) 8 λ x. Plan.struct .as-values x .1 .0, tt)),
+                ) (m27 record
+                    { before = record { before = record { before = c .before; set-guards = c .set-guards }; lines = record { given = g } }; slice-known3 = record { given = g' } } g'') g'3;
               },
             ),
           ),
@@ -8593,22 +5238,10 @@ module _ (claims· : Claims) where
           (
             set-guards-requires record { before = record { before = c .before; plan-at = c .plan-at }; set-guards-arg = record { given = g } },
             λ g'. lay7 record {
-              before
-                  = record { before = record { before = c .before; plan-at = c .plan-at }; set-guards-arg = record { given = g } };
+              before = record { before = record { before = c .before; plan-at = c .plan-at }; set-guards-arg = record { given = g } };
               set-guards = Called.called ps·3 r·3 (claims· .7) T24 (
-                record {
-                  pos = 25;
-                  ty
-                      = Syntax.tyRef Syntax.erased Syntax.mut (Syntax.tyInt Syntax.w16);
-                  ref = λ x. x;
-                },
-                (
-                  Num.vAt 11 λ x. x,
-                  (
-                    Num.vFld 17 (List._∷_ (Syntax.field 0) List.[]) 0 λ x. Plan.struct .as-values x .0,
-                    tt,
-                  ),
-                ),
+                record { pos = 25; ty = Syntax.tyRef Syntax.erased Syntax.mut (Syntax.tyInt Syntax.w16); ref = λ x. x },
+                (Num.vAt 11 λ x. x, (Num.vFld 17 (List._∷_ (Syntax.field 0) List.[]) 0 λ x. Plan.struct .as-values x .0, tt)),
               ) (m21 record { before = c .before; plan-at = c .plan-at } g) g';
             },
           ),
@@ -8618,11 +5251,8 @@ module _ (claims· : Claims) where
             .before .loop .at) (c .before .loop .i)) (m17 (c .before))
         lay5 = λ c. (
           plan-at-requires record { before = c .before; loop-test = c .loop-test },
-          λ g. lay6 record {
-            before = record { before = c .before; loop-test = c .loop-test };
-            plan-at =
-                Called.called ps·2 r·2 (claims· .5) T18 (Num.vAt 16 λ x. x, (Bool.bAt 10 λ x. x, tt)) (m17 (c .before)) g;
-          },
+          λ g. lay6 record
+              { before = record { before = c .before; loop-test = c .loop-test }; plan-at = Called.called ps·2 r·2 (claims· .5) T18 (Num.vAt 16 λ x. x, (Bool.bAt 10 λ x. x, tt)) (m17 (c .before)) g },
         )
 
         lay4 : (c : After-loop) → at3 (c .before .before .before .before .before .before .before .blocks) (W4 (c .before .before) (c .before .loop .out) (c .before .loop .lines) (c .before .loop .rs)
@@ -8640,46 +5270,27 @@ module _ (claims· : Claims) where
             (
               Row.get 3 (T15 .locals) (m14 (c .before) (After-main·gave c)) .now,
               Row.get 6 (T15 .locals) (m14 (c .before) (After-main·gave c)) .now,
-              Row.get 7 (T15 .locals) (m14 (c
-                  .before) (After-main·gave c)) .now,
+              Row.get 7 (T15 .locals) (m14 (c .before)
+                  (After-main·gave c)) .now,
               Row.get 15 (T15 .locals) (m14 (c .before) (After-main·gave c)),
               Row.get 16 (T15 .locals) (m14 (c .before) (After-main·gave c)),
             ),
-            Path'.refl {a = m14 (c
-                .before) (After-main·gave c)},
+            Path'.refl {a = m14 (c .before)
+                (After-main·gave c)},
             loop-holds record { before = c .before; main = c .main },
           ),
           λ vs inv. (
             tt,
             (
               λ taken. lay3 record {
-                before = record {
-                  before = record {
-                    before = c .before;
-                    main = c .main;
-                  };
-                  loop = record { out = vs .0; lines = vs .1; rs = vs .2; at = vs .3; i = vs .4; inv = inv };
-                };
-                loop-test = record {
-                  taken = Tests.ltb-true (Row.get 16 (T15 .locals) (m15
-                      record { before = c .before; main = c .main } (vs .0) (vs .1) (vs .2) (vs .3) (vs .4))) 6 taken;
-                };
+                before = record { before = record { before = c .before; main = c .main }; loop = record { out = vs .0; lines = vs .1; rs = vs .2; at = vs .3; i = vs .4; inv = inv } };
+                loop-test = record
+                    { taken = Tests.ltb-true (Row.get 16 (T15 .locals) (m15 record { before = c .before; main = c .main } (vs .0) (vs .1) (vs .2) (vs .3) (vs .4))) 6 taken };
               },
               λ left. lay4 record {
-                before = record {
-                  before = record {
-                    before = c .before;
-                    main = c
-                        .main;
-                  };
-                  loop = record { out = vs .0; lines = vs .1; rs = vs .2; at = vs .3; i = vs .4; inv = inv };
-                };
-                loop-test = record {
-                  left = Tests.ltb-false (Row.get 16 (T15 .locals) (m15 record {
-                    before = c .before;
-                    main = c .main;
-                  } (vs .0) (vs .1) (vs .2) (vs .3) (vs .4))) 6 left;
-                };
+                before = record { before = record { before = c .before; main = c .main }; loop = record { out = vs .0; lines = vs .1; rs = vs .2; at = vs .3; i = vs .4; inv = inv } };
+                loop-test = record
+                    { left = Tests.ltb-false (Row.get 16 (T15 .locals) (m15 record { before = c .before; main = c .main } (vs .0) (vs .1) (vs .2) (vs .3) (vs .4))) 6 left };
               },
             ),
           ),
@@ -8689,36 +5300,22 @@ module _ (claims· : Claims) where
             .before .blocks)) (m7 (c .before) (After-width·gave c))
         lay1 = λ c. (
           main-requires record { before = c .before; width = c .width },
-          λ g. lay2 record {
-            before = record { before = c .before; width = c .width };
-            main = Called.called ps·1 r·1 (claims·
-                .3) T8 (Num.vAt 9 λ x. x, (Num.vLit 0, tt)) (m7 (c .before) (After-width·gave c)) g;
-          },
+          λ g. lay2 record
+              { before = record { before = c .before; width = c .width }; main = Called.called ps·1 r·1 (claims· .3) T8 (Num.vAt 9 λ x. x, (Num.vLit 0, tt)) (m7 (c .before) (After-width·gave c)) g },
         )
 
         pub laid : (c : Start) → at111 (c .blocks) (W0 (c .κs) (c .args) (c .blocks)) (m0 (c .κs) (c .args) (c .blocks))
         laid = λ c. λ g. λ g'. λ g''. (
-          width-requires record {
-            before = record { before = record { before = c; shared-slice-known = record { given = g } }; slice-known = record { given = g' } };
-            slice-known2 = record { given = g'' };
-          },
-          λ g'3. lay1 record {
-            before = record {
-              before = record {
-                before = record { before = c; shared-slice-known = record { given = g } };
-                slice-known =
-                    record { given = g' };
-              };
-              slice-known2 = record { given = g'' };
-            };
-            width = Called.called ps·0 r·0 (claims· .1) T7 (Bool.bAt 10 λ x. x, tt) (m6 record {
-              before = record {
-                before = c;
-                shared-slice-known = record { given = g };
-              };
-              slice-known = record { given = g' };
-            } g'') g'3;
-          },
+          width-requires record
+              { before = record { before = record { before = c; shared-slice-known = record { given = g } }; slice-known = record { given = g' } }; slice-known2 = record { given = g'' } },
+          λ g'3. lay1
+              record {
+                before = record
+                    { before = record { before = record { before = c; shared-slice-known = record { given = g } }; slice-known = record { given = g' } }; slice-known2 = record { given = g'' } };
+                width =
+                    Called.called ps·0 r·0 (claims· .1) T7 (Bool.bAt 10 λ x. x, tt) (m6 record { before = record { before = c; shared-slice-known = record { given = g } }; slice-known = record { given = g' } }
+                    g'') g'3;
+              },
         )
 
         module _ (κs : Lifetimes.Lfts 4) (qs : Lifetimes.Shares 4) where
@@ -8733,8 +5330,7 @@ module _ (claims· : Claims) where
               store = a .1 .1 .1 .0;
               from = a .1 .1 .1 .1 .0;
               lines = a .1 .1 .1 .1 .1 .0;
-              rs
-                  = a .1 .1 .1 .1 .1 .1 .0;
+              rs = a .1 .1 .1 .1 .1 .1 .0;
               form = a .1 .1 .1 .1 .1 .1 .1 .0;
             };
             blocks = bs;
@@ -8744,7 +5340,7 @@ module _ (claims· : Claims) where
           }
 
         module _ {M : Type 1} (𝓤 : URA.URA M) (H : Wp.Heap 𝓤) (A : Atoms.Atoms 𝓤) (W : Kit.Given 𝓤 H A) (𝓣 : Wp.Tables 𝓤 H) (known0 : Plain.Known 𝓤 H A W 𝓣 0 ps·0 r·0 (claims· .0) (claims· .1)
-            "block::width") (known1 : Plain.Known 𝓤 H A W 𝓣 0 ps·1 r·1 (claims· .2) (claims· .3) "quantiser::Quantiser::main") (known2 : Plain.Known 𝓤 H A W 𝓣 0 ps·2 r·2 (claims· .4) (claims· .5)
+            "map::width") (known1 : Plain.Known 𝓤 H A W 𝓣 0 ps·1 r·1 (claims· .2) (claims· .3) "quantiser::Quantiser::main") (known2 : Plain.Known 𝓤 H A W 𝓣 0 ps·2 r·2 (claims· .4) (claims· .5)
             "pass::plan_at") (known3 : Plain.Known 𝓤 H A W 𝓣 1 ps·3 r·3 (claims· .6) (claims· .7) "lines::set_guards") (known4 : Plain.Known 𝓤 H A W 𝓣 1 ps·4 r·4 (claims· .8) (claims· .9)
             "block::records::load_set") (known5 : Plain.Known 𝓤 H A W 𝓣 3 ps·5 r·5 (claims· .10) (claims· .11) "writing::write_pass") (known6 : Plain.Known 𝓤 H A W 𝓣 1 ps·6 r·6 (claims· .12) (claims· .13)
             "block::records::store_set") where

@@ -72,24 +72,43 @@ use prog.Wp
 use types.Kit
 use types.Run
 
+abbrev pub y0 : Syntax.Ty
+y0 = Syntax.tyStruct (List._∷_ 38 (List._∷_ 91 (List._∷_ 93 List.[]))) (Syntax.tcons (Syntax.tyRef Syntax.erased Syntax.mut (Syntax.tyInt Syntax.w16)) (Syntax.tcons (Syntax.tyInt Syntax.w64)
+    Syntax.tnil))
+
+abbrev pub y1 : Syntax.Ty
+y1 = Syntax.tyStruct (List._∷_ 38 (List._∷_ 91 (List._∷_ 93 List.[]))) (Syntax.tcons (Syntax.tyRef Syntax.erased Syntax.mut (Syntax.tyInt Syntax.w8)) (Syntax.tcons (Syntax.tyInt Syntax.w64)
+    Syntax.tnil))
+
+abbrev pub y2 : Syntax.Ty
+y2 = Syntax.tyStruct (List._∷_ 38 (List._∷_ 91 (List._∷_ 93 List.[]))) (Syntax.tcons (Syntax.tyRef Syntax.erased Syntax.mut Element.behind) (Syntax.tcons (Syntax.tyInt Syntax.w64) Syntax.tnil))
+
+abbrev pub y3 : Syntax.Ty
+y3 = Syntax.tyStruct (List._∷_ 98 (List._∷_ 105 (List._∷_ 116 (List._∷_ 115 (List._∷_ 58 (List._∷_ 58 (List._∷_ 66 (List._∷_ 105 (List._∷_ 116 (List._∷_ 80 (List._∷_ 111 (List._∷_ 115 (List._∷_ 105
+    (List._∷_ 116 (List._∷_ 105 (List._∷_ 111 (List._∷_ 110 List.[]))))))))))))))))) (Syntax.tcons (Syntax.tyInt Syntax.w64) Syntax.tnil)
+
+abbrev pub y4 : Syntax.Ty
+y4 = Syntax.tyStruct (List._∷_ 98 (List._∷_ 108 (List._∷_ 111 (List._∷_ 99 (List._∷_ 107 (List._∷_ 58 (List._∷_ 58 (List._∷_ 70 (List._∷_ 111 (List._∷_ 114 (List._∷_ 109 List.[])))))))))))
+    (Syntax.tcons (Syntax.tyInt Syntax.w32) (Syntax.tcons Syntax.tyBool Syntax.tnil))
+
 abbrev pub ps : List.List (Kinds.PK 4)
 ps = List._∷_ (ShrSlice.pShrS (Referent.rtF (Referent.fInt Syntax.w16)) 0 tt) (List._∷_ (MutSlice.pMutS (Referent.rtF (Referent.fInt Syntax.w8)) 1 tt) (List._∷_ (MutSlice.pMutS (Referent.rtF
     (Referent.fInt Syntax.w16)) 2 tt) (List._∷_ (MutSlice.pMutS (Element.type) 3 tt) (List._∷_ (Value.pVal record {
       ty = Declared'.row Form.the-type;
       one = Path'.refl;
-      val = Laws'6.val Form.the-type
-          Laws'.the-laws;
+      val = Laws'6.val Form.the-type Laws'.the-laws;
       tells = Laws'6.tells Form.the-type Laws'.the-laws;
-      still = Laws'6.still Form.the-type Laws'.the-copy Exit.yes;
+      still = Laws'6.still Form.the-type
+          Laws'.the-copy Exit.yes;
       row = Rows.whole (Declared'.row Form.the-type);
       rd = λ x. x;
       mk = λ x. x;
     } λ M 𝓤 H A W. record {
       copies = Laws'6.copy Form.the-type Laws'.the-copy 𝓤 H A W;
       lawful = Laws'6.lawful Form.the-type Laws'.the-laws 𝓤 H A W;
-      makes = Laws'6.makes Form.the-type Laws'.the-plain 𝓤 H
-          A;
-      in-mem = Local.mem-whole 𝓤 H A W (Declared'.row Form.the-type);
+      makes = Laws'6.makes Form.the-type Laws'.the-plain 𝓤 H A;
+      in-mem =
+          Local.mem-whole 𝓤 H A W (Declared'.row Form.the-type);
       of-mem = Local.whole-mem 𝓤 H A W (Declared'.row Form.the-type);
     }) (List._∷_ (Num.pNum Syntax.w64) List.[])))))
 
@@ -99,57 +118,44 @@ r = Value.rVal record {
   one = Path'.refl;
   val = Laws'5.val Written.the-type Laws''.the-laws;
   tells = Laws'5.tells Written.the-type Laws''.the-laws;
-  still =
-      Laws'5.still Written.the-type Laws''.the-copy Exit.yes;
+  still = Laws'5.still Written.the-type
+      Laws''.the-copy Exit.yes;
   row = Rows.whole (Declared.row Written.the-type);
   rd = λ x. x;
   mk = λ x. x;
 } λ M 𝓤 H A W. record {
-  copies = Laws'5.copy Written.the-type
-      Laws''.the-copy 𝓤 H A W;
+  copies = Laws'5.copy Written.the-type Laws''.the-copy 𝓤 H A W;
   lawful = Laws'5.lawful Written.the-type Laws''.the-laws 𝓤 H A W tt;
   makes = Laws'5.makes Written.the-type Laws''.the-plain 𝓤 H A;
-  in-mem = Local.mem-whole 𝓤 H A W
-      (Declared.row Written.the-type);
+  in-mem = Local.mem-whole 𝓤 H A W (Declared.row Written.the-type);
   of-mem = Local.whole-mem 𝓤 H A W (Declared.row Written.the-type);
 }
 
 abbrev pub xs : List.List Syntax.Ty
 xs = List._∷_ (Syntax.tyEnum (List._∷_ 119 (List._∷_ 114 (List._∷_ 105 (List._∷_ 116 (List._∷_ 105 (List._∷_ 110 (List._∷_ 103 (List._∷_ 58 (List._∷_ 58 (List._∷_ 80 (List._∷_ 117 (List._∷_ 116
-    List.[])))))))))))) (Syntax.ttcons (Syntax.tcons (Syntax.tyStruct (List._∷_ 98 (List._∷_ 105 (List._∷_ 116 (List._∷_ 115 (List._∷_ 58 (List._∷_ 58 (List._∷_ 66 (List._∷_ 105 (List._∷_ 116 (List._∷_ 80
-    (List._∷_ 111 (List._∷_ 115 (List._∷_ 105 (List._∷_ 116 (List._∷_ 105 (List._∷_ 111 (List._∷_ 110 List.[]))))))))))))))))) (Syntax.tcons (Syntax.tyInt Syntax.w64) Syntax.tnil)) Syntax.tnil)
-    (Syntax.ttcons (Syntax.tcons (Syntax.tyInt Syntax.w64) Syntax.tnil) Syntax.ttnil))) (List._∷_ (Syntax.tyInt Syntax.w64) (List._∷_ (Syntax.tyStruct (List._∷_ 98 (List._∷_ 105 (List._∷_ 116 (List._∷_
-    115 (List._∷_ 58 (List._∷_ 58 (List._∷_ 66 (List._∷_ 105 (List._∷_ 116 (List._∷_ 80 (List._∷_ 111 (List._∷_ 115 (List._∷_ 105 (List._∷_ 116 (List._∷_ 105 (List._∷_ 111 (List._∷_ 110
-    List.[]))))))))))))))))) (Syntax.tcons (Syntax.tyInt Syntax.w64) Syntax.tnil)) (List._∷_ (Syntax.tyInt Syntax.w64) (List._∷_ (Syntax.tyRef Syntax.erased Syntax.mut (Syntax.tyInt Syntax.w8)) (List._∷_
-    (Syntax.tyStruct (List._∷_ 38 (List._∷_ 91 (List._∷_ 93 List.[]))) (Syntax.tcons (Syntax.tyRef Syntax.erased Syntax.mut (Syntax.tyInt Syntax.w8)) (Syntax.tcons (Syntax.tyInt Syntax.w64) Syntax.tnil)))
-    (List._∷_ (Syntax.tyRef Syntax.erased Syntax.mut (Syntax.tyInt Syntax.w16)) (List._∷_ (Syntax.tyStruct (List._∷_ 38 (List._∷_ 91 (List._∷_ 93 List.[]))) (Syntax.tcons (Syntax.tyRef Syntax.erased
-    Syntax.mut (Syntax.tyInt Syntax.w16)) (Syntax.tcons (Syntax.tyInt Syntax.w64) Syntax.tnil))) (List._∷_ (Syntax.tyRef Syntax.erased Syntax.mut Element.behind) (List._∷_ (Syntax.tyStruct (List._∷_ 38
-    (List._∷_ 91 (List._∷_ 93 List.[]))) (Syntax.tcons (Syntax.tyRef Syntax.erased Syntax.mut Element.behind) (Syntax.tcons (Syntax.tyInt Syntax.w64) Syntax.tnil))) (List._∷_ (Syntax.tyEnum (List._∷_ 98
-    (List._∷_ 108 (List._∷_ 111 (List._∷_ 99 (List._∷_ 107 (List._∷_ 58 (List._∷_ 58 (List._∷_ 87 (List._∷_ 114 (List._∷_ 105 (List._∷_ 116 (List._∷_ 116 (List._∷_ 101 (List._∷_ 110 List.[]))))))))))))))
-    (Syntax.ttcons (Syntax.tcons (Syntax.tyInt Syntax.w64) Syntax.tnil) (Syntax.ttcons (Syntax.tcons (Syntax.tyEnum (List._∷_ 115 (List._∷_ 116 (List._∷_ 114 (List._∷_ 101 (List._∷_ 97 (List._∷_ 109
-    (List._∷_ 58 (List._∷_ 58 (List._∷_ 82 (List._∷_ 101 (List._∷_ 102 (List._∷_ 117 (List._∷_ 115 (List._∷_ 97 (List._∷_ 108 List.[]))))))))))))))) (Syntax.ttcons Syntax.tnil (Syntax.ttcons Syntax.tnil
-    (Syntax.ttcons Syntax.tnil (Syntax.ttcons (Syntax.tcons (Syntax.tyInt Syntax.w64) Syntax.tnil) (Syntax.ttcons Syntax.tnil (Syntax.ttcons Syntax.tnil (Syntax.ttcons Syntax.tnil (Syntax.ttcons
-    Syntax.tnil (Syntax.ttcons Syntax.tnil (Syntax.ttcons Syntax.tnil (Syntax.ttcons (Syntax.tcons (Syntax.tyInt Syntax.w64) Syntax.tnil) (Syntax.ttcons (Syntax.tcons (Syntax.tyInt Syntax.w64)
-    Syntax.tnil) (Syntax.ttcons Syntax.tnil (Syntax.ttcons (Syntax.tcons (Syntax.tyInt Syntax.w64) (Syntax.tcons (Syntax.tyInt Syntax.w64) Syntax.tnil)) (Syntax.ttcons (Syntax.tcons (Syntax.tyInt
-    Syntax.w64) Syntax.tnil) Syntax.ttnil)))))))))))))))) Syntax.tnil) Syntax.ttnil))) (List._∷_ (Syntax.tyEnum (List._∷_ 115 (List._∷_ 116 (List._∷_ 114 (List._∷_ 101 (List._∷_ 97 (List._∷_ 109 (List._∷_
-    58 (List._∷_ 58 (List._∷_ 82 (List._∷_ 101 (List._∷_ 102 (List._∷_ 117 (List._∷_ 115 (List._∷_ 97 (List._∷_ 108 List.[]))))))))))))))) (Syntax.ttcons Syntax.tnil (Syntax.ttcons Syntax.tnil
-    (Syntax.ttcons Syntax.tnil (Syntax.ttcons (Syntax.tcons (Syntax.tyInt Syntax.w64) Syntax.tnil) (Syntax.ttcons Syntax.tnil (Syntax.ttcons Syntax.tnil (Syntax.ttcons Syntax.tnil (Syntax.ttcons
-    Syntax.tnil (Syntax.ttcons Syntax.tnil (Syntax.ttcons Syntax.tnil (Syntax.ttcons (Syntax.tcons (Syntax.tyInt Syntax.w64) Syntax.tnil) (Syntax.ttcons (Syntax.tcons (Syntax.tyInt Syntax.w64)
-    Syntax.tnil) (Syntax.ttcons Syntax.tnil (Syntax.ttcons (Syntax.tcons (Syntax.tyInt Syntax.w64) (Syntax.tcons (Syntax.tyInt Syntax.w64) Syntax.tnil)) (Syntax.ttcons (Syntax.tcons (Syntax.tyInt
-    Syntax.w64) Syntax.tnil) Syntax.ttnil)))))))))))))))) (List._∷_ Syntax.tyBool (List._∷_ (Syntax.tyInt Syntax.w64) (List._∷_ (Syntax.tyEnum (List._∷_ 115 (List._∷_ 116 (List._∷_ 114 (List._∷_ 101
-    (List._∷_ 97 (List._∷_ 109 (List._∷_ 58 (List._∷_ 58 (List._∷_ 82 (List._∷_ 101 (List._∷_ 102 (List._∷_ 117 (List._∷_ 115 (List._∷_ 97 (List._∷_ 108 List.[]))))))))))))))) (Syntax.ttcons Syntax.tnil
-    (Syntax.ttcons Syntax.tnil (Syntax.ttcons Syntax.tnil (Syntax.ttcons (Syntax.tcons (Syntax.tyInt Syntax.w64) Syntax.tnil) (Syntax.ttcons Syntax.tnil (Syntax.ttcons Syntax.tnil (Syntax.ttcons
-    Syntax.tnil (Syntax.ttcons Syntax.tnil (Syntax.ttcons Syntax.tnil (Syntax.ttcons Syntax.tnil (Syntax.ttcons (Syntax.tcons (Syntax.tyInt Syntax.w64) Syntax.tnil) (Syntax.ttcons (Syntax.tcons
-    (Syntax.tyInt Syntax.w64) Syntax.tnil) (Syntax.ttcons Syntax.tnil (Syntax.ttcons (Syntax.tcons (Syntax.tyInt Syntax.w64) (Syntax.tcons (Syntax.tyInt Syntax.w64) Syntax.tnil)) (Syntax.ttcons
-    (Syntax.tcons (Syntax.tyInt Syntax.w64) Syntax.tnil) Syntax.ttnil)))))))))))))))) (List._∷_ (Syntax.tyEnum (List._∷_ 119 (List._∷_ 114 (List._∷_ 105 (List._∷_ 116 (List._∷_ 105 (List._∷_ 110 (List._∷_
-    103 (List._∷_ 58 (List._∷_ 58 (List._∷_ 80 (List._∷_ 117 (List._∷_ 116 List.[])))))))))))) (Syntax.ttcons (Syntax.tcons (Syntax.tyStruct (List._∷_ 98 (List._∷_ 105 (List._∷_ 116 (List._∷_ 115
-    (List._∷_ 58 (List._∷_ 58 (List._∷_ 66 (List._∷_ 105 (List._∷_ 116 (List._∷_ 80 (List._∷_ 111 (List._∷_ 115 (List._∷_ 105 (List._∷_ 116 (List._∷_ 105 (List._∷_ 111 (List._∷_ 110
-    List.[]))))))))))))))))) (Syntax.tcons (Syntax.tyInt Syntax.w64) Syntax.tnil)) Syntax.tnil) (Syntax.ttcons (Syntax.tcons (Syntax.tyInt Syntax.w64) Syntax.tnil) Syntax.ttnil))) (List._∷_ (Syntax.tyRef
-    Syntax.erased Syntax.mut (Syntax.tyInt Syntax.w8)) (List._∷_ (Syntax.tyStruct (List._∷_ 38 (List._∷_ 91 (List._∷_ 93 List.[]))) (Syntax.tcons (Syntax.tyRef Syntax.erased Syntax.mut (Syntax.tyInt
-    Syntax.w8)) (Syntax.tcons (Syntax.tyInt Syntax.w64) Syntax.tnil))) (List._∷_ (Syntax.tyRef Syntax.erased Syntax.mut (Syntax.tyInt Syntax.w16)) (List._∷_ (Syntax.tyStruct (List._∷_ 38 (List._∷_ 91
-    (List._∷_ 93 List.[]))) (Syntax.tcons (Syntax.tyRef Syntax.erased Syntax.mut (Syntax.tyInt Syntax.w16)) (Syntax.tcons (Syntax.tyInt Syntax.w64) Syntax.tnil))) (List._∷_ (Syntax.tyRef Syntax.erased
-    Syntax.mut Element.behind) (List._∷_ (Syntax.tyStruct (List._∷_ 38 (List._∷_ 91 (List._∷_ 93 List.[]))) (Syntax.tcons (Syntax.tyRef Syntax.erased Syntax.mut Element.behind) (Syntax.tcons (Syntax.tyInt
-    Syntax.w64) Syntax.tnil))) List.[])))))))))))))))))))))
+    List.[])))))))))))) (Syntax.ttcons (Syntax.tcons y3 Syntax.tnil) (Syntax.ttcons (Syntax.tcons (Syntax.tyInt Syntax.w64) Syntax.tnil) Syntax.ttnil))) (List._∷_ (Syntax.tyInt Syntax.w64) (List._∷_ y3
+    (List._∷_ (Syntax.tyInt Syntax.w64) (List._∷_ (Syntax.tyRef Syntax.erased Syntax.mut (Syntax.tyInt Syntax.w8)) (List._∷_ y1 (List._∷_ (Syntax.tyRef Syntax.erased Syntax.mut (Syntax.tyInt Syntax.w16))
+    (List._∷_ y0 (List._∷_ (Syntax.tyRef Syntax.erased Syntax.mut Element.behind) (List._∷_ y2 (List._∷_ (Syntax.tyEnum (List._∷_ 98 (List._∷_ 108 (List._∷_ 111 (List._∷_ 99 (List._∷_ 107 (List._∷_ 58
+    (List._∷_ 58 (List._∷_ 87 (List._∷_ 114 (List._∷_ 105 (List._∷_ 116 (List._∷_ 116 (List._∷_ 101 (List._∷_ 110 List.[])))))))))))))) (Syntax.ttcons (Syntax.tcons (Syntax.tyInt Syntax.w64) Syntax.tnil)
+    (Syntax.ttcons (Syntax.tcons (Syntax.tyEnum (List._∷_ 115 (List._∷_ 116 (List._∷_ 114 (List._∷_ 101 (List._∷_ 97 (List._∷_ 109 (List._∷_ 58 (List._∷_ 58 (List._∷_ 82 (List._∷_ 101 (List._∷_ 102
+    (List._∷_ 117 (List._∷_ 115 (List._∷_ 97 (List._∷_ 108 List.[]))))))))))))))) (Syntax.ttcons Syntax.tnil (Syntax.ttcons Syntax.tnil (Syntax.ttcons Syntax.tnil (Syntax.ttcons (Syntax.tcons
+    (Syntax.tyInt Syntax.w64) Syntax.tnil) (Syntax.ttcons Syntax.tnil (Syntax.ttcons Syntax.tnil (Syntax.ttcons Syntax.tnil (Syntax.ttcons Syntax.tnil (Syntax.ttcons Syntax.tnil (Syntax.ttcons Syntax.tnil
+    (Syntax.ttcons (Syntax.tcons (Syntax.tyInt Syntax.w64) Syntax.tnil) (Syntax.ttcons (Syntax.tcons (Syntax.tyInt Syntax.w64) Syntax.tnil) (Syntax.ttcons Syntax.tnil (Syntax.ttcons (Syntax.tcons
+    (Syntax.tyInt Syntax.w64) (Syntax.tcons (Syntax.tyInt Syntax.w64) Syntax.tnil)) (Syntax.ttcons (Syntax.tcons (Syntax.tyInt Syntax.w64) Syntax.tnil) Syntax.ttnil)))))))))))))))) Syntax.tnil)
+    Syntax.ttnil))) (List._∷_ (Syntax.tyEnum (List._∷_ 115 (List._∷_ 116 (List._∷_ 114 (List._∷_ 101 (List._∷_ 97 (List._∷_ 109 (List._∷_ 58 (List._∷_ 58 (List._∷_ 82 (List._∷_ 101 (List._∷_ 102 (List._∷_
+    117 (List._∷_ 115 (List._∷_ 97 (List._∷_ 108 List.[]))))))))))))))) (Syntax.ttcons Syntax.tnil (Syntax.ttcons Syntax.tnil (Syntax.ttcons Syntax.tnil (Syntax.ttcons (Syntax.tcons (Syntax.tyInt
+    Syntax.w64) Syntax.tnil) (Syntax.ttcons Syntax.tnil (Syntax.ttcons Syntax.tnil (Syntax.ttcons Syntax.tnil (Syntax.ttcons Syntax.tnil (Syntax.ttcons Syntax.tnil (Syntax.ttcons Syntax.tnil
+    (Syntax.ttcons (Syntax.tcons (Syntax.tyInt Syntax.w64) Syntax.tnil) (Syntax.ttcons (Syntax.tcons (Syntax.tyInt Syntax.w64) Syntax.tnil) (Syntax.ttcons Syntax.tnil (Syntax.ttcons (Syntax.tcons
+    (Syntax.tyInt Syntax.w64) (Syntax.tcons (Syntax.tyInt Syntax.w64) Syntax.tnil)) (Syntax.ttcons (Syntax.tcons (Syntax.tyInt Syntax.w64) Syntax.tnil) Syntax.ttnil)))))))))))))))) (List._∷_ Syntax.tyBool
+    (List._∷_ (Syntax.tyInt Syntax.w64) (List._∷_ (Syntax.tyEnum (List._∷_ 115 (List._∷_ 116 (List._∷_ 114 (List._∷_ 101 (List._∷_ 97 (List._∷_ 109 (List._∷_ 58 (List._∷_ 58 (List._∷_ 82 (List._∷_ 101
+    (List._∷_ 102 (List._∷_ 117 (List._∷_ 115 (List._∷_ 97 (List._∷_ 108 List.[]))))))))))))))) (Syntax.ttcons Syntax.tnil (Syntax.ttcons Syntax.tnil (Syntax.ttcons Syntax.tnil (Syntax.ttcons
+    (Syntax.tcons (Syntax.tyInt Syntax.w64) Syntax.tnil) (Syntax.ttcons Syntax.tnil (Syntax.ttcons Syntax.tnil (Syntax.ttcons Syntax.tnil (Syntax.ttcons Syntax.tnil (Syntax.ttcons Syntax.tnil
+    (Syntax.ttcons Syntax.tnil (Syntax.ttcons (Syntax.tcons (Syntax.tyInt Syntax.w64) Syntax.tnil) (Syntax.ttcons (Syntax.tcons (Syntax.tyInt Syntax.w64) Syntax.tnil) (Syntax.ttcons Syntax.tnil
+    (Syntax.ttcons (Syntax.tcons (Syntax.tyInt Syntax.w64) (Syntax.tcons (Syntax.tyInt Syntax.w64) Syntax.tnil)) (Syntax.ttcons (Syntax.tcons (Syntax.tyInt Syntax.w64) Syntax.tnil)
+    Syntax.ttnil)))))))))))))))) (List._∷_ (Syntax.tyEnum (List._∷_ 119 (List._∷_ 114 (List._∷_ 105 (List._∷_ 116 (List._∷_ 105 (List._∷_ 110 (List._∷_ 103 (List._∷_ 58 (List._∷_ 58 (List._∷_ 80 (List._∷_
+    117 (List._∷_ 116 List.[])))))))))))) (Syntax.ttcons (Syntax.tcons y3 Syntax.tnil) (Syntax.ttcons (Syntax.tcons (Syntax.tyInt Syntax.w64) Syntax.tnil) Syntax.ttnil))) (List._∷_ (Syntax.tyRef
+    Syntax.erased Syntax.mut (Syntax.tyInt Syntax.w8)) (List._∷_ y1 (List._∷_ (Syntax.tyRef Syntax.erased Syntax.mut (Syntax.tyInt Syntax.w16)) (List._∷_ y0 (List._∷_ (Syntax.tyRef Syntax.erased
+    Syntax.mut Element.behind) (List._∷_ y2 List.[])))))))))))))))))))))
 
 abbrev pub m : Nat.ℕ
 m = 6
@@ -159,20 +165,19 @@ ps·0 = List._∷_ (ShrSlice.pShrS (Referent.rtF (Referent.fInt Syntax.w16)) 0 t
     (Referent.rtF (Referent.fInt Syntax.w16)) 2 tt) (List._∷_ (MutSlice.pMutS (Element.type) 3 tt) (List._∷_ (Value.pVal record {
       ty = Declared'.row Form.the-type;
       one = Path'.refl;
-      val = Laws'6.val
-          Form.the-type Laws'.the-laws;
+      val = Laws'6.val Form.the-type Laws'.the-laws;
       tells = Laws'6.tells Form.the-type Laws'.the-laws;
-      still = Laws'6.still Form.the-type Laws'.the-copy Exit.yes;
+      still = Laws'6.still Form.the-type
+          Laws'.the-copy Exit.yes;
       row = Rows.whole (Declared'.row Form.the-type);
-      rd = λ x.
-          x;
+      rd = λ x. x;
       mk = λ x. x;
     } λ M 𝓤 H A W. record {
       copies = Laws'6.copy Form.the-type Laws'.the-copy 𝓤 H A W;
       lawful = Laws'6.lawful Form.the-type Laws'.the-laws 𝓤 H A W;
-      makes = Laws'6.makes Form.the-type
-          Laws'.the-plain 𝓤 H A;
-      in-mem = Local.mem-whole 𝓤 H A W (Declared'.row Form.the-type);
+      makes = Laws'6.makes Form.the-type Laws'.the-plain 𝓤 H A;
+      in-mem =
+          Local.mem-whole 𝓤 H A W (Declared'.row Form.the-type);
       of-mem = Local.whole-mem 𝓤 H A W (Declared'.row Form.the-type);
     }) (List._∷_ (Num.pNum Syntax.w64) List.[]))))))
 
@@ -182,19 +187,18 @@ r·0 = Value.rVal record {
   one = Path'.refl;
   val = Laws'5.val Put.the-type Laws'4.the-laws;
   tells = Laws'5.tells Put.the-type Laws'4.the-laws;
-  still = Laws'5.still
-      Put.the-type Laws'4.the-copy Exit.yes;
+  still = Laws'5.still Put.the-type Laws'4.the-copy
+      Exit.yes;
   row = Rows.whole (Declared.row Put.the-type);
   rd = λ x. x;
   mk = λ x. x;
 } λ M 𝓤 H A W. record {
   copies = Laws'5.copy Put.the-type Laws'4.the-copy 𝓤 H A W;
-  lawful
-      = Laws'5.lawful Put.the-type Laws'4.the-laws 𝓤 H A W tt;
+  lawful = Laws'5.lawful Put.the-type Laws'4.the-laws 𝓤 H A W tt;
   makes = Laws'5.makes Put.the-type Laws'4.the-plain 𝓤 H A;
-  in-mem = Local.mem-whole 𝓤 H A W (Declared.row Put.the-type);
-  of-mem =
-      Local.whole-mem 𝓤 H A W (Declared.row Put.the-type);
+  in-mem =
+      Local.mem-whole 𝓤 H A W (Declared.row Put.the-type);
+  of-mem = Local.whole-mem 𝓤 H A W (Declared.row Put.the-type);
 }
 
 abbrev pub ps·1 : List.List (Kinds.PK 0)
@@ -202,19 +206,17 @@ ps·1 = List._∷_ (Value.pVal record {
   ty = Declared'.row BitPosition.the-type;
   one = Path'.refl;
   val = Laws'6.val BitPosition.the-type Laws.the-laws;
-  tells = Laws'6.tells BitPosition.the-type
-      Laws.the-laws;
-  still = Laws'6.still BitPosition.the-type Laws.the-copy Exit.yes;
+  tells = Laws'6.tells BitPosition.the-type Laws.the-laws;
+  still = Laws'6.still
+      BitPosition.the-type Laws.the-copy Exit.yes;
   row = Rows.whole (Declared'.row BitPosition.the-type);
   rd = λ x. x;
   mk = λ x. x;
 } λ M 𝓤 H A W. record {
-  copies =
-      Laws'6.copy BitPosition.the-type Laws.the-copy 𝓤 H A W;
+  copies = Laws'6.copy BitPosition.the-type Laws.the-copy 𝓤 H A W;
   lawful = Laws'6.lawful BitPosition.the-type Laws.the-laws 𝓤 H A W;
   makes = Laws'6.makes BitPosition.the-type Laws.the-plain 𝓤 H A;
-  in-mem =
-      Local.mem-whole 𝓤 H A W (Declared'.row BitPosition.the-type);
+  in-mem = Local.mem-whole 𝓤 H A W (Declared'.row BitPosition.the-type);
   of-mem = Local.whole-mem 𝓤 H A W (Declared'.row BitPosition.the-type);
 }) List.[]
 
@@ -413,2676 +415,434 @@ body = b54
 abbrev pub Claims : Type 1
 Claims = Kinds.In 4 ps·0 × Kinds.Out 4 ps·0 r·0 × Kinds.In 0 ps·1 × Kinds.Out 0 ps·1 r·1 × Kinds.In 0 ps·2 × Kinds.Out 0 ps·2 r·2
 
-abbrev pub t0 : List.List Row.Entry
-t0 = List._∷_ (
+abbrev pub e0 : Row.Entry
+e0 = (
   0,
-  Rows.any-gone (Syntax.tyEnum (List._∷_ 98 (List._∷_ 108 (List._∷_ 111 (List._∷_ 99 (List._∷_ 107 (List._∷_ 58 (List._∷_ 58 (List._∷_ 87 (List._∷_ 114 (List._∷_ 105 (List._∷_ 116
-      (List._∷_ 116 (List._∷_ 101 (List._∷_ 110 List.[])))))))))))))) (Syntax.ttcons (Syntax.tcons (Syntax.tyInt Syntax.w64) Syntax.tnil) (Syntax.ttcons (Syntax.tcons (Syntax.tyEnum (List._∷_ 115 (List._∷_
-      116 (List._∷_ 114 (List._∷_ 101 (List._∷_ 97 (List._∷_ 109 (List._∷_ 58 (List._∷_ 58 (List._∷_ 82 (List._∷_ 101 (List._∷_ 102 (List._∷_ 117 (List._∷_ 115 (List._∷_ 97 (List._∷_ 108
-      List.[]))))))))))))))) (Syntax.ttcons Syntax.tnil (Syntax.ttcons Syntax.tnil (Syntax.ttcons Syntax.tnil (Syntax.ttcons (Syntax.tcons (Syntax.tyInt Syntax.w64) Syntax.tnil) (Syntax.ttcons Syntax.tnil
-      (Syntax.ttcons Syntax.tnil (Syntax.ttcons Syntax.tnil (Syntax.ttcons Syntax.tnil (Syntax.ttcons Syntax.tnil (Syntax.ttcons Syntax.tnil (Syntax.ttcons (Syntax.tcons (Syntax.tyInt Syntax.w64)
-      Syntax.tnil) (Syntax.ttcons (Syntax.tcons (Syntax.tyInt Syntax.w64) Syntax.tnil) (Syntax.ttcons Syntax.tnil (Syntax.ttcons (Syntax.tcons (Syntax.tyInt Syntax.w64) (Syntax.tcons (Syntax.tyInt
-      Syntax.w64) Syntax.tnil)) (Syntax.ttcons (Syntax.tcons (Syntax.tyInt Syntax.w64) Syntax.tnil) Syntax.ttnil)))))))))))))))) Syntax.tnil) Syntax.ttnil))),
-) (List._∷_ (
-  1,
-  Rows.sslice (Referent.rtF
-      (Referent.fInt Syntax.w16)) (Syntax.tyRef (Syntax.named 0) Syntax.imm (Syntax.tyInt Syntax.w16)) 0,
-) (List._∷_ (
-  2,
-  Mut.mslice (Referent.rtF (Referent.fInt Syntax.w8)) (Syntax.tyRef (Syntax.named 1)
-      Syntax.mut (Syntax.tyInt Syntax.w8)) 1,
-) (List._∷_ (3, Mut.mslice (Referent.rtF (Referent.fInt Syntax.w16)) (Syntax.tyRef (Syntax.named 2) Syntax.mut (Syntax.tyInt Syntax.w16)) 2) (List._∷_ (
-  4,
-  Mut.mslice (Element.type) (Syntax.tyRef (Syntax.named 3) Syntax.mut Element.behind) 3,
-) (List._∷_ (5, Rows.whole (Declared'.row Form.the-type)) (List._∷_ (6, Rows.sc-here (Row.sInt Syntax.w64))
-    (List._∷_ (
-      7,
-      Rows.any-gone (Syntax.tyEnum (List._∷_ 119 (List._∷_ 114 (List._∷_ 105 (List._∷_ 116 (List._∷_ 105 (List._∷_ 110 (List._∷_ 103 (List._∷_ 58 (List._∷_ 58 (List._∷_ 80 (List._∷_ 117
-          (List._∷_ 116 List.[])))))))))))) (Syntax.ttcons (Syntax.tcons (Syntax.tyStruct (List._∷_ 98 (List._∷_ 105 (List._∷_ 116 (List._∷_ 115 (List._∷_ 58 (List._∷_ 58 (List._∷_ 66 (List._∷_ 105 (List._∷_
-          116 (List._∷_ 80 (List._∷_ 111 (List._∷_ 115 (List._∷_ 105 (List._∷_ 116 (List._∷_ 105 (List._∷_ 111 (List._∷_ 110 List.[]))))))))))))))))) (Syntax.tcons (Syntax.tyInt Syntax.w64) Syntax.tnil))
-          Syntax.tnil) (Syntax.ttcons (Syntax.tcons (Syntax.tyInt Syntax.w64) Syntax.tnil) Syntax.ttnil))),
-    ) (List._∷_ (8, Rows.any-gone (Syntax.tyInt Syntax.w64)) (List._∷_ (
-      9,
-      Rows.any-gone (Syntax.tyStruct
-          (List._∷_ 98 (List._∷_ 105 (List._∷_ 116 (List._∷_ 115 (List._∷_ 58 (List._∷_ 58 (List._∷_ 66 (List._∷_ 105 (List._∷_ 116 (List._∷_ 80 (List._∷_ 111 (List._∷_ 115 (List._∷_ 105 (List._∷_ 116 (List._∷_
-          105 (List._∷_ 111 (List._∷_ 110 List.[]))))))))))))))))) (Syntax.tcons (Syntax.tyInt Syntax.w64) Syntax.tnil)),
-    ) (List._∷_ (10, Rows.any-gone (Syntax.tyInt Syntax.w64)) (List._∷_ (
-      11,
-      Rows.any-gone
-          (Syntax.tyRef Syntax.erased Syntax.mut (Syntax.tyInt Syntax.w8)),
-    ) (List._∷_ (
-      12,
-      Rows.any-gone (Syntax.tyStruct (List._∷_ 38 (List._∷_ 91 (List._∷_ 93 List.[]))) (Syntax.tcons (Syntax.tyRef
-          Syntax.erased Syntax.mut (Syntax.tyInt Syntax.w8)) (Syntax.tcons (Syntax.tyInt Syntax.w64) Syntax.tnil))),
-    ) (List._∷_ (
-      13,
-      Rows.any-gone (Syntax.tyRef Syntax.erased Syntax.mut (Syntax.tyInt
-          Syntax.w16)),
-    ) (List._∷_ (
-      14,
-      Rows.any-gone (Syntax.tyStruct (List._∷_ 38 (List._∷_ 91 (List._∷_ 93 List.[]))) (Syntax.tcons (Syntax.tyRef Syntax.erased Syntax.mut (Syntax.tyInt Syntax.w16))
-          (Syntax.tcons (Syntax.tyInt Syntax.w64) Syntax.tnil))),
-    ) (List._∷_ (15, Rows.any-gone (Syntax.tyRef Syntax.erased Syntax.mut Element.behind)) List.[])))))))))))))))
+  Rows.any-gone (Syntax.tyEnum (List._∷_ 98 (List._∷_ 108 (List._∷_ 111 (List._∷_ 99 (List._∷_ 107 (List._∷_ 58 (List._∷_ 58 (List._∷_ 87 (List._∷_ 114 (List._∷_ 105 (List._∷_ 116 (List._∷_ 116
+      (List._∷_ 101 (List._∷_ 110 List.[])))))))))))))) (Syntax.ttcons (Syntax.tcons (Syntax.tyInt Syntax.w64) Syntax.tnil) (Syntax.ttcons (Syntax.tcons (Syntax.tyEnum (List._∷_ 115 (List._∷_ 116 (List._∷_
+      114 (List._∷_ 101 (List._∷_ 97 (List._∷_ 109 (List._∷_ 58 (List._∷_ 58 (List._∷_ 82 (List._∷_ 101 (List._∷_ 102 (List._∷_ 117 (List._∷_ 115 (List._∷_ 97 (List._∷_ 108 List.[])))))))))))))))
+      (Syntax.ttcons Syntax.tnil (Syntax.ttcons Syntax.tnil (Syntax.ttcons Syntax.tnil (Syntax.ttcons (Syntax.tcons (Syntax.tyInt Syntax.w64) Syntax.tnil) (Syntax.ttcons Syntax.tnil (Syntax.ttcons
+      Syntax.tnil (Syntax.ttcons Syntax.tnil (Syntax.ttcons Syntax.tnil (Syntax.ttcons Syntax.tnil (Syntax.ttcons Syntax.tnil (Syntax.ttcons (Syntax.tcons (Syntax.tyInt Syntax.w64) Syntax.tnil)
+      (Syntax.ttcons (Syntax.tcons (Syntax.tyInt Syntax.w64) Syntax.tnil) (Syntax.ttcons Syntax.tnil (Syntax.ttcons (Syntax.tcons (Syntax.tyInt Syntax.w64) (Syntax.tcons (Syntax.tyInt Syntax.w64)
+      Syntax.tnil)) (Syntax.ttcons (Syntax.tcons (Syntax.tyInt Syntax.w64) Syntax.tnil) Syntax.ttnil)))))))))))))))) Syntax.tnil) Syntax.ttnil))),
+)
 
-abbrev pub t1 : List.List Row.Entry
-t1 = List._∷_ (
-  16,
-  Rows.any-gone (Syntax.tyStruct (List._∷_ 38 (List._∷_ 91 (List._∷_ 93 List.[]))) (Syntax.tcons (Syntax.tyRef Syntax.erased Syntax.mut Element.behind) (Syntax.tcons (Syntax.tyInt
-      Syntax.w64) Syntax.tnil))),
-) (List._∷_ (
+abbrev pub e1 : Row.Entry
+e1 = (0, Rows.whole (Declared.row Written.the-type))
+
+abbrev pub e2 : Row.Entry
+e2 = (1, Rows.sslice (Referent.rtF (Referent.fInt Syntax.w16)) (Syntax.tyRef (Syntax.named 0) Syntax.imm (Syntax.tyInt Syntax.w16)) 0)
+
+abbrev pub e3 : Row.Entry
+e3 = (10, Rows.any-gone (Syntax.tyInt Syntax.w64))
+
+abbrev pub e4 : Row.Entry
+e4 = (10, Rows.sc-here (Row.sInt Syntax.w64))
+
+abbrev pub e5 : Row.Entry
+e5 = (11, Relend.msptr (Referent.rtF (Referent.fInt Syntax.w8)) (Syntax.tyRef Syntax.erased Syntax.mut (Syntax.tyInt Syntax.w8)) 4)
+
+abbrev pub e6 : Row.Entry
+e6 = (11, Rows.any-gone (Syntax.tyRef Syntax.erased Syntax.mut (Syntax.tyInt Syntax.w8)))
+
+abbrev pub e7 : Row.Entry
+e7 = (12, Mut.msleft (Referent.rtF (Referent.fInt Syntax.w8)) (Syntax.tyRef Syntax.erased Syntax.mut (Syntax.tyInt Syntax.w8)))
+
+abbrev pub e8 : Row.Entry
+e8 = (12, Mut.mslice (Referent.rtF (Referent.fInt Syntax.w8)) (Syntax.tyRef Syntax.erased Syntax.mut (Syntax.tyInt Syntax.w8)) 4)
+
+abbrev pub e9 : Row.Entry
+e9 = (12, Rows.any-gone y1)
+
+abbrev pub e10 : Row.Entry
+e10 = (13, Relend.msptr (Referent.rtF (Referent.fInt Syntax.w16)) (Syntax.tyRef Syntax.erased Syntax.mut (Syntax.tyInt Syntax.w16)) 5)
+
+abbrev pub e11 : Row.Entry
+e11 = (13, Rows.any-gone (Syntax.tyRef Syntax.erased Syntax.mut (Syntax.tyInt Syntax.w16)))
+
+abbrev pub e12 : Row.Entry
+e12 = (14, Mut.msleft (Referent.rtF (Referent.fInt Syntax.w16)) (Syntax.tyRef Syntax.erased Syntax.mut (Syntax.tyInt Syntax.w16)))
+
+abbrev pub e13 : Row.Entry
+e13 = (14, Mut.mslice (Referent.rtF (Referent.fInt Syntax.w16)) (Syntax.tyRef Syntax.erased Syntax.mut (Syntax.tyInt Syntax.w16)) 5)
+
+abbrev pub e14 : Row.Entry
+e14 = (14, Rows.any-gone y0)
+
+abbrev pub e15 : Row.Entry
+e15 = (15, Relend.msptr (Element.type) (Syntax.tyRef Syntax.erased Syntax.mut Element.behind) 6)
+
+abbrev pub e16 : Row.Entry
+e16 = (15, Rows.any-gone (Syntax.tyRef Syntax.erased Syntax.mut Element.behind))
+
+abbrev pub e17 : Row.Entry
+e17 = (16, Rows.any-gone y2)
+
+abbrev pub e18 : Row.Entry
+e18 = (
   17,
-  Rows.any-gone (Syntax.tyEnum (List._∷_ 98 (List._∷_ 108 (List._∷_ 111 (List._∷_ 99 (List._∷_ 107 (List._∷_ 58 (List._∷_ 58 (List._∷_ 87 (List._∷_ 114
-      (List._∷_ 105 (List._∷_ 116 (List._∷_ 116 (List._∷_ 101 (List._∷_ 110 List.[])))))))))))))) (Syntax.ttcons (Syntax.tcons (Syntax.tyInt Syntax.w64) Syntax.tnil) (Syntax.ttcons (Syntax.tcons
-      (Syntax.tyEnum (List._∷_ 115 (List._∷_ 116 (List._∷_ 114 (List._∷_ 101 (List._∷_ 97 (List._∷_ 109 (List._∷_ 58 (List._∷_ 58 (List._∷_ 82 (List._∷_ 101 (List._∷_ 102 (List._∷_ 117 (List._∷_ 115
-      (List._∷_ 97 (List._∷_ 108 List.[]))))))))))))))) (Syntax.ttcons Syntax.tnil (Syntax.ttcons Syntax.tnil (Syntax.ttcons Syntax.tnil (Syntax.ttcons (Syntax.tcons (Syntax.tyInt Syntax.w64) Syntax.tnil)
-      (Syntax.ttcons Syntax.tnil (Syntax.ttcons Syntax.tnil (Syntax.ttcons Syntax.tnil (Syntax.ttcons Syntax.tnil (Syntax.ttcons Syntax.tnil (Syntax.ttcons Syntax.tnil (Syntax.ttcons (Syntax.tcons
-      (Syntax.tyInt Syntax.w64) Syntax.tnil) (Syntax.ttcons (Syntax.tcons (Syntax.tyInt Syntax.w64) Syntax.tnil) (Syntax.ttcons Syntax.tnil (Syntax.ttcons (Syntax.tcons (Syntax.tyInt Syntax.w64)
-      (Syntax.tcons (Syntax.tyInt Syntax.w64) Syntax.tnil)) (Syntax.ttcons (Syntax.tcons (Syntax.tyInt Syntax.w64) Syntax.tnil) Syntax.ttnil)))))))))))))))) Syntax.tnil) Syntax.ttnil))),
-) (List._∷_ (
+  Rows.any-gone (Syntax.tyEnum (List._∷_ 98 (List._∷_ 108 (List._∷_ 111 (List._∷_ 99 (List._∷_ 107 (List._∷_ 58 (List._∷_ 58 (List._∷_ 87 (List._∷_ 114 (List._∷_ 105 (List._∷_ 116 (List._∷_ 116
+      (List._∷_ 101 (List._∷_ 110 List.[])))))))))))))) (Syntax.ttcons (Syntax.tcons (Syntax.tyInt Syntax.w64) Syntax.tnil) (Syntax.ttcons (Syntax.tcons (Syntax.tyEnum (List._∷_ 115 (List._∷_ 116 (List._∷_
+      114 (List._∷_ 101 (List._∷_ 97 (List._∷_ 109 (List._∷_ 58 (List._∷_ 58 (List._∷_ 82 (List._∷_ 101 (List._∷_ 102 (List._∷_ 117 (List._∷_ 115 (List._∷_ 97 (List._∷_ 108 List.[])))))))))))))))
+      (Syntax.ttcons Syntax.tnil (Syntax.ttcons Syntax.tnil (Syntax.ttcons Syntax.tnil (Syntax.ttcons (Syntax.tcons (Syntax.tyInt Syntax.w64) Syntax.tnil) (Syntax.ttcons Syntax.tnil (Syntax.ttcons
+      Syntax.tnil (Syntax.ttcons Syntax.tnil (Syntax.ttcons Syntax.tnil (Syntax.ttcons Syntax.tnil (Syntax.ttcons Syntax.tnil (Syntax.ttcons (Syntax.tcons (Syntax.tyInt Syntax.w64) Syntax.tnil)
+      (Syntax.ttcons (Syntax.tcons (Syntax.tyInt Syntax.w64) Syntax.tnil) (Syntax.ttcons Syntax.tnil (Syntax.ttcons (Syntax.tcons (Syntax.tyInt Syntax.w64) (Syntax.tcons (Syntax.tyInt Syntax.w64)
+      Syntax.tnil)) (Syntax.ttcons (Syntax.tcons (Syntax.tyInt Syntax.w64) Syntax.tnil) Syntax.ttnil)))))))))))))))) Syntax.tnil) Syntax.ttnil))),
+)
+
+abbrev pub e19 : Row.Entry
+e19 = (17, Rows.whole (Declared.row Written.the-type))
+
+abbrev pub e20 : Row.Entry
+e20 = (
   18,
   Rows.any-gone (Syntax.tyEnum (List._∷_ 115 (List._∷_ 116 (List._∷_ 114 (List._∷_ 101 (List._∷_ 97 (List._∷_ 109 (List._∷_ 58 (List._∷_ 58 (List._∷_ 82 (List._∷_ 101 (List._∷_ 102 (List._∷_ 117
       (List._∷_ 115 (List._∷_ 97 (List._∷_ 108 List.[]))))))))))))))) (Syntax.ttcons Syntax.tnil (Syntax.ttcons Syntax.tnil (Syntax.ttcons Syntax.tnil (Syntax.ttcons (Syntax.tcons (Syntax.tyInt Syntax.w64)
       Syntax.tnil) (Syntax.ttcons Syntax.tnil (Syntax.ttcons Syntax.tnil (Syntax.ttcons Syntax.tnil (Syntax.ttcons Syntax.tnil (Syntax.ttcons Syntax.tnil (Syntax.ttcons Syntax.tnil (Syntax.ttcons
       (Syntax.tcons (Syntax.tyInt Syntax.w64) Syntax.tnil) (Syntax.ttcons (Syntax.tcons (Syntax.tyInt Syntax.w64) Syntax.tnil) (Syntax.ttcons Syntax.tnil (Syntax.ttcons (Syntax.tcons (Syntax.tyInt
       Syntax.w64) (Syntax.tcons (Syntax.tyInt Syntax.w64) Syntax.tnil)) (Syntax.ttcons (Syntax.tcons (Syntax.tyInt Syntax.w64) Syntax.tnil) Syntax.ttnil)))))))))))))))),
-) (List._∷_ (
-  19,
-  Rows.any-gone
-      Syntax.tyBool,
-) (List._∷_ (20, Rows.any-gone (Syntax.tyInt Syntax.w64)) (List._∷_ (
-  21,
-  Rows.any-gone (Syntax.tyEnum (List._∷_ 115 (List._∷_ 116 (List._∷_ 114 (List._∷_ 101 (List._∷_ 97 (List._∷_
-      109 (List._∷_ 58 (List._∷_ 58 (List._∷_ 82 (List._∷_ 101 (List._∷_ 102 (List._∷_ 117 (List._∷_ 115 (List._∷_ 97 (List._∷_ 108 List.[]))))))))))))))) (Syntax.ttcons Syntax.tnil (Syntax.ttcons
-      Syntax.tnil (Syntax.ttcons Syntax.tnil (Syntax.ttcons (Syntax.tcons (Syntax.tyInt Syntax.w64) Syntax.tnil) (Syntax.ttcons Syntax.tnil (Syntax.ttcons Syntax.tnil (Syntax.ttcons Syntax.tnil
-      (Syntax.ttcons Syntax.tnil (Syntax.ttcons Syntax.tnil (Syntax.ttcons Syntax.tnil (Syntax.ttcons (Syntax.tcons (Syntax.tyInt Syntax.w64) Syntax.tnil) (Syntax.ttcons (Syntax.tcons (Syntax.tyInt
-      Syntax.w64) Syntax.tnil) (Syntax.ttcons Syntax.tnil (Syntax.ttcons (Syntax.tcons (Syntax.tyInt Syntax.w64) (Syntax.tcons (Syntax.tyInt Syntax.w64) Syntax.tnil)) (Syntax.ttcons (Syntax.tcons
-      (Syntax.tyInt Syntax.w64) Syntax.tnil) Syntax.ttnil)))))))))))))))),
-) (List._∷_ (
-  22,
-  Rows.any-gone (Syntax.tyEnum (List._∷_ 119 (List._∷_ 114 (List._∷_ 105 (List._∷_ 116 (List._∷_ 105 (List._∷_ 110
-      (List._∷_ 103 (List._∷_ 58 (List._∷_ 58 (List._∷_ 80 (List._∷_ 117 (List._∷_ 116 List.[])))))))))))) (Syntax.ttcons (Syntax.tcons (Syntax.tyStruct (List._∷_ 98 (List._∷_ 105 (List._∷_ 116 (List._∷_
-      115 (List._∷_ 58 (List._∷_ 58 (List._∷_ 66 (List._∷_ 105 (List._∷_ 116 (List._∷_ 80 (List._∷_ 111 (List._∷_ 115 (List._∷_ 105 (List._∷_ 116 (List._∷_ 105 (List._∷_ 111 (List._∷_ 110
-      List.[]))))))))))))))))) (Syntax.tcons (Syntax.tyInt Syntax.w64) Syntax.tnil)) Syntax.tnil) (Syntax.ttcons (Syntax.tcons (Syntax.tyInt Syntax.w64) Syntax.tnil) Syntax.ttnil))),
-) (List._∷_ (
-  23,
-  Rows.any-gone (Syntax.tyRef Syntax.erased Syntax.mut (Syntax.tyInt Syntax.w8)),
-) (List._∷_ (
-  24,
-  Rows.any-gone (Syntax.tyStruct (List._∷_ 38 (List._∷_ 91 (List._∷_ 93 List.[]))) (Syntax.tcons
-      (Syntax.tyRef Syntax.erased Syntax.mut (Syntax.tyInt Syntax.w8)) (Syntax.tcons (Syntax.tyInt Syntax.w64) Syntax.tnil))),
-) (List._∷_ (
-  25,
-  Rows.any-gone (Syntax.tyRef Syntax.erased Syntax.mut
-      (Syntax.tyInt Syntax.w16)),
-) (List._∷_ (
-  26,
-  Rows.any-gone (Syntax.tyStruct (List._∷_ 38 (List._∷_ 91 (List._∷_ 93 List.[]))) (Syntax.tcons (Syntax.tyRef Syntax.erased Syntax.mut (Syntax.tyInt
-      Syntax.w16)) (Syntax.tcons (Syntax.tyInt Syntax.w64) Syntax.tnil))),
-) (List._∷_ (27, Rows.any-gone (Syntax.tyRef Syntax.erased Syntax.mut Element.behind)) (List._∷_ (
-  28,
-  Rows.any-gone
-      (Syntax.tyStruct (List._∷_ 38 (List._∷_ 91 (List._∷_ 93 List.[]))) (Syntax.tcons (Syntax.tyRef Syntax.erased Syntax.mut Element.behind) (Syntax.tcons (Syntax.tyInt Syntax.w64) Syntax.tnil))),
 )
+
+abbrev pub e21 : Row.Entry
+e21 = (18, Rows.whole (Declared.row Refusal.the-type))
+
+abbrev pub e22 : Row.Entry
+e22 = (19, Rows.any-gone Syntax.tyBool)
+
+abbrev pub e23 : Row.Entry
+e23 = (19, Rows.sc-here Row.sBool)
+
+abbrev pub e24 : Row.Entry
+e24 = (2, Mut.mslice (Referent.rtF (Referent.fInt Syntax.w8)) (Syntax.tyRef (Syntax.named 1) Syntax.mut (Syntax.tyInt Syntax.w8)) 1)
+
+abbrev pub e25 : Row.Entry
+e25 = (2, Relend.mslice-owed (Referent.rtF (Referent.fInt Syntax.w8)) (Syntax.tyRef (Syntax.named 1) Syntax.mut (Syntax.tyInt Syntax.w8)) 1 4 Row.off)
+
+abbrev pub e26 : Row.Entry
+e26 = (2, Relend.mslice-owed (Referent.rtF (Referent.fInt Syntax.w8)) (Syntax.tyRef (Syntax.named 1) Syntax.mut (Syntax.tyInt Syntax.w8)) 1 7 Row.off)
+
+abbrev pub e27 : Row.Entry
+e27 = (20, Rows.any-gone (Syntax.tyInt Syntax.w64))
+
+abbrev pub e28 : Row.Entry
+e28 = (20, Rows.sc-here (Row.sInt Syntax.w64))
+
+abbrev pub e29 : Row.Entry
+e29 = (
+  21,
+  Rows.any-gone (Syntax.tyEnum (List._∷_ 115 (List._∷_ 116 (List._∷_ 114 (List._∷_ 101 (List._∷_ 97 (List._∷_ 109 (List._∷_ 58 (List._∷_ 58 (List._∷_ 82 (List._∷_ 101 (List._∷_ 102 (List._∷_ 117
+      (List._∷_ 115 (List._∷_ 97 (List._∷_ 108 List.[]))))))))))))))) (Syntax.ttcons Syntax.tnil (Syntax.ttcons Syntax.tnil (Syntax.ttcons Syntax.tnil (Syntax.ttcons (Syntax.tcons (Syntax.tyInt Syntax.w64)
+      Syntax.tnil) (Syntax.ttcons Syntax.tnil (Syntax.ttcons Syntax.tnil (Syntax.ttcons Syntax.tnil (Syntax.ttcons Syntax.tnil (Syntax.ttcons Syntax.tnil (Syntax.ttcons Syntax.tnil (Syntax.ttcons
+      (Syntax.tcons (Syntax.tyInt Syntax.w64) Syntax.tnil) (Syntax.ttcons (Syntax.tcons (Syntax.tyInt Syntax.w64) Syntax.tnil) (Syntax.ttcons Syntax.tnil (Syntax.ttcons (Syntax.tcons (Syntax.tyInt
+      Syntax.w64) (Syntax.tcons (Syntax.tyInt Syntax.w64) Syntax.tnil)) (Syntax.ttcons (Syntax.tcons (Syntax.tyInt Syntax.w64) Syntax.tnil) Syntax.ttnil)))))))))))))))),
+)
+
+abbrev pub e30 : Row.Entry
+e30 = (
+  22,
+  Rows.any-gone (Syntax.tyEnum (List._∷_ 119 (List._∷_ 114 (List._∷_ 105 (List._∷_ 116 (List._∷_ 105 (List._∷_ 110 (List._∷_ 103 (List._∷_ 58 (List._∷_ 58 (List._∷_ 80 (List._∷_ 117 (List._∷_ 116
+      List.[])))))))))))) (Syntax.ttcons (Syntax.tcons y3 Syntax.tnil) (Syntax.ttcons (Syntax.tcons (Syntax.tyInt Syntax.w64) Syntax.tnil) Syntax.ttnil))),
+)
+
+abbrev pub e31 : Row.Entry
+e31 = (23, Rows.any-gone (Syntax.tyRef Syntax.erased Syntax.mut (Syntax.tyInt Syntax.w8)))
+
+abbrev pub e32 : Row.Entry
+e32 = (24, Mut.msleft (Referent.rtF (Referent.fInt Syntax.w8)) (Syntax.tyRef Syntax.erased Syntax.mut (Syntax.tyInt Syntax.w8)))
+
+abbrev pub e33 : Row.Entry
+e33 = (24, Mut.mslice (Referent.rtF (Referent.fInt Syntax.w8)) (Syntax.tyRef Syntax.erased Syntax.mut (Syntax.tyInt Syntax.w8)) 7)
+
+abbrev pub e34 : Row.Entry
+e34 = (24, Rows.any-gone y1)
+
+abbrev pub e35 : Row.Entry
+e35 = (25, Rows.any-gone (Syntax.tyRef Syntax.erased Syntax.mut (Syntax.tyInt Syntax.w16)))
+
+abbrev pub e36 : Row.Entry
+e36 = (26, Mut.msleft (Referent.rtF (Referent.fInt Syntax.w16)) (Syntax.tyRef Syntax.erased Syntax.mut (Syntax.tyInt Syntax.w16)))
+
+abbrev pub e37 : Row.Entry
+e37 = (26, Mut.mslice (Referent.rtF (Referent.fInt Syntax.w16)) (Syntax.tyRef Syntax.erased Syntax.mut (Syntax.tyInt Syntax.w16)) 8)
+
+abbrev pub e38 : Row.Entry
+e38 = (26, Rows.any-gone y0)
+
+abbrev pub e39 : Row.Entry
+e39 = (27, Rows.any-gone (Syntax.tyRef Syntax.erased Syntax.mut Element.behind))
+
+abbrev pub e40 : Row.Entry
+e40 = (28, Mut.msleft (Element.type) (Syntax.tyRef Syntax.erased Syntax.mut Element.behind))
+
+abbrev pub e41 : Row.Entry
+e41 = (28, Rows.any-gone y2)
+
+abbrev pub e42 : Row.Entry
+e42 = (3, Mut.mslice (Referent.rtF (Referent.fInt Syntax.w16)) (Syntax.tyRef (Syntax.named 2) Syntax.mut (Syntax.tyInt Syntax.w16)) 2)
+
+abbrev pub e43 : Row.Entry
+e43 = (3, Relend.mslice-owed (Referent.rtF (Referent.fInt Syntax.w16)) (Syntax.tyRef (Syntax.named 2) Syntax.mut (Syntax.tyInt Syntax.w16)) 2 5 Row.off)
+
+abbrev pub e44 : Row.Entry
+e44 = (3, Relend.mslice-owed (Referent.rtF (Referent.fInt Syntax.w16)) (Syntax.tyRef (Syntax.named 2) Syntax.mut (Syntax.tyInt Syntax.w16)) 2 8 Row.off)
+
+abbrev pub e45 : Row.Entry
+e45 = (4, Mut.mslice (Element.type) (Syntax.tyRef (Syntax.named 3) Syntax.mut Element.behind) 3)
+
+abbrev pub e46 : Row.Entry
+e46 = (4, Relend.mslice-owed (Element.type) (Syntax.tyRef (Syntax.named 3) Syntax.mut Element.behind) 3 6 Row.off)
+
+abbrev pub e47 : Row.Entry
+e47 = (4, Relend.mslice-owed (Element.type) (Syntax.tyRef (Syntax.named 3) Syntax.mut Element.behind) 3 9 Row.off)
+
+abbrev pub e48 : Row.Entry
+e48 = (5, Rows.any-gone y4)
+
+abbrev pub e49 : Row.Entry
+e49 = (5, Rows.whole (Declared'.row Form.the-type))
+
+abbrev pub e50 : Row.Entry
+e50 = (6, Rows.any-gone (Syntax.tyInt Syntax.w64))
+
+abbrev pub e51 : Row.Entry
+e51 = (6, Rows.sc-here (Row.sInt Syntax.w64))
+
+abbrev pub e52 : Row.Entry
+e52 = (
+  7,
+  Rows.any-gone (Syntax.tyEnum (List._∷_ 119 (List._∷_ 114 (List._∷_ 105 (List._∷_ 116 (List._∷_ 105 (List._∷_ 110 (List._∷_ 103 (List._∷_ 58 (List._∷_ 58 (List._∷_ 80 (List._∷_ 117 (List._∷_ 116
+      List.[])))))))))))) (Syntax.ttcons (Syntax.tcons y3 Syntax.tnil) (Syntax.ttcons (Syntax.tcons (Syntax.tyInt Syntax.w64) Syntax.tnil) Syntax.ttnil))),
+)
+
+abbrev pub e53 : Row.Entry
+e53 = (7, Rows.whole (Declared.row Put.the-type))
+
+abbrev pub e54 : Row.Entry
+e54 = (7, Rows.whole (Known.Known Put.enum 0))
+
+abbrev pub e55 : Row.Entry
+e55 = (7, Rows.whole (Known.Known Put.enum 1))
+
+abbrev pub e56 : Row.Entry
+e56 = (8, Rows.any-gone (Syntax.tyInt Syntax.w64))
+
+abbrev pub e57 : Row.Entry
+e57 = (8, Rows.sc-here (Row.sInt Syntax.w64))
+
+abbrev pub e58 : Row.Entry
+e58 = (9, Rows.any-gone y3)
+
+abbrev pub e59 : Row.Entry
+e59 = (9, Rows.whole (Declared'.row BitPosition.the-type))
+
+abbrev pub t0 : List.List Row.Entry
+t0 = List._∷_ e0 (List._∷_ e2 (List._∷_ e24 (List._∷_ e42 (List._∷_ e45 (List._∷_ e49 (List._∷_ e51 (List._∷_ e52 (List._∷_ e56 (List._∷_ e58 (List._∷_ e3 (List._∷_ e6 (List._∷_ e9 (List._∷_ e11
+    (List._∷_ e14 (List._∷_ e16 List.[])))))))))))))))
+
+abbrev pub t1 : List.List Row.Entry
+t1 = List._∷_ e17 (List._∷_ e18 (List._∷_ e20 (List._∷_ e22 (List._∷_ e27 (List._∷_ e29 (List._∷_ e30 (List._∷_ e31 (List._∷_ e34 (List._∷_ e35 (List._∷_ e38 (List._∷_ e39 (List._∷_ e41
     List.[]))))))))))))
 
 abbrev pub t2 : List.List Row.Entry
-t2 = List._∷_ (0, Rows.whole (Declared.row Written.the-type)) (List._∷_ (
-  1,
-  Rows.sslice (Referent.rtF (Referent.fInt Syntax.w16)) (Syntax.tyRef (Syntax.named 0) Syntax.imm (Syntax.tyInt Syntax.w16))
-      0,
-) (List._∷_ (2, Mut.mslice (Referent.rtF (Referent.fInt Syntax.w8)) (Syntax.tyRef (Syntax.named 1) Syntax.mut (Syntax.tyInt Syntax.w8)) 1) (List._∷_ (
-  3,
-  Mut.mslice (Referent.rtF (Referent.fInt
-      Syntax.w16)) (Syntax.tyRef (Syntax.named 2) Syntax.mut (Syntax.tyInt Syntax.w16)) 2,
-) (List._∷_ (4, Mut.mslice (Element.type) (Syntax.tyRef (Syntax.named 3) Syntax.mut Element.behind) 3) (List._∷_ (
-  5,
-  Rows.any-gone (Syntax.tyStruct (List._∷_ 98 (List._∷_ 108 (List._∷_ 111 (List._∷_ 99 (List._∷_ 107 (List._∷_ 58 (List._∷_ 58 (List._∷_ 70 (List._∷_ 111 (List._∷_ 114 (List._∷_ 109
-      List.[]))))))))))) (Syntax.tcons (Syntax.tyInt Syntax.w32) (Syntax.tcons Syntax.tyBool Syntax.tnil))),
-) (List._∷_ (6, Rows.any-gone (Syntax.tyInt Syntax.w64)) (List._∷_ (
-  7,
-  Rows.any-gone
-      (Syntax.tyEnum (List._∷_ 119 (List._∷_ 114 (List._∷_ 105 (List._∷_ 116 (List._∷_ 105 (List._∷_ 110 (List._∷_ 103 (List._∷_ 58 (List._∷_ 58 (List._∷_ 80 (List._∷_ 117 (List._∷_ 116 List.[]))))))))))))
-      (Syntax.ttcons (Syntax.tcons (Syntax.tyStruct (List._∷_ 98 (List._∷_ 105 (List._∷_ 116 (List._∷_ 115 (List._∷_ 58 (List._∷_ 58 (List._∷_ 66 (List._∷_ 105 (List._∷_ 116 (List._∷_ 80 (List._∷_ 111
-      (List._∷_ 115 (List._∷_ 105 (List._∷_ 116 (List._∷_ 105 (List._∷_ 111 (List._∷_ 110 List.[]))))))))))))))))) (Syntax.tcons (Syntax.tyInt Syntax.w64) Syntax.tnil)) Syntax.tnil) (Syntax.ttcons
-      (Syntax.tcons (Syntax.tyInt Syntax.w64) Syntax.tnil) Syntax.ttnil))),
-) (List._∷_ (8, Rows.any-gone (Syntax.tyInt Syntax.w64)) (List._∷_ (
-  9,
-  Rows.any-gone (Syntax.tyStruct (List._∷_ 98 (List._∷_ 105
-      (List._∷_ 116 (List._∷_ 115 (List._∷_ 58 (List._∷_ 58 (List._∷_ 66 (List._∷_ 105 (List._∷_ 116 (List._∷_ 80 (List._∷_ 111 (List._∷_ 115 (List._∷_ 105 (List._∷_ 116 (List._∷_ 105 (List._∷_ 111
-      (List._∷_ 110 List.[]))))))))))))))))) (Syntax.tcons (Syntax.tyInt Syntax.w64) Syntax.tnil)),
-) (List._∷_ (10, Rows.any-gone (Syntax.tyInt Syntax.w64)) (List._∷_ (
-  11,
-  Rows.any-gone (Syntax.tyRef
-      Syntax.erased Syntax.mut (Syntax.tyInt Syntax.w8)),
-) (List._∷_ (
-  12,
-  Rows.any-gone (Syntax.tyStruct (List._∷_ 38 (List._∷_ 91 (List._∷_ 93 List.[]))) (Syntax.tcons (Syntax.tyRef Syntax.erased
-      Syntax.mut (Syntax.tyInt Syntax.w8)) (Syntax.tcons (Syntax.tyInt Syntax.w64) Syntax.tnil))),
-) (List._∷_ (13, Rows.any-gone (Syntax.tyRef Syntax.erased Syntax.mut (Syntax.tyInt Syntax.w16)))
-    (List._∷_ (
-      14,
-      Rows.any-gone (Syntax.tyStruct (List._∷_ 38 (List._∷_ 91 (List._∷_ 93 List.[]))) (Syntax.tcons (Syntax.tyRef Syntax.erased Syntax.mut (Syntax.tyInt Syntax.w16)) (Syntax.tcons
-          (Syntax.tyInt Syntax.w64) Syntax.tnil))),
-    ) (List._∷_ (15, Rows.any-gone (Syntax.tyRef Syntax.erased Syntax.mut Element.behind)) List.[])))))))))))))))
+t2 = List._∷_ e1 (List._∷_ e2 (List._∷_ e24 (List._∷_ e42 (List._∷_ e45 (List._∷_ e48 (List._∷_ e50 (List._∷_ e52 (List._∷_ e56 (List._∷_ e58 (List._∷_ e3 (List._∷_ e6 (List._∷_ e9 (List._∷_ e11
+    (List._∷_ e14 (List._∷_ e16 List.[])))))))))))))))
 
 abbrev pub t3 : List.List Row.Entry
-t3 = List._∷_ (
-  0,
-  Rows.any-gone (Syntax.tyEnum (List._∷_ 98 (List._∷_ 108 (List._∷_ 111 (List._∷_ 99 (List._∷_ 107 (List._∷_ 58 (List._∷_ 58 (List._∷_ 87 (List._∷_ 114 (List._∷_ 105 (List._∷_ 116
-      (List._∷_ 116 (List._∷_ 101 (List._∷_ 110 List.[])))))))))))))) (Syntax.ttcons (Syntax.tcons (Syntax.tyInt Syntax.w64) Syntax.tnil) (Syntax.ttcons (Syntax.tcons (Syntax.tyEnum (List._∷_ 115 (List._∷_
-      116 (List._∷_ 114 (List._∷_ 101 (List._∷_ 97 (List._∷_ 109 (List._∷_ 58 (List._∷_ 58 (List._∷_ 82 (List._∷_ 101 (List._∷_ 102 (List._∷_ 117 (List._∷_ 115 (List._∷_ 97 (List._∷_ 108
-      List.[]))))))))))))))) (Syntax.ttcons Syntax.tnil (Syntax.ttcons Syntax.tnil (Syntax.ttcons Syntax.tnil (Syntax.ttcons (Syntax.tcons (Syntax.tyInt Syntax.w64) Syntax.tnil) (Syntax.ttcons Syntax.tnil
-      (Syntax.ttcons Syntax.tnil (Syntax.ttcons Syntax.tnil (Syntax.ttcons Syntax.tnil (Syntax.ttcons Syntax.tnil (Syntax.ttcons Syntax.tnil (Syntax.ttcons (Syntax.tcons (Syntax.tyInt Syntax.w64)
-      Syntax.tnil) (Syntax.ttcons (Syntax.tcons (Syntax.tyInt Syntax.w64) Syntax.tnil) (Syntax.ttcons Syntax.tnil (Syntax.ttcons (Syntax.tcons (Syntax.tyInt Syntax.w64) (Syntax.tcons (Syntax.tyInt
-      Syntax.w64) Syntax.tnil)) (Syntax.ttcons (Syntax.tcons (Syntax.tyInt Syntax.w64) Syntax.tnil) Syntax.ttnil)))))))))))))))) Syntax.tnil) Syntax.ttnil))),
-) (List._∷_ (
-  1,
-  Rows.sslice (Referent.rtF
-      (Referent.fInt Syntax.w16)) (Syntax.tyRef (Syntax.named 0) Syntax.imm (Syntax.tyInt Syntax.w16)) 0,
-) (List._∷_ (
-  2,
-  Relend.mslice-owed (Referent.rtF (Referent.fInt Syntax.w8)) (Syntax.tyRef
-      (Syntax.named 1) Syntax.mut (Syntax.tyInt Syntax.w8)) 1 4 Row.off,
-) (List._∷_ (
-  3,
-  Mut.mslice (Referent.rtF (Referent.fInt Syntax.w16)) (Syntax.tyRef (Syntax.named 2) Syntax.mut (Syntax.tyInt
-      Syntax.w16)) 2,
-) (List._∷_ (4, Mut.mslice (Element.type) (Syntax.tyRef (Syntax.named 3) Syntax.mut Element.behind) 3) (List._∷_ (5, Rows.whole (Declared'.row Form.the-type)) (List._∷_ (
-  6,
-  Rows.sc-here (Row.sInt Syntax.w64),
-) (List._∷_ (
-  7,
-  Rows.any-gone (Syntax.tyEnum (List._∷_ 119 (List._∷_ 114 (List._∷_ 105 (List._∷_ 116 (List._∷_ 105 (List._∷_ 110 (List._∷_ 103 (List._∷_ 58
-      (List._∷_ 58 (List._∷_ 80 (List._∷_ 117 (List._∷_ 116 List.[])))))))))))) (Syntax.ttcons (Syntax.tcons (Syntax.tyStruct (List._∷_ 98 (List._∷_ 105 (List._∷_ 116 (List._∷_ 115 (List._∷_ 58 (List._∷_ 58
-      (List._∷_ 66 (List._∷_ 105 (List._∷_ 116 (List._∷_ 80 (List._∷_ 111 (List._∷_ 115 (List._∷_ 105 (List._∷_ 116 (List._∷_ 105 (List._∷_ 111 (List._∷_ 110 List.[]))))))))))))))))) (Syntax.tcons
-      (Syntax.tyInt Syntax.w64) Syntax.tnil)) Syntax.tnil) (Syntax.ttcons (Syntax.tcons (Syntax.tyInt Syntax.w64) Syntax.tnil) Syntax.ttnil))),
-) (List._∷_ (8, Rows.any-gone (Syntax.tyInt Syntax.w64))
-    (List._∷_ (
-      9,
-      Rows.any-gone (Syntax.tyStruct (List._∷_ 98 (List._∷_ 105 (List._∷_ 116 (List._∷_ 115 (List._∷_ 58 (List._∷_ 58 (List._∷_ 66 (List._∷_ 105 (List._∷_ 116 (List._∷_ 80 (List._∷_ 111
-          (List._∷_ 115 (List._∷_ 105 (List._∷_ 116 (List._∷_ 105 (List._∷_ 111 (List._∷_ 110 List.[]))))))))))))))))) (Syntax.tcons (Syntax.tyInt Syntax.w64) Syntax.tnil)),
-    ) (List._∷_ (
-      10,
-      Rows.any-gone
-          (Syntax.tyInt Syntax.w64),
-    ) (List._∷_ (11, Relend.msptr (Referent.rtF (Referent.fInt Syntax.w8)) (Syntax.tyRef Syntax.erased Syntax.mut (Syntax.tyInt Syntax.w8)) 4) (List._∷_ (
-      12,
-      Rows.any-gone
-          (Syntax.tyStruct (List._∷_ 38 (List._∷_ 91 (List._∷_ 93 List.[]))) (Syntax.tcons (Syntax.tyRef Syntax.erased Syntax.mut (Syntax.tyInt Syntax.w8)) (Syntax.tcons (Syntax.tyInt Syntax.w64)
-          Syntax.tnil))),
-    ) (List._∷_ (13, Rows.any-gone (Syntax.tyRef Syntax.erased Syntax.mut (Syntax.tyInt Syntax.w16))) (List._∷_ (
-      14,
-      Rows.any-gone (Syntax.tyStruct (List._∷_ 38 (List._∷_ 91 (List._∷_
-          93 List.[]))) (Syntax.tcons (Syntax.tyRef Syntax.erased Syntax.mut (Syntax.tyInt Syntax.w16)) (Syntax.tcons (Syntax.tyInt Syntax.w64) Syntax.tnil))),
-    ) (List._∷_ (
-      15,
-      Rows.any-gone (Syntax.tyRef
-          Syntax.erased Syntax.mut Element.behind),
-    ) List.[])))))))))))))))
+t3 = List._∷_ e0 (List._∷_ e2 (List._∷_ e25 (List._∷_ e42 (List._∷_ e45 (List._∷_ e49 (List._∷_ e51 (List._∷_ e52 (List._∷_ e56 (List._∷_ e58 (List._∷_ e3 (List._∷_ e5 (List._∷_ e9 (List._∷_ e11
+    (List._∷_ e14 (List._∷_ e16 List.[])))))))))))))))
 
 abbrev pub t4 : List.List Row.Entry
-t4 = List._∷_ (
-  0,
-  Rows.any-gone (Syntax.tyEnum (List._∷_ 98 (List._∷_ 108 (List._∷_ 111 (List._∷_ 99 (List._∷_ 107 (List._∷_ 58 (List._∷_ 58 (List._∷_ 87 (List._∷_ 114 (List._∷_ 105 (List._∷_ 116
-      (List._∷_ 116 (List._∷_ 101 (List._∷_ 110 List.[])))))))))))))) (Syntax.ttcons (Syntax.tcons (Syntax.tyInt Syntax.w64) Syntax.tnil) (Syntax.ttcons (Syntax.tcons (Syntax.tyEnum (List._∷_ 115 (List._∷_
-      116 (List._∷_ 114 (List._∷_ 101 (List._∷_ 97 (List._∷_ 109 (List._∷_ 58 (List._∷_ 58 (List._∷_ 82 (List._∷_ 101 (List._∷_ 102 (List._∷_ 117 (List._∷_ 115 (List._∷_ 97 (List._∷_ 108
-      List.[]))))))))))))))) (Syntax.ttcons Syntax.tnil (Syntax.ttcons Syntax.tnil (Syntax.ttcons Syntax.tnil (Syntax.ttcons (Syntax.tcons (Syntax.tyInt Syntax.w64) Syntax.tnil) (Syntax.ttcons Syntax.tnil
-      (Syntax.ttcons Syntax.tnil (Syntax.ttcons Syntax.tnil (Syntax.ttcons Syntax.tnil (Syntax.ttcons Syntax.tnil (Syntax.ttcons Syntax.tnil (Syntax.ttcons (Syntax.tcons (Syntax.tyInt Syntax.w64)
-      Syntax.tnil) (Syntax.ttcons (Syntax.tcons (Syntax.tyInt Syntax.w64) Syntax.tnil) (Syntax.ttcons Syntax.tnil (Syntax.ttcons (Syntax.tcons (Syntax.tyInt Syntax.w64) (Syntax.tcons (Syntax.tyInt
-      Syntax.w64) Syntax.tnil)) (Syntax.ttcons (Syntax.tcons (Syntax.tyInt Syntax.w64) Syntax.tnil) Syntax.ttnil)))))))))))))))) Syntax.tnil) Syntax.ttnil))),
-) (List._∷_ (
-  1,
-  Rows.sslice (Referent.rtF
-      (Referent.fInt Syntax.w16)) (Syntax.tyRef (Syntax.named 0) Syntax.imm (Syntax.tyInt Syntax.w16)) 0,
-) (List._∷_ (
-  2,
-  Relend.mslice-owed (Referent.rtF (Referent.fInt Syntax.w8)) (Syntax.tyRef
-      (Syntax.named 1) Syntax.mut (Syntax.tyInt Syntax.w8)) 1 4 Row.off,
-) (List._∷_ (
-  3,
-  Mut.mslice (Referent.rtF (Referent.fInt Syntax.w16)) (Syntax.tyRef (Syntax.named 2) Syntax.mut (Syntax.tyInt
-      Syntax.w16)) 2,
-) (List._∷_ (4, Mut.mslice (Element.type) (Syntax.tyRef (Syntax.named 3) Syntax.mut Element.behind) 3) (List._∷_ (5, Rows.whole (Declared'.row Form.the-type)) (List._∷_ (
-  6,
-  Rows.sc-here (Row.sInt Syntax.w64),
-) (List._∷_ (
-  7,
-  Rows.any-gone (Syntax.tyEnum (List._∷_ 119 (List._∷_ 114 (List._∷_ 105 (List._∷_ 116 (List._∷_ 105 (List._∷_ 110 (List._∷_ 103 (List._∷_ 58
-      (List._∷_ 58 (List._∷_ 80 (List._∷_ 117 (List._∷_ 116 List.[])))))))))))) (Syntax.ttcons (Syntax.tcons (Syntax.tyStruct (List._∷_ 98 (List._∷_ 105 (List._∷_ 116 (List._∷_ 115 (List._∷_ 58 (List._∷_ 58
-      (List._∷_ 66 (List._∷_ 105 (List._∷_ 116 (List._∷_ 80 (List._∷_ 111 (List._∷_ 115 (List._∷_ 105 (List._∷_ 116 (List._∷_ 105 (List._∷_ 111 (List._∷_ 110 List.[]))))))))))))))))) (Syntax.tcons
-      (Syntax.tyInt Syntax.w64) Syntax.tnil)) Syntax.tnil) (Syntax.ttcons (Syntax.tcons (Syntax.tyInt Syntax.w64) Syntax.tnil) Syntax.ttnil))),
-) (List._∷_ (8, Rows.any-gone (Syntax.tyInt Syntax.w64))
-    (List._∷_ (
-      9,
-      Rows.any-gone (Syntax.tyStruct (List._∷_ 98 (List._∷_ 105 (List._∷_ 116 (List._∷_ 115 (List._∷_ 58 (List._∷_ 58 (List._∷_ 66 (List._∷_ 105 (List._∷_ 116 (List._∷_ 80 (List._∷_ 111
-          (List._∷_ 115 (List._∷_ 105 (List._∷_ 116 (List._∷_ 105 (List._∷_ 111 (List._∷_ 110 List.[]))))))))))))))))) (Syntax.tcons (Syntax.tyInt Syntax.w64) Syntax.tnil)),
-    ) (List._∷_ (
-      10,
-      Rows.any-gone
-          (Syntax.tyInt Syntax.w64),
-    ) (List._∷_ (11, Rows.any-gone (Syntax.tyRef Syntax.erased Syntax.mut (Syntax.tyInt Syntax.w8))) (List._∷_ (
-      12,
-      Mut.mslice (Referent.rtF (Referent.fInt Syntax.w8))
-          (Syntax.tyRef Syntax.erased Syntax.mut (Syntax.tyInt Syntax.w8)) 4,
-    ) (List._∷_ (13, Rows.any-gone (Syntax.tyRef Syntax.erased Syntax.mut (Syntax.tyInt Syntax.w16))) (List._∷_ (
-      14,
-      Rows.any-gone
-          (Syntax.tyStruct (List._∷_ 38 (List._∷_ 91 (List._∷_ 93 List.[]))) (Syntax.tcons (Syntax.tyRef Syntax.erased Syntax.mut (Syntax.tyInt Syntax.w16)) (Syntax.tcons (Syntax.tyInt Syntax.w64)
-          Syntax.tnil))),
-    ) (List._∷_ (15, Rows.any-gone (Syntax.tyRef Syntax.erased Syntax.mut Element.behind)) List.[])))))))))))))))
+t4 = List._∷_ e0 (List._∷_ e2 (List._∷_ e25 (List._∷_ e42 (List._∷_ e45 (List._∷_ e49 (List._∷_ e51 (List._∷_ e52 (List._∷_ e56 (List._∷_ e58 (List._∷_ e3 (List._∷_ e6 (List._∷_ e8 (List._∷_ e11
+    (List._∷_ e14 (List._∷_ e16 List.[])))))))))))))))
 
 abbrev pub t5 : List.List Row.Entry
-t5 = List._∷_ (
-  0,
-  Rows.any-gone (Syntax.tyEnum (List._∷_ 98 (List._∷_ 108 (List._∷_ 111 (List._∷_ 99 (List._∷_ 107 (List._∷_ 58 (List._∷_ 58 (List._∷_ 87 (List._∷_ 114 (List._∷_ 105 (List._∷_ 116
-      (List._∷_ 116 (List._∷_ 101 (List._∷_ 110 List.[])))))))))))))) (Syntax.ttcons (Syntax.tcons (Syntax.tyInt Syntax.w64) Syntax.tnil) (Syntax.ttcons (Syntax.tcons (Syntax.tyEnum (List._∷_ 115 (List._∷_
-      116 (List._∷_ 114 (List._∷_ 101 (List._∷_ 97 (List._∷_ 109 (List._∷_ 58 (List._∷_ 58 (List._∷_ 82 (List._∷_ 101 (List._∷_ 102 (List._∷_ 117 (List._∷_ 115 (List._∷_ 97 (List._∷_ 108
-      List.[]))))))))))))))) (Syntax.ttcons Syntax.tnil (Syntax.ttcons Syntax.tnil (Syntax.ttcons Syntax.tnil (Syntax.ttcons (Syntax.tcons (Syntax.tyInt Syntax.w64) Syntax.tnil) (Syntax.ttcons Syntax.tnil
-      (Syntax.ttcons Syntax.tnil (Syntax.ttcons Syntax.tnil (Syntax.ttcons Syntax.tnil (Syntax.ttcons Syntax.tnil (Syntax.ttcons Syntax.tnil (Syntax.ttcons (Syntax.tcons (Syntax.tyInt Syntax.w64)
-      Syntax.tnil) (Syntax.ttcons (Syntax.tcons (Syntax.tyInt Syntax.w64) Syntax.tnil) (Syntax.ttcons Syntax.tnil (Syntax.ttcons (Syntax.tcons (Syntax.tyInt Syntax.w64) (Syntax.tcons (Syntax.tyInt
-      Syntax.w64) Syntax.tnil)) (Syntax.ttcons (Syntax.tcons (Syntax.tyInt Syntax.w64) Syntax.tnil) Syntax.ttnil)))))))))))))))) Syntax.tnil) Syntax.ttnil))),
-) (List._∷_ (
-  1,
-  Rows.sslice (Referent.rtF
-      (Referent.fInt Syntax.w16)) (Syntax.tyRef (Syntax.named 0) Syntax.imm (Syntax.tyInt Syntax.w16)) 0,
-) (List._∷_ (
-  2,
-  Relend.mslice-owed (Referent.rtF (Referent.fInt Syntax.w8)) (Syntax.tyRef
-      (Syntax.named 1) Syntax.mut (Syntax.tyInt Syntax.w8)) 1 4 Row.off,
-) (List._∷_ (
-  3,
-  Relend.mslice-owed (Referent.rtF (Referent.fInt Syntax.w16)) (Syntax.tyRef (Syntax.named 2) Syntax.mut (Syntax.tyInt
-      Syntax.w16)) 2 5 Row.off,
-) (List._∷_ (4, Mut.mslice (Element.type) (Syntax.tyRef (Syntax.named 3) Syntax.mut Element.behind) 3) (List._∷_ (5, Rows.whole (Declared'.row Form.the-type)) (List._∷_ (
-  6,
-  Rows.sc-here (Row.sInt Syntax.w64),
-) (List._∷_ (
-  7,
-  Rows.any-gone (Syntax.tyEnum (List._∷_ 119 (List._∷_ 114 (List._∷_ 105 (List._∷_ 116 (List._∷_ 105 (List._∷_ 110 (List._∷_ 103 (List._∷_ 58
-      (List._∷_ 58 (List._∷_ 80 (List._∷_ 117 (List._∷_ 116 List.[])))))))))))) (Syntax.ttcons (Syntax.tcons (Syntax.tyStruct (List._∷_ 98 (List._∷_ 105 (List._∷_ 116 (List._∷_ 115 (List._∷_ 58 (List._∷_ 58
-      (List._∷_ 66 (List._∷_ 105 (List._∷_ 116 (List._∷_ 80 (List._∷_ 111 (List._∷_ 115 (List._∷_ 105 (List._∷_ 116 (List._∷_ 105 (List._∷_ 111 (List._∷_ 110 List.[]))))))))))))))))) (Syntax.tcons
-      (Syntax.tyInt Syntax.w64) Syntax.tnil)) Syntax.tnil) (Syntax.ttcons (Syntax.tcons (Syntax.tyInt Syntax.w64) Syntax.tnil) Syntax.ttnil))),
-) (List._∷_ (8, Rows.any-gone (Syntax.tyInt Syntax.w64))
-    (List._∷_ (
-      9,
-      Rows.any-gone (Syntax.tyStruct (List._∷_ 98 (List._∷_ 105 (List._∷_ 116 (List._∷_ 115 (List._∷_ 58 (List._∷_ 58 (List._∷_ 66 (List._∷_ 105 (List._∷_ 116 (List._∷_ 80 (List._∷_ 111
-          (List._∷_ 115 (List._∷_ 105 (List._∷_ 116 (List._∷_ 105 (List._∷_ 111 (List._∷_ 110 List.[]))))))))))))))))) (Syntax.tcons (Syntax.tyInt Syntax.w64) Syntax.tnil)),
-    ) (List._∷_ (
-      10,
-      Rows.any-gone
-          (Syntax.tyInt Syntax.w64),
-    ) (List._∷_ (11, Rows.any-gone (Syntax.tyRef Syntax.erased Syntax.mut (Syntax.tyInt Syntax.w8))) (List._∷_ (
-      12,
-      Mut.mslice (Referent.rtF (Referent.fInt Syntax.w8))
-          (Syntax.tyRef Syntax.erased Syntax.mut (Syntax.tyInt Syntax.w8)) 4,
-    ) (List._∷_ (
-      13,
-      Relend.msptr (Referent.rtF (Referent.fInt Syntax.w16)) (Syntax.tyRef Syntax.erased Syntax.mut (Syntax.tyInt
-          Syntax.w16)) 5,
-    ) (List._∷_ (
-      14,
-      Rows.any-gone (Syntax.tyStruct (List._∷_ 38 (List._∷_ 91 (List._∷_ 93 List.[]))) (Syntax.tcons (Syntax.tyRef Syntax.erased Syntax.mut (Syntax.tyInt Syntax.w16))
-          (Syntax.tcons (Syntax.tyInt Syntax.w64) Syntax.tnil))),
-    ) (List._∷_ (15, Rows.any-gone (Syntax.tyRef Syntax.erased Syntax.mut Element.behind)) List.[])))))))))))))))
+t5 = List._∷_ e0 (List._∷_ e2 (List._∷_ e25 (List._∷_ e43 (List._∷_ e45 (List._∷_ e49 (List._∷_ e51 (List._∷_ e52 (List._∷_ e56 (List._∷_ e58 (List._∷_ e3 (List._∷_ e6 (List._∷_ e8 (List._∷_ e10
+    (List._∷_ e14 (List._∷_ e16 List.[])))))))))))))))
 
 abbrev pub t6 : List.List Row.Entry
-t6 = List._∷_ (
-  0,
-  Rows.any-gone (Syntax.tyEnum (List._∷_ 98 (List._∷_ 108 (List._∷_ 111 (List._∷_ 99 (List._∷_ 107 (List._∷_ 58 (List._∷_ 58 (List._∷_ 87 (List._∷_ 114 (List._∷_ 105 (List._∷_ 116
-      (List._∷_ 116 (List._∷_ 101 (List._∷_ 110 List.[])))))))))))))) (Syntax.ttcons (Syntax.tcons (Syntax.tyInt Syntax.w64) Syntax.tnil) (Syntax.ttcons (Syntax.tcons (Syntax.tyEnum (List._∷_ 115 (List._∷_
-      116 (List._∷_ 114 (List._∷_ 101 (List._∷_ 97 (List._∷_ 109 (List._∷_ 58 (List._∷_ 58 (List._∷_ 82 (List._∷_ 101 (List._∷_ 102 (List._∷_ 117 (List._∷_ 115 (List._∷_ 97 (List._∷_ 108
-      List.[]))))))))))))))) (Syntax.ttcons Syntax.tnil (Syntax.ttcons Syntax.tnil (Syntax.ttcons Syntax.tnil (Syntax.ttcons (Syntax.tcons (Syntax.tyInt Syntax.w64) Syntax.tnil) (Syntax.ttcons Syntax.tnil
-      (Syntax.ttcons Syntax.tnil (Syntax.ttcons Syntax.tnil (Syntax.ttcons Syntax.tnil (Syntax.ttcons Syntax.tnil (Syntax.ttcons Syntax.tnil (Syntax.ttcons (Syntax.tcons (Syntax.tyInt Syntax.w64)
-      Syntax.tnil) (Syntax.ttcons (Syntax.tcons (Syntax.tyInt Syntax.w64) Syntax.tnil) (Syntax.ttcons Syntax.tnil (Syntax.ttcons (Syntax.tcons (Syntax.tyInt Syntax.w64) (Syntax.tcons (Syntax.tyInt
-      Syntax.w64) Syntax.tnil)) (Syntax.ttcons (Syntax.tcons (Syntax.tyInt Syntax.w64) Syntax.tnil) Syntax.ttnil)))))))))))))))) Syntax.tnil) Syntax.ttnil))),
-) (List._∷_ (
-  1,
-  Rows.sslice (Referent.rtF
-      (Referent.fInt Syntax.w16)) (Syntax.tyRef (Syntax.named 0) Syntax.imm (Syntax.tyInt Syntax.w16)) 0,
-) (List._∷_ (
-  2,
-  Relend.mslice-owed (Referent.rtF (Referent.fInt Syntax.w8)) (Syntax.tyRef
-      (Syntax.named 1) Syntax.mut (Syntax.tyInt Syntax.w8)) 1 4 Row.off,
-) (List._∷_ (
-  3,
-  Relend.mslice-owed (Referent.rtF (Referent.fInt Syntax.w16)) (Syntax.tyRef (Syntax.named 2) Syntax.mut (Syntax.tyInt
-      Syntax.w16)) 2 5 Row.off,
-) (List._∷_ (4, Mut.mslice (Element.type) (Syntax.tyRef (Syntax.named 3) Syntax.mut Element.behind) 3) (List._∷_ (5, Rows.whole (Declared'.row Form.the-type)) (List._∷_ (
-  6,
-  Rows.sc-here (Row.sInt Syntax.w64),
-) (List._∷_ (
-  7,
-  Rows.any-gone (Syntax.tyEnum (List._∷_ 119 (List._∷_ 114 (List._∷_ 105 (List._∷_ 116 (List._∷_ 105 (List._∷_ 110 (List._∷_ 103 (List._∷_ 58
-      (List._∷_ 58 (List._∷_ 80 (List._∷_ 117 (List._∷_ 116 List.[])))))))))))) (Syntax.ttcons (Syntax.tcons (Syntax.tyStruct (List._∷_ 98 (List._∷_ 105 (List._∷_ 116 (List._∷_ 115 (List._∷_ 58 (List._∷_ 58
-      (List._∷_ 66 (List._∷_ 105 (List._∷_ 116 (List._∷_ 80 (List._∷_ 111 (List._∷_ 115 (List._∷_ 105 (List._∷_ 116 (List._∷_ 105 (List._∷_ 111 (List._∷_ 110 List.[]))))))))))))))))) (Syntax.tcons
-      (Syntax.tyInt Syntax.w64) Syntax.tnil)) Syntax.tnil) (Syntax.ttcons (Syntax.tcons (Syntax.tyInt Syntax.w64) Syntax.tnil) Syntax.ttnil))),
-) (List._∷_ (8, Rows.any-gone (Syntax.tyInt Syntax.w64))
-    (List._∷_ (
-      9,
-      Rows.any-gone (Syntax.tyStruct (List._∷_ 98 (List._∷_ 105 (List._∷_ 116 (List._∷_ 115 (List._∷_ 58 (List._∷_ 58 (List._∷_ 66 (List._∷_ 105 (List._∷_ 116 (List._∷_ 80 (List._∷_ 111
-          (List._∷_ 115 (List._∷_ 105 (List._∷_ 116 (List._∷_ 105 (List._∷_ 111 (List._∷_ 110 List.[]))))))))))))))))) (Syntax.tcons (Syntax.tyInt Syntax.w64) Syntax.tnil)),
-    ) (List._∷_ (
-      10,
-      Rows.any-gone
-          (Syntax.tyInt Syntax.w64),
-    ) (List._∷_ (11, Rows.any-gone (Syntax.tyRef Syntax.erased Syntax.mut (Syntax.tyInt Syntax.w8))) (List._∷_ (
-      12,
-      Mut.mslice (Referent.rtF (Referent.fInt Syntax.w8))
-          (Syntax.tyRef Syntax.erased Syntax.mut (Syntax.tyInt Syntax.w8)) 4,
-    ) (List._∷_ (13, Rows.any-gone (Syntax.tyRef Syntax.erased Syntax.mut (Syntax.tyInt Syntax.w16))) (List._∷_ (
-      14,
-      Mut.mslice
-          (Referent.rtF (Referent.fInt Syntax.w16)) (Syntax.tyRef Syntax.erased Syntax.mut (Syntax.tyInt Syntax.w16)) 5,
-    ) (List._∷_ (15, Rows.any-gone (Syntax.tyRef Syntax.erased Syntax.mut Element.behind))
-    List.[])))))))))))))))
+t6 = List._∷_ e0 (List._∷_ e2 (List._∷_ e25 (List._∷_ e43 (List._∷_ e45 (List._∷_ e49 (List._∷_ e51 (List._∷_ e52 (List._∷_ e56 (List._∷_ e58 (List._∷_ e3 (List._∷_ e6 (List._∷_ e8 (List._∷_ e11
+    (List._∷_ e13 (List._∷_ e16 List.[])))))))))))))))
 
 abbrev pub t7 : List.List Row.Entry
-t7 = List._∷_ (
-  0,
-  Rows.any-gone (Syntax.tyEnum (List._∷_ 98 (List._∷_ 108 (List._∷_ 111 (List._∷_ 99 (List._∷_ 107 (List._∷_ 58 (List._∷_ 58 (List._∷_ 87 (List._∷_ 114 (List._∷_ 105 (List._∷_ 116
-      (List._∷_ 116 (List._∷_ 101 (List._∷_ 110 List.[])))))))))))))) (Syntax.ttcons (Syntax.tcons (Syntax.tyInt Syntax.w64) Syntax.tnil) (Syntax.ttcons (Syntax.tcons (Syntax.tyEnum (List._∷_ 115 (List._∷_
-      116 (List._∷_ 114 (List._∷_ 101 (List._∷_ 97 (List._∷_ 109 (List._∷_ 58 (List._∷_ 58 (List._∷_ 82 (List._∷_ 101 (List._∷_ 102 (List._∷_ 117 (List._∷_ 115 (List._∷_ 97 (List._∷_ 108
-      List.[]))))))))))))))) (Syntax.ttcons Syntax.tnil (Syntax.ttcons Syntax.tnil (Syntax.ttcons Syntax.tnil (Syntax.ttcons (Syntax.tcons (Syntax.tyInt Syntax.w64) Syntax.tnil) (Syntax.ttcons Syntax.tnil
-      (Syntax.ttcons Syntax.tnil (Syntax.ttcons Syntax.tnil (Syntax.ttcons Syntax.tnil (Syntax.ttcons Syntax.tnil (Syntax.ttcons Syntax.tnil (Syntax.ttcons (Syntax.tcons (Syntax.tyInt Syntax.w64)
-      Syntax.tnil) (Syntax.ttcons (Syntax.tcons (Syntax.tyInt Syntax.w64) Syntax.tnil) (Syntax.ttcons Syntax.tnil (Syntax.ttcons (Syntax.tcons (Syntax.tyInt Syntax.w64) (Syntax.tcons (Syntax.tyInt
-      Syntax.w64) Syntax.tnil)) (Syntax.ttcons (Syntax.tcons (Syntax.tyInt Syntax.w64) Syntax.tnil) Syntax.ttnil)))))))))))))))) Syntax.tnil) Syntax.ttnil))),
-) (List._∷_ (
-  1,
-  Rows.sslice (Referent.rtF
-      (Referent.fInt Syntax.w16)) (Syntax.tyRef (Syntax.named 0) Syntax.imm (Syntax.tyInt Syntax.w16)) 0,
-) (List._∷_ (
-  2,
-  Relend.mslice-owed (Referent.rtF (Referent.fInt Syntax.w8)) (Syntax.tyRef
-      (Syntax.named 1) Syntax.mut (Syntax.tyInt Syntax.w8)) 1 4 Row.off,
-) (List._∷_ (
-  3,
-  Relend.mslice-owed (Referent.rtF (Referent.fInt Syntax.w16)) (Syntax.tyRef (Syntax.named 2) Syntax.mut (Syntax.tyInt
-      Syntax.w16)) 2 5 Row.off,
-) (List._∷_ (4, Relend.mslice-owed (Element.type) (Syntax.tyRef (Syntax.named 3) Syntax.mut Element.behind) 3 6 Row.off) (List._∷_ (
-  5,
-  Rows.whole (Declared'.row
-      Form.the-type),
-) (List._∷_ (6, Rows.sc-here (Row.sInt Syntax.w64)) (List._∷_ (
-  7,
-  Rows.any-gone (Syntax.tyEnum (List._∷_ 119 (List._∷_ 114 (List._∷_ 105 (List._∷_ 116 (List._∷_ 105 (List._∷_ 110
-      (List._∷_ 103 (List._∷_ 58 (List._∷_ 58 (List._∷_ 80 (List._∷_ 117 (List._∷_ 116 List.[])))))))))))) (Syntax.ttcons (Syntax.tcons (Syntax.tyStruct (List._∷_ 98 (List._∷_ 105 (List._∷_ 116 (List._∷_
-      115 (List._∷_ 58 (List._∷_ 58 (List._∷_ 66 (List._∷_ 105 (List._∷_ 116 (List._∷_ 80 (List._∷_ 111 (List._∷_ 115 (List._∷_ 105 (List._∷_ 116 (List._∷_ 105 (List._∷_ 111 (List._∷_ 110
-      List.[]))))))))))))))))) (Syntax.tcons (Syntax.tyInt Syntax.w64) Syntax.tnil)) Syntax.tnil) (Syntax.ttcons (Syntax.tcons (Syntax.tyInt Syntax.w64) Syntax.tnil) Syntax.ttnil))),
-) (List._∷_ (
-  8,
-  Rows.any-gone (Syntax.tyInt Syntax.w64),
-) (List._∷_ (
-  9,
-  Rows.any-gone (Syntax.tyStruct (List._∷_ 98 (List._∷_ 105 (List._∷_ 116 (List._∷_ 115 (List._∷_ 58 (List._∷_ 58 (List._∷_ 66 (List._∷_ 105
-      (List._∷_ 116 (List._∷_ 80 (List._∷_ 111 (List._∷_ 115 (List._∷_ 105 (List._∷_ 116 (List._∷_ 105 (List._∷_ 111 (List._∷_ 110 List.[]))))))))))))))))) (Syntax.tcons (Syntax.tyInt Syntax.w64)
-      Syntax.tnil)),
-) (List._∷_ (10, Rows.any-gone (Syntax.tyInt Syntax.w64)) (List._∷_ (11, Rows.any-gone (Syntax.tyRef Syntax.erased Syntax.mut (Syntax.tyInt Syntax.w8))) (List._∷_ (
-  12,
-  Mut.mslice
-      (Referent.rtF (Referent.fInt Syntax.w8)) (Syntax.tyRef Syntax.erased Syntax.mut (Syntax.tyInt Syntax.w8)) 4,
-) (List._∷_ (
-  13,
-  Rows.any-gone (Syntax.tyRef Syntax.erased Syntax.mut (Syntax.tyInt
-      Syntax.w16)),
-) (List._∷_ (14, Mut.mslice (Referent.rtF (Referent.fInt Syntax.w16)) (Syntax.tyRef Syntax.erased Syntax.mut (Syntax.tyInt Syntax.w16)) 5) (List._∷_ (
-  15,
-  Relend.msptr (Element.type)
-      (Syntax.tyRef Syntax.erased Syntax.mut Element.behind) 6,
-) List.[])))))))))))))))
+t7 = List._∷_ e0 (List._∷_ e2 (List._∷_ e25 (List._∷_ e43 (List._∷_ e46 (List._∷_ e49 (List._∷_ e51 (List._∷_ e52 (List._∷_ e56 (List._∷_ e58 (List._∷_ e3 (List._∷_ e6 (List._∷_ e8 (List._∷_ e11
+    (List._∷_ e13 (List._∷_ e15 List.[])))))))))))))))
 
 abbrev pub t8 : List.List Row.Entry
-t8 = List._∷_ (
-  0,
-  Rows.any-gone (Syntax.tyEnum (List._∷_ 98 (List._∷_ 108 (List._∷_ 111 (List._∷_ 99 (List._∷_ 107 (List._∷_ 58 (List._∷_ 58 (List._∷_ 87 (List._∷_ 114 (List._∷_ 105 (List._∷_ 116
-      (List._∷_ 116 (List._∷_ 101 (List._∷_ 110 List.[])))))))))))))) (Syntax.ttcons (Syntax.tcons (Syntax.tyInt Syntax.w64) Syntax.tnil) (Syntax.ttcons (Syntax.tcons (Syntax.tyEnum (List._∷_ 115 (List._∷_
-      116 (List._∷_ 114 (List._∷_ 101 (List._∷_ 97 (List._∷_ 109 (List._∷_ 58 (List._∷_ 58 (List._∷_ 82 (List._∷_ 101 (List._∷_ 102 (List._∷_ 117 (List._∷_ 115 (List._∷_ 97 (List._∷_ 108
-      List.[]))))))))))))))) (Syntax.ttcons Syntax.tnil (Syntax.ttcons Syntax.tnil (Syntax.ttcons Syntax.tnil (Syntax.ttcons (Syntax.tcons (Syntax.tyInt Syntax.w64) Syntax.tnil) (Syntax.ttcons Syntax.tnil
-      (Syntax.ttcons Syntax.tnil (Syntax.ttcons Syntax.tnil (Syntax.ttcons Syntax.tnil (Syntax.ttcons Syntax.tnil (Syntax.ttcons Syntax.tnil (Syntax.ttcons (Syntax.tcons (Syntax.tyInt Syntax.w64)
-      Syntax.tnil) (Syntax.ttcons (Syntax.tcons (Syntax.tyInt Syntax.w64) Syntax.tnil) (Syntax.ttcons Syntax.tnil (Syntax.ttcons (Syntax.tcons (Syntax.tyInt Syntax.w64) (Syntax.tcons (Syntax.tyInt
-      Syntax.w64) Syntax.tnil)) (Syntax.ttcons (Syntax.tcons (Syntax.tyInt Syntax.w64) Syntax.tnil) Syntax.ttnil)))))))))))))))) Syntax.tnil) Syntax.ttnil))),
-) (List._∷_ (
-  1,
-  Rows.sslice (Referent.rtF
-      (Referent.fInt Syntax.w16)) (Syntax.tyRef (Syntax.named 0) Syntax.imm (Syntax.tyInt Syntax.w16)) 0,
-) (List._∷_ (
-  2,
-  Relend.mslice-owed (Referent.rtF (Referent.fInt Syntax.w8)) (Syntax.tyRef
-      (Syntax.named 1) Syntax.mut (Syntax.tyInt Syntax.w8)) 1 4 Row.off,
-) (List._∷_ (
-  3,
-  Relend.mslice-owed (Referent.rtF (Referent.fInt Syntax.w16)) (Syntax.tyRef (Syntax.named 2) Syntax.mut (Syntax.tyInt
-      Syntax.w16)) 2 5 Row.off,
-) (List._∷_ (4, Relend.mslice-owed (Element.type) (Syntax.tyRef (Syntax.named 3) Syntax.mut Element.behind) 3 6 Row.off) (List._∷_ (
-  5,
-  Rows.whole (Declared'.row
-      Form.the-type),
-) (List._∷_ (6, Rows.sc-here (Row.sInt Syntax.w64)) (List._∷_ (
-  7,
-  Rows.any-gone (Syntax.tyEnum (List._∷_ 119 (List._∷_ 114 (List._∷_ 105 (List._∷_ 116 (List._∷_ 105 (List._∷_ 110
-      (List._∷_ 103 (List._∷_ 58 (List._∷_ 58 (List._∷_ 80 (List._∷_ 117 (List._∷_ 116 List.[])))))))))))) (Syntax.ttcons (Syntax.tcons (Syntax.tyStruct (List._∷_ 98 (List._∷_ 105 (List._∷_ 116 (List._∷_
-      115 (List._∷_ 58 (List._∷_ 58 (List._∷_ 66 (List._∷_ 105 (List._∷_ 116 (List._∷_ 80 (List._∷_ 111 (List._∷_ 115 (List._∷_ 105 (List._∷_ 116 (List._∷_ 105 (List._∷_ 111 (List._∷_ 110
-      List.[]))))))))))))))))) (Syntax.tcons (Syntax.tyInt Syntax.w64) Syntax.tnil)) Syntax.tnil) (Syntax.ttcons (Syntax.tcons (Syntax.tyInt Syntax.w64) Syntax.tnil) Syntax.ttnil))),
-) (List._∷_ (
-  8,
-  Rows.any-gone (Syntax.tyInt Syntax.w64),
-) (List._∷_ (
-  9,
-  Rows.any-gone (Syntax.tyStruct (List._∷_ 98 (List._∷_ 105 (List._∷_ 116 (List._∷_ 115 (List._∷_ 58 (List._∷_ 58 (List._∷_ 66 (List._∷_ 105
-      (List._∷_ 116 (List._∷_ 80 (List._∷_ 111 (List._∷_ 115 (List._∷_ 105 (List._∷_ 116 (List._∷_ 105 (List._∷_ 111 (List._∷_ 110 List.[]))))))))))))))))) (Syntax.tcons (Syntax.tyInt Syntax.w64)
-      Syntax.tnil)),
-) (List._∷_ (10, Rows.any-gone (Syntax.tyInt Syntax.w64)) (List._∷_ (11, Rows.any-gone (Syntax.tyRef Syntax.erased Syntax.mut (Syntax.tyInt Syntax.w8))) (List._∷_ (
-  12,
-  Mut.mslice
-      (Referent.rtF (Referent.fInt Syntax.w8)) (Syntax.tyRef Syntax.erased Syntax.mut (Syntax.tyInt Syntax.w8)) 4,
-) (List._∷_ (
-  13,
-  Rows.any-gone (Syntax.tyRef Syntax.erased Syntax.mut (Syntax.tyInt
-      Syntax.w16)),
-) (List._∷_ (14, Mut.mslice (Referent.rtF (Referent.fInt Syntax.w16)) (Syntax.tyRef Syntax.erased Syntax.mut (Syntax.tyInt Syntax.w16)) 5) (List._∷_ (
-  15,
-  Rows.any-gone (Syntax.tyRef
-      Syntax.erased Syntax.mut Element.behind),
-) List.[])))))))))))))))
+t8 = List._∷_ e0 (List._∷_ e2 (List._∷_ e25 (List._∷_ e43 (List._∷_ e46 (List._∷_ e49 (List._∷_ e51 (List._∷_ e52 (List._∷_ e56 (List._∷_ e58 (List._∷_ e3 (List._∷_ e6 (List._∷_ e8 (List._∷_ e11
+    (List._∷_ e13 (List._∷_ e16 List.[])))))))))))))))
 
 abbrev pub t9 : List.List Row.Entry
-t9 = List._∷_ (16, Mut.mslice (Element.type) (Syntax.tyRef Syntax.erased Syntax.mut Element.behind) 6) (List._∷_ (
-  17,
-  Rows.any-gone (Syntax.tyEnum (List._∷_ 98 (List._∷_ 108 (List._∷_ 111
-      (List._∷_ 99 (List._∷_ 107 (List._∷_ 58 (List._∷_ 58 (List._∷_ 87 (List._∷_ 114 (List._∷_ 105 (List._∷_ 116 (List._∷_ 116 (List._∷_ 101 (List._∷_ 110 List.[])))))))))))))) (Syntax.ttcons (Syntax.tcons
-      (Syntax.tyInt Syntax.w64) Syntax.tnil) (Syntax.ttcons (Syntax.tcons (Syntax.tyEnum (List._∷_ 115 (List._∷_ 116 (List._∷_ 114 (List._∷_ 101 (List._∷_ 97 (List._∷_ 109 (List._∷_ 58 (List._∷_ 58
-      (List._∷_ 82 (List._∷_ 101 (List._∷_ 102 (List._∷_ 117 (List._∷_ 115 (List._∷_ 97 (List._∷_ 108 List.[]))))))))))))))) (Syntax.ttcons Syntax.tnil (Syntax.ttcons Syntax.tnil (Syntax.ttcons Syntax.tnil
-      (Syntax.ttcons (Syntax.tcons (Syntax.tyInt Syntax.w64) Syntax.tnil) (Syntax.ttcons Syntax.tnil (Syntax.ttcons Syntax.tnil (Syntax.ttcons Syntax.tnil (Syntax.ttcons Syntax.tnil (Syntax.ttcons
-      Syntax.tnil (Syntax.ttcons Syntax.tnil (Syntax.ttcons (Syntax.tcons (Syntax.tyInt Syntax.w64) Syntax.tnil) (Syntax.ttcons (Syntax.tcons (Syntax.tyInt Syntax.w64) Syntax.tnil) (Syntax.ttcons
-      Syntax.tnil (Syntax.ttcons (Syntax.tcons (Syntax.tyInt Syntax.w64) (Syntax.tcons (Syntax.tyInt Syntax.w64) Syntax.tnil)) (Syntax.ttcons (Syntax.tcons (Syntax.tyInt Syntax.w64) Syntax.tnil)
-      Syntax.ttnil)))))))))))))))) Syntax.tnil) Syntax.ttnil))),
-) (List._∷_ (
-  18,
-  Rows.any-gone (Syntax.tyEnum (List._∷_ 115 (List._∷_ 116 (List._∷_ 114 (List._∷_ 101 (List._∷_ 97 (List._∷_ 109 (List._∷_
-      58 (List._∷_ 58 (List._∷_ 82 (List._∷_ 101 (List._∷_ 102 (List._∷_ 117 (List._∷_ 115 (List._∷_ 97 (List._∷_ 108 List.[]))))))))))))))) (Syntax.ttcons Syntax.tnil (Syntax.ttcons Syntax.tnil
-      (Syntax.ttcons Syntax.tnil (Syntax.ttcons (Syntax.tcons (Syntax.tyInt Syntax.w64) Syntax.tnil) (Syntax.ttcons Syntax.tnil (Syntax.ttcons Syntax.tnil (Syntax.ttcons Syntax.tnil (Syntax.ttcons
-      Syntax.tnil (Syntax.ttcons Syntax.tnil (Syntax.ttcons Syntax.tnil (Syntax.ttcons (Syntax.tcons (Syntax.tyInt Syntax.w64) Syntax.tnil) (Syntax.ttcons (Syntax.tcons (Syntax.tyInt Syntax.w64)
-      Syntax.tnil) (Syntax.ttcons Syntax.tnil (Syntax.ttcons (Syntax.tcons (Syntax.tyInt Syntax.w64) (Syntax.tcons (Syntax.tyInt Syntax.w64) Syntax.tnil)) (Syntax.ttcons (Syntax.tcons (Syntax.tyInt
-      Syntax.w64) Syntax.tnil) Syntax.ttnil)))))))))))))))),
-) (List._∷_ (19, Rows.any-gone Syntax.tyBool) (List._∷_ (20, Rows.any-gone (Syntax.tyInt Syntax.w64)) (List._∷_ (
-  21,
-  Rows.any-gone
-      (Syntax.tyEnum (List._∷_ 115 (List._∷_ 116 (List._∷_ 114 (List._∷_ 101 (List._∷_ 97 (List._∷_ 109 (List._∷_ 58 (List._∷_ 58 (List._∷_ 82 (List._∷_ 101 (List._∷_ 102 (List._∷_ 117 (List._∷_ 115
-      (List._∷_ 97 (List._∷_ 108 List.[]))))))))))))))) (Syntax.ttcons Syntax.tnil (Syntax.ttcons Syntax.tnil (Syntax.ttcons Syntax.tnil (Syntax.ttcons (Syntax.tcons (Syntax.tyInt Syntax.w64) Syntax.tnil)
-      (Syntax.ttcons Syntax.tnil (Syntax.ttcons Syntax.tnil (Syntax.ttcons Syntax.tnil (Syntax.ttcons Syntax.tnil (Syntax.ttcons Syntax.tnil (Syntax.ttcons Syntax.tnil (Syntax.ttcons (Syntax.tcons
-      (Syntax.tyInt Syntax.w64) Syntax.tnil) (Syntax.ttcons (Syntax.tcons (Syntax.tyInt Syntax.w64) Syntax.tnil) (Syntax.ttcons Syntax.tnil (Syntax.ttcons (Syntax.tcons (Syntax.tyInt Syntax.w64)
-      (Syntax.tcons (Syntax.tyInt Syntax.w64) Syntax.tnil)) (Syntax.ttcons (Syntax.tcons (Syntax.tyInt Syntax.w64) Syntax.tnil) Syntax.ttnil)))))))))))))))),
-) (List._∷_ (
-  22,
-  Rows.any-gone (Syntax.tyEnum
-      (List._∷_ 119 (List._∷_ 114 (List._∷_ 105 (List._∷_ 116 (List._∷_ 105 (List._∷_ 110 (List._∷_ 103 (List._∷_ 58 (List._∷_ 58 (List._∷_ 80 (List._∷_ 117 (List._∷_ 116 List.[])))))))))))) (Syntax.ttcons
-      (Syntax.tcons (Syntax.tyStruct (List._∷_ 98 (List._∷_ 105 (List._∷_ 116 (List._∷_ 115 (List._∷_ 58 (List._∷_ 58 (List._∷_ 66 (List._∷_ 105 (List._∷_ 116 (List._∷_ 80 (List._∷_ 111 (List._∷_ 115
-      (List._∷_ 105 (List._∷_ 116 (List._∷_ 105 (List._∷_ 111 (List._∷_ 110 List.[]))))))))))))))))) (Syntax.tcons (Syntax.tyInt Syntax.w64) Syntax.tnil)) Syntax.tnil) (Syntax.ttcons (Syntax.tcons
-      (Syntax.tyInt Syntax.w64) Syntax.tnil) Syntax.ttnil))),
-) (List._∷_ (23, Rows.any-gone (Syntax.tyRef Syntax.erased Syntax.mut (Syntax.tyInt Syntax.w8))) (List._∷_ (
-  24,
-  Rows.any-gone (Syntax.tyStruct
-      (List._∷_ 38 (List._∷_ 91 (List._∷_ 93 List.[]))) (Syntax.tcons (Syntax.tyRef Syntax.erased Syntax.mut (Syntax.tyInt Syntax.w8)) (Syntax.tcons (Syntax.tyInt Syntax.w64) Syntax.tnil))),
-) (List._∷_ (
-  25,
-  Rows.any-gone (Syntax.tyRef Syntax.erased Syntax.mut (Syntax.tyInt Syntax.w16)),
-) (List._∷_ (
-  26,
-  Rows.any-gone (Syntax.tyStruct (List._∷_ 38 (List._∷_ 91 (List._∷_ 93 List.[]))) (Syntax.tcons
-      (Syntax.tyRef Syntax.erased Syntax.mut (Syntax.tyInt Syntax.w16)) (Syntax.tcons (Syntax.tyInt Syntax.w64) Syntax.tnil))),
-) (List._∷_ (
-  27,
-  Rows.any-gone (Syntax.tyRef Syntax.erased Syntax.mut
-      Element.behind),
-) (List._∷_ (
-  28,
-  Rows.any-gone (Syntax.tyStruct (List._∷_ 38 (List._∷_ 91 (List._∷_ 93 List.[]))) (Syntax.tcons (Syntax.tyRef Syntax.erased Syntax.mut Element.behind) (Syntax.tcons
-      (Syntax.tyInt Syntax.w64) Syntax.tnil))),
-) List.[]))))))))))))
+t9 = List._∷_ (16, Mut.mslice (Element.type) (Syntax.tyRef Syntax.erased Syntax.mut Element.behind) 6) (List._∷_ e18 (List._∷_ e20 (List._∷_ e22 (List._∷_ e27 (List._∷_ e29 (List._∷_ e30 (List._∷_ e31
+    (List._∷_ e34 (List._∷_ e35 (List._∷_ e38 (List._∷_ e39 (List._∷_ e41 List.[]))))))))))))
 
 abbrev pub t10 : List.List Row.Entry
-t10 = List._∷_ (
-  0,
-  Rows.any-gone (Syntax.tyEnum (List._∷_ 98 (List._∷_ 108 (List._∷_ 111 (List._∷_ 99 (List._∷_ 107 (List._∷_ 58 (List._∷_ 58 (List._∷_ 87 (List._∷_ 114 (List._∷_ 105 (List._∷_ 116
-      (List._∷_ 116 (List._∷_ 101 (List._∷_ 110 List.[])))))))))))))) (Syntax.ttcons (Syntax.tcons (Syntax.tyInt Syntax.w64) Syntax.tnil) (Syntax.ttcons (Syntax.tcons (Syntax.tyEnum (List._∷_ 115 (List._∷_
-      116 (List._∷_ 114 (List._∷_ 101 (List._∷_ 97 (List._∷_ 109 (List._∷_ 58 (List._∷_ 58 (List._∷_ 82 (List._∷_ 101 (List._∷_ 102 (List._∷_ 117 (List._∷_ 115 (List._∷_ 97 (List._∷_ 108
-      List.[]))))))))))))))) (Syntax.ttcons Syntax.tnil (Syntax.ttcons Syntax.tnil (Syntax.ttcons Syntax.tnil (Syntax.ttcons (Syntax.tcons (Syntax.tyInt Syntax.w64) Syntax.tnil) (Syntax.ttcons Syntax.tnil
-      (Syntax.ttcons Syntax.tnil (Syntax.ttcons Syntax.tnil (Syntax.ttcons Syntax.tnil (Syntax.ttcons Syntax.tnil (Syntax.ttcons Syntax.tnil (Syntax.ttcons (Syntax.tcons (Syntax.tyInt Syntax.w64)
-      Syntax.tnil) (Syntax.ttcons (Syntax.tcons (Syntax.tyInt Syntax.w64) Syntax.tnil) (Syntax.ttcons Syntax.tnil (Syntax.ttcons (Syntax.tcons (Syntax.tyInt Syntax.w64) (Syntax.tcons (Syntax.tyInt
-      Syntax.w64) Syntax.tnil)) (Syntax.ttcons (Syntax.tcons (Syntax.tyInt Syntax.w64) Syntax.tnil) Syntax.ttnil)))))))))))))))) Syntax.tnil) Syntax.ttnil))),
-) (List._∷_ (
-  1,
-  Rows.sslice (Referent.rtF
-      (Referent.fInt Syntax.w16)) (Syntax.tyRef (Syntax.named 0) Syntax.imm (Syntax.tyInt Syntax.w16)) 0,
-) (List._∷_ (
-  2,
-  Relend.mslice-owed (Referent.rtF (Referent.fInt Syntax.w8)) (Syntax.tyRef
-      (Syntax.named 1) Syntax.mut (Syntax.tyInt Syntax.w8)) 1 4 Row.off,
-) (List._∷_ (
-  3,
-  Relend.mslice-owed (Referent.rtF (Referent.fInt Syntax.w16)) (Syntax.tyRef (Syntax.named 2) Syntax.mut (Syntax.tyInt
-      Syntax.w16)) 2 5 Row.off,
-) (List._∷_ (4, Relend.mslice-owed (Element.type) (Syntax.tyRef (Syntax.named 3) Syntax.mut Element.behind) 3 6 Row.off) (List._∷_ (
-  5,
-  Rows.whole (Declared'.row
-      Form.the-type),
-) (List._∷_ (6, Rows.sc-here (Row.sInt Syntax.w64)) (List._∷_ (7, Rows.whole (Declared.row Put.the-type)) (List._∷_ (8, Rows.any-gone (Syntax.tyInt Syntax.w64)) (List._∷_ (
-  9,
-  Rows.any-gone (Syntax.tyStruct (List._∷_ 98 (List._∷_ 105 (List._∷_ 116 (List._∷_ 115 (List._∷_ 58 (List._∷_ 58 (List._∷_ 66 (List._∷_ 105 (List._∷_ 116 (List._∷_ 80 (List._∷_ 111 (List._∷_ 115
-      (List._∷_ 105 (List._∷_ 116 (List._∷_ 105 (List._∷_ 111 (List._∷_ 110 List.[]))))))))))))))))) (Syntax.tcons (Syntax.tyInt Syntax.w64) Syntax.tnil)),
-) (List._∷_ (
-  10,
-  Rows.any-gone (Syntax.tyInt
-      Syntax.w64),
-) (List._∷_ (11, Rows.any-gone (Syntax.tyRef Syntax.erased Syntax.mut (Syntax.tyInt Syntax.w8))) (List._∷_ (
-  12,
-  Mut.msleft (Referent.rtF (Referent.fInt Syntax.w8)) (Syntax.tyRef
-      Syntax.erased Syntax.mut (Syntax.tyInt Syntax.w8)),
-) (List._∷_ (13, Rows.any-gone (Syntax.tyRef Syntax.erased Syntax.mut (Syntax.tyInt Syntax.w16))) (List._∷_ (
-  14,
-  Mut.msleft (Referent.rtF
-      (Referent.fInt Syntax.w16)) (Syntax.tyRef Syntax.erased Syntax.mut (Syntax.tyInt Syntax.w16)),
-) (List._∷_ (15, Rows.any-gone (Syntax.tyRef Syntax.erased Syntax.mut Element.behind))
-    List.[])))))))))))))))
+t10 = List._∷_ e0 (List._∷_ e2 (List._∷_ e25 (List._∷_ e43 (List._∷_ e46 (List._∷_ e49 (List._∷_ e51 (List._∷_ e53 (List._∷_ e56 (List._∷_ e58 (List._∷_ e3 (List._∷_ e6 (List._∷_ e7 (List._∷_ e11
+    (List._∷_ e12 (List._∷_ e16 List.[])))))))))))))))
 
 abbrev pub t11 : List.List Row.Entry
-t11 = List._∷_ (16, Mut.msleft (Element.type) (Syntax.tyRef Syntax.erased Syntax.mut Element.behind)) (List._∷_ (
-  17,
-  Rows.any-gone (Syntax.tyEnum (List._∷_ 98 (List._∷_ 108 (List._∷_ 111 (List._∷_
-      99 (List._∷_ 107 (List._∷_ 58 (List._∷_ 58 (List._∷_ 87 (List._∷_ 114 (List._∷_ 105 (List._∷_ 116 (List._∷_ 116 (List._∷_ 101 (List._∷_ 110 List.[])))))))))))))) (Syntax.ttcons (Syntax.tcons
-      (Syntax.tyInt Syntax.w64) Syntax.tnil) (Syntax.ttcons (Syntax.tcons (Syntax.tyEnum (List._∷_ 115 (List._∷_ 116 (List._∷_ 114 (List._∷_ 101 (List._∷_ 97 (List._∷_ 109 (List._∷_ 58 (List._∷_ 58
-      (List._∷_ 82 (List._∷_ 101 (List._∷_ 102 (List._∷_ 117 (List._∷_ 115 (List._∷_ 97 (List._∷_ 108 List.[]))))))))))))))) (Syntax.ttcons Syntax.tnil (Syntax.ttcons Syntax.tnil (Syntax.ttcons Syntax.tnil
-      (Syntax.ttcons (Syntax.tcons (Syntax.tyInt Syntax.w64) Syntax.tnil) (Syntax.ttcons Syntax.tnil (Syntax.ttcons Syntax.tnil (Syntax.ttcons Syntax.tnil (Syntax.ttcons Syntax.tnil (Syntax.ttcons
-      Syntax.tnil (Syntax.ttcons Syntax.tnil (Syntax.ttcons (Syntax.tcons (Syntax.tyInt Syntax.w64) Syntax.tnil) (Syntax.ttcons (Syntax.tcons (Syntax.tyInt Syntax.w64) Syntax.tnil) (Syntax.ttcons
-      Syntax.tnil (Syntax.ttcons (Syntax.tcons (Syntax.tyInt Syntax.w64) (Syntax.tcons (Syntax.tyInt Syntax.w64) Syntax.tnil)) (Syntax.ttcons (Syntax.tcons (Syntax.tyInt Syntax.w64) Syntax.tnil)
-      Syntax.ttnil)))))))))))))))) Syntax.tnil) Syntax.ttnil))),
-) (List._∷_ (
-  18,
-  Rows.any-gone (Syntax.tyEnum (List._∷_ 115 (List._∷_ 116 (List._∷_ 114 (List._∷_ 101 (List._∷_ 97 (List._∷_ 109 (List._∷_
-      58 (List._∷_ 58 (List._∷_ 82 (List._∷_ 101 (List._∷_ 102 (List._∷_ 117 (List._∷_ 115 (List._∷_ 97 (List._∷_ 108 List.[]))))))))))))))) (Syntax.ttcons Syntax.tnil (Syntax.ttcons Syntax.tnil
-      (Syntax.ttcons Syntax.tnil (Syntax.ttcons (Syntax.tcons (Syntax.tyInt Syntax.w64) Syntax.tnil) (Syntax.ttcons Syntax.tnil (Syntax.ttcons Syntax.tnil (Syntax.ttcons Syntax.tnil (Syntax.ttcons
-      Syntax.tnil (Syntax.ttcons Syntax.tnil (Syntax.ttcons Syntax.tnil (Syntax.ttcons (Syntax.tcons (Syntax.tyInt Syntax.w64) Syntax.tnil) (Syntax.ttcons (Syntax.tcons (Syntax.tyInt Syntax.w64)
-      Syntax.tnil) (Syntax.ttcons Syntax.tnil (Syntax.ttcons (Syntax.tcons (Syntax.tyInt Syntax.w64) (Syntax.tcons (Syntax.tyInt Syntax.w64) Syntax.tnil)) (Syntax.ttcons (Syntax.tcons (Syntax.tyInt
-      Syntax.w64) Syntax.tnil) Syntax.ttnil)))))))))))))))),
-) (List._∷_ (19, Rows.any-gone Syntax.tyBool) (List._∷_ (20, Rows.any-gone (Syntax.tyInt Syntax.w64)) (List._∷_ (
-  21,
-  Rows.any-gone
-      (Syntax.tyEnum (List._∷_ 115 (List._∷_ 116 (List._∷_ 114 (List._∷_ 101 (List._∷_ 97 (List._∷_ 109 (List._∷_ 58 (List._∷_ 58 (List._∷_ 82 (List._∷_ 101 (List._∷_ 102 (List._∷_ 117 (List._∷_ 115
-      (List._∷_ 97 (List._∷_ 108 List.[]))))))))))))))) (Syntax.ttcons Syntax.tnil (Syntax.ttcons Syntax.tnil (Syntax.ttcons Syntax.tnil (Syntax.ttcons (Syntax.tcons (Syntax.tyInt Syntax.w64) Syntax.tnil)
-      (Syntax.ttcons Syntax.tnil (Syntax.ttcons Syntax.tnil (Syntax.ttcons Syntax.tnil (Syntax.ttcons Syntax.tnil (Syntax.ttcons Syntax.tnil (Syntax.ttcons Syntax.tnil (Syntax.ttcons (Syntax.tcons
-      (Syntax.tyInt Syntax.w64) Syntax.tnil) (Syntax.ttcons (Syntax.tcons (Syntax.tyInt Syntax.w64) Syntax.tnil) (Syntax.ttcons Syntax.tnil (Syntax.ttcons (Syntax.tcons (Syntax.tyInt Syntax.w64)
-      (Syntax.tcons (Syntax.tyInt Syntax.w64) Syntax.tnil)) (Syntax.ttcons (Syntax.tcons (Syntax.tyInt Syntax.w64) Syntax.tnil) Syntax.ttnil)))))))))))))))),
-) (List._∷_ (
-  22,
-  Rows.any-gone (Syntax.tyEnum
-      (List._∷_ 119 (List._∷_ 114 (List._∷_ 105 (List._∷_ 116 (List._∷_ 105 (List._∷_ 110 (List._∷_ 103 (List._∷_ 58 (List._∷_ 58 (List._∷_ 80 (List._∷_ 117 (List._∷_ 116 List.[])))))))))))) (Syntax.ttcons
-      (Syntax.tcons (Syntax.tyStruct (List._∷_ 98 (List._∷_ 105 (List._∷_ 116 (List._∷_ 115 (List._∷_ 58 (List._∷_ 58 (List._∷_ 66 (List._∷_ 105 (List._∷_ 116 (List._∷_ 80 (List._∷_ 111 (List._∷_ 115
-      (List._∷_ 105 (List._∷_ 116 (List._∷_ 105 (List._∷_ 111 (List._∷_ 110 List.[]))))))))))))))))) (Syntax.tcons (Syntax.tyInt Syntax.w64) Syntax.tnil)) Syntax.tnil) (Syntax.ttcons (Syntax.tcons
-      (Syntax.tyInt Syntax.w64) Syntax.tnil) Syntax.ttnil))),
-) (List._∷_ (23, Rows.any-gone (Syntax.tyRef Syntax.erased Syntax.mut (Syntax.tyInt Syntax.w8))) (List._∷_ (
-  24,
-  Rows.any-gone (Syntax.tyStruct
-      (List._∷_ 38 (List._∷_ 91 (List._∷_ 93 List.[]))) (Syntax.tcons (Syntax.tyRef Syntax.erased Syntax.mut (Syntax.tyInt Syntax.w8)) (Syntax.tcons (Syntax.tyInt Syntax.w64) Syntax.tnil))),
-) (List._∷_ (
-  25,
-  Rows.any-gone (Syntax.tyRef Syntax.erased Syntax.mut (Syntax.tyInt Syntax.w16)),
-) (List._∷_ (
-  26,
-  Rows.any-gone (Syntax.tyStruct (List._∷_ 38 (List._∷_ 91 (List._∷_ 93 List.[]))) (Syntax.tcons
-      (Syntax.tyRef Syntax.erased Syntax.mut (Syntax.tyInt Syntax.w16)) (Syntax.tcons (Syntax.tyInt Syntax.w64) Syntax.tnil))),
-) (List._∷_ (
-  27,
-  Rows.any-gone (Syntax.tyRef Syntax.erased Syntax.mut
-      Element.behind),
-) (List._∷_ (
-  28,
-  Rows.any-gone (Syntax.tyStruct (List._∷_ 38 (List._∷_ 91 (List._∷_ 93 List.[]))) (Syntax.tcons (Syntax.tyRef Syntax.erased Syntax.mut Element.behind) (Syntax.tcons
-      (Syntax.tyInt Syntax.w64) Syntax.tnil))),
-) List.[]))))))))))))
+t11 = List._∷_ (16, Mut.msleft (Element.type) (Syntax.tyRef Syntax.erased Syntax.mut Element.behind)) (List._∷_ e18 (List._∷_ e20 (List._∷_ e22 (List._∷_ e27 (List._∷_ e29 (List._∷_ e30 (List._∷_ e31
+    (List._∷_ e34 (List._∷_ e35 (List._∷_ e38 (List._∷_ e39 (List._∷_ e41 List.[]))))))))))))
 
 abbrev pub t12 : List.List Row.Entry
-t12 = List._∷_ (
-  0,
-  Rows.any-gone (Syntax.tyEnum (List._∷_ 98 (List._∷_ 108 (List._∷_ 111 (List._∷_ 99 (List._∷_ 107 (List._∷_ 58 (List._∷_ 58 (List._∷_ 87 (List._∷_ 114 (List._∷_ 105 (List._∷_ 116
-      (List._∷_ 116 (List._∷_ 101 (List._∷_ 110 List.[])))))))))))))) (Syntax.ttcons (Syntax.tcons (Syntax.tyInt Syntax.w64) Syntax.tnil) (Syntax.ttcons (Syntax.tcons (Syntax.tyEnum (List._∷_ 115 (List._∷_
-      116 (List._∷_ 114 (List._∷_ 101 (List._∷_ 97 (List._∷_ 109 (List._∷_ 58 (List._∷_ 58 (List._∷_ 82 (List._∷_ 101 (List._∷_ 102 (List._∷_ 117 (List._∷_ 115 (List._∷_ 97 (List._∷_ 108
-      List.[]))))))))))))))) (Syntax.ttcons Syntax.tnil (Syntax.ttcons Syntax.tnil (Syntax.ttcons Syntax.tnil (Syntax.ttcons (Syntax.tcons (Syntax.tyInt Syntax.w64) Syntax.tnil) (Syntax.ttcons Syntax.tnil
-      (Syntax.ttcons Syntax.tnil (Syntax.ttcons Syntax.tnil (Syntax.ttcons Syntax.tnil (Syntax.ttcons Syntax.tnil (Syntax.ttcons Syntax.tnil (Syntax.ttcons (Syntax.tcons (Syntax.tyInt Syntax.w64)
-      Syntax.tnil) (Syntax.ttcons (Syntax.tcons (Syntax.tyInt Syntax.w64) Syntax.tnil) (Syntax.ttcons Syntax.tnil (Syntax.ttcons (Syntax.tcons (Syntax.tyInt Syntax.w64) (Syntax.tcons (Syntax.tyInt
-      Syntax.w64) Syntax.tnil)) (Syntax.ttcons (Syntax.tcons (Syntax.tyInt Syntax.w64) Syntax.tnil) Syntax.ttnil)))))))))))))))) Syntax.tnil) Syntax.ttnil))),
-) (List._∷_ (
-  1,
-  Rows.sslice (Referent.rtF
-      (Referent.fInt Syntax.w16)) (Syntax.tyRef (Syntax.named 0) Syntax.imm (Syntax.tyInt Syntax.w16)) 0,
-) (List._∷_ (
-  2,
-  Mut.mslice (Referent.rtF (Referent.fInt Syntax.w8)) (Syntax.tyRef (Syntax.named 1)
-      Syntax.mut (Syntax.tyInt Syntax.w8)) 1,
-) (List._∷_ (3, Mut.mslice (Referent.rtF (Referent.fInt Syntax.w16)) (Syntax.tyRef (Syntax.named 2) Syntax.mut (Syntax.tyInt Syntax.w16)) 2) (List._∷_ (
-  4,
-  Mut.mslice (Element.type) (Syntax.tyRef (Syntax.named 3) Syntax.mut Element.behind) 3,
-) (List._∷_ (
-  5,
-  Rows.any-gone (Syntax.tyStruct (List._∷_ 98 (List._∷_ 108 (List._∷_ 111 (List._∷_ 99 (List._∷_
-      107 (List._∷_ 58 (List._∷_ 58 (List._∷_ 70 (List._∷_ 111 (List._∷_ 114 (List._∷_ 109 List.[]))))))))))) (Syntax.tcons (Syntax.tyInt Syntax.w32) (Syntax.tcons Syntax.tyBool Syntax.tnil))),
-) (List._∷_
-    (6, Rows.sc-here (Row.sInt Syntax.w64)) (List._∷_ (
-      7,
-      Rows.any-gone (Syntax.tyEnum (List._∷_ 119 (List._∷_ 114 (List._∷_ 105 (List._∷_ 116 (List._∷_ 105 (List._∷_ 110 (List._∷_ 103 (List._∷_ 58
-          (List._∷_ 58 (List._∷_ 80 (List._∷_ 117 (List._∷_ 116 List.[])))))))))))) (Syntax.ttcons (Syntax.tcons (Syntax.tyStruct (List._∷_ 98 (List._∷_ 105 (List._∷_ 116 (List._∷_ 115 (List._∷_ 58 (List._∷_ 58
-          (List._∷_ 66 (List._∷_ 105 (List._∷_ 116 (List._∷_ 80 (List._∷_ 111 (List._∷_ 115 (List._∷_ 105 (List._∷_ 116 (List._∷_ 105 (List._∷_ 111 (List._∷_ 110 List.[]))))))))))))))))) (Syntax.tcons
-          (Syntax.tyInt Syntax.w64) Syntax.tnil)) Syntax.tnil) (Syntax.ttcons (Syntax.tcons (Syntax.tyInt Syntax.w64) Syntax.tnil) Syntax.ttnil))),
-    ) (List._∷_ (8, Rows.any-gone (Syntax.tyInt Syntax.w64))
-    (List._∷_ (
-      9,
-      Rows.any-gone (Syntax.tyStruct (List._∷_ 98 (List._∷_ 105 (List._∷_ 116 (List._∷_ 115 (List._∷_ 58 (List._∷_ 58 (List._∷_ 66 (List._∷_ 105 (List._∷_ 116 (List._∷_ 80 (List._∷_ 111
-          (List._∷_ 115 (List._∷_ 105 (List._∷_ 116 (List._∷_ 105 (List._∷_ 111 (List._∷_ 110 List.[]))))))))))))))))) (Syntax.tcons (Syntax.tyInt Syntax.w64) Syntax.tnil)),
-    ) (List._∷_ (
-      10,
-      Rows.any-gone
-          (Syntax.tyInt Syntax.w64),
-    ) (List._∷_ (11, Rows.any-gone (Syntax.tyRef Syntax.erased Syntax.mut (Syntax.tyInt Syntax.w8))) (List._∷_ (
-      12,
-      Rows.any-gone (Syntax.tyStruct (List._∷_ 38 (List._∷_ 91
-          (List._∷_ 93 List.[]))) (Syntax.tcons (Syntax.tyRef Syntax.erased Syntax.mut (Syntax.tyInt Syntax.w8)) (Syntax.tcons (Syntax.tyInt Syntax.w64) Syntax.tnil))),
-    ) (List._∷_ (
-      13,
-      Rows.any-gone
-          (Syntax.tyRef Syntax.erased Syntax.mut (Syntax.tyInt Syntax.w16)),
-    ) (List._∷_ (
-      14,
-      Rows.any-gone (Syntax.tyStruct (List._∷_ 38 (List._∷_ 91 (List._∷_ 93 List.[]))) (Syntax.tcons (Syntax.tyRef
-          Syntax.erased Syntax.mut (Syntax.tyInt Syntax.w16)) (Syntax.tcons (Syntax.tyInt Syntax.w64) Syntax.tnil))),
-    ) (List._∷_ (15, Rows.any-gone (Syntax.tyRef Syntax.erased Syntax.mut Element.behind))
-    List.[])))))))))))))))
+t12 = List._∷_ e0 (List._∷_ e2 (List._∷_ e24 (List._∷_ e42 (List._∷_ e45 (List._∷_ e48 (List._∷_ e51 (List._∷_ e52 (List._∷_ e56 (List._∷_ e58 (List._∷_ e3 (List._∷_ e6 (List._∷_ e9 (List._∷_ e11
+    (List._∷_ e14 (List._∷_ e16 List.[])))))))))))))))
 
 abbrev pub t13 : List.List Row.Entry
-t13 = List._∷_ (
-  16,
-  Rows.any-gone (Syntax.tyStruct (List._∷_ 38 (List._∷_ 91 (List._∷_ 93 List.[]))) (Syntax.tcons (Syntax.tyRef Syntax.erased Syntax.mut Element.behind) (Syntax.tcons (Syntax.tyInt
-      Syntax.w64) Syntax.tnil))),
-) (List._∷_ (17, Rows.whole (Declared.row Written.the-type)) (List._∷_ (
-  18,
-  Rows.any-gone (Syntax.tyEnum (List._∷_ 115 (List._∷_ 116 (List._∷_ 114 (List._∷_ 101 (List._∷_
-      97 (List._∷_ 109 (List._∷_ 58 (List._∷_ 58 (List._∷_ 82 (List._∷_ 101 (List._∷_ 102 (List._∷_ 117 (List._∷_ 115 (List._∷_ 97 (List._∷_ 108 List.[]))))))))))))))) (Syntax.ttcons Syntax.tnil
-      (Syntax.ttcons Syntax.tnil (Syntax.ttcons Syntax.tnil (Syntax.ttcons (Syntax.tcons (Syntax.tyInt Syntax.w64) Syntax.tnil) (Syntax.ttcons Syntax.tnil (Syntax.ttcons Syntax.tnil (Syntax.ttcons
-      Syntax.tnil (Syntax.ttcons Syntax.tnil (Syntax.ttcons Syntax.tnil (Syntax.ttcons Syntax.tnil (Syntax.ttcons (Syntax.tcons (Syntax.tyInt Syntax.w64) Syntax.tnil) (Syntax.ttcons (Syntax.tcons
-      (Syntax.tyInt Syntax.w64) Syntax.tnil) (Syntax.ttcons Syntax.tnil (Syntax.ttcons (Syntax.tcons (Syntax.tyInt Syntax.w64) (Syntax.tcons (Syntax.tyInt Syntax.w64) Syntax.tnil)) (Syntax.ttcons
-      (Syntax.tcons (Syntax.tyInt Syntax.w64) Syntax.tnil) Syntax.ttnil)))))))))))))))),
-) (List._∷_ (19, Rows.any-gone Syntax.tyBool) (List._∷_ (20, Rows.any-gone (Syntax.tyInt Syntax.w64)) (List._∷_ (
-  21,
-  Rows.any-gone (Syntax.tyEnum (List._∷_ 115 (List._∷_ 116 (List._∷_ 114 (List._∷_ 101 (List._∷_ 97 (List._∷_ 109 (List._∷_ 58 (List._∷_ 58 (List._∷_ 82 (List._∷_ 101 (List._∷_ 102 (List._∷_ 117
-      (List._∷_ 115 (List._∷_ 97 (List._∷_ 108 List.[]))))))))))))))) (Syntax.ttcons Syntax.tnil (Syntax.ttcons Syntax.tnil (Syntax.ttcons Syntax.tnil (Syntax.ttcons (Syntax.tcons (Syntax.tyInt Syntax.w64)
-      Syntax.tnil) (Syntax.ttcons Syntax.tnil (Syntax.ttcons Syntax.tnil (Syntax.ttcons Syntax.tnil (Syntax.ttcons Syntax.tnil (Syntax.ttcons Syntax.tnil (Syntax.ttcons Syntax.tnil (Syntax.ttcons
-      (Syntax.tcons (Syntax.tyInt Syntax.w64) Syntax.tnil) (Syntax.ttcons (Syntax.tcons (Syntax.tyInt Syntax.w64) Syntax.tnil) (Syntax.ttcons Syntax.tnil (Syntax.ttcons (Syntax.tcons (Syntax.tyInt
-      Syntax.w64) (Syntax.tcons (Syntax.tyInt Syntax.w64) Syntax.tnil)) (Syntax.ttcons (Syntax.tcons (Syntax.tyInt Syntax.w64) Syntax.tnil) Syntax.ttnil)))))))))))))))),
-) (List._∷_ (
-  22,
-  Rows.any-gone
-      (Syntax.tyEnum (List._∷_ 119 (List._∷_ 114 (List._∷_ 105 (List._∷_ 116 (List._∷_ 105 (List._∷_ 110 (List._∷_ 103 (List._∷_ 58 (List._∷_ 58 (List._∷_ 80 (List._∷_ 117 (List._∷_ 116 List.[]))))))))))))
-      (Syntax.ttcons (Syntax.tcons (Syntax.tyStruct (List._∷_ 98 (List._∷_ 105 (List._∷_ 116 (List._∷_ 115 (List._∷_ 58 (List._∷_ 58 (List._∷_ 66 (List._∷_ 105 (List._∷_ 116 (List._∷_ 80 (List._∷_ 111
-      (List._∷_ 115 (List._∷_ 105 (List._∷_ 116 (List._∷_ 105 (List._∷_ 111 (List._∷_ 110 List.[]))))))))))))))))) (Syntax.tcons (Syntax.tyInt Syntax.w64) Syntax.tnil)) Syntax.tnil) (Syntax.ttcons
-      (Syntax.tcons (Syntax.tyInt Syntax.w64) Syntax.tnil) Syntax.ttnil))),
-) (List._∷_ (23, Rows.any-gone (Syntax.tyRef Syntax.erased Syntax.mut (Syntax.tyInt Syntax.w8))) (List._∷_ (
-  24,
-  Rows.any-gone
-      (Syntax.tyStruct (List._∷_ 38 (List._∷_ 91 (List._∷_ 93 List.[]))) (Syntax.tcons (Syntax.tyRef Syntax.erased Syntax.mut (Syntax.tyInt Syntax.w8)) (Syntax.tcons (Syntax.tyInt Syntax.w64)
-      Syntax.tnil))),
-) (List._∷_ (25, Rows.any-gone (Syntax.tyRef Syntax.erased Syntax.mut (Syntax.tyInt Syntax.w16))) (List._∷_ (
-  26,
-  Rows.any-gone (Syntax.tyStruct (List._∷_ 38 (List._∷_ 91 (List._∷_
-      93 List.[]))) (Syntax.tcons (Syntax.tyRef Syntax.erased Syntax.mut (Syntax.tyInt Syntax.w16)) (Syntax.tcons (Syntax.tyInt Syntax.w64) Syntax.tnil))),
-) (List._∷_ (
-  27,
-  Rows.any-gone (Syntax.tyRef
-      Syntax.erased Syntax.mut Element.behind),
-) (List._∷_ (
-  28,
-  Rows.any-gone (Syntax.tyStruct (List._∷_ 38 (List._∷_ 91 (List._∷_ 93 List.[]))) (Syntax.tcons (Syntax.tyRef Syntax.erased Syntax.mut
-      Element.behind) (Syntax.tcons (Syntax.tyInt Syntax.w64) Syntax.tnil))),
-) List.[]))))))))))))
-
-abbrev pub t14 : List.List Row.Entry
-t14 = List._∷_ (
-  0,
-  Rows.any-gone (Syntax.tyEnum (List._∷_ 98 (List._∷_ 108 (List._∷_ 111 (List._∷_ 99 (List._∷_ 107 (List._∷_ 58 (List._∷_ 58 (List._∷_ 87 (List._∷_ 114 (List._∷_ 105 (List._∷_ 116
-      (List._∷_ 116 (List._∷_ 101 (List._∷_ 110 List.[])))))))))))))) (Syntax.ttcons (Syntax.tcons (Syntax.tyInt Syntax.w64) Syntax.tnil) (Syntax.ttcons (Syntax.tcons (Syntax.tyEnum (List._∷_ 115 (List._∷_
-      116 (List._∷_ 114 (List._∷_ 101 (List._∷_ 97 (List._∷_ 109 (List._∷_ 58 (List._∷_ 58 (List._∷_ 82 (List._∷_ 101 (List._∷_ 102 (List._∷_ 117 (List._∷_ 115 (List._∷_ 97 (List._∷_ 108
-      List.[]))))))))))))))) (Syntax.ttcons Syntax.tnil (Syntax.ttcons Syntax.tnil (Syntax.ttcons Syntax.tnil (Syntax.ttcons (Syntax.tcons (Syntax.tyInt Syntax.w64) Syntax.tnil) (Syntax.ttcons Syntax.tnil
-      (Syntax.ttcons Syntax.tnil (Syntax.ttcons Syntax.tnil (Syntax.ttcons Syntax.tnil (Syntax.ttcons Syntax.tnil (Syntax.ttcons Syntax.tnil (Syntax.ttcons (Syntax.tcons (Syntax.tyInt Syntax.w64)
-      Syntax.tnil) (Syntax.ttcons (Syntax.tcons (Syntax.tyInt Syntax.w64) Syntax.tnil) (Syntax.ttcons Syntax.tnil (Syntax.ttcons (Syntax.tcons (Syntax.tyInt Syntax.w64) (Syntax.tcons (Syntax.tyInt
-      Syntax.w64) Syntax.tnil)) (Syntax.ttcons (Syntax.tcons (Syntax.tyInt Syntax.w64) Syntax.tnil) Syntax.ttnil)))))))))))))))) Syntax.tnil) Syntax.ttnil))),
-) (List._∷_ (
-  1,
-  Rows.sslice (Referent.rtF
-      (Referent.fInt Syntax.w16)) (Syntax.tyRef (Syntax.named 0) Syntax.imm (Syntax.tyInt Syntax.w16)) 0,
-) (List._∷_ (
-  2,
-  Mut.mslice (Referent.rtF (Referent.fInt Syntax.w8)) (Syntax.tyRef (Syntax.named 1)
-      Syntax.mut (Syntax.tyInt Syntax.w8)) 1,
-) (List._∷_ (
-  3,
-  Relend.mslice-owed (Referent.rtF (Referent.fInt Syntax.w16)) (Syntax.tyRef (Syntax.named 2) Syntax.mut (Syntax.tyInt Syntax.w16)) 2 5 Row.off,
-) (List._∷_ (4, Relend.mslice-owed (Element.type) (Syntax.tyRef (Syntax.named 3) Syntax.mut Element.behind) 3 6 Row.off) (List._∷_ (5, Rows.whole (Declared'.row Form.the-type)) (List._∷_ (
-  6,
-  Rows.sc-here (Row.sInt Syntax.w64),
-) (List._∷_ (7, Rows.whole (Declared.row Put.the-type)) (List._∷_ (8, Rows.any-gone (Syntax.tyInt Syntax.w64)) (List._∷_ (
-  9,
-  Rows.any-gone (Syntax.tyStruct
-      (List._∷_ 98 (List._∷_ 105 (List._∷_ 116 (List._∷_ 115 (List._∷_ 58 (List._∷_ 58 (List._∷_ 66 (List._∷_ 105 (List._∷_ 116 (List._∷_ 80 (List._∷_ 111 (List._∷_ 115 (List._∷_ 105 (List._∷_ 116 (List._∷_
-      105 (List._∷_ 111 (List._∷_ 110 List.[]))))))))))))))))) (Syntax.tcons (Syntax.tyInt Syntax.w64) Syntax.tnil)),
-) (List._∷_ (10, Rows.any-gone (Syntax.tyInt Syntax.w64)) (List._∷_ (
-  11,
-  Rows.any-gone
-      (Syntax.tyRef Syntax.erased Syntax.mut (Syntax.tyInt Syntax.w8)),
-) (List._∷_ (
-  12,
-  Rows.any-gone (Syntax.tyStruct (List._∷_ 38 (List._∷_ 91 (List._∷_ 93 List.[]))) (Syntax.tcons (Syntax.tyRef
-      Syntax.erased Syntax.mut (Syntax.tyInt Syntax.w8)) (Syntax.tcons (Syntax.tyInt Syntax.w64) Syntax.tnil))),
-) (List._∷_ (
-  13,
-  Rows.any-gone (Syntax.tyRef Syntax.erased Syntax.mut (Syntax.tyInt
-      Syntax.w16)),
-) (List._∷_ (14, Mut.msleft (Referent.rtF (Referent.fInt Syntax.w16)) (Syntax.tyRef Syntax.erased Syntax.mut (Syntax.tyInt Syntax.w16))) (List._∷_ (
-  15,
-  Rows.any-gone (Syntax.tyRef
-      Syntax.erased Syntax.mut Element.behind),
-) List.[])))))))))))))))
-
-abbrev pub t15 : List.List Row.Entry
-t15 = List._∷_ (
-  0,
-  Rows.any-gone (Syntax.tyEnum (List._∷_ 98 (List._∷_ 108 (List._∷_ 111 (List._∷_ 99 (List._∷_ 107 (List._∷_ 58 (List._∷_ 58 (List._∷_ 87 (List._∷_ 114 (List._∷_ 105 (List._∷_ 116
-      (List._∷_ 116 (List._∷_ 101 (List._∷_ 110 List.[])))))))))))))) (Syntax.ttcons (Syntax.tcons (Syntax.tyInt Syntax.w64) Syntax.tnil) (Syntax.ttcons (Syntax.tcons (Syntax.tyEnum (List._∷_ 115 (List._∷_
-      116 (List._∷_ 114 (List._∷_ 101 (List._∷_ 97 (List._∷_ 109 (List._∷_ 58 (List._∷_ 58 (List._∷_ 82 (List._∷_ 101 (List._∷_ 102 (List._∷_ 117 (List._∷_ 115 (List._∷_ 97 (List._∷_ 108
-      List.[]))))))))))))))) (Syntax.ttcons Syntax.tnil (Syntax.ttcons Syntax.tnil (Syntax.ttcons Syntax.tnil (Syntax.ttcons (Syntax.tcons (Syntax.tyInt Syntax.w64) Syntax.tnil) (Syntax.ttcons Syntax.tnil
-      (Syntax.ttcons Syntax.tnil (Syntax.ttcons Syntax.tnil (Syntax.ttcons Syntax.tnil (Syntax.ttcons Syntax.tnil (Syntax.ttcons Syntax.tnil (Syntax.ttcons (Syntax.tcons (Syntax.tyInt Syntax.w64)
-      Syntax.tnil) (Syntax.ttcons (Syntax.tcons (Syntax.tyInt Syntax.w64) Syntax.tnil) (Syntax.ttcons Syntax.tnil (Syntax.ttcons (Syntax.tcons (Syntax.tyInt Syntax.w64) (Syntax.tcons (Syntax.tyInt
-      Syntax.w64) Syntax.tnil)) (Syntax.ttcons (Syntax.tcons (Syntax.tyInt Syntax.w64) Syntax.tnil) Syntax.ttnil)))))))))))))))) Syntax.tnil) Syntax.ttnil))),
-) (List._∷_ (
-  1,
-  Rows.sslice (Referent.rtF
-      (Referent.fInt Syntax.w16)) (Syntax.tyRef (Syntax.named 0) Syntax.imm (Syntax.tyInt Syntax.w16)) 0,
-) (List._∷_ (
-  2,
-  Mut.mslice (Referent.rtF (Referent.fInt Syntax.w8)) (Syntax.tyRef (Syntax.named 1)
-      Syntax.mut (Syntax.tyInt Syntax.w8)) 1,
-) (List._∷_ (3, Mut.mslice (Referent.rtF (Referent.fInt Syntax.w16)) (Syntax.tyRef (Syntax.named 2) Syntax.mut (Syntax.tyInt Syntax.w16)) 2) (List._∷_ (
-  4,
-  Relend.mslice-owed (Element.type) (Syntax.tyRef (Syntax.named 3) Syntax.mut Element.behind) 3 6 Row.off,
-) (List._∷_ (5, Rows.whole (Declared'.row Form.the-type)) (List._∷_ (
-  6,
-  Rows.sc-here (Row.sInt
-      Syntax.w64),
-) (List._∷_ (7, Rows.whole (Declared.row Put.the-type)) (List._∷_ (8, Rows.any-gone (Syntax.tyInt Syntax.w64)) (List._∷_ (
-  9,
-  Rows.any-gone (Syntax.tyStruct (List._∷_ 98 (List._∷_ 105
-      (List._∷_ 116 (List._∷_ 115 (List._∷_ 58 (List._∷_ 58 (List._∷_ 66 (List._∷_ 105 (List._∷_ 116 (List._∷_ 80 (List._∷_ 111 (List._∷_ 115 (List._∷_ 105 (List._∷_ 116 (List._∷_ 105 (List._∷_ 111
-      (List._∷_ 110 List.[]))))))))))))))))) (Syntax.tcons (Syntax.tyInt Syntax.w64) Syntax.tnil)),
-) (List._∷_ (10, Rows.any-gone (Syntax.tyInt Syntax.w64)) (List._∷_ (
-  11,
-  Rows.any-gone (Syntax.tyRef
-      Syntax.erased Syntax.mut (Syntax.tyInt Syntax.w8)),
-) (List._∷_ (
-  12,
-  Rows.any-gone (Syntax.tyStruct (List._∷_ 38 (List._∷_ 91 (List._∷_ 93 List.[]))) (Syntax.tcons (Syntax.tyRef Syntax.erased
-      Syntax.mut (Syntax.tyInt Syntax.w8)) (Syntax.tcons (Syntax.tyInt Syntax.w64) Syntax.tnil))),
-) (List._∷_ (13, Rows.any-gone (Syntax.tyRef Syntax.erased Syntax.mut (Syntax.tyInt Syntax.w16)))
-    (List._∷_ (
-      14,
-      Rows.any-gone (Syntax.tyStruct (List._∷_ 38 (List._∷_ 91 (List._∷_ 93 List.[]))) (Syntax.tcons (Syntax.tyRef Syntax.erased Syntax.mut (Syntax.tyInt Syntax.w16)) (Syntax.tcons
-          (Syntax.tyInt Syntax.w64) Syntax.tnil))),
-    ) (List._∷_ (15, Rows.any-gone (Syntax.tyRef Syntax.erased Syntax.mut Element.behind)) List.[])))))))))))))))
-
-abbrev pub t16 : List.List Row.Entry
-t16 = List._∷_ (
-  0,
-  Rows.any-gone (Syntax.tyEnum (List._∷_ 98 (List._∷_ 108 (List._∷_ 111 (List._∷_ 99 (List._∷_ 107 (List._∷_ 58 (List._∷_ 58 (List._∷_ 87 (List._∷_ 114 (List._∷_ 105 (List._∷_ 116
-      (List._∷_ 116 (List._∷_ 101 (List._∷_ 110 List.[])))))))))))))) (Syntax.ttcons (Syntax.tcons (Syntax.tyInt Syntax.w64) Syntax.tnil) (Syntax.ttcons (Syntax.tcons (Syntax.tyEnum (List._∷_ 115 (List._∷_
-      116 (List._∷_ 114 (List._∷_ 101 (List._∷_ 97 (List._∷_ 109 (List._∷_ 58 (List._∷_ 58 (List._∷_ 82 (List._∷_ 101 (List._∷_ 102 (List._∷_ 117 (List._∷_ 115 (List._∷_ 97 (List._∷_ 108
-      List.[]))))))))))))))) (Syntax.ttcons Syntax.tnil (Syntax.ttcons Syntax.tnil (Syntax.ttcons Syntax.tnil (Syntax.ttcons (Syntax.tcons (Syntax.tyInt Syntax.w64) Syntax.tnil) (Syntax.ttcons Syntax.tnil
-      (Syntax.ttcons Syntax.tnil (Syntax.ttcons Syntax.tnil (Syntax.ttcons Syntax.tnil (Syntax.ttcons Syntax.tnil (Syntax.ttcons Syntax.tnil (Syntax.ttcons (Syntax.tcons (Syntax.tyInt Syntax.w64)
-      Syntax.tnil) (Syntax.ttcons (Syntax.tcons (Syntax.tyInt Syntax.w64) Syntax.tnil) (Syntax.ttcons Syntax.tnil (Syntax.ttcons (Syntax.tcons (Syntax.tyInt Syntax.w64) (Syntax.tcons (Syntax.tyInt
-      Syntax.w64) Syntax.tnil)) (Syntax.ttcons (Syntax.tcons (Syntax.tyInt Syntax.w64) Syntax.tnil) Syntax.ttnil)))))))))))))))) Syntax.tnil) Syntax.ttnil))),
-) (List._∷_ (
-  1,
-  Rows.sslice (Referent.rtF
-      (Referent.fInt Syntax.w16)) (Syntax.tyRef (Syntax.named 0) Syntax.imm (Syntax.tyInt Syntax.w16)) 0,
-) (List._∷_ (
-  2,
-  Mut.mslice (Referent.rtF (Referent.fInt Syntax.w8)) (Syntax.tyRef (Syntax.named 1)
-      Syntax.mut (Syntax.tyInt Syntax.w8)) 1,
-) (List._∷_ (3, Mut.mslice (Referent.rtF (Referent.fInt Syntax.w16)) (Syntax.tyRef (Syntax.named 2) Syntax.mut (Syntax.tyInt Syntax.w16)) 2) (List._∷_ (
-  4,
-  Mut.mslice (Element.type) (Syntax.tyRef (Syntax.named 3) Syntax.mut Element.behind) 3,
-) (List._∷_ (5, Rows.whole (Declared'.row Form.the-type)) (List._∷_ (6, Rows.sc-here (Row.sInt Syntax.w64))
-    (List._∷_ (7, Rows.whole (Declared.row Put.the-type)) (List._∷_ (8, Rows.any-gone (Syntax.tyInt Syntax.w64)) (List._∷_ (
-      9,
-      Rows.any-gone (Syntax.tyStruct (List._∷_ 98 (List._∷_ 105 (List._∷_ 116
-          (List._∷_ 115 (List._∷_ 58 (List._∷_ 58 (List._∷_ 66 (List._∷_ 105 (List._∷_ 116 (List._∷_ 80 (List._∷_ 111 (List._∷_ 115 (List._∷_ 105 (List._∷_ 116 (List._∷_ 105 (List._∷_ 111 (List._∷_ 110
-          List.[]))))))))))))))))) (Syntax.tcons (Syntax.tyInt Syntax.w64) Syntax.tnil)),
-    ) (List._∷_ (10, Rows.any-gone (Syntax.tyInt Syntax.w64)) (List._∷_ (
-      11,
-      Rows.any-gone (Syntax.tyRef Syntax.erased
-          Syntax.mut (Syntax.tyInt Syntax.w8)),
-    ) (List._∷_ (
-      12,
-      Rows.any-gone (Syntax.tyStruct (List._∷_ 38 (List._∷_ 91 (List._∷_ 93 List.[]))) (Syntax.tcons (Syntax.tyRef Syntax.erased Syntax.mut
-          (Syntax.tyInt Syntax.w8)) (Syntax.tcons (Syntax.tyInt Syntax.w64) Syntax.tnil))),
-    ) (List._∷_ (13, Rows.any-gone (Syntax.tyRef Syntax.erased Syntax.mut (Syntax.tyInt Syntax.w16))) (List._∷_ (
-      14,
-      Rows.any-gone (Syntax.tyStruct (List._∷_ 38 (List._∷_ 91 (List._∷_ 93 List.[]))) (Syntax.tcons (Syntax.tyRef Syntax.erased Syntax.mut (Syntax.tyInt Syntax.w16)) (Syntax.tcons (Syntax.tyInt Syntax.w64)
-          Syntax.tnil))),
-    ) (List._∷_ (15, Rows.any-gone (Syntax.tyRef Syntax.erased Syntax.mut Element.behind)) List.[])))))))))))))))
-
-abbrev pub t17 : List.List Row.Entry
-t17 = List._∷_ (
-  0,
-  Rows.any-gone (Syntax.tyEnum (List._∷_ 98 (List._∷_ 108 (List._∷_ 111 (List._∷_ 99 (List._∷_ 107 (List._∷_ 58 (List._∷_ 58 (List._∷_ 87 (List._∷_ 114 (List._∷_ 105 (List._∷_ 116
-      (List._∷_ 116 (List._∷_ 101 (List._∷_ 110 List.[])))))))))))))) (Syntax.ttcons (Syntax.tcons (Syntax.tyInt Syntax.w64) Syntax.tnil) (Syntax.ttcons (Syntax.tcons (Syntax.tyEnum (List._∷_ 115 (List._∷_
-      116 (List._∷_ 114 (List._∷_ 101 (List._∷_ 97 (List._∷_ 109 (List._∷_ 58 (List._∷_ 58 (List._∷_ 82 (List._∷_ 101 (List._∷_ 102 (List._∷_ 117 (List._∷_ 115 (List._∷_ 97 (List._∷_ 108
-      List.[]))))))))))))))) (Syntax.ttcons Syntax.tnil (Syntax.ttcons Syntax.tnil (Syntax.ttcons Syntax.tnil (Syntax.ttcons (Syntax.tcons (Syntax.tyInt Syntax.w64) Syntax.tnil) (Syntax.ttcons Syntax.tnil
-      (Syntax.ttcons Syntax.tnil (Syntax.ttcons Syntax.tnil (Syntax.ttcons Syntax.tnil (Syntax.ttcons Syntax.tnil (Syntax.ttcons Syntax.tnil (Syntax.ttcons (Syntax.tcons (Syntax.tyInt Syntax.w64)
-      Syntax.tnil) (Syntax.ttcons (Syntax.tcons (Syntax.tyInt Syntax.w64) Syntax.tnil) (Syntax.ttcons Syntax.tnil (Syntax.ttcons (Syntax.tcons (Syntax.tyInt Syntax.w64) (Syntax.tcons (Syntax.tyInt
-      Syntax.w64) Syntax.tnil)) (Syntax.ttcons (Syntax.tcons (Syntax.tyInt Syntax.w64) Syntax.tnil) Syntax.ttnil)))))))))))))))) Syntax.tnil) Syntax.ttnil))),
-) (List._∷_ (
-  1,
-  Rows.sslice (Referent.rtF
-      (Referent.fInt Syntax.w16)) (Syntax.tyRef (Syntax.named 0) Syntax.imm (Syntax.tyInt Syntax.w16)) 0,
-) (List._∷_ (
-  2,
-  Mut.mslice (Referent.rtF (Referent.fInt Syntax.w8)) (Syntax.tyRef (Syntax.named 1)
-      Syntax.mut (Syntax.tyInt Syntax.w8)) 1,
-) (List._∷_ (3, Mut.mslice (Referent.rtF (Referent.fInt Syntax.w16)) (Syntax.tyRef (Syntax.named 2) Syntax.mut (Syntax.tyInt Syntax.w16)) 2) (List._∷_ (
-  4,
-  Mut.mslice (Element.type) (Syntax.tyRef (Syntax.named 3) Syntax.mut Element.behind) 3,
-) (List._∷_ (5, Rows.whole (Declared'.row Form.the-type)) (List._∷_ (6, Rows.sc-here (Row.sInt Syntax.w64))
-    (List._∷_ (7, Rows.whole (Known.Known Put.enum 1)) (List._∷_ (8, Rows.any-gone (Syntax.tyInt Syntax.w64)) (List._∷_ (
-      9,
-      Rows.any-gone (Syntax.tyStruct (List._∷_ 98 (List._∷_ 105 (List._∷_ 116
-          (List._∷_ 115 (List._∷_ 58 (List._∷_ 58 (List._∷_ 66 (List._∷_ 105 (List._∷_ 116 (List._∷_ 80 (List._∷_ 111 (List._∷_ 115 (List._∷_ 105 (List._∷_ 116 (List._∷_ 105 (List._∷_ 111 (List._∷_ 110
-          List.[]))))))))))))))))) (Syntax.tcons (Syntax.tyInt Syntax.w64) Syntax.tnil)),
-    ) (List._∷_ (10, Rows.any-gone (Syntax.tyInt Syntax.w64)) (List._∷_ (
-      11,
-      Rows.any-gone (Syntax.tyRef Syntax.erased
-          Syntax.mut (Syntax.tyInt Syntax.w8)),
-    ) (List._∷_ (
-      12,
-      Rows.any-gone (Syntax.tyStruct (List._∷_ 38 (List._∷_ 91 (List._∷_ 93 List.[]))) (Syntax.tcons (Syntax.tyRef Syntax.erased Syntax.mut
-          (Syntax.tyInt Syntax.w8)) (Syntax.tcons (Syntax.tyInt Syntax.w64) Syntax.tnil))),
-    ) (List._∷_ (13, Rows.any-gone (Syntax.tyRef Syntax.erased Syntax.mut (Syntax.tyInt Syntax.w16))) (List._∷_ (
-      14,
-      Rows.any-gone (Syntax.tyStruct (List._∷_ 38 (List._∷_ 91 (List._∷_ 93 List.[]))) (Syntax.tcons (Syntax.tyRef Syntax.erased Syntax.mut (Syntax.tyInt Syntax.w16)) (Syntax.tcons (Syntax.tyInt Syntax.w64)
-          Syntax.tnil))),
-    ) (List._∷_ (15, Rows.any-gone (Syntax.tyRef Syntax.erased Syntax.mut Element.behind)) List.[])))))))))))))))
-
-abbrev pub t18 : List.List Row.Entry
-t18 = List._∷_ (
-  0,
-  Rows.any-gone (Syntax.tyEnum (List._∷_ 98 (List._∷_ 108 (List._∷_ 111 (List._∷_ 99 (List._∷_ 107 (List._∷_ 58 (List._∷_ 58 (List._∷_ 87 (List._∷_ 114 (List._∷_ 105 (List._∷_ 116
-      (List._∷_ 116 (List._∷_ 101 (List._∷_ 110 List.[])))))))))))))) (Syntax.ttcons (Syntax.tcons (Syntax.tyInt Syntax.w64) Syntax.tnil) (Syntax.ttcons (Syntax.tcons (Syntax.tyEnum (List._∷_ 115 (List._∷_
-      116 (List._∷_ 114 (List._∷_ 101 (List._∷_ 97 (List._∷_ 109 (List._∷_ 58 (List._∷_ 58 (List._∷_ 82 (List._∷_ 101 (List._∷_ 102 (List._∷_ 117 (List._∷_ 115 (List._∷_ 97 (List._∷_ 108
-      List.[]))))))))))))))) (Syntax.ttcons Syntax.tnil (Syntax.ttcons Syntax.tnil (Syntax.ttcons Syntax.tnil (Syntax.ttcons (Syntax.tcons (Syntax.tyInt Syntax.w64) Syntax.tnil) (Syntax.ttcons Syntax.tnil
-      (Syntax.ttcons Syntax.tnil (Syntax.ttcons Syntax.tnil (Syntax.ttcons Syntax.tnil (Syntax.ttcons Syntax.tnil (Syntax.ttcons Syntax.tnil (Syntax.ttcons (Syntax.tcons (Syntax.tyInt Syntax.w64)
-      Syntax.tnil) (Syntax.ttcons (Syntax.tcons (Syntax.tyInt Syntax.w64) Syntax.tnil) (Syntax.ttcons Syntax.tnil (Syntax.ttcons (Syntax.tcons (Syntax.tyInt Syntax.w64) (Syntax.tcons (Syntax.tyInt
-      Syntax.w64) Syntax.tnil)) (Syntax.ttcons (Syntax.tcons (Syntax.tyInt Syntax.w64) Syntax.tnil) Syntax.ttnil)))))))))))))))) Syntax.tnil) Syntax.ttnil))),
-) (List._∷_ (
-  1,
-  Rows.sslice (Referent.rtF
-      (Referent.fInt Syntax.w16)) (Syntax.tyRef (Syntax.named 0) Syntax.imm (Syntax.tyInt Syntax.w16)) 0,
-) (List._∷_ (
-  2,
-  Mut.mslice (Referent.rtF (Referent.fInt Syntax.w8)) (Syntax.tyRef (Syntax.named 1)
-      Syntax.mut (Syntax.tyInt Syntax.w8)) 1,
-) (List._∷_ (3, Mut.mslice (Referent.rtF (Referent.fInt Syntax.w16)) (Syntax.tyRef (Syntax.named 2) Syntax.mut (Syntax.tyInt Syntax.w16)) 2) (List._∷_ (
-  4,
-  Mut.mslice (Element.type) (Syntax.tyRef (Syntax.named 3) Syntax.mut Element.behind) 3,
-) (List._∷_ (
-  5,
-  Rows.any-gone (Syntax.tyStruct (List._∷_ 98 (List._∷_ 108 (List._∷_ 111 (List._∷_ 99 (List._∷_
-      107 (List._∷_ 58 (List._∷_ 58 (List._∷_ 70 (List._∷_ 111 (List._∷_ 114 (List._∷_ 109 List.[]))))))))))) (Syntax.tcons (Syntax.tyInt Syntax.w32) (Syntax.tcons Syntax.tyBool Syntax.tnil))),
-) (List._∷_
-    (6, Rows.sc-here (Row.sInt Syntax.w64)) (List._∷_ (7, Rows.whole (Known.Known Put.enum 1)) (List._∷_ (8, Rows.any-gone (Syntax.tyInt Syntax.w64)) (List._∷_ (
-      9,
-      Rows.any-gone (Syntax.tyStruct
-          (List._∷_ 98 (List._∷_ 105 (List._∷_ 116 (List._∷_ 115 (List._∷_ 58 (List._∷_ 58 (List._∷_ 66 (List._∷_ 105 (List._∷_ 116 (List._∷_ 80 (List._∷_ 111 (List._∷_ 115 (List._∷_ 105 (List._∷_ 116 (List._∷_
-          105 (List._∷_ 111 (List._∷_ 110 List.[]))))))))))))))))) (Syntax.tcons (Syntax.tyInt Syntax.w64) Syntax.tnil)),
-    ) (List._∷_ (10, Rows.any-gone (Syntax.tyInt Syntax.w64)) (List._∷_ (
-      11,
-      Rows.any-gone
-          (Syntax.tyRef Syntax.erased Syntax.mut (Syntax.tyInt Syntax.w8)),
-    ) (List._∷_ (
-      12,
-      Rows.any-gone (Syntax.tyStruct (List._∷_ 38 (List._∷_ 91 (List._∷_ 93 List.[]))) (Syntax.tcons (Syntax.tyRef
-          Syntax.erased Syntax.mut (Syntax.tyInt Syntax.w8)) (Syntax.tcons (Syntax.tyInt Syntax.w64) Syntax.tnil))),
-    ) (List._∷_ (
-      13,
-      Rows.any-gone (Syntax.tyRef Syntax.erased Syntax.mut (Syntax.tyInt
-          Syntax.w16)),
-    ) (List._∷_ (
-      14,
-      Rows.any-gone (Syntax.tyStruct (List._∷_ 38 (List._∷_ 91 (List._∷_ 93 List.[]))) (Syntax.tcons (Syntax.tyRef Syntax.erased Syntax.mut (Syntax.tyInt Syntax.w16))
-          (Syntax.tcons (Syntax.tyInt Syntax.w64) Syntax.tnil))),
-    ) (List._∷_ (15, Rows.any-gone (Syntax.tyRef Syntax.erased Syntax.mut Element.behind)) List.[])))))))))))))))
-
-abbrev pub t19 : List.List Row.Entry
-t19 = List._∷_ (
-  0,
-  Rows.any-gone (Syntax.tyEnum (List._∷_ 98 (List._∷_ 108 (List._∷_ 111 (List._∷_ 99 (List._∷_ 107 (List._∷_ 58 (List._∷_ 58 (List._∷_ 87 (List._∷_ 114 (List._∷_ 105 (List._∷_ 116
-      (List._∷_ 116 (List._∷_ 101 (List._∷_ 110 List.[])))))))))))))) (Syntax.ttcons (Syntax.tcons (Syntax.tyInt Syntax.w64) Syntax.tnil) (Syntax.ttcons (Syntax.tcons (Syntax.tyEnum (List._∷_ 115 (List._∷_
-      116 (List._∷_ 114 (List._∷_ 101 (List._∷_ 97 (List._∷_ 109 (List._∷_ 58 (List._∷_ 58 (List._∷_ 82 (List._∷_ 101 (List._∷_ 102 (List._∷_ 117 (List._∷_ 115 (List._∷_ 97 (List._∷_ 108
-      List.[]))))))))))))))) (Syntax.ttcons Syntax.tnil (Syntax.ttcons Syntax.tnil (Syntax.ttcons Syntax.tnil (Syntax.ttcons (Syntax.tcons (Syntax.tyInt Syntax.w64) Syntax.tnil) (Syntax.ttcons Syntax.tnil
-      (Syntax.ttcons Syntax.tnil (Syntax.ttcons Syntax.tnil (Syntax.ttcons Syntax.tnil (Syntax.ttcons Syntax.tnil (Syntax.ttcons Syntax.tnil (Syntax.ttcons (Syntax.tcons (Syntax.tyInt Syntax.w64)
-      Syntax.tnil) (Syntax.ttcons (Syntax.tcons (Syntax.tyInt Syntax.w64) Syntax.tnil) (Syntax.ttcons Syntax.tnil (Syntax.ttcons (Syntax.tcons (Syntax.tyInt Syntax.w64) (Syntax.tcons (Syntax.tyInt
-      Syntax.w64) Syntax.tnil)) (Syntax.ttcons (Syntax.tcons (Syntax.tyInt Syntax.w64) Syntax.tnil) Syntax.ttnil)))))))))))))))) Syntax.tnil) Syntax.ttnil))),
-) (List._∷_ (
-  1,
-  Rows.sslice (Referent.rtF
-      (Referent.fInt Syntax.w16)) (Syntax.tyRef (Syntax.named 0) Syntax.imm (Syntax.tyInt Syntax.w16)) 0,
-) (List._∷_ (
-  2,
-  Mut.mslice (Referent.rtF (Referent.fInt Syntax.w8)) (Syntax.tyRef (Syntax.named 1)
-      Syntax.mut (Syntax.tyInt Syntax.w8)) 1,
-) (List._∷_ (3, Mut.mslice (Referent.rtF (Referent.fInt Syntax.w16)) (Syntax.tyRef (Syntax.named 2) Syntax.mut (Syntax.tyInt Syntax.w16)) 2) (List._∷_ (
-  4,
-  Mut.mslice (Element.type) (Syntax.tyRef (Syntax.named 3) Syntax.mut Element.behind) 3,
-) (List._∷_ (
-  5,
-  Rows.any-gone (Syntax.tyStruct (List._∷_ 98 (List._∷_ 108 (List._∷_ 111 (List._∷_ 99 (List._∷_
-      107 (List._∷_ 58 (List._∷_ 58 (List._∷_ 70 (List._∷_ 111 (List._∷_ 114 (List._∷_ 109 List.[]))))))))))) (Syntax.tcons (Syntax.tyInt Syntax.w32) (Syntax.tcons Syntax.tyBool Syntax.tnil))),
-) (List._∷_
-    (6, Rows.sc-here (Row.sInt Syntax.w64)) (List._∷_ (7, Rows.whole (Known.Known Put.enum 1)) (List._∷_ (8, Rows.sc-here (Row.sInt Syntax.w64)) (List._∷_ (
-      9,
-      Rows.any-gone (Syntax.tyStruct (List._∷_
-          98 (List._∷_ 105 (List._∷_ 116 (List._∷_ 115 (List._∷_ 58 (List._∷_ 58 (List._∷_ 66 (List._∷_ 105 (List._∷_ 116 (List._∷_ 80 (List._∷_ 111 (List._∷_ 115 (List._∷_ 105 (List._∷_ 116 (List._∷_ 105
-          (List._∷_ 111 (List._∷_ 110 List.[]))))))))))))))))) (Syntax.tcons (Syntax.tyInt Syntax.w64) Syntax.tnil)),
-    ) (List._∷_ (10, Rows.any-gone (Syntax.tyInt Syntax.w64)) (List._∷_ (
-      11,
-      Rows.any-gone
-          (Syntax.tyRef Syntax.erased Syntax.mut (Syntax.tyInt Syntax.w8)),
-    ) (List._∷_ (
-      12,
-      Rows.any-gone (Syntax.tyStruct (List._∷_ 38 (List._∷_ 91 (List._∷_ 93 List.[]))) (Syntax.tcons (Syntax.tyRef
-          Syntax.erased Syntax.mut (Syntax.tyInt Syntax.w8)) (Syntax.tcons (Syntax.tyInt Syntax.w64) Syntax.tnil))),
-    ) (List._∷_ (
-      13,
-      Rows.any-gone (Syntax.tyRef Syntax.erased Syntax.mut (Syntax.tyInt
-          Syntax.w16)),
-    ) (List._∷_ (
-      14,
-      Rows.any-gone (Syntax.tyStruct (List._∷_ 38 (List._∷_ 91 (List._∷_ 93 List.[]))) (Syntax.tcons (Syntax.tyRef Syntax.erased Syntax.mut (Syntax.tyInt Syntax.w16))
-          (Syntax.tcons (Syntax.tyInt Syntax.w64) Syntax.tnil))),
-    ) (List._∷_ (15, Rows.any-gone (Syntax.tyRef Syntax.erased Syntax.mut Element.behind)) List.[])))))))))))))))
-
-abbrev pub t20 : List.List Row.Entry
-t20 = List._∷_ (
-  0,
-  Rows.any-gone (Syntax.tyEnum (List._∷_ 98 (List._∷_ 108 (List._∷_ 111 (List._∷_ 99 (List._∷_ 107 (List._∷_ 58 (List._∷_ 58 (List._∷_ 87 (List._∷_ 114 (List._∷_ 105 (List._∷_ 116
-      (List._∷_ 116 (List._∷_ 101 (List._∷_ 110 List.[])))))))))))))) (Syntax.ttcons (Syntax.tcons (Syntax.tyInt Syntax.w64) Syntax.tnil) (Syntax.ttcons (Syntax.tcons (Syntax.tyEnum (List._∷_ 115 (List._∷_
-      116 (List._∷_ 114 (List._∷_ 101 (List._∷_ 97 (List._∷_ 109 (List._∷_ 58 (List._∷_ 58 (List._∷_ 82 (List._∷_ 101 (List._∷_ 102 (List._∷_ 117 (List._∷_ 115 (List._∷_ 97 (List._∷_ 108
-      List.[]))))))))))))))) (Syntax.ttcons Syntax.tnil (Syntax.ttcons Syntax.tnil (Syntax.ttcons Syntax.tnil (Syntax.ttcons (Syntax.tcons (Syntax.tyInt Syntax.w64) Syntax.tnil) (Syntax.ttcons Syntax.tnil
-      (Syntax.ttcons Syntax.tnil (Syntax.ttcons Syntax.tnil (Syntax.ttcons Syntax.tnil (Syntax.ttcons Syntax.tnil (Syntax.ttcons Syntax.tnil (Syntax.ttcons (Syntax.tcons (Syntax.tyInt Syntax.w64)
-      Syntax.tnil) (Syntax.ttcons (Syntax.tcons (Syntax.tyInt Syntax.w64) Syntax.tnil) (Syntax.ttcons Syntax.tnil (Syntax.ttcons (Syntax.tcons (Syntax.tyInt Syntax.w64) (Syntax.tcons (Syntax.tyInt
-      Syntax.w64) Syntax.tnil)) (Syntax.ttcons (Syntax.tcons (Syntax.tyInt Syntax.w64) Syntax.tnil) Syntax.ttnil)))))))))))))))) Syntax.tnil) Syntax.ttnil))),
-) (List._∷_ (
-  1,
-  Rows.sslice (Referent.rtF
-      (Referent.fInt Syntax.w16)) (Syntax.tyRef (Syntax.named 0) Syntax.imm (Syntax.tyInt Syntax.w16)) 0,
-) (List._∷_ (
-  2,
-  Mut.mslice (Referent.rtF (Referent.fInt Syntax.w8)) (Syntax.tyRef (Syntax.named 1)
-      Syntax.mut (Syntax.tyInt Syntax.w8)) 1,
-) (List._∷_ (3, Mut.mslice (Referent.rtF (Referent.fInt Syntax.w16)) (Syntax.tyRef (Syntax.named 2) Syntax.mut (Syntax.tyInt Syntax.w16)) 2) (List._∷_ (
-  4,
-  Mut.mslice (Element.type) (Syntax.tyRef (Syntax.named 3) Syntax.mut Element.behind) 3,
-) (List._∷_ (
-  5,
-  Rows.any-gone (Syntax.tyStruct (List._∷_ 98 (List._∷_ 108 (List._∷_ 111 (List._∷_ 99 (List._∷_
-      107 (List._∷_ 58 (List._∷_ 58 (List._∷_ 70 (List._∷_ 111 (List._∷_ 114 (List._∷_ 109 List.[]))))))))))) (Syntax.tcons (Syntax.tyInt Syntax.w32) (Syntax.tcons Syntax.tyBool Syntax.tnil))),
-) (List._∷_
-    (6, Rows.sc-here (Row.sInt Syntax.w64)) (List._∷_ (
-      7,
-      Rows.any-gone (Syntax.tyEnum (List._∷_ 119 (List._∷_ 114 (List._∷_ 105 (List._∷_ 116 (List._∷_ 105 (List._∷_ 110 (List._∷_ 103 (List._∷_ 58
-          (List._∷_ 58 (List._∷_ 80 (List._∷_ 117 (List._∷_ 116 List.[])))))))))))) (Syntax.ttcons (Syntax.tcons (Syntax.tyStruct (List._∷_ 98 (List._∷_ 105 (List._∷_ 116 (List._∷_ 115 (List._∷_ 58 (List._∷_ 58
-          (List._∷_ 66 (List._∷_ 105 (List._∷_ 116 (List._∷_ 80 (List._∷_ 111 (List._∷_ 115 (List._∷_ 105 (List._∷_ 116 (List._∷_ 105 (List._∷_ 111 (List._∷_ 110 List.[]))))))))))))))))) (Syntax.tcons
-          (Syntax.tyInt Syntax.w64) Syntax.tnil)) Syntax.tnil) (Syntax.ttcons (Syntax.tcons (Syntax.tyInt Syntax.w64) Syntax.tnil) Syntax.ttnil))),
-    ) (List._∷_ (8, Rows.sc-here (Row.sInt Syntax.w64)) (List._∷_ (
-      9,
-      Rows.any-gone (Syntax.tyStruct (List._∷_ 98 (List._∷_ 105 (List._∷_ 116 (List._∷_ 115 (List._∷_ 58 (List._∷_ 58 (List._∷_ 66 (List._∷_ 105 (List._∷_ 116 (List._∷_ 80 (List._∷_ 111 (List._∷_ 115
-          (List._∷_ 105 (List._∷_ 116 (List._∷_ 105 (List._∷_ 111 (List._∷_ 110 List.[]))))))))))))))))) (Syntax.tcons (Syntax.tyInt Syntax.w64) Syntax.tnil)),
-    ) (List._∷_ (
-      10,
-      Rows.any-gone (Syntax.tyInt
-          Syntax.w64),
-    ) (List._∷_ (11, Rows.any-gone (Syntax.tyRef Syntax.erased Syntax.mut (Syntax.tyInt Syntax.w8))) (List._∷_ (
-      12,
-      Rows.any-gone (Syntax.tyStruct (List._∷_ 38 (List._∷_ 91 (List._∷_ 93
-          List.[]))) (Syntax.tcons (Syntax.tyRef Syntax.erased Syntax.mut (Syntax.tyInt Syntax.w8)) (Syntax.tcons (Syntax.tyInt Syntax.w64) Syntax.tnil))),
-    ) (List._∷_ (
-      13,
-      Rows.any-gone (Syntax.tyRef
-          Syntax.erased Syntax.mut (Syntax.tyInt Syntax.w16)),
-    ) (List._∷_ (
-      14,
-      Rows.any-gone (Syntax.tyStruct (List._∷_ 38 (List._∷_ 91 (List._∷_ 93 List.[]))) (Syntax.tcons (Syntax.tyRef Syntax.erased
-          Syntax.mut (Syntax.tyInt Syntax.w16)) (Syntax.tcons (Syntax.tyInt Syntax.w64) Syntax.tnil))),
-    ) (List._∷_ (15, Rows.any-gone (Syntax.tyRef Syntax.erased Syntax.mut Element.behind))
-    List.[])))))))))))))))
-
-abbrev pub t21 : List.List Row.Entry
-t21 = List._∷_ (
-  16,
-  Rows.any-gone (Syntax.tyStruct (List._∷_ 38 (List._∷_ 91 (List._∷_ 93 List.[]))) (Syntax.tcons (Syntax.tyRef Syntax.erased Syntax.mut Element.behind) (Syntax.tcons (Syntax.tyInt
-      Syntax.w64) Syntax.tnil))),
-) (List._∷_ (
-  17,
-  Rows.any-gone (Syntax.tyEnum (List._∷_ 98 (List._∷_ 108 (List._∷_ 111 (List._∷_ 99 (List._∷_ 107 (List._∷_ 58 (List._∷_ 58 (List._∷_ 87 (List._∷_ 114
-      (List._∷_ 105 (List._∷_ 116 (List._∷_ 116 (List._∷_ 101 (List._∷_ 110 List.[])))))))))))))) (Syntax.ttcons (Syntax.tcons (Syntax.tyInt Syntax.w64) Syntax.tnil) (Syntax.ttcons (Syntax.tcons
-      (Syntax.tyEnum (List._∷_ 115 (List._∷_ 116 (List._∷_ 114 (List._∷_ 101 (List._∷_ 97 (List._∷_ 109 (List._∷_ 58 (List._∷_ 58 (List._∷_ 82 (List._∷_ 101 (List._∷_ 102 (List._∷_ 117 (List._∷_ 115
-      (List._∷_ 97 (List._∷_ 108 List.[]))))))))))))))) (Syntax.ttcons Syntax.tnil (Syntax.ttcons Syntax.tnil (Syntax.ttcons Syntax.tnil (Syntax.ttcons (Syntax.tcons (Syntax.tyInt Syntax.w64) Syntax.tnil)
-      (Syntax.ttcons Syntax.tnil (Syntax.ttcons Syntax.tnil (Syntax.ttcons Syntax.tnil (Syntax.ttcons Syntax.tnil (Syntax.ttcons Syntax.tnil (Syntax.ttcons Syntax.tnil (Syntax.ttcons (Syntax.tcons
-      (Syntax.tyInt Syntax.w64) Syntax.tnil) (Syntax.ttcons (Syntax.tcons (Syntax.tyInt Syntax.w64) Syntax.tnil) (Syntax.ttcons Syntax.tnil (Syntax.ttcons (Syntax.tcons (Syntax.tyInt Syntax.w64)
-      (Syntax.tcons (Syntax.tyInt Syntax.w64) Syntax.tnil)) (Syntax.ttcons (Syntax.tcons (Syntax.tyInt Syntax.w64) Syntax.tnil) Syntax.ttnil)))))))))))))))) Syntax.tnil) Syntax.ttnil))),
-) (List._∷_ (
-  18,
-  Rows.whole (Declared.row Refusal.the-type),
-) (List._∷_ (19, Rows.any-gone Syntax.tyBool) (List._∷_ (20, Rows.any-gone (Syntax.tyInt Syntax.w64)) (List._∷_ (
-  21,
-  Rows.any-gone (Syntax.tyEnum
-      (List._∷_ 115 (List._∷_ 116 (List._∷_ 114 (List._∷_ 101 (List._∷_ 97 (List._∷_ 109 (List._∷_ 58 (List._∷_ 58 (List._∷_ 82 (List._∷_ 101 (List._∷_ 102 (List._∷_ 117 (List._∷_ 115 (List._∷_ 97 (List._∷_
-      108 List.[]))))))))))))))) (Syntax.ttcons Syntax.tnil (Syntax.ttcons Syntax.tnil (Syntax.ttcons Syntax.tnil (Syntax.ttcons (Syntax.tcons (Syntax.tyInt Syntax.w64) Syntax.tnil) (Syntax.ttcons
-      Syntax.tnil (Syntax.ttcons Syntax.tnil (Syntax.ttcons Syntax.tnil (Syntax.ttcons Syntax.tnil (Syntax.ttcons Syntax.tnil (Syntax.ttcons Syntax.tnil (Syntax.ttcons (Syntax.tcons (Syntax.tyInt
-      Syntax.w64) Syntax.tnil) (Syntax.ttcons (Syntax.tcons (Syntax.tyInt Syntax.w64) Syntax.tnil) (Syntax.ttcons Syntax.tnil (Syntax.ttcons (Syntax.tcons (Syntax.tyInt Syntax.w64) (Syntax.tcons
-      (Syntax.tyInt Syntax.w64) Syntax.tnil)) (Syntax.ttcons (Syntax.tcons (Syntax.tyInt Syntax.w64) Syntax.tnil) Syntax.ttnil)))))))))))))))),
-) (List._∷_ (
-  22,
-  Rows.any-gone (Syntax.tyEnum (List._∷_ 119
-      (List._∷_ 114 (List._∷_ 105 (List._∷_ 116 (List._∷_ 105 (List._∷_ 110 (List._∷_ 103 (List._∷_ 58 (List._∷_ 58 (List._∷_ 80 (List._∷_ 117 (List._∷_ 116 List.[])))))))))))) (Syntax.ttcons (Syntax.tcons
-      (Syntax.tyStruct (List._∷_ 98 (List._∷_ 105 (List._∷_ 116 (List._∷_ 115 (List._∷_ 58 (List._∷_ 58 (List._∷_ 66 (List._∷_ 105 (List._∷_ 116 (List._∷_ 80 (List._∷_ 111 (List._∷_ 115 (List._∷_ 105
-      (List._∷_ 116 (List._∷_ 105 (List._∷_ 111 (List._∷_ 110 List.[]))))))))))))))))) (Syntax.tcons (Syntax.tyInt Syntax.w64) Syntax.tnil)) Syntax.tnil) (Syntax.ttcons (Syntax.tcons (Syntax.tyInt
-      Syntax.w64) Syntax.tnil) Syntax.ttnil))),
-) (List._∷_ (23, Rows.any-gone (Syntax.tyRef Syntax.erased Syntax.mut (Syntax.tyInt Syntax.w8))) (List._∷_ (
-  24,
-  Rows.any-gone (Syntax.tyStruct (List._∷_ 38
-      (List._∷_ 91 (List._∷_ 93 List.[]))) (Syntax.tcons (Syntax.tyRef Syntax.erased Syntax.mut (Syntax.tyInt Syntax.w8)) (Syntax.tcons (Syntax.tyInt Syntax.w64) Syntax.tnil))),
-) (List._∷_ (
-  25,
-  Rows.any-gone (Syntax.tyRef Syntax.erased Syntax.mut (Syntax.tyInt Syntax.w16)),
-) (List._∷_ (
-  26,
-  Rows.any-gone (Syntax.tyStruct (List._∷_ 38 (List._∷_ 91 (List._∷_ 93 List.[]))) (Syntax.tcons
-      (Syntax.tyRef Syntax.erased Syntax.mut (Syntax.tyInt Syntax.w16)) (Syntax.tcons (Syntax.tyInt Syntax.w64) Syntax.tnil))),
-) (List._∷_ (
-  27,
-  Rows.any-gone (Syntax.tyRef Syntax.erased Syntax.mut
-      Element.behind),
-) (List._∷_ (
-  28,
-  Rows.any-gone (Syntax.tyStruct (List._∷_ 38 (List._∷_ 91 (List._∷_ 93 List.[]))) (Syntax.tcons (Syntax.tyRef Syntax.erased Syntax.mut Element.behind) (Syntax.tcons
-      (Syntax.tyInt Syntax.w64) Syntax.tnil))),
-) List.[]))))))))))))
-
-abbrev pub t22 : List.List Row.Entry
-t22 = List._∷_ (
-  16,
-  Rows.any-gone (Syntax.tyStruct (List._∷_ 38 (List._∷_ 91 (List._∷_ 93 List.[]))) (Syntax.tcons (Syntax.tyRef Syntax.erased Syntax.mut Element.behind) (Syntax.tcons (Syntax.tyInt
-      Syntax.w64) Syntax.tnil))),
-) (List._∷_ (17, Rows.whole (Declared.row Written.the-type)) (List._∷_ (18, Rows.whole (Declared.row Refusal.the-type)) (List._∷_ (19, Rows.any-gone Syntax.tyBool)
-    (List._∷_ (20, Rows.any-gone (Syntax.tyInt Syntax.w64)) (List._∷_ (
-      21,
-      Rows.any-gone (Syntax.tyEnum (List._∷_ 115 (List._∷_ 116 (List._∷_ 114 (List._∷_ 101 (List._∷_ 97 (List._∷_ 109 (List._∷_ 58
-          (List._∷_ 58 (List._∷_ 82 (List._∷_ 101 (List._∷_ 102 (List._∷_ 117 (List._∷_ 115 (List._∷_ 97 (List._∷_ 108 List.[]))))))))))))))) (Syntax.ttcons Syntax.tnil (Syntax.ttcons Syntax.tnil (Syntax.ttcons
-          Syntax.tnil (Syntax.ttcons (Syntax.tcons (Syntax.tyInt Syntax.w64) Syntax.tnil) (Syntax.ttcons Syntax.tnil (Syntax.ttcons Syntax.tnil (Syntax.ttcons Syntax.tnil (Syntax.ttcons Syntax.tnil
-          (Syntax.ttcons Syntax.tnil (Syntax.ttcons Syntax.tnil (Syntax.ttcons (Syntax.tcons (Syntax.tyInt Syntax.w64) Syntax.tnil) (Syntax.ttcons (Syntax.tcons (Syntax.tyInt Syntax.w64) Syntax.tnil)
-          (Syntax.ttcons Syntax.tnil (Syntax.ttcons (Syntax.tcons (Syntax.tyInt Syntax.w64) (Syntax.tcons (Syntax.tyInt Syntax.w64) Syntax.tnil)) (Syntax.ttcons (Syntax.tcons (Syntax.tyInt Syntax.w64)
-          Syntax.tnil) Syntax.ttnil)))))))))))))))),
-    ) (List._∷_ (
-      22,
-      Rows.any-gone (Syntax.tyEnum (List._∷_ 119 (List._∷_ 114 (List._∷_ 105 (List._∷_ 116 (List._∷_ 105 (List._∷_ 110 (List._∷_ 103 (List._∷_ 58
-          (List._∷_ 58 (List._∷_ 80 (List._∷_ 117 (List._∷_ 116 List.[])))))))))))) (Syntax.ttcons (Syntax.tcons (Syntax.tyStruct (List._∷_ 98 (List._∷_ 105 (List._∷_ 116 (List._∷_ 115 (List._∷_ 58 (List._∷_ 58
-          (List._∷_ 66 (List._∷_ 105 (List._∷_ 116 (List._∷_ 80 (List._∷_ 111 (List._∷_ 115 (List._∷_ 105 (List._∷_ 116 (List._∷_ 105 (List._∷_ 111 (List._∷_ 110 List.[]))))))))))))))))) (Syntax.tcons
-          (Syntax.tyInt Syntax.w64) Syntax.tnil)) Syntax.tnil) (Syntax.ttcons (Syntax.tcons (Syntax.tyInt Syntax.w64) Syntax.tnil) Syntax.ttnil))),
-    ) (List._∷_ (
-      23,
-      Rows.any-gone (Syntax.tyRef Syntax.erased
-          Syntax.mut (Syntax.tyInt Syntax.w8)),
-    ) (List._∷_ (
-      24,
-      Rows.any-gone (Syntax.tyStruct (List._∷_ 38 (List._∷_ 91 (List._∷_ 93 List.[]))) (Syntax.tcons (Syntax.tyRef Syntax.erased Syntax.mut
-          (Syntax.tyInt Syntax.w8)) (Syntax.tcons (Syntax.tyInt Syntax.w64) Syntax.tnil))),
-    ) (List._∷_ (25, Rows.any-gone (Syntax.tyRef Syntax.erased Syntax.mut (Syntax.tyInt Syntax.w16))) (List._∷_ (
-      26,
-      Rows.any-gone (Syntax.tyStruct (List._∷_ 38 (List._∷_ 91 (List._∷_ 93 List.[]))) (Syntax.tcons (Syntax.tyRef Syntax.erased Syntax.mut (Syntax.tyInt Syntax.w16)) (Syntax.tcons (Syntax.tyInt Syntax.w64)
-          Syntax.tnil))),
-    ) (List._∷_ (27, Rows.any-gone (Syntax.tyRef Syntax.erased Syntax.mut Element.behind)) (List._∷_ (
-      28,
-      Rows.any-gone (Syntax.tyStruct (List._∷_ 38 (List._∷_ 91 (List._∷_ 93
-          List.[]))) (Syntax.tcons (Syntax.tyRef Syntax.erased Syntax.mut Element.behind) (Syntax.tcons (Syntax.tyInt Syntax.w64) Syntax.tnil))),
-    ) List.[]))))))))))))
-
-abbrev pub t23 : List.List Row.Entry
-t23 = List._∷_ (
-  0,
-  Rows.any-gone (Syntax.tyEnum (List._∷_ 98 (List._∷_ 108 (List._∷_ 111 (List._∷_ 99 (List._∷_ 107 (List._∷_ 58 (List._∷_ 58 (List._∷_ 87 (List._∷_ 114 (List._∷_ 105 (List._∷_ 116
-      (List._∷_ 116 (List._∷_ 101 (List._∷_ 110 List.[])))))))))))))) (Syntax.ttcons (Syntax.tcons (Syntax.tyInt Syntax.w64) Syntax.tnil) (Syntax.ttcons (Syntax.tcons (Syntax.tyEnum (List._∷_ 115 (List._∷_
-      116 (List._∷_ 114 (List._∷_ 101 (List._∷_ 97 (List._∷_ 109 (List._∷_ 58 (List._∷_ 58 (List._∷_ 82 (List._∷_ 101 (List._∷_ 102 (List._∷_ 117 (List._∷_ 115 (List._∷_ 97 (List._∷_ 108
-      List.[]))))))))))))))) (Syntax.ttcons Syntax.tnil (Syntax.ttcons Syntax.tnil (Syntax.ttcons Syntax.tnil (Syntax.ttcons (Syntax.tcons (Syntax.tyInt Syntax.w64) Syntax.tnil) (Syntax.ttcons Syntax.tnil
-      (Syntax.ttcons Syntax.tnil (Syntax.ttcons Syntax.tnil (Syntax.ttcons Syntax.tnil (Syntax.ttcons Syntax.tnil (Syntax.ttcons Syntax.tnil (Syntax.ttcons (Syntax.tcons (Syntax.tyInt Syntax.w64)
-      Syntax.tnil) (Syntax.ttcons (Syntax.tcons (Syntax.tyInt Syntax.w64) Syntax.tnil) (Syntax.ttcons Syntax.tnil (Syntax.ttcons (Syntax.tcons (Syntax.tyInt Syntax.w64) (Syntax.tcons (Syntax.tyInt
-      Syntax.w64) Syntax.tnil)) (Syntax.ttcons (Syntax.tcons (Syntax.tyInt Syntax.w64) Syntax.tnil) Syntax.ttnil)))))))))))))))) Syntax.tnil) Syntax.ttnil))),
-) (List._∷_ (
-  1,
-  Rows.sslice (Referent.rtF
-      (Referent.fInt Syntax.w16)) (Syntax.tyRef (Syntax.named 0) Syntax.imm (Syntax.tyInt Syntax.w16)) 0,
-) (List._∷_ (
-  2,
-  Mut.mslice (Referent.rtF (Referent.fInt Syntax.w8)) (Syntax.tyRef (Syntax.named 1)
-      Syntax.mut (Syntax.tyInt Syntax.w8)) 1,
-) (List._∷_ (3, Mut.mslice (Referent.rtF (Referent.fInt Syntax.w16)) (Syntax.tyRef (Syntax.named 2) Syntax.mut (Syntax.tyInt Syntax.w16)) 2) (List._∷_ (
-  4,
-  Mut.mslice (Element.type) (Syntax.tyRef (Syntax.named 3) Syntax.mut Element.behind) 3,
-) (List._∷_ (5, Rows.whole (Declared'.row Form.the-type)) (List._∷_ (6, Rows.sc-here (Row.sInt Syntax.w64))
-    (List._∷_ (7, Rows.whole (Known.Known Put.enum 0)) (List._∷_ (8, Rows.any-gone (Syntax.tyInt Syntax.w64)) (List._∷_ (
-      9,
-      Rows.any-gone (Syntax.tyStruct (List._∷_ 98 (List._∷_ 105 (List._∷_ 116
-          (List._∷_ 115 (List._∷_ 58 (List._∷_ 58 (List._∷_ 66 (List._∷_ 105 (List._∷_ 116 (List._∷_ 80 (List._∷_ 111 (List._∷_ 115 (List._∷_ 105 (List._∷_ 116 (List._∷_ 105 (List._∷_ 111 (List._∷_ 110
-          List.[]))))))))))))))))) (Syntax.tcons (Syntax.tyInt Syntax.w64) Syntax.tnil)),
-    ) (List._∷_ (10, Rows.any-gone (Syntax.tyInt Syntax.w64)) (List._∷_ (
-      11,
-      Rows.any-gone (Syntax.tyRef Syntax.erased
-          Syntax.mut (Syntax.tyInt Syntax.w8)),
-    ) (List._∷_ (
-      12,
-      Rows.any-gone (Syntax.tyStruct (List._∷_ 38 (List._∷_ 91 (List._∷_ 93 List.[]))) (Syntax.tcons (Syntax.tyRef Syntax.erased Syntax.mut
-          (Syntax.tyInt Syntax.w8)) (Syntax.tcons (Syntax.tyInt Syntax.w64) Syntax.tnil))),
-    ) (List._∷_ (13, Rows.any-gone (Syntax.tyRef Syntax.erased Syntax.mut (Syntax.tyInt Syntax.w16))) (List._∷_ (
-      14,
-      Rows.any-gone (Syntax.tyStruct (List._∷_ 38 (List._∷_ 91 (List._∷_ 93 List.[]))) (Syntax.tcons (Syntax.tyRef Syntax.erased Syntax.mut (Syntax.tyInt Syntax.w16)) (Syntax.tcons (Syntax.tyInt Syntax.w64)
-          Syntax.tnil))),
-    ) (List._∷_ (15, Rows.any-gone (Syntax.tyRef Syntax.erased Syntax.mut Element.behind)) List.[])))))))))))))))
-
-abbrev pub t24 : List.List Row.Entry
-t24 = List._∷_ (
-  0,
-  Rows.any-gone (Syntax.tyEnum (List._∷_ 98 (List._∷_ 108 (List._∷_ 111 (List._∷_ 99 (List._∷_ 107 (List._∷_ 58 (List._∷_ 58 (List._∷_ 87 (List._∷_ 114 (List._∷_ 105 (List._∷_ 116
-      (List._∷_ 116 (List._∷_ 101 (List._∷_ 110 List.[])))))))))))))) (Syntax.ttcons (Syntax.tcons (Syntax.tyInt Syntax.w64) Syntax.tnil) (Syntax.ttcons (Syntax.tcons (Syntax.tyEnum (List._∷_ 115 (List._∷_
-      116 (List._∷_ 114 (List._∷_ 101 (List._∷_ 97 (List._∷_ 109 (List._∷_ 58 (List._∷_ 58 (List._∷_ 82 (List._∷_ 101 (List._∷_ 102 (List._∷_ 117 (List._∷_ 115 (List._∷_ 97 (List._∷_ 108
-      List.[]))))))))))))))) (Syntax.ttcons Syntax.tnil (Syntax.ttcons Syntax.tnil (Syntax.ttcons Syntax.tnil (Syntax.ttcons (Syntax.tcons (Syntax.tyInt Syntax.w64) Syntax.tnil) (Syntax.ttcons Syntax.tnil
-      (Syntax.ttcons Syntax.tnil (Syntax.ttcons Syntax.tnil (Syntax.ttcons Syntax.tnil (Syntax.ttcons Syntax.tnil (Syntax.ttcons Syntax.tnil (Syntax.ttcons (Syntax.tcons (Syntax.tyInt Syntax.w64)
-      Syntax.tnil) (Syntax.ttcons (Syntax.tcons (Syntax.tyInt Syntax.w64) Syntax.tnil) (Syntax.ttcons Syntax.tnil (Syntax.ttcons (Syntax.tcons (Syntax.tyInt Syntax.w64) (Syntax.tcons (Syntax.tyInt
-      Syntax.w64) Syntax.tnil)) (Syntax.ttcons (Syntax.tcons (Syntax.tyInt Syntax.w64) Syntax.tnil) Syntax.ttnil)))))))))))))))) Syntax.tnil) Syntax.ttnil))),
-) (List._∷_ (
-  1,
-  Rows.sslice (Referent.rtF
-      (Referent.fInt Syntax.w16)) (Syntax.tyRef (Syntax.named 0) Syntax.imm (Syntax.tyInt Syntax.w16)) 0,
-) (List._∷_ (
-  2,
-  Mut.mslice (Referent.rtF (Referent.fInt Syntax.w8)) (Syntax.tyRef (Syntax.named 1)
-      Syntax.mut (Syntax.tyInt Syntax.w8)) 1,
-) (List._∷_ (3, Mut.mslice (Referent.rtF (Referent.fInt Syntax.w16)) (Syntax.tyRef (Syntax.named 2) Syntax.mut (Syntax.tyInt Syntax.w16)) 2) (List._∷_ (
-  4,
-  Mut.mslice (Element.type) (Syntax.tyRef (Syntax.named 3) Syntax.mut Element.behind) 3,
-) (List._∷_ (5, Rows.whole (Declared'.row Form.the-type)) (List._∷_ (6, Rows.sc-here (Row.sInt Syntax.w64))
-    (List._∷_ (7, Rows.whole (Known.Known Put.enum 0)) (List._∷_ (8, Rows.any-gone (Syntax.tyInt Syntax.w64)) (List._∷_ (9, Rows.whole (Declared'.row BitPosition.the-type)) (List._∷_ (
-      10,
-      Rows.any-gone (Syntax.tyInt Syntax.w64),
-    ) (List._∷_ (11, Rows.any-gone (Syntax.tyRef Syntax.erased Syntax.mut (Syntax.tyInt Syntax.w8))) (List._∷_ (
-      12,
-      Rows.any-gone (Syntax.tyStruct (List._∷_ 38
-          (List._∷_ 91 (List._∷_ 93 List.[]))) (Syntax.tcons (Syntax.tyRef Syntax.erased Syntax.mut (Syntax.tyInt Syntax.w8)) (Syntax.tcons (Syntax.tyInt Syntax.w64) Syntax.tnil))),
-    ) (List._∷_ (
-      13,
-      Rows.any-gone (Syntax.tyRef Syntax.erased Syntax.mut (Syntax.tyInt Syntax.w16)),
-    ) (List._∷_ (
-      14,
-      Rows.any-gone (Syntax.tyStruct (List._∷_ 38 (List._∷_ 91 (List._∷_ 93 List.[]))) (Syntax.tcons
-          (Syntax.tyRef Syntax.erased Syntax.mut (Syntax.tyInt Syntax.w16)) (Syntax.tcons (Syntax.tyInt Syntax.w64) Syntax.tnil))),
-    ) (List._∷_ (
-      15,
-      Rows.any-gone (Syntax.tyRef Syntax.erased Syntax.mut
-          Element.behind),
-    ) List.[])))))))))))))))
-
-abbrev pub t25 : List.List Row.Entry
-t25 = List._∷_ (
-  0,
-  Rows.any-gone (Syntax.tyEnum (List._∷_ 98 (List._∷_ 108 (List._∷_ 111 (List._∷_ 99 (List._∷_ 107 (List._∷_ 58 (List._∷_ 58 (List._∷_ 87 (List._∷_ 114 (List._∷_ 105 (List._∷_ 116
-      (List._∷_ 116 (List._∷_ 101 (List._∷_ 110 List.[])))))))))))))) (Syntax.ttcons (Syntax.tcons (Syntax.tyInt Syntax.w64) Syntax.tnil) (Syntax.ttcons (Syntax.tcons (Syntax.tyEnum (List._∷_ 115 (List._∷_
-      116 (List._∷_ 114 (List._∷_ 101 (List._∷_ 97 (List._∷_ 109 (List._∷_ 58 (List._∷_ 58 (List._∷_ 82 (List._∷_ 101 (List._∷_ 102 (List._∷_ 117 (List._∷_ 115 (List._∷_ 97 (List._∷_ 108
-      List.[]))))))))))))))) (Syntax.ttcons Syntax.tnil (Syntax.ttcons Syntax.tnil (Syntax.ttcons Syntax.tnil (Syntax.ttcons (Syntax.tcons (Syntax.tyInt Syntax.w64) Syntax.tnil) (Syntax.ttcons Syntax.tnil
-      (Syntax.ttcons Syntax.tnil (Syntax.ttcons Syntax.tnil (Syntax.ttcons Syntax.tnil (Syntax.ttcons Syntax.tnil (Syntax.ttcons Syntax.tnil (Syntax.ttcons (Syntax.tcons (Syntax.tyInt Syntax.w64)
-      Syntax.tnil) (Syntax.ttcons (Syntax.tcons (Syntax.tyInt Syntax.w64) Syntax.tnil) (Syntax.ttcons Syntax.tnil (Syntax.ttcons (Syntax.tcons (Syntax.tyInt Syntax.w64) (Syntax.tcons (Syntax.tyInt
-      Syntax.w64) Syntax.tnil)) (Syntax.ttcons (Syntax.tcons (Syntax.tyInt Syntax.w64) Syntax.tnil) Syntax.ttnil)))))))))))))))) Syntax.tnil) Syntax.ttnil))),
-) (List._∷_ (
-  1,
-  Rows.sslice (Referent.rtF
-      (Referent.fInt Syntax.w16)) (Syntax.tyRef (Syntax.named 0) Syntax.imm (Syntax.tyInt Syntax.w16)) 0,
-) (List._∷_ (
-  2,
-  Mut.mslice (Referent.rtF (Referent.fInt Syntax.w8)) (Syntax.tyRef (Syntax.named 1)
-      Syntax.mut (Syntax.tyInt Syntax.w8)) 1,
-) (List._∷_ (3, Mut.mslice (Referent.rtF (Referent.fInt Syntax.w16)) (Syntax.tyRef (Syntax.named 2) Syntax.mut (Syntax.tyInt Syntax.w16)) 2) (List._∷_ (
-  4,
-  Mut.mslice (Element.type) (Syntax.tyRef (Syntax.named 3) Syntax.mut Element.behind) 3,
-) (List._∷_ (5, Rows.whole (Declared'.row Form.the-type)) (List._∷_ (6, Rows.sc-here (Row.sInt Syntax.w64))
-    (List._∷_ (
-      7,
-      Rows.any-gone (Syntax.tyEnum (List._∷_ 119 (List._∷_ 114 (List._∷_ 105 (List._∷_ 116 (List._∷_ 105 (List._∷_ 110 (List._∷_ 103 (List._∷_ 58 (List._∷_ 58 (List._∷_ 80 (List._∷_ 117
-          (List._∷_ 116 List.[])))))))))))) (Syntax.ttcons (Syntax.tcons (Syntax.tyStruct (List._∷_ 98 (List._∷_ 105 (List._∷_ 116 (List._∷_ 115 (List._∷_ 58 (List._∷_ 58 (List._∷_ 66 (List._∷_ 105 (List._∷_
-          116 (List._∷_ 80 (List._∷_ 111 (List._∷_ 115 (List._∷_ 105 (List._∷_ 116 (List._∷_ 105 (List._∷_ 111 (List._∷_ 110 List.[]))))))))))))))))) (Syntax.tcons (Syntax.tyInt Syntax.w64) Syntax.tnil))
-          Syntax.tnil) (Syntax.ttcons (Syntax.tcons (Syntax.tyInt Syntax.w64) Syntax.tnil) Syntax.ttnil))),
-    ) (List._∷_ (8, Rows.any-gone (Syntax.tyInt Syntax.w64)) (List._∷_ (
-      9,
-      Rows.whole (Declared'.row
-          BitPosition.the-type),
-    ) (List._∷_ (10, Rows.any-gone (Syntax.tyInt Syntax.w64)) (List._∷_ (11, Rows.any-gone (Syntax.tyRef Syntax.erased Syntax.mut (Syntax.tyInt Syntax.w8))) (List._∷_ (
-      12,
-      Rows.any-gone (Syntax.tyStruct (List._∷_ 38 (List._∷_ 91 (List._∷_ 93 List.[]))) (Syntax.tcons (Syntax.tyRef Syntax.erased Syntax.mut (Syntax.tyInt Syntax.w8)) (Syntax.tcons (Syntax.tyInt Syntax.w64)
-          Syntax.tnil))),
-    ) (List._∷_ (13, Rows.any-gone (Syntax.tyRef Syntax.erased Syntax.mut (Syntax.tyInt Syntax.w16))) (List._∷_ (
-      14,
-      Rows.any-gone (Syntax.tyStruct (List._∷_ 38 (List._∷_ 91 (List._∷_
-          93 List.[]))) (Syntax.tcons (Syntax.tyRef Syntax.erased Syntax.mut (Syntax.tyInt Syntax.w16)) (Syntax.tcons (Syntax.tyInt Syntax.w64) Syntax.tnil))),
-    ) (List._∷_ (
-      15,
-      Rows.any-gone (Syntax.tyRef
-          Syntax.erased Syntax.mut Element.behind),
-    ) List.[])))))))))))))))
-
-abbrev pub t26 : List.List Row.Entry
-t26 = List._∷_ (
-  0,
-  Rows.any-gone (Syntax.tyEnum (List._∷_ 98 (List._∷_ 108 (List._∷_ 111 (List._∷_ 99 (List._∷_ 107 (List._∷_ 58 (List._∷_ 58 (List._∷_ 87 (List._∷_ 114 (List._∷_ 105 (List._∷_ 116
-      (List._∷_ 116 (List._∷_ 101 (List._∷_ 110 List.[])))))))))))))) (Syntax.ttcons (Syntax.tcons (Syntax.tyInt Syntax.w64) Syntax.tnil) (Syntax.ttcons (Syntax.tcons (Syntax.tyEnum (List._∷_ 115 (List._∷_
-      116 (List._∷_ 114 (List._∷_ 101 (List._∷_ 97 (List._∷_ 109 (List._∷_ 58 (List._∷_ 58 (List._∷_ 82 (List._∷_ 101 (List._∷_ 102 (List._∷_ 117 (List._∷_ 115 (List._∷_ 97 (List._∷_ 108
-      List.[]))))))))))))))) (Syntax.ttcons Syntax.tnil (Syntax.ttcons Syntax.tnil (Syntax.ttcons Syntax.tnil (Syntax.ttcons (Syntax.tcons (Syntax.tyInt Syntax.w64) Syntax.tnil) (Syntax.ttcons Syntax.tnil
-      (Syntax.ttcons Syntax.tnil (Syntax.ttcons Syntax.tnil (Syntax.ttcons Syntax.tnil (Syntax.ttcons Syntax.tnil (Syntax.ttcons Syntax.tnil (Syntax.ttcons (Syntax.tcons (Syntax.tyInt Syntax.w64)
-      Syntax.tnil) (Syntax.ttcons (Syntax.tcons (Syntax.tyInt Syntax.w64) Syntax.tnil) (Syntax.ttcons Syntax.tnil (Syntax.ttcons (Syntax.tcons (Syntax.tyInt Syntax.w64) (Syntax.tcons (Syntax.tyInt
-      Syntax.w64) Syntax.tnil)) (Syntax.ttcons (Syntax.tcons (Syntax.tyInt Syntax.w64) Syntax.tnil) Syntax.ttnil)))))))))))))))) Syntax.tnil) Syntax.ttnil))),
-) (List._∷_ (
-  1,
-  Rows.sslice (Referent.rtF
-      (Referent.fInt Syntax.w16)) (Syntax.tyRef (Syntax.named 0) Syntax.imm (Syntax.tyInt Syntax.w16)) 0,
-) (List._∷_ (
-  2,
-  Mut.mslice (Referent.rtF (Referent.fInt Syntax.w8)) (Syntax.tyRef (Syntax.named 1)
-      Syntax.mut (Syntax.tyInt Syntax.w8)) 1,
-) (List._∷_ (3, Mut.mslice (Referent.rtF (Referent.fInt Syntax.w16)) (Syntax.tyRef (Syntax.named 2) Syntax.mut (Syntax.tyInt Syntax.w16)) 2) (List._∷_ (
-  4,
-  Mut.mslice (Element.type) (Syntax.tyRef (Syntax.named 3) Syntax.mut Element.behind) 3,
-) (List._∷_ (5, Rows.whole (Declared'.row Form.the-type)) (List._∷_ (6, Rows.sc-here (Row.sInt Syntax.w64))
-    (List._∷_ (
-      7,
-      Rows.any-gone (Syntax.tyEnum (List._∷_ 119 (List._∷_ 114 (List._∷_ 105 (List._∷_ 116 (List._∷_ 105 (List._∷_ 110 (List._∷_ 103 (List._∷_ 58 (List._∷_ 58 (List._∷_ 80 (List._∷_ 117
-          (List._∷_ 116 List.[])))))))))))) (Syntax.ttcons (Syntax.tcons (Syntax.tyStruct (List._∷_ 98 (List._∷_ 105 (List._∷_ 116 (List._∷_ 115 (List._∷_ 58 (List._∷_ 58 (List._∷_ 66 (List._∷_ 105 (List._∷_
-          116 (List._∷_ 80 (List._∷_ 111 (List._∷_ 115 (List._∷_ 105 (List._∷_ 116 (List._∷_ 105 (List._∷_ 111 (List._∷_ 110 List.[]))))))))))))))))) (Syntax.tcons (Syntax.tyInt Syntax.w64) Syntax.tnil))
-          Syntax.tnil) (Syntax.ttcons (Syntax.tcons (Syntax.tyInt Syntax.w64) Syntax.tnil) Syntax.ttnil))),
-    ) (List._∷_ (8, Rows.any-gone (Syntax.tyInt Syntax.w64)) (List._∷_ (
-      9,
-      Rows.whole (Declared'.row
-          BitPosition.the-type),
-    ) (List._∷_ (10, Rows.sc-here (Row.sInt Syntax.w64)) (List._∷_ (11, Rows.any-gone (Syntax.tyRef Syntax.erased Syntax.mut (Syntax.tyInt Syntax.w8))) (List._∷_ (
-      12,
-      Rows.any-gone (Syntax.tyStruct (List._∷_ 38 (List._∷_ 91 (List._∷_ 93 List.[]))) (Syntax.tcons (Syntax.tyRef Syntax.erased Syntax.mut (Syntax.tyInt Syntax.w8)) (Syntax.tcons (Syntax.tyInt Syntax.w64)
-          Syntax.tnil))),
-    ) (List._∷_ (13, Rows.any-gone (Syntax.tyRef Syntax.erased Syntax.mut (Syntax.tyInt Syntax.w16))) (List._∷_ (
-      14,
-      Rows.any-gone (Syntax.tyStruct (List._∷_ 38 (List._∷_ 91 (List._∷_
-          93 List.[]))) (Syntax.tcons (Syntax.tyRef Syntax.erased Syntax.mut (Syntax.tyInt Syntax.w16)) (Syntax.tcons (Syntax.tyInt Syntax.w64) Syntax.tnil))),
-    ) (List._∷_ (
-      15,
-      Rows.any-gone (Syntax.tyRef
-          Syntax.erased Syntax.mut Element.behind),
-    ) List.[])))))))))))))))
-
-abbrev pub t27 : List.List Row.Entry
-t27 = List._∷_ (
-  0,
-  Rows.any-gone (Syntax.tyEnum (List._∷_ 98 (List._∷_ 108 (List._∷_ 111 (List._∷_ 99 (List._∷_ 107 (List._∷_ 58 (List._∷_ 58 (List._∷_ 87 (List._∷_ 114 (List._∷_ 105 (List._∷_ 116
-      (List._∷_ 116 (List._∷_ 101 (List._∷_ 110 List.[])))))))))))))) (Syntax.ttcons (Syntax.tcons (Syntax.tyInt Syntax.w64) Syntax.tnil) (Syntax.ttcons (Syntax.tcons (Syntax.tyEnum (List._∷_ 115 (List._∷_
-      116 (List._∷_ 114 (List._∷_ 101 (List._∷_ 97 (List._∷_ 109 (List._∷_ 58 (List._∷_ 58 (List._∷_ 82 (List._∷_ 101 (List._∷_ 102 (List._∷_ 117 (List._∷_ 115 (List._∷_ 97 (List._∷_ 108
-      List.[]))))))))))))))) (Syntax.ttcons Syntax.tnil (Syntax.ttcons Syntax.tnil (Syntax.ttcons Syntax.tnil (Syntax.ttcons (Syntax.tcons (Syntax.tyInt Syntax.w64) Syntax.tnil) (Syntax.ttcons Syntax.tnil
-      (Syntax.ttcons Syntax.tnil (Syntax.ttcons Syntax.tnil (Syntax.ttcons Syntax.tnil (Syntax.ttcons Syntax.tnil (Syntax.ttcons Syntax.tnil (Syntax.ttcons (Syntax.tcons (Syntax.tyInt Syntax.w64)
-      Syntax.tnil) (Syntax.ttcons (Syntax.tcons (Syntax.tyInt Syntax.w64) Syntax.tnil) (Syntax.ttcons Syntax.tnil (Syntax.ttcons (Syntax.tcons (Syntax.tyInt Syntax.w64) (Syntax.tcons (Syntax.tyInt
-      Syntax.w64) Syntax.tnil)) (Syntax.ttcons (Syntax.tcons (Syntax.tyInt Syntax.w64) Syntax.tnil) Syntax.ttnil)))))))))))))))) Syntax.tnil) Syntax.ttnil))),
-) (List._∷_ (
-  1,
-  Rows.sslice (Referent.rtF
-      (Referent.fInt Syntax.w16)) (Syntax.tyRef (Syntax.named 0) Syntax.imm (Syntax.tyInt Syntax.w16)) 0,
-) (List._∷_ (
-  2,
-  Mut.mslice (Referent.rtF (Referent.fInt Syntax.w8)) (Syntax.tyRef (Syntax.named 1)
-      Syntax.mut (Syntax.tyInt Syntax.w8)) 1,
-) (List._∷_ (3, Mut.mslice (Referent.rtF (Referent.fInt Syntax.w16)) (Syntax.tyRef (Syntax.named 2) Syntax.mut (Syntax.tyInt Syntax.w16)) 2) (List._∷_ (
-  4,
-  Mut.mslice (Element.type) (Syntax.tyRef (Syntax.named 3) Syntax.mut Element.behind) 3,
-) (List._∷_ (5, Rows.whole (Declared'.row Form.the-type)) (List._∷_ (6, Rows.sc-here (Row.sInt Syntax.w64))
-    (List._∷_ (
-      7,
-      Rows.any-gone (Syntax.tyEnum (List._∷_ 119 (List._∷_ 114 (List._∷_ 105 (List._∷_ 116 (List._∷_ 105 (List._∷_ 110 (List._∷_ 103 (List._∷_ 58 (List._∷_ 58 (List._∷_ 80 (List._∷_ 117
-          (List._∷_ 116 List.[])))))))))))) (Syntax.ttcons (Syntax.tcons (Syntax.tyStruct (List._∷_ 98 (List._∷_ 105 (List._∷_ 116 (List._∷_ 115 (List._∷_ 58 (List._∷_ 58 (List._∷_ 66 (List._∷_ 105 (List._∷_
-          116 (List._∷_ 80 (List._∷_ 111 (List._∷_ 115 (List._∷_ 105 (List._∷_ 116 (List._∷_ 105 (List._∷_ 111 (List._∷_ 110 List.[]))))))))))))))))) (Syntax.tcons (Syntax.tyInt Syntax.w64) Syntax.tnil))
-          Syntax.tnil) (Syntax.ttcons (Syntax.tcons (Syntax.tyInt Syntax.w64) Syntax.tnil) Syntax.ttnil))),
-    ) (List._∷_ (8, Rows.any-gone (Syntax.tyInt Syntax.w64)) (List._∷_ (
-      9,
-      Rows.any-gone (Syntax.tyStruct
-          (List._∷_ 98 (List._∷_ 105 (List._∷_ 116 (List._∷_ 115 (List._∷_ 58 (List._∷_ 58 (List._∷_ 66 (List._∷_ 105 (List._∷_ 116 (List._∷_ 80 (List._∷_ 111 (List._∷_ 115 (List._∷_ 105 (List._∷_ 116 (List._∷_
-          105 (List._∷_ 111 (List._∷_ 110 List.[]))))))))))))))))) (Syntax.tcons (Syntax.tyInt Syntax.w64) Syntax.tnil)),
-    ) (List._∷_ (10, Rows.sc-here (Row.sInt Syntax.w64)) (List._∷_ (
-      11,
-      Rows.any-gone
-          (Syntax.tyRef Syntax.erased Syntax.mut (Syntax.tyInt Syntax.w8)),
-    ) (List._∷_ (
-      12,
-      Rows.any-gone (Syntax.tyStruct (List._∷_ 38 (List._∷_ 91 (List._∷_ 93 List.[]))) (Syntax.tcons (Syntax.tyRef
-          Syntax.erased Syntax.mut (Syntax.tyInt Syntax.w8)) (Syntax.tcons (Syntax.tyInt Syntax.w64) Syntax.tnil))),
-    ) (List._∷_ (
-      13,
-      Rows.any-gone (Syntax.tyRef Syntax.erased Syntax.mut (Syntax.tyInt
-          Syntax.w16)),
-    ) (List._∷_ (
-      14,
-      Rows.any-gone (Syntax.tyStruct (List._∷_ 38 (List._∷_ 91 (List._∷_ 93 List.[]))) (Syntax.tcons (Syntax.tyRef Syntax.erased Syntax.mut (Syntax.tyInt Syntax.w16))
-          (Syntax.tcons (Syntax.tyInt Syntax.w64) Syntax.tnil))),
-    ) (List._∷_ (15, Rows.any-gone (Syntax.tyRef Syntax.erased Syntax.mut Element.behind)) List.[])))))))))))))))
-
-abbrev pub t28 : List.List Row.Entry
-t28 = List._∷_ (
-  16,
-  Rows.any-gone (Syntax.tyStruct (List._∷_ 38 (List._∷_ 91 (List._∷_ 93 List.[]))) (Syntax.tcons (Syntax.tyRef Syntax.erased Syntax.mut Element.behind) (Syntax.tcons (Syntax.tyInt
-      Syntax.w64) Syntax.tnil))),
-) (List._∷_ (
-  17,
-  Rows.any-gone (Syntax.tyEnum (List._∷_ 98 (List._∷_ 108 (List._∷_ 111 (List._∷_ 99 (List._∷_ 107 (List._∷_ 58 (List._∷_ 58 (List._∷_ 87 (List._∷_ 114
-      (List._∷_ 105 (List._∷_ 116 (List._∷_ 116 (List._∷_ 101 (List._∷_ 110 List.[])))))))))))))) (Syntax.ttcons (Syntax.tcons (Syntax.tyInt Syntax.w64) Syntax.tnil) (Syntax.ttcons (Syntax.tcons
-      (Syntax.tyEnum (List._∷_ 115 (List._∷_ 116 (List._∷_ 114 (List._∷_ 101 (List._∷_ 97 (List._∷_ 109 (List._∷_ 58 (List._∷_ 58 (List._∷_ 82 (List._∷_ 101 (List._∷_ 102 (List._∷_ 117 (List._∷_ 115
-      (List._∷_ 97 (List._∷_ 108 List.[]))))))))))))))) (Syntax.ttcons Syntax.tnil (Syntax.ttcons Syntax.tnil (Syntax.ttcons Syntax.tnil (Syntax.ttcons (Syntax.tcons (Syntax.tyInt Syntax.w64) Syntax.tnil)
-      (Syntax.ttcons Syntax.tnil (Syntax.ttcons Syntax.tnil (Syntax.ttcons Syntax.tnil (Syntax.ttcons Syntax.tnil (Syntax.ttcons Syntax.tnil (Syntax.ttcons Syntax.tnil (Syntax.ttcons (Syntax.tcons
-      (Syntax.tyInt Syntax.w64) Syntax.tnil) (Syntax.ttcons (Syntax.tcons (Syntax.tyInt Syntax.w64) Syntax.tnil) (Syntax.ttcons Syntax.tnil (Syntax.ttcons (Syntax.tcons (Syntax.tyInt Syntax.w64)
-      (Syntax.tcons (Syntax.tyInt Syntax.w64) Syntax.tnil)) (Syntax.ttcons (Syntax.tcons (Syntax.tyInt Syntax.w64) Syntax.tnil) Syntax.ttnil)))))))))))))))) Syntax.tnil) Syntax.ttnil))),
-) (List._∷_ (
-  18,
-  Rows.any-gone (Syntax.tyEnum (List._∷_ 115 (List._∷_ 116 (List._∷_ 114 (List._∷_ 101 (List._∷_ 97 (List._∷_ 109 (List._∷_ 58 (List._∷_ 58 (List._∷_ 82 (List._∷_ 101 (List._∷_ 102 (List._∷_ 117
-      (List._∷_ 115 (List._∷_ 97 (List._∷_ 108 List.[]))))))))))))))) (Syntax.ttcons Syntax.tnil (Syntax.ttcons Syntax.tnil (Syntax.ttcons Syntax.tnil (Syntax.ttcons (Syntax.tcons (Syntax.tyInt Syntax.w64)
-      Syntax.tnil) (Syntax.ttcons Syntax.tnil (Syntax.ttcons Syntax.tnil (Syntax.ttcons Syntax.tnil (Syntax.ttcons Syntax.tnil (Syntax.ttcons Syntax.tnil (Syntax.ttcons Syntax.tnil (Syntax.ttcons
-      (Syntax.tcons (Syntax.tyInt Syntax.w64) Syntax.tnil) (Syntax.ttcons (Syntax.tcons (Syntax.tyInt Syntax.w64) Syntax.tnil) (Syntax.ttcons Syntax.tnil (Syntax.ttcons (Syntax.tcons (Syntax.tyInt
-      Syntax.w64) (Syntax.tcons (Syntax.tyInt Syntax.w64) Syntax.tnil)) (Syntax.ttcons (Syntax.tcons (Syntax.tyInt Syntax.w64) Syntax.tnil) Syntax.ttnil)))))))))))))))),
-) (List._∷_ (
-  19,
-  Rows.any-gone
-      Syntax.tyBool,
-) (List._∷_ (20, Rows.sc-here (Row.sInt Syntax.w64)) (List._∷_ (
-  21,
-  Rows.any-gone (Syntax.tyEnum (List._∷_ 115 (List._∷_ 116 (List._∷_ 114 (List._∷_ 101 (List._∷_ 97 (List._∷_ 109
-      (List._∷_ 58 (List._∷_ 58 (List._∷_ 82 (List._∷_ 101 (List._∷_ 102 (List._∷_ 117 (List._∷_ 115 (List._∷_ 97 (List._∷_ 108 List.[]))))))))))))))) (Syntax.ttcons Syntax.tnil (Syntax.ttcons Syntax.tnil
-      (Syntax.ttcons Syntax.tnil (Syntax.ttcons (Syntax.tcons (Syntax.tyInt Syntax.w64) Syntax.tnil) (Syntax.ttcons Syntax.tnil (Syntax.ttcons Syntax.tnil (Syntax.ttcons Syntax.tnil (Syntax.ttcons
-      Syntax.tnil (Syntax.ttcons Syntax.tnil (Syntax.ttcons Syntax.tnil (Syntax.ttcons (Syntax.tcons (Syntax.tyInt Syntax.w64) Syntax.tnil) (Syntax.ttcons (Syntax.tcons (Syntax.tyInt Syntax.w64)
-      Syntax.tnil) (Syntax.ttcons Syntax.tnil (Syntax.ttcons (Syntax.tcons (Syntax.tyInt Syntax.w64) (Syntax.tcons (Syntax.tyInt Syntax.w64) Syntax.tnil)) (Syntax.ttcons (Syntax.tcons (Syntax.tyInt
-      Syntax.w64) Syntax.tnil) Syntax.ttnil)))))))))))))))),
-) (List._∷_ (
-  22,
-  Rows.any-gone (Syntax.tyEnum (List._∷_ 119 (List._∷_ 114 (List._∷_ 105 (List._∷_ 116 (List._∷_ 105 (List._∷_ 110 (List._∷_ 103
-      (List._∷_ 58 (List._∷_ 58 (List._∷_ 80 (List._∷_ 117 (List._∷_ 116 List.[])))))))))))) (Syntax.ttcons (Syntax.tcons (Syntax.tyStruct (List._∷_ 98 (List._∷_ 105 (List._∷_ 116 (List._∷_ 115 (List._∷_ 58
-      (List._∷_ 58 (List._∷_ 66 (List._∷_ 105 (List._∷_ 116 (List._∷_ 80 (List._∷_ 111 (List._∷_ 115 (List._∷_ 105 (List._∷_ 116 (List._∷_ 105 (List._∷_ 111 (List._∷_ 110 List.[])))))))))))))))))
-      (Syntax.tcons (Syntax.tyInt Syntax.w64) Syntax.tnil)) Syntax.tnil) (Syntax.ttcons (Syntax.tcons (Syntax.tyInt Syntax.w64) Syntax.tnil) Syntax.ttnil))),
-) (List._∷_ (
-  23,
-  Rows.any-gone (Syntax.tyRef
-      Syntax.erased Syntax.mut (Syntax.tyInt Syntax.w8)),
-) (List._∷_ (
-  24,
-  Rows.any-gone (Syntax.tyStruct (List._∷_ 38 (List._∷_ 91 (List._∷_ 93 List.[]))) (Syntax.tcons (Syntax.tyRef Syntax.erased
-      Syntax.mut (Syntax.tyInt Syntax.w8)) (Syntax.tcons (Syntax.tyInt Syntax.w64) Syntax.tnil))),
-) (List._∷_ (25, Rows.any-gone (Syntax.tyRef Syntax.erased Syntax.mut (Syntax.tyInt Syntax.w16)))
-    (List._∷_ (
-      26,
-      Rows.any-gone (Syntax.tyStruct (List._∷_ 38 (List._∷_ 91 (List._∷_ 93 List.[]))) (Syntax.tcons (Syntax.tyRef Syntax.erased Syntax.mut (Syntax.tyInt Syntax.w16)) (Syntax.tcons
-          (Syntax.tyInt Syntax.w64) Syntax.tnil))),
-    ) (List._∷_ (27, Rows.any-gone (Syntax.tyRef Syntax.erased Syntax.mut Element.behind)) (List._∷_ (
-      28,
-      Rows.any-gone (Syntax.tyStruct (List._∷_ 38
-          (List._∷_ 91 (List._∷_ 93 List.[]))) (Syntax.tcons (Syntax.tyRef Syntax.erased Syntax.mut Element.behind) (Syntax.tcons (Syntax.tyInt Syntax.w64) Syntax.tnil))),
-    ) List.[]))))))))))))
-
-abbrev pub t29 : List.List Row.Entry
-t29 = List._∷_ (
-  16,
-  Rows.any-gone (Syntax.tyStruct (List._∷_ 38 (List._∷_ 91 (List._∷_ 93 List.[]))) (Syntax.tcons (Syntax.tyRef Syntax.erased Syntax.mut Element.behind) (Syntax.tcons (Syntax.tyInt
-      Syntax.w64) Syntax.tnil))),
-) (List._∷_ (
-  17,
-  Rows.any-gone (Syntax.tyEnum (List._∷_ 98 (List._∷_ 108 (List._∷_ 111 (List._∷_ 99 (List._∷_ 107 (List._∷_ 58 (List._∷_ 58 (List._∷_ 87 (List._∷_ 114
-      (List._∷_ 105 (List._∷_ 116 (List._∷_ 116 (List._∷_ 101 (List._∷_ 110 List.[])))))))))))))) (Syntax.ttcons (Syntax.tcons (Syntax.tyInt Syntax.w64) Syntax.tnil) (Syntax.ttcons (Syntax.tcons
-      (Syntax.tyEnum (List._∷_ 115 (List._∷_ 116 (List._∷_ 114 (List._∷_ 101 (List._∷_ 97 (List._∷_ 109 (List._∷_ 58 (List._∷_ 58 (List._∷_ 82 (List._∷_ 101 (List._∷_ 102 (List._∷_ 117 (List._∷_ 115
-      (List._∷_ 97 (List._∷_ 108 List.[]))))))))))))))) (Syntax.ttcons Syntax.tnil (Syntax.ttcons Syntax.tnil (Syntax.ttcons Syntax.tnil (Syntax.ttcons (Syntax.tcons (Syntax.tyInt Syntax.w64) Syntax.tnil)
-      (Syntax.ttcons Syntax.tnil (Syntax.ttcons Syntax.tnil (Syntax.ttcons Syntax.tnil (Syntax.ttcons Syntax.tnil (Syntax.ttcons Syntax.tnil (Syntax.ttcons Syntax.tnil (Syntax.ttcons (Syntax.tcons
-      (Syntax.tyInt Syntax.w64) Syntax.tnil) (Syntax.ttcons (Syntax.tcons (Syntax.tyInt Syntax.w64) Syntax.tnil) (Syntax.ttcons Syntax.tnil (Syntax.ttcons (Syntax.tcons (Syntax.tyInt Syntax.w64)
-      (Syntax.tcons (Syntax.tyInt Syntax.w64) Syntax.tnil)) (Syntax.ttcons (Syntax.tcons (Syntax.tyInt Syntax.w64) Syntax.tnil) Syntax.ttnil)))))))))))))))) Syntax.tnil) Syntax.ttnil))),
-) (List._∷_ (
-  18,
-  Rows.any-gone (Syntax.tyEnum (List._∷_ 115 (List._∷_ 116 (List._∷_ 114 (List._∷_ 101 (List._∷_ 97 (List._∷_ 109 (List._∷_ 58 (List._∷_ 58 (List._∷_ 82 (List._∷_ 101 (List._∷_ 102 (List._∷_ 117
-      (List._∷_ 115 (List._∷_ 97 (List._∷_ 108 List.[]))))))))))))))) (Syntax.ttcons Syntax.tnil (Syntax.ttcons Syntax.tnil (Syntax.ttcons Syntax.tnil (Syntax.ttcons (Syntax.tcons (Syntax.tyInt Syntax.w64)
-      Syntax.tnil) (Syntax.ttcons Syntax.tnil (Syntax.ttcons Syntax.tnil (Syntax.ttcons Syntax.tnil (Syntax.ttcons Syntax.tnil (Syntax.ttcons Syntax.tnil (Syntax.ttcons Syntax.tnil (Syntax.ttcons
-      (Syntax.tcons (Syntax.tyInt Syntax.w64) Syntax.tnil) (Syntax.ttcons (Syntax.tcons (Syntax.tyInt Syntax.w64) Syntax.tnil) (Syntax.ttcons Syntax.tnil (Syntax.ttcons (Syntax.tcons (Syntax.tyInt
-      Syntax.w64) (Syntax.tcons (Syntax.tyInt Syntax.w64) Syntax.tnil)) (Syntax.ttcons (Syntax.tcons (Syntax.tyInt Syntax.w64) Syntax.tnil) Syntax.ttnil)))))))))))))))),
-) (List._∷_ (
-  19,
-  Rows.sc-here
-      Row.sBool,
-) (List._∷_ (20, Rows.sc-here (Row.sInt Syntax.w64)) (List._∷_ (
-  21,
-  Rows.any-gone (Syntax.tyEnum (List._∷_ 115 (List._∷_ 116 (List._∷_ 114 (List._∷_ 101 (List._∷_ 97 (List._∷_ 109 (List._∷_
-      58 (List._∷_ 58 (List._∷_ 82 (List._∷_ 101 (List._∷_ 102 (List._∷_ 117 (List._∷_ 115 (List._∷_ 97 (List._∷_ 108 List.[]))))))))))))))) (Syntax.ttcons Syntax.tnil (Syntax.ttcons Syntax.tnil
-      (Syntax.ttcons Syntax.tnil (Syntax.ttcons (Syntax.tcons (Syntax.tyInt Syntax.w64) Syntax.tnil) (Syntax.ttcons Syntax.tnil (Syntax.ttcons Syntax.tnil (Syntax.ttcons Syntax.tnil (Syntax.ttcons
-      Syntax.tnil (Syntax.ttcons Syntax.tnil (Syntax.ttcons Syntax.tnil (Syntax.ttcons (Syntax.tcons (Syntax.tyInt Syntax.w64) Syntax.tnil) (Syntax.ttcons (Syntax.tcons (Syntax.tyInt Syntax.w64)
-      Syntax.tnil) (Syntax.ttcons Syntax.tnil (Syntax.ttcons (Syntax.tcons (Syntax.tyInt Syntax.w64) (Syntax.tcons (Syntax.tyInt Syntax.w64) Syntax.tnil)) (Syntax.ttcons (Syntax.tcons (Syntax.tyInt
-      Syntax.w64) Syntax.tnil) Syntax.ttnil)))))))))))))))),
-) (List._∷_ (
-  22,
-  Rows.any-gone (Syntax.tyEnum (List._∷_ 119 (List._∷_ 114 (List._∷_ 105 (List._∷_ 116 (List._∷_ 105 (List._∷_ 110 (List._∷_ 103
-      (List._∷_ 58 (List._∷_ 58 (List._∷_ 80 (List._∷_ 117 (List._∷_ 116 List.[])))))))))))) (Syntax.ttcons (Syntax.tcons (Syntax.tyStruct (List._∷_ 98 (List._∷_ 105 (List._∷_ 116 (List._∷_ 115 (List._∷_ 58
-      (List._∷_ 58 (List._∷_ 66 (List._∷_ 105 (List._∷_ 116 (List._∷_ 80 (List._∷_ 111 (List._∷_ 115 (List._∷_ 105 (List._∷_ 116 (List._∷_ 105 (List._∷_ 111 (List._∷_ 110 List.[])))))))))))))))))
-      (Syntax.tcons (Syntax.tyInt Syntax.w64) Syntax.tnil)) Syntax.tnil) (Syntax.ttcons (Syntax.tcons (Syntax.tyInt Syntax.w64) Syntax.tnil) Syntax.ttnil))),
-) (List._∷_ (
-  23,
-  Rows.any-gone (Syntax.tyRef
-      Syntax.erased Syntax.mut (Syntax.tyInt Syntax.w8)),
-) (List._∷_ (
-  24,
-  Rows.any-gone (Syntax.tyStruct (List._∷_ 38 (List._∷_ 91 (List._∷_ 93 List.[]))) (Syntax.tcons (Syntax.tyRef Syntax.erased
-      Syntax.mut (Syntax.tyInt Syntax.w8)) (Syntax.tcons (Syntax.tyInt Syntax.w64) Syntax.tnil))),
-) (List._∷_ (25, Rows.any-gone (Syntax.tyRef Syntax.erased Syntax.mut (Syntax.tyInt Syntax.w16)))
-    (List._∷_ (
-      26,
-      Rows.any-gone (Syntax.tyStruct (List._∷_ 38 (List._∷_ 91 (List._∷_ 93 List.[]))) (Syntax.tcons (Syntax.tyRef Syntax.erased Syntax.mut (Syntax.tyInt Syntax.w16)) (Syntax.tcons
-          (Syntax.tyInt Syntax.w64) Syntax.tnil))),
-    ) (List._∷_ (27, Rows.any-gone (Syntax.tyRef Syntax.erased Syntax.mut Element.behind)) (List._∷_ (
-      28,
-      Rows.any-gone (Syntax.tyStruct (List._∷_ 38
-          (List._∷_ 91 (List._∷_ 93 List.[]))) (Syntax.tcons (Syntax.tyRef Syntax.erased Syntax.mut Element.behind) (Syntax.tcons (Syntax.tyInt Syntax.w64) Syntax.tnil))),
-    ) List.[]))))))))))))
-
-abbrev pub t30 : List.List Row.Entry
-t30 = List._∷_ (
-  16,
-  Rows.any-gone (Syntax.tyStruct (List._∷_ 38 (List._∷_ 91 (List._∷_ 93 List.[]))) (Syntax.tcons (Syntax.tyRef Syntax.erased Syntax.mut Element.behind) (Syntax.tcons (Syntax.tyInt
-      Syntax.w64) Syntax.tnil))),
-) (List._∷_ (
-  17,
-  Rows.any-gone (Syntax.tyEnum (List._∷_ 98 (List._∷_ 108 (List._∷_ 111 (List._∷_ 99 (List._∷_ 107 (List._∷_ 58 (List._∷_ 58 (List._∷_ 87 (List._∷_ 114
-      (List._∷_ 105 (List._∷_ 116 (List._∷_ 116 (List._∷_ 101 (List._∷_ 110 List.[])))))))))))))) (Syntax.ttcons (Syntax.tcons (Syntax.tyInt Syntax.w64) Syntax.tnil) (Syntax.ttcons (Syntax.tcons
-      (Syntax.tyEnum (List._∷_ 115 (List._∷_ 116 (List._∷_ 114 (List._∷_ 101 (List._∷_ 97 (List._∷_ 109 (List._∷_ 58 (List._∷_ 58 (List._∷_ 82 (List._∷_ 101 (List._∷_ 102 (List._∷_ 117 (List._∷_ 115
-      (List._∷_ 97 (List._∷_ 108 List.[]))))))))))))))) (Syntax.ttcons Syntax.tnil (Syntax.ttcons Syntax.tnil (Syntax.ttcons Syntax.tnil (Syntax.ttcons (Syntax.tcons (Syntax.tyInt Syntax.w64) Syntax.tnil)
-      (Syntax.ttcons Syntax.tnil (Syntax.ttcons Syntax.tnil (Syntax.ttcons Syntax.tnil (Syntax.ttcons Syntax.tnil (Syntax.ttcons Syntax.tnil (Syntax.ttcons Syntax.tnil (Syntax.ttcons (Syntax.tcons
-      (Syntax.tyInt Syntax.w64) Syntax.tnil) (Syntax.ttcons (Syntax.tcons (Syntax.tyInt Syntax.w64) Syntax.tnil) (Syntax.ttcons Syntax.tnil (Syntax.ttcons (Syntax.tcons (Syntax.tyInt Syntax.w64)
-      (Syntax.tcons (Syntax.tyInt Syntax.w64) Syntax.tnil)) (Syntax.ttcons (Syntax.tcons (Syntax.tyInt Syntax.w64) Syntax.tnil) Syntax.ttnil)))))))))))))))) Syntax.tnil) Syntax.ttnil))),
-) (List._∷_ (
-  18,
-  Rows.any-gone (Syntax.tyEnum (List._∷_ 115 (List._∷_ 116 (List._∷_ 114 (List._∷_ 101 (List._∷_ 97 (List._∷_ 109 (List._∷_ 58 (List._∷_ 58 (List._∷_ 82 (List._∷_ 101 (List._∷_ 102 (List._∷_ 117
-      (List._∷_ 115 (List._∷_ 97 (List._∷_ 108 List.[]))))))))))))))) (Syntax.ttcons Syntax.tnil (Syntax.ttcons Syntax.tnil (Syntax.ttcons Syntax.tnil (Syntax.ttcons (Syntax.tcons (Syntax.tyInt Syntax.w64)
-      Syntax.tnil) (Syntax.ttcons Syntax.tnil (Syntax.ttcons Syntax.tnil (Syntax.ttcons Syntax.tnil (Syntax.ttcons Syntax.tnil (Syntax.ttcons Syntax.tnil (Syntax.ttcons Syntax.tnil (Syntax.ttcons
-      (Syntax.tcons (Syntax.tyInt Syntax.w64) Syntax.tnil) (Syntax.ttcons (Syntax.tcons (Syntax.tyInt Syntax.w64) Syntax.tnil) (Syntax.ttcons Syntax.tnil (Syntax.ttcons (Syntax.tcons (Syntax.tyInt
-      Syntax.w64) (Syntax.tcons (Syntax.tyInt Syntax.w64) Syntax.tnil)) (Syntax.ttcons (Syntax.tcons (Syntax.tyInt Syntax.w64) Syntax.tnil) Syntax.ttnil)))))))))))))))),
-) (List._∷_ (
-  19,
-  Rows.sc-here
-      Row.sBool,
-) (List._∷_ (20, Rows.any-gone (Syntax.tyInt Syntax.w64)) (List._∷_ (
-  21,
-  Rows.any-gone (Syntax.tyEnum (List._∷_ 115 (List._∷_ 116 (List._∷_ 114 (List._∷_ 101 (List._∷_ 97 (List._∷_ 109
-      (List._∷_ 58 (List._∷_ 58 (List._∷_ 82 (List._∷_ 101 (List._∷_ 102 (List._∷_ 117 (List._∷_ 115 (List._∷_ 97 (List._∷_ 108 List.[]))))))))))))))) (Syntax.ttcons Syntax.tnil (Syntax.ttcons Syntax.tnil
-      (Syntax.ttcons Syntax.tnil (Syntax.ttcons (Syntax.tcons (Syntax.tyInt Syntax.w64) Syntax.tnil) (Syntax.ttcons Syntax.tnil (Syntax.ttcons Syntax.tnil (Syntax.ttcons Syntax.tnil (Syntax.ttcons
-      Syntax.tnil (Syntax.ttcons Syntax.tnil (Syntax.ttcons Syntax.tnil (Syntax.ttcons (Syntax.tcons (Syntax.tyInt Syntax.w64) Syntax.tnil) (Syntax.ttcons (Syntax.tcons (Syntax.tyInt Syntax.w64)
-      Syntax.tnil) (Syntax.ttcons Syntax.tnil (Syntax.ttcons (Syntax.tcons (Syntax.tyInt Syntax.w64) (Syntax.tcons (Syntax.tyInt Syntax.w64) Syntax.tnil)) (Syntax.ttcons (Syntax.tcons (Syntax.tyInt
-      Syntax.w64) Syntax.tnil) Syntax.ttnil)))))))))))))))),
-) (List._∷_ (
-  22,
-  Rows.any-gone (Syntax.tyEnum (List._∷_ 119 (List._∷_ 114 (List._∷_ 105 (List._∷_ 116 (List._∷_ 105 (List._∷_ 110 (List._∷_ 103
-      (List._∷_ 58 (List._∷_ 58 (List._∷_ 80 (List._∷_ 117 (List._∷_ 116 List.[])))))))))))) (Syntax.ttcons (Syntax.tcons (Syntax.tyStruct (List._∷_ 98 (List._∷_ 105 (List._∷_ 116 (List._∷_ 115 (List._∷_ 58
-      (List._∷_ 58 (List._∷_ 66 (List._∷_ 105 (List._∷_ 116 (List._∷_ 80 (List._∷_ 111 (List._∷_ 115 (List._∷_ 105 (List._∷_ 116 (List._∷_ 105 (List._∷_ 111 (List._∷_ 110 List.[])))))))))))))))))
-      (Syntax.tcons (Syntax.tyInt Syntax.w64) Syntax.tnil)) Syntax.tnil) (Syntax.ttcons (Syntax.tcons (Syntax.tyInt Syntax.w64) Syntax.tnil) Syntax.ttnil))),
-) (List._∷_ (
-  23,
-  Rows.any-gone (Syntax.tyRef
-      Syntax.erased Syntax.mut (Syntax.tyInt Syntax.w8)),
-) (List._∷_ (
-  24,
-  Rows.any-gone (Syntax.tyStruct (List._∷_ 38 (List._∷_ 91 (List._∷_ 93 List.[]))) (Syntax.tcons (Syntax.tyRef Syntax.erased
-      Syntax.mut (Syntax.tyInt Syntax.w8)) (Syntax.tcons (Syntax.tyInt Syntax.w64) Syntax.tnil))),
-) (List._∷_ (25, Rows.any-gone (Syntax.tyRef Syntax.erased Syntax.mut (Syntax.tyInt Syntax.w16)))
-    (List._∷_ (
-      26,
-      Rows.any-gone (Syntax.tyStruct (List._∷_ 38 (List._∷_ 91 (List._∷_ 93 List.[]))) (Syntax.tcons (Syntax.tyRef Syntax.erased Syntax.mut (Syntax.tyInt Syntax.w16)) (Syntax.tcons
-          (Syntax.tyInt Syntax.w64) Syntax.tnil))),
-    ) (List._∷_ (27, Rows.any-gone (Syntax.tyRef Syntax.erased Syntax.mut Element.behind)) (List._∷_ (
-      28,
-      Rows.any-gone (Syntax.tyStruct (List._∷_ 38
-          (List._∷_ 91 (List._∷_ 93 List.[]))) (Syntax.tcons (Syntax.tyRef Syntax.erased Syntax.mut Element.behind) (Syntax.tcons (Syntax.tyInt Syntax.w64) Syntax.tnil))),
-    ) List.[]))))))))))))
-
-abbrev pub t31 : List.List Row.Entry
-t31 = List._∷_ (
-  0,
-  Rows.any-gone (Syntax.tyEnum (List._∷_ 98 (List._∷_ 108 (List._∷_ 111 (List._∷_ 99 (List._∷_ 107 (List._∷_ 58 (List._∷_ 58 (List._∷_ 87 (List._∷_ 114 (List._∷_ 105 (List._∷_ 116
-      (List._∷_ 116 (List._∷_ 101 (List._∷_ 110 List.[])))))))))))))) (Syntax.ttcons (Syntax.tcons (Syntax.tyInt Syntax.w64) Syntax.tnil) (Syntax.ttcons (Syntax.tcons (Syntax.tyEnum (List._∷_ 115 (List._∷_
-      116 (List._∷_ 114 (List._∷_ 101 (List._∷_ 97 (List._∷_ 109 (List._∷_ 58 (List._∷_ 58 (List._∷_ 82 (List._∷_ 101 (List._∷_ 102 (List._∷_ 117 (List._∷_ 115 (List._∷_ 97 (List._∷_ 108
-      List.[]))))))))))))))) (Syntax.ttcons Syntax.tnil (Syntax.ttcons Syntax.tnil (Syntax.ttcons Syntax.tnil (Syntax.ttcons (Syntax.tcons (Syntax.tyInt Syntax.w64) Syntax.tnil) (Syntax.ttcons Syntax.tnil
-      (Syntax.ttcons Syntax.tnil (Syntax.ttcons Syntax.tnil (Syntax.ttcons Syntax.tnil (Syntax.ttcons Syntax.tnil (Syntax.ttcons Syntax.tnil (Syntax.ttcons (Syntax.tcons (Syntax.tyInt Syntax.w64)
-      Syntax.tnil) (Syntax.ttcons (Syntax.tcons (Syntax.tyInt Syntax.w64) Syntax.tnil) (Syntax.ttcons Syntax.tnil (Syntax.ttcons (Syntax.tcons (Syntax.tyInt Syntax.w64) (Syntax.tcons (Syntax.tyInt
-      Syntax.w64) Syntax.tnil)) (Syntax.ttcons (Syntax.tcons (Syntax.tyInt Syntax.w64) Syntax.tnil) Syntax.ttnil)))))))))))))))) Syntax.tnil) Syntax.ttnil))),
-) (List._∷_ (
-  1,
-  Rows.sslice (Referent.rtF
-      (Referent.fInt Syntax.w16)) (Syntax.tyRef (Syntax.named 0) Syntax.imm (Syntax.tyInt Syntax.w16)) 0,
-) (List._∷_ (
-  2,
-  Mut.mslice (Referent.rtF (Referent.fInt Syntax.w8)) (Syntax.tyRef (Syntax.named 1)
-      Syntax.mut (Syntax.tyInt Syntax.w8)) 1,
-) (List._∷_ (3, Mut.mslice (Referent.rtF (Referent.fInt Syntax.w16)) (Syntax.tyRef (Syntax.named 2) Syntax.mut (Syntax.tyInt Syntax.w16)) 2) (List._∷_ (
-  4,
-  Mut.mslice (Element.type) (Syntax.tyRef (Syntax.named 3) Syntax.mut Element.behind) 3,
-) (List._∷_ (
-  5,
-  Rows.any-gone (Syntax.tyStruct (List._∷_ 98 (List._∷_ 108 (List._∷_ 111 (List._∷_ 99 (List._∷_
-      107 (List._∷_ 58 (List._∷_ 58 (List._∷_ 70 (List._∷_ 111 (List._∷_ 114 (List._∷_ 109 List.[]))))))))))) (Syntax.tcons (Syntax.tyInt Syntax.w32) (Syntax.tcons Syntax.tyBool Syntax.tnil))),
-) (List._∷_
-    (6, Rows.sc-here (Row.sInt Syntax.w64)) (List._∷_ (
-      7,
-      Rows.any-gone (Syntax.tyEnum (List._∷_ 119 (List._∷_ 114 (List._∷_ 105 (List._∷_ 116 (List._∷_ 105 (List._∷_ 110 (List._∷_ 103 (List._∷_ 58
-          (List._∷_ 58 (List._∷_ 80 (List._∷_ 117 (List._∷_ 116 List.[])))))))))))) (Syntax.ttcons (Syntax.tcons (Syntax.tyStruct (List._∷_ 98 (List._∷_ 105 (List._∷_ 116 (List._∷_ 115 (List._∷_ 58 (List._∷_ 58
-          (List._∷_ 66 (List._∷_ 105 (List._∷_ 116 (List._∷_ 80 (List._∷_ 111 (List._∷_ 115 (List._∷_ 105 (List._∷_ 116 (List._∷_ 105 (List._∷_ 111 (List._∷_ 110 List.[]))))))))))))))))) (Syntax.tcons
-          (Syntax.tyInt Syntax.w64) Syntax.tnil)) Syntax.tnil) (Syntax.ttcons (Syntax.tcons (Syntax.tyInt Syntax.w64) Syntax.tnil) Syntax.ttnil))),
-    ) (List._∷_ (8, Rows.any-gone (Syntax.tyInt Syntax.w64))
-    (List._∷_ (
-      9,
-      Rows.any-gone (Syntax.tyStruct (List._∷_ 98 (List._∷_ 105 (List._∷_ 116 (List._∷_ 115 (List._∷_ 58 (List._∷_ 58 (List._∷_ 66 (List._∷_ 105 (List._∷_ 116 (List._∷_ 80 (List._∷_ 111
-          (List._∷_ 115 (List._∷_ 105 (List._∷_ 116 (List._∷_ 105 (List._∷_ 111 (List._∷_ 110 List.[]))))))))))))))))) (Syntax.tcons (Syntax.tyInt Syntax.w64) Syntax.tnil)),
-    ) (List._∷_ (
-      10,
-      Rows.sc-here
-          (Row.sInt Syntax.w64),
-    ) (List._∷_ (11, Rows.any-gone (Syntax.tyRef Syntax.erased Syntax.mut (Syntax.tyInt Syntax.w8))) (List._∷_ (
-      12,
-      Rows.any-gone (Syntax.tyStruct (List._∷_ 38 (List._∷_ 91
-          (List._∷_ 93 List.[]))) (Syntax.tcons (Syntax.tyRef Syntax.erased Syntax.mut (Syntax.tyInt Syntax.w8)) (Syntax.tcons (Syntax.tyInt Syntax.w64) Syntax.tnil))),
-    ) (List._∷_ (
-      13,
-      Rows.any-gone
-          (Syntax.tyRef Syntax.erased Syntax.mut (Syntax.tyInt Syntax.w16)),
-    ) (List._∷_ (
-      14,
-      Rows.any-gone (Syntax.tyStruct (List._∷_ 38 (List._∷_ 91 (List._∷_ 93 List.[]))) (Syntax.tcons (Syntax.tyRef
-          Syntax.erased Syntax.mut (Syntax.tyInt Syntax.w16)) (Syntax.tcons (Syntax.tyInt Syntax.w64) Syntax.tnil))),
-    ) (List._∷_ (15, Rows.any-gone (Syntax.tyRef Syntax.erased Syntax.mut Element.behind))
-    List.[])))))))))))))))
-
-abbrev pub t32 : List.List Row.Entry
-t32 = List._∷_ (
-  16,
-  Rows.any-gone (Syntax.tyStruct (List._∷_ 38 (List._∷_ 91 (List._∷_ 93 List.[]))) (Syntax.tcons (Syntax.tyRef Syntax.erased Syntax.mut Element.behind) (Syntax.tcons (Syntax.tyInt
-      Syntax.w64) Syntax.tnil))),
-) (List._∷_ (
-  17,
-  Rows.any-gone (Syntax.tyEnum (List._∷_ 98 (List._∷_ 108 (List._∷_ 111 (List._∷_ 99 (List._∷_ 107 (List._∷_ 58 (List._∷_ 58 (List._∷_ 87 (List._∷_ 114
-      (List._∷_ 105 (List._∷_ 116 (List._∷_ 116 (List._∷_ 101 (List._∷_ 110 List.[])))))))))))))) (Syntax.ttcons (Syntax.tcons (Syntax.tyInt Syntax.w64) Syntax.tnil) (Syntax.ttcons (Syntax.tcons
-      (Syntax.tyEnum (List._∷_ 115 (List._∷_ 116 (List._∷_ 114 (List._∷_ 101 (List._∷_ 97 (List._∷_ 109 (List._∷_ 58 (List._∷_ 58 (List._∷_ 82 (List._∷_ 101 (List._∷_ 102 (List._∷_ 117 (List._∷_ 115
-      (List._∷_ 97 (List._∷_ 108 List.[]))))))))))))))) (Syntax.ttcons Syntax.tnil (Syntax.ttcons Syntax.tnil (Syntax.ttcons Syntax.tnil (Syntax.ttcons (Syntax.tcons (Syntax.tyInt Syntax.w64) Syntax.tnil)
-      (Syntax.ttcons Syntax.tnil (Syntax.ttcons Syntax.tnil (Syntax.ttcons Syntax.tnil (Syntax.ttcons Syntax.tnil (Syntax.ttcons Syntax.tnil (Syntax.ttcons Syntax.tnil (Syntax.ttcons (Syntax.tcons
-      (Syntax.tyInt Syntax.w64) Syntax.tnil) (Syntax.ttcons (Syntax.tcons (Syntax.tyInt Syntax.w64) Syntax.tnil) (Syntax.ttcons Syntax.tnil (Syntax.ttcons (Syntax.tcons (Syntax.tyInt Syntax.w64)
-      (Syntax.tcons (Syntax.tyInt Syntax.w64) Syntax.tnil)) (Syntax.ttcons (Syntax.tcons (Syntax.tyInt Syntax.w64) Syntax.tnil) Syntax.ttnil)))))))))))))))) Syntax.tnil) Syntax.ttnil))),
-) (List._∷_ (
-  18,
-  Rows.any-gone (Syntax.tyEnum (List._∷_ 115 (List._∷_ 116 (List._∷_ 114 (List._∷_ 101 (List._∷_ 97 (List._∷_ 109 (List._∷_ 58 (List._∷_ 58 (List._∷_ 82 (List._∷_ 101 (List._∷_ 102 (List._∷_ 117
-      (List._∷_ 115 (List._∷_ 97 (List._∷_ 108 List.[]))))))))))))))) (Syntax.ttcons Syntax.tnil (Syntax.ttcons Syntax.tnil (Syntax.ttcons Syntax.tnil (Syntax.ttcons (Syntax.tcons (Syntax.tyInt Syntax.w64)
-      Syntax.tnil) (Syntax.ttcons Syntax.tnil (Syntax.ttcons Syntax.tnil (Syntax.ttcons Syntax.tnil (Syntax.ttcons Syntax.tnil (Syntax.ttcons Syntax.tnil (Syntax.ttcons Syntax.tnil (Syntax.ttcons
-      (Syntax.tcons (Syntax.tyInt Syntax.w64) Syntax.tnil) (Syntax.ttcons (Syntax.tcons (Syntax.tyInt Syntax.w64) Syntax.tnil) (Syntax.ttcons Syntax.tnil (Syntax.ttcons (Syntax.tcons (Syntax.tyInt
-      Syntax.w64) (Syntax.tcons (Syntax.tyInt Syntax.w64) Syntax.tnil)) (Syntax.ttcons (Syntax.tcons (Syntax.tyInt Syntax.w64) Syntax.tnil) Syntax.ttnil)))))))))))))))),
-) (List._∷_ (
-  19,
-  Rows.any-gone
-      Syntax.tyBool,
-) (List._∷_ (20, Rows.any-gone (Syntax.tyInt Syntax.w64)) (List._∷_ (21, Rows.whole (Declared.row Refusal.the-type)) (List._∷_ (
-  22,
-  Rows.any-gone (Syntax.tyEnum (List._∷_ 119
-      (List._∷_ 114 (List._∷_ 105 (List._∷_ 116 (List._∷_ 105 (List._∷_ 110 (List._∷_ 103 (List._∷_ 58 (List._∷_ 58 (List._∷_ 80 (List._∷_ 117 (List._∷_ 116 List.[])))))))))))) (Syntax.ttcons (Syntax.tcons
-      (Syntax.tyStruct (List._∷_ 98 (List._∷_ 105 (List._∷_ 116 (List._∷_ 115 (List._∷_ 58 (List._∷_ 58 (List._∷_ 66 (List._∷_ 105 (List._∷_ 116 (List._∷_ 80 (List._∷_ 111 (List._∷_ 115 (List._∷_ 105
-      (List._∷_ 116 (List._∷_ 105 (List._∷_ 111 (List._∷_ 110 List.[]))))))))))))))))) (Syntax.tcons (Syntax.tyInt Syntax.w64) Syntax.tnil)) Syntax.tnil) (Syntax.ttcons (Syntax.tcons (Syntax.tyInt
-      Syntax.w64) Syntax.tnil) Syntax.ttnil))),
-) (List._∷_ (23, Rows.any-gone (Syntax.tyRef Syntax.erased Syntax.mut (Syntax.tyInt Syntax.w8))) (List._∷_ (
-  24,
-  Rows.any-gone (Syntax.tyStruct (List._∷_ 38
-      (List._∷_ 91 (List._∷_ 93 List.[]))) (Syntax.tcons (Syntax.tyRef Syntax.erased Syntax.mut (Syntax.tyInt Syntax.w8)) (Syntax.tcons (Syntax.tyInt Syntax.w64) Syntax.tnil))),
-) (List._∷_ (
-  25,
-  Rows.any-gone (Syntax.tyRef Syntax.erased Syntax.mut (Syntax.tyInt Syntax.w16)),
-) (List._∷_ (
-  26,
-  Rows.any-gone (Syntax.tyStruct (List._∷_ 38 (List._∷_ 91 (List._∷_ 93 List.[]))) (Syntax.tcons
-      (Syntax.tyRef Syntax.erased Syntax.mut (Syntax.tyInt Syntax.w16)) (Syntax.tcons (Syntax.tyInt Syntax.w64) Syntax.tnil))),
-) (List._∷_ (
-  27,
-  Rows.any-gone (Syntax.tyRef Syntax.erased Syntax.mut
-      Element.behind),
-) (List._∷_ (
-  28,
-  Rows.any-gone (Syntax.tyStruct (List._∷_ 38 (List._∷_ 91 (List._∷_ 93 List.[]))) (Syntax.tcons (Syntax.tyRef Syntax.erased Syntax.mut Element.behind) (Syntax.tcons
-      (Syntax.tyInt Syntax.w64) Syntax.tnil))),
-) List.[]))))))))))))
-
-abbrev pub t33 : List.List Row.Entry
-t33 = List._∷_ (0, Rows.whole (Declared.row Written.the-type)) (List._∷_ (
-  1,
-  Rows.sslice (Referent.rtF (Referent.fInt Syntax.w16)) (Syntax.tyRef (Syntax.named 0) Syntax.imm (Syntax.tyInt Syntax.w16))
-      0,
-) (List._∷_ (2, Mut.mslice (Referent.rtF (Referent.fInt Syntax.w8)) (Syntax.tyRef (Syntax.named 1) Syntax.mut (Syntax.tyInt Syntax.w8)) 1) (List._∷_ (
-  3,
-  Mut.mslice (Referent.rtF (Referent.fInt
-      Syntax.w16)) (Syntax.tyRef (Syntax.named 2) Syntax.mut (Syntax.tyInt Syntax.w16)) 2,
-) (List._∷_ (4, Mut.mslice (Element.type) (Syntax.tyRef (Syntax.named 3) Syntax.mut Element.behind) 3) (List._∷_ (
-  5,
-  Rows.any-gone (Syntax.tyStruct (List._∷_ 98 (List._∷_ 108 (List._∷_ 111 (List._∷_ 99 (List._∷_ 107 (List._∷_ 58 (List._∷_ 58 (List._∷_ 70 (List._∷_ 111 (List._∷_ 114 (List._∷_ 109
-      List.[]))))))))))) (Syntax.tcons (Syntax.tyInt Syntax.w32) (Syntax.tcons Syntax.tyBool Syntax.tnil))),
-) (List._∷_ (6, Rows.sc-here (Row.sInt Syntax.w64)) (List._∷_ (
-  7,
-  Rows.any-gone (Syntax.tyEnum
-      (List._∷_ 119 (List._∷_ 114 (List._∷_ 105 (List._∷_ 116 (List._∷_ 105 (List._∷_ 110 (List._∷_ 103 (List._∷_ 58 (List._∷_ 58 (List._∷_ 80 (List._∷_ 117 (List._∷_ 116 List.[])))))))))))) (Syntax.ttcons
-      (Syntax.tcons (Syntax.tyStruct (List._∷_ 98 (List._∷_ 105 (List._∷_ 116 (List._∷_ 115 (List._∷_ 58 (List._∷_ 58 (List._∷_ 66 (List._∷_ 105 (List._∷_ 116 (List._∷_ 80 (List._∷_ 111 (List._∷_ 115
-      (List._∷_ 105 (List._∷_ 116 (List._∷_ 105 (List._∷_ 111 (List._∷_ 110 List.[]))))))))))))))))) (Syntax.tcons (Syntax.tyInt Syntax.w64) Syntax.tnil)) Syntax.tnil) (Syntax.ttcons (Syntax.tcons
-      (Syntax.tyInt Syntax.w64) Syntax.tnil) Syntax.ttnil))),
-) (List._∷_ (8, Rows.any-gone (Syntax.tyInt Syntax.w64)) (List._∷_ (
-  9,
-  Rows.any-gone (Syntax.tyStruct (List._∷_ 98 (List._∷_ 105 (List._∷_ 116
-      (List._∷_ 115 (List._∷_ 58 (List._∷_ 58 (List._∷_ 66 (List._∷_ 105 (List._∷_ 116 (List._∷_ 80 (List._∷_ 111 (List._∷_ 115 (List._∷_ 105 (List._∷_ 116 (List._∷_ 105 (List._∷_ 111 (List._∷_ 110
-      List.[]))))))))))))))))) (Syntax.tcons (Syntax.tyInt Syntax.w64) Syntax.tnil)),
-) (List._∷_ (10, Rows.sc-here (Row.sInt Syntax.w64)) (List._∷_ (
-  11,
-  Rows.any-gone (Syntax.tyRef Syntax.erased
-      Syntax.mut (Syntax.tyInt Syntax.w8)),
-) (List._∷_ (
-  12,
-  Rows.any-gone (Syntax.tyStruct (List._∷_ 38 (List._∷_ 91 (List._∷_ 93 List.[]))) (Syntax.tcons (Syntax.tyRef Syntax.erased Syntax.mut
-      (Syntax.tyInt Syntax.w8)) (Syntax.tcons (Syntax.tyInt Syntax.w64) Syntax.tnil))),
-) (List._∷_ (13, Rows.any-gone (Syntax.tyRef Syntax.erased Syntax.mut (Syntax.tyInt Syntax.w16))) (List._∷_ (
-  14,
-  Rows.any-gone (Syntax.tyStruct (List._∷_ 38 (List._∷_ 91 (List._∷_ 93 List.[]))) (Syntax.tcons (Syntax.tyRef Syntax.erased Syntax.mut (Syntax.tyInt Syntax.w16)) (Syntax.tcons (Syntax.tyInt Syntax.w64)
-      Syntax.tnil))),
-) (List._∷_ (15, Rows.any-gone (Syntax.tyRef Syntax.erased Syntax.mut Element.behind)) List.[])))))))))))))))
-
-abbrev pub t34 : List.List Row.Entry
-t34 = List._∷_ (0, Rows.whole (Declared.row Written.the-type)) (List._∷_ (
-  1,
-  Rows.sslice (Referent.rtF (Referent.fInt Syntax.w16)) (Syntax.tyRef (Syntax.named 0) Syntax.imm (Syntax.tyInt Syntax.w16))
-      0,
-) (List._∷_ (2, Mut.mslice (Referent.rtF (Referent.fInt Syntax.w8)) (Syntax.tyRef (Syntax.named 1) Syntax.mut (Syntax.tyInt Syntax.w8)) 1) (List._∷_ (
-  3,
-  Mut.mslice (Referent.rtF (Referent.fInt
-      Syntax.w16)) (Syntax.tyRef (Syntax.named 2) Syntax.mut (Syntax.tyInt Syntax.w16)) 2,
-) (List._∷_ (4, Mut.mslice (Element.type) (Syntax.tyRef (Syntax.named 3) Syntax.mut Element.behind) 3) (List._∷_ (
-  5,
-  Rows.any-gone (Syntax.tyStruct (List._∷_ 98 (List._∷_ 108 (List._∷_ 111 (List._∷_ 99 (List._∷_ 107 (List._∷_ 58 (List._∷_ 58 (List._∷_ 70 (List._∷_ 111 (List._∷_ 114 (List._∷_ 109
-      List.[]))))))))))) (Syntax.tcons (Syntax.tyInt Syntax.w32) (Syntax.tcons Syntax.tyBool Syntax.tnil))),
-) (List._∷_ (6, Rows.any-gone (Syntax.tyInt Syntax.w64)) (List._∷_ (
-  7,
-  Rows.any-gone
-      (Syntax.tyEnum (List._∷_ 119 (List._∷_ 114 (List._∷_ 105 (List._∷_ 116 (List._∷_ 105 (List._∷_ 110 (List._∷_ 103 (List._∷_ 58 (List._∷_ 58 (List._∷_ 80 (List._∷_ 117 (List._∷_ 116 List.[]))))))))))))
-      (Syntax.ttcons (Syntax.tcons (Syntax.tyStruct (List._∷_ 98 (List._∷_ 105 (List._∷_ 116 (List._∷_ 115 (List._∷_ 58 (List._∷_ 58 (List._∷_ 66 (List._∷_ 105 (List._∷_ 116 (List._∷_ 80 (List._∷_ 111
-      (List._∷_ 115 (List._∷_ 105 (List._∷_ 116 (List._∷_ 105 (List._∷_ 111 (List._∷_ 110 List.[]))))))))))))))))) (Syntax.tcons (Syntax.tyInt Syntax.w64) Syntax.tnil)) Syntax.tnil) (Syntax.ttcons
-      (Syntax.tcons (Syntax.tyInt Syntax.w64) Syntax.tnil) Syntax.ttnil))),
-) (List._∷_ (8, Rows.any-gone (Syntax.tyInt Syntax.w64)) (List._∷_ (
-  9,
-  Rows.any-gone (Syntax.tyStruct (List._∷_ 98 (List._∷_ 105
-      (List._∷_ 116 (List._∷_ 115 (List._∷_ 58 (List._∷_ 58 (List._∷_ 66 (List._∷_ 105 (List._∷_ 116 (List._∷_ 80 (List._∷_ 111 (List._∷_ 115 (List._∷_ 105 (List._∷_ 116 (List._∷_ 105 (List._∷_ 111
-      (List._∷_ 110 List.[]))))))))))))))))) (Syntax.tcons (Syntax.tyInt Syntax.w64) Syntax.tnil)),
-) (List._∷_ (10, Rows.sc-here (Row.sInt Syntax.w64)) (List._∷_ (
-  11,
-  Rows.any-gone (Syntax.tyRef
-      Syntax.erased Syntax.mut (Syntax.tyInt Syntax.w8)),
-) (List._∷_ (
-  12,
-  Rows.any-gone (Syntax.tyStruct (List._∷_ 38 (List._∷_ 91 (List._∷_ 93 List.[]))) (Syntax.tcons (Syntax.tyRef Syntax.erased
-      Syntax.mut (Syntax.tyInt Syntax.w8)) (Syntax.tcons (Syntax.tyInt Syntax.w64) Syntax.tnil))),
-) (List._∷_ (13, Rows.any-gone (Syntax.tyRef Syntax.erased Syntax.mut (Syntax.tyInt Syntax.w16)))
-    (List._∷_ (
-      14,
-      Rows.any-gone (Syntax.tyStruct (List._∷_ 38 (List._∷_ 91 (List._∷_ 93 List.[]))) (Syntax.tcons (Syntax.tyRef Syntax.erased Syntax.mut (Syntax.tyInt Syntax.w16)) (Syntax.tcons
-          (Syntax.tyInt Syntax.w64) Syntax.tnil))),
-    ) (List._∷_ (15, Rows.any-gone (Syntax.tyRef Syntax.erased Syntax.mut Element.behind)) List.[])))))))))))))))
-
-abbrev pub t35 : List.List Row.Entry
-t35 = List._∷_ (
-  0,
-  Rows.any-gone (Syntax.tyEnum (List._∷_ 98 (List._∷_ 108 (List._∷_ 111 (List._∷_ 99 (List._∷_ 107 (List._∷_ 58 (List._∷_ 58 (List._∷_ 87 (List._∷_ 114 (List._∷_ 105 (List._∷_ 116
-      (List._∷_ 116 (List._∷_ 101 (List._∷_ 110 List.[])))))))))))))) (Syntax.ttcons (Syntax.tcons (Syntax.tyInt Syntax.w64) Syntax.tnil) (Syntax.ttcons (Syntax.tcons (Syntax.tyEnum (List._∷_ 115 (List._∷_
-      116 (List._∷_ 114 (List._∷_ 101 (List._∷_ 97 (List._∷_ 109 (List._∷_ 58 (List._∷_ 58 (List._∷_ 82 (List._∷_ 101 (List._∷_ 102 (List._∷_ 117 (List._∷_ 115 (List._∷_ 97 (List._∷_ 108
-      List.[]))))))))))))))) (Syntax.ttcons Syntax.tnil (Syntax.ttcons Syntax.tnil (Syntax.ttcons Syntax.tnil (Syntax.ttcons (Syntax.tcons (Syntax.tyInt Syntax.w64) Syntax.tnil) (Syntax.ttcons Syntax.tnil
-      (Syntax.ttcons Syntax.tnil (Syntax.ttcons Syntax.tnil (Syntax.ttcons Syntax.tnil (Syntax.ttcons Syntax.tnil (Syntax.ttcons Syntax.tnil (Syntax.ttcons (Syntax.tcons (Syntax.tyInt Syntax.w64)
-      Syntax.tnil) (Syntax.ttcons (Syntax.tcons (Syntax.tyInt Syntax.w64) Syntax.tnil) (Syntax.ttcons Syntax.tnil (Syntax.ttcons (Syntax.tcons (Syntax.tyInt Syntax.w64) (Syntax.tcons (Syntax.tyInt
-      Syntax.w64) Syntax.tnil)) (Syntax.ttcons (Syntax.tcons (Syntax.tyInt Syntax.w64) Syntax.tnil) Syntax.ttnil)))))))))))))))) Syntax.tnil) Syntax.ttnil))),
-) (List._∷_ (
-  1,
-  Rows.sslice (Referent.rtF
-      (Referent.fInt Syntax.w16)) (Syntax.tyRef (Syntax.named 0) Syntax.imm (Syntax.tyInt Syntax.w16)) 0,
-) (List._∷_ (
-  2,
-  Relend.mslice-owed (Referent.rtF (Referent.fInt Syntax.w8)) (Syntax.tyRef
-      (Syntax.named 1) Syntax.mut (Syntax.tyInt Syntax.w8)) 1 7 Row.off,
-) (List._∷_ (
-  3,
-  Mut.mslice (Referent.rtF (Referent.fInt Syntax.w16)) (Syntax.tyRef (Syntax.named 2) Syntax.mut (Syntax.tyInt
-      Syntax.w16)) 2,
-) (List._∷_ (4, Mut.mslice (Element.type) (Syntax.tyRef (Syntax.named 3) Syntax.mut Element.behind) 3) (List._∷_ (5, Rows.whole (Declared'.row Form.the-type)) (List._∷_ (
-  6,
-  Rows.sc-here (Row.sInt Syntax.w64),
-) (List._∷_ (
-  7,
-  Rows.any-gone (Syntax.tyEnum (List._∷_ 119 (List._∷_ 114 (List._∷_ 105 (List._∷_ 116 (List._∷_ 105 (List._∷_ 110 (List._∷_ 103 (List._∷_ 58
-      (List._∷_ 58 (List._∷_ 80 (List._∷_ 117 (List._∷_ 116 List.[])))))))))))) (Syntax.ttcons (Syntax.tcons (Syntax.tyStruct (List._∷_ 98 (List._∷_ 105 (List._∷_ 116 (List._∷_ 115 (List._∷_ 58 (List._∷_ 58
-      (List._∷_ 66 (List._∷_ 105 (List._∷_ 116 (List._∷_ 80 (List._∷_ 111 (List._∷_ 115 (List._∷_ 105 (List._∷_ 116 (List._∷_ 105 (List._∷_ 111 (List._∷_ 110 List.[]))))))))))))))))) (Syntax.tcons
-      (Syntax.tyInt Syntax.w64) Syntax.tnil)) Syntax.tnil) (Syntax.ttcons (Syntax.tcons (Syntax.tyInt Syntax.w64) Syntax.tnil) Syntax.ttnil))),
-) (List._∷_ (8, Rows.any-gone (Syntax.tyInt Syntax.w64))
-    (List._∷_ (
-      9,
-      Rows.any-gone (Syntax.tyStruct (List._∷_ 98 (List._∷_ 105 (List._∷_ 116 (List._∷_ 115 (List._∷_ 58 (List._∷_ 58 (List._∷_ 66 (List._∷_ 105 (List._∷_ 116 (List._∷_ 80 (List._∷_ 111
-          (List._∷_ 115 (List._∷_ 105 (List._∷_ 116 (List._∷_ 105 (List._∷_ 111 (List._∷_ 110 List.[]))))))))))))))))) (Syntax.tcons (Syntax.tyInt Syntax.w64) Syntax.tnil)),
-    ) (List._∷_ (
-      10,
-      Rows.sc-here
-          (Row.sInt Syntax.w64),
-    ) (List._∷_ (11, Rows.any-gone (Syntax.tyRef Syntax.erased Syntax.mut (Syntax.tyInt Syntax.w8))) (List._∷_ (
-      12,
-      Rows.any-gone (Syntax.tyStruct (List._∷_ 38 (List._∷_ 91
-          (List._∷_ 93 List.[]))) (Syntax.tcons (Syntax.tyRef Syntax.erased Syntax.mut (Syntax.tyInt Syntax.w8)) (Syntax.tcons (Syntax.tyInt Syntax.w64) Syntax.tnil))),
-    ) (List._∷_ (
-      13,
-      Rows.any-gone
-          (Syntax.tyRef Syntax.erased Syntax.mut (Syntax.tyInt Syntax.w16)),
-    ) (List._∷_ (
-      14,
-      Rows.any-gone (Syntax.tyStruct (List._∷_ 38 (List._∷_ 91 (List._∷_ 93 List.[]))) (Syntax.tcons (Syntax.tyRef
-          Syntax.erased Syntax.mut (Syntax.tyInt Syntax.w16)) (Syntax.tcons (Syntax.tyInt Syntax.w64) Syntax.tnil))),
-    ) (List._∷_ (15, Rows.any-gone (Syntax.tyRef Syntax.erased Syntax.mut Element.behind))
-    List.[])))))))))))))))
-
-abbrev pub t36 : List.List Row.Entry
-t36 = List._∷_ (
-  16,
-  Rows.any-gone (Syntax.tyStruct (List._∷_ 38 (List._∷_ 91 (List._∷_ 93 List.[]))) (Syntax.tcons (Syntax.tyRef Syntax.erased Syntax.mut Element.behind) (Syntax.tcons (Syntax.tyInt
-      Syntax.w64) Syntax.tnil))),
-) (List._∷_ (
-  17,
-  Rows.any-gone (Syntax.tyEnum (List._∷_ 98 (List._∷_ 108 (List._∷_ 111 (List._∷_ 99 (List._∷_ 107 (List._∷_ 58 (List._∷_ 58 (List._∷_ 87 (List._∷_ 114
-      (List._∷_ 105 (List._∷_ 116 (List._∷_ 116 (List._∷_ 101 (List._∷_ 110 List.[])))))))))))))) (Syntax.ttcons (Syntax.tcons (Syntax.tyInt Syntax.w64) Syntax.tnil) (Syntax.ttcons (Syntax.tcons
-      (Syntax.tyEnum (List._∷_ 115 (List._∷_ 116 (List._∷_ 114 (List._∷_ 101 (List._∷_ 97 (List._∷_ 109 (List._∷_ 58 (List._∷_ 58 (List._∷_ 82 (List._∷_ 101 (List._∷_ 102 (List._∷_ 117 (List._∷_ 115
-      (List._∷_ 97 (List._∷_ 108 List.[]))))))))))))))) (Syntax.ttcons Syntax.tnil (Syntax.ttcons Syntax.tnil (Syntax.ttcons Syntax.tnil (Syntax.ttcons (Syntax.tcons (Syntax.tyInt Syntax.w64) Syntax.tnil)
-      (Syntax.ttcons Syntax.tnil (Syntax.ttcons Syntax.tnil (Syntax.ttcons Syntax.tnil (Syntax.ttcons Syntax.tnil (Syntax.ttcons Syntax.tnil (Syntax.ttcons Syntax.tnil (Syntax.ttcons (Syntax.tcons
-      (Syntax.tyInt Syntax.w64) Syntax.tnil) (Syntax.ttcons (Syntax.tcons (Syntax.tyInt Syntax.w64) Syntax.tnil) (Syntax.ttcons Syntax.tnil (Syntax.ttcons (Syntax.tcons (Syntax.tyInt Syntax.w64)
-      (Syntax.tcons (Syntax.tyInt Syntax.w64) Syntax.tnil)) (Syntax.ttcons (Syntax.tcons (Syntax.tyInt Syntax.w64) Syntax.tnil) Syntax.ttnil)))))))))))))))) Syntax.tnil) Syntax.ttnil))),
-) (List._∷_ (
-  18,
-  Rows.any-gone (Syntax.tyEnum (List._∷_ 115 (List._∷_ 116 (List._∷_ 114 (List._∷_ 101 (List._∷_ 97 (List._∷_ 109 (List._∷_ 58 (List._∷_ 58 (List._∷_ 82 (List._∷_ 101 (List._∷_ 102 (List._∷_ 117
-      (List._∷_ 115 (List._∷_ 97 (List._∷_ 108 List.[]))))))))))))))) (Syntax.ttcons Syntax.tnil (Syntax.ttcons Syntax.tnil (Syntax.ttcons Syntax.tnil (Syntax.ttcons (Syntax.tcons (Syntax.tyInt Syntax.w64)
-      Syntax.tnil) (Syntax.ttcons Syntax.tnil (Syntax.ttcons Syntax.tnil (Syntax.ttcons Syntax.tnil (Syntax.ttcons Syntax.tnil (Syntax.ttcons Syntax.tnil (Syntax.ttcons Syntax.tnil (Syntax.ttcons
-      (Syntax.tcons (Syntax.tyInt Syntax.w64) Syntax.tnil) (Syntax.ttcons (Syntax.tcons (Syntax.tyInt Syntax.w64) Syntax.tnil) (Syntax.ttcons Syntax.tnil (Syntax.ttcons (Syntax.tcons (Syntax.tyInt
-      Syntax.w64) (Syntax.tcons (Syntax.tyInt Syntax.w64) Syntax.tnil)) (Syntax.ttcons (Syntax.tcons (Syntax.tyInt Syntax.w64) Syntax.tnil) Syntax.ttnil)))))))))))))))),
-) (List._∷_ (
-  19,
-  Rows.any-gone
-      Syntax.tyBool,
-) (List._∷_ (20, Rows.any-gone (Syntax.tyInt Syntax.w64)) (List._∷_ (
-  21,
-  Rows.any-gone (Syntax.tyEnum (List._∷_ 115 (List._∷_ 116 (List._∷_ 114 (List._∷_ 101 (List._∷_ 97 (List._∷_
-      109 (List._∷_ 58 (List._∷_ 58 (List._∷_ 82 (List._∷_ 101 (List._∷_ 102 (List._∷_ 117 (List._∷_ 115 (List._∷_ 97 (List._∷_ 108 List.[]))))))))))))))) (Syntax.ttcons Syntax.tnil (Syntax.ttcons
-      Syntax.tnil (Syntax.ttcons Syntax.tnil (Syntax.ttcons (Syntax.tcons (Syntax.tyInt Syntax.w64) Syntax.tnil) (Syntax.ttcons Syntax.tnil (Syntax.ttcons Syntax.tnil (Syntax.ttcons Syntax.tnil
-      (Syntax.ttcons Syntax.tnil (Syntax.ttcons Syntax.tnil (Syntax.ttcons Syntax.tnil (Syntax.ttcons (Syntax.tcons (Syntax.tyInt Syntax.w64) Syntax.tnil) (Syntax.ttcons (Syntax.tcons (Syntax.tyInt
-      Syntax.w64) Syntax.tnil) (Syntax.ttcons Syntax.tnil (Syntax.ttcons (Syntax.tcons (Syntax.tyInt Syntax.w64) (Syntax.tcons (Syntax.tyInt Syntax.w64) Syntax.tnil)) (Syntax.ttcons (Syntax.tcons
-      (Syntax.tyInt Syntax.w64) Syntax.tnil) Syntax.ttnil)))))))))))))))),
-) (List._∷_ (
-  22,
-  Rows.any-gone (Syntax.tyEnum (List._∷_ 119 (List._∷_ 114 (List._∷_ 105 (List._∷_ 116 (List._∷_ 105 (List._∷_ 110
-      (List._∷_ 103 (List._∷_ 58 (List._∷_ 58 (List._∷_ 80 (List._∷_ 117 (List._∷_ 116 List.[])))))))))))) (Syntax.ttcons (Syntax.tcons (Syntax.tyStruct (List._∷_ 98 (List._∷_ 105 (List._∷_ 116 (List._∷_
-      115 (List._∷_ 58 (List._∷_ 58 (List._∷_ 66 (List._∷_ 105 (List._∷_ 116 (List._∷_ 80 (List._∷_ 111 (List._∷_ 115 (List._∷_ 105 (List._∷_ 116 (List._∷_ 105 (List._∷_ 111 (List._∷_ 110
-      List.[]))))))))))))))))) (Syntax.tcons (Syntax.tyInt Syntax.w64) Syntax.tnil)) Syntax.tnil) (Syntax.ttcons (Syntax.tcons (Syntax.tyInt Syntax.w64) Syntax.tnil) Syntax.ttnil))),
-) (List._∷_ (
-  23,
-  Relend.msptr (Referent.rtF (Referent.fInt Syntax.w8)) (Syntax.tyRef Syntax.erased Syntax.mut (Syntax.tyInt Syntax.w8)) 7,
-) (List._∷_ (
-  24,
-  Rows.any-gone (Syntax.tyStruct (List._∷_ 38 (List._∷_ 91
-      (List._∷_ 93 List.[]))) (Syntax.tcons (Syntax.tyRef Syntax.erased Syntax.mut (Syntax.tyInt Syntax.w8)) (Syntax.tcons (Syntax.tyInt Syntax.w64) Syntax.tnil))),
-) (List._∷_ (
-  25,
-  Rows.any-gone
-      (Syntax.tyRef Syntax.erased Syntax.mut (Syntax.tyInt Syntax.w16)),
-) (List._∷_ (
-  26,
-  Rows.any-gone (Syntax.tyStruct (List._∷_ 38 (List._∷_ 91 (List._∷_ 93 List.[]))) (Syntax.tcons (Syntax.tyRef
-      Syntax.erased Syntax.mut (Syntax.tyInt Syntax.w16)) (Syntax.tcons (Syntax.tyInt Syntax.w64) Syntax.tnil))),
-) (List._∷_ (27, Rows.any-gone (Syntax.tyRef Syntax.erased Syntax.mut Element.behind))
-    (List._∷_ (
-      28,
-      Rows.any-gone (Syntax.tyStruct (List._∷_ 38 (List._∷_ 91 (List._∷_ 93 List.[]))) (Syntax.tcons (Syntax.tyRef Syntax.erased Syntax.mut Element.behind) (Syntax.tcons (Syntax.tyInt
-          Syntax.w64) Syntax.tnil))),
-    ) List.[]))))))))))))
-
-abbrev pub t37 : List.List Row.Entry
-t37 = List._∷_ (
-  16,
-  Rows.any-gone (Syntax.tyStruct (List._∷_ 38 (List._∷_ 91 (List._∷_ 93 List.[]))) (Syntax.tcons (Syntax.tyRef Syntax.erased Syntax.mut Element.behind) (Syntax.tcons (Syntax.tyInt
-      Syntax.w64) Syntax.tnil))),
-) (List._∷_ (
-  17,
-  Rows.any-gone (Syntax.tyEnum (List._∷_ 98 (List._∷_ 108 (List._∷_ 111 (List._∷_ 99 (List._∷_ 107 (List._∷_ 58 (List._∷_ 58 (List._∷_ 87 (List._∷_ 114
-      (List._∷_ 105 (List._∷_ 116 (List._∷_ 116 (List._∷_ 101 (List._∷_ 110 List.[])))))))))))))) (Syntax.ttcons (Syntax.tcons (Syntax.tyInt Syntax.w64) Syntax.tnil) (Syntax.ttcons (Syntax.tcons
-      (Syntax.tyEnum (List._∷_ 115 (List._∷_ 116 (List._∷_ 114 (List._∷_ 101 (List._∷_ 97 (List._∷_ 109 (List._∷_ 58 (List._∷_ 58 (List._∷_ 82 (List._∷_ 101 (List._∷_ 102 (List._∷_ 117 (List._∷_ 115
-      (List._∷_ 97 (List._∷_ 108 List.[]))))))))))))))) (Syntax.ttcons Syntax.tnil (Syntax.ttcons Syntax.tnil (Syntax.ttcons Syntax.tnil (Syntax.ttcons (Syntax.tcons (Syntax.tyInt Syntax.w64) Syntax.tnil)
-      (Syntax.ttcons Syntax.tnil (Syntax.ttcons Syntax.tnil (Syntax.ttcons Syntax.tnil (Syntax.ttcons Syntax.tnil (Syntax.ttcons Syntax.tnil (Syntax.ttcons Syntax.tnil (Syntax.ttcons (Syntax.tcons
-      (Syntax.tyInt Syntax.w64) Syntax.tnil) (Syntax.ttcons (Syntax.tcons (Syntax.tyInt Syntax.w64) Syntax.tnil) (Syntax.ttcons Syntax.tnil (Syntax.ttcons (Syntax.tcons (Syntax.tyInt Syntax.w64)
-      (Syntax.tcons (Syntax.tyInt Syntax.w64) Syntax.tnil)) (Syntax.ttcons (Syntax.tcons (Syntax.tyInt Syntax.w64) Syntax.tnil) Syntax.ttnil)))))))))))))))) Syntax.tnil) Syntax.ttnil))),
-) (List._∷_ (
-  18,
-  Rows.any-gone (Syntax.tyEnum (List._∷_ 115 (List._∷_ 116 (List._∷_ 114 (List._∷_ 101 (List._∷_ 97 (List._∷_ 109 (List._∷_ 58 (List._∷_ 58 (List._∷_ 82 (List._∷_ 101 (List._∷_ 102 (List._∷_ 117
-      (List._∷_ 115 (List._∷_ 97 (List._∷_ 108 List.[]))))))))))))))) (Syntax.ttcons Syntax.tnil (Syntax.ttcons Syntax.tnil (Syntax.ttcons Syntax.tnil (Syntax.ttcons (Syntax.tcons (Syntax.tyInt Syntax.w64)
-      Syntax.tnil) (Syntax.ttcons Syntax.tnil (Syntax.ttcons Syntax.tnil (Syntax.ttcons Syntax.tnil (Syntax.ttcons Syntax.tnil (Syntax.ttcons Syntax.tnil (Syntax.ttcons Syntax.tnil (Syntax.ttcons
-      (Syntax.tcons (Syntax.tyInt Syntax.w64) Syntax.tnil) (Syntax.ttcons (Syntax.tcons (Syntax.tyInt Syntax.w64) Syntax.tnil) (Syntax.ttcons Syntax.tnil (Syntax.ttcons (Syntax.tcons (Syntax.tyInt
-      Syntax.w64) (Syntax.tcons (Syntax.tyInt Syntax.w64) Syntax.tnil)) (Syntax.ttcons (Syntax.tcons (Syntax.tyInt Syntax.w64) Syntax.tnil) Syntax.ttnil)))))))))))))))),
-) (List._∷_ (
-  19,
-  Rows.any-gone
-      Syntax.tyBool,
-) (List._∷_ (20, Rows.any-gone (Syntax.tyInt Syntax.w64)) (List._∷_ (
-  21,
-  Rows.any-gone (Syntax.tyEnum (List._∷_ 115 (List._∷_ 116 (List._∷_ 114 (List._∷_ 101 (List._∷_ 97 (List._∷_
-      109 (List._∷_ 58 (List._∷_ 58 (List._∷_ 82 (List._∷_ 101 (List._∷_ 102 (List._∷_ 117 (List._∷_ 115 (List._∷_ 97 (List._∷_ 108 List.[]))))))))))))))) (Syntax.ttcons Syntax.tnil (Syntax.ttcons
-      Syntax.tnil (Syntax.ttcons Syntax.tnil (Syntax.ttcons (Syntax.tcons (Syntax.tyInt Syntax.w64) Syntax.tnil) (Syntax.ttcons Syntax.tnil (Syntax.ttcons Syntax.tnil (Syntax.ttcons Syntax.tnil
-      (Syntax.ttcons Syntax.tnil (Syntax.ttcons Syntax.tnil (Syntax.ttcons Syntax.tnil (Syntax.ttcons (Syntax.tcons (Syntax.tyInt Syntax.w64) Syntax.tnil) (Syntax.ttcons (Syntax.tcons (Syntax.tyInt
-      Syntax.w64) Syntax.tnil) (Syntax.ttcons Syntax.tnil (Syntax.ttcons (Syntax.tcons (Syntax.tyInt Syntax.w64) (Syntax.tcons (Syntax.tyInt Syntax.w64) Syntax.tnil)) (Syntax.ttcons (Syntax.tcons
-      (Syntax.tyInt Syntax.w64) Syntax.tnil) Syntax.ttnil)))))))))))))))),
-) (List._∷_ (
-  22,
-  Rows.any-gone (Syntax.tyEnum (List._∷_ 119 (List._∷_ 114 (List._∷_ 105 (List._∷_ 116 (List._∷_ 105 (List._∷_ 110
-      (List._∷_ 103 (List._∷_ 58 (List._∷_ 58 (List._∷_ 80 (List._∷_ 117 (List._∷_ 116 List.[])))))))))))) (Syntax.ttcons (Syntax.tcons (Syntax.tyStruct (List._∷_ 98 (List._∷_ 105 (List._∷_ 116 (List._∷_
-      115 (List._∷_ 58 (List._∷_ 58 (List._∷_ 66 (List._∷_ 105 (List._∷_ 116 (List._∷_ 80 (List._∷_ 111 (List._∷_ 115 (List._∷_ 105 (List._∷_ 116 (List._∷_ 105 (List._∷_ 111 (List._∷_ 110
-      List.[]))))))))))))))))) (Syntax.tcons (Syntax.tyInt Syntax.w64) Syntax.tnil)) Syntax.tnil) (Syntax.ttcons (Syntax.tcons (Syntax.tyInt Syntax.w64) Syntax.tnil) Syntax.ttnil))),
-) (List._∷_ (
-  23,
-  Rows.any-gone (Syntax.tyRef Syntax.erased Syntax.mut (Syntax.tyInt Syntax.w8)),
-) (List._∷_ (
-  24,
-  Mut.mslice (Referent.rtF (Referent.fInt Syntax.w8)) (Syntax.tyRef Syntax.erased Syntax.mut (Syntax.tyInt
-      Syntax.w8)) 7,
-) (List._∷_ (25, Rows.any-gone (Syntax.tyRef Syntax.erased Syntax.mut (Syntax.tyInt Syntax.w16))) (List._∷_ (
-  26,
-  Rows.any-gone (Syntax.tyStruct (List._∷_ 38 (List._∷_ 91 (List._∷_
-      93 List.[]))) (Syntax.tcons (Syntax.tyRef Syntax.erased Syntax.mut (Syntax.tyInt Syntax.w16)) (Syntax.tcons (Syntax.tyInt Syntax.w64) Syntax.tnil))),
-) (List._∷_ (
-  27,
-  Rows.any-gone (Syntax.tyRef
-      Syntax.erased Syntax.mut Element.behind),
-) (List._∷_ (
-  28,
-  Rows.any-gone (Syntax.tyStruct (List._∷_ 38 (List._∷_ 91 (List._∷_ 93 List.[]))) (Syntax.tcons (Syntax.tyRef Syntax.erased Syntax.mut
-      Element.behind) (Syntax.tcons (Syntax.tyInt Syntax.w64) Syntax.tnil))),
-) List.[]))))))))))))
-
-abbrev pub t38 : List.List Row.Entry
-t38 = List._∷_ (
-  0,
-  Rows.any-gone (Syntax.tyEnum (List._∷_ 98 (List._∷_ 108 (List._∷_ 111 (List._∷_ 99 (List._∷_ 107 (List._∷_ 58 (List._∷_ 58 (List._∷_ 87 (List._∷_ 114 (List._∷_ 105 (List._∷_ 116
-      (List._∷_ 116 (List._∷_ 101 (List._∷_ 110 List.[])))))))))))))) (Syntax.ttcons (Syntax.tcons (Syntax.tyInt Syntax.w64) Syntax.tnil) (Syntax.ttcons (Syntax.tcons (Syntax.tyEnum (List._∷_ 115 (List._∷_
-      116 (List._∷_ 114 (List._∷_ 101 (List._∷_ 97 (List._∷_ 109 (List._∷_ 58 (List._∷_ 58 (List._∷_ 82 (List._∷_ 101 (List._∷_ 102 (List._∷_ 117 (List._∷_ 115 (List._∷_ 97 (List._∷_ 108
-      List.[]))))))))))))))) (Syntax.ttcons Syntax.tnil (Syntax.ttcons Syntax.tnil (Syntax.ttcons Syntax.tnil (Syntax.ttcons (Syntax.tcons (Syntax.tyInt Syntax.w64) Syntax.tnil) (Syntax.ttcons Syntax.tnil
-      (Syntax.ttcons Syntax.tnil (Syntax.ttcons Syntax.tnil (Syntax.ttcons Syntax.tnil (Syntax.ttcons Syntax.tnil (Syntax.ttcons Syntax.tnil (Syntax.ttcons (Syntax.tcons (Syntax.tyInt Syntax.w64)
-      Syntax.tnil) (Syntax.ttcons (Syntax.tcons (Syntax.tyInt Syntax.w64) Syntax.tnil) (Syntax.ttcons Syntax.tnil (Syntax.ttcons (Syntax.tcons (Syntax.tyInt Syntax.w64) (Syntax.tcons (Syntax.tyInt
-      Syntax.w64) Syntax.tnil)) (Syntax.ttcons (Syntax.tcons (Syntax.tyInt Syntax.w64) Syntax.tnil) Syntax.ttnil)))))))))))))))) Syntax.tnil) Syntax.ttnil))),
-) (List._∷_ (
-  1,
-  Rows.sslice (Referent.rtF
-      (Referent.fInt Syntax.w16)) (Syntax.tyRef (Syntax.named 0) Syntax.imm (Syntax.tyInt Syntax.w16)) 0,
-) (List._∷_ (
-  2,
-  Relend.mslice-owed (Referent.rtF (Referent.fInt Syntax.w8)) (Syntax.tyRef
-      (Syntax.named 1) Syntax.mut (Syntax.tyInt Syntax.w8)) 1 7 Row.off,
-) (List._∷_ (
-  3,
-  Relend.mslice-owed (Referent.rtF (Referent.fInt Syntax.w16)) (Syntax.tyRef (Syntax.named 2) Syntax.mut (Syntax.tyInt
-      Syntax.w16)) 2 8 Row.off,
-) (List._∷_ (4, Mut.mslice (Element.type) (Syntax.tyRef (Syntax.named 3) Syntax.mut Element.behind) 3) (List._∷_ (5, Rows.whole (Declared'.row Form.the-type)) (List._∷_ (
-  6,
-  Rows.sc-here (Row.sInt Syntax.w64),
-) (List._∷_ (
-  7,
-  Rows.any-gone (Syntax.tyEnum (List._∷_ 119 (List._∷_ 114 (List._∷_ 105 (List._∷_ 116 (List._∷_ 105 (List._∷_ 110 (List._∷_ 103 (List._∷_ 58
-      (List._∷_ 58 (List._∷_ 80 (List._∷_ 117 (List._∷_ 116 List.[])))))))))))) (Syntax.ttcons (Syntax.tcons (Syntax.tyStruct (List._∷_ 98 (List._∷_ 105 (List._∷_ 116 (List._∷_ 115 (List._∷_ 58 (List._∷_ 58
-      (List._∷_ 66 (List._∷_ 105 (List._∷_ 116 (List._∷_ 80 (List._∷_ 111 (List._∷_ 115 (List._∷_ 105 (List._∷_ 116 (List._∷_ 105 (List._∷_ 111 (List._∷_ 110 List.[]))))))))))))))))) (Syntax.tcons
-      (Syntax.tyInt Syntax.w64) Syntax.tnil)) Syntax.tnil) (Syntax.ttcons (Syntax.tcons (Syntax.tyInt Syntax.w64) Syntax.tnil) Syntax.ttnil))),
-) (List._∷_ (8, Rows.any-gone (Syntax.tyInt Syntax.w64))
-    (List._∷_ (
-      9,
-      Rows.any-gone (Syntax.tyStruct (List._∷_ 98 (List._∷_ 105 (List._∷_ 116 (List._∷_ 115 (List._∷_ 58 (List._∷_ 58 (List._∷_ 66 (List._∷_ 105 (List._∷_ 116 (List._∷_ 80 (List._∷_ 111
-          (List._∷_ 115 (List._∷_ 105 (List._∷_ 116 (List._∷_ 105 (List._∷_ 111 (List._∷_ 110 List.[]))))))))))))))))) (Syntax.tcons (Syntax.tyInt Syntax.w64) Syntax.tnil)),
-    ) (List._∷_ (
-      10,
-      Rows.sc-here
-          (Row.sInt Syntax.w64),
-    ) (List._∷_ (11, Rows.any-gone (Syntax.tyRef Syntax.erased Syntax.mut (Syntax.tyInt Syntax.w8))) (List._∷_ (
-      12,
-      Rows.any-gone (Syntax.tyStruct (List._∷_ 38 (List._∷_ 91
-          (List._∷_ 93 List.[]))) (Syntax.tcons (Syntax.tyRef Syntax.erased Syntax.mut (Syntax.tyInt Syntax.w8)) (Syntax.tcons (Syntax.tyInt Syntax.w64) Syntax.tnil))),
-    ) (List._∷_ (
-      13,
-      Rows.any-gone
-          (Syntax.tyRef Syntax.erased Syntax.mut (Syntax.tyInt Syntax.w16)),
-    ) (List._∷_ (
-      14,
-      Rows.any-gone (Syntax.tyStruct (List._∷_ 38 (List._∷_ 91 (List._∷_ 93 List.[]))) (Syntax.tcons (Syntax.tyRef
-          Syntax.erased Syntax.mut (Syntax.tyInt Syntax.w16)) (Syntax.tcons (Syntax.tyInt Syntax.w64) Syntax.tnil))),
-    ) (List._∷_ (15, Rows.any-gone (Syntax.tyRef Syntax.erased Syntax.mut Element.behind))
-    List.[])))))))))))))))
-
-abbrev pub t39 : List.List Row.Entry
-t39 = List._∷_ (
-  16,
-  Rows.any-gone (Syntax.tyStruct (List._∷_ 38 (List._∷_ 91 (List._∷_ 93 List.[]))) (Syntax.tcons (Syntax.tyRef Syntax.erased Syntax.mut Element.behind) (Syntax.tcons (Syntax.tyInt
-      Syntax.w64) Syntax.tnil))),
-) (List._∷_ (
-  17,
-  Rows.any-gone (Syntax.tyEnum (List._∷_ 98 (List._∷_ 108 (List._∷_ 111 (List._∷_ 99 (List._∷_ 107 (List._∷_ 58 (List._∷_ 58 (List._∷_ 87 (List._∷_ 114
-      (List._∷_ 105 (List._∷_ 116 (List._∷_ 116 (List._∷_ 101 (List._∷_ 110 List.[])))))))))))))) (Syntax.ttcons (Syntax.tcons (Syntax.tyInt Syntax.w64) Syntax.tnil) (Syntax.ttcons (Syntax.tcons
-      (Syntax.tyEnum (List._∷_ 115 (List._∷_ 116 (List._∷_ 114 (List._∷_ 101 (List._∷_ 97 (List._∷_ 109 (List._∷_ 58 (List._∷_ 58 (List._∷_ 82 (List._∷_ 101 (List._∷_ 102 (List._∷_ 117 (List._∷_ 115
-      (List._∷_ 97 (List._∷_ 108 List.[]))))))))))))))) (Syntax.ttcons Syntax.tnil (Syntax.ttcons Syntax.tnil (Syntax.ttcons Syntax.tnil (Syntax.ttcons (Syntax.tcons (Syntax.tyInt Syntax.w64) Syntax.tnil)
-      (Syntax.ttcons Syntax.tnil (Syntax.ttcons Syntax.tnil (Syntax.ttcons Syntax.tnil (Syntax.ttcons Syntax.tnil (Syntax.ttcons Syntax.tnil (Syntax.ttcons Syntax.tnil (Syntax.ttcons (Syntax.tcons
-      (Syntax.tyInt Syntax.w64) Syntax.tnil) (Syntax.ttcons (Syntax.tcons (Syntax.tyInt Syntax.w64) Syntax.tnil) (Syntax.ttcons Syntax.tnil (Syntax.ttcons (Syntax.tcons (Syntax.tyInt Syntax.w64)
-      (Syntax.tcons (Syntax.tyInt Syntax.w64) Syntax.tnil)) (Syntax.ttcons (Syntax.tcons (Syntax.tyInt Syntax.w64) Syntax.tnil) Syntax.ttnil)))))))))))))))) Syntax.tnil) Syntax.ttnil))),
-) (List._∷_ (
-  18,
-  Rows.any-gone (Syntax.tyEnum (List._∷_ 115 (List._∷_ 116 (List._∷_ 114 (List._∷_ 101 (List._∷_ 97 (List._∷_ 109 (List._∷_ 58 (List._∷_ 58 (List._∷_ 82 (List._∷_ 101 (List._∷_ 102 (List._∷_ 117
-      (List._∷_ 115 (List._∷_ 97 (List._∷_ 108 List.[]))))))))))))))) (Syntax.ttcons Syntax.tnil (Syntax.ttcons Syntax.tnil (Syntax.ttcons Syntax.tnil (Syntax.ttcons (Syntax.tcons (Syntax.tyInt Syntax.w64)
-      Syntax.tnil) (Syntax.ttcons Syntax.tnil (Syntax.ttcons Syntax.tnil (Syntax.ttcons Syntax.tnil (Syntax.ttcons Syntax.tnil (Syntax.ttcons Syntax.tnil (Syntax.ttcons Syntax.tnil (Syntax.ttcons
-      (Syntax.tcons (Syntax.tyInt Syntax.w64) Syntax.tnil) (Syntax.ttcons (Syntax.tcons (Syntax.tyInt Syntax.w64) Syntax.tnil) (Syntax.ttcons Syntax.tnil (Syntax.ttcons (Syntax.tcons (Syntax.tyInt
-      Syntax.w64) (Syntax.tcons (Syntax.tyInt Syntax.w64) Syntax.tnil)) (Syntax.ttcons (Syntax.tcons (Syntax.tyInt Syntax.w64) Syntax.tnil) Syntax.ttnil)))))))))))))))),
-) (List._∷_ (
-  19,
-  Rows.any-gone
-      Syntax.tyBool,
-) (List._∷_ (20, Rows.any-gone (Syntax.tyInt Syntax.w64)) (List._∷_ (
-  21,
-  Rows.any-gone (Syntax.tyEnum (List._∷_ 115 (List._∷_ 116 (List._∷_ 114 (List._∷_ 101 (List._∷_ 97 (List._∷_
-      109 (List._∷_ 58 (List._∷_ 58 (List._∷_ 82 (List._∷_ 101 (List._∷_ 102 (List._∷_ 117 (List._∷_ 115 (List._∷_ 97 (List._∷_ 108 List.[]))))))))))))))) (Syntax.ttcons Syntax.tnil (Syntax.ttcons
-      Syntax.tnil (Syntax.ttcons Syntax.tnil (Syntax.ttcons (Syntax.tcons (Syntax.tyInt Syntax.w64) Syntax.tnil) (Syntax.ttcons Syntax.tnil (Syntax.ttcons Syntax.tnil (Syntax.ttcons Syntax.tnil
-      (Syntax.ttcons Syntax.tnil (Syntax.ttcons Syntax.tnil (Syntax.ttcons Syntax.tnil (Syntax.ttcons (Syntax.tcons (Syntax.tyInt Syntax.w64) Syntax.tnil) (Syntax.ttcons (Syntax.tcons (Syntax.tyInt
-      Syntax.w64) Syntax.tnil) (Syntax.ttcons Syntax.tnil (Syntax.ttcons (Syntax.tcons (Syntax.tyInt Syntax.w64) (Syntax.tcons (Syntax.tyInt Syntax.w64) Syntax.tnil)) (Syntax.ttcons (Syntax.tcons
-      (Syntax.tyInt Syntax.w64) Syntax.tnil) Syntax.ttnil)))))))))))))))),
-) (List._∷_ (
-  22,
-  Rows.any-gone (Syntax.tyEnum (List._∷_ 119 (List._∷_ 114 (List._∷_ 105 (List._∷_ 116 (List._∷_ 105 (List._∷_ 110
-      (List._∷_ 103 (List._∷_ 58 (List._∷_ 58 (List._∷_ 80 (List._∷_ 117 (List._∷_ 116 List.[])))))))))))) (Syntax.ttcons (Syntax.tcons (Syntax.tyStruct (List._∷_ 98 (List._∷_ 105 (List._∷_ 116 (List._∷_
-      115 (List._∷_ 58 (List._∷_ 58 (List._∷_ 66 (List._∷_ 105 (List._∷_ 116 (List._∷_ 80 (List._∷_ 111 (List._∷_ 115 (List._∷_ 105 (List._∷_ 116 (List._∷_ 105 (List._∷_ 111 (List._∷_ 110
-      List.[]))))))))))))))))) (Syntax.tcons (Syntax.tyInt Syntax.w64) Syntax.tnil)) Syntax.tnil) (Syntax.ttcons (Syntax.tcons (Syntax.tyInt Syntax.w64) Syntax.tnil) Syntax.ttnil))),
-) (List._∷_ (
-  23,
-  Rows.any-gone (Syntax.tyRef Syntax.erased Syntax.mut (Syntax.tyInt Syntax.w8)),
-) (List._∷_ (
-  24,
-  Mut.mslice (Referent.rtF (Referent.fInt Syntax.w8)) (Syntax.tyRef Syntax.erased Syntax.mut (Syntax.tyInt
-      Syntax.w8)) 7,
-) (List._∷_ (25, Relend.msptr (Referent.rtF (Referent.fInt Syntax.w16)) (Syntax.tyRef Syntax.erased Syntax.mut (Syntax.tyInt Syntax.w16)) 8) (List._∷_ (
-  26,
-  Rows.any-gone
-      (Syntax.tyStruct (List._∷_ 38 (List._∷_ 91 (List._∷_ 93 List.[]))) (Syntax.tcons (Syntax.tyRef Syntax.erased Syntax.mut (Syntax.tyInt Syntax.w16)) (Syntax.tcons (Syntax.tyInt Syntax.w64)
-      Syntax.tnil))),
-) (List._∷_ (27, Rows.any-gone (Syntax.tyRef Syntax.erased Syntax.mut Element.behind)) (List._∷_ (
-  28,
-  Rows.any-gone (Syntax.tyStruct (List._∷_ 38 (List._∷_ 91 (List._∷_ 93
-      List.[]))) (Syntax.tcons (Syntax.tyRef Syntax.erased Syntax.mut Element.behind) (Syntax.tcons (Syntax.tyInt Syntax.w64) Syntax.tnil))),
-) List.[]))))))))))))
-
-abbrev pub t40 : List.List Row.Entry
-t40 = List._∷_ (
-  16,
-  Rows.any-gone (Syntax.tyStruct (List._∷_ 38 (List._∷_ 91 (List._∷_ 93 List.[]))) (Syntax.tcons (Syntax.tyRef Syntax.erased Syntax.mut Element.behind) (Syntax.tcons (Syntax.tyInt
-      Syntax.w64) Syntax.tnil))),
-) (List._∷_ (
-  17,
-  Rows.any-gone (Syntax.tyEnum (List._∷_ 98 (List._∷_ 108 (List._∷_ 111 (List._∷_ 99 (List._∷_ 107 (List._∷_ 58 (List._∷_ 58 (List._∷_ 87 (List._∷_ 114
-      (List._∷_ 105 (List._∷_ 116 (List._∷_ 116 (List._∷_ 101 (List._∷_ 110 List.[])))))))))))))) (Syntax.ttcons (Syntax.tcons (Syntax.tyInt Syntax.w64) Syntax.tnil) (Syntax.ttcons (Syntax.tcons
-      (Syntax.tyEnum (List._∷_ 115 (List._∷_ 116 (List._∷_ 114 (List._∷_ 101 (List._∷_ 97 (List._∷_ 109 (List._∷_ 58 (List._∷_ 58 (List._∷_ 82 (List._∷_ 101 (List._∷_ 102 (List._∷_ 117 (List._∷_ 115
-      (List._∷_ 97 (List._∷_ 108 List.[]))))))))))))))) (Syntax.ttcons Syntax.tnil (Syntax.ttcons Syntax.tnil (Syntax.ttcons Syntax.tnil (Syntax.ttcons (Syntax.tcons (Syntax.tyInt Syntax.w64) Syntax.tnil)
-      (Syntax.ttcons Syntax.tnil (Syntax.ttcons Syntax.tnil (Syntax.ttcons Syntax.tnil (Syntax.ttcons Syntax.tnil (Syntax.ttcons Syntax.tnil (Syntax.ttcons Syntax.tnil (Syntax.ttcons (Syntax.tcons
-      (Syntax.tyInt Syntax.w64) Syntax.tnil) (Syntax.ttcons (Syntax.tcons (Syntax.tyInt Syntax.w64) Syntax.tnil) (Syntax.ttcons Syntax.tnil (Syntax.ttcons (Syntax.tcons (Syntax.tyInt Syntax.w64)
-      (Syntax.tcons (Syntax.tyInt Syntax.w64) Syntax.tnil)) (Syntax.ttcons (Syntax.tcons (Syntax.tyInt Syntax.w64) Syntax.tnil) Syntax.ttnil)))))))))))))))) Syntax.tnil) Syntax.ttnil))),
-) (List._∷_ (
-  18,
-  Rows.any-gone (Syntax.tyEnum (List._∷_ 115 (List._∷_ 116 (List._∷_ 114 (List._∷_ 101 (List._∷_ 97 (List._∷_ 109 (List._∷_ 58 (List._∷_ 58 (List._∷_ 82 (List._∷_ 101 (List._∷_ 102 (List._∷_ 117
-      (List._∷_ 115 (List._∷_ 97 (List._∷_ 108 List.[]))))))))))))))) (Syntax.ttcons Syntax.tnil (Syntax.ttcons Syntax.tnil (Syntax.ttcons Syntax.tnil (Syntax.ttcons (Syntax.tcons (Syntax.tyInt Syntax.w64)
-      Syntax.tnil) (Syntax.ttcons Syntax.tnil (Syntax.ttcons Syntax.tnil (Syntax.ttcons Syntax.tnil (Syntax.ttcons Syntax.tnil (Syntax.ttcons Syntax.tnil (Syntax.ttcons Syntax.tnil (Syntax.ttcons
-      (Syntax.tcons (Syntax.tyInt Syntax.w64) Syntax.tnil) (Syntax.ttcons (Syntax.tcons (Syntax.tyInt Syntax.w64) Syntax.tnil) (Syntax.ttcons Syntax.tnil (Syntax.ttcons (Syntax.tcons (Syntax.tyInt
-      Syntax.w64) (Syntax.tcons (Syntax.tyInt Syntax.w64) Syntax.tnil)) (Syntax.ttcons (Syntax.tcons (Syntax.tyInt Syntax.w64) Syntax.tnil) Syntax.ttnil)))))))))))))))),
-) (List._∷_ (
-  19,
-  Rows.any-gone
-      Syntax.tyBool,
-) (List._∷_ (20, Rows.any-gone (Syntax.tyInt Syntax.w64)) (List._∷_ (
-  21,
-  Rows.any-gone (Syntax.tyEnum (List._∷_ 115 (List._∷_ 116 (List._∷_ 114 (List._∷_ 101 (List._∷_ 97 (List._∷_
-      109 (List._∷_ 58 (List._∷_ 58 (List._∷_ 82 (List._∷_ 101 (List._∷_ 102 (List._∷_ 117 (List._∷_ 115 (List._∷_ 97 (List._∷_ 108 List.[]))))))))))))))) (Syntax.ttcons Syntax.tnil (Syntax.ttcons
-      Syntax.tnil (Syntax.ttcons Syntax.tnil (Syntax.ttcons (Syntax.tcons (Syntax.tyInt Syntax.w64) Syntax.tnil) (Syntax.ttcons Syntax.tnil (Syntax.ttcons Syntax.tnil (Syntax.ttcons Syntax.tnil
-      (Syntax.ttcons Syntax.tnil (Syntax.ttcons Syntax.tnil (Syntax.ttcons Syntax.tnil (Syntax.ttcons (Syntax.tcons (Syntax.tyInt Syntax.w64) Syntax.tnil) (Syntax.ttcons (Syntax.tcons (Syntax.tyInt
-      Syntax.w64) Syntax.tnil) (Syntax.ttcons Syntax.tnil (Syntax.ttcons (Syntax.tcons (Syntax.tyInt Syntax.w64) (Syntax.tcons (Syntax.tyInt Syntax.w64) Syntax.tnil)) (Syntax.ttcons (Syntax.tcons
-      (Syntax.tyInt Syntax.w64) Syntax.tnil) Syntax.ttnil)))))))))))))))),
-) (List._∷_ (
-  22,
-  Rows.any-gone (Syntax.tyEnum (List._∷_ 119 (List._∷_ 114 (List._∷_ 105 (List._∷_ 116 (List._∷_ 105 (List._∷_ 110
-      (List._∷_ 103 (List._∷_ 58 (List._∷_ 58 (List._∷_ 80 (List._∷_ 117 (List._∷_ 116 List.[])))))))))))) (Syntax.ttcons (Syntax.tcons (Syntax.tyStruct (List._∷_ 98 (List._∷_ 105 (List._∷_ 116 (List._∷_
-      115 (List._∷_ 58 (List._∷_ 58 (List._∷_ 66 (List._∷_ 105 (List._∷_ 116 (List._∷_ 80 (List._∷_ 111 (List._∷_ 115 (List._∷_ 105 (List._∷_ 116 (List._∷_ 105 (List._∷_ 111 (List._∷_ 110
-      List.[]))))))))))))))))) (Syntax.tcons (Syntax.tyInt Syntax.w64) Syntax.tnil)) Syntax.tnil) (Syntax.ttcons (Syntax.tcons (Syntax.tyInt Syntax.w64) Syntax.tnil) Syntax.ttnil))),
-) (List._∷_ (
-  23,
-  Rows.any-gone (Syntax.tyRef Syntax.erased Syntax.mut (Syntax.tyInt Syntax.w8)),
-) (List._∷_ (
-  24,
-  Mut.mslice (Referent.rtF (Referent.fInt Syntax.w8)) (Syntax.tyRef Syntax.erased Syntax.mut (Syntax.tyInt
-      Syntax.w8)) 7,
-) (List._∷_ (25, Rows.any-gone (Syntax.tyRef Syntax.erased Syntax.mut (Syntax.tyInt Syntax.w16))) (List._∷_ (
-  26,
-  Mut.mslice (Referent.rtF (Referent.fInt Syntax.w16)) (Syntax.tyRef
-      Syntax.erased Syntax.mut (Syntax.tyInt Syntax.w16)) 8,
-) (List._∷_ (27, Rows.any-gone (Syntax.tyRef Syntax.erased Syntax.mut Element.behind)) (List._∷_ (
-  28,
-  Rows.any-gone (Syntax.tyStruct
-      (List._∷_ 38 (List._∷_ 91 (List._∷_ 93 List.[]))) (Syntax.tcons (Syntax.tyRef Syntax.erased Syntax.mut Element.behind) (Syntax.tcons (Syntax.tyInt Syntax.w64) Syntax.tnil))),
-) List.[]))))))))))))
-
-abbrev pub t41 : List.List Row.Entry
-t41 = List._∷_ (
-  0,
-  Rows.any-gone (Syntax.tyEnum (List._∷_ 98 (List._∷_ 108 (List._∷_ 111 (List._∷_ 99 (List._∷_ 107 (List._∷_ 58 (List._∷_ 58 (List._∷_ 87 (List._∷_ 114 (List._∷_ 105 (List._∷_ 116
-      (List._∷_ 116 (List._∷_ 101 (List._∷_ 110 List.[])))))))))))))) (Syntax.ttcons (Syntax.tcons (Syntax.tyInt Syntax.w64) Syntax.tnil) (Syntax.ttcons (Syntax.tcons (Syntax.tyEnum (List._∷_ 115 (List._∷_
-      116 (List._∷_ 114 (List._∷_ 101 (List._∷_ 97 (List._∷_ 109 (List._∷_ 58 (List._∷_ 58 (List._∷_ 82 (List._∷_ 101 (List._∷_ 102 (List._∷_ 117 (List._∷_ 115 (List._∷_ 97 (List._∷_ 108
-      List.[]))))))))))))))) (Syntax.ttcons Syntax.tnil (Syntax.ttcons Syntax.tnil (Syntax.ttcons Syntax.tnil (Syntax.ttcons (Syntax.tcons (Syntax.tyInt Syntax.w64) Syntax.tnil) (Syntax.ttcons Syntax.tnil
-      (Syntax.ttcons Syntax.tnil (Syntax.ttcons Syntax.tnil (Syntax.ttcons Syntax.tnil (Syntax.ttcons Syntax.tnil (Syntax.ttcons Syntax.tnil (Syntax.ttcons (Syntax.tcons (Syntax.tyInt Syntax.w64)
-      Syntax.tnil) (Syntax.ttcons (Syntax.tcons (Syntax.tyInt Syntax.w64) Syntax.tnil) (Syntax.ttcons Syntax.tnil (Syntax.ttcons (Syntax.tcons (Syntax.tyInt Syntax.w64) (Syntax.tcons (Syntax.tyInt
-      Syntax.w64) Syntax.tnil)) (Syntax.ttcons (Syntax.tcons (Syntax.tyInt Syntax.w64) Syntax.tnil) Syntax.ttnil)))))))))))))))) Syntax.tnil) Syntax.ttnil))),
-) (List._∷_ (
-  1,
-  Rows.sslice (Referent.rtF
-      (Referent.fInt Syntax.w16)) (Syntax.tyRef (Syntax.named 0) Syntax.imm (Syntax.tyInt Syntax.w16)) 0,
-) (List._∷_ (
-  2,
-  Relend.mslice-owed (Referent.rtF (Referent.fInt Syntax.w8)) (Syntax.tyRef
-      (Syntax.named 1) Syntax.mut (Syntax.tyInt Syntax.w8)) 1 7 Row.off,
-) (List._∷_ (
-  3,
-  Relend.mslice-owed (Referent.rtF (Referent.fInt Syntax.w16)) (Syntax.tyRef (Syntax.named 2) Syntax.mut (Syntax.tyInt
-      Syntax.w16)) 2 8 Row.off,
-) (List._∷_ (4, Relend.mslice-owed (Element.type) (Syntax.tyRef (Syntax.named 3) Syntax.mut Element.behind) 3 9 Row.off) (List._∷_ (
-  5,
-  Rows.whole (Declared'.row
-      Form.the-type),
-) (List._∷_ (6, Rows.sc-here (Row.sInt Syntax.w64)) (List._∷_ (
-  7,
-  Rows.any-gone (Syntax.tyEnum (List._∷_ 119 (List._∷_ 114 (List._∷_ 105 (List._∷_ 116 (List._∷_ 105 (List._∷_ 110
-      (List._∷_ 103 (List._∷_ 58 (List._∷_ 58 (List._∷_ 80 (List._∷_ 117 (List._∷_ 116 List.[])))))))))))) (Syntax.ttcons (Syntax.tcons (Syntax.tyStruct (List._∷_ 98 (List._∷_ 105 (List._∷_ 116 (List._∷_
-      115 (List._∷_ 58 (List._∷_ 58 (List._∷_ 66 (List._∷_ 105 (List._∷_ 116 (List._∷_ 80 (List._∷_ 111 (List._∷_ 115 (List._∷_ 105 (List._∷_ 116 (List._∷_ 105 (List._∷_ 111 (List._∷_ 110
-      List.[]))))))))))))))))) (Syntax.tcons (Syntax.tyInt Syntax.w64) Syntax.tnil)) Syntax.tnil) (Syntax.ttcons (Syntax.tcons (Syntax.tyInt Syntax.w64) Syntax.tnil) Syntax.ttnil))),
-) (List._∷_ (
-  8,
-  Rows.any-gone (Syntax.tyInt Syntax.w64),
-) (List._∷_ (
-  9,
-  Rows.any-gone (Syntax.tyStruct (List._∷_ 98 (List._∷_ 105 (List._∷_ 116 (List._∷_ 115 (List._∷_ 58 (List._∷_ 58 (List._∷_ 66 (List._∷_ 105
-      (List._∷_ 116 (List._∷_ 80 (List._∷_ 111 (List._∷_ 115 (List._∷_ 105 (List._∷_ 116 (List._∷_ 105 (List._∷_ 111 (List._∷_ 110 List.[]))))))))))))))))) (Syntax.tcons (Syntax.tyInt Syntax.w64)
-      Syntax.tnil)),
-) (List._∷_ (10, Rows.sc-here (Row.sInt Syntax.w64)) (List._∷_ (11, Rows.any-gone (Syntax.tyRef Syntax.erased Syntax.mut (Syntax.tyInt Syntax.w8))) (List._∷_ (
-  12,
-  Rows.any-gone
-      (Syntax.tyStruct (List._∷_ 38 (List._∷_ 91 (List._∷_ 93 List.[]))) (Syntax.tcons (Syntax.tyRef Syntax.erased Syntax.mut (Syntax.tyInt Syntax.w8)) (Syntax.tcons (Syntax.tyInt Syntax.w64)
-      Syntax.tnil))),
-) (List._∷_ (13, Rows.any-gone (Syntax.tyRef Syntax.erased Syntax.mut (Syntax.tyInt Syntax.w16))) (List._∷_ (
-  14,
-  Rows.any-gone (Syntax.tyStruct (List._∷_ 38 (List._∷_ 91 (List._∷_
-      93 List.[]))) (Syntax.tcons (Syntax.tyRef Syntax.erased Syntax.mut (Syntax.tyInt Syntax.w16)) (Syntax.tcons (Syntax.tyInt Syntax.w64) Syntax.tnil))),
-) (List._∷_ (
-  15,
-  Rows.any-gone (Syntax.tyRef
-      Syntax.erased Syntax.mut Element.behind),
-) List.[])))))))))))))))
-
-abbrev pub t42 : List.List Row.Entry
-t42 = List._∷_ (
-  16,
-  Rows.any-gone (Syntax.tyStruct (List._∷_ 38 (List._∷_ 91 (List._∷_ 93 List.[]))) (Syntax.tcons (Syntax.tyRef Syntax.erased Syntax.mut Element.behind) (Syntax.tcons (Syntax.tyInt
-      Syntax.w64) Syntax.tnil))),
-) (List._∷_ (
-  17,
-  Rows.any-gone (Syntax.tyEnum (List._∷_ 98 (List._∷_ 108 (List._∷_ 111 (List._∷_ 99 (List._∷_ 107 (List._∷_ 58 (List._∷_ 58 (List._∷_ 87 (List._∷_ 114
-      (List._∷_ 105 (List._∷_ 116 (List._∷_ 116 (List._∷_ 101 (List._∷_ 110 List.[])))))))))))))) (Syntax.ttcons (Syntax.tcons (Syntax.tyInt Syntax.w64) Syntax.tnil) (Syntax.ttcons (Syntax.tcons
-      (Syntax.tyEnum (List._∷_ 115 (List._∷_ 116 (List._∷_ 114 (List._∷_ 101 (List._∷_ 97 (List._∷_ 109 (List._∷_ 58 (List._∷_ 58 (List._∷_ 82 (List._∷_ 101 (List._∷_ 102 (List._∷_ 117 (List._∷_ 115
-      (List._∷_ 97 (List._∷_ 108 List.[]))))))))))))))) (Syntax.ttcons Syntax.tnil (Syntax.ttcons Syntax.tnil (Syntax.ttcons Syntax.tnil (Syntax.ttcons (Syntax.tcons (Syntax.tyInt Syntax.w64) Syntax.tnil)
-      (Syntax.ttcons Syntax.tnil (Syntax.ttcons Syntax.tnil (Syntax.ttcons Syntax.tnil (Syntax.ttcons Syntax.tnil (Syntax.ttcons Syntax.tnil (Syntax.ttcons Syntax.tnil (Syntax.ttcons (Syntax.tcons
-      (Syntax.tyInt Syntax.w64) Syntax.tnil) (Syntax.ttcons (Syntax.tcons (Syntax.tyInt Syntax.w64) Syntax.tnil) (Syntax.ttcons Syntax.tnil (Syntax.ttcons (Syntax.tcons (Syntax.tyInt Syntax.w64)
-      (Syntax.tcons (Syntax.tyInt Syntax.w64) Syntax.tnil)) (Syntax.ttcons (Syntax.tcons (Syntax.tyInt Syntax.w64) Syntax.tnil) Syntax.ttnil)))))))))))))))) Syntax.tnil) Syntax.ttnil))),
-) (List._∷_ (
-  18,
-  Rows.any-gone (Syntax.tyEnum (List._∷_ 115 (List._∷_ 116 (List._∷_ 114 (List._∷_ 101 (List._∷_ 97 (List._∷_ 109 (List._∷_ 58 (List._∷_ 58 (List._∷_ 82 (List._∷_ 101 (List._∷_ 102 (List._∷_ 117
-      (List._∷_ 115 (List._∷_ 97 (List._∷_ 108 List.[]))))))))))))))) (Syntax.ttcons Syntax.tnil (Syntax.ttcons Syntax.tnil (Syntax.ttcons Syntax.tnil (Syntax.ttcons (Syntax.tcons (Syntax.tyInt Syntax.w64)
-      Syntax.tnil) (Syntax.ttcons Syntax.tnil (Syntax.ttcons Syntax.tnil (Syntax.ttcons Syntax.tnil (Syntax.ttcons Syntax.tnil (Syntax.ttcons Syntax.tnil (Syntax.ttcons Syntax.tnil (Syntax.ttcons
-      (Syntax.tcons (Syntax.tyInt Syntax.w64) Syntax.tnil) (Syntax.ttcons (Syntax.tcons (Syntax.tyInt Syntax.w64) Syntax.tnil) (Syntax.ttcons Syntax.tnil (Syntax.ttcons (Syntax.tcons (Syntax.tyInt
-      Syntax.w64) (Syntax.tcons (Syntax.tyInt Syntax.w64) Syntax.tnil)) (Syntax.ttcons (Syntax.tcons (Syntax.tyInt Syntax.w64) Syntax.tnil) Syntax.ttnil)))))))))))))))),
-) (List._∷_ (
-  19,
-  Rows.any-gone
-      Syntax.tyBool,
-) (List._∷_ (20, Rows.any-gone (Syntax.tyInt Syntax.w64)) (List._∷_ (
-  21,
-  Rows.any-gone (Syntax.tyEnum (List._∷_ 115 (List._∷_ 116 (List._∷_ 114 (List._∷_ 101 (List._∷_ 97 (List._∷_
-      109 (List._∷_ 58 (List._∷_ 58 (List._∷_ 82 (List._∷_ 101 (List._∷_ 102 (List._∷_ 117 (List._∷_ 115 (List._∷_ 97 (List._∷_ 108 List.[]))))))))))))))) (Syntax.ttcons Syntax.tnil (Syntax.ttcons
-      Syntax.tnil (Syntax.ttcons Syntax.tnil (Syntax.ttcons (Syntax.tcons (Syntax.tyInt Syntax.w64) Syntax.tnil) (Syntax.ttcons Syntax.tnil (Syntax.ttcons Syntax.tnil (Syntax.ttcons Syntax.tnil
-      (Syntax.ttcons Syntax.tnil (Syntax.ttcons Syntax.tnil (Syntax.ttcons Syntax.tnil (Syntax.ttcons (Syntax.tcons (Syntax.tyInt Syntax.w64) Syntax.tnil) (Syntax.ttcons (Syntax.tcons (Syntax.tyInt
-      Syntax.w64) Syntax.tnil) (Syntax.ttcons Syntax.tnil (Syntax.ttcons (Syntax.tcons (Syntax.tyInt Syntax.w64) (Syntax.tcons (Syntax.tyInt Syntax.w64) Syntax.tnil)) (Syntax.ttcons (Syntax.tcons
-      (Syntax.tyInt Syntax.w64) Syntax.tnil) Syntax.ttnil)))))))))))))))),
-) (List._∷_ (
-  22,
-  Rows.any-gone (Syntax.tyEnum (List._∷_ 119 (List._∷_ 114 (List._∷_ 105 (List._∷_ 116 (List._∷_ 105 (List._∷_ 110
-      (List._∷_ 103 (List._∷_ 58 (List._∷_ 58 (List._∷_ 80 (List._∷_ 117 (List._∷_ 116 List.[])))))))))))) (Syntax.ttcons (Syntax.tcons (Syntax.tyStruct (List._∷_ 98 (List._∷_ 105 (List._∷_ 116 (List._∷_
-      115 (List._∷_ 58 (List._∷_ 58 (List._∷_ 66 (List._∷_ 105 (List._∷_ 116 (List._∷_ 80 (List._∷_ 111 (List._∷_ 115 (List._∷_ 105 (List._∷_ 116 (List._∷_ 105 (List._∷_ 111 (List._∷_ 110
-      List.[]))))))))))))))))) (Syntax.tcons (Syntax.tyInt Syntax.w64) Syntax.tnil)) Syntax.tnil) (Syntax.ttcons (Syntax.tcons (Syntax.tyInt Syntax.w64) Syntax.tnil) Syntax.ttnil))),
-) (List._∷_ (
-  23,
-  Rows.any-gone (Syntax.tyRef Syntax.erased Syntax.mut (Syntax.tyInt Syntax.w8)),
-) (List._∷_ (
-  24,
-  Mut.mslice (Referent.rtF (Referent.fInt Syntax.w8)) (Syntax.tyRef Syntax.erased Syntax.mut (Syntax.tyInt
-      Syntax.w8)) 7,
-) (List._∷_ (25, Rows.any-gone (Syntax.tyRef Syntax.erased Syntax.mut (Syntax.tyInt Syntax.w16))) (List._∷_ (
-  26,
-  Mut.mslice (Referent.rtF (Referent.fInt Syntax.w16)) (Syntax.tyRef
-      Syntax.erased Syntax.mut (Syntax.tyInt Syntax.w16)) 8,
-) (List._∷_ (27, Relend.msptr (Element.type) (Syntax.tyRef Syntax.erased Syntax.mut Element.behind) 9) (List._∷_ (
-  28,
-  Rows.any-gone
-      (Syntax.tyStruct (List._∷_ 38 (List._∷_ 91 (List._∷_ 93 List.[]))) (Syntax.tcons (Syntax.tyRef Syntax.erased Syntax.mut Element.behind) (Syntax.tcons (Syntax.tyInt Syntax.w64) Syntax.tnil))),
-)
+t13 = List._∷_ e17 (List._∷_ e19 (List._∷_ e20 (List._∷_ e22 (List._∷_ e27 (List._∷_ e29 (List._∷_ e30 (List._∷_ e31 (List._∷_ e34 (List._∷_ e35 (List._∷_ e38 (List._∷_ e39 (List._∷_ e41
     List.[]))))))))))))
 
+abbrev pub t14 : List.List Row.Entry
+t14 = List._∷_ e0 (List._∷_ e2 (List._∷_ e24 (List._∷_ e43 (List._∷_ e46 (List._∷_ e49 (List._∷_ e51 (List._∷_ e53 (List._∷_ e56 (List._∷_ e58 (List._∷_ e3 (List._∷_ e6 (List._∷_ e9 (List._∷_ e11
+    (List._∷_ e12 (List._∷_ e16 List.[])))))))))))))))
+
+abbrev pub t15 : List.List Row.Entry
+t15 = List._∷_ e0 (List._∷_ e2 (List._∷_ e24 (List._∷_ e42 (List._∷_ e46 (List._∷_ e49 (List._∷_ e51 (List._∷_ e53 (List._∷_ e56 (List._∷_ e58 (List._∷_ e3 (List._∷_ e6 (List._∷_ e9 (List._∷_ e11
+    (List._∷_ e14 (List._∷_ e16 List.[])))))))))))))))
+
+abbrev pub t16 : List.List Row.Entry
+t16 = List._∷_ e0 (List._∷_ e2 (List._∷_ e24 (List._∷_ e42 (List._∷_ e45 (List._∷_ e49 (List._∷_ e51 (List._∷_ e53 (List._∷_ e56 (List._∷_ e58 (List._∷_ e3 (List._∷_ e6 (List._∷_ e9 (List._∷_ e11
+    (List._∷_ e14 (List._∷_ e16 List.[])))))))))))))))
+
+abbrev pub t17 : List.List Row.Entry
+t17 = List._∷_ e0 (List._∷_ e2 (List._∷_ e24 (List._∷_ e42 (List._∷_ e45 (List._∷_ e49 (List._∷_ e51 (List._∷_ e55 (List._∷_ e56 (List._∷_ e58 (List._∷_ e3 (List._∷_ e6 (List._∷_ e9 (List._∷_ e11
+    (List._∷_ e14 (List._∷_ e16 List.[])))))))))))))))
+
+abbrev pub t18 : List.List Row.Entry
+t18 = List._∷_ e0 (List._∷_ e2 (List._∷_ e24 (List._∷_ e42 (List._∷_ e45 (List._∷_ e48 (List._∷_ e51 (List._∷_ e55 (List._∷_ e56 (List._∷_ e58 (List._∷_ e3 (List._∷_ e6 (List._∷_ e9 (List._∷_ e11
+    (List._∷_ e14 (List._∷_ e16 List.[])))))))))))))))
+
+abbrev pub t19 : List.List Row.Entry
+t19 = List._∷_ e0 (List._∷_ e2 (List._∷_ e24 (List._∷_ e42 (List._∷_ e45 (List._∷_ e48 (List._∷_ e51 (List._∷_ e55 (List._∷_ e57 (List._∷_ e58 (List._∷_ e3 (List._∷_ e6 (List._∷_ e9 (List._∷_ e11
+    (List._∷_ e14 (List._∷_ e16 List.[])))))))))))))))
+
+abbrev pub t20 : List.List Row.Entry
+t20 = List._∷_ e0 (List._∷_ e2 (List._∷_ e24 (List._∷_ e42 (List._∷_ e45 (List._∷_ e48 (List._∷_ e51 (List._∷_ e52 (List._∷_ e57 (List._∷_ e58 (List._∷_ e3 (List._∷_ e6 (List._∷_ e9 (List._∷_ e11
+    (List._∷_ e14 (List._∷_ e16 List.[])))))))))))))))
+
+abbrev pub t21 : List.List Row.Entry
+t21 = List._∷_ e17 (List._∷_ e18 (List._∷_ e21 (List._∷_ e22 (List._∷_ e27 (List._∷_ e29 (List._∷_ e30 (List._∷_ e31 (List._∷_ e34 (List._∷_ e35 (List._∷_ e38 (List._∷_ e39 (List._∷_ e41
+    List.[]))))))))))))
+
+abbrev pub t22 : List.List Row.Entry
+t22 = List._∷_ e17 (List._∷_ e19 (List._∷_ e21 (List._∷_ e22 (List._∷_ e27 (List._∷_ e29 (List._∷_ e30 (List._∷_ e31 (List._∷_ e34 (List._∷_ e35 (List._∷_ e38 (List._∷_ e39 (List._∷_ e41
+    List.[]))))))))))))
+
+abbrev pub t23 : List.List Row.Entry
+t23 = List._∷_ e0 (List._∷_ e2 (List._∷_ e24 (List._∷_ e42 (List._∷_ e45 (List._∷_ e49 (List._∷_ e51 (List._∷_ e54 (List._∷_ e56 (List._∷_ e58 (List._∷_ e3 (List._∷_ e6 (List._∷_ e9 (List._∷_ e11
+    (List._∷_ e14 (List._∷_ e16 List.[])))))))))))))))
+
+abbrev pub t24 : List.List Row.Entry
+t24 = List._∷_ e0 (List._∷_ e2 (List._∷_ e24 (List._∷_ e42 (List._∷_ e45 (List._∷_ e49 (List._∷_ e51 (List._∷_ e54 (List._∷_ e56 (List._∷_ e59 (List._∷_ e3 (List._∷_ e6 (List._∷_ e9 (List._∷_ e11
+    (List._∷_ e14 (List._∷_ e16 List.[])))))))))))))))
+
+abbrev pub t25 : List.List Row.Entry
+t25 = List._∷_ e0 (List._∷_ e2 (List._∷_ e24 (List._∷_ e42 (List._∷_ e45 (List._∷_ e49 (List._∷_ e51 (List._∷_ e52 (List._∷_ e56 (List._∷_ e59 (List._∷_ e3 (List._∷_ e6 (List._∷_ e9 (List._∷_ e11
+    (List._∷_ e14 (List._∷_ e16 List.[])))))))))))))))
+
+abbrev pub t26 : List.List Row.Entry
+t26 = List._∷_ e0 (List._∷_ e2 (List._∷_ e24 (List._∷_ e42 (List._∷_ e45 (List._∷_ e49 (List._∷_ e51 (List._∷_ e52 (List._∷_ e56 (List._∷_ e59 (List._∷_ e4 (List._∷_ e6 (List._∷_ e9 (List._∷_ e11
+    (List._∷_ e14 (List._∷_ e16 List.[])))))))))))))))
+
+abbrev pub t27 : List.List Row.Entry
+t27 = List._∷_ e0 (List._∷_ e2 (List._∷_ e24 (List._∷_ e42 (List._∷_ e45 (List._∷_ e49 (List._∷_ e51 (List._∷_ e52 (List._∷_ e56 (List._∷_ e58 (List._∷_ e4 (List._∷_ e6 (List._∷_ e9 (List._∷_ e11
+    (List._∷_ e14 (List._∷_ e16 List.[])))))))))))))))
+
+abbrev pub t28 : List.List Row.Entry
+t28 = List._∷_ e17 (List._∷_ e18 (List._∷_ e20 (List._∷_ e22 (List._∷_ e28 (List._∷_ e29 (List._∷_ e30 (List._∷_ e31 (List._∷_ e34 (List._∷_ e35 (List._∷_ e38 (List._∷_ e39 (List._∷_ e41
+    List.[]))))))))))))
+
+abbrev pub t29 : List.List Row.Entry
+t29 = List._∷_ e17 (List._∷_ e18 (List._∷_ e20 (List._∷_ e23 (List._∷_ e28 (List._∷_ e29 (List._∷_ e30 (List._∷_ e31 (List._∷_ e34 (List._∷_ e35 (List._∷_ e38 (List._∷_ e39 (List._∷_ e41
+    List.[]))))))))))))
+
+abbrev pub t30 : List.List Row.Entry
+t30 = List._∷_ e17 (List._∷_ e18 (List._∷_ e20 (List._∷_ e23 (List._∷_ e27 (List._∷_ e29 (List._∷_ e30 (List._∷_ e31 (List._∷_ e34 (List._∷_ e35 (List._∷_ e38 (List._∷_ e39 (List._∷_ e41
+    List.[]))))))))))))
+
+abbrev pub t31 : List.List Row.Entry
+t31 = List._∷_ e0 (List._∷_ e2 (List._∷_ e24 (List._∷_ e42 (List._∷_ e45 (List._∷_ e48 (List._∷_ e51 (List._∷_ e52 (List._∷_ e56 (List._∷_ e58 (List._∷_ e4 (List._∷_ e6 (List._∷_ e9 (List._∷_ e11
+    (List._∷_ e14 (List._∷_ e16 List.[])))))))))))))))
+
+abbrev pub t32 : List.List Row.Entry
+t32 = List._∷_ e17 (List._∷_ e18 (List._∷_ e20 (List._∷_ e22 (List._∷_ e27 (List._∷_ (21, Rows.whole (Declared.row Refusal.the-type)) (List._∷_ e30 (List._∷_ e31 (List._∷_ e34 (List._∷_ e35 (List._∷_
+    e38 (List._∷_ e39 (List._∷_ e41 List.[]))))))))))))
+
+abbrev pub t33 : List.List Row.Entry
+t33 = List._∷_ e1 (List._∷_ e2 (List._∷_ e24 (List._∷_ e42 (List._∷_ e45 (List._∷_ e48 (List._∷_ e51 (List._∷_ e52 (List._∷_ e56 (List._∷_ e58 (List._∷_ e4 (List._∷_ e6 (List._∷_ e9 (List._∷_ e11
+    (List._∷_ e14 (List._∷_ e16 List.[])))))))))))))))
+
+abbrev pub t34 : List.List Row.Entry
+t34 = List._∷_ e1 (List._∷_ e2 (List._∷_ e24 (List._∷_ e42 (List._∷_ e45 (List._∷_ e48 (List._∷_ e50 (List._∷_ e52 (List._∷_ e56 (List._∷_ e58 (List._∷_ e4 (List._∷_ e6 (List._∷_ e9 (List._∷_ e11
+    (List._∷_ e14 (List._∷_ e16 List.[])))))))))))))))
+
+abbrev pub t35 : List.List Row.Entry
+t35 = List._∷_ e0 (List._∷_ e2 (List._∷_ e26 (List._∷_ e42 (List._∷_ e45 (List._∷_ e49 (List._∷_ e51 (List._∷_ e52 (List._∷_ e56 (List._∷_ e58 (List._∷_ e4 (List._∷_ e6 (List._∷_ e9 (List._∷_ e11
+    (List._∷_ e14 (List._∷_ e16 List.[])))))))))))))))
+
+abbrev pub t36 : List.List Row.Entry
+t36 = List._∷_ e17 (List._∷_ e18 (List._∷_ e20 (List._∷_ e22 (List._∷_ e27 (List._∷_ e29 (List._∷_ e30 (List._∷_
+    (23, Relend.msptr (Referent.rtF (Referent.fInt Syntax.w8)) (Syntax.tyRef Syntax.erased Syntax.mut (Syntax.tyInt Syntax.w8)) 7) (List._∷_ e34 (List._∷_ e35 (List._∷_ e38 (List._∷_ e39 (List._∷_ e41
+    List.[]))))))))))))
+
+abbrev pub t37 : List.List Row.Entry
+t37 = List._∷_ e17 (List._∷_ e18 (List._∷_ e20 (List._∷_ e22 (List._∷_ e27 (List._∷_ e29 (List._∷_ e30 (List._∷_ e31 (List._∷_ e33 (List._∷_ e35 (List._∷_ e38 (List._∷_ e39 (List._∷_ e41
+    List.[]))))))))))))
+
+abbrev pub t38 : List.List Row.Entry
+t38 = List._∷_ e0 (List._∷_ e2 (List._∷_ e26 (List._∷_ e44 (List._∷_ e45 (List._∷_ e49 (List._∷_ e51 (List._∷_ e52 (List._∷_ e56 (List._∷_ e58 (List._∷_ e4 (List._∷_ e6 (List._∷_ e9 (List._∷_ e11
+    (List._∷_ e14 (List._∷_ e16 List.[])))))))))))))))
+
+abbrev pub t39 : List.List Row.Entry
+t39 = List._∷_ e17 (List._∷_ e18 (List._∷_ e20 (List._∷_ e22 (List._∷_ e27 (List._∷_ e29 (List._∷_ e30 (List._∷_ e31 (List._∷_ e33 (List._∷_
+    (25, Relend.msptr (Referent.rtF (Referent.fInt Syntax.w16)) (Syntax.tyRef Syntax.erased Syntax.mut (Syntax.tyInt Syntax.w16)) 8) (List._∷_ e38 (List._∷_ e39 (List._∷_ e41 List.[]))))))))))))
+
+abbrev pub t40 : List.List Row.Entry
+t40 = List._∷_ e17 (List._∷_ e18 (List._∷_ e20 (List._∷_ e22 (List._∷_ e27 (List._∷_ e29 (List._∷_ e30 (List._∷_ e31 (List._∷_ e33 (List._∷_ e35 (List._∷_ e37 (List._∷_ e39 (List._∷_ e41
+    List.[]))))))))))))
+
+abbrev pub t41 : List.List Row.Entry
+t41 = List._∷_ e0 (List._∷_ e2 (List._∷_ e26 (List._∷_ e44 (List._∷_ e47 (List._∷_ e49 (List._∷_ e51 (List._∷_ e52 (List._∷_ e56 (List._∷_ e58 (List._∷_ e4 (List._∷_ e6 (List._∷_ e9 (List._∷_ e11
+    (List._∷_ e14 (List._∷_ e16 List.[])))))))))))))))
+
+abbrev pub t42 : List.List Row.Entry
+t42 = List._∷_ e17 (List._∷_ e18 (List._∷_ e20 (List._∷_ e22 (List._∷_ e27 (List._∷_ e29 (List._∷_ e30 (List._∷_ e31 (List._∷_ e33 (List._∷_ e35 (List._∷_ e37 (List._∷_
+    (27, Relend.msptr (Element.type) (Syntax.tyRef Syntax.erased Syntax.mut Element.behind) 9) (List._∷_ e41 List.[]))))))))))))
+
 abbrev pub t43 : List.List Row.Entry
-t43 = List._∷_ (
-  16,
-  Rows.any-gone (Syntax.tyStruct (List._∷_ 38 (List._∷_ 91 (List._∷_ 93 List.[]))) (Syntax.tcons (Syntax.tyRef Syntax.erased Syntax.mut Element.behind) (Syntax.tcons (Syntax.tyInt
-      Syntax.w64) Syntax.tnil))),
-) (List._∷_ (
-  17,
-  Rows.any-gone (Syntax.tyEnum (List._∷_ 98 (List._∷_ 108 (List._∷_ 111 (List._∷_ 99 (List._∷_ 107 (List._∷_ 58 (List._∷_ 58 (List._∷_ 87 (List._∷_ 114
-      (List._∷_ 105 (List._∷_ 116 (List._∷_ 116 (List._∷_ 101 (List._∷_ 110 List.[])))))))))))))) (Syntax.ttcons (Syntax.tcons (Syntax.tyInt Syntax.w64) Syntax.tnil) (Syntax.ttcons (Syntax.tcons
-      (Syntax.tyEnum (List._∷_ 115 (List._∷_ 116 (List._∷_ 114 (List._∷_ 101 (List._∷_ 97 (List._∷_ 109 (List._∷_ 58 (List._∷_ 58 (List._∷_ 82 (List._∷_ 101 (List._∷_ 102 (List._∷_ 117 (List._∷_ 115
-      (List._∷_ 97 (List._∷_ 108 List.[]))))))))))))))) (Syntax.ttcons Syntax.tnil (Syntax.ttcons Syntax.tnil (Syntax.ttcons Syntax.tnil (Syntax.ttcons (Syntax.tcons (Syntax.tyInt Syntax.w64) Syntax.tnil)
-      (Syntax.ttcons Syntax.tnil (Syntax.ttcons Syntax.tnil (Syntax.ttcons Syntax.tnil (Syntax.ttcons Syntax.tnil (Syntax.ttcons Syntax.tnil (Syntax.ttcons Syntax.tnil (Syntax.ttcons (Syntax.tcons
-      (Syntax.tyInt Syntax.w64) Syntax.tnil) (Syntax.ttcons (Syntax.tcons (Syntax.tyInt Syntax.w64) Syntax.tnil) (Syntax.ttcons Syntax.tnil (Syntax.ttcons (Syntax.tcons (Syntax.tyInt Syntax.w64)
-      (Syntax.tcons (Syntax.tyInt Syntax.w64) Syntax.tnil)) (Syntax.ttcons (Syntax.tcons (Syntax.tyInt Syntax.w64) Syntax.tnil) Syntax.ttnil)))))))))))))))) Syntax.tnil) Syntax.ttnil))),
-) (List._∷_ (
-  18,
-  Rows.any-gone (Syntax.tyEnum (List._∷_ 115 (List._∷_ 116 (List._∷_ 114 (List._∷_ 101 (List._∷_ 97 (List._∷_ 109 (List._∷_ 58 (List._∷_ 58 (List._∷_ 82 (List._∷_ 101 (List._∷_ 102 (List._∷_ 117
-      (List._∷_ 115 (List._∷_ 97 (List._∷_ 108 List.[]))))))))))))))) (Syntax.ttcons Syntax.tnil (Syntax.ttcons Syntax.tnil (Syntax.ttcons Syntax.tnil (Syntax.ttcons (Syntax.tcons (Syntax.tyInt Syntax.w64)
-      Syntax.tnil) (Syntax.ttcons Syntax.tnil (Syntax.ttcons Syntax.tnil (Syntax.ttcons Syntax.tnil (Syntax.ttcons Syntax.tnil (Syntax.ttcons Syntax.tnil (Syntax.ttcons Syntax.tnil (Syntax.ttcons
-      (Syntax.tcons (Syntax.tyInt Syntax.w64) Syntax.tnil) (Syntax.ttcons (Syntax.tcons (Syntax.tyInt Syntax.w64) Syntax.tnil) (Syntax.ttcons Syntax.tnil (Syntax.ttcons (Syntax.tcons (Syntax.tyInt
-      Syntax.w64) (Syntax.tcons (Syntax.tyInt Syntax.w64) Syntax.tnil)) (Syntax.ttcons (Syntax.tcons (Syntax.tyInt Syntax.w64) Syntax.tnil) Syntax.ttnil)))))))))))))))),
-) (List._∷_ (
-  19,
-  Rows.any-gone
-      Syntax.tyBool,
-) (List._∷_ (20, Rows.any-gone (Syntax.tyInt Syntax.w64)) (List._∷_ (
-  21,
-  Rows.any-gone (Syntax.tyEnum (List._∷_ 115 (List._∷_ 116 (List._∷_ 114 (List._∷_ 101 (List._∷_ 97 (List._∷_
-      109 (List._∷_ 58 (List._∷_ 58 (List._∷_ 82 (List._∷_ 101 (List._∷_ 102 (List._∷_ 117 (List._∷_ 115 (List._∷_ 97 (List._∷_ 108 List.[]))))))))))))))) (Syntax.ttcons Syntax.tnil (Syntax.ttcons
-      Syntax.tnil (Syntax.ttcons Syntax.tnil (Syntax.ttcons (Syntax.tcons (Syntax.tyInt Syntax.w64) Syntax.tnil) (Syntax.ttcons Syntax.tnil (Syntax.ttcons Syntax.tnil (Syntax.ttcons Syntax.tnil
-      (Syntax.ttcons Syntax.tnil (Syntax.ttcons Syntax.tnil (Syntax.ttcons Syntax.tnil (Syntax.ttcons (Syntax.tcons (Syntax.tyInt Syntax.w64) Syntax.tnil) (Syntax.ttcons (Syntax.tcons (Syntax.tyInt
-      Syntax.w64) Syntax.tnil) (Syntax.ttcons Syntax.tnil (Syntax.ttcons (Syntax.tcons (Syntax.tyInt Syntax.w64) (Syntax.tcons (Syntax.tyInt Syntax.w64) Syntax.tnil)) (Syntax.ttcons (Syntax.tcons
-      (Syntax.tyInt Syntax.w64) Syntax.tnil) Syntax.ttnil)))))))))))))))),
-) (List._∷_ (
-  22,
-  Rows.any-gone (Syntax.tyEnum (List._∷_ 119 (List._∷_ 114 (List._∷_ 105 (List._∷_ 116 (List._∷_ 105 (List._∷_ 110
-      (List._∷_ 103 (List._∷_ 58 (List._∷_ 58 (List._∷_ 80 (List._∷_ 117 (List._∷_ 116 List.[])))))))))))) (Syntax.ttcons (Syntax.tcons (Syntax.tyStruct (List._∷_ 98 (List._∷_ 105 (List._∷_ 116 (List._∷_
-      115 (List._∷_ 58 (List._∷_ 58 (List._∷_ 66 (List._∷_ 105 (List._∷_ 116 (List._∷_ 80 (List._∷_ 111 (List._∷_ 115 (List._∷_ 105 (List._∷_ 116 (List._∷_ 105 (List._∷_ 111 (List._∷_ 110
-      List.[]))))))))))))))))) (Syntax.tcons (Syntax.tyInt Syntax.w64) Syntax.tnil)) Syntax.tnil) (Syntax.ttcons (Syntax.tcons (Syntax.tyInt Syntax.w64) Syntax.tnil) Syntax.ttnil))),
-) (List._∷_ (
-  23,
-  Rows.any-gone (Syntax.tyRef Syntax.erased Syntax.mut (Syntax.tyInt Syntax.w8)),
-) (List._∷_ (
-  24,
-  Mut.mslice (Referent.rtF (Referent.fInt Syntax.w8)) (Syntax.tyRef Syntax.erased Syntax.mut (Syntax.tyInt
-      Syntax.w8)) 7,
-) (List._∷_ (25, Rows.any-gone (Syntax.tyRef Syntax.erased Syntax.mut (Syntax.tyInt Syntax.w16))) (List._∷_ (
-  26,
-  Mut.mslice (Referent.rtF (Referent.fInt Syntax.w16)) (Syntax.tyRef
-      Syntax.erased Syntax.mut (Syntax.tyInt Syntax.w16)) 8,
-) (List._∷_ (27, Rows.any-gone (Syntax.tyRef Syntax.erased Syntax.mut Element.behind)) (List._∷_ (
-  28,
-  Mut.mslice (Element.type) (Syntax.tyRef
-      Syntax.erased Syntax.mut Element.behind) 9,
-) List.[]))))))))))))
+t43 = List._∷_ e17 (List._∷_ e18 (List._∷_ e20 (List._∷_ e22 (List._∷_ e27 (List._∷_ e29 (List._∷_ e30 (List._∷_ e31 (List._∷_ e33 (List._∷_ e35 (List._∷_ e37 (List._∷_ e39 (List._∷_
+    (28, Mut.mslice (Element.type) (Syntax.tyRef Syntax.erased Syntax.mut Element.behind) 9) List.[]))))))))))))
 
 abbrev pub t44 : List.List Row.Entry
-t44 = List._∷_ (
-  16,
-  Rows.any-gone (Syntax.tyStruct (List._∷_ 38 (List._∷_ 91 (List._∷_ 93 List.[]))) (Syntax.tcons (Syntax.tyRef Syntax.erased Syntax.mut Element.behind) (Syntax.tcons (Syntax.tyInt
-      Syntax.w64) Syntax.tnil))),
-) (List._∷_ (
-  17,
-  Rows.any-gone (Syntax.tyEnum (List._∷_ 98 (List._∷_ 108 (List._∷_ 111 (List._∷_ 99 (List._∷_ 107 (List._∷_ 58 (List._∷_ 58 (List._∷_ 87 (List._∷_ 114
-      (List._∷_ 105 (List._∷_ 116 (List._∷_ 116 (List._∷_ 101 (List._∷_ 110 List.[])))))))))))))) (Syntax.ttcons (Syntax.tcons (Syntax.tyInt Syntax.w64) Syntax.tnil) (Syntax.ttcons (Syntax.tcons
-      (Syntax.tyEnum (List._∷_ 115 (List._∷_ 116 (List._∷_ 114 (List._∷_ 101 (List._∷_ 97 (List._∷_ 109 (List._∷_ 58 (List._∷_ 58 (List._∷_ 82 (List._∷_ 101 (List._∷_ 102 (List._∷_ 117 (List._∷_ 115
-      (List._∷_ 97 (List._∷_ 108 List.[]))))))))))))))) (Syntax.ttcons Syntax.tnil (Syntax.ttcons Syntax.tnil (Syntax.ttcons Syntax.tnil (Syntax.ttcons (Syntax.tcons (Syntax.tyInt Syntax.w64) Syntax.tnil)
-      (Syntax.ttcons Syntax.tnil (Syntax.ttcons Syntax.tnil (Syntax.ttcons Syntax.tnil (Syntax.ttcons Syntax.tnil (Syntax.ttcons Syntax.tnil (Syntax.ttcons Syntax.tnil (Syntax.ttcons (Syntax.tcons
-      (Syntax.tyInt Syntax.w64) Syntax.tnil) (Syntax.ttcons (Syntax.tcons (Syntax.tyInt Syntax.w64) Syntax.tnil) (Syntax.ttcons Syntax.tnil (Syntax.ttcons (Syntax.tcons (Syntax.tyInt Syntax.w64)
-      (Syntax.tcons (Syntax.tyInt Syntax.w64) Syntax.tnil)) (Syntax.ttcons (Syntax.tcons (Syntax.tyInt Syntax.w64) Syntax.tnil) Syntax.ttnil)))))))))))))))) Syntax.tnil) Syntax.ttnil))),
-) (List._∷_ (
-  18,
-  Rows.any-gone (Syntax.tyEnum (List._∷_ 115 (List._∷_ 116 (List._∷_ 114 (List._∷_ 101 (List._∷_ 97 (List._∷_ 109 (List._∷_ 58 (List._∷_ 58 (List._∷_ 82 (List._∷_ 101 (List._∷_ 102 (List._∷_ 117
-      (List._∷_ 115 (List._∷_ 97 (List._∷_ 108 List.[]))))))))))))))) (Syntax.ttcons Syntax.tnil (Syntax.ttcons Syntax.tnil (Syntax.ttcons Syntax.tnil (Syntax.ttcons (Syntax.tcons (Syntax.tyInt Syntax.w64)
-      Syntax.tnil) (Syntax.ttcons Syntax.tnil (Syntax.ttcons Syntax.tnil (Syntax.ttcons Syntax.tnil (Syntax.ttcons Syntax.tnil (Syntax.ttcons Syntax.tnil (Syntax.ttcons Syntax.tnil (Syntax.ttcons
-      (Syntax.tcons (Syntax.tyInt Syntax.w64) Syntax.tnil) (Syntax.ttcons (Syntax.tcons (Syntax.tyInt Syntax.w64) Syntax.tnil) (Syntax.ttcons Syntax.tnil (Syntax.ttcons (Syntax.tcons (Syntax.tyInt
-      Syntax.w64) (Syntax.tcons (Syntax.tyInt Syntax.w64) Syntax.tnil)) (Syntax.ttcons (Syntax.tcons (Syntax.tyInt Syntax.w64) Syntax.tnil) Syntax.ttnil)))))))))))))))),
-) (List._∷_ (
-  19,
-  Rows.any-gone
-      Syntax.tyBool,
-) (List._∷_ (20, Rows.any-gone (Syntax.tyInt Syntax.w64)) (List._∷_ (
-  21,
-  Rows.any-gone (Syntax.tyEnum (List._∷_ 115 (List._∷_ 116 (List._∷_ 114 (List._∷_ 101 (List._∷_ 97 (List._∷_
-      109 (List._∷_ 58 (List._∷_ 58 (List._∷_ 82 (List._∷_ 101 (List._∷_ 102 (List._∷_ 117 (List._∷_ 115 (List._∷_ 97 (List._∷_ 108 List.[]))))))))))))))) (Syntax.ttcons Syntax.tnil (Syntax.ttcons
-      Syntax.tnil (Syntax.ttcons Syntax.tnil (Syntax.ttcons (Syntax.tcons (Syntax.tyInt Syntax.w64) Syntax.tnil) (Syntax.ttcons Syntax.tnil (Syntax.ttcons Syntax.tnil (Syntax.ttcons Syntax.tnil
-      (Syntax.ttcons Syntax.tnil (Syntax.ttcons Syntax.tnil (Syntax.ttcons Syntax.tnil (Syntax.ttcons (Syntax.tcons (Syntax.tyInt Syntax.w64) Syntax.tnil) (Syntax.ttcons (Syntax.tcons (Syntax.tyInt
-      Syntax.w64) Syntax.tnil) (Syntax.ttcons Syntax.tnil (Syntax.ttcons (Syntax.tcons (Syntax.tyInt Syntax.w64) (Syntax.tcons (Syntax.tyInt Syntax.w64) Syntax.tnil)) (Syntax.ttcons (Syntax.tcons
-      (Syntax.tyInt Syntax.w64) Syntax.tnil) Syntax.ttnil)))))))))))))))),
-) (List._∷_ (22, Rows.whole (Declared.row Put.the-type)) (List._∷_ (
-  23,
-  Rows.any-gone (Syntax.tyRef Syntax.erased Syntax.mut
-      (Syntax.tyInt Syntax.w8)),
-) (List._∷_ (24, Mut.msleft (Referent.rtF (Referent.fInt Syntax.w8)) (Syntax.tyRef Syntax.erased Syntax.mut (Syntax.tyInt Syntax.w8))) (List._∷_ (
-  25,
-  Rows.any-gone
-      (Syntax.tyRef Syntax.erased Syntax.mut (Syntax.tyInt Syntax.w16)),
-) (List._∷_ (
-  26,
-  Mut.msleft (Referent.rtF (Referent.fInt Syntax.w16)) (Syntax.tyRef Syntax.erased Syntax.mut (Syntax.tyInt
-      Syntax.w16)),
-) (List._∷_ (27, Rows.any-gone (Syntax.tyRef Syntax.erased Syntax.mut Element.behind)) (List._∷_ (
-  28,
-  Mut.msleft (Element.type) (Syntax.tyRef Syntax.erased Syntax.mut
-      Element.behind),
-) List.[]))))))))))))
+t44 = List._∷_ e17 (List._∷_ e18 (List._∷_ e20 (List._∷_ e22 (List._∷_ e27 (List._∷_ e29 (List._∷_ (22, Rows.whole (Declared.row Put.the-type)) (List._∷_ e31 (List._∷_ e32 (List._∷_ e35 (List._∷_ e36
+    (List._∷_ e39 (List._∷_ e40 List.[]))))))))))))
 
 abbrev pub t45 : List.List Row.Entry
-t45 = List._∷_ (
-  0,
-  Rows.any-gone (Syntax.tyEnum (List._∷_ 98 (List._∷_ 108 (List._∷_ 111 (List._∷_ 99 (List._∷_ 107 (List._∷_ 58 (List._∷_ 58 (List._∷_ 87 (List._∷_ 114 (List._∷_ 105 (List._∷_ 116
-      (List._∷_ 116 (List._∷_ 101 (List._∷_ 110 List.[])))))))))))))) (Syntax.ttcons (Syntax.tcons (Syntax.tyInt Syntax.w64) Syntax.tnil) (Syntax.ttcons (Syntax.tcons (Syntax.tyEnum (List._∷_ 115 (List._∷_
-      116 (List._∷_ 114 (List._∷_ 101 (List._∷_ 97 (List._∷_ 109 (List._∷_ 58 (List._∷_ 58 (List._∷_ 82 (List._∷_ 101 (List._∷_ 102 (List._∷_ 117 (List._∷_ 115 (List._∷_ 97 (List._∷_ 108
-      List.[]))))))))))))))) (Syntax.ttcons Syntax.tnil (Syntax.ttcons Syntax.tnil (Syntax.ttcons Syntax.tnil (Syntax.ttcons (Syntax.tcons (Syntax.tyInt Syntax.w64) Syntax.tnil) (Syntax.ttcons Syntax.tnil
-      (Syntax.ttcons Syntax.tnil (Syntax.ttcons Syntax.tnil (Syntax.ttcons Syntax.tnil (Syntax.ttcons Syntax.tnil (Syntax.ttcons Syntax.tnil (Syntax.ttcons (Syntax.tcons (Syntax.tyInt Syntax.w64)
-      Syntax.tnil) (Syntax.ttcons (Syntax.tcons (Syntax.tyInt Syntax.w64) Syntax.tnil) (Syntax.ttcons Syntax.tnil (Syntax.ttcons (Syntax.tcons (Syntax.tyInt Syntax.w64) (Syntax.tcons (Syntax.tyInt
-      Syntax.w64) Syntax.tnil)) (Syntax.ttcons (Syntax.tcons (Syntax.tyInt Syntax.w64) Syntax.tnil) Syntax.ttnil)))))))))))))))) Syntax.tnil) Syntax.ttnil))),
-) (List._∷_ (
-  1,
-  Rows.sslice (Referent.rtF
-      (Referent.fInt Syntax.w16)) (Syntax.tyRef (Syntax.named 0) Syntax.imm (Syntax.tyInt Syntax.w16)) 0,
-) (List._∷_ (
-  2,
-  Relend.mslice-owed (Referent.rtF (Referent.fInt Syntax.w8)) (Syntax.tyRef
-      (Syntax.named 1) Syntax.mut (Syntax.tyInt Syntax.w8)) 1 7 Row.off,
-) (List._∷_ (
-  3,
-  Relend.mslice-owed (Referent.rtF (Referent.fInt Syntax.w16)) (Syntax.tyRef (Syntax.named 2) Syntax.mut (Syntax.tyInt
-      Syntax.w16)) 2 8 Row.off,
-) (List._∷_ (4, Relend.mslice-owed (Element.type) (Syntax.tyRef (Syntax.named 3) Syntax.mut Element.behind) 3 9 Row.off) (List._∷_ (
-  5,
-  Rows.any-gone (Syntax.tyStruct
-      (List._∷_ 98 (List._∷_ 108 (List._∷_ 111 (List._∷_ 99 (List._∷_ 107 (List._∷_ 58 (List._∷_ 58 (List._∷_ 70 (List._∷_ 111 (List._∷_ 114 (List._∷_ 109 List.[]))))))))))) (Syntax.tcons (Syntax.tyInt
-      Syntax.w32) (Syntax.tcons Syntax.tyBool Syntax.tnil))),
-) (List._∷_ (6, Rows.sc-here (Row.sInt Syntax.w64)) (List._∷_ (
-  7,
-  Rows.any-gone (Syntax.tyEnum (List._∷_ 119 (List._∷_ 114 (List._∷_ 105
-      (List._∷_ 116 (List._∷_ 105 (List._∷_ 110 (List._∷_ 103 (List._∷_ 58 (List._∷_ 58 (List._∷_ 80 (List._∷_ 117 (List._∷_ 116 List.[])))))))))))) (Syntax.ttcons (Syntax.tcons (Syntax.tyStruct (List._∷_
-      98 (List._∷_ 105 (List._∷_ 116 (List._∷_ 115 (List._∷_ 58 (List._∷_ 58 (List._∷_ 66 (List._∷_ 105 (List._∷_ 116 (List._∷_ 80 (List._∷_ 111 (List._∷_ 115 (List._∷_ 105 (List._∷_ 116 (List._∷_ 105
-      (List._∷_ 111 (List._∷_ 110 List.[]))))))))))))))))) (Syntax.tcons (Syntax.tyInt Syntax.w64) Syntax.tnil)) Syntax.tnil) (Syntax.ttcons (Syntax.tcons (Syntax.tyInt Syntax.w64) Syntax.tnil)
-      Syntax.ttnil))),
-) (List._∷_ (8, Rows.any-gone (Syntax.tyInt Syntax.w64)) (List._∷_ (
-  9,
-  Rows.any-gone (Syntax.tyStruct (List._∷_ 98 (List._∷_ 105 (List._∷_ 116 (List._∷_ 115 (List._∷_ 58 (List._∷_ 58
-      (List._∷_ 66 (List._∷_ 105 (List._∷_ 116 (List._∷_ 80 (List._∷_ 111 (List._∷_ 115 (List._∷_ 105 (List._∷_ 116 (List._∷_ 105 (List._∷_ 111 (List._∷_ 110 List.[]))))))))))))))))) (Syntax.tcons
-      (Syntax.tyInt Syntax.w64) Syntax.tnil)),
-) (List._∷_ (10, Rows.sc-here (Row.sInt Syntax.w64)) (List._∷_ (11, Rows.any-gone (Syntax.tyRef Syntax.erased Syntax.mut (Syntax.tyInt Syntax.w8)))
-    (List._∷_ (
-      12,
-      Rows.any-gone (Syntax.tyStruct (List._∷_ 38 (List._∷_ 91 (List._∷_ 93 List.[]))) (Syntax.tcons (Syntax.tyRef Syntax.erased Syntax.mut (Syntax.tyInt Syntax.w8)) (Syntax.tcons
-          (Syntax.tyInt Syntax.w64) Syntax.tnil))),
-    ) (List._∷_ (13, Rows.any-gone (Syntax.tyRef Syntax.erased Syntax.mut (Syntax.tyInt Syntax.w16))) (List._∷_ (
-      14,
-      Rows.any-gone (Syntax.tyStruct (List._∷_
-          38 (List._∷_ 91 (List._∷_ 93 List.[]))) (Syntax.tcons (Syntax.tyRef Syntax.erased Syntax.mut (Syntax.tyInt Syntax.w16)) (Syntax.tcons (Syntax.tyInt Syntax.w64) Syntax.tnil))),
-    ) (List._∷_ (
-      15,
-      Rows.any-gone (Syntax.tyRef Syntax.erased Syntax.mut Element.behind),
-    ) List.[])))))))))))))))
+t45 = List._∷_ e0 (List._∷_ e2 (List._∷_ e26 (List._∷_ e44 (List._∷_ e47 (List._∷_ e48 (List._∷_ e51 (List._∷_ e52 (List._∷_ e56 (List._∷_ e58 (List._∷_ e4 (List._∷_ e6 (List._∷_ e9 (List._∷_ e11
+    (List._∷_ e14 (List._∷_ e16 List.[])))))))))))))))
 
 abbrev pub t46 : List.List Row.Entry
-t46 = List._∷_ (
-  16,
-  Rows.any-gone (Syntax.tyStruct (List._∷_ 38 (List._∷_ 91 (List._∷_ 93 List.[]))) (Syntax.tcons (Syntax.tyRef Syntax.erased Syntax.mut Element.behind) (Syntax.tcons (Syntax.tyInt
-      Syntax.w64) Syntax.tnil))),
-) (List._∷_ (
-  17,
-  Rows.any-gone (Syntax.tyEnum (List._∷_ 98 (List._∷_ 108 (List._∷_ 111 (List._∷_ 99 (List._∷_ 107 (List._∷_ 58 (List._∷_ 58 (List._∷_ 87 (List._∷_ 114
-      (List._∷_ 105 (List._∷_ 116 (List._∷_ 116 (List._∷_ 101 (List._∷_ 110 List.[])))))))))))))) (Syntax.ttcons (Syntax.tcons (Syntax.tyInt Syntax.w64) Syntax.tnil) (Syntax.ttcons (Syntax.tcons
-      (Syntax.tyEnum (List._∷_ 115 (List._∷_ 116 (List._∷_ 114 (List._∷_ 101 (List._∷_ 97 (List._∷_ 109 (List._∷_ 58 (List._∷_ 58 (List._∷_ 82 (List._∷_ 101 (List._∷_ 102 (List._∷_ 117 (List._∷_ 115
-      (List._∷_ 97 (List._∷_ 108 List.[]))))))))))))))) (Syntax.ttcons Syntax.tnil (Syntax.ttcons Syntax.tnil (Syntax.ttcons Syntax.tnil (Syntax.ttcons (Syntax.tcons (Syntax.tyInt Syntax.w64) Syntax.tnil)
-      (Syntax.ttcons Syntax.tnil (Syntax.ttcons Syntax.tnil (Syntax.ttcons Syntax.tnil (Syntax.ttcons Syntax.tnil (Syntax.ttcons Syntax.tnil (Syntax.ttcons Syntax.tnil (Syntax.ttcons (Syntax.tcons
-      (Syntax.tyInt Syntax.w64) Syntax.tnil) (Syntax.ttcons (Syntax.tcons (Syntax.tyInt Syntax.w64) Syntax.tnil) (Syntax.ttcons Syntax.tnil (Syntax.ttcons (Syntax.tcons (Syntax.tyInt Syntax.w64)
-      (Syntax.tcons (Syntax.tyInt Syntax.w64) Syntax.tnil)) (Syntax.ttcons (Syntax.tcons (Syntax.tyInt Syntax.w64) Syntax.tnil) Syntax.ttnil)))))))))))))))) Syntax.tnil) Syntax.ttnil))),
-) (List._∷_ (
-  18,
-  Rows.any-gone (Syntax.tyEnum (List._∷_ 115 (List._∷_ 116 (List._∷_ 114 (List._∷_ 101 (List._∷_ 97 (List._∷_ 109 (List._∷_ 58 (List._∷_ 58 (List._∷_ 82 (List._∷_ 101 (List._∷_ 102 (List._∷_ 117
-      (List._∷_ 115 (List._∷_ 97 (List._∷_ 108 List.[]))))))))))))))) (Syntax.ttcons Syntax.tnil (Syntax.ttcons Syntax.tnil (Syntax.ttcons Syntax.tnil (Syntax.ttcons (Syntax.tcons (Syntax.tyInt Syntax.w64)
-      Syntax.tnil) (Syntax.ttcons Syntax.tnil (Syntax.ttcons Syntax.tnil (Syntax.ttcons Syntax.tnil (Syntax.ttcons Syntax.tnil (Syntax.ttcons Syntax.tnil (Syntax.ttcons Syntax.tnil (Syntax.ttcons
-      (Syntax.tcons (Syntax.tyInt Syntax.w64) Syntax.tnil) (Syntax.ttcons (Syntax.tcons (Syntax.tyInt Syntax.w64) Syntax.tnil) (Syntax.ttcons Syntax.tnil (Syntax.ttcons (Syntax.tcons (Syntax.tyInt
-      Syntax.w64) (Syntax.tcons (Syntax.tyInt Syntax.w64) Syntax.tnil)) (Syntax.ttcons (Syntax.tcons (Syntax.tyInt Syntax.w64) Syntax.tnil) Syntax.ttnil)))))))))))))))),
-) (List._∷_ (
-  19,
-  Rows.any-gone
-      Syntax.tyBool,
-) (List._∷_ (20, Rows.any-gone (Syntax.tyInt Syntax.w64)) (List._∷_ (
-  21,
-  Rows.any-gone (Syntax.tyEnum (List._∷_ 115 (List._∷_ 116 (List._∷_ 114 (List._∷_ 101 (List._∷_ 97 (List._∷_
-      109 (List._∷_ 58 (List._∷_ 58 (List._∷_ 82 (List._∷_ 101 (List._∷_ 102 (List._∷_ 117 (List._∷_ 115 (List._∷_ 97 (List._∷_ 108 List.[]))))))))))))))) (Syntax.ttcons Syntax.tnil (Syntax.ttcons
-      Syntax.tnil (Syntax.ttcons Syntax.tnil (Syntax.ttcons (Syntax.tcons (Syntax.tyInt Syntax.w64) Syntax.tnil) (Syntax.ttcons Syntax.tnil (Syntax.ttcons Syntax.tnil (Syntax.ttcons Syntax.tnil
-      (Syntax.ttcons Syntax.tnil (Syntax.ttcons Syntax.tnil (Syntax.ttcons Syntax.tnil (Syntax.ttcons (Syntax.tcons (Syntax.tyInt Syntax.w64) Syntax.tnil) (Syntax.ttcons (Syntax.tcons (Syntax.tyInt
-      Syntax.w64) Syntax.tnil) (Syntax.ttcons Syntax.tnil (Syntax.ttcons (Syntax.tcons (Syntax.tyInt Syntax.w64) (Syntax.tcons (Syntax.tyInt Syntax.w64) Syntax.tnil)) (Syntax.ttcons (Syntax.tcons
-      (Syntax.tyInt Syntax.w64) Syntax.tnil) Syntax.ttnil)))))))))))))))),
-) (List._∷_ (
-  22,
-  Rows.any-gone (Syntax.tyEnum (List._∷_ 119 (List._∷_ 114 (List._∷_ 105 (List._∷_ 116 (List._∷_ 105 (List._∷_ 110
-      (List._∷_ 103 (List._∷_ 58 (List._∷_ 58 (List._∷_ 80 (List._∷_ 117 (List._∷_ 116 List.[])))))))))))) (Syntax.ttcons (Syntax.tcons (Syntax.tyStruct (List._∷_ 98 (List._∷_ 105 (List._∷_ 116 (List._∷_
-      115 (List._∷_ 58 (List._∷_ 58 (List._∷_ 66 (List._∷_ 105 (List._∷_ 116 (List._∷_ 80 (List._∷_ 111 (List._∷_ 115 (List._∷_ 105 (List._∷_ 116 (List._∷_ 105 (List._∷_ 111 (List._∷_ 110
-      List.[]))))))))))))))))) (Syntax.tcons (Syntax.tyInt Syntax.w64) Syntax.tnil)) Syntax.tnil) (Syntax.ttcons (Syntax.tcons (Syntax.tyInt Syntax.w64) Syntax.tnil) Syntax.ttnil))),
-) (List._∷_ (
-  23,
-  Rows.any-gone (Syntax.tyRef Syntax.erased Syntax.mut (Syntax.tyInt Syntax.w8)),
-) (List._∷_ (
-  24,
-  Mut.msleft (Referent.rtF (Referent.fInt Syntax.w8)) (Syntax.tyRef Syntax.erased Syntax.mut (Syntax.tyInt
-      Syntax.w8)),
-) (List._∷_ (25, Rows.any-gone (Syntax.tyRef Syntax.erased Syntax.mut (Syntax.tyInt Syntax.w16))) (List._∷_ (
-  26,
-  Mut.msleft (Referent.rtF (Referent.fInt Syntax.w16)) (Syntax.tyRef
-      Syntax.erased Syntax.mut (Syntax.tyInt Syntax.w16)),
-) (List._∷_ (27, Rows.any-gone (Syntax.tyRef Syntax.erased Syntax.mut Element.behind)) (List._∷_ (
-  28,
-  Mut.msleft (Element.type) (Syntax.tyRef
-      Syntax.erased Syntax.mut Element.behind),
-) List.[]))))))))))))
+t46 = List._∷_ e17 (List._∷_ e18 (List._∷_ e20 (List._∷_ e22 (List._∷_ e27 (List._∷_ e29 (List._∷_ e30 (List._∷_ e31 (List._∷_ e32 (List._∷_ e35 (List._∷_ e36 (List._∷_ e39 (List._∷_ e40
+    List.[]))))))))))))
 
 abbrev pub t47 : List.List Row.Entry
-t47 = List._∷_ (
-  0,
-  Rows.any-gone (Syntax.tyEnum (List._∷_ 98 (List._∷_ 108 (List._∷_ 111 (List._∷_ 99 (List._∷_ 107 (List._∷_ 58 (List._∷_ 58 (List._∷_ 87 (List._∷_ 114 (List._∷_ 105 (List._∷_ 116
-      (List._∷_ 116 (List._∷_ 101 (List._∷_ 110 List.[])))))))))))))) (Syntax.ttcons (Syntax.tcons (Syntax.tyInt Syntax.w64) Syntax.tnil) (Syntax.ttcons (Syntax.tcons (Syntax.tyEnum (List._∷_ 115 (List._∷_
-      116 (List._∷_ 114 (List._∷_ 101 (List._∷_ 97 (List._∷_ 109 (List._∷_ 58 (List._∷_ 58 (List._∷_ 82 (List._∷_ 101 (List._∷_ 102 (List._∷_ 117 (List._∷_ 115 (List._∷_ 97 (List._∷_ 108
-      List.[]))))))))))))))) (Syntax.ttcons Syntax.tnil (Syntax.ttcons Syntax.tnil (Syntax.ttcons Syntax.tnil (Syntax.ttcons (Syntax.tcons (Syntax.tyInt Syntax.w64) Syntax.tnil) (Syntax.ttcons Syntax.tnil
-      (Syntax.ttcons Syntax.tnil (Syntax.ttcons Syntax.tnil (Syntax.ttcons Syntax.tnil (Syntax.ttcons Syntax.tnil (Syntax.ttcons Syntax.tnil (Syntax.ttcons (Syntax.tcons (Syntax.tyInt Syntax.w64)
-      Syntax.tnil) (Syntax.ttcons (Syntax.tcons (Syntax.tyInt Syntax.w64) Syntax.tnil) (Syntax.ttcons Syntax.tnil (Syntax.ttcons (Syntax.tcons (Syntax.tyInt Syntax.w64) (Syntax.tcons (Syntax.tyInt
-      Syntax.w64) Syntax.tnil)) (Syntax.ttcons (Syntax.tcons (Syntax.tyInt Syntax.w64) Syntax.tnil) Syntax.ttnil)))))))))))))))) Syntax.tnil) Syntax.ttnil))),
-) (List._∷_ (
-  1,
-  Rows.sslice (Referent.rtF
-      (Referent.fInt Syntax.w16)) (Syntax.tyRef (Syntax.named 0) Syntax.imm (Syntax.tyInt Syntax.w16)) 0,
-) (List._∷_ (
-  2,
-  Mut.mslice (Referent.rtF (Referent.fInt Syntax.w8)) (Syntax.tyRef (Syntax.named 1)
-      Syntax.mut (Syntax.tyInt Syntax.w8)) 1,
-) (List._∷_ (
-  3,
-  Relend.mslice-owed (Referent.rtF (Referent.fInt Syntax.w16)) (Syntax.tyRef (Syntax.named 2) Syntax.mut (Syntax.tyInt Syntax.w16)) 2 8 Row.off,
-) (List._∷_ (4, Relend.mslice-owed (Element.type) (Syntax.tyRef (Syntax.named 3) Syntax.mut Element.behind) 3 9 Row.off) (List._∷_ (
-  5,
-  Rows.any-gone (Syntax.tyStruct (List._∷_ 98 (List._∷_ 108
-      (List._∷_ 111 (List._∷_ 99 (List._∷_ 107 (List._∷_ 58 (List._∷_ 58 (List._∷_ 70 (List._∷_ 111 (List._∷_ 114 (List._∷_ 109 List.[]))))))))))) (Syntax.tcons (Syntax.tyInt Syntax.w32) (Syntax.tcons
-      Syntax.tyBool Syntax.tnil))),
-) (List._∷_ (6, Rows.sc-here (Row.sInt Syntax.w64)) (List._∷_ (
-  7,
-  Rows.any-gone (Syntax.tyEnum (List._∷_ 119 (List._∷_ 114 (List._∷_ 105 (List._∷_ 116 (List._∷_ 105
-      (List._∷_ 110 (List._∷_ 103 (List._∷_ 58 (List._∷_ 58 (List._∷_ 80 (List._∷_ 117 (List._∷_ 116 List.[])))))))))))) (Syntax.ttcons (Syntax.tcons (Syntax.tyStruct (List._∷_ 98 (List._∷_ 105 (List._∷_
-      116 (List._∷_ 115 (List._∷_ 58 (List._∷_ 58 (List._∷_ 66 (List._∷_ 105 (List._∷_ 116 (List._∷_ 80 (List._∷_ 111 (List._∷_ 115 (List._∷_ 105 (List._∷_ 116 (List._∷_ 105 (List._∷_ 111 (List._∷_ 110
-      List.[]))))))))))))))))) (Syntax.tcons (Syntax.tyInt Syntax.w64) Syntax.tnil)) Syntax.tnil) (Syntax.ttcons (Syntax.tcons (Syntax.tyInt Syntax.w64) Syntax.tnil) Syntax.ttnil))),
-) (List._∷_ (
-  8,
-  Rows.any-gone (Syntax.tyInt Syntax.w64),
-) (List._∷_ (
-  9,
-  Rows.any-gone (Syntax.tyStruct (List._∷_ 98 (List._∷_ 105 (List._∷_ 116 (List._∷_ 115 (List._∷_ 58 (List._∷_ 58 (List._∷_ 66 (List._∷_ 105
-      (List._∷_ 116 (List._∷_ 80 (List._∷_ 111 (List._∷_ 115 (List._∷_ 105 (List._∷_ 116 (List._∷_ 105 (List._∷_ 111 (List._∷_ 110 List.[]))))))))))))))))) (Syntax.tcons (Syntax.tyInt Syntax.w64)
-      Syntax.tnil)),
-) (List._∷_ (10, Rows.sc-here (Row.sInt Syntax.w64)) (List._∷_ (11, Rows.any-gone (Syntax.tyRef Syntax.erased Syntax.mut (Syntax.tyInt Syntax.w8))) (List._∷_ (
-  12,
-  Rows.any-gone
-      (Syntax.tyStruct (List._∷_ 38 (List._∷_ 91 (List._∷_ 93 List.[]))) (Syntax.tcons (Syntax.tyRef Syntax.erased Syntax.mut (Syntax.tyInt Syntax.w8)) (Syntax.tcons (Syntax.tyInt Syntax.w64)
-      Syntax.tnil))),
-) (List._∷_ (13, Rows.any-gone (Syntax.tyRef Syntax.erased Syntax.mut (Syntax.tyInt Syntax.w16))) (List._∷_ (
-  14,
-  Rows.any-gone (Syntax.tyStruct (List._∷_ 38 (List._∷_ 91 (List._∷_
-      93 List.[]))) (Syntax.tcons (Syntax.tyRef Syntax.erased Syntax.mut (Syntax.tyInt Syntax.w16)) (Syntax.tcons (Syntax.tyInt Syntax.w64) Syntax.tnil))),
-) (List._∷_ (
-  15,
-  Rows.any-gone (Syntax.tyRef
-      Syntax.erased Syntax.mut Element.behind),
-) List.[])))))))))))))))
+t47 = List._∷_ e0 (List._∷_ e2 (List._∷_ e24 (List._∷_ e44 (List._∷_ e47 (List._∷_ e48 (List._∷_ e51 (List._∷_ e52 (List._∷_ e56 (List._∷_ e58 (List._∷_ e4 (List._∷_ e6 (List._∷_ e9 (List._∷_ e11
+    (List._∷_ e14 (List._∷_ e16 List.[])))))))))))))))
 
 abbrev pub t48 : List.List Row.Entry
-t48 = List._∷_ (
-  16,
-  Rows.any-gone (Syntax.tyStruct (List._∷_ 38 (List._∷_ 91 (List._∷_ 93 List.[]))) (Syntax.tcons (Syntax.tyRef Syntax.erased Syntax.mut Element.behind) (Syntax.tcons (Syntax.tyInt
-      Syntax.w64) Syntax.tnil))),
-) (List._∷_ (
-  17,
-  Rows.any-gone (Syntax.tyEnum (List._∷_ 98 (List._∷_ 108 (List._∷_ 111 (List._∷_ 99 (List._∷_ 107 (List._∷_ 58 (List._∷_ 58 (List._∷_ 87 (List._∷_ 114
-      (List._∷_ 105 (List._∷_ 116 (List._∷_ 116 (List._∷_ 101 (List._∷_ 110 List.[])))))))))))))) (Syntax.ttcons (Syntax.tcons (Syntax.tyInt Syntax.w64) Syntax.tnil) (Syntax.ttcons (Syntax.tcons
-      (Syntax.tyEnum (List._∷_ 115 (List._∷_ 116 (List._∷_ 114 (List._∷_ 101 (List._∷_ 97 (List._∷_ 109 (List._∷_ 58 (List._∷_ 58 (List._∷_ 82 (List._∷_ 101 (List._∷_ 102 (List._∷_ 117 (List._∷_ 115
-      (List._∷_ 97 (List._∷_ 108 List.[]))))))))))))))) (Syntax.ttcons Syntax.tnil (Syntax.ttcons Syntax.tnil (Syntax.ttcons Syntax.tnil (Syntax.ttcons (Syntax.tcons (Syntax.tyInt Syntax.w64) Syntax.tnil)
-      (Syntax.ttcons Syntax.tnil (Syntax.ttcons Syntax.tnil (Syntax.ttcons Syntax.tnil (Syntax.ttcons Syntax.tnil (Syntax.ttcons Syntax.tnil (Syntax.ttcons Syntax.tnil (Syntax.ttcons (Syntax.tcons
-      (Syntax.tyInt Syntax.w64) Syntax.tnil) (Syntax.ttcons (Syntax.tcons (Syntax.tyInt Syntax.w64) Syntax.tnil) (Syntax.ttcons Syntax.tnil (Syntax.ttcons (Syntax.tcons (Syntax.tyInt Syntax.w64)
-      (Syntax.tcons (Syntax.tyInt Syntax.w64) Syntax.tnil)) (Syntax.ttcons (Syntax.tcons (Syntax.tyInt Syntax.w64) Syntax.tnil) Syntax.ttnil)))))))))))))))) Syntax.tnil) Syntax.ttnil))),
-) (List._∷_ (
-  18,
-  Rows.any-gone (Syntax.tyEnum (List._∷_ 115 (List._∷_ 116 (List._∷_ 114 (List._∷_ 101 (List._∷_ 97 (List._∷_ 109 (List._∷_ 58 (List._∷_ 58 (List._∷_ 82 (List._∷_ 101 (List._∷_ 102 (List._∷_ 117
-      (List._∷_ 115 (List._∷_ 97 (List._∷_ 108 List.[]))))))))))))))) (Syntax.ttcons Syntax.tnil (Syntax.ttcons Syntax.tnil (Syntax.ttcons Syntax.tnil (Syntax.ttcons (Syntax.tcons (Syntax.tyInt Syntax.w64)
-      Syntax.tnil) (Syntax.ttcons Syntax.tnil (Syntax.ttcons Syntax.tnil (Syntax.ttcons Syntax.tnil (Syntax.ttcons Syntax.tnil (Syntax.ttcons Syntax.tnil (Syntax.ttcons Syntax.tnil (Syntax.ttcons
-      (Syntax.tcons (Syntax.tyInt Syntax.w64) Syntax.tnil) (Syntax.ttcons (Syntax.tcons (Syntax.tyInt Syntax.w64) Syntax.tnil) (Syntax.ttcons Syntax.tnil (Syntax.ttcons (Syntax.tcons (Syntax.tyInt
-      Syntax.w64) (Syntax.tcons (Syntax.tyInt Syntax.w64) Syntax.tnil)) (Syntax.ttcons (Syntax.tcons (Syntax.tyInt Syntax.w64) Syntax.tnil) Syntax.ttnil)))))))))))))))),
-) (List._∷_ (
-  19,
-  Rows.any-gone
-      Syntax.tyBool,
-) (List._∷_ (20, Rows.any-gone (Syntax.tyInt Syntax.w64)) (List._∷_ (
-  21,
-  Rows.any-gone (Syntax.tyEnum (List._∷_ 115 (List._∷_ 116 (List._∷_ 114 (List._∷_ 101 (List._∷_ 97 (List._∷_
-      109 (List._∷_ 58 (List._∷_ 58 (List._∷_ 82 (List._∷_ 101 (List._∷_ 102 (List._∷_ 117 (List._∷_ 115 (List._∷_ 97 (List._∷_ 108 List.[]))))))))))))))) (Syntax.ttcons Syntax.tnil (Syntax.ttcons
-      Syntax.tnil (Syntax.ttcons Syntax.tnil (Syntax.ttcons (Syntax.tcons (Syntax.tyInt Syntax.w64) Syntax.tnil) (Syntax.ttcons Syntax.tnil (Syntax.ttcons Syntax.tnil (Syntax.ttcons Syntax.tnil
-      (Syntax.ttcons Syntax.tnil (Syntax.ttcons Syntax.tnil (Syntax.ttcons Syntax.tnil (Syntax.ttcons (Syntax.tcons (Syntax.tyInt Syntax.w64) Syntax.tnil) (Syntax.ttcons (Syntax.tcons (Syntax.tyInt
-      Syntax.w64) Syntax.tnil) (Syntax.ttcons Syntax.tnil (Syntax.ttcons (Syntax.tcons (Syntax.tyInt Syntax.w64) (Syntax.tcons (Syntax.tyInt Syntax.w64) Syntax.tnil)) (Syntax.ttcons (Syntax.tcons
-      (Syntax.tyInt Syntax.w64) Syntax.tnil) Syntax.ttnil)))))))))))))))),
-) (List._∷_ (
-  22,
-  Rows.any-gone (Syntax.tyEnum (List._∷_ 119 (List._∷_ 114 (List._∷_ 105 (List._∷_ 116 (List._∷_ 105 (List._∷_ 110
-      (List._∷_ 103 (List._∷_ 58 (List._∷_ 58 (List._∷_ 80 (List._∷_ 117 (List._∷_ 116 List.[])))))))))))) (Syntax.ttcons (Syntax.tcons (Syntax.tyStruct (List._∷_ 98 (List._∷_ 105 (List._∷_ 116 (List._∷_
-      115 (List._∷_ 58 (List._∷_ 58 (List._∷_ 66 (List._∷_ 105 (List._∷_ 116 (List._∷_ 80 (List._∷_ 111 (List._∷_ 115 (List._∷_ 105 (List._∷_ 116 (List._∷_ 105 (List._∷_ 111 (List._∷_ 110
-      List.[]))))))))))))))))) (Syntax.tcons (Syntax.tyInt Syntax.w64) Syntax.tnil)) Syntax.tnil) (Syntax.ttcons (Syntax.tcons (Syntax.tyInt Syntax.w64) Syntax.tnil) Syntax.ttnil))),
-) (List._∷_ (
-  23,
-  Rows.any-gone (Syntax.tyRef Syntax.erased Syntax.mut (Syntax.tyInt Syntax.w8)),
-) (List._∷_ (
-  24,
-  Rows.any-gone (Syntax.tyStruct (List._∷_ 38 (List._∷_ 91 (List._∷_ 93 List.[]))) (Syntax.tcons
-      (Syntax.tyRef Syntax.erased Syntax.mut (Syntax.tyInt Syntax.w8)) (Syntax.tcons (Syntax.tyInt Syntax.w64) Syntax.tnil))),
-) (List._∷_ (
-  25,
-  Rows.any-gone (Syntax.tyRef Syntax.erased Syntax.mut
-      (Syntax.tyInt Syntax.w16)),
-) (List._∷_ (26, Mut.msleft (Referent.rtF (Referent.fInt Syntax.w16)) (Syntax.tyRef Syntax.erased Syntax.mut (Syntax.tyInt Syntax.w16))) (List._∷_ (
-  27,
-  Rows.any-gone
-      (Syntax.tyRef Syntax.erased Syntax.mut Element.behind),
-) (List._∷_ (28, Mut.msleft (Element.type) (Syntax.tyRef Syntax.erased Syntax.mut Element.behind)) List.[]))))))))))))
+t48 = List._∷_ e17 (List._∷_ e18 (List._∷_ e20 (List._∷_ e22 (List._∷_ e27 (List._∷_ e29 (List._∷_ e30 (List._∷_ e31 (List._∷_ e34 (List._∷_ e35 (List._∷_ e36 (List._∷_ e39 (List._∷_ e40
+    List.[]))))))))))))
 
 abbrev pub t49 : List.List Row.Entry
-t49 = List._∷_ (
-  0,
-  Rows.any-gone (Syntax.tyEnum (List._∷_ 98 (List._∷_ 108 (List._∷_ 111 (List._∷_ 99 (List._∷_ 107 (List._∷_ 58 (List._∷_ 58 (List._∷_ 87 (List._∷_ 114 (List._∷_ 105 (List._∷_ 116
-      (List._∷_ 116 (List._∷_ 101 (List._∷_ 110 List.[])))))))))))))) (Syntax.ttcons (Syntax.tcons (Syntax.tyInt Syntax.w64) Syntax.tnil) (Syntax.ttcons (Syntax.tcons (Syntax.tyEnum (List._∷_ 115 (List._∷_
-      116 (List._∷_ 114 (List._∷_ 101 (List._∷_ 97 (List._∷_ 109 (List._∷_ 58 (List._∷_ 58 (List._∷_ 82 (List._∷_ 101 (List._∷_ 102 (List._∷_ 117 (List._∷_ 115 (List._∷_ 97 (List._∷_ 108
-      List.[]))))))))))))))) (Syntax.ttcons Syntax.tnil (Syntax.ttcons Syntax.tnil (Syntax.ttcons Syntax.tnil (Syntax.ttcons (Syntax.tcons (Syntax.tyInt Syntax.w64) Syntax.tnil) (Syntax.ttcons Syntax.tnil
-      (Syntax.ttcons Syntax.tnil (Syntax.ttcons Syntax.tnil (Syntax.ttcons Syntax.tnil (Syntax.ttcons Syntax.tnil (Syntax.ttcons Syntax.tnil (Syntax.ttcons (Syntax.tcons (Syntax.tyInt Syntax.w64)
-      Syntax.tnil) (Syntax.ttcons (Syntax.tcons (Syntax.tyInt Syntax.w64) Syntax.tnil) (Syntax.ttcons Syntax.tnil (Syntax.ttcons (Syntax.tcons (Syntax.tyInt Syntax.w64) (Syntax.tcons (Syntax.tyInt
-      Syntax.w64) Syntax.tnil)) (Syntax.ttcons (Syntax.tcons (Syntax.tyInt Syntax.w64) Syntax.tnil) Syntax.ttnil)))))))))))))))) Syntax.tnil) Syntax.ttnil))),
-) (List._∷_ (
-  1,
-  Rows.sslice (Referent.rtF
-      (Referent.fInt Syntax.w16)) (Syntax.tyRef (Syntax.named 0) Syntax.imm (Syntax.tyInt Syntax.w16)) 0,
-) (List._∷_ (
-  2,
-  Mut.mslice (Referent.rtF (Referent.fInt Syntax.w8)) (Syntax.tyRef (Syntax.named 1)
-      Syntax.mut (Syntax.tyInt Syntax.w8)) 1,
-) (List._∷_ (3, Mut.mslice (Referent.rtF (Referent.fInt Syntax.w16)) (Syntax.tyRef (Syntax.named 2) Syntax.mut (Syntax.tyInt Syntax.w16)) 2) (List._∷_ (
-  4,
-  Relend.mslice-owed (Element.type) (Syntax.tyRef (Syntax.named 3) Syntax.mut Element.behind) 3 9 Row.off,
-) (List._∷_ (
-  5,
-  Rows.any-gone (Syntax.tyStruct (List._∷_ 98 (List._∷_ 108 (List._∷_ 111
-      (List._∷_ 99 (List._∷_ 107 (List._∷_ 58 (List._∷_ 58 (List._∷_ 70 (List._∷_ 111 (List._∷_ 114 (List._∷_ 109 List.[]))))))))))) (Syntax.tcons (Syntax.tyInt Syntax.w32) (Syntax.tcons Syntax.tyBool
-      Syntax.tnil))),
-) (List._∷_ (6, Rows.sc-here (Row.sInt Syntax.w64)) (List._∷_ (
-  7,
-  Rows.any-gone (Syntax.tyEnum (List._∷_ 119 (List._∷_ 114 (List._∷_ 105 (List._∷_ 116 (List._∷_ 105 (List._∷_ 110
-      (List._∷_ 103 (List._∷_ 58 (List._∷_ 58 (List._∷_ 80 (List._∷_ 117 (List._∷_ 116 List.[])))))))))))) (Syntax.ttcons (Syntax.tcons (Syntax.tyStruct (List._∷_ 98 (List._∷_ 105 (List._∷_ 116 (List._∷_
-      115 (List._∷_ 58 (List._∷_ 58 (List._∷_ 66 (List._∷_ 105 (List._∷_ 116 (List._∷_ 80 (List._∷_ 111 (List._∷_ 115 (List._∷_ 105 (List._∷_ 116 (List._∷_ 105 (List._∷_ 111 (List._∷_ 110
-      List.[]))))))))))))))))) (Syntax.tcons (Syntax.tyInt Syntax.w64) Syntax.tnil)) Syntax.tnil) (Syntax.ttcons (Syntax.tcons (Syntax.tyInt Syntax.w64) Syntax.tnil) Syntax.ttnil))),
-) (List._∷_ (
-  8,
-  Rows.any-gone (Syntax.tyInt Syntax.w64),
-) (List._∷_ (
-  9,
-  Rows.any-gone (Syntax.tyStruct (List._∷_ 98 (List._∷_ 105 (List._∷_ 116 (List._∷_ 115 (List._∷_ 58 (List._∷_ 58 (List._∷_ 66 (List._∷_ 105
-      (List._∷_ 116 (List._∷_ 80 (List._∷_ 111 (List._∷_ 115 (List._∷_ 105 (List._∷_ 116 (List._∷_ 105 (List._∷_ 111 (List._∷_ 110 List.[]))))))))))))))))) (Syntax.tcons (Syntax.tyInt Syntax.w64)
-      Syntax.tnil)),
-) (List._∷_ (10, Rows.sc-here (Row.sInt Syntax.w64)) (List._∷_ (11, Rows.any-gone (Syntax.tyRef Syntax.erased Syntax.mut (Syntax.tyInt Syntax.w8))) (List._∷_ (
-  12,
-  Rows.any-gone
-      (Syntax.tyStruct (List._∷_ 38 (List._∷_ 91 (List._∷_ 93 List.[]))) (Syntax.tcons (Syntax.tyRef Syntax.erased Syntax.mut (Syntax.tyInt Syntax.w8)) (Syntax.tcons (Syntax.tyInt Syntax.w64)
-      Syntax.tnil))),
-) (List._∷_ (13, Rows.any-gone (Syntax.tyRef Syntax.erased Syntax.mut (Syntax.tyInt Syntax.w16))) (List._∷_ (
-  14,
-  Rows.any-gone (Syntax.tyStruct (List._∷_ 38 (List._∷_ 91 (List._∷_
-      93 List.[]))) (Syntax.tcons (Syntax.tyRef Syntax.erased Syntax.mut (Syntax.tyInt Syntax.w16)) (Syntax.tcons (Syntax.tyInt Syntax.w64) Syntax.tnil))),
-) (List._∷_ (
-  15,
-  Rows.any-gone (Syntax.tyRef
-      Syntax.erased Syntax.mut Element.behind),
-) List.[])))))))))))))))
+t49 = List._∷_ e0 (List._∷_ e2 (List._∷_ e24 (List._∷_ e42 (List._∷_ e47 (List._∷_ e48 (List._∷_ e51 (List._∷_ e52 (List._∷_ e56 (List._∷_ e58 (List._∷_ e4 (List._∷_ e6 (List._∷_ e9 (List._∷_ e11
+    (List._∷_ e14 (List._∷_ e16 List.[])))))))))))))))
 
 abbrev pub t50 : List.List Row.Entry
-t50 = List._∷_ (
-  16,
-  Rows.any-gone (Syntax.tyStruct (List._∷_ 38 (List._∷_ 91 (List._∷_ 93 List.[]))) (Syntax.tcons (Syntax.tyRef Syntax.erased Syntax.mut Element.behind) (Syntax.tcons (Syntax.tyInt
-      Syntax.w64) Syntax.tnil))),
-) (List._∷_ (
-  17,
-  Rows.any-gone (Syntax.tyEnum (List._∷_ 98 (List._∷_ 108 (List._∷_ 111 (List._∷_ 99 (List._∷_ 107 (List._∷_ 58 (List._∷_ 58 (List._∷_ 87 (List._∷_ 114
-      (List._∷_ 105 (List._∷_ 116 (List._∷_ 116 (List._∷_ 101 (List._∷_ 110 List.[])))))))))))))) (Syntax.ttcons (Syntax.tcons (Syntax.tyInt Syntax.w64) Syntax.tnil) (Syntax.ttcons (Syntax.tcons
-      (Syntax.tyEnum (List._∷_ 115 (List._∷_ 116 (List._∷_ 114 (List._∷_ 101 (List._∷_ 97 (List._∷_ 109 (List._∷_ 58 (List._∷_ 58 (List._∷_ 82 (List._∷_ 101 (List._∷_ 102 (List._∷_ 117 (List._∷_ 115
-      (List._∷_ 97 (List._∷_ 108 List.[]))))))))))))))) (Syntax.ttcons Syntax.tnil (Syntax.ttcons Syntax.tnil (Syntax.ttcons Syntax.tnil (Syntax.ttcons (Syntax.tcons (Syntax.tyInt Syntax.w64) Syntax.tnil)
-      (Syntax.ttcons Syntax.tnil (Syntax.ttcons Syntax.tnil (Syntax.ttcons Syntax.tnil (Syntax.ttcons Syntax.tnil (Syntax.ttcons Syntax.tnil (Syntax.ttcons Syntax.tnil (Syntax.ttcons (Syntax.tcons
-      (Syntax.tyInt Syntax.w64) Syntax.tnil) (Syntax.ttcons (Syntax.tcons (Syntax.tyInt Syntax.w64) Syntax.tnil) (Syntax.ttcons Syntax.tnil (Syntax.ttcons (Syntax.tcons (Syntax.tyInt Syntax.w64)
-      (Syntax.tcons (Syntax.tyInt Syntax.w64) Syntax.tnil)) (Syntax.ttcons (Syntax.tcons (Syntax.tyInt Syntax.w64) Syntax.tnil) Syntax.ttnil)))))))))))))))) Syntax.tnil) Syntax.ttnil))),
-) (List._∷_ (
-  18,
-  Rows.any-gone (Syntax.tyEnum (List._∷_ 115 (List._∷_ 116 (List._∷_ 114 (List._∷_ 101 (List._∷_ 97 (List._∷_ 109 (List._∷_ 58 (List._∷_ 58 (List._∷_ 82 (List._∷_ 101 (List._∷_ 102 (List._∷_ 117
-      (List._∷_ 115 (List._∷_ 97 (List._∷_ 108 List.[]))))))))))))))) (Syntax.ttcons Syntax.tnil (Syntax.ttcons Syntax.tnil (Syntax.ttcons Syntax.tnil (Syntax.ttcons (Syntax.tcons (Syntax.tyInt Syntax.w64)
-      Syntax.tnil) (Syntax.ttcons Syntax.tnil (Syntax.ttcons Syntax.tnil (Syntax.ttcons Syntax.tnil (Syntax.ttcons Syntax.tnil (Syntax.ttcons Syntax.tnil (Syntax.ttcons Syntax.tnil (Syntax.ttcons
-      (Syntax.tcons (Syntax.tyInt Syntax.w64) Syntax.tnil) (Syntax.ttcons (Syntax.tcons (Syntax.tyInt Syntax.w64) Syntax.tnil) (Syntax.ttcons Syntax.tnil (Syntax.ttcons (Syntax.tcons (Syntax.tyInt
-      Syntax.w64) (Syntax.tcons (Syntax.tyInt Syntax.w64) Syntax.tnil)) (Syntax.ttcons (Syntax.tcons (Syntax.tyInt Syntax.w64) Syntax.tnil) Syntax.ttnil)))))))))))))))),
-) (List._∷_ (
-  19,
-  Rows.any-gone
-      Syntax.tyBool,
-) (List._∷_ (20, Rows.any-gone (Syntax.tyInt Syntax.w64)) (List._∷_ (
-  21,
-  Rows.any-gone (Syntax.tyEnum (List._∷_ 115 (List._∷_ 116 (List._∷_ 114 (List._∷_ 101 (List._∷_ 97 (List._∷_
-      109 (List._∷_ 58 (List._∷_ 58 (List._∷_ 82 (List._∷_ 101 (List._∷_ 102 (List._∷_ 117 (List._∷_ 115 (List._∷_ 97 (List._∷_ 108 List.[]))))))))))))))) (Syntax.ttcons Syntax.tnil (Syntax.ttcons
-      Syntax.tnil (Syntax.ttcons Syntax.tnil (Syntax.ttcons (Syntax.tcons (Syntax.tyInt Syntax.w64) Syntax.tnil) (Syntax.ttcons Syntax.tnil (Syntax.ttcons Syntax.tnil (Syntax.ttcons Syntax.tnil
-      (Syntax.ttcons Syntax.tnil (Syntax.ttcons Syntax.tnil (Syntax.ttcons Syntax.tnil (Syntax.ttcons (Syntax.tcons (Syntax.tyInt Syntax.w64) Syntax.tnil) (Syntax.ttcons (Syntax.tcons (Syntax.tyInt
-      Syntax.w64) Syntax.tnil) (Syntax.ttcons Syntax.tnil (Syntax.ttcons (Syntax.tcons (Syntax.tyInt Syntax.w64) (Syntax.tcons (Syntax.tyInt Syntax.w64) Syntax.tnil)) (Syntax.ttcons (Syntax.tcons
-      (Syntax.tyInt Syntax.w64) Syntax.tnil) Syntax.ttnil)))))))))))))))),
-) (List._∷_ (
-  22,
-  Rows.any-gone (Syntax.tyEnum (List._∷_ 119 (List._∷_ 114 (List._∷_ 105 (List._∷_ 116 (List._∷_ 105 (List._∷_ 110
-      (List._∷_ 103 (List._∷_ 58 (List._∷_ 58 (List._∷_ 80 (List._∷_ 117 (List._∷_ 116 List.[])))))))))))) (Syntax.ttcons (Syntax.tcons (Syntax.tyStruct (List._∷_ 98 (List._∷_ 105 (List._∷_ 116 (List._∷_
-      115 (List._∷_ 58 (List._∷_ 58 (List._∷_ 66 (List._∷_ 105 (List._∷_ 116 (List._∷_ 80 (List._∷_ 111 (List._∷_ 115 (List._∷_ 105 (List._∷_ 116 (List._∷_ 105 (List._∷_ 111 (List._∷_ 110
-      List.[]))))))))))))))))) (Syntax.tcons (Syntax.tyInt Syntax.w64) Syntax.tnil)) Syntax.tnil) (Syntax.ttcons (Syntax.tcons (Syntax.tyInt Syntax.w64) Syntax.tnil) Syntax.ttnil))),
-) (List._∷_ (
-  23,
-  Rows.any-gone (Syntax.tyRef Syntax.erased Syntax.mut (Syntax.tyInt Syntax.w8)),
-) (List._∷_ (
-  24,
-  Rows.any-gone (Syntax.tyStruct (List._∷_ 38 (List._∷_ 91 (List._∷_ 93 List.[]))) (Syntax.tcons
-      (Syntax.tyRef Syntax.erased Syntax.mut (Syntax.tyInt Syntax.w8)) (Syntax.tcons (Syntax.tyInt Syntax.w64) Syntax.tnil))),
-) (List._∷_ (
-  25,
-  Rows.any-gone (Syntax.tyRef Syntax.erased Syntax.mut
-      (Syntax.tyInt Syntax.w16)),
-) (List._∷_ (
-  26,
-  Rows.any-gone (Syntax.tyStruct (List._∷_ 38 (List._∷_ 91 (List._∷_ 93 List.[]))) (Syntax.tcons (Syntax.tyRef Syntax.erased Syntax.mut (Syntax.tyInt
-      Syntax.w16)) (Syntax.tcons (Syntax.tyInt Syntax.w64) Syntax.tnil))),
-) (List._∷_ (27, Rows.any-gone (Syntax.tyRef Syntax.erased Syntax.mut Element.behind)) (List._∷_ (
-  28,
-  Mut.msleft (Element.type)
-      (Syntax.tyRef Syntax.erased Syntax.mut Element.behind),
-) List.[]))))))))))))
+t50 = List._∷_ e17 (List._∷_ e18 (List._∷_ e20 (List._∷_ e22 (List._∷_ e27 (List._∷_ e29 (List._∷_ e30 (List._∷_ e31 (List._∷_ e34 (List._∷_ e35 (List._∷_ e38 (List._∷_ e39 (List._∷_ e40
+    List.[]))))))))))))
 
 abbrev pub t51 : List.List Row.Entry
-t51 = List._∷_ (0, Rows.whole (Declared.row Written.the-type)) (List._∷_ (
-  1,
-  Rows.sslice (Referent.rtF (Referent.fInt Syntax.w16)) (Syntax.tyRef (Syntax.named 0) Syntax.imm (Syntax.tyInt Syntax.w16))
-      0,
-) (List._∷_ (2, Mut.mslice (Referent.rtF (Referent.fInt Syntax.w8)) (Syntax.tyRef (Syntax.named 1) Syntax.mut (Syntax.tyInt Syntax.w8)) 1) (List._∷_ (
-  3,
-  Mut.mslice (Referent.rtF (Referent.fInt
-      Syntax.w16)) (Syntax.tyRef (Syntax.named 2) Syntax.mut (Syntax.tyInt Syntax.w16)) 2,
-) (List._∷_ (4, Mut.mslice (Element.type) (Syntax.tyRef (Syntax.named 3) Syntax.mut Element.behind) 3) (List._∷_ (
-  5,
-  Rows.any-gone (Syntax.tyStruct (List._∷_ 98 (List._∷_ 108 (List._∷_ 111 (List._∷_ 99 (List._∷_ 107 (List._∷_ 58 (List._∷_ 58 (List._∷_ 70 (List._∷_ 111 (List._∷_ 114 (List._∷_ 109
-      List.[]))))))))))) (Syntax.tcons (Syntax.tyInt Syntax.w32) (Syntax.tcons Syntax.tyBool Syntax.tnil))),
-) (List._∷_ (6, Rows.sc-here (Row.sInt Syntax.w64)) (List._∷_ (
-  7,
-  Rows.any-gone (Syntax.tyEnum
-      (List._∷_ 119 (List._∷_ 114 (List._∷_ 105 (List._∷_ 116 (List._∷_ 105 (List._∷_ 110 (List._∷_ 103 (List._∷_ 58 (List._∷_ 58 (List._∷_ 80 (List._∷_ 117 (List._∷_ 116 List.[])))))))))))) (Syntax.ttcons
-      (Syntax.tcons (Syntax.tyStruct (List._∷_ 98 (List._∷_ 105 (List._∷_ 116 (List._∷_ 115 (List._∷_ 58 (List._∷_ 58 (List._∷_ 66 (List._∷_ 105 (List._∷_ 116 (List._∷_ 80 (List._∷_ 111 (List._∷_ 115
-      (List._∷_ 105 (List._∷_ 116 (List._∷_ 105 (List._∷_ 111 (List._∷_ 110 List.[]))))))))))))))))) (Syntax.tcons (Syntax.tyInt Syntax.w64) Syntax.tnil)) Syntax.tnil) (Syntax.ttcons (Syntax.tcons
-      (Syntax.tyInt Syntax.w64) Syntax.tnil) Syntax.ttnil))),
-) (List._∷_ (8, Rows.any-gone (Syntax.tyInt Syntax.w64)) (List._∷_ (
-  9,
-  Rows.any-gone (Syntax.tyStruct (List._∷_ 98 (List._∷_ 105 (List._∷_ 116
-      (List._∷_ 115 (List._∷_ 58 (List._∷_ 58 (List._∷_ 66 (List._∷_ 105 (List._∷_ 116 (List._∷_ 80 (List._∷_ 111 (List._∷_ 115 (List._∷_ 105 (List._∷_ 116 (List._∷_ 105 (List._∷_ 111 (List._∷_ 110
-      List.[]))))))))))))))))) (Syntax.tcons (Syntax.tyInt Syntax.w64) Syntax.tnil)),
-) (List._∷_ (10, Rows.any-gone (Syntax.tyInt Syntax.w64)) (List._∷_ (
-  11,
-  Rows.any-gone (Syntax.tyRef Syntax.erased
-      Syntax.mut (Syntax.tyInt Syntax.w8)),
-) (List._∷_ (
-  12,
-  Rows.any-gone (Syntax.tyStruct (List._∷_ 38 (List._∷_ 91 (List._∷_ 93 List.[]))) (Syntax.tcons (Syntax.tyRef Syntax.erased Syntax.mut
-      (Syntax.tyInt Syntax.w8)) (Syntax.tcons (Syntax.tyInt Syntax.w64) Syntax.tnil))),
-) (List._∷_ (13, Rows.any-gone (Syntax.tyRef Syntax.erased Syntax.mut (Syntax.tyInt Syntax.w16))) (List._∷_ (
-  14,
-  Rows.any-gone (Syntax.tyStruct (List._∷_ 38 (List._∷_ 91 (List._∷_ 93 List.[]))) (Syntax.tcons (Syntax.tyRef Syntax.erased Syntax.mut (Syntax.tyInt Syntax.w16)) (Syntax.tcons (Syntax.tyInt Syntax.w64)
-      Syntax.tnil))),
-) (List._∷_ (15, Rows.any-gone (Syntax.tyRef Syntax.erased Syntax.mut Element.behind)) List.[])))))))))))))))
+t51 = List._∷_ e1 (List._∷_ e2 (List._∷_ e24 (List._∷_ e42 (List._∷_ e45 (List._∷_ e48 (List._∷_ e51 (List._∷_ e52 (List._∷_ e56 (List._∷_ e58 (List._∷_ e3 (List._∷_ e6 (List._∷_ e9 (List._∷_ e11
+    (List._∷_ e14 (List._∷_ e16 List.[])))))))))))))))
 
 abbrev pub T0 : Row.Cx
 T0 = record { locals = List._++_ t0 t1; slots = List.[] }
@@ -3322,28 +1082,18 @@ module _ (claims· : Claims) where
   s12 = Call.callB ps·0 r·0 (claims· .0) (claims· .1) T13 (
     record { pos = 1; ty = Syntax.tyRef (Syntax.named 0) Syntax.imm (Syntax.tyInt Syntax.w16); ref = λ x. x },
     (
-      record {
-        pos = 12;
-        ty =
-            Syntax.tyRef Syntax.erased Syntax.mut (Syntax.tyInt Syntax.w8);
-        ref = λ x. x;
-      },
+      record { pos = 12; ty = Syntax.tyRef Syntax.erased Syntax.mut (Syntax.tyInt Syntax.w8); ref = λ x. x },
       (
         Bool.bLit Bool'.false,
         (
-          record {
-            pos = 14;
-            ty = Syntax.tyRef Syntax.erased Syntax.mut (Syntax.tyInt Syntax.w16);
-            ref = λ x. x;
-          },
+          record { pos = 14; ty = Syntax.tyRef Syntax.erased Syntax.mut (Syntax.tyInt Syntax.w16); ref = λ x. x },
           (record { pos = 16; ty = Syntax.tyRef Syntax.erased Syntax.mut Element.behind; ref = λ x. x }, (record { pos = 5; st = List.[]; d = 0; at = λ x. x }, (Num.vAt 6 λ x. x, tt))),
         ),
       ),
     ),
-  ) 7 (List._∷_ 0 (List._∷_ 4 (List._∷_ 5 (List._∷_ 6 List.[])))) (Syntax.tyEnum (List._∷_ 119 (List._∷_ 114 (List._∷_ 105 (List._∷_ 116 (List._∷_ 105 (List._∷_ 110 (List._∷_ 103 (List._∷_ 58
-      (List._∷_ 58 (List._∷_ 80 (List._∷_ 117 (List._∷_ 116 List.[])))))))))))) (Syntax.ttcons (Syntax.tcons (Syntax.tyStruct (List._∷_ 98 (List._∷_ 105 (List._∷_ 116 (List._∷_ 115 (List._∷_ 58 (List._∷_
-      58 (List._∷_ 66 (List._∷_ 105 (List._∷_ 116 (List._∷_ 80 (List._∷_ 111 (List._∷_ 115 (List._∷_ 105 (List._∷_ 116 (List._∷_ 105 (List._∷_ 111 (List._∷_ 110 List.[]))))))))))))))))) (Syntax.tcons
-      (Syntax.tyInt Syntax.w64) Syntax.tnil)) Syntax.tnil) (Syntax.ttcons (Syntax.tcons (Syntax.tyInt Syntax.w64) Syntax.tnil) Syntax.ttnil)))
+  ) 7 (List._∷_ 0
+      (List._∷_ 4 (List._∷_ 5 (List._∷_ 6 List.[])))) (Syntax.tyEnum (List._∷_ 119 (List._∷_ 114 (List._∷_ 105 (List._∷_ 116 (List._∷_ 105 (List._∷_ 110 (List._∷_ 103 (List._∷_ 58 (List._∷_ 58 (List._∷_
+      80 (List._∷_ 117 (List._∷_ 116 List.[])))))))))))) (Syntax.ttcons (Syntax.tcons y3 Syntax.tnil) (Syntax.ttcons (Syntax.tcons (Syntax.tyInt Syntax.w64) Syntax.tnil) Syntax.ttnil)))
 
   abbrev s14 : Typed.Both T14 T17
   s14 = Relend.k-back-sl (Referent.rtF (Referent.fInt Syntax.w8)) T14 12 2 1 4 (Syntax.tyRef (Syntax.named 1) Syntax.mut (Syntax.tyInt Syntax.w8)) (Syntax.tyRef Syntax.erased Syntax.mut (Syntax.tyInt
@@ -3369,8 +1119,7 @@ module _ (claims· : Claims) where
   s25 = Known.k-known-told Put.enum Laws'4.the-laws 1 T27 7 λ x. x
 
   abbrev s26 : Typed.Mo T28 → Typed.Mo T29
-  s26 = Scalar.n-room T28 5 (Syntax.tyStruct (List._∷_ 98 (List._∷_ 108 (List._∷_ 111 (List._∷_ 99 (List._∷_ 107 (List._∷_ 58 (List._∷_ 58 (List._∷_ 70 (List._∷_ 111 (List._∷_ 114 (List._∷_ 109
-      List.[]))))))))))) (Syntax.tcons (Syntax.tyInt Syntax.w32) (Syntax.tcons Syntax.tyBool Syntax.tnil)))
+  s26 = Scalar.n-room T28 5 y4
 
   abbrev s27 : Typed.Mo T29 → Typed.Mo T30
   s27 = Scalar.n-use T29 (Scalar.oFld 7 (List._∷_ (Syntax.variant 1) (List._∷_ (Syntax.field 1) List.[])) (Syntax.tyInt Syntax.w64) 8 λ v. Laws'4.the-laws .1 .0 .0 .val (v .0)) 8 (Rows.sc-here
@@ -3378,9 +1127,7 @@ module _ (claims· : Claims) where
 
   abbrev s28 : Typed.Mo T30 → Typed.Mo T31
   s28 = Scalar.n-room T30 7 (Syntax.tyEnum (List._∷_ 119 (List._∷_ 114 (List._∷_ 105 (List._∷_ 116 (List._∷_ 105 (List._∷_ 110 (List._∷_ 103 (List._∷_ 58 (List._∷_ 58 (List._∷_ 80 (List._∷_ 117
-      (List._∷_ 116 List.[])))))))))))) (Syntax.ttcons (Syntax.tcons (Syntax.tyStruct (List._∷_ 98 (List._∷_ 105 (List._∷_ 116 (List._∷_ 115 (List._∷_ 58 (List._∷_ 58 (List._∷_ 66 (List._∷_ 105 (List._∷_
-      116 (List._∷_ 80 (List._∷_ 111 (List._∷_ 115 (List._∷_ 105 (List._∷_ 116 (List._∷_ 105 (List._∷_ 111 (List._∷_ 110 List.[]))))))))))))))))) (Syntax.tcons (Syntax.tyInt Syntax.w64) Syntax.tnil))
-      Syntax.tnil) (Syntax.ttcons (Syntax.tcons (Syntax.tyInt Syntax.w64) Syntax.tnil) Syntax.ttnil)))
+      (List._∷_ 116 List.[])))))))))))) (Syntax.ttcons (Syntax.tcons y3 Syntax.tnil) (Syntax.ttcons (Syntax.tcons (Syntax.tyInt Syntax.w64) Syntax.tnil) Syntax.ttnil)))
 
   abbrev s29 : Typed.Mo T31 → Typed.Mo T32
   s29 = Make.n-enum-make Refusal.the-type T31 18 λ m. Refusal.enum .make (Logic.inr (Logic.inr (Logic.inr (Logic.inr (Logic.inr (Logic.inr (Logic.inr (Logic.inr (Logic.inr (Logic.inr (Logic.inr
@@ -3410,16 +1157,13 @@ module _ (claims· : Claims) where
 
   abbrev s36 : Typed.Mo T38 → Typed.Mo T39
   s36 = Scalar.n-room T38 7 (Syntax.tyEnum (List._∷_ 119 (List._∷_ 114 (List._∷_ 105 (List._∷_ 116 (List._∷_ 105 (List._∷_ 110 (List._∷_ 103 (List._∷_ 58 (List._∷_ 58 (List._∷_ 80 (List._∷_ 117
-      (List._∷_ 116 List.[])))))))))))) (Syntax.ttcons (Syntax.tcons (Syntax.tyStruct (List._∷_ 98 (List._∷_ 105 (List._∷_ 116 (List._∷_ 115 (List._∷_ 58 (List._∷_ 58 (List._∷_ 66 (List._∷_ 105 (List._∷_
-      116 (List._∷_ 80 (List._∷_ 111 (List._∷_ 115 (List._∷_ 105 (List._∷_ 116 (List._∷_ 105 (List._∷_ 111 (List._∷_ 110 List.[]))))))))))))))))) (Syntax.tcons (Syntax.tyInt Syntax.w64) Syntax.tnil))
-      Syntax.tnil) (Syntax.ttcons (Syntax.tcons (Syntax.tyInt Syntax.w64) Syntax.tnil) Syntax.ttnil)))
+      (List._∷_ 116 List.[])))))))))))) (Syntax.ttcons (Syntax.tcons y3 Syntax.tnil) (Syntax.ttcons (Syntax.tcons (Syntax.tyInt Syntax.w64) Syntax.tnil) Syntax.ttnil)))
 
   abbrev s37 : Typed.Both T39 T40
   s37 = Call.callB ps·1 r·1 (claims· .2) (claims· .3) T39 (record { pos = 9; st = List.[]; d = 0; at = λ x. x }, tt) 10 List.[] (Syntax.tyInt Syntax.w64)
 
   abbrev s38 : Typed.Mo T40 → Typed.Mo T41
-  s38 = Scalar.n-room T40 9 (Syntax.tyStruct (List._∷_ 98 (List._∷_ 105 (List._∷_ 116 (List._∷_ 115 (List._∷_ 58 (List._∷_ 58 (List._∷_ 66 (List._∷_ 105 (List._∷_ 116 (List._∷_ 80 (List._∷_ 111
-      (List._∷_ 115 (List._∷_ 105 (List._∷_ 116 (List._∷_ 105 (List._∷_ 111 (List._∷_ 110 List.[]))))))))))))))))) (Syntax.tcons (Syntax.tyInt Syntax.w64) Syntax.tnil))
+  s38 = Scalar.n-room T40 9 y3
 
   abbrev s39 : Typed.Mo T41 → Typed.Mo T42
   s39 = Scalar.n-use T41 (Scalar.oFld 2 (List._∷_ (Syntax.field 1) List.[]) (Syntax.tyInt Syntax.w64) 8 Shared.lenV) 20 (Rows.sc-here (Row.sInt Syntax.w64)) (Row.sInt Syntax.w64 .of)
@@ -3431,8 +1175,7 @@ module _ (claims· : Claims) where
   s41 = Scalar.n-room T43 20 (Syntax.tyInt Syntax.w64)
 
   abbrev s42 : Typed.Mo T45 → Typed.Mo T46
-  s42 = Scalar.n-room T45 5 (Syntax.tyStruct (List._∷_ 98 (List._∷_ 108 (List._∷_ 111 (List._∷_ 99 (List._∷_ 107 (List._∷_ 58 (List._∷_ 58 (List._∷_ 70 (List._∷_ 111 (List._∷_ 114 (List._∷_ 109
-      List.[]))))))))))) (Syntax.tcons (Syntax.tyInt Syntax.w32) (Syntax.tcons Syntax.tyBool Syntax.tnil)))
+  s42 = Scalar.n-room T45 5 y4
 
   abbrev s43 : Typed.Mo T46 → Typed.Mo T47
   s43 = Scalar.n-room T46 19 Syntax.tyBool
@@ -3487,38 +1230,25 @@ module _ (claims· : Claims) where
   s59 = Call.callB ps·0 r·0 (claims· .0) (claims· .1) T62 (
     record { pos = 1; ty = Syntax.tyRef (Syntax.named 0) Syntax.imm (Syntax.tyInt Syntax.w16); ref = λ x. x },
     (
-      record {
-        pos = 24;
-        ty =
-            Syntax.tyRef Syntax.erased Syntax.mut (Syntax.tyInt Syntax.w8);
-        ref = λ x. x;
-      },
+      record { pos = 24; ty = Syntax.tyRef Syntax.erased Syntax.mut (Syntax.tyInt Syntax.w8); ref = λ x. x },
       (
         Bool.bLit Bool'.true,
         (
-          record {
-            pos = 26;
-            ty = Syntax.tyRef Syntax.erased Syntax.mut (Syntax.tyInt Syntax.w16);
-            ref = λ x. x;
-          },
+          record { pos = 26; ty = Syntax.tyRef Syntax.erased Syntax.mut (Syntax.tyInt Syntax.w16); ref = λ x. x },
           (record { pos = 28; ty = Syntax.tyRef Syntax.erased Syntax.mut Element.behind; ref = λ x. x }, (record { pos = 5; st = List.[]; d = 0; at = λ x. x }, (Num.vAt 6 λ x. x, tt))),
         ),
       ),
     ),
-  ) 22 (List._∷_ 0 (List._∷_ 7 (List._∷_ 8 (List._∷_ 9 List.[])))) (Syntax.tyEnum (List._∷_ 119 (List._∷_ 114 (List._∷_ 105 (List._∷_ 116 (List._∷_ 105 (List._∷_ 110 (List._∷_ 103 (List._∷_
-      58 (List._∷_ 58 (List._∷_ 80 (List._∷_ 117 (List._∷_ 116 List.[])))))))))))) (Syntax.ttcons (Syntax.tcons (Syntax.tyStruct (List._∷_ 98 (List._∷_ 105 (List._∷_ 116 (List._∷_ 115 (List._∷_ 58
-      (List._∷_ 58 (List._∷_ 66 (List._∷_ 105 (List._∷_ 116 (List._∷_ 80 (List._∷_ 111 (List._∷_ 115 (List._∷_ 105 (List._∷_ 116 (List._∷_ 105 (List._∷_ 111 (List._∷_ 110 List.[])))))))))))))))))
-      (Syntax.tcons (Syntax.tyInt Syntax.w64) Syntax.tnil)) Syntax.tnil) (Syntax.ttcons (Syntax.tcons (Syntax.tyInt Syntax.w64) Syntax.tnil) Syntax.ttnil)))
+  ) 22 (List._∷_ 0
+      (List._∷_ 7 (List._∷_ 8 (List._∷_ 9 List.[])))) (Syntax.tyEnum (List._∷_ 119 (List._∷_ 114 (List._∷_ 105 (List._∷_ 116 (List._∷_ 105 (List._∷_ 110 (List._∷_ 103 (List._∷_ 58 (List._∷_ 58 (List._∷_
+      80 (List._∷_ 117 (List._∷_ 116 List.[])))))))))))) (Syntax.ttcons (Syntax.tcons y3 Syntax.tnil) (Syntax.ttcons (Syntax.tcons (Syntax.tyInt Syntax.w64) Syntax.tnil) Syntax.ttnil)))
 
   abbrev s60 : Typed.Mo T63 → Typed.Mo T64
-  s60 = Scalar.n-room T63 5 (Syntax.tyStruct (List._∷_ 98 (List._∷_ 108 (List._∷_ 111 (List._∷_ 99 (List._∷_ 107 (List._∷_ 58 (List._∷_ 58 (List._∷_ 70 (List._∷_ 111 (List._∷_ 114 (List._∷_ 109
-      List.[]))))))))))) (Syntax.tcons (Syntax.tyInt Syntax.w32) (Syntax.tcons Syntax.tyBool Syntax.tnil)))
+  s60 = Scalar.n-room T63 5 y4
 
   abbrev s61 : Typed.Mo T64 → Typed.Mo T65
   s61 = Scalar.n-room T64 22 (Syntax.tyEnum (List._∷_ 119 (List._∷_ 114 (List._∷_ 105 (List._∷_ 116 (List._∷_ 105 (List._∷_ 110 (List._∷_ 103 (List._∷_ 58 (List._∷_ 58 (List._∷_ 80 (List._∷_ 117
-      (List._∷_ 116 List.[])))))))))))) (Syntax.ttcons (Syntax.tcons (Syntax.tyStruct (List._∷_ 98 (List._∷_ 105 (List._∷_ 116 (List._∷_ 115 (List._∷_ 58 (List._∷_ 58 (List._∷_ 66 (List._∷_ 105 (List._∷_
-      116 (List._∷_ 80 (List._∷_ 111 (List._∷_ 115 (List._∷_ 105 (List._∷_ 116 (List._∷_ 105 (List._∷_ 111 (List._∷_ 110 List.[]))))))))))))))))) (Syntax.tcons (Syntax.tyInt Syntax.w64) Syntax.tnil))
-      Syntax.tnil) (Syntax.ttcons (Syntax.tcons (Syntax.tyInt Syntax.w64) Syntax.tnil) Syntax.ttnil)))
+      (List._∷_ 116 List.[])))))))))))) (Syntax.ttcons (Syntax.tcons y3 Syntax.tnil) (Syntax.ttcons (Syntax.tcons (Syntax.tyInt Syntax.w64) Syntax.tnil) Syntax.ttnil)))
 
   abbrev s63 : Typed.Both T65 T67
   s63 = Relend.k-back-sl (Referent.rtF (Referent.fInt Syntax.w8)) T65 24 2 1 7 (Syntax.tyRef (Syntax.named 1) Syntax.mut (Syntax.tyInt Syntax.w8)) (Syntax.tyRef Syntax.erased Syntax.mut (Syntax.tyInt
@@ -3822,1373 +1552,667 @@ module _ (claims· : Claims) where
 
       module _ (κs : Lifetimes.Lfts 4) (qs : Lifetimes.Shares 4) where
         abbrev g3 : List.List Row.Entry
-        g3 = List._∷_ (
-          0,
-          Rows.any-gone (Syntax.tyEnum (List._∷_ 98 (List._∷_ 108 (List._∷_ 111 (List._∷_ 99 (List._∷_ 107 (List._∷_ 58 (List._∷_ 58 (List._∷_ 87 (List._∷_ 114 (List._∷_ 105 (List._∷_
-              116 (List._∷_ 116 (List._∷_ 101 (List._∷_ 110 List.[])))))))))))))) (Syntax.ttcons (Syntax.tcons (Syntax.tyInt Syntax.w64) Syntax.tnil) (Syntax.ttcons (Syntax.tcons (Syntax.tyEnum (List._∷_
-              115 (List._∷_ 116 (List._∷_ 114 (List._∷_ 101 (List._∷_ 97 (List._∷_ 109 (List._∷_ 58 (List._∷_ 58 (List._∷_ 82 (List._∷_ 101 (List._∷_ 102 (List._∷_ 117 (List._∷_ 115 (List._∷_ 97 (List._∷_
-              108 List.[]))))))))))))))) (Syntax.ttcons Syntax.tnil (Syntax.ttcons Syntax.tnil (Syntax.ttcons Syntax.tnil (Syntax.ttcons (Syntax.tcons (Syntax.tyInt Syntax.w64) Syntax.tnil) (Syntax.ttcons
-              Syntax.tnil (Syntax.ttcons Syntax.tnil (Syntax.ttcons Syntax.tnil (Syntax.ttcons Syntax.tnil (Syntax.ttcons Syntax.tnil (Syntax.ttcons Syntax.tnil (Syntax.ttcons (Syntax.tcons (Syntax.tyInt
-              Syntax.w64) Syntax.tnil) (Syntax.ttcons (Syntax.tcons (Syntax.tyInt Syntax.w64) Syntax.tnil) (Syntax.ttcons Syntax.tnil (Syntax.ttcons (Syntax.tcons (Syntax.tyInt Syntax.w64) (Syntax.tcons
-              (Syntax.tyInt Syntax.w64) Syntax.tnil)) (Syntax.ttcons (Syntax.tcons (Syntax.tyInt Syntax.w64) Syntax.tnil) Syntax.ttnil)))))))))))))))) Syntax.tnil) Syntax.ttnil))),
-        ) (List._∷_ (
-          1,
-          Rows.sslice (Referent.rtF (Referent.fInt Syntax.w16)) (Syntax.tyRef (Syntax.named 0) Syntax.imm (Syntax.tyInt Syntax.w16)) 0,
-        ) (List._∷_ (
-          2,
-          Relend.mslice-owed (Referent.rtF (Referent.fInt
-              Syntax.w8)) (Syntax.tyRef (Syntax.named 1) Syntax.mut (Syntax.tyInt Syntax.w8)) 1 4 (Row.lease (κs .1 .0) (qs .1 .0)),
-        ) (List._∷_ (
-          3,
-          Mut.mslice (Referent.rtF (Referent.fInt Syntax.w16))
-              (Syntax.tyRef (Syntax.named 2) Syntax.mut (Syntax.tyInt Syntax.w16)) 2,
-        ) (List._∷_ (4, Mut.mslice (Element.type) (Syntax.tyRef (Syntax.named 3) Syntax.mut Element.behind) 3) (List._∷_ (
-          5,
-          Rows.whole (Declared'.row Form.the-type),
-        ) (List._∷_ (6, Rows.sc-here (Row.sInt Syntax.w64)) (List._∷_ (
-          7,
-          Rows.any-gone (Syntax.tyEnum (List._∷_ 119 (List._∷_ 114 (List._∷_ 105 (List._∷_
-              116 (List._∷_ 105 (List._∷_ 110 (List._∷_ 103 (List._∷_ 58 (List._∷_ 58 (List._∷_ 80 (List._∷_ 117 (List._∷_ 116 List.[])))))))))))) (Syntax.ttcons (Syntax.tcons (Syntax.tyStruct (List._∷_ 98
-              (List._∷_ 105 (List._∷_ 116 (List._∷_ 115 (List._∷_ 58 (List._∷_ 58 (List._∷_ 66 (List._∷_ 105 (List._∷_ 116 (List._∷_ 80 (List._∷_ 111 (List._∷_ 115 (List._∷_ 105 (List._∷_ 116 (List._∷_ 105
-              (List._∷_ 111 (List._∷_ 110 List.[]))))))))))))))))) (Syntax.tcons (Syntax.tyInt Syntax.w64) Syntax.tnil)) Syntax.tnil) (Syntax.ttcons (Syntax.tcons (Syntax.tyInt Syntax.w64) Syntax.tnil)
-              Syntax.ttnil))),
-        ) (List._∷_ (8, Rows.any-gone (Syntax.tyInt Syntax.w64)) (List._∷_ (
-          9,
-          Rows.any-gone (Syntax.tyStruct (List._∷_ 98 (List._∷_ 105 (List._∷_ 116 (List._∷_ 115 (List._∷_ 58
-              (List._∷_ 58 (List._∷_ 66 (List._∷_ 105 (List._∷_ 116 (List._∷_ 80 (List._∷_ 111 (List._∷_ 115 (List._∷_ 105 (List._∷_ 116 (List._∷_ 105 (List._∷_ 111 (List._∷_ 110 List.[])))))))))))))))))
-              (Syntax.tcons (Syntax.tyInt Syntax.w64) Syntax.tnil)),
-        ) (List._∷_ (10, Rows.any-gone (Syntax.tyInt Syntax.w64)) (List._∷_ (
-          11,
-          Relend.msptr (Referent.rtF (Referent.fInt Syntax.w8))
-              (Syntax.tyRef Syntax.erased Syntax.mut (Syntax.tyInt Syntax.w8)) 4,
-        ) (List._∷_ (
-          12,
-          Rows.any-gone (Syntax.tyStruct (List._∷_ 38 (List._∷_ 91 (List._∷_ 93 List.[]))) (Syntax.tcons
-              (Syntax.tyRef Syntax.erased Syntax.mut (Syntax.tyInt Syntax.w8)) (Syntax.tcons (Syntax.tyInt Syntax.w64) Syntax.tnil))),
-        ) (List._∷_ (
-          13,
-          Rows.any-gone (Syntax.tyRef Syntax.erased Syntax.mut
-              (Syntax.tyInt Syntax.w16)),
-        ) (List._∷_ (
-          14,
-          Rows.any-gone (Syntax.tyStruct (List._∷_ 38 (List._∷_ 91 (List._∷_ 93 List.[]))) (Syntax.tcons (Syntax.tyRef Syntax.erased Syntax.mut
-              (Syntax.tyInt Syntax.w16)) (Syntax.tcons (Syntax.tyInt Syntax.w64) Syntax.tnil))),
-        ) (List._∷_ (15, Rows.any-gone (Syntax.tyRef Syntax.erased Syntax.mut Element.behind))
-            List.[])))))))))))))))
+        g3 = List._∷_ e0 (List._∷_ e2 (List._∷_
+            (2, Relend.mslice-owed (Referent.rtF (Referent.fInt Syntax.w8)) (Syntax.tyRef (Syntax.named 1) Syntax.mut (Syntax.tyInt Syntax.w8)) 1 4 (Row.lease (κs .1 .0) (qs .1 .0))) (List._∷_ e42
+            (List._∷_ e45 (List._∷_ e49 (List._∷_ e51 (List._∷_ e52 (List._∷_ e56 (List._∷_ e58 (List._∷_ e3 (List._∷_ e5 (List._∷_ e9 (List._∷_ e11 (List._∷_ e14 (List._∷_ e16 List.[])))))))))))))))
 
         abbrev g4 : List.List Row.Entry
-        g4 = List._∷_ (
-          0,
-          Rows.any-gone (Syntax.tyEnum (List._∷_ 98 (List._∷_ 108 (List._∷_ 111 (List._∷_ 99 (List._∷_ 107 (List._∷_ 58 (List._∷_ 58 (List._∷_ 87 (List._∷_ 114 (List._∷_ 105 (List._∷_
-              116 (List._∷_ 116 (List._∷_ 101 (List._∷_ 110 List.[])))))))))))))) (Syntax.ttcons (Syntax.tcons (Syntax.tyInt Syntax.w64) Syntax.tnil) (Syntax.ttcons (Syntax.tcons (Syntax.tyEnum (List._∷_
-              115 (List._∷_ 116 (List._∷_ 114 (List._∷_ 101 (List._∷_ 97 (List._∷_ 109 (List._∷_ 58 (List._∷_ 58 (List._∷_ 82 (List._∷_ 101 (List._∷_ 102 (List._∷_ 117 (List._∷_ 115 (List._∷_ 97 (List._∷_
-              108 List.[]))))))))))))))) (Syntax.ttcons Syntax.tnil (Syntax.ttcons Syntax.tnil (Syntax.ttcons Syntax.tnil (Syntax.ttcons (Syntax.tcons (Syntax.tyInt Syntax.w64) Syntax.tnil) (Syntax.ttcons
-              Syntax.tnil (Syntax.ttcons Syntax.tnil (Syntax.ttcons Syntax.tnil (Syntax.ttcons Syntax.tnil (Syntax.ttcons Syntax.tnil (Syntax.ttcons Syntax.tnil (Syntax.ttcons (Syntax.tcons (Syntax.tyInt
-              Syntax.w64) Syntax.tnil) (Syntax.ttcons (Syntax.tcons (Syntax.tyInt Syntax.w64) Syntax.tnil) (Syntax.ttcons Syntax.tnil (Syntax.ttcons (Syntax.tcons (Syntax.tyInt Syntax.w64) (Syntax.tcons
-              (Syntax.tyInt Syntax.w64) Syntax.tnil)) (Syntax.ttcons (Syntax.tcons (Syntax.tyInt Syntax.w64) Syntax.tnil) Syntax.ttnil)))))))))))))))) Syntax.tnil) Syntax.ttnil))),
-        ) (List._∷_ (
-          1,
-          Rows.sslice (Referent.rtF (Referent.fInt Syntax.w16)) (Syntax.tyRef (Syntax.named 0) Syntax.imm (Syntax.tyInt Syntax.w16)) 0,
-        ) (List._∷_ (
-          2,
-          Relend.mslice-owed (Referent.rtF (Referent.fInt
-              Syntax.w8)) (Syntax.tyRef (Syntax.named 1) Syntax.mut (Syntax.tyInt Syntax.w8)) 1 4 (Row.lease (κs .1 .0) (qs .1 .0)),
-        ) (List._∷_ (
-          3,
-          Mut.mslice (Referent.rtF (Referent.fInt Syntax.w16))
-              (Syntax.tyRef (Syntax.named 2) Syntax.mut (Syntax.tyInt Syntax.w16)) 2,
-        ) (List._∷_ (4, Mut.mslice (Element.type) (Syntax.tyRef (Syntax.named 3) Syntax.mut Element.behind) 3) (List._∷_ (
-          5,
-          Rows.whole (Declared'.row Form.the-type),
-        ) (List._∷_ (6, Rows.sc-here (Row.sInt Syntax.w64)) (List._∷_ (
-          7,
-          Rows.any-gone (Syntax.tyEnum (List._∷_ 119 (List._∷_ 114 (List._∷_ 105 (List._∷_
-              116 (List._∷_ 105 (List._∷_ 110 (List._∷_ 103 (List._∷_ 58 (List._∷_ 58 (List._∷_ 80 (List._∷_ 117 (List._∷_ 116 List.[])))))))))))) (Syntax.ttcons (Syntax.tcons (Syntax.tyStruct (List._∷_ 98
-              (List._∷_ 105 (List._∷_ 116 (List._∷_ 115 (List._∷_ 58 (List._∷_ 58 (List._∷_ 66 (List._∷_ 105 (List._∷_ 116 (List._∷_ 80 (List._∷_ 111 (List._∷_ 115 (List._∷_ 105 (List._∷_ 116 (List._∷_ 105
-              (List._∷_ 111 (List._∷_ 110 List.[]))))))))))))))))) (Syntax.tcons (Syntax.tyInt Syntax.w64) Syntax.tnil)) Syntax.tnil) (Syntax.ttcons (Syntax.tcons (Syntax.tyInt Syntax.w64) Syntax.tnil)
-              Syntax.ttnil))),
-        ) (List._∷_ (8, Rows.any-gone (Syntax.tyInt Syntax.w64)) (List._∷_ (
-          9,
-          Rows.any-gone (Syntax.tyStruct (List._∷_ 98 (List._∷_ 105 (List._∷_ 116 (List._∷_ 115 (List._∷_ 58
-              (List._∷_ 58 (List._∷_ 66 (List._∷_ 105 (List._∷_ 116 (List._∷_ 80 (List._∷_ 111 (List._∷_ 115 (List._∷_ 105 (List._∷_ 116 (List._∷_ 105 (List._∷_ 111 (List._∷_ 110 List.[])))))))))))))))))
-              (Syntax.tcons (Syntax.tyInt Syntax.w64) Syntax.tnil)),
-        ) (List._∷_ (10, Rows.any-gone (Syntax.tyInt Syntax.w64)) (List._∷_ (
-          11,
-          Rows.any-gone (Syntax.tyRef Syntax.erased Syntax.mut
-              (Syntax.tyInt Syntax.w8)),
-        ) (List._∷_ (12, Mut.mslice (Referent.rtF (Referent.fInt Syntax.w8)) (Syntax.tyRef Syntax.erased Syntax.mut (Syntax.tyInt Syntax.w8)) 4) (List._∷_ (
-          13,
-          Rows.any-gone (Syntax.tyRef Syntax.erased Syntax.mut (Syntax.tyInt Syntax.w16)),
-        ) (List._∷_ (
-          14,
-          Rows.any-gone (Syntax.tyStruct (List._∷_ 38 (List._∷_ 91 (List._∷_ 93 List.[])))
-              (Syntax.tcons (Syntax.tyRef Syntax.erased Syntax.mut (Syntax.tyInt Syntax.w16)) (Syntax.tcons (Syntax.tyInt Syntax.w64) Syntax.tnil))),
-        ) (List._∷_ (
-          15,
-          Rows.any-gone (Syntax.tyRef
-              Syntax.erased Syntax.mut Element.behind),
-        ) List.[])))))))))))))))
+        g4 = List._∷_ e0 (List._∷_ e2 (List._∷_
+            (2, Relend.mslice-owed (Referent.rtF (Referent.fInt Syntax.w8)) (Syntax.tyRef (Syntax.named 1) Syntax.mut (Syntax.tyInt Syntax.w8)) 1 4 (Row.lease (κs .1 .0) (qs .1 .0))) (List._∷_ e42
+            (List._∷_ e45 (List._∷_ e49 (List._∷_ e51 (List._∷_ e52 (List._∷_ e56 (List._∷_ e58 (List._∷_ e3 (List._∷_ e6 (List._∷_ e8 (List._∷_ e11 (List._∷_ e14 (List._∷_ e16 List.[])))))))))))))))
 
         abbrev g5 : List.List Row.Entry
-        g5 = List._∷_ (
-          0,
-          Rows.any-gone (Syntax.tyEnum (List._∷_ 98 (List._∷_ 108 (List._∷_ 111 (List._∷_ 99 (List._∷_ 107 (List._∷_ 58 (List._∷_ 58 (List._∷_ 87 (List._∷_ 114 (List._∷_ 105 (List._∷_
-              116 (List._∷_ 116 (List._∷_ 101 (List._∷_ 110 List.[])))))))))))))) (Syntax.ttcons (Syntax.tcons (Syntax.tyInt Syntax.w64) Syntax.tnil) (Syntax.ttcons (Syntax.tcons (Syntax.tyEnum (List._∷_
-              115 (List._∷_ 116 (List._∷_ 114 (List._∷_ 101 (List._∷_ 97 (List._∷_ 109 (List._∷_ 58 (List._∷_ 58 (List._∷_ 82 (List._∷_ 101 (List._∷_ 102 (List._∷_ 117 (List._∷_ 115 (List._∷_ 97 (List._∷_
-              108 List.[]))))))))))))))) (Syntax.ttcons Syntax.tnil (Syntax.ttcons Syntax.tnil (Syntax.ttcons Syntax.tnil (Syntax.ttcons (Syntax.tcons (Syntax.tyInt Syntax.w64) Syntax.tnil) (Syntax.ttcons
-              Syntax.tnil (Syntax.ttcons Syntax.tnil (Syntax.ttcons Syntax.tnil (Syntax.ttcons Syntax.tnil (Syntax.ttcons Syntax.tnil (Syntax.ttcons Syntax.tnil (Syntax.ttcons (Syntax.tcons (Syntax.tyInt
-              Syntax.w64) Syntax.tnil) (Syntax.ttcons (Syntax.tcons (Syntax.tyInt Syntax.w64) Syntax.tnil) (Syntax.ttcons Syntax.tnil (Syntax.ttcons (Syntax.tcons (Syntax.tyInt Syntax.w64) (Syntax.tcons
-              (Syntax.tyInt Syntax.w64) Syntax.tnil)) (Syntax.ttcons (Syntax.tcons (Syntax.tyInt Syntax.w64) Syntax.tnil) Syntax.ttnil)))))))))))))))) Syntax.tnil) Syntax.ttnil))),
-        ) (List._∷_ (
-          1,
-          Rows.sslice (Referent.rtF (Referent.fInt Syntax.w16)) (Syntax.tyRef (Syntax.named 0) Syntax.imm (Syntax.tyInt Syntax.w16)) 0,
-        ) (List._∷_ (
-          2,
-          Relend.mslice-owed (Referent.rtF (Referent.fInt
-              Syntax.w8)) (Syntax.tyRef (Syntax.named 1) Syntax.mut (Syntax.tyInt Syntax.w8)) 1 4 (Row.lease (κs .1 .0) (qs .1 .0)),
-        ) (List._∷_ (
-          3,
-          Relend.mslice-owed (Referent.rtF (Referent.fInt
-              Syntax.w16)) (Syntax.tyRef (Syntax.named 2) Syntax.mut (Syntax.tyInt Syntax.w16)) 2 5 (Row.lease (κs .1 .1 .0) (qs .1 .1 .0)),
-        ) (List._∷_ (
-          4,
-          Mut.mslice (Element.type) (Syntax.tyRef
-              (Syntax.named 3) Syntax.mut Element.behind) 3,
-        ) (List._∷_ (5, Rows.whole (Declared'.row Form.the-type)) (List._∷_ (6, Rows.sc-here (Row.sInt Syntax.w64)) (List._∷_ (
-          7,
-          Rows.any-gone
-              (Syntax.tyEnum (List._∷_ 119 (List._∷_ 114 (List._∷_ 105 (List._∷_ 116 (List._∷_ 105 (List._∷_ 110 (List._∷_ 103 (List._∷_ 58 (List._∷_ 58 (List._∷_ 80 (List._∷_ 117 (List._∷_ 116
-              List.[])))))))))))) (Syntax.ttcons (Syntax.tcons (Syntax.tyStruct (List._∷_ 98 (List._∷_ 105 (List._∷_ 116 (List._∷_ 115 (List._∷_ 58 (List._∷_ 58 (List._∷_ 66 (List._∷_ 105 (List._∷_ 116
-              (List._∷_ 80 (List._∷_ 111 (List._∷_ 115 (List._∷_ 105 (List._∷_ 116 (List._∷_ 105 (List._∷_ 111 (List._∷_ 110 List.[]))))))))))))))))) (Syntax.tcons (Syntax.tyInt Syntax.w64) Syntax.tnil))
-              Syntax.tnil) (Syntax.ttcons (Syntax.tcons (Syntax.tyInt Syntax.w64) Syntax.tnil) Syntax.ttnil))),
-        ) (List._∷_ (8, Rows.any-gone (Syntax.tyInt Syntax.w64)) (List._∷_ (
-          9,
-          Rows.any-gone
-              (Syntax.tyStruct (List._∷_ 98 (List._∷_ 105 (List._∷_ 116 (List._∷_ 115 (List._∷_ 58 (List._∷_ 58 (List._∷_ 66 (List._∷_ 105 (List._∷_ 116 (List._∷_ 80 (List._∷_ 111 (List._∷_ 115 (List._∷_
-              105 (List._∷_ 116 (List._∷_ 105 (List._∷_ 111 (List._∷_ 110 List.[]))))))))))))))))) (Syntax.tcons (Syntax.tyInt Syntax.w64) Syntax.tnil)),
-        ) (List._∷_ (
-          10,
-          Rows.any-gone (Syntax.tyInt
-              Syntax.w64),
-        ) (List._∷_ (11, Rows.any-gone (Syntax.tyRef Syntax.erased Syntax.mut (Syntax.tyInt Syntax.w8))) (List._∷_ (
-          12,
-          Mut.mslice (Referent.rtF (Referent.fInt Syntax.w8)) (Syntax.tyRef
-              Syntax.erased Syntax.mut (Syntax.tyInt Syntax.w8)) 4,
-        ) (List._∷_ (
-          13,
-          Relend.msptr (Referent.rtF (Referent.fInt Syntax.w16)) (Syntax.tyRef Syntax.erased Syntax.mut (Syntax.tyInt Syntax.w16))
-              5,
-        ) (List._∷_ (
-          14,
-          Rows.any-gone (Syntax.tyStruct (List._∷_ 38 (List._∷_ 91 (List._∷_ 93 List.[]))) (Syntax.tcons (Syntax.tyRef Syntax.erased Syntax.mut (Syntax.tyInt Syntax.w16))
-              (Syntax.tcons (Syntax.tyInt Syntax.w64) Syntax.tnil))),
-        ) (List._∷_ (15, Rows.any-gone (Syntax.tyRef Syntax.erased Syntax.mut Element.behind)) List.[])))))))))))))))
+        g5 = List._∷_ e0 (List._∷_ e2 (List._∷_
+            (2, Relend.mslice-owed (Referent.rtF (Referent.fInt Syntax.w8)) (Syntax.tyRef (Syntax.named 1) Syntax.mut (Syntax.tyInt Syntax.w8)) 1 4 (Row.lease (κs .1 .0) (qs .1 .0))) (List._∷_
+            (3, Relend.mslice-owed (Referent.rtF (Referent.fInt Syntax.w16)) (Syntax.tyRef (Syntax.named 2) Syntax.mut (Syntax.tyInt Syntax.w16)) 2 5 (Row.lease (κs .1 .1 .0) (qs .1 .1 .0))) (List._∷_ e45
+            (List._∷_ e49 (List._∷_ e51 (List._∷_ e52 (List._∷_ e56 (List._∷_ e58 (List._∷_ e3 (List._∷_ e6 (List._∷_ e8 (List._∷_ e10 (List._∷_ e14 (List._∷_ e16 List.[])))))))))))))))
 
         abbrev g6 : List.List Row.Entry
-        g6 = List._∷_ (
-          0,
-          Rows.any-gone (Syntax.tyEnum (List._∷_ 98 (List._∷_ 108 (List._∷_ 111 (List._∷_ 99 (List._∷_ 107 (List._∷_ 58 (List._∷_ 58 (List._∷_ 87 (List._∷_ 114 (List._∷_ 105 (List._∷_
-              116 (List._∷_ 116 (List._∷_ 101 (List._∷_ 110 List.[])))))))))))))) (Syntax.ttcons (Syntax.tcons (Syntax.tyInt Syntax.w64) Syntax.tnil) (Syntax.ttcons (Syntax.tcons (Syntax.tyEnum (List._∷_
-              115 (List._∷_ 116 (List._∷_ 114 (List._∷_ 101 (List._∷_ 97 (List._∷_ 109 (List._∷_ 58 (List._∷_ 58 (List._∷_ 82 (List._∷_ 101 (List._∷_ 102 (List._∷_ 117 (List._∷_ 115 (List._∷_ 97 (List._∷_
-              108 List.[]))))))))))))))) (Syntax.ttcons Syntax.tnil (Syntax.ttcons Syntax.tnil (Syntax.ttcons Syntax.tnil (Syntax.ttcons (Syntax.tcons (Syntax.tyInt Syntax.w64) Syntax.tnil) (Syntax.ttcons
-              Syntax.tnil (Syntax.ttcons Syntax.tnil (Syntax.ttcons Syntax.tnil (Syntax.ttcons Syntax.tnil (Syntax.ttcons Syntax.tnil (Syntax.ttcons Syntax.tnil (Syntax.ttcons (Syntax.tcons (Syntax.tyInt
-              Syntax.w64) Syntax.tnil) (Syntax.ttcons (Syntax.tcons (Syntax.tyInt Syntax.w64) Syntax.tnil) (Syntax.ttcons Syntax.tnil (Syntax.ttcons (Syntax.tcons (Syntax.tyInt Syntax.w64) (Syntax.tcons
-              (Syntax.tyInt Syntax.w64) Syntax.tnil)) (Syntax.ttcons (Syntax.tcons (Syntax.tyInt Syntax.w64) Syntax.tnil) Syntax.ttnil)))))))))))))))) Syntax.tnil) Syntax.ttnil))),
-        ) (List._∷_ (
-          1,
-          Rows.sslice (Referent.rtF (Referent.fInt Syntax.w16)) (Syntax.tyRef (Syntax.named 0) Syntax.imm (Syntax.tyInt Syntax.w16)) 0,
-        ) (List._∷_ (
-          2,
-          Relend.mslice-owed (Referent.rtF (Referent.fInt
-              Syntax.w8)) (Syntax.tyRef (Syntax.named 1) Syntax.mut (Syntax.tyInt Syntax.w8)) 1 4 (Row.lease (κs .1 .0) (qs .1 .0)),
-        ) (List._∷_ (
-          3,
-          Relend.mslice-owed (Referent.rtF (Referent.fInt
-              Syntax.w16)) (Syntax.tyRef (Syntax.named 2) Syntax.mut (Syntax.tyInt Syntax.w16)) 2 5 (Row.lease (κs .1 .1 .0) (qs .1 .1 .0)),
-        ) (List._∷_ (
-          4,
-          Mut.mslice (Element.type) (Syntax.tyRef
-              (Syntax.named 3) Syntax.mut Element.behind) 3,
-        ) (List._∷_ (5, Rows.whole (Declared'.row Form.the-type)) (List._∷_ (6, Rows.sc-here (Row.sInt Syntax.w64)) (List._∷_ (
-          7,
-          Rows.any-gone
-              (Syntax.tyEnum (List._∷_ 119 (List._∷_ 114 (List._∷_ 105 (List._∷_ 116 (List._∷_ 105 (List._∷_ 110 (List._∷_ 103 (List._∷_ 58 (List._∷_ 58 (List._∷_ 80 (List._∷_ 117 (List._∷_ 116
-              List.[])))))))))))) (Syntax.ttcons (Syntax.tcons (Syntax.tyStruct (List._∷_ 98 (List._∷_ 105 (List._∷_ 116 (List._∷_ 115 (List._∷_ 58 (List._∷_ 58 (List._∷_ 66 (List._∷_ 105 (List._∷_ 116
-              (List._∷_ 80 (List._∷_ 111 (List._∷_ 115 (List._∷_ 105 (List._∷_ 116 (List._∷_ 105 (List._∷_ 111 (List._∷_ 110 List.[]))))))))))))))))) (Syntax.tcons (Syntax.tyInt Syntax.w64) Syntax.tnil))
-              Syntax.tnil) (Syntax.ttcons (Syntax.tcons (Syntax.tyInt Syntax.w64) Syntax.tnil) Syntax.ttnil))),
-        ) (List._∷_ (8, Rows.any-gone (Syntax.tyInt Syntax.w64)) (List._∷_ (
-          9,
-          Rows.any-gone
-              (Syntax.tyStruct (List._∷_ 98 (List._∷_ 105 (List._∷_ 116 (List._∷_ 115 (List._∷_ 58 (List._∷_ 58 (List._∷_ 66 (List._∷_ 105 (List._∷_ 116 (List._∷_ 80 (List._∷_ 111 (List._∷_ 115 (List._∷_
-              105 (List._∷_ 116 (List._∷_ 105 (List._∷_ 111 (List._∷_ 110 List.[]))))))))))))))))) (Syntax.tcons (Syntax.tyInt Syntax.w64) Syntax.tnil)),
-        ) (List._∷_ (
-          10,
-          Rows.any-gone (Syntax.tyInt
-              Syntax.w64),
-        ) (List._∷_ (11, Rows.any-gone (Syntax.tyRef Syntax.erased Syntax.mut (Syntax.tyInt Syntax.w8))) (List._∷_ (
-          12,
-          Mut.mslice (Referent.rtF (Referent.fInt Syntax.w8)) (Syntax.tyRef
-              Syntax.erased Syntax.mut (Syntax.tyInt Syntax.w8)) 4,
-        ) (List._∷_ (13, Rows.any-gone (Syntax.tyRef Syntax.erased Syntax.mut (Syntax.tyInt Syntax.w16))) (List._∷_ (
-          14,
-          Mut.mslice
-              (Referent.rtF (Referent.fInt Syntax.w16)) (Syntax.tyRef Syntax.erased Syntax.mut (Syntax.tyInt Syntax.w16)) 5,
-        ) (List._∷_ (
-          15,
-          Rows.any-gone (Syntax.tyRef Syntax.erased Syntax.mut
-              Element.behind),
-        ) List.[])))))))))))))))
+        g6 = List._∷_ e0 (List._∷_ e2 (List._∷_
+            (2, Relend.mslice-owed (Referent.rtF (Referent.fInt Syntax.w8)) (Syntax.tyRef (Syntax.named 1) Syntax.mut (Syntax.tyInt Syntax.w8)) 1 4 (Row.lease (κs .1 .0) (qs .1 .0))) (List._∷_
+            (3, Relend.mslice-owed (Referent.rtF (Referent.fInt Syntax.w16)) (Syntax.tyRef (Syntax.named 2) Syntax.mut (Syntax.tyInt Syntax.w16)) 2 5 (Row.lease (κs .1 .1 .0) (qs .1 .1 .0))) (List._∷_ e45
+            (List._∷_ e49 (List._∷_ e51 (List._∷_ e52 (List._∷_ e56 (List._∷_ e58 (List._∷_ e3 (List._∷_ e6 (List._∷_ e8 (List._∷_ e11 (List._∷_ e13 (List._∷_ e16 List.[])))))))))))))))
 
         abbrev g7 : List.List Row.Entry
-        g7 = List._∷_ (
-          0,
-          Rows.any-gone (Syntax.tyEnum (List._∷_ 98 (List._∷_ 108 (List._∷_ 111 (List._∷_ 99 (List._∷_ 107 (List._∷_ 58 (List._∷_ 58 (List._∷_ 87 (List._∷_ 114 (List._∷_ 105 (List._∷_
-              116 (List._∷_ 116 (List._∷_ 101 (List._∷_ 110 List.[])))))))))))))) (Syntax.ttcons (Syntax.tcons (Syntax.tyInt Syntax.w64) Syntax.tnil) (Syntax.ttcons (Syntax.tcons (Syntax.tyEnum (List._∷_
-              115 (List._∷_ 116 (List._∷_ 114 (List._∷_ 101 (List._∷_ 97 (List._∷_ 109 (List._∷_ 58 (List._∷_ 58 (List._∷_ 82 (List._∷_ 101 (List._∷_ 102 (List._∷_ 117 (List._∷_ 115 (List._∷_ 97 (List._∷_
-              108 List.[]))))))))))))))) (Syntax.ttcons Syntax.tnil (Syntax.ttcons Syntax.tnil (Syntax.ttcons Syntax.tnil (Syntax.ttcons (Syntax.tcons (Syntax.tyInt Syntax.w64) Syntax.tnil) (Syntax.ttcons
-              Syntax.tnil (Syntax.ttcons Syntax.tnil (Syntax.ttcons Syntax.tnil (Syntax.ttcons Syntax.tnil (Syntax.ttcons Syntax.tnil (Syntax.ttcons Syntax.tnil (Syntax.ttcons (Syntax.tcons (Syntax.tyInt
-              Syntax.w64) Syntax.tnil) (Syntax.ttcons (Syntax.tcons (Syntax.tyInt Syntax.w64) Syntax.tnil) (Syntax.ttcons Syntax.tnil (Syntax.ttcons (Syntax.tcons (Syntax.tyInt Syntax.w64) (Syntax.tcons
-              (Syntax.tyInt Syntax.w64) Syntax.tnil)) (Syntax.ttcons (Syntax.tcons (Syntax.tyInt Syntax.w64) Syntax.tnil) Syntax.ttnil)))))))))))))))) Syntax.tnil) Syntax.ttnil))),
-        ) (List._∷_ (
-          1,
-          Rows.sslice (Referent.rtF (Referent.fInt Syntax.w16)) (Syntax.tyRef (Syntax.named 0) Syntax.imm (Syntax.tyInt Syntax.w16)) 0,
-        ) (List._∷_ (
-          2,
-          Relend.mslice-owed (Referent.rtF (Referent.fInt
-              Syntax.w8)) (Syntax.tyRef (Syntax.named 1) Syntax.mut (Syntax.tyInt Syntax.w8)) 1 4 (Row.lease (κs .1 .0) (qs .1 .0)),
-        ) (List._∷_ (
-          3,
-          Relend.mslice-owed (Referent.rtF (Referent.fInt
-              Syntax.w16)) (Syntax.tyRef (Syntax.named 2) Syntax.mut (Syntax.tyInt Syntax.w16)) 2 5 (Row.lease (κs .1 .1 .0) (qs .1 .1 .0)),
-        ) (List._∷_ (
-          4,
-          Relend.mslice-owed (Element.type) (Syntax.tyRef
-              (Syntax.named 3) Syntax.mut Element.behind) 3 6 (Row.lease (κs .1 .1 .1 .0) (qs .1 .1 .1 .0)),
-        ) (List._∷_ (5, Rows.whole (Declared'.row Form.the-type)) (List._∷_ (
-          6,
-          Rows.sc-here (Row.sInt
-              Syntax.w64),
-        ) (List._∷_ (
-          7,
-          Rows.any-gone (Syntax.tyEnum (List._∷_ 119 (List._∷_ 114 (List._∷_ 105 (List._∷_ 116 (List._∷_ 105 (List._∷_ 110 (List._∷_ 103 (List._∷_ 58 (List._∷_ 58 (List._∷_
-              80 (List._∷_ 117 (List._∷_ 116 List.[])))))))))))) (Syntax.ttcons (Syntax.tcons (Syntax.tyStruct (List._∷_ 98 (List._∷_ 105 (List._∷_ 116 (List._∷_ 115 (List._∷_ 58 (List._∷_ 58 (List._∷_ 66
-              (List._∷_ 105 (List._∷_ 116 (List._∷_ 80 (List._∷_ 111 (List._∷_ 115 (List._∷_ 105 (List._∷_ 116 (List._∷_ 105 (List._∷_ 111 (List._∷_ 110 List.[]))))))))))))))))) (Syntax.tcons (Syntax.tyInt
-              Syntax.w64) Syntax.tnil)) Syntax.tnil) (Syntax.ttcons (Syntax.tcons (Syntax.tyInt Syntax.w64) Syntax.tnil) Syntax.ttnil))),
-        ) (List._∷_ (8, Rows.any-gone (Syntax.tyInt Syntax.w64)) (List._∷_ (
-          9,
-          Rows.any-gone (Syntax.tyStruct (List._∷_ 98 (List._∷_ 105 (List._∷_ 116 (List._∷_ 115 (List._∷_ 58 (List._∷_ 58 (List._∷_ 66 (List._∷_ 105 (List._∷_ 116 (List._∷_ 80 (List._∷_ 111 (List._∷_
-              115 (List._∷_ 105 (List._∷_ 116 (List._∷_ 105 (List._∷_ 111 (List._∷_ 110 List.[]))))))))))))))))) (Syntax.tcons (Syntax.tyInt Syntax.w64) Syntax.tnil)),
-        ) (List._∷_ (
-          10,
-          Rows.any-gone
-              (Syntax.tyInt Syntax.w64),
-        ) (List._∷_ (11, Rows.any-gone (Syntax.tyRef Syntax.erased Syntax.mut (Syntax.tyInt Syntax.w8))) (List._∷_ (
-          12,
-          Mut.mslice (Referent.rtF (Referent.fInt Syntax.w8))
-              (Syntax.tyRef Syntax.erased Syntax.mut (Syntax.tyInt Syntax.w8)) 4,
-        ) (List._∷_ (13, Rows.any-gone (Syntax.tyRef Syntax.erased Syntax.mut (Syntax.tyInt Syntax.w16))) (List._∷_ (
-          14,
-          Mut.mslice (Referent.rtF (Referent.fInt Syntax.w16)) (Syntax.tyRef Syntax.erased Syntax.mut (Syntax.tyInt Syntax.w16)) 5,
-        ) (List._∷_ (
-          15,
-          Relend.msptr (Element.type) (Syntax.tyRef
-              Syntax.erased Syntax.mut Element.behind) 6,
-        ) List.[])))))))))))))))
+        g7 = List._∷_ e0 (List._∷_ e2 (List._∷_
+            (2, Relend.mslice-owed (Referent.rtF (Referent.fInt Syntax.w8)) (Syntax.tyRef (Syntax.named 1) Syntax.mut (Syntax.tyInt Syntax.w8)) 1 4 (Row.lease (κs .1 .0) (qs .1 .0))) (List._∷_
+            (3, Relend.mslice-owed (Referent.rtF (Referent.fInt Syntax.w16)) (Syntax.tyRef (Syntax.named 2) Syntax.mut (Syntax.tyInt Syntax.w16)) 2 5 (Row.lease (κs .1 .1 .0) (qs .1 .1 .0))) (List._∷_
+            (4, Relend.mslice-owed (Element.type) (Syntax.tyRef (Syntax.named 3) Syntax.mut Element.behind) 3 6 (Row.lease (κs .1 .1 .1 .0) (qs .1 .1 .1 .0))) (List._∷_ e49 (List._∷_ e51 (List._∷_ e52
+            (List._∷_ e56 (List._∷_ e58 (List._∷_ e3 (List._∷_ e6 (List._∷_ e8 (List._∷_ e11 (List._∷_ e13 (List._∷_ e15 List.[])))))))))))))))
 
         abbrev g8 : List.List Row.Entry
-        g8 = List._∷_ (
-          0,
-          Rows.any-gone (Syntax.tyEnum (List._∷_ 98 (List._∷_ 108 (List._∷_ 111 (List._∷_ 99 (List._∷_ 107 (List._∷_ 58 (List._∷_ 58 (List._∷_ 87 (List._∷_ 114 (List._∷_ 105 (List._∷_
-              116 (List._∷_ 116 (List._∷_ 101 (List._∷_ 110 List.[])))))))))))))) (Syntax.ttcons (Syntax.tcons (Syntax.tyInt Syntax.w64) Syntax.tnil) (Syntax.ttcons (Syntax.tcons (Syntax.tyEnum (List._∷_
-              115 (List._∷_ 116 (List._∷_ 114 (List._∷_ 101 (List._∷_ 97 (List._∷_ 109 (List._∷_ 58 (List._∷_ 58 (List._∷_ 82 (List._∷_ 101 (List._∷_ 102 (List._∷_ 117 (List._∷_ 115 (List._∷_ 97 (List._∷_
-              108 List.[]))))))))))))))) (Syntax.ttcons Syntax.tnil (Syntax.ttcons Syntax.tnil (Syntax.ttcons Syntax.tnil (Syntax.ttcons (Syntax.tcons (Syntax.tyInt Syntax.w64) Syntax.tnil) (Syntax.ttcons
-              Syntax.tnil (Syntax.ttcons Syntax.tnil (Syntax.ttcons Syntax.tnil (Syntax.ttcons Syntax.tnil (Syntax.ttcons Syntax.tnil (Syntax.ttcons Syntax.tnil (Syntax.ttcons (Syntax.tcons (Syntax.tyInt
-              Syntax.w64) Syntax.tnil) (Syntax.ttcons (Syntax.tcons (Syntax.tyInt Syntax.w64) Syntax.tnil) (Syntax.ttcons Syntax.tnil (Syntax.ttcons (Syntax.tcons (Syntax.tyInt Syntax.w64) (Syntax.tcons
-              (Syntax.tyInt Syntax.w64) Syntax.tnil)) (Syntax.ttcons (Syntax.tcons (Syntax.tyInt Syntax.w64) Syntax.tnil) Syntax.ttnil)))))))))))))))) Syntax.tnil) Syntax.ttnil))),
-        ) (List._∷_ (
-          1,
-          Rows.sslice (Referent.rtF (Referent.fInt Syntax.w16)) (Syntax.tyRef (Syntax.named 0) Syntax.imm (Syntax.tyInt Syntax.w16)) 0,
-        ) (List._∷_ (
-          2,
-          Relend.mslice-owed (Referent.rtF (Referent.fInt
-              Syntax.w8)) (Syntax.tyRef (Syntax.named 1) Syntax.mut (Syntax.tyInt Syntax.w8)) 1 4 (Row.lease (κs .1 .0) (qs .1 .0)),
-        ) (List._∷_ (
-          3,
-          Relend.mslice-owed (Referent.rtF (Referent.fInt
-              Syntax.w16)) (Syntax.tyRef (Syntax.named 2) Syntax.mut (Syntax.tyInt Syntax.w16)) 2 5 (Row.lease (κs .1 .1 .0) (qs .1 .1 .0)),
-        ) (List._∷_ (
-          4,
-          Relend.mslice-owed (Element.type) (Syntax.tyRef
-              (Syntax.named 3) Syntax.mut Element.behind) 3 6 (Row.lease (κs .1 .1 .1 .0) (qs .1 .1 .1 .0)),
-        ) (List._∷_ (5, Rows.whole (Declared'.row Form.the-type)) (List._∷_ (
-          6,
-          Rows.sc-here (Row.sInt
-              Syntax.w64),
-        ) (List._∷_ (
-          7,
-          Rows.any-gone (Syntax.tyEnum (List._∷_ 119 (List._∷_ 114 (List._∷_ 105 (List._∷_ 116 (List._∷_ 105 (List._∷_ 110 (List._∷_ 103 (List._∷_ 58 (List._∷_ 58 (List._∷_
-              80 (List._∷_ 117 (List._∷_ 116 List.[])))))))))))) (Syntax.ttcons (Syntax.tcons (Syntax.tyStruct (List._∷_ 98 (List._∷_ 105 (List._∷_ 116 (List._∷_ 115 (List._∷_ 58 (List._∷_ 58 (List._∷_ 66
-              (List._∷_ 105 (List._∷_ 116 (List._∷_ 80 (List._∷_ 111 (List._∷_ 115 (List._∷_ 105 (List._∷_ 116 (List._∷_ 105 (List._∷_ 111 (List._∷_ 110 List.[]))))))))))))))))) (Syntax.tcons (Syntax.tyInt
-              Syntax.w64) Syntax.tnil)) Syntax.tnil) (Syntax.ttcons (Syntax.tcons (Syntax.tyInt Syntax.w64) Syntax.tnil) Syntax.ttnil))),
-        ) (List._∷_ (8, Rows.any-gone (Syntax.tyInt Syntax.w64)) (List._∷_ (
-          9,
-          Rows.any-gone (Syntax.tyStruct (List._∷_ 98 (List._∷_ 105 (List._∷_ 116 (List._∷_ 115 (List._∷_ 58 (List._∷_ 58 (List._∷_ 66 (List._∷_ 105 (List._∷_ 116 (List._∷_ 80 (List._∷_ 111 (List._∷_
-              115 (List._∷_ 105 (List._∷_ 116 (List._∷_ 105 (List._∷_ 111 (List._∷_ 110 List.[]))))))))))))))))) (Syntax.tcons (Syntax.tyInt Syntax.w64) Syntax.tnil)),
-        ) (List._∷_ (
-          10,
-          Rows.any-gone
-              (Syntax.tyInt Syntax.w64),
-        ) (List._∷_ (11, Rows.any-gone (Syntax.tyRef Syntax.erased Syntax.mut (Syntax.tyInt Syntax.w8))) (List._∷_ (
-          12,
-          Mut.mslice (Referent.rtF (Referent.fInt Syntax.w8))
-              (Syntax.tyRef Syntax.erased Syntax.mut (Syntax.tyInt Syntax.w8)) 4,
-        ) (List._∷_ (13, Rows.any-gone (Syntax.tyRef Syntax.erased Syntax.mut (Syntax.tyInt Syntax.w16))) (List._∷_ (
-          14,
-          Mut.mslice (Referent.rtF (Referent.fInt Syntax.w16)) (Syntax.tyRef Syntax.erased Syntax.mut (Syntax.tyInt Syntax.w16)) 5,
-        ) (List._∷_ (
-          15,
-          Rows.any-gone (Syntax.tyRef Syntax.erased Syntax.mut
-              Element.behind),
-        ) List.[])))))))))))))))
+        g8 = List._∷_ e0 (List._∷_ e2 (List._∷_
+            (2, Relend.mslice-owed (Referent.rtF (Referent.fInt Syntax.w8)) (Syntax.tyRef (Syntax.named 1) Syntax.mut (Syntax.tyInt Syntax.w8)) 1 4 (Row.lease (κs .1 .0) (qs .1 .0))) (List._∷_
+            (3, Relend.mslice-owed (Referent.rtF (Referent.fInt Syntax.w16)) (Syntax.tyRef (Syntax.named 2) Syntax.mut (Syntax.tyInt Syntax.w16)) 2 5 (Row.lease (κs .1 .1 .0) (qs .1 .1 .0))) (List._∷_
+            (4, Relend.mslice-owed (Element.type) (Syntax.tyRef (Syntax.named 3) Syntax.mut Element.behind) 3 6 (Row.lease (κs .1 .1 .1 .0) (qs .1 .1 .1 .0))) (List._∷_ e49 (List._∷_ e51 (List._∷_ e52
+            (List._∷_ e56 (List._∷_ e58 (List._∷_ e3 (List._∷_ e6 (List._∷_ e8 (List._∷_ e11 (List._∷_ e13 (List._∷_ e16 List.[])))))))))))))))
 
         abbrev g10 : List.List Row.Entry
-        g10 = List._∷_ (
-          0,
-          Rows.any-gone (Syntax.tyEnum (List._∷_ 98 (List._∷_ 108 (List._∷_ 111 (List._∷_ 99 (List._∷_ 107 (List._∷_ 58 (List._∷_ 58 (List._∷_ 87 (List._∷_ 114 (List._∷_ 105
-              (List._∷_ 116 (List._∷_ 116 (List._∷_ 101 (List._∷_ 110 List.[])))))))))))))) (Syntax.ttcons (Syntax.tcons (Syntax.tyInt Syntax.w64) Syntax.tnil) (Syntax.ttcons (Syntax.tcons (Syntax.tyEnum
-              (List._∷_ 115 (List._∷_ 116 (List._∷_ 114 (List._∷_ 101 (List._∷_ 97 (List._∷_ 109 (List._∷_ 58 (List._∷_ 58 (List._∷_ 82 (List._∷_ 101 (List._∷_ 102 (List._∷_ 117 (List._∷_ 115 (List._∷_ 97
-              (List._∷_ 108 List.[]))))))))))))))) (Syntax.ttcons Syntax.tnil (Syntax.ttcons Syntax.tnil (Syntax.ttcons Syntax.tnil (Syntax.ttcons (Syntax.tcons (Syntax.tyInt Syntax.w64) Syntax.tnil)
-              (Syntax.ttcons Syntax.tnil (Syntax.ttcons Syntax.tnil (Syntax.ttcons Syntax.tnil (Syntax.ttcons Syntax.tnil (Syntax.ttcons Syntax.tnil (Syntax.ttcons Syntax.tnil (Syntax.ttcons (Syntax.tcons
-              (Syntax.tyInt Syntax.w64) Syntax.tnil) (Syntax.ttcons (Syntax.tcons (Syntax.tyInt Syntax.w64) Syntax.tnil) (Syntax.ttcons Syntax.tnil (Syntax.ttcons (Syntax.tcons (Syntax.tyInt Syntax.w64)
-              (Syntax.tcons (Syntax.tyInt Syntax.w64) Syntax.tnil)) (Syntax.ttcons (Syntax.tcons (Syntax.tyInt Syntax.w64) Syntax.tnil) Syntax.ttnil)))))))))))))))) Syntax.tnil) Syntax.ttnil))),
-        ) (List._∷_
-            (1, Rows.sslice (Referent.rtF (Referent.fInt Syntax.w16)) (Syntax.tyRef (Syntax.named 0) Syntax.imm (Syntax.tyInt Syntax.w16)) 0) (List._∷_ (
-              2,
-              Relend.mslice-owed (Referent.rtF
-                  (Referent.fInt Syntax.w8)) (Syntax.tyRef (Syntax.named 1) Syntax.mut (Syntax.tyInt Syntax.w8)) 1 4 (Row.lease (κs .1 .0) (qs .1 .0)),
-            ) (List._∷_ (
-              3,
-              Relend.mslice-owed (Referent.rtF
-                  (Referent.fInt Syntax.w16)) (Syntax.tyRef (Syntax.named 2) Syntax.mut (Syntax.tyInt Syntax.w16)) 2 5 (Row.lease (κs .1 .1 .0) (qs .1 .1 .0)),
-            ) (List._∷_ (
-              4,
-              Relend.mslice-owed (Element.type)
-                  (Syntax.tyRef (Syntax.named 3) Syntax.mut Element.behind) 3 6 (Row.lease (κs .1 .1 .1 .0) (qs .1 .1 .1 .0)),
-            ) (List._∷_ (5, Rows.whole (Declared'.row Form.the-type)) (List._∷_ (
-              6,
-              Rows.sc-here (Row.sInt Syntax.w64),
-            ) (List._∷_ (7, Rows.whole (Declared.row Put.the-type)) (List._∷_ (8, Rows.any-gone (Syntax.tyInt Syntax.w64)) (List._∷_ (
-              9,
-              Rows.any-gone
-                  (Syntax.tyStruct (List._∷_ 98 (List._∷_ 105 (List._∷_ 116 (List._∷_ 115 (List._∷_ 58 (List._∷_ 58 (List._∷_ 66 (List._∷_ 105 (List._∷_ 116 (List._∷_ 80 (List._∷_ 111 (List._∷_ 115 (List._∷_
-                  105 (List._∷_ 116 (List._∷_ 105 (List._∷_ 111 (List._∷_ 110 List.[]))))))))))))))))) (Syntax.tcons (Syntax.tyInt Syntax.w64) Syntax.tnil)),
-            ) (List._∷_ (
-              10,
-              Rows.any-gone (Syntax.tyInt
-                  Syntax.w64),
-            ) (List._∷_ (11, Rows.any-gone (Syntax.tyRef Syntax.erased Syntax.mut (Syntax.tyInt Syntax.w8))) (List._∷_ (
-              12,
-              Mut.msleft (Referent.rtF (Referent.fInt Syntax.w8)) (Syntax.tyRef
-                  Syntax.erased Syntax.mut (Syntax.tyInt Syntax.w8)),
-            ) (List._∷_ (13, Rows.any-gone (Syntax.tyRef Syntax.erased Syntax.mut (Syntax.tyInt Syntax.w16))) (List._∷_ (
-              14,
-              Mut.msleft
-                  (Referent.rtF (Referent.fInt Syntax.w16)) (Syntax.tyRef Syntax.erased Syntax.mut (Syntax.tyInt Syntax.w16)),
-            ) (List._∷_ (
-              15,
-              Rows.any-gone (Syntax.tyRef Syntax.erased Syntax.mut
-                  Element.behind),
-            ) List.[])))))))))))))))
+        g10 = List._∷_ e0 (List._∷_ e2 (List._∷_
+            (2, Relend.mslice-owed (Referent.rtF (Referent.fInt Syntax.w8)) (Syntax.tyRef (Syntax.named 1) Syntax.mut (Syntax.tyInt Syntax.w8)) 1 4 (Row.lease (κs .1 .0) (qs .1 .0))) (List._∷_
+            (3, Relend.mslice-owed (Referent.rtF (Referent.fInt Syntax.w16)) (Syntax.tyRef (Syntax.named 2) Syntax.mut (Syntax.tyInt Syntax.w16)) 2 5 (Row.lease (κs .1 .1 .0) (qs .1 .1 .0))) (List._∷_
+            (4, Relend.mslice-owed (Element.type) (Syntax.tyRef (Syntax.named 3) Syntax.mut Element.behind) 3 6 (Row.lease (κs .1 .1 .1 .0) (qs .1 .1 .1 .0))) (List._∷_ e49 (List._∷_ e51 (List._∷_ e53
+            (List._∷_ e56 (List._∷_ e58 (List._∷_ e3 (List._∷_ e6 (List._∷_ e7 (List._∷_ e11 (List._∷_ e12 (List._∷_ e16 List.[])))))))))))))))
 
         abbrev g14 : List.List Row.Entry
-        g14 = List._∷_ (
-          0,
-          Rows.any-gone (Syntax.tyEnum (List._∷_ 98 (List._∷_ 108 (List._∷_ 111 (List._∷_ 99 (List._∷_ 107 (List._∷_ 58 (List._∷_ 58 (List._∷_ 87 (List._∷_ 114 (List._∷_ 105
-              (List._∷_ 116 (List._∷_ 116 (List._∷_ 101 (List._∷_ 110 List.[])))))))))))))) (Syntax.ttcons (Syntax.tcons (Syntax.tyInt Syntax.w64) Syntax.tnil) (Syntax.ttcons (Syntax.tcons (Syntax.tyEnum
-              (List._∷_ 115 (List._∷_ 116 (List._∷_ 114 (List._∷_ 101 (List._∷_ 97 (List._∷_ 109 (List._∷_ 58 (List._∷_ 58 (List._∷_ 82 (List._∷_ 101 (List._∷_ 102 (List._∷_ 117 (List._∷_ 115 (List._∷_ 97
-              (List._∷_ 108 List.[]))))))))))))))) (Syntax.ttcons Syntax.tnil (Syntax.ttcons Syntax.tnil (Syntax.ttcons Syntax.tnil (Syntax.ttcons (Syntax.tcons (Syntax.tyInt Syntax.w64) Syntax.tnil)
-              (Syntax.ttcons Syntax.tnil (Syntax.ttcons Syntax.tnil (Syntax.ttcons Syntax.tnil (Syntax.ttcons Syntax.tnil (Syntax.ttcons Syntax.tnil (Syntax.ttcons Syntax.tnil (Syntax.ttcons (Syntax.tcons
-              (Syntax.tyInt Syntax.w64) Syntax.tnil) (Syntax.ttcons (Syntax.tcons (Syntax.tyInt Syntax.w64) Syntax.tnil) (Syntax.ttcons Syntax.tnil (Syntax.ttcons (Syntax.tcons (Syntax.tyInt Syntax.w64)
-              (Syntax.tcons (Syntax.tyInt Syntax.w64) Syntax.tnil)) (Syntax.ttcons (Syntax.tcons (Syntax.tyInt Syntax.w64) Syntax.tnil) Syntax.ttnil)))))))))))))))) Syntax.tnil) Syntax.ttnil))),
-        ) (List._∷_
-            (1, Rows.sslice (Referent.rtF (Referent.fInt Syntax.w16)) (Syntax.tyRef (Syntax.named 0) Syntax.imm (Syntax.tyInt Syntax.w16)) 0) (List._∷_ (
-              2,
-              Mut.mslice (Referent.rtF (Referent.fInt
-                  Syntax.w8)) (Syntax.tyRef (Syntax.named 1) Syntax.mut (Syntax.tyInt Syntax.w8)) 1,
-            ) (List._∷_ (
-              3,
-              Relend.mslice-owed (Referent.rtF (Referent.fInt Syntax.w16)) (Syntax.tyRef (Syntax.named 2)
-                  Syntax.mut (Syntax.tyInt Syntax.w16)) 2 5 (Row.lease (κs .1 .1 .0) (qs .1 .1 .0)),
-            ) (List._∷_ (
-              4,
-              Relend.mslice-owed (Element.type) (Syntax.tyRef (Syntax.named 3) Syntax.mut Element.behind)
-                  3 6 (Row.lease (κs .1 .1 .1 .0) (qs .1 .1 .1 .0)),
-            ) (List._∷_ (5, Rows.whole (Declared'.row Form.the-type)) (List._∷_ (6, Rows.sc-here (Row.sInt Syntax.w64)) (List._∷_ (
-              7,
-              Rows.whole
-                  (Declared.row Put.the-type),
-            ) (List._∷_ (8, Rows.any-gone (Syntax.tyInt Syntax.w64)) (List._∷_ (
-              9,
-              Rows.any-gone (Syntax.tyStruct (List._∷_ 98 (List._∷_ 105 (List._∷_ 116 (List._∷_ 115
-                  (List._∷_ 58 (List._∷_ 58 (List._∷_ 66 (List._∷_ 105 (List._∷_ 116 (List._∷_ 80 (List._∷_ 111 (List._∷_ 115 (List._∷_ 105 (List._∷_ 116 (List._∷_ 105 (List._∷_ 111 (List._∷_ 110
-                  List.[]))))))))))))))))) (Syntax.tcons (Syntax.tyInt Syntax.w64) Syntax.tnil)),
-            ) (List._∷_ (10, Rows.any-gone (Syntax.tyInt Syntax.w64)) (List._∷_ (
-              11,
-              Rows.any-gone (Syntax.tyRef
-                  Syntax.erased Syntax.mut (Syntax.tyInt Syntax.w8)),
-            ) (List._∷_ (
-              12,
-              Rows.any-gone (Syntax.tyStruct (List._∷_ 38 (List._∷_ 91 (List._∷_ 93 List.[]))) (Syntax.tcons (Syntax.tyRef Syntax.erased
-                  Syntax.mut (Syntax.tyInt Syntax.w8)) (Syntax.tcons (Syntax.tyInt Syntax.w64) Syntax.tnil))),
-            ) (List._∷_ (
-              13,
-              Rows.any-gone (Syntax.tyRef Syntax.erased Syntax.mut (Syntax.tyInt Syntax.w16)),
-            ) (List._∷_ (14, Mut.msleft (Referent.rtF (Referent.fInt Syntax.w16)) (Syntax.tyRef Syntax.erased Syntax.mut (Syntax.tyInt Syntax.w16))) (List._∷_ (
-              15,
-              Rows.any-gone (Syntax.tyRef
-                  Syntax.erased Syntax.mut Element.behind),
-            ) List.[])))))))))))))))
+        g14 = List._∷_ e0 (List._∷_ e2 (List._∷_ e24 (List._∷_
+            (3, Relend.mslice-owed (Referent.rtF (Referent.fInt Syntax.w16)) (Syntax.tyRef (Syntax.named 2) Syntax.mut (Syntax.tyInt Syntax.w16)) 2 5 (Row.lease (κs .1 .1 .0) (qs .1 .1 .0))) (List._∷_
+            (4, Relend.mslice-owed (Element.type) (Syntax.tyRef (Syntax.named 3) Syntax.mut Element.behind) 3 6 (Row.lease (κs .1 .1 .1 .0) (qs .1 .1 .1 .0))) (List._∷_ e49 (List._∷_ e51 (List._∷_ e53
+            (List._∷_ e56 (List._∷_ e58 (List._∷_ e3 (List._∷_ e6 (List._∷_ e9 (List._∷_ e11 (List._∷_ e12 (List._∷_ e16 List.[])))))))))))))))
 
         abbrev g15 : List.List Row.Entry
-        g15 = List._∷_ (
-          0,
-          Rows.any-gone (Syntax.tyEnum (List._∷_ 98 (List._∷_ 108 (List._∷_ 111 (List._∷_ 99 (List._∷_ 107 (List._∷_ 58 (List._∷_ 58 (List._∷_ 87 (List._∷_ 114 (List._∷_ 105
-              (List._∷_ 116 (List._∷_ 116 (List._∷_ 101 (List._∷_ 110 List.[])))))))))))))) (Syntax.ttcons (Syntax.tcons (Syntax.tyInt Syntax.w64) Syntax.tnil) (Syntax.ttcons (Syntax.tcons (Syntax.tyEnum
-              (List._∷_ 115 (List._∷_ 116 (List._∷_ 114 (List._∷_ 101 (List._∷_ 97 (List._∷_ 109 (List._∷_ 58 (List._∷_ 58 (List._∷_ 82 (List._∷_ 101 (List._∷_ 102 (List._∷_ 117 (List._∷_ 115 (List._∷_ 97
-              (List._∷_ 108 List.[]))))))))))))))) (Syntax.ttcons Syntax.tnil (Syntax.ttcons Syntax.tnil (Syntax.ttcons Syntax.tnil (Syntax.ttcons (Syntax.tcons (Syntax.tyInt Syntax.w64) Syntax.tnil)
-              (Syntax.ttcons Syntax.tnil (Syntax.ttcons Syntax.tnil (Syntax.ttcons Syntax.tnil (Syntax.ttcons Syntax.tnil (Syntax.ttcons Syntax.tnil (Syntax.ttcons Syntax.tnil (Syntax.ttcons (Syntax.tcons
-              (Syntax.tyInt Syntax.w64) Syntax.tnil) (Syntax.ttcons (Syntax.tcons (Syntax.tyInt Syntax.w64) Syntax.tnil) (Syntax.ttcons Syntax.tnil (Syntax.ttcons (Syntax.tcons (Syntax.tyInt Syntax.w64)
-              (Syntax.tcons (Syntax.tyInt Syntax.w64) Syntax.tnil)) (Syntax.ttcons (Syntax.tcons (Syntax.tyInt Syntax.w64) Syntax.tnil) Syntax.ttnil)))))))))))))))) Syntax.tnil) Syntax.ttnil))),
-        ) (List._∷_
-            (1, Rows.sslice (Referent.rtF (Referent.fInt Syntax.w16)) (Syntax.tyRef (Syntax.named 0) Syntax.imm (Syntax.tyInt Syntax.w16)) 0) (List._∷_ (
-              2,
-              Mut.mslice (Referent.rtF (Referent.fInt
-                  Syntax.w8)) (Syntax.tyRef (Syntax.named 1) Syntax.mut (Syntax.tyInt Syntax.w8)) 1,
-            ) (List._∷_ (
-              3,
-              Mut.mslice (Referent.rtF (Referent.fInt Syntax.w16)) (Syntax.tyRef (Syntax.named 2)
-                  Syntax.mut (Syntax.tyInt Syntax.w16)) 2,
-            ) (List._∷_ (
-              4,
-              Relend.mslice-owed (Element.type) (Syntax.tyRef (Syntax.named 3) Syntax.mut Element.behind) 3 6 (Row.lease (κs .1 .1 .1 .0) (qs .1 .1
-                  .1 .0)),
-            ) (List._∷_ (5, Rows.whole (Declared'.row Form.the-type)) (List._∷_ (6, Rows.sc-here (Row.sInt Syntax.w64)) (List._∷_ (7, Rows.whole (Declared.row Put.the-type)) (List._∷_ (
-              8,
-              Rows.any-gone (Syntax.tyInt Syntax.w64),
-            ) (List._∷_ (
-              9,
-              Rows.any-gone (Syntax.tyStruct (List._∷_ 98 (List._∷_ 105 (List._∷_ 116 (List._∷_ 115 (List._∷_ 58 (List._∷_ 58 (List._∷_ 66 (List._∷_
-                  105 (List._∷_ 116 (List._∷_ 80 (List._∷_ 111 (List._∷_ 115 (List._∷_ 105 (List._∷_ 116 (List._∷_ 105 (List._∷_ 111 (List._∷_ 110 List.[]))))))))))))))))) (Syntax.tcons (Syntax.tyInt
-                  Syntax.w64) Syntax.tnil)),
-            ) (List._∷_ (10, Rows.any-gone (Syntax.tyInt Syntax.w64)) (List._∷_ (11, Rows.any-gone (Syntax.tyRef Syntax.erased Syntax.mut (Syntax.tyInt Syntax.w8))) (List._∷_ (
-              12,
-              Rows.any-gone (Syntax.tyStruct (List._∷_ 38 (List._∷_ 91 (List._∷_ 93 List.[]))) (Syntax.tcons (Syntax.tyRef Syntax.erased Syntax.mut (Syntax.tyInt Syntax.w8)) (Syntax.tcons
-                  (Syntax.tyInt Syntax.w64) Syntax.tnil))),
-            ) (List._∷_ (13, Rows.any-gone (Syntax.tyRef Syntax.erased Syntax.mut (Syntax.tyInt Syntax.w16))) (List._∷_ (
-              14,
-              Rows.any-gone (Syntax.tyStruct
-                  (List._∷_ 38 (List._∷_ 91 (List._∷_ 93 List.[]))) (Syntax.tcons (Syntax.tyRef Syntax.erased Syntax.mut (Syntax.tyInt Syntax.w16)) (Syntax.tcons (Syntax.tyInt Syntax.w64) Syntax.tnil))),
-            )
-            (List._∷_ (15, Rows.any-gone (Syntax.tyRef Syntax.erased Syntax.mut Element.behind)) List.[])))))))))))))))
+        g15 = List._∷_ e0 (List._∷_ e2 (List._∷_ e24 (List._∷_ e42 (List._∷_
+            (4, Relend.mslice-owed (Element.type) (Syntax.tyRef (Syntax.named 3) Syntax.mut Element.behind) 3 6 (Row.lease (κs .1 .1 .1 .0) (qs .1 .1 .1 .0))) (List._∷_ e49 (List._∷_ e51 (List._∷_ e53
+            (List._∷_ e56 (List._∷_ e58 (List._∷_ e3 (List._∷_ e6 (List._∷_ e9 (List._∷_ e11 (List._∷_ e14 (List._∷_ e16 List.[])))))))))))))))
 
         abbrev g35 : List.List Row.Entry
-        g35 = List._∷_ (
-          0,
-          Rows.any-gone (Syntax.tyEnum (List._∷_ 98 (List._∷_ 108 (List._∷_ 111 (List._∷_ 99 (List._∷_ 107 (List._∷_ 58 (List._∷_ 58 (List._∷_ 87 (List._∷_ 114 (List._∷_ 105
-              (List._∷_ 116 (List._∷_ 116 (List._∷_ 101 (List._∷_ 110 List.[])))))))))))))) (Syntax.ttcons (Syntax.tcons (Syntax.tyInt Syntax.w64) Syntax.tnil) (Syntax.ttcons (Syntax.tcons (Syntax.tyEnum
-              (List._∷_ 115 (List._∷_ 116 (List._∷_ 114 (List._∷_ 101 (List._∷_ 97 (List._∷_ 109 (List._∷_ 58 (List._∷_ 58 (List._∷_ 82 (List._∷_ 101 (List._∷_ 102 (List._∷_ 117 (List._∷_ 115 (List._∷_ 97
-              (List._∷_ 108 List.[]))))))))))))))) (Syntax.ttcons Syntax.tnil (Syntax.ttcons Syntax.tnil (Syntax.ttcons Syntax.tnil (Syntax.ttcons (Syntax.tcons (Syntax.tyInt Syntax.w64) Syntax.tnil)
-              (Syntax.ttcons Syntax.tnil (Syntax.ttcons Syntax.tnil (Syntax.ttcons Syntax.tnil (Syntax.ttcons Syntax.tnil (Syntax.ttcons Syntax.tnil (Syntax.ttcons Syntax.tnil (Syntax.ttcons (Syntax.tcons
-              (Syntax.tyInt Syntax.w64) Syntax.tnil) (Syntax.ttcons (Syntax.tcons (Syntax.tyInt Syntax.w64) Syntax.tnil) (Syntax.ttcons Syntax.tnil (Syntax.ttcons (Syntax.tcons (Syntax.tyInt Syntax.w64)
-              (Syntax.tcons (Syntax.tyInt Syntax.w64) Syntax.tnil)) (Syntax.ttcons (Syntax.tcons (Syntax.tyInt Syntax.w64) Syntax.tnil) Syntax.ttnil)))))))))))))))) Syntax.tnil) Syntax.ttnil))),
-        ) (List._∷_
-            (1, Rows.sslice (Referent.rtF (Referent.fInt Syntax.w16)) (Syntax.tyRef (Syntax.named 0) Syntax.imm (Syntax.tyInt Syntax.w16)) 0) (List._∷_ (
-              2,
-              Relend.mslice-owed (Referent.rtF
-                  (Referent.fInt Syntax.w8)) (Syntax.tyRef (Syntax.named 1) Syntax.mut (Syntax.tyInt Syntax.w8)) 1 7 (Row.lease (κs .1 .0) (qs .1 .0)),
-            ) (List._∷_ (
-              3,
-              Mut.mslice (Referent.rtF (Referent.fInt
-                  Syntax.w16)) (Syntax.tyRef (Syntax.named 2) Syntax.mut (Syntax.tyInt Syntax.w16)) 2,
-            ) (List._∷_ (4, Mut.mslice (Element.type) (Syntax.tyRef (Syntax.named 3) Syntax.mut Element.behind) 3)
-            (List._∷_ (5, Rows.whole (Declared'.row Form.the-type)) (List._∷_ (6, Rows.sc-here (Row.sInt Syntax.w64)) (List._∷_ (
-              7,
-              Rows.any-gone (Syntax.tyEnum (List._∷_ 119 (List._∷_ 114 (List._∷_
-                  105 (List._∷_ 116 (List._∷_ 105 (List._∷_ 110 (List._∷_ 103 (List._∷_ 58 (List._∷_ 58 (List._∷_ 80 (List._∷_ 117 (List._∷_ 116 List.[])))))))))))) (Syntax.ttcons (Syntax.tcons (Syntax.tyStruct
-                  (List._∷_ 98 (List._∷_ 105 (List._∷_ 116 (List._∷_ 115 (List._∷_ 58 (List._∷_ 58 (List._∷_ 66 (List._∷_ 105 (List._∷_ 116 (List._∷_ 80 (List._∷_ 111 (List._∷_ 115 (List._∷_ 105 (List._∷_ 116
-                  (List._∷_ 105 (List._∷_ 111 (List._∷_ 110 List.[]))))))))))))))))) (Syntax.tcons (Syntax.tyInt Syntax.w64) Syntax.tnil)) Syntax.tnil) (Syntax.ttcons (Syntax.tcons (Syntax.tyInt Syntax.w64)
-                  Syntax.tnil) Syntax.ttnil))),
-            ) (List._∷_ (8, Rows.any-gone (Syntax.tyInt Syntax.w64)) (List._∷_ (
-              9,
-              Rows.any-gone (Syntax.tyStruct (List._∷_ 98 (List._∷_ 105 (List._∷_ 116 (List._∷_ 115
-                  (List._∷_ 58 (List._∷_ 58 (List._∷_ 66 (List._∷_ 105 (List._∷_ 116 (List._∷_ 80 (List._∷_ 111 (List._∷_ 115 (List._∷_ 105 (List._∷_ 116 (List._∷_ 105 (List._∷_ 111 (List._∷_ 110
-                  List.[]))))))))))))))))) (Syntax.tcons (Syntax.tyInt Syntax.w64) Syntax.tnil)),
-            ) (List._∷_ (10, Rows.sc-here (Row.sInt Syntax.w64)) (List._∷_ (
-              11,
-              Rows.any-gone (Syntax.tyRef Syntax.erased
-                  Syntax.mut (Syntax.tyInt Syntax.w8)),
-            ) (List._∷_ (
-              12,
-              Rows.any-gone (Syntax.tyStruct (List._∷_ 38 (List._∷_ 91 (List._∷_ 93 List.[]))) (Syntax.tcons (Syntax.tyRef Syntax.erased Syntax.mut
-                  (Syntax.tyInt Syntax.w8)) (Syntax.tcons (Syntax.tyInt Syntax.w64) Syntax.tnil))),
-            ) (List._∷_ (13, Rows.any-gone (Syntax.tyRef Syntax.erased Syntax.mut (Syntax.tyInt Syntax.w16))) (List._∷_ (
-              14,
-              Rows.any-gone (Syntax.tyStruct (List._∷_ 38 (List._∷_ 91 (List._∷_ 93 List.[]))) (Syntax.tcons (Syntax.tyRef Syntax.erased Syntax.mut (Syntax.tyInt Syntax.w16)) (Syntax.tcons
-                  (Syntax.tyInt Syntax.w64) Syntax.tnil))),
-            ) (List._∷_ (15, Rows.any-gone (Syntax.tyRef Syntax.erased Syntax.mut Element.behind)) List.[])))))))))))))))
+        g35 = List._∷_ e0 (List._∷_ e2 (List._∷_
+            (2, Relend.mslice-owed (Referent.rtF (Referent.fInt Syntax.w8)) (Syntax.tyRef (Syntax.named 1) Syntax.mut (Syntax.tyInt Syntax.w8)) 1 7 (Row.lease (κs .1 .0) (qs .1 .0))) (List._∷_ e42
+            (List._∷_ e45 (List._∷_ e49 (List._∷_ e51 (List._∷_ e52 (List._∷_ e56 (List._∷_ e58 (List._∷_ e4 (List._∷_ e6 (List._∷_ e9 (List._∷_ e11 (List._∷_ e14 (List._∷_ e16 List.[])))))))))))))))
 
         abbrev g38 : List.List Row.Entry
-        g38 = List._∷_ (
-          0,
-          Rows.any-gone (Syntax.tyEnum (List._∷_ 98 (List._∷_ 108 (List._∷_ 111 (List._∷_ 99 (List._∷_ 107 (List._∷_ 58 (List._∷_ 58 (List._∷_ 87 (List._∷_ 114 (List._∷_ 105
-              (List._∷_ 116 (List._∷_ 116 (List._∷_ 101 (List._∷_ 110 List.[])))))))))))))) (Syntax.ttcons (Syntax.tcons (Syntax.tyInt Syntax.w64) Syntax.tnil) (Syntax.ttcons (Syntax.tcons (Syntax.tyEnum
-              (List._∷_ 115 (List._∷_ 116 (List._∷_ 114 (List._∷_ 101 (List._∷_ 97 (List._∷_ 109 (List._∷_ 58 (List._∷_ 58 (List._∷_ 82 (List._∷_ 101 (List._∷_ 102 (List._∷_ 117 (List._∷_ 115 (List._∷_ 97
-              (List._∷_ 108 List.[]))))))))))))))) (Syntax.ttcons Syntax.tnil (Syntax.ttcons Syntax.tnil (Syntax.ttcons Syntax.tnil (Syntax.ttcons (Syntax.tcons (Syntax.tyInt Syntax.w64) Syntax.tnil)
-              (Syntax.ttcons Syntax.tnil (Syntax.ttcons Syntax.tnil (Syntax.ttcons Syntax.tnil (Syntax.ttcons Syntax.tnil (Syntax.ttcons Syntax.tnil (Syntax.ttcons Syntax.tnil (Syntax.ttcons (Syntax.tcons
-              (Syntax.tyInt Syntax.w64) Syntax.tnil) (Syntax.ttcons (Syntax.tcons (Syntax.tyInt Syntax.w64) Syntax.tnil) (Syntax.ttcons Syntax.tnil (Syntax.ttcons (Syntax.tcons (Syntax.tyInt Syntax.w64)
-              (Syntax.tcons (Syntax.tyInt Syntax.w64) Syntax.tnil)) (Syntax.ttcons (Syntax.tcons (Syntax.tyInt Syntax.w64) Syntax.tnil) Syntax.ttnil)))))))))))))))) Syntax.tnil) Syntax.ttnil))),
-        ) (List._∷_
-            (1, Rows.sslice (Referent.rtF (Referent.fInt Syntax.w16)) (Syntax.tyRef (Syntax.named 0) Syntax.imm (Syntax.tyInt Syntax.w16)) 0) (List._∷_ (
-              2,
-              Relend.mslice-owed (Referent.rtF
-                  (Referent.fInt Syntax.w8)) (Syntax.tyRef (Syntax.named 1) Syntax.mut (Syntax.tyInt Syntax.w8)) 1 7 (Row.lease (κs .1 .0) (qs .1 .0)),
-            ) (List._∷_ (
-              3,
-              Relend.mslice-owed (Referent.rtF
-                  (Referent.fInt Syntax.w16)) (Syntax.tyRef (Syntax.named 2) Syntax.mut (Syntax.tyInt Syntax.w16)) 2 8 (Row.lease (κs .1 .1 .0) (qs .1 .1 .0)),
-            ) (List._∷_ (
-              4,
-              Mut.mslice (Element.type)
-                  (Syntax.tyRef (Syntax.named 3) Syntax.mut Element.behind) 3,
-            ) (List._∷_ (5, Rows.whole (Declared'.row Form.the-type)) (List._∷_ (6, Rows.sc-here (Row.sInt Syntax.w64)) (List._∷_ (
-              7,
-              Rows.any-gone (Syntax.tyEnum (List._∷_ 119 (List._∷_ 114 (List._∷_ 105 (List._∷_ 116 (List._∷_ 105 (List._∷_ 110 (List._∷_ 103 (List._∷_ 58 (List._∷_ 58 (List._∷_ 80 (List._∷_ 117 (List._∷_
-                  116 List.[])))))))))))) (Syntax.ttcons (Syntax.tcons (Syntax.tyStruct (List._∷_ 98 (List._∷_ 105 (List._∷_ 116 (List._∷_ 115 (List._∷_ 58 (List._∷_ 58 (List._∷_ 66 (List._∷_ 105 (List._∷_ 116
-                  (List._∷_ 80 (List._∷_ 111 (List._∷_ 115 (List._∷_ 105 (List._∷_ 116 (List._∷_ 105 (List._∷_ 111 (List._∷_ 110 List.[]))))))))))))))))) (Syntax.tcons (Syntax.tyInt Syntax.w64) Syntax.tnil))
-                  Syntax.tnil) (Syntax.ttcons (Syntax.tcons (Syntax.tyInt Syntax.w64) Syntax.tnil) Syntax.ttnil))),
-            ) (List._∷_ (8, Rows.any-gone (Syntax.tyInt Syntax.w64)) (List._∷_ (
-              9,
-              Rows.any-gone
-                  (Syntax.tyStruct (List._∷_ 98 (List._∷_ 105 (List._∷_ 116 (List._∷_ 115 (List._∷_ 58 (List._∷_ 58 (List._∷_ 66 (List._∷_ 105 (List._∷_ 116 (List._∷_ 80 (List._∷_ 111 (List._∷_ 115 (List._∷_
-                  105 (List._∷_ 116 (List._∷_ 105 (List._∷_ 111 (List._∷_ 110 List.[]))))))))))))))))) (Syntax.tcons (Syntax.tyInt Syntax.w64) Syntax.tnil)),
-            ) (List._∷_ (10, Rows.sc-here (Row.sInt Syntax.w64))
-            (List._∷_ (11, Rows.any-gone (Syntax.tyRef Syntax.erased Syntax.mut (Syntax.tyInt Syntax.w8))) (List._∷_ (
-              12,
-              Rows.any-gone (Syntax.tyStruct (List._∷_ 38 (List._∷_ 91 (List._∷_ 93
-                  List.[]))) (Syntax.tcons (Syntax.tyRef Syntax.erased Syntax.mut (Syntax.tyInt Syntax.w8)) (Syntax.tcons (Syntax.tyInt Syntax.w64) Syntax.tnil))),
-            ) (List._∷_ (
-              13,
-              Rows.any-gone (Syntax.tyRef
-                  Syntax.erased Syntax.mut (Syntax.tyInt Syntax.w16)),
-            ) (List._∷_ (
-              14,
-              Rows.any-gone (Syntax.tyStruct (List._∷_ 38 (List._∷_ 91 (List._∷_ 93 List.[]))) (Syntax.tcons (Syntax.tyRef
-                  Syntax.erased Syntax.mut (Syntax.tyInt Syntax.w16)) (Syntax.tcons (Syntax.tyInt Syntax.w64) Syntax.tnil))),
-            ) (List._∷_ (
-              15,
-              Rows.any-gone (Syntax.tyRef Syntax.erased Syntax.mut
-                  Element.behind),
-            ) List.[])))))))))))))))
+        g38 = List._∷_ e0 (List._∷_ e2 (List._∷_
+            (2, Relend.mslice-owed (Referent.rtF (Referent.fInt Syntax.w8)) (Syntax.tyRef (Syntax.named 1) Syntax.mut (Syntax.tyInt Syntax.w8)) 1 7 (Row.lease (κs .1 .0) (qs .1 .0))) (List._∷_
+            (3, Relend.mslice-owed (Referent.rtF (Referent.fInt Syntax.w16)) (Syntax.tyRef (Syntax.named 2) Syntax.mut (Syntax.tyInt Syntax.w16)) 2 8 (Row.lease (κs .1 .1 .0) (qs .1 .1 .0))) (List._∷_ e45
+            (List._∷_ e49 (List._∷_ e51 (List._∷_ e52 (List._∷_ e56 (List._∷_ e58 (List._∷_ e4 (List._∷_ e6 (List._∷_ e9 (List._∷_ e11 (List._∷_ e14 (List._∷_ e16 List.[])))))))))))))))
 
         abbrev g41 : List.List Row.Entry
-        g41 = List._∷_ (
-          0,
-          Rows.any-gone (Syntax.tyEnum (List._∷_ 98 (List._∷_ 108 (List._∷_ 111 (List._∷_ 99 (List._∷_ 107 (List._∷_ 58 (List._∷_ 58 (List._∷_ 87 (List._∷_ 114 (List._∷_ 105
-              (List._∷_ 116 (List._∷_ 116 (List._∷_ 101 (List._∷_ 110 List.[])))))))))))))) (Syntax.ttcons (Syntax.tcons (Syntax.tyInt Syntax.w64) Syntax.tnil) (Syntax.ttcons (Syntax.tcons (Syntax.tyEnum
-              (List._∷_ 115 (List._∷_ 116 (List._∷_ 114 (List._∷_ 101 (List._∷_ 97 (List._∷_ 109 (List._∷_ 58 (List._∷_ 58 (List._∷_ 82 (List._∷_ 101 (List._∷_ 102 (List._∷_ 117 (List._∷_ 115 (List._∷_ 97
-              (List._∷_ 108 List.[]))))))))))))))) (Syntax.ttcons Syntax.tnil (Syntax.ttcons Syntax.tnil (Syntax.ttcons Syntax.tnil (Syntax.ttcons (Syntax.tcons (Syntax.tyInt Syntax.w64) Syntax.tnil)
-              (Syntax.ttcons Syntax.tnil (Syntax.ttcons Syntax.tnil (Syntax.ttcons Syntax.tnil (Syntax.ttcons Syntax.tnil (Syntax.ttcons Syntax.tnil (Syntax.ttcons Syntax.tnil (Syntax.ttcons (Syntax.tcons
-              (Syntax.tyInt Syntax.w64) Syntax.tnil) (Syntax.ttcons (Syntax.tcons (Syntax.tyInt Syntax.w64) Syntax.tnil) (Syntax.ttcons Syntax.tnil (Syntax.ttcons (Syntax.tcons (Syntax.tyInt Syntax.w64)
-              (Syntax.tcons (Syntax.tyInt Syntax.w64) Syntax.tnil)) (Syntax.ttcons (Syntax.tcons (Syntax.tyInt Syntax.w64) Syntax.tnil) Syntax.ttnil)))))))))))))))) Syntax.tnil) Syntax.ttnil))),
-        ) (List._∷_
-            (1, Rows.sslice (Referent.rtF (Referent.fInt Syntax.w16)) (Syntax.tyRef (Syntax.named 0) Syntax.imm (Syntax.tyInt Syntax.w16)) 0) (List._∷_ (
-              2,
-              Relend.mslice-owed (Referent.rtF
-                  (Referent.fInt Syntax.w8)) (Syntax.tyRef (Syntax.named 1) Syntax.mut (Syntax.tyInt Syntax.w8)) 1 7 (Row.lease (κs .1 .0) (qs .1 .0)),
-            ) (List._∷_ (
-              3,
-              Relend.mslice-owed (Referent.rtF
-                  (Referent.fInt Syntax.w16)) (Syntax.tyRef (Syntax.named 2) Syntax.mut (Syntax.tyInt Syntax.w16)) 2 8 (Row.lease (κs .1 .1 .0) (qs .1 .1 .0)),
-            ) (List._∷_ (
-              4,
-              Relend.mslice-owed (Element.type)
-                  (Syntax.tyRef (Syntax.named 3) Syntax.mut Element.behind) 3 9 (Row.lease (κs .1 .1 .1 .0) (qs .1 .1 .1 .0)),
-            ) (List._∷_ (5, Rows.whole (Declared'.row Form.the-type)) (List._∷_ (
-              6,
-              Rows.sc-here (Row.sInt Syntax.w64),
-            ) (List._∷_ (
-              7,
-              Rows.any-gone (Syntax.tyEnum (List._∷_ 119 (List._∷_ 114 (List._∷_ 105 (List._∷_ 116 (List._∷_ 105 (List._∷_ 110 (List._∷_ 103 (List._∷_ 58
-                  (List._∷_ 58 (List._∷_ 80 (List._∷_ 117 (List._∷_ 116 List.[])))))))))))) (Syntax.ttcons (Syntax.tcons (Syntax.tyStruct (List._∷_ 98 (List._∷_ 105 (List._∷_ 116 (List._∷_ 115 (List._∷_ 58
-                  (List._∷_ 58 (List._∷_ 66 (List._∷_ 105 (List._∷_ 116 (List._∷_ 80 (List._∷_ 111 (List._∷_ 115 (List._∷_ 105 (List._∷_ 116 (List._∷_ 105 (List._∷_ 111 (List._∷_ 110 List.[])))))))))))))))))
-                  (Syntax.tcons (Syntax.tyInt Syntax.w64) Syntax.tnil)) Syntax.tnil) (Syntax.ttcons (Syntax.tcons (Syntax.tyInt Syntax.w64) Syntax.tnil) Syntax.ttnil))),
-            ) (List._∷_ (
-              8,
-              Rows.any-gone
-                  (Syntax.tyInt Syntax.w64),
-            ) (List._∷_ (
-              9,
-              Rows.any-gone (Syntax.tyStruct (List._∷_ 98 (List._∷_ 105 (List._∷_ 116 (List._∷_ 115 (List._∷_ 58 (List._∷_ 58 (List._∷_ 66 (List._∷_ 105 (List._∷_
-                  116 (List._∷_ 80 (List._∷_ 111 (List._∷_ 115 (List._∷_ 105 (List._∷_ 116 (List._∷_ 105 (List._∷_ 111 (List._∷_ 110 List.[]))))))))))))))))) (Syntax.tcons (Syntax.tyInt Syntax.w64)
-                  Syntax.tnil)),
-            ) (List._∷_ (10, Rows.sc-here (Row.sInt Syntax.w64)) (List._∷_ (11, Rows.any-gone (Syntax.tyRef Syntax.erased Syntax.mut (Syntax.tyInt Syntax.w8))) (List._∷_ (
-              12,
-              Rows.any-gone (Syntax.tyStruct (List._∷_ 38 (List._∷_ 91 (List._∷_ 93 List.[]))) (Syntax.tcons (Syntax.tyRef Syntax.erased Syntax.mut (Syntax.tyInt Syntax.w8)) (Syntax.tcons (Syntax.tyInt
-                  Syntax.w64) Syntax.tnil))),
-            ) (List._∷_ (13, Rows.any-gone (Syntax.tyRef Syntax.erased Syntax.mut (Syntax.tyInt Syntax.w16))) (List._∷_ (
-              14,
-              Rows.any-gone (Syntax.tyStruct (List._∷_ 38
-                  (List._∷_ 91 (List._∷_ 93 List.[]))) (Syntax.tcons (Syntax.tyRef Syntax.erased Syntax.mut (Syntax.tyInt Syntax.w16)) (Syntax.tcons (Syntax.tyInt Syntax.w64) Syntax.tnil))),
-            ) (List._∷_ (
-              15,
-              Rows.any-gone (Syntax.tyRef Syntax.erased Syntax.mut Element.behind),
-            ) List.[])))))))))))))))
+        g41 = List._∷_ e0 (List._∷_ e2 (List._∷_
+            (2, Relend.mslice-owed (Referent.rtF (Referent.fInt Syntax.w8)) (Syntax.tyRef (Syntax.named 1) Syntax.mut (Syntax.tyInt Syntax.w8)) 1 7 (Row.lease (κs .1 .0) (qs .1 .0))) (List._∷_
+            (3, Relend.mslice-owed (Referent.rtF (Referent.fInt Syntax.w16)) (Syntax.tyRef (Syntax.named 2) Syntax.mut (Syntax.tyInt Syntax.w16)) 2 8 (Row.lease (κs .1 .1 .0) (qs .1 .1 .0))) (List._∷_
+            (4, Relend.mslice-owed (Element.type) (Syntax.tyRef (Syntax.named 3) Syntax.mut Element.behind) 3 9 (Row.lease (κs .1 .1 .1 .0) (qs .1 .1 .1 .0))) (List._∷_ e49 (List._∷_ e51 (List._∷_ e52
+            (List._∷_ e56 (List._∷_ e58 (List._∷_ e4 (List._∷_ e6 (List._∷_ e9 (List._∷_ e11 (List._∷_ e14 (List._∷_ e16 List.[])))))))))))))))
 
         abbrev g45 : List.List Row.Entry
-        g45 = List._∷_ (
-          0,
-          Rows.any-gone (Syntax.tyEnum (List._∷_ 98 (List._∷_ 108 (List._∷_ 111 (List._∷_ 99 (List._∷_ 107 (List._∷_ 58 (List._∷_ 58 (List._∷_ 87 (List._∷_ 114 (List._∷_ 105
-              (List._∷_ 116 (List._∷_ 116 (List._∷_ 101 (List._∷_ 110 List.[])))))))))))))) (Syntax.ttcons (Syntax.tcons (Syntax.tyInt Syntax.w64) Syntax.tnil) (Syntax.ttcons (Syntax.tcons (Syntax.tyEnum
-              (List._∷_ 115 (List._∷_ 116 (List._∷_ 114 (List._∷_ 101 (List._∷_ 97 (List._∷_ 109 (List._∷_ 58 (List._∷_ 58 (List._∷_ 82 (List._∷_ 101 (List._∷_ 102 (List._∷_ 117 (List._∷_ 115 (List._∷_ 97
-              (List._∷_ 108 List.[]))))))))))))))) (Syntax.ttcons Syntax.tnil (Syntax.ttcons Syntax.tnil (Syntax.ttcons Syntax.tnil (Syntax.ttcons (Syntax.tcons (Syntax.tyInt Syntax.w64) Syntax.tnil)
-              (Syntax.ttcons Syntax.tnil (Syntax.ttcons Syntax.tnil (Syntax.ttcons Syntax.tnil (Syntax.ttcons Syntax.tnil (Syntax.ttcons Syntax.tnil (Syntax.ttcons Syntax.tnil (Syntax.ttcons (Syntax.tcons
-              (Syntax.tyInt Syntax.w64) Syntax.tnil) (Syntax.ttcons (Syntax.tcons (Syntax.tyInt Syntax.w64) Syntax.tnil) (Syntax.ttcons Syntax.tnil (Syntax.ttcons (Syntax.tcons (Syntax.tyInt Syntax.w64)
-              (Syntax.tcons (Syntax.tyInt Syntax.w64) Syntax.tnil)) (Syntax.ttcons (Syntax.tcons (Syntax.tyInt Syntax.w64) Syntax.tnil) Syntax.ttnil)))))))))))))))) Syntax.tnil) Syntax.ttnil))),
-        ) (List._∷_
-            (1, Rows.sslice (Referent.rtF (Referent.fInt Syntax.w16)) (Syntax.tyRef (Syntax.named 0) Syntax.imm (Syntax.tyInt Syntax.w16)) 0) (List._∷_ (
-              2,
-              Relend.mslice-owed (Referent.rtF
-                  (Referent.fInt Syntax.w8)) (Syntax.tyRef (Syntax.named 1) Syntax.mut (Syntax.tyInt Syntax.w8)) 1 7 (Row.lease (κs .1 .0) (qs .1 .0)),
-            ) (List._∷_ (
-              3,
-              Relend.mslice-owed (Referent.rtF
-                  (Referent.fInt Syntax.w16)) (Syntax.tyRef (Syntax.named 2) Syntax.mut (Syntax.tyInt Syntax.w16)) 2 8 (Row.lease (κs .1 .1 .0) (qs .1 .1 .0)),
-            ) (List._∷_ (
-              4,
-              Relend.mslice-owed (Element.type)
-                  (Syntax.tyRef (Syntax.named 3) Syntax.mut Element.behind) 3 9 (Row.lease (κs .1 .1 .1 .0) (qs .1 .1 .1 .0)),
-            ) (List._∷_ (
-              5,
-              Rows.any-gone (Syntax.tyStruct (List._∷_ 98 (List._∷_ 108
-                  (List._∷_ 111 (List._∷_ 99 (List._∷_ 107 (List._∷_ 58 (List._∷_ 58 (List._∷_ 70 (List._∷_ 111 (List._∷_ 114 (List._∷_ 109 List.[]))))))))))) (Syntax.tcons (Syntax.tyInt Syntax.w32)
-                  (Syntax.tcons Syntax.tyBool Syntax.tnil))),
-            ) (List._∷_ (6, Rows.sc-here (Row.sInt Syntax.w64)) (List._∷_ (
-              7,
-              Rows.any-gone (Syntax.tyEnum (List._∷_ 119 (List._∷_ 114 (List._∷_ 105 (List._∷_
-                  116 (List._∷_ 105 (List._∷_ 110 (List._∷_ 103 (List._∷_ 58 (List._∷_ 58 (List._∷_ 80 (List._∷_ 117 (List._∷_ 116 List.[])))))))))))) (Syntax.ttcons (Syntax.tcons (Syntax.tyStruct (List._∷_ 98
-                  (List._∷_ 105 (List._∷_ 116 (List._∷_ 115 (List._∷_ 58 (List._∷_ 58 (List._∷_ 66 (List._∷_ 105 (List._∷_ 116 (List._∷_ 80 (List._∷_ 111 (List._∷_ 115 (List._∷_ 105 (List._∷_ 116 (List._∷_ 105
-                  (List._∷_ 111 (List._∷_ 110 List.[]))))))))))))))))) (Syntax.tcons (Syntax.tyInt Syntax.w64) Syntax.tnil)) Syntax.tnil) (Syntax.ttcons (Syntax.tcons (Syntax.tyInt Syntax.w64) Syntax.tnil)
-                  Syntax.ttnil))),
-            ) (List._∷_ (8, Rows.any-gone (Syntax.tyInt Syntax.w64)) (List._∷_ (
-              9,
-              Rows.any-gone (Syntax.tyStruct (List._∷_ 98 (List._∷_ 105 (List._∷_ 116 (List._∷_ 115 (List._∷_ 58
-                  (List._∷_ 58 (List._∷_ 66 (List._∷_ 105 (List._∷_ 116 (List._∷_ 80 (List._∷_ 111 (List._∷_ 115 (List._∷_ 105 (List._∷_ 116 (List._∷_ 105 (List._∷_ 111 (List._∷_ 110 List.[])))))))))))))))))
-                  (Syntax.tcons (Syntax.tyInt Syntax.w64) Syntax.tnil)),
-            ) (List._∷_ (10, Rows.sc-here (Row.sInt Syntax.w64)) (List._∷_ (
-              11,
-              Rows.any-gone (Syntax.tyRef Syntax.erased Syntax.mut (Syntax.tyInt
-                  Syntax.w8)),
-            ) (List._∷_ (
-              12,
-              Rows.any-gone (Syntax.tyStruct (List._∷_ 38 (List._∷_ 91 (List._∷_ 93 List.[]))) (Syntax.tcons (Syntax.tyRef Syntax.erased Syntax.mut (Syntax.tyInt Syntax.w8))
-                  (Syntax.tcons (Syntax.tyInt Syntax.w64) Syntax.tnil))),
-            ) (List._∷_ (13, Rows.any-gone (Syntax.tyRef Syntax.erased Syntax.mut (Syntax.tyInt Syntax.w16))) (List._∷_ (
-              14,
-              Rows.any-gone
-                  (Syntax.tyStruct (List._∷_ 38 (List._∷_ 91 (List._∷_ 93 List.[]))) (Syntax.tcons (Syntax.tyRef Syntax.erased Syntax.mut (Syntax.tyInt Syntax.w16)) (Syntax.tcons (Syntax.tyInt Syntax.w64)
-                  Syntax.tnil))),
-            ) (List._∷_ (15, Rows.any-gone (Syntax.tyRef Syntax.erased Syntax.mut Element.behind)) List.[])))))))))))))))
+        g45 = List._∷_ e0 (List._∷_ e2 (List._∷_
+            (2, Relend.mslice-owed (Referent.rtF (Referent.fInt Syntax.w8)) (Syntax.tyRef (Syntax.named 1) Syntax.mut (Syntax.tyInt Syntax.w8)) 1 7 (Row.lease (κs .1 .0) (qs .1 .0))) (List._∷_
+            (3, Relend.mslice-owed (Referent.rtF (Referent.fInt Syntax.w16)) (Syntax.tyRef (Syntax.named 2) Syntax.mut (Syntax.tyInt Syntax.w16)) 2 8 (Row.lease (κs .1 .1 .0) (qs .1 .1 .0))) (List._∷_
+            (4, Relend.mslice-owed (Element.type) (Syntax.tyRef (Syntax.named 3) Syntax.mut Element.behind) 3 9 (Row.lease (κs .1 .1 .1 .0) (qs .1 .1 .1 .0))) (List._∷_ e48 (List._∷_ e51 (List._∷_ e52
+            (List._∷_ e56 (List._∷_ e58 (List._∷_ e4 (List._∷_ e6 (List._∷_ e9 (List._∷_ e11 (List._∷_ e14 (List._∷_ e16 List.[])))))))))))))))
 
         abbrev g47 : List.List Row.Entry
-        g47 = List._∷_ (
-          0,
-          Rows.any-gone (Syntax.tyEnum (List._∷_ 98 (List._∷_ 108 (List._∷_ 111 (List._∷_ 99 (List._∷_ 107 (List._∷_ 58 (List._∷_ 58 (List._∷_ 87 (List._∷_ 114 (List._∷_ 105
-              (List._∷_ 116 (List._∷_ 116 (List._∷_ 101 (List._∷_ 110 List.[])))))))))))))) (Syntax.ttcons (Syntax.tcons (Syntax.tyInt Syntax.w64) Syntax.tnil) (Syntax.ttcons (Syntax.tcons (Syntax.tyEnum
-              (List._∷_ 115 (List._∷_ 116 (List._∷_ 114 (List._∷_ 101 (List._∷_ 97 (List._∷_ 109 (List._∷_ 58 (List._∷_ 58 (List._∷_ 82 (List._∷_ 101 (List._∷_ 102 (List._∷_ 117 (List._∷_ 115 (List._∷_ 97
-              (List._∷_ 108 List.[]))))))))))))))) (Syntax.ttcons Syntax.tnil (Syntax.ttcons Syntax.tnil (Syntax.ttcons Syntax.tnil (Syntax.ttcons (Syntax.tcons (Syntax.tyInt Syntax.w64) Syntax.tnil)
-              (Syntax.ttcons Syntax.tnil (Syntax.ttcons Syntax.tnil (Syntax.ttcons Syntax.tnil (Syntax.ttcons Syntax.tnil (Syntax.ttcons Syntax.tnil (Syntax.ttcons Syntax.tnil (Syntax.ttcons (Syntax.tcons
-              (Syntax.tyInt Syntax.w64) Syntax.tnil) (Syntax.ttcons (Syntax.tcons (Syntax.tyInt Syntax.w64) Syntax.tnil) (Syntax.ttcons Syntax.tnil (Syntax.ttcons (Syntax.tcons (Syntax.tyInt Syntax.w64)
-              (Syntax.tcons (Syntax.tyInt Syntax.w64) Syntax.tnil)) (Syntax.ttcons (Syntax.tcons (Syntax.tyInt Syntax.w64) Syntax.tnil) Syntax.ttnil)))))))))))))))) Syntax.tnil) Syntax.ttnil))),
-        ) (List._∷_
-            (1, Rows.sslice (Referent.rtF (Referent.fInt Syntax.w16)) (Syntax.tyRef (Syntax.named 0) Syntax.imm (Syntax.tyInt Syntax.w16)) 0) (List._∷_ (
-              2,
-              Mut.mslice (Referent.rtF (Referent.fInt
-                  Syntax.w8)) (Syntax.tyRef (Syntax.named 1) Syntax.mut (Syntax.tyInt Syntax.w8)) 1,
-            ) (List._∷_ (
-              3,
-              Relend.mslice-owed (Referent.rtF (Referent.fInt Syntax.w16)) (Syntax.tyRef (Syntax.named 2)
-                  Syntax.mut (Syntax.tyInt Syntax.w16)) 2 8 (Row.lease (κs .1 .1 .0) (qs .1 .1 .0)),
-            ) (List._∷_ (
-              4,
-              Relend.mslice-owed (Element.type) (Syntax.tyRef (Syntax.named 3) Syntax.mut Element.behind)
-                  3 9 (Row.lease (κs .1 .1 .1 .0) (qs .1 .1 .1 .0)),
-            ) (List._∷_ (
-              5,
-              Rows.any-gone (Syntax.tyStruct (List._∷_ 98 (List._∷_ 108 (List._∷_ 111 (List._∷_ 99 (List._∷_ 107 (List._∷_ 58 (List._∷_ 58
-                  (List._∷_ 70 (List._∷_ 111 (List._∷_ 114 (List._∷_ 109 List.[]))))))))))) (Syntax.tcons (Syntax.tyInt Syntax.w32) (Syntax.tcons Syntax.tyBool Syntax.tnil))),
-            ) (List._∷_ (
-              6,
-              Rows.sc-here
-                  (Row.sInt Syntax.w64),
-            ) (List._∷_ (
-              7,
-              Rows.any-gone (Syntax.tyEnum (List._∷_ 119 (List._∷_ 114 (List._∷_ 105 (List._∷_ 116 (List._∷_ 105 (List._∷_ 110 (List._∷_ 103 (List._∷_ 58 (List._∷_ 58
-                  (List._∷_ 80 (List._∷_ 117 (List._∷_ 116 List.[])))))))))))) (Syntax.ttcons (Syntax.tcons (Syntax.tyStruct (List._∷_ 98 (List._∷_ 105 (List._∷_ 116 (List._∷_ 115 (List._∷_ 58 (List._∷_ 58
-                  (List._∷_ 66 (List._∷_ 105 (List._∷_ 116 (List._∷_ 80 (List._∷_ 111 (List._∷_ 115 (List._∷_ 105 (List._∷_ 116 (List._∷_ 105 (List._∷_ 111 (List._∷_ 110 List.[]))))))))))))))))) (Syntax.tcons
-                  (Syntax.tyInt Syntax.w64) Syntax.tnil)) Syntax.tnil) (Syntax.ttcons (Syntax.tcons (Syntax.tyInt Syntax.w64) Syntax.tnil) Syntax.ttnil))),
-            ) (List._∷_ (
-              8,
-              Rows.any-gone (Syntax.tyInt
-                  Syntax.w64),
-            ) (List._∷_ (
-              9,
-              Rows.any-gone (Syntax.tyStruct (List._∷_ 98 (List._∷_ 105 (List._∷_ 116 (List._∷_ 115 (List._∷_ 58 (List._∷_ 58 (List._∷_ 66 (List._∷_ 105 (List._∷_ 116 (List._∷_
-                  80 (List._∷_ 111 (List._∷_ 115 (List._∷_ 105 (List._∷_ 116 (List._∷_ 105 (List._∷_ 111 (List._∷_ 110 List.[]))))))))))))))))) (Syntax.tcons (Syntax.tyInt Syntax.w64) Syntax.tnil)),
-            ) (List._∷_
-            (10, Rows.sc-here (Row.sInt Syntax.w64)) (List._∷_ (11, Rows.any-gone (Syntax.tyRef Syntax.erased Syntax.mut (Syntax.tyInt Syntax.w8))) (List._∷_ (
-              12,
-              Rows.any-gone (Syntax.tyStruct
-                  (List._∷_ 38 (List._∷_ 91 (List._∷_ 93 List.[]))) (Syntax.tcons (Syntax.tyRef Syntax.erased Syntax.mut (Syntax.tyInt Syntax.w8)) (Syntax.tcons (Syntax.tyInt Syntax.w64) Syntax.tnil))),
-            )
-            (List._∷_ (13, Rows.any-gone (Syntax.tyRef Syntax.erased Syntax.mut (Syntax.tyInt Syntax.w16))) (List._∷_ (
-              14,
-              Rows.any-gone (Syntax.tyStruct (List._∷_ 38 (List._∷_ 91 (List._∷_ 93
-                  List.[]))) (Syntax.tcons (Syntax.tyRef Syntax.erased Syntax.mut (Syntax.tyInt Syntax.w16)) (Syntax.tcons (Syntax.tyInt Syntax.w64) Syntax.tnil))),
-            ) (List._∷_ (
-              15,
-              Rows.any-gone (Syntax.tyRef
-                  Syntax.erased Syntax.mut Element.behind),
-            ) List.[])))))))))))))))
+        g47 = List._∷_ e0 (List._∷_ e2 (List._∷_ e24 (List._∷_
+            (3, Relend.mslice-owed (Referent.rtF (Referent.fInt Syntax.w16)) (Syntax.tyRef (Syntax.named 2) Syntax.mut (Syntax.tyInt Syntax.w16)) 2 8 (Row.lease (κs .1 .1 .0) (qs .1 .1 .0))) (List._∷_
+            (4, Relend.mslice-owed (Element.type) (Syntax.tyRef (Syntax.named 3) Syntax.mut Element.behind) 3 9 (Row.lease (κs .1 .1 .1 .0) (qs .1 .1 .1 .0))) (List._∷_ e48 (List._∷_ e51 (List._∷_ e52
+            (List._∷_ e56 (List._∷_ e58 (List._∷_ e4 (List._∷_ e6 (List._∷_ e9 (List._∷_ e11 (List._∷_ e14 (List._∷_ e16 List.[])))))))))))))))
 
         abbrev g49 : List.List Row.Entry
-        g49 = List._∷_ (
-          0,
-          Rows.any-gone (Syntax.tyEnum (List._∷_ 98 (List._∷_ 108 (List._∷_ 111 (List._∷_ 99 (List._∷_ 107 (List._∷_ 58 (List._∷_ 58 (List._∷_ 87 (List._∷_ 114 (List._∷_ 105
-              (List._∷_ 116 (List._∷_ 116 (List._∷_ 101 (List._∷_ 110 List.[])))))))))))))) (Syntax.ttcons (Syntax.tcons (Syntax.tyInt Syntax.w64) Syntax.tnil) (Syntax.ttcons (Syntax.tcons (Syntax.tyEnum
-              (List._∷_ 115 (List._∷_ 116 (List._∷_ 114 (List._∷_ 101 (List._∷_ 97 (List._∷_ 109 (List._∷_ 58 (List._∷_ 58 (List._∷_ 82 (List._∷_ 101 (List._∷_ 102 (List._∷_ 117 (List._∷_ 115 (List._∷_ 97
-              (List._∷_ 108 List.[]))))))))))))))) (Syntax.ttcons Syntax.tnil (Syntax.ttcons Syntax.tnil (Syntax.ttcons Syntax.tnil (Syntax.ttcons (Syntax.tcons (Syntax.tyInt Syntax.w64) Syntax.tnil)
-              (Syntax.ttcons Syntax.tnil (Syntax.ttcons Syntax.tnil (Syntax.ttcons Syntax.tnil (Syntax.ttcons Syntax.tnil (Syntax.ttcons Syntax.tnil (Syntax.ttcons Syntax.tnil (Syntax.ttcons (Syntax.tcons
-              (Syntax.tyInt Syntax.w64) Syntax.tnil) (Syntax.ttcons (Syntax.tcons (Syntax.tyInt Syntax.w64) Syntax.tnil) (Syntax.ttcons Syntax.tnil (Syntax.ttcons (Syntax.tcons (Syntax.tyInt Syntax.w64)
-              (Syntax.tcons (Syntax.tyInt Syntax.w64) Syntax.tnil)) (Syntax.ttcons (Syntax.tcons (Syntax.tyInt Syntax.w64) Syntax.tnil) Syntax.ttnil)))))))))))))))) Syntax.tnil) Syntax.ttnil))),
-        ) (List._∷_
-            (1, Rows.sslice (Referent.rtF (Referent.fInt Syntax.w16)) (Syntax.tyRef (Syntax.named 0) Syntax.imm (Syntax.tyInt Syntax.w16)) 0) (List._∷_ (
-              2,
-              Mut.mslice (Referent.rtF (Referent.fInt
-                  Syntax.w8)) (Syntax.tyRef (Syntax.named 1) Syntax.mut (Syntax.tyInt Syntax.w8)) 1,
-            ) (List._∷_ (
-              3,
-              Mut.mslice (Referent.rtF (Referent.fInt Syntax.w16)) (Syntax.tyRef (Syntax.named 2)
-                  Syntax.mut (Syntax.tyInt Syntax.w16)) 2,
-            ) (List._∷_ (
-              4,
-              Relend.mslice-owed (Element.type) (Syntax.tyRef (Syntax.named 3) Syntax.mut Element.behind) 3 9 (Row.lease (κs .1 .1 .1 .0) (qs .1 .1
-                  .1 .0)),
-            ) (List._∷_ (
-              5,
-              Rows.any-gone (Syntax.tyStruct (List._∷_ 98 (List._∷_ 108 (List._∷_ 111 (List._∷_ 99 (List._∷_ 107 (List._∷_ 58 (List._∷_ 58 (List._∷_ 70 (List._∷_ 111 (List._∷_ 114
-                  (List._∷_ 109 List.[]))))))))))) (Syntax.tcons (Syntax.tyInt Syntax.w32) (Syntax.tcons Syntax.tyBool Syntax.tnil))),
-            ) (List._∷_ (6, Rows.sc-here (Row.sInt Syntax.w64)) (List._∷_ (
-              7,
-              Rows.any-gone (Syntax.tyEnum (List._∷_ 119 (List._∷_ 114 (List._∷_ 105 (List._∷_ 116 (List._∷_ 105 (List._∷_ 110 (List._∷_ 103 (List._∷_ 58 (List._∷_ 58 (List._∷_ 80 (List._∷_ 117 (List._∷_
-                  116 List.[])))))))))))) (Syntax.ttcons (Syntax.tcons (Syntax.tyStruct (List._∷_ 98 (List._∷_ 105 (List._∷_ 116 (List._∷_ 115 (List._∷_ 58 (List._∷_ 58 (List._∷_ 66 (List._∷_ 105 (List._∷_ 116
-                  (List._∷_ 80 (List._∷_ 111 (List._∷_ 115 (List._∷_ 105 (List._∷_ 116 (List._∷_ 105 (List._∷_ 111 (List._∷_ 110 List.[]))))))))))))))))) (Syntax.tcons (Syntax.tyInt Syntax.w64) Syntax.tnil))
-                  Syntax.tnil) (Syntax.ttcons (Syntax.tcons (Syntax.tyInt Syntax.w64) Syntax.tnil) Syntax.ttnil))),
-            ) (List._∷_ (8, Rows.any-gone (Syntax.tyInt Syntax.w64)) (List._∷_ (
-              9,
-              Rows.any-gone
-                  (Syntax.tyStruct (List._∷_ 98 (List._∷_ 105 (List._∷_ 116 (List._∷_ 115 (List._∷_ 58 (List._∷_ 58 (List._∷_ 66 (List._∷_ 105 (List._∷_ 116 (List._∷_ 80 (List._∷_ 111 (List._∷_ 115 (List._∷_
-                  105 (List._∷_ 116 (List._∷_ 105 (List._∷_ 111 (List._∷_ 110 List.[]))))))))))))))))) (Syntax.tcons (Syntax.tyInt Syntax.w64) Syntax.tnil)),
-            ) (List._∷_ (10, Rows.sc-here (Row.sInt Syntax.w64))
-            (List._∷_ (11, Rows.any-gone (Syntax.tyRef Syntax.erased Syntax.mut (Syntax.tyInt Syntax.w8))) (List._∷_ (
-              12,
-              Rows.any-gone (Syntax.tyStruct (List._∷_ 38 (List._∷_ 91 (List._∷_ 93
-                  List.[]))) (Syntax.tcons (Syntax.tyRef Syntax.erased Syntax.mut (Syntax.tyInt Syntax.w8)) (Syntax.tcons (Syntax.tyInt Syntax.w64) Syntax.tnil))),
-            ) (List._∷_ (
-              13,
-              Rows.any-gone (Syntax.tyRef
-                  Syntax.erased Syntax.mut (Syntax.tyInt Syntax.w16)),
-            ) (List._∷_ (
-              14,
-              Rows.any-gone (Syntax.tyStruct (List._∷_ 38 (List._∷_ 91 (List._∷_ 93 List.[]))) (Syntax.tcons (Syntax.tyRef
-                  Syntax.erased Syntax.mut (Syntax.tyInt Syntax.w16)) (Syntax.tcons (Syntax.tyInt Syntax.w64) Syntax.tnil))),
-            ) (List._∷_ (
-              15,
-              Rows.any-gone (Syntax.tyRef Syntax.erased Syntax.mut
-                  Element.behind),
-            ) List.[])))))))))))))))
+        g49 = List._∷_ e0 (List._∷_ e2 (List._∷_ e24 (List._∷_ e42 (List._∷_
+            (4, Relend.mslice-owed (Element.type) (Syntax.tyRef (Syntax.named 3) Syntax.mut Element.behind) 3 9 (Row.lease (κs .1 .1 .1 .0) (qs .1 .1 .1 .0))) (List._∷_ e48 (List._∷_ e51 (List._∷_ e52
+            (List._∷_ e56 (List._∷_ e58 (List._∷_ e4 (List._∷_ e6 (List._∷_ e9 (List._∷_ e11 (List._∷_ e14 (List._∷_ e16 List.[])))))))))))))))
 
         abbrev G0 : Row.Cx
         G0 = record {
           locals = List._++_ t0 t1;
-          slots = List._∷_ (Row.lease (κs .0) (qs .0)) (List._∷_ (Row.lease (κs .1 .0) (qs .1 .0)) (List._∷_ (Row.lease (κs .1 .1 .0) (qs .1 .1 .0)) (List._∷_
-              (Row.lease (κs .1 .1 .1 .0) (qs .1 .1 .1 .0)) (List._∷_ Row.off (List._∷_ Row.off (List._∷_ Row.off (List._∷_ Row.off (List._∷_ Row.off (List._∷_ Row.off List.[])))))))));
+          slots = List._∷_ (Row.lease (κs .0) (qs .0)) (List._∷_ (Row.lease (κs .1 .0) (qs .1 .0)) (List._∷_ (Row.lease (κs .1 .1 .0) (qs .1 .1 .0)) (List._∷_ (Row.lease (κs
+              .1 .1 .1 .0) (qs .1 .1 .1 .0)) (List._∷_ Row.off (List._∷_ Row.off (List._∷_ Row.off (List._∷_ Row.off (List._∷_ Row.off (List._∷_ Row.off List.[])))))))));
         }
 
         abbrev G1 : Row.Cx
         G1 = record {
           locals = List._++_ t2 t1;
-          slots = List._∷_ (Row.lease (κs .0) (qs .0)) (List._∷_ (Row.lease (κs .1 .0) (qs .1 .0)) (List._∷_ (Row.lease (κs .1 .1 .0) (qs .1 .1 .0)) (List._∷_
-              (Row.lease (κs .1 .1 .1 .0) (qs .1 .1 .1 .0)) (List._∷_ Row.off (List._∷_ Row.off (List._∷_ Row.off (List._∷_ Row.off (List._∷_ Row.off (List._∷_ Row.off List.[])))))))));
+          slots = List._∷_ (Row.lease (κs .0) (qs .0)) (List._∷_ (Row.lease (κs .1 .0) (qs .1 .0)) (List._∷_ (Row.lease (κs .1 .1 .0) (qs .1 .1 .0)) (List._∷_ (Row.lease (κs
+              .1 .1 .1 .0) (qs .1 .1 .1 .0)) (List._∷_ Row.off (List._∷_ Row.off (List._∷_ Row.off (List._∷_ Row.off (List._∷_ Row.off (List._∷_ Row.off List.[])))))))));
         }
 
         abbrev G2 : Row.Cx
         G2 = record {
           locals = List._++_ t0 t1;
-          slots = List._∷_ (Row.lease (κs .0) (qs .0)) (List._∷_ (Row.lease (κs .1 .0) (qs .1 .0)) (List._∷_ (Row.lease (κs .1 .1 .0) (qs .1 .1 .0)) (List._∷_
-              (Row.lease (κs .1 .1 .1 .0) (qs .1 .1 .1 .0)) (List._∷_ Row.off (List._∷_ Row.off (List._∷_ Row.off (List._∷_ Row.off (List._∷_ Row.off (List._∷_ Row.off List.[])))))))));
+          slots = List._∷_ (Row.lease (κs .0) (qs .0)) (List._∷_ (Row.lease (κs .1 .0) (qs .1 .0)) (List._∷_ (Row.lease (κs .1 .1 .0) (qs .1 .1 .0)) (List._∷_ (Row.lease (κs
+              .1 .1 .1 .0) (qs .1 .1 .1 .0)) (List._∷_ Row.off (List._∷_ Row.off (List._∷_ Row.off (List._∷_ Row.off (List._∷_ Row.off (List._∷_ Row.off List.[])))))))));
         }
 
         abbrev G3 : Row.Cx
         G3 = record {
           locals = List._++_ t0 t1;
-          slots = List._∷_ (Row.lease (κs .0) (qs .0)) (List._∷_ (Row.lease (κs .1 .0) (qs .1 .0)) (List._∷_ (Row.lease (κs .1 .1 .0) (qs .1 .1 .0)) (List._∷_
-              (Row.lease (κs .1 .1 .1 .0) (qs .1 .1 .1 .0)) (List._∷_ Row.off (List._∷_ Row.off (List._∷_ Row.off (List._∷_ Row.off (List._∷_ Row.off (List._∷_ Row.off List.[])))))))));
+          slots = List._∷_ (Row.lease (κs .0) (qs .0)) (List._∷_ (Row.lease (κs .1 .0) (qs .1 .0)) (List._∷_ (Row.lease (κs .1 .1 .0) (qs .1 .1 .0)) (List._∷_ (Row.lease (κs
+              .1 .1 .1 .0) (qs .1 .1 .1 .0)) (List._∷_ Row.off (List._∷_ Row.off (List._∷_ Row.off (List._∷_ Row.off (List._∷_ Row.off (List._∷_ Row.off List.[])))))))));
         }
 
         abbrev G4 : Row.Cx
         G4 = record {
           locals = List._++_ t0 t1;
-          slots = List._∷_ (Row.lease (κs .0) (qs .0)) (List._∷_ (Row.lease (κs .1 .0) (qs .1 .0)) (List._∷_ (Row.lease (κs .1 .1 .0) (qs .1 .1 .0)) (List._∷_
-              (Row.lease (κs .1 .1 .1 .0) (qs .1 .1 .1 .0)) (List._∷_ Row.off (List._∷_ Row.off (List._∷_ Row.off (List._∷_ Row.off (List._∷_ Row.off (List._∷_ Row.off List.[])))))))));
+          slots = List._∷_ (Row.lease (κs .0) (qs .0)) (List._∷_ (Row.lease (κs .1 .0) (qs .1 .0)) (List._∷_ (Row.lease (κs .1 .1 .0) (qs .1 .1 .0)) (List._∷_ (Row.lease (κs
+              .1 .1 .1 .0) (qs .1 .1 .1 .0)) (List._∷_ Row.off (List._∷_ Row.off (List._∷_ Row.off (List._∷_ Row.off (List._∷_ Row.off (List._∷_ Row.off List.[])))))))));
         }
 
         abbrev G5 : Row.Cx
         G5 = record {
           locals = List._++_ t0 t1;
-          slots = List._∷_ (Row.lease (κs .0) (qs .0)) (List._∷_ (Row.lease (κs .1 .0) (qs .1 .0)) (List._∷_ (Row.lease (κs .1 .1 .0) (qs .1 .1 .0)) (List._∷_
-              (Row.lease (κs .1 .1 .1 .0) (qs .1 .1 .1 .0)) (List._∷_ Row.alive (List._∷_ Row.off (List._∷_ Row.off (List._∷_ Row.off (List._∷_ Row.off (List._∷_ Row.off List.[])))))))));
+          slots = List._∷_ (Row.lease (κs .0) (qs .0)) (List._∷_ (Row.lease (κs .1 .0) (qs .1 .0)) (List._∷_ (Row.lease (κs .1 .1 .0) (qs .1 .1 .0)) (List._∷_ (Row.lease (κs
+              .1 .1 .1 .0) (qs .1 .1 .1 .0)) (List._∷_ Row.alive (List._∷_ Row.off (List._∷_ Row.off (List._∷_ Row.off (List._∷_ Row.off (List._∷_ Row.off List.[])))))))));
         }
 
         abbrev G6 : Row.Cx
         G6 = record {
           locals = List._++_ g3 t1;
-          slots = List._∷_ (Row.lease (κs .0) (qs .0)) (List._∷_ Row.off (List._∷_ (Row.lease (κs .1 .1 .0) (qs .1 .1 .0)) (List._∷_ (Row.lease (κs .1 .1 .1 .0)
-              (qs .1 .1 .1 .0)) (List._∷_ Row.alive (List._∷_ Row.off (List._∷_ Row.off (List._∷_ Row.off (List._∷_ Row.off (List._∷_ Row.off List.[])))))))));
+          slots = List._∷_ (Row.lease (κs .0) (qs .0)) (List._∷_ Row.off (List._∷_ (Row.lease (κs .1 .1 .0) (qs .1 .1 .0)) (List._∷_ (Row.lease (κs .1 .1 .1 .0) (qs .1 .1 .1
+              .0)) (List._∷_ Row.alive (List._∷_ Row.off (List._∷_ Row.off (List._∷_ Row.off (List._∷_ Row.off (List._∷_ Row.off List.[])))))))));
         }
 
         abbrev G7 : Row.Cx
         G7 = record {
           locals = List._++_ g4 t1;
-          slots = List._∷_ (Row.lease (κs .0) (qs .0)) (List._∷_ Row.off (List._∷_ (Row.lease (κs .1 .1 .0) (qs .1 .1 .0)) (List._∷_ (Row.lease (κs .1 .1 .1 .0)
-              (qs .1 .1 .1 .0)) (List._∷_ Row.alive (List._∷_ Row.off (List._∷_ Row.off (List._∷_ Row.off (List._∷_ Row.off (List._∷_ Row.off List.[])))))))));
+          slots = List._∷_ (Row.lease (κs .0) (qs .0)) (List._∷_ Row.off (List._∷_ (Row.lease (κs .1 .1 .0) (qs .1 .1 .0)) (List._∷_ (Row.lease (κs .1 .1 .1 .0) (qs .1 .1 .1
+              .0)) (List._∷_ Row.alive (List._∷_ Row.off (List._∷_ Row.off (List._∷_ Row.off (List._∷_ Row.off (List._∷_ Row.off List.[])))))))));
         }
 
         abbrev G8 : Row.Cx
         G8 = record {
           locals = List._++_ g4 t1;
-          slots = List._∷_ (Row.lease (κs .0) (qs .0)) (List._∷_ Row.off (List._∷_ (Row.lease (κs .1 .1 .0) (qs .1 .1 .0)) (List._∷_ (Row.lease (κs .1 .1 .1 .0)
-              (qs .1 .1 .1 .0)) (List._∷_ Row.alive (List._∷_ Row.alive (List._∷_ Row.off (List._∷_ Row.off (List._∷_ Row.off (List._∷_ Row.off List.[])))))))));
+          slots = List._∷_ (Row.lease (κs .0) (qs .0)) (List._∷_ Row.off (List._∷_ (Row.lease (κs .1 .1 .0) (qs .1 .1 .0)) (List._∷_ (Row.lease (κs .1 .1 .1 .0) (qs .1 .1 .1
+              .0)) (List._∷_ Row.alive (List._∷_ Row.alive (List._∷_ Row.off (List._∷_ Row.off (List._∷_ Row.off (List._∷_ Row.off List.[])))))))));
         }
 
         abbrev G9 : Row.Cx
         G9 = record {
           locals = List._++_ g5 t1;
-          slots = List._∷_ (Row.lease (κs .0) (qs .0)) (List._∷_ Row.off (List._∷_ Row.off (List._∷_ (Row.lease (κs .1 .1 .1 .0) (qs .1 .1 .1 .0)) (List._∷_
-              Row.alive (List._∷_ Row.alive (List._∷_ Row.off (List._∷_ Row.off (List._∷_ Row.off (List._∷_ Row.off List.[])))))))));
+          slots = List._∷_ (Row.lease (κs .0) (qs .0)) (List._∷_ Row.off (List._∷_ Row.off (List._∷_ (Row.lease (κs .1 .1 .1 .0) (qs .1 .1 .1 .0)) (List._∷_ Row.alive
+              (List._∷_ Row.alive (List._∷_ Row.off (List._∷_ Row.off (List._∷_ Row.off (List._∷_ Row.off List.[])))))))));
         }
 
         abbrev G10 : Row.Cx
         G10 = record {
           locals = List._++_ g6 t1;
-          slots = List._∷_ (Row.lease (κs .0) (qs .0)) (List._∷_ Row.off (List._∷_ Row.off (List._∷_ (Row.lease (κs .1 .1 .1 .0) (qs .1 .1 .1 .0)) (List._∷_
-              Row.alive (List._∷_ Row.alive (List._∷_ Row.off (List._∷_ Row.off (List._∷_ Row.off (List._∷_ Row.off List.[])))))))));
+          slots = List._∷_ (Row.lease (κs .0) (qs .0)) (List._∷_ Row.off (List._∷_ Row.off (List._∷_ (Row.lease (κs .1 .1 .1 .0) (qs .1 .1 .1 .0)) (List._∷_ Row.alive
+              (List._∷_ Row.alive (List._∷_ Row.off (List._∷_ Row.off (List._∷_ Row.off (List._∷_ Row.off List.[])))))))));
         }
 
         abbrev G11 : Row.Cx
         G11 = record {
           locals = List._++_ g6 t1;
-          slots = List._∷_ (Row.lease (κs .0) (qs .0)) (List._∷_ Row.off (List._∷_ Row.off (List._∷_ (Row.lease (κs .1 .1 .1 .0) (qs .1 .1 .1 .0)) (List._∷_
-              Row.alive (List._∷_ Row.alive (List._∷_ Row.alive (List._∷_ Row.off (List._∷_ Row.off (List._∷_ Row.off List.[])))))))));
+          slots = List._∷_ (Row.lease (κs .0) (qs .0)) (List._∷_ Row.off (List._∷_ Row.off (List._∷_ (Row.lease (κs .1 .1 .1 .0) (qs .1 .1 .1 .0)) (List._∷_ Row.alive
+              (List._∷_ Row.alive (List._∷_ Row.alive (List._∷_ Row.off (List._∷_ Row.off (List._∷_ Row.off List.[])))))))));
         }
 
         abbrev G12 : Row.Cx
         G12 = record {
           locals = List._++_ g7 t1;
-          slots = List._∷_ (Row.lease (κs .0) (qs .0)) (List._∷_ Row.off (List._∷_ Row.off (List._∷_ Row.off (List._∷_ Row.alive (List._∷_ Row.alive (List._∷_
-              Row.alive (List._∷_ Row.off (List._∷_ Row.off (List._∷_ Row.off List.[])))))))));
+          slots = List._∷_ (Row.lease (κs .0) (qs .0)) (List._∷_ Row.off (List._∷_ Row.off (List._∷_ Row.off (List._∷_ Row.alive (List._∷_ Row.alive (List._∷_ Row.alive
+              (List._∷_ Row.off (List._∷_ Row.off (List._∷_ Row.off List.[])))))))));
         }
 
         abbrev G13 : Row.Cx
         G13 = record {
           locals = List._++_ g8 t9;
-          slots = List._∷_ (Row.lease (κs .0) (qs .0)) (List._∷_ Row.off (List._∷_ Row.off (List._∷_ Row.off (List._∷_ Row.alive (List._∷_ Row.alive (List._∷_
-              Row.alive (List._∷_ Row.off (List._∷_ Row.off (List._∷_ Row.off List.[])))))))));
+          slots = List._∷_ (Row.lease (κs .0) (qs .0)) (List._∷_ Row.off (List._∷_ Row.off (List._∷_ Row.off (List._∷_ Row.alive (List._∷_ Row.alive (List._∷_ Row.alive
+              (List._∷_ Row.off (List._∷_ Row.off (List._∷_ Row.off List.[])))))))));
         }
 
         abbrev G14 : Row.Cx
         G14 = record {
           locals = List._++_ g10 t11;
-          slots = List._∷_ (Row.lease (κs .0) (qs .0)) (List._∷_ Row.off (List._∷_ Row.off (List._∷_ Row.off (List._∷_ Row.alive (List._∷_ Row.alive (List._∷_
-              Row.alive (List._∷_ Row.off (List._∷_ Row.off (List._∷_ Row.off List.[])))))))));
+          slots = List._∷_ (Row.lease (κs .0) (qs .0)) (List._∷_ Row.off (List._∷_ Row.off (List._∷_ Row.off (List._∷_ Row.alive (List._∷_ Row.alive (List._∷_ Row.alive
+              (List._∷_ Row.off (List._∷_ Row.off (List._∷_ Row.off List.[])))))))));
         }
 
         abbrev G15 : Row.Cx
         G15 = record {
           locals = List._++_ t12 t13;
-          slots = List._∷_ (Row.lease (κs .0) (qs .0)) (List._∷_ (Row.lease (κs .1 .0) (qs .1 .0)) (List._∷_ (Row.lease (κs .1 .1 .0) (qs .1 .1 .0)) (List._∷_
-              (Row.lease (κs .1 .1 .1 .0) (qs .1 .1 .1 .0)) (List._∷_ Row.off (List._∷_ Row.off (List._∷_ Row.off (List._∷_ Row.off (List._∷_ Row.off (List._∷_ Row.off List.[])))))))));
+          slots = List._∷_ (Row.lease (κs .0) (qs .0)) (List._∷_ (Row.lease (κs .1 .0) (qs .1 .0)) (List._∷_ (Row.lease (κs .1 .1 .0) (qs .1 .1 .0)) (List._∷_ (Row.lease
+              (κs .1 .1 .1 .0) (qs .1 .1 .1 .0)) (List._∷_ Row.off (List._∷_ Row.off (List._∷_ Row.off (List._∷_ Row.off (List._∷_ Row.off (List._∷_ Row.off List.[])))))))));
         }
 
         abbrev G16 : Row.Cx
         G16 = record {
           locals = List._++_ g10 t11;
-          slots = List._∷_ (Row.lease (κs .0) (qs .0)) (List._∷_ Row.off (List._∷_ Row.off (List._∷_ Row.off (List._∷_ Row.dead (List._∷_ Row.alive (List._∷_
-              Row.alive (List._∷_ Row.off (List._∷_ Row.off (List._∷_ Row.off List.[])))))))));
+          slots = List._∷_ (Row.lease (κs .0) (qs .0)) (List._∷_ Row.off (List._∷_ Row.off (List._∷_ Row.off (List._∷_ Row.dead (List._∷_ Row.alive (List._∷_ Row.alive
+              (List._∷_ Row.off (List._∷_ Row.off (List._∷_ Row.off List.[])))))))));
         }
 
         abbrev G17 : Row.Cx
         G17 = record {
           locals = List._++_ g14 t11;
-          slots = List._∷_ (Row.lease (κs .0) (qs .0)) (List._∷_ (Row.lease (κs .1 .0) (qs .1 .0)) (List._∷_ Row.off (List._∷_ Row.off (List._∷_ Row.dead
-              (List._∷_ Row.alive (List._∷_ Row.alive (List._∷_ Row.off (List._∷_ Row.off (List._∷_ Row.off List.[])))))))));
+          slots = List._∷_ (Row.lease (κs .0) (qs .0)) (List._∷_ (Row.lease (κs .1 .0) (qs .1 .0)) (List._∷_ Row.off (List._∷_ Row.off (List._∷_ Row.dead (List._∷_
+              Row.alive (List._∷_ Row.alive (List._∷_ Row.off (List._∷_ Row.off (List._∷_ Row.off List.[])))))))));
         }
 
         abbrev G18 : Row.Cx
         G18 = record {
           locals = List._++_ g14 t11;
-          slots = List._∷_ (Row.lease (κs .0) (qs .0)) (List._∷_ (Row.lease (κs .1 .0) (qs .1 .0)) (List._∷_ Row.off (List._∷_ Row.off (List._∷_ Row.dead
-              (List._∷_ Row.alive (List._∷_ Row.alive (List._∷_ Row.off (List._∷_ Row.off (List._∷_ Row.off List.[])))))))));
+          slots = List._∷_ (Row.lease (κs .0) (qs .0)) (List._∷_ (Row.lease (κs .1 .0) (qs .1 .0)) (List._∷_ Row.off (List._∷_ Row.off (List._∷_ Row.dead (List._∷_
+              Row.alive (List._∷_ Row.alive (List._∷_ Row.off (List._∷_ Row.off (List._∷_ Row.off List.[])))))))));
         }
 
         abbrev G19 : Row.Cx
         G19 = record {
           locals = List._++_ g14 t11;
-          slots = List._∷_ (Row.lease (κs .0) (qs .0)) (List._∷_ (Row.lease (κs .1 .0) (qs .1 .0)) (List._∷_ Row.off (List._∷_ Row.off (List._∷_ Row.off
-              (List._∷_ Row.alive (List._∷_ Row.alive (List._∷_ Row.off (List._∷_ Row.off (List._∷_ Row.off List.[])))))))));
+          slots = List._∷_ (Row.lease (κs .0) (qs .0)) (List._∷_ (Row.lease (κs .1 .0) (qs .1 .0)) (List._∷_ Row.off (List._∷_ Row.off (List._∷_ Row.off (List._∷_ Row.alive
+              (List._∷_ Row.alive (List._∷_ Row.off (List._∷_ Row.off (List._∷_ Row.off List.[])))))))));
         }
 
         abbrev G20 : Row.Cx
         G20 = record {
           locals = List._++_ g14 t11;
-          slots = List._∷_ (Row.lease (κs .0) (qs .0)) (List._∷_ (Row.lease (κs .1 .0) (qs .1 .0)) (List._∷_ Row.off (List._∷_ Row.off (List._∷_ Row.off
-              (List._∷_ Row.dead (List._∷_ Row.alive (List._∷_ Row.off (List._∷_ Row.off (List._∷_ Row.off List.[])))))))));
+          slots = List._∷_ (Row.lease (κs .0) (qs .0)) (List._∷_ (Row.lease (κs .1 .0) (qs .1 .0)) (List._∷_ Row.off (List._∷_ Row.off (List._∷_ Row.off (List._∷_ Row.dead
+              (List._∷_ Row.alive (List._∷_ Row.off (List._∷_ Row.off (List._∷_ Row.off List.[])))))))));
         }
 
         abbrev G21 : Row.Cx
         G21 = record {
           locals = List._++_ g15 t11;
-          slots = List._∷_ (Row.lease (κs .0) (qs .0)) (List._∷_ (Row.lease (κs .1 .0) (qs .1 .0)) (List._∷_ (Row.lease (κs .1 .1 .0) (qs .1 .1 .0)) (List._∷_
-              Row.off (List._∷_ Row.off (List._∷_ Row.dead (List._∷_ Row.alive (List._∷_ Row.off (List._∷_ Row.off (List._∷_ Row.off List.[])))))))));
+          slots = List._∷_ (Row.lease (κs .0) (qs .0)) (List._∷_ (Row.lease (κs .1 .0) (qs .1 .0)) (List._∷_ (Row.lease (κs .1 .1 .0) (qs .1 .1 .0)) (List._∷_ Row.off
+              (List._∷_ Row.off (List._∷_ Row.dead (List._∷_ Row.alive (List._∷_ Row.off (List._∷_ Row.off (List._∷_ Row.off List.[])))))))));
         }
 
         abbrev G22 : Row.Cx
         G22 = record {
           locals = List._++_ g15 t11;
-          slots = List._∷_ (Row.lease (κs .0) (qs .0)) (List._∷_ (Row.lease (κs .1 .0) (qs .1 .0)) (List._∷_ (Row.lease (κs .1 .1 .0) (qs .1 .1 .0)) (List._∷_
-              Row.off (List._∷_ Row.off (List._∷_ Row.dead (List._∷_ Row.alive (List._∷_ Row.off (List._∷_ Row.off (List._∷_ Row.off List.[])))))))));
+          slots = List._∷_ (Row.lease (κs .0) (qs .0)) (List._∷_ (Row.lease (κs .1 .0) (qs .1 .0)) (List._∷_ (Row.lease (κs .1 .1 .0) (qs .1 .1 .0)) (List._∷_ Row.off
+              (List._∷_ Row.off (List._∷_ Row.dead (List._∷_ Row.alive (List._∷_ Row.off (List._∷_ Row.off (List._∷_ Row.off List.[])))))))));
         }
 
         abbrev G23 : Row.Cx
         G23 = record {
           locals = List._++_ g15 t11;
-          slots = List._∷_ (Row.lease (κs .0) (qs .0)) (List._∷_ (Row.lease (κs .1 .0) (qs .1 .0)) (List._∷_ (Row.lease (κs .1 .1 .0) (qs .1 .1 .0)) (List._∷_
-              Row.off (List._∷_ Row.off (List._∷_ Row.off (List._∷_ Row.alive (List._∷_ Row.off (List._∷_ Row.off (List._∷_ Row.off List.[])))))))));
+          slots = List._∷_ (Row.lease (κs .0) (qs .0)) (List._∷_ (Row.lease (κs .1 .0) (qs .1 .0)) (List._∷_ (Row.lease (κs .1 .1 .0) (qs .1 .1 .0)) (List._∷_ Row.off
+              (List._∷_ Row.off (List._∷_ Row.off (List._∷_ Row.alive (List._∷_ Row.off (List._∷_ Row.off (List._∷_ Row.off List.[])))))))));
         }
 
         abbrev G24 : Row.Cx
         G24 = record {
           locals = List._++_ g15 t11;
-          slots = List._∷_ (Row.lease (κs .0) (qs .0)) (List._∷_ (Row.lease (κs .1 .0) (qs .1 .0)) (List._∷_ (Row.lease (κs .1 .1 .0) (qs .1 .1 .0)) (List._∷_
-              Row.off (List._∷_ Row.off (List._∷_ Row.off (List._∷_ Row.dead (List._∷_ Row.off (List._∷_ Row.off (List._∷_ Row.off List.[])))))))));
+          slots = List._∷_ (Row.lease (κs .0) (qs .0)) (List._∷_ (Row.lease (κs .1 .0) (qs .1 .0)) (List._∷_ (Row.lease (κs .1 .1 .0) (qs .1 .1 .0)) (List._∷_ Row.off
+              (List._∷_ Row.off (List._∷_ Row.off (List._∷_ Row.dead (List._∷_ Row.off (List._∷_ Row.off (List._∷_ Row.off List.[])))))))));
         }
 
         abbrev G25 : Row.Cx
         G25 = record {
           locals = List._++_ t16 t1;
-          slots = List._∷_ (Row.lease (κs .0) (qs .0)) (List._∷_ (Row.lease (κs .1 .0) (qs .1 .0)) (List._∷_ (Row.lease (κs .1 .1 .0) (qs .1 .1 .0)) (List._∷_
-              (Row.lease (κs .1 .1 .1 .0) (qs .1 .1 .1 .0)) (List._∷_ Row.off (List._∷_ Row.off (List._∷_ Row.dead (List._∷_ Row.off (List._∷_ Row.off (List._∷_ Row.off List.[])))))))));
+          slots = List._∷_ (Row.lease (κs .0) (qs .0)) (List._∷_ (Row.lease (κs .1 .0) (qs .1 .0)) (List._∷_ (Row.lease (κs .1 .1 .0) (qs .1 .1 .0)) (List._∷_ (Row.lease (κs
+              .1 .1 .1 .0) (qs .1 .1 .1 .0)) (List._∷_ Row.off (List._∷_ Row.off (List._∷_ Row.dead (List._∷_ Row.off (List._∷_ Row.off (List._∷_ Row.off List.[])))))))));
         }
 
         abbrev G26 : Row.Cx
         G26 = record {
           locals = List._++_ t16 t1;
-          slots = List._∷_ (Row.lease (κs .0) (qs .0)) (List._∷_ (Row.lease (κs .1 .0) (qs .1 .0)) (List._∷_ (Row.lease (κs .1 .1 .0) (qs .1 .1 .0)) (List._∷_
-              (Row.lease (κs .1 .1 .1 .0) (qs .1 .1 .1 .0)) (List._∷_ Row.off (List._∷_ Row.off (List._∷_ Row.off (List._∷_ Row.off (List._∷_ Row.off (List._∷_ Row.off List.[])))))))));
+          slots = List._∷_ (Row.lease (κs .0) (qs .0)) (List._∷_ (Row.lease (κs .1 .0) (qs .1 .0)) (List._∷_ (Row.lease (κs .1 .1 .0) (qs .1 .1 .0)) (List._∷_ (Row.lease (κs
+              .1 .1 .1 .0) (qs .1 .1 .1 .0)) (List._∷_ Row.off (List._∷_ Row.off (List._∷_ Row.off (List._∷_ Row.off (List._∷_ Row.off (List._∷_ Row.off List.[])))))))));
         }
 
         abbrev G27 : Row.Cx
         G27 = record {
           locals = List._++_ t17 t1;
-          slots = List._∷_ (Row.lease (κs .0) (qs .0)) (List._∷_ (Row.lease (κs .1 .0) (qs .1 .0)) (List._∷_ (Row.lease (κs .1 .1 .0) (qs .1 .1 .0)) (List._∷_
-              (Row.lease (κs .1 .1 .1 .0) (qs .1 .1 .1 .0)) (List._∷_ Row.off (List._∷_ Row.off (List._∷_ Row.off (List._∷_ Row.off (List._∷_ Row.off (List._∷_ Row.off List.[])))))))));
+          slots = List._∷_ (Row.lease (κs .0) (qs .0)) (List._∷_ (Row.lease (κs .1 .0) (qs .1 .0)) (List._∷_ (Row.lease (κs .1 .1 .0) (qs .1 .1 .0)) (List._∷_ (Row.lease (κs
+              .1 .1 .1 .0) (qs .1 .1 .1 .0)) (List._∷_ Row.off (List._∷_ Row.off (List._∷_ Row.off (List._∷_ Row.off (List._∷_ Row.off (List._∷_ Row.off List.[])))))))));
         }
 
         abbrev G28 : Row.Cx
         G28 = record {
           locals = List._++_ t17 t1;
-          slots = List._∷_ (Row.lease (κs .0) (qs .0)) (List._∷_ (Row.lease (κs .1 .0) (qs .1 .0)) (List._∷_ (Row.lease (κs .1 .1 .0) (qs .1 .1 .0)) (List._∷_
-              (Row.lease (κs .1 .1 .1 .0) (qs .1 .1 .1 .0)) (List._∷_ Row.off (List._∷_ Row.off (List._∷_ Row.off (List._∷_ Row.off (List._∷_ Row.off (List._∷_ Row.off List.[])))))))));
+          slots = List._∷_ (Row.lease (κs .0) (qs .0)) (List._∷_ (Row.lease (κs .1 .0) (qs .1 .0)) (List._∷_ (Row.lease (κs .1 .1 .0) (qs .1 .1 .0)) (List._∷_ (Row.lease (κs
+              .1 .1 .1 .0) (qs .1 .1 .1 .0)) (List._∷_ Row.off (List._∷_ Row.off (List._∷_ Row.off (List._∷_ Row.off (List._∷_ Row.off (List._∷_ Row.off List.[])))))))));
         }
 
         abbrev G29 : Row.Cx
         G29 = record {
           locals = List._++_ t18 t1;
-          slots = List._∷_ (Row.lease (κs .0) (qs .0)) (List._∷_ (Row.lease (κs .1 .0) (qs .1 .0)) (List._∷_ (Row.lease (κs .1 .1 .0) (qs .1 .1 .0)) (List._∷_
-              (Row.lease (κs .1 .1 .1 .0) (qs .1 .1 .1 .0)) (List._∷_ Row.off (List._∷_ Row.off (List._∷_ Row.off (List._∷_ Row.off (List._∷_ Row.off (List._∷_ Row.off List.[])))))))));
+          slots = List._∷_ (Row.lease (κs .0) (qs .0)) (List._∷_ (Row.lease (κs .1 .0) (qs .1 .0)) (List._∷_ (Row.lease (κs .1 .1 .0) (qs .1 .1 .0)) (List._∷_ (Row.lease (κs
+              .1 .1 .1 .0) (qs .1 .1 .1 .0)) (List._∷_ Row.off (List._∷_ Row.off (List._∷_ Row.off (List._∷_ Row.off (List._∷_ Row.off (List._∷_ Row.off List.[])))))))));
         }
 
         abbrev G30 : Row.Cx
         G30 = record {
           locals = List._++_ t19 t1;
-          slots = List._∷_ (Row.lease (κs .0) (qs .0)) (List._∷_ (Row.lease (κs .1 .0) (qs .1 .0)) (List._∷_ (Row.lease (κs .1 .1 .0) (qs .1 .1 .0)) (List._∷_
-              (Row.lease (κs .1 .1 .1 .0) (qs .1 .1 .1 .0)) (List._∷_ Row.off (List._∷_ Row.off (List._∷_ Row.off (List._∷_ Row.off (List._∷_ Row.off (List._∷_ Row.off List.[])))))))));
+          slots = List._∷_ (Row.lease (κs .0) (qs .0)) (List._∷_ (Row.lease (κs .1 .0) (qs .1 .0)) (List._∷_ (Row.lease (κs .1 .1 .0) (qs .1 .1 .0)) (List._∷_ (Row.lease (κs
+              .1 .1 .1 .0) (qs .1 .1 .1 .0)) (List._∷_ Row.off (List._∷_ Row.off (List._∷_ Row.off (List._∷_ Row.off (List._∷_ Row.off (List._∷_ Row.off List.[])))))))));
         }
 
         abbrev G31 : Row.Cx
         G31 = record {
           locals = List._++_ t20 t1;
-          slots = List._∷_ (Row.lease (κs .0) (qs .0)) (List._∷_ (Row.lease (κs .1 .0) (qs .1 .0)) (List._∷_ (Row.lease (κs .1 .1 .0) (qs .1 .1 .0)) (List._∷_
-              (Row.lease (κs .1 .1 .1 .0) (qs .1 .1 .1 .0)) (List._∷_ Row.off (List._∷_ Row.off (List._∷_ Row.off (List._∷_ Row.off (List._∷_ Row.off (List._∷_ Row.off List.[])))))))));
+          slots = List._∷_ (Row.lease (κs .0) (qs .0)) (List._∷_ (Row.lease (κs .1 .0) (qs .1 .0)) (List._∷_ (Row.lease (κs .1 .1 .0) (qs .1 .1 .0)) (List._∷_ (Row.lease (κs
+              .1 .1 .1 .0) (qs .1 .1 .1 .0)) (List._∷_ Row.off (List._∷_ Row.off (List._∷_ Row.off (List._∷_ Row.off (List._∷_ Row.off (List._∷_ Row.off List.[])))))))));
         }
 
         abbrev G32 : Row.Cx
         G32 = record {
           locals = List._++_ t20 t21;
-          slots = List._∷_ (Row.lease (κs .0) (qs .0)) (List._∷_ (Row.lease (κs .1 .0) (qs .1 .0)) (List._∷_ (Row.lease (κs .1 .1 .0) (qs .1 .1 .0)) (List._∷_
-              (Row.lease (κs .1 .1 .1 .0) (qs .1 .1 .1 .0)) (List._∷_ Row.off (List._∷_ Row.off (List._∷_ Row.off (List._∷_ Row.off (List._∷_ Row.off (List._∷_ Row.off List.[])))))))));
+          slots = List._∷_ (Row.lease (κs .0) (qs .0)) (List._∷_ (Row.lease (κs .1 .0) (qs .1 .0)) (List._∷_ (Row.lease (κs .1 .1 .0) (qs .1 .1 .0)) (List._∷_ (Row.lease
+              (κs .1 .1 .1 .0) (qs .1 .1 .1 .0)) (List._∷_ Row.off (List._∷_ Row.off (List._∷_ Row.off (List._∷_ Row.off (List._∷_ Row.off (List._∷_ Row.off List.[])))))))));
         }
 
         abbrev G33 : Row.Cx
         G33 = record {
           locals = List._++_ t20 t22;
-          slots = List._∷_ (Row.lease (κs .0) (qs .0)) (List._∷_ (Row.lease (κs .1 .0) (qs .1 .0)) (List._∷_ (Row.lease (κs .1 .1 .0) (qs .1 .1 .0)) (List._∷_
-              (Row.lease (κs .1 .1 .1 .0) (qs .1 .1 .1 .0)) (List._∷_ Row.off (List._∷_ Row.off (List._∷_ Row.off (List._∷_ Row.off (List._∷_ Row.off (List._∷_ Row.off List.[])))))))));
+          slots = List._∷_ (Row.lease (κs .0) (qs .0)) (List._∷_ (Row.lease (κs .1 .0) (qs .1 .0)) (List._∷_ (Row.lease (κs .1 .1 .0) (qs .1 .1 .0)) (List._∷_ (Row.lease
+              (κs .1 .1 .1 .0) (qs .1 .1 .1 .0)) (List._∷_ Row.off (List._∷_ Row.off (List._∷_ Row.off (List._∷_ Row.off (List._∷_ Row.off (List._∷_ Row.off List.[])))))))));
         }
 
         abbrev G34 : Row.Cx
         G34 = record {
           locals = List._++_ t12 t22;
-          slots = List._∷_ (Row.lease (κs .0) (qs .0)) (List._∷_ (Row.lease (κs .1 .0) (qs .1 .0)) (List._∷_ (Row.lease (κs .1 .1 .0) (qs .1 .1 .0)) (List._∷_
-              (Row.lease (κs .1 .1 .1 .0) (qs .1 .1 .1 .0)) (List._∷_ Row.off (List._∷_ Row.off (List._∷_ Row.off (List._∷_ Row.off (List._∷_ Row.off (List._∷_ Row.off List.[])))))))));
+          slots = List._∷_ (Row.lease (κs .0) (qs .0)) (List._∷_ (Row.lease (κs .1 .0) (qs .1 .0)) (List._∷_ (Row.lease (κs .1 .1 .0) (qs .1 .1 .0)) (List._∷_ (Row.lease
+              (κs .1 .1 .1 .0) (qs .1 .1 .1 .0)) (List._∷_ Row.off (List._∷_ Row.off (List._∷_ Row.off (List._∷_ Row.off (List._∷_ Row.off (List._∷_ Row.off List.[])))))))));
         }
 
         abbrev G35 : Row.Cx
         G35 = record {
           locals = List._++_ t12 t13;
-          slots = List._∷_ (Row.lease (κs .0) (qs .0)) (List._∷_ (Row.lease (κs .1 .0) (qs .1 .0)) (List._∷_ (Row.lease (κs .1 .1 .0) (qs .1 .1 .0)) (List._∷_
-              (Row.lease (κs .1 .1 .1 .0) (qs .1 .1 .1 .0)) (List._∷_ Row.off (List._∷_ Row.off (List._∷_ Row.off (List._∷_ Row.off (List._∷_ Row.off (List._∷_ Row.off List.[])))))))));
+          slots = List._∷_ (Row.lease (κs .0) (qs .0)) (List._∷_ (Row.lease (κs .1 .0) (qs .1 .0)) (List._∷_ (Row.lease (κs .1 .1 .0) (qs .1 .1 .0)) (List._∷_ (Row.lease
+              (κs .1 .1 .1 .0) (qs .1 .1 .1 .0)) (List._∷_ Row.off (List._∷_ Row.off (List._∷_ Row.off (List._∷_ Row.off (List._∷_ Row.off (List._∷_ Row.off List.[])))))))));
         }
 
         abbrev G36 : Row.Cx
         G36 = record {
           locals = List._++_ t23 t1;
-          slots = List._∷_ (Row.lease (κs .0) (qs .0)) (List._∷_ (Row.lease (κs .1 .0) (qs .1 .0)) (List._∷_ (Row.lease (κs .1 .1 .0) (qs .1 .1 .0)) (List._∷_
-              (Row.lease (κs .1 .1 .1 .0) (qs .1 .1 .1 .0)) (List._∷_ Row.off (List._∷_ Row.off (List._∷_ Row.off (List._∷_ Row.off (List._∷_ Row.off (List._∷_ Row.off List.[])))))))));
+          slots = List._∷_ (Row.lease (κs .0) (qs .0)) (List._∷_ (Row.lease (κs .1 .0) (qs .1 .0)) (List._∷_ (Row.lease (κs .1 .1 .0) (qs .1 .1 .0)) (List._∷_ (Row.lease (κs
+              .1 .1 .1 .0) (qs .1 .1 .1 .0)) (List._∷_ Row.off (List._∷_ Row.off (List._∷_ Row.off (List._∷_ Row.off (List._∷_ Row.off (List._∷_ Row.off List.[])))))))));
         }
 
         abbrev G37 : Row.Cx
         G37 = record {
           locals = List._++_ t23 t1;
-          slots = List._∷_ (Row.lease (κs .0) (qs .0)) (List._∷_ (Row.lease (κs .1 .0) (qs .1 .0)) (List._∷_ (Row.lease (κs .1 .1 .0) (qs .1 .1 .0)) (List._∷_
-              (Row.lease (κs .1 .1 .1 .0) (qs .1 .1 .1 .0)) (List._∷_ Row.off (List._∷_ Row.off (List._∷_ Row.off (List._∷_ Row.off (List._∷_ Row.off (List._∷_ Row.off List.[])))))))));
+          slots = List._∷_ (Row.lease (κs .0) (qs .0)) (List._∷_ (Row.lease (κs .1 .0) (qs .1 .0)) (List._∷_ (Row.lease (κs .1 .1 .0) (qs .1 .1 .0)) (List._∷_ (Row.lease (κs
+              .1 .1 .1 .0) (qs .1 .1 .1 .0)) (List._∷_ Row.off (List._∷_ Row.off (List._∷_ Row.off (List._∷_ Row.off (List._∷_ Row.off (List._∷_ Row.off List.[])))))))));
         }
 
         abbrev G38 : Row.Cx
         G38 = record {
           locals = List._++_ t24 t1;
-          slots = List._∷_ (Row.lease (κs .0) (qs .0)) (List._∷_ (Row.lease (κs .1 .0) (qs .1 .0)) (List._∷_ (Row.lease (κs .1 .1 .0) (qs .1 .1 .0)) (List._∷_
-              (Row.lease (κs .1 .1 .1 .0) (qs .1 .1 .1 .0)) (List._∷_ Row.off (List._∷_ Row.off (List._∷_ Row.off (List._∷_ Row.off (List._∷_ Row.off (List._∷_ Row.off List.[])))))))));
+          slots = List._∷_ (Row.lease (κs .0) (qs .0)) (List._∷_ (Row.lease (κs .1 .0) (qs .1 .0)) (List._∷_ (Row.lease (κs .1 .1 .0) (qs .1 .1 .0)) (List._∷_ (Row.lease (κs
+              .1 .1 .1 .0) (qs .1 .1 .1 .0)) (List._∷_ Row.off (List._∷_ Row.off (List._∷_ Row.off (List._∷_ Row.off (List._∷_ Row.off (List._∷_ Row.off List.[])))))))));
         }
 
         abbrev G39 : Row.Cx
         G39 = record {
           locals = List._++_ t25 t1;
-          slots = List._∷_ (Row.lease (κs .0) (qs .0)) (List._∷_ (Row.lease (κs .1 .0) (qs .1 .0)) (List._∷_ (Row.lease (κs .1 .1 .0) (qs .1 .1 .0)) (List._∷_
-              (Row.lease (κs .1 .1 .1 .0) (qs .1 .1 .1 .0)) (List._∷_ Row.off (List._∷_ Row.off (List._∷_ Row.off (List._∷_ Row.off (List._∷_ Row.off (List._∷_ Row.off List.[])))))))));
+          slots = List._∷_ (Row.lease (κs .0) (qs .0)) (List._∷_ (Row.lease (κs .1 .0) (qs .1 .0)) (List._∷_ (Row.lease (κs .1 .1 .0) (qs .1 .1 .0)) (List._∷_ (Row.lease (κs
+              .1 .1 .1 .0) (qs .1 .1 .1 .0)) (List._∷_ Row.off (List._∷_ Row.off (List._∷_ Row.off (List._∷_ Row.off (List._∷_ Row.off (List._∷_ Row.off List.[])))))))));
         }
 
         abbrev G40 : Row.Cx
         G40 = record {
           locals = List._++_ t26 t1;
-          slots = List._∷_ (Row.lease (κs .0) (qs .0)) (List._∷_ (Row.lease (κs .1 .0) (qs .1 .0)) (List._∷_ (Row.lease (κs .1 .1 .0) (qs .1 .1 .0)) (List._∷_
-              (Row.lease (κs .1 .1 .1 .0) (qs .1 .1 .1 .0)) (List._∷_ Row.off (List._∷_ Row.off (List._∷_ Row.off (List._∷_ Row.off (List._∷_ Row.off (List._∷_ Row.off List.[])))))))));
+          slots = List._∷_ (Row.lease (κs .0) (qs .0)) (List._∷_ (Row.lease (κs .1 .0) (qs .1 .0)) (List._∷_ (Row.lease (κs .1 .1 .0) (qs .1 .1 .0)) (List._∷_ (Row.lease (κs
+              .1 .1 .1 .0) (qs .1 .1 .1 .0)) (List._∷_ Row.off (List._∷_ Row.off (List._∷_ Row.off (List._∷_ Row.off (List._∷_ Row.off (List._∷_ Row.off List.[])))))))));
         }
 
         abbrev G41 : Row.Cx
         G41 = record {
           locals = List._++_ t27 t1;
-          slots = List._∷_ (Row.lease (κs .0) (qs .0)) (List._∷_ (Row.lease (κs .1 .0) (qs .1 .0)) (List._∷_ (Row.lease (κs .1 .1 .0) (qs .1 .1 .0)) (List._∷_
-              (Row.lease (κs .1 .1 .1 .0) (qs .1 .1 .1 .0)) (List._∷_ Row.off (List._∷_ Row.off (List._∷_ Row.off (List._∷_ Row.off (List._∷_ Row.off (List._∷_ Row.off List.[])))))))));
+          slots = List._∷_ (Row.lease (κs .0) (qs .0)) (List._∷_ (Row.lease (κs .1 .0) (qs .1 .0)) (List._∷_ (Row.lease (κs .1 .1 .0) (qs .1 .1 .0)) (List._∷_ (Row.lease (κs
+              .1 .1 .1 .0) (qs .1 .1 .1 .0)) (List._∷_ Row.off (List._∷_ Row.off (List._∷_ Row.off (List._∷_ Row.off (List._∷_ Row.off (List._∷_ Row.off List.[])))))))));
         }
 
         abbrev G42 : Row.Cx
         G42 = record {
           locals = List._++_ t27 t28;
-          slots = List._∷_ (Row.lease (κs .0) (qs .0)) (List._∷_ (Row.lease (κs .1 .0) (qs .1 .0)) (List._∷_ (Row.lease (κs .1 .1 .0) (qs .1 .1 .0)) (List._∷_
-              (Row.lease (κs .1 .1 .1 .0) (qs .1 .1 .1 .0)) (List._∷_ Row.off (List._∷_ Row.off (List._∷_ Row.off (List._∷_ Row.off (List._∷_ Row.off (List._∷_ Row.off List.[])))))))));
+          slots = List._∷_ (Row.lease (κs .0) (qs .0)) (List._∷_ (Row.lease (κs .1 .0) (qs .1 .0)) (List._∷_ (Row.lease (κs .1 .1 .0) (qs .1 .1 .0)) (List._∷_ (Row.lease
+              (κs .1 .1 .1 .0) (qs .1 .1 .1 .0)) (List._∷_ Row.off (List._∷_ Row.off (List._∷_ Row.off (List._∷_ Row.off (List._∷_ Row.off (List._∷_ Row.off List.[])))))))));
         }
 
         abbrev G43 : Row.Cx
         G43 = record {
           locals = List._++_ t27 t29;
-          slots = List._∷_ (Row.lease (κs .0) (qs .0)) (List._∷_ (Row.lease (κs .1 .0) (qs .1 .0)) (List._∷_ (Row.lease (κs .1 .1 .0) (qs .1 .1 .0)) (List._∷_
-              (Row.lease (κs .1 .1 .1 .0) (qs .1 .1 .1 .0)) (List._∷_ Row.off (List._∷_ Row.off (List._∷_ Row.off (List._∷_ Row.off (List._∷_ Row.off (List._∷_ Row.off List.[])))))))));
+          slots = List._∷_ (Row.lease (κs .0) (qs .0)) (List._∷_ (Row.lease (κs .1 .0) (qs .1 .0)) (List._∷_ (Row.lease (κs .1 .1 .0) (qs .1 .1 .0)) (List._∷_ (Row.lease
+              (κs .1 .1 .1 .0) (qs .1 .1 .1 .0)) (List._∷_ Row.off (List._∷_ Row.off (List._∷_ Row.off (List._∷_ Row.off (List._∷_ Row.off (List._∷_ Row.off List.[])))))))));
         }
 
         abbrev G44 : Row.Cx
         G44 = record {
           locals = List._++_ t27 t1;
-          slots = List._∷_ (Row.lease (κs .0) (qs .0)) (List._∷_ (Row.lease (κs .1 .0) (qs .1 .0)) (List._∷_ (Row.lease (κs .1 .1 .0) (qs .1 .1 .0)) (List._∷_
-              (Row.lease (κs .1 .1 .1 .0) (qs .1 .1 .1 .0)) (List._∷_ Row.off (List._∷_ Row.off (List._∷_ Row.off (List._∷_ Row.off (List._∷_ Row.off (List._∷_ Row.off List.[])))))))));
+          slots = List._∷_ (Row.lease (κs .0) (qs .0)) (List._∷_ (Row.lease (κs .1 .0) (qs .1 .0)) (List._∷_ (Row.lease (κs .1 .1 .0) (qs .1 .1 .0)) (List._∷_ (Row.lease (κs
+              .1 .1 .1 .0) (qs .1 .1 .1 .0)) (List._∷_ Row.off (List._∷_ Row.off (List._∷_ Row.off (List._∷_ Row.off (List._∷_ Row.off (List._∷_ Row.off List.[])))))))));
         }
 
         abbrev G45 : Row.Cx
         G45 = record {
           locals = List._++_ t27 t30;
-          slots = List._∷_ (Row.lease (κs .0) (qs .0)) (List._∷_ (Row.lease (κs .1 .0) (qs .1 .0)) (List._∷_ (Row.lease (κs .1 .1 .0) (qs .1 .1 .0)) (List._∷_
-              (Row.lease (κs .1 .1 .1 .0) (qs .1 .1 .1 .0)) (List._∷_ Row.off (List._∷_ Row.off (List._∷_ Row.off (List._∷_ Row.off (List._∷_ Row.off (List._∷_ Row.off List.[])))))))));
+          slots = List._∷_ (Row.lease (κs .0) (qs .0)) (List._∷_ (Row.lease (κs .1 .0) (qs .1 .0)) (List._∷_ (Row.lease (κs .1 .1 .0) (qs .1 .1 .0)) (List._∷_ (Row.lease
+              (κs .1 .1 .1 .0) (qs .1 .1 .1 .0)) (List._∷_ Row.off (List._∷_ Row.off (List._∷_ Row.off (List._∷_ Row.off (List._∷_ Row.off (List._∷_ Row.off List.[])))))))));
         }
 
         abbrev G46 : Row.Cx
         G46 = record {
           locals = List._++_ t31 t30;
-          slots = List._∷_ (Row.lease (κs .0) (qs .0)) (List._∷_ (Row.lease (κs .1 .0) (qs .1 .0)) (List._∷_ (Row.lease (κs .1 .1 .0) (qs .1 .1 .0)) (List._∷_
-              (Row.lease (κs .1 .1 .1 .0) (qs .1 .1 .1 .0)) (List._∷_ Row.off (List._∷_ Row.off (List._∷_ Row.off (List._∷_ Row.off (List._∷_ Row.off (List._∷_ Row.off List.[])))))))));
+          slots = List._∷_ (Row.lease (κs .0) (qs .0)) (List._∷_ (Row.lease (κs .1 .0) (qs .1 .0)) (List._∷_ (Row.lease (κs .1 .1 .0) (qs .1 .1 .0)) (List._∷_ (Row.lease
+              (κs .1 .1 .1 .0) (qs .1 .1 .1 .0)) (List._∷_ Row.off (List._∷_ Row.off (List._∷_ Row.off (List._∷_ Row.off (List._∷_ Row.off (List._∷_ Row.off List.[])))))))));
         }
 
         abbrev G47 : Row.Cx
         G47 = record {
           locals = List._++_ t31 t1;
-          slots = List._∷_ (Row.lease (κs .0) (qs .0)) (List._∷_ (Row.lease (κs .1 .0) (qs .1 .0)) (List._∷_ (Row.lease (κs .1 .1 .0) (qs .1 .1 .0)) (List._∷_
-              (Row.lease (κs .1 .1 .1 .0) (qs .1 .1 .1 .0)) (List._∷_ Row.off (List._∷_ Row.off (List._∷_ Row.off (List._∷_ Row.off (List._∷_ Row.off (List._∷_ Row.off List.[])))))))));
+          slots = List._∷_ (Row.lease (κs .0) (qs .0)) (List._∷_ (Row.lease (κs .1 .0) (qs .1 .0)) (List._∷_ (Row.lease (κs .1 .1 .0) (qs .1 .1 .0)) (List._∷_ (Row.lease (κs
+              .1 .1 .1 .0) (qs .1 .1 .1 .0)) (List._∷_ Row.off (List._∷_ Row.off (List._∷_ Row.off (List._∷_ Row.off (List._∷_ Row.off (List._∷_ Row.off List.[])))))))));
         }
 
         abbrev G48 : Row.Cx
         G48 = record {
           locals = List._++_ t31 t32;
-          slots = List._∷_ (Row.lease (κs .0) (qs .0)) (List._∷_ (Row.lease (κs .1 .0) (qs .1 .0)) (List._∷_ (Row.lease (κs .1 .1 .0) (qs .1 .1 .0)) (List._∷_
-              (Row.lease (κs .1 .1 .1 .0) (qs .1 .1 .1 .0)) (List._∷_ Row.off (List._∷_ Row.off (List._∷_ Row.off (List._∷_ Row.off (List._∷_ Row.off (List._∷_ Row.off List.[])))))))));
+          slots = List._∷_ (Row.lease (κs .0) (qs .0)) (List._∷_ (Row.lease (κs .1 .0) (qs .1 .0)) (List._∷_ (Row.lease (κs .1 .1 .0) (qs .1 .1 .0)) (List._∷_ (Row.lease
+              (κs .1 .1 .1 .0) (qs .1 .1 .1 .0)) (List._∷_ Row.off (List._∷_ Row.off (List._∷_ Row.off (List._∷_ Row.off (List._∷_ Row.off (List._∷_ Row.off List.[])))))))));
         }
 
         abbrev G49 : Row.Cx
         G49 = record {
           locals = List._++_ t33 t32;
-          slots = List._∷_ (Row.lease (κs .0) (qs .0)) (List._∷_ (Row.lease (κs .1 .0) (qs .1 .0)) (List._∷_ (Row.lease (κs .1 .1 .0) (qs .1 .1 .0)) (List._∷_
-              (Row.lease (κs .1 .1 .1 .0) (qs .1 .1 .1 .0)) (List._∷_ Row.off (List._∷_ Row.off (List._∷_ Row.off (List._∷_ Row.off (List._∷_ Row.off (List._∷_ Row.off List.[])))))))));
+          slots = List._∷_ (Row.lease (κs .0) (qs .0)) (List._∷_ (Row.lease (κs .1 .0) (qs .1 .0)) (List._∷_ (Row.lease (κs .1 .1 .0) (qs .1 .1 .0)) (List._∷_ (Row.lease
+              (κs .1 .1 .1 .0) (qs .1 .1 .1 .0)) (List._∷_ Row.off (List._∷_ Row.off (List._∷_ Row.off (List._∷_ Row.off (List._∷_ Row.off (List._∷_ Row.off List.[])))))))));
         }
 
         abbrev G50 : Row.Cx
         G50 = record {
           locals = List._++_ t33 t1;
-          slots = List._∷_ (Row.lease (κs .0) (qs .0)) (List._∷_ (Row.lease (κs .1 .0) (qs .1 .0)) (List._∷_ (Row.lease (κs .1 .1 .0) (qs .1 .1 .0)) (List._∷_
-              (Row.lease (κs .1 .1 .1 .0) (qs .1 .1 .1 .0)) (List._∷_ Row.off (List._∷_ Row.off (List._∷_ Row.off (List._∷_ Row.off (List._∷_ Row.off (List._∷_ Row.off List.[])))))))));
+          slots = List._∷_ (Row.lease (κs .0) (qs .0)) (List._∷_ (Row.lease (κs .1 .0) (qs .1 .0)) (List._∷_ (Row.lease (κs .1 .1 .0) (qs .1 .1 .0)) (List._∷_ (Row.lease (κs
+              .1 .1 .1 .0) (qs .1 .1 .1 .0)) (List._∷_ Row.off (List._∷_ Row.off (List._∷_ Row.off (List._∷_ Row.off (List._∷_ Row.off (List._∷_ Row.off List.[])))))))));
         }
 
         abbrev G51 : Row.Cx
         G51 = record {
           locals = List._++_ t34 t1;
-          slots = List._∷_ (Row.lease (κs .0) (qs .0)) (List._∷_ (Row.lease (κs .1 .0) (qs .1 .0)) (List._∷_ (Row.lease (κs .1 .1 .0) (qs .1 .1 .0)) (List._∷_
-              (Row.lease (κs .1 .1 .1 .0) (qs .1 .1 .1 .0)) (List._∷_ Row.off (List._∷_ Row.off (List._∷_ Row.off (List._∷_ Row.off (List._∷_ Row.off (List._∷_ Row.off List.[])))))))));
+          slots = List._∷_ (Row.lease (κs .0) (qs .0)) (List._∷_ (Row.lease (κs .1 .0) (qs .1 .0)) (List._∷_ (Row.lease (κs .1 .1 .0) (qs .1 .1 .0)) (List._∷_ (Row.lease (κs
+              .1 .1 .1 .0) (qs .1 .1 .1 .0)) (List._∷_ Row.off (List._∷_ Row.off (List._∷_ Row.off (List._∷_ Row.off (List._∷_ Row.off (List._∷_ Row.off List.[])))))))));
         }
 
         abbrev G52 : Row.Cx
         G52 = record {
           locals = List._++_ t2 t1;
-          slots = List._∷_ (Row.lease (κs .0) (qs .0)) (List._∷_ (Row.lease (κs .1 .0) (qs .1 .0)) (List._∷_ (Row.lease (κs .1 .1 .0) (qs .1 .1 .0)) (List._∷_
-              (Row.lease (κs .1 .1 .1 .0) (qs .1 .1 .1 .0)) (List._∷_ Row.off (List._∷_ Row.off (List._∷_ Row.off (List._∷_ Row.off (List._∷_ Row.off (List._∷_ Row.off List.[])))))))));
+          slots = List._∷_ (Row.lease (κs .0) (qs .0)) (List._∷_ (Row.lease (κs .1 .0) (qs .1 .0)) (List._∷_ (Row.lease (κs .1 .1 .0) (qs .1 .1 .0)) (List._∷_ (Row.lease (κs
+              .1 .1 .1 .0) (qs .1 .1 .1 .0)) (List._∷_ Row.off (List._∷_ Row.off (List._∷_ Row.off (List._∷_ Row.off (List._∷_ Row.off (List._∷_ Row.off List.[])))))))));
         }
 
         abbrev G53 : Row.Cx
         G53 = record {
           locals = List._++_ t27 t1;
-          slots = List._∷_ (Row.lease (κs .0) (qs .0)) (List._∷_ (Row.lease (κs .1 .0) (qs .1 .0)) (List._∷_ (Row.lease (κs .1 .1 .0) (qs .1 .1 .0)) (List._∷_
-              (Row.lease (κs .1 .1 .1 .0) (qs .1 .1 .1 .0)) (List._∷_ Row.off (List._∷_ Row.off (List._∷_ Row.off (List._∷_ Row.off (List._∷_ Row.off (List._∷_ Row.off List.[])))))))));
+          slots = List._∷_ (Row.lease (κs .0) (qs .0)) (List._∷_ (Row.lease (κs .1 .0) (qs .1 .0)) (List._∷_ (Row.lease (κs .1 .1 .0) (qs .1 .1 .0)) (List._∷_ (Row.lease (κs
+              .1 .1 .1 .0) (qs .1 .1 .1 .0)) (List._∷_ Row.off (List._∷_ Row.off (List._∷_ Row.off (List._∷_ Row.off (List._∷_ Row.off (List._∷_ Row.off List.[])))))))));
         }
 
         abbrev G54 : Row.Cx
         G54 = record {
           locals = List._++_ t27 t1;
-          slots = List._∷_ (Row.lease (κs .0) (qs .0)) (List._∷_ (Row.lease (κs .1 .0) (qs .1 .0)) (List._∷_ (Row.lease (κs .1 .1 .0) (qs .1 .1 .0)) (List._∷_
-              (Row.lease (κs .1 .1 .1 .0) (qs .1 .1 .1 .0)) (List._∷_ Row.off (List._∷_ Row.off (List._∷_ Row.off (List._∷_ Row.alive (List._∷_ Row.off (List._∷_ Row.off List.[])))))))));
+          slots = List._∷_ (Row.lease (κs .0) (qs .0)) (List._∷_ (Row.lease (κs .1 .0) (qs .1 .0)) (List._∷_ (Row.lease (κs .1 .1 .0) (qs .1 .1 .0)) (List._∷_ (Row.lease (κs
+              .1 .1 .1 .0) (qs .1 .1 .1 .0)) (List._∷_ Row.off (List._∷_ Row.off (List._∷_ Row.off (List._∷_ Row.alive (List._∷_ Row.off (List._∷_ Row.off List.[])))))))));
         }
 
         abbrev G55 : Row.Cx
         G55 = record {
           locals = List._++_ g35 t36;
-          slots = List._∷_ (Row.lease (κs .0) (qs .0)) (List._∷_ Row.off (List._∷_ (Row.lease (κs .1 .1 .0) (qs .1 .1 .0)) (List._∷_ (Row.lease (κs .1 .1 .1
-              .0) (qs .1 .1 .1 .0)) (List._∷_ Row.off (List._∷_ Row.off (List._∷_ Row.off (List._∷_ Row.alive (List._∷_ Row.off (List._∷_ Row.off List.[])))))))));
+          slots = List._∷_ (Row.lease (κs .0) (qs .0)) (List._∷_ Row.off (List._∷_ (Row.lease (κs .1 .1 .0) (qs .1 .1 .0)) (List._∷_ (Row.lease (κs .1 .1 .1 .0) (qs .1 .1
+              .1 .0)) (List._∷_ Row.off (List._∷_ Row.off (List._∷_ Row.off (List._∷_ Row.alive (List._∷_ Row.off (List._∷_ Row.off List.[])))))))));
         }
 
         abbrev G56 : Row.Cx
         G56 = record {
           locals = List._++_ g35 t37;
-          slots = List._∷_ (Row.lease (κs .0) (qs .0)) (List._∷_ Row.off (List._∷_ (Row.lease (κs .1 .1 .0) (qs .1 .1 .0)) (List._∷_ (Row.lease (κs .1 .1 .1
-              .0) (qs .1 .1 .1 .0)) (List._∷_ Row.off (List._∷_ Row.off (List._∷_ Row.off (List._∷_ Row.alive (List._∷_ Row.off (List._∷_ Row.off List.[])))))))));
+          slots = List._∷_ (Row.lease (κs .0) (qs .0)) (List._∷_ Row.off (List._∷_ (Row.lease (κs .1 .1 .0) (qs .1 .1 .0)) (List._∷_ (Row.lease (κs .1 .1 .1 .0) (qs .1 .1
+              .1 .0)) (List._∷_ Row.off (List._∷_ Row.off (List._∷_ Row.off (List._∷_ Row.alive (List._∷_ Row.off (List._∷_ Row.off List.[])))))))));
         }
 
         abbrev G57 : Row.Cx
         G57 = record {
           locals = List._++_ g35 t37;
-          slots = List._∷_ (Row.lease (κs .0) (qs .0)) (List._∷_ Row.off (List._∷_ (Row.lease (κs .1 .1 .0) (qs .1 .1 .0)) (List._∷_ (Row.lease (κs .1 .1 .1
-              .0) (qs .1 .1 .1 .0)) (List._∷_ Row.off (List._∷_ Row.off (List._∷_ Row.off (List._∷_ Row.alive (List._∷_ Row.alive (List._∷_ Row.off List.[])))))))));
+          slots = List._∷_ (Row.lease (κs .0) (qs .0)) (List._∷_ Row.off (List._∷_ (Row.lease (κs .1 .1 .0) (qs .1 .1 .0)) (List._∷_ (Row.lease (κs .1 .1 .1 .0) (qs .1 .1
+              .1 .0)) (List._∷_ Row.off (List._∷_ Row.off (List._∷_ Row.off (List._∷_ Row.alive (List._∷_ Row.alive (List._∷_ Row.off List.[])))))))));
         }
 
         abbrev G58 : Row.Cx
         G58 = record {
           locals = List._++_ g38 t39;
-          slots = List._∷_ (Row.lease (κs .0) (qs .0)) (List._∷_ Row.off (List._∷_ Row.off (List._∷_ (Row.lease (κs .1 .1 .1 .0) (qs .1 .1 .1 .0)) (List._∷_
-              Row.off (List._∷_ Row.off (List._∷_ Row.off (List._∷_ Row.alive (List._∷_ Row.alive (List._∷_ Row.off List.[])))))))));
+          slots = List._∷_ (Row.lease (κs .0) (qs .0)) (List._∷_ Row.off (List._∷_ Row.off (List._∷_ (Row.lease (κs .1 .1 .1 .0) (qs .1 .1 .1 .0)) (List._∷_ Row.off
+              (List._∷_ Row.off (List._∷_ Row.off (List._∷_ Row.alive (List._∷_ Row.alive (List._∷_ Row.off List.[])))))))));
         }
 
         abbrev G59 : Row.Cx
         G59 = record {
           locals = List._++_ g38 t40;
-          slots = List._∷_ (Row.lease (κs .0) (qs .0)) (List._∷_ Row.off (List._∷_ Row.off (List._∷_ (Row.lease (κs .1 .1 .1 .0) (qs .1 .1 .1 .0)) (List._∷_
-              Row.off (List._∷_ Row.off (List._∷_ Row.off (List._∷_ Row.alive (List._∷_ Row.alive (List._∷_ Row.off List.[])))))))));
+          slots = List._∷_ (Row.lease (κs .0) (qs .0)) (List._∷_ Row.off (List._∷_ Row.off (List._∷_ (Row.lease (κs .1 .1 .1 .0) (qs .1 .1 .1 .0)) (List._∷_ Row.off
+              (List._∷_ Row.off (List._∷_ Row.off (List._∷_ Row.alive (List._∷_ Row.alive (List._∷_ Row.off List.[])))))))));
         }
 
         abbrev G60 : Row.Cx
         G60 = record {
           locals = List._++_ g38 t40;
-          slots = List._∷_ (Row.lease (κs .0) (qs .0)) (List._∷_ Row.off (List._∷_ Row.off (List._∷_ (Row.lease (κs .1 .1 .1 .0) (qs .1 .1 .1 .0)) (List._∷_
-              Row.off (List._∷_ Row.off (List._∷_ Row.off (List._∷_ Row.alive (List._∷_ Row.alive (List._∷_ Row.alive List.[])))))))));
+          slots = List._∷_ (Row.lease (κs .0) (qs .0)) (List._∷_ Row.off (List._∷_ Row.off (List._∷_ (Row.lease (κs .1 .1 .1 .0) (qs .1 .1 .1 .0)) (List._∷_ Row.off
+              (List._∷_ Row.off (List._∷_ Row.off (List._∷_ Row.alive (List._∷_ Row.alive (List._∷_ Row.alive List.[])))))))));
         }
 
         abbrev G61 : Row.Cx
         G61 = record {
           locals = List._++_ g41 t42;
-          slots = List._∷_ (Row.lease (κs .0) (qs .0)) (List._∷_ Row.off (List._∷_ Row.off (List._∷_ Row.off (List._∷_ Row.off (List._∷_ Row.off (List._∷_
-              Row.off (List._∷_ Row.alive (List._∷_ Row.alive (List._∷_ Row.alive List.[])))))))));
+          slots = List._∷_ (Row.lease (κs .0) (qs .0)) (List._∷_ Row.off (List._∷_ Row.off (List._∷_ Row.off (List._∷_ Row.off (List._∷_ Row.off (List._∷_ Row.off (List._∷_
+              Row.alive (List._∷_ Row.alive (List._∷_ Row.alive List.[])))))))));
         }
 
         abbrev G62 : Row.Cx
         G62 = record {
           locals = List._++_ g41 t43;
-          slots = List._∷_ (Row.lease (κs .0) (qs .0)) (List._∷_ Row.off (List._∷_ Row.off (List._∷_ Row.off (List._∷_ Row.off (List._∷_ Row.off (List._∷_
-              Row.off (List._∷_ Row.alive (List._∷_ Row.alive (List._∷_ Row.alive List.[])))))))));
+          slots = List._∷_ (Row.lease (κs .0) (qs .0)) (List._∷_ Row.off (List._∷_ Row.off (List._∷_ Row.off (List._∷_ Row.off (List._∷_ Row.off (List._∷_ Row.off (List._∷_
+              Row.alive (List._∷_ Row.alive (List._∷_ Row.alive List.[])))))))));
         }
 
         abbrev G63 : Row.Cx
         G63 = record {
           locals = List._++_ g41 t44;
-          slots = List._∷_ (Row.lease (κs .0) (qs .0)) (List._∷_ Row.off (List._∷_ Row.off (List._∷_ Row.off (List._∷_ Row.off (List._∷_ Row.off (List._∷_
-              Row.off (List._∷_ Row.alive (List._∷_ Row.alive (List._∷_ Row.alive List.[])))))))));
+          slots = List._∷_ (Row.lease (κs .0) (qs .0)) (List._∷_ Row.off (List._∷_ Row.off (List._∷_ Row.off (List._∷_ Row.off (List._∷_ Row.off (List._∷_ Row.off (List._∷_
+              Row.alive (List._∷_ Row.alive (List._∷_ Row.alive List.[])))))))));
         }
 
         abbrev G64 : Row.Cx
         G64 = record {
           locals = List._++_ g45 t44;
-          slots = List._∷_ (Row.lease (κs .0) (qs .0)) (List._∷_ Row.off (List._∷_ Row.off (List._∷_ Row.off (List._∷_ Row.off (List._∷_ Row.off (List._∷_
-              Row.off (List._∷_ Row.alive (List._∷_ Row.alive (List._∷_ Row.alive List.[])))))))));
+          slots = List._∷_ (Row.lease (κs .0) (qs .0)) (List._∷_ Row.off (List._∷_ Row.off (List._∷_ Row.off (List._∷_ Row.off (List._∷_ Row.off (List._∷_ Row.off (List._∷_
+              Row.alive (List._∷_ Row.alive (List._∷_ Row.alive List.[])))))))));
         }
 
         abbrev G65 : Row.Cx
         G65 = record {
           locals = List._++_ g45 t46;
-          slots = List._∷_ (Row.lease (κs .0) (qs .0)) (List._∷_ Row.off (List._∷_ Row.off (List._∷_ Row.off (List._∷_ Row.off (List._∷_ Row.off (List._∷_
-              Row.off (List._∷_ Row.alive (List._∷_ Row.alive (List._∷_ Row.alive List.[])))))))));
+          slots = List._∷_ (Row.lease (κs .0) (qs .0)) (List._∷_ Row.off (List._∷_ Row.off (List._∷_ Row.off (List._∷_ Row.off (List._∷_ Row.off (List._∷_ Row.off (List._∷_
+              Row.alive (List._∷_ Row.alive (List._∷_ Row.alive List.[])))))))));
         }
 
         abbrev G66 : Row.Cx
         G66 = record {
           locals = List._++_ g45 t46;
-          slots = List._∷_ (Row.lease (κs .0) (qs .0)) (List._∷_ Row.off (List._∷_ Row.off (List._∷_ Row.off (List._∷_ Row.off (List._∷_ Row.off (List._∷_
-              Row.off (List._∷_ Row.dead (List._∷_ Row.alive (List._∷_ Row.alive List.[])))))))));
+          slots = List._∷_ (Row.lease (κs .0) (qs .0)) (List._∷_ Row.off (List._∷_ Row.off (List._∷_ Row.off (List._∷_ Row.off (List._∷_ Row.off (List._∷_ Row.off (List._∷_
+              Row.dead (List._∷_ Row.alive (List._∷_ Row.alive List.[])))))))));
         }
 
         abbrev G67 : Row.Cx
         G67 = record {
           locals = List._++_ g47 t48;
-          slots = List._∷_ (Row.lease (κs .0) (qs .0)) (List._∷_ (Row.lease (κs .1 .0) (qs .1 .0)) (List._∷_ Row.off (List._∷_ Row.off (List._∷_ Row.off
-              (List._∷_ Row.off (List._∷_ Row.off (List._∷_ Row.dead (List._∷_ Row.alive (List._∷_ Row.alive List.[])))))))));
+          slots = List._∷_ (Row.lease (κs .0) (qs .0)) (List._∷_ (Row.lease (κs .1 .0) (qs .1 .0)) (List._∷_ Row.off (List._∷_ Row.off (List._∷_ Row.off (List._∷_ Row.off
+              (List._∷_ Row.off (List._∷_ Row.dead (List._∷_ Row.alive (List._∷_ Row.alive List.[])))))))));
         }
 
         abbrev G68 : Row.Cx
         G68 = record {
           locals = List._++_ g47 t48;
-          slots = List._∷_ (Row.lease (κs .0) (qs .0)) (List._∷_ (Row.lease (κs .1 .0) (qs .1 .0)) (List._∷_ Row.off (List._∷_ Row.off (List._∷_ Row.off
-              (List._∷_ Row.off (List._∷_ Row.off (List._∷_ Row.dead (List._∷_ Row.alive (List._∷_ Row.alive List.[])))))))));
+          slots = List._∷_ (Row.lease (κs .0) (qs .0)) (List._∷_ (Row.lease (κs .1 .0) (qs .1 .0)) (List._∷_ Row.off (List._∷_ Row.off (List._∷_ Row.off (List._∷_ Row.off
+              (List._∷_ Row.off (List._∷_ Row.dead (List._∷_ Row.alive (List._∷_ Row.alive List.[])))))))));
         }
 
         abbrev G69 : Row.Cx
         G69 = record {
           locals = List._++_ g47 t48;
-          slots = List._∷_ (Row.lease (κs .0) (qs .0)) (List._∷_ (Row.lease (κs .1 .0) (qs .1 .0)) (List._∷_ Row.off (List._∷_ Row.off (List._∷_ Row.off
-              (List._∷_ Row.off (List._∷_ Row.off (List._∷_ Row.off (List._∷_ Row.alive (List._∷_ Row.alive List.[])))))))));
+          slots = List._∷_ (Row.lease (κs .0) (qs .0)) (List._∷_ (Row.lease (κs .1 .0) (qs .1 .0)) (List._∷_ Row.off (List._∷_ Row.off (List._∷_ Row.off (List._∷_ Row.off
+              (List._∷_ Row.off (List._∷_ Row.off (List._∷_ Row.alive (List._∷_ Row.alive List.[])))))))));
         }
 
         abbrev G70 : Row.Cx
         G70 = record {
           locals = List._++_ g47 t48;
-          slots = List._∷_ (Row.lease (κs .0) (qs .0)) (List._∷_ (Row.lease (κs .1 .0) (qs .1 .0)) (List._∷_ Row.off (List._∷_ Row.off (List._∷_ Row.off
-              (List._∷_ Row.off (List._∷_ Row.off (List._∷_ Row.off (List._∷_ Row.dead (List._∷_ Row.alive List.[])))))))));
+          slots = List._∷_ (Row.lease (κs .0) (qs .0)) (List._∷_ (Row.lease (κs .1 .0) (qs .1 .0)) (List._∷_ Row.off (List._∷_ Row.off (List._∷_ Row.off (List._∷_ Row.off
+              (List._∷_ Row.off (List._∷_ Row.off (List._∷_ Row.dead (List._∷_ Row.alive List.[])))))))));
         }
 
         abbrev G71 : Row.Cx
         G71 = record {
           locals = List._++_ g49 t50;
-          slots = List._∷_ (Row.lease (κs .0) (qs .0)) (List._∷_ (Row.lease (κs .1 .0) (qs .1 .0)) (List._∷_ (Row.lease (κs .1 .1 .0) (qs .1 .1 .0)) (List._∷_
-              Row.off (List._∷_ Row.off (List._∷_ Row.off (List._∷_ Row.off (List._∷_ Row.off (List._∷_ Row.dead (List._∷_ Row.alive List.[])))))))));
+          slots = List._∷_ (Row.lease (κs .0) (qs .0)) (List._∷_ (Row.lease (κs .1 .0) (qs .1 .0)) (List._∷_ (Row.lease (κs .1 .1 .0) (qs .1 .1 .0)) (List._∷_ Row.off
+              (List._∷_ Row.off (List._∷_ Row.off (List._∷_ Row.off (List._∷_ Row.off (List._∷_ Row.dead (List._∷_ Row.alive List.[])))))))));
         }
 
         abbrev G72 : Row.Cx
         G72 = record {
           locals = List._++_ g49 t50;
-          slots = List._∷_ (Row.lease (κs .0) (qs .0)) (List._∷_ (Row.lease (κs .1 .0) (qs .1 .0)) (List._∷_ (Row.lease (κs .1 .1 .0) (qs .1 .1 .0)) (List._∷_
-              Row.off (List._∷_ Row.off (List._∷_ Row.off (List._∷_ Row.off (List._∷_ Row.off (List._∷_ Row.dead (List._∷_ Row.alive List.[])))))))));
+          slots = List._∷_ (Row.lease (κs .0) (qs .0)) (List._∷_ (Row.lease (κs .1 .0) (qs .1 .0)) (List._∷_ (Row.lease (κs .1 .1 .0) (qs .1 .1 .0)) (List._∷_ Row.off
+              (List._∷_ Row.off (List._∷_ Row.off (List._∷_ Row.off (List._∷_ Row.off (List._∷_ Row.dead (List._∷_ Row.alive List.[])))))))));
         }
 
         abbrev G73 : Row.Cx
         G73 = record {
           locals = List._++_ g49 t50;
-          slots = List._∷_ (Row.lease (κs .0) (qs .0)) (List._∷_ (Row.lease (κs .1 .0) (qs .1 .0)) (List._∷_ (Row.lease (κs .1 .1 .0) (qs .1 .1 .0)) (List._∷_
-              Row.off (List._∷_ Row.off (List._∷_ Row.off (List._∷_ Row.off (List._∷_ Row.off (List._∷_ Row.off (List._∷_ Row.alive List.[])))))))));
+          slots = List._∷_ (Row.lease (κs .0) (qs .0)) (List._∷_ (Row.lease (κs .1 .0) (qs .1 .0)) (List._∷_ (Row.lease (κs .1 .1 .0) (qs .1 .1 .0)) (List._∷_ Row.off
+              (List._∷_ Row.off (List._∷_ Row.off (List._∷_ Row.off (List._∷_ Row.off (List._∷_ Row.off (List._∷_ Row.alive List.[])))))))));
         }
 
         abbrev G74 : Row.Cx
         G74 = record {
           locals = List._++_ g49 t50;
-          slots = List._∷_ (Row.lease (κs .0) (qs .0)) (List._∷_ (Row.lease (κs .1 .0) (qs .1 .0)) (List._∷_ (Row.lease (κs .1 .1 .0) (qs .1 .1 .0)) (List._∷_
-              Row.off (List._∷_ Row.off (List._∷_ Row.off (List._∷_ Row.off (List._∷_ Row.off (List._∷_ Row.off (List._∷_ Row.dead List.[])))))))));
+          slots = List._∷_ (Row.lease (κs .0) (qs .0)) (List._∷_ (Row.lease (κs .1 .0) (qs .1 .0)) (List._∷_ (Row.lease (κs .1 .1 .0) (qs .1 .1 .0)) (List._∷_ Row.off
+              (List._∷_ Row.off (List._∷_ Row.off (List._∷_ Row.off (List._∷_ Row.off (List._∷_ Row.off (List._∷_ Row.dead List.[])))))))));
         }
 
         abbrev G75 : Row.Cx
         G75 = record {
           locals = List._++_ t31 t1;
-          slots = List._∷_ (Row.lease (κs .0) (qs .0)) (List._∷_ (Row.lease (κs .1 .0) (qs .1 .0)) (List._∷_ (Row.lease (κs .1 .1 .0) (qs .1 .1 .0)) (List._∷_
-              (Row.lease (κs .1 .1 .1 .0) (qs .1 .1 .1 .0)) (List._∷_ Row.off (List._∷_ Row.off (List._∷_ Row.off (List._∷_ Row.off (List._∷_ Row.off (List._∷_ Row.dead List.[])))))))));
+          slots = List._∷_ (Row.lease (κs .0) (qs .0)) (List._∷_ (Row.lease (κs .1 .0) (qs .1 .0)) (List._∷_ (Row.lease (κs .1 .1 .0) (qs .1 .1 .0)) (List._∷_ (Row.lease (κs
+              .1 .1 .1 .0) (qs .1 .1 .1 .0)) (List._∷_ Row.off (List._∷_ Row.off (List._∷_ Row.off (List._∷_ Row.off (List._∷_ Row.off (List._∷_ Row.dead List.[])))))))));
         }
 
         abbrev G76 : Row.Cx
         G76 = record {
           locals = List._++_ t31 t1;
-          slots = List._∷_ (Row.lease (κs .0) (qs .0)) (List._∷_ (Row.lease (κs .1 .0) (qs .1 .0)) (List._∷_ (Row.lease (κs .1 .1 .0) (qs .1 .1 .0)) (List._∷_
-              (Row.lease (κs .1 .1 .1 .0) (qs .1 .1 .1 .0)) (List._∷_ Row.off (List._∷_ Row.off (List._∷_ Row.off (List._∷_ Row.off (List._∷_ Row.off (List._∷_ Row.off List.[])))))))));
+          slots = List._∷_ (Row.lease (κs .0) (qs .0)) (List._∷_ (Row.lease (κs .1 .0) (qs .1 .0)) (List._∷_ (Row.lease (κs .1 .1 .0) (qs .1 .1 .0)) (List._∷_ (Row.lease (κs
+              .1 .1 .1 .0) (qs .1 .1 .1 .0)) (List._∷_ Row.off (List._∷_ Row.off (List._∷_ Row.off (List._∷_ Row.off (List._∷_ Row.off (List._∷_ Row.off List.[])))))))));
         }
 
         abbrev G77 : Row.Cx
         G77 = record {
           locals = List._++_ t31 t13;
-          slots = List._∷_ (Row.lease (κs .0) (qs .0)) (List._∷_ (Row.lease (κs .1 .0) (qs .1 .0)) (List._∷_ (Row.lease (κs .1 .1 .0) (qs .1 .1 .0)) (List._∷_
-              (Row.lease (κs .1 .1 .1 .0) (qs .1 .1 .1 .0)) (List._∷_ Row.off (List._∷_ Row.off (List._∷_ Row.off (List._∷_ Row.off (List._∷_ Row.off (List._∷_ Row.off List.[])))))))));
+          slots = List._∷_ (Row.lease (κs .0) (qs .0)) (List._∷_ (Row.lease (κs .1 .0) (qs .1 .0)) (List._∷_ (Row.lease (κs .1 .1 .0) (qs .1 .1 .0)) (List._∷_ (Row.lease
+              (κs .1 .1 .1 .0) (qs .1 .1 .1 .0)) (List._∷_ Row.off (List._∷_ Row.off (List._∷_ Row.off (List._∷_ Row.off (List._∷_ Row.off (List._∷_ Row.off List.[])))))))));
         }
 
         abbrev G78 : Row.Cx
         G78 = record {
           locals = List._++_ t12 t13;
-          slots = List._∷_ (Row.lease (κs .0) (qs .0)) (List._∷_ (Row.lease (κs .1 .0) (qs .1 .0)) (List._∷_ (Row.lease (κs .1 .1 .0) (qs .1 .1 .0)) (List._∷_
-              (Row.lease (κs .1 .1 .1 .0) (qs .1 .1 .1 .0)) (List._∷_ Row.off (List._∷_ Row.off (List._∷_ Row.off (List._∷_ Row.off (List._∷_ Row.off (List._∷_ Row.off List.[])))))))));
+          slots = List._∷_ (Row.lease (κs .0) (qs .0)) (List._∷_ (Row.lease (κs .1 .0) (qs .1 .0)) (List._∷_ (Row.lease (κs .1 .1 .0) (qs .1 .1 .0)) (List._∷_ (Row.lease
+              (κs .1 .1 .1 .0) (qs .1 .1 .1 .0)) (List._∷_ Row.off (List._∷_ Row.off (List._∷_ Row.off (List._∷_ Row.off (List._∷_ Row.off (List._∷_ Row.off List.[])))))))));
         }
 
         abbrev G79 : Row.Cx
         G79 = record {
           locals = List._++_ t51 t13;
-          slots = List._∷_ (Row.lease (κs .0) (qs .0)) (List._∷_ (Row.lease (κs .1 .0) (qs .1 .0)) (List._∷_ (Row.lease (κs .1 .1 .0) (qs .1 .1 .0)) (List._∷_
-              (Row.lease (κs .1 .1 .1 .0) (qs .1 .1 .1 .0)) (List._∷_ Row.off (List._∷_ Row.off (List._∷_ Row.off (List._∷_ Row.off (List._∷_ Row.off (List._∷_ Row.off List.[])))))))));
+          slots = List._∷_ (Row.lease (κs .0) (qs .0)) (List._∷_ (Row.lease (κs .1 .0) (qs .1 .0)) (List._∷_ (Row.lease (κs .1 .1 .0) (qs .1 .1 .0)) (List._∷_ (Row.lease
+              (κs .1 .1 .1 .0) (qs .1 .1 .1 .0)) (List._∷_ Row.off (List._∷_ Row.off (List._∷_ Row.off (List._∷_ Row.off (List._∷_ Row.off (List._∷_ Row.off List.[])))))))));
         }
 
         abbrev G80 : Row.Cx
         G80 = record {
           locals = List._++_ t51 t1;
-          slots = List._∷_ (Row.lease (κs .0) (qs .0)) (List._∷_ (Row.lease (κs .1 .0) (qs .1 .0)) (List._∷_ (Row.lease (κs .1 .1 .0) (qs .1 .1 .0)) (List._∷_
-              (Row.lease (κs .1 .1 .1 .0) (qs .1 .1 .1 .0)) (List._∷_ Row.off (List._∷_ Row.off (List._∷_ Row.off (List._∷_ Row.off (List._∷_ Row.off (List._∷_ Row.off List.[])))))))));
+          slots = List._∷_ (Row.lease (κs .0) (qs .0)) (List._∷_ (Row.lease (κs .1 .0) (qs .1 .0)) (List._∷_ (Row.lease (κs .1 .1 .0) (qs .1 .1 .0)) (List._∷_ (Row.lease (κs
+              .1 .1 .1 .0) (qs .1 .1 .1 .0)) (List._∷_ Row.off (List._∷_ Row.off (List._∷_ Row.off (List._∷_ Row.off (List._∷_ Row.off (List._∷_ Row.off List.[])))))))));
         }
 
         abbrev G81 : Row.Cx
         G81 = record {
           locals = List._++_ t2 t1;
-          slots = List._∷_ (Row.lease (κs .0) (qs .0)) (List._∷_ (Row.lease (κs .1 .0) (qs .1 .0)) (List._∷_ (Row.lease (κs .1 .1 .0) (qs .1 .1 .0)) (List._∷_
-              (Row.lease (κs .1 .1 .1 .0) (qs .1 .1 .1 .0)) (List._∷_ Row.off (List._∷_ Row.off (List._∷_ Row.off (List._∷_ Row.off (List._∷_ Row.off (List._∷_ Row.off List.[])))))))));
+          slots = List._∷_ (Row.lease (κs .0) (qs .0)) (List._∷_ (Row.lease (κs .1 .0) (qs .1 .0)) (List._∷_ (Row.lease (κs .1 .1 .0) (qs .1 .1 .0)) (List._∷_ (Row.lease (κs
+              .1 .1 .1 .0) (qs .1 .1 .1 .0)) (List._∷_ Row.off (List._∷_ Row.off (List._∷_ Row.off (List._∷_ Row.off (List._∷_ Row.off (List._∷_ Row.off List.[])))))))));
         }
 
         abbrev Δ0 : Typed.Outs
@@ -5224,144 +2248,65 @@ module _ (claims· : Claims) where
               Syntax.ttnil)))))))))))))))) Syntax.tnil) Syntax.ttnil)))) (tt, ((Whole.reads-enum 𝓤 H A W Refusal.the-type Laws'3.the-laws, Path'.refl), tt)) Path'.refl (λ m wa. Make.made-val
               Written.the-type Laws''.the-laws (List._∷_ (Laws'5.val Refusal.the-type Laws'3.the-laws (m .1 .1 .1 .1 .1 .1 .1 .1 .1 .1 .1 .1 .1 .1 .1 .1 .1 .1 .0)) List.[]) (Written.enum .make (Logic.inr
               (Logic.inl (m .1 .1 .1 .1 .1 .1 .1 .1 .1 .1 .1 .1 .1 .1 .1 .1 .1 .1 .0, tt)))) (
-                Signed.made-wt Refusal.the-field Laws'3.the-field-laws (Whole.enum-wt Refusal.the-type Laws'3.the-laws (
-                  tt,
-                  (
-                    tt,
-                    (
-                      tt,
-                      (
-                        (Make'.u64-wt, tt),
-                        (
-                          tt,
-                          (
-                            tt,
-                            (
-                              tt,
-                              (
-                                tt,
-                                (
-                                  tt,
-                                  (
-                                    tt,
-                                    (
-                                      (Make'.u64-wt, tt),
-                                      (
-                                        (Make'.u64-wt, tt),
-                                        (
-                                          tt,
-                                          ((Make'.u64-wt, (Make'.u64-wt, tt)), ((Make'.u64-wt, tt), tt)),
-                                        ),
-                                      ),
-                                    ),
-                                  ),
-                                ),
-                              ),
-                            ),
-                          ),
-                        ),
-                      ),
-                    ),
-                  ),
-                )) (Refusal.the-type .to (m .1 .1 .1 .1 .1 .1 .1 .1 .1 .1 .1 .1 .1 .1 .1 .1 .1 .1 .0)),
+                Signed.made-wt Refusal.the-field Laws'3.the-field-laws (Whole.enum-wt Refusal.the-type Laws'3.the-laws
+                    (tt, (tt, (tt, ((Make'.u64-wt, tt), (tt, (tt, (tt, (tt, (tt, (tt, ((Make'.u64-wt, tt), ((Make'.u64-wt, tt), (tt, ((Make'.u64-wt, (Make'.u64-wt, tt)), ((Make'.u64-wt, tt), tt))))))))))))))))
+                    (Refusal.the-type .to (m .1 .1 .1 .1 .1 .1 .1 .1 .1 .1 .1 .1 .1 .1 .1 .1 .1 .1 .0)),
                 tt,
-              ) (wa .1)) λ m wa. Make.made-is Written.the-type
-              Laws''.the-laws (List._∷_ (Laws'5.val Refusal.the-type Laws'3.the-laws (m .1 .1 .1 .1 .1 .1 .1 .1 .1 .1 .1 .1 .1 .1 .1 .1 .1 .1 .0)) List.[]) (Written.enum .make (Logic.inr (Logic.inl (
-                m .1
-                    .1 .1 .1 .1 .1 .1 .1 .1 .1 .1 .1 .1 .1 .1 .1 .1 .1 .0,
+              ) (wa .1)) λ m wa. Make.made-is Written.the-type Laws''.the-laws (List._∷_ (Laws'5.val Refusal.the-type
+              Laws'3.the-laws (m .1 .1 .1 .1 .1 .1 .1 .1 .1 .1 .1 .1 .1 .1 .1 .1 .1 .1 .0)) List.[]) (Written.enum .make (Logic.inr (Logic.inl
+              (m .1 .1 .1 .1 .1 .1 .1 .1 .1 .1 .1 .1 .1 .1 .1 .1 .1 .1 .0, tt)))) (
+                Signed.made-wt Refusal.the-field Laws'3.the-field-laws (Whole.enum-wt Refusal.the-type Laws'3.the-laws
+                    (tt, (tt, (tt, ((Make'.u64-wt, tt), (tt, (tt, (tt, (tt, (tt, (tt, ((Make'.u64-wt, tt), ((Make'.u64-wt, tt), (tt, ((Make'.u64-wt, (Make'.u64-wt, tt)), ((Make'.u64-wt, tt), tt))))))))))))))))
+                    (Refusal.the-type .to (m .1 .1 .1 .1 .1 .1 .1 .1 .1 .1 .1 .1 .1 .1 .1 .1 .1 .1 .0)),
                 tt,
-              )))) (
-                Signed.made-wt Refusal.the-field Laws'3.the-field-laws (Whole.enum-wt Refusal.the-type Laws'3.the-laws (
-                  tt,
-                  (
-                    tt,
-                    (
-                      tt,
-                      (
-                        (Make'.u64-wt, tt),
-                        (
-                          tt,
-                          (
-                            tt,
-                            (
-                              tt,
-                              (tt, (tt, (tt, ((Make'.u64-wt, tt), ((Make'.u64-wt, tt), (tt, ((Make'.u64-wt, (Make'.u64-wt, tt)), ((Make'.u64-wt, tt), tt)))))))),
-                            ),
-                          ),
-                        ),
-                      ),
-                    ),
-                  ),
-                )) (Refusal.the-type .to (m .1 .1 .1 .1 .1 .1 .1 .1 .1 .1 .1 .1 .1 .1 .1 .1 .1 .1 .0)),
-                tt,
-              ) (wa .1)) (Scalar.g-room 𝓤 H A W E G33 8 (Syntax.tyInt Syntax.w64)
-              (Scalar.room-sc 𝓤 H A W (Row.sInt Syntax.w64)))) (Scalar.g-room 𝓤 H A W E G34 18 (Syntax.tyEnum (List._∷_ 115 (List._∷_ 116 (List._∷_ 114 (List._∷_ 101 (List._∷_ 97 (List._∷_ 109 (List._∷_
-              58 (List._∷_ 58 (List._∷_ 82 (List._∷_ 101 (List._∷_ 102 (List._∷_ 117 (List._∷_ 115 (List._∷_ 97 (List._∷_ 108 List.[]))))))))))))))) (Syntax.ttcons Syntax.tnil (Syntax.ttcons Syntax.tnil
-              (Syntax.ttcons Syntax.tnil (Syntax.ttcons (Syntax.tcons (Syntax.tyInt Syntax.w64) Syntax.tnil) (Syntax.ttcons Syntax.tnil (Syntax.ttcons Syntax.tnil (Syntax.ttcons Syntax.tnil (Syntax.ttcons
-              Syntax.tnil (Syntax.ttcons Syntax.tnil (Syntax.ttcons Syntax.tnil (Syntax.ttcons (Syntax.tcons (Syntax.tyInt Syntax.w64) Syntax.tnil) (Syntax.ttcons (Syntax.tcons (Syntax.tyInt Syntax.w64)
-              Syntax.tnil) (Syntax.ttcons Syntax.tnil (Syntax.ttcons (Syntax.tcons (Syntax.tyInt Syntax.w64) (Syntax.tcons (Syntax.tyInt Syntax.w64) Syntax.tnil)) (Syntax.ttcons (Syntax.tcons
-              (Syntax.tyInt Syntax.w64) Syntax.tnil) Syntax.ttnil)))))))))))))))) (Local.room-whole 𝓤 H A W (Declared.row Refusal.the-type) (Syntax.tyEnum (List._∷_ 115 (List._∷_ 116 (List._∷_ 114
-              (List._∷_ 101 (List._∷_ 97 (List._∷_ 109 (List._∷_ 58 (List._∷_ 58 (List._∷_ 82 (List._∷_ 101 (List._∷_ 102 (List._∷_ 117 (List._∷_ 115 (List._∷_ 97 (List._∷_ 108 List.[])))))))))))))))
-              (Syntax.ttcons Syntax.tnil (Syntax.ttcons Syntax.tnil (Syntax.ttcons Syntax.tnil (Syntax.ttcons (Syntax.tcons (Syntax.tyInt Syntax.w64) Syntax.tnil) (Syntax.ttcons Syntax.tnil (Syntax.ttcons
-              Syntax.tnil (Syntax.ttcons Syntax.tnil (Syntax.ttcons Syntax.tnil (Syntax.ttcons Syntax.tnil (Syntax.ttcons Syntax.tnil (Syntax.ttcons (Syntax.tcons (Syntax.tyInt Syntax.w64) Syntax.tnil)
-              (Syntax.ttcons (Syntax.tcons (Syntax.tyInt Syntax.w64) Syntax.tnil) (Syntax.ttcons Syntax.tnil (Syntax.ttcons (Syntax.tcons (Syntax.tyInt Syntax.w64) (Syntax.tcons (Syntax.tyInt Syntax.w64)
-              Syntax.tnil)) (Syntax.ttcons (Syntax.tcons (Syntax.tyInt Syntax.w64) Syntax.tnil) Syntax.ttnil)))))))))))))))) Path'.refl)))
+              ) (wa .1)) (Scalar.g-room 𝓤 H A W E G33 8 (Syntax.tyInt Syntax.w64) (Scalar.room-sc 𝓤 H A W (Row.sInt
+              Syntax.w64)))) (Scalar.g-room 𝓤 H A W E G34 18 (Syntax.tyEnum (List._∷_ 115 (List._∷_ 116 (List._∷_ 114 (List._∷_ 101 (List._∷_ 97 (List._∷_ 109 (List._∷_ 58 (List._∷_ 58 (List._∷_ 82
+              (List._∷_ 101 (List._∷_ 102 (List._∷_ 117 (List._∷_ 115 (List._∷_ 97 (List._∷_ 108 List.[]))))))))))))))) (Syntax.ttcons Syntax.tnil (Syntax.ttcons Syntax.tnil (Syntax.ttcons Syntax.tnil
+              (Syntax.ttcons (Syntax.tcons (Syntax.tyInt Syntax.w64) Syntax.tnil) (Syntax.ttcons Syntax.tnil (Syntax.ttcons Syntax.tnil (Syntax.ttcons Syntax.tnil (Syntax.ttcons Syntax.tnil (Syntax.ttcons
+              Syntax.tnil (Syntax.ttcons Syntax.tnil (Syntax.ttcons (Syntax.tcons (Syntax.tyInt Syntax.w64) Syntax.tnil) (Syntax.ttcons (Syntax.tcons (Syntax.tyInt Syntax.w64) Syntax.tnil) (Syntax.ttcons
+              Syntax.tnil (Syntax.ttcons (Syntax.tcons (Syntax.tyInt Syntax.w64) (Syntax.tcons (Syntax.tyInt Syntax.w64) Syntax.tnil)) (Syntax.ttcons (Syntax.tcons (Syntax.tyInt Syntax.w64) Syntax.tnil)
+              Syntax.ttnil)))))))))))))))) (Local.room-whole 𝓤 H A W (Declared.row Refusal.the-type) (Syntax.tyEnum (List._∷_ 115 (List._∷_ 116 (List._∷_ 114 (List._∷_ 101 (List._∷_ 97 (List._∷_ 109
+              (List._∷_ 58 (List._∷_ 58 (List._∷_ 82 (List._∷_ 101 (List._∷_ 102 (List._∷_ 117 (List._∷_ 115 (List._∷_ 97 (List._∷_ 108 List.[]))))))))))))))) (Syntax.ttcons Syntax.tnil (Syntax.ttcons
+              Syntax.tnil (Syntax.ttcons Syntax.tnil (Syntax.ttcons (Syntax.tcons (Syntax.tyInt Syntax.w64) Syntax.tnil) (Syntax.ttcons Syntax.tnil (Syntax.ttcons Syntax.tnil (Syntax.ttcons Syntax.tnil
+              (Syntax.ttcons Syntax.tnil (Syntax.ttcons Syntax.tnil (Syntax.ttcons Syntax.tnil (Syntax.ttcons (Syntax.tcons (Syntax.tyInt Syntax.w64) Syntax.tnil) (Syntax.ttcons (Syntax.tcons
+              (Syntax.tyInt Syntax.w64) Syntax.tnil) (Syntax.ttcons Syntax.tnil (Syntax.ttcons (Syntax.tcons (Syntax.tyInt Syntax.w64) (Syntax.tcons (Syntax.tyInt Syntax.w64) Syntax.tnil)) (Syntax.ttcons
+              (Syntax.tcons (Syntax.tyInt Syntax.w64) Syntax.tnil) Syntax.ttnil)))))))))))))))) Path'.refl)))
 
           d1 : Typed.Typed 𝓤 H A 𝓣 E G31 b10 Δ1 at1
           d1 = Typed.s-seq 𝓤 H A W 𝓣 E G31 G32 b8 b9 Δ1 (Typed.pass T31 T32 s29) at0 (Make.t-enum-make-wt 𝓤 H A W E 𝓣 Refusal.the-type Laws'3.the-laws Laws'3.the-plain tt G31 18 (List._∷_ (Scalar.oInt
               Syntax.w8 11) (List._∷_ (Scalar.oAt 8 (Syntax.tyInt Syntax.w64) (Row.valS (Row.sInt Syntax.w64))) List.[])) (λ m. Refusal.enum .make (Logic.inr (Logic.inr (Logic.inr (Logic.inr (Logic.inr
-              (Logic.inr (Logic.inr (Logic.inr (Logic.inr (Logic.inr (Logic.inr (Logic.inl (m .1 .1 .1 .1 .1 .1 .1 .1 .0, tt)))))))))))))) (Reads.room-gone 𝓤 H A (Syntax.tyEnum (List._∷_ 115 (List._∷_
-              116 (List._∷_ 114 (List._∷_ 101 (List._∷_ 97 (List._∷_ 109 (List._∷_ 58 (List._∷_ 58 (List._∷_ 82 (List._∷_ 101 (List._∷_ 102 (List._∷_ 117 (List._∷_ 115 (List._∷_ 97 (List._∷_ 108
+              (Logic.inr (Logic.inr (Logic.inr (Logic.inr (Logic.inr (Logic.inr (Logic.inl (m .1 .1 .1 .1 .1 .1 .1 .1 .0, tt)))))))))))))) (Reads.room-gone 𝓤 H A (Syntax.tyEnum (List._∷_ 115 (List._∷_ 116
+              (List._∷_ 114 (List._∷_ 101 (List._∷_ 97 (List._∷_ 109 (List._∷_ 58 (List._∷_ 58 (List._∷_ 82 (List._∷_ 101 (List._∷_ 102 (List._∷_ 117 (List._∷_ 115 (List._∷_ 97 (List._∷_ 108
               List.[]))))))))))))))) (Syntax.ttcons Syntax.tnil (Syntax.ttcons Syntax.tnil (Syntax.ttcons Syntax.tnil (Syntax.ttcons (Syntax.tcons (Syntax.tyInt Syntax.w64) Syntax.tnil) (Syntax.ttcons
               Syntax.tnil (Syntax.ttcons Syntax.tnil (Syntax.ttcons Syntax.tnil (Syntax.ttcons Syntax.tnil (Syntax.ttcons Syntax.tnil (Syntax.ttcons Syntax.tnil (Syntax.ttcons (Syntax.tcons (Syntax.tyInt
               Syntax.w64) Syntax.tnil) (Syntax.ttcons (Syntax.tcons (Syntax.tyInt Syntax.w64) Syntax.tnil) (Syntax.ttcons Syntax.tnil (Syntax.ttcons (Syntax.tcons (Syntax.tyInt Syntax.w64) (Syntax.tcons
-              (Syntax.tyInt Syntax.w64) Syntax.tnil)) (Syntax.ttcons (Syntax.tcons (Syntax.tyInt Syntax.w64) Syntax.tnil) Syntax.ttnil))))))))))))))))) (
-                tt,
-                (
-                  (
-                    Scalar.reads-sc 𝓤 H A W (Row.sInt
-                        Syntax.w64),
-                    Path'.refl,
-                  ),
-                  tt,
-                ),
-              ) Path'.refl (λ m wa. Make.made-val Refusal.the-type Laws'3.the-laws (List._∷_ (Laws'3.the-laws .1 .1 .1 .1 .1 .1 .1 .1 .1 .1 .1 .0 .0 .val (m .1 .1 .1 .1 .1 .1
-              .1 .1 .0)) List.[]) (Refusal.enum .make (Logic.inr (Logic.inr (Logic.inr (Logic.inr (Logic.inr (Logic.inr (Logic.inr (Logic.inr (Logic.inr (Logic.inr (Logic.inr (Logic.inl (
-                m .1 .1 .1 .1 .1
-                    .1 .1 .1 .0,
-                tt,
-              )))))))))))))) (Signed.made-wt Field.u64-field (Laws'3.the-laws .1 .1 .1 .1 .1 .1 .1 .1 .1 .1 .1 .0 .0) Make'.u64-wt (m .1 .1 .1 .1 .1 .1 .1 .1 .0), tt) (wa .1)) λ m wa.
-              Make.made-is Refusal.the-type Laws'3.the-laws (List._∷_ (Laws'3.the-laws .1 .1 .1 .1 .1 .1 .1 .1 .1 .1 .1 .0 .0 .val (m .1 .1 .1 .1 .1 .1 .1 .1 .0)) List.[]) (Refusal.enum .make (Logic.inr
-              (Logic.inr (Logic.inr (Logic.inr (Logic.inr (Logic.inr (Logic.inr (Logic.inr (Logic.inr (Logic.inr (Logic.inr (Logic.inl (m .1 .1 .1 .1 .1 .1 .1 .1 .0, tt)))))))))))))) (
-                Signed.made-wt
-                    Field.u64-field (Laws'3.the-laws .1 .1 .1 .1 .1 .1 .1 .1 .1 .1 .1 .0 .0) Make'.u64-wt (m .1 .1 .1 .1 .1 .1 .1 .1 .0),
-                tt,
-              ) (wa .1)) d0
+              (Syntax.tyInt Syntax.w64) Syntax.tnil)) (Syntax.ttcons (Syntax.tcons (Syntax.tyInt Syntax.w64) Syntax.tnil) Syntax.ttnil)))))))))))))))))
+              (tt, ((Scalar.reads-sc 𝓤 H A W (Row.sInt Syntax.w64), Path'.refl), tt)) Path'.refl (λ m wa. Make.made-val Refusal.the-type Laws'3.the-laws (List._∷_ (Laws'3.the-laws .1 .1 .1 .1 .1 .1 .1 .1
+              .1 .1 .1 .0 .0 .val (m .1 .1 .1 .1 .1 .1 .1 .1 .0)) List.[]) (Refusal.enum .make (Logic.inr (Logic.inr (Logic.inr (Logic.inr (Logic.inr (Logic.inr (Logic.inr (Logic.inr (Logic.inr (Logic.inr
+              (Logic.inr (Logic.inl (m .1 .1 .1 .1 .1 .1 .1 .1 .0, tt))))))))))))))
+              (Signed.made-wt Field.u64-field (Laws'3.the-laws .1 .1 .1 .1 .1 .1 .1 .1 .1 .1 .1 .0 .0) Make'.u64-wt (m .1 .1 .1 .1 .1 .1 .1 .1 .0), tt) (wa .1)) λ m wa. Make.made-is Refusal.the-type
+              Laws'3.the-laws (List._∷_ (Laws'3.the-laws .1 .1 .1 .1 .1 .1 .1 .1 .1 .1 .1 .0 .0 .val (m .1 .1 .1 .1 .1 .1 .1 .1 .0)) List.[]) (Refusal.enum .make (Logic.inr (Logic.inr (Logic.inr
+              (Logic.inr (Logic.inr (Logic.inr (Logic.inr (Logic.inr (Logic.inr (Logic.inr (Logic.inr (Logic.inl (m .1 .1 .1 .1 .1 .1 .1 .1 .0, tt))))))))))))))
+              (Signed.made-wt Field.u64-field (Laws'3.the-laws .1 .1 .1 .1 .1 .1 .1 .1 .1 .1 .1 .0 .0) Make'.u64-wt (m .1 .1 .1 .1 .1 .1 .1 .1 .0), tt) (wa .1)) d0
 
           d2 : Typed.Typed 𝓤 H A 𝓣 E G30 b10 Δ1 at2
           d2 = Typed.g-pre 𝓤 H A W 𝓣 E G30 G31 b10 Δ1 (Typed.pass T30 T31 s28) at1 (Scalar.g-room 𝓤 H A W E G30 7 (Syntax.tyEnum (List._∷_ 119 (List._∷_ 114 (List._∷_ 105 (List._∷_ 116 (List._∷_ 105
-              (List._∷_ 110 (List._∷_ 103 (List._∷_ 58 (List._∷_ 58 (List._∷_ 80 (List._∷_ 117 (List._∷_ 116 List.[])))))))))))) (Syntax.ttcons (Syntax.tcons (Syntax.tyStruct (List._∷_ 98 (List._∷_ 105
-              (List._∷_ 116 (List._∷_ 115 (List._∷_ 58 (List._∷_ 58 (List._∷_ 66 (List._∷_ 105 (List._∷_ 116 (List._∷_ 80 (List._∷_ 111 (List._∷_ 115 (List._∷_ 105 (List._∷_ 116 (List._∷_ 105 (List._∷_
-              111 (List._∷_ 110 List.[]))))))))))))))))) (Syntax.tcons (Syntax.tyInt Syntax.w64) Syntax.tnil)) Syntax.tnil) (Syntax.ttcons (Syntax.tcons (Syntax.tyInt Syntax.w64) Syntax.tnil)
-              Syntax.ttnil))) (Local.room-whole 𝓤 H A W (Known.Known Put.enum 1) (Syntax.tyEnum (List._∷_ 119 (List._∷_ 114 (List._∷_ 105 (List._∷_ 116 (List._∷_ 105 (List._∷_ 110 (List._∷_ 103 (List._∷_
-              58 (List._∷_ 58 (List._∷_ 80 (List._∷_ 117 (List._∷_ 116 List.[])))))))))))) (Syntax.ttcons (Syntax.tcons (Syntax.tyStruct (List._∷_ 98 (List._∷_ 105 (List._∷_ 116 (List._∷_ 115 (List._∷_ 58
-              (List._∷_ 58 (List._∷_ 66 (List._∷_ 105 (List._∷_ 116 (List._∷_ 80 (List._∷_ 111 (List._∷_ 115 (List._∷_ 105 (List._∷_ 116 (List._∷_ 105 (List._∷_ 111 (List._∷_ 110 List.[])))))))))))))))))
-              (Syntax.tcons (Syntax.tyInt Syntax.w64) Syntax.tnil)) Syntax.tnil) (Syntax.ttcons (Syntax.tcons (Syntax.tyInt Syntax.w64) Syntax.tnil) Syntax.ttnil))) Path'.refl)) d1
+              (List._∷_ 110 (List._∷_ 103 (List._∷_ 58 (List._∷_ 58 (List._∷_ 80 (List._∷_ 117 (List._∷_ 116 List.[])))))))))))) (Syntax.ttcons (Syntax.tcons y3 Syntax.tnil) (Syntax.ttcons (Syntax.tcons
+              (Syntax.tyInt Syntax.w64) Syntax.tnil) Syntax.ttnil))) (Local.room-whole 𝓤 H A W (Known.Known Put.enum 1) (Syntax.tyEnum (List._∷_ 119 (List._∷_ 114 (List._∷_ 105 (List._∷_ 116 (List._∷_ 105
+              (List._∷_ 110 (List._∷_ 103 (List._∷_ 58 (List._∷_ 58 (List._∷_ 80 (List._∷_ 117 (List._∷_ 116 List.[])))))))))))) (Syntax.ttcons (Syntax.tcons y3 Syntax.tnil) (Syntax.ttcons (Syntax.tcons
+              (Syntax.tyInt Syntax.w64) Syntax.tnil) Syntax.ttnil))) Path'.refl)) d1
 
           d3 : Typed.Typed 𝓤 H A 𝓣 E G29 b11 Δ1 at3
           d3 = Typed.s-seq 𝓤 H A W 𝓣 E G29 G30 b7 b10 Δ1 (Typed.pass T29 T30 s27) at2 (Scalar.t-use 𝓤 H A W E 𝓣 G29 (Scalar.oFld 7 (List._∷_ (Syntax.variant 1) (List._∷_ (Syntax.field 1) List.[]))
               (Syntax.tyInt Syntax.w64) 8 λ v. Laws'4.the-laws .1 .0 .0 .val (v .0)) 8 (Rows.sc-here (Row.sInt Syntax.w64)) (Syntax.tyInt Syntax.w64) (Row.valS (Row.sInt Syntax.w64)) (Row.sInt Syntax.w64
               .of) (
-                Match.reads-payload 𝓤 H A W Put.enum Laws'4.the-laws 1 Path'.refl Path'.refl (λ v. Val.vcons (Laws'4.the-laws .1 .0 .0 .val (v .0)) Val.vnil) (λ v. Path'.refl) 0 (Syntax.tyInt
-                    Syntax.w64) 8 Path'.refl,
+                Match.reads-payload 𝓤 H A W Put.enum Laws'4.the-laws 1 Path'.refl Path'.refl (λ v. Val.vcons (Laws'4.the-laws .1 .0 .0 .val (v .0)) Val.vnil) (λ v. Path'.refl) 0 (Syntax.tyInt Syntax.w64) 8
+                    Path'.refl,
                 Path'.refl,
               ) (Reads.room-gone 𝓤 H A (Syntax.tyInt Syntax.w64)) (Scalar.holds-sc 𝓤 H A W (Row.sInt Syntax.w64)) Path'.refl (λ u. Path'.refl) λ u. tt) d2
 
           d4 : Typed.Typed 𝓤 H A 𝓣 E G28 b11 Δ1 at4
-          d4 = Typed.g-pre 𝓤 H A W 𝓣 E G28 G29 b11 Δ1 (Typed.pass T28 T29 s26) at3 (Scalar.g-room 𝓤 H A W E G28 5 (Syntax.tyStruct (List._∷_ 98 (List._∷_ 108 (List._∷_ 111 (List._∷_ 99 (List._∷_ 107
-              (List._∷_ 58 (List._∷_ 58 (List._∷_ 70 (List._∷_ 111 (List._∷_ 114 (List._∷_ 109 List.[]))))))))))) (Syntax.tcons (Syntax.tyInt Syntax.w32) (Syntax.tcons Syntax.tyBool Syntax.tnil)))
-              (Local.room-whole 𝓤 H A W (Declared'.row Form.the-type) (Syntax.tyStruct (List._∷_ 98 (List._∷_ 108 (List._∷_ 111 (List._∷_ 99 (List._∷_ 107 (List._∷_ 58 (List._∷_ 58 (List._∷_ 70 (List._∷_
-              111 (List._∷_ 114 (List._∷_ 109 List.[]))))))))))) (Syntax.tcons (Syntax.tyInt Syntax.w32) (Syntax.tcons Syntax.tyBool Syntax.tnil))) Path'.refl)) d3
+          d4 = Typed.g-pre 𝓤 H A W 𝓣 E G28 G29 b11 Δ1 (Typed.pass T28 T29 s26) at3 (Scalar.g-room 𝓤 H A W E G28 5 y4 (Local.room-whole 𝓤 H A W (Declared'.row Form.the-type) y4 Path'.refl)) d3
 
           d5 : Typed.Typed 𝓤 H A 𝓣 E G27 b11 Δ1 at5
           d5 = Typed.g-pre 𝓤 H A W 𝓣 E G27 G28 b11 Δ1 (Typed.give s25) at4 (Known.g-known-told 𝓤 H A W E Put.enum 1 G27 7 Laws'4.the-laws (λ x. x) (Reads.as-is 𝓤 H A (Rows.whole (Known.Known Put.enum
@@ -5399,77 +2344,27 @@ module _ (claims· : Claims) where
               (Syntax.ttcons (Syntax.tcons (Syntax.tyInt Syntax.w64) Syntax.tnil) (Syntax.ttcons Syntax.tnil (Syntax.ttcons Syntax.tnil (Syntax.ttcons Syntax.tnil (Syntax.ttcons Syntax.tnil (Syntax.ttcons
               Syntax.tnil (Syntax.ttcons Syntax.tnil (Syntax.ttcons (Syntax.tcons (Syntax.tyInt Syntax.w64) Syntax.tnil) (Syntax.ttcons (Syntax.tcons (Syntax.tyInt Syntax.w64) Syntax.tnil) (Syntax.ttcons
               Syntax.tnil (Syntax.ttcons (Syntax.tcons (Syntax.tyInt Syntax.w64) (Syntax.tcons (Syntax.tyInt Syntax.w64) Syntax.tnil)) (Syntax.ttcons (Syntax.tcons (Syntax.tyInt Syntax.w64) Syntax.tnil)
-              Syntax.ttnil)))))))))))))))) (Laws'5.val Refusal.the-type Laws'3.the-laws)) List.[])) (λ m. Written.enum .make (Logic.inr (Logic.inl (
-                m .1 .1 .1 .1 .1 .1 .1 .1 .1 .1 .1 .1 .1 .1 .1 .1 .1 .1
-                    .1 .1 .1 .0,
+              Syntax.ttnil)))))))))))))))) (Laws'5.val Refusal.the-type Laws'3.the-laws)) List.[])) (λ m. Written.enum .make (Logic.inr (Logic.inl
+              (m .1 .1 .1 .1 .1 .1 .1 .1 .1 .1 .1 .1 .1 .1 .1 .1 .1 .1 .1 .1 .1 .0, tt)))) (Reads.room-gone 𝓤 H A (Syntax.tyEnum (List._∷_ 98 (List._∷_ 108 (List._∷_ 111 (List._∷_ 99 (List._∷_ 107
+              (List._∷_ 58 (List._∷_ 58 (List._∷_ 87 (List._∷_ 114 (List._∷_ 105 (List._∷_ 116 (List._∷_ 116 (List._∷_ 101 (List._∷_ 110 List.[])))))))))))))) (Syntax.ttcons (Syntax.tcons (Syntax.tyInt
+              Syntax.w64) Syntax.tnil) (Syntax.ttcons (Syntax.tcons (Syntax.tyEnum (List._∷_ 115 (List._∷_ 116 (List._∷_ 114 (List._∷_ 101 (List._∷_ 97 (List._∷_ 109 (List._∷_ 58 (List._∷_ 58 (List._∷_ 82
+              (List._∷_ 101 (List._∷_ 102 (List._∷_ 117 (List._∷_ 115 (List._∷_ 97 (List._∷_ 108 List.[]))))))))))))))) (Syntax.ttcons Syntax.tnil (Syntax.ttcons Syntax.tnil (Syntax.ttcons Syntax.tnil
+              (Syntax.ttcons (Syntax.tcons (Syntax.tyInt Syntax.w64) Syntax.tnil) (Syntax.ttcons Syntax.tnil (Syntax.ttcons Syntax.tnil (Syntax.ttcons Syntax.tnil (Syntax.ttcons Syntax.tnil (Syntax.ttcons
+              Syntax.tnil (Syntax.ttcons Syntax.tnil (Syntax.ttcons (Syntax.tcons (Syntax.tyInt Syntax.w64) Syntax.tnil) (Syntax.ttcons (Syntax.tcons (Syntax.tyInt Syntax.w64) Syntax.tnil) (Syntax.ttcons
+              Syntax.tnil (Syntax.ttcons (Syntax.tcons (Syntax.tyInt Syntax.w64) (Syntax.tcons (Syntax.tyInt Syntax.w64) Syntax.tnil)) (Syntax.ttcons (Syntax.tcons (Syntax.tyInt Syntax.w64) Syntax.tnil)
+              Syntax.ttnil)))))))))))))))) Syntax.tnil) Syntax.ttnil)))) (tt, ((Whole.reads-enum 𝓤 H A W Refusal.the-type Laws'3.the-laws, Path'.refl), tt)) Path'.refl (λ m wa. Make.made-val
+              Written.the-type Laws''.the-laws (List._∷_ (Laws'5.val Refusal.the-type Laws'3.the-laws (m .1 .1 .1 .1 .1 .1 .1 .1 .1 .1 .1 .1 .1 .1 .1 .1 .1 .1 .1 .1 .1 .0)) List.[]) (Written.enum .make
+              (Logic.inr (Logic.inl (m .1 .1 .1 .1 .1 .1 .1 .1 .1 .1 .1 .1 .1 .1 .1 .1 .1 .1 .1 .1 .1 .0, tt)))) (
+                Signed.made-wt Refusal.the-field Laws'3.the-field-laws (Whole.enum-wt Refusal.the-type Laws'3.the-laws
+                    (tt, (tt, (tt, ((Make'.u64-wt, tt), (tt, (tt, (tt, (tt, (tt, (tt, ((Make'.u64-wt, tt), ((Make'.u64-wt, tt), (tt, ((Make'.u64-wt, (Make'.u64-wt, tt)), ((Make'.u64-wt, tt), tt))))))))))))))))
+                    (Refusal.the-type .to (m .1 .1 .1 .1 .1 .1 .1 .1 .1 .1 .1 .1 .1 .1 .1 .1 .1 .1 .1 .1 .1 .0)),
                 tt,
-              )))) (Reads.room-gone 𝓤 H A (Syntax.tyEnum (List._∷_ 98 (List._∷_ 108 (List._∷_ 111 (List._∷_ 99 (List._∷_ 107 (List._∷_ 58 (List._∷_ 58 (List._∷_ 87 (List._∷_ 114 (List._∷_
-              105 (List._∷_ 116 (List._∷_ 116 (List._∷_ 101 (List._∷_ 110 List.[])))))))))))))) (Syntax.ttcons (Syntax.tcons (Syntax.tyInt Syntax.w64) Syntax.tnil) (Syntax.ttcons (Syntax.tcons
-              (Syntax.tyEnum (List._∷_ 115 (List._∷_ 116 (List._∷_ 114 (List._∷_ 101 (List._∷_ 97 (List._∷_ 109 (List._∷_ 58 (List._∷_ 58 (List._∷_ 82 (List._∷_ 101 (List._∷_ 102 (List._∷_ 117 (List._∷_
-              115 (List._∷_ 97 (List._∷_ 108 List.[]))))))))))))))) (Syntax.ttcons Syntax.tnil (Syntax.ttcons Syntax.tnil (Syntax.ttcons Syntax.tnil (Syntax.ttcons (Syntax.tcons (Syntax.tyInt Syntax.w64)
-              Syntax.tnil) (Syntax.ttcons Syntax.tnil (Syntax.ttcons Syntax.tnil (Syntax.ttcons Syntax.tnil (Syntax.ttcons Syntax.tnil (Syntax.ttcons Syntax.tnil (Syntax.ttcons Syntax.tnil (Syntax.ttcons
-              (Syntax.tcons (Syntax.tyInt Syntax.w64) Syntax.tnil) (Syntax.ttcons (Syntax.tcons (Syntax.tyInt Syntax.w64) Syntax.tnil) (Syntax.ttcons Syntax.tnil (Syntax.ttcons (Syntax.tcons (Syntax.tyInt
-              Syntax.w64) (Syntax.tcons (Syntax.tyInt Syntax.w64) Syntax.tnil)) (Syntax.ttcons (Syntax.tcons (Syntax.tyInt Syntax.w64) Syntax.tnil) Syntax.ttnil)))))))))))))))) Syntax.tnil)
-              Syntax.ttnil)))) (tt, ((Whole.reads-enum 𝓤 H A W Refusal.the-type Laws'3.the-laws, Path'.refl), tt)) Path'.refl (λ m wa. Make.made-val Written.the-type Laws''.the-laws (List._∷_
-              (Laws'5.val Refusal.the-type Laws'3.the-laws (m .1 .1 .1 .1 .1 .1 .1 .1 .1 .1 .1 .1 .1 .1 .1 .1 .1 .1 .1 .1 .1 .0)) List.[]) (Written.enum .make (Logic.inr (Logic.inl (
-                m .1 .1 .1 .1 .1 .1
-                    .1 .1 .1 .1 .1 .1 .1 .1 .1 .1 .1 .1 .1 .1 .1 .0,
-                tt,
-              )))) (
-                Signed.made-wt Refusal.the-field Laws'3.the-field-laws (Whole.enum-wt Refusal.the-type Laws'3.the-laws (
-                  tt,
-                  (
-                    tt,
-                    (
-                      tt,
-                      (
-                        (Make'.u64-wt, tt),
-                        (
-                          tt,
-                          (
-                            tt,
-                            (
-                              tt,
-                              (tt, (tt, (tt, ((Make'.u64-wt, tt), ((Make'.u64-wt, tt), (tt, ((Make'.u64-wt, (Make'.u64-wt, tt)), ((Make'.u64-wt, tt), tt)))))))),
-                            ),
-                          ),
-                        ),
-                      ),
-                    ),
-                  ),
-                )) (Refusal.the-type .to (m .1 .1 .1 .1 .1 .1 .1 .1 .1 .1 .1 .1 .1 .1 .1 .1 .1 .1 .1 .1 .1 .0)),
-                tt,
-              ) (wa .1)) λ m wa. Make.made-is Written.the-type Laws''.the-laws
-              (List._∷_ (Laws'5.val Refusal.the-type Laws'3.the-laws (m .1 .1 .1 .1 .1 .1 .1 .1 .1 .1 .1 .1 .1 .1 .1 .1 .1 .1 .1 .1 .1 .0)) List.[]) (Written.enum .make (Logic.inr (Logic.inl (
-                m .1 .1 .1
-                    .1 .1 .1 .1 .1 .1 .1 .1 .1 .1 .1 .1 .1 .1 .1 .1 .1 .1 .0,
-                tt,
-              )))) (
-                Signed.made-wt Refusal.the-field Laws'3.the-field-laws (Whole.enum-wt Refusal.the-type Laws'3.the-laws (
-                  tt,
-                  (
-                    tt,
-                    (
-                      tt,
-                      (
-                        (Make'.u64-wt, tt),
-                        (
-                          tt,
-                          (
-                            tt,
-                            (
-                              tt,
-                              (
-                                tt,
-                                (tt, (tt, ((Make'.u64-wt, tt), ((Make'.u64-wt, tt), (tt, ((Make'.u64-wt, (Make'.u64-wt, tt)), ((Make'.u64-wt, tt), tt))))))),
-                              ),
-                            ),
-                          ),
-                        ),
-                      ),
-                    ),
-                  ),
-                )) (Refusal.the-type .to (m .1 .1 .1 .1 .1 .1 .1 .1 .1 .1 .1 .1 .1 .1 .1 .1 .1 .1 .1 .1 .1 .0)),
+              ) (wa .1)) λ m wa. Make.made-is Written.the-type Laws''.the-laws (List._∷_ (Laws'5.val
+              Refusal.the-type Laws'3.the-laws (m .1 .1 .1 .1 .1 .1 .1 .1 .1 .1 .1 .1 .1 .1 .1 .1 .1 .1 .1 .1 .1 .0)) List.[]) (Written.enum .make (Logic.inr (Logic.inl
+              (m .1 .1 .1 .1 .1 .1 .1 .1 .1 .1 .1 .1 .1 .1 .1 .1 .1 .1 .1 .1 .1 .0, tt)))) (
+                Signed.made-wt Refusal.the-field Laws'3.the-field-laws (Whole.enum-wt Refusal.the-type Laws'3.the-laws
+                    (tt, (tt, (tt, ((Make'.u64-wt, tt), (tt, (tt, (tt, (tt, (tt, (tt, ((Make'.u64-wt, tt), ((Make'.u64-wt, tt), (tt, ((Make'.u64-wt, (Make'.u64-wt, tt)), ((Make'.u64-wt, tt), tt))))))))))))))))
+                    (Refusal.the-type .to (m .1 .1 .1 .1 .1 .1 .1 .1 .1 .1 .1 .1 .1 .1 .1 .1 .1 .1 .1 .1 .1 .0)),
                 tt,
               ) (wa .1)) d10
 
@@ -5490,10 +2385,7 @@ module _ (claims· : Claims) where
           d13 = Typed.g-pre 𝓤 H A W 𝓣 E G46 G47 b20 Δ2 (Typed.pass T46 T47 s43) at12 (Scalar.g-room 𝓤 H A W E G46 19 Syntax.tyBool (Scalar.room-sc 𝓤 H A W Row.sBool)) d12
 
           d14 : Typed.Typed 𝓤 H A 𝓣 E G45 b20 Δ2 at14
-          d14 = Typed.g-pre 𝓤 H A W 𝓣 E G45 G46 b20 Δ2 (Typed.pass T45 T46 s42) at13 (Scalar.g-room 𝓤 H A W E G45 5 (Syntax.tyStruct (List._∷_ 98 (List._∷_ 108 (List._∷_ 111 (List._∷_ 99 (List._∷_ 107
-              (List._∷_ 58 (List._∷_ 58 (List._∷_ 70 (List._∷_ 111 (List._∷_ 114 (List._∷_ 109 List.[]))))))))))) (Syntax.tcons (Syntax.tyInt Syntax.w32) (Syntax.tcons Syntax.tyBool Syntax.tnil)))
-              (Local.room-whole 𝓤 H A W (Declared'.row Form.the-type) (Syntax.tyStruct (List._∷_ 98 (List._∷_ 108 (List._∷_ 111 (List._∷_ 99 (List._∷_ 107 (List._∷_ 58 (List._∷_ 58 (List._∷_ 70 (List._∷_
-              111 (List._∷_ 114 (List._∷_ 109 List.[]))))))))))) (Syntax.tcons (Syntax.tyInt Syntax.w32) (Syntax.tcons Syntax.tyBool Syntax.tnil))) Path'.refl)) d13
+          d14 = Typed.g-pre 𝓤 H A W 𝓣 E G45 G46 b20 Δ2 (Typed.pass T45 T46 s42) at13 (Scalar.g-room 𝓤 H A W E G45 5 y4 (Local.room-whole 𝓤 H A W (Declared'.row Form.the-type) y4 Path'.refl)) d13
 
           d15 : Typed.Typed 𝓤 H A 𝓣 E G53 b21 Δ2 at15
           d15 = Typed.t-skip 𝓤 H A W 𝓣 E Δ2 tt
@@ -5518,16 +2410,11 @@ module _ (claims· : Claims) where
               (Syntax.ttcons Syntax.tnil (Syntax.ttcons Syntax.tnil (Syntax.ttcons Syntax.tnil (Syntax.ttcons (Syntax.tcons (Syntax.tyInt Syntax.w64) Syntax.tnil) (Syntax.ttcons (Syntax.tcons
               (Syntax.tyInt Syntax.w64) Syntax.tnil) (Syntax.ttcons Syntax.tnil (Syntax.ttcons (Syntax.tcons (Syntax.tyInt Syntax.w64) (Syntax.tcons (Syntax.tyInt Syntax.w64) Syntax.tnil)) (Syntax.ttcons
               (Syntax.tcons (Syntax.tyInt Syntax.w64) Syntax.tnil) Syntax.ttnil)))))))))))))))) Syntax.tnil) Syntax.ttnil)))) (tt, ((Scalar.reads-sc 𝓤 H A W (Row.sInt Syntax.w64), Path'.refl), tt))
-              Path'.refl (λ m wa. Make.made-val Written.the-type Laws''.the-laws (List._∷_ (Laws''.the-laws .0 .0 .val (m .1 .1 .1 .1 .1 .1 .1 .1 .1 .1 .0)) List.[]) (Written.enum .make (Logic.inl (
-                m .1
-                    .1 .1 .1 .1 .1 .1 .1 .1 .1 .0,
-                tt,
-              ))) (Signed.made-wt Field.u64-field (Laws''.the-laws .0 .0) Make'.u64-wt (m .1 .1 .1 .1 .1 .1 .1 .1 .1 .1 .0), tt) (wa .1)) λ m wa. Make.made-is
-              Written.the-type Laws''.the-laws (List._∷_ (Laws''.the-laws .0 .0 .val (m .1 .1 .1 .1 .1 .1 .1 .1 .1 .1 .0)) List.[]) (Written.enum .make (Logic.inl (
-                m .1 .1 .1 .1 .1 .1 .1 .1 .1 .1 .0,
-                tt,
-              ))) (Signed.made-wt Field.u64-field (Laws''.the-laws .0 .0) Make'.u64-wt (m .1 .1 .1 .1 .1 .1 .1 .1 .1 .1 .0), tt) (wa .1)) (Scalar.g-room 𝓤 H A W E G77 10 (Syntax.tyInt Syntax.w64)
-              (Scalar.room-sc 𝓤 H A W (Row.sInt Syntax.w64))))
+              Path'.refl (λ m wa. Make.made-val Written.the-type Laws''.the-laws (List._∷_ (Laws''.the-laws .0 .0 .val (m .1 .1 .1 .1 .1 .1 .1 .1 .1 .1 .0)) List.[]) (Written.enum .make (Logic.inl
+              (m .1 .1 .1 .1 .1 .1 .1 .1 .1 .1 .0, tt))) (Signed.made-wt Field.u64-field (Laws''.the-laws .0 .0) Make'.u64-wt (m .1 .1 .1 .1 .1 .1 .1 .1 .1 .1 .0), tt) (wa .1)) λ m wa. Make.made-is
+              Written.the-type Laws''.the-laws (List._∷_ (Laws''.the-laws .0 .0 .val (m .1 .1 .1 .1 .1 .1 .1 .1 .1 .1 .0)) List.[]) (Written.enum .make (Logic.inl
+              (m .1 .1 .1 .1 .1 .1 .1 .1 .1 .1 .0, tt))) (Signed.made-wt Field.u64-field (Laws''.the-laws .0 .0) Make'.u64-wt (m .1 .1 .1 .1 .1 .1 .1 .1 .1 .1 .0), tt) (wa .1)) (Scalar.g-room 𝓤 H A W E
+              G77 10 (Syntax.tyInt Syntax.w64) (Scalar.room-sc 𝓤 H A W (Row.sInt Syntax.w64))))
 
           d20 : Typed.Typed 𝓤 H A 𝓣 E G75 b30 Δ1 at20
           d20 = Typed.g-pre 𝓤 H A W 𝓣 E G75 G76 b30 Δ1 (λ Ψ. Ψ) at19 (Lifetime.g-forget 𝓤 H A W E G75 9 Row.dead Path'.refl) d19
@@ -5577,78 +2464,55 @@ module _ (claims· : Claims) where
 
           d31 : Typed.Typed 𝓤 H A 𝓣 E G64 b30 Δ1 at31
           d31 = Typed.g-pre 𝓤 H A W 𝓣 E G64 G65 b30 Δ1 (Typed.pass T64 T65 s61) at30 (Scalar.g-room 𝓤 H A W E G64 22 (Syntax.tyEnum (List._∷_ 119 (List._∷_ 114 (List._∷_ 105 (List._∷_ 116 (List._∷_
-              105 (List._∷_ 110 (List._∷_ 103 (List._∷_ 58 (List._∷_ 58 (List._∷_ 80 (List._∷_ 117 (List._∷_ 116 List.[])))))))))))) (Syntax.ttcons (Syntax.tcons (Syntax.tyStruct (List._∷_ 98 (List._∷_
-              105 (List._∷_ 116 (List._∷_ 115 (List._∷_ 58 (List._∷_ 58 (List._∷_ 66 (List._∷_ 105 (List._∷_ 116 (List._∷_ 80 (List._∷_ 111 (List._∷_ 115 (List._∷_ 105 (List._∷_ 116 (List._∷_ 105
-              (List._∷_ 111 (List._∷_ 110 List.[]))))))))))))))))) (Syntax.tcons (Syntax.tyInt Syntax.w64) Syntax.tnil)) Syntax.tnil) (Syntax.ttcons (Syntax.tcons (Syntax.tyInt Syntax.w64) Syntax.tnil)
-              Syntax.ttnil))) (Local.room-whole 𝓤 H A W (Declared.row Put.the-type) (Syntax.tyEnum (List._∷_ 119 (List._∷_ 114 (List._∷_ 105 (List._∷_ 116 (List._∷_ 105 (List._∷_ 110 (List._∷_ 103
-              (List._∷_ 58 (List._∷_ 58 (List._∷_ 80 (List._∷_ 117 (List._∷_ 116 List.[])))))))))))) (Syntax.ttcons (Syntax.tcons (Syntax.tyStruct (List._∷_ 98 (List._∷_ 105 (List._∷_ 116 (List._∷_ 115
-              (List._∷_ 58 (List._∷_ 58 (List._∷_ 66 (List._∷_ 105 (List._∷_ 116 (List._∷_ 80 (List._∷_ 111 (List._∷_ 115 (List._∷_ 105 (List._∷_ 116 (List._∷_ 105 (List._∷_ 111 (List._∷_ 110
-              List.[]))))))))))))))))) (Syntax.tcons (Syntax.tyInt Syntax.w64) Syntax.tnil)) Syntax.tnil) (Syntax.ttcons (Syntax.tcons (Syntax.tyInt Syntax.w64) Syntax.tnil) Syntax.ttnil))) Path'.refl))
-              d30
+              105 (List._∷_ 110 (List._∷_ 103 (List._∷_ 58 (List._∷_ 58 (List._∷_ 80 (List._∷_ 117 (List._∷_ 116 List.[])))))))))))) (Syntax.ttcons (Syntax.tcons y3 Syntax.tnil) (Syntax.ttcons
+              (Syntax.tcons (Syntax.tyInt Syntax.w64) Syntax.tnil) Syntax.ttnil))) (Local.room-whole 𝓤 H A W (Declared.row Put.the-type) (Syntax.tyEnum (List._∷_ 119 (List._∷_ 114 (List._∷_ 105 (List._∷_
+              116 (List._∷_ 105 (List._∷_ 110 (List._∷_ 103 (List._∷_ 58 (List._∷_ 58 (List._∷_ 80 (List._∷_ 117 (List._∷_ 116 List.[])))))))))))) (Syntax.ttcons (Syntax.tcons y3 Syntax.tnil)
+              (Syntax.ttcons (Syntax.tcons (Syntax.tyInt Syntax.w64) Syntax.tnil) Syntax.ttnil))) Path'.refl)) d30
 
           d32 : Typed.Typed 𝓤 H A 𝓣 E G63 b30 Δ1 at32
-          d32 = Typed.g-pre 𝓤 H A W 𝓣 E G63 G64 b30 Δ1 (Typed.pass T63 T64 s60) at31 (Scalar.g-room 𝓤 H A W E G63 5 (Syntax.tyStruct (List._∷_ 98 (List._∷_ 108 (List._∷_ 111 (List._∷_ 99 (List._∷_ 107
-              (List._∷_ 58 (List._∷_ 58 (List._∷_ 70 (List._∷_ 111 (List._∷_ 114 (List._∷_ 109 List.[]))))))))))) (Syntax.tcons (Syntax.tyInt Syntax.w32) (Syntax.tcons Syntax.tyBool Syntax.tnil)))
-              (Local.room-whole 𝓤 H A W (Declared'.row Form.the-type) (Syntax.tyStruct (List._∷_ 98 (List._∷_ 108 (List._∷_ 111 (List._∷_ 99 (List._∷_ 107 (List._∷_ 58 (List._∷_ 58 (List._∷_ 70 (List._∷_
-              111 (List._∷_ 114 (List._∷_ 109 List.[]))))))))))) (Syntax.tcons (Syntax.tyInt Syntax.w32) (Syntax.tcons Syntax.tyBool Syntax.tnil))) Path'.refl)) d31
+          d32 = Typed.g-pre 𝓤 H A W 𝓣 E G63 G64 b30 Δ1 (Typed.pass T63 T64 s60) at31 (Scalar.g-room 𝓤 H A W E G63 5 y4 (Local.room-whole 𝓤 H A W (Declared'.row Form.the-type) y4 Path'.refl)) d31
 
           d33 : Typed.Typed 𝓤 H A 𝓣 E G62 b31 Δ1 at33
           d33 = Typed.s-seq 𝓤 H A W 𝓣 E G62 G63 b29 b30 Δ1 (Typed.both s59) at32 (Plain.t-call-plain 𝓤 H A W 𝓣 4 ps·0 r·0 (claims· .0) (claims· .1) "block::writer::write_walk" (known .0) E (λ pos β.
               β) G62 (
                 record { pos = 1; ty = Syntax.tyRef (Syntax.named 0) Syntax.imm (Syntax.tyInt Syntax.w16); ref = λ x. x },
                 (
-                  record {
-                    pos = 24;
-                    ty = Syntax.tyRef Syntax.erased Syntax.mut
-                        (Syntax.tyInt Syntax.w8);
-                    ref = λ x. x;
-                  },
+                  record { pos = 24; ty = Syntax.tyRef Syntax.erased Syntax.mut (Syntax.tyInt Syntax.w8); ref = λ x. x },
                   (
                     Bool.bLit Bool'.true,
                     (
                       record { pos = 26; ty = Syntax.tyRef Syntax.erased Syntax.mut (Syntax.tyInt Syntax.w16); ref = λ x. x },
-                      (
-                        record {
-                          pos
-                              = 28;
-                          ty = Syntax.tyRef Syntax.erased Syntax.mut Element.behind;
-                          ref = λ x. x;
-                        },
-                        (record { pos = 5; st = List.[]; d = 0; at = λ x. x }, (Num.vAt 6 λ x. x, tt)),
-                      ),
+                      (record { pos = 28; ty = Syntax.tyRef Syntax.erased Syntax.mut Element.behind; ref = λ x. x }, (record { pos = 5; st = List.[]; d = 0; at = λ x. x }, (Num.vAt 6 λ x. x, tt))),
                     ),
                   ),
                 ),
               ) 22
               (List._∷_ 0 (List._∷_ 7 (List._∷_ 8 (List._∷_ 9 List.[])))) (Call.sub-id 𝓤 H A W (G62 .slots)) (
-                ShrSlice.spares-sslice 𝓤 H A W (Referent.rtF (Referent.fInt Syntax.w16)) (Syntax.tyRef
-                    (Syntax.named 0) Syntax.imm (Syntax.tyInt Syntax.w16)) 0,
-                Shared.reads-sslice 𝓤 H A W (Referent.rtF (Referent.fInt Syntax.w16)) (Syntax.tyRef (Syntax.named 0) Syntax.imm (Syntax.tyInt
-                    Syntax.w16)) 0,
+                ShrSlice.spares-sslice 𝓤 H A W (Referent.rtF (Referent.fInt Syntax.w16)) (Syntax.tyRef (Syntax.named 0) Syntax.imm (Syntax.tyInt Syntax.w16)) 0,
+                Shared.reads-sslice 𝓤 H A W (Referent.rtF
+                    (Referent.fInt Syntax.w16)) (Syntax.tyRef (Syntax.named 0) Syntax.imm (Syntax.tyInt Syntax.w16)) 0,
                 Path'.refl,
                 (
                   Reads.as-is 𝓤 H A (Mut.mslice (Referent.rtF (Referent.fInt Syntax.w8)) (Syntax.tyRef Syntax.erased Syntax.mut (Syntax.tyInt Syntax.w8)) 7),
-                  Mut.reads-mslice 𝓤 H
-                      A W (Referent.rtF (Referent.fInt Syntax.w8)) (Syntax.tyRef Syntax.erased Syntax.mut (Syntax.tyInt Syntax.w8)) 7,
+                  Mut.reads-mslice 𝓤 H A W (Referent.rtF
+                      (Referent.fInt Syntax.w8)) (Syntax.tyRef Syntax.erased Syntax.mut (Syntax.tyInt Syntax.w8)) 7,
                   Path'.refl,
                   (
                     tt,
                     (
-                      Reads.as-is 𝓤 H A (Mut.mslice (Referent.rtF
-                          (Referent.fInt Syntax.w16)) (Syntax.tyRef Syntax.erased Syntax.mut (Syntax.tyInt Syntax.w16)) 8),
-                      Mut.reads-mslice 𝓤 H A W (Referent.rtF (Referent.fInt Syntax.w16)) (Syntax.tyRef
-                          Syntax.erased Syntax.mut (Syntax.tyInt Syntax.w16)) 8,
+                      Reads.as-is 𝓤 H A (Mut.mslice (Referent.rtF (Referent.fInt Syntax.w16)) (Syntax.tyRef Syntax.erased Syntax.mut (Syntax.tyInt Syntax.w16)) 8),
+                      Mut.reads-mslice 𝓤 H A W (Referent.rtF
+                          (Referent.fInt Syntax.w16)) (Syntax.tyRef Syntax.erased Syntax.mut (Syntax.tyInt Syntax.w16)) 8,
                       Path'.refl,
                       (
                         Reads.as-is 𝓤 H A (Mut.mslice (Element.type) (Syntax.tyRef Syntax.erased Syntax.mut Element.behind) 9),
-                        Mut.reads-mslice
-                            𝓤 H A W (Element.type) (Syntax.tyRef Syntax.erased Syntax.mut Element.behind) 9,
+                        Mut.reads-mslice 𝓤 H A W (Element.type) (Syntax.tyRef Syntax.erased Syntax.mut
+                            Element.behind) 9,
                         Path'.refl,
                         (
                           (
-                            Yields.yields-copy 𝓤 H A W (λ ρ. Unit) (Declared'.row Form.the-type) Path'.refl
-                                (Copies.cStruct Form.the-type Laws'.the-laws Laws'.the-copy .copy 𝓤 H A W) (Rows.whole (Declared'.row Form.the-type)) (λ x. x) (λ x. x) (λ ρ told. Local.mem-whole 𝓤 H A W (Declared'.row
-                                Form.the-type) ρ) λ ρ told. Local.whole-mem 𝓤 H A W (Declared'.row Form.the-type) ρ,
+                            Yields.yields-copy 𝓤 H A W (λ ρ. Unit) (Declared'.row Form.the-type) Path'.refl (Copies.cStruct Form.the-type Laws'.the-laws Laws'.the-copy .copy 𝓤 H A W) (Rows.whole (Declared'.row
+                                Form.the-type)) (λ x. x) (λ x. x) (λ ρ told. Local.mem-whole 𝓤 H A W (Declared'.row Form.the-type) ρ) λ ρ told. Local.whole-mem 𝓤 H A W (Declared'.row Form.the-type) ρ,
                             Path'.refl,
                           ),
                           ((Scalar.reads-sc 𝓤 H A W (Row.sInt Syntax.w64), Path'.refl), tt),
@@ -5657,21 +2521,16 @@ module _ (claims· : Claims) where
                     ),
                   ),
                 ),
-              )
-              (Reads.room-gone 𝓤 H A (Syntax.tyEnum (List._∷_ 119 (List._∷_ 114 (List._∷_ 105 (List._∷_ 116 (List._∷_ 105 (List._∷_ 110 (List._∷_ 103 (List._∷_ 58 (List._∷_ 58 (List._∷_ 80 (List._∷_ 117
-              (List._∷_ 116 List.[])))))))))))) (Syntax.ttcons (Syntax.tcons (Syntax.tyStruct (List._∷_ 98 (List._∷_ 105 (List._∷_ 116 (List._∷_ 115 (List._∷_ 58 (List._∷_ 58 (List._∷_ 66 (List._∷_ 105
-              (List._∷_ 116 (List._∷_ 80 (List._∷_ 111 (List._∷_ 115 (List._∷_ 105 (List._∷_ 116 (List._∷_ 105 (List._∷_ 111 (List._∷_ 110 List.[]))))))))))))))))) (Syntax.tcons (Syntax.tyInt Syntax.w64)
-              Syntax.tnil)) Syntax.tnil) (Syntax.ttcons (Syntax.tcons (Syntax.tyInt Syntax.w64) Syntax.tnil) Syntax.ttnil)))) (tt, (tt, (tt, (tt, tt)))) Path'.refl) d32
+              ) (Reads.room-gone 𝓤 H A (Syntax.tyEnum (List._∷_ 119 (List._∷_ 114 (List._∷_ 105 (List._∷_ 116 (List._∷_ 105 (List._∷_
+              110 (List._∷_ 103 (List._∷_ 58 (List._∷_ 58 (List._∷_ 80 (List._∷_ 117 (List._∷_ 116 List.[])))))))))))) (Syntax.ttcons (Syntax.tcons y3 Syntax.tnil) (Syntax.ttcons (Syntax.tcons
+              (Syntax.tyInt Syntax.w64) Syntax.tnil) Syntax.ttnil)))) (tt, (tt, (tt, (tt, tt)))) Path'.refl) d32
 
           d34 : Typed.Typed 𝓤 H A 𝓣 E G61 b32 Δ1 at34
           d34 = Typed.s-seq 𝓤 H A W 𝓣 E G61 G62 b28 b31 Δ1 (Typed.ask s58) at33 (Relend.t-sl-aggregate 𝓤 H A W E (Element.type) 𝓣 (Relend.asMut (Element.type)) G61 27 28 9 (Syntax.tyRef Syntax.erased
               Syntax.mut Element.behind) (Syntax.tyRef Syntax.erased Syntax.mut Element.behind) (λ x. x) (Scalar.oFld 4 (List._∷_ (Syntax.field 1) List.[]) (Syntax.tyInt Syntax.w64) 8 λ v. Shared.lenV (v
-              .0)) (Reads.as-is 𝓤 H A (Relend.msptr (Element.type) (Syntax.tyRef Syntax.erased Syntax.mut Element.behind) 9)) (Reads.room-gone 𝓤 H A (Syntax.tyStruct (List._∷_ 38 (List._∷_ 91 (List._∷_ 93
-              List.[]))) (Syntax.tcons (Syntax.tyRef Syntax.erased Syntax.mut Element.behind) (Syntax.tcons (Syntax.tyInt Syntax.w64) Syntax.tnil)))) (
-                Relend.reads-owed-len 𝓤 H A W (Element.type)
-                    (Syntax.tyRef (Syntax.named 3) Syntax.mut Element.behind) 3 9 (Row.lease (κs .1 .1 .1 .0) (qs .1 .1 .1 .0)) 8 Path'.refl,
-                Path'.refl,
-              ) Path'.refl Path'.refl λ b o k. tt) d33
+              .0)) (Reads.as-is 𝓤 H A (Relend.msptr (Element.type) (Syntax.tyRef Syntax.erased Syntax.mut Element.behind) 9)) (Reads.room-gone 𝓤 H A y2)
+              (Relend.reads-owed-len 𝓤 H A W (Element.type) (Syntax.tyRef (Syntax.named 3) Syntax.mut Element.behind) 3 9 (Row.lease (κs .1 .1 .1 .0) (qs .1 .1 .1 .0)) 8 Path'.refl, Path'.refl) Path'.refl
+              Path'.refl λ b o k. tt) d33
 
           d35 : Typed.Typed 𝓤 H A 𝓣 E G60 b33 Δ1 at35
           d35 = Typed.s-seq 𝓤 H A W 𝓣 E G60 G61 b27 b32 Δ1 (Typed.give s57) at34 (Relend.t-sl-relend 𝓤 H A W E (Element.type) 𝓣 G60 4 27 3 9 (Syntax.tyRef (Syntax.named 3) Syntax.mut Element.behind)
@@ -5679,61 +2538,17 @@ module _ (claims· : Claims) where
               Syntax.mut Element.behind) 3)) (Reads.room-gone 𝓤 H A (Syntax.tyRef Syntax.erased Syntax.mut Element.behind)) Path'.refl tt Path'.refl Path'.refl Path'.refl λ b o. tt) d34
 
           d36 : Typed.Typed 𝓤 H A 𝓣 E G59 b33 Δ1 at36
-          d36 = Typed.g-pre 𝓤 H A W 𝓣 E G59 G60 b33 Δ1 (λ Ψ. Ψ) at35 (Lifetime.g-begin 𝓤 H A W E G59 9 (
-            tt,
-            (
-              tt,
-              (
-                (tt, tt),
-                (
-                  (tt, tt),
-                  (
-                    tt,
-                    (
-                      tt,
-                      (
-                        tt,
-                        (
-                          tt,
-                          (
-                            tt,
-                            (
-                              tt,
-                              (
-                                tt,
-                                (
-                                  tt,
-                                  (
-                                    tt,
-                                    (
-                                      tt,
-                                      (
-                                        tt,
-                                        (tt, (tt, (tt, (tt, (tt, (tt, (tt, (tt, (tt, (tt, (tt, (tt, (tt, (tt, tt)))))))))))))),
-                                      ),
-                                    ),
-                                  ),
-                                ),
-                              ),
-                            ),
-                          ),
-                        ),
-                      ),
-                    ),
-                  ),
-                ),
-              ),
-            ),
-          )) d35
+          d36 = Typed.g-pre 𝓤 H A W 𝓣 E G59 G60 b33 Δ1 (λ Ψ. Ψ) at35 (Lifetime.g-begin 𝓤 H A W E G59 9
+              (tt, (tt, ((tt, tt), ((tt, tt), (tt, (tt, (tt, (tt, (tt, (tt, (tt, (tt, (tt, (tt, (tt, (tt, (tt, (tt, (tt, (tt, (tt, (tt, (tt, (tt, (tt, (tt, (tt, (tt, (tt, tt))))))))))))))))))))))))))))))
+              d35
 
           d37 : Typed.Typed 𝓤 H A 𝓣 E G58 b34 Δ1 at37
           d37 = Typed.s-seq 𝓤 H A W 𝓣 E G58 G59 b26 b33 Δ1 (Typed.ask s55) at36 (Relend.t-sl-aggregate 𝓤 H A W E (Referent.rtF (Referent.fInt Syntax.w16)) 𝓣 (Relend.asMut (Referent.rtF (Referent.fInt
               Syntax.w16))) G58 25 26 8 (Syntax.tyRef Syntax.erased Syntax.mut (Syntax.tyInt Syntax.w16)) (Syntax.tyRef Syntax.erased Syntax.mut (Syntax.tyInt Syntax.w16)) (λ x. x) (Scalar.oFld 3
               (List._∷_ (Syntax.field 1) List.[]) (Syntax.tyInt Syntax.w64) 8 λ v. Shared.lenV (v .0)) (Reads.as-is 𝓤 H A (Relend.msptr (Referent.rtF (Referent.fInt Syntax.w16)) (Syntax.tyRef
-              Syntax.erased Syntax.mut (Syntax.tyInt Syntax.w16)) 8)) (Reads.room-gone 𝓤 H A (Syntax.tyStruct (List._∷_ 38 (List._∷_ 91 (List._∷_ 93 List.[]))) (Syntax.tcons (Syntax.tyRef Syntax.erased
-              Syntax.mut (Syntax.tyInt Syntax.w16)) (Syntax.tcons (Syntax.tyInt Syntax.w64) Syntax.tnil)))) (
-                Relend.reads-owed-len 𝓤 H A W (Referent.rtF (Referent.fInt Syntax.w16)) (Syntax.tyRef
-                    (Syntax.named 2) Syntax.mut (Syntax.tyInt Syntax.w16)) 2 8 (Row.lease (κs .1 .1 .0) (qs .1 .1 .0)) 8 Path'.refl,
+              Syntax.erased Syntax.mut (Syntax.tyInt Syntax.w16)) 8)) (Reads.room-gone 𝓤 H A y0) (
+                Relend.reads-owed-len 𝓤 H A W (Referent.rtF (Referent.fInt Syntax.w16)) (Syntax.tyRef (Syntax.named 2) Syntax.mut (Syntax.tyInt Syntax.w16)) 2 8 (Row.lease (κs .1 .1 .0) (qs .1 .1 .0)) 8
+                    Path'.refl,
                 Path'.refl,
               ) Path'.refl Path'.refl λ b o k. tt) d36
 
@@ -5744,64 +2559,16 @@ module _ (claims· : Claims) where
               Syntax.w16))) Path'.refl tt Path'.refl Path'.refl Path'.refl λ b o. tt) d37
 
           d39 : Typed.Typed 𝓤 H A 𝓣 E G56 b35 Δ1 at39
-          d39 = Typed.g-pre 𝓤 H A W 𝓣 E G56 G57 b35 Δ1 (λ Ψ. Ψ) at38 (Lifetime.g-begin 𝓤 H A W E G56 8 (
-            tt,
-            (
-              tt,
-              (
-                (tt, tt),
-                (
-                  tt,
-                  (
-                    tt,
-                    (
-                      tt,
-                      (
-                        tt,
-                        (
-                          tt,
-                          (
-                            tt,
-                            (
-                              tt,
-                              (
-                                tt,
-                                (
-                                  tt,
-                                  (
-                                    tt,
-                                    (
-                                      tt,
-                                      (
-                                        tt,
-                                        (
-                                          tt,
-                                          (tt, (tt, (tt, (tt, (tt, (tt, (tt, (tt, (tt, (tt, (tt, (tt, (tt, tt))))))))))))),
-                                        ),
-                                      ),
-                                    ),
-                                  ),
-                                ),
-                              ),
-                            ),
-                          ),
-                        ),
-                      ),
-                    ),
-                  ),
-                ),
-              ),
-            ),
-          )) d38
+          d39 = Typed.g-pre 𝓤 H A W 𝓣 E G56 G57 b35 Δ1 (λ Ψ. Ψ) at38 (Lifetime.g-begin 𝓤 H A W E G56 8
+              (tt, (tt, ((tt, tt), (tt, (tt, (tt, (tt, (tt, (tt, (tt, (tt, (tt, (tt, (tt, (tt, (tt, (tt, (tt, (tt, (tt, (tt, (tt, (tt, (tt, (tt, (tt, (tt, (tt, (tt, tt)))))))))))))))))))))))))))))) d38
 
           d40 : Typed.Typed 𝓤 H A 𝓣 E G55 b36 Δ1 at40
           d40 = Typed.s-seq 𝓤 H A W 𝓣 E G55 G56 b24 b35 Δ1 (Typed.ask s52) at39 (Relend.t-sl-aggregate 𝓤 H A W E (Referent.rtF (Referent.fInt Syntax.w8)) 𝓣 (Relend.asMut (Referent.rtF (Referent.fInt
               Syntax.w8))) G55 23 24 7 (Syntax.tyRef Syntax.erased Syntax.mut (Syntax.tyInt Syntax.w8)) (Syntax.tyRef Syntax.erased Syntax.mut (Syntax.tyInt Syntax.w8)) (λ x. x) (Scalar.oFld 2 (List._∷_
               (Syntax.field 1) List.[]) (Syntax.tyInt Syntax.w64) 8 λ v. Shared.lenV (v .0)) (Reads.as-is 𝓤 H A (Relend.msptr (Referent.rtF (Referent.fInt Syntax.w8)) (Syntax.tyRef Syntax.erased
-              Syntax.mut (Syntax.tyInt Syntax.w8)) 7)) (Reads.room-gone 𝓤 H A (Syntax.tyStruct (List._∷_ 38 (List._∷_ 91 (List._∷_ 93 List.[]))) (Syntax.tcons (Syntax.tyRef Syntax.erased Syntax.mut
-              (Syntax.tyInt Syntax.w8)) (Syntax.tcons (Syntax.tyInt Syntax.w64) Syntax.tnil)))) (
-                Relend.reads-owed-len 𝓤 H A W (Referent.rtF (Referent.fInt Syntax.w8)) (Syntax.tyRef (Syntax.named 1)
-                    Syntax.mut (Syntax.tyInt Syntax.w8)) 1 7 (Row.lease (κs .1 .0) (qs .1 .0)) 8 Path'.refl,
+              Syntax.mut (Syntax.tyInt Syntax.w8)) 7)) (Reads.room-gone 𝓤 H A y1) (
+                Relend.reads-owed-len 𝓤 H A W (Referent.rtF (Referent.fInt Syntax.w8)) (Syntax.tyRef (Syntax.named 1) Syntax.mut (Syntax.tyInt Syntax.w8)) 1 7 (Row.lease (κs .1 .0) (qs .1 .0)) 8
+                    Path'.refl,
                 Path'.refl,
               ) Path'.refl Path'.refl λ b o k. tt) d39
 
@@ -5812,132 +2579,57 @@ module _ (claims· : Claims) where
               Syntax.w8))) Path'.refl tt Path'.refl Path'.refl Path'.refl λ b o. tt) d40
 
           d42 : Typed.Typed 𝓤 H A 𝓣 E G44 b37 Δ1 at42
-          d42 = Typed.g-pre 𝓤 H A W 𝓣 E G44 G54 b37 Δ1 (λ Ψ. Ψ) at41 (Lifetime.g-begin 𝓤 H A W E G44 7 (
-            tt,
-            (
-              tt,
-              (
-                tt,
-                (
-                  tt,
-                  (
-                    tt,
-                    (
-                      tt,
-                      (
-                        tt,
-                        (
-                          tt,
-                          (
-                            tt,
-                            (
-                              tt,
-                              (
-                                tt,
-                                (
-                                  tt,
-                                  (
-                                    tt,
-                                    (
-                                      tt,
-                                      (
-                                        tt,
-                                        (
-                                          tt,
-                                          (
-                                            tt,
-                                            (tt, (tt, (tt, (tt, (tt, (tt, (tt, (tt, (tt, (tt, (tt, (tt, tt)))))))))))),
-                                          ),
-                                        ),
-                                      ),
-                                    ),
-                                  ),
-                                ),
-                              ),
-                            ),
-                          ),
-                        ),
-                      ),
-                    ),
-                  ),
-                ),
-              ),
-            ),
-          )) d41
+          d42 = Typed.g-pre 𝓤 H A W 𝓣 E G44 G54 b37 Δ1 (λ Ψ. Ψ) at41 (Lifetime.g-begin 𝓤 H A W E G44 7
+              (tt, (tt, (tt, (tt, (tt, (tt, (tt, (tt, (tt, (tt, (tt, (tt, (tt, (tt, (tt, (tt, (tt, (tt, (tt, (tt, (tt, (tt, (tt, (tt, (tt, (tt, (tt, (tt, (tt, tt)))))))))))))))))))))))))))))) d41
 
           d43 : Typed.Typed 𝓤 H A 𝓣 E G43 b38 Δ1 at43
           d43 = Typed.t-seq 𝓤 H A W 𝓣 E G43 G44 b22 b37 Δ1 at18 at42 d18 d42
 
           d44 : Typed.Typed 𝓤 H A 𝓣 E G42 b39 Δ1 at44
           d44 = Typed.s-seq 𝓤 H A W 𝓣 E G42 G43 b15 b38 Δ1 (Typed.both s40) at43 (Plain.t-call-plain 𝓤 H A W 𝓣 0 ps·2 r·2 (claims· .4) (claims· .5) "block::writer::is_short" (known .2) E (λ pos β. β)
-              G42 (Num.vAt 20 λ x. x, (Num.vAt 10 λ x. x, tt)) 19 List.[] (Call.sub-id 𝓤 H A W (G42 .slots)) (
-                (Scalar.reads-sc 𝓤 H A W (Row.sInt Syntax.w64), Path'.refl),
-                (
-                  (
-                    Scalar.reads-sc 𝓤 H A W
-                        (Row.sInt Syntax.w64),
-                    Path'.refl,
-                  ),
-                  tt,
-                ),
-              ) (Reads.room-gone 𝓤 H A Syntax.tyBool) tt Path'.refl) d43
+              G42 (Num.vAt 20 λ x. x, (Num.vAt 10 λ x. x, tt)) 19 List.[] (Call.sub-id 𝓤 H A W (G42 .slots))
+              ((Scalar.reads-sc 𝓤 H A W (Row.sInt Syntax.w64), Path'.refl), ((Scalar.reads-sc 𝓤 H A W (Row.sInt Syntax.w64), Path'.refl), tt)) (Reads.room-gone 𝓤 H A Syntax.tyBool) tt Path'.refl) d43
 
           d45 : Typed.Typed 𝓤 H A 𝓣 E G41 b40 Δ1 at45
           d45 = Typed.s-seq 𝓤 H A W 𝓣 E G41 G42 b14 b39 Δ1 (Typed.pass T41 T42 s39) at44 (Scalar.t-use 𝓤 H A W E 𝓣 G41 (Scalar.oFld 2 (List._∷_ (Syntax.field 1) List.[]) (Syntax.tyInt Syntax.w64) 8
-              Shared.lenV) 20 (Rows.sc-here (Row.sInt Syntax.w64)) (Syntax.tyInt Syntax.w64) (Row.valS (Row.sInt Syntax.w64)) (Row.sInt Syntax.w64 .of) (
-                Mut.reads-mslice-len 𝓤 H A W (Referent.rtF
-                    (Referent.fInt Syntax.w8)) (Syntax.tyRef (Syntax.named 1) Syntax.mut (Syntax.tyInt Syntax.w8)) 1 8 Path'.refl,
-                Path'.refl,
-              ) (Reads.room-gone 𝓤 H A (Syntax.tyInt Syntax.w64))
-              (Scalar.holds-sc 𝓤 H A W (Row.sInt Syntax.w64)) Path'.refl (λ u. Path'.refl) λ u. tt) d44
+              Shared.lenV) 20 (Rows.sc-here (Row.sInt Syntax.w64)) (Syntax.tyInt Syntax.w64) (Row.valS (Row.sInt Syntax.w64)) (Row.sInt Syntax.w64 .of)
+              (Mut.reads-mslice-len 𝓤 H A W (Referent.rtF (Referent.fInt Syntax.w8)) (Syntax.tyRef (Syntax.named 1) Syntax.mut (Syntax.tyInt Syntax.w8)) 1 8 Path'.refl, Path'.refl) (Reads.room-gone 𝓤 H A
+              (Syntax.tyInt Syntax.w64)) (Scalar.holds-sc 𝓤 H A W (Row.sInt Syntax.w64)) Path'.refl (λ u. Path'.refl) λ u. tt) d44
 
           d46 : Typed.Typed 𝓤 H A 𝓣 E G40 b40 Δ1 at46
-          d46 = Typed.g-pre 𝓤 H A W 𝓣 E G40 G41 b40 Δ1 (Typed.pass T40 T41 s38) at45 (Scalar.g-room 𝓤 H A W E G40 9 (Syntax.tyStruct (List._∷_ 98 (List._∷_ 105 (List._∷_ 116 (List._∷_ 115 (List._∷_ 58
-              (List._∷_ 58 (List._∷_ 66 (List._∷_ 105 (List._∷_ 116 (List._∷_ 80 (List._∷_ 111 (List._∷_ 115 (List._∷_ 105 (List._∷_ 116 (List._∷_ 105 (List._∷_ 111 (List._∷_ 110 List.[])))))))))))))))))
-              (Syntax.tcons (Syntax.tyInt Syntax.w64) Syntax.tnil)) (Local.room-whole 𝓤 H A W (Declared'.row BitPosition.the-type) (Syntax.tyStruct (List._∷_ 98 (List._∷_ 105 (List._∷_ 116 (List._∷_ 115
-              (List._∷_ 58 (List._∷_ 58 (List._∷_ 66 (List._∷_ 105 (List._∷_ 116 (List._∷_ 80 (List._∷_ 111 (List._∷_ 115 (List._∷_ 105 (List._∷_ 116 (List._∷_ 105 (List._∷_ 111 (List._∷_ 110
-              List.[]))))))))))))))))) (Syntax.tcons (Syntax.tyInt Syntax.w64) Syntax.tnil)) Path'.refl)) d45
+          d46 = Typed.g-pre 𝓤 H A W 𝓣 E G40 G41 b40 Δ1 (Typed.pass T40 T41 s38) at45 (Scalar.g-room 𝓤 H A W E G40 9 y3 (Local.room-whole 𝓤 H A W (Declared'.row BitPosition.the-type) y3 Path'.refl))
+              d45
 
           d47 : Typed.Typed 𝓤 H A 𝓣 E G39 b41 Δ1 at47
           d47 = Typed.s-seq 𝓤 H A W 𝓣 E G39 G40 b13 b40 Δ1 (Typed.both s37) at46 (Plain.t-call-plain 𝓤 H A W 𝓣 0 ps·1 r·1 (claims· .2) (claims· .3) "block::writer::bytes_for" (known .1) E (λ pos β. β)
               G39 (record { pos = 9; st = List.[]; d = 0; at = λ x. x }, tt) 10 List.[] (Call.sub-id 𝓤 H A W (G39 .slots)) (
                 (
-                  Yields.yields-copy 𝓤 H A W (λ ρ. Unit) (Declared'.row BitPosition.the-type)
-                      Path'.refl (Copies.cStruct BitPosition.the-type Laws.the-laws Laws.the-copy .copy 𝓤 H A W) (Rows.whole (Declared'.row BitPosition.the-type)) (λ x. x) (λ x. x) (λ ρ told. Local.mem-whole 𝓤 H
-                      A W (Declared'.row BitPosition.the-type) ρ) λ ρ told. Local.whole-mem 𝓤 H A W (Declared'.row BitPosition.the-type) ρ,
+                  Yields.yields-copy 𝓤 H A W (λ ρ. Unit) (Declared'.row BitPosition.the-type) Path'.refl (Copies.cStruct BitPosition.the-type Laws.the-laws Laws.the-copy .copy 𝓤 H A W) (Rows.whole
+                      (Declared'.row BitPosition.the-type)) (λ x. x) (λ x. x) (λ ρ told. Local.mem-whole 𝓤 H A W (Declared'.row BitPosition.the-type) ρ) λ ρ told. Local.whole-mem 𝓤 H A W (Declared'.row
+                      BitPosition.the-type) ρ,
                   Path'.refl,
                 ),
                 tt,
-              ) (Reads.room-gone 𝓤 H A (Syntax.tyInt Syntax.w64))
-              tt Path'.refl) d46
+              ) (Reads.room-gone 𝓤 H A (Syntax.tyInt Syntax.w64)) tt Path'.refl) d46
 
           d48 : Typed.Typed 𝓤 H A 𝓣 E G38 b41 Δ1 at48
           d48 = Typed.g-pre 𝓤 H A W 𝓣 E G38 G39 b41 Δ1 (Typed.pass T38 T39 s36) at47 (Scalar.g-room 𝓤 H A W E G38 7 (Syntax.tyEnum (List._∷_ 119 (List._∷_ 114 (List._∷_ 105 (List._∷_ 116 (List._∷_ 105
-              (List._∷_ 110 (List._∷_ 103 (List._∷_ 58 (List._∷_ 58 (List._∷_ 80 (List._∷_ 117 (List._∷_ 116 List.[])))))))))))) (Syntax.ttcons (Syntax.tcons (Syntax.tyStruct (List._∷_ 98 (List._∷_ 105
-              (List._∷_ 116 (List._∷_ 115 (List._∷_ 58 (List._∷_ 58 (List._∷_ 66 (List._∷_ 105 (List._∷_ 116 (List._∷_ 80 (List._∷_ 111 (List._∷_ 115 (List._∷_ 105 (List._∷_ 116 (List._∷_ 105 (List._∷_
-              111 (List._∷_ 110 List.[]))))))))))))))))) (Syntax.tcons (Syntax.tyInt Syntax.w64) Syntax.tnil)) Syntax.tnil) (Syntax.ttcons (Syntax.tcons (Syntax.tyInt Syntax.w64) Syntax.tnil)
-              Syntax.ttnil))) (Local.room-whole 𝓤 H A W (Known.Known Put.enum 0) (Syntax.tyEnum (List._∷_ 119 (List._∷_ 114 (List._∷_ 105 (List._∷_ 116 (List._∷_ 105 (List._∷_ 110 (List._∷_ 103 (List._∷_
-              58 (List._∷_ 58 (List._∷_ 80 (List._∷_ 117 (List._∷_ 116 List.[])))))))))))) (Syntax.ttcons (Syntax.tcons (Syntax.tyStruct (List._∷_ 98 (List._∷_ 105 (List._∷_ 116 (List._∷_ 115 (List._∷_ 58
-              (List._∷_ 58 (List._∷_ 66 (List._∷_ 105 (List._∷_ 116 (List._∷_ 80 (List._∷_ 111 (List._∷_ 115 (List._∷_ 105 (List._∷_ 116 (List._∷_ 105 (List._∷_ 111 (List._∷_ 110 List.[])))))))))))))))))
-              (Syntax.tcons (Syntax.tyInt Syntax.w64) Syntax.tnil)) Syntax.tnil) (Syntax.ttcons (Syntax.tcons (Syntax.tyInt Syntax.w64) Syntax.tnil) Syntax.ttnil))) Path'.refl)) d47
+              (List._∷_ 110 (List._∷_ 103 (List._∷_ 58 (List._∷_ 58 (List._∷_ 80 (List._∷_ 117 (List._∷_ 116 List.[])))))))))))) (Syntax.ttcons (Syntax.tcons y3 Syntax.tnil) (Syntax.ttcons (Syntax.tcons
+              (Syntax.tyInt Syntax.w64) Syntax.tnil) Syntax.ttnil))) (Local.room-whole 𝓤 H A W (Known.Known Put.enum 0) (Syntax.tyEnum (List._∷_ 119 (List._∷_ 114 (List._∷_ 105 (List._∷_ 116 (List._∷_ 105
+              (List._∷_ 110 (List._∷_ 103 (List._∷_ 58 (List._∷_ 58 (List._∷_ 80 (List._∷_ 117 (List._∷_ 116 List.[])))))))))))) (Syntax.ttcons (Syntax.tcons y3 Syntax.tnil) (Syntax.ttcons (Syntax.tcons
+              (Syntax.tyInt Syntax.w64) Syntax.tnil) Syntax.ttnil))) Path'.refl)) d47
 
           d49 : Typed.Typed 𝓤 H A 𝓣 E G37 b42 Δ1 at49
           d49 = Typed.s-seq 𝓤 H A W 𝓣 E G37 G38 b12 b41 Δ1 (Typed.pass T37 T38 s35) at48 (CopyOut.t-copy-told 𝓤 H A W E 𝓣 (Declared'.row BitPosition.the-type) Path'.refl (Laws'6.val
               BitPosition.the-type Laws.the-laws) (Laws'6.lawful BitPosition.the-type Laws.the-laws 𝓤 H A W) (Laws'6.makes BitPosition.the-type Laws.the-plain 𝓤 H A) G37 9 (Scalar.oFld 7 (List._∷_
-              (Syntax.variant 0) (List._∷_ (Syntax.field 1) List.[])) (Syntax.tyStruct (List._∷_ 98 (List._∷_ 105 (List._∷_ 116 (List._∷_ 115 (List._∷_ 58 (List._∷_ 58 (List._∷_ 66 (List._∷_ 105 (List._∷_
-              116 (List._∷_ 80 (List._∷_ 111 (List._∷_ 115 (List._∷_ 105 (List._∷_ 116 (List._∷_ 105 (List._∷_ 111 (List._∷_ 110 List.[]))))))))))))))))) (Syntax.tcons (Syntax.tyInt Syntax.w64)
-              Syntax.tnil)) 8 λ v. Laws'6.val BitPosition.the-type Laws.the-laws (v .0)) (λ m. m .1 .1 .1 .1 .1 .1 .1 .0 .0) (λ m. Laws'5.Fields (Declared.variants Put.the-type) (Laws'5.spellss (Put.enum
-              .parts) Laws'4.the-laws) (Put.the-type .to (Known.at Put.enum 0 (m .1 .1 .1 .1 .1 .1 .1 .0)))) (Reads.room-gone 𝓤 H A (Syntax.tyStruct (List._∷_ 98 (List._∷_ 105 (List._∷_ 116 (List._∷_ 115
-              (List._∷_ 58 (List._∷_ 58 (List._∷_ 66 (List._∷_ 105 (List._∷_ 116 (List._∷_ 80 (List._∷_ 111 (List._∷_ 115 (List._∷_ 105 (List._∷_ 116 (List._∷_ 105 (List._∷_ 111 (List._∷_ 110
-              List.[]))))))))))))))))) (Syntax.tcons (Syntax.tyInt Syntax.w64) Syntax.tnil))) (
-                Match.reads-payload 𝓤 H A W Put.enum Laws'4.the-laws 0 Path'.refl Path'.refl (λ v. Val.vcons (Laws'6.val
-                    BitPosition.the-type Laws.the-laws (v .0)) Val.vnil) (λ v. Path'.refl) 0 (Syntax.tyStruct (List._∷_ 98 (List._∷_ 105 (List._∷_ 116 (List._∷_ 115 (List._∷_ 58 (List._∷_ 58 (List._∷_ 66
-                    (List._∷_ 105 (List._∷_ 116 (List._∷_ 80 (List._∷_ 111 (List._∷_ 115 (List._∷_ 105 (List._∷_ 116 (List._∷_ 105 (List._∷_ 111 (List._∷_ 110 List.[]))))))))))))))))) (Syntax.tcons
-                    (Syntax.tyInt Syntax.w64) Syntax.tnil)) 8 Path'.refl,
+              (Syntax.variant 0) (List._∷_ (Syntax.field 1) List.[])) y3 8 λ v. Laws'6.val BitPosition.the-type Laws.the-laws (v .0)) (λ m. m .1 .1 .1 .1 .1 .1 .1 .0 .0) (λ m. Laws'5.Fields
+              (Declared.variants Put.the-type) (Laws'5.spellss (Put.enum .parts) Laws'4.the-laws) (Put.the-type .to (Known.at Put.enum 0 (m .1 .1 .1 .1 .1 .1 .1 .0)))) (Reads.room-gone 𝓤 H A y3) (
+                Match.reads-payload 𝓤 H A W Put.enum Laws'4.the-laws 0 Path'.refl Path'.refl (λ v. Val.vcons (Laws'6.val BitPosition.the-type Laws.the-laws (v .0)) Val.vnil) (λ v. Path'.refl) 0 y3 8
+                    Path'.refl,
                 Path'.refl,
-              ) Path'.refl (λ ρ m. Make'.tells-row 𝓤 H A W E ρ (Row.out 9 (G37 .locals)) m 7 (Laws'5.Fields (Declared.variants
-              Put.the-type) (Laws'5.spellss (Put.enum .parts) Laws'4.the-laws) (Put.the-type .to (Known.at Put.enum 0 (m .1 .1 .1 .1 .1 .1 .1 .0)))) (Known.known-is 𝓤 H A W E Put.enum 0 Laws'4.the-laws ρ
-              7 (m .1 .1 .1 .1 .1 .1 .1 .0))) (λ m k wa. Path'.refl) λ m k wa. k .0) d48
+              ) Path'.refl (λ ρ m. Make'.tells-row 𝓤 H A W E ρ (Row.out 9 (G37 .locals)) m 7 (Laws'5.Fields (Declared.variants Put.the-type) (Laws'5.spellss (Put.enum .parts)
+              Laws'4.the-laws) (Put.the-type .to (Known.at Put.enum 0 (m .1 .1 .1 .1 .1 .1 .1 .0)))) (Known.known-is 𝓤 H A W E Put.enum 0 Laws'4.the-laws ρ 7 (m .1 .1 .1 .1 .1 .1 .1 .0))) (λ m k wa.
+              Path'.refl) λ m k wa. k .0) d48
 
           d50 : Typed.Typed 𝓤 H A 𝓣 E G36 b42 Δ1 at50
           d50 = Typed.g-pre 𝓤 H A W 𝓣 E G36 G37 b42 Δ1 (Typed.give s34) at49 (Known.g-known-told 𝓤 H A W E Put.enum 0 G36 7 Laws'4.the-laws (λ x. x) (Reads.as-is 𝓤 H A (Rows.whole (Known.Known
@@ -5949,10 +2641,9 @@ module _ (claims· : Claims) where
           d52 : Typed.Typed 𝓤 H A 𝓣 E G26 b43 Δ1 at52
           d52 = Switch.t-switch-on 𝓤 H A W E 𝓣 G26 (Scalar.oFld 7 (List._∷_ (Syntax.variant 0) (List._∷_ (Syntax.field 0) List.[])) (Syntax.tyInt Syntax.w8) 0 λ x. Val.vint Syntax.w8 (Declared.tagOf
               Put.the-type x)) Syntax.w8 (λ u. Declared.tagOf Put.the-type (u .1 .1 .1 .1 .1 .1 .1 .0)) (Syntax.arm (List._∷_ 1 List.[]) b11 (Syntax.arm (List._∷_ 0 List.[]) b42 Syntax.noDefault)) Δ1
-              (at6, (at51, tt)) (
-                Match.reads-tag 𝓤 H A W Put.the-type Laws'4.the-laws (Rows.whole (Declared.row Put.the-type)) 0 (λ x. x) (Whole.reads-enum 𝓤 H A W Put.the-type Laws'4.the-laws),
-                Path'.refl,
-              ) (λ u. Path'.refl) (d6, (d51, tt))
+              (at6, (at51, tt))
+              (Match.reads-tag 𝓤 H A W Put.the-type Laws'4.the-laws (Rows.whole (Declared.row Put.the-type)) 0 (λ x. x) (Whole.reads-enum 𝓤 H A W Put.the-type Laws'4.the-laws), Path'.refl) (λ u.
+              Path'.refl) (d6, (d51, tt))
 
           d53 : Typed.Typed 𝓤 H A 𝓣 E G25 b43 Δ1 at53
           d53 = Typed.g-pre 𝓤 H A W 𝓣 E G25 G26 b43 Δ1 (λ Ψ. Ψ) at52 (Lifetime.g-forget 𝓤 H A W E G25 6 Row.dead Path'.refl) d52
@@ -6059,57 +2750,42 @@ module _ (claims· : Claims) where
               G13 (
                 record { pos = 1; ty = Syntax.tyRef (Syntax.named 0) Syntax.imm (Syntax.tyInt Syntax.w16); ref = λ x. x },
                 (
-                  record {
-                    pos = 12;
-                    ty = Syntax.tyRef Syntax.erased Syntax.mut
-                        (Syntax.tyInt Syntax.w8);
-                    ref = λ x. x;
-                  },
+                  record { pos = 12; ty = Syntax.tyRef Syntax.erased Syntax.mut (Syntax.tyInt Syntax.w8); ref = λ x. x },
                   (
                     Bool.bLit Bool'.false,
                     (
                       record { pos = 14; ty = Syntax.tyRef Syntax.erased Syntax.mut (Syntax.tyInt Syntax.w16); ref = λ x. x },
-                      (
-                        record {
-                          pos
-                              = 16;
-                          ty = Syntax.tyRef Syntax.erased Syntax.mut Element.behind;
-                          ref = λ x. x;
-                        },
-                        (record { pos = 5; st = List.[]; d = 0; at = λ x. x }, (Num.vAt 6 λ x. x, tt)),
-                      ),
+                      (record { pos = 16; ty = Syntax.tyRef Syntax.erased Syntax.mut Element.behind; ref = λ x. x }, (record { pos = 5; st = List.[]; d = 0; at = λ x. x }, (Num.vAt 6 λ x. x, tt))),
                     ),
                   ),
                 ),
-              ) 7 (List._∷_
-              0 (List._∷_ 4 (List._∷_ 5 (List._∷_ 6 List.[])))) (Call.sub-id 𝓤 H A W (G13 .slots)) (
-                ShrSlice.spares-sslice 𝓤 H A W (Referent.rtF (Referent.fInt Syntax.w16)) (Syntax.tyRef (Syntax.named 0)
-                    Syntax.imm (Syntax.tyInt Syntax.w16)) 0,
-                Shared.reads-sslice 𝓤 H A W (Referent.rtF (Referent.fInt Syntax.w16)) (Syntax.tyRef (Syntax.named 0) Syntax.imm (Syntax.tyInt Syntax.w16)) 0,
+              ) 7
+              (List._∷_ 0 (List._∷_ 4 (List._∷_ 5 (List._∷_ 6 List.[])))) (Call.sub-id 𝓤 H A W (G13 .slots)) (
+                ShrSlice.spares-sslice 𝓤 H A W (Referent.rtF (Referent.fInt Syntax.w16)) (Syntax.tyRef (Syntax.named 0) Syntax.imm (Syntax.tyInt Syntax.w16)) 0,
+                Shared.reads-sslice 𝓤 H A W (Referent.rtF
+                    (Referent.fInt Syntax.w16)) (Syntax.tyRef (Syntax.named 0) Syntax.imm (Syntax.tyInt Syntax.w16)) 0,
                 Path'.refl,
                 (
                   Reads.as-is 𝓤 H A (Mut.mslice (Referent.rtF (Referent.fInt Syntax.w8)) (Syntax.tyRef Syntax.erased Syntax.mut (Syntax.tyInt Syntax.w8)) 4),
-                  Mut.reads-mslice 𝓤 H A W
-                      (Referent.rtF (Referent.fInt Syntax.w8)) (Syntax.tyRef Syntax.erased Syntax.mut (Syntax.tyInt Syntax.w8)) 4,
+                  Mut.reads-mslice 𝓤 H A W (Referent.rtF
+                      (Referent.fInt Syntax.w8)) (Syntax.tyRef Syntax.erased Syntax.mut (Syntax.tyInt Syntax.w8)) 4,
                   Path'.refl,
                   (
                     tt,
                     (
-                      Reads.as-is 𝓤 H A (Mut.mslice (Referent.rtF (Referent.fInt
-                          Syntax.w16)) (Syntax.tyRef Syntax.erased Syntax.mut (Syntax.tyInt Syntax.w16)) 5),
-                      Mut.reads-mslice 𝓤 H A W (Referent.rtF (Referent.fInt Syntax.w16)) (Syntax.tyRef Syntax.erased Syntax.mut
-                          (Syntax.tyInt Syntax.w16)) 5,
+                      Reads.as-is 𝓤 H A (Mut.mslice (Referent.rtF (Referent.fInt Syntax.w16)) (Syntax.tyRef Syntax.erased Syntax.mut (Syntax.tyInt Syntax.w16)) 5),
+                      Mut.reads-mslice 𝓤 H A W (Referent.rtF
+                          (Referent.fInt Syntax.w16)) (Syntax.tyRef Syntax.erased Syntax.mut (Syntax.tyInt Syntax.w16)) 5,
                       Path'.refl,
                       (
                         Reads.as-is 𝓤 H A (Mut.mslice (Element.type) (Syntax.tyRef Syntax.erased Syntax.mut Element.behind) 6),
-                        Mut.reads-mslice 𝓤 H A W (Element.type)
-                            (Syntax.tyRef Syntax.erased Syntax.mut Element.behind) 6,
+                        Mut.reads-mslice 𝓤 H A W (Element.type) (Syntax.tyRef Syntax.erased Syntax.mut
+                            Element.behind) 6,
                         Path'.refl,
                         (
                           (
-                            Yields.yields-copy 𝓤 H A W (λ ρ. Unit) (Declared'.row Form.the-type) Path'.refl (Copies.cStruct Form.the-type
-                                Laws'.the-laws Laws'.the-copy .copy 𝓤 H A W) (Rows.whole (Declared'.row Form.the-type)) (λ x. x) (λ x. x) (λ ρ told. Local.mem-whole 𝓤 H A W (Declared'.row Form.the-type) ρ) λ ρ told.
-                                Local.whole-mem 𝓤 H A W (Declared'.row Form.the-type) ρ,
+                            Yields.yields-copy 𝓤 H A W (λ ρ. Unit) (Declared'.row Form.the-type) Path'.refl (Copies.cStruct Form.the-type Laws'.the-laws Laws'.the-copy .copy 𝓤 H A W) (Rows.whole (Declared'.row
+                                Form.the-type)) (λ x. x) (λ x. x) (λ ρ told. Local.mem-whole 𝓤 H A W (Declared'.row Form.the-type) ρ) λ ρ told. Local.whole-mem 𝓤 H A W (Declared'.row Form.the-type) ρ,
                             Path'.refl,
                           ),
                           ((Scalar.reads-sc 𝓤 H A W (Row.sInt Syntax.w64), Path'.refl), tt),
@@ -6118,21 +2794,16 @@ module _ (claims· : Claims) where
                     ),
                   ),
                 ),
-              ) (Reads.room-gone 𝓤 H A
-              (Syntax.tyEnum (List._∷_ 119 (List._∷_ 114 (List._∷_ 105 (List._∷_ 116 (List._∷_ 105 (List._∷_ 110 (List._∷_ 103 (List._∷_ 58 (List._∷_ 58 (List._∷_ 80 (List._∷_ 117 (List._∷_ 116
-              List.[])))))))))))) (Syntax.ttcons (Syntax.tcons (Syntax.tyStruct (List._∷_ 98 (List._∷_ 105 (List._∷_ 116 (List._∷_ 115 (List._∷_ 58 (List._∷_ 58 (List._∷_ 66 (List._∷_ 105 (List._∷_ 116
-              (List._∷_ 80 (List._∷_ 111 (List._∷_ 115 (List._∷_ 105 (List._∷_ 116 (List._∷_ 105 (List._∷_ 111 (List._∷_ 110 List.[]))))))))))))))))) (Syntax.tcons (Syntax.tyInt Syntax.w64) Syntax.tnil))
-              Syntax.tnil) (Syntax.ttcons (Syntax.tcons (Syntax.tyInt Syntax.w64) Syntax.tnil) Syntax.ttnil)))) (tt, (tt, (tt, (tt, tt)))) Path'.refl) d68
+              ) (Reads.room-gone 𝓤 H A (Syntax.tyEnum (List._∷_ 119 (List._∷_ 114 (List._∷_ 105 (List._∷_ 116 (List._∷_ 105 (List._∷_
+              110 (List._∷_ 103 (List._∷_ 58 (List._∷_ 58 (List._∷_ 80 (List._∷_ 117 (List._∷_ 116 List.[])))))))))))) (Syntax.ttcons (Syntax.tcons y3 Syntax.tnil) (Syntax.ttcons (Syntax.tcons
+              (Syntax.tyInt Syntax.w64) Syntax.tnil) Syntax.ttnil)))) (tt, (tt, (tt, (tt, tt)))) Path'.refl) d68
 
           d70 : Typed.Typed 𝓤 H A 𝓣 E G12 b49 Δ0 at70
           d70 = Typed.s-seq 𝓤 H A W 𝓣 E G12 G13 b5 b48 Δ0 (Typed.ask s11) at69 (Relend.t-sl-aggregate 𝓤 H A W E (Element.type) 𝓣 (Relend.asMut (Element.type)) G12 15 16 6 (Syntax.tyRef Syntax.erased
               Syntax.mut Element.behind) (Syntax.tyRef Syntax.erased Syntax.mut Element.behind) (λ x. x) (Scalar.oFld 4 (List._∷_ (Syntax.field 1) List.[]) (Syntax.tyInt Syntax.w64) 8 λ v. Shared.lenV (v
-              .0)) (Reads.as-is 𝓤 H A (Relend.msptr (Element.type) (Syntax.tyRef Syntax.erased Syntax.mut Element.behind) 6)) (Reads.room-gone 𝓤 H A (Syntax.tyStruct (List._∷_ 38 (List._∷_ 91 (List._∷_ 93
-              List.[]))) (Syntax.tcons (Syntax.tyRef Syntax.erased Syntax.mut Element.behind) (Syntax.tcons (Syntax.tyInt Syntax.w64) Syntax.tnil)))) (
-                Relend.reads-owed-len 𝓤 H A W (Element.type)
-                    (Syntax.tyRef (Syntax.named 3) Syntax.mut Element.behind) 3 6 (Row.lease (κs .1 .1 .1 .0) (qs .1 .1 .1 .0)) 8 Path'.refl,
-                Path'.refl,
-              ) Path'.refl Path'.refl λ b o k. tt) d69
+              .0)) (Reads.as-is 𝓤 H A (Relend.msptr (Element.type) (Syntax.tyRef Syntax.erased Syntax.mut Element.behind) 6)) (Reads.room-gone 𝓤 H A y2)
+              (Relend.reads-owed-len 𝓤 H A W (Element.type) (Syntax.tyRef (Syntax.named 3) Syntax.mut Element.behind) 3 6 (Row.lease (κs .1 .1 .1 .0) (qs .1 .1 .1 .0)) 8 Path'.refl, Path'.refl) Path'.refl
+              Path'.refl λ b o k. tt) d69
 
           d71 : Typed.Typed 𝓤 H A 𝓣 E G11 b50 Δ0 at71
           d71 = Typed.s-seq 𝓤 H A W 𝓣 E G11 G12 b4 b49 Δ0 (Typed.give s10) at70 (Relend.t-sl-relend 𝓤 H A W E (Element.type) 𝓣 G11 4 15 3 6 (Syntax.tyRef (Syntax.named 3) Syntax.mut Element.behind)
@@ -6140,61 +2811,17 @@ module _ (claims· : Claims) where
               Syntax.mut Element.behind) 3)) (Reads.room-gone 𝓤 H A (Syntax.tyRef Syntax.erased Syntax.mut Element.behind)) Path'.refl tt Path'.refl Path'.refl Path'.refl λ b o. tt) d70
 
           d72 : Typed.Typed 𝓤 H A 𝓣 E G10 b50 Δ0 at72
-          d72 = Typed.g-pre 𝓤 H A W 𝓣 E G10 G11 b50 Δ0 (λ Ψ. Ψ) at71 (Lifetime.g-begin 𝓤 H A W E G10 6 (
-            tt,
-            (
-              tt,
-              (
-                (tt, tt),
-                (
-                  (tt, tt),
-                  (
-                    tt,
-                    (
-                      tt,
-                      (
-                        tt,
-                        (
-                          tt,
-                          (
-                            tt,
-                            (
-                              tt,
-                              (
-                                tt,
-                                (
-                                  tt,
-                                  (
-                                    tt,
-                                    (
-                                      tt,
-                                      (
-                                        tt,
-                                        (tt, (tt, (tt, (tt, (tt, (tt, (tt, (tt, (tt, (tt, (tt, (tt, (tt, (tt, tt)))))))))))))),
-                                      ),
-                                    ),
-                                  ),
-                                ),
-                              ),
-                            ),
-                          ),
-                        ),
-                      ),
-                    ),
-                  ),
-                ),
-              ),
-            ),
-          )) d71
+          d72 = Typed.g-pre 𝓤 H A W 𝓣 E G10 G11 b50 Δ0 (λ Ψ. Ψ) at71 (Lifetime.g-begin 𝓤 H A W E G10 6
+              (tt, (tt, ((tt, tt), ((tt, tt), (tt, (tt, (tt, (tt, (tt, (tt, (tt, (tt, (tt, (tt, (tt, (tt, (tt, (tt, (tt, (tt, (tt, (tt, (tt, (tt, (tt, (tt, (tt, (tt, (tt, tt))))))))))))))))))))))))))))))
+              d71
 
           d73 : Typed.Typed 𝓤 H A 𝓣 E G9 b51 Δ0 at73
           d73 = Typed.s-seq 𝓤 H A W 𝓣 E G9 G10 b3 b50 Δ0 (Typed.ask s8) at72 (Relend.t-sl-aggregate 𝓤 H A W E (Referent.rtF (Referent.fInt Syntax.w16)) 𝓣 (Relend.asMut (Referent.rtF (Referent.fInt
               Syntax.w16))) G9 13 14 5 (Syntax.tyRef Syntax.erased Syntax.mut (Syntax.tyInt Syntax.w16)) (Syntax.tyRef Syntax.erased Syntax.mut (Syntax.tyInt Syntax.w16)) (λ x. x) (Scalar.oFld 3 (List._∷_
               (Syntax.field 1) List.[]) (Syntax.tyInt Syntax.w64) 8 λ v. Shared.lenV (v .0)) (Reads.as-is 𝓤 H A (Relend.msptr (Referent.rtF (Referent.fInt Syntax.w16)) (Syntax.tyRef Syntax.erased
-              Syntax.mut (Syntax.tyInt Syntax.w16)) 5)) (Reads.room-gone 𝓤 H A (Syntax.tyStruct (List._∷_ 38 (List._∷_ 91 (List._∷_ 93 List.[]))) (Syntax.tcons (Syntax.tyRef Syntax.erased Syntax.mut
-              (Syntax.tyInt Syntax.w16)) (Syntax.tcons (Syntax.tyInt Syntax.w64) Syntax.tnil)))) (
-                Relend.reads-owed-len 𝓤 H A W (Referent.rtF (Referent.fInt Syntax.w16)) (Syntax.tyRef (Syntax.named 2)
-                    Syntax.mut (Syntax.tyInt Syntax.w16)) 2 5 (Row.lease (κs .1 .1 .0) (qs .1 .1 .0)) 8 Path'.refl,
+              Syntax.mut (Syntax.tyInt Syntax.w16)) 5)) (Reads.room-gone 𝓤 H A y0) (
+                Relend.reads-owed-len 𝓤 H A W (Referent.rtF (Referent.fInt Syntax.w16)) (Syntax.tyRef (Syntax.named 2) Syntax.mut (Syntax.tyInt Syntax.w16)) 2 5 (Row.lease (κs .1 .1 .0) (qs .1 .1 .0)) 8
+                    Path'.refl,
                 Path'.refl,
               ) Path'.refl Path'.refl λ b o k. tt) d72
 
@@ -6205,64 +2832,16 @@ module _ (claims· : Claims) where
               Syntax.w16))) Path'.refl tt Path'.refl Path'.refl Path'.refl λ b o. tt) d73
 
           d75 : Typed.Typed 𝓤 H A 𝓣 E G7 b52 Δ0 at75
-          d75 = Typed.g-pre 𝓤 H A W 𝓣 E G7 G8 b52 Δ0 (λ Ψ. Ψ) at74 (Lifetime.g-begin 𝓤 H A W E G7 5 (
-            tt,
-            (
-              tt,
-              (
-                (tt, tt),
-                (
-                  tt,
-                  (
-                    tt,
-                    (
-                      tt,
-                      (
-                        tt,
-                        (
-                          tt,
-                          (
-                            tt,
-                            (
-                              tt,
-                              (
-                                tt,
-                                (
-                                  tt,
-                                  (
-                                    tt,
-                                    (
-                                      tt,
-                                      (
-                                        tt,
-                                        (
-                                          tt,
-                                          (tt, (tt, (tt, (tt, (tt, (tt, (tt, (tt, (tt, (tt, (tt, (tt, (tt, tt))))))))))))),
-                                        ),
-                                      ),
-                                    ),
-                                  ),
-                                ),
-                              ),
-                            ),
-                          ),
-                        ),
-                      ),
-                    ),
-                  ),
-                ),
-              ),
-            ),
-          )) d74
+          d75 = Typed.g-pre 𝓤 H A W 𝓣 E G7 G8 b52 Δ0 (λ Ψ. Ψ) at74 (Lifetime.g-begin 𝓤 H A W E G7 5
+              (tt, (tt, ((tt, tt), (tt, (tt, (tt, (tt, (tt, (tt, (tt, (tt, (tt, (tt, (tt, (tt, (tt, (tt, (tt, (tt, (tt, (tt, (tt, (tt, (tt, (tt, (tt, (tt, (tt, (tt, tt)))))))))))))))))))))))))))))) d74
 
           d76 : Typed.Typed 𝓤 H A 𝓣 E G6 b53 Δ0 at76
           d76 = Typed.s-seq 𝓤 H A W 𝓣 E G6 G7 b1 b52 Δ0 (Typed.ask s5) at75 (Relend.t-sl-aggregate 𝓤 H A W E (Referent.rtF (Referent.fInt Syntax.w8)) 𝓣 (Relend.asMut (Referent.rtF (Referent.fInt
               Syntax.w8))) G6 11 12 4 (Syntax.tyRef Syntax.erased Syntax.mut (Syntax.tyInt Syntax.w8)) (Syntax.tyRef Syntax.erased Syntax.mut (Syntax.tyInt Syntax.w8)) (λ x. x) (Scalar.oFld 2 (List._∷_
               (Syntax.field 1) List.[]) (Syntax.tyInt Syntax.w64) 8 λ v. Shared.lenV (v .0)) (Reads.as-is 𝓤 H A (Relend.msptr (Referent.rtF (Referent.fInt Syntax.w8)) (Syntax.tyRef Syntax.erased
-              Syntax.mut (Syntax.tyInt Syntax.w8)) 4)) (Reads.room-gone 𝓤 H A (Syntax.tyStruct (List._∷_ 38 (List._∷_ 91 (List._∷_ 93 List.[]))) (Syntax.tcons (Syntax.tyRef Syntax.erased Syntax.mut
-              (Syntax.tyInt Syntax.w8)) (Syntax.tcons (Syntax.tyInt Syntax.w64) Syntax.tnil)))) (
-                Relend.reads-owed-len 𝓤 H A W (Referent.rtF (Referent.fInt Syntax.w8)) (Syntax.tyRef (Syntax.named 1)
-                    Syntax.mut (Syntax.tyInt Syntax.w8)) 1 4 (Row.lease (κs .1 .0) (qs .1 .0)) 8 Path'.refl,
+              Syntax.mut (Syntax.tyInt Syntax.w8)) 4)) (Reads.room-gone 𝓤 H A y1) (
+                Relend.reads-owed-len 𝓤 H A W (Referent.rtF (Referent.fInt Syntax.w8)) (Syntax.tyRef (Syntax.named 1) Syntax.mut (Syntax.tyInt Syntax.w8)) 1 4 (Row.lease (κs .1 .0) (qs .1 .0)) 8
+                    Path'.refl,
                 Path'.refl,
               ) Path'.refl Path'.refl λ b o k. tt) d75
 
@@ -6273,58 +2852,8 @@ module _ (claims· : Claims) where
               Syntax.w8))) Path'.refl tt Path'.refl Path'.refl Path'.refl λ b o. tt) d76
 
           d78 : Typed.Typed 𝓤 H A 𝓣 E G4 b54 Δ0 at78
-          d78 = Typed.g-pre 𝓤 H A W 𝓣 E G4 G5 b54 Δ0 (λ Ψ. Ψ) at77 (Lifetime.g-begin 𝓤 H A W E G4 4 (
-            tt,
-            (
-              tt,
-              (
-                tt,
-                (
-                  tt,
-                  (
-                    tt,
-                    (
-                      tt,
-                      (
-                        tt,
-                        (
-                          tt,
-                          (
-                            tt,
-                            (
-                              tt,
-                              (
-                                tt,
-                                (
-                                  tt,
-                                  (
-                                    tt,
-                                    (
-                                      tt,
-                                      (
-                                        tt,
-                                        (
-                                          tt,
-                                          (
-                                            tt,
-                                            (tt, (tt, (tt, (tt, (tt, (tt, (tt, (tt, (tt, (tt, (tt, (tt, tt)))))))))))),
-                                          ),
-                                        ),
-                                      ),
-                                    ),
-                                  ),
-                                ),
-                              ),
-                            ),
-                          ),
-                        ),
-                      ),
-                    ),
-                  ),
-                ),
-              ),
-            ),
-          )) d77
+          d78 = Typed.g-pre 𝓤 H A W 𝓣 E G4 G5 b54 Δ0 (λ Ψ. Ψ) at77 (Lifetime.g-begin 𝓤 H A W E G4 4
+              (tt, (tt, (tt, (tt, (tt, (tt, (tt, (tt, (tt, (tt, (tt, (tt, (tt, (tt, (tt, (tt, (tt, (tt, (tt, (tt, (tt, (tt, (tt, (tt, (tt, (tt, (tt, (tt, (tt, tt)))))))))))))))))))))))))))))) d77
 
           d79 : Typed.Typed 𝓤 H A 𝓣 E G3 b54 Δ0 at79
           d79 = Typed.g-pre 𝓤 H A W 𝓣 E G3 G4 b54 Δ0 (Typed.give s2) at78 (Know.g-sl-known 𝓤 H A W (Referent.fInt Syntax.w16) E G3 3 2 (Syntax.tyRef (Syntax.named 2) Syntax.mut (Syntax.tyInt
@@ -6354,15 +2883,14 @@ module _ (claims· : Claims) where
             ty = Declared'.row Form.the-type;
             one = Path'.refl;
             val = Laws'6.val Form.the-type Laws'.the-laws;
-            tells = Laws'6.tells Form.the-type
-                Laws'.the-laws;
-            still = Laws'6.still Form.the-type Laws'.the-copy Exit.yes;
+            tells = Laws'6.tells Form.the-type Laws'.the-laws;
+            still = Laws'6.still Form.the-type
+                Laws'.the-copy Exit.yes;
             row = Rows.whole (Declared'.row Form.the-type);
             rd = λ x. x;
             mk = λ x. x;
           } λ M 𝓤 H A W. record {
-            copies =
-                Laws'6.copy Form.the-type Laws'.the-copy 𝓤 H A W;
+            copies = Laws'6.copy Form.the-type Laws'.the-copy 𝓤 H A W;
             lawful = Laws'6.lawful Form.the-type Laws'.the-laws 𝓤 H A W;
             makes = Laws'6.makes Form.the-type Laws'.the-plain 𝓤 H A;
             in-mem =
@@ -6385,8 +2913,8 @@ module _ (claims· : Claims) where
       W0 = λ κs args. (
         λ u. ⊥,
         tt,
-        λ u. Enter.Fixs κs 1 ps xs (dens κs args) (u .1) × Post· κs (dens κs args) (Function.resV r κs (u .0)) (Clauses.atExit (Kinds.endedOf 4 ps r) κs (dens κs args)
-            (Enter.lastsP κs 1 ps xs (dens κs args) (u .1))),
+        λ u. Enter.Fixs κs 1 ps xs (dens κs args) (u .1) × Post· κs (dens κs args) (Function.resV r κs (u .0)) (Clauses.atExit (Kinds.endedOf 4 ps r) κs (dens κs args) (Enter.lastsP κs 1 ps
+            xs (dens κs args) (u .1))),
       )
 
       pub record Start : Type 0 where
@@ -6482,36 +3010,17 @@ module _ (claims· : Claims) where
         After-write-walk·own = Called.Called ps·0 r·0 (claims· .1) T13 (
           record { pos = 1; ty = Syntax.tyRef (Syntax.named 0) Syntax.imm (Syntax.tyInt Syntax.w16); ref = λ x. x },
           (
-            record {
-              pos =
-                  12;
-              ty = Syntax.tyRef Syntax.erased Syntax.mut (Syntax.tyInt Syntax.w8);
-              ref = λ x. x;
-            },
+            record { pos = 12; ty = Syntax.tyRef Syntax.erased Syntax.mut (Syntax.tyInt Syntax.w8); ref = λ x. x },
             (
               Bool.bLit Bool'.false,
               (
-                record {
-                  pos = 14;
-                  ty = Syntax.tyRef Syntax.erased Syntax.mut (Syntax.tyInt
-                      Syntax.w16);
-                  ref = λ x. x;
-                },
-                (
-                  record { pos = 16; ty = Syntax.tyRef Syntax.erased Syntax.mut Element.behind; ref = λ x. x },
-                  (
-                    record { pos = 5; st = List.[]; d = 0; at = λ x. x },
-                    (
-                      Num.vAt 6
-                          λ x. x,
-                      tt,
-                    ),
-                  ),
-                ),
+                record { pos = 14; ty = Syntax.tyRef Syntax.erased Syntax.mut (Syntax.tyInt Syntax.w16); ref = λ x. x },
+                (record { pos = 16; ty = Syntax.tyRef Syntax.erased Syntax.mut Element.behind; ref = λ x. x }, (record { pos = 5; st = List.[]; d = 0; at = λ x. x }, (Num.vAt 6 λ x. x, tt))),
               ),
             ),
           ),
-        ) (m9 (before· .before) (before· .write-walk-arg3 .given))
+        ) (m9 (before·
+            .before) (before· .write-walk-arg3 .given))
 
       pub record After-write-walk : Type 0 where
         pub before : After-write-walk-arg3
@@ -6521,36 +3030,17 @@ module _ (claims· : Claims) where
       After-write-walk·gave = λ c. Called.given ps·0 r·0 (claims· .1) T13 (
         record { pos = 1; ty = Syntax.tyRef (Syntax.named 0) Syntax.imm (Syntax.tyInt Syntax.w16); ref = λ x. x },
         (
-          record {
-            pos =
-                12;
-            ty = Syntax.tyRef Syntax.erased Syntax.mut (Syntax.tyInt Syntax.w8);
-            ref = λ x. x;
-          },
+          record { pos = 12; ty = Syntax.tyRef Syntax.erased Syntax.mut (Syntax.tyInt Syntax.w8); ref = λ x. x },
           (
             Bool.bLit Bool'.false,
             (
-              record {
-                pos = 14;
-                ty = Syntax.tyRef Syntax.erased Syntax.mut (Syntax.tyInt
-                    Syntax.w16);
-                ref = λ x. x;
-              },
-              (
-                record { pos = 16; ty = Syntax.tyRef Syntax.erased Syntax.mut Element.behind; ref = λ x. x },
-                (
-                  record { pos = 5; st = List.[]; d = 0; at = λ x. x },
-                  (
-                    Num.vAt 6 λ
-                        x. x,
-                    tt,
-                  ),
-                ),
-              ),
+              record { pos = 14; ty = Syntax.tyRef Syntax.erased Syntax.mut (Syntax.tyInt Syntax.w16); ref = λ x. x },
+              (record { pos = 16; ty = Syntax.tyRef Syntax.erased Syntax.mut Element.behind; ref = λ x. x }, (record { pos = 5; st = List.[]; d = 0; at = λ x. x }, (Num.vAt 6 λ x. x, tt))),
             ),
           ),
         ),
-      ) (m9 (c .before .before) (c .before .write-walk-arg3 .given)) (c .write-walk)
+      ) (m9 (c .before
+          .before) (c .before .write-walk-arg3 .given)) (c .write-walk)
 
       abbrev W1 : (before : After-write-walk-arg3) → (given : s12 .gives (m9 (before .before) (before .write-walk-arg3 .given))) → Typed.Want O1
       W1 = λ before given. Typed.wantNext T15 O0 (at67 (W0 (before .before .before .before .before .before .before .κs) (before .before .before .before .before .before .before .args))) (W0 (before
@@ -6872,36 +3362,17 @@ module _ (claims· : Claims) where
         After-write-walk2·own = Called.Called ps·0 r·0 (claims· .1) T62 (
           record { pos = 1; ty = Syntax.tyRef (Syntax.named 0) Syntax.imm (Syntax.tyInt Syntax.w16); ref = λ x. x },
           (
-            record {
-              pos =
-                  24;
-              ty = Syntax.tyRef Syntax.erased Syntax.mut (Syntax.tyInt Syntax.w8);
-              ref = λ x. x;
-            },
+            record { pos = 24; ty = Syntax.tyRef Syntax.erased Syntax.mut (Syntax.tyInt Syntax.w8); ref = λ x. x },
             (
               Bool.bLit Bool'.true,
               (
-                record {
-                  pos = 26;
-                  ty = Syntax.tyRef Syntax.erased Syntax.mut (Syntax.tyInt
-                      Syntax.w16);
-                  ref = λ x. x;
-                },
-                (
-                  record { pos = 28; ty = Syntax.tyRef Syntax.erased Syntax.mut Element.behind; ref = λ x. x },
-                  (
-                    record { pos = 5; st = List.[]; d = 0; at = λ x. x },
-                    (
-                      Num.vAt 6
-                          λ x. x,
-                      tt,
-                    ),
-                  ),
-                ),
+                record { pos = 26; ty = Syntax.tyRef Syntax.erased Syntax.mut (Syntax.tyInt Syntax.w16); ref = λ x. x },
+                (record { pos = 28; ty = Syntax.tyRef Syntax.erased Syntax.mut Element.behind; ref = λ x. x }, (record { pos = 5; st = List.[]; d = 0; at = λ x. x }, (Num.vAt 6 λ x. x, tt))),
               ),
             ),
           ),
-        ) (m47 (before· .before) (before· .write-walk-arg6 .given))
+        ) (m47
+            (before· .before) (before· .write-walk-arg6 .given))
 
       pub record After-write-walk2 : Type 0 where
         pub before : After-write-walk-arg6
@@ -6911,36 +3382,17 @@ module _ (claims· : Claims) where
       After-write-walk2·gave = λ c. Called.given ps·0 r·0 (claims· .1) T62 (
         record { pos = 1; ty = Syntax.tyRef (Syntax.named 0) Syntax.imm (Syntax.tyInt Syntax.w16); ref = λ x. x },
         (
-          record {
-            pos
-                = 24;
-            ty = Syntax.tyRef Syntax.erased Syntax.mut (Syntax.tyInt Syntax.w8);
-            ref = λ x. x;
-          },
+          record { pos = 24; ty = Syntax.tyRef Syntax.erased Syntax.mut (Syntax.tyInt Syntax.w8); ref = λ x. x },
           (
             Bool.bLit Bool'.true,
             (
-              record {
-                pos = 26;
-                ty = Syntax.tyRef Syntax.erased Syntax.mut (Syntax.tyInt
-                    Syntax.w16);
-                ref = λ x. x;
-              },
-              (
-                record { pos = 28; ty = Syntax.tyRef Syntax.erased Syntax.mut Element.behind; ref = λ x. x },
-                (
-                  record { pos = 5; st = List.[]; d = 0; at = λ x. x },
-                  (
-                    Num.vAt 6 λ
-                        x. x,
-                    tt,
-                  ),
-                ),
-              ),
+              record { pos = 26; ty = Syntax.tyRef Syntax.erased Syntax.mut (Syntax.tyInt Syntax.w16); ref = λ x. x },
+              (record { pos = 28; ty = Syntax.tyRef Syntax.erased Syntax.mut Element.behind; ref = λ x. x }, (record { pos = 5; st = List.[]; d = 0; at = λ x. x }, (Num.vAt 6 λ x. x, tt))),
             ),
           ),
         ),
-      ) (m47 (c .before .before) (c .before .write-walk-arg6 .given)) (c .write-walk2)
+      ) (m47 (c
+          .before .before) (c .before .write-walk-arg6 .given)) (c .write-walk2)
 
       abbrev pub m49 : (before : After-write-walk-arg6) → (given : s59 .gives (m47 (before .before) (before .write-walk-arg6 .given))) → Typed.Mo T64
       m49 = λ before given. s60 (m48 before given)
@@ -7096,22 +3548,18 @@ module _ (claims· : Claims) where
           (
             Path'.refl,
             (
-              MutSlice.fix-len (Row.get 2 (T81 .locals) (m63 (c .before) (c .rs2 .given)) .ptr) (Row.get 2 (T81 .locals) (m63 (c .before) (c .rs2 .given)) .name) (Row.get 2
-                  (T81 .locals) (m63 (c .before) (c .rs2 .given)) .now) (dens (c .before .before .before .before .before .before .before .before .before .before .before .before .before .before .before .before
-                  .before .before .before .before .before .before .before .before .before .before .before .κs) (c .before .before .before .before .before .before .before .before .before .before .before .before
-                  .before .before .before .before .before .before .before .before .before .before .before .before .before .before .before .args) .1 .0 .now) (same-length-7 record {
-                    before = c .before;
-                    rs2 = c
-                        .rs2;
-                  }),
+              MutSlice.fix-len (Row.get 2 (T81 .locals) (m63 (c .before) (c .rs2 .given)) .ptr) (Row.get 2 (T81 .locals) (m63 (c .before) (c .rs2 .given)) .name) (Row.get 2 (T81 .locals) (m63 (c .before)
+                  (c .rs2 .given)) .now) (dens (c .before .before .before .before .before .before .before .before .before .before .before .before .before .before .before .before .before .before .before .before
+                  .before .before .before .before .before .before .before .κs) (c .before .before .before .before .before .before .before .before .before .before .before .before .before .before .before .before
+                  .before .before .before .before .before .before .before .before .before .before .before .args) .1 .0 .now) (same-length-7 record { before = c .before; rs2 = c .rs2 }),
               (
-                MutSlice.fix-len (Row.get 3 (T81 .locals) (m63 (c .before) (c .rs2 .given)) .ptr) (Row.get 3 (T81 .locals) (m63 (c .before) (c .rs2 .given)) .name) (Row.get 3 (T81 .locals) (m63 (c
-                    .before) (c .rs2 .given)) .now) (dens (c .before .before .before .before .before .before .before .before .before .before .before .before .before .before .before .before .before .before .before
-                    .before .before .before .before .before .before .before .before .κs) (c .before .before .before .before .before .before .before .before .before .before .before .before .before .before .before
-                    .before .before .before .before .before .before .before .before .before .before .before .before .args) .1 .1 .0 .now) (same-length-8 record { before = c .before; rs2 = c .rs2 }),
+                MutSlice.fix-len (Row.get 3 (T81 .locals) (m63 (c .before) (c .rs2 .given)) .ptr) (Row.get 3 (T81 .locals) (m63 (c .before) (c .rs2 .given)) .name) (Row.get 3 (T81 .locals) (m63 (c .before)
+                    (c .rs2 .given)) .now) (dens (c .before .before .before .before .before .before .before .before .before .before .before .before .before .before .before .before .before .before .before .before
+                    .before .before .before .before .before .before .before .κs) (c .before .before .before .before .before .before .before .before .before .before .before .before .before .before .before .before
+                    .before .before .before .before .before .before .before .before .before .before .before .args) .1 .1 .0 .now) (same-length-8 record { before = c .before; rs2 = c .rs2 }),
                 (
-                  MutSlice.fix-len (Row.get 4 (T81 .locals) (m63 (c .before) (c .rs2 .given)) .ptr) (Row.get 4 (T81 .locals) (m63 (c .before) (c .rs2 .given)) .name) (Row.get 4 (T81 .locals) (m63 (c .before) (c
-                      .rs2 .given)) .now) (dens (c .before .before .before .before .before .before .before .before .before .before .before .before .before .before .before .before .before .before .before .before
+                  MutSlice.fix-len (Row.get 4 (T81 .locals) (m63 (c .before) (c .rs2 .given)) .ptr) (Row.get 4 (T81 .locals) (m63 (c .before) (c .rs2 .given)) .name) (Row.get 4 (T81 .locals) (m63 (c .before)
+                      (c .rs2 .given)) .now) (dens (c .before .before .before .before .before .before .before .before .before .before .before .before .before .before .before .before .before .before .before .before
                       .before .before .before .before .before .before .before .κs) (c .before .before .before .before .before .before .before .before .before .before .before .before .before .before .before .before
                       .before .before .before .before .before .before .before .before .before .before .before .args) .1 .1 .1 .0 .now) (same-length-9 record { before = c .before; rs2 = c .rs2 }),
                   (tt, (tt, tt)),
@@ -7128,23 +3576,20 @@ module _ (claims· : Claims) where
           (
             Path'.refl,
             (
-              MutSlice.fix-len (Row.get 2 (T81 .locals) (m60 (c .before) (c .known-told .given)) .ptr) (Row.get 2 (T81 .locals) (m60 (c .before) (c .known-told .given)) .name)
-                  (Row.get 2 (T81 .locals) (m60 (c .before) (c .known-told .given)) .now) (dens (c .before .before .before .before .before .before .before .before .before .before .before .before .before .before
-                  .before .κs) (c .before .before .before .before .before .before .before .before .before .before .before .before .before .before .before .args) .1 .0 .now) (same-length-4 record {
-                    before = c
-                        .before;
-                    known-told = c .known-told;
-                  }),
+              MutSlice.fix-len (Row.get 2 (T81 .locals) (m60 (c .before) (c .known-told .given)) .ptr) (Row.get 2 (T81 .locals) (m60 (c .before) (c .known-told .given)) .name) (Row.get 2 (T81 .locals) (m60
+                  (c .before) (c .known-told .given)) .now) (dens (c .before .before .before .before .before .before .before .before .before .before .before .before .before .before .before .κs) (c .before
+                  .before .before .before .before .before .before .before .before .before .before .before .before .before .before .args) .1 .0 .now) (same-length-4 record
+                  { before = c .before; known-told = c .known-told }),
               (
-                MutSlice.fix-len (Row.get 3 (T81 .locals) (m60 (c .before) (c .known-told .given)) .ptr) (Row.get 3 (T81 .locals) (m60 (c .before) (c .known-told
-                    .given)) .name) (Row.get 3 (T81 .locals) (m60 (c .before) (c .known-told .given)) .now) (dens (c .before .before .before .before .before .before .before .before .before .before .before .before
-                    .before .before .before .κs) (c .before .before .before .before .before .before .before .before .before .before .before .before .before .before .before .args) .1 .1 .0 .now) (same-length-5
-                    record { before = c .before; known-told = c .known-told }),
+                MutSlice.fix-len (Row.get 3 (T81 .locals) (m60 (c .before) (c .known-told .given)) .ptr) (Row.get 3 (T81 .locals) (m60 (c .before) (c .known-told .given)) .name) (Row.get 3 (T81 .locals) (m60
+                    (c .before) (c .known-told .given)) .now) (dens (c .before .before .before .before .before .before .before .before .before .before .before .before .before .before .before .κs) (c .before
+                    .before .before .before .before .before .before .before .before .before .before .before .before .before .before .args) .1 .1 .0 .now) (same-length-5 record
+                    { before = c .before; known-told = c .known-told }),
                 (
-                  MutSlice.fix-len (Row.get 4 (T81 .locals) (m60 (c .before) (c .known-told .given)) .ptr) (Row.get 4 (T81 .locals) (m60 (c .before)
-                      (c .known-told .given)) .name) (Row.get 4 (T81 .locals) (m60 (c .before) (c .known-told .given)) .now) (dens (c .before .before .before .before .before .before .before .before .before .before
-                      .before .before .before .before .before .κs) (c .before .before .before .before .before .before .before .before .before .before .before .before .before .before .before .args) .1 .1 .1 .0 .now)
-                      (same-length-6 record { before = c .before; known-told = c .known-told }),
+                  MutSlice.fix-len (Row.get 4 (T81 .locals) (m60 (c .before) (c .known-told .given)) .ptr) (Row.get 4 (T81 .locals) (m60 (c .before) (c .known-told .given)) .name) (Row.get 4 (T81 .locals) (m60
+                      (c .before) (c .known-told .given)) .now) (dens (c .before .before .before .before .before .before .before .before .before .before .before .before .before .before .before .κs) (c .before
+                      .before .before .before .before .before .before .before .before .before .before .before .before .before .before .args) .1 .1 .1 .0 .now) (same-length-6 record
+                      { before = c .before; known-told = c .known-told }),
                   (tt, (tt, tt)),
                 ),
               ),
@@ -7165,22 +3610,11 @@ module _ (claims· : Claims) where
               λ g'4. lay7 record {
                 before = record {
                   before = record {
-                    before = record {
-                      before = record {
-                        before = record {
-                          before = c .before;
-                          write-walk2 = c .write-walk2;
-                        };
-                        out2 = record { given = g };
-                      };
-                      slice-known5 = record { given = g' };
-                    };
-                    lines2 = record { given = g'' };
+                    before = record { before = record { before = record { before = c .before; write-walk2 = c .write-walk2 }; out2 = record { given = g } }; slice-known5 = record { given = g' } };
+                    lines2 =
+                        record { given = g'' };
                   };
-                  slice-known6 = record {
-                    given =
-                        g'3;
-                  };
+                  slice-known6 = record { given = g'3 };
                 };
                 rs2 = record { given = g'4 };
               },
@@ -7198,67 +3632,28 @@ module _ (claims· : Claims) where
               Path'.refl,
               (
                 write-walk-requires-2 record {
-                  before = record {
-                    before = record {
-                      before = record {
-                        before = c .before;
-                        if1 = c .if1;
-                      };
-                      write-walk-arg4 = record { given = g };
-                    };
-                    write-walk-arg5 = record { given = g' };
-                  };
+                  before = record { before = record { before = record { before = c .before; if1 = c .if1 }; write-walk-arg4 = record { given = g } }; write-walk-arg5 = record { given = g' } };
                   write-walk-arg6 = record { given = g'' };
                 },
                 λ g'3. lay5 record {
                   before = record {
-                    before = record {
-                      before = record { before = record { before = c .before; if1 = c .if1 }; write-walk-arg4 = record { given = g } };
-                      write-walk-arg5 = record { given = g' };
-                    };
-                    write-walk-arg6 = record {
-                      given
-                          = g'';
-                    };
+                    before = record { before = record { before = record { before = c .before; if1 = c .if1 }; write-walk-arg4 = record { given = g } }; write-walk-arg5 = record { given = g' } };
+                    write-walk-arg6 = record { given = g'' };
                   };
                   write-walk2 = Called.called ps·0 r·0 (claims· .1) T62 (
                     record { pos = 1; ty = Syntax.tyRef (Syntax.named 0) Syntax.imm (Syntax.tyInt Syntax.w16); ref = λ x. x },
                     (
-                      record {
-                        pos =
-                            24;
-                        ty = Syntax.tyRef Syntax.erased Syntax.mut (Syntax.tyInt Syntax.w8);
-                        ref = λ x. x;
-                      },
+                      record { pos = 24; ty = Syntax.tyRef Syntax.erased Syntax.mut (Syntax.tyInt Syntax.w8); ref = λ x. x },
                       (
                         Bool.bLit Bool'.true,
                         (
-                          record {
-                            pos = 26;
-                            ty = Syntax.tyRef Syntax.erased Syntax.mut (Syntax.tyInt
-                                Syntax.w16);
-                            ref = λ x. x;
-                          },
-                          (
-                            record { pos = 28; ty = Syntax.tyRef Syntax.erased Syntax.mut Element.behind; ref = λ x. x },
-                            (
-                              record { pos = 5; st = List.[]; d = 0; at = λ x. x },
-                              (
-                                Num.vAt
-                                    6 λ x. x,
-                                tt,
-                              ),
-                            ),
-                          ),
+                          record { pos = 26; ty = Syntax.tyRef Syntax.erased Syntax.mut (Syntax.tyInt Syntax.w16); ref = λ x. x },
+                          (record { pos = 28; ty = Syntax.tyRef Syntax.erased Syntax.mut Element.behind; ref = λ x. x }, (record { pos = 5; st = List.[]; d = 0; at = λ x. x }, (Num.vAt 6 λ x. x, tt))),
                         ),
                       ),
                     ),
-                  ) (m47 record {
-                    before = record { before = record { before = c .before; if1 = c .if1 }; write-walk-arg4 = record { given = g } };
-                    write-walk-arg5 = record {
-                      given = g';
-                    };
-                  } g'') g'3;
+                  ) (m47 record
+                      { before = record { before = record { before = c .before; if1 = c .if1 }; write-walk-arg4 = record { given = g } }; write-walk-arg5 = record { given = g' } } g'') g'3;
                 },
               ),
             ),
@@ -7272,29 +3667,23 @@ module _ (claims· : Claims) where
             (
               Path'.refl,
               (
-                MutSlice.fix-len (Row.get 2 (T52 .locals) (m40 record { before = c .before; is-short = c .is-short }) .ptr) (Row.get 2 (T52 .locals) (m40 record {
-                  before = c .before;
-                  is-short = c .is-short;
-                }) .name) (Row.get 2 (T52 .locals) (m40 record { before = c .before; is-short = c .is-short }) .now) (dens (c .before .before .before .before
+                MutSlice.fix-len (Row.get 2 (T52 .locals) (m40 record { before = c .before; is-short = c .is-short }) .ptr) (Row.get 2 (T52 .locals) (m40 record
+                    { before = c .before; is-short = c .is-short }) .name) (Row.get 2 (T52 .locals) (m40 record { before = c .before; is-short = c .is-short }) .now) (dens (c .before .before .before .before
                     .before .before .before .before .before .before .before .before .before .before .before .before .before .κs) (c .before .before .before .before .before .before .before .before .before .before
-                    .before .before .before .before .before .before .before .args) .1 .0 .now) (same-length record {
-                      before = record { before = c .before; is-short = c .is-short };
-                      if1 = record { taken = taken };
-                    }),
+                    .before .before .before .before .before .before .before .args) .1 .0 .now) (same-length record
+                    { before = record { before = c .before; is-short = c .is-short }; if1 = record { taken = taken } }),
                 (
-                  MutSlice.fix-len (Row.get 3 (T52 .locals) (m40 record { before = c .before; is-short = c .is-short }) .ptr) (Row.get 3 (T52 .locals) (m40 record {
-                    before = c .before;
-                    is-short = c
-                        .is-short;
-                  }) .name) (Row.get 3 (T52 .locals) (m40 record { before = c .before; is-short = c .is-short }) .now) (dens (c .before .before .before .before .before .before .before .before
-                      .before .before .before .before .before .before .before .before .before .κs) (c .before .before .before .before .before .before .before .before .before .before .before .before .before .before
-                      .before .before .before .args) .1 .1 .0 .now) (same-length-2 record { before = record { before = c .before; is-short = c .is-short }; if1 = record { taken = taken } }),
+                  MutSlice.fix-len (Row.get 3 (T52 .locals) (m40 record { before = c .before; is-short = c .is-short }) .ptr) (Row.get 3 (T52 .locals) (m40 record
+                      { before = c .before; is-short = c .is-short }) .name) (Row.get 3 (T52 .locals) (m40 record { before = c .before; is-short = c .is-short }) .now) (dens (c .before .before .before .before
+                      .before .before .before .before .before .before .before .before .before .before .before .before .before .κs) (c .before .before .before .before .before .before .before .before .before .before
+                      .before .before .before .before .before .before .before .args) .1 .1 .0 .now) (same-length-2 record
+                      { before = record { before = c .before; is-short = c .is-short }; if1 = record { taken = taken } }),
                   (
-                    MutSlice.fix-len
-                        (Row.get 4 (T52 .locals) (m40 record { before = c .before; is-short = c .is-short }) .ptr) (Row.get 4 (T52 .locals) (m40 record { before = c .before; is-short = c .is-short }) .name)
-                        (Row.get 4 (T52 .locals) (m40 record { before = c .before; is-short = c .is-short }) .now) (dens (c .before .before .before .before .before .before .before .before .before .before .before
-                        .before .before .before .before .before .before .κs) (c .before .before .before .before .before .before .before .before .before .before .before .before .before .before .before .before .before
-                        .args) .1 .1 .1 .0 .now) (same-length-3 record { before = record { before = c .before; is-short = c .is-short }; if1 = record { taken = taken } }),
+                    MutSlice.fix-len (Row.get 4 (T52 .locals) (m40 record { before = c .before; is-short = c .is-short }) .ptr) (Row.get 4 (T52 .locals) (m40 record
+                        { before = c .before; is-short = c .is-short }) .name) (Row.get 4 (T52 .locals) (m40 record { before = c .before; is-short = c .is-short }) .now) (dens (c .before .before .before .before
+                        .before .before .before .before .before .before .before .before .before .before .before .before .before .κs) (c .before .before .before .before .before .before .before .before .before .before
+                        .before .before .before .before .before .before .before .args) .1 .1 .1 .0 .now) (same-length-3 record
+                        { before = record { before = c .before; is-short = c .is-short }; if1 = record { taken = taken } }),
                     (tt, (tt, tt)),
                   ),
                 ),
@@ -7303,10 +3692,8 @@ module _ (claims· : Claims) where
             returns record
                 { before = record { before = c .before; is-short = c .is-short }; if1 = record { taken = taken } },
           ),
-          λ left. lay4 record {
-            before = record { before = c .before; is-short = c .is-short };
-            if1 = record { left = left };
-          },
+          λ left. lay4 record
+              { before = record { before = c .before; is-short = c .is-short }; if1 = record { left = left } },
         )
 
         lay2 : (c : After-bytes-for) → at46 (W1 (c .before .before .before .before .before .before .before .before .before .before) (After-write-walk·gave (c .before .before .before .before .before
@@ -7315,8 +3702,8 @@ module _ (claims· : Claims) where
           is-short-requires record { before = c .before; bytes-for = c .bytes-for },
           λ g. lay3 record {
             before = record { before = c .before; bytes-for = c .bytes-for };
-            is-short =
-                Called.called ps·2 r·2 (claims· .5) T42 (Num.vAt 20 λ x. x, (Num.vAt 10 λ x. x, tt)) (m31 (c .before) (After-bytes-for·gave c)) g;
+            is-short = Called.called ps·2 r·2 (claims· .5) T42 (Num.vAt 20 λ x. x, (Num.vAt 10 λ x. x, tt)) (m31 (c .before)
+                (After-bytes-for·gave c)) g;
           },
         )
 
@@ -7334,12 +3721,9 @@ module _ (claims· : Claims) where
                     before = record {
                       before = record {
                         before = record {
-                          before =
-                              record { before = record { before = record { before = c .before; write-walk = c .write-walk }; out = record { given = g } }; slice-known3 = record { given = g' } };
-                          lines = record {
-                            given =
-                                g'';
-                          };
+                          before = record { before = record { before = record { before = c .before; write-walk = c .write-walk }; out = record { given = g } }; slice-known3 = record { given = g' } };
+                          lines = record
+                              { given = g'' };
                         };
                         slice-known4 = record { given = g'3 };
                       };
@@ -7350,26 +3734,23 @@ module _ (claims· : Claims) where
                   λ g'5. λ g'6. lay6 record {
                     before = record {
                       before = record {
-                        before =
-                            record {
-                              before = record {
-                                before = record {
-                                  before = record {
-                                    before = record { before = record { before = c .before; write-walk = c .write-walk }; out = record { given = g } };
-                                    slice-known3 = record { given = g' };
-                                  };
-                                  lines = record { given = g'' };
-                                };
-                                slice-known4 = record { given = g'3 };
-                              };
-                              rs = record { given = g'4 };
+                        before = record {
+                          before = record {
+                            before = record {
+                              before = record { before = record { before = record { before = c .before; write-walk = c .write-walk }; out = record { given = g } }; slice-known3 = record { given = g' } };
+                              lines =
+                                  record { given = g'' };
                             };
+                            slice-known4 = record { given = g'3 };
+                          };
+                          rs = record { given = g'4 };
+                        };
                         match = record { keys1 = k };
                       };
-                      measured
-                          = record { given = g'5 };
+                      measured = record { given = g'5 };
                     };
-                    known-told = record { given = g'6 };
+                    known-told = record
+                        { given = g'6 };
                   },
                 ),
                 (
@@ -7378,12 +3759,9 @@ module _ (claims· : Claims) where
                       before = record {
                         before = record {
                           before = record {
-                            before = record {
-                              before =
-                                  record { before = record { before = c .before; write-walk = c .write-walk }; out = record { given = g } };
-                              slice-known3 = record { given = g' };
-                            };
-                            lines = record { given = g'' };
+                            before = record { before = record { before = record { before = c .before; write-walk = c .write-walk }; out = record { given = g } }; slice-known3 = record { given = g' } };
+                            lines =
+                                record { given = g'' };
                           };
                           slice-known4 = record { given = g'3 };
                         };
@@ -7398,11 +3776,9 @@ module _ (claims· : Claims) where
                             before = record {
                               before = record {
                                 before = record {
-                                  before = record {
-                                    before = record { before = record { before = c .before; write-walk = c .write-walk }; out = record { given = g } };
-                                    slice-known3 = record { given = g' };
-                                  };
-                                  lines = record { given = g'' };
+                                  before = record { before = record { before = record { before = c .before; write-walk = c .write-walk }; out = record { given = g } }; slice-known3 = record { given = g' } };
+                                  lines =
+                                      record { given = g'' };
                                 };
                                 slice-known4 = record { given = g'3 };
                               };
@@ -7410,10 +3786,10 @@ module _ (claims· : Claims) where
                             };
                             match = record { keys2 = k };
                           };
-                          measured2
-                              = record { given = g'7 };
+                          measured2 = record { given = g'7 };
                         };
-                        known-told2 = record { given = g'8 };
+                        known-told2 =
+                            record { given = g'8 };
                       },
                       λ g'9. lay2 record {
                         before = record {
@@ -7421,12 +3797,11 @@ module _ (claims· : Claims) where
                             before = record {
                               before = record {
                                 before = record {
-                                  before =
-                                      record {
-                                        before = record { before = record { before = record { before = c .before; write-walk = c .write-walk }; out = record { given = g } }; slice-known3 = record { given = g' } };
-                                        lines
-                                            = record { given = g'' };
-                                      };
+                                  before = record {
+                                    before = record { before = record { before = record { before = c .before; write-walk = c .write-walk }; out = record { given = g } }; slice-known3 = record { given = g' } };
+                                    lines =
+                                        record { given = g'' };
+                                  };
                                   slice-known4 = record { given = g'3 };
                                 };
                                 rs = record { given = g'4 };
@@ -7443,12 +3818,9 @@ module _ (claims· : Claims) where
                             before = record {
                               before = record {
                                 before = record {
-                                  before = record {
-                                    before = record { before = record { before = c .before; write-walk = c .write-walk }; out = record { given = g } };
-                                    slice-known3 =
-                                        record { given = g' };
-                                  };
-                                  lines = record { given = g'' };
+                                  before = record { before = record { before = record { before = c .before; write-walk = c .write-walk }; out = record { given = g } }; slice-known3 = record { given = g' } };
+                                  lines =
+                                      record { given = g'' };
                                 };
                                 slice-known4 = record { given = g'3 };
                               };
@@ -7456,49 +3828,24 @@ module _ (claims· : Claims) where
                             };
                             match = record { keys2 = k };
                           };
-                          measured2 = record {
-                            given = g'7;
-                          };
+                          measured2 = record { given = g'7 };
                         } g'8) g'9;
                       },
                     ),
                   ),
-                  Match.each-below 2 (λ j. (Unit {0} × (Run.OneOf (List._∷_ 1 List.[]) j → ⊥)) × (Run.OneOf (List._∷_ 0 List.[]) j → ⊥) → ⊥) (
-                    λ n. n .0 .1 Path'.refl,
-                    (
-                      λ n. n
-                          .1 Path'.refl,
-                      tt,
-                    ),
-                  ) (Declared.tagOf Put.the-type (Row.get 7 (T25 .locals) (m15 record {
-                    before = record {
-                      before = record {
-                        before = record {
-                          before = record {
-                            before = c .before;
-                            write-walk =
-                                c .write-walk;
-                          };
-                          out = record { given = g };
-                        };
-                        slice-known3 = record { given = g' };
-                      };
-                      lines = record { given = g'' };
-                    };
-                    slice-known4 = record { given = g'3 };
-                  } g'4))) (Match.tag-small
+                  Match.each-below 2 (λ j. (Unit {0} × (Run.OneOf (List._∷_ 1 List.[]) j → ⊥)) × (Run.OneOf (List._∷_ 0 List.[]) j → ⊥) → ⊥) (λ n. n .0 .1 Path'.refl, (λ n. n .1 Path'.refl, tt)) (Declared.tagOf
                       Put.the-type (Row.get 7 (T25 .locals) (m15 record {
                         before = record {
-                          before = record {
-                            before = record {
-                              before = record { before = c .before; write-walk = c .write-walk };
-                              out = record {
-                                given = g;
-                              };
-                            };
-                            slice-known3 = record { given = g' };
-                          };
-                          lines = record { given = g'' };
+                          before = record { before = record { before = record { before = c .before; write-walk = c .write-walk }; out = record { given = g } }; slice-known3 = record { given = g' } };
+                          lines = record
+                              { given = g'' };
+                        };
+                        slice-known4 = record { given = g'3 };
+                      } g'4))) (Match.tag-small Put.the-type (Row.get 7 (T25 .locals) (m15 record {
+                        before = record {
+                          before = record { before = record { before = record { before = c .before; write-walk = c .write-walk }; out = record { given = g } }; slice-known3 = record { given = g' } };
+                          lines = record
+                              { given = g'' };
                         };
                         slice-known4 = record { given = g'3 };
                       } g'4))),
@@ -7519,14 +3866,10 @@ module _ (claims· : Claims) where
                 write-walk-requires record {
                   before = record {
                     before = record {
-                      before = record {
-                        before =
-                            record { before = record { before = c; shared-slice-known = record { given = g } }; slice-known = record { given = g' } };
-                        slice-known2 = record { given = g'' };
-                      };
-                      write-walk-arg = record {
-                        given = g'3;
-                      };
+                      before = record
+                          { before = record { before = record { before = c; shared-slice-known = record { given = g } }; slice-known = record { given = g' } }; slice-known2 = record { given = g'' } };
+                      write-walk-arg
+                          = record { given = g'3 };
                     };
                     write-walk-arg2 = record { given = g'4 };
                   };
@@ -7536,9 +3879,10 @@ module _ (claims· : Claims) where
                   before = record {
                     before = record {
                       before = record {
-                        before =
-                            record { before = record { before = record { before = c; shared-slice-known = record { given = g } }; slice-known = record { given = g' } }; slice-known2 = record { given = g'' } };
-                        write-walk-arg = record { given = g'3 };
+                        before = record
+                            { before = record { before = record { before = c; shared-slice-known = record { given = g } }; slice-known = record { given = g' } }; slice-known2 = record { given = g'' } };
+                        write-walk-arg
+                            = record { given = g'3 };
                       };
                       write-walk-arg2 = record { given = g'4 };
                     };
@@ -7547,40 +3891,22 @@ module _ (claims· : Claims) where
                   write-walk = Called.called ps·0 r·0 (claims· .1) T13 (
                     record { pos = 1; ty = Syntax.tyRef (Syntax.named 0) Syntax.imm (Syntax.tyInt Syntax.w16); ref = λ x. x },
                     (
-                      record {
-                        pos = 12;
-                        ty = Syntax.tyRef Syntax.erased Syntax.mut (Syntax.tyInt
-                            Syntax.w8);
-                        ref = λ x. x;
-                      },
+                      record { pos = 12; ty = Syntax.tyRef Syntax.erased Syntax.mut (Syntax.tyInt Syntax.w8); ref = λ x. x },
                       (
                         Bool.bLit Bool'.false,
                         (
                           record { pos = 14; ty = Syntax.tyRef Syntax.erased Syntax.mut (Syntax.tyInt Syntax.w16); ref = λ x. x },
-                          (
-                            record {
-                              pos = 16;
-                              ty =
-                                  Syntax.tyRef Syntax.erased Syntax.mut Element.behind;
-                              ref = λ x. x;
-                            },
-                            (record { pos = 5; st = List.[]; d = 0; at = λ x. x }, (Num.vAt 6 λ x. x, tt)),
-                          ),
+                          (record { pos = 16; ty = Syntax.tyRef Syntax.erased Syntax.mut Element.behind; ref = λ x. x }, (record { pos = 5; st = List.[]; d = 0; at = λ x. x }, (Num.vAt 6 λ x. x, tt))),
                         ),
                       ),
                     ),
                   ) (m9 record {
-                    before =
-                        record {
-                          before = record {
-                            before = record { before = record { before = c; shared-slice-known = record { given = g } }; slice-known = record { given = g' } };
-                            slice-known2 = record {
-                              given =
-                                  g'';
-                            };
-                          };
-                          write-walk-arg = record { given = g'3 };
-                        };
+                    before = record {
+                      before = record
+                          { before = record { before = record { before = c; shared-slice-known = record { given = g } }; slice-known = record { given = g' } }; slice-known2 = record { given = g'' } };
+                      write-walk-arg
+                          = record { given = g'3 };
+                    };
                     write-walk-arg2 = record { given = g'4 };
                   } g'5) g'6;
                 },
@@ -7594,16 +3920,12 @@ module _ (claims· : Claims) where
               qs a)
           asked = λ a good pre bs. laid record {
             κs = κs;
-            args = record {
-              samples = a .0;
-              out = a .1 .0;
-              lines = a .1 .1 .0;
-              rs = a .1 .1 .1 .0;
-              form = a .1 .1 .1 .1 .0;
-              count = a .1 .1 .1 .1 .1 .0;
-            };
+            args = record { samples = a .0; out = a .1 .0; lines = a .1 .1 .0; rs = a .1 .1 .1 .0; form = a .1 .1 .1 .1 .0; count = a .1 .1 .1 .1 .1 .0 };
             good = good;
-            fits = record { count = record { fits = good .1 .1 .1 .1 .1 .0 .1 } };
+            fits = record {
+              count
+                  = record { fits = good .1 .1 .1 .1 .1 .0 .1 };
+            };
             pre = pre;
           }
 
