@@ -3,9 +3,7 @@ use mathlib.Core.List.{List, [], _∷_}
 use mathlib.Core.Path.{_≡_}
 use Prim.Native.Nat.{ℕ}
 use lib.ListN.{length}
-use Rattle.stream.specs.Refusals.{numberOf}
-use Rattle.stream.specs.declared.Refusal.{Refusal}
-use Rattle.stream.specs.declared.Refusal.the-variants.{ShortHeader, BadHeader, ShortSizes, ShortBases, NoBlock, WrongSize, OutsideImage, Lossy, WrongCount, ShortScratch, AboveLargest, NotPredicted, ShortOutput, Truncated, NotTight}
+use Rattle.stream.specs.Refusals.{refusalWords, noRefusal}
 use Rattle.region.specs.declared.Rect.{Rect}
 use Rattle.begin.specs.Beginnings.{tightBegins, writingBegins}
 use Rattle.begin.specs.declared.Beginning.{Beginning}
@@ -17,32 +15,6 @@ use Rattle.block.specs.declared.Decoded.{Decoded}
 use Rattle.block.specs.declared.Written.{Written}
 use Rattle.block.specs.declared.Written.the-variants as Write
 use Rattle.block.specs.declared.Decoded.the-variants.{Done, Refused}
-
--- the block, the line and the index of a sample that a refusal names, 0 where it names none
-abbrev pub namedBy : Refusal → List ℕ
-namedBy ShortHeader = 0 ∷ 0 ∷ 0 ∷ []
-namedBy BadHeader = 0 ∷ 0 ∷ 0 ∷ []
-namedBy ShortSizes = 0 ∷ 0 ∷ 0 ∷ []
-namedBy (ShortBases block) = block ∷ 0 ∷ 0 ∷ []
-namedBy NoBlock = 0 ∷ 0 ∷ 0 ∷ []
-namedBy WrongSize = 0 ∷ 0 ∷ 0 ∷ []
-namedBy OutsideImage = 0 ∷ 0 ∷ 0 ∷ []
-namedBy Lossy = 0 ∷ 0 ∷ 0 ∷ []
-namedBy WrongCount = 0 ∷ 0 ∷ 0 ∷ []
-namedBy ShortScratch = 0 ∷ 0 ∷ 0 ∷ []
-namedBy (AboveLargest index) = 0 ∷ 0 ∷ index ∷ []
-namedBy (NotPredicted index) = 0 ∷ 0 ∷ index ∷ []
-namedBy ShortOutput = 0 ∷ 0 ∷ 0 ∷ []
-namedBy (Truncated block line) = block ∷ line ∷ 0 ∷ []
-namedBy (NotTight line) = 0 ∷ line ∷ 0 ∷ []
-
--- the refusal's number, and what it names
-abbrev pub refusalWords : Refusal → List ℕ
-refusalWords r = numberOf r ∷ namedBy r
-
--- all 0 where nothing is refused
-abbrev pub noRefusal : List ℕ
-noRefusal = 0 ∷ 0 ∷ 0 ∷ 0 ∷ []
 
 abbrev pub answerWords : Decoded → List ℕ
 answerWords Done = noRefusal

@@ -4,7 +4,7 @@ ghost use lib.ListN.{length};
 ghost use Rattle.region.specs.declared.Rect.{Rect};
 ghost use Rattle.begin.specs.Beginnings.{regionBegins, wholeOf, imageBegins};
 ghost use Rattle.block.specs.Lent.{Buffers, Scratch, Outputs};
-ghost use Rattle.block.specs.Words.{refusalWords, answerWords, Told, ToldTight, writtenWords, writtenRefusal, ToldWritten};
+ghost use Rattle.block.specs.Words.{answerWords, Told, ToldTight, writtenWords, writtenRefusal, ToldWritten};
 use crate::Decoded;
 use crate::Written;
 use crate::decoding::decode;
@@ -13,30 +13,7 @@ use crate::tight::read_tight;
 use crate::writer::write_block;
 use region::Rect;
 use statistics::Record;
-use stream::Refusal;
-
-// The number of a refusal, and the block, the line and the index that it names, 0 where it names none.
-pub fn refusal_words(r: Refusal) -> [usize; 4]
-    ensures { λ w. ⌜ w ≡ refusalWords r ⌝ }
-{
-    match r {
-        Refusal::ShortHeader => [1, 0, 0, 0],
-        Refusal::BadHeader => [2, 0, 0, 0],
-        Refusal::ShortSizes => [3, 0, 0, 0],
-        Refusal::ShortBases(b) => [4, b, 0, 0],
-        Refusal::NoBlock => [5, 0, 0, 0],
-        Refusal::WrongSize => [6, 0, 0, 0],
-        Refusal::OutsideImage => [7, 0, 0, 0],
-        Refusal::Lossy => [8, 0, 0, 0],
-        Refusal::WrongCount => [9, 0, 0, 0],
-        Refusal::ShortScratch => [10, 0, 0, 0],
-        Refusal::AboveLargest(i) => [11, 0, 0, i],
-        Refusal::NotPredicted(i) => [12, 0, 0, i],
-        Refusal::ShortOutput => [13, 0, 0, 0],
-        Refusal::Truncated(b, l) => [14, b, l, 0],
-        Refusal::NotTight(l) => [15, 0, l, 0],
-    }
-}
+use stream::refusal_words;
 
 pub fn answer_words(a: Decoded) -> [usize; 4]
     ensures { λ w. ⌜ w ≡ answerWords a ⌝ }

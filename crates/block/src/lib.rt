@@ -13,7 +13,6 @@ mod tight;
 mod writer;
 
 pub use c::answer_words;
-pub use c::refusal_words;
 pub use decoding::decode;
 pub use decoding::decode_region;
 pub use decoding::decode_region_alone;

@@ -10,7 +10,7 @@ use Rattle.stream.specs.declared.Ranged.{Ranged}
 use Rattle.stream.specs.declared.Ranged.the-variants as Range
 use Rattle.stream.specs.declared.Width.{Width}
 use Rattle.stream.specs.declared.Width.the-variants as Columns
-use Rattle.block.specs.Words.{noRefusal, refusalWords}
+use Rattle.stream.specs.Refusals.{noRefusal, refusalWords}
 
 abbrev pub flag : Bool → ℕ
 flag b = cond b 1 0

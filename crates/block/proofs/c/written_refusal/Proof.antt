@@ -3,8 +3,9 @@ use borrow.Author.Needs.{needs}
 use mathlib.Core.List.{List}
 use mathlib.Core.Path.{_≡_}
 use Prim.Native.Nat.{ℕ}
+use Rattle.stream.specs.Refusals.{refusalWords}
 use Rattle.stream.specs.declared.Refusal.{Refusal}
-use Rattle.block.specs.Words.{refusalWords, writtenRefusal}
+use Rattle.block.specs.Words.{writtenRefusal}
 use Rattle.block.specs.declared.Written.{Written}
 use Rattle.block.specs.declared.Written.the-variants.{Refused}
 use Rattle.block.proofs.c.written_refusal.Statement.{statement}

@@ -595,7 +595,7 @@ abbrev b62 : Syntax.Body
 b62 = Syntax.block b61
 
 abbrev b63 : Syntax.Body
-b63 = Syntax.call "block::reading::is_past" (List._∷_ (Syntax.copy (Syntax.place 1 List.[])) (List._∷_ (Syntax.copy (Syntax.place 11 List.[])) List.[])) (Syntax.place 31 List.[])
+b63 = Syntax.call "bits::is_past" (List._∷_ (Syntax.copy (Syntax.place 1 List.[])) (List._∷_ (Syntax.copy (Syntax.place 11 List.[])) List.[])) (Syntax.place 31 List.[])
 
 abbrev b64 : Syntax.Body
 b64 = Syntax.assign (Syntax.place 0 List.[]) (Syntax.aggregate (List._∷_ Syntax.opdFalse (List._∷_ (Syntax.copy (Syntax.place 12 List.[])) (List._∷_ (Syntax.copy (Syntax.place 11 List.[])) List.[]))))
@@ -1755,8 +1755,8 @@ module _ (claims· : Claims) where
       Closed = (𝓤 : URA.URA M) (H : Wp.Heap 𝓤) (A : Atoms.Atoms 𝓤) (W : Kit.Given 𝓤 H A) (𝓣 : Wp.Tables 𝓤 H) (known0 : Plain.Known 𝓤 H A W 𝓣 0 ps·0 r·0 (claims· .0) (claims· .1) "map::width") (known1
           : Plain.Known 𝓤 H A W 𝓣 0 ps·1 r·1 (claims· .2) (claims· .3) "pass::plan_at") (known2 : Plain.Known 𝓤 H A W 𝓣 1 ps·2 r·2 (claims· .4) (claims· .5) "lines::set_guards") (known3 : Plain.Known 𝓤 H
           A W 𝓣 1 ps·3 r·3 (claims· .6) (claims· .7) "block::records::load_set") (known4 : Plain.Known 𝓤 H A W 𝓣 2 ps·4 r·4 (claims· .8) (claims· .9) "pass::pass") (known5 : Plain.Known 𝓤 H A W 𝓣 1 ps·5
-          r·5 (claims· .10) (claims· .11) "block::records::store_set") (known6 : Plain.Known 𝓤 H A W 𝓣 1 ps·6 r·6 (claims· .12) (claims· .13) "block::reading::is_past") → Statement.Triple 𝓤 (Wp.WpFn 𝓤 H
-          (𝓣 .C) (𝓣 .Λ) (Function.fnOf 3 ps r xs m hs body)) (Function.plainOf 𝓤 H A 3 ps r Pre· Post·)
+          r·5 (claims· .10) (claims· .11) "block::records::store_set") (known6 : Plain.Known 𝓤 H A W 𝓣 1 ps·6 r·6 (claims· .12) (claims· .13) "bits::is_past") → Statement.Triple 𝓤 (Wp.WpFn 𝓤 H (𝓣 .C) (𝓣
+          .Λ) (Function.fnOf 3 ps r xs m hs body)) (Function.plainOf 𝓤 H A 3 ps r Pre· Post·)
 
     module _ (Inv·0 : InvT-loop) (μ·0 : MeasureT-loop) where
       abbrev at0 : (bs : List.List Nat.ℕ) → Typed.TF T15 O4
@@ -2130,8 +2130,7 @@ module _ (claims· : Claims) where
         abbrev Knowns : Type 1
         Knowns = Plain.Known 𝓤 H A W 𝓣 0 ps·0 r·0 (claims· .0) (claims· .1) "map::width" × Plain.Known 𝓤 H A W 𝓣 0 ps·1 r·1 (claims· .2) (claims· .3) "pass::plan_at" × Plain.Known 𝓤 H A W 𝓣 1 ps·2 r·2
             (claims· .4) (claims· .5) "lines::set_guards" × Plain.Known 𝓤 H A W 𝓣 1 ps·3 r·3 (claims· .6) (claims· .7) "block::records::load_set" × Plain.Known 𝓤 H A W 𝓣 2 ps·4 r·4 (claims· .8) (claims·
-            .9) "pass::pass" × Plain.Known 𝓤 H A W 𝓣 1 ps·5 r·5 (claims· .10) (claims· .11) "block::records::store_set" × Plain.Known 𝓤 H A W 𝓣 1 ps·6 r·6 (claims· .12) (claims· .13)
-            "block::reading::is_past"
+            .9) "pass::pass" × Plain.Known 𝓤 H A W 𝓣 1 ps·5 r·5 (claims· .10) (claims· .11) "block::records::store_set" × Plain.Known 𝓤 H A W 𝓣 1 ps·6 r·6 (claims· .12) (claims· .13) "bits::is_past"
 
       module _ (κs : Lifetimes.Lfts 3) (qs : Lifetimes.Shares 3) where
         abbrev g14 : List.List Row.Entry
@@ -3605,9 +3604,9 @@ module _ (claims· : Claims) where
           d107 = Typed.t-seq 𝓤 H A W 𝓣 E G89 G90 b68 b71 Δ0 (at96 bs) (at106 bs) d96 d106
 
           d108 : Typed.Typed 𝓤 H A 𝓣 E G12 b73 Δ0 (at108 bs)
-          d108 = Typed.s-seq 𝓤 H A W 𝓣 E G12 G89 b63 b72 Δ0 (Typed.both (s84 bs)) (at107 bs) (Plain.t-call-plain 𝓤 H A W 𝓣 1 ps·6 r·6 (claims· .12) (claims· .13) "block::reading::is_past" (known .6) E
-              (λ pos β. β) G12 (record { pos = 1; ty = Syntax.tyRef (Syntax.named 0) Syntax.imm (Syntax.tyInt Syntax.w8); ref = λ x. x }, (record { pos = 11; st = List.[]; d = 0; at = λ x. x }, tt)) 31
-              (List._∷_ 0 List.[]) (Call.sub-id 𝓤 H A W (G12 .slots)) (
+          d108 = Typed.s-seq 𝓤 H A W 𝓣 E G12 G89 b63 b72 Δ0 (Typed.both (s84 bs)) (at107 bs) (Plain.t-call-plain 𝓤 H A W 𝓣 1 ps·6 r·6 (claims· .12) (claims· .13) "bits::is_past" (known .6) E (λ pos β.
+              β) G12 (record { pos = 1; ty = Syntax.tyRef (Syntax.named 0) Syntax.imm (Syntax.tyInt Syntax.w8); ref = λ x. x }, (record { pos = 11; st = List.[]; d = 0; at = λ x. x }, tt)) 31 (List._∷_ 0
+              List.[]) (Call.sub-id 𝓤 H A W (G12 .slots)) (
                 ShrSlice.spares-sslice 𝓤 H A W (Referent.rtF (Referent.fInt Syntax.w8)) (Syntax.tyRef (Syntax.named 0) Syntax.imm (Syntax.tyInt Syntax.w8)) 0,
                 Shared.reads-sslice 𝓤 H A W (Referent.rtF
                     (Referent.fInt Syntax.w8)) (Syntax.tyRef (Syntax.named 0) Syntax.imm (Syntax.tyInt Syntax.w8)) 0,
@@ -5168,8 +5167,7 @@ module _ (claims· : Claims) where
         module _ {M : Type 1} (𝓤 : URA.URA M) (H : Wp.Heap 𝓤) (A : Atoms.Atoms 𝓤) (W : Kit.Given 𝓤 H A) (𝓣 : Wp.Tables 𝓤 H) (known0 : Plain.Known 𝓤 H A W 𝓣 0 ps·0 r·0 (claims· .0) (claims· .1)
             "map::width") (known1 : Plain.Known 𝓤 H A W 𝓣 0 ps·1 r·1 (claims· .2) (claims· .3) "pass::plan_at") (known2 : Plain.Known 𝓤 H A W 𝓣 1 ps·2 r·2 (claims· .4) (claims· .5) "lines::set_guards")
             (known3 : Plain.Known 𝓤 H A W 𝓣 1 ps·3 r·3 (claims· .6) (claims· .7) "block::records::load_set") (known4 : Plain.Known 𝓤 H A W 𝓣 2 ps·4 r·4 (claims· .8) (claims· .9) "pass::pass") (known5 :
-            Plain.Known 𝓤 H A W 𝓣 1 ps·5 r·5 (claims· .10) (claims· .11) "block::records::store_set") (known6 : Plain.Known 𝓤 H A W 𝓣 1 ps·6 r·6 (claims· .12) (claims· .13) "block::reading::is_past")
-          where
-            pub spec : Statement.Triple 𝓤 (Wp.WpFn 𝓤 H (𝓣 .C) (𝓣 .Λ) (Function.fnOf 3 ps r xs m hs body)) (Function.plainOf 𝓤 H A 3 ps r Pre· Post·)
-            spec = Plain.t-fn-plain 𝓤 H A W 𝓣 3 ps r xs m hs body (λ κs qs bs. Φ bs) (λ κs qs bs bd. typed κs qs 𝓤 H A W 𝓣 (known0, known1, known2, known3, known4, known5, known6) bs bd) Pre· Post·
-                asked
+            Plain.Known 𝓤 H A W 𝓣 1 ps·5 r·5 (claims· .10) (claims· .11) "block::records::store_set") (known6 : Plain.Known 𝓤 H A W 𝓣 1 ps·6 r·6 (claims· .12) (claims· .13) "bits::is_past") where
+          pub spec : Statement.Triple 𝓤 (Wp.WpFn 𝓤 H (𝓣 .C) (𝓣 .Λ) (Function.fnOf 3 ps r xs m hs body)) (Function.plainOf 𝓤 H A 3 ps r Pre· Post·)
+          spec = Plain.t-fn-plain 𝓤 H A W 𝓣 3 ps r xs m hs body (λ κs qs bs. Φ bs) (λ κs qs bs bd. typed κs qs 𝓤 H A W 𝓣 (known0, known1, known2, known3, known4, known5, known6) bs bd) Pre· Post·
+              asked

@@ -285,7 +285,7 @@ abbrev b17 : Syntax.Body
 b17 = Syntax.assign (Syntax.place 19 List.[]) (Syntax.rvOpd (Syntax.copy (Syntax.place 2 (List._∷_ (Syntax.field 1) List.[]))))
 
 abbrev b18 : Syntax.Body
-b18 = Syntax.call "block::writer::is_short" (List._∷_ (Syntax.copy (Syntax.place 19 List.[])) (List._∷_ (Syntax.copy (Syntax.place 9 List.[])) List.[])) (Syntax.place 18 List.[])
+b18 = Syntax.call "begin::is_short" (List._∷_ (Syntax.copy (Syntax.place 19 List.[])) (List._∷_ (Syntax.copy (Syntax.place 9 List.[])) List.[])) (Syntax.place 18 List.[])
 
 abbrev b19 : Syntax.Body
 b19 = Syntax.assign (Syntax.place 20 List.[]) (Syntax.aggregate (List._∷_ (Syntax.int Syntax.w8 12) List.[]))
@@ -1213,7 +1213,7 @@ module _ (claims· : Claims) where
       abbrev pub Closed : Type 2
       Closed = (𝓤 : URA.URA M) (H : Wp.Heap 𝓤) (A : Atoms.Atoms 𝓤) (W : Kit.Given 𝓤 H A) (𝓣 : Wp.Tables 𝓤 H) (known0 : Plain.Known 𝓤 H A W 𝓣 4 ps·0 r·0 (claims· .0) (claims· .1)
           "block::writer::write_walk") (known1 : Plain.Known 𝓤 H A W 𝓣 0 ps·1 r·1 (claims· .2) (claims· .3) "block::writer::bytes_for") (known2 : Plain.Known 𝓤 H A W 𝓣 0 ps·2 r·2 (claims· .4) (claims· .5)
-          "block::writer::is_short") → Statement.Triple 𝓤 (Wp.WpFn 𝓤 H (𝓣 .C) (𝓣 .Λ) (Function.fnOf 4 ps r xs m hs body)) (Function.plainOf 𝓤 H A 4 ps r Pre· Post·)
+          "begin::is_short") → Statement.Triple 𝓤 (Wp.WpFn 𝓤 H (𝓣 .C) (𝓣 .Λ) (Function.fnOf 4 ps r xs m hs body)) (Function.plainOf 𝓤 H A 4 ps r Pre· Post·)
 
     module _ where
       abbrev at0 : Typed.TF T36 O1
@@ -1477,7 +1477,7 @@ module _ (claims· : Claims) where
       module _ {M : Type 1} (𝓤 : URA.URA M) (H : Wp.Heap 𝓤) (A : Atoms.Atoms 𝓤) (W : Kit.Given 𝓤 H A) (𝓣 : Wp.Tables 𝓤 H) where
         abbrev Knowns : Type 1
         Knowns = Plain.Known 𝓤 H A W 𝓣 4 ps·0 r·0 (claims· .0) (claims· .1) "block::writer::write_walk" × Plain.Known 𝓤 H A W 𝓣 0 ps·1 r·1 (claims· .2) (claims· .3) "block::writer::bytes_for" ×
-            Plain.Known 𝓤 H A W 𝓣 0 ps·2 r·2 (claims· .4) (claims· .5) "block::writer::is_short"
+            Plain.Known 𝓤 H A W 𝓣 0 ps·2 r·2 (claims· .4) (claims· .5) "begin::is_short"
 
       module _ (κs : Lifetimes.Lfts 4) (qs : Lifetimes.Shares 4) where
         abbrev g3 : List.List Row.Entry
@@ -2512,8 +2512,8 @@ module _ (claims· : Claims) where
           d53 = Typed.t-seq 𝓤 H A W 𝓣 E G41 G42 b25 b42 Δ0 at24 at52 d24 d52
 
           d54 : Typed.Typed 𝓤 H A 𝓣 E G40 b44 Δ0 at54
-          d54 = Typed.s-seq 𝓤 H A W 𝓣 E G40 G41 b18 b43 Δ0 (Typed.both s38) at53 (Plain.t-call-plain 𝓤 H A W 𝓣 0 ps·2 r·2 (claims· .4) (claims· .5) "block::writer::is_short" (known .2) E (λ pos β. β)
-              G40 (Num.vAt 19 λ x. x, (Num.vAt 9 λ x. x, tt)) 18 List.[] (Call.sub-id 𝓤 H A W (G40 .slots))
+          d54 = Typed.s-seq 𝓤 H A W 𝓣 E G40 G41 b18 b43 Δ0 (Typed.both s38) at53 (Plain.t-call-plain 𝓤 H A W 𝓣 0 ps·2 r·2 (claims· .4) (claims· .5) "begin::is_short" (known .2) E (λ pos β. β) G40
+              (Num.vAt 19 λ x. x, (Num.vAt 9 λ x. x, tt)) 18 List.[] (Call.sub-id 𝓤 H A W (G40 .slots))
               ((Scalar.reads-sc 𝓤 H A W (Row.sInt Syntax.w64), Path'.refl), ((Scalar.reads-sc 𝓤 H A W (Row.sInt Syntax.w64), Path'.refl), tt)) (Reads'.room-gone 𝓤 H A Syntax.tyBool) tt Path'.refl) d53
 
           d55 : Typed.Typed 𝓤 H A 𝓣 E G39 b45 Δ0 at55
@@ -3831,6 +3831,6 @@ module _ (claims· : Claims) where
 
         module _ {M : Type 1} (𝓤 : URA.URA M) (H : Wp.Heap 𝓤) (A : Atoms.Atoms 𝓤) (W : Kit.Given 𝓤 H A) (𝓣 : Wp.Tables 𝓤 H) (known0 : Plain.Known 𝓤 H A W 𝓣 4 ps·0 r·0 (claims· .0) (claims· .1)
             "block::writer::write_walk") (known1 : Plain.Known 𝓤 H A W 𝓣 0 ps·1 r·1 (claims· .2) (claims· .3) "block::writer::bytes_for") (known2 : Plain.Known 𝓤 H A W 𝓣 0 ps·2 r·2 (claims· .4) (claims·
-            .5) "block::writer::is_short") where
+            .5) "begin::is_short") where
           pub spec : Statement.Triple 𝓤 (Wp.WpFn 𝓤 H (𝓣 .C) (𝓣 .Λ) (Function.fnOf 4 ps r xs m hs body)) (Function.plainOf 𝓤 H A 4 ps r Pre· Post·)
           spec = Plain.t-fn-plain 𝓤 H A W 𝓣 4 ps r xs m hs body (λ κs qs bs. Φ) (λ κs qs bs bd. typed κs qs 𝓤 H A W 𝓣 (known0, known1, known2) bs bd) Pre· Post· asked

@@ -1,10 +1,10 @@
--- `block::refusal_words` meets its contract, case by case. Assumes nothing.
+-- `stream::refusal_words` meets its contract, case by case. Assumes nothing.
 use borrow.Author.Needs.{needs}
 use mathlib.Core.Path.{_≡_}
 use Rattle.stream.specs.declared.Refusal.{Refusal}
-use Rattle.block.specs.Words.{refusalWords}
-use Rattle.block.proofs.c.refusal_words.Statement.{statement}
-use Rattle.block.proofs.c.refusal_words.Tie as tie
+use Rattle.stream.specs.Refusals.{refusalWords}
+use Rattle.stream.proofs.refusal_words.Statement.{statement}
+use Rattle.stream.proofs.refusal_words.Tie as tie
 
 same : (r x : Refusal) → r ≡ x → refusalWords x ≡ refusalWords r
 same r x e = rw e
