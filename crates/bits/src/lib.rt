@@ -1,6 +1,7 @@
 // The bits of a block: most significant first, zeros after the end. There is no cache: eight bytes are loaded where the position stands.
 ghost use mathlib.Core.Path.{_≡_};
 ghost use Prim.Native.Nat.{_+_, _*_, _/_, _^_, _≤_, _<_, min};
+ghost use lib.Dec.{ltb};
 ghost use lib.ListN.{length, getD};
 ghost use Rattle.bits.specs.Bits.{bitsAt, wordAt, zeroRun, afterRun, be32};
 ghost use Rattle.bits.specs.BitLists.{isTail};
@@ -131,6 +132,15 @@ pub fn peek_at(s: &[u8], at: BitPosition, n: u32) -> u32
     let m = counted(n);
     let w = window(s, at.byte());
     (((w << (at.0 % 8)) >> 32) >> (32 - m)) as u32
+}
+
+// Whether more bits are consumed than the block has, and seven.
+pub fn is_past(block: &[u8], at: BitPosition) -> bool
+    requires { ⌜ length (now block) < 2 ^ 32 ⌝ }
+    ensures { λ r. ⌜ r ≡ ltb (8 * length (now (block .entry)) + 7) (at .0) ⌝ }
+{
+    let end = 8 * (block.len() as u64) + 7;
+    end < at.0
 }
 
 // Whether a tight block may end at this position: there is no byte more than the bits need, and spare bits are 0.

@@ -2,7 +2,7 @@
 ghost use mathlib.Core.Path.{_≡_};
 ghost use mathlib.Core.Bool.{cond, _&&_};
 ghost use Prim.Native.Nat.{_+_, _*_, _^_, _≤_, _<_};
-ghost use lib.Dec.{ltb, eqb};
+ghost use lib.Dec.{eqb};
 ghost use lib.ListN.{length};
 ghost use Rattle.lines.specs.ColourLines.{zeroLines};
 ghost use Rattle.map.specs.Places.{widthOf, ArePlaces, Fits};
@@ -19,6 +19,7 @@ use crate::records::restart;
 use crate::records::start_records;
 use crate::records::store_set;
 use bits::BitPosition;
+use bits::is_past;
 use map::Part;
 use map::width;
 use pass::Quantisers;
@@ -64,15 +65,6 @@ fn quantisers_of(bits: u32, base: u32) -> Quantisers
         raws: [m.raw, a.raw, b.raw, c.raw],
         limits: [m.limit, a.limit, b.limit, c.limit],
     }
-}
-
-// Whether more bits are consumed than the block has, and seven.
-fn is_past(block: &[u8], at: BitPosition) -> bool
-    requires { ⌜ length (now block) < 2 ^ 32 ⌝ }
-    ensures { λ r. ⌜ r ≡ ltb (8 * length (now (block .entry)) + 7) (at .0) ⌝ }
-{
-    let end = 8 * (block.len() as u64) + 7;
-    end < at.0
 }
 
 // How many lines have only tight codes, after line n.

@@ -1,9 +1,6 @@
 // The writer: a set of colour lines becomes the tight block.
 ghost use mathlib.Core.Path.{_≡_};
-ghost use mathlib.Core.Bool.{cond};
-ghost use mathlib.Core.Option.{none, some};
 ghost use Prim.Native.Nat.{_+_, _*_, _^_, _≤_, _<_};
-ghost use lib.Dec.{ltb};
 ghost use lib.ListN.{length};
 ghost use Rattle.lines.specs.ColourLines.{zeroLines};
 ghost use Rattle.map.specs.Places.{widthOf};
@@ -17,7 +14,7 @@ ghost use Rattle.block.specs.Blocks.{AllInRange};
 ghost use Rattle.begin.specs.Beginnings.{writingBegins};
 ghost use Rattle.block.specs.Lent.{Outputs};
 ghost use Rattle.block.specs.WrittenBlocks.{writeLines, tightBlock};
-ghost use Rattle.block.specs.WrittenAnswers.{passesFrom, LineWritten, SetWritten, firstAbove, measuredAnswer, writtenAnswer, writtenOut, LeftWritten};
+ghost use Rattle.block.specs.WrittenAnswers.{passesFrom, LineWritten, SetWritten, measuredAnswer, writtenAnswer, writtenOut, LeftWritten};
 use crate::Form;
 use crate::Written;
 use crate::form_of;
@@ -27,34 +24,15 @@ use crate::records::restart;
 use crate::records::start_records;
 use crate::records::store_set;
 use crate::tight::line_count;
+use begin::first_above;
+use begin::is_short;
 use bits::BitPosition;
 use map::width;
 use quantiser::Quantiser;
 use statistics::Record;
-use stream::FujiHeader;
 use stream::Parsed;
 use stream::Refusal;
 use writing::Put;
-
-fn widened(x: u16) -> u32
-    ensures { λ r. ⌜ r ≡ x ⌝ }
-{
-    x as u32
-}
-
-// The lowest index of a sample above m, or the length.
-fn first_above(samples: &[u16], m: u32) -> usize
-    ensures { λ r. ⌜ firstAbove m 0 (now (samples .entry)) ≡ cond (ltb r (length (now (samples .entry)))) (some r) none ⌝ }
-{
-    let mut i: usize = 0;
-    while i < samples.len() {
-        if m < widened(samples[i]) {
-            return i;
-        }
-        i = i + 1;
-    }
-    i
-}
 
 // The bytes of a block that has bits up to this position.
 fn bytes_for(at: BitPosition) -> usize
@@ -62,12 +40,6 @@ fn bytes_for(at: BitPosition) -> usize
 {
     let end = at.bytes();
     end.0
-}
-
-fn is_short(room: usize, needed: usize) -> bool
-    ensures { λ r. ⌜ r ≡ ltb room needed ⌝ }
-{
-    room < needed
 }
 
 // Line n: six passes, each on the records of its set.

@@ -1,7 +1,7 @@
 -- Written by tools/lend.py from Rattle's derivation of the twin of `block`; not edited by hand. Assumes nothing.
-use Rattle.block.proofs.reading.is_past.Met
-use Rattle.block.proofs.reading.is_past.Reads
-use Rattle.block.proofs.reading.is_past.Symbol
+use Rattle.bits.proofs.is_past.Met
+use Rattle.bits.proofs.is_past.Reads
+use Rattle.bits.proofs.is_past.Symbol
 use Rattle.block.proofs.reading.line.Code
 use Rattle.block.proofs.reading.line.Key
 use Rattle.block.proofs.reading.derived.line.Kinds
@@ -1073,4 +1073,4 @@ module _ {M : Type 1} where
       Code.calls-lines·set-guards (Met'3.met 𝓤 H 𝓜 𝓖 𝓡)) (Reads''.known record { M = M; 𝓤 = 𝓤; H = H; 𝓜 = 𝓜; 𝓖 = 𝓖; 𝓡 = 𝓡 } Code.env Symbol'.name Symbol'.routine Code.calls-block·records·load-set
       (Met'.met 𝓤 H 𝓜 𝓖 𝓡)) (Reads'6.known record { M = M; 𝓤 = 𝓤; H = H; 𝓜 = 𝓜; 𝓖 = 𝓖; 𝓡 = 𝓡 } Code.env Symbol'5.name Symbol'5.routine Code.calls-pass·pass (Met'5.met 𝓤 H 𝓜 𝓖 𝓡)) (Reads'3.known record
       { M = M; 𝓤 = 𝓤; H = H; 𝓜 = 𝓜; 𝓖 = 𝓖; 𝓡 = 𝓡 } Code.env Symbol''.name Symbol''.routine Code.calls-block·records·store-set (Met''.met 𝓤 H 𝓜 𝓖 𝓡)) (Reads.known record
-      { M = M; 𝓤 = 𝓤; H = H; 𝓜 = 𝓜; 𝓖 = 𝓖; 𝓡 = 𝓡 } Code.env Symbol.name Symbol.routine Code.calls-block·reading·is-past (Met.met 𝓤 H 𝓜 𝓖 𝓡))
+      { M = M; 𝓤 = 𝓤; H = H; 𝓜 = 𝓜; 𝓖 = 𝓖; 𝓡 = 𝓡 } Code.env Symbol.name Symbol.routine Code.calls-bits·is-past (Met.met 𝓤 H 𝓜 𝓖 𝓡))

@@ -206,7 +206,7 @@ abbrev b0 : Syntax.Body
 b0 = Syntax.call "quantiser::largest" (List._∷_ (Syntax.copy (Syntax.place 5 (List._∷_ (Syntax.field 0) List.[]))) List.[]) (Syntax.place 7 List.[])
 
 abbrev b1 : Syntax.Body
-b1 = Syntax.call "block::writer::first_above" (List._∷_ (Syntax.copy (Syntax.place 1 List.[])) (List._∷_ (Syntax.copy (Syntax.place 7 List.[])) List.[])) (Syntax.place 8 List.[])
+b1 = Syntax.call "begin::first_above" (List._∷_ (Syntax.copy (Syntax.place 1 List.[])) (List._∷_ (Syntax.copy (Syntax.place 7 List.[])) List.[])) (Syntax.place 8 List.[])
 
 abbrev b2 : Syntax.Body
 b2 = Syntax.assign (Syntax.place 9 List.[]) (Syntax.rvOpd (Syntax.copy (Syntax.place 1 (List._∷_ (Syntax.field 1) List.[]))))
@@ -973,7 +973,7 @@ module _ (claims· : Claims) where
     module _ (M : Type 1) where
       abbrev pub Closed : Type 2
       Closed = (𝓤 : URA.URA M) (H : Wp.Heap 𝓤) (A : Atoms.Atoms 𝓤) (W : Kit.Given 𝓤 H A) (𝓣 : Wp.Tables 𝓤 H) (known0 : Plain.Known 𝓤 H A W 𝓣 0 ps·0 r·0 (claims· .0) (claims· .1) "quantiser::largest")
-          (known1 : Plain.Known 𝓤 H A W 𝓣 1 ps·1 r·1 (claims· .2) (claims· .3) "block::writer::first_above") (known2 : Plain.Known 𝓤 H A W 𝓣 1 ps·2 r·2 (claims· .4) (claims· .5) "lines::clear") (known3 :
+          (known1 : Plain.Known 𝓤 H A W 𝓣 1 ps·1 r·1 (claims· .2) (claims· .3) "begin::first_above") (known2 : Plain.Known 𝓤 H A W 𝓣 1 ps·2 r·2 (claims· .4) (claims· .5) "lines::clear") (known3 :
           Plain.Known 𝓤 H A W 𝓣 1 ps·3 r·3 (claims· .6) (claims· .7) "block::records::clear_records") (known4 : Plain.Known 𝓤 H A W 𝓣 4 ps·4 r·4 (claims· .8) (claims· .9) "block::writer::write_measured")
           → Statement.Triple 𝓤 (Wp.WpFn 𝓤 H (𝓣 .C) (𝓣 .Λ) (Function.fnOf 4 ps r xs m hs body)) (Function.plainOf 𝓤 H A 4 ps r Pre· Post·)
 
@@ -1175,9 +1175,9 @@ module _ (claims· : Claims) where
 
       module _ {M : Type 1} (𝓤 : URA.URA M) (H : Wp.Heap 𝓤) (A : Atoms.Atoms 𝓤) (W : Kit.Given 𝓤 H A) (𝓣 : Wp.Tables 𝓤 H) where
         abbrev Knowns : Type 1
-        Knowns = Plain.Known 𝓤 H A W 𝓣 0 ps·0 r·0 (claims· .0) (claims· .1) "quantiser::largest" × Plain.Known 𝓤 H A W 𝓣 1 ps·1 r·1 (claims· .2) (claims· .3) "block::writer::first_above" × Plain.Known
-            𝓤 H A W 𝓣 1 ps·2 r·2 (claims· .4) (claims· .5) "lines::clear" × Plain.Known 𝓤 H A W 𝓣 1 ps·3 r·3 (claims· .6) (claims· .7) "block::records::clear_records" × Plain.Known 𝓤 H A W 𝓣 4 ps·4 r·4
-            (claims· .8) (claims· .9) "block::writer::write_measured"
+        Knowns = Plain.Known 𝓤 H A W 𝓣 0 ps·0 r·0 (claims· .0) (claims· .1) "quantiser::largest" × Plain.Known 𝓤 H A W 𝓣 1 ps·1 r·1 (claims· .2) (claims· .3) "begin::first_above" × Plain.Known 𝓤 H A W
+            𝓣 1 ps·2 r·2 (claims· .4) (claims· .5) "lines::clear" × Plain.Known 𝓤 H A W 𝓣 1 ps·3 r·3 (claims· .6) (claims· .7) "block::records::clear_records" × Plain.Known 𝓤 H A W 𝓣 4 ps·4 r·4 (claims·
+            .8) (claims· .9) "block::writer::write_measured"
 
       module _ (κs : Lifetimes.Lfts 4) (qs : Lifetimes.Shares 4) where
         abbrev g10 : List.List Row.Entry
@@ -2088,9 +2088,8 @@ module _ (claims· : Claims) where
               𝓤 H A (Syntax.tyInt Syntax.w64)) (Scalar.holds-sc 𝓤 H A W (Row.sInt Syntax.w64)) Path'.refl (λ u. Path'.refl) λ u. tt) d57
 
           d59 : Typed.Typed 𝓤 H A 𝓣 E G5 b41 Δ0 at59
-          d59 = Typed.s-seq 𝓤 H A W 𝓣 E G5 G6 b1 b40 Δ0 (Typed.both s4) at58 (Plain.t-call-plain 𝓤 H A W 𝓣 1 ps·1 r·1 (claims· .2) (claims· .3) "block::writer::first_above" (known .1) E (λ pos β. β)
-              G5 (record { pos = 1; ty = Syntax.tyRef (Syntax.named 0) Syntax.imm (Syntax.tyInt Syntax.w16); ref = λ x. x }, (Num.vAt 7 λ x. x, tt)) 8 (List._∷_ 0 List.[]) (Call.sub-id 𝓤 H A W (G5
-              .slots)) (
+          d59 = Typed.s-seq 𝓤 H A W 𝓣 E G5 G6 b1 b40 Δ0 (Typed.both s4) at58 (Plain.t-call-plain 𝓤 H A W 𝓣 1 ps·1 r·1 (claims· .2) (claims· .3) "begin::first_above" (known .1) E (λ pos β. β) G5
+              (record { pos = 1; ty = Syntax.tyRef (Syntax.named 0) Syntax.imm (Syntax.tyInt Syntax.w16); ref = λ x. x }, (Num.vAt 7 λ x. x, tt)) 8 (List._∷_ 0 List.[]) (Call.sub-id 𝓤 H A W (G5 .slots)) (
                 ShrSlice.spares-sslice 𝓤 H A W (Referent.rtF (Referent.fInt Syntax.w16)) (Syntax.tyRef (Syntax.named 0) Syntax.imm (Syntax.tyInt Syntax.w16)) 0,
                 Shared.reads-sslice 𝓤 H A W (Referent.rtF
                     (Referent.fInt Syntax.w16)) (Syntax.tyRef (Syntax.named 0) Syntax.imm (Syntax.tyInt Syntax.w16)) 0,
@@ -2879,7 +2878,7 @@ module _ (claims· : Claims) where
           }
 
         module _ {M : Type 1} (𝓤 : URA.URA M) (H : Wp.Heap 𝓤) (A : Atoms.Atoms 𝓤) (W : Kit.Given 𝓤 H A) (𝓣 : Wp.Tables 𝓤 H) (known0 : Plain.Known 𝓤 H A W 𝓣 0 ps·0 r·0 (claims· .0) (claims· .1)
-            "quantiser::largest") (known1 : Plain.Known 𝓤 H A W 𝓣 1 ps·1 r·1 (claims· .2) (claims· .3) "block::writer::first_above") (known2 : Plain.Known 𝓤 H A W 𝓣 1 ps·2 r·2 (claims· .4) (claims· .5)
+            "quantiser::largest") (known1 : Plain.Known 𝓤 H A W 𝓣 1 ps·1 r·1 (claims· .2) (claims· .3) "begin::first_above") (known2 : Plain.Known 𝓤 H A W 𝓣 1 ps·2 r·2 (claims· .4) (claims· .5)
             "lines::clear") (known3 : Plain.Known 𝓤 H A W 𝓣 1 ps·3 r·3 (claims· .6) (claims· .7) "block::records::clear_records") (known4 : Plain.Known 𝓤 H A W 𝓣 4 ps·4 r·4 (claims· .8) (claims· .9)
             "block::writer::write_measured") where
           pub spec : Statement.Triple 𝓤 (Wp.WpFn 𝓤 H (𝓣 .C) (𝓣 .Λ) (Function.fnOf 4 ps r xs m hs body)) (Function.plainOf 𝓤 H A 4 ps r Pre· Post·)

@@ -1,13 +1,13 @@
--- `block::writer::first_above` meets its contract: no sample before i is above m. Assumes nothing.
+-- `begin::first_above` meets its contract: no sample before i is above m. Assumes nothing.
 use borrow.Author.Needs.{needs}
 use mathlib.Core.Path.{_≡_}
 use Prim.Native.Nat.{_-_, _≤_}
 use native.Mathlib.Omega.{arith}
 use lib.ListN.{length, drop}
-use Rattle.block.specs.WrittenAnswers.{firstAbove}
-use Rattle.block.proofs.AnswerLaws.{above-next, above-found, above-none}
-use Rattle.block.proofs.writer.first_above.Statement.{statement}
-use Rattle.block.proofs.writer.first_above.Tie as tie
+use Rattle.begin.specs.Beginnings.{firstAbove}
+use Rattle.begin.proofs.SampleLaws.{above-next, above-found, above-none}
+use Rattle.begin.proofs.first_above.Statement.{statement}
+use Rattle.begin.proofs.first_above.Tie as tie
 
 abbrev Inv-loop : tie.InvT-loop
 Inv-loop samples m i₀ i = (i ≤ length samples) × (firstAbove m 0 samples ≡ firstAbove m i (drop i samples))

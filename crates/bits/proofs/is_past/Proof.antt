@@ -1,8 +1,8 @@
--- `block::reading::is_past` meets its contract. Assumes nothing.
+-- `bits::is_past` meets its contract. Assumes nothing.
 use borrow.Author.Needs.{needs}
 use mathlib.Core.Path.{refl}
-use Rattle.block.proofs.reading.is_past.Statement.{statement}
-use Rattle.block.proofs.reading.is_past.Tie as tie
+use Rattle.bits.proofs.is_past.Statement.{statement}
+use Rattle.bits.proofs.is_past.Tie as tie
 
 returns : tie.Need-returns
 returns c = refl
