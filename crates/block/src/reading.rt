@@ -1,12 +1,13 @@
 // Reading a block: six passes make a line, and lines make a block.
 ghost use mathlib.Core.Path.{_≡_};
 ghost use mathlib.Core.Bool.{cond, _&&_};
-ghost use Prim.Native.Nat.{_+_, _*_, _^_, _≤_, _<_};
+ghost use Prim.Native.Nat.{_+_, _^_, _≤_, _<_};
 ghost use lib.Dec.{eqb};
 ghost use lib.ListN.{length};
 ghost use Rattle.lines.specs.ColourLines.{zeroLines};
 ghost use Rattle.map.specs.Places.{widthOf, ArePlaces, Fits};
 ghost use Rattle.pass.specs.Readings.{quantisersOf, Depth};
+ghost use Rattle.block.specs.Lent.{ScratchOf};
 ghost use Rattle.block.specs.Records.{baseOf, isRestarted, clearRecords};
 ghost use Rattle.block.specs.Blocks.{AllInRange, LineRead, Shown, shownLines, IsWalked};
 use crate::Form;
@@ -90,7 +91,7 @@ fn line(
     form: Form,
     qs: Quantisers,
 ) -> Lined
-    requires { ⌜ (length (now block) < 2 ^ 32) × ((length (now lines) ≡ 18 * (widthOf (form .xtrans) + 2)) × (length (now rs) ≡ 336)) ⌝ }
+    requires { ⌜ (length (now block) < 2 ^ 32) × ScratchOf (form .xtrans) (now lines) (now rs) ⌝ }
     requires { ⌜ Depth (form .bits) × ((qs .base < 256) × (qs ≡ quantisersOf (form .bits) (qs .base))) ⌝ }
     requires { ⌜ AllInRange (now rs) ⌝ }
     ensures { λ r. ⌜ LineRead form qs (now (block .entry)) from «tight_before» (now (lines .entry)) (now (rs .entry)) (now (lines .exit)) (now (rs .exit)) r ⌝ }
@@ -137,7 +138,7 @@ fn read_lines(
     part: Part,
     count: usize,
 ) -> Walked
-    requires { ⌜ (length (now block) < 2 ^ 32) × ((length (now lines) ≡ 18 * (widthOf (form .xtrans) + 2)) × (length (now rs) ≡ 336)) ⌝ }
+    requires { ⌜ (length (now block) < 2 ^ 32) × ScratchOf (form .xtrans) (now lines) (now rs) ⌝ }
     requires { ⌜ Depth (form .bits) × (count < 2 ^ 16) ⌝ }
     requires { ⌜ ArePlaces (now places) × Fits part (now image) ⌝ }
     ensures { λ r. ⌜ IsWalked form (now (bases .entry)) (now (block .entry)) count r ⌝ }
@@ -183,7 +184,7 @@ pub(crate) fn walk(
     part: Part,
     count: usize,
 ) -> Walked
-    requires { ⌜ (length (now block) < 2 ^ 32) × ((length (now lines) ≡ 18 * (widthOf (form .xtrans) + 2)) × (length (now rs) ≡ 336)) ⌝ }
+    requires { ⌜ (length (now block) < 2 ^ 32) × ScratchOf (form .xtrans) (now lines) (now rs) ⌝ }
     requires { ⌜ Depth (form .bits) × (count < 2 ^ 16) ⌝ }
     requires { ⌜ ArePlaces (now places) × Fits part (now image) ⌝ }
     ensures { λ r. ⌜ IsWalked form (now (bases .entry)) (now (block .entry)) count r ⌝ }

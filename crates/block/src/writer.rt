@@ -12,7 +12,7 @@ ghost use Rattle.writing.specs.Puts.{Room, Within};
 ghost use Rattle.block.specs.Records.{clearRecords};
 ghost use Rattle.block.specs.Blocks.{AllInRange};
 ghost use Rattle.begin.specs.Beginnings.{writingBegins};
-ghost use Rattle.block.specs.Lent.{Outputs};
+ghost use Rattle.block.specs.Lent.{Outputs, ScratchOf};
 ghost use Rattle.block.specs.WrittenBlocks.{writeLines, tightBlock};
 ghost use Rattle.block.specs.WrittenAnswers.{passesFrom, LineWritten, SetWritten, measuredAnswer, writtenAnswer, writtenOut, LeftWritten};
 use crate::Form;
@@ -54,7 +54,7 @@ fn write_line(
     form: Form,
 ) -> Put
     requires { ⌜ (n < 2 ^ 16) × (((n + 1) * lineSize (widthOf (form .xtrans)) ≤ length (now samples)) × Within (largest (form .bits)) (now samples)) ⌝ }
-    requires { ⌜ Depth (form .bits) × ((length (now lines) ≡ 18 * (widthOf (form .xtrans) + 2)) × (length (now rs) ≡ 336)) ⌝ }
+    requires { ⌜ Depth (form .bits) × ScratchOf (form .xtrans) (now lines) (now rs) ⌝ }
     requires { ⌜ Within (largest (form .bits)) (now lines) × AllInRange (now rs) ⌝ }
     requires { ⌜ (from .0 < 2 ^ 58) × Room store (now out) (from .0) ((passesFrom form (now samples) n 6 (now lines) (now rs)) .bits) ⌝ }
     ensures { λ r. ⌜ LineWritten (passesFrom form (now (samples .entry)) n 6 (now (lines .entry)) (now (rs .entry))) (from .0) store (now (out .entry)) (now (lines .exit)) (now (rs .exit)) (now (out .exit)) r ⌝ }
@@ -110,7 +110,7 @@ fn write_lines(
     count: usize,
 ) -> Put
     requires { ⌜ (count < 2 ^ 16) × ((length (now samples) ≡ setSize (widthOf (form .xtrans)) count) × Within (largest (form .bits)) (now samples)) ⌝ }
-    requires { ⌜ Depth (form .bits) × ((length (now lines) ≡ 18 * (widthOf (form .xtrans) + 2)) × (length (now rs) ≡ 336)) ⌝ }
+    requires { ⌜ Depth (form .bits) × ScratchOf (form .xtrans) (now lines) (now rs) ⌝ }
     requires { ⌜ Room store (now out) 0 ((writeLines form (now samples) count) .bits) ⌝ }
     ensures { λ r. ⌜ SetWritten (writeLines form (now (samples .entry)) count) store (now (out .entry)) (now (out .exit)) r ⌝ }
 {
@@ -144,7 +144,7 @@ fn write_walk(
     count: usize,
 ) -> Put
     requires { ⌜ (count < 2 ^ 16) × ((length (now samples) ≡ setSize (widthOf (form .xtrans)) count) × Within (largest (form .bits)) (now samples)) ⌝ }
-    requires { ⌜ Depth (form .bits) × ((length (now lines) ≡ 18 * (widthOf (form .xtrans) + 2)) × (length (now rs) ≡ 336)) ⌝ }
+    requires { ⌜ Depth (form .bits) × ScratchOf (form .xtrans) (now lines) (now rs) ⌝ }
     requires { ⌜ Room store (now out) 0 ((writeLines form (now samples) count) .bits) ⌝ }
     ensures { λ r. ⌜ SetWritten (writeLines form (now (samples .entry)) count) store (now (out .entry)) (now (out .exit)) r ⌝ }
     ensures { λ _. ⌜ (now (lines .exit) ≡ zeroLines (widthOf (form .xtrans))) × (now (rs .exit) ≡ clearRecords) ⌝ }
@@ -165,7 +165,7 @@ fn write_measured(
     count: usize,
 ) -> Written
     requires { ⌜ (count < 2 ^ 16) × ((length (now samples) ≡ setSize (widthOf (form .xtrans)) count) × Within (largest (form .bits)) (now samples)) ⌝ }
-    requires { ⌜ Depth (form .bits) × ((length (now lines) ≡ 18 * (widthOf (form .xtrans) + 2)) × (length (now rs) ≡ 336)) ⌝ }
+    requires { ⌜ Depth (form .bits) × ScratchOf (form .xtrans) (now lines) (now rs) ⌝ }
     ensures { λ r. ⌜ (r ≡ measuredAnswer form count (now (samples .entry)) (length (now (out .entry)))) × (now (out .exit) ≡ writtenOut r (tightBlock form count (now (samples .entry))) (now (out .entry))) ⌝ }
     ensures { λ _. ⌜ (now (lines .exit) ≡ zeroLines (widthOf (form .xtrans))) × (now (rs .exit) ≡ clearRecords) ⌝ }
 {
@@ -193,7 +193,7 @@ fn write_set(
     count: usize,
 ) -> Written
     requires { ⌜ (count < 2 ^ 16) × (length (now samples) ≡ setSize (widthOf (form .xtrans)) count) ⌝ }
-    requires { ⌜ Depth (form .bits) × ((length (now lines) ≡ 18 * (widthOf (form .xtrans) + 2)) × (length (now rs) ≡ 336)) ⌝ }
+    requires { ⌜ Depth (form .bits) × ScratchOf (form .xtrans) (now lines) (now rs) ⌝ }
     ensures { λ r. ⌜ (r ≡ writtenAnswer form count (now (samples .entry)) (length (now (out .entry)))) × (now (out .exit) ≡ writtenOut r (tightBlock form count (now (samples .entry))) (now (out .entry))) ⌝ }
     ensures { λ _. ⌜ (now (lines .exit) ≡ zeroLines (widthOf (form .xtrans))) × (now (rs .exit) ≡ clearRecords) ⌝ }
 {
