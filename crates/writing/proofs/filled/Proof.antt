@@ -28,7 +28,7 @@ module _ (x u t part j k : ℕ) (hx : x < 256) (hj : u + j ≡ 8) (hk : t + k �
   sum-lt : (x / 2 ^ j * 2 ^ j) % 2 ^ 32 + (part * 2 ^ k) % 2 ^ 32 < 256
   sum-lt = rw (sum-is) (rw (← pow-add 2 u j, hj) at (digits-lt kept-lt low-lt))
 
-here : (c : tie.After-byte) → let a = c .before .args in let x = c .byte .result in
+here : (c : tie.After-u8-to-u32) → let a = c .before .args in let x = c .u8-to-u32 .result in
     ((x / 2 ^ (8 - a .used) * 2 ^ (8 - a .used)) % 2 ^ 32 + (a .part * 2 ^ (8 - a .used - a .t)) % 2 ^ 32 ≡ filledByte (a .old) (a .used) (a .t) (a .part))
     × ((x / 2 ^ (8 - a .used) * 2 ^ (8 - a .used)) % 2 ^ 32 + (a .part * 2 ^ (8 - a .used - a .t)) % 2 ^ 32 < 256)
 here c =
@@ -36,9 +36,9 @@ here c =
     let a = s .args in
     let hj : a .used + (8 - a .used) ≡ 8 = omega (arith, s .pre .0) in
     let hk : a .t + (8 - a .used - a .t) ≡ 8 - a .used = omega (arith, s .pre .1 .0) in
-    let b = c .byte .ensures in (
-      rw (← b .0) (sum-is (c .byte .result) (a .used) (a .t) (a .part) _ _ (b .1) hj hk (s .pre .1 .1)),
-      sum-lt (c .byte .result) (a .used) (a .t) (a .part) _ _ (b .1) hj hk (s .pre .1 .1),
+    let b = c .u8-to-u32 .ensures in (
+      rw (← b .0) (sum-is (c .u8-to-u32 .result) (a .used) (a .t) (a .part) _ _ (b .1) hj hk (s .pre .1 .1)),
+      sum-lt (c .u8-to-u32 .result) (a .used) (a .t) (a .part) _ _ (b .1) hj hk (s .pre .1 .1),
     )
 
 pub filled-spec : {M : Type 1} → statement M
