@@ -71,6 +71,14 @@ pub fn flag_usize(b: bool) -> usize
     if b { 1 } else { 0 }
 }
 
+// 2^k
+pub fn power(k: u32) -> u64
+    requires { ⌜ k ≤ 16 ⌝ }
+    ensures { λ r. ⌜ (r ≡ 2 ^ k) × ((1 ≤ r) × (r ≤ 2 ^ 16)) ⌝ }
+{
+    1u64 << k
+}
+
 // Bytes and samples as larger numbers. As functions they tell their callers the range too.
 pub fn u8_to_u32(x: u8) -> u32
     ensures { λ r. ⌜ (r ≡ x) × (r < 256) ⌝ }

@@ -2,8 +2,7 @@
 pub mod SetLaws
 pub mod WriteLaws
 pub mod LosslessLaws
-pub mod PutLaws
-pub mod WordLaws
+pub mod CodePuts
 pub mod StepPuts
 pub mod SitePuts
 pub mod TurnPuts

@@ -32,7 +32,7 @@ use Rattle.writing.specs.Puts.{putIf, Room, Within, bitsOfSample, setOfS
 use Rattle.writing.specs.declared.Put.{Put}
 use Rattle.writing.specs.declared.Put.the-variants.{At, Wrong}
 use Rattle.writing.proofs.WriteLaws.{wanted, write-coded, write-interpolated, after, writes-append, writes-after, writes-add}
-use Rattle.writing.proofs.PutLaws.{put-none, put-more}
+use Rattle.output.proofs.PutLaws.{put-none, put-more}
 
 -- ---- one step
 

@@ -5,8 +5,8 @@ use mathlib.Core.Option.{Option, none, some}
 use mathlib.Core.Path.{_≡_}
 use Prim.Native.Nat.{ℕ, _+_, _-_, _*_, _/_, _%_, _^_, _≤_, _<_}
 use lib.Dec.{ltb}
-use lib.ListN.{length, getD, set, take, drop}
-use Rattle.bits.specs.BitLists.{bitsOf, packed, bytesFor}
+use lib.ListN.{length, getD, set}
+use Rattle.bits.specs.BitLists.{bytesFor}
 use Rattle.bits.specs.declared.BitPosition.{BitPosition}
 use Rattle.statistics.specs.Statistics.{kOf, updated}
 use Rattle.statistics.specs.declared.Record.{Record}
@@ -14,6 +14,7 @@ use Rattle.quantiser.specs.Quantisers.{largest}
 use Rattle.prediction.specs.declared.Context.{Context}
 use Rattle.code.specs.Samples.{residualOf}
 use Rattle.code.specs.Tight.{codeBits}
+use Rattle.output.specs.Output.{putBits}
 use Rattle.steps.specs.Steps.{Step}
 use Rattle.steps.specs.Contexts.{usedQuantiser, lookOf, slotOf, noRecord}
 use Rattle.steps.specs.Values.{zipRecords, recordsOf, SetInRange, Depth, PlanInRange}
@@ -30,15 +31,7 @@ use Rattle.writing.specs.declared.PassPut.{PassPut}
 unfoldable pub codeNumber : ℕ → ℕ → ℕ → ℕ → ℕ
 codeNumber k limit raw code = cond (ltb (code / 2 ^ k) limit) (2 ^ k + code % 2 ^ k) (2 ^ raw + (code - 1))
 
--- the output after these bits were put into it from bit `at` on: what stood before them stays, the rest of their last byte is 0, and the bytes after
--- that one are what they were
-unfoldable pub putBits : List ℕ → ℕ → List Bool → List ℕ
-putBits out at [] = out
-putBits out at (b ∷ l) =
-    let n = bytesFor (at + length (b ∷ l)) in
-    packed n (take at (bitsOf out) ++ b ∷ l) ++ drop n out
-
--- only where they are to be stored; else they are counted alone
+-- bits are put into the output only where they are to be stored; else they are counted alone
 abbrev pub putIf : Bool → List ℕ → ℕ → List Bool → List ℕ
 putIf store out at l = cond store (putBits out at l) out
 

@@ -1,4 +1,4 @@
--- `writing::put_bits` meets its contract: at once where four bytes have room, else byte after byte. Assumes nothing.
+-- `output::put_bits` meets its contract: at once where four bytes have room, else byte after byte. Assumes nothing.
 use borrow.Author.Needs.{needs}
 use borrow.Author.Tests.{leb-true}
 use mathlib.Core.Bool.{true, _&&_}
@@ -7,9 +7,9 @@ use Prim.Native.Nat.{_+_, _/_, _%_, _≤_}
 use lib.Dec.{leb}
 use lib.ListN.{length}
 use Rattle.numbers.proofs.BoolLaws.{both}
-use Rattle.writing.proofs.WordLaws.{put-word}
-use Rattle.writing.proofs.put_bits.Statement.{statement}
-use Rattle.writing.proofs.put_bits.Tie as tie
+use Rattle.output.proofs.WordLaws.{put-word}
+use Rattle.output.proofs.put_bits.Statement.{statement}
+use Rattle.output.proofs.put_bits.Tie as tie
 
 -- the test of the short way
 tests : (s : tie.Start) → let a = s .args in leb (a .at .0 % 8 + a .n) 24 && leb (a .at .0 / 8 + 4) (length (a .out .now)) ≡ true

@@ -1,10 +1,10 @@
--- `writing::store32` meets its contract: four stores in a row. Assumes nothing.
+-- `output::store32` meets its contract: four stores in a row. Assumes nothing.
 use borrow.Author.Needs.{needs}
 use native.Mathlib.Omega.{arith}
 use lib.ListN.{length-set}
-use Rattle.writing.proofs.WordLaws.{word-stored}
-use Rattle.writing.proofs.store32.Statement.{statement}
-use Rattle.writing.proofs.store32.Tie as tie
+use Rattle.output.proofs.WordLaws.{word-stored}
+use Rattle.output.proofs.store32.Statement.{statement}
+use Rattle.output.proofs.store32.Tie as tie
 
 pub store32-spec : {M : Type 1} → statement M
 store32-spec =

@@ -1,13 +1,13 @@
--- `writing::filled` meets its contract: the shifts lose nothing, and the sum is a byte. Assumes nothing.
+-- `output::filled` meets its contract: the shifts lose nothing, and the sum is a byte. Assumes nothing.
 use borrow.Author.Needs.{needs}
 use mathlib.Core.Path.{_≡_}
 use Prim.Native.Nat.{ℕ, _+_, _-_, _*_, _/_, _%_, _^_, _<_}
 use native.Mathlib.Omega.{arith}
 use lib.Arith.{digits-lt}
 use lib.Pow.{pow-add, shr-lt, shl-lt, shl-exact}
-use Rattle.writing.proofs.PutLaws.{filledByte}
-use Rattle.writing.proofs.filled.Statement.{statement}
-use Rattle.writing.proofs.filled.Tie as tie
+use Rattle.output.proofs.PutLaws.{filledByte}
+use Rattle.output.proofs.filled.Statement.{statement}
+use Rattle.output.proofs.filled.Tie as tie
 
 module _ (x u t part j k : ℕ) (hx : x < 256) (hj : u + j ≡ 8) (hk : t + k ≡ j) (hp : part < 2 ^ t) where
   kept-lt : x / 2 ^ j < 2 ^ u

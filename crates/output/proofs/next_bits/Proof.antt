@@ -1,12 +1,12 @@
--- `writing::next_bits` meets its contract. Assumes nothing.
+-- `output::next_bits` meets its contract. Assumes nothing.
 use borrow.Author.Needs.{needs}
 use mathlib.Core.Path.{_≡_, refl}
 use Prim.Native.Nat.{ℕ, _-_, _/_, _%_, _^_, _≤_, _<_}
 use native.Mathlib.Nat.{mod-lt}
 use native.Mathlib.Omega.{arith}
 use lib.Pow.{pow-pos}
-use Rattle.writing.proofs.next_bits.Statement.{statement}
-use Rattle.writing.proofs.next_bits.Tie as tie
+use Rattle.output.proofs.next_bits.Statement.{statement}
+use Rattle.output.proofs.next_bits.Tie as tie
 
 rest : (x t m : ℕ) → m ≡ 2 ^ t → (x % m ≡ x % 2 ^ t) × (x % m < 2 ^ t)
 rest x t m e = rw e (refl, mod-lt x (pow-pos t))

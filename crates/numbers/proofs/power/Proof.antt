@@ -1,4 +1,4 @@
--- `writing::power` meets its contract: the shift loses nothing. Assumes nothing.
+-- `numbers::power` meets its contract: the shift loses nothing. Assumes nothing.
 use borrow.Author.Needs.{needs}
 use mathlib.Core.Path.{_≡_, refl, _∙_}
 use Prim.Native.Nat.{ℕ, _*_, _%_, _^_, _≤_}
@@ -6,8 +6,8 @@ use native.Mathlib.Nat.{one-mul}
 use native.Mathlib.Omega.{arith}
 use lib.Dec.{lit<}
 use lib.Pow.{pow-pos, pow-mono, shl-exact}
-use Rattle.writing.proofs.power.Statement.{statement}
-use Rattle.writing.proofs.power.Tie as tie
+use Rattle.numbers.proofs.power.Statement.{statement}
+use Rattle.numbers.proofs.power.Tie as tie
 
 power-is : (k : ℕ) → k ≤ 16 → (1 * 2 ^ k) % 2 ^ 64 ≡ 2 ^ k
 power-is k h = shl-exact {a = 1} 1 k 64 (lit< tt) (omega arith) ∙ one-mul (2 ^ k)

@@ -1,4 +1,4 @@
--- `writing::merged` meets its contract: the shifts lose nothing but what stands before the n bits, and the sum has 32 bits. Assumes nothing.
+-- `output::merged` meets its contract: the shifts lose nothing but what stands before the n bits, and the sum has 32 bits. Assumes nothing.
 use borrow.Author.Needs.{needs}
 use mathlib.Core.Path.{_≡_, refl, _∙_}
 use Prim.Native.Nat.{ℕ, _+_, _-_, _*_, _/_, _%_, _^_, _≤_, _<_}
@@ -7,9 +7,9 @@ use native.Mathlib.Omega.{arith}
 use lib.Arith.{digits-lt}
 use lib.Dec.{lit<}
 use lib.Pow.{pow-pos, pow-add, pow-mono, shr-lt, shl-exact, shl-shr, mod-pow-add}
-use Rattle.writing.proofs.WordLaws.{mergedWord, new-lt}
-use Rattle.writing.proofs.merged.Statement.{statement}
-use Rattle.writing.proofs.merged.Tie as tie
+use Rattle.output.proofs.WordLaws.{mergedWord, new-lt}
+use Rattle.output.proofs.merged.Statement.{statement}
+use Rattle.output.proofs.merged.Tie as tie
 
 power-is : (r : ℕ) → r < 64 → (1 * 2 ^ r) % 2 ^ 64 ≡ 2 ^ r
 power-is r h = shl-exact {a = 1} 1 r 64 (lit< tt) (omega arith) ∙ one-mul (2 ^ r)

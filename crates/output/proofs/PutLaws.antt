@@ -1,4 +1,4 @@
--- Bits that are put into an output: byte after byte, one part after the other, and the number that a tight code is. Assumes nothing.
+-- Bits that are put into an output: byte after byte, and one part after the other. Assumes nothing.
 use mathlib.Core.Bool.{Bool, true, false}
 use mathlib.Core.List.{List, [], _∷_, _++_, append-assoc, append-nil}
 use mathlib.Core.Path.{_≡_, refl, sym, _∙_}
@@ -14,9 +14,7 @@ use Rattle.numbers.proofs.OrderLaws.{split}
 use Rattle.bits.specs.BitLists.{binary, bitsOf, numberOf, packed, bytesFor}
 use Rattle.bits.proofs.ListLaws.{length-binary, length-bits, binary-zero}
 use Rattle.bits.proofs.PackLaws.{number-nil, digit, number-binary, bits-packed, length-packed, room}
-use Rattle.code.specs.Tight.{runThen, codeBits, codeLength}
-use Rattle.code.proofs.TightLaws.{length-codeBits}
-use Rattle.writing.specs.Puts.{codeNumber, putBits, putIf, Room}
+use Rattle.output.specs.Output.{putBits}
 
 -- ---- digits
 
@@ -37,29 +35,6 @@ binary-split zero b v = rw zero-add (binary-low b v)
 binary-split (suc a) b v =
     rw (suc-add a b, binary-split a b (v % 2 ^ (a + b)), field v a b, mod-mod-pow v a b, shr-shr v b a, add-comm b a)
     refl
-
--- a one and k digits
-binary-one : (k n : ℕ) → n < 2 ^ k → binary (1 + k) (2 ^ k + n) ≡ true ∷ binary k n
-unfolding binary
-binary-one k n h =
-    let e : 2 ^ k + n ≡ 1 * 2 ^ k + n = rw one-mul in
-    rw (e, one-add k, high 1 k h, low 1 k h) refl
-
--- so a run and k digits are digits of one number
-run-number : (z k n : ℕ) → n < 2 ^ k → runThen z k n ≡ binary (z + 1 + k) (2 ^ k + n)
-run-number z k n h =
-    let lt : 2 ^ k + n < 2 ^ (1 + k) = rw pow-add (omega arith) in
-    let q : (2 ^ k + n) / 2 ^ (1 + k) ≡ 0 = rw (zero-mul, zero-add) at (high 0 (1 + k) lt) in
-    let m : (2 ^ k + n) % 2 ^ (1 + k) ≡ 2 ^ k + n = rw (zero-mul, zero-add) at (low 0 (1 + k) lt) in
-    rw (add-assoc z 1 k, binary-split z (1 + k) (2 ^ k + n), q, m, binary-zero z, binary-one k n h) refl
-
--- the digits of a tight code
-pub code-digits : (k limit raw c : ℕ) → 1 ≤ limit → c ≤ 2 ^ raw → codeBits k limit raw c ≡ binary (codeLength k limit raw c) (codeNumber k limit raw c)
-unfolding codeBits codeLength codeNumber
-code-digits k limit raw c hl hc =
-    split limit (c / 2 ^ k)
-    (λ h. rw (le-ltb (c / 2 ^ k) limit h) (run-number limit raw (c - 1) (omega (arith, pow-pos raw))))
-    (λ h. rw (lt-ltb (c / 2 ^ k) limit h) (run-number (c / 2 ^ k) k (c % 2 ^ k) (mod-lt c (pow-pos k))))
 
 -- ---- the number of two parts
 
@@ -210,20 +185,3 @@ pub all-digits : (s out : List ℕ) (at n v left : ℕ) → left ≡ 0 → out �
 all-digits s out at n v left z e =
     let f : n - 0 ≡ n = omega arith in
     rw (z, f, div-one v) at e
-
--- ---- a tight code
-
-module _ (store : Bool) (s : List ℕ) (at k limit raw c n : ℕ) (hn : n ≡ codeLength k limit raw c) where
-  -- there is room for its digits
-  pub digits-room : store ≡ true → Room store s at (codeBits k limit raw c) → bytesFor (at + n) ≤ length s
-  digits-room t h = rw (hn, ← length-codeBits k limit raw c) (h t)
-
-  pub code-after : at + n ≡ at + length (codeBits k limit raw c)
-  code-after = rw (hn, length-codeBits k limit raw c)
-
-  pub code-stored : (out : List ℕ) (v : ℕ) → store ≡ true → v ≡ codeNumber k limit raw c → 1 ≤ limit → c ≤ 2 ^ raw → out ≡ putBits s at (binary n v)
-      → out ≡ putIf store s at (codeBits k limit raw c)
-  code-stored out v t hv hl hc e = rw (t, code-digits k limit raw c hl hc, ← hn, ← hv) e
-
-  pub code-counted : store ≡ false → s ≡ putIf store s at (codeBits k limit raw c)
-  code-counted t = rw t

@@ -1,14 +1,14 @@
--- `writing::put_by_bytes` meets its contract: after each turn the first digits stand in the output. Assumes nothing.
+-- `output::put_by_bytes` meets its contract: after each turn the first digits stand in the output. Assumes nothing.
 use borrow.Author.Needs.{needs}
 use mathlib.Core.Path.{_≡_, refl}
 use Prim.Native.Nat.{ℕ, _+_, _-_, _/_, _%_, _≤_, _<_, min}
 use native.Mathlib.Nat.{min-le-left, min-le-right, le-min}
 use native.Mathlib.Omega.{arith}
 use lib.ListN.{length, length-set}
-use Rattle.writing.specs.Puts.{putBits}
-use Rattle.writing.proofs.PutLaws.{firstDigits, put-turn, no-digits, all-digits}
-use Rattle.writing.proofs.put_by_bytes.Statement.{statement}
-use Rattle.writing.proofs.put_by_bytes.Tie as tie
+use Rattle.output.specs.Output.{putBits}
+use Rattle.output.proofs.PutLaws.{firstDigits, put-turn, no-digits, all-digits}
+use Rattle.output.proofs.put_by_bytes.Statement.{statement}
+use Rattle.output.proofs.put_by_bytes.Tie as tie
 
 abbrev Inv-loop : tie.InvT-loop
 Inv-loop out₀ n value left₀ p₀ out left p =

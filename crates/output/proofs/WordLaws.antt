@@ -14,8 +14,8 @@ use Rattle.bits.specs.BitLists.{binary, bitsOf, packed, bytesFor}
 use Rattle.bits.proofs.BitLaws.{bitsAt-lt, bitsAt-split, be32-bits}
 use Rattle.bits.proofs.ListLaws.{length-binary, length-bits, binary-zero, bits-binary, bits-next}
 use Rattle.bits.proofs.PackLaws.{number-binary, bits-packed, packed-bits, bytes-packed}
-use Rattle.writing.specs.Puts.{putBits}
-use Rattle.writing.proofs.PutLaws.{binary-low, binary-split, bits-append, put-some}
+use Rattle.output.specs.Output.{putBits}
+use Rattle.output.proofs.PutLaws.{binary-low, binary-split, bits-append, put-some}
 
 -- ---- the digits of four bytes
 
