@@ -19,7 +19,8 @@ use Rattle.quantiser.specs.Quantisers.{largest}
 use Rattle.stream.specs.declared.Refusal.the-variants.{AboveLargest, NotPredicted, ShortOutput}
 use Rattle.map.specs.Places.{widthOf}
 use Rattle.writing.specs.Sets.{setSize}
-use Rattle.writing.specs.Puts.{putBits, Room, Within}
+use Rattle.output.specs.Output.{putBits}
+use Rattle.writing.specs.Puts.{Room, Within}
 use Rattle.block.specs.WrittenBlocks.{writeLines, tightBlock, FitSet}
 use Rattle.block.specs.WrittenAnswers.{IsSetPut, SetWritten, firstAbove, predictedAnswer, rangeAnswer, measuredAnswer, writtenAnswer}
 use Rattle.block.specs.declared.Form.{Form}

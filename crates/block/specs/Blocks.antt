@@ -9,9 +9,10 @@ use lib.ListN.{length, getD}
 use Rattle.bits.specs.declared.BitPosition.{BitPosition}
 use Rattle.statistics.specs.Statistics.{InRange}
 use Rattle.statistics.specs.declared.Record.{Record}
-use Rattle.pass.specs.Steps.{planOf}
-use Rattle.pass.specs.Readings.{Reading, readPass, andThen, noRecord}
-use Rattle.pass.specs.declared.Plan.{Plan}
+use Rattle.steps.specs.Steps.{planOf}
+use Rattle.steps.specs.Contexts.{noRecord}
+use Rattle.pass.specs.Readings.{Reading, readPass, andThen}
+use Rattle.steps.specs.declared.Plan.{Plan}
 use Rattle.lines.specs.ColourLines.{zeroLines, guarded, turned}
 use Rattle.map.specs.Places.{widthOf, emittedSample}
 use Rattle.map.specs.declared.Part.{Part}

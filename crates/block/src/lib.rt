@@ -9,7 +9,8 @@ ghost use lib.Dec.{ltb, eqb};
 ghost use lib.ListN.{length, getD, set};
 ghost use Rattle.lines.specs.ColourLines.{zeroLines};
 ghost use Rattle.map.specs.Places.{widthOf, ArePlaces, Fits};
-ghost use Rattle.pass.specs.Readings.{noRecord, recordsOf, quantisersOf, Depth};
+ghost use Rattle.steps.specs.Contexts.{noRecord};
+ghost use Rattle.steps.specs.Values.{recordsOf, quantisersOf, Depth};
 ghost use Rattle.quantiser.specs.Quantisers.{largest};
 ghost use Rattle.bits.specs.BitLists.{bytesFor};
 ghost use Rattle.writing.specs.Sets.{lineSize, setSize};
@@ -30,13 +31,13 @@ ghost use Rattle.stream.specs.declared.Refusal.the-variants.{Truncated, ShortSc
 ghost use Rattle.region.specs.Regions.{checkedOf, spanOf, firstBlock, lastBlock, Accepted};
 use bits::BitPosition;
 use map::Part;
-use pass::Quantisers;
-use pass::Set;
 use quantiser::Quantiser;
 use region::Checked;
 use region::Rect;
 use region::Span;
 use statistics::Record;
+use steps::Quantisers;
+use steps::Set;
 use stream::FujiHeader;
 use stream::Parsed;
 use stream::Refusal;
@@ -74,18 +75,12 @@ pub fn width(xtrans: bool) -> usize
     if xtrans { 512 } else { 384 }
 }
 
-fn wide(x: u8) -> u32
-    ensures { λ r. ⌜ (r ≡ x) × (r < 256) ⌝ }
-{
-    x as u32
-}
-
 // The base of line n; a lossless block has none, and base 0 in each line.
 fn base_of(bases: &[u8], n: usize) -> u32
     ensures { λ r. ⌜ (r ≡ baseOf (now (bases .entry)) n) × (r < 256) ⌝ }
 {
     if n < bases.len() {
-        return wide(bases[n]);
+        return numbers::u8_to_u32(bases[n]);
     }
     0
 }
@@ -302,7 +297,7 @@ fn line(
     let mut tight = tight_before;
     let mut i: usize = 0;
     while i < 6 {
-        let p = pass::plan_at(i, xtrans);
+        let p = steps::plan_at(i, xtrans);
         lines::set_guards(lines, w, p.first);
         lines::set_guards(lines, w, p.second);
         let set = load_set(rs, p.set);
@@ -809,12 +804,6 @@ pub enum Written {
     Refused(Refusal),
 }
 
-fn widened(x: u16) -> u32
-    ensures { λ r. ⌜ r ≡ x ⌝ }
-{
-    x as u32
-}
-
 // twin: 0
 // The lowest index of a sample above m, or the length.
 fn first_above(samples: &[u16], m: u32) -> usize
@@ -822,7 +811,7 @@ fn first_above(samples: &[u16], m: u32) -> usize
 {
     let mut i: usize = 0;
     while i < samples.len() {
-        if m < widened(samples[i]) {
+        if m < numbers::u16_to_u32(samples[i]) {
             return i;
         }
         i = i + 1;
@@ -879,7 +868,7 @@ fn write_line(
     let mut at = from;
     let mut i: usize = 0;
     while i < 6 {
-        let p = pass::plan_at(i, xtrans);
+        let p = steps::plan_at(i, xtrans);
         lines::set_guards(lines, w, p.first);
         lines::set_guards(lines, w, p.second);
         let set = load_set(rs, p.set);

@@ -23,9 +23,9 @@ use Rattle.lines.proofs.set_guards.Symbol as Symbol'4
 use Rattle.pass.proofs.pass.Met as Met'5
 use Rattle.pass.proofs.pass.Reads as Reads'6
 use Rattle.pass.proofs.pass.Symbol as Symbol'5
-use Rattle.pass.proofs.plan_at.Met as Met'6
-use Rattle.pass.proofs.plan_at.Reads as Reads'7
-use Rattle.pass.proofs.plan_at.Symbol as Symbol'6
+use Rattle.steps.proofs.plan_at.Met as Met'6
+use Rattle.steps.proofs.plan_at.Reads as Reads'7
+use Rattle.steps.proofs.plan_at.Symbol as Symbol'6
 use borrow.Fn.Run
 use borrow.Fn.Written
 use contract.Running
@@ -1083,12 +1083,11 @@ module _ {M : Type 1} where
     𝓡 = 𝓡;
   }) λ g. closed 𝓤 H (𝓖 .A) (Running.givenOf 𝓤 H 𝓜 𝓖) (Run.Over 𝓤 H 𝓜 𝓖 𝓡 Code.env) (Reads'4.known record { M = M; 𝓤 = 𝓤; H = H; 𝓜 = 𝓜; 𝓖 = 𝓖; 𝓡 = 𝓡 } Code.env
       Symbol'3.name Symbol'3.routine Code.calls-block·width (Met'3.met 𝓤 H 𝓜 𝓖 𝓡)) (Reads'7.known record { M = M; 𝓤 = 𝓤; H = H; 𝓜 = 𝓜; 𝓖 = 𝓖; 𝓡 = 𝓡 } Code.env Symbol'6.name Symbol'6.routine
-      Code.calls-pass·plan-at (Met'6.met 𝓤 H 𝓜 𝓖 𝓡)) (Reads'5.known record { M = M; 𝓤 = 𝓤; H = H; 𝓜 = 𝓜; 𝓖 = 𝓖; 𝓡 = 𝓡 } Code.env Symbol'4.name Symbol'4.routine Code.calls-lines·set-guards (Met'4.met 𝓤 H 𝓜
-      𝓖 𝓡)) (Reads''.known record { M = M; 𝓤 = 𝓤; H = H; 𝓜 = 𝓜; 𝓖 = 𝓖; 𝓡 = 𝓡 } Code.env Symbol'.name Symbol'.routine Code.calls-block·load-set (Met'.met 𝓤 H 𝓜 𝓖 𝓡)) (Reads'6.known record {
+      Code.calls-steps·plan-at (Met'6.met 𝓤 H 𝓜 𝓖 𝓡)) (Reads'5.known record { M = M; 𝓤 = 𝓤; H = H; 𝓜 = 𝓜; 𝓖 = 𝓖; 𝓡 = 𝓡 } Code.env Symbol'4.name Symbol'4.routine Code.calls-lines·set-guards (Met'4.met 𝓤 H
+      𝓜 𝓖 𝓡)) (Reads''.known record { M = M; 𝓤 = 𝓤; H = H; 𝓜 = 𝓜; 𝓖 = 𝓖; 𝓡 = 𝓡 } Code.env Symbol'.name Symbol'.routine Code.calls-block·load-set (Met'.met 𝓤 H 𝓜 𝓖 𝓡)) (Reads'6.known record {
         M = M;
         𝓤 = 𝓤;
-        H
-            = H;
+        H = H;
         𝓜 = 𝓜;
         𝓖 = 𝓖;
         𝓡 = 𝓡;

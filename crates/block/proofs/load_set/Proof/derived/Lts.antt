@@ -1,10 +1,10 @@
 -- Written by tools/lend.py from Rattle's derivation of the twin of `block`; not edited by hand. Assumes nothing.
 use Rattle.block.proofs.Element
 use Prim.Native.Nat
-use Rattle.pass.proofs.Set
-use Rattle.pass.proofs.Set.Laws
 use Rattle.statistics.proofs.Record
-use Rattle.statistics.proofs.Record.Laws as Laws'
+use Rattle.statistics.proofs.Record.Laws
+use Rattle.steps.proofs.Set
+use Rattle.steps.proofs.Set.Laws as Laws'
 use borrow.Author.Called
 use borrow.Author.Tests
 use borrow.Fn.Any
@@ -73,21 +73,21 @@ abbrev pub r : Kinds.RK 1
 r = Value.rVal record {
   ty = Declared.row Set.the-type;
   one = Path'.refl;
-  val = Laws''.val Set.the-type Laws.the-laws;
-  tells = Laws''.tells Set.the-type Laws.the-laws;
+  val = Laws''.val Set.the-type Laws'.the-laws;
+  tells = Laws''.tells Set.the-type Laws'.the-laws;
   still = Laws''.still
-      Set.the-type Laws.the-copy Exit.yes;
+      Set.the-type Laws'.the-copy Exit.yes;
   row = Rows'.whole (Declared.row Set.the-type);
   rd = λ x. x;
   mk = λ x. x;
 } λ M 𝓤 H A W. record {
-  copies = Laws''.copy Set.the-type Laws.the-copy 𝓤 H A W;
-  lawful =
-      Laws''.lawful Set.the-type Laws.the-laws 𝓤 H A W;
-  makes = Laws''.makes Set.the-type Laws.the-plain 𝓤 H A;
+  copies = Laws''.copy Set.the-type Laws'.the-copy 𝓤 H A W;
+  lawful
+      = Laws''.lawful Set.the-type Laws'.the-laws 𝓤 H A W;
+  makes = Laws''.makes Set.the-type Laws'.the-plain 𝓤 H A;
   in-mem = Local.mem-whole 𝓤 H A W (Declared.row Set.the-type);
-  of-mem = Local.whole-mem 𝓤 H A W
-      (Declared.row Set.the-type);
+  of-mem = Local.whole-mem 𝓤 H
+      A W (Declared.row Set.the-type);
 }
 
 abbrev pub xs : List.List Syntax.Ty
@@ -108,21 +108,20 @@ abbrev pub r·0 : Kinds.RK 1
 r·0 = Value.rVal record {
   ty = Declared.row Record.the-type;
   one = Path'.refl;
-  val = Laws''.val Record.the-type Laws'.the-laws;
-  tells = Laws''.tells Record.the-type Laws'.the-laws;
-  still =
-      Laws''.still Record.the-type Laws'.the-copy Exit.yes;
+  val = Laws''.val Record.the-type Laws.the-laws;
+  tells = Laws''.tells Record.the-type Laws.the-laws;
+  still = Laws''.still
+      Record.the-type Laws.the-copy Exit.yes;
   row = Rows'.whole (Declared.row Record.the-type);
   rd = λ x. x;
   mk = λ x. x;
 } λ M 𝓤 H A W. record {
-  copies = Laws''.copy Record.the-type
-      Laws'.the-copy 𝓤 H A W;
-  lawful = Laws''.lawful Record.the-type Laws'.the-laws 𝓤 H A W;
-  makes = Laws''.makes Record.the-type Laws'.the-plain 𝓤 H A;
-  in-mem = Local.mem-whole 𝓤 H A W (Declared.row
-      Record.the-type);
-  of-mem = Local.whole-mem 𝓤 H A W (Declared.row Record.the-type);
+  copies = Laws''.copy Record.the-type Laws.the-copy 𝓤 H A W;
+  lawful = Laws''.lawful Record.the-type Laws.the-laws 𝓤 H A W;
+  makes = Laws''.makes Record.the-type Laws.the-plain 𝓤 H A;
+  in-mem = Local.mem-whole 𝓤 H A W (Declared.row Record.the-type);
+  of-mem =
+      Local.whole-mem 𝓤 H A W (Declared.row Record.the-type);
 }
 
 abbrev pub hs : List.List Syntax.Home
@@ -286,33 +285,32 @@ Claims = Kinds.In 1 ps·0 × Kinds.Out 1 ps·0 r·0
 abbrev pub t0 : List.List Row.Entry
 t0 = List._∷_ (
   0,
-  Rows'.any-gone (Syntax.tyStruct (List._∷_ 112 (List._∷_ 97 (List._∷_ 115 (List._∷_ 115 (List._∷_ 58 (List._∷_ 58 (List._∷_ 83 (List._∷_ 101 (List._∷_ 116 List.[])))))))))
-      (Syntax.tcons (Syntax.tyArray (Syntax.tyInt Syntax.w32) 112) (Syntax.tcons (Syntax.tyArray (Syntax.tyInt Syntax.w32) 112) Syntax.tnil))),
+  Rows'.any-gone (Syntax.tyStruct (List._∷_ 115 (List._∷_ 116 (List._∷_ 101 (List._∷_ 112 (List._∷_ 115 (List._∷_ 58 (List._∷_ 58 (List._∷_ 83 (List._∷_ 101 (List._∷_ 116
+      List.[])))))))))) (Syntax.tcons (Syntax.tyArray (Syntax.tyInt Syntax.w32) 112) (Syntax.tcons (Syntax.tyArray (Syntax.tyInt Syntax.w32) 112) Syntax.tnil))),
 ) (List._∷_ (
   1,
-  Mut.mslice (Element.type) (Syntax.tyRef
-      (Syntax.named 0) Syntax.mut Element.behind) 0,
-) (List._∷_ (2, Rows'.sc-here (Row.sInt Syntax.w64)) (List._∷_ (3, Rows'.any-gone (Syntax.tyArray (Syntax.tyInt Syntax.w32) 112)) (List._∷_ (
-  4,
-  Rows'.any-gone (Syntax.tyArray (Syntax.tyInt Syntax.w32) 112),
-) (List._∷_ (5, Rows'.any-gone (Syntax.tyInt Syntax.w64)) (List._∷_ (
-  6,
-  Rows'.any-gone (Syntax.tyStruct (List._∷_ 115 (List._∷_ 116
-      (List._∷_ 97 (List._∷_ 116 (List._∷_ 105 (List._∷_ 115 (List._∷_ 116 (List._∷_ 105 (List._∷_ 99 (List._∷_ 115 (List._∷_ 58 (List._∷_ 58 (List._∷_ 82 (List._∷_ 101 (List._∷_ 99 (List._∷_ 111 (List._∷_
-      114 (List._∷_ 100 List.[])))))))))))))))))) (Syntax.tcons (Syntax.tyInt Syntax.w32) (Syntax.tcons (Syntax.tyInt Syntax.w32) Syntax.tnil))),
-) (List._∷_ (7, Rows'.any-gone Syntax.tyBool) (List._∷_ (
-  8,
-  Rows'.any-gone (Syntax.tyRef Syntax.erased Syntax.mut Element.behind),
-) (List._∷_ (
-  9,
-  Rows'.any-gone (Syntax.tyStruct (List._∷_ 38 (List._∷_ 91 (List._∷_ 93 List.[]))) (Syntax.tcons (Syntax.tyRef
-      Syntax.erased Syntax.mut Element.behind) (Syntax.tcons (Syntax.tyInt Syntax.w64) Syntax.tnil))),
-) (List._∷_ (10, Rows'.any-gone (Syntax.tyInt Syntax.w64)) (List._∷_ (
-  11,
-  Rows'.any-gone (Syntax.tyInt
-      Syntax.w64),
-) (List._∷_ (12, Rows'.any-gone Syntax.tyPtr) (List._∷_ (13, Rows'.any-gone Syntax.tyPtr) (List._∷_ (14, Rows'.any-gone Syntax.tyPtr) (List._∷_ (15, Rows'.any-gone Syntax.tyPtr)
-    List.[])))))))))))))))
+  Mut.mslice (Element.type)
+      (Syntax.tyRef (Syntax.named 0) Syntax.mut Element.behind) 0,
+) (List._∷_ (2, Rows'.sc-here (Row.sInt Syntax.w64)) (List._∷_ (3, Rows'.any-gone (Syntax.tyArray (Syntax.tyInt Syntax.w32) 112))
+    (List._∷_ (4, Rows'.any-gone (Syntax.tyArray (Syntax.tyInt Syntax.w32) 112)) (List._∷_ (5, Rows'.any-gone (Syntax.tyInt Syntax.w64)) (List._∷_ (
+      6,
+      Rows'.any-gone (Syntax.tyStruct (List._∷_ 115
+          (List._∷_ 116 (List._∷_ 97 (List._∷_ 116 (List._∷_ 105 (List._∷_ 115 (List._∷_ 116 (List._∷_ 105 (List._∷_ 99 (List._∷_ 115 (List._∷_ 58 (List._∷_ 58 (List._∷_ 82 (List._∷_ 101 (List._∷_ 99 (List._∷_
+          111 (List._∷_ 114 (List._∷_ 100 List.[])))))))))))))))))) (Syntax.tcons (Syntax.tyInt Syntax.w32) (Syntax.tcons (Syntax.tyInt Syntax.w32) Syntax.tnil))),
+    ) (List._∷_ (7, Rows'.any-gone Syntax.tyBool)
+    (List._∷_ (8, Rows'.any-gone (Syntax.tyRef Syntax.erased Syntax.mut Element.behind)) (List._∷_ (
+      9,
+      Rows'.any-gone (Syntax.tyStruct (List._∷_ 38 (List._∷_ 91 (List._∷_ 93 List.[]))) (Syntax.tcons
+          (Syntax.tyRef Syntax.erased Syntax.mut Element.behind) (Syntax.tcons (Syntax.tyInt Syntax.w64) Syntax.tnil))),
+    ) (List._∷_ (10, Rows'.any-gone (Syntax.tyInt Syntax.w64)) (List._∷_ (
+      11,
+      Rows'.any-gone
+          (Syntax.tyInt Syntax.w64),
+    ) (List._∷_ (12, Rows'.any-gone Syntax.tyPtr) (List._∷_ (13, Rows'.any-gone Syntax.tyPtr) (List._∷_ (14, Rows'.any-gone Syntax.tyPtr) (List._∷_ (
+      15,
+      Rows'.any-gone
+          Syntax.tyPtr,
+    ) List.[])))))))))))))))
 
 abbrev pub t1 : List.List Row.Entry
 t1 = List._∷_ (16, Rows'.any-gone (Syntax.tyArray (Syntax.tyInt Syntax.w32) 112)) (List._∷_ (17, Rows'.any-gone (Syntax.tyArray (Syntax.tyInt Syntax.w32) 112)) List.[])
@@ -343,13 +341,47 @@ t2 = List._∷_ (0, Rows'.whole (Declared.row Set.the-type)) (List._∷_ (1, Mut
 abbrev pub t3 : List.List Row.Entry
 t3 = List._∷_ (
   0,
-  Rows'.any-gone (Syntax.tyStruct (List._∷_ 112 (List._∷_ 97 (List._∷_ 115 (List._∷_ 115 (List._∷_ 58 (List._∷_ 58 (List._∷_ 83 (List._∷_ 101 (List._∷_ 116 List.[])))))))))
-      (Syntax.tcons (Syntax.tyArray (Syntax.tyInt Syntax.w32) 112) (Syntax.tcons (Syntax.tyArray (Syntax.tyInt Syntax.w32) 112) Syntax.tnil))),
+  Rows'.any-gone (Syntax.tyStruct (List._∷_ 115 (List._∷_ 116 (List._∷_ 101 (List._∷_ 112 (List._∷_ 115 (List._∷_ 58 (List._∷_ 58 (List._∷_ 83 (List._∷_ 101 (List._∷_ 116
+      List.[])))))))))) (Syntax.tcons (Syntax.tyArray (Syntax.tyInt Syntax.w32) 112) (Syntax.tcons (Syntax.tyArray (Syntax.tyInt Syntax.w32) 112) Syntax.tnil))),
 ) (List._∷_ (
   1,
-  Mut.mslice (Element.type) (Syntax.tyRef
-      (Syntax.named 0) Syntax.mut Element.behind) 0,
-) (List._∷_ (2, Rows'.sc-here (Row.sInt Syntax.w64)) (List._∷_ (3, Rows'.whole (Array'.Array (Referent.rtF (Referent.fInt Syntax.w32)) 112)) (List._∷_
+  Mut.mslice (Element.type)
+      (Syntax.tyRef (Syntax.named 0) Syntax.mut Element.behind) 0,
+) (List._∷_ (2, Rows'.sc-here (Row.sInt Syntax.w64)) (List._∷_ (
+  3,
+  Rows'.whole (Array'.Array (Referent.rtF (Referent.fInt Syntax.w32))
+      112),
+) (List._∷_ (4, Rows'.any-gone (Syntax.tyArray (Syntax.tyInt Syntax.w32) 112)) (List._∷_ (5, Rows'.any-gone (Syntax.tyInt Syntax.w64)) (List._∷_ (
+  6,
+  Rows'.any-gone (Syntax.tyStruct (List._∷_
+      115 (List._∷_ 116 (List._∷_ 97 (List._∷_ 116 (List._∷_ 105 (List._∷_ 115 (List._∷_ 116 (List._∷_ 105 (List._∷_ 99 (List._∷_ 115 (List._∷_ 58 (List._∷_ 58 (List._∷_ 82 (List._∷_ 101 (List._∷_ 99
+      (List._∷_ 111 (List._∷_ 114 (List._∷_ 100 List.[])))))))))))))))))) (Syntax.tcons (Syntax.tyInt Syntax.w32) (Syntax.tcons (Syntax.tyInt Syntax.w32) Syntax.tnil))),
+) (List._∷_ (
+  7,
+  Rows'.any-gone
+      Syntax.tyBool,
+) (List._∷_ (8, Rows'.any-gone (Syntax.tyRef Syntax.erased Syntax.mut Element.behind)) (List._∷_ (
+  9,
+  Rows'.any-gone (Syntax.tyStruct (List._∷_ 38 (List._∷_ 91 (List._∷_ 93 List.[])))
+      (Syntax.tcons (Syntax.tyRef Syntax.erased Syntax.mut Element.behind) (Syntax.tcons (Syntax.tyInt Syntax.w64) Syntax.tnil))),
+) (List._∷_ (10, Rows'.any-gone (Syntax.tyInt Syntax.w64)) (List._∷_ (
+  11,
+  Rows'.any-gone (Syntax.tyInt Syntax.w64),
+) (List._∷_ (12, Rows'.any-gone Syntax.tyPtr) (List._∷_ (13, Rows'.any-gone Syntax.tyPtr) (List._∷_ (14, Rows'.any-gone Syntax.tyPtr) (List._∷_ (
+  15,
+  Rows'.any-gone Syntax.tyPtr,
+) List.[])))))))))))))))
+
+abbrev pub t4 : List.List Row.Entry
+t4 = List._∷_ (
+  0,
+  Rows'.any-gone (Syntax.tyStruct (List._∷_ 115 (List._∷_ 116 (List._∷_ 101 (List._∷_ 112 (List._∷_ 115 (List._∷_ 58 (List._∷_ 58 (List._∷_ 83 (List._∷_ 101 (List._∷_ 116
+      List.[])))))))))) (Syntax.tcons (Syntax.tyArray (Syntax.tyInt Syntax.w32) 112) (Syntax.tcons (Syntax.tyArray (Syntax.tyInt Syntax.w32) 112) Syntax.tnil))),
+) (List._∷_ (
+  1,
+  Mut.mslice (Element.type)
+      (Syntax.tyRef (Syntax.named 0) Syntax.mut Element.behind) 0,
+) (List._∷_ (2, Rows'.sc-here (Row.sInt Syntax.w64)) (List._∷_ (3, Rows.arrF (Referent.rtF (Referent.fInt Syntax.w32)) 112 0) (List._∷_
     (4, Rows'.any-gone (Syntax.tyArray (Syntax.tyInt Syntax.w32) 112)) (List._∷_ (5, Rows'.any-gone (Syntax.tyInt Syntax.w64)) (List._∷_ (
       6,
       Rows'.any-gone (Syntax.tyStruct (List._∷_ 115 (List._∷_ 116
@@ -369,55 +401,22 @@ t3 = List._∷_ (
     ) (List._∷_ (12, Rows'.any-gone Syntax.tyPtr) (List._∷_ (13, Rows'.any-gone Syntax.tyPtr) (List._∷_ (14, Rows'.any-gone Syntax.tyPtr) (List._∷_ (15, Rows'.any-gone Syntax.tyPtr)
     List.[])))))))))))))))
 
-abbrev pub t4 : List.List Row.Entry
-t4 = List._∷_ (
-  0,
-  Rows'.any-gone (Syntax.tyStruct (List._∷_ 112 (List._∷_ 97 (List._∷_ 115 (List._∷_ 115 (List._∷_ 58 (List._∷_ 58 (List._∷_ 83 (List._∷_ 101 (List._∷_ 116 List.[])))))))))
-      (Syntax.tcons (Syntax.tyArray (Syntax.tyInt Syntax.w32) 112) (Syntax.tcons (Syntax.tyArray (Syntax.tyInt Syntax.w32) 112) Syntax.tnil))),
-) (List._∷_ (
-  1,
-  Mut.mslice (Element.type) (Syntax.tyRef
-      (Syntax.named 0) Syntax.mut Element.behind) 0,
-) (List._∷_ (2, Rows'.sc-here (Row.sInt Syntax.w64)) (List._∷_ (3, Rows.arrF (Referent.rtF (Referent.fInt Syntax.w32)) 112 0) (List._∷_ (
-  4,
-  Rows'.any-gone (Syntax.tyArray (Syntax.tyInt Syntax.w32) 112),
-) (List._∷_ (5, Rows'.any-gone (Syntax.tyInt Syntax.w64)) (List._∷_ (
-  6,
-  Rows'.any-gone (Syntax.tyStruct (List._∷_ 115 (List._∷_ 116
-      (List._∷_ 97 (List._∷_ 116 (List._∷_ 105 (List._∷_ 115 (List._∷_ 116 (List._∷_ 105 (List._∷_ 99 (List._∷_ 115 (List._∷_ 58 (List._∷_ 58 (List._∷_ 82 (List._∷_ 101 (List._∷_ 99 (List._∷_ 111 (List._∷_
-      114 (List._∷_ 100 List.[])))))))))))))))))) (Syntax.tcons (Syntax.tyInt Syntax.w32) (Syntax.tcons (Syntax.tyInt Syntax.w32) Syntax.tnil))),
-) (List._∷_ (7, Rows'.any-gone Syntax.tyBool) (List._∷_ (
-  8,
-  Rows'.any-gone (Syntax.tyRef Syntax.erased Syntax.mut Element.behind),
-) (List._∷_ (
-  9,
-  Rows'.any-gone (Syntax.tyStruct (List._∷_ 38 (List._∷_ 91 (List._∷_ 93 List.[]))) (Syntax.tcons (Syntax.tyRef
-      Syntax.erased Syntax.mut Element.behind) (Syntax.tcons (Syntax.tyInt Syntax.w64) Syntax.tnil))),
-) (List._∷_ (10, Rows'.any-gone (Syntax.tyInt Syntax.w64)) (List._∷_ (
-  11,
-  Rows'.any-gone (Syntax.tyInt
-      Syntax.w64),
-) (List._∷_ (12, Rows'.any-gone Syntax.tyPtr) (List._∷_ (13, Rows'.any-gone Syntax.tyPtr) (List._∷_ (14, Rows'.any-gone Syntax.tyPtr) (List._∷_ (15, Rows'.any-gone Syntax.tyPtr)
-    List.[])))))))))))))))
-
 abbrev pub t5 : List.List Row.Entry
 t5 = List._∷_ (
   0,
-  Rows'.any-gone (Syntax.tyStruct (List._∷_ 112 (List._∷_ 97 (List._∷_ 115 (List._∷_ 115 (List._∷_ 58 (List._∷_ 58 (List._∷_ 83 (List._∷_ 101 (List._∷_ 116 List.[])))))))))
-      (Syntax.tcons (Syntax.tyArray (Syntax.tyInt Syntax.w32) 112) (Syntax.tcons (Syntax.tyArray (Syntax.tyInt Syntax.w32) 112) Syntax.tnil))),
+  Rows'.any-gone (Syntax.tyStruct (List._∷_ 115 (List._∷_ 116 (List._∷_ 101 (List._∷_ 112 (List._∷_ 115 (List._∷_ 58 (List._∷_ 58 (List._∷_ 83 (List._∷_ 101 (List._∷_ 116
+      List.[])))))))))) (Syntax.tcons (Syntax.tyArray (Syntax.tyInt Syntax.w32) 112) (Syntax.tcons (Syntax.tyArray (Syntax.tyInt Syntax.w32) 112) Syntax.tnil))),
 ) (List._∷_ (
   1,
-  Mut.mslice (Element.type) (Syntax.tyRef
-      (Syntax.named 0) Syntax.mut Element.behind) 0,
-) (List._∷_ (2, Rows'.sc-here (Row.sInt Syntax.w64)) (List._∷_ (3, Rows.arrF (Referent.rtF (Referent.fInt Syntax.w32)) 112 0) (List._∷_ (
-  4,
-  Rows'.whole (Array'.Array (Referent.rtF (Referent.fInt Syntax.w32)) 112),
-) (List._∷_ (5, Rows'.any-gone (Syntax.tyInt Syntax.w64)) (List._∷_ (
-  6,
-  Rows'.any-gone (Syntax.tyStruct (List._∷_ 115 (List._∷_
-      116 (List._∷_ 97 (List._∷_ 116 (List._∷_ 105 (List._∷_ 115 (List._∷_ 116 (List._∷_ 105 (List._∷_ 99 (List._∷_ 115 (List._∷_ 58 (List._∷_ 58 (List._∷_ 82 (List._∷_ 101 (List._∷_ 99 (List._∷_ 111
-      (List._∷_ 114 (List._∷_ 100 List.[])))))))))))))))))) (Syntax.tcons (Syntax.tyInt Syntax.w32) (Syntax.tcons (Syntax.tyInt Syntax.w32) Syntax.tnil))),
-) (List._∷_ (7, Rows'.any-gone Syntax.tyBool)
+  Mut.mslice (Element.type)
+      (Syntax.tyRef (Syntax.named 0) Syntax.mut Element.behind) 0,
+) (List._∷_ (2, Rows'.sc-here (Row.sInt Syntax.w64)) (List._∷_ (3, Rows.arrF (Referent.rtF (Referent.fInt Syntax.w32)) 112 0) (List._∷_
+    (4, Rows'.whole (Array'.Array (Referent.rtF (Referent.fInt Syntax.w32)) 112)) (List._∷_ (5, Rows'.any-gone (Syntax.tyInt Syntax.w64)) (List._∷_ (
+      6,
+      Rows'.any-gone (Syntax.tyStruct (List._∷_ 115
+          (List._∷_ 116 (List._∷_ 97 (List._∷_ 116 (List._∷_ 105 (List._∷_ 115 (List._∷_ 116 (List._∷_ 105 (List._∷_ 99 (List._∷_ 115 (List._∷_ 58 (List._∷_ 58 (List._∷_ 82 (List._∷_ 101 (List._∷_ 99 (List._∷_
+          111 (List._∷_ 114 (List._∷_ 100 List.[])))))))))))))))))) (Syntax.tcons (Syntax.tyInt Syntax.w32) (Syntax.tcons (Syntax.tyInt Syntax.w32) Syntax.tnil))),
+    ) (List._∷_ (7, Rows'.any-gone Syntax.tyBool)
     (List._∷_ (8, Rows'.any-gone (Syntax.tyRef Syntax.erased Syntax.mut Element.behind)) (List._∷_ (
       9,
       Rows'.any-gone (Syntax.tyStruct (List._∷_ 38 (List._∷_ 91 (List._∷_ 93 List.[]))) (Syntax.tcons
@@ -435,572 +434,607 @@ t5 = List._∷_ (
 abbrev pub t6 : List.List Row.Entry
 t6 = List._∷_ (
   0,
-  Rows'.any-gone (Syntax.tyStruct (List._∷_ 112 (List._∷_ 97 (List._∷_ 115 (List._∷_ 115 (List._∷_ 58 (List._∷_ 58 (List._∷_ 83 (List._∷_ 101 (List._∷_ 116 List.[])))))))))
-      (Syntax.tcons (Syntax.tyArray (Syntax.tyInt Syntax.w32) 112) (Syntax.tcons (Syntax.tyArray (Syntax.tyInt Syntax.w32) 112) Syntax.tnil))),
+  Rows'.any-gone (Syntax.tyStruct (List._∷_ 115 (List._∷_ 116 (List._∷_ 101 (List._∷_ 112 (List._∷_ 115 (List._∷_ 58 (List._∷_ 58 (List._∷_ 83 (List._∷_ 101 (List._∷_ 116
+      List.[])))))))))) (Syntax.tcons (Syntax.tyArray (Syntax.tyInt Syntax.w32) 112) (Syntax.tcons (Syntax.tyArray (Syntax.tyInt Syntax.w32) 112) Syntax.tnil))),
 ) (List._∷_ (
   1,
-  Mut.mslice (Element.type) (Syntax.tyRef
-      (Syntax.named 0) Syntax.mut Element.behind) 0,
-) (List._∷_ (2, Rows'.sc-here (Row.sInt Syntax.w64)) (List._∷_ (3, Rows.arrF (Referent.rtF (Referent.fInt Syntax.w32)) 112 0) (List._∷_ (
-  4,
-  Rows.arrF
-      (Referent.rtF (Referent.fInt Syntax.w32)) 112 0,
-) (List._∷_ (5, Rows'.any-gone (Syntax.tyInt Syntax.w64)) (List._∷_ (
-  6,
-  Rows'.any-gone (Syntax.tyStruct (List._∷_ 115 (List._∷_ 116 (List._∷_ 97
-      (List._∷_ 116 (List._∷_ 105 (List._∷_ 115 (List._∷_ 116 (List._∷_ 105 (List._∷_ 99 (List._∷_ 115 (List._∷_ 58 (List._∷_ 58 (List._∷_ 82 (List._∷_ 101 (List._∷_ 99 (List._∷_ 111 (List._∷_ 114 (List._∷_
-      100 List.[])))))))))))))))))) (Syntax.tcons (Syntax.tyInt Syntax.w32) (Syntax.tcons (Syntax.tyInt Syntax.w32) Syntax.tnil))),
-) (List._∷_ (7, Rows'.any-gone Syntax.tyBool) (List._∷_ (
-  8,
-  Rows'.any-gone (Syntax.tyRef Syntax.erased Syntax.mut Element.behind),
-) (List._∷_ (
-  9,
-  Rows'.any-gone (Syntax.tyStruct (List._∷_ 38 (List._∷_ 91 (List._∷_ 93 List.[]))) (Syntax.tcons (Syntax.tyRef
-      Syntax.erased Syntax.mut Element.behind) (Syntax.tcons (Syntax.tyInt Syntax.w64) Syntax.tnil))),
-) (List._∷_ (10, Rows'.any-gone (Syntax.tyInt Syntax.w64)) (List._∷_ (
-  11,
-  Rows'.any-gone (Syntax.tyInt
-      Syntax.w64),
-) (List._∷_ (12, Rows'.any-gone Syntax.tyPtr) (List._∷_ (13, Rows'.any-gone Syntax.tyPtr) (List._∷_ (14, Rows'.any-gone Syntax.tyPtr) (List._∷_ (15, Rows'.any-gone Syntax.tyPtr)
+  Mut.mslice (Element.type)
+      (Syntax.tyRef (Syntax.named 0) Syntax.mut Element.behind) 0,
+) (List._∷_ (2, Rows'.sc-here (Row.sInt Syntax.w64)) (List._∷_ (3, Rows.arrF (Referent.rtF (Referent.fInt Syntax.w32)) 112 0) (List._∷_
+    (4, Rows.arrF (Referent.rtF (Referent.fInt Syntax.w32)) 112 0) (List._∷_ (5, Rows'.any-gone (Syntax.tyInt Syntax.w64)) (List._∷_ (
+      6,
+      Rows'.any-gone (Syntax.tyStruct (List._∷_ 115 (List._∷_ 116
+          (List._∷_ 97 (List._∷_ 116 (List._∷_ 105 (List._∷_ 115 (List._∷_ 116 (List._∷_ 105 (List._∷_ 99 (List._∷_ 115 (List._∷_ 58 (List._∷_ 58 (List._∷_ 82 (List._∷_ 101 (List._∷_ 99 (List._∷_ 111 (List._∷_
+          114 (List._∷_ 100 List.[])))))))))))))))))) (Syntax.tcons (Syntax.tyInt Syntax.w32) (Syntax.tcons (Syntax.tyInt Syntax.w32) Syntax.tnil))),
+    ) (List._∷_ (7, Rows'.any-gone Syntax.tyBool) (List._∷_ (
+      8,
+      Rows'.any-gone (Syntax.tyRef Syntax.erased Syntax.mut Element.behind),
+    ) (List._∷_ (
+      9,
+      Rows'.any-gone (Syntax.tyStruct (List._∷_ 38 (List._∷_ 91 (List._∷_ 93 List.[]))) (Syntax.tcons (Syntax.tyRef
+          Syntax.erased Syntax.mut Element.behind) (Syntax.tcons (Syntax.tyInt Syntax.w64) Syntax.tnil))),
+    ) (List._∷_ (10, Rows'.any-gone (Syntax.tyInt Syntax.w64)) (List._∷_ (
+      11,
+      Rows'.any-gone (Syntax.tyInt
+          Syntax.w64),
+    ) (List._∷_ (12, Rows'.any-gone Syntax.tyPtr) (List._∷_ (13, Rows'.any-gone Syntax.tyPtr) (List._∷_ (14, Rows'.any-gone Syntax.tyPtr) (List._∷_ (15, Rows'.any-gone Syntax.tyPtr)
     List.[])))))))))))))))
 
 abbrev pub t7 : List.List Row.Entry
 t7 = List._∷_ (
   0,
-  Rows'.any-gone (Syntax.tyStruct (List._∷_ 112 (List._∷_ 97 (List._∷_ 115 (List._∷_ 115 (List._∷_ 58 (List._∷_ 58 (List._∷_ 83 (List._∷_ 101 (List._∷_ 116 List.[])))))))))
-      (Syntax.tcons (Syntax.tyArray (Syntax.tyInt Syntax.w32) 112) (Syntax.tcons (Syntax.tyArray (Syntax.tyInt Syntax.w32) 112) Syntax.tnil))),
+  Rows'.any-gone (Syntax.tyStruct (List._∷_ 115 (List._∷_ 116 (List._∷_ 101 (List._∷_ 112 (List._∷_ 115 (List._∷_ 58 (List._∷_ 58 (List._∷_ 83 (List._∷_ 101 (List._∷_ 116
+      List.[])))))))))) (Syntax.tcons (Syntax.tyArray (Syntax.tyInt Syntax.w32) 112) (Syntax.tcons (Syntax.tyArray (Syntax.tyInt Syntax.w32) 112) Syntax.tnil))),
 ) (List._∷_ (
   1,
-  Mut.mslice (Element.type) (Syntax.tyRef
-      (Syntax.named 0) Syntax.mut Element.behind) 0,
-) (List._∷_ (2, Rows'.sc-here (Row.sInt Syntax.w64)) (List._∷_ (3, Rows.arrF (Referent.rtF (Referent.fInt Syntax.w32)) 112 0) (List._∷_ (
-  4,
-  Rows.arrF
-      (Referent.rtF (Referent.fInt Syntax.w32)) 112 0,
-) (List._∷_ (5, Rows'.sc-here (Row.sInt Syntax.w64)) (List._∷_ (
-  6,
-  Rows'.any-gone (Syntax.tyStruct (List._∷_ 115 (List._∷_ 116 (List._∷_ 97 (List._∷_
-      116 (List._∷_ 105 (List._∷_ 115 (List._∷_ 116 (List._∷_ 105 (List._∷_ 99 (List._∷_ 115 (List._∷_ 58 (List._∷_ 58 (List._∷_ 82 (List._∷_ 101 (List._∷_ 99 (List._∷_ 111 (List._∷_ 114 (List._∷_ 100
-      List.[])))))))))))))))))) (Syntax.tcons (Syntax.tyInt Syntax.w32) (Syntax.tcons (Syntax.tyInt Syntax.w32) Syntax.tnil))),
-) (List._∷_ (7, Rows'.any-gone Syntax.tyBool) (List._∷_ (
-  8,
-  Rows'.any-gone
-      (Syntax.tyRef Syntax.erased Syntax.mut Element.behind),
-) (List._∷_ (
-  9,
-  Rows'.any-gone (Syntax.tyStruct (List._∷_ 38 (List._∷_ 91 (List._∷_ 93 List.[]))) (Syntax.tcons (Syntax.tyRef Syntax.erased
-      Syntax.mut Element.behind) (Syntax.tcons (Syntax.tyInt Syntax.w64) Syntax.tnil))),
-) (List._∷_ (10, Rows'.any-gone (Syntax.tyInt Syntax.w64)) (List._∷_ (
-  11,
-  Rows'.any-gone (Syntax.tyInt Syntax.w64),
-) (List._∷_ (12, Rows'.any-gone Syntax.tyPtr) (List._∷_ (13, Rows'.any-gone Syntax.tyPtr) (List._∷_ (14, Rows'.any-gone Syntax.tyPtr) (List._∷_ (15, Rows'.any-gone Syntax.tyPtr) List.[])))))))))))))))
+  Mut.mslice (Element.type)
+      (Syntax.tyRef (Syntax.named 0) Syntax.mut Element.behind) 0,
+) (List._∷_ (2, Rows'.sc-here (Row.sInt Syntax.w64)) (List._∷_ (3, Rows.arrF (Referent.rtF (Referent.fInt Syntax.w32)) 112 0) (List._∷_
+    (4, Rows.arrF (Referent.rtF (Referent.fInt Syntax.w32)) 112 0) (List._∷_ (5, Rows'.sc-here (Row.sInt Syntax.w64)) (List._∷_ (
+      6,
+      Rows'.any-gone (Syntax.tyStruct (List._∷_ 115 (List._∷_ 116
+          (List._∷_ 97 (List._∷_ 116 (List._∷_ 105 (List._∷_ 115 (List._∷_ 116 (List._∷_ 105 (List._∷_ 99 (List._∷_ 115 (List._∷_ 58 (List._∷_ 58 (List._∷_ 82 (List._∷_ 101 (List._∷_ 99 (List._∷_ 111 (List._∷_
+          114 (List._∷_ 100 List.[])))))))))))))))))) (Syntax.tcons (Syntax.tyInt Syntax.w32) (Syntax.tcons (Syntax.tyInt Syntax.w32) Syntax.tnil))),
+    ) (List._∷_ (7, Rows'.any-gone Syntax.tyBool) (List._∷_ (
+      8,
+      Rows'.any-gone (Syntax.tyRef Syntax.erased Syntax.mut Element.behind),
+    ) (List._∷_ (
+      9,
+      Rows'.any-gone (Syntax.tyStruct (List._∷_ 38 (List._∷_ 91 (List._∷_ 93 List.[]))) (Syntax.tcons (Syntax.tyRef
+          Syntax.erased Syntax.mut Element.behind) (Syntax.tcons (Syntax.tyInt Syntax.w64) Syntax.tnil))),
+    ) (List._∷_ (10, Rows'.any-gone (Syntax.tyInt Syntax.w64)) (List._∷_ (
+      11,
+      Rows'.any-gone (Syntax.tyInt
+          Syntax.w64),
+    ) (List._∷_ (12, Rows'.any-gone Syntax.tyPtr) (List._∷_ (13, Rows'.any-gone Syntax.tyPtr) (List._∷_ (14, Rows'.any-gone Syntax.tyPtr) (List._∷_ (15, Rows'.any-gone Syntax.tyPtr)
+    List.[])))))))))))))))
 
 abbrev pub t8 : List.List Row.Entry
 t8 = List._∷_ (
   0,
-  Rows'.any-gone (Syntax.tyStruct (List._∷_ 112 (List._∷_ 97 (List._∷_ 115 (List._∷_ 115 (List._∷_ 58 (List._∷_ 58 (List._∷_ 83 (List._∷_ 101 (List._∷_ 116 List.[])))))))))
-      (Syntax.tcons (Syntax.tyArray (Syntax.tyInt Syntax.w32) 112) (Syntax.tcons (Syntax.tyArray (Syntax.tyInt Syntax.w32) 112) Syntax.tnil))),
+  Rows'.any-gone (Syntax.tyStruct (List._∷_ 115 (List._∷_ 116 (List._∷_ 101 (List._∷_ 112 (List._∷_ 115 (List._∷_ 58 (List._∷_ 58 (List._∷_ 83 (List._∷_ 101 (List._∷_ 116
+      List.[])))))))))) (Syntax.tcons (Syntax.tyArray (Syntax.tyInt Syntax.w32) 112) (Syntax.tcons (Syntax.tyArray (Syntax.tyInt Syntax.w32) 112) Syntax.tnil))),
 ) (List._∷_ (
   1,
-  Mut.mslice (Element.type) (Syntax.tyRef
-      (Syntax.named 0) Syntax.mut Element.behind) 0,
-) (List._∷_ (2, Rows'.sc-here (Row.sInt Syntax.w64)) (List._∷_ (3, Rows.arrF (Referent.rtF (Referent.fInt Syntax.w32)) 112 0) (List._∷_ (
-  4,
-  Rows.arrF
-      (Referent.rtF (Referent.fInt Syntax.w32)) 112 0,
-) (List._∷_ (5, Rows'.sc-here (Row.sInt Syntax.w64)) (List._∷_ (
-  6,
-  Rows'.any-gone (Syntax.tyStruct (List._∷_ 115 (List._∷_ 116 (List._∷_ 97 (List._∷_
-      116 (List._∷_ 105 (List._∷_ 115 (List._∷_ 116 (List._∷_ 105 (List._∷_ 99 (List._∷_ 115 (List._∷_ 58 (List._∷_ 58 (List._∷_ 82 (List._∷_ 101 (List._∷_ 99 (List._∷_ 111 (List._∷_ 114 (List._∷_ 100
-      List.[])))))))))))))))))) (Syntax.tcons (Syntax.tyInt Syntax.w32) (Syntax.tcons (Syntax.tyInt Syntax.w32) Syntax.tnil))),
-) (List._∷_ (7, Rows'.sc-here Row.sBool) (List._∷_ (
-  8,
-  Rows'.any-gone
-      (Syntax.tyRef Syntax.erased Syntax.mut Element.behind),
-) (List._∷_ (
-  9,
-  Rows'.any-gone (Syntax.tyStruct (List._∷_ 38 (List._∷_ 91 (List._∷_ 93 List.[]))) (Syntax.tcons (Syntax.tyRef Syntax.erased
-      Syntax.mut Element.behind) (Syntax.tcons (Syntax.tyInt Syntax.w64) Syntax.tnil))),
-) (List._∷_ (10, Rows'.any-gone (Syntax.tyInt Syntax.w64)) (List._∷_ (
-  11,
-  Rows'.any-gone (Syntax.tyInt Syntax.w64),
-) (List._∷_ (12, Rows'.any-gone Syntax.tyPtr) (List._∷_ (13, Rows'.any-gone Syntax.tyPtr) (List._∷_ (14, Rows'.any-gone Syntax.tyPtr) (List._∷_ (15, Rows'.any-gone Syntax.tyPtr) List.[])))))))))))))))
+  Mut.mslice (Element.type)
+      (Syntax.tyRef (Syntax.named 0) Syntax.mut Element.behind) 0,
+) (List._∷_ (2, Rows'.sc-here (Row.sInt Syntax.w64)) (List._∷_ (3, Rows.arrF (Referent.rtF (Referent.fInt Syntax.w32)) 112 0) (List._∷_
+    (4, Rows.arrF (Referent.rtF (Referent.fInt Syntax.w32)) 112 0) (List._∷_ (5, Rows'.sc-here (Row.sInt Syntax.w64)) (List._∷_ (
+      6,
+      Rows'.any-gone (Syntax.tyStruct (List._∷_ 115 (List._∷_ 116
+          (List._∷_ 97 (List._∷_ 116 (List._∷_ 105 (List._∷_ 115 (List._∷_ 116 (List._∷_ 105 (List._∷_ 99 (List._∷_ 115 (List._∷_ 58 (List._∷_ 58 (List._∷_ 82 (List._∷_ 101 (List._∷_ 99 (List._∷_ 111 (List._∷_
+          114 (List._∷_ 100 List.[])))))))))))))))))) (Syntax.tcons (Syntax.tyInt Syntax.w32) (Syntax.tcons (Syntax.tyInt Syntax.w32) Syntax.tnil))),
+    ) (List._∷_ (7, Rows'.sc-here Row.sBool) (List._∷_ (
+      8,
+      Rows'.any-gone (Syntax.tyRef Syntax.erased Syntax.mut Element.behind),
+    ) (List._∷_ (
+      9,
+      Rows'.any-gone (Syntax.tyStruct (List._∷_ 38 (List._∷_ 91 (List._∷_ 93 List.[]))) (Syntax.tcons (Syntax.tyRef
+          Syntax.erased Syntax.mut Element.behind) (Syntax.tcons (Syntax.tyInt Syntax.w64) Syntax.tnil))),
+    ) (List._∷_ (10, Rows'.any-gone (Syntax.tyInt Syntax.w64)) (List._∷_ (
+      11,
+      Rows'.any-gone (Syntax.tyInt
+          Syntax.w64),
+    ) (List._∷_ (12, Rows'.any-gone Syntax.tyPtr) (List._∷_ (13, Rows'.any-gone Syntax.tyPtr) (List._∷_ (14, Rows'.any-gone Syntax.tyPtr) (List._∷_ (15, Rows'.any-gone Syntax.tyPtr)
+    List.[])))))))))))))))
 
 abbrev pub t9 : List.List Row.Entry
 t9 = List._∷_ (
   0,
-  Rows'.any-gone (Syntax.tyStruct (List._∷_ 112 (List._∷_ 97 (List._∷_ 115 (List._∷_ 115 (List._∷_ 58 (List._∷_ 58 (List._∷_ 83 (List._∷_ 101 (List._∷_ 116 List.[])))))))))
-      (Syntax.tcons (Syntax.tyArray (Syntax.tyInt Syntax.w32) 112) (Syntax.tcons (Syntax.tyArray (Syntax.tyInt Syntax.w32) 112) Syntax.tnil))),
+  Rows'.any-gone (Syntax.tyStruct (List._∷_ 115 (List._∷_ 116 (List._∷_ 101 (List._∷_ 112 (List._∷_ 115 (List._∷_ 58 (List._∷_ 58 (List._∷_ 83 (List._∷_ 101 (List._∷_ 116
+      List.[])))))))))) (Syntax.tcons (Syntax.tyArray (Syntax.tyInt Syntax.w32) 112) (Syntax.tcons (Syntax.tyArray (Syntax.tyInt Syntax.w32) 112) Syntax.tnil))),
 ) (List._∷_ (
   1,
-  Relend.mslice-owed (Element.type)
-      (Syntax.tyRef (Syntax.named 0) Syntax.mut Element.behind) 0 1 Row.off,
-) (List._∷_ (2, Rows'.sc-here (Row.sInt Syntax.w64)) (List._∷_ (3, Rows.arrF (Referent.rtF (Referent.fInt Syntax.w32)) 112 0)
-    (List._∷_ (4, Rows.arrF (Referent.rtF (Referent.fInt Syntax.w32)) 112 0) (List._∷_ (5, Rows'.sc-here (Row.sInt Syntax.w64)) (List._∷_ (
-      6,
-      Rows'.any-gone (Syntax.tyStruct (List._∷_ 115 (List._∷_
-          116 (List._∷_ 97 (List._∷_ 116 (List._∷_ 105 (List._∷_ 115 (List._∷_ 116 (List._∷_ 105 (List._∷_ 99 (List._∷_ 115 (List._∷_ 58 (List._∷_ 58 (List._∷_ 82 (List._∷_ 101 (List._∷_ 99 (List._∷_ 111
-          (List._∷_ 114 (List._∷_ 100 List.[])))))))))))))))))) (Syntax.tcons (Syntax.tyInt Syntax.w32) (Syntax.tcons (Syntax.tyInt Syntax.w32) Syntax.tnil))),
-    ) (List._∷_ (7, Rows'.any-gone Syntax.tyBool)
-    (List._∷_ (8, Relend.msptr (Element.type) (Syntax.tyRef Syntax.erased Syntax.mut Element.behind) 1) (List._∷_ (
-      9,
-      Rows'.any-gone (Syntax.tyStruct (List._∷_ 38 (List._∷_ 91 (List._∷_ 93 List.[])))
-          (Syntax.tcons (Syntax.tyRef Syntax.erased Syntax.mut Element.behind) (Syntax.tcons (Syntax.tyInt Syntax.w64) Syntax.tnil))),
-    ) (List._∷_ (10, Rows'.any-gone (Syntax.tyInt Syntax.w64)) (List._∷_ (
-      11,
-      Rows'.any-gone (Syntax.tyInt Syntax.w64),
-    ) (List._∷_ (12, Rows'.any-gone Syntax.tyPtr) (List._∷_ (13, Rows'.any-gone Syntax.tyPtr) (List._∷_ (14, Rows'.any-gone Syntax.tyPtr) (List._∷_ (
-      15,
-      Rows'.any-gone Syntax.tyPtr,
-    ) List.[])))))))))))))))
-
-abbrev pub t10 : List.List Row.Entry
-t10 = List._∷_ (
-  0,
-  Rows'.any-gone (Syntax.tyStruct (List._∷_ 112 (List._∷_ 97 (List._∷_ 115 (List._∷_ 115 (List._∷_ 58 (List._∷_ 58 (List._∷_ 83 (List._∷_ 101 (List._∷_ 116 List.[])))))))))
-      (Syntax.tcons (Syntax.tyArray (Syntax.tyInt Syntax.w32) 112) (Syntax.tcons (Syntax.tyArray (Syntax.tyInt Syntax.w32) 112) Syntax.tnil))),
+  Relend.mslice-owed
+      (Element.type) (Syntax.tyRef (Syntax.named 0) Syntax.mut Element.behind) 0 1 Row.off,
+) (List._∷_ (2, Rows'.sc-here (Row.sInt Syntax.w64)) (List._∷_ (
+  3,
+  Rows.arrF (Referent.rtF (Referent.fInt
+      Syntax.w32)) 112 0,
+) (List._∷_ (4, Rows.arrF (Referent.rtF (Referent.fInt Syntax.w32)) 112 0) (List._∷_ (5, Rows'.sc-here (Row.sInt Syntax.w64)) (List._∷_ (
+  6,
+  Rows'.any-gone (Syntax.tyStruct
+      (List._∷_ 115 (List._∷_ 116 (List._∷_ 97 (List._∷_ 116 (List._∷_ 105 (List._∷_ 115 (List._∷_ 116 (List._∷_ 105 (List._∷_ 99 (List._∷_ 115 (List._∷_ 58 (List._∷_ 58 (List._∷_ 82 (List._∷_ 101 (List._∷_
+      99 (List._∷_ 111 (List._∷_ 114 (List._∷_ 100 List.[])))))))))))))))))) (Syntax.tcons (Syntax.tyInt Syntax.w32) (Syntax.tcons (Syntax.tyInt Syntax.w32) Syntax.tnil))),
 ) (List._∷_ (
-  1,
-  Relend.mslice-owed (Element.type)
-      (Syntax.tyRef (Syntax.named 0) Syntax.mut Element.behind) 0 1 Row.off,
-) (List._∷_ (2, Rows'.sc-here (Row.sInt Syntax.w64)) (List._∷_ (3, Rows.arrF (Referent.rtF (Referent.fInt Syntax.w32)) 112 0)
-    (List._∷_ (4, Rows.arrF (Referent.rtF (Referent.fInt Syntax.w32)) 112 0) (List._∷_ (5, Rows'.sc-here (Row.sInt Syntax.w64)) (List._∷_ (
-      6,
-      Rows'.any-gone (Syntax.tyStruct (List._∷_ 115 (List._∷_
-          116 (List._∷_ 97 (List._∷_ 116 (List._∷_ 105 (List._∷_ 115 (List._∷_ 116 (List._∷_ 105 (List._∷_ 99 (List._∷_ 115 (List._∷_ 58 (List._∷_ 58 (List._∷_ 82 (List._∷_ 101 (List._∷_ 99 (List._∷_ 111
-          (List._∷_ 114 (List._∷_ 100 List.[])))))))))))))))))) (Syntax.tcons (Syntax.tyInt Syntax.w32) (Syntax.tcons (Syntax.tyInt Syntax.w32) Syntax.tnil))),
-    ) (List._∷_ (7, Rows'.any-gone Syntax.tyBool)
-    (List._∷_ (8, Rows'.any-gone (Syntax.tyRef Syntax.erased Syntax.mut Element.behind)) (List._∷_ (9, Mut.mslice (Element.type) (Syntax.tyRef Syntax.erased Syntax.mut Element.behind) 1) (List._∷_
-    (10, Rows'.any-gone (Syntax.tyInt Syntax.w64)) (List._∷_ (11, Rows'.any-gone (Syntax.tyInt Syntax.w64)) (List._∷_ (12, Rows'.any-gone Syntax.tyPtr) (List._∷_ (13, Rows'.any-gone Syntax.tyPtr)
-    (List._∷_ (14, Rows'.any-gone Syntax.tyPtr) (List._∷_ (15, Rows'.any-gone Syntax.tyPtr) List.[])))))))))))))))
-
-abbrev pub t11 : List.List Row.Entry
-t11 = List._∷_ (
-  0,
-  Rows'.any-gone (Syntax.tyStruct (List._∷_ 112 (List._∷_ 97 (List._∷_ 115 (List._∷_ 115 (List._∷_ 58 (List._∷_ 58 (List._∷_ 83 (List._∷_ 101 (List._∷_ 116 List.[])))))))))
-      (Syntax.tcons (Syntax.tyArray (Syntax.tyInt Syntax.w32) 112) (Syntax.tcons (Syntax.tyArray (Syntax.tyInt Syntax.w32) 112) Syntax.tnil))),
-) (List._∷_ (
-  1,
-  Relend.mslice-owed (Element.type)
-      (Syntax.tyRef (Syntax.named 0) Syntax.mut Element.behind) 0 1 Row.off,
-) (List._∷_ (2, Rows'.sc-here (Row.sInt Syntax.w64)) (List._∷_ (3, Rows.arrF (Referent.rtF (Referent.fInt Syntax.w32)) 112 0)
-    (List._∷_ (4, Rows.arrF (Referent.rtF (Referent.fInt Syntax.w32)) 112 0) (List._∷_ (5, Rows'.sc-here (Row.sInt Syntax.w64)) (List._∷_ (
-      6,
-      Rows'.any-gone (Syntax.tyStruct (List._∷_ 115 (List._∷_
-          116 (List._∷_ 97 (List._∷_ 116 (List._∷_ 105 (List._∷_ 115 (List._∷_ 116 (List._∷_ 105 (List._∷_ 99 (List._∷_ 115 (List._∷_ 58 (List._∷_ 58 (List._∷_ 82 (List._∷_ 101 (List._∷_ 99 (List._∷_ 111
-          (List._∷_ 114 (List._∷_ 100 List.[])))))))))))))))))) (Syntax.tcons (Syntax.tyInt Syntax.w32) (Syntax.tcons (Syntax.tyInt Syntax.w32) Syntax.tnil))),
-    ) (List._∷_ (7, Rows'.any-gone Syntax.tyBool)
-    (List._∷_ (8, Rows'.any-gone (Syntax.tyRef Syntax.erased Syntax.mut Element.behind)) (List._∷_ (9, Mut.mslice (Element.type) (Syntax.tyRef Syntax.erased Syntax.mut Element.behind) 1) (List._∷_
-    (10, Rows'.sc-here (Row.sInt Syntax.w64)) (List._∷_ (11, Rows'.any-gone (Syntax.tyInt Syntax.w64)) (List._∷_ (12, Rows'.any-gone Syntax.tyPtr) (List._∷_ (13, Rows'.any-gone Syntax.tyPtr) (List._∷_
-    (14, Rows'.any-gone Syntax.tyPtr) (List._∷_ (15, Rows'.any-gone Syntax.tyPtr) List.[])))))))))))))))
-
-abbrev pub t12 : List.List Row.Entry
-t12 = List._∷_ (
-  0,
-  Rows'.any-gone (Syntax.tyStruct (List._∷_ 112 (List._∷_ 97 (List._∷_ 115 (List._∷_ 115 (List._∷_ 58 (List._∷_ 58 (List._∷_ 83 (List._∷_ 101 (List._∷_ 116 List.[])))))))))
-      (Syntax.tcons (Syntax.tyArray (Syntax.tyInt Syntax.w32) 112) (Syntax.tcons (Syntax.tyArray (Syntax.tyInt Syntax.w32) 112) Syntax.tnil))),
-) (List._∷_ (
-  1,
-  Relend.mslice-owed (Element.type)
-      (Syntax.tyRef (Syntax.named 0) Syntax.mut Element.behind) 0 1 Row.off,
-) (List._∷_ (2, Rows'.sc-here (Row.sInt Syntax.w64)) (List._∷_ (3, Rows.arrF (Referent.rtF (Referent.fInt Syntax.w32)) 112 0)
-    (List._∷_ (4, Rows.arrF (Referent.rtF (Referent.fInt Syntax.w32)) 112 0) (List._∷_ (5, Rows'.sc-here (Row.sInt Syntax.w64)) (List._∷_ (
-      6,
-      Rows'.any-gone (Syntax.tyStruct (List._∷_ 115 (List._∷_
-          116 (List._∷_ 97 (List._∷_ 116 (List._∷_ 105 (List._∷_ 115 (List._∷_ 116 (List._∷_ 105 (List._∷_ 99 (List._∷_ 115 (List._∷_ 58 (List._∷_ 58 (List._∷_ 82 (List._∷_ 101 (List._∷_ 99 (List._∷_ 111
-          (List._∷_ 114 (List._∷_ 100 List.[])))))))))))))))))) (Syntax.tcons (Syntax.tyInt Syntax.w32) (Syntax.tcons (Syntax.tyInt Syntax.w32) Syntax.tnil))),
-    ) (List._∷_ (7, Rows'.any-gone Syntax.tyBool)
-    (List._∷_ (8, Rows'.any-gone (Syntax.tyRef Syntax.erased Syntax.mut Element.behind)) (List._∷_ (9, Mut.mslice (Element.type) (Syntax.tyRef Syntax.erased Syntax.mut Element.behind) 1) (List._∷_
-    (10, Rows'.sc-here (Row.sInt Syntax.w64)) (List._∷_ (11, Rows'.sc-here (Row.sInt Syntax.w64)) (List._∷_ (12, Rows'.any-gone Syntax.tyPtr) (List._∷_ (13, Rows'.any-gone Syntax.tyPtr) (List._∷_ (
-      14,
-      Rows'.any-gone Syntax.tyPtr,
-    ) (List._∷_ (15, Rows'.any-gone Syntax.tyPtr) List.[])))))))))))))))
-
-abbrev pub t13 : List.List Row.Entry
-t13 = List._∷_ (
-  0,
-  Rows'.any-gone (Syntax.tyStruct (List._∷_ 112 (List._∷_ 97 (List._∷_ 115 (List._∷_ 115 (List._∷_ 58 (List._∷_ 58 (List._∷_ 83 (List._∷_ 101 (List._∷_ 116 List.[])))))))))
-      (Syntax.tcons (Syntax.tyArray (Syntax.tyInt Syntax.w32) 112) (Syntax.tcons (Syntax.tyArray (Syntax.tyInt Syntax.w32) 112) Syntax.tnil))),
-) (List._∷_ (
-  1,
-  Relend.mslice-owed (Element.type)
-      (Syntax.tyRef (Syntax.named 0) Syntax.mut Element.behind) 0 1 Row.off,
-) (List._∷_ (2, Rows'.sc-here (Row.sInt Syntax.w64)) (List._∷_ (3, Rows.arrF (Referent.rtF (Referent.fInt Syntax.w32)) 112 0)
-    (List._∷_ (4, Rows.arrF (Referent.rtF (Referent.fInt Syntax.w32)) 112 0) (List._∷_ (5, Rows'.sc-here (Row.sInt Syntax.w64)) (List._∷_ (
-      6,
-      Rows'.any-gone (Syntax.tyStruct (List._∷_ 115 (List._∷_
-          116 (List._∷_ 97 (List._∷_ 116 (List._∷_ 105 (List._∷_ 115 (List._∷_ 116 (List._∷_ 105 (List._∷_ 99 (List._∷_ 115 (List._∷_ 58 (List._∷_ 58 (List._∷_ 82 (List._∷_ 101 (List._∷_ 99 (List._∷_ 111
-          (List._∷_ 114 (List._∷_ 100 List.[])))))))))))))))))) (Syntax.tcons (Syntax.tyInt Syntax.w32) (Syntax.tcons (Syntax.tyInt Syntax.w32) Syntax.tnil))),
-    ) (List._∷_ (7, Rows'.any-gone Syntax.tyBool)
-    (List._∷_ (8, Rows'.any-gone (Syntax.tyRef Syntax.erased Syntax.mut Element.behind)) (List._∷_ (9, Mut.mslice (Element.type) (Syntax.tyRef Syntax.erased Syntax.mut Element.behind) 1) (List._∷_
-    (10, Rows'.any-gone (Syntax.tyInt Syntax.w64)) (List._∷_ (11, Rows'.sc-here (Row.sInt Syntax.w64)) (List._∷_ (12, Rows'.any-gone Syntax.tyPtr) (List._∷_ (13, Rows'.any-gone Syntax.tyPtr) (List._∷_
-    (14, Rows'.any-gone Syntax.tyPtr) (List._∷_ (15, Rows'.any-gone Syntax.tyPtr) List.[])))))))))))))))
-
-abbrev pub t14 : List.List Row.Entry
-t14 = List._∷_ (
-  0,
-  Rows'.any-gone (Syntax.tyStruct (List._∷_ 112 (List._∷_ 97 (List._∷_ 115 (List._∷_ 115 (List._∷_ 58 (List._∷_ 58 (List._∷_ 83 (List._∷_ 101 (List._∷_ 116 List.[])))))))))
-      (Syntax.tcons (Syntax.tyArray (Syntax.tyInt Syntax.w32) 112) (Syntax.tcons (Syntax.tyArray (Syntax.tyInt Syntax.w32) 112) Syntax.tnil))),
-) (List._∷_ (
-  1,
-  Relend.mslice-owed (Element.type)
-      (Syntax.tyRef (Syntax.named 0) Syntax.mut Element.behind) 0 1 Row.off,
-) (List._∷_ (2, Rows'.sc-here (Row.sInt Syntax.w64)) (List._∷_ (3, Rows.arrF (Referent.rtF (Referent.fInt Syntax.w32)) 112 0)
-    (List._∷_ (4, Rows.arrF (Referent.rtF (Referent.fInt Syntax.w32)) 112 0) (List._∷_ (5, Rows'.sc-here (Row.sInt Syntax.w64)) (List._∷_ (6, Rows'.whole (Declared.row Record.the-type)) (List._∷_ (
-      7,
-      Rows'.any-gone Syntax.tyBool,
-    ) (List._∷_ (8, Rows'.any-gone (Syntax.tyRef Syntax.erased Syntax.mut Element.behind)) (List._∷_ (
-      9,
-      Mut.msleft (Element.type) (Syntax.tyRef Syntax.erased Syntax.mut
-          Element.behind),
-    ) (List._∷_ (10, Rows'.any-gone (Syntax.tyInt Syntax.w64)) (List._∷_ (11, Rows'.sc-here (Row.sInt Syntax.w64)) (List._∷_ (12, Rows'.any-gone Syntax.tyPtr) (List._∷_ (
-      13,
-      Rows'.any-gone Syntax.tyPtr,
-    ) (List._∷_ (14, Rows'.any-gone Syntax.tyPtr) (List._∷_ (15, Rows'.any-gone Syntax.tyPtr) List.[])))))))))))))))
-
-abbrev pub t15 : List.List Row.Entry
-t15 = List._∷_ (
-  0,
-  Rows'.any-gone (Syntax.tyStruct (List._∷_ 112 (List._∷_ 97 (List._∷_ 115 (List._∷_ 115 (List._∷_ 58 (List._∷_ 58 (List._∷_ 83 (List._∷_ 101 (List._∷_ 116 List.[])))))))))
-      (Syntax.tcons (Syntax.tyArray (Syntax.tyInt Syntax.w32) 112) (Syntax.tcons (Syntax.tyArray (Syntax.tyInt Syntax.w32) 112) Syntax.tnil))),
-) (List._∷_ (
-  1,
-  Relend.mslice-owed (Element.type)
-      (Syntax.tyRef (Syntax.named 0) Syntax.mut Element.behind) 0 1 Row.off,
-) (List._∷_ (2, Rows'.sc-here (Row.sInt Syntax.w64)) (List._∷_ (3, Rows.arrF (Referent.rtF (Referent.fInt Syntax.w32)) 112 0)
-    (List._∷_ (4, Rows.arrF (Referent.rtF (Referent.fInt Syntax.w32)) 112 0) (List._∷_ (5, Rows'.sc-here (Row.sInt Syntax.w64)) (List._∷_ (6, Rows'.whole (Declared.row Record.the-type)) (List._∷_ (
-      7,
-      Rows'.any-gone Syntax.tyBool,
-    ) (List._∷_ (8, Rows'.any-gone (Syntax.tyRef Syntax.erased Syntax.mut Element.behind)) (List._∷_ (
-      9,
-      Mut.msleft (Element.type) (Syntax.tyRef Syntax.erased Syntax.mut
-          Element.behind),
-    ) (List._∷_ (10, Rows'.any-gone (Syntax.tyInt Syntax.w64)) (List._∷_ (11, Rows'.any-gone (Syntax.tyInt Syntax.w64)) (List._∷_ (12, Rows'.any-gone Syntax.tyPtr) (List._∷_ (
-      13,
-      Rows'.any-gone Syntax.tyPtr,
-    ) (List._∷_ (14, Rows'.any-gone Syntax.tyPtr) (List._∷_ (15, Rows'.any-gone Syntax.tyPtr) List.[])))))))))))))))
-
-abbrev pub t16 : List.List Row.Entry
-t16 = List._∷_ (
-  0,
-  Rows'.any-gone (Syntax.tyStruct (List._∷_ 112 (List._∷_ 97 (List._∷_ 115 (List._∷_ 115 (List._∷_ 58 (List._∷_ 58 (List._∷_ 83 (List._∷_ 101 (List._∷_ 116 List.[])))))))))
-      (Syntax.tcons (Syntax.tyArray (Syntax.tyInt Syntax.w32) 112) (Syntax.tcons (Syntax.tyArray (Syntax.tyInt Syntax.w32) 112) Syntax.tnil))),
-) (List._∷_ (
-  1,
-  Mut.mslice (Element.type) (Syntax.tyRef
-      (Syntax.named 0) Syntax.mut Element.behind) 0,
-) (List._∷_ (2, Rows'.sc-here (Row.sInt Syntax.w64)) (List._∷_ (3, Rows.arrF (Referent.rtF (Referent.fInt Syntax.w32)) 112 0) (List._∷_ (
-  4,
-  Rows.arrF
-      (Referent.rtF (Referent.fInt Syntax.w32)) 112 0,
-) (List._∷_ (5, Rows'.sc-here (Row.sInt Syntax.w64)) (List._∷_ (6, Rows'.whole (Declared.row Record.the-type)) (List._∷_ (
   7,
   Rows'.any-gone
       Syntax.tyBool,
-) (List._∷_ (8, Rows'.any-gone (Syntax.tyRef Syntax.erased Syntax.mut Element.behind)) (List._∷_ (
+) (List._∷_ (8, Relend.msptr (Element.type) (Syntax.tyRef Syntax.erased Syntax.mut Element.behind) 1) (List._∷_ (
   9,
-  Rows'.any-gone (Syntax.tyStruct (List._∷_ 38 (List._∷_ 91 (List._∷_ 93
-      List.[]))) (Syntax.tcons (Syntax.tyRef Syntax.erased Syntax.mut Element.behind) (Syntax.tcons (Syntax.tyInt Syntax.w64) Syntax.tnil))),
+  Rows'.any-gone (Syntax.tyStruct (List._∷_ 38 (List._∷_ 91 (List._∷_
+      93 List.[]))) (Syntax.tcons (Syntax.tyRef Syntax.erased Syntax.mut Element.behind) (Syntax.tcons (Syntax.tyInt Syntax.w64) Syntax.tnil))),
 ) (List._∷_ (10, Rows'.any-gone (Syntax.tyInt Syntax.w64))
     (List._∷_ (11, Rows'.any-gone (Syntax.tyInt Syntax.w64)) (List._∷_ (12, Rows'.any-gone Syntax.tyPtr) (List._∷_ (13, Rows'.any-gone Syntax.tyPtr) (List._∷_ (14, Rows'.any-gone Syntax.tyPtr)
     (List._∷_ (15, Rows'.any-gone Syntax.tyPtr) List.[])))))))))))))))
 
-abbrev pub t17 : List.List Row.Entry
-t17 = List._∷_ (
+abbrev pub t10 : List.List Row.Entry
+t10 = List._∷_ (
   0,
-  Rows'.any-gone (Syntax.tyStruct (List._∷_ 112 (List._∷_ 97 (List._∷_ 115 (List._∷_ 115 (List._∷_ 58 (List._∷_ 58 (List._∷_ 83 (List._∷_ 101 (List._∷_ 116 List.[])))))))))
-      (Syntax.tcons (Syntax.tyArray (Syntax.tyInt Syntax.w32) 112) (Syntax.tcons (Syntax.tyArray (Syntax.tyInt Syntax.w32) 112) Syntax.tnil))),
+  Rows'.any-gone (Syntax.tyStruct (List._∷_ 115 (List._∷_ 116 (List._∷_ 101 (List._∷_ 112 (List._∷_ 115 (List._∷_ 58 (List._∷_ 58 (List._∷_ 83 (List._∷_ 101 (List._∷_ 116
+      List.[])))))))))) (Syntax.tcons (Syntax.tyArray (Syntax.tyInt Syntax.w32) 112) (Syntax.tcons (Syntax.tyArray (Syntax.tyInt Syntax.w32) 112) Syntax.tnil))),
 ) (List._∷_ (
   1,
-  Mut.mslice (Element.type) (Syntax.tyRef
-      (Syntax.named 0) Syntax.mut Element.behind) 0,
-) (List._∷_ (2, Rows'.sc-here (Row.sInt Syntax.w64)) (List._∷_ (3, Rows.arrF (Referent.rtF (Referent.fInt Syntax.w32)) 112 0) (List._∷_ (
-  4,
-  Rows.arrF
-      (Referent.rtF (Referent.fInt Syntax.w32)) 112 0,
-) (List._∷_ (5, Rows'.sc-here (Row.sInt Syntax.w64)) (List._∷_ (6, Rows'.whole (Declared.row Record.the-type)) (List._∷_ (
+  Relend.mslice-owed
+      (Element.type) (Syntax.tyRef (Syntax.named 0) Syntax.mut Element.behind) 0 1 Row.off,
+) (List._∷_ (2, Rows'.sc-here (Row.sInt Syntax.w64)) (List._∷_ (
+  3,
+  Rows.arrF (Referent.rtF (Referent.fInt
+      Syntax.w32)) 112 0,
+) (List._∷_ (4, Rows.arrF (Referent.rtF (Referent.fInt Syntax.w32)) 112 0) (List._∷_ (5, Rows'.sc-here (Row.sInt Syntax.w64)) (List._∷_ (
+  6,
+  Rows'.any-gone (Syntax.tyStruct
+      (List._∷_ 115 (List._∷_ 116 (List._∷_ 97 (List._∷_ 116 (List._∷_ 105 (List._∷_ 115 (List._∷_ 116 (List._∷_ 105 (List._∷_ 99 (List._∷_ 115 (List._∷_ 58 (List._∷_ 58 (List._∷_ 82 (List._∷_ 101 (List._∷_
+      99 (List._∷_ 111 (List._∷_ 114 (List._∷_ 100 List.[])))))))))))))))))) (Syntax.tcons (Syntax.tyInt Syntax.w32) (Syntax.tcons (Syntax.tyInt Syntax.w32) Syntax.tnil))),
+) (List._∷_ (
   7,
   Rows'.any-gone
       Syntax.tyBool,
 ) (List._∷_ (8, Rows'.any-gone (Syntax.tyRef Syntax.erased Syntax.mut Element.behind)) (List._∷_ (
   9,
-  Rows'.any-gone (Syntax.tyStruct (List._∷_ 38 (List._∷_ 91 (List._∷_ 93
-      List.[]))) (Syntax.tcons (Syntax.tyRef Syntax.erased Syntax.mut Element.behind) (Syntax.tcons (Syntax.tyInt Syntax.w64) Syntax.tnil))),
-) (List._∷_ (10, Rows'.sc-here (Row.sInt Syntax.w64)) (List._∷_
-    (11, Rows'.any-gone (Syntax.tyInt Syntax.w64)) (List._∷_ (12, Rows'.any-gone Syntax.tyPtr) (List._∷_ (13, Rows'.any-gone Syntax.tyPtr) (List._∷_ (14, Rows'.any-gone Syntax.tyPtr) (List._∷_ (
-      15,
-      Rows'.any-gone Syntax.tyPtr,
-    ) List.[])))))))))))))))
+  Mut.mslice (Element.type) (Syntax.tyRef Syntax.erased Syntax.mut Element.behind)
+      1,
+) (List._∷_ (10, Rows'.any-gone (Syntax.tyInt Syntax.w64)) (List._∷_ (11, Rows'.any-gone (Syntax.tyInt Syntax.w64)) (List._∷_ (12, Rows'.any-gone Syntax.tyPtr) (List._∷_ (
+  13,
+  Rows'.any-gone
+      Syntax.tyPtr,
+) (List._∷_ (14, Rows'.any-gone Syntax.tyPtr) (List._∷_ (15, Rows'.any-gone Syntax.tyPtr) List.[])))))))))))))))
+
+abbrev pub t11 : List.List Row.Entry
+t11 = List._∷_ (
+  0,
+  Rows'.any-gone (Syntax.tyStruct (List._∷_ 115 (List._∷_ 116 (List._∷_ 101 (List._∷_ 112 (List._∷_ 115 (List._∷_ 58 (List._∷_ 58 (List._∷_ 83 (List._∷_ 101 (List._∷_ 116
+      List.[])))))))))) (Syntax.tcons (Syntax.tyArray (Syntax.tyInt Syntax.w32) 112) (Syntax.tcons (Syntax.tyArray (Syntax.tyInt Syntax.w32) 112) Syntax.tnil))),
+) (List._∷_ (
+  1,
+  Relend.mslice-owed
+      (Element.type) (Syntax.tyRef (Syntax.named 0) Syntax.mut Element.behind) 0 1 Row.off,
+) (List._∷_ (2, Rows'.sc-here (Row.sInt Syntax.w64)) (List._∷_ (
+  3,
+  Rows.arrF (Referent.rtF (Referent.fInt
+      Syntax.w32)) 112 0,
+) (List._∷_ (4, Rows.arrF (Referent.rtF (Referent.fInt Syntax.w32)) 112 0) (List._∷_ (5, Rows'.sc-here (Row.sInt Syntax.w64)) (List._∷_ (
+  6,
+  Rows'.any-gone (Syntax.tyStruct
+      (List._∷_ 115 (List._∷_ 116 (List._∷_ 97 (List._∷_ 116 (List._∷_ 105 (List._∷_ 115 (List._∷_ 116 (List._∷_ 105 (List._∷_ 99 (List._∷_ 115 (List._∷_ 58 (List._∷_ 58 (List._∷_ 82 (List._∷_ 101 (List._∷_
+      99 (List._∷_ 111 (List._∷_ 114 (List._∷_ 100 List.[])))))))))))))))))) (Syntax.tcons (Syntax.tyInt Syntax.w32) (Syntax.tcons (Syntax.tyInt Syntax.w32) Syntax.tnil))),
+) (List._∷_ (
+  7,
+  Rows'.any-gone
+      Syntax.tyBool,
+) (List._∷_ (8, Rows'.any-gone (Syntax.tyRef Syntax.erased Syntax.mut Element.behind)) (List._∷_ (
+  9,
+  Mut.mslice (Element.type) (Syntax.tyRef Syntax.erased Syntax.mut Element.behind)
+      1,
+) (List._∷_ (10, Rows'.sc-here (Row.sInt Syntax.w64)) (List._∷_ (11, Rows'.any-gone (Syntax.tyInt Syntax.w64)) (List._∷_ (12, Rows'.any-gone Syntax.tyPtr) (List._∷_ (
+  13,
+  Rows'.any-gone
+      Syntax.tyPtr,
+) (List._∷_ (14, Rows'.any-gone Syntax.tyPtr) (List._∷_ (15, Rows'.any-gone Syntax.tyPtr) List.[])))))))))))))))
+
+abbrev pub t12 : List.List Row.Entry
+t12 = List._∷_ (
+  0,
+  Rows'.any-gone (Syntax.tyStruct (List._∷_ 115 (List._∷_ 116 (List._∷_ 101 (List._∷_ 112 (List._∷_ 115 (List._∷_ 58 (List._∷_ 58 (List._∷_ 83 (List._∷_ 101 (List._∷_ 116
+      List.[])))))))))) (Syntax.tcons (Syntax.tyArray (Syntax.tyInt Syntax.w32) 112) (Syntax.tcons (Syntax.tyArray (Syntax.tyInt Syntax.w32) 112) Syntax.tnil))),
+) (List._∷_ (
+  1,
+  Relend.mslice-owed
+      (Element.type) (Syntax.tyRef (Syntax.named 0) Syntax.mut Element.behind) 0 1 Row.off,
+) (List._∷_ (2, Rows'.sc-here (Row.sInt Syntax.w64)) (List._∷_ (
+  3,
+  Rows.arrF (Referent.rtF (Referent.fInt
+      Syntax.w32)) 112 0,
+) (List._∷_ (4, Rows.arrF (Referent.rtF (Referent.fInt Syntax.w32)) 112 0) (List._∷_ (5, Rows'.sc-here (Row.sInt Syntax.w64)) (List._∷_ (
+  6,
+  Rows'.any-gone (Syntax.tyStruct
+      (List._∷_ 115 (List._∷_ 116 (List._∷_ 97 (List._∷_ 116 (List._∷_ 105 (List._∷_ 115 (List._∷_ 116 (List._∷_ 105 (List._∷_ 99 (List._∷_ 115 (List._∷_ 58 (List._∷_ 58 (List._∷_ 82 (List._∷_ 101 (List._∷_
+      99 (List._∷_ 111 (List._∷_ 114 (List._∷_ 100 List.[])))))))))))))))))) (Syntax.tcons (Syntax.tyInt Syntax.w32) (Syntax.tcons (Syntax.tyInt Syntax.w32) Syntax.tnil))),
+) (List._∷_ (
+  7,
+  Rows'.any-gone
+      Syntax.tyBool,
+) (List._∷_ (8, Rows'.any-gone (Syntax.tyRef Syntax.erased Syntax.mut Element.behind)) (List._∷_ (
+  9,
+  Mut.mslice (Element.type) (Syntax.tyRef Syntax.erased Syntax.mut Element.behind)
+      1,
+) (List._∷_ (10, Rows'.sc-here (Row.sInt Syntax.w64)) (List._∷_ (11, Rows'.sc-here (Row.sInt Syntax.w64)) (List._∷_ (12, Rows'.any-gone Syntax.tyPtr) (List._∷_ (13, Rows'.any-gone Syntax.tyPtr)
+    (List._∷_ (14, Rows'.any-gone Syntax.tyPtr) (List._∷_ (15, Rows'.any-gone Syntax.tyPtr) List.[])))))))))))))))
+
+abbrev pub t13 : List.List Row.Entry
+t13 = List._∷_ (
+  0,
+  Rows'.any-gone (Syntax.tyStruct (List._∷_ 115 (List._∷_ 116 (List._∷_ 101 (List._∷_ 112 (List._∷_ 115 (List._∷_ 58 (List._∷_ 58 (List._∷_ 83 (List._∷_ 101 (List._∷_ 116
+      List.[])))))))))) (Syntax.tcons (Syntax.tyArray (Syntax.tyInt Syntax.w32) 112) (Syntax.tcons (Syntax.tyArray (Syntax.tyInt Syntax.w32) 112) Syntax.tnil))),
+) (List._∷_ (
+  1,
+  Relend.mslice-owed
+      (Element.type) (Syntax.tyRef (Syntax.named 0) Syntax.mut Element.behind) 0 1 Row.off,
+) (List._∷_ (2, Rows'.sc-here (Row.sInt Syntax.w64)) (List._∷_ (
+  3,
+  Rows.arrF (Referent.rtF (Referent.fInt
+      Syntax.w32)) 112 0,
+) (List._∷_ (4, Rows.arrF (Referent.rtF (Referent.fInt Syntax.w32)) 112 0) (List._∷_ (5, Rows'.sc-here (Row.sInt Syntax.w64)) (List._∷_ (
+  6,
+  Rows'.any-gone (Syntax.tyStruct
+      (List._∷_ 115 (List._∷_ 116 (List._∷_ 97 (List._∷_ 116 (List._∷_ 105 (List._∷_ 115 (List._∷_ 116 (List._∷_ 105 (List._∷_ 99 (List._∷_ 115 (List._∷_ 58 (List._∷_ 58 (List._∷_ 82 (List._∷_ 101 (List._∷_
+      99 (List._∷_ 111 (List._∷_ 114 (List._∷_ 100 List.[])))))))))))))))))) (Syntax.tcons (Syntax.tyInt Syntax.w32) (Syntax.tcons (Syntax.tyInt Syntax.w32) Syntax.tnil))),
+) (List._∷_ (
+  7,
+  Rows'.any-gone
+      Syntax.tyBool,
+) (List._∷_ (8, Rows'.any-gone (Syntax.tyRef Syntax.erased Syntax.mut Element.behind)) (List._∷_ (
+  9,
+  Mut.mslice (Element.type) (Syntax.tyRef Syntax.erased Syntax.mut Element.behind)
+      1,
+) (List._∷_ (10, Rows'.any-gone (Syntax.tyInt Syntax.w64)) (List._∷_ (11, Rows'.sc-here (Row.sInt Syntax.w64)) (List._∷_ (12, Rows'.any-gone Syntax.tyPtr) (List._∷_ (
+  13,
+  Rows'.any-gone
+      Syntax.tyPtr,
+) (List._∷_ (14, Rows'.any-gone Syntax.tyPtr) (List._∷_ (15, Rows'.any-gone Syntax.tyPtr) List.[])))))))))))))))
+
+abbrev pub t14 : List.List Row.Entry
+t14 = List._∷_ (
+  0,
+  Rows'.any-gone (Syntax.tyStruct (List._∷_ 115 (List._∷_ 116 (List._∷_ 101 (List._∷_ 112 (List._∷_ 115 (List._∷_ 58 (List._∷_ 58 (List._∷_ 83 (List._∷_ 101 (List._∷_ 116
+      List.[])))))))))) (Syntax.tcons (Syntax.tyArray (Syntax.tyInt Syntax.w32) 112) (Syntax.tcons (Syntax.tyArray (Syntax.tyInt Syntax.w32) 112) Syntax.tnil))),
+) (List._∷_ (
+  1,
+  Relend.mslice-owed
+      (Element.type) (Syntax.tyRef (Syntax.named 0) Syntax.mut Element.behind) 0 1 Row.off,
+) (List._∷_ (2, Rows'.sc-here (Row.sInt Syntax.w64)) (List._∷_ (
+  3,
+  Rows.arrF (Referent.rtF (Referent.fInt
+      Syntax.w32)) 112 0,
+) (List._∷_ (4, Rows.arrF (Referent.rtF (Referent.fInt Syntax.w32)) 112 0) (List._∷_ (5, Rows'.sc-here (Row.sInt Syntax.w64)) (List._∷_ (
+  6,
+  Rows'.whole (Declared.row
+      Record.the-type),
+) (List._∷_ (7, Rows'.any-gone Syntax.tyBool) (List._∷_ (8, Rows'.any-gone (Syntax.tyRef Syntax.erased Syntax.mut Element.behind)) (List._∷_ (
+  9,
+  Mut.msleft (Element.type)
+      (Syntax.tyRef Syntax.erased Syntax.mut Element.behind),
+) (List._∷_ (10, Rows'.any-gone (Syntax.tyInt Syntax.w64)) (List._∷_ (11, Rows'.sc-here (Row.sInt Syntax.w64)) (List._∷_ (
+  12,
+  Rows'.any-gone
+      Syntax.tyPtr,
+) (List._∷_ (13, Rows'.any-gone Syntax.tyPtr) (List._∷_ (14, Rows'.any-gone Syntax.tyPtr) (List._∷_ (15, Rows'.any-gone Syntax.tyPtr) List.[])))))))))))))))
+
+abbrev pub t15 : List.List Row.Entry
+t15 = List._∷_ (
+  0,
+  Rows'.any-gone (Syntax.tyStruct (List._∷_ 115 (List._∷_ 116 (List._∷_ 101 (List._∷_ 112 (List._∷_ 115 (List._∷_ 58 (List._∷_ 58 (List._∷_ 83 (List._∷_ 101 (List._∷_ 116
+      List.[])))))))))) (Syntax.tcons (Syntax.tyArray (Syntax.tyInt Syntax.w32) 112) (Syntax.tcons (Syntax.tyArray (Syntax.tyInt Syntax.w32) 112) Syntax.tnil))),
+) (List._∷_ (
+  1,
+  Relend.mslice-owed
+      (Element.type) (Syntax.tyRef (Syntax.named 0) Syntax.mut Element.behind) 0 1 Row.off,
+) (List._∷_ (2, Rows'.sc-here (Row.sInt Syntax.w64)) (List._∷_ (
+  3,
+  Rows.arrF (Referent.rtF (Referent.fInt
+      Syntax.w32)) 112 0,
+) (List._∷_ (4, Rows.arrF (Referent.rtF (Referent.fInt Syntax.w32)) 112 0) (List._∷_ (5, Rows'.sc-here (Row.sInt Syntax.w64)) (List._∷_ (
+  6,
+  Rows'.whole (Declared.row
+      Record.the-type),
+) (List._∷_ (7, Rows'.any-gone Syntax.tyBool) (List._∷_ (8, Rows'.any-gone (Syntax.tyRef Syntax.erased Syntax.mut Element.behind)) (List._∷_ (
+  9,
+  Mut.msleft (Element.type)
+      (Syntax.tyRef Syntax.erased Syntax.mut Element.behind),
+) (List._∷_ (10, Rows'.any-gone (Syntax.tyInt Syntax.w64)) (List._∷_ (11, Rows'.any-gone (Syntax.tyInt Syntax.w64)) (List._∷_ (
+  12,
+  Rows'.any-gone Syntax.tyPtr,
+) (List._∷_ (13, Rows'.any-gone Syntax.tyPtr) (List._∷_ (14, Rows'.any-gone Syntax.tyPtr) (List._∷_ (15, Rows'.any-gone Syntax.tyPtr) List.[])))))))))))))))
+
+abbrev pub t16 : List.List Row.Entry
+t16 = List._∷_ (
+  0,
+  Rows'.any-gone (Syntax.tyStruct (List._∷_ 115 (List._∷_ 116 (List._∷_ 101 (List._∷_ 112 (List._∷_ 115 (List._∷_ 58 (List._∷_ 58 (List._∷_ 83 (List._∷_ 101 (List._∷_ 116
+      List.[])))))))))) (Syntax.tcons (Syntax.tyArray (Syntax.tyInt Syntax.w32) 112) (Syntax.tcons (Syntax.tyArray (Syntax.tyInt Syntax.w32) 112) Syntax.tnil))),
+) (List._∷_ (
+  1,
+  Mut.mslice (Element.type)
+      (Syntax.tyRef (Syntax.named 0) Syntax.mut Element.behind) 0,
+) (List._∷_ (2, Rows'.sc-here (Row.sInt Syntax.w64)) (List._∷_ (3, Rows.arrF (Referent.rtF (Referent.fInt Syntax.w32)) 112 0) (List._∷_
+    (4, Rows.arrF (Referent.rtF (Referent.fInt Syntax.w32)) 112 0) (List._∷_ (5, Rows'.sc-here (Row.sInt Syntax.w64)) (List._∷_ (6, Rows'.whole (Declared.row Record.the-type)) (List._∷_ (
+      7,
+      Rows'.any-gone Syntax.tyBool,
+    ) (List._∷_ (8, Rows'.any-gone (Syntax.tyRef Syntax.erased Syntax.mut Element.behind)) (List._∷_ (
+      9,
+      Rows'.any-gone (Syntax.tyStruct (List._∷_ 38 (List._∷_ 91
+          (List._∷_ 93 List.[]))) (Syntax.tcons (Syntax.tyRef Syntax.erased Syntax.mut Element.behind) (Syntax.tcons (Syntax.tyInt Syntax.w64) Syntax.tnil))),
+    ) (List._∷_ (
+      10,
+      Rows'.any-gone (Syntax.tyInt
+          Syntax.w64),
+    ) (List._∷_ (11, Rows'.any-gone (Syntax.tyInt Syntax.w64)) (List._∷_ (12, Rows'.any-gone Syntax.tyPtr) (List._∷_ (13, Rows'.any-gone Syntax.tyPtr) (List._∷_ (
+      14,
+      Rows'.any-gone
+          Syntax.tyPtr,
+    ) (List._∷_ (15, Rows'.any-gone Syntax.tyPtr) List.[])))))))))))))))
+
+abbrev pub t17 : List.List Row.Entry
+t17 = List._∷_ (
+  0,
+  Rows'.any-gone (Syntax.tyStruct (List._∷_ 115 (List._∷_ 116 (List._∷_ 101 (List._∷_ 112 (List._∷_ 115 (List._∷_ 58 (List._∷_ 58 (List._∷_ 83 (List._∷_ 101 (List._∷_ 116
+      List.[])))))))))) (Syntax.tcons (Syntax.tyArray (Syntax.tyInt Syntax.w32) 112) (Syntax.tcons (Syntax.tyArray (Syntax.tyInt Syntax.w32) 112) Syntax.tnil))),
+) (List._∷_ (
+  1,
+  Mut.mslice (Element.type)
+      (Syntax.tyRef (Syntax.named 0) Syntax.mut Element.behind) 0,
+) (List._∷_ (2, Rows'.sc-here (Row.sInt Syntax.w64)) (List._∷_ (3, Rows.arrF (Referent.rtF (Referent.fInt Syntax.w32)) 112 0) (List._∷_
+    (4, Rows.arrF (Referent.rtF (Referent.fInt Syntax.w32)) 112 0) (List._∷_ (5, Rows'.sc-here (Row.sInt Syntax.w64)) (List._∷_ (6, Rows'.whole (Declared.row Record.the-type)) (List._∷_ (
+      7,
+      Rows'.any-gone Syntax.tyBool,
+    ) (List._∷_ (8, Rows'.any-gone (Syntax.tyRef Syntax.erased Syntax.mut Element.behind)) (List._∷_ (
+      9,
+      Rows'.any-gone (Syntax.tyStruct (List._∷_ 38 (List._∷_ 91
+          (List._∷_ 93 List.[]))) (Syntax.tcons (Syntax.tyRef Syntax.erased Syntax.mut Element.behind) (Syntax.tcons (Syntax.tyInt Syntax.w64) Syntax.tnil))),
+    ) (List._∷_ (
+      10,
+      Rows'.sc-here (Row.sInt
+          Syntax.w64),
+    ) (List._∷_ (11, Rows'.any-gone (Syntax.tyInt Syntax.w64)) (List._∷_ (12, Rows'.any-gone Syntax.tyPtr) (List._∷_ (13, Rows'.any-gone Syntax.tyPtr) (List._∷_ (
+      14,
+      Rows'.any-gone
+          Syntax.tyPtr,
+    ) (List._∷_ (15, Rows'.any-gone Syntax.tyPtr) List.[])))))))))))))))
 
 abbrev pub t18 : List.List Row.Entry
 t18 = List._∷_ (
   0,
-  Rows'.any-gone (Syntax.tyStruct (List._∷_ 112 (List._∷_ 97 (List._∷_ 115 (List._∷_ 115 (List._∷_ 58 (List._∷_ 58 (List._∷_ 83 (List._∷_ 101 (List._∷_ 116 List.[])))))))))
-      (Syntax.tcons (Syntax.tyArray (Syntax.tyInt Syntax.w32) 112) (Syntax.tcons (Syntax.tyArray (Syntax.tyInt Syntax.w32) 112) Syntax.tnil))),
+  Rows'.any-gone (Syntax.tyStruct (List._∷_ 115 (List._∷_ 116 (List._∷_ 101 (List._∷_ 112 (List._∷_ 115 (List._∷_ 58 (List._∷_ 58 (List._∷_ 83 (List._∷_ 101 (List._∷_ 116
+      List.[])))))))))) (Syntax.tcons (Syntax.tyArray (Syntax.tyInt Syntax.w32) 112) (Syntax.tcons (Syntax.tyArray (Syntax.tyInt Syntax.w32) 112) Syntax.tnil))),
 ) (List._∷_ (
   1,
-  Mut.mslice (Element.type) (Syntax.tyRef
-      (Syntax.named 0) Syntax.mut Element.behind) 0,
-) (List._∷_ (2, Rows'.sc-here (Row.sInt Syntax.w64)) (List._∷_ (3, Rows.arrF (Referent.rtF (Referent.fInt Syntax.w32)) 112 0) (List._∷_ (
-  4,
-  Rows.arrF
-      (Referent.rtF (Referent.fInt Syntax.w32)) 112 0,
-) (List._∷_ (5, Rows'.sc-here (Row.sInt Syntax.w64)) (List._∷_ (6, Rows'.whole (Declared.row Record.the-type)) (List._∷_ (
-  7,
-  Rows'.any-gone
-      Syntax.tyBool,
-) (List._∷_ (8, Rows'.any-gone (Syntax.tyRef Syntax.erased Syntax.mut Element.behind)) (List._∷_ (
-  9,
-  Rows'.any-gone (Syntax.tyStruct (List._∷_ 38 (List._∷_ 91 (List._∷_ 93
-      List.[]))) (Syntax.tcons (Syntax.tyRef Syntax.erased Syntax.mut Element.behind) (Syntax.tcons (Syntax.tyInt Syntax.w64) Syntax.tnil))),
-) (List._∷_ (10, Rows'.sc-here (Row.sInt Syntax.w64)) (List._∷_
-    (11, Rows'.any-gone (Syntax.tyInt Syntax.w64)) (List._∷_ (12, Rows'.sc-here Row.sPtr) (List._∷_ (13, Rows'.any-gone Syntax.tyPtr) (List._∷_ (14, Rows'.any-gone Syntax.tyPtr) (List._∷_ (
-      15,
+  Mut.mslice (Element.type)
+      (Syntax.tyRef (Syntax.named 0) Syntax.mut Element.behind) 0,
+) (List._∷_ (2, Rows'.sc-here (Row.sInt Syntax.w64)) (List._∷_ (3, Rows.arrF (Referent.rtF (Referent.fInt Syntax.w32)) 112 0) (List._∷_
+    (4, Rows.arrF (Referent.rtF (Referent.fInt Syntax.w32)) 112 0) (List._∷_ (5, Rows'.sc-here (Row.sInt Syntax.w64)) (List._∷_ (6, Rows'.whole (Declared.row Record.the-type)) (List._∷_ (
+      7,
+      Rows'.any-gone Syntax.tyBool,
+    ) (List._∷_ (8, Rows'.any-gone (Syntax.tyRef Syntax.erased Syntax.mut Element.behind)) (List._∷_ (
+      9,
+      Rows'.any-gone (Syntax.tyStruct (List._∷_ 38 (List._∷_ 91
+          (List._∷_ 93 List.[]))) (Syntax.tcons (Syntax.tyRef Syntax.erased Syntax.mut Element.behind) (Syntax.tcons (Syntax.tyInt Syntax.w64) Syntax.tnil))),
+    ) (List._∷_ (
+      10,
+      Rows'.sc-here (Row.sInt
+          Syntax.w64),
+    ) (List._∷_ (11, Rows'.any-gone (Syntax.tyInt Syntax.w64)) (List._∷_ (12, Rows'.sc-here Row.sPtr) (List._∷_ (13, Rows'.any-gone Syntax.tyPtr) (List._∷_ (
+      14,
       Rows'.any-gone Syntax.tyPtr,
-    ) List.[])))))))))))))))
+    ) (List._∷_ (15, Rows'.any-gone Syntax.tyPtr) List.[])))))))))))))))
 
 abbrev pub t19 : List.List Row.Entry
 t19 = List._∷_ (
   0,
-  Rows'.any-gone (Syntax.tyStruct (List._∷_ 112 (List._∷_ 97 (List._∷_ 115 (List._∷_ 115 (List._∷_ 58 (List._∷_ 58 (List._∷_ 83 (List._∷_ 101 (List._∷_ 116 List.[])))))))))
-      (Syntax.tcons (Syntax.tyArray (Syntax.tyInt Syntax.w32) 112) (Syntax.tcons (Syntax.tyArray (Syntax.tyInt Syntax.w32) 112) Syntax.tnil))),
+  Rows'.any-gone (Syntax.tyStruct (List._∷_ 115 (List._∷_ 116 (List._∷_ 101 (List._∷_ 112 (List._∷_ 115 (List._∷_ 58 (List._∷_ 58 (List._∷_ 83 (List._∷_ 101 (List._∷_ 116
+      List.[])))))))))) (Syntax.tcons (Syntax.tyArray (Syntax.tyInt Syntax.w32) 112) (Syntax.tcons (Syntax.tyArray (Syntax.tyInt Syntax.w32) 112) Syntax.tnil))),
 ) (List._∷_ (
   1,
-  Mut.mslice (Element.type) (Syntax.tyRef
-      (Syntax.named 0) Syntax.mut Element.behind) 0,
-) (List._∷_ (2, Rows'.sc-here (Row.sInt Syntax.w64)) (List._∷_ (3, Rows.arrF (Referent.rtF (Referent.fInt Syntax.w32)) 112 0) (List._∷_ (
-  4,
-  Rows.arrF
-      (Referent.rtF (Referent.fInt Syntax.w32)) 112 0,
-) (List._∷_ (5, Rows'.sc-here (Row.sInt Syntax.w64)) (List._∷_ (6, Rows'.whole (Declared.row Record.the-type)) (List._∷_ (
-  7,
-  Rows'.any-gone
-      Syntax.tyBool,
-) (List._∷_ (8, Rows'.any-gone (Syntax.tyRef Syntax.erased Syntax.mut Element.behind)) (List._∷_ (
-  9,
-  Rows'.any-gone (Syntax.tyStruct (List._∷_ 38 (List._∷_ 91 (List._∷_ 93
-      List.[]))) (Syntax.tcons (Syntax.tyRef Syntax.erased Syntax.mut Element.behind) (Syntax.tcons (Syntax.tyInt Syntax.w64) Syntax.tnil))),
-) (List._∷_ (10, Rows'.sc-here (Row.sInt Syntax.w64)) (List._∷_
-    (11, Rows'.any-gone (Syntax.tyInt Syntax.w64)) (List._∷_ (12, Rows'.sc-here Row.sPtr) (List._∷_ (13, Rows'.sc-here Row.sPtr) (List._∷_ (14, Rows'.any-gone Syntax.tyPtr) (List._∷_ (
-      15,
-      Rows'.any-gone Syntax.tyPtr,
-    ) List.[])))))))))))))))
+  Mut.mslice (Element.type)
+      (Syntax.tyRef (Syntax.named 0) Syntax.mut Element.behind) 0,
+) (List._∷_ (2, Rows'.sc-here (Row.sInt Syntax.w64)) (List._∷_ (3, Rows.arrF (Referent.rtF (Referent.fInt Syntax.w32)) 112 0) (List._∷_
+    (4, Rows.arrF (Referent.rtF (Referent.fInt Syntax.w32)) 112 0) (List._∷_ (5, Rows'.sc-here (Row.sInt Syntax.w64)) (List._∷_ (6, Rows'.whole (Declared.row Record.the-type)) (List._∷_ (
+      7,
+      Rows'.any-gone Syntax.tyBool,
+    ) (List._∷_ (8, Rows'.any-gone (Syntax.tyRef Syntax.erased Syntax.mut Element.behind)) (List._∷_ (
+      9,
+      Rows'.any-gone (Syntax.tyStruct (List._∷_ 38 (List._∷_ 91
+          (List._∷_ 93 List.[]))) (Syntax.tcons (Syntax.tyRef Syntax.erased Syntax.mut Element.behind) (Syntax.tcons (Syntax.tyInt Syntax.w64) Syntax.tnil))),
+    ) (List._∷_ (
+      10,
+      Rows'.sc-here (Row.sInt
+          Syntax.w64),
+    ) (List._∷_ (11, Rows'.any-gone (Syntax.tyInt Syntax.w64)) (List._∷_ (12, Rows'.sc-here Row.sPtr) (List._∷_ (13, Rows'.sc-here Row.sPtr) (List._∷_ (14, Rows'.any-gone Syntax.tyPtr)
+    (List._∷_ (15, Rows'.any-gone Syntax.tyPtr) List.[])))))))))))))))
 
 abbrev pub t20 : List.List Row.Entry
 t20 = List._∷_ (
   0,
-  Rows'.any-gone (Syntax.tyStruct (List._∷_ 112 (List._∷_ 97 (List._∷_ 115 (List._∷_ 115 (List._∷_ 58 (List._∷_ 58 (List._∷_ 83 (List._∷_ 101 (List._∷_ 116 List.[])))))))))
-      (Syntax.tcons (Syntax.tyArray (Syntax.tyInt Syntax.w32) 112) (Syntax.tcons (Syntax.tyArray (Syntax.tyInt Syntax.w32) 112) Syntax.tnil))),
+  Rows'.any-gone (Syntax.tyStruct (List._∷_ 115 (List._∷_ 116 (List._∷_ 101 (List._∷_ 112 (List._∷_ 115 (List._∷_ 58 (List._∷_ 58 (List._∷_ 83 (List._∷_ 101 (List._∷_ 116
+      List.[])))))))))) (Syntax.tcons (Syntax.tyArray (Syntax.tyInt Syntax.w32) 112) (Syntax.tcons (Syntax.tyArray (Syntax.tyInt Syntax.w32) 112) Syntax.tnil))),
 ) (List._∷_ (
   1,
-  Mut.mslice (Element.type) (Syntax.tyRef
-      (Syntax.named 0) Syntax.mut Element.behind) 0,
-) (List._∷_ (2, Rows'.sc-here (Row.sInt Syntax.w64)) (List._∷_ (3, Rows.arrF (Referent.rtF (Referent.fInt Syntax.w32)) 112 0) (List._∷_ (
-  4,
-  Rows.arrF
-      (Referent.rtF (Referent.fInt Syntax.w32)) 112 0,
-) (List._∷_ (5, Rows'.sc-here (Row.sInt Syntax.w64)) (List._∷_ (6, Rows'.whole (Declared.row Record.the-type)) (List._∷_ (
-  7,
-  Rows'.any-gone
-      Syntax.tyBool,
-) (List._∷_ (8, Rows'.any-gone (Syntax.tyRef Syntax.erased Syntax.mut Element.behind)) (List._∷_ (
-  9,
-  Rows'.any-gone (Syntax.tyStruct (List._∷_ 38 (List._∷_ 91 (List._∷_ 93
-      List.[]))) (Syntax.tcons (Syntax.tyRef Syntax.erased Syntax.mut Element.behind) (Syntax.tcons (Syntax.tyInt Syntax.w64) Syntax.tnil))),
-) (List._∷_ (10, Rows'.sc-here (Row.sInt Syntax.w64)) (List._∷_
-    (11, Rows'.any-gone (Syntax.tyInt Syntax.w64)) (List._∷_ (12, Rows'.any-gone Syntax.tyPtr) (List._∷_ (13, Rows'.sc-here Row.sPtr) (List._∷_ (14, Rows'.any-gone Syntax.tyPtr) (List._∷_ (
-      15,
+  Mut.mslice (Element.type)
+      (Syntax.tyRef (Syntax.named 0) Syntax.mut Element.behind) 0,
+) (List._∷_ (2, Rows'.sc-here (Row.sInt Syntax.w64)) (List._∷_ (3, Rows.arrF (Referent.rtF (Referent.fInt Syntax.w32)) 112 0) (List._∷_
+    (4, Rows.arrF (Referent.rtF (Referent.fInt Syntax.w32)) 112 0) (List._∷_ (5, Rows'.sc-here (Row.sInt Syntax.w64)) (List._∷_ (6, Rows'.whole (Declared.row Record.the-type)) (List._∷_ (
+      7,
+      Rows'.any-gone Syntax.tyBool,
+    ) (List._∷_ (8, Rows'.any-gone (Syntax.tyRef Syntax.erased Syntax.mut Element.behind)) (List._∷_ (
+      9,
+      Rows'.any-gone (Syntax.tyStruct (List._∷_ 38 (List._∷_ 91
+          (List._∷_ 93 List.[]))) (Syntax.tcons (Syntax.tyRef Syntax.erased Syntax.mut Element.behind) (Syntax.tcons (Syntax.tyInt Syntax.w64) Syntax.tnil))),
+    ) (List._∷_ (
+      10,
+      Rows'.sc-here (Row.sInt
+          Syntax.w64),
+    ) (List._∷_ (11, Rows'.any-gone (Syntax.tyInt Syntax.w64)) (List._∷_ (12, Rows'.any-gone Syntax.tyPtr) (List._∷_ (13, Rows'.sc-here Row.sPtr) (List._∷_ (
+      14,
       Rows'.any-gone Syntax.tyPtr,
-    ) List.[])))))))))))))))
+    ) (List._∷_ (15, Rows'.any-gone Syntax.tyPtr) List.[])))))))))))))))
 
 abbrev pub t21 : List.List Row.Entry
 t21 = List._∷_ (
   0,
-  Rows'.any-gone (Syntax.tyStruct (List._∷_ 112 (List._∷_ 97 (List._∷_ 115 (List._∷_ 115 (List._∷_ 58 (List._∷_ 58 (List._∷_ 83 (List._∷_ 101 (List._∷_ 116 List.[])))))))))
-      (Syntax.tcons (Syntax.tyArray (Syntax.tyInt Syntax.w32) 112) (Syntax.tcons (Syntax.tyArray (Syntax.tyInt Syntax.w32) 112) Syntax.tnil))),
+  Rows'.any-gone (Syntax.tyStruct (List._∷_ 115 (List._∷_ 116 (List._∷_ 101 (List._∷_ 112 (List._∷_ 115 (List._∷_ 58 (List._∷_ 58 (List._∷_ 83 (List._∷_ 101 (List._∷_ 116
+      List.[])))))))))) (Syntax.tcons (Syntax.tyArray (Syntax.tyInt Syntax.w32) 112) (Syntax.tcons (Syntax.tyArray (Syntax.tyInt Syntax.w32) 112) Syntax.tnil))),
 ) (List._∷_ (
   1,
-  Mut.mslice (Element.type) (Syntax.tyRef
-      (Syntax.named 0) Syntax.mut Element.behind) 0,
-) (List._∷_ (2, Rows'.sc-here (Row.sInt Syntax.w64)) (List._∷_ (3, Rows.arrF (Referent.rtF (Referent.fInt Syntax.w32)) 112 0) (List._∷_ (
-  4,
-  Rows.arrF
-      (Referent.rtF (Referent.fInt Syntax.w32)) 112 0,
-) (List._∷_ (5, Rows'.sc-here (Row.sInt Syntax.w64)) (List._∷_ (6, Rows'.whole (Declared.row Record.the-type)) (List._∷_ (
-  7,
-  Rows'.any-gone
-      Syntax.tyBool,
-) (List._∷_ (8, Rows'.any-gone (Syntax.tyRef Syntax.erased Syntax.mut Element.behind)) (List._∷_ (
-  9,
-  Rows'.any-gone (Syntax.tyStruct (List._∷_ 38 (List._∷_ 91 (List._∷_ 93
-      List.[]))) (Syntax.tcons (Syntax.tyRef Syntax.erased Syntax.mut Element.behind) (Syntax.tcons (Syntax.tyInt Syntax.w64) Syntax.tnil))),
-) (List._∷_ (10, Rows'.any-gone (Syntax.tyInt Syntax.w64))
-    (List._∷_ (11, Rows'.any-gone (Syntax.tyInt Syntax.w64)) (List._∷_ (12, Rows'.any-gone Syntax.tyPtr) (List._∷_ (13, Rows'.sc-here Row.sPtr) (List._∷_ (14, Rows'.any-gone Syntax.tyPtr) (List._∷_
-    (15, Rows'.any-gone Syntax.tyPtr) List.[])))))))))))))))
+  Mut.mslice (Element.type)
+      (Syntax.tyRef (Syntax.named 0) Syntax.mut Element.behind) 0,
+) (List._∷_ (2, Rows'.sc-here (Row.sInt Syntax.w64)) (List._∷_ (3, Rows.arrF (Referent.rtF (Referent.fInt Syntax.w32)) 112 0) (List._∷_
+    (4, Rows.arrF (Referent.rtF (Referent.fInt Syntax.w32)) 112 0) (List._∷_ (5, Rows'.sc-here (Row.sInt Syntax.w64)) (List._∷_ (6, Rows'.whole (Declared.row Record.the-type)) (List._∷_ (
+      7,
+      Rows'.any-gone Syntax.tyBool,
+    ) (List._∷_ (8, Rows'.any-gone (Syntax.tyRef Syntax.erased Syntax.mut Element.behind)) (List._∷_ (
+      9,
+      Rows'.any-gone (Syntax.tyStruct (List._∷_ 38 (List._∷_ 91
+          (List._∷_ 93 List.[]))) (Syntax.tcons (Syntax.tyRef Syntax.erased Syntax.mut Element.behind) (Syntax.tcons (Syntax.tyInt Syntax.w64) Syntax.tnil))),
+    ) (List._∷_ (
+      10,
+      Rows'.any-gone (Syntax.tyInt
+          Syntax.w64),
+    ) (List._∷_ (11, Rows'.any-gone (Syntax.tyInt Syntax.w64)) (List._∷_ (12, Rows'.any-gone Syntax.tyPtr) (List._∷_ (13, Rows'.sc-here Row.sPtr) (List._∷_ (
+      14,
+      Rows'.any-gone Syntax.tyPtr,
+    ) (List._∷_ (15, Rows'.any-gone Syntax.tyPtr) List.[])))))))))))))))
 
 abbrev pub t22 : List.List Row.Entry
 t22 = List._∷_ (
   0,
-  Rows'.any-gone (Syntax.tyStruct (List._∷_ 112 (List._∷_ 97 (List._∷_ 115 (List._∷_ 115 (List._∷_ 58 (List._∷_ 58 (List._∷_ 83 (List._∷_ 101 (List._∷_ 116 List.[])))))))))
-      (Syntax.tcons (Syntax.tyArray (Syntax.tyInt Syntax.w32) 112) (Syntax.tcons (Syntax.tyArray (Syntax.tyInt Syntax.w32) 112) Syntax.tnil))),
+  Rows'.any-gone (Syntax.tyStruct (List._∷_ 115 (List._∷_ 116 (List._∷_ 101 (List._∷_ 112 (List._∷_ 115 (List._∷_ 58 (List._∷_ 58 (List._∷_ 83 (List._∷_ 101 (List._∷_ 116
+      List.[])))))))))) (Syntax.tcons (Syntax.tyArray (Syntax.tyInt Syntax.w32) 112) (Syntax.tcons (Syntax.tyArray (Syntax.tyInt Syntax.w32) 112) Syntax.tnil))),
 ) (List._∷_ (
   1,
-  Mut.mslice (Element.type) (Syntax.tyRef
-      (Syntax.named 0) Syntax.mut Element.behind) 0,
-) (List._∷_ (2, Rows'.sc-here (Row.sInt Syntax.w64)) (List._∷_ (3, Rows.arrF (Referent.rtF (Referent.fInt Syntax.w32)) 112 0) (List._∷_ (
-  4,
-  Rows.arrF
-      (Referent.rtF (Referent.fInt Syntax.w32)) 112 0,
-) (List._∷_ (5, Rows'.sc-here (Row.sInt Syntax.w64)) (List._∷_ (6, Rows'.whole (Declared.row Record.the-type)) (List._∷_ (
-  7,
-  Rows'.any-gone
-      Syntax.tyBool,
-) (List._∷_ (8, Rows'.any-gone (Syntax.tyRef Syntax.erased Syntax.mut Element.behind)) (List._∷_ (
-  9,
-  Rows'.any-gone (Syntax.tyStruct (List._∷_ 38 (List._∷_ 91 (List._∷_ 93
-      List.[]))) (Syntax.tcons (Syntax.tyRef Syntax.erased Syntax.mut Element.behind) (Syntax.tcons (Syntax.tyInt Syntax.w64) Syntax.tnil))),
-) (List._∷_ (10, Rows'.any-gone (Syntax.tyInt Syntax.w64))
-    (List._∷_ (11, Rows'.sc-here (Row.sInt Syntax.w64)) (List._∷_ (12, Rows'.any-gone Syntax.tyPtr) (List._∷_ (13, Rows'.any-gone Syntax.tyPtr) (List._∷_ (14, Rows'.any-gone Syntax.tyPtr) (List._∷_
-    (15, Rows'.any-gone Syntax.tyPtr) List.[])))))))))))))))
+  Mut.mslice (Element.type)
+      (Syntax.tyRef (Syntax.named 0) Syntax.mut Element.behind) 0,
+) (List._∷_ (2, Rows'.sc-here (Row.sInt Syntax.w64)) (List._∷_ (3, Rows.arrF (Referent.rtF (Referent.fInt Syntax.w32)) 112 0) (List._∷_
+    (4, Rows.arrF (Referent.rtF (Referent.fInt Syntax.w32)) 112 0) (List._∷_ (5, Rows'.sc-here (Row.sInt Syntax.w64)) (List._∷_ (6, Rows'.whole (Declared.row Record.the-type)) (List._∷_ (
+      7,
+      Rows'.any-gone Syntax.tyBool,
+    ) (List._∷_ (8, Rows'.any-gone (Syntax.tyRef Syntax.erased Syntax.mut Element.behind)) (List._∷_ (
+      9,
+      Rows'.any-gone (Syntax.tyStruct (List._∷_ 38 (List._∷_ 91
+          (List._∷_ 93 List.[]))) (Syntax.tcons (Syntax.tyRef Syntax.erased Syntax.mut Element.behind) (Syntax.tcons (Syntax.tyInt Syntax.w64) Syntax.tnil))),
+    ) (List._∷_ (
+      10,
+      Rows'.any-gone (Syntax.tyInt
+          Syntax.w64),
+    ) (List._∷_ (11, Rows'.sc-here (Row.sInt Syntax.w64)) (List._∷_ (12, Rows'.any-gone Syntax.tyPtr) (List._∷_ (13, Rows'.any-gone Syntax.tyPtr) (List._∷_ (14, Rows'.any-gone Syntax.tyPtr)
+    (List._∷_ (15, Rows'.any-gone Syntax.tyPtr) List.[])))))))))))))))
 
 abbrev pub t23 : List.List Row.Entry
 t23 = List._∷_ (
   0,
-  Rows'.any-gone (Syntax.tyStruct (List._∷_ 112 (List._∷_ 97 (List._∷_ 115 (List._∷_ 115 (List._∷_ 58 (List._∷_ 58 (List._∷_ 83 (List._∷_ 101 (List._∷_ 116 List.[])))))))))
-      (Syntax.tcons (Syntax.tyArray (Syntax.tyInt Syntax.w32) 112) (Syntax.tcons (Syntax.tyArray (Syntax.tyInt Syntax.w32) 112) Syntax.tnil))),
+  Rows'.any-gone (Syntax.tyStruct (List._∷_ 115 (List._∷_ 116 (List._∷_ 101 (List._∷_ 112 (List._∷_ 115 (List._∷_ 58 (List._∷_ 58 (List._∷_ 83 (List._∷_ 101 (List._∷_ 116
+      List.[])))))))))) (Syntax.tcons (Syntax.tyArray (Syntax.tyInt Syntax.w32) 112) (Syntax.tcons (Syntax.tyArray (Syntax.tyInt Syntax.w32) 112) Syntax.tnil))),
 ) (List._∷_ (
   1,
-  Mut.mslice (Element.type) (Syntax.tyRef
-      (Syntax.named 0) Syntax.mut Element.behind) 0,
-) (List._∷_ (2, Rows'.sc-here (Row.sInt Syntax.w64)) (List._∷_ (3, Rows.arrF (Referent.rtF (Referent.fInt Syntax.w32)) 112 0) (List._∷_ (
-  4,
-  Rows.arrF
-      (Referent.rtF (Referent.fInt Syntax.w32)) 112 0,
-) (List._∷_ (5, Rows'.sc-here (Row.sInt Syntax.w64)) (List._∷_ (6, Rows'.whole (Declared.row Record.the-type)) (List._∷_ (
-  7,
-  Rows'.any-gone
-      Syntax.tyBool,
-) (List._∷_ (8, Rows'.any-gone (Syntax.tyRef Syntax.erased Syntax.mut Element.behind)) (List._∷_ (
-  9,
-  Rows'.any-gone (Syntax.tyStruct (List._∷_ 38 (List._∷_ 91 (List._∷_ 93
-      List.[]))) (Syntax.tcons (Syntax.tyRef Syntax.erased Syntax.mut Element.behind) (Syntax.tcons (Syntax.tyInt Syntax.w64) Syntax.tnil))),
-) (List._∷_ (10, Rows'.any-gone (Syntax.tyInt Syntax.w64))
-    (List._∷_ (11, Rows'.sc-here (Row.sInt Syntax.w64)) (List._∷_ (12, Rows'.any-gone Syntax.tyPtr) (List._∷_ (13, Rows'.any-gone Syntax.tyPtr) (List._∷_ (14, Rows'.sc-here Row.sPtr) (List._∷_ (
-      15,
-      Rows'.any-gone Syntax.tyPtr,
-    ) List.[])))))))))))))))
+  Mut.mslice (Element.type)
+      (Syntax.tyRef (Syntax.named 0) Syntax.mut Element.behind) 0,
+) (List._∷_ (2, Rows'.sc-here (Row.sInt Syntax.w64)) (List._∷_ (3, Rows.arrF (Referent.rtF (Referent.fInt Syntax.w32)) 112 0) (List._∷_
+    (4, Rows.arrF (Referent.rtF (Referent.fInt Syntax.w32)) 112 0) (List._∷_ (5, Rows'.sc-here (Row.sInt Syntax.w64)) (List._∷_ (6, Rows'.whole (Declared.row Record.the-type)) (List._∷_ (
+      7,
+      Rows'.any-gone Syntax.tyBool,
+    ) (List._∷_ (8, Rows'.any-gone (Syntax.tyRef Syntax.erased Syntax.mut Element.behind)) (List._∷_ (
+      9,
+      Rows'.any-gone (Syntax.tyStruct (List._∷_ 38 (List._∷_ 91
+          (List._∷_ 93 List.[]))) (Syntax.tcons (Syntax.tyRef Syntax.erased Syntax.mut Element.behind) (Syntax.tcons (Syntax.tyInt Syntax.w64) Syntax.tnil))),
+    ) (List._∷_ (
+      10,
+      Rows'.any-gone (Syntax.tyInt
+          Syntax.w64),
+    ) (List._∷_ (11, Rows'.sc-here (Row.sInt Syntax.w64)) (List._∷_ (12, Rows'.any-gone Syntax.tyPtr) (List._∷_ (13, Rows'.any-gone Syntax.tyPtr) (List._∷_ (14, Rows'.sc-here Row.sPtr)
+    (List._∷_ (15, Rows'.any-gone Syntax.tyPtr) List.[])))))))))))))))
 
 abbrev pub t24 : List.List Row.Entry
 t24 = List._∷_ (
   0,
-  Rows'.any-gone (Syntax.tyStruct (List._∷_ 112 (List._∷_ 97 (List._∷_ 115 (List._∷_ 115 (List._∷_ 58 (List._∷_ 58 (List._∷_ 83 (List._∷_ 101 (List._∷_ 116 List.[])))))))))
-      (Syntax.tcons (Syntax.tyArray (Syntax.tyInt Syntax.w32) 112) (Syntax.tcons (Syntax.tyArray (Syntax.tyInt Syntax.w32) 112) Syntax.tnil))),
+  Rows'.any-gone (Syntax.tyStruct (List._∷_ 115 (List._∷_ 116 (List._∷_ 101 (List._∷_ 112 (List._∷_ 115 (List._∷_ 58 (List._∷_ 58 (List._∷_ 83 (List._∷_ 101 (List._∷_ 116
+      List.[])))))))))) (Syntax.tcons (Syntax.tyArray (Syntax.tyInt Syntax.w32) 112) (Syntax.tcons (Syntax.tyArray (Syntax.tyInt Syntax.w32) 112) Syntax.tnil))),
 ) (List._∷_ (
   1,
-  Mut.mslice (Element.type) (Syntax.tyRef
-      (Syntax.named 0) Syntax.mut Element.behind) 0,
-) (List._∷_ (2, Rows'.sc-here (Row.sInt Syntax.w64)) (List._∷_ (3, Rows.arrF (Referent.rtF (Referent.fInt Syntax.w32)) 112 0) (List._∷_ (
-  4,
-  Rows.arrF
-      (Referent.rtF (Referent.fInt Syntax.w32)) 112 0,
-) (List._∷_ (5, Rows'.sc-here (Row.sInt Syntax.w64)) (List._∷_ (6, Rows'.whole (Declared.row Record.the-type)) (List._∷_ (
-  7,
-  Rows'.any-gone
-      Syntax.tyBool,
-) (List._∷_ (8, Rows'.any-gone (Syntax.tyRef Syntax.erased Syntax.mut Element.behind)) (List._∷_ (
-  9,
-  Rows'.any-gone (Syntax.tyStruct (List._∷_ 38 (List._∷_ 91 (List._∷_ 93
-      List.[]))) (Syntax.tcons (Syntax.tyRef Syntax.erased Syntax.mut Element.behind) (Syntax.tcons (Syntax.tyInt Syntax.w64) Syntax.tnil))),
-) (List._∷_ (10, Rows'.any-gone (Syntax.tyInt Syntax.w64))
-    (List._∷_ (11, Rows'.sc-here (Row.sInt Syntax.w64)) (List._∷_ (12, Rows'.any-gone Syntax.tyPtr) (List._∷_ (13, Rows'.any-gone Syntax.tyPtr) (List._∷_ (14, Rows'.sc-here Row.sPtr) (List._∷_ (
-      15,
-      Rows'.sc-here Row.sPtr,
-    ) List.[])))))))))))))))
+  Mut.mslice (Element.type)
+      (Syntax.tyRef (Syntax.named 0) Syntax.mut Element.behind) 0,
+) (List._∷_ (2, Rows'.sc-here (Row.sInt Syntax.w64)) (List._∷_ (3, Rows.arrF (Referent.rtF (Referent.fInt Syntax.w32)) 112 0) (List._∷_
+    (4, Rows.arrF (Referent.rtF (Referent.fInt Syntax.w32)) 112 0) (List._∷_ (5, Rows'.sc-here (Row.sInt Syntax.w64)) (List._∷_ (6, Rows'.whole (Declared.row Record.the-type)) (List._∷_ (
+      7,
+      Rows'.any-gone Syntax.tyBool,
+    ) (List._∷_ (8, Rows'.any-gone (Syntax.tyRef Syntax.erased Syntax.mut Element.behind)) (List._∷_ (
+      9,
+      Rows'.any-gone (Syntax.tyStruct (List._∷_ 38 (List._∷_ 91
+          (List._∷_ 93 List.[]))) (Syntax.tcons (Syntax.tyRef Syntax.erased Syntax.mut Element.behind) (Syntax.tcons (Syntax.tyInt Syntax.w64) Syntax.tnil))),
+    ) (List._∷_ (
+      10,
+      Rows'.any-gone (Syntax.tyInt
+          Syntax.w64),
+    ) (List._∷_ (11, Rows'.sc-here (Row.sInt Syntax.w64)) (List._∷_ (12, Rows'.any-gone Syntax.tyPtr) (List._∷_ (13, Rows'.any-gone Syntax.tyPtr) (List._∷_ (14, Rows'.sc-here Row.sPtr)
+    (List._∷_ (15, Rows'.sc-here Row.sPtr) List.[])))))))))))))))
 
 abbrev pub t25 : List.List Row.Entry
 t25 = List._∷_ (
   0,
-  Rows'.any-gone (Syntax.tyStruct (List._∷_ 112 (List._∷_ 97 (List._∷_ 115 (List._∷_ 115 (List._∷_ 58 (List._∷_ 58 (List._∷_ 83 (List._∷_ 101 (List._∷_ 116 List.[])))))))))
-      (Syntax.tcons (Syntax.tyArray (Syntax.tyInt Syntax.w32) 112) (Syntax.tcons (Syntax.tyArray (Syntax.tyInt Syntax.w32) 112) Syntax.tnil))),
+  Rows'.any-gone (Syntax.tyStruct (List._∷_ 115 (List._∷_ 116 (List._∷_ 101 (List._∷_ 112 (List._∷_ 115 (List._∷_ 58 (List._∷_ 58 (List._∷_ 83 (List._∷_ 101 (List._∷_ 116
+      List.[])))))))))) (Syntax.tcons (Syntax.tyArray (Syntax.tyInt Syntax.w32) 112) (Syntax.tcons (Syntax.tyArray (Syntax.tyInt Syntax.w32) 112) Syntax.tnil))),
 ) (List._∷_ (
   1,
-  Mut.mslice (Element.type) (Syntax.tyRef
-      (Syntax.named 0) Syntax.mut Element.behind) 0,
-) (List._∷_ (2, Rows'.sc-here (Row.sInt Syntax.w64)) (List._∷_ (3, Rows.arrF (Referent.rtF (Referent.fInt Syntax.w32)) 112 0) (List._∷_ (
-  4,
-  Rows.arrF
-      (Referent.rtF (Referent.fInt Syntax.w32)) 112 0,
-) (List._∷_ (5, Rows'.sc-here (Row.sInt Syntax.w64)) (List._∷_ (6, Rows'.whole (Declared.row Record.the-type)) (List._∷_ (
-  7,
-  Rows'.any-gone
-      Syntax.tyBool,
-) (List._∷_ (8, Rows'.any-gone (Syntax.tyRef Syntax.erased Syntax.mut Element.behind)) (List._∷_ (
-  9,
-  Rows'.any-gone (Syntax.tyStruct (List._∷_ 38 (List._∷_ 91 (List._∷_ 93
-      List.[]))) (Syntax.tcons (Syntax.tyRef Syntax.erased Syntax.mut Element.behind) (Syntax.tcons (Syntax.tyInt Syntax.w64) Syntax.tnil))),
-) (List._∷_ (10, Rows'.any-gone (Syntax.tyInt Syntax.w64))
-    (List._∷_ (11, Rows'.sc-here (Row.sInt Syntax.w64)) (List._∷_ (12, Rows'.any-gone Syntax.tyPtr) (List._∷_ (13, Rows'.any-gone Syntax.tyPtr) (List._∷_ (14, Rows'.any-gone Syntax.tyPtr) (List._∷_
-    (15, Rows'.sc-here Row.sPtr) List.[])))))))))))))))
+  Mut.mslice (Element.type)
+      (Syntax.tyRef (Syntax.named 0) Syntax.mut Element.behind) 0,
+) (List._∷_ (2, Rows'.sc-here (Row.sInt Syntax.w64)) (List._∷_ (3, Rows.arrF (Referent.rtF (Referent.fInt Syntax.w32)) 112 0) (List._∷_
+    (4, Rows.arrF (Referent.rtF (Referent.fInt Syntax.w32)) 112 0) (List._∷_ (5, Rows'.sc-here (Row.sInt Syntax.w64)) (List._∷_ (6, Rows'.whole (Declared.row Record.the-type)) (List._∷_ (
+      7,
+      Rows'.any-gone Syntax.tyBool,
+    ) (List._∷_ (8, Rows'.any-gone (Syntax.tyRef Syntax.erased Syntax.mut Element.behind)) (List._∷_ (
+      9,
+      Rows'.any-gone (Syntax.tyStruct (List._∷_ 38 (List._∷_ 91
+          (List._∷_ 93 List.[]))) (Syntax.tcons (Syntax.tyRef Syntax.erased Syntax.mut Element.behind) (Syntax.tcons (Syntax.tyInt Syntax.w64) Syntax.tnil))),
+    ) (List._∷_ (
+      10,
+      Rows'.any-gone (Syntax.tyInt
+          Syntax.w64),
+    ) (List._∷_ (11, Rows'.sc-here (Row.sInt Syntax.w64)) (List._∷_ (12, Rows'.any-gone Syntax.tyPtr) (List._∷_ (13, Rows'.any-gone Syntax.tyPtr) (List._∷_ (14, Rows'.any-gone Syntax.tyPtr)
+    (List._∷_ (15, Rows'.sc-here Row.sPtr) List.[])))))))))))))))
 
 abbrev pub t26 : List.List Row.Entry
 t26 = List._∷_ (
   0,
-  Rows'.any-gone (Syntax.tyStruct (List._∷_ 112 (List._∷_ 97 (List._∷_ 115 (List._∷_ 115 (List._∷_ 58 (List._∷_ 58 (List._∷_ 83 (List._∷_ 101 (List._∷_ 116 List.[])))))))))
-      (Syntax.tcons (Syntax.tyArray (Syntax.tyInt Syntax.w32) 112) (Syntax.tcons (Syntax.tyArray (Syntax.tyInt Syntax.w32) 112) Syntax.tnil))),
+  Rows'.any-gone (Syntax.tyStruct (List._∷_ 115 (List._∷_ 116 (List._∷_ 101 (List._∷_ 112 (List._∷_ 115 (List._∷_ 58 (List._∷_ 58 (List._∷_ 83 (List._∷_ 101 (List._∷_ 116
+      List.[])))))))))) (Syntax.tcons (Syntax.tyArray (Syntax.tyInt Syntax.w32) 112) (Syntax.tcons (Syntax.tyArray (Syntax.tyInt Syntax.w32) 112) Syntax.tnil))),
 ) (List._∷_ (
   1,
-  Mut.mslice (Element.type) (Syntax.tyRef
-      (Syntax.named 0) Syntax.mut Element.behind) 0,
-) (List._∷_ (2, Rows'.sc-here (Row.sInt Syntax.w64)) (List._∷_ (3, Rows.arrF (Referent.rtF (Referent.fInt Syntax.w32)) 112 0) (List._∷_ (
-  4,
-  Rows.arrF
-      (Referent.rtF (Referent.fInt Syntax.w32)) 112 0,
-) (List._∷_ (5, Rows'.sc-here (Row.sInt Syntax.w64)) (List._∷_ (
-  6,
-  Rows'.any-gone (Syntax.tyStruct (List._∷_ 115 (List._∷_ 116 (List._∷_ 97 (List._∷_
-      116 (List._∷_ 105 (List._∷_ 115 (List._∷_ 116 (List._∷_ 105 (List._∷_ 99 (List._∷_ 115 (List._∷_ 58 (List._∷_ 58 (List._∷_ 82 (List._∷_ 101 (List._∷_ 99 (List._∷_ 111 (List._∷_ 114 (List._∷_ 100
-      List.[])))))))))))))))))) (Syntax.tcons (Syntax.tyInt Syntax.w32) (Syntax.tcons (Syntax.tyInt Syntax.w32) Syntax.tnil))),
-) (List._∷_ (7, Rows'.any-gone Syntax.tyBool) (List._∷_ (
-  8,
-  Rows'.any-gone
-      (Syntax.tyRef Syntax.erased Syntax.mut Element.behind),
-) (List._∷_ (
-  9,
-  Rows'.any-gone (Syntax.tyStruct (List._∷_ 38 (List._∷_ 91 (List._∷_ 93 List.[]))) (Syntax.tcons (Syntax.tyRef Syntax.erased
-      Syntax.mut Element.behind) (Syntax.tcons (Syntax.tyInt Syntax.w64) Syntax.tnil))),
-) (List._∷_ (10, Rows'.any-gone (Syntax.tyInt Syntax.w64)) (List._∷_ (11, Rows'.sc-here (Row.sInt Syntax.w64))
-    (List._∷_ (12, Rows'.any-gone Syntax.tyPtr) (List._∷_ (13, Rows'.any-gone Syntax.tyPtr) (List._∷_ (14, Rows'.any-gone Syntax.tyPtr) (List._∷_ (15, Rows'.sc-here Row.sPtr) List.[])))))))))))))))
+  Mut.mslice (Element.type)
+      (Syntax.tyRef (Syntax.named 0) Syntax.mut Element.behind) 0,
+) (List._∷_ (2, Rows'.sc-here (Row.sInt Syntax.w64)) (List._∷_ (3, Rows.arrF (Referent.rtF (Referent.fInt Syntax.w32)) 112 0) (List._∷_
+    (4, Rows.arrF (Referent.rtF (Referent.fInt Syntax.w32)) 112 0) (List._∷_ (5, Rows'.sc-here (Row.sInt Syntax.w64)) (List._∷_ (
+      6,
+      Rows'.any-gone (Syntax.tyStruct (List._∷_ 115 (List._∷_ 116
+          (List._∷_ 97 (List._∷_ 116 (List._∷_ 105 (List._∷_ 115 (List._∷_ 116 (List._∷_ 105 (List._∷_ 99 (List._∷_ 115 (List._∷_ 58 (List._∷_ 58 (List._∷_ 82 (List._∷_ 101 (List._∷_ 99 (List._∷_ 111 (List._∷_
+          114 (List._∷_ 100 List.[])))))))))))))))))) (Syntax.tcons (Syntax.tyInt Syntax.w32) (Syntax.tcons (Syntax.tyInt Syntax.w32) Syntax.tnil))),
+    ) (List._∷_ (7, Rows'.any-gone Syntax.tyBool) (List._∷_ (
+      8,
+      Rows'.any-gone (Syntax.tyRef Syntax.erased Syntax.mut Element.behind),
+    ) (List._∷_ (
+      9,
+      Rows'.any-gone (Syntax.tyStruct (List._∷_ 38 (List._∷_ 91 (List._∷_ 93 List.[]))) (Syntax.tcons (Syntax.tyRef
+          Syntax.erased Syntax.mut Element.behind) (Syntax.tcons (Syntax.tyInt Syntax.w64) Syntax.tnil))),
+    ) (List._∷_ (10, Rows'.any-gone (Syntax.tyInt Syntax.w64)) (List._∷_ (
+      11,
+      Rows'.sc-here (Row.sInt
+          Syntax.w64),
+    ) (List._∷_ (12, Rows'.any-gone Syntax.tyPtr) (List._∷_ (13, Rows'.any-gone Syntax.tyPtr) (List._∷_ (14, Rows'.any-gone Syntax.tyPtr) (List._∷_ (15, Rows'.sc-here Row.sPtr)
+    List.[])))))))))))))))
 
 abbrev pub t27 : List.List Row.Entry
 t27 = List._∷_ (
   0,
-  Rows'.any-gone (Syntax.tyStruct (List._∷_ 112 (List._∷_ 97 (List._∷_ 115 (List._∷_ 115 (List._∷_ 58 (List._∷_ 58 (List._∷_ 83 (List._∷_ 101 (List._∷_ 116 List.[])))))))))
-      (Syntax.tcons (Syntax.tyArray (Syntax.tyInt Syntax.w32) 112) (Syntax.tcons (Syntax.tyArray (Syntax.tyInt Syntax.w32) 112) Syntax.tnil))),
+  Rows'.any-gone (Syntax.tyStruct (List._∷_ 115 (List._∷_ 116 (List._∷_ 101 (List._∷_ 112 (List._∷_ 115 (List._∷_ 58 (List._∷_ 58 (List._∷_ 83 (List._∷_ 101 (List._∷_ 116
+      List.[])))))))))) (Syntax.tcons (Syntax.tyArray (Syntax.tyInt Syntax.w32) 112) (Syntax.tcons (Syntax.tyArray (Syntax.tyInt Syntax.w32) 112) Syntax.tnil))),
 ) (List._∷_ (
   1,
-  Mut.mslice (Element.type) (Syntax.tyRef
-      (Syntax.named 0) Syntax.mut Element.behind) 0,
-) (List._∷_ (2, Rows'.sc-here (Row.sInt Syntax.w64)) (List._∷_ (3, Rows.arrF (Referent.rtF (Referent.fInt Syntax.w32)) 112 0) (List._∷_ (
-  4,
-  Rows.arrF
-      (Referent.rtF (Referent.fInt Syntax.w32)) 112 0,
-) (List._∷_ (5, Rows'.sc-here (Row.sInt Syntax.w64)) (List._∷_ (
-  6,
-  Rows'.any-gone (Syntax.tyStruct (List._∷_ 115 (List._∷_ 116 (List._∷_ 97 (List._∷_
-      116 (List._∷_ 105 (List._∷_ 115 (List._∷_ 116 (List._∷_ 105 (List._∷_ 99 (List._∷_ 115 (List._∷_ 58 (List._∷_ 58 (List._∷_ 82 (List._∷_ 101 (List._∷_ 99 (List._∷_ 111 (List._∷_ 114 (List._∷_ 100
-      List.[])))))))))))))))))) (Syntax.tcons (Syntax.tyInt Syntax.w32) (Syntax.tcons (Syntax.tyInt Syntax.w32) Syntax.tnil))),
-) (List._∷_ (7, Rows'.any-gone Syntax.tyBool) (List._∷_ (
-  8,
-  Rows'.any-gone
-      (Syntax.tyRef Syntax.erased Syntax.mut Element.behind),
-) (List._∷_ (
-  9,
-  Rows'.any-gone (Syntax.tyStruct (List._∷_ 38 (List._∷_ 91 (List._∷_ 93 List.[]))) (Syntax.tcons (Syntax.tyRef Syntax.erased
-      Syntax.mut Element.behind) (Syntax.tcons (Syntax.tyInt Syntax.w64) Syntax.tnil))),
-) (List._∷_ (10, Rows'.any-gone (Syntax.tyInt Syntax.w64)) (List._∷_ (
-  11,
-  Rows'.any-gone (Syntax.tyInt Syntax.w64),
-) (List._∷_ (12, Rows'.any-gone Syntax.tyPtr) (List._∷_ (13, Rows'.any-gone Syntax.tyPtr) (List._∷_ (14, Rows'.any-gone Syntax.tyPtr) (List._∷_ (15, Rows'.sc-here Row.sPtr) List.[])))))))))))))))
+  Mut.mslice (Element.type)
+      (Syntax.tyRef (Syntax.named 0) Syntax.mut Element.behind) 0,
+) (List._∷_ (2, Rows'.sc-here (Row.sInt Syntax.w64)) (List._∷_ (3, Rows.arrF (Referent.rtF (Referent.fInt Syntax.w32)) 112 0) (List._∷_
+    (4, Rows.arrF (Referent.rtF (Referent.fInt Syntax.w32)) 112 0) (List._∷_ (5, Rows'.sc-here (Row.sInt Syntax.w64)) (List._∷_ (
+      6,
+      Rows'.any-gone (Syntax.tyStruct (List._∷_ 115 (List._∷_ 116
+          (List._∷_ 97 (List._∷_ 116 (List._∷_ 105 (List._∷_ 115 (List._∷_ 116 (List._∷_ 105 (List._∷_ 99 (List._∷_ 115 (List._∷_ 58 (List._∷_ 58 (List._∷_ 82 (List._∷_ 101 (List._∷_ 99 (List._∷_ 111 (List._∷_
+          114 (List._∷_ 100 List.[])))))))))))))))))) (Syntax.tcons (Syntax.tyInt Syntax.w32) (Syntax.tcons (Syntax.tyInt Syntax.w32) Syntax.tnil))),
+    ) (List._∷_ (7, Rows'.any-gone Syntax.tyBool) (List._∷_ (
+      8,
+      Rows'.any-gone (Syntax.tyRef Syntax.erased Syntax.mut Element.behind),
+    ) (List._∷_ (
+      9,
+      Rows'.any-gone (Syntax.tyStruct (List._∷_ 38 (List._∷_ 91 (List._∷_ 93 List.[]))) (Syntax.tcons (Syntax.tyRef
+          Syntax.erased Syntax.mut Element.behind) (Syntax.tcons (Syntax.tyInt Syntax.w64) Syntax.tnil))),
+    ) (List._∷_ (10, Rows'.any-gone (Syntax.tyInt Syntax.w64)) (List._∷_ (
+      11,
+      Rows'.any-gone (Syntax.tyInt
+          Syntax.w64),
+    ) (List._∷_ (12, Rows'.any-gone Syntax.tyPtr) (List._∷_ (13, Rows'.any-gone Syntax.tyPtr) (List._∷_ (14, Rows'.any-gone Syntax.tyPtr) (List._∷_ (15, Rows'.sc-here Row.sPtr)
+    List.[])))))))))))))))
 
 abbrev pub t28 : List.List Row.Entry
 t28 = List._∷_ (16, Rows.arrF (Referent.rtF (Referent.fInt Syntax.w32)) 112 0) (List._∷_ (17, Rows'.any-gone (Syntax.tyArray (Syntax.tyInt Syntax.w32) 112)) List.[])
@@ -1008,33 +1042,32 @@ t28 = List._∷_ (16, Rows.arrF (Referent.rtF (Referent.fInt Syntax.w32)) 112 0)
 abbrev pub t29 : List.List Row.Entry
 t29 = List._∷_ (
   0,
-  Rows'.any-gone (Syntax.tyStruct (List._∷_ 112 (List._∷_ 97 (List._∷_ 115 (List._∷_ 115 (List._∷_ 58 (List._∷_ 58 (List._∷_ 83 (List._∷_ 101 (List._∷_ 116 List.[])))))))))
-      (Syntax.tcons (Syntax.tyArray (Syntax.tyInt Syntax.w32) 112) (Syntax.tcons (Syntax.tyArray (Syntax.tyInt Syntax.w32) 112) Syntax.tnil))),
+  Rows'.any-gone (Syntax.tyStruct (List._∷_ 115 (List._∷_ 116 (List._∷_ 101 (List._∷_ 112 (List._∷_ 115 (List._∷_ 58 (List._∷_ 58 (List._∷_ 83 (List._∷_ 101 (List._∷_ 116
+      List.[])))))))))) (Syntax.tcons (Syntax.tyArray (Syntax.tyInt Syntax.w32) 112) (Syntax.tcons (Syntax.tyArray (Syntax.tyInt Syntax.w32) 112) Syntax.tnil))),
 ) (List._∷_ (
   1,
-  Mut.mslice (Element.type) (Syntax.tyRef
-      (Syntax.named 0) Syntax.mut Element.behind) 0,
-) (List._∷_ (2, Rows'.sc-here (Row.sInt Syntax.w64)) (List._∷_ (3, Rows'.any-gone (Syntax.tyArray (Syntax.tyInt Syntax.w32) 112)) (List._∷_ (
-  4,
-  Rows.arrF (Referent.rtF (Referent.fInt Syntax.w32)) 112 0,
-) (List._∷_ (5, Rows'.sc-here (Row.sInt Syntax.w64)) (List._∷_ (
-  6,
-  Rows'.any-gone (Syntax.tyStruct (List._∷_ 115 (List._∷_ 116 (List._∷_ 97
-      (List._∷_ 116 (List._∷_ 105 (List._∷_ 115 (List._∷_ 116 (List._∷_ 105 (List._∷_ 99 (List._∷_ 115 (List._∷_ 58 (List._∷_ 58 (List._∷_ 82 (List._∷_ 101 (List._∷_ 99 (List._∷_ 111 (List._∷_ 114 (List._∷_
-      100 List.[])))))))))))))))))) (Syntax.tcons (Syntax.tyInt Syntax.w32) (Syntax.tcons (Syntax.tyInt Syntax.w32) Syntax.tnil))),
-) (List._∷_ (7, Rows'.any-gone Syntax.tyBool) (List._∷_ (
-  8,
-  Rows'.any-gone (Syntax.tyRef Syntax.erased Syntax.mut Element.behind),
-) (List._∷_ (
-  9,
-  Rows'.any-gone (Syntax.tyStruct (List._∷_ 38 (List._∷_ 91 (List._∷_ 93 List.[]))) (Syntax.tcons (Syntax.tyRef
-      Syntax.erased Syntax.mut Element.behind) (Syntax.tcons (Syntax.tyInt Syntax.w64) Syntax.tnil))),
-) (List._∷_ (10, Rows'.any-gone (Syntax.tyInt Syntax.w64)) (List._∷_ (
-  11,
-  Rows'.any-gone (Syntax.tyInt
-      Syntax.w64),
-) (List._∷_ (12, Rows'.any-gone Syntax.tyPtr) (List._∷_ (13, Rows'.any-gone Syntax.tyPtr) (List._∷_ (14, Rows'.any-gone Syntax.tyPtr) (List._∷_ (15, Rows'.any-gone Syntax.tyPtr)
-    List.[])))))))))))))))
+  Mut.mslice (Element.type)
+      (Syntax.tyRef (Syntax.named 0) Syntax.mut Element.behind) 0,
+) (List._∷_ (2, Rows'.sc-here (Row.sInt Syntax.w64)) (List._∷_ (3, Rows'.any-gone (Syntax.tyArray (Syntax.tyInt Syntax.w32) 112))
+    (List._∷_ (4, Rows.arrF (Referent.rtF (Referent.fInt Syntax.w32)) 112 0) (List._∷_ (5, Rows'.sc-here (Row.sInt Syntax.w64)) (List._∷_ (
+      6,
+      Rows'.any-gone (Syntax.tyStruct (List._∷_ 115 (List._∷_
+          116 (List._∷_ 97 (List._∷_ 116 (List._∷_ 105 (List._∷_ 115 (List._∷_ 116 (List._∷_ 105 (List._∷_ 99 (List._∷_ 115 (List._∷_ 58 (List._∷_ 58 (List._∷_ 82 (List._∷_ 101 (List._∷_ 99 (List._∷_ 111
+          (List._∷_ 114 (List._∷_ 100 List.[])))))))))))))))))) (Syntax.tcons (Syntax.tyInt Syntax.w32) (Syntax.tcons (Syntax.tyInt Syntax.w32) Syntax.tnil))),
+    ) (List._∷_ (7, Rows'.any-gone Syntax.tyBool)
+    (List._∷_ (8, Rows'.any-gone (Syntax.tyRef Syntax.erased Syntax.mut Element.behind)) (List._∷_ (
+      9,
+      Rows'.any-gone (Syntax.tyStruct (List._∷_ 38 (List._∷_ 91 (List._∷_ 93 List.[]))) (Syntax.tcons
+          (Syntax.tyRef Syntax.erased Syntax.mut Element.behind) (Syntax.tcons (Syntax.tyInt Syntax.w64) Syntax.tnil))),
+    ) (List._∷_ (10, Rows'.any-gone (Syntax.tyInt Syntax.w64)) (List._∷_ (
+      11,
+      Rows'.any-gone
+          (Syntax.tyInt Syntax.w64),
+    ) (List._∷_ (12, Rows'.any-gone Syntax.tyPtr) (List._∷_ (13, Rows'.any-gone Syntax.tyPtr) (List._∷_ (14, Rows'.any-gone Syntax.tyPtr) (List._∷_ (
+      15,
+      Rows'.any-gone
+          Syntax.tyPtr,
+    ) List.[])))))))))))))))
 
 abbrev pub t30 : List.List Row.Entry
 t30 = List._∷_ (16, Rows.arrF (Referent.rtF (Referent.fInt Syntax.w32)) 112 0) (List._∷_ (17, Rows.arrF (Referent.rtF (Referent.fInt Syntax.w32)) 112 0) List.[])
@@ -1042,33 +1075,32 @@ t30 = List._∷_ (16, Rows.arrF (Referent.rtF (Referent.fInt Syntax.w32)) 112 0)
 abbrev pub t31 : List.List Row.Entry
 t31 = List._∷_ (
   0,
-  Rows'.any-gone (Syntax.tyStruct (List._∷_ 112 (List._∷_ 97 (List._∷_ 115 (List._∷_ 115 (List._∷_ 58 (List._∷_ 58 (List._∷_ 83 (List._∷_ 101 (List._∷_ 116 List.[])))))))))
-      (Syntax.tcons (Syntax.tyArray (Syntax.tyInt Syntax.w32) 112) (Syntax.tcons (Syntax.tyArray (Syntax.tyInt Syntax.w32) 112) Syntax.tnil))),
+  Rows'.any-gone (Syntax.tyStruct (List._∷_ 115 (List._∷_ 116 (List._∷_ 101 (List._∷_ 112 (List._∷_ 115 (List._∷_ 58 (List._∷_ 58 (List._∷_ 83 (List._∷_ 101 (List._∷_ 116
+      List.[])))))))))) (Syntax.tcons (Syntax.tyArray (Syntax.tyInt Syntax.w32) 112) (Syntax.tcons (Syntax.tyArray (Syntax.tyInt Syntax.w32) 112) Syntax.tnil))),
 ) (List._∷_ (
   1,
-  Mut.mslice (Element.type) (Syntax.tyRef
-      (Syntax.named 0) Syntax.mut Element.behind) 0,
-) (List._∷_ (2, Rows'.sc-here (Row.sInt Syntax.w64)) (List._∷_ (3, Rows'.any-gone (Syntax.tyArray (Syntax.tyInt Syntax.w32) 112)) (List._∷_ (
-  4,
-  Rows'.any-gone (Syntax.tyArray (Syntax.tyInt Syntax.w32) 112),
-) (List._∷_ (5, Rows'.sc-here (Row.sInt Syntax.w64)) (List._∷_ (
-  6,
-  Rows'.any-gone (Syntax.tyStruct (List._∷_ 115 (List._∷_ 116
-      (List._∷_ 97 (List._∷_ 116 (List._∷_ 105 (List._∷_ 115 (List._∷_ 116 (List._∷_ 105 (List._∷_ 99 (List._∷_ 115 (List._∷_ 58 (List._∷_ 58 (List._∷_ 82 (List._∷_ 101 (List._∷_ 99 (List._∷_ 111 (List._∷_
-      114 (List._∷_ 100 List.[])))))))))))))))))) (Syntax.tcons (Syntax.tyInt Syntax.w32) (Syntax.tcons (Syntax.tyInt Syntax.w32) Syntax.tnil))),
-) (List._∷_ (7, Rows'.any-gone Syntax.tyBool) (List._∷_ (
-  8,
-  Rows'.any-gone (Syntax.tyRef Syntax.erased Syntax.mut Element.behind),
-) (List._∷_ (
-  9,
-  Rows'.any-gone (Syntax.tyStruct (List._∷_ 38 (List._∷_ 91 (List._∷_ 93 List.[]))) (Syntax.tcons (Syntax.tyRef
-      Syntax.erased Syntax.mut Element.behind) (Syntax.tcons (Syntax.tyInt Syntax.w64) Syntax.tnil))),
-) (List._∷_ (10, Rows'.any-gone (Syntax.tyInt Syntax.w64)) (List._∷_ (
-  11,
-  Rows'.any-gone (Syntax.tyInt
-      Syntax.w64),
-) (List._∷_ (12, Rows'.any-gone Syntax.tyPtr) (List._∷_ (13, Rows'.any-gone Syntax.tyPtr) (List._∷_ (14, Rows'.any-gone Syntax.tyPtr) (List._∷_ (15, Rows'.any-gone Syntax.tyPtr)
-    List.[])))))))))))))))
+  Mut.mslice (Element.type)
+      (Syntax.tyRef (Syntax.named 0) Syntax.mut Element.behind) 0,
+) (List._∷_ (2, Rows'.sc-here (Row.sInt Syntax.w64)) (List._∷_ (3, Rows'.any-gone (Syntax.tyArray (Syntax.tyInt Syntax.w32) 112))
+    (List._∷_ (4, Rows'.any-gone (Syntax.tyArray (Syntax.tyInt Syntax.w32) 112)) (List._∷_ (5, Rows'.sc-here (Row.sInt Syntax.w64)) (List._∷_ (
+      6,
+      Rows'.any-gone (Syntax.tyStruct (List._∷_ 115
+          (List._∷_ 116 (List._∷_ 97 (List._∷_ 116 (List._∷_ 105 (List._∷_ 115 (List._∷_ 116 (List._∷_ 105 (List._∷_ 99 (List._∷_ 115 (List._∷_ 58 (List._∷_ 58 (List._∷_ 82 (List._∷_ 101 (List._∷_ 99 (List._∷_
+          111 (List._∷_ 114 (List._∷_ 100 List.[])))))))))))))))))) (Syntax.tcons (Syntax.tyInt Syntax.w32) (Syntax.tcons (Syntax.tyInt Syntax.w32) Syntax.tnil))),
+    ) (List._∷_ (7, Rows'.any-gone Syntax.tyBool)
+    (List._∷_ (8, Rows'.any-gone (Syntax.tyRef Syntax.erased Syntax.mut Element.behind)) (List._∷_ (
+      9,
+      Rows'.any-gone (Syntax.tyStruct (List._∷_ 38 (List._∷_ 91 (List._∷_ 93 List.[]))) (Syntax.tcons
+          (Syntax.tyRef Syntax.erased Syntax.mut Element.behind) (Syntax.tcons (Syntax.tyInt Syntax.w64) Syntax.tnil))),
+    ) (List._∷_ (10, Rows'.any-gone (Syntax.tyInt Syntax.w64)) (List._∷_ (
+      11,
+      Rows'.any-gone
+          (Syntax.tyInt Syntax.w64),
+    ) (List._∷_ (12, Rows'.any-gone Syntax.tyPtr) (List._∷_ (13, Rows'.any-gone Syntax.tyPtr) (List._∷_ (14, Rows'.any-gone Syntax.tyPtr) (List._∷_ (
+      15,
+      Rows'.any-gone
+          Syntax.tyPtr,
+    ) List.[])))))))))))))))
 
 abbrev pub t32 : List.List Row.Entry
 t32 = List._∷_ (0, Rows'.whole (Declared.row (Apart.apartT Set.the-type))) (List._∷_ (1, Mut.mslice (Element.type) (Syntax.tyRef (Syntax.named 0) Syntax.mut Element.behind) 0) (List._∷_ (
@@ -1380,7 +1412,7 @@ module _ (claims· : Claims) where
 
   abbrev s23 : (bs : List.List Nat.ℕ) → Typed.Asks T26 T27
   s23 = λ bs. Borrow.k-arr-write (Referent.fInt Syntax.w32) T26 (Init.scaled (Referent.rtF (Referent.fInt Syntax.w32)) .off) (Row.hd 0 (Row.tl (Row.tl (Row.tl bs)))) 3 13 112 0 (λ x. x) (λ x. x) (λ u.
-      u .1 .1 .1 .1 .1 .0) (Scalar.oFld 6 (List._∷_ (Syntax.field 0) List.[]) (Syntax.tyInt Syntax.w32) 0 (Reads.fieldV Record.the-type Laws'.the-laws 0))
+      u .1 .1 .1 .1 .1 .0) (Scalar.oFld 6 (List._∷_ (Syntax.field 0) List.[]) (Syntax.tyInt Syntax.w32) 0 (Reads.fieldV Record.the-type Laws.the-laws 0))
 
   abbrev s24 : (bs : List.List Nat.ℕ) → Typed.Mo T27 → Typed.Mo T28
   s24 = λ bs. Scalar.n-room T27 10 (Syntax.tyInt Syntax.w64)
@@ -1404,7 +1436,7 @@ module _ (claims· : Claims) where
 
   abbrev s30 : (bs : List.List Nat.ℕ) → Typed.Asks T33 T34
   s30 = λ bs. Borrow.k-arr-write (Referent.fInt Syntax.w32) T33 (Init.scaled (Referent.rtF (Referent.fInt Syntax.w32)) .off) (Row.hd 0 (Row.tl (Row.tl (Row.tl (Row.tl bs))))) 4 15 112 0 (λ x. x) (λ x.
-      x) (λ u. u .1 .1 .1 .1 .1 .0) (Scalar.oFld 6 (List._∷_ (Syntax.field 1) List.[]) (Syntax.tyInt Syntax.w32) 4 (Reads.fieldV Record.the-type Laws'.the-laws 1))
+      x) (λ u. u .1 .1 .1 .1 .1 .0) (Scalar.oFld 6 (List._∷_ (Syntax.field 1) List.[]) (Syntax.tyInt Syntax.w32) 4 (Reads.fieldV Record.the-type Laws.the-laws 1))
 
   abbrev s31 : (bs : List.List Nat.ℕ) → Typed.Mo T34 → Typed.Mo T35
   s31 = λ bs. Scalar.n-room T34 6 (Syntax.tyStruct (List._∷_ 115 (List._∷_ 116 (List._∷_ 97 (List._∷_ 116 (List._∷_ 105 (List._∷_ 115 (List._∷_ 116 (List._∷_ 105 (List._∷_ 99 (List._∷_ 115 (List._∷_
@@ -1643,16 +1675,16 @@ module _ (claims· : Claims) where
         abbrev g9 : List.List Row.Entry
         g9 = List._∷_ (
           0,
-          Rows'.any-gone (Syntax.tyStruct (List._∷_ 112 (List._∷_ 97 (List._∷_ 115 (List._∷_ 115 (List._∷_ 58 (List._∷_ 58 (List._∷_ 83 (List._∷_ 101 (List._∷_ 116 List.[])))))))))
-              (Syntax.tcons (Syntax.tyArray (Syntax.tyInt Syntax.w32) 112) (Syntax.tcons (Syntax.tyArray (Syntax.tyInt Syntax.w32) 112) Syntax.tnil))),
+          Rows'.any-gone (Syntax.tyStruct (List._∷_ 115 (List._∷_ 116 (List._∷_ 101 (List._∷_ 112 (List._∷_ 115 (List._∷_ 58 (List._∷_ 58 (List._∷_ 83 (List._∷_ 101 (List._∷_ 116
+              List.[])))))))))) (Syntax.tcons (Syntax.tyArray (Syntax.tyInt Syntax.w32) 112) (Syntax.tcons (Syntax.tyArray (Syntax.tyInt Syntax.w32) 112) Syntax.tnil))),
         ) (List._∷_ (
           1,
-          Relend.mslice-owed (Element.type)
-              (Syntax.tyRef (Syntax.named 0) Syntax.mut Element.behind) 0 1 (Row.lease (κs .0) (qs .0)),
+          Relend.mslice-owed
+              (Element.type) (Syntax.tyRef (Syntax.named 0) Syntax.mut Element.behind) 0 1 (Row.lease (κs .0) (qs .0)),
         ) (List._∷_ (2, Rows'.sc-here (Row.sInt Syntax.w64)) (List._∷_ (
           3,
-          Rows.arrF (Referent.rtF
-              (Referent.fInt Syntax.w32)) 112 0,
+          Rows.arrF
+              (Referent.rtF (Referent.fInt Syntax.w32)) 112 0,
         ) (List._∷_ (4, Rows.arrF (Referent.rtF (Referent.fInt Syntax.w32)) 112 0) (List._∷_ (5, Rows'.sc-here (Row.sInt Syntax.w64)) (List._∷_ (
           6,
           Rows'.any-gone (Syntax.tyStruct (List._∷_ 115 (List._∷_ 116 (List._∷_ 97 (List._∷_ 116 (List._∷_ 105 (List._∷_ 115 (List._∷_ 116 (List._∷_ 105 (List._∷_ 99 (List._∷_ 115 (List._∷_ 58 (List._∷_
@@ -1670,16 +1702,16 @@ module _ (claims· : Claims) where
         abbrev g10 : List.List Row.Entry
         g10 = List._∷_ (
           0,
-          Rows'.any-gone (Syntax.tyStruct (List._∷_ 112 (List._∷_ 97 (List._∷_ 115 (List._∷_ 115 (List._∷_ 58 (List._∷_ 58 (List._∷_ 83 (List._∷_ 101 (List._∷_ 116 List.[])))))))))
-              (Syntax.tcons (Syntax.tyArray (Syntax.tyInt Syntax.w32) 112) (Syntax.tcons (Syntax.tyArray (Syntax.tyInt Syntax.w32) 112) Syntax.tnil))),
+          Rows'.any-gone (Syntax.tyStruct (List._∷_ 115 (List._∷_ 116 (List._∷_ 101 (List._∷_ 112 (List._∷_ 115 (List._∷_ 58 (List._∷_ 58 (List._∷_ 83 (List._∷_ 101 (List._∷_ 116
+              List.[])))))))))) (Syntax.tcons (Syntax.tyArray (Syntax.tyInt Syntax.w32) 112) (Syntax.tcons (Syntax.tyArray (Syntax.tyInt Syntax.w32) 112) Syntax.tnil))),
         ) (List._∷_ (
           1,
-          Relend.mslice-owed (Element.type)
-              (Syntax.tyRef (Syntax.named 0) Syntax.mut Element.behind) 0 1 (Row.lease (κs .0) (qs .0)),
+          Relend.mslice-owed
+              (Element.type) (Syntax.tyRef (Syntax.named 0) Syntax.mut Element.behind) 0 1 (Row.lease (κs .0) (qs .0)),
         ) (List._∷_ (2, Rows'.sc-here (Row.sInt Syntax.w64)) (List._∷_ (
           3,
-          Rows.arrF (Referent.rtF
-              (Referent.fInt Syntax.w32)) 112 0,
+          Rows.arrF
+              (Referent.rtF (Referent.fInt Syntax.w32)) 112 0,
         ) (List._∷_ (4, Rows.arrF (Referent.rtF (Referent.fInt Syntax.w32)) 112 0) (List._∷_ (5, Rows'.sc-here (Row.sInt Syntax.w64)) (List._∷_ (
           6,
           Rows'.any-gone (Syntax.tyStruct (List._∷_ 115 (List._∷_ 116 (List._∷_ 97 (List._∷_ 116 (List._∷_ 105 (List._∷_ 115 (List._∷_ 116 (List._∷_ 105 (List._∷_ 99 (List._∷_ 115 (List._∷_ 58 (List._∷_
@@ -1697,16 +1729,16 @@ module _ (claims· : Claims) where
         abbrev g11 : List.List Row.Entry
         g11 = List._∷_ (
           0,
-          Rows'.any-gone (Syntax.tyStruct (List._∷_ 112 (List._∷_ 97 (List._∷_ 115 (List._∷_ 115 (List._∷_ 58 (List._∷_ 58 (List._∷_ 83 (List._∷_ 101 (List._∷_ 116 List.[])))))))))
-              (Syntax.tcons (Syntax.tyArray (Syntax.tyInt Syntax.w32) 112) (Syntax.tcons (Syntax.tyArray (Syntax.tyInt Syntax.w32) 112) Syntax.tnil))),
+          Rows'.any-gone (Syntax.tyStruct (List._∷_ 115 (List._∷_ 116 (List._∷_ 101 (List._∷_ 112 (List._∷_ 115 (List._∷_ 58 (List._∷_ 58 (List._∷_ 83 (List._∷_ 101 (List._∷_ 116
+              List.[])))))))))) (Syntax.tcons (Syntax.tyArray (Syntax.tyInt Syntax.w32) 112) (Syntax.tcons (Syntax.tyArray (Syntax.tyInt Syntax.w32) 112) Syntax.tnil))),
         ) (List._∷_ (
           1,
-          Relend.mslice-owed (Element.type)
-              (Syntax.tyRef (Syntax.named 0) Syntax.mut Element.behind) 0 1 (Row.lease (κs .0) (qs .0)),
+          Relend.mslice-owed
+              (Element.type) (Syntax.tyRef (Syntax.named 0) Syntax.mut Element.behind) 0 1 (Row.lease (κs .0) (qs .0)),
         ) (List._∷_ (2, Rows'.sc-here (Row.sInt Syntax.w64)) (List._∷_ (
           3,
-          Rows.arrF (Referent.rtF
-              (Referent.fInt Syntax.w32)) 112 0,
+          Rows.arrF
+              (Referent.rtF (Referent.fInt Syntax.w32)) 112 0,
         ) (List._∷_ (4, Rows.arrF (Referent.rtF (Referent.fInt Syntax.w32)) 112 0) (List._∷_ (5, Rows'.sc-here (Row.sInt Syntax.w64)) (List._∷_ (
           6,
           Rows'.any-gone (Syntax.tyStruct (List._∷_ 115 (List._∷_ 116 (List._∷_ 97 (List._∷_ 116 (List._∷_ 105 (List._∷_ 115 (List._∷_ 116 (List._∷_ 105 (List._∷_ 99 (List._∷_ 115 (List._∷_ 58 (List._∷_
@@ -1724,16 +1756,16 @@ module _ (claims· : Claims) where
         abbrev g12 : List.List Row.Entry
         g12 = List._∷_ (
           0,
-          Rows'.any-gone (Syntax.tyStruct (List._∷_ 112 (List._∷_ 97 (List._∷_ 115 (List._∷_ 115 (List._∷_ 58 (List._∷_ 58 (List._∷_ 83 (List._∷_ 101 (List._∷_ 116 List.[])))))))))
-              (Syntax.tcons (Syntax.tyArray (Syntax.tyInt Syntax.w32) 112) (Syntax.tcons (Syntax.tyArray (Syntax.tyInt Syntax.w32) 112) Syntax.tnil))),
+          Rows'.any-gone (Syntax.tyStruct (List._∷_ 115 (List._∷_ 116 (List._∷_ 101 (List._∷_ 112 (List._∷_ 115 (List._∷_ 58 (List._∷_ 58 (List._∷_ 83 (List._∷_ 101 (List._∷_ 116
+              List.[])))))))))) (Syntax.tcons (Syntax.tyArray (Syntax.tyInt Syntax.w32) 112) (Syntax.tcons (Syntax.tyArray (Syntax.tyInt Syntax.w32) 112) Syntax.tnil))),
         ) (List._∷_ (
           1,
-          Relend.mslice-owed (Element.type)
-              (Syntax.tyRef (Syntax.named 0) Syntax.mut Element.behind) 0 1 (Row.lease (κs .0) (qs .0)),
+          Relend.mslice-owed
+              (Element.type) (Syntax.tyRef (Syntax.named 0) Syntax.mut Element.behind) 0 1 (Row.lease (κs .0) (qs .0)),
         ) (List._∷_ (2, Rows'.sc-here (Row.sInt Syntax.w64)) (List._∷_ (
           3,
-          Rows.arrF (Referent.rtF
-              (Referent.fInt Syntax.w32)) 112 0,
+          Rows.arrF
+              (Referent.rtF (Referent.fInt Syntax.w32)) 112 0,
         ) (List._∷_ (4, Rows.arrF (Referent.rtF (Referent.fInt Syntax.w32)) 112 0) (List._∷_ (5, Rows'.sc-here (Row.sInt Syntax.w64)) (List._∷_ (
           6,
           Rows'.any-gone (Syntax.tyStruct (List._∷_ 115 (List._∷_ 116 (List._∷_ 97 (List._∷_ 116 (List._∷_ 105 (List._∷_ 115 (List._∷_ 116 (List._∷_ 105 (List._∷_ 99 (List._∷_ 115 (List._∷_ 58 (List._∷_
@@ -1751,16 +1783,16 @@ module _ (claims· : Claims) where
         abbrev g13 : List.List Row.Entry
         g13 = List._∷_ (
           0,
-          Rows'.any-gone (Syntax.tyStruct (List._∷_ 112 (List._∷_ 97 (List._∷_ 115 (List._∷_ 115 (List._∷_ 58 (List._∷_ 58 (List._∷_ 83 (List._∷_ 101 (List._∷_ 116 List.[])))))))))
-              (Syntax.tcons (Syntax.tyArray (Syntax.tyInt Syntax.w32) 112) (Syntax.tcons (Syntax.tyArray (Syntax.tyInt Syntax.w32) 112) Syntax.tnil))),
+          Rows'.any-gone (Syntax.tyStruct (List._∷_ 115 (List._∷_ 116 (List._∷_ 101 (List._∷_ 112 (List._∷_ 115 (List._∷_ 58 (List._∷_ 58 (List._∷_ 83 (List._∷_ 101 (List._∷_ 116
+              List.[])))))))))) (Syntax.tcons (Syntax.tyArray (Syntax.tyInt Syntax.w32) 112) (Syntax.tcons (Syntax.tyArray (Syntax.tyInt Syntax.w32) 112) Syntax.tnil))),
         ) (List._∷_ (
           1,
-          Relend.mslice-owed (Element.type)
-              (Syntax.tyRef (Syntax.named 0) Syntax.mut Element.behind) 0 1 (Row.lease (κs .0) (qs .0)),
+          Relend.mslice-owed
+              (Element.type) (Syntax.tyRef (Syntax.named 0) Syntax.mut Element.behind) 0 1 (Row.lease (κs .0) (qs .0)),
         ) (List._∷_ (2, Rows'.sc-here (Row.sInt Syntax.w64)) (List._∷_ (
           3,
-          Rows.arrF (Referent.rtF
-              (Referent.fInt Syntax.w32)) 112 0,
+          Rows.arrF
+              (Referent.rtF (Referent.fInt Syntax.w32)) 112 0,
         ) (List._∷_ (4, Rows.arrF (Referent.rtF (Referent.fInt Syntax.w32)) 112 0) (List._∷_ (5, Rows'.sc-here (Row.sInt Syntax.w64)) (List._∷_ (
           6,
           Rows'.any-gone (Syntax.tyStruct (List._∷_ 115 (List._∷_ 116 (List._∷_ 97 (List._∷_ 116 (List._∷_ 105 (List._∷_ 115 (List._∷_ 116 (List._∷_ 105 (List._∷_ 99 (List._∷_ 115 (List._∷_ 58 (List._∷_
@@ -1778,52 +1810,60 @@ module _ (claims· : Claims) where
         abbrev g14 : List.List Row.Entry
         g14 = List._∷_ (
           0,
-          Rows'.any-gone (Syntax.tyStruct (List._∷_ 112 (List._∷_ 97 (List._∷_ 115 (List._∷_ 115 (List._∷_ 58 (List._∷_ 58 (List._∷_ 83 (List._∷_ 101 (List._∷_ 116 List.[])))))))))
-              (Syntax.tcons (Syntax.tyArray (Syntax.tyInt Syntax.w32) 112) (Syntax.tcons (Syntax.tyArray (Syntax.tyInt Syntax.w32) 112) Syntax.tnil))),
+          Rows'.any-gone (Syntax.tyStruct (List._∷_ 115 (List._∷_ 116 (List._∷_ 101 (List._∷_ 112 (List._∷_ 115 (List._∷_ 58 (List._∷_ 58 (List._∷_ 83 (List._∷_ 101 (List._∷_ 116
+              List.[])))))))))) (Syntax.tcons (Syntax.tyArray (Syntax.tyInt Syntax.w32) 112) (Syntax.tcons (Syntax.tyArray (Syntax.tyInt Syntax.w32) 112) Syntax.tnil))),
         ) (List._∷_ (
           1,
-          Relend.mslice-owed (Element.type)
-              (Syntax.tyRef (Syntax.named 0) Syntax.mut Element.behind) 0 1 (Row.lease (κs .0) (qs .0)),
+          Relend.mslice-owed
+              (Element.type) (Syntax.tyRef (Syntax.named 0) Syntax.mut Element.behind) 0 1 (Row.lease (κs .0) (qs .0)),
         ) (List._∷_ (2, Rows'.sc-here (Row.sInt Syntax.w64)) (List._∷_ (
           3,
-          Rows.arrF (Referent.rtF
-              (Referent.fInt Syntax.w32)) 112 0,
+          Rows.arrF
+              (Referent.rtF (Referent.fInt Syntax.w32)) 112 0,
         ) (List._∷_ (4, Rows.arrF (Referent.rtF (Referent.fInt Syntax.w32)) 112 0) (List._∷_ (5, Rows'.sc-here (Row.sInt Syntax.w64)) (List._∷_ (
           6,
-          Rows'.whole
-              (Declared.row Record.the-type),
+          Rows'.whole (Declared.row Record.the-type),
         ) (List._∷_ (7, Rows'.any-gone Syntax.tyBool) (List._∷_ (8, Rows'.any-gone (Syntax.tyRef Syntax.erased Syntax.mut Element.behind)) (List._∷_ (
           9,
-          Mut.msleft
-              (Element.type) (Syntax.tyRef Syntax.erased Syntax.mut Element.behind),
-        ) (List._∷_ (10, Rows'.any-gone (Syntax.tyInt Syntax.w64)) (List._∷_ (11, Rows'.sc-here (Row.sInt Syntax.w64))
-            (List._∷_ (12, Rows'.any-gone Syntax.tyPtr) (List._∷_ (13, Rows'.any-gone Syntax.tyPtr) (List._∷_ (14, Rows'.any-gone Syntax.tyPtr) (List._∷_ (15, Rows'.any-gone Syntax.tyPtr)
-            List.[])))))))))))))))
+          Mut.msleft (Element.type) (Syntax.tyRef Syntax.erased Syntax.mut Element.behind),
+        ) (List._∷_ (10, Rows'.any-gone (Syntax.tyInt Syntax.w64)) (List._∷_ (
+          11,
+          Rows'.sc-here (Row.sInt
+              Syntax.w64),
+        ) (List._∷_ (12, Rows'.any-gone Syntax.tyPtr) (List._∷_ (13, Rows'.any-gone Syntax.tyPtr) (List._∷_ (14, Rows'.any-gone Syntax.tyPtr) (List._∷_ (
+          15,
+          Rows'.any-gone
+              Syntax.tyPtr,
+        ) List.[])))))))))))))))
 
         abbrev g15 : List.List Row.Entry
         g15 = List._∷_ (
           0,
-          Rows'.any-gone (Syntax.tyStruct (List._∷_ 112 (List._∷_ 97 (List._∷_ 115 (List._∷_ 115 (List._∷_ 58 (List._∷_ 58 (List._∷_ 83 (List._∷_ 101 (List._∷_ 116 List.[])))))))))
-              (Syntax.tcons (Syntax.tyArray (Syntax.tyInt Syntax.w32) 112) (Syntax.tcons (Syntax.tyArray (Syntax.tyInt Syntax.w32) 112) Syntax.tnil))),
+          Rows'.any-gone (Syntax.tyStruct (List._∷_ 115 (List._∷_ 116 (List._∷_ 101 (List._∷_ 112 (List._∷_ 115 (List._∷_ 58 (List._∷_ 58 (List._∷_ 83 (List._∷_ 101 (List._∷_ 116
+              List.[])))))))))) (Syntax.tcons (Syntax.tyArray (Syntax.tyInt Syntax.w32) 112) (Syntax.tcons (Syntax.tyArray (Syntax.tyInt Syntax.w32) 112) Syntax.tnil))),
         ) (List._∷_ (
           1,
-          Relend.mslice-owed (Element.type)
-              (Syntax.tyRef (Syntax.named 0) Syntax.mut Element.behind) 0 1 (Row.lease (κs .0) (qs .0)),
+          Relend.mslice-owed
+              (Element.type) (Syntax.tyRef (Syntax.named 0) Syntax.mut Element.behind) 0 1 (Row.lease (κs .0) (qs .0)),
         ) (List._∷_ (2, Rows'.sc-here (Row.sInt Syntax.w64)) (List._∷_ (
           3,
-          Rows.arrF (Referent.rtF
-              (Referent.fInt Syntax.w32)) 112 0,
+          Rows.arrF
+              (Referent.rtF (Referent.fInt Syntax.w32)) 112 0,
         ) (List._∷_ (4, Rows.arrF (Referent.rtF (Referent.fInt Syntax.w32)) 112 0) (List._∷_ (5, Rows'.sc-here (Row.sInt Syntax.w64)) (List._∷_ (
           6,
-          Rows'.whole
-              (Declared.row Record.the-type),
+          Rows'.whole (Declared.row Record.the-type),
         ) (List._∷_ (7, Rows'.any-gone Syntax.tyBool) (List._∷_ (8, Rows'.any-gone (Syntax.tyRef Syntax.erased Syntax.mut Element.behind)) (List._∷_ (
           9,
-          Mut.msleft
-              (Element.type) (Syntax.tyRef Syntax.erased Syntax.mut Element.behind),
-        ) (List._∷_ (10, Rows'.any-gone (Syntax.tyInt Syntax.w64)) (List._∷_ (11, Rows'.any-gone (Syntax.tyInt Syntax.w64))
-            (List._∷_ (12, Rows'.any-gone Syntax.tyPtr) (List._∷_ (13, Rows'.any-gone Syntax.tyPtr) (List._∷_ (14, Rows'.any-gone Syntax.tyPtr) (List._∷_ (15, Rows'.any-gone Syntax.tyPtr)
-            List.[])))))))))))))))
+          Mut.msleft (Element.type) (Syntax.tyRef Syntax.erased Syntax.mut Element.behind),
+        ) (List._∷_ (10, Rows'.any-gone (Syntax.tyInt Syntax.w64)) (List._∷_ (
+          11,
+          Rows'.any-gone (Syntax.tyInt
+              Syntax.w64),
+        ) (List._∷_ (12, Rows'.any-gone Syntax.tyPtr) (List._∷_ (13, Rows'.any-gone Syntax.tyPtr) (List._∷_ (14, Rows'.any-gone Syntax.tyPtr) (List._∷_ (
+          15,
+          Rows'.any-gone
+              Syntax.tyPtr,
+        ) List.[])))))))))))))))
 
         abbrev G0 : Row.Cx
         G0 = record { locals = List._++_ t0 t1; slots = List._∷_ (Row.lease (κs .0) (qs .0)) (List._∷_ Row.off List.[]) }
@@ -2032,10 +2072,10 @@ module _ (claims· : Claims) where
 
           d9 : Typed.Typed 𝓤 H A 𝓣 E G33 b21 Δ3 (at9 bs)
           d9 = Typed.s-seq 𝓤 H A W 𝓣 E G33 G34 b19 b20 Δ3 (Typed.ask (s30 bs)) (at8 bs) (Borrow.t-arr-write 𝓤 H A W E 𝓣 (Referent.fInt Syntax.w32) (Init.scaled (Referent.rtF (Referent.fInt
-              Syntax.w32))) G33 4 15 112 0 (λ x. x) (λ x. x) (Scalar.oFld 6 (List._∷_ (Syntax.field 1) List.[]) (Syntax.tyInt Syntax.w32) 4 (Reads.fieldV Record.the-type Laws'.the-laws 1)) (λ u. u .1 .1
-              .1 .1 .1 .0) (Reads'.as-is 𝓤 H A (Rows.arrF (Referent.rtF (Referent.fInt Syntax.w32)) 112 0)) (Reads'.as-is 𝓤 H A (Rows'.sc-here Row.sPtr)) (
+              Syntax.w32))) G33 4 15 112 0 (λ x. x) (λ x. x) (Scalar.oFld 6 (List._∷_ (Syntax.field 1) List.[]) (Syntax.tyInt Syntax.w32) 4 (Reads.fieldV Record.the-type Laws.the-laws 1)) (λ u. u .1 .1 .1
+              .1 .1 .0) (Reads'.as-is 𝓤 H A (Rows.arrF (Referent.rtF (Referent.fInt Syntax.w32)) 112 0)) (Reads'.as-is 𝓤 H A (Rows'.sc-here Row.sPtr)) (
                 Reads.reads-field 𝓤 H A W Record.the-type
-                    Laws'.the-laws 1 (Syntax.tyInt Syntax.w32) 4 Path'.refl,
+                    Laws.the-laws 1 (Syntax.tyInt Syntax.w32) 4 Path'.refl,
                 Path'.refl,
               ) Path'.refl λ u. Path'.refl) d8
 
@@ -2065,10 +2105,10 @@ module _ (claims· : Claims) where
 
           d16 : Typed.Typed 𝓤 H A 𝓣 E G26 b25 Δ3 (at16 bs)
           d16 = Typed.s-seq 𝓤 H A W 𝓣 E G26 G27 b15 b24 Δ3 (Typed.ask (s23 bs)) (at15 bs) (Borrow.t-arr-write 𝓤 H A W E 𝓣 (Referent.fInt Syntax.w32) (Init.scaled (Referent.rtF (Referent.fInt
-              Syntax.w32))) G26 3 13 112 0 (λ x. x) (λ x. x) (Scalar.oFld 6 (List._∷_ (Syntax.field 0) List.[]) (Syntax.tyInt Syntax.w32) 0 (Reads.fieldV Record.the-type Laws'.the-laws 0)) (λ u. u .1 .1
-              .1 .1 .1 .0) (Reads'.as-is 𝓤 H A (Rows.arrF (Referent.rtF (Referent.fInt Syntax.w32)) 112 0)) (Reads'.as-is 𝓤 H A (Rows'.sc-here Row.sPtr)) (
+              Syntax.w32))) G26 3 13 112 0 (λ x. x) (λ x. x) (Scalar.oFld 6 (List._∷_ (Syntax.field 0) List.[]) (Syntax.tyInt Syntax.w32) 0 (Reads.fieldV Record.the-type Laws.the-laws 0)) (λ u. u .1 .1 .1
+              .1 .1 .0) (Reads'.as-is 𝓤 H A (Rows.arrF (Referent.rtF (Referent.fInt Syntax.w32)) 112 0)) (Reads'.as-is 𝓤 H A (Rows'.sc-here Row.sPtr)) (
                 Reads.reads-field 𝓤 H A W Record.the-type
-                    Laws'.the-laws 0 (Syntax.tyInt Syntax.w32) 0 Path'.refl,
+                    Laws.the-laws 0 (Syntax.tyInt Syntax.w32) 0 Path'.refl,
                 Path'.refl,
               ) Path'.refl λ u. Path'.refl) d15
 
@@ -2247,49 +2287,47 @@ module _ (claims· : Claims) where
 
           d42 : Typed.Typed 𝓤 H A 𝓣 E G42 b42 Δ0 (at42 bs)
           d42 = Typed.s-seq 𝓤 H A W 𝓣 E G42 G43 b40 b41 Δ0 (Typed.pass T42 T43 (s39 bs)) (at41 bs) (Make.t-make-told 𝓤 H A W E 𝓣 (Declared.row (Apart.apartT Set.the-type)) Path'.refl (Laws''.val
-              (Apart.apartT Set.the-type) Laws.the-laws) (Laws''.lawful (Apart.apartT Set.the-type) Laws.the-laws 𝓤 H A W) (Laws''.makes (Apart.apartT Set.the-type) Laws.the-plain 𝓤 H A) G42 0 (List._∷_
-              (Scalar.oAt 16 (Syntax.tyArray (Syntax.tyInt Syntax.w32) 112) λ xs. Array'.arrayVal (List.map (Laws''.u32-laws .val) xs)) (List._∷_ (Scalar.oAt 17 (Syntax.tyArray (Syntax.tyInt Syntax.w32)
-              112) λ xs. Array'.arrayVal (List.map (Laws''.u32-laws .val) xs)) List.[])) (λ m. (
+              (Apart.apartT Set.the-type) Laws'.the-laws) (Laws''.lawful (Apart.apartT Set.the-type) Laws'.the-laws 𝓤 H A W) (Laws''.makes (Apart.apartT Set.the-type) Laws'.the-plain 𝓤 H A) G42 0
+              (List._∷_ (Scalar.oAt 16 (Syntax.tyArray (Syntax.tyInt Syntax.w32) 112) λ xs. Array'.arrayVal (List.map (Laws''.u32-laws .val) xs)) (List._∷_ (Scalar.oAt 17 (Syntax.tyArray (Syntax.tyInt
+              Syntax.w32) 112) λ xs. Array'.arrayVal (List.map (Laws''.u32-laws .val) xs)) List.[])) (λ m. (
                 m .1 .1 .1 .1 .1 .1 .1 .1 .1 .1 .1 .1 .1 .1 .1 .1 .0,
                 (
-                  m .1 .1 .1 .1 .1 .1 .1 .1 .1 .1 .1 .1 .1 .1 .1 .1 .1
-                      .0,
+                  m .1 .1 .1 .1 .1 .1 .1 .1 .1 .1 .1 .1 .1
+                      .1 .1 .1 .1 .0,
                   tt,
                 ),
-              )) (λ m. Path'._≡_ (ListN.length (m .1 .1 .1 .1 .1 .1 .1 .1 .1 .1 .1 .1 .1 .1 .1 .1 .0)) 112 × Path'._≡_ (ListN.length (m .1 .1 .1 .1 .1 .1 .1 .1 .1 .1 .1 .1 .1 .1 .1 .1 .1 .0))
-              112) (Reads'.room-gone 𝓤 H A (Syntax.tyStruct (List._∷_ 112 (List._∷_ 97 (List._∷_ 115 (List._∷_ 115 (List._∷_ 58 (List._∷_ 58 (List._∷_ 83 (List._∷_ 101 (List._∷_ 116 List.[])))))))))
-              (Syntax.tcons (Syntax.tyArray (Syntax.tyInt Syntax.w32) 112) (Syntax.tcons (Syntax.tyArray (Syntax.tyInt Syntax.w32) 112) Syntax.tnil)))) (
+              )) (λ m. Path'._≡_ (ListN.length (m .1 .1 .1 .1 .1 .1 .1 .1 .1 .1 .1 .1 .1 .1 .1 .1 .0)) 112 × Path'._≡_ (ListN.length (m .1 .1 .1 .1 .1 .1 .1 .1 .1 .1 .1 .1 .1 .1 .1 .1
+              .1 .0)) 112) (Reads'.room-gone 𝓤 H A (Syntax.tyStruct (List._∷_ 115 (List._∷_ 116 (List._∷_ 101 (List._∷_ 112 (List._∷_ 115 (List._∷_ 58 (List._∷_ 58 (List._∷_ 83 (List._∷_ 101 (List._∷_ 116
+              List.[])))))))))) (Syntax.tcons (Syntax.tyArray (Syntax.tyInt Syntax.w32) 112) (Syntax.tcons (Syntax.tyArray (Syntax.tyInt Syntax.w32) 112) Syntax.tnil)))) (
                 (
-                  Array.arr-reads 𝓤 H A W (Array.eInt Syntax.w32)
-                      (Array.eInt-laws Syntax.w32) 112,
+                  Array.arr-reads 𝓤 H A W
+                      (Array.eInt Syntax.w32) (Array.eInt-laws Syntax.w32) 112,
                   Path'.refl,
                 ),
                 ((Array.arr-reads 𝓤 H A W (Array.eInt Syntax.w32) (Array.eInt-laws Syntax.w32) 112, Path'.refl), tt),
-              ) Path'.refl (λ ρ m.
-              Make.tells-both 𝓤 H A W E ρ (Row.out 0 (G42 .locals)) m (Path'._≡_ (ListN.length (m .1 .1 .1 .1 .1 .1 .1 .1 .1 .1 .1 .1 .1 .1 .1 .1 .0)) 112) (Path'._≡_ (ListN.length (m .1 .1 .1 .1 .1 .1 .1
-              .1 .1 .1 .1 .1 .1 .1 .1 .1 .1 .0)) 112) (Make.tells-row 𝓤 H A W E ρ (Row.out 0 (G42 .locals)) m 16 (Path'._≡_ (ListN.length (m .1 .1 .1 .1 .1 .1 .1 .1 .1 .1 .1 .1 .1 .1 .1 .1 .0)) 112)
-              (Init.arr-len 𝓤 H A W E (Referent.rtF (Referent.fInt Syntax.w32)) ρ 16 112 Nat.zero (m .1 .1 .1 .1 .1 .1 .1 .1 .1 .1 .1 .1 .1 .1 .1 .1 .0))) (Make.tells-row 𝓤 H A W E ρ (Row.out 0 (G42
-              .locals)) m 17 (Path'._≡_ (ListN.length (m .1 .1 .1 .1 .1 .1 .1 .1 .1 .1 .1 .1 .1 .1 .1 .1 .1 .0)) 112) (Init.arr-len 𝓤 H A W E (Referent.rtF (Referent.fInt Syntax.w32)) ρ 17 112 Nat.zero (m
-              .1 .1 .1 .1 .1 .1 .1 .1 .1 .1 .1 .1 .1 .1 .1 .1 .1 .0)))) (λ m q. Signed.made-val (Apart.apartT Set.the-type) Laws.the-laws (List._∷_ (Array'.arrayVal (List.map (Laws''.u32-laws .val) (m .1
-              .1 .1 .1 .1 .1 .1 .1 .1 .1 .1 .1 .1 .1 .1 .1 .0))) (List._∷_ (Array'.arrayVal (List.map (Laws''.u32-laws .val) (m .1 .1 .1 .1 .1 .1 .1 .1 .1 .1 .1 .1 .1 .1 .1 .1 .1 .0))) List.[])) (
-                m .1 .1
-                    .1 .1 .1 .1 .1 .1 .1 .1 .1 .1 .1 .1 .1 .1 .0,
-                (m .1 .1 .1 .1 .1 .1 .1 .1 .1 .1 .1 .1 .1 .1 .1 .1 .1 .0, tt),
-              ) (
-                Items.array-made Field.u32-field Laws''.u32-laws Make.u32-wt 112 (m .1 .1 .1
-                    .1 .1 .1 .1 .1 .1 .1 .1 .1 .1 .1 .1 .1 .0) (q .0),
-                (Items.array-made Field.u32-field Laws''.u32-laws Make.u32-wt 112 (m .1 .1 .1 .1 .1 .1 .1 .1 .1 .1 .1 .1 .1 .1 .1 .1 .1 .0) (q .1), tt),
-              )) λ m q. Signed.made-is (Apart.apartT Set.the-type) Laws.the-laws (List._∷_ (Array'.arrayVal (List.map (Laws''.u32-laws .val) (m .1 .1 .1 .1 .1 .1 .1 .1 .1 .1 .1 .1 .1 .1 .1 .1 .0)))
-              (List._∷_ (Array'.arrayVal (List.map (Laws''.u32-laws .val) (m .1 .1 .1 .1 .1 .1 .1 .1 .1 .1 .1 .1 .1 .1 .1 .1 .1 .0))) List.[])) (
-                m .1 .1 .1 .1 .1 .1 .1 .1 .1 .1 .1 .1 .1 .1 .1 .1 .0,
+              )
+              Path'.refl (λ ρ m. Make.tells-both 𝓤 H A W E ρ (Row.out 0 (G42 .locals)) m (Path'._≡_ (ListN.length (m .1 .1 .1 .1 .1 .1 .1 .1 .1 .1 .1 .1 .1 .1 .1 .1 .0)) 112) (Path'._≡_ (ListN.length (m
+              .1 .1 .1 .1 .1 .1 .1 .1 .1 .1 .1 .1 .1 .1 .1 .1 .1 .0)) 112) (Make.tells-row 𝓤 H A W E ρ (Row.out 0 (G42 .locals)) m 16 (Path'._≡_ (ListN.length (m .1 .1 .1 .1 .1 .1 .1 .1 .1 .1 .1 .1 .1 .1
+              .1 .1 .0)) 112) (Init.arr-len 𝓤 H A W E (Referent.rtF (Referent.fInt Syntax.w32)) ρ 16 112 Nat.zero (m .1 .1 .1 .1 .1 .1 .1 .1 .1 .1 .1 .1 .1 .1 .1 .1 .0))) (Make.tells-row 𝓤 H A W E ρ
+              (Row.out 0 (G42 .locals)) m 17 (Path'._≡_ (ListN.length (m .1 .1 .1 .1 .1 .1 .1 .1 .1 .1 .1 .1 .1 .1 .1 .1 .1 .0)) 112) (Init.arr-len 𝓤 H A W E (Referent.rtF (Referent.fInt Syntax.w32)) ρ 17
+              112 Nat.zero (m .1 .1 .1 .1 .1 .1 .1 .1 .1 .1 .1 .1 .1 .1 .1 .1 .1 .0)))) (λ m q. Signed.made-val (Apart.apartT Set.the-type) Laws'.the-laws (List._∷_ (Array'.arrayVal (List.map
+              (Laws''.u32-laws .val) (m .1 .1 .1 .1 .1 .1 .1 .1 .1 .1 .1 .1 .1 .1 .1 .1 .0))) (List._∷_ (Array'.arrayVal (List.map (Laws''.u32-laws .val) (m .1 .1 .1 .1 .1 .1 .1 .1 .1 .1 .1 .1 .1 .1 .1 .1
+              .1 .0))) List.[])) (m .1 .1 .1 .1 .1 .1 .1 .1 .1 .1 .1 .1 .1 .1 .1 .1 .0, (m .1 .1 .1 .1 .1 .1 .1 .1 .1 .1 .1 .1 .1 .1 .1 .1 .1 .0, tt)) (
+                Items.array-made Field.u32-field Laws''.u32-laws
+                    Make.u32-wt 112 (m .1 .1 .1 .1 .1 .1 .1 .1 .1 .1 .1 .1 .1 .1 .1 .1 .0) (q .0),
                 (
-                  m
-                      .1 .1 .1 .1 .1 .1 .1 .1 .1 .1 .1 .1 .1 .1 .1 .1 .1 .0,
+                  Items.array-made Field.u32-field Laws''.u32-laws Make.u32-wt 112 (m .1 .1 .1 .1 .1 .1 .1 .1 .1 .1 .1 .1 .1 .1
+                      .1 .1 .1 .0) (q .1),
                   tt,
                 ),
+              )) λ m q. Signed.made-is (Apart.apartT Set.the-type) Laws'.the-laws (List._∷_ (Array'.arrayVal (List.map (Laws''.u32-laws .val) (m .1 .1 .1 .1 .1 .1 .1 .1 .1 .1
+              .1 .1 .1 .1 .1 .1 .0))) (List._∷_ (Array'.arrayVal (List.map (Laws''.u32-laws .val) (m .1 .1 .1 .1 .1 .1 .1 .1 .1 .1 .1 .1 .1 .1 .1 .1 .1 .0))) List.[])) (
+                m .1 .1 .1 .1 .1 .1 .1 .1 .1 .1 .1
+                    .1 .1 .1 .1 .1 .0,
+                (m .1 .1 .1 .1 .1 .1 .1 .1 .1 .1 .1 .1 .1 .1 .1 .1 .1 .0, tt),
               ) (
-                Items.array-made Field.u32-field Laws''.u32-laws Make.u32-wt 112 (m .1 .1 .1 .1 .1 .1 .1 .1 .1 .1 .1 .1 .1 .1 .1 .1 .0) (q
-                    .0),
+                Items.array-made Field.u32-field Laws''.u32-laws Make.u32-wt 112 (m .1 .1 .1 .1 .1 .1 .1 .1 .1 .1 .1 .1
+                    .1 .1 .1 .1 .0) (q .0),
                 (Items.array-made Field.u32-field Laws''.u32-laws Make.u32-wt 112 (m .1 .1 .1 .1 .1 .1 .1 .1 .1 .1 .1 .1 .1 .1 .1 .1 .1 .0) (q .1), tt),
               )) d41
 

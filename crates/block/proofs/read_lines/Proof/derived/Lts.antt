@@ -11,8 +11,8 @@ use Rattle.block.proofs.Walked
 use Rattle.block.proofs.Walked.Laws as Laws'3
 use Rattle.map.proofs.Part
 use Rattle.map.proofs.Part.Laws as Laws'4
-use Rattle.pass.proofs.Quantisers
-use Rattle.pass.proofs.Quantisers.Laws as Laws'5
+use Rattle.steps.proofs.Quantisers
+use Rattle.steps.proofs.Quantisers.Laws as Laws'5
 use borrow.Author.Called
 use borrow.Author.Tests
 use borrow.Fn.Any
@@ -157,12 +157,12 @@ xs = List._∷_ (Syntax.tyInt Syntax.w32) (List._∷_ Syntax.tyBool (List._∷_ 
     Syntax.mut Element.behind) (Syntax.tcons (Syntax.tyInt Syntax.w64) Syntax.tnil))) (List._∷_ (Syntax.tyRef Syntax.erased Syntax.mut (Syntax.tyInt Syntax.w16)) (List._∷_ (Syntax.tyStruct (List._∷_ 38
     (List._∷_ 91 (List._∷_ 93 List.[]))) (Syntax.tcons (Syntax.tyRef Syntax.erased Syntax.mut (Syntax.tyInt Syntax.w16)) (Syntax.tcons (Syntax.tyInt Syntax.w64) Syntax.tnil))) (List._∷_ (Syntax.tyRef
     Syntax.erased Syntax.mut Element.behind) (List._∷_ (Syntax.tyStruct (List._∷_ 38 (List._∷_ 91 (List._∷_ 93 List.[]))) (Syntax.tcons (Syntax.tyRef Syntax.erased Syntax.mut Element.behind) (Syntax.tcons
-    (Syntax.tyInt Syntax.w64) Syntax.tnil))) (List._∷_ (Syntax.tyStruct (List._∷_ 112 (List._∷_ 97 (List._∷_ 115 (List._∷_ 115 (List._∷_ 58 (List._∷_ 58 (List._∷_ 81 (List._∷_ 117 (List._∷_ 97 (List._∷_
-    110 (List._∷_ 116 (List._∷_ 105 (List._∷_ 115 (List._∷_ 101 (List._∷_ 114 (List._∷_ 115 List.[])))))))))))))))) (Syntax.tcons (Syntax.tyInt Syntax.w32) (Syntax.tcons (Syntax.tyArray (Syntax.tyInt
-    Syntax.w32) 4) (Syntax.tcons (Syntax.tyArray (Syntax.tyInt Syntax.w32) 4) (Syntax.tcons (Syntax.tyArray (Syntax.tyInt Syntax.w32) 4) Syntax.tnil))))) (List._∷_ (Syntax.tyRef Syntax.erased Syntax.imm
-    (Syntax.tyInt Syntax.w16)) (List._∷_ (Syntax.tyStruct (List._∷_ 38 (List._∷_ 91 (List._∷_ 93 List.[]))) (Syntax.tcons (Syntax.tyRef Syntax.erased Syntax.imm (Syntax.tyInt Syntax.w16)) (Syntax.tcons
-    (Syntax.tyInt Syntax.w64) Syntax.tnil))) (List._∷_ (Syntax.tyRef Syntax.erased Syntax.mut (Syntax.tyInt Syntax.w16)) (List._∷_ (Syntax.tyStruct (List._∷_ 38 (List._∷_ 91 (List._∷_ 93 List.[])))
-    (Syntax.tcons (Syntax.tyRef Syntax.erased Syntax.mut (Syntax.tyInt Syntax.w16)) (Syntax.tcons (Syntax.tyInt Syntax.w64) Syntax.tnil))) List.[]))))))))))))))))))))))))))))))
+    (Syntax.tyInt Syntax.w64) Syntax.tnil))) (List._∷_ (Syntax.tyStruct (List._∷_ 115 (List._∷_ 116 (List._∷_ 101 (List._∷_ 112 (List._∷_ 115 (List._∷_ 58 (List._∷_ 58 (List._∷_ 81 (List._∷_ 117 (List._∷_
+    97 (List._∷_ 110 (List._∷_ 116 (List._∷_ 105 (List._∷_ 115 (List._∷_ 101 (List._∷_ 114 (List._∷_ 115 List.[]))))))))))))))))) (Syntax.tcons (Syntax.tyInt Syntax.w32) (Syntax.tcons (Syntax.tyArray
+    (Syntax.tyInt Syntax.w32) 4) (Syntax.tcons (Syntax.tyArray (Syntax.tyInt Syntax.w32) 4) (Syntax.tcons (Syntax.tyArray (Syntax.tyInt Syntax.w32) 4) Syntax.tnil))))) (List._∷_ (Syntax.tyRef
+    Syntax.erased Syntax.imm (Syntax.tyInt Syntax.w16)) (List._∷_ (Syntax.tyStruct (List._∷_ 38 (List._∷_ 91 (List._∷_ 93 List.[]))) (Syntax.tcons (Syntax.tyRef Syntax.erased Syntax.imm (Syntax.tyInt
+    Syntax.w16)) (Syntax.tcons (Syntax.tyInt Syntax.w64) Syntax.tnil))) (List._∷_ (Syntax.tyRef Syntax.erased Syntax.mut (Syntax.tyInt Syntax.w16)) (List._∷_ (Syntax.tyStruct (List._∷_ 38 (List._∷_ 91
+    (List._∷_ 93 List.[]))) (Syntax.tcons (Syntax.tyRef Syntax.erased Syntax.mut (Syntax.tyInt Syntax.w16)) (Syntax.tcons (Syntax.tyInt Syntax.w64) Syntax.tnil))) List.[]))))))))))))))))))))))))))))))
 
 abbrev pub m : Nat.ℕ
 m = 8
@@ -750,22 +750,21 @@ t2 = List._∷_ (
       Syntax.mut Element.behind) (Syntax.tcons (Syntax.tyInt Syntax.w64) Syntax.tnil))),
 ) (List._∷_ (
   37,
-  Rows'.any-gone (Syntax.tyStruct (List._∷_ 112 (List._∷_ 97 (List._∷_ 115 (List._∷_ 115 (List._∷_ 58
-      (List._∷_ 58 (List._∷_ 81 (List._∷_ 117 (List._∷_ 97 (List._∷_ 110 (List._∷_ 116 (List._∷_ 105 (List._∷_ 115 (List._∷_ 101 (List._∷_ 114 (List._∷_ 115 List.[])))))))))))))))) (Syntax.tcons
-      (Syntax.tyInt Syntax.w32) (Syntax.tcons (Syntax.tyArray (Syntax.tyInt Syntax.w32) 4) (Syntax.tcons (Syntax.tyArray (Syntax.tyInt Syntax.w32) 4) (Syntax.tcons (Syntax.tyArray (Syntax.tyInt Syntax.w32)
-      4) Syntax.tnil))))),
+  Rows'.any-gone (Syntax.tyStruct (List._∷_ 115 (List._∷_ 116 (List._∷_ 101 (List._∷_ 112 (List._∷_
+      115 (List._∷_ 58 (List._∷_ 58 (List._∷_ 81 (List._∷_ 117 (List._∷_ 97 (List._∷_ 110 (List._∷_ 116 (List._∷_ 105 (List._∷_ 115 (List._∷_ 101 (List._∷_ 114 (List._∷_ 115 List.[])))))))))))))))))
+      (Syntax.tcons (Syntax.tyInt Syntax.w32) (Syntax.tcons (Syntax.tyArray (Syntax.tyInt Syntax.w32) 4) (Syntax.tcons (Syntax.tyArray (Syntax.tyInt Syntax.w32) 4) (Syntax.tcons (Syntax.tyArray
+      (Syntax.tyInt Syntax.w32) 4) Syntax.tnil))))),
 ) (List._∷_ (38, Rows'.any-gone (Syntax.tyRef Syntax.erased Syntax.imm (Syntax.tyInt Syntax.w16))) (List._∷_ (
   39,
-  Rows'.any-gone (Syntax.tyStruct (List._∷_ 38 (List._∷_ 91
-      (List._∷_ 93 List.[]))) (Syntax.tcons (Syntax.tyRef Syntax.erased Syntax.imm (Syntax.tyInt Syntax.w16)) (Syntax.tcons (Syntax.tyInt Syntax.w64) Syntax.tnil))),
+  Rows'.any-gone (Syntax.tyStruct
+      (List._∷_ 38 (List._∷_ 91 (List._∷_ 93 List.[]))) (Syntax.tcons (Syntax.tyRef Syntax.erased Syntax.imm (Syntax.tyInt Syntax.w16)) (Syntax.tcons (Syntax.tyInt Syntax.w64) Syntax.tnil))),
 ) (List._∷_ (
   40,
-  Rows'.any-gone
-      (Syntax.tyRef Syntax.erased Syntax.mut (Syntax.tyInt Syntax.w16)),
+  Rows'.any-gone (Syntax.tyRef Syntax.erased Syntax.mut (Syntax.tyInt Syntax.w16)),
 ) (List._∷_ (
   41,
-  Rows'.any-gone (Syntax.tyStruct (List._∷_ 38 (List._∷_ 91 (List._∷_ 93 List.[]))) (Syntax.tcons (Syntax.tyRef
-      Syntax.erased Syntax.mut (Syntax.tyInt Syntax.w16)) (Syntax.tcons (Syntax.tyInt Syntax.w64) Syntax.tnil))),
+  Rows'.any-gone (Syntax.tyStruct (List._∷_ 38 (List._∷_ 91 (List._∷_ 93 List.[]))) (Syntax.tcons
+      (Syntax.tyRef Syntax.erased Syntax.mut (Syntax.tyInt Syntax.w16)) (Syntax.tcons (Syntax.tyInt Syntax.w64) Syntax.tnil))),
 ) List.[])))))))))
 
 abbrev pub t3 : List.List Row.Entry
@@ -1924,17 +1923,17 @@ t36 = List._∷_ (32, Mut.mslice (Element.type) (Syntax.tyRef Syntax.erased Synt
       (List._∷_ 38 (List._∷_ 91 (List._∷_ 93 List.[]))) (Syntax.tcons (Syntax.tyRef Syntax.erased Syntax.mut Element.behind) (Syntax.tcons (Syntax.tyInt Syntax.w64) Syntax.tnil))),
 ) (List._∷_ (
   37,
-  Rows'.any-gone (Syntax.tyStruct (List._∷_ 112 (List._∷_ 97 (List._∷_ 115 (List._∷_ 115 (List._∷_ 58 (List._∷_ 58 (List._∷_ 81 (List._∷_ 117 (List._∷_ 97 (List._∷_ 110 (List._∷_ 116 (List._∷_ 105
-      (List._∷_ 115 (List._∷_ 101 (List._∷_ 114 (List._∷_ 115 List.[])))))))))))))))) (Syntax.tcons (Syntax.tyInt Syntax.w32) (Syntax.tcons (Syntax.tyArray (Syntax.tyInt Syntax.w32) 4) (Syntax.tcons
-      (Syntax.tyArray (Syntax.tyInt Syntax.w32) 4) (Syntax.tcons (Syntax.tyArray (Syntax.tyInt Syntax.w32) 4) Syntax.tnil))))),
+  Rows'.any-gone (Syntax.tyStruct (List._∷_ 115 (List._∷_ 116 (List._∷_ 101 (List._∷_ 112 (List._∷_ 115 (List._∷_ 58 (List._∷_ 58 (List._∷_ 81 (List._∷_ 117 (List._∷_ 97 (List._∷_ 110 (List._∷_ 116
+      (List._∷_ 105 (List._∷_ 115 (List._∷_ 101 (List._∷_ 114 (List._∷_ 115 List.[]))))))))))))))))) (Syntax.tcons (Syntax.tyInt Syntax.w32) (Syntax.tcons (Syntax.tyArray (Syntax.tyInt Syntax.w32) 4)
+      (Syntax.tcons (Syntax.tyArray (Syntax.tyInt Syntax.w32) 4) (Syntax.tcons (Syntax.tyArray (Syntax.tyInt Syntax.w32) 4) Syntax.tnil))))),
 ) (List._∷_ (
   38,
-  Rows'.any-gone (Syntax.tyRef Syntax.erased Syntax.imm
-      (Syntax.tyInt Syntax.w16)),
+  Rows'.any-gone (Syntax.tyRef Syntax.erased
+      Syntax.imm (Syntax.tyInt Syntax.w16)),
 ) (List._∷_ (
   39,
-  Rows'.any-gone (Syntax.tyStruct (List._∷_ 38 (List._∷_ 91 (List._∷_ 93 List.[]))) (Syntax.tcons (Syntax.tyRef Syntax.erased Syntax.imm (Syntax.tyInt
-      Syntax.w16)) (Syntax.tcons (Syntax.tyInt Syntax.w64) Syntax.tnil))),
+  Rows'.any-gone (Syntax.tyStruct (List._∷_ 38 (List._∷_ 91 (List._∷_ 93 List.[]))) (Syntax.tcons (Syntax.tyRef Syntax.erased Syntax.imm
+      (Syntax.tyInt Syntax.w16)) (Syntax.tcons (Syntax.tyInt Syntax.w64) Syntax.tnil))),
 ) (List._∷_ (40, Rows'.any-gone (Syntax.tyRef Syntax.erased Syntax.mut (Syntax.tyInt Syntax.w16))) (List._∷_ (
   41,
   Rows'.any-gone (Syntax.tyStruct (List._∷_ 38 (List._∷_ 91 (List._∷_ 93 List.[]))) (Syntax.tcons (Syntax.tyRef Syntax.erased Syntax.mut (Syntax.tyInt Syntax.w16)) (Syntax.tcons (Syntax.tyInt
@@ -2019,17 +2018,17 @@ t39 = List._∷_ (32, Mut.msleft (Element.type) (Syntax.tyRef Syntax.erased Synt
       (List._∷_ 38 (List._∷_ 91 (List._∷_ 93 List.[]))) (Syntax.tcons (Syntax.tyRef Syntax.erased Syntax.mut Element.behind) (Syntax.tcons (Syntax.tyInt Syntax.w64) Syntax.tnil))),
 ) (List._∷_ (
   37,
-  Rows'.any-gone (Syntax.tyStruct (List._∷_ 112 (List._∷_ 97 (List._∷_ 115 (List._∷_ 115 (List._∷_ 58 (List._∷_ 58 (List._∷_ 81 (List._∷_ 117 (List._∷_ 97 (List._∷_ 110 (List._∷_ 116 (List._∷_ 105
-      (List._∷_ 115 (List._∷_ 101 (List._∷_ 114 (List._∷_ 115 List.[])))))))))))))))) (Syntax.tcons (Syntax.tyInt Syntax.w32) (Syntax.tcons (Syntax.tyArray (Syntax.tyInt Syntax.w32) 4) (Syntax.tcons
-      (Syntax.tyArray (Syntax.tyInt Syntax.w32) 4) (Syntax.tcons (Syntax.tyArray (Syntax.tyInt Syntax.w32) 4) Syntax.tnil))))),
+  Rows'.any-gone (Syntax.tyStruct (List._∷_ 115 (List._∷_ 116 (List._∷_ 101 (List._∷_ 112 (List._∷_ 115 (List._∷_ 58 (List._∷_ 58 (List._∷_ 81 (List._∷_ 117 (List._∷_ 97 (List._∷_ 110 (List._∷_ 116
+      (List._∷_ 105 (List._∷_ 115 (List._∷_ 101 (List._∷_ 114 (List._∷_ 115 List.[]))))))))))))))))) (Syntax.tcons (Syntax.tyInt Syntax.w32) (Syntax.tcons (Syntax.tyArray (Syntax.tyInt Syntax.w32) 4)
+      (Syntax.tcons (Syntax.tyArray (Syntax.tyInt Syntax.w32) 4) (Syntax.tcons (Syntax.tyArray (Syntax.tyInt Syntax.w32) 4) Syntax.tnil))))),
 ) (List._∷_ (
   38,
-  Rows'.any-gone (Syntax.tyRef Syntax.erased Syntax.imm
-      (Syntax.tyInt Syntax.w16)),
+  Rows'.any-gone (Syntax.tyRef Syntax.erased
+      Syntax.imm (Syntax.tyInt Syntax.w16)),
 ) (List._∷_ (
   39,
-  Rows'.any-gone (Syntax.tyStruct (List._∷_ 38 (List._∷_ 91 (List._∷_ 93 List.[]))) (Syntax.tcons (Syntax.tyRef Syntax.erased Syntax.imm (Syntax.tyInt
-      Syntax.w16)) (Syntax.tcons (Syntax.tyInt Syntax.w64) Syntax.tnil))),
+  Rows'.any-gone (Syntax.tyStruct (List._∷_ 38 (List._∷_ 91 (List._∷_ 93 List.[]))) (Syntax.tcons (Syntax.tyRef Syntax.erased Syntax.imm
+      (Syntax.tyInt Syntax.w16)) (Syntax.tcons (Syntax.tyInt Syntax.w64) Syntax.tnil))),
 ) (List._∷_ (40, Rows'.any-gone (Syntax.tyRef Syntax.erased Syntax.mut (Syntax.tyInt Syntax.w16))) (List._∷_ (
   41,
   Rows'.any-gone (Syntax.tyStruct (List._∷_ 38 (List._∷_ 91 (List._∷_ 93 List.[]))) (Syntax.tcons (Syntax.tyRef Syntax.erased Syntax.mut (Syntax.tyInt Syntax.w16)) (Syntax.tcons (Syntax.tyInt
@@ -2117,17 +2116,22 @@ t42 = List._∷_ (
 ) (List._∷_ (
   37,
   Rows'.any-gone (Syntax.tyStruct
-      (List._∷_ 112 (List._∷_ 97 (List._∷_ 115 (List._∷_ 115 (List._∷_ 58 (List._∷_ 58 (List._∷_ 81 (List._∷_ 117 (List._∷_ 97 (List._∷_ 110 (List._∷_ 116 (List._∷_ 105 (List._∷_ 115 (List._∷_ 101 (List._∷_
-      114 (List._∷_ 115 List.[])))))))))))))))) (Syntax.tcons (Syntax.tyInt Syntax.w32) (Syntax.tcons (Syntax.tyArray (Syntax.tyInt Syntax.w32) 4) (Syntax.tcons (Syntax.tyArray (Syntax.tyInt Syntax.w32) 4)
-      (Syntax.tcons (Syntax.tyArray (Syntax.tyInt Syntax.w32) 4) Syntax.tnil))))),
-) (List._∷_ (38, Rows'.any-gone (Syntax.tyRef Syntax.erased Syntax.imm (Syntax.tyInt Syntax.w16))) (List._∷_ (
+      (List._∷_ 115 (List._∷_ 116 (List._∷_ 101 (List._∷_ 112 (List._∷_ 115 (List._∷_ 58 (List._∷_ 58 (List._∷_ 81 (List._∷_ 117 (List._∷_ 97 (List._∷_ 110 (List._∷_ 116 (List._∷_ 105 (List._∷_ 115
+      (List._∷_ 101 (List._∷_ 114 (List._∷_ 115 List.[]))))))))))))))))) (Syntax.tcons (Syntax.tyInt Syntax.w32) (Syntax.tcons (Syntax.tyArray (Syntax.tyInt Syntax.w32) 4) (Syntax.tcons (Syntax.tyArray
+      (Syntax.tyInt Syntax.w32) 4) (Syntax.tcons (Syntax.tyArray (Syntax.tyInt Syntax.w32) 4) Syntax.tnil))))),
+) (List._∷_ (
+  38,
+  Rows'.any-gone (Syntax.tyRef Syntax.erased Syntax.imm (Syntax.tyInt
+      Syntax.w16)),
+) (List._∷_ (
   39,
-  Rows'.any-gone (Syntax.tyStruct (List._∷_ 38 (List._∷_ 91 (List._∷_ 93 List.[]))) (Syntax.tcons (Syntax.tyRef Syntax.erased Syntax.imm (Syntax.tyInt Syntax.w16)) (Syntax.tcons (Syntax.tyInt
-      Syntax.w64) Syntax.tnil))),
+  Rows'.any-gone (Syntax.tyStruct (List._∷_ 38 (List._∷_ 91 (List._∷_ 93 List.[]))) (Syntax.tcons (Syntax.tyRef Syntax.erased Syntax.imm (Syntax.tyInt Syntax.w16))
+      (Syntax.tcons (Syntax.tyInt Syntax.w64) Syntax.tnil))),
 ) (List._∷_ (40, Rows'.any-gone (Syntax.tyRef Syntax.erased Syntax.mut (Syntax.tyInt Syntax.w16))) (List._∷_ (
   41,
-  Rows'.any-gone (Syntax.tyStruct (List._∷_ 38 (List._∷_
-      91 (List._∷_ 93 List.[]))) (Syntax.tcons (Syntax.tyRef Syntax.erased Syntax.mut (Syntax.tyInt Syntax.w16)) (Syntax.tcons (Syntax.tyInt Syntax.w64) Syntax.tnil))),
+  Rows'.any-gone
+      (Syntax.tyStruct (List._∷_ 38 (List._∷_ 91 (List._∷_ 93 List.[]))) (Syntax.tcons (Syntax.tyRef Syntax.erased Syntax.mut (Syntax.tyInt Syntax.w16)) (Syntax.tcons (Syntax.tyInt Syntax.w64)
+      Syntax.tnil))),
 ) List.[])))))))))
 
 abbrev pub t43 : List.List Row.Entry
@@ -2146,21 +2150,22 @@ t43 = List._∷_ (
 )
     (List._∷_ (
       37,
-      Rows'.any-gone (Syntax.tyStruct (List._∷_ 112 (List._∷_ 97 (List._∷_ 115 (List._∷_ 115 (List._∷_ 58 (List._∷_ 58 (List._∷_ 81 (List._∷_ 117 (List._∷_ 97 (List._∷_ 110 (List._∷_ 116
-          (List._∷_ 105 (List._∷_ 115 (List._∷_ 101 (List._∷_ 114 (List._∷_ 115 List.[])))))))))))))))) (Syntax.tcons (Syntax.tyInt Syntax.w32) (Syntax.tcons (Syntax.tyArray (Syntax.tyInt Syntax.w32) 4)
-          (Syntax.tcons (Syntax.tyArray (Syntax.tyInt Syntax.w32) 4) (Syntax.tcons (Syntax.tyArray (Syntax.tyInt Syntax.w32) 4) Syntax.tnil))))),
+      Rows'.any-gone (Syntax.tyStruct (List._∷_ 115 (List._∷_ 116 (List._∷_ 101 (List._∷_ 112 (List._∷_ 115 (List._∷_ 58 (List._∷_ 58 (List._∷_ 81 (List._∷_ 117 (List._∷_ 97 (List._∷_ 110
+          (List._∷_ 116 (List._∷_ 105 (List._∷_ 115 (List._∷_ 101 (List._∷_ 114 (List._∷_ 115 List.[]))))))))))))))))) (Syntax.tcons (Syntax.tyInt Syntax.w32) (Syntax.tcons (Syntax.tyArray (Syntax.tyInt
+          Syntax.w32) 4) (Syntax.tcons (Syntax.tyArray (Syntax.tyInt Syntax.w32) 4) (Syntax.tcons (Syntax.tyArray (Syntax.tyInt Syntax.w32) 4) Syntax.tnil))))),
     ) (List._∷_ (
       38,
-      Rows'.any-gone (Syntax.tyRef Syntax.erased
-          Syntax.imm (Syntax.tyInt Syntax.w16)),
+      Rows'.any-gone (Syntax.tyRef
+          Syntax.erased Syntax.imm (Syntax.tyInt Syntax.w16)),
     ) (List._∷_ (
       39,
-      Rows'.any-gone (Syntax.tyStruct (List._∷_ 38 (List._∷_ 91 (List._∷_ 93 List.[]))) (Syntax.tcons (Syntax.tyRef Syntax.erased Syntax.imm
-          (Syntax.tyInt Syntax.w16)) (Syntax.tcons (Syntax.tyInt Syntax.w64) Syntax.tnil))),
-    ) (List._∷_ (40, Rows'.any-gone (Syntax.tyRef Syntax.erased Syntax.mut (Syntax.tyInt Syntax.w16))) (List._∷_ (
+      Rows'.any-gone (Syntax.tyStruct (List._∷_ 38 (List._∷_ 91 (List._∷_ 93 List.[]))) (Syntax.tcons (Syntax.tyRef Syntax.erased
+          Syntax.imm (Syntax.tyInt Syntax.w16)) (Syntax.tcons (Syntax.tyInt Syntax.w64) Syntax.tnil))),
+    ) (List._∷_ (40, Rows'.any-gone (Syntax.tyRef Syntax.erased Syntax.mut (Syntax.tyInt Syntax.w16)))
+    (List._∷_ (
       41,
-      Rows'.any-gone (Syntax.tyStruct (List._∷_ 38 (List._∷_ 91 (List._∷_ 93 List.[]))) (Syntax.tcons (Syntax.tyRef Syntax.erased Syntax.mut (Syntax.tyInt Syntax.w16)) (Syntax.tcons (Syntax.tyInt
-          Syntax.w64) Syntax.tnil))),
+      Rows'.any-gone (Syntax.tyStruct (List._∷_ 38 (List._∷_ 91 (List._∷_ 93 List.[]))) (Syntax.tcons (Syntax.tyRef Syntax.erased Syntax.mut (Syntax.tyInt Syntax.w16)) (Syntax.tcons
+          (Syntax.tyInt Syntax.w64) Syntax.tnil))),
     ) List.[])))))))))
 
 abbrev pub t44 : List.List Row.Entry
@@ -2208,23 +2213,26 @@ t45 = List._∷_ (
       Syntax.tnil))),
 ) (List._∷_ (
   37,
-  Rows'.any-gone (Syntax.tyStruct (List._∷_ 112 (List._∷_ 97 (List._∷_ 115 (List._∷_ 115 (List._∷_ 58 (List._∷_ 58 (List._∷_ 81 (List._∷_ 117 (List._∷_ 97 (List._∷_ 110
-      (List._∷_ 116 (List._∷_ 105 (List._∷_ 115 (List._∷_ 101 (List._∷_ 114 (List._∷_ 115 List.[])))))))))))))))) (Syntax.tcons (Syntax.tyInt Syntax.w32) (Syntax.tcons (Syntax.tyArray (Syntax.tyInt
-      Syntax.w32) 4) (Syntax.tcons (Syntax.tyArray (Syntax.tyInt Syntax.w32) 4) (Syntax.tcons (Syntax.tyArray (Syntax.tyInt Syntax.w32) 4) Syntax.tnil))))),
+  Rows'.any-gone (Syntax.tyStruct (List._∷_ 115 (List._∷_ 116 (List._∷_ 101 (List._∷_ 112 (List._∷_ 115 (List._∷_ 58 (List._∷_ 58 (List._∷_ 81 (List._∷_ 117 (List._∷_
+      97 (List._∷_ 110 (List._∷_ 116 (List._∷_ 105 (List._∷_ 115 (List._∷_ 101 (List._∷_ 114 (List._∷_ 115 List.[]))))))))))))))))) (Syntax.tcons (Syntax.tyInt Syntax.w32) (Syntax.tcons (Syntax.tyArray
+      (Syntax.tyInt Syntax.w32) 4) (Syntax.tcons (Syntax.tyArray (Syntax.tyInt Syntax.w32) 4) (Syntax.tcons (Syntax.tyArray (Syntax.tyInt Syntax.w32) 4) Syntax.tnil))))),
 ) (List._∷_ (
   38,
-  Rows'.any-gone (Syntax.tyRef
-      Syntax.erased Syntax.imm (Syntax.tyInt Syntax.w16)),
+  Rows'.any-gone
+      (Syntax.tyRef Syntax.erased Syntax.imm (Syntax.tyInt Syntax.w16)),
 ) (List._∷_ (
   39,
-  Rows'.any-gone (Syntax.tyStruct (List._∷_ 38 (List._∷_ 91 (List._∷_ 93 List.[]))) (Syntax.tcons (Syntax.tyRef Syntax.erased
-      Syntax.imm (Syntax.tyInt Syntax.w16)) (Syntax.tcons (Syntax.tyInt Syntax.w64) Syntax.tnil))),
-) (List._∷_ (40, Rows'.any-gone (Syntax.tyRef Syntax.erased Syntax.mut (Syntax.tyInt Syntax.w16)))
-    (List._∷_ (
-      41,
-      Rows'.any-gone (Syntax.tyStruct (List._∷_ 38 (List._∷_ 91 (List._∷_ 93 List.[]))) (Syntax.tcons (Syntax.tyRef Syntax.erased Syntax.mut (Syntax.tyInt Syntax.w16)) (Syntax.tcons
-          (Syntax.tyInt Syntax.w64) Syntax.tnil))),
-    ) List.[])))))))))
+  Rows'.any-gone (Syntax.tyStruct (List._∷_ 38 (List._∷_ 91 (List._∷_ 93 List.[]))) (Syntax.tcons (Syntax.tyRef
+      Syntax.erased Syntax.imm (Syntax.tyInt Syntax.w16)) (Syntax.tcons (Syntax.tyInt Syntax.w64) Syntax.tnil))),
+) (List._∷_ (
+  40,
+  Rows'.any-gone (Syntax.tyRef Syntax.erased Syntax.mut (Syntax.tyInt
+      Syntax.w16)),
+) (List._∷_ (
+  41,
+  Rows'.any-gone (Syntax.tyStruct (List._∷_ 38 (List._∷_ 91 (List._∷_ 93 List.[]))) (Syntax.tcons (Syntax.tyRef Syntax.erased Syntax.mut (Syntax.tyInt Syntax.w16))
+      (Syntax.tcons (Syntax.tyInt Syntax.w64) Syntax.tnil))),
+) List.[])))))))))
 
 abbrev pub t46 : List.List Row.Entry
 t46 = List._∷_ (
@@ -2241,22 +2249,21 @@ t46 = List._∷_ (
       (Element.type) (Syntax.tyRef Syntax.erased Syntax.mut Element.behind) 11,
 ) (List._∷_ (
   37,
-  Rows'.any-gone (Syntax.tyStruct (List._∷_ 112 (List._∷_ 97 (List._∷_ 115 (List._∷_ 115 (List._∷_ 58
-      (List._∷_ 58 (List._∷_ 81 (List._∷_ 117 (List._∷_ 97 (List._∷_ 110 (List._∷_ 116 (List._∷_ 105 (List._∷_ 115 (List._∷_ 101 (List._∷_ 114 (List._∷_ 115 List.[])))))))))))))))) (Syntax.tcons
-      (Syntax.tyInt Syntax.w32) (Syntax.tcons (Syntax.tyArray (Syntax.tyInt Syntax.w32) 4) (Syntax.tcons (Syntax.tyArray (Syntax.tyInt Syntax.w32) 4) (Syntax.tcons (Syntax.tyArray (Syntax.tyInt Syntax.w32)
-      4) Syntax.tnil))))),
+  Rows'.any-gone (Syntax.tyStruct (List._∷_ 115 (List._∷_ 116 (List._∷_ 101 (List._∷_ 112 (List._∷_ 115
+      (List._∷_ 58 (List._∷_ 58 (List._∷_ 81 (List._∷_ 117 (List._∷_ 97 (List._∷_ 110 (List._∷_ 116 (List._∷_ 105 (List._∷_ 115 (List._∷_ 101 (List._∷_ 114 (List._∷_ 115 List.[])))))))))))))))))
+      (Syntax.tcons (Syntax.tyInt Syntax.w32) (Syntax.tcons (Syntax.tyArray (Syntax.tyInt Syntax.w32) 4) (Syntax.tcons (Syntax.tyArray (Syntax.tyInt Syntax.w32) 4) (Syntax.tcons (Syntax.tyArray
+      (Syntax.tyInt Syntax.w32) 4) Syntax.tnil))))),
 ) (List._∷_ (38, Rows'.any-gone (Syntax.tyRef Syntax.erased Syntax.imm (Syntax.tyInt Syntax.w16))) (List._∷_ (
   39,
-  Rows'.any-gone (Syntax.tyStruct (List._∷_ 38 (List._∷_ 91
-      (List._∷_ 93 List.[]))) (Syntax.tcons (Syntax.tyRef Syntax.erased Syntax.imm (Syntax.tyInt Syntax.w16)) (Syntax.tcons (Syntax.tyInt Syntax.w64) Syntax.tnil))),
+  Rows'.any-gone (Syntax.tyStruct
+      (List._∷_ 38 (List._∷_ 91 (List._∷_ 93 List.[]))) (Syntax.tcons (Syntax.tyRef Syntax.erased Syntax.imm (Syntax.tyInt Syntax.w16)) (Syntax.tcons (Syntax.tyInt Syntax.w64) Syntax.tnil))),
 ) (List._∷_ (
   40,
-  Rows'.any-gone
-      (Syntax.tyRef Syntax.erased Syntax.mut (Syntax.tyInt Syntax.w16)),
+  Rows'.any-gone (Syntax.tyRef Syntax.erased Syntax.mut (Syntax.tyInt Syntax.w16)),
 ) (List._∷_ (
   41,
-  Rows'.any-gone (Syntax.tyStruct (List._∷_ 38 (List._∷_ 91 (List._∷_ 93 List.[]))) (Syntax.tcons (Syntax.tyRef
-      Syntax.erased Syntax.mut (Syntax.tyInt Syntax.w16)) (Syntax.tcons (Syntax.tyInt Syntax.w64) Syntax.tnil))),
+  Rows'.any-gone (Syntax.tyStruct (List._∷_ 38 (List._∷_ 91 (List._∷_ 93 List.[]))) (Syntax.tcons
+      (Syntax.tyRef Syntax.erased Syntax.mut (Syntax.tyInt Syntax.w16)) (Syntax.tcons (Syntax.tyInt Syntax.w64) Syntax.tnil))),
 ) List.[])))))))))
 
 abbrev pub t47 : List.List Row.Entry
@@ -2357,23 +2364,23 @@ t50 = List._∷_ (
       (Syntax.tyRef Syntax.erased Syntax.mut Element.behind),
 ) (List._∷_ (
   37,
-  Rows'.any-gone (Syntax.tyStruct (List._∷_ 112 (List._∷_ 97 (List._∷_ 115 (List._∷_ 115 (List._∷_ 58 (List._∷_ 58 (List._∷_ 81
-      (List._∷_ 117 (List._∷_ 97 (List._∷_ 110 (List._∷_ 116 (List._∷_ 105 (List._∷_ 115 (List._∷_ 101 (List._∷_ 114 (List._∷_ 115 List.[])))))))))))))))) (Syntax.tcons (Syntax.tyInt Syntax.w32)
-      (Syntax.tcons (Syntax.tyArray (Syntax.tyInt Syntax.w32) 4) (Syntax.tcons (Syntax.tyArray (Syntax.tyInt Syntax.w32) 4) (Syntax.tcons (Syntax.tyArray (Syntax.tyInt Syntax.w32) 4) Syntax.tnil))))),
-)
-    (List._∷_ (38, Rows'.any-gone (Syntax.tyRef Syntax.erased Syntax.imm (Syntax.tyInt Syntax.w16))) (List._∷_ (
-      39,
-      Rows'.any-gone (Syntax.tyStruct (List._∷_ 38 (List._∷_ 91 (List._∷_ 93 List.[])))
-          (Syntax.tcons (Syntax.tyRef Syntax.erased Syntax.imm (Syntax.tyInt Syntax.w16)) (Syntax.tcons (Syntax.tyInt Syntax.w64) Syntax.tnil))),
-    ) (List._∷_ (
-      40,
-      Rows'.any-gone (Syntax.tyRef Syntax.erased
-          Syntax.mut (Syntax.tyInt Syntax.w16)),
-    ) (List._∷_ (
-      41,
-      Rows'.any-gone (Syntax.tyStruct (List._∷_ 38 (List._∷_ 91 (List._∷_ 93 List.[]))) (Syntax.tcons (Syntax.tyRef Syntax.erased Syntax.mut
-          (Syntax.tyInt Syntax.w16)) (Syntax.tcons (Syntax.tyInt Syntax.w64) Syntax.tnil))),
-    ) List.[])))))))))
+  Rows'.any-gone (Syntax.tyStruct (List._∷_ 115 (List._∷_ 116 (List._∷_ 101 (List._∷_ 112 (List._∷_ 115 (List._∷_ 58 (List._∷_
+      58 (List._∷_ 81 (List._∷_ 117 (List._∷_ 97 (List._∷_ 110 (List._∷_ 116 (List._∷_ 105 (List._∷_ 115 (List._∷_ 101 (List._∷_ 114 (List._∷_ 115 List.[]))))))))))))))))) (Syntax.tcons (Syntax.tyInt
+      Syntax.w32) (Syntax.tcons (Syntax.tyArray (Syntax.tyInt Syntax.w32) 4) (Syntax.tcons (Syntax.tyArray (Syntax.tyInt Syntax.w32) 4) (Syntax.tcons (Syntax.tyArray (Syntax.tyInt Syntax.w32) 4)
+      Syntax.tnil))))),
+) (List._∷_ (38, Rows'.any-gone (Syntax.tyRef Syntax.erased Syntax.imm (Syntax.tyInt Syntax.w16))) (List._∷_ (
+  39,
+  Rows'.any-gone (Syntax.tyStruct (List._∷_ 38 (List._∷_ 91
+      (List._∷_ 93 List.[]))) (Syntax.tcons (Syntax.tyRef Syntax.erased Syntax.imm (Syntax.tyInt Syntax.w16)) (Syntax.tcons (Syntax.tyInt Syntax.w64) Syntax.tnil))),
+) (List._∷_ (
+  40,
+  Rows'.any-gone
+      (Syntax.tyRef Syntax.erased Syntax.mut (Syntax.tyInt Syntax.w16)),
+) (List._∷_ (
+  41,
+  Rows'.any-gone (Syntax.tyStruct (List._∷_ 38 (List._∷_ 91 (List._∷_ 93 List.[]))) (Syntax.tcons (Syntax.tyRef
+      Syntax.erased Syntax.mut (Syntax.tyInt Syntax.w16)) (Syntax.tcons (Syntax.tyInt Syntax.w64) Syntax.tnil))),
+) List.[])))))))))
 
 abbrev pub t51 : List.List Row.Entry
 t51 = List._∷_ (
@@ -2426,22 +2433,21 @@ t52 = List._∷_ (
 ) (List._∷_ (36, Mut.msleft (Element.type) (Syntax.tyRef Syntax.erased Syntax.mut Element.behind)) (List._∷_ (
   37,
   Rows'.any-gone
-      (Syntax.tyStruct (List._∷_ 112 (List._∷_ 97 (List._∷_ 115 (List._∷_ 115 (List._∷_ 58 (List._∷_ 58 (List._∷_ 81 (List._∷_ 117 (List._∷_ 97 (List._∷_ 110 (List._∷_ 116 (List._∷_ 105 (List._∷_ 115
-      (List._∷_ 101 (List._∷_ 114 (List._∷_ 115 List.[])))))))))))))))) (Syntax.tcons (Syntax.tyInt Syntax.w32) (Syntax.tcons (Syntax.tyArray (Syntax.tyInt Syntax.w32) 4) (Syntax.tcons (Syntax.tyArray
-      (Syntax.tyInt Syntax.w32) 4) (Syntax.tcons (Syntax.tyArray (Syntax.tyInt Syntax.w32) 4) Syntax.tnil))))),
+      (Syntax.tyStruct (List._∷_ 115 (List._∷_ 116 (List._∷_ 101 (List._∷_ 112 (List._∷_ 115 (List._∷_ 58 (List._∷_ 58 (List._∷_ 81 (List._∷_ 117 (List._∷_ 97 (List._∷_ 110 (List._∷_ 116 (List._∷_ 105
+      (List._∷_ 115 (List._∷_ 101 (List._∷_ 114 (List._∷_ 115 List.[]))))))))))))))))) (Syntax.tcons (Syntax.tyInt Syntax.w32) (Syntax.tcons (Syntax.tyArray (Syntax.tyInt Syntax.w32) 4) (Syntax.tcons
+      (Syntax.tyArray (Syntax.tyInt Syntax.w32) 4) (Syntax.tcons (Syntax.tyArray (Syntax.tyInt Syntax.w32) 4) Syntax.tnil))))),
 ) (List._∷_ (
   38,
-  Rows'.any-gone (Syntax.tyRef Syntax.erased Syntax.imm (Syntax.tyInt
-      Syntax.w16)),
+  Rows'.any-gone (Syntax.tyRef Syntax.erased Syntax.imm
+      (Syntax.tyInt Syntax.w16)),
 ) (List._∷_ (
   39,
-  Rows'.any-gone (Syntax.tyStruct (List._∷_ 38 (List._∷_ 91 (List._∷_ 93 List.[]))) (Syntax.tcons (Syntax.tyRef Syntax.erased Syntax.imm (Syntax.tyInt Syntax.w16))
-      (Syntax.tcons (Syntax.tyInt Syntax.w64) Syntax.tnil))),
+  Rows'.any-gone (Syntax.tyStruct (List._∷_ 38 (List._∷_ 91 (List._∷_ 93 List.[]))) (Syntax.tcons (Syntax.tyRef Syntax.erased Syntax.imm (Syntax.tyInt
+      Syntax.w16)) (Syntax.tcons (Syntax.tyInt Syntax.w64) Syntax.tnil))),
 ) (List._∷_ (40, Rows'.any-gone (Syntax.tyRef Syntax.erased Syntax.mut (Syntax.tyInt Syntax.w16))) (List._∷_ (
   41,
-  Rows'.any-gone
-      (Syntax.tyStruct (List._∷_ 38 (List._∷_ 91 (List._∷_ 93 List.[]))) (Syntax.tcons (Syntax.tyRef Syntax.erased Syntax.mut (Syntax.tyInt Syntax.w16)) (Syntax.tcons (Syntax.tyInt Syntax.w64)
-      Syntax.tnil))),
+  Rows'.any-gone (Syntax.tyStruct (List._∷_ 38 (List._∷_ 91 (List._∷_ 93 List.[]))) (Syntax.tcons (Syntax.tyRef Syntax.erased Syntax.mut (Syntax.tyInt Syntax.w16)) (Syntax.tcons (Syntax.tyInt
+      Syntax.w64) Syntax.tnil))),
 ) List.[])))))))))
 
 abbrev pub t53 : List.List Row.Entry
@@ -3070,20 +3076,21 @@ t70 = List._∷_ (
       Syntax.mut Element.behind) (Syntax.tcons (Syntax.tyInt Syntax.w64) Syntax.tnil))),
 ) (List._∷_ (
   37,
-  Rows'.any-gone (Syntax.tyStruct (List._∷_ 112 (List._∷_ 97 (List._∷_ 115 (List._∷_ 115 (List._∷_ 58
-      (List._∷_ 58 (List._∷_ 81 (List._∷_ 117 (List._∷_ 97 (List._∷_ 110 (List._∷_ 116 (List._∷_ 105 (List._∷_ 115 (List._∷_ 101 (List._∷_ 114 (List._∷_ 115 List.[])))))))))))))))) (Syntax.tcons
-      (Syntax.tyInt Syntax.w32) (Syntax.tcons (Syntax.tyArray (Syntax.tyInt Syntax.w32) 4) (Syntax.tcons (Syntax.tyArray (Syntax.tyInt Syntax.w32) 4) (Syntax.tcons (Syntax.tyArray (Syntax.tyInt Syntax.w32)
-      4) Syntax.tnil))))),
-) (List._∷_ (38, Relend.ssptr (Referent.rtF (Referent.fInt Syntax.w16)) (Syntax.tyRef Syntax.erased Syntax.imm (Syntax.tyInt Syntax.w16)) 12) (List._∷_ (
-  39,
-  Rows'.any-gone
-      (Syntax.tyStruct (List._∷_ 38 (List._∷_ 91 (List._∷_ 93 List.[]))) (Syntax.tcons (Syntax.tyRef Syntax.erased Syntax.imm (Syntax.tyInt Syntax.w16)) (Syntax.tcons (Syntax.tyInt Syntax.w64)
-      Syntax.tnil))),
-) (List._∷_ (40, Rows'.any-gone (Syntax.tyRef Syntax.erased Syntax.mut (Syntax.tyInt Syntax.w16))) (List._∷_ (
-  41,
-  Rows'.any-gone (Syntax.tyStruct (List._∷_ 38 (List._∷_ 91
-      (List._∷_ 93 List.[]))) (Syntax.tcons (Syntax.tyRef Syntax.erased Syntax.mut (Syntax.tyInt Syntax.w16)) (Syntax.tcons (Syntax.tyInt Syntax.w64) Syntax.tnil))),
-) List.[])))))))))
+  Rows'.any-gone (Syntax.tyStruct (List._∷_ 115 (List._∷_ 116 (List._∷_ 101 (List._∷_ 112 (List._∷_
+      115 (List._∷_ 58 (List._∷_ 58 (List._∷_ 81 (List._∷_ 117 (List._∷_ 97 (List._∷_ 110 (List._∷_ 116 (List._∷_ 105 (List._∷_ 115 (List._∷_ 101 (List._∷_ 114 (List._∷_ 115 List.[])))))))))))))))))
+      (Syntax.tcons (Syntax.tyInt Syntax.w32) (Syntax.tcons (Syntax.tyArray (Syntax.tyInt Syntax.w32) 4) (Syntax.tcons (Syntax.tyArray (Syntax.tyInt Syntax.w32) 4) (Syntax.tcons (Syntax.tyArray
+      (Syntax.tyInt Syntax.w32) 4) Syntax.tnil))))),
+) (List._∷_ (38, Relend.ssptr (Referent.rtF (Referent.fInt Syntax.w16)) (Syntax.tyRef Syntax.erased Syntax.imm (Syntax.tyInt Syntax.w16)) 12)
+    (List._∷_ (
+      39,
+      Rows'.any-gone (Syntax.tyStruct (List._∷_ 38 (List._∷_ 91 (List._∷_ 93 List.[]))) (Syntax.tcons (Syntax.tyRef Syntax.erased Syntax.imm (Syntax.tyInt Syntax.w16)) (Syntax.tcons
+          (Syntax.tyInt Syntax.w64) Syntax.tnil))),
+    ) (List._∷_ (40, Rows'.any-gone (Syntax.tyRef Syntax.erased Syntax.mut (Syntax.tyInt Syntax.w16))) (List._∷_ (
+      41,
+      Rows'.any-gone (Syntax.tyStruct
+          (List._∷_ 38 (List._∷_ 91 (List._∷_ 93 List.[]))) (Syntax.tcons (Syntax.tyRef Syntax.erased Syntax.mut (Syntax.tyInt Syntax.w16)) (Syntax.tcons (Syntax.tyInt Syntax.w64) Syntax.tnil))),
+    )
+    List.[])))))))))
 
 abbrev pub t71 : List.List Row.Entry
 t71 = List._∷_ (
@@ -3104,19 +3111,20 @@ t71 = List._∷_ (
       Syntax.mut Element.behind) (Syntax.tcons (Syntax.tyInt Syntax.w64) Syntax.tnil))),
 ) (List._∷_ (
   37,
-  Rows'.any-gone (Syntax.tyStruct (List._∷_ 112 (List._∷_ 97 (List._∷_ 115 (List._∷_ 115 (List._∷_ 58
-      (List._∷_ 58 (List._∷_ 81 (List._∷_ 117 (List._∷_ 97 (List._∷_ 110 (List._∷_ 116 (List._∷_ 105 (List._∷_ 115 (List._∷_ 101 (List._∷_ 114 (List._∷_ 115 List.[])))))))))))))))) (Syntax.tcons
-      (Syntax.tyInt Syntax.w32) (Syntax.tcons (Syntax.tyArray (Syntax.tyInt Syntax.w32) 4) (Syntax.tcons (Syntax.tyArray (Syntax.tyInt Syntax.w32) 4) (Syntax.tcons (Syntax.tyArray (Syntax.tyInt Syntax.w32)
-      4) Syntax.tnil))))),
+  Rows'.any-gone (Syntax.tyStruct (List._∷_ 115 (List._∷_ 116 (List._∷_ 101 (List._∷_ 112 (List._∷_
+      115 (List._∷_ 58 (List._∷_ 58 (List._∷_ 81 (List._∷_ 117 (List._∷_ 97 (List._∷_ 110 (List._∷_ 116 (List._∷_ 105 (List._∷_ 115 (List._∷_ 101 (List._∷_ 114 (List._∷_ 115 List.[])))))))))))))))))
+      (Syntax.tcons (Syntax.tyInt Syntax.w32) (Syntax.tcons (Syntax.tyArray (Syntax.tyInt Syntax.w32) 4) (Syntax.tcons (Syntax.tyArray (Syntax.tyInt Syntax.w32) 4) (Syntax.tcons (Syntax.tyArray
+      (Syntax.tyInt Syntax.w32) 4) Syntax.tnil))))),
 ) (List._∷_ (38, Rows'.any-gone (Syntax.tyRef Syntax.erased Syntax.imm (Syntax.tyInt Syntax.w16))) (List._∷_ (
   39,
-  Rows'.sslice (Referent.rtF (Referent.fInt Syntax.w16))
-      (Syntax.tyRef Syntax.erased Syntax.imm (Syntax.tyInt Syntax.w16)) 12,
-) (List._∷_ (40, Rows'.any-gone (Syntax.tyRef Syntax.erased Syntax.mut (Syntax.tyInt Syntax.w16))) (List._∷_ (
-  41,
-  Rows'.any-gone (Syntax.tyStruct (List._∷_ 38 (List._∷_ 91 (List._∷_ 93 List.[]))) (Syntax.tcons (Syntax.tyRef Syntax.erased Syntax.mut (Syntax.tyInt Syntax.w16)) (Syntax.tcons (Syntax.tyInt
-      Syntax.w64) Syntax.tnil))),
-) List.[])))))))))
+  Rows'.sslice (Referent.rtF
+      (Referent.fInt Syntax.w16)) (Syntax.tyRef Syntax.erased Syntax.imm (Syntax.tyInt Syntax.w16)) 12,
+) (List._∷_ (40, Rows'.any-gone (Syntax.tyRef Syntax.erased Syntax.mut (Syntax.tyInt Syntax.w16)))
+    (List._∷_ (
+      41,
+      Rows'.any-gone (Syntax.tyStruct (List._∷_ 38 (List._∷_ 91 (List._∷_ 93 List.[]))) (Syntax.tcons (Syntax.tyRef Syntax.erased Syntax.mut (Syntax.tyInt Syntax.w16)) (Syntax.tcons
+          (Syntax.tyInt Syntax.w64) Syntax.tnil))),
+    ) List.[])))))))))
 
 abbrev pub t72 : List.List Row.Entry
 t72 = List._∷_ (
@@ -3167,22 +3175,22 @@ t73 = List._∷_ (
       Syntax.mut Element.behind) (Syntax.tcons (Syntax.tyInt Syntax.w64) Syntax.tnil))),
 ) (List._∷_ (
   37,
-  Rows'.any-gone (Syntax.tyStruct (List._∷_ 112 (List._∷_ 97 (List._∷_ 115 (List._∷_ 115 (List._∷_ 58
-      (List._∷_ 58 (List._∷_ 81 (List._∷_ 117 (List._∷_ 97 (List._∷_ 110 (List._∷_ 116 (List._∷_ 105 (List._∷_ 115 (List._∷_ 101 (List._∷_ 114 (List._∷_ 115 List.[])))))))))))))))) (Syntax.tcons
-      (Syntax.tyInt Syntax.w32) (Syntax.tcons (Syntax.tyArray (Syntax.tyInt Syntax.w32) 4) (Syntax.tcons (Syntax.tyArray (Syntax.tyInt Syntax.w32) 4) (Syntax.tcons (Syntax.tyArray (Syntax.tyInt Syntax.w32)
-      4) Syntax.tnil))))),
+  Rows'.any-gone (Syntax.tyStruct (List._∷_ 115 (List._∷_ 116 (List._∷_ 101 (List._∷_ 112 (List._∷_
+      115 (List._∷_ 58 (List._∷_ 58 (List._∷_ 81 (List._∷_ 117 (List._∷_ 97 (List._∷_ 110 (List._∷_ 116 (List._∷_ 105 (List._∷_ 115 (List._∷_ 101 (List._∷_ 114 (List._∷_ 115 List.[])))))))))))))))))
+      (Syntax.tcons (Syntax.tyInt Syntax.w32) (Syntax.tcons (Syntax.tyArray (Syntax.tyInt Syntax.w32) 4) (Syntax.tcons (Syntax.tyArray (Syntax.tyInt Syntax.w32) 4) (Syntax.tcons (Syntax.tyArray
+      (Syntax.tyInt Syntax.w32) 4) Syntax.tnil))))),
 ) (List._∷_ (38, Rows'.any-gone (Syntax.tyRef Syntax.erased Syntax.imm (Syntax.tyInt Syntax.w16))) (List._∷_ (
   39,
-  Rows'.sslice (Referent.rtF (Referent.fInt Syntax.w16))
-      (Syntax.tyRef Syntax.erased Syntax.imm (Syntax.tyInt Syntax.w16)) 12,
+  Rows'.sslice (Referent.rtF
+      (Referent.fInt Syntax.w16)) (Syntax.tyRef Syntax.erased Syntax.imm (Syntax.tyInt Syntax.w16)) 12,
 ) (List._∷_ (
   40,
-  Relend.msptr (Referent.rtF (Referent.fInt Syntax.w16)) (Syntax.tyRef Syntax.erased Syntax.mut (Syntax.tyInt
-      Syntax.w16)) 13,
+  Relend.msptr (Referent.rtF (Referent.fInt Syntax.w16)) (Syntax.tyRef Syntax.erased
+      Syntax.mut (Syntax.tyInt Syntax.w16)) 13,
 ) (List._∷_ (
   41,
-  Rows'.any-gone (Syntax.tyStruct (List._∷_ 38 (List._∷_ 91 (List._∷_ 93 List.[]))) (Syntax.tcons (Syntax.tyRef Syntax.erased Syntax.mut (Syntax.tyInt Syntax.w16))
-      (Syntax.tcons (Syntax.tyInt Syntax.w64) Syntax.tnil))),
+  Rows'.any-gone (Syntax.tyStruct (List._∷_ 38 (List._∷_ 91 (List._∷_ 93 List.[]))) (Syntax.tcons (Syntax.tyRef Syntax.erased Syntax.mut
+      (Syntax.tyInt Syntax.w16)) (Syntax.tcons (Syntax.tyInt Syntax.w64) Syntax.tnil))),
 ) List.[])))))))))
 
 abbrev pub t74 : List.List Row.Entry
@@ -3204,19 +3212,16 @@ t74 = List._∷_ (
       Syntax.mut Element.behind) (Syntax.tcons (Syntax.tyInt Syntax.w64) Syntax.tnil))),
 ) (List._∷_ (
   37,
-  Rows'.any-gone (Syntax.tyStruct (List._∷_ 112 (List._∷_ 97 (List._∷_ 115 (List._∷_ 115 (List._∷_ 58
-      (List._∷_ 58 (List._∷_ 81 (List._∷_ 117 (List._∷_ 97 (List._∷_ 110 (List._∷_ 116 (List._∷_ 105 (List._∷_ 115 (List._∷_ 101 (List._∷_ 114 (List._∷_ 115 List.[])))))))))))))))) (Syntax.tcons
-      (Syntax.tyInt Syntax.w32) (Syntax.tcons (Syntax.tyArray (Syntax.tyInt Syntax.w32) 4) (Syntax.tcons (Syntax.tyArray (Syntax.tyInt Syntax.w32) 4) (Syntax.tcons (Syntax.tyArray (Syntax.tyInt Syntax.w32)
-      4) Syntax.tnil))))),
+  Rows'.any-gone (Syntax.tyStruct (List._∷_ 115 (List._∷_ 116 (List._∷_ 101 (List._∷_ 112 (List._∷_
+      115 (List._∷_ 58 (List._∷_ 58 (List._∷_ 81 (List._∷_ 117 (List._∷_ 97 (List._∷_ 110 (List._∷_ 116 (List._∷_ 105 (List._∷_ 115 (List._∷_ 101 (List._∷_ 114 (List._∷_ 115 List.[])))))))))))))))))
+      (Syntax.tcons (Syntax.tyInt Syntax.w32) (Syntax.tcons (Syntax.tyArray (Syntax.tyInt Syntax.w32) 4) (Syntax.tcons (Syntax.tyArray (Syntax.tyInt Syntax.w32) 4) (Syntax.tcons (Syntax.tyArray
+      (Syntax.tyInt Syntax.w32) 4) Syntax.tnil))))),
 ) (List._∷_ (38, Rows'.any-gone (Syntax.tyRef Syntax.erased Syntax.imm (Syntax.tyInt Syntax.w16))) (List._∷_ (
   39,
-  Rows'.sslice (Referent.rtF (Referent.fInt Syntax.w16))
-      (Syntax.tyRef Syntax.erased Syntax.imm (Syntax.tyInt Syntax.w16)) 12,
-) (List._∷_ (40, Rows'.any-gone (Syntax.tyRef Syntax.erased Syntax.mut (Syntax.tyInt Syntax.w16))) (List._∷_ (
-  41,
-  Mut.mslice
-      (Referent.rtF (Referent.fInt Syntax.w16)) (Syntax.tyRef Syntax.erased Syntax.mut (Syntax.tyInt Syntax.w16)) 13,
-) List.[])))))))))
+  Rows'.sslice (Referent.rtF
+      (Referent.fInt Syntax.w16)) (Syntax.tyRef Syntax.erased Syntax.imm (Syntax.tyInt Syntax.w16)) 12,
+) (List._∷_ (40, Rows'.any-gone (Syntax.tyRef Syntax.erased Syntax.mut (Syntax.tyInt Syntax.w16)))
+    (List._∷_ (41, Mut.mslice (Referent.rtF (Referent.fInt Syntax.w16)) (Syntax.tyRef Syntax.erased Syntax.mut (Syntax.tyInt Syntax.w16)) 13) List.[])))))))))
 
 abbrev pub t75 : List.List Row.Entry
 t75 = List._∷_ (16, Rows'.sc-here (Row.sInt Syntax.w64)) (List._∷_ (17, Rows'.sc-here (Row.sInt Syntax.w64)) (List._∷_ (18, Rows'.sc-here (Row.sInt Syntax.w32)) (List._∷_ (
@@ -3269,19 +3274,16 @@ t76 = List._∷_ (
       Syntax.mut Element.behind) (Syntax.tcons (Syntax.tyInt Syntax.w64) Syntax.tnil))),
 ) (List._∷_ (
   37,
-  Rows'.any-gone (Syntax.tyStruct (List._∷_ 112 (List._∷_ 97 (List._∷_ 115 (List._∷_ 115 (List._∷_ 58
-      (List._∷_ 58 (List._∷_ 81 (List._∷_ 117 (List._∷_ 97 (List._∷_ 110 (List._∷_ 116 (List._∷_ 105 (List._∷_ 115 (List._∷_ 101 (List._∷_ 114 (List._∷_ 115 List.[])))))))))))))))) (Syntax.tcons
-      (Syntax.tyInt Syntax.w32) (Syntax.tcons (Syntax.tyArray (Syntax.tyInt Syntax.w32) 4) (Syntax.tcons (Syntax.tyArray (Syntax.tyInt Syntax.w32) 4) (Syntax.tcons (Syntax.tyArray (Syntax.tyInt Syntax.w32)
-      4) Syntax.tnil))))),
+  Rows'.any-gone (Syntax.tyStruct (List._∷_ 115 (List._∷_ 116 (List._∷_ 101 (List._∷_ 112 (List._∷_
+      115 (List._∷_ 58 (List._∷_ 58 (List._∷_ 81 (List._∷_ 117 (List._∷_ 97 (List._∷_ 110 (List._∷_ 116 (List._∷_ 105 (List._∷_ 115 (List._∷_ 101 (List._∷_ 114 (List._∷_ 115 List.[])))))))))))))))))
+      (Syntax.tcons (Syntax.tyInt Syntax.w32) (Syntax.tcons (Syntax.tyArray (Syntax.tyInt Syntax.w32) 4) (Syntax.tcons (Syntax.tyArray (Syntax.tyInt Syntax.w32) 4) (Syntax.tcons (Syntax.tyArray
+      (Syntax.tyInt Syntax.w32) 4) Syntax.tnil))))),
 ) (List._∷_ (38, Rows'.any-gone (Syntax.tyRef Syntax.erased Syntax.imm (Syntax.tyInt Syntax.w16))) (List._∷_ (
   39,
-  Rows'.sslice (Referent.rtF (Referent.fInt Syntax.w16))
-      (Syntax.tyRef Syntax.erased Syntax.imm (Syntax.tyInt Syntax.w16)) 12,
-) (List._∷_ (40, Rows'.any-gone (Syntax.tyRef Syntax.erased Syntax.mut (Syntax.tyInt Syntax.w16))) (List._∷_ (
-  41,
-  Mut.msleft
-      (Referent.rtF (Referent.fInt Syntax.w16)) (Syntax.tyRef Syntax.erased Syntax.mut (Syntax.tyInt Syntax.w16)),
-) List.[])))))))))
+  Rows'.sslice (Referent.rtF
+      (Referent.fInt Syntax.w16)) (Syntax.tyRef Syntax.erased Syntax.imm (Syntax.tyInt Syntax.w16)) 12,
+) (List._∷_ (40, Rows'.any-gone (Syntax.tyRef Syntax.erased Syntax.mut (Syntax.tyInt Syntax.w16)))
+    (List._∷_ (41, Mut.msleft (Referent.rtF (Referent.fInt Syntax.w16)) (Syntax.tyRef Syntax.erased Syntax.mut (Syntax.tyInt Syntax.w16))) List.[])))))))))
 
 abbrev pub t77 : List.List Row.Entry
 t77 = List._∷_ (
@@ -3302,22 +3304,21 @@ t77 = List._∷_ (
       Syntax.mut Element.behind) (Syntax.tcons (Syntax.tyInt Syntax.w64) Syntax.tnil))),
 ) (List._∷_ (
   37,
-  Rows'.any-gone (Syntax.tyStruct (List._∷_ 112 (List._∷_ 97 (List._∷_ 115 (List._∷_ 115 (List._∷_ 58
-      (List._∷_ 58 (List._∷_ 81 (List._∷_ 117 (List._∷_ 97 (List._∷_ 110 (List._∷_ 116 (List._∷_ 105 (List._∷_ 115 (List._∷_ 101 (List._∷_ 114 (List._∷_ 115 List.[])))))))))))))))) (Syntax.tcons
-      (Syntax.tyInt Syntax.w32) (Syntax.tcons (Syntax.tyArray (Syntax.tyInt Syntax.w32) 4) (Syntax.tcons (Syntax.tyArray (Syntax.tyInt Syntax.w32) 4) (Syntax.tcons (Syntax.tyArray (Syntax.tyInt Syntax.w32)
-      4) Syntax.tnil))))),
+  Rows'.any-gone (Syntax.tyStruct (List._∷_ 115 (List._∷_ 116 (List._∷_ 101 (List._∷_ 112 (List._∷_
+      115 (List._∷_ 58 (List._∷_ 58 (List._∷_ 81 (List._∷_ 117 (List._∷_ 97 (List._∷_ 110 (List._∷_ 116 (List._∷_ 105 (List._∷_ 115 (List._∷_ 101 (List._∷_ 114 (List._∷_ 115 List.[])))))))))))))))))
+      (Syntax.tcons (Syntax.tyInt Syntax.w32) (Syntax.tcons (Syntax.tyArray (Syntax.tyInt Syntax.w32) 4) (Syntax.tcons (Syntax.tyArray (Syntax.tyInt Syntax.w32) 4) (Syntax.tcons (Syntax.tyArray
+      (Syntax.tyInt Syntax.w32) 4) Syntax.tnil))))),
 ) (List._∷_ (38, Rows'.any-gone (Syntax.tyRef Syntax.erased Syntax.imm (Syntax.tyInt Syntax.w16))) (List._∷_ (
   39,
-  Rows'.any-gone (Syntax.tyStruct (List._∷_ 38 (List._∷_ 91
-      (List._∷_ 93 List.[]))) (Syntax.tcons (Syntax.tyRef Syntax.erased Syntax.imm (Syntax.tyInt Syntax.w16)) (Syntax.tcons (Syntax.tyInt Syntax.w64) Syntax.tnil))),
+  Rows'.any-gone (Syntax.tyStruct
+      (List._∷_ 38 (List._∷_ 91 (List._∷_ 93 List.[]))) (Syntax.tcons (Syntax.tyRef Syntax.erased Syntax.imm (Syntax.tyInt Syntax.w16)) (Syntax.tcons (Syntax.tyInt Syntax.w64) Syntax.tnil))),
 ) (List._∷_ (
   40,
-  Rows'.any-gone
-      (Syntax.tyRef Syntax.erased Syntax.mut (Syntax.tyInt Syntax.w16)),
+  Rows'.any-gone (Syntax.tyRef Syntax.erased Syntax.mut (Syntax.tyInt Syntax.w16)),
 ) (List._∷_ (
   41,
-  Mut.msleft (Referent.rtF (Referent.fInt Syntax.w16)) (Syntax.tyRef Syntax.erased Syntax.mut (Syntax.tyInt
-      Syntax.w16)),
+  Mut.msleft (Referent.rtF (Referent.fInt Syntax.w16)) (Syntax.tyRef Syntax.erased Syntax.mut
+      (Syntax.tyInt Syntax.w16)),
 ) List.[])))))))))
 
 abbrev pub t78 : List.List Row.Entry
@@ -4162,10 +4163,10 @@ module _ (claims· : Claims) where
       Element.behind) (λ x. x) (Scalar.oFld 4 (List._∷_ (Syntax.field 1) List.[]) (Syntax.tyInt Syntax.w64) 8 λ v. Shared.lenV (v .0))
 
   abbrev s63 : (bs : List.List Nat.ℕ) → Typed.Both T66 T67
-  s63 = λ bs. Call.callB ps·7 r·7 (claims· .14) (claims· .15) T66 (Num.vAt 11 λ x. x, (Num.vAt 18 λ x. x, tt)) 37 List.[] (Syntax.tyStruct (List._∷_ 112 (List._∷_ 97 (List._∷_ 115 (List._∷_ 115
-      (List._∷_ 58 (List._∷_ 58 (List._∷_ 81 (List._∷_ 117 (List._∷_ 97 (List._∷_ 110 (List._∷_ 116 (List._∷_ 105 (List._∷_ 115 (List._∷_ 101 (List._∷_ 114 (List._∷_ 115 List.[]))))))))))))))))
-      (Syntax.tcons (Syntax.tyInt Syntax.w32) (Syntax.tcons (Syntax.tyArray (Syntax.tyInt Syntax.w32) 4) (Syntax.tcons (Syntax.tyArray (Syntax.tyInt Syntax.w32) 4) (Syntax.tcons (Syntax.tyArray
-      (Syntax.tyInt Syntax.w32) 4) Syntax.tnil)))))
+  s63 = λ bs. Call.callB ps·7 r·7 (claims· .14) (claims· .15) T66 (Num.vAt 11 λ x. x, (Num.vAt 18 λ x. x, tt)) 37 List.[] (Syntax.tyStruct (List._∷_ 115 (List._∷_ 116 (List._∷_ 101 (List._∷_ 112
+      (List._∷_ 115 (List._∷_ 58 (List._∷_ 58 (List._∷_ 81 (List._∷_ 117 (List._∷_ 97 (List._∷_ 110 (List._∷_ 116 (List._∷_ 105 (List._∷_ 115 (List._∷_ 101 (List._∷_ 114 (List._∷_ 115
+      List.[]))))))))))))))))) (Syntax.tcons (Syntax.tyInt Syntax.w32) (Syntax.tcons (Syntax.tyArray (Syntax.tyInt Syntax.w32) 4) (Syntax.tcons (Syntax.tyArray (Syntax.tyInt Syntax.w32) 4) (Syntax.tcons
+      (Syntax.tyArray (Syntax.tyInt Syntax.w32) 4) Syntax.tnil)))))
 
   abbrev s64 : (bs : List.List Nat.ℕ) → Typed.Both T67 T68
   s64 = λ bs. Call.callB ps·8 r·8 (claims· .16) (claims· .17) T67 (
@@ -4200,9 +4201,9 @@ module _ (claims· : Claims) where
       List.[]))))))))))))))))) (Syntax.tcons (Syntax.tyInt Syntax.w64) Syntax.tnil)) Syntax.tnil))))
 
   abbrev s65 : (bs : List.List Nat.ℕ) → Typed.Mo T68 → Typed.Mo T69
-  s65 = λ bs. Scalar.n-room T68 37 (Syntax.tyStruct (List._∷_ 112 (List._∷_ 97 (List._∷_ 115 (List._∷_ 115 (List._∷_ 58 (List._∷_ 58 (List._∷_ 81 (List._∷_ 117 (List._∷_ 97 (List._∷_ 110 (List._∷_ 116
-      (List._∷_ 105 (List._∷_ 115 (List._∷_ 101 (List._∷_ 114 (List._∷_ 115 List.[])))))))))))))))) (Syntax.tcons (Syntax.tyInt Syntax.w32) (Syntax.tcons (Syntax.tyArray (Syntax.tyInt Syntax.w32) 4)
-      (Syntax.tcons (Syntax.tyArray (Syntax.tyInt Syntax.w32) 4) (Syntax.tcons (Syntax.tyArray (Syntax.tyInt Syntax.w32) 4) Syntax.tnil)))))
+  s65 = λ bs. Scalar.n-room T68 37 (Syntax.tyStruct (List._∷_ 115 (List._∷_ 116 (List._∷_ 101 (List._∷_ 112 (List._∷_ 115 (List._∷_ 58 (List._∷_ 58 (List._∷_ 81 (List._∷_ 117 (List._∷_ 97 (List._∷_
+      110 (List._∷_ 116 (List._∷_ 105 (List._∷_ 115 (List._∷_ 101 (List._∷_ 114 (List._∷_ 115 List.[]))))))))))))))))) (Syntax.tcons (Syntax.tyInt Syntax.w32) (Syntax.tcons (Syntax.tyArray (Syntax.tyInt
+      Syntax.w32) 4) (Syntax.tcons (Syntax.tyArray (Syntax.tyInt Syntax.w32) 4) (Syntax.tcons (Syntax.tyArray (Syntax.tyInt Syntax.w32) 4) Syntax.tnil)))))
 
   abbrev s67 : (bs : List.List Nat.ℕ) → Typed.Both T69 T71
   s67 = λ bs. Relend.k-back-sl (Referent.rtF (Referent.fInt Syntax.w16)) T69 34 3 2 10 (Syntax.tyRef (Syntax.named 2) Syntax.mut (Syntax.tyInt Syntax.w16)) (Syntax.tyRef Syntax.erased Syntax.mut
@@ -7015,13 +7016,13 @@ module _ (claims· : Claims) where
           d61 = Typed.g-pre 𝓤 H A W 𝓣 E G69 G70 b58 Δ3 (λ Ψ. Ψ) (at60 bs) (Lifetime.g-end 𝓤 H A W E G69 10 Path'.refl) d60
 
           d62 : Typed.Typed 𝓤 H A 𝓣 E G68 b58 Δ3 (at62 bs)
-          d62 = Typed.g-pre 𝓤 H A W 𝓣 E G68 G69 b58 Δ3 (Typed.pass T68 T69 (s65 bs)) (at61 bs) (Scalar.g-room 𝓤 H A W E G68 37 (Syntax.tyStruct (List._∷_ 112 (List._∷_ 97 (List._∷_ 115 (List._∷_ 115
-              (List._∷_ 58 (List._∷_ 58 (List._∷_ 81 (List._∷_ 117 (List._∷_ 97 (List._∷_ 110 (List._∷_ 116 (List._∷_ 105 (List._∷_ 115 (List._∷_ 101 (List._∷_ 114 (List._∷_ 115 List.[]))))))))))))))))
-              (Syntax.tcons (Syntax.tyInt Syntax.w32) (Syntax.tcons (Syntax.tyArray (Syntax.tyInt Syntax.w32) 4) (Syntax.tcons (Syntax.tyArray (Syntax.tyInt Syntax.w32) 4) (Syntax.tcons (Syntax.tyArray
-              (Syntax.tyInt Syntax.w32) 4) Syntax.tnil))))) (Local.room-whole 𝓤 H A W (Declared.row Quantisers.the-type) (Syntax.tyStruct (List._∷_ 112 (List._∷_ 97 (List._∷_ 115 (List._∷_ 115 (List._∷_
-              58 (List._∷_ 58 (List._∷_ 81 (List._∷_ 117 (List._∷_ 97 (List._∷_ 110 (List._∷_ 116 (List._∷_ 105 (List._∷_ 115 (List._∷_ 101 (List._∷_ 114 (List._∷_ 115 List.[]))))))))))))))))
-              (Syntax.tcons (Syntax.tyInt Syntax.w32) (Syntax.tcons (Syntax.tyArray (Syntax.tyInt Syntax.w32) 4) (Syntax.tcons (Syntax.tyArray (Syntax.tyInt Syntax.w32) 4) (Syntax.tcons (Syntax.tyArray
-              (Syntax.tyInt Syntax.w32) 4) Syntax.tnil))))) Path'.refl)) d61
+          d62 = Typed.g-pre 𝓤 H A W 𝓣 E G68 G69 b58 Δ3 (Typed.pass T68 T69 (s65 bs)) (at61 bs) (Scalar.g-room 𝓤 H A W E G68 37 (Syntax.tyStruct (List._∷_ 115 (List._∷_ 116 (List._∷_ 101 (List._∷_ 112
+              (List._∷_ 115 (List._∷_ 58 (List._∷_ 58 (List._∷_ 81 (List._∷_ 117 (List._∷_ 97 (List._∷_ 110 (List._∷_ 116 (List._∷_ 105 (List._∷_ 115 (List._∷_ 101 (List._∷_ 114 (List._∷_ 115
+              List.[]))))))))))))))))) (Syntax.tcons (Syntax.tyInt Syntax.w32) (Syntax.tcons (Syntax.tyArray (Syntax.tyInt Syntax.w32) 4) (Syntax.tcons (Syntax.tyArray (Syntax.tyInt Syntax.w32) 4)
+              (Syntax.tcons (Syntax.tyArray (Syntax.tyInt Syntax.w32) 4) Syntax.tnil))))) (Local.room-whole 𝓤 H A W (Declared.row Quantisers.the-type) (Syntax.tyStruct (List._∷_ 115 (List._∷_ 116
+              (List._∷_ 101 (List._∷_ 112 (List._∷_ 115 (List._∷_ 58 (List._∷_ 58 (List._∷_ 81 (List._∷_ 117 (List._∷_ 97 (List._∷_ 110 (List._∷_ 116 (List._∷_ 105 (List._∷_ 115 (List._∷_ 101 (List._∷_
+              114 (List._∷_ 115 List.[]))))))))))))))))) (Syntax.tcons (Syntax.tyInt Syntax.w32) (Syntax.tcons (Syntax.tyArray (Syntax.tyInt Syntax.w32) 4) (Syntax.tcons (Syntax.tyArray (Syntax.tyInt
+              Syntax.w32) 4) (Syntax.tcons (Syntax.tyArray (Syntax.tyInt Syntax.w32) 4) Syntax.tnil))))) Path'.refl)) d61
 
           d63 : Typed.Typed 𝓤 H A 𝓣 E G67 b59 Δ3 (at63 bs)
           d63 = Typed.s-seq 𝓤 H A W 𝓣 E G67 G68 b31 b58 Δ3 (Typed.both (s64 bs)) (at62 bs) (Plain.t-call-plain 𝓤 H A W 𝓣 3 ps·8 r·8 (claims· .16) (claims· .17) "block::line" (known .8) E (λ pos β. β)
@@ -7107,9 +7108,9 @@ module _ (claims· : Claims) where
                   ),
                   tt,
                 ),
-              ) (Reads'.room-gone 𝓤 H A (Syntax.tyStruct (List._∷_ 112 (List._∷_ 97 (List._∷_ 115 (List._∷_ 115 (List._∷_ 58 (List._∷_ 58 (List._∷_ 81
-              (List._∷_ 117 (List._∷_ 97 (List._∷_ 110 (List._∷_ 116 (List._∷_ 105 (List._∷_ 115 (List._∷_ 101 (List._∷_ 114 (List._∷_ 115 List.[])))))))))))))))) (Syntax.tcons (Syntax.tyInt Syntax.w32)
-              (Syntax.tcons (Syntax.tyArray (Syntax.tyInt Syntax.w32) 4) (Syntax.tcons (Syntax.tyArray (Syntax.tyInt Syntax.w32) 4) (Syntax.tcons (Syntax.tyArray (Syntax.tyInt Syntax.w32) 4)
+              ) (Reads'.room-gone 𝓤 H A (Syntax.tyStruct (List._∷_ 115 (List._∷_ 116 (List._∷_ 101 (List._∷_ 112 (List._∷_ 115 (List._∷_ 58 (List._∷_ 58
+              (List._∷_ 81 (List._∷_ 117 (List._∷_ 97 (List._∷_ 110 (List._∷_ 116 (List._∷_ 105 (List._∷_ 115 (List._∷_ 101 (List._∷_ 114 (List._∷_ 115 List.[]))))))))))))))))) (Syntax.tcons (Syntax.tyInt
+              Syntax.w32) (Syntax.tcons (Syntax.tyArray (Syntax.tyInt Syntax.w32) 4) (Syntax.tcons (Syntax.tyArray (Syntax.tyInt Syntax.w32) 4) (Syntax.tcons (Syntax.tyArray (Syntax.tyInt Syntax.w32) 4)
               Syntax.tnil)))))) tt Path'.refl) d63
 
           d65 : Typed.Typed 𝓤 H A 𝓣 E G65 b61 Δ3 (at65 bs)

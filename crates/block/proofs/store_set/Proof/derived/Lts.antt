@@ -1,10 +1,10 @@
 -- Written by tools/lend.py from Rattle's derivation of the twin of `block`; not edited by hand. Assumes nothing.
 use Rattle.block.proofs.Element
 use Prim.Native.Nat
-use Rattle.pass.proofs.Set
-use Rattle.pass.proofs.Set.Laws
 use Rattle.statistics.proofs.Record
-use Rattle.statistics.proofs.Record.Laws as Laws'
+use Rattle.statistics.proofs.Record.Laws
+use Rattle.steps.proofs.Set
+use Rattle.steps.proofs.Set.Laws as Laws'
 use borrow.Author.Called
 use borrow.Author.Tests
 use borrow.Fn.Any
@@ -69,19 +69,18 @@ ps = List._∷_ (MutSlice.pMutS (Element.type) 0 tt) (List._∷_ (Num.pNum Synta
   ty = Declared.row Set.the-type;
   one = Path'.refl;
   val = Laws''.val Set.the-type
-      Laws.the-laws;
-  tells = Laws''.tells Set.the-type Laws.the-laws;
-  still = Laws''.still Set.the-type Laws.the-copy Exit.yes;
+      Laws'.the-laws;
+  tells = Laws''.tells Set.the-type Laws'.the-laws;
+  still = Laws''.still Set.the-type Laws'.the-copy Exit.yes;
   row = Rows'.whole (Declared.row Set.the-type);
   rd = λ x. x;
   mk = λ x. x;
-} λ M
-    𝓤 H A W. record {
-      copies = Laws''.copy Set.the-type Laws.the-copy 𝓤 H A W;
-      lawful = Laws''.lawful Set.the-type Laws.the-laws 𝓤 H A W;
-      makes = Laws''.makes Set.the-type Laws.the-plain 𝓤 H A;
-      in-mem =
-          Local.mem-whole 𝓤 H A W (Declared.row Set.the-type);
+}
+    λ M 𝓤 H A W. record {
+      copies = Laws''.copy Set.the-type Laws'.the-copy 𝓤 H A W;
+      lawful = Laws''.lawful Set.the-type Laws'.the-laws 𝓤 H A W;
+      makes = Laws''.makes Set.the-type Laws'.the-plain 𝓤 H A;
+      in-mem = Local.mem-whole 𝓤 H A W (Declared.row Set.the-type);
       of-mem = Local.whole-mem 𝓤 H A W (Declared.row Set.the-type);
     }) List.[]))
 
@@ -104,18 +103,18 @@ ps·0 = List._∷_ (MutSlice.pMutS (Element.type) 0 tt) (List._∷_ (Num.pNum Sy
   ty = Declared.row Record.the-type;
   one = Path'.refl;
   val = Laws''.val
-      Record.the-type Laws'.the-laws;
-  tells = Laws''.tells Record.the-type Laws'.the-laws;
-  still = Laws''.still Record.the-type Laws'.the-copy Exit.yes;
+      Record.the-type Laws.the-laws;
+  tells = Laws''.tells Record.the-type Laws.the-laws;
+  still = Laws''.still Record.the-type Laws.the-copy Exit.yes;
   row = Rows'.whole (Declared.row Record.the-type);
-  rd
-      = λ x. x;
+  rd = λ
+      x. x;
   mk = λ x. x;
 } λ M 𝓤 H A W. record {
-  copies = Laws''.copy Record.the-type Laws'.the-copy 𝓤 H A W;
-  lawful = Laws''.lawful Record.the-type Laws'.the-laws 𝓤 H A W;
+  copies = Laws''.copy Record.the-type Laws.the-copy 𝓤 H A W;
+  lawful = Laws''.lawful Record.the-type Laws.the-laws 𝓤 H A W;
   makes = Laws''.makes
-      Record.the-type Laws'.the-plain 𝓤 H A;
+      Record.the-type Laws.the-plain 𝓤 H A;
   in-mem = Local.mem-whole 𝓤 H A W (Declared.row Record.the-type);
   of-mem = Local.whole-mem 𝓤 H A W (Declared.row Record.the-type);
 }) List.[]))
@@ -315,26 +314,25 @@ t2 = List._∷_ (0, Rows'.sc-here Row.sUnit) (List._∷_ (1, Mut.mslice (Element
       Syntax.w64),
 ) (List._∷_ (
   3,
-  Rows'.any-gone (Syntax.tyStruct (List._∷_ 112 (List._∷_ 97 (List._∷_ 115 (List._∷_ 115 (List._∷_ 58 (List._∷_ 58 (List._∷_ 83 (List._∷_ 101 (List._∷_ 116 List.[])))))))))
-      (Syntax.tcons (Syntax.tyArray (Syntax.tyInt Syntax.w32) 112) (Syntax.tcons (Syntax.tyArray (Syntax.tyInt Syntax.w32) 112) Syntax.tnil))),
+  Rows'.any-gone (Syntax.tyStruct (List._∷_ 115 (List._∷_ 116 (List._∷_ 101 (List._∷_ 112 (List._∷_ 115 (List._∷_ 58 (List._∷_ 58 (List._∷_ 83 (List._∷_ 101 (List._∷_ 116
+      List.[])))))))))) (Syntax.tcons (Syntax.tyArray (Syntax.tyInt Syntax.w32) 112) (Syntax.tcons (Syntax.tyArray (Syntax.tyInt Syntax.w32) 112) Syntax.tnil))),
 ) (List._∷_ (
   4,
-  Rows'.any-gone (Syntax.tyArray (Syntax.tyInt
-      Syntax.w32) 112),
+  Rows'.any-gone
+      (Syntax.tyArray (Syntax.tyInt Syntax.w32) 112),
 ) (List._∷_ (5, Rows'.any-gone (Syntax.tyArray (Syntax.tyInt Syntax.w32) 112)) (List._∷_ (6, Rows'.any-gone (Syntax.tyInt Syntax.w64)) (List._∷_ (
   7,
-  Rows'.any-gone (Syntax.tyStruct
-      (List._∷_ 115 (List._∷_ 116 (List._∷_ 97 (List._∷_ 116 (List._∷_ 105 (List._∷_ 115 (List._∷_ 116 (List._∷_ 105 (List._∷_ 99 (List._∷_ 115 (List._∷_ 58 (List._∷_ 58 (List._∷_ 82 (List._∷_ 101 (List._∷_
-      99 (List._∷_ 111 (List._∷_ 114 (List._∷_ 100 List.[])))))))))))))))))) (Syntax.tcons (Syntax.tyInt Syntax.w32) (Syntax.tcons (Syntax.tyInt Syntax.w32) Syntax.tnil))),
-) (List._∷_ (
-  8,
+  Rows'.any-gone (Syntax.tyStruct (List._∷_ 115 (List._∷_ 116 (List._∷_ 97 (List._∷_ 116 (List._∷_ 105 (List._∷_ 115 (List._∷_ 116 (List._∷_ 105 (List._∷_ 99 (List._∷_ 115 (List._∷_ 58 (List._∷_ 58
+      (List._∷_ 82 (List._∷_ 101 (List._∷_ 99 (List._∷_ 111 (List._∷_ 114 (List._∷_ 100 List.[])))))))))))))))))) (Syntax.tcons (Syntax.tyInt Syntax.w32) (Syntax.tcons (Syntax.tyInt Syntax.w32)
+      Syntax.tnil))),
+) (List._∷_ (8, Rows'.any-gone Syntax.tyBool) (List._∷_ (9, Rows'.any-gone (Syntax.tyInt Syntax.w64)) (List._∷_ (10, Rows'.any-gone Syntax.tyPtr) (List._∷_ (
+  11,
   Rows'.any-gone
-      Syntax.tyBool,
-) (List._∷_ (9, Rows'.any-gone (Syntax.tyInt Syntax.w64)) (List._∷_ (10, Rows'.any-gone Syntax.tyPtr) (List._∷_ (11, Rows'.any-gone Syntax.tyPtr) (List._∷_ (
-  12,
-  Rows'.any-gone
-      (Syntax.tyInt Syntax.w32),
-) (List._∷_ (13, Rows'.any-gone (Syntax.tyInt Syntax.w64)) (List._∷_ (14, Rows'.any-gone Syntax.tyPtr) (List._∷_ (15, Rows'.any-gone Syntax.tyPtr) List.[])))))))))))))))
+      Syntax.tyPtr,
+) (List._∷_ (12, Rows'.any-gone (Syntax.tyInt Syntax.w32)) (List._∷_ (13, Rows'.any-gone (Syntax.tyInt Syntax.w64)) (List._∷_ (14, Rows'.any-gone Syntax.tyPtr) (List._∷_ (
+  15,
+  Rows'.any-gone Syntax.tyPtr,
+) List.[])))))))))))))))
 
 abbrev pub t3 : List.List Row.Entry
 t3 = List._∷_ (0, Rows'.any-gone Syntax.tyUnit) (List._∷_ (1, Mut.mslice (Element.type) (Syntax.tyRef (Syntax.named 0) Syntax.mut Element.behind) 0) (List._∷_ (
@@ -389,26 +387,21 @@ t5 = List._∷_ (0, Rows'.any-gone Syntax.tyUnit) (List._∷_ (1, Mut.mslice (El
       Syntax.w64),
 ) (List._∷_ (
   3,
-  Rows'.any-gone (Syntax.tyStruct (List._∷_ 112 (List._∷_ 97 (List._∷_ 115 (List._∷_ 115 (List._∷_ 58 (List._∷_ 58 (List._∷_ 83 (List._∷_ 101 (List._∷_ 116 List.[])))))))))
-      (Syntax.tcons (Syntax.tyArray (Syntax.tyInt Syntax.w32) 112) (Syntax.tcons (Syntax.tyArray (Syntax.tyInt Syntax.w32) 112) Syntax.tnil))),
+  Rows'.any-gone (Syntax.tyStruct (List._∷_ 115 (List._∷_ 116 (List._∷_ 101 (List._∷_ 112 (List._∷_ 115 (List._∷_ 58 (List._∷_ 58 (List._∷_ 83 (List._∷_ 101 (List._∷_ 116
+      List.[])))))))))) (Syntax.tcons (Syntax.tyArray (Syntax.tyInt Syntax.w32) 112) (Syntax.tcons (Syntax.tyArray (Syntax.tyInt Syntax.w32) 112) Syntax.tnil))),
 ) (List._∷_ (
   4,
-  Rows.arrF (Referent.rtF (Referent.fInt
-      Syntax.w32)) 112 0,
+  Rows.arrF (Referent.rtF
+      (Referent.fInt Syntax.w32)) 112 0,
 ) (List._∷_ (5, Rows.arrF (Referent.rtF (Referent.fInt Syntax.w32)) 112 0) (List._∷_ (6, Rows'.any-gone (Syntax.tyInt Syntax.w64)) (List._∷_ (
   7,
-  Rows'.any-gone (Syntax.tyStruct
-      (List._∷_ 115 (List._∷_ 116 (List._∷_ 97 (List._∷_ 116 (List._∷_ 105 (List._∷_ 115 (List._∷_ 116 (List._∷_ 105 (List._∷_ 99 (List._∷_ 115 (List._∷_ 58 (List._∷_ 58 (List._∷_ 82 (List._∷_ 101 (List._∷_
-      99 (List._∷_ 111 (List._∷_ 114 (List._∷_ 100 List.[])))))))))))))))))) (Syntax.tcons (Syntax.tyInt Syntax.w32) (Syntax.tcons (Syntax.tyInt Syntax.w32) Syntax.tnil))),
-) (List._∷_ (
-  8,
   Rows'.any-gone
-      Syntax.tyBool,
-) (List._∷_ (9, Rows'.any-gone (Syntax.tyInt Syntax.w64)) (List._∷_ (10, Rows'.any-gone Syntax.tyPtr) (List._∷_ (11, Rows'.any-gone Syntax.tyPtr) (List._∷_ (
-  12,
-  Rows'.any-gone
-      (Syntax.tyInt Syntax.w32),
-) (List._∷_ (13, Rows'.any-gone (Syntax.tyInt Syntax.w64)) (List._∷_ (14, Rows'.any-gone Syntax.tyPtr) (List._∷_ (15, Rows'.any-gone Syntax.tyPtr) List.[])))))))))))))))
+      (Syntax.tyStruct (List._∷_ 115 (List._∷_ 116 (List._∷_ 97 (List._∷_ 116 (List._∷_ 105 (List._∷_ 115 (List._∷_ 116 (List._∷_ 105 (List._∷_ 99 (List._∷_ 115 (List._∷_ 58 (List._∷_ 58 (List._∷_ 82
+      (List._∷_ 101 (List._∷_ 99 (List._∷_ 111 (List._∷_ 114 (List._∷_ 100 List.[])))))))))))))))))) (Syntax.tcons (Syntax.tyInt Syntax.w32) (Syntax.tcons (Syntax.tyInt Syntax.w32) Syntax.tnil))),
+)
+    (List._∷_ (8, Rows'.any-gone Syntax.tyBool) (List._∷_ (9, Rows'.any-gone (Syntax.tyInt Syntax.w64)) (List._∷_ (10, Rows'.any-gone Syntax.tyPtr) (List._∷_ (11, Rows'.any-gone Syntax.tyPtr) (List._∷_
+    (12, Rows'.any-gone (Syntax.tyInt Syntax.w32)) (List._∷_ (13, Rows'.any-gone (Syntax.tyInt Syntax.w64)) (List._∷_ (14, Rows'.any-gone Syntax.tyPtr) (List._∷_ (15, Rows'.any-gone Syntax.tyPtr)
+    List.[])))))))))))))))
 
 abbrev pub t6 : List.List Row.Entry
 t6 = List._∷_ (0, Rows'.any-gone Syntax.tyUnit) (List._∷_ (1, Mut.mslice (Element.type) (Syntax.tyRef (Syntax.named 0) Syntax.mut Element.behind) 0) (List._∷_ (
@@ -417,26 +410,21 @@ t6 = List._∷_ (0, Rows'.any-gone Syntax.tyUnit) (List._∷_ (1, Mut.mslice (El
       Syntax.w64),
 ) (List._∷_ (
   3,
-  Rows'.any-gone (Syntax.tyStruct (List._∷_ 112 (List._∷_ 97 (List._∷_ 115 (List._∷_ 115 (List._∷_ 58 (List._∷_ 58 (List._∷_ 83 (List._∷_ 101 (List._∷_ 116 List.[])))))))))
-      (Syntax.tcons (Syntax.tyArray (Syntax.tyInt Syntax.w32) 112) (Syntax.tcons (Syntax.tyArray (Syntax.tyInt Syntax.w32) 112) Syntax.tnil))),
+  Rows'.any-gone (Syntax.tyStruct (List._∷_ 115 (List._∷_ 116 (List._∷_ 101 (List._∷_ 112 (List._∷_ 115 (List._∷_ 58 (List._∷_ 58 (List._∷_ 83 (List._∷_ 101 (List._∷_ 116
+      List.[])))))))))) (Syntax.tcons (Syntax.tyArray (Syntax.tyInt Syntax.w32) 112) (Syntax.tcons (Syntax.tyArray (Syntax.tyInt Syntax.w32) 112) Syntax.tnil))),
 ) (List._∷_ (
   4,
-  Rows.arrF (Referent.rtF (Referent.fInt
-      Syntax.w32)) 112 0,
+  Rows.arrF (Referent.rtF
+      (Referent.fInt Syntax.w32)) 112 0,
 ) (List._∷_ (5, Rows.arrF (Referent.rtF (Referent.fInt Syntax.w32)) 112 0) (List._∷_ (6, Rows'.sc-here (Row.sInt Syntax.w64)) (List._∷_ (
   7,
-  Rows'.any-gone (Syntax.tyStruct
-      (List._∷_ 115 (List._∷_ 116 (List._∷_ 97 (List._∷_ 116 (List._∷_ 105 (List._∷_ 115 (List._∷_ 116 (List._∷_ 105 (List._∷_ 99 (List._∷_ 115 (List._∷_ 58 (List._∷_ 58 (List._∷_ 82 (List._∷_ 101 (List._∷_
-      99 (List._∷_ 111 (List._∷_ 114 (List._∷_ 100 List.[])))))))))))))))))) (Syntax.tcons (Syntax.tyInt Syntax.w32) (Syntax.tcons (Syntax.tyInt Syntax.w32) Syntax.tnil))),
-) (List._∷_ (
-  8,
   Rows'.any-gone
-      Syntax.tyBool,
-) (List._∷_ (9, Rows'.any-gone (Syntax.tyInt Syntax.w64)) (List._∷_ (10, Rows'.any-gone Syntax.tyPtr) (List._∷_ (11, Rows'.any-gone Syntax.tyPtr) (List._∷_ (
-  12,
-  Rows'.any-gone
-      (Syntax.tyInt Syntax.w32),
-) (List._∷_ (13, Rows'.any-gone (Syntax.tyInt Syntax.w64)) (List._∷_ (14, Rows'.any-gone Syntax.tyPtr) (List._∷_ (15, Rows'.any-gone Syntax.tyPtr) List.[])))))))))))))))
+      (Syntax.tyStruct (List._∷_ 115 (List._∷_ 116 (List._∷_ 97 (List._∷_ 116 (List._∷_ 105 (List._∷_ 115 (List._∷_ 116 (List._∷_ 105 (List._∷_ 99 (List._∷_ 115 (List._∷_ 58 (List._∷_ 58 (List._∷_ 82
+      (List._∷_ 101 (List._∷_ 99 (List._∷_ 111 (List._∷_ 114 (List._∷_ 100 List.[])))))))))))))))))) (Syntax.tcons (Syntax.tyInt Syntax.w32) (Syntax.tcons (Syntax.tyInt Syntax.w32) Syntax.tnil))),
+)
+    (List._∷_ (8, Rows'.any-gone Syntax.tyBool) (List._∷_ (9, Rows'.any-gone (Syntax.tyInt Syntax.w64)) (List._∷_ (10, Rows'.any-gone Syntax.tyPtr) (List._∷_ (11, Rows'.any-gone Syntax.tyPtr) (List._∷_
+    (12, Rows'.any-gone (Syntax.tyInt Syntax.w32)) (List._∷_ (13, Rows'.any-gone (Syntax.tyInt Syntax.w64)) (List._∷_ (14, Rows'.any-gone Syntax.tyPtr) (List._∷_ (15, Rows'.any-gone Syntax.tyPtr)
+    List.[])))))))))))))))
 
 abbrev pub t7 : List.List Row.Entry
 t7 = List._∷_ (0, Rows'.any-gone Syntax.tyUnit) (List._∷_ (1, Mut.mslice (Element.type) (Syntax.tyRef (Syntax.named 0) Syntax.mut Element.behind) 0) (List._∷_ (
@@ -445,26 +433,25 @@ t7 = List._∷_ (0, Rows'.any-gone Syntax.tyUnit) (List._∷_ (1, Mut.mslice (El
       Syntax.w64),
 ) (List._∷_ (
   3,
-  Rows'.any-gone (Syntax.tyStruct (List._∷_ 112 (List._∷_ 97 (List._∷_ 115 (List._∷_ 115 (List._∷_ 58 (List._∷_ 58 (List._∷_ 83 (List._∷_ 101 (List._∷_ 116 List.[])))))))))
-      (Syntax.tcons (Syntax.tyArray (Syntax.tyInt Syntax.w32) 112) (Syntax.tcons (Syntax.tyArray (Syntax.tyInt Syntax.w32) 112) Syntax.tnil))),
+  Rows'.any-gone (Syntax.tyStruct (List._∷_ 115 (List._∷_ 116 (List._∷_ 101 (List._∷_ 112 (List._∷_ 115 (List._∷_ 58 (List._∷_ 58 (List._∷_ 83 (List._∷_ 101 (List._∷_ 116
+      List.[])))))))))) (Syntax.tcons (Syntax.tyArray (Syntax.tyInt Syntax.w32) 112) (Syntax.tcons (Syntax.tyArray (Syntax.tyInt Syntax.w32) 112) Syntax.tnil))),
 ) (List._∷_ (
   4,
-  Rows'.any-gone (Syntax.tyArray (Syntax.tyInt
-      Syntax.w32) 112),
+  Rows'.any-gone
+      (Syntax.tyArray (Syntax.tyInt Syntax.w32) 112),
 ) (List._∷_ (5, Rows'.any-gone (Syntax.tyArray (Syntax.tyInt Syntax.w32) 112)) (List._∷_ (6, Rows'.sc-here (Row.sInt Syntax.w64)) (List._∷_ (
   7,
-  Rows'.any-gone (Syntax.tyStruct
-      (List._∷_ 115 (List._∷_ 116 (List._∷_ 97 (List._∷_ 116 (List._∷_ 105 (List._∷_ 115 (List._∷_ 116 (List._∷_ 105 (List._∷_ 99 (List._∷_ 115 (List._∷_ 58 (List._∷_ 58 (List._∷_ 82 (List._∷_ 101 (List._∷_
-      99 (List._∷_ 111 (List._∷_ 114 (List._∷_ 100 List.[])))))))))))))))))) (Syntax.tcons (Syntax.tyInt Syntax.w32) (Syntax.tcons (Syntax.tyInt Syntax.w32) Syntax.tnil))),
-) (List._∷_ (
-  8,
+  Rows'.any-gone (Syntax.tyStruct (List._∷_ 115 (List._∷_ 116 (List._∷_ 97 (List._∷_ 116 (List._∷_ 105 (List._∷_ 115 (List._∷_ 116 (List._∷_ 105 (List._∷_ 99 (List._∷_ 115 (List._∷_ 58 (List._∷_ 58
+      (List._∷_ 82 (List._∷_ 101 (List._∷_ 99 (List._∷_ 111 (List._∷_ 114 (List._∷_ 100 List.[])))))))))))))))))) (Syntax.tcons (Syntax.tyInt Syntax.w32) (Syntax.tcons (Syntax.tyInt Syntax.w32)
+      Syntax.tnil))),
+) (List._∷_ (8, Rows'.any-gone Syntax.tyBool) (List._∷_ (9, Rows'.any-gone (Syntax.tyInt Syntax.w64)) (List._∷_ (10, Rows'.any-gone Syntax.tyPtr) (List._∷_ (
+  11,
   Rows'.any-gone
-      Syntax.tyBool,
-) (List._∷_ (9, Rows'.any-gone (Syntax.tyInt Syntax.w64)) (List._∷_ (10, Rows'.any-gone Syntax.tyPtr) (List._∷_ (11, Rows'.any-gone Syntax.tyPtr) (List._∷_ (
-  12,
-  Rows'.any-gone
-      (Syntax.tyInt Syntax.w32),
-) (List._∷_ (13, Rows'.any-gone (Syntax.tyInt Syntax.w64)) (List._∷_ (14, Rows'.any-gone Syntax.tyPtr) (List._∷_ (15, Rows'.any-gone Syntax.tyPtr) List.[])))))))))))))))
+      Syntax.tyPtr,
+) (List._∷_ (12, Rows'.any-gone (Syntax.tyInt Syntax.w32)) (List._∷_ (13, Rows'.any-gone (Syntax.tyInt Syntax.w64)) (List._∷_ (14, Rows'.any-gone Syntax.tyPtr) (List._∷_ (
+  15,
+  Rows'.any-gone Syntax.tyPtr,
+) List.[])))))))))))))))
 
 abbrev pub t8 : List.List Row.Entry
 t8 = List._∷_ (0, Rows'.any-gone Syntax.tyUnit) (List._∷_ (1, Mut.mslice (Element.type) (Syntax.tyRef (Syntax.named 0) Syntax.mut Element.behind) 0) (List._∷_ (
@@ -473,26 +460,23 @@ t8 = List._∷_ (0, Rows'.any-gone Syntax.tyUnit) (List._∷_ (1, Mut.mslice (El
       Syntax.w64),
 ) (List._∷_ (
   3,
-  Rows'.any-gone (Syntax.tyStruct (List._∷_ 112 (List._∷_ 97 (List._∷_ 115 (List._∷_ 115 (List._∷_ 58 (List._∷_ 58 (List._∷_ 83 (List._∷_ 101 (List._∷_ 116 List.[])))))))))
-      (Syntax.tcons (Syntax.tyArray (Syntax.tyInt Syntax.w32) 112) (Syntax.tcons (Syntax.tyArray (Syntax.tyInt Syntax.w32) 112) Syntax.tnil))),
+  Rows'.any-gone (Syntax.tyStruct (List._∷_ 115 (List._∷_ 116 (List._∷_ 101 (List._∷_ 112 (List._∷_ 115 (List._∷_ 58 (List._∷_ 58 (List._∷_ 83 (List._∷_ 101 (List._∷_ 116
+      List.[])))))))))) (Syntax.tcons (Syntax.tyArray (Syntax.tyInt Syntax.w32) 112) (Syntax.tcons (Syntax.tyArray (Syntax.tyInt Syntax.w32) 112) Syntax.tnil))),
 ) (List._∷_ (
   4,
-  Rows.arrF (Referent.rtF (Referent.fInt
-      Syntax.w32)) 112 0,
+  Rows.arrF (Referent.rtF
+      (Referent.fInt Syntax.w32)) 112 0,
 ) (List._∷_ (5, Rows.arrF (Referent.rtF (Referent.fInt Syntax.w32)) 112 0) (List._∷_ (6, Rows'.sc-here (Row.sInt Syntax.w64)) (List._∷_ (
   7,
-  Rows'.any-gone (Syntax.tyStruct
-      (List._∷_ 115 (List._∷_ 116 (List._∷_ 97 (List._∷_ 116 (List._∷_ 105 (List._∷_ 115 (List._∷_ 116 (List._∷_ 105 (List._∷_ 99 (List._∷_ 115 (List._∷_ 58 (List._∷_ 58 (List._∷_ 82 (List._∷_ 101 (List._∷_
-      99 (List._∷_ 111 (List._∷_ 114 (List._∷_ 100 List.[])))))))))))))))))) (Syntax.tcons (Syntax.tyInt Syntax.w32) (Syntax.tcons (Syntax.tyInt Syntax.w32) Syntax.tnil))),
-) (List._∷_ (
-  8,
-  Rows'.sc-here
-      Row.sBool,
-) (List._∷_ (9, Rows'.any-gone (Syntax.tyInt Syntax.w64)) (List._∷_ (10, Rows'.any-gone Syntax.tyPtr) (List._∷_ (11, Rows'.any-gone Syntax.tyPtr) (List._∷_ (
-  12,
   Rows'.any-gone
-      (Syntax.tyInt Syntax.w32),
-) (List._∷_ (13, Rows'.any-gone (Syntax.tyInt Syntax.w64)) (List._∷_ (14, Rows'.any-gone Syntax.tyPtr) (List._∷_ (15, Rows'.any-gone Syntax.tyPtr) List.[])))))))))))))))
+      (Syntax.tyStruct (List._∷_ 115 (List._∷_ 116 (List._∷_ 97 (List._∷_ 116 (List._∷_ 105 (List._∷_ 115 (List._∷_ 116 (List._∷_ 105 (List._∷_ 99 (List._∷_ 115 (List._∷_ 58 (List._∷_ 58 (List._∷_ 82
+      (List._∷_ 101 (List._∷_ 99 (List._∷_ 111 (List._∷_ 114 (List._∷_ 100 List.[])))))))))))))))))) (Syntax.tcons (Syntax.tyInt Syntax.w32) (Syntax.tcons (Syntax.tyInt Syntax.w32) Syntax.tnil))),
+)
+    (List._∷_ (8, Rows'.sc-here Row.sBool) (List._∷_ (9, Rows'.any-gone (Syntax.tyInt Syntax.w64)) (List._∷_ (10, Rows'.any-gone Syntax.tyPtr) (List._∷_ (11, Rows'.any-gone Syntax.tyPtr) (List._∷_ (
+      12,
+      Rows'.any-gone (Syntax.tyInt Syntax.w32),
+    ) (List._∷_ (13, Rows'.any-gone (Syntax.tyInt Syntax.w64)) (List._∷_ (14, Rows'.any-gone Syntax.tyPtr) (List._∷_ (15, Rows'.any-gone Syntax.tyPtr)
+    List.[])))))))))))))))
 
 abbrev pub t9 : List.List Row.Entry
 t9 = List._∷_ (0, Rows'.any-gone Syntax.tyUnit) (List._∷_ (1, Mut.mslice (Element.type) (Syntax.tyRef (Syntax.named 0) Syntax.mut Element.behind) 0) (List._∷_ (
@@ -501,26 +485,25 @@ t9 = List._∷_ (0, Rows'.any-gone Syntax.tyUnit) (List._∷_ (1, Mut.mslice (El
       Syntax.w64),
 ) (List._∷_ (
   3,
-  Rows'.any-gone (Syntax.tyStruct (List._∷_ 112 (List._∷_ 97 (List._∷_ 115 (List._∷_ 115 (List._∷_ 58 (List._∷_ 58 (List._∷_ 83 (List._∷_ 101 (List._∷_ 116 List.[])))))))))
-      (Syntax.tcons (Syntax.tyArray (Syntax.tyInt Syntax.w32) 112) (Syntax.tcons (Syntax.tyArray (Syntax.tyInt Syntax.w32) 112) Syntax.tnil))),
+  Rows'.any-gone (Syntax.tyStruct (List._∷_ 115 (List._∷_ 116 (List._∷_ 101 (List._∷_ 112 (List._∷_ 115 (List._∷_ 58 (List._∷_ 58 (List._∷_ 83 (List._∷_ 101 (List._∷_ 116
+      List.[])))))))))) (Syntax.tcons (Syntax.tyArray (Syntax.tyInt Syntax.w32) 112) (Syntax.tcons (Syntax.tyArray (Syntax.tyInt Syntax.w32) 112) Syntax.tnil))),
 ) (List._∷_ (
   4,
-  Rows'.any-gone (Syntax.tyArray (Syntax.tyInt
-      Syntax.w32) 112),
+  Rows'.any-gone
+      (Syntax.tyArray (Syntax.tyInt Syntax.w32) 112),
 ) (List._∷_ (5, Rows.arrF (Referent.rtF (Referent.fInt Syntax.w32)) 112 0) (List._∷_ (6, Rows'.sc-here (Row.sInt Syntax.w64)) (List._∷_ (
   7,
-  Rows'.any-gone (Syntax.tyStruct
-      (List._∷_ 115 (List._∷_ 116 (List._∷_ 97 (List._∷_ 116 (List._∷_ 105 (List._∷_ 115 (List._∷_ 116 (List._∷_ 105 (List._∷_ 99 (List._∷_ 115 (List._∷_ 58 (List._∷_ 58 (List._∷_ 82 (List._∷_ 101 (List._∷_
-      99 (List._∷_ 111 (List._∷_ 114 (List._∷_ 100 List.[])))))))))))))))))) (Syntax.tcons (Syntax.tyInt Syntax.w32) (Syntax.tcons (Syntax.tyInt Syntax.w32) Syntax.tnil))),
-) (List._∷_ (
-  8,
-  Rows'.sc-here
-      Row.sBool,
-) (List._∷_ (9, Rows'.any-gone (Syntax.tyInt Syntax.w64)) (List._∷_ (10, Rows'.any-gone Syntax.tyPtr) (List._∷_ (11, Rows'.any-gone Syntax.tyPtr) (List._∷_ (
-  12,
+  Rows'.any-gone (Syntax.tyStruct (List._∷_ 115 (List._∷_ 116 (List._∷_ 97 (List._∷_ 116 (List._∷_ 105 (List._∷_ 115 (List._∷_ 116 (List._∷_ 105 (List._∷_ 99 (List._∷_ 115 (List._∷_ 58 (List._∷_ 58
+      (List._∷_ 82 (List._∷_ 101 (List._∷_ 99 (List._∷_ 111 (List._∷_ 114 (List._∷_ 100 List.[])))))))))))))))))) (Syntax.tcons (Syntax.tyInt Syntax.w32) (Syntax.tcons (Syntax.tyInt Syntax.w32)
+      Syntax.tnil))),
+) (List._∷_ (8, Rows'.sc-here Row.sBool) (List._∷_ (9, Rows'.any-gone (Syntax.tyInt Syntax.w64)) (List._∷_ (10, Rows'.any-gone Syntax.tyPtr) (List._∷_ (
+  11,
   Rows'.any-gone
-      (Syntax.tyInt Syntax.w32),
-) (List._∷_ (13, Rows'.any-gone (Syntax.tyInt Syntax.w64)) (List._∷_ (14, Rows'.any-gone Syntax.tyPtr) (List._∷_ (15, Rows'.any-gone Syntax.tyPtr) List.[])))))))))))))))
+      Syntax.tyPtr,
+) (List._∷_ (12, Rows'.any-gone (Syntax.tyInt Syntax.w32)) (List._∷_ (13, Rows'.any-gone (Syntax.tyInt Syntax.w64)) (List._∷_ (14, Rows'.any-gone Syntax.tyPtr) (List._∷_ (
+  15,
+  Rows'.any-gone Syntax.tyPtr,
+) List.[])))))))))))))))
 
 abbrev pub t10 : List.List Row.Entry
 t10 = List._∷_ (0, Rows'.any-gone Syntax.tyUnit) (List._∷_ (1, Mut.mslice (Element.type) (Syntax.tyRef (Syntax.named 0) Syntax.mut Element.behind) 0) (List._∷_ (
@@ -529,26 +512,25 @@ t10 = List._∷_ (0, Rows'.any-gone Syntax.tyUnit) (List._∷_ (1, Mut.mslice (E
       Syntax.w64),
 ) (List._∷_ (
   3,
-  Rows'.any-gone (Syntax.tyStruct (List._∷_ 112 (List._∷_ 97 (List._∷_ 115 (List._∷_ 115 (List._∷_ 58 (List._∷_ 58 (List._∷_ 83 (List._∷_ 101 (List._∷_ 116 List.[])))))))))
-      (Syntax.tcons (Syntax.tyArray (Syntax.tyInt Syntax.w32) 112) (Syntax.tcons (Syntax.tyArray (Syntax.tyInt Syntax.w32) 112) Syntax.tnil))),
+  Rows'.any-gone (Syntax.tyStruct (List._∷_ 115 (List._∷_ 116 (List._∷_ 101 (List._∷_ 112 (List._∷_ 115 (List._∷_ 58 (List._∷_ 58 (List._∷_ 83 (List._∷_ 101 (List._∷_ 116
+      List.[])))))))))) (Syntax.tcons (Syntax.tyArray (Syntax.tyInt Syntax.w32) 112) (Syntax.tcons (Syntax.tyArray (Syntax.tyInt Syntax.w32) 112) Syntax.tnil))),
 ) (List._∷_ (
   4,
-  Rows'.any-gone (Syntax.tyArray (Syntax.tyInt
-      Syntax.w32) 112),
+  Rows'.any-gone
+      (Syntax.tyArray (Syntax.tyInt Syntax.w32) 112),
 ) (List._∷_ (5, Rows'.any-gone (Syntax.tyArray (Syntax.tyInt Syntax.w32) 112)) (List._∷_ (6, Rows'.sc-here (Row.sInt Syntax.w64)) (List._∷_ (
   7,
-  Rows'.any-gone (Syntax.tyStruct
-      (List._∷_ 115 (List._∷_ 116 (List._∷_ 97 (List._∷_ 116 (List._∷_ 105 (List._∷_ 115 (List._∷_ 116 (List._∷_ 105 (List._∷_ 99 (List._∷_ 115 (List._∷_ 58 (List._∷_ 58 (List._∷_ 82 (List._∷_ 101 (List._∷_
-      99 (List._∷_ 111 (List._∷_ 114 (List._∷_ 100 List.[])))))))))))))))))) (Syntax.tcons (Syntax.tyInt Syntax.w32) (Syntax.tcons (Syntax.tyInt Syntax.w32) Syntax.tnil))),
-) (List._∷_ (
-  8,
-  Rows'.sc-here
-      Row.sBool,
-) (List._∷_ (9, Rows'.any-gone (Syntax.tyInt Syntax.w64)) (List._∷_ (10, Rows'.any-gone Syntax.tyPtr) (List._∷_ (11, Rows'.any-gone Syntax.tyPtr) (List._∷_ (
-  12,
+  Rows'.any-gone (Syntax.tyStruct (List._∷_ 115 (List._∷_ 116 (List._∷_ 97 (List._∷_ 116 (List._∷_ 105 (List._∷_ 115 (List._∷_ 116 (List._∷_ 105 (List._∷_ 99 (List._∷_ 115 (List._∷_ 58 (List._∷_ 58
+      (List._∷_ 82 (List._∷_ 101 (List._∷_ 99 (List._∷_ 111 (List._∷_ 114 (List._∷_ 100 List.[])))))))))))))))))) (Syntax.tcons (Syntax.tyInt Syntax.w32) (Syntax.tcons (Syntax.tyInt Syntax.w32)
+      Syntax.tnil))),
+) (List._∷_ (8, Rows'.sc-here Row.sBool) (List._∷_ (9, Rows'.any-gone (Syntax.tyInt Syntax.w64)) (List._∷_ (10, Rows'.any-gone Syntax.tyPtr) (List._∷_ (
+  11,
   Rows'.any-gone
-      (Syntax.tyInt Syntax.w32),
-) (List._∷_ (13, Rows'.any-gone (Syntax.tyInt Syntax.w64)) (List._∷_ (14, Rows'.any-gone Syntax.tyPtr) (List._∷_ (15, Rows'.any-gone Syntax.tyPtr) List.[])))))))))))))))
+      Syntax.tyPtr,
+) (List._∷_ (12, Rows'.any-gone (Syntax.tyInt Syntax.w32)) (List._∷_ (13, Rows'.any-gone (Syntax.tyInt Syntax.w64)) (List._∷_ (14, Rows'.any-gone Syntax.tyPtr) (List._∷_ (
+  15,
+  Rows'.any-gone Syntax.tyPtr,
+) List.[])))))))))))))))
 
 abbrev pub t11 : List.List Row.Entry
 t11 = List._∷_ (0, Rows'.any-gone Syntax.tyUnit) (List._∷_ (1, Mut.mslice (Element.type) (Syntax.tyRef (Syntax.named 0) Syntax.mut Element.behind) 0) (List._∷_ (
@@ -557,26 +539,23 @@ t11 = List._∷_ (0, Rows'.any-gone Syntax.tyUnit) (List._∷_ (1, Mut.mslice (E
       Syntax.w64),
 ) (List._∷_ (
   3,
-  Rows'.any-gone (Syntax.tyStruct (List._∷_ 112 (List._∷_ 97 (List._∷_ 115 (List._∷_ 115 (List._∷_ 58 (List._∷_ 58 (List._∷_ 83 (List._∷_ 101 (List._∷_ 116 List.[])))))))))
-      (Syntax.tcons (Syntax.tyArray (Syntax.tyInt Syntax.w32) 112) (Syntax.tcons (Syntax.tyArray (Syntax.tyInt Syntax.w32) 112) Syntax.tnil))),
+  Rows'.any-gone (Syntax.tyStruct (List._∷_ 115 (List._∷_ 116 (List._∷_ 101 (List._∷_ 112 (List._∷_ 115 (List._∷_ 58 (List._∷_ 58 (List._∷_ 83 (List._∷_ 101 (List._∷_ 116
+      List.[])))))))))) (Syntax.tcons (Syntax.tyArray (Syntax.tyInt Syntax.w32) 112) (Syntax.tcons (Syntax.tyArray (Syntax.tyInt Syntax.w32) 112) Syntax.tnil))),
 ) (List._∷_ (
   4,
-  Rows.arrF (Referent.rtF (Referent.fInt
-      Syntax.w32)) 112 0,
+  Rows.arrF (Referent.rtF
+      (Referent.fInt Syntax.w32)) 112 0,
 ) (List._∷_ (5, Rows.arrF (Referent.rtF (Referent.fInt Syntax.w32)) 112 0) (List._∷_ (6, Rows'.sc-here (Row.sInt Syntax.w64)) (List._∷_ (
   7,
-  Rows'.any-gone (Syntax.tyStruct
-      (List._∷_ 115 (List._∷_ 116 (List._∷_ 97 (List._∷_ 116 (List._∷_ 105 (List._∷_ 115 (List._∷_ 116 (List._∷_ 105 (List._∷_ 99 (List._∷_ 115 (List._∷_ 58 (List._∷_ 58 (List._∷_ 82 (List._∷_ 101 (List._∷_
-      99 (List._∷_ 111 (List._∷_ 114 (List._∷_ 100 List.[])))))))))))))))))) (Syntax.tcons (Syntax.tyInt Syntax.w32) (Syntax.tcons (Syntax.tyInt Syntax.w32) Syntax.tnil))),
-) (List._∷_ (
-  8,
   Rows'.any-gone
-      Syntax.tyBool,
-) (List._∷_ (9, Rows'.sc-here (Row.sInt Syntax.w64)) (List._∷_ (10, Rows'.any-gone Syntax.tyPtr) (List._∷_ (11, Rows'.any-gone Syntax.tyPtr) (List._∷_ (
-  12,
-  Rows'.any-gone
-      (Syntax.tyInt Syntax.w32),
-) (List._∷_ (13, Rows'.any-gone (Syntax.tyInt Syntax.w64)) (List._∷_ (14, Rows'.any-gone Syntax.tyPtr) (List._∷_ (15, Rows'.any-gone Syntax.tyPtr) List.[])))))))))))))))
+      (Syntax.tyStruct (List._∷_ 115 (List._∷_ 116 (List._∷_ 97 (List._∷_ 116 (List._∷_ 105 (List._∷_ 115 (List._∷_ 116 (List._∷_ 105 (List._∷_ 99 (List._∷_ 115 (List._∷_ 58 (List._∷_ 58 (List._∷_ 82
+      (List._∷_ 101 (List._∷_ 99 (List._∷_ 111 (List._∷_ 114 (List._∷_ 100 List.[])))))))))))))))))) (Syntax.tcons (Syntax.tyInt Syntax.w32) (Syntax.tcons (Syntax.tyInt Syntax.w32) Syntax.tnil))),
+)
+    (List._∷_ (8, Rows'.any-gone Syntax.tyBool) (List._∷_ (9, Rows'.sc-here (Row.sInt Syntax.w64)) (List._∷_ (10, Rows'.any-gone Syntax.tyPtr) (List._∷_ (11, Rows'.any-gone Syntax.tyPtr) (List._∷_ (
+      12,
+      Rows'.any-gone (Syntax.tyInt Syntax.w32),
+    ) (List._∷_ (13, Rows'.any-gone (Syntax.tyInt Syntax.w64)) (List._∷_ (14, Rows'.any-gone Syntax.tyPtr) (List._∷_ (15, Rows'.any-gone Syntax.tyPtr)
+    List.[])))))))))))))))
 
 abbrev pub t12 : List.List Row.Entry
 t12 = List._∷_ (0, Rows'.any-gone Syntax.tyUnit) (List._∷_ (1, Mut.mslice (Element.type) (Syntax.tyRef (Syntax.named 0) Syntax.mut Element.behind) 0) (List._∷_ (
@@ -585,26 +564,23 @@ t12 = List._∷_ (0, Rows'.any-gone Syntax.tyUnit) (List._∷_ (1, Mut.mslice (E
       Syntax.w64),
 ) (List._∷_ (
   3,
-  Rows'.any-gone (Syntax.tyStruct (List._∷_ 112 (List._∷_ 97 (List._∷_ 115 (List._∷_ 115 (List._∷_ 58 (List._∷_ 58 (List._∷_ 83 (List._∷_ 101 (List._∷_ 116 List.[])))))))))
-      (Syntax.tcons (Syntax.tyArray (Syntax.tyInt Syntax.w32) 112) (Syntax.tcons (Syntax.tyArray (Syntax.tyInt Syntax.w32) 112) Syntax.tnil))),
+  Rows'.any-gone (Syntax.tyStruct (List._∷_ 115 (List._∷_ 116 (List._∷_ 101 (List._∷_ 112 (List._∷_ 115 (List._∷_ 58 (List._∷_ 58 (List._∷_ 83 (List._∷_ 101 (List._∷_ 116
+      List.[])))))))))) (Syntax.tcons (Syntax.tyArray (Syntax.tyInt Syntax.w32) 112) (Syntax.tcons (Syntax.tyArray (Syntax.tyInt Syntax.w32) 112) Syntax.tnil))),
 ) (List._∷_ (
   4,
-  Rows.arrF (Referent.rtF (Referent.fInt
-      Syntax.w32)) 112 0,
+  Rows.arrF (Referent.rtF
+      (Referent.fInt Syntax.w32)) 112 0,
 ) (List._∷_ (5, Rows.arrF (Referent.rtF (Referent.fInt Syntax.w32)) 112 0) (List._∷_ (6, Rows'.sc-here (Row.sInt Syntax.w64)) (List._∷_ (
   7,
-  Rows'.any-gone (Syntax.tyStruct
-      (List._∷_ 115 (List._∷_ 116 (List._∷_ 97 (List._∷_ 116 (List._∷_ 105 (List._∷_ 115 (List._∷_ 116 (List._∷_ 105 (List._∷_ 99 (List._∷_ 115 (List._∷_ 58 (List._∷_ 58 (List._∷_ 82 (List._∷_ 101 (List._∷_
-      99 (List._∷_ 111 (List._∷_ 114 (List._∷_ 100 List.[])))))))))))))))))) (Syntax.tcons (Syntax.tyInt Syntax.w32) (Syntax.tcons (Syntax.tyInt Syntax.w32) Syntax.tnil))),
-) (List._∷_ (
-  8,
   Rows'.any-gone
-      Syntax.tyBool,
-) (List._∷_ (9, Rows'.sc-here (Row.sInt Syntax.w64)) (List._∷_ (10, Rows'.sc-here Row.sPtr) (List._∷_ (11, Rows'.any-gone Syntax.tyPtr) (List._∷_ (
-  12,
-  Rows'.any-gone (Syntax.tyInt
-      Syntax.w32),
-) (List._∷_ (13, Rows'.any-gone (Syntax.tyInt Syntax.w64)) (List._∷_ (14, Rows'.any-gone Syntax.tyPtr) (List._∷_ (15, Rows'.any-gone Syntax.tyPtr) List.[])))))))))))))))
+      (Syntax.tyStruct (List._∷_ 115 (List._∷_ 116 (List._∷_ 97 (List._∷_ 116 (List._∷_ 105 (List._∷_ 115 (List._∷_ 116 (List._∷_ 105 (List._∷_ 99 (List._∷_ 115 (List._∷_ 58 (List._∷_ 58 (List._∷_ 82
+      (List._∷_ 101 (List._∷_ 99 (List._∷_ 111 (List._∷_ 114 (List._∷_ 100 List.[])))))))))))))))))) (Syntax.tcons (Syntax.tyInt Syntax.w32) (Syntax.tcons (Syntax.tyInt Syntax.w32) Syntax.tnil))),
+)
+    (List._∷_ (8, Rows'.any-gone Syntax.tyBool) (List._∷_ (9, Rows'.sc-here (Row.sInt Syntax.w64)) (List._∷_ (10, Rows'.sc-here Row.sPtr) (List._∷_ (11, Rows'.any-gone Syntax.tyPtr) (List._∷_ (
+      12,
+      Rows'.any-gone (Syntax.tyInt Syntax.w32),
+    ) (List._∷_ (13, Rows'.any-gone (Syntax.tyInt Syntax.w64)) (List._∷_ (14, Rows'.any-gone Syntax.tyPtr) (List._∷_ (15, Rows'.any-gone Syntax.tyPtr)
+    List.[])))))))))))))))
 
 abbrev pub t13 : List.List Row.Entry
 t13 = List._∷_ (0, Rows'.any-gone Syntax.tyUnit) (List._∷_ (1, Mut.mslice (Element.type) (Syntax.tyRef (Syntax.named 0) Syntax.mut Element.behind) 0) (List._∷_ (
@@ -613,26 +589,23 @@ t13 = List._∷_ (0, Rows'.any-gone Syntax.tyUnit) (List._∷_ (1, Mut.mslice (E
       Syntax.w64),
 ) (List._∷_ (
   3,
-  Rows'.any-gone (Syntax.tyStruct (List._∷_ 112 (List._∷_ 97 (List._∷_ 115 (List._∷_ 115 (List._∷_ 58 (List._∷_ 58 (List._∷_ 83 (List._∷_ 101 (List._∷_ 116 List.[])))))))))
-      (Syntax.tcons (Syntax.tyArray (Syntax.tyInt Syntax.w32) 112) (Syntax.tcons (Syntax.tyArray (Syntax.tyInt Syntax.w32) 112) Syntax.tnil))),
+  Rows'.any-gone (Syntax.tyStruct (List._∷_ 115 (List._∷_ 116 (List._∷_ 101 (List._∷_ 112 (List._∷_ 115 (List._∷_ 58 (List._∷_ 58 (List._∷_ 83 (List._∷_ 101 (List._∷_ 116
+      List.[])))))))))) (Syntax.tcons (Syntax.tyArray (Syntax.tyInt Syntax.w32) 112) (Syntax.tcons (Syntax.tyArray (Syntax.tyInt Syntax.w32) 112) Syntax.tnil))),
 ) (List._∷_ (
   4,
-  Rows.arrF (Referent.rtF (Referent.fInt
-      Syntax.w32)) 112 0,
+  Rows.arrF (Referent.rtF
+      (Referent.fInt Syntax.w32)) 112 0,
 ) (List._∷_ (5, Rows.arrF (Referent.rtF (Referent.fInt Syntax.w32)) 112 0) (List._∷_ (6, Rows'.sc-here (Row.sInt Syntax.w64)) (List._∷_ (
   7,
-  Rows'.any-gone (Syntax.tyStruct
-      (List._∷_ 115 (List._∷_ 116 (List._∷_ 97 (List._∷_ 116 (List._∷_ 105 (List._∷_ 115 (List._∷_ 116 (List._∷_ 105 (List._∷_ 99 (List._∷_ 115 (List._∷_ 58 (List._∷_ 58 (List._∷_ 82 (List._∷_ 101 (List._∷_
-      99 (List._∷_ 111 (List._∷_ 114 (List._∷_ 100 List.[])))))))))))))))))) (Syntax.tcons (Syntax.tyInt Syntax.w32) (Syntax.tcons (Syntax.tyInt Syntax.w32) Syntax.tnil))),
-) (List._∷_ (
-  8,
   Rows'.any-gone
-      Syntax.tyBool,
-) (List._∷_ (9, Rows'.sc-here (Row.sInt Syntax.w64)) (List._∷_ (10, Rows'.sc-here Row.sPtr) (List._∷_ (11, Rows'.sc-here Row.sPtr) (List._∷_ (
-  12,
-  Rows'.any-gone (Syntax.tyInt
-      Syntax.w32),
-) (List._∷_ (13, Rows'.any-gone (Syntax.tyInt Syntax.w64)) (List._∷_ (14, Rows'.any-gone Syntax.tyPtr) (List._∷_ (15, Rows'.any-gone Syntax.tyPtr) List.[])))))))))))))))
+      (Syntax.tyStruct (List._∷_ 115 (List._∷_ 116 (List._∷_ 97 (List._∷_ 116 (List._∷_ 105 (List._∷_ 115 (List._∷_ 116 (List._∷_ 105 (List._∷_ 99 (List._∷_ 115 (List._∷_ 58 (List._∷_ 58 (List._∷_ 82
+      (List._∷_ 101 (List._∷_ 99 (List._∷_ 111 (List._∷_ 114 (List._∷_ 100 List.[])))))))))))))))))) (Syntax.tcons (Syntax.tyInt Syntax.w32) (Syntax.tcons (Syntax.tyInt Syntax.w32) Syntax.tnil))),
+)
+    (List._∷_ (8, Rows'.any-gone Syntax.tyBool) (List._∷_ (9, Rows'.sc-here (Row.sInt Syntax.w64)) (List._∷_ (10, Rows'.sc-here Row.sPtr) (List._∷_ (11, Rows'.sc-here Row.sPtr) (List._∷_ (
+      12,
+      Rows'.any-gone (Syntax.tyInt Syntax.w32),
+    ) (List._∷_ (13, Rows'.any-gone (Syntax.tyInt Syntax.w64)) (List._∷_ (14, Rows'.any-gone Syntax.tyPtr) (List._∷_ (15, Rows'.any-gone Syntax.tyPtr)
+    List.[])))))))))))))))
 
 abbrev pub t14 : List.List Row.Entry
 t14 = List._∷_ (0, Rows'.any-gone Syntax.tyUnit) (List._∷_ (1, Mut.mslice (Element.type) (Syntax.tyRef (Syntax.named 0) Syntax.mut Element.behind) 0) (List._∷_ (
@@ -641,26 +614,23 @@ t14 = List._∷_ (0, Rows'.any-gone Syntax.tyUnit) (List._∷_ (1, Mut.mslice (E
       Syntax.w64),
 ) (List._∷_ (
   3,
-  Rows'.any-gone (Syntax.tyStruct (List._∷_ 112 (List._∷_ 97 (List._∷_ 115 (List._∷_ 115 (List._∷_ 58 (List._∷_ 58 (List._∷_ 83 (List._∷_ 101 (List._∷_ 116 List.[])))))))))
-      (Syntax.tcons (Syntax.tyArray (Syntax.tyInt Syntax.w32) 112) (Syntax.tcons (Syntax.tyArray (Syntax.tyInt Syntax.w32) 112) Syntax.tnil))),
+  Rows'.any-gone (Syntax.tyStruct (List._∷_ 115 (List._∷_ 116 (List._∷_ 101 (List._∷_ 112 (List._∷_ 115 (List._∷_ 58 (List._∷_ 58 (List._∷_ 83 (List._∷_ 101 (List._∷_ 116
+      List.[])))))))))) (Syntax.tcons (Syntax.tyArray (Syntax.tyInt Syntax.w32) 112) (Syntax.tcons (Syntax.tyArray (Syntax.tyInt Syntax.w32) 112) Syntax.tnil))),
 ) (List._∷_ (
   4,
-  Rows.arrF (Referent.rtF (Referent.fInt
-      Syntax.w32)) 112 0,
+  Rows.arrF (Referent.rtF
+      (Referent.fInt Syntax.w32)) 112 0,
 ) (List._∷_ (5, Rows.arrF (Referent.rtF (Referent.fInt Syntax.w32)) 112 0) (List._∷_ (6, Rows'.sc-here (Row.sInt Syntax.w64)) (List._∷_ (
   7,
-  Rows'.any-gone (Syntax.tyStruct
-      (List._∷_ 115 (List._∷_ 116 (List._∷_ 97 (List._∷_ 116 (List._∷_ 105 (List._∷_ 115 (List._∷_ 116 (List._∷_ 105 (List._∷_ 99 (List._∷_ 115 (List._∷_ 58 (List._∷_ 58 (List._∷_ 82 (List._∷_ 101 (List._∷_
-      99 (List._∷_ 111 (List._∷_ 114 (List._∷_ 100 List.[])))))))))))))))))) (Syntax.tcons (Syntax.tyInt Syntax.w32) (Syntax.tcons (Syntax.tyInt Syntax.w32) Syntax.tnil))),
-) (List._∷_ (
-  8,
   Rows'.any-gone
-      Syntax.tyBool,
-) (List._∷_ (9, Rows'.sc-here (Row.sInt Syntax.w64)) (List._∷_ (10, Rows'.any-gone Syntax.tyPtr) (List._∷_ (11, Rows'.sc-here Row.sPtr) (List._∷_ (
-  12,
-  Rows'.any-gone (Syntax.tyInt
-      Syntax.w32),
-) (List._∷_ (13, Rows'.any-gone (Syntax.tyInt Syntax.w64)) (List._∷_ (14, Rows'.any-gone Syntax.tyPtr) (List._∷_ (15, Rows'.any-gone Syntax.tyPtr) List.[])))))))))))))))
+      (Syntax.tyStruct (List._∷_ 115 (List._∷_ 116 (List._∷_ 97 (List._∷_ 116 (List._∷_ 105 (List._∷_ 115 (List._∷_ 116 (List._∷_ 105 (List._∷_ 99 (List._∷_ 115 (List._∷_ 58 (List._∷_ 58 (List._∷_ 82
+      (List._∷_ 101 (List._∷_ 99 (List._∷_ 111 (List._∷_ 114 (List._∷_ 100 List.[])))))))))))))))))) (Syntax.tcons (Syntax.tyInt Syntax.w32) (Syntax.tcons (Syntax.tyInt Syntax.w32) Syntax.tnil))),
+)
+    (List._∷_ (8, Rows'.any-gone Syntax.tyBool) (List._∷_ (9, Rows'.sc-here (Row.sInt Syntax.w64)) (List._∷_ (10, Rows'.any-gone Syntax.tyPtr) (List._∷_ (11, Rows'.sc-here Row.sPtr) (List._∷_ (
+      12,
+      Rows'.any-gone (Syntax.tyInt Syntax.w32),
+    ) (List._∷_ (13, Rows'.any-gone (Syntax.tyInt Syntax.w64)) (List._∷_ (14, Rows'.any-gone Syntax.tyPtr) (List._∷_ (15, Rows'.any-gone Syntax.tyPtr)
+    List.[])))))))))))))))
 
 abbrev pub t15 : List.List Row.Entry
 t15 = List._∷_ (0, Rows'.any-gone Syntax.tyUnit) (List._∷_ (1, Mut.mslice (Element.type) (Syntax.tyRef (Syntax.named 0) Syntax.mut Element.behind) 0) (List._∷_ (
@@ -669,26 +639,23 @@ t15 = List._∷_ (0, Rows'.any-gone Syntax.tyUnit) (List._∷_ (1, Mut.mslice (E
       Syntax.w64),
 ) (List._∷_ (
   3,
-  Rows'.any-gone (Syntax.tyStruct (List._∷_ 112 (List._∷_ 97 (List._∷_ 115 (List._∷_ 115 (List._∷_ 58 (List._∷_ 58 (List._∷_ 83 (List._∷_ 101 (List._∷_ 116 List.[])))))))))
-      (Syntax.tcons (Syntax.tyArray (Syntax.tyInt Syntax.w32) 112) (Syntax.tcons (Syntax.tyArray (Syntax.tyInt Syntax.w32) 112) Syntax.tnil))),
+  Rows'.any-gone (Syntax.tyStruct (List._∷_ 115 (List._∷_ 116 (List._∷_ 101 (List._∷_ 112 (List._∷_ 115 (List._∷_ 58 (List._∷_ 58 (List._∷_ 83 (List._∷_ 101 (List._∷_ 116
+      List.[])))))))))) (Syntax.tcons (Syntax.tyArray (Syntax.tyInt Syntax.w32) 112) (Syntax.tcons (Syntax.tyArray (Syntax.tyInt Syntax.w32) 112) Syntax.tnil))),
 ) (List._∷_ (
   4,
-  Rows.arrF (Referent.rtF (Referent.fInt
-      Syntax.w32)) 112 0,
+  Rows.arrF (Referent.rtF
+      (Referent.fInt Syntax.w32)) 112 0,
 ) (List._∷_ (5, Rows.arrF (Referent.rtF (Referent.fInt Syntax.w32)) 112 0) (List._∷_ (6, Rows'.sc-here (Row.sInt Syntax.w64)) (List._∷_ (
   7,
-  Rows'.any-gone (Syntax.tyStruct
-      (List._∷_ 115 (List._∷_ 116 (List._∷_ 97 (List._∷_ 116 (List._∷_ 105 (List._∷_ 115 (List._∷_ 116 (List._∷_ 105 (List._∷_ 99 (List._∷_ 115 (List._∷_ 58 (List._∷_ 58 (List._∷_ 82 (List._∷_ 101 (List._∷_
-      99 (List._∷_ 111 (List._∷_ 114 (List._∷_ 100 List.[])))))))))))))))))) (Syntax.tcons (Syntax.tyInt Syntax.w32) (Syntax.tcons (Syntax.tyInt Syntax.w32) Syntax.tnil))),
-) (List._∷_ (
-  8,
   Rows'.any-gone
-      Syntax.tyBool,
-) (List._∷_ (9, Rows'.sc-here (Row.sInt Syntax.w64)) (List._∷_ (10, Rows'.any-gone Syntax.tyPtr) (List._∷_ (11, Rows'.sc-here Row.sPtr) (List._∷_ (
-  12,
-  Rows'.sc-here (Row.sInt
-      Syntax.w32),
-) (List._∷_ (13, Rows'.any-gone (Syntax.tyInt Syntax.w64)) (List._∷_ (14, Rows'.any-gone Syntax.tyPtr) (List._∷_ (15, Rows'.any-gone Syntax.tyPtr) List.[])))))))))))))))
+      (Syntax.tyStruct (List._∷_ 115 (List._∷_ 116 (List._∷_ 97 (List._∷_ 116 (List._∷_ 105 (List._∷_ 115 (List._∷_ 116 (List._∷_ 105 (List._∷_ 99 (List._∷_ 115 (List._∷_ 58 (List._∷_ 58 (List._∷_ 82
+      (List._∷_ 101 (List._∷_ 99 (List._∷_ 111 (List._∷_ 114 (List._∷_ 100 List.[])))))))))))))))))) (Syntax.tcons (Syntax.tyInt Syntax.w32) (Syntax.tcons (Syntax.tyInt Syntax.w32) Syntax.tnil))),
+)
+    (List._∷_ (8, Rows'.any-gone Syntax.tyBool) (List._∷_ (9, Rows'.sc-here (Row.sInt Syntax.w64)) (List._∷_ (10, Rows'.any-gone Syntax.tyPtr) (List._∷_ (11, Rows'.sc-here Row.sPtr) (List._∷_ (
+      12,
+      Rows'.sc-here (Row.sInt Syntax.w32),
+    ) (List._∷_ (13, Rows'.any-gone (Syntax.tyInt Syntax.w64)) (List._∷_ (14, Rows'.any-gone Syntax.tyPtr) (List._∷_ (15, Rows'.any-gone Syntax.tyPtr)
+    List.[])))))))))))))))
 
 abbrev pub t16 : List.List Row.Entry
 t16 = List._∷_ (0, Rows'.any-gone Syntax.tyUnit) (List._∷_ (1, Mut.mslice (Element.type) (Syntax.tyRef (Syntax.named 0) Syntax.mut Element.behind) 0) (List._∷_ (
@@ -697,26 +664,23 @@ t16 = List._∷_ (0, Rows'.any-gone Syntax.tyUnit) (List._∷_ (1, Mut.mslice (E
       Syntax.w64),
 ) (List._∷_ (
   3,
-  Rows'.any-gone (Syntax.tyStruct (List._∷_ 112 (List._∷_ 97 (List._∷_ 115 (List._∷_ 115 (List._∷_ 58 (List._∷_ 58 (List._∷_ 83 (List._∷_ 101 (List._∷_ 116 List.[])))))))))
-      (Syntax.tcons (Syntax.tyArray (Syntax.tyInt Syntax.w32) 112) (Syntax.tcons (Syntax.tyArray (Syntax.tyInt Syntax.w32) 112) Syntax.tnil))),
+  Rows'.any-gone (Syntax.tyStruct (List._∷_ 115 (List._∷_ 116 (List._∷_ 101 (List._∷_ 112 (List._∷_ 115 (List._∷_ 58 (List._∷_ 58 (List._∷_ 83 (List._∷_ 101 (List._∷_ 116
+      List.[])))))))))) (Syntax.tcons (Syntax.tyArray (Syntax.tyInt Syntax.w32) 112) (Syntax.tcons (Syntax.tyArray (Syntax.tyInt Syntax.w32) 112) Syntax.tnil))),
 ) (List._∷_ (
   4,
-  Rows.arrF (Referent.rtF (Referent.fInt
-      Syntax.w32)) 112 0,
+  Rows.arrF (Referent.rtF
+      (Referent.fInt Syntax.w32)) 112 0,
 ) (List._∷_ (5, Rows.arrF (Referent.rtF (Referent.fInt Syntax.w32)) 112 0) (List._∷_ (6, Rows'.sc-here (Row.sInt Syntax.w64)) (List._∷_ (
   7,
-  Rows'.any-gone (Syntax.tyStruct
-      (List._∷_ 115 (List._∷_ 116 (List._∷_ 97 (List._∷_ 116 (List._∷_ 105 (List._∷_ 115 (List._∷_ 116 (List._∷_ 105 (List._∷_ 99 (List._∷_ 115 (List._∷_ 58 (List._∷_ 58 (List._∷_ 82 (List._∷_ 101 (List._∷_
-      99 (List._∷_ 111 (List._∷_ 114 (List._∷_ 100 List.[])))))))))))))))))) (Syntax.tcons (Syntax.tyInt Syntax.w32) (Syntax.tcons (Syntax.tyInt Syntax.w32) Syntax.tnil))),
-) (List._∷_ (
-  8,
   Rows'.any-gone
-      Syntax.tyBool,
-) (List._∷_ (9, Rows'.any-gone (Syntax.tyInt Syntax.w64)) (List._∷_ (10, Rows'.any-gone Syntax.tyPtr) (List._∷_ (11, Rows'.sc-here Row.sPtr) (List._∷_ (
-  12,
-  Rows'.sc-here (Row.sInt
-      Syntax.w32),
-) (List._∷_ (13, Rows'.any-gone (Syntax.tyInt Syntax.w64)) (List._∷_ (14, Rows'.any-gone Syntax.tyPtr) (List._∷_ (15, Rows'.any-gone Syntax.tyPtr) List.[])))))))))))))))
+      (Syntax.tyStruct (List._∷_ 115 (List._∷_ 116 (List._∷_ 97 (List._∷_ 116 (List._∷_ 105 (List._∷_ 115 (List._∷_ 116 (List._∷_ 105 (List._∷_ 99 (List._∷_ 115 (List._∷_ 58 (List._∷_ 58 (List._∷_ 82
+      (List._∷_ 101 (List._∷_ 99 (List._∷_ 111 (List._∷_ 114 (List._∷_ 100 List.[])))))))))))))))))) (Syntax.tcons (Syntax.tyInt Syntax.w32) (Syntax.tcons (Syntax.tyInt Syntax.w32) Syntax.tnil))),
+)
+    (List._∷_ (8, Rows'.any-gone Syntax.tyBool) (List._∷_ (9, Rows'.any-gone (Syntax.tyInt Syntax.w64)) (List._∷_ (10, Rows'.any-gone Syntax.tyPtr) (List._∷_ (11, Rows'.sc-here Row.sPtr) (List._∷_ (
+      12,
+      Rows'.sc-here (Row.sInt Syntax.w32),
+    ) (List._∷_ (13, Rows'.any-gone (Syntax.tyInt Syntax.w64)) (List._∷_ (14, Rows'.any-gone Syntax.tyPtr) (List._∷_ (15, Rows'.any-gone Syntax.tyPtr)
+    List.[])))))))))))))))
 
 abbrev pub t17 : List.List Row.Entry
 t17 = List._∷_ (0, Rows'.any-gone Syntax.tyUnit) (List._∷_ (1, Mut.mslice (Element.type) (Syntax.tyRef (Syntax.named 0) Syntax.mut Element.behind) 0) (List._∷_ (
@@ -725,26 +689,21 @@ t17 = List._∷_ (0, Rows'.any-gone Syntax.tyUnit) (List._∷_ (1, Mut.mslice (E
       Syntax.w64),
 ) (List._∷_ (
   3,
-  Rows'.any-gone (Syntax.tyStruct (List._∷_ 112 (List._∷_ 97 (List._∷_ 115 (List._∷_ 115 (List._∷_ 58 (List._∷_ 58 (List._∷_ 83 (List._∷_ 101 (List._∷_ 116 List.[])))))))))
-      (Syntax.tcons (Syntax.tyArray (Syntax.tyInt Syntax.w32) 112) (Syntax.tcons (Syntax.tyArray (Syntax.tyInt Syntax.w32) 112) Syntax.tnil))),
+  Rows'.any-gone (Syntax.tyStruct (List._∷_ 115 (List._∷_ 116 (List._∷_ 101 (List._∷_ 112 (List._∷_ 115 (List._∷_ 58 (List._∷_ 58 (List._∷_ 83 (List._∷_ 101 (List._∷_ 116
+      List.[])))))))))) (Syntax.tcons (Syntax.tyArray (Syntax.tyInt Syntax.w32) 112) (Syntax.tcons (Syntax.tyArray (Syntax.tyInt Syntax.w32) 112) Syntax.tnil))),
 ) (List._∷_ (
   4,
-  Rows.arrF (Referent.rtF (Referent.fInt
-      Syntax.w32)) 112 0,
+  Rows.arrF (Referent.rtF
+      (Referent.fInt Syntax.w32)) 112 0,
 ) (List._∷_ (5, Rows.arrF (Referent.rtF (Referent.fInt Syntax.w32)) 112 0) (List._∷_ (6, Rows'.sc-here (Row.sInt Syntax.w64)) (List._∷_ (
   7,
-  Rows'.any-gone (Syntax.tyStruct
-      (List._∷_ 115 (List._∷_ 116 (List._∷_ 97 (List._∷_ 116 (List._∷_ 105 (List._∷_ 115 (List._∷_ 116 (List._∷_ 105 (List._∷_ 99 (List._∷_ 115 (List._∷_ 58 (List._∷_ 58 (List._∷_ 82 (List._∷_ 101 (List._∷_
-      99 (List._∷_ 111 (List._∷_ 114 (List._∷_ 100 List.[])))))))))))))))))) (Syntax.tcons (Syntax.tyInt Syntax.w32) (Syntax.tcons (Syntax.tyInt Syntax.w32) Syntax.tnil))),
-) (List._∷_ (
-  8,
   Rows'.any-gone
-      Syntax.tyBool,
-) (List._∷_ (9, Rows'.any-gone (Syntax.tyInt Syntax.w64)) (List._∷_ (10, Rows'.any-gone Syntax.tyPtr) (List._∷_ (11, Rows'.any-gone Syntax.tyPtr) (List._∷_ (
-  12,
-  Rows'.sc-here
-      (Row.sInt Syntax.w32),
-) (List._∷_ (13, Rows'.any-gone (Syntax.tyInt Syntax.w64)) (List._∷_ (14, Rows'.any-gone Syntax.tyPtr) (List._∷_ (15, Rows'.any-gone Syntax.tyPtr) List.[])))))))))))))))
+      (Syntax.tyStruct (List._∷_ 115 (List._∷_ 116 (List._∷_ 97 (List._∷_ 116 (List._∷_ 105 (List._∷_ 115 (List._∷_ 116 (List._∷_ 105 (List._∷_ 99 (List._∷_ 115 (List._∷_ 58 (List._∷_ 58 (List._∷_ 82
+      (List._∷_ 101 (List._∷_ 99 (List._∷_ 111 (List._∷_ 114 (List._∷_ 100 List.[])))))))))))))))))) (Syntax.tcons (Syntax.tyInt Syntax.w32) (Syntax.tcons (Syntax.tyInt Syntax.w32) Syntax.tnil))),
+)
+    (List._∷_ (8, Rows'.any-gone Syntax.tyBool) (List._∷_ (9, Rows'.any-gone (Syntax.tyInt Syntax.w64)) (List._∷_ (10, Rows'.any-gone Syntax.tyPtr) (List._∷_ (11, Rows'.any-gone Syntax.tyPtr) (List._∷_
+    (12, Rows'.sc-here (Row.sInt Syntax.w32)) (List._∷_ (13, Rows'.any-gone (Syntax.tyInt Syntax.w64)) (List._∷_ (14, Rows'.any-gone Syntax.tyPtr) (List._∷_ (15, Rows'.any-gone Syntax.tyPtr)
+    List.[])))))))))))))))
 
 abbrev pub t18 : List.List Row.Entry
 t18 = List._∷_ (0, Rows'.any-gone Syntax.tyUnit) (List._∷_ (1, Mut.mslice (Element.type) (Syntax.tyRef (Syntax.named 0) Syntax.mut Element.behind) 0) (List._∷_ (
@@ -753,26 +712,21 @@ t18 = List._∷_ (0, Rows'.any-gone Syntax.tyUnit) (List._∷_ (1, Mut.mslice (E
       Syntax.w64),
 ) (List._∷_ (
   3,
-  Rows'.any-gone (Syntax.tyStruct (List._∷_ 112 (List._∷_ 97 (List._∷_ 115 (List._∷_ 115 (List._∷_ 58 (List._∷_ 58 (List._∷_ 83 (List._∷_ 101 (List._∷_ 116 List.[])))))))))
-      (Syntax.tcons (Syntax.tyArray (Syntax.tyInt Syntax.w32) 112) (Syntax.tcons (Syntax.tyArray (Syntax.tyInt Syntax.w32) 112) Syntax.tnil))),
+  Rows'.any-gone (Syntax.tyStruct (List._∷_ 115 (List._∷_ 116 (List._∷_ 101 (List._∷_ 112 (List._∷_ 115 (List._∷_ 58 (List._∷_ 58 (List._∷_ 83 (List._∷_ 101 (List._∷_ 116
+      List.[])))))))))) (Syntax.tcons (Syntax.tyArray (Syntax.tyInt Syntax.w32) 112) (Syntax.tcons (Syntax.tyArray (Syntax.tyInt Syntax.w32) 112) Syntax.tnil))),
 ) (List._∷_ (
   4,
-  Rows.arrF (Referent.rtF (Referent.fInt
-      Syntax.w32)) 112 0,
+  Rows.arrF (Referent.rtF
+      (Referent.fInt Syntax.w32)) 112 0,
 ) (List._∷_ (5, Rows.arrF (Referent.rtF (Referent.fInt Syntax.w32)) 112 0) (List._∷_ (6, Rows'.sc-here (Row.sInt Syntax.w64)) (List._∷_ (
   7,
-  Rows'.any-gone (Syntax.tyStruct
-      (List._∷_ 115 (List._∷_ 116 (List._∷_ 97 (List._∷_ 116 (List._∷_ 105 (List._∷_ 115 (List._∷_ 116 (List._∷_ 105 (List._∷_ 99 (List._∷_ 115 (List._∷_ 58 (List._∷_ 58 (List._∷_ 82 (List._∷_ 101 (List._∷_
-      99 (List._∷_ 111 (List._∷_ 114 (List._∷_ 100 List.[])))))))))))))))))) (Syntax.tcons (Syntax.tyInt Syntax.w32) (Syntax.tcons (Syntax.tyInt Syntax.w32) Syntax.tnil))),
-) (List._∷_ (
-  8,
   Rows'.any-gone
-      Syntax.tyBool,
-) (List._∷_ (9, Rows'.any-gone (Syntax.tyInt Syntax.w64)) (List._∷_ (10, Rows'.any-gone Syntax.tyPtr) (List._∷_ (11, Rows'.any-gone Syntax.tyPtr) (List._∷_ (
-  12,
-  Rows'.sc-here
-      (Row.sInt Syntax.w32),
-) (List._∷_ (13, Rows'.sc-here (Row.sInt Syntax.w64)) (List._∷_ (14, Rows'.any-gone Syntax.tyPtr) (List._∷_ (15, Rows'.any-gone Syntax.tyPtr) List.[])))))))))))))))
+      (Syntax.tyStruct (List._∷_ 115 (List._∷_ 116 (List._∷_ 97 (List._∷_ 116 (List._∷_ 105 (List._∷_ 115 (List._∷_ 116 (List._∷_ 105 (List._∷_ 99 (List._∷_ 115 (List._∷_ 58 (List._∷_ 58 (List._∷_ 82
+      (List._∷_ 101 (List._∷_ 99 (List._∷_ 111 (List._∷_ 114 (List._∷_ 100 List.[])))))))))))))))))) (Syntax.tcons (Syntax.tyInt Syntax.w32) (Syntax.tcons (Syntax.tyInt Syntax.w32) Syntax.tnil))),
+)
+    (List._∷_ (8, Rows'.any-gone Syntax.tyBool) (List._∷_ (9, Rows'.any-gone (Syntax.tyInt Syntax.w64)) (List._∷_ (10, Rows'.any-gone Syntax.tyPtr) (List._∷_ (11, Rows'.any-gone Syntax.tyPtr) (List._∷_
+    (12, Rows'.sc-here (Row.sInt Syntax.w32)) (List._∷_ (13, Rows'.sc-here (Row.sInt Syntax.w64)) (List._∷_ (14, Rows'.any-gone Syntax.tyPtr) (List._∷_ (15, Rows'.any-gone Syntax.tyPtr)
+    List.[])))))))))))))))
 
 abbrev pub t19 : List.List Row.Entry
 t19 = List._∷_ (0, Rows'.any-gone Syntax.tyUnit) (List._∷_ (1, Mut.mslice (Element.type) (Syntax.tyRef (Syntax.named 0) Syntax.mut Element.behind) 0) (List._∷_ (
@@ -781,26 +735,21 @@ t19 = List._∷_ (0, Rows'.any-gone Syntax.tyUnit) (List._∷_ (1, Mut.mslice (E
       Syntax.w64),
 ) (List._∷_ (
   3,
-  Rows'.any-gone (Syntax.tyStruct (List._∷_ 112 (List._∷_ 97 (List._∷_ 115 (List._∷_ 115 (List._∷_ 58 (List._∷_ 58 (List._∷_ 83 (List._∷_ 101 (List._∷_ 116 List.[])))))))))
-      (Syntax.tcons (Syntax.tyArray (Syntax.tyInt Syntax.w32) 112) (Syntax.tcons (Syntax.tyArray (Syntax.tyInt Syntax.w32) 112) Syntax.tnil))),
+  Rows'.any-gone (Syntax.tyStruct (List._∷_ 115 (List._∷_ 116 (List._∷_ 101 (List._∷_ 112 (List._∷_ 115 (List._∷_ 58 (List._∷_ 58 (List._∷_ 83 (List._∷_ 101 (List._∷_ 116
+      List.[])))))))))) (Syntax.tcons (Syntax.tyArray (Syntax.tyInt Syntax.w32) 112) (Syntax.tcons (Syntax.tyArray (Syntax.tyInt Syntax.w32) 112) Syntax.tnil))),
 ) (List._∷_ (
   4,
-  Rows.arrF (Referent.rtF (Referent.fInt
-      Syntax.w32)) 112 0,
+  Rows.arrF (Referent.rtF
+      (Referent.fInt Syntax.w32)) 112 0,
 ) (List._∷_ (5, Rows.arrF (Referent.rtF (Referent.fInt Syntax.w32)) 112 0) (List._∷_ (6, Rows'.sc-here (Row.sInt Syntax.w64)) (List._∷_ (
   7,
-  Rows'.any-gone (Syntax.tyStruct
-      (List._∷_ 115 (List._∷_ 116 (List._∷_ 97 (List._∷_ 116 (List._∷_ 105 (List._∷_ 115 (List._∷_ 116 (List._∷_ 105 (List._∷_ 99 (List._∷_ 115 (List._∷_ 58 (List._∷_ 58 (List._∷_ 82 (List._∷_ 101 (List._∷_
-      99 (List._∷_ 111 (List._∷_ 114 (List._∷_ 100 List.[])))))))))))))))))) (Syntax.tcons (Syntax.tyInt Syntax.w32) (Syntax.tcons (Syntax.tyInt Syntax.w32) Syntax.tnil))),
-) (List._∷_ (
-  8,
   Rows'.any-gone
-      Syntax.tyBool,
-) (List._∷_ (9, Rows'.any-gone (Syntax.tyInt Syntax.w64)) (List._∷_ (10, Rows'.any-gone Syntax.tyPtr) (List._∷_ (11, Rows'.any-gone Syntax.tyPtr) (List._∷_ (
-  12,
-  Rows'.sc-here
-      (Row.sInt Syntax.w32),
-) (List._∷_ (13, Rows'.sc-here (Row.sInt Syntax.w64)) (List._∷_ (14, Rows'.sc-here Row.sPtr) (List._∷_ (15, Rows'.any-gone Syntax.tyPtr) List.[])))))))))))))))
+      (Syntax.tyStruct (List._∷_ 115 (List._∷_ 116 (List._∷_ 97 (List._∷_ 116 (List._∷_ 105 (List._∷_ 115 (List._∷_ 116 (List._∷_ 105 (List._∷_ 99 (List._∷_ 115 (List._∷_ 58 (List._∷_ 58 (List._∷_ 82
+      (List._∷_ 101 (List._∷_ 99 (List._∷_ 111 (List._∷_ 114 (List._∷_ 100 List.[])))))))))))))))))) (Syntax.tcons (Syntax.tyInt Syntax.w32) (Syntax.tcons (Syntax.tyInt Syntax.w32) Syntax.tnil))),
+)
+    (List._∷_ (8, Rows'.any-gone Syntax.tyBool) (List._∷_ (9, Rows'.any-gone (Syntax.tyInt Syntax.w64)) (List._∷_ (10, Rows'.any-gone Syntax.tyPtr) (List._∷_ (11, Rows'.any-gone Syntax.tyPtr) (List._∷_
+    (12, Rows'.sc-here (Row.sInt Syntax.w32)) (List._∷_ (13, Rows'.sc-here (Row.sInt Syntax.w64)) (List._∷_ (14, Rows'.sc-here Row.sPtr) (List._∷_ (15, Rows'.any-gone Syntax.tyPtr)
+    List.[])))))))))))))))
 
 abbrev pub t20 : List.List Row.Entry
 t20 = List._∷_ (0, Rows'.any-gone Syntax.tyUnit) (List._∷_ (1, Mut.mslice (Element.type) (Syntax.tyRef (Syntax.named 0) Syntax.mut Element.behind) 0) (List._∷_ (
@@ -809,26 +758,20 @@ t20 = List._∷_ (0, Rows'.any-gone Syntax.tyUnit) (List._∷_ (1, Mut.mslice (E
       Syntax.w64),
 ) (List._∷_ (
   3,
-  Rows'.any-gone (Syntax.tyStruct (List._∷_ 112 (List._∷_ 97 (List._∷_ 115 (List._∷_ 115 (List._∷_ 58 (List._∷_ 58 (List._∷_ 83 (List._∷_ 101 (List._∷_ 116 List.[])))))))))
-      (Syntax.tcons (Syntax.tyArray (Syntax.tyInt Syntax.w32) 112) (Syntax.tcons (Syntax.tyArray (Syntax.tyInt Syntax.w32) 112) Syntax.tnil))),
+  Rows'.any-gone (Syntax.tyStruct (List._∷_ 115 (List._∷_ 116 (List._∷_ 101 (List._∷_ 112 (List._∷_ 115 (List._∷_ 58 (List._∷_ 58 (List._∷_ 83 (List._∷_ 101 (List._∷_ 116
+      List.[])))))))))) (Syntax.tcons (Syntax.tyArray (Syntax.tyInt Syntax.w32) 112) (Syntax.tcons (Syntax.tyArray (Syntax.tyInt Syntax.w32) 112) Syntax.tnil))),
 ) (List._∷_ (
   4,
-  Rows.arrF (Referent.rtF (Referent.fInt
-      Syntax.w32)) 112 0,
+  Rows.arrF (Referent.rtF
+      (Referent.fInt Syntax.w32)) 112 0,
 ) (List._∷_ (5, Rows.arrF (Referent.rtF (Referent.fInt Syntax.w32)) 112 0) (List._∷_ (6, Rows'.sc-here (Row.sInt Syntax.w64)) (List._∷_ (
   7,
-  Rows'.any-gone (Syntax.tyStruct
-      (List._∷_ 115 (List._∷_ 116 (List._∷_ 97 (List._∷_ 116 (List._∷_ 105 (List._∷_ 115 (List._∷_ 116 (List._∷_ 105 (List._∷_ 99 (List._∷_ 115 (List._∷_ 58 (List._∷_ 58 (List._∷_ 82 (List._∷_ 101 (List._∷_
-      99 (List._∷_ 111 (List._∷_ 114 (List._∷_ 100 List.[])))))))))))))))))) (Syntax.tcons (Syntax.tyInt Syntax.w32) (Syntax.tcons (Syntax.tyInt Syntax.w32) Syntax.tnil))),
-) (List._∷_ (
-  8,
   Rows'.any-gone
-      Syntax.tyBool,
-) (List._∷_ (9, Rows'.any-gone (Syntax.tyInt Syntax.w64)) (List._∷_ (10, Rows'.any-gone Syntax.tyPtr) (List._∷_ (11, Rows'.any-gone Syntax.tyPtr) (List._∷_ (
-  12,
-  Rows'.sc-here
-      (Row.sInt Syntax.w32),
-) (List._∷_ (13, Rows'.sc-here (Row.sInt Syntax.w64)) (List._∷_ (14, Rows'.sc-here Row.sPtr) (List._∷_ (15, Rows'.sc-here Row.sPtr) List.[])))))))))))))))
+      (Syntax.tyStruct (List._∷_ 115 (List._∷_ 116 (List._∷_ 97 (List._∷_ 116 (List._∷_ 105 (List._∷_ 115 (List._∷_ 116 (List._∷_ 105 (List._∷_ 99 (List._∷_ 115 (List._∷_ 58 (List._∷_ 58 (List._∷_ 82
+      (List._∷_ 101 (List._∷_ 99 (List._∷_ 111 (List._∷_ 114 (List._∷_ 100 List.[])))))))))))))))))) (Syntax.tcons (Syntax.tyInt Syntax.w32) (Syntax.tcons (Syntax.tyInt Syntax.w32) Syntax.tnil))),
+)
+    (List._∷_ (8, Rows'.any-gone Syntax.tyBool) (List._∷_ (9, Rows'.any-gone (Syntax.tyInt Syntax.w64)) (List._∷_ (10, Rows'.any-gone Syntax.tyPtr) (List._∷_ (11, Rows'.any-gone Syntax.tyPtr) (List._∷_
+    (12, Rows'.sc-here (Row.sInt Syntax.w32)) (List._∷_ (13, Rows'.sc-here (Row.sInt Syntax.w64)) (List._∷_ (14, Rows'.sc-here Row.sPtr) (List._∷_ (15, Rows'.sc-here Row.sPtr) List.[])))))))))))))))
 
 abbrev pub t21 : List.List Row.Entry
 t21 = List._∷_ (0, Rows'.any-gone Syntax.tyUnit) (List._∷_ (1, Mut.mslice (Element.type) (Syntax.tyRef (Syntax.named 0) Syntax.mut Element.behind) 0) (List._∷_ (
@@ -837,26 +780,21 @@ t21 = List._∷_ (0, Rows'.any-gone Syntax.tyUnit) (List._∷_ (1, Mut.mslice (E
       Syntax.w64),
 ) (List._∷_ (
   3,
-  Rows'.any-gone (Syntax.tyStruct (List._∷_ 112 (List._∷_ 97 (List._∷_ 115 (List._∷_ 115 (List._∷_ 58 (List._∷_ 58 (List._∷_ 83 (List._∷_ 101 (List._∷_ 116 List.[])))))))))
-      (Syntax.tcons (Syntax.tyArray (Syntax.tyInt Syntax.w32) 112) (Syntax.tcons (Syntax.tyArray (Syntax.tyInt Syntax.w32) 112) Syntax.tnil))),
+  Rows'.any-gone (Syntax.tyStruct (List._∷_ 115 (List._∷_ 116 (List._∷_ 101 (List._∷_ 112 (List._∷_ 115 (List._∷_ 58 (List._∷_ 58 (List._∷_ 83 (List._∷_ 101 (List._∷_ 116
+      List.[])))))))))) (Syntax.tcons (Syntax.tyArray (Syntax.tyInt Syntax.w32) 112) (Syntax.tcons (Syntax.tyArray (Syntax.tyInt Syntax.w32) 112) Syntax.tnil))),
 ) (List._∷_ (
   4,
-  Rows.arrF (Referent.rtF (Referent.fInt
-      Syntax.w32)) 112 0,
+  Rows.arrF (Referent.rtF
+      (Referent.fInt Syntax.w32)) 112 0,
 ) (List._∷_ (5, Rows.arrF (Referent.rtF (Referent.fInt Syntax.w32)) 112 0) (List._∷_ (6, Rows'.sc-here (Row.sInt Syntax.w64)) (List._∷_ (
   7,
-  Rows'.any-gone (Syntax.tyStruct
-      (List._∷_ 115 (List._∷_ 116 (List._∷_ 97 (List._∷_ 116 (List._∷_ 105 (List._∷_ 115 (List._∷_ 116 (List._∷_ 105 (List._∷_ 99 (List._∷_ 115 (List._∷_ 58 (List._∷_ 58 (List._∷_ 82 (List._∷_ 101 (List._∷_
-      99 (List._∷_ 111 (List._∷_ 114 (List._∷_ 100 List.[])))))))))))))))))) (Syntax.tcons (Syntax.tyInt Syntax.w32) (Syntax.tcons (Syntax.tyInt Syntax.w32) Syntax.tnil))),
-) (List._∷_ (
-  8,
   Rows'.any-gone
-      Syntax.tyBool,
-) (List._∷_ (9, Rows'.any-gone (Syntax.tyInt Syntax.w64)) (List._∷_ (10, Rows'.any-gone Syntax.tyPtr) (List._∷_ (11, Rows'.any-gone Syntax.tyPtr) (List._∷_ (
-  12,
-  Rows'.sc-here
-      (Row.sInt Syntax.w32),
-) (List._∷_ (13, Rows'.sc-here (Row.sInt Syntax.w64)) (List._∷_ (14, Rows'.any-gone Syntax.tyPtr) (List._∷_ (15, Rows'.sc-here Row.sPtr) List.[])))))))))))))))
+      (Syntax.tyStruct (List._∷_ 115 (List._∷_ 116 (List._∷_ 97 (List._∷_ 116 (List._∷_ 105 (List._∷_ 115 (List._∷_ 116 (List._∷_ 105 (List._∷_ 99 (List._∷_ 115 (List._∷_ 58 (List._∷_ 58 (List._∷_ 82
+      (List._∷_ 101 (List._∷_ 99 (List._∷_ 111 (List._∷_ 114 (List._∷_ 100 List.[])))))))))))))))))) (Syntax.tcons (Syntax.tyInt Syntax.w32) (Syntax.tcons (Syntax.tyInt Syntax.w32) Syntax.tnil))),
+)
+    (List._∷_ (8, Rows'.any-gone Syntax.tyBool) (List._∷_ (9, Rows'.any-gone (Syntax.tyInt Syntax.w64)) (List._∷_ (10, Rows'.any-gone Syntax.tyPtr) (List._∷_ (11, Rows'.any-gone Syntax.tyPtr) (List._∷_
+    (12, Rows'.sc-here (Row.sInt Syntax.w32)) (List._∷_ (13, Rows'.sc-here (Row.sInt Syntax.w64)) (List._∷_ (14, Rows'.any-gone Syntax.tyPtr) (List._∷_ (15, Rows'.sc-here Row.sPtr)
+    List.[])))))))))))))))
 
 abbrev pub t22 : List.List Row.Entry
 t22 = List._∷_ (16, Rows'.sc-here (Row.sInt Syntax.w32)) (List._∷_ (17, Rows'.any-gone Syntax.tyUnit) (List._∷_ (18, Rows'.any-gone (Syntax.tyRef Syntax.erased Syntax.mut Element.behind))
@@ -873,26 +811,21 @@ t23 = List._∷_ (0, Rows'.any-gone Syntax.tyUnit) (List._∷_ (1, Mut.mslice (E
       Syntax.w64),
 ) (List._∷_ (
   3,
-  Rows'.any-gone (Syntax.tyStruct (List._∷_ 112 (List._∷_ 97 (List._∷_ 115 (List._∷_ 115 (List._∷_ 58 (List._∷_ 58 (List._∷_ 83 (List._∷_ 101 (List._∷_ 116 List.[])))))))))
-      (Syntax.tcons (Syntax.tyArray (Syntax.tyInt Syntax.w32) 112) (Syntax.tcons (Syntax.tyArray (Syntax.tyInt Syntax.w32) 112) Syntax.tnil))),
+  Rows'.any-gone (Syntax.tyStruct (List._∷_ 115 (List._∷_ 116 (List._∷_ 101 (List._∷_ 112 (List._∷_ 115 (List._∷_ 58 (List._∷_ 58 (List._∷_ 83 (List._∷_ 101 (List._∷_ 116
+      List.[])))))))))) (Syntax.tcons (Syntax.tyArray (Syntax.tyInt Syntax.w32) 112) (Syntax.tcons (Syntax.tyArray (Syntax.tyInt Syntax.w32) 112) Syntax.tnil))),
 ) (List._∷_ (
   4,
-  Rows.arrF (Referent.rtF (Referent.fInt
-      Syntax.w32)) 112 0,
+  Rows.arrF (Referent.rtF
+      (Referent.fInt Syntax.w32)) 112 0,
 ) (List._∷_ (5, Rows.arrF (Referent.rtF (Referent.fInt Syntax.w32)) 112 0) (List._∷_ (6, Rows'.sc-here (Row.sInt Syntax.w64)) (List._∷_ (
   7,
-  Rows'.any-gone (Syntax.tyStruct
-      (List._∷_ 115 (List._∷_ 116 (List._∷_ 97 (List._∷_ 116 (List._∷_ 105 (List._∷_ 115 (List._∷_ 116 (List._∷_ 105 (List._∷_ 99 (List._∷_ 115 (List._∷_ 58 (List._∷_ 58 (List._∷_ 82 (List._∷_ 101 (List._∷_
-      99 (List._∷_ 111 (List._∷_ 114 (List._∷_ 100 List.[])))))))))))))))))) (Syntax.tcons (Syntax.tyInt Syntax.w32) (Syntax.tcons (Syntax.tyInt Syntax.w32) Syntax.tnil))),
-) (List._∷_ (
-  8,
   Rows'.any-gone
-      Syntax.tyBool,
-) (List._∷_ (9, Rows'.any-gone (Syntax.tyInt Syntax.w64)) (List._∷_ (10, Rows'.any-gone Syntax.tyPtr) (List._∷_ (11, Rows'.any-gone Syntax.tyPtr) (List._∷_ (
-  12,
-  Rows'.sc-here
-      (Row.sInt Syntax.w32),
-) (List._∷_ (13, Rows'.any-gone (Syntax.tyInt Syntax.w64)) (List._∷_ (14, Rows'.any-gone Syntax.tyPtr) (List._∷_ (15, Rows'.sc-here Row.sPtr) List.[])))))))))))))))
+      (Syntax.tyStruct (List._∷_ 115 (List._∷_ 116 (List._∷_ 97 (List._∷_ 116 (List._∷_ 105 (List._∷_ 115 (List._∷_ 116 (List._∷_ 105 (List._∷_ 99 (List._∷_ 115 (List._∷_ 58 (List._∷_ 58 (List._∷_ 82
+      (List._∷_ 101 (List._∷_ 99 (List._∷_ 111 (List._∷_ 114 (List._∷_ 100 List.[])))))))))))))))))) (Syntax.tcons (Syntax.tyInt Syntax.w32) (Syntax.tcons (Syntax.tyInt Syntax.w32) Syntax.tnil))),
+)
+    (List._∷_ (8, Rows'.any-gone Syntax.tyBool) (List._∷_ (9, Rows'.any-gone (Syntax.tyInt Syntax.w64)) (List._∷_ (10, Rows'.any-gone Syntax.tyPtr) (List._∷_ (11, Rows'.any-gone Syntax.tyPtr) (List._∷_
+    (12, Rows'.sc-here (Row.sInt Syntax.w32)) (List._∷_ (13, Rows'.any-gone (Syntax.tyInt Syntax.w64)) (List._∷_ (14, Rows'.any-gone Syntax.tyPtr) (List._∷_ (15, Rows'.sc-here Row.sPtr)
+    List.[])))))))))))))))
 
 abbrev pub t24 : List.List Row.Entry
 t24 = List._∷_ (0, Rows'.any-gone Syntax.tyUnit) (List._∷_ (1, Mut.mslice (Element.type) (Syntax.tyRef (Syntax.named 0) Syntax.mut Element.behind) 0) (List._∷_ (
@@ -901,21 +834,21 @@ t24 = List._∷_ (0, Rows'.any-gone Syntax.tyUnit) (List._∷_ (1, Mut.mslice (E
       Syntax.w64),
 ) (List._∷_ (
   3,
-  Rows'.any-gone (Syntax.tyStruct (List._∷_ 112 (List._∷_ 97 (List._∷_ 115 (List._∷_ 115 (List._∷_ 58 (List._∷_ 58 (List._∷_ 83 (List._∷_ 101 (List._∷_ 116 List.[])))))))))
-      (Syntax.tcons (Syntax.tyArray (Syntax.tyInt Syntax.w32) 112) (Syntax.tcons (Syntax.tyArray (Syntax.tyInt Syntax.w32) 112) Syntax.tnil))),
+  Rows'.any-gone (Syntax.tyStruct (List._∷_ 115 (List._∷_ 116 (List._∷_ 101 (List._∷_ 112 (List._∷_ 115 (List._∷_ 58 (List._∷_ 58 (List._∷_ 83 (List._∷_ 101 (List._∷_ 116
+      List.[])))))))))) (Syntax.tcons (Syntax.tyArray (Syntax.tyInt Syntax.w32) 112) (Syntax.tcons (Syntax.tyArray (Syntax.tyInt Syntax.w32) 112) Syntax.tnil))),
 ) (List._∷_ (
   4,
-  Rows.arrF (Referent.rtF (Referent.fInt
-      Syntax.w32)) 112 0,
+  Rows.arrF (Referent.rtF
+      (Referent.fInt Syntax.w32)) 112 0,
 ) (List._∷_ (5, Rows.arrF (Referent.rtF (Referent.fInt Syntax.w32)) 112 0) (List._∷_ (6, Rows'.sc-here (Row.sInt Syntax.w64)) (List._∷_ (
   7,
-  Rows'.whole (Declared.row
-      (Apart.apartT Record.the-type)),
-) (List._∷_ (8, Rows'.any-gone Syntax.tyBool) (List._∷_ (9, Rows'.any-gone (Syntax.tyInt Syntax.w64)) (List._∷_ (10, Rows'.any-gone Syntax.tyPtr) (List._∷_ (
-  11,
-  Rows'.any-gone Syntax.tyPtr,
-) (List._∷_ (12, Rows'.sc-here (Row.sInt Syntax.w32)) (List._∷_ (13, Rows'.any-gone (Syntax.tyInt Syntax.w64)) (List._∷_ (14, Rows'.any-gone Syntax.tyPtr) (List._∷_
-    (15, Rows'.any-gone Syntax.tyPtr) List.[])))))))))))))))
+  Rows'.whole
+      (Declared.row (Apart.apartT Record.the-type)),
+) (List._∷_ (8, Rows'.any-gone Syntax.tyBool) (List._∷_ (9, Rows'.any-gone (Syntax.tyInt Syntax.w64)) (List._∷_ (10, Rows'.any-gone Syntax.tyPtr)
+    (List._∷_ (11, Rows'.any-gone Syntax.tyPtr) (List._∷_ (12, Rows'.sc-here (Row.sInt Syntax.w32)) (List._∷_ (13, Rows'.any-gone (Syntax.tyInt Syntax.w64)) (List._∷_ (
+      14,
+      Rows'.any-gone Syntax.tyPtr,
+    ) (List._∷_ (15, Rows'.any-gone Syntax.tyPtr) List.[])))))))))))))))
 
 abbrev pub t25 : List.List Row.Entry
 t25 = List._∷_ (0, Rows'.any-gone Syntax.tyUnit) (List._∷_ (1, Mut.mslice (Element.type) (Syntax.tyRef (Syntax.named 0) Syntax.mut Element.behind) 0) (List._∷_ (
@@ -924,31 +857,8 @@ t25 = List._∷_ (0, Rows'.any-gone Syntax.tyUnit) (List._∷_ (1, Mut.mslice (E
       Syntax.w64),
 ) (List._∷_ (
   3,
-  Rows'.any-gone (Syntax.tyStruct (List._∷_ 112 (List._∷_ 97 (List._∷_ 115 (List._∷_ 115 (List._∷_ 58 (List._∷_ 58 (List._∷_ 83 (List._∷_ 101 (List._∷_ 116 List.[])))))))))
-      (Syntax.tcons (Syntax.tyArray (Syntax.tyInt Syntax.w32) 112) (Syntax.tcons (Syntax.tyArray (Syntax.tyInt Syntax.w32) 112) Syntax.tnil))),
-) (List._∷_ (
-  4,
-  Rows.arrF (Referent.rtF (Referent.fInt
-      Syntax.w32)) 112 0,
-) (List._∷_ (5, Rows.arrF (Referent.rtF (Referent.fInt Syntax.w32)) 112 0) (List._∷_ (6, Rows'.sc-here (Row.sInt Syntax.w64)) (List._∷_ (
-  7,
-  Rows'.whole (Declared.row
-      (Apart.apartT Record.the-type)),
-) (List._∷_ (8, Rows'.any-gone Syntax.tyBool) (List._∷_ (9, Rows'.any-gone (Syntax.tyInt Syntax.w64)) (List._∷_ (10, Rows'.any-gone Syntax.tyPtr) (List._∷_ (
-  11,
-  Rows'.any-gone Syntax.tyPtr,
-) (List._∷_ (12, Rows'.any-gone (Syntax.tyInt Syntax.w32)) (List._∷_ (13, Rows'.any-gone (Syntax.tyInt Syntax.w64)) (List._∷_ (14, Rows'.any-gone Syntax.tyPtr)
-    (List._∷_ (15, Rows'.any-gone Syntax.tyPtr) List.[])))))))))))))))
-
-abbrev pub t26 : List.List Row.Entry
-t26 = List._∷_ (0, Rows'.any-gone Syntax.tyUnit) (List._∷_ (1, Relend.mslice-owed (Element.type) (Syntax.tyRef (Syntax.named 0) Syntax.mut Element.behind) 0 1 Row.off) (List._∷_ (
-  2,
-  Rows'.sc-here
-      (Row.sInt Syntax.w64),
-) (List._∷_ (
-  3,
-  Rows'.any-gone (Syntax.tyStruct (List._∷_ 112 (List._∷_ 97 (List._∷_ 115 (List._∷_ 115 (List._∷_ 58 (List._∷_ 58 (List._∷_ 83 (List._∷_ 101 (List._∷_ 116
-      List.[]))))))))) (Syntax.tcons (Syntax.tyArray (Syntax.tyInt Syntax.w32) 112) (Syntax.tcons (Syntax.tyArray (Syntax.tyInt Syntax.w32) 112) Syntax.tnil))),
+  Rows'.any-gone (Syntax.tyStruct (List._∷_ 115 (List._∷_ 116 (List._∷_ 101 (List._∷_ 112 (List._∷_ 115 (List._∷_ 58 (List._∷_ 58 (List._∷_ 83 (List._∷_ 101 (List._∷_ 116
+      List.[])))))))))) (Syntax.tcons (Syntax.tyArray (Syntax.tyInt Syntax.w32) 112) (Syntax.tcons (Syntax.tyArray (Syntax.tyInt Syntax.w32) 112) Syntax.tnil))),
 ) (List._∷_ (
   4,
   Rows.arrF (Referent.rtF
@@ -963,6 +873,31 @@ t26 = List._∷_ (0, Rows'.any-gone Syntax.tyUnit) (List._∷_ (1, Relend.mslice
       Rows'.any-gone
           Syntax.tyPtr,
     ) (List._∷_ (15, Rows'.any-gone Syntax.tyPtr) List.[])))))))))))))))
+
+abbrev pub t26 : List.List Row.Entry
+t26 = List._∷_ (0, Rows'.any-gone Syntax.tyUnit) (List._∷_ (1, Relend.mslice-owed (Element.type) (Syntax.tyRef (Syntax.named 0) Syntax.mut Element.behind) 0 1 Row.off) (List._∷_ (
+  2,
+  Rows'.sc-here
+      (Row.sInt Syntax.w64),
+) (List._∷_ (
+  3,
+  Rows'.any-gone (Syntax.tyStruct (List._∷_ 115 (List._∷_ 116 (List._∷_ 101 (List._∷_ 112 (List._∷_ 115 (List._∷_ 58 (List._∷_ 58 (List._∷_ 83 (List._∷_ 101
+      (List._∷_ 116 List.[])))))))))) (Syntax.tcons (Syntax.tyArray (Syntax.tyInt Syntax.w32) 112) (Syntax.tcons (Syntax.tyArray (Syntax.tyInt Syntax.w32) 112) Syntax.tnil))),
+) (List._∷_ (
+  4,
+  Rows.arrF
+      (Referent.rtF (Referent.fInt Syntax.w32)) 112 0,
+) (List._∷_ (5, Rows.arrF (Referent.rtF (Referent.fInt Syntax.w32)) 112 0) (List._∷_ (6, Rows'.sc-here (Row.sInt Syntax.w64)) (List._∷_ (
+  7,
+  Rows'.whole (Declared.row (Apart.apartT Record.the-type)),
+) (List._∷_ (8, Rows'.any-gone Syntax.tyBool) (List._∷_ (9, Rows'.any-gone (Syntax.tyInt Syntax.w64)) (List._∷_ (
+  10,
+  Rows'.any-gone
+      Syntax.tyPtr,
+) (List._∷_ (11, Rows'.any-gone Syntax.tyPtr) (List._∷_ (12, Rows'.any-gone (Syntax.tyInt Syntax.w32)) (List._∷_ (13, Rows'.any-gone (Syntax.tyInt Syntax.w64)) (List._∷_ (
+  14,
+  Rows'.any-gone Syntax.tyPtr,
+) (List._∷_ (15, Rows'.any-gone Syntax.tyPtr) List.[])))))))))))))))
 
 abbrev pub t27 : List.List Row.Entry
 t27 = List._∷_ (16, Rows'.any-gone (Syntax.tyInt Syntax.w32)) (List._∷_ (17, Rows'.any-gone Syntax.tyUnit) (List._∷_ (
@@ -986,19 +921,23 @@ t29 = List._∷_ (0, Rows'.any-gone Syntax.tyUnit) (List._∷_ (1, Relend.mslice
       (Row.sInt Syntax.w64),
 ) (List._∷_ (
   3,
-  Rows'.any-gone (Syntax.tyStruct (List._∷_ 112 (List._∷_ 97 (List._∷_ 115 (List._∷_ 115 (List._∷_ 58 (List._∷_ 58 (List._∷_ 83 (List._∷_ 101 (List._∷_ 116
-      List.[]))))))))) (Syntax.tcons (Syntax.tyArray (Syntax.tyInt Syntax.w32) 112) (Syntax.tcons (Syntax.tyArray (Syntax.tyInt Syntax.w32) 112) Syntax.tnil))),
+  Rows'.any-gone (Syntax.tyStruct (List._∷_ 115 (List._∷_ 116 (List._∷_ 101 (List._∷_ 112 (List._∷_ 115 (List._∷_ 58 (List._∷_ 58 (List._∷_ 83 (List._∷_ 101
+      (List._∷_ 116 List.[])))))))))) (Syntax.tcons (Syntax.tyArray (Syntax.tyInt Syntax.w32) 112) (Syntax.tcons (Syntax.tyArray (Syntax.tyInt Syntax.w32) 112) Syntax.tnil))),
 ) (List._∷_ (
   4,
-  Rows.arrF (Referent.rtF
-      (Referent.fInt Syntax.w32)) 112 0,
+  Rows.arrF
+      (Referent.rtF (Referent.fInt Syntax.w32)) 112 0,
 ) (List._∷_ (5, Rows.arrF (Referent.rtF (Referent.fInt Syntax.w32)) 112 0) (List._∷_ (6, Rows'.sc-here (Row.sInt Syntax.w64)) (List._∷_ (
   7,
-  Rows'.whole
-      (Declared.row (Apart.apartT Record.the-type)),
-) (List._∷_ (8, Rows'.any-gone Syntax.tyBool) (List._∷_ (9, Rows'.sc-here (Row.sInt Syntax.w64)) (List._∷_ (10, Rows'.any-gone Syntax.tyPtr) (List._∷_
-    (11, Rows'.any-gone Syntax.tyPtr) (List._∷_ (12, Rows'.any-gone (Syntax.tyInt Syntax.w32)) (List._∷_ (13, Rows'.any-gone (Syntax.tyInt Syntax.w64)) (List._∷_ (14, Rows'.any-gone Syntax.tyPtr)
-    (List._∷_ (15, Rows'.any-gone Syntax.tyPtr) List.[])))))))))))))))
+  Rows'.whole (Declared.row (Apart.apartT Record.the-type)),
+) (List._∷_ (8, Rows'.any-gone Syntax.tyBool) (List._∷_ (9, Rows'.sc-here (Row.sInt Syntax.w64)) (List._∷_ (
+  10,
+  Rows'.any-gone
+      Syntax.tyPtr,
+) (List._∷_ (11, Rows'.any-gone Syntax.tyPtr) (List._∷_ (12, Rows'.any-gone (Syntax.tyInt Syntax.w32)) (List._∷_ (13, Rows'.any-gone (Syntax.tyInt Syntax.w64)) (List._∷_ (
+  14,
+  Rows'.any-gone Syntax.tyPtr,
+) (List._∷_ (15, Rows'.any-gone Syntax.tyPtr) List.[])))))))))))))))
 
 abbrev pub t30 : List.List Row.Entry
 t30 = List._∷_ (0, Rows'.any-gone Syntax.tyUnit) (List._∷_ (1, Relend.mslice-owed (Element.type) (Syntax.tyRef (Syntax.named 0) Syntax.mut Element.behind) 0 1 Row.off) (List._∷_ (
@@ -1007,19 +946,24 @@ t30 = List._∷_ (0, Rows'.any-gone Syntax.tyUnit) (List._∷_ (1, Relend.mslice
       (Row.sInt Syntax.w64),
 ) (List._∷_ (
   3,
-  Rows'.any-gone (Syntax.tyStruct (List._∷_ 112 (List._∷_ 97 (List._∷_ 115 (List._∷_ 115 (List._∷_ 58 (List._∷_ 58 (List._∷_ 83 (List._∷_ 101 (List._∷_ 116
-      List.[]))))))))) (Syntax.tcons (Syntax.tyArray (Syntax.tyInt Syntax.w32) 112) (Syntax.tcons (Syntax.tyArray (Syntax.tyInt Syntax.w32) 112) Syntax.tnil))),
+  Rows'.any-gone (Syntax.tyStruct (List._∷_ 115 (List._∷_ 116 (List._∷_ 101 (List._∷_ 112 (List._∷_ 115 (List._∷_ 58 (List._∷_ 58 (List._∷_ 83 (List._∷_ 101
+      (List._∷_ 116 List.[])))))))))) (Syntax.tcons (Syntax.tyArray (Syntax.tyInt Syntax.w32) 112) (Syntax.tcons (Syntax.tyArray (Syntax.tyInt Syntax.w32) 112) Syntax.tnil))),
 ) (List._∷_ (
   4,
-  Rows.arrF (Referent.rtF
-      (Referent.fInt Syntax.w32)) 112 0,
+  Rows.arrF
+      (Referent.rtF (Referent.fInt Syntax.w32)) 112 0,
 ) (List._∷_ (5, Rows.arrF (Referent.rtF (Referent.fInt Syntax.w32)) 112 0) (List._∷_ (6, Rows'.sc-here (Row.sInt Syntax.w64)) (List._∷_ (
   7,
-  Rows'.whole
-      (Declared.row (Apart.apartT Record.the-type)),
-) (List._∷_ (8, Rows'.any-gone Syntax.tyBool) (List._∷_ (9, Rows'.sc-here (Row.sInt Syntax.w64)) (List._∷_ (10, Rows'.any-gone Syntax.tyPtr) (List._∷_
-    (11, Rows'.any-gone Syntax.tyPtr) (List._∷_ (12, Rows'.any-gone (Syntax.tyInt Syntax.w32)) (List._∷_ (13, Rows'.sc-here (Row.sInt Syntax.w64)) (List._∷_ (14, Rows'.any-gone Syntax.tyPtr)
-    (List._∷_ (15, Rows'.any-gone Syntax.tyPtr) List.[])))))))))))))))
+  Rows'.whole (Declared.row (Apart.apartT Record.the-type)),
+) (List._∷_ (8, Rows'.any-gone Syntax.tyBool) (List._∷_ (9, Rows'.sc-here (Row.sInt Syntax.w64)) (List._∷_ (
+  10,
+  Rows'.any-gone
+      Syntax.tyPtr,
+) (List._∷_ (11, Rows'.any-gone Syntax.tyPtr) (List._∷_ (12, Rows'.any-gone (Syntax.tyInt Syntax.w32)) (List._∷_ (13, Rows'.sc-here (Row.sInt Syntax.w64)) (List._∷_ (
+  14,
+  Rows'.any-gone
+      Syntax.tyPtr,
+) (List._∷_ (15, Rows'.any-gone Syntax.tyPtr) List.[])))))))))))))))
 
 abbrev pub t31 : List.List Row.Entry
 t31 = List._∷_ (0, Rows'.any-gone Syntax.tyUnit) (List._∷_ (1, Relend.mslice-owed (Element.type) (Syntax.tyRef (Syntax.named 0) Syntax.mut Element.behind) 0 1 Row.off) (List._∷_ (
@@ -1028,21 +972,24 @@ t31 = List._∷_ (0, Rows'.any-gone Syntax.tyUnit) (List._∷_ (1, Relend.mslice
       (Row.sInt Syntax.w64),
 ) (List._∷_ (
   3,
-  Rows'.any-gone (Syntax.tyStruct (List._∷_ 112 (List._∷_ 97 (List._∷_ 115 (List._∷_ 115 (List._∷_ 58 (List._∷_ 58 (List._∷_ 83 (List._∷_ 101 (List._∷_ 116
-      List.[]))))))))) (Syntax.tcons (Syntax.tyArray (Syntax.tyInt Syntax.w32) 112) (Syntax.tcons (Syntax.tyArray (Syntax.tyInt Syntax.w32) 112) Syntax.tnil))),
+  Rows'.any-gone (Syntax.tyStruct (List._∷_ 115 (List._∷_ 116 (List._∷_ 101 (List._∷_ 112 (List._∷_ 115 (List._∷_ 58 (List._∷_ 58 (List._∷_ 83 (List._∷_ 101
+      (List._∷_ 116 List.[])))))))))) (Syntax.tcons (Syntax.tyArray (Syntax.tyInt Syntax.w32) 112) (Syntax.tcons (Syntax.tyArray (Syntax.tyInt Syntax.w32) 112) Syntax.tnil))),
 ) (List._∷_ (
   4,
-  Rows.arrF (Referent.rtF
-      (Referent.fInt Syntax.w32)) 112 0,
+  Rows.arrF
+      (Referent.rtF (Referent.fInt Syntax.w32)) 112 0,
 ) (List._∷_ (5, Rows.arrF (Referent.rtF (Referent.fInt Syntax.w32)) 112 0) (List._∷_ (6, Rows'.sc-here (Row.sInt Syntax.w64)) (List._∷_ (
   7,
-  Rows'.whole
-      (Declared.row (Apart.apartT Record.the-type)),
-) (List._∷_ (8, Rows'.any-gone Syntax.tyBool) (List._∷_ (9, Rows'.any-gone (Syntax.tyInt Syntax.w64)) (List._∷_ (10, Rows'.any-gone Syntax.tyPtr)
-    (List._∷_ (11, Rows'.any-gone Syntax.tyPtr) (List._∷_ (12, Rows'.any-gone (Syntax.tyInt Syntax.w32)) (List._∷_ (13, Rows'.sc-here (Row.sInt Syntax.w64)) (List._∷_ (
-      14,
-      Rows'.any-gone Syntax.tyPtr,
-    ) (List._∷_ (15, Rows'.any-gone Syntax.tyPtr) List.[])))))))))))))))
+  Rows'.whole (Declared.row (Apart.apartT Record.the-type)),
+) (List._∷_ (8, Rows'.any-gone Syntax.tyBool) (List._∷_ (9, Rows'.any-gone (Syntax.tyInt Syntax.w64)) (List._∷_ (
+  10,
+  Rows'.any-gone
+      Syntax.tyPtr,
+) (List._∷_ (11, Rows'.any-gone Syntax.tyPtr) (List._∷_ (12, Rows'.any-gone (Syntax.tyInt Syntax.w32)) (List._∷_ (13, Rows'.sc-here (Row.sInt Syntax.w64)) (List._∷_ (
+  14,
+  Rows'.any-gone
+      Syntax.tyPtr,
+) (List._∷_ (15, Rows'.any-gone Syntax.tyPtr) List.[])))))))))))))))
 
 abbrev pub t32 : List.List Row.Entry
 t32 = List._∷_ (0, Rows'.any-gone Syntax.tyUnit) (List._∷_ (1, Relend.mslice-owed (Element.type) (Syntax.tyRef (Syntax.named 0) Syntax.mut Element.behind) 0 1 Row.off) (List._∷_ (
@@ -1051,21 +998,20 @@ t32 = List._∷_ (0, Rows'.any-gone Syntax.tyUnit) (List._∷_ (1, Relend.mslice
       (Row.sInt Syntax.w64),
 ) (List._∷_ (
   3,
-  Rows'.any-gone (Syntax.tyStruct (List._∷_ 112 (List._∷_ 97 (List._∷_ 115 (List._∷_ 115 (List._∷_ 58 (List._∷_ 58 (List._∷_ 83 (List._∷_ 101 (List._∷_ 116
-      List.[]))))))))) (Syntax.tcons (Syntax.tyArray (Syntax.tyInt Syntax.w32) 112) (Syntax.tcons (Syntax.tyArray (Syntax.tyInt Syntax.w32) 112) Syntax.tnil))),
+  Rows'.any-gone (Syntax.tyStruct (List._∷_ 115 (List._∷_ 116 (List._∷_ 101 (List._∷_ 112 (List._∷_ 115 (List._∷_ 58 (List._∷_ 58 (List._∷_ 83 (List._∷_ 101
+      (List._∷_ 116 List.[])))))))))) (Syntax.tcons (Syntax.tyArray (Syntax.tyInt Syntax.w32) 112) (Syntax.tcons (Syntax.tyArray (Syntax.tyInt Syntax.w32) 112) Syntax.tnil))),
 ) (List._∷_ (
   4,
-  Rows.arrF (Referent.rtF
-      (Referent.fInt Syntax.w32)) 112 0,
+  Rows.arrF
+      (Referent.rtF (Referent.fInt Syntax.w32)) 112 0,
 ) (List._∷_ (5, Rows.arrF (Referent.rtF (Referent.fInt Syntax.w32)) 112 0) (List._∷_ (6, Rows'.sc-here (Row.sInt Syntax.w64)) (List._∷_ (
   7,
-  Rows'.whole
-      (Declared.row Record.the-type),
-) (List._∷_ (8, Rows'.any-gone Syntax.tyBool) (List._∷_ (9, Rows'.any-gone (Syntax.tyInt Syntax.w64)) (List._∷_ (10, Rows'.any-gone Syntax.tyPtr) (List._∷_ (
-  11,
-  Rows'.any-gone Syntax.tyPtr,
-) (List._∷_ (12, Rows'.any-gone (Syntax.tyInt Syntax.w32)) (List._∷_ (13, Rows'.sc-here (Row.sInt Syntax.w64)) (List._∷_ (14, Rows'.any-gone Syntax.tyPtr) (List._∷_
-    (15, Rows'.any-gone Syntax.tyPtr) List.[])))))))))))))))
+  Rows'.whole (Declared.row Record.the-type),
+) (List._∷_ (8, Rows'.any-gone Syntax.tyBool) (List._∷_ (9, Rows'.any-gone (Syntax.tyInt Syntax.w64)) (List._∷_ (10, Rows'.any-gone Syntax.tyPtr)
+    (List._∷_ (11, Rows'.any-gone Syntax.tyPtr) (List._∷_ (12, Rows'.any-gone (Syntax.tyInt Syntax.w32)) (List._∷_ (13, Rows'.sc-here (Row.sInt Syntax.w64)) (List._∷_ (
+      14,
+      Rows'.any-gone Syntax.tyPtr,
+    ) (List._∷_ (15, Rows'.any-gone Syntax.tyPtr) List.[])))))))))))))))
 
 abbrev pub t33 : List.List Row.Entry
 t33 = List._∷_ (16, Rows'.any-gone (Syntax.tyInt Syntax.w32)) (List._∷_ (17, Rows'.sc-here Row.sUnit) (List._∷_ (18, Rows'.any-gone (Syntax.tyRef Syntax.erased Syntax.mut Element.behind))
@@ -1078,21 +1024,25 @@ t34 = List._∷_ (0, Rows'.any-gone Syntax.tyUnit) (List._∷_ (1, Relend.mslice
       (Row.sInt Syntax.w64),
 ) (List._∷_ (
   3,
-  Rows'.any-gone (Syntax.tyStruct (List._∷_ 112 (List._∷_ 97 (List._∷_ 115 (List._∷_ 115 (List._∷_ 58 (List._∷_ 58 (List._∷_ 83 (List._∷_ 101 (List._∷_ 116
-      List.[]))))))))) (Syntax.tcons (Syntax.tyArray (Syntax.tyInt Syntax.w32) 112) (Syntax.tcons (Syntax.tyArray (Syntax.tyInt Syntax.w32) 112) Syntax.tnil))),
+  Rows'.any-gone (Syntax.tyStruct (List._∷_ 115 (List._∷_ 116 (List._∷_ 101 (List._∷_ 112 (List._∷_ 115 (List._∷_ 58 (List._∷_ 58 (List._∷_ 83 (List._∷_ 101
+      (List._∷_ 116 List.[])))))))))) (Syntax.tcons (Syntax.tyArray (Syntax.tyInt Syntax.w32) 112) (Syntax.tcons (Syntax.tyArray (Syntax.tyInt Syntax.w32) 112) Syntax.tnil))),
 ) (List._∷_ (
   4,
-  Rows.arrF (Referent.rtF
-      (Referent.fInt Syntax.w32)) 112 0,
+  Rows.arrF
+      (Referent.rtF (Referent.fInt Syntax.w32)) 112 0,
 ) (List._∷_ (5, Rows.arrF (Referent.rtF (Referent.fInt Syntax.w32)) 112 0) (List._∷_ (6, Rows'.sc-here (Row.sInt Syntax.w64)) (List._∷_ (
   7,
+  Rows'.any-gone (Syntax.tyStruct (List._∷_ 115 (List._∷_ 116 (List._∷_ 97 (List._∷_ 116 (List._∷_ 105 (List._∷_ 115 (List._∷_ 116 (List._∷_ 105 (List._∷_ 99 (List._∷_ 115 (List._∷_ 58 (List._∷_ 58
+      (List._∷_ 82 (List._∷_ 101 (List._∷_ 99 (List._∷_ 111 (List._∷_ 114 (List._∷_ 100 List.[])))))))))))))))))) (Syntax.tcons (Syntax.tyInt Syntax.w32) (Syntax.tcons (Syntax.tyInt Syntax.w32)
+      Syntax.tnil))),
+) (List._∷_ (8, Rows'.any-gone Syntax.tyBool) (List._∷_ (9, Rows'.any-gone (Syntax.tyInt Syntax.w64)) (List._∷_ (10, Rows'.any-gone Syntax.tyPtr) (List._∷_ (
+  11,
   Rows'.any-gone
-      (Syntax.tyStruct (List._∷_ 115 (List._∷_ 116 (List._∷_ 97 (List._∷_ 116 (List._∷_ 105 (List._∷_ 115 (List._∷_ 116 (List._∷_ 105 (List._∷_ 99 (List._∷_ 115 (List._∷_ 58 (List._∷_ 58 (List._∷_ 82
-      (List._∷_ 101 (List._∷_ 99 (List._∷_ 111 (List._∷_ 114 (List._∷_ 100 List.[])))))))))))))))))) (Syntax.tcons (Syntax.tyInt Syntax.w32) (Syntax.tcons (Syntax.tyInt Syntax.w32) Syntax.tnil))),
-)
-    (List._∷_ (8, Rows'.any-gone Syntax.tyBool) (List._∷_ (9, Rows'.any-gone (Syntax.tyInt Syntax.w64)) (List._∷_ (10, Rows'.any-gone Syntax.tyPtr) (List._∷_ (11, Rows'.any-gone Syntax.tyPtr) (List._∷_
-    (12, Rows'.any-gone (Syntax.tyInt Syntax.w32)) (List._∷_ (13, Rows'.sc-here (Row.sInt Syntax.w64)) (List._∷_ (14, Rows'.any-gone Syntax.tyPtr) (List._∷_ (15, Rows'.any-gone Syntax.tyPtr)
-    List.[])))))))))))))))
+      Syntax.tyPtr,
+) (List._∷_ (12, Rows'.any-gone (Syntax.tyInt Syntax.w32)) (List._∷_ (13, Rows'.sc-here (Row.sInt Syntax.w64)) (List._∷_ (14, Rows'.any-gone Syntax.tyPtr) (List._∷_ (
+  15,
+  Rows'.any-gone Syntax.tyPtr,
+) List.[])))))))))))))))
 
 abbrev pub t35 : List.List Row.Entry
 t35 = List._∷_ (0, Rows'.any-gone Syntax.tyUnit) (List._∷_ (1, Relend.mslice-owed (Element.type) (Syntax.tyRef (Syntax.named 0) Syntax.mut Element.behind) 0 1 Row.off) (List._∷_ (
@@ -1101,21 +1051,25 @@ t35 = List._∷_ (0, Rows'.any-gone Syntax.tyUnit) (List._∷_ (1, Relend.mslice
       (Row.sInt Syntax.w64),
 ) (List._∷_ (
   3,
-  Rows'.any-gone (Syntax.tyStruct (List._∷_ 112 (List._∷_ 97 (List._∷_ 115 (List._∷_ 115 (List._∷_ 58 (List._∷_ 58 (List._∷_ 83 (List._∷_ 101 (List._∷_ 116
-      List.[]))))))))) (Syntax.tcons (Syntax.tyArray (Syntax.tyInt Syntax.w32) 112) (Syntax.tcons (Syntax.tyArray (Syntax.tyInt Syntax.w32) 112) Syntax.tnil))),
+  Rows'.any-gone (Syntax.tyStruct (List._∷_ 115 (List._∷_ 116 (List._∷_ 101 (List._∷_ 112 (List._∷_ 115 (List._∷_ 58 (List._∷_ 58 (List._∷_ 83 (List._∷_ 101
+      (List._∷_ 116 List.[])))))))))) (Syntax.tcons (Syntax.tyArray (Syntax.tyInt Syntax.w32) 112) (Syntax.tcons (Syntax.tyArray (Syntax.tyInt Syntax.w32) 112) Syntax.tnil))),
 ) (List._∷_ (
   4,
-  Rows.arrF (Referent.rtF
-      (Referent.fInt Syntax.w32)) 112 0,
+  Rows.arrF
+      (Referent.rtF (Referent.fInt Syntax.w32)) 112 0,
 ) (List._∷_ (5, Rows.arrF (Referent.rtF (Referent.fInt Syntax.w32)) 112 0) (List._∷_ (6, Rows'.sc-here (Row.sInt Syntax.w64)) (List._∷_ (
   7,
+  Rows'.any-gone (Syntax.tyStruct (List._∷_ 115 (List._∷_ 116 (List._∷_ 97 (List._∷_ 116 (List._∷_ 105 (List._∷_ 115 (List._∷_ 116 (List._∷_ 105 (List._∷_ 99 (List._∷_ 115 (List._∷_ 58 (List._∷_ 58
+      (List._∷_ 82 (List._∷_ 101 (List._∷_ 99 (List._∷_ 111 (List._∷_ 114 (List._∷_ 100 List.[])))))))))))))))))) (Syntax.tcons (Syntax.tyInt Syntax.w32) (Syntax.tcons (Syntax.tyInt Syntax.w32)
+      Syntax.tnil))),
+) (List._∷_ (8, Rows'.any-gone Syntax.tyBool) (List._∷_ (9, Rows'.any-gone (Syntax.tyInt Syntax.w64)) (List._∷_ (10, Rows'.any-gone Syntax.tyPtr) (List._∷_ (
+  11,
   Rows'.any-gone
-      (Syntax.tyStruct (List._∷_ 115 (List._∷_ 116 (List._∷_ 97 (List._∷_ 116 (List._∷_ 105 (List._∷_ 115 (List._∷_ 116 (List._∷_ 105 (List._∷_ 99 (List._∷_ 115 (List._∷_ 58 (List._∷_ 58 (List._∷_ 82
-      (List._∷_ 101 (List._∷_ 99 (List._∷_ 111 (List._∷_ 114 (List._∷_ 100 List.[])))))))))))))))))) (Syntax.tcons (Syntax.tyInt Syntax.w32) (Syntax.tcons (Syntax.tyInt Syntax.w32) Syntax.tnil))),
-)
-    (List._∷_ (8, Rows'.any-gone Syntax.tyBool) (List._∷_ (9, Rows'.any-gone (Syntax.tyInt Syntax.w64)) (List._∷_ (10, Rows'.any-gone Syntax.tyPtr) (List._∷_ (11, Rows'.any-gone Syntax.tyPtr) (List._∷_
-    (12, Rows'.any-gone (Syntax.tyInt Syntax.w32)) (List._∷_ (13, Rows'.any-gone (Syntax.tyInt Syntax.w64)) (List._∷_ (14, Rows'.any-gone Syntax.tyPtr) (List._∷_ (15, Rows'.any-gone Syntax.tyPtr)
-    List.[])))))))))))))))
+      Syntax.tyPtr,
+) (List._∷_ (12, Rows'.any-gone (Syntax.tyInt Syntax.w32)) (List._∷_ (13, Rows'.any-gone (Syntax.tyInt Syntax.w64)) (List._∷_ (14, Rows'.any-gone Syntax.tyPtr) (List._∷_ (
+  15,
+  Rows'.any-gone Syntax.tyPtr,
+) List.[])))))))))))))))
 
 abbrev pub t36 : List.List Row.Entry
 t36 = List._∷_ (16, Rows'.any-gone (Syntax.tyInt Syntax.w32)) (List._∷_ (17, Rows'.any-gone Syntax.tyUnit) (List._∷_ (18, Rows'.any-gone (Syntax.tyRef Syntax.erased Syntax.mut Element.behind))
@@ -1125,48 +1079,49 @@ abbrev pub t37 : List.List Row.Entry
 t37 = List._∷_ (0, Rows'.sc-here Row.sUnit) (List._∷_ (1, Mut.mslice (Element.type) (Syntax.tyRef (Syntax.named 0) Syntax.mut Element.behind) 0) (List._∷_ (2, Rows'.sc-here (Row.sInt Syntax.w64))
     (List._∷_ (
       3,
-      Rows'.any-gone (Syntax.tyStruct (List._∷_ 112 (List._∷_ 97 (List._∷_ 115 (List._∷_ 115 (List._∷_ 58 (List._∷_ 58 (List._∷_ 83 (List._∷_ 101 (List._∷_ 116 List.[]))))))))) (Syntax.tcons
-          (Syntax.tyArray (Syntax.tyInt Syntax.w32) 112) (Syntax.tcons (Syntax.tyArray (Syntax.tyInt Syntax.w32) 112) Syntax.tnil))),
+      Rows'.any-gone (Syntax.tyStruct (List._∷_ 115 (List._∷_ 116 (List._∷_ 101 (List._∷_ 112 (List._∷_ 115 (List._∷_ 58 (List._∷_ 58 (List._∷_ 83 (List._∷_ 101 (List._∷_ 116
+          List.[])))))))))) (Syntax.tcons (Syntax.tyArray (Syntax.tyInt Syntax.w32) 112) (Syntax.tcons (Syntax.tyArray (Syntax.tyInt Syntax.w32) 112) Syntax.tnil))),
     ) (List._∷_ (
       4,
-      Rows'.any-gone (Syntax.tyArray (Syntax.tyInt Syntax.w32)
-          112),
+      Rows'.any-gone
+          (Syntax.tyArray (Syntax.tyInt Syntax.w32) 112),
     ) (List._∷_ (5, Rows'.any-gone (Syntax.tyArray (Syntax.tyInt Syntax.w32) 112)) (List._∷_ (6, Rows'.sc-here (Row.sInt Syntax.w64)) (List._∷_ (
       7,
-      Rows'.any-gone (Syntax.tyStruct (List._∷_ 115
-          (List._∷_ 116 (List._∷_ 97 (List._∷_ 116 (List._∷_ 105 (List._∷_ 115 (List._∷_ 116 (List._∷_ 105 (List._∷_ 99 (List._∷_ 115 (List._∷_ 58 (List._∷_ 58 (List._∷_ 82 (List._∷_ 101 (List._∷_ 99 (List._∷_
-          111 (List._∷_ 114 (List._∷_ 100 List.[])))))))))))))))))) (Syntax.tcons (Syntax.tyInt Syntax.w32) (Syntax.tcons (Syntax.tyInt Syntax.w32) Syntax.tnil))),
-    ) (List._∷_ (8, Rows'.any-gone Syntax.tyBool)
-    (List._∷_ (9, Rows'.any-gone (Syntax.tyInt Syntax.w64)) (List._∷_ (10, Rows'.any-gone Syntax.tyPtr) (List._∷_ (11, Rows'.any-gone Syntax.tyPtr) (List._∷_ (
-      12,
-      Rows'.any-gone (Syntax.tyInt
-          Syntax.w32),
-    ) (List._∷_ (13, Rows'.any-gone (Syntax.tyInt Syntax.w64)) (List._∷_ (14, Rows'.any-gone Syntax.tyPtr) (List._∷_ (15, Rows'.any-gone Syntax.tyPtr) List.[])))))))))))))))
+      Rows'.any-gone (Syntax.tyStruct (List._∷_ 115 (List._∷_ 116 (List._∷_ 97 (List._∷_ 116 (List._∷_ 105 (List._∷_ 115 (List._∷_ 116 (List._∷_ 105 (List._∷_ 99 (List._∷_ 115 (List._∷_ 58 (List._∷_ 58
+          (List._∷_ 82 (List._∷_ 101 (List._∷_ 99 (List._∷_ 111 (List._∷_ 114 (List._∷_ 100 List.[])))))))))))))))))) (Syntax.tcons (Syntax.tyInt Syntax.w32) (Syntax.tcons (Syntax.tyInt Syntax.w32)
+          Syntax.tnil))),
+    ) (List._∷_ (8, Rows'.any-gone Syntax.tyBool) (List._∷_ (9, Rows'.any-gone (Syntax.tyInt Syntax.w64)) (List._∷_ (10, Rows'.any-gone Syntax.tyPtr) (List._∷_ (
+      11,
+      Rows'.any-gone
+          Syntax.tyPtr,
+    ) (List._∷_ (12, Rows'.any-gone (Syntax.tyInt Syntax.w32)) (List._∷_ (13, Rows'.any-gone (Syntax.tyInt Syntax.w64)) (List._∷_ (14, Rows'.any-gone Syntax.tyPtr) (List._∷_ (
+      15,
+      Rows'.any-gone Syntax.tyPtr,
+    ) List.[])))))))))))))))
 
 abbrev pub t38 : List.List Row.Entry
 t38 = List._∷_ (0, Rows'.sc-here Row.sUnit) (List._∷_ (1, Mut.mslice (Element.type) (Syntax.tyRef (Syntax.named 0) Syntax.mut Element.behind) 0) (List._∷_ (2, Rows'.sc-here (Row.sInt Syntax.w64))
     (List._∷_ (
       3,
-      Rows'.any-gone (Syntax.tyStruct (List._∷_ 112 (List._∷_ 97 (List._∷_ 115 (List._∷_ 115 (List._∷_ 58 (List._∷_ 58 (List._∷_ 83 (List._∷_ 101 (List._∷_ 116 List.[]))))))))) (Syntax.tcons
-          (Syntax.tyArray (Syntax.tyInt Syntax.w32) 112) (Syntax.tcons (Syntax.tyArray (Syntax.tyInt Syntax.w32) 112) Syntax.tnil))),
+      Rows'.any-gone (Syntax.tyStruct (List._∷_ 115 (List._∷_ 116 (List._∷_ 101 (List._∷_ 112 (List._∷_ 115 (List._∷_ 58 (List._∷_ 58 (List._∷_ 83 (List._∷_ 101 (List._∷_ 116
+          List.[])))))))))) (Syntax.tcons (Syntax.tyArray (Syntax.tyInt Syntax.w32) 112) (Syntax.tcons (Syntax.tyArray (Syntax.tyInt Syntax.w32) 112) Syntax.tnil))),
     ) (List._∷_ (
       4,
-      Rows'.any-gone (Syntax.tyArray (Syntax.tyInt Syntax.w32)
-          112),
+      Rows'.any-gone
+          (Syntax.tyArray (Syntax.tyInt Syntax.w32) 112),
     ) (List._∷_ (5, Rows'.any-gone (Syntax.tyArray (Syntax.tyInt Syntax.w32) 112)) (List._∷_ (6, Rows'.any-gone (Syntax.tyInt Syntax.w64)) (List._∷_ (
       7,
-      Rows'.any-gone (Syntax.tyStruct (List._∷_
-          115 (List._∷_ 116 (List._∷_ 97 (List._∷_ 116 (List._∷_ 105 (List._∷_ 115 (List._∷_ 116 (List._∷_ 105 (List._∷_ 99 (List._∷_ 115 (List._∷_ 58 (List._∷_ 58 (List._∷_ 82 (List._∷_ 101 (List._∷_ 99
-          (List._∷_ 111 (List._∷_ 114 (List._∷_ 100 List.[])))))))))))))))))) (Syntax.tcons (Syntax.tyInt Syntax.w32) (Syntax.tcons (Syntax.tyInt Syntax.w32) Syntax.tnil))),
-    ) (List._∷_ (
-      8,
+      Rows'.any-gone (Syntax.tyStruct (List._∷_ 115 (List._∷_ 116 (List._∷_ 97 (List._∷_ 116 (List._∷_ 105 (List._∷_ 115 (List._∷_ 116 (List._∷_ 105 (List._∷_ 99 (List._∷_ 115 (List._∷_ 58 (List._∷_ 58
+          (List._∷_ 82 (List._∷_ 101 (List._∷_ 99 (List._∷_ 111 (List._∷_ 114 (List._∷_ 100 List.[])))))))))))))))))) (Syntax.tcons (Syntax.tyInt Syntax.w32) (Syntax.tcons (Syntax.tyInt Syntax.w32)
+          Syntax.tnil))),
+    ) (List._∷_ (8, Rows'.any-gone Syntax.tyBool) (List._∷_ (9, Rows'.any-gone (Syntax.tyInt Syntax.w64)) (List._∷_ (10, Rows'.any-gone Syntax.tyPtr) (List._∷_ (
+      11,
       Rows'.any-gone
-          Syntax.tyBool,
-    ) (List._∷_ (9, Rows'.any-gone (Syntax.tyInt Syntax.w64)) (List._∷_ (10, Rows'.any-gone Syntax.tyPtr) (List._∷_ (11, Rows'.any-gone Syntax.tyPtr) (List._∷_ (
-      12,
-      Rows'.any-gone
-          (Syntax.tyInt Syntax.w32),
-    ) (List._∷_ (13, Rows'.any-gone (Syntax.tyInt Syntax.w64)) (List._∷_ (14, Rows'.any-gone Syntax.tyPtr) (List._∷_ (15, Rows'.any-gone Syntax.tyPtr) List.[])))))))))))))))
+          Syntax.tyPtr,
+    ) (List._∷_ (12, Rows'.any-gone (Syntax.tyInt Syntax.w32)) (List._∷_ (13, Rows'.any-gone (Syntax.tyInt Syntax.w64)) (List._∷_ (14, Rows'.any-gone Syntax.tyPtr) (List._∷_ (
+      15,
+      Rows'.any-gone Syntax.tyPtr,
+    ) List.[])))))))))))))))
 
 abbrev pub T0 : Row.Cx
 T0 = record { locals = List._++_ t0 t1; slots = List.[] }
@@ -1344,8 +1299,8 @@ module _ (claims· : Claims) where
       ) (u .1 .1 .1 .0) T′ m′) (λ u. Unit) λ u. Unit
 
   abbrev s2 : (bs : List.List Nat.ℕ) → Typed.Mo T3 → Typed.Mo T4
-  s2 = λ bs. Scalar.n-room T3 3 (Syntax.tyStruct (List._∷_ 112 (List._∷_ 97 (List._∷_ 115 (List._∷_ 115 (List._∷_ 58 (List._∷_ 58 (List._∷_ 83 (List._∷_ 101 (List._∷_ 116 List.[])))))))))
-      (Syntax.tcons (Syntax.tyArray (Syntax.tyInt Syntax.w32) 112) (Syntax.tcons (Syntax.tyArray (Syntax.tyInt Syntax.w32) 112) Syntax.tnil)))
+  s2 = λ bs. Scalar.n-room T3 3 (Syntax.tyStruct (List._∷_ 115 (List._∷_ 116 (List._∷_ 101 (List._∷_ 112 (List._∷_ 115 (List._∷_ 58 (List._∷_ 58 (List._∷_ 83 (List._∷_ 101 (List._∷_ 116
+      List.[])))))))))) (Syntax.tcons (Syntax.tyArray (Syntax.tyInt Syntax.w32) 112) (Syntax.tcons (Syntax.tyArray (Syntax.tyInt Syntax.w32) 112) Syntax.tnil)))
 
   abbrev s3 : (bs : List.List Nat.ℕ) → Typed.Mo T4 → Typed.Mo T5
   s3 = λ bs. Scalar.n-use T4 (Scalar.oInt Syntax.w64 0) 6 (Rows'.sc-here (Row.sInt Syntax.w64)) (Row.sInt Syntax.w64 .of)
@@ -1669,140 +1624,139 @@ module _ (claims· : Claims) where
         g26 = List._∷_ (0, Rows'.any-gone Syntax.tyUnit) (List._∷_ (1, Relend.mslice-owed (Element.type) (Syntax.tyRef (Syntax.named 0) Syntax.mut Element.behind) 0 1 (Row.lease (κs .0) (qs .0)))
             (List._∷_ (2, Rows'.sc-here (Row.sInt Syntax.w64)) (List._∷_ (
               3,
-              Rows'.any-gone (Syntax.tyStruct (List._∷_ 112 (List._∷_ 97 (List._∷_ 115 (List._∷_ 115 (List._∷_ 58 (List._∷_ 58 (List._∷_ 83
-                  (List._∷_ 101 (List._∷_ 116 List.[]))))))))) (Syntax.tcons (Syntax.tyArray (Syntax.tyInt Syntax.w32) 112) (Syntax.tcons (Syntax.tyArray (Syntax.tyInt Syntax.w32) 112) Syntax.tnil))),
-            )
-            (List._∷_ (4, Rows.arrF (Referent.rtF (Referent.fInt Syntax.w32)) 112 0) (List._∷_ (5, Rows.arrF (Referent.rtF (Referent.fInt Syntax.w32)) 112 0) (List._∷_ (
+              Rows'.any-gone (Syntax.tyStruct (List._∷_ 115 (List._∷_ 116 (List._∷_ 101 (List._∷_ 112 (List._∷_ 115 (List._∷_ 58 (List._∷_
+                  58 (List._∷_ 83 (List._∷_ 101 (List._∷_ 116 List.[])))))))))) (Syntax.tcons (Syntax.tyArray (Syntax.tyInt Syntax.w32) 112) (Syntax.tcons (Syntax.tyArray (Syntax.tyInt Syntax.w32) 112)
+                  Syntax.tnil))),
+            ) (List._∷_ (4, Rows.arrF (Referent.rtF (Referent.fInt Syntax.w32)) 112 0) (List._∷_ (5, Rows.arrF (Referent.rtF (Referent.fInt Syntax.w32)) 112 0) (List._∷_ (
               6,
-              Rows'.sc-here (Row.sInt
-                  Syntax.w64),
-            ) (List._∷_ (7, Rows'.whole (Declared.row (Apart.apartT Record.the-type))) (List._∷_ (8, Rows'.any-gone Syntax.tyBool) (List._∷_ (9, Rows'.any-gone (Syntax.tyInt Syntax.w64))
-            (List._∷_ (10, Rows'.any-gone Syntax.tyPtr) (List._∷_ (11, Rows'.any-gone Syntax.tyPtr) (List._∷_ (12, Rows'.any-gone (Syntax.tyInt Syntax.w32)) (List._∷_ (
+              Rows'.sc-here (Row.sInt Syntax.w64),
+            ) (List._∷_ (7, Rows'.whole (Declared.row (Apart.apartT Record.the-type))) (List._∷_ (8, Rows'.any-gone Syntax.tyBool) (List._∷_ (
+              9,
+              Rows'.any-gone
+                  (Syntax.tyInt Syntax.w64),
+            ) (List._∷_ (10, Rows'.any-gone Syntax.tyPtr) (List._∷_ (11, Rows'.any-gone Syntax.tyPtr) (List._∷_ (12, Rows'.any-gone (Syntax.tyInt Syntax.w32)) (List._∷_ (
               13,
-              Rows'.any-gone (Syntax.tyInt
-                  Syntax.w64),
+              Rows'.any-gone (Syntax.tyInt Syntax.w64),
             ) (List._∷_ (14, Rows'.any-gone Syntax.tyPtr) (List._∷_ (15, Rows'.any-gone Syntax.tyPtr) List.[])))))))))))))))
 
         abbrev g29 : List.List Row.Entry
         g29 = List._∷_ (0, Rows'.any-gone Syntax.tyUnit) (List._∷_ (1, Relend.mslice-owed (Element.type) (Syntax.tyRef (Syntax.named 0) Syntax.mut Element.behind) 0 1 (Row.lease (κs .0) (qs .0)))
             (List._∷_ (2, Rows'.sc-here (Row.sInt Syntax.w64)) (List._∷_ (
               3,
-              Rows'.any-gone (Syntax.tyStruct (List._∷_ 112 (List._∷_ 97 (List._∷_ 115 (List._∷_ 115 (List._∷_ 58 (List._∷_ 58 (List._∷_ 83
-                  (List._∷_ 101 (List._∷_ 116 List.[]))))))))) (Syntax.tcons (Syntax.tyArray (Syntax.tyInt Syntax.w32) 112) (Syntax.tcons (Syntax.tyArray (Syntax.tyInt Syntax.w32) 112) Syntax.tnil))),
-            )
-            (List._∷_ (4, Rows.arrF (Referent.rtF (Referent.fInt Syntax.w32)) 112 0) (List._∷_ (5, Rows.arrF (Referent.rtF (Referent.fInt Syntax.w32)) 112 0) (List._∷_ (
+              Rows'.any-gone (Syntax.tyStruct (List._∷_ 115 (List._∷_ 116 (List._∷_ 101 (List._∷_ 112 (List._∷_ 115 (List._∷_ 58 (List._∷_
+                  58 (List._∷_ 83 (List._∷_ 101 (List._∷_ 116 List.[])))))))))) (Syntax.tcons (Syntax.tyArray (Syntax.tyInt Syntax.w32) 112) (Syntax.tcons (Syntax.tyArray (Syntax.tyInt Syntax.w32) 112)
+                  Syntax.tnil))),
+            ) (List._∷_ (4, Rows.arrF (Referent.rtF (Referent.fInt Syntax.w32)) 112 0) (List._∷_ (5, Rows.arrF (Referent.rtF (Referent.fInt Syntax.w32)) 112 0) (List._∷_ (
               6,
-              Rows'.sc-here (Row.sInt
-                  Syntax.w64),
-            ) (List._∷_ (7, Rows'.whole (Declared.row (Apart.apartT Record.the-type))) (List._∷_ (8, Rows'.any-gone Syntax.tyBool) (List._∷_ (9, Rows'.sc-here (Row.sInt Syntax.w64))
-            (List._∷_ (10, Rows'.any-gone Syntax.tyPtr) (List._∷_ (11, Rows'.any-gone Syntax.tyPtr) (List._∷_ (12, Rows'.any-gone (Syntax.tyInt Syntax.w32)) (List._∷_ (
+              Rows'.sc-here (Row.sInt Syntax.w64),
+            ) (List._∷_ (7, Rows'.whole (Declared.row (Apart.apartT Record.the-type))) (List._∷_ (8, Rows'.any-gone Syntax.tyBool) (List._∷_ (
+              9,
+              Rows'.sc-here
+                  (Row.sInt Syntax.w64),
+            ) (List._∷_ (10, Rows'.any-gone Syntax.tyPtr) (List._∷_ (11, Rows'.any-gone Syntax.tyPtr) (List._∷_ (12, Rows'.any-gone (Syntax.tyInt Syntax.w32)) (List._∷_ (
               13,
-              Rows'.any-gone (Syntax.tyInt
-                  Syntax.w64),
+              Rows'.any-gone (Syntax.tyInt Syntax.w64),
             ) (List._∷_ (14, Rows'.any-gone Syntax.tyPtr) (List._∷_ (15, Rows'.any-gone Syntax.tyPtr) List.[])))))))))))))))
 
         abbrev g30 : List.List Row.Entry
         g30 = List._∷_ (0, Rows'.any-gone Syntax.tyUnit) (List._∷_ (1, Relend.mslice-owed (Element.type) (Syntax.tyRef (Syntax.named 0) Syntax.mut Element.behind) 0 1 (Row.lease (κs .0) (qs .0)))
             (List._∷_ (2, Rows'.sc-here (Row.sInt Syntax.w64)) (List._∷_ (
               3,
-              Rows'.any-gone (Syntax.tyStruct (List._∷_ 112 (List._∷_ 97 (List._∷_ 115 (List._∷_ 115 (List._∷_ 58 (List._∷_ 58 (List._∷_ 83
-                  (List._∷_ 101 (List._∷_ 116 List.[]))))))))) (Syntax.tcons (Syntax.tyArray (Syntax.tyInt Syntax.w32) 112) (Syntax.tcons (Syntax.tyArray (Syntax.tyInt Syntax.w32) 112) Syntax.tnil))),
-            )
-            (List._∷_ (4, Rows.arrF (Referent.rtF (Referent.fInt Syntax.w32)) 112 0) (List._∷_ (5, Rows.arrF (Referent.rtF (Referent.fInt Syntax.w32)) 112 0) (List._∷_ (
+              Rows'.any-gone (Syntax.tyStruct (List._∷_ 115 (List._∷_ 116 (List._∷_ 101 (List._∷_ 112 (List._∷_ 115 (List._∷_ 58 (List._∷_
+                  58 (List._∷_ 83 (List._∷_ 101 (List._∷_ 116 List.[])))))))))) (Syntax.tcons (Syntax.tyArray (Syntax.tyInt Syntax.w32) 112) (Syntax.tcons (Syntax.tyArray (Syntax.tyInt Syntax.w32) 112)
+                  Syntax.tnil))),
+            ) (List._∷_ (4, Rows.arrF (Referent.rtF (Referent.fInt Syntax.w32)) 112 0) (List._∷_ (5, Rows.arrF (Referent.rtF (Referent.fInt Syntax.w32)) 112 0) (List._∷_ (
               6,
-              Rows'.sc-here (Row.sInt
-                  Syntax.w64),
-            ) (List._∷_ (7, Rows'.whole (Declared.row (Apart.apartT Record.the-type))) (List._∷_ (8, Rows'.any-gone Syntax.tyBool) (List._∷_ (9, Rows'.sc-here (Row.sInt Syntax.w64))
-            (List._∷_ (10, Rows'.any-gone Syntax.tyPtr) (List._∷_ (11, Rows'.any-gone Syntax.tyPtr) (List._∷_ (12, Rows'.any-gone (Syntax.tyInt Syntax.w32)) (List._∷_ (
+              Rows'.sc-here (Row.sInt Syntax.w64),
+            ) (List._∷_ (7, Rows'.whole (Declared.row (Apart.apartT Record.the-type))) (List._∷_ (8, Rows'.any-gone Syntax.tyBool) (List._∷_ (
+              9,
+              Rows'.sc-here
+                  (Row.sInt Syntax.w64),
+            ) (List._∷_ (10, Rows'.any-gone Syntax.tyPtr) (List._∷_ (11, Rows'.any-gone Syntax.tyPtr) (List._∷_ (12, Rows'.any-gone (Syntax.tyInt Syntax.w32)) (List._∷_ (
               13,
-              Rows'.sc-here (Row.sInt
-                  Syntax.w64),
+              Rows'.sc-here (Row.sInt Syntax.w64),
             ) (List._∷_ (14, Rows'.any-gone Syntax.tyPtr) (List._∷_ (15, Rows'.any-gone Syntax.tyPtr) List.[])))))))))))))))
 
         abbrev g31 : List.List Row.Entry
         g31 = List._∷_ (0, Rows'.any-gone Syntax.tyUnit) (List._∷_ (1, Relend.mslice-owed (Element.type) (Syntax.tyRef (Syntax.named 0) Syntax.mut Element.behind) 0 1 (Row.lease (κs .0) (qs .0)))
             (List._∷_ (2, Rows'.sc-here (Row.sInt Syntax.w64)) (List._∷_ (
               3,
-              Rows'.any-gone (Syntax.tyStruct (List._∷_ 112 (List._∷_ 97 (List._∷_ 115 (List._∷_ 115 (List._∷_ 58 (List._∷_ 58 (List._∷_ 83
-                  (List._∷_ 101 (List._∷_ 116 List.[]))))))))) (Syntax.tcons (Syntax.tyArray (Syntax.tyInt Syntax.w32) 112) (Syntax.tcons (Syntax.tyArray (Syntax.tyInt Syntax.w32) 112) Syntax.tnil))),
-            )
-            (List._∷_ (4, Rows.arrF (Referent.rtF (Referent.fInt Syntax.w32)) 112 0) (List._∷_ (5, Rows.arrF (Referent.rtF (Referent.fInt Syntax.w32)) 112 0) (List._∷_ (
+              Rows'.any-gone (Syntax.tyStruct (List._∷_ 115 (List._∷_ 116 (List._∷_ 101 (List._∷_ 112 (List._∷_ 115 (List._∷_ 58 (List._∷_
+                  58 (List._∷_ 83 (List._∷_ 101 (List._∷_ 116 List.[])))))))))) (Syntax.tcons (Syntax.tyArray (Syntax.tyInt Syntax.w32) 112) (Syntax.tcons (Syntax.tyArray (Syntax.tyInt Syntax.w32) 112)
+                  Syntax.tnil))),
+            ) (List._∷_ (4, Rows.arrF (Referent.rtF (Referent.fInt Syntax.w32)) 112 0) (List._∷_ (5, Rows.arrF (Referent.rtF (Referent.fInt Syntax.w32)) 112 0) (List._∷_ (
               6,
-              Rows'.sc-here (Row.sInt
-                  Syntax.w64),
-            ) (List._∷_ (7, Rows'.whole (Declared.row (Apart.apartT Record.the-type))) (List._∷_ (8, Rows'.any-gone Syntax.tyBool) (List._∷_ (9, Rows'.any-gone (Syntax.tyInt Syntax.w64))
-            (List._∷_ (10, Rows'.any-gone Syntax.tyPtr) (List._∷_ (11, Rows'.any-gone Syntax.tyPtr) (List._∷_ (12, Rows'.any-gone (Syntax.tyInt Syntax.w32)) (List._∷_ (
+              Rows'.sc-here (Row.sInt Syntax.w64),
+            ) (List._∷_ (7, Rows'.whole (Declared.row (Apart.apartT Record.the-type))) (List._∷_ (8, Rows'.any-gone Syntax.tyBool) (List._∷_ (
+              9,
+              Rows'.any-gone
+                  (Syntax.tyInt Syntax.w64),
+            ) (List._∷_ (10, Rows'.any-gone Syntax.tyPtr) (List._∷_ (11, Rows'.any-gone Syntax.tyPtr) (List._∷_ (12, Rows'.any-gone (Syntax.tyInt Syntax.w32)) (List._∷_ (
               13,
-              Rows'.sc-here (Row.sInt
-                  Syntax.w64),
+              Rows'.sc-here (Row.sInt Syntax.w64),
             ) (List._∷_ (14, Rows'.any-gone Syntax.tyPtr) (List._∷_ (15, Rows'.any-gone Syntax.tyPtr) List.[])))))))))))))))
 
         abbrev g32 : List.List Row.Entry
         g32 = List._∷_ (0, Rows'.any-gone Syntax.tyUnit) (List._∷_ (1, Relend.mslice-owed (Element.type) (Syntax.tyRef (Syntax.named 0) Syntax.mut Element.behind) 0 1 (Row.lease (κs .0) (qs .0)))
             (List._∷_ (2, Rows'.sc-here (Row.sInt Syntax.w64)) (List._∷_ (
               3,
-              Rows'.any-gone (Syntax.tyStruct (List._∷_ 112 (List._∷_ 97 (List._∷_ 115 (List._∷_ 115 (List._∷_ 58 (List._∷_ 58 (List._∷_ 83
-                  (List._∷_ 101 (List._∷_ 116 List.[]))))))))) (Syntax.tcons (Syntax.tyArray (Syntax.tyInt Syntax.w32) 112) (Syntax.tcons (Syntax.tyArray (Syntax.tyInt Syntax.w32) 112) Syntax.tnil))),
-            )
-            (List._∷_ (4, Rows.arrF (Referent.rtF (Referent.fInt Syntax.w32)) 112 0) (List._∷_ (5, Rows.arrF (Referent.rtF (Referent.fInt Syntax.w32)) 112 0) (List._∷_ (
+              Rows'.any-gone (Syntax.tyStruct (List._∷_ 115 (List._∷_ 116 (List._∷_ 101 (List._∷_ 112 (List._∷_ 115 (List._∷_ 58 (List._∷_
+                  58 (List._∷_ 83 (List._∷_ 101 (List._∷_ 116 List.[])))))))))) (Syntax.tcons (Syntax.tyArray (Syntax.tyInt Syntax.w32) 112) (Syntax.tcons (Syntax.tyArray (Syntax.tyInt Syntax.w32) 112)
+                  Syntax.tnil))),
+            ) (List._∷_ (4, Rows.arrF (Referent.rtF (Referent.fInt Syntax.w32)) 112 0) (List._∷_ (5, Rows.arrF (Referent.rtF (Referent.fInt Syntax.w32)) 112 0) (List._∷_ (
               6,
-              Rows'.sc-here (Row.sInt
+              Rows'.sc-here (Row.sInt Syntax.w64),
+            ) (List._∷_ (7, Rows'.whole (Declared.row Record.the-type)) (List._∷_ (8, Rows'.any-gone Syntax.tyBool) (List._∷_ (
+              9,
+              Rows'.any-gone (Syntax.tyInt
                   Syntax.w64),
-            ) (List._∷_ (7, Rows'.whole (Declared.row Record.the-type)) (List._∷_ (8, Rows'.any-gone Syntax.tyBool) (List._∷_ (9, Rows'.any-gone (Syntax.tyInt Syntax.w64)) (List._∷_ (
-              10,
-              Rows'.any-gone Syntax.tyPtr,
-            ) (List._∷_ (11, Rows'.any-gone Syntax.tyPtr) (List._∷_ (12, Rows'.any-gone (Syntax.tyInt Syntax.w32)) (List._∷_ (13, Rows'.sc-here (Row.sInt Syntax.w64))
-            (List._∷_ (14, Rows'.any-gone Syntax.tyPtr) (List._∷_ (15, Rows'.any-gone Syntax.tyPtr) List.[])))))))))))))))
+            ) (List._∷_ (10, Rows'.any-gone Syntax.tyPtr) (List._∷_ (11, Rows'.any-gone Syntax.tyPtr) (List._∷_ (12, Rows'.any-gone (Syntax.tyInt Syntax.w32)) (List._∷_ (
+              13,
+              Rows'.sc-here
+                  (Row.sInt Syntax.w64),
+            ) (List._∷_ (14, Rows'.any-gone Syntax.tyPtr) (List._∷_ (15, Rows'.any-gone Syntax.tyPtr) List.[])))))))))))))))
 
         abbrev g34 : List.List Row.Entry
         g34 = List._∷_ (0, Rows'.any-gone Syntax.tyUnit) (List._∷_ (1, Relend.mslice-owed (Element.type) (Syntax.tyRef (Syntax.named 0) Syntax.mut Element.behind) 0 1 (Row.lease (κs .0) (qs .0)))
             (List._∷_ (2, Rows'.sc-here (Row.sInt Syntax.w64)) (List._∷_ (
               3,
-              Rows'.any-gone (Syntax.tyStruct (List._∷_ 112 (List._∷_ 97 (List._∷_ 115 (List._∷_ 115 (List._∷_ 58 (List._∷_ 58 (List._∷_ 83
-                  (List._∷_ 101 (List._∷_ 116 List.[]))))))))) (Syntax.tcons (Syntax.tyArray (Syntax.tyInt Syntax.w32) 112) (Syntax.tcons (Syntax.tyArray (Syntax.tyInt Syntax.w32) 112) Syntax.tnil))),
-            )
-            (List._∷_ (4, Rows.arrF (Referent.rtF (Referent.fInt Syntax.w32)) 112 0) (List._∷_ (5, Rows.arrF (Referent.rtF (Referent.fInt Syntax.w32)) 112 0) (List._∷_ (
+              Rows'.any-gone (Syntax.tyStruct (List._∷_ 115 (List._∷_ 116 (List._∷_ 101 (List._∷_ 112 (List._∷_ 115 (List._∷_ 58 (List._∷_
+                  58 (List._∷_ 83 (List._∷_ 101 (List._∷_ 116 List.[])))))))))) (Syntax.tcons (Syntax.tyArray (Syntax.tyInt Syntax.w32) 112) (Syntax.tcons (Syntax.tyArray (Syntax.tyInt Syntax.w32) 112)
+                  Syntax.tnil))),
+            ) (List._∷_ (4, Rows.arrF (Referent.rtF (Referent.fInt Syntax.w32)) 112 0) (List._∷_ (5, Rows.arrF (Referent.rtF (Referent.fInt Syntax.w32)) 112 0) (List._∷_ (
               6,
-              Rows'.sc-here (Row.sInt
-                  Syntax.w64),
+              Rows'.sc-here (Row.sInt Syntax.w64),
             ) (List._∷_ (
               7,
-              Rows'.any-gone (Syntax.tyStruct (List._∷_ 115 (List._∷_ 116 (List._∷_ 97 (List._∷_ 116 (List._∷_ 105 (List._∷_ 115 (List._∷_ 116 (List._∷_ 105 (List._∷_ 99
-                  (List._∷_ 115 (List._∷_ 58 (List._∷_ 58 (List._∷_ 82 (List._∷_ 101 (List._∷_ 99 (List._∷_ 111 (List._∷_ 114 (List._∷_ 100 List.[])))))))))))))))))) (Syntax.tcons (Syntax.tyInt Syntax.w32)
-                  (Syntax.tcons (Syntax.tyInt Syntax.w32) Syntax.tnil))),
+              Rows'.any-gone (Syntax.tyStruct (List._∷_ 115 (List._∷_ 116 (List._∷_ 97 (List._∷_ 116 (List._∷_ 105 (List._∷_ 115 (List._∷_ 116 (List._∷_
+                  105 (List._∷_ 99 (List._∷_ 115 (List._∷_ 58 (List._∷_ 58 (List._∷_ 82 (List._∷_ 101 (List._∷_ 99 (List._∷_ 111 (List._∷_ 114 (List._∷_ 100 List.[])))))))))))))))))) (Syntax.tcons (Syntax.tyInt
+                  Syntax.w32) (Syntax.tcons (Syntax.tyInt Syntax.w32) Syntax.tnil))),
             ) (List._∷_ (8, Rows'.any-gone Syntax.tyBool) (List._∷_ (9, Rows'.any-gone (Syntax.tyInt Syntax.w64)) (List._∷_ (
               10,
-              Rows'.any-gone
-                  Syntax.tyPtr,
-            ) (List._∷_ (11, Rows'.any-gone Syntax.tyPtr) (List._∷_ (12, Rows'.any-gone (Syntax.tyInt Syntax.w32)) (List._∷_ (13, Rows'.sc-here (Row.sInt Syntax.w64)) (List._∷_ (
-              14,
               Rows'.any-gone Syntax.tyPtr,
-            ) (List._∷_ (15, Rows'.any-gone Syntax.tyPtr) List.[])))))))))))))))
+            ) (List._∷_ (11, Rows'.any-gone Syntax.tyPtr) (List._∷_ (12, Rows'.any-gone (Syntax.tyInt Syntax.w32)) (List._∷_ (13, Rows'.sc-here (Row.sInt Syntax.w64))
+            (List._∷_ (14, Rows'.any-gone Syntax.tyPtr) (List._∷_ (15, Rows'.any-gone Syntax.tyPtr) List.[])))))))))))))))
 
         abbrev g35 : List.List Row.Entry
         g35 = List._∷_ (0, Rows'.any-gone Syntax.tyUnit) (List._∷_ (1, Relend.mslice-owed (Element.type) (Syntax.tyRef (Syntax.named 0) Syntax.mut Element.behind) 0 1 (Row.lease (κs .0) (qs .0)))
             (List._∷_ (2, Rows'.sc-here (Row.sInt Syntax.w64)) (List._∷_ (
               3,
-              Rows'.any-gone (Syntax.tyStruct (List._∷_ 112 (List._∷_ 97 (List._∷_ 115 (List._∷_ 115 (List._∷_ 58 (List._∷_ 58 (List._∷_ 83
-                  (List._∷_ 101 (List._∷_ 116 List.[]))))))))) (Syntax.tcons (Syntax.tyArray (Syntax.tyInt Syntax.w32) 112) (Syntax.tcons (Syntax.tyArray (Syntax.tyInt Syntax.w32) 112) Syntax.tnil))),
-            )
-            (List._∷_ (4, Rows.arrF (Referent.rtF (Referent.fInt Syntax.w32)) 112 0) (List._∷_ (5, Rows.arrF (Referent.rtF (Referent.fInt Syntax.w32)) 112 0) (List._∷_ (
+              Rows'.any-gone (Syntax.tyStruct (List._∷_ 115 (List._∷_ 116 (List._∷_ 101 (List._∷_ 112 (List._∷_ 115 (List._∷_ 58 (List._∷_
+                  58 (List._∷_ 83 (List._∷_ 101 (List._∷_ 116 List.[])))))))))) (Syntax.tcons (Syntax.tyArray (Syntax.tyInt Syntax.w32) 112) (Syntax.tcons (Syntax.tyArray (Syntax.tyInt Syntax.w32) 112)
+                  Syntax.tnil))),
+            ) (List._∷_ (4, Rows.arrF (Referent.rtF (Referent.fInt Syntax.w32)) 112 0) (List._∷_ (5, Rows.arrF (Referent.rtF (Referent.fInt Syntax.w32)) 112 0) (List._∷_ (
               6,
-              Rows'.sc-here (Row.sInt
-                  Syntax.w64),
+              Rows'.sc-here (Row.sInt Syntax.w64),
             ) (List._∷_ (
               7,
-              Rows'.any-gone (Syntax.tyStruct (List._∷_ 115 (List._∷_ 116 (List._∷_ 97 (List._∷_ 116 (List._∷_ 105 (List._∷_ 115 (List._∷_ 116 (List._∷_ 105 (List._∷_ 99
-                  (List._∷_ 115 (List._∷_ 58 (List._∷_ 58 (List._∷_ 82 (List._∷_ 101 (List._∷_ 99 (List._∷_ 111 (List._∷_ 114 (List._∷_ 100 List.[])))))))))))))))))) (Syntax.tcons (Syntax.tyInt Syntax.w32)
-                  (Syntax.tcons (Syntax.tyInt Syntax.w32) Syntax.tnil))),
+              Rows'.any-gone (Syntax.tyStruct (List._∷_ 115 (List._∷_ 116 (List._∷_ 97 (List._∷_ 116 (List._∷_ 105 (List._∷_ 115 (List._∷_ 116 (List._∷_
+                  105 (List._∷_ 99 (List._∷_ 115 (List._∷_ 58 (List._∷_ 58 (List._∷_ 82 (List._∷_ 101 (List._∷_ 99 (List._∷_ 111 (List._∷_ 114 (List._∷_ 100 List.[])))))))))))))))))) (Syntax.tcons (Syntax.tyInt
+                  Syntax.w32) (Syntax.tcons (Syntax.tyInt Syntax.w32) Syntax.tnil))),
             ) (List._∷_ (8, Rows'.any-gone Syntax.tyBool) (List._∷_ (9, Rows'.any-gone (Syntax.tyInt Syntax.w64)) (List._∷_ (
               10,
-              Rows'.any-gone
-                  Syntax.tyPtr,
-            ) (List._∷_ (11, Rows'.any-gone Syntax.tyPtr) (List._∷_ (12, Rows'.any-gone (Syntax.tyInt Syntax.w32)) (List._∷_ (13, Rows'.any-gone (Syntax.tyInt Syntax.w64)) (List._∷_ (
-              14,
               Rows'.any-gone Syntax.tyPtr,
-            ) (List._∷_ (15, Rows'.any-gone Syntax.tyPtr) List.[])))))))))))))))
+            ) (List._∷_ (11, Rows'.any-gone Syntax.tyPtr) (List._∷_ (12, Rows'.any-gone (Syntax.tyInt Syntax.w32)) (List._∷_ (13, Rows'.any-gone (Syntax.tyInt Syntax.w64))
+            (List._∷_ (14, Rows'.any-gone Syntax.tyPtr) (List._∷_ (15, Rows'.any-gone Syntax.tyPtr) List.[])))))))))))))))
 
         abbrev G0 : Row.Cx
         G0 = record { locals = List._++_ t0 t1; slots = List._∷_ (Row.lease (κs .0) (qs .0)) (List._∷_ Row.off List.[]) }
@@ -2040,15 +1994,15 @@ module _ (claims· : Claims) where
                   (
                     (
                       Yields.yields-copy 𝓤 H A W (λ ρ. Unit)
-                          (Declared.row Record.the-type) Path'.refl (Copies.cStruct Record.the-type Laws'.the-laws Laws'.the-copy .copy 𝓤 H A W) (Rows'.whole (Declared.row Record.the-type)) (λ x. x) (λ x. x) (λ ρ
-                          told. Local.mem-whole 𝓤 H A W (Declared.row Record.the-type) ρ) λ ρ told. Local.whole-mem 𝓤 H A W (Declared.row Record.the-type) ρ,
+                          (Declared.row Record.the-type) Path'.refl (Copies.cStruct Record.the-type Laws.the-laws Laws.the-copy .copy 𝓤 H A W) (Rows'.whole (Declared.row Record.the-type)) (λ x. x) (λ x. x) (λ ρ told.
+                          Local.mem-whole 𝓤 H A W (Declared.row Record.the-type) ρ) λ ρ told. Local.whole-mem 𝓤 H A W (Declared.row Record.the-type) ρ,
                       Path'.refl,
                     ),
                     tt,
                   ),
                 ),
-              ) (Reads.room-gone 𝓤 H A
-              Syntax.tyUnit) (tt, tt) Path'.refl) d13
+              ) (Reads.room-gone 𝓤 H A Syntax.tyUnit)
+              (tt, tt) Path'.refl) d13
 
           d15 : Typed.Typed 𝓤 H A 𝓣 E G35 b22 Δ3 (at15 bs)
           d15 = Typed.g-pre 𝓤 H A W 𝓣 E G35 G36 b22 Δ3 (Typed.pass T35 T36 (s32 bs)) (at14 bs) (AtSlots.g-as-by 𝓤 H A W E (λ ρ. Unit) G35 7 (Rows'.whole (Declared.row Record.the-type)) (λ v.
@@ -2145,7 +2099,7 @@ module _ (claims· : Claims) where
               d22
 
           d24 : Typed.Typed 𝓤 H A 𝓣 E G26 b27 Δ3 (at24 bs)
-          d24 = Typed.s-seq 𝓤 H A W 𝓣 E G26 G27 b15 b26 Δ3 (Typed.pass T26 T27 (s23 bs)) (at23 bs) (Make.t-struct-make 𝓤 H A W E 𝓣 (Apart.apartT Record.the-type) Laws'.the-laws Laws'.the-plain G26 7
+          d24 = Typed.s-seq 𝓤 H A W 𝓣 E G26 G27 b15 b26 Δ3 (Typed.pass T26 T27 (s23 bs)) (at23 bs) (Make.t-struct-make 𝓤 H A W E 𝓣 (Apart.apartT Record.the-type) Laws.the-laws Laws.the-plain G26 7
               (List._∷_ (Scalar.oAt 12 (Syntax.tyInt Syntax.w32) (Row.valS (Row.sInt Syntax.w32))) (List._∷_ (Scalar.oAt 16 (Syntax.tyInt Syntax.w32) (Row.valS (Row.sInt Syntax.w32))) List.[])) (λ m. (
                 m
                     .1 .1 .1 .1 .1 .1 .1 .1 .1 .1 .1 .1 .0,
@@ -2158,7 +2112,7 @@ module _ (claims· : Claims) where
                   Path'.refl,
                 ),
                 ((Scalar.reads-sc 𝓤 H A W (Row.sInt Syntax.w32), Path'.refl), tt),
-              ) Path'.refl (λ u. Path'.refl) λ m. Make.is-wt (Apart.apartT Record.the-type) Laws'.the-laws (
+              ) Path'.refl (λ u. Path'.refl) λ m. Make.is-wt (Apart.apartT Record.the-type) Laws.the-laws (
                 Make.u32-wt,
                 (Make.u32-wt, tt),
               ) (m .1 .1 .1 .1 .1 .1 .1 .1 .1 .1 .1 .1 .0, (m .1 .1 .1 .1 .1 .1 .1 .1 .1 .1 .1 .1 .1 .1 .1 .1 .0, tt))) d23
@@ -2265,11 +2219,11 @@ module _ (claims· : Claims) where
               Path'.refl (λ u. Path'.refl) λ u. tt) d47
 
           d49 : Typed.Typed 𝓤 H A 𝓣 E G3 b44 Δ0 (at49 bs)
-          d49 = Typed.g-pre 𝓤 H A W 𝓣 E G3 G4 b44 Δ0 (Typed.pass T3 T4 (s2 bs)) (at48 bs) (Scalar.g-room 𝓤 H A W E G3 3 (Syntax.tyStruct (List._∷_ 112 (List._∷_ 97 (List._∷_ 115 (List._∷_ 115
-              (List._∷_ 58 (List._∷_ 58 (List._∷_ 83 (List._∷_ 101 (List._∷_ 116 List.[]))))))))) (Syntax.tcons (Syntax.tyArray (Syntax.tyInt Syntax.w32) 112) (Syntax.tcons (Syntax.tyArray (Syntax.tyInt
-              Syntax.w32) 112) Syntax.tnil))) (Local.room-whole 𝓤 H A W (Declared.row Set.the-type) (Syntax.tyStruct (List._∷_ 112 (List._∷_ 97 (List._∷_ 115 (List._∷_ 115 (List._∷_ 58 (List._∷_ 58
-              (List._∷_ 83 (List._∷_ 101 (List._∷_ 116 List.[]))))))))) (Syntax.tcons (Syntax.tyArray (Syntax.tyInt Syntax.w32) 112) (Syntax.tcons (Syntax.tyArray (Syntax.tyInt Syntax.w32) 112)
-              Syntax.tnil))) Path'.refl)) d48
+          d49 = Typed.g-pre 𝓤 H A W 𝓣 E G3 G4 b44 Δ0 (Typed.pass T3 T4 (s2 bs)) (at48 bs) (Scalar.g-room 𝓤 H A W E G3 3 (Syntax.tyStruct (List._∷_ 115 (List._∷_ 116 (List._∷_ 101 (List._∷_ 112
+              (List._∷_ 115 (List._∷_ 58 (List._∷_ 58 (List._∷_ 83 (List._∷_ 101 (List._∷_ 116 List.[])))))))))) (Syntax.tcons (Syntax.tyArray (Syntax.tyInt Syntax.w32) 112) (Syntax.tcons (Syntax.tyArray
+              (Syntax.tyInt Syntax.w32) 112) Syntax.tnil))) (Local.room-whole 𝓤 H A W (Declared.row Set.the-type) (Syntax.tyStruct (List._∷_ 115 (List._∷_ 116 (List._∷_ 101 (List._∷_ 112 (List._∷_ 115
+              (List._∷_ 58 (List._∷_ 58 (List._∷_ 83 (List._∷_ 101 (List._∷_ 116 List.[])))))))))) (Syntax.tcons (Syntax.tyArray (Syntax.tyInt Syntax.w32) 112) (Syntax.tcons (Syntax.tyArray (Syntax.tyInt
+              Syntax.w32) 112) Syntax.tnil))) Path'.refl)) d48
 
           d50 : Typed.Typed 𝓤 H A 𝓣 E G2 b45 Δ0 (at50 bs)
           d50 = Typed.s-seq 𝓤 H A W 𝓣 E G2 G3 b1 b44 Δ0 (Typed.both (s1 bs)) (at49 bs) (WayStmt.t-way-copy-out 𝓤 H A W E 𝓣 (Array.Array (Referent.rtF (Referent.fInt Syntax.w32)) 112) Path'.refl
@@ -2280,9 +2234,9 @@ module _ (claims· : Claims) where
                 slots = G2 .slots;
               }) (λ u T′ m′. Row.set 3 (3, Rows'.whole (Declared.row Set.the-type)) (u .1 .1 .1 .0) T′ m′) (λ u.
               Unit) (λ x. Unit) (Own.told-none 𝓤 H A (G2 .slots)) (DerefMove.learns-nothing 𝓤 H A (Array.Array (Referent.rtF (Referent.fInt Syntax.w32)) 112)) (λ ρ told u asked. Way'.w-partˢ 𝓤 H A W E
-              (Declared.row Set.the-type) (Array.Array (Referent.rtF (Referent.fInt Syntax.w32)) 112) (Syntax.tyStruct (List._∷_ 112 (List._∷_ 97 (List._∷_ 115 (List._∷_ 115 (List._∷_ 58 (List._∷_ 58
-              (List._∷_ 83 (List._∷_ 101 (List._∷_ 116 List.[]))))))))) (Syntax.tcons (Syntax.tyArray (Syntax.tyInt Syntax.w32) 112) (Syntax.tcons (Syntax.tyArray (Syntax.tyInt Syntax.w32) 112)
-              Syntax.tnil))) (Syntax.tyArray (Syntax.tyInt Syntax.w32) 112) 1 448 (u .1 .1 .1 .0) (At.getAt (Set.the-type .parts) 1 (Set.struct .as-values (u .1 .1 .1 .0))) (
+              (Declared.row Set.the-type) (Array.Array (Referent.rtF (Referent.fInt Syntax.w32)) 112) (Syntax.tyStruct (List._∷_ 115 (List._∷_ 116 (List._∷_ 101 (List._∷_ 112 (List._∷_ 115 (List._∷_ 58
+              (List._∷_ 58 (List._∷_ 83 (List._∷_ 101 (List._∷_ 116 List.[])))))))))) (Syntax.tcons (Syntax.tyArray (Syntax.tyInt Syntax.w32) 112) (Syntax.tcons (Syntax.tyArray (Syntax.tyInt Syntax.w32)
+              112) Syntax.tnil))) (Syntax.tyArray (Syntax.tyInt Syntax.w32) 112) 1 448 (u .1 .1 .1 .0) (At.getAt (Set.the-type .parts) 1 (Set.struct .as-values (u .1 .1 .1 .0))) (
                 Row.hd 0 (Row.tl (Row.tl
                     (Row.tl bs))),
                 0,
@@ -2293,7 +2247,7 @@ module _ (claims· : Claims) where
                 Row.hd 0 (Row.tl (Row.tl (Row.tl
                     bs))),
                 0,
-              ) (Behind.look-at 𝓤 H A W q Set.the-type Laws.the-laws 1 448 Path'.refl Path'.refl (Row.hd 0 (Row.tl (Row.tl (Row.tl bs))), 0) (u .1 .1 .1 .0) (Set.struct .as-values (u .1 .1 .1
+              ) (Behind.look-at 𝓤 H A W q Set.the-type Laws'.the-laws 1 448 Path'.refl Path'.refl (Row.hd 0 (Row.tl (Row.tl (Row.tl bs))), 0) (u .1 .1 .1 .0) (Set.struct .as-values (u .1 .1 .1
               .0)) Path'.refl)) (Reads.room-gone 𝓤 H A (Syntax.tyArray (Syntax.tyInt Syntax.w32) 112)) (Yields.makes-mem 𝓤 H A W (λ ρ. Unit) (Array.Array (Referent.rtF (Referent.fInt Syntax.w32)) 112)
               Path'.refl (Rows.arrF (Referent.rtF (Referent.fInt Syntax.w32)) 112 0) (λ x. x) λ ρ told. Whole.arr-mem 𝓤 H A W (Referent.rtF (Referent.fInt Syntax.w32)) 112 tt ρ) Path'.refl Path'.refl
               Path'.refl) d49
@@ -2307,11 +2261,11 @@ module _ (claims· : Claims) where
                 slots = G0 .slots;
               }) (λ u T′ m′. Row.set 3 (3, Rows'.whole (Declared.row Set.the-type)) (u .1 .1 .1 .0) T′ m′) (λ u.
               Unit) (λ x. Unit) (Own.told-none 𝓤 H A (G0 .slots)) (DerefMove.learns-nothing 𝓤 H A (Array.Array (Referent.rtF (Referent.fInt Syntax.w32)) 112)) (λ ρ told u asked. Way'.w-partˢ 𝓤 H A W E
-              (Declared.row Set.the-type) (Array.Array (Referent.rtF (Referent.fInt Syntax.w32)) 112) (Syntax.tyStruct (List._∷_ 112 (List._∷_ 97 (List._∷_ 115 (List._∷_ 115 (List._∷_ 58 (List._∷_ 58
-              (List._∷_ 83 (List._∷_ 101 (List._∷_ 116 List.[]))))))))) (Syntax.tcons (Syntax.tyArray (Syntax.tyInt Syntax.w32) 112) (Syntax.tcons (Syntax.tyArray (Syntax.tyInt Syntax.w32) 112)
-              Syntax.tnil))) (Syntax.tyArray (Syntax.tyInt Syntax.w32) 112) 0 0 (u .1 .1 .1 .0) (At.getAt (Set.the-type .parts) 0 (Set.struct .as-values (u .1 .1 .1 .0))) (
-                Row.hd 0 (Row.tl (Row.tl (Row.tl
-                    bs))),
+              (Declared.row Set.the-type) (Array.Array (Referent.rtF (Referent.fInt Syntax.w32)) 112) (Syntax.tyStruct (List._∷_ 115 (List._∷_ 116 (List._∷_ 101 (List._∷_ 112 (List._∷_ 115 (List._∷_ 58
+              (List._∷_ 58 (List._∷_ 83 (List._∷_ 101 (List._∷_ 116 List.[])))))))))) (Syntax.tcons (Syntax.tyArray (Syntax.tyInt Syntax.w32) 112) (Syntax.tcons (Syntax.tyArray (Syntax.tyInt Syntax.w32)
+              112) Syntax.tnil))) (Syntax.tyArray (Syntax.tyInt Syntax.w32) 112) 0 0 (u .1 .1 .1 .0) (At.getAt (Set.the-type .parts) 0 (Set.struct .as-values (u .1 .1 .1 .0))) (
+                Row.hd 0 (Row.tl (Row.tl
+                    (Row.tl bs))),
                 0,
               ) (Way.w-look 𝓤 H A W E (Way.w-local 𝓤 H A W E G0 ρ u (G0 .slots) 3 (Declared.row Set.the-type) (Rows'.whole (Declared.row Set.the-type)) (λ x. x) (λ x. x) (u .1 .1 .1 .0)
               (Local.mem-whole 𝓤 H A W (Declared.row Set.the-type) ρ (u .1 .1 .1 .0) (Row.hd 0 (Row.tl (Row.tl (Row.tl bs))))) (Local.whole-mem 𝓤 H A W (Declared.row Set.the-type) ρ (u .1 .1 .1 .0)
@@ -2320,7 +2274,7 @@ module _ (claims· : Claims) where
                 Row.hd 0 (Row.tl (Row.tl (Row.tl
                     bs))),
                 0,
-              ) (Behind.look-at 𝓤 H A W q Set.the-type Laws.the-laws 0 0 Path'.refl Path'.refl (Row.hd 0 (Row.tl (Row.tl (Row.tl bs))), 0) (u .1 .1 .1 .0) (Set.struct .as-values (u .1 .1 .1
+              ) (Behind.look-at 𝓤 H A W q Set.the-type Laws'.the-laws 0 0 Path'.refl Path'.refl (Row.hd 0 (Row.tl (Row.tl (Row.tl bs))), 0) (u .1 .1 .1 .0) (Set.struct .as-values (u .1 .1 .1
               .0)) Path'.refl)) (Reads.room-gone 𝓤 H A (Syntax.tyArray (Syntax.tyInt Syntax.w32) 112)) (Yields.makes-mem 𝓤 H A W (λ ρ. Unit) (Array.Array (Referent.rtF (Referent.fInt Syntax.w32)) 112)
               Path'.refl (Rows.arrF (Referent.rtF (Referent.fInt Syntax.w32)) 112 0) (λ x. x) λ ρ told. Whole.arr-mem 𝓤 H A W (Referent.rtF (Referent.fInt Syntax.w32)) 112 tt ρ) Path'.refl Path'.refl
               Path'.refl) d50
@@ -2335,20 +2289,20 @@ module _ (claims· : Claims) where
           pub set : Kinds.Den {n = 1} κs (Value.pVal record {
             ty = Declared.row Set.the-type;
             one = Path'.refl;
-            val = Laws''.val Set.the-type Laws.the-laws;
+            val = Laws''.val Set.the-type Laws'.the-laws;
             tells = Laws''.tells Set.the-type
-                Laws.the-laws;
-            still = Laws''.still Set.the-type Laws.the-copy Exit.yes;
+                Laws'.the-laws;
+            still = Laws''.still Set.the-type Laws'.the-copy Exit.yes;
             row = Rows'.whole (Declared.row Set.the-type);
             rd = λ x. x;
             mk = λ x. x;
           } λ M 𝓤 H A W. record {
-            copies = Laws''.copy
-                Set.the-type Laws.the-copy 𝓤 H A W;
-            lawful = Laws''.lawful Set.the-type Laws.the-laws 𝓤 H A W;
-            makes = Laws''.makes Set.the-type Laws.the-plain 𝓤 H A;
-            in-mem = Local.mem-whole 𝓤 H A W
-                (Declared.row Set.the-type);
+            copies =
+                Laws''.copy Set.the-type Laws'.the-copy 𝓤 H A W;
+            lawful = Laws''.lawful Set.the-type Laws'.the-laws 𝓤 H A W;
+            makes = Laws''.makes Set.the-type Laws'.the-plain 𝓤 H A;
+            in-mem = Local.mem-whole
+                𝓤 H A W (Declared.row Set.the-type);
             of-mem = Local.whole-mem 𝓤 H A W (Declared.row Set.the-type);
           })
 

@@ -7,12 +7,12 @@ use Rattle.block.proofs.Form
 use Rattle.block.proofs.Form.Laws as Laws'
 use Rattle.block.proofs.LinePut
 use Rattle.block.proofs.LinePut.Laws as Laws''
-use Rattle.pass.proofs.Plan
-use Rattle.pass.proofs.Plan.Laws as Laws'3
-use Rattle.pass.proofs.Set
-use Rattle.pass.proofs.Set.Laws as Laws'4
 use Rattle.quantiser.proofs.Quantiser
-use Rattle.quantiser.proofs.Quantiser.Laws as Laws'5
+use Rattle.quantiser.proofs.Quantiser.Laws as Laws'3
+use Rattle.steps.proofs.Plan
+use Rattle.steps.proofs.Plan.Laws as Laws'4
+use Rattle.steps.proofs.Set
+use Rattle.steps.proofs.Set.Laws as Laws'5
 use Rattle.writing.proofs.PassPut
 use Rattle.writing.proofs.PassPut.Laws as Laws'6
 use borrow.Author.Called
@@ -143,27 +143,27 @@ xs = List._∷_ (Syntax.tyInt Syntax.w32) (List._∷_ Syntax.tyBool (List._∷_ 
     (List._∷_ 114 List.[])))))))))))))))))))) (Syntax.tcons (Syntax.tyInt Syntax.w32) (Syntax.tcons (Syntax.tyInt Syntax.w32) (Syntax.tcons (Syntax.tyInt Syntax.w32) (Syntax.tcons (Syntax.tyInt
     Syntax.w32) (Syntax.tcons (Syntax.tyInt Syntax.w32) Syntax.tnil)))))) (List._∷_ (Syntax.tyInt Syntax.w32) (List._∷_ (Syntax.tyInt Syntax.w32) (List._∷_ (Syntax.tyStruct (List._∷_ 98 (List._∷_ 105
     (List._∷_ 116 (List._∷_ 115 (List._∷_ 58 (List._∷_ 58 (List._∷_ 66 (List._∷_ 105 (List._∷_ 116 (List._∷_ 80 (List._∷_ 111 (List._∷_ 115 (List._∷_ 105 (List._∷_ 116 (List._∷_ 105 (List._∷_ 111
-    (List._∷_ 110 List.[]))))))))))))))))) (Syntax.tcons (Syntax.tyInt Syntax.w64) Syntax.tnil)) (List._∷_ (Syntax.tyInt Syntax.w64) (List._∷_ (Syntax.tyStruct (List._∷_ 112 (List._∷_ 97 (List._∷_ 115
-    (List._∷_ 115 (List._∷_ 58 (List._∷_ 58 (List._∷_ 80 (List._∷_ 108 (List._∷_ 97 (List._∷_ 110 List.[])))))))))) (Syntax.tcons (Syntax.tyInt Syntax.w64) (Syntax.tcons (Syntax.tyInt Syntax.w64)
-    (Syntax.tcons (Syntax.tyInt Syntax.w64) (Syntax.tcons (Syntax.tyInt Syntax.w32) (Syntax.tcons (Syntax.tyInt Syntax.w32) Syntax.tnil)))))) (List._∷_ (Syntax.tyStruct (List._∷_ 112 (List._∷_ 97
-    (List._∷_ 115 (List._∷_ 115 (List._∷_ 58 (List._∷_ 58 (List._∷_ 83 (List._∷_ 101 (List._∷_ 116 List.[]))))))))) (Syntax.tcons (Syntax.tyArray (Syntax.tyInt Syntax.w32) 112) (Syntax.tcons
-    (Syntax.tyArray (Syntax.tyInt Syntax.w32) 112) Syntax.tnil))) (List._∷_ (Syntax.tyStruct (List._∷_ 119 (List._∷_ 114 (List._∷_ 105 (List._∷_ 116 (List._∷_ 105 (List._∷_ 110 (List._∷_ 103 (List._∷_ 58
-    (List._∷_ 58 (List._∷_ 80 (List._∷_ 97 (List._∷_ 115 (List._∷_ 115 (List._∷_ 80 (List._∷_ 117 (List._∷_ 116 List.[])))))))))))))))) (Syntax.tcons Syntax.tyBool (Syntax.tcons (Syntax.tyInt Syntax.w64)
-    (Syntax.tcons (Syntax.tyStruct (List._∷_ 98 (List._∷_ 105 (List._∷_ 116 (List._∷_ 115 (List._∷_ 58 (List._∷_ 58 (List._∷_ 66 (List._∷_ 105 (List._∷_ 116 (List._∷_ 80 (List._∷_ 111 (List._∷_ 115
-    (List._∷_ 105 (List._∷_ 116 (List._∷_ 105 (List._∷_ 111 (List._∷_ 110 List.[]))))))))))))))))) (Syntax.tcons (Syntax.tyInt Syntax.w64) Syntax.tnil)) (Syntax.tcons (Syntax.tyStruct (List._∷_ 112
-    (List._∷_ 97 (List._∷_ 115 (List._∷_ 115 (List._∷_ 58 (List._∷_ 58 (List._∷_ 83 (List._∷_ 101 (List._∷_ 116 List.[]))))))))) (Syntax.tcons (Syntax.tyArray (Syntax.tyInt Syntax.w32) 112) (Syntax.tcons
-    (Syntax.tyArray (Syntax.tyInt Syntax.w32) 112) Syntax.tnil))) Syntax.tnil))))) (List._∷_ Syntax.tyBool (List._∷_ (Syntax.tyStruct (List._∷_ 112 (List._∷_ 97 (List._∷_ 115 (List._∷_ 115 (List._∷_ 58
-    (List._∷_ 58 (List._∷_ 83 (List._∷_ 101 (List._∷_ 116 List.[]))))))))) (Syntax.tcons (Syntax.tyArray (Syntax.tyInt Syntax.w32) 112) (Syntax.tcons (Syntax.tyArray (Syntax.tyInt Syntax.w32) 112)
-    Syntax.tnil))) (List._∷_ Syntax.tyBool (List._∷_ Syntax.tyUnit (List._∷_ (Syntax.tyRef Syntax.erased Syntax.mut (Syntax.tyInt Syntax.w16)) (List._∷_ (Syntax.tyStruct (List._∷_ 38 (List._∷_ 91
-    (List._∷_ 93 List.[]))) (Syntax.tcons (Syntax.tyRef Syntax.erased Syntax.mut (Syntax.tyInt Syntax.w16)) (Syntax.tcons (Syntax.tyInt Syntax.w64) Syntax.tnil))) (List._∷_ (Syntax.tyRef Syntax.erased
-    Syntax.mut (Syntax.tyInt Syntax.w16)) (List._∷_ (Syntax.tyStruct (List._∷_ 38 (List._∷_ 91 (List._∷_ 93 List.[]))) (Syntax.tcons (Syntax.tyRef Syntax.erased Syntax.mut (Syntax.tyInt Syntax.w16))
-    (Syntax.tcons (Syntax.tyInt Syntax.w64) Syntax.tnil))) (List._∷_ (Syntax.tyRef Syntax.erased Syntax.mut Element.behind) (List._∷_ (Syntax.tyStruct (List._∷_ 38 (List._∷_ 91 (List._∷_ 93 List.[])))
-    (Syntax.tcons (Syntax.tyRef Syntax.erased Syntax.mut Element.behind) (Syntax.tcons (Syntax.tyInt Syntax.w64) Syntax.tnil))) (List._∷_ (Syntax.tyRef Syntax.erased Syntax.mut (Syntax.tyInt Syntax.w8))
-    (List._∷_ (Syntax.tyStruct (List._∷_ 38 (List._∷_ 91 (List._∷_ 93 List.[]))) (Syntax.tcons (Syntax.tyRef Syntax.erased Syntax.mut (Syntax.tyInt Syntax.w8)) (Syntax.tcons (Syntax.tyInt Syntax.w64)
+    (List._∷_ 110 List.[]))))))))))))))))) (Syntax.tcons (Syntax.tyInt Syntax.w64) Syntax.tnil)) (List._∷_ (Syntax.tyInt Syntax.w64) (List._∷_ (Syntax.tyStruct (List._∷_ 115 (List._∷_ 116 (List._∷_ 101
+    (List._∷_ 112 (List._∷_ 115 (List._∷_ 58 (List._∷_ 58 (List._∷_ 80 (List._∷_ 108 (List._∷_ 97 (List._∷_ 110 List.[]))))))))))) (Syntax.tcons (Syntax.tyInt Syntax.w64) (Syntax.tcons (Syntax.tyInt
+    Syntax.w64) (Syntax.tcons (Syntax.tyInt Syntax.w64) (Syntax.tcons (Syntax.tyInt Syntax.w32) (Syntax.tcons (Syntax.tyInt Syntax.w32) Syntax.tnil)))))) (List._∷_ (Syntax.tyStruct (List._∷_ 115 (List._∷_
+    116 (List._∷_ 101 (List._∷_ 112 (List._∷_ 115 (List._∷_ 58 (List._∷_ 58 (List._∷_ 83 (List._∷_ 101 (List._∷_ 116 List.[])))))))))) (Syntax.tcons (Syntax.tyArray (Syntax.tyInt Syntax.w32) 112)
+    (Syntax.tcons (Syntax.tyArray (Syntax.tyInt Syntax.w32) 112) Syntax.tnil))) (List._∷_ (Syntax.tyStruct (List._∷_ 119 (List._∷_ 114 (List._∷_ 105 (List._∷_ 116 (List._∷_ 105 (List._∷_ 110 (List._∷_ 103
+    (List._∷_ 58 (List._∷_ 58 (List._∷_ 80 (List._∷_ 97 (List._∷_ 115 (List._∷_ 115 (List._∷_ 80 (List._∷_ 117 (List._∷_ 116 List.[])))))))))))))))) (Syntax.tcons Syntax.tyBool (Syntax.tcons (Syntax.tyInt
+    Syntax.w64) (Syntax.tcons (Syntax.tyStruct (List._∷_ 98 (List._∷_ 105 (List._∷_ 116 (List._∷_ 115 (List._∷_ 58 (List._∷_ 58 (List._∷_ 66 (List._∷_ 105 (List._∷_ 116 (List._∷_ 80 (List._∷_ 111
+    (List._∷_ 115 (List._∷_ 105 (List._∷_ 116 (List._∷_ 105 (List._∷_ 111 (List._∷_ 110 List.[]))))))))))))))))) (Syntax.tcons (Syntax.tyInt Syntax.w64) Syntax.tnil)) (Syntax.tcons (Syntax.tyStruct
+    (List._∷_ 115 (List._∷_ 116 (List._∷_ 101 (List._∷_ 112 (List._∷_ 115 (List._∷_ 58 (List._∷_ 58 (List._∷_ 83 (List._∷_ 101 (List._∷_ 116 List.[])))))))))) (Syntax.tcons (Syntax.tyArray (Syntax.tyInt
+    Syntax.w32) 112) (Syntax.tcons (Syntax.tyArray (Syntax.tyInt Syntax.w32) 112) Syntax.tnil))) Syntax.tnil))))) (List._∷_ Syntax.tyBool (List._∷_ (Syntax.tyStruct (List._∷_ 115 (List._∷_ 116 (List._∷_
+    101 (List._∷_ 112 (List._∷_ 115 (List._∷_ 58 (List._∷_ 58 (List._∷_ 83 (List._∷_ 101 (List._∷_ 116 List.[])))))))))) (Syntax.tcons (Syntax.tyArray (Syntax.tyInt Syntax.w32) 112) (Syntax.tcons
+    (Syntax.tyArray (Syntax.tyInt Syntax.w32) 112) Syntax.tnil))) (List._∷_ Syntax.tyBool (List._∷_ Syntax.tyUnit (List._∷_ (Syntax.tyRef Syntax.erased Syntax.mut (Syntax.tyInt Syntax.w16)) (List._∷_
+    (Syntax.tyStruct (List._∷_ 38 (List._∷_ 91 (List._∷_ 93 List.[]))) (Syntax.tcons (Syntax.tyRef Syntax.erased Syntax.mut (Syntax.tyInt Syntax.w16)) (Syntax.tcons (Syntax.tyInt Syntax.w64)
     Syntax.tnil))) (List._∷_ (Syntax.tyRef Syntax.erased Syntax.mut (Syntax.tyInt Syntax.w16)) (List._∷_ (Syntax.tyStruct (List._∷_ 38 (List._∷_ 91 (List._∷_ 93 List.[]))) (Syntax.tcons (Syntax.tyRef
     Syntax.erased Syntax.mut (Syntax.tyInt Syntax.w16)) (Syntax.tcons (Syntax.tyInt Syntax.w64) Syntax.tnil))) (List._∷_ (Syntax.tyRef Syntax.erased Syntax.mut Element.behind) (List._∷_ (Syntax.tyStruct
-    (List._∷_ 38 (List._∷_ 91 (List._∷_ 93 List.[]))) (Syntax.tcons (Syntax.tyRef Syntax.erased Syntax.mut Element.behind) (Syntax.tcons (Syntax.tyInt Syntax.w64) Syntax.tnil)))
-    List.[]))))))))))))))))))))))))))
+    (List._∷_ 38 (List._∷_ 91 (List._∷_ 93 List.[]))) (Syntax.tcons (Syntax.tyRef Syntax.erased Syntax.mut Element.behind) (Syntax.tcons (Syntax.tyInt Syntax.w64) Syntax.tnil))) (List._∷_ (Syntax.tyRef
+    Syntax.erased Syntax.mut (Syntax.tyInt Syntax.w8)) (List._∷_ (Syntax.tyStruct (List._∷_ 38 (List._∷_ 91 (List._∷_ 93 List.[]))) (Syntax.tcons (Syntax.tyRef Syntax.erased Syntax.mut (Syntax.tyInt
+    Syntax.w8)) (Syntax.tcons (Syntax.tyInt Syntax.w64) Syntax.tnil))) (List._∷_ (Syntax.tyRef Syntax.erased Syntax.mut (Syntax.tyInt Syntax.w16)) (List._∷_ (Syntax.tyStruct (List._∷_ 38 (List._∷_ 91
+    (List._∷_ 93 List.[]))) (Syntax.tcons (Syntax.tyRef Syntax.erased Syntax.mut (Syntax.tyInt Syntax.w16)) (Syntax.tcons (Syntax.tyInt Syntax.w64) Syntax.tnil))) (List._∷_ (Syntax.tyRef Syntax.erased
+    Syntax.mut Element.behind) (List._∷_ (Syntax.tyStruct (List._∷_ 38 (List._∷_ 91 (List._∷_ 93 List.[]))) (Syntax.tcons (Syntax.tyRef Syntax.erased Syntax.mut Element.behind) (Syntax.tcons (Syntax.tyInt
+    Syntax.w64) Syntax.tnil))) List.[]))))))))))))))))))))))))))
 
 abbrev pub m : Nat.ℕ
 m = 6
@@ -181,18 +181,18 @@ abbrev pub r·1 : Kinds.RK 0
 r·1 = Value.rVal record {
   ty = Declared.row Quantiser.the-type;
   one = Path'.refl;
-  val = Laws'7.val Quantiser.the-type Laws'5.the-laws;
-  tells = Laws'7.tells Quantiser.the-type Laws'5.the-laws;
+  val = Laws'7.val Quantiser.the-type Laws'3.the-laws;
+  tells = Laws'7.tells Quantiser.the-type Laws'3.the-laws;
   still =
-      Laws'7.still Quantiser.the-type Laws'5.the-copy Exit.yes;
+      Laws'7.still Quantiser.the-type Laws'3.the-copy Exit.yes;
   row = Rows.whole (Declared.row Quantiser.the-type);
   rd = λ x. x;
   mk = λ x. x;
 } λ M 𝓤 H A W. record {
   copies = Laws'7.copy Quantiser.the-type
-      Laws'5.the-copy 𝓤 H A W;
-  lawful = Laws'7.lawful Quantiser.the-type Laws'5.the-laws 𝓤 H A W;
-  makes = Laws'7.makes Quantiser.the-type Laws'5.the-plain 𝓤 H A;
+      Laws'3.the-copy 𝓤 H A W;
+  lawful = Laws'7.lawful Quantiser.the-type Laws'3.the-laws 𝓤 H A W;
+  makes = Laws'7.makes Quantiser.the-type Laws'3.the-plain 𝓤 H A;
   in-mem = Local.mem-whole 𝓤 H A W
       (Declared.row Quantiser.the-type);
   of-mem = Local.whole-mem 𝓤 H A W (Declared.row Quantiser.the-type);
@@ -205,17 +205,17 @@ abbrev pub r·2 : Kinds.RK 0
 r·2 = Value.rVal record {
   ty = Declared.row Plan.the-type;
   one = Path'.refl;
-  val = Laws'7.val Plan.the-type Laws'3.the-laws;
-  tells = Laws'7.tells Plan.the-type Laws'3.the-laws;
+  val = Laws'7.val Plan.the-type Laws'4.the-laws;
+  tells = Laws'7.tells Plan.the-type Laws'4.the-laws;
   still = Laws'7.still
-      Plan.the-type Laws'3.the-copy Exit.yes;
+      Plan.the-type Laws'4.the-copy Exit.yes;
   row = Rows.whole (Declared.row Plan.the-type);
   rd = λ x. x;
   mk = λ x. x;
 } λ M 𝓤 H A W. record {
-  copies = Laws'7.copy Plan.the-type Laws'3.the-copy 𝓤 H A W;
-  lawful = Laws'7.lawful Plan.the-type Laws'3.the-laws 𝓤 H A W;
-  makes = Laws'7.makes Plan.the-type Laws'3.the-plain 𝓤 H A;
+  copies = Laws'7.copy Plan.the-type Laws'4.the-copy 𝓤 H A W;
+  lawful = Laws'7.lawful Plan.the-type Laws'4.the-laws 𝓤 H A W;
+  makes = Laws'7.makes Plan.the-type Laws'4.the-plain 𝓤 H A;
   in-mem = Local.mem-whole 𝓤 H A W (Declared.row Plan.the-type);
   of-mem =
       Local.whole-mem 𝓤 H A W (Declared.row Plan.the-type);
@@ -234,18 +234,18 @@ abbrev pub r·4 : Kinds.RK 1
 r·4 = Value.rVal record {
   ty = Declared.row Set.the-type;
   one = Path'.refl;
-  val = Laws'7.val Set.the-type Laws'4.the-laws;
-  tells = Laws'7.tells Set.the-type Laws'4.the-laws;
+  val = Laws'7.val Set.the-type Laws'5.the-laws;
+  tells = Laws'7.tells Set.the-type Laws'5.the-laws;
   still = Laws'7.still
-      Set.the-type Laws'4.the-copy Exit.yes;
+      Set.the-type Laws'5.the-copy Exit.yes;
   row = Rows.whole (Declared.row Set.the-type);
   rd = λ x. x;
   mk = λ x. x;
 } λ M 𝓤 H A W. record {
-  copies = Laws'7.copy Set.the-type Laws'4.the-copy 𝓤 H A W;
+  copies = Laws'7.copy Set.the-type Laws'5.the-copy 𝓤 H A W;
   lawful
-      = Laws'7.lawful Set.the-type Laws'4.the-laws 𝓤 H A W;
-  makes = Laws'7.makes Set.the-type Laws'4.the-plain 𝓤 H A;
+      = Laws'7.lawful Set.the-type Laws'5.the-laws 𝓤 H A W;
+  makes = Laws'7.makes Set.the-type Laws'5.the-plain 𝓤 H A;
   in-mem = Local.mem-whole 𝓤 H A W (Declared.row Set.the-type);
   of-mem = Local.whole-mem 𝓤
       H A W (Declared.row Set.the-type);
@@ -275,17 +275,17 @@ ps·5 = List._∷_ (ShrSlice.pShrS (Referent.rtF (Referent.fInt Syntax.w16)) 0 t
     Syntax.w16)) 2 tt) (List._∷_ (Value.pVal record {
       ty = Declared.row Set.the-type;
       one = Path'.refl;
-      val = Laws'7.val Set.the-type Laws'4.the-laws;
-      tells = Laws'7.tells Set.the-type Laws'4.the-laws;
-      still = Laws'7.still Set.the-type Laws'4.the-copy Exit.yes;
+      val = Laws'7.val Set.the-type Laws'5.the-laws;
+      tells = Laws'7.tells Set.the-type Laws'5.the-laws;
+      still = Laws'7.still Set.the-type Laws'5.the-copy Exit.yes;
       row = Rows.whole (Declared.row Set.the-type);
       rd = λ x. x;
       mk = λ x. x;
     } λ M 𝓤 H A W. record {
       copies = Laws'7.copy Set.the-type
-          Laws'4.the-copy 𝓤 H A W;
-      lawful = Laws'7.lawful Set.the-type Laws'4.the-laws 𝓤 H A W;
-      makes = Laws'7.makes Set.the-type Laws'4.the-plain 𝓤 H A;
+          Laws'5.the-copy 𝓤 H A W;
+      lawful = Laws'7.lawful Set.the-type Laws'5.the-laws 𝓤 H A W;
+      makes = Laws'7.makes Set.the-type Laws'5.the-plain 𝓤 H A;
       in-mem = Local.mem-whole 𝓤 H A W (Declared.row
           Set.the-type);
       of-mem = Local.whole-mem 𝓤 H A W (Declared.row Set.the-type);
@@ -293,18 +293,18 @@ ps·5 = List._∷_ (ShrSlice.pShrS (Referent.rtF (Referent.fInt Syntax.w16)) 0 t
       ty = Declared.row Plan.the-type;
       one = Path'.refl;
       val =
-          Laws'7.val Plan.the-type Laws'3.the-laws;
-      tells = Laws'7.tells Plan.the-type Laws'3.the-laws;
-      still = Laws'7.still Plan.the-type Laws'3.the-copy Exit.yes;
+          Laws'7.val Plan.the-type Laws'4.the-laws;
+      tells = Laws'7.tells Plan.the-type Laws'4.the-laws;
+      still = Laws'7.still Plan.the-type Laws'4.the-copy Exit.yes;
       row = Rows.whole (Declared.row
           Plan.the-type);
       rd = λ x. x;
       mk = λ x. x;
     } λ M 𝓤 H A W. record {
-      copies = Laws'7.copy Plan.the-type Laws'3.the-copy 𝓤 H A W;
-      lawful = Laws'7.lawful Plan.the-type Laws'3.the-laws 𝓤 H A W;
+      copies = Laws'7.copy Plan.the-type Laws'4.the-copy 𝓤 H A W;
+      lawful = Laws'7.lawful Plan.the-type Laws'4.the-laws 𝓤 H A W;
       makes =
-          Laws'7.makes Plan.the-type Laws'3.the-plain 𝓤 H A;
+          Laws'7.makes Plan.the-type Laws'4.the-plain 𝓤 H A;
       in-mem = Local.mem-whole 𝓤 H A W (Declared.row Plan.the-type);
       of-mem = Local.whole-mem 𝓤 H A W (Declared.row Plan.the-type);
     }) (List._∷_ (Num.pNum
@@ -336,16 +336,16 @@ ps·6 = List._∷_ (MutSlice.pMutS (Element.type) 0 tt) (List._∷_ (Num.pNum Sy
   ty = Declared.row Set.the-type;
   one = Path'.refl;
   val = Laws'7.val Set.the-type
-      Laws'4.the-laws;
-  tells = Laws'7.tells Set.the-type Laws'4.the-laws;
-  still = Laws'7.still Set.the-type Laws'4.the-copy Exit.yes;
+      Laws'5.the-laws;
+  tells = Laws'7.tells Set.the-type Laws'5.the-laws;
+  still = Laws'7.still Set.the-type Laws'5.the-copy Exit.yes;
   row = Rows.whole (Declared.row Set.the-type);
   rd = λ x. x;
   mk = λ x. x;
 } λ M 𝓤 H A W. record {
-  copies = Laws'7.copy Set.the-type Laws'4.the-copy 𝓤 H A W;
-  lawful = Laws'7.lawful Set.the-type Laws'4.the-laws 𝓤 H A W;
-  makes = Laws'7.makes Set.the-type Laws'4.the-plain 𝓤 H
+  copies = Laws'7.copy Set.the-type Laws'5.the-copy 𝓤 H A W;
+  lawful = Laws'7.lawful Set.the-type Laws'5.the-laws 𝓤 H A W;
+  makes = Laws'7.makes Set.the-type Laws'5.the-plain 𝓤 H
       A;
   in-mem = Local.mem-whole 𝓤 H A W (Declared.row Set.the-type);
   of-mem = Local.whole-mem 𝓤 H A W (Declared.row Set.the-type);
@@ -399,7 +399,7 @@ abbrev b11 : Syntax.Body
 b11 = Syntax.cond (Syntax.copy (Syntax.place 22 List.[])) b9 b10
 
 abbrev b12 : Syntax.Body
-b12 = Syntax.call "pass::plan_at" (List._∷_ (Syntax.copy (Syntax.place 16 List.[])) (List._∷_ (Syntax.copy (Syntax.place 10 List.[])) List.[])) (Syntax.place 17 List.[])
+b12 = Syntax.call "steps::plan_at" (List._∷_ (Syntax.copy (Syntax.place 16 List.[])) (List._∷_ (Syntax.copy (Syntax.place 10 List.[])) List.[])) (Syntax.place 17 List.[])
 
 abbrev b13 : Syntax.Body
 b13 = Syntax.assign (Syntax.place 24 List.[]) (Syntax.addrOf (Syntax.place 6 (List._∷_ (Syntax.field 0) (List._∷_ (Syntax.deref (Syntax.tyInt Syntax.w16)) List.[]))))
@@ -659,53 +659,52 @@ t0 = List._∷_ (
 abbrev pub t1 : List.List Row.Entry
 t1 = List._∷_ (16, Rows.any-gone (Syntax.tyInt Syntax.w64)) (List._∷_ (
   17,
-  Rows.any-gone (Syntax.tyStruct (List._∷_ 112 (List._∷_ 97 (List._∷_ 115 (List._∷_ 115 (List._∷_ 58 (List._∷_ 58 (List._∷_ 80
-      (List._∷_ 108 (List._∷_ 97 (List._∷_ 110 List.[])))))))))) (Syntax.tcons (Syntax.tyInt Syntax.w64) (Syntax.tcons (Syntax.tyInt Syntax.w64) (Syntax.tcons (Syntax.tyInt Syntax.w64) (Syntax.tcons
-      (Syntax.tyInt Syntax.w32) (Syntax.tcons (Syntax.tyInt Syntax.w32) Syntax.tnil)))))),
+  Rows.any-gone (Syntax.tyStruct (List._∷_ 115 (List._∷_ 116 (List._∷_ 101 (List._∷_ 112 (List._∷_ 115 (List._∷_ 58 (List._∷_
+      58 (List._∷_ 80 (List._∷_ 108 (List._∷_ 97 (List._∷_ 110 List.[]))))))))))) (Syntax.tcons (Syntax.tyInt Syntax.w64) (Syntax.tcons (Syntax.tyInt Syntax.w64) (Syntax.tcons (Syntax.tyInt Syntax.w64)
+      (Syntax.tcons (Syntax.tyInt Syntax.w32) (Syntax.tcons (Syntax.tyInt Syntax.w32) Syntax.tnil)))))),
 ) (List._∷_ (
   18,
-  Rows.any-gone (Syntax.tyStruct (List._∷_ 112 (List._∷_ 97 (List._∷_ 115 (List._∷_ 115 (List._∷_
-      58 (List._∷_ 58 (List._∷_ 83 (List._∷_ 101 (List._∷_ 116 List.[]))))))))) (Syntax.tcons (Syntax.tyArray (Syntax.tyInt Syntax.w32) 112) (Syntax.tcons (Syntax.tyArray (Syntax.tyInt Syntax.w32) 112)
-      Syntax.tnil))),
+  Rows.any-gone (Syntax.tyStruct (List._∷_ 115 (List._∷_ 116 (List._∷_ 101 (List._∷_
+      112 (List._∷_ 115 (List._∷_ 58 (List._∷_ 58 (List._∷_ 83 (List._∷_ 101 (List._∷_ 116 List.[])))))))))) (Syntax.tcons (Syntax.tyArray (Syntax.tyInt Syntax.w32) 112) (Syntax.tcons (Syntax.tyArray
+      (Syntax.tyInt Syntax.w32) 112) Syntax.tnil))),
 ) (List._∷_ (
   19,
-  Rows.any-gone (Syntax.tyStruct (List._∷_ 119 (List._∷_ 114 (List._∷_ 105 (List._∷_ 116 (List._∷_ 105 (List._∷_ 110 (List._∷_ 103 (List._∷_ 58 (List._∷_ 58 (List._∷_
-      80 (List._∷_ 97 (List._∷_ 115 (List._∷_ 115 (List._∷_ 80 (List._∷_ 117 (List._∷_ 116 List.[])))))))))))))))) (Syntax.tcons Syntax.tyBool (Syntax.tcons (Syntax.tyInt Syntax.w64) (Syntax.tcons
-      (Syntax.tyStruct (List._∷_ 98 (List._∷_ 105 (List._∷_ 116 (List._∷_ 115 (List._∷_ 58 (List._∷_ 58 (List._∷_ 66 (List._∷_ 105 (List._∷_ 116 (List._∷_ 80 (List._∷_ 111 (List._∷_ 115 (List._∷_ 105
-      (List._∷_ 116 (List._∷_ 105 (List._∷_ 111 (List._∷_ 110 List.[]))))))))))))))))) (Syntax.tcons (Syntax.tyInt Syntax.w64) Syntax.tnil)) (Syntax.tcons (Syntax.tyStruct (List._∷_ 112 (List._∷_ 97
-      (List._∷_ 115 (List._∷_ 115 (List._∷_ 58 (List._∷_ 58 (List._∷_ 83 (List._∷_ 101 (List._∷_ 116 List.[]))))))))) (Syntax.tcons (Syntax.tyArray (Syntax.tyInt Syntax.w32) 112) (Syntax.tcons
-      (Syntax.tyArray (Syntax.tyInt Syntax.w32) 112) Syntax.tnil))) Syntax.tnil))))),
+  Rows.any-gone (Syntax.tyStruct (List._∷_ 119 (List._∷_ 114 (List._∷_ 105 (List._∷_ 116 (List._∷_ 105 (List._∷_ 110 (List._∷_ 103
+      (List._∷_ 58 (List._∷_ 58 (List._∷_ 80 (List._∷_ 97 (List._∷_ 115 (List._∷_ 115 (List._∷_ 80 (List._∷_ 117 (List._∷_ 116 List.[])))))))))))))))) (Syntax.tcons Syntax.tyBool (Syntax.tcons (Syntax.tyInt
+      Syntax.w64) (Syntax.tcons (Syntax.tyStruct (List._∷_ 98 (List._∷_ 105 (List._∷_ 116 (List._∷_ 115 (List._∷_ 58 (List._∷_ 58 (List._∷_ 66 (List._∷_ 105 (List._∷_ 116 (List._∷_ 80 (List._∷_ 111
+      (List._∷_ 115 (List._∷_ 105 (List._∷_ 116 (List._∷_ 105 (List._∷_ 111 (List._∷_ 110 List.[]))))))))))))))))) (Syntax.tcons (Syntax.tyInt Syntax.w64) Syntax.tnil)) (Syntax.tcons (Syntax.tyStruct
+      (List._∷_ 115 (List._∷_ 116 (List._∷_ 101 (List._∷_ 112 (List._∷_ 115 (List._∷_ 58 (List._∷_ 58 (List._∷_ 83 (List._∷_ 101 (List._∷_ 116 List.[])))))))))) (Syntax.tcons (Syntax.tyArray (Syntax.tyInt
+      Syntax.w32) 112) (Syntax.tcons (Syntax.tyArray (Syntax.tyInt Syntax.w32) 112) Syntax.tnil))) Syntax.tnil))))),
 ) (List._∷_ (20, Rows.any-gone Syntax.tyBool) (List._∷_ (
   21,
-  Rows.any-gone (Syntax.tyStruct (List._∷_ 112 (List._∷_ 97
-      (List._∷_ 115 (List._∷_ 115 (List._∷_ 58 (List._∷_ 58 (List._∷_ 83 (List._∷_ 101 (List._∷_ 116 List.[]))))))))) (Syntax.tcons (Syntax.tyArray (Syntax.tyInt Syntax.w32) 112) (Syntax.tcons
-      (Syntax.tyArray (Syntax.tyInt Syntax.w32) 112) Syntax.tnil))),
-) (List._∷_ (22, Rows.any-gone Syntax.tyBool) (List._∷_ (23, Rows.any-gone Syntax.tyUnit) (List._∷_ (
-  24,
+  Rows.any-gone
+      (Syntax.tyStruct (List._∷_ 115 (List._∷_ 116 (List._∷_ 101 (List._∷_ 112 (List._∷_ 115 (List._∷_ 58 (List._∷_ 58 (List._∷_ 83 (List._∷_ 101 (List._∷_ 116 List.[])))))))))) (Syntax.tcons
+      (Syntax.tyArray (Syntax.tyInt Syntax.w32) 112) (Syntax.tcons (Syntax.tyArray (Syntax.tyInt Syntax.w32) 112) Syntax.tnil))),
+) (List._∷_ (22, Rows.any-gone Syntax.tyBool) (List._∷_ (
+  23,
+  Rows.any-gone
+      Syntax.tyUnit,
+) (List._∷_ (24, Rows.any-gone (Syntax.tyRef Syntax.erased Syntax.mut (Syntax.tyInt Syntax.w16))) (List._∷_ (
+  25,
+  Rows.any-gone (Syntax.tyStruct (List._∷_ 38 (List._∷_ 91 (List._∷_ 93
+      List.[]))) (Syntax.tcons (Syntax.tyRef Syntax.erased Syntax.mut (Syntax.tyInt Syntax.w16)) (Syntax.tcons (Syntax.tyInt Syntax.w64) Syntax.tnil))),
+) (List._∷_ (
+  26,
   Rows.any-gone (Syntax.tyRef
       Syntax.erased Syntax.mut (Syntax.tyInt Syntax.w16)),
 ) (List._∷_ (
-  25,
+  27,
   Rows.any-gone (Syntax.tyStruct (List._∷_ 38 (List._∷_ 91 (List._∷_ 93 List.[]))) (Syntax.tcons (Syntax.tyRef Syntax.erased
       Syntax.mut (Syntax.tyInt Syntax.w16)) (Syntax.tcons (Syntax.tyInt Syntax.w64) Syntax.tnil))),
-) (List._∷_ (26, Rows.any-gone (Syntax.tyRef Syntax.erased Syntax.mut (Syntax.tyInt Syntax.w16)))
-    (List._∷_ (
-      27,
-      Rows.any-gone (Syntax.tyStruct (List._∷_ 38 (List._∷_ 91 (List._∷_ 93 List.[]))) (Syntax.tcons (Syntax.tyRef Syntax.erased Syntax.mut (Syntax.tyInt Syntax.w16)) (Syntax.tcons
-          (Syntax.tyInt Syntax.w64) Syntax.tnil))),
-    ) (List._∷_ (28, Rows.any-gone (Syntax.tyRef Syntax.erased Syntax.mut Element.behind)) (List._∷_ (
-      29,
-      Rows.any-gone (Syntax.tyStruct (List._∷_ 38
-          (List._∷_ 91 (List._∷_ 93 List.[]))) (Syntax.tcons (Syntax.tyRef Syntax.erased Syntax.mut Element.behind) (Syntax.tcons (Syntax.tyInt Syntax.w64) Syntax.tnil))),
-    ) (List._∷_ (
-      30,
-      Rows.any-gone
-          (Syntax.tyRef Syntax.erased Syntax.mut (Syntax.tyInt Syntax.w8)),
-    ) (List._∷_ (
-      31,
-      Rows.any-gone (Syntax.tyStruct (List._∷_ 38 (List._∷_ 91 (List._∷_ 93 List.[]))) (Syntax.tcons (Syntax.tyRef
-          Syntax.erased Syntax.mut (Syntax.tyInt Syntax.w8)) (Syntax.tcons (Syntax.tyInt Syntax.w64) Syntax.tnil))),
-    ) List.[])))))))))))))))
+) (List._∷_ (28, Rows.any-gone (Syntax.tyRef Syntax.erased Syntax.mut Element.behind)) (List._∷_ (
+  29,
+  Rows.any-gone (Syntax.tyStruct (List._∷_ 38 (List._∷_ 91 (List._∷_ 93 List.[]))) (Syntax.tcons (Syntax.tyRef Syntax.erased Syntax.mut Element.behind) (Syntax.tcons (Syntax.tyInt Syntax.w64)
+      Syntax.tnil))),
+) (List._∷_ (30, Rows.any-gone (Syntax.tyRef Syntax.erased Syntax.mut (Syntax.tyInt Syntax.w8))) (List._∷_ (
+  31,
+  Rows.any-gone (Syntax.tyStruct (List._∷_ 38 (List._∷_ 91 (List._∷_
+      93 List.[]))) (Syntax.tcons (Syntax.tyRef Syntax.erased Syntax.mut (Syntax.tyInt Syntax.w8)) (Syntax.tcons (Syntax.tyInt Syntax.w64) Syntax.tnil))),
+) List.[])))))))))))))))
 
 abbrev pub t2 : List.List Row.Entry
 t2 = List._∷_ (32, Rows.any-gone (Syntax.tyRef Syntax.erased Syntax.mut (Syntax.tyInt Syntax.w16))) (List._∷_ (
@@ -1123,110 +1122,13 @@ t13 = List._∷_ (
 abbrev pub t14 : List.List Row.Entry
 t14 = List._∷_ (16, Rows.sc-here (Row.sInt Syntax.w64)) (List._∷_ (
   17,
-  Rows.any-gone (Syntax.tyStruct (List._∷_ 112 (List._∷_ 97 (List._∷_ 115 (List._∷_ 115 (List._∷_ 58 (List._∷_ 58 (List._∷_ 80
-      (List._∷_ 108 (List._∷_ 97 (List._∷_ 110 List.[])))))))))) (Syntax.tcons (Syntax.tyInt Syntax.w64) (Syntax.tcons (Syntax.tyInt Syntax.w64) (Syntax.tcons (Syntax.tyInt Syntax.w64) (Syntax.tcons
-      (Syntax.tyInt Syntax.w32) (Syntax.tcons (Syntax.tyInt Syntax.w32) Syntax.tnil)))))),
+  Rows.any-gone (Syntax.tyStruct (List._∷_ 115 (List._∷_ 116 (List._∷_ 101 (List._∷_ 112 (List._∷_ 115 (List._∷_ 58 (List._∷_ 58
+      (List._∷_ 80 (List._∷_ 108 (List._∷_ 97 (List._∷_ 110 List.[]))))))))))) (Syntax.tcons (Syntax.tyInt Syntax.w64) (Syntax.tcons (Syntax.tyInt Syntax.w64) (Syntax.tcons (Syntax.tyInt Syntax.w64)
+      (Syntax.tcons (Syntax.tyInt Syntax.w32) (Syntax.tcons (Syntax.tyInt Syntax.w32) Syntax.tnil)))))),
 ) (List._∷_ (
   18,
-  Rows.any-gone (Syntax.tyStruct (List._∷_ 112 (List._∷_ 97 (List._∷_ 115 (List._∷_ 115 (List._∷_
-      58 (List._∷_ 58 (List._∷_ 83 (List._∷_ 101 (List._∷_ 116 List.[]))))))))) (Syntax.tcons (Syntax.tyArray (Syntax.tyInt Syntax.w32) 112) (Syntax.tcons (Syntax.tyArray (Syntax.tyInt Syntax.w32) 112)
-      Syntax.tnil))),
-) (List._∷_ (
-  19,
-  Rows.any-gone (Syntax.tyStruct (List._∷_ 119 (List._∷_ 114 (List._∷_ 105 (List._∷_ 116 (List._∷_ 105 (List._∷_ 110 (List._∷_ 103 (List._∷_ 58 (List._∷_ 58 (List._∷_
-      80 (List._∷_ 97 (List._∷_ 115 (List._∷_ 115 (List._∷_ 80 (List._∷_ 117 (List._∷_ 116 List.[])))))))))))))))) (Syntax.tcons Syntax.tyBool (Syntax.tcons (Syntax.tyInt Syntax.w64) (Syntax.tcons
-      (Syntax.tyStruct (List._∷_ 98 (List._∷_ 105 (List._∷_ 116 (List._∷_ 115 (List._∷_ 58 (List._∷_ 58 (List._∷_ 66 (List._∷_ 105 (List._∷_ 116 (List._∷_ 80 (List._∷_ 111 (List._∷_ 115 (List._∷_ 105
-      (List._∷_ 116 (List._∷_ 105 (List._∷_ 111 (List._∷_ 110 List.[]))))))))))))))))) (Syntax.tcons (Syntax.tyInt Syntax.w64) Syntax.tnil)) (Syntax.tcons (Syntax.tyStruct (List._∷_ 112 (List._∷_ 97
-      (List._∷_ 115 (List._∷_ 115 (List._∷_ 58 (List._∷_ 58 (List._∷_ 83 (List._∷_ 101 (List._∷_ 116 List.[]))))))))) (Syntax.tcons (Syntax.tyArray (Syntax.tyInt Syntax.w32) 112) (Syntax.tcons
-      (Syntax.tyArray (Syntax.tyInt Syntax.w32) 112) Syntax.tnil))) Syntax.tnil))))),
-) (List._∷_ (20, Rows.any-gone Syntax.tyBool) (List._∷_ (
-  21,
-  Rows.any-gone (Syntax.tyStruct (List._∷_ 112 (List._∷_ 97
-      (List._∷_ 115 (List._∷_ 115 (List._∷_ 58 (List._∷_ 58 (List._∷_ 83 (List._∷_ 101 (List._∷_ 116 List.[]))))))))) (Syntax.tcons (Syntax.tyArray (Syntax.tyInt Syntax.w32) 112) (Syntax.tcons
-      (Syntax.tyArray (Syntax.tyInt Syntax.w32) 112) Syntax.tnil))),
-) (List._∷_ (22, Rows.any-gone Syntax.tyBool) (List._∷_ (23, Rows.any-gone Syntax.tyUnit) (List._∷_ (
-  24,
-  Rows.any-gone (Syntax.tyRef
-      Syntax.erased Syntax.mut (Syntax.tyInt Syntax.w16)),
-) (List._∷_ (
-  25,
-  Rows.any-gone (Syntax.tyStruct (List._∷_ 38 (List._∷_ 91 (List._∷_ 93 List.[]))) (Syntax.tcons (Syntax.tyRef Syntax.erased
-      Syntax.mut (Syntax.tyInt Syntax.w16)) (Syntax.tcons (Syntax.tyInt Syntax.w64) Syntax.tnil))),
-) (List._∷_ (26, Rows.any-gone (Syntax.tyRef Syntax.erased Syntax.mut (Syntax.tyInt Syntax.w16)))
-    (List._∷_ (
-      27,
-      Rows.any-gone (Syntax.tyStruct (List._∷_ 38 (List._∷_ 91 (List._∷_ 93 List.[]))) (Syntax.tcons (Syntax.tyRef Syntax.erased Syntax.mut (Syntax.tyInt Syntax.w16)) (Syntax.tcons
-          (Syntax.tyInt Syntax.w64) Syntax.tnil))),
-    ) (List._∷_ (28, Rows.any-gone (Syntax.tyRef Syntax.erased Syntax.mut Element.behind)) (List._∷_ (
-      29,
-      Rows.any-gone (Syntax.tyStruct (List._∷_ 38
-          (List._∷_ 91 (List._∷_ 93 List.[]))) (Syntax.tcons (Syntax.tyRef Syntax.erased Syntax.mut Element.behind) (Syntax.tcons (Syntax.tyInt Syntax.w64) Syntax.tnil))),
-    ) (List._∷_ (
-      30,
-      Rows.any-gone
-          (Syntax.tyRef Syntax.erased Syntax.mut (Syntax.tyInt Syntax.w8)),
-    ) (List._∷_ (
-      31,
-      Rows.any-gone (Syntax.tyStruct (List._∷_ 38 (List._∷_ 91 (List._∷_ 93 List.[]))) (Syntax.tcons (Syntax.tyRef
-          Syntax.erased Syntax.mut (Syntax.tyInt Syntax.w8)) (Syntax.tcons (Syntax.tyInt Syntax.w64) Syntax.tnil))),
-    ) List.[])))))))))))))))
-
-abbrev pub t15 : List.List Row.Entry
-t15 = List._∷_ (16, Rows.sc-here (Row.sInt Syntax.w64)) (List._∷_ (
-  17,
-  Rows.any-gone (Syntax.tyStruct (List._∷_ 112 (List._∷_ 97 (List._∷_ 115 (List._∷_ 115 (List._∷_ 58 (List._∷_ 58 (List._∷_ 80
-      (List._∷_ 108 (List._∷_ 97 (List._∷_ 110 List.[])))))))))) (Syntax.tcons (Syntax.tyInt Syntax.w64) (Syntax.tcons (Syntax.tyInt Syntax.w64) (Syntax.tcons (Syntax.tyInt Syntax.w64) (Syntax.tcons
-      (Syntax.tyInt Syntax.w32) (Syntax.tcons (Syntax.tyInt Syntax.w32) Syntax.tnil)))))),
-) (List._∷_ (
-  18,
-  Rows.any-gone (Syntax.tyStruct (List._∷_ 112 (List._∷_ 97 (List._∷_ 115 (List._∷_ 115 (List._∷_
-      58 (List._∷_ 58 (List._∷_ 83 (List._∷_ 101 (List._∷_ 116 List.[]))))))))) (Syntax.tcons (Syntax.tyArray (Syntax.tyInt Syntax.w32) 112) (Syntax.tcons (Syntax.tyArray (Syntax.tyInt Syntax.w32) 112)
-      Syntax.tnil))),
-) (List._∷_ (
-  19,
-  Rows.any-gone (Syntax.tyStruct (List._∷_ 119 (List._∷_ 114 (List._∷_ 105 (List._∷_ 116 (List._∷_ 105 (List._∷_ 110 (List._∷_ 103 (List._∷_ 58 (List._∷_ 58 (List._∷_
-      80 (List._∷_ 97 (List._∷_ 115 (List._∷_ 115 (List._∷_ 80 (List._∷_ 117 (List._∷_ 116 List.[])))))))))))))))) (Syntax.tcons Syntax.tyBool (Syntax.tcons (Syntax.tyInt Syntax.w64) (Syntax.tcons
-      (Syntax.tyStruct (List._∷_ 98 (List._∷_ 105 (List._∷_ 116 (List._∷_ 115 (List._∷_ 58 (List._∷_ 58 (List._∷_ 66 (List._∷_ 105 (List._∷_ 116 (List._∷_ 80 (List._∷_ 111 (List._∷_ 115 (List._∷_ 105
-      (List._∷_ 116 (List._∷_ 105 (List._∷_ 111 (List._∷_ 110 List.[]))))))))))))))))) (Syntax.tcons (Syntax.tyInt Syntax.w64) Syntax.tnil)) (Syntax.tcons (Syntax.tyStruct (List._∷_ 112 (List._∷_ 97
-      (List._∷_ 115 (List._∷_ 115 (List._∷_ 58 (List._∷_ 58 (List._∷_ 83 (List._∷_ 101 (List._∷_ 116 List.[]))))))))) (Syntax.tcons (Syntax.tyArray (Syntax.tyInt Syntax.w32) 112) (Syntax.tcons
-      (Syntax.tyArray (Syntax.tyInt Syntax.w32) 112) Syntax.tnil))) Syntax.tnil))))),
-) (List._∷_ (20, Rows.any-gone Syntax.tyBool) (List._∷_ (
-  21,
-  Rows.any-gone (Syntax.tyStruct (List._∷_ 112 (List._∷_ 97
-      (List._∷_ 115 (List._∷_ 115 (List._∷_ 58 (List._∷_ 58 (List._∷_ 83 (List._∷_ 101 (List._∷_ 116 List.[]))))))))) (Syntax.tcons (Syntax.tyArray (Syntax.tyInt Syntax.w32) 112) (Syntax.tcons
-      (Syntax.tyArray (Syntax.tyInt Syntax.w32) 112) Syntax.tnil))),
-) (List._∷_ (22, Rows.sc-here Row.sBool) (List._∷_ (23, Rows.any-gone Syntax.tyUnit) (List._∷_ (
-  24,
-  Rows.any-gone (Syntax.tyRef
-      Syntax.erased Syntax.mut (Syntax.tyInt Syntax.w16)),
-) (List._∷_ (
-  25,
-  Rows.any-gone (Syntax.tyStruct (List._∷_ 38 (List._∷_ 91 (List._∷_ 93 List.[]))) (Syntax.tcons (Syntax.tyRef Syntax.erased
-      Syntax.mut (Syntax.tyInt Syntax.w16)) (Syntax.tcons (Syntax.tyInt Syntax.w64) Syntax.tnil))),
-) (List._∷_ (26, Rows.any-gone (Syntax.tyRef Syntax.erased Syntax.mut (Syntax.tyInt Syntax.w16)))
-    (List._∷_ (
-      27,
-      Rows.any-gone (Syntax.tyStruct (List._∷_ 38 (List._∷_ 91 (List._∷_ 93 List.[]))) (Syntax.tcons (Syntax.tyRef Syntax.erased Syntax.mut (Syntax.tyInt Syntax.w16)) (Syntax.tcons
-          (Syntax.tyInt Syntax.w64) Syntax.tnil))),
-    ) (List._∷_ (28, Rows.any-gone (Syntax.tyRef Syntax.erased Syntax.mut Element.behind)) (List._∷_ (
-      29,
-      Rows.any-gone (Syntax.tyStruct (List._∷_ 38
-          (List._∷_ 91 (List._∷_ 93 List.[]))) (Syntax.tcons (Syntax.tyRef Syntax.erased Syntax.mut Element.behind) (Syntax.tcons (Syntax.tyInt Syntax.w64) Syntax.tnil))),
-    ) (List._∷_ (
-      30,
-      Rows.any-gone
-          (Syntax.tyRef Syntax.erased Syntax.mut (Syntax.tyInt Syntax.w8)),
-    ) (List._∷_ (
-      31,
-      Rows.any-gone (Syntax.tyStruct (List._∷_ 38 (List._∷_ 91 (List._∷_ 93 List.[]))) (Syntax.tcons (Syntax.tyRef
-          Syntax.erased Syntax.mut (Syntax.tyInt Syntax.w8)) (Syntax.tcons (Syntax.tyInt Syntax.w64) Syntax.tnil))),
-    ) List.[])))))))))))))))
-
-abbrev pub t16 : List.List Row.Entry
-t16 = List._∷_ (16, Rows.sc-here (Row.sInt Syntax.w64)) (List._∷_ (17, Rows.whole (Declared.row Plan.the-type)) (List._∷_ (
-  18,
-  Rows.any-gone (Syntax.tyStruct (List._∷_ 112 (List._∷_ 97 (List._∷_
-      115 (List._∷_ 115 (List._∷_ 58 (List._∷_ 58 (List._∷_ 83 (List._∷_ 101 (List._∷_ 116 List.[]))))))))) (Syntax.tcons (Syntax.tyArray (Syntax.tyInt Syntax.w32) 112) (Syntax.tcons (Syntax.tyArray
+  Rows.any-gone (Syntax.tyStruct (List._∷_ 115 (List._∷_ 116 (List._∷_ 101 (List._∷_
+      112 (List._∷_ 115 (List._∷_ 58 (List._∷_ 58 (List._∷_ 83 (List._∷_ 101 (List._∷_ 116 List.[])))))))))) (Syntax.tcons (Syntax.tyArray (Syntax.tyInt Syntax.w32) 112) (Syntax.tcons (Syntax.tyArray
       (Syntax.tyInt Syntax.w32) 112) Syntax.tnil))),
 ) (List._∷_ (
   19,
@@ -1234,38 +1136,131 @@ t16 = List._∷_ (16, Rows.sc-here (Row.sInt Syntax.w64)) (List._∷_ (17, Rows.
       (List._∷_ 58 (List._∷_ 58 (List._∷_ 80 (List._∷_ 97 (List._∷_ 115 (List._∷_ 115 (List._∷_ 80 (List._∷_ 117 (List._∷_ 116 List.[])))))))))))))))) (Syntax.tcons Syntax.tyBool (Syntax.tcons (Syntax.tyInt
       Syntax.w64) (Syntax.tcons (Syntax.tyStruct (List._∷_ 98 (List._∷_ 105 (List._∷_ 116 (List._∷_ 115 (List._∷_ 58 (List._∷_ 58 (List._∷_ 66 (List._∷_ 105 (List._∷_ 116 (List._∷_ 80 (List._∷_ 111
       (List._∷_ 115 (List._∷_ 105 (List._∷_ 116 (List._∷_ 105 (List._∷_ 111 (List._∷_ 110 List.[]))))))))))))))))) (Syntax.tcons (Syntax.tyInt Syntax.w64) Syntax.tnil)) (Syntax.tcons (Syntax.tyStruct
-      (List._∷_ 112 (List._∷_ 97 (List._∷_ 115 (List._∷_ 115 (List._∷_ 58 (List._∷_ 58 (List._∷_ 83 (List._∷_ 101 (List._∷_ 116 List.[]))))))))) (Syntax.tcons (Syntax.tyArray (Syntax.tyInt Syntax.w32) 112)
-      (Syntax.tcons (Syntax.tyArray (Syntax.tyInt Syntax.w32) 112) Syntax.tnil))) Syntax.tnil))))),
+      (List._∷_ 115 (List._∷_ 116 (List._∷_ 101 (List._∷_ 112 (List._∷_ 115 (List._∷_ 58 (List._∷_ 58 (List._∷_ 83 (List._∷_ 101 (List._∷_ 116 List.[])))))))))) (Syntax.tcons (Syntax.tyArray (Syntax.tyInt
+      Syntax.w32) 112) (Syntax.tcons (Syntax.tyArray (Syntax.tyInt Syntax.w32) 112) Syntax.tnil))) Syntax.tnil))))),
 ) (List._∷_ (20, Rows.any-gone Syntax.tyBool) (List._∷_ (
   21,
-  Rows.any-gone (Syntax.tyStruct (List._∷_ 112
-      (List._∷_ 97 (List._∷_ 115 (List._∷_ 115 (List._∷_ 58 (List._∷_ 58 (List._∷_ 83 (List._∷_ 101 (List._∷_ 116 List.[]))))))))) (Syntax.tcons (Syntax.tyArray (Syntax.tyInt Syntax.w32) 112) (Syntax.tcons
-      (Syntax.tyArray (Syntax.tyInt Syntax.w32) 112) Syntax.tnil))),
-) (List._∷_ (22, Rows.any-gone Syntax.tyBool) (List._∷_ (23, Rows.any-gone Syntax.tyUnit) (List._∷_ (
-  24,
+  Rows.any-gone
+      (Syntax.tyStruct (List._∷_ 115 (List._∷_ 116 (List._∷_ 101 (List._∷_ 112 (List._∷_ 115 (List._∷_ 58 (List._∷_ 58 (List._∷_ 83 (List._∷_ 101 (List._∷_ 116 List.[])))))))))) (Syntax.tcons
+      (Syntax.tyArray (Syntax.tyInt Syntax.w32) 112) (Syntax.tcons (Syntax.tyArray (Syntax.tyInt Syntax.w32) 112) Syntax.tnil))),
+) (List._∷_ (22, Rows.any-gone Syntax.tyBool) (List._∷_ (
+  23,
+  Rows.any-gone
+      Syntax.tyUnit,
+) (List._∷_ (24, Rows.any-gone (Syntax.tyRef Syntax.erased Syntax.mut (Syntax.tyInt Syntax.w16))) (List._∷_ (
+  25,
+  Rows.any-gone (Syntax.tyStruct (List._∷_ 38 (List._∷_ 91 (List._∷_ 93
+      List.[]))) (Syntax.tcons (Syntax.tyRef Syntax.erased Syntax.mut (Syntax.tyInt Syntax.w16)) (Syntax.tcons (Syntax.tyInt Syntax.w64) Syntax.tnil))),
+) (List._∷_ (
+  26,
   Rows.any-gone (Syntax.tyRef
       Syntax.erased Syntax.mut (Syntax.tyInt Syntax.w16)),
 ) (List._∷_ (
-  25,
+  27,
   Rows.any-gone (Syntax.tyStruct (List._∷_ 38 (List._∷_ 91 (List._∷_ 93 List.[]))) (Syntax.tcons (Syntax.tyRef Syntax.erased
       Syntax.mut (Syntax.tyInt Syntax.w16)) (Syntax.tcons (Syntax.tyInt Syntax.w64) Syntax.tnil))),
-) (List._∷_ (26, Rows.any-gone (Syntax.tyRef Syntax.erased Syntax.mut (Syntax.tyInt Syntax.w16)))
+) (List._∷_ (28, Rows.any-gone (Syntax.tyRef Syntax.erased Syntax.mut Element.behind)) (List._∷_ (
+  29,
+  Rows.any-gone (Syntax.tyStruct (List._∷_ 38 (List._∷_ 91 (List._∷_ 93 List.[]))) (Syntax.tcons (Syntax.tyRef Syntax.erased Syntax.mut Element.behind) (Syntax.tcons (Syntax.tyInt Syntax.w64)
+      Syntax.tnil))),
+) (List._∷_ (30, Rows.any-gone (Syntax.tyRef Syntax.erased Syntax.mut (Syntax.tyInt Syntax.w8))) (List._∷_ (
+  31,
+  Rows.any-gone (Syntax.tyStruct (List._∷_ 38 (List._∷_ 91 (List._∷_
+      93 List.[]))) (Syntax.tcons (Syntax.tyRef Syntax.erased Syntax.mut (Syntax.tyInt Syntax.w8)) (Syntax.tcons (Syntax.tyInt Syntax.w64) Syntax.tnil))),
+) List.[])))))))))))))))
+
+abbrev pub t15 : List.List Row.Entry
+t15 = List._∷_ (16, Rows.sc-here (Row.sInt Syntax.w64)) (List._∷_ (
+  17,
+  Rows.any-gone (Syntax.tyStruct (List._∷_ 115 (List._∷_ 116 (List._∷_ 101 (List._∷_ 112 (List._∷_ 115 (List._∷_ 58 (List._∷_ 58
+      (List._∷_ 80 (List._∷_ 108 (List._∷_ 97 (List._∷_ 110 List.[]))))))))))) (Syntax.tcons (Syntax.tyInt Syntax.w64) (Syntax.tcons (Syntax.tyInt Syntax.w64) (Syntax.tcons (Syntax.tyInt Syntax.w64)
+      (Syntax.tcons (Syntax.tyInt Syntax.w32) (Syntax.tcons (Syntax.tyInt Syntax.w32) Syntax.tnil)))))),
+) (List._∷_ (
+  18,
+  Rows.any-gone (Syntax.tyStruct (List._∷_ 115 (List._∷_ 116 (List._∷_ 101 (List._∷_
+      112 (List._∷_ 115 (List._∷_ 58 (List._∷_ 58 (List._∷_ 83 (List._∷_ 101 (List._∷_ 116 List.[])))))))))) (Syntax.tcons (Syntax.tyArray (Syntax.tyInt Syntax.w32) 112) (Syntax.tcons (Syntax.tyArray
+      (Syntax.tyInt Syntax.w32) 112) Syntax.tnil))),
+) (List._∷_ (
+  19,
+  Rows.any-gone (Syntax.tyStruct (List._∷_ 119 (List._∷_ 114 (List._∷_ 105 (List._∷_ 116 (List._∷_ 105 (List._∷_ 110 (List._∷_ 103
+      (List._∷_ 58 (List._∷_ 58 (List._∷_ 80 (List._∷_ 97 (List._∷_ 115 (List._∷_ 115 (List._∷_ 80 (List._∷_ 117 (List._∷_ 116 List.[])))))))))))))))) (Syntax.tcons Syntax.tyBool (Syntax.tcons (Syntax.tyInt
+      Syntax.w64) (Syntax.tcons (Syntax.tyStruct (List._∷_ 98 (List._∷_ 105 (List._∷_ 116 (List._∷_ 115 (List._∷_ 58 (List._∷_ 58 (List._∷_ 66 (List._∷_ 105 (List._∷_ 116 (List._∷_ 80 (List._∷_ 111
+      (List._∷_ 115 (List._∷_ 105 (List._∷_ 116 (List._∷_ 105 (List._∷_ 111 (List._∷_ 110 List.[]))))))))))))))))) (Syntax.tcons (Syntax.tyInt Syntax.w64) Syntax.tnil)) (Syntax.tcons (Syntax.tyStruct
+      (List._∷_ 115 (List._∷_ 116 (List._∷_ 101 (List._∷_ 112 (List._∷_ 115 (List._∷_ 58 (List._∷_ 58 (List._∷_ 83 (List._∷_ 101 (List._∷_ 116 List.[])))))))))) (Syntax.tcons (Syntax.tyArray (Syntax.tyInt
+      Syntax.w32) 112) (Syntax.tcons (Syntax.tyArray (Syntax.tyInt Syntax.w32) 112) Syntax.tnil))) Syntax.tnil))))),
+) (List._∷_ (20, Rows.any-gone Syntax.tyBool) (List._∷_ (
+  21,
+  Rows.any-gone
+      (Syntax.tyStruct (List._∷_ 115 (List._∷_ 116 (List._∷_ 101 (List._∷_ 112 (List._∷_ 115 (List._∷_ 58 (List._∷_ 58 (List._∷_ 83 (List._∷_ 101 (List._∷_ 116 List.[])))))))))) (Syntax.tcons
+      (Syntax.tyArray (Syntax.tyInt Syntax.w32) 112) (Syntax.tcons (Syntax.tyArray (Syntax.tyInt Syntax.w32) 112) Syntax.tnil))),
+) (List._∷_ (22, Rows.sc-here Row.sBool) (List._∷_ (
+  23,
+  Rows.any-gone
+      Syntax.tyUnit,
+) (List._∷_ (24, Rows.any-gone (Syntax.tyRef Syntax.erased Syntax.mut (Syntax.tyInt Syntax.w16))) (List._∷_ (
+  25,
+  Rows.any-gone (Syntax.tyStruct (List._∷_ 38 (List._∷_ 91 (List._∷_ 93
+      List.[]))) (Syntax.tcons (Syntax.tyRef Syntax.erased Syntax.mut (Syntax.tyInt Syntax.w16)) (Syntax.tcons (Syntax.tyInt Syntax.w64) Syntax.tnil))),
+) (List._∷_ (
+  26,
+  Rows.any-gone (Syntax.tyRef
+      Syntax.erased Syntax.mut (Syntax.tyInt Syntax.w16)),
+) (List._∷_ (
+  27,
+  Rows.any-gone (Syntax.tyStruct (List._∷_ 38 (List._∷_ 91 (List._∷_ 93 List.[]))) (Syntax.tcons (Syntax.tyRef Syntax.erased
+      Syntax.mut (Syntax.tyInt Syntax.w16)) (Syntax.tcons (Syntax.tyInt Syntax.w64) Syntax.tnil))),
+) (List._∷_ (28, Rows.any-gone (Syntax.tyRef Syntax.erased Syntax.mut Element.behind)) (List._∷_ (
+  29,
+  Rows.any-gone (Syntax.tyStruct (List._∷_ 38 (List._∷_ 91 (List._∷_ 93 List.[]))) (Syntax.tcons (Syntax.tyRef Syntax.erased Syntax.mut Element.behind) (Syntax.tcons (Syntax.tyInt Syntax.w64)
+      Syntax.tnil))),
+) (List._∷_ (30, Rows.any-gone (Syntax.tyRef Syntax.erased Syntax.mut (Syntax.tyInt Syntax.w8))) (List._∷_ (
+  31,
+  Rows.any-gone (Syntax.tyStruct (List._∷_ 38 (List._∷_ 91 (List._∷_
+      93 List.[]))) (Syntax.tcons (Syntax.tyRef Syntax.erased Syntax.mut (Syntax.tyInt Syntax.w8)) (Syntax.tcons (Syntax.tyInt Syntax.w64) Syntax.tnil))),
+) List.[])))))))))))))))
+
+abbrev pub t16 : List.List Row.Entry
+t16 = List._∷_ (16, Rows.sc-here (Row.sInt Syntax.w64)) (List._∷_ (17, Rows.whole (Declared.row Plan.the-type)) (List._∷_ (
+  18,
+  Rows.any-gone (Syntax.tyStruct (List._∷_ 115 (List._∷_ 116 (List._∷_
+      101 (List._∷_ 112 (List._∷_ 115 (List._∷_ 58 (List._∷_ 58 (List._∷_ 83 (List._∷_ 101 (List._∷_ 116 List.[])))))))))) (Syntax.tcons (Syntax.tyArray (Syntax.tyInt Syntax.w32) 112) (Syntax.tcons
+      (Syntax.tyArray (Syntax.tyInt Syntax.w32) 112) Syntax.tnil))),
+) (List._∷_ (
+  19,
+  Rows.any-gone (Syntax.tyStruct (List._∷_ 119 (List._∷_ 114 (List._∷_ 105 (List._∷_ 116 (List._∷_ 105 (List._∷_ 110
+      (List._∷_ 103 (List._∷_ 58 (List._∷_ 58 (List._∷_ 80 (List._∷_ 97 (List._∷_ 115 (List._∷_ 115 (List._∷_ 80 (List._∷_ 117 (List._∷_ 116 List.[])))))))))))))))) (Syntax.tcons Syntax.tyBool (Syntax.tcons
+      (Syntax.tyInt Syntax.w64) (Syntax.tcons (Syntax.tyStruct (List._∷_ 98 (List._∷_ 105 (List._∷_ 116 (List._∷_ 115 (List._∷_ 58 (List._∷_ 58 (List._∷_ 66 (List._∷_ 105 (List._∷_ 116 (List._∷_ 80
+      (List._∷_ 111 (List._∷_ 115 (List._∷_ 105 (List._∷_ 116 (List._∷_ 105 (List._∷_ 111 (List._∷_ 110 List.[]))))))))))))))))) (Syntax.tcons (Syntax.tyInt Syntax.w64) Syntax.tnil)) (Syntax.tcons
+      (Syntax.tyStruct (List._∷_ 115 (List._∷_ 116 (List._∷_ 101 (List._∷_ 112 (List._∷_ 115 (List._∷_ 58 (List._∷_ 58 (List._∷_ 83 (List._∷_ 101 (List._∷_ 116 List.[])))))))))) (Syntax.tcons
+      (Syntax.tyArray (Syntax.tyInt Syntax.w32) 112) (Syntax.tcons (Syntax.tyArray (Syntax.tyInt Syntax.w32) 112) Syntax.tnil))) Syntax.tnil))))),
+) (List._∷_ (20, Rows.any-gone Syntax.tyBool) (List._∷_ (
+  21,
+  Rows.any-gone (Syntax.tyStruct (List._∷_ 115 (List._∷_ 116 (List._∷_ 101 (List._∷_ 112 (List._∷_ 115 (List._∷_ 58 (List._∷_ 58 (List._∷_ 83 (List._∷_ 101 (List._∷_ 116 List.[]))))))))))
+      (Syntax.tcons (Syntax.tyArray (Syntax.tyInt Syntax.w32) 112) (Syntax.tcons (Syntax.tyArray (Syntax.tyInt Syntax.w32) 112) Syntax.tnil))),
+) (List._∷_ (22, Rows.any-gone Syntax.tyBool) (List._∷_ (
+  23,
+  Rows.any-gone Syntax.tyUnit,
+) (List._∷_ (24, Rows.any-gone (Syntax.tyRef Syntax.erased Syntax.mut (Syntax.tyInt Syntax.w16))) (List._∷_ (
+  25,
+  Rows.any-gone (Syntax.tyStruct (List._∷_ 38 (List._∷_ 91
+      (List._∷_ 93 List.[]))) (Syntax.tcons (Syntax.tyRef Syntax.erased Syntax.mut (Syntax.tyInt Syntax.w16)) (Syntax.tcons (Syntax.tyInt Syntax.w64) Syntax.tnil))),
+) (List._∷_ (
+  26,
+  Rows.any-gone
+      (Syntax.tyRef Syntax.erased Syntax.mut (Syntax.tyInt Syntax.w16)),
+) (List._∷_ (
+  27,
+  Rows.any-gone (Syntax.tyStruct (List._∷_ 38 (List._∷_ 91 (List._∷_ 93 List.[]))) (Syntax.tcons (Syntax.tyRef
+      Syntax.erased Syntax.mut (Syntax.tyInt Syntax.w16)) (Syntax.tcons (Syntax.tyInt Syntax.w64) Syntax.tnil))),
+) (List._∷_ (28, Rows.any-gone (Syntax.tyRef Syntax.erased Syntax.mut Element.behind))
     (List._∷_ (
-      27,
-      Rows.any-gone (Syntax.tyStruct (List._∷_ 38 (List._∷_ 91 (List._∷_ 93 List.[]))) (Syntax.tcons (Syntax.tyRef Syntax.erased Syntax.mut (Syntax.tyInt Syntax.w16)) (Syntax.tcons
-          (Syntax.tyInt Syntax.w64) Syntax.tnil))),
-    ) (List._∷_ (28, Rows.any-gone (Syntax.tyRef Syntax.erased Syntax.mut Element.behind)) (List._∷_ (
       29,
-      Rows.any-gone (Syntax.tyStruct (List._∷_ 38
-          (List._∷_ 91 (List._∷_ 93 List.[]))) (Syntax.tcons (Syntax.tyRef Syntax.erased Syntax.mut Element.behind) (Syntax.tcons (Syntax.tyInt Syntax.w64) Syntax.tnil))),
-    ) (List._∷_ (
-      30,
-      Rows.any-gone
-          (Syntax.tyRef Syntax.erased Syntax.mut (Syntax.tyInt Syntax.w8)),
-    ) (List._∷_ (
+      Rows.any-gone (Syntax.tyStruct (List._∷_ 38 (List._∷_ 91 (List._∷_ 93 List.[]))) (Syntax.tcons (Syntax.tyRef Syntax.erased Syntax.mut Element.behind) (Syntax.tcons (Syntax.tyInt
+          Syntax.w64) Syntax.tnil))),
+    ) (List._∷_ (30, Rows.any-gone (Syntax.tyRef Syntax.erased Syntax.mut (Syntax.tyInt Syntax.w8))) (List._∷_ (
       31,
-      Rows.any-gone (Syntax.tyStruct (List._∷_ 38 (List._∷_ 91 (List._∷_ 93 List.[]))) (Syntax.tcons (Syntax.tyRef
-          Syntax.erased Syntax.mut (Syntax.tyInt Syntax.w8)) (Syntax.tcons (Syntax.tyInt Syntax.w64) Syntax.tnil))),
+      Rows.any-gone (Syntax.tyStruct (List._∷_ 38 (List._∷_ 91
+          (List._∷_ 93 List.[]))) (Syntax.tcons (Syntax.tyRef Syntax.erased Syntax.mut (Syntax.tyInt Syntax.w8)) (Syntax.tcons (Syntax.tyInt Syntax.w64) Syntax.tnil))),
     ) List.[])))))))))))))))
 
 abbrev pub t17 : List.List Row.Entry
@@ -1311,176 +1306,178 @@ t17 = List._∷_ (
 abbrev pub t18 : List.List Row.Entry
 t18 = List._∷_ (16, Rows.sc-here (Row.sInt Syntax.w64)) (List._∷_ (17, Rows.whole (Declared.row Plan.the-type)) (List._∷_ (
   18,
-  Rows.any-gone (Syntax.tyStruct (List._∷_ 112 (List._∷_ 97 (List._∷_
-      115 (List._∷_ 115 (List._∷_ 58 (List._∷_ 58 (List._∷_ 83 (List._∷_ 101 (List._∷_ 116 List.[]))))))))) (Syntax.tcons (Syntax.tyArray (Syntax.tyInt Syntax.w32) 112) (Syntax.tcons (Syntax.tyArray
-      (Syntax.tyInt Syntax.w32) 112) Syntax.tnil))),
+  Rows.any-gone (Syntax.tyStruct (List._∷_ 115 (List._∷_ 116 (List._∷_
+      101 (List._∷_ 112 (List._∷_ 115 (List._∷_ 58 (List._∷_ 58 (List._∷_ 83 (List._∷_ 101 (List._∷_ 116 List.[])))))))))) (Syntax.tcons (Syntax.tyArray (Syntax.tyInt Syntax.w32) 112) (Syntax.tcons
+      (Syntax.tyArray (Syntax.tyInt Syntax.w32) 112) Syntax.tnil))),
 ) (List._∷_ (
   19,
-  Rows.any-gone (Syntax.tyStruct (List._∷_ 119 (List._∷_ 114 (List._∷_ 105 (List._∷_ 116 (List._∷_ 105 (List._∷_ 110 (List._∷_ 103
-      (List._∷_ 58 (List._∷_ 58 (List._∷_ 80 (List._∷_ 97 (List._∷_ 115 (List._∷_ 115 (List._∷_ 80 (List._∷_ 117 (List._∷_ 116 List.[])))))))))))))))) (Syntax.tcons Syntax.tyBool (Syntax.tcons (Syntax.tyInt
-      Syntax.w64) (Syntax.tcons (Syntax.tyStruct (List._∷_ 98 (List._∷_ 105 (List._∷_ 116 (List._∷_ 115 (List._∷_ 58 (List._∷_ 58 (List._∷_ 66 (List._∷_ 105 (List._∷_ 116 (List._∷_ 80 (List._∷_ 111
-      (List._∷_ 115 (List._∷_ 105 (List._∷_ 116 (List._∷_ 105 (List._∷_ 111 (List._∷_ 110 List.[]))))))))))))))))) (Syntax.tcons (Syntax.tyInt Syntax.w64) Syntax.tnil)) (Syntax.tcons (Syntax.tyStruct
-      (List._∷_ 112 (List._∷_ 97 (List._∷_ 115 (List._∷_ 115 (List._∷_ 58 (List._∷_ 58 (List._∷_ 83 (List._∷_ 101 (List._∷_ 116 List.[]))))))))) (Syntax.tcons (Syntax.tyArray (Syntax.tyInt Syntax.w32) 112)
-      (Syntax.tcons (Syntax.tyArray (Syntax.tyInt Syntax.w32) 112) Syntax.tnil))) Syntax.tnil))))),
+  Rows.any-gone (Syntax.tyStruct (List._∷_ 119 (List._∷_ 114 (List._∷_ 105 (List._∷_ 116 (List._∷_ 105 (List._∷_ 110
+      (List._∷_ 103 (List._∷_ 58 (List._∷_ 58 (List._∷_ 80 (List._∷_ 97 (List._∷_ 115 (List._∷_ 115 (List._∷_ 80 (List._∷_ 117 (List._∷_ 116 List.[])))))))))))))))) (Syntax.tcons Syntax.tyBool (Syntax.tcons
+      (Syntax.tyInt Syntax.w64) (Syntax.tcons (Syntax.tyStruct (List._∷_ 98 (List._∷_ 105 (List._∷_ 116 (List._∷_ 115 (List._∷_ 58 (List._∷_ 58 (List._∷_ 66 (List._∷_ 105 (List._∷_ 116 (List._∷_ 80
+      (List._∷_ 111 (List._∷_ 115 (List._∷_ 105 (List._∷_ 116 (List._∷_ 105 (List._∷_ 111 (List._∷_ 110 List.[]))))))))))))))))) (Syntax.tcons (Syntax.tyInt Syntax.w64) Syntax.tnil)) (Syntax.tcons
+      (Syntax.tyStruct (List._∷_ 115 (List._∷_ 116 (List._∷_ 101 (List._∷_ 112 (List._∷_ 115 (List._∷_ 58 (List._∷_ 58 (List._∷_ 83 (List._∷_ 101 (List._∷_ 116 List.[])))))))))) (Syntax.tcons
+      (Syntax.tyArray (Syntax.tyInt Syntax.w32) 112) (Syntax.tcons (Syntax.tyArray (Syntax.tyInt Syntax.w32) 112) Syntax.tnil))) Syntax.tnil))))),
 ) (List._∷_ (20, Rows.any-gone Syntax.tyBool) (List._∷_ (
   21,
-  Rows.any-gone (Syntax.tyStruct (List._∷_ 112
-      (List._∷_ 97 (List._∷_ 115 (List._∷_ 115 (List._∷_ 58 (List._∷_ 58 (List._∷_ 83 (List._∷_ 101 (List._∷_ 116 List.[]))))))))) (Syntax.tcons (Syntax.tyArray (Syntax.tyInt Syntax.w32) 112) (Syntax.tcons
-      (Syntax.tyArray (Syntax.tyInt Syntax.w32) 112) Syntax.tnil))),
-) (List._∷_ (22, Rows.any-gone Syntax.tyBool) (List._∷_ (23, Rows.any-gone Syntax.tyUnit) (List._∷_ (
-  24,
-  Relend.msptr (Referent.rtF
-      (Referent.fInt Syntax.w16)) (Syntax.tyRef Syntax.erased Syntax.mut (Syntax.tyInt Syntax.w16)) 4,
-) (List._∷_ (
+  Rows.any-gone (Syntax.tyStruct (List._∷_ 115 (List._∷_ 116 (List._∷_ 101 (List._∷_ 112 (List._∷_ 115 (List._∷_ 58 (List._∷_ 58 (List._∷_ 83 (List._∷_ 101 (List._∷_ 116 List.[]))))))))))
+      (Syntax.tcons (Syntax.tyArray (Syntax.tyInt Syntax.w32) 112) (Syntax.tcons (Syntax.tyArray (Syntax.tyInt Syntax.w32) 112) Syntax.tnil))),
+) (List._∷_ (22, Rows.any-gone Syntax.tyBool) (List._∷_ (
+  23,
+  Rows.any-gone Syntax.tyUnit,
+) (List._∷_ (24, Relend.msptr (Referent.rtF (Referent.fInt Syntax.w16)) (Syntax.tyRef Syntax.erased Syntax.mut (Syntax.tyInt Syntax.w16)) 4) (List._∷_ (
   25,
-  Rows.any-gone (Syntax.tyStruct (List._∷_ 38 (List._∷_ 91 (List._∷_ 93 List.[])))
-      (Syntax.tcons (Syntax.tyRef Syntax.erased Syntax.mut (Syntax.tyInt Syntax.w16)) (Syntax.tcons (Syntax.tyInt Syntax.w64) Syntax.tnil))),
-) (List._∷_ (
-  26,
-  Rows.any-gone (Syntax.tyRef Syntax.erased
-      Syntax.mut (Syntax.tyInt Syntax.w16)),
-) (List._∷_ (
-  27,
-  Rows.any-gone (Syntax.tyStruct (List._∷_ 38 (List._∷_ 91 (List._∷_ 93 List.[]))) (Syntax.tcons (Syntax.tyRef Syntax.erased Syntax.mut
-      (Syntax.tyInt Syntax.w16)) (Syntax.tcons (Syntax.tyInt Syntax.w64) Syntax.tnil))),
-) (List._∷_ (28, Rows.any-gone (Syntax.tyRef Syntax.erased Syntax.mut Element.behind)) (List._∷_ (
-  29,
-  Rows.any-gone (Syntax.tyStruct (List._∷_ 38 (List._∷_ 91 (List._∷_ 93 List.[]))) (Syntax.tcons (Syntax.tyRef Syntax.erased Syntax.mut Element.behind) (Syntax.tcons (Syntax.tyInt Syntax.w64)
+  Rows.any-gone
+      (Syntax.tyStruct (List._∷_ 38 (List._∷_ 91 (List._∷_ 93 List.[]))) (Syntax.tcons (Syntax.tyRef Syntax.erased Syntax.mut (Syntax.tyInt Syntax.w16)) (Syntax.tcons (Syntax.tyInt Syntax.w64)
       Syntax.tnil))),
+) (List._∷_ (26, Rows.any-gone (Syntax.tyRef Syntax.erased Syntax.mut (Syntax.tyInt Syntax.w16))) (List._∷_ (
+  27,
+  Rows.any-gone (Syntax.tyStruct (List._∷_ 38 (List._∷_ 91 (List._∷_
+      93 List.[]))) (Syntax.tcons (Syntax.tyRef Syntax.erased Syntax.mut (Syntax.tyInt Syntax.w16)) (Syntax.tcons (Syntax.tyInt Syntax.w64) Syntax.tnil))),
+) (List._∷_ (
+  28,
+  Rows.any-gone (Syntax.tyRef
+      Syntax.erased Syntax.mut Element.behind),
+) (List._∷_ (
+  29,
+  Rows.any-gone (Syntax.tyStruct (List._∷_ 38 (List._∷_ 91 (List._∷_ 93 List.[]))) (Syntax.tcons (Syntax.tyRef Syntax.erased Syntax.mut
+      Element.behind) (Syntax.tcons (Syntax.tyInt Syntax.w64) Syntax.tnil))),
 ) (List._∷_ (30, Rows.any-gone (Syntax.tyRef Syntax.erased Syntax.mut (Syntax.tyInt Syntax.w8))) (List._∷_ (
   31,
-  Rows.any-gone (Syntax.tyStruct (List._∷_ 38 (List._∷_ 91 (List._∷_
-      93 List.[]))) (Syntax.tcons (Syntax.tyRef Syntax.erased Syntax.mut (Syntax.tyInt Syntax.w8)) (Syntax.tcons (Syntax.tyInt Syntax.w64) Syntax.tnil))),
+  Rows.any-gone (Syntax.tyStruct (List._∷_ 38 (List._∷_ 91 (List._∷_ 93 List.[]))) (Syntax.tcons (Syntax.tyRef Syntax.erased Syntax.mut (Syntax.tyInt Syntax.w8)) (Syntax.tcons (Syntax.tyInt Syntax.w64)
+      Syntax.tnil))),
 ) List.[])))))))))))))))
 
 abbrev pub t19 : List.List Row.Entry
 t19 = List._∷_ (16, Rows.sc-here (Row.sInt Syntax.w64)) (List._∷_ (17, Rows.whole (Declared.row Plan.the-type)) (List._∷_ (
   18,
-  Rows.any-gone (Syntax.tyStruct (List._∷_ 112 (List._∷_ 97 (List._∷_
-      115 (List._∷_ 115 (List._∷_ 58 (List._∷_ 58 (List._∷_ 83 (List._∷_ 101 (List._∷_ 116 List.[]))))))))) (Syntax.tcons (Syntax.tyArray (Syntax.tyInt Syntax.w32) 112) (Syntax.tcons (Syntax.tyArray
-      (Syntax.tyInt Syntax.w32) 112) Syntax.tnil))),
+  Rows.any-gone (Syntax.tyStruct (List._∷_ 115 (List._∷_ 116 (List._∷_
+      101 (List._∷_ 112 (List._∷_ 115 (List._∷_ 58 (List._∷_ 58 (List._∷_ 83 (List._∷_ 101 (List._∷_ 116 List.[])))))))))) (Syntax.tcons (Syntax.tyArray (Syntax.tyInt Syntax.w32) 112) (Syntax.tcons
+      (Syntax.tyArray (Syntax.tyInt Syntax.w32) 112) Syntax.tnil))),
 ) (List._∷_ (
   19,
-  Rows.any-gone (Syntax.tyStruct (List._∷_ 119 (List._∷_ 114 (List._∷_ 105 (List._∷_ 116 (List._∷_ 105 (List._∷_ 110 (List._∷_ 103
-      (List._∷_ 58 (List._∷_ 58 (List._∷_ 80 (List._∷_ 97 (List._∷_ 115 (List._∷_ 115 (List._∷_ 80 (List._∷_ 117 (List._∷_ 116 List.[])))))))))))))))) (Syntax.tcons Syntax.tyBool (Syntax.tcons (Syntax.tyInt
-      Syntax.w64) (Syntax.tcons (Syntax.tyStruct (List._∷_ 98 (List._∷_ 105 (List._∷_ 116 (List._∷_ 115 (List._∷_ 58 (List._∷_ 58 (List._∷_ 66 (List._∷_ 105 (List._∷_ 116 (List._∷_ 80 (List._∷_ 111
-      (List._∷_ 115 (List._∷_ 105 (List._∷_ 116 (List._∷_ 105 (List._∷_ 111 (List._∷_ 110 List.[]))))))))))))))))) (Syntax.tcons (Syntax.tyInt Syntax.w64) Syntax.tnil)) (Syntax.tcons (Syntax.tyStruct
-      (List._∷_ 112 (List._∷_ 97 (List._∷_ 115 (List._∷_ 115 (List._∷_ 58 (List._∷_ 58 (List._∷_ 83 (List._∷_ 101 (List._∷_ 116 List.[]))))))))) (Syntax.tcons (Syntax.tyArray (Syntax.tyInt Syntax.w32) 112)
-      (Syntax.tcons (Syntax.tyArray (Syntax.tyInt Syntax.w32) 112) Syntax.tnil))) Syntax.tnil))))),
+  Rows.any-gone (Syntax.tyStruct (List._∷_ 119 (List._∷_ 114 (List._∷_ 105 (List._∷_ 116 (List._∷_ 105 (List._∷_ 110
+      (List._∷_ 103 (List._∷_ 58 (List._∷_ 58 (List._∷_ 80 (List._∷_ 97 (List._∷_ 115 (List._∷_ 115 (List._∷_ 80 (List._∷_ 117 (List._∷_ 116 List.[])))))))))))))))) (Syntax.tcons Syntax.tyBool (Syntax.tcons
+      (Syntax.tyInt Syntax.w64) (Syntax.tcons (Syntax.tyStruct (List._∷_ 98 (List._∷_ 105 (List._∷_ 116 (List._∷_ 115 (List._∷_ 58 (List._∷_ 58 (List._∷_ 66 (List._∷_ 105 (List._∷_ 116 (List._∷_ 80
+      (List._∷_ 111 (List._∷_ 115 (List._∷_ 105 (List._∷_ 116 (List._∷_ 105 (List._∷_ 111 (List._∷_ 110 List.[]))))))))))))))))) (Syntax.tcons (Syntax.tyInt Syntax.w64) Syntax.tnil)) (Syntax.tcons
+      (Syntax.tyStruct (List._∷_ 115 (List._∷_ 116 (List._∷_ 101 (List._∷_ 112 (List._∷_ 115 (List._∷_ 58 (List._∷_ 58 (List._∷_ 83 (List._∷_ 101 (List._∷_ 116 List.[])))))))))) (Syntax.tcons
+      (Syntax.tyArray (Syntax.tyInt Syntax.w32) 112) (Syntax.tcons (Syntax.tyArray (Syntax.tyInt Syntax.w32) 112) Syntax.tnil))) Syntax.tnil))))),
 ) (List._∷_ (20, Rows.any-gone Syntax.tyBool) (List._∷_ (
   21,
-  Rows.any-gone (Syntax.tyStruct (List._∷_ 112
-      (List._∷_ 97 (List._∷_ 115 (List._∷_ 115 (List._∷_ 58 (List._∷_ 58 (List._∷_ 83 (List._∷_ 101 (List._∷_ 116 List.[]))))))))) (Syntax.tcons (Syntax.tyArray (Syntax.tyInt Syntax.w32) 112) (Syntax.tcons
-      (Syntax.tyArray (Syntax.tyInt Syntax.w32) 112) Syntax.tnil))),
-) (List._∷_ (22, Rows.any-gone Syntax.tyBool) (List._∷_ (23, Rows.any-gone Syntax.tyUnit) (List._∷_ (
-  24,
-  Rows.any-gone (Syntax.tyRef
-      Syntax.erased Syntax.mut (Syntax.tyInt Syntax.w16)),
-) (List._∷_ (25, Mut.mslice (Referent.rtF (Referent.fInt Syntax.w16)) (Syntax.tyRef Syntax.erased Syntax.mut (Syntax.tyInt Syntax.w16)) 4)
-    (List._∷_ (26, Rows.any-gone (Syntax.tyRef Syntax.erased Syntax.mut (Syntax.tyInt Syntax.w16))) (List._∷_ (
-      27,
-      Rows.any-gone (Syntax.tyStruct (List._∷_ 38 (List._∷_ 91 (List._∷_ 93 List.[])))
-          (Syntax.tcons (Syntax.tyRef Syntax.erased Syntax.mut (Syntax.tyInt Syntax.w16)) (Syntax.tcons (Syntax.tyInt Syntax.w64) Syntax.tnil))),
-    ) (List._∷_ (
-      28,
-      Rows.any-gone (Syntax.tyRef Syntax.erased
-          Syntax.mut Element.behind),
-    ) (List._∷_ (
-      29,
-      Rows.any-gone (Syntax.tyStruct (List._∷_ 38 (List._∷_ 91 (List._∷_ 93 List.[]))) (Syntax.tcons (Syntax.tyRef Syntax.erased Syntax.mut Element.behind)
-          (Syntax.tcons (Syntax.tyInt Syntax.w64) Syntax.tnil))),
-    ) (List._∷_ (30, Rows.any-gone (Syntax.tyRef Syntax.erased Syntax.mut (Syntax.tyInt Syntax.w8))) (List._∷_ (
-      31,
-      Rows.any-gone
-          (Syntax.tyStruct (List._∷_ 38 (List._∷_ 91 (List._∷_ 93 List.[]))) (Syntax.tcons (Syntax.tyRef Syntax.erased Syntax.mut (Syntax.tyInt Syntax.w8)) (Syntax.tcons (Syntax.tyInt Syntax.w64)
-          Syntax.tnil))),
-    ) List.[])))))))))))))))
+  Rows.any-gone (Syntax.tyStruct (List._∷_ 115 (List._∷_ 116 (List._∷_ 101 (List._∷_ 112 (List._∷_ 115 (List._∷_ 58 (List._∷_ 58 (List._∷_ 83 (List._∷_ 101 (List._∷_ 116 List.[]))))))))))
+      (Syntax.tcons (Syntax.tyArray (Syntax.tyInt Syntax.w32) 112) (Syntax.tcons (Syntax.tyArray (Syntax.tyInt Syntax.w32) 112) Syntax.tnil))),
+) (List._∷_ (22, Rows.any-gone Syntax.tyBool) (List._∷_ (
+  23,
+  Rows.any-gone Syntax.tyUnit,
+) (List._∷_ (24, Rows.any-gone (Syntax.tyRef Syntax.erased Syntax.mut (Syntax.tyInt Syntax.w16))) (List._∷_ (
+  25,
+  Mut.mslice (Referent.rtF (Referent.fInt Syntax.w16))
+      (Syntax.tyRef Syntax.erased Syntax.mut (Syntax.tyInt Syntax.w16)) 4,
+) (List._∷_ (26, Rows.any-gone (Syntax.tyRef Syntax.erased Syntax.mut (Syntax.tyInt Syntax.w16))) (List._∷_ (
+  27,
+  Rows.any-gone
+      (Syntax.tyStruct (List._∷_ 38 (List._∷_ 91 (List._∷_ 93 List.[]))) (Syntax.tcons (Syntax.tyRef Syntax.erased Syntax.mut (Syntax.tyInt Syntax.w16)) (Syntax.tcons (Syntax.tyInt Syntax.w64)
+      Syntax.tnil))),
+) (List._∷_ (28, Rows.any-gone (Syntax.tyRef Syntax.erased Syntax.mut Element.behind)) (List._∷_ (
+  29,
+  Rows.any-gone (Syntax.tyStruct (List._∷_ 38 (List._∷_ 91 (List._∷_ 93
+      List.[]))) (Syntax.tcons (Syntax.tyRef Syntax.erased Syntax.mut Element.behind) (Syntax.tcons (Syntax.tyInt Syntax.w64) Syntax.tnil))),
+) (List._∷_ (
+  30,
+  Rows.any-gone (Syntax.tyRef Syntax.erased
+      Syntax.mut (Syntax.tyInt Syntax.w8)),
+) (List._∷_ (
+  31,
+  Rows.any-gone (Syntax.tyStruct (List._∷_ 38 (List._∷_ 91 (List._∷_ 93 List.[]))) (Syntax.tcons (Syntax.tyRef Syntax.erased Syntax.mut
+      (Syntax.tyInt Syntax.w8)) (Syntax.tcons (Syntax.tyInt Syntax.w64) Syntax.tnil))),
+) List.[])))))))))))))))
 
 abbrev pub t20 : List.List Row.Entry
 t20 = List._∷_ (16, Rows.sc-here (Row.sInt Syntax.w64)) (List._∷_ (17, Rows.whole (Declared.row Plan.the-type)) (List._∷_ (
   18,
-  Rows.any-gone (Syntax.tyStruct (List._∷_ 112 (List._∷_ 97 (List._∷_
-      115 (List._∷_ 115 (List._∷_ 58 (List._∷_ 58 (List._∷_ 83 (List._∷_ 101 (List._∷_ 116 List.[]))))))))) (Syntax.tcons (Syntax.tyArray (Syntax.tyInt Syntax.w32) 112) (Syntax.tcons (Syntax.tyArray
-      (Syntax.tyInt Syntax.w32) 112) Syntax.tnil))),
+  Rows.any-gone (Syntax.tyStruct (List._∷_ 115 (List._∷_ 116 (List._∷_
+      101 (List._∷_ 112 (List._∷_ 115 (List._∷_ 58 (List._∷_ 58 (List._∷_ 83 (List._∷_ 101 (List._∷_ 116 List.[])))))))))) (Syntax.tcons (Syntax.tyArray (Syntax.tyInt Syntax.w32) 112) (Syntax.tcons
+      (Syntax.tyArray (Syntax.tyInt Syntax.w32) 112) Syntax.tnil))),
 ) (List._∷_ (
   19,
-  Rows.any-gone (Syntax.tyStruct (List._∷_ 119 (List._∷_ 114 (List._∷_ 105 (List._∷_ 116 (List._∷_ 105 (List._∷_ 110 (List._∷_ 103
-      (List._∷_ 58 (List._∷_ 58 (List._∷_ 80 (List._∷_ 97 (List._∷_ 115 (List._∷_ 115 (List._∷_ 80 (List._∷_ 117 (List._∷_ 116 List.[])))))))))))))))) (Syntax.tcons Syntax.tyBool (Syntax.tcons (Syntax.tyInt
-      Syntax.w64) (Syntax.tcons (Syntax.tyStruct (List._∷_ 98 (List._∷_ 105 (List._∷_ 116 (List._∷_ 115 (List._∷_ 58 (List._∷_ 58 (List._∷_ 66 (List._∷_ 105 (List._∷_ 116 (List._∷_ 80 (List._∷_ 111
-      (List._∷_ 115 (List._∷_ 105 (List._∷_ 116 (List._∷_ 105 (List._∷_ 111 (List._∷_ 110 List.[]))))))))))))))))) (Syntax.tcons (Syntax.tyInt Syntax.w64) Syntax.tnil)) (Syntax.tcons (Syntax.tyStruct
-      (List._∷_ 112 (List._∷_ 97 (List._∷_ 115 (List._∷_ 115 (List._∷_ 58 (List._∷_ 58 (List._∷_ 83 (List._∷_ 101 (List._∷_ 116 List.[]))))))))) (Syntax.tcons (Syntax.tyArray (Syntax.tyInt Syntax.w32) 112)
-      (Syntax.tcons (Syntax.tyArray (Syntax.tyInt Syntax.w32) 112) Syntax.tnil))) Syntax.tnil))))),
+  Rows.any-gone (Syntax.tyStruct (List._∷_ 119 (List._∷_ 114 (List._∷_ 105 (List._∷_ 116 (List._∷_ 105 (List._∷_ 110
+      (List._∷_ 103 (List._∷_ 58 (List._∷_ 58 (List._∷_ 80 (List._∷_ 97 (List._∷_ 115 (List._∷_ 115 (List._∷_ 80 (List._∷_ 117 (List._∷_ 116 List.[])))))))))))))))) (Syntax.tcons Syntax.tyBool (Syntax.tcons
+      (Syntax.tyInt Syntax.w64) (Syntax.tcons (Syntax.tyStruct (List._∷_ 98 (List._∷_ 105 (List._∷_ 116 (List._∷_ 115 (List._∷_ 58 (List._∷_ 58 (List._∷_ 66 (List._∷_ 105 (List._∷_ 116 (List._∷_ 80
+      (List._∷_ 111 (List._∷_ 115 (List._∷_ 105 (List._∷_ 116 (List._∷_ 105 (List._∷_ 111 (List._∷_ 110 List.[]))))))))))))))))) (Syntax.tcons (Syntax.tyInt Syntax.w64) Syntax.tnil)) (Syntax.tcons
+      (Syntax.tyStruct (List._∷_ 115 (List._∷_ 116 (List._∷_ 101 (List._∷_ 112 (List._∷_ 115 (List._∷_ 58 (List._∷_ 58 (List._∷_ 83 (List._∷_ 101 (List._∷_ 116 List.[])))))))))) (Syntax.tcons
+      (Syntax.tyArray (Syntax.tyInt Syntax.w32) 112) (Syntax.tcons (Syntax.tyArray (Syntax.tyInt Syntax.w32) 112) Syntax.tnil))) Syntax.tnil))))),
 ) (List._∷_ (20, Rows.any-gone Syntax.tyBool) (List._∷_ (
   21,
-  Rows.any-gone (Syntax.tyStruct (List._∷_ 112
-      (List._∷_ 97 (List._∷_ 115 (List._∷_ 115 (List._∷_ 58 (List._∷_ 58 (List._∷_ 83 (List._∷_ 101 (List._∷_ 116 List.[]))))))))) (Syntax.tcons (Syntax.tyArray (Syntax.tyInt Syntax.w32) 112) (Syntax.tcons
-      (Syntax.tyArray (Syntax.tyInt Syntax.w32) 112) Syntax.tnil))),
-) (List._∷_ (22, Rows.any-gone Syntax.tyBool) (List._∷_ (23, Rows.sc-here Row.sUnit) (List._∷_ (
-  24,
-  Rows.any-gone (Syntax.tyRef
-      Syntax.erased Syntax.mut (Syntax.tyInt Syntax.w16)),
-) (List._∷_ (25, Mut.msleft (Referent.rtF (Referent.fInt Syntax.w16)) (Syntax.tyRef Syntax.erased Syntax.mut (Syntax.tyInt Syntax.w16)))
-    (List._∷_ (26, Rows.any-gone (Syntax.tyRef Syntax.erased Syntax.mut (Syntax.tyInt Syntax.w16))) (List._∷_ (
-      27,
-      Rows.any-gone (Syntax.tyStruct (List._∷_ 38 (List._∷_ 91 (List._∷_ 93 List.[])))
-          (Syntax.tcons (Syntax.tyRef Syntax.erased Syntax.mut (Syntax.tyInt Syntax.w16)) (Syntax.tcons (Syntax.tyInt Syntax.w64) Syntax.tnil))),
-    ) (List._∷_ (
-      28,
-      Rows.any-gone (Syntax.tyRef Syntax.erased
-          Syntax.mut Element.behind),
-    ) (List._∷_ (
-      29,
-      Rows.any-gone (Syntax.tyStruct (List._∷_ 38 (List._∷_ 91 (List._∷_ 93 List.[]))) (Syntax.tcons (Syntax.tyRef Syntax.erased Syntax.mut Element.behind)
-          (Syntax.tcons (Syntax.tyInt Syntax.w64) Syntax.tnil))),
-    ) (List._∷_ (30, Rows.any-gone (Syntax.tyRef Syntax.erased Syntax.mut (Syntax.tyInt Syntax.w8))) (List._∷_ (
-      31,
-      Rows.any-gone
-          (Syntax.tyStruct (List._∷_ 38 (List._∷_ 91 (List._∷_ 93 List.[]))) (Syntax.tcons (Syntax.tyRef Syntax.erased Syntax.mut (Syntax.tyInt Syntax.w8)) (Syntax.tcons (Syntax.tyInt Syntax.w64)
-          Syntax.tnil))),
-    ) List.[])))))))))))))))
+  Rows.any-gone (Syntax.tyStruct (List._∷_ 115 (List._∷_ 116 (List._∷_ 101 (List._∷_ 112 (List._∷_ 115 (List._∷_ 58 (List._∷_ 58 (List._∷_ 83 (List._∷_ 101 (List._∷_ 116 List.[]))))))))))
+      (Syntax.tcons (Syntax.tyArray (Syntax.tyInt Syntax.w32) 112) (Syntax.tcons (Syntax.tyArray (Syntax.tyInt Syntax.w32) 112) Syntax.tnil))),
+) (List._∷_ (22, Rows.any-gone Syntax.tyBool) (List._∷_ (
+  23,
+  Rows.sc-here Row.sUnit,
+) (List._∷_ (24, Rows.any-gone (Syntax.tyRef Syntax.erased Syntax.mut (Syntax.tyInt Syntax.w16))) (List._∷_ (
+  25,
+  Mut.msleft (Referent.rtF (Referent.fInt Syntax.w16))
+      (Syntax.tyRef Syntax.erased Syntax.mut (Syntax.tyInt Syntax.w16)),
+) (List._∷_ (26, Rows.any-gone (Syntax.tyRef Syntax.erased Syntax.mut (Syntax.tyInt Syntax.w16))) (List._∷_ (
+  27,
+  Rows.any-gone
+      (Syntax.tyStruct (List._∷_ 38 (List._∷_ 91 (List._∷_ 93 List.[]))) (Syntax.tcons (Syntax.tyRef Syntax.erased Syntax.mut (Syntax.tyInt Syntax.w16)) (Syntax.tcons (Syntax.tyInt Syntax.w64)
+      Syntax.tnil))),
+) (List._∷_ (28, Rows.any-gone (Syntax.tyRef Syntax.erased Syntax.mut Element.behind)) (List._∷_ (
+  29,
+  Rows.any-gone (Syntax.tyStruct (List._∷_ 38 (List._∷_ 91 (List._∷_ 93
+      List.[]))) (Syntax.tcons (Syntax.tyRef Syntax.erased Syntax.mut Element.behind) (Syntax.tcons (Syntax.tyInt Syntax.w64) Syntax.tnil))),
+) (List._∷_ (
+  30,
+  Rows.any-gone (Syntax.tyRef Syntax.erased
+      Syntax.mut (Syntax.tyInt Syntax.w8)),
+) (List._∷_ (
+  31,
+  Rows.any-gone (Syntax.tyStruct (List._∷_ 38 (List._∷_ 91 (List._∷_ 93 List.[]))) (Syntax.tcons (Syntax.tyRef Syntax.erased Syntax.mut
+      (Syntax.tyInt Syntax.w8)) (Syntax.tcons (Syntax.tyInt Syntax.w64) Syntax.tnil))),
+) List.[])))))))))))))))
 
 abbrev pub t21 : List.List Row.Entry
 t21 = List._∷_ (16, Rows.sc-here (Row.sInt Syntax.w64)) (List._∷_ (17, Rows.whole (Declared.row Plan.the-type)) (List._∷_ (
   18,
-  Rows.any-gone (Syntax.tyStruct (List._∷_ 112 (List._∷_ 97 (List._∷_
-      115 (List._∷_ 115 (List._∷_ 58 (List._∷_ 58 (List._∷_ 83 (List._∷_ 101 (List._∷_ 116 List.[]))))))))) (Syntax.tcons (Syntax.tyArray (Syntax.tyInt Syntax.w32) 112) (Syntax.tcons (Syntax.tyArray
-      (Syntax.tyInt Syntax.w32) 112) Syntax.tnil))),
+  Rows.any-gone (Syntax.tyStruct (List._∷_ 115 (List._∷_ 116 (List._∷_
+      101 (List._∷_ 112 (List._∷_ 115 (List._∷_ 58 (List._∷_ 58 (List._∷_ 83 (List._∷_ 101 (List._∷_ 116 List.[])))))))))) (Syntax.tcons (Syntax.tyArray (Syntax.tyInt Syntax.w32) 112) (Syntax.tcons
+      (Syntax.tyArray (Syntax.tyInt Syntax.w32) 112) Syntax.tnil))),
 ) (List._∷_ (
   19,
-  Rows.any-gone (Syntax.tyStruct (List._∷_ 119 (List._∷_ 114 (List._∷_ 105 (List._∷_ 116 (List._∷_ 105 (List._∷_ 110 (List._∷_ 103
-      (List._∷_ 58 (List._∷_ 58 (List._∷_ 80 (List._∷_ 97 (List._∷_ 115 (List._∷_ 115 (List._∷_ 80 (List._∷_ 117 (List._∷_ 116 List.[])))))))))))))))) (Syntax.tcons Syntax.tyBool (Syntax.tcons (Syntax.tyInt
-      Syntax.w64) (Syntax.tcons (Syntax.tyStruct (List._∷_ 98 (List._∷_ 105 (List._∷_ 116 (List._∷_ 115 (List._∷_ 58 (List._∷_ 58 (List._∷_ 66 (List._∷_ 105 (List._∷_ 116 (List._∷_ 80 (List._∷_ 111
-      (List._∷_ 115 (List._∷_ 105 (List._∷_ 116 (List._∷_ 105 (List._∷_ 111 (List._∷_ 110 List.[]))))))))))))))))) (Syntax.tcons (Syntax.tyInt Syntax.w64) Syntax.tnil)) (Syntax.tcons (Syntax.tyStruct
-      (List._∷_ 112 (List._∷_ 97 (List._∷_ 115 (List._∷_ 115 (List._∷_ 58 (List._∷_ 58 (List._∷_ 83 (List._∷_ 101 (List._∷_ 116 List.[]))))))))) (Syntax.tcons (Syntax.tyArray (Syntax.tyInt Syntax.w32) 112)
-      (Syntax.tcons (Syntax.tyArray (Syntax.tyInt Syntax.w32) 112) Syntax.tnil))) Syntax.tnil))))),
+  Rows.any-gone (Syntax.tyStruct (List._∷_ 119 (List._∷_ 114 (List._∷_ 105 (List._∷_ 116 (List._∷_ 105 (List._∷_ 110
+      (List._∷_ 103 (List._∷_ 58 (List._∷_ 58 (List._∷_ 80 (List._∷_ 97 (List._∷_ 115 (List._∷_ 115 (List._∷_ 80 (List._∷_ 117 (List._∷_ 116 List.[])))))))))))))))) (Syntax.tcons Syntax.tyBool (Syntax.tcons
+      (Syntax.tyInt Syntax.w64) (Syntax.tcons (Syntax.tyStruct (List._∷_ 98 (List._∷_ 105 (List._∷_ 116 (List._∷_ 115 (List._∷_ 58 (List._∷_ 58 (List._∷_ 66 (List._∷_ 105 (List._∷_ 116 (List._∷_ 80
+      (List._∷_ 111 (List._∷_ 115 (List._∷_ 105 (List._∷_ 116 (List._∷_ 105 (List._∷_ 111 (List._∷_ 110 List.[]))))))))))))))))) (Syntax.tcons (Syntax.tyInt Syntax.w64) Syntax.tnil)) (Syntax.tcons
+      (Syntax.tyStruct (List._∷_ 115 (List._∷_ 116 (List._∷_ 101 (List._∷_ 112 (List._∷_ 115 (List._∷_ 58 (List._∷_ 58 (List._∷_ 83 (List._∷_ 101 (List._∷_ 116 List.[])))))))))) (Syntax.tcons
+      (Syntax.tyArray (Syntax.tyInt Syntax.w32) 112) (Syntax.tcons (Syntax.tyArray (Syntax.tyInt Syntax.w32) 112) Syntax.tnil))) Syntax.tnil))))),
 ) (List._∷_ (20, Rows.any-gone Syntax.tyBool) (List._∷_ (
   21,
-  Rows.any-gone (Syntax.tyStruct (List._∷_ 112
-      (List._∷_ 97 (List._∷_ 115 (List._∷_ 115 (List._∷_ 58 (List._∷_ 58 (List._∷_ 83 (List._∷_ 101 (List._∷_ 116 List.[]))))))))) (Syntax.tcons (Syntax.tyArray (Syntax.tyInt Syntax.w32) 112) (Syntax.tcons
-      (Syntax.tyArray (Syntax.tyInt Syntax.w32) 112) Syntax.tnil))),
-) (List._∷_ (22, Rows.any-gone Syntax.tyBool) (List._∷_ (23, Rows.any-gone Syntax.tyUnit) (List._∷_ (
-  24,
-  Rows.any-gone (Syntax.tyRef
-      Syntax.erased Syntax.mut (Syntax.tyInt Syntax.w16)),
-) (List._∷_ (25, Mut.msleft (Referent.rtF (Referent.fInt Syntax.w16)) (Syntax.tyRef Syntax.erased Syntax.mut (Syntax.tyInt Syntax.w16)))
-    (List._∷_ (26, Rows.any-gone (Syntax.tyRef Syntax.erased Syntax.mut (Syntax.tyInt Syntax.w16))) (List._∷_ (
-      27,
-      Rows.any-gone (Syntax.tyStruct (List._∷_ 38 (List._∷_ 91 (List._∷_ 93 List.[])))
-          (Syntax.tcons (Syntax.tyRef Syntax.erased Syntax.mut (Syntax.tyInt Syntax.w16)) (Syntax.tcons (Syntax.tyInt Syntax.w64) Syntax.tnil))),
-    ) (List._∷_ (
-      28,
-      Rows.any-gone (Syntax.tyRef Syntax.erased
-          Syntax.mut Element.behind),
-    ) (List._∷_ (
-      29,
-      Rows.any-gone (Syntax.tyStruct (List._∷_ 38 (List._∷_ 91 (List._∷_ 93 List.[]))) (Syntax.tcons (Syntax.tyRef Syntax.erased Syntax.mut Element.behind)
-          (Syntax.tcons (Syntax.tyInt Syntax.w64) Syntax.tnil))),
-    ) (List._∷_ (30, Rows.any-gone (Syntax.tyRef Syntax.erased Syntax.mut (Syntax.tyInt Syntax.w8))) (List._∷_ (
-      31,
-      Rows.any-gone
-          (Syntax.tyStruct (List._∷_ 38 (List._∷_ 91 (List._∷_ 93 List.[]))) (Syntax.tcons (Syntax.tyRef Syntax.erased Syntax.mut (Syntax.tyInt Syntax.w8)) (Syntax.tcons (Syntax.tyInt Syntax.w64)
-          Syntax.tnil))),
-    ) List.[])))))))))))))))
+  Rows.any-gone (Syntax.tyStruct (List._∷_ 115 (List._∷_ 116 (List._∷_ 101 (List._∷_ 112 (List._∷_ 115 (List._∷_ 58 (List._∷_ 58 (List._∷_ 83 (List._∷_ 101 (List._∷_ 116 List.[]))))))))))
+      (Syntax.tcons (Syntax.tyArray (Syntax.tyInt Syntax.w32) 112) (Syntax.tcons (Syntax.tyArray (Syntax.tyInt Syntax.w32) 112) Syntax.tnil))),
+) (List._∷_ (22, Rows.any-gone Syntax.tyBool) (List._∷_ (
+  23,
+  Rows.any-gone Syntax.tyUnit,
+) (List._∷_ (24, Rows.any-gone (Syntax.tyRef Syntax.erased Syntax.mut (Syntax.tyInt Syntax.w16))) (List._∷_ (
+  25,
+  Mut.msleft (Referent.rtF (Referent.fInt Syntax.w16))
+      (Syntax.tyRef Syntax.erased Syntax.mut (Syntax.tyInt Syntax.w16)),
+) (List._∷_ (26, Rows.any-gone (Syntax.tyRef Syntax.erased Syntax.mut (Syntax.tyInt Syntax.w16))) (List._∷_ (
+  27,
+  Rows.any-gone
+      (Syntax.tyStruct (List._∷_ 38 (List._∷_ 91 (List._∷_ 93 List.[]))) (Syntax.tcons (Syntax.tyRef Syntax.erased Syntax.mut (Syntax.tyInt Syntax.w16)) (Syntax.tcons (Syntax.tyInt Syntax.w64)
+      Syntax.tnil))),
+) (List._∷_ (28, Rows.any-gone (Syntax.tyRef Syntax.erased Syntax.mut Element.behind)) (List._∷_ (
+  29,
+  Rows.any-gone (Syntax.tyStruct (List._∷_ 38 (List._∷_ 91 (List._∷_ 93
+      List.[]))) (Syntax.tcons (Syntax.tyRef Syntax.erased Syntax.mut Element.behind) (Syntax.tcons (Syntax.tyInt Syntax.w64) Syntax.tnil))),
+) (List._∷_ (
+  30,
+  Rows.any-gone (Syntax.tyRef Syntax.erased
+      Syntax.mut (Syntax.tyInt Syntax.w8)),
+) (List._∷_ (
+  31,
+  Rows.any-gone (Syntax.tyStruct (List._∷_ 38 (List._∷_ 91 (List._∷_ 93 List.[]))) (Syntax.tcons (Syntax.tyRef Syntax.erased Syntax.mut
+      (Syntax.tyInt Syntax.w8)) (Syntax.tcons (Syntax.tyInt Syntax.w64) Syntax.tnil))),
+) List.[])))))))))))))))
 
 abbrev pub t22 : List.List Row.Entry
 t22 = List._∷_ (
@@ -1525,176 +1522,190 @@ t22 = List._∷_ (
 abbrev pub t23 : List.List Row.Entry
 t23 = List._∷_ (16, Rows.sc-here (Row.sInt Syntax.w64)) (List._∷_ (17, Rows.whole (Declared.row Plan.the-type)) (List._∷_ (
   18,
-  Rows.any-gone (Syntax.tyStruct (List._∷_ 112 (List._∷_ 97 (List._∷_
-      115 (List._∷_ 115 (List._∷_ 58 (List._∷_ 58 (List._∷_ 83 (List._∷_ 101 (List._∷_ 116 List.[]))))))))) (Syntax.tcons (Syntax.tyArray (Syntax.tyInt Syntax.w32) 112) (Syntax.tcons (Syntax.tyArray
-      (Syntax.tyInt Syntax.w32) 112) Syntax.tnil))),
+  Rows.any-gone (Syntax.tyStruct (List._∷_ 115 (List._∷_ 116 (List._∷_
+      101 (List._∷_ 112 (List._∷_ 115 (List._∷_ 58 (List._∷_ 58 (List._∷_ 83 (List._∷_ 101 (List._∷_ 116 List.[])))))))))) (Syntax.tcons (Syntax.tyArray (Syntax.tyInt Syntax.w32) 112) (Syntax.tcons
+      (Syntax.tyArray (Syntax.tyInt Syntax.w32) 112) Syntax.tnil))),
 ) (List._∷_ (
   19,
-  Rows.any-gone (Syntax.tyStruct (List._∷_ 119 (List._∷_ 114 (List._∷_ 105 (List._∷_ 116 (List._∷_ 105 (List._∷_ 110 (List._∷_ 103
-      (List._∷_ 58 (List._∷_ 58 (List._∷_ 80 (List._∷_ 97 (List._∷_ 115 (List._∷_ 115 (List._∷_ 80 (List._∷_ 117 (List._∷_ 116 List.[])))))))))))))))) (Syntax.tcons Syntax.tyBool (Syntax.tcons (Syntax.tyInt
-      Syntax.w64) (Syntax.tcons (Syntax.tyStruct (List._∷_ 98 (List._∷_ 105 (List._∷_ 116 (List._∷_ 115 (List._∷_ 58 (List._∷_ 58 (List._∷_ 66 (List._∷_ 105 (List._∷_ 116 (List._∷_ 80 (List._∷_ 111
-      (List._∷_ 115 (List._∷_ 105 (List._∷_ 116 (List._∷_ 105 (List._∷_ 111 (List._∷_ 110 List.[]))))))))))))))))) (Syntax.tcons (Syntax.tyInt Syntax.w64) Syntax.tnil)) (Syntax.tcons (Syntax.tyStruct
-      (List._∷_ 112 (List._∷_ 97 (List._∷_ 115 (List._∷_ 115 (List._∷_ 58 (List._∷_ 58 (List._∷_ 83 (List._∷_ 101 (List._∷_ 116 List.[]))))))))) (Syntax.tcons (Syntax.tyArray (Syntax.tyInt Syntax.w32) 112)
-      (Syntax.tcons (Syntax.tyArray (Syntax.tyInt Syntax.w32) 112) Syntax.tnil))) Syntax.tnil))))),
+  Rows.any-gone (Syntax.tyStruct (List._∷_ 119 (List._∷_ 114 (List._∷_ 105 (List._∷_ 116 (List._∷_ 105 (List._∷_ 110
+      (List._∷_ 103 (List._∷_ 58 (List._∷_ 58 (List._∷_ 80 (List._∷_ 97 (List._∷_ 115 (List._∷_ 115 (List._∷_ 80 (List._∷_ 117 (List._∷_ 116 List.[])))))))))))))))) (Syntax.tcons Syntax.tyBool (Syntax.tcons
+      (Syntax.tyInt Syntax.w64) (Syntax.tcons (Syntax.tyStruct (List._∷_ 98 (List._∷_ 105 (List._∷_ 116 (List._∷_ 115 (List._∷_ 58 (List._∷_ 58 (List._∷_ 66 (List._∷_ 105 (List._∷_ 116 (List._∷_ 80
+      (List._∷_ 111 (List._∷_ 115 (List._∷_ 105 (List._∷_ 116 (List._∷_ 105 (List._∷_ 111 (List._∷_ 110 List.[]))))))))))))))))) (Syntax.tcons (Syntax.tyInt Syntax.w64) Syntax.tnil)) (Syntax.tcons
+      (Syntax.tyStruct (List._∷_ 115 (List._∷_ 116 (List._∷_ 101 (List._∷_ 112 (List._∷_ 115 (List._∷_ 58 (List._∷_ 58 (List._∷_ 83 (List._∷_ 101 (List._∷_ 116 List.[])))))))))) (Syntax.tcons
+      (Syntax.tyArray (Syntax.tyInt Syntax.w32) 112) (Syntax.tcons (Syntax.tyArray (Syntax.tyInt Syntax.w32) 112) Syntax.tnil))) Syntax.tnil))))),
 ) (List._∷_ (20, Rows.any-gone Syntax.tyBool) (List._∷_ (
   21,
-  Rows.any-gone (Syntax.tyStruct (List._∷_ 112
-      (List._∷_ 97 (List._∷_ 115 (List._∷_ 115 (List._∷_ 58 (List._∷_ 58 (List._∷_ 83 (List._∷_ 101 (List._∷_ 116 List.[]))))))))) (Syntax.tcons (Syntax.tyArray (Syntax.tyInt Syntax.w32) 112) (Syntax.tcons
-      (Syntax.tyArray (Syntax.tyInt Syntax.w32) 112) Syntax.tnil))),
-) (List._∷_ (22, Rows.any-gone Syntax.tyBool) (List._∷_ (23, Rows.any-gone Syntax.tyUnit) (List._∷_ (
-  24,
-  Rows.any-gone (Syntax.tyRef
-      Syntax.erased Syntax.mut (Syntax.tyInt Syntax.w16)),
-) (List._∷_ (
+  Rows.any-gone (Syntax.tyStruct (List._∷_ 115 (List._∷_ 116 (List._∷_ 101 (List._∷_ 112 (List._∷_ 115 (List._∷_ 58 (List._∷_ 58 (List._∷_ 83 (List._∷_ 101 (List._∷_ 116 List.[]))))))))))
+      (Syntax.tcons (Syntax.tyArray (Syntax.tyInt Syntax.w32) 112) (Syntax.tcons (Syntax.tyArray (Syntax.tyInt Syntax.w32) 112) Syntax.tnil))),
+) (List._∷_ (22, Rows.any-gone Syntax.tyBool) (List._∷_ (
+  23,
+  Rows.any-gone Syntax.tyUnit,
+) (List._∷_ (24, Rows.any-gone (Syntax.tyRef Syntax.erased Syntax.mut (Syntax.tyInt Syntax.w16))) (List._∷_ (
   25,
-  Rows.any-gone (Syntax.tyStruct (List._∷_ 38 (List._∷_ 91 (List._∷_ 93 List.[]))) (Syntax.tcons (Syntax.tyRef Syntax.erased
-      Syntax.mut (Syntax.tyInt Syntax.w16)) (Syntax.tcons (Syntax.tyInt Syntax.w64) Syntax.tnil))),
+  Rows.any-gone (Syntax.tyStruct (List._∷_ 38 (List._∷_ 91
+      (List._∷_ 93 List.[]))) (Syntax.tcons (Syntax.tyRef Syntax.erased Syntax.mut (Syntax.tyInt Syntax.w16)) (Syntax.tcons (Syntax.tyInt Syntax.w64) Syntax.tnil))),
 ) (List._∷_ (
   26,
-  Relend.msptr (Referent.rtF (Referent.fInt Syntax.w16)) (Syntax.tyRef Syntax.erased
-      Syntax.mut (Syntax.tyInt Syntax.w16)) 5,
+  Relend.msptr
+      (Referent.rtF (Referent.fInt Syntax.w16)) (Syntax.tyRef Syntax.erased Syntax.mut (Syntax.tyInt Syntax.w16)) 5,
 ) (List._∷_ (
   27,
-  Rows.any-gone (Syntax.tyStruct (List._∷_ 38 (List._∷_ 91 (List._∷_ 93 List.[]))) (Syntax.tcons (Syntax.tyRef Syntax.erased Syntax.mut
-      (Syntax.tyInt Syntax.w16)) (Syntax.tcons (Syntax.tyInt Syntax.w64) Syntax.tnil))),
-) (List._∷_ (28, Rows.any-gone (Syntax.tyRef Syntax.erased Syntax.mut Element.behind)) (List._∷_ (
+  Rows.any-gone (Syntax.tyStruct (List._∷_ 38 (List._∷_ 91 (List._∷_ 93
+      List.[]))) (Syntax.tcons (Syntax.tyRef Syntax.erased Syntax.mut (Syntax.tyInt Syntax.w16)) (Syntax.tcons (Syntax.tyInt Syntax.w64) Syntax.tnil))),
+) (List._∷_ (
+  28,
+  Rows.any-gone (Syntax.tyRef
+      Syntax.erased Syntax.mut Element.behind),
+) (List._∷_ (
   29,
-  Rows.any-gone (Syntax.tyStruct (List._∷_ 38 (List._∷_ 91 (List._∷_ 93 List.[]))) (Syntax.tcons (Syntax.tyRef Syntax.erased Syntax.mut Element.behind) (Syntax.tcons (Syntax.tyInt Syntax.w64)
-      Syntax.tnil))),
+  Rows.any-gone (Syntax.tyStruct (List._∷_ 38 (List._∷_ 91 (List._∷_ 93 List.[]))) (Syntax.tcons (Syntax.tyRef Syntax.erased Syntax.mut
+      Element.behind) (Syntax.tcons (Syntax.tyInt Syntax.w64) Syntax.tnil))),
 ) (List._∷_ (30, Rows.any-gone (Syntax.tyRef Syntax.erased Syntax.mut (Syntax.tyInt Syntax.w8))) (List._∷_ (
   31,
-  Rows.any-gone (Syntax.tyStruct (List._∷_ 38 (List._∷_ 91 (List._∷_
-      93 List.[]))) (Syntax.tcons (Syntax.tyRef Syntax.erased Syntax.mut (Syntax.tyInt Syntax.w8)) (Syntax.tcons (Syntax.tyInt Syntax.w64) Syntax.tnil))),
+  Rows.any-gone (Syntax.tyStruct (List._∷_ 38 (List._∷_ 91 (List._∷_ 93 List.[]))) (Syntax.tcons (Syntax.tyRef Syntax.erased Syntax.mut (Syntax.tyInt Syntax.w8)) (Syntax.tcons (Syntax.tyInt Syntax.w64)
+      Syntax.tnil))),
 ) List.[])))))))))))))))
 
 abbrev pub t24 : List.List Row.Entry
 t24 = List._∷_ (16, Rows.sc-here (Row.sInt Syntax.w64)) (List._∷_ (17, Rows.whole (Declared.row Plan.the-type)) (List._∷_ (
   18,
-  Rows.any-gone (Syntax.tyStruct (List._∷_ 112 (List._∷_ 97 (List._∷_
-      115 (List._∷_ 115 (List._∷_ 58 (List._∷_ 58 (List._∷_ 83 (List._∷_ 101 (List._∷_ 116 List.[]))))))))) (Syntax.tcons (Syntax.tyArray (Syntax.tyInt Syntax.w32) 112) (Syntax.tcons (Syntax.tyArray
-      (Syntax.tyInt Syntax.w32) 112) Syntax.tnil))),
+  Rows.any-gone (Syntax.tyStruct (List._∷_ 115 (List._∷_ 116 (List._∷_
+      101 (List._∷_ 112 (List._∷_ 115 (List._∷_ 58 (List._∷_ 58 (List._∷_ 83 (List._∷_ 101 (List._∷_ 116 List.[])))))))))) (Syntax.tcons (Syntax.tyArray (Syntax.tyInt Syntax.w32) 112) (Syntax.tcons
+      (Syntax.tyArray (Syntax.tyInt Syntax.w32) 112) Syntax.tnil))),
 ) (List._∷_ (
   19,
-  Rows.any-gone (Syntax.tyStruct (List._∷_ 119 (List._∷_ 114 (List._∷_ 105 (List._∷_ 116 (List._∷_ 105 (List._∷_ 110 (List._∷_ 103
-      (List._∷_ 58 (List._∷_ 58 (List._∷_ 80 (List._∷_ 97 (List._∷_ 115 (List._∷_ 115 (List._∷_ 80 (List._∷_ 117 (List._∷_ 116 List.[])))))))))))))))) (Syntax.tcons Syntax.tyBool (Syntax.tcons (Syntax.tyInt
-      Syntax.w64) (Syntax.tcons (Syntax.tyStruct (List._∷_ 98 (List._∷_ 105 (List._∷_ 116 (List._∷_ 115 (List._∷_ 58 (List._∷_ 58 (List._∷_ 66 (List._∷_ 105 (List._∷_ 116 (List._∷_ 80 (List._∷_ 111
-      (List._∷_ 115 (List._∷_ 105 (List._∷_ 116 (List._∷_ 105 (List._∷_ 111 (List._∷_ 110 List.[]))))))))))))))))) (Syntax.tcons (Syntax.tyInt Syntax.w64) Syntax.tnil)) (Syntax.tcons (Syntax.tyStruct
-      (List._∷_ 112 (List._∷_ 97 (List._∷_ 115 (List._∷_ 115 (List._∷_ 58 (List._∷_ 58 (List._∷_ 83 (List._∷_ 101 (List._∷_ 116 List.[]))))))))) (Syntax.tcons (Syntax.tyArray (Syntax.tyInt Syntax.w32) 112)
-      (Syntax.tcons (Syntax.tyArray (Syntax.tyInt Syntax.w32) 112) Syntax.tnil))) Syntax.tnil))))),
+  Rows.any-gone (Syntax.tyStruct (List._∷_ 119 (List._∷_ 114 (List._∷_ 105 (List._∷_ 116 (List._∷_ 105 (List._∷_ 110
+      (List._∷_ 103 (List._∷_ 58 (List._∷_ 58 (List._∷_ 80 (List._∷_ 97 (List._∷_ 115 (List._∷_ 115 (List._∷_ 80 (List._∷_ 117 (List._∷_ 116 List.[])))))))))))))))) (Syntax.tcons Syntax.tyBool (Syntax.tcons
+      (Syntax.tyInt Syntax.w64) (Syntax.tcons (Syntax.tyStruct (List._∷_ 98 (List._∷_ 105 (List._∷_ 116 (List._∷_ 115 (List._∷_ 58 (List._∷_ 58 (List._∷_ 66 (List._∷_ 105 (List._∷_ 116 (List._∷_ 80
+      (List._∷_ 111 (List._∷_ 115 (List._∷_ 105 (List._∷_ 116 (List._∷_ 105 (List._∷_ 111 (List._∷_ 110 List.[]))))))))))))))))) (Syntax.tcons (Syntax.tyInt Syntax.w64) Syntax.tnil)) (Syntax.tcons
+      (Syntax.tyStruct (List._∷_ 115 (List._∷_ 116 (List._∷_ 101 (List._∷_ 112 (List._∷_ 115 (List._∷_ 58 (List._∷_ 58 (List._∷_ 83 (List._∷_ 101 (List._∷_ 116 List.[])))))))))) (Syntax.tcons
+      (Syntax.tyArray (Syntax.tyInt Syntax.w32) 112) (Syntax.tcons (Syntax.tyArray (Syntax.tyInt Syntax.w32) 112) Syntax.tnil))) Syntax.tnil))))),
 ) (List._∷_ (20, Rows.any-gone Syntax.tyBool) (List._∷_ (
   21,
-  Rows.any-gone (Syntax.tyStruct (List._∷_ 112
-      (List._∷_ 97 (List._∷_ 115 (List._∷_ 115 (List._∷_ 58 (List._∷_ 58 (List._∷_ 83 (List._∷_ 101 (List._∷_ 116 List.[]))))))))) (Syntax.tcons (Syntax.tyArray (Syntax.tyInt Syntax.w32) 112) (Syntax.tcons
-      (Syntax.tyArray (Syntax.tyInt Syntax.w32) 112) Syntax.tnil))),
-) (List._∷_ (22, Rows.any-gone Syntax.tyBool) (List._∷_ (23, Rows.any-gone Syntax.tyUnit) (List._∷_ (
-  24,
-  Rows.any-gone (Syntax.tyRef
-      Syntax.erased Syntax.mut (Syntax.tyInt Syntax.w16)),
-) (List._∷_ (
+  Rows.any-gone (Syntax.tyStruct (List._∷_ 115 (List._∷_ 116 (List._∷_ 101 (List._∷_ 112 (List._∷_ 115 (List._∷_ 58 (List._∷_ 58 (List._∷_ 83 (List._∷_ 101 (List._∷_ 116 List.[]))))))))))
+      (Syntax.tcons (Syntax.tyArray (Syntax.tyInt Syntax.w32) 112) (Syntax.tcons (Syntax.tyArray (Syntax.tyInt Syntax.w32) 112) Syntax.tnil))),
+) (List._∷_ (22, Rows.any-gone Syntax.tyBool) (List._∷_ (
+  23,
+  Rows.any-gone Syntax.tyUnit,
+) (List._∷_ (24, Rows.any-gone (Syntax.tyRef Syntax.erased Syntax.mut (Syntax.tyInt Syntax.w16))) (List._∷_ (
   25,
-  Rows.any-gone (Syntax.tyStruct (List._∷_ 38 (List._∷_ 91 (List._∷_ 93 List.[]))) (Syntax.tcons (Syntax.tyRef Syntax.erased
-      Syntax.mut (Syntax.tyInt Syntax.w16)) (Syntax.tcons (Syntax.tyInt Syntax.w64) Syntax.tnil))),
-) (List._∷_ (26, Rows.any-gone (Syntax.tyRef Syntax.erased Syntax.mut (Syntax.tyInt Syntax.w16)))
-    (List._∷_ (27, Mut.mslice (Referent.rtF (Referent.fInt Syntax.w16)) (Syntax.tyRef Syntax.erased Syntax.mut (Syntax.tyInt Syntax.w16)) 5) (List._∷_ (
-      28,
-      Rows.any-gone (Syntax.tyRef Syntax.erased
-          Syntax.mut Element.behind),
-    ) (List._∷_ (
-      29,
-      Rows.any-gone (Syntax.tyStruct (List._∷_ 38 (List._∷_ 91 (List._∷_ 93 List.[]))) (Syntax.tcons (Syntax.tyRef Syntax.erased Syntax.mut Element.behind)
-          (Syntax.tcons (Syntax.tyInt Syntax.w64) Syntax.tnil))),
-    ) (List._∷_ (30, Rows.any-gone (Syntax.tyRef Syntax.erased Syntax.mut (Syntax.tyInt Syntax.w8))) (List._∷_ (
-      31,
-      Rows.any-gone
-          (Syntax.tyStruct (List._∷_ 38 (List._∷_ 91 (List._∷_ 93 List.[]))) (Syntax.tcons (Syntax.tyRef Syntax.erased Syntax.mut (Syntax.tyInt Syntax.w8)) (Syntax.tcons (Syntax.tyInt Syntax.w64)
-          Syntax.tnil))),
-    ) List.[])))))))))))))))
+  Rows.any-gone (Syntax.tyStruct (List._∷_ 38 (List._∷_ 91
+      (List._∷_ 93 List.[]))) (Syntax.tcons (Syntax.tyRef Syntax.erased Syntax.mut (Syntax.tyInt Syntax.w16)) (Syntax.tcons (Syntax.tyInt Syntax.w64) Syntax.tnil))),
+) (List._∷_ (
+  26,
+  Rows.any-gone
+      (Syntax.tyRef Syntax.erased Syntax.mut (Syntax.tyInt Syntax.w16)),
+) (List._∷_ (
+  27,
+  Mut.mslice (Referent.rtF (Referent.fInt Syntax.w16)) (Syntax.tyRef Syntax.erased Syntax.mut (Syntax.tyInt
+      Syntax.w16)) 5,
+) (List._∷_ (28, Rows.any-gone (Syntax.tyRef Syntax.erased Syntax.mut Element.behind)) (List._∷_ (
+  29,
+  Rows.any-gone (Syntax.tyStruct (List._∷_ 38 (List._∷_ 91 (List._∷_ 93
+      List.[]))) (Syntax.tcons (Syntax.tyRef Syntax.erased Syntax.mut Element.behind) (Syntax.tcons (Syntax.tyInt Syntax.w64) Syntax.tnil))),
+) (List._∷_ (
+  30,
+  Rows.any-gone (Syntax.tyRef Syntax.erased
+      Syntax.mut (Syntax.tyInt Syntax.w8)),
+) (List._∷_ (
+  31,
+  Rows.any-gone (Syntax.tyStruct (List._∷_ 38 (List._∷_ 91 (List._∷_ 93 List.[]))) (Syntax.tcons (Syntax.tyRef Syntax.erased Syntax.mut
+      (Syntax.tyInt Syntax.w8)) (Syntax.tcons (Syntax.tyInt Syntax.w64) Syntax.tnil))),
+) List.[])))))))))))))))
 
 abbrev pub t25 : List.List Row.Entry
 t25 = List._∷_ (16, Rows.sc-here (Row.sInt Syntax.w64)) (List._∷_ (17, Rows.whole (Declared.row Plan.the-type)) (List._∷_ (
   18,
-  Rows.any-gone (Syntax.tyStruct (List._∷_ 112 (List._∷_ 97 (List._∷_
-      115 (List._∷_ 115 (List._∷_ 58 (List._∷_ 58 (List._∷_ 83 (List._∷_ 101 (List._∷_ 116 List.[]))))))))) (Syntax.tcons (Syntax.tyArray (Syntax.tyInt Syntax.w32) 112) (Syntax.tcons (Syntax.tyArray
-      (Syntax.tyInt Syntax.w32) 112) Syntax.tnil))),
+  Rows.any-gone (Syntax.tyStruct (List._∷_ 115 (List._∷_ 116 (List._∷_
+      101 (List._∷_ 112 (List._∷_ 115 (List._∷_ 58 (List._∷_ 58 (List._∷_ 83 (List._∷_ 101 (List._∷_ 116 List.[])))))))))) (Syntax.tcons (Syntax.tyArray (Syntax.tyInt Syntax.w32) 112) (Syntax.tcons
+      (Syntax.tyArray (Syntax.tyInt Syntax.w32) 112) Syntax.tnil))),
 ) (List._∷_ (
   19,
-  Rows.any-gone (Syntax.tyStruct (List._∷_ 119 (List._∷_ 114 (List._∷_ 105 (List._∷_ 116 (List._∷_ 105 (List._∷_ 110 (List._∷_ 103
-      (List._∷_ 58 (List._∷_ 58 (List._∷_ 80 (List._∷_ 97 (List._∷_ 115 (List._∷_ 115 (List._∷_ 80 (List._∷_ 117 (List._∷_ 116 List.[])))))))))))))))) (Syntax.tcons Syntax.tyBool (Syntax.tcons (Syntax.tyInt
-      Syntax.w64) (Syntax.tcons (Syntax.tyStruct (List._∷_ 98 (List._∷_ 105 (List._∷_ 116 (List._∷_ 115 (List._∷_ 58 (List._∷_ 58 (List._∷_ 66 (List._∷_ 105 (List._∷_ 116 (List._∷_ 80 (List._∷_ 111
-      (List._∷_ 115 (List._∷_ 105 (List._∷_ 116 (List._∷_ 105 (List._∷_ 111 (List._∷_ 110 List.[]))))))))))))))))) (Syntax.tcons (Syntax.tyInt Syntax.w64) Syntax.tnil)) (Syntax.tcons (Syntax.tyStruct
-      (List._∷_ 112 (List._∷_ 97 (List._∷_ 115 (List._∷_ 115 (List._∷_ 58 (List._∷_ 58 (List._∷_ 83 (List._∷_ 101 (List._∷_ 116 List.[]))))))))) (Syntax.tcons (Syntax.tyArray (Syntax.tyInt Syntax.w32) 112)
-      (Syntax.tcons (Syntax.tyArray (Syntax.tyInt Syntax.w32) 112) Syntax.tnil))) Syntax.tnil))))),
+  Rows.any-gone (Syntax.tyStruct (List._∷_ 119 (List._∷_ 114 (List._∷_ 105 (List._∷_ 116 (List._∷_ 105 (List._∷_ 110
+      (List._∷_ 103 (List._∷_ 58 (List._∷_ 58 (List._∷_ 80 (List._∷_ 97 (List._∷_ 115 (List._∷_ 115 (List._∷_ 80 (List._∷_ 117 (List._∷_ 116 List.[])))))))))))))))) (Syntax.tcons Syntax.tyBool (Syntax.tcons
+      (Syntax.tyInt Syntax.w64) (Syntax.tcons (Syntax.tyStruct (List._∷_ 98 (List._∷_ 105 (List._∷_ 116 (List._∷_ 115 (List._∷_ 58 (List._∷_ 58 (List._∷_ 66 (List._∷_ 105 (List._∷_ 116 (List._∷_ 80
+      (List._∷_ 111 (List._∷_ 115 (List._∷_ 105 (List._∷_ 116 (List._∷_ 105 (List._∷_ 111 (List._∷_ 110 List.[]))))))))))))))))) (Syntax.tcons (Syntax.tyInt Syntax.w64) Syntax.tnil)) (Syntax.tcons
+      (Syntax.tyStruct (List._∷_ 115 (List._∷_ 116 (List._∷_ 101 (List._∷_ 112 (List._∷_ 115 (List._∷_ 58 (List._∷_ 58 (List._∷_ 83 (List._∷_ 101 (List._∷_ 116 List.[])))))))))) (Syntax.tcons
+      (Syntax.tyArray (Syntax.tyInt Syntax.w32) 112) (Syntax.tcons (Syntax.tyArray (Syntax.tyInt Syntax.w32) 112) Syntax.tnil))) Syntax.tnil))))),
 ) (List._∷_ (20, Rows.any-gone Syntax.tyBool) (List._∷_ (
   21,
-  Rows.any-gone (Syntax.tyStruct (List._∷_ 112
-      (List._∷_ 97 (List._∷_ 115 (List._∷_ 115 (List._∷_ 58 (List._∷_ 58 (List._∷_ 83 (List._∷_ 101 (List._∷_ 116 List.[]))))))))) (Syntax.tcons (Syntax.tyArray (Syntax.tyInt Syntax.w32) 112) (Syntax.tcons
-      (Syntax.tyArray (Syntax.tyInt Syntax.w32) 112) Syntax.tnil))),
-) (List._∷_ (22, Rows.any-gone Syntax.tyBool) (List._∷_ (23, Rows.sc-here Row.sUnit) (List._∷_ (
-  24,
-  Rows.any-gone (Syntax.tyRef
-      Syntax.erased Syntax.mut (Syntax.tyInt Syntax.w16)),
-) (List._∷_ (
+  Rows.any-gone (Syntax.tyStruct (List._∷_ 115 (List._∷_ 116 (List._∷_ 101 (List._∷_ 112 (List._∷_ 115 (List._∷_ 58 (List._∷_ 58 (List._∷_ 83 (List._∷_ 101 (List._∷_ 116 List.[]))))))))))
+      (Syntax.tcons (Syntax.tyArray (Syntax.tyInt Syntax.w32) 112) (Syntax.tcons (Syntax.tyArray (Syntax.tyInt Syntax.w32) 112) Syntax.tnil))),
+) (List._∷_ (22, Rows.any-gone Syntax.tyBool) (List._∷_ (
+  23,
+  Rows.sc-here Row.sUnit,
+) (List._∷_ (24, Rows.any-gone (Syntax.tyRef Syntax.erased Syntax.mut (Syntax.tyInt Syntax.w16))) (List._∷_ (
   25,
-  Rows.any-gone (Syntax.tyStruct (List._∷_ 38 (List._∷_ 91 (List._∷_ 93 List.[]))) (Syntax.tcons (Syntax.tyRef Syntax.erased
-      Syntax.mut (Syntax.tyInt Syntax.w16)) (Syntax.tcons (Syntax.tyInt Syntax.w64) Syntax.tnil))),
-) (List._∷_ (26, Rows.any-gone (Syntax.tyRef Syntax.erased Syntax.mut (Syntax.tyInt Syntax.w16)))
-    (List._∷_ (27, Mut.msleft (Referent.rtF (Referent.fInt Syntax.w16)) (Syntax.tyRef Syntax.erased Syntax.mut (Syntax.tyInt Syntax.w16))) (List._∷_ (
-      28,
-      Rows.any-gone (Syntax.tyRef Syntax.erased
-          Syntax.mut Element.behind),
-    ) (List._∷_ (
-      29,
-      Rows.any-gone (Syntax.tyStruct (List._∷_ 38 (List._∷_ 91 (List._∷_ 93 List.[]))) (Syntax.tcons (Syntax.tyRef Syntax.erased Syntax.mut Element.behind)
-          (Syntax.tcons (Syntax.tyInt Syntax.w64) Syntax.tnil))),
-    ) (List._∷_ (30, Rows.any-gone (Syntax.tyRef Syntax.erased Syntax.mut (Syntax.tyInt Syntax.w8))) (List._∷_ (
-      31,
-      Rows.any-gone
-          (Syntax.tyStruct (List._∷_ 38 (List._∷_ 91 (List._∷_ 93 List.[]))) (Syntax.tcons (Syntax.tyRef Syntax.erased Syntax.mut (Syntax.tyInt Syntax.w8)) (Syntax.tcons (Syntax.tyInt Syntax.w64)
-          Syntax.tnil))),
-    ) List.[])))))))))))))))
+  Rows.any-gone (Syntax.tyStruct (List._∷_ 38 (List._∷_ 91
+      (List._∷_ 93 List.[]))) (Syntax.tcons (Syntax.tyRef Syntax.erased Syntax.mut (Syntax.tyInt Syntax.w16)) (Syntax.tcons (Syntax.tyInt Syntax.w64) Syntax.tnil))),
+) (List._∷_ (
+  26,
+  Rows.any-gone
+      (Syntax.tyRef Syntax.erased Syntax.mut (Syntax.tyInt Syntax.w16)),
+) (List._∷_ (
+  27,
+  Mut.msleft (Referent.rtF (Referent.fInt Syntax.w16)) (Syntax.tyRef Syntax.erased Syntax.mut (Syntax.tyInt
+      Syntax.w16)),
+) (List._∷_ (28, Rows.any-gone (Syntax.tyRef Syntax.erased Syntax.mut Element.behind)) (List._∷_ (
+  29,
+  Rows.any-gone (Syntax.tyStruct (List._∷_ 38 (List._∷_ 91 (List._∷_ 93 List.[])))
+      (Syntax.tcons (Syntax.tyRef Syntax.erased Syntax.mut Element.behind) (Syntax.tcons (Syntax.tyInt Syntax.w64) Syntax.tnil))),
+) (List._∷_ (
+  30,
+  Rows.any-gone (Syntax.tyRef Syntax.erased Syntax.mut
+      (Syntax.tyInt Syntax.w8)),
+) (List._∷_ (
+  31,
+  Rows.any-gone (Syntax.tyStruct (List._∷_ 38 (List._∷_ 91 (List._∷_ 93 List.[]))) (Syntax.tcons (Syntax.tyRef Syntax.erased Syntax.mut (Syntax.tyInt
+      Syntax.w8)) (Syntax.tcons (Syntax.tyInt Syntax.w64) Syntax.tnil))),
+) List.[])))))))))))))))
 
 abbrev pub t26 : List.List Row.Entry
 t26 = List._∷_ (16, Rows.sc-here (Row.sInt Syntax.w64)) (List._∷_ (17, Rows.whole (Declared.row Plan.the-type)) (List._∷_ (
   18,
-  Rows.any-gone (Syntax.tyStruct (List._∷_ 112 (List._∷_ 97 (List._∷_
-      115 (List._∷_ 115 (List._∷_ 58 (List._∷_ 58 (List._∷_ 83 (List._∷_ 101 (List._∷_ 116 List.[]))))))))) (Syntax.tcons (Syntax.tyArray (Syntax.tyInt Syntax.w32) 112) (Syntax.tcons (Syntax.tyArray
-      (Syntax.tyInt Syntax.w32) 112) Syntax.tnil))),
+  Rows.any-gone (Syntax.tyStruct (List._∷_ 115 (List._∷_ 116 (List._∷_
+      101 (List._∷_ 112 (List._∷_ 115 (List._∷_ 58 (List._∷_ 58 (List._∷_ 83 (List._∷_ 101 (List._∷_ 116 List.[])))))))))) (Syntax.tcons (Syntax.tyArray (Syntax.tyInt Syntax.w32) 112) (Syntax.tcons
+      (Syntax.tyArray (Syntax.tyInt Syntax.w32) 112) Syntax.tnil))),
 ) (List._∷_ (
   19,
-  Rows.any-gone (Syntax.tyStruct (List._∷_ 119 (List._∷_ 114 (List._∷_ 105 (List._∷_ 116 (List._∷_ 105 (List._∷_ 110 (List._∷_ 103
-      (List._∷_ 58 (List._∷_ 58 (List._∷_ 80 (List._∷_ 97 (List._∷_ 115 (List._∷_ 115 (List._∷_ 80 (List._∷_ 117 (List._∷_ 116 List.[])))))))))))))))) (Syntax.tcons Syntax.tyBool (Syntax.tcons (Syntax.tyInt
-      Syntax.w64) (Syntax.tcons (Syntax.tyStruct (List._∷_ 98 (List._∷_ 105 (List._∷_ 116 (List._∷_ 115 (List._∷_ 58 (List._∷_ 58 (List._∷_ 66 (List._∷_ 105 (List._∷_ 116 (List._∷_ 80 (List._∷_ 111
-      (List._∷_ 115 (List._∷_ 105 (List._∷_ 116 (List._∷_ 105 (List._∷_ 111 (List._∷_ 110 List.[]))))))))))))))))) (Syntax.tcons (Syntax.tyInt Syntax.w64) Syntax.tnil)) (Syntax.tcons (Syntax.tyStruct
-      (List._∷_ 112 (List._∷_ 97 (List._∷_ 115 (List._∷_ 115 (List._∷_ 58 (List._∷_ 58 (List._∷_ 83 (List._∷_ 101 (List._∷_ 116 List.[]))))))))) (Syntax.tcons (Syntax.tyArray (Syntax.tyInt Syntax.w32) 112)
-      (Syntax.tcons (Syntax.tyArray (Syntax.tyInt Syntax.w32) 112) Syntax.tnil))) Syntax.tnil))))),
+  Rows.any-gone (Syntax.tyStruct (List._∷_ 119 (List._∷_ 114 (List._∷_ 105 (List._∷_ 116 (List._∷_ 105 (List._∷_ 110
+      (List._∷_ 103 (List._∷_ 58 (List._∷_ 58 (List._∷_ 80 (List._∷_ 97 (List._∷_ 115 (List._∷_ 115 (List._∷_ 80 (List._∷_ 117 (List._∷_ 116 List.[])))))))))))))))) (Syntax.tcons Syntax.tyBool (Syntax.tcons
+      (Syntax.tyInt Syntax.w64) (Syntax.tcons (Syntax.tyStruct (List._∷_ 98 (List._∷_ 105 (List._∷_ 116 (List._∷_ 115 (List._∷_ 58 (List._∷_ 58 (List._∷_ 66 (List._∷_ 105 (List._∷_ 116 (List._∷_ 80
+      (List._∷_ 111 (List._∷_ 115 (List._∷_ 105 (List._∷_ 116 (List._∷_ 105 (List._∷_ 111 (List._∷_ 110 List.[]))))))))))))))))) (Syntax.tcons (Syntax.tyInt Syntax.w64) Syntax.tnil)) (Syntax.tcons
+      (Syntax.tyStruct (List._∷_ 115 (List._∷_ 116 (List._∷_ 101 (List._∷_ 112 (List._∷_ 115 (List._∷_ 58 (List._∷_ 58 (List._∷_ 83 (List._∷_ 101 (List._∷_ 116 List.[])))))))))) (Syntax.tcons
+      (Syntax.tyArray (Syntax.tyInt Syntax.w32) 112) (Syntax.tcons (Syntax.tyArray (Syntax.tyInt Syntax.w32) 112) Syntax.tnil))) Syntax.tnil))))),
 ) (List._∷_ (20, Rows.any-gone Syntax.tyBool) (List._∷_ (
   21,
-  Rows.any-gone (Syntax.tyStruct (List._∷_ 112
-      (List._∷_ 97 (List._∷_ 115 (List._∷_ 115 (List._∷_ 58 (List._∷_ 58 (List._∷_ 83 (List._∷_ 101 (List._∷_ 116 List.[]))))))))) (Syntax.tcons (Syntax.tyArray (Syntax.tyInt Syntax.w32) 112) (Syntax.tcons
-      (Syntax.tyArray (Syntax.tyInt Syntax.w32) 112) Syntax.tnil))),
-) (List._∷_ (22, Rows.any-gone Syntax.tyBool) (List._∷_ (23, Rows.any-gone Syntax.tyUnit) (List._∷_ (
-  24,
-  Rows.any-gone (Syntax.tyRef
-      Syntax.erased Syntax.mut (Syntax.tyInt Syntax.w16)),
-) (List._∷_ (
+  Rows.any-gone (Syntax.tyStruct (List._∷_ 115 (List._∷_ 116 (List._∷_ 101 (List._∷_ 112 (List._∷_ 115 (List._∷_ 58 (List._∷_ 58 (List._∷_ 83 (List._∷_ 101 (List._∷_ 116 List.[]))))))))))
+      (Syntax.tcons (Syntax.tyArray (Syntax.tyInt Syntax.w32) 112) (Syntax.tcons (Syntax.tyArray (Syntax.tyInt Syntax.w32) 112) Syntax.tnil))),
+) (List._∷_ (22, Rows.any-gone Syntax.tyBool) (List._∷_ (
+  23,
+  Rows.any-gone Syntax.tyUnit,
+) (List._∷_ (24, Rows.any-gone (Syntax.tyRef Syntax.erased Syntax.mut (Syntax.tyInt Syntax.w16))) (List._∷_ (
   25,
-  Rows.any-gone (Syntax.tyStruct (List._∷_ 38 (List._∷_ 91 (List._∷_ 93 List.[]))) (Syntax.tcons (Syntax.tyRef Syntax.erased
-      Syntax.mut (Syntax.tyInt Syntax.w16)) (Syntax.tcons (Syntax.tyInt Syntax.w64) Syntax.tnil))),
-) (List._∷_ (26, Rows.any-gone (Syntax.tyRef Syntax.erased Syntax.mut (Syntax.tyInt Syntax.w16)))
-    (List._∷_ (27, Mut.msleft (Referent.rtF (Referent.fInt Syntax.w16)) (Syntax.tyRef Syntax.erased Syntax.mut (Syntax.tyInt Syntax.w16))) (List._∷_ (
-      28,
-      Rows.any-gone (Syntax.tyRef Syntax.erased
-          Syntax.mut Element.behind),
-    ) (List._∷_ (
-      29,
-      Rows.any-gone (Syntax.tyStruct (List._∷_ 38 (List._∷_ 91 (List._∷_ 93 List.[]))) (Syntax.tcons (Syntax.tyRef Syntax.erased Syntax.mut Element.behind)
-          (Syntax.tcons (Syntax.tyInt Syntax.w64) Syntax.tnil))),
-    ) (List._∷_ (30, Rows.any-gone (Syntax.tyRef Syntax.erased Syntax.mut (Syntax.tyInt Syntax.w8))) (List._∷_ (
-      31,
-      Rows.any-gone
-          (Syntax.tyStruct (List._∷_ 38 (List._∷_ 91 (List._∷_ 93 List.[]))) (Syntax.tcons (Syntax.tyRef Syntax.erased Syntax.mut (Syntax.tyInt Syntax.w8)) (Syntax.tcons (Syntax.tyInt Syntax.w64)
-          Syntax.tnil))),
-    ) List.[])))))))))))))))
+  Rows.any-gone (Syntax.tyStruct (List._∷_ 38 (List._∷_ 91
+      (List._∷_ 93 List.[]))) (Syntax.tcons (Syntax.tyRef Syntax.erased Syntax.mut (Syntax.tyInt Syntax.w16)) (Syntax.tcons (Syntax.tyInt Syntax.w64) Syntax.tnil))),
+) (List._∷_ (
+  26,
+  Rows.any-gone
+      (Syntax.tyRef Syntax.erased Syntax.mut (Syntax.tyInt Syntax.w16)),
+) (List._∷_ (
+  27,
+  Mut.msleft (Referent.rtF (Referent.fInt Syntax.w16)) (Syntax.tyRef Syntax.erased Syntax.mut (Syntax.tyInt
+      Syntax.w16)),
+) (List._∷_ (28, Rows.any-gone (Syntax.tyRef Syntax.erased Syntax.mut Element.behind)) (List._∷_ (
+  29,
+  Rows.any-gone (Syntax.tyStruct (List._∷_ 38 (List._∷_ 91 (List._∷_ 93 List.[])))
+      (Syntax.tcons (Syntax.tyRef Syntax.erased Syntax.mut Element.behind) (Syntax.tcons (Syntax.tyInt Syntax.w64) Syntax.tnil))),
+) (List._∷_ (
+  30,
+  Rows.any-gone (Syntax.tyRef Syntax.erased Syntax.mut
+      (Syntax.tyInt Syntax.w8)),
+) (List._∷_ (
+  31,
+  Rows.any-gone (Syntax.tyStruct (List._∷_ 38 (List._∷_ 91 (List._∷_ 93 List.[]))) (Syntax.tcons (Syntax.tyRef Syntax.erased Syntax.mut (Syntax.tyInt
+      Syntax.w8)) (Syntax.tcons (Syntax.tyInt Syntax.w64) Syntax.tnil))),
+) List.[])))))))))))))))
 
 abbrev pub t27 : List.List Row.Entry
 t27 = List._∷_ (
@@ -1736,88 +1747,89 @@ t27 = List._∷_ (
 abbrev pub t28 : List.List Row.Entry
 t28 = List._∷_ (16, Rows.sc-here (Row.sInt Syntax.w64)) (List._∷_ (17, Rows.whole (Declared.row Plan.the-type)) (List._∷_ (
   18,
-  Rows.any-gone (Syntax.tyStruct (List._∷_ 112 (List._∷_ 97 (List._∷_
-      115 (List._∷_ 115 (List._∷_ 58 (List._∷_ 58 (List._∷_ 83 (List._∷_ 101 (List._∷_ 116 List.[]))))))))) (Syntax.tcons (Syntax.tyArray (Syntax.tyInt Syntax.w32) 112) (Syntax.tcons (Syntax.tyArray
-      (Syntax.tyInt Syntax.w32) 112) Syntax.tnil))),
+  Rows.any-gone (Syntax.tyStruct (List._∷_ 115 (List._∷_ 116 (List._∷_
+      101 (List._∷_ 112 (List._∷_ 115 (List._∷_ 58 (List._∷_ 58 (List._∷_ 83 (List._∷_ 101 (List._∷_ 116 List.[])))))))))) (Syntax.tcons (Syntax.tyArray (Syntax.tyInt Syntax.w32) 112) (Syntax.tcons
+      (Syntax.tyArray (Syntax.tyInt Syntax.w32) 112) Syntax.tnil))),
 ) (List._∷_ (
   19,
-  Rows.any-gone (Syntax.tyStruct (List._∷_ 119 (List._∷_ 114 (List._∷_ 105 (List._∷_ 116 (List._∷_ 105 (List._∷_ 110 (List._∷_ 103
-      (List._∷_ 58 (List._∷_ 58 (List._∷_ 80 (List._∷_ 97 (List._∷_ 115 (List._∷_ 115 (List._∷_ 80 (List._∷_ 117 (List._∷_ 116 List.[])))))))))))))))) (Syntax.tcons Syntax.tyBool (Syntax.tcons (Syntax.tyInt
-      Syntax.w64) (Syntax.tcons (Syntax.tyStruct (List._∷_ 98 (List._∷_ 105 (List._∷_ 116 (List._∷_ 115 (List._∷_ 58 (List._∷_ 58 (List._∷_ 66 (List._∷_ 105 (List._∷_ 116 (List._∷_ 80 (List._∷_ 111
-      (List._∷_ 115 (List._∷_ 105 (List._∷_ 116 (List._∷_ 105 (List._∷_ 111 (List._∷_ 110 List.[]))))))))))))))))) (Syntax.tcons (Syntax.tyInt Syntax.w64) Syntax.tnil)) (Syntax.tcons (Syntax.tyStruct
-      (List._∷_ 112 (List._∷_ 97 (List._∷_ 115 (List._∷_ 115 (List._∷_ 58 (List._∷_ 58 (List._∷_ 83 (List._∷_ 101 (List._∷_ 116 List.[]))))))))) (Syntax.tcons (Syntax.tyArray (Syntax.tyInt Syntax.w32) 112)
-      (Syntax.tcons (Syntax.tyArray (Syntax.tyInt Syntax.w32) 112) Syntax.tnil))) Syntax.tnil))))),
+  Rows.any-gone (Syntax.tyStruct (List._∷_ 119 (List._∷_ 114 (List._∷_ 105 (List._∷_ 116 (List._∷_ 105 (List._∷_ 110
+      (List._∷_ 103 (List._∷_ 58 (List._∷_ 58 (List._∷_ 80 (List._∷_ 97 (List._∷_ 115 (List._∷_ 115 (List._∷_ 80 (List._∷_ 117 (List._∷_ 116 List.[])))))))))))))))) (Syntax.tcons Syntax.tyBool (Syntax.tcons
+      (Syntax.tyInt Syntax.w64) (Syntax.tcons (Syntax.tyStruct (List._∷_ 98 (List._∷_ 105 (List._∷_ 116 (List._∷_ 115 (List._∷_ 58 (List._∷_ 58 (List._∷_ 66 (List._∷_ 105 (List._∷_ 116 (List._∷_ 80
+      (List._∷_ 111 (List._∷_ 115 (List._∷_ 105 (List._∷_ 116 (List._∷_ 105 (List._∷_ 111 (List._∷_ 110 List.[]))))))))))))))))) (Syntax.tcons (Syntax.tyInt Syntax.w64) Syntax.tnil)) (Syntax.tcons
+      (Syntax.tyStruct (List._∷_ 115 (List._∷_ 116 (List._∷_ 101 (List._∷_ 112 (List._∷_ 115 (List._∷_ 58 (List._∷_ 58 (List._∷_ 83 (List._∷_ 101 (List._∷_ 116 List.[])))))))))) (Syntax.tcons
+      (Syntax.tyArray (Syntax.tyInt Syntax.w32) 112) (Syntax.tcons (Syntax.tyArray (Syntax.tyInt Syntax.w32) 112) Syntax.tnil))) Syntax.tnil))))),
 ) (List._∷_ (20, Rows.any-gone Syntax.tyBool) (List._∷_ (
   21,
-  Rows.any-gone (Syntax.tyStruct (List._∷_ 112
-      (List._∷_ 97 (List._∷_ 115 (List._∷_ 115 (List._∷_ 58 (List._∷_ 58 (List._∷_ 83 (List._∷_ 101 (List._∷_ 116 List.[]))))))))) (Syntax.tcons (Syntax.tyArray (Syntax.tyInt Syntax.w32) 112) (Syntax.tcons
-      (Syntax.tyArray (Syntax.tyInt Syntax.w32) 112) Syntax.tnil))),
-) (List._∷_ (22, Rows.any-gone Syntax.tyBool) (List._∷_ (23, Rows.any-gone Syntax.tyUnit) (List._∷_ (
-  24,
-  Rows.any-gone (Syntax.tyRef
-      Syntax.erased Syntax.mut (Syntax.tyInt Syntax.w16)),
-) (List._∷_ (
+  Rows.any-gone (Syntax.tyStruct (List._∷_ 115 (List._∷_ 116 (List._∷_ 101 (List._∷_ 112 (List._∷_ 115 (List._∷_ 58 (List._∷_ 58 (List._∷_ 83 (List._∷_ 101 (List._∷_ 116 List.[]))))))))))
+      (Syntax.tcons (Syntax.tyArray (Syntax.tyInt Syntax.w32) 112) (Syntax.tcons (Syntax.tyArray (Syntax.tyInt Syntax.w32) 112) Syntax.tnil))),
+) (List._∷_ (22, Rows.any-gone Syntax.tyBool) (List._∷_ (
+  23,
+  Rows.any-gone Syntax.tyUnit,
+) (List._∷_ (24, Rows.any-gone (Syntax.tyRef Syntax.erased Syntax.mut (Syntax.tyInt Syntax.w16))) (List._∷_ (
   25,
-  Rows.any-gone (Syntax.tyStruct (List._∷_ 38 (List._∷_ 91 (List._∷_ 93 List.[]))) (Syntax.tcons (Syntax.tyRef Syntax.erased
-      Syntax.mut (Syntax.tyInt Syntax.w16)) (Syntax.tcons (Syntax.tyInt Syntax.w64) Syntax.tnil))),
-) (List._∷_ (26, Rows.any-gone (Syntax.tyRef Syntax.erased Syntax.mut (Syntax.tyInt Syntax.w16)))
-    (List._∷_ (
-      27,
-      Rows.any-gone (Syntax.tyStruct (List._∷_ 38 (List._∷_ 91 (List._∷_ 93 List.[]))) (Syntax.tcons (Syntax.tyRef Syntax.erased Syntax.mut (Syntax.tyInt Syntax.w16)) (Syntax.tcons
-          (Syntax.tyInt Syntax.w64) Syntax.tnil))),
-    ) (List._∷_ (28, Relend.msptr (Element.type) (Syntax.tyRef Syntax.erased Syntax.mut Element.behind) 6) (List._∷_ (
-      29,
-      Rows.any-gone (Syntax.tyStruct
-          (List._∷_ 38 (List._∷_ 91 (List._∷_ 93 List.[]))) (Syntax.tcons (Syntax.tyRef Syntax.erased Syntax.mut Element.behind) (Syntax.tcons (Syntax.tyInt Syntax.w64) Syntax.tnil))),
-    ) (List._∷_ (
-      30,
-      Rows.any-gone (Syntax.tyRef Syntax.erased Syntax.mut (Syntax.tyInt Syntax.w8)),
-    ) (List._∷_ (
-      31,
-      Rows.any-gone (Syntax.tyStruct (List._∷_ 38 (List._∷_ 91 (List._∷_ 93 List.[]))) (Syntax.tcons
-          (Syntax.tyRef Syntax.erased Syntax.mut (Syntax.tyInt Syntax.w8)) (Syntax.tcons (Syntax.tyInt Syntax.w64) Syntax.tnil))),
-    ) List.[])))))))))))))))
+  Rows.any-gone (Syntax.tyStruct (List._∷_ 38 (List._∷_ 91
+      (List._∷_ 93 List.[]))) (Syntax.tcons (Syntax.tyRef Syntax.erased Syntax.mut (Syntax.tyInt Syntax.w16)) (Syntax.tcons (Syntax.tyInt Syntax.w64) Syntax.tnil))),
+) (List._∷_ (
+  26,
+  Rows.any-gone
+      (Syntax.tyRef Syntax.erased Syntax.mut (Syntax.tyInt Syntax.w16)),
+) (List._∷_ (
+  27,
+  Rows.any-gone (Syntax.tyStruct (List._∷_ 38 (List._∷_ 91 (List._∷_ 93 List.[]))) (Syntax.tcons (Syntax.tyRef
+      Syntax.erased Syntax.mut (Syntax.tyInt Syntax.w16)) (Syntax.tcons (Syntax.tyInt Syntax.w64) Syntax.tnil))),
+) (List._∷_ (
+  28,
+  Relend.msptr (Element.type) (Syntax.tyRef Syntax.erased Syntax.mut
+      Element.behind) 6,
+) (List._∷_ (
+  29,
+  Rows.any-gone (Syntax.tyStruct (List._∷_ 38 (List._∷_ 91 (List._∷_ 93 List.[]))) (Syntax.tcons (Syntax.tyRef Syntax.erased Syntax.mut Element.behind) (Syntax.tcons
+      (Syntax.tyInt Syntax.w64) Syntax.tnil))),
+) (List._∷_ (30, Rows.any-gone (Syntax.tyRef Syntax.erased Syntax.mut (Syntax.tyInt Syntax.w8))) (List._∷_ (
+  31,
+  Rows.any-gone (Syntax.tyStruct (List._∷_
+      38 (List._∷_ 91 (List._∷_ 93 List.[]))) (Syntax.tcons (Syntax.tyRef Syntax.erased Syntax.mut (Syntax.tyInt Syntax.w8)) (Syntax.tcons (Syntax.tyInt Syntax.w64) Syntax.tnil))),
+) List.[])))))))))))))))
 
 abbrev pub t29 : List.List Row.Entry
 t29 = List._∷_ (16, Rows.sc-here (Row.sInt Syntax.w64)) (List._∷_ (17, Rows.whole (Declared.row Plan.the-type)) (List._∷_ (
   18,
-  Rows.any-gone (Syntax.tyStruct (List._∷_ 112 (List._∷_ 97 (List._∷_
-      115 (List._∷_ 115 (List._∷_ 58 (List._∷_ 58 (List._∷_ 83 (List._∷_ 101 (List._∷_ 116 List.[]))))))))) (Syntax.tcons (Syntax.tyArray (Syntax.tyInt Syntax.w32) 112) (Syntax.tcons (Syntax.tyArray
-      (Syntax.tyInt Syntax.w32) 112) Syntax.tnil))),
+  Rows.any-gone (Syntax.tyStruct (List._∷_ 115 (List._∷_ 116 (List._∷_
+      101 (List._∷_ 112 (List._∷_ 115 (List._∷_ 58 (List._∷_ 58 (List._∷_ 83 (List._∷_ 101 (List._∷_ 116 List.[])))))))))) (Syntax.tcons (Syntax.tyArray (Syntax.tyInt Syntax.w32) 112) (Syntax.tcons
+      (Syntax.tyArray (Syntax.tyInt Syntax.w32) 112) Syntax.tnil))),
 ) (List._∷_ (
   19,
-  Rows.any-gone (Syntax.tyStruct (List._∷_ 119 (List._∷_ 114 (List._∷_ 105 (List._∷_ 116 (List._∷_ 105 (List._∷_ 110 (List._∷_ 103
-      (List._∷_ 58 (List._∷_ 58 (List._∷_ 80 (List._∷_ 97 (List._∷_ 115 (List._∷_ 115 (List._∷_ 80 (List._∷_ 117 (List._∷_ 116 List.[])))))))))))))))) (Syntax.tcons Syntax.tyBool (Syntax.tcons (Syntax.tyInt
-      Syntax.w64) (Syntax.tcons (Syntax.tyStruct (List._∷_ 98 (List._∷_ 105 (List._∷_ 116 (List._∷_ 115 (List._∷_ 58 (List._∷_ 58 (List._∷_ 66 (List._∷_ 105 (List._∷_ 116 (List._∷_ 80 (List._∷_ 111
-      (List._∷_ 115 (List._∷_ 105 (List._∷_ 116 (List._∷_ 105 (List._∷_ 111 (List._∷_ 110 List.[]))))))))))))))))) (Syntax.tcons (Syntax.tyInt Syntax.w64) Syntax.tnil)) (Syntax.tcons (Syntax.tyStruct
-      (List._∷_ 112 (List._∷_ 97 (List._∷_ 115 (List._∷_ 115 (List._∷_ 58 (List._∷_ 58 (List._∷_ 83 (List._∷_ 101 (List._∷_ 116 List.[]))))))))) (Syntax.tcons (Syntax.tyArray (Syntax.tyInt Syntax.w32) 112)
-      (Syntax.tcons (Syntax.tyArray (Syntax.tyInt Syntax.w32) 112) Syntax.tnil))) Syntax.tnil))))),
+  Rows.any-gone (Syntax.tyStruct (List._∷_ 119 (List._∷_ 114 (List._∷_ 105 (List._∷_ 116 (List._∷_ 105 (List._∷_ 110
+      (List._∷_ 103 (List._∷_ 58 (List._∷_ 58 (List._∷_ 80 (List._∷_ 97 (List._∷_ 115 (List._∷_ 115 (List._∷_ 80 (List._∷_ 117 (List._∷_ 116 List.[])))))))))))))))) (Syntax.tcons Syntax.tyBool (Syntax.tcons
+      (Syntax.tyInt Syntax.w64) (Syntax.tcons (Syntax.tyStruct (List._∷_ 98 (List._∷_ 105 (List._∷_ 116 (List._∷_ 115 (List._∷_ 58 (List._∷_ 58 (List._∷_ 66 (List._∷_ 105 (List._∷_ 116 (List._∷_ 80
+      (List._∷_ 111 (List._∷_ 115 (List._∷_ 105 (List._∷_ 116 (List._∷_ 105 (List._∷_ 111 (List._∷_ 110 List.[]))))))))))))))))) (Syntax.tcons (Syntax.tyInt Syntax.w64) Syntax.tnil)) (Syntax.tcons
+      (Syntax.tyStruct (List._∷_ 115 (List._∷_ 116 (List._∷_ 101 (List._∷_ 112 (List._∷_ 115 (List._∷_ 58 (List._∷_ 58 (List._∷_ 83 (List._∷_ 101 (List._∷_ 116 List.[])))))))))) (Syntax.tcons
+      (Syntax.tyArray (Syntax.tyInt Syntax.w32) 112) (Syntax.tcons (Syntax.tyArray (Syntax.tyInt Syntax.w32) 112) Syntax.tnil))) Syntax.tnil))))),
 ) (List._∷_ (20, Rows.any-gone Syntax.tyBool) (List._∷_ (
   21,
-  Rows.any-gone (Syntax.tyStruct (List._∷_ 112
-      (List._∷_ 97 (List._∷_ 115 (List._∷_ 115 (List._∷_ 58 (List._∷_ 58 (List._∷_ 83 (List._∷_ 101 (List._∷_ 116 List.[]))))))))) (Syntax.tcons (Syntax.tyArray (Syntax.tyInt Syntax.w32) 112) (Syntax.tcons
-      (Syntax.tyArray (Syntax.tyInt Syntax.w32) 112) Syntax.tnil))),
-) (List._∷_ (22, Rows.any-gone Syntax.tyBool) (List._∷_ (23, Rows.any-gone Syntax.tyUnit) (List._∷_ (
-  24,
-  Rows.any-gone (Syntax.tyRef
-      Syntax.erased Syntax.mut (Syntax.tyInt Syntax.w16)),
-) (List._∷_ (
+  Rows.any-gone (Syntax.tyStruct (List._∷_ 115 (List._∷_ 116 (List._∷_ 101 (List._∷_ 112 (List._∷_ 115 (List._∷_ 58 (List._∷_ 58 (List._∷_ 83 (List._∷_ 101 (List._∷_ 116 List.[]))))))))))
+      (Syntax.tcons (Syntax.tyArray (Syntax.tyInt Syntax.w32) 112) (Syntax.tcons (Syntax.tyArray (Syntax.tyInt Syntax.w32) 112) Syntax.tnil))),
+) (List._∷_ (22, Rows.any-gone Syntax.tyBool) (List._∷_ (
+  23,
+  Rows.any-gone Syntax.tyUnit,
+) (List._∷_ (24, Rows.any-gone (Syntax.tyRef Syntax.erased Syntax.mut (Syntax.tyInt Syntax.w16))) (List._∷_ (
   25,
-  Rows.any-gone (Syntax.tyStruct (List._∷_ 38 (List._∷_ 91 (List._∷_ 93 List.[]))) (Syntax.tcons (Syntax.tyRef Syntax.erased
-      Syntax.mut (Syntax.tyInt Syntax.w16)) (Syntax.tcons (Syntax.tyInt Syntax.w64) Syntax.tnil))),
-) (List._∷_ (26, Rows.any-gone (Syntax.tyRef Syntax.erased Syntax.mut (Syntax.tyInt Syntax.w16)))
+  Rows.any-gone (Syntax.tyStruct (List._∷_ 38 (List._∷_ 91
+      (List._∷_ 93 List.[]))) (Syntax.tcons (Syntax.tyRef Syntax.erased Syntax.mut (Syntax.tyInt Syntax.w16)) (Syntax.tcons (Syntax.tyInt Syntax.w64) Syntax.tnil))),
+) (List._∷_ (
+  26,
+  Rows.any-gone
+      (Syntax.tyRef Syntax.erased Syntax.mut (Syntax.tyInt Syntax.w16)),
+) (List._∷_ (
+  27,
+  Rows.any-gone (Syntax.tyStruct (List._∷_ 38 (List._∷_ 91 (List._∷_ 93 List.[]))) (Syntax.tcons (Syntax.tyRef
+      Syntax.erased Syntax.mut (Syntax.tyInt Syntax.w16)) (Syntax.tcons (Syntax.tyInt Syntax.w64) Syntax.tnil))),
+) (List._∷_ (28, Rows.any-gone (Syntax.tyRef Syntax.erased Syntax.mut Element.behind))
+    (List._∷_ (29, Mut.mslice (Element.type) (Syntax.tyRef Syntax.erased Syntax.mut Element.behind) 6) (List._∷_ (30, Rows.any-gone (Syntax.tyRef Syntax.erased Syntax.mut (Syntax.tyInt Syntax.w8)))
     (List._∷_ (
-      27,
-      Rows.any-gone (Syntax.tyStruct (List._∷_ 38 (List._∷_ 91 (List._∷_ 93 List.[]))) (Syntax.tcons (Syntax.tyRef Syntax.erased Syntax.mut (Syntax.tyInt Syntax.w16)) (Syntax.tcons
-          (Syntax.tyInt Syntax.w64) Syntax.tnil))),
-    ) (List._∷_ (28, Rows.any-gone (Syntax.tyRef Syntax.erased Syntax.mut Element.behind)) (List._∷_ (
-      29,
-      Mut.mslice (Element.type) (Syntax.tyRef
-          Syntax.erased Syntax.mut Element.behind) 6,
-    ) (List._∷_ (30, Rows.any-gone (Syntax.tyRef Syntax.erased Syntax.mut (Syntax.tyInt Syntax.w8))) (List._∷_ (
       31,
-      Rows.any-gone (Syntax.tyStruct (List._∷_
-          38 (List._∷_ 91 (List._∷_ 93 List.[]))) (Syntax.tcons (Syntax.tyRef Syntax.erased Syntax.mut (Syntax.tyInt Syntax.w8)) (Syntax.tcons (Syntax.tyInt Syntax.w64) Syntax.tnil))),
+      Rows.any-gone (Syntax.tyStruct (List._∷_ 38 (List._∷_ 91 (List._∷_ 93 List.[]))) (Syntax.tcons (Syntax.tyRef Syntax.erased Syntax.mut (Syntax.tyInt Syntax.w8)) (Syntax.tcons
+          (Syntax.tyInt Syntax.w64) Syntax.tnil))),
     ) List.[])))))))))))))))
 
 abbrev pub t30 : List.List Row.Entry
@@ -1827,35 +1839,36 @@ t30 = List._∷_ (16, Rows.sc-here (Row.sInt Syntax.w64)) (List._∷_ (17, Rows.
       (Syntax.tyStruct (List._∷_ 119 (List._∷_ 114 (List._∷_ 105 (List._∷_ 116 (List._∷_ 105 (List._∷_ 110 (List._∷_ 103 (List._∷_ 58 (List._∷_ 58 (List._∷_ 80 (List._∷_ 97 (List._∷_ 115 (List._∷_ 115
       (List._∷_ 80 (List._∷_ 117 (List._∷_ 116 List.[])))))))))))))))) (Syntax.tcons Syntax.tyBool (Syntax.tcons (Syntax.tyInt Syntax.w64) (Syntax.tcons (Syntax.tyStruct (List._∷_ 98 (List._∷_ 105 (List._∷_
       116 (List._∷_ 115 (List._∷_ 58 (List._∷_ 58 (List._∷_ 66 (List._∷_ 105 (List._∷_ 116 (List._∷_ 80 (List._∷_ 111 (List._∷_ 115 (List._∷_ 105 (List._∷_ 116 (List._∷_ 105 (List._∷_ 111 (List._∷_ 110
-      List.[]))))))))))))))))) (Syntax.tcons (Syntax.tyInt Syntax.w64) Syntax.tnil)) (Syntax.tcons (Syntax.tyStruct (List._∷_ 112 (List._∷_ 97 (List._∷_ 115 (List._∷_ 115 (List._∷_ 58 (List._∷_ 58 (List._∷_
-      83 (List._∷_ 101 (List._∷_ 116 List.[]))))))))) (Syntax.tcons (Syntax.tyArray (Syntax.tyInt Syntax.w32) 112) (Syntax.tcons (Syntax.tyArray (Syntax.tyInt Syntax.w32) 112) Syntax.tnil)))
-      Syntax.tnil))))),
+      List.[]))))))))))))))))) (Syntax.tcons (Syntax.tyInt Syntax.w64) Syntax.tnil)) (Syntax.tcons (Syntax.tyStruct (List._∷_ 115 (List._∷_ 116 (List._∷_ 101 (List._∷_ 112 (List._∷_ 115 (List._∷_ 58
+      (List._∷_ 58 (List._∷_ 83 (List._∷_ 101 (List._∷_ 116 List.[])))))))))) (Syntax.tcons (Syntax.tyArray (Syntax.tyInt Syntax.w32) 112) (Syntax.tcons (Syntax.tyArray (Syntax.tyInt Syntax.w32) 112)
+      Syntax.tnil))) Syntax.tnil))))),
 ) (List._∷_ (20, Rows.any-gone Syntax.tyBool) (List._∷_ (
   21,
-  Rows.any-gone (Syntax.tyStruct (List._∷_ 112 (List._∷_ 97 (List._∷_ 115 (List._∷_ 115 (List._∷_ 58 (List._∷_ 58
-      (List._∷_ 83 (List._∷_ 101 (List._∷_ 116 List.[]))))))))) (Syntax.tcons (Syntax.tyArray (Syntax.tyInt Syntax.w32) 112) (Syntax.tcons (Syntax.tyArray (Syntax.tyInt Syntax.w32) 112) Syntax.tnil))),
-)
-    (List._∷_ (22, Rows.any-gone Syntax.tyBool) (List._∷_ (23, Rows.any-gone Syntax.tyUnit) (List._∷_ (24, Rows.any-gone (Syntax.tyRef Syntax.erased Syntax.mut (Syntax.tyInt Syntax.w16))) (List._∷_ (
-      25,
-      Rows.any-gone (Syntax.tyStruct (List._∷_ 38 (List._∷_ 91 (List._∷_ 93 List.[]))) (Syntax.tcons (Syntax.tyRef Syntax.erased Syntax.mut (Syntax.tyInt Syntax.w16)) (Syntax.tcons (Syntax.tyInt
-          Syntax.w64) Syntax.tnil))),
-    ) (List._∷_ (26, Rows.any-gone (Syntax.tyRef Syntax.erased Syntax.mut (Syntax.tyInt Syntax.w16))) (List._∷_ (
-      27,
-      Rows.any-gone (Syntax.tyStruct (List._∷_ 38 (List._∷_
-          91 (List._∷_ 93 List.[]))) (Syntax.tcons (Syntax.tyRef Syntax.erased Syntax.mut (Syntax.tyInt Syntax.w16)) (Syntax.tcons (Syntax.tyInt Syntax.w64) Syntax.tnil))),
-    ) (List._∷_ (
-      28,
-      Rows.any-gone
-          (Syntax.tyRef Syntax.erased Syntax.mut Element.behind),
-    ) (List._∷_ (29, Mut.msleft (Element.type) (Syntax.tyRef Syntax.erased Syntax.mut Element.behind)) (List._∷_ (
-      30,
-      Rows.any-gone
-          (Syntax.tyRef Syntax.erased Syntax.mut (Syntax.tyInt Syntax.w8)),
-    ) (List._∷_ (
-      31,
-      Rows.any-gone (Syntax.tyStruct (List._∷_ 38 (List._∷_ 91 (List._∷_ 93 List.[]))) (Syntax.tcons (Syntax.tyRef
-          Syntax.erased Syntax.mut (Syntax.tyInt Syntax.w8)) (Syntax.tcons (Syntax.tyInt Syntax.w64) Syntax.tnil))),
-    ) List.[])))))))))))))))
+  Rows.any-gone (Syntax.tyStruct (List._∷_ 115 (List._∷_ 116 (List._∷_ 101 (List._∷_ 112 (List._∷_ 115
+      (List._∷_ 58 (List._∷_ 58 (List._∷_ 83 (List._∷_ 101 (List._∷_ 116 List.[])))))))))) (Syntax.tcons (Syntax.tyArray (Syntax.tyInt Syntax.w32) 112) (Syntax.tcons (Syntax.tyArray (Syntax.tyInt
+      Syntax.w32) 112) Syntax.tnil))),
+) (List._∷_ (22, Rows.any-gone Syntax.tyBool) (List._∷_ (23, Rows.any-gone Syntax.tyUnit) (List._∷_ (
+  24,
+  Rows.any-gone (Syntax.tyRef Syntax.erased Syntax.mut
+      (Syntax.tyInt Syntax.w16)),
+) (List._∷_ (
+  25,
+  Rows.any-gone (Syntax.tyStruct (List._∷_ 38 (List._∷_ 91 (List._∷_ 93 List.[]))) (Syntax.tcons (Syntax.tyRef Syntax.erased Syntax.mut (Syntax.tyInt
+      Syntax.w16)) (Syntax.tcons (Syntax.tyInt Syntax.w64) Syntax.tnil))),
+) (List._∷_ (26, Rows.any-gone (Syntax.tyRef Syntax.erased Syntax.mut (Syntax.tyInt Syntax.w16))) (List._∷_ (
+  27,
+  Rows.any-gone
+      (Syntax.tyStruct (List._∷_ 38 (List._∷_ 91 (List._∷_ 93 List.[]))) (Syntax.tcons (Syntax.tyRef Syntax.erased Syntax.mut (Syntax.tyInt Syntax.w16)) (Syntax.tcons (Syntax.tyInt Syntax.w64)
+      Syntax.tnil))),
+) (List._∷_ (28, Rows.any-gone (Syntax.tyRef Syntax.erased Syntax.mut Element.behind)) (List._∷_ (
+  29,
+  Mut.msleft (Element.type) (Syntax.tyRef Syntax.erased Syntax.mut
+      Element.behind),
+) (List._∷_ (30, Rows.any-gone (Syntax.tyRef Syntax.erased Syntax.mut (Syntax.tyInt Syntax.w8))) (List._∷_ (
+  31,
+  Rows.any-gone (Syntax.tyStruct (List._∷_ 38 (List._∷_ 91 (List._∷_
+      93 List.[]))) (Syntax.tcons (Syntax.tyRef Syntax.erased Syntax.mut (Syntax.tyInt Syntax.w8)) (Syntax.tcons (Syntax.tyInt Syntax.w64) Syntax.tnil))),
+) List.[])))))))))))))))
 
 abbrev pub t31 : List.List Row.Entry
 t31 = List._∷_ (16, Rows.sc-here (Row.sInt Syntax.w64)) (List._∷_ (17, Rows.whole (Declared.row Plan.the-type)) (List._∷_ (18, Rows.whole (Declared.row Set.the-type)) (List._∷_ (
@@ -1864,35 +1877,40 @@ t31 = List._∷_ (16, Rows.sc-here (Row.sInt Syntax.w64)) (List._∷_ (17, Rows.
       (Syntax.tyStruct (List._∷_ 119 (List._∷_ 114 (List._∷_ 105 (List._∷_ 116 (List._∷_ 105 (List._∷_ 110 (List._∷_ 103 (List._∷_ 58 (List._∷_ 58 (List._∷_ 80 (List._∷_ 97 (List._∷_ 115 (List._∷_ 115
       (List._∷_ 80 (List._∷_ 117 (List._∷_ 116 List.[])))))))))))))))) (Syntax.tcons Syntax.tyBool (Syntax.tcons (Syntax.tyInt Syntax.w64) (Syntax.tcons (Syntax.tyStruct (List._∷_ 98 (List._∷_ 105 (List._∷_
       116 (List._∷_ 115 (List._∷_ 58 (List._∷_ 58 (List._∷_ 66 (List._∷_ 105 (List._∷_ 116 (List._∷_ 80 (List._∷_ 111 (List._∷_ 115 (List._∷_ 105 (List._∷_ 116 (List._∷_ 105 (List._∷_ 111 (List._∷_ 110
-      List.[]))))))))))))))))) (Syntax.tcons (Syntax.tyInt Syntax.w64) Syntax.tnil)) (Syntax.tcons (Syntax.tyStruct (List._∷_ 112 (List._∷_ 97 (List._∷_ 115 (List._∷_ 115 (List._∷_ 58 (List._∷_ 58 (List._∷_
-      83 (List._∷_ 101 (List._∷_ 116 List.[]))))))))) (Syntax.tcons (Syntax.tyArray (Syntax.tyInt Syntax.w32) 112) (Syntax.tcons (Syntax.tyArray (Syntax.tyInt Syntax.w32) 112) Syntax.tnil)))
-      Syntax.tnil))))),
+      List.[]))))))))))))))))) (Syntax.tcons (Syntax.tyInt Syntax.w64) Syntax.tnil)) (Syntax.tcons (Syntax.tyStruct (List._∷_ 115 (List._∷_ 116 (List._∷_ 101 (List._∷_ 112 (List._∷_ 115 (List._∷_ 58
+      (List._∷_ 58 (List._∷_ 83 (List._∷_ 101 (List._∷_ 116 List.[])))))))))) (Syntax.tcons (Syntax.tyArray (Syntax.tyInt Syntax.w32) 112) (Syntax.tcons (Syntax.tyArray (Syntax.tyInt Syntax.w32) 112)
+      Syntax.tnil))) Syntax.tnil))))),
 ) (List._∷_ (20, Rows.any-gone Syntax.tyBool) (List._∷_ (
   21,
-  Rows.any-gone (Syntax.tyStruct (List._∷_ 112 (List._∷_ 97 (List._∷_ 115 (List._∷_ 115 (List._∷_ 58 (List._∷_ 58
-      (List._∷_ 83 (List._∷_ 101 (List._∷_ 116 List.[]))))))))) (Syntax.tcons (Syntax.tyArray (Syntax.tyInt Syntax.w32) 112) (Syntax.tcons (Syntax.tyArray (Syntax.tyInt Syntax.w32) 112) Syntax.tnil))),
-)
-    (List._∷_ (22, Rows.any-gone Syntax.tyBool) (List._∷_ (23, Rows.any-gone Syntax.tyUnit) (List._∷_ (24, Rows.any-gone (Syntax.tyRef Syntax.erased Syntax.mut (Syntax.tyInt Syntax.w16))) (List._∷_ (
-      25,
-      Rows.any-gone (Syntax.tyStruct (List._∷_ 38 (List._∷_ 91 (List._∷_ 93 List.[]))) (Syntax.tcons (Syntax.tyRef Syntax.erased Syntax.mut (Syntax.tyInt Syntax.w16)) (Syntax.tcons (Syntax.tyInt
-          Syntax.w64) Syntax.tnil))),
-    ) (List._∷_ (26, Rows.any-gone (Syntax.tyRef Syntax.erased Syntax.mut (Syntax.tyInt Syntax.w16))) (List._∷_ (
-      27,
-      Rows.any-gone (Syntax.tyStruct (List._∷_ 38 (List._∷_
-          91 (List._∷_ 93 List.[]))) (Syntax.tcons (Syntax.tyRef Syntax.erased Syntax.mut (Syntax.tyInt Syntax.w16)) (Syntax.tcons (Syntax.tyInt Syntax.w64) Syntax.tnil))),
-    ) (List._∷_ (
-      28,
-      Rows.any-gone
-          (Syntax.tyRef Syntax.erased Syntax.mut Element.behind),
-    ) (List._∷_ (
-      29,
-      Rows.any-gone (Syntax.tyStruct (List._∷_ 38 (List._∷_ 91 (List._∷_ 93 List.[]))) (Syntax.tcons (Syntax.tyRef Syntax.erased
-          Syntax.mut Element.behind) (Syntax.tcons (Syntax.tyInt Syntax.w64) Syntax.tnil))),
-    ) (List._∷_ (30, Rows.any-gone (Syntax.tyRef Syntax.erased Syntax.mut (Syntax.tyInt Syntax.w8))) (List._∷_ (
-      31,
-      Rows.any-gone (Syntax.tyStruct (List._∷_ 38 (List._∷_ 91 (List._∷_ 93 List.[]))) (Syntax.tcons (Syntax.tyRef Syntax.erased Syntax.mut (Syntax.tyInt Syntax.w8)) (Syntax.tcons (Syntax.tyInt Syntax.w64)
-          Syntax.tnil))),
-    ) List.[])))))))))))))))
+  Rows.any-gone (Syntax.tyStruct (List._∷_ 115 (List._∷_ 116 (List._∷_ 101 (List._∷_ 112 (List._∷_ 115
+      (List._∷_ 58 (List._∷_ 58 (List._∷_ 83 (List._∷_ 101 (List._∷_ 116 List.[])))))))))) (Syntax.tcons (Syntax.tyArray (Syntax.tyInt Syntax.w32) 112) (Syntax.tcons (Syntax.tyArray (Syntax.tyInt
+      Syntax.w32) 112) Syntax.tnil))),
+) (List._∷_ (22, Rows.any-gone Syntax.tyBool) (List._∷_ (23, Rows.any-gone Syntax.tyUnit) (List._∷_ (
+  24,
+  Rows.any-gone (Syntax.tyRef Syntax.erased Syntax.mut
+      (Syntax.tyInt Syntax.w16)),
+) (List._∷_ (
+  25,
+  Rows.any-gone (Syntax.tyStruct (List._∷_ 38 (List._∷_ 91 (List._∷_ 93 List.[]))) (Syntax.tcons (Syntax.tyRef Syntax.erased Syntax.mut (Syntax.tyInt
+      Syntax.w16)) (Syntax.tcons (Syntax.tyInt Syntax.w64) Syntax.tnil))),
+) (List._∷_ (26, Rows.any-gone (Syntax.tyRef Syntax.erased Syntax.mut (Syntax.tyInt Syntax.w16))) (List._∷_ (
+  27,
+  Rows.any-gone
+      (Syntax.tyStruct (List._∷_ 38 (List._∷_ 91 (List._∷_ 93 List.[]))) (Syntax.tcons (Syntax.tyRef Syntax.erased Syntax.mut (Syntax.tyInt Syntax.w16)) (Syntax.tcons (Syntax.tyInt Syntax.w64)
+      Syntax.tnil))),
+) (List._∷_ (28, Rows.any-gone (Syntax.tyRef Syntax.erased Syntax.mut Element.behind)) (List._∷_ (
+  29,
+  Rows.any-gone (Syntax.tyStruct (List._∷_ 38 (List._∷_ 91 (List._∷_ 93
+      List.[]))) (Syntax.tcons (Syntax.tyRef Syntax.erased Syntax.mut Element.behind) (Syntax.tcons (Syntax.tyInt Syntax.w64) Syntax.tnil))),
+) (List._∷_ (
+  30,
+  Rows.any-gone (Syntax.tyRef Syntax.erased
+      Syntax.mut (Syntax.tyInt Syntax.w8)),
+) (List._∷_ (
+  31,
+  Rows.any-gone (Syntax.tyStruct (List._∷_ 38 (List._∷_ 91 (List._∷_ 93 List.[]))) (Syntax.tcons (Syntax.tyRef Syntax.erased Syntax.mut
+      (Syntax.tyInt Syntax.w8)) (Syntax.tcons (Syntax.tyInt Syntax.w64) Syntax.tnil))),
+) List.[])))))))))))))))
 
 abbrev pub t32 : List.List Row.Entry
 t32 = List._∷_ (
@@ -1937,39 +1955,40 @@ t33 = List._∷_ (16, Rows.sc-here (Row.sInt Syntax.w64)) (List._∷_ (17, Rows.
       (Syntax.tyStruct (List._∷_ 119 (List._∷_ 114 (List._∷_ 105 (List._∷_ 116 (List._∷_ 105 (List._∷_ 110 (List._∷_ 103 (List._∷_ 58 (List._∷_ 58 (List._∷_ 80 (List._∷_ 97 (List._∷_ 115 (List._∷_ 115
       (List._∷_ 80 (List._∷_ 117 (List._∷_ 116 List.[])))))))))))))))) (Syntax.tcons Syntax.tyBool (Syntax.tcons (Syntax.tyInt Syntax.w64) (Syntax.tcons (Syntax.tyStruct (List._∷_ 98 (List._∷_ 105 (List._∷_
       116 (List._∷_ 115 (List._∷_ 58 (List._∷_ 58 (List._∷_ 66 (List._∷_ 105 (List._∷_ 116 (List._∷_ 80 (List._∷_ 111 (List._∷_ 115 (List._∷_ 105 (List._∷_ 116 (List._∷_ 105 (List._∷_ 111 (List._∷_ 110
-      List.[]))))))))))))))))) (Syntax.tcons (Syntax.tyInt Syntax.w64) Syntax.tnil)) (Syntax.tcons (Syntax.tyStruct (List._∷_ 112 (List._∷_ 97 (List._∷_ 115 (List._∷_ 115 (List._∷_ 58 (List._∷_ 58 (List._∷_
-      83 (List._∷_ 101 (List._∷_ 116 List.[]))))))))) (Syntax.tcons (Syntax.tyArray (Syntax.tyInt Syntax.w32) 112) (Syntax.tcons (Syntax.tyArray (Syntax.tyInt Syntax.w32) 112) Syntax.tnil)))
-      Syntax.tnil))))),
+      List.[]))))))))))))))))) (Syntax.tcons (Syntax.tyInt Syntax.w64) Syntax.tnil)) (Syntax.tcons (Syntax.tyStruct (List._∷_ 115 (List._∷_ 116 (List._∷_ 101 (List._∷_ 112 (List._∷_ 115 (List._∷_ 58
+      (List._∷_ 58 (List._∷_ 83 (List._∷_ 101 (List._∷_ 116 List.[])))))))))) (Syntax.tcons (Syntax.tyArray (Syntax.tyInt Syntax.w32) 112) (Syntax.tcons (Syntax.tyArray (Syntax.tyInt Syntax.w32) 112)
+      Syntax.tnil))) Syntax.tnil))))),
 ) (List._∷_ (20, Rows.any-gone Syntax.tyBool) (List._∷_ (
   21,
-  Rows.any-gone (Syntax.tyStruct (List._∷_ 112 (List._∷_ 97 (List._∷_ 115 (List._∷_ 115 (List._∷_ 58 (List._∷_ 58
-      (List._∷_ 83 (List._∷_ 101 (List._∷_ 116 List.[]))))))))) (Syntax.tcons (Syntax.tyArray (Syntax.tyInt Syntax.w32) 112) (Syntax.tcons (Syntax.tyArray (Syntax.tyInt Syntax.w32) 112) Syntax.tnil))),
-)
-    (List._∷_ (22, Rows.any-gone Syntax.tyBool) (List._∷_ (23, Rows.any-gone Syntax.tyUnit) (List._∷_ (24, Rows.any-gone (Syntax.tyRef Syntax.erased Syntax.mut (Syntax.tyInt Syntax.w16))) (List._∷_ (
-      25,
-      Rows.any-gone (Syntax.tyStruct (List._∷_ 38 (List._∷_ 91 (List._∷_ 93 List.[]))) (Syntax.tcons (Syntax.tyRef Syntax.erased Syntax.mut (Syntax.tyInt Syntax.w16)) (Syntax.tcons (Syntax.tyInt
-          Syntax.w64) Syntax.tnil))),
-    ) (List._∷_ (26, Rows.any-gone (Syntax.tyRef Syntax.erased Syntax.mut (Syntax.tyInt Syntax.w16))) (List._∷_ (
-      27,
-      Rows.any-gone (Syntax.tyStruct (List._∷_ 38 (List._∷_
-          91 (List._∷_ 93 List.[]))) (Syntax.tcons (Syntax.tyRef Syntax.erased Syntax.mut (Syntax.tyInt Syntax.w16)) (Syntax.tcons (Syntax.tyInt Syntax.w64) Syntax.tnil))),
-    ) (List._∷_ (
-      28,
-      Rows.any-gone
-          (Syntax.tyRef Syntax.erased Syntax.mut Element.behind),
-    ) (List._∷_ (
-      29,
-      Rows.any-gone (Syntax.tyStruct (List._∷_ 38 (List._∷_ 91 (List._∷_ 93 List.[]))) (Syntax.tcons (Syntax.tyRef Syntax.erased
-          Syntax.mut Element.behind) (Syntax.tcons (Syntax.tyInt Syntax.w64) Syntax.tnil))),
-    ) (List._∷_ (
-      30,
-      Relend.msptr (Referent.rtF (Referent.fInt Syntax.w8)) (Syntax.tyRef Syntax.erased Syntax.mut
-          (Syntax.tyInt Syntax.w8)) 7,
-    ) (List._∷_ (
-      31,
-      Rows.any-gone (Syntax.tyStruct (List._∷_ 38 (List._∷_ 91 (List._∷_ 93 List.[]))) (Syntax.tcons (Syntax.tyRef Syntax.erased Syntax.mut (Syntax.tyInt
-          Syntax.w8)) (Syntax.tcons (Syntax.tyInt Syntax.w64) Syntax.tnil))),
-    ) List.[])))))))))))))))
+  Rows.any-gone (Syntax.tyStruct (List._∷_ 115 (List._∷_ 116 (List._∷_ 101 (List._∷_ 112 (List._∷_ 115
+      (List._∷_ 58 (List._∷_ 58 (List._∷_ 83 (List._∷_ 101 (List._∷_ 116 List.[])))))))))) (Syntax.tcons (Syntax.tyArray (Syntax.tyInt Syntax.w32) 112) (Syntax.tcons (Syntax.tyArray (Syntax.tyInt
+      Syntax.w32) 112) Syntax.tnil))),
+) (List._∷_ (22, Rows.any-gone Syntax.tyBool) (List._∷_ (23, Rows.any-gone Syntax.tyUnit) (List._∷_ (
+  24,
+  Rows.any-gone (Syntax.tyRef Syntax.erased Syntax.mut
+      (Syntax.tyInt Syntax.w16)),
+) (List._∷_ (
+  25,
+  Rows.any-gone (Syntax.tyStruct (List._∷_ 38 (List._∷_ 91 (List._∷_ 93 List.[]))) (Syntax.tcons (Syntax.tyRef Syntax.erased Syntax.mut (Syntax.tyInt
+      Syntax.w16)) (Syntax.tcons (Syntax.tyInt Syntax.w64) Syntax.tnil))),
+) (List._∷_ (26, Rows.any-gone (Syntax.tyRef Syntax.erased Syntax.mut (Syntax.tyInt Syntax.w16))) (List._∷_ (
+  27,
+  Rows.any-gone
+      (Syntax.tyStruct (List._∷_ 38 (List._∷_ 91 (List._∷_ 93 List.[]))) (Syntax.tcons (Syntax.tyRef Syntax.erased Syntax.mut (Syntax.tyInt Syntax.w16)) (Syntax.tcons (Syntax.tyInt Syntax.w64)
+      Syntax.tnil))),
+) (List._∷_ (28, Rows.any-gone (Syntax.tyRef Syntax.erased Syntax.mut Element.behind)) (List._∷_ (
+  29,
+  Rows.any-gone (Syntax.tyStruct (List._∷_ 38 (List._∷_ 91 (List._∷_ 93
+      List.[]))) (Syntax.tcons (Syntax.tyRef Syntax.erased Syntax.mut Element.behind) (Syntax.tcons (Syntax.tyInt Syntax.w64) Syntax.tnil))),
+) (List._∷_ (
+  30,
+  Relend.msptr (Referent.rtF (Referent.fInt
+      Syntax.w8)) (Syntax.tyRef Syntax.erased Syntax.mut (Syntax.tyInt Syntax.w8)) 7,
+) (List._∷_ (
+  31,
+  Rows.any-gone (Syntax.tyStruct (List._∷_ 38 (List._∷_ 91 (List._∷_ 93 List.[]))) (Syntax.tcons
+      (Syntax.tyRef Syntax.erased Syntax.mut (Syntax.tyInt Syntax.w8)) (Syntax.tcons (Syntax.tyInt Syntax.w64) Syntax.tnil))),
+) List.[])))))))))))))))
 
 abbrev pub t34 : List.List Row.Entry
 t34 = List._∷_ (16, Rows.sc-here (Row.sInt Syntax.w64)) (List._∷_ (17, Rows.whole (Declared.row Plan.the-type)) (List._∷_ (18, Rows.whole (Declared.row Set.the-type)) (List._∷_ (
@@ -1978,34 +1997,36 @@ t34 = List._∷_ (16, Rows.sc-here (Row.sInt Syntax.w64)) (List._∷_ (17, Rows.
       (Syntax.tyStruct (List._∷_ 119 (List._∷_ 114 (List._∷_ 105 (List._∷_ 116 (List._∷_ 105 (List._∷_ 110 (List._∷_ 103 (List._∷_ 58 (List._∷_ 58 (List._∷_ 80 (List._∷_ 97 (List._∷_ 115 (List._∷_ 115
       (List._∷_ 80 (List._∷_ 117 (List._∷_ 116 List.[])))))))))))))))) (Syntax.tcons Syntax.tyBool (Syntax.tcons (Syntax.tyInt Syntax.w64) (Syntax.tcons (Syntax.tyStruct (List._∷_ 98 (List._∷_ 105 (List._∷_
       116 (List._∷_ 115 (List._∷_ 58 (List._∷_ 58 (List._∷_ 66 (List._∷_ 105 (List._∷_ 116 (List._∷_ 80 (List._∷_ 111 (List._∷_ 115 (List._∷_ 105 (List._∷_ 116 (List._∷_ 105 (List._∷_ 111 (List._∷_ 110
-      List.[]))))))))))))))))) (Syntax.tcons (Syntax.tyInt Syntax.w64) Syntax.tnil)) (Syntax.tcons (Syntax.tyStruct (List._∷_ 112 (List._∷_ 97 (List._∷_ 115 (List._∷_ 115 (List._∷_ 58 (List._∷_ 58 (List._∷_
-      83 (List._∷_ 101 (List._∷_ 116 List.[]))))))))) (Syntax.tcons (Syntax.tyArray (Syntax.tyInt Syntax.w32) 112) (Syntax.tcons (Syntax.tyArray (Syntax.tyInt Syntax.w32) 112) Syntax.tnil)))
-      Syntax.tnil))))),
+      List.[]))))))))))))))))) (Syntax.tcons (Syntax.tyInt Syntax.w64) Syntax.tnil)) (Syntax.tcons (Syntax.tyStruct (List._∷_ 115 (List._∷_ 116 (List._∷_ 101 (List._∷_ 112 (List._∷_ 115 (List._∷_ 58
+      (List._∷_ 58 (List._∷_ 83 (List._∷_ 101 (List._∷_ 116 List.[])))))))))) (Syntax.tcons (Syntax.tyArray (Syntax.tyInt Syntax.w32) 112) (Syntax.tcons (Syntax.tyArray (Syntax.tyInt Syntax.w32) 112)
+      Syntax.tnil))) Syntax.tnil))))),
 ) (List._∷_ (20, Rows.any-gone Syntax.tyBool) (List._∷_ (
   21,
-  Rows.any-gone (Syntax.tyStruct (List._∷_ 112 (List._∷_ 97 (List._∷_ 115 (List._∷_ 115 (List._∷_ 58 (List._∷_ 58
-      (List._∷_ 83 (List._∷_ 101 (List._∷_ 116 List.[]))))))))) (Syntax.tcons (Syntax.tyArray (Syntax.tyInt Syntax.w32) 112) (Syntax.tcons (Syntax.tyArray (Syntax.tyInt Syntax.w32) 112) Syntax.tnil))),
-)
-    (List._∷_ (22, Rows.any-gone Syntax.tyBool) (List._∷_ (23, Rows.any-gone Syntax.tyUnit) (List._∷_ (24, Rows.any-gone (Syntax.tyRef Syntax.erased Syntax.mut (Syntax.tyInt Syntax.w16))) (List._∷_ (
-      25,
-      Rows.any-gone (Syntax.tyStruct (List._∷_ 38 (List._∷_ 91 (List._∷_ 93 List.[]))) (Syntax.tcons (Syntax.tyRef Syntax.erased Syntax.mut (Syntax.tyInt Syntax.w16)) (Syntax.tcons (Syntax.tyInt
-          Syntax.w64) Syntax.tnil))),
-    ) (List._∷_ (26, Rows.any-gone (Syntax.tyRef Syntax.erased Syntax.mut (Syntax.tyInt Syntax.w16))) (List._∷_ (
-      27,
-      Rows.any-gone (Syntax.tyStruct (List._∷_ 38 (List._∷_
-          91 (List._∷_ 93 List.[]))) (Syntax.tcons (Syntax.tyRef Syntax.erased Syntax.mut (Syntax.tyInt Syntax.w16)) (Syntax.tcons (Syntax.tyInt Syntax.w64) Syntax.tnil))),
-    ) (List._∷_ (
-      28,
-      Rows.any-gone
-          (Syntax.tyRef Syntax.erased Syntax.mut Element.behind),
-    ) (List._∷_ (
-      29,
-      Rows.any-gone (Syntax.tyStruct (List._∷_ 38 (List._∷_ 91 (List._∷_ 93 List.[]))) (Syntax.tcons (Syntax.tyRef Syntax.erased
-          Syntax.mut Element.behind) (Syntax.tcons (Syntax.tyInt Syntax.w64) Syntax.tnil))),
-    ) (List._∷_ (30, Rows.any-gone (Syntax.tyRef Syntax.erased Syntax.mut (Syntax.tyInt Syntax.w8))) (List._∷_ (
-      31,
-      Mut.mslice (Referent.rtF (Referent.fInt Syntax.w8)) (Syntax.tyRef Syntax.erased Syntax.mut (Syntax.tyInt Syntax.w8)) 7,
-    ) List.[])))))))))))))))
+  Rows.any-gone (Syntax.tyStruct (List._∷_ 115 (List._∷_ 116 (List._∷_ 101 (List._∷_ 112 (List._∷_ 115
+      (List._∷_ 58 (List._∷_ 58 (List._∷_ 83 (List._∷_ 101 (List._∷_ 116 List.[])))))))))) (Syntax.tcons (Syntax.tyArray (Syntax.tyInt Syntax.w32) 112) (Syntax.tcons (Syntax.tyArray (Syntax.tyInt
+      Syntax.w32) 112) Syntax.tnil))),
+) (List._∷_ (22, Rows.any-gone Syntax.tyBool) (List._∷_ (23, Rows.any-gone Syntax.tyUnit) (List._∷_ (
+  24,
+  Rows.any-gone (Syntax.tyRef Syntax.erased Syntax.mut
+      (Syntax.tyInt Syntax.w16)),
+) (List._∷_ (
+  25,
+  Rows.any-gone (Syntax.tyStruct (List._∷_ 38 (List._∷_ 91 (List._∷_ 93 List.[]))) (Syntax.tcons (Syntax.tyRef Syntax.erased Syntax.mut (Syntax.tyInt
+      Syntax.w16)) (Syntax.tcons (Syntax.tyInt Syntax.w64) Syntax.tnil))),
+) (List._∷_ (26, Rows.any-gone (Syntax.tyRef Syntax.erased Syntax.mut (Syntax.tyInt Syntax.w16))) (List._∷_ (
+  27,
+  Rows.any-gone
+      (Syntax.tyStruct (List._∷_ 38 (List._∷_ 91 (List._∷_ 93 List.[]))) (Syntax.tcons (Syntax.tyRef Syntax.erased Syntax.mut (Syntax.tyInt Syntax.w16)) (Syntax.tcons (Syntax.tyInt Syntax.w64)
+      Syntax.tnil))),
+) (List._∷_ (28, Rows.any-gone (Syntax.tyRef Syntax.erased Syntax.mut Element.behind)) (List._∷_ (
+  29,
+  Rows.any-gone (Syntax.tyStruct (List._∷_ 38 (List._∷_ 91 (List._∷_ 93
+      List.[]))) (Syntax.tcons (Syntax.tyRef Syntax.erased Syntax.mut Element.behind) (Syntax.tcons (Syntax.tyInt Syntax.w64) Syntax.tnil))),
+) (List._∷_ (
+  30,
+  Rows.any-gone (Syntax.tyRef Syntax.erased
+      Syntax.mut (Syntax.tyInt Syntax.w8)),
+) (List._∷_ (31, Mut.mslice (Referent.rtF (Referent.fInt Syntax.w8)) (Syntax.tyRef Syntax.erased Syntax.mut (Syntax.tyInt Syntax.w8)) 7) List.[])))))))))))))))
 
 abbrev pub t35 : List.List Row.Entry
 t35 = List._∷_ (
@@ -2079,17 +2100,17 @@ t38 = List._∷_ (16, Rows.sc-here (Row.sInt Syntax.w64)) (List._∷_ (17, Rows.
       (Declared.row PassPut.the-type),
 ) (List._∷_ (20, Rows.any-gone Syntax.tyBool) (List._∷_ (
   21,
-  Rows.any-gone (Syntax.tyStruct (List._∷_ 112 (List._∷_ 97 (List._∷_ 115 (List._∷_ 115 (List._∷_ 58
-      (List._∷_ 58 (List._∷_ 83 (List._∷_ 101 (List._∷_ 116 List.[]))))))))) (Syntax.tcons (Syntax.tyArray (Syntax.tyInt Syntax.w32) 112) (Syntax.tcons (Syntax.tyArray (Syntax.tyInt Syntax.w32) 112)
-      Syntax.tnil))),
+  Rows.any-gone (Syntax.tyStruct (List._∷_ 115 (List._∷_ 116 (List._∷_ 101 (List._∷_ 112 (List._∷_ 115
+      (List._∷_ 58 (List._∷_ 58 (List._∷_ 83 (List._∷_ 101 (List._∷_ 116 List.[])))))))))) (Syntax.tcons (Syntax.tyArray (Syntax.tyInt Syntax.w32) 112) (Syntax.tcons (Syntax.tyArray (Syntax.tyInt
+      Syntax.w32) 112) Syntax.tnil))),
 ) (List._∷_ (22, Rows.any-gone Syntax.tyBool) (List._∷_ (23, Rows.any-gone Syntax.tyUnit) (List._∷_ (
   24,
-  Rows.any-gone (Syntax.tyRef Syntax.erased Syntax.mut (Syntax.tyInt
-      Syntax.w16)),
+  Rows.any-gone (Syntax.tyRef Syntax.erased Syntax.mut
+      (Syntax.tyInt Syntax.w16)),
 ) (List._∷_ (
   25,
-  Rows.any-gone (Syntax.tyStruct (List._∷_ 38 (List._∷_ 91 (List._∷_ 93 List.[]))) (Syntax.tcons (Syntax.tyRef Syntax.erased Syntax.mut (Syntax.tyInt Syntax.w16))
-      (Syntax.tcons (Syntax.tyInt Syntax.w64) Syntax.tnil))),
+  Rows.any-gone (Syntax.tyStruct (List._∷_ 38 (List._∷_ 91 (List._∷_ 93 List.[]))) (Syntax.tcons (Syntax.tyRef Syntax.erased Syntax.mut (Syntax.tyInt
+      Syntax.w16)) (Syntax.tcons (Syntax.tyInt Syntax.w64) Syntax.tnil))),
 ) (List._∷_ (26, Rows.any-gone (Syntax.tyRef Syntax.erased Syntax.mut (Syntax.tyInt Syntax.w16))) (List._∷_ (
   27,
   Rows.any-gone
@@ -2119,39 +2140,39 @@ t39 = List._∷_ (32, Rows.any-gone (Syntax.tyRef Syntax.erased Syntax.mut (Synt
 abbrev pub t40 : List.List Row.Entry
 t40 = List._∷_ (16, Rows.sc-here (Row.sInt Syntax.w64)) (List._∷_ (17, Rows.whole (Declared.row Plan.the-type)) (List._∷_ (
   18,
-  Rows.any-gone (Syntax.tyStruct (List._∷_ 112 (List._∷_ 97 (List._∷_
-      115 (List._∷_ 115 (List._∷_ 58 (List._∷_ 58 (List._∷_ 83 (List._∷_ 101 (List._∷_ 116 List.[]))))))))) (Syntax.tcons (Syntax.tyArray (Syntax.tyInt Syntax.w32) 112) (Syntax.tcons (Syntax.tyArray
-      (Syntax.tyInt Syntax.w32) 112) Syntax.tnil))),
+  Rows.any-gone (Syntax.tyStruct (List._∷_ 115 (List._∷_ 116 (List._∷_
+      101 (List._∷_ 112 (List._∷_ 115 (List._∷_ 58 (List._∷_ 58 (List._∷_ 83 (List._∷_ 101 (List._∷_ 116 List.[])))))))))) (Syntax.tcons (Syntax.tyArray (Syntax.tyInt Syntax.w32) 112) (Syntax.tcons
+      (Syntax.tyArray (Syntax.tyInt Syntax.w32) 112) Syntax.tnil))),
 ) (List._∷_ (19, Rows.whole (Declared.row PassPut.the-type)) (List._∷_ (20, Rows.any-gone Syntax.tyBool) (List._∷_ (
   21,
   Rows.any-gone
-      (Syntax.tyStruct (List._∷_ 112 (List._∷_ 97 (List._∷_ 115 (List._∷_ 115 (List._∷_ 58 (List._∷_ 58 (List._∷_ 83 (List._∷_ 101 (List._∷_ 116 List.[]))))))))) (Syntax.tcons (Syntax.tyArray (Syntax.tyInt
-      Syntax.w32) 112) (Syntax.tcons (Syntax.tyArray (Syntax.tyInt Syntax.w32) 112) Syntax.tnil))),
-) (List._∷_ (22, Rows.any-gone Syntax.tyBool) (List._∷_ (23, Rows.any-gone Syntax.tyUnit) (List._∷_ (
-  24,
-  Rows.any-gone (Syntax.tyRef Syntax.erased Syntax.mut (Syntax.tyInt Syntax.w16)),
-) (List._∷_ (
+      (Syntax.tyStruct (List._∷_ 115 (List._∷_ 116 (List._∷_ 101 (List._∷_ 112 (List._∷_ 115 (List._∷_ 58 (List._∷_ 58 (List._∷_ 83 (List._∷_ 101 (List._∷_ 116 List.[])))))))))) (Syntax.tcons
+      (Syntax.tyArray (Syntax.tyInt Syntax.w32) 112) (Syntax.tcons (Syntax.tyArray (Syntax.tyInt Syntax.w32) 112) Syntax.tnil))),
+) (List._∷_ (22, Rows.any-gone Syntax.tyBool) (List._∷_ (
+  23,
+  Rows.any-gone
+      Syntax.tyUnit,
+) (List._∷_ (24, Rows.any-gone (Syntax.tyRef Syntax.erased Syntax.mut (Syntax.tyInt Syntax.w16))) (List._∷_ (
   25,
-  Rows.any-gone (Syntax.tyStruct (List._∷_ 38 (List._∷_ 91 (List._∷_ 93 List.[]))) (Syntax.tcons
-      (Syntax.tyRef Syntax.erased Syntax.mut (Syntax.tyInt Syntax.w16)) (Syntax.tcons (Syntax.tyInt Syntax.w64) Syntax.tnil))),
+  Rows.any-gone (Syntax.tyStruct (List._∷_ 38 (List._∷_ 91 (List._∷_ 93
+      List.[]))) (Syntax.tcons (Syntax.tyRef Syntax.erased Syntax.mut (Syntax.tyInt Syntax.w16)) (Syntax.tcons (Syntax.tyInt Syntax.w64) Syntax.tnil))),
 ) (List._∷_ (
   26,
-  Rows.any-gone (Syntax.tyRef Syntax.erased Syntax.mut
-      (Syntax.tyInt Syntax.w16)),
+  Rows.any-gone (Syntax.tyRef
+      Syntax.erased Syntax.mut (Syntax.tyInt Syntax.w16)),
 ) (List._∷_ (
   27,
-  Rows.any-gone (Syntax.tyStruct (List._∷_ 38 (List._∷_ 91 (List._∷_ 93 List.[]))) (Syntax.tcons (Syntax.tyRef Syntax.erased Syntax.mut (Syntax.tyInt
-      Syntax.w16)) (Syntax.tcons (Syntax.tyInt Syntax.w64) Syntax.tnil))),
+  Rows.any-gone (Syntax.tyStruct (List._∷_ 38 (List._∷_ 91 (List._∷_ 93 List.[]))) (Syntax.tcons (Syntax.tyRef Syntax.erased
+      Syntax.mut (Syntax.tyInt Syntax.w16)) (Syntax.tcons (Syntax.tyInt Syntax.w64) Syntax.tnil))),
 ) (List._∷_ (28, Rows.any-gone (Syntax.tyRef Syntax.erased Syntax.mut Element.behind)) (List._∷_ (
   29,
-  Rows.any-gone
-      (Syntax.tyStruct (List._∷_ 38 (List._∷_ 91 (List._∷_ 93 List.[]))) (Syntax.tcons (Syntax.tyRef Syntax.erased Syntax.mut Element.behind) (Syntax.tcons (Syntax.tyInt Syntax.w64) Syntax.tnil))),
-)
-    (List._∷_ (30, Rows.any-gone (Syntax.tyRef Syntax.erased Syntax.mut (Syntax.tyInt Syntax.w8))) (List._∷_ (
-      31,
-      Mut.msleft (Referent.rtF (Referent.fInt Syntax.w8)) (Syntax.tyRef Syntax.erased
-          Syntax.mut (Syntax.tyInt Syntax.w8)),
-    ) List.[])))))))))))))))
+  Rows.any-gone (Syntax.tyStruct (List._∷_ 38 (List._∷_ 91 (List._∷_ 93 List.[]))) (Syntax.tcons (Syntax.tyRef Syntax.erased Syntax.mut Element.behind) (Syntax.tcons (Syntax.tyInt Syntax.w64)
+      Syntax.tnil))),
+) (List._∷_ (30, Rows.any-gone (Syntax.tyRef Syntax.erased Syntax.mut (Syntax.tyInt Syntax.w8))) (List._∷_ (
+  31,
+  Mut.msleft (Referent.rtF (Referent.fInt Syntax.w8)) (Syntax.tyRef
+      Syntax.erased Syntax.mut (Syntax.tyInt Syntax.w8)),
+) List.[])))))))))))))))
 
 abbrev pub t41 : List.List Row.Entry
 t41 = List._∷_ (
@@ -2196,118 +2217,112 @@ t41 = List._∷_ (
 abbrev pub t42 : List.List Row.Entry
 t42 = List._∷_ (16, Rows.sc-here (Row.sInt Syntax.w64)) (List._∷_ (17, Rows.whole (Declared.row Plan.the-type)) (List._∷_ (
   18,
-  Rows.any-gone (Syntax.tyStruct (List._∷_ 112 (List._∷_ 97 (List._∷_
-      115 (List._∷_ 115 (List._∷_ 58 (List._∷_ 58 (List._∷_ 83 (List._∷_ 101 (List._∷_ 116 List.[]))))))))) (Syntax.tcons (Syntax.tyArray (Syntax.tyInt Syntax.w32) 112) (Syntax.tcons (Syntax.tyArray
-      (Syntax.tyInt Syntax.w32) 112) Syntax.tnil))),
+  Rows.any-gone (Syntax.tyStruct (List._∷_ 115 (List._∷_ 116 (List._∷_
+      101 (List._∷_ 112 (List._∷_ 115 (List._∷_ 58 (List._∷_ 58 (List._∷_ 83 (List._∷_ 101 (List._∷_ 116 List.[])))))))))) (Syntax.tcons (Syntax.tyArray (Syntax.tyInt Syntax.w32) 112) (Syntax.tcons
+      (Syntax.tyArray (Syntax.tyInt Syntax.w32) 112) Syntax.tnil))),
 ) (List._∷_ (19, Rows.whole (Declared.row PassPut.the-type)) (List._∷_ (20, Rows.any-gone Syntax.tyBool) (List._∷_ (
   21,
   Rows.any-gone
-      (Syntax.tyStruct (List._∷_ 112 (List._∷_ 97 (List._∷_ 115 (List._∷_ 115 (List._∷_ 58 (List._∷_ 58 (List._∷_ 83 (List._∷_ 101 (List._∷_ 116 List.[]))))))))) (Syntax.tcons (Syntax.tyArray (Syntax.tyInt
-      Syntax.w32) 112) (Syntax.tcons (Syntax.tyArray (Syntax.tyInt Syntax.w32) 112) Syntax.tnil))),
-) (List._∷_ (22, Rows.any-gone Syntax.tyBool) (List._∷_ (23, Rows.any-gone Syntax.tyUnit) (List._∷_ (
-  24,
-  Rows.any-gone (Syntax.tyRef Syntax.erased Syntax.mut (Syntax.tyInt Syntax.w16)),
-) (List._∷_ (
+      (Syntax.tyStruct (List._∷_ 115 (List._∷_ 116 (List._∷_ 101 (List._∷_ 112 (List._∷_ 115 (List._∷_ 58 (List._∷_ 58 (List._∷_ 83 (List._∷_ 101 (List._∷_ 116 List.[])))))))))) (Syntax.tcons
+      (Syntax.tyArray (Syntax.tyInt Syntax.w32) 112) (Syntax.tcons (Syntax.tyArray (Syntax.tyInt Syntax.w32) 112) Syntax.tnil))),
+) (List._∷_ (22, Rows.any-gone Syntax.tyBool) (List._∷_ (
+  23,
+  Rows.any-gone
+      Syntax.tyUnit,
+) (List._∷_ (24, Rows.any-gone (Syntax.tyRef Syntax.erased Syntax.mut (Syntax.tyInt Syntax.w16))) (List._∷_ (
   25,
-  Rows.any-gone (Syntax.tyStruct (List._∷_ 38 (List._∷_ 91 (List._∷_ 93 List.[]))) (Syntax.tcons
-      (Syntax.tyRef Syntax.erased Syntax.mut (Syntax.tyInt Syntax.w16)) (Syntax.tcons (Syntax.tyInt Syntax.w64) Syntax.tnil))),
+  Rows.any-gone (Syntax.tyStruct (List._∷_ 38 (List._∷_ 91 (List._∷_ 93
+      List.[]))) (Syntax.tcons (Syntax.tyRef Syntax.erased Syntax.mut (Syntax.tyInt Syntax.w16)) (Syntax.tcons (Syntax.tyInt Syntax.w64) Syntax.tnil))),
 ) (List._∷_ (
   26,
-  Rows.any-gone (Syntax.tyRef Syntax.erased Syntax.mut
-      (Syntax.tyInt Syntax.w16)),
+  Rows.any-gone (Syntax.tyRef
+      Syntax.erased Syntax.mut (Syntax.tyInt Syntax.w16)),
 ) (List._∷_ (
   27,
-  Rows.any-gone (Syntax.tyStruct (List._∷_ 38 (List._∷_ 91 (List._∷_ 93 List.[]))) (Syntax.tcons (Syntax.tyRef Syntax.erased Syntax.mut (Syntax.tyInt
-      Syntax.w16)) (Syntax.tcons (Syntax.tyInt Syntax.w64) Syntax.tnil))),
+  Rows.any-gone (Syntax.tyStruct (List._∷_ 38 (List._∷_ 91 (List._∷_ 93 List.[]))) (Syntax.tcons (Syntax.tyRef Syntax.erased
+      Syntax.mut (Syntax.tyInt Syntax.w16)) (Syntax.tcons (Syntax.tyInt Syntax.w64) Syntax.tnil))),
 ) (List._∷_ (28, Rows.any-gone (Syntax.tyRef Syntax.erased Syntax.mut Element.behind)) (List._∷_ (
   29,
-  Rows.any-gone
-      (Syntax.tyStruct (List._∷_ 38 (List._∷_ 91 (List._∷_ 93 List.[]))) (Syntax.tcons (Syntax.tyRef Syntax.erased Syntax.mut Element.behind) (Syntax.tcons (Syntax.tyInt Syntax.w64) Syntax.tnil))),
-)
-    (List._∷_ (30, Rows.any-gone (Syntax.tyRef Syntax.erased Syntax.mut (Syntax.tyInt Syntax.w8))) (List._∷_ (
-      31,
-      Rows.any-gone (Syntax.tyStruct (List._∷_ 38 (List._∷_ 91 (List._∷_ 93 List.[])))
-          (Syntax.tcons (Syntax.tyRef Syntax.erased Syntax.mut (Syntax.tyInt Syntax.w8)) (Syntax.tcons (Syntax.tyInt Syntax.w64) Syntax.tnil))),
-    ) List.[])))))))))))))))
+  Rows.any-gone (Syntax.tyStruct (List._∷_ 38 (List._∷_ 91 (List._∷_ 93 List.[]))) (Syntax.tcons (Syntax.tyRef Syntax.erased Syntax.mut Element.behind) (Syntax.tcons (Syntax.tyInt Syntax.w64)
+      Syntax.tnil))),
+) (List._∷_ (30, Rows.any-gone (Syntax.tyRef Syntax.erased Syntax.mut (Syntax.tyInt Syntax.w8))) (List._∷_ (
+  31,
+  Rows.any-gone (Syntax.tyStruct (List._∷_ 38 (List._∷_ 91 (List._∷_
+      93 List.[]))) (Syntax.tcons (Syntax.tyRef Syntax.erased Syntax.mut (Syntax.tyInt Syntax.w8)) (Syntax.tcons (Syntax.tyInt Syntax.w64) Syntax.tnil))),
+) List.[])))))))))))))))
 
 abbrev pub t43 : List.List Row.Entry
 t43 = List._∷_ (16, Rows.sc-here (Row.sInt Syntax.w64)) (List._∷_ (17, Rows.whole (Declared.row Plan.the-type)) (List._∷_ (
   18,
-  Rows.any-gone (Syntax.tyStruct (List._∷_ 112 (List._∷_ 97 (List._∷_
-      115 (List._∷_ 115 (List._∷_ 58 (List._∷_ 58 (List._∷_ 83 (List._∷_ 101 (List._∷_ 116 List.[]))))))))) (Syntax.tcons (Syntax.tyArray (Syntax.tyInt Syntax.w32) 112) (Syntax.tcons (Syntax.tyArray
-      (Syntax.tyInt Syntax.w32) 112) Syntax.tnil))),
+  Rows.any-gone (Syntax.tyStruct (List._∷_ 115 (List._∷_ 116 (List._∷_
+      101 (List._∷_ 112 (List._∷_ 115 (List._∷_ 58 (List._∷_ 58 (List._∷_ 83 (List._∷_ 101 (List._∷_ 116 List.[])))))))))) (Syntax.tcons (Syntax.tyArray (Syntax.tyInt Syntax.w32) 112) (Syntax.tcons
+      (Syntax.tyArray (Syntax.tyInt Syntax.w32) 112) Syntax.tnil))),
 ) (List._∷_ (19, Rows.whole (Declared.row PassPut.the-type)) (List._∷_ (20, Rows.sc-here Row.sBool) (List._∷_ (
   21,
-  Rows.any-gone (Syntax.tyStruct
-      (List._∷_ 112 (List._∷_ 97 (List._∷_ 115 (List._∷_ 115 (List._∷_ 58 (List._∷_ 58 (List._∷_ 83 (List._∷_ 101 (List._∷_ 116 List.[]))))))))) (Syntax.tcons (Syntax.tyArray (Syntax.tyInt Syntax.w32) 112)
-      (Syntax.tcons (Syntax.tyArray (Syntax.tyInt Syntax.w32) 112) Syntax.tnil))),
-) (List._∷_ (22, Rows.any-gone Syntax.tyBool) (List._∷_ (23, Rows.any-gone Syntax.tyUnit) (List._∷_ (
-  24,
   Rows.any-gone
-      (Syntax.tyRef Syntax.erased Syntax.mut (Syntax.tyInt Syntax.w16)),
-) (List._∷_ (
+      (Syntax.tyStruct (List._∷_ 115 (List._∷_ 116 (List._∷_ 101 (List._∷_ 112 (List._∷_ 115 (List._∷_ 58 (List._∷_ 58 (List._∷_ 83 (List._∷_ 101 (List._∷_ 116 List.[])))))))))) (Syntax.tcons
+      (Syntax.tyArray (Syntax.tyInt Syntax.w32) 112) (Syntax.tcons (Syntax.tyArray (Syntax.tyInt Syntax.w32) 112) Syntax.tnil))),
+) (List._∷_ (22, Rows.any-gone Syntax.tyBool) (List._∷_ (
+  23,
+  Rows.any-gone
+      Syntax.tyUnit,
+) (List._∷_ (24, Rows.any-gone (Syntax.tyRef Syntax.erased Syntax.mut (Syntax.tyInt Syntax.w16))) (List._∷_ (
   25,
-  Rows.any-gone (Syntax.tyStruct (List._∷_ 38 (List._∷_ 91 (List._∷_ 93 List.[]))) (Syntax.tcons (Syntax.tyRef
-      Syntax.erased Syntax.mut (Syntax.tyInt Syntax.w16)) (Syntax.tcons (Syntax.tyInt Syntax.w64) Syntax.tnil))),
+  Rows.any-gone (Syntax.tyStruct (List._∷_ 38 (List._∷_ 91 (List._∷_ 93
+      List.[]))) (Syntax.tcons (Syntax.tyRef Syntax.erased Syntax.mut (Syntax.tyInt Syntax.w16)) (Syntax.tcons (Syntax.tyInt Syntax.w64) Syntax.tnil))),
 ) (List._∷_ (
   26,
-  Rows.any-gone (Syntax.tyRef Syntax.erased Syntax.mut (Syntax.tyInt
-      Syntax.w16)),
+  Rows.any-gone (Syntax.tyRef
+      Syntax.erased Syntax.mut (Syntax.tyInt Syntax.w16)),
 ) (List._∷_ (
   27,
-  Rows.any-gone (Syntax.tyStruct (List._∷_ 38 (List._∷_ 91 (List._∷_ 93 List.[]))) (Syntax.tcons (Syntax.tyRef Syntax.erased Syntax.mut (Syntax.tyInt Syntax.w16))
-      (Syntax.tcons (Syntax.tyInt Syntax.w64) Syntax.tnil))),
+  Rows.any-gone (Syntax.tyStruct (List._∷_ 38 (List._∷_ 91 (List._∷_ 93 List.[]))) (Syntax.tcons (Syntax.tyRef Syntax.erased
+      Syntax.mut (Syntax.tyInt Syntax.w16)) (Syntax.tcons (Syntax.tyInt Syntax.w64) Syntax.tnil))),
 ) (List._∷_ (28, Rows.any-gone (Syntax.tyRef Syntax.erased Syntax.mut Element.behind)) (List._∷_ (
   29,
-  Rows.any-gone (Syntax.tyStruct
-      (List._∷_ 38 (List._∷_ 91 (List._∷_ 93 List.[]))) (Syntax.tcons (Syntax.tyRef Syntax.erased Syntax.mut Element.behind) (Syntax.tcons (Syntax.tyInt Syntax.w64) Syntax.tnil))),
-) (List._∷_ (
-  30,
-  Rows.any-gone (Syntax.tyRef Syntax.erased Syntax.mut (Syntax.tyInt Syntax.w8)),
-) (List._∷_ (
+  Rows.any-gone (Syntax.tyStruct (List._∷_ 38 (List._∷_ 91 (List._∷_ 93 List.[]))) (Syntax.tcons (Syntax.tyRef Syntax.erased Syntax.mut Element.behind) (Syntax.tcons (Syntax.tyInt Syntax.w64)
+      Syntax.tnil))),
+) (List._∷_ (30, Rows.any-gone (Syntax.tyRef Syntax.erased Syntax.mut (Syntax.tyInt Syntax.w8))) (List._∷_ (
   31,
-  Rows.any-gone (Syntax.tyStruct (List._∷_ 38 (List._∷_ 91 (List._∷_ 93 List.[]))) (Syntax.tcons
-      (Syntax.tyRef Syntax.erased Syntax.mut (Syntax.tyInt Syntax.w8)) (Syntax.tcons (Syntax.tyInt Syntax.w64) Syntax.tnil))),
+  Rows.any-gone (Syntax.tyStruct (List._∷_ 38 (List._∷_ 91 (List._∷_
+      93 List.[]))) (Syntax.tcons (Syntax.tyRef Syntax.erased Syntax.mut (Syntax.tyInt Syntax.w8)) (Syntax.tcons (Syntax.tyInt Syntax.w64) Syntax.tnil))),
 ) List.[])))))))))))))))
 
 abbrev pub t44 : List.List Row.Entry
 t44 = List._∷_ (16, Rows.sc-here (Row.sInt Syntax.w64)) (List._∷_ (17, Rows.whole (Declared.row Plan.the-type)) (List._∷_ (
   18,
-  Rows.any-gone (Syntax.tyStruct (List._∷_ 112 (List._∷_ 97 (List._∷_
-      115 (List._∷_ 115 (List._∷_ 58 (List._∷_ 58 (List._∷_ 83 (List._∷_ 101 (List._∷_ 116 List.[]))))))))) (Syntax.tcons (Syntax.tyArray (Syntax.tyInt Syntax.w32) 112) (Syntax.tcons (Syntax.tyArray
-      (Syntax.tyInt Syntax.w32) 112) Syntax.tnil))),
+  Rows.any-gone (Syntax.tyStruct (List._∷_ 115 (List._∷_ 116 (List._∷_
+      101 (List._∷_ 112 (List._∷_ 115 (List._∷_ 58 (List._∷_ 58 (List._∷_ 83 (List._∷_ 101 (List._∷_ 116 List.[])))))))))) (Syntax.tcons (Syntax.tyArray (Syntax.tyInt Syntax.w32) 112) (Syntax.tcons
+      (Syntax.tyArray (Syntax.tyInt Syntax.w32) 112) Syntax.tnil))),
 ) (List._∷_ (19, Rows.whole (Declared.row PassPut.the-type)) (List._∷_ (20, Rows.sc-here Row.sBool) (List._∷_ (
   21,
-  Rows.any-gone (Syntax.tyStruct
-      (List._∷_ 112 (List._∷_ 97 (List._∷_ 115 (List._∷_ 115 (List._∷_ 58 (List._∷_ 58 (List._∷_ 83 (List._∷_ 101 (List._∷_ 116 List.[]))))))))) (Syntax.tcons (Syntax.tyArray (Syntax.tyInt Syntax.w32) 112)
-      (Syntax.tcons (Syntax.tyArray (Syntax.tyInt Syntax.w32) 112) Syntax.tnil))),
-) (List._∷_ (22, Rows.sc-here Row.sBool) (List._∷_ (23, Rows.any-gone Syntax.tyUnit) (List._∷_ (
-  24,
   Rows.any-gone
-      (Syntax.tyRef Syntax.erased Syntax.mut (Syntax.tyInt Syntax.w16)),
-) (List._∷_ (
+      (Syntax.tyStruct (List._∷_ 115 (List._∷_ 116 (List._∷_ 101 (List._∷_ 112 (List._∷_ 115 (List._∷_ 58 (List._∷_ 58 (List._∷_ 83 (List._∷_ 101 (List._∷_ 116 List.[])))))))))) (Syntax.tcons
+      (Syntax.tyArray (Syntax.tyInt Syntax.w32) 112) (Syntax.tcons (Syntax.tyArray (Syntax.tyInt Syntax.w32) 112) Syntax.tnil))),
+) (List._∷_ (22, Rows.sc-here Row.sBool) (List._∷_ (
+  23,
+  Rows.any-gone
+      Syntax.tyUnit,
+) (List._∷_ (24, Rows.any-gone (Syntax.tyRef Syntax.erased Syntax.mut (Syntax.tyInt Syntax.w16))) (List._∷_ (
   25,
-  Rows.any-gone (Syntax.tyStruct (List._∷_ 38 (List._∷_ 91 (List._∷_ 93 List.[]))) (Syntax.tcons (Syntax.tyRef
-      Syntax.erased Syntax.mut (Syntax.tyInt Syntax.w16)) (Syntax.tcons (Syntax.tyInt Syntax.w64) Syntax.tnil))),
+  Rows.any-gone (Syntax.tyStruct (List._∷_ 38 (List._∷_ 91 (List._∷_ 93
+      List.[]))) (Syntax.tcons (Syntax.tyRef Syntax.erased Syntax.mut (Syntax.tyInt Syntax.w16)) (Syntax.tcons (Syntax.tyInt Syntax.w64) Syntax.tnil))),
 ) (List._∷_ (
   26,
-  Rows.any-gone (Syntax.tyRef Syntax.erased Syntax.mut (Syntax.tyInt
-      Syntax.w16)),
+  Rows.any-gone (Syntax.tyRef
+      Syntax.erased Syntax.mut (Syntax.tyInt Syntax.w16)),
 ) (List._∷_ (
   27,
-  Rows.any-gone (Syntax.tyStruct (List._∷_ 38 (List._∷_ 91 (List._∷_ 93 List.[]))) (Syntax.tcons (Syntax.tyRef Syntax.erased Syntax.mut (Syntax.tyInt Syntax.w16))
-      (Syntax.tcons (Syntax.tyInt Syntax.w64) Syntax.tnil))),
+  Rows.any-gone (Syntax.tyStruct (List._∷_ 38 (List._∷_ 91 (List._∷_ 93 List.[]))) (Syntax.tcons (Syntax.tyRef Syntax.erased
+      Syntax.mut (Syntax.tyInt Syntax.w16)) (Syntax.tcons (Syntax.tyInt Syntax.w64) Syntax.tnil))),
 ) (List._∷_ (28, Rows.any-gone (Syntax.tyRef Syntax.erased Syntax.mut Element.behind)) (List._∷_ (
   29,
-  Rows.any-gone (Syntax.tyStruct
-      (List._∷_ 38 (List._∷_ 91 (List._∷_ 93 List.[]))) (Syntax.tcons (Syntax.tyRef Syntax.erased Syntax.mut Element.behind) (Syntax.tcons (Syntax.tyInt Syntax.w64) Syntax.tnil))),
-) (List._∷_ (
-  30,
-  Rows.any-gone (Syntax.tyRef Syntax.erased Syntax.mut (Syntax.tyInt Syntax.w8)),
-) (List._∷_ (
+  Rows.any-gone (Syntax.tyStruct (List._∷_ 38 (List._∷_ 91 (List._∷_ 93 List.[]))) (Syntax.tcons (Syntax.tyRef Syntax.erased Syntax.mut Element.behind) (Syntax.tcons (Syntax.tyInt Syntax.w64)
+      Syntax.tnil))),
+) (List._∷_ (30, Rows.any-gone (Syntax.tyRef Syntax.erased Syntax.mut (Syntax.tyInt Syntax.w8))) (List._∷_ (
   31,
-  Rows.any-gone (Syntax.tyStruct (List._∷_ 38 (List._∷_ 91 (List._∷_ 93 List.[]))) (Syntax.tcons
-      (Syntax.tyRef Syntax.erased Syntax.mut (Syntax.tyInt Syntax.w8)) (Syntax.tcons (Syntax.tyInt Syntax.w64) Syntax.tnil))),
+  Rows.any-gone (Syntax.tyStruct (List._∷_ 38 (List._∷_ 91 (List._∷_
+      93 List.[]))) (Syntax.tcons (Syntax.tyRef Syntax.erased Syntax.mut (Syntax.tyInt Syntax.w8)) (Syntax.tcons (Syntax.tyInt Syntax.w64) Syntax.tnil))),
 ) List.[])))))))))))))))
 
 abbrev pub t45 : List.List Row.Entry
@@ -2354,87 +2369,85 @@ t45 = List._∷_ (
 abbrev pub t46 : List.List Row.Entry
 t46 = List._∷_ (16, Rows.sc-here (Row.sInt Syntax.w64)) (List._∷_ (
   17,
-  Rows.any-gone (Syntax.tyStruct (List._∷_ 112 (List._∷_ 97 (List._∷_ 115 (List._∷_ 115 (List._∷_ 58 (List._∷_ 58 (List._∷_ 80
-      (List._∷_ 108 (List._∷_ 97 (List._∷_ 110 List.[])))))))))) (Syntax.tcons (Syntax.tyInt Syntax.w64) (Syntax.tcons (Syntax.tyInt Syntax.w64) (Syntax.tcons (Syntax.tyInt Syntax.w64) (Syntax.tcons
-      (Syntax.tyInt Syntax.w32) (Syntax.tcons (Syntax.tyInt Syntax.w32) Syntax.tnil)))))),
+  Rows.any-gone (Syntax.tyStruct (List._∷_ 115 (List._∷_ 116 (List._∷_ 101 (List._∷_ 112 (List._∷_ 115 (List._∷_ 58 (List._∷_ 58
+      (List._∷_ 80 (List._∷_ 108 (List._∷_ 97 (List._∷_ 110 List.[]))))))))))) (Syntax.tcons (Syntax.tyInt Syntax.w64) (Syntax.tcons (Syntax.tyInt Syntax.w64) (Syntax.tcons (Syntax.tyInt Syntax.w64)
+      (Syntax.tcons (Syntax.tyInt Syntax.w32) (Syntax.tcons (Syntax.tyInt Syntax.w32) Syntax.tnil)))))),
 ) (List._∷_ (
   18,
-  Rows.any-gone (Syntax.tyStruct (List._∷_ 112 (List._∷_ 97 (List._∷_ 115 (List._∷_ 115 (List._∷_
-      58 (List._∷_ 58 (List._∷_ 83 (List._∷_ 101 (List._∷_ 116 List.[]))))))))) (Syntax.tcons (Syntax.tyArray (Syntax.tyInt Syntax.w32) 112) (Syntax.tcons (Syntax.tyArray (Syntax.tyInt Syntax.w32) 112)
-      Syntax.tnil))),
+  Rows.any-gone (Syntax.tyStruct (List._∷_ 115 (List._∷_ 116 (List._∷_ 101 (List._∷_
+      112 (List._∷_ 115 (List._∷_ 58 (List._∷_ 58 (List._∷_ 83 (List._∷_ 101 (List._∷_ 116 List.[])))))))))) (Syntax.tcons (Syntax.tyArray (Syntax.tyInt Syntax.w32) 112) (Syntax.tcons (Syntax.tyArray
+      (Syntax.tyInt Syntax.w32) 112) Syntax.tnil))),
 ) (List._∷_ (19, Rows.whole (Declared.row PassPut.the-type)) (List._∷_ (20, Rows.sc-here Row.sBool) (List._∷_ (
   21,
-  Rows.any-gone (Syntax.tyStruct (List._∷_ 112 (List._∷_ 97
-      (List._∷_ 115 (List._∷_ 115 (List._∷_ 58 (List._∷_ 58 (List._∷_ 83 (List._∷_ 101 (List._∷_ 116 List.[]))))))))) (Syntax.tcons (Syntax.tyArray (Syntax.tyInt Syntax.w32) 112) (Syntax.tcons
-      (Syntax.tyArray (Syntax.tyInt Syntax.w32) 112) Syntax.tnil))),
+  Rows.any-gone (Syntax.tyStruct
+      (List._∷_ 115 (List._∷_ 116 (List._∷_ 101 (List._∷_ 112 (List._∷_ 115 (List._∷_ 58 (List._∷_ 58 (List._∷_ 83 (List._∷_ 101 (List._∷_ 116 List.[])))))))))) (Syntax.tcons (Syntax.tyArray (Syntax.tyInt
+      Syntax.w32) 112) (Syntax.tcons (Syntax.tyArray (Syntax.tyInt Syntax.w32) 112) Syntax.tnil))),
 ) (List._∷_ (22, Rows.sc-here Row.sBool) (List._∷_ (23, Rows.any-gone Syntax.tyUnit) (List._∷_ (
   24,
-  Rows.any-gone (Syntax.tyRef
-      Syntax.erased Syntax.mut (Syntax.tyInt Syntax.w16)),
+  Rows.any-gone (Syntax.tyRef Syntax.erased Syntax.mut (Syntax.tyInt Syntax.w16)),
 ) (List._∷_ (
   25,
-  Rows.any-gone (Syntax.tyStruct (List._∷_ 38 (List._∷_ 91 (List._∷_ 93 List.[]))) (Syntax.tcons (Syntax.tyRef Syntax.erased
-      Syntax.mut (Syntax.tyInt Syntax.w16)) (Syntax.tcons (Syntax.tyInt Syntax.w64) Syntax.tnil))),
-) (List._∷_ (26, Rows.any-gone (Syntax.tyRef Syntax.erased Syntax.mut (Syntax.tyInt Syntax.w16)))
-    (List._∷_ (
-      27,
-      Rows.any-gone (Syntax.tyStruct (List._∷_ 38 (List._∷_ 91 (List._∷_ 93 List.[]))) (Syntax.tcons (Syntax.tyRef Syntax.erased Syntax.mut (Syntax.tyInt Syntax.w16)) (Syntax.tcons
-          (Syntax.tyInt Syntax.w64) Syntax.tnil))),
-    ) (List._∷_ (28, Rows.any-gone (Syntax.tyRef Syntax.erased Syntax.mut Element.behind)) (List._∷_ (
-      29,
-      Rows.any-gone (Syntax.tyStruct (List._∷_ 38
-          (List._∷_ 91 (List._∷_ 93 List.[]))) (Syntax.tcons (Syntax.tyRef Syntax.erased Syntax.mut Element.behind) (Syntax.tcons (Syntax.tyInt Syntax.w64) Syntax.tnil))),
-    ) (List._∷_ (
-      30,
-      Rows.any-gone
-          (Syntax.tyRef Syntax.erased Syntax.mut (Syntax.tyInt Syntax.w8)),
-    ) (List._∷_ (
+  Rows.any-gone (Syntax.tyStruct (List._∷_ 38 (List._∷_ 91 (List._∷_ 93 List.[]))) (Syntax.tcons
+      (Syntax.tyRef Syntax.erased Syntax.mut (Syntax.tyInt Syntax.w16)) (Syntax.tcons (Syntax.tyInt Syntax.w64) Syntax.tnil))),
+) (List._∷_ (
+  26,
+  Rows.any-gone (Syntax.tyRef Syntax.erased Syntax.mut
+      (Syntax.tyInt Syntax.w16)),
+) (List._∷_ (
+  27,
+  Rows.any-gone (Syntax.tyStruct (List._∷_ 38 (List._∷_ 91 (List._∷_ 93 List.[]))) (Syntax.tcons (Syntax.tyRef Syntax.erased Syntax.mut (Syntax.tyInt
+      Syntax.w16)) (Syntax.tcons (Syntax.tyInt Syntax.w64) Syntax.tnil))),
+) (List._∷_ (28, Rows.any-gone (Syntax.tyRef Syntax.erased Syntax.mut Element.behind)) (List._∷_ (
+  29,
+  Rows.any-gone
+      (Syntax.tyStruct (List._∷_ 38 (List._∷_ 91 (List._∷_ 93 List.[]))) (Syntax.tcons (Syntax.tyRef Syntax.erased Syntax.mut Element.behind) (Syntax.tcons (Syntax.tyInt Syntax.w64) Syntax.tnil))),
+)
+    (List._∷_ (30, Rows.any-gone (Syntax.tyRef Syntax.erased Syntax.mut (Syntax.tyInt Syntax.w8))) (List._∷_ (
       31,
-      Rows.any-gone (Syntax.tyStruct (List._∷_ 38 (List._∷_ 91 (List._∷_ 93 List.[]))) (Syntax.tcons (Syntax.tyRef
-          Syntax.erased Syntax.mut (Syntax.tyInt Syntax.w8)) (Syntax.tcons (Syntax.tyInt Syntax.w64) Syntax.tnil))),
+      Rows.any-gone (Syntax.tyStruct (List._∷_ 38 (List._∷_ 91 (List._∷_ 93 List.[])))
+          (Syntax.tcons (Syntax.tyRef Syntax.erased Syntax.mut (Syntax.tyInt Syntax.w8)) (Syntax.tcons (Syntax.tyInt Syntax.w64) Syntax.tnil))),
     ) List.[])))))))))))))))
 
 abbrev pub t47 : List.List Row.Entry
 t47 = List._∷_ (16, Rows.sc-here (Row.sInt Syntax.w64)) (List._∷_ (
   17,
-  Rows.any-gone (Syntax.tyStruct (List._∷_ 112 (List._∷_ 97 (List._∷_ 115 (List._∷_ 115 (List._∷_ 58 (List._∷_ 58 (List._∷_ 80
-      (List._∷_ 108 (List._∷_ 97 (List._∷_ 110 List.[])))))))))) (Syntax.tcons (Syntax.tyInt Syntax.w64) (Syntax.tcons (Syntax.tyInt Syntax.w64) (Syntax.tcons (Syntax.tyInt Syntax.w64) (Syntax.tcons
-      (Syntax.tyInt Syntax.w32) (Syntax.tcons (Syntax.tyInt Syntax.w32) Syntax.tnil)))))),
+  Rows.any-gone (Syntax.tyStruct (List._∷_ 115 (List._∷_ 116 (List._∷_ 101 (List._∷_ 112 (List._∷_ 115 (List._∷_ 58 (List._∷_ 58
+      (List._∷_ 80 (List._∷_ 108 (List._∷_ 97 (List._∷_ 110 List.[]))))))))))) (Syntax.tcons (Syntax.tyInt Syntax.w64) (Syntax.tcons (Syntax.tyInt Syntax.w64) (Syntax.tcons (Syntax.tyInt Syntax.w64)
+      (Syntax.tcons (Syntax.tyInt Syntax.w32) (Syntax.tcons (Syntax.tyInt Syntax.w32) Syntax.tnil)))))),
 ) (List._∷_ (
   18,
-  Rows.any-gone (Syntax.tyStruct (List._∷_ 112 (List._∷_ 97 (List._∷_ 115 (List._∷_ 115 (List._∷_
-      58 (List._∷_ 58 (List._∷_ 83 (List._∷_ 101 (List._∷_ 116 List.[]))))))))) (Syntax.tcons (Syntax.tyArray (Syntax.tyInt Syntax.w32) 112) (Syntax.tcons (Syntax.tyArray (Syntax.tyInt Syntax.w32) 112)
-      Syntax.tnil))),
+  Rows.any-gone (Syntax.tyStruct (List._∷_ 115 (List._∷_ 116 (List._∷_ 101 (List._∷_
+      112 (List._∷_ 115 (List._∷_ 58 (List._∷_ 58 (List._∷_ 83 (List._∷_ 101 (List._∷_ 116 List.[])))))))))) (Syntax.tcons (Syntax.tyArray (Syntax.tyInt Syntax.w32) 112) (Syntax.tcons (Syntax.tyArray
+      (Syntax.tyInt Syntax.w32) 112) Syntax.tnil))),
 ) (List._∷_ (19, Rows.whole (Declared.row PassPut.the-type)) (List._∷_ (20, Rows.sc-here Row.sBool) (List._∷_ (
   21,
-  Rows.any-gone (Syntax.tyStruct (List._∷_ 112 (List._∷_ 97
-      (List._∷_ 115 (List._∷_ 115 (List._∷_ 58 (List._∷_ 58 (List._∷_ 83 (List._∷_ 101 (List._∷_ 116 List.[]))))))))) (Syntax.tcons (Syntax.tyArray (Syntax.tyInt Syntax.w32) 112) (Syntax.tcons
-      (Syntax.tyArray (Syntax.tyInt Syntax.w32) 112) Syntax.tnil))),
+  Rows.any-gone (Syntax.tyStruct
+      (List._∷_ 115 (List._∷_ 116 (List._∷_ 101 (List._∷_ 112 (List._∷_ 115 (List._∷_ 58 (List._∷_ 58 (List._∷_ 83 (List._∷_ 101 (List._∷_ 116 List.[])))))))))) (Syntax.tcons (Syntax.tyArray (Syntax.tyInt
+      Syntax.w32) 112) (Syntax.tcons (Syntax.tyArray (Syntax.tyInt Syntax.w32) 112) Syntax.tnil))),
 ) (List._∷_ (22, Rows.any-gone Syntax.tyBool) (List._∷_ (23, Rows.any-gone Syntax.tyUnit) (List._∷_ (
   24,
-  Rows.any-gone (Syntax.tyRef
-      Syntax.erased Syntax.mut (Syntax.tyInt Syntax.w16)),
+  Rows.any-gone (Syntax.tyRef Syntax.erased Syntax.mut (Syntax.tyInt Syntax.w16)),
 ) (List._∷_ (
   25,
-  Rows.any-gone (Syntax.tyStruct (List._∷_ 38 (List._∷_ 91 (List._∷_ 93 List.[]))) (Syntax.tcons (Syntax.tyRef Syntax.erased
-      Syntax.mut (Syntax.tyInt Syntax.w16)) (Syntax.tcons (Syntax.tyInt Syntax.w64) Syntax.tnil))),
-) (List._∷_ (26, Rows.any-gone (Syntax.tyRef Syntax.erased Syntax.mut (Syntax.tyInt Syntax.w16)))
-    (List._∷_ (
-      27,
-      Rows.any-gone (Syntax.tyStruct (List._∷_ 38 (List._∷_ 91 (List._∷_ 93 List.[]))) (Syntax.tcons (Syntax.tyRef Syntax.erased Syntax.mut (Syntax.tyInt Syntax.w16)) (Syntax.tcons
-          (Syntax.tyInt Syntax.w64) Syntax.tnil))),
-    ) (List._∷_ (28, Rows.any-gone (Syntax.tyRef Syntax.erased Syntax.mut Element.behind)) (List._∷_ (
-      29,
-      Rows.any-gone (Syntax.tyStruct (List._∷_ 38
-          (List._∷_ 91 (List._∷_ 93 List.[]))) (Syntax.tcons (Syntax.tyRef Syntax.erased Syntax.mut Element.behind) (Syntax.tcons (Syntax.tyInt Syntax.w64) Syntax.tnil))),
-    ) (List._∷_ (
-      30,
-      Rows.any-gone
-          (Syntax.tyRef Syntax.erased Syntax.mut (Syntax.tyInt Syntax.w8)),
-    ) (List._∷_ (
+  Rows.any-gone (Syntax.tyStruct (List._∷_ 38 (List._∷_ 91 (List._∷_ 93 List.[]))) (Syntax.tcons
+      (Syntax.tyRef Syntax.erased Syntax.mut (Syntax.tyInt Syntax.w16)) (Syntax.tcons (Syntax.tyInt Syntax.w64) Syntax.tnil))),
+) (List._∷_ (
+  26,
+  Rows.any-gone (Syntax.tyRef Syntax.erased Syntax.mut
+      (Syntax.tyInt Syntax.w16)),
+) (List._∷_ (
+  27,
+  Rows.any-gone (Syntax.tyStruct (List._∷_ 38 (List._∷_ 91 (List._∷_ 93 List.[]))) (Syntax.tcons (Syntax.tyRef Syntax.erased Syntax.mut (Syntax.tyInt
+      Syntax.w16)) (Syntax.tcons (Syntax.tyInt Syntax.w64) Syntax.tnil))),
+) (List._∷_ (28, Rows.any-gone (Syntax.tyRef Syntax.erased Syntax.mut Element.behind)) (List._∷_ (
+  29,
+  Rows.any-gone
+      (Syntax.tyStruct (List._∷_ 38 (List._∷_ 91 (List._∷_ 93 List.[]))) (Syntax.tcons (Syntax.tyRef Syntax.erased Syntax.mut Element.behind) (Syntax.tcons (Syntax.tyInt Syntax.w64) Syntax.tnil))),
+)
+    (List._∷_ (30, Rows.any-gone (Syntax.tyRef Syntax.erased Syntax.mut (Syntax.tyInt Syntax.w8))) (List._∷_ (
       31,
-      Rows.any-gone (Syntax.tyStruct (List._∷_ 38 (List._∷_ 91 (List._∷_ 93 List.[]))) (Syntax.tcons (Syntax.tyRef
-          Syntax.erased Syntax.mut (Syntax.tyInt Syntax.w8)) (Syntax.tcons (Syntax.tyInt Syntax.w64) Syntax.tnil))),
+      Rows.any-gone (Syntax.tyStruct (List._∷_ 38 (List._∷_ 91 (List._∷_ 93 List.[])))
+          (Syntax.tcons (Syntax.tyRef Syntax.erased Syntax.mut (Syntax.tyInt Syntax.w8)) (Syntax.tcons (Syntax.tyInt Syntax.w64) Syntax.tnil))),
     ) List.[])))))))))))))))
 
 abbrev pub t48 : List.List Row.Entry
@@ -2513,52 +2526,51 @@ t49 = List._∷_ (0, Rows.whole (Declared.row (Apart.apartT LinePut.the-type))) 
 abbrev pub t50 : List.List Row.Entry
 t50 = List._∷_ (16, Rows.sc-here (Row.sInt Syntax.w64)) (List._∷_ (
   17,
-  Rows.any-gone (Syntax.tyStruct (List._∷_ 112 (List._∷_ 97 (List._∷_ 115 (List._∷_ 115 (List._∷_ 58 (List._∷_ 58 (List._∷_ 80
-      (List._∷_ 108 (List._∷_ 97 (List._∷_ 110 List.[])))))))))) (Syntax.tcons (Syntax.tyInt Syntax.w64) (Syntax.tcons (Syntax.tyInt Syntax.w64) (Syntax.tcons (Syntax.tyInt Syntax.w64) (Syntax.tcons
-      (Syntax.tyInt Syntax.w32) (Syntax.tcons (Syntax.tyInt Syntax.w32) Syntax.tnil)))))),
+  Rows.any-gone (Syntax.tyStruct (List._∷_ 115 (List._∷_ 116 (List._∷_ 101 (List._∷_ 112 (List._∷_ 115 (List._∷_ 58 (List._∷_ 58
+      (List._∷_ 80 (List._∷_ 108 (List._∷_ 97 (List._∷_ 110 List.[]))))))))))) (Syntax.tcons (Syntax.tyInt Syntax.w64) (Syntax.tcons (Syntax.tyInt Syntax.w64) (Syntax.tcons (Syntax.tyInt Syntax.w64)
+      (Syntax.tcons (Syntax.tyInt Syntax.w32) (Syntax.tcons (Syntax.tyInt Syntax.w32) Syntax.tnil)))))),
 ) (List._∷_ (
   18,
-  Rows.any-gone (Syntax.tyStruct (List._∷_ 112 (List._∷_ 97 (List._∷_ 115 (List._∷_ 115 (List._∷_
-      58 (List._∷_ 58 (List._∷_ 83 (List._∷_ 101 (List._∷_ 116 List.[]))))))))) (Syntax.tcons (Syntax.tyArray (Syntax.tyInt Syntax.w32) 112) (Syntax.tcons (Syntax.tyArray (Syntax.tyInt Syntax.w32) 112)
-      Syntax.tnil))),
+  Rows.any-gone (Syntax.tyStruct (List._∷_ 115 (List._∷_ 116 (List._∷_ 101 (List._∷_
+      112 (List._∷_ 115 (List._∷_ 58 (List._∷_ 58 (List._∷_ 83 (List._∷_ 101 (List._∷_ 116 List.[])))))))))) (Syntax.tcons (Syntax.tyArray (Syntax.tyInt Syntax.w32) 112) (Syntax.tcons (Syntax.tyArray
+      (Syntax.tyInt Syntax.w32) 112) Syntax.tnil))),
 ) (List._∷_ (
   19,
-  Rows.any-gone (Syntax.tyStruct (List._∷_ 119 (List._∷_ 114 (List._∷_ 105 (List._∷_ 116 (List._∷_ 105 (List._∷_ 110 (List._∷_ 103 (List._∷_ 58 (List._∷_ 58 (List._∷_
-      80 (List._∷_ 97 (List._∷_ 115 (List._∷_ 115 (List._∷_ 80 (List._∷_ 117 (List._∷_ 116 List.[])))))))))))))))) (Syntax.tcons Syntax.tyBool (Syntax.tcons (Syntax.tyInt Syntax.w64) (Syntax.tcons
-      (Syntax.tyStruct (List._∷_ 98 (List._∷_ 105 (List._∷_ 116 (List._∷_ 115 (List._∷_ 58 (List._∷_ 58 (List._∷_ 66 (List._∷_ 105 (List._∷_ 116 (List._∷_ 80 (List._∷_ 111 (List._∷_ 115 (List._∷_ 105
-      (List._∷_ 116 (List._∷_ 105 (List._∷_ 111 (List._∷_ 110 List.[]))))))))))))))))) (Syntax.tcons (Syntax.tyInt Syntax.w64) Syntax.tnil)) (Syntax.tcons (Syntax.tyStruct (List._∷_ 112 (List._∷_ 97
-      (List._∷_ 115 (List._∷_ 115 (List._∷_ 58 (List._∷_ 58 (List._∷_ 83 (List._∷_ 101 (List._∷_ 116 List.[]))))))))) (Syntax.tcons (Syntax.tyArray (Syntax.tyInt Syntax.w32) 112) (Syntax.tcons
-      (Syntax.tyArray (Syntax.tyInt Syntax.w32) 112) Syntax.tnil))) Syntax.tnil))))),
+  Rows.any-gone (Syntax.tyStruct (List._∷_ 119 (List._∷_ 114 (List._∷_ 105 (List._∷_ 116 (List._∷_ 105 (List._∷_ 110 (List._∷_ 103
+      (List._∷_ 58 (List._∷_ 58 (List._∷_ 80 (List._∷_ 97 (List._∷_ 115 (List._∷_ 115 (List._∷_ 80 (List._∷_ 117 (List._∷_ 116 List.[])))))))))))))))) (Syntax.tcons Syntax.tyBool (Syntax.tcons (Syntax.tyInt
+      Syntax.w64) (Syntax.tcons (Syntax.tyStruct (List._∷_ 98 (List._∷_ 105 (List._∷_ 116 (List._∷_ 115 (List._∷_ 58 (List._∷_ 58 (List._∷_ 66 (List._∷_ 105 (List._∷_ 116 (List._∷_ 80 (List._∷_ 111
+      (List._∷_ 115 (List._∷_ 105 (List._∷_ 116 (List._∷_ 105 (List._∷_ 111 (List._∷_ 110 List.[]))))))))))))))))) (Syntax.tcons (Syntax.tyInt Syntax.w64) Syntax.tnil)) (Syntax.tcons (Syntax.tyStruct
+      (List._∷_ 115 (List._∷_ 116 (List._∷_ 101 (List._∷_ 112 (List._∷_ 115 (List._∷_ 58 (List._∷_ 58 (List._∷_ 83 (List._∷_ 101 (List._∷_ 116 List.[])))))))))) (Syntax.tcons (Syntax.tyArray (Syntax.tyInt
+      Syntax.w32) 112) (Syntax.tcons (Syntax.tyArray (Syntax.tyInt Syntax.w32) 112) Syntax.tnil))) Syntax.tnil))))),
 ) (List._∷_ (20, Rows.sc-here Row.sBool) (List._∷_ (
   21,
-  Rows.any-gone (Syntax.tyStruct (List._∷_ 112 (List._∷_ 97
-      (List._∷_ 115 (List._∷_ 115 (List._∷_ 58 (List._∷_ 58 (List._∷_ 83 (List._∷_ 101 (List._∷_ 116 List.[]))))))))) (Syntax.tcons (Syntax.tyArray (Syntax.tyInt Syntax.w32) 112) (Syntax.tcons
-      (Syntax.tyArray (Syntax.tyInt Syntax.w32) 112) Syntax.tnil))),
+  Rows.any-gone (Syntax.tyStruct
+      (List._∷_ 115 (List._∷_ 116 (List._∷_ 101 (List._∷_ 112 (List._∷_ 115 (List._∷_ 58 (List._∷_ 58 (List._∷_ 83 (List._∷_ 101 (List._∷_ 116 List.[])))))))))) (Syntax.tcons (Syntax.tyArray (Syntax.tyInt
+      Syntax.w32) 112) (Syntax.tcons (Syntax.tyArray (Syntax.tyInt Syntax.w32) 112) Syntax.tnil))),
 ) (List._∷_ (22, Rows.any-gone Syntax.tyBool) (List._∷_ (23, Rows.any-gone Syntax.tyUnit) (List._∷_ (
   24,
-  Rows.any-gone (Syntax.tyRef
-      Syntax.erased Syntax.mut (Syntax.tyInt Syntax.w16)),
+  Rows.any-gone (Syntax.tyRef Syntax.erased Syntax.mut (Syntax.tyInt Syntax.w16)),
 ) (List._∷_ (
   25,
-  Rows.any-gone (Syntax.tyStruct (List._∷_ 38 (List._∷_ 91 (List._∷_ 93 List.[]))) (Syntax.tcons (Syntax.tyRef Syntax.erased
-      Syntax.mut (Syntax.tyInt Syntax.w16)) (Syntax.tcons (Syntax.tyInt Syntax.w64) Syntax.tnil))),
-) (List._∷_ (26, Rows.any-gone (Syntax.tyRef Syntax.erased Syntax.mut (Syntax.tyInt Syntax.w16)))
-    (List._∷_ (
-      27,
-      Rows.any-gone (Syntax.tyStruct (List._∷_ 38 (List._∷_ 91 (List._∷_ 93 List.[]))) (Syntax.tcons (Syntax.tyRef Syntax.erased Syntax.mut (Syntax.tyInt Syntax.w16)) (Syntax.tcons
-          (Syntax.tyInt Syntax.w64) Syntax.tnil))),
-    ) (List._∷_ (28, Rows.any-gone (Syntax.tyRef Syntax.erased Syntax.mut Element.behind)) (List._∷_ (
-      29,
-      Rows.any-gone (Syntax.tyStruct (List._∷_ 38
-          (List._∷_ 91 (List._∷_ 93 List.[]))) (Syntax.tcons (Syntax.tyRef Syntax.erased Syntax.mut Element.behind) (Syntax.tcons (Syntax.tyInt Syntax.w64) Syntax.tnil))),
-    ) (List._∷_ (
-      30,
-      Rows.any-gone
-          (Syntax.tyRef Syntax.erased Syntax.mut (Syntax.tyInt Syntax.w8)),
-    ) (List._∷_ (
+  Rows.any-gone (Syntax.tyStruct (List._∷_ 38 (List._∷_ 91 (List._∷_ 93 List.[]))) (Syntax.tcons
+      (Syntax.tyRef Syntax.erased Syntax.mut (Syntax.tyInt Syntax.w16)) (Syntax.tcons (Syntax.tyInt Syntax.w64) Syntax.tnil))),
+) (List._∷_ (
+  26,
+  Rows.any-gone (Syntax.tyRef Syntax.erased Syntax.mut
+      (Syntax.tyInt Syntax.w16)),
+) (List._∷_ (
+  27,
+  Rows.any-gone (Syntax.tyStruct (List._∷_ 38 (List._∷_ 91 (List._∷_ 93 List.[]))) (Syntax.tcons (Syntax.tyRef Syntax.erased Syntax.mut (Syntax.tyInt
+      Syntax.w16)) (Syntax.tcons (Syntax.tyInt Syntax.w64) Syntax.tnil))),
+) (List._∷_ (28, Rows.any-gone (Syntax.tyRef Syntax.erased Syntax.mut Element.behind)) (List._∷_ (
+  29,
+  Rows.any-gone
+      (Syntax.tyStruct (List._∷_ 38 (List._∷_ 91 (List._∷_ 93 List.[]))) (Syntax.tcons (Syntax.tyRef Syntax.erased Syntax.mut Element.behind) (Syntax.tcons (Syntax.tyInt Syntax.w64) Syntax.tnil))),
+)
+    (List._∷_ (30, Rows.any-gone (Syntax.tyRef Syntax.erased Syntax.mut (Syntax.tyInt Syntax.w8))) (List._∷_ (
       31,
-      Rows.any-gone (Syntax.tyStruct (List._∷_ 38 (List._∷_ 91 (List._∷_ 93 List.[]))) (Syntax.tcons (Syntax.tyRef
-          Syntax.erased Syntax.mut (Syntax.tyInt Syntax.w8)) (Syntax.tcons (Syntax.tyInt Syntax.w64) Syntax.tnil))),
+      Rows.any-gone (Syntax.tyStruct (List._∷_ 38 (List._∷_ 91 (List._∷_ 93 List.[])))
+          (Syntax.tcons (Syntax.tyRef Syntax.erased Syntax.mut (Syntax.tyInt Syntax.w8)) (Syntax.tcons (Syntax.tyInt Syntax.w64) Syntax.tnil))),
     ) List.[])))))))))))))))
 
 abbrev pub t51 : List.List Row.Entry
@@ -2833,72 +2845,71 @@ t57 = List._∷_ (0, Rows.whole (Declared.row (Apart.apartT LinePut.the-type))) 
 abbrev pub t58 : List.List Row.Entry
 t58 = List._∷_ (16, Rows.any-gone (Syntax.tyInt Syntax.w64)) (List._∷_ (
   17,
-  Rows.any-gone (Syntax.tyStruct (List._∷_ 112 (List._∷_ 97 (List._∷_ 115 (List._∷_ 115 (List._∷_ 58 (List._∷_ 58 (List._∷_
-      80 (List._∷_ 108 (List._∷_ 97 (List._∷_ 110 List.[])))))))))) (Syntax.tcons (Syntax.tyInt Syntax.w64) (Syntax.tcons (Syntax.tyInt Syntax.w64) (Syntax.tcons (Syntax.tyInt Syntax.w64) (Syntax.tcons
-      (Syntax.tyInt Syntax.w32) (Syntax.tcons (Syntax.tyInt Syntax.w32) Syntax.tnil)))))),
+  Rows.any-gone (Syntax.tyStruct (List._∷_ 115 (List._∷_ 116 (List._∷_ 101 (List._∷_ 112 (List._∷_ 115 (List._∷_ 58 (List._∷_
+      58 (List._∷_ 80 (List._∷_ 108 (List._∷_ 97 (List._∷_ 110 List.[]))))))))))) (Syntax.tcons (Syntax.tyInt Syntax.w64) (Syntax.tcons (Syntax.tyInt Syntax.w64) (Syntax.tcons (Syntax.tyInt Syntax.w64)
+      (Syntax.tcons (Syntax.tyInt Syntax.w32) (Syntax.tcons (Syntax.tyInt Syntax.w32) Syntax.tnil)))))),
 ) (List._∷_ (
   18,
-  Rows.any-gone (Syntax.tyStruct (List._∷_ 112 (List._∷_ 97 (List._∷_ 115 (List._∷_ 115 (List._∷_
-      58 (List._∷_ 58 (List._∷_ 83 (List._∷_ 101 (List._∷_ 116 List.[]))))))))) (Syntax.tcons (Syntax.tyArray (Syntax.tyInt Syntax.w32) 112) (Syntax.tcons (Syntax.tyArray (Syntax.tyInt Syntax.w32) 112)
-      Syntax.tnil))),
+  Rows.any-gone (Syntax.tyStruct (List._∷_ 115 (List._∷_ 116 (List._∷_ 101 (List._∷_
+      112 (List._∷_ 115 (List._∷_ 58 (List._∷_ 58 (List._∷_ 83 (List._∷_ 101 (List._∷_ 116 List.[])))))))))) (Syntax.tcons (Syntax.tyArray (Syntax.tyInt Syntax.w32) 112) (Syntax.tcons (Syntax.tyArray
+      (Syntax.tyInt Syntax.w32) 112) Syntax.tnil))),
 ) (List._∷_ (
   19,
-  Rows.any-gone (Syntax.tyStruct (List._∷_ 119 (List._∷_ 114 (List._∷_ 105 (List._∷_ 116 (List._∷_ 105 (List._∷_ 110 (List._∷_ 103 (List._∷_ 58 (List._∷_ 58 (List._∷_
-      80 (List._∷_ 97 (List._∷_ 115 (List._∷_ 115 (List._∷_ 80 (List._∷_ 117 (List._∷_ 116 List.[])))))))))))))))) (Syntax.tcons Syntax.tyBool (Syntax.tcons (Syntax.tyInt Syntax.w64) (Syntax.tcons
-      (Syntax.tyStruct (List._∷_ 98 (List._∷_ 105 (List._∷_ 116 (List._∷_ 115 (List._∷_ 58 (List._∷_ 58 (List._∷_ 66 (List._∷_ 105 (List._∷_ 116 (List._∷_ 80 (List._∷_ 111 (List._∷_ 115 (List._∷_ 105
-      (List._∷_ 116 (List._∷_ 105 (List._∷_ 111 (List._∷_ 110 List.[]))))))))))))))))) (Syntax.tcons (Syntax.tyInt Syntax.w64) Syntax.tnil)) (Syntax.tcons (Syntax.tyStruct (List._∷_ 112 (List._∷_ 97
-      (List._∷_ 115 (List._∷_ 115 (List._∷_ 58 (List._∷_ 58 (List._∷_ 83 (List._∷_ 101 (List._∷_ 116 List.[]))))))))) (Syntax.tcons (Syntax.tyArray (Syntax.tyInt Syntax.w32) 112) (Syntax.tcons
-      (Syntax.tyArray (Syntax.tyInt Syntax.w32) 112) Syntax.tnil))) Syntax.tnil))))),
+  Rows.any-gone (Syntax.tyStruct (List._∷_ 119 (List._∷_ 114 (List._∷_ 105 (List._∷_ 116 (List._∷_ 105 (List._∷_ 110 (List._∷_ 103
+      (List._∷_ 58 (List._∷_ 58 (List._∷_ 80 (List._∷_ 97 (List._∷_ 115 (List._∷_ 115 (List._∷_ 80 (List._∷_ 117 (List._∷_ 116 List.[])))))))))))))))) (Syntax.tcons Syntax.tyBool (Syntax.tcons (Syntax.tyInt
+      Syntax.w64) (Syntax.tcons (Syntax.tyStruct (List._∷_ 98 (List._∷_ 105 (List._∷_ 116 (List._∷_ 115 (List._∷_ 58 (List._∷_ 58 (List._∷_ 66 (List._∷_ 105 (List._∷_ 116 (List._∷_ 80 (List._∷_ 111
+      (List._∷_ 115 (List._∷_ 105 (List._∷_ 116 (List._∷_ 105 (List._∷_ 111 (List._∷_ 110 List.[]))))))))))))))))) (Syntax.tcons (Syntax.tyInt Syntax.w64) Syntax.tnil)) (Syntax.tcons (Syntax.tyStruct
+      (List._∷_ 115 (List._∷_ 116 (List._∷_ 101 (List._∷_ 112 (List._∷_ 115 (List._∷_ 58 (List._∷_ 58 (List._∷_ 83 (List._∷_ 101 (List._∷_ 116 List.[])))))))))) (Syntax.tcons (Syntax.tyArray (Syntax.tyInt
+      Syntax.w32) 112) (Syntax.tcons (Syntax.tyArray (Syntax.tyInt Syntax.w32) 112) Syntax.tnil))) Syntax.tnil))))),
 ) (List._∷_ (20, Rows.sc-here Row.sBool) (List._∷_ (
   21,
-  Rows.any-gone (Syntax.tyStruct (List._∷_ 112 (List._∷_ 97
-      (List._∷_ 115 (List._∷_ 115 (List._∷_ 58 (List._∷_ 58 (List._∷_ 83 (List._∷_ 101 (List._∷_ 116 List.[]))))))))) (Syntax.tcons (Syntax.tyArray (Syntax.tyInt Syntax.w32) 112) (Syntax.tcons
-      (Syntax.tyArray (Syntax.tyInt Syntax.w32) 112) Syntax.tnil))),
+  Rows.any-gone (Syntax.tyStruct
+      (List._∷_ 115 (List._∷_ 116 (List._∷_ 101 (List._∷_ 112 (List._∷_ 115 (List._∷_ 58 (List._∷_ 58 (List._∷_ 83 (List._∷_ 101 (List._∷_ 116 List.[])))))))))) (Syntax.tcons (Syntax.tyArray (Syntax.tyInt
+      Syntax.w32) 112) (Syntax.tcons (Syntax.tyArray (Syntax.tyInt Syntax.w32) 112) Syntax.tnil))),
 ) (List._∷_ (22, Rows.any-gone Syntax.tyBool) (List._∷_ (23, Rows.any-gone Syntax.tyUnit) (List._∷_ (
   24,
-  Rows.any-gone (Syntax.tyRef
-      Syntax.erased Syntax.mut (Syntax.tyInt Syntax.w16)),
+  Rows.any-gone (Syntax.tyRef Syntax.erased Syntax.mut (Syntax.tyInt Syntax.w16)),
 ) (List._∷_ (
   25,
-  Rows.any-gone (Syntax.tyStruct (List._∷_ 38 (List._∷_ 91 (List._∷_ 93 List.[]))) (Syntax.tcons (Syntax.tyRef Syntax.erased
-      Syntax.mut (Syntax.tyInt Syntax.w16)) (Syntax.tcons (Syntax.tyInt Syntax.w64) Syntax.tnil))),
-) (List._∷_ (26, Rows.any-gone (Syntax.tyRef Syntax.erased Syntax.mut (Syntax.tyInt Syntax.w16)))
-    (List._∷_ (
-      27,
-      Rows.any-gone (Syntax.tyStruct (List._∷_ 38 (List._∷_ 91 (List._∷_ 93 List.[]))) (Syntax.tcons (Syntax.tyRef Syntax.erased Syntax.mut (Syntax.tyInt Syntax.w16)) (Syntax.tcons
-          (Syntax.tyInt Syntax.w64) Syntax.tnil))),
-    ) (List._∷_ (28, Rows.any-gone (Syntax.tyRef Syntax.erased Syntax.mut Element.behind)) (List._∷_ (
-      29,
-      Rows.any-gone (Syntax.tyStruct (List._∷_ 38
-          (List._∷_ 91 (List._∷_ 93 List.[]))) (Syntax.tcons (Syntax.tyRef Syntax.erased Syntax.mut Element.behind) (Syntax.tcons (Syntax.tyInt Syntax.w64) Syntax.tnil))),
-    ) (List._∷_ (
-      30,
-      Rows.any-gone
-          (Syntax.tyRef Syntax.erased Syntax.mut (Syntax.tyInt Syntax.w8)),
-    ) (List._∷_ (
+  Rows.any-gone (Syntax.tyStruct (List._∷_ 38 (List._∷_ 91 (List._∷_ 93 List.[]))) (Syntax.tcons
+      (Syntax.tyRef Syntax.erased Syntax.mut (Syntax.tyInt Syntax.w16)) (Syntax.tcons (Syntax.tyInt Syntax.w64) Syntax.tnil))),
+) (List._∷_ (
+  26,
+  Rows.any-gone (Syntax.tyRef Syntax.erased Syntax.mut
+      (Syntax.tyInt Syntax.w16)),
+) (List._∷_ (
+  27,
+  Rows.any-gone (Syntax.tyStruct (List._∷_ 38 (List._∷_ 91 (List._∷_ 93 List.[]))) (Syntax.tcons (Syntax.tyRef Syntax.erased Syntax.mut (Syntax.tyInt
+      Syntax.w16)) (Syntax.tcons (Syntax.tyInt Syntax.w64) Syntax.tnil))),
+) (List._∷_ (28, Rows.any-gone (Syntax.tyRef Syntax.erased Syntax.mut Element.behind)) (List._∷_ (
+  29,
+  Rows.any-gone
+      (Syntax.tyStruct (List._∷_ 38 (List._∷_ 91 (List._∷_ 93 List.[]))) (Syntax.tcons (Syntax.tyRef Syntax.erased Syntax.mut Element.behind) (Syntax.tcons (Syntax.tyInt Syntax.w64) Syntax.tnil))),
+)
+    (List._∷_ (30, Rows.any-gone (Syntax.tyRef Syntax.erased Syntax.mut (Syntax.tyInt Syntax.w8))) (List._∷_ (
       31,
-      Rows.any-gone (Syntax.tyStruct (List._∷_ 38 (List._∷_ 91 (List._∷_ 93 List.[]))) (Syntax.tcons (Syntax.tyRef
-          Syntax.erased Syntax.mut (Syntax.tyInt Syntax.w8)) (Syntax.tcons (Syntax.tyInt Syntax.w64) Syntax.tnil))),
+      Rows.any-gone (Syntax.tyStruct (List._∷_ 38 (List._∷_ 91 (List._∷_ 93 List.[])))
+          (Syntax.tcons (Syntax.tyRef Syntax.erased Syntax.mut (Syntax.tyInt Syntax.w8)) (Syntax.tcons (Syntax.tyInt Syntax.w64) Syntax.tnil))),
     ) List.[])))))))))))))))
 
 abbrev pub t59 : List.List Row.Entry
 t59 = List._∷_ (16, Rows.sc-here (Row.sInt Syntax.w64)) (List._∷_ (17, Rows.whole (Declared.row Plan.the-type)) (List._∷_ (
   18,
-  Rows.any-gone (Syntax.tyStruct (List._∷_ 112 (List._∷_ 97 (List._∷_
-      115 (List._∷_ 115 (List._∷_ 58 (List._∷_ 58 (List._∷_ 83 (List._∷_ 101 (List._∷_ 116 List.[]))))))))) (Syntax.tcons (Syntax.tyArray (Syntax.tyInt Syntax.w32) 112) (Syntax.tcons (Syntax.tyArray
-      (Syntax.tyInt Syntax.w32) 112) Syntax.tnil))),
+  Rows.any-gone (Syntax.tyStruct (List._∷_ 115 (List._∷_ 116 (List._∷_
+      101 (List._∷_ 112 (List._∷_ 115 (List._∷_ 58 (List._∷_ 58 (List._∷_ 83 (List._∷_ 101 (List._∷_ 116 List.[])))))))))) (Syntax.tcons (Syntax.tyArray (Syntax.tyInt Syntax.w32) 112) (Syntax.tcons
+      (Syntax.tyArray (Syntax.tyInt Syntax.w32) 112) Syntax.tnil))),
 ) (List._∷_ (19, Rows.whole (Declared.row PassPut.the-type)) (List._∷_ (20, Rows.sc-here Row.sBool) (List._∷_ (
   21,
-  Rows.whole (Declared.row
-      Set.the-type),
+  Rows.whole
+      (Declared.row Set.the-type),
 ) (List._∷_ (22, Rows.any-gone Syntax.tyBool) (List._∷_ (23, Rows.any-gone Syntax.tyUnit) (List._∷_ (
   24,
-  Rows.any-gone (Syntax.tyRef Syntax.erased Syntax.mut (Syntax.tyInt
-      Syntax.w16)),
+  Rows.any-gone (Syntax.tyRef Syntax.erased Syntax.mut
+      (Syntax.tyInt Syntax.w16)),
 ) (List._∷_ (
   25,
-  Rows.any-gone (Syntax.tyStruct (List._∷_ 38 (List._∷_ 91 (List._∷_ 93 List.[]))) (Syntax.tcons (Syntax.tyRef Syntax.erased Syntax.mut (Syntax.tyInt Syntax.w16))
-      (Syntax.tcons (Syntax.tyInt Syntax.w64) Syntax.tnil))),
+  Rows.any-gone (Syntax.tyStruct (List._∷_ 38 (List._∷_ 91 (List._∷_ 93 List.[]))) (Syntax.tcons (Syntax.tyRef Syntax.erased Syntax.mut (Syntax.tyInt
+      Syntax.w16)) (Syntax.tcons (Syntax.tyInt Syntax.w64) Syntax.tnil))),
 ) (List._∷_ (26, Rows.any-gone (Syntax.tyRef Syntax.erased Syntax.mut (Syntax.tyInt Syntax.w16))) (List._∷_ (
   27,
   Rows.any-gone
@@ -2989,8 +3000,61 @@ t62 = List._∷_ (32, Rows.any-gone (Syntax.tyRef Syntax.erased Syntax.mut (Synt
 abbrev pub t63 : List.List Row.Entry
 t63 = List._∷_ (16, Rows.sc-here (Row.sInt Syntax.w64)) (List._∷_ (17, Rows.whole (Declared.row Plan.the-type)) (List._∷_ (
   18,
-  Rows.any-gone (Syntax.tyStruct (List._∷_ 112 (List._∷_ 97 (List._∷_
-      115 (List._∷_ 115 (List._∷_ 58 (List._∷_ 58 (List._∷_ 83 (List._∷_ 101 (List._∷_ 116 List.[]))))))))) (Syntax.tcons (Syntax.tyArray (Syntax.tyInt Syntax.w32) 112) (Syntax.tcons (Syntax.tyArray
+  Rows.any-gone (Syntax.tyStruct (List._∷_ 115 (List._∷_ 116 (List._∷_
+      101 (List._∷_ 112 (List._∷_ 115 (List._∷_ 58 (List._∷_ 58 (List._∷_ 83 (List._∷_ 101 (List._∷_ 116 List.[])))))))))) (Syntax.tcons (Syntax.tyArray (Syntax.tyInt Syntax.w32) 112) (Syntax.tcons
+      (Syntax.tyArray (Syntax.tyInt Syntax.w32) 112) Syntax.tnil))),
+) (List._∷_ (19, Rows.whole (Declared.row PassPut.the-type)) (List._∷_ (20, Rows.sc-here Row.sBool) (List._∷_ (
+  21,
+  Rows.whole
+      (Declared.row Set.the-type),
+) (List._∷_ (22, Rows.any-gone Syntax.tyBool) (List._∷_ (23, Rows.sc-here Row.sUnit) (List._∷_ (
+  24,
+  Rows.any-gone (Syntax.tyRef Syntax.erased Syntax.mut (Syntax.tyInt
+      Syntax.w16)),
+) (List._∷_ (
+  25,
+  Rows.any-gone (Syntax.tyStruct (List._∷_ 38 (List._∷_ 91 (List._∷_ 93 List.[]))) (Syntax.tcons (Syntax.tyRef Syntax.erased Syntax.mut (Syntax.tyInt Syntax.w16))
+      (Syntax.tcons (Syntax.tyInt Syntax.w64) Syntax.tnil))),
+) (List._∷_ (26, Rows.any-gone (Syntax.tyRef Syntax.erased Syntax.mut (Syntax.tyInt Syntax.w16))) (List._∷_ (
+  27,
+  Rows.any-gone
+      (Syntax.tyStruct (List._∷_ 38 (List._∷_ 91 (List._∷_ 93 List.[]))) (Syntax.tcons (Syntax.tyRef Syntax.erased Syntax.mut (Syntax.tyInt Syntax.w16)) (Syntax.tcons (Syntax.tyInt Syntax.w64)
+      Syntax.tnil))),
+) (List._∷_ (28, Rows.any-gone (Syntax.tyRef Syntax.erased Syntax.mut Element.behind)) (List._∷_ (
+  29,
+  Rows.any-gone (Syntax.tyStruct (List._∷_ 38 (List._∷_ 91 (List._∷_ 93
+      List.[]))) (Syntax.tcons (Syntax.tyRef Syntax.erased Syntax.mut Element.behind) (Syntax.tcons (Syntax.tyInt Syntax.w64) Syntax.tnil))),
+) (List._∷_ (
+  30,
+  Rows.any-gone (Syntax.tyRef Syntax.erased
+      Syntax.mut (Syntax.tyInt Syntax.w8)),
+) (List._∷_ (
+  31,
+  Rows.any-gone (Syntax.tyStruct (List._∷_ 38 (List._∷_ 91 (List._∷_ 93 List.[]))) (Syntax.tcons (Syntax.tyRef Syntax.erased Syntax.mut
+      (Syntax.tyInt Syntax.w8)) (Syntax.tcons (Syntax.tyInt Syntax.w64) Syntax.tnil))),
+) List.[])))))))))))))))
+
+abbrev pub t64 : List.List Row.Entry
+t64 = List._∷_ (32, Rows.any-gone (Syntax.tyRef Syntax.erased Syntax.mut (Syntax.tyInt Syntax.w16))) (List._∷_ (
+  33,
+  Rows.any-gone (Syntax.tyStruct (List._∷_ 38 (List._∷_ 91 (List._∷_ 93 List.[])))
+      (Syntax.tcons (Syntax.tyRef Syntax.erased Syntax.mut (Syntax.tyInt Syntax.w16)) (Syntax.tcons (Syntax.tyInt Syntax.w64) Syntax.tnil))),
+) (List._∷_ (
+  34,
+  Rows.any-gone (Syntax.tyRef Syntax.erased
+      Syntax.mut Element.behind),
+) (List._∷_ (35, Mut.msleft (Element.type) (Syntax.tyRef Syntax.erased Syntax.mut Element.behind)) List.[])))
+
+abbrev pub t65 : List.List Row.Entry
+t65 = List._∷_ (16, Rows.sc-here (Row.sInt Syntax.w64)) (List._∷_ (
+  17,
+  Rows.any-gone (Syntax.tyStruct (List._∷_ 115 (List._∷_ 116 (List._∷_ 101 (List._∷_ 112 (List._∷_ 115 (List._∷_ 58 (List._∷_ 58
+      (List._∷_ 80 (List._∷_ 108 (List._∷_ 97 (List._∷_ 110 List.[]))))))))))) (Syntax.tcons (Syntax.tyInt Syntax.w64) (Syntax.tcons (Syntax.tyInt Syntax.w64) (Syntax.tcons (Syntax.tyInt Syntax.w64)
+      (Syntax.tcons (Syntax.tyInt Syntax.w32) (Syntax.tcons (Syntax.tyInt Syntax.w32) Syntax.tnil)))))),
+) (List._∷_ (
+  18,
+  Rows.any-gone (Syntax.tyStruct (List._∷_ 115 (List._∷_ 116 (List._∷_ 101 (List._∷_
+      112 (List._∷_ 115 (List._∷_ 58 (List._∷_ 58 (List._∷_ 83 (List._∷_ 101 (List._∷_ 116 List.[])))))))))) (Syntax.tcons (Syntax.tyArray (Syntax.tyInt Syntax.w32) 112) (Syntax.tcons (Syntax.tyArray
       (Syntax.tyInt Syntax.w32) 112) Syntax.tnil))),
 ) (List._∷_ (19, Rows.whole (Declared.row PassPut.the-type)) (List._∷_ (20, Rows.sc-here Row.sBool) (List._∷_ (
   21,
@@ -3019,95 +3083,46 @@ t63 = List._∷_ (16, Rows.sc-here (Row.sInt Syntax.w64)) (List._∷_ (17, Rows.
           (Syntax.tyInt Syntax.w64) Syntax.tnil))),
     ) List.[])))))))))))))))
 
-abbrev pub t64 : List.List Row.Entry
-t64 = List._∷_ (32, Rows.any-gone (Syntax.tyRef Syntax.erased Syntax.mut (Syntax.tyInt Syntax.w16))) (List._∷_ (
-  33,
-  Rows.any-gone (Syntax.tyStruct (List._∷_ 38 (List._∷_ 91 (List._∷_ 93 List.[])))
-      (Syntax.tcons (Syntax.tyRef Syntax.erased Syntax.mut (Syntax.tyInt Syntax.w16)) (Syntax.tcons (Syntax.tyInt Syntax.w64) Syntax.tnil))),
-) (List._∷_ (
-  34,
-  Rows.any-gone (Syntax.tyRef Syntax.erased
-      Syntax.mut Element.behind),
-) (List._∷_ (35, Mut.msleft (Element.type) (Syntax.tyRef Syntax.erased Syntax.mut Element.behind)) List.[])))
-
-abbrev pub t65 : List.List Row.Entry
-t65 = List._∷_ (16, Rows.sc-here (Row.sInt Syntax.w64)) (List._∷_ (
-  17,
-  Rows.any-gone (Syntax.tyStruct (List._∷_ 112 (List._∷_ 97 (List._∷_ 115 (List._∷_ 115 (List._∷_ 58 (List._∷_ 58 (List._∷_ 80
-      (List._∷_ 108 (List._∷_ 97 (List._∷_ 110 List.[])))))))))) (Syntax.tcons (Syntax.tyInt Syntax.w64) (Syntax.tcons (Syntax.tyInt Syntax.w64) (Syntax.tcons (Syntax.tyInt Syntax.w64) (Syntax.tcons
-      (Syntax.tyInt Syntax.w32) (Syntax.tcons (Syntax.tyInt Syntax.w32) Syntax.tnil)))))),
-) (List._∷_ (
-  18,
-  Rows.any-gone (Syntax.tyStruct (List._∷_ 112 (List._∷_ 97 (List._∷_ 115 (List._∷_ 115 (List._∷_
-      58 (List._∷_ 58 (List._∷_ 83 (List._∷_ 101 (List._∷_ 116 List.[]))))))))) (Syntax.tcons (Syntax.tyArray (Syntax.tyInt Syntax.w32) 112) (Syntax.tcons (Syntax.tyArray (Syntax.tyInt Syntax.w32) 112)
-      Syntax.tnil))),
-) (List._∷_ (19, Rows.whole (Declared.row PassPut.the-type)) (List._∷_ (20, Rows.sc-here Row.sBool) (List._∷_ (21, Rows.whole (Declared.row Set.the-type)) (List._∷_ (
-  22,
-  Rows.any-gone Syntax.tyBool,
-) (List._∷_ (23, Rows.sc-here Row.sUnit) (List._∷_ (24, Rows.any-gone (Syntax.tyRef Syntax.erased Syntax.mut (Syntax.tyInt Syntax.w16))) (List._∷_ (
-  25,
-  Rows.any-gone
-      (Syntax.tyStruct (List._∷_ 38 (List._∷_ 91 (List._∷_ 93 List.[]))) (Syntax.tcons (Syntax.tyRef Syntax.erased Syntax.mut (Syntax.tyInt Syntax.w16)) (Syntax.tcons (Syntax.tyInt Syntax.w64)
-      Syntax.tnil))),
-) (List._∷_ (26, Rows.any-gone (Syntax.tyRef Syntax.erased Syntax.mut (Syntax.tyInt Syntax.w16))) (List._∷_ (
-  27,
-  Rows.any-gone (Syntax.tyStruct (List._∷_ 38 (List._∷_ 91 (List._∷_
-      93 List.[]))) (Syntax.tcons (Syntax.tyRef Syntax.erased Syntax.mut (Syntax.tyInt Syntax.w16)) (Syntax.tcons (Syntax.tyInt Syntax.w64) Syntax.tnil))),
-) (List._∷_ (
-  28,
-  Rows.any-gone (Syntax.tyRef
-      Syntax.erased Syntax.mut Element.behind),
-) (List._∷_ (
-  29,
-  Rows.any-gone (Syntax.tyStruct (List._∷_ 38 (List._∷_ 91 (List._∷_ 93 List.[]))) (Syntax.tcons (Syntax.tyRef Syntax.erased Syntax.mut
-      Element.behind) (Syntax.tcons (Syntax.tyInt Syntax.w64) Syntax.tnil))),
-) (List._∷_ (30, Rows.any-gone (Syntax.tyRef Syntax.erased Syntax.mut (Syntax.tyInt Syntax.w8))) (List._∷_ (
-  31,
-  Rows.any-gone (Syntax.tyStruct (List._∷_ 38 (List._∷_ 91 (List._∷_ 93 List.[]))) (Syntax.tcons (Syntax.tyRef Syntax.erased Syntax.mut (Syntax.tyInt Syntax.w8)) (Syntax.tcons (Syntax.tyInt Syntax.w64)
-      Syntax.tnil))),
-) List.[])))))))))))))))
-
 abbrev pub t66 : List.List Row.Entry
 t66 = List._∷_ (16, Rows.sc-here (Row.sInt Syntax.w64)) (List._∷_ (
   17,
-  Rows.any-gone (Syntax.tyStruct (List._∷_ 112 (List._∷_ 97 (List._∷_ 115 (List._∷_ 115 (List._∷_ 58 (List._∷_ 58 (List._∷_ 80
-      (List._∷_ 108 (List._∷_ 97 (List._∷_ 110 List.[])))))))))) (Syntax.tcons (Syntax.tyInt Syntax.w64) (Syntax.tcons (Syntax.tyInt Syntax.w64) (Syntax.tcons (Syntax.tyInt Syntax.w64) (Syntax.tcons
-      (Syntax.tyInt Syntax.w32) (Syntax.tcons (Syntax.tyInt Syntax.w32) Syntax.tnil)))))),
+  Rows.any-gone (Syntax.tyStruct (List._∷_ 115 (List._∷_ 116 (List._∷_ 101 (List._∷_ 112 (List._∷_ 115 (List._∷_ 58 (List._∷_ 58
+      (List._∷_ 80 (List._∷_ 108 (List._∷_ 97 (List._∷_ 110 List.[]))))))))))) (Syntax.tcons (Syntax.tyInt Syntax.w64) (Syntax.tcons (Syntax.tyInt Syntax.w64) (Syntax.tcons (Syntax.tyInt Syntax.w64)
+      (Syntax.tcons (Syntax.tyInt Syntax.w32) (Syntax.tcons (Syntax.tyInt Syntax.w32) Syntax.tnil)))))),
 ) (List._∷_ (
   18,
-  Rows.any-gone (Syntax.tyStruct (List._∷_ 112 (List._∷_ 97 (List._∷_ 115 (List._∷_ 115 (List._∷_
-      58 (List._∷_ 58 (List._∷_ 83 (List._∷_ 101 (List._∷_ 116 List.[]))))))))) (Syntax.tcons (Syntax.tyArray (Syntax.tyInt Syntax.w32) 112) (Syntax.tcons (Syntax.tyArray (Syntax.tyInt Syntax.w32) 112)
-      Syntax.tnil))),
+  Rows.any-gone (Syntax.tyStruct (List._∷_ 115 (List._∷_ 116 (List._∷_ 101 (List._∷_
+      112 (List._∷_ 115 (List._∷_ 58 (List._∷_ 58 (List._∷_ 83 (List._∷_ 101 (List._∷_ 116 List.[])))))))))) (Syntax.tcons (Syntax.tyArray (Syntax.tyInt Syntax.w32) 112) (Syntax.tcons (Syntax.tyArray
+      (Syntax.tyInt Syntax.w32) 112) Syntax.tnil))),
 ) (List._∷_ (19, Rows.whole (Declared.row PassPut.the-type)) (List._∷_ (20, Rows.sc-here Row.sBool) (List._∷_ (
   21,
-  Rows.any-gone (Syntax.tyStruct (List._∷_ 112 (List._∷_ 97
-      (List._∷_ 115 (List._∷_ 115 (List._∷_ 58 (List._∷_ 58 (List._∷_ 83 (List._∷_ 101 (List._∷_ 116 List.[]))))))))) (Syntax.tcons (Syntax.tyArray (Syntax.tyInt Syntax.w32) 112) (Syntax.tcons
-      (Syntax.tyArray (Syntax.tyInt Syntax.w32) 112) Syntax.tnil))),
+  Rows.any-gone (Syntax.tyStruct
+      (List._∷_ 115 (List._∷_ 116 (List._∷_ 101 (List._∷_ 112 (List._∷_ 115 (List._∷_ 58 (List._∷_ 58 (List._∷_ 83 (List._∷_ 101 (List._∷_ 116 List.[])))))))))) (Syntax.tcons (Syntax.tyArray (Syntax.tyInt
+      Syntax.w32) 112) (Syntax.tcons (Syntax.tyArray (Syntax.tyInt Syntax.w32) 112) Syntax.tnil))),
 ) (List._∷_ (22, Rows.any-gone Syntax.tyBool) (List._∷_ (23, Rows.sc-here Row.sUnit) (List._∷_ (
   24,
-  Rows.any-gone (Syntax.tyRef
-      Syntax.erased Syntax.mut (Syntax.tyInt Syntax.w16)),
+  Rows.any-gone (Syntax.tyRef Syntax.erased Syntax.mut (Syntax.tyInt Syntax.w16)),
 ) (List._∷_ (
   25,
-  Rows.any-gone (Syntax.tyStruct (List._∷_ 38 (List._∷_ 91 (List._∷_ 93 List.[]))) (Syntax.tcons (Syntax.tyRef Syntax.erased
-      Syntax.mut (Syntax.tyInt Syntax.w16)) (Syntax.tcons (Syntax.tyInt Syntax.w64) Syntax.tnil))),
-) (List._∷_ (26, Rows.any-gone (Syntax.tyRef Syntax.erased Syntax.mut (Syntax.tyInt Syntax.w16)))
-    (List._∷_ (
-      27,
-      Rows.any-gone (Syntax.tyStruct (List._∷_ 38 (List._∷_ 91 (List._∷_ 93 List.[]))) (Syntax.tcons (Syntax.tyRef Syntax.erased Syntax.mut (Syntax.tyInt Syntax.w16)) (Syntax.tcons
-          (Syntax.tyInt Syntax.w64) Syntax.tnil))),
-    ) (List._∷_ (28, Rows.any-gone (Syntax.tyRef Syntax.erased Syntax.mut Element.behind)) (List._∷_ (
-      29,
-      Rows.any-gone (Syntax.tyStruct (List._∷_ 38
-          (List._∷_ 91 (List._∷_ 93 List.[]))) (Syntax.tcons (Syntax.tyRef Syntax.erased Syntax.mut Element.behind) (Syntax.tcons (Syntax.tyInt Syntax.w64) Syntax.tnil))),
-    ) (List._∷_ (
-      30,
-      Rows.any-gone
-          (Syntax.tyRef Syntax.erased Syntax.mut (Syntax.tyInt Syntax.w8)),
-    ) (List._∷_ (
+  Rows.any-gone (Syntax.tyStruct (List._∷_ 38 (List._∷_ 91 (List._∷_ 93 List.[]))) (Syntax.tcons
+      (Syntax.tyRef Syntax.erased Syntax.mut (Syntax.tyInt Syntax.w16)) (Syntax.tcons (Syntax.tyInt Syntax.w64) Syntax.tnil))),
+) (List._∷_ (
+  26,
+  Rows.any-gone (Syntax.tyRef Syntax.erased Syntax.mut
+      (Syntax.tyInt Syntax.w16)),
+) (List._∷_ (
+  27,
+  Rows.any-gone (Syntax.tyStruct (List._∷_ 38 (List._∷_ 91 (List._∷_ 93 List.[]))) (Syntax.tcons (Syntax.tyRef Syntax.erased Syntax.mut (Syntax.tyInt
+      Syntax.w16)) (Syntax.tcons (Syntax.tyInt Syntax.w64) Syntax.tnil))),
+) (List._∷_ (28, Rows.any-gone (Syntax.tyRef Syntax.erased Syntax.mut Element.behind)) (List._∷_ (
+  29,
+  Rows.any-gone
+      (Syntax.tyStruct (List._∷_ 38 (List._∷_ 91 (List._∷_ 93 List.[]))) (Syntax.tcons (Syntax.tyRef Syntax.erased Syntax.mut Element.behind) (Syntax.tcons (Syntax.tyInt Syntax.w64) Syntax.tnil))),
+)
+    (List._∷_ (30, Rows.any-gone (Syntax.tyRef Syntax.erased Syntax.mut (Syntax.tyInt Syntax.w8))) (List._∷_ (
       31,
-      Rows.any-gone (Syntax.tyStruct (List._∷_ 38 (List._∷_ 91 (List._∷_ 93 List.[]))) (Syntax.tcons (Syntax.tyRef
-          Syntax.erased Syntax.mut (Syntax.tyInt Syntax.w8)) (Syntax.tcons (Syntax.tyInt Syntax.w64) Syntax.tnil))),
+      Rows.any-gone (Syntax.tyStruct (List._∷_ 38 (List._∷_ 91 (List._∷_ 93 List.[])))
+          (Syntax.tcons (Syntax.tyRef Syntax.erased Syntax.mut (Syntax.tyInt Syntax.w8)) (Syntax.tcons (Syntax.tyInt Syntax.w64) Syntax.tnil))),
     ) List.[])))))))))))))))
 
 abbrev pub t67 : List.List Row.Entry
@@ -3688,11 +3703,11 @@ module _ (claims· : Claims) where
       Syntax.w32) (Syntax.tcons (Syntax.tyInt Syntax.w32) Syntax.tnil))))))
 
   abbrev s8 : (bs : List.List Nat.ℕ) → Typed.Mo T9 → Typed.Mo T10
-  s8 = λ bs. Scalar.n-use T9 (Scalar.oFld 12 (List._∷_ (Syntax.field 4) List.[]) (Syntax.tyInt Syntax.w32) 16 (Reads.fieldV Quantiser.the-type Laws'5.the-laws 4)) 13 (Rows.sc-here (Row.sInt
+  s8 = λ bs. Scalar.n-use T9 (Scalar.oFld 12 (List._∷_ (Syntax.field 4) List.[]) (Syntax.tyInt Syntax.w32) 16 (Reads.fieldV Quantiser.the-type Laws'3.the-laws 4)) 13 (Rows.sc-here (Row.sInt
       Syntax.w32)) (Row.sInt Syntax.w32 .of)
 
   abbrev s9 : (bs : List.List Nat.ℕ) → Typed.Mo T10 → Typed.Mo T11
-  s9 = λ bs. Scalar.n-use T10 (Scalar.oFld 12 (List._∷_ (Syntax.field 3) List.[]) (Syntax.tyInt Syntax.w32) 12 (Reads.fieldV Quantiser.the-type Laws'5.the-laws 3)) 14 (Rows.sc-here (Row.sInt
+  s9 = λ bs. Scalar.n-use T10 (Scalar.oFld 12 (List._∷_ (Syntax.field 3) List.[]) (Syntax.tyInt Syntax.w32) 12 (Reads.fieldV Quantiser.the-type Laws'3.the-laws 3)) 14 (Rows.sc-here (Row.sInt
       Syntax.w32)) (Row.sInt Syntax.w32 .of)
 
   abbrev s10 : (bs : List.List Nat.ℕ) → Typed.Mo T11 → Typed.Mo T12
@@ -3722,9 +3737,9 @@ module _ (claims· : Claims) where
   s16 = λ bs. Scalar.n-room T17 22 Syntax.tyBool
 
   abbrev s17 : (bs : List.List Nat.ℕ) → Typed.Both T18 T21
-  s17 = λ bs. Call.callB ps·2 r·2 (claims· .4) (claims· .5) T18 (Num.vAt 16 λ x. x, (Bool.bAt 10 λ x. x, tt)) 17 List.[] (Syntax.tyStruct (List._∷_ 112 (List._∷_ 97 (List._∷_ 115 (List._∷_ 115
-      (List._∷_ 58 (List._∷_ 58 (List._∷_ 80 (List._∷_ 108 (List._∷_ 97 (List._∷_ 110 List.[])))))))))) (Syntax.tcons (Syntax.tyInt Syntax.w64) (Syntax.tcons (Syntax.tyInt Syntax.w64) (Syntax.tcons
-      (Syntax.tyInt Syntax.w64) (Syntax.tcons (Syntax.tyInt Syntax.w32) (Syntax.tcons (Syntax.tyInt Syntax.w32) Syntax.tnil))))))
+  s17 = λ bs. Call.callB ps·2 r·2 (claims· .4) (claims· .5) T18 (Num.vAt 16 λ x. x, (Bool.bAt 10 λ x. x, tt)) 17 List.[] (Syntax.tyStruct (List._∷_ 115 (List._∷_ 116 (List._∷_ 101 (List._∷_ 112
+      (List._∷_ 115 (List._∷_ 58 (List._∷_ 58 (List._∷_ 80 (List._∷_ 108 (List._∷_ 97 (List._∷_ 110 List.[]))))))))))) (Syntax.tcons (Syntax.tyInt Syntax.w64) (Syntax.tcons (Syntax.tyInt Syntax.w64)
+      (Syntax.tcons (Syntax.tyInt Syntax.w64) (Syntax.tcons (Syntax.tyInt Syntax.w32) (Syntax.tcons (Syntax.tyInt Syntax.w32) Syntax.tnil))))))
 
   abbrev s19 : (bs : List.List Nat.ℕ) → Typed.Gives T21 T23
   s19 = λ bs. Relend.k-sl-relend (Referent.rtF (Referent.fInt Syntax.w16)) T21 6 24 2 4 (Syntax.tyRef (Syntax.named 2) Syntax.mut (Syntax.tyInt Syntax.w16)) (Syntax.tyRef Syntax.erased Syntax.mut
@@ -3795,8 +3810,8 @@ module _ (claims· : Claims) where
           2) List.[]) 16 λ x. Plan.struct .as-values x .1 .1 .0,
       tt,
     ),
-  ) 18 (List._∷_ 6 List.[]) (Syntax.tyStruct (List._∷_ 112 (List._∷_ 97 (List._∷_ 115 (List._∷_ 115 (List._∷_ 58 (List._∷_ 58 (List._∷_ 83
-      (List._∷_ 101 (List._∷_ 116 List.[]))))))))) (Syntax.tcons (Syntax.tyArray (Syntax.tyInt Syntax.w32) 112) (Syntax.tcons (Syntax.tyArray (Syntax.tyInt Syntax.w32) 112) Syntax.tnil)))
+  ) 18 (List._∷_ 6 List.[]) (Syntax.tyStruct (List._∷_ 115 (List._∷_ 116 (List._∷_ 101 (List._∷_ 112 (List._∷_ 115 (List._∷_ 58 (List._∷_
+      58 (List._∷_ 83 (List._∷_ 101 (List._∷_ 116 List.[])))))))))) (Syntax.tcons (Syntax.tyArray (Syntax.tyInt Syntax.w32) 112) (Syntax.tcons (Syntax.tyArray (Syntax.tyInt Syntax.w32) 112) Syntax.tnil)))
 
   abbrev s41 : (bs : List.List Nat.ℕ) → Typed.Both T43 T45
   s41 = λ bs. Relend.k-back-sl (Element.type) T43 29 7 3 6 (Syntax.tyRef (Syntax.named 3) Syntax.mut Element.behind) (Syntax.tyRef Syntax.erased Syntax.mut Element.behind) Row.off (λ x. x) λ x. x
@@ -3860,13 +3875,13 @@ module _ (claims· : Claims) where
       (List._∷_ 119 (List._∷_ 114 (List._∷_ 105 (List._∷_ 116 (List._∷_ 105 (List._∷_ 110 (List._∷_ 103 (List._∷_ 58 (List._∷_ 58 (List._∷_ 80 (List._∷_ 97 (List._∷_ 115 (List._∷_ 115 (List._∷_ 80
       (List._∷_ 117 (List._∷_ 116 List.[])))))))))))))))) (Syntax.tcons Syntax.tyBool (Syntax.tcons (Syntax.tyInt Syntax.w64) (Syntax.tcons (Syntax.tyStruct (List._∷_ 98 (List._∷_ 105 (List._∷_ 116
       (List._∷_ 115 (List._∷_ 58 (List._∷_ 58 (List._∷_ 66 (List._∷_ 105 (List._∷_ 116 (List._∷_ 80 (List._∷_ 111 (List._∷_ 115 (List._∷_ 105 (List._∷_ 116 (List._∷_ 105 (List._∷_ 111 (List._∷_ 110
-      List.[]))))))))))))))))) (Syntax.tcons (Syntax.tyInt Syntax.w64) Syntax.tnil)) (Syntax.tcons (Syntax.tyStruct (List._∷_ 112 (List._∷_ 97 (List._∷_ 115 (List._∷_ 115 (List._∷_ 58 (List._∷_ 58
-      (List._∷_ 83 (List._∷_ 101 (List._∷_ 116 List.[]))))))))) (Syntax.tcons (Syntax.tyArray (Syntax.tyInt Syntax.w32) 112) (Syntax.tcons (Syntax.tyArray (Syntax.tyInt Syntax.w32) 112) Syntax.tnil)))
-      Syntax.tnil)))))
+      List.[]))))))))))))))))) (Syntax.tcons (Syntax.tyInt Syntax.w64) Syntax.tnil)) (Syntax.tcons (Syntax.tyStruct (List._∷_ 115 (List._∷_ 116 (List._∷_ 101 (List._∷_ 112 (List._∷_ 115 (List._∷_ 58
+      (List._∷_ 58 (List._∷_ 83 (List._∷_ 101 (List._∷_ 116 List.[])))))))))) (Syntax.tcons (Syntax.tyArray (Syntax.tyInt Syntax.w32) 112) (Syntax.tcons (Syntax.tyArray (Syntax.tyInt Syntax.w32) 112)
+      Syntax.tnil))) Syntax.tnil)))))
 
   abbrev s50 : (bs : List.List Nat.ℕ) → Typed.Mo T53 → Typed.Mo T54
-  s50 = λ bs. Scalar.n-room T53 18 (Syntax.tyStruct (List._∷_ 112 (List._∷_ 97 (List._∷_ 115 (List._∷_ 115 (List._∷_ 58 (List._∷_ 58 (List._∷_ 83 (List._∷_ 101 (List._∷_ 116 List.[])))))))))
-      (Syntax.tcons (Syntax.tyArray (Syntax.tyInt Syntax.w32) 112) (Syntax.tcons (Syntax.tyArray (Syntax.tyInt Syntax.w32) 112) Syntax.tnil)))
+  s50 = λ bs. Scalar.n-room T53 18 (Syntax.tyStruct (List._∷_ 115 (List._∷_ 116 (List._∷_ 101 (List._∷_ 112 (List._∷_ 115 (List._∷_ 58 (List._∷_ 58 (List._∷_ 83 (List._∷_ 101 (List._∷_ 116
+      List.[])))))))))) (Syntax.tcons (Syntax.tyArray (Syntax.tyInt Syntax.w32) 112) (Syntax.tcons (Syntax.tyArray (Syntax.tyInt Syntax.w32) 112) Syntax.tnil)))
 
   abbrev s52 : (bs : List.List Nat.ℕ) → Typed.Both T54 T56
   s52 = λ bs. Relend.k-back-sl (Referent.rtF (Referent.fInt Syntax.w8)) T54 31 3 1 7 (Syntax.tyRef (Syntax.named 1) Syntax.mut (Syntax.tyInt Syntax.w8)) (Syntax.tyRef Syntax.erased Syntax.mut
@@ -3889,8 +3904,8 @@ module _ (claims· : Claims) where
   s60 = λ bs. Scalar.k-op1 T63 Syntax.bitNot (Scalar.oAt 20 Syntax.tyBool (Row.valS Row.sBool)) 22 (Rows.sc-here Row.sBool) (Row.sBool .of)
 
   abbrev s61 : (bs : List.List Nat.ℕ) → Typed.Mo T64 → Typed.Mo T66
-  s61 = λ bs. Scalar.n-room T64 17 (Syntax.tyStruct (List._∷_ 112 (List._∷_ 97 (List._∷_ 115 (List._∷_ 115 (List._∷_ 58 (List._∷_ 58 (List._∷_ 80 (List._∷_ 108 (List._∷_ 97 (List._∷_ 110
-      List.[])))))))))) (Syntax.tcons (Syntax.tyInt Syntax.w64) (Syntax.tcons (Syntax.tyInt Syntax.w64) (Syntax.tcons (Syntax.tyInt Syntax.w64) (Syntax.tcons (Syntax.tyInt Syntax.w32) (Syntax.tcons
+  s61 = λ bs. Scalar.n-room T64 17 (Syntax.tyStruct (List._∷_ 115 (List._∷_ 116 (List._∷_ 101 (List._∷_ 112 (List._∷_ 115 (List._∷_ 58 (List._∷_ 58 (List._∷_ 80 (List._∷_ 108 (List._∷_ 97 (List._∷_
+      110 List.[]))))))))))) (Syntax.tcons (Syntax.tyInt Syntax.w64) (Syntax.tcons (Syntax.tyInt Syntax.w64) (Syntax.tcons (Syntax.tyInt Syntax.w64) (Syntax.tcons (Syntax.tyInt Syntax.w32) (Syntax.tcons
       (Syntax.tyInt Syntax.w32) Syntax.tnil))))))
 
   abbrev s62 : (bs : List.List Nat.ℕ) → Typed.Mo T66 → Typed.Mo T67
@@ -3917,9 +3932,9 @@ module _ (claims· : Claims) where
   s65 = λ bs. Scalar.n-room T69 19 (Syntax.tyStruct (List._∷_ 119 (List._∷_ 114 (List._∷_ 105 (List._∷_ 116 (List._∷_ 105 (List._∷_ 110 (List._∷_ 103 (List._∷_ 58 (List._∷_ 58 (List._∷_ 80 (List._∷_
       97 (List._∷_ 115 (List._∷_ 115 (List._∷_ 80 (List._∷_ 117 (List._∷_ 116 List.[])))))))))))))))) (Syntax.tcons Syntax.tyBool (Syntax.tcons (Syntax.tyInt Syntax.w64) (Syntax.tcons (Syntax.tyStruct
       (List._∷_ 98 (List._∷_ 105 (List._∷_ 116 (List._∷_ 115 (List._∷_ 58 (List._∷_ 58 (List._∷_ 66 (List._∷_ 105 (List._∷_ 116 (List._∷_ 80 (List._∷_ 111 (List._∷_ 115 (List._∷_ 105 (List._∷_ 116
-      (List._∷_ 105 (List._∷_ 111 (List._∷_ 110 List.[]))))))))))))))))) (Syntax.tcons (Syntax.tyInt Syntax.w64) Syntax.tnil)) (Syntax.tcons (Syntax.tyStruct (List._∷_ 112 (List._∷_ 97 (List._∷_ 115
-      (List._∷_ 115 (List._∷_ 58 (List._∷_ 58 (List._∷_ 83 (List._∷_ 101 (List._∷_ 116 List.[]))))))))) (Syntax.tcons (Syntax.tyArray (Syntax.tyInt Syntax.w32) 112) (Syntax.tcons (Syntax.tyArray
-      (Syntax.tyInt Syntax.w32) 112) Syntax.tnil))) Syntax.tnil)))))
+      (List._∷_ 105 (List._∷_ 111 (List._∷_ 110 List.[]))))))))))))))))) (Syntax.tcons (Syntax.tyInt Syntax.w64) Syntax.tnil)) (Syntax.tcons (Syntax.tyStruct (List._∷_ 115 (List._∷_ 116 (List._∷_ 101
+      (List._∷_ 112 (List._∷_ 115 (List._∷_ 58 (List._∷_ 58 (List._∷_ 83 (List._∷_ 101 (List._∷_ 116 List.[])))))))))) (Syntax.tcons (Syntax.tyArray (Syntax.tyInt Syntax.w32) 112) (Syntax.tcons
+      (Syntax.tyArray (Syntax.tyInt Syntax.w32) 112) Syntax.tnil))) Syntax.tnil)))))
 
   abbrev s66 : (bs : List.List Nat.ℕ) → Typed.Mo T70 → Typed.Mo T71
   s66 = λ bs. Scalar.n-room T70 2 (Syntax.tyInt Syntax.w64)
@@ -3984,13 +3999,13 @@ module _ (claims· : Claims) where
   ) 23 (List._∷_ 9 List.[]) Syntax.tyUnit
 
   abbrev s83 : (bs : List.List Nat.ℕ) → Typed.Mo T87 → Typed.Mo T88
-  s83 = λ bs. Scalar.n-room T87 17 (Syntax.tyStruct (List._∷_ 112 (List._∷_ 97 (List._∷_ 115 (List._∷_ 115 (List._∷_ 58 (List._∷_ 58 (List._∷_ 80 (List._∷_ 108 (List._∷_ 97 (List._∷_ 110
-      List.[])))))))))) (Syntax.tcons (Syntax.tyInt Syntax.w64) (Syntax.tcons (Syntax.tyInt Syntax.w64) (Syntax.tcons (Syntax.tyInt Syntax.w64) (Syntax.tcons (Syntax.tyInt Syntax.w32) (Syntax.tcons
+  s83 = λ bs. Scalar.n-room T87 17 (Syntax.tyStruct (List._∷_ 115 (List._∷_ 116 (List._∷_ 101 (List._∷_ 112 (List._∷_ 115 (List._∷_ 58 (List._∷_ 58 (List._∷_ 80 (List._∷_ 108 (List._∷_ 97 (List._∷_
+      110 List.[]))))))))))) (Syntax.tcons (Syntax.tyInt Syntax.w64) (Syntax.tcons (Syntax.tyInt Syntax.w64) (Syntax.tcons (Syntax.tyInt Syntax.w64) (Syntax.tcons (Syntax.tyInt Syntax.w32) (Syntax.tcons
       (Syntax.tyInt Syntax.w32) Syntax.tnil))))))
 
   abbrev s84 : (bs : List.List Nat.ℕ) → Typed.Mo T88 → Typed.Mo T89
-  s84 = λ bs. Scalar.n-room T88 21 (Syntax.tyStruct (List._∷_ 112 (List._∷_ 97 (List._∷_ 115 (List._∷_ 115 (List._∷_ 58 (List._∷_ 58 (List._∷_ 83 (List._∷_ 101 (List._∷_ 116 List.[])))))))))
-      (Syntax.tcons (Syntax.tyArray (Syntax.tyInt Syntax.w32) 112) (Syntax.tcons (Syntax.tyArray (Syntax.tyInt Syntax.w32) 112) Syntax.tnil)))
+  s84 = λ bs. Scalar.n-room T88 21 (Syntax.tyStruct (List._∷_ 115 (List._∷_ 116 (List._∷_ 101 (List._∷_ 112 (List._∷_ 115 (List._∷_ 58 (List._∷_ 58 (List._∷_ 83 (List._∷_ 101 (List._∷_ 116
+      List.[])))))))))) (Syntax.tcons (Syntax.tyArray (Syntax.tyInt Syntax.w32) 112) (Syntax.tcons (Syntax.tyArray (Syntax.tyInt Syntax.w32) 112) Syntax.tnil)))
 
   abbrev s85 : (bs : List.List Nat.ℕ) → Typed.Mo T89 → Typed.Mo T90
   s85 = λ bs. Scalar.n-room T89 23 Syntax.tyUnit
@@ -4010,9 +4025,9 @@ module _ (claims· : Claims) where
   s90 = λ bs. Scalar.n-room T94 19 (Syntax.tyStruct (List._∷_ 119 (List._∷_ 114 (List._∷_ 105 (List._∷_ 116 (List._∷_ 105 (List._∷_ 110 (List._∷_ 103 (List._∷_ 58 (List._∷_ 58 (List._∷_ 80 (List._∷_
       97 (List._∷_ 115 (List._∷_ 115 (List._∷_ 80 (List._∷_ 117 (List._∷_ 116 List.[])))))))))))))))) (Syntax.tcons Syntax.tyBool (Syntax.tcons (Syntax.tyInt Syntax.w64) (Syntax.tcons (Syntax.tyStruct
       (List._∷_ 98 (List._∷_ 105 (List._∷_ 116 (List._∷_ 115 (List._∷_ 58 (List._∷_ 58 (List._∷_ 66 (List._∷_ 105 (List._∷_ 116 (List._∷_ 80 (List._∷_ 111 (List._∷_ 115 (List._∷_ 105 (List._∷_ 116
-      (List._∷_ 105 (List._∷_ 111 (List._∷_ 110 List.[]))))))))))))))))) (Syntax.tcons (Syntax.tyInt Syntax.w64) Syntax.tnil)) (Syntax.tcons (Syntax.tyStruct (List._∷_ 112 (List._∷_ 97 (List._∷_ 115
-      (List._∷_ 115 (List._∷_ 58 (List._∷_ 58 (List._∷_ 83 (List._∷_ 101 (List._∷_ 116 List.[]))))))))) (Syntax.tcons (Syntax.tyArray (Syntax.tyInt Syntax.w32) 112) (Syntax.tcons (Syntax.tyArray
-      (Syntax.tyInt Syntax.w32) 112) Syntax.tnil))) Syntax.tnil)))))
+      (List._∷_ 105 (List._∷_ 111 (List._∷_ 110 List.[]))))))))))))))))) (Syntax.tcons (Syntax.tyInt Syntax.w64) Syntax.tnil)) (Syntax.tcons (Syntax.tyStruct (List._∷_ 115 (List._∷_ 116 (List._∷_ 101
+      (List._∷_ 112 (List._∷_ 115 (List._∷_ 58 (List._∷_ 58 (List._∷_ 83 (List._∷_ 101 (List._∷_ 116 List.[])))))))))) (Syntax.tcons (Syntax.tyArray (Syntax.tyInt Syntax.w32) 112) (Syntax.tcons
+      (Syntax.tyArray (Syntax.tyInt Syntax.w32) 112) Syntax.tnil))) Syntax.tnil)))))
 
   abbrev s91 : (bs : List.List Nat.ℕ) → Typed.Asks T95 T96
   s91 = λ bs. Scalar.k-op2 T95 (Syntax.add Syntax.unsigned) (Scalar.oAt 16 (Syntax.tyInt Syntax.w64) (Row.valS (Row.sInt Syntax.w64))) (Scalar.oInt Syntax.w64 1) 16 (Rows.sc-here (Row.sInt
@@ -4075,9 +4090,9 @@ module _ (claims· : Claims) where
     module _ (M : Type 1) where
       abbrev pub Closed : Type 2
       Closed = (𝓤 : URA.URA M) (H : Wp.Heap 𝓤) (A : Atoms.Atoms 𝓤) (W : Kit.Given 𝓤 H A) (𝓣 : Wp.Tables 𝓤 H) (known0 : Plain.Known 𝓤 H A W 𝓣 0 ps·0 r·0 (claims· .0) (claims· .1) "block::width")
-          (known1 : Plain.Known 𝓤 H A W 𝓣 0 ps·1 r·1 (claims· .2) (claims· .3) "quantiser::Quantiser::main") (known2 : Plain.Known 𝓤 H A W 𝓣 0 ps·2 r·2 (claims· .4) (claims· .5) "pass::plan_at") (known3 :
-          Plain.Known 𝓤 H A W 𝓣 1 ps·3 r·3 (claims· .6) (claims· .7) "lines::set_guards") (known4 : Plain.Known 𝓤 H A W 𝓣 1 ps·4 r·4 (claims· .8) (claims· .9) "block::load_set") (known5 : Plain.Known 𝓤 H
-          A W 𝓣 3 ps·5 r·5 (claims· .10) (claims· .11) "writing::write_pass") (known6 : Plain.Known 𝓤 H A W 𝓣 1 ps·6 r·6 (claims· .12) (claims· .13) "block::store_set") → Statement.Triple 𝓤 (Wp.WpFn 𝓤 H
+          (known1 : Plain.Known 𝓤 H A W 𝓣 0 ps·1 r·1 (claims· .2) (claims· .3) "quantiser::Quantiser::main") (known2 : Plain.Known 𝓤 H A W 𝓣 0 ps·2 r·2 (claims· .4) (claims· .5) "steps::plan_at") (known3
+          : Plain.Known 𝓤 H A W 𝓣 1 ps·3 r·3 (claims· .6) (claims· .7) "lines::set_guards") (known4 : Plain.Known 𝓤 H A W 𝓣 1 ps·4 r·4 (claims· .8) (claims· .9) "block::load_set") (known5 : Plain.Known 𝓤
+          H A W 𝓣 3 ps·5 r·5 (claims· .10) (claims· .11) "writing::write_pass") (known6 : Plain.Known 𝓤 H A W 𝓣 1 ps·6 r·6 (claims· .12) (claims· .13) "block::store_set") → Statement.Triple 𝓤 (Wp.WpFn 𝓤 H
           (𝓣 .C) (𝓣 .Λ) (Function.fnOf 4 ps r xs m hs body)) (Function.plainOf 𝓤 H A 4 ps r Pre· Post·)
 
     module _ (Inv·0 : InvT-loop) (μ·0 : MeasureT-loop) where
@@ -4436,7 +4451,7 @@ module _ (claims· : Claims) where
       module _ {M : Type 1} (𝓤 : URA.URA M) (H : Wp.Heap 𝓤) (A : Atoms.Atoms 𝓤) (W : Kit.Given 𝓤 H A) (𝓣 : Wp.Tables 𝓤 H) where
         abbrev Knowns : Type 1
         Knowns = Plain.Known 𝓤 H A W 𝓣 0 ps·0 r·0 (claims· .0) (claims· .1) "block::width" × Plain.Known 𝓤 H A W 𝓣 0 ps·1 r·1 (claims· .2) (claims· .3) "quantiser::Quantiser::main" × Plain.Known 𝓤 H A
-            W 𝓣 0 ps·2 r·2 (claims· .4) (claims· .5) "pass::plan_at" × Plain.Known 𝓤 H A W 𝓣 1 ps·3 r·3 (claims· .6) (claims· .7) "lines::set_guards" × Plain.Known 𝓤 H A W 𝓣 1 ps·4 r·4 (claims· .8)
+            W 𝓣 0 ps·2 r·2 (claims· .4) (claims· .5) "steps::plan_at" × Plain.Known 𝓤 H A W 𝓣 1 ps·3 r·3 (claims· .6) (claims· .7) "lines::set_guards" × Plain.Known 𝓤 H A W 𝓣 1 ps·4 r·4 (claims· .8)
             (claims· .9) "block::load_set" × Plain.Known 𝓤 H A W 𝓣 3 ps·5 r·5 (claims· .10) (claims· .11) "writing::write_pass" × Plain.Known 𝓤 H A W 𝓣 1 ps·6 r·6 (claims· .12) (claims· .13)
             "block::store_set"
 
@@ -5596,14 +5611,14 @@ module _ (claims· : Claims) where
               (List._∷_ 105 (List._∷_ 110 (List._∷_ 103 (List._∷_ 58 (List._∷_ 58 (List._∷_ 80 (List._∷_ 97 (List._∷_ 115 (List._∷_ 115 (List._∷_ 80 (List._∷_ 117 (List._∷_ 116 List.[]))))))))))))))))
               (Syntax.tcons Syntax.tyBool (Syntax.tcons (Syntax.tyInt Syntax.w64) (Syntax.tcons (Syntax.tyStruct (List._∷_ 98 (List._∷_ 105 (List._∷_ 116 (List._∷_ 115 (List._∷_ 58 (List._∷_ 58 (List._∷_
               66 (List._∷_ 105 (List._∷_ 116 (List._∷_ 80 (List._∷_ 111 (List._∷_ 115 (List._∷_ 105 (List._∷_ 116 (List._∷_ 105 (List._∷_ 111 (List._∷_ 110 List.[]))))))))))))))))) (Syntax.tcons
-              (Syntax.tyInt Syntax.w64) Syntax.tnil)) (Syntax.tcons (Syntax.tyStruct (List._∷_ 112 (List._∷_ 97 (List._∷_ 115 (List._∷_ 115 (List._∷_ 58 (List._∷_ 58 (List._∷_ 83 (List._∷_ 101 (List._∷_
-              116 List.[]))))))))) (Syntax.tcons (Syntax.tyArray (Syntax.tyInt Syntax.w32) 112) (Syntax.tcons (Syntax.tyArray (Syntax.tyInt Syntax.w32) 112) Syntax.tnil))) Syntax.tnil)))))
+              (Syntax.tyInt Syntax.w64) Syntax.tnil)) (Syntax.tcons (Syntax.tyStruct (List._∷_ 115 (List._∷_ 116 (List._∷_ 101 (List._∷_ 112 (List._∷_ 115 (List._∷_ 58 (List._∷_ 58 (List._∷_ 83 (List._∷_
+              101 (List._∷_ 116 List.[])))))))))) (Syntax.tcons (Syntax.tyArray (Syntax.tyInt Syntax.w32) 112) (Syntax.tcons (Syntax.tyArray (Syntax.tyInt Syntax.w32) 112) Syntax.tnil))) Syntax.tnil)))))
               (Local.room-whole 𝓤 H A W (Declared.row PassPut.the-type) (Syntax.tyStruct (List._∷_ 119 (List._∷_ 114 (List._∷_ 105 (List._∷_ 116 (List._∷_ 105 (List._∷_ 110 (List._∷_ 103 (List._∷_ 58
               (List._∷_ 58 (List._∷_ 80 (List._∷_ 97 (List._∷_ 115 (List._∷_ 115 (List._∷_ 80 (List._∷_ 117 (List._∷_ 116 List.[])))))))))))))))) (Syntax.tcons Syntax.tyBool (Syntax.tcons (Syntax.tyInt
               Syntax.w64) (Syntax.tcons (Syntax.tyStruct (List._∷_ 98 (List._∷_ 105 (List._∷_ 116 (List._∷_ 115 (List._∷_ 58 (List._∷_ 58 (List._∷_ 66 (List._∷_ 105 (List._∷_ 116 (List._∷_ 80 (List._∷_
               111 (List._∷_ 115 (List._∷_ 105 (List._∷_ 116 (List._∷_ 105 (List._∷_ 111 (List._∷_ 110 List.[]))))))))))))))))) (Syntax.tcons (Syntax.tyInt Syntax.w64) Syntax.tnil)) (Syntax.tcons
-              (Syntax.tyStruct (List._∷_ 112 (List._∷_ 97 (List._∷_ 115 (List._∷_ 115 (List._∷_ 58 (List._∷_ 58 (List._∷_ 83 (List._∷_ 101 (List._∷_ 116 List.[]))))))))) (Syntax.tcons (Syntax.tyArray
-              (Syntax.tyInt Syntax.w32) 112) (Syntax.tcons (Syntax.tyArray (Syntax.tyInt Syntax.w32) 112) Syntax.tnil))) Syntax.tnil))))) Path'.refl)) d15
+              (Syntax.tyStruct (List._∷_ 115 (List._∷_ 116 (List._∷_ 101 (List._∷_ 112 (List._∷_ 115 (List._∷_ 58 (List._∷_ 58 (List._∷_ 83 (List._∷_ 101 (List._∷_ 116 List.[])))))))))) (Syntax.tcons
+              (Syntax.tyArray (Syntax.tyInt Syntax.w32) 112) (Syntax.tcons (Syntax.tyArray (Syntax.tyInt Syntax.w32) 112) Syntax.tnil))) Syntax.tnil))))) Path'.refl)) d15
 
           d17 : Typed.Typed 𝓤 H A 𝓣 E G68 b30 Δ5 (at17 bs)
           d17 = Typed.g-pre 𝓤 H A W 𝓣 E G68 G69 b30 Δ5 (Typed.pass T68 T69 (s64 bs)) (at16 bs) (Scalar.g-room 𝓤 H A W E G68 15 (Syntax.tyStruct (List._∷_ 98 (List._∷_ 105 (List._∷_ 116 (List._∷_ 115
@@ -5650,12 +5665,12 @@ module _ (claims· : Claims) where
           d19 = Typed.g-pre 𝓤 H A W 𝓣 E G66 G67 b31 Δ5 (Typed.pass T66 T67 (s62 bs)) (at18 bs) (Scalar.g-room 𝓤 H A W E G66 22 Syntax.tyBool (Scalar.room-sc 𝓤 H A W Row.sBool)) d18
 
           d20 : Typed.Typed 𝓤 H A 𝓣 E G64 b31 Δ5 (at20 bs)
-          d20 = Typed.g-pre 𝓤 H A W 𝓣 E G64 G66 b31 Δ5 (Typed.pass T64 T66 (s61 bs)) (at19 bs) (Scalar.g-room 𝓤 H A W E G64 17 (Syntax.tyStruct (List._∷_ 112 (List._∷_ 97 (List._∷_ 115 (List._∷_ 115
-              (List._∷_ 58 (List._∷_ 58 (List._∷_ 80 (List._∷_ 108 (List._∷_ 97 (List._∷_ 110 List.[])))))))))) (Syntax.tcons (Syntax.tyInt Syntax.w64) (Syntax.tcons (Syntax.tyInt Syntax.w64)
-              (Syntax.tcons (Syntax.tyInt Syntax.w64) (Syntax.tcons (Syntax.tyInt Syntax.w32) (Syntax.tcons (Syntax.tyInt Syntax.w32) Syntax.tnil)))))) (Local.room-whole 𝓤 H A W (Declared.row
-              Plan.the-type) (Syntax.tyStruct (List._∷_ 112 (List._∷_ 97 (List._∷_ 115 (List._∷_ 115 (List._∷_ 58 (List._∷_ 58 (List._∷_ 80 (List._∷_ 108 (List._∷_ 97 (List._∷_ 110 List.[]))))))))))
-              (Syntax.tcons (Syntax.tyInt Syntax.w64) (Syntax.tcons (Syntax.tyInt Syntax.w64) (Syntax.tcons (Syntax.tyInt Syntax.w64) (Syntax.tcons (Syntax.tyInt Syntax.w32) (Syntax.tcons (Syntax.tyInt
-              Syntax.w32) Syntax.tnil)))))) Path'.refl)) d19
+          d20 = Typed.g-pre 𝓤 H A W 𝓣 E G64 G66 b31 Δ5 (Typed.pass T64 T66 (s61 bs)) (at19 bs) (Scalar.g-room 𝓤 H A W E G64 17 (Syntax.tyStruct (List._∷_ 115 (List._∷_ 116 (List._∷_ 101 (List._∷_ 112
+              (List._∷_ 115 (List._∷_ 58 (List._∷_ 58 (List._∷_ 80 (List._∷_ 108 (List._∷_ 97 (List._∷_ 110 List.[]))))))))))) (Syntax.tcons (Syntax.tyInt Syntax.w64) (Syntax.tcons (Syntax.tyInt
+              Syntax.w64) (Syntax.tcons (Syntax.tyInt Syntax.w64) (Syntax.tcons (Syntax.tyInt Syntax.w32) (Syntax.tcons (Syntax.tyInt Syntax.w32) Syntax.tnil)))))) (Local.room-whole 𝓤 H A W (Declared.row
+              Plan.the-type) (Syntax.tyStruct (List._∷_ 115 (List._∷_ 116 (List._∷_ 101 (List._∷_ 112 (List._∷_ 115 (List._∷_ 58 (List._∷_ 58 (List._∷_ 80 (List._∷_ 108 (List._∷_ 97 (List._∷_ 110
+              List.[]))))))))))) (Syntax.tcons (Syntax.tyInt Syntax.w64) (Syntax.tcons (Syntax.tyInt Syntax.w64) (Syntax.tcons (Syntax.tyInt Syntax.w64) (Syntax.tcons (Syntax.tyInt Syntax.w32)
+              (Syntax.tcons (Syntax.tyInt Syntax.w32) Syntax.tnil)))))) Path'.refl)) d19
 
           d21 : Typed.Typed 𝓤 H A 𝓣 E G82 b32 Δ5 (at21 bs)
           d21 = Typed.t-skip 𝓤 H A W 𝓣 E Δ5 tt
@@ -5685,14 +5700,14 @@ module _ (claims· : Claims) where
               (List._∷_ 105 (List._∷_ 110 (List._∷_ 103 (List._∷_ 58 (List._∷_ 58 (List._∷_ 80 (List._∷_ 97 (List._∷_ 115 (List._∷_ 115 (List._∷_ 80 (List._∷_ 117 (List._∷_ 116 List.[]))))))))))))))))
               (Syntax.tcons Syntax.tyBool (Syntax.tcons (Syntax.tyInt Syntax.w64) (Syntax.tcons (Syntax.tyStruct (List._∷_ 98 (List._∷_ 105 (List._∷_ 116 (List._∷_ 115 (List._∷_ 58 (List._∷_ 58 (List._∷_
               66 (List._∷_ 105 (List._∷_ 116 (List._∷_ 80 (List._∷_ 111 (List._∷_ 115 (List._∷_ 105 (List._∷_ 116 (List._∷_ 105 (List._∷_ 111 (List._∷_ 110 List.[]))))))))))))))))) (Syntax.tcons
-              (Syntax.tyInt Syntax.w64) Syntax.tnil)) (Syntax.tcons (Syntax.tyStruct (List._∷_ 112 (List._∷_ 97 (List._∷_ 115 (List._∷_ 115 (List._∷_ 58 (List._∷_ 58 (List._∷_ 83 (List._∷_ 101 (List._∷_
-              116 List.[]))))))))) (Syntax.tcons (Syntax.tyArray (Syntax.tyInt Syntax.w32) 112) (Syntax.tcons (Syntax.tyArray (Syntax.tyInt Syntax.w32) 112) Syntax.tnil))) Syntax.tnil)))))
+              (Syntax.tyInt Syntax.w64) Syntax.tnil)) (Syntax.tcons (Syntax.tyStruct (List._∷_ 115 (List._∷_ 116 (List._∷_ 101 (List._∷_ 112 (List._∷_ 115 (List._∷_ 58 (List._∷_ 58 (List._∷_ 83 (List._∷_
+              101 (List._∷_ 116 List.[])))))))))) (Syntax.tcons (Syntax.tyArray (Syntax.tyInt Syntax.w32) 112) (Syntax.tcons (Syntax.tyArray (Syntax.tyInt Syntax.w32) 112) Syntax.tnil))) Syntax.tnil)))))
               (Local.room-whole 𝓤 H A W (Declared.row PassPut.the-type) (Syntax.tyStruct (List._∷_ 119 (List._∷_ 114 (List._∷_ 105 (List._∷_ 116 (List._∷_ 105 (List._∷_ 110 (List._∷_ 103 (List._∷_ 58
               (List._∷_ 58 (List._∷_ 80 (List._∷_ 97 (List._∷_ 115 (List._∷_ 115 (List._∷_ 80 (List._∷_ 117 (List._∷_ 116 List.[])))))))))))))))) (Syntax.tcons Syntax.tyBool (Syntax.tcons (Syntax.tyInt
               Syntax.w64) (Syntax.tcons (Syntax.tyStruct (List._∷_ 98 (List._∷_ 105 (List._∷_ 116 (List._∷_ 115 (List._∷_ 58 (List._∷_ 58 (List._∷_ 66 (List._∷_ 105 (List._∷_ 116 (List._∷_ 80 (List._∷_
               111 (List._∷_ 115 (List._∷_ 105 (List._∷_ 116 (List._∷_ 105 (List._∷_ 111 (List._∷_ 110 List.[]))))))))))))))))) (Syntax.tcons (Syntax.tyInt Syntax.w64) Syntax.tnil)) (Syntax.tcons
-              (Syntax.tyStruct (List._∷_ 112 (List._∷_ 97 (List._∷_ 115 (List._∷_ 115 (List._∷_ 58 (List._∷_ 58 (List._∷_ 83 (List._∷_ 101 (List._∷_ 116 List.[]))))))))) (Syntax.tcons (Syntax.tyArray
-              (Syntax.tyInt Syntax.w32) 112) (Syntax.tcons (Syntax.tyArray (Syntax.tyInt Syntax.w32) 112) Syntax.tnil))) Syntax.tnil))))) Path'.refl)) d25
+              (Syntax.tyStruct (List._∷_ 115 (List._∷_ 116 (List._∷_ 101 (List._∷_ 112 (List._∷_ 115 (List._∷_ 58 (List._∷_ 58 (List._∷_ 83 (List._∷_ 101 (List._∷_ 116 List.[])))))))))) (Syntax.tcons
+              (Syntax.tyArray (Syntax.tyInt Syntax.w32) 112) (Syntax.tcons (Syntax.tyArray (Syntax.tyInt Syntax.w32) 112) Syntax.tnil))) Syntax.tnil))))) Path'.refl)) d25
 
           d27 : Typed.Typed 𝓤 H A 𝓣 E G93 b40 Δ3 (at27 bs)
           d27 = Typed.s-seq 𝓤 H A W 𝓣 E G93 G94 b38 b39 Δ3 (Typed.both (s89 bs)) (at26 bs) (WayStmt.t-way-copy-out 𝓤 H A W E 𝓣 (Declared.row BitPosition.the-type) Path'.refl (Copies.cStruct
@@ -5717,10 +5732,10 @@ module _ (claims· : Claims) where
               (List._∷_ 58 (List._∷_ 58 (List._∷_ 80 (List._∷_ 97 (List._∷_ 115 (List._∷_ 115 (List._∷_ 80 (List._∷_ 117 (List._∷_ 116 List.[])))))))))))))))) (Syntax.tcons Syntax.tyBool (Syntax.tcons
               (Syntax.tyInt Syntax.w64) (Syntax.tcons (Syntax.tyStruct (List._∷_ 98 (List._∷_ 105 (List._∷_ 116 (List._∷_ 115 (List._∷_ 58 (List._∷_ 58 (List._∷_ 66 (List._∷_ 105 (List._∷_ 116 (List._∷_
               80 (List._∷_ 111 (List._∷_ 115 (List._∷_ 105 (List._∷_ 116 (List._∷_ 105 (List._∷_ 111 (List._∷_ 110 List.[]))))))))))))))))) (Syntax.tcons (Syntax.tyInt Syntax.w64) Syntax.tnil))
-              (Syntax.tcons (Syntax.tyStruct (List._∷_ 112 (List._∷_ 97 (List._∷_ 115 (List._∷_ 115 (List._∷_ 58 (List._∷_ 58 (List._∷_ 83 (List._∷_ 101 (List._∷_ 116 List.[]))))))))) (Syntax.tcons
-              (Syntax.tyArray (Syntax.tyInt Syntax.w32) 112) (Syntax.tcons (Syntax.tyArray (Syntax.tyInt Syntax.w32) 112) Syntax.tnil))) Syntax.tnil))))) (Syntax.tyStruct (List._∷_ 98 (List._∷_ 105
-              (List._∷_ 116 (List._∷_ 115 (List._∷_ 58 (List._∷_ 58 (List._∷_ 66 (List._∷_ 105 (List._∷_ 116 (List._∷_ 80 (List._∷_ 111 (List._∷_ 115 (List._∷_ 105 (List._∷_ 116 (List._∷_ 105 (List._∷_
-              111 (List._∷_ 110 List.[]))))))))))))))))) (Syntax.tcons (Syntax.tyInt Syntax.w64) Syntax.tnil)) 2 16 (u .1 .1 .1 .1 .1 .1 .1 .1 .1 .1 .1 .1 .1 .1 .1 .1 .1 .1 .1 .0) (At.getAt
+              (Syntax.tcons (Syntax.tyStruct (List._∷_ 115 (List._∷_ 116 (List._∷_ 101 (List._∷_ 112 (List._∷_ 115 (List._∷_ 58 (List._∷_ 58 (List._∷_ 83 (List._∷_ 101 (List._∷_ 116 List.[]))))))))))
+              (Syntax.tcons (Syntax.tyArray (Syntax.tyInt Syntax.w32) 112) (Syntax.tcons (Syntax.tyArray (Syntax.tyInt Syntax.w32) 112) Syntax.tnil))) Syntax.tnil))))) (Syntax.tyStruct (List._∷_ 98
+              (List._∷_ 105 (List._∷_ 116 (List._∷_ 115 (List._∷_ 58 (List._∷_ 58 (List._∷_ 66 (List._∷_ 105 (List._∷_ 116 (List._∷_ 80 (List._∷_ 111 (List._∷_ 115 (List._∷_ 105 (List._∷_ 116 (List._∷_
+              105 (List._∷_ 111 (List._∷_ 110 List.[]))))))))))))))))) (Syntax.tcons (Syntax.tyInt Syntax.w64) Syntax.tnil)) 2 16 (u .1 .1 .1 .1 .1 .1 .1 .1 .1 .1 .1 .1 .1 .1 .1 .1 .1 .1 .1 .0) (At.getAt
               (PassPut.the-type .parts) 2 (PassPut.struct .as-values (u .1 .1 .1 .1 .1 .1 .1 .1 .1 .1 .1 .1 .1 .1 .1 .1 .1 .1 .1 .0))) (
                 Row.hd 0 (Row.tl (Row.tl (Row.tl (Row.tl (Row.tl (Row.tl (Row.tl
                     (Row.tl (Row.tl (Row.tl (Row.tl (Row.tl (Row.tl (Row.tl (Row.tl (Row.tl (Row.tl (Row.tl (Row.tl bs))))))))))))))))))),
@@ -5763,19 +5778,19 @@ module _ (claims· : Claims) where
           d31 = Typed.g-pre 𝓤 H A W 𝓣 E G89 G90 b40 Δ3 (Typed.pass T89 T90 (s85 bs)) (at30 bs) (Scalar.g-room 𝓤 H A W E G89 23 Syntax.tyUnit (Scalar.room-sc 𝓤 H A W Row.sUnit)) d30
 
           d32 : Typed.Typed 𝓤 H A 𝓣 E G88 b40 Δ3 (at32 bs)
-          d32 = Typed.g-pre 𝓤 H A W 𝓣 E G88 G89 b40 Δ3 (Typed.pass T88 T89 (s84 bs)) (at31 bs) (Scalar.g-room 𝓤 H A W E G88 21 (Syntax.tyStruct (List._∷_ 112 (List._∷_ 97 (List._∷_ 115 (List._∷_ 115
-              (List._∷_ 58 (List._∷_ 58 (List._∷_ 83 (List._∷_ 101 (List._∷_ 116 List.[]))))))))) (Syntax.tcons (Syntax.tyArray (Syntax.tyInt Syntax.w32) 112) (Syntax.tcons (Syntax.tyArray (Syntax.tyInt
-              Syntax.w32) 112) Syntax.tnil))) (Local.room-whole 𝓤 H A W (Declared.row Set.the-type) (Syntax.tyStruct (List._∷_ 112 (List._∷_ 97 (List._∷_ 115 (List._∷_ 115 (List._∷_ 58 (List._∷_ 58
-              (List._∷_ 83 (List._∷_ 101 (List._∷_ 116 List.[]))))))))) (Syntax.tcons (Syntax.tyArray (Syntax.tyInt Syntax.w32) 112) (Syntax.tcons (Syntax.tyArray (Syntax.tyInt Syntax.w32) 112)
-              Syntax.tnil))) Path'.refl)) d31
+          d32 = Typed.g-pre 𝓤 H A W 𝓣 E G88 G89 b40 Δ3 (Typed.pass T88 T89 (s84 bs)) (at31 bs) (Scalar.g-room 𝓤 H A W E G88 21 (Syntax.tyStruct (List._∷_ 115 (List._∷_ 116 (List._∷_ 101 (List._∷_ 112
+              (List._∷_ 115 (List._∷_ 58 (List._∷_ 58 (List._∷_ 83 (List._∷_ 101 (List._∷_ 116 List.[])))))))))) (Syntax.tcons (Syntax.tyArray (Syntax.tyInt Syntax.w32) 112) (Syntax.tcons (Syntax.tyArray
+              (Syntax.tyInt Syntax.w32) 112) Syntax.tnil))) (Local.room-whole 𝓤 H A W (Declared.row Set.the-type) (Syntax.tyStruct (List._∷_ 115 (List._∷_ 116 (List._∷_ 101 (List._∷_ 112 (List._∷_ 115
+              (List._∷_ 58 (List._∷_ 58 (List._∷_ 83 (List._∷_ 101 (List._∷_ 116 List.[])))))))))) (Syntax.tcons (Syntax.tyArray (Syntax.tyInt Syntax.w32) 112) (Syntax.tcons (Syntax.tyArray (Syntax.tyInt
+              Syntax.w32) 112) Syntax.tnil))) Path'.refl)) d31
 
           d33 : Typed.Typed 𝓤 H A 𝓣 E G87 b40 Δ3 (at33 bs)
-          d33 = Typed.g-pre 𝓤 H A W 𝓣 E G87 G88 b40 Δ3 (Typed.pass T87 T88 (s83 bs)) (at32 bs) (Scalar.g-room 𝓤 H A W E G87 17 (Syntax.tyStruct (List._∷_ 112 (List._∷_ 97 (List._∷_ 115 (List._∷_ 115
-              (List._∷_ 58 (List._∷_ 58 (List._∷_ 80 (List._∷_ 108 (List._∷_ 97 (List._∷_ 110 List.[])))))))))) (Syntax.tcons (Syntax.tyInt Syntax.w64) (Syntax.tcons (Syntax.tyInt Syntax.w64)
-              (Syntax.tcons (Syntax.tyInt Syntax.w64) (Syntax.tcons (Syntax.tyInt Syntax.w32) (Syntax.tcons (Syntax.tyInt Syntax.w32) Syntax.tnil)))))) (Local.room-whole 𝓤 H A W (Declared.row
-              Plan.the-type) (Syntax.tyStruct (List._∷_ 112 (List._∷_ 97 (List._∷_ 115 (List._∷_ 115 (List._∷_ 58 (List._∷_ 58 (List._∷_ 80 (List._∷_ 108 (List._∷_ 97 (List._∷_ 110 List.[]))))))))))
-              (Syntax.tcons (Syntax.tyInt Syntax.w64) (Syntax.tcons (Syntax.tyInt Syntax.w64) (Syntax.tcons (Syntax.tyInt Syntax.w64) (Syntax.tcons (Syntax.tyInt Syntax.w32) (Syntax.tcons (Syntax.tyInt
-              Syntax.w32) Syntax.tnil)))))) Path'.refl)) d32
+          d33 = Typed.g-pre 𝓤 H A W 𝓣 E G87 G88 b40 Δ3 (Typed.pass T87 T88 (s83 bs)) (at32 bs) (Scalar.g-room 𝓤 H A W E G87 17 (Syntax.tyStruct (List._∷_ 115 (List._∷_ 116 (List._∷_ 101 (List._∷_ 112
+              (List._∷_ 115 (List._∷_ 58 (List._∷_ 58 (List._∷_ 80 (List._∷_ 108 (List._∷_ 97 (List._∷_ 110 List.[]))))))))))) (Syntax.tcons (Syntax.tyInt Syntax.w64) (Syntax.tcons (Syntax.tyInt
+              Syntax.w64) (Syntax.tcons (Syntax.tyInt Syntax.w64) (Syntax.tcons (Syntax.tyInt Syntax.w32) (Syntax.tcons (Syntax.tyInt Syntax.w32) Syntax.tnil)))))) (Local.room-whole 𝓤 H A W (Declared.row
+              Plan.the-type) (Syntax.tyStruct (List._∷_ 115 (List._∷_ 116 (List._∷_ 101 (List._∷_ 112 (List._∷_ 115 (List._∷_ 58 (List._∷_ 58 (List._∷_ 80 (List._∷_ 108 (List._∷_ 97 (List._∷_ 110
+              List.[]))))))))))) (Syntax.tcons (Syntax.tyInt Syntax.w64) (Syntax.tcons (Syntax.tyInt Syntax.w64) (Syntax.tcons (Syntax.tyInt Syntax.w64) (Syntax.tcons (Syntax.tyInt Syntax.w32)
+              (Syntax.tcons (Syntax.tyInt Syntax.w32) Syntax.tnil)))))) Path'.refl)) d32
 
           d34 : Typed.Typed 𝓤 H A 𝓣 E G86 b41 Δ3 (at34 bs)
           d34 = Typed.s-seq 𝓤 H A W 𝓣 E G86 G87 b37 b40 Δ3 (Typed.both (s82 bs)) (at33 bs) (Plain.t-call-plain 𝓤 H A W 𝓣 1 ps·6 r·6 (claims· .12) (claims· .13) "block::store_set" (known .6) E (λ pos
@@ -5794,13 +5809,13 @@ module _ (claims· : Claims) where
                 (
                   (
                     Reads.reads-field
-                        𝓤 H A W Plan.the-type Laws'3.the-laws 2 (Syntax.tyInt Syntax.w64) 16 Path'.refl,
+                        𝓤 H A W Plan.the-type Laws'4.the-laws 2 (Syntax.tyInt Syntax.w64) 16 Path'.refl,
                     Path'.refl,
                   ),
                   (
                     (
                       Yields.yields-copy 𝓤 H A W (λ ρ. Unit) (Declared.row Set.the-type) Path'.refl
-                          (Copies.cStruct Set.the-type Laws'4.the-laws Laws'4.the-copy .copy 𝓤 H A W) (Rows.whole (Declared.row Set.the-type)) (λ x. x) (λ x. x) (λ ρ told. Local.mem-whole 𝓤 H A W (Declared.row
+                          (Copies.cStruct Set.the-type Laws'5.the-laws Laws'5.the-copy .copy 𝓤 H A W) (Rows.whole (Declared.row Set.the-type)) (λ x. x) (λ x. x) (λ ρ told. Local.mem-whole 𝓤 H A W (Declared.row
                           Set.the-type) ρ) λ ρ told. Local.whole-mem 𝓤 H A W (Declared.row Set.the-type) ρ,
                       Path'.refl,
                     ),
@@ -5878,52 +5893,53 @@ module _ (claims· : Claims) where
 
           d38 : Typed.Typed 𝓤 H A 𝓣 E G65 b44 Δ3 (at38 bs)
           d38 = Typed.s-seq 𝓤 H A W 𝓣 E G65 G83 b34 b43 Δ3 (Typed.both (s78 bs)) (at37 bs) (WayStmt.t-way-copy-out 𝓤 H A W E 𝓣 (Declared.row Set.the-type) Path'.refl (Copies.cStruct Set.the-type
-              Laws'4.the-laws Laws'4.the-copy .copy 𝓤 H A W) (λ ρ. Unit) G65 (Row.out 19 (G65 .locals)) (λ u. Row.drop 19 (G65 .locals) u) (G65 .slots) 19 (λ t. List._∷_ (Syntax.field 3) t)
-              (Syntax.tyStruct (List._∷_ 112 (List._∷_ 97 (List._∷_ 115 (List._∷_ 115 (List._∷_ 58 (List._∷_ 58 (List._∷_ 83 (List._∷_ 101 (List._∷_ 116 List.[]))))))))) (Syntax.tcons (Syntax.tyArray
-              (Syntax.tyInt Syntax.w32) 112) (Syntax.tcons (Syntax.tyArray (Syntax.tyInt Syntax.w32) 112) Syntax.tnil))) (Syntax.tyStruct (List._∷_ 112 (List._∷_ 97 (List._∷_ 115 (List._∷_ 115 (List._∷_
-              58 (List._∷_ 58 (List._∷_ 83 (List._∷_ 101 (List._∷_ 116 List.[]))))))))) (Syntax.tcons (Syntax.tyArray (Syntax.tyInt Syntax.w32) 112) (Syntax.tcons (Syntax.tyArray (Syntax.tyInt Syntax.w32)
-              112) Syntax.tnil))) 21 (Rows.whole (Declared.row Set.the-type)) (λ x. x) (λ u. At.getAt (PassPut.the-type .parts) 3 (PassPut.struct .as-values (u .1 .1 .1 .1 .1 .1 .1 .1 .1 .1 .1 .1 .1 .1 .1
-              .1 .1 .1 .1 .0))) (λ u. (
-                Row.hd 0 (Row.tl (Row.tl (Row.tl (Row.tl (Row.tl (Row.tl (Row.tl (Row.tl (Row.tl (Row.tl (Row.tl (Row.tl (Row.tl (Row.tl (Row.tl (Row.tl (Row.tl (Row.tl (Row.tl
-                    bs))))))))))))))))))),
+              Laws'5.the-laws Laws'5.the-copy .copy 𝓤 H A W) (λ ρ. Unit) G65 (Row.out 19 (G65 .locals)) (λ u. Row.drop 19 (G65 .locals) u) (G65 .slots) 19 (λ t. List._∷_ (Syntax.field 3) t)
+              (Syntax.tyStruct (List._∷_ 115 (List._∷_ 116 (List._∷_ 101 (List._∷_ 112 (List._∷_ 115 (List._∷_ 58 (List._∷_ 58 (List._∷_ 83 (List._∷_ 101 (List._∷_ 116 List.[])))))))))) (Syntax.tcons
+              (Syntax.tyArray (Syntax.tyInt Syntax.w32) 112) (Syntax.tcons (Syntax.tyArray (Syntax.tyInt Syntax.w32) 112) Syntax.tnil))) (Syntax.tyStruct (List._∷_ 115 (List._∷_ 116 (List._∷_ 101
+              (List._∷_ 112 (List._∷_ 115 (List._∷_ 58 (List._∷_ 58 (List._∷_ 83 (List._∷_ 101 (List._∷_ 116 List.[])))))))))) (Syntax.tcons (Syntax.tyArray (Syntax.tyInt Syntax.w32) 112) (Syntax.tcons
+              (Syntax.tyArray (Syntax.tyInt Syntax.w32) 112) Syntax.tnil))) 21 (Rows.whole (Declared.row Set.the-type)) (λ x. x) (λ u. At.getAt (PassPut.the-type .parts) 3 (PassPut.struct .as-values (u .1
+              .1 .1 .1 .1 .1 .1 .1 .1 .1 .1 .1 .1 .1 .1 .1 .1 .1 .1 .0))) (λ u. (
+                Row.hd 0 (Row.tl (Row.tl (Row.tl (Row.tl (Row.tl (Row.tl (Row.tl (Row.tl (Row.tl (Row.tl (Row.tl (Row.tl (Row.tl (Row.tl
+                    (Row.tl (Row.tl (Row.tl (Row.tl (Row.tl bs))))))))))))))))))),
                 Nat._+_ 0 24,
-              )) (λ T′. record { locals = Row.setRow 19 (19, Rows.whole (Declared.row PassPut.the-type)) T′; slots = G65 .slots }) (λ u T′ m′. Row.set 19 (
-                19,
-                Rows.whole (Declared.row PassPut.the-type),
-              ) (u .1 .1 .1 .1 .1 .1 .1 .1 .1 .1 .1 .1 .1 .1 .1 .1 .1 .1 .1 .0) T′ m′) (λ u. Unit) (λ x. Unit) (Own.told-none 𝓤 H A (G65 .slots))
-              (DerefMove.learns-nothing 𝓤 H A (Declared.row Set.the-type)) (λ ρ told u asked. Way'.w-partˢ 𝓤 H A W E (Declared.row PassPut.the-type) (Declared.row Set.the-type) (Syntax.tyStruct (List._∷_
-              119 (List._∷_ 114 (List._∷_ 105 (List._∷_ 116 (List._∷_ 105 (List._∷_ 110 (List._∷_ 103 (List._∷_ 58 (List._∷_ 58 (List._∷_ 80 (List._∷_ 97 (List._∷_ 115 (List._∷_ 115 (List._∷_ 80 (List._∷_
-              117 (List._∷_ 116 List.[])))))))))))))))) (Syntax.tcons Syntax.tyBool (Syntax.tcons (Syntax.tyInt Syntax.w64) (Syntax.tcons (Syntax.tyStruct (List._∷_ 98 (List._∷_ 105 (List._∷_ 116
-              (List._∷_ 115 (List._∷_ 58 (List._∷_ 58 (List._∷_ 66 (List._∷_ 105 (List._∷_ 116 (List._∷_ 80 (List._∷_ 111 (List._∷_ 115 (List._∷_ 105 (List._∷_ 116 (List._∷_ 105 (List._∷_ 111 (List._∷_
-              110 List.[]))))))))))))))))) (Syntax.tcons (Syntax.tyInt Syntax.w64) Syntax.tnil)) (Syntax.tcons (Syntax.tyStruct (List._∷_ 112 (List._∷_ 97 (List._∷_ 115 (List._∷_ 115 (List._∷_ 58
-              (List._∷_ 58 (List._∷_ 83 (List._∷_ 101 (List._∷_ 116 List.[]))))))))) (Syntax.tcons (Syntax.tyArray (Syntax.tyInt Syntax.w32) 112) (Syntax.tcons (Syntax.tyArray (Syntax.tyInt Syntax.w32)
-              112) Syntax.tnil))) Syntax.tnil))))) (Syntax.tyStruct (List._∷_ 112 (List._∷_ 97 (List._∷_ 115 (List._∷_ 115 (List._∷_ 58 (List._∷_ 58 (List._∷_ 83 (List._∷_ 101 (List._∷_ 116
-              List.[]))))))))) (Syntax.tcons (Syntax.tyArray (Syntax.tyInt Syntax.w32) 112) (Syntax.tcons (Syntax.tyArray (Syntax.tyInt Syntax.w32) 112) Syntax.tnil))) 3 24 (u .1 .1 .1 .1 .1 .1 .1 .1 .1
-              .1 .1 .1 .1 .1 .1 .1 .1 .1 .1 .0) (At.getAt (PassPut.the-type .parts) 3 (PassPut.struct .as-values (u .1 .1 .1 .1 .1 .1 .1 .1 .1 .1 .1 .1 .1 .1 .1 .1 .1 .1 .1 .0))) (
-                Row.hd 0 (Row.tl
-                    (Row.tl (Row.tl (Row.tl (Row.tl (Row.tl (Row.tl (Row.tl (Row.tl (Row.tl (Row.tl (Row.tl (Row.tl (Row.tl (Row.tl (Row.tl (Row.tl (Row.tl (Row.tl bs))))))))))))))))))),
+              )) (λ T′. record {
+                locals = Row.setRow 19 (19, Rows.whole (Declared.row PassPut.the-type)) T′;
+                slots = G65
+                    .slots;
+              }) (λ u T′ m′. Row.set 19 (19, Rows.whole (Declared.row PassPut.the-type)) (u .1 .1 .1 .1 .1 .1 .1 .1 .1 .1 .1 .1 .1 .1 .1 .1 .1 .1 .1 .0) T′ m′) (λ u. Unit) (λ x. Unit)
+              (Own.told-none 𝓤 H A (G65 .slots)) (DerefMove.learns-nothing 𝓤 H A (Declared.row Set.the-type)) (λ ρ told u asked. Way'.w-partˢ 𝓤 H A W E (Declared.row PassPut.the-type) (Declared.row
+              Set.the-type) (Syntax.tyStruct (List._∷_ 119 (List._∷_ 114 (List._∷_ 105 (List._∷_ 116 (List._∷_ 105 (List._∷_ 110 (List._∷_ 103 (List._∷_ 58 (List._∷_ 58 (List._∷_ 80 (List._∷_ 97 (List._∷_
+              115 (List._∷_ 115 (List._∷_ 80 (List._∷_ 117 (List._∷_ 116 List.[])))))))))))))))) (Syntax.tcons Syntax.tyBool (Syntax.tcons (Syntax.tyInt Syntax.w64) (Syntax.tcons (Syntax.tyStruct
+              (List._∷_ 98 (List._∷_ 105 (List._∷_ 116 (List._∷_ 115 (List._∷_ 58 (List._∷_ 58 (List._∷_ 66 (List._∷_ 105 (List._∷_ 116 (List._∷_ 80 (List._∷_ 111 (List._∷_ 115 (List._∷_ 105 (List._∷_ 116
+              (List._∷_ 105 (List._∷_ 111 (List._∷_ 110 List.[]))))))))))))))))) (Syntax.tcons (Syntax.tyInt Syntax.w64) Syntax.tnil)) (Syntax.tcons (Syntax.tyStruct (List._∷_ 115 (List._∷_ 116 (List._∷_
+              101 (List._∷_ 112 (List._∷_ 115 (List._∷_ 58 (List._∷_ 58 (List._∷_ 83 (List._∷_ 101 (List._∷_ 116 List.[])))))))))) (Syntax.tcons (Syntax.tyArray (Syntax.tyInt Syntax.w32) 112)
+              (Syntax.tcons (Syntax.tyArray (Syntax.tyInt Syntax.w32) 112) Syntax.tnil))) Syntax.tnil))))) (Syntax.tyStruct (List._∷_ 115 (List._∷_ 116 (List._∷_ 101 (List._∷_ 112 (List._∷_ 115 (List._∷_
+              58 (List._∷_ 58 (List._∷_ 83 (List._∷_ 101 (List._∷_ 116 List.[])))))))))) (Syntax.tcons (Syntax.tyArray (Syntax.tyInt Syntax.w32) 112) (Syntax.tcons (Syntax.tyArray (Syntax.tyInt
+              Syntax.w32) 112) Syntax.tnil))) 3 24 (u .1 .1 .1 .1 .1 .1 .1 .1 .1 .1 .1 .1 .1 .1 .1 .1 .1 .1 .1 .0) (At.getAt (PassPut.the-type .parts) 3 (PassPut.struct .as-values (u .1 .1 .1 .1 .1 .1 .1
+              .1 .1 .1 .1 .1 .1 .1 .1 .1 .1 .1 .1 .0))) (
+                Row.hd 0 (Row.tl (Row.tl (Row.tl (Row.tl (Row.tl (Row.tl (Row.tl (Row.tl (Row.tl (Row.tl (Row.tl (Row.tl (Row.tl (Row.tl (Row.tl (Row.tl (Row.tl
+                    (Row.tl (Row.tl bs))))))))))))))))))),
                 0,
-              ) (Way.w-look 𝓤 H A
-              W E (Way.w-local 𝓤 H A W E G65 ρ u (G65 .slots) 19 (Declared.row PassPut.the-type) (Rows.whole (Declared.row PassPut.the-type)) (λ x. x) (λ x. x) (u .1 .1 .1 .1 .1 .1 .1 .1 .1 .1 .1 .1 .1 .1
-              .1 .1 .1 .1 .1 .0) (Local.mem-whole 𝓤 H A W (Declared.row PassPut.the-type) ρ (u .1 .1 .1 .1 .1 .1 .1 .1 .1 .1 .1 .1 .1 .1 .1 .1 .1 .1 .1 .0) (Row.hd 0 (Row.tl (Row.tl (Row.tl (Row.tl
-              (Row.tl (Row.tl (Row.tl (Row.tl (Row.tl (Row.tl (Row.tl (Row.tl (Row.tl (Row.tl (Row.tl (Row.tl (Row.tl (Row.tl (Row.tl bs))))))))))))))))))))) (Local.whole-mem 𝓤 H A W (Declared.row
-              PassPut.the-type) ρ (u .1 .1 .1 .1 .1 .1 .1 .1 .1 .1 .1 .1 .1 .1 .1 .1 .1 .1 .1 .0) (Row.hd 0 (Row.tl (Row.tl (Row.tl (Row.tl (Row.tl (Row.tl (Row.tl (Row.tl (Row.tl (Row.tl (Row.tl (Row.tl
-              (Row.tl (Row.tl (Row.tl (Row.tl (Row.tl (Row.tl (Row.tl bs))))))))))))))))))))))) Path'.refl λ q. Inner.cut-record 𝓤 H A q (Declared.row PassPut.the-type) Set.the-type 24 (u .1 .1 .1 .1 .1
-              .1 .1 .1 .1 .1 .1 .1 .1 .1 .1 .1 .1 .1 .1 .0) (u .1 .1 .1 .1 .1 .1 .1 .1 .1 .1 .1 .1 .1 .1 .1 .1 .1 .1 .1 .0) (At.getAt (PassPut.the-type .parts) 3 (PassPut.struct .as-values (u .1 .1 .1 .1
-              .1 .1 .1 .1 .1 .1 .1 .1 .1 .1 .1 .1 .1 .1 .1 .0))) (At.getAt (PassPut.the-type .parts) 3 (PassPut.struct .as-values (u .1 .1 .1 .1 .1 .1 .1 .1 .1 .1 .1 .1 .1 .1 .1 .1 .1 .1 .1 .0))) (
-                Row.hd
-                    0 (Row.tl (Row.tl (Row.tl (Row.tl (Row.tl (Row.tl (Row.tl (Row.tl (Row.tl (Row.tl (Row.tl (Row.tl (Row.tl (Row.tl (Row.tl (Row.tl (Row.tl (Row.tl (Row.tl bs))))))))))))))))))),
+              ) (Way.w-look 𝓤 H A W E (Way.w-local 𝓤 H A W E G65 ρ u (G65 .slots) 19 (Declared.row PassPut.the-type) (Rows.whole (Declared.row PassPut.the-type))
+              (λ x. x) (λ x. x) (u .1 .1 .1 .1 .1 .1 .1 .1 .1 .1 .1 .1 .1 .1 .1 .1 .1 .1 .1 .0) (Local.mem-whole 𝓤 H A W (Declared.row PassPut.the-type) ρ (u .1 .1 .1 .1 .1 .1 .1 .1 .1 .1 .1 .1 .1 .1 .1
+              .1 .1 .1 .1 .0) (Row.hd 0 (Row.tl (Row.tl (Row.tl (Row.tl (Row.tl (Row.tl (Row.tl (Row.tl (Row.tl (Row.tl (Row.tl (Row.tl (Row.tl (Row.tl (Row.tl (Row.tl (Row.tl (Row.tl (Row.tl
+              bs))))))))))))))))))))) (Local.whole-mem 𝓤 H A W (Declared.row PassPut.the-type) ρ (u .1 .1 .1 .1 .1 .1 .1 .1 .1 .1 .1 .1 .1 .1 .1 .1 .1 .1 .1 .0) (Row.hd 0 (Row.tl (Row.tl (Row.tl (Row.tl
+              (Row.tl (Row.tl (Row.tl (Row.tl (Row.tl (Row.tl (Row.tl (Row.tl (Row.tl (Row.tl (Row.tl (Row.tl (Row.tl (Row.tl (Row.tl bs))))))))))))))))))))))) Path'.refl λ q. Inner.cut-record 𝓤 H A q
+              (Declared.row PassPut.the-type) Set.the-type 24 (u .1 .1 .1 .1 .1 .1 .1 .1 .1 .1 .1 .1 .1 .1 .1 .1 .1 .1 .1 .0) (u .1 .1 .1 .1 .1 .1 .1 .1 .1 .1 .1 .1 .1 .1 .1 .1 .1 .1 .1 .0) (At.getAt
+              (PassPut.the-type .parts) 3 (PassPut.struct .as-values (u .1 .1 .1 .1 .1 .1 .1 .1 .1 .1 .1 .1 .1 .1 .1 .1 .1 .1 .1 .0))) (At.getAt (PassPut.the-type .parts) 3 (PassPut.struct .as-values (u
+              .1 .1 .1 .1 .1 .1 .1 .1 .1 .1 .1 .1 .1 .1 .1 .1 .1 .1 .1 .0))) (
+                Row.hd 0 (Row.tl (Row.tl (Row.tl (Row.tl (Row.tl (Row.tl (Row.tl (Row.tl (Row.tl (Row.tl (Row.tl (Row.tl (Row.tl (Row.tl
+                    (Row.tl (Row.tl (Row.tl (Row.tl (Row.tl bs))))))))))))))))))),
                 0,
-              )
-              (Behind.look-at 𝓤 H A W q PassPut.the-type Laws'6.the-laws 3 24 Path'.refl Path'.refl (
-                Row.hd 0 (Row.tl (Row.tl (Row.tl (Row.tl (Row.tl (Row.tl (Row.tl (Row.tl (Row.tl (Row.tl (Row.tl
-                    (Row.tl (Row.tl (Row.tl (Row.tl (Row.tl (Row.tl (Row.tl (Row.tl bs))))))))))))))))))),
+              ) (Behind.look-at 𝓤 H A W q PassPut.the-type Laws'6.the-laws 3 24 Path'.refl Path'.refl (
+                Row.hd 0 (Row.tl (Row.tl (Row.tl
+                    (Row.tl (Row.tl (Row.tl (Row.tl (Row.tl (Row.tl (Row.tl (Row.tl (Row.tl (Row.tl (Row.tl (Row.tl (Row.tl (Row.tl (Row.tl (Row.tl bs))))))))))))))))))),
                 0,
-              ) (u .1 .1 .1 .1 .1 .1 .1 .1 .1 .1 .1 .1 .1 .1 .1 .1 .1 .1 .1 .0) (PassPut.struct .as-values (u .1
-              .1 .1 .1 .1 .1 .1 .1 .1 .1 .1 .1 .1 .1 .1 .1 .1 .1 .1 .0)) Path'.refl)) (Reads'.room-gone 𝓤 H A (Syntax.tyStruct (List._∷_ 112 (List._∷_ 97 (List._∷_ 115 (List._∷_ 115 (List._∷_ 58 (List._∷_
-              58 (List._∷_ 83 (List._∷_ 101 (List._∷_ 116 List.[]))))))))) (Syntax.tcons (Syntax.tyArray (Syntax.tyInt Syntax.w32) 112) (Syntax.tcons (Syntax.tyArray (Syntax.tyInt Syntax.w32) 112)
-              Syntax.tnil)))) (Yields.makes-mem 𝓤 H A W (λ ρ. Unit) (Declared.row Set.the-type) Path'.refl (Rows.whole (Declared.row Set.the-type)) (λ x. x) λ ρ told. Local.whole-mem 𝓤 H A W (Declared.row
-              Set.the-type) ρ) Path'.refl Path'.refl Path'.refl) d37
+              ) (u .1 .1 .1 .1 .1 .1 .1 .1 .1 .1
+              .1 .1 .1 .1 .1 .1 .1 .1 .1 .0) (PassPut.struct .as-values (u .1 .1 .1 .1 .1 .1 .1 .1 .1 .1 .1 .1 .1 .1 .1 .1 .1 .1 .1 .0)) Path'.refl)) (Reads'.room-gone 𝓤 H A (Syntax.tyStruct (List._∷_ 115
+              (List._∷_ 116 (List._∷_ 101 (List._∷_ 112 (List._∷_ 115 (List._∷_ 58 (List._∷_ 58 (List._∷_ 83 (List._∷_ 101 (List._∷_ 116 List.[])))))))))) (Syntax.tcons (Syntax.tyArray (Syntax.tyInt
+              Syntax.w32) 112) (Syntax.tcons (Syntax.tyArray (Syntax.tyInt Syntax.w32) 112) Syntax.tnil)))) (Yields.makes-mem 𝓤 H A W (λ ρ. Unit) (Declared.row Set.the-type) Path'.refl (Rows.whole
+              (Declared.row Set.the-type)) (λ x. x) λ ρ told. Local.whole-mem 𝓤 H A W (Declared.row Set.the-type) ρ) Path'.refl Path'.refl Path'.refl) d37
 
           d39 : Typed.Typed 𝓤 H A 𝓣 E G64 b45 Δ3 (at39 bs)
           d39 = Typed.t-seq 𝓤 H A W 𝓣 E G64 G65 b33 b44 Δ3 (at24 bs) (at38 bs) d24 d38
@@ -5976,11 +5992,11 @@ module _ (claims· : Claims) where
           d49 = Typed.g-pre 𝓤 H A W 𝓣 E G54 G55 b47 Δ3 (λ Ψ. Ψ) (at48 bs) (Lifetime.g-end 𝓤 H A W E G54 7 Path'.refl) d48
 
           d50 : Typed.Typed 𝓤 H A 𝓣 E G53 b47 Δ3 (at50 bs)
-          d50 = Typed.g-pre 𝓤 H A W 𝓣 E G53 G54 b47 Δ3 (Typed.pass T53 T54 (s50 bs)) (at49 bs) (Scalar.g-room 𝓤 H A W E G53 18 (Syntax.tyStruct (List._∷_ 112 (List._∷_ 97 (List._∷_ 115 (List._∷_ 115
-              (List._∷_ 58 (List._∷_ 58 (List._∷_ 83 (List._∷_ 101 (List._∷_ 116 List.[]))))))))) (Syntax.tcons (Syntax.tyArray (Syntax.tyInt Syntax.w32) 112) (Syntax.tcons (Syntax.tyArray (Syntax.tyInt
-              Syntax.w32) 112) Syntax.tnil))) (Local.room-whole 𝓤 H A W (Declared.row Set.the-type) (Syntax.tyStruct (List._∷_ 112 (List._∷_ 97 (List._∷_ 115 (List._∷_ 115 (List._∷_ 58 (List._∷_ 58
-              (List._∷_ 83 (List._∷_ 101 (List._∷_ 116 List.[]))))))))) (Syntax.tcons (Syntax.tyArray (Syntax.tyInt Syntax.w32) 112) (Syntax.tcons (Syntax.tyArray (Syntax.tyInt Syntax.w32) 112)
-              Syntax.tnil))) Path'.refl)) d49
+          d50 = Typed.g-pre 𝓤 H A W 𝓣 E G53 G54 b47 Δ3 (Typed.pass T53 T54 (s50 bs)) (at49 bs) (Scalar.g-room 𝓤 H A W E G53 18 (Syntax.tyStruct (List._∷_ 115 (List._∷_ 116 (List._∷_ 101 (List._∷_ 112
+              (List._∷_ 115 (List._∷_ 58 (List._∷_ 58 (List._∷_ 83 (List._∷_ 101 (List._∷_ 116 List.[])))))))))) (Syntax.tcons (Syntax.tyArray (Syntax.tyInt Syntax.w32) 112) (Syntax.tcons (Syntax.tyArray
+              (Syntax.tyInt Syntax.w32) 112) Syntax.tnil))) (Local.room-whole 𝓤 H A W (Declared.row Set.the-type) (Syntax.tyStruct (List._∷_ 115 (List._∷_ 116 (List._∷_ 101 (List._∷_ 112 (List._∷_ 115
+              (List._∷_ 58 (List._∷_ 58 (List._∷_ 83 (List._∷_ 101 (List._∷_ 116 List.[])))))))))) (Syntax.tcons (Syntax.tyArray (Syntax.tyInt Syntax.w32) 112) (Syntax.tcons (Syntax.tyArray (Syntax.tyInt
+              Syntax.w32) 112) Syntax.tnil))) Path'.refl)) d49
 
           d51 : Typed.Typed 𝓤 H A 𝓣 E G52 b48 Δ3 (at51 bs)
           d51 = Typed.s-seq 𝓤 H A W 𝓣 E G52 G53 b26 b47 Δ3 (Typed.both (s49 bs)) (at50 bs) (Plain.t-call-plain 𝓤 H A W 𝓣 3 ps·5 r·5 (claims· .10) (claims· .11) "writing::write_pass" (known .5) E (λ
@@ -6056,7 +6072,7 @@ module _ (claims· : Claims) where
                           (
                             (
                               Yields.yields-copy 𝓤 H A W (λ ρ. Unit) (Declared.row Set.the-type) Path'.refl
-                                  (Copies.cStruct Set.the-type Laws'4.the-laws Laws'4.the-copy .copy 𝓤 H A W) (Rows.whole (Declared.row Set.the-type)) (λ x. x) (λ x. x) (λ ρ told. Local.mem-whole 𝓤 H A W (Declared.row
+                                  (Copies.cStruct Set.the-type Laws'5.the-laws Laws'5.the-copy .copy 𝓤 H A W) (Rows.whole (Declared.row Set.the-type)) (λ x. x) (λ x. x) (λ ρ told. Local.mem-whole 𝓤 H A W (Declared.row
                                   Set.the-type) ρ) λ ρ told. Local.whole-mem 𝓤 H A W (Declared.row Set.the-type) ρ,
                               Path'.refl,
                             ),
@@ -6065,7 +6081,7 @@ module _ (claims· : Claims) where
                               (
                                 (
                                   Yields.yields-copy 𝓤 H A W
-                                      (λ ρ. Unit) (Declared.row Plan.the-type) Path'.refl (Copies.cStruct Plan.the-type Laws'3.the-laws Laws'3.the-copy .copy 𝓤 H A W) (Rows.whole (Declared.row Plan.the-type)) (λ x. x) (λ x. x)
+                                      (λ ρ. Unit) (Declared.row Plan.the-type) Path'.refl (Copies.cStruct Plan.the-type Laws'4.the-laws Laws'4.the-copy .copy 𝓤 H A W) (Rows.whole (Declared.row Plan.the-type)) (λ x. x) (λ x. x)
                                       (λ ρ told. Local.mem-whole 𝓤 H A W (Declared.row Plan.the-type) ρ) λ ρ told. Local.whole-mem 𝓤 H A W (Declared.row Plan.the-type) ρ,
                                   Path'.refl,
                                 ),
@@ -6089,9 +6105,9 @@ module _ (claims· : Claims) where
               (Reads'.room-gone 𝓤 H A (Syntax.tyStruct (List._∷_ 119 (List._∷_ 114 (List._∷_ 105 (List._∷_ 116 (List._∷_ 105 (List._∷_ 110 (List._∷_ 103 (List._∷_ 58 (List._∷_ 58 (List._∷_ 80 (List._∷_ 97
               (List._∷_ 115 (List._∷_ 115 (List._∷_ 80 (List._∷_ 117 (List._∷_ 116 List.[])))))))))))))))) (Syntax.tcons Syntax.tyBool (Syntax.tcons (Syntax.tyInt Syntax.w64) (Syntax.tcons
               (Syntax.tyStruct (List._∷_ 98 (List._∷_ 105 (List._∷_ 116 (List._∷_ 115 (List._∷_ 58 (List._∷_ 58 (List._∷_ 66 (List._∷_ 105 (List._∷_ 116 (List._∷_ 80 (List._∷_ 111 (List._∷_ 115 (List._∷_
-              105 (List._∷_ 116 (List._∷_ 105 (List._∷_ 111 (List._∷_ 110 List.[]))))))))))))))))) (Syntax.tcons (Syntax.tyInt Syntax.w64) Syntax.tnil)) (Syntax.tcons (Syntax.tyStruct (List._∷_ 112
-              (List._∷_ 97 (List._∷_ 115 (List._∷_ 115 (List._∷_ 58 (List._∷_ 58 (List._∷_ 83 (List._∷_ 101 (List._∷_ 116 List.[]))))))))) (Syntax.tcons (Syntax.tyArray (Syntax.tyInt Syntax.w32) 112)
-              (Syntax.tcons (Syntax.tyArray (Syntax.tyInt Syntax.w32) 112) Syntax.tnil))) Syntax.tnil)))))) (tt, (tt, (tt, tt))) Path'.refl) d50
+              105 (List._∷_ 116 (List._∷_ 105 (List._∷_ 111 (List._∷_ 110 List.[]))))))))))))))))) (Syntax.tcons (Syntax.tyInt Syntax.w64) Syntax.tnil)) (Syntax.tcons (Syntax.tyStruct (List._∷_ 115
+              (List._∷_ 116 (List._∷_ 101 (List._∷_ 112 (List._∷_ 115 (List._∷_ 58 (List._∷_ 58 (List._∷_ 83 (List._∷_ 101 (List._∷_ 116 List.[])))))))))) (Syntax.tcons (Syntax.tyArray (Syntax.tyInt
+              Syntax.w32) 112) (Syntax.tcons (Syntax.tyArray (Syntax.tyInt Syntax.w32) 112) Syntax.tnil))) Syntax.tnil)))))) (tt, (tt, (tt, tt))) Path'.refl) d50
 
           d52 : Typed.Typed 𝓤 H A 𝓣 E G51 b49 Δ3 (at52 bs)
           d52 = Typed.s-seq 𝓤 H A W 𝓣 E G51 G52 b25 b48 Δ3 (Typed.ask (s48 bs)) (at51 bs) (Relend.t-sl-aggregate 𝓤 H A W E (Referent.rtF (Referent.fInt Syntax.w16)) 𝓣 (Relend.asMut (Referent.rtF
@@ -6253,17 +6269,15 @@ module _ (claims· : Claims) where
                 Path'.refl,
                 (
                   (
-                    Reads.reads-field 𝓤 H A W Plan.the-type Laws'3.the-laws 2 (Syntax.tyInt
+                    Reads.reads-field 𝓤 H A W Plan.the-type Laws'4.the-laws 2 (Syntax.tyInt
                         Syntax.w64) 16 Path'.refl,
                     Path'.refl,
                   ),
                   tt,
                 ),
-              ) (Reads'.room-gone 𝓤 H A (Syntax.tyStruct (List._∷_ 112 (List._∷_ 97 (List._∷_ 115 (List._∷_ 115 (List._∷_ 58 (List._∷_ 58 (List._∷_ 83
-              (List._∷_ 101 (List._∷_ 116 List.[]))))))))) (Syntax.tcons (Syntax.tyArray (Syntax.tyInt Syntax.w32) 112) (Syntax.tcons (Syntax.tyArray (Syntax.tyInt Syntax.w32) 112) Syntax.tnil)))) (
-                tt,
-                tt,
-              ) Path'.refl) d60
+              ) (Reads'.room-gone 𝓤 H A (Syntax.tyStruct (List._∷_ 115 (List._∷_ 116 (List._∷_ 101 (List._∷_ 112 (List._∷_ 115 (List._∷_ 58 (List._∷_ 58
+              (List._∷_ 83 (List._∷_ 101 (List._∷_ 116 List.[])))))))))) (Syntax.tcons (Syntax.tyArray (Syntax.tyInt Syntax.w32) 112) (Syntax.tcons (Syntax.tyArray (Syntax.tyInt Syntax.w32) 112)
+              Syntax.tnil)))) (tt, tt) Path'.refl) d60
 
           d62 : Typed.Typed 𝓤 H A 𝓣 E G41 b54 Δ3 (at62 bs)
           d62 = Typed.s-seq 𝓤 H A W 𝓣 E G41 G42 b20 b53 Δ3 (Typed.ask (s38 bs)) (at61 bs) (Relend.t-sl-aggregate 𝓤 H A W E (Element.type) 𝓣 (Relend.asMut (Element.type)) G41 28 29 6 (Syntax.tyRef
@@ -6374,7 +6388,7 @@ module _ (claims· : Claims) where
                   (Scalar.reads-sc 𝓤 H A W (Row.sInt Syntax.w64), Path'.refl),
                   (
                     (
-                      Reads.reads-field 𝓤 H A W Plan.the-type Laws'3.the-laws 1 (Syntax.tyInt Syntax.w64) 8
+                      Reads.reads-field 𝓤 H A W Plan.the-type Laws'4.the-laws 1 (Syntax.tyInt Syntax.w64) 8
                           Path'.refl,
                       Path'.refl,
                     ),
@@ -6493,7 +6507,7 @@ module _ (claims· : Claims) where
                   (Scalar.reads-sc 𝓤 H A W (Row.sInt Syntax.w64), Path'.refl),
                   (
                     (
-                      Reads.reads-field 𝓤 H A W Plan.the-type Laws'3.the-laws 0 (Syntax.tyInt Syntax.w64) 0
+                      Reads.reads-field 𝓤 H A W Plan.the-type Laws'4.the-laws 0 (Syntax.tyInt Syntax.w64) 0
                           Path'.refl,
                       Path'.refl,
                     ),
@@ -6571,7 +6585,7 @@ module _ (claims· : Claims) where
           )) d81
 
           d83 : Typed.Typed 𝓤 H A 𝓣 E G18 b62 Δ3 (at83 bs)
-          d83 = Typed.s-seq 𝓤 H A W 𝓣 E G18 G21 b12 b61 Δ3 (Typed.both (s17 bs)) (at82 bs) (Plain.t-call-plain 𝓤 H A W 𝓣 0 ps·2 r·2 (claims· .4) (claims· .5) "pass::plan_at" (known .2) E (λ pos β. β)
+          d83 = Typed.s-seq 𝓤 H A W 𝓣 E G18 G21 b12 b61 Δ3 (Typed.both (s17 bs)) (at82 bs) (Plain.t-call-plain 𝓤 H A W 𝓣 0 ps·2 r·2 (claims· .4) (claims· .5) "steps::plan_at" (known .2) E (λ pos β. β)
               G18 (Num.vAt 16 λ x. x, (Bool.bAt 10 λ x. x, tt)) 17 List.[] (Call.sub-id 𝓤 H A W (G18 .slots)) (
                 (Scalar.reads-sc 𝓤 H A W (Row.sInt Syntax.w64), Path'.refl),
                 (
@@ -6582,9 +6596,9 @@ module _ (claims· : Claims) where
                   ),
                   tt,
                 ),
-              ) (Reads'.room-gone 𝓤 H A (Syntax.tyStruct (List._∷_ 112 (List._∷_ 97 (List._∷_ 115 (List._∷_ 115 (List._∷_ 58 (List._∷_ 58 (List._∷_ 80 (List._∷_ 108 (List._∷_
-              97 (List._∷_ 110 List.[])))))))))) (Syntax.tcons (Syntax.tyInt Syntax.w64) (Syntax.tcons (Syntax.tyInt Syntax.w64) (Syntax.tcons (Syntax.tyInt Syntax.w64) (Syntax.tcons (Syntax.tyInt
-              Syntax.w32) (Syntax.tcons (Syntax.tyInt Syntax.w32) Syntax.tnil))))))) tt Path'.refl) d82
+              ) (Reads'.room-gone 𝓤 H A (Syntax.tyStruct (List._∷_ 115 (List._∷_ 116 (List._∷_ 101 (List._∷_ 112 (List._∷_ 115 (List._∷_ 58 (List._∷_ 58 (List._∷_ 80 (List._∷_
+              108 (List._∷_ 97 (List._∷_ 110 List.[]))))))))))) (Syntax.tcons (Syntax.tyInt Syntax.w64) (Syntax.tcons (Syntax.tyInt Syntax.w64) (Syntax.tcons (Syntax.tyInt Syntax.w64) (Syntax.tcons
+              (Syntax.tyInt Syntax.w32) (Syntax.tcons (Syntax.tyInt Syntax.w32) Syntax.tnil))))))) tt Path'.refl) d82
 
           d84 : Typed.Typed 𝓤 H A 𝓣 E G17 b63 Δ3 (at84 bs)
           d84 = Typed.t-seq 𝓤 H A W 𝓣 E G17 G18 b11 b62 Δ3 (at4 bs) (at83 bs) d4 d83
@@ -6730,14 +6744,14 @@ module _ (claims· : Claims) where
 
           d105 : Typed.Typed 𝓤 H A 𝓣 E G10 b73 Δ0 (at105 bs)
           d105 = Typed.s-seq 𝓤 H A W 𝓣 E G10 G11 b5 b72 Δ0 (Typed.pass T10 T11 (s9 bs)) (at104 bs) (Scalar.t-use 𝓤 H A W E 𝓣 G10 (Scalar.oFld 12 (List._∷_ (Syntax.field 3) List.[]) (Syntax.tyInt
-              Syntax.w32) 12 (Reads.fieldV Quantiser.the-type Laws'5.the-laws 3)) 14 (Rows.sc-here (Row.sInt Syntax.w32)) (Syntax.tyInt Syntax.w32) (Row.valS (Row.sInt Syntax.w32)) (Row.sInt Syntax.w32
-              .of) (Reads.reads-field 𝓤 H A W Quantiser.the-type Laws'5.the-laws 3 (Syntax.tyInt Syntax.w32) 12 Path'.refl, Path'.refl) (Reads'.room-gone 𝓤 H A (Syntax.tyInt Syntax.w32))
+              Syntax.w32) 12 (Reads.fieldV Quantiser.the-type Laws'3.the-laws 3)) 14 (Rows.sc-here (Row.sInt Syntax.w32)) (Syntax.tyInt Syntax.w32) (Row.valS (Row.sInt Syntax.w32)) (Row.sInt Syntax.w32
+              .of) (Reads.reads-field 𝓤 H A W Quantiser.the-type Laws'3.the-laws 3 (Syntax.tyInt Syntax.w32) 12 Path'.refl, Path'.refl) (Reads'.room-gone 𝓤 H A (Syntax.tyInt Syntax.w32))
               (Scalar.holds-sc 𝓤 H A W (Row.sInt Syntax.w32)) Path'.refl (λ u. Path'.refl) λ u. tt) d104
 
           d106 : Typed.Typed 𝓤 H A 𝓣 E G9 b74 Δ0 (at106 bs)
           d106 = Typed.s-seq 𝓤 H A W 𝓣 E G9 G10 b4 b73 Δ0 (Typed.pass T9 T10 (s8 bs)) (at105 bs) (Scalar.t-use 𝓤 H A W E 𝓣 G9 (Scalar.oFld 12 (List._∷_ (Syntax.field 4) List.[]) (Syntax.tyInt
-              Syntax.w32) 16 (Reads.fieldV Quantiser.the-type Laws'5.the-laws 4)) 13 (Rows.sc-here (Row.sInt Syntax.w32)) (Syntax.tyInt Syntax.w32) (Row.valS (Row.sInt Syntax.w32)) (Row.sInt Syntax.w32
-              .of) (Reads.reads-field 𝓤 H A W Quantiser.the-type Laws'5.the-laws 4 (Syntax.tyInt Syntax.w32) 16 Path'.refl, Path'.refl) (Reads'.room-gone 𝓤 H A (Syntax.tyInt Syntax.w32))
+              Syntax.w32) 16 (Reads.fieldV Quantiser.the-type Laws'3.the-laws 4)) 13 (Rows.sc-here (Row.sInt Syntax.w32)) (Syntax.tyInt Syntax.w32) (Row.valS (Row.sInt Syntax.w32)) (Row.sInt Syntax.w32
+              .of) (Reads.reads-field 𝓤 H A W Quantiser.the-type Laws'3.the-laws 4 (Syntax.tyInt Syntax.w32) 16 Path'.refl, Path'.refl) (Reads'.room-gone 𝓤 H A (Syntax.tyInt Syntax.w32))
               (Scalar.holds-sc 𝓤 H A W (Row.sInt Syntax.w32)) Path'.refl (λ u. Path'.refl) λ u. tt) d105
 
           d107 : Typed.Typed 𝓤 H A 𝓣 E G8 b75 Δ0 (at107 bs)
@@ -8794,7 +8808,7 @@ module _ (claims· : Claims) where
 
         module _ {M : Type 1} (𝓤 : URA.URA M) (H : Wp.Heap 𝓤) (A : Atoms.Atoms 𝓤) (W : Kit.Given 𝓤 H A) (𝓣 : Wp.Tables 𝓤 H) (known0 : Plain.Known 𝓤 H A W 𝓣 0 ps·0 r·0 (claims· .0) (claims· .1)
             "block::width") (known1 : Plain.Known 𝓤 H A W 𝓣 0 ps·1 r·1 (claims· .2) (claims· .3) "quantiser::Quantiser::main") (known2 : Plain.Known 𝓤 H A W 𝓣 0 ps·2 r·2 (claims· .4) (claims· .5)
-            "pass::plan_at") (known3 : Plain.Known 𝓤 H A W 𝓣 1 ps·3 r·3 (claims· .6) (claims· .7) "lines::set_guards") (known4 : Plain.Known 𝓤 H A W 𝓣 1 ps·4 r·4 (claims· .8) (claims· .9)
+            "steps::plan_at") (known3 : Plain.Known 𝓤 H A W 𝓣 1 ps·3 r·3 (claims· .6) (claims· .7) "lines::set_guards") (known4 : Plain.Known 𝓤 H A W 𝓣 1 ps·4 r·4 (claims· .8) (claims· .9)
             "block::load_set") (known5 : Plain.Known 𝓤 H A W 𝓣 3 ps·5 r·5 (claims· .10) (claims· .11) "writing::write_pass") (known6 : Plain.Known 𝓤 H A W 𝓣 1 ps·6 r·6 (claims· .12) (claims· .13)
             "block::store_set") where
           pub spec : Statement.Triple 𝓤 (Wp.WpFn 𝓤 H (𝓣 .C) (𝓣 .Λ) (Function.fnOf 4 ps r xs m hs body)) (Function.plainOf 𝓤 H A 4 ps r Pre· Post·)
