@@ -6,7 +6,7 @@ ghost use lib.Dec.{eqb};
 ghost use lib.ListN.{length};
 ghost use Rattle.lines.specs.ColourLines.{zeroLines};
 ghost use Rattle.map.specs.Places.{widthOf, ArePlaces, Fits};
-ghost use Rattle.pass.specs.Readings.{quantisersOf, Depth};
+ghost use Rattle.steps.specs.Values.{quantisersOf, Depth};
 ghost use Rattle.block.specs.Lent.{ScratchOf};
 ghost use Rattle.block.specs.Records.{baseOf, isRestarted, clearRecords};
 ghost use Rattle.block.specs.Blocks.{AllInRange, LineRead, Shown, shownLines, IsWalked};
@@ -23,22 +23,16 @@ use bits::BitPosition;
 use bits::is_past;
 use map::Part;
 use map::width;
-use pass::Quantisers;
 use quantiser::Quantiser;
 use statistics::Record;
-
-fn wide(x: u8) -> u32
-    ensures { λ r. ⌜ (r ≡ x) × (r < 256) ⌝ }
-{
-    x as u32
-}
+use steps::Quantisers;
 
 // The base of line n; a lossless block has none, and base 0 in each line.
 fn base_of(bases: &[u8], n: usize) -> u32
     ensures { λ r. ⌜ (r ≡ baseOf (now (bases .entry)) n) × (r < 256) ⌝ }
 {
     if n < bases.len() {
-        return wide(bases[n]);
+        return numbers::u8_to_u32(bases[n]);
     }
     0
 }
@@ -104,7 +98,7 @@ fn line(
     let mut tight = tight_before;
     let mut i: usize = 0;
     while i < 6 {
-        let p = pass::plan_at(i, xtrans);
+        let p = steps::plan_at(i, xtrans);
         lines::set_guards(lines, w, p.first);
         lines::set_guards(lines, w, p.second);
         let set = load_set(rs, p.set);

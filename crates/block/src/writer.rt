@@ -4,7 +4,7 @@ ghost use Prim.Native.Nat.{_+_, _*_, _^_, _≤_, _<_};
 ghost use lib.ListN.{length};
 ghost use Rattle.lines.specs.ColourLines.{zeroLines};
 ghost use Rattle.map.specs.Places.{widthOf};
-ghost use Rattle.pass.specs.Readings.{Depth};
+ghost use Rattle.steps.specs.Values.{Depth};
 ghost use Rattle.quantiser.specs.Quantisers.{largest};
 ghost use Rattle.bits.specs.BitLists.{bytesFor};
 ghost use Rattle.writing.specs.Sets.{lineSize, setSize};
@@ -69,7 +69,7 @@ fn write_line(
     let mut at = from;
     let mut i: usize = 0;
     while i < 6 {
-        let p = pass::plan_at(i, xtrans);
+        let p = steps::plan_at(i, xtrans);
         lines::set_guards(lines, w, p.first);
         lines::set_guards(lines, w, p.second);
         let set = load_set(rs, p.set);

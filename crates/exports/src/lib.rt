@@ -9,18 +9,12 @@ use stream::Parsed;
 use stream::Ranged;
 use stream::Width;
 
-fn flag(b: bool) -> usize
-    ensures { λ r. ⌜ r ≡ flag b ⌝ }
-{
-    if b { 1 } else { 0 }
-}
-
 fn header_words(h: FujiHeader) -> [usize; 9]
     ensures { λ w. ⌜ w ≡ headerWords h ⌝ }
 {
     [
-        flag(h.lossless),
-        flag(h.xtrans),
+        numbers::flag_usize(h.lossless),
+        numbers::flag_usize(h.xtrans),
         h.bits as usize,
         h.height as usize,
         h.rounded_width as usize,

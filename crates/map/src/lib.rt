@@ -802,18 +802,12 @@ pub fn xtrans_places() -> [u16; 768]
     XTRANS_PLACES
 }
 
-fn wide(x: u16) -> usize
-    ensures { λ r. ⌜ r ≡ x ⌝ }
-{
-    x as usize
-}
-
 fn place_in(xtrans: bool, places: &[u16; 768], p: usize) -> usize
     requires { ⌜ (p < 768) × ArePlaces (now places) ⌝ }
     ensures { λ r. ⌜ r ≡ placeIn xtrans p ⌝ }
 {
     if xtrans {
-        return wide(places[p]);
+        return numbers::u16_to_usize(places[p]);
     }
     p / 2
 }

@@ -79,17 +79,11 @@ pub enum Ranged {
     Refused(Refusal),
 }
 
-fn wide(x: u8) -> u32
-    ensures { λ r. ⌜ (r ≡ x) × (r < 256) ⌝ }
-{
-    x as u32
-}
-
 fn byte(d: &[u8], i: usize) -> u32
     requires { ⌜ i < length (now d) ⌝ }
     ensures { λ r. ⌜ (r ≡ byteAt (now (d .entry)) i) × (r < 256) ⌝ }
 {
-    wide(d[i])
+    numbers::u8_to_u32(d[i])
 }
 
 // The two bytes at i.

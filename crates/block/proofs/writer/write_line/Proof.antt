@@ -8,7 +8,8 @@ use native.Mathlib.Omega.{arith}
 use lib.ListN.{length}
 use Rattle.quantiser.specs.declared.Quantiser.{Quantiser}
 use Rattle.map.specs.Places.{widthOf}
-use Rattle.pass.specs.Readings.{usedQuantiser, recordsOf}
+use Rattle.steps.specs.Contexts.{usedQuantiser}
+use Rattle.steps.specs.Values.{recordsOf}
 use Rattle.block.specs.Blocks.{AllInRange}
 use Rattle.block.specs.Records.{putSet}
 use Rattle.block.specs.WrittenAnswers.{passesFrom}
@@ -66,7 +67,7 @@ set-guards-requires c κs =
     let p = c .before in
     let l = p .before .before .loop in
     let r = planned _ (l .i) _ (omega arith) (p .plan-at .ensures) in
-    (l .inv .1 .2, (omega arith, (r .0 .1, omega arith)))
+    (l .inv .1 .2, (omega arith, (r .0 .first-high, omega arith)))
 
 set-guards-requires-2 : tie.Need-set-guards-requires-2 Inv-loop μ-loop
 set-guards-requires-2 c κs =
@@ -74,7 +75,7 @@ set-guards-requires-2 c κs =
     let p = g .before .before in
     let l = p .before .before .loop in
     let r = planned _ (l .i) _ (omega arith) (p .plan-at .ensures) in
-    (l .inv .1 .2, (omega arith, (r .0 .3, omega (arith, g .set-guards .kept, l .inv .2))))
+    (l .inv .1 .2, (omega arith, (r .0 .second-high, omega (arith, g .set-guards .kept, l .inv .2))))
 
 load-set-requires : tie.Need-load-set-requires Inv-loop μ-loop
 load-set-requires c κs =
@@ -92,30 +93,24 @@ write-pass-requires c κs =
     let g₁ = first (second s) .set-guards .ensures in
     let g₂ = second s .set-guards2 .ensures in
     let t = p .before .loop-test .taken in
-    let w = l .inv .1 in (
-      ((w .1, (w .2, w .3)), r .0),
-      (
-        (a .pre .1 .0 .0, (l .inv .6 .0, l .inv .6 .1)),
-        (
-          (a .pre .0 .0, (rw (w .0) (a .pre .0 .1 .0), a .pre .0 .1 .1)),
-          (
-            (
-              omega (arith, second s .set-guards2 .kept, first (second s) .set-guards .kept, l .inv .2),
-              (
-                pass-samples _ _ _ _ _ (l .i) _ _ t _ _ _ _ _ _ _ _ _ _ (l .inv .7) (l .inv .5) (a .pre .1 .1 .1 .1) (w .0) (p .plan-at .ensures) g₁ g₂ (s .load-set .ensures .0)
-                    (a .pre .0 .1 .1) (a .pre .1 .1 .0 .0),
-                rw (s .load-set .ensures .0) (set-in-range _ _ (r .1) (l .inv .4)),
-              ),
-            ),
-            (
-              pass-position _ _ _ _ _ (l .i) _ _ t _ _ _ _ _ _ _ _ _ _ (l .inv .7) (l .inv .5) (a .pre .1 .1 .1 .1) (w .0) (p .plan-at .ensures) g₁ g₂ (s .load-set .ensures .0)
-                  (a .pre .1 .0 .0 .1) (a .pre .1 .1 .1 .0),
-              pass-room _ _ _ _ _ (l .i) _ _ t _ _ _ _ _ _ _ _ _ _ (l .inv .7) (l .inv .5) (a .pre .1 .1 .1 .1) (w .0) (p .plan-at .ensures) g₁ g₂ (s .load-set .ensures .0),
-            ),
-          ),
-        ),
-      ),
-    )
+    let w = l .inv .1 in
+    record {
+      low = w .1;
+      high = w .2;
+      even = w .3;
+      plan = r .0;
+      numbers = record { depth = a .pre .1 .0 .0; limit-is = l .inv .6 .0; raw-is = l .inv .6 .1 };
+      line = a .pre .0 .0;
+      samples = rw (w .0) (a .pre .0 .1 .0);
+      wanted = a .pre .0 .1 .1;
+      long = omega (arith, second s .set-guards2 .kept, first (second s) .set-guards .kept, l .inv .2);
+      held = pass-samples _ _ _ _ _ (l .i) _ _ t _ _ _ _ _ _ _ _ _ _ (l .inv .7) (l .inv .5) (a .pre .1 .1 .1 .1) (w .0) (p .plan-at .ensures) g₁ g₂ (s .load-set .ensures .0)
+          (a .pre .0 .1 .1) (a .pre .1 .1 .0 .0);
+      records = rw (s .load-set .ensures .0) (set-in-range _ _ (r .1) (l .inv .4));
+      position = pass-position _ _ _ _ _ (l .i) _ _ t _ _ _ _ _ _ _ _ _ _ (l .inv .7) (l .inv .5) (a .pre .1 .1 .1 .1) (w .0) (p .plan-at .ensures) g₁ g₂ (s .load-set .ensures .0)
+          (a .pre .1 .0 .0 .1) (a .pre .1 .1 .1 .0);
+      room = pass-room _ _ _ _ _ (l .i) _ _ t _ _ _ _ _ _ _ _ _ _ (l .inv .7) (l .inv .5) (a .pre .1 .1 .1 .1) (w .0) (p .plan-at .ensures) g₁ g₂ (s .load-set .ensures .0);
+    }
 
 same-length : tie.Need-same-length Inv-loop μ-loop
 same-length c =
@@ -145,7 +140,7 @@ returns c =
     let l = p .before .before .loop in
     let a = start (p .before .before) in (
       pass-failed _ _ _ _ _ (l .i) _ _ (p .before .loop-test .taken) _ _ _ _ _ _ _ _ _ _ (l .inv .7) (l .inv .5) (a .pre .1 .1 .1 .1) (l .inv .1 .0) (p .plan-at .ensures)
-          (first (second s) .set-guards .ensures) (second s .set-guards2 .ensures) (s .load-set .ensures .0) _ _ (d .write-pass .result) (d .write-pass .ensures .0) _
+          (first (second s) .set-guards .ensures) (second s .set-guards2 .ensures) (s .load-set .ensures .0) _ _ (d .write-pass .result) (d .write-pass .ensures .answer) _
           (not-true _ (c .if1 .taken)),
       rw (s .load-set .ensures .1) (l .inv .4),
     )
@@ -177,12 +172,12 @@ loop-again c =
       l .inv .1,
       omega (arith, d .write-pass .kept, second s .set-guards2 .kept, first (second s) .set-guards .kept, l .inv .2),
       omega (arith, t .kept, s .load-set .kept, l .inv .3),
-      rw e (put-in-range _ _ _ (r .1) (l .inv .3) (d .write-pass .ensures .1) (l .inv .4)),
+      rw e (put-in-range _ _ _ (r .1) (l .inv .3) (d .write-pass .ensures .records) (l .inv .4)),
       omega (arith, d .write-pass .kept, l .inv .5),
       l .inv .6,
       rw e
           (pass-more _ _ _ _ _ (l .i) _ _ (p .before .loop-test .taken) _ _ _ _ _ _ _ _ _ _ (l .inv .7) (l .inv .5) (a .pre .1 .1 .1 .1) (l .inv .1 .0) (p .plan-at .ensures)
-          (first (second s) .set-guards .ensures) (second s .set-guards2 .ensures) (s .load-set .ensures .0) _ _ (d .write-pass .result) (d .write-pass .ensures .0)
+          (first (second s) .set-guards .ensures) (second s .set-guards2 .ensures) (s .load-set .ensures .0) _ _ (d .write-pass .result) (d .write-pass .ensures .answer)
           (not-false _ (c .before .before .before .before .before .if1 .left))),
     )
 
