@@ -5,12 +5,12 @@ use Rattle.bits.proofs.BitPosition
 use Rattle.bits.proofs.BitPosition.Laws
 use Rattle.block.proofs.Form
 use Rattle.block.proofs.Form.Laws as Laws'
-use Rattle.pass.proofs.Plan
-use Rattle.pass.proofs.Plan.Laws as Laws''
-use Rattle.pass.proofs.Set
-use Rattle.pass.proofs.Set.Laws as Laws'3
 use Rattle.quantiser.proofs.Quantiser
-use Rattle.quantiser.proofs.Quantiser.Laws as Laws'4
+use Rattle.quantiser.proofs.Quantiser.Laws as Laws''
+use Rattle.steps.proofs.Plan
+use Rattle.steps.proofs.Plan.Laws as Laws'3
+use Rattle.steps.proofs.Set
+use Rattle.steps.proofs.Set.Laws as Laws'4
 use Rattle.writing.proofs.PassPut
 use Rattle.writing.proofs.PassPut.Laws as Laws'5
 use Rattle.writing.proofs.Put
@@ -81,18 +81,18 @@ use prog.Wp
 use types.Kit
 
 abbrev pub y0 : Syntax.Ty
-y0 = Syntax.tyStruct (List._∷_ 112 (List._∷_ 97 (List._∷_ 115 (List._∷_ 115 (List._∷_ 58 (List._∷_ 58 (List._∷_ 80 (List._∷_ 108 (List._∷_ 97 (List._∷_ 110 List.[])))))))))) (Syntax.tcons
-    (Syntax.tyInt Syntax.w64) (Syntax.tcons (Syntax.tyInt Syntax.w64) (Syntax.tcons (Syntax.tyInt Syntax.w64) (Syntax.tcons (Syntax.tyInt Syntax.w32) (Syntax.tcons (Syntax.tyInt Syntax.w32)
-    Syntax.tnil)))))
-
-abbrev pub y1 : Syntax.Ty
-y1 = Syntax.tyStruct (List._∷_ 112 (List._∷_ 97 (List._∷_ 115 (List._∷_ 115 (List._∷_ 58 (List._∷_ 58 (List._∷_ 83 (List._∷_ 101 (List._∷_ 116 List.[]))))))))) (Syntax.tcons (Syntax.tyArray
-    (Syntax.tyInt Syntax.w32) 112) (Syntax.tcons (Syntax.tyArray (Syntax.tyInt Syntax.w32) 112) Syntax.tnil))
-
-abbrev pub y2 : Syntax.Ty
-y2 = Syntax.tyStruct (List._∷_ 113 (List._∷_ 117 (List._∷_ 97 (List._∷_ 110 (List._∷_ 116 (List._∷_ 105 (List._∷_ 115 (List._∷_ 101 (List._∷_ 114 (List._∷_ 58 (List._∷_ 58 (List._∷_ 81 (List._∷_ 117
+y0 = Syntax.tyStruct (List._∷_ 113 (List._∷_ 117 (List._∷_ 97 (List._∷_ 110 (List._∷_ 116 (List._∷_ 105 (List._∷_ 115 (List._∷_ 101 (List._∷_ 114 (List._∷_ 58 (List._∷_ 58 (List._∷_ 81 (List._∷_ 117
     (List._∷_ 97 (List._∷_ 110 (List._∷_ 116 (List._∷_ 105 (List._∷_ 115 (List._∷_ 101 (List._∷_ 114 List.[])))))))))))))))))))) (Syntax.tcons (Syntax.tyInt Syntax.w32) (Syntax.tcons (Syntax.tyInt
     Syntax.w32) (Syntax.tcons (Syntax.tyInt Syntax.w32) (Syntax.tcons (Syntax.tyInt Syntax.w32) (Syntax.tcons (Syntax.tyInt Syntax.w32) Syntax.tnil)))))
+
+abbrev pub y1 : Syntax.Ty
+y1 = Syntax.tyStruct (List._∷_ 115 (List._∷_ 116 (List._∷_ 101 (List._∷_ 112 (List._∷_ 115 (List._∷_ 58 (List._∷_ 58 (List._∷_ 80 (List._∷_ 108 (List._∷_ 97 (List._∷_ 110 List.[])))))))))))
+    (Syntax.tcons (Syntax.tyInt Syntax.w64) (Syntax.tcons (Syntax.tyInt Syntax.w64) (Syntax.tcons (Syntax.tyInt Syntax.w64) (Syntax.tcons (Syntax.tyInt Syntax.w32) (Syntax.tcons (Syntax.tyInt Syntax.w32)
+    Syntax.tnil)))))
+
+abbrev pub y2 : Syntax.Ty
+y2 = Syntax.tyStruct (List._∷_ 115 (List._∷_ 116 (List._∷_ 101 (List._∷_ 112 (List._∷_ 115 (List._∷_ 58 (List._∷_ 58 (List._∷_ 83 (List._∷_ 101 (List._∷_ 116 List.[])))))))))) (Syntax.tcons
+    (Syntax.tyArray (Syntax.tyInt Syntax.w32) 112) (Syntax.tcons (Syntax.tyArray (Syntax.tyInt Syntax.w32) 112) Syntax.tnil))
 
 abbrev pub y3 : Syntax.Ty
 y3 = Syntax.tyStruct (List._∷_ 38 (List._∷_ 91 (List._∷_ 93 List.[]))) (Syntax.tcons (Syntax.tyRef Syntax.erased Syntax.mut (Syntax.tyInt Syntax.w16)) (Syntax.tcons (Syntax.tyInt Syntax.w64)
@@ -115,7 +115,7 @@ y7 = Syntax.tyStruct (List._∷_ 98 (List._∷_ 108 (List._∷_ 111 (List._∷_ 
 
 abbrev pub y8 : Syntax.Ty
 y8 = Syntax.tyStruct (List._∷_ 119 (List._∷_ 114 (List._∷_ 105 (List._∷_ 116 (List._∷_ 105 (List._∷_ 110 (List._∷_ 103 (List._∷_ 58 (List._∷_ 58 (List._∷_ 80 (List._∷_ 97 (List._∷_ 115 (List._∷_ 115
-    (List._∷_ 80 (List._∷_ 117 (List._∷_ 116 List.[])))))))))))))))) (Syntax.tcons Syntax.tyBool (Syntax.tcons (Syntax.tyInt Syntax.w64) (Syntax.tcons y6 (Syntax.tcons y1 Syntax.tnil))))
+    (List._∷_ 80 (List._∷_ 117 (List._∷_ 116 List.[])))))))))))))))) (Syntax.tcons Syntax.tyBool (Syntax.tcons (Syntax.tyInt Syntax.w64) (Syntax.tcons y6 (Syntax.tcons y2 Syntax.tnil))))
 
 abbrev pub ps : List.List (Kinds.PK 4)
 ps = List._∷_ (ShrSlice.pShrS (Referent.rtF (Referent.fInt Syntax.w16)) 0 tt) (List._∷_ (Num.pNum Syntax.w64) (List._∷_ (MutSlice.pMutS (Referent.rtF (Referent.fInt Syntax.w8)) 1 tt) (List._∷_
@@ -176,8 +176,8 @@ r = Value.rVal record {
 }
 
 abbrev pub xs : List.List Syntax.Ty
-xs = List._∷_ (Syntax.tyInt Syntax.w32) (List._∷_ Syntax.tyBool (List._∷_ (Syntax.tyInt Syntax.w64) (List._∷_ y2 (List._∷_ (Syntax.tyInt Syntax.w32) (List._∷_ (Syntax.tyInt Syntax.w32) (List._∷_ y6
-    (List._∷_ (Syntax.tyInt Syntax.w64) (List._∷_ y0 (List._∷_ y1 (List._∷_ y8 (List._∷_ Syntax.tyBool (List._∷_ y1 (List._∷_ Syntax.tyBool (List._∷_ Syntax.tyUnit (List._∷_ (Syntax.tyRef Syntax.erased
+xs = List._∷_ (Syntax.tyInt Syntax.w32) (List._∷_ Syntax.tyBool (List._∷_ (Syntax.tyInt Syntax.w64) (List._∷_ y0 (List._∷_ (Syntax.tyInt Syntax.w32) (List._∷_ (Syntax.tyInt Syntax.w32) (List._∷_ y6
+    (List._∷_ (Syntax.tyInt Syntax.w64) (List._∷_ y1 (List._∷_ y2 (List._∷_ y8 (List._∷_ Syntax.tyBool (List._∷_ y2 (List._∷_ Syntax.tyBool (List._∷_ Syntax.tyUnit (List._∷_ (Syntax.tyRef Syntax.erased
     Syntax.mut (Syntax.tyInt Syntax.w16)) (List._∷_ y3 (List._∷_ (Syntax.tyRef Syntax.erased Syntax.mut (Syntax.tyInt Syntax.w16)) (List._∷_ y3 (List._∷_ (Syntax.tyRef Syntax.erased Syntax.mut
     Element.behind) (List._∷_ y5 (List._∷_ (Syntax.tyRef Syntax.erased Syntax.mut (Syntax.tyInt Syntax.w8)) (List._∷_ y4 (List._∷_ (Syntax.tyRef Syntax.erased Syntax.mut (Syntax.tyInt Syntax.w16))
     (List._∷_ y3 (List._∷_ (Syntax.tyRef Syntax.erased Syntax.mut Element.behind) (List._∷_ y5 List.[]))))))))))))))))))))))))))
@@ -198,17 +198,17 @@ abbrev pub r·1 : Kinds.RK 0
 r·1 = Value.rVal record {
   ty = Declared'.row Quantiser.the-type;
   one = Path'.refl;
-  val = Laws'8.val Quantiser.the-type Laws'4.the-laws;
-  tells = Laws'8.tells Quantiser.the-type Laws'4.the-laws;
+  val = Laws'8.val Quantiser.the-type Laws''.the-laws;
+  tells = Laws'8.tells Quantiser.the-type Laws''.the-laws;
   still = Laws'8.still
-      Quantiser.the-type Laws'4.the-copy Exit.yes;
+      Quantiser.the-type Laws''.the-copy Exit.yes;
   row = Rows.whole (Declared'.row Quantiser.the-type);
   rd = λ x. x;
   mk = λ x. x;
 } λ M 𝓤 H A W. record {
-  copies = Laws'8.copy Quantiser.the-type Laws'4.the-copy 𝓤 H A W;
-  lawful = Laws'8.lawful Quantiser.the-type Laws'4.the-laws 𝓤 H A W;
-  makes = Laws'8.makes Quantiser.the-type Laws'4.the-plain 𝓤 H A;
+  copies = Laws'8.copy Quantiser.the-type Laws''.the-copy 𝓤 H A W;
+  lawful = Laws'8.lawful Quantiser.the-type Laws''.the-laws 𝓤 H A W;
+  makes = Laws'8.makes Quantiser.the-type Laws''.the-plain 𝓤 H A;
   in-mem = Local.mem-whole 𝓤 H A W (Declared'.row Quantiser.the-type);
   of-mem = Local.whole-mem 𝓤 H A W (Declared'.row Quantiser.the-type);
 }
@@ -220,17 +220,17 @@ abbrev pub r·2 : Kinds.RK 0
 r·2 = Value.rVal record {
   ty = Declared'.row Plan.the-type;
   one = Path'.refl;
-  val = Laws'8.val Plan.the-type Laws''.the-laws;
-  tells = Laws'8.tells Plan.the-type Laws''.the-laws;
+  val = Laws'8.val Plan.the-type Laws'3.the-laws;
+  tells = Laws'8.tells Plan.the-type Laws'3.the-laws;
   still = Laws'8.still Plan.the-type
-      Laws''.the-copy Exit.yes;
+      Laws'3.the-copy Exit.yes;
   row = Rows.whole (Declared'.row Plan.the-type);
   rd = λ x. x;
   mk = λ x. x;
 } λ M 𝓤 H A W. record {
-  copies = Laws'8.copy Plan.the-type Laws''.the-copy 𝓤 H A W;
-  lawful = Laws'8.lawful Plan.the-type Laws''.the-laws 𝓤 H A W;
-  makes = Laws'8.makes Plan.the-type Laws''.the-plain 𝓤 H A;
+  copies = Laws'8.copy Plan.the-type Laws'3.the-copy 𝓤 H A W;
+  lawful = Laws'8.lawful Plan.the-type Laws'3.the-laws 𝓤 H A W;
+  makes = Laws'8.makes Plan.the-type Laws'3.the-plain 𝓤 H A;
   in-mem =
       Local.mem-whole 𝓤 H A W (Declared'.row Plan.the-type);
   of-mem = Local.whole-mem 𝓤 H A W (Declared'.row Plan.the-type);
@@ -249,17 +249,17 @@ abbrev pub r·4 : Kinds.RK 1
 r·4 = Value.rVal record {
   ty = Declared'.row Set.the-type;
   one = Path'.refl;
-  val = Laws'8.val Set.the-type Laws'3.the-laws;
-  tells = Laws'8.tells Set.the-type Laws'3.the-laws;
-  still = Laws'8.still Set.the-type Laws'3.the-copy
+  val = Laws'8.val Set.the-type Laws'4.the-laws;
+  tells = Laws'8.tells Set.the-type Laws'4.the-laws;
+  still = Laws'8.still Set.the-type Laws'4.the-copy
       Exit.yes;
   row = Rows.whole (Declared'.row Set.the-type);
   rd = λ x. x;
   mk = λ x. x;
 } λ M 𝓤 H A W. record {
-  copies = Laws'8.copy Set.the-type Laws'3.the-copy 𝓤 H A W;
-  lawful = Laws'8.lawful Set.the-type Laws'3.the-laws 𝓤 H A W;
-  makes = Laws'8.makes Set.the-type Laws'3.the-plain 𝓤 H A;
+  copies = Laws'8.copy Set.the-type Laws'4.the-copy 𝓤 H A W;
+  lawful = Laws'8.lawful Set.the-type Laws'4.the-laws 𝓤 H A W;
+  makes = Laws'8.makes Set.the-type Laws'4.the-plain 𝓤 H A;
   in-mem =
       Local.mem-whole 𝓤 H A W (Declared'.row Set.the-type);
   of-mem = Local.whole-mem 𝓤 H A W (Declared'.row Set.the-type);
@@ -287,34 +287,34 @@ ps·5 = List._∷_ (ShrSlice.pShrS (Referent.rtF (Referent.fInt Syntax.w16)) 0 t
     Syntax.w16)) 2 tt) (List._∷_ (Value.pVal record {
       ty = Declared'.row Set.the-type;
       one = Path'.refl;
-      val = Laws'8.val Set.the-type Laws'3.the-laws;
-      tells = Laws'8.tells Set.the-type Laws'3.the-laws;
-      still = Laws'8.still Set.the-type Laws'3.the-copy
+      val = Laws'8.val Set.the-type Laws'4.the-laws;
+      tells = Laws'8.tells Set.the-type Laws'4.the-laws;
+      still = Laws'8.still Set.the-type Laws'4.the-copy
           Exit.yes;
       row = Rows.whole (Declared'.row Set.the-type);
       rd = λ x. x;
       mk = λ x. x;
     } λ M 𝓤 H A W. record {
-      copies = Laws'8.copy Set.the-type Laws'3.the-copy 𝓤 H A W;
-      lawful = Laws'8.lawful Set.the-type Laws'3.the-laws 𝓤 H A W;
-      makes = Laws'8.makes Set.the-type Laws'3.the-plain 𝓤 H A;
+      copies = Laws'8.copy Set.the-type Laws'4.the-copy 𝓤 H A W;
+      lawful = Laws'8.lawful Set.the-type Laws'4.the-laws 𝓤 H A W;
+      makes = Laws'8.makes Set.the-type Laws'4.the-plain 𝓤 H A;
       in-mem =
           Local.mem-whole 𝓤 H A W (Declared'.row Set.the-type);
       of-mem = Local.whole-mem 𝓤 H A W (Declared'.row Set.the-type);
     }) (List._∷_ (Num.pNum Syntax.w64) (List._∷_ (Value.pVal record {
       ty = Declared'.row Plan.the-type;
       one = Path'.refl;
-      val = Laws'8.val Plan.the-type Laws''.the-laws;
-      tells = Laws'8.tells Plan.the-type Laws''.the-laws;
+      val = Laws'8.val Plan.the-type Laws'3.the-laws;
+      tells = Laws'8.tells Plan.the-type Laws'3.the-laws;
       still = Laws'8.still Plan.the-type
-          Laws''.the-copy Exit.yes;
+          Laws'3.the-copy Exit.yes;
       row = Rows.whole (Declared'.row Plan.the-type);
       rd = λ x. x;
       mk = λ x. x;
     } λ M 𝓤 H A W. record {
-      copies = Laws'8.copy Plan.the-type Laws''.the-copy 𝓤 H A W;
-      lawful = Laws'8.lawful Plan.the-type Laws''.the-laws 𝓤 H A W;
-      makes = Laws'8.makes Plan.the-type Laws''.the-plain 𝓤 H A;
+      copies = Laws'8.copy Plan.the-type Laws'3.the-copy 𝓤 H A W;
+      lawful = Laws'8.lawful Plan.the-type Laws'3.the-laws 𝓤 H A W;
+      makes = Laws'8.makes Plan.the-type Laws'3.the-plain 𝓤 H A;
       in-mem =
           Local.mem-whole 𝓤 H A W (Declared'.row Plan.the-type);
       of-mem = Local.whole-mem 𝓤 H A W (Declared'.row Plan.the-type);
@@ -345,17 +345,17 @@ abbrev pub ps·6 : List.List (Kinds.PK 1)
 ps·6 = List._∷_ (MutSlice.pMutS (Element.type) 0 tt) (List._∷_ (Num.pNum Syntax.w64) (List._∷_ (Value.pVal record {
   ty = Declared'.row Set.the-type;
   one = Path'.refl;
-  val = Laws'8.val Set.the-type Laws'3.the-laws;
-  tells = Laws'8.tells Set.the-type Laws'3.the-laws;
-  still = Laws'8.still Set.the-type Laws'3.the-copy
+  val = Laws'8.val Set.the-type Laws'4.the-laws;
+  tells = Laws'8.tells Set.the-type Laws'4.the-laws;
+  still = Laws'8.still Set.the-type Laws'4.the-copy
       Exit.yes;
   row = Rows.whole (Declared'.row Set.the-type);
   rd = λ x. x;
   mk = λ x. x;
 } λ M 𝓤 H A W. record {
-  copies = Laws'8.copy Set.the-type Laws'3.the-copy 𝓤 H A W;
-  lawful = Laws'8.lawful Set.the-type Laws'3.the-laws 𝓤 H A W;
-  makes = Laws'8.makes Set.the-type Laws'3.the-plain 𝓤 H A;
+  copies = Laws'8.copy Set.the-type Laws'4.the-copy 𝓤 H A W;
+  lawful = Laws'8.lawful Set.the-type Laws'4.the-laws 𝓤 H A W;
+  makes = Laws'8.makes Set.the-type Laws'4.the-plain 𝓤 H A;
   in-mem =
       Local.mem-whole 𝓤 H A W (Declared'.row Set.the-type);
   of-mem = Local.whole-mem 𝓤 H A W (Declared'.row Set.the-type);
@@ -409,7 +409,7 @@ abbrev b11 : Syntax.Body
 b11 = Syntax.cond (Syntax.copy (Syntax.place 22 List.[])) b9 b10
 
 abbrev b12 : Syntax.Body
-b12 = Syntax.call "pass::plan_at" (List._∷_ (Syntax.copy (Syntax.place 16 List.[])) (List._∷_ (Syntax.copy (Syntax.place 10 List.[])) List.[])) (Syntax.place 17 List.[])
+b12 = Syntax.call "steps::plan_at" (List._∷_ (Syntax.copy (Syntax.place 16 List.[])) (List._∷_ (Syntax.copy (Syntax.place 10 List.[])) List.[])) (Syntax.place 17 List.[])
 
 abbrev b13 : Syntax.Body
 b13 = Syntax.assign (Syntax.place 24 List.[]) (Syntax.addrOf (Syntax.place 6 (List._∷_ (Syntax.field 0) (List._∷_ (Syntax.deref (Syntax.tyInt Syntax.w16)) List.[]))))
@@ -655,7 +655,7 @@ abbrev pub e6 : Row.Entry
 e6 = (11, Rows.sc-here (Row.sInt Syntax.w64))
 
 abbrev pub e7 : Row.Entry
-e7 = (12, Rows.any-gone y2)
+e7 = (12, Rows.any-gone y0)
 
 abbrev pub e8 : Row.Entry
 e8 = (12, Rows.whole (Declared'.row Quantiser.the-type))
@@ -685,13 +685,13 @@ abbrev pub e16 : Row.Entry
 e16 = (16, Rows.sc-here (Row.sInt Syntax.w64))
 
 abbrev pub e17 : Row.Entry
-e17 = (17, Rows.any-gone y0)
+e17 = (17, Rows.any-gone y1)
 
 abbrev pub e18 : Row.Entry
 e18 = (17, Rows.whole (Declared'.row Plan.the-type))
 
 abbrev pub e19 : Row.Entry
-e19 = (18, Rows.any-gone y1)
+e19 = (18, Rows.any-gone y2)
 
 abbrev pub e20 : Row.Entry
 e20 = (18, Rows.whole (Declared'.row Set.the-type))
@@ -715,7 +715,7 @@ abbrev pub e26 : Row.Entry
 e26 = (20, Rows.sc-here Row.sBool)
 
 abbrev pub e27 : Row.Entry
-e27 = (21, Rows.any-gone y1)
+e27 = (21, Rows.any-gone y2)
 
 abbrev pub e28 : Row.Entry
 e28 = (21, Rows.whole (Declared'.row Set.the-type))
@@ -1433,18 +1433,18 @@ module _ (claims· : Claims) where
   s6 = λ bs. Call.callB ps·0 r·0 (claims· .0) (claims· .1) T7 (Bool.bAt 10 λ x. x, tt) 11 List.[] (Syntax.tyInt Syntax.w64)
 
   abbrev s7 : (bs : List.List Nat.ℕ) → Typed.Both T8 T9
-  s7 = λ bs. Call.callB ps·1 r·1 (claims· .2) (claims· .3) T8 (Num.vAt 9 λ x. x, (Num.vLit 0, tt)) 12 List.[] y2
+  s7 = λ bs. Call.callB ps·1 r·1 (claims· .2) (claims· .3) T8 (Num.vAt 9 λ x. x, (Num.vLit 0, tt)) 12 List.[] y0
 
   abbrev s8 : (bs : List.List Nat.ℕ) → Typed.Mo T9 → Typed.Mo T10
-  s8 = λ bs. Scalar.n-use T9 (Scalar.oFld 12 (List._∷_ (Syntax.field 4) List.[]) (Syntax.tyInt Syntax.w32) 16 (Reads.fieldV Quantiser.the-type Laws'4.the-laws 4)) 13 (Rows.sc-here (Row.sInt
+  s8 = λ bs. Scalar.n-use T9 (Scalar.oFld 12 (List._∷_ (Syntax.field 4) List.[]) (Syntax.tyInt Syntax.w32) 16 (Reads.fieldV Quantiser.the-type Laws''.the-laws 4)) 13 (Rows.sc-here (Row.sInt
       Syntax.w32)) (Row.sInt Syntax.w32 .of)
 
   abbrev s9 : (bs : List.List Nat.ℕ) → Typed.Mo T10 → Typed.Mo T11
-  s9 = λ bs. Scalar.n-use T10 (Scalar.oFld 12 (List._∷_ (Syntax.field 3) List.[]) (Syntax.tyInt Syntax.w32) 12 (Reads.fieldV Quantiser.the-type Laws'4.the-laws 3)) 14 (Rows.sc-here (Row.sInt
+  s9 = λ bs. Scalar.n-use T10 (Scalar.oFld 12 (List._∷_ (Syntax.field 3) List.[]) (Syntax.tyInt Syntax.w32) 12 (Reads.fieldV Quantiser.the-type Laws''.the-laws 3)) 14 (Rows.sc-here (Row.sInt
       Syntax.w32)) (Row.sInt Syntax.w32 .of)
 
   abbrev s10 : (bs : List.List Nat.ℕ) → Typed.Mo T11 → Typed.Mo T12
-  s10 = λ bs. Scalar.n-room T11 12 y2
+  s10 = λ bs. Scalar.n-room T11 12 y0
 
   abbrev s11 : (bs : List.List Nat.ℕ) → Typed.Mo T12 → Typed.Mo T13
   s11 = λ bs. LocalCopy.n-val-copy T12 5 15 (Declared'.row BitPosition.the-type) (Rows.whole (Declared'.row BitPosition.the-type)) (Rows.whole (Declared'.row BitPosition.the-type)) (λ x. x) (λ x. x) λ
@@ -1467,7 +1467,7 @@ module _ (claims· : Claims) where
   s16 = λ bs. Scalar.n-room T17 22 Syntax.tyBool
 
   abbrev s17 : (bs : List.List Nat.ℕ) → Typed.Both T18 T21
-  s17 = λ bs. Call.callB ps·2 r·2 (claims· .4) (claims· .5) T18 (Num.vAt 16 λ x. x, (Bool.bAt 10 λ x. x, tt)) 17 List.[] y0
+  s17 = λ bs. Call.callB ps·2 r·2 (claims· .4) (claims· .5) T18 (Num.vAt 16 λ x. x, (Bool.bAt 10 λ x. x, tt)) 17 List.[] y1
 
   abbrev s19 : (bs : List.List Nat.ℕ) → Typed.Gives T21 T23
   s19 = λ bs. Relend.k-sl-relend (Referent.rtF (Referent.fInt Syntax.w16)) T21 6 24 2 4 (Syntax.tyRef (Syntax.named 2) Syntax.mut (Syntax.tyInt Syntax.w16)) (Syntax.tyRef Syntax.erased Syntax.mut
@@ -1527,7 +1527,7 @@ module _ (claims· : Claims) where
   abbrev s39 : (bs : List.List Nat.ℕ) → Typed.Both T42 T43
   s39 = λ bs. Call.callB ps·4 r·4 (claims· .8) (claims· .9) T42
       (record { pos = 29; ty = Syntax.tyRef Syntax.erased Syntax.mut Element.behind; ref = λ x. x }, (Num.vFld 17 (List._∷_ (Syntax.field 2) List.[]) 16 λ x. Plan.struct .as-values x .1 .1 .0, tt)) 18
-      (List._∷_ 6 List.[]) y1
+      (List._∷_ 6 List.[]) y2
 
   abbrev s41 : (bs : List.List Nat.ℕ) → Typed.Both T43 T45
   s41 = λ bs. Relend.k-back-sl (Element.type) T43 29 7 3 6 (Syntax.tyRef (Syntax.named 3) Syntax.mut Element.behind) (Syntax.tyRef Syntax.erased Syntax.mut Element.behind) Row.off (λ x. x) λ x. x
@@ -1577,7 +1577,7 @@ module _ (claims· : Claims) where
   s50 = λ bs. Scalar.n-room T53 15 y6
 
   abbrev s51 : (bs : List.List Nat.ℕ) → Typed.Mo T54 → Typed.Mo T55
-  s51 = λ bs. Scalar.n-room T54 18 y1
+  s51 = λ bs. Scalar.n-room T54 18 y2
 
   abbrev s53 : (bs : List.List Nat.ℕ) → Typed.Both T55 T57
   s53 = λ bs. Relend.k-back-sl (Referent.rtF (Referent.fInt Syntax.w8)) T55 31 3 1 7 (Syntax.tyRef (Syntax.named 1) Syntax.mut (Syntax.tyInt Syntax.w8)) (Syntax.tyRef Syntax.erased Syntax.mut
@@ -1600,7 +1600,7 @@ module _ (claims· : Claims) where
   s61 = λ bs. Scalar.k-op1 T64 Syntax.bitNot (Scalar.oAt 20 Syntax.tyBool (Row.valS Row.sBool)) 22 (Rows.sc-here Row.sBool) (Row.sBool .of)
 
   abbrev s62 : (bs : List.List Nat.ℕ) → Typed.Mo T65 → Typed.Mo T67
-  s62 = λ bs. Scalar.n-room T65 17 y0
+  s62 = λ bs. Scalar.n-room T65 17 y1
 
   abbrev s63 : (bs : List.List Nat.ℕ) → Typed.Mo T67 → Typed.Mo T68
   s63 = λ bs. Scalar.n-room T67 22 Syntax.tyBool
@@ -1661,10 +1661,10 @@ module _ (claims· : Claims) where
   ) 23 (List._∷_ 9 List.[]) Syntax.tyUnit
 
   abbrev s81 : (bs : List.List Nat.ℕ) → Typed.Mo T85 → Typed.Mo T86
-  s81 = λ bs. Scalar.n-room T85 17 y0
+  s81 = λ bs. Scalar.n-room T85 17 y1
 
   abbrev s82 : (bs : List.List Nat.ℕ) → Typed.Mo T86 → Typed.Mo T87
-  s82 = λ bs. Scalar.n-room T86 21 y1
+  s82 = λ bs. Scalar.n-room T86 21 y2
 
   abbrev s83 : (bs : List.List Nat.ℕ) → Typed.Mo T87 → Typed.Mo T88
   s83 = λ bs. Scalar.n-room T87 23 Syntax.tyUnit
@@ -1731,7 +1731,7 @@ module _ (claims· : Claims) where
     module _ (M : Type 1) where
       abbrev pub Closed : Type 2
       Closed = (𝓤 : URA.URA M) (H : Wp.Heap 𝓤) (A : Atoms.Atoms 𝓤) (W : Kit.Given 𝓤 H A) (𝓣 : Wp.Tables 𝓤 H) (known0 : Plain.Known 𝓤 H A W 𝓣 0 ps·0 r·0 (claims· .0) (claims· .1) "map::width") (known1
-          : Plain.Known 𝓤 H A W 𝓣 0 ps·1 r·1 (claims· .2) (claims· .3) "quantiser::Quantiser::main") (known2 : Plain.Known 𝓤 H A W 𝓣 0 ps·2 r·2 (claims· .4) (claims· .5) "pass::plan_at") (known3 :
+          : Plain.Known 𝓤 H A W 𝓣 0 ps·1 r·1 (claims· .2) (claims· .3) "quantiser::Quantiser::main") (known2 : Plain.Known 𝓤 H A W 𝓣 0 ps·2 r·2 (claims· .4) (claims· .5) "steps::plan_at") (known3 :
           Plain.Known 𝓤 H A W 𝓣 1 ps·3 r·3 (claims· .6) (claims· .7) "lines::set_guards") (known4 : Plain.Known 𝓤 H A W 𝓣 1 ps·4 r·4 (claims· .8) (claims· .9) "block::records::load_set") (known5 :
           Plain.Known 𝓤 H A W 𝓣 3 ps·5 r·5 (claims· .10) (claims· .11) "writing::write_pass") (known6 : Plain.Known 𝓤 H A W 𝓣 1 ps·6 r·6 (claims· .12) (claims· .13) "block::records::store_set") →
           Statement.Triple 𝓤 (Wp.WpFn 𝓤 H (𝓣 .C) (𝓣 .Λ) (Function.fnOf 4 ps r xs m hs body)) (Function.plainOf 𝓤 H A 4 ps r Pre· Post·)
@@ -2083,8 +2083,8 @@ module _ (claims· : Claims) where
       module _ {M : Type 1} (𝓤 : URA.URA M) (H : Wp.Heap 𝓤) (A : Atoms.Atoms 𝓤) (W : Kit.Given 𝓤 H A) (𝓣 : Wp.Tables 𝓤 H) where
         abbrev Knowns : Type 1
         Knowns = Plain.Known 𝓤 H A W 𝓣 0 ps·0 r·0 (claims· .0) (claims· .1) "map::width" × Plain.Known 𝓤 H A W 𝓣 0 ps·1 r·1 (claims· .2) (claims· .3) "quantiser::Quantiser::main" × Plain.Known 𝓤 H A W
-            𝓣 0 ps·2 r·2 (claims· .4) (claims· .5) "pass::plan_at" × Plain.Known 𝓤 H A W 𝓣 1 ps·3 r·3 (claims· .6) (claims· .7) "lines::set_guards" × Plain.Known 𝓤 H A W 𝓣 1 ps·4 r·4 (claims· .8) (claims·
-            .9) "block::records::load_set" × Plain.Known 𝓤 H A W 𝓣 3 ps·5 r·5 (claims· .10) (claims· .11) "writing::write_pass" × Plain.Known 𝓤 H A W 𝓣 1 ps·6 r·6 (claims· .12) (claims· .13)
+            𝓣 0 ps·2 r·2 (claims· .4) (claims· .5) "steps::plan_at" × Plain.Known 𝓤 H A W 𝓣 1 ps·3 r·3 (claims· .6) (claims· .7) "lines::set_guards" × Plain.Known 𝓤 H A W 𝓣 1 ps·4 r·4 (claims· .8)
+            (claims· .9) "block::records::load_set" × Plain.Known 𝓤 H A W 𝓣 3 ps·5 r·5 (claims· .10) (claims· .11) "writing::write_pass" × Plain.Known 𝓤 H A W 𝓣 1 ps·6 r·6 (claims· .12) (claims· .13)
             "block::records::store_set"
 
       module _ (κs : Lifetimes.Lfts 4) (qs : Lifetimes.Shares 4) where
@@ -2970,7 +2970,7 @@ module _ (claims· : Claims) where
           d17 = Typed.g-pre 𝓤 H A W 𝓣 E G67 G68 b31 Δ5 (Typed.pass T67 T68 (s63 bs)) (at16 bs) (Scalar.g-room 𝓤 H A W E G67 22 Syntax.tyBool (Scalar.room-sc 𝓤 H A W Row.sBool)) d16
 
           d18 : Typed.Typed 𝓤 H A 𝓣 E G65 b31 Δ5 (at18 bs)
-          d18 = Typed.g-pre 𝓤 H A W 𝓣 E G65 G67 b31 Δ5 (Typed.pass T65 T67 (s62 bs)) (at17 bs) (Scalar.g-room 𝓤 H A W E G65 17 y0 (Local.room-whole 𝓤 H A W (Declared'.row Plan.the-type) y0
+          d18 = Typed.g-pre 𝓤 H A W 𝓣 E G65 G67 b31 Δ5 (Typed.pass T65 T67 (s62 bs)) (at17 bs) (Scalar.g-room 𝓤 H A W E G65 17 y1 (Local.room-whole 𝓤 H A W (Declared'.row Plan.the-type) y1
               Path'.refl)) d17
 
           d19 : Typed.Typed 𝓤 H A 𝓣 E G80 b32 Δ5 (at19 bs)
@@ -3037,11 +3037,11 @@ module _ (claims· : Claims) where
           d28 = Typed.g-pre 𝓤 H A W 𝓣 E G87 G88 b40 Δ3 (Typed.pass T87 T88 (s83 bs)) (at27 bs) (Scalar.g-room 𝓤 H A W E G87 23 Syntax.tyUnit (Scalar.room-sc 𝓤 H A W Row.sUnit)) d27
 
           d29 : Typed.Typed 𝓤 H A 𝓣 E G86 b40 Δ3 (at29 bs)
-          d29 = Typed.g-pre 𝓤 H A W 𝓣 E G86 G87 b40 Δ3 (Typed.pass T86 T87 (s82 bs)) (at28 bs) (Scalar.g-room 𝓤 H A W E G86 21 y1 (Local.room-whole 𝓤 H A W (Declared'.row Set.the-type) y1 Path'.refl))
+          d29 = Typed.g-pre 𝓤 H A W 𝓣 E G86 G87 b40 Δ3 (Typed.pass T86 T87 (s82 bs)) (at28 bs) (Scalar.g-room 𝓤 H A W E G86 21 y2 (Local.room-whole 𝓤 H A W (Declared'.row Set.the-type) y2 Path'.refl))
               d28
 
           d30 : Typed.Typed 𝓤 H A 𝓣 E G85 b40 Δ3 (at30 bs)
-          d30 = Typed.g-pre 𝓤 H A W 𝓣 E G85 G86 b40 Δ3 (Typed.pass T85 T86 (s81 bs)) (at29 bs) (Scalar.g-room 𝓤 H A W E G85 17 y0 (Local.room-whole 𝓤 H A W (Declared'.row Plan.the-type) y0
+          d30 = Typed.g-pre 𝓤 H A W 𝓣 E G85 G86 b40 Δ3 (Typed.pass T85 T86 (s81 bs)) (at29 bs) (Scalar.g-room 𝓤 H A W E G85 17 y1 (Local.room-whole 𝓤 H A W (Declared'.row Plan.the-type) y1
               Path'.refl)) d29
 
           d31 : Typed.Typed 𝓤 H A 𝓣 E G84 b41 Δ3 (at31 bs)
@@ -3056,10 +3056,10 @@ module _ (claims· : Claims) where
                     Element.behind) 9,
                 Path'.refl,
                 (
-                  (Reads.reads-field 𝓤 H A W Plan.the-type Laws''.the-laws 2 (Syntax.tyInt Syntax.w64) 16 Path'.refl, Path'.refl),
+                  (Reads.reads-field 𝓤 H A W Plan.the-type Laws'3.the-laws 2 (Syntax.tyInt Syntax.w64) 16 Path'.refl, Path'.refl),
                   (
                     (
-                      Yields.yields-copy 𝓤 H A W (λ ρ. Unit) (Declared'.row Set.the-type) Path'.refl (Copies.cStruct Set.the-type Laws'3.the-laws Laws'3.the-copy .copy 𝓤 H A W) (Rows.whole (Declared'.row
+                      Yields.yields-copy 𝓤 H A W (λ ρ. Unit) (Declared'.row Set.the-type) Path'.refl (Copies.cStruct Set.the-type Laws'4.the-laws Laws'4.the-copy .copy 𝓤 H A W) (Rows.whole (Declared'.row
                           Set.the-type)) (λ x. x) (λ x. x) (λ ρ told. Local.mem-whole 𝓤 H A W (Declared'.row Set.the-type) ρ) λ ρ told. Local.whole-mem 𝓤 H A W (Declared'.row Set.the-type) ρ,
                       Path'.refl,
                     ),
@@ -3105,14 +3105,14 @@ module _ (claims· : Claims) where
 
           d35 : Typed.Typed 𝓤 H A 𝓣 E G66 b44 Δ3 (at35 bs)
           d35 = Typed.s-seq 𝓤 H A W 𝓣 E G66 G81 b34 b43 Δ3 (Typed.both (s76 bs)) (at34 bs) (WayStmt.t-way-copy-out 𝓤 H A W E 𝓣 (Declared'.row Set.the-type) Path'.refl (Copies.cStruct Set.the-type
-              Laws'3.the-laws Laws'3.the-copy .copy 𝓤 H A W) (λ ρ. Unit) G66 (Row.out 19 (G66 .locals)) (λ u. Row.drop 19 (G66 .locals) u) (G66 .slots) 19 (λ t. List._∷_ (Syntax.field 3) t) y1 y1 21
+              Laws'4.the-laws Laws'4.the-copy .copy 𝓤 H A W) (λ ρ. Unit) G66 (Row.out 19 (G66 .locals)) (λ u. Row.drop 19 (G66 .locals) u) (G66 .slots) 19 (λ t. List._∷_ (Syntax.field 3) t) y2 y2 21
               (Rows.whole (Declared'.row Set.the-type)) (λ x. x) (λ u. At.getAt (PassPut.the-type .parts) 3 (PassPut.struct .as-values (u .1 .1 .1 .1 .1 .1 .1 .1 .1 .1 .1 .1 .1 .1 .1 .1 .1 .1 .1 .0))) (λ
               u. (
                 Row.hd 0 (Row.tl (Row.tl (Row.tl (Row.tl (Row.tl (Row.tl (Row.tl (Row.tl (Row.tl (Row.tl (Row.tl (Row.tl (Row.tl (Row.tl (Row.tl (Row.tl (Row.tl (Row.tl (Row.tl bs))))))))))))))))))),
                 Nat._+_ 0 24,
               )) (λ T′. record { locals = Row.setRow 19 (19, Rows.whole (Declared'.row PassPut.the-type)) T′; slots = G66 .slots }) (λ u T′ m′. Row.set 19
               (19, Rows.whole (Declared'.row PassPut.the-type)) (u .1 .1 .1 .1 .1 .1 .1 .1 .1 .1 .1 .1 .1 .1 .1 .1 .1 .1 .1 .0) T′ m′) (λ u. Unit) (λ x. Unit) (Own.told-none 𝓤 H A (G66 .slots))
-              (DerefMove.learns-nothing 𝓤 H A (Declared'.row Set.the-type)) (λ ρ told u asked. Way'.w-partˢ 𝓤 H A W E (Declared'.row PassPut.the-type) (Declared'.row Set.the-type) y8 y1 3 24 (u .1 .1 .1
+              (DerefMove.learns-nothing 𝓤 H A (Declared'.row Set.the-type)) (λ ρ told u asked. Way'.w-partˢ 𝓤 H A W E (Declared'.row PassPut.the-type) (Declared'.row Set.the-type) y8 y2 3 24 (u .1 .1 .1
               .1 .1 .1 .1 .1 .1 .1 .1 .1 .1 .1 .1 .1 .1 .1 .1 .0) (At.getAt (PassPut.the-type .parts) 3 (PassPut.struct .as-values (u .1 .1 .1 .1 .1 .1 .1 .1 .1 .1 .1 .1 .1 .1 .1 .1 .1 .1 .1 .0)))
               (Row.hd 0 (Row.tl (Row.tl (Row.tl (Row.tl (Row.tl (Row.tl (Row.tl (Row.tl (Row.tl (Row.tl (Row.tl (Row.tl (Row.tl (Row.tl (Row.tl (Row.tl (Row.tl (Row.tl (Row.tl bs))))))))))))))))))), 0)
               (Way.w-look 𝓤 H A W E (Way.w-local 𝓤 H A W E G66 ρ u (G66 .slots) 19 (Declared'.row PassPut.the-type) (Rows.whole (Declared'.row PassPut.the-type)) (λ x. x) (λ x. x) (u .1 .1 .1 .1 .1 .1 .1
@@ -3127,7 +3127,7 @@ module _ (claims· : Claims) where
               (Behind.look-at 𝓤 H A W q PassPut.the-type Laws'5.the-laws 3 24 Path'.refl Path'.refl
               (Row.hd 0 (Row.tl (Row.tl (Row.tl (Row.tl (Row.tl (Row.tl (Row.tl (Row.tl (Row.tl (Row.tl (Row.tl (Row.tl (Row.tl (Row.tl (Row.tl (Row.tl (Row.tl (Row.tl (Row.tl bs))))))))))))))))))), 0) (u
               .1 .1 .1 .1 .1 .1 .1 .1 .1 .1 .1 .1 .1 .1 .1 .1 .1 .1 .1 .0) (PassPut.struct .as-values (u .1 .1 .1 .1 .1 .1 .1 .1 .1 .1 .1 .1 .1 .1 .1 .1 .1 .1 .1 .0)) Path'.refl)) (Reads'.room-gone 𝓤 H A
-              y1) (Yields.makes-mem 𝓤 H A W (λ ρ. Unit) (Declared'.row Set.the-type) Path'.refl (Rows.whole (Declared'.row Set.the-type)) (λ x. x) λ ρ told. Local.whole-mem 𝓤 H A W (Declared'.row
+              y2) (Yields.makes-mem 𝓤 H A W (λ ρ. Unit) (Declared'.row Set.the-type) Path'.refl (Rows.whole (Declared'.row Set.the-type)) (λ x. x) λ ρ told. Local.whole-mem 𝓤 H A W (Declared'.row
               Set.the-type) ρ) Path'.refl Path'.refl Path'.refl) d34
 
           d36 : Typed.Typed 𝓤 H A 𝓣 E G65 b45 Δ3 (at36 bs)
@@ -3179,7 +3179,7 @@ module _ (claims· : Claims) where
           d46 = Typed.g-pre 𝓤 H A W 𝓣 E G55 G56 b47 Δ3 (λ Ψ. Ψ) (at45 bs) (Lifetime.g-end 𝓤 H A W E G55 7 Path'.refl) d45
 
           d47 : Typed.Typed 𝓤 H A 𝓣 E G54 b47 Δ3 (at47 bs)
-          d47 = Typed.g-pre 𝓤 H A W 𝓣 E G54 G55 b47 Δ3 (Typed.pass T54 T55 (s51 bs)) (at46 bs) (Scalar.g-room 𝓤 H A W E G54 18 y1 (Local.room-whole 𝓤 H A W (Declared'.row Set.the-type) y1 Path'.refl))
+          d47 = Typed.g-pre 𝓤 H A W 𝓣 E G54 G55 b47 Δ3 (Typed.pass T54 T55 (s51 bs)) (at46 bs) (Scalar.g-room 𝓤 H A W E G54 18 y2 (Local.room-whole 𝓤 H A W (Declared'.row Set.the-type) y2 Path'.refl))
               d46
 
           d48 : Typed.Typed 𝓤 H A 𝓣 E G53 b47 Δ3 (at48 bs)
@@ -3238,7 +3238,7 @@ module _ (claims· : Claims) where
                           Path'.refl,
                           (
                             (
-                              Yields.yields-copy 𝓤 H A W (λ ρ. Unit) (Declared'.row Set.the-type) Path'.refl (Copies.cStruct Set.the-type Laws'3.the-laws Laws'3.the-copy .copy 𝓤 H A W) (Rows.whole (Declared'.row
+                              Yields.yields-copy 𝓤 H A W (λ ρ. Unit) (Declared'.row Set.the-type) Path'.refl (Copies.cStruct Set.the-type Laws'4.the-laws Laws'4.the-copy .copy 𝓤 H A W) (Rows.whole (Declared'.row
                                   Set.the-type)) (λ x. x) (λ x. x) (λ ρ told. Local.mem-whole 𝓤 H A W (Declared'.row Set.the-type) ρ) λ ρ told. Local.whole-mem 𝓤 H A W (Declared'.row Set.the-type) ρ,
                               Path'.refl,
                             ),
@@ -3246,7 +3246,7 @@ module _ (claims· : Claims) where
                               (Scalar.reads-sc 𝓤 H A W (Row.sInt Syntax.w64), Path'.refl),
                               (
                                 (
-                                  Yields.yields-copy 𝓤 H A W (λ ρ. Unit) (Declared'.row Plan.the-type) Path'.refl (Copies.cStruct Plan.the-type Laws''.the-laws Laws''.the-copy .copy 𝓤 H A W) (Rows.whole (Declared'.row
+                                  Yields.yields-copy 𝓤 H A W (λ ρ. Unit) (Declared'.row Plan.the-type) Path'.refl (Copies.cStruct Plan.the-type Laws'3.the-laws Laws'3.the-copy .copy 𝓤 H A W) (Rows.whole (Declared'.row
                                       Plan.the-type)) (λ x. x) (λ x. x) (λ ρ told. Local.mem-whole 𝓤 H A W (Declared'.row Plan.the-type) ρ) λ ρ told. Local.whole-mem 𝓤 H A W (Declared'.row Plan.the-type) ρ,
                                   Path'.refl,
                                 ),
@@ -3363,8 +3363,8 @@ module _ (claims· : Claims) where
                 Mut.reads-mslice 𝓤 H A W (Element.type) (Syntax.tyRef Syntax.erased Syntax.mut
                     Element.behind) 6,
                 Path'.refl,
-                ((Reads.reads-field 𝓤 H A W Plan.the-type Laws''.the-laws 2 (Syntax.tyInt Syntax.w64) 16 Path'.refl, Path'.refl), tt),
-              ) (Reads'.room-gone 𝓤 H A y1) (tt, tt)
+                ((Reads.reads-field 𝓤 H A W Plan.the-type Laws'3.the-laws 2 (Syntax.tyInt Syntax.w64) 16 Path'.refl, Path'.refl), tt),
+              ) (Reads'.room-gone 𝓤 H A y2) (tt, tt)
               Path'.refl) d58
 
           d60 : Typed.Typed 𝓤 H A 𝓣 E G41 b54 Δ3 (at60 bs)
@@ -3431,7 +3431,7 @@ module _ (claims· : Claims) where
                 Mut.reads-mslice 𝓤 H A W (Referent.rtF
                     (Referent.fInt Syntax.w16)) (Syntax.tyRef Syntax.erased Syntax.mut (Syntax.tyInt Syntax.w16)) 5,
                 Path'.refl,
-                ((Scalar.reads-sc 𝓤 H A W (Row.sInt Syntax.w64), Path'.refl), ((Reads.reads-field 𝓤 H A W Plan.the-type Laws''.the-laws 1 (Syntax.tyInt Syntax.w64) 8 Path'.refl, Path'.refl), tt)),
+                ((Scalar.reads-sc 𝓤 H A W (Row.sInt Syntax.w64), Path'.refl), ((Reads.reads-field 𝓤 H A W Plan.the-type Laws'3.the-laws 1 (Syntax.tyInt Syntax.w64) 8 Path'.refl, Path'.refl), tt)),
               )
               (Reads'.room-gone 𝓤 H A Syntax.tyUnit) (tt, tt) Path'.refl) d67
 
@@ -3503,7 +3503,7 @@ module _ (claims· : Claims) where
                 Mut.reads-mslice 𝓤 H A W (Referent.rtF
                     (Referent.fInt Syntax.w16)) (Syntax.tyRef Syntax.erased Syntax.mut (Syntax.tyInt Syntax.w16)) 4,
                 Path'.refl,
-                ((Scalar.reads-sc 𝓤 H A W (Row.sInt Syntax.w64), Path'.refl), ((Reads.reads-field 𝓤 H A W Plan.the-type Laws''.the-laws 0 (Syntax.tyInt Syntax.w64) 0 Path'.refl, Path'.refl), tt)),
+                ((Scalar.reads-sc 𝓤 H A W (Row.sInt Syntax.w64), Path'.refl), ((Reads.reads-field 𝓤 H A W Plan.the-type Laws'3.the-laws 0 (Syntax.tyInt Syntax.w64) 0 Path'.refl, Path'.refl), tt)),
               )
               (Reads'.room-gone 𝓤 H A Syntax.tyUnit) (tt, tt) Path'.refl) d76
 
@@ -3546,9 +3546,9 @@ module _ (claims· : Claims) where
               d79
 
           d81 : Typed.Typed 𝓤 H A 𝓣 E G18 b62 Δ3 (at81 bs)
-          d81 = Typed.s-seq 𝓤 H A W 𝓣 E G18 G21 b12 b61 Δ3 (Typed.both (s17 bs)) (at80 bs) (Plain.t-call-plain 𝓤 H A W 𝓣 0 ps·2 r·2 (claims· .4) (claims· .5) "pass::plan_at" (known .2) E (λ pos β. β)
+          d81 = Typed.s-seq 𝓤 H A W 𝓣 E G18 G21 b12 b61 Δ3 (Typed.both (s17 bs)) (at80 bs) (Plain.t-call-plain 𝓤 H A W 𝓣 0 ps·2 r·2 (claims· .4) (claims· .5) "steps::plan_at" (known .2) E (λ pos β. β)
               G18 (Num.vAt 16 λ x. x, (Bool.bAt 10 λ x. x, tt)) 17 List.[] (Call.sub-id 𝓤 H A W (G18 .slots))
-              ((Scalar.reads-sc 𝓤 H A W (Row.sInt Syntax.w64), Path'.refl), ((Scalar.reads-sc 𝓤 H A W Row.sBool, Path'.refl), tt)) (Reads'.room-gone 𝓤 H A y0) tt Path'.refl) d80
+              ((Scalar.reads-sc 𝓤 H A W (Row.sInt Syntax.w64), Path'.refl), ((Scalar.reads-sc 𝓤 H A W Row.sBool, Path'.refl), tt)) (Reads'.room-gone 𝓤 H A y1) tt Path'.refl) d80
 
           d82 : Typed.Typed 𝓤 H A 𝓣 E G17 b63 Δ3 (at82 bs)
           d82 = Typed.t-seq 𝓤 H A W 𝓣 E G17 G18 b11 b62 Δ3 (at4 bs) (at81 bs) d4 d81
@@ -3645,25 +3645,25 @@ module _ (claims· : Claims) where
               (λ x. x) λ ρ told. Local.whole-mem 𝓤 H A W (Declared'.row BitPosition.the-type) ρ) Path'.refl Path'.refl) d99
 
           d101 : Typed.Typed 𝓤 H A 𝓣 E G11 b72 Δ0 (at101 bs)
-          d101 = Typed.g-pre 𝓤 H A W 𝓣 E G11 G12 b72 Δ0 (Typed.pass T11 T12 (s10 bs)) (at100 bs) (Scalar.g-room 𝓤 H A W E G11 12 y2 (Local.room-whole 𝓤 H A W (Declared'.row Quantiser.the-type) y2
+          d101 = Typed.g-pre 𝓤 H A W 𝓣 E G11 G12 b72 Δ0 (Typed.pass T11 T12 (s10 bs)) (at100 bs) (Scalar.g-room 𝓤 H A W E G11 12 y0 (Local.room-whole 𝓤 H A W (Declared'.row Quantiser.the-type) y0
               Path'.refl)) d100
 
           d102 : Typed.Typed 𝓤 H A 𝓣 E G10 b73 Δ0 (at102 bs)
           d102 = Typed.s-seq 𝓤 H A W 𝓣 E G10 G11 b5 b72 Δ0 (Typed.pass T10 T11 (s9 bs)) (at101 bs) (Scalar.t-use 𝓤 H A W E 𝓣 G10 (Scalar.oFld 12 (List._∷_ (Syntax.field 3) List.[]) (Syntax.tyInt
-              Syntax.w32) 12 (Reads.fieldV Quantiser.the-type Laws'4.the-laws 3)) 14 (Rows.sc-here (Row.sInt Syntax.w32)) (Syntax.tyInt Syntax.w32) (Row.valS (Row.sInt Syntax.w32)) (Row.sInt Syntax.w32
-              .of) (Reads.reads-field 𝓤 H A W Quantiser.the-type Laws'4.the-laws 3 (Syntax.tyInt Syntax.w32) 12 Path'.refl, Path'.refl) (Reads'.room-gone 𝓤 H A (Syntax.tyInt Syntax.w32)) (Scalar.holds-sc
+              Syntax.w32) 12 (Reads.fieldV Quantiser.the-type Laws''.the-laws 3)) 14 (Rows.sc-here (Row.sInt Syntax.w32)) (Syntax.tyInt Syntax.w32) (Row.valS (Row.sInt Syntax.w32)) (Row.sInt Syntax.w32
+              .of) (Reads.reads-field 𝓤 H A W Quantiser.the-type Laws''.the-laws 3 (Syntax.tyInt Syntax.w32) 12 Path'.refl, Path'.refl) (Reads'.room-gone 𝓤 H A (Syntax.tyInt Syntax.w32)) (Scalar.holds-sc
               𝓤 H A W (Row.sInt Syntax.w32)) Path'.refl (λ u. Path'.refl) λ u. tt) d101
 
           d103 : Typed.Typed 𝓤 H A 𝓣 E G9 b74 Δ0 (at103 bs)
           d103 = Typed.s-seq 𝓤 H A W 𝓣 E G9 G10 b4 b73 Δ0 (Typed.pass T9 T10 (s8 bs)) (at102 bs) (Scalar.t-use 𝓤 H A W E 𝓣 G9 (Scalar.oFld 12 (List._∷_ (Syntax.field 4) List.[]) (Syntax.tyInt
-              Syntax.w32) 16 (Reads.fieldV Quantiser.the-type Laws'4.the-laws 4)) 13 (Rows.sc-here (Row.sInt Syntax.w32)) (Syntax.tyInt Syntax.w32) (Row.valS (Row.sInt Syntax.w32)) (Row.sInt Syntax.w32
-              .of) (Reads.reads-field 𝓤 H A W Quantiser.the-type Laws'4.the-laws 4 (Syntax.tyInt Syntax.w32) 16 Path'.refl, Path'.refl) (Reads'.room-gone 𝓤 H A (Syntax.tyInt Syntax.w32)) (Scalar.holds-sc
+              Syntax.w32) 16 (Reads.fieldV Quantiser.the-type Laws''.the-laws 4)) 13 (Rows.sc-here (Row.sInt Syntax.w32)) (Syntax.tyInt Syntax.w32) (Row.valS (Row.sInt Syntax.w32)) (Row.sInt Syntax.w32
+              .of) (Reads.reads-field 𝓤 H A W Quantiser.the-type Laws''.the-laws 4 (Syntax.tyInt Syntax.w32) 16 Path'.refl, Path'.refl) (Reads'.room-gone 𝓤 H A (Syntax.tyInt Syntax.w32)) (Scalar.holds-sc
               𝓤 H A W (Row.sInt Syntax.w32)) Path'.refl (λ u. Path'.refl) λ u. tt) d102
 
           d104 : Typed.Typed 𝓤 H A 𝓣 E G8 b75 Δ0 (at104 bs)
           d104 = Typed.s-seq 𝓤 H A W 𝓣 E G8 G9 b3 b74 Δ0 (Typed.both (s7 bs)) (at103 bs) (Plain.t-call-plain 𝓤 H A W 𝓣 0 ps·1 r·1 (claims· .2) (claims· .3) "quantiser::Quantiser::main" (known .1) E (λ
               pos β. β) G8 (Num.vAt 9 λ x. x, (Num.vLit 0, tt)) 12 List.[] (Call.sub-id 𝓤 H A W (G8 .slots)) ((Scalar.reads-sc 𝓤 H A W (Row.sInt Syntax.w32), Path'.refl), (tt, tt)) (Reads'.room-gone 𝓤 H A
-              y2) tt Path'.refl) d103
+              y0) tt Path'.refl) d103
 
           d105 : Typed.Typed 𝓤 H A 𝓣 E G7 b76 Δ0 (at105 bs)
           d105 = Typed.s-seq 𝓤 H A W 𝓣 E G7 G8 b2 b75 Δ0 (Typed.both (s6 bs)) (at104 bs) (Plain.t-call-plain 𝓤 H A W 𝓣 0 ps·0 r·0 (claims· .0) (claims· .1) "map::width" (known .0) E (λ pos β. β) G7
@@ -5341,7 +5341,7 @@ module _ (claims· : Claims) where
 
         module _ {M : Type 1} (𝓤 : URA.URA M) (H : Wp.Heap 𝓤) (A : Atoms.Atoms 𝓤) (W : Kit.Given 𝓤 H A) (𝓣 : Wp.Tables 𝓤 H) (known0 : Plain.Known 𝓤 H A W 𝓣 0 ps·0 r·0 (claims· .0) (claims· .1)
             "map::width") (known1 : Plain.Known 𝓤 H A W 𝓣 0 ps·1 r·1 (claims· .2) (claims· .3) "quantiser::Quantiser::main") (known2 : Plain.Known 𝓤 H A W 𝓣 0 ps·2 r·2 (claims· .4) (claims· .5)
-            "pass::plan_at") (known3 : Plain.Known 𝓤 H A W 𝓣 1 ps·3 r·3 (claims· .6) (claims· .7) "lines::set_guards") (known4 : Plain.Known 𝓤 H A W 𝓣 1 ps·4 r·4 (claims· .8) (claims· .9)
+            "steps::plan_at") (known3 : Plain.Known 𝓤 H A W 𝓣 1 ps·3 r·3 (claims· .6) (claims· .7) "lines::set_guards") (known4 : Plain.Known 𝓤 H A W 𝓣 1 ps·4 r·4 (claims· .8) (claims· .9)
             "block::records::load_set") (known5 : Plain.Known 𝓤 H A W 𝓣 3 ps·5 r·5 (claims· .10) (claims· .11) "writing::write_pass") (known6 : Plain.Known 𝓤 H A W 𝓣 1 ps·6 r·6 (claims· .12) (claims· .13)
             "block::records::store_set") where
           pub spec : Statement.Triple 𝓤 (Wp.WpFn 𝓤 H (𝓣 .C) (𝓣 .Λ) (Function.fnOf 4 ps r xs m hs body)) (Function.plainOf 𝓤 H A 4 ps r Pre· Post·)
