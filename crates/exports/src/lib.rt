@@ -3,7 +3,7 @@
 ghost use mathlib.Core.Path.{_≡_};
 ghost use Rattle.stream.specs.Headers.{parseOf, widthAnswer};
 ghost use Rattle.stream.specs.Streams.{openOf, rangeOf, rowOf};
-ghost use Rattle.exports.specs.Exports.{flag, headerWords, parsedWords, parsedRefusal, rangedWords, rangedRefusal, widthWords, widthRefusal};
+ghost use Rattle.exports.specs.Exports.{headerWords, parsedWords, parsedRefusal, rangedWords, rangedRefusal, widthWords, widthRefusal};
 use stream::FujiHeader;
 use stream::Parsed;
 use stream::Ranged;
