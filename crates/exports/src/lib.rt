@@ -3,24 +3,18 @@
 ghost use mathlib.Core.Path.{_≡_};
 ghost use Rattle.stream.specs.Headers.{parseOf, widthAnswer};
 ghost use Rattle.stream.specs.Streams.{openOf, rangeOf, rowOf};
-ghost use Rattle.exports.specs.Exports.{flag, headerWords, parsedWords, parsedRefusal, rangedWords, rangedRefusal, widthWords, widthRefusal};
+ghost use Rattle.exports.specs.Exports.{headerWords, parsedWords, parsedRefusal, rangedWords, rangedRefusal, widthWords, widthRefusal};
 use stream::FujiHeader;
 use stream::Parsed;
 use stream::Ranged;
 use stream::Width;
 
-fn flag(b: bool) -> usize
-    ensures { λ r. ⌜ r ≡ flag b ⌝ }
-{
-    if b { 1 } else { 0 }
-}
-
 fn header_words(h: FujiHeader) -> [usize; 9]
     ensures { λ w. ⌜ w ≡ headerWords h ⌝ }
 {
     [
-        flag(h.lossless),
-        flag(h.xtrans),
+        numbers::flag_usize(h.lossless),
+        numbers::flag_usize(h.xtrans),
         h.bits as usize,
         h.height as usize,
         h.rounded_width as usize,
@@ -45,7 +39,7 @@ fn parsed_refusal(p: Parsed) -> [usize; 4]
 {
     match p {
         Parsed::Header(_) => [0; 4],
-        Parsed::Refused(r) => block::refusal_words(r),
+        Parsed::Refused(r) => stream::refusal_words(r),
     }
 }
 
@@ -63,7 +57,7 @@ fn ranged_refusal(r: Ranged) -> [usize; 4]
 {
     match r {
         Ranged::At(_, _) => [0; 4],
-        Ranged::Refused(x) => block::refusal_words(x),
+        Ranged::Refused(x) => stream::refusal_words(x),
     }
 }
 
@@ -81,7 +75,7 @@ fn width_refusal(c: Width) -> [usize; 4]
 {
     match c {
         Width::Columns(_) => [0; 4],
-        Width::Refused(r) => block::refusal_words(r),
+        Width::Refused(r) => stream::refusal_words(r),
     }
 }
 
@@ -117,7 +111,9 @@ pub extern "C" fn fuji_block_width(
     width: &mut [usize; 1],
     refusal: &mut [usize; 4],
 )
-    ensures { λ _. ⌜ (now (width .exit) ≡ widthWords (widthAnswer (parseOf (now (d .entry))) i)) × (now (refusal .exit) ≡ widthRefusal (widthAnswer (parseOf (now (d .entry))) i)) ⌝ }
+    ensures { λ _.
+        let answer = widthAnswer (parseOf (now (d .entry))) i in
+        ⌜ (now (width .exit) ≡ widthWords answer) × (now (refusal .exit) ≡ widthRefusal answer) ⌝ }
 {
     let x = stream::block_width(d, i);
     let w = width_words(x);
