@@ -1,7 +1,7 @@
 // Small functions on unsigned numbers that the other crates share.
 ghost use mathlib.Core.Path.{_≡_};
 ghost use mathlib.Core.Bool.{cond, xor};
-ghost use Prim.Native.Nat.{_-_, _≤_, min, max};
+ghost use Prim.Native.Nat.{_-_, _^_, _≤_, min, max};
 ghost use Rattle.numbers.specs.Numbers.{distance, minus, flag};
 
 // A number as its sign and its size.
@@ -65,4 +65,12 @@ pub fn differ(a: bool, b: bool) -> bool
     ensures { λ r. ⌜ r ≡ xor a b ⌝ }
 {
     if a { !b } else { b }
+}
+
+// 2^k
+pub fn power(k: u32) -> u32
+    requires { ⌜ k ≤ 16 ⌝ }
+    ensures { λ r. ⌜ (r ≡ 2 ^ k) × (1 ≤ r) × (r ≤ 2 ^ 16) ⌝ }
+{
+    1u32 << k
 }

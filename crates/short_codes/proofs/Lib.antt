@@ -1,0 +1,4 @@
+-- Laws about the sheets of short codes.
+pub mod SheetLaws
+pub mod WholeLaws
+pub mod SheetCases
