@@ -34,7 +34,7 @@ bounded d k n e =
     record { depth-low = t .0; depth-high = t .1; k-high = leb-true k 15 (x .1); n-high = leb-true n 16 (z .1) }
 
 -- no code of up to 16 bits reaches the limit
-limit-large : (d : ℕ) → 12 ≤ d → 31 ≤ (mainOf d 0) .limit
+pub limit-large : (d : ℕ) → 12 ≤ d → 31 ≤ (mainOf d 0) .limit
 unfolding quantiserOf rawOf
 limit-large d h = omega (arith, log2-le (totalOf d 0))
 

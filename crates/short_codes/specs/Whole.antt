@@ -1,11 +1,18 @@
--- What it means that a sheet is whole: the statement that proofs/WholeLaws.antt proves of every depth, k and greatest length that are not refused.
--- Assumes nothing.
+-- What it means that a sheet is whole: the statements that proofs/WholeLaws.antt and proofs/ReadLaws.antt prove of every depth, k and greatest length
+-- that are not refused. Assumes nothing.
 use mathlib.Core.Bool.{Bool, true}
-use mathlib.Core.List.{List}
+use mathlib.Core.List.{List, _++_}
 use mathlib.Core.Logic.{_⊎_}
 use mathlib.Core.Path.{_≡_}
-use Prim.Native.Nat.{ℕ, _^_, _≤_, _<_}
-use lib.ListN.{length}
+use Prim.Native.Nat.{ℕ, _+_, _-_, _*_, _^_, _≤_, _<_}
+use lib.ListN.{length, take, drop}
+use Rattle.bits.specs.BitLists.{bitsOf}
+use Rattle.quantiser.specs.Quantisers.{largest, mainOf}
+use Rattle.code.specs.Codes.{codeAt}
+use Rattle.code.specs.Tight.{isTight}
+use Rattle.code.specs.declared.Code.{Code}
+use Rattle.code.specs.declared.Coded.{Coded}
+use Rattle.code.specs.declared.Coded.the-variants.{Read}
 use Rattle.short_codes.specs.Sheets.{inSheet, stringOf, valueOf, entryOf, countOf, entryAt}
 
 -- a bit string that is one tight lossless code: the bits of a code below 2^depth
@@ -41,3 +48,26 @@ pub record Whole (depth k n : ℕ) : Type 0 where
 
 abbrev pub AllWhole : Type 0
 AllWhole = (depth k n : ℕ) → inSheet depth k n ≡ true → Whole depth k n
+
+-- ---- these strings are what the reader takes for one tight code
+
+-- the code that is read at bit p of a lossless block
+abbrev pub codeThere : ℕ → ℕ → List ℕ → ℕ → Coded
+codeThere depth k s p = codeAt s p k ((mainOf depth 0) .limit) ((mainOf depth 0) .raw)
+
+-- a tight code is read at bit p, and it ends where the string ends
+pub record IsRead (depth k : ℕ) (s : List ℕ) (p : ℕ) (l : List Bool) : Type 0 where
+  pub code : Code
+  pub read : codeThere depth k s p ≡ Read code
+  pub tight : isTight (largest depth) code ≡ true
+  pub ends : code .after .0 ≡ p + length l
+
+pub record AsRead (depth k : ℕ) : Type 0 where
+  -- wherever such a string stands, whatever follows it
+  pub taken : (s : List ℕ) (p : ℕ) (l rest : List Bool) → TightString depth k l → drop p (bitsOf s) ≡ l ++ rest → IsRead depth k s p l
+  -- and a tight code that is read within the block's bytes stands there as such a string
+  pub only : (s : List ℕ) (p : ℕ) (x : Code) → codeThere depth k s p ≡ Read x → isTight (largest depth) x ≡ true → x .after .0 ≤ 8 * length s
+      → TightString depth k (take (x .after .0 - p) (drop p (bitsOf s)))
+
+abbrev pub AllAsRead : Type 0
+AllAsRead = (depth k n : ℕ) → inSheet depth k n ≡ true → AsRead depth k

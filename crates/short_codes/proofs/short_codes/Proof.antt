@@ -5,6 +5,7 @@ use mathlib.Core.Bool.{true, false}
 use mathlib.Core.List.{List}
 use mathlib.Core.Path.{_≡_, refl, sym, _∙_}
 use Prim.Native.Nat.{ℕ, _≤_, _<_}
+use native.Mathlib.Omega.{arith}
 use lib.ListN.{length}
 use Rattle.stream.specs.declared.Refusal.the-variants.{OutsideSheet}
 use Rattle.short_codes.specs.Sheets.{inSheet, countOf, Filled, listedAnswer, isWritten, ListAfter}
@@ -44,7 +45,7 @@ returns : tie.Need-returns
 returns c = refused _ _ _ _ (sym (c .before .in-sheet .ensures) ∙ not-true _ (c .if1 .taken))
 
 count-of-requires : tie.Need-count-of-requires
-count-of-requires c κs = let b = bounded _ _ _ (inside c) in (b .depth-high, b .k-high, b .n-high)
+count-of-requires c κs = let b = bounded _ _ _ (inside c) in (omega arith, omega arith, omega arith)
 
 returns-2 : tie.Need-returns-2
 returns-2 c = too-short _ _ _ _ (inside (c .before .before)) _ (c .before .count-of .ensures .0) (c .if2 .taken)
