@@ -1,8 +1,8 @@
 -- The strings of a sheet are what the reader takes for one tight code. Assumes nothing.
 use mathlib.Core.Bool.{Bool, true}
 use mathlib.Core.List.{List, _++_}
-use mathlib.Core.Path.{_≡_, refl, sym, _∙_}
-use Prim.Native.Nat.{ℕ, _+_, _-_, _*_, _^_, _≤_, _<_}
+use mathlib.Core.Path.{_≡_, refl, _∙_}
+use Prim.Native.Nat.{ℕ, _+_, _-_, _*_, _^_, _≤_}
 use native.Mathlib.Omega.{arith}
 use lib.Dec.{leb}
 use lib.ListN.{length, take, drop}
@@ -18,8 +18,8 @@ use Rattle.code.specs.Tight.{isTight, codeBits}
 use Rattle.code.specs.declared.Code.{Code}
 use Rattle.code.specs.declared.Coded.the-variants.{Read}
 use Rattle.code.proofs.TightLaws.{length-codeBits, read-back, stands-there}
-use Rattle.short_codes.specs.Sheets.{inSheet, Bounded, stringOf}
-use Rattle.short_codes.specs.Whole.{TightString, codeThere, IsRead, AsRead, AllAsRead}
+use Rattle.short_codes.specs.Sheets.{Bounded, stringOf}
+use Rattle.short_codes.specs.Whole.{TightString, codeThere, IsRead, AllAsRead}
 use Rattle.short_codes.proofs.SheetLaws.{bounded, limit-large}
 
 -- every code below 2^depth fits the long form

@@ -1,14 +1,13 @@
 -- The strings of a sheet: their lengths, values and entries, and which codes have one. Assumes nothing.
 use mathlib.Core.Bool.{Bool, true, false, _&&_, _||_}
 use mathlib.Core.List.{List, [], _∷_, _++_, append-nil}
-use mathlib.Core.Path.{_≡_, refl, sym, ap, _∙_}
+use mathlib.Core.Path.{_≡_, _∙_}
 use Prim.Native.Nat.{ℕ, zero, suc, _+_, _-_, _*_, _/_, _%_, _^_, _≤_, _<_, min}
-use native.Mathlib.Nat.{zero-add, suc-add, mod-lt, div-lt-iff-lt-mul, le-trans}
-use native.Mathlib.Numerals.{add-one, one-add}
+use native.Mathlib.Nat.{zero-add, suc-add, mod-lt, div-lt-iff-lt-mul}
 use native.Mathlib.Omega.{arith}
 use lib.Dec.{leb, eqb}
 use lib.ListN.{length, replicate}
-use lib.Pow.{pow-pos, pow-mono}
+use lib.Pow.{pow-pos}
 use borrow.Author.Tests.{leb-true}
 use Rattle.numbers.proofs.BoolLaws.{both}
 use Rattle.numbers.proofs.OrderLaws.{split}
@@ -17,7 +16,7 @@ use Rattle.bits.proofs.PackLaws.{number-binary}
 use Rattle.quantiser.specs.Quantisers.{totalOf, rawOf, quantiserOf, mainOf}
 use Rattle.quantiser.specs.declared.Quantiser.{Quantiser}
 use Rattle.quantiser.proofs.QuantiserLaws.{log2-le}
-use Rattle.code.specs.Tight.{runThen, codeBits, codeLength}
+use Rattle.code.specs.Tight.{runThen}
 use Rattle.code.proofs.TightLaws.{bits-short, short-length, long-length, length-codeBits}
 use Rattle.stream.proofs.HeaderLaws.{depth}
 use Rattle.short_codes.specs.Sheets.{inSheet, Bounded, stringOf, valueOf, entryOf, countOf, entryAt}

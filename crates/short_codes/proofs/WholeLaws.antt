@@ -2,17 +2,17 @@
 use mathlib.Core.Bool.{Bool, true, false}
 use mathlib.Core.List.{List, [], _∷_}
 use mathlib.Core.Logic.{_⊎_, inl, inr}
-use mathlib.Core.Path.{_≡_, refl, sym, ap, _∙_}
-use Prim.Native.Nat.{ℕ, zero, suc, _+_, _-_, _*_, _/_, _%_, _^_, _≤_, _<_}
-use native.Mathlib.Nat.{mod-lt, le-trans}
+use mathlib.Core.Path.{_≡_, refl, sym, ap}
+use Prim.Native.Nat.{ℕ, zero, suc, _-_, _*_, _/_, _^_, _≤_, _<_}
+use native.Mathlib.Nat.{mod-lt}
 use native.Mathlib.Omega.{arith}
 use lib.ListN.{length}
-use lib.Pow.{pow-pos, pow-mono, pow-add, shr-mono, split as digits}
+use lib.Pow.{pow-pos, pow-mono, shr-mono, split as digits}
 use Rattle.numbers.proofs.OrderLaws.{split}
 use Rattle.bits.specs.BitLists.{numberOf}
 use Rattle.bits.proofs.PackLaws.{number-lt}
-use Rattle.short_codes.specs.Sheets.{inSheet, Bounded, stringOf, valueOf, entryOf, countOf, entryAt}
-use Rattle.short_codes.specs.Whole.{TightString, Stands, IsString, Whole, AllWhole}
+use Rattle.short_codes.specs.Sheets.{Bounded, stringOf, valueOf, entryOf, countOf, entryAt}
+use Rattle.short_codes.specs.Whole.{TightString, Stands, IsString, AllWhole}
 use Rattle.short_codes.proofs.SheetLaws.{bounded, short-string, string-length, entry-is, counted, is-counted}
 
 -- ---- lists of one length with one number are equal

@@ -4,7 +4,7 @@ use mathlib.Core.Path.{_≡_, sym, _∙_}
 use mathlib.Core.List.{List}
 use Prim.Native.Nat.{ℕ, _+_, _-_, _*_, _/_, _%_, _^_, _≤_, _<_}
 use native.Mathlib.Omega.{arith}
-use lib.ListN.{length, length-set}
+use lib.ListN.{length}
 use Rattle.numbers.proofs.FillLaws.{NewTo, new-none, new-more}
 use Rattle.short_codes.specs.Sheets.{Bounded, countOf, entryAt, Filled}
 use Rattle.short_codes.proofs.SheetLaws.{entry-is, counted}
