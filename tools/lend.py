@@ -187,7 +187,8 @@ def below(c):
     for x in need:
         if x != c.name:
             shutil.copytree(f"crates/{x}", f"{d}/crates/{x}")
-    shutil.copytree("target", f"{d}/target", ignore=lambda p, n: [x for x in n if p == "target" and x in ("lend", "inc", "log")])
+    for x in ("rlib", "stamp"):
+        shutil.copytree(f"target/{x}", f"{d}/target/{x}")
     return d
 
 def generate(c, d, twin, files, bare=""):

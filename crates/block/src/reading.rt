@@ -220,7 +220,7 @@ pub fn walk_alone(
     let places = map::xtrans_places();
     let mut lines = [0u16; 9252];
     let mut rs = [cleared(); 336];
-    let used = 18 * (width(form.xtrans) + 2);
+    let used = begin::samples_needed(form.xtrans);
     walk(
         block,
         bases,

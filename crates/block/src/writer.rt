@@ -28,7 +28,6 @@ use begin::first_above;
 use begin::is_short;
 use bits::BitPosition;
 use map::width;
-use quantiser::Quantiser;
 use statistics::Record;
 use stream::Parsed;
 use stream::Refusal;
@@ -63,9 +62,6 @@ fn write_line(
     let bits = form.bits;
     let xtrans = form.xtrans;
     let w = width(xtrans);
-    let q = Quantiser::main(bits, 0);
-    let limit = q.limit;
-    let raw = q.raw;
     let mut at = from;
     let mut i: usize = 0;
     while i < 6 {
@@ -73,20 +69,7 @@ fn write_line(
         lines::set_guards(lines, w, p.first);
         lines::set_guards(lines, w, p.second);
         let set = load_set(rs, p.set);
-        let done = writing::write_pass(
-            samples,
-            n,
-            out,
-            store,
-            at,
-            lines,
-            set,
-            w,
-            p,
-            bits,
-            limit,
-            raw,
-        );
+        let done = writing::write_pass(samples, n, out, store, at, lines, set, w, p, bits);
         let ok = done.ok;
         if !ok {
             return Put::Wrong(done.wrong);

@@ -1,8 +1,8 @@
 -- What the exported functions answer: what was asked for, all 0 where it is refused, and a refusal's words, all 0 where there is none. Assumes nothing.
-use mathlib.Core.Bool.{Bool, cond}
 use mathlib.Core.List.{List, [], _∷_}
 use Prim.Native.Nat.{ℕ}
 use lib.ListN.{replicate}
+use Rattle.numbers.specs.Numbers.{flag}
 use Rattle.stream.specs.Refusals.{refusalWords, noRefusal}
 use Rattle.stream.specs.declared.FujiHeader.{FujiHeader}
 use Rattle.stream.specs.declared.Parsed.{Parsed}
@@ -13,9 +13,6 @@ use Rattle.stream.specs.declared.Width.{Width}
 use Rattle.stream.specs.declared.Width.the-variants as Columns
 use Rattle.short_codes.specs.declared.Listed.{Listed}
 use Rattle.short_codes.specs.declared.Listed.the-variants as Sheet
-
-abbrev pub flag : Bool → ℕ
-flag b = cond b 1 0
 
 abbrev pub headerWords : FujiHeader → List ℕ
 headerWords h =

@@ -3,7 +3,7 @@
 ghost use mathlib.Core.Path.{_≡_};
 ghost use Rattle.stream.specs.Headers.{parseOf, widthAnswer};
 ghost use Rattle.stream.specs.Streams.{openOf, rangeOf, rowOf};
-ghost use Rattle.exports.specs.Exports.{flag, headerWords, parsedWords, parsedRefusal, rangedWords, rangedRefusal, widthWords, widthRefusal, listedWords, listedRefusal};
+ghost use Rattle.exports.specs.Exports.{headerWords, parsedWords, parsedRefusal, rangedWords, rangedRefusal, widthWords, widthRefusal, listedWords, listedRefusal};
 ghost use Rattle.short_codes.specs.Sheets.{listedAnswer, ListAfter};
 use short_codes::Listed;
 use stream::FujiHeader;

@@ -1,19 +1,17 @@
 -- Bits that are put into an output: byte after byte, and one part after the other. Assumes nothing.
-use mathlib.Core.Bool.{Bool, true, false}
+use mathlib.Core.Bool.{Bool, false}
 use mathlib.Core.List.{List, [], _∷_, _++_, append-assoc, append-nil}
 use mathlib.Core.Path.{_≡_, refl, sym, _∙_}
 use Prim.Native.Nat.{ℕ, zero, suc, _+_, _-_, _*_, _/_, _%_, _^_, _≤_, _<_}
-use native.Mathlib.Nat.{add-zero, add-comm, zero-add, suc-add, zero-mul, one-mul, add-assoc, add-mul, mul-assoc, pow-suc, mod-lt, div-lt-iff-lt-mul, div-one}
+use native.Mathlib.Nat.{add-zero, add-comm, zero-add, suc-add, zero-mul, add-assoc, add-mul, mul-assoc, pow-suc, mod-lt, div-lt-iff-lt-mul, div-one}
 use native.Mathlib.Numerals.{one-add}
 use native.Mathlib.Omega.{arith}
 use lib.ListN.{length, getD, set, take, drop, replicate, length-append, length-drop}
-use lib.Pow.{pow-pos, pow-add, shr-shr, shr-lt, field, mod-mod-pow, split as digits, high, low}
+use lib.Pow.{pow-pos, pow-add, shr-shr, shr-lt, field, mod-mod-pow, split as digits}
 use lib.Seq.{drop-at, take-at, take-append-add, drop-append-add, drop-drop, length-take-le}
-use borrow.Author.Tests.{lt-ltb, le-ltb}
-use Rattle.numbers.proofs.OrderLaws.{split}
 use Rattle.bits.specs.BitLists.{binary, bitsOf, numberOf, packed, bytesFor}
-use Rattle.bits.proofs.ListLaws.{length-binary, length-bits, binary-zero}
-use Rattle.bits.proofs.PackLaws.{number-nil, digit, number-binary, bits-packed, length-packed, room}
+use Rattle.bits.proofs.ListLaws.{length-binary, length-bits}
+use Rattle.bits.proofs.PackLaws.{number-nil, digit, number-binary, bits-packed, length-packed}
 use Rattle.output.specs.Output.{putBits}
 
 -- ---- digits

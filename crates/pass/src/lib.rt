@@ -1,12 +1,11 @@
 // One pass over two colour lines: the hot loop of reading. The set of statistics comes by value and goes back by value; the colour lines are lent.
 ghost use mathlib.Core.Path.{_≡_};
-ghost use Prim.Native.Nat.{_*_, _%_, _^_, _≤_, _<_};
+ghost use Prim.Native.Nat.{_*_, _^_, _≤_, _<_};
 ghost use Rattle.code.specs.Samples.{sampleOf};
 ghost use Rattle.steps.specs.Steps.{evenSteps, oddSteps};
 ghost use Rattle.pass.specs.Pairs.{PairAsks, PairGives, PassAsks, PassGives, held, begun};
 use bits::BitPosition;
 use code::Coded;
-use statistics::Record;
 use steps::Plan;
 use steps::Quantisers;
 use steps::Set;

@@ -1,5 +1,5 @@
 -- What the coding of a sample goes by: which quantiser is chosen, and that its record is one of 56. Assumes nothing.
-use mathlib.Core.Bool.{Bool, true, false, cond, _&&_, false≢true}
+use mathlib.Core.Bool.{Bool, true, false, _&&_, false≢true}
 use mathlib.Core.Path.{_≡_, refl}
 use Prim.Native.Nat.{ℕ, suc, _+_, _-_, _*_, _≤_, _<_}
 use native.Mathlib.Omega.{arith}
@@ -11,8 +11,7 @@ use Rattle.quantiser.proofs.GradientLaws.{main-le, flat-le}
 use Rattle.prediction.specs.Predictions.{flatnessOf}
 use Rattle.prediction.specs.declared.Context.{Context}
 use Rattle.code.specs.Samples.{choiceOf}
-use Rattle.steps.specs.Contexts.{usedBase, usedWeight, placeOf, lookOf}
-use Rattle.steps.specs.declared.Look.{Look}
+use Rattle.steps.specs.Contexts.{usedBase, lookOf}
 
 either {ℓ} : {X : Type ℓ} (t : Bool) → (t ≡ true → X) → (t ≡ false → X) → X
 either true f g = f refl

@@ -1,6 +1,6 @@
 -- What the functions of writing do to the output, and what they hand back. Assumes nothing.
 use mathlib.Core.Bool.{Bool, true, false, cond}
-use mathlib.Core.List.{List, [], _∷_, _++_}
+use mathlib.Core.List.{List, []}
 use mathlib.Core.Option.{Option, none, some}
 use mathlib.Core.Path.{_≡_}
 use Prim.Native.Nat.{ℕ, _+_, _-_, _*_, _/_, _%_, _^_, _≤_, _<_}
@@ -109,12 +109,12 @@ wrongAt (Wrong j) = j
 abbrev pub begun : List ℕ → Set → Writing
 begun lines s = record { lines = lines; set = recordsOf s; bits = []; wrong = none }
 
-pub record PassAsks (bits W : ℕ) (P : Plan) (limit raw : ℕ) (t : List ℕ) (n : ℕ) (store : Bool) (from : BitPosition) (lines : List ℕ) (s : Set) (out : List ℕ) : Type 0 where
+pub record PassAsks (bits W : ℕ) (P : Plan) (t : List ℕ) (n : ℕ) (store : Bool) (from : BitPosition) (lines : List ℕ) (s : Set) (out : List ℕ) : Type 0 where
   pub low : 8 ≤ W
   pub high : W ≤ 512
   pub even : W % 2 ≡ 0
   pub plan : PlanInRange P
-  pub numbers : IsMain bits limit raw
+  pub depth : Depth bits
   pub line : n < 2 ^ 16
   pub samples : (n + 1) * lineSize W ≤ length t
   pub wanted : Within (largest bits) t

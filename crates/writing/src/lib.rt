@@ -13,6 +13,7 @@ ghost use Rattle.writing.specs.Puts.{codeNumber, putIf, Room, StepsAsk, 
 use bits::BitPosition;
 use numbers::u16_to_u32;
 use prediction::Context;
+use quantiser::Quantiser;
 use steps::Plan;
 use steps::Set;
 use steps::Spot;
@@ -287,13 +288,14 @@ pub fn write_pass(
     w: usize,
     plan: Plan,
     bits: u32,
-    limit: u32,
-    raw: u32,
 ) -> PassPut
-    requires { ⌜ PassAsks bits w plan limit raw (now samples) n store from (now lines) set (now out) ⌝ }
+    requires { ⌜ PassAsks bits w plan (now samples) n store from (now lines) set (now out) ⌝ }
     ensures { λ r. ⌜ PassGives (writePass bits w (now (samples .entry)) n plan (begun (now (lines .entry)) set)) store from
         (now (out .entry)) (now (lines .exit)) (now (out .exit)) r ⌝ }
 {
+    let q = Quantiser::main(bits, 0);
+    let limit = q.limit;
+    let raw = q.raw;
     let mut sums = set.sums;
     let mut ns = set.ns;
     let mut at = from;

@@ -2,7 +2,6 @@
 use mathlib.Core.Bool.{true}
 use mathlib.Core.Path.{_≡_, refl}
 use Prim.Native.Nat.{ℕ, zero, suc}
-use native.Mathlib.Omega.{arith}
 use Rattle.steps.specs.Steps.{interpolated}
 use Rattle.steps.proofs.has_code.Statement.{statement}
 use Rattle.steps.proofs.has_code.Tie as tie

@@ -1,7 +1,6 @@
 -- `writing::coded_as` meets its contract. Assumes nothing.
 use borrow.Author.Needs.{needs}
 use mathlib.Core.Path.{ap, _∙_}
-use native.Mathlib.Omega.{arith}
 use Rattle.code.specs.Tight.{codeFor}
 use Rattle.steps.specs.Contexts.{slotOf}
 use Rattle.steps.specs.declared.Look.{Look}

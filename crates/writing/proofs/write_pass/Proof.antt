@@ -2,7 +2,7 @@
 use borrow.Author.Needs.{needs}
 use mathlib.Core.Bool.{Bool}
 use mathlib.Core.List.{List, _++_}
-use mathlib.Core.Path.{_≡_, refl, _∙_}
+use mathlib.Core.Path.{_≡_, refl, ap, _∙_}
 use Prim.Native.Nat.{ℕ, _+_, _-_, _/_, _%_, _≤_}
 use native.Mathlib.Omega.{arith}
 use lib.ListN.{length}
@@ -10,7 +10,8 @@ use Rattle.bits.specs.declared.BitPosition.{BitPosition}
 use Rattle.steps.specs.Steps.{evenPart, oddPart, turnSteps, upto}
 use Rattle.steps.specs.Values.{zipRecords, SetInRange}
 use Rattle.steps.specs.declared.Plan.{Plan}
-use Rattle.writing.specs.Puts.{StepsPut, StepsRoom}
+use Rattle.quantiser.specs.declared.Quantiser.{Quantiser}
+use Rattle.writing.specs.Puts.{IsMain, StepsPut, StepsRoom}
 use Rattle.writing.specs.declared.Put.the-variants.{At}
 use Rattle.writing.proofs.StepPuts.{no-puts, ends, room-after, goes-on, within-after, position-after, same-steps, answered}
 use Rattle.writing.proofs.TurnPuts.{before, turn-more, all-turns, before-le, before-evens-le, room-turn, room-evens, turn-wrong, pass-right, pass-wrong}
@@ -18,7 +19,8 @@ use Rattle.writing.proofs.write_pass.Statement.{statement}
 use Rattle.writing.proofs.write_pass.Tie as tie
 
 -- what is known before each turn: the turns before position p have put their bits
-record Turns (bits W : ℕ) (t : List ℕ) (n : ℕ) (P : Plan) (store : Bool) (from : BitPosition) (lines₀ sums₀ ns₀ out₀ lines sums ns out : List ℕ) (at : BitPosition) (p : ℕ) : Type 0 where
+record Turns (bits W : ℕ) (t : List ℕ) (n : ℕ) (P : Plan) (store : Bool) (from : BitPosition) (lines₀ sums₀ ns₀ out₀ lines sums ns out : List ℕ) (at : BitPosition) (p limit raw : ℕ) : Type 0 where
+  numbers : IsMain bits limit raw
   even : p % 2 ≡ 0
   last : p ≤ W + 8
   same-lines : length lines ≡ length lines₀
@@ -28,23 +30,27 @@ record Turns (bits W : ℕ) (t : List ℕ) (n : ℕ) (P : Plan) (store : Bool) (
 
 abbrev Inv-loop : tie.InvT-loop
 Inv-loop samples n out₀ store lines₀ w plan bits limit raw sums₀ ns₀ at₀ p₀ out lines sums ns at p =
-    Turns bits w samples n plan store at₀ lines₀ sums₀ ns₀ out₀ lines sums ns out at p
+    Turns bits w samples n plan store at₀ lines₀ sums₀ ns₀ out₀ lines sums ns out at p limit raw
 
 abbrev μ-loop : tie.MeasureT-loop
 μ-loop samples n out₀ store lines₀ w plan bits limit raw sums₀ ns₀ at₀ p₀ out lines sums ns at p = w + 8 - p
 
 abbrev entry : tie.At-loop Inv-loop μ-loop → tie.Start Inv-loop μ-loop
-entry c = c .before .before .before .before .before .before
+entry c = c .before .before .before .before .before .before .before
 
 loop-holds : tie.Need-loop-holds Inv-loop μ-loop
 unfolding upto
 loop-holds c =
+    let m = c .before .before in
+    let main = m .main .ensures .0 in
+    let s = m .before .before .before .before in
     record {
+      numbers = record { depth = s .pre .depth; limit-is = ap (λ (q : Quantiser). q .limit) main; raw-is = ap (λ (q : Quantiser). q .raw) main };
       even = refl;
       last = omega arith;
       same-lines = refl;
       same-output = refl;
-      records = c .before .before .before .before .before .pre .records;
+      records = s .pre .records;
       put = no-puts _ _ _ _ _ _ _ _ _ _;
     }
 
@@ -77,14 +83,14 @@ write-even-requires c κs =
     record {
       width = p .high;
       plan = p .plan;
-      numbers = p .numbers;
+      numbers = v .numbers;
       line = p .line;
       samples = p .samples;
       wanted = p .wanted;
       long = omega (arith, p .long, v .same-lines);
       held = within-after (v .put) refl _ (p .wanted) (p .held);
       records = v .records;
-      low = omega (arith, p .position, position-after (v .put) refl (p .numbers .depth .1), before-le (a .w) (a .plan) (l .before .loop .p), l .loop-test .taken, p .high);
+      low = omega (arith, p .position, position-after (v .put) refl (p .depth .1), before-le (a .w) (a .plan) (l .before .loop .p), l .loop-test .taken, p .high);
       room = room-after (v .put) refl (evenPart (a .w) (a .plan) (l .before .loop .p)) (v .same-output) (room-even l);
     }
 
@@ -135,14 +141,14 @@ write-odd-requires c κs =
       record {
         width = p .high;
         plan = p .plan;
-        numbers = p .numbers;
+        numbers = v .numbers;
         line = p .line;
         samples = p .samples;
         wanted = p .wanted;
         long = omega (arith, p .long, v .same-lines, kept .1 .1 .1 .1 .1 .0);
         held = within-after (evens e) at _ (p .wanted) (p .held);
         records = e .write-even .ensures .1;
-        low = omega (arith, p .position, position-after (evens e) at (p .numbers .depth .1), before-evens-le (a .w) (a .plan) (l .before .loop .p), lt, p .high);
+        low = omega (arith, p .position, position-after (evens e) at (p .depth .1), before-evens-le (a .w) (a .plan) (l .before .loop .p), lt, p .high);
         room = room-after (evens e) at (oddPart (a .plan) (l .before .loop .p)) (kept .1 .1 .0 ∙ v .same-output) (room l);
       },
       omega (arith, lt, v .even, p .even),
@@ -204,6 +210,7 @@ loop-again c =
     let a = s .args in
     let k = lengths-2 o in
     record {
+      numbers = v .numbers;
       even = omega (arith, v .even);
       last = omega (arith, v .even, l .loop-test .taken, s .pre .even);
       same-lines = k .1;
@@ -228,6 +235,7 @@ write-pass-spec =
     (tie.spec
     Inv-loop
     μ-loop
+    (λ c κs. search needs)
     loop-holds
     (λ c. search needs)
     write-even-requires
