@@ -59,6 +59,11 @@ void fuji_write_block(const uint8_t *header, size_t header_length, const uint16_
                       size_t out_length, uint16_t *scratch, size_t scratch_length, fuji_record *records, size_t records_length,
                       size_t length[1], size_t refusal[4]);
 
+/* The full sheet of short codes: every bit string of at most `length` bits (1 to 16) that is one tight lossless code for a depth of 12, 14 or 16 and
+ * a k of 0 to 15, as 65536 * (its bits) + its value, by length and then by value. The count is that of the whole sheet, at most 32,768, and 0 where it
+ * is refused (24). A list that is shorter than the sheet is left as it was, and so is the rest of a longer one. */
+void fuji_short_codes(uint32_t depth, uint32_t k, uint32_t length, uint32_t *list, size_t list_length, size_t count[1], size_t refusal[4]);
+
 #ifdef __cplusplus
 }
 #endif

@@ -11,6 +11,8 @@ use Rattle.stream.specs.declared.Ranged.{Ranged}
 use Rattle.stream.specs.declared.Ranged.the-variants as Range
 use Rattle.stream.specs.declared.Width.{Width}
 use Rattle.stream.specs.declared.Width.the-variants as Columns
+use Rattle.short_codes.specs.declared.Listed.{Listed}
+use Rattle.short_codes.specs.declared.Listed.the-variants as Sheet
 
 abbrev pub headerWords : FujiHeader → List ℕ
 headerWords h =
@@ -40,3 +42,12 @@ widthWords (Columns.Refused r) = replicate 1 0
 abbrev pub widthRefusal : Width → List ℕ
 widthRefusal (Columns.Columns n) = noRefusal
 widthRefusal (Columns.Refused r) = refusalWords r
+
+-- the count of a sheet
+abbrev pub listedWords : Listed → List ℕ
+listedWords (Sheet.Count n) = n ∷ []
+listedWords (Sheet.Refused r) = replicate 1 0
+
+abbrev pub listedRefusal : Listed → List ℕ
+listedRefusal (Sheet.Count n) = noRefusal
+listedRefusal (Sheet.Refused r) = refusalWords r

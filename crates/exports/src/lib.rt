@@ -1,9 +1,11 @@
-// The functions about streams that C and Rust link to: the header, and where blocks and base rows lie. Each hands back a refusal's four words, all 0
+// Functions that C and Rust link to: the header, where blocks and base rows lie, and the sheet of short codes. Each hands back a refusal's four words, all 0
 // where nothing is refused, and what was asked for, all 0 where it is refused. Those that decode stand in `block`.
 ghost use mathlib.Core.Path.{_≡_};
 ghost use Rattle.stream.specs.Headers.{parseOf, widthAnswer};
 ghost use Rattle.stream.specs.Streams.{openOf, rangeOf, rowOf};
-ghost use Rattle.exports.specs.Exports.{headerWords, parsedWords, parsedRefusal, rangedWords, rangedRefusal, widthWords, widthRefusal};
+ghost use Rattle.exports.specs.Exports.{headerWords, parsedWords, parsedRefusal, rangedWords, rangedRefusal, widthWords, widthRefusal, listedWords, listedRefusal};
+ghost use Rattle.short_codes.specs.Sheets.{listedAnswer, ListAfter};
+use short_codes::Listed;
 use stream::FujiHeader;
 use stream::Parsed;
 use stream::Ranged;
@@ -153,5 +155,43 @@ pub extern "C" fn fuji_base_row_range(
     let w = ranged_words(x);
     *range = w;
     let r = ranged_refusal(x);
+    *refusal = r;
+}
+
+fn listed_words(a: Listed) -> [usize; 1]
+    ensures { λ w. ⌜ w ≡ listedWords a ⌝ }
+{
+    match a {
+        Listed::Count(n) => [n],
+        Listed::Refused(_) => [0; 1],
+    }
+}
+
+fn listed_refusal(a: Listed) -> [usize; 4]
+    ensures { λ w. ⌜ w ≡ listedRefusal a ⌝ }
+{
+    match a {
+        Listed::Count(_) => [0; 4],
+        Listed::Refused(r) => stream::refusal_words(r),
+    }
+}
+
+// The sheet of short codes. The count is that of the sheet; a list that is shorter is left as it was.
+#[no_mangle]
+pub extern "C" fn fuji_short_codes(
+    depth: u32,
+    k: u32,
+    longest: u32,
+    list: &mut [u32],
+    count: &mut [usize; 1],
+    refusal: &mut [usize; 4],
+)
+    ensures words { λ _. ⌜ (now (count .exit) ≡ listedWords (listedAnswer depth k longest)) × (now (refusal .exit) ≡ listedRefusal (listedAnswer depth k longest)) ⌝ }
+    ensures list { λ _. ⌜ ListAfter depth k longest (now (list .entry)) (now (list .exit)) ⌝ }
+{
+    let x = short_codes::short_codes(depth, k, longest, list);
+    let w = listed_words(x);
+    *count = w;
+    let r = listed_refusal(x);
     *refusal = r;
 }

@@ -24,6 +24,7 @@ pub enum Refusal {
     ShortOutput,
     Truncated(usize, usize),
     NotTight(usize),
+    OutsideSheet,
 }
 
 // A refusal for C: its number, and the block, the line and the index that it names, 0 where it names none.
@@ -46,6 +47,7 @@ pub fn refusal_words(r: Refusal) -> [usize; 4]
         Refusal::ShortOutput => [13, 0, 0, 0],
         Refusal::Truncated(b, l) => [14, b, l, 0],
         Refusal::NotTight(l) => [15, 0, l, 0],
+        Refusal::OutsideSheet => [24, 0, 0, 0],
     }
 }
 

@@ -61,4 +61,13 @@ unsafe extern "C" {
         length: *mut [usize; 1],
         refusal: *mut [usize; 4],
     );
+    pub fn fuji_short_codes(
+        depth: u32,
+        k: u32,
+        length: u32,
+        list: *mut u32,
+        list_length: usize,
+        count: *mut [usize; 1],
+        refusal: *mut [usize; 4],
+    );
 }

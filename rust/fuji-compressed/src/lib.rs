@@ -284,6 +284,21 @@ pub fn write_block_with(scratch: &mut Scratch, header: &[u8], samples: &[u16], o
     Refusal::answer(refusal).map(|()| length[0])
 }
 
+/// The full sheet of short codes: every bit string of at most `length` bits that is one tight lossless code for that depth and k, as
+/// 65,536·(its bits) + its value, by length and then by value. Entry number c is the string of code c. Gives how many there are; a list that is
+/// shorter than that is left as it was, and a longer one from there on. No sheet has more than 32,768 strings. Refusal 24.
+///
+/// ```
+/// let mut list = [0; 4];
+/// assert_eq!(fuji_compressed::short_codes(12, 0, 3, &mut list), Ok(3));
+/// assert_eq!(list, [65_537, 131_073, 196_609, 0]);
+/// ```
+pub fn short_codes(depth: u32, k: u32, length: u32, list: &mut [u32]) -> Result<usize> {
+    let (mut count, mut refusal) = ([0; 1], [0; 4]);
+    unsafe { ffi::fuji_short_codes(depth, k, length, list.as_mut_ptr(), list.len(), &mut count, &mut refusal) };
+    Refusal::answer(refusal).map(|()| count[0])
+}
+
 type RangeOf = unsafe extern "C" fn(*const u8, usize, usize, *mut [usize; 2], *mut [usize; 4]);
 
 fn flat(tile: &ColorTile) -> *const [u8; 36] {

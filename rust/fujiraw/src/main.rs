@@ -1,5 +1,6 @@
-//! Shows, checks, writes and decodes Fuji compressed raw streams. Status 0: all was done; 1: something was refused or failed; 2: wrong usage.
+//! Shows, checks, writes and decodes Fuji compressed raw streams, and lists short codes. Status 0: all was done; 1: something was refused or failed; 2: wrong usage.
 mod arguments;
+mod codes;
 mod output;
 mod stream;
 
@@ -17,6 +18,13 @@ fn main() -> ExitCode {
         Ok(Call::Write([header, samples, out])) => {
             run(&[samples], |samples| output::write(samples, &out, &stream::write(&header, samples)?))
         }
+        Ok(Call::Codes([depth, k, length])) => match codes::sheet(depth, k, length) {
+            Ok(text) => print(&text),
+            Err(why) => {
+                eprintln!("{why}");
+                ExitCode::FAILURE
+            }
+        },
         Ok(Call::Decode(call)) => decode(&call),
         Err(wrong) => {
             eprintln!("fujiraw: {wrong}\n{USAGE}");

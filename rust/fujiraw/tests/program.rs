@@ -251,3 +251,22 @@ fn write_makes_the_block_of_a_set() {
     f.fails("write few samples out", "refusal 2: a header rule is broken");
     f.is_wrong("write header samples", "write needs a header, samples and an output");
 }
+
+#[test]
+fn codes_lists_a_sheet() {
+    let f = Folder::new("codes");
+    assert_eq!(f.works("codes 12 0 3"), "1\t1\t1\t0\n01\t2\t1\t1\n001\t3\t1\t2\n");
+    assert_eq!(f.works("codes 16 1 3"), "10\t2\t2\t0\n11\t2\t3\t1\n010\t3\t2\t2\n011\t3\t3\t3\n");
+    assert_eq!(f.works("codes 14 8 8"), "");
+    let long = f.works("codes 16 15 16");
+    assert_eq!(long.lines().count(), 32_768);
+    assert_eq!(long.lines().last(), Some("1111111111111111\t16\t65535\t32767"));
+    let refused = "refusal 24: the depth is not 12, 14 or 16, k is above 15, or the length is not 1 to 16";
+    for wrong in ["codes 13 0 1", "codes 12 16 16", "codes 12 0 0", "codes 12 0 17"] {
+        f.fails(wrong, refused);
+    }
+    for wrong in ["codes", "codes 12 0", "codes 12 0 3 1", "codes 12 x 3", "codes 12 -1 3", "codes 12 0 4294967296"] {
+        f.is_wrong(wrong, "codes needs three numbers: a depth, a k and a length");
+    }
+    f.is_wrong("codes 12 0 3 --format raw", "codes takes no --format");
+}
