@@ -124,22 +124,26 @@ xs = List._∷_ (Syntax.tyEnum (List._∷_ 115 (List._∷_ 116 (List._∷_ 114 (
     (List._∷_ 97 (List._∷_ 108 List.[]))))))))))))))) (Syntax.ttcons Syntax.tnil (Syntax.ttcons Syntax.tnil (Syntax.ttcons Syntax.tnil (Syntax.ttcons (Syntax.tcons (Syntax.tyInt Syntax.w64) Syntax.tnil)
     (Syntax.ttcons Syntax.tnil (Syntax.ttcons Syntax.tnil (Syntax.ttcons Syntax.tnil (Syntax.ttcons Syntax.tnil (Syntax.ttcons Syntax.tnil (Syntax.ttcons Syntax.tnil (Syntax.ttcons (Syntax.tcons
     (Syntax.tyInt Syntax.w64) Syntax.tnil) (Syntax.ttcons (Syntax.tcons (Syntax.tyInt Syntax.w64) Syntax.tnil) (Syntax.ttcons Syntax.tnil (Syntax.ttcons (Syntax.tcons (Syntax.tyInt Syntax.w64)
-    (Syntax.tcons (Syntax.tyInt Syntax.w64) Syntax.tnil)) (Syntax.ttcons (Syntax.tcons (Syntax.tyInt Syntax.w64) Syntax.tnil) (Syntax.ttcons Syntax.tnil Syntax.ttnil))))))))))))))))) Syntax.tnil)
-    Syntax.ttnil))) (List._∷_ (Syntax.tyEnum (List._∷_ 115 (List._∷_ 116 (List._∷_ 114 (List._∷_ 101 (List._∷_ 97 (List._∷_ 109 (List._∷_ 58 (List._∷_ 58 (List._∷_ 82 (List._∷_ 101 (List._∷_ 102 (List._∷_
-    117 (List._∷_ 115 (List._∷_ 97 (List._∷_ 108 List.[]))))))))))))))) (Syntax.ttcons Syntax.tnil (Syntax.ttcons Syntax.tnil (Syntax.ttcons Syntax.tnil (Syntax.ttcons (Syntax.tcons (Syntax.tyInt
-    Syntax.w64) Syntax.tnil) (Syntax.ttcons Syntax.tnil (Syntax.ttcons Syntax.tnil (Syntax.ttcons Syntax.tnil (Syntax.ttcons Syntax.tnil (Syntax.ttcons Syntax.tnil (Syntax.ttcons Syntax.tnil
-    (Syntax.ttcons (Syntax.tcons (Syntax.tyInt Syntax.w64) Syntax.tnil) (Syntax.ttcons (Syntax.tcons (Syntax.tyInt Syntax.w64) Syntax.tnil) (Syntax.ttcons Syntax.tnil (Syntax.ttcons (Syntax.tcons
-    (Syntax.tyInt Syntax.w64) (Syntax.tcons (Syntax.tyInt Syntax.w64) Syntax.tnil)) (Syntax.ttcons (Syntax.tcons (Syntax.tyInt Syntax.w64) Syntax.tnil) (Syntax.ttcons Syntax.tnil
-    Syntax.ttnil))))))))))))))))) (List._∷_ (Syntax.tyStruct (List._∷_ 115 (List._∷_ 116 (List._∷_ 114 (List._∷_ 101 (List._∷_ 97 (List._∷_ 109 (List._∷_ 58 (List._∷_ 58 (List._∷_ 70 (List._∷_ 117
-    (List._∷_ 106 (List._∷_ 105 (List._∷_ 72 (List._∷_ 101 (List._∷_ 97 (List._∷_ 100 (List._∷_ 101 (List._∷_ 114 List.[])))))))))))))))))) (Syntax.tcons Syntax.tyBool (Syntax.tcons Syntax.tyBool
+    (Syntax.tcons (Syntax.tyInt Syntax.w64) Syntax.tnil)) (Syntax.ttcons (Syntax.tcons (Syntax.tyInt Syntax.w64) Syntax.tnil) (Syntax.ttcons Syntax.tnil (Syntax.ttcons Syntax.tnil (Syntax.ttcons
+    (Syntax.tcons (Syntax.tyInt Syntax.w64) Syntax.tnil) (Syntax.ttcons (Syntax.tcons (Syntax.tyInt Syntax.w64) Syntax.tnil) (Syntax.ttcons (Syntax.tcons (Syntax.tyInt Syntax.w64) Syntax.tnil)
+    (Syntax.ttcons Syntax.tnil Syntax.ttnil)))))))))))))))))))))) Syntax.tnil) Syntax.ttnil))) (List._∷_ (Syntax.tyEnum (List._∷_ 115 (List._∷_ 116 (List._∷_ 114 (List._∷_ 101 (List._∷_ 97 (List._∷_ 109
+    (List._∷_ 58 (List._∷_ 58 (List._∷_ 82 (List._∷_ 101 (List._∷_ 102 (List._∷_ 117 (List._∷_ 115 (List._∷_ 97 (List._∷_ 108 List.[]))))))))))))))) (Syntax.ttcons Syntax.tnil (Syntax.ttcons Syntax.tnil
+    (Syntax.ttcons Syntax.tnil (Syntax.ttcons (Syntax.tcons (Syntax.tyInt Syntax.w64) Syntax.tnil) (Syntax.ttcons Syntax.tnil (Syntax.ttcons Syntax.tnil (Syntax.ttcons Syntax.tnil (Syntax.ttcons
+    Syntax.tnil (Syntax.ttcons Syntax.tnil (Syntax.ttcons Syntax.tnil (Syntax.ttcons (Syntax.tcons (Syntax.tyInt Syntax.w64) Syntax.tnil) (Syntax.ttcons (Syntax.tcons (Syntax.tyInt Syntax.w64)
+    Syntax.tnil) (Syntax.ttcons Syntax.tnil (Syntax.ttcons (Syntax.tcons (Syntax.tyInt Syntax.w64) (Syntax.tcons (Syntax.tyInt Syntax.w64) Syntax.tnil)) (Syntax.ttcons (Syntax.tcons (Syntax.tyInt
+    Syntax.w64) Syntax.tnil) (Syntax.ttcons Syntax.tnil (Syntax.ttcons Syntax.tnil (Syntax.ttcons (Syntax.tcons (Syntax.tyInt Syntax.w64) Syntax.tnil) (Syntax.ttcons (Syntax.tcons (Syntax.tyInt
+    Syntax.w64) Syntax.tnil) (Syntax.ttcons (Syntax.tcons (Syntax.tyInt Syntax.w64) Syntax.tnil) (Syntax.ttcons Syntax.tnil Syntax.ttnil)))))))))))))))))))))) (List._∷_ (Syntax.tyStruct (List._∷_ 115
+    (List._∷_ 116 (List._∷_ 114 (List._∷_ 101 (List._∷_ 97 (List._∷_ 109 (List._∷_ 58 (List._∷_ 58 (List._∷_ 70 (List._∷_ 117 (List._∷_ 106 (List._∷_ 105 (List._∷_ 72 (List._∷_ 101 (List._∷_ 97 (List._∷_
+    100 (List._∷_ 101 (List._∷_ 114 List.[])))))))))))))))))) (Syntax.tcons Syntax.tyBool (Syntax.tcons Syntax.tyBool (Syntax.tcons (Syntax.tyInt Syntax.w32) (Syntax.tcons (Syntax.tyInt Syntax.w32)
     (Syntax.tcons (Syntax.tyInt Syntax.w32) (Syntax.tcons (Syntax.tyInt Syntax.w32) (Syntax.tcons (Syntax.tyInt Syntax.w32) (Syntax.tcons (Syntax.tyInt Syntax.w32) (Syntax.tcons (Syntax.tyInt Syntax.w32)
-    (Syntax.tcons (Syntax.tyInt Syntax.w32) (Syntax.tcons (Syntax.tyInt Syntax.w32) Syntax.tnil)))))))))) (List._∷_ (Syntax.tyEnum (List._∷_ 98 (List._∷_ 108 (List._∷_ 111 (List._∷_ 99 (List._∷_ 107
-    (List._∷_ 58 (List._∷_ 58 (List._∷_ 68 (List._∷_ 101 (List._∷_ 99 (List._∷_ 111 (List._∷_ 100 (List._∷_ 101 (List._∷_ 100 List.[])))))))))))))) (Syntax.ttcons Syntax.tnil (Syntax.ttcons (Syntax.tcons
-    (Syntax.tyEnum (List._∷_ 115 (List._∷_ 116 (List._∷_ 114 (List._∷_ 101 (List._∷_ 97 (List._∷_ 109 (List._∷_ 58 (List._∷_ 58 (List._∷_ 82 (List._∷_ 101 (List._∷_ 102 (List._∷_ 117 (List._∷_ 115
-    (List._∷_ 97 (List._∷_ 108 List.[]))))))))))))))) (Syntax.ttcons Syntax.tnil (Syntax.ttcons Syntax.tnil (Syntax.ttcons Syntax.tnil (Syntax.ttcons (Syntax.tcons (Syntax.tyInt Syntax.w64) Syntax.tnil)
-    (Syntax.ttcons Syntax.tnil (Syntax.ttcons Syntax.tnil (Syntax.ttcons Syntax.tnil (Syntax.ttcons Syntax.tnil (Syntax.ttcons Syntax.tnil (Syntax.ttcons Syntax.tnil (Syntax.ttcons (Syntax.tcons
-    (Syntax.tyInt Syntax.w64) Syntax.tnil) (Syntax.ttcons (Syntax.tcons (Syntax.tyInt Syntax.w64) Syntax.tnil) (Syntax.ttcons Syntax.tnil (Syntax.ttcons (Syntax.tcons (Syntax.tyInt Syntax.w64)
-    (Syntax.tcons (Syntax.tyInt Syntax.w64) Syntax.tnil)) (Syntax.ttcons (Syntax.tcons (Syntax.tyInt Syntax.w64) Syntax.tnil) (Syntax.ttcons Syntax.tnil Syntax.ttnil))))))))))))))))) Syntax.tnil)
+    Syntax.tnil)))))))))) (List._∷_ (Syntax.tyEnum (List._∷_ 98 (List._∷_ 108 (List._∷_ 111 (List._∷_ 99 (List._∷_ 107 (List._∷_ 58 (List._∷_ 58 (List._∷_ 68 (List._∷_ 101 (List._∷_ 99 (List._∷_ 111
+    (List._∷_ 100 (List._∷_ 101 (List._∷_ 100 List.[])))))))))))))) (Syntax.ttcons Syntax.tnil (Syntax.ttcons (Syntax.tcons (Syntax.tyEnum (List._∷_ 115 (List._∷_ 116 (List._∷_ 114 (List._∷_ 101 (List._∷_
+    97 (List._∷_ 109 (List._∷_ 58 (List._∷_ 58 (List._∷_ 82 (List._∷_ 101 (List._∷_ 102 (List._∷_ 117 (List._∷_ 115 (List._∷_ 97 (List._∷_ 108 List.[]))))))))))))))) (Syntax.ttcons Syntax.tnil
+    (Syntax.ttcons Syntax.tnil (Syntax.ttcons Syntax.tnil (Syntax.ttcons (Syntax.tcons (Syntax.tyInt Syntax.w64) Syntax.tnil) (Syntax.ttcons Syntax.tnil (Syntax.ttcons Syntax.tnil (Syntax.ttcons
+    Syntax.tnil (Syntax.ttcons Syntax.tnil (Syntax.ttcons Syntax.tnil (Syntax.ttcons Syntax.tnil (Syntax.ttcons (Syntax.tcons (Syntax.tyInt Syntax.w64) Syntax.tnil) (Syntax.ttcons (Syntax.tcons
+    (Syntax.tyInt Syntax.w64) Syntax.tnil) (Syntax.ttcons Syntax.tnil (Syntax.ttcons (Syntax.tcons (Syntax.tyInt Syntax.w64) (Syntax.tcons (Syntax.tyInt Syntax.w64) Syntax.tnil)) (Syntax.ttcons
+    (Syntax.tcons (Syntax.tyInt Syntax.w64) Syntax.tnil) (Syntax.ttcons Syntax.tnil (Syntax.ttcons Syntax.tnil (Syntax.ttcons (Syntax.tcons (Syntax.tyInt Syntax.w64) Syntax.tnil) (Syntax.ttcons
+    (Syntax.tcons (Syntax.tyInt Syntax.w64) Syntax.tnil) (Syntax.ttcons (Syntax.tcons (Syntax.tyInt Syntax.w64) Syntax.tnil) (Syntax.ttcons Syntax.tnil Syntax.ttnil)))))))))))))))))))))) Syntax.tnil)
     Syntax.ttnil))) (List._∷_ (Syntax.tyRef Syntax.erased Syntax.mut (Syntax.tyInt Syntax.w16)) (List._∷_ (Syntax.tyStruct (List._∷_ 38 (List._∷_ 91 (List._∷_ 93 List.[]))) (Syntax.tcons (Syntax.tyRef
     Syntax.erased Syntax.mut (Syntax.tyInt Syntax.w16)) (Syntax.tcons (Syntax.tyInt Syntax.w64) Syntax.tnil))) (List._∷_ (Syntax.tyRef Syntax.erased Syntax.mut (Syntax.tyInt Syntax.w16)) (List._∷_
     (Syntax.tyStruct (List._∷_ 38 (List._∷_ 91 (List._∷_ 93 List.[]))) (Syntax.tcons (Syntax.tyRef Syntax.erased Syntax.mut (Syntax.tyInt Syntax.w16)) (Syntax.tcons (Syntax.tyInt Syntax.w64)
@@ -334,51 +338,51 @@ t0 = List._∷_ (
       (Syntax.ttcons Syntax.tnil (Syntax.ttcons Syntax.tnil (Syntax.ttcons (Syntax.tcons (Syntax.tyInt Syntax.w64) Syntax.tnil) (Syntax.ttcons Syntax.tnil (Syntax.ttcons Syntax.tnil (Syntax.ttcons
       Syntax.tnil (Syntax.ttcons Syntax.tnil (Syntax.ttcons Syntax.tnil (Syntax.ttcons Syntax.tnil (Syntax.ttcons (Syntax.tcons (Syntax.tyInt Syntax.w64) Syntax.tnil) (Syntax.ttcons (Syntax.tcons
       (Syntax.tyInt Syntax.w64) Syntax.tnil) (Syntax.ttcons Syntax.tnil (Syntax.ttcons (Syntax.tcons (Syntax.tyInt Syntax.w64) (Syntax.tcons (Syntax.tyInt Syntax.w64) Syntax.tnil)) (Syntax.ttcons
-      (Syntax.tcons (Syntax.tyInt Syntax.w64) Syntax.tnil) (Syntax.ttcons Syntax.tnil Syntax.ttnil))))))))))))))))) Syntax.tnil) Syntax.ttnil))),
-) (List._∷_ (
-  1,
-  Rows'.sslice (Referent.rtF (Referent.fInt
-      Syntax.w8)) (Syntax.tyRef (Syntax.named 0) Syntax.imm (Syntax.tyInt Syntax.w8)) 0,
-) (List._∷_ (2, Rows'.whole (Declared'.row Rect.the-type)) (List._∷_ (
-  3,
-  Rows.arrF (Referent.rtF (Referent.fInt
-      Syntax.w8)) 36 0,
-) (List._∷_ (4, Mut.mslice (Referent.rtF (Referent.fInt Syntax.w16)) (Syntax.tyRef (Syntax.named 1) Syntax.mut (Syntax.tyInt Syntax.w16)) 1) (List._∷_ (
-  5,
-  Mut.mslice
-      (Referent.rtF (Referent.fInt Syntax.w16)) (Syntax.tyRef (Syntax.named 2) Syntax.mut (Syntax.tyInt Syntax.w16)) 2,
-) (List._∷_ (
+      (Syntax.tcons (Syntax.tyInt Syntax.w64) Syntax.tnil) (Syntax.ttcons Syntax.tnil (Syntax.ttcons Syntax.tnil (Syntax.ttcons (Syntax.tcons (Syntax.tyInt Syntax.w64) Syntax.tnil) (Syntax.ttcons
+      (Syntax.tcons (Syntax.tyInt Syntax.w64) Syntax.tnil) (Syntax.ttcons (Syntax.tcons (Syntax.tyInt Syntax.w64) Syntax.tnil) (Syntax.ttcons Syntax.tnil Syntax.ttnil)))))))))))))))))))))) Syntax.tnil)
+      Syntax.ttnil))),
+) (List._∷_ (1, Rows'.sslice (Referent.rtF (Referent.fInt Syntax.w8)) (Syntax.tyRef (Syntax.named 0) Syntax.imm (Syntax.tyInt Syntax.w8)) 0) (List._∷_ (
+  2,
+  Rows'.whole
+      (Declared'.row Rect.the-type),
+) (List._∷_ (3, Rows.arrF (Referent.rtF (Referent.fInt Syntax.w8)) 36 0) (List._∷_ (
+  4,
+  Mut.mslice (Referent.rtF (Referent.fInt Syntax.w16)) (Syntax.tyRef (Syntax.named
+      1) Syntax.mut (Syntax.tyInt Syntax.w16)) 1,
+) (List._∷_ (5, Mut.mslice (Referent.rtF (Referent.fInt Syntax.w16)) (Syntax.tyRef (Syntax.named 2) Syntax.mut (Syntax.tyInt Syntax.w16)) 2) (List._∷_ (
   6,
-  Mut.mslice (Element.type) (Syntax.tyRef (Syntax.named 3) Syntax.mut
-      Element.behind) 3,
+  Mut.mslice (Element.type) (Syntax.tyRef (Syntax.named 3) Syntax.mut Element.behind) 3,
 ) (List._∷_ (
   7,
-  Rows'.any-gone (Syntax.tyEnum (List._∷_ 115 (List._∷_ 116 (List._∷_ 114 (List._∷_ 101 (List._∷_ 97 (List._∷_ 109 (List._∷_ 58 (List._∷_ 58 (List._∷_ 80 (List._∷_ 97
-      (List._∷_ 114 (List._∷_ 115 (List._∷_ 101 (List._∷_ 100 List.[])))))))))))))) (Syntax.ttcons (Syntax.tcons (Syntax.tyStruct (List._∷_ 115 (List._∷_ 116 (List._∷_ 114 (List._∷_ 101 (List._∷_ 97
-      (List._∷_ 109 (List._∷_ 58 (List._∷_ 58 (List._∷_ 70 (List._∷_ 117 (List._∷_ 106 (List._∷_ 105 (List._∷_ 72 (List._∷_ 101 (List._∷_ 97 (List._∷_ 100 (List._∷_ 101 (List._∷_ 114
-      List.[])))))))))))))))))) (Syntax.tcons Syntax.tyBool (Syntax.tcons Syntax.tyBool (Syntax.tcons (Syntax.tyInt Syntax.w32) (Syntax.tcons (Syntax.tyInt Syntax.w32) (Syntax.tcons (Syntax.tyInt
-      Syntax.w32) (Syntax.tcons (Syntax.tyInt Syntax.w32) (Syntax.tcons (Syntax.tyInt Syntax.w32) (Syntax.tcons (Syntax.tyInt Syntax.w32) (Syntax.tcons (Syntax.tyInt Syntax.w32) Syntax.tnil))))))))))
-      Syntax.tnil) (Syntax.ttcons (Syntax.tcons (Syntax.tyEnum (List._∷_ 115 (List._∷_ 116 (List._∷_ 114 (List._∷_ 101 (List._∷_ 97 (List._∷_ 109 (List._∷_ 58 (List._∷_ 58 (List._∷_ 82 (List._∷_ 101
-      (List._∷_ 102 (List._∷_ 117 (List._∷_ 115 (List._∷_ 97 (List._∷_ 108 List.[]))))))))))))))) (Syntax.ttcons Syntax.tnil (Syntax.ttcons Syntax.tnil (Syntax.ttcons Syntax.tnil (Syntax.ttcons
-      (Syntax.tcons (Syntax.tyInt Syntax.w64) Syntax.tnil) (Syntax.ttcons Syntax.tnil (Syntax.ttcons Syntax.tnil (Syntax.ttcons Syntax.tnil (Syntax.ttcons Syntax.tnil (Syntax.ttcons Syntax.tnil
-      (Syntax.ttcons Syntax.tnil (Syntax.ttcons (Syntax.tcons (Syntax.tyInt Syntax.w64) Syntax.tnil) (Syntax.ttcons (Syntax.tcons (Syntax.tyInt Syntax.w64) Syntax.tnil) (Syntax.ttcons Syntax.tnil
-      (Syntax.ttcons (Syntax.tcons (Syntax.tyInt Syntax.w64) (Syntax.tcons (Syntax.tyInt Syntax.w64) Syntax.tnil)) (Syntax.ttcons (Syntax.tcons (Syntax.tyInt Syntax.w64) Syntax.tnil) (Syntax.ttcons
-      Syntax.tnil Syntax.ttnil))))))))))))))))) Syntax.tnil) Syntax.ttnil))),
-) (List._∷_ (
-  8,
-  Rows'.any-gone (Syntax.tyEnum (List._∷_ 115 (List._∷_ 116 (List._∷_ 114 (List._∷_ 101 (List._∷_ 97 (List._∷_
+  Rows'.any-gone (Syntax.tyEnum (List._∷_ 115 (List._∷_ 116 (List._∷_ 114 (List._∷_ 101
+      (List._∷_ 97 (List._∷_ 109 (List._∷_ 58 (List._∷_ 58 (List._∷_ 80 (List._∷_ 97 (List._∷_ 114 (List._∷_ 115 (List._∷_ 101 (List._∷_ 100 List.[])))))))))))))) (Syntax.ttcons (Syntax.tcons
+      (Syntax.tyStruct (List._∷_ 115 (List._∷_ 116 (List._∷_ 114 (List._∷_ 101 (List._∷_ 97 (List._∷_ 109 (List._∷_ 58 (List._∷_ 58 (List._∷_ 70 (List._∷_ 117 (List._∷_ 106 (List._∷_ 105 (List._∷_ 72
+      (List._∷_ 101 (List._∷_ 97 (List._∷_ 100 (List._∷_ 101 (List._∷_ 114 List.[])))))))))))))))))) (Syntax.tcons Syntax.tyBool (Syntax.tcons Syntax.tyBool (Syntax.tcons (Syntax.tyInt Syntax.w32)
+      (Syntax.tcons (Syntax.tyInt Syntax.w32) (Syntax.tcons (Syntax.tyInt Syntax.w32) (Syntax.tcons (Syntax.tyInt Syntax.w32) (Syntax.tcons (Syntax.tyInt Syntax.w32) (Syntax.tcons (Syntax.tyInt Syntax.w32)
+      (Syntax.tcons (Syntax.tyInt Syntax.w32) Syntax.tnil)))))))))) Syntax.tnil) (Syntax.ttcons (Syntax.tcons (Syntax.tyEnum (List._∷_ 115 (List._∷_ 116 (List._∷_ 114 (List._∷_ 101 (List._∷_ 97 (List._∷_
       109 (List._∷_ 58 (List._∷_ 58 (List._∷_ 82 (List._∷_ 101 (List._∷_ 102 (List._∷_ 117 (List._∷_ 115 (List._∷_ 97 (List._∷_ 108 List.[]))))))))))))))) (Syntax.ttcons Syntax.tnil (Syntax.ttcons
       Syntax.tnil (Syntax.ttcons Syntax.tnil (Syntax.ttcons (Syntax.tcons (Syntax.tyInt Syntax.w64) Syntax.tnil) (Syntax.ttcons Syntax.tnil (Syntax.ttcons Syntax.tnil (Syntax.ttcons Syntax.tnil
       (Syntax.ttcons Syntax.tnil (Syntax.ttcons Syntax.tnil (Syntax.ttcons Syntax.tnil (Syntax.ttcons (Syntax.tcons (Syntax.tyInt Syntax.w64) Syntax.tnil) (Syntax.ttcons (Syntax.tcons (Syntax.tyInt
       Syntax.w64) Syntax.tnil) (Syntax.ttcons Syntax.tnil (Syntax.ttcons (Syntax.tcons (Syntax.tyInt Syntax.w64) (Syntax.tcons (Syntax.tyInt Syntax.w64) Syntax.tnil)) (Syntax.ttcons (Syntax.tcons
-      (Syntax.tyInt Syntax.w64) Syntax.tnil) (Syntax.ttcons Syntax.tnil Syntax.ttnil))))))))))))))))),
-) (List._∷_ (
-  9,
-  Rows'.any-gone (Syntax.tyStruct (List._∷_ 115 (List._∷_ 116 (List._∷_ 114 (List._∷_
-      101 (List._∷_ 97 (List._∷_ 109 (List._∷_ 58 (List._∷_ 58 (List._∷_ 70 (List._∷_ 117 (List._∷_ 106 (List._∷_ 105 (List._∷_ 72 (List._∷_ 101 (List._∷_ 97 (List._∷_ 100 (List._∷_ 101 (List._∷_ 114
-      List.[])))))))))))))))))) (Syntax.tcons Syntax.tyBool (Syntax.tcons Syntax.tyBool (Syntax.tcons (Syntax.tyInt Syntax.w32) (Syntax.tcons (Syntax.tyInt Syntax.w32) (Syntax.tcons (Syntax.tyInt
-      Syntax.w32) (Syntax.tcons (Syntax.tyInt Syntax.w32) (Syntax.tcons (Syntax.tyInt Syntax.w32) (Syntax.tcons (Syntax.tyInt Syntax.w32) (Syntax.tcons (Syntax.tyInt Syntax.w32) Syntax.tnil)))))))))),
+      (Syntax.tyInt Syntax.w64) Syntax.tnil) (Syntax.ttcons Syntax.tnil (Syntax.ttcons Syntax.tnil (Syntax.ttcons (Syntax.tcons (Syntax.tyInt Syntax.w64) Syntax.tnil) (Syntax.ttcons (Syntax.tcons
+      (Syntax.tyInt Syntax.w64) Syntax.tnil) (Syntax.ttcons (Syntax.tcons (Syntax.tyInt Syntax.w64) Syntax.tnil) (Syntax.ttcons Syntax.tnil Syntax.ttnil)))))))))))))))))))))) Syntax.tnil) Syntax.ttnil))),
 )
+    (List._∷_ (
+      8,
+      Rows'.any-gone (Syntax.tyEnum (List._∷_ 115 (List._∷_ 116 (List._∷_ 114 (List._∷_ 101 (List._∷_ 97 (List._∷_ 109 (List._∷_ 58 (List._∷_ 58 (List._∷_ 82 (List._∷_ 101 (List._∷_ 102
+          (List._∷_ 117 (List._∷_ 115 (List._∷_ 97 (List._∷_ 108 List.[]))))))))))))))) (Syntax.ttcons Syntax.tnil (Syntax.ttcons Syntax.tnil (Syntax.ttcons Syntax.tnil (Syntax.ttcons (Syntax.tcons
+          (Syntax.tyInt Syntax.w64) Syntax.tnil) (Syntax.ttcons Syntax.tnil (Syntax.ttcons Syntax.tnil (Syntax.ttcons Syntax.tnil (Syntax.ttcons Syntax.tnil (Syntax.ttcons Syntax.tnil (Syntax.ttcons Syntax.tnil
+          (Syntax.ttcons (Syntax.tcons (Syntax.tyInt Syntax.w64) Syntax.tnil) (Syntax.ttcons (Syntax.tcons (Syntax.tyInt Syntax.w64) Syntax.tnil) (Syntax.ttcons Syntax.tnil (Syntax.ttcons (Syntax.tcons
+          (Syntax.tyInt Syntax.w64) (Syntax.tcons (Syntax.tyInt Syntax.w64) Syntax.tnil)) (Syntax.ttcons (Syntax.tcons (Syntax.tyInt Syntax.w64) Syntax.tnil) (Syntax.ttcons Syntax.tnil (Syntax.ttcons
+          Syntax.tnil (Syntax.ttcons (Syntax.tcons (Syntax.tyInt Syntax.w64) Syntax.tnil) (Syntax.ttcons (Syntax.tcons (Syntax.tyInt Syntax.w64) Syntax.tnil) (Syntax.ttcons (Syntax.tcons (Syntax.tyInt
+          Syntax.w64) Syntax.tnil) (Syntax.ttcons Syntax.tnil Syntax.ttnil)))))))))))))))))))))),
+    ) (List._∷_ (
+      9,
+      Rows'.any-gone (Syntax.tyStruct (List._∷_ 115 (List._∷_ 116 (List._∷_ 114 (List._∷_ 101
+          (List._∷_ 97 (List._∷_ 109 (List._∷_ 58 (List._∷_ 58 (List._∷_ 70 (List._∷_ 117 (List._∷_ 106 (List._∷_ 105 (List._∷_ 72 (List._∷_ 101 (List._∷_ 97 (List._∷_ 100 (List._∷_ 101 (List._∷_ 114
+          List.[])))))))))))))))))) (Syntax.tcons Syntax.tyBool (Syntax.tcons Syntax.tyBool (Syntax.tcons (Syntax.tyInt Syntax.w32) (Syntax.tcons (Syntax.tyInt Syntax.w32) (Syntax.tcons (Syntax.tyInt
+          Syntax.w32) (Syntax.tcons (Syntax.tyInt Syntax.w32) (Syntax.tcons (Syntax.tyInt Syntax.w32) (Syntax.tcons (Syntax.tyInt Syntax.w32) (Syntax.tcons (Syntax.tyInt Syntax.w32) Syntax.tnil)))))))))),
+    )
     (List._∷_ (
       10,
       Rows'.any-gone (Syntax.tyEnum (List._∷_ 98 (List._∷_ 108 (List._∷_ 111 (List._∷_ 99 (List._∷_ 107 (List._∷_ 58 (List._∷_ 58 (List._∷_ 68 (List._∷_ 101 (List._∷_ 99 (List._∷_ 111
@@ -387,20 +391,23 @@ t0 = List._∷_ (
           (Syntax.ttcons Syntax.tnil (Syntax.ttcons Syntax.tnil (Syntax.ttcons (Syntax.tcons (Syntax.tyInt Syntax.w64) Syntax.tnil) (Syntax.ttcons Syntax.tnil (Syntax.ttcons Syntax.tnil (Syntax.ttcons
           Syntax.tnil (Syntax.ttcons Syntax.tnil (Syntax.ttcons Syntax.tnil (Syntax.ttcons Syntax.tnil (Syntax.ttcons (Syntax.tcons (Syntax.tyInt Syntax.w64) Syntax.tnil) (Syntax.ttcons (Syntax.tcons
           (Syntax.tyInt Syntax.w64) Syntax.tnil) (Syntax.ttcons Syntax.tnil (Syntax.ttcons (Syntax.tcons (Syntax.tyInt Syntax.w64) (Syntax.tcons (Syntax.tyInt Syntax.w64) Syntax.tnil)) (Syntax.ttcons
-          (Syntax.tcons (Syntax.tyInt Syntax.w64) Syntax.tnil) (Syntax.ttcons Syntax.tnil Syntax.ttnil))))))))))))))))) Syntax.tnil) Syntax.ttnil))),
-    ) (List._∷_ (
-      11,
-      Rows'.any-gone (Syntax.tyRef Syntax.erased
-          Syntax.mut (Syntax.tyInt Syntax.w16)),
-    ) (List._∷_ (
+          (Syntax.tcons (Syntax.tyInt Syntax.w64) Syntax.tnil) (Syntax.ttcons Syntax.tnil (Syntax.ttcons Syntax.tnil (Syntax.ttcons (Syntax.tcons (Syntax.tyInt Syntax.w64) Syntax.tnil) (Syntax.ttcons
+          (Syntax.tcons (Syntax.tyInt Syntax.w64) Syntax.tnil) (Syntax.ttcons (Syntax.tcons (Syntax.tyInt Syntax.w64) Syntax.tnil) (Syntax.ttcons Syntax.tnil Syntax.ttnil)))))))))))))))))))))) Syntax.tnil)
+          Syntax.ttnil))),
+    ) (List._∷_ (11, Rows'.any-gone (Syntax.tyRef Syntax.erased Syntax.mut (Syntax.tyInt Syntax.w16))) (List._∷_ (
       12,
-      Rows'.any-gone (Syntax.tyStruct (List._∷_ 38 (List._∷_ 91 (List._∷_ 93 List.[]))) (Syntax.tcons (Syntax.tyRef Syntax.erased Syntax.mut
-          (Syntax.tyInt Syntax.w16)) (Syntax.tcons (Syntax.tyInt Syntax.w64) Syntax.tnil))),
-    ) (List._∷_ (13, Rows'.any-gone (Syntax.tyRef Syntax.erased Syntax.mut (Syntax.tyInt Syntax.w16))) (List._∷_ (
+      Rows'.any-gone (Syntax.tyStruct (List._∷_ 38 (List._∷_ 91
+          (List._∷_ 93 List.[]))) (Syntax.tcons (Syntax.tyRef Syntax.erased Syntax.mut (Syntax.tyInt Syntax.w16)) (Syntax.tcons (Syntax.tyInt Syntax.w64) Syntax.tnil))),
+    ) (List._∷_ (
+      13,
+      Rows'.any-gone
+          (Syntax.tyRef Syntax.erased Syntax.mut (Syntax.tyInt Syntax.w16)),
+    ) (List._∷_ (
       14,
-      Rows'.any-gone (Syntax.tyStruct (List._∷_ 38 (List._∷_ 91 (List._∷_ 93 List.[]))) (Syntax.tcons (Syntax.tyRef Syntax.erased Syntax.mut (Syntax.tyInt Syntax.w16)) (Syntax.tcons (Syntax.tyInt
-          Syntax.w64) Syntax.tnil))),
-    ) (List._∷_ (15, Rows'.any-gone (Syntax.tyRef Syntax.erased Syntax.mut Element.behind)) List.[])))))))))))))))
+      Rows'.any-gone (Syntax.tyStruct (List._∷_ 38 (List._∷_ 91 (List._∷_ 93 List.[]))) (Syntax.tcons (Syntax.tyRef
+          Syntax.erased Syntax.mut (Syntax.tyInt Syntax.w16)) (Syntax.tcons (Syntax.tyInt Syntax.w64) Syntax.tnil))),
+    ) (List._∷_ (15, Rows'.any-gone (Syntax.tyRef Syntax.erased Syntax.mut Element.behind))
+    List.[])))))))))))))))
 
 abbrev pub t1 : List.List Row.Entry
 t1 = List._∷_ (
@@ -438,31 +445,99 @@ t2 = List._∷_ (0, Rows'.whole (Declared.row Decoded.the-type)) (List._∷_ (
       (Syntax.ttcons (Syntax.tcons (Syntax.tyInt Syntax.w64) Syntax.tnil) (Syntax.ttcons Syntax.tnil (Syntax.ttcons Syntax.tnil (Syntax.ttcons Syntax.tnil (Syntax.ttcons Syntax.tnil (Syntax.ttcons
       Syntax.tnil (Syntax.ttcons Syntax.tnil (Syntax.ttcons (Syntax.tcons (Syntax.tyInt Syntax.w64) Syntax.tnil) (Syntax.ttcons (Syntax.tcons (Syntax.tyInt Syntax.w64) Syntax.tnil) (Syntax.ttcons
       Syntax.tnil (Syntax.ttcons (Syntax.tcons (Syntax.tyInt Syntax.w64) (Syntax.tcons (Syntax.tyInt Syntax.w64) Syntax.tnil)) (Syntax.ttcons (Syntax.tcons (Syntax.tyInt Syntax.w64) Syntax.tnil)
-      (Syntax.ttcons Syntax.tnil Syntax.ttnil))))))))))))))))) Syntax.tnil) Syntax.ttnil))),
+      (Syntax.ttcons Syntax.tnil (Syntax.ttcons Syntax.tnil (Syntax.ttcons (Syntax.tcons (Syntax.tyInt Syntax.w64) Syntax.tnil) (Syntax.ttcons (Syntax.tcons (Syntax.tyInt Syntax.w64) Syntax.tnil)
+      (Syntax.ttcons (Syntax.tcons (Syntax.tyInt Syntax.w64) Syntax.tnil) (Syntax.ttcons Syntax.tnil Syntax.ttnil)))))))))))))))))))))) Syntax.tnil) Syntax.ttnil))),
 ) (List._∷_ (
   8,
-  Rows'.any-gone (Syntax.tyEnum (List._∷_ 115 (List._∷_ 116 (List._∷_ 114 (List._∷_ 101 (List._∷_
+  Rows'.any-gone
+      (Syntax.tyEnum (List._∷_ 115 (List._∷_ 116 (List._∷_ 114 (List._∷_ 101 (List._∷_ 97 (List._∷_ 109 (List._∷_ 58 (List._∷_ 58 (List._∷_ 82 (List._∷_ 101 (List._∷_ 102 (List._∷_ 117 (List._∷_ 115
+      (List._∷_ 97 (List._∷_ 108 List.[]))))))))))))))) (Syntax.ttcons Syntax.tnil (Syntax.ttcons Syntax.tnil (Syntax.ttcons Syntax.tnil (Syntax.ttcons (Syntax.tcons (Syntax.tyInt Syntax.w64) Syntax.tnil)
+      (Syntax.ttcons Syntax.tnil (Syntax.ttcons Syntax.tnil (Syntax.ttcons Syntax.tnil (Syntax.ttcons Syntax.tnil (Syntax.ttcons Syntax.tnil (Syntax.ttcons Syntax.tnil (Syntax.ttcons (Syntax.tcons
+      (Syntax.tyInt Syntax.w64) Syntax.tnil) (Syntax.ttcons (Syntax.tcons (Syntax.tyInt Syntax.w64) Syntax.tnil) (Syntax.ttcons Syntax.tnil (Syntax.ttcons (Syntax.tcons (Syntax.tyInt Syntax.w64)
+      (Syntax.tcons (Syntax.tyInt Syntax.w64) Syntax.tnil)) (Syntax.ttcons (Syntax.tcons (Syntax.tyInt Syntax.w64) Syntax.tnil) (Syntax.ttcons Syntax.tnil (Syntax.ttcons Syntax.tnil (Syntax.ttcons
+      (Syntax.tcons (Syntax.tyInt Syntax.w64) Syntax.tnil) (Syntax.ttcons (Syntax.tcons (Syntax.tyInt Syntax.w64) Syntax.tnil) (Syntax.ttcons (Syntax.tcons (Syntax.tyInt Syntax.w64) Syntax.tnil)
+      (Syntax.ttcons Syntax.tnil Syntax.ttnil)))))))))))))))))))))),
+) (List._∷_ (
+  9,
+  Rows'.any-gone (Syntax.tyStruct (List._∷_ 115 (List._∷_ 116 (List._∷_ 114 (List._∷_ 101 (List._∷_ 97 (List._∷_ 109
+      (List._∷_ 58 (List._∷_ 58 (List._∷_ 70 (List._∷_ 117 (List._∷_ 106 (List._∷_ 105 (List._∷_ 72 (List._∷_ 101 (List._∷_ 97 (List._∷_ 100 (List._∷_ 101 (List._∷_ 114 List.[]))))))))))))))))))
+      (Syntax.tcons Syntax.tyBool (Syntax.tcons Syntax.tyBool (Syntax.tcons (Syntax.tyInt Syntax.w32) (Syntax.tcons (Syntax.tyInt Syntax.w32) (Syntax.tcons (Syntax.tyInt Syntax.w32) (Syntax.tcons
+      (Syntax.tyInt Syntax.w32) (Syntax.tcons (Syntax.tyInt Syntax.w32) (Syntax.tcons (Syntax.tyInt Syntax.w32) (Syntax.tcons (Syntax.tyInt Syntax.w32) Syntax.tnil)))))))))),
+) (List._∷_ (
+  10,
+  Rows'.any-gone (Syntax.tyEnum (List._∷_ 98 (List._∷_ 108 (List._∷_ 111 (List._∷_ 99 (List._∷_ 107 (List._∷_ 58 (List._∷_ 58 (List._∷_ 68 (List._∷_ 101 (List._∷_ 99 (List._∷_ 111 (List._∷_ 100
+      (List._∷_ 101 (List._∷_ 100 List.[])))))))))))))) (Syntax.ttcons Syntax.tnil (Syntax.ttcons (Syntax.tcons (Syntax.tyEnum (List._∷_ 115 (List._∷_ 116 (List._∷_ 114 (List._∷_ 101 (List._∷_ 97 (List._∷_
+      109 (List._∷_ 58 (List._∷_ 58 (List._∷_ 82 (List._∷_ 101 (List._∷_ 102 (List._∷_ 117 (List._∷_ 115 (List._∷_ 97 (List._∷_ 108 List.[]))))))))))))))) (Syntax.ttcons Syntax.tnil (Syntax.ttcons
+      Syntax.tnil (Syntax.ttcons Syntax.tnil (Syntax.ttcons (Syntax.tcons (Syntax.tyInt Syntax.w64) Syntax.tnil) (Syntax.ttcons Syntax.tnil (Syntax.ttcons Syntax.tnil (Syntax.ttcons Syntax.tnil
+      (Syntax.ttcons Syntax.tnil (Syntax.ttcons Syntax.tnil (Syntax.ttcons Syntax.tnil (Syntax.ttcons (Syntax.tcons (Syntax.tyInt Syntax.w64) Syntax.tnil) (Syntax.ttcons (Syntax.tcons (Syntax.tyInt
+      Syntax.w64) Syntax.tnil) (Syntax.ttcons Syntax.tnil (Syntax.ttcons (Syntax.tcons (Syntax.tyInt Syntax.w64) (Syntax.tcons (Syntax.tyInt Syntax.w64) Syntax.tnil)) (Syntax.ttcons (Syntax.tcons
+      (Syntax.tyInt Syntax.w64) Syntax.tnil) (Syntax.ttcons Syntax.tnil (Syntax.ttcons Syntax.tnil (Syntax.ttcons (Syntax.tcons (Syntax.tyInt Syntax.w64) Syntax.tnil) (Syntax.ttcons (Syntax.tcons
+      (Syntax.tyInt Syntax.w64) Syntax.tnil) (Syntax.ttcons (Syntax.tcons (Syntax.tyInt Syntax.w64) Syntax.tnil) (Syntax.ttcons Syntax.tnil Syntax.ttnil)))))))))))))))))))))) Syntax.tnil) Syntax.ttnil))),
+)
+    (List._∷_ (11, Rows'.any-gone (Syntax.tyRef Syntax.erased Syntax.mut (Syntax.tyInt Syntax.w16))) (List._∷_ (
+      12,
+      Rows'.any-gone (Syntax.tyStruct (List._∷_ 38 (List._∷_ 91 (List._∷_ 93 List.[])))
+          (Syntax.tcons (Syntax.tyRef Syntax.erased Syntax.mut (Syntax.tyInt Syntax.w16)) (Syntax.tcons (Syntax.tyInt Syntax.w64) Syntax.tnil))),
+    ) (List._∷_ (
+      13,
+      Rows'.any-gone (Syntax.tyRef Syntax.erased
+          Syntax.mut (Syntax.tyInt Syntax.w16)),
+    ) (List._∷_ (
+      14,
+      Rows'.any-gone (Syntax.tyStruct (List._∷_ 38 (List._∷_ 91 (List._∷_ 93 List.[]))) (Syntax.tcons (Syntax.tyRef Syntax.erased Syntax.mut
+          (Syntax.tyInt Syntax.w16)) (Syntax.tcons (Syntax.tyInt Syntax.w64) Syntax.tnil))),
+    ) (List._∷_ (15, Rows'.any-gone (Syntax.tyRef Syntax.erased Syntax.mut Element.behind)) List.[])))))))))))))))
+
+abbrev pub t3 : List.List Row.Entry
+t3 = List._∷_ (
+  0,
+  Rows'.any-gone (Syntax.tyEnum (List._∷_ 98 (List._∷_ 108 (List._∷_ 111 (List._∷_ 99 (List._∷_ 107 (List._∷_ 58 (List._∷_ 58 (List._∷_ 68 (List._∷_ 101 (List._∷_ 99 (List._∷_ 111
+      (List._∷_ 100 (List._∷_ 101 (List._∷_ 100 List.[])))))))))))))) (Syntax.ttcons Syntax.tnil (Syntax.ttcons (Syntax.tcons (Syntax.tyEnum (List._∷_ 115 (List._∷_ 116 (List._∷_ 114 (List._∷_ 101 (List._∷_
       97 (List._∷_ 109 (List._∷_ 58 (List._∷_ 58 (List._∷_ 82 (List._∷_ 101 (List._∷_ 102 (List._∷_ 117 (List._∷_ 115 (List._∷_ 97 (List._∷_ 108 List.[]))))))))))))))) (Syntax.ttcons Syntax.tnil
       (Syntax.ttcons Syntax.tnil (Syntax.ttcons Syntax.tnil (Syntax.ttcons (Syntax.tcons (Syntax.tyInt Syntax.w64) Syntax.tnil) (Syntax.ttcons Syntax.tnil (Syntax.ttcons Syntax.tnil (Syntax.ttcons
       Syntax.tnil (Syntax.ttcons Syntax.tnil (Syntax.ttcons Syntax.tnil (Syntax.ttcons Syntax.tnil (Syntax.ttcons (Syntax.tcons (Syntax.tyInt Syntax.w64) Syntax.tnil) (Syntax.ttcons (Syntax.tcons
       (Syntax.tyInt Syntax.w64) Syntax.tnil) (Syntax.ttcons Syntax.tnil (Syntax.ttcons (Syntax.tcons (Syntax.tyInt Syntax.w64) (Syntax.tcons (Syntax.tyInt Syntax.w64) Syntax.tnil)) (Syntax.ttcons
-      (Syntax.tcons (Syntax.tyInt Syntax.w64) Syntax.tnil) (Syntax.ttcons Syntax.tnil Syntax.ttnil))))))))))))))))),
+      (Syntax.tcons (Syntax.tyInt Syntax.w64) Syntax.tnil) (Syntax.ttcons Syntax.tnil (Syntax.ttcons Syntax.tnil (Syntax.ttcons (Syntax.tcons (Syntax.tyInt Syntax.w64) Syntax.tnil) (Syntax.ttcons
+      (Syntax.tcons (Syntax.tyInt Syntax.w64) Syntax.tnil) (Syntax.ttcons (Syntax.tcons (Syntax.tyInt Syntax.w64) Syntax.tnil) (Syntax.ttcons Syntax.tnil Syntax.ttnil)))))))))))))))))))))) Syntax.tnil)
+      Syntax.ttnil))),
+) (List._∷_ (1, Rows'.sslice (Referent.rtF (Referent.fInt Syntax.w8)) (Syntax.tyRef (Syntax.named 0) Syntax.imm (Syntax.tyInt Syntax.w8)) 0) (List._∷_ (
+  2,
+  Rows'.whole
+      (Declared'.row Rect.the-type),
+) (List._∷_ (3, Rows.arrF (Referent.rtF (Referent.fInt Syntax.w8)) 36 0) (List._∷_ (
+  4,
+  Mut.mslice (Referent.rtF (Referent.fInt Syntax.w16)) (Syntax.tyRef (Syntax.named
+      1) Syntax.mut (Syntax.tyInt Syntax.w16)) 1,
+) (List._∷_ (5, Mut.mslice (Referent.rtF (Referent.fInt Syntax.w16)) (Syntax.tyRef (Syntax.named 2) Syntax.mut (Syntax.tyInt Syntax.w16)) 2) (List._∷_ (
+  6,
+  Mut.mslice (Element.type) (Syntax.tyRef (Syntax.named 3) Syntax.mut Element.behind) 3,
+) (List._∷_ (7, Rows'.whole (Declared.row Parsed.the-type)) (List._∷_ (
+  8,
+  Rows'.any-gone (Syntax.tyEnum
+      (List._∷_ 115 (List._∷_ 116 (List._∷_ 114 (List._∷_ 101 (List._∷_ 97 (List._∷_ 109 (List._∷_ 58 (List._∷_ 58 (List._∷_ 82 (List._∷_ 101 (List._∷_ 102 (List._∷_ 117 (List._∷_ 115 (List._∷_ 97 (List._∷_
+      108 List.[]))))))))))))))) (Syntax.ttcons Syntax.tnil (Syntax.ttcons Syntax.tnil (Syntax.ttcons Syntax.tnil (Syntax.ttcons (Syntax.tcons (Syntax.tyInt Syntax.w64) Syntax.tnil) (Syntax.ttcons
+      Syntax.tnil (Syntax.ttcons Syntax.tnil (Syntax.ttcons Syntax.tnil (Syntax.ttcons Syntax.tnil (Syntax.ttcons Syntax.tnil (Syntax.ttcons Syntax.tnil (Syntax.ttcons (Syntax.tcons (Syntax.tyInt
+      Syntax.w64) Syntax.tnil) (Syntax.ttcons (Syntax.tcons (Syntax.tyInt Syntax.w64) Syntax.tnil) (Syntax.ttcons Syntax.tnil (Syntax.ttcons (Syntax.tcons (Syntax.tyInt Syntax.w64) (Syntax.tcons
+      (Syntax.tyInt Syntax.w64) Syntax.tnil)) (Syntax.ttcons (Syntax.tcons (Syntax.tyInt Syntax.w64) Syntax.tnil) (Syntax.ttcons Syntax.tnil (Syntax.ttcons Syntax.tnil (Syntax.ttcons (Syntax.tcons
+      (Syntax.tyInt Syntax.w64) Syntax.tnil) (Syntax.ttcons (Syntax.tcons (Syntax.tyInt Syntax.w64) Syntax.tnil) (Syntax.ttcons (Syntax.tcons (Syntax.tyInt Syntax.w64) Syntax.tnil) (Syntax.ttcons
+      Syntax.tnil Syntax.ttnil)))))))))))))))))))))),
 ) (List._∷_ (
   9,
-  Rows'.any-gone (Syntax.tyStruct (List._∷_ 115 (List._∷_ 116 (List._∷_
-      114 (List._∷_ 101 (List._∷_ 97 (List._∷_ 109 (List._∷_ 58 (List._∷_ 58 (List._∷_ 70 (List._∷_ 117 (List._∷_ 106 (List._∷_ 105 (List._∷_ 72 (List._∷_ 101 (List._∷_ 97 (List._∷_ 100 (List._∷_ 101
-      (List._∷_ 114 List.[])))))))))))))))))) (Syntax.tcons Syntax.tyBool (Syntax.tcons Syntax.tyBool (Syntax.tcons (Syntax.tyInt Syntax.w32) (Syntax.tcons (Syntax.tyInt Syntax.w32) (Syntax.tcons
-      (Syntax.tyInt Syntax.w32) (Syntax.tcons (Syntax.tyInt Syntax.w32) (Syntax.tcons (Syntax.tyInt Syntax.w32) (Syntax.tcons (Syntax.tyInt Syntax.w32) (Syntax.tcons (Syntax.tyInt Syntax.w32)
-      Syntax.tnil)))))))))),
+  Rows'.any-gone (Syntax.tyStruct (List._∷_ 115 (List._∷_ 116 (List._∷_ 114 (List._∷_ 101 (List._∷_ 97 (List._∷_ 109 (List._∷_ 58
+      (List._∷_ 58 (List._∷_ 70 (List._∷_ 117 (List._∷_ 106 (List._∷_ 105 (List._∷_ 72 (List._∷_ 101 (List._∷_ 97 (List._∷_ 100 (List._∷_ 101 (List._∷_ 114 List.[])))))))))))))))))) (Syntax.tcons
+      Syntax.tyBool (Syntax.tcons Syntax.tyBool (Syntax.tcons (Syntax.tyInt Syntax.w32) (Syntax.tcons (Syntax.tyInt Syntax.w32) (Syntax.tcons (Syntax.tyInt Syntax.w32) (Syntax.tcons (Syntax.tyInt
+      Syntax.w32) (Syntax.tcons (Syntax.tyInt Syntax.w32) (Syntax.tcons (Syntax.tyInt Syntax.w32) (Syntax.tcons (Syntax.tyInt Syntax.w32) Syntax.tnil)))))))))),
 ) (List._∷_ (
   10,
-  Rows'.any-gone (Syntax.tyEnum (List._∷_ 98 (List._∷_ 108 (List._∷_ 111 (List._∷_ 99 (List._∷_ 107 (List._∷_ 58 (List._∷_ 58 (List._∷_ 68 (List._∷_ 101
-      (List._∷_ 99 (List._∷_ 111 (List._∷_ 100 (List._∷_ 101 (List._∷_ 100 List.[])))))))))))))) (Syntax.ttcons Syntax.tnil (Syntax.ttcons (Syntax.tcons (Syntax.tyEnum (List._∷_ 115 (List._∷_ 116 (List._∷_
-      114 (List._∷_ 101 (List._∷_ 97 (List._∷_ 109 (List._∷_ 58 (List._∷_ 58 (List._∷_ 82 (List._∷_ 101 (List._∷_ 102 (List._∷_ 117 (List._∷_ 115 (List._∷_ 97 (List._∷_ 108 List.[])))))))))))))))
-      (Syntax.ttcons Syntax.tnil (Syntax.ttcons Syntax.tnil (Syntax.ttcons Syntax.tnil (Syntax.ttcons (Syntax.tcons (Syntax.tyInt Syntax.w64) Syntax.tnil) (Syntax.ttcons Syntax.tnil (Syntax.ttcons
-      Syntax.tnil (Syntax.ttcons Syntax.tnil (Syntax.ttcons Syntax.tnil (Syntax.ttcons Syntax.tnil (Syntax.ttcons Syntax.tnil (Syntax.ttcons (Syntax.tcons (Syntax.tyInt Syntax.w64) Syntax.tnil)
-      (Syntax.ttcons (Syntax.tcons (Syntax.tyInt Syntax.w64) Syntax.tnil) (Syntax.ttcons Syntax.tnil (Syntax.ttcons (Syntax.tcons (Syntax.tyInt Syntax.w64) (Syntax.tcons (Syntax.tyInt Syntax.w64)
-      Syntax.tnil)) (Syntax.ttcons (Syntax.tcons (Syntax.tyInt Syntax.w64) Syntax.tnil) (Syntax.ttcons Syntax.tnil Syntax.ttnil))))))))))))))))) Syntax.tnil) Syntax.ttnil))),
+  Rows'.any-gone
+      (Syntax.tyEnum (List._∷_ 98 (List._∷_ 108 (List._∷_ 111 (List._∷_ 99 (List._∷_ 107 (List._∷_ 58 (List._∷_ 58 (List._∷_ 68 (List._∷_ 101 (List._∷_ 99 (List._∷_ 111 (List._∷_ 100 (List._∷_ 101 (List._∷_
+      100 List.[])))))))))))))) (Syntax.ttcons Syntax.tnil (Syntax.ttcons (Syntax.tcons (Syntax.tyEnum (List._∷_ 115 (List._∷_ 116 (List._∷_ 114 (List._∷_ 101 (List._∷_ 97 (List._∷_ 109 (List._∷_ 58
+      (List._∷_ 58 (List._∷_ 82 (List._∷_ 101 (List._∷_ 102 (List._∷_ 117 (List._∷_ 115 (List._∷_ 97 (List._∷_ 108 List.[]))))))))))))))) (Syntax.ttcons Syntax.tnil (Syntax.ttcons Syntax.tnil (Syntax.ttcons
+      Syntax.tnil (Syntax.ttcons (Syntax.tcons (Syntax.tyInt Syntax.w64) Syntax.tnil) (Syntax.ttcons Syntax.tnil (Syntax.ttcons Syntax.tnil (Syntax.ttcons Syntax.tnil (Syntax.ttcons Syntax.tnil
+      (Syntax.ttcons Syntax.tnil (Syntax.ttcons Syntax.tnil (Syntax.ttcons (Syntax.tcons (Syntax.tyInt Syntax.w64) Syntax.tnil) (Syntax.ttcons (Syntax.tcons (Syntax.tyInt Syntax.w64) Syntax.tnil)
+      (Syntax.ttcons Syntax.tnil (Syntax.ttcons (Syntax.tcons (Syntax.tyInt Syntax.w64) (Syntax.tcons (Syntax.tyInt Syntax.w64) Syntax.tnil)) (Syntax.ttcons (Syntax.tcons (Syntax.tyInt Syntax.w64)
+      Syntax.tnil) (Syntax.ttcons Syntax.tnil (Syntax.ttcons Syntax.tnil (Syntax.ttcons (Syntax.tcons (Syntax.tyInt Syntax.w64) Syntax.tnil) (Syntax.ttcons (Syntax.tcons (Syntax.tyInt Syntax.w64)
+      Syntax.tnil) (Syntax.ttcons (Syntax.tcons (Syntax.tyInt Syntax.w64) Syntax.tnil) (Syntax.ttcons Syntax.tnil Syntax.ttnil)))))))))))))))))))))) Syntax.tnil) Syntax.ttnil))),
 ) (List._∷_ (
   11,
   Rows'.any-gone (Syntax.tyRef Syntax.erased Syntax.mut (Syntax.tyInt Syntax.w16)),
@@ -480,70 +555,6 @@ t2 = List._∷_ (0, Rows'.whole (Declared.row Decoded.the-type)) (List._∷_ (
       Syntax.w16)) (Syntax.tcons (Syntax.tyInt Syntax.w64) Syntax.tnil))),
 ) (List._∷_ (15, Rows'.any-gone (Syntax.tyRef Syntax.erased Syntax.mut Element.behind)) List.[])))))))))))))))
 
-abbrev pub t3 : List.List Row.Entry
-t3 = List._∷_ (
-  0,
-  Rows'.any-gone (Syntax.tyEnum (List._∷_ 98 (List._∷_ 108 (List._∷_ 111 (List._∷_ 99 (List._∷_ 107 (List._∷_ 58 (List._∷_ 58 (List._∷_ 68 (List._∷_ 101 (List._∷_ 99 (List._∷_ 111
-      (List._∷_ 100 (List._∷_ 101 (List._∷_ 100 List.[])))))))))))))) (Syntax.ttcons Syntax.tnil (Syntax.ttcons (Syntax.tcons (Syntax.tyEnum (List._∷_ 115 (List._∷_ 116 (List._∷_ 114 (List._∷_ 101 (List._∷_
-      97 (List._∷_ 109 (List._∷_ 58 (List._∷_ 58 (List._∷_ 82 (List._∷_ 101 (List._∷_ 102 (List._∷_ 117 (List._∷_ 115 (List._∷_ 97 (List._∷_ 108 List.[]))))))))))))))) (Syntax.ttcons Syntax.tnil
-      (Syntax.ttcons Syntax.tnil (Syntax.ttcons Syntax.tnil (Syntax.ttcons (Syntax.tcons (Syntax.tyInt Syntax.w64) Syntax.tnil) (Syntax.ttcons Syntax.tnil (Syntax.ttcons Syntax.tnil (Syntax.ttcons
-      Syntax.tnil (Syntax.ttcons Syntax.tnil (Syntax.ttcons Syntax.tnil (Syntax.ttcons Syntax.tnil (Syntax.ttcons (Syntax.tcons (Syntax.tyInt Syntax.w64) Syntax.tnil) (Syntax.ttcons (Syntax.tcons
-      (Syntax.tyInt Syntax.w64) Syntax.tnil) (Syntax.ttcons Syntax.tnil (Syntax.ttcons (Syntax.tcons (Syntax.tyInt Syntax.w64) (Syntax.tcons (Syntax.tyInt Syntax.w64) Syntax.tnil)) (Syntax.ttcons
-      (Syntax.tcons (Syntax.tyInt Syntax.w64) Syntax.tnil) (Syntax.ttcons Syntax.tnil Syntax.ttnil))))))))))))))))) Syntax.tnil) Syntax.ttnil))),
-) (List._∷_ (
-  1,
-  Rows'.sslice (Referent.rtF (Referent.fInt
-      Syntax.w8)) (Syntax.tyRef (Syntax.named 0) Syntax.imm (Syntax.tyInt Syntax.w8)) 0,
-) (List._∷_ (2, Rows'.whole (Declared'.row Rect.the-type)) (List._∷_ (
-  3,
-  Rows.arrF (Referent.rtF (Referent.fInt
-      Syntax.w8)) 36 0,
-) (List._∷_ (4, Mut.mslice (Referent.rtF (Referent.fInt Syntax.w16)) (Syntax.tyRef (Syntax.named 1) Syntax.mut (Syntax.tyInt Syntax.w16)) 1) (List._∷_ (
-  5,
-  Mut.mslice
-      (Referent.rtF (Referent.fInt Syntax.w16)) (Syntax.tyRef (Syntax.named 2) Syntax.mut (Syntax.tyInt Syntax.w16)) 2,
-) (List._∷_ (
-  6,
-  Mut.mslice (Element.type) (Syntax.tyRef (Syntax.named 3) Syntax.mut
-      Element.behind) 3,
-) (List._∷_ (7, Rows'.whole (Declared.row Parsed.the-type)) (List._∷_ (
-  8,
-  Rows'.any-gone (Syntax.tyEnum (List._∷_ 115 (List._∷_ 116 (List._∷_ 114 (List._∷_ 101 (List._∷_ 97
-      (List._∷_ 109 (List._∷_ 58 (List._∷_ 58 (List._∷_ 82 (List._∷_ 101 (List._∷_ 102 (List._∷_ 117 (List._∷_ 115 (List._∷_ 97 (List._∷_ 108 List.[]))))))))))))))) (Syntax.ttcons Syntax.tnil (Syntax.ttcons
-      Syntax.tnil (Syntax.ttcons Syntax.tnil (Syntax.ttcons (Syntax.tcons (Syntax.tyInt Syntax.w64) Syntax.tnil) (Syntax.ttcons Syntax.tnil (Syntax.ttcons Syntax.tnil (Syntax.ttcons Syntax.tnil
-      (Syntax.ttcons Syntax.tnil (Syntax.ttcons Syntax.tnil (Syntax.ttcons Syntax.tnil (Syntax.ttcons (Syntax.tcons (Syntax.tyInt Syntax.w64) Syntax.tnil) (Syntax.ttcons (Syntax.tcons (Syntax.tyInt
-      Syntax.w64) Syntax.tnil) (Syntax.ttcons Syntax.tnil (Syntax.ttcons (Syntax.tcons (Syntax.tyInt Syntax.w64) (Syntax.tcons (Syntax.tyInt Syntax.w64) Syntax.tnil)) (Syntax.ttcons (Syntax.tcons
-      (Syntax.tyInt Syntax.w64) Syntax.tnil) (Syntax.ttcons Syntax.tnil Syntax.ttnil))))))))))))))))),
-) (List._∷_ (
-  9,
-  Rows'.any-gone (Syntax.tyStruct (List._∷_ 115 (List._∷_ 116 (List._∷_ 114 (List._∷_
-      101 (List._∷_ 97 (List._∷_ 109 (List._∷_ 58 (List._∷_ 58 (List._∷_ 70 (List._∷_ 117 (List._∷_ 106 (List._∷_ 105 (List._∷_ 72 (List._∷_ 101 (List._∷_ 97 (List._∷_ 100 (List._∷_ 101 (List._∷_ 114
-      List.[])))))))))))))))))) (Syntax.tcons Syntax.tyBool (Syntax.tcons Syntax.tyBool (Syntax.tcons (Syntax.tyInt Syntax.w32) (Syntax.tcons (Syntax.tyInt Syntax.w32) (Syntax.tcons (Syntax.tyInt
-      Syntax.w32) (Syntax.tcons (Syntax.tyInt Syntax.w32) (Syntax.tcons (Syntax.tyInt Syntax.w32) (Syntax.tcons (Syntax.tyInt Syntax.w32) (Syntax.tcons (Syntax.tyInt Syntax.w32) Syntax.tnil)))))))))),
-)
-    (List._∷_ (
-      10,
-      Rows'.any-gone (Syntax.tyEnum (List._∷_ 98 (List._∷_ 108 (List._∷_ 111 (List._∷_ 99 (List._∷_ 107 (List._∷_ 58 (List._∷_ 58 (List._∷_ 68 (List._∷_ 101 (List._∷_ 99 (List._∷_ 111
-          (List._∷_ 100 (List._∷_ 101 (List._∷_ 100 List.[])))))))))))))) (Syntax.ttcons Syntax.tnil (Syntax.ttcons (Syntax.tcons (Syntax.tyEnum (List._∷_ 115 (List._∷_ 116 (List._∷_ 114 (List._∷_ 101 (List._∷_
-          97 (List._∷_ 109 (List._∷_ 58 (List._∷_ 58 (List._∷_ 82 (List._∷_ 101 (List._∷_ 102 (List._∷_ 117 (List._∷_ 115 (List._∷_ 97 (List._∷_ 108 List.[]))))))))))))))) (Syntax.ttcons Syntax.tnil
-          (Syntax.ttcons Syntax.tnil (Syntax.ttcons Syntax.tnil (Syntax.ttcons (Syntax.tcons (Syntax.tyInt Syntax.w64) Syntax.tnil) (Syntax.ttcons Syntax.tnil (Syntax.ttcons Syntax.tnil (Syntax.ttcons
-          Syntax.tnil (Syntax.ttcons Syntax.tnil (Syntax.ttcons Syntax.tnil (Syntax.ttcons Syntax.tnil (Syntax.ttcons (Syntax.tcons (Syntax.tyInt Syntax.w64) Syntax.tnil) (Syntax.ttcons (Syntax.tcons
-          (Syntax.tyInt Syntax.w64) Syntax.tnil) (Syntax.ttcons Syntax.tnil (Syntax.ttcons (Syntax.tcons (Syntax.tyInt Syntax.w64) (Syntax.tcons (Syntax.tyInt Syntax.w64) Syntax.tnil)) (Syntax.ttcons
-          (Syntax.tcons (Syntax.tyInt Syntax.w64) Syntax.tnil) (Syntax.ttcons Syntax.tnil Syntax.ttnil))))))))))))))))) Syntax.tnil) Syntax.ttnil))),
-    ) (List._∷_ (
-      11,
-      Rows'.any-gone (Syntax.tyRef Syntax.erased
-          Syntax.mut (Syntax.tyInt Syntax.w16)),
-    ) (List._∷_ (
-      12,
-      Rows'.any-gone (Syntax.tyStruct (List._∷_ 38 (List._∷_ 91 (List._∷_ 93 List.[]))) (Syntax.tcons (Syntax.tyRef Syntax.erased Syntax.mut
-          (Syntax.tyInt Syntax.w16)) (Syntax.tcons (Syntax.tyInt Syntax.w64) Syntax.tnil))),
-    ) (List._∷_ (13, Rows'.any-gone (Syntax.tyRef Syntax.erased Syntax.mut (Syntax.tyInt Syntax.w16))) (List._∷_ (
-      14,
-      Rows'.any-gone (Syntax.tyStruct (List._∷_ 38 (List._∷_ 91 (List._∷_ 93 List.[]))) (Syntax.tcons (Syntax.tyRef Syntax.erased Syntax.mut (Syntax.tyInt Syntax.w16)) (Syntax.tcons (Syntax.tyInt
-          Syntax.w64) Syntax.tnil))),
-    ) (List._∷_ (15, Rows'.any-gone (Syntax.tyRef Syntax.erased Syntax.mut Element.behind)) List.[])))))))))))))))
-
 abbrev pub t4 : List.List Row.Entry
 t4 = List._∷_ (
   0,
@@ -553,457 +564,54 @@ t4 = List._∷_ (
       (Syntax.ttcons Syntax.tnil (Syntax.ttcons Syntax.tnil (Syntax.ttcons (Syntax.tcons (Syntax.tyInt Syntax.w64) Syntax.tnil) (Syntax.ttcons Syntax.tnil (Syntax.ttcons Syntax.tnil (Syntax.ttcons
       Syntax.tnil (Syntax.ttcons Syntax.tnil (Syntax.ttcons Syntax.tnil (Syntax.ttcons Syntax.tnil (Syntax.ttcons (Syntax.tcons (Syntax.tyInt Syntax.w64) Syntax.tnil) (Syntax.ttcons (Syntax.tcons
       (Syntax.tyInt Syntax.w64) Syntax.tnil) (Syntax.ttcons Syntax.tnil (Syntax.ttcons (Syntax.tcons (Syntax.tyInt Syntax.w64) (Syntax.tcons (Syntax.tyInt Syntax.w64) Syntax.tnil)) (Syntax.ttcons
-      (Syntax.tcons (Syntax.tyInt Syntax.w64) Syntax.tnil) (Syntax.ttcons Syntax.tnil Syntax.ttnil))))))))))))))))) Syntax.tnil) Syntax.ttnil))),
-) (List._∷_ (
-  1,
-  Rows'.sslice (Referent.rtF (Referent.fInt
-      Syntax.w8)) (Syntax.tyRef (Syntax.named 0) Syntax.imm (Syntax.tyInt Syntax.w8)) 0,
-) (List._∷_ (
+      (Syntax.tcons (Syntax.tyInt Syntax.w64) Syntax.tnil) (Syntax.ttcons Syntax.tnil (Syntax.ttcons Syntax.tnil (Syntax.ttcons (Syntax.tcons (Syntax.tyInt Syntax.w64) Syntax.tnil) (Syntax.ttcons
+      (Syntax.tcons (Syntax.tyInt Syntax.w64) Syntax.tnil) (Syntax.ttcons (Syntax.tcons (Syntax.tyInt Syntax.w64) Syntax.tnil) (Syntax.ttcons Syntax.tnil Syntax.ttnil)))))))))))))))))))))) Syntax.tnil)
+      Syntax.ttnil))),
+) (List._∷_ (1, Rows'.sslice (Referent.rtF (Referent.fInt Syntax.w8)) (Syntax.tyRef (Syntax.named 0) Syntax.imm (Syntax.tyInt Syntax.w8)) 0) (List._∷_ (
   2,
-  Rows'.any-gone (Syntax.tyStruct (List._∷_ 114 (List._∷_ 101 (List._∷_ 103 (List._∷_ 105 (List._∷_
-      111 (List._∷_ 110 (List._∷_ 58 (List._∷_ 58 (List._∷_ 82 (List._∷_ 101 (List._∷_ 99 (List._∷_ 116 List.[])))))))))))) (Syntax.tcons (Syntax.tyInt Syntax.w64) (Syntax.tcons (Syntax.tyInt Syntax.w64)
-      (Syntax.tcons (Syntax.tyInt Syntax.w64) (Syntax.tcons (Syntax.tyInt Syntax.w64) Syntax.tnil))))),
-) (List._∷_ (3, Rows'.any-gone (Syntax.tyArray (Syntax.tyInt Syntax.w8) 36)) (List._∷_ (
-  4,
-  Mut.mslice
-      (Referent.rtF (Referent.fInt Syntax.w16)) (Syntax.tyRef (Syntax.named 1) Syntax.mut (Syntax.tyInt Syntax.w16)) 1,
-) (List._∷_ (
-  5,
-  Mut.mslice (Referent.rtF (Referent.fInt Syntax.w16)) (Syntax.tyRef
-      (Syntax.named 2) Syntax.mut (Syntax.tyInt Syntax.w16)) 2,
-) (List._∷_ (6, Mut.mslice (Element.type) (Syntax.tyRef (Syntax.named 3) Syntax.mut Element.behind) 3) (List._∷_ (
-  7,
   Rows'.any-gone
-      (Syntax.tyEnum (List._∷_ 115 (List._∷_ 116 (List._∷_ 114 (List._∷_ 101 (List._∷_ 97 (List._∷_ 109 (List._∷_ 58 (List._∷_ 58 (List._∷_ 80 (List._∷_ 97 (List._∷_ 114 (List._∷_ 115 (List._∷_ 101
-      (List._∷_ 100 List.[])))))))))))))) (Syntax.ttcons (Syntax.tcons (Syntax.tyStruct (List._∷_ 115 (List._∷_ 116 (List._∷_ 114 (List._∷_ 101 (List._∷_ 97 (List._∷_ 109 (List._∷_ 58 (List._∷_ 58 (List._∷_
-      70 (List._∷_ 117 (List._∷_ 106 (List._∷_ 105 (List._∷_ 72 (List._∷_ 101 (List._∷_ 97 (List._∷_ 100 (List._∷_ 101 (List._∷_ 114 List.[])))))))))))))))))) (Syntax.tcons Syntax.tyBool (Syntax.tcons
-      Syntax.tyBool (Syntax.tcons (Syntax.tyInt Syntax.w32) (Syntax.tcons (Syntax.tyInt Syntax.w32) (Syntax.tcons (Syntax.tyInt Syntax.w32) (Syntax.tcons (Syntax.tyInt Syntax.w32) (Syntax.tcons
-      (Syntax.tyInt Syntax.w32) (Syntax.tcons (Syntax.tyInt Syntax.w32) (Syntax.tcons (Syntax.tyInt Syntax.w32) Syntax.tnil)))))))))) Syntax.tnil) (Syntax.ttcons (Syntax.tcons (Syntax.tyEnum (List._∷_ 115
-      (List._∷_ 116 (List._∷_ 114 (List._∷_ 101 (List._∷_ 97 (List._∷_ 109 (List._∷_ 58 (List._∷_ 58 (List._∷_ 82 (List._∷_ 101 (List._∷_ 102 (List._∷_ 117 (List._∷_ 115 (List._∷_ 97 (List._∷_ 108
-      List.[]))))))))))))))) (Syntax.ttcons Syntax.tnil (Syntax.ttcons Syntax.tnil (Syntax.ttcons Syntax.tnil (Syntax.ttcons (Syntax.tcons (Syntax.tyInt Syntax.w64) Syntax.tnil) (Syntax.ttcons Syntax.tnil
-      (Syntax.ttcons Syntax.tnil (Syntax.ttcons Syntax.tnil (Syntax.ttcons Syntax.tnil (Syntax.ttcons Syntax.tnil (Syntax.ttcons Syntax.tnil (Syntax.ttcons (Syntax.tcons (Syntax.tyInt Syntax.w64)
-      Syntax.tnil) (Syntax.ttcons (Syntax.tcons (Syntax.tyInt Syntax.w64) Syntax.tnil) (Syntax.ttcons Syntax.tnil (Syntax.ttcons (Syntax.tcons (Syntax.tyInt Syntax.w64) (Syntax.tcons (Syntax.tyInt
-      Syntax.w64) Syntax.tnil)) (Syntax.ttcons (Syntax.tcons (Syntax.tyInt Syntax.w64) Syntax.tnil) (Syntax.ttcons Syntax.tnil Syntax.ttnil))))))))))))))))) Syntax.tnil) Syntax.ttnil))),
+      (Syntax.tyStruct (List._∷_ 114 (List._∷_ 101 (List._∷_ 103 (List._∷_ 105 (List._∷_ 111 (List._∷_ 110 (List._∷_ 58 (List._∷_ 58 (List._∷_ 82 (List._∷_ 101 (List._∷_ 99 (List._∷_ 116 List.[]))))))))))))
+      (Syntax.tcons (Syntax.tyInt Syntax.w64) (Syntax.tcons (Syntax.tyInt Syntax.w64) (Syntax.tcons (Syntax.tyInt Syntax.w64) (Syntax.tcons (Syntax.tyInt Syntax.w64) Syntax.tnil))))),
 ) (List._∷_ (
-  8,
-  Rows'.any-gone (Syntax.tyEnum (List._∷_ 115 (List._∷_ 116 (List._∷_ 114 (List._∷_ 101 (List._∷_ 97 (List._∷_ 109 (List._∷_ 58 (List._∷_ 58 (List._∷_ 82 (List._∷_ 101 (List._∷_ 102 (List._∷_ 117
-      (List._∷_ 115 (List._∷_ 97 (List._∷_ 108 List.[]))))))))))))))) (Syntax.ttcons Syntax.tnil (Syntax.ttcons Syntax.tnil (Syntax.ttcons Syntax.tnil (Syntax.ttcons (Syntax.tcons (Syntax.tyInt Syntax.w64)
-      Syntax.tnil) (Syntax.ttcons Syntax.tnil (Syntax.ttcons Syntax.tnil (Syntax.ttcons Syntax.tnil (Syntax.ttcons Syntax.tnil (Syntax.ttcons Syntax.tnil (Syntax.ttcons Syntax.tnil (Syntax.ttcons
-      (Syntax.tcons (Syntax.tyInt Syntax.w64) Syntax.tnil) (Syntax.ttcons (Syntax.tcons (Syntax.tyInt Syntax.w64) Syntax.tnil) (Syntax.ttcons Syntax.tnil (Syntax.ttcons (Syntax.tcons (Syntax.tyInt
-      Syntax.w64) (Syntax.tcons (Syntax.tyInt Syntax.w64) Syntax.tnil)) (Syntax.ttcons (Syntax.tcons (Syntax.tyInt Syntax.w64) Syntax.tnil) (Syntax.ttcons Syntax.tnil Syntax.ttnil))))))))))))))))),
-)
-    (List._∷_ (
-      9,
-      Rows'.any-gone (Syntax.tyStruct (List._∷_ 115 (List._∷_ 116 (List._∷_ 114 (List._∷_ 101 (List._∷_ 97 (List._∷_ 109 (List._∷_ 58 (List._∷_ 58 (List._∷_ 70 (List._∷_ 117 (List._∷_ 106
-          (List._∷_ 105 (List._∷_ 72 (List._∷_ 101 (List._∷_ 97 (List._∷_ 100 (List._∷_ 101 (List._∷_ 114 List.[])))))))))))))))))) (Syntax.tcons Syntax.tyBool (Syntax.tcons Syntax.tyBool (Syntax.tcons
-          (Syntax.tyInt Syntax.w32) (Syntax.tcons (Syntax.tyInt Syntax.w32) (Syntax.tcons (Syntax.tyInt Syntax.w32) (Syntax.tcons (Syntax.tyInt Syntax.w32) (Syntax.tcons (Syntax.tyInt Syntax.w32) (Syntax.tcons
-          (Syntax.tyInt Syntax.w32) (Syntax.tcons (Syntax.tyInt Syntax.w32) Syntax.tnil)))))))))),
-    ) (List._∷_ (10, Rows'.whole (Declared.row Decoded.the-type)) (List._∷_ (
-      11,
-      Rows'.any-gone (Syntax.tyRef
-          Syntax.erased Syntax.mut (Syntax.tyInt Syntax.w16)),
-    ) (List._∷_ (
-      12,
-      Rows'.any-gone (Syntax.tyStruct (List._∷_ 38 (List._∷_ 91 (List._∷_ 93 List.[]))) (Syntax.tcons (Syntax.tyRef Syntax.erased
-          Syntax.mut (Syntax.tyInt Syntax.w16)) (Syntax.tcons (Syntax.tyInt Syntax.w64) Syntax.tnil))),
-    ) (List._∷_ (13, Rows'.any-gone (Syntax.tyRef Syntax.erased Syntax.mut (Syntax.tyInt Syntax.w16)))
-    (List._∷_ (
-      14,
-      Rows'.any-gone (Syntax.tyStruct (List._∷_ 38 (List._∷_ 91 (List._∷_ 93 List.[]))) (Syntax.tcons (Syntax.tyRef Syntax.erased Syntax.mut (Syntax.tyInt Syntax.w16)) (Syntax.tcons
-          (Syntax.tyInt Syntax.w64) Syntax.tnil))),
-    ) (List._∷_ (15, Rows'.any-gone (Syntax.tyRef Syntax.erased Syntax.mut Element.behind)) List.[])))))))))))))))
-
-abbrev pub t5 : List.List Row.Entry
-t5 = List._∷_ (
-  0,
-  Rows'.any-gone (Syntax.tyEnum (List._∷_ 98 (List._∷_ 108 (List._∷_ 111 (List._∷_ 99 (List._∷_ 107 (List._∷_ 58 (List._∷_ 58 (List._∷_ 68 (List._∷_ 101 (List._∷_ 99 (List._∷_ 111
-      (List._∷_ 100 (List._∷_ 101 (List._∷_ 100 List.[])))))))))))))) (Syntax.ttcons Syntax.tnil (Syntax.ttcons (Syntax.tcons (Syntax.tyEnum (List._∷_ 115 (List._∷_ 116 (List._∷_ 114 (List._∷_ 101 (List._∷_
-      97 (List._∷_ 109 (List._∷_ 58 (List._∷_ 58 (List._∷_ 82 (List._∷_ 101 (List._∷_ 102 (List._∷_ 117 (List._∷_ 115 (List._∷_ 97 (List._∷_ 108 List.[]))))))))))))))) (Syntax.ttcons Syntax.tnil
-      (Syntax.ttcons Syntax.tnil (Syntax.ttcons Syntax.tnil (Syntax.ttcons (Syntax.tcons (Syntax.tyInt Syntax.w64) Syntax.tnil) (Syntax.ttcons Syntax.tnil (Syntax.ttcons Syntax.tnil (Syntax.ttcons
-      Syntax.tnil (Syntax.ttcons Syntax.tnil (Syntax.ttcons Syntax.tnil (Syntax.ttcons Syntax.tnil (Syntax.ttcons (Syntax.tcons (Syntax.tyInt Syntax.w64) Syntax.tnil) (Syntax.ttcons (Syntax.tcons
-      (Syntax.tyInt Syntax.w64) Syntax.tnil) (Syntax.ttcons Syntax.tnil (Syntax.ttcons (Syntax.tcons (Syntax.tyInt Syntax.w64) (Syntax.tcons (Syntax.tyInt Syntax.w64) Syntax.tnil)) (Syntax.ttcons
-      (Syntax.tcons (Syntax.tyInt Syntax.w64) Syntax.tnil) (Syntax.ttcons Syntax.tnil Syntax.ttnil))))))))))))))))) Syntax.tnil) Syntax.ttnil))),
-) (List._∷_ (
-  1,
-  Rows'.sslice (Referent.rtF (Referent.fInt
-      Syntax.w8)) (Syntax.tyRef (Syntax.named 0) Syntax.imm (Syntax.tyInt Syntax.w8)) 0,
-) (List._∷_ (2, Rows'.whole (Declared'.row Rect.the-type)) (List._∷_ (
   3,
-  Rows.arrF (Referent.rtF (Referent.fInt
-      Syntax.w8)) 36 0,
-) (List._∷_ (4, Mut.mslice (Referent.rtF (Referent.fInt Syntax.w16)) (Syntax.tyRef (Syntax.named 1) Syntax.mut (Syntax.tyInt Syntax.w16)) 1) (List._∷_ (
-  5,
-  Mut.mslice
-      (Referent.rtF (Referent.fInt Syntax.w16)) (Syntax.tyRef (Syntax.named 2) Syntax.mut (Syntax.tyInt Syntax.w16)) 2,
+  Rows'.any-gone (Syntax.tyArray (Syntax.tyInt Syntax.w8) 36),
 ) (List._∷_ (
+  4,
+  Mut.mslice (Referent.rtF (Referent.fInt Syntax.w16)) (Syntax.tyRef (Syntax.named 1) Syntax.mut (Syntax.tyInt Syntax.w16)) 1,
+) (List._∷_ (5, Mut.mslice (Referent.rtF (Referent.fInt Syntax.w16)) (Syntax.tyRef (Syntax.named 2) Syntax.mut (Syntax.tyInt Syntax.w16)) 2) (List._∷_ (
   6,
-  Mut.mslice (Element.type) (Syntax.tyRef (Syntax.named 3) Syntax.mut
-      Element.behind) 3,
-) (List._∷_ (7, Rows'.whole (Known.Known Parsed.enum 1)) (List._∷_ (
-  8,
-  Rows'.any-gone (Syntax.tyEnum (List._∷_ 115 (List._∷_ 116 (List._∷_ 114 (List._∷_ 101 (List._∷_ 97 (List._∷_
-      109 (List._∷_ 58 (List._∷_ 58 (List._∷_ 82 (List._∷_ 101 (List._∷_ 102 (List._∷_ 117 (List._∷_ 115 (List._∷_ 97 (List._∷_ 108 List.[]))))))))))))))) (Syntax.ttcons Syntax.tnil (Syntax.ttcons
-      Syntax.tnil (Syntax.ttcons Syntax.tnil (Syntax.ttcons (Syntax.tcons (Syntax.tyInt Syntax.w64) Syntax.tnil) (Syntax.ttcons Syntax.tnil (Syntax.ttcons Syntax.tnil (Syntax.ttcons Syntax.tnil
-      (Syntax.ttcons Syntax.tnil (Syntax.ttcons Syntax.tnil (Syntax.ttcons Syntax.tnil (Syntax.ttcons (Syntax.tcons (Syntax.tyInt Syntax.w64) Syntax.tnil) (Syntax.ttcons (Syntax.tcons (Syntax.tyInt
-      Syntax.w64) Syntax.tnil) (Syntax.ttcons Syntax.tnil (Syntax.ttcons (Syntax.tcons (Syntax.tyInt Syntax.w64) (Syntax.tcons (Syntax.tyInt Syntax.w64) Syntax.tnil)) (Syntax.ttcons (Syntax.tcons
-      (Syntax.tyInt Syntax.w64) Syntax.tnil) (Syntax.ttcons Syntax.tnil Syntax.ttnil))))))))))))))))),
+  Mut.mslice (Element.type) (Syntax.tyRef
+      (Syntax.named 3) Syntax.mut Element.behind) 3,
 ) (List._∷_ (
-  9,
-  Rows'.any-gone (Syntax.tyStruct (List._∷_ 115 (List._∷_ 116 (List._∷_ 114 (List._∷_
-      101 (List._∷_ 97 (List._∷_ 109 (List._∷_ 58 (List._∷_ 58 (List._∷_ 70 (List._∷_ 117 (List._∷_ 106 (List._∷_ 105 (List._∷_ 72 (List._∷_ 101 (List._∷_ 97 (List._∷_ 100 (List._∷_ 101 (List._∷_ 114
-      List.[])))))))))))))))))) (Syntax.tcons Syntax.tyBool (Syntax.tcons Syntax.tyBool (Syntax.tcons (Syntax.tyInt Syntax.w32) (Syntax.tcons (Syntax.tyInt Syntax.w32) (Syntax.tcons (Syntax.tyInt
-      Syntax.w32) (Syntax.tcons (Syntax.tyInt Syntax.w32) (Syntax.tcons (Syntax.tyInt Syntax.w32) (Syntax.tcons (Syntax.tyInt Syntax.w32) (Syntax.tcons (Syntax.tyInt Syntax.w32) Syntax.tnil)))))))))),
-)
-    (List._∷_ (
-      10,
-      Rows'.any-gone (Syntax.tyEnum (List._∷_ 98 (List._∷_ 108 (List._∷_ 111 (List._∷_ 99 (List._∷_ 107 (List._∷_ 58 (List._∷_ 58 (List._∷_ 68 (List._∷_ 101 (List._∷_ 99 (List._∷_ 111
-          (List._∷_ 100 (List._∷_ 101 (List._∷_ 100 List.[])))))))))))))) (Syntax.ttcons Syntax.tnil (Syntax.ttcons (Syntax.tcons (Syntax.tyEnum (List._∷_ 115 (List._∷_ 116 (List._∷_ 114 (List._∷_ 101 (List._∷_
-          97 (List._∷_ 109 (List._∷_ 58 (List._∷_ 58 (List._∷_ 82 (List._∷_ 101 (List._∷_ 102 (List._∷_ 117 (List._∷_ 115 (List._∷_ 97 (List._∷_ 108 List.[]))))))))))))))) (Syntax.ttcons Syntax.tnil
-          (Syntax.ttcons Syntax.tnil (Syntax.ttcons Syntax.tnil (Syntax.ttcons (Syntax.tcons (Syntax.tyInt Syntax.w64) Syntax.tnil) (Syntax.ttcons Syntax.tnil (Syntax.ttcons Syntax.tnil (Syntax.ttcons
-          Syntax.tnil (Syntax.ttcons Syntax.tnil (Syntax.ttcons Syntax.tnil (Syntax.ttcons Syntax.tnil (Syntax.ttcons (Syntax.tcons (Syntax.tyInt Syntax.w64) Syntax.tnil) (Syntax.ttcons (Syntax.tcons
-          (Syntax.tyInt Syntax.w64) Syntax.tnil) (Syntax.ttcons Syntax.tnil (Syntax.ttcons (Syntax.tcons (Syntax.tyInt Syntax.w64) (Syntax.tcons (Syntax.tyInt Syntax.w64) Syntax.tnil)) (Syntax.ttcons
-          (Syntax.tcons (Syntax.tyInt Syntax.w64) Syntax.tnil) (Syntax.ttcons Syntax.tnil Syntax.ttnil))))))))))))))))) Syntax.tnil) Syntax.ttnil))),
-    ) (List._∷_ (
-      11,
-      Rows'.any-gone (Syntax.tyRef Syntax.erased
-          Syntax.mut (Syntax.tyInt Syntax.w16)),
-    ) (List._∷_ (
-      12,
-      Rows'.any-gone (Syntax.tyStruct (List._∷_ 38 (List._∷_ 91 (List._∷_ 93 List.[]))) (Syntax.tcons (Syntax.tyRef Syntax.erased Syntax.mut
-          (Syntax.tyInt Syntax.w16)) (Syntax.tcons (Syntax.tyInt Syntax.w64) Syntax.tnil))),
-    ) (List._∷_ (13, Rows'.any-gone (Syntax.tyRef Syntax.erased Syntax.mut (Syntax.tyInt Syntax.w16))) (List._∷_ (
-      14,
-      Rows'.any-gone (Syntax.tyStruct (List._∷_ 38 (List._∷_ 91 (List._∷_ 93 List.[]))) (Syntax.tcons (Syntax.tyRef Syntax.erased Syntax.mut (Syntax.tyInt Syntax.w16)) (Syntax.tcons (Syntax.tyInt
-          Syntax.w64) Syntax.tnil))),
-    ) (List._∷_ (15, Rows'.any-gone (Syntax.tyRef Syntax.erased Syntax.mut Element.behind)) List.[])))))))))))))))
-
-abbrev pub t6 : List.List Row.Entry
-t6 = List._∷_ (
-  0,
-  Rows'.any-gone (Syntax.tyEnum (List._∷_ 98 (List._∷_ 108 (List._∷_ 111 (List._∷_ 99 (List._∷_ 107 (List._∷_ 58 (List._∷_ 58 (List._∷_ 68 (List._∷_ 101 (List._∷_ 99 (List._∷_ 111
-      (List._∷_ 100 (List._∷_ 101 (List._∷_ 100 List.[])))))))))))))) (Syntax.ttcons Syntax.tnil (Syntax.ttcons (Syntax.tcons (Syntax.tyEnum (List._∷_ 115 (List._∷_ 116 (List._∷_ 114 (List._∷_ 101 (List._∷_
-      97 (List._∷_ 109 (List._∷_ 58 (List._∷_ 58 (List._∷_ 82 (List._∷_ 101 (List._∷_ 102 (List._∷_ 117 (List._∷_ 115 (List._∷_ 97 (List._∷_ 108 List.[]))))))))))))))) (Syntax.ttcons Syntax.tnil
-      (Syntax.ttcons Syntax.tnil (Syntax.ttcons Syntax.tnil (Syntax.ttcons (Syntax.tcons (Syntax.tyInt Syntax.w64) Syntax.tnil) (Syntax.ttcons Syntax.tnil (Syntax.ttcons Syntax.tnil (Syntax.ttcons
-      Syntax.tnil (Syntax.ttcons Syntax.tnil (Syntax.ttcons Syntax.tnil (Syntax.ttcons Syntax.tnil (Syntax.ttcons (Syntax.tcons (Syntax.tyInt Syntax.w64) Syntax.tnil) (Syntax.ttcons (Syntax.tcons
-      (Syntax.tyInt Syntax.w64) Syntax.tnil) (Syntax.ttcons Syntax.tnil (Syntax.ttcons (Syntax.tcons (Syntax.tyInt Syntax.w64) (Syntax.tcons (Syntax.tyInt Syntax.w64) Syntax.tnil)) (Syntax.ttcons
-      (Syntax.tcons (Syntax.tyInt Syntax.w64) Syntax.tnil) (Syntax.ttcons Syntax.tnil Syntax.ttnil))))))))))))))))) Syntax.tnil) Syntax.ttnil))),
-) (List._∷_ (
-  1,
-  Rows'.sslice (Referent.rtF (Referent.fInt
-      Syntax.w8)) (Syntax.tyRef (Syntax.named 0) Syntax.imm (Syntax.tyInt Syntax.w8)) 0,
-) (List._∷_ (
-  2,
-  Rows'.any-gone (Syntax.tyStruct (List._∷_ 114 (List._∷_ 101 (List._∷_ 103 (List._∷_ 105 (List._∷_
-      111 (List._∷_ 110 (List._∷_ 58 (List._∷_ 58 (List._∷_ 82 (List._∷_ 101 (List._∷_ 99 (List._∷_ 116 List.[])))))))))))) (Syntax.tcons (Syntax.tyInt Syntax.w64) (Syntax.tcons (Syntax.tyInt Syntax.w64)
-      (Syntax.tcons (Syntax.tyInt Syntax.w64) (Syntax.tcons (Syntax.tyInt Syntax.w64) Syntax.tnil))))),
-) (List._∷_ (3, Rows.arrF (Referent.rtF (Referent.fInt Syntax.w8)) 36 0) (List._∷_ (
-  4,
-  Mut.mslice
-      (Referent.rtF (Referent.fInt Syntax.w16)) (Syntax.tyRef (Syntax.named 1) Syntax.mut (Syntax.tyInt Syntax.w16)) 1,
-) (List._∷_ (
-  5,
-  Mut.mslice (Referent.rtF (Referent.fInt Syntax.w16)) (Syntax.tyRef
-      (Syntax.named 2) Syntax.mut (Syntax.tyInt Syntax.w16)) 2,
-) (List._∷_ (6, Mut.mslice (Element.type) (Syntax.tyRef (Syntax.named 3) Syntax.mut Element.behind) 3) (List._∷_ (
   7,
-  Rows'.whole
-      (Known.Known Parsed.enum 1),
+  Rows'.any-gone (Syntax.tyEnum (List._∷_ 115 (List._∷_ 116 (List._∷_ 114 (List._∷_ 101 (List._∷_ 97 (List._∷_ 109 (List._∷_ 58 (List._∷_
+      58 (List._∷_ 80 (List._∷_ 97 (List._∷_ 114 (List._∷_ 115 (List._∷_ 101 (List._∷_ 100 List.[])))))))))))))) (Syntax.ttcons (Syntax.tcons (Syntax.tyStruct (List._∷_ 115 (List._∷_ 116 (List._∷_ 114
+      (List._∷_ 101 (List._∷_ 97 (List._∷_ 109 (List._∷_ 58 (List._∷_ 58 (List._∷_ 70 (List._∷_ 117 (List._∷_ 106 (List._∷_ 105 (List._∷_ 72 (List._∷_ 101 (List._∷_ 97 (List._∷_ 100 (List._∷_ 101 (List._∷_
+      114 List.[])))))))))))))))))) (Syntax.tcons Syntax.tyBool (Syntax.tcons Syntax.tyBool (Syntax.tcons (Syntax.tyInt Syntax.w32) (Syntax.tcons (Syntax.tyInt Syntax.w32) (Syntax.tcons (Syntax.tyInt
+      Syntax.w32) (Syntax.tcons (Syntax.tyInt Syntax.w32) (Syntax.tcons (Syntax.tyInt Syntax.w32) (Syntax.tcons (Syntax.tyInt Syntax.w32) (Syntax.tcons (Syntax.tyInt Syntax.w32) Syntax.tnil))))))))))
+      Syntax.tnil) (Syntax.ttcons (Syntax.tcons (Syntax.tyEnum (List._∷_ 115 (List._∷_ 116 (List._∷_ 114 (List._∷_ 101 (List._∷_ 97 (List._∷_ 109 (List._∷_ 58 (List._∷_ 58 (List._∷_ 82 (List._∷_ 101
+      (List._∷_ 102 (List._∷_ 117 (List._∷_ 115 (List._∷_ 97 (List._∷_ 108 List.[]))))))))))))))) (Syntax.ttcons Syntax.tnil (Syntax.ttcons Syntax.tnil (Syntax.ttcons Syntax.tnil (Syntax.ttcons
+      (Syntax.tcons (Syntax.tyInt Syntax.w64) Syntax.tnil) (Syntax.ttcons Syntax.tnil (Syntax.ttcons Syntax.tnil (Syntax.ttcons Syntax.tnil (Syntax.ttcons Syntax.tnil (Syntax.ttcons Syntax.tnil
+      (Syntax.ttcons Syntax.tnil (Syntax.ttcons (Syntax.tcons (Syntax.tyInt Syntax.w64) Syntax.tnil) (Syntax.ttcons (Syntax.tcons (Syntax.tyInt Syntax.w64) Syntax.tnil) (Syntax.ttcons Syntax.tnil
+      (Syntax.ttcons (Syntax.tcons (Syntax.tyInt Syntax.w64) (Syntax.tcons (Syntax.tyInt Syntax.w64) Syntax.tnil)) (Syntax.ttcons (Syntax.tcons (Syntax.tyInt Syntax.w64) Syntax.tnil) (Syntax.ttcons
+      Syntax.tnil (Syntax.ttcons Syntax.tnil (Syntax.ttcons (Syntax.tcons (Syntax.tyInt Syntax.w64) Syntax.tnil) (Syntax.ttcons (Syntax.tcons (Syntax.tyInt Syntax.w64) Syntax.tnil) (Syntax.ttcons
+      (Syntax.tcons (Syntax.tyInt Syntax.w64) Syntax.tnil) (Syntax.ttcons Syntax.tnil Syntax.ttnil)))))))))))))))))))))) Syntax.tnil) Syntax.ttnil))),
 ) (List._∷_ (
   8,
-  Rows'.any-gone (Syntax.tyEnum (List._∷_ 115 (List._∷_ 116 (List._∷_ 114 (List._∷_ 101 (List._∷_ 97 (List._∷_ 109 (List._∷_ 58 (List._∷_ 58 (List._∷_ 82
-      (List._∷_ 101 (List._∷_ 102 (List._∷_ 117 (List._∷_ 115 (List._∷_ 97 (List._∷_ 108 List.[]))))))))))))))) (Syntax.ttcons Syntax.tnil (Syntax.ttcons Syntax.tnil (Syntax.ttcons Syntax.tnil
-      (Syntax.ttcons (Syntax.tcons (Syntax.tyInt Syntax.w64) Syntax.tnil) (Syntax.ttcons Syntax.tnil (Syntax.ttcons Syntax.tnil (Syntax.ttcons Syntax.tnil (Syntax.ttcons Syntax.tnil (Syntax.ttcons
-      Syntax.tnil (Syntax.ttcons Syntax.tnil (Syntax.ttcons (Syntax.tcons (Syntax.tyInt Syntax.w64) Syntax.tnil) (Syntax.ttcons (Syntax.tcons (Syntax.tyInt Syntax.w64) Syntax.tnil) (Syntax.ttcons
-      Syntax.tnil (Syntax.ttcons (Syntax.tcons (Syntax.tyInt Syntax.w64) (Syntax.tcons (Syntax.tyInt Syntax.w64) Syntax.tnil)) (Syntax.ttcons (Syntax.tcons (Syntax.tyInt Syntax.w64) Syntax.tnil)
-      (Syntax.ttcons Syntax.tnil Syntax.ttnil))))))))))))))))),
+  Rows'.any-gone (Syntax.tyEnum
+      (List._∷_ 115 (List._∷_ 116 (List._∷_ 114 (List._∷_ 101 (List._∷_ 97 (List._∷_ 109 (List._∷_ 58 (List._∷_ 58 (List._∷_ 82 (List._∷_ 101 (List._∷_ 102 (List._∷_ 117 (List._∷_ 115 (List._∷_ 97 (List._∷_
+      108 List.[]))))))))))))))) (Syntax.ttcons Syntax.tnil (Syntax.ttcons Syntax.tnil (Syntax.ttcons Syntax.tnil (Syntax.ttcons (Syntax.tcons (Syntax.tyInt Syntax.w64) Syntax.tnil) (Syntax.ttcons
+      Syntax.tnil (Syntax.ttcons Syntax.tnil (Syntax.ttcons Syntax.tnil (Syntax.ttcons Syntax.tnil (Syntax.ttcons Syntax.tnil (Syntax.ttcons Syntax.tnil (Syntax.ttcons (Syntax.tcons (Syntax.tyInt
+      Syntax.w64) Syntax.tnil) (Syntax.ttcons (Syntax.tcons (Syntax.tyInt Syntax.w64) Syntax.tnil) (Syntax.ttcons Syntax.tnil (Syntax.ttcons (Syntax.tcons (Syntax.tyInt Syntax.w64) (Syntax.tcons
+      (Syntax.tyInt Syntax.w64) Syntax.tnil)) (Syntax.ttcons (Syntax.tcons (Syntax.tyInt Syntax.w64) Syntax.tnil) (Syntax.ttcons Syntax.tnil (Syntax.ttcons Syntax.tnil (Syntax.ttcons (Syntax.tcons
+      (Syntax.tyInt Syntax.w64) Syntax.tnil) (Syntax.ttcons (Syntax.tcons (Syntax.tyInt Syntax.w64) Syntax.tnil) (Syntax.ttcons (Syntax.tcons (Syntax.tyInt Syntax.w64) Syntax.tnil) (Syntax.ttcons
+      Syntax.tnil Syntax.ttnil)))))))))))))))))))))),
 ) (List._∷_ (
   9,
-  Rows'.any-gone (Syntax.tyStruct (List._∷_ 115 (List._∷_ 116 (List._∷_ 114 (List._∷_ 101 (List._∷_ 97 (List._∷_ 109 (List._∷_
-      58 (List._∷_ 58 (List._∷_ 70 (List._∷_ 117 (List._∷_ 106 (List._∷_ 105 (List._∷_ 72 (List._∷_ 101 (List._∷_ 97 (List._∷_ 100 (List._∷_ 101 (List._∷_ 114 List.[])))))))))))))))))) (Syntax.tcons
+  Rows'.any-gone (Syntax.tyStruct (List._∷_ 115 (List._∷_ 116 (List._∷_ 114 (List._∷_ 101 (List._∷_ 97 (List._∷_ 109 (List._∷_ 58
+      (List._∷_ 58 (List._∷_ 70 (List._∷_ 117 (List._∷_ 106 (List._∷_ 105 (List._∷_ 72 (List._∷_ 101 (List._∷_ 97 (List._∷_ 100 (List._∷_ 101 (List._∷_ 114 List.[])))))))))))))))))) (Syntax.tcons
       Syntax.tyBool (Syntax.tcons Syntax.tyBool (Syntax.tcons (Syntax.tyInt Syntax.w32) (Syntax.tcons (Syntax.tyInt Syntax.w32) (Syntax.tcons (Syntax.tyInt Syntax.w32) (Syntax.tcons (Syntax.tyInt
       Syntax.w32) (Syntax.tcons (Syntax.tyInt Syntax.w32) (Syntax.tcons (Syntax.tyInt Syntax.w32) (Syntax.tcons (Syntax.tyInt Syntax.w32) Syntax.tnil)))))))))),
-) (List._∷_ (
-  10,
-  Rows'.any-gone
-      (Syntax.tyEnum (List._∷_ 98 (List._∷_ 108 (List._∷_ 111 (List._∷_ 99 (List._∷_ 107 (List._∷_ 58 (List._∷_ 58 (List._∷_ 68 (List._∷_ 101 (List._∷_ 99 (List._∷_ 111 (List._∷_ 100 (List._∷_ 101 (List._∷_
-      100 List.[])))))))))))))) (Syntax.ttcons Syntax.tnil (Syntax.ttcons (Syntax.tcons (Syntax.tyEnum (List._∷_ 115 (List._∷_ 116 (List._∷_ 114 (List._∷_ 101 (List._∷_ 97 (List._∷_ 109 (List._∷_ 58
-      (List._∷_ 58 (List._∷_ 82 (List._∷_ 101 (List._∷_ 102 (List._∷_ 117 (List._∷_ 115 (List._∷_ 97 (List._∷_ 108 List.[]))))))))))))))) (Syntax.ttcons Syntax.tnil (Syntax.ttcons Syntax.tnil (Syntax.ttcons
-      Syntax.tnil (Syntax.ttcons (Syntax.tcons (Syntax.tyInt Syntax.w64) Syntax.tnil) (Syntax.ttcons Syntax.tnil (Syntax.ttcons Syntax.tnil (Syntax.ttcons Syntax.tnil (Syntax.ttcons Syntax.tnil
-      (Syntax.ttcons Syntax.tnil (Syntax.ttcons Syntax.tnil (Syntax.ttcons (Syntax.tcons (Syntax.tyInt Syntax.w64) Syntax.tnil) (Syntax.ttcons (Syntax.tcons (Syntax.tyInt Syntax.w64) Syntax.tnil)
-      (Syntax.ttcons Syntax.tnil (Syntax.ttcons (Syntax.tcons (Syntax.tyInt Syntax.w64) (Syntax.tcons (Syntax.tyInt Syntax.w64) Syntax.tnil)) (Syntax.ttcons (Syntax.tcons (Syntax.tyInt Syntax.w64)
-      Syntax.tnil) (Syntax.ttcons Syntax.tnil Syntax.ttnil))))))))))))))))) Syntax.tnil) Syntax.ttnil))),
-) (List._∷_ (
-  11,
-  Rows'.any-gone (Syntax.tyRef Syntax.erased Syntax.mut (Syntax.tyInt Syntax.w16)),
-) (List._∷_ (
-  12,
-  Rows'.any-gone (Syntax.tyStruct (List._∷_ 38 (List._∷_ 91 (List._∷_ 93 List.[]))) (Syntax.tcons (Syntax.tyRef Syntax.erased Syntax.mut (Syntax.tyInt Syntax.w16)) (Syntax.tcons
-      (Syntax.tyInt Syntax.w64) Syntax.tnil))),
-) (List._∷_ (13, Rows'.any-gone (Syntax.tyRef Syntax.erased Syntax.mut (Syntax.tyInt Syntax.w16))) (List._∷_ (
-  14,
-  Rows'.any-gone (Syntax.tyStruct
-      (List._∷_ 38 (List._∷_ 91 (List._∷_ 93 List.[]))) (Syntax.tcons (Syntax.tyRef Syntax.erased Syntax.mut (Syntax.tyInt Syntax.w16)) (Syntax.tcons (Syntax.tyInt Syntax.w64) Syntax.tnil))),
-) (List._∷_ (
-  15,
-  Rows'.any-gone (Syntax.tyRef Syntax.erased Syntax.mut Element.behind),
-) List.[])))))))))))))))
-
-abbrev pub t7 : List.List Row.Entry
-t7 = List._∷_ (
-  0,
-  Rows'.any-gone (Syntax.tyEnum (List._∷_ 98 (List._∷_ 108 (List._∷_ 111 (List._∷_ 99 (List._∷_ 107 (List._∷_ 58 (List._∷_ 58 (List._∷_ 68 (List._∷_ 101 (List._∷_ 99 (List._∷_ 111
-      (List._∷_ 100 (List._∷_ 101 (List._∷_ 100 List.[])))))))))))))) (Syntax.ttcons Syntax.tnil (Syntax.ttcons (Syntax.tcons (Syntax.tyEnum (List._∷_ 115 (List._∷_ 116 (List._∷_ 114 (List._∷_ 101 (List._∷_
-      97 (List._∷_ 109 (List._∷_ 58 (List._∷_ 58 (List._∷_ 82 (List._∷_ 101 (List._∷_ 102 (List._∷_ 117 (List._∷_ 115 (List._∷_ 97 (List._∷_ 108 List.[]))))))))))))))) (Syntax.ttcons Syntax.tnil
-      (Syntax.ttcons Syntax.tnil (Syntax.ttcons Syntax.tnil (Syntax.ttcons (Syntax.tcons (Syntax.tyInt Syntax.w64) Syntax.tnil) (Syntax.ttcons Syntax.tnil (Syntax.ttcons Syntax.tnil (Syntax.ttcons
-      Syntax.tnil (Syntax.ttcons Syntax.tnil (Syntax.ttcons Syntax.tnil (Syntax.ttcons Syntax.tnil (Syntax.ttcons (Syntax.tcons (Syntax.tyInt Syntax.w64) Syntax.tnil) (Syntax.ttcons (Syntax.tcons
-      (Syntax.tyInt Syntax.w64) Syntax.tnil) (Syntax.ttcons Syntax.tnil (Syntax.ttcons (Syntax.tcons (Syntax.tyInt Syntax.w64) (Syntax.tcons (Syntax.tyInt Syntax.w64) Syntax.tnil)) (Syntax.ttcons
-      (Syntax.tcons (Syntax.tyInt Syntax.w64) Syntax.tnil) (Syntax.ttcons Syntax.tnil Syntax.ttnil))))))))))))))))) Syntax.tnil) Syntax.ttnil))),
-) (List._∷_ (
-  1,
-  Rows'.sslice (Referent.rtF (Referent.fInt
-      Syntax.w8)) (Syntax.tyRef (Syntax.named 0) Syntax.imm (Syntax.tyInt Syntax.w8)) 0,
-) (List._∷_ (
-  2,
-  Rows'.any-gone (Syntax.tyStruct (List._∷_ 114 (List._∷_ 101 (List._∷_ 103 (List._∷_ 105 (List._∷_
-      111 (List._∷_ 110 (List._∷_ 58 (List._∷_ 58 (List._∷_ 82 (List._∷_ 101 (List._∷_ 99 (List._∷_ 116 List.[])))))))))))) (Syntax.tcons (Syntax.tyInt Syntax.w64) (Syntax.tcons (Syntax.tyInt Syntax.w64)
-      (Syntax.tcons (Syntax.tyInt Syntax.w64) (Syntax.tcons (Syntax.tyInt Syntax.w64) Syntax.tnil))))),
-) (List._∷_ (3, Rows'.any-gone (Syntax.tyArray (Syntax.tyInt Syntax.w8) 36)) (List._∷_ (
-  4,
-  Mut.mslice
-      (Referent.rtF (Referent.fInt Syntax.w16)) (Syntax.tyRef (Syntax.named 1) Syntax.mut (Syntax.tyInt Syntax.w16)) 1,
-) (List._∷_ (
-  5,
-  Mut.mslice (Referent.rtF (Referent.fInt Syntax.w16)) (Syntax.tyRef
-      (Syntax.named 2) Syntax.mut (Syntax.tyInt Syntax.w16)) 2,
-) (List._∷_ (6, Mut.mslice (Element.type) (Syntax.tyRef (Syntax.named 3) Syntax.mut Element.behind) 3) (List._∷_ (
-  7,
-  Rows'.whole
-      (Known.Known Parsed.enum 1),
-) (List._∷_ (
-  8,
-  Rows'.any-gone (Syntax.tyEnum (List._∷_ 115 (List._∷_ 116 (List._∷_ 114 (List._∷_ 101 (List._∷_ 97 (List._∷_ 109 (List._∷_ 58 (List._∷_ 58 (List._∷_ 82
-      (List._∷_ 101 (List._∷_ 102 (List._∷_ 117 (List._∷_ 115 (List._∷_ 97 (List._∷_ 108 List.[]))))))))))))))) (Syntax.ttcons Syntax.tnil (Syntax.ttcons Syntax.tnil (Syntax.ttcons Syntax.tnil
-      (Syntax.ttcons (Syntax.tcons (Syntax.tyInt Syntax.w64) Syntax.tnil) (Syntax.ttcons Syntax.tnil (Syntax.ttcons Syntax.tnil (Syntax.ttcons Syntax.tnil (Syntax.ttcons Syntax.tnil (Syntax.ttcons
-      Syntax.tnil (Syntax.ttcons Syntax.tnil (Syntax.ttcons (Syntax.tcons (Syntax.tyInt Syntax.w64) Syntax.tnil) (Syntax.ttcons (Syntax.tcons (Syntax.tyInt Syntax.w64) Syntax.tnil) (Syntax.ttcons
-      Syntax.tnil (Syntax.ttcons (Syntax.tcons (Syntax.tyInt Syntax.w64) (Syntax.tcons (Syntax.tyInt Syntax.w64) Syntax.tnil)) (Syntax.ttcons (Syntax.tcons (Syntax.tyInt Syntax.w64) Syntax.tnil)
-      (Syntax.ttcons Syntax.tnil Syntax.ttnil))))))))))))))))),
-) (List._∷_ (
-  9,
-  Rows'.any-gone (Syntax.tyStruct (List._∷_ 115 (List._∷_ 116 (List._∷_ 114 (List._∷_ 101 (List._∷_ 97 (List._∷_ 109 (List._∷_
-      58 (List._∷_ 58 (List._∷_ 70 (List._∷_ 117 (List._∷_ 106 (List._∷_ 105 (List._∷_ 72 (List._∷_ 101 (List._∷_ 97 (List._∷_ 100 (List._∷_ 101 (List._∷_ 114 List.[])))))))))))))))))) (Syntax.tcons
-      Syntax.tyBool (Syntax.tcons Syntax.tyBool (Syntax.tcons (Syntax.tyInt Syntax.w32) (Syntax.tcons (Syntax.tyInt Syntax.w32) (Syntax.tcons (Syntax.tyInt Syntax.w32) (Syntax.tcons (Syntax.tyInt
-      Syntax.w32) (Syntax.tcons (Syntax.tyInt Syntax.w32) (Syntax.tcons (Syntax.tyInt Syntax.w32) (Syntax.tcons (Syntax.tyInt Syntax.w32) Syntax.tnil)))))))))),
-) (List._∷_ (
-  10,
-  Rows'.any-gone
-      (Syntax.tyEnum (List._∷_ 98 (List._∷_ 108 (List._∷_ 111 (List._∷_ 99 (List._∷_ 107 (List._∷_ 58 (List._∷_ 58 (List._∷_ 68 (List._∷_ 101 (List._∷_ 99 (List._∷_ 111 (List._∷_ 100 (List._∷_ 101 (List._∷_
-      100 List.[])))))))))))))) (Syntax.ttcons Syntax.tnil (Syntax.ttcons (Syntax.tcons (Syntax.tyEnum (List._∷_ 115 (List._∷_ 116 (List._∷_ 114 (List._∷_ 101 (List._∷_ 97 (List._∷_ 109 (List._∷_ 58
-      (List._∷_ 58 (List._∷_ 82 (List._∷_ 101 (List._∷_ 102 (List._∷_ 117 (List._∷_ 115 (List._∷_ 97 (List._∷_ 108 List.[]))))))))))))))) (Syntax.ttcons Syntax.tnil (Syntax.ttcons Syntax.tnil (Syntax.ttcons
-      Syntax.tnil (Syntax.ttcons (Syntax.tcons (Syntax.tyInt Syntax.w64) Syntax.tnil) (Syntax.ttcons Syntax.tnil (Syntax.ttcons Syntax.tnil (Syntax.ttcons Syntax.tnil (Syntax.ttcons Syntax.tnil
-      (Syntax.ttcons Syntax.tnil (Syntax.ttcons Syntax.tnil (Syntax.ttcons (Syntax.tcons (Syntax.tyInt Syntax.w64) Syntax.tnil) (Syntax.ttcons (Syntax.tcons (Syntax.tyInt Syntax.w64) Syntax.tnil)
-      (Syntax.ttcons Syntax.tnil (Syntax.ttcons (Syntax.tcons (Syntax.tyInt Syntax.w64) (Syntax.tcons (Syntax.tyInt Syntax.w64) Syntax.tnil)) (Syntax.ttcons (Syntax.tcons (Syntax.tyInt Syntax.w64)
-      Syntax.tnil) (Syntax.ttcons Syntax.tnil Syntax.ttnil))))))))))))))))) Syntax.tnil) Syntax.ttnil))),
-) (List._∷_ (
-  11,
-  Rows'.any-gone (Syntax.tyRef Syntax.erased Syntax.mut (Syntax.tyInt Syntax.w16)),
-) (List._∷_ (
-  12,
-  Rows'.any-gone (Syntax.tyStruct (List._∷_ 38 (List._∷_ 91 (List._∷_ 93 List.[]))) (Syntax.tcons (Syntax.tyRef Syntax.erased Syntax.mut (Syntax.tyInt Syntax.w16)) (Syntax.tcons
-      (Syntax.tyInt Syntax.w64) Syntax.tnil))),
-) (List._∷_ (13, Rows'.any-gone (Syntax.tyRef Syntax.erased Syntax.mut (Syntax.tyInt Syntax.w16))) (List._∷_ (
-  14,
-  Rows'.any-gone (Syntax.tyStruct
-      (List._∷_ 38 (List._∷_ 91 (List._∷_ 93 List.[]))) (Syntax.tcons (Syntax.tyRef Syntax.erased Syntax.mut (Syntax.tyInt Syntax.w16)) (Syntax.tcons (Syntax.tyInt Syntax.w64) Syntax.tnil))),
-) (List._∷_ (
-  15,
-  Rows'.any-gone (Syntax.tyRef Syntax.erased Syntax.mut Element.behind),
-) List.[])))))))))))))))
-
-abbrev pub t8 : List.List Row.Entry
-t8 = List._∷_ (
-  0,
-  Rows'.any-gone (Syntax.tyEnum (List._∷_ 98 (List._∷_ 108 (List._∷_ 111 (List._∷_ 99 (List._∷_ 107 (List._∷_ 58 (List._∷_ 58 (List._∷_ 68 (List._∷_ 101 (List._∷_ 99 (List._∷_ 111
-      (List._∷_ 100 (List._∷_ 101 (List._∷_ 100 List.[])))))))))))))) (Syntax.ttcons Syntax.tnil (Syntax.ttcons (Syntax.tcons (Syntax.tyEnum (List._∷_ 115 (List._∷_ 116 (List._∷_ 114 (List._∷_ 101 (List._∷_
-      97 (List._∷_ 109 (List._∷_ 58 (List._∷_ 58 (List._∷_ 82 (List._∷_ 101 (List._∷_ 102 (List._∷_ 117 (List._∷_ 115 (List._∷_ 97 (List._∷_ 108 List.[]))))))))))))))) (Syntax.ttcons Syntax.tnil
-      (Syntax.ttcons Syntax.tnil (Syntax.ttcons Syntax.tnil (Syntax.ttcons (Syntax.tcons (Syntax.tyInt Syntax.w64) Syntax.tnil) (Syntax.ttcons Syntax.tnil (Syntax.ttcons Syntax.tnil (Syntax.ttcons
-      Syntax.tnil (Syntax.ttcons Syntax.tnil (Syntax.ttcons Syntax.tnil (Syntax.ttcons Syntax.tnil (Syntax.ttcons (Syntax.tcons (Syntax.tyInt Syntax.w64) Syntax.tnil) (Syntax.ttcons (Syntax.tcons
-      (Syntax.tyInt Syntax.w64) Syntax.tnil) (Syntax.ttcons Syntax.tnil (Syntax.ttcons (Syntax.tcons (Syntax.tyInt Syntax.w64) (Syntax.tcons (Syntax.tyInt Syntax.w64) Syntax.tnil)) (Syntax.ttcons
-      (Syntax.tcons (Syntax.tyInt Syntax.w64) Syntax.tnil) (Syntax.ttcons Syntax.tnil Syntax.ttnil))))))))))))))))) Syntax.tnil) Syntax.ttnil))),
-) (List._∷_ (
-  1,
-  Rows'.sslice (Referent.rtF (Referent.fInt
-      Syntax.w8)) (Syntax.tyRef (Syntax.named 0) Syntax.imm (Syntax.tyInt Syntax.w8)) 0,
-) (List._∷_ (
-  2,
-  Rows'.any-gone (Syntax.tyStruct (List._∷_ 114 (List._∷_ 101 (List._∷_ 103 (List._∷_ 105 (List._∷_
-      111 (List._∷_ 110 (List._∷_ 58 (List._∷_ 58 (List._∷_ 82 (List._∷_ 101 (List._∷_ 99 (List._∷_ 116 List.[])))))))))))) (Syntax.tcons (Syntax.tyInt Syntax.w64) (Syntax.tcons (Syntax.tyInt Syntax.w64)
-      (Syntax.tcons (Syntax.tyInt Syntax.w64) (Syntax.tcons (Syntax.tyInt Syntax.w64) Syntax.tnil))))),
-) (List._∷_ (3, Rows'.any-gone (Syntax.tyArray (Syntax.tyInt Syntax.w8) 36)) (List._∷_ (
-  4,
-  Mut.mslice
-      (Referent.rtF (Referent.fInt Syntax.w16)) (Syntax.tyRef (Syntax.named 1) Syntax.mut (Syntax.tyInt Syntax.w16)) 1,
-) (List._∷_ (
-  5,
-  Mut.mslice (Referent.rtF (Referent.fInt Syntax.w16)) (Syntax.tyRef
-      (Syntax.named 2) Syntax.mut (Syntax.tyInt Syntax.w16)) 2,
-) (List._∷_ (6, Mut.mslice (Element.type) (Syntax.tyRef (Syntax.named 3) Syntax.mut Element.behind) 3) (List._∷_ (
-  7,
-  Rows'.whole
-      (Known.Known Parsed.enum 1),
-) (List._∷_ (8, Rows'.whole (Declared.row Refusal.the-type)) (List._∷_ (
-  9,
-  Rows'.any-gone (Syntax.tyStruct (List._∷_ 115 (List._∷_ 116 (List._∷_ 114 (List._∷_ 101
-      (List._∷_ 97 (List._∷_ 109 (List._∷_ 58 (List._∷_ 58 (List._∷_ 70 (List._∷_ 117 (List._∷_ 106 (List._∷_ 105 (List._∷_ 72 (List._∷_ 101 (List._∷_ 97 (List._∷_ 100 (List._∷_ 101 (List._∷_ 114
-      List.[])))))))))))))))))) (Syntax.tcons Syntax.tyBool (Syntax.tcons Syntax.tyBool (Syntax.tcons (Syntax.tyInt Syntax.w32) (Syntax.tcons (Syntax.tyInt Syntax.w32) (Syntax.tcons (Syntax.tyInt
-      Syntax.w32) (Syntax.tcons (Syntax.tyInt Syntax.w32) (Syntax.tcons (Syntax.tyInt Syntax.w32) (Syntax.tcons (Syntax.tyInt Syntax.w32) (Syntax.tcons (Syntax.tyInt Syntax.w32) Syntax.tnil)))))))))),
-)
-    (List._∷_ (
-      10,
-      Rows'.any-gone (Syntax.tyEnum (List._∷_ 98 (List._∷_ 108 (List._∷_ 111 (List._∷_ 99 (List._∷_ 107 (List._∷_ 58 (List._∷_ 58 (List._∷_ 68 (List._∷_ 101 (List._∷_ 99 (List._∷_ 111
-          (List._∷_ 100 (List._∷_ 101 (List._∷_ 100 List.[])))))))))))))) (Syntax.ttcons Syntax.tnil (Syntax.ttcons (Syntax.tcons (Syntax.tyEnum (List._∷_ 115 (List._∷_ 116 (List._∷_ 114 (List._∷_ 101 (List._∷_
-          97 (List._∷_ 109 (List._∷_ 58 (List._∷_ 58 (List._∷_ 82 (List._∷_ 101 (List._∷_ 102 (List._∷_ 117 (List._∷_ 115 (List._∷_ 97 (List._∷_ 108 List.[]))))))))))))))) (Syntax.ttcons Syntax.tnil
-          (Syntax.ttcons Syntax.tnil (Syntax.ttcons Syntax.tnil (Syntax.ttcons (Syntax.tcons (Syntax.tyInt Syntax.w64) Syntax.tnil) (Syntax.ttcons Syntax.tnil (Syntax.ttcons Syntax.tnil (Syntax.ttcons
-          Syntax.tnil (Syntax.ttcons Syntax.tnil (Syntax.ttcons Syntax.tnil (Syntax.ttcons Syntax.tnil (Syntax.ttcons (Syntax.tcons (Syntax.tyInt Syntax.w64) Syntax.tnil) (Syntax.ttcons (Syntax.tcons
-          (Syntax.tyInt Syntax.w64) Syntax.tnil) (Syntax.ttcons Syntax.tnil (Syntax.ttcons (Syntax.tcons (Syntax.tyInt Syntax.w64) (Syntax.tcons (Syntax.tyInt Syntax.w64) Syntax.tnil)) (Syntax.ttcons
-          (Syntax.tcons (Syntax.tyInt Syntax.w64) Syntax.tnil) (Syntax.ttcons Syntax.tnil Syntax.ttnil))))))))))))))))) Syntax.tnil) Syntax.ttnil))),
-    ) (List._∷_ (
-      11,
-      Rows'.any-gone (Syntax.tyRef Syntax.erased
-          Syntax.mut (Syntax.tyInt Syntax.w16)),
-    ) (List._∷_ (
-      12,
-      Rows'.any-gone (Syntax.tyStruct (List._∷_ 38 (List._∷_ 91 (List._∷_ 93 List.[]))) (Syntax.tcons (Syntax.tyRef Syntax.erased Syntax.mut
-          (Syntax.tyInt Syntax.w16)) (Syntax.tcons (Syntax.tyInt Syntax.w64) Syntax.tnil))),
-    ) (List._∷_ (13, Rows'.any-gone (Syntax.tyRef Syntax.erased Syntax.mut (Syntax.tyInt Syntax.w16))) (List._∷_ (
-      14,
-      Rows'.any-gone (Syntax.tyStruct (List._∷_ 38 (List._∷_ 91 (List._∷_ 93 List.[]))) (Syntax.tcons (Syntax.tyRef Syntax.erased Syntax.mut (Syntax.tyInt Syntax.w16)) (Syntax.tcons (Syntax.tyInt
-          Syntax.w64) Syntax.tnil))),
-    ) (List._∷_ (15, Rows'.any-gone (Syntax.tyRef Syntax.erased Syntax.mut Element.behind)) List.[])))))))))))))))
-
-abbrev pub t9 : List.List Row.Entry
-t9 = List._∷_ (
-  0,
-  Rows'.any-gone (Syntax.tyEnum (List._∷_ 98 (List._∷_ 108 (List._∷_ 111 (List._∷_ 99 (List._∷_ 107 (List._∷_ 58 (List._∷_ 58 (List._∷_ 68 (List._∷_ 101 (List._∷_ 99 (List._∷_ 111
-      (List._∷_ 100 (List._∷_ 101 (List._∷_ 100 List.[])))))))))))))) (Syntax.ttcons Syntax.tnil (Syntax.ttcons (Syntax.tcons (Syntax.tyEnum (List._∷_ 115 (List._∷_ 116 (List._∷_ 114 (List._∷_ 101 (List._∷_
-      97 (List._∷_ 109 (List._∷_ 58 (List._∷_ 58 (List._∷_ 82 (List._∷_ 101 (List._∷_ 102 (List._∷_ 117 (List._∷_ 115 (List._∷_ 97 (List._∷_ 108 List.[]))))))))))))))) (Syntax.ttcons Syntax.tnil
-      (Syntax.ttcons Syntax.tnil (Syntax.ttcons Syntax.tnil (Syntax.ttcons (Syntax.tcons (Syntax.tyInt Syntax.w64) Syntax.tnil) (Syntax.ttcons Syntax.tnil (Syntax.ttcons Syntax.tnil (Syntax.ttcons
-      Syntax.tnil (Syntax.ttcons Syntax.tnil (Syntax.ttcons Syntax.tnil (Syntax.ttcons Syntax.tnil (Syntax.ttcons (Syntax.tcons (Syntax.tyInt Syntax.w64) Syntax.tnil) (Syntax.ttcons (Syntax.tcons
-      (Syntax.tyInt Syntax.w64) Syntax.tnil) (Syntax.ttcons Syntax.tnil (Syntax.ttcons (Syntax.tcons (Syntax.tyInt Syntax.w64) (Syntax.tcons (Syntax.tyInt Syntax.w64) Syntax.tnil)) (Syntax.ttcons
-      (Syntax.tcons (Syntax.tyInt Syntax.w64) Syntax.tnil) (Syntax.ttcons Syntax.tnil Syntax.ttnil))))))))))))))))) Syntax.tnil) Syntax.ttnil))),
-) (List._∷_ (
-  1,
-  Rows'.sslice (Referent.rtF (Referent.fInt
-      Syntax.w8)) (Syntax.tyRef (Syntax.named 0) Syntax.imm (Syntax.tyInt Syntax.w8)) 0,
-) (List._∷_ (
-  2,
-  Rows'.any-gone (Syntax.tyStruct (List._∷_ 114 (List._∷_ 101 (List._∷_ 103 (List._∷_ 105 (List._∷_
-      111 (List._∷_ 110 (List._∷_ 58 (List._∷_ 58 (List._∷_ 82 (List._∷_ 101 (List._∷_ 99 (List._∷_ 116 List.[])))))))))))) (Syntax.tcons (Syntax.tyInt Syntax.w64) (Syntax.tcons (Syntax.tyInt Syntax.w64)
-      (Syntax.tcons (Syntax.tyInt Syntax.w64) (Syntax.tcons (Syntax.tyInt Syntax.w64) Syntax.tnil))))),
-) (List._∷_ (3, Rows'.any-gone (Syntax.tyArray (Syntax.tyInt Syntax.w8) 36)) (List._∷_ (
-  4,
-  Mut.mslice
-      (Referent.rtF (Referent.fInt Syntax.w16)) (Syntax.tyRef (Syntax.named 1) Syntax.mut (Syntax.tyInt Syntax.w16)) 1,
-) (List._∷_ (
-  5,
-  Mut.mslice (Referent.rtF (Referent.fInt Syntax.w16)) (Syntax.tyRef
-      (Syntax.named 2) Syntax.mut (Syntax.tyInt Syntax.w16)) 2,
-) (List._∷_ (6, Mut.mslice (Element.type) (Syntax.tyRef (Syntax.named 3) Syntax.mut Element.behind) 3) (List._∷_ (
-  7,
-  Rows'.any-gone
-      (Syntax.tyEnum (List._∷_ 115 (List._∷_ 116 (List._∷_ 114 (List._∷_ 101 (List._∷_ 97 (List._∷_ 109 (List._∷_ 58 (List._∷_ 58 (List._∷_ 80 (List._∷_ 97 (List._∷_ 114 (List._∷_ 115 (List._∷_ 101
-      (List._∷_ 100 List.[])))))))))))))) (Syntax.ttcons (Syntax.tcons (Syntax.tyStruct (List._∷_ 115 (List._∷_ 116 (List._∷_ 114 (List._∷_ 101 (List._∷_ 97 (List._∷_ 109 (List._∷_ 58 (List._∷_ 58 (List._∷_
-      70 (List._∷_ 117 (List._∷_ 106 (List._∷_ 105 (List._∷_ 72 (List._∷_ 101 (List._∷_ 97 (List._∷_ 100 (List._∷_ 101 (List._∷_ 114 List.[])))))))))))))))))) (Syntax.tcons Syntax.tyBool (Syntax.tcons
-      Syntax.tyBool (Syntax.tcons (Syntax.tyInt Syntax.w32) (Syntax.tcons (Syntax.tyInt Syntax.w32) (Syntax.tcons (Syntax.tyInt Syntax.w32) (Syntax.tcons (Syntax.tyInt Syntax.w32) (Syntax.tcons
-      (Syntax.tyInt Syntax.w32) (Syntax.tcons (Syntax.tyInt Syntax.w32) (Syntax.tcons (Syntax.tyInt Syntax.w32) Syntax.tnil)))))))))) Syntax.tnil) (Syntax.ttcons (Syntax.tcons (Syntax.tyEnum (List._∷_ 115
-      (List._∷_ 116 (List._∷_ 114 (List._∷_ 101 (List._∷_ 97 (List._∷_ 109 (List._∷_ 58 (List._∷_ 58 (List._∷_ 82 (List._∷_ 101 (List._∷_ 102 (List._∷_ 117 (List._∷_ 115 (List._∷_ 97 (List._∷_ 108
-      List.[]))))))))))))))) (Syntax.ttcons Syntax.tnil (Syntax.ttcons Syntax.tnil (Syntax.ttcons Syntax.tnil (Syntax.ttcons (Syntax.tcons (Syntax.tyInt Syntax.w64) Syntax.tnil) (Syntax.ttcons Syntax.tnil
-      (Syntax.ttcons Syntax.tnil (Syntax.ttcons Syntax.tnil (Syntax.ttcons Syntax.tnil (Syntax.ttcons Syntax.tnil (Syntax.ttcons Syntax.tnil (Syntax.ttcons (Syntax.tcons (Syntax.tyInt Syntax.w64)
-      Syntax.tnil) (Syntax.ttcons (Syntax.tcons (Syntax.tyInt Syntax.w64) Syntax.tnil) (Syntax.ttcons Syntax.tnil (Syntax.ttcons (Syntax.tcons (Syntax.tyInt Syntax.w64) (Syntax.tcons (Syntax.tyInt
-      Syntax.w64) Syntax.tnil)) (Syntax.ttcons (Syntax.tcons (Syntax.tyInt Syntax.w64) Syntax.tnil) (Syntax.ttcons Syntax.tnil Syntax.ttnil))))))))))))))))) Syntax.tnil) Syntax.ttnil))),
-) (List._∷_ (
-  8,
-  Rows'.whole (Declared.row Refusal.the-type),
-) (List._∷_ (
-  9,
-  Rows'.any-gone (Syntax.tyStruct (List._∷_ 115 (List._∷_ 116 (List._∷_ 114 (List._∷_ 101 (List._∷_ 97 (List._∷_ 109 (List._∷_ 58 (List._∷_ 58
-      (List._∷_ 70 (List._∷_ 117 (List._∷_ 106 (List._∷_ 105 (List._∷_ 72 (List._∷_ 101 (List._∷_ 97 (List._∷_ 100 (List._∷_ 101 (List._∷_ 114 List.[])))))))))))))))))) (Syntax.tcons Syntax.tyBool
-      (Syntax.tcons Syntax.tyBool (Syntax.tcons (Syntax.tyInt Syntax.w32) (Syntax.tcons (Syntax.tyInt Syntax.w32) (Syntax.tcons (Syntax.tyInt Syntax.w32) (Syntax.tcons (Syntax.tyInt Syntax.w32)
-      (Syntax.tcons (Syntax.tyInt Syntax.w32) (Syntax.tcons (Syntax.tyInt Syntax.w32) (Syntax.tcons (Syntax.tyInt Syntax.w32) Syntax.tnil)))))))))),
-) (List._∷_ (
-  10,
-  Rows'.any-gone (Syntax.tyEnum (List._∷_
-      98 (List._∷_ 108 (List._∷_ 111 (List._∷_ 99 (List._∷_ 107 (List._∷_ 58 (List._∷_ 58 (List._∷_ 68 (List._∷_ 101 (List._∷_ 99 (List._∷_ 111 (List._∷_ 100 (List._∷_ 101 (List._∷_ 100
-      List.[])))))))))))))) (Syntax.ttcons Syntax.tnil (Syntax.ttcons (Syntax.tcons (Syntax.tyEnum (List._∷_ 115 (List._∷_ 116 (List._∷_ 114 (List._∷_ 101 (List._∷_ 97 (List._∷_ 109 (List._∷_ 58 (List._∷_
-      58 (List._∷_ 82 (List._∷_ 101 (List._∷_ 102 (List._∷_ 117 (List._∷_ 115 (List._∷_ 97 (List._∷_ 108 List.[]))))))))))))))) (Syntax.ttcons Syntax.tnil (Syntax.ttcons Syntax.tnil (Syntax.ttcons
-      Syntax.tnil (Syntax.ttcons (Syntax.tcons (Syntax.tyInt Syntax.w64) Syntax.tnil) (Syntax.ttcons Syntax.tnil (Syntax.ttcons Syntax.tnil (Syntax.ttcons Syntax.tnil (Syntax.ttcons Syntax.tnil
-      (Syntax.ttcons Syntax.tnil (Syntax.ttcons Syntax.tnil (Syntax.ttcons (Syntax.tcons (Syntax.tyInt Syntax.w64) Syntax.tnil) (Syntax.ttcons (Syntax.tcons (Syntax.tyInt Syntax.w64) Syntax.tnil)
-      (Syntax.ttcons Syntax.tnil (Syntax.ttcons (Syntax.tcons (Syntax.tyInt Syntax.w64) (Syntax.tcons (Syntax.tyInt Syntax.w64) Syntax.tnil)) (Syntax.ttcons (Syntax.tcons (Syntax.tyInt Syntax.w64)
-      Syntax.tnil) (Syntax.ttcons Syntax.tnil Syntax.ttnil))))))))))))))))) Syntax.tnil) Syntax.ttnil))),
-) (List._∷_ (
-  11,
-  Rows'.any-gone (Syntax.tyRef Syntax.erased Syntax.mut (Syntax.tyInt Syntax.w16)),
-) (List._∷_ (
-  12,
-  Rows'.any-gone (Syntax.tyStruct (List._∷_ 38 (List._∷_ 91 (List._∷_ 93 List.[]))) (Syntax.tcons (Syntax.tyRef Syntax.erased Syntax.mut (Syntax.tyInt Syntax.w16)) (Syntax.tcons
-      (Syntax.tyInt Syntax.w64) Syntax.tnil))),
-) (List._∷_ (13, Rows'.any-gone (Syntax.tyRef Syntax.erased Syntax.mut (Syntax.tyInt Syntax.w16))) (List._∷_ (
-  14,
-  Rows'.any-gone (Syntax.tyStruct
-      (List._∷_ 38 (List._∷_ 91 (List._∷_ 93 List.[]))) (Syntax.tcons (Syntax.tyRef Syntax.erased Syntax.mut (Syntax.tyInt Syntax.w16)) (Syntax.tcons (Syntax.tyInt Syntax.w64) Syntax.tnil))),
-) (List._∷_ (
-  15,
-  Rows'.any-gone (Syntax.tyRef Syntax.erased Syntax.mut Element.behind),
-) List.[])))))))))))))))
-
-abbrev pub t10 : List.List Row.Entry
-t10 = List._∷_ (
-  0,
-  Rows'.any-gone (Syntax.tyEnum (List._∷_ 98 (List._∷_ 108 (List._∷_ 111 (List._∷_ 99 (List._∷_ 107 (List._∷_ 58 (List._∷_ 58 (List._∷_ 68 (List._∷_ 101 (List._∷_ 99 (List._∷_ 111
-      (List._∷_ 100 (List._∷_ 101 (List._∷_ 100 List.[])))))))))))))) (Syntax.ttcons Syntax.tnil (Syntax.ttcons (Syntax.tcons (Syntax.tyEnum (List._∷_ 115 (List._∷_ 116 (List._∷_ 114 (List._∷_ 101 (List._∷_
-      97 (List._∷_ 109 (List._∷_ 58 (List._∷_ 58 (List._∷_ 82 (List._∷_ 101 (List._∷_ 102 (List._∷_ 117 (List._∷_ 115 (List._∷_ 97 (List._∷_ 108 List.[]))))))))))))))) (Syntax.ttcons Syntax.tnil
-      (Syntax.ttcons Syntax.tnil (Syntax.ttcons Syntax.tnil (Syntax.ttcons (Syntax.tcons (Syntax.tyInt Syntax.w64) Syntax.tnil) (Syntax.ttcons Syntax.tnil (Syntax.ttcons Syntax.tnil (Syntax.ttcons
-      Syntax.tnil (Syntax.ttcons Syntax.tnil (Syntax.ttcons Syntax.tnil (Syntax.ttcons Syntax.tnil (Syntax.ttcons (Syntax.tcons (Syntax.tyInt Syntax.w64) Syntax.tnil) (Syntax.ttcons (Syntax.tcons
-      (Syntax.tyInt Syntax.w64) Syntax.tnil) (Syntax.ttcons Syntax.tnil (Syntax.ttcons (Syntax.tcons (Syntax.tyInt Syntax.w64) (Syntax.tcons (Syntax.tyInt Syntax.w64) Syntax.tnil)) (Syntax.ttcons
-      (Syntax.tcons (Syntax.tyInt Syntax.w64) Syntax.tnil) (Syntax.ttcons Syntax.tnil Syntax.ttnil))))))))))))))))) Syntax.tnil) Syntax.ttnil))),
-) (List._∷_ (
-  1,
-  Rows'.sslice (Referent.rtF (Referent.fInt
-      Syntax.w8)) (Syntax.tyRef (Syntax.named 0) Syntax.imm (Syntax.tyInt Syntax.w8)) 0,
-) (List._∷_ (
-  2,
-  Rows'.any-gone (Syntax.tyStruct (List._∷_ 114 (List._∷_ 101 (List._∷_ 103 (List._∷_ 105 (List._∷_
-      111 (List._∷_ 110 (List._∷_ 58 (List._∷_ 58 (List._∷_ 82 (List._∷_ 101 (List._∷_ 99 (List._∷_ 116 List.[])))))))))))) (Syntax.tcons (Syntax.tyInt Syntax.w64) (Syntax.tcons (Syntax.tyInt Syntax.w64)
-      (Syntax.tcons (Syntax.tyInt Syntax.w64) (Syntax.tcons (Syntax.tyInt Syntax.w64) Syntax.tnil))))),
-) (List._∷_ (3, Rows'.any-gone (Syntax.tyArray (Syntax.tyInt Syntax.w8) 36)) (List._∷_ (
-  4,
-  Mut.mslice
-      (Referent.rtF (Referent.fInt Syntax.w16)) (Syntax.tyRef (Syntax.named 1) Syntax.mut (Syntax.tyInt Syntax.w16)) 1,
-) (List._∷_ (
-  5,
-  Mut.mslice (Referent.rtF (Referent.fInt Syntax.w16)) (Syntax.tyRef
-      (Syntax.named 2) Syntax.mut (Syntax.tyInt Syntax.w16)) 2,
-) (List._∷_ (6, Mut.mslice (Element.type) (Syntax.tyRef (Syntax.named 3) Syntax.mut Element.behind) 3) (List._∷_ (
-  7,
-  Rows'.any-gone
-      (Syntax.tyEnum (List._∷_ 115 (List._∷_ 116 (List._∷_ 114 (List._∷_ 101 (List._∷_ 97 (List._∷_ 109 (List._∷_ 58 (List._∷_ 58 (List._∷_ 80 (List._∷_ 97 (List._∷_ 114 (List._∷_ 115 (List._∷_ 101
-      (List._∷_ 100 List.[])))))))))))))) (Syntax.ttcons (Syntax.tcons (Syntax.tyStruct (List._∷_ 115 (List._∷_ 116 (List._∷_ 114 (List._∷_ 101 (List._∷_ 97 (List._∷_ 109 (List._∷_ 58 (List._∷_ 58 (List._∷_
-      70 (List._∷_ 117 (List._∷_ 106 (List._∷_ 105 (List._∷_ 72 (List._∷_ 101 (List._∷_ 97 (List._∷_ 100 (List._∷_ 101 (List._∷_ 114 List.[])))))))))))))))))) (Syntax.tcons Syntax.tyBool (Syntax.tcons
-      Syntax.tyBool (Syntax.tcons (Syntax.tyInt Syntax.w32) (Syntax.tcons (Syntax.tyInt Syntax.w32) (Syntax.tcons (Syntax.tyInt Syntax.w32) (Syntax.tcons (Syntax.tyInt Syntax.w32) (Syntax.tcons
-      (Syntax.tyInt Syntax.w32) (Syntax.tcons (Syntax.tyInt Syntax.w32) (Syntax.tcons (Syntax.tyInt Syntax.w32) Syntax.tnil)))))))))) Syntax.tnil) (Syntax.ttcons (Syntax.tcons (Syntax.tyEnum (List._∷_ 115
-      (List._∷_ 116 (List._∷_ 114 (List._∷_ 101 (List._∷_ 97 (List._∷_ 109 (List._∷_ 58 (List._∷_ 58 (List._∷_ 82 (List._∷_ 101 (List._∷_ 102 (List._∷_ 117 (List._∷_ 115 (List._∷_ 97 (List._∷_ 108
-      List.[]))))))))))))))) (Syntax.ttcons Syntax.tnil (Syntax.ttcons Syntax.tnil (Syntax.ttcons Syntax.tnil (Syntax.ttcons (Syntax.tcons (Syntax.tyInt Syntax.w64) Syntax.tnil) (Syntax.ttcons Syntax.tnil
-      (Syntax.ttcons Syntax.tnil (Syntax.ttcons Syntax.tnil (Syntax.ttcons Syntax.tnil (Syntax.ttcons Syntax.tnil (Syntax.ttcons Syntax.tnil (Syntax.ttcons (Syntax.tcons (Syntax.tyInt Syntax.w64)
-      Syntax.tnil) (Syntax.ttcons (Syntax.tcons (Syntax.tyInt Syntax.w64) Syntax.tnil) (Syntax.ttcons Syntax.tnil (Syntax.ttcons (Syntax.tcons (Syntax.tyInt Syntax.w64) (Syntax.tcons (Syntax.tyInt
-      Syntax.w64) Syntax.tnil)) (Syntax.ttcons (Syntax.tcons (Syntax.tyInt Syntax.w64) Syntax.tnil) (Syntax.ttcons Syntax.tnil Syntax.ttnil))))))))))))))))) Syntax.tnil) Syntax.ttnil))),
-) (List._∷_ (
-  8,
-  Rows'.whole (Declared.row Refusal.the-type),
-) (List._∷_ (
-  9,
-  Rows'.any-gone (Syntax.tyStruct (List._∷_ 115 (List._∷_ 116 (List._∷_ 114 (List._∷_ 101 (List._∷_ 97 (List._∷_ 109 (List._∷_ 58 (List._∷_ 58
-      (List._∷_ 70 (List._∷_ 117 (List._∷_ 106 (List._∷_ 105 (List._∷_ 72 (List._∷_ 101 (List._∷_ 97 (List._∷_ 100 (List._∷_ 101 (List._∷_ 114 List.[])))))))))))))))))) (Syntax.tcons Syntax.tyBool
-      (Syntax.tcons Syntax.tyBool (Syntax.tcons (Syntax.tyInt Syntax.w32) (Syntax.tcons (Syntax.tyInt Syntax.w32) (Syntax.tcons (Syntax.tyInt Syntax.w32) (Syntax.tcons (Syntax.tyInt Syntax.w32)
-      (Syntax.tcons (Syntax.tyInt Syntax.w32) (Syntax.tcons (Syntax.tyInt Syntax.w32) (Syntax.tcons (Syntax.tyInt Syntax.w32) Syntax.tnil)))))))))),
 ) (List._∷_ (
   10,
   Rows'.whole (Declared.row
@@ -1023,6 +631,413 @@ t10 = List._∷_ (
 ) (List._∷_ (15, Rows'.any-gone (Syntax.tyRef Syntax.erased Syntax.mut Element.behind))
     List.[])))))))))))))))
 
+abbrev pub t5 : List.List Row.Entry
+t5 = List._∷_ (
+  0,
+  Rows'.any-gone (Syntax.tyEnum (List._∷_ 98 (List._∷_ 108 (List._∷_ 111 (List._∷_ 99 (List._∷_ 107 (List._∷_ 58 (List._∷_ 58 (List._∷_ 68 (List._∷_ 101 (List._∷_ 99 (List._∷_ 111
+      (List._∷_ 100 (List._∷_ 101 (List._∷_ 100 List.[])))))))))))))) (Syntax.ttcons Syntax.tnil (Syntax.ttcons (Syntax.tcons (Syntax.tyEnum (List._∷_ 115 (List._∷_ 116 (List._∷_ 114 (List._∷_ 101 (List._∷_
+      97 (List._∷_ 109 (List._∷_ 58 (List._∷_ 58 (List._∷_ 82 (List._∷_ 101 (List._∷_ 102 (List._∷_ 117 (List._∷_ 115 (List._∷_ 97 (List._∷_ 108 List.[]))))))))))))))) (Syntax.ttcons Syntax.tnil
+      (Syntax.ttcons Syntax.tnil (Syntax.ttcons Syntax.tnil (Syntax.ttcons (Syntax.tcons (Syntax.tyInt Syntax.w64) Syntax.tnil) (Syntax.ttcons Syntax.tnil (Syntax.ttcons Syntax.tnil (Syntax.ttcons
+      Syntax.tnil (Syntax.ttcons Syntax.tnil (Syntax.ttcons Syntax.tnil (Syntax.ttcons Syntax.tnil (Syntax.ttcons (Syntax.tcons (Syntax.tyInt Syntax.w64) Syntax.tnil) (Syntax.ttcons (Syntax.tcons
+      (Syntax.tyInt Syntax.w64) Syntax.tnil) (Syntax.ttcons Syntax.tnil (Syntax.ttcons (Syntax.tcons (Syntax.tyInt Syntax.w64) (Syntax.tcons (Syntax.tyInt Syntax.w64) Syntax.tnil)) (Syntax.ttcons
+      (Syntax.tcons (Syntax.tyInt Syntax.w64) Syntax.tnil) (Syntax.ttcons Syntax.tnil (Syntax.ttcons Syntax.tnil (Syntax.ttcons (Syntax.tcons (Syntax.tyInt Syntax.w64) Syntax.tnil) (Syntax.ttcons
+      (Syntax.tcons (Syntax.tyInt Syntax.w64) Syntax.tnil) (Syntax.ttcons (Syntax.tcons (Syntax.tyInt Syntax.w64) Syntax.tnil) (Syntax.ttcons Syntax.tnil Syntax.ttnil)))))))))))))))))))))) Syntax.tnil)
+      Syntax.ttnil))),
+) (List._∷_ (1, Rows'.sslice (Referent.rtF (Referent.fInt Syntax.w8)) (Syntax.tyRef (Syntax.named 0) Syntax.imm (Syntax.tyInt Syntax.w8)) 0) (List._∷_ (
+  2,
+  Rows'.whole
+      (Declared'.row Rect.the-type),
+) (List._∷_ (3, Rows.arrF (Referent.rtF (Referent.fInt Syntax.w8)) 36 0) (List._∷_ (
+  4,
+  Mut.mslice (Referent.rtF (Referent.fInt Syntax.w16)) (Syntax.tyRef (Syntax.named
+      1) Syntax.mut (Syntax.tyInt Syntax.w16)) 1,
+) (List._∷_ (5, Mut.mslice (Referent.rtF (Referent.fInt Syntax.w16)) (Syntax.tyRef (Syntax.named 2) Syntax.mut (Syntax.tyInt Syntax.w16)) 2) (List._∷_ (
+  6,
+  Mut.mslice (Element.type) (Syntax.tyRef (Syntax.named 3) Syntax.mut Element.behind) 3,
+) (List._∷_ (7, Rows'.whole (Known.Known Parsed.enum 1)) (List._∷_ (
+  8,
+  Rows'.any-gone (Syntax.tyEnum
+      (List._∷_ 115 (List._∷_ 116 (List._∷_ 114 (List._∷_ 101 (List._∷_ 97 (List._∷_ 109 (List._∷_ 58 (List._∷_ 58 (List._∷_ 82 (List._∷_ 101 (List._∷_ 102 (List._∷_ 117 (List._∷_ 115 (List._∷_ 97 (List._∷_
+      108 List.[]))))))))))))))) (Syntax.ttcons Syntax.tnil (Syntax.ttcons Syntax.tnil (Syntax.ttcons Syntax.tnil (Syntax.ttcons (Syntax.tcons (Syntax.tyInt Syntax.w64) Syntax.tnil) (Syntax.ttcons
+      Syntax.tnil (Syntax.ttcons Syntax.tnil (Syntax.ttcons Syntax.tnil (Syntax.ttcons Syntax.tnil (Syntax.ttcons Syntax.tnil (Syntax.ttcons Syntax.tnil (Syntax.ttcons (Syntax.tcons (Syntax.tyInt
+      Syntax.w64) Syntax.tnil) (Syntax.ttcons (Syntax.tcons (Syntax.tyInt Syntax.w64) Syntax.tnil) (Syntax.ttcons Syntax.tnil (Syntax.ttcons (Syntax.tcons (Syntax.tyInt Syntax.w64) (Syntax.tcons
+      (Syntax.tyInt Syntax.w64) Syntax.tnil)) (Syntax.ttcons (Syntax.tcons (Syntax.tyInt Syntax.w64) Syntax.tnil) (Syntax.ttcons Syntax.tnil (Syntax.ttcons Syntax.tnil (Syntax.ttcons (Syntax.tcons
+      (Syntax.tyInt Syntax.w64) Syntax.tnil) (Syntax.ttcons (Syntax.tcons (Syntax.tyInt Syntax.w64) Syntax.tnil) (Syntax.ttcons (Syntax.tcons (Syntax.tyInt Syntax.w64) Syntax.tnil) (Syntax.ttcons
+      Syntax.tnil Syntax.ttnil)))))))))))))))))))))),
+) (List._∷_ (
+  9,
+  Rows'.any-gone (Syntax.tyStruct (List._∷_ 115 (List._∷_ 116 (List._∷_ 114 (List._∷_ 101 (List._∷_ 97 (List._∷_ 109 (List._∷_ 58
+      (List._∷_ 58 (List._∷_ 70 (List._∷_ 117 (List._∷_ 106 (List._∷_ 105 (List._∷_ 72 (List._∷_ 101 (List._∷_ 97 (List._∷_ 100 (List._∷_ 101 (List._∷_ 114 List.[])))))))))))))))))) (Syntax.tcons
+      Syntax.tyBool (Syntax.tcons Syntax.tyBool (Syntax.tcons (Syntax.tyInt Syntax.w32) (Syntax.tcons (Syntax.tyInt Syntax.w32) (Syntax.tcons (Syntax.tyInt Syntax.w32) (Syntax.tcons (Syntax.tyInt
+      Syntax.w32) (Syntax.tcons (Syntax.tyInt Syntax.w32) (Syntax.tcons (Syntax.tyInt Syntax.w32) (Syntax.tcons (Syntax.tyInt Syntax.w32) Syntax.tnil)))))))))),
+) (List._∷_ (
+  10,
+  Rows'.any-gone
+      (Syntax.tyEnum (List._∷_ 98 (List._∷_ 108 (List._∷_ 111 (List._∷_ 99 (List._∷_ 107 (List._∷_ 58 (List._∷_ 58 (List._∷_ 68 (List._∷_ 101 (List._∷_ 99 (List._∷_ 111 (List._∷_ 100 (List._∷_ 101 (List._∷_
+      100 List.[])))))))))))))) (Syntax.ttcons Syntax.tnil (Syntax.ttcons (Syntax.tcons (Syntax.tyEnum (List._∷_ 115 (List._∷_ 116 (List._∷_ 114 (List._∷_ 101 (List._∷_ 97 (List._∷_ 109 (List._∷_ 58
+      (List._∷_ 58 (List._∷_ 82 (List._∷_ 101 (List._∷_ 102 (List._∷_ 117 (List._∷_ 115 (List._∷_ 97 (List._∷_ 108 List.[]))))))))))))))) (Syntax.ttcons Syntax.tnil (Syntax.ttcons Syntax.tnil (Syntax.ttcons
+      Syntax.tnil (Syntax.ttcons (Syntax.tcons (Syntax.tyInt Syntax.w64) Syntax.tnil) (Syntax.ttcons Syntax.tnil (Syntax.ttcons Syntax.tnil (Syntax.ttcons Syntax.tnil (Syntax.ttcons Syntax.tnil
+      (Syntax.ttcons Syntax.tnil (Syntax.ttcons Syntax.tnil (Syntax.ttcons (Syntax.tcons (Syntax.tyInt Syntax.w64) Syntax.tnil) (Syntax.ttcons (Syntax.tcons (Syntax.tyInt Syntax.w64) Syntax.tnil)
+      (Syntax.ttcons Syntax.tnil (Syntax.ttcons (Syntax.tcons (Syntax.tyInt Syntax.w64) (Syntax.tcons (Syntax.tyInt Syntax.w64) Syntax.tnil)) (Syntax.ttcons (Syntax.tcons (Syntax.tyInt Syntax.w64)
+      Syntax.tnil) (Syntax.ttcons Syntax.tnil (Syntax.ttcons Syntax.tnil (Syntax.ttcons (Syntax.tcons (Syntax.tyInt Syntax.w64) Syntax.tnil) (Syntax.ttcons (Syntax.tcons (Syntax.tyInt Syntax.w64)
+      Syntax.tnil) (Syntax.ttcons (Syntax.tcons (Syntax.tyInt Syntax.w64) Syntax.tnil) (Syntax.ttcons Syntax.tnil Syntax.ttnil)))))))))))))))))))))) Syntax.tnil) Syntax.ttnil))),
+) (List._∷_ (
+  11,
+  Rows'.any-gone (Syntax.tyRef Syntax.erased Syntax.mut (Syntax.tyInt Syntax.w16)),
+) (List._∷_ (
+  12,
+  Rows'.any-gone (Syntax.tyStruct (List._∷_ 38 (List._∷_ 91 (List._∷_ 93 List.[]))) (Syntax.tcons
+      (Syntax.tyRef Syntax.erased Syntax.mut (Syntax.tyInt Syntax.w16)) (Syntax.tcons (Syntax.tyInt Syntax.w64) Syntax.tnil))),
+) (List._∷_ (
+  13,
+  Rows'.any-gone (Syntax.tyRef Syntax.erased Syntax.mut
+      (Syntax.tyInt Syntax.w16)),
+) (List._∷_ (
+  14,
+  Rows'.any-gone (Syntax.tyStruct (List._∷_ 38 (List._∷_ 91 (List._∷_ 93 List.[]))) (Syntax.tcons (Syntax.tyRef Syntax.erased Syntax.mut (Syntax.tyInt
+      Syntax.w16)) (Syntax.tcons (Syntax.tyInt Syntax.w64) Syntax.tnil))),
+) (List._∷_ (15, Rows'.any-gone (Syntax.tyRef Syntax.erased Syntax.mut Element.behind)) List.[])))))))))))))))
+
+abbrev pub t6 : List.List Row.Entry
+t6 = List._∷_ (
+  0,
+  Rows'.any-gone (Syntax.tyEnum (List._∷_ 98 (List._∷_ 108 (List._∷_ 111 (List._∷_ 99 (List._∷_ 107 (List._∷_ 58 (List._∷_ 58 (List._∷_ 68 (List._∷_ 101 (List._∷_ 99 (List._∷_ 111
+      (List._∷_ 100 (List._∷_ 101 (List._∷_ 100 List.[])))))))))))))) (Syntax.ttcons Syntax.tnil (Syntax.ttcons (Syntax.tcons (Syntax.tyEnum (List._∷_ 115 (List._∷_ 116 (List._∷_ 114 (List._∷_ 101 (List._∷_
+      97 (List._∷_ 109 (List._∷_ 58 (List._∷_ 58 (List._∷_ 82 (List._∷_ 101 (List._∷_ 102 (List._∷_ 117 (List._∷_ 115 (List._∷_ 97 (List._∷_ 108 List.[]))))))))))))))) (Syntax.ttcons Syntax.tnil
+      (Syntax.ttcons Syntax.tnil (Syntax.ttcons Syntax.tnil (Syntax.ttcons (Syntax.tcons (Syntax.tyInt Syntax.w64) Syntax.tnil) (Syntax.ttcons Syntax.tnil (Syntax.ttcons Syntax.tnil (Syntax.ttcons
+      Syntax.tnil (Syntax.ttcons Syntax.tnil (Syntax.ttcons Syntax.tnil (Syntax.ttcons Syntax.tnil (Syntax.ttcons (Syntax.tcons (Syntax.tyInt Syntax.w64) Syntax.tnil) (Syntax.ttcons (Syntax.tcons
+      (Syntax.tyInt Syntax.w64) Syntax.tnil) (Syntax.ttcons Syntax.tnil (Syntax.ttcons (Syntax.tcons (Syntax.tyInt Syntax.w64) (Syntax.tcons (Syntax.tyInt Syntax.w64) Syntax.tnil)) (Syntax.ttcons
+      (Syntax.tcons (Syntax.tyInt Syntax.w64) Syntax.tnil) (Syntax.ttcons Syntax.tnil (Syntax.ttcons Syntax.tnil (Syntax.ttcons (Syntax.tcons (Syntax.tyInt Syntax.w64) Syntax.tnil) (Syntax.ttcons
+      (Syntax.tcons (Syntax.tyInt Syntax.w64) Syntax.tnil) (Syntax.ttcons (Syntax.tcons (Syntax.tyInt Syntax.w64) Syntax.tnil) (Syntax.ttcons Syntax.tnil Syntax.ttnil)))))))))))))))))))))) Syntax.tnil)
+      Syntax.ttnil))),
+) (List._∷_ (1, Rows'.sslice (Referent.rtF (Referent.fInt Syntax.w8)) (Syntax.tyRef (Syntax.named 0) Syntax.imm (Syntax.tyInt Syntax.w8)) 0) (List._∷_ (
+  2,
+  Rows'.any-gone
+      (Syntax.tyStruct (List._∷_ 114 (List._∷_ 101 (List._∷_ 103 (List._∷_ 105 (List._∷_ 111 (List._∷_ 110 (List._∷_ 58 (List._∷_ 58 (List._∷_ 82 (List._∷_ 101 (List._∷_ 99 (List._∷_ 116 List.[]))))))))))))
+      (Syntax.tcons (Syntax.tyInt Syntax.w64) (Syntax.tcons (Syntax.tyInt Syntax.w64) (Syntax.tcons (Syntax.tyInt Syntax.w64) (Syntax.tcons (Syntax.tyInt Syntax.w64) Syntax.tnil))))),
+) (List._∷_ (
+  3,
+  Rows.arrF (Referent.rtF (Referent.fInt Syntax.w8)) 36 0,
+) (List._∷_ (4, Mut.mslice (Referent.rtF (Referent.fInt Syntax.w16)) (Syntax.tyRef (Syntax.named 1) Syntax.mut (Syntax.tyInt Syntax.w16)) 1)
+    (List._∷_ (5, Mut.mslice (Referent.rtF (Referent.fInt Syntax.w16)) (Syntax.tyRef (Syntax.named 2) Syntax.mut (Syntax.tyInt Syntax.w16)) 2) (List._∷_ (
+      6,
+      Mut.mslice (Element.type) (Syntax.tyRef
+          (Syntax.named 3) Syntax.mut Element.behind) 3,
+    ) (List._∷_ (7, Rows'.whole (Known.Known Parsed.enum 1)) (List._∷_ (
+      8,
+      Rows'.any-gone (Syntax.tyEnum (List._∷_ 115 (List._∷_ 116 (List._∷_ 114 (List._∷_
+          101 (List._∷_ 97 (List._∷_ 109 (List._∷_ 58 (List._∷_ 58 (List._∷_ 82 (List._∷_ 101 (List._∷_ 102 (List._∷_ 117 (List._∷_ 115 (List._∷_ 97 (List._∷_ 108 List.[]))))))))))))))) (Syntax.ttcons
+          Syntax.tnil (Syntax.ttcons Syntax.tnil (Syntax.ttcons Syntax.tnil (Syntax.ttcons (Syntax.tcons (Syntax.tyInt Syntax.w64) Syntax.tnil) (Syntax.ttcons Syntax.tnil (Syntax.ttcons Syntax.tnil
+          (Syntax.ttcons Syntax.tnil (Syntax.ttcons Syntax.tnil (Syntax.ttcons Syntax.tnil (Syntax.ttcons Syntax.tnil (Syntax.ttcons (Syntax.tcons (Syntax.tyInt Syntax.w64) Syntax.tnil) (Syntax.ttcons
+          (Syntax.tcons (Syntax.tyInt Syntax.w64) Syntax.tnil) (Syntax.ttcons Syntax.tnil (Syntax.ttcons (Syntax.tcons (Syntax.tyInt Syntax.w64) (Syntax.tcons (Syntax.tyInt Syntax.w64) Syntax.tnil))
+          (Syntax.ttcons (Syntax.tcons (Syntax.tyInt Syntax.w64) Syntax.tnil) (Syntax.ttcons Syntax.tnil (Syntax.ttcons Syntax.tnil (Syntax.ttcons (Syntax.tcons (Syntax.tyInt Syntax.w64) Syntax.tnil)
+          (Syntax.ttcons (Syntax.tcons (Syntax.tyInt Syntax.w64) Syntax.tnil) (Syntax.ttcons (Syntax.tcons (Syntax.tyInt Syntax.w64) Syntax.tnil) (Syntax.ttcons Syntax.tnil Syntax.ttnil)))))))))))))))))))))),
+    )
+    (List._∷_ (
+      9,
+      Rows'.any-gone (Syntax.tyStruct (List._∷_ 115 (List._∷_ 116 (List._∷_ 114 (List._∷_ 101 (List._∷_ 97 (List._∷_ 109 (List._∷_ 58 (List._∷_ 58 (List._∷_ 70 (List._∷_ 117 (List._∷_ 106
+          (List._∷_ 105 (List._∷_ 72 (List._∷_ 101 (List._∷_ 97 (List._∷_ 100 (List._∷_ 101 (List._∷_ 114 List.[])))))))))))))))))) (Syntax.tcons Syntax.tyBool (Syntax.tcons Syntax.tyBool (Syntax.tcons
+          (Syntax.tyInt Syntax.w32) (Syntax.tcons (Syntax.tyInt Syntax.w32) (Syntax.tcons (Syntax.tyInt Syntax.w32) (Syntax.tcons (Syntax.tyInt Syntax.w32) (Syntax.tcons (Syntax.tyInt Syntax.w32) (Syntax.tcons
+          (Syntax.tyInt Syntax.w32) (Syntax.tcons (Syntax.tyInt Syntax.w32) Syntax.tnil)))))))))),
+    ) (List._∷_ (
+      10,
+      Rows'.any-gone (Syntax.tyEnum (List._∷_ 98 (List._∷_ 108 (List._∷_ 111 (List._∷_ 99 (List._∷_
+          107 (List._∷_ 58 (List._∷_ 58 (List._∷_ 68 (List._∷_ 101 (List._∷_ 99 (List._∷_ 111 (List._∷_ 100 (List._∷_ 101 (List._∷_ 100 List.[])))))))))))))) (Syntax.ttcons Syntax.tnil (Syntax.ttcons
+          (Syntax.tcons (Syntax.tyEnum (List._∷_ 115 (List._∷_ 116 (List._∷_ 114 (List._∷_ 101 (List._∷_ 97 (List._∷_ 109 (List._∷_ 58 (List._∷_ 58 (List._∷_ 82 (List._∷_ 101 (List._∷_ 102 (List._∷_ 117
+          (List._∷_ 115 (List._∷_ 97 (List._∷_ 108 List.[]))))))))))))))) (Syntax.ttcons Syntax.tnil (Syntax.ttcons Syntax.tnil (Syntax.ttcons Syntax.tnil (Syntax.ttcons (Syntax.tcons (Syntax.tyInt Syntax.w64)
+          Syntax.tnil) (Syntax.ttcons Syntax.tnil (Syntax.ttcons Syntax.tnil (Syntax.ttcons Syntax.tnil (Syntax.ttcons Syntax.tnil (Syntax.ttcons Syntax.tnil (Syntax.ttcons Syntax.tnil (Syntax.ttcons
+          (Syntax.tcons (Syntax.tyInt Syntax.w64) Syntax.tnil) (Syntax.ttcons (Syntax.tcons (Syntax.tyInt Syntax.w64) Syntax.tnil) (Syntax.ttcons Syntax.tnil (Syntax.ttcons (Syntax.tcons (Syntax.tyInt
+          Syntax.w64) (Syntax.tcons (Syntax.tyInt Syntax.w64) Syntax.tnil)) (Syntax.ttcons (Syntax.tcons (Syntax.tyInt Syntax.w64) Syntax.tnil) (Syntax.ttcons Syntax.tnil (Syntax.ttcons Syntax.tnil
+          (Syntax.ttcons (Syntax.tcons (Syntax.tyInt Syntax.w64) Syntax.tnil) (Syntax.ttcons (Syntax.tcons (Syntax.tyInt Syntax.w64) Syntax.tnil) (Syntax.ttcons (Syntax.tcons (Syntax.tyInt Syntax.w64)
+          Syntax.tnil) (Syntax.ttcons Syntax.tnil Syntax.ttnil)))))))))))))))))))))) Syntax.tnil) Syntax.ttnil))),
+    ) (List._∷_ (
+      11,
+      Rows'.any-gone (Syntax.tyRef Syntax.erased Syntax.mut (Syntax.tyInt
+          Syntax.w16)),
+    ) (List._∷_ (
+      12,
+      Rows'.any-gone (Syntax.tyStruct (List._∷_ 38 (List._∷_ 91 (List._∷_ 93 List.[]))) (Syntax.tcons (Syntax.tyRef Syntax.erased Syntax.mut (Syntax.tyInt Syntax.w16))
+          (Syntax.tcons (Syntax.tyInt Syntax.w64) Syntax.tnil))),
+    ) (List._∷_ (13, Rows'.any-gone (Syntax.tyRef Syntax.erased Syntax.mut (Syntax.tyInt Syntax.w16))) (List._∷_ (
+      14,
+      Rows'.any-gone
+          (Syntax.tyStruct (List._∷_ 38 (List._∷_ 91 (List._∷_ 93 List.[]))) (Syntax.tcons (Syntax.tyRef Syntax.erased Syntax.mut (Syntax.tyInt Syntax.w16)) (Syntax.tcons (Syntax.tyInt Syntax.w64)
+          Syntax.tnil))),
+    ) (List._∷_ (15, Rows'.any-gone (Syntax.tyRef Syntax.erased Syntax.mut Element.behind)) List.[])))))))))))))))
+
+abbrev pub t7 : List.List Row.Entry
+t7 = List._∷_ (
+  0,
+  Rows'.any-gone (Syntax.tyEnum (List._∷_ 98 (List._∷_ 108 (List._∷_ 111 (List._∷_ 99 (List._∷_ 107 (List._∷_ 58 (List._∷_ 58 (List._∷_ 68 (List._∷_ 101 (List._∷_ 99 (List._∷_ 111
+      (List._∷_ 100 (List._∷_ 101 (List._∷_ 100 List.[])))))))))))))) (Syntax.ttcons Syntax.tnil (Syntax.ttcons (Syntax.tcons (Syntax.tyEnum (List._∷_ 115 (List._∷_ 116 (List._∷_ 114 (List._∷_ 101 (List._∷_
+      97 (List._∷_ 109 (List._∷_ 58 (List._∷_ 58 (List._∷_ 82 (List._∷_ 101 (List._∷_ 102 (List._∷_ 117 (List._∷_ 115 (List._∷_ 97 (List._∷_ 108 List.[]))))))))))))))) (Syntax.ttcons Syntax.tnil
+      (Syntax.ttcons Syntax.tnil (Syntax.ttcons Syntax.tnil (Syntax.ttcons (Syntax.tcons (Syntax.tyInt Syntax.w64) Syntax.tnil) (Syntax.ttcons Syntax.tnil (Syntax.ttcons Syntax.tnil (Syntax.ttcons
+      Syntax.tnil (Syntax.ttcons Syntax.tnil (Syntax.ttcons Syntax.tnil (Syntax.ttcons Syntax.tnil (Syntax.ttcons (Syntax.tcons (Syntax.tyInt Syntax.w64) Syntax.tnil) (Syntax.ttcons (Syntax.tcons
+      (Syntax.tyInt Syntax.w64) Syntax.tnil) (Syntax.ttcons Syntax.tnil (Syntax.ttcons (Syntax.tcons (Syntax.tyInt Syntax.w64) (Syntax.tcons (Syntax.tyInt Syntax.w64) Syntax.tnil)) (Syntax.ttcons
+      (Syntax.tcons (Syntax.tyInt Syntax.w64) Syntax.tnil) (Syntax.ttcons Syntax.tnil (Syntax.ttcons Syntax.tnil (Syntax.ttcons (Syntax.tcons (Syntax.tyInt Syntax.w64) Syntax.tnil) (Syntax.ttcons
+      (Syntax.tcons (Syntax.tyInt Syntax.w64) Syntax.tnil) (Syntax.ttcons (Syntax.tcons (Syntax.tyInt Syntax.w64) Syntax.tnil) (Syntax.ttcons Syntax.tnil Syntax.ttnil)))))))))))))))))))))) Syntax.tnil)
+      Syntax.ttnil))),
+) (List._∷_ (1, Rows'.sslice (Referent.rtF (Referent.fInt Syntax.w8)) (Syntax.tyRef (Syntax.named 0) Syntax.imm (Syntax.tyInt Syntax.w8)) 0) (List._∷_ (
+  2,
+  Rows'.any-gone
+      (Syntax.tyStruct (List._∷_ 114 (List._∷_ 101 (List._∷_ 103 (List._∷_ 105 (List._∷_ 111 (List._∷_ 110 (List._∷_ 58 (List._∷_ 58 (List._∷_ 82 (List._∷_ 101 (List._∷_ 99 (List._∷_ 116 List.[]))))))))))))
+      (Syntax.tcons (Syntax.tyInt Syntax.w64) (Syntax.tcons (Syntax.tyInt Syntax.w64) (Syntax.tcons (Syntax.tyInt Syntax.w64) (Syntax.tcons (Syntax.tyInt Syntax.w64) Syntax.tnil))))),
+) (List._∷_ (
+  3,
+  Rows'.any-gone (Syntax.tyArray (Syntax.tyInt Syntax.w8) 36),
+) (List._∷_ (
+  4,
+  Mut.mslice (Referent.rtF (Referent.fInt Syntax.w16)) (Syntax.tyRef (Syntax.named 1) Syntax.mut (Syntax.tyInt Syntax.w16)) 1,
+) (List._∷_ (5, Mut.mslice (Referent.rtF (Referent.fInt Syntax.w16)) (Syntax.tyRef (Syntax.named 2) Syntax.mut (Syntax.tyInt Syntax.w16)) 2) (List._∷_ (
+  6,
+  Mut.mslice (Element.type) (Syntax.tyRef
+      (Syntax.named 3) Syntax.mut Element.behind) 3,
+) (List._∷_ (7, Rows'.whole (Known.Known Parsed.enum 1)) (List._∷_ (
+  8,
+  Rows'.any-gone (Syntax.tyEnum (List._∷_ 115 (List._∷_ 116 (List._∷_ 114 (List._∷_
+      101 (List._∷_ 97 (List._∷_ 109 (List._∷_ 58 (List._∷_ 58 (List._∷_ 82 (List._∷_ 101 (List._∷_ 102 (List._∷_ 117 (List._∷_ 115 (List._∷_ 97 (List._∷_ 108 List.[]))))))))))))))) (Syntax.ttcons
+      Syntax.tnil (Syntax.ttcons Syntax.tnil (Syntax.ttcons Syntax.tnil (Syntax.ttcons (Syntax.tcons (Syntax.tyInt Syntax.w64) Syntax.tnil) (Syntax.ttcons Syntax.tnil (Syntax.ttcons Syntax.tnil
+      (Syntax.ttcons Syntax.tnil (Syntax.ttcons Syntax.tnil (Syntax.ttcons Syntax.tnil (Syntax.ttcons Syntax.tnil (Syntax.ttcons (Syntax.tcons (Syntax.tyInt Syntax.w64) Syntax.tnil) (Syntax.ttcons
+      (Syntax.tcons (Syntax.tyInt Syntax.w64) Syntax.tnil) (Syntax.ttcons Syntax.tnil (Syntax.ttcons (Syntax.tcons (Syntax.tyInt Syntax.w64) (Syntax.tcons (Syntax.tyInt Syntax.w64) Syntax.tnil))
+      (Syntax.ttcons (Syntax.tcons (Syntax.tyInt Syntax.w64) Syntax.tnil) (Syntax.ttcons Syntax.tnil (Syntax.ttcons Syntax.tnil (Syntax.ttcons (Syntax.tcons (Syntax.tyInt Syntax.w64) Syntax.tnil)
+      (Syntax.ttcons (Syntax.tcons (Syntax.tyInt Syntax.w64) Syntax.tnil) (Syntax.ttcons (Syntax.tcons (Syntax.tyInt Syntax.w64) Syntax.tnil) (Syntax.ttcons Syntax.tnil Syntax.ttnil)))))))))))))))))))))),
+)
+    (List._∷_ (
+      9,
+      Rows'.any-gone (Syntax.tyStruct (List._∷_ 115 (List._∷_ 116 (List._∷_ 114 (List._∷_ 101 (List._∷_ 97 (List._∷_ 109 (List._∷_ 58 (List._∷_ 58 (List._∷_ 70 (List._∷_ 117 (List._∷_ 106
+          (List._∷_ 105 (List._∷_ 72 (List._∷_ 101 (List._∷_ 97 (List._∷_ 100 (List._∷_ 101 (List._∷_ 114 List.[])))))))))))))))))) (Syntax.tcons Syntax.tyBool (Syntax.tcons Syntax.tyBool (Syntax.tcons
+          (Syntax.tyInt Syntax.w32) (Syntax.tcons (Syntax.tyInt Syntax.w32) (Syntax.tcons (Syntax.tyInt Syntax.w32) (Syntax.tcons (Syntax.tyInt Syntax.w32) (Syntax.tcons (Syntax.tyInt Syntax.w32) (Syntax.tcons
+          (Syntax.tyInt Syntax.w32) (Syntax.tcons (Syntax.tyInt Syntax.w32) Syntax.tnil)))))))))),
+    ) (List._∷_ (
+      10,
+      Rows'.any-gone (Syntax.tyEnum (List._∷_ 98 (List._∷_ 108 (List._∷_ 111 (List._∷_ 99 (List._∷_
+          107 (List._∷_ 58 (List._∷_ 58 (List._∷_ 68 (List._∷_ 101 (List._∷_ 99 (List._∷_ 111 (List._∷_ 100 (List._∷_ 101 (List._∷_ 100 List.[])))))))))))))) (Syntax.ttcons Syntax.tnil (Syntax.ttcons
+          (Syntax.tcons (Syntax.tyEnum (List._∷_ 115 (List._∷_ 116 (List._∷_ 114 (List._∷_ 101 (List._∷_ 97 (List._∷_ 109 (List._∷_ 58 (List._∷_ 58 (List._∷_ 82 (List._∷_ 101 (List._∷_ 102 (List._∷_ 117
+          (List._∷_ 115 (List._∷_ 97 (List._∷_ 108 List.[]))))))))))))))) (Syntax.ttcons Syntax.tnil (Syntax.ttcons Syntax.tnil (Syntax.ttcons Syntax.tnil (Syntax.ttcons (Syntax.tcons (Syntax.tyInt Syntax.w64)
+          Syntax.tnil) (Syntax.ttcons Syntax.tnil (Syntax.ttcons Syntax.tnil (Syntax.ttcons Syntax.tnil (Syntax.ttcons Syntax.tnil (Syntax.ttcons Syntax.tnil (Syntax.ttcons Syntax.tnil (Syntax.ttcons
+          (Syntax.tcons (Syntax.tyInt Syntax.w64) Syntax.tnil) (Syntax.ttcons (Syntax.tcons (Syntax.tyInt Syntax.w64) Syntax.tnil) (Syntax.ttcons Syntax.tnil (Syntax.ttcons (Syntax.tcons (Syntax.tyInt
+          Syntax.w64) (Syntax.tcons (Syntax.tyInt Syntax.w64) Syntax.tnil)) (Syntax.ttcons (Syntax.tcons (Syntax.tyInt Syntax.w64) Syntax.tnil) (Syntax.ttcons Syntax.tnil (Syntax.ttcons Syntax.tnil
+          (Syntax.ttcons (Syntax.tcons (Syntax.tyInt Syntax.w64) Syntax.tnil) (Syntax.ttcons (Syntax.tcons (Syntax.tyInt Syntax.w64) Syntax.tnil) (Syntax.ttcons (Syntax.tcons (Syntax.tyInt Syntax.w64)
+          Syntax.tnil) (Syntax.ttcons Syntax.tnil Syntax.ttnil)))))))))))))))))))))) Syntax.tnil) Syntax.ttnil))),
+    ) (List._∷_ (
+      11,
+      Rows'.any-gone (Syntax.tyRef Syntax.erased Syntax.mut (Syntax.tyInt
+          Syntax.w16)),
+    ) (List._∷_ (
+      12,
+      Rows'.any-gone (Syntax.tyStruct (List._∷_ 38 (List._∷_ 91 (List._∷_ 93 List.[]))) (Syntax.tcons (Syntax.tyRef Syntax.erased Syntax.mut (Syntax.tyInt Syntax.w16))
+          (Syntax.tcons (Syntax.tyInt Syntax.w64) Syntax.tnil))),
+    ) (List._∷_ (13, Rows'.any-gone (Syntax.tyRef Syntax.erased Syntax.mut (Syntax.tyInt Syntax.w16))) (List._∷_ (
+      14,
+      Rows'.any-gone
+          (Syntax.tyStruct (List._∷_ 38 (List._∷_ 91 (List._∷_ 93 List.[]))) (Syntax.tcons (Syntax.tyRef Syntax.erased Syntax.mut (Syntax.tyInt Syntax.w16)) (Syntax.tcons (Syntax.tyInt Syntax.w64)
+          Syntax.tnil))),
+    ) (List._∷_ (15, Rows'.any-gone (Syntax.tyRef Syntax.erased Syntax.mut Element.behind)) List.[])))))))))))))))
+
+abbrev pub t8 : List.List Row.Entry
+t8 = List._∷_ (
+  0,
+  Rows'.any-gone (Syntax.tyEnum (List._∷_ 98 (List._∷_ 108 (List._∷_ 111 (List._∷_ 99 (List._∷_ 107 (List._∷_ 58 (List._∷_ 58 (List._∷_ 68 (List._∷_ 101 (List._∷_ 99 (List._∷_ 111
+      (List._∷_ 100 (List._∷_ 101 (List._∷_ 100 List.[])))))))))))))) (Syntax.ttcons Syntax.tnil (Syntax.ttcons (Syntax.tcons (Syntax.tyEnum (List._∷_ 115 (List._∷_ 116 (List._∷_ 114 (List._∷_ 101 (List._∷_
+      97 (List._∷_ 109 (List._∷_ 58 (List._∷_ 58 (List._∷_ 82 (List._∷_ 101 (List._∷_ 102 (List._∷_ 117 (List._∷_ 115 (List._∷_ 97 (List._∷_ 108 List.[]))))))))))))))) (Syntax.ttcons Syntax.tnil
+      (Syntax.ttcons Syntax.tnil (Syntax.ttcons Syntax.tnil (Syntax.ttcons (Syntax.tcons (Syntax.tyInt Syntax.w64) Syntax.tnil) (Syntax.ttcons Syntax.tnil (Syntax.ttcons Syntax.tnil (Syntax.ttcons
+      Syntax.tnil (Syntax.ttcons Syntax.tnil (Syntax.ttcons Syntax.tnil (Syntax.ttcons Syntax.tnil (Syntax.ttcons (Syntax.tcons (Syntax.tyInt Syntax.w64) Syntax.tnil) (Syntax.ttcons (Syntax.tcons
+      (Syntax.tyInt Syntax.w64) Syntax.tnil) (Syntax.ttcons Syntax.tnil (Syntax.ttcons (Syntax.tcons (Syntax.tyInt Syntax.w64) (Syntax.tcons (Syntax.tyInt Syntax.w64) Syntax.tnil)) (Syntax.ttcons
+      (Syntax.tcons (Syntax.tyInt Syntax.w64) Syntax.tnil) (Syntax.ttcons Syntax.tnil (Syntax.ttcons Syntax.tnil (Syntax.ttcons (Syntax.tcons (Syntax.tyInt Syntax.w64) Syntax.tnil) (Syntax.ttcons
+      (Syntax.tcons (Syntax.tyInt Syntax.w64) Syntax.tnil) (Syntax.ttcons (Syntax.tcons (Syntax.tyInt Syntax.w64) Syntax.tnil) (Syntax.ttcons Syntax.tnil Syntax.ttnil)))))))))))))))))))))) Syntax.tnil)
+      Syntax.ttnil))),
+) (List._∷_ (1, Rows'.sslice (Referent.rtF (Referent.fInt Syntax.w8)) (Syntax.tyRef (Syntax.named 0) Syntax.imm (Syntax.tyInt Syntax.w8)) 0) (List._∷_ (
+  2,
+  Rows'.any-gone
+      (Syntax.tyStruct (List._∷_ 114 (List._∷_ 101 (List._∷_ 103 (List._∷_ 105 (List._∷_ 111 (List._∷_ 110 (List._∷_ 58 (List._∷_ 58 (List._∷_ 82 (List._∷_ 101 (List._∷_ 99 (List._∷_ 116 List.[]))))))))))))
+      (Syntax.tcons (Syntax.tyInt Syntax.w64) (Syntax.tcons (Syntax.tyInt Syntax.w64) (Syntax.tcons (Syntax.tyInt Syntax.w64) (Syntax.tcons (Syntax.tyInt Syntax.w64) Syntax.tnil))))),
+) (List._∷_ (
+  3,
+  Rows'.any-gone (Syntax.tyArray (Syntax.tyInt Syntax.w8) 36),
+) (List._∷_ (
+  4,
+  Mut.mslice (Referent.rtF (Referent.fInt Syntax.w16)) (Syntax.tyRef (Syntax.named 1) Syntax.mut (Syntax.tyInt Syntax.w16)) 1,
+) (List._∷_ (5, Mut.mslice (Referent.rtF (Referent.fInt Syntax.w16)) (Syntax.tyRef (Syntax.named 2) Syntax.mut (Syntax.tyInt Syntax.w16)) 2) (List._∷_ (
+  6,
+  Mut.mslice (Element.type) (Syntax.tyRef
+      (Syntax.named 3) Syntax.mut Element.behind) 3,
+) (List._∷_ (7, Rows'.whole (Known.Known Parsed.enum 1)) (List._∷_ (8, Rows'.whole (Declared.row Refusal.the-type)) (List._∷_ (
+  9,
+  Rows'.any-gone
+      (Syntax.tyStruct (List._∷_ 115 (List._∷_ 116 (List._∷_ 114 (List._∷_ 101 (List._∷_ 97 (List._∷_ 109 (List._∷_ 58 (List._∷_ 58 (List._∷_ 70 (List._∷_ 117 (List._∷_ 106 (List._∷_ 105 (List._∷_ 72
+      (List._∷_ 101 (List._∷_ 97 (List._∷_ 100 (List._∷_ 101 (List._∷_ 114 List.[])))))))))))))))))) (Syntax.tcons Syntax.tyBool (Syntax.tcons Syntax.tyBool (Syntax.tcons (Syntax.tyInt Syntax.w32)
+      (Syntax.tcons (Syntax.tyInt Syntax.w32) (Syntax.tcons (Syntax.tyInt Syntax.w32) (Syntax.tcons (Syntax.tyInt Syntax.w32) (Syntax.tcons (Syntax.tyInt Syntax.w32) (Syntax.tcons (Syntax.tyInt Syntax.w32)
+      (Syntax.tcons (Syntax.tyInt Syntax.w32) Syntax.tnil)))))))))),
+) (List._∷_ (
+  10,
+  Rows'.any-gone (Syntax.tyEnum (List._∷_ 98 (List._∷_ 108 (List._∷_ 111 (List._∷_ 99 (List._∷_ 107 (List._∷_ 58
+      (List._∷_ 58 (List._∷_ 68 (List._∷_ 101 (List._∷_ 99 (List._∷_ 111 (List._∷_ 100 (List._∷_ 101 (List._∷_ 100 List.[])))))))))))))) (Syntax.ttcons Syntax.tnil (Syntax.ttcons (Syntax.tcons
+      (Syntax.tyEnum (List._∷_ 115 (List._∷_ 116 (List._∷_ 114 (List._∷_ 101 (List._∷_ 97 (List._∷_ 109 (List._∷_ 58 (List._∷_ 58 (List._∷_ 82 (List._∷_ 101 (List._∷_ 102 (List._∷_ 117 (List._∷_ 115
+      (List._∷_ 97 (List._∷_ 108 List.[]))))))))))))))) (Syntax.ttcons Syntax.tnil (Syntax.ttcons Syntax.tnil (Syntax.ttcons Syntax.tnil (Syntax.ttcons (Syntax.tcons (Syntax.tyInt Syntax.w64) Syntax.tnil)
+      (Syntax.ttcons Syntax.tnil (Syntax.ttcons Syntax.tnil (Syntax.ttcons Syntax.tnil (Syntax.ttcons Syntax.tnil (Syntax.ttcons Syntax.tnil (Syntax.ttcons Syntax.tnil (Syntax.ttcons (Syntax.tcons
+      (Syntax.tyInt Syntax.w64) Syntax.tnil) (Syntax.ttcons (Syntax.tcons (Syntax.tyInt Syntax.w64) Syntax.tnil) (Syntax.ttcons Syntax.tnil (Syntax.ttcons (Syntax.tcons (Syntax.tyInt Syntax.w64)
+      (Syntax.tcons (Syntax.tyInt Syntax.w64) Syntax.tnil)) (Syntax.ttcons (Syntax.tcons (Syntax.tyInt Syntax.w64) Syntax.tnil) (Syntax.ttcons Syntax.tnil (Syntax.ttcons Syntax.tnil (Syntax.ttcons
+      (Syntax.tcons (Syntax.tyInt Syntax.w64) Syntax.tnil) (Syntax.ttcons (Syntax.tcons (Syntax.tyInt Syntax.w64) Syntax.tnil) (Syntax.ttcons (Syntax.tcons (Syntax.tyInt Syntax.w64) Syntax.tnil)
+      (Syntax.ttcons Syntax.tnil Syntax.ttnil)))))))))))))))))))))) Syntax.tnil) Syntax.ttnil))),
+) (List._∷_ (11, Rows'.any-gone (Syntax.tyRef Syntax.erased Syntax.mut (Syntax.tyInt Syntax.w16)))
+    (List._∷_ (
+      12,
+      Rows'.any-gone (Syntax.tyStruct (List._∷_ 38 (List._∷_ 91 (List._∷_ 93 List.[]))) (Syntax.tcons (Syntax.tyRef Syntax.erased Syntax.mut (Syntax.tyInt Syntax.w16)) (Syntax.tcons
+          (Syntax.tyInt Syntax.w64) Syntax.tnil))),
+    ) (List._∷_ (13, Rows'.any-gone (Syntax.tyRef Syntax.erased Syntax.mut (Syntax.tyInt Syntax.w16))) (List._∷_ (
+      14,
+      Rows'.any-gone (Syntax.tyStruct
+          (List._∷_ 38 (List._∷_ 91 (List._∷_ 93 List.[]))) (Syntax.tcons (Syntax.tyRef Syntax.erased Syntax.mut (Syntax.tyInt Syntax.w16)) (Syntax.tcons (Syntax.tyInt Syntax.w64) Syntax.tnil))),
+    ) (List._∷_ (
+      15,
+      Rows'.any-gone (Syntax.tyRef Syntax.erased Syntax.mut Element.behind),
+    ) List.[])))))))))))))))
+
+abbrev pub t9 : List.List Row.Entry
+t9 = List._∷_ (
+  0,
+  Rows'.any-gone (Syntax.tyEnum (List._∷_ 98 (List._∷_ 108 (List._∷_ 111 (List._∷_ 99 (List._∷_ 107 (List._∷_ 58 (List._∷_ 58 (List._∷_ 68 (List._∷_ 101 (List._∷_ 99 (List._∷_ 111
+      (List._∷_ 100 (List._∷_ 101 (List._∷_ 100 List.[])))))))))))))) (Syntax.ttcons Syntax.tnil (Syntax.ttcons (Syntax.tcons (Syntax.tyEnum (List._∷_ 115 (List._∷_ 116 (List._∷_ 114 (List._∷_ 101 (List._∷_
+      97 (List._∷_ 109 (List._∷_ 58 (List._∷_ 58 (List._∷_ 82 (List._∷_ 101 (List._∷_ 102 (List._∷_ 117 (List._∷_ 115 (List._∷_ 97 (List._∷_ 108 List.[]))))))))))))))) (Syntax.ttcons Syntax.tnil
+      (Syntax.ttcons Syntax.tnil (Syntax.ttcons Syntax.tnil (Syntax.ttcons (Syntax.tcons (Syntax.tyInt Syntax.w64) Syntax.tnil) (Syntax.ttcons Syntax.tnil (Syntax.ttcons Syntax.tnil (Syntax.ttcons
+      Syntax.tnil (Syntax.ttcons Syntax.tnil (Syntax.ttcons Syntax.tnil (Syntax.ttcons Syntax.tnil (Syntax.ttcons (Syntax.tcons (Syntax.tyInt Syntax.w64) Syntax.tnil) (Syntax.ttcons (Syntax.tcons
+      (Syntax.tyInt Syntax.w64) Syntax.tnil) (Syntax.ttcons Syntax.tnil (Syntax.ttcons (Syntax.tcons (Syntax.tyInt Syntax.w64) (Syntax.tcons (Syntax.tyInt Syntax.w64) Syntax.tnil)) (Syntax.ttcons
+      (Syntax.tcons (Syntax.tyInt Syntax.w64) Syntax.tnil) (Syntax.ttcons Syntax.tnil (Syntax.ttcons Syntax.tnil (Syntax.ttcons (Syntax.tcons (Syntax.tyInt Syntax.w64) Syntax.tnil) (Syntax.ttcons
+      (Syntax.tcons (Syntax.tyInt Syntax.w64) Syntax.tnil) (Syntax.ttcons (Syntax.tcons (Syntax.tyInt Syntax.w64) Syntax.tnil) (Syntax.ttcons Syntax.tnil Syntax.ttnil)))))))))))))))))))))) Syntax.tnil)
+      Syntax.ttnil))),
+) (List._∷_ (1, Rows'.sslice (Referent.rtF (Referent.fInt Syntax.w8)) (Syntax.tyRef (Syntax.named 0) Syntax.imm (Syntax.tyInt Syntax.w8)) 0) (List._∷_ (
+  2,
+  Rows'.any-gone
+      (Syntax.tyStruct (List._∷_ 114 (List._∷_ 101 (List._∷_ 103 (List._∷_ 105 (List._∷_ 111 (List._∷_ 110 (List._∷_ 58 (List._∷_ 58 (List._∷_ 82 (List._∷_ 101 (List._∷_ 99 (List._∷_ 116 List.[]))))))))))))
+      (Syntax.tcons (Syntax.tyInt Syntax.w64) (Syntax.tcons (Syntax.tyInt Syntax.w64) (Syntax.tcons (Syntax.tyInt Syntax.w64) (Syntax.tcons (Syntax.tyInt Syntax.w64) Syntax.tnil))))),
+) (List._∷_ (
+  3,
+  Rows'.any-gone (Syntax.tyArray (Syntax.tyInt Syntax.w8) 36),
+) (List._∷_ (
+  4,
+  Mut.mslice (Referent.rtF (Referent.fInt Syntax.w16)) (Syntax.tyRef (Syntax.named 1) Syntax.mut (Syntax.tyInt Syntax.w16)) 1,
+) (List._∷_ (5, Mut.mslice (Referent.rtF (Referent.fInt Syntax.w16)) (Syntax.tyRef (Syntax.named 2) Syntax.mut (Syntax.tyInt Syntax.w16)) 2) (List._∷_ (
+  6,
+  Mut.mslice (Element.type) (Syntax.tyRef
+      (Syntax.named 3) Syntax.mut Element.behind) 3,
+) (List._∷_ (
+  7,
+  Rows'.any-gone (Syntax.tyEnum (List._∷_ 115 (List._∷_ 116 (List._∷_ 114 (List._∷_ 101 (List._∷_ 97 (List._∷_ 109 (List._∷_ 58 (List._∷_
+      58 (List._∷_ 80 (List._∷_ 97 (List._∷_ 114 (List._∷_ 115 (List._∷_ 101 (List._∷_ 100 List.[])))))))))))))) (Syntax.ttcons (Syntax.tcons (Syntax.tyStruct (List._∷_ 115 (List._∷_ 116 (List._∷_ 114
+      (List._∷_ 101 (List._∷_ 97 (List._∷_ 109 (List._∷_ 58 (List._∷_ 58 (List._∷_ 70 (List._∷_ 117 (List._∷_ 106 (List._∷_ 105 (List._∷_ 72 (List._∷_ 101 (List._∷_ 97 (List._∷_ 100 (List._∷_ 101 (List._∷_
+      114 List.[])))))))))))))))))) (Syntax.tcons Syntax.tyBool (Syntax.tcons Syntax.tyBool (Syntax.tcons (Syntax.tyInt Syntax.w32) (Syntax.tcons (Syntax.tyInt Syntax.w32) (Syntax.tcons (Syntax.tyInt
+      Syntax.w32) (Syntax.tcons (Syntax.tyInt Syntax.w32) (Syntax.tcons (Syntax.tyInt Syntax.w32) (Syntax.tcons (Syntax.tyInt Syntax.w32) (Syntax.tcons (Syntax.tyInt Syntax.w32) Syntax.tnil))))))))))
+      Syntax.tnil) (Syntax.ttcons (Syntax.tcons (Syntax.tyEnum (List._∷_ 115 (List._∷_ 116 (List._∷_ 114 (List._∷_ 101 (List._∷_ 97 (List._∷_ 109 (List._∷_ 58 (List._∷_ 58 (List._∷_ 82 (List._∷_ 101
+      (List._∷_ 102 (List._∷_ 117 (List._∷_ 115 (List._∷_ 97 (List._∷_ 108 List.[]))))))))))))))) (Syntax.ttcons Syntax.tnil (Syntax.ttcons Syntax.tnil (Syntax.ttcons Syntax.tnil (Syntax.ttcons
+      (Syntax.tcons (Syntax.tyInt Syntax.w64) Syntax.tnil) (Syntax.ttcons Syntax.tnil (Syntax.ttcons Syntax.tnil (Syntax.ttcons Syntax.tnil (Syntax.ttcons Syntax.tnil (Syntax.ttcons Syntax.tnil
+      (Syntax.ttcons Syntax.tnil (Syntax.ttcons (Syntax.tcons (Syntax.tyInt Syntax.w64) Syntax.tnil) (Syntax.ttcons (Syntax.tcons (Syntax.tyInt Syntax.w64) Syntax.tnil) (Syntax.ttcons Syntax.tnil
+      (Syntax.ttcons (Syntax.tcons (Syntax.tyInt Syntax.w64) (Syntax.tcons (Syntax.tyInt Syntax.w64) Syntax.tnil)) (Syntax.ttcons (Syntax.tcons (Syntax.tyInt Syntax.w64) Syntax.tnil) (Syntax.ttcons
+      Syntax.tnil (Syntax.ttcons Syntax.tnil (Syntax.ttcons (Syntax.tcons (Syntax.tyInt Syntax.w64) Syntax.tnil) (Syntax.ttcons (Syntax.tcons (Syntax.tyInt Syntax.w64) Syntax.tnil) (Syntax.ttcons
+      (Syntax.tcons (Syntax.tyInt Syntax.w64) Syntax.tnil) (Syntax.ttcons Syntax.tnil Syntax.ttnil)))))))))))))))))))))) Syntax.tnil) Syntax.ttnil))),
+) (List._∷_ (
+  8,
+  Rows'.whole (Declared.row
+      Refusal.the-type),
+) (List._∷_ (
+  9,
+  Rows'.any-gone (Syntax.tyStruct (List._∷_ 115 (List._∷_ 116 (List._∷_ 114 (List._∷_ 101 (List._∷_ 97 (List._∷_ 109 (List._∷_ 58 (List._∷_ 58 (List._∷_ 70 (List._∷_
+      117 (List._∷_ 106 (List._∷_ 105 (List._∷_ 72 (List._∷_ 101 (List._∷_ 97 (List._∷_ 100 (List._∷_ 101 (List._∷_ 114 List.[])))))))))))))))))) (Syntax.tcons Syntax.tyBool (Syntax.tcons Syntax.tyBool
+      (Syntax.tcons (Syntax.tyInt Syntax.w32) (Syntax.tcons (Syntax.tyInt Syntax.w32) (Syntax.tcons (Syntax.tyInt Syntax.w32) (Syntax.tcons (Syntax.tyInt Syntax.w32) (Syntax.tcons (Syntax.tyInt Syntax.w32)
+      (Syntax.tcons (Syntax.tyInt Syntax.w32) (Syntax.tcons (Syntax.tyInt Syntax.w32) Syntax.tnil)))))))))),
+) (List._∷_ (
+  10,
+  Rows'.any-gone (Syntax.tyEnum (List._∷_ 98 (List._∷_ 108 (List._∷_ 111
+      (List._∷_ 99 (List._∷_ 107 (List._∷_ 58 (List._∷_ 58 (List._∷_ 68 (List._∷_ 101 (List._∷_ 99 (List._∷_ 111 (List._∷_ 100 (List._∷_ 101 (List._∷_ 100 List.[])))))))))))))) (Syntax.ttcons Syntax.tnil
+      (Syntax.ttcons (Syntax.tcons (Syntax.tyEnum (List._∷_ 115 (List._∷_ 116 (List._∷_ 114 (List._∷_ 101 (List._∷_ 97 (List._∷_ 109 (List._∷_ 58 (List._∷_ 58 (List._∷_ 82 (List._∷_ 101 (List._∷_ 102
+      (List._∷_ 117 (List._∷_ 115 (List._∷_ 97 (List._∷_ 108 List.[]))))))))))))))) (Syntax.ttcons Syntax.tnil (Syntax.ttcons Syntax.tnil (Syntax.ttcons Syntax.tnil (Syntax.ttcons (Syntax.tcons
+      (Syntax.tyInt Syntax.w64) Syntax.tnil) (Syntax.ttcons Syntax.tnil (Syntax.ttcons Syntax.tnil (Syntax.ttcons Syntax.tnil (Syntax.ttcons Syntax.tnil (Syntax.ttcons Syntax.tnil (Syntax.ttcons Syntax.tnil
+      (Syntax.ttcons (Syntax.tcons (Syntax.tyInt Syntax.w64) Syntax.tnil) (Syntax.ttcons (Syntax.tcons (Syntax.tyInt Syntax.w64) Syntax.tnil) (Syntax.ttcons Syntax.tnil (Syntax.ttcons (Syntax.tcons
+      (Syntax.tyInt Syntax.w64) (Syntax.tcons (Syntax.tyInt Syntax.w64) Syntax.tnil)) (Syntax.ttcons (Syntax.tcons (Syntax.tyInt Syntax.w64) Syntax.tnil) (Syntax.ttcons Syntax.tnil (Syntax.ttcons
+      Syntax.tnil (Syntax.ttcons (Syntax.tcons (Syntax.tyInt Syntax.w64) Syntax.tnil) (Syntax.ttcons (Syntax.tcons (Syntax.tyInt Syntax.w64) Syntax.tnil) (Syntax.ttcons (Syntax.tcons (Syntax.tyInt
+      Syntax.w64) Syntax.tnil) (Syntax.ttcons Syntax.tnil Syntax.ttnil)))))))))))))))))))))) Syntax.tnil) Syntax.ttnil))),
+) (List._∷_ (
+  11,
+  Rows'.any-gone (Syntax.tyRef Syntax.erased Syntax.mut
+      (Syntax.tyInt Syntax.w16)),
+) (List._∷_ (
+  12,
+  Rows'.any-gone (Syntax.tyStruct (List._∷_ 38 (List._∷_ 91 (List._∷_ 93 List.[]))) (Syntax.tcons (Syntax.tyRef Syntax.erased Syntax.mut (Syntax.tyInt
+      Syntax.w16)) (Syntax.tcons (Syntax.tyInt Syntax.w64) Syntax.tnil))),
+) (List._∷_ (13, Rows'.any-gone (Syntax.tyRef Syntax.erased Syntax.mut (Syntax.tyInt Syntax.w16))) (List._∷_ (
+  14,
+  Rows'.any-gone (Syntax.tyStruct (List._∷_ 38 (List._∷_ 91 (List._∷_ 93 List.[]))) (Syntax.tcons (Syntax.tyRef Syntax.erased Syntax.mut (Syntax.tyInt Syntax.w16)) (Syntax.tcons (Syntax.tyInt
+      Syntax.w64) Syntax.tnil))),
+) (List._∷_ (15, Rows'.any-gone (Syntax.tyRef Syntax.erased Syntax.mut Element.behind)) List.[])))))))))))))))
+
+abbrev pub t10 : List.List Row.Entry
+t10 = List._∷_ (
+  0,
+  Rows'.any-gone (Syntax.tyEnum (List._∷_ 98 (List._∷_ 108 (List._∷_ 111 (List._∷_ 99 (List._∷_ 107 (List._∷_ 58 (List._∷_ 58 (List._∷_ 68 (List._∷_ 101 (List._∷_ 99 (List._∷_ 111
+      (List._∷_ 100 (List._∷_ 101 (List._∷_ 100 List.[])))))))))))))) (Syntax.ttcons Syntax.tnil (Syntax.ttcons (Syntax.tcons (Syntax.tyEnum (List._∷_ 115 (List._∷_ 116 (List._∷_ 114 (List._∷_ 101 (List._∷_
+      97 (List._∷_ 109 (List._∷_ 58 (List._∷_ 58 (List._∷_ 82 (List._∷_ 101 (List._∷_ 102 (List._∷_ 117 (List._∷_ 115 (List._∷_ 97 (List._∷_ 108 List.[]))))))))))))))) (Syntax.ttcons Syntax.tnil
+      (Syntax.ttcons Syntax.tnil (Syntax.ttcons Syntax.tnil (Syntax.ttcons (Syntax.tcons (Syntax.tyInt Syntax.w64) Syntax.tnil) (Syntax.ttcons Syntax.tnil (Syntax.ttcons Syntax.tnil (Syntax.ttcons
+      Syntax.tnil (Syntax.ttcons Syntax.tnil (Syntax.ttcons Syntax.tnil (Syntax.ttcons Syntax.tnil (Syntax.ttcons (Syntax.tcons (Syntax.tyInt Syntax.w64) Syntax.tnil) (Syntax.ttcons (Syntax.tcons
+      (Syntax.tyInt Syntax.w64) Syntax.tnil) (Syntax.ttcons Syntax.tnil (Syntax.ttcons (Syntax.tcons (Syntax.tyInt Syntax.w64) (Syntax.tcons (Syntax.tyInt Syntax.w64) Syntax.tnil)) (Syntax.ttcons
+      (Syntax.tcons (Syntax.tyInt Syntax.w64) Syntax.tnil) (Syntax.ttcons Syntax.tnil (Syntax.ttcons Syntax.tnil (Syntax.ttcons (Syntax.tcons (Syntax.tyInt Syntax.w64) Syntax.tnil) (Syntax.ttcons
+      (Syntax.tcons (Syntax.tyInt Syntax.w64) Syntax.tnil) (Syntax.ttcons (Syntax.tcons (Syntax.tyInt Syntax.w64) Syntax.tnil) (Syntax.ttcons Syntax.tnil Syntax.ttnil)))))))))))))))))))))) Syntax.tnil)
+      Syntax.ttnil))),
+) (List._∷_ (1, Rows'.sslice (Referent.rtF (Referent.fInt Syntax.w8)) (Syntax.tyRef (Syntax.named 0) Syntax.imm (Syntax.tyInt Syntax.w8)) 0) (List._∷_ (
+  2,
+  Rows'.any-gone
+      (Syntax.tyStruct (List._∷_ 114 (List._∷_ 101 (List._∷_ 103 (List._∷_ 105 (List._∷_ 111 (List._∷_ 110 (List._∷_ 58 (List._∷_ 58 (List._∷_ 82 (List._∷_ 101 (List._∷_ 99 (List._∷_ 116 List.[]))))))))))))
+      (Syntax.tcons (Syntax.tyInt Syntax.w64) (Syntax.tcons (Syntax.tyInt Syntax.w64) (Syntax.tcons (Syntax.tyInt Syntax.w64) (Syntax.tcons (Syntax.tyInt Syntax.w64) Syntax.tnil))))),
+) (List._∷_ (
+  3,
+  Rows'.any-gone (Syntax.tyArray (Syntax.tyInt Syntax.w8) 36),
+) (List._∷_ (
+  4,
+  Mut.mslice (Referent.rtF (Referent.fInt Syntax.w16)) (Syntax.tyRef (Syntax.named 1) Syntax.mut (Syntax.tyInt Syntax.w16)) 1,
+) (List._∷_ (5, Mut.mslice (Referent.rtF (Referent.fInt Syntax.w16)) (Syntax.tyRef (Syntax.named 2) Syntax.mut (Syntax.tyInt Syntax.w16)) 2) (List._∷_ (
+  6,
+  Mut.mslice (Element.type) (Syntax.tyRef
+      (Syntax.named 3) Syntax.mut Element.behind) 3,
+) (List._∷_ (
+  7,
+  Rows'.any-gone (Syntax.tyEnum (List._∷_ 115 (List._∷_ 116 (List._∷_ 114 (List._∷_ 101 (List._∷_ 97 (List._∷_ 109 (List._∷_ 58 (List._∷_
+      58 (List._∷_ 80 (List._∷_ 97 (List._∷_ 114 (List._∷_ 115 (List._∷_ 101 (List._∷_ 100 List.[])))))))))))))) (Syntax.ttcons (Syntax.tcons (Syntax.tyStruct (List._∷_ 115 (List._∷_ 116 (List._∷_ 114
+      (List._∷_ 101 (List._∷_ 97 (List._∷_ 109 (List._∷_ 58 (List._∷_ 58 (List._∷_ 70 (List._∷_ 117 (List._∷_ 106 (List._∷_ 105 (List._∷_ 72 (List._∷_ 101 (List._∷_ 97 (List._∷_ 100 (List._∷_ 101 (List._∷_
+      114 List.[])))))))))))))))))) (Syntax.tcons Syntax.tyBool (Syntax.tcons Syntax.tyBool (Syntax.tcons (Syntax.tyInt Syntax.w32) (Syntax.tcons (Syntax.tyInt Syntax.w32) (Syntax.tcons (Syntax.tyInt
+      Syntax.w32) (Syntax.tcons (Syntax.tyInt Syntax.w32) (Syntax.tcons (Syntax.tyInt Syntax.w32) (Syntax.tcons (Syntax.tyInt Syntax.w32) (Syntax.tcons (Syntax.tyInt Syntax.w32) Syntax.tnil))))))))))
+      Syntax.tnil) (Syntax.ttcons (Syntax.tcons (Syntax.tyEnum (List._∷_ 115 (List._∷_ 116 (List._∷_ 114 (List._∷_ 101 (List._∷_ 97 (List._∷_ 109 (List._∷_ 58 (List._∷_ 58 (List._∷_ 82 (List._∷_ 101
+      (List._∷_ 102 (List._∷_ 117 (List._∷_ 115 (List._∷_ 97 (List._∷_ 108 List.[]))))))))))))))) (Syntax.ttcons Syntax.tnil (Syntax.ttcons Syntax.tnil (Syntax.ttcons Syntax.tnil (Syntax.ttcons
+      (Syntax.tcons (Syntax.tyInt Syntax.w64) Syntax.tnil) (Syntax.ttcons Syntax.tnil (Syntax.ttcons Syntax.tnil (Syntax.ttcons Syntax.tnil (Syntax.ttcons Syntax.tnil (Syntax.ttcons Syntax.tnil
+      (Syntax.ttcons Syntax.tnil (Syntax.ttcons (Syntax.tcons (Syntax.tyInt Syntax.w64) Syntax.tnil) (Syntax.ttcons (Syntax.tcons (Syntax.tyInt Syntax.w64) Syntax.tnil) (Syntax.ttcons Syntax.tnil
+      (Syntax.ttcons (Syntax.tcons (Syntax.tyInt Syntax.w64) (Syntax.tcons (Syntax.tyInt Syntax.w64) Syntax.tnil)) (Syntax.ttcons (Syntax.tcons (Syntax.tyInt Syntax.w64) Syntax.tnil) (Syntax.ttcons
+      Syntax.tnil (Syntax.ttcons Syntax.tnil (Syntax.ttcons (Syntax.tcons (Syntax.tyInt Syntax.w64) Syntax.tnil) (Syntax.ttcons (Syntax.tcons (Syntax.tyInt Syntax.w64) Syntax.tnil) (Syntax.ttcons
+      (Syntax.tcons (Syntax.tyInt Syntax.w64) Syntax.tnil) (Syntax.ttcons Syntax.tnil Syntax.ttnil)))))))))))))))))))))) Syntax.tnil) Syntax.ttnil))),
+) (List._∷_ (
+  8,
+  Rows'.whole (Declared.row
+      Refusal.the-type),
+) (List._∷_ (
+  9,
+  Rows'.any-gone (Syntax.tyStruct (List._∷_ 115 (List._∷_ 116 (List._∷_ 114 (List._∷_ 101 (List._∷_ 97 (List._∷_ 109 (List._∷_ 58 (List._∷_ 58 (List._∷_ 70 (List._∷_
+      117 (List._∷_ 106 (List._∷_ 105 (List._∷_ 72 (List._∷_ 101 (List._∷_ 97 (List._∷_ 100 (List._∷_ 101 (List._∷_ 114 List.[])))))))))))))))))) (Syntax.tcons Syntax.tyBool (Syntax.tcons Syntax.tyBool
+      (Syntax.tcons (Syntax.tyInt Syntax.w32) (Syntax.tcons (Syntax.tyInt Syntax.w32) (Syntax.tcons (Syntax.tyInt Syntax.w32) (Syntax.tcons (Syntax.tyInt Syntax.w32) (Syntax.tcons (Syntax.tyInt Syntax.w32)
+      (Syntax.tcons (Syntax.tyInt Syntax.w32) (Syntax.tcons (Syntax.tyInt Syntax.w32) Syntax.tnil)))))))))),
+) (List._∷_ (10, Rows'.whole (Declared.row Decoded.the-type)) (List._∷_ (
+  11,
+  Rows'.any-gone
+      (Syntax.tyRef Syntax.erased Syntax.mut (Syntax.tyInt Syntax.w16)),
+) (List._∷_ (
+  12,
+  Rows'.any-gone (Syntax.tyStruct (List._∷_ 38 (List._∷_ 91 (List._∷_ 93 List.[]))) (Syntax.tcons (Syntax.tyRef
+      Syntax.erased Syntax.mut (Syntax.tyInt Syntax.w16)) (Syntax.tcons (Syntax.tyInt Syntax.w64) Syntax.tnil))),
+) (List._∷_ (
+  13,
+  Rows'.any-gone (Syntax.tyRef Syntax.erased Syntax.mut (Syntax.tyInt
+      Syntax.w16)),
+) (List._∷_ (
+  14,
+  Rows'.any-gone (Syntax.tyStruct (List._∷_ 38 (List._∷_ 91 (List._∷_ 93 List.[]))) (Syntax.tcons (Syntax.tyRef Syntax.erased Syntax.mut (Syntax.tyInt Syntax.w16))
+      (Syntax.tcons (Syntax.tyInt Syntax.w64) Syntax.tnil))),
+) (List._∷_ (15, Rows'.any-gone (Syntax.tyRef Syntax.erased Syntax.mut Element.behind)) List.[])))))))))))))))
+
 abbrev pub t11 : List.List Row.Entry
 t11 = List._∷_ (
   0,
@@ -1032,60 +1047,63 @@ t11 = List._∷_ (
       (Syntax.ttcons Syntax.tnil (Syntax.ttcons Syntax.tnil (Syntax.ttcons (Syntax.tcons (Syntax.tyInt Syntax.w64) Syntax.tnil) (Syntax.ttcons Syntax.tnil (Syntax.ttcons Syntax.tnil (Syntax.ttcons
       Syntax.tnil (Syntax.ttcons Syntax.tnil (Syntax.ttcons Syntax.tnil (Syntax.ttcons Syntax.tnil (Syntax.ttcons (Syntax.tcons (Syntax.tyInt Syntax.w64) Syntax.tnil) (Syntax.ttcons (Syntax.tcons
       (Syntax.tyInt Syntax.w64) Syntax.tnil) (Syntax.ttcons Syntax.tnil (Syntax.ttcons (Syntax.tcons (Syntax.tyInt Syntax.w64) (Syntax.tcons (Syntax.tyInt Syntax.w64) Syntax.tnil)) (Syntax.ttcons
-      (Syntax.tcons (Syntax.tyInt Syntax.w64) Syntax.tnil) (Syntax.ttcons Syntax.tnil Syntax.ttnil))))))))))))))))) Syntax.tnil) Syntax.ttnil))),
-) (List._∷_ (
-  1,
-  Rows'.sslice (Referent.rtF (Referent.fInt
-      Syntax.w8)) (Syntax.tyRef (Syntax.named 0) Syntax.imm (Syntax.tyInt Syntax.w8)) 0,
-) (List._∷_ (2, Rows'.whole (Declared'.row Rect.the-type)) (List._∷_ (
-  3,
-  Rows.arrF (Referent.rtF (Referent.fInt
-      Syntax.w8)) 36 0,
-) (List._∷_ (4, Mut.mslice (Referent.rtF (Referent.fInt Syntax.w16)) (Syntax.tyRef (Syntax.named 1) Syntax.mut (Syntax.tyInt Syntax.w16)) 1) (List._∷_ (
-  5,
-  Mut.mslice
-      (Referent.rtF (Referent.fInt Syntax.w16)) (Syntax.tyRef (Syntax.named 2) Syntax.mut (Syntax.tyInt Syntax.w16)) 2,
-) (List._∷_ (
+      (Syntax.tcons (Syntax.tyInt Syntax.w64) Syntax.tnil) (Syntax.ttcons Syntax.tnil (Syntax.ttcons Syntax.tnil (Syntax.ttcons (Syntax.tcons (Syntax.tyInt Syntax.w64) Syntax.tnil) (Syntax.ttcons
+      (Syntax.tcons (Syntax.tyInt Syntax.w64) Syntax.tnil) (Syntax.ttcons (Syntax.tcons (Syntax.tyInt Syntax.w64) Syntax.tnil) (Syntax.ttcons Syntax.tnil Syntax.ttnil)))))))))))))))))))))) Syntax.tnil)
+      Syntax.ttnil))),
+) (List._∷_ (1, Rows'.sslice (Referent.rtF (Referent.fInt Syntax.w8)) (Syntax.tyRef (Syntax.named 0) Syntax.imm (Syntax.tyInt Syntax.w8)) 0) (List._∷_ (
+  2,
+  Rows'.whole
+      (Declared'.row Rect.the-type),
+) (List._∷_ (3, Rows.arrF (Referent.rtF (Referent.fInt Syntax.w8)) 36 0) (List._∷_ (
+  4,
+  Mut.mslice (Referent.rtF (Referent.fInt Syntax.w16)) (Syntax.tyRef (Syntax.named
+      1) Syntax.mut (Syntax.tyInt Syntax.w16)) 1,
+) (List._∷_ (5, Mut.mslice (Referent.rtF (Referent.fInt Syntax.w16)) (Syntax.tyRef (Syntax.named 2) Syntax.mut (Syntax.tyInt Syntax.w16)) 2) (List._∷_ (
   6,
-  Mut.mslice (Element.type) (Syntax.tyRef (Syntax.named 3) Syntax.mut
-      Element.behind) 3,
+  Mut.mslice (Element.type) (Syntax.tyRef (Syntax.named 3) Syntax.mut Element.behind) 3,
 ) (List._∷_ (7, Rows'.whole (Known.Known Parsed.enum 0)) (List._∷_ (
   8,
-  Rows'.any-gone (Syntax.tyEnum (List._∷_ 115 (List._∷_ 116 (List._∷_ 114 (List._∷_ 101 (List._∷_ 97 (List._∷_
-      109 (List._∷_ 58 (List._∷_ 58 (List._∷_ 82 (List._∷_ 101 (List._∷_ 102 (List._∷_ 117 (List._∷_ 115 (List._∷_ 97 (List._∷_ 108 List.[]))))))))))))))) (Syntax.ttcons Syntax.tnil (Syntax.ttcons
-      Syntax.tnil (Syntax.ttcons Syntax.tnil (Syntax.ttcons (Syntax.tcons (Syntax.tyInt Syntax.w64) Syntax.tnil) (Syntax.ttcons Syntax.tnil (Syntax.ttcons Syntax.tnil (Syntax.ttcons Syntax.tnil
-      (Syntax.ttcons Syntax.tnil (Syntax.ttcons Syntax.tnil (Syntax.ttcons Syntax.tnil (Syntax.ttcons (Syntax.tcons (Syntax.tyInt Syntax.w64) Syntax.tnil) (Syntax.ttcons (Syntax.tcons (Syntax.tyInt
-      Syntax.w64) Syntax.tnil) (Syntax.ttcons Syntax.tnil (Syntax.ttcons (Syntax.tcons (Syntax.tyInt Syntax.w64) (Syntax.tcons (Syntax.tyInt Syntax.w64) Syntax.tnil)) (Syntax.ttcons (Syntax.tcons
-      (Syntax.tyInt Syntax.w64) Syntax.tnil) (Syntax.ttcons Syntax.tnil Syntax.ttnil))))))))))))))))),
+  Rows'.any-gone (Syntax.tyEnum
+      (List._∷_ 115 (List._∷_ 116 (List._∷_ 114 (List._∷_ 101 (List._∷_ 97 (List._∷_ 109 (List._∷_ 58 (List._∷_ 58 (List._∷_ 82 (List._∷_ 101 (List._∷_ 102 (List._∷_ 117 (List._∷_ 115 (List._∷_ 97 (List._∷_
+      108 List.[]))))))))))))))) (Syntax.ttcons Syntax.tnil (Syntax.ttcons Syntax.tnil (Syntax.ttcons Syntax.tnil (Syntax.ttcons (Syntax.tcons (Syntax.tyInt Syntax.w64) Syntax.tnil) (Syntax.ttcons
+      Syntax.tnil (Syntax.ttcons Syntax.tnil (Syntax.ttcons Syntax.tnil (Syntax.ttcons Syntax.tnil (Syntax.ttcons Syntax.tnil (Syntax.ttcons Syntax.tnil (Syntax.ttcons (Syntax.tcons (Syntax.tyInt
+      Syntax.w64) Syntax.tnil) (Syntax.ttcons (Syntax.tcons (Syntax.tyInt Syntax.w64) Syntax.tnil) (Syntax.ttcons Syntax.tnil (Syntax.ttcons (Syntax.tcons (Syntax.tyInt Syntax.w64) (Syntax.tcons
+      (Syntax.tyInt Syntax.w64) Syntax.tnil)) (Syntax.ttcons (Syntax.tcons (Syntax.tyInt Syntax.w64) Syntax.tnil) (Syntax.ttcons Syntax.tnil (Syntax.ttcons Syntax.tnil (Syntax.ttcons (Syntax.tcons
+      (Syntax.tyInt Syntax.w64) Syntax.tnil) (Syntax.ttcons (Syntax.tcons (Syntax.tyInt Syntax.w64) Syntax.tnil) (Syntax.ttcons (Syntax.tcons (Syntax.tyInt Syntax.w64) Syntax.tnil) (Syntax.ttcons
+      Syntax.tnil Syntax.ttnil)))))))))))))))))))))),
 ) (List._∷_ (
   9,
-  Rows'.any-gone (Syntax.tyStruct (List._∷_ 115 (List._∷_ 116 (List._∷_ 114 (List._∷_
-      101 (List._∷_ 97 (List._∷_ 109 (List._∷_ 58 (List._∷_ 58 (List._∷_ 70 (List._∷_ 117 (List._∷_ 106 (List._∷_ 105 (List._∷_ 72 (List._∷_ 101 (List._∷_ 97 (List._∷_ 100 (List._∷_ 101 (List._∷_ 114
-      List.[])))))))))))))))))) (Syntax.tcons Syntax.tyBool (Syntax.tcons Syntax.tyBool (Syntax.tcons (Syntax.tyInt Syntax.w32) (Syntax.tcons (Syntax.tyInt Syntax.w32) (Syntax.tcons (Syntax.tyInt
-      Syntax.w32) (Syntax.tcons (Syntax.tyInt Syntax.w32) (Syntax.tcons (Syntax.tyInt Syntax.w32) (Syntax.tcons (Syntax.tyInt Syntax.w32) (Syntax.tcons (Syntax.tyInt Syntax.w32) Syntax.tnil)))))))))),
-)
-    (List._∷_ (
-      10,
-      Rows'.any-gone (Syntax.tyEnum (List._∷_ 98 (List._∷_ 108 (List._∷_ 111 (List._∷_ 99 (List._∷_ 107 (List._∷_ 58 (List._∷_ 58 (List._∷_ 68 (List._∷_ 101 (List._∷_ 99 (List._∷_ 111
-          (List._∷_ 100 (List._∷_ 101 (List._∷_ 100 List.[])))))))))))))) (Syntax.ttcons Syntax.tnil (Syntax.ttcons (Syntax.tcons (Syntax.tyEnum (List._∷_ 115 (List._∷_ 116 (List._∷_ 114 (List._∷_ 101 (List._∷_
-          97 (List._∷_ 109 (List._∷_ 58 (List._∷_ 58 (List._∷_ 82 (List._∷_ 101 (List._∷_ 102 (List._∷_ 117 (List._∷_ 115 (List._∷_ 97 (List._∷_ 108 List.[]))))))))))))))) (Syntax.ttcons Syntax.tnil
-          (Syntax.ttcons Syntax.tnil (Syntax.ttcons Syntax.tnil (Syntax.ttcons (Syntax.tcons (Syntax.tyInt Syntax.w64) Syntax.tnil) (Syntax.ttcons Syntax.tnil (Syntax.ttcons Syntax.tnil (Syntax.ttcons
-          Syntax.tnil (Syntax.ttcons Syntax.tnil (Syntax.ttcons Syntax.tnil (Syntax.ttcons Syntax.tnil (Syntax.ttcons (Syntax.tcons (Syntax.tyInt Syntax.w64) Syntax.tnil) (Syntax.ttcons (Syntax.tcons
-          (Syntax.tyInt Syntax.w64) Syntax.tnil) (Syntax.ttcons Syntax.tnil (Syntax.ttcons (Syntax.tcons (Syntax.tyInt Syntax.w64) (Syntax.tcons (Syntax.tyInt Syntax.w64) Syntax.tnil)) (Syntax.ttcons
-          (Syntax.tcons (Syntax.tyInt Syntax.w64) Syntax.tnil) (Syntax.ttcons Syntax.tnil Syntax.ttnil))))))))))))))))) Syntax.tnil) Syntax.ttnil))),
-    ) (List._∷_ (
-      11,
-      Rows'.any-gone (Syntax.tyRef Syntax.erased
-          Syntax.mut (Syntax.tyInt Syntax.w16)),
-    ) (List._∷_ (
-      12,
-      Rows'.any-gone (Syntax.tyStruct (List._∷_ 38 (List._∷_ 91 (List._∷_ 93 List.[]))) (Syntax.tcons (Syntax.tyRef Syntax.erased Syntax.mut
-          (Syntax.tyInt Syntax.w16)) (Syntax.tcons (Syntax.tyInt Syntax.w64) Syntax.tnil))),
-    ) (List._∷_ (13, Rows'.any-gone (Syntax.tyRef Syntax.erased Syntax.mut (Syntax.tyInt Syntax.w16))) (List._∷_ (
-      14,
-      Rows'.any-gone (Syntax.tyStruct (List._∷_ 38 (List._∷_ 91 (List._∷_ 93 List.[]))) (Syntax.tcons (Syntax.tyRef Syntax.erased Syntax.mut (Syntax.tyInt Syntax.w16)) (Syntax.tcons (Syntax.tyInt
-          Syntax.w64) Syntax.tnil))),
-    ) (List._∷_ (15, Rows'.any-gone (Syntax.tyRef Syntax.erased Syntax.mut Element.behind)) List.[])))))))))))))))
+  Rows'.any-gone (Syntax.tyStruct (List._∷_ 115 (List._∷_ 116 (List._∷_ 114 (List._∷_ 101 (List._∷_ 97 (List._∷_ 109 (List._∷_ 58
+      (List._∷_ 58 (List._∷_ 70 (List._∷_ 117 (List._∷_ 106 (List._∷_ 105 (List._∷_ 72 (List._∷_ 101 (List._∷_ 97 (List._∷_ 100 (List._∷_ 101 (List._∷_ 114 List.[])))))))))))))))))) (Syntax.tcons
+      Syntax.tyBool (Syntax.tcons Syntax.tyBool (Syntax.tcons (Syntax.tyInt Syntax.w32) (Syntax.tcons (Syntax.tyInt Syntax.w32) (Syntax.tcons (Syntax.tyInt Syntax.w32) (Syntax.tcons (Syntax.tyInt
+      Syntax.w32) (Syntax.tcons (Syntax.tyInt Syntax.w32) (Syntax.tcons (Syntax.tyInt Syntax.w32) (Syntax.tcons (Syntax.tyInt Syntax.w32) Syntax.tnil)))))))))),
+) (List._∷_ (
+  10,
+  Rows'.any-gone
+      (Syntax.tyEnum (List._∷_ 98 (List._∷_ 108 (List._∷_ 111 (List._∷_ 99 (List._∷_ 107 (List._∷_ 58 (List._∷_ 58 (List._∷_ 68 (List._∷_ 101 (List._∷_ 99 (List._∷_ 111 (List._∷_ 100 (List._∷_ 101 (List._∷_
+      100 List.[])))))))))))))) (Syntax.ttcons Syntax.tnil (Syntax.ttcons (Syntax.tcons (Syntax.tyEnum (List._∷_ 115 (List._∷_ 116 (List._∷_ 114 (List._∷_ 101 (List._∷_ 97 (List._∷_ 109 (List._∷_ 58
+      (List._∷_ 58 (List._∷_ 82 (List._∷_ 101 (List._∷_ 102 (List._∷_ 117 (List._∷_ 115 (List._∷_ 97 (List._∷_ 108 List.[]))))))))))))))) (Syntax.ttcons Syntax.tnil (Syntax.ttcons Syntax.tnil (Syntax.ttcons
+      Syntax.tnil (Syntax.ttcons (Syntax.tcons (Syntax.tyInt Syntax.w64) Syntax.tnil) (Syntax.ttcons Syntax.tnil (Syntax.ttcons Syntax.tnil (Syntax.ttcons Syntax.tnil (Syntax.ttcons Syntax.tnil
+      (Syntax.ttcons Syntax.tnil (Syntax.ttcons Syntax.tnil (Syntax.ttcons (Syntax.tcons (Syntax.tyInt Syntax.w64) Syntax.tnil) (Syntax.ttcons (Syntax.tcons (Syntax.tyInt Syntax.w64) Syntax.tnil)
+      (Syntax.ttcons Syntax.tnil (Syntax.ttcons (Syntax.tcons (Syntax.tyInt Syntax.w64) (Syntax.tcons (Syntax.tyInt Syntax.w64) Syntax.tnil)) (Syntax.ttcons (Syntax.tcons (Syntax.tyInt Syntax.w64)
+      Syntax.tnil) (Syntax.ttcons Syntax.tnil (Syntax.ttcons Syntax.tnil (Syntax.ttcons (Syntax.tcons (Syntax.tyInt Syntax.w64) Syntax.tnil) (Syntax.ttcons (Syntax.tcons (Syntax.tyInt Syntax.w64)
+      Syntax.tnil) (Syntax.ttcons (Syntax.tcons (Syntax.tyInt Syntax.w64) Syntax.tnil) (Syntax.ttcons Syntax.tnil Syntax.ttnil)))))))))))))))))))))) Syntax.tnil) Syntax.ttnil))),
+) (List._∷_ (
+  11,
+  Rows'.any-gone (Syntax.tyRef Syntax.erased Syntax.mut (Syntax.tyInt Syntax.w16)),
+) (List._∷_ (
+  12,
+  Rows'.any-gone (Syntax.tyStruct (List._∷_ 38 (List._∷_ 91 (List._∷_ 93 List.[]))) (Syntax.tcons
+      (Syntax.tyRef Syntax.erased Syntax.mut (Syntax.tyInt Syntax.w16)) (Syntax.tcons (Syntax.tyInt Syntax.w64) Syntax.tnil))),
+) (List._∷_ (
+  13,
+  Rows'.any-gone (Syntax.tyRef Syntax.erased Syntax.mut
+      (Syntax.tyInt Syntax.w16)),
+) (List._∷_ (
+  14,
+  Rows'.any-gone (Syntax.tyStruct (List._∷_ 38 (List._∷_ 91 (List._∷_ 93 List.[]))) (Syntax.tcons (Syntax.tyRef Syntax.erased Syntax.mut (Syntax.tyInt
+      Syntax.w16)) (Syntax.tcons (Syntax.tyInt Syntax.w64) Syntax.tnil))),
+) (List._∷_ (15, Rows'.any-gone (Syntax.tyRef Syntax.erased Syntax.mut Element.behind)) List.[])))))))))))))))
 
 abbrev pub t12 : List.List Row.Entry
 t12 = List._∷_ (
@@ -1096,56 +1114,54 @@ t12 = List._∷_ (
       (Syntax.ttcons Syntax.tnil (Syntax.ttcons Syntax.tnil (Syntax.ttcons (Syntax.tcons (Syntax.tyInt Syntax.w64) Syntax.tnil) (Syntax.ttcons Syntax.tnil (Syntax.ttcons Syntax.tnil (Syntax.ttcons
       Syntax.tnil (Syntax.ttcons Syntax.tnil (Syntax.ttcons Syntax.tnil (Syntax.ttcons Syntax.tnil (Syntax.ttcons (Syntax.tcons (Syntax.tyInt Syntax.w64) Syntax.tnil) (Syntax.ttcons (Syntax.tcons
       (Syntax.tyInt Syntax.w64) Syntax.tnil) (Syntax.ttcons Syntax.tnil (Syntax.ttcons (Syntax.tcons (Syntax.tyInt Syntax.w64) (Syntax.tcons (Syntax.tyInt Syntax.w64) Syntax.tnil)) (Syntax.ttcons
-      (Syntax.tcons (Syntax.tyInt Syntax.w64) Syntax.tnil) (Syntax.ttcons Syntax.tnil Syntax.ttnil))))))))))))))))) Syntax.tnil) Syntax.ttnil))),
-) (List._∷_ (
-  1,
-  Rows'.sslice (Referent.rtF (Referent.fInt
-      Syntax.w8)) (Syntax.tyRef (Syntax.named 0) Syntax.imm (Syntax.tyInt Syntax.w8)) 0,
-) (List._∷_ (2, Rows'.whole (Declared'.row Rect.the-type)) (List._∷_ (
-  3,
-  Rows.arrF (Referent.rtF (Referent.fInt
-      Syntax.w8)) 36 0,
-) (List._∷_ (4, Mut.mslice (Referent.rtF (Referent.fInt Syntax.w16)) (Syntax.tyRef (Syntax.named 1) Syntax.mut (Syntax.tyInt Syntax.w16)) 1) (List._∷_ (
-  5,
-  Mut.mslice
-      (Referent.rtF (Referent.fInt Syntax.w16)) (Syntax.tyRef (Syntax.named 2) Syntax.mut (Syntax.tyInt Syntax.w16)) 2,
-) (List._∷_ (
+      (Syntax.tcons (Syntax.tyInt Syntax.w64) Syntax.tnil) (Syntax.ttcons Syntax.tnil (Syntax.ttcons Syntax.tnil (Syntax.ttcons (Syntax.tcons (Syntax.tyInt Syntax.w64) Syntax.tnil) (Syntax.ttcons
+      (Syntax.tcons (Syntax.tyInt Syntax.w64) Syntax.tnil) (Syntax.ttcons (Syntax.tcons (Syntax.tyInt Syntax.w64) Syntax.tnil) (Syntax.ttcons Syntax.tnil Syntax.ttnil)))))))))))))))))))))) Syntax.tnil)
+      Syntax.ttnil))),
+) (List._∷_ (1, Rows'.sslice (Referent.rtF (Referent.fInt Syntax.w8)) (Syntax.tyRef (Syntax.named 0) Syntax.imm (Syntax.tyInt Syntax.w8)) 0) (List._∷_ (
+  2,
+  Rows'.whole
+      (Declared'.row Rect.the-type),
+) (List._∷_ (3, Rows.arrF (Referent.rtF (Referent.fInt Syntax.w8)) 36 0) (List._∷_ (
+  4,
+  Mut.mslice (Referent.rtF (Referent.fInt Syntax.w16)) (Syntax.tyRef (Syntax.named
+      1) Syntax.mut (Syntax.tyInt Syntax.w16)) 1,
+) (List._∷_ (5, Mut.mslice (Referent.rtF (Referent.fInt Syntax.w16)) (Syntax.tyRef (Syntax.named 2) Syntax.mut (Syntax.tyInt Syntax.w16)) 2) (List._∷_ (
   6,
-  Mut.mslice (Element.type) (Syntax.tyRef (Syntax.named 3) Syntax.mut
-      Element.behind) 3,
+  Mut.mslice (Element.type) (Syntax.tyRef (Syntax.named 3) Syntax.mut Element.behind) 3,
 ) (List._∷_ (7, Rows'.whole (Known.Known Parsed.enum 0)) (List._∷_ (
   8,
-  Rows'.any-gone (Syntax.tyEnum (List._∷_ 115 (List._∷_ 116 (List._∷_ 114 (List._∷_ 101 (List._∷_ 97 (List._∷_
-      109 (List._∷_ 58 (List._∷_ 58 (List._∷_ 82 (List._∷_ 101 (List._∷_ 102 (List._∷_ 117 (List._∷_ 115 (List._∷_ 97 (List._∷_ 108 List.[]))))))))))))))) (Syntax.ttcons Syntax.tnil (Syntax.ttcons
-      Syntax.tnil (Syntax.ttcons Syntax.tnil (Syntax.ttcons (Syntax.tcons (Syntax.tyInt Syntax.w64) Syntax.tnil) (Syntax.ttcons Syntax.tnil (Syntax.ttcons Syntax.tnil (Syntax.ttcons Syntax.tnil
-      (Syntax.ttcons Syntax.tnil (Syntax.ttcons Syntax.tnil (Syntax.ttcons Syntax.tnil (Syntax.ttcons (Syntax.tcons (Syntax.tyInt Syntax.w64) Syntax.tnil) (Syntax.ttcons (Syntax.tcons (Syntax.tyInt
-      Syntax.w64) Syntax.tnil) (Syntax.ttcons Syntax.tnil (Syntax.ttcons (Syntax.tcons (Syntax.tyInt Syntax.w64) (Syntax.tcons (Syntax.tyInt Syntax.w64) Syntax.tnil)) (Syntax.ttcons (Syntax.tcons
-      (Syntax.tyInt Syntax.w64) Syntax.tnil) (Syntax.ttcons Syntax.tnil Syntax.ttnil))))))))))))))))),
+  Rows'.any-gone (Syntax.tyEnum
+      (List._∷_ 115 (List._∷_ 116 (List._∷_ 114 (List._∷_ 101 (List._∷_ 97 (List._∷_ 109 (List._∷_ 58 (List._∷_ 58 (List._∷_ 82 (List._∷_ 101 (List._∷_ 102 (List._∷_ 117 (List._∷_ 115 (List._∷_ 97 (List._∷_
+      108 List.[]))))))))))))))) (Syntax.ttcons Syntax.tnil (Syntax.ttcons Syntax.tnil (Syntax.ttcons Syntax.tnil (Syntax.ttcons (Syntax.tcons (Syntax.tyInt Syntax.w64) Syntax.tnil) (Syntax.ttcons
+      Syntax.tnil (Syntax.ttcons Syntax.tnil (Syntax.ttcons Syntax.tnil (Syntax.ttcons Syntax.tnil (Syntax.ttcons Syntax.tnil (Syntax.ttcons Syntax.tnil (Syntax.ttcons (Syntax.tcons (Syntax.tyInt
+      Syntax.w64) Syntax.tnil) (Syntax.ttcons (Syntax.tcons (Syntax.tyInt Syntax.w64) Syntax.tnil) (Syntax.ttcons Syntax.tnil (Syntax.ttcons (Syntax.tcons (Syntax.tyInt Syntax.w64) (Syntax.tcons
+      (Syntax.tyInt Syntax.w64) Syntax.tnil)) (Syntax.ttcons (Syntax.tcons (Syntax.tyInt Syntax.w64) Syntax.tnil) (Syntax.ttcons Syntax.tnil (Syntax.ttcons Syntax.tnil (Syntax.ttcons (Syntax.tcons
+      (Syntax.tyInt Syntax.w64) Syntax.tnil) (Syntax.ttcons (Syntax.tcons (Syntax.tyInt Syntax.w64) Syntax.tnil) (Syntax.ttcons (Syntax.tcons (Syntax.tyInt Syntax.w64) Syntax.tnil) (Syntax.ttcons
+      Syntax.tnil Syntax.ttnil)))))))))))))))))))))),
 ) (List._∷_ (9, Rows'.whole (Declared'.row FujiHeader.the-type)) (List._∷_ (
   10,
-  Rows'.any-gone
-      (Syntax.tyEnum (List._∷_ 98 (List._∷_ 108 (List._∷_ 111 (List._∷_ 99 (List._∷_ 107 (List._∷_ 58 (List._∷_ 58 (List._∷_ 68 (List._∷_ 101 (List._∷_ 99 (List._∷_ 111 (List._∷_ 100 (List._∷_ 101 (List._∷_
-      100 List.[])))))))))))))) (Syntax.ttcons Syntax.tnil (Syntax.ttcons (Syntax.tcons (Syntax.tyEnum (List._∷_ 115 (List._∷_ 116 (List._∷_ 114 (List._∷_ 101 (List._∷_ 97 (List._∷_ 109 (List._∷_ 58
-      (List._∷_ 58 (List._∷_ 82 (List._∷_ 101 (List._∷_ 102 (List._∷_ 117 (List._∷_ 115 (List._∷_ 97 (List._∷_ 108 List.[]))))))))))))))) (Syntax.ttcons Syntax.tnil (Syntax.ttcons Syntax.tnil (Syntax.ttcons
-      Syntax.tnil (Syntax.ttcons (Syntax.tcons (Syntax.tyInt Syntax.w64) Syntax.tnil) (Syntax.ttcons Syntax.tnil (Syntax.ttcons Syntax.tnil (Syntax.ttcons Syntax.tnil (Syntax.ttcons Syntax.tnil
-      (Syntax.ttcons Syntax.tnil (Syntax.ttcons Syntax.tnil (Syntax.ttcons (Syntax.tcons (Syntax.tyInt Syntax.w64) Syntax.tnil) (Syntax.ttcons (Syntax.tcons (Syntax.tyInt Syntax.w64) Syntax.tnil)
-      (Syntax.ttcons Syntax.tnil (Syntax.ttcons (Syntax.tcons (Syntax.tyInt Syntax.w64) (Syntax.tcons (Syntax.tyInt Syntax.w64) Syntax.tnil)) (Syntax.ttcons (Syntax.tcons (Syntax.tyInt Syntax.w64)
-      Syntax.tnil) (Syntax.ttcons Syntax.tnil Syntax.ttnil))))))))))))))))) Syntax.tnil) Syntax.ttnil))),
+  Rows'.any-gone (Syntax.tyEnum (List._∷_ 98 (List._∷_ 108 (List._∷_ 111
+      (List._∷_ 99 (List._∷_ 107 (List._∷_ 58 (List._∷_ 58 (List._∷_ 68 (List._∷_ 101 (List._∷_ 99 (List._∷_ 111 (List._∷_ 100 (List._∷_ 101 (List._∷_ 100 List.[])))))))))))))) (Syntax.ttcons Syntax.tnil
+      (Syntax.ttcons (Syntax.tcons (Syntax.tyEnum (List._∷_ 115 (List._∷_ 116 (List._∷_ 114 (List._∷_ 101 (List._∷_ 97 (List._∷_ 109 (List._∷_ 58 (List._∷_ 58 (List._∷_ 82 (List._∷_ 101 (List._∷_ 102
+      (List._∷_ 117 (List._∷_ 115 (List._∷_ 97 (List._∷_ 108 List.[]))))))))))))))) (Syntax.ttcons Syntax.tnil (Syntax.ttcons Syntax.tnil (Syntax.ttcons Syntax.tnil (Syntax.ttcons (Syntax.tcons
+      (Syntax.tyInt Syntax.w64) Syntax.tnil) (Syntax.ttcons Syntax.tnil (Syntax.ttcons Syntax.tnil (Syntax.ttcons Syntax.tnil (Syntax.ttcons Syntax.tnil (Syntax.ttcons Syntax.tnil (Syntax.ttcons Syntax.tnil
+      (Syntax.ttcons (Syntax.tcons (Syntax.tyInt Syntax.w64) Syntax.tnil) (Syntax.ttcons (Syntax.tcons (Syntax.tyInt Syntax.w64) Syntax.tnil) (Syntax.ttcons Syntax.tnil (Syntax.ttcons (Syntax.tcons
+      (Syntax.tyInt Syntax.w64) (Syntax.tcons (Syntax.tyInt Syntax.w64) Syntax.tnil)) (Syntax.ttcons (Syntax.tcons (Syntax.tyInt Syntax.w64) Syntax.tnil) (Syntax.ttcons Syntax.tnil (Syntax.ttcons
+      Syntax.tnil (Syntax.ttcons (Syntax.tcons (Syntax.tyInt Syntax.w64) Syntax.tnil) (Syntax.ttcons (Syntax.tcons (Syntax.tyInt Syntax.w64) Syntax.tnil) (Syntax.ttcons (Syntax.tcons (Syntax.tyInt
+      Syntax.w64) Syntax.tnil) (Syntax.ttcons Syntax.tnil Syntax.ttnil)))))))))))))))))))))) Syntax.tnil) Syntax.ttnil))),
 ) (List._∷_ (
   11,
-  Rows'.any-gone (Syntax.tyRef Syntax.erased Syntax.mut (Syntax.tyInt Syntax.w16)),
+  Rows'.any-gone (Syntax.tyRef Syntax.erased Syntax.mut
+      (Syntax.tyInt Syntax.w16)),
 ) (List._∷_ (
   12,
-  Rows'.any-gone (Syntax.tyStruct (List._∷_ 38 (List._∷_ 91 (List._∷_ 93 List.[]))) (Syntax.tcons (Syntax.tyRef Syntax.erased Syntax.mut (Syntax.tyInt Syntax.w16)) (Syntax.tcons
-      (Syntax.tyInt Syntax.w64) Syntax.tnil))),
+  Rows'.any-gone (Syntax.tyStruct (List._∷_ 38 (List._∷_ 91 (List._∷_ 93 List.[]))) (Syntax.tcons (Syntax.tyRef Syntax.erased Syntax.mut (Syntax.tyInt
+      Syntax.w16)) (Syntax.tcons (Syntax.tyInt Syntax.w64) Syntax.tnil))),
 ) (List._∷_ (13, Rows'.any-gone (Syntax.tyRef Syntax.erased Syntax.mut (Syntax.tyInt Syntax.w16))) (List._∷_ (
   14,
-  Rows'.any-gone (Syntax.tyStruct
-      (List._∷_ 38 (List._∷_ 91 (List._∷_ 93 List.[]))) (Syntax.tcons (Syntax.tyRef Syntax.erased Syntax.mut (Syntax.tyInt Syntax.w16)) (Syntax.tcons (Syntax.tyInt Syntax.w64) Syntax.tnil))),
-) (List._∷_ (
-  15,
-  Rows'.any-gone (Syntax.tyRef Syntax.erased Syntax.mut Element.behind),
-) List.[])))))))))))))))
+  Rows'.any-gone (Syntax.tyStruct (List._∷_ 38 (List._∷_ 91 (List._∷_ 93 List.[]))) (Syntax.tcons (Syntax.tyRef Syntax.erased Syntax.mut (Syntax.tyInt Syntax.w16)) (Syntax.tcons (Syntax.tyInt
+      Syntax.w64) Syntax.tnil))),
+) (List._∷_ (15, Rows'.any-gone (Syntax.tyRef Syntax.erased Syntax.mut Element.behind)) List.[])))))))))))))))
 
 abbrev pub t13 : List.List Row.Entry
 t13 = List._∷_ (
@@ -1156,69 +1172,71 @@ t13 = List._∷_ (
       (Syntax.ttcons Syntax.tnil (Syntax.ttcons Syntax.tnil (Syntax.ttcons (Syntax.tcons (Syntax.tyInt Syntax.w64) Syntax.tnil) (Syntax.ttcons Syntax.tnil (Syntax.ttcons Syntax.tnil (Syntax.ttcons
       Syntax.tnil (Syntax.ttcons Syntax.tnil (Syntax.ttcons Syntax.tnil (Syntax.ttcons Syntax.tnil (Syntax.ttcons (Syntax.tcons (Syntax.tyInt Syntax.w64) Syntax.tnil) (Syntax.ttcons (Syntax.tcons
       (Syntax.tyInt Syntax.w64) Syntax.tnil) (Syntax.ttcons Syntax.tnil (Syntax.ttcons (Syntax.tcons (Syntax.tyInt Syntax.w64) (Syntax.tcons (Syntax.tyInt Syntax.w64) Syntax.tnil)) (Syntax.ttcons
-      (Syntax.tcons (Syntax.tyInt Syntax.w64) Syntax.tnil) (Syntax.ttcons Syntax.tnil Syntax.ttnil))))))))))))))))) Syntax.tnil) Syntax.ttnil))),
-) (List._∷_ (
-  1,
-  Rows'.sslice (Referent.rtF (Referent.fInt
-      Syntax.w8)) (Syntax.tyRef (Syntax.named 0) Syntax.imm (Syntax.tyInt Syntax.w8)) 0,
-) (List._∷_ (2, Rows'.whole (Declared'.row Rect.the-type)) (List._∷_ (
-  3,
-  Rows.arrF (Referent.rtF (Referent.fInt
-      Syntax.w8)) 36 0,
-) (List._∷_ (4, Mut.mslice (Referent.rtF (Referent.fInt Syntax.w16)) (Syntax.tyRef (Syntax.named 1) Syntax.mut (Syntax.tyInt Syntax.w16)) 1) (List._∷_ (
-  5,
-  Mut.mslice
-      (Referent.rtF (Referent.fInt Syntax.w16)) (Syntax.tyRef (Syntax.named 2) Syntax.mut (Syntax.tyInt Syntax.w16)) 2,
-) (List._∷_ (
+      (Syntax.tcons (Syntax.tyInt Syntax.w64) Syntax.tnil) (Syntax.ttcons Syntax.tnil (Syntax.ttcons Syntax.tnil (Syntax.ttcons (Syntax.tcons (Syntax.tyInt Syntax.w64) Syntax.tnil) (Syntax.ttcons
+      (Syntax.tcons (Syntax.tyInt Syntax.w64) Syntax.tnil) (Syntax.ttcons (Syntax.tcons (Syntax.tyInt Syntax.w64) Syntax.tnil) (Syntax.ttcons Syntax.tnil Syntax.ttnil)))))))))))))))))))))) Syntax.tnil)
+      Syntax.ttnil))),
+) (List._∷_ (1, Rows'.sslice (Referent.rtF (Referent.fInt Syntax.w8)) (Syntax.tyRef (Syntax.named 0) Syntax.imm (Syntax.tyInt Syntax.w8)) 0) (List._∷_ (
+  2,
+  Rows'.whole
+      (Declared'.row Rect.the-type),
+) (List._∷_ (3, Rows.arrF (Referent.rtF (Referent.fInt Syntax.w8)) 36 0) (List._∷_ (
+  4,
+  Mut.mslice (Referent.rtF (Referent.fInt Syntax.w16)) (Syntax.tyRef (Syntax.named
+      1) Syntax.mut (Syntax.tyInt Syntax.w16)) 1,
+) (List._∷_ (5, Mut.mslice (Referent.rtF (Referent.fInt Syntax.w16)) (Syntax.tyRef (Syntax.named 2) Syntax.mut (Syntax.tyInt Syntax.w16)) 2) (List._∷_ (
   6,
-  Mut.mslice (Element.type) (Syntax.tyRef (Syntax.named 3) Syntax.mut
-      Element.behind) 3,
+  Mut.mslice (Element.type) (Syntax.tyRef (Syntax.named 3) Syntax.mut Element.behind) 3,
 ) (List._∷_ (
   7,
-  Rows'.any-gone (Syntax.tyEnum (List._∷_ 115 (List._∷_ 116 (List._∷_ 114 (List._∷_ 101 (List._∷_ 97 (List._∷_ 109 (List._∷_ 58 (List._∷_ 58 (List._∷_ 80 (List._∷_ 97
-      (List._∷_ 114 (List._∷_ 115 (List._∷_ 101 (List._∷_ 100 List.[])))))))))))))) (Syntax.ttcons (Syntax.tcons (Syntax.tyStruct (List._∷_ 115 (List._∷_ 116 (List._∷_ 114 (List._∷_ 101 (List._∷_ 97
-      (List._∷_ 109 (List._∷_ 58 (List._∷_ 58 (List._∷_ 70 (List._∷_ 117 (List._∷_ 106 (List._∷_ 105 (List._∷_ 72 (List._∷_ 101 (List._∷_ 97 (List._∷_ 100 (List._∷_ 101 (List._∷_ 114
-      List.[])))))))))))))))))) (Syntax.tcons Syntax.tyBool (Syntax.tcons Syntax.tyBool (Syntax.tcons (Syntax.tyInt Syntax.w32) (Syntax.tcons (Syntax.tyInt Syntax.w32) (Syntax.tcons (Syntax.tyInt
-      Syntax.w32) (Syntax.tcons (Syntax.tyInt Syntax.w32) (Syntax.tcons (Syntax.tyInt Syntax.w32) (Syntax.tcons (Syntax.tyInt Syntax.w32) (Syntax.tcons (Syntax.tyInt Syntax.w32) Syntax.tnil))))))))))
-      Syntax.tnil) (Syntax.ttcons (Syntax.tcons (Syntax.tyEnum (List._∷_ 115 (List._∷_ 116 (List._∷_ 114 (List._∷_ 101 (List._∷_ 97 (List._∷_ 109 (List._∷_ 58 (List._∷_ 58 (List._∷_ 82 (List._∷_ 101
-      (List._∷_ 102 (List._∷_ 117 (List._∷_ 115 (List._∷_ 97 (List._∷_ 108 List.[]))))))))))))))) (Syntax.ttcons Syntax.tnil (Syntax.ttcons Syntax.tnil (Syntax.ttcons Syntax.tnil (Syntax.ttcons
-      (Syntax.tcons (Syntax.tyInt Syntax.w64) Syntax.tnil) (Syntax.ttcons Syntax.tnil (Syntax.ttcons Syntax.tnil (Syntax.ttcons Syntax.tnil (Syntax.ttcons Syntax.tnil (Syntax.ttcons Syntax.tnil
-      (Syntax.ttcons Syntax.tnil (Syntax.ttcons (Syntax.tcons (Syntax.tyInt Syntax.w64) Syntax.tnil) (Syntax.ttcons (Syntax.tcons (Syntax.tyInt Syntax.w64) Syntax.tnil) (Syntax.ttcons Syntax.tnil
-      (Syntax.ttcons (Syntax.tcons (Syntax.tyInt Syntax.w64) (Syntax.tcons (Syntax.tyInt Syntax.w64) Syntax.tnil)) (Syntax.ttcons (Syntax.tcons (Syntax.tyInt Syntax.w64) Syntax.tnil) (Syntax.ttcons
-      Syntax.tnil Syntax.ttnil))))))))))))))))) Syntax.tnil) Syntax.ttnil))),
-) (List._∷_ (
-  8,
-  Rows'.any-gone (Syntax.tyEnum (List._∷_ 115 (List._∷_ 116 (List._∷_ 114 (List._∷_ 101 (List._∷_ 97 (List._∷_
+  Rows'.any-gone (Syntax.tyEnum (List._∷_ 115 (List._∷_ 116 (List._∷_ 114 (List._∷_ 101
+      (List._∷_ 97 (List._∷_ 109 (List._∷_ 58 (List._∷_ 58 (List._∷_ 80 (List._∷_ 97 (List._∷_ 114 (List._∷_ 115 (List._∷_ 101 (List._∷_ 100 List.[])))))))))))))) (Syntax.ttcons (Syntax.tcons
+      (Syntax.tyStruct (List._∷_ 115 (List._∷_ 116 (List._∷_ 114 (List._∷_ 101 (List._∷_ 97 (List._∷_ 109 (List._∷_ 58 (List._∷_ 58 (List._∷_ 70 (List._∷_ 117 (List._∷_ 106 (List._∷_ 105 (List._∷_ 72
+      (List._∷_ 101 (List._∷_ 97 (List._∷_ 100 (List._∷_ 101 (List._∷_ 114 List.[])))))))))))))))))) (Syntax.tcons Syntax.tyBool (Syntax.tcons Syntax.tyBool (Syntax.tcons (Syntax.tyInt Syntax.w32)
+      (Syntax.tcons (Syntax.tyInt Syntax.w32) (Syntax.tcons (Syntax.tyInt Syntax.w32) (Syntax.tcons (Syntax.tyInt Syntax.w32) (Syntax.tcons (Syntax.tyInt Syntax.w32) (Syntax.tcons (Syntax.tyInt Syntax.w32)
+      (Syntax.tcons (Syntax.tyInt Syntax.w32) Syntax.tnil)))))))))) Syntax.tnil) (Syntax.ttcons (Syntax.tcons (Syntax.tyEnum (List._∷_ 115 (List._∷_ 116 (List._∷_ 114 (List._∷_ 101 (List._∷_ 97 (List._∷_
       109 (List._∷_ 58 (List._∷_ 58 (List._∷_ 82 (List._∷_ 101 (List._∷_ 102 (List._∷_ 117 (List._∷_ 115 (List._∷_ 97 (List._∷_ 108 List.[]))))))))))))))) (Syntax.ttcons Syntax.tnil (Syntax.ttcons
       Syntax.tnil (Syntax.ttcons Syntax.tnil (Syntax.ttcons (Syntax.tcons (Syntax.tyInt Syntax.w64) Syntax.tnil) (Syntax.ttcons Syntax.tnil (Syntax.ttcons Syntax.tnil (Syntax.ttcons Syntax.tnil
       (Syntax.ttcons Syntax.tnil (Syntax.ttcons Syntax.tnil (Syntax.ttcons Syntax.tnil (Syntax.ttcons (Syntax.tcons (Syntax.tyInt Syntax.w64) Syntax.tnil) (Syntax.ttcons (Syntax.tcons (Syntax.tyInt
       Syntax.w64) Syntax.tnil) (Syntax.ttcons Syntax.tnil (Syntax.ttcons (Syntax.tcons (Syntax.tyInt Syntax.w64) (Syntax.tcons (Syntax.tyInt Syntax.w64) Syntax.tnil)) (Syntax.ttcons (Syntax.tcons
-      (Syntax.tyInt Syntax.w64) Syntax.tnil) (Syntax.ttcons Syntax.tnil Syntax.ttnil))))))))))))))))),
-) (List._∷_ (9, Rows'.whole (Declared'.row FujiHeader.the-type)) (List._∷_ (
-  10,
-  Rows'.any-gone
-      (Syntax.tyEnum (List._∷_ 98 (List._∷_ 108 (List._∷_ 111 (List._∷_ 99 (List._∷_ 107 (List._∷_ 58 (List._∷_ 58 (List._∷_ 68 (List._∷_ 101 (List._∷_ 99 (List._∷_ 111 (List._∷_ 100 (List._∷_ 101 (List._∷_
-      100 List.[])))))))))))))) (Syntax.ttcons Syntax.tnil (Syntax.ttcons (Syntax.tcons (Syntax.tyEnum (List._∷_ 115 (List._∷_ 116 (List._∷_ 114 (List._∷_ 101 (List._∷_ 97 (List._∷_ 109 (List._∷_ 58
-      (List._∷_ 58 (List._∷_ 82 (List._∷_ 101 (List._∷_ 102 (List._∷_ 117 (List._∷_ 115 (List._∷_ 97 (List._∷_ 108 List.[]))))))))))))))) (Syntax.ttcons Syntax.tnil (Syntax.ttcons Syntax.tnil (Syntax.ttcons
-      Syntax.tnil (Syntax.ttcons (Syntax.tcons (Syntax.tyInt Syntax.w64) Syntax.tnil) (Syntax.ttcons Syntax.tnil (Syntax.ttcons Syntax.tnil (Syntax.ttcons Syntax.tnil (Syntax.ttcons Syntax.tnil
-      (Syntax.ttcons Syntax.tnil (Syntax.ttcons Syntax.tnil (Syntax.ttcons (Syntax.tcons (Syntax.tyInt Syntax.w64) Syntax.tnil) (Syntax.ttcons (Syntax.tcons (Syntax.tyInt Syntax.w64) Syntax.tnil)
-      (Syntax.ttcons Syntax.tnil (Syntax.ttcons (Syntax.tcons (Syntax.tyInt Syntax.w64) (Syntax.tcons (Syntax.tyInt Syntax.w64) Syntax.tnil)) (Syntax.ttcons (Syntax.tcons (Syntax.tyInt Syntax.w64)
-      Syntax.tnil) (Syntax.ttcons Syntax.tnil Syntax.ttnil))))))))))))))))) Syntax.tnil) Syntax.ttnil))),
-) (List._∷_ (
-  11,
-  Rows'.any-gone (Syntax.tyRef Syntax.erased Syntax.mut (Syntax.tyInt Syntax.w16)),
-) (List._∷_ (
-  12,
-  Rows'.any-gone (Syntax.tyStruct (List._∷_ 38 (List._∷_ 91 (List._∷_ 93 List.[]))) (Syntax.tcons (Syntax.tyRef Syntax.erased Syntax.mut (Syntax.tyInt Syntax.w16)) (Syntax.tcons
-      (Syntax.tyInt Syntax.w64) Syntax.tnil))),
-) (List._∷_ (13, Rows'.any-gone (Syntax.tyRef Syntax.erased Syntax.mut (Syntax.tyInt Syntax.w16))) (List._∷_ (
-  14,
-  Rows'.any-gone (Syntax.tyStruct
-      (List._∷_ 38 (List._∷_ 91 (List._∷_ 93 List.[]))) (Syntax.tcons (Syntax.tyRef Syntax.erased Syntax.mut (Syntax.tyInt Syntax.w16)) (Syntax.tcons (Syntax.tyInt Syntax.w64) Syntax.tnil))),
-) (List._∷_ (
-  15,
-  Rows'.any-gone (Syntax.tyRef Syntax.erased Syntax.mut Element.behind),
-) List.[])))))))))))))))
+      (Syntax.tyInt Syntax.w64) Syntax.tnil) (Syntax.ttcons Syntax.tnil (Syntax.ttcons Syntax.tnil (Syntax.ttcons (Syntax.tcons (Syntax.tyInt Syntax.w64) Syntax.tnil) (Syntax.ttcons (Syntax.tcons
+      (Syntax.tyInt Syntax.w64) Syntax.tnil) (Syntax.ttcons (Syntax.tcons (Syntax.tyInt Syntax.w64) Syntax.tnil) (Syntax.ttcons Syntax.tnil Syntax.ttnil)))))))))))))))))))))) Syntax.tnil) Syntax.ttnil))),
+)
+    (List._∷_ (
+      8,
+      Rows'.any-gone (Syntax.tyEnum (List._∷_ 115 (List._∷_ 116 (List._∷_ 114 (List._∷_ 101 (List._∷_ 97 (List._∷_ 109 (List._∷_ 58 (List._∷_ 58 (List._∷_ 82 (List._∷_ 101 (List._∷_ 102
+          (List._∷_ 117 (List._∷_ 115 (List._∷_ 97 (List._∷_ 108 List.[]))))))))))))))) (Syntax.ttcons Syntax.tnil (Syntax.ttcons Syntax.tnil (Syntax.ttcons Syntax.tnil (Syntax.ttcons (Syntax.tcons
+          (Syntax.tyInt Syntax.w64) Syntax.tnil) (Syntax.ttcons Syntax.tnil (Syntax.ttcons Syntax.tnil (Syntax.ttcons Syntax.tnil (Syntax.ttcons Syntax.tnil (Syntax.ttcons Syntax.tnil (Syntax.ttcons Syntax.tnil
+          (Syntax.ttcons (Syntax.tcons (Syntax.tyInt Syntax.w64) Syntax.tnil) (Syntax.ttcons (Syntax.tcons (Syntax.tyInt Syntax.w64) Syntax.tnil) (Syntax.ttcons Syntax.tnil (Syntax.ttcons (Syntax.tcons
+          (Syntax.tyInt Syntax.w64) (Syntax.tcons (Syntax.tyInt Syntax.w64) Syntax.tnil)) (Syntax.ttcons (Syntax.tcons (Syntax.tyInt Syntax.w64) Syntax.tnil) (Syntax.ttcons Syntax.tnil (Syntax.ttcons
+          Syntax.tnil (Syntax.ttcons (Syntax.tcons (Syntax.tyInt Syntax.w64) Syntax.tnil) (Syntax.ttcons (Syntax.tcons (Syntax.tyInt Syntax.w64) Syntax.tnil) (Syntax.ttcons (Syntax.tcons (Syntax.tyInt
+          Syntax.w64) Syntax.tnil) (Syntax.ttcons Syntax.tnil Syntax.ttnil)))))))))))))))))))))),
+    ) (List._∷_ (9, Rows'.whole (Declared'.row FujiHeader.the-type)) (List._∷_ (
+      10,
+      Rows'.any-gone (Syntax.tyEnum
+          (List._∷_ 98 (List._∷_ 108 (List._∷_ 111 (List._∷_ 99 (List._∷_ 107 (List._∷_ 58 (List._∷_ 58 (List._∷_ 68 (List._∷_ 101 (List._∷_ 99 (List._∷_ 111 (List._∷_ 100 (List._∷_ 101 (List._∷_ 100
+          List.[])))))))))))))) (Syntax.ttcons Syntax.tnil (Syntax.ttcons (Syntax.tcons (Syntax.tyEnum (List._∷_ 115 (List._∷_ 116 (List._∷_ 114 (List._∷_ 101 (List._∷_ 97 (List._∷_ 109 (List._∷_ 58 (List._∷_
+          58 (List._∷_ 82 (List._∷_ 101 (List._∷_ 102 (List._∷_ 117 (List._∷_ 115 (List._∷_ 97 (List._∷_ 108 List.[]))))))))))))))) (Syntax.ttcons Syntax.tnil (Syntax.ttcons Syntax.tnil (Syntax.ttcons
+          Syntax.tnil (Syntax.ttcons (Syntax.tcons (Syntax.tyInt Syntax.w64) Syntax.tnil) (Syntax.ttcons Syntax.tnil (Syntax.ttcons Syntax.tnil (Syntax.ttcons Syntax.tnil (Syntax.ttcons Syntax.tnil
+          (Syntax.ttcons Syntax.tnil (Syntax.ttcons Syntax.tnil (Syntax.ttcons (Syntax.tcons (Syntax.tyInt Syntax.w64) Syntax.tnil) (Syntax.ttcons (Syntax.tcons (Syntax.tyInt Syntax.w64) Syntax.tnil)
+          (Syntax.ttcons Syntax.tnil (Syntax.ttcons (Syntax.tcons (Syntax.tyInt Syntax.w64) (Syntax.tcons (Syntax.tyInt Syntax.w64) Syntax.tnil)) (Syntax.ttcons (Syntax.tcons (Syntax.tyInt Syntax.w64)
+          Syntax.tnil) (Syntax.ttcons Syntax.tnil (Syntax.ttcons Syntax.tnil (Syntax.ttcons (Syntax.tcons (Syntax.tyInt Syntax.w64) Syntax.tnil) (Syntax.ttcons (Syntax.tcons (Syntax.tyInt Syntax.w64)
+          Syntax.tnil) (Syntax.ttcons (Syntax.tcons (Syntax.tyInt Syntax.w64) Syntax.tnil) (Syntax.ttcons Syntax.tnil Syntax.ttnil)))))))))))))))))))))) Syntax.tnil) Syntax.ttnil))),
+    ) (List._∷_ (
+      11,
+      Rows'.any-gone (Syntax.tyRef Syntax.erased Syntax.mut (Syntax.tyInt Syntax.w16)),
+    ) (List._∷_ (
+      12,
+      Rows'.any-gone (Syntax.tyStruct (List._∷_ 38 (List._∷_ 91 (List._∷_ 93 List.[]))) (Syntax.tcons
+          (Syntax.tyRef Syntax.erased Syntax.mut (Syntax.tyInt Syntax.w16)) (Syntax.tcons (Syntax.tyInt Syntax.w64) Syntax.tnil))),
+    ) (List._∷_ (
+      13,
+      Rows'.any-gone (Syntax.tyRef Syntax.erased Syntax.mut
+          (Syntax.tyInt Syntax.w16)),
+    ) (List._∷_ (
+      14,
+      Rows'.any-gone (Syntax.tyStruct (List._∷_ 38 (List._∷_ 91 (List._∷_ 93 List.[]))) (Syntax.tcons (Syntax.tyRef Syntax.erased Syntax.mut (Syntax.tyInt
+          Syntax.w16)) (Syntax.tcons (Syntax.tyInt Syntax.w64) Syntax.tnil))),
+    ) (List._∷_ (15, Rows'.any-gone (Syntax.tyRef Syntax.erased Syntax.mut Element.behind)) List.[])))))))))))))))
 
 abbrev pub t14 : List.List Row.Entry
 t14 = List._∷_ (
@@ -1229,66 +1247,73 @@ t14 = List._∷_ (
       (Syntax.ttcons Syntax.tnil (Syntax.ttcons Syntax.tnil (Syntax.ttcons (Syntax.tcons (Syntax.tyInt Syntax.w64) Syntax.tnil) (Syntax.ttcons Syntax.tnil (Syntax.ttcons Syntax.tnil (Syntax.ttcons
       Syntax.tnil (Syntax.ttcons Syntax.tnil (Syntax.ttcons Syntax.tnil (Syntax.ttcons Syntax.tnil (Syntax.ttcons (Syntax.tcons (Syntax.tyInt Syntax.w64) Syntax.tnil) (Syntax.ttcons (Syntax.tcons
       (Syntax.tyInt Syntax.w64) Syntax.tnil) (Syntax.ttcons Syntax.tnil (Syntax.ttcons (Syntax.tcons (Syntax.tyInt Syntax.w64) (Syntax.tcons (Syntax.tyInt Syntax.w64) Syntax.tnil)) (Syntax.ttcons
-      (Syntax.tcons (Syntax.tyInt Syntax.w64) Syntax.tnil) (Syntax.ttcons Syntax.tnil Syntax.ttnil))))))))))))))))) Syntax.tnil) Syntax.ttnil))),
+      (Syntax.tcons (Syntax.tyInt Syntax.w64) Syntax.tnil) (Syntax.ttcons Syntax.tnil (Syntax.ttcons Syntax.tnil (Syntax.ttcons (Syntax.tcons (Syntax.tyInt Syntax.w64) Syntax.tnil) (Syntax.ttcons
+      (Syntax.tcons (Syntax.tyInt Syntax.w64) Syntax.tnil) (Syntax.ttcons (Syntax.tcons (Syntax.tyInt Syntax.w64) Syntax.tnil) (Syntax.ttcons Syntax.tnil Syntax.ttnil)))))))))))))))))))))) Syntax.tnil)
+      Syntax.ttnil))),
+) (List._∷_ (1, Rows'.sslice (Referent.rtF (Referent.fInt Syntax.w8)) (Syntax.tyRef (Syntax.named 0) Syntax.imm (Syntax.tyInt Syntax.w8)) 0) (List._∷_ (
+  2,
+  Rows'.whole
+      (Declared'.row Rect.the-type),
+) (List._∷_ (3, Rows.arrF (Referent.rtF (Referent.fInt Syntax.w8)) 36 0) (List._∷_ (
+  4,
+  Relend.mslice-owed (Referent.rtF (Referent.fInt Syntax.w16)) (Syntax.tyRef
+      (Syntax.named 1) Syntax.mut (Syntax.tyInt Syntax.w16)) 1 4 Row.off,
 ) (List._∷_ (
-  1,
-  Rows'.sslice (Referent.rtF (Referent.fInt
-      Syntax.w8)) (Syntax.tyRef (Syntax.named 0) Syntax.imm (Syntax.tyInt Syntax.w8)) 0,
-) (List._∷_ (2, Rows'.whole (Declared'.row Rect.the-type)) (List._∷_ (
-  3,
-  Rows.arrF (Referent.rtF (Referent.fInt
-      Syntax.w8)) 36 0,
-) (List._∷_ (4, Relend.mslice-owed (Referent.rtF (Referent.fInt Syntax.w16)) (Syntax.tyRef (Syntax.named 1) Syntax.mut (Syntax.tyInt Syntax.w16)) 1 4 Row.off) (List._∷_ (
   5,
-  Mut.mslice (Referent.rtF (Referent.fInt Syntax.w16)) (Syntax.tyRef (Syntax.named 2) Syntax.mut (Syntax.tyInt Syntax.w16)) 2,
-) (List._∷_ (
-  6,
-  Mut.mslice (Element.type) (Syntax.tyRef (Syntax.named 3)
-      Syntax.mut Element.behind) 3,
-) (List._∷_ (
+  Mut.mslice (Referent.rtF (Referent.fInt Syntax.w16)) (Syntax.tyRef (Syntax.named 2) Syntax.mut (Syntax.tyInt
+      Syntax.w16)) 2,
+) (List._∷_ (6, Mut.mslice (Element.type) (Syntax.tyRef (Syntax.named 3) Syntax.mut Element.behind) 3) (List._∷_ (
   7,
-  Rows'.any-gone (Syntax.tyEnum (List._∷_ 115 (List._∷_ 116 (List._∷_ 114 (List._∷_ 101 (List._∷_ 97 (List._∷_ 109 (List._∷_ 58 (List._∷_ 58 (List._∷_ 80
-      (List._∷_ 97 (List._∷_ 114 (List._∷_ 115 (List._∷_ 101 (List._∷_ 100 List.[])))))))))))))) (Syntax.ttcons (Syntax.tcons (Syntax.tyStruct (List._∷_ 115 (List._∷_ 116 (List._∷_ 114 (List._∷_ 101
-      (List._∷_ 97 (List._∷_ 109 (List._∷_ 58 (List._∷_ 58 (List._∷_ 70 (List._∷_ 117 (List._∷_ 106 (List._∷_ 105 (List._∷_ 72 (List._∷_ 101 (List._∷_ 97 (List._∷_ 100 (List._∷_ 101 (List._∷_ 114
-      List.[])))))))))))))))))) (Syntax.tcons Syntax.tyBool (Syntax.tcons Syntax.tyBool (Syntax.tcons (Syntax.tyInt Syntax.w32) (Syntax.tcons (Syntax.tyInt Syntax.w32) (Syntax.tcons (Syntax.tyInt
-      Syntax.w32) (Syntax.tcons (Syntax.tyInt Syntax.w32) (Syntax.tcons (Syntax.tyInt Syntax.w32) (Syntax.tcons (Syntax.tyInt Syntax.w32) (Syntax.tcons (Syntax.tyInt Syntax.w32) Syntax.tnil))))))))))
-      Syntax.tnil) (Syntax.ttcons (Syntax.tcons (Syntax.tyEnum (List._∷_ 115 (List._∷_ 116 (List._∷_ 114 (List._∷_ 101 (List._∷_ 97 (List._∷_ 109 (List._∷_ 58 (List._∷_ 58 (List._∷_ 82 (List._∷_ 101
-      (List._∷_ 102 (List._∷_ 117 (List._∷_ 115 (List._∷_ 97 (List._∷_ 108 List.[]))))))))))))))) (Syntax.ttcons Syntax.tnil (Syntax.ttcons Syntax.tnil (Syntax.ttcons Syntax.tnil (Syntax.ttcons
-      (Syntax.tcons (Syntax.tyInt Syntax.w64) Syntax.tnil) (Syntax.ttcons Syntax.tnil (Syntax.ttcons Syntax.tnil (Syntax.ttcons Syntax.tnil (Syntax.ttcons Syntax.tnil (Syntax.ttcons Syntax.tnil
-      (Syntax.ttcons Syntax.tnil (Syntax.ttcons (Syntax.tcons (Syntax.tyInt Syntax.w64) Syntax.tnil) (Syntax.ttcons (Syntax.tcons (Syntax.tyInt Syntax.w64) Syntax.tnil) (Syntax.ttcons Syntax.tnil
-      (Syntax.ttcons (Syntax.tcons (Syntax.tyInt Syntax.w64) (Syntax.tcons (Syntax.tyInt Syntax.w64) Syntax.tnil)) (Syntax.ttcons (Syntax.tcons (Syntax.tyInt Syntax.w64) Syntax.tnil) (Syntax.ttcons
-      Syntax.tnil Syntax.ttnil))))))))))))))))) Syntax.tnil) Syntax.ttnil))),
-) (List._∷_ (
-  8,
-  Rows'.any-gone (Syntax.tyEnum (List._∷_ 115 (List._∷_ 116 (List._∷_ 114 (List._∷_ 101 (List._∷_ 97 (List._∷_
-      109 (List._∷_ 58 (List._∷_ 58 (List._∷_ 82 (List._∷_ 101 (List._∷_ 102 (List._∷_ 117 (List._∷_ 115 (List._∷_ 97 (List._∷_ 108 List.[]))))))))))))))) (Syntax.ttcons Syntax.tnil (Syntax.ttcons
+  Rows'.any-gone (Syntax.tyEnum (List._∷_ 115 (List._∷_ 116
+      (List._∷_ 114 (List._∷_ 101 (List._∷_ 97 (List._∷_ 109 (List._∷_ 58 (List._∷_ 58 (List._∷_ 80 (List._∷_ 97 (List._∷_ 114 (List._∷_ 115 (List._∷_ 101 (List._∷_ 100 List.[])))))))))))))) (Syntax.ttcons
+      (Syntax.tcons (Syntax.tyStruct (List._∷_ 115 (List._∷_ 116 (List._∷_ 114 (List._∷_ 101 (List._∷_ 97 (List._∷_ 109 (List._∷_ 58 (List._∷_ 58 (List._∷_ 70 (List._∷_ 117 (List._∷_ 106 (List._∷_ 105
+      (List._∷_ 72 (List._∷_ 101 (List._∷_ 97 (List._∷_ 100 (List._∷_ 101 (List._∷_ 114 List.[])))))))))))))))))) (Syntax.tcons Syntax.tyBool (Syntax.tcons Syntax.tyBool (Syntax.tcons (Syntax.tyInt
+      Syntax.w32) (Syntax.tcons (Syntax.tyInt Syntax.w32) (Syntax.tcons (Syntax.tyInt Syntax.w32) (Syntax.tcons (Syntax.tyInt Syntax.w32) (Syntax.tcons (Syntax.tyInt Syntax.w32) (Syntax.tcons (Syntax.tyInt
+      Syntax.w32) (Syntax.tcons (Syntax.tyInt Syntax.w32) Syntax.tnil)))))))))) Syntax.tnil) (Syntax.ttcons (Syntax.tcons (Syntax.tyEnum (List._∷_ 115 (List._∷_ 116 (List._∷_ 114 (List._∷_ 101 (List._∷_ 97
+      (List._∷_ 109 (List._∷_ 58 (List._∷_ 58 (List._∷_ 82 (List._∷_ 101 (List._∷_ 102 (List._∷_ 117 (List._∷_ 115 (List._∷_ 97 (List._∷_ 108 List.[]))))))))))))))) (Syntax.ttcons Syntax.tnil (Syntax.ttcons
       Syntax.tnil (Syntax.ttcons Syntax.tnil (Syntax.ttcons (Syntax.tcons (Syntax.tyInt Syntax.w64) Syntax.tnil) (Syntax.ttcons Syntax.tnil (Syntax.ttcons Syntax.tnil (Syntax.ttcons Syntax.tnil
       (Syntax.ttcons Syntax.tnil (Syntax.ttcons Syntax.tnil (Syntax.ttcons Syntax.tnil (Syntax.ttcons (Syntax.tcons (Syntax.tyInt Syntax.w64) Syntax.tnil) (Syntax.ttcons (Syntax.tcons (Syntax.tyInt
       Syntax.w64) Syntax.tnil) (Syntax.ttcons Syntax.tnil (Syntax.ttcons (Syntax.tcons (Syntax.tyInt Syntax.w64) (Syntax.tcons (Syntax.tyInt Syntax.w64) Syntax.tnil)) (Syntax.ttcons (Syntax.tcons
-      (Syntax.tyInt Syntax.w64) Syntax.tnil) (Syntax.ttcons Syntax.tnil Syntax.ttnil))))))))))))))))),
-) (List._∷_ (9, Rows'.whole (Declared'.row FujiHeader.the-type)) (List._∷_ (
-  10,
-  Rows'.any-gone
-      (Syntax.tyEnum (List._∷_ 98 (List._∷_ 108 (List._∷_ 111 (List._∷_ 99 (List._∷_ 107 (List._∷_ 58 (List._∷_ 58 (List._∷_ 68 (List._∷_ 101 (List._∷_ 99 (List._∷_ 111 (List._∷_ 100 (List._∷_ 101 (List._∷_
-      100 List.[])))))))))))))) (Syntax.ttcons Syntax.tnil (Syntax.ttcons (Syntax.tcons (Syntax.tyEnum (List._∷_ 115 (List._∷_ 116 (List._∷_ 114 (List._∷_ 101 (List._∷_ 97 (List._∷_ 109 (List._∷_ 58
-      (List._∷_ 58 (List._∷_ 82 (List._∷_ 101 (List._∷_ 102 (List._∷_ 117 (List._∷_ 115 (List._∷_ 97 (List._∷_ 108 List.[]))))))))))))))) (Syntax.ttcons Syntax.tnil (Syntax.ttcons Syntax.tnil (Syntax.ttcons
-      Syntax.tnil (Syntax.ttcons (Syntax.tcons (Syntax.tyInt Syntax.w64) Syntax.tnil) (Syntax.ttcons Syntax.tnil (Syntax.ttcons Syntax.tnil (Syntax.ttcons Syntax.tnil (Syntax.ttcons Syntax.tnil
-      (Syntax.ttcons Syntax.tnil (Syntax.ttcons Syntax.tnil (Syntax.ttcons (Syntax.tcons (Syntax.tyInt Syntax.w64) Syntax.tnil) (Syntax.ttcons (Syntax.tcons (Syntax.tyInt Syntax.w64) Syntax.tnil)
-      (Syntax.ttcons Syntax.tnil (Syntax.ttcons (Syntax.tcons (Syntax.tyInt Syntax.w64) (Syntax.tcons (Syntax.tyInt Syntax.w64) Syntax.tnil)) (Syntax.ttcons (Syntax.tcons (Syntax.tyInt Syntax.w64)
-      Syntax.tnil) (Syntax.ttcons Syntax.tnil Syntax.ttnil))))))))))))))))) Syntax.tnil) Syntax.ttnil))),
-) (List._∷_ (
-  11,
-  Relend.msptr (Referent.rtF (Referent.fInt Syntax.w16)) (Syntax.tyRef Syntax.erased
-      Syntax.mut (Syntax.tyInt Syntax.w16)) 4,
-) (List._∷_ (
-  12,
-  Rows'.any-gone (Syntax.tyStruct (List._∷_ 38 (List._∷_ 91 (List._∷_ 93 List.[]))) (Syntax.tcons (Syntax.tyRef Syntax.erased Syntax.mut
-      (Syntax.tyInt Syntax.w16)) (Syntax.tcons (Syntax.tyInt Syntax.w64) Syntax.tnil))),
-) (List._∷_ (13, Rows'.any-gone (Syntax.tyRef Syntax.erased Syntax.mut (Syntax.tyInt Syntax.w16))) (List._∷_ (
-  14,
-  Rows'.any-gone (Syntax.tyStruct (List._∷_ 38 (List._∷_ 91 (List._∷_ 93 List.[]))) (Syntax.tcons (Syntax.tyRef Syntax.erased Syntax.mut (Syntax.tyInt Syntax.w16)) (Syntax.tcons (Syntax.tyInt
-      Syntax.w64) Syntax.tnil))),
-) (List._∷_ (15, Rows'.any-gone (Syntax.tyRef Syntax.erased Syntax.mut Element.behind)) List.[])))))))))))))))
+      (Syntax.tyInt Syntax.w64) Syntax.tnil) (Syntax.ttcons Syntax.tnil (Syntax.ttcons Syntax.tnil (Syntax.ttcons (Syntax.tcons (Syntax.tyInt Syntax.w64) Syntax.tnil) (Syntax.ttcons (Syntax.tcons
+      (Syntax.tyInt Syntax.w64) Syntax.tnil) (Syntax.ttcons (Syntax.tcons (Syntax.tyInt Syntax.w64) Syntax.tnil) (Syntax.ttcons Syntax.tnil Syntax.ttnil)))))))))))))))))))))) Syntax.tnil) Syntax.ttnil))),
+)
+    (List._∷_ (
+      8,
+      Rows'.any-gone (Syntax.tyEnum (List._∷_ 115 (List._∷_ 116 (List._∷_ 114 (List._∷_ 101 (List._∷_ 97 (List._∷_ 109 (List._∷_ 58 (List._∷_ 58 (List._∷_ 82 (List._∷_ 101 (List._∷_ 102
+          (List._∷_ 117 (List._∷_ 115 (List._∷_ 97 (List._∷_ 108 List.[]))))))))))))))) (Syntax.ttcons Syntax.tnil (Syntax.ttcons Syntax.tnil (Syntax.ttcons Syntax.tnil (Syntax.ttcons (Syntax.tcons
+          (Syntax.tyInt Syntax.w64) Syntax.tnil) (Syntax.ttcons Syntax.tnil (Syntax.ttcons Syntax.tnil (Syntax.ttcons Syntax.tnil (Syntax.ttcons Syntax.tnil (Syntax.ttcons Syntax.tnil (Syntax.ttcons Syntax.tnil
+          (Syntax.ttcons (Syntax.tcons (Syntax.tyInt Syntax.w64) Syntax.tnil) (Syntax.ttcons (Syntax.tcons (Syntax.tyInt Syntax.w64) Syntax.tnil) (Syntax.ttcons Syntax.tnil (Syntax.ttcons (Syntax.tcons
+          (Syntax.tyInt Syntax.w64) (Syntax.tcons (Syntax.tyInt Syntax.w64) Syntax.tnil)) (Syntax.ttcons (Syntax.tcons (Syntax.tyInt Syntax.w64) Syntax.tnil) (Syntax.ttcons Syntax.tnil (Syntax.ttcons
+          Syntax.tnil (Syntax.ttcons (Syntax.tcons (Syntax.tyInt Syntax.w64) Syntax.tnil) (Syntax.ttcons (Syntax.tcons (Syntax.tyInt Syntax.w64) Syntax.tnil) (Syntax.ttcons (Syntax.tcons (Syntax.tyInt
+          Syntax.w64) Syntax.tnil) (Syntax.ttcons Syntax.tnil Syntax.ttnil)))))))))))))))))))))),
+    ) (List._∷_ (9, Rows'.whole (Declared'.row FujiHeader.the-type)) (List._∷_ (
+      10,
+      Rows'.any-gone (Syntax.tyEnum
+          (List._∷_ 98 (List._∷_ 108 (List._∷_ 111 (List._∷_ 99 (List._∷_ 107 (List._∷_ 58 (List._∷_ 58 (List._∷_ 68 (List._∷_ 101 (List._∷_ 99 (List._∷_ 111 (List._∷_ 100 (List._∷_ 101 (List._∷_ 100
+          List.[])))))))))))))) (Syntax.ttcons Syntax.tnil (Syntax.ttcons (Syntax.tcons (Syntax.tyEnum (List._∷_ 115 (List._∷_ 116 (List._∷_ 114 (List._∷_ 101 (List._∷_ 97 (List._∷_ 109 (List._∷_ 58 (List._∷_
+          58 (List._∷_ 82 (List._∷_ 101 (List._∷_ 102 (List._∷_ 117 (List._∷_ 115 (List._∷_ 97 (List._∷_ 108 List.[]))))))))))))))) (Syntax.ttcons Syntax.tnil (Syntax.ttcons Syntax.tnil (Syntax.ttcons
+          Syntax.tnil (Syntax.ttcons (Syntax.tcons (Syntax.tyInt Syntax.w64) Syntax.tnil) (Syntax.ttcons Syntax.tnil (Syntax.ttcons Syntax.tnil (Syntax.ttcons Syntax.tnil (Syntax.ttcons Syntax.tnil
+          (Syntax.ttcons Syntax.tnil (Syntax.ttcons Syntax.tnil (Syntax.ttcons (Syntax.tcons (Syntax.tyInt Syntax.w64) Syntax.tnil) (Syntax.ttcons (Syntax.tcons (Syntax.tyInt Syntax.w64) Syntax.tnil)
+          (Syntax.ttcons Syntax.tnil (Syntax.ttcons (Syntax.tcons (Syntax.tyInt Syntax.w64) (Syntax.tcons (Syntax.tyInt Syntax.w64) Syntax.tnil)) (Syntax.ttcons (Syntax.tcons (Syntax.tyInt Syntax.w64)
+          Syntax.tnil) (Syntax.ttcons Syntax.tnil (Syntax.ttcons Syntax.tnil (Syntax.ttcons (Syntax.tcons (Syntax.tyInt Syntax.w64) Syntax.tnil) (Syntax.ttcons (Syntax.tcons (Syntax.tyInt Syntax.w64)
+          Syntax.tnil) (Syntax.ttcons (Syntax.tcons (Syntax.tyInt Syntax.w64) Syntax.tnil) (Syntax.ttcons Syntax.tnil Syntax.ttnil)))))))))))))))))))))) Syntax.tnil) Syntax.ttnil))),
+    ) (List._∷_ (
+      11,
+      Relend.msptr (Referent.rtF (Referent.fInt Syntax.w16)) (Syntax.tyRef Syntax.erased Syntax.mut (Syntax.tyInt Syntax.w16)) 4,
+    ) (List._∷_ (
+      12,
+      Rows'.any-gone (Syntax.tyStruct (List._∷_ 38 (List._∷_ 91
+          (List._∷_ 93 List.[]))) (Syntax.tcons (Syntax.tyRef Syntax.erased Syntax.mut (Syntax.tyInt Syntax.w16)) (Syntax.tcons (Syntax.tyInt Syntax.w64) Syntax.tnil))),
+    ) (List._∷_ (
+      13,
+      Rows'.any-gone
+          (Syntax.tyRef Syntax.erased Syntax.mut (Syntax.tyInt Syntax.w16)),
+    ) (List._∷_ (
+      14,
+      Rows'.any-gone (Syntax.tyStruct (List._∷_ 38 (List._∷_ 91 (List._∷_ 93 List.[]))) (Syntax.tcons (Syntax.tyRef
+          Syntax.erased Syntax.mut (Syntax.tyInt Syntax.w16)) (Syntax.tcons (Syntax.tyInt Syntax.w64) Syntax.tnil))),
+    ) (List._∷_ (15, Rows'.any-gone (Syntax.tyRef Syntax.erased Syntax.mut Element.behind))
+    List.[])))))))))))))))
 
 abbrev pub t15 : List.List Row.Entry
 t15 = List._∷_ (
@@ -1299,65 +1324,71 @@ t15 = List._∷_ (
       (Syntax.ttcons Syntax.tnil (Syntax.ttcons Syntax.tnil (Syntax.ttcons (Syntax.tcons (Syntax.tyInt Syntax.w64) Syntax.tnil) (Syntax.ttcons Syntax.tnil (Syntax.ttcons Syntax.tnil (Syntax.ttcons
       Syntax.tnil (Syntax.ttcons Syntax.tnil (Syntax.ttcons Syntax.tnil (Syntax.ttcons Syntax.tnil (Syntax.ttcons (Syntax.tcons (Syntax.tyInt Syntax.w64) Syntax.tnil) (Syntax.ttcons (Syntax.tcons
       (Syntax.tyInt Syntax.w64) Syntax.tnil) (Syntax.ttcons Syntax.tnil (Syntax.ttcons (Syntax.tcons (Syntax.tyInt Syntax.w64) (Syntax.tcons (Syntax.tyInt Syntax.w64) Syntax.tnil)) (Syntax.ttcons
-      (Syntax.tcons (Syntax.tyInt Syntax.w64) Syntax.tnil) (Syntax.ttcons Syntax.tnil Syntax.ttnil))))))))))))))))) Syntax.tnil) Syntax.ttnil))),
+      (Syntax.tcons (Syntax.tyInt Syntax.w64) Syntax.tnil) (Syntax.ttcons Syntax.tnil (Syntax.ttcons Syntax.tnil (Syntax.ttcons (Syntax.tcons (Syntax.tyInt Syntax.w64) Syntax.tnil) (Syntax.ttcons
+      (Syntax.tcons (Syntax.tyInt Syntax.w64) Syntax.tnil) (Syntax.ttcons (Syntax.tcons (Syntax.tyInt Syntax.w64) Syntax.tnil) (Syntax.ttcons Syntax.tnil Syntax.ttnil)))))))))))))))))))))) Syntax.tnil)
+      Syntax.ttnil))),
+) (List._∷_ (1, Rows'.sslice (Referent.rtF (Referent.fInt Syntax.w8)) (Syntax.tyRef (Syntax.named 0) Syntax.imm (Syntax.tyInt Syntax.w8)) 0) (List._∷_ (
+  2,
+  Rows'.whole
+      (Declared'.row Rect.the-type),
+) (List._∷_ (3, Rows.arrF (Referent.rtF (Referent.fInt Syntax.w8)) 36 0) (List._∷_ (
+  4,
+  Relend.mslice-owed (Referent.rtF (Referent.fInt Syntax.w16)) (Syntax.tyRef
+      (Syntax.named 1) Syntax.mut (Syntax.tyInt Syntax.w16)) 1 4 Row.off,
 ) (List._∷_ (
-  1,
-  Rows'.sslice (Referent.rtF (Referent.fInt
-      Syntax.w8)) (Syntax.tyRef (Syntax.named 0) Syntax.imm (Syntax.tyInt Syntax.w8)) 0,
-) (List._∷_ (2, Rows'.whole (Declared'.row Rect.the-type)) (List._∷_ (
-  3,
-  Rows.arrF (Referent.rtF (Referent.fInt
-      Syntax.w8)) 36 0,
-) (List._∷_ (4, Relend.mslice-owed (Referent.rtF (Referent.fInt Syntax.w16)) (Syntax.tyRef (Syntax.named 1) Syntax.mut (Syntax.tyInt Syntax.w16)) 1 4 Row.off) (List._∷_ (
   5,
-  Mut.mslice (Referent.rtF (Referent.fInt Syntax.w16)) (Syntax.tyRef (Syntax.named 2) Syntax.mut (Syntax.tyInt Syntax.w16)) 2,
-) (List._∷_ (
-  6,
-  Mut.mslice (Element.type) (Syntax.tyRef (Syntax.named 3)
-      Syntax.mut Element.behind) 3,
-) (List._∷_ (
+  Mut.mslice (Referent.rtF (Referent.fInt Syntax.w16)) (Syntax.tyRef (Syntax.named 2) Syntax.mut (Syntax.tyInt
+      Syntax.w16)) 2,
+) (List._∷_ (6, Mut.mslice (Element.type) (Syntax.tyRef (Syntax.named 3) Syntax.mut Element.behind) 3) (List._∷_ (
   7,
-  Rows'.any-gone (Syntax.tyEnum (List._∷_ 115 (List._∷_ 116 (List._∷_ 114 (List._∷_ 101 (List._∷_ 97 (List._∷_ 109 (List._∷_ 58 (List._∷_ 58 (List._∷_ 80
-      (List._∷_ 97 (List._∷_ 114 (List._∷_ 115 (List._∷_ 101 (List._∷_ 100 List.[])))))))))))))) (Syntax.ttcons (Syntax.tcons (Syntax.tyStruct (List._∷_ 115 (List._∷_ 116 (List._∷_ 114 (List._∷_ 101
-      (List._∷_ 97 (List._∷_ 109 (List._∷_ 58 (List._∷_ 58 (List._∷_ 70 (List._∷_ 117 (List._∷_ 106 (List._∷_ 105 (List._∷_ 72 (List._∷_ 101 (List._∷_ 97 (List._∷_ 100 (List._∷_ 101 (List._∷_ 114
-      List.[])))))))))))))))))) (Syntax.tcons Syntax.tyBool (Syntax.tcons Syntax.tyBool (Syntax.tcons (Syntax.tyInt Syntax.w32) (Syntax.tcons (Syntax.tyInt Syntax.w32) (Syntax.tcons (Syntax.tyInt
-      Syntax.w32) (Syntax.tcons (Syntax.tyInt Syntax.w32) (Syntax.tcons (Syntax.tyInt Syntax.w32) (Syntax.tcons (Syntax.tyInt Syntax.w32) (Syntax.tcons (Syntax.tyInt Syntax.w32) Syntax.tnil))))))))))
-      Syntax.tnil) (Syntax.ttcons (Syntax.tcons (Syntax.tyEnum (List._∷_ 115 (List._∷_ 116 (List._∷_ 114 (List._∷_ 101 (List._∷_ 97 (List._∷_ 109 (List._∷_ 58 (List._∷_ 58 (List._∷_ 82 (List._∷_ 101
-      (List._∷_ 102 (List._∷_ 117 (List._∷_ 115 (List._∷_ 97 (List._∷_ 108 List.[]))))))))))))))) (Syntax.ttcons Syntax.tnil (Syntax.ttcons Syntax.tnil (Syntax.ttcons Syntax.tnil (Syntax.ttcons
-      (Syntax.tcons (Syntax.tyInt Syntax.w64) Syntax.tnil) (Syntax.ttcons Syntax.tnil (Syntax.ttcons Syntax.tnil (Syntax.ttcons Syntax.tnil (Syntax.ttcons Syntax.tnil (Syntax.ttcons Syntax.tnil
-      (Syntax.ttcons Syntax.tnil (Syntax.ttcons (Syntax.tcons (Syntax.tyInt Syntax.w64) Syntax.tnil) (Syntax.ttcons (Syntax.tcons (Syntax.tyInt Syntax.w64) Syntax.tnil) (Syntax.ttcons Syntax.tnil
-      (Syntax.ttcons (Syntax.tcons (Syntax.tyInt Syntax.w64) (Syntax.tcons (Syntax.tyInt Syntax.w64) Syntax.tnil)) (Syntax.ttcons (Syntax.tcons (Syntax.tyInt Syntax.w64) Syntax.tnil) (Syntax.ttcons
-      Syntax.tnil Syntax.ttnil))))))))))))))))) Syntax.tnil) Syntax.ttnil))),
-) (List._∷_ (
-  8,
-  Rows'.any-gone (Syntax.tyEnum (List._∷_ 115 (List._∷_ 116 (List._∷_ 114 (List._∷_ 101 (List._∷_ 97 (List._∷_
-      109 (List._∷_ 58 (List._∷_ 58 (List._∷_ 82 (List._∷_ 101 (List._∷_ 102 (List._∷_ 117 (List._∷_ 115 (List._∷_ 97 (List._∷_ 108 List.[]))))))))))))))) (Syntax.ttcons Syntax.tnil (Syntax.ttcons
+  Rows'.any-gone (Syntax.tyEnum (List._∷_ 115 (List._∷_ 116
+      (List._∷_ 114 (List._∷_ 101 (List._∷_ 97 (List._∷_ 109 (List._∷_ 58 (List._∷_ 58 (List._∷_ 80 (List._∷_ 97 (List._∷_ 114 (List._∷_ 115 (List._∷_ 101 (List._∷_ 100 List.[])))))))))))))) (Syntax.ttcons
+      (Syntax.tcons (Syntax.tyStruct (List._∷_ 115 (List._∷_ 116 (List._∷_ 114 (List._∷_ 101 (List._∷_ 97 (List._∷_ 109 (List._∷_ 58 (List._∷_ 58 (List._∷_ 70 (List._∷_ 117 (List._∷_ 106 (List._∷_ 105
+      (List._∷_ 72 (List._∷_ 101 (List._∷_ 97 (List._∷_ 100 (List._∷_ 101 (List._∷_ 114 List.[])))))))))))))))))) (Syntax.tcons Syntax.tyBool (Syntax.tcons Syntax.tyBool (Syntax.tcons (Syntax.tyInt
+      Syntax.w32) (Syntax.tcons (Syntax.tyInt Syntax.w32) (Syntax.tcons (Syntax.tyInt Syntax.w32) (Syntax.tcons (Syntax.tyInt Syntax.w32) (Syntax.tcons (Syntax.tyInt Syntax.w32) (Syntax.tcons (Syntax.tyInt
+      Syntax.w32) (Syntax.tcons (Syntax.tyInt Syntax.w32) Syntax.tnil)))))))))) Syntax.tnil) (Syntax.ttcons (Syntax.tcons (Syntax.tyEnum (List._∷_ 115 (List._∷_ 116 (List._∷_ 114 (List._∷_ 101 (List._∷_ 97
+      (List._∷_ 109 (List._∷_ 58 (List._∷_ 58 (List._∷_ 82 (List._∷_ 101 (List._∷_ 102 (List._∷_ 117 (List._∷_ 115 (List._∷_ 97 (List._∷_ 108 List.[]))))))))))))))) (Syntax.ttcons Syntax.tnil (Syntax.ttcons
       Syntax.tnil (Syntax.ttcons Syntax.tnil (Syntax.ttcons (Syntax.tcons (Syntax.tyInt Syntax.w64) Syntax.tnil) (Syntax.ttcons Syntax.tnil (Syntax.ttcons Syntax.tnil (Syntax.ttcons Syntax.tnil
       (Syntax.ttcons Syntax.tnil (Syntax.ttcons Syntax.tnil (Syntax.ttcons Syntax.tnil (Syntax.ttcons (Syntax.tcons (Syntax.tyInt Syntax.w64) Syntax.tnil) (Syntax.ttcons (Syntax.tcons (Syntax.tyInt
       Syntax.w64) Syntax.tnil) (Syntax.ttcons Syntax.tnil (Syntax.ttcons (Syntax.tcons (Syntax.tyInt Syntax.w64) (Syntax.tcons (Syntax.tyInt Syntax.w64) Syntax.tnil)) (Syntax.ttcons (Syntax.tcons
-      (Syntax.tyInt Syntax.w64) Syntax.tnil) (Syntax.ttcons Syntax.tnil Syntax.ttnil))))))))))))))))),
-) (List._∷_ (9, Rows'.whole (Declared'.row FujiHeader.the-type)) (List._∷_ (
-  10,
-  Rows'.any-gone
-      (Syntax.tyEnum (List._∷_ 98 (List._∷_ 108 (List._∷_ 111 (List._∷_ 99 (List._∷_ 107 (List._∷_ 58 (List._∷_ 58 (List._∷_ 68 (List._∷_ 101 (List._∷_ 99 (List._∷_ 111 (List._∷_ 100 (List._∷_ 101 (List._∷_
-      100 List.[])))))))))))))) (Syntax.ttcons Syntax.tnil (Syntax.ttcons (Syntax.tcons (Syntax.tyEnum (List._∷_ 115 (List._∷_ 116 (List._∷_ 114 (List._∷_ 101 (List._∷_ 97 (List._∷_ 109 (List._∷_ 58
-      (List._∷_ 58 (List._∷_ 82 (List._∷_ 101 (List._∷_ 102 (List._∷_ 117 (List._∷_ 115 (List._∷_ 97 (List._∷_ 108 List.[]))))))))))))))) (Syntax.ttcons Syntax.tnil (Syntax.ttcons Syntax.tnil (Syntax.ttcons
-      Syntax.tnil (Syntax.ttcons (Syntax.tcons (Syntax.tyInt Syntax.w64) Syntax.tnil) (Syntax.ttcons Syntax.tnil (Syntax.ttcons Syntax.tnil (Syntax.ttcons Syntax.tnil (Syntax.ttcons Syntax.tnil
-      (Syntax.ttcons Syntax.tnil (Syntax.ttcons Syntax.tnil (Syntax.ttcons (Syntax.tcons (Syntax.tyInt Syntax.w64) Syntax.tnil) (Syntax.ttcons (Syntax.tcons (Syntax.tyInt Syntax.w64) Syntax.tnil)
-      (Syntax.ttcons Syntax.tnil (Syntax.ttcons (Syntax.tcons (Syntax.tyInt Syntax.w64) (Syntax.tcons (Syntax.tyInt Syntax.w64) Syntax.tnil)) (Syntax.ttcons (Syntax.tcons (Syntax.tyInt Syntax.w64)
-      Syntax.tnil) (Syntax.ttcons Syntax.tnil Syntax.ttnil))))))))))))))))) Syntax.tnil) Syntax.ttnil))),
-) (List._∷_ (
-  11,
-  Rows'.any-gone (Syntax.tyRef Syntax.erased Syntax.mut (Syntax.tyInt Syntax.w16)),
-) (List._∷_ (12, Mut.mslice (Referent.rtF (Referent.fInt Syntax.w16)) (Syntax.tyRef Syntax.erased Syntax.mut (Syntax.tyInt Syntax.w16)) 4) (List._∷_ (
-  13,
-  Rows'.any-gone (Syntax.tyRef Syntax.erased
-      Syntax.mut (Syntax.tyInt Syntax.w16)),
-) (List._∷_ (
-  14,
-  Rows'.any-gone (Syntax.tyStruct (List._∷_ 38 (List._∷_ 91 (List._∷_ 93 List.[]))) (Syntax.tcons (Syntax.tyRef Syntax.erased Syntax.mut
-      (Syntax.tyInt Syntax.w16)) (Syntax.tcons (Syntax.tyInt Syntax.w64) Syntax.tnil))),
-) (List._∷_ (15, Rows'.any-gone (Syntax.tyRef Syntax.erased Syntax.mut Element.behind)) List.[])))))))))))))))
+      (Syntax.tyInt Syntax.w64) Syntax.tnil) (Syntax.ttcons Syntax.tnil (Syntax.ttcons Syntax.tnil (Syntax.ttcons (Syntax.tcons (Syntax.tyInt Syntax.w64) Syntax.tnil) (Syntax.ttcons (Syntax.tcons
+      (Syntax.tyInt Syntax.w64) Syntax.tnil) (Syntax.ttcons (Syntax.tcons (Syntax.tyInt Syntax.w64) Syntax.tnil) (Syntax.ttcons Syntax.tnil Syntax.ttnil)))))))))))))))))))))) Syntax.tnil) Syntax.ttnil))),
+)
+    (List._∷_ (
+      8,
+      Rows'.any-gone (Syntax.tyEnum (List._∷_ 115 (List._∷_ 116 (List._∷_ 114 (List._∷_ 101 (List._∷_ 97 (List._∷_ 109 (List._∷_ 58 (List._∷_ 58 (List._∷_ 82 (List._∷_ 101 (List._∷_ 102
+          (List._∷_ 117 (List._∷_ 115 (List._∷_ 97 (List._∷_ 108 List.[]))))))))))))))) (Syntax.ttcons Syntax.tnil (Syntax.ttcons Syntax.tnil (Syntax.ttcons Syntax.tnil (Syntax.ttcons (Syntax.tcons
+          (Syntax.tyInt Syntax.w64) Syntax.tnil) (Syntax.ttcons Syntax.tnil (Syntax.ttcons Syntax.tnil (Syntax.ttcons Syntax.tnil (Syntax.ttcons Syntax.tnil (Syntax.ttcons Syntax.tnil (Syntax.ttcons Syntax.tnil
+          (Syntax.ttcons (Syntax.tcons (Syntax.tyInt Syntax.w64) Syntax.tnil) (Syntax.ttcons (Syntax.tcons (Syntax.tyInt Syntax.w64) Syntax.tnil) (Syntax.ttcons Syntax.tnil (Syntax.ttcons (Syntax.tcons
+          (Syntax.tyInt Syntax.w64) (Syntax.tcons (Syntax.tyInt Syntax.w64) Syntax.tnil)) (Syntax.ttcons (Syntax.tcons (Syntax.tyInt Syntax.w64) Syntax.tnil) (Syntax.ttcons Syntax.tnil (Syntax.ttcons
+          Syntax.tnil (Syntax.ttcons (Syntax.tcons (Syntax.tyInt Syntax.w64) Syntax.tnil) (Syntax.ttcons (Syntax.tcons (Syntax.tyInt Syntax.w64) Syntax.tnil) (Syntax.ttcons (Syntax.tcons (Syntax.tyInt
+          Syntax.w64) Syntax.tnil) (Syntax.ttcons Syntax.tnil Syntax.ttnil)))))))))))))))))))))),
+    ) (List._∷_ (9, Rows'.whole (Declared'.row FujiHeader.the-type)) (List._∷_ (
+      10,
+      Rows'.any-gone (Syntax.tyEnum
+          (List._∷_ 98 (List._∷_ 108 (List._∷_ 111 (List._∷_ 99 (List._∷_ 107 (List._∷_ 58 (List._∷_ 58 (List._∷_ 68 (List._∷_ 101 (List._∷_ 99 (List._∷_ 111 (List._∷_ 100 (List._∷_ 101 (List._∷_ 100
+          List.[])))))))))))))) (Syntax.ttcons Syntax.tnil (Syntax.ttcons (Syntax.tcons (Syntax.tyEnum (List._∷_ 115 (List._∷_ 116 (List._∷_ 114 (List._∷_ 101 (List._∷_ 97 (List._∷_ 109 (List._∷_ 58 (List._∷_
+          58 (List._∷_ 82 (List._∷_ 101 (List._∷_ 102 (List._∷_ 117 (List._∷_ 115 (List._∷_ 97 (List._∷_ 108 List.[]))))))))))))))) (Syntax.ttcons Syntax.tnil (Syntax.ttcons Syntax.tnil (Syntax.ttcons
+          Syntax.tnil (Syntax.ttcons (Syntax.tcons (Syntax.tyInt Syntax.w64) Syntax.tnil) (Syntax.ttcons Syntax.tnil (Syntax.ttcons Syntax.tnil (Syntax.ttcons Syntax.tnil (Syntax.ttcons Syntax.tnil
+          (Syntax.ttcons Syntax.tnil (Syntax.ttcons Syntax.tnil (Syntax.ttcons (Syntax.tcons (Syntax.tyInt Syntax.w64) Syntax.tnil) (Syntax.ttcons (Syntax.tcons (Syntax.tyInt Syntax.w64) Syntax.tnil)
+          (Syntax.ttcons Syntax.tnil (Syntax.ttcons (Syntax.tcons (Syntax.tyInt Syntax.w64) (Syntax.tcons (Syntax.tyInt Syntax.w64) Syntax.tnil)) (Syntax.ttcons (Syntax.tcons (Syntax.tyInt Syntax.w64)
+          Syntax.tnil) (Syntax.ttcons Syntax.tnil (Syntax.ttcons Syntax.tnil (Syntax.ttcons (Syntax.tcons (Syntax.tyInt Syntax.w64) Syntax.tnil) (Syntax.ttcons (Syntax.tcons (Syntax.tyInt Syntax.w64)
+          Syntax.tnil) (Syntax.ttcons (Syntax.tcons (Syntax.tyInt Syntax.w64) Syntax.tnil) (Syntax.ttcons Syntax.tnil Syntax.ttnil)))))))))))))))))))))) Syntax.tnil) Syntax.ttnil))),
+    ) (List._∷_ (
+      11,
+      Rows'.any-gone (Syntax.tyRef Syntax.erased Syntax.mut (Syntax.tyInt Syntax.w16)),
+    ) (List._∷_ (
+      12,
+      Mut.mslice (Referent.rtF (Referent.fInt Syntax.w16)) (Syntax.tyRef Syntax.erased Syntax.mut
+          (Syntax.tyInt Syntax.w16)) 4,
+    ) (List._∷_ (13, Rows'.any-gone (Syntax.tyRef Syntax.erased Syntax.mut (Syntax.tyInt Syntax.w16))) (List._∷_ (
+      14,
+      Rows'.any-gone (Syntax.tyStruct (List._∷_ 38
+          (List._∷_ 91 (List._∷_ 93 List.[]))) (Syntax.tcons (Syntax.tyRef Syntax.erased Syntax.mut (Syntax.tyInt Syntax.w16)) (Syntax.tcons (Syntax.tyInt Syntax.w64) Syntax.tnil))),
+    ) (List._∷_ (
+      15,
+      Rows'.any-gone (Syntax.tyRef Syntax.erased Syntax.mut Element.behind),
+    ) List.[])))))))))))))))
 
 abbrev pub t16 : List.List Row.Entry
 t16 = List._∷_ (
@@ -1368,69 +1399,70 @@ t16 = List._∷_ (
       (Syntax.ttcons Syntax.tnil (Syntax.ttcons Syntax.tnil (Syntax.ttcons (Syntax.tcons (Syntax.tyInt Syntax.w64) Syntax.tnil) (Syntax.ttcons Syntax.tnil (Syntax.ttcons Syntax.tnil (Syntax.ttcons
       Syntax.tnil (Syntax.ttcons Syntax.tnil (Syntax.ttcons Syntax.tnil (Syntax.ttcons Syntax.tnil (Syntax.ttcons (Syntax.tcons (Syntax.tyInt Syntax.w64) Syntax.tnil) (Syntax.ttcons (Syntax.tcons
       (Syntax.tyInt Syntax.w64) Syntax.tnil) (Syntax.ttcons Syntax.tnil (Syntax.ttcons (Syntax.tcons (Syntax.tyInt Syntax.w64) (Syntax.tcons (Syntax.tyInt Syntax.w64) Syntax.tnil)) (Syntax.ttcons
-      (Syntax.tcons (Syntax.tyInt Syntax.w64) Syntax.tnil) (Syntax.ttcons Syntax.tnil Syntax.ttnil))))))))))))))))) Syntax.tnil) Syntax.ttnil))),
+      (Syntax.tcons (Syntax.tyInt Syntax.w64) Syntax.tnil) (Syntax.ttcons Syntax.tnil (Syntax.ttcons Syntax.tnil (Syntax.ttcons (Syntax.tcons (Syntax.tyInt Syntax.w64) Syntax.tnil) (Syntax.ttcons
+      (Syntax.tcons (Syntax.tyInt Syntax.w64) Syntax.tnil) (Syntax.ttcons (Syntax.tcons (Syntax.tyInt Syntax.w64) Syntax.tnil) (Syntax.ttcons Syntax.tnil Syntax.ttnil)))))))))))))))))))))) Syntax.tnil)
+      Syntax.ttnil))),
+) (List._∷_ (1, Rows'.sslice (Referent.rtF (Referent.fInt Syntax.w8)) (Syntax.tyRef (Syntax.named 0) Syntax.imm (Syntax.tyInt Syntax.w8)) 0) (List._∷_ (
+  2,
+  Rows'.whole
+      (Declared'.row Rect.the-type),
+) (List._∷_ (3, Rows.arrF (Referent.rtF (Referent.fInt Syntax.w8)) 36 0) (List._∷_ (
+  4,
+  Relend.mslice-owed (Referent.rtF (Referent.fInt Syntax.w16)) (Syntax.tyRef
+      (Syntax.named 1) Syntax.mut (Syntax.tyInt Syntax.w16)) 1 4 Row.off,
 ) (List._∷_ (
-  1,
-  Rows'.sslice (Referent.rtF (Referent.fInt
-      Syntax.w8)) (Syntax.tyRef (Syntax.named 0) Syntax.imm (Syntax.tyInt Syntax.w8)) 0,
-) (List._∷_ (2, Rows'.whole (Declared'.row Rect.the-type)) (List._∷_ (
-  3,
-  Rows.arrF (Referent.rtF (Referent.fInt
-      Syntax.w8)) 36 0,
-) (List._∷_ (4, Relend.mslice-owed (Referent.rtF (Referent.fInt Syntax.w16)) (Syntax.tyRef (Syntax.named 1) Syntax.mut (Syntax.tyInt Syntax.w16)) 1 4 Row.off) (List._∷_ (
   5,
-  Relend.mslice-owed (Referent.rtF (Referent.fInt Syntax.w16)) (Syntax.tyRef (Syntax.named 2) Syntax.mut (Syntax.tyInt Syntax.w16)) 2 5 Row.off,
-) (List._∷_ (
-  6,
-  Mut.mslice (Element.type) (Syntax.tyRef
-      (Syntax.named 3) Syntax.mut Element.behind) 3,
-) (List._∷_ (
+  Relend.mslice-owed (Referent.rtF (Referent.fInt Syntax.w16)) (Syntax.tyRef (Syntax.named 2) Syntax.mut
+      (Syntax.tyInt Syntax.w16)) 2 5 Row.off,
+) (List._∷_ (6, Mut.mslice (Element.type) (Syntax.tyRef (Syntax.named 3) Syntax.mut Element.behind) 3) (List._∷_ (
   7,
-  Rows'.any-gone (Syntax.tyEnum (List._∷_ 115 (List._∷_ 116 (List._∷_ 114 (List._∷_ 101 (List._∷_ 97 (List._∷_ 109 (List._∷_ 58 (List._∷_
-      58 (List._∷_ 80 (List._∷_ 97 (List._∷_ 114 (List._∷_ 115 (List._∷_ 101 (List._∷_ 100 List.[])))))))))))))) (Syntax.ttcons (Syntax.tcons (Syntax.tyStruct (List._∷_ 115 (List._∷_ 116 (List._∷_ 114
-      (List._∷_ 101 (List._∷_ 97 (List._∷_ 109 (List._∷_ 58 (List._∷_ 58 (List._∷_ 70 (List._∷_ 117 (List._∷_ 106 (List._∷_ 105 (List._∷_ 72 (List._∷_ 101 (List._∷_ 97 (List._∷_ 100 (List._∷_ 101 (List._∷_
-      114 List.[])))))))))))))))))) (Syntax.tcons Syntax.tyBool (Syntax.tcons Syntax.tyBool (Syntax.tcons (Syntax.tyInt Syntax.w32) (Syntax.tcons (Syntax.tyInt Syntax.w32) (Syntax.tcons (Syntax.tyInt
-      Syntax.w32) (Syntax.tcons (Syntax.tyInt Syntax.w32) (Syntax.tcons (Syntax.tyInt Syntax.w32) (Syntax.tcons (Syntax.tyInt Syntax.w32) (Syntax.tcons (Syntax.tyInt Syntax.w32) Syntax.tnil))))))))))
-      Syntax.tnil) (Syntax.ttcons (Syntax.tcons (Syntax.tyEnum (List._∷_ 115 (List._∷_ 116 (List._∷_ 114 (List._∷_ 101 (List._∷_ 97 (List._∷_ 109 (List._∷_ 58 (List._∷_ 58 (List._∷_ 82 (List._∷_ 101
-      (List._∷_ 102 (List._∷_ 117 (List._∷_ 115 (List._∷_ 97 (List._∷_ 108 List.[]))))))))))))))) (Syntax.ttcons Syntax.tnil (Syntax.ttcons Syntax.tnil (Syntax.ttcons Syntax.tnil (Syntax.ttcons
-      (Syntax.tcons (Syntax.tyInt Syntax.w64) Syntax.tnil) (Syntax.ttcons Syntax.tnil (Syntax.ttcons Syntax.tnil (Syntax.ttcons Syntax.tnil (Syntax.ttcons Syntax.tnil (Syntax.ttcons Syntax.tnil
-      (Syntax.ttcons Syntax.tnil (Syntax.ttcons (Syntax.tcons (Syntax.tyInt Syntax.w64) Syntax.tnil) (Syntax.ttcons (Syntax.tcons (Syntax.tyInt Syntax.w64) Syntax.tnil) (Syntax.ttcons Syntax.tnil
-      (Syntax.ttcons (Syntax.tcons (Syntax.tyInt Syntax.w64) (Syntax.tcons (Syntax.tyInt Syntax.w64) Syntax.tnil)) (Syntax.ttcons (Syntax.tcons (Syntax.tyInt Syntax.w64) Syntax.tnil) (Syntax.ttcons
-      Syntax.tnil Syntax.ttnil))))))))))))))))) Syntax.tnil) Syntax.ttnil))),
+  Rows'.any-gone (Syntax.tyEnum (List._∷_
+      115 (List._∷_ 116 (List._∷_ 114 (List._∷_ 101 (List._∷_ 97 (List._∷_ 109 (List._∷_ 58 (List._∷_ 58 (List._∷_ 80 (List._∷_ 97 (List._∷_ 114 (List._∷_ 115 (List._∷_ 101 (List._∷_ 100
+      List.[])))))))))))))) (Syntax.ttcons (Syntax.tcons (Syntax.tyStruct (List._∷_ 115 (List._∷_ 116 (List._∷_ 114 (List._∷_ 101 (List._∷_ 97 (List._∷_ 109 (List._∷_ 58 (List._∷_ 58 (List._∷_ 70 (List._∷_
+      117 (List._∷_ 106 (List._∷_ 105 (List._∷_ 72 (List._∷_ 101 (List._∷_ 97 (List._∷_ 100 (List._∷_ 101 (List._∷_ 114 List.[])))))))))))))))))) (Syntax.tcons Syntax.tyBool (Syntax.tcons Syntax.tyBool
+      (Syntax.tcons (Syntax.tyInt Syntax.w32) (Syntax.tcons (Syntax.tyInt Syntax.w32) (Syntax.tcons (Syntax.tyInt Syntax.w32) (Syntax.tcons (Syntax.tyInt Syntax.w32) (Syntax.tcons (Syntax.tyInt Syntax.w32)
+      (Syntax.tcons (Syntax.tyInt Syntax.w32) (Syntax.tcons (Syntax.tyInt Syntax.w32) Syntax.tnil)))))))))) Syntax.tnil) (Syntax.ttcons (Syntax.tcons (Syntax.tyEnum (List._∷_ 115 (List._∷_ 116 (List._∷_ 114
+      (List._∷_ 101 (List._∷_ 97 (List._∷_ 109 (List._∷_ 58 (List._∷_ 58 (List._∷_ 82 (List._∷_ 101 (List._∷_ 102 (List._∷_ 117 (List._∷_ 115 (List._∷_ 97 (List._∷_ 108 List.[]))))))))))))))) (Syntax.ttcons
+      Syntax.tnil (Syntax.ttcons Syntax.tnil (Syntax.ttcons Syntax.tnil (Syntax.ttcons (Syntax.tcons (Syntax.tyInt Syntax.w64) Syntax.tnil) (Syntax.ttcons Syntax.tnil (Syntax.ttcons Syntax.tnil
+      (Syntax.ttcons Syntax.tnil (Syntax.ttcons Syntax.tnil (Syntax.ttcons Syntax.tnil (Syntax.ttcons Syntax.tnil (Syntax.ttcons (Syntax.tcons (Syntax.tyInt Syntax.w64) Syntax.tnil) (Syntax.ttcons
+      (Syntax.tcons (Syntax.tyInt Syntax.w64) Syntax.tnil) (Syntax.ttcons Syntax.tnil (Syntax.ttcons (Syntax.tcons (Syntax.tyInt Syntax.w64) (Syntax.tcons (Syntax.tyInt Syntax.w64) Syntax.tnil))
+      (Syntax.ttcons (Syntax.tcons (Syntax.tyInt Syntax.w64) Syntax.tnil) (Syntax.ttcons Syntax.tnil (Syntax.ttcons Syntax.tnil (Syntax.ttcons (Syntax.tcons (Syntax.tyInt Syntax.w64) Syntax.tnil)
+      (Syntax.ttcons (Syntax.tcons (Syntax.tyInt Syntax.w64) Syntax.tnil) (Syntax.ttcons (Syntax.tcons (Syntax.tyInt Syntax.w64) Syntax.tnil) (Syntax.ttcons Syntax.tnil Syntax.ttnil))))))))))))))))))))))
+      Syntax.tnil) Syntax.ttnil))),
 ) (List._∷_ (
   8,
-  Rows'.any-gone (Syntax.tyEnum (List._∷_ 115 (List._∷_ 116 (List._∷_ 114 (List._∷_ 101 (List._∷_ 97 (List._∷_
-      109 (List._∷_ 58 (List._∷_ 58 (List._∷_ 82 (List._∷_ 101 (List._∷_ 102 (List._∷_ 117 (List._∷_ 115 (List._∷_ 97 (List._∷_ 108 List.[]))))))))))))))) (Syntax.ttcons Syntax.tnil (Syntax.ttcons
-      Syntax.tnil (Syntax.ttcons Syntax.tnil (Syntax.ttcons (Syntax.tcons (Syntax.tyInt Syntax.w64) Syntax.tnil) (Syntax.ttcons Syntax.tnil (Syntax.ttcons Syntax.tnil (Syntax.ttcons Syntax.tnil
-      (Syntax.ttcons Syntax.tnil (Syntax.ttcons Syntax.tnil (Syntax.ttcons Syntax.tnil (Syntax.ttcons (Syntax.tcons (Syntax.tyInt Syntax.w64) Syntax.tnil) (Syntax.ttcons (Syntax.tcons (Syntax.tyInt
-      Syntax.w64) Syntax.tnil) (Syntax.ttcons Syntax.tnil (Syntax.ttcons (Syntax.tcons (Syntax.tyInt Syntax.w64) (Syntax.tcons (Syntax.tyInt Syntax.w64) Syntax.tnil)) (Syntax.ttcons (Syntax.tcons
-      (Syntax.tyInt Syntax.w64) Syntax.tnil) (Syntax.ttcons Syntax.tnil Syntax.ttnil))))))))))))))))),
-) (List._∷_ (9, Rows'.whole (Declared'.row FujiHeader.the-type)) (List._∷_ (
-  10,
-  Rows'.any-gone
-      (Syntax.tyEnum (List._∷_ 98 (List._∷_ 108 (List._∷_ 111 (List._∷_ 99 (List._∷_ 107 (List._∷_ 58 (List._∷_ 58 (List._∷_ 68 (List._∷_ 101 (List._∷_ 99 (List._∷_ 111 (List._∷_ 100 (List._∷_ 101 (List._∷_
-      100 List.[])))))))))))))) (Syntax.ttcons Syntax.tnil (Syntax.ttcons (Syntax.tcons (Syntax.tyEnum (List._∷_ 115 (List._∷_ 116 (List._∷_ 114 (List._∷_ 101 (List._∷_ 97 (List._∷_ 109 (List._∷_ 58
-      (List._∷_ 58 (List._∷_ 82 (List._∷_ 101 (List._∷_ 102 (List._∷_ 117 (List._∷_ 115 (List._∷_ 97 (List._∷_ 108 List.[]))))))))))))))) (Syntax.ttcons Syntax.tnil (Syntax.ttcons Syntax.tnil (Syntax.ttcons
-      Syntax.tnil (Syntax.ttcons (Syntax.tcons (Syntax.tyInt Syntax.w64) Syntax.tnil) (Syntax.ttcons Syntax.tnil (Syntax.ttcons Syntax.tnil (Syntax.ttcons Syntax.tnil (Syntax.ttcons Syntax.tnil
+  Rows'.any-gone (Syntax.tyEnum (List._∷_ 115 (List._∷_ 116 (List._∷_ 114 (List._∷_ 101 (List._∷_ 97 (List._∷_ 109 (List._∷_ 58 (List._∷_ 58 (List._∷_ 82
+      (List._∷_ 101 (List._∷_ 102 (List._∷_ 117 (List._∷_ 115 (List._∷_ 97 (List._∷_ 108 List.[]))))))))))))))) (Syntax.ttcons Syntax.tnil (Syntax.ttcons Syntax.tnil (Syntax.ttcons Syntax.tnil
+      (Syntax.ttcons (Syntax.tcons (Syntax.tyInt Syntax.w64) Syntax.tnil) (Syntax.ttcons Syntax.tnil (Syntax.ttcons Syntax.tnil (Syntax.ttcons Syntax.tnil (Syntax.ttcons Syntax.tnil (Syntax.ttcons
+      Syntax.tnil (Syntax.ttcons Syntax.tnil (Syntax.ttcons (Syntax.tcons (Syntax.tyInt Syntax.w64) Syntax.tnil) (Syntax.ttcons (Syntax.tcons (Syntax.tyInt Syntax.w64) Syntax.tnil) (Syntax.ttcons
+      Syntax.tnil (Syntax.ttcons (Syntax.tcons (Syntax.tyInt Syntax.w64) (Syntax.tcons (Syntax.tyInt Syntax.w64) Syntax.tnil)) (Syntax.ttcons (Syntax.tcons (Syntax.tyInt Syntax.w64) Syntax.tnil)
       (Syntax.ttcons Syntax.tnil (Syntax.ttcons Syntax.tnil (Syntax.ttcons (Syntax.tcons (Syntax.tyInt Syntax.w64) Syntax.tnil) (Syntax.ttcons (Syntax.tcons (Syntax.tyInt Syntax.w64) Syntax.tnil)
-      (Syntax.ttcons Syntax.tnil (Syntax.ttcons (Syntax.tcons (Syntax.tyInt Syntax.w64) (Syntax.tcons (Syntax.tyInt Syntax.w64) Syntax.tnil)) (Syntax.ttcons (Syntax.tcons (Syntax.tyInt Syntax.w64)
-      Syntax.tnil) (Syntax.ttcons Syntax.tnil Syntax.ttnil))))))))))))))))) Syntax.tnil) Syntax.ttnil))),
-) (List._∷_ (
-  11,
-  Rows'.any-gone (Syntax.tyRef Syntax.erased Syntax.mut (Syntax.tyInt Syntax.w16)),
-) (List._∷_ (12, Mut.mslice (Referent.rtF (Referent.fInt Syntax.w16)) (Syntax.tyRef Syntax.erased Syntax.mut (Syntax.tyInt Syntax.w16)) 4) (List._∷_ (
-  13,
-  Relend.msptr (Referent.rtF (Referent.fInt
-      Syntax.w16)) (Syntax.tyRef Syntax.erased Syntax.mut (Syntax.tyInt Syntax.w16)) 5,
-) (List._∷_ (
-  14,
-  Rows'.any-gone (Syntax.tyStruct (List._∷_ 38 (List._∷_ 91 (List._∷_ 93 List.[]))) (Syntax.tcons
-      (Syntax.tyRef Syntax.erased Syntax.mut (Syntax.tyInt Syntax.w16)) (Syntax.tcons (Syntax.tyInt Syntax.w64) Syntax.tnil))),
-) (List._∷_ (
-  15,
-  Rows'.any-gone (Syntax.tyRef Syntax.erased Syntax.mut
-      Element.behind),
-) List.[])))))))))))))))
+      (Syntax.ttcons (Syntax.tcons (Syntax.tyInt Syntax.w64) Syntax.tnil) (Syntax.ttcons Syntax.tnil Syntax.ttnil)))))))))))))))))))))),
+) (List._∷_ (9, Rows'.whole (Declared'.row FujiHeader.the-type))
+    (List._∷_ (
+      10,
+      Rows'.any-gone (Syntax.tyEnum (List._∷_ 98 (List._∷_ 108 (List._∷_ 111 (List._∷_ 99 (List._∷_ 107 (List._∷_ 58 (List._∷_ 58 (List._∷_ 68 (List._∷_ 101 (List._∷_ 99 (List._∷_ 111
+          (List._∷_ 100 (List._∷_ 101 (List._∷_ 100 List.[])))))))))))))) (Syntax.ttcons Syntax.tnil (Syntax.ttcons (Syntax.tcons (Syntax.tyEnum (List._∷_ 115 (List._∷_ 116 (List._∷_ 114 (List._∷_ 101 (List._∷_
+          97 (List._∷_ 109 (List._∷_ 58 (List._∷_ 58 (List._∷_ 82 (List._∷_ 101 (List._∷_ 102 (List._∷_ 117 (List._∷_ 115 (List._∷_ 97 (List._∷_ 108 List.[]))))))))))))))) (Syntax.ttcons Syntax.tnil
+          (Syntax.ttcons Syntax.tnil (Syntax.ttcons Syntax.tnil (Syntax.ttcons (Syntax.tcons (Syntax.tyInt Syntax.w64) Syntax.tnil) (Syntax.ttcons Syntax.tnil (Syntax.ttcons Syntax.tnil (Syntax.ttcons
+          Syntax.tnil (Syntax.ttcons Syntax.tnil (Syntax.ttcons Syntax.tnil (Syntax.ttcons Syntax.tnil (Syntax.ttcons (Syntax.tcons (Syntax.tyInt Syntax.w64) Syntax.tnil) (Syntax.ttcons (Syntax.tcons
+          (Syntax.tyInt Syntax.w64) Syntax.tnil) (Syntax.ttcons Syntax.tnil (Syntax.ttcons (Syntax.tcons (Syntax.tyInt Syntax.w64) (Syntax.tcons (Syntax.tyInt Syntax.w64) Syntax.tnil)) (Syntax.ttcons
+          (Syntax.tcons (Syntax.tyInt Syntax.w64) Syntax.tnil) (Syntax.ttcons Syntax.tnil (Syntax.ttcons Syntax.tnil (Syntax.ttcons (Syntax.tcons (Syntax.tyInt Syntax.w64) Syntax.tnil) (Syntax.ttcons
+          (Syntax.tcons (Syntax.tyInt Syntax.w64) Syntax.tnil) (Syntax.ttcons (Syntax.tcons (Syntax.tyInt Syntax.w64) Syntax.tnil) (Syntax.ttcons Syntax.tnil Syntax.ttnil)))))))))))))))))))))) Syntax.tnil)
+          Syntax.ttnil))),
+    ) (List._∷_ (11, Rows'.any-gone (Syntax.tyRef Syntax.erased Syntax.mut (Syntax.tyInt Syntax.w16))) (List._∷_ (
+      12,
+      Mut.mslice (Referent.rtF (Referent.fInt Syntax.w16))
+          (Syntax.tyRef Syntax.erased Syntax.mut (Syntax.tyInt Syntax.w16)) 4,
+    ) (List._∷_ (
+      13,
+      Relend.msptr (Referent.rtF (Referent.fInt Syntax.w16)) (Syntax.tyRef Syntax.erased Syntax.mut (Syntax.tyInt
+          Syntax.w16)) 5,
+    ) (List._∷_ (
+      14,
+      Rows'.any-gone (Syntax.tyStruct (List._∷_ 38 (List._∷_ 91 (List._∷_ 93 List.[]))) (Syntax.tcons (Syntax.tyRef Syntax.erased Syntax.mut (Syntax.tyInt Syntax.w16))
+          (Syntax.tcons (Syntax.tyInt Syntax.w64) Syntax.tnil))),
+    ) (List._∷_ (15, Rows'.any-gone (Syntax.tyRef Syntax.erased Syntax.mut Element.behind)) List.[])))))))))))))))
 
 abbrev pub t17 : List.List Row.Entry
 t17 = List._∷_ (
@@ -1441,64 +1473,69 @@ t17 = List._∷_ (
       (Syntax.ttcons Syntax.tnil (Syntax.ttcons Syntax.tnil (Syntax.ttcons (Syntax.tcons (Syntax.tyInt Syntax.w64) Syntax.tnil) (Syntax.ttcons Syntax.tnil (Syntax.ttcons Syntax.tnil (Syntax.ttcons
       Syntax.tnil (Syntax.ttcons Syntax.tnil (Syntax.ttcons Syntax.tnil (Syntax.ttcons Syntax.tnil (Syntax.ttcons (Syntax.tcons (Syntax.tyInt Syntax.w64) Syntax.tnil) (Syntax.ttcons (Syntax.tcons
       (Syntax.tyInt Syntax.w64) Syntax.tnil) (Syntax.ttcons Syntax.tnil (Syntax.ttcons (Syntax.tcons (Syntax.tyInt Syntax.w64) (Syntax.tcons (Syntax.tyInt Syntax.w64) Syntax.tnil)) (Syntax.ttcons
-      (Syntax.tcons (Syntax.tyInt Syntax.w64) Syntax.tnil) (Syntax.ttcons Syntax.tnil Syntax.ttnil))))))))))))))))) Syntax.tnil) Syntax.ttnil))),
+      (Syntax.tcons (Syntax.tyInt Syntax.w64) Syntax.tnil) (Syntax.ttcons Syntax.tnil (Syntax.ttcons Syntax.tnil (Syntax.ttcons (Syntax.tcons (Syntax.tyInt Syntax.w64) Syntax.tnil) (Syntax.ttcons
+      (Syntax.tcons (Syntax.tyInt Syntax.w64) Syntax.tnil) (Syntax.ttcons (Syntax.tcons (Syntax.tyInt Syntax.w64) Syntax.tnil) (Syntax.ttcons Syntax.tnil Syntax.ttnil)))))))))))))))))))))) Syntax.tnil)
+      Syntax.ttnil))),
+) (List._∷_ (1, Rows'.sslice (Referent.rtF (Referent.fInt Syntax.w8)) (Syntax.tyRef (Syntax.named 0) Syntax.imm (Syntax.tyInt Syntax.w8)) 0) (List._∷_ (
+  2,
+  Rows'.whole
+      (Declared'.row Rect.the-type),
+) (List._∷_ (3, Rows.arrF (Referent.rtF (Referent.fInt Syntax.w8)) 36 0) (List._∷_ (
+  4,
+  Relend.mslice-owed (Referent.rtF (Referent.fInt Syntax.w16)) (Syntax.tyRef
+      (Syntax.named 1) Syntax.mut (Syntax.tyInt Syntax.w16)) 1 4 Row.off,
 ) (List._∷_ (
-  1,
-  Rows'.sslice (Referent.rtF (Referent.fInt
-      Syntax.w8)) (Syntax.tyRef (Syntax.named 0) Syntax.imm (Syntax.tyInt Syntax.w8)) 0,
-) (List._∷_ (2, Rows'.whole (Declared'.row Rect.the-type)) (List._∷_ (
-  3,
-  Rows.arrF (Referent.rtF (Referent.fInt
-      Syntax.w8)) 36 0,
-) (List._∷_ (4, Relend.mslice-owed (Referent.rtF (Referent.fInt Syntax.w16)) (Syntax.tyRef (Syntax.named 1) Syntax.mut (Syntax.tyInt Syntax.w16)) 1 4 Row.off) (List._∷_ (
   5,
-  Relend.mslice-owed (Referent.rtF (Referent.fInt Syntax.w16)) (Syntax.tyRef (Syntax.named 2) Syntax.mut (Syntax.tyInt Syntax.w16)) 2 5 Row.off,
-) (List._∷_ (
-  6,
-  Mut.mslice (Element.type) (Syntax.tyRef
-      (Syntax.named 3) Syntax.mut Element.behind) 3,
-) (List._∷_ (
+  Relend.mslice-owed (Referent.rtF (Referent.fInt Syntax.w16)) (Syntax.tyRef (Syntax.named 2) Syntax.mut
+      (Syntax.tyInt Syntax.w16)) 2 5 Row.off,
+) (List._∷_ (6, Mut.mslice (Element.type) (Syntax.tyRef (Syntax.named 3) Syntax.mut Element.behind) 3) (List._∷_ (
   7,
-  Rows'.any-gone (Syntax.tyEnum (List._∷_ 115 (List._∷_ 116 (List._∷_ 114 (List._∷_ 101 (List._∷_ 97 (List._∷_ 109 (List._∷_ 58 (List._∷_
-      58 (List._∷_ 80 (List._∷_ 97 (List._∷_ 114 (List._∷_ 115 (List._∷_ 101 (List._∷_ 100 List.[])))))))))))))) (Syntax.ttcons (Syntax.tcons (Syntax.tyStruct (List._∷_ 115 (List._∷_ 116 (List._∷_ 114
-      (List._∷_ 101 (List._∷_ 97 (List._∷_ 109 (List._∷_ 58 (List._∷_ 58 (List._∷_ 70 (List._∷_ 117 (List._∷_ 106 (List._∷_ 105 (List._∷_ 72 (List._∷_ 101 (List._∷_ 97 (List._∷_ 100 (List._∷_ 101 (List._∷_
-      114 List.[])))))))))))))))))) (Syntax.tcons Syntax.tyBool (Syntax.tcons Syntax.tyBool (Syntax.tcons (Syntax.tyInt Syntax.w32) (Syntax.tcons (Syntax.tyInt Syntax.w32) (Syntax.tcons (Syntax.tyInt
-      Syntax.w32) (Syntax.tcons (Syntax.tyInt Syntax.w32) (Syntax.tcons (Syntax.tyInt Syntax.w32) (Syntax.tcons (Syntax.tyInt Syntax.w32) (Syntax.tcons (Syntax.tyInt Syntax.w32) Syntax.tnil))))))))))
-      Syntax.tnil) (Syntax.ttcons (Syntax.tcons (Syntax.tyEnum (List._∷_ 115 (List._∷_ 116 (List._∷_ 114 (List._∷_ 101 (List._∷_ 97 (List._∷_ 109 (List._∷_ 58 (List._∷_ 58 (List._∷_ 82 (List._∷_ 101
-      (List._∷_ 102 (List._∷_ 117 (List._∷_ 115 (List._∷_ 97 (List._∷_ 108 List.[]))))))))))))))) (Syntax.ttcons Syntax.tnil (Syntax.ttcons Syntax.tnil (Syntax.ttcons Syntax.tnil (Syntax.ttcons
-      (Syntax.tcons (Syntax.tyInt Syntax.w64) Syntax.tnil) (Syntax.ttcons Syntax.tnil (Syntax.ttcons Syntax.tnil (Syntax.ttcons Syntax.tnil (Syntax.ttcons Syntax.tnil (Syntax.ttcons Syntax.tnil
-      (Syntax.ttcons Syntax.tnil (Syntax.ttcons (Syntax.tcons (Syntax.tyInt Syntax.w64) Syntax.tnil) (Syntax.ttcons (Syntax.tcons (Syntax.tyInt Syntax.w64) Syntax.tnil) (Syntax.ttcons Syntax.tnil
-      (Syntax.ttcons (Syntax.tcons (Syntax.tyInt Syntax.w64) (Syntax.tcons (Syntax.tyInt Syntax.w64) Syntax.tnil)) (Syntax.ttcons (Syntax.tcons (Syntax.tyInt Syntax.w64) Syntax.tnil) (Syntax.ttcons
-      Syntax.tnil Syntax.ttnil))))))))))))))))) Syntax.tnil) Syntax.ttnil))),
+  Rows'.any-gone (Syntax.tyEnum (List._∷_
+      115 (List._∷_ 116 (List._∷_ 114 (List._∷_ 101 (List._∷_ 97 (List._∷_ 109 (List._∷_ 58 (List._∷_ 58 (List._∷_ 80 (List._∷_ 97 (List._∷_ 114 (List._∷_ 115 (List._∷_ 101 (List._∷_ 100
+      List.[])))))))))))))) (Syntax.ttcons (Syntax.tcons (Syntax.tyStruct (List._∷_ 115 (List._∷_ 116 (List._∷_ 114 (List._∷_ 101 (List._∷_ 97 (List._∷_ 109 (List._∷_ 58 (List._∷_ 58 (List._∷_ 70 (List._∷_
+      117 (List._∷_ 106 (List._∷_ 105 (List._∷_ 72 (List._∷_ 101 (List._∷_ 97 (List._∷_ 100 (List._∷_ 101 (List._∷_ 114 List.[])))))))))))))))))) (Syntax.tcons Syntax.tyBool (Syntax.tcons Syntax.tyBool
+      (Syntax.tcons (Syntax.tyInt Syntax.w32) (Syntax.tcons (Syntax.tyInt Syntax.w32) (Syntax.tcons (Syntax.tyInt Syntax.w32) (Syntax.tcons (Syntax.tyInt Syntax.w32) (Syntax.tcons (Syntax.tyInt Syntax.w32)
+      (Syntax.tcons (Syntax.tyInt Syntax.w32) (Syntax.tcons (Syntax.tyInt Syntax.w32) Syntax.tnil)))))))))) Syntax.tnil) (Syntax.ttcons (Syntax.tcons (Syntax.tyEnum (List._∷_ 115 (List._∷_ 116 (List._∷_ 114
+      (List._∷_ 101 (List._∷_ 97 (List._∷_ 109 (List._∷_ 58 (List._∷_ 58 (List._∷_ 82 (List._∷_ 101 (List._∷_ 102 (List._∷_ 117 (List._∷_ 115 (List._∷_ 97 (List._∷_ 108 List.[]))))))))))))))) (Syntax.ttcons
+      Syntax.tnil (Syntax.ttcons Syntax.tnil (Syntax.ttcons Syntax.tnil (Syntax.ttcons (Syntax.tcons (Syntax.tyInt Syntax.w64) Syntax.tnil) (Syntax.ttcons Syntax.tnil (Syntax.ttcons Syntax.tnil
+      (Syntax.ttcons Syntax.tnil (Syntax.ttcons Syntax.tnil (Syntax.ttcons Syntax.tnil (Syntax.ttcons Syntax.tnil (Syntax.ttcons (Syntax.tcons (Syntax.tyInt Syntax.w64) Syntax.tnil) (Syntax.ttcons
+      (Syntax.tcons (Syntax.tyInt Syntax.w64) Syntax.tnil) (Syntax.ttcons Syntax.tnil (Syntax.ttcons (Syntax.tcons (Syntax.tyInt Syntax.w64) (Syntax.tcons (Syntax.tyInt Syntax.w64) Syntax.tnil))
+      (Syntax.ttcons (Syntax.tcons (Syntax.tyInt Syntax.w64) Syntax.tnil) (Syntax.ttcons Syntax.tnil (Syntax.ttcons Syntax.tnil (Syntax.ttcons (Syntax.tcons (Syntax.tyInt Syntax.w64) Syntax.tnil)
+      (Syntax.ttcons (Syntax.tcons (Syntax.tyInt Syntax.w64) Syntax.tnil) (Syntax.ttcons (Syntax.tcons (Syntax.tyInt Syntax.w64) Syntax.tnil) (Syntax.ttcons Syntax.tnil Syntax.ttnil))))))))))))))))))))))
+      Syntax.tnil) Syntax.ttnil))),
 ) (List._∷_ (
   8,
-  Rows'.any-gone (Syntax.tyEnum (List._∷_ 115 (List._∷_ 116 (List._∷_ 114 (List._∷_ 101 (List._∷_ 97 (List._∷_
-      109 (List._∷_ 58 (List._∷_ 58 (List._∷_ 82 (List._∷_ 101 (List._∷_ 102 (List._∷_ 117 (List._∷_ 115 (List._∷_ 97 (List._∷_ 108 List.[]))))))))))))))) (Syntax.ttcons Syntax.tnil (Syntax.ttcons
-      Syntax.tnil (Syntax.ttcons Syntax.tnil (Syntax.ttcons (Syntax.tcons (Syntax.tyInt Syntax.w64) Syntax.tnil) (Syntax.ttcons Syntax.tnil (Syntax.ttcons Syntax.tnil (Syntax.ttcons Syntax.tnil
-      (Syntax.ttcons Syntax.tnil (Syntax.ttcons Syntax.tnil (Syntax.ttcons Syntax.tnil (Syntax.ttcons (Syntax.tcons (Syntax.tyInt Syntax.w64) Syntax.tnil) (Syntax.ttcons (Syntax.tcons (Syntax.tyInt
-      Syntax.w64) Syntax.tnil) (Syntax.ttcons Syntax.tnil (Syntax.ttcons (Syntax.tcons (Syntax.tyInt Syntax.w64) (Syntax.tcons (Syntax.tyInt Syntax.w64) Syntax.tnil)) (Syntax.ttcons (Syntax.tcons
-      (Syntax.tyInt Syntax.w64) Syntax.tnil) (Syntax.ttcons Syntax.tnil Syntax.ttnil))))))))))))))))),
-) (List._∷_ (9, Rows'.whole (Declared'.row FujiHeader.the-type)) (List._∷_ (
-  10,
-  Rows'.any-gone
-      (Syntax.tyEnum (List._∷_ 98 (List._∷_ 108 (List._∷_ 111 (List._∷_ 99 (List._∷_ 107 (List._∷_ 58 (List._∷_ 58 (List._∷_ 68 (List._∷_ 101 (List._∷_ 99 (List._∷_ 111 (List._∷_ 100 (List._∷_ 101 (List._∷_
-      100 List.[])))))))))))))) (Syntax.ttcons Syntax.tnil (Syntax.ttcons (Syntax.tcons (Syntax.tyEnum (List._∷_ 115 (List._∷_ 116 (List._∷_ 114 (List._∷_ 101 (List._∷_ 97 (List._∷_ 109 (List._∷_ 58
-      (List._∷_ 58 (List._∷_ 82 (List._∷_ 101 (List._∷_ 102 (List._∷_ 117 (List._∷_ 115 (List._∷_ 97 (List._∷_ 108 List.[]))))))))))))))) (Syntax.ttcons Syntax.tnil (Syntax.ttcons Syntax.tnil (Syntax.ttcons
-      Syntax.tnil (Syntax.ttcons (Syntax.tcons (Syntax.tyInt Syntax.w64) Syntax.tnil) (Syntax.ttcons Syntax.tnil (Syntax.ttcons Syntax.tnil (Syntax.ttcons Syntax.tnil (Syntax.ttcons Syntax.tnil
+  Rows'.any-gone (Syntax.tyEnum (List._∷_ 115 (List._∷_ 116 (List._∷_ 114 (List._∷_ 101 (List._∷_ 97 (List._∷_ 109 (List._∷_ 58 (List._∷_ 58 (List._∷_ 82
+      (List._∷_ 101 (List._∷_ 102 (List._∷_ 117 (List._∷_ 115 (List._∷_ 97 (List._∷_ 108 List.[]))))))))))))))) (Syntax.ttcons Syntax.tnil (Syntax.ttcons Syntax.tnil (Syntax.ttcons Syntax.tnil
+      (Syntax.ttcons (Syntax.tcons (Syntax.tyInt Syntax.w64) Syntax.tnil) (Syntax.ttcons Syntax.tnil (Syntax.ttcons Syntax.tnil (Syntax.ttcons Syntax.tnil (Syntax.ttcons Syntax.tnil (Syntax.ttcons
+      Syntax.tnil (Syntax.ttcons Syntax.tnil (Syntax.ttcons (Syntax.tcons (Syntax.tyInt Syntax.w64) Syntax.tnil) (Syntax.ttcons (Syntax.tcons (Syntax.tyInt Syntax.w64) Syntax.tnil) (Syntax.ttcons
+      Syntax.tnil (Syntax.ttcons (Syntax.tcons (Syntax.tyInt Syntax.w64) (Syntax.tcons (Syntax.tyInt Syntax.w64) Syntax.tnil)) (Syntax.ttcons (Syntax.tcons (Syntax.tyInt Syntax.w64) Syntax.tnil)
       (Syntax.ttcons Syntax.tnil (Syntax.ttcons Syntax.tnil (Syntax.ttcons (Syntax.tcons (Syntax.tyInt Syntax.w64) Syntax.tnil) (Syntax.ttcons (Syntax.tcons (Syntax.tyInt Syntax.w64) Syntax.tnil)
-      (Syntax.ttcons Syntax.tnil (Syntax.ttcons (Syntax.tcons (Syntax.tyInt Syntax.w64) (Syntax.tcons (Syntax.tyInt Syntax.w64) Syntax.tnil)) (Syntax.ttcons (Syntax.tcons (Syntax.tyInt Syntax.w64)
-      Syntax.tnil) (Syntax.ttcons Syntax.tnil Syntax.ttnil))))))))))))))))) Syntax.tnil) Syntax.ttnil))),
-) (List._∷_ (
-  11,
-  Rows'.any-gone (Syntax.tyRef Syntax.erased Syntax.mut (Syntax.tyInt Syntax.w16)),
-) (List._∷_ (12, Mut.mslice (Referent.rtF (Referent.fInt Syntax.w16)) (Syntax.tyRef Syntax.erased Syntax.mut (Syntax.tyInt Syntax.w16)) 4) (List._∷_ (
-  13,
-  Rows'.any-gone (Syntax.tyRef Syntax.erased
-      Syntax.mut (Syntax.tyInt Syntax.w16)),
-) (List._∷_ (14, Mut.mslice (Referent.rtF (Referent.fInt Syntax.w16)) (Syntax.tyRef Syntax.erased Syntax.mut (Syntax.tyInt Syntax.w16)) 5) (List._∷_ (
-  15,
-  Rows'.any-gone (Syntax.tyRef Syntax.erased Syntax.mut Element.behind),
-) List.[])))))))))))))))
+      (Syntax.ttcons (Syntax.tcons (Syntax.tyInt Syntax.w64) Syntax.tnil) (Syntax.ttcons Syntax.tnil Syntax.ttnil)))))))))))))))))))))),
+) (List._∷_ (9, Rows'.whole (Declared'.row FujiHeader.the-type))
+    (List._∷_ (
+      10,
+      Rows'.any-gone (Syntax.tyEnum (List._∷_ 98 (List._∷_ 108 (List._∷_ 111 (List._∷_ 99 (List._∷_ 107 (List._∷_ 58 (List._∷_ 58 (List._∷_ 68 (List._∷_ 101 (List._∷_ 99 (List._∷_ 111
+          (List._∷_ 100 (List._∷_ 101 (List._∷_ 100 List.[])))))))))))))) (Syntax.ttcons Syntax.tnil (Syntax.ttcons (Syntax.tcons (Syntax.tyEnum (List._∷_ 115 (List._∷_ 116 (List._∷_ 114 (List._∷_ 101 (List._∷_
+          97 (List._∷_ 109 (List._∷_ 58 (List._∷_ 58 (List._∷_ 82 (List._∷_ 101 (List._∷_ 102 (List._∷_ 117 (List._∷_ 115 (List._∷_ 97 (List._∷_ 108 List.[]))))))))))))))) (Syntax.ttcons Syntax.tnil
+          (Syntax.ttcons Syntax.tnil (Syntax.ttcons Syntax.tnil (Syntax.ttcons (Syntax.tcons (Syntax.tyInt Syntax.w64) Syntax.tnil) (Syntax.ttcons Syntax.tnil (Syntax.ttcons Syntax.tnil (Syntax.ttcons
+          Syntax.tnil (Syntax.ttcons Syntax.tnil (Syntax.ttcons Syntax.tnil (Syntax.ttcons Syntax.tnil (Syntax.ttcons (Syntax.tcons (Syntax.tyInt Syntax.w64) Syntax.tnil) (Syntax.ttcons (Syntax.tcons
+          (Syntax.tyInt Syntax.w64) Syntax.tnil) (Syntax.ttcons Syntax.tnil (Syntax.ttcons (Syntax.tcons (Syntax.tyInt Syntax.w64) (Syntax.tcons (Syntax.tyInt Syntax.w64) Syntax.tnil)) (Syntax.ttcons
+          (Syntax.tcons (Syntax.tyInt Syntax.w64) Syntax.tnil) (Syntax.ttcons Syntax.tnil (Syntax.ttcons Syntax.tnil (Syntax.ttcons (Syntax.tcons (Syntax.tyInt Syntax.w64) Syntax.tnil) (Syntax.ttcons
+          (Syntax.tcons (Syntax.tyInt Syntax.w64) Syntax.tnil) (Syntax.ttcons (Syntax.tcons (Syntax.tyInt Syntax.w64) Syntax.tnil) (Syntax.ttcons Syntax.tnil Syntax.ttnil)))))))))))))))))))))) Syntax.tnil)
+          Syntax.ttnil))),
+    ) (List._∷_ (11, Rows'.any-gone (Syntax.tyRef Syntax.erased Syntax.mut (Syntax.tyInt Syntax.w16))) (List._∷_ (
+      12,
+      Mut.mslice (Referent.rtF (Referent.fInt Syntax.w16))
+          (Syntax.tyRef Syntax.erased Syntax.mut (Syntax.tyInt Syntax.w16)) 4,
+    ) (List._∷_ (13, Rows'.any-gone (Syntax.tyRef Syntax.erased Syntax.mut (Syntax.tyInt Syntax.w16))) (List._∷_ (
+      14,
+      Mut.mslice
+          (Referent.rtF (Referent.fInt Syntax.w16)) (Syntax.tyRef Syntax.erased Syntax.mut (Syntax.tyInt Syntax.w16)) 5,
+    ) (List._∷_ (
+      15,
+      Rows'.any-gone (Syntax.tyRef Syntax.erased Syntax.mut Element.behind),
+    ) List.[])))))))))))))))
 
 abbrev pub t18 : List.List Row.Entry
 t18 = List._∷_ (
@@ -1509,65 +1546,73 @@ t18 = List._∷_ (
       (Syntax.ttcons Syntax.tnil (Syntax.ttcons Syntax.tnil (Syntax.ttcons (Syntax.tcons (Syntax.tyInt Syntax.w64) Syntax.tnil) (Syntax.ttcons Syntax.tnil (Syntax.ttcons Syntax.tnil (Syntax.ttcons
       Syntax.tnil (Syntax.ttcons Syntax.tnil (Syntax.ttcons Syntax.tnil (Syntax.ttcons Syntax.tnil (Syntax.ttcons (Syntax.tcons (Syntax.tyInt Syntax.w64) Syntax.tnil) (Syntax.ttcons (Syntax.tcons
       (Syntax.tyInt Syntax.w64) Syntax.tnil) (Syntax.ttcons Syntax.tnil (Syntax.ttcons (Syntax.tcons (Syntax.tyInt Syntax.w64) (Syntax.tcons (Syntax.tyInt Syntax.w64) Syntax.tnil)) (Syntax.ttcons
-      (Syntax.tcons (Syntax.tyInt Syntax.w64) Syntax.tnil) (Syntax.ttcons Syntax.tnil Syntax.ttnil))))))))))))))))) Syntax.tnil) Syntax.ttnil))),
+      (Syntax.tcons (Syntax.tyInt Syntax.w64) Syntax.tnil) (Syntax.ttcons Syntax.tnil (Syntax.ttcons Syntax.tnil (Syntax.ttcons (Syntax.tcons (Syntax.tyInt Syntax.w64) Syntax.tnil) (Syntax.ttcons
+      (Syntax.tcons (Syntax.tyInt Syntax.w64) Syntax.tnil) (Syntax.ttcons (Syntax.tcons (Syntax.tyInt Syntax.w64) Syntax.tnil) (Syntax.ttcons Syntax.tnil Syntax.ttnil)))))))))))))))))))))) Syntax.tnil)
+      Syntax.ttnil))),
+) (List._∷_ (1, Rows'.sslice (Referent.rtF (Referent.fInt Syntax.w8)) (Syntax.tyRef (Syntax.named 0) Syntax.imm (Syntax.tyInt Syntax.w8)) 0) (List._∷_ (
+  2,
+  Rows'.whole
+      (Declared'.row Rect.the-type),
+) (List._∷_ (3, Rows.arrF (Referent.rtF (Referent.fInt Syntax.w8)) 36 0) (List._∷_ (
+  4,
+  Relend.mslice-owed (Referent.rtF (Referent.fInt Syntax.w16)) (Syntax.tyRef
+      (Syntax.named 1) Syntax.mut (Syntax.tyInt Syntax.w16)) 1 4 Row.off,
 ) (List._∷_ (
-  1,
-  Rows'.sslice (Referent.rtF (Referent.fInt
-      Syntax.w8)) (Syntax.tyRef (Syntax.named 0) Syntax.imm (Syntax.tyInt Syntax.w8)) 0,
-) (List._∷_ (2, Rows'.whole (Declared'.row Rect.the-type)) (List._∷_ (
-  3,
-  Rows.arrF (Referent.rtF (Referent.fInt
-      Syntax.w8)) 36 0,
-) (List._∷_ (4, Relend.mslice-owed (Referent.rtF (Referent.fInt Syntax.w16)) (Syntax.tyRef (Syntax.named 1) Syntax.mut (Syntax.tyInt Syntax.w16)) 1 4 Row.off) (List._∷_ (
   5,
-  Relend.mslice-owed (Referent.rtF (Referent.fInt Syntax.w16)) (Syntax.tyRef (Syntax.named 2) Syntax.mut (Syntax.tyInt Syntax.w16)) 2 5 Row.off,
-) (List._∷_ (
-  6,
-  Relend.mslice-owed (Element.type)
-      (Syntax.tyRef (Syntax.named 3) Syntax.mut Element.behind) 3 6 Row.off,
-) (List._∷_ (
+  Relend.mslice-owed (Referent.rtF (Referent.fInt Syntax.w16)) (Syntax.tyRef (Syntax.named 2) Syntax.mut
+      (Syntax.tyInt Syntax.w16)) 2 5 Row.off,
+) (List._∷_ (6, Relend.mslice-owed (Element.type) (Syntax.tyRef (Syntax.named 3) Syntax.mut Element.behind) 3 6 Row.off) (List._∷_ (
   7,
-  Rows'.any-gone (Syntax.tyEnum (List._∷_ 115 (List._∷_ 116 (List._∷_ 114 (List._∷_ 101 (List._∷_ 97 (List._∷_ 109
-      (List._∷_ 58 (List._∷_ 58 (List._∷_ 80 (List._∷_ 97 (List._∷_ 114 (List._∷_ 115 (List._∷_ 101 (List._∷_ 100 List.[])))))))))))))) (Syntax.ttcons (Syntax.tcons (Syntax.tyStruct (List._∷_ 115 (List._∷_
-      116 (List._∷_ 114 (List._∷_ 101 (List._∷_ 97 (List._∷_ 109 (List._∷_ 58 (List._∷_ 58 (List._∷_ 70 (List._∷_ 117 (List._∷_ 106 (List._∷_ 105 (List._∷_ 72 (List._∷_ 101 (List._∷_ 97 (List._∷_ 100
-      (List._∷_ 101 (List._∷_ 114 List.[])))))))))))))))))) (Syntax.tcons Syntax.tyBool (Syntax.tcons Syntax.tyBool (Syntax.tcons (Syntax.tyInt Syntax.w32) (Syntax.tcons (Syntax.tyInt Syntax.w32)
-      (Syntax.tcons (Syntax.tyInt Syntax.w32) (Syntax.tcons (Syntax.tyInt Syntax.w32) (Syntax.tcons (Syntax.tyInt Syntax.w32) (Syntax.tcons (Syntax.tyInt Syntax.w32) (Syntax.tcons (Syntax.tyInt Syntax.w32)
-      Syntax.tnil)))))))))) Syntax.tnil) (Syntax.ttcons (Syntax.tcons (Syntax.tyEnum (List._∷_ 115 (List._∷_ 116 (List._∷_ 114 (List._∷_ 101 (List._∷_ 97 (List._∷_ 109 (List._∷_ 58 (List._∷_ 58 (List._∷_ 82
-      (List._∷_ 101 (List._∷_ 102 (List._∷_ 117 (List._∷_ 115 (List._∷_ 97 (List._∷_ 108 List.[]))))))))))))))) (Syntax.ttcons Syntax.tnil (Syntax.ttcons Syntax.tnil (Syntax.ttcons Syntax.tnil
-      (Syntax.ttcons (Syntax.tcons (Syntax.tyInt Syntax.w64) Syntax.tnil) (Syntax.ttcons Syntax.tnil (Syntax.ttcons Syntax.tnil (Syntax.ttcons Syntax.tnil (Syntax.ttcons Syntax.tnil (Syntax.ttcons
-      Syntax.tnil (Syntax.ttcons Syntax.tnil (Syntax.ttcons (Syntax.tcons (Syntax.tyInt Syntax.w64) Syntax.tnil) (Syntax.ttcons (Syntax.tcons (Syntax.tyInt Syntax.w64) Syntax.tnil) (Syntax.ttcons
-      Syntax.tnil (Syntax.ttcons (Syntax.tcons (Syntax.tyInt Syntax.w64) (Syntax.tcons (Syntax.tyInt Syntax.w64) Syntax.tnil)) (Syntax.ttcons (Syntax.tcons (Syntax.tyInt Syntax.w64) Syntax.tnil)
-      (Syntax.ttcons Syntax.tnil Syntax.ttnil))))))))))))))))) Syntax.tnil) Syntax.ttnil))),
+  Rows'.any-gone
+      (Syntax.tyEnum (List._∷_ 115 (List._∷_ 116 (List._∷_ 114 (List._∷_ 101 (List._∷_ 97 (List._∷_ 109 (List._∷_ 58 (List._∷_ 58 (List._∷_ 80 (List._∷_ 97 (List._∷_ 114 (List._∷_ 115 (List._∷_ 101
+      (List._∷_ 100 List.[])))))))))))))) (Syntax.ttcons (Syntax.tcons (Syntax.tyStruct (List._∷_ 115 (List._∷_ 116 (List._∷_ 114 (List._∷_ 101 (List._∷_ 97 (List._∷_ 109 (List._∷_ 58 (List._∷_ 58 (List._∷_
+      70 (List._∷_ 117 (List._∷_ 106 (List._∷_ 105 (List._∷_ 72 (List._∷_ 101 (List._∷_ 97 (List._∷_ 100 (List._∷_ 101 (List._∷_ 114 List.[])))))))))))))))))) (Syntax.tcons Syntax.tyBool (Syntax.tcons
+      Syntax.tyBool (Syntax.tcons (Syntax.tyInt Syntax.w32) (Syntax.tcons (Syntax.tyInt Syntax.w32) (Syntax.tcons (Syntax.tyInt Syntax.w32) (Syntax.tcons (Syntax.tyInt Syntax.w32) (Syntax.tcons
+      (Syntax.tyInt Syntax.w32) (Syntax.tcons (Syntax.tyInt Syntax.w32) (Syntax.tcons (Syntax.tyInt Syntax.w32) Syntax.tnil)))))))))) Syntax.tnil) (Syntax.ttcons (Syntax.tcons (Syntax.tyEnum (List._∷_ 115
+      (List._∷_ 116 (List._∷_ 114 (List._∷_ 101 (List._∷_ 97 (List._∷_ 109 (List._∷_ 58 (List._∷_ 58 (List._∷_ 82 (List._∷_ 101 (List._∷_ 102 (List._∷_ 117 (List._∷_ 115 (List._∷_ 97 (List._∷_ 108
+      List.[]))))))))))))))) (Syntax.ttcons Syntax.tnil (Syntax.ttcons Syntax.tnil (Syntax.ttcons Syntax.tnil (Syntax.ttcons (Syntax.tcons (Syntax.tyInt Syntax.w64) Syntax.tnil) (Syntax.ttcons Syntax.tnil
+      (Syntax.ttcons Syntax.tnil (Syntax.ttcons Syntax.tnil (Syntax.ttcons Syntax.tnil (Syntax.ttcons Syntax.tnil (Syntax.ttcons Syntax.tnil (Syntax.ttcons (Syntax.tcons (Syntax.tyInt Syntax.w64)
+      Syntax.tnil) (Syntax.ttcons (Syntax.tcons (Syntax.tyInt Syntax.w64) Syntax.tnil) (Syntax.ttcons Syntax.tnil (Syntax.ttcons (Syntax.tcons (Syntax.tyInt Syntax.w64) (Syntax.tcons (Syntax.tyInt
+      Syntax.w64) Syntax.tnil)) (Syntax.ttcons (Syntax.tcons (Syntax.tyInt Syntax.w64) Syntax.tnil) (Syntax.ttcons Syntax.tnil (Syntax.ttcons Syntax.tnil (Syntax.ttcons (Syntax.tcons (Syntax.tyInt
+      Syntax.w64) Syntax.tnil) (Syntax.ttcons (Syntax.tcons (Syntax.tyInt Syntax.w64) Syntax.tnil) (Syntax.ttcons (Syntax.tcons (Syntax.tyInt Syntax.w64) Syntax.tnil) (Syntax.ttcons Syntax.tnil
+      Syntax.ttnil)))))))))))))))))))))) Syntax.tnil) Syntax.ttnil))),
 ) (List._∷_ (
   8,
-  Rows'.any-gone (Syntax.tyEnum (List._∷_ 115 (List._∷_ 116 (List._∷_ 114 (List._∷_ 101 (List._∷_
-      97 (List._∷_ 109 (List._∷_ 58 (List._∷_ 58 (List._∷_ 82 (List._∷_ 101 (List._∷_ 102 (List._∷_ 117 (List._∷_ 115 (List._∷_ 97 (List._∷_ 108 List.[]))))))))))))))) (Syntax.ttcons Syntax.tnil
-      (Syntax.ttcons Syntax.tnil (Syntax.ttcons Syntax.tnil (Syntax.ttcons (Syntax.tcons (Syntax.tyInt Syntax.w64) Syntax.tnil) (Syntax.ttcons Syntax.tnil (Syntax.ttcons Syntax.tnil (Syntax.ttcons
-      Syntax.tnil (Syntax.ttcons Syntax.tnil (Syntax.ttcons Syntax.tnil (Syntax.ttcons Syntax.tnil (Syntax.ttcons (Syntax.tcons (Syntax.tyInt Syntax.w64) Syntax.tnil) (Syntax.ttcons (Syntax.tcons
-      (Syntax.tyInt Syntax.w64) Syntax.tnil) (Syntax.ttcons Syntax.tnil (Syntax.ttcons (Syntax.tcons (Syntax.tyInt Syntax.w64) (Syntax.tcons (Syntax.tyInt Syntax.w64) Syntax.tnil)) (Syntax.ttcons
-      (Syntax.tcons (Syntax.tyInt Syntax.w64) Syntax.tnil) (Syntax.ttcons Syntax.tnil Syntax.ttnil))))))))))))))))),
-) (List._∷_ (9, Rows'.whole (Declared'.row FujiHeader.the-type)) (List._∷_ (
+  Rows'.any-gone (Syntax.tyEnum (List._∷_ 115 (List._∷_ 116 (List._∷_ 114 (List._∷_ 101 (List._∷_ 97 (List._∷_ 109
+      (List._∷_ 58 (List._∷_ 58 (List._∷_ 82 (List._∷_ 101 (List._∷_ 102 (List._∷_ 117 (List._∷_ 115 (List._∷_ 97 (List._∷_ 108 List.[]))))))))))))))) (Syntax.ttcons Syntax.tnil (Syntax.ttcons Syntax.tnil
+      (Syntax.ttcons Syntax.tnil (Syntax.ttcons (Syntax.tcons (Syntax.tyInt Syntax.w64) Syntax.tnil) (Syntax.ttcons Syntax.tnil (Syntax.ttcons Syntax.tnil (Syntax.ttcons Syntax.tnil (Syntax.ttcons
+      Syntax.tnil (Syntax.ttcons Syntax.tnil (Syntax.ttcons Syntax.tnil (Syntax.ttcons (Syntax.tcons (Syntax.tyInt Syntax.w64) Syntax.tnil) (Syntax.ttcons (Syntax.tcons (Syntax.tyInt Syntax.w64)
+      Syntax.tnil) (Syntax.ttcons Syntax.tnil (Syntax.ttcons (Syntax.tcons (Syntax.tyInt Syntax.w64) (Syntax.tcons (Syntax.tyInt Syntax.w64) Syntax.tnil)) (Syntax.ttcons (Syntax.tcons (Syntax.tyInt
+      Syntax.w64) Syntax.tnil) (Syntax.ttcons Syntax.tnil (Syntax.ttcons Syntax.tnil (Syntax.ttcons (Syntax.tcons (Syntax.tyInt Syntax.w64) Syntax.tnil) (Syntax.ttcons (Syntax.tcons (Syntax.tyInt
+      Syntax.w64) Syntax.tnil) (Syntax.ttcons (Syntax.tcons (Syntax.tyInt Syntax.w64) Syntax.tnil) (Syntax.ttcons Syntax.tnil Syntax.ttnil)))))))))))))))))))))),
+) (List._∷_ (
+  9,
+  Rows'.whole (Declared'.row
+      FujiHeader.the-type),
+) (List._∷_ (
   10,
-  Rows'.any-gone (Syntax.tyEnum (List._∷_ 98 (List._∷_ 108 (List._∷_ 111 (List._∷_ 99 (List._∷_ 107 (List._∷_ 58 (List._∷_ 58 (List._∷_ 68 (List._∷_ 101 (List._∷_ 99 (List._∷_ 111 (List._∷_ 100
-      (List._∷_ 101 (List._∷_ 100 List.[])))))))))))))) (Syntax.ttcons Syntax.tnil (Syntax.ttcons (Syntax.tcons (Syntax.tyEnum (List._∷_ 115 (List._∷_ 116 (List._∷_ 114 (List._∷_ 101 (List._∷_ 97 (List._∷_
-      109 (List._∷_ 58 (List._∷_ 58 (List._∷_ 82 (List._∷_ 101 (List._∷_ 102 (List._∷_ 117 (List._∷_ 115 (List._∷_ 97 (List._∷_ 108 List.[]))))))))))))))) (Syntax.ttcons Syntax.tnil (Syntax.ttcons
-      Syntax.tnil (Syntax.ttcons Syntax.tnil (Syntax.ttcons (Syntax.tcons (Syntax.tyInt Syntax.w64) Syntax.tnil) (Syntax.ttcons Syntax.tnil (Syntax.ttcons Syntax.tnil (Syntax.ttcons Syntax.tnil
-      (Syntax.ttcons Syntax.tnil (Syntax.ttcons Syntax.tnil (Syntax.ttcons Syntax.tnil (Syntax.ttcons (Syntax.tcons (Syntax.tyInt Syntax.w64) Syntax.tnil) (Syntax.ttcons (Syntax.tcons (Syntax.tyInt
-      Syntax.w64) Syntax.tnil) (Syntax.ttcons Syntax.tnil (Syntax.ttcons (Syntax.tcons (Syntax.tyInt Syntax.w64) (Syntax.tcons (Syntax.tyInt Syntax.w64) Syntax.tnil)) (Syntax.ttcons (Syntax.tcons
-      (Syntax.tyInt Syntax.w64) Syntax.tnil) (Syntax.ttcons Syntax.tnil Syntax.ttnil))))))))))))))))) Syntax.tnil) Syntax.ttnil))),
-) (List._∷_ (
-  11,
-  Rows'.any-gone (Syntax.tyRef Syntax.erased Syntax.mut
-      (Syntax.tyInt Syntax.w16)),
-) (List._∷_ (12, Mut.mslice (Referent.rtF (Referent.fInt Syntax.w16)) (Syntax.tyRef Syntax.erased Syntax.mut (Syntax.tyInt Syntax.w16)) 4) (List._∷_ (
-  13,
-  Rows'.any-gone
-      (Syntax.tyRef Syntax.erased Syntax.mut (Syntax.tyInt Syntax.w16)),
-) (List._∷_ (
+  Rows'.any-gone (Syntax.tyEnum (List._∷_ 98 (List._∷_ 108 (List._∷_ 111 (List._∷_ 99 (List._∷_ 107 (List._∷_ 58 (List._∷_ 58 (List._∷_ 68 (List._∷_ 101 (List._∷_
+      99 (List._∷_ 111 (List._∷_ 100 (List._∷_ 101 (List._∷_ 100 List.[])))))))))))))) (Syntax.ttcons Syntax.tnil (Syntax.ttcons (Syntax.tcons (Syntax.tyEnum (List._∷_ 115 (List._∷_ 116 (List._∷_ 114
+      (List._∷_ 101 (List._∷_ 97 (List._∷_ 109 (List._∷_ 58 (List._∷_ 58 (List._∷_ 82 (List._∷_ 101 (List._∷_ 102 (List._∷_ 117 (List._∷_ 115 (List._∷_ 97 (List._∷_ 108 List.[]))))))))))))))) (Syntax.ttcons
+      Syntax.tnil (Syntax.ttcons Syntax.tnil (Syntax.ttcons Syntax.tnil (Syntax.ttcons (Syntax.tcons (Syntax.tyInt Syntax.w64) Syntax.tnil) (Syntax.ttcons Syntax.tnil (Syntax.ttcons Syntax.tnil
+      (Syntax.ttcons Syntax.tnil (Syntax.ttcons Syntax.tnil (Syntax.ttcons Syntax.tnil (Syntax.ttcons Syntax.tnil (Syntax.ttcons (Syntax.tcons (Syntax.tyInt Syntax.w64) Syntax.tnil) (Syntax.ttcons
+      (Syntax.tcons (Syntax.tyInt Syntax.w64) Syntax.tnil) (Syntax.ttcons Syntax.tnil (Syntax.ttcons (Syntax.tcons (Syntax.tyInt Syntax.w64) (Syntax.tcons (Syntax.tyInt Syntax.w64) Syntax.tnil))
+      (Syntax.ttcons (Syntax.tcons (Syntax.tyInt Syntax.w64) Syntax.tnil) (Syntax.ttcons Syntax.tnil (Syntax.ttcons Syntax.tnil (Syntax.ttcons (Syntax.tcons (Syntax.tyInt Syntax.w64) Syntax.tnil)
+      (Syntax.ttcons (Syntax.tcons (Syntax.tyInt Syntax.w64) Syntax.tnil) (Syntax.ttcons (Syntax.tcons (Syntax.tyInt Syntax.w64) Syntax.tnil) (Syntax.ttcons Syntax.tnil Syntax.ttnil))))))))))))))))))))))
+      Syntax.tnil) Syntax.ttnil))),
+) (List._∷_ (11, Rows'.any-gone (Syntax.tyRef Syntax.erased Syntax.mut (Syntax.tyInt Syntax.w16))) (List._∷_ (
+  12,
+  Mut.mslice (Referent.rtF (Referent.fInt Syntax.w16))
+      (Syntax.tyRef Syntax.erased Syntax.mut (Syntax.tyInt Syntax.w16)) 4,
+) (List._∷_ (13, Rows'.any-gone (Syntax.tyRef Syntax.erased Syntax.mut (Syntax.tyInt Syntax.w16))) (List._∷_ (
   14,
-  Mut.mslice (Referent.rtF (Referent.fInt Syntax.w16)) (Syntax.tyRef Syntax.erased Syntax.mut (Syntax.tyInt
-      Syntax.w16)) 5,
-) (List._∷_ (15, Relend.msptr (Element.type) (Syntax.tyRef Syntax.erased Syntax.mut Element.behind) 6) List.[])))))))))))))))
+  Mut.mslice
+      (Referent.rtF (Referent.fInt Syntax.w16)) (Syntax.tyRef Syntax.erased Syntax.mut (Syntax.tyInt Syntax.w16)) 5,
+) (List._∷_ (
+  15,
+  Relend.msptr (Element.type) (Syntax.tyRef Syntax.erased Syntax.mut
+      Element.behind) 6,
+) List.[])))))))))))))))
 
 abbrev pub t19 : List.List Row.Entry
 t19 = List._∷_ (
@@ -1578,65 +1623,72 @@ t19 = List._∷_ (
       (Syntax.ttcons Syntax.tnil (Syntax.ttcons Syntax.tnil (Syntax.ttcons (Syntax.tcons (Syntax.tyInt Syntax.w64) Syntax.tnil) (Syntax.ttcons Syntax.tnil (Syntax.ttcons Syntax.tnil (Syntax.ttcons
       Syntax.tnil (Syntax.ttcons Syntax.tnil (Syntax.ttcons Syntax.tnil (Syntax.ttcons Syntax.tnil (Syntax.ttcons (Syntax.tcons (Syntax.tyInt Syntax.w64) Syntax.tnil) (Syntax.ttcons (Syntax.tcons
       (Syntax.tyInt Syntax.w64) Syntax.tnil) (Syntax.ttcons Syntax.tnil (Syntax.ttcons (Syntax.tcons (Syntax.tyInt Syntax.w64) (Syntax.tcons (Syntax.tyInt Syntax.w64) Syntax.tnil)) (Syntax.ttcons
-      (Syntax.tcons (Syntax.tyInt Syntax.w64) Syntax.tnil) (Syntax.ttcons Syntax.tnil Syntax.ttnil))))))))))))))))) Syntax.tnil) Syntax.ttnil))),
+      (Syntax.tcons (Syntax.tyInt Syntax.w64) Syntax.tnil) (Syntax.ttcons Syntax.tnil (Syntax.ttcons Syntax.tnil (Syntax.ttcons (Syntax.tcons (Syntax.tyInt Syntax.w64) Syntax.tnil) (Syntax.ttcons
+      (Syntax.tcons (Syntax.tyInt Syntax.w64) Syntax.tnil) (Syntax.ttcons (Syntax.tcons (Syntax.tyInt Syntax.w64) Syntax.tnil) (Syntax.ttcons Syntax.tnil Syntax.ttnil)))))))))))))))))))))) Syntax.tnil)
+      Syntax.ttnil))),
+) (List._∷_ (1, Rows'.sslice (Referent.rtF (Referent.fInt Syntax.w8)) (Syntax.tyRef (Syntax.named 0) Syntax.imm (Syntax.tyInt Syntax.w8)) 0) (List._∷_ (
+  2,
+  Rows'.whole
+      (Declared'.row Rect.the-type),
+) (List._∷_ (3, Rows.arrF (Referent.rtF (Referent.fInt Syntax.w8)) 36 0) (List._∷_ (
+  4,
+  Relend.mslice-owed (Referent.rtF (Referent.fInt Syntax.w16)) (Syntax.tyRef
+      (Syntax.named 1) Syntax.mut (Syntax.tyInt Syntax.w16)) 1 4 Row.off,
 ) (List._∷_ (
-  1,
-  Rows'.sslice (Referent.rtF (Referent.fInt
-      Syntax.w8)) (Syntax.tyRef (Syntax.named 0) Syntax.imm (Syntax.tyInt Syntax.w8)) 0,
-) (List._∷_ (2, Rows'.whole (Declared'.row Rect.the-type)) (List._∷_ (
-  3,
-  Rows.arrF (Referent.rtF (Referent.fInt
-      Syntax.w8)) 36 0,
-) (List._∷_ (4, Relend.mslice-owed (Referent.rtF (Referent.fInt Syntax.w16)) (Syntax.tyRef (Syntax.named 1) Syntax.mut (Syntax.tyInt Syntax.w16)) 1 4 Row.off) (List._∷_ (
   5,
-  Relend.mslice-owed (Referent.rtF (Referent.fInt Syntax.w16)) (Syntax.tyRef (Syntax.named 2) Syntax.mut (Syntax.tyInt Syntax.w16)) 2 5 Row.off,
-) (List._∷_ (
-  6,
-  Relend.mslice-owed (Element.type)
-      (Syntax.tyRef (Syntax.named 3) Syntax.mut Element.behind) 3 6 Row.off,
-) (List._∷_ (
+  Relend.mslice-owed (Referent.rtF (Referent.fInt Syntax.w16)) (Syntax.tyRef (Syntax.named 2) Syntax.mut
+      (Syntax.tyInt Syntax.w16)) 2 5 Row.off,
+) (List._∷_ (6, Relend.mslice-owed (Element.type) (Syntax.tyRef (Syntax.named 3) Syntax.mut Element.behind) 3 6 Row.off) (List._∷_ (
   7,
-  Rows'.any-gone (Syntax.tyEnum (List._∷_ 115 (List._∷_ 116 (List._∷_ 114 (List._∷_ 101 (List._∷_ 97 (List._∷_ 109
-      (List._∷_ 58 (List._∷_ 58 (List._∷_ 80 (List._∷_ 97 (List._∷_ 114 (List._∷_ 115 (List._∷_ 101 (List._∷_ 100 List.[])))))))))))))) (Syntax.ttcons (Syntax.tcons (Syntax.tyStruct (List._∷_ 115 (List._∷_
-      116 (List._∷_ 114 (List._∷_ 101 (List._∷_ 97 (List._∷_ 109 (List._∷_ 58 (List._∷_ 58 (List._∷_ 70 (List._∷_ 117 (List._∷_ 106 (List._∷_ 105 (List._∷_ 72 (List._∷_ 101 (List._∷_ 97 (List._∷_ 100
-      (List._∷_ 101 (List._∷_ 114 List.[])))))))))))))))))) (Syntax.tcons Syntax.tyBool (Syntax.tcons Syntax.tyBool (Syntax.tcons (Syntax.tyInt Syntax.w32) (Syntax.tcons (Syntax.tyInt Syntax.w32)
-      (Syntax.tcons (Syntax.tyInt Syntax.w32) (Syntax.tcons (Syntax.tyInt Syntax.w32) (Syntax.tcons (Syntax.tyInt Syntax.w32) (Syntax.tcons (Syntax.tyInt Syntax.w32) (Syntax.tcons (Syntax.tyInt Syntax.w32)
-      Syntax.tnil)))))))))) Syntax.tnil) (Syntax.ttcons (Syntax.tcons (Syntax.tyEnum (List._∷_ 115 (List._∷_ 116 (List._∷_ 114 (List._∷_ 101 (List._∷_ 97 (List._∷_ 109 (List._∷_ 58 (List._∷_ 58 (List._∷_ 82
-      (List._∷_ 101 (List._∷_ 102 (List._∷_ 117 (List._∷_ 115 (List._∷_ 97 (List._∷_ 108 List.[]))))))))))))))) (Syntax.ttcons Syntax.tnil (Syntax.ttcons Syntax.tnil (Syntax.ttcons Syntax.tnil
-      (Syntax.ttcons (Syntax.tcons (Syntax.tyInt Syntax.w64) Syntax.tnil) (Syntax.ttcons Syntax.tnil (Syntax.ttcons Syntax.tnil (Syntax.ttcons Syntax.tnil (Syntax.ttcons Syntax.tnil (Syntax.ttcons
-      Syntax.tnil (Syntax.ttcons Syntax.tnil (Syntax.ttcons (Syntax.tcons (Syntax.tyInt Syntax.w64) Syntax.tnil) (Syntax.ttcons (Syntax.tcons (Syntax.tyInt Syntax.w64) Syntax.tnil) (Syntax.ttcons
-      Syntax.tnil (Syntax.ttcons (Syntax.tcons (Syntax.tyInt Syntax.w64) (Syntax.tcons (Syntax.tyInt Syntax.w64) Syntax.tnil)) (Syntax.ttcons (Syntax.tcons (Syntax.tyInt Syntax.w64) Syntax.tnil)
-      (Syntax.ttcons Syntax.tnil Syntax.ttnil))))))))))))))))) Syntax.tnil) Syntax.ttnil))),
+  Rows'.any-gone
+      (Syntax.tyEnum (List._∷_ 115 (List._∷_ 116 (List._∷_ 114 (List._∷_ 101 (List._∷_ 97 (List._∷_ 109 (List._∷_ 58 (List._∷_ 58 (List._∷_ 80 (List._∷_ 97 (List._∷_ 114 (List._∷_ 115 (List._∷_ 101
+      (List._∷_ 100 List.[])))))))))))))) (Syntax.ttcons (Syntax.tcons (Syntax.tyStruct (List._∷_ 115 (List._∷_ 116 (List._∷_ 114 (List._∷_ 101 (List._∷_ 97 (List._∷_ 109 (List._∷_ 58 (List._∷_ 58 (List._∷_
+      70 (List._∷_ 117 (List._∷_ 106 (List._∷_ 105 (List._∷_ 72 (List._∷_ 101 (List._∷_ 97 (List._∷_ 100 (List._∷_ 101 (List._∷_ 114 List.[])))))))))))))))))) (Syntax.tcons Syntax.tyBool (Syntax.tcons
+      Syntax.tyBool (Syntax.tcons (Syntax.tyInt Syntax.w32) (Syntax.tcons (Syntax.tyInt Syntax.w32) (Syntax.tcons (Syntax.tyInt Syntax.w32) (Syntax.tcons (Syntax.tyInt Syntax.w32) (Syntax.tcons
+      (Syntax.tyInt Syntax.w32) (Syntax.tcons (Syntax.tyInt Syntax.w32) (Syntax.tcons (Syntax.tyInt Syntax.w32) Syntax.tnil)))))))))) Syntax.tnil) (Syntax.ttcons (Syntax.tcons (Syntax.tyEnum (List._∷_ 115
+      (List._∷_ 116 (List._∷_ 114 (List._∷_ 101 (List._∷_ 97 (List._∷_ 109 (List._∷_ 58 (List._∷_ 58 (List._∷_ 82 (List._∷_ 101 (List._∷_ 102 (List._∷_ 117 (List._∷_ 115 (List._∷_ 97 (List._∷_ 108
+      List.[]))))))))))))))) (Syntax.ttcons Syntax.tnil (Syntax.ttcons Syntax.tnil (Syntax.ttcons Syntax.tnil (Syntax.ttcons (Syntax.tcons (Syntax.tyInt Syntax.w64) Syntax.tnil) (Syntax.ttcons Syntax.tnil
+      (Syntax.ttcons Syntax.tnil (Syntax.ttcons Syntax.tnil (Syntax.ttcons Syntax.tnil (Syntax.ttcons Syntax.tnil (Syntax.ttcons Syntax.tnil (Syntax.ttcons (Syntax.tcons (Syntax.tyInt Syntax.w64)
+      Syntax.tnil) (Syntax.ttcons (Syntax.tcons (Syntax.tyInt Syntax.w64) Syntax.tnil) (Syntax.ttcons Syntax.tnil (Syntax.ttcons (Syntax.tcons (Syntax.tyInt Syntax.w64) (Syntax.tcons (Syntax.tyInt
+      Syntax.w64) Syntax.tnil)) (Syntax.ttcons (Syntax.tcons (Syntax.tyInt Syntax.w64) Syntax.tnil) (Syntax.ttcons Syntax.tnil (Syntax.ttcons Syntax.tnil (Syntax.ttcons (Syntax.tcons (Syntax.tyInt
+      Syntax.w64) Syntax.tnil) (Syntax.ttcons (Syntax.tcons (Syntax.tyInt Syntax.w64) Syntax.tnil) (Syntax.ttcons (Syntax.tcons (Syntax.tyInt Syntax.w64) Syntax.tnil) (Syntax.ttcons Syntax.tnil
+      Syntax.ttnil)))))))))))))))))))))) Syntax.tnil) Syntax.ttnil))),
 ) (List._∷_ (
   8,
-  Rows'.any-gone (Syntax.tyEnum (List._∷_ 115 (List._∷_ 116 (List._∷_ 114 (List._∷_ 101 (List._∷_
-      97 (List._∷_ 109 (List._∷_ 58 (List._∷_ 58 (List._∷_ 82 (List._∷_ 101 (List._∷_ 102 (List._∷_ 117 (List._∷_ 115 (List._∷_ 97 (List._∷_ 108 List.[]))))))))))))))) (Syntax.ttcons Syntax.tnil
-      (Syntax.ttcons Syntax.tnil (Syntax.ttcons Syntax.tnil (Syntax.ttcons (Syntax.tcons (Syntax.tyInt Syntax.w64) Syntax.tnil) (Syntax.ttcons Syntax.tnil (Syntax.ttcons Syntax.tnil (Syntax.ttcons
-      Syntax.tnil (Syntax.ttcons Syntax.tnil (Syntax.ttcons Syntax.tnil (Syntax.ttcons Syntax.tnil (Syntax.ttcons (Syntax.tcons (Syntax.tyInt Syntax.w64) Syntax.tnil) (Syntax.ttcons (Syntax.tcons
-      (Syntax.tyInt Syntax.w64) Syntax.tnil) (Syntax.ttcons Syntax.tnil (Syntax.ttcons (Syntax.tcons (Syntax.tyInt Syntax.w64) (Syntax.tcons (Syntax.tyInt Syntax.w64) Syntax.tnil)) (Syntax.ttcons
-      (Syntax.tcons (Syntax.tyInt Syntax.w64) Syntax.tnil) (Syntax.ttcons Syntax.tnil Syntax.ttnil))))))))))))))))),
-) (List._∷_ (9, Rows'.whole (Declared'.row FujiHeader.the-type)) (List._∷_ (
+  Rows'.any-gone (Syntax.tyEnum (List._∷_ 115 (List._∷_ 116 (List._∷_ 114 (List._∷_ 101 (List._∷_ 97 (List._∷_ 109
+      (List._∷_ 58 (List._∷_ 58 (List._∷_ 82 (List._∷_ 101 (List._∷_ 102 (List._∷_ 117 (List._∷_ 115 (List._∷_ 97 (List._∷_ 108 List.[]))))))))))))))) (Syntax.ttcons Syntax.tnil (Syntax.ttcons Syntax.tnil
+      (Syntax.ttcons Syntax.tnil (Syntax.ttcons (Syntax.tcons (Syntax.tyInt Syntax.w64) Syntax.tnil) (Syntax.ttcons Syntax.tnil (Syntax.ttcons Syntax.tnil (Syntax.ttcons Syntax.tnil (Syntax.ttcons
+      Syntax.tnil (Syntax.ttcons Syntax.tnil (Syntax.ttcons Syntax.tnil (Syntax.ttcons (Syntax.tcons (Syntax.tyInt Syntax.w64) Syntax.tnil) (Syntax.ttcons (Syntax.tcons (Syntax.tyInt Syntax.w64)
+      Syntax.tnil) (Syntax.ttcons Syntax.tnil (Syntax.ttcons (Syntax.tcons (Syntax.tyInt Syntax.w64) (Syntax.tcons (Syntax.tyInt Syntax.w64) Syntax.tnil)) (Syntax.ttcons (Syntax.tcons (Syntax.tyInt
+      Syntax.w64) Syntax.tnil) (Syntax.ttcons Syntax.tnil (Syntax.ttcons Syntax.tnil (Syntax.ttcons (Syntax.tcons (Syntax.tyInt Syntax.w64) Syntax.tnil) (Syntax.ttcons (Syntax.tcons (Syntax.tyInt
+      Syntax.w64) Syntax.tnil) (Syntax.ttcons (Syntax.tcons (Syntax.tyInt Syntax.w64) Syntax.tnil) (Syntax.ttcons Syntax.tnil Syntax.ttnil)))))))))))))))))))))),
+) (List._∷_ (
+  9,
+  Rows'.whole (Declared'.row
+      FujiHeader.the-type),
+) (List._∷_ (
   10,
-  Rows'.any-gone (Syntax.tyEnum (List._∷_ 98 (List._∷_ 108 (List._∷_ 111 (List._∷_ 99 (List._∷_ 107 (List._∷_ 58 (List._∷_ 58 (List._∷_ 68 (List._∷_ 101 (List._∷_ 99 (List._∷_ 111 (List._∷_ 100
-      (List._∷_ 101 (List._∷_ 100 List.[])))))))))))))) (Syntax.ttcons Syntax.tnil (Syntax.ttcons (Syntax.tcons (Syntax.tyEnum (List._∷_ 115 (List._∷_ 116 (List._∷_ 114 (List._∷_ 101 (List._∷_ 97 (List._∷_
-      109 (List._∷_ 58 (List._∷_ 58 (List._∷_ 82 (List._∷_ 101 (List._∷_ 102 (List._∷_ 117 (List._∷_ 115 (List._∷_ 97 (List._∷_ 108 List.[]))))))))))))))) (Syntax.ttcons Syntax.tnil (Syntax.ttcons
-      Syntax.tnil (Syntax.ttcons Syntax.tnil (Syntax.ttcons (Syntax.tcons (Syntax.tyInt Syntax.w64) Syntax.tnil) (Syntax.ttcons Syntax.tnil (Syntax.ttcons Syntax.tnil (Syntax.ttcons Syntax.tnil
-      (Syntax.ttcons Syntax.tnil (Syntax.ttcons Syntax.tnil (Syntax.ttcons Syntax.tnil (Syntax.ttcons (Syntax.tcons (Syntax.tyInt Syntax.w64) Syntax.tnil) (Syntax.ttcons (Syntax.tcons (Syntax.tyInt
-      Syntax.w64) Syntax.tnil) (Syntax.ttcons Syntax.tnil (Syntax.ttcons (Syntax.tcons (Syntax.tyInt Syntax.w64) (Syntax.tcons (Syntax.tyInt Syntax.w64) Syntax.tnil)) (Syntax.ttcons (Syntax.tcons
-      (Syntax.tyInt Syntax.w64) Syntax.tnil) (Syntax.ttcons Syntax.tnil Syntax.ttnil))))))))))))))))) Syntax.tnil) Syntax.ttnil))),
-) (List._∷_ (
-  11,
-  Rows'.any-gone (Syntax.tyRef Syntax.erased Syntax.mut
-      (Syntax.tyInt Syntax.w16)),
-) (List._∷_ (12, Mut.mslice (Referent.rtF (Referent.fInt Syntax.w16)) (Syntax.tyRef Syntax.erased Syntax.mut (Syntax.tyInt Syntax.w16)) 4) (List._∷_ (
-  13,
-  Rows'.any-gone
-      (Syntax.tyRef Syntax.erased Syntax.mut (Syntax.tyInt Syntax.w16)),
-) (List._∷_ (
+  Rows'.any-gone (Syntax.tyEnum (List._∷_ 98 (List._∷_ 108 (List._∷_ 111 (List._∷_ 99 (List._∷_ 107 (List._∷_ 58 (List._∷_ 58 (List._∷_ 68 (List._∷_ 101 (List._∷_
+      99 (List._∷_ 111 (List._∷_ 100 (List._∷_ 101 (List._∷_ 100 List.[])))))))))))))) (Syntax.ttcons Syntax.tnil (Syntax.ttcons (Syntax.tcons (Syntax.tyEnum (List._∷_ 115 (List._∷_ 116 (List._∷_ 114
+      (List._∷_ 101 (List._∷_ 97 (List._∷_ 109 (List._∷_ 58 (List._∷_ 58 (List._∷_ 82 (List._∷_ 101 (List._∷_ 102 (List._∷_ 117 (List._∷_ 115 (List._∷_ 97 (List._∷_ 108 List.[]))))))))))))))) (Syntax.ttcons
+      Syntax.tnil (Syntax.ttcons Syntax.tnil (Syntax.ttcons Syntax.tnil (Syntax.ttcons (Syntax.tcons (Syntax.tyInt Syntax.w64) Syntax.tnil) (Syntax.ttcons Syntax.tnil (Syntax.ttcons Syntax.tnil
+      (Syntax.ttcons Syntax.tnil (Syntax.ttcons Syntax.tnil (Syntax.ttcons Syntax.tnil (Syntax.ttcons Syntax.tnil (Syntax.ttcons (Syntax.tcons (Syntax.tyInt Syntax.w64) Syntax.tnil) (Syntax.ttcons
+      (Syntax.tcons (Syntax.tyInt Syntax.w64) Syntax.tnil) (Syntax.ttcons Syntax.tnil (Syntax.ttcons (Syntax.tcons (Syntax.tyInt Syntax.w64) (Syntax.tcons (Syntax.tyInt Syntax.w64) Syntax.tnil))
+      (Syntax.ttcons (Syntax.tcons (Syntax.tyInt Syntax.w64) Syntax.tnil) (Syntax.ttcons Syntax.tnil (Syntax.ttcons Syntax.tnil (Syntax.ttcons (Syntax.tcons (Syntax.tyInt Syntax.w64) Syntax.tnil)
+      (Syntax.ttcons (Syntax.tcons (Syntax.tyInt Syntax.w64) Syntax.tnil) (Syntax.ttcons (Syntax.tcons (Syntax.tyInt Syntax.w64) Syntax.tnil) (Syntax.ttcons Syntax.tnil Syntax.ttnil))))))))))))))))))))))
+      Syntax.tnil) Syntax.ttnil))),
+) (List._∷_ (11, Rows'.any-gone (Syntax.tyRef Syntax.erased Syntax.mut (Syntax.tyInt Syntax.w16))) (List._∷_ (
+  12,
+  Mut.mslice (Referent.rtF (Referent.fInt Syntax.w16))
+      (Syntax.tyRef Syntax.erased Syntax.mut (Syntax.tyInt Syntax.w16)) 4,
+) (List._∷_ (13, Rows'.any-gone (Syntax.tyRef Syntax.erased Syntax.mut (Syntax.tyInt Syntax.w16))) (List._∷_ (
   14,
-  Mut.mslice (Referent.rtF (Referent.fInt Syntax.w16)) (Syntax.tyRef Syntax.erased Syntax.mut (Syntax.tyInt
-      Syntax.w16)) 5,
-) (List._∷_ (15, Rows'.any-gone (Syntax.tyRef Syntax.erased Syntax.mut Element.behind)) List.[])))))))))))))))
+  Mut.mslice
+      (Referent.rtF (Referent.fInt Syntax.w16)) (Syntax.tyRef Syntax.erased Syntax.mut (Syntax.tyInt Syntax.w16)) 5,
+) (List._∷_ (
+  15,
+  Rows'.any-gone (Syntax.tyRef Syntax.erased Syntax.mut Element.behind),
+) List.[])))))))))))))))
 
 abbrev pub t20 : List.List Row.Entry
 t20 = List._∷_ (16, Mut.mslice (Element.type) (Syntax.tyRef Syntax.erased Syntax.mut Element.behind) 6) List.[]
@@ -1650,56 +1702,61 @@ t21 = List._∷_ (
       (Syntax.ttcons Syntax.tnil (Syntax.ttcons Syntax.tnil (Syntax.ttcons (Syntax.tcons (Syntax.tyInt Syntax.w64) Syntax.tnil) (Syntax.ttcons Syntax.tnil (Syntax.ttcons Syntax.tnil (Syntax.ttcons
       Syntax.tnil (Syntax.ttcons Syntax.tnil (Syntax.ttcons Syntax.tnil (Syntax.ttcons Syntax.tnil (Syntax.ttcons (Syntax.tcons (Syntax.tyInt Syntax.w64) Syntax.tnil) (Syntax.ttcons (Syntax.tcons
       (Syntax.tyInt Syntax.w64) Syntax.tnil) (Syntax.ttcons Syntax.tnil (Syntax.ttcons (Syntax.tcons (Syntax.tyInt Syntax.w64) (Syntax.tcons (Syntax.tyInt Syntax.w64) Syntax.tnil)) (Syntax.ttcons
-      (Syntax.tcons (Syntax.tyInt Syntax.w64) Syntax.tnil) (Syntax.ttcons Syntax.tnil Syntax.ttnil))))))))))))))))) Syntax.tnil) Syntax.ttnil))),
+      (Syntax.tcons (Syntax.tyInt Syntax.w64) Syntax.tnil) (Syntax.ttcons Syntax.tnil (Syntax.ttcons Syntax.tnil (Syntax.ttcons (Syntax.tcons (Syntax.tyInt Syntax.w64) Syntax.tnil) (Syntax.ttcons
+      (Syntax.tcons (Syntax.tyInt Syntax.w64) Syntax.tnil) (Syntax.ttcons (Syntax.tcons (Syntax.tyInt Syntax.w64) Syntax.tnil) (Syntax.ttcons Syntax.tnil Syntax.ttnil)))))))))))))))))))))) Syntax.tnil)
+      Syntax.ttnil))),
+) (List._∷_ (1, Rows'.sslice (Referent.rtF (Referent.fInt Syntax.w8)) (Syntax.tyRef (Syntax.named 0) Syntax.imm (Syntax.tyInt Syntax.w8)) 0) (List._∷_ (
+  2,
+  Rows'.whole
+      (Declared'.row Rect.the-type),
+) (List._∷_ (3, Rows.arrF (Referent.rtF (Referent.fInt Syntax.w8)) 36 0) (List._∷_ (
+  4,
+  Relend.mslice-owed (Referent.rtF (Referent.fInt Syntax.w16)) (Syntax.tyRef
+      (Syntax.named 1) Syntax.mut (Syntax.tyInt Syntax.w16)) 1 4 Row.off,
 ) (List._∷_ (
-  1,
-  Rows'.sslice (Referent.rtF (Referent.fInt
-      Syntax.w8)) (Syntax.tyRef (Syntax.named 0) Syntax.imm (Syntax.tyInt Syntax.w8)) 0,
-) (List._∷_ (2, Rows'.whole (Declared'.row Rect.the-type)) (List._∷_ (
-  3,
-  Rows.arrF (Referent.rtF (Referent.fInt
-      Syntax.w8)) 36 0,
-) (List._∷_ (4, Relend.mslice-owed (Referent.rtF (Referent.fInt Syntax.w16)) (Syntax.tyRef (Syntax.named 1) Syntax.mut (Syntax.tyInt Syntax.w16)) 1 4 Row.off) (List._∷_ (
   5,
-  Relend.mslice-owed (Referent.rtF (Referent.fInt Syntax.w16)) (Syntax.tyRef (Syntax.named 2) Syntax.mut (Syntax.tyInt Syntax.w16)) 2 5 Row.off,
-) (List._∷_ (
-  6,
-  Relend.mslice-owed (Element.type)
-      (Syntax.tyRef (Syntax.named 3) Syntax.mut Element.behind) 3 6 Row.off,
-) (List._∷_ (
+  Relend.mslice-owed (Referent.rtF (Referent.fInt Syntax.w16)) (Syntax.tyRef (Syntax.named 2) Syntax.mut
+      (Syntax.tyInt Syntax.w16)) 2 5 Row.off,
+) (List._∷_ (6, Relend.mslice-owed (Element.type) (Syntax.tyRef (Syntax.named 3) Syntax.mut Element.behind) 3 6 Row.off) (List._∷_ (
   7,
-  Rows'.any-gone (Syntax.tyEnum (List._∷_ 115 (List._∷_ 116 (List._∷_ 114 (List._∷_ 101 (List._∷_ 97 (List._∷_ 109
-      (List._∷_ 58 (List._∷_ 58 (List._∷_ 80 (List._∷_ 97 (List._∷_ 114 (List._∷_ 115 (List._∷_ 101 (List._∷_ 100 List.[])))))))))))))) (Syntax.ttcons (Syntax.tcons (Syntax.tyStruct (List._∷_ 115 (List._∷_
-      116 (List._∷_ 114 (List._∷_ 101 (List._∷_ 97 (List._∷_ 109 (List._∷_ 58 (List._∷_ 58 (List._∷_ 70 (List._∷_ 117 (List._∷_ 106 (List._∷_ 105 (List._∷_ 72 (List._∷_ 101 (List._∷_ 97 (List._∷_ 100
-      (List._∷_ 101 (List._∷_ 114 List.[])))))))))))))))))) (Syntax.tcons Syntax.tyBool (Syntax.tcons Syntax.tyBool (Syntax.tcons (Syntax.tyInt Syntax.w32) (Syntax.tcons (Syntax.tyInt Syntax.w32)
-      (Syntax.tcons (Syntax.tyInt Syntax.w32) (Syntax.tcons (Syntax.tyInt Syntax.w32) (Syntax.tcons (Syntax.tyInt Syntax.w32) (Syntax.tcons (Syntax.tyInt Syntax.w32) (Syntax.tcons (Syntax.tyInt Syntax.w32)
-      Syntax.tnil)))))))))) Syntax.tnil) (Syntax.ttcons (Syntax.tcons (Syntax.tyEnum (List._∷_ 115 (List._∷_ 116 (List._∷_ 114 (List._∷_ 101 (List._∷_ 97 (List._∷_ 109 (List._∷_ 58 (List._∷_ 58 (List._∷_ 82
-      (List._∷_ 101 (List._∷_ 102 (List._∷_ 117 (List._∷_ 115 (List._∷_ 97 (List._∷_ 108 List.[]))))))))))))))) (Syntax.ttcons Syntax.tnil (Syntax.ttcons Syntax.tnil (Syntax.ttcons Syntax.tnil
-      (Syntax.ttcons (Syntax.tcons (Syntax.tyInt Syntax.w64) Syntax.tnil) (Syntax.ttcons Syntax.tnil (Syntax.ttcons Syntax.tnil (Syntax.ttcons Syntax.tnil (Syntax.ttcons Syntax.tnil (Syntax.ttcons
-      Syntax.tnil (Syntax.ttcons Syntax.tnil (Syntax.ttcons (Syntax.tcons (Syntax.tyInt Syntax.w64) Syntax.tnil) (Syntax.ttcons (Syntax.tcons (Syntax.tyInt Syntax.w64) Syntax.tnil) (Syntax.ttcons
-      Syntax.tnil (Syntax.ttcons (Syntax.tcons (Syntax.tyInt Syntax.w64) (Syntax.tcons (Syntax.tyInt Syntax.w64) Syntax.tnil)) (Syntax.ttcons (Syntax.tcons (Syntax.tyInt Syntax.w64) Syntax.tnil)
-      (Syntax.ttcons Syntax.tnil Syntax.ttnil))))))))))))))))) Syntax.tnil) Syntax.ttnil))),
+  Rows'.any-gone
+      (Syntax.tyEnum (List._∷_ 115 (List._∷_ 116 (List._∷_ 114 (List._∷_ 101 (List._∷_ 97 (List._∷_ 109 (List._∷_ 58 (List._∷_ 58 (List._∷_ 80 (List._∷_ 97 (List._∷_ 114 (List._∷_ 115 (List._∷_ 101
+      (List._∷_ 100 List.[])))))))))))))) (Syntax.ttcons (Syntax.tcons (Syntax.tyStruct (List._∷_ 115 (List._∷_ 116 (List._∷_ 114 (List._∷_ 101 (List._∷_ 97 (List._∷_ 109 (List._∷_ 58 (List._∷_ 58 (List._∷_
+      70 (List._∷_ 117 (List._∷_ 106 (List._∷_ 105 (List._∷_ 72 (List._∷_ 101 (List._∷_ 97 (List._∷_ 100 (List._∷_ 101 (List._∷_ 114 List.[])))))))))))))))))) (Syntax.tcons Syntax.tyBool (Syntax.tcons
+      Syntax.tyBool (Syntax.tcons (Syntax.tyInt Syntax.w32) (Syntax.tcons (Syntax.tyInt Syntax.w32) (Syntax.tcons (Syntax.tyInt Syntax.w32) (Syntax.tcons (Syntax.tyInt Syntax.w32) (Syntax.tcons
+      (Syntax.tyInt Syntax.w32) (Syntax.tcons (Syntax.tyInt Syntax.w32) (Syntax.tcons (Syntax.tyInt Syntax.w32) Syntax.tnil)))))))))) Syntax.tnil) (Syntax.ttcons (Syntax.tcons (Syntax.tyEnum (List._∷_ 115
+      (List._∷_ 116 (List._∷_ 114 (List._∷_ 101 (List._∷_ 97 (List._∷_ 109 (List._∷_ 58 (List._∷_ 58 (List._∷_ 82 (List._∷_ 101 (List._∷_ 102 (List._∷_ 117 (List._∷_ 115 (List._∷_ 97 (List._∷_ 108
+      List.[]))))))))))))))) (Syntax.ttcons Syntax.tnil (Syntax.ttcons Syntax.tnil (Syntax.ttcons Syntax.tnil (Syntax.ttcons (Syntax.tcons (Syntax.tyInt Syntax.w64) Syntax.tnil) (Syntax.ttcons Syntax.tnil
+      (Syntax.ttcons Syntax.tnil (Syntax.ttcons Syntax.tnil (Syntax.ttcons Syntax.tnil (Syntax.ttcons Syntax.tnil (Syntax.ttcons Syntax.tnil (Syntax.ttcons (Syntax.tcons (Syntax.tyInt Syntax.w64)
+      Syntax.tnil) (Syntax.ttcons (Syntax.tcons (Syntax.tyInt Syntax.w64) Syntax.tnil) (Syntax.ttcons Syntax.tnil (Syntax.ttcons (Syntax.tcons (Syntax.tyInt Syntax.w64) (Syntax.tcons (Syntax.tyInt
+      Syntax.w64) Syntax.tnil)) (Syntax.ttcons (Syntax.tcons (Syntax.tyInt Syntax.w64) Syntax.tnil) (Syntax.ttcons Syntax.tnil (Syntax.ttcons Syntax.tnil (Syntax.ttcons (Syntax.tcons (Syntax.tyInt
+      Syntax.w64) Syntax.tnil) (Syntax.ttcons (Syntax.tcons (Syntax.tyInt Syntax.w64) Syntax.tnil) (Syntax.ttcons (Syntax.tcons (Syntax.tyInt Syntax.w64) Syntax.tnil) (Syntax.ttcons Syntax.tnil
+      Syntax.ttnil)))))))))))))))))))))) Syntax.tnil) Syntax.ttnil))),
 ) (List._∷_ (
   8,
-  Rows'.any-gone (Syntax.tyEnum (List._∷_ 115 (List._∷_ 116 (List._∷_ 114 (List._∷_ 101 (List._∷_
-      97 (List._∷_ 109 (List._∷_ 58 (List._∷_ 58 (List._∷_ 82 (List._∷_ 101 (List._∷_ 102 (List._∷_ 117 (List._∷_ 115 (List._∷_ 97 (List._∷_ 108 List.[]))))))))))))))) (Syntax.ttcons Syntax.tnil
-      (Syntax.ttcons Syntax.tnil (Syntax.ttcons Syntax.tnil (Syntax.ttcons (Syntax.tcons (Syntax.tyInt Syntax.w64) Syntax.tnil) (Syntax.ttcons Syntax.tnil (Syntax.ttcons Syntax.tnil (Syntax.ttcons
-      Syntax.tnil (Syntax.ttcons Syntax.tnil (Syntax.ttcons Syntax.tnil (Syntax.ttcons Syntax.tnil (Syntax.ttcons (Syntax.tcons (Syntax.tyInt Syntax.w64) Syntax.tnil) (Syntax.ttcons (Syntax.tcons
-      (Syntax.tyInt Syntax.w64) Syntax.tnil) (Syntax.ttcons Syntax.tnil (Syntax.ttcons (Syntax.tcons (Syntax.tyInt Syntax.w64) (Syntax.tcons (Syntax.tyInt Syntax.w64) Syntax.tnil)) (Syntax.ttcons
-      (Syntax.tcons (Syntax.tyInt Syntax.w64) Syntax.tnil) (Syntax.ttcons Syntax.tnil Syntax.ttnil))))))))))))))))),
-) (List._∷_ (9, Rows'.whole (Declared'.row FujiHeader.the-type)) (List._∷_ (
-  10,
-  Rows'.whole (Declared.row Decoded.the-type),
-) (List._∷_ (11, Rows'.any-gone (Syntax.tyRef Syntax.erased Syntax.mut (Syntax.tyInt Syntax.w16))) (List._∷_ (
+  Rows'.any-gone (Syntax.tyEnum (List._∷_ 115 (List._∷_ 116 (List._∷_ 114 (List._∷_ 101 (List._∷_ 97 (List._∷_ 109
+      (List._∷_ 58 (List._∷_ 58 (List._∷_ 82 (List._∷_ 101 (List._∷_ 102 (List._∷_ 117 (List._∷_ 115 (List._∷_ 97 (List._∷_ 108 List.[]))))))))))))))) (Syntax.ttcons Syntax.tnil (Syntax.ttcons Syntax.tnil
+      (Syntax.ttcons Syntax.tnil (Syntax.ttcons (Syntax.tcons (Syntax.tyInt Syntax.w64) Syntax.tnil) (Syntax.ttcons Syntax.tnil (Syntax.ttcons Syntax.tnil (Syntax.ttcons Syntax.tnil (Syntax.ttcons
+      Syntax.tnil (Syntax.ttcons Syntax.tnil (Syntax.ttcons Syntax.tnil (Syntax.ttcons (Syntax.tcons (Syntax.tyInt Syntax.w64) Syntax.tnil) (Syntax.ttcons (Syntax.tcons (Syntax.tyInt Syntax.w64)
+      Syntax.tnil) (Syntax.ttcons Syntax.tnil (Syntax.ttcons (Syntax.tcons (Syntax.tyInt Syntax.w64) (Syntax.tcons (Syntax.tyInt Syntax.w64) Syntax.tnil)) (Syntax.ttcons (Syntax.tcons (Syntax.tyInt
+      Syntax.w64) Syntax.tnil) (Syntax.ttcons Syntax.tnil (Syntax.ttcons Syntax.tnil (Syntax.ttcons (Syntax.tcons (Syntax.tyInt Syntax.w64) Syntax.tnil) (Syntax.ttcons (Syntax.tcons (Syntax.tyInt
+      Syntax.w64) Syntax.tnil) (Syntax.ttcons (Syntax.tcons (Syntax.tyInt Syntax.w64) Syntax.tnil) (Syntax.ttcons Syntax.tnil Syntax.ttnil)))))))))))))))))))))),
+) (List._∷_ (
+  9,
+  Rows'.whole (Declared'.row
+      FujiHeader.the-type),
+) (List._∷_ (10, Rows'.whole (Declared.row Decoded.the-type)) (List._∷_ (11, Rows'.any-gone (Syntax.tyRef Syntax.erased Syntax.mut (Syntax.tyInt Syntax.w16))) (List._∷_ (
   12,
-  Mut.msleft (Referent.rtF
-      (Referent.fInt Syntax.w16)) (Syntax.tyRef Syntax.erased Syntax.mut (Syntax.tyInt Syntax.w16)),
-) (List._∷_ (13, Rows'.any-gone (Syntax.tyRef Syntax.erased Syntax.mut (Syntax.tyInt Syntax.w16)))
-    (List._∷_ (14, Mut.msleft (Referent.rtF (Referent.fInt Syntax.w16)) (Syntax.tyRef Syntax.erased Syntax.mut (Syntax.tyInt Syntax.w16))) (List._∷_ (
-      15,
-      Rows'.any-gone (Syntax.tyRef Syntax.erased
-          Syntax.mut Element.behind),
-    ) List.[])))))))))))))))
+  Mut.msleft (Referent.rtF (Referent.fInt Syntax.w16)) (Syntax.tyRef Syntax.erased Syntax.mut (Syntax.tyInt Syntax.w16)),
+) (List._∷_ (
+  13,
+  Rows'.any-gone (Syntax.tyRef Syntax.erased Syntax.mut
+      (Syntax.tyInt Syntax.w16)),
+) (List._∷_ (14, Mut.msleft (Referent.rtF (Referent.fInt Syntax.w16)) (Syntax.tyRef Syntax.erased Syntax.mut (Syntax.tyInt Syntax.w16))) (List._∷_ (
+  15,
+  Rows'.any-gone
+      (Syntax.tyRef Syntax.erased Syntax.mut Element.behind),
+) List.[])))))))))))))))
 
 abbrev pub t22 : List.List Row.Entry
 t22 = List._∷_ (16, Mut.msleft (Element.type) (Syntax.tyRef Syntax.erased Syntax.mut Element.behind)) List.[]
@@ -1713,64 +1770,62 @@ t23 = List._∷_ (
       (Syntax.ttcons Syntax.tnil (Syntax.ttcons Syntax.tnil (Syntax.ttcons (Syntax.tcons (Syntax.tyInt Syntax.w64) Syntax.tnil) (Syntax.ttcons Syntax.tnil (Syntax.ttcons Syntax.tnil (Syntax.ttcons
       Syntax.tnil (Syntax.ttcons Syntax.tnil (Syntax.ttcons Syntax.tnil (Syntax.ttcons Syntax.tnil (Syntax.ttcons (Syntax.tcons (Syntax.tyInt Syntax.w64) Syntax.tnil) (Syntax.ttcons (Syntax.tcons
       (Syntax.tyInt Syntax.w64) Syntax.tnil) (Syntax.ttcons Syntax.tnil (Syntax.ttcons (Syntax.tcons (Syntax.tyInt Syntax.w64) (Syntax.tcons (Syntax.tyInt Syntax.w64) Syntax.tnil)) (Syntax.ttcons
-      (Syntax.tcons (Syntax.tyInt Syntax.w64) Syntax.tnil) (Syntax.ttcons Syntax.tnil Syntax.ttnil))))))))))))))))) Syntax.tnil) Syntax.ttnil))),
-) (List._∷_ (
-  1,
-  Rows'.sslice (Referent.rtF (Referent.fInt
-      Syntax.w8)) (Syntax.tyRef (Syntax.named 0) Syntax.imm (Syntax.tyInt Syntax.w8)) 0,
-) (List._∷_ (
+      (Syntax.tcons (Syntax.tyInt Syntax.w64) Syntax.tnil) (Syntax.ttcons Syntax.tnil (Syntax.ttcons Syntax.tnil (Syntax.ttcons (Syntax.tcons (Syntax.tyInt Syntax.w64) Syntax.tnil) (Syntax.ttcons
+      (Syntax.tcons (Syntax.tyInt Syntax.w64) Syntax.tnil) (Syntax.ttcons (Syntax.tcons (Syntax.tyInt Syntax.w64) Syntax.tnil) (Syntax.ttcons Syntax.tnil Syntax.ttnil)))))))))))))))))))))) Syntax.tnil)
+      Syntax.ttnil))),
+) (List._∷_ (1, Rows'.sslice (Referent.rtF (Referent.fInt Syntax.w8)) (Syntax.tyRef (Syntax.named 0) Syntax.imm (Syntax.tyInt Syntax.w8)) 0) (List._∷_ (
   2,
-  Rows'.any-gone (Syntax.tyStruct (List._∷_ 114 (List._∷_ 101 (List._∷_ 103 (List._∷_ 105 (List._∷_
-      111 (List._∷_ 110 (List._∷_ 58 (List._∷_ 58 (List._∷_ 82 (List._∷_ 101 (List._∷_ 99 (List._∷_ 116 List.[])))))))))))) (Syntax.tcons (Syntax.tyInt Syntax.w64) (Syntax.tcons (Syntax.tyInt Syntax.w64)
-      (Syntax.tcons (Syntax.tyInt Syntax.w64) (Syntax.tcons (Syntax.tyInt Syntax.w64) Syntax.tnil))))),
-) (List._∷_ (3, Rows.arrF (Referent.rtF (Referent.fInt Syntax.w8)) 36 0) (List._∷_ (
+  Rows'.any-gone
+      (Syntax.tyStruct (List._∷_ 114 (List._∷_ 101 (List._∷_ 103 (List._∷_ 105 (List._∷_ 111 (List._∷_ 110 (List._∷_ 58 (List._∷_ 58 (List._∷_ 82 (List._∷_ 101 (List._∷_ 99 (List._∷_ 116 List.[]))))))))))))
+      (Syntax.tcons (Syntax.tyInt Syntax.w64) (Syntax.tcons (Syntax.tyInt Syntax.w64) (Syntax.tcons (Syntax.tyInt Syntax.w64) (Syntax.tcons (Syntax.tyInt Syntax.w64) Syntax.tnil))))),
+) (List._∷_ (
+  3,
+  Rows.arrF (Referent.rtF (Referent.fInt Syntax.w8)) 36 0,
+) (List._∷_ (
   4,
-  Relend.mslice-owed (Referent.rtF (Referent.fInt Syntax.w16)) (Syntax.tyRef (Syntax.named 1) Syntax.mut (Syntax.tyInt Syntax.w16)) 1 4 Row.off,
-) (List._∷_ (
-  5,
-  Relend.mslice-owed (Referent.rtF
-      (Referent.fInt Syntax.w16)) (Syntax.tyRef (Syntax.named 2) Syntax.mut (Syntax.tyInt Syntax.w16)) 2 5 Row.off,
-) (List._∷_ (
+  Relend.mslice-owed (Referent.rtF (Referent.fInt Syntax.w16)) (Syntax.tyRef (Syntax.named 1) Syntax.mut (Syntax.tyInt
+      Syntax.w16)) 1 4 Row.off,
+) (List._∷_ (5, Relend.mslice-owed (Referent.rtF (Referent.fInt Syntax.w16)) (Syntax.tyRef (Syntax.named 2) Syntax.mut (Syntax.tyInt Syntax.w16)) 2 5 Row.off) (List._∷_ (
   6,
-  Relend.mslice-owed (Element.type) (Syntax.tyRef (Syntax.named 3)
-      Syntax.mut Element.behind) 3 6 Row.off,
+  Relend.mslice-owed (Element.type) (Syntax.tyRef (Syntax.named 3) Syntax.mut Element.behind) 3 6 Row.off,
 ) (List._∷_ (
   7,
-  Rows'.any-gone (Syntax.tyEnum (List._∷_ 115 (List._∷_ 116 (List._∷_ 114 (List._∷_ 101 (List._∷_ 97 (List._∷_ 109 (List._∷_ 58 (List._∷_ 58
-      (List._∷_ 80 (List._∷_ 97 (List._∷_ 114 (List._∷_ 115 (List._∷_ 101 (List._∷_ 100 List.[])))))))))))))) (Syntax.ttcons (Syntax.tcons (Syntax.tyStruct (List._∷_ 115 (List._∷_ 116 (List._∷_ 114
-      (List._∷_ 101 (List._∷_ 97 (List._∷_ 109 (List._∷_ 58 (List._∷_ 58 (List._∷_ 70 (List._∷_ 117 (List._∷_ 106 (List._∷_ 105 (List._∷_ 72 (List._∷_ 101 (List._∷_ 97 (List._∷_ 100 (List._∷_ 101 (List._∷_
-      114 List.[])))))))))))))))))) (Syntax.tcons Syntax.tyBool (Syntax.tcons Syntax.tyBool (Syntax.tcons (Syntax.tyInt Syntax.w32) (Syntax.tcons (Syntax.tyInt Syntax.w32) (Syntax.tcons (Syntax.tyInt
-      Syntax.w32) (Syntax.tcons (Syntax.tyInt Syntax.w32) (Syntax.tcons (Syntax.tyInt Syntax.w32) (Syntax.tcons (Syntax.tyInt Syntax.w32) (Syntax.tcons (Syntax.tyInt Syntax.w32) Syntax.tnil))))))))))
-      Syntax.tnil) (Syntax.ttcons (Syntax.tcons (Syntax.tyEnum (List._∷_ 115 (List._∷_ 116 (List._∷_ 114 (List._∷_ 101 (List._∷_ 97 (List._∷_ 109 (List._∷_ 58 (List._∷_ 58 (List._∷_ 82 (List._∷_ 101
-      (List._∷_ 102 (List._∷_ 117 (List._∷_ 115 (List._∷_ 97 (List._∷_ 108 List.[]))))))))))))))) (Syntax.ttcons Syntax.tnil (Syntax.ttcons Syntax.tnil (Syntax.ttcons Syntax.tnil (Syntax.ttcons
-      (Syntax.tcons (Syntax.tyInt Syntax.w64) Syntax.tnil) (Syntax.ttcons Syntax.tnil (Syntax.ttcons Syntax.tnil (Syntax.ttcons Syntax.tnil (Syntax.ttcons Syntax.tnil (Syntax.ttcons Syntax.tnil
-      (Syntax.ttcons Syntax.tnil (Syntax.ttcons (Syntax.tcons (Syntax.tyInt Syntax.w64) Syntax.tnil) (Syntax.ttcons (Syntax.tcons (Syntax.tyInt Syntax.w64) Syntax.tnil) (Syntax.ttcons Syntax.tnil
-      (Syntax.ttcons (Syntax.tcons (Syntax.tyInt Syntax.w64) (Syntax.tcons (Syntax.tyInt Syntax.w64) Syntax.tnil)) (Syntax.ttcons (Syntax.tcons (Syntax.tyInt Syntax.w64) Syntax.tnil) (Syntax.ttcons
-      Syntax.tnil Syntax.ttnil))))))))))))))))) Syntax.tnil) Syntax.ttnil))),
-) (List._∷_ (
-  8,
-  Rows'.any-gone (Syntax.tyEnum (List._∷_ 115 (List._∷_ 116 (List._∷_ 114 (List._∷_ 101 (List._∷_ 97 (List._∷_
+  Rows'.any-gone (Syntax.tyEnum (List._∷_ 115 (List._∷_ 116 (List._∷_ 114
+      (List._∷_ 101 (List._∷_ 97 (List._∷_ 109 (List._∷_ 58 (List._∷_ 58 (List._∷_ 80 (List._∷_ 97 (List._∷_ 114 (List._∷_ 115 (List._∷_ 101 (List._∷_ 100 List.[])))))))))))))) (Syntax.ttcons (Syntax.tcons
+      (Syntax.tyStruct (List._∷_ 115 (List._∷_ 116 (List._∷_ 114 (List._∷_ 101 (List._∷_ 97 (List._∷_ 109 (List._∷_ 58 (List._∷_ 58 (List._∷_ 70 (List._∷_ 117 (List._∷_ 106 (List._∷_ 105 (List._∷_ 72
+      (List._∷_ 101 (List._∷_ 97 (List._∷_ 100 (List._∷_ 101 (List._∷_ 114 List.[])))))))))))))))))) (Syntax.tcons Syntax.tyBool (Syntax.tcons Syntax.tyBool (Syntax.tcons (Syntax.tyInt Syntax.w32)
+      (Syntax.tcons (Syntax.tyInt Syntax.w32) (Syntax.tcons (Syntax.tyInt Syntax.w32) (Syntax.tcons (Syntax.tyInt Syntax.w32) (Syntax.tcons (Syntax.tyInt Syntax.w32) (Syntax.tcons (Syntax.tyInt Syntax.w32)
+      (Syntax.tcons (Syntax.tyInt Syntax.w32) Syntax.tnil)))))))))) Syntax.tnil) (Syntax.ttcons (Syntax.tcons (Syntax.tyEnum (List._∷_ 115 (List._∷_ 116 (List._∷_ 114 (List._∷_ 101 (List._∷_ 97 (List._∷_
       109 (List._∷_ 58 (List._∷_ 58 (List._∷_ 82 (List._∷_ 101 (List._∷_ 102 (List._∷_ 117 (List._∷_ 115 (List._∷_ 97 (List._∷_ 108 List.[]))))))))))))))) (Syntax.ttcons Syntax.tnil (Syntax.ttcons
       Syntax.tnil (Syntax.ttcons Syntax.tnil (Syntax.ttcons (Syntax.tcons (Syntax.tyInt Syntax.w64) Syntax.tnil) (Syntax.ttcons Syntax.tnil (Syntax.ttcons Syntax.tnil (Syntax.ttcons Syntax.tnil
       (Syntax.ttcons Syntax.tnil (Syntax.ttcons Syntax.tnil (Syntax.ttcons Syntax.tnil (Syntax.ttcons (Syntax.tcons (Syntax.tyInt Syntax.w64) Syntax.tnil) (Syntax.ttcons (Syntax.tcons (Syntax.tyInt
       Syntax.w64) Syntax.tnil) (Syntax.ttcons Syntax.tnil (Syntax.ttcons (Syntax.tcons (Syntax.tyInt Syntax.w64) (Syntax.tcons (Syntax.tyInt Syntax.w64) Syntax.tnil)) (Syntax.ttcons (Syntax.tcons
-      (Syntax.tyInt Syntax.w64) Syntax.tnil) (Syntax.ttcons Syntax.tnil Syntax.ttnil))))))))))))))))),
-) (List._∷_ (9, Rows'.whole (Declared'.row FujiHeader.the-type)) (List._∷_ (
-  10,
-  Rows'.whole
-      (Declared.row Decoded.the-type),
-) (List._∷_ (11, Rows'.any-gone (Syntax.tyRef Syntax.erased Syntax.mut (Syntax.tyInt Syntax.w16))) (List._∷_ (
-  12,
-  Mut.msleft (Referent.rtF (Referent.fInt
-      Syntax.w16)) (Syntax.tyRef Syntax.erased Syntax.mut (Syntax.tyInt Syntax.w16)),
-) (List._∷_ (13, Rows'.any-gone (Syntax.tyRef Syntax.erased Syntax.mut (Syntax.tyInt Syntax.w16))) (List._∷_ (
-  14,
-  Mut.msleft (Referent.rtF (Referent.fInt Syntax.w16)) (Syntax.tyRef Syntax.erased Syntax.mut (Syntax.tyInt Syntax.w16)),
-) (List._∷_ (
-  15,
-  Rows'.any-gone (Syntax.tyRef Syntax.erased Syntax.mut
-      Element.behind),
-) List.[])))))))))))))))
+      (Syntax.tyInt Syntax.w64) Syntax.tnil) (Syntax.ttcons Syntax.tnil (Syntax.ttcons Syntax.tnil (Syntax.ttcons (Syntax.tcons (Syntax.tyInt Syntax.w64) Syntax.tnil) (Syntax.ttcons (Syntax.tcons
+      (Syntax.tyInt Syntax.w64) Syntax.tnil) (Syntax.ttcons (Syntax.tcons (Syntax.tyInt Syntax.w64) Syntax.tnil) (Syntax.ttcons Syntax.tnil Syntax.ttnil)))))))))))))))))))))) Syntax.tnil) Syntax.ttnil))),
+)
+    (List._∷_ (
+      8,
+      Rows'.any-gone (Syntax.tyEnum (List._∷_ 115 (List._∷_ 116 (List._∷_ 114 (List._∷_ 101 (List._∷_ 97 (List._∷_ 109 (List._∷_ 58 (List._∷_ 58 (List._∷_ 82 (List._∷_ 101 (List._∷_ 102
+          (List._∷_ 117 (List._∷_ 115 (List._∷_ 97 (List._∷_ 108 List.[]))))))))))))))) (Syntax.ttcons Syntax.tnil (Syntax.ttcons Syntax.tnil (Syntax.ttcons Syntax.tnil (Syntax.ttcons (Syntax.tcons
+          (Syntax.tyInt Syntax.w64) Syntax.tnil) (Syntax.ttcons Syntax.tnil (Syntax.ttcons Syntax.tnil (Syntax.ttcons Syntax.tnil (Syntax.ttcons Syntax.tnil (Syntax.ttcons Syntax.tnil (Syntax.ttcons Syntax.tnil
+          (Syntax.ttcons (Syntax.tcons (Syntax.tyInt Syntax.w64) Syntax.tnil) (Syntax.ttcons (Syntax.tcons (Syntax.tyInt Syntax.w64) Syntax.tnil) (Syntax.ttcons Syntax.tnil (Syntax.ttcons (Syntax.tcons
+          (Syntax.tyInt Syntax.w64) (Syntax.tcons (Syntax.tyInt Syntax.w64) Syntax.tnil)) (Syntax.ttcons (Syntax.tcons (Syntax.tyInt Syntax.w64) Syntax.tnil) (Syntax.ttcons Syntax.tnil (Syntax.ttcons
+          Syntax.tnil (Syntax.ttcons (Syntax.tcons (Syntax.tyInt Syntax.w64) Syntax.tnil) (Syntax.ttcons (Syntax.tcons (Syntax.tyInt Syntax.w64) Syntax.tnil) (Syntax.ttcons (Syntax.tcons (Syntax.tyInt
+          Syntax.w64) Syntax.tnil) (Syntax.ttcons Syntax.tnil Syntax.ttnil)))))))))))))))))))))),
+    ) (List._∷_ (9, Rows'.whole (Declared'.row FujiHeader.the-type)) (List._∷_ (
+      10,
+      Rows'.whole (Declared.row
+          Decoded.the-type),
+    ) (List._∷_ (11, Rows'.any-gone (Syntax.tyRef Syntax.erased Syntax.mut (Syntax.tyInt Syntax.w16))) (List._∷_ (
+      12,
+      Mut.msleft (Referent.rtF (Referent.fInt Syntax.w16))
+          (Syntax.tyRef Syntax.erased Syntax.mut (Syntax.tyInt Syntax.w16)),
+    ) (List._∷_ (13, Rows'.any-gone (Syntax.tyRef Syntax.erased Syntax.mut (Syntax.tyInt Syntax.w16))) (List._∷_ (
+      14,
+      Mut.msleft
+          (Referent.rtF (Referent.fInt Syntax.w16)) (Syntax.tyRef Syntax.erased Syntax.mut (Syntax.tyInt Syntax.w16)),
+    ) (List._∷_ (15, Rows'.any-gone (Syntax.tyRef Syntax.erased Syntax.mut Element.behind))
+    List.[])))))))))))))))
 
 abbrev pub t24 : List.List Row.Entry
 t24 = List._∷_ (
@@ -1781,64 +1836,62 @@ t24 = List._∷_ (
       (Syntax.ttcons Syntax.tnil (Syntax.ttcons Syntax.tnil (Syntax.ttcons (Syntax.tcons (Syntax.tyInt Syntax.w64) Syntax.tnil) (Syntax.ttcons Syntax.tnil (Syntax.ttcons Syntax.tnil (Syntax.ttcons
       Syntax.tnil (Syntax.ttcons Syntax.tnil (Syntax.ttcons Syntax.tnil (Syntax.ttcons Syntax.tnil (Syntax.ttcons (Syntax.tcons (Syntax.tyInt Syntax.w64) Syntax.tnil) (Syntax.ttcons (Syntax.tcons
       (Syntax.tyInt Syntax.w64) Syntax.tnil) (Syntax.ttcons Syntax.tnil (Syntax.ttcons (Syntax.tcons (Syntax.tyInt Syntax.w64) (Syntax.tcons (Syntax.tyInt Syntax.w64) Syntax.tnil)) (Syntax.ttcons
-      (Syntax.tcons (Syntax.tyInt Syntax.w64) Syntax.tnil) (Syntax.ttcons Syntax.tnil Syntax.ttnil))))))))))))))))) Syntax.tnil) Syntax.ttnil))),
-) (List._∷_ (
-  1,
-  Rows'.sslice (Referent.rtF (Referent.fInt
-      Syntax.w8)) (Syntax.tyRef (Syntax.named 0) Syntax.imm (Syntax.tyInt Syntax.w8)) 0,
-) (List._∷_ (
+      (Syntax.tcons (Syntax.tyInt Syntax.w64) Syntax.tnil) (Syntax.ttcons Syntax.tnil (Syntax.ttcons Syntax.tnil (Syntax.ttcons (Syntax.tcons (Syntax.tyInt Syntax.w64) Syntax.tnil) (Syntax.ttcons
+      (Syntax.tcons (Syntax.tyInt Syntax.w64) Syntax.tnil) (Syntax.ttcons (Syntax.tcons (Syntax.tyInt Syntax.w64) Syntax.tnil) (Syntax.ttcons Syntax.tnil Syntax.ttnil)))))))))))))))))))))) Syntax.tnil)
+      Syntax.ttnil))),
+) (List._∷_ (1, Rows'.sslice (Referent.rtF (Referent.fInt Syntax.w8)) (Syntax.tyRef (Syntax.named 0) Syntax.imm (Syntax.tyInt Syntax.w8)) 0) (List._∷_ (
   2,
-  Rows'.any-gone (Syntax.tyStruct (List._∷_ 114 (List._∷_ 101 (List._∷_ 103 (List._∷_ 105 (List._∷_
-      111 (List._∷_ 110 (List._∷_ 58 (List._∷_ 58 (List._∷_ 82 (List._∷_ 101 (List._∷_ 99 (List._∷_ 116 List.[])))))))))))) (Syntax.tcons (Syntax.tyInt Syntax.w64) (Syntax.tcons (Syntax.tyInt Syntax.w64)
-      (Syntax.tcons (Syntax.tyInt Syntax.w64) (Syntax.tcons (Syntax.tyInt Syntax.w64) Syntax.tnil))))),
-) (List._∷_ (3, Rows'.any-gone (Syntax.tyArray (Syntax.tyInt Syntax.w8) 36)) (List._∷_ (
+  Rows'.any-gone
+      (Syntax.tyStruct (List._∷_ 114 (List._∷_ 101 (List._∷_ 103 (List._∷_ 105 (List._∷_ 111 (List._∷_ 110 (List._∷_ 58 (List._∷_ 58 (List._∷_ 82 (List._∷_ 101 (List._∷_ 99 (List._∷_ 116 List.[]))))))))))))
+      (Syntax.tcons (Syntax.tyInt Syntax.w64) (Syntax.tcons (Syntax.tyInt Syntax.w64) (Syntax.tcons (Syntax.tyInt Syntax.w64) (Syntax.tcons (Syntax.tyInt Syntax.w64) Syntax.tnil))))),
+) (List._∷_ (
+  3,
+  Rows'.any-gone (Syntax.tyArray (Syntax.tyInt Syntax.w8) 36),
+) (List._∷_ (
   4,
-  Relend.mslice-owed (Referent.rtF (Referent.fInt Syntax.w16)) (Syntax.tyRef (Syntax.named 1) Syntax.mut (Syntax.tyInt Syntax.w16)) 1 4 Row.off,
-) (List._∷_ (
-  5,
-  Relend.mslice-owed (Referent.rtF
-      (Referent.fInt Syntax.w16)) (Syntax.tyRef (Syntax.named 2) Syntax.mut (Syntax.tyInt Syntax.w16)) 2 5 Row.off,
-) (List._∷_ (
+  Relend.mslice-owed (Referent.rtF (Referent.fInt Syntax.w16)) (Syntax.tyRef (Syntax.named 1) Syntax.mut (Syntax.tyInt
+      Syntax.w16)) 1 4 Row.off,
+) (List._∷_ (5, Relend.mslice-owed (Referent.rtF (Referent.fInt Syntax.w16)) (Syntax.tyRef (Syntax.named 2) Syntax.mut (Syntax.tyInt Syntax.w16)) 2 5 Row.off) (List._∷_ (
   6,
-  Relend.mslice-owed (Element.type) (Syntax.tyRef (Syntax.named 3)
-      Syntax.mut Element.behind) 3 6 Row.off,
+  Relend.mslice-owed (Element.type) (Syntax.tyRef (Syntax.named 3) Syntax.mut Element.behind) 3 6 Row.off,
 ) (List._∷_ (
   7,
-  Rows'.any-gone (Syntax.tyEnum (List._∷_ 115 (List._∷_ 116 (List._∷_ 114 (List._∷_ 101 (List._∷_ 97 (List._∷_ 109 (List._∷_ 58 (List._∷_ 58
-      (List._∷_ 80 (List._∷_ 97 (List._∷_ 114 (List._∷_ 115 (List._∷_ 101 (List._∷_ 100 List.[])))))))))))))) (Syntax.ttcons (Syntax.tcons (Syntax.tyStruct (List._∷_ 115 (List._∷_ 116 (List._∷_ 114
-      (List._∷_ 101 (List._∷_ 97 (List._∷_ 109 (List._∷_ 58 (List._∷_ 58 (List._∷_ 70 (List._∷_ 117 (List._∷_ 106 (List._∷_ 105 (List._∷_ 72 (List._∷_ 101 (List._∷_ 97 (List._∷_ 100 (List._∷_ 101 (List._∷_
-      114 List.[])))))))))))))))))) (Syntax.tcons Syntax.tyBool (Syntax.tcons Syntax.tyBool (Syntax.tcons (Syntax.tyInt Syntax.w32) (Syntax.tcons (Syntax.tyInt Syntax.w32) (Syntax.tcons (Syntax.tyInt
-      Syntax.w32) (Syntax.tcons (Syntax.tyInt Syntax.w32) (Syntax.tcons (Syntax.tyInt Syntax.w32) (Syntax.tcons (Syntax.tyInt Syntax.w32) (Syntax.tcons (Syntax.tyInt Syntax.w32) Syntax.tnil))))))))))
-      Syntax.tnil) (Syntax.ttcons (Syntax.tcons (Syntax.tyEnum (List._∷_ 115 (List._∷_ 116 (List._∷_ 114 (List._∷_ 101 (List._∷_ 97 (List._∷_ 109 (List._∷_ 58 (List._∷_ 58 (List._∷_ 82 (List._∷_ 101
-      (List._∷_ 102 (List._∷_ 117 (List._∷_ 115 (List._∷_ 97 (List._∷_ 108 List.[]))))))))))))))) (Syntax.ttcons Syntax.tnil (Syntax.ttcons Syntax.tnil (Syntax.ttcons Syntax.tnil (Syntax.ttcons
-      (Syntax.tcons (Syntax.tyInt Syntax.w64) Syntax.tnil) (Syntax.ttcons Syntax.tnil (Syntax.ttcons Syntax.tnil (Syntax.ttcons Syntax.tnil (Syntax.ttcons Syntax.tnil (Syntax.ttcons Syntax.tnil
-      (Syntax.ttcons Syntax.tnil (Syntax.ttcons (Syntax.tcons (Syntax.tyInt Syntax.w64) Syntax.tnil) (Syntax.ttcons (Syntax.tcons (Syntax.tyInt Syntax.w64) Syntax.tnil) (Syntax.ttcons Syntax.tnil
-      (Syntax.ttcons (Syntax.tcons (Syntax.tyInt Syntax.w64) (Syntax.tcons (Syntax.tyInt Syntax.w64) Syntax.tnil)) (Syntax.ttcons (Syntax.tcons (Syntax.tyInt Syntax.w64) Syntax.tnil) (Syntax.ttcons
-      Syntax.tnil Syntax.ttnil))))))))))))))))) Syntax.tnil) Syntax.ttnil))),
-) (List._∷_ (
-  8,
-  Rows'.any-gone (Syntax.tyEnum (List._∷_ 115 (List._∷_ 116 (List._∷_ 114 (List._∷_ 101 (List._∷_ 97 (List._∷_
+  Rows'.any-gone (Syntax.tyEnum (List._∷_ 115 (List._∷_ 116 (List._∷_ 114
+      (List._∷_ 101 (List._∷_ 97 (List._∷_ 109 (List._∷_ 58 (List._∷_ 58 (List._∷_ 80 (List._∷_ 97 (List._∷_ 114 (List._∷_ 115 (List._∷_ 101 (List._∷_ 100 List.[])))))))))))))) (Syntax.ttcons (Syntax.tcons
+      (Syntax.tyStruct (List._∷_ 115 (List._∷_ 116 (List._∷_ 114 (List._∷_ 101 (List._∷_ 97 (List._∷_ 109 (List._∷_ 58 (List._∷_ 58 (List._∷_ 70 (List._∷_ 117 (List._∷_ 106 (List._∷_ 105 (List._∷_ 72
+      (List._∷_ 101 (List._∷_ 97 (List._∷_ 100 (List._∷_ 101 (List._∷_ 114 List.[])))))))))))))))))) (Syntax.tcons Syntax.tyBool (Syntax.tcons Syntax.tyBool (Syntax.tcons (Syntax.tyInt Syntax.w32)
+      (Syntax.tcons (Syntax.tyInt Syntax.w32) (Syntax.tcons (Syntax.tyInt Syntax.w32) (Syntax.tcons (Syntax.tyInt Syntax.w32) (Syntax.tcons (Syntax.tyInt Syntax.w32) (Syntax.tcons (Syntax.tyInt Syntax.w32)
+      (Syntax.tcons (Syntax.tyInt Syntax.w32) Syntax.tnil)))))))))) Syntax.tnil) (Syntax.ttcons (Syntax.tcons (Syntax.tyEnum (List._∷_ 115 (List._∷_ 116 (List._∷_ 114 (List._∷_ 101 (List._∷_ 97 (List._∷_
       109 (List._∷_ 58 (List._∷_ 58 (List._∷_ 82 (List._∷_ 101 (List._∷_ 102 (List._∷_ 117 (List._∷_ 115 (List._∷_ 97 (List._∷_ 108 List.[]))))))))))))))) (Syntax.ttcons Syntax.tnil (Syntax.ttcons
       Syntax.tnil (Syntax.ttcons Syntax.tnil (Syntax.ttcons (Syntax.tcons (Syntax.tyInt Syntax.w64) Syntax.tnil) (Syntax.ttcons Syntax.tnil (Syntax.ttcons Syntax.tnil (Syntax.ttcons Syntax.tnil
       (Syntax.ttcons Syntax.tnil (Syntax.ttcons Syntax.tnil (Syntax.ttcons Syntax.tnil (Syntax.ttcons (Syntax.tcons (Syntax.tyInt Syntax.w64) Syntax.tnil) (Syntax.ttcons (Syntax.tcons (Syntax.tyInt
       Syntax.w64) Syntax.tnil) (Syntax.ttcons Syntax.tnil (Syntax.ttcons (Syntax.tcons (Syntax.tyInt Syntax.w64) (Syntax.tcons (Syntax.tyInt Syntax.w64) Syntax.tnil)) (Syntax.ttcons (Syntax.tcons
-      (Syntax.tyInt Syntax.w64) Syntax.tnil) (Syntax.ttcons Syntax.tnil Syntax.ttnil))))))))))))))))),
-) (List._∷_ (9, Rows'.whole (Declared'.row FujiHeader.the-type)) (List._∷_ (
-  10,
-  Rows'.whole
-      (Declared.row Decoded.the-type),
-) (List._∷_ (11, Rows'.any-gone (Syntax.tyRef Syntax.erased Syntax.mut (Syntax.tyInt Syntax.w16))) (List._∷_ (
-  12,
-  Mut.msleft (Referent.rtF (Referent.fInt
-      Syntax.w16)) (Syntax.tyRef Syntax.erased Syntax.mut (Syntax.tyInt Syntax.w16)),
-) (List._∷_ (13, Rows'.any-gone (Syntax.tyRef Syntax.erased Syntax.mut (Syntax.tyInt Syntax.w16))) (List._∷_ (
-  14,
-  Mut.msleft (Referent.rtF (Referent.fInt Syntax.w16)) (Syntax.tyRef Syntax.erased Syntax.mut (Syntax.tyInt Syntax.w16)),
-) (List._∷_ (
-  15,
-  Rows'.any-gone (Syntax.tyRef Syntax.erased Syntax.mut
-      Element.behind),
-) List.[])))))))))))))))
+      (Syntax.tyInt Syntax.w64) Syntax.tnil) (Syntax.ttcons Syntax.tnil (Syntax.ttcons Syntax.tnil (Syntax.ttcons (Syntax.tcons (Syntax.tyInt Syntax.w64) Syntax.tnil) (Syntax.ttcons (Syntax.tcons
+      (Syntax.tyInt Syntax.w64) Syntax.tnil) (Syntax.ttcons (Syntax.tcons (Syntax.tyInt Syntax.w64) Syntax.tnil) (Syntax.ttcons Syntax.tnil Syntax.ttnil)))))))))))))))))))))) Syntax.tnil) Syntax.ttnil))),
+)
+    (List._∷_ (
+      8,
+      Rows'.any-gone (Syntax.tyEnum (List._∷_ 115 (List._∷_ 116 (List._∷_ 114 (List._∷_ 101 (List._∷_ 97 (List._∷_ 109 (List._∷_ 58 (List._∷_ 58 (List._∷_ 82 (List._∷_ 101 (List._∷_ 102
+          (List._∷_ 117 (List._∷_ 115 (List._∷_ 97 (List._∷_ 108 List.[]))))))))))))))) (Syntax.ttcons Syntax.tnil (Syntax.ttcons Syntax.tnil (Syntax.ttcons Syntax.tnil (Syntax.ttcons (Syntax.tcons
+          (Syntax.tyInt Syntax.w64) Syntax.tnil) (Syntax.ttcons Syntax.tnil (Syntax.ttcons Syntax.tnil (Syntax.ttcons Syntax.tnil (Syntax.ttcons Syntax.tnil (Syntax.ttcons Syntax.tnil (Syntax.ttcons Syntax.tnil
+          (Syntax.ttcons (Syntax.tcons (Syntax.tyInt Syntax.w64) Syntax.tnil) (Syntax.ttcons (Syntax.tcons (Syntax.tyInt Syntax.w64) Syntax.tnil) (Syntax.ttcons Syntax.tnil (Syntax.ttcons (Syntax.tcons
+          (Syntax.tyInt Syntax.w64) (Syntax.tcons (Syntax.tyInt Syntax.w64) Syntax.tnil)) (Syntax.ttcons (Syntax.tcons (Syntax.tyInt Syntax.w64) Syntax.tnil) (Syntax.ttcons Syntax.tnil (Syntax.ttcons
+          Syntax.tnil (Syntax.ttcons (Syntax.tcons (Syntax.tyInt Syntax.w64) Syntax.tnil) (Syntax.ttcons (Syntax.tcons (Syntax.tyInt Syntax.w64) Syntax.tnil) (Syntax.ttcons (Syntax.tcons (Syntax.tyInt
+          Syntax.w64) Syntax.tnil) (Syntax.ttcons Syntax.tnil Syntax.ttnil)))))))))))))))))))))),
+    ) (List._∷_ (9, Rows'.whole (Declared'.row FujiHeader.the-type)) (List._∷_ (
+      10,
+      Rows'.whole (Declared.row
+          Decoded.the-type),
+    ) (List._∷_ (11, Rows'.any-gone (Syntax.tyRef Syntax.erased Syntax.mut (Syntax.tyInt Syntax.w16))) (List._∷_ (
+      12,
+      Mut.msleft (Referent.rtF (Referent.fInt Syntax.w16))
+          (Syntax.tyRef Syntax.erased Syntax.mut (Syntax.tyInt Syntax.w16)),
+    ) (List._∷_ (13, Rows'.any-gone (Syntax.tyRef Syntax.erased Syntax.mut (Syntax.tyInt Syntax.w16))) (List._∷_ (
+      14,
+      Mut.msleft
+          (Referent.rtF (Referent.fInt Syntax.w16)) (Syntax.tyRef Syntax.erased Syntax.mut (Syntax.tyInt Syntax.w16)),
+    ) (List._∷_ (15, Rows'.any-gone (Syntax.tyRef Syntax.erased Syntax.mut Element.behind))
+    List.[])))))))))))))))
 
 abbrev pub t25 : List.List Row.Entry
 t25 = List._∷_ (
@@ -1849,55 +1902,55 @@ t25 = List._∷_ (
       (Syntax.ttcons Syntax.tnil (Syntax.ttcons Syntax.tnil (Syntax.ttcons (Syntax.tcons (Syntax.tyInt Syntax.w64) Syntax.tnil) (Syntax.ttcons Syntax.tnil (Syntax.ttcons Syntax.tnil (Syntax.ttcons
       Syntax.tnil (Syntax.ttcons Syntax.tnil (Syntax.ttcons Syntax.tnil (Syntax.ttcons Syntax.tnil (Syntax.ttcons (Syntax.tcons (Syntax.tyInt Syntax.w64) Syntax.tnil) (Syntax.ttcons (Syntax.tcons
       (Syntax.tyInt Syntax.w64) Syntax.tnil) (Syntax.ttcons Syntax.tnil (Syntax.ttcons (Syntax.tcons (Syntax.tyInt Syntax.w64) (Syntax.tcons (Syntax.tyInt Syntax.w64) Syntax.tnil)) (Syntax.ttcons
-      (Syntax.tcons (Syntax.tyInt Syntax.w64) Syntax.tnil) (Syntax.ttcons Syntax.tnil Syntax.ttnil))))))))))))))))) Syntax.tnil) Syntax.ttnil))),
-) (List._∷_ (
-  1,
-  Rows'.sslice (Referent.rtF (Referent.fInt
-      Syntax.w8)) (Syntax.tyRef (Syntax.named 0) Syntax.imm (Syntax.tyInt Syntax.w8)) 0,
-) (List._∷_ (
+      (Syntax.tcons (Syntax.tyInt Syntax.w64) Syntax.tnil) (Syntax.ttcons Syntax.tnil (Syntax.ttcons Syntax.tnil (Syntax.ttcons (Syntax.tcons (Syntax.tyInt Syntax.w64) Syntax.tnil) (Syntax.ttcons
+      (Syntax.tcons (Syntax.tyInt Syntax.w64) Syntax.tnil) (Syntax.ttcons (Syntax.tcons (Syntax.tyInt Syntax.w64) Syntax.tnil) (Syntax.ttcons Syntax.tnil Syntax.ttnil)))))))))))))))))))))) Syntax.tnil)
+      Syntax.ttnil))),
+) (List._∷_ (1, Rows'.sslice (Referent.rtF (Referent.fInt Syntax.w8)) (Syntax.tyRef (Syntax.named 0) Syntax.imm (Syntax.tyInt Syntax.w8)) 0) (List._∷_ (
   2,
-  Rows'.any-gone (Syntax.tyStruct (List._∷_ 114 (List._∷_ 101 (List._∷_ 103 (List._∷_ 105 (List._∷_
-      111 (List._∷_ 110 (List._∷_ 58 (List._∷_ 58 (List._∷_ 82 (List._∷_ 101 (List._∷_ 99 (List._∷_ 116 List.[])))))))))))) (Syntax.tcons (Syntax.tyInt Syntax.w64) (Syntax.tcons (Syntax.tyInt Syntax.w64)
-      (Syntax.tcons (Syntax.tyInt Syntax.w64) (Syntax.tcons (Syntax.tyInt Syntax.w64) Syntax.tnil))))),
-) (List._∷_ (3, Rows'.any-gone (Syntax.tyArray (Syntax.tyInt Syntax.w8) 36)) (List._∷_ (
+  Rows'.any-gone
+      (Syntax.tyStruct (List._∷_ 114 (List._∷_ 101 (List._∷_ 103 (List._∷_ 105 (List._∷_ 111 (List._∷_ 110 (List._∷_ 58 (List._∷_ 58 (List._∷_ 82 (List._∷_ 101 (List._∷_ 99 (List._∷_ 116 List.[]))))))))))))
+      (Syntax.tcons (Syntax.tyInt Syntax.w64) (Syntax.tcons (Syntax.tyInt Syntax.w64) (Syntax.tcons (Syntax.tyInt Syntax.w64) (Syntax.tcons (Syntax.tyInt Syntax.w64) Syntax.tnil))))),
+) (List._∷_ (
+  3,
+  Rows'.any-gone (Syntax.tyArray (Syntax.tyInt Syntax.w8) 36),
+) (List._∷_ (
   4,
-  Relend.mslice-owed (Referent.rtF (Referent.fInt Syntax.w16)) (Syntax.tyRef (Syntax.named 1) Syntax.mut (Syntax.tyInt Syntax.w16)) 1 4 Row.off,
-) (List._∷_ (
-  5,
-  Relend.mslice-owed (Referent.rtF
-      (Referent.fInt Syntax.w16)) (Syntax.tyRef (Syntax.named 2) Syntax.mut (Syntax.tyInt Syntax.w16)) 2 5 Row.off,
-) (List._∷_ (
+  Relend.mslice-owed (Referent.rtF (Referent.fInt Syntax.w16)) (Syntax.tyRef (Syntax.named 1) Syntax.mut (Syntax.tyInt
+      Syntax.w16)) 1 4 Row.off,
+) (List._∷_ (5, Relend.mslice-owed (Referent.rtF (Referent.fInt Syntax.w16)) (Syntax.tyRef (Syntax.named 2) Syntax.mut (Syntax.tyInt Syntax.w16)) 2 5 Row.off) (List._∷_ (
   6,
-  Relend.mslice-owed (Element.type) (Syntax.tyRef (Syntax.named 3)
-      Syntax.mut Element.behind) 3 6 Row.off,
+  Relend.mslice-owed (Element.type) (Syntax.tyRef (Syntax.named 3) Syntax.mut Element.behind) 3 6 Row.off,
 ) (List._∷_ (
   7,
-  Rows'.any-gone (Syntax.tyEnum (List._∷_ 115 (List._∷_ 116 (List._∷_ 114 (List._∷_ 101 (List._∷_ 97 (List._∷_ 109 (List._∷_ 58 (List._∷_ 58
-      (List._∷_ 80 (List._∷_ 97 (List._∷_ 114 (List._∷_ 115 (List._∷_ 101 (List._∷_ 100 List.[])))))))))))))) (Syntax.ttcons (Syntax.tcons (Syntax.tyStruct (List._∷_ 115 (List._∷_ 116 (List._∷_ 114
-      (List._∷_ 101 (List._∷_ 97 (List._∷_ 109 (List._∷_ 58 (List._∷_ 58 (List._∷_ 70 (List._∷_ 117 (List._∷_ 106 (List._∷_ 105 (List._∷_ 72 (List._∷_ 101 (List._∷_ 97 (List._∷_ 100 (List._∷_ 101 (List._∷_
-      114 List.[])))))))))))))))))) (Syntax.tcons Syntax.tyBool (Syntax.tcons Syntax.tyBool (Syntax.tcons (Syntax.tyInt Syntax.w32) (Syntax.tcons (Syntax.tyInt Syntax.w32) (Syntax.tcons (Syntax.tyInt
-      Syntax.w32) (Syntax.tcons (Syntax.tyInt Syntax.w32) (Syntax.tcons (Syntax.tyInt Syntax.w32) (Syntax.tcons (Syntax.tyInt Syntax.w32) (Syntax.tcons (Syntax.tyInt Syntax.w32) Syntax.tnil))))))))))
-      Syntax.tnil) (Syntax.ttcons (Syntax.tcons (Syntax.tyEnum (List._∷_ 115 (List._∷_ 116 (List._∷_ 114 (List._∷_ 101 (List._∷_ 97 (List._∷_ 109 (List._∷_ 58 (List._∷_ 58 (List._∷_ 82 (List._∷_ 101
-      (List._∷_ 102 (List._∷_ 117 (List._∷_ 115 (List._∷_ 97 (List._∷_ 108 List.[]))))))))))))))) (Syntax.ttcons Syntax.tnil (Syntax.ttcons Syntax.tnil (Syntax.ttcons Syntax.tnil (Syntax.ttcons
-      (Syntax.tcons (Syntax.tyInt Syntax.w64) Syntax.tnil) (Syntax.ttcons Syntax.tnil (Syntax.ttcons Syntax.tnil (Syntax.ttcons Syntax.tnil (Syntax.ttcons Syntax.tnil (Syntax.ttcons Syntax.tnil
-      (Syntax.ttcons Syntax.tnil (Syntax.ttcons (Syntax.tcons (Syntax.tyInt Syntax.w64) Syntax.tnil) (Syntax.ttcons (Syntax.tcons (Syntax.tyInt Syntax.w64) Syntax.tnil) (Syntax.ttcons Syntax.tnil
-      (Syntax.ttcons (Syntax.tcons (Syntax.tyInt Syntax.w64) (Syntax.tcons (Syntax.tyInt Syntax.w64) Syntax.tnil)) (Syntax.ttcons (Syntax.tcons (Syntax.tyInt Syntax.w64) Syntax.tnil) (Syntax.ttcons
-      Syntax.tnil Syntax.ttnil))))))))))))))))) Syntax.tnil) Syntax.ttnil))),
-) (List._∷_ (
-  8,
-  Rows'.any-gone (Syntax.tyEnum (List._∷_ 115 (List._∷_ 116 (List._∷_ 114 (List._∷_ 101 (List._∷_ 97 (List._∷_
+  Rows'.any-gone (Syntax.tyEnum (List._∷_ 115 (List._∷_ 116 (List._∷_ 114
+      (List._∷_ 101 (List._∷_ 97 (List._∷_ 109 (List._∷_ 58 (List._∷_ 58 (List._∷_ 80 (List._∷_ 97 (List._∷_ 114 (List._∷_ 115 (List._∷_ 101 (List._∷_ 100 List.[])))))))))))))) (Syntax.ttcons (Syntax.tcons
+      (Syntax.tyStruct (List._∷_ 115 (List._∷_ 116 (List._∷_ 114 (List._∷_ 101 (List._∷_ 97 (List._∷_ 109 (List._∷_ 58 (List._∷_ 58 (List._∷_ 70 (List._∷_ 117 (List._∷_ 106 (List._∷_ 105 (List._∷_ 72
+      (List._∷_ 101 (List._∷_ 97 (List._∷_ 100 (List._∷_ 101 (List._∷_ 114 List.[])))))))))))))))))) (Syntax.tcons Syntax.tyBool (Syntax.tcons Syntax.tyBool (Syntax.tcons (Syntax.tyInt Syntax.w32)
+      (Syntax.tcons (Syntax.tyInt Syntax.w32) (Syntax.tcons (Syntax.tyInt Syntax.w32) (Syntax.tcons (Syntax.tyInt Syntax.w32) (Syntax.tcons (Syntax.tyInt Syntax.w32) (Syntax.tcons (Syntax.tyInt Syntax.w32)
+      (Syntax.tcons (Syntax.tyInt Syntax.w32) Syntax.tnil)))))))))) Syntax.tnil) (Syntax.ttcons (Syntax.tcons (Syntax.tyEnum (List._∷_ 115 (List._∷_ 116 (List._∷_ 114 (List._∷_ 101 (List._∷_ 97 (List._∷_
       109 (List._∷_ 58 (List._∷_ 58 (List._∷_ 82 (List._∷_ 101 (List._∷_ 102 (List._∷_ 117 (List._∷_ 115 (List._∷_ 97 (List._∷_ 108 List.[]))))))))))))))) (Syntax.ttcons Syntax.tnil (Syntax.ttcons
       Syntax.tnil (Syntax.ttcons Syntax.tnil (Syntax.ttcons (Syntax.tcons (Syntax.tyInt Syntax.w64) Syntax.tnil) (Syntax.ttcons Syntax.tnil (Syntax.ttcons Syntax.tnil (Syntax.ttcons Syntax.tnil
       (Syntax.ttcons Syntax.tnil (Syntax.ttcons Syntax.tnil (Syntax.ttcons Syntax.tnil (Syntax.ttcons (Syntax.tcons (Syntax.tyInt Syntax.w64) Syntax.tnil) (Syntax.ttcons (Syntax.tcons (Syntax.tyInt
       Syntax.w64) Syntax.tnil) (Syntax.ttcons Syntax.tnil (Syntax.ttcons (Syntax.tcons (Syntax.tyInt Syntax.w64) (Syntax.tcons (Syntax.tyInt Syntax.w64) Syntax.tnil)) (Syntax.ttcons (Syntax.tcons
-      (Syntax.tyInt Syntax.w64) Syntax.tnil) (Syntax.ttcons Syntax.tnil Syntax.ttnil))))))))))))))))),
-) (List._∷_ (
-  9,
-  Rows'.any-gone (Syntax.tyStruct (List._∷_ 115 (List._∷_ 116 (List._∷_ 114 (List._∷_
-      101 (List._∷_ 97 (List._∷_ 109 (List._∷_ 58 (List._∷_ 58 (List._∷_ 70 (List._∷_ 117 (List._∷_ 106 (List._∷_ 105 (List._∷_ 72 (List._∷_ 101 (List._∷_ 97 (List._∷_ 100 (List._∷_ 101 (List._∷_ 114
-      List.[])))))))))))))))))) (Syntax.tcons Syntax.tyBool (Syntax.tcons Syntax.tyBool (Syntax.tcons (Syntax.tyInt Syntax.w32) (Syntax.tcons (Syntax.tyInt Syntax.w32) (Syntax.tcons (Syntax.tyInt
-      Syntax.w32) (Syntax.tcons (Syntax.tyInt Syntax.w32) (Syntax.tcons (Syntax.tyInt Syntax.w32) (Syntax.tcons (Syntax.tyInt Syntax.w32) (Syntax.tcons (Syntax.tyInt Syntax.w32) Syntax.tnil)))))))))),
+      (Syntax.tyInt Syntax.w64) Syntax.tnil) (Syntax.ttcons Syntax.tnil (Syntax.ttcons Syntax.tnil (Syntax.ttcons (Syntax.tcons (Syntax.tyInt Syntax.w64) Syntax.tnil) (Syntax.ttcons (Syntax.tcons
+      (Syntax.tyInt Syntax.w64) Syntax.tnil) (Syntax.ttcons (Syntax.tcons (Syntax.tyInt Syntax.w64) Syntax.tnil) (Syntax.ttcons Syntax.tnil Syntax.ttnil)))))))))))))))))))))) Syntax.tnil) Syntax.ttnil))),
 )
+    (List._∷_ (
+      8,
+      Rows'.any-gone (Syntax.tyEnum (List._∷_ 115 (List._∷_ 116 (List._∷_ 114 (List._∷_ 101 (List._∷_ 97 (List._∷_ 109 (List._∷_ 58 (List._∷_ 58 (List._∷_ 82 (List._∷_ 101 (List._∷_ 102
+          (List._∷_ 117 (List._∷_ 115 (List._∷_ 97 (List._∷_ 108 List.[]))))))))))))))) (Syntax.ttcons Syntax.tnil (Syntax.ttcons Syntax.tnil (Syntax.ttcons Syntax.tnil (Syntax.ttcons (Syntax.tcons
+          (Syntax.tyInt Syntax.w64) Syntax.tnil) (Syntax.ttcons Syntax.tnil (Syntax.ttcons Syntax.tnil (Syntax.ttcons Syntax.tnil (Syntax.ttcons Syntax.tnil (Syntax.ttcons Syntax.tnil (Syntax.ttcons Syntax.tnil
+          (Syntax.ttcons (Syntax.tcons (Syntax.tyInt Syntax.w64) Syntax.tnil) (Syntax.ttcons (Syntax.tcons (Syntax.tyInt Syntax.w64) Syntax.tnil) (Syntax.ttcons Syntax.tnil (Syntax.ttcons (Syntax.tcons
+          (Syntax.tyInt Syntax.w64) (Syntax.tcons (Syntax.tyInt Syntax.w64) Syntax.tnil)) (Syntax.ttcons (Syntax.tcons (Syntax.tyInt Syntax.w64) Syntax.tnil) (Syntax.ttcons Syntax.tnil (Syntax.ttcons
+          Syntax.tnil (Syntax.ttcons (Syntax.tcons (Syntax.tyInt Syntax.w64) Syntax.tnil) (Syntax.ttcons (Syntax.tcons (Syntax.tyInt Syntax.w64) Syntax.tnil) (Syntax.ttcons (Syntax.tcons (Syntax.tyInt
+          Syntax.w64) Syntax.tnil) (Syntax.ttcons Syntax.tnil Syntax.ttnil)))))))))))))))))))))),
+    ) (List._∷_ (
+      9,
+      Rows'.any-gone (Syntax.tyStruct (List._∷_ 115 (List._∷_ 116 (List._∷_ 114 (List._∷_ 101
+          (List._∷_ 97 (List._∷_ 109 (List._∷_ 58 (List._∷_ 58 (List._∷_ 70 (List._∷_ 117 (List._∷_ 106 (List._∷_ 105 (List._∷_ 72 (List._∷_ 101 (List._∷_ 97 (List._∷_ 100 (List._∷_ 101 (List._∷_ 114
+          List.[])))))))))))))))))) (Syntax.tcons Syntax.tyBool (Syntax.tcons Syntax.tyBool (Syntax.tcons (Syntax.tyInt Syntax.w32) (Syntax.tcons (Syntax.tyInt Syntax.w32) (Syntax.tcons (Syntax.tyInt
+          Syntax.w32) (Syntax.tcons (Syntax.tyInt Syntax.w32) (Syntax.tcons (Syntax.tyInt Syntax.w32) (Syntax.tcons (Syntax.tyInt Syntax.w32) (Syntax.tcons (Syntax.tyInt Syntax.w32) Syntax.tnil)))))))))),
+    )
     (List._∷_ (10, Rows'.whole (Declared.row Decoded.the-type)) (List._∷_ (11, Rows'.any-gone (Syntax.tyRef Syntax.erased Syntax.mut (Syntax.tyInt Syntax.w16))) (List._∷_ (
       12,
       Mut.msleft (Referent.rtF
@@ -1918,71 +1971,69 @@ t26 = List._∷_ (
       (Syntax.ttcons Syntax.tnil (Syntax.ttcons Syntax.tnil (Syntax.ttcons (Syntax.tcons (Syntax.tyInt Syntax.w64) Syntax.tnil) (Syntax.ttcons Syntax.tnil (Syntax.ttcons Syntax.tnil (Syntax.ttcons
       Syntax.tnil (Syntax.ttcons Syntax.tnil (Syntax.ttcons Syntax.tnil (Syntax.ttcons Syntax.tnil (Syntax.ttcons (Syntax.tcons (Syntax.tyInt Syntax.w64) Syntax.tnil) (Syntax.ttcons (Syntax.tcons
       (Syntax.tyInt Syntax.w64) Syntax.tnil) (Syntax.ttcons Syntax.tnil (Syntax.ttcons (Syntax.tcons (Syntax.tyInt Syntax.w64) (Syntax.tcons (Syntax.tyInt Syntax.w64) Syntax.tnil)) (Syntax.ttcons
-      (Syntax.tcons (Syntax.tyInt Syntax.w64) Syntax.tnil) (Syntax.ttcons Syntax.tnil Syntax.ttnil))))))))))))))))) Syntax.tnil) Syntax.ttnil))),
-) (List._∷_ (
-  1,
-  Rows'.sslice (Referent.rtF (Referent.fInt
-      Syntax.w8)) (Syntax.tyRef (Syntax.named 0) Syntax.imm (Syntax.tyInt Syntax.w8)) 0,
-) (List._∷_ (
+      (Syntax.tcons (Syntax.tyInt Syntax.w64) Syntax.tnil) (Syntax.ttcons Syntax.tnil (Syntax.ttcons Syntax.tnil (Syntax.ttcons (Syntax.tcons (Syntax.tyInt Syntax.w64) Syntax.tnil) (Syntax.ttcons
+      (Syntax.tcons (Syntax.tyInt Syntax.w64) Syntax.tnil) (Syntax.ttcons (Syntax.tcons (Syntax.tyInt Syntax.w64) Syntax.tnil) (Syntax.ttcons Syntax.tnil Syntax.ttnil)))))))))))))))))))))) Syntax.tnil)
+      Syntax.ttnil))),
+) (List._∷_ (1, Rows'.sslice (Referent.rtF (Referent.fInt Syntax.w8)) (Syntax.tyRef (Syntax.named 0) Syntax.imm (Syntax.tyInt Syntax.w8)) 0) (List._∷_ (
   2,
-  Rows'.any-gone (Syntax.tyStruct (List._∷_ 114 (List._∷_ 101 (List._∷_ 103 (List._∷_ 105 (List._∷_
-      111 (List._∷_ 110 (List._∷_ 58 (List._∷_ 58 (List._∷_ 82 (List._∷_ 101 (List._∷_ 99 (List._∷_ 116 List.[])))))))))))) (Syntax.tcons (Syntax.tyInt Syntax.w64) (Syntax.tcons (Syntax.tyInt Syntax.w64)
-      (Syntax.tcons (Syntax.tyInt Syntax.w64) (Syntax.tcons (Syntax.tyInt Syntax.w64) Syntax.tnil))))),
-) (List._∷_ (3, Rows'.any-gone (Syntax.tyArray (Syntax.tyInt Syntax.w8) 36)) (List._∷_ (
+  Rows'.any-gone
+      (Syntax.tyStruct (List._∷_ 114 (List._∷_ 101 (List._∷_ 103 (List._∷_ 105 (List._∷_ 111 (List._∷_ 110 (List._∷_ 58 (List._∷_ 58 (List._∷_ 82 (List._∷_ 101 (List._∷_ 99 (List._∷_ 116 List.[]))))))))))))
+      (Syntax.tcons (Syntax.tyInt Syntax.w64) (Syntax.tcons (Syntax.tyInt Syntax.w64) (Syntax.tcons (Syntax.tyInt Syntax.w64) (Syntax.tcons (Syntax.tyInt Syntax.w64) Syntax.tnil))))),
+) (List._∷_ (
+  3,
+  Rows'.any-gone (Syntax.tyArray (Syntax.tyInt Syntax.w8) 36),
+) (List._∷_ (
   4,
-  Mut.mslice
-      (Referent.rtF (Referent.fInt Syntax.w16)) (Syntax.tyRef (Syntax.named 1) Syntax.mut (Syntax.tyInt Syntax.w16)) 1,
-) (List._∷_ (
-  5,
-  Relend.mslice-owed (Referent.rtF (Referent.fInt Syntax.w16))
-      (Syntax.tyRef (Syntax.named 2) Syntax.mut (Syntax.tyInt Syntax.w16)) 2 5 Row.off,
-) (List._∷_ (
+  Mut.mslice (Referent.rtF (Referent.fInt Syntax.w16)) (Syntax.tyRef (Syntax.named 1) Syntax.mut (Syntax.tyInt Syntax.w16)) 1,
+) (List._∷_ (5, Relend.mslice-owed (Referent.rtF (Referent.fInt Syntax.w16)) (Syntax.tyRef (Syntax.named 2) Syntax.mut (Syntax.tyInt Syntax.w16)) 2 5 Row.off) (List._∷_ (
   6,
-  Relend.mslice-owed (Element.type) (Syntax.tyRef (Syntax.named 3) Syntax.mut Element.behind) 3 6
-      Row.off,
+  Relend.mslice-owed
+      (Element.type) (Syntax.tyRef (Syntax.named 3) Syntax.mut Element.behind) 3 6 Row.off,
 ) (List._∷_ (
   7,
-  Rows'.any-gone (Syntax.tyEnum (List._∷_ 115 (List._∷_ 116 (List._∷_ 114 (List._∷_ 101 (List._∷_ 97 (List._∷_ 109 (List._∷_ 58 (List._∷_ 58 (List._∷_ 80 (List._∷_ 97 (List._∷_
-      114 (List._∷_ 115 (List._∷_ 101 (List._∷_ 100 List.[])))))))))))))) (Syntax.ttcons (Syntax.tcons (Syntax.tyStruct (List._∷_ 115 (List._∷_ 116 (List._∷_ 114 (List._∷_ 101 (List._∷_ 97 (List._∷_ 109
-      (List._∷_ 58 (List._∷_ 58 (List._∷_ 70 (List._∷_ 117 (List._∷_ 106 (List._∷_ 105 (List._∷_ 72 (List._∷_ 101 (List._∷_ 97 (List._∷_ 100 (List._∷_ 101 (List._∷_ 114 List.[]))))))))))))))))))
-      (Syntax.tcons Syntax.tyBool (Syntax.tcons Syntax.tyBool (Syntax.tcons (Syntax.tyInt Syntax.w32) (Syntax.tcons (Syntax.tyInt Syntax.w32) (Syntax.tcons (Syntax.tyInt Syntax.w32) (Syntax.tcons
-      (Syntax.tyInt Syntax.w32) (Syntax.tcons (Syntax.tyInt Syntax.w32) (Syntax.tcons (Syntax.tyInt Syntax.w32) (Syntax.tcons (Syntax.tyInt Syntax.w32) Syntax.tnil)))))))))) Syntax.tnil) (Syntax.ttcons
-      (Syntax.tcons (Syntax.tyEnum (List._∷_ 115 (List._∷_ 116 (List._∷_ 114 (List._∷_ 101 (List._∷_ 97 (List._∷_ 109 (List._∷_ 58 (List._∷_ 58 (List._∷_ 82 (List._∷_ 101 (List._∷_ 102 (List._∷_ 117
-      (List._∷_ 115 (List._∷_ 97 (List._∷_ 108 List.[]))))))))))))))) (Syntax.ttcons Syntax.tnil (Syntax.ttcons Syntax.tnil (Syntax.ttcons Syntax.tnil (Syntax.ttcons (Syntax.tcons (Syntax.tyInt Syntax.w64)
-      Syntax.tnil) (Syntax.ttcons Syntax.tnil (Syntax.ttcons Syntax.tnil (Syntax.ttcons Syntax.tnil (Syntax.ttcons Syntax.tnil (Syntax.ttcons Syntax.tnil (Syntax.ttcons Syntax.tnil (Syntax.ttcons
-      (Syntax.tcons (Syntax.tyInt Syntax.w64) Syntax.tnil) (Syntax.ttcons (Syntax.tcons (Syntax.tyInt Syntax.w64) Syntax.tnil) (Syntax.ttcons Syntax.tnil (Syntax.ttcons (Syntax.tcons (Syntax.tyInt
-      Syntax.w64) (Syntax.tcons (Syntax.tyInt Syntax.w64) Syntax.tnil)) (Syntax.ttcons (Syntax.tcons (Syntax.tyInt Syntax.w64) Syntax.tnil) (Syntax.ttcons Syntax.tnil Syntax.ttnil)))))))))))))))))
-      Syntax.tnil) Syntax.ttnil))),
-) (List._∷_ (
-  8,
-  Rows'.any-gone (Syntax.tyEnum (List._∷_ 115 (List._∷_ 116 (List._∷_ 114 (List._∷_ 101 (List._∷_ 97 (List._∷_ 109 (List._∷_ 58 (List._∷_ 58 (List._∷_ 82
-      (List._∷_ 101 (List._∷_ 102 (List._∷_ 117 (List._∷_ 115 (List._∷_ 97 (List._∷_ 108 List.[]))))))))))))))) (Syntax.ttcons Syntax.tnil (Syntax.ttcons Syntax.tnil (Syntax.ttcons Syntax.tnil
+  Rows'.any-gone (Syntax.tyEnum (List._∷_ 115 (List._∷_ 116 (List._∷_ 114 (List._∷_ 101 (List._∷_
+      97 (List._∷_ 109 (List._∷_ 58 (List._∷_ 58 (List._∷_ 80 (List._∷_ 97 (List._∷_ 114 (List._∷_ 115 (List._∷_ 101 (List._∷_ 100 List.[])))))))))))))) (Syntax.ttcons (Syntax.tcons (Syntax.tyStruct
+      (List._∷_ 115 (List._∷_ 116 (List._∷_ 114 (List._∷_ 101 (List._∷_ 97 (List._∷_ 109 (List._∷_ 58 (List._∷_ 58 (List._∷_ 70 (List._∷_ 117 (List._∷_ 106 (List._∷_ 105 (List._∷_ 72 (List._∷_ 101 (List._∷_
+      97 (List._∷_ 100 (List._∷_ 101 (List._∷_ 114 List.[])))))))))))))))))) (Syntax.tcons Syntax.tyBool (Syntax.tcons Syntax.tyBool (Syntax.tcons (Syntax.tyInt Syntax.w32) (Syntax.tcons (Syntax.tyInt
+      Syntax.w32) (Syntax.tcons (Syntax.tyInt Syntax.w32) (Syntax.tcons (Syntax.tyInt Syntax.w32) (Syntax.tcons (Syntax.tyInt Syntax.w32) (Syntax.tcons (Syntax.tyInt Syntax.w32) (Syntax.tcons (Syntax.tyInt
+      Syntax.w32) Syntax.tnil)))))))))) Syntax.tnil) (Syntax.ttcons (Syntax.tcons (Syntax.tyEnum (List._∷_ 115 (List._∷_ 116 (List._∷_ 114 (List._∷_ 101 (List._∷_ 97 (List._∷_ 109 (List._∷_ 58 (List._∷_ 58
+      (List._∷_ 82 (List._∷_ 101 (List._∷_ 102 (List._∷_ 117 (List._∷_ 115 (List._∷_ 97 (List._∷_ 108 List.[]))))))))))))))) (Syntax.ttcons Syntax.tnil (Syntax.ttcons Syntax.tnil (Syntax.ttcons Syntax.tnil
       (Syntax.ttcons (Syntax.tcons (Syntax.tyInt Syntax.w64) Syntax.tnil) (Syntax.ttcons Syntax.tnil (Syntax.ttcons Syntax.tnil (Syntax.ttcons Syntax.tnil (Syntax.ttcons Syntax.tnil (Syntax.ttcons
       Syntax.tnil (Syntax.ttcons Syntax.tnil (Syntax.ttcons (Syntax.tcons (Syntax.tyInt Syntax.w64) Syntax.tnil) (Syntax.ttcons (Syntax.tcons (Syntax.tyInt Syntax.w64) Syntax.tnil) (Syntax.ttcons
       Syntax.tnil (Syntax.ttcons (Syntax.tcons (Syntax.tyInt Syntax.w64) (Syntax.tcons (Syntax.tyInt Syntax.w64) Syntax.tnil)) (Syntax.ttcons (Syntax.tcons (Syntax.tyInt Syntax.w64) Syntax.tnil)
-      (Syntax.ttcons Syntax.tnil Syntax.ttnil))))))))))))))))),
+      (Syntax.ttcons Syntax.tnil (Syntax.ttcons Syntax.tnil (Syntax.ttcons (Syntax.tcons (Syntax.tyInt Syntax.w64) Syntax.tnil) (Syntax.ttcons (Syntax.tcons (Syntax.tyInt Syntax.w64) Syntax.tnil)
+      (Syntax.ttcons (Syntax.tcons (Syntax.tyInt Syntax.w64) Syntax.tnil) (Syntax.ttcons Syntax.tnil Syntax.ttnil)))))))))))))))))))))) Syntax.tnil) Syntax.ttnil))),
+) (List._∷_ (
+  8,
+  Rows'.any-gone
+      (Syntax.tyEnum (List._∷_ 115 (List._∷_ 116 (List._∷_ 114 (List._∷_ 101 (List._∷_ 97 (List._∷_ 109 (List._∷_ 58 (List._∷_ 58 (List._∷_ 82 (List._∷_ 101 (List._∷_ 102 (List._∷_ 117 (List._∷_ 115
+      (List._∷_ 97 (List._∷_ 108 List.[]))))))))))))))) (Syntax.ttcons Syntax.tnil (Syntax.ttcons Syntax.tnil (Syntax.ttcons Syntax.tnil (Syntax.ttcons (Syntax.tcons (Syntax.tyInt Syntax.w64) Syntax.tnil)
+      (Syntax.ttcons Syntax.tnil (Syntax.ttcons Syntax.tnil (Syntax.ttcons Syntax.tnil (Syntax.ttcons Syntax.tnil (Syntax.ttcons Syntax.tnil (Syntax.ttcons Syntax.tnil (Syntax.ttcons (Syntax.tcons
+      (Syntax.tyInt Syntax.w64) Syntax.tnil) (Syntax.ttcons (Syntax.tcons (Syntax.tyInt Syntax.w64) Syntax.tnil) (Syntax.ttcons Syntax.tnil (Syntax.ttcons (Syntax.tcons (Syntax.tyInt Syntax.w64)
+      (Syntax.tcons (Syntax.tyInt Syntax.w64) Syntax.tnil)) (Syntax.ttcons (Syntax.tcons (Syntax.tyInt Syntax.w64) Syntax.tnil) (Syntax.ttcons Syntax.tnil (Syntax.ttcons Syntax.tnil (Syntax.ttcons
+      (Syntax.tcons (Syntax.tyInt Syntax.w64) Syntax.tnil) (Syntax.ttcons (Syntax.tcons (Syntax.tyInt Syntax.w64) Syntax.tnil) (Syntax.ttcons (Syntax.tcons (Syntax.tyInt Syntax.w64) Syntax.tnil)
+      (Syntax.ttcons Syntax.tnil Syntax.ttnil)))))))))))))))))))))),
 ) (List._∷_ (
   9,
-  Rows'.any-gone (Syntax.tyStruct (List._∷_ 115 (List._∷_ 116 (List._∷_ 114 (List._∷_ 101 (List._∷_ 97 (List._∷_ 109 (List._∷_
-      58 (List._∷_ 58 (List._∷_ 70 (List._∷_ 117 (List._∷_ 106 (List._∷_ 105 (List._∷_ 72 (List._∷_ 101 (List._∷_ 97 (List._∷_ 100 (List._∷_ 101 (List._∷_ 114 List.[])))))))))))))))))) (Syntax.tcons
-      Syntax.tyBool (Syntax.tcons Syntax.tyBool (Syntax.tcons (Syntax.tyInt Syntax.w32) (Syntax.tcons (Syntax.tyInt Syntax.w32) (Syntax.tcons (Syntax.tyInt Syntax.w32) (Syntax.tcons (Syntax.tyInt
-      Syntax.w32) (Syntax.tcons (Syntax.tyInt Syntax.w32) (Syntax.tcons (Syntax.tyInt Syntax.w32) (Syntax.tcons (Syntax.tyInt Syntax.w32) Syntax.tnil)))))))))),
+  Rows'.any-gone (Syntax.tyStruct (List._∷_ 115 (List._∷_ 116 (List._∷_ 114 (List._∷_ 101 (List._∷_ 97 (List._∷_ 109
+      (List._∷_ 58 (List._∷_ 58 (List._∷_ 70 (List._∷_ 117 (List._∷_ 106 (List._∷_ 105 (List._∷_ 72 (List._∷_ 101 (List._∷_ 97 (List._∷_ 100 (List._∷_ 101 (List._∷_ 114 List.[]))))))))))))))))))
+      (Syntax.tcons Syntax.tyBool (Syntax.tcons Syntax.tyBool (Syntax.tcons (Syntax.tyInt Syntax.w32) (Syntax.tcons (Syntax.tyInt Syntax.w32) (Syntax.tcons (Syntax.tyInt Syntax.w32) (Syntax.tcons
+      (Syntax.tyInt Syntax.w32) (Syntax.tcons (Syntax.tyInt Syntax.w32) (Syntax.tcons (Syntax.tyInt Syntax.w32) (Syntax.tcons (Syntax.tyInt Syntax.w32) Syntax.tnil)))))))))),
 ) (List._∷_ (
   10,
-  Rows'.whole (Declared.row
-      Decoded.the-type),
+  Rows'.whole
+      (Declared.row Decoded.the-type),
 ) (List._∷_ (11, Rows'.any-gone (Syntax.tyRef Syntax.erased Syntax.mut (Syntax.tyInt Syntax.w16))) (List._∷_ (
   12,
-  Rows'.any-gone (Syntax.tyStruct (List._∷_ 38 (List._∷_ 91
-      (List._∷_ 93 List.[]))) (Syntax.tcons (Syntax.tyRef Syntax.erased Syntax.mut (Syntax.tyInt Syntax.w16)) (Syntax.tcons (Syntax.tyInt Syntax.w64) Syntax.tnil))),
+  Rows'.any-gone (Syntax.tyStruct (List._∷_ 38
+      (List._∷_ 91 (List._∷_ 93 List.[]))) (Syntax.tcons (Syntax.tyRef Syntax.erased Syntax.mut (Syntax.tyInt Syntax.w16)) (Syntax.tcons (Syntax.tyInt Syntax.w64) Syntax.tnil))),
 ) (List._∷_ (
   13,
-  Rows'.any-gone
-      (Syntax.tyRef Syntax.erased Syntax.mut (Syntax.tyInt Syntax.w16)),
+  Rows'.any-gone (Syntax.tyRef Syntax.erased Syntax.mut (Syntax.tyInt Syntax.w16)),
 ) (List._∷_ (
   14,
-  Mut.msleft (Referent.rtF (Referent.fInt Syntax.w16)) (Syntax.tyRef Syntax.erased Syntax.mut (Syntax.tyInt
-      Syntax.w16)),
+  Mut.msleft (Referent.rtF (Referent.fInt Syntax.w16)) (Syntax.tyRef Syntax.erased Syntax.mut
+      (Syntax.tyInt Syntax.w16)),
 ) (List._∷_ (15, Rows'.any-gone (Syntax.tyRef Syntax.erased Syntax.mut Element.behind)) List.[])))))))))))))))
 
 abbrev pub t27 : List.List Row.Entry
@@ -1994,69 +2045,74 @@ t27 = List._∷_ (
       (Syntax.ttcons Syntax.tnil (Syntax.ttcons Syntax.tnil (Syntax.ttcons (Syntax.tcons (Syntax.tyInt Syntax.w64) Syntax.tnil) (Syntax.ttcons Syntax.tnil (Syntax.ttcons Syntax.tnil (Syntax.ttcons
       Syntax.tnil (Syntax.ttcons Syntax.tnil (Syntax.ttcons Syntax.tnil (Syntax.ttcons Syntax.tnil (Syntax.ttcons (Syntax.tcons (Syntax.tyInt Syntax.w64) Syntax.tnil) (Syntax.ttcons (Syntax.tcons
       (Syntax.tyInt Syntax.w64) Syntax.tnil) (Syntax.ttcons Syntax.tnil (Syntax.ttcons (Syntax.tcons (Syntax.tyInt Syntax.w64) (Syntax.tcons (Syntax.tyInt Syntax.w64) Syntax.tnil)) (Syntax.ttcons
-      (Syntax.tcons (Syntax.tyInt Syntax.w64) Syntax.tnil) (Syntax.ttcons Syntax.tnil Syntax.ttnil))))))))))))))))) Syntax.tnil) Syntax.ttnil))),
-) (List._∷_ (
-  1,
-  Rows'.sslice (Referent.rtF (Referent.fInt
-      Syntax.w8)) (Syntax.tyRef (Syntax.named 0) Syntax.imm (Syntax.tyInt Syntax.w8)) 0,
-) (List._∷_ (
+      (Syntax.tcons (Syntax.tyInt Syntax.w64) Syntax.tnil) (Syntax.ttcons Syntax.tnil (Syntax.ttcons Syntax.tnil (Syntax.ttcons (Syntax.tcons (Syntax.tyInt Syntax.w64) Syntax.tnil) (Syntax.ttcons
+      (Syntax.tcons (Syntax.tyInt Syntax.w64) Syntax.tnil) (Syntax.ttcons (Syntax.tcons (Syntax.tyInt Syntax.w64) Syntax.tnil) (Syntax.ttcons Syntax.tnil Syntax.ttnil)))))))))))))))))))))) Syntax.tnil)
+      Syntax.ttnil))),
+) (List._∷_ (1, Rows'.sslice (Referent.rtF (Referent.fInt Syntax.w8)) (Syntax.tyRef (Syntax.named 0) Syntax.imm (Syntax.tyInt Syntax.w8)) 0) (List._∷_ (
   2,
-  Rows'.any-gone (Syntax.tyStruct (List._∷_ 114 (List._∷_ 101 (List._∷_ 103 (List._∷_ 105 (List._∷_
-      111 (List._∷_ 110 (List._∷_ 58 (List._∷_ 58 (List._∷_ 82 (List._∷_ 101 (List._∷_ 99 (List._∷_ 116 List.[])))))))))))) (Syntax.tcons (Syntax.tyInt Syntax.w64) (Syntax.tcons (Syntax.tyInt Syntax.w64)
-      (Syntax.tcons (Syntax.tyInt Syntax.w64) (Syntax.tcons (Syntax.tyInt Syntax.w64) Syntax.tnil))))),
-) (List._∷_ (3, Rows'.any-gone (Syntax.tyArray (Syntax.tyInt Syntax.w8) 36)) (List._∷_ (
-  4,
-  Mut.mslice
-      (Referent.rtF (Referent.fInt Syntax.w16)) (Syntax.tyRef (Syntax.named 1) Syntax.mut (Syntax.tyInt Syntax.w16)) 1,
+  Rows'.any-gone
+      (Syntax.tyStruct (List._∷_ 114 (List._∷_ 101 (List._∷_ 103 (List._∷_ 105 (List._∷_ 111 (List._∷_ 110 (List._∷_ 58 (List._∷_ 58 (List._∷_ 82 (List._∷_ 101 (List._∷_ 99 (List._∷_ 116 List.[]))))))))))))
+      (Syntax.tcons (Syntax.tyInt Syntax.w64) (Syntax.tcons (Syntax.tyInt Syntax.w64) (Syntax.tcons (Syntax.tyInt Syntax.w64) (Syntax.tcons (Syntax.tyInt Syntax.w64) Syntax.tnil))))),
 ) (List._∷_ (
-  5,
-  Mut.mslice (Referent.rtF (Referent.fInt Syntax.w16)) (Syntax.tyRef
-      (Syntax.named 2) Syntax.mut (Syntax.tyInt Syntax.w16)) 2,
-) (List._∷_ (6, Relend.mslice-owed (Element.type) (Syntax.tyRef (Syntax.named 3) Syntax.mut Element.behind) 3 6 Row.off) (List._∷_ (
+  3,
+  Rows'.any-gone (Syntax.tyArray (Syntax.tyInt Syntax.w8) 36),
+) (List._∷_ (
+  4,
+  Mut.mslice (Referent.rtF (Referent.fInt Syntax.w16)) (Syntax.tyRef (Syntax.named 1) Syntax.mut (Syntax.tyInt Syntax.w16)) 1,
+) (List._∷_ (5, Mut.mslice (Referent.rtF (Referent.fInt Syntax.w16)) (Syntax.tyRef (Syntax.named 2) Syntax.mut (Syntax.tyInt Syntax.w16)) 2) (List._∷_ (
+  6,
+  Relend.mslice-owed (Element.type)
+      (Syntax.tyRef (Syntax.named 3) Syntax.mut Element.behind) 3 6 Row.off,
+) (List._∷_ (
   7,
-  Rows'.any-gone (Syntax.tyEnum (List._∷_ 115 (List._∷_ 116 (List._∷_ 114 (List._∷_ 101 (List._∷_ 97 (List._∷_ 109 (List._∷_ 58 (List._∷_ 58 (List._∷_ 80 (List._∷_ 97 (List._∷_ 114 (List._∷_ 115
-      (List._∷_ 101 (List._∷_ 100 List.[])))))))))))))) (Syntax.ttcons (Syntax.tcons (Syntax.tyStruct (List._∷_ 115 (List._∷_ 116 (List._∷_ 114 (List._∷_ 101 (List._∷_ 97 (List._∷_ 109 (List._∷_ 58
-      (List._∷_ 58 (List._∷_ 70 (List._∷_ 117 (List._∷_ 106 (List._∷_ 105 (List._∷_ 72 (List._∷_ 101 (List._∷_ 97 (List._∷_ 100 (List._∷_ 101 (List._∷_ 114 List.[])))))))))))))))))) (Syntax.tcons
-      Syntax.tyBool (Syntax.tcons Syntax.tyBool (Syntax.tcons (Syntax.tyInt Syntax.w32) (Syntax.tcons (Syntax.tyInt Syntax.w32) (Syntax.tcons (Syntax.tyInt Syntax.w32) (Syntax.tcons (Syntax.tyInt
-      Syntax.w32) (Syntax.tcons (Syntax.tyInt Syntax.w32) (Syntax.tcons (Syntax.tyInt Syntax.w32) (Syntax.tcons (Syntax.tyInt Syntax.w32) Syntax.tnil)))))))))) Syntax.tnil) (Syntax.ttcons (Syntax.tcons
+  Rows'.any-gone (Syntax.tyEnum (List._∷_ 115 (List._∷_ 116 (List._∷_ 114 (List._∷_ 101 (List._∷_ 97 (List._∷_ 109
+      (List._∷_ 58 (List._∷_ 58 (List._∷_ 80 (List._∷_ 97 (List._∷_ 114 (List._∷_ 115 (List._∷_ 101 (List._∷_ 100 List.[])))))))))))))) (Syntax.ttcons (Syntax.tcons (Syntax.tyStruct (List._∷_ 115 (List._∷_
+      116 (List._∷_ 114 (List._∷_ 101 (List._∷_ 97 (List._∷_ 109 (List._∷_ 58 (List._∷_ 58 (List._∷_ 70 (List._∷_ 117 (List._∷_ 106 (List._∷_ 105 (List._∷_ 72 (List._∷_ 101 (List._∷_ 97 (List._∷_ 100
+      (List._∷_ 101 (List._∷_ 114 List.[])))))))))))))))))) (Syntax.tcons Syntax.tyBool (Syntax.tcons Syntax.tyBool (Syntax.tcons (Syntax.tyInt Syntax.w32) (Syntax.tcons (Syntax.tyInt Syntax.w32)
+      (Syntax.tcons (Syntax.tyInt Syntax.w32) (Syntax.tcons (Syntax.tyInt Syntax.w32) (Syntax.tcons (Syntax.tyInt Syntax.w32) (Syntax.tcons (Syntax.tyInt Syntax.w32) (Syntax.tcons (Syntax.tyInt Syntax.w32)
+      Syntax.tnil)))))))))) Syntax.tnil) (Syntax.ttcons (Syntax.tcons (Syntax.tyEnum (List._∷_ 115 (List._∷_ 116 (List._∷_ 114 (List._∷_ 101 (List._∷_ 97 (List._∷_ 109 (List._∷_ 58 (List._∷_ 58 (List._∷_ 82
+      (List._∷_ 101 (List._∷_ 102 (List._∷_ 117 (List._∷_ 115 (List._∷_ 97 (List._∷_ 108 List.[]))))))))))))))) (Syntax.ttcons Syntax.tnil (Syntax.ttcons Syntax.tnil (Syntax.ttcons Syntax.tnil
+      (Syntax.ttcons (Syntax.tcons (Syntax.tyInt Syntax.w64) Syntax.tnil) (Syntax.ttcons Syntax.tnil (Syntax.ttcons Syntax.tnil (Syntax.ttcons Syntax.tnil (Syntax.ttcons Syntax.tnil (Syntax.ttcons
+      Syntax.tnil (Syntax.ttcons Syntax.tnil (Syntax.ttcons (Syntax.tcons (Syntax.tyInt Syntax.w64) Syntax.tnil) (Syntax.ttcons (Syntax.tcons (Syntax.tyInt Syntax.w64) Syntax.tnil) (Syntax.ttcons
+      Syntax.tnil (Syntax.ttcons (Syntax.tcons (Syntax.tyInt Syntax.w64) (Syntax.tcons (Syntax.tyInt Syntax.w64) Syntax.tnil)) (Syntax.ttcons (Syntax.tcons (Syntax.tyInt Syntax.w64) Syntax.tnil)
+      (Syntax.ttcons Syntax.tnil (Syntax.ttcons Syntax.tnil (Syntax.ttcons (Syntax.tcons (Syntax.tyInt Syntax.w64) Syntax.tnil) (Syntax.ttcons (Syntax.tcons (Syntax.tyInt Syntax.w64) Syntax.tnil)
+      (Syntax.ttcons (Syntax.tcons (Syntax.tyInt Syntax.w64) Syntax.tnil) (Syntax.ttcons Syntax.tnil Syntax.ttnil)))))))))))))))))))))) Syntax.tnil) Syntax.ttnil))),
+) (List._∷_ (
+  8,
+  Rows'.any-gone
       (Syntax.tyEnum (List._∷_ 115 (List._∷_ 116 (List._∷_ 114 (List._∷_ 101 (List._∷_ 97 (List._∷_ 109 (List._∷_ 58 (List._∷_ 58 (List._∷_ 82 (List._∷_ 101 (List._∷_ 102 (List._∷_ 117 (List._∷_ 115
       (List._∷_ 97 (List._∷_ 108 List.[]))))))))))))))) (Syntax.ttcons Syntax.tnil (Syntax.ttcons Syntax.tnil (Syntax.ttcons Syntax.tnil (Syntax.ttcons (Syntax.tcons (Syntax.tyInt Syntax.w64) Syntax.tnil)
       (Syntax.ttcons Syntax.tnil (Syntax.ttcons Syntax.tnil (Syntax.ttcons Syntax.tnil (Syntax.ttcons Syntax.tnil (Syntax.ttcons Syntax.tnil (Syntax.ttcons Syntax.tnil (Syntax.ttcons (Syntax.tcons
       (Syntax.tyInt Syntax.w64) Syntax.tnil) (Syntax.ttcons (Syntax.tcons (Syntax.tyInt Syntax.w64) Syntax.tnil) (Syntax.ttcons Syntax.tnil (Syntax.ttcons (Syntax.tcons (Syntax.tyInt Syntax.w64)
-      (Syntax.tcons (Syntax.tyInt Syntax.w64) Syntax.tnil)) (Syntax.ttcons (Syntax.tcons (Syntax.tyInt Syntax.w64) Syntax.tnil) (Syntax.ttcons Syntax.tnil Syntax.ttnil))))))))))))))))) Syntax.tnil)
-      Syntax.ttnil))),
-) (List._∷_ (
-  8,
-  Rows'.any-gone (Syntax.tyEnum (List._∷_ 115 (List._∷_ 116 (List._∷_ 114 (List._∷_ 101 (List._∷_ 97 (List._∷_ 109 (List._∷_ 58 (List._∷_ 58 (List._∷_ 82 (List._∷_ 101
-      (List._∷_ 102 (List._∷_ 117 (List._∷_ 115 (List._∷_ 97 (List._∷_ 108 List.[]))))))))))))))) (Syntax.ttcons Syntax.tnil (Syntax.ttcons Syntax.tnil (Syntax.ttcons Syntax.tnil (Syntax.ttcons
-      (Syntax.tcons (Syntax.tyInt Syntax.w64) Syntax.tnil) (Syntax.ttcons Syntax.tnil (Syntax.ttcons Syntax.tnil (Syntax.ttcons Syntax.tnil (Syntax.ttcons Syntax.tnil (Syntax.ttcons Syntax.tnil
-      (Syntax.ttcons Syntax.tnil (Syntax.ttcons (Syntax.tcons (Syntax.tyInt Syntax.w64) Syntax.tnil) (Syntax.ttcons (Syntax.tcons (Syntax.tyInt Syntax.w64) Syntax.tnil) (Syntax.ttcons Syntax.tnil
-      (Syntax.ttcons (Syntax.tcons (Syntax.tyInt Syntax.w64) (Syntax.tcons (Syntax.tyInt Syntax.w64) Syntax.tnil)) (Syntax.ttcons (Syntax.tcons (Syntax.tyInt Syntax.w64) Syntax.tnil) (Syntax.ttcons
-      Syntax.tnil Syntax.ttnil))))))))))))))))),
+      (Syntax.tcons (Syntax.tyInt Syntax.w64) Syntax.tnil)) (Syntax.ttcons (Syntax.tcons (Syntax.tyInt Syntax.w64) Syntax.tnil) (Syntax.ttcons Syntax.tnil (Syntax.ttcons Syntax.tnil (Syntax.ttcons
+      (Syntax.tcons (Syntax.tyInt Syntax.w64) Syntax.tnil) (Syntax.ttcons (Syntax.tcons (Syntax.tyInt Syntax.w64) Syntax.tnil) (Syntax.ttcons (Syntax.tcons (Syntax.tyInt Syntax.w64) Syntax.tnil)
+      (Syntax.ttcons Syntax.tnil Syntax.ttnil)))))))))))))))))))))),
 ) (List._∷_ (
   9,
-  Rows'.any-gone (Syntax.tyStruct (List._∷_ 115 (List._∷_ 116 (List._∷_ 114 (List._∷_ 101 (List._∷_ 97 (List._∷_ 109 (List._∷_ 58 (List._∷_ 58
-      (List._∷_ 70 (List._∷_ 117 (List._∷_ 106 (List._∷_ 105 (List._∷_ 72 (List._∷_ 101 (List._∷_ 97 (List._∷_ 100 (List._∷_ 101 (List._∷_ 114 List.[])))))))))))))))))) (Syntax.tcons Syntax.tyBool
-      (Syntax.tcons Syntax.tyBool (Syntax.tcons (Syntax.tyInt Syntax.w32) (Syntax.tcons (Syntax.tyInt Syntax.w32) (Syntax.tcons (Syntax.tyInt Syntax.w32) (Syntax.tcons (Syntax.tyInt Syntax.w32)
-      (Syntax.tcons (Syntax.tyInt Syntax.w32) (Syntax.tcons (Syntax.tyInt Syntax.w32) (Syntax.tcons (Syntax.tyInt Syntax.w32) Syntax.tnil)))))))))),
+  Rows'.any-gone (Syntax.tyStruct (List._∷_ 115 (List._∷_ 116 (List._∷_ 114 (List._∷_ 101 (List._∷_ 97 (List._∷_ 109
+      (List._∷_ 58 (List._∷_ 58 (List._∷_ 70 (List._∷_ 117 (List._∷_ 106 (List._∷_ 105 (List._∷_ 72 (List._∷_ 101 (List._∷_ 97 (List._∷_ 100 (List._∷_ 101 (List._∷_ 114 List.[]))))))))))))))))))
+      (Syntax.tcons Syntax.tyBool (Syntax.tcons Syntax.tyBool (Syntax.tcons (Syntax.tyInt Syntax.w32) (Syntax.tcons (Syntax.tyInt Syntax.w32) (Syntax.tcons (Syntax.tyInt Syntax.w32) (Syntax.tcons
+      (Syntax.tyInt Syntax.w32) (Syntax.tcons (Syntax.tyInt Syntax.w32) (Syntax.tcons (Syntax.tyInt Syntax.w32) (Syntax.tcons (Syntax.tyInt Syntax.w32) Syntax.tnil)))))))))),
 ) (List._∷_ (
   10,
-  Rows'.whole (Declared.row
-      Decoded.the-type),
+  Rows'.whole
+      (Declared.row Decoded.the-type),
 ) (List._∷_ (11, Rows'.any-gone (Syntax.tyRef Syntax.erased Syntax.mut (Syntax.tyInt Syntax.w16))) (List._∷_ (
   12,
-  Rows'.any-gone (Syntax.tyStruct (List._∷_ 38 (List._∷_ 91
-      (List._∷_ 93 List.[]))) (Syntax.tcons (Syntax.tyRef Syntax.erased Syntax.mut (Syntax.tyInt Syntax.w16)) (Syntax.tcons (Syntax.tyInt Syntax.w64) Syntax.tnil))),
+  Rows'.any-gone (Syntax.tyStruct (List._∷_ 38
+      (List._∷_ 91 (List._∷_ 93 List.[]))) (Syntax.tcons (Syntax.tyRef Syntax.erased Syntax.mut (Syntax.tyInt Syntax.w16)) (Syntax.tcons (Syntax.tyInt Syntax.w64) Syntax.tnil))),
 ) (List._∷_ (
   13,
-  Rows'.any-gone
-      (Syntax.tyRef Syntax.erased Syntax.mut (Syntax.tyInt Syntax.w16)),
+  Rows'.any-gone (Syntax.tyRef Syntax.erased Syntax.mut (Syntax.tyInt Syntax.w16)),
 ) (List._∷_ (
   14,
-  Rows'.any-gone (Syntax.tyStruct (List._∷_ 38 (List._∷_ 91 (List._∷_ 93 List.[]))) (Syntax.tcons (Syntax.tyRef
-      Syntax.erased Syntax.mut (Syntax.tyInt Syntax.w16)) (Syntax.tcons (Syntax.tyInt Syntax.w64) Syntax.tnil))),
-) (List._∷_ (15, Rows'.any-gone (Syntax.tyRef Syntax.erased Syntax.mut Element.behind))
-    List.[])))))))))))))))
+  Rows'.any-gone (Syntax.tyStruct (List._∷_ 38 (List._∷_ 91 (List._∷_ 93 List.[]))) (Syntax.tcons
+      (Syntax.tyRef Syntax.erased Syntax.mut (Syntax.tyInt Syntax.w16)) (Syntax.tcons (Syntax.tyInt Syntax.w64) Syntax.tnil))),
+) (List._∷_ (
+  15,
+  Rows'.any-gone (Syntax.tyRef Syntax.erased Syntax.mut
+      Element.behind),
+) List.[])))))))))))))))
 
 abbrev pub t28 : List.List Row.Entry
 t28 = List._∷_ (0, Rows'.whole (Declared.row Decoded.the-type)) (List._∷_ (
@@ -2087,34 +2143,43 @@ t28 = List._∷_ (0, Rows'.whole (Declared.row Decoded.the-type)) (List._∷_ (
       (Syntax.ttcons (Syntax.tcons (Syntax.tyInt Syntax.w64) Syntax.tnil) (Syntax.ttcons Syntax.tnil (Syntax.ttcons Syntax.tnil (Syntax.ttcons Syntax.tnil (Syntax.ttcons Syntax.tnil (Syntax.ttcons
       Syntax.tnil (Syntax.ttcons Syntax.tnil (Syntax.ttcons (Syntax.tcons (Syntax.tyInt Syntax.w64) Syntax.tnil) (Syntax.ttcons (Syntax.tcons (Syntax.tyInt Syntax.w64) Syntax.tnil) (Syntax.ttcons
       Syntax.tnil (Syntax.ttcons (Syntax.tcons (Syntax.tyInt Syntax.w64) (Syntax.tcons (Syntax.tyInt Syntax.w64) Syntax.tnil)) (Syntax.ttcons (Syntax.tcons (Syntax.tyInt Syntax.w64) Syntax.tnil)
-      (Syntax.ttcons Syntax.tnil Syntax.ttnil))))))))))))))))) Syntax.tnil) Syntax.ttnil))),
+      (Syntax.ttcons Syntax.tnil (Syntax.ttcons Syntax.tnil (Syntax.ttcons (Syntax.tcons (Syntax.tyInt Syntax.w64) Syntax.tnil) (Syntax.ttcons (Syntax.tcons (Syntax.tyInt Syntax.w64) Syntax.tnil)
+      (Syntax.ttcons (Syntax.tcons (Syntax.tyInt Syntax.w64) Syntax.tnil) (Syntax.ttcons Syntax.tnil Syntax.ttnil)))))))))))))))))))))) Syntax.tnil) Syntax.ttnil))),
 ) (List._∷_ (
   8,
-  Rows'.any-gone (Syntax.tyEnum (List._∷_ 115 (List._∷_ 116 (List._∷_ 114 (List._∷_ 101 (List._∷_
-      97 (List._∷_ 109 (List._∷_ 58 (List._∷_ 58 (List._∷_ 82 (List._∷_ 101 (List._∷_ 102 (List._∷_ 117 (List._∷_ 115 (List._∷_ 97 (List._∷_ 108 List.[]))))))))))))))) (Syntax.ttcons Syntax.tnil
-      (Syntax.ttcons Syntax.tnil (Syntax.ttcons Syntax.tnil (Syntax.ttcons (Syntax.tcons (Syntax.tyInt Syntax.w64) Syntax.tnil) (Syntax.ttcons Syntax.tnil (Syntax.ttcons Syntax.tnil (Syntax.ttcons
-      Syntax.tnil (Syntax.ttcons Syntax.tnil (Syntax.ttcons Syntax.tnil (Syntax.ttcons Syntax.tnil (Syntax.ttcons (Syntax.tcons (Syntax.tyInt Syntax.w64) Syntax.tnil) (Syntax.ttcons (Syntax.tcons
-      (Syntax.tyInt Syntax.w64) Syntax.tnil) (Syntax.ttcons Syntax.tnil (Syntax.ttcons (Syntax.tcons (Syntax.tyInt Syntax.w64) (Syntax.tcons (Syntax.tyInt Syntax.w64) Syntax.tnil)) (Syntax.ttcons
-      (Syntax.tcons (Syntax.tyInt Syntax.w64) Syntax.tnil) (Syntax.ttcons Syntax.tnil Syntax.ttnil))))))))))))))))),
+  Rows'.any-gone
+      (Syntax.tyEnum (List._∷_ 115 (List._∷_ 116 (List._∷_ 114 (List._∷_ 101 (List._∷_ 97 (List._∷_ 109 (List._∷_ 58 (List._∷_ 58 (List._∷_ 82 (List._∷_ 101 (List._∷_ 102 (List._∷_ 117 (List._∷_ 115
+      (List._∷_ 97 (List._∷_ 108 List.[]))))))))))))))) (Syntax.ttcons Syntax.tnil (Syntax.ttcons Syntax.tnil (Syntax.ttcons Syntax.tnil (Syntax.ttcons (Syntax.tcons (Syntax.tyInt Syntax.w64) Syntax.tnil)
+      (Syntax.ttcons Syntax.tnil (Syntax.ttcons Syntax.tnil (Syntax.ttcons Syntax.tnil (Syntax.ttcons Syntax.tnil (Syntax.ttcons Syntax.tnil (Syntax.ttcons Syntax.tnil (Syntax.ttcons (Syntax.tcons
+      (Syntax.tyInt Syntax.w64) Syntax.tnil) (Syntax.ttcons (Syntax.tcons (Syntax.tyInt Syntax.w64) Syntax.tnil) (Syntax.ttcons Syntax.tnil (Syntax.ttcons (Syntax.tcons (Syntax.tyInt Syntax.w64)
+      (Syntax.tcons (Syntax.tyInt Syntax.w64) Syntax.tnil)) (Syntax.ttcons (Syntax.tcons (Syntax.tyInt Syntax.w64) Syntax.tnil) (Syntax.ttcons Syntax.tnil (Syntax.ttcons Syntax.tnil (Syntax.ttcons
+      (Syntax.tcons (Syntax.tyInt Syntax.w64) Syntax.tnil) (Syntax.ttcons (Syntax.tcons (Syntax.tyInt Syntax.w64) Syntax.tnil) (Syntax.ttcons (Syntax.tcons (Syntax.tyInt Syntax.w64) Syntax.tnil)
+      (Syntax.ttcons Syntax.tnil Syntax.ttnil)))))))))))))))))))))),
 ) (List._∷_ (
   9,
-  Rows'.any-gone (Syntax.tyStruct (List._∷_ 115 (List._∷_ 116 (List._∷_
-      114 (List._∷_ 101 (List._∷_ 97 (List._∷_ 109 (List._∷_ 58 (List._∷_ 58 (List._∷_ 70 (List._∷_ 117 (List._∷_ 106 (List._∷_ 105 (List._∷_ 72 (List._∷_ 101 (List._∷_ 97 (List._∷_ 100 (List._∷_ 101
-      (List._∷_ 114 List.[])))))))))))))))))) (Syntax.tcons Syntax.tyBool (Syntax.tcons Syntax.tyBool (Syntax.tcons (Syntax.tyInt Syntax.w32) (Syntax.tcons (Syntax.tyInt Syntax.w32) (Syntax.tcons
-      (Syntax.tyInt Syntax.w32) (Syntax.tcons (Syntax.tyInt Syntax.w32) (Syntax.tcons (Syntax.tyInt Syntax.w32) (Syntax.tcons (Syntax.tyInt Syntax.w32) (Syntax.tcons (Syntax.tyInt Syntax.w32)
-      Syntax.tnil)))))))))),
-) (List._∷_ (10, Rows'.whole (Declared.row Decoded.the-type)) (List._∷_ (11, Rows'.any-gone (Syntax.tyRef Syntax.erased Syntax.mut (Syntax.tyInt Syntax.w16))) (List._∷_ (
+  Rows'.any-gone (Syntax.tyStruct (List._∷_ 115 (List._∷_ 116 (List._∷_ 114 (List._∷_ 101 (List._∷_ 97 (List._∷_ 109
+      (List._∷_ 58 (List._∷_ 58 (List._∷_ 70 (List._∷_ 117 (List._∷_ 106 (List._∷_ 105 (List._∷_ 72 (List._∷_ 101 (List._∷_ 97 (List._∷_ 100 (List._∷_ 101 (List._∷_ 114 List.[]))))))))))))))))))
+      (Syntax.tcons Syntax.tyBool (Syntax.tcons Syntax.tyBool (Syntax.tcons (Syntax.tyInt Syntax.w32) (Syntax.tcons (Syntax.tyInt Syntax.w32) (Syntax.tcons (Syntax.tyInt Syntax.w32) (Syntax.tcons
+      (Syntax.tyInt Syntax.w32) (Syntax.tcons (Syntax.tyInt Syntax.w32) (Syntax.tcons (Syntax.tyInt Syntax.w32) (Syntax.tcons (Syntax.tyInt Syntax.w32) Syntax.tnil)))))))))),
+) (List._∷_ (
+  10,
+  Rows'.whole
+      (Declared.row Decoded.the-type),
+) (List._∷_ (11, Rows'.any-gone (Syntax.tyRef Syntax.erased Syntax.mut (Syntax.tyInt Syntax.w16))) (List._∷_ (
   12,
-  Rows'.any-gone (Syntax.tyStruct (List._∷_ 38 (List._∷_ 91 (List._∷_ 93 List.[]))) (Syntax.tcons (Syntax.tyRef Syntax.erased Syntax.mut (Syntax.tyInt Syntax.w16)) (Syntax.tcons (Syntax.tyInt
-      Syntax.w64) Syntax.tnil))),
-) (List._∷_ (13, Rows'.any-gone (Syntax.tyRef Syntax.erased Syntax.mut (Syntax.tyInt Syntax.w16))) (List._∷_ (
+  Rows'.any-gone (Syntax.tyStruct (List._∷_ 38
+      (List._∷_ 91 (List._∷_ 93 List.[]))) (Syntax.tcons (Syntax.tyRef Syntax.erased Syntax.mut (Syntax.tyInt Syntax.w16)) (Syntax.tcons (Syntax.tyInt Syntax.w64) Syntax.tnil))),
+) (List._∷_ (
+  13,
+  Rows'.any-gone (Syntax.tyRef Syntax.erased Syntax.mut (Syntax.tyInt Syntax.w16)),
+) (List._∷_ (
   14,
-  Rows'.any-gone (Syntax.tyStruct (List._∷_ 38 (List._∷_
-      91 (List._∷_ 93 List.[]))) (Syntax.tcons (Syntax.tyRef Syntax.erased Syntax.mut (Syntax.tyInt Syntax.w16)) (Syntax.tcons (Syntax.tyInt Syntax.w64) Syntax.tnil))),
+  Rows'.any-gone (Syntax.tyStruct (List._∷_ 38 (List._∷_ 91 (List._∷_ 93 List.[]))) (Syntax.tcons
+      (Syntax.tyRef Syntax.erased Syntax.mut (Syntax.tyInt Syntax.w16)) (Syntax.tcons (Syntax.tyInt Syntax.w64) Syntax.tnil))),
 ) (List._∷_ (
   15,
-  Rows'.any-gone
-      (Syntax.tyRef Syntax.erased Syntax.mut Element.behind),
+  Rows'.any-gone (Syntax.tyRef Syntax.erased Syntax.mut
+      Element.behind),
 ) List.[])))))))))))))))
 
 abbrev pub T0 : Row.Cx
@@ -2252,8 +2317,9 @@ module _ (claims· : Claims) where
       (List._∷_ 108 List.[]))))))))))))))) (Syntax.ttcons Syntax.tnil (Syntax.ttcons Syntax.tnil (Syntax.ttcons Syntax.tnil (Syntax.ttcons (Syntax.tcons (Syntax.tyInt Syntax.w64) Syntax.tnil)
       (Syntax.ttcons Syntax.tnil (Syntax.ttcons Syntax.tnil (Syntax.ttcons Syntax.tnil (Syntax.ttcons Syntax.tnil (Syntax.ttcons Syntax.tnil (Syntax.ttcons Syntax.tnil (Syntax.ttcons (Syntax.tcons
       (Syntax.tyInt Syntax.w64) Syntax.tnil) (Syntax.ttcons (Syntax.tcons (Syntax.tyInt Syntax.w64) Syntax.tnil) (Syntax.ttcons Syntax.tnil (Syntax.ttcons (Syntax.tcons (Syntax.tyInt Syntax.w64)
-      (Syntax.tcons (Syntax.tyInt Syntax.w64) Syntax.tnil)) (Syntax.ttcons (Syntax.tcons (Syntax.tyInt Syntax.w64) Syntax.tnil) (Syntax.ttcons Syntax.tnil Syntax.ttnil))))))))))))))))) Syntax.tnil)
-      Syntax.ttnil)))
+      (Syntax.tcons (Syntax.tyInt Syntax.w64) Syntax.tnil)) (Syntax.ttcons (Syntax.tcons (Syntax.tyInt Syntax.w64) Syntax.tnil) (Syntax.ttcons Syntax.tnil (Syntax.ttcons Syntax.tnil (Syntax.ttcons
+      (Syntax.tcons (Syntax.tyInt Syntax.w64) Syntax.tnil) (Syntax.ttcons (Syntax.tcons (Syntax.tyInt Syntax.w64) Syntax.tnil) (Syntax.ttcons (Syntax.tcons (Syntax.tyInt Syntax.w64) Syntax.tnil)
+      (Syntax.ttcons Syntax.tnil Syntax.ttnil)))))))))))))))))))))) Syntax.tnil) Syntax.ttnil)))
 
   abbrev s4 : Typed.Both T5 T7
   s4 = Known.k-enum-known Parsed.enum 1 T5 7 λ x. x
@@ -2282,8 +2348,9 @@ module _ (claims· : Claims) where
       (List._∷_ 97 (List._∷_ 108 List.[]))))))))))))))) (Syntax.ttcons Syntax.tnil (Syntax.ttcons Syntax.tnil (Syntax.ttcons Syntax.tnil (Syntax.ttcons (Syntax.tcons (Syntax.tyInt Syntax.w64) Syntax.tnil)
       (Syntax.ttcons Syntax.tnil (Syntax.ttcons Syntax.tnil (Syntax.ttcons Syntax.tnil (Syntax.ttcons Syntax.tnil (Syntax.ttcons Syntax.tnil (Syntax.ttcons Syntax.tnil (Syntax.ttcons (Syntax.tcons
       (Syntax.tyInt Syntax.w64) Syntax.tnil) (Syntax.ttcons (Syntax.tcons (Syntax.tyInt Syntax.w64) Syntax.tnil) (Syntax.ttcons Syntax.tnil (Syntax.ttcons (Syntax.tcons (Syntax.tyInt Syntax.w64)
-      (Syntax.tcons (Syntax.tyInt Syntax.w64) Syntax.tnil)) (Syntax.ttcons (Syntax.tcons (Syntax.tyInt Syntax.w64) Syntax.tnil) (Syntax.ttcons Syntax.tnil Syntax.ttnil))))))))))))))))) Syntax.tnil)
-      Syntax.ttnil)))
+      (Syntax.tcons (Syntax.tyInt Syntax.w64) Syntax.tnil)) (Syntax.ttcons (Syntax.tcons (Syntax.tyInt Syntax.w64) Syntax.tnil) (Syntax.ttcons Syntax.tnil (Syntax.ttcons Syntax.tnil (Syntax.ttcons
+      (Syntax.tcons (Syntax.tyInt Syntax.w64) Syntax.tnil) (Syntax.ttcons (Syntax.tcons (Syntax.tyInt Syntax.w64) Syntax.tnil) (Syntax.ttcons (Syntax.tcons (Syntax.tyInt Syntax.w64) Syntax.tnil)
+      (Syntax.ttcons Syntax.tnil Syntax.ttnil)))))))))))))))))))))) Syntax.tnil) Syntax.ttnil)))
 
   abbrev s10 : Typed.Mo T12 → Typed.Mo T13
   s10 = Make.n-enum-make Decoded.the-type T12 10 λ m. Decoded.enum .make (Logic.inr (Logic.inl (m .1 .1 .1 .1 .1 .1 .1 .1 .0, tt)))
@@ -2294,7 +2361,8 @@ module _ (claims· : Claims) where
       (Syntax.tyInt Syntax.w64) Syntax.tnil) (Syntax.ttcons Syntax.tnil (Syntax.ttcons Syntax.tnil (Syntax.ttcons Syntax.tnil (Syntax.ttcons Syntax.tnil (Syntax.ttcons Syntax.tnil (Syntax.ttcons
       Syntax.tnil (Syntax.ttcons (Syntax.tcons (Syntax.tyInt Syntax.w64) Syntax.tnil) (Syntax.ttcons (Syntax.tcons (Syntax.tyInt Syntax.w64) Syntax.tnil) (Syntax.ttcons Syntax.tnil (Syntax.ttcons
       (Syntax.tcons (Syntax.tyInt Syntax.w64) (Syntax.tcons (Syntax.tyInt Syntax.w64) Syntax.tnil)) (Syntax.ttcons (Syntax.tcons (Syntax.tyInt Syntax.w64) Syntax.tnil) (Syntax.ttcons Syntax.tnil
-      Syntax.ttnil)))))))))))))))))
+      (Syntax.ttcons Syntax.tnil (Syntax.ttcons (Syntax.tcons (Syntax.tyInt Syntax.w64) Syntax.tnil) (Syntax.ttcons (Syntax.tcons (Syntax.tyInt Syntax.w64) Syntax.tnil) (Syntax.ttcons (Syntax.tcons
+      (Syntax.tyInt Syntax.w64) Syntax.tnil) (Syntax.ttcons Syntax.tnil Syntax.ttnil))))))))))))))))))))))
 
   abbrev s12 : Typed.Both T5 T15
   s12 = Known.k-enum-known Parsed.enum 0 T5 7 λ x. x
@@ -2315,8 +2383,9 @@ module _ (claims· : Claims) where
       (List._∷_ 115 (List._∷_ 97 (List._∷_ 108 List.[]))))))))))))))) (Syntax.ttcons Syntax.tnil (Syntax.ttcons Syntax.tnil (Syntax.ttcons Syntax.tnil (Syntax.ttcons (Syntax.tcons (Syntax.tyInt
       Syntax.w64) Syntax.tnil) (Syntax.ttcons Syntax.tnil (Syntax.ttcons Syntax.tnil (Syntax.ttcons Syntax.tnil (Syntax.ttcons Syntax.tnil (Syntax.ttcons Syntax.tnil (Syntax.ttcons Syntax.tnil
       (Syntax.ttcons (Syntax.tcons (Syntax.tyInt Syntax.w64) Syntax.tnil) (Syntax.ttcons (Syntax.tcons (Syntax.tyInt Syntax.w64) Syntax.tnil) (Syntax.ttcons Syntax.tnil (Syntax.ttcons (Syntax.tcons
-      (Syntax.tyInt Syntax.w64) (Syntax.tcons (Syntax.tyInt Syntax.w64) Syntax.tnil)) (Syntax.ttcons (Syntax.tcons (Syntax.tyInt Syntax.w64) Syntax.tnil) (Syntax.ttcons Syntax.tnil
-      Syntax.ttnil))))))))))))))))) Syntax.tnil) Syntax.ttnil)))
+      (Syntax.tyInt Syntax.w64) (Syntax.tcons (Syntax.tyInt Syntax.w64) Syntax.tnil)) (Syntax.ttcons (Syntax.tcons (Syntax.tyInt Syntax.w64) Syntax.tnil) (Syntax.ttcons Syntax.tnil (Syntax.ttcons
+      Syntax.tnil (Syntax.ttcons (Syntax.tcons (Syntax.tyInt Syntax.w64) Syntax.tnil) (Syntax.ttcons (Syntax.tcons (Syntax.tyInt Syntax.w64) Syntax.tnil) (Syntax.ttcons (Syntax.tcons (Syntax.tyInt
+      Syntax.w64) Syntax.tnil) (Syntax.ttcons Syntax.tnil Syntax.ttnil)))))))))))))))))))))) Syntax.tnil) Syntax.ttnil)))
 
   abbrev s17 : Typed.Gives T18 T20
   s17 = Relend.k-sl-relend (Referent.rtF (Referent.fInt Syntax.w16)) T18 4 11 1 4 (Syntax.tyRef (Syntax.named 1) Syntax.mut (Syntax.tyInt Syntax.w16)) (Syntax.tyRef Syntax.erased Syntax.mut
@@ -2385,7 +2454,8 @@ module _ (claims· : Claims) where
       (Syntax.tcons (Syntax.tyInt Syntax.w64) Syntax.tnil) (Syntax.ttcons Syntax.tnil (Syntax.ttcons Syntax.tnil (Syntax.ttcons Syntax.tnil (Syntax.ttcons Syntax.tnil (Syntax.ttcons Syntax.tnil
       (Syntax.ttcons Syntax.tnil (Syntax.ttcons (Syntax.tcons (Syntax.tyInt Syntax.w64) Syntax.tnil) (Syntax.ttcons (Syntax.tcons (Syntax.tyInt Syntax.w64) Syntax.tnil) (Syntax.ttcons Syntax.tnil
       (Syntax.ttcons (Syntax.tcons (Syntax.tyInt Syntax.w64) (Syntax.tcons (Syntax.tyInt Syntax.w64) Syntax.tnil)) (Syntax.ttcons (Syntax.tcons (Syntax.tyInt Syntax.w64) Syntax.tnil) (Syntax.ttcons
-      Syntax.tnil Syntax.ttnil))))))))))))))))) Syntax.tnil) Syntax.ttnil)))
+      Syntax.tnil (Syntax.ttcons Syntax.tnil (Syntax.ttcons (Syntax.tcons (Syntax.tyInt Syntax.w64) Syntax.tnil) (Syntax.ttcons (Syntax.tcons (Syntax.tyInt Syntax.w64) Syntax.tnil) (Syntax.ttcons
+      (Syntax.tcons (Syntax.tyInt Syntax.w64) Syntax.tnil) (Syntax.ttcons Syntax.tnil Syntax.ttnil)))))))))))))))))))))) Syntax.tnil) Syntax.ttnil)))
 
   abbrev s26 : Typed.Mo T28 → Typed.Mo T29
   s26 = Scalar.n-room T28 2 (Syntax.tyStruct (List._∷_ 114 (List._∷_ 101 (List._∷_ 103 (List._∷_ 105 (List._∷_ 111 (List._∷_ 110 (List._∷_ 58 (List._∷_ 58 (List._∷_ 82 (List._∷_ 101 (List._∷_ 99
@@ -2428,7 +2498,9 @@ module _ (claims· : Claims) where
       (Syntax.ttcons Syntax.tnil (Syntax.ttcons Syntax.tnil (Syntax.ttcons (Syntax.tcons (Syntax.tyInt Syntax.w64) Syntax.tnil) (Syntax.ttcons Syntax.tnil (Syntax.ttcons Syntax.tnil (Syntax.ttcons
       Syntax.tnil (Syntax.ttcons Syntax.tnil (Syntax.ttcons Syntax.tnil (Syntax.ttcons Syntax.tnil (Syntax.ttcons (Syntax.tcons (Syntax.tyInt Syntax.w64) Syntax.tnil) (Syntax.ttcons (Syntax.tcons
       (Syntax.tyInt Syntax.w64) Syntax.tnil) (Syntax.ttcons Syntax.tnil (Syntax.ttcons (Syntax.tcons (Syntax.tyInt Syntax.w64) (Syntax.tcons (Syntax.tyInt Syntax.w64) Syntax.tnil)) (Syntax.ttcons
-      (Syntax.tcons (Syntax.tyInt Syntax.w64) Syntax.tnil) (Syntax.ttcons Syntax.tnil Syntax.ttnil))))))))))))))))) Syntax.tnil) Syntax.ttnil)))
+      (Syntax.tcons (Syntax.tyInt Syntax.w64) Syntax.tnil) (Syntax.ttcons Syntax.tnil (Syntax.ttcons Syntax.tnil (Syntax.ttcons (Syntax.tcons (Syntax.tyInt Syntax.w64) Syntax.tnil) (Syntax.ttcons
+      (Syntax.tcons (Syntax.tyInt Syntax.w64) Syntax.tnil) (Syntax.ttcons (Syntax.tcons (Syntax.tyInt Syntax.w64) Syntax.tnil) (Syntax.ttcons Syntax.tnil Syntax.ttnil)))))))))))))))))))))) Syntax.tnil)
+      Syntax.ttnil)))
 
   module _ (Pre· : (κs : Lifetimes.Lfts 4) → Kinds.Dens κs ps → Type 0) (Post· : (κs : Lifetimes.Lfts 4) → (a : Kinds.Dens κs ps) → Kinds.Plain 4 ps r κs) where
     module _ (M : Type 1) where
@@ -2546,68 +2618,74 @@ module _ (claims· : Claims) where
               (Syntax.ttcons Syntax.tnil (Syntax.ttcons Syntax.tnil (Syntax.ttcons Syntax.tnil (Syntax.ttcons (Syntax.tcons (Syntax.tyInt Syntax.w64) Syntax.tnil) (Syntax.ttcons Syntax.tnil (Syntax.ttcons
               Syntax.tnil (Syntax.ttcons Syntax.tnil (Syntax.ttcons Syntax.tnil (Syntax.ttcons Syntax.tnil (Syntax.ttcons Syntax.tnil (Syntax.ttcons (Syntax.tcons (Syntax.tyInt Syntax.w64) Syntax.tnil)
               (Syntax.ttcons (Syntax.tcons (Syntax.tyInt Syntax.w64) Syntax.tnil) (Syntax.ttcons Syntax.tnil (Syntax.ttcons (Syntax.tcons (Syntax.tyInt Syntax.w64) (Syntax.tcons (Syntax.tyInt Syntax.w64)
-              Syntax.tnil)) (Syntax.ttcons (Syntax.tcons (Syntax.tyInt Syntax.w64) Syntax.tnil) (Syntax.ttcons Syntax.tnil Syntax.ttnil))))))))))))))))) Syntax.tnil) Syntax.ttnil))),
+              Syntax.tnil)) (Syntax.ttcons (Syntax.tcons (Syntax.tyInt Syntax.w64) Syntax.tnil) (Syntax.ttcons Syntax.tnil (Syntax.ttcons Syntax.tnil (Syntax.ttcons (Syntax.tcons (Syntax.tyInt Syntax.w64)
+              Syntax.tnil) (Syntax.ttcons (Syntax.tcons (Syntax.tyInt Syntax.w64) Syntax.tnil) (Syntax.ttcons (Syntax.tcons (Syntax.tyInt Syntax.w64) Syntax.tnil) (Syntax.ttcons Syntax.tnil
+              Syntax.ttnil)))))))))))))))))))))) Syntax.tnil) Syntax.ttnil))),
         ) (List._∷_ (
           1,
-          Rows'.sslice (Referent.rtF (Referent.fInt Syntax.w8)) (Syntax.tyRef (Syntax.named 0) Syntax.imm (Syntax.tyInt Syntax.w8)) 0,
-        ) (List._∷_ (2, Rows'.whole (Declared'.row Rect.the-type))
-            (List._∷_ (3, Rows.arrF (Referent.rtF (Referent.fInt Syntax.w8)) 36 0) (List._∷_ (
-              4,
-              Relend.mslice-owed (Referent.rtF (Referent.fInt Syntax.w16)) (Syntax.tyRef (Syntax.named 1) Syntax.mut
-                  (Syntax.tyInt Syntax.w16)) 1 4 (Row.lease (κs .1 .0) (qs .1 .0)),
-            ) (List._∷_ (
-              5,
-              Mut.mslice (Referent.rtF (Referent.fInt Syntax.w16)) (Syntax.tyRef (Syntax.named 2) Syntax.mut (Syntax.tyInt
-                  Syntax.w16)) 2,
-            ) (List._∷_ (6, Mut.mslice (Element.type) (Syntax.tyRef (Syntax.named 3) Syntax.mut Element.behind) 3) (List._∷_ (
-              7,
-              Rows'.any-gone (Syntax.tyEnum (List._∷_ 115 (List._∷_
-                  116 (List._∷_ 114 (List._∷_ 101 (List._∷_ 97 (List._∷_ 109 (List._∷_ 58 (List._∷_ 58 (List._∷_ 80 (List._∷_ 97 (List._∷_ 114 (List._∷_ 115 (List._∷_ 101 (List._∷_ 100 List.[]))))))))))))))
-                  (Syntax.ttcons (Syntax.tcons (Syntax.tyStruct (List._∷_ 115 (List._∷_ 116 (List._∷_ 114 (List._∷_ 101 (List._∷_ 97 (List._∷_ 109 (List._∷_ 58 (List._∷_ 58 (List._∷_ 70 (List._∷_ 117 (List._∷_
-                  106 (List._∷_ 105 (List._∷_ 72 (List._∷_ 101 (List._∷_ 97 (List._∷_ 100 (List._∷_ 101 (List._∷_ 114 List.[])))))))))))))))))) (Syntax.tcons Syntax.tyBool (Syntax.tcons Syntax.tyBool
-                  (Syntax.tcons (Syntax.tyInt Syntax.w32) (Syntax.tcons (Syntax.tyInt Syntax.w32) (Syntax.tcons (Syntax.tyInt Syntax.w32) (Syntax.tcons (Syntax.tyInt Syntax.w32) (Syntax.tcons (Syntax.tyInt
-                  Syntax.w32) (Syntax.tcons (Syntax.tyInt Syntax.w32) (Syntax.tcons (Syntax.tyInt Syntax.w32) Syntax.tnil)))))))))) Syntax.tnil) (Syntax.ttcons (Syntax.tcons (Syntax.tyEnum (List._∷_ 115
-                  (List._∷_ 116 (List._∷_ 114 (List._∷_ 101 (List._∷_ 97 (List._∷_ 109 (List._∷_ 58 (List._∷_ 58 (List._∷_ 82 (List._∷_ 101 (List._∷_ 102 (List._∷_ 117 (List._∷_ 115 (List._∷_ 97 (List._∷_ 108
-                  List.[]))))))))))))))) (Syntax.ttcons Syntax.tnil (Syntax.ttcons Syntax.tnil (Syntax.ttcons Syntax.tnil (Syntax.ttcons (Syntax.tcons (Syntax.tyInt Syntax.w64) Syntax.tnil) (Syntax.ttcons
-                  Syntax.tnil (Syntax.ttcons Syntax.tnil (Syntax.ttcons Syntax.tnil (Syntax.ttcons Syntax.tnil (Syntax.ttcons Syntax.tnil (Syntax.ttcons Syntax.tnil (Syntax.ttcons (Syntax.tcons (Syntax.tyInt
-                  Syntax.w64) Syntax.tnil) (Syntax.ttcons (Syntax.tcons (Syntax.tyInt Syntax.w64) Syntax.tnil) (Syntax.ttcons Syntax.tnil (Syntax.ttcons (Syntax.tcons (Syntax.tyInt Syntax.w64) (Syntax.tcons
-                  (Syntax.tyInt Syntax.w64) Syntax.tnil)) (Syntax.ttcons (Syntax.tcons (Syntax.tyInt Syntax.w64) Syntax.tnil) (Syntax.ttcons Syntax.tnil Syntax.ttnil))))))))))))))))) Syntax.tnil)
-                  Syntax.ttnil))),
-            ) (List._∷_ (
-              8,
-              Rows'.any-gone (Syntax.tyEnum (List._∷_ 115 (List._∷_ 116 (List._∷_ 114 (List._∷_ 101 (List._∷_ 97 (List._∷_ 109 (List._∷_ 58 (List._∷_ 58 (List._∷_ 82
-                  (List._∷_ 101 (List._∷_ 102 (List._∷_ 117 (List._∷_ 115 (List._∷_ 97 (List._∷_ 108 List.[]))))))))))))))) (Syntax.ttcons Syntax.tnil (Syntax.ttcons Syntax.tnil (Syntax.ttcons Syntax.tnil
-                  (Syntax.ttcons (Syntax.tcons (Syntax.tyInt Syntax.w64) Syntax.tnil) (Syntax.ttcons Syntax.tnil (Syntax.ttcons Syntax.tnil (Syntax.ttcons Syntax.tnil (Syntax.ttcons Syntax.tnil (Syntax.ttcons
-                  Syntax.tnil (Syntax.ttcons Syntax.tnil (Syntax.ttcons (Syntax.tcons (Syntax.tyInt Syntax.w64) Syntax.tnil) (Syntax.ttcons (Syntax.tcons (Syntax.tyInt Syntax.w64) Syntax.tnil) (Syntax.ttcons
-                  Syntax.tnil (Syntax.ttcons (Syntax.tcons (Syntax.tyInt Syntax.w64) (Syntax.tcons (Syntax.tyInt Syntax.w64) Syntax.tnil)) (Syntax.ttcons (Syntax.tcons (Syntax.tyInt Syntax.w64) Syntax.tnil)
-                  (Syntax.ttcons Syntax.tnil Syntax.ttnil))))))))))))))))),
-            ) (List._∷_ (9, Rows'.whole (Declared'.row FujiHeader.the-type)) (List._∷_ (
-              10,
-              Rows'.any-gone (Syntax.tyEnum (List._∷_ 98 (List._∷_
-                  108 (List._∷_ 111 (List._∷_ 99 (List._∷_ 107 (List._∷_ 58 (List._∷_ 58 (List._∷_ 68 (List._∷_ 101 (List._∷_ 99 (List._∷_ 111 (List._∷_ 100 (List._∷_ 101 (List._∷_ 100 List.[]))))))))))))))
-                  (Syntax.ttcons Syntax.tnil (Syntax.ttcons (Syntax.tcons (Syntax.tyEnum (List._∷_ 115 (List._∷_ 116 (List._∷_ 114 (List._∷_ 101 (List._∷_ 97 (List._∷_ 109 (List._∷_ 58 (List._∷_ 58 (List._∷_ 82
-                  (List._∷_ 101 (List._∷_ 102 (List._∷_ 117 (List._∷_ 115 (List._∷_ 97 (List._∷_ 108 List.[]))))))))))))))) (Syntax.ttcons Syntax.tnil (Syntax.ttcons Syntax.tnil (Syntax.ttcons Syntax.tnil
-                  (Syntax.ttcons (Syntax.tcons (Syntax.tyInt Syntax.w64) Syntax.tnil) (Syntax.ttcons Syntax.tnil (Syntax.ttcons Syntax.tnil (Syntax.ttcons Syntax.tnil (Syntax.ttcons Syntax.tnil (Syntax.ttcons
-                  Syntax.tnil (Syntax.ttcons Syntax.tnil (Syntax.ttcons (Syntax.tcons (Syntax.tyInt Syntax.w64) Syntax.tnil) (Syntax.ttcons (Syntax.tcons (Syntax.tyInt Syntax.w64) Syntax.tnil) (Syntax.ttcons
-                  Syntax.tnil (Syntax.ttcons (Syntax.tcons (Syntax.tyInt Syntax.w64) (Syntax.tcons (Syntax.tyInt Syntax.w64) Syntax.tnil)) (Syntax.ttcons (Syntax.tcons (Syntax.tyInt Syntax.w64) Syntax.tnil)
-                  (Syntax.ttcons Syntax.tnil Syntax.ttnil))))))))))))))))) Syntax.tnil) Syntax.ttnil))),
-            ) (List._∷_ (
-              11,
-              Relend.msptr (Referent.rtF (Referent.fInt Syntax.w16)) (Syntax.tyRef Syntax.erased
-                  Syntax.mut (Syntax.tyInt Syntax.w16)) 4,
-            ) (List._∷_ (
-              12,
-              Rows'.any-gone (Syntax.tyStruct (List._∷_ 38 (List._∷_ 91 (List._∷_ 93 List.[]))) (Syntax.tcons (Syntax.tyRef Syntax.erased
-                  Syntax.mut (Syntax.tyInt Syntax.w16)) (Syntax.tcons (Syntax.tyInt Syntax.w64) Syntax.tnil))),
-            ) (List._∷_ (
-              13,
-              Rows'.any-gone (Syntax.tyRef Syntax.erased Syntax.mut (Syntax.tyInt
-                  Syntax.w16)),
-            ) (List._∷_ (
-              14,
-              Rows'.any-gone (Syntax.tyStruct (List._∷_ 38 (List._∷_ 91 (List._∷_ 93 List.[]))) (Syntax.tcons (Syntax.tyRef Syntax.erased Syntax.mut (Syntax.tyInt
-                  Syntax.w16)) (Syntax.tcons (Syntax.tyInt Syntax.w64) Syntax.tnil))),
-            ) (List._∷_ (15, Rows'.any-gone (Syntax.tyRef Syntax.erased Syntax.mut Element.behind)) List.[])))))))))))))))
+          Rows'.sslice (Referent.rtF (Referent.fInt Syntax.w8)) (Syntax.tyRef (Syntax.named 0) Syntax.imm (Syntax.tyInt
+              Syntax.w8)) 0,
+        ) (List._∷_ (2, Rows'.whole (Declared'.row Rect.the-type)) (List._∷_ (3, Rows.arrF (Referent.rtF (Referent.fInt Syntax.w8)) 36 0) (List._∷_ (
+          4,
+          Relend.mslice-owed
+              (Referent.rtF (Referent.fInt Syntax.w16)) (Syntax.tyRef (Syntax.named 1) Syntax.mut (Syntax.tyInt Syntax.w16)) 1 4 (Row.lease (κs .1 .0) (qs .1 .0)),
+        ) (List._∷_ (
+          5,
+          Mut.mslice (Referent.rtF
+              (Referent.fInt Syntax.w16)) (Syntax.tyRef (Syntax.named 2) Syntax.mut (Syntax.tyInt Syntax.w16)) 2,
+        ) (List._∷_ (
+          6,
+          Mut.mslice (Element.type) (Syntax.tyRef (Syntax.named 3) Syntax.mut
+              Element.behind) 3,
+        ) (List._∷_ (
+          7,
+          Rows'.any-gone (Syntax.tyEnum (List._∷_ 115 (List._∷_ 116 (List._∷_ 114 (List._∷_ 101 (List._∷_ 97 (List._∷_ 109 (List._∷_ 58 (List._∷_ 58 (List._∷_ 80
+              (List._∷_ 97 (List._∷_ 114 (List._∷_ 115 (List._∷_ 101 (List._∷_ 100 List.[])))))))))))))) (Syntax.ttcons (Syntax.tcons (Syntax.tyStruct (List._∷_ 115 (List._∷_ 116 (List._∷_ 114 (List._∷_ 101
+              (List._∷_ 97 (List._∷_ 109 (List._∷_ 58 (List._∷_ 58 (List._∷_ 70 (List._∷_ 117 (List._∷_ 106 (List._∷_ 105 (List._∷_ 72 (List._∷_ 101 (List._∷_ 97 (List._∷_ 100 (List._∷_ 101 (List._∷_ 114
+              List.[])))))))))))))))))) (Syntax.tcons Syntax.tyBool (Syntax.tcons Syntax.tyBool (Syntax.tcons (Syntax.tyInt Syntax.w32) (Syntax.tcons (Syntax.tyInt Syntax.w32) (Syntax.tcons (Syntax.tyInt
+              Syntax.w32) (Syntax.tcons (Syntax.tyInt Syntax.w32) (Syntax.tcons (Syntax.tyInt Syntax.w32) (Syntax.tcons (Syntax.tyInt Syntax.w32) (Syntax.tcons (Syntax.tyInt Syntax.w32)
+              Syntax.tnil)))))))))) Syntax.tnil) (Syntax.ttcons (Syntax.tcons (Syntax.tyEnum (List._∷_ 115 (List._∷_ 116 (List._∷_ 114 (List._∷_ 101 (List._∷_ 97 (List._∷_ 109 (List._∷_ 58 (List._∷_ 58
+              (List._∷_ 82 (List._∷_ 101 (List._∷_ 102 (List._∷_ 117 (List._∷_ 115 (List._∷_ 97 (List._∷_ 108 List.[]))))))))))))))) (Syntax.ttcons Syntax.tnil (Syntax.ttcons Syntax.tnil (Syntax.ttcons
+              Syntax.tnil (Syntax.ttcons (Syntax.tcons (Syntax.tyInt Syntax.w64) Syntax.tnil) (Syntax.ttcons Syntax.tnil (Syntax.ttcons Syntax.tnil (Syntax.ttcons Syntax.tnil (Syntax.ttcons Syntax.tnil
+              (Syntax.ttcons Syntax.tnil (Syntax.ttcons Syntax.tnil (Syntax.ttcons (Syntax.tcons (Syntax.tyInt Syntax.w64) Syntax.tnil) (Syntax.ttcons (Syntax.tcons (Syntax.tyInt Syntax.w64) Syntax.tnil)
+              (Syntax.ttcons Syntax.tnil (Syntax.ttcons (Syntax.tcons (Syntax.tyInt Syntax.w64) (Syntax.tcons (Syntax.tyInt Syntax.w64) Syntax.tnil)) (Syntax.ttcons (Syntax.tcons (Syntax.tyInt Syntax.w64)
+              Syntax.tnil) (Syntax.ttcons Syntax.tnil (Syntax.ttcons Syntax.tnil (Syntax.ttcons (Syntax.tcons (Syntax.tyInt Syntax.w64) Syntax.tnil) (Syntax.ttcons (Syntax.tcons (Syntax.tyInt Syntax.w64)
+              Syntax.tnil) (Syntax.ttcons (Syntax.tcons (Syntax.tyInt Syntax.w64) Syntax.tnil) (Syntax.ttcons Syntax.tnil Syntax.ttnil)))))))))))))))))))))) Syntax.tnil) Syntax.ttnil))),
+        ) (List._∷_ (
+          8,
+          Rows'.any-gone (Syntax.tyEnum (List._∷_ 115 (List._∷_ 116 (List._∷_ 114 (List._∷_ 101 (List._∷_ 97 (List._∷_ 109 (List._∷_ 58 (List._∷_ 58 (List._∷_ 82 (List._∷_ 101 (List._∷_ 102 (List._∷_
+              117 (List._∷_ 115 (List._∷_ 97 (List._∷_ 108 List.[]))))))))))))))) (Syntax.ttcons Syntax.tnil (Syntax.ttcons Syntax.tnil (Syntax.ttcons Syntax.tnil (Syntax.ttcons (Syntax.tcons (Syntax.tyInt
+              Syntax.w64) Syntax.tnil) (Syntax.ttcons Syntax.tnil (Syntax.ttcons Syntax.tnil (Syntax.ttcons Syntax.tnil (Syntax.ttcons Syntax.tnil (Syntax.ttcons Syntax.tnil (Syntax.ttcons Syntax.tnil
+              (Syntax.ttcons (Syntax.tcons (Syntax.tyInt Syntax.w64) Syntax.tnil) (Syntax.ttcons (Syntax.tcons (Syntax.tyInt Syntax.w64) Syntax.tnil) (Syntax.ttcons Syntax.tnil (Syntax.ttcons (Syntax.tcons
+              (Syntax.tyInt Syntax.w64) (Syntax.tcons (Syntax.tyInt Syntax.w64) Syntax.tnil)) (Syntax.ttcons (Syntax.tcons (Syntax.tyInt Syntax.w64) Syntax.tnil) (Syntax.ttcons Syntax.tnil (Syntax.ttcons
+              Syntax.tnil (Syntax.ttcons (Syntax.tcons (Syntax.tyInt Syntax.w64) Syntax.tnil) (Syntax.ttcons (Syntax.tcons (Syntax.tyInt Syntax.w64) Syntax.tnil) (Syntax.ttcons (Syntax.tcons (Syntax.tyInt
+              Syntax.w64) Syntax.tnil) (Syntax.ttcons Syntax.tnil Syntax.ttnil)))))))))))))))))))))),
+        ) (List._∷_ (9, Rows'.whole (Declared'.row FujiHeader.the-type)) (List._∷_ (
+          10,
+          Rows'.any-gone
+              (Syntax.tyEnum (List._∷_ 98 (List._∷_ 108 (List._∷_ 111 (List._∷_ 99 (List._∷_ 107 (List._∷_ 58 (List._∷_ 58 (List._∷_ 68 (List._∷_ 101 (List._∷_ 99 (List._∷_ 111 (List._∷_ 100 (List._∷_ 101
+              (List._∷_ 100 List.[])))))))))))))) (Syntax.ttcons Syntax.tnil (Syntax.ttcons (Syntax.tcons (Syntax.tyEnum (List._∷_ 115 (List._∷_ 116 (List._∷_ 114 (List._∷_ 101 (List._∷_ 97 (List._∷_ 109
+              (List._∷_ 58 (List._∷_ 58 (List._∷_ 82 (List._∷_ 101 (List._∷_ 102 (List._∷_ 117 (List._∷_ 115 (List._∷_ 97 (List._∷_ 108 List.[]))))))))))))))) (Syntax.ttcons Syntax.tnil (Syntax.ttcons
+              Syntax.tnil (Syntax.ttcons Syntax.tnil (Syntax.ttcons (Syntax.tcons (Syntax.tyInt Syntax.w64) Syntax.tnil) (Syntax.ttcons Syntax.tnil (Syntax.ttcons Syntax.tnil (Syntax.ttcons Syntax.tnil
+              (Syntax.ttcons Syntax.tnil (Syntax.ttcons Syntax.tnil (Syntax.ttcons Syntax.tnil (Syntax.ttcons (Syntax.tcons (Syntax.tyInt Syntax.w64) Syntax.tnil) (Syntax.ttcons (Syntax.tcons (Syntax.tyInt
+              Syntax.w64) Syntax.tnil) (Syntax.ttcons Syntax.tnil (Syntax.ttcons (Syntax.tcons (Syntax.tyInt Syntax.w64) (Syntax.tcons (Syntax.tyInt Syntax.w64) Syntax.tnil)) (Syntax.ttcons (Syntax.tcons
+              (Syntax.tyInt Syntax.w64) Syntax.tnil) (Syntax.ttcons Syntax.tnil (Syntax.ttcons Syntax.tnil (Syntax.ttcons (Syntax.tcons (Syntax.tyInt Syntax.w64) Syntax.tnil) (Syntax.ttcons (Syntax.tcons
+              (Syntax.tyInt Syntax.w64) Syntax.tnil) (Syntax.ttcons (Syntax.tcons (Syntax.tyInt Syntax.w64) Syntax.tnil) (Syntax.ttcons Syntax.tnil Syntax.ttnil)))))))))))))))))))))) Syntax.tnil)
+              Syntax.ttnil))),
+        ) (List._∷_ (11, Relend.msptr (Referent.rtF (Referent.fInt Syntax.w16)) (Syntax.tyRef Syntax.erased Syntax.mut (Syntax.tyInt Syntax.w16)) 4) (List._∷_ (
+          12,
+          Rows'.any-gone
+              (Syntax.tyStruct (List._∷_ 38 (List._∷_ 91 (List._∷_ 93 List.[]))) (Syntax.tcons (Syntax.tyRef Syntax.erased Syntax.mut (Syntax.tyInt Syntax.w16)) (Syntax.tcons (Syntax.tyInt Syntax.w64)
+              Syntax.tnil))),
+        ) (List._∷_ (13, Rows'.any-gone (Syntax.tyRef Syntax.erased Syntax.mut (Syntax.tyInt Syntax.w16))) (List._∷_ (
+          14,
+          Rows'.any-gone (Syntax.tyStruct (List._∷_ 38 (List._∷_ 91
+              (List._∷_ 93 List.[]))) (Syntax.tcons (Syntax.tyRef Syntax.erased Syntax.mut (Syntax.tyInt Syntax.w16)) (Syntax.tcons (Syntax.tyInt Syntax.w64) Syntax.tnil))),
+        ) (List._∷_ (
+          15,
+          Rows'.any-gone
+              (Syntax.tyRef Syntax.erased Syntax.mut Element.behind),
+        ) List.[])))))))))))))))
 
         abbrev g15 : List.List Row.Entry
         g15 = List._∷_ (
@@ -2618,65 +2696,69 @@ module _ (claims· : Claims) where
               (Syntax.ttcons Syntax.tnil (Syntax.ttcons Syntax.tnil (Syntax.ttcons Syntax.tnil (Syntax.ttcons (Syntax.tcons (Syntax.tyInt Syntax.w64) Syntax.tnil) (Syntax.ttcons Syntax.tnil (Syntax.ttcons
               Syntax.tnil (Syntax.ttcons Syntax.tnil (Syntax.ttcons Syntax.tnil (Syntax.ttcons Syntax.tnil (Syntax.ttcons Syntax.tnil (Syntax.ttcons (Syntax.tcons (Syntax.tyInt Syntax.w64) Syntax.tnil)
               (Syntax.ttcons (Syntax.tcons (Syntax.tyInt Syntax.w64) Syntax.tnil) (Syntax.ttcons Syntax.tnil (Syntax.ttcons (Syntax.tcons (Syntax.tyInt Syntax.w64) (Syntax.tcons (Syntax.tyInt Syntax.w64)
-              Syntax.tnil)) (Syntax.ttcons (Syntax.tcons (Syntax.tyInt Syntax.w64) Syntax.tnil) (Syntax.ttcons Syntax.tnil Syntax.ttnil))))))))))))))))) Syntax.tnil) Syntax.ttnil))),
+              Syntax.tnil)) (Syntax.ttcons (Syntax.tcons (Syntax.tyInt Syntax.w64) Syntax.tnil) (Syntax.ttcons Syntax.tnil (Syntax.ttcons Syntax.tnil (Syntax.ttcons (Syntax.tcons (Syntax.tyInt Syntax.w64)
+              Syntax.tnil) (Syntax.ttcons (Syntax.tcons (Syntax.tyInt Syntax.w64) Syntax.tnil) (Syntax.ttcons (Syntax.tcons (Syntax.tyInt Syntax.w64) Syntax.tnil) (Syntax.ttcons Syntax.tnil
+              Syntax.ttnil)))))))))))))))))))))) Syntax.tnil) Syntax.ttnil))),
         ) (List._∷_ (
           1,
-          Rows'.sslice (Referent.rtF (Referent.fInt Syntax.w8)) (Syntax.tyRef (Syntax.named 0) Syntax.imm (Syntax.tyInt Syntax.w8)) 0,
-        ) (List._∷_ (2, Rows'.whole (Declared'.row Rect.the-type))
-            (List._∷_ (3, Rows.arrF (Referent.rtF (Referent.fInt Syntax.w8)) 36 0) (List._∷_ (
-              4,
-              Relend.mslice-owed (Referent.rtF (Referent.fInt Syntax.w16)) (Syntax.tyRef (Syntax.named 1) Syntax.mut
-                  (Syntax.tyInt Syntax.w16)) 1 4 (Row.lease (κs .1 .0) (qs .1 .0)),
-            ) (List._∷_ (
-              5,
-              Mut.mslice (Referent.rtF (Referent.fInt Syntax.w16)) (Syntax.tyRef (Syntax.named 2) Syntax.mut (Syntax.tyInt
-                  Syntax.w16)) 2,
-            ) (List._∷_ (6, Mut.mslice (Element.type) (Syntax.tyRef (Syntax.named 3) Syntax.mut Element.behind) 3) (List._∷_ (
-              7,
-              Rows'.any-gone (Syntax.tyEnum (List._∷_ 115 (List._∷_
-                  116 (List._∷_ 114 (List._∷_ 101 (List._∷_ 97 (List._∷_ 109 (List._∷_ 58 (List._∷_ 58 (List._∷_ 80 (List._∷_ 97 (List._∷_ 114 (List._∷_ 115 (List._∷_ 101 (List._∷_ 100 List.[]))))))))))))))
-                  (Syntax.ttcons (Syntax.tcons (Syntax.tyStruct (List._∷_ 115 (List._∷_ 116 (List._∷_ 114 (List._∷_ 101 (List._∷_ 97 (List._∷_ 109 (List._∷_ 58 (List._∷_ 58 (List._∷_ 70 (List._∷_ 117 (List._∷_
-                  106 (List._∷_ 105 (List._∷_ 72 (List._∷_ 101 (List._∷_ 97 (List._∷_ 100 (List._∷_ 101 (List._∷_ 114 List.[])))))))))))))))))) (Syntax.tcons Syntax.tyBool (Syntax.tcons Syntax.tyBool
-                  (Syntax.tcons (Syntax.tyInt Syntax.w32) (Syntax.tcons (Syntax.tyInt Syntax.w32) (Syntax.tcons (Syntax.tyInt Syntax.w32) (Syntax.tcons (Syntax.tyInt Syntax.w32) (Syntax.tcons (Syntax.tyInt
-                  Syntax.w32) (Syntax.tcons (Syntax.tyInt Syntax.w32) (Syntax.tcons (Syntax.tyInt Syntax.w32) Syntax.tnil)))))))))) Syntax.tnil) (Syntax.ttcons (Syntax.tcons (Syntax.tyEnum (List._∷_ 115
-                  (List._∷_ 116 (List._∷_ 114 (List._∷_ 101 (List._∷_ 97 (List._∷_ 109 (List._∷_ 58 (List._∷_ 58 (List._∷_ 82 (List._∷_ 101 (List._∷_ 102 (List._∷_ 117 (List._∷_ 115 (List._∷_ 97 (List._∷_ 108
-                  List.[]))))))))))))))) (Syntax.ttcons Syntax.tnil (Syntax.ttcons Syntax.tnil (Syntax.ttcons Syntax.tnil (Syntax.ttcons (Syntax.tcons (Syntax.tyInt Syntax.w64) Syntax.tnil) (Syntax.ttcons
-                  Syntax.tnil (Syntax.ttcons Syntax.tnil (Syntax.ttcons Syntax.tnil (Syntax.ttcons Syntax.tnil (Syntax.ttcons Syntax.tnil (Syntax.ttcons Syntax.tnil (Syntax.ttcons (Syntax.tcons (Syntax.tyInt
-                  Syntax.w64) Syntax.tnil) (Syntax.ttcons (Syntax.tcons (Syntax.tyInt Syntax.w64) Syntax.tnil) (Syntax.ttcons Syntax.tnil (Syntax.ttcons (Syntax.tcons (Syntax.tyInt Syntax.w64) (Syntax.tcons
-                  (Syntax.tyInt Syntax.w64) Syntax.tnil)) (Syntax.ttcons (Syntax.tcons (Syntax.tyInt Syntax.w64) Syntax.tnil) (Syntax.ttcons Syntax.tnil Syntax.ttnil))))))))))))))))) Syntax.tnil)
-                  Syntax.ttnil))),
-            ) (List._∷_ (
-              8,
-              Rows'.any-gone (Syntax.tyEnum (List._∷_ 115 (List._∷_ 116 (List._∷_ 114 (List._∷_ 101 (List._∷_ 97 (List._∷_ 109 (List._∷_ 58 (List._∷_ 58 (List._∷_ 82
-                  (List._∷_ 101 (List._∷_ 102 (List._∷_ 117 (List._∷_ 115 (List._∷_ 97 (List._∷_ 108 List.[]))))))))))))))) (Syntax.ttcons Syntax.tnil (Syntax.ttcons Syntax.tnil (Syntax.ttcons Syntax.tnil
-                  (Syntax.ttcons (Syntax.tcons (Syntax.tyInt Syntax.w64) Syntax.tnil) (Syntax.ttcons Syntax.tnil (Syntax.ttcons Syntax.tnil (Syntax.ttcons Syntax.tnil (Syntax.ttcons Syntax.tnil (Syntax.ttcons
-                  Syntax.tnil (Syntax.ttcons Syntax.tnil (Syntax.ttcons (Syntax.tcons (Syntax.tyInt Syntax.w64) Syntax.tnil) (Syntax.ttcons (Syntax.tcons (Syntax.tyInt Syntax.w64) Syntax.tnil) (Syntax.ttcons
-                  Syntax.tnil (Syntax.ttcons (Syntax.tcons (Syntax.tyInt Syntax.w64) (Syntax.tcons (Syntax.tyInt Syntax.w64) Syntax.tnil)) (Syntax.ttcons (Syntax.tcons (Syntax.tyInt Syntax.w64) Syntax.tnil)
-                  (Syntax.ttcons Syntax.tnil Syntax.ttnil))))))))))))))))),
-            ) (List._∷_ (9, Rows'.whole (Declared'.row FujiHeader.the-type)) (List._∷_ (
-              10,
-              Rows'.any-gone (Syntax.tyEnum (List._∷_ 98 (List._∷_
-                  108 (List._∷_ 111 (List._∷_ 99 (List._∷_ 107 (List._∷_ 58 (List._∷_ 58 (List._∷_ 68 (List._∷_ 101 (List._∷_ 99 (List._∷_ 111 (List._∷_ 100 (List._∷_ 101 (List._∷_ 100 List.[]))))))))))))))
-                  (Syntax.ttcons Syntax.tnil (Syntax.ttcons (Syntax.tcons (Syntax.tyEnum (List._∷_ 115 (List._∷_ 116 (List._∷_ 114 (List._∷_ 101 (List._∷_ 97 (List._∷_ 109 (List._∷_ 58 (List._∷_ 58 (List._∷_ 82
-                  (List._∷_ 101 (List._∷_ 102 (List._∷_ 117 (List._∷_ 115 (List._∷_ 97 (List._∷_ 108 List.[]))))))))))))))) (Syntax.ttcons Syntax.tnil (Syntax.ttcons Syntax.tnil (Syntax.ttcons Syntax.tnil
-                  (Syntax.ttcons (Syntax.tcons (Syntax.tyInt Syntax.w64) Syntax.tnil) (Syntax.ttcons Syntax.tnil (Syntax.ttcons Syntax.tnil (Syntax.ttcons Syntax.tnil (Syntax.ttcons Syntax.tnil (Syntax.ttcons
-                  Syntax.tnil (Syntax.ttcons Syntax.tnil (Syntax.ttcons (Syntax.tcons (Syntax.tyInt Syntax.w64) Syntax.tnil) (Syntax.ttcons (Syntax.tcons (Syntax.tyInt Syntax.w64) Syntax.tnil) (Syntax.ttcons
-                  Syntax.tnil (Syntax.ttcons (Syntax.tcons (Syntax.tyInt Syntax.w64) (Syntax.tcons (Syntax.tyInt Syntax.w64) Syntax.tnil)) (Syntax.ttcons (Syntax.tcons (Syntax.tyInt Syntax.w64) Syntax.tnil)
-                  (Syntax.ttcons Syntax.tnil Syntax.ttnil))))))))))))))))) Syntax.tnil) Syntax.ttnil))),
-            ) (List._∷_ (11, Rows'.any-gone (Syntax.tyRef Syntax.erased Syntax.mut (Syntax.tyInt Syntax.w16)))
-            (List._∷_ (12, Mut.mslice (Referent.rtF (Referent.fInt Syntax.w16)) (Syntax.tyRef Syntax.erased Syntax.mut (Syntax.tyInt Syntax.w16)) 4) (List._∷_ (
-              13,
-              Rows'.any-gone (Syntax.tyRef
-                  Syntax.erased Syntax.mut (Syntax.tyInt Syntax.w16)),
-            ) (List._∷_ (
-              14,
-              Rows'.any-gone (Syntax.tyStruct (List._∷_ 38 (List._∷_ 91 (List._∷_ 93 List.[]))) (Syntax.tcons (Syntax.tyRef
-                  Syntax.erased Syntax.mut (Syntax.tyInt Syntax.w16)) (Syntax.tcons (Syntax.tyInt Syntax.w64) Syntax.tnil))),
-            ) (List._∷_ (
-              15,
-              Rows'.any-gone (Syntax.tyRef Syntax.erased Syntax.mut
-                  Element.behind),
-            ) List.[])))))))))))))))
+          Rows'.sslice (Referent.rtF (Referent.fInt Syntax.w8)) (Syntax.tyRef (Syntax.named 0) Syntax.imm (Syntax.tyInt
+              Syntax.w8)) 0,
+        ) (List._∷_ (2, Rows'.whole (Declared'.row Rect.the-type)) (List._∷_ (3, Rows.arrF (Referent.rtF (Referent.fInt Syntax.w8)) 36 0) (List._∷_ (
+          4,
+          Relend.mslice-owed
+              (Referent.rtF (Referent.fInt Syntax.w16)) (Syntax.tyRef (Syntax.named 1) Syntax.mut (Syntax.tyInt Syntax.w16)) 1 4 (Row.lease (κs .1 .0) (qs .1 .0)),
+        ) (List._∷_ (
+          5,
+          Mut.mslice (Referent.rtF
+              (Referent.fInt Syntax.w16)) (Syntax.tyRef (Syntax.named 2) Syntax.mut (Syntax.tyInt Syntax.w16)) 2,
+        ) (List._∷_ (
+          6,
+          Mut.mslice (Element.type) (Syntax.tyRef (Syntax.named 3) Syntax.mut
+              Element.behind) 3,
+        ) (List._∷_ (
+          7,
+          Rows'.any-gone (Syntax.tyEnum (List._∷_ 115 (List._∷_ 116 (List._∷_ 114 (List._∷_ 101 (List._∷_ 97 (List._∷_ 109 (List._∷_ 58 (List._∷_ 58 (List._∷_ 80
+              (List._∷_ 97 (List._∷_ 114 (List._∷_ 115 (List._∷_ 101 (List._∷_ 100 List.[])))))))))))))) (Syntax.ttcons (Syntax.tcons (Syntax.tyStruct (List._∷_ 115 (List._∷_ 116 (List._∷_ 114 (List._∷_ 101
+              (List._∷_ 97 (List._∷_ 109 (List._∷_ 58 (List._∷_ 58 (List._∷_ 70 (List._∷_ 117 (List._∷_ 106 (List._∷_ 105 (List._∷_ 72 (List._∷_ 101 (List._∷_ 97 (List._∷_ 100 (List._∷_ 101 (List._∷_ 114
+              List.[])))))))))))))))))) (Syntax.tcons Syntax.tyBool (Syntax.tcons Syntax.tyBool (Syntax.tcons (Syntax.tyInt Syntax.w32) (Syntax.tcons (Syntax.tyInt Syntax.w32) (Syntax.tcons (Syntax.tyInt
+              Syntax.w32) (Syntax.tcons (Syntax.tyInt Syntax.w32) (Syntax.tcons (Syntax.tyInt Syntax.w32) (Syntax.tcons (Syntax.tyInt Syntax.w32) (Syntax.tcons (Syntax.tyInt Syntax.w32)
+              Syntax.tnil)))))))))) Syntax.tnil) (Syntax.ttcons (Syntax.tcons (Syntax.tyEnum (List._∷_ 115 (List._∷_ 116 (List._∷_ 114 (List._∷_ 101 (List._∷_ 97 (List._∷_ 109 (List._∷_ 58 (List._∷_ 58
+              (List._∷_ 82 (List._∷_ 101 (List._∷_ 102 (List._∷_ 117 (List._∷_ 115 (List._∷_ 97 (List._∷_ 108 List.[]))))))))))))))) (Syntax.ttcons Syntax.tnil (Syntax.ttcons Syntax.tnil (Syntax.ttcons
+              Syntax.tnil (Syntax.ttcons (Syntax.tcons (Syntax.tyInt Syntax.w64) Syntax.tnil) (Syntax.ttcons Syntax.tnil (Syntax.ttcons Syntax.tnil (Syntax.ttcons Syntax.tnil (Syntax.ttcons Syntax.tnil
+              (Syntax.ttcons Syntax.tnil (Syntax.ttcons Syntax.tnil (Syntax.ttcons (Syntax.tcons (Syntax.tyInt Syntax.w64) Syntax.tnil) (Syntax.ttcons (Syntax.tcons (Syntax.tyInt Syntax.w64) Syntax.tnil)
+              (Syntax.ttcons Syntax.tnil (Syntax.ttcons (Syntax.tcons (Syntax.tyInt Syntax.w64) (Syntax.tcons (Syntax.tyInt Syntax.w64) Syntax.tnil)) (Syntax.ttcons (Syntax.tcons (Syntax.tyInt Syntax.w64)
+              Syntax.tnil) (Syntax.ttcons Syntax.tnil (Syntax.ttcons Syntax.tnil (Syntax.ttcons (Syntax.tcons (Syntax.tyInt Syntax.w64) Syntax.tnil) (Syntax.ttcons (Syntax.tcons (Syntax.tyInt Syntax.w64)
+              Syntax.tnil) (Syntax.ttcons (Syntax.tcons (Syntax.tyInt Syntax.w64) Syntax.tnil) (Syntax.ttcons Syntax.tnil Syntax.ttnil)))))))))))))))))))))) Syntax.tnil) Syntax.ttnil))),
+        ) (List._∷_ (
+          8,
+          Rows'.any-gone (Syntax.tyEnum (List._∷_ 115 (List._∷_ 116 (List._∷_ 114 (List._∷_ 101 (List._∷_ 97 (List._∷_ 109 (List._∷_ 58 (List._∷_ 58 (List._∷_ 82 (List._∷_ 101 (List._∷_ 102 (List._∷_
+              117 (List._∷_ 115 (List._∷_ 97 (List._∷_ 108 List.[]))))))))))))))) (Syntax.ttcons Syntax.tnil (Syntax.ttcons Syntax.tnil (Syntax.ttcons Syntax.tnil (Syntax.ttcons (Syntax.tcons (Syntax.tyInt
+              Syntax.w64) Syntax.tnil) (Syntax.ttcons Syntax.tnil (Syntax.ttcons Syntax.tnil (Syntax.ttcons Syntax.tnil (Syntax.ttcons Syntax.tnil (Syntax.ttcons Syntax.tnil (Syntax.ttcons Syntax.tnil
+              (Syntax.ttcons (Syntax.tcons (Syntax.tyInt Syntax.w64) Syntax.tnil) (Syntax.ttcons (Syntax.tcons (Syntax.tyInt Syntax.w64) Syntax.tnil) (Syntax.ttcons Syntax.tnil (Syntax.ttcons (Syntax.tcons
+              (Syntax.tyInt Syntax.w64) (Syntax.tcons (Syntax.tyInt Syntax.w64) Syntax.tnil)) (Syntax.ttcons (Syntax.tcons (Syntax.tyInt Syntax.w64) Syntax.tnil) (Syntax.ttcons Syntax.tnil (Syntax.ttcons
+              Syntax.tnil (Syntax.ttcons (Syntax.tcons (Syntax.tyInt Syntax.w64) Syntax.tnil) (Syntax.ttcons (Syntax.tcons (Syntax.tyInt Syntax.w64) Syntax.tnil) (Syntax.ttcons (Syntax.tcons (Syntax.tyInt
+              Syntax.w64) Syntax.tnil) (Syntax.ttcons Syntax.tnil Syntax.ttnil)))))))))))))))))))))),
+        ) (List._∷_ (9, Rows'.whole (Declared'.row FujiHeader.the-type)) (List._∷_ (
+          10,
+          Rows'.any-gone
+              (Syntax.tyEnum (List._∷_ 98 (List._∷_ 108 (List._∷_ 111 (List._∷_ 99 (List._∷_ 107 (List._∷_ 58 (List._∷_ 58 (List._∷_ 68 (List._∷_ 101 (List._∷_ 99 (List._∷_ 111 (List._∷_ 100 (List._∷_ 101
+              (List._∷_ 100 List.[])))))))))))))) (Syntax.ttcons Syntax.tnil (Syntax.ttcons (Syntax.tcons (Syntax.tyEnum (List._∷_ 115 (List._∷_ 116 (List._∷_ 114 (List._∷_ 101 (List._∷_ 97 (List._∷_ 109
+              (List._∷_ 58 (List._∷_ 58 (List._∷_ 82 (List._∷_ 101 (List._∷_ 102 (List._∷_ 117 (List._∷_ 115 (List._∷_ 97 (List._∷_ 108 List.[]))))))))))))))) (Syntax.ttcons Syntax.tnil (Syntax.ttcons
+              Syntax.tnil (Syntax.ttcons Syntax.tnil (Syntax.ttcons (Syntax.tcons (Syntax.tyInt Syntax.w64) Syntax.tnil) (Syntax.ttcons Syntax.tnil (Syntax.ttcons Syntax.tnil (Syntax.ttcons Syntax.tnil
+              (Syntax.ttcons Syntax.tnil (Syntax.ttcons Syntax.tnil (Syntax.ttcons Syntax.tnil (Syntax.ttcons (Syntax.tcons (Syntax.tyInt Syntax.w64) Syntax.tnil) (Syntax.ttcons (Syntax.tcons (Syntax.tyInt
+              Syntax.w64) Syntax.tnil) (Syntax.ttcons Syntax.tnil (Syntax.ttcons (Syntax.tcons (Syntax.tyInt Syntax.w64) (Syntax.tcons (Syntax.tyInt Syntax.w64) Syntax.tnil)) (Syntax.ttcons (Syntax.tcons
+              (Syntax.tyInt Syntax.w64) Syntax.tnil) (Syntax.ttcons Syntax.tnil (Syntax.ttcons Syntax.tnil (Syntax.ttcons (Syntax.tcons (Syntax.tyInt Syntax.w64) Syntax.tnil) (Syntax.ttcons (Syntax.tcons
+              (Syntax.tyInt Syntax.w64) Syntax.tnil) (Syntax.ttcons (Syntax.tcons (Syntax.tyInt Syntax.w64) Syntax.tnil) (Syntax.ttcons Syntax.tnil Syntax.ttnil)))))))))))))))))))))) Syntax.tnil)
+              Syntax.ttnil))),
+        ) (List._∷_ (11, Rows'.any-gone (Syntax.tyRef Syntax.erased Syntax.mut (Syntax.tyInt Syntax.w16))) (List._∷_ (
+          12,
+          Mut.mslice (Referent.rtF (Referent.fInt Syntax.w16))
+              (Syntax.tyRef Syntax.erased Syntax.mut (Syntax.tyInt Syntax.w16)) 4,
+        ) (List._∷_ (13, Rows'.any-gone (Syntax.tyRef Syntax.erased Syntax.mut (Syntax.tyInt Syntax.w16))) (List._∷_ (
+          14,
+          Rows'.any-gone (Syntax.tyStruct (List._∷_ 38 (List._∷_ 91 (List._∷_ 93 List.[]))) (Syntax.tcons (Syntax.tyRef Syntax.erased Syntax.mut (Syntax.tyInt Syntax.w16)) (Syntax.tcons (Syntax.tyInt
+              Syntax.w64) Syntax.tnil))),
+        ) (List._∷_ (15, Rows'.any-gone (Syntax.tyRef Syntax.erased Syntax.mut Element.behind)) List.[])))))))))))))))
 
         abbrev g16 : List.List Row.Entry
         g16 = List._∷_ (
@@ -2687,65 +2769,80 @@ module _ (claims· : Claims) where
               (Syntax.ttcons Syntax.tnil (Syntax.ttcons Syntax.tnil (Syntax.ttcons Syntax.tnil (Syntax.ttcons (Syntax.tcons (Syntax.tyInt Syntax.w64) Syntax.tnil) (Syntax.ttcons Syntax.tnil (Syntax.ttcons
               Syntax.tnil (Syntax.ttcons Syntax.tnil (Syntax.ttcons Syntax.tnil (Syntax.ttcons Syntax.tnil (Syntax.ttcons Syntax.tnil (Syntax.ttcons (Syntax.tcons (Syntax.tyInt Syntax.w64) Syntax.tnil)
               (Syntax.ttcons (Syntax.tcons (Syntax.tyInt Syntax.w64) Syntax.tnil) (Syntax.ttcons Syntax.tnil (Syntax.ttcons (Syntax.tcons (Syntax.tyInt Syntax.w64) (Syntax.tcons (Syntax.tyInt Syntax.w64)
-              Syntax.tnil)) (Syntax.ttcons (Syntax.tcons (Syntax.tyInt Syntax.w64) Syntax.tnil) (Syntax.ttcons Syntax.tnil Syntax.ttnil))))))))))))))))) Syntax.tnil) Syntax.ttnil))),
+              Syntax.tnil)) (Syntax.ttcons (Syntax.tcons (Syntax.tyInt Syntax.w64) Syntax.tnil) (Syntax.ttcons Syntax.tnil (Syntax.ttcons Syntax.tnil (Syntax.ttcons (Syntax.tcons (Syntax.tyInt Syntax.w64)
+              Syntax.tnil) (Syntax.ttcons (Syntax.tcons (Syntax.tyInt Syntax.w64) Syntax.tnil) (Syntax.ttcons (Syntax.tcons (Syntax.tyInt Syntax.w64) Syntax.tnil) (Syntax.ttcons Syntax.tnil
+              Syntax.ttnil)))))))))))))))))))))) Syntax.tnil) Syntax.ttnil))),
         ) (List._∷_ (
           1,
-          Rows'.sslice (Referent.rtF (Referent.fInt Syntax.w8)) (Syntax.tyRef (Syntax.named 0) Syntax.imm (Syntax.tyInt Syntax.w8)) 0,
-        ) (List._∷_ (2, Rows'.whole (Declared'.row Rect.the-type))
-            (List._∷_ (3, Rows.arrF (Referent.rtF (Referent.fInt Syntax.w8)) 36 0) (List._∷_ (
-              4,
-              Relend.mslice-owed (Referent.rtF (Referent.fInt Syntax.w16)) (Syntax.tyRef (Syntax.named 1) Syntax.mut
-                  (Syntax.tyInt Syntax.w16)) 1 4 (Row.lease (κs .1 .0) (qs .1 .0)),
-            ) (List._∷_ (
-              5,
-              Relend.mslice-owed (Referent.rtF (Referent.fInt Syntax.w16)) (Syntax.tyRef (Syntax.named 2) Syntax.mut
-                  (Syntax.tyInt Syntax.w16)) 2 5 (Row.lease (κs .1 .1 .0) (qs .1 .1 .0)),
-            ) (List._∷_ (6, Mut.mslice (Element.type) (Syntax.tyRef (Syntax.named 3) Syntax.mut Element.behind) 3) (List._∷_ (
-              7,
-              Rows'.any-gone (Syntax.tyEnum (List._∷_ 115 (List._∷_ 116 (List._∷_ 114 (List._∷_ 101 (List._∷_ 97 (List._∷_ 109 (List._∷_ 58 (List._∷_ 58 (List._∷_ 80 (List._∷_ 97 (List._∷_ 114 (List._∷_ 115
-                  (List._∷_ 101 (List._∷_ 100 List.[])))))))))))))) (Syntax.ttcons (Syntax.tcons (Syntax.tyStruct (List._∷_ 115 (List._∷_ 116 (List._∷_ 114 (List._∷_ 101 (List._∷_ 97 (List._∷_ 109 (List._∷_ 58
-                  (List._∷_ 58 (List._∷_ 70 (List._∷_ 117 (List._∷_ 106 (List._∷_ 105 (List._∷_ 72 (List._∷_ 101 (List._∷_ 97 (List._∷_ 100 (List._∷_ 101 (List._∷_ 114 List.[])))))))))))))))))) (Syntax.tcons
-                  Syntax.tyBool (Syntax.tcons Syntax.tyBool (Syntax.tcons (Syntax.tyInt Syntax.w32) (Syntax.tcons (Syntax.tyInt Syntax.w32) (Syntax.tcons (Syntax.tyInt Syntax.w32) (Syntax.tcons (Syntax.tyInt
-                  Syntax.w32) (Syntax.tcons (Syntax.tyInt Syntax.w32) (Syntax.tcons (Syntax.tyInt Syntax.w32) (Syntax.tcons (Syntax.tyInt Syntax.w32) Syntax.tnil)))))))))) Syntax.tnil) (Syntax.ttcons
-                  (Syntax.tcons (Syntax.tyEnum (List._∷_ 115 (List._∷_ 116 (List._∷_ 114 (List._∷_ 101 (List._∷_ 97 (List._∷_ 109 (List._∷_ 58 (List._∷_ 58 (List._∷_ 82 (List._∷_ 101 (List._∷_ 102 (List._∷_ 117
-                  (List._∷_ 115 (List._∷_ 97 (List._∷_ 108 List.[]))))))))))))))) (Syntax.ttcons Syntax.tnil (Syntax.ttcons Syntax.tnil (Syntax.ttcons Syntax.tnil (Syntax.ttcons (Syntax.tcons (Syntax.tyInt
-                  Syntax.w64) Syntax.tnil) (Syntax.ttcons Syntax.tnil (Syntax.ttcons Syntax.tnil (Syntax.ttcons Syntax.tnil (Syntax.ttcons Syntax.tnil (Syntax.ttcons Syntax.tnil (Syntax.ttcons Syntax.tnil
-                  (Syntax.ttcons (Syntax.tcons (Syntax.tyInt Syntax.w64) Syntax.tnil) (Syntax.ttcons (Syntax.tcons (Syntax.tyInt Syntax.w64) Syntax.tnil) (Syntax.ttcons Syntax.tnil (Syntax.ttcons (Syntax.tcons
-                  (Syntax.tyInt Syntax.w64) (Syntax.tcons (Syntax.tyInt Syntax.w64) Syntax.tnil)) (Syntax.ttcons (Syntax.tcons (Syntax.tyInt Syntax.w64) Syntax.tnil) (Syntax.ttcons Syntax.tnil
-                  Syntax.ttnil))))))))))))))))) Syntax.tnil) Syntax.ttnil))),
-            ) (List._∷_ (
-              8,
-              Rows'.any-gone (Syntax.tyEnum (List._∷_ 115 (List._∷_ 116 (List._∷_ 114 (List._∷_ 101 (List._∷_ 97 (List._∷_ 109
-                  (List._∷_ 58 (List._∷_ 58 (List._∷_ 82 (List._∷_ 101 (List._∷_ 102 (List._∷_ 117 (List._∷_ 115 (List._∷_ 97 (List._∷_ 108 List.[]))))))))))))))) (Syntax.ttcons Syntax.tnil (Syntax.ttcons
-                  Syntax.tnil (Syntax.ttcons Syntax.tnil (Syntax.ttcons (Syntax.tcons (Syntax.tyInt Syntax.w64) Syntax.tnil) (Syntax.ttcons Syntax.tnil (Syntax.ttcons Syntax.tnil (Syntax.ttcons Syntax.tnil
-                  (Syntax.ttcons Syntax.tnil (Syntax.ttcons Syntax.tnil (Syntax.ttcons Syntax.tnil (Syntax.ttcons (Syntax.tcons (Syntax.tyInt Syntax.w64) Syntax.tnil) (Syntax.ttcons (Syntax.tcons (Syntax.tyInt
-                  Syntax.w64) Syntax.tnil) (Syntax.ttcons Syntax.tnil (Syntax.ttcons (Syntax.tcons (Syntax.tyInt Syntax.w64) (Syntax.tcons (Syntax.tyInt Syntax.w64) Syntax.tnil)) (Syntax.ttcons (Syntax.tcons
-                  (Syntax.tyInt Syntax.w64) Syntax.tnil) (Syntax.ttcons Syntax.tnil Syntax.ttnil))))))))))))))))),
-            ) (List._∷_ (9, Rows'.whole (Declared'.row FujiHeader.the-type)) (List._∷_ (
-              10,
-              Rows'.any-gone
-                  (Syntax.tyEnum (List._∷_ 98 (List._∷_ 108 (List._∷_ 111 (List._∷_ 99 (List._∷_ 107 (List._∷_ 58 (List._∷_ 58 (List._∷_ 68 (List._∷_ 101 (List._∷_ 99 (List._∷_ 111 (List._∷_ 100 (List._∷_ 101
-                  (List._∷_ 100 List.[])))))))))))))) (Syntax.ttcons Syntax.tnil (Syntax.ttcons (Syntax.tcons (Syntax.tyEnum (List._∷_ 115 (List._∷_ 116 (List._∷_ 114 (List._∷_ 101 (List._∷_ 97 (List._∷_ 109
-                  (List._∷_ 58 (List._∷_ 58 (List._∷_ 82 (List._∷_ 101 (List._∷_ 102 (List._∷_ 117 (List._∷_ 115 (List._∷_ 97 (List._∷_ 108 List.[]))))))))))))))) (Syntax.ttcons Syntax.tnil (Syntax.ttcons
-                  Syntax.tnil (Syntax.ttcons Syntax.tnil (Syntax.ttcons (Syntax.tcons (Syntax.tyInt Syntax.w64) Syntax.tnil) (Syntax.ttcons Syntax.tnil (Syntax.ttcons Syntax.tnil (Syntax.ttcons Syntax.tnil
-                  (Syntax.ttcons Syntax.tnil (Syntax.ttcons Syntax.tnil (Syntax.ttcons Syntax.tnil (Syntax.ttcons (Syntax.tcons (Syntax.tyInt Syntax.w64) Syntax.tnil) (Syntax.ttcons (Syntax.tcons (Syntax.tyInt
-                  Syntax.w64) Syntax.tnil) (Syntax.ttcons Syntax.tnil (Syntax.ttcons (Syntax.tcons (Syntax.tyInt Syntax.w64) (Syntax.tcons (Syntax.tyInt Syntax.w64) Syntax.tnil)) (Syntax.ttcons (Syntax.tcons
-                  (Syntax.tyInt Syntax.w64) Syntax.tnil) (Syntax.ttcons Syntax.tnil Syntax.ttnil))))))))))))))))) Syntax.tnil) Syntax.ttnil))),
-            ) (List._∷_ (
-              11,
-              Rows'.any-gone (Syntax.tyRef Syntax.erased
-                  Syntax.mut (Syntax.tyInt Syntax.w16)),
-            ) (List._∷_ (12, Mut.mslice (Referent.rtF (Referent.fInt Syntax.w16)) (Syntax.tyRef Syntax.erased Syntax.mut (Syntax.tyInt Syntax.w16)) 4) (List._∷_ (
-              13,
-              Relend.msptr (Referent.rtF (Referent.fInt Syntax.w16)) (Syntax.tyRef Syntax.erased Syntax.mut (Syntax.tyInt Syntax.w16)) 5,
-            ) (List._∷_ (
-              14,
-              Rows'.any-gone (Syntax.tyStruct (List._∷_ 38
-                  (List._∷_ 91 (List._∷_ 93 List.[]))) (Syntax.tcons (Syntax.tyRef Syntax.erased Syntax.mut (Syntax.tyInt Syntax.w16)) (Syntax.tcons (Syntax.tyInt Syntax.w64) Syntax.tnil))),
-            ) (List._∷_ (
-              15,
-              Rows'.any-gone (Syntax.tyRef Syntax.erased Syntax.mut Element.behind),
-            ) List.[])))))))))))))))
+          Rows'.sslice (Referent.rtF (Referent.fInt Syntax.w8)) (Syntax.tyRef (Syntax.named 0) Syntax.imm (Syntax.tyInt
+              Syntax.w8)) 0,
+        ) (List._∷_ (2, Rows'.whole (Declared'.row Rect.the-type)) (List._∷_ (3, Rows.arrF (Referent.rtF (Referent.fInt Syntax.w8)) 36 0) (List._∷_ (
+          4,
+          Relend.mslice-owed
+              (Referent.rtF (Referent.fInt Syntax.w16)) (Syntax.tyRef (Syntax.named 1) Syntax.mut (Syntax.tyInt Syntax.w16)) 1 4 (Row.lease (κs .1 .0) (qs .1 .0)),
+        ) (List._∷_ (
+          5,
+          Relend.mslice-owed
+              (Referent.rtF (Referent.fInt Syntax.w16)) (Syntax.tyRef (Syntax.named 2) Syntax.mut (Syntax.tyInt Syntax.w16)) 2 5 (Row.lease (κs .1 .1 .0) (qs .1 .1 .0)),
+        ) (List._∷_ (
+          6,
+          Mut.mslice
+              (Element.type) (Syntax.tyRef (Syntax.named 3) Syntax.mut Element.behind) 3,
+        ) (List._∷_ (
+          7,
+          Rows'.any-gone (Syntax.tyEnum (List._∷_ 115 (List._∷_ 116 (List._∷_ 114 (List._∷_ 101 (List._∷_ 97
+              (List._∷_ 109 (List._∷_ 58 (List._∷_ 58 (List._∷_ 80 (List._∷_ 97 (List._∷_ 114 (List._∷_ 115 (List._∷_ 101 (List._∷_ 100 List.[])))))))))))))) (Syntax.ttcons (Syntax.tcons (Syntax.tyStruct
+              (List._∷_ 115 (List._∷_ 116 (List._∷_ 114 (List._∷_ 101 (List._∷_ 97 (List._∷_ 109 (List._∷_ 58 (List._∷_ 58 (List._∷_ 70 (List._∷_ 117 (List._∷_ 106 (List._∷_ 105 (List._∷_ 72 (List._∷_ 101
+              (List._∷_ 97 (List._∷_ 100 (List._∷_ 101 (List._∷_ 114 List.[])))))))))))))))))) (Syntax.tcons Syntax.tyBool (Syntax.tcons Syntax.tyBool (Syntax.tcons (Syntax.tyInt Syntax.w32) (Syntax.tcons
+              (Syntax.tyInt Syntax.w32) (Syntax.tcons (Syntax.tyInt Syntax.w32) (Syntax.tcons (Syntax.tyInt Syntax.w32) (Syntax.tcons (Syntax.tyInt Syntax.w32) (Syntax.tcons (Syntax.tyInt Syntax.w32)
+              (Syntax.tcons (Syntax.tyInt Syntax.w32) Syntax.tnil)))))))))) Syntax.tnil) (Syntax.ttcons (Syntax.tcons (Syntax.tyEnum (List._∷_ 115 (List._∷_ 116 (List._∷_ 114 (List._∷_ 101 (List._∷_ 97
+              (List._∷_ 109 (List._∷_ 58 (List._∷_ 58 (List._∷_ 82 (List._∷_ 101 (List._∷_ 102 (List._∷_ 117 (List._∷_ 115 (List._∷_ 97 (List._∷_ 108 List.[]))))))))))))))) (Syntax.ttcons Syntax.tnil
+              (Syntax.ttcons Syntax.tnil (Syntax.ttcons Syntax.tnil (Syntax.ttcons (Syntax.tcons (Syntax.tyInt Syntax.w64) Syntax.tnil) (Syntax.ttcons Syntax.tnil (Syntax.ttcons Syntax.tnil (Syntax.ttcons
+              Syntax.tnil (Syntax.ttcons Syntax.tnil (Syntax.ttcons Syntax.tnil (Syntax.ttcons Syntax.tnil (Syntax.ttcons (Syntax.tcons (Syntax.tyInt Syntax.w64) Syntax.tnil) (Syntax.ttcons (Syntax.tcons
+              (Syntax.tyInt Syntax.w64) Syntax.tnil) (Syntax.ttcons Syntax.tnil (Syntax.ttcons (Syntax.tcons (Syntax.tyInt Syntax.w64) (Syntax.tcons (Syntax.tyInt Syntax.w64) Syntax.tnil)) (Syntax.ttcons
+              (Syntax.tcons (Syntax.tyInt Syntax.w64) Syntax.tnil) (Syntax.ttcons Syntax.tnil (Syntax.ttcons Syntax.tnil (Syntax.ttcons (Syntax.tcons (Syntax.tyInt Syntax.w64) Syntax.tnil) (Syntax.ttcons
+              (Syntax.tcons (Syntax.tyInt Syntax.w64) Syntax.tnil) (Syntax.ttcons (Syntax.tcons (Syntax.tyInt Syntax.w64) Syntax.tnil) (Syntax.ttcons Syntax.tnil Syntax.ttnil))))))))))))))))))))))
+              Syntax.tnil) Syntax.ttnil))),
+        ) (List._∷_ (
+          8,
+          Rows'.any-gone (Syntax.tyEnum (List._∷_ 115 (List._∷_ 116 (List._∷_ 114 (List._∷_ 101 (List._∷_ 97 (List._∷_ 109 (List._∷_ 58 (List._∷_ 58
+              (List._∷_ 82 (List._∷_ 101 (List._∷_ 102 (List._∷_ 117 (List._∷_ 115 (List._∷_ 97 (List._∷_ 108 List.[]))))))))))))))) (Syntax.ttcons Syntax.tnil (Syntax.ttcons Syntax.tnil (Syntax.ttcons
+              Syntax.tnil (Syntax.ttcons (Syntax.tcons (Syntax.tyInt Syntax.w64) Syntax.tnil) (Syntax.ttcons Syntax.tnil (Syntax.ttcons Syntax.tnil (Syntax.ttcons Syntax.tnil (Syntax.ttcons Syntax.tnil
+              (Syntax.ttcons Syntax.tnil (Syntax.ttcons Syntax.tnil (Syntax.ttcons (Syntax.tcons (Syntax.tyInt Syntax.w64) Syntax.tnil) (Syntax.ttcons (Syntax.tcons (Syntax.tyInt Syntax.w64) Syntax.tnil)
+              (Syntax.ttcons Syntax.tnil (Syntax.ttcons (Syntax.tcons (Syntax.tyInt Syntax.w64) (Syntax.tcons (Syntax.tyInt Syntax.w64) Syntax.tnil)) (Syntax.ttcons (Syntax.tcons (Syntax.tyInt Syntax.w64)
+              Syntax.tnil) (Syntax.ttcons Syntax.tnil (Syntax.ttcons Syntax.tnil (Syntax.ttcons (Syntax.tcons (Syntax.tyInt Syntax.w64) Syntax.tnil) (Syntax.ttcons (Syntax.tcons (Syntax.tyInt Syntax.w64)
+              Syntax.tnil) (Syntax.ttcons (Syntax.tcons (Syntax.tyInt Syntax.w64) Syntax.tnil) (Syntax.ttcons Syntax.tnil Syntax.ttnil)))))))))))))))))))))),
+        ) (List._∷_ (
+          9,
+          Rows'.whole (Declared'.row
+              FujiHeader.the-type),
+        ) (List._∷_ (
+          10,
+          Rows'.any-gone (Syntax.tyEnum (List._∷_ 98 (List._∷_ 108 (List._∷_ 111 (List._∷_ 99 (List._∷_ 107 (List._∷_ 58 (List._∷_ 58 (List._∷_ 68 (List._∷_ 101
+              (List._∷_ 99 (List._∷_ 111 (List._∷_ 100 (List._∷_ 101 (List._∷_ 100 List.[])))))))))))))) (Syntax.ttcons Syntax.tnil (Syntax.ttcons (Syntax.tcons (Syntax.tyEnum (List._∷_ 115 (List._∷_ 116
+              (List._∷_ 114 (List._∷_ 101 (List._∷_ 97 (List._∷_ 109 (List._∷_ 58 (List._∷_ 58 (List._∷_ 82 (List._∷_ 101 (List._∷_ 102 (List._∷_ 117 (List._∷_ 115 (List._∷_ 97 (List._∷_ 108
+              List.[]))))))))))))))) (Syntax.ttcons Syntax.tnil (Syntax.ttcons Syntax.tnil (Syntax.ttcons Syntax.tnil (Syntax.ttcons (Syntax.tcons (Syntax.tyInt Syntax.w64) Syntax.tnil) (Syntax.ttcons
+              Syntax.tnil (Syntax.ttcons Syntax.tnil (Syntax.ttcons Syntax.tnil (Syntax.ttcons Syntax.tnil (Syntax.ttcons Syntax.tnil (Syntax.ttcons Syntax.tnil (Syntax.ttcons (Syntax.tcons (Syntax.tyInt
+              Syntax.w64) Syntax.tnil) (Syntax.ttcons (Syntax.tcons (Syntax.tyInt Syntax.w64) Syntax.tnil) (Syntax.ttcons Syntax.tnil (Syntax.ttcons (Syntax.tcons (Syntax.tyInt Syntax.w64) (Syntax.tcons
+              (Syntax.tyInt Syntax.w64) Syntax.tnil)) (Syntax.ttcons (Syntax.tcons (Syntax.tyInt Syntax.w64) Syntax.tnil) (Syntax.ttcons Syntax.tnil (Syntax.ttcons Syntax.tnil (Syntax.ttcons (Syntax.tcons
+              (Syntax.tyInt Syntax.w64) Syntax.tnil) (Syntax.ttcons (Syntax.tcons (Syntax.tyInt Syntax.w64) Syntax.tnil) (Syntax.ttcons (Syntax.tcons (Syntax.tyInt Syntax.w64) Syntax.tnil) (Syntax.ttcons
+              Syntax.tnil Syntax.ttnil)))))))))))))))))))))) Syntax.tnil) Syntax.ttnil))),
+        ) (List._∷_ (11, Rows'.any-gone (Syntax.tyRef Syntax.erased Syntax.mut (Syntax.tyInt Syntax.w16))) (List._∷_ (
+          12,
+          Mut.mslice (Referent.rtF (Referent.fInt Syntax.w16)) (Syntax.tyRef Syntax.erased Syntax.mut (Syntax.tyInt Syntax.w16)) 4,
+        ) (List._∷_ (
+          13,
+          Relend.msptr (Referent.rtF (Referent.fInt
+              Syntax.w16)) (Syntax.tyRef Syntax.erased Syntax.mut (Syntax.tyInt Syntax.w16)) 5,
+        ) (List._∷_ (
+          14,
+          Rows'.any-gone (Syntax.tyStruct (List._∷_ 38 (List._∷_ 91 (List._∷_ 93 List.[])))
+              (Syntax.tcons (Syntax.tyRef Syntax.erased Syntax.mut (Syntax.tyInt Syntax.w16)) (Syntax.tcons (Syntax.tyInt Syntax.w64) Syntax.tnil))),
+        ) (List._∷_ (
+          15,
+          Rows'.any-gone (Syntax.tyRef
+              Syntax.erased Syntax.mut Element.behind),
+        ) List.[])))))))))))))))
 
         abbrev g17 : List.List Row.Entry
         g17 = List._∷_ (
@@ -2756,62 +2853,75 @@ module _ (claims· : Claims) where
               (Syntax.ttcons Syntax.tnil (Syntax.ttcons Syntax.tnil (Syntax.ttcons Syntax.tnil (Syntax.ttcons (Syntax.tcons (Syntax.tyInt Syntax.w64) Syntax.tnil) (Syntax.ttcons Syntax.tnil (Syntax.ttcons
               Syntax.tnil (Syntax.ttcons Syntax.tnil (Syntax.ttcons Syntax.tnil (Syntax.ttcons Syntax.tnil (Syntax.ttcons Syntax.tnil (Syntax.ttcons (Syntax.tcons (Syntax.tyInt Syntax.w64) Syntax.tnil)
               (Syntax.ttcons (Syntax.tcons (Syntax.tyInt Syntax.w64) Syntax.tnil) (Syntax.ttcons Syntax.tnil (Syntax.ttcons (Syntax.tcons (Syntax.tyInt Syntax.w64) (Syntax.tcons (Syntax.tyInt Syntax.w64)
-              Syntax.tnil)) (Syntax.ttcons (Syntax.tcons (Syntax.tyInt Syntax.w64) Syntax.tnil) (Syntax.ttcons Syntax.tnil Syntax.ttnil))))))))))))))))) Syntax.tnil) Syntax.ttnil))),
+              Syntax.tnil)) (Syntax.ttcons (Syntax.tcons (Syntax.tyInt Syntax.w64) Syntax.tnil) (Syntax.ttcons Syntax.tnil (Syntax.ttcons Syntax.tnil (Syntax.ttcons (Syntax.tcons (Syntax.tyInt Syntax.w64)
+              Syntax.tnil) (Syntax.ttcons (Syntax.tcons (Syntax.tyInt Syntax.w64) Syntax.tnil) (Syntax.ttcons (Syntax.tcons (Syntax.tyInt Syntax.w64) Syntax.tnil) (Syntax.ttcons Syntax.tnil
+              Syntax.ttnil)))))))))))))))))))))) Syntax.tnil) Syntax.ttnil))),
         ) (List._∷_ (
           1,
-          Rows'.sslice (Referent.rtF (Referent.fInt Syntax.w8)) (Syntax.tyRef (Syntax.named 0) Syntax.imm (Syntax.tyInt Syntax.w8)) 0,
-        ) (List._∷_ (2, Rows'.whole (Declared'.row Rect.the-type))
-            (List._∷_ (3, Rows.arrF (Referent.rtF (Referent.fInt Syntax.w8)) 36 0) (List._∷_ (
-              4,
-              Relend.mslice-owed (Referent.rtF (Referent.fInt Syntax.w16)) (Syntax.tyRef (Syntax.named 1) Syntax.mut
-                  (Syntax.tyInt Syntax.w16)) 1 4 (Row.lease (κs .1 .0) (qs .1 .0)),
-            ) (List._∷_ (
-              5,
-              Relend.mslice-owed (Referent.rtF (Referent.fInt Syntax.w16)) (Syntax.tyRef (Syntax.named 2) Syntax.mut
-                  (Syntax.tyInt Syntax.w16)) 2 5 (Row.lease (κs .1 .1 .0) (qs .1 .1 .0)),
-            ) (List._∷_ (6, Mut.mslice (Element.type) (Syntax.tyRef (Syntax.named 3) Syntax.mut Element.behind) 3) (List._∷_ (
-              7,
-              Rows'.any-gone (Syntax.tyEnum (List._∷_ 115 (List._∷_ 116 (List._∷_ 114 (List._∷_ 101 (List._∷_ 97 (List._∷_ 109 (List._∷_ 58 (List._∷_ 58 (List._∷_ 80 (List._∷_ 97 (List._∷_ 114 (List._∷_ 115
-                  (List._∷_ 101 (List._∷_ 100 List.[])))))))))))))) (Syntax.ttcons (Syntax.tcons (Syntax.tyStruct (List._∷_ 115 (List._∷_ 116 (List._∷_ 114 (List._∷_ 101 (List._∷_ 97 (List._∷_ 109 (List._∷_ 58
-                  (List._∷_ 58 (List._∷_ 70 (List._∷_ 117 (List._∷_ 106 (List._∷_ 105 (List._∷_ 72 (List._∷_ 101 (List._∷_ 97 (List._∷_ 100 (List._∷_ 101 (List._∷_ 114 List.[])))))))))))))))))) (Syntax.tcons
-                  Syntax.tyBool (Syntax.tcons Syntax.tyBool (Syntax.tcons (Syntax.tyInt Syntax.w32) (Syntax.tcons (Syntax.tyInt Syntax.w32) (Syntax.tcons (Syntax.tyInt Syntax.w32) (Syntax.tcons (Syntax.tyInt
-                  Syntax.w32) (Syntax.tcons (Syntax.tyInt Syntax.w32) (Syntax.tcons (Syntax.tyInt Syntax.w32) (Syntax.tcons (Syntax.tyInt Syntax.w32) Syntax.tnil)))))))))) Syntax.tnil) (Syntax.ttcons
-                  (Syntax.tcons (Syntax.tyEnum (List._∷_ 115 (List._∷_ 116 (List._∷_ 114 (List._∷_ 101 (List._∷_ 97 (List._∷_ 109 (List._∷_ 58 (List._∷_ 58 (List._∷_ 82 (List._∷_ 101 (List._∷_ 102 (List._∷_ 117
-                  (List._∷_ 115 (List._∷_ 97 (List._∷_ 108 List.[]))))))))))))))) (Syntax.ttcons Syntax.tnil (Syntax.ttcons Syntax.tnil (Syntax.ttcons Syntax.tnil (Syntax.ttcons (Syntax.tcons (Syntax.tyInt
-                  Syntax.w64) Syntax.tnil) (Syntax.ttcons Syntax.tnil (Syntax.ttcons Syntax.tnil (Syntax.ttcons Syntax.tnil (Syntax.ttcons Syntax.tnil (Syntax.ttcons Syntax.tnil (Syntax.ttcons Syntax.tnil
-                  (Syntax.ttcons (Syntax.tcons (Syntax.tyInt Syntax.w64) Syntax.tnil) (Syntax.ttcons (Syntax.tcons (Syntax.tyInt Syntax.w64) Syntax.tnil) (Syntax.ttcons Syntax.tnil (Syntax.ttcons (Syntax.tcons
-                  (Syntax.tyInt Syntax.w64) (Syntax.tcons (Syntax.tyInt Syntax.w64) Syntax.tnil)) (Syntax.ttcons (Syntax.tcons (Syntax.tyInt Syntax.w64) Syntax.tnil) (Syntax.ttcons Syntax.tnil
-                  Syntax.ttnil))))))))))))))))) Syntax.tnil) Syntax.ttnil))),
-            ) (List._∷_ (
-              8,
-              Rows'.any-gone (Syntax.tyEnum (List._∷_ 115 (List._∷_ 116 (List._∷_ 114 (List._∷_ 101 (List._∷_ 97 (List._∷_ 109
-                  (List._∷_ 58 (List._∷_ 58 (List._∷_ 82 (List._∷_ 101 (List._∷_ 102 (List._∷_ 117 (List._∷_ 115 (List._∷_ 97 (List._∷_ 108 List.[]))))))))))))))) (Syntax.ttcons Syntax.tnil (Syntax.ttcons
-                  Syntax.tnil (Syntax.ttcons Syntax.tnil (Syntax.ttcons (Syntax.tcons (Syntax.tyInt Syntax.w64) Syntax.tnil) (Syntax.ttcons Syntax.tnil (Syntax.ttcons Syntax.tnil (Syntax.ttcons Syntax.tnil
-                  (Syntax.ttcons Syntax.tnil (Syntax.ttcons Syntax.tnil (Syntax.ttcons Syntax.tnil (Syntax.ttcons (Syntax.tcons (Syntax.tyInt Syntax.w64) Syntax.tnil) (Syntax.ttcons (Syntax.tcons (Syntax.tyInt
-                  Syntax.w64) Syntax.tnil) (Syntax.ttcons Syntax.tnil (Syntax.ttcons (Syntax.tcons (Syntax.tyInt Syntax.w64) (Syntax.tcons (Syntax.tyInt Syntax.w64) Syntax.tnil)) (Syntax.ttcons (Syntax.tcons
-                  (Syntax.tyInt Syntax.w64) Syntax.tnil) (Syntax.ttcons Syntax.tnil Syntax.ttnil))))))))))))))))),
-            ) (List._∷_ (9, Rows'.whole (Declared'.row FujiHeader.the-type)) (List._∷_ (
-              10,
-              Rows'.any-gone
-                  (Syntax.tyEnum (List._∷_ 98 (List._∷_ 108 (List._∷_ 111 (List._∷_ 99 (List._∷_ 107 (List._∷_ 58 (List._∷_ 58 (List._∷_ 68 (List._∷_ 101 (List._∷_ 99 (List._∷_ 111 (List._∷_ 100 (List._∷_ 101
-                  (List._∷_ 100 List.[])))))))))))))) (Syntax.ttcons Syntax.tnil (Syntax.ttcons (Syntax.tcons (Syntax.tyEnum (List._∷_ 115 (List._∷_ 116 (List._∷_ 114 (List._∷_ 101 (List._∷_ 97 (List._∷_ 109
-                  (List._∷_ 58 (List._∷_ 58 (List._∷_ 82 (List._∷_ 101 (List._∷_ 102 (List._∷_ 117 (List._∷_ 115 (List._∷_ 97 (List._∷_ 108 List.[]))))))))))))))) (Syntax.ttcons Syntax.tnil (Syntax.ttcons
-                  Syntax.tnil (Syntax.ttcons Syntax.tnil (Syntax.ttcons (Syntax.tcons (Syntax.tyInt Syntax.w64) Syntax.tnil) (Syntax.ttcons Syntax.tnil (Syntax.ttcons Syntax.tnil (Syntax.ttcons Syntax.tnil
-                  (Syntax.ttcons Syntax.tnil (Syntax.ttcons Syntax.tnil (Syntax.ttcons Syntax.tnil (Syntax.ttcons (Syntax.tcons (Syntax.tyInt Syntax.w64) Syntax.tnil) (Syntax.ttcons (Syntax.tcons (Syntax.tyInt
-                  Syntax.w64) Syntax.tnil) (Syntax.ttcons Syntax.tnil (Syntax.ttcons (Syntax.tcons (Syntax.tyInt Syntax.w64) (Syntax.tcons (Syntax.tyInt Syntax.w64) Syntax.tnil)) (Syntax.ttcons (Syntax.tcons
-                  (Syntax.tyInt Syntax.w64) Syntax.tnil) (Syntax.ttcons Syntax.tnil Syntax.ttnil))))))))))))))))) Syntax.tnil) Syntax.ttnil))),
-            ) (List._∷_ (
-              11,
-              Rows'.any-gone (Syntax.tyRef Syntax.erased
-                  Syntax.mut (Syntax.tyInt Syntax.w16)),
-            ) (List._∷_ (12, Mut.mslice (Referent.rtF (Referent.fInt Syntax.w16)) (Syntax.tyRef Syntax.erased Syntax.mut (Syntax.tyInt Syntax.w16)) 4) (List._∷_ (
-              13,
-              Rows'.any-gone (Syntax.tyRef Syntax.erased Syntax.mut (Syntax.tyInt Syntax.w16)),
-            ) (List._∷_ (
-              14,
-              Mut.mslice (Referent.rtF (Referent.fInt Syntax.w16)) (Syntax.tyRef Syntax.erased
-                  Syntax.mut (Syntax.tyInt Syntax.w16)) 5,
-            ) (List._∷_ (15, Rows'.any-gone (Syntax.tyRef Syntax.erased Syntax.mut Element.behind)) List.[])))))))))))))))
+          Rows'.sslice (Referent.rtF (Referent.fInt Syntax.w8)) (Syntax.tyRef (Syntax.named 0) Syntax.imm (Syntax.tyInt
+              Syntax.w8)) 0,
+        ) (List._∷_ (2, Rows'.whole (Declared'.row Rect.the-type)) (List._∷_ (3, Rows.arrF (Referent.rtF (Referent.fInt Syntax.w8)) 36 0) (List._∷_ (
+          4,
+          Relend.mslice-owed
+              (Referent.rtF (Referent.fInt Syntax.w16)) (Syntax.tyRef (Syntax.named 1) Syntax.mut (Syntax.tyInt Syntax.w16)) 1 4 (Row.lease (κs .1 .0) (qs .1 .0)),
+        ) (List._∷_ (
+          5,
+          Relend.mslice-owed
+              (Referent.rtF (Referent.fInt Syntax.w16)) (Syntax.tyRef (Syntax.named 2) Syntax.mut (Syntax.tyInt Syntax.w16)) 2 5 (Row.lease (κs .1 .1 .0) (qs .1 .1 .0)),
+        ) (List._∷_ (
+          6,
+          Mut.mslice
+              (Element.type) (Syntax.tyRef (Syntax.named 3) Syntax.mut Element.behind) 3,
+        ) (List._∷_ (
+          7,
+          Rows'.any-gone (Syntax.tyEnum (List._∷_ 115 (List._∷_ 116 (List._∷_ 114 (List._∷_ 101 (List._∷_ 97
+              (List._∷_ 109 (List._∷_ 58 (List._∷_ 58 (List._∷_ 80 (List._∷_ 97 (List._∷_ 114 (List._∷_ 115 (List._∷_ 101 (List._∷_ 100 List.[])))))))))))))) (Syntax.ttcons (Syntax.tcons (Syntax.tyStruct
+              (List._∷_ 115 (List._∷_ 116 (List._∷_ 114 (List._∷_ 101 (List._∷_ 97 (List._∷_ 109 (List._∷_ 58 (List._∷_ 58 (List._∷_ 70 (List._∷_ 117 (List._∷_ 106 (List._∷_ 105 (List._∷_ 72 (List._∷_ 101
+              (List._∷_ 97 (List._∷_ 100 (List._∷_ 101 (List._∷_ 114 List.[])))))))))))))))))) (Syntax.tcons Syntax.tyBool (Syntax.tcons Syntax.tyBool (Syntax.tcons (Syntax.tyInt Syntax.w32) (Syntax.tcons
+              (Syntax.tyInt Syntax.w32) (Syntax.tcons (Syntax.tyInt Syntax.w32) (Syntax.tcons (Syntax.tyInt Syntax.w32) (Syntax.tcons (Syntax.tyInt Syntax.w32) (Syntax.tcons (Syntax.tyInt Syntax.w32)
+              (Syntax.tcons (Syntax.tyInt Syntax.w32) Syntax.tnil)))))))))) Syntax.tnil) (Syntax.ttcons (Syntax.tcons (Syntax.tyEnum (List._∷_ 115 (List._∷_ 116 (List._∷_ 114 (List._∷_ 101 (List._∷_ 97
+              (List._∷_ 109 (List._∷_ 58 (List._∷_ 58 (List._∷_ 82 (List._∷_ 101 (List._∷_ 102 (List._∷_ 117 (List._∷_ 115 (List._∷_ 97 (List._∷_ 108 List.[]))))))))))))))) (Syntax.ttcons Syntax.tnil
+              (Syntax.ttcons Syntax.tnil (Syntax.ttcons Syntax.tnil (Syntax.ttcons (Syntax.tcons (Syntax.tyInt Syntax.w64) Syntax.tnil) (Syntax.ttcons Syntax.tnil (Syntax.ttcons Syntax.tnil (Syntax.ttcons
+              Syntax.tnil (Syntax.ttcons Syntax.tnil (Syntax.ttcons Syntax.tnil (Syntax.ttcons Syntax.tnil (Syntax.ttcons (Syntax.tcons (Syntax.tyInt Syntax.w64) Syntax.tnil) (Syntax.ttcons (Syntax.tcons
+              (Syntax.tyInt Syntax.w64) Syntax.tnil) (Syntax.ttcons Syntax.tnil (Syntax.ttcons (Syntax.tcons (Syntax.tyInt Syntax.w64) (Syntax.tcons (Syntax.tyInt Syntax.w64) Syntax.tnil)) (Syntax.ttcons
+              (Syntax.tcons (Syntax.tyInt Syntax.w64) Syntax.tnil) (Syntax.ttcons Syntax.tnil (Syntax.ttcons Syntax.tnil (Syntax.ttcons (Syntax.tcons (Syntax.tyInt Syntax.w64) Syntax.tnil) (Syntax.ttcons
+              (Syntax.tcons (Syntax.tyInt Syntax.w64) Syntax.tnil) (Syntax.ttcons (Syntax.tcons (Syntax.tyInt Syntax.w64) Syntax.tnil) (Syntax.ttcons Syntax.tnil Syntax.ttnil))))))))))))))))))))))
+              Syntax.tnil) Syntax.ttnil))),
+        ) (List._∷_ (
+          8,
+          Rows'.any-gone (Syntax.tyEnum (List._∷_ 115 (List._∷_ 116 (List._∷_ 114 (List._∷_ 101 (List._∷_ 97 (List._∷_ 109 (List._∷_ 58 (List._∷_ 58
+              (List._∷_ 82 (List._∷_ 101 (List._∷_ 102 (List._∷_ 117 (List._∷_ 115 (List._∷_ 97 (List._∷_ 108 List.[]))))))))))))))) (Syntax.ttcons Syntax.tnil (Syntax.ttcons Syntax.tnil (Syntax.ttcons
+              Syntax.tnil (Syntax.ttcons (Syntax.tcons (Syntax.tyInt Syntax.w64) Syntax.tnil) (Syntax.ttcons Syntax.tnil (Syntax.ttcons Syntax.tnil (Syntax.ttcons Syntax.tnil (Syntax.ttcons Syntax.tnil
+              (Syntax.ttcons Syntax.tnil (Syntax.ttcons Syntax.tnil (Syntax.ttcons (Syntax.tcons (Syntax.tyInt Syntax.w64) Syntax.tnil) (Syntax.ttcons (Syntax.tcons (Syntax.tyInt Syntax.w64) Syntax.tnil)
+              (Syntax.ttcons Syntax.tnil (Syntax.ttcons (Syntax.tcons (Syntax.tyInt Syntax.w64) (Syntax.tcons (Syntax.tyInt Syntax.w64) Syntax.tnil)) (Syntax.ttcons (Syntax.tcons (Syntax.tyInt Syntax.w64)
+              Syntax.tnil) (Syntax.ttcons Syntax.tnil (Syntax.ttcons Syntax.tnil (Syntax.ttcons (Syntax.tcons (Syntax.tyInt Syntax.w64) Syntax.tnil) (Syntax.ttcons (Syntax.tcons (Syntax.tyInt Syntax.w64)
+              Syntax.tnil) (Syntax.ttcons (Syntax.tcons (Syntax.tyInt Syntax.w64) Syntax.tnil) (Syntax.ttcons Syntax.tnil Syntax.ttnil)))))))))))))))))))))),
+        ) (List._∷_ (
+          9,
+          Rows'.whole (Declared'.row
+              FujiHeader.the-type),
+        ) (List._∷_ (
+          10,
+          Rows'.any-gone (Syntax.tyEnum (List._∷_ 98 (List._∷_ 108 (List._∷_ 111 (List._∷_ 99 (List._∷_ 107 (List._∷_ 58 (List._∷_ 58 (List._∷_ 68 (List._∷_ 101
+              (List._∷_ 99 (List._∷_ 111 (List._∷_ 100 (List._∷_ 101 (List._∷_ 100 List.[])))))))))))))) (Syntax.ttcons Syntax.tnil (Syntax.ttcons (Syntax.tcons (Syntax.tyEnum (List._∷_ 115 (List._∷_ 116
+              (List._∷_ 114 (List._∷_ 101 (List._∷_ 97 (List._∷_ 109 (List._∷_ 58 (List._∷_ 58 (List._∷_ 82 (List._∷_ 101 (List._∷_ 102 (List._∷_ 117 (List._∷_ 115 (List._∷_ 97 (List._∷_ 108
+              List.[]))))))))))))))) (Syntax.ttcons Syntax.tnil (Syntax.ttcons Syntax.tnil (Syntax.ttcons Syntax.tnil (Syntax.ttcons (Syntax.tcons (Syntax.tyInt Syntax.w64) Syntax.tnil) (Syntax.ttcons
+              Syntax.tnil (Syntax.ttcons Syntax.tnil (Syntax.ttcons Syntax.tnil (Syntax.ttcons Syntax.tnil (Syntax.ttcons Syntax.tnil (Syntax.ttcons Syntax.tnil (Syntax.ttcons (Syntax.tcons (Syntax.tyInt
+              Syntax.w64) Syntax.tnil) (Syntax.ttcons (Syntax.tcons (Syntax.tyInt Syntax.w64) Syntax.tnil) (Syntax.ttcons Syntax.tnil (Syntax.ttcons (Syntax.tcons (Syntax.tyInt Syntax.w64) (Syntax.tcons
+              (Syntax.tyInt Syntax.w64) Syntax.tnil)) (Syntax.ttcons (Syntax.tcons (Syntax.tyInt Syntax.w64) Syntax.tnil) (Syntax.ttcons Syntax.tnil (Syntax.ttcons Syntax.tnil (Syntax.ttcons (Syntax.tcons
+              (Syntax.tyInt Syntax.w64) Syntax.tnil) (Syntax.ttcons (Syntax.tcons (Syntax.tyInt Syntax.w64) Syntax.tnil) (Syntax.ttcons (Syntax.tcons (Syntax.tyInt Syntax.w64) Syntax.tnil) (Syntax.ttcons
+              Syntax.tnil Syntax.ttnil)))))))))))))))))))))) Syntax.tnil) Syntax.ttnil))),
+        ) (List._∷_ (11, Rows'.any-gone (Syntax.tyRef Syntax.erased Syntax.mut (Syntax.tyInt Syntax.w16))) (List._∷_ (
+          12,
+          Mut.mslice (Referent.rtF (Referent.fInt Syntax.w16)) (Syntax.tyRef Syntax.erased Syntax.mut (Syntax.tyInt Syntax.w16)) 4,
+        ) (List._∷_ (
+          13,
+          Rows'.any-gone (Syntax.tyRef Syntax.erased
+              Syntax.mut (Syntax.tyInt Syntax.w16)),
+        ) (List._∷_ (14, Mut.mslice (Referent.rtF (Referent.fInt Syntax.w16)) (Syntax.tyRef Syntax.erased Syntax.mut (Syntax.tyInt Syntax.w16)) 5) (List._∷_ (
+          15,
+          Rows'.any-gone (Syntax.tyRef Syntax.erased Syntax.mut Element.behind),
+        ) List.[])))))))))))))))
 
         abbrev g18 : List.List Row.Entry
         g18 = List._∷_ (
@@ -2822,69 +2932,73 @@ module _ (claims· : Claims) where
               (Syntax.ttcons Syntax.tnil (Syntax.ttcons Syntax.tnil (Syntax.ttcons Syntax.tnil (Syntax.ttcons (Syntax.tcons (Syntax.tyInt Syntax.w64) Syntax.tnil) (Syntax.ttcons Syntax.tnil (Syntax.ttcons
               Syntax.tnil (Syntax.ttcons Syntax.tnil (Syntax.ttcons Syntax.tnil (Syntax.ttcons Syntax.tnil (Syntax.ttcons Syntax.tnil (Syntax.ttcons (Syntax.tcons (Syntax.tyInt Syntax.w64) Syntax.tnil)
               (Syntax.ttcons (Syntax.tcons (Syntax.tyInt Syntax.w64) Syntax.tnil) (Syntax.ttcons Syntax.tnil (Syntax.ttcons (Syntax.tcons (Syntax.tyInt Syntax.w64) (Syntax.tcons (Syntax.tyInt Syntax.w64)
-              Syntax.tnil)) (Syntax.ttcons (Syntax.tcons (Syntax.tyInt Syntax.w64) Syntax.tnil) (Syntax.ttcons Syntax.tnil Syntax.ttnil))))))))))))))))) Syntax.tnil) Syntax.ttnil))),
+              Syntax.tnil)) (Syntax.ttcons (Syntax.tcons (Syntax.tyInt Syntax.w64) Syntax.tnil) (Syntax.ttcons Syntax.tnil (Syntax.ttcons Syntax.tnil (Syntax.ttcons (Syntax.tcons (Syntax.tyInt Syntax.w64)
+              Syntax.tnil) (Syntax.ttcons (Syntax.tcons (Syntax.tyInt Syntax.w64) Syntax.tnil) (Syntax.ttcons (Syntax.tcons (Syntax.tyInt Syntax.w64) Syntax.tnil) (Syntax.ttcons Syntax.tnil
+              Syntax.ttnil)))))))))))))))))))))) Syntax.tnil) Syntax.ttnil))),
         ) (List._∷_ (
           1,
-          Rows'.sslice (Referent.rtF (Referent.fInt Syntax.w8)) (Syntax.tyRef (Syntax.named 0) Syntax.imm (Syntax.tyInt Syntax.w8)) 0,
-        ) (List._∷_ (2, Rows'.whole (Declared'.row Rect.the-type))
-            (List._∷_ (3, Rows.arrF (Referent.rtF (Referent.fInt Syntax.w8)) 36 0) (List._∷_ (
-              4,
-              Relend.mslice-owed (Referent.rtF (Referent.fInt Syntax.w16)) (Syntax.tyRef (Syntax.named 1) Syntax.mut
-                  (Syntax.tyInt Syntax.w16)) 1 4 (Row.lease (κs .1 .0) (qs .1 .0)),
-            ) (List._∷_ (
-              5,
-              Relend.mslice-owed (Referent.rtF (Referent.fInt Syntax.w16)) (Syntax.tyRef (Syntax.named 2) Syntax.mut
-                  (Syntax.tyInt Syntax.w16)) 2 5 (Row.lease (κs .1 .1 .0) (qs .1 .1 .0)),
-            ) (List._∷_ (
-              6,
-              Relend.mslice-owed (Element.type) (Syntax.tyRef (Syntax.named 3) Syntax.mut Element.behind) 3 6
-                  (Row.lease (κs .1 .1 .1 .0) (qs .1 .1 .1 .0)),
-            ) (List._∷_ (
-              7,
-              Rows'.any-gone (Syntax.tyEnum (List._∷_ 115 (List._∷_ 116 (List._∷_ 114 (List._∷_ 101 (List._∷_ 97 (List._∷_ 109 (List._∷_ 58
-                  (List._∷_ 58 (List._∷_ 80 (List._∷_ 97 (List._∷_ 114 (List._∷_ 115 (List._∷_ 101 (List._∷_ 100 List.[])))))))))))))) (Syntax.ttcons (Syntax.tcons (Syntax.tyStruct (List._∷_ 115 (List._∷_ 116
-                  (List._∷_ 114 (List._∷_ 101 (List._∷_ 97 (List._∷_ 109 (List._∷_ 58 (List._∷_ 58 (List._∷_ 70 (List._∷_ 117 (List._∷_ 106 (List._∷_ 105 (List._∷_ 72 (List._∷_ 101 (List._∷_ 97 (List._∷_ 100
-                  (List._∷_ 101 (List._∷_ 114 List.[])))))))))))))))))) (Syntax.tcons Syntax.tyBool (Syntax.tcons Syntax.tyBool (Syntax.tcons (Syntax.tyInt Syntax.w32) (Syntax.tcons (Syntax.tyInt Syntax.w32)
-                  (Syntax.tcons (Syntax.tyInt Syntax.w32) (Syntax.tcons (Syntax.tyInt Syntax.w32) (Syntax.tcons (Syntax.tyInt Syntax.w32) (Syntax.tcons (Syntax.tyInt Syntax.w32) (Syntax.tcons (Syntax.tyInt
-                  Syntax.w32) Syntax.tnil)))))))))) Syntax.tnil) (Syntax.ttcons (Syntax.tcons (Syntax.tyEnum (List._∷_ 115 (List._∷_ 116 (List._∷_ 114 (List._∷_ 101 (List._∷_ 97 (List._∷_ 109 (List._∷_ 58
-                  (List._∷_ 58 (List._∷_ 82 (List._∷_ 101 (List._∷_ 102 (List._∷_ 117 (List._∷_ 115 (List._∷_ 97 (List._∷_ 108 List.[]))))))))))))))) (Syntax.ttcons Syntax.tnil (Syntax.ttcons Syntax.tnil
-                  (Syntax.ttcons Syntax.tnil (Syntax.ttcons (Syntax.tcons (Syntax.tyInt Syntax.w64) Syntax.tnil) (Syntax.ttcons Syntax.tnil (Syntax.ttcons Syntax.tnil (Syntax.ttcons Syntax.tnil (Syntax.ttcons
-                  Syntax.tnil (Syntax.ttcons Syntax.tnil (Syntax.ttcons Syntax.tnil (Syntax.ttcons (Syntax.tcons (Syntax.tyInt Syntax.w64) Syntax.tnil) (Syntax.ttcons (Syntax.tcons (Syntax.tyInt Syntax.w64)
-                  Syntax.tnil) (Syntax.ttcons Syntax.tnil (Syntax.ttcons (Syntax.tcons (Syntax.tyInt Syntax.w64) (Syntax.tcons (Syntax.tyInt Syntax.w64) Syntax.tnil)) (Syntax.ttcons (Syntax.tcons (Syntax.tyInt
-                  Syntax.w64) Syntax.tnil) (Syntax.ttcons Syntax.tnil Syntax.ttnil))))))))))))))))) Syntax.tnil) Syntax.ttnil))),
-            ) (List._∷_ (
-              8,
-              Rows'.any-gone (Syntax.tyEnum (List._∷_ 115 (List._∷_ 116
-                  (List._∷_ 114 (List._∷_ 101 (List._∷_ 97 (List._∷_ 109 (List._∷_ 58 (List._∷_ 58 (List._∷_ 82 (List._∷_ 101 (List._∷_ 102 (List._∷_ 117 (List._∷_ 115 (List._∷_ 97 (List._∷_ 108
-                  List.[]))))))))))))))) (Syntax.ttcons Syntax.tnil (Syntax.ttcons Syntax.tnil (Syntax.ttcons Syntax.tnil (Syntax.ttcons (Syntax.tcons (Syntax.tyInt Syntax.w64) Syntax.tnil) (Syntax.ttcons
-                  Syntax.tnil (Syntax.ttcons Syntax.tnil (Syntax.ttcons Syntax.tnil (Syntax.ttcons Syntax.tnil (Syntax.ttcons Syntax.tnil (Syntax.ttcons Syntax.tnil (Syntax.ttcons (Syntax.tcons (Syntax.tyInt
-                  Syntax.w64) Syntax.tnil) (Syntax.ttcons (Syntax.tcons (Syntax.tyInt Syntax.w64) Syntax.tnil) (Syntax.ttcons Syntax.tnil (Syntax.ttcons (Syntax.tcons (Syntax.tyInt Syntax.w64) (Syntax.tcons
-                  (Syntax.tyInt Syntax.w64) Syntax.tnil)) (Syntax.ttcons (Syntax.tcons (Syntax.tyInt Syntax.w64) Syntax.tnil) (Syntax.ttcons Syntax.tnil Syntax.ttnil))))))))))))))))),
-            ) (List._∷_ (
-              9,
-              Rows'.whole (Declared'.row FujiHeader.the-type),
-            ) (List._∷_ (
-              10,
-              Rows'.any-gone (Syntax.tyEnum (List._∷_ 98 (List._∷_ 108 (List._∷_ 111 (List._∷_ 99 (List._∷_ 107 (List._∷_ 58 (List._∷_ 58
-                  (List._∷_ 68 (List._∷_ 101 (List._∷_ 99 (List._∷_ 111 (List._∷_ 100 (List._∷_ 101 (List._∷_ 100 List.[])))))))))))))) (Syntax.ttcons Syntax.tnil (Syntax.ttcons (Syntax.tcons (Syntax.tyEnum
-                  (List._∷_ 115 (List._∷_ 116 (List._∷_ 114 (List._∷_ 101 (List._∷_ 97 (List._∷_ 109 (List._∷_ 58 (List._∷_ 58 (List._∷_ 82 (List._∷_ 101 (List._∷_ 102 (List._∷_ 117 (List._∷_ 115 (List._∷_ 97
-                  (List._∷_ 108 List.[]))))))))))))))) (Syntax.ttcons Syntax.tnil (Syntax.ttcons Syntax.tnil (Syntax.ttcons Syntax.tnil (Syntax.ttcons (Syntax.tcons (Syntax.tyInt Syntax.w64) Syntax.tnil)
-                  (Syntax.ttcons Syntax.tnil (Syntax.ttcons Syntax.tnil (Syntax.ttcons Syntax.tnil (Syntax.ttcons Syntax.tnil (Syntax.ttcons Syntax.tnil (Syntax.ttcons Syntax.tnil (Syntax.ttcons (Syntax.tcons
-                  (Syntax.tyInt Syntax.w64) Syntax.tnil) (Syntax.ttcons (Syntax.tcons (Syntax.tyInt Syntax.w64) Syntax.tnil) (Syntax.ttcons Syntax.tnil (Syntax.ttcons (Syntax.tcons (Syntax.tyInt Syntax.w64)
-                  (Syntax.tcons (Syntax.tyInt Syntax.w64) Syntax.tnil)) (Syntax.ttcons (Syntax.tcons (Syntax.tyInt Syntax.w64) Syntax.tnil) (Syntax.ttcons Syntax.tnil Syntax.ttnil))))))))))))))))) Syntax.tnil)
-                  Syntax.ttnil))),
-            ) (List._∷_ (11, Rows'.any-gone (Syntax.tyRef Syntax.erased Syntax.mut (Syntax.tyInt Syntax.w16))) (List._∷_ (
-              12,
-              Mut.mslice (Referent.rtF (Referent.fInt Syntax.w16))
-                  (Syntax.tyRef Syntax.erased Syntax.mut (Syntax.tyInt Syntax.w16)) 4,
-            ) (List._∷_ (13, Rows'.any-gone (Syntax.tyRef Syntax.erased Syntax.mut (Syntax.tyInt Syntax.w16))) (List._∷_ (
-              14,
-              Mut.mslice (Referent.rtF (Referent.fInt Syntax.w16)) (Syntax.tyRef Syntax.erased Syntax.mut (Syntax.tyInt Syntax.w16)) 5,
-            ) (List._∷_ (
-              15,
-              Relend.msptr (Element.type) (Syntax.tyRef
-                  Syntax.erased Syntax.mut Element.behind) 6,
-            ) List.[])))))))))))))))
+          Rows'.sslice (Referent.rtF (Referent.fInt Syntax.w8)) (Syntax.tyRef (Syntax.named 0) Syntax.imm (Syntax.tyInt
+              Syntax.w8)) 0,
+        ) (List._∷_ (2, Rows'.whole (Declared'.row Rect.the-type)) (List._∷_ (3, Rows.arrF (Referent.rtF (Referent.fInt Syntax.w8)) 36 0) (List._∷_ (
+          4,
+          Relend.mslice-owed
+              (Referent.rtF (Referent.fInt Syntax.w16)) (Syntax.tyRef (Syntax.named 1) Syntax.mut (Syntax.tyInt Syntax.w16)) 1 4 (Row.lease (κs .1 .0) (qs .1 .0)),
+        ) (List._∷_ (
+          5,
+          Relend.mslice-owed
+              (Referent.rtF (Referent.fInt Syntax.w16)) (Syntax.tyRef (Syntax.named 2) Syntax.mut (Syntax.tyInt Syntax.w16)) 2 5 (Row.lease (κs .1 .1 .0) (qs .1 .1 .0)),
+        ) (List._∷_ (
+          6,
+          Relend.mslice-owed
+              (Element.type) (Syntax.tyRef (Syntax.named 3) Syntax.mut Element.behind) 3 6 (Row.lease (κs .1 .1 .1 .0) (qs .1 .1 .1 .0)),
+        ) (List._∷_ (
+          7,
+          Rows'.any-gone (Syntax.tyEnum (List._∷_ 115
+              (List._∷_ 116 (List._∷_ 114 (List._∷_ 101 (List._∷_ 97 (List._∷_ 109 (List._∷_ 58 (List._∷_ 58 (List._∷_ 80 (List._∷_ 97 (List._∷_ 114 (List._∷_ 115 (List._∷_ 101 (List._∷_ 100
+              List.[])))))))))))))) (Syntax.ttcons (Syntax.tcons (Syntax.tyStruct (List._∷_ 115 (List._∷_ 116 (List._∷_ 114 (List._∷_ 101 (List._∷_ 97 (List._∷_ 109 (List._∷_ 58 (List._∷_ 58 (List._∷_ 70
+              (List._∷_ 117 (List._∷_ 106 (List._∷_ 105 (List._∷_ 72 (List._∷_ 101 (List._∷_ 97 (List._∷_ 100 (List._∷_ 101 (List._∷_ 114 List.[])))))))))))))))))) (Syntax.tcons Syntax.tyBool (Syntax.tcons
+              Syntax.tyBool (Syntax.tcons (Syntax.tyInt Syntax.w32) (Syntax.tcons (Syntax.tyInt Syntax.w32) (Syntax.tcons (Syntax.tyInt Syntax.w32) (Syntax.tcons (Syntax.tyInt Syntax.w32) (Syntax.tcons
+              (Syntax.tyInt Syntax.w32) (Syntax.tcons (Syntax.tyInt Syntax.w32) (Syntax.tcons (Syntax.tyInt Syntax.w32) Syntax.tnil)))))))))) Syntax.tnil) (Syntax.ttcons (Syntax.tcons (Syntax.tyEnum
+              (List._∷_ 115 (List._∷_ 116 (List._∷_ 114 (List._∷_ 101 (List._∷_ 97 (List._∷_ 109 (List._∷_ 58 (List._∷_ 58 (List._∷_ 82 (List._∷_ 101 (List._∷_ 102 (List._∷_ 117 (List._∷_ 115 (List._∷_ 97
+              (List._∷_ 108 List.[]))))))))))))))) (Syntax.ttcons Syntax.tnil (Syntax.ttcons Syntax.tnil (Syntax.ttcons Syntax.tnil (Syntax.ttcons (Syntax.tcons (Syntax.tyInt Syntax.w64) Syntax.tnil)
+              (Syntax.ttcons Syntax.tnil (Syntax.ttcons Syntax.tnil (Syntax.ttcons Syntax.tnil (Syntax.ttcons Syntax.tnil (Syntax.ttcons Syntax.tnil (Syntax.ttcons Syntax.tnil (Syntax.ttcons (Syntax.tcons
+              (Syntax.tyInt Syntax.w64) Syntax.tnil) (Syntax.ttcons (Syntax.tcons (Syntax.tyInt Syntax.w64) Syntax.tnil) (Syntax.ttcons Syntax.tnil (Syntax.ttcons (Syntax.tcons (Syntax.tyInt Syntax.w64)
+              (Syntax.tcons (Syntax.tyInt Syntax.w64) Syntax.tnil)) (Syntax.ttcons (Syntax.tcons (Syntax.tyInt Syntax.w64) Syntax.tnil) (Syntax.ttcons Syntax.tnil (Syntax.ttcons Syntax.tnil (Syntax.ttcons
+              (Syntax.tcons (Syntax.tyInt Syntax.w64) Syntax.tnil) (Syntax.ttcons (Syntax.tcons (Syntax.tyInt Syntax.w64) Syntax.tnil) (Syntax.ttcons (Syntax.tcons (Syntax.tyInt Syntax.w64) Syntax.tnil)
+              (Syntax.ttcons Syntax.tnil Syntax.ttnil)))))))))))))))))))))) Syntax.tnil) Syntax.ttnil))),
+        ) (List._∷_ (
+          8,
+          Rows'.any-gone (Syntax.tyEnum (List._∷_ 115 (List._∷_ 116 (List._∷_ 114 (List._∷_
+              101 (List._∷_ 97 (List._∷_ 109 (List._∷_ 58 (List._∷_ 58 (List._∷_ 82 (List._∷_ 101 (List._∷_ 102 (List._∷_ 117 (List._∷_ 115 (List._∷_ 97 (List._∷_ 108 List.[]))))))))))))))) (Syntax.ttcons
+              Syntax.tnil (Syntax.ttcons Syntax.tnil (Syntax.ttcons Syntax.tnil (Syntax.ttcons (Syntax.tcons (Syntax.tyInt Syntax.w64) Syntax.tnil) (Syntax.ttcons Syntax.tnil (Syntax.ttcons Syntax.tnil
+              (Syntax.ttcons Syntax.tnil (Syntax.ttcons Syntax.tnil (Syntax.ttcons Syntax.tnil (Syntax.ttcons Syntax.tnil (Syntax.ttcons (Syntax.tcons (Syntax.tyInt Syntax.w64) Syntax.tnil) (Syntax.ttcons
+              (Syntax.tcons (Syntax.tyInt Syntax.w64) Syntax.tnil) (Syntax.ttcons Syntax.tnil (Syntax.ttcons (Syntax.tcons (Syntax.tyInt Syntax.w64) (Syntax.tcons (Syntax.tyInt Syntax.w64) Syntax.tnil))
+              (Syntax.ttcons (Syntax.tcons (Syntax.tyInt Syntax.w64) Syntax.tnil) (Syntax.ttcons Syntax.tnil (Syntax.ttcons Syntax.tnil (Syntax.ttcons (Syntax.tcons (Syntax.tyInt Syntax.w64) Syntax.tnil)
+              (Syntax.ttcons (Syntax.tcons (Syntax.tyInt Syntax.w64) Syntax.tnil) (Syntax.ttcons (Syntax.tcons (Syntax.tyInt Syntax.w64) Syntax.tnil) (Syntax.ttcons Syntax.tnil
+              Syntax.ttnil)))))))))))))))))))))),
+        ) (List._∷_ (9, Rows'.whole (Declared'.row FujiHeader.the-type)) (List._∷_ (
+          10,
+          Rows'.any-gone (Syntax.tyEnum (List._∷_ 98 (List._∷_ 108 (List._∷_ 111
+              (List._∷_ 99 (List._∷_ 107 (List._∷_ 58 (List._∷_ 58 (List._∷_ 68 (List._∷_ 101 (List._∷_ 99 (List._∷_ 111 (List._∷_ 100 (List._∷_ 101 (List._∷_ 100 List.[])))))))))))))) (Syntax.ttcons
+              Syntax.tnil (Syntax.ttcons (Syntax.tcons (Syntax.tyEnum (List._∷_ 115 (List._∷_ 116 (List._∷_ 114 (List._∷_ 101 (List._∷_ 97 (List._∷_ 109 (List._∷_ 58 (List._∷_ 58 (List._∷_ 82 (List._∷_ 101
+              (List._∷_ 102 (List._∷_ 117 (List._∷_ 115 (List._∷_ 97 (List._∷_ 108 List.[]))))))))))))))) (Syntax.ttcons Syntax.tnil (Syntax.ttcons Syntax.tnil (Syntax.ttcons Syntax.tnil (Syntax.ttcons
+              (Syntax.tcons (Syntax.tyInt Syntax.w64) Syntax.tnil) (Syntax.ttcons Syntax.tnil (Syntax.ttcons Syntax.tnil (Syntax.ttcons Syntax.tnil (Syntax.ttcons Syntax.tnil (Syntax.ttcons Syntax.tnil
+              (Syntax.ttcons Syntax.tnil (Syntax.ttcons (Syntax.tcons (Syntax.tyInt Syntax.w64) Syntax.tnil) (Syntax.ttcons (Syntax.tcons (Syntax.tyInt Syntax.w64) Syntax.tnil) (Syntax.ttcons Syntax.tnil
+              (Syntax.ttcons (Syntax.tcons (Syntax.tyInt Syntax.w64) (Syntax.tcons (Syntax.tyInt Syntax.w64) Syntax.tnil)) (Syntax.ttcons (Syntax.tcons (Syntax.tyInt Syntax.w64) Syntax.tnil) (Syntax.ttcons
+              Syntax.tnil (Syntax.ttcons Syntax.tnil (Syntax.ttcons (Syntax.tcons (Syntax.tyInt Syntax.w64) Syntax.tnil) (Syntax.ttcons (Syntax.tcons (Syntax.tyInt Syntax.w64) Syntax.tnil) (Syntax.ttcons
+              (Syntax.tcons (Syntax.tyInt Syntax.w64) Syntax.tnil) (Syntax.ttcons Syntax.tnil Syntax.ttnil)))))))))))))))))))))) Syntax.tnil) Syntax.ttnil))),
+        ) (List._∷_ (
+          11,
+          Rows'.any-gone (Syntax.tyRef
+              Syntax.erased Syntax.mut (Syntax.tyInt Syntax.w16)),
+        ) (List._∷_ (
+          12,
+          Mut.mslice (Referent.rtF (Referent.fInt Syntax.w16)) (Syntax.tyRef Syntax.erased Syntax.mut (Syntax.tyInt Syntax.w16)) 4,
+        ) (List._∷_ (13, Rows'.any-gone (Syntax.tyRef Syntax.erased Syntax.mut (Syntax.tyInt Syntax.w16))) (List._∷_ (
+          14,
+          Mut.mslice (Referent.rtF (Referent.fInt Syntax.w16)) (Syntax.tyRef
+              Syntax.erased Syntax.mut (Syntax.tyInt Syntax.w16)) 5,
+        ) (List._∷_ (15, Relend.msptr (Element.type) (Syntax.tyRef Syntax.erased Syntax.mut Element.behind) 6) List.[])))))))))))))))
 
         abbrev g19 : List.List Row.Entry
         g19 = List._∷_ (
@@ -2895,69 +3009,73 @@ module _ (claims· : Claims) where
               (Syntax.ttcons Syntax.tnil (Syntax.ttcons Syntax.tnil (Syntax.ttcons Syntax.tnil (Syntax.ttcons (Syntax.tcons (Syntax.tyInt Syntax.w64) Syntax.tnil) (Syntax.ttcons Syntax.tnil (Syntax.ttcons
               Syntax.tnil (Syntax.ttcons Syntax.tnil (Syntax.ttcons Syntax.tnil (Syntax.ttcons Syntax.tnil (Syntax.ttcons Syntax.tnil (Syntax.ttcons (Syntax.tcons (Syntax.tyInt Syntax.w64) Syntax.tnil)
               (Syntax.ttcons (Syntax.tcons (Syntax.tyInt Syntax.w64) Syntax.tnil) (Syntax.ttcons Syntax.tnil (Syntax.ttcons (Syntax.tcons (Syntax.tyInt Syntax.w64) (Syntax.tcons (Syntax.tyInt Syntax.w64)
-              Syntax.tnil)) (Syntax.ttcons (Syntax.tcons (Syntax.tyInt Syntax.w64) Syntax.tnil) (Syntax.ttcons Syntax.tnil Syntax.ttnil))))))))))))))))) Syntax.tnil) Syntax.ttnil))),
+              Syntax.tnil)) (Syntax.ttcons (Syntax.tcons (Syntax.tyInt Syntax.w64) Syntax.tnil) (Syntax.ttcons Syntax.tnil (Syntax.ttcons Syntax.tnil (Syntax.ttcons (Syntax.tcons (Syntax.tyInt Syntax.w64)
+              Syntax.tnil) (Syntax.ttcons (Syntax.tcons (Syntax.tyInt Syntax.w64) Syntax.tnil) (Syntax.ttcons (Syntax.tcons (Syntax.tyInt Syntax.w64) Syntax.tnil) (Syntax.ttcons Syntax.tnil
+              Syntax.ttnil)))))))))))))))))))))) Syntax.tnil) Syntax.ttnil))),
         ) (List._∷_ (
           1,
-          Rows'.sslice (Referent.rtF (Referent.fInt Syntax.w8)) (Syntax.tyRef (Syntax.named 0) Syntax.imm (Syntax.tyInt Syntax.w8)) 0,
-        ) (List._∷_ (2, Rows'.whole (Declared'.row Rect.the-type))
-            (List._∷_ (3, Rows.arrF (Referent.rtF (Referent.fInt Syntax.w8)) 36 0) (List._∷_ (
-              4,
-              Relend.mslice-owed (Referent.rtF (Referent.fInt Syntax.w16)) (Syntax.tyRef (Syntax.named 1) Syntax.mut
-                  (Syntax.tyInt Syntax.w16)) 1 4 (Row.lease (κs .1 .0) (qs .1 .0)),
-            ) (List._∷_ (
-              5,
-              Relend.mslice-owed (Referent.rtF (Referent.fInt Syntax.w16)) (Syntax.tyRef (Syntax.named 2) Syntax.mut
-                  (Syntax.tyInt Syntax.w16)) 2 5 (Row.lease (κs .1 .1 .0) (qs .1 .1 .0)),
-            ) (List._∷_ (
-              6,
-              Relend.mslice-owed (Element.type) (Syntax.tyRef (Syntax.named 3) Syntax.mut Element.behind) 3 6
-                  (Row.lease (κs .1 .1 .1 .0) (qs .1 .1 .1 .0)),
-            ) (List._∷_ (
-              7,
-              Rows'.any-gone (Syntax.tyEnum (List._∷_ 115 (List._∷_ 116 (List._∷_ 114 (List._∷_ 101 (List._∷_ 97 (List._∷_ 109 (List._∷_ 58
-                  (List._∷_ 58 (List._∷_ 80 (List._∷_ 97 (List._∷_ 114 (List._∷_ 115 (List._∷_ 101 (List._∷_ 100 List.[])))))))))))))) (Syntax.ttcons (Syntax.tcons (Syntax.tyStruct (List._∷_ 115 (List._∷_ 116
-                  (List._∷_ 114 (List._∷_ 101 (List._∷_ 97 (List._∷_ 109 (List._∷_ 58 (List._∷_ 58 (List._∷_ 70 (List._∷_ 117 (List._∷_ 106 (List._∷_ 105 (List._∷_ 72 (List._∷_ 101 (List._∷_ 97 (List._∷_ 100
-                  (List._∷_ 101 (List._∷_ 114 List.[])))))))))))))))))) (Syntax.tcons Syntax.tyBool (Syntax.tcons Syntax.tyBool (Syntax.tcons (Syntax.tyInt Syntax.w32) (Syntax.tcons (Syntax.tyInt Syntax.w32)
-                  (Syntax.tcons (Syntax.tyInt Syntax.w32) (Syntax.tcons (Syntax.tyInt Syntax.w32) (Syntax.tcons (Syntax.tyInt Syntax.w32) (Syntax.tcons (Syntax.tyInt Syntax.w32) (Syntax.tcons (Syntax.tyInt
-                  Syntax.w32) Syntax.tnil)))))))))) Syntax.tnil) (Syntax.ttcons (Syntax.tcons (Syntax.tyEnum (List._∷_ 115 (List._∷_ 116 (List._∷_ 114 (List._∷_ 101 (List._∷_ 97 (List._∷_ 109 (List._∷_ 58
-                  (List._∷_ 58 (List._∷_ 82 (List._∷_ 101 (List._∷_ 102 (List._∷_ 117 (List._∷_ 115 (List._∷_ 97 (List._∷_ 108 List.[]))))))))))))))) (Syntax.ttcons Syntax.tnil (Syntax.ttcons Syntax.tnil
-                  (Syntax.ttcons Syntax.tnil (Syntax.ttcons (Syntax.tcons (Syntax.tyInt Syntax.w64) Syntax.tnil) (Syntax.ttcons Syntax.tnil (Syntax.ttcons Syntax.tnil (Syntax.ttcons Syntax.tnil (Syntax.ttcons
-                  Syntax.tnil (Syntax.ttcons Syntax.tnil (Syntax.ttcons Syntax.tnil (Syntax.ttcons (Syntax.tcons (Syntax.tyInt Syntax.w64) Syntax.tnil) (Syntax.ttcons (Syntax.tcons (Syntax.tyInt Syntax.w64)
-                  Syntax.tnil) (Syntax.ttcons Syntax.tnil (Syntax.ttcons (Syntax.tcons (Syntax.tyInt Syntax.w64) (Syntax.tcons (Syntax.tyInt Syntax.w64) Syntax.tnil)) (Syntax.ttcons (Syntax.tcons (Syntax.tyInt
-                  Syntax.w64) Syntax.tnil) (Syntax.ttcons Syntax.tnil Syntax.ttnil))))))))))))))))) Syntax.tnil) Syntax.ttnil))),
-            ) (List._∷_ (
-              8,
-              Rows'.any-gone (Syntax.tyEnum (List._∷_ 115 (List._∷_ 116
-                  (List._∷_ 114 (List._∷_ 101 (List._∷_ 97 (List._∷_ 109 (List._∷_ 58 (List._∷_ 58 (List._∷_ 82 (List._∷_ 101 (List._∷_ 102 (List._∷_ 117 (List._∷_ 115 (List._∷_ 97 (List._∷_ 108
-                  List.[]))))))))))))))) (Syntax.ttcons Syntax.tnil (Syntax.ttcons Syntax.tnil (Syntax.ttcons Syntax.tnil (Syntax.ttcons (Syntax.tcons (Syntax.tyInt Syntax.w64) Syntax.tnil) (Syntax.ttcons
-                  Syntax.tnil (Syntax.ttcons Syntax.tnil (Syntax.ttcons Syntax.tnil (Syntax.ttcons Syntax.tnil (Syntax.ttcons Syntax.tnil (Syntax.ttcons Syntax.tnil (Syntax.ttcons (Syntax.tcons (Syntax.tyInt
-                  Syntax.w64) Syntax.tnil) (Syntax.ttcons (Syntax.tcons (Syntax.tyInt Syntax.w64) Syntax.tnil) (Syntax.ttcons Syntax.tnil (Syntax.ttcons (Syntax.tcons (Syntax.tyInt Syntax.w64) (Syntax.tcons
-                  (Syntax.tyInt Syntax.w64) Syntax.tnil)) (Syntax.ttcons (Syntax.tcons (Syntax.tyInt Syntax.w64) Syntax.tnil) (Syntax.ttcons Syntax.tnil Syntax.ttnil))))))))))))))))),
-            ) (List._∷_ (
-              9,
-              Rows'.whole (Declared'.row FujiHeader.the-type),
-            ) (List._∷_ (
-              10,
-              Rows'.any-gone (Syntax.tyEnum (List._∷_ 98 (List._∷_ 108 (List._∷_ 111 (List._∷_ 99 (List._∷_ 107 (List._∷_ 58 (List._∷_ 58
-                  (List._∷_ 68 (List._∷_ 101 (List._∷_ 99 (List._∷_ 111 (List._∷_ 100 (List._∷_ 101 (List._∷_ 100 List.[])))))))))))))) (Syntax.ttcons Syntax.tnil (Syntax.ttcons (Syntax.tcons (Syntax.tyEnum
-                  (List._∷_ 115 (List._∷_ 116 (List._∷_ 114 (List._∷_ 101 (List._∷_ 97 (List._∷_ 109 (List._∷_ 58 (List._∷_ 58 (List._∷_ 82 (List._∷_ 101 (List._∷_ 102 (List._∷_ 117 (List._∷_ 115 (List._∷_ 97
-                  (List._∷_ 108 List.[]))))))))))))))) (Syntax.ttcons Syntax.tnil (Syntax.ttcons Syntax.tnil (Syntax.ttcons Syntax.tnil (Syntax.ttcons (Syntax.tcons (Syntax.tyInt Syntax.w64) Syntax.tnil)
-                  (Syntax.ttcons Syntax.tnil (Syntax.ttcons Syntax.tnil (Syntax.ttcons Syntax.tnil (Syntax.ttcons Syntax.tnil (Syntax.ttcons Syntax.tnil (Syntax.ttcons Syntax.tnil (Syntax.ttcons (Syntax.tcons
-                  (Syntax.tyInt Syntax.w64) Syntax.tnil) (Syntax.ttcons (Syntax.tcons (Syntax.tyInt Syntax.w64) Syntax.tnil) (Syntax.ttcons Syntax.tnil (Syntax.ttcons (Syntax.tcons (Syntax.tyInt Syntax.w64)
-                  (Syntax.tcons (Syntax.tyInt Syntax.w64) Syntax.tnil)) (Syntax.ttcons (Syntax.tcons (Syntax.tyInt Syntax.w64) Syntax.tnil) (Syntax.ttcons Syntax.tnil Syntax.ttnil))))))))))))))))) Syntax.tnil)
-                  Syntax.ttnil))),
-            ) (List._∷_ (11, Rows'.any-gone (Syntax.tyRef Syntax.erased Syntax.mut (Syntax.tyInt Syntax.w16))) (List._∷_ (
-              12,
-              Mut.mslice (Referent.rtF (Referent.fInt Syntax.w16))
-                  (Syntax.tyRef Syntax.erased Syntax.mut (Syntax.tyInt Syntax.w16)) 4,
-            ) (List._∷_ (13, Rows'.any-gone (Syntax.tyRef Syntax.erased Syntax.mut (Syntax.tyInt Syntax.w16))) (List._∷_ (
-              14,
-              Mut.mslice (Referent.rtF (Referent.fInt Syntax.w16)) (Syntax.tyRef Syntax.erased Syntax.mut (Syntax.tyInt Syntax.w16)) 5,
-            ) (List._∷_ (
-              15,
-              Rows'.any-gone (Syntax.tyRef Syntax.erased
-                  Syntax.mut Element.behind),
-            ) List.[])))))))))))))))
+          Rows'.sslice (Referent.rtF (Referent.fInt Syntax.w8)) (Syntax.tyRef (Syntax.named 0) Syntax.imm (Syntax.tyInt
+              Syntax.w8)) 0,
+        ) (List._∷_ (2, Rows'.whole (Declared'.row Rect.the-type)) (List._∷_ (3, Rows.arrF (Referent.rtF (Referent.fInt Syntax.w8)) 36 0) (List._∷_ (
+          4,
+          Relend.mslice-owed
+              (Referent.rtF (Referent.fInt Syntax.w16)) (Syntax.tyRef (Syntax.named 1) Syntax.mut (Syntax.tyInt Syntax.w16)) 1 4 (Row.lease (κs .1 .0) (qs .1 .0)),
+        ) (List._∷_ (
+          5,
+          Relend.mslice-owed
+              (Referent.rtF (Referent.fInt Syntax.w16)) (Syntax.tyRef (Syntax.named 2) Syntax.mut (Syntax.tyInt Syntax.w16)) 2 5 (Row.lease (κs .1 .1 .0) (qs .1 .1 .0)),
+        ) (List._∷_ (
+          6,
+          Relend.mslice-owed
+              (Element.type) (Syntax.tyRef (Syntax.named 3) Syntax.mut Element.behind) 3 6 (Row.lease (κs .1 .1 .1 .0) (qs .1 .1 .1 .0)),
+        ) (List._∷_ (
+          7,
+          Rows'.any-gone (Syntax.tyEnum (List._∷_ 115
+              (List._∷_ 116 (List._∷_ 114 (List._∷_ 101 (List._∷_ 97 (List._∷_ 109 (List._∷_ 58 (List._∷_ 58 (List._∷_ 80 (List._∷_ 97 (List._∷_ 114 (List._∷_ 115 (List._∷_ 101 (List._∷_ 100
+              List.[])))))))))))))) (Syntax.ttcons (Syntax.tcons (Syntax.tyStruct (List._∷_ 115 (List._∷_ 116 (List._∷_ 114 (List._∷_ 101 (List._∷_ 97 (List._∷_ 109 (List._∷_ 58 (List._∷_ 58 (List._∷_ 70
+              (List._∷_ 117 (List._∷_ 106 (List._∷_ 105 (List._∷_ 72 (List._∷_ 101 (List._∷_ 97 (List._∷_ 100 (List._∷_ 101 (List._∷_ 114 List.[])))))))))))))))))) (Syntax.tcons Syntax.tyBool (Syntax.tcons
+              Syntax.tyBool (Syntax.tcons (Syntax.tyInt Syntax.w32) (Syntax.tcons (Syntax.tyInt Syntax.w32) (Syntax.tcons (Syntax.tyInt Syntax.w32) (Syntax.tcons (Syntax.tyInt Syntax.w32) (Syntax.tcons
+              (Syntax.tyInt Syntax.w32) (Syntax.tcons (Syntax.tyInt Syntax.w32) (Syntax.tcons (Syntax.tyInt Syntax.w32) Syntax.tnil)))))))))) Syntax.tnil) (Syntax.ttcons (Syntax.tcons (Syntax.tyEnum
+              (List._∷_ 115 (List._∷_ 116 (List._∷_ 114 (List._∷_ 101 (List._∷_ 97 (List._∷_ 109 (List._∷_ 58 (List._∷_ 58 (List._∷_ 82 (List._∷_ 101 (List._∷_ 102 (List._∷_ 117 (List._∷_ 115 (List._∷_ 97
+              (List._∷_ 108 List.[]))))))))))))))) (Syntax.ttcons Syntax.tnil (Syntax.ttcons Syntax.tnil (Syntax.ttcons Syntax.tnil (Syntax.ttcons (Syntax.tcons (Syntax.tyInt Syntax.w64) Syntax.tnil)
+              (Syntax.ttcons Syntax.tnil (Syntax.ttcons Syntax.tnil (Syntax.ttcons Syntax.tnil (Syntax.ttcons Syntax.tnil (Syntax.ttcons Syntax.tnil (Syntax.ttcons Syntax.tnil (Syntax.ttcons (Syntax.tcons
+              (Syntax.tyInt Syntax.w64) Syntax.tnil) (Syntax.ttcons (Syntax.tcons (Syntax.tyInt Syntax.w64) Syntax.tnil) (Syntax.ttcons Syntax.tnil (Syntax.ttcons (Syntax.tcons (Syntax.tyInt Syntax.w64)
+              (Syntax.tcons (Syntax.tyInt Syntax.w64) Syntax.tnil)) (Syntax.ttcons (Syntax.tcons (Syntax.tyInt Syntax.w64) Syntax.tnil) (Syntax.ttcons Syntax.tnil (Syntax.ttcons Syntax.tnil (Syntax.ttcons
+              (Syntax.tcons (Syntax.tyInt Syntax.w64) Syntax.tnil) (Syntax.ttcons (Syntax.tcons (Syntax.tyInt Syntax.w64) Syntax.tnil) (Syntax.ttcons (Syntax.tcons (Syntax.tyInt Syntax.w64) Syntax.tnil)
+              (Syntax.ttcons Syntax.tnil Syntax.ttnil)))))))))))))))))))))) Syntax.tnil) Syntax.ttnil))),
+        ) (List._∷_ (
+          8,
+          Rows'.any-gone (Syntax.tyEnum (List._∷_ 115 (List._∷_ 116 (List._∷_ 114 (List._∷_
+              101 (List._∷_ 97 (List._∷_ 109 (List._∷_ 58 (List._∷_ 58 (List._∷_ 82 (List._∷_ 101 (List._∷_ 102 (List._∷_ 117 (List._∷_ 115 (List._∷_ 97 (List._∷_ 108 List.[]))))))))))))))) (Syntax.ttcons
+              Syntax.tnil (Syntax.ttcons Syntax.tnil (Syntax.ttcons Syntax.tnil (Syntax.ttcons (Syntax.tcons (Syntax.tyInt Syntax.w64) Syntax.tnil) (Syntax.ttcons Syntax.tnil (Syntax.ttcons Syntax.tnil
+              (Syntax.ttcons Syntax.tnil (Syntax.ttcons Syntax.tnil (Syntax.ttcons Syntax.tnil (Syntax.ttcons Syntax.tnil (Syntax.ttcons (Syntax.tcons (Syntax.tyInt Syntax.w64) Syntax.tnil) (Syntax.ttcons
+              (Syntax.tcons (Syntax.tyInt Syntax.w64) Syntax.tnil) (Syntax.ttcons Syntax.tnil (Syntax.ttcons (Syntax.tcons (Syntax.tyInt Syntax.w64) (Syntax.tcons (Syntax.tyInt Syntax.w64) Syntax.tnil))
+              (Syntax.ttcons (Syntax.tcons (Syntax.tyInt Syntax.w64) Syntax.tnil) (Syntax.ttcons Syntax.tnil (Syntax.ttcons Syntax.tnil (Syntax.ttcons (Syntax.tcons (Syntax.tyInt Syntax.w64) Syntax.tnil)
+              (Syntax.ttcons (Syntax.tcons (Syntax.tyInt Syntax.w64) Syntax.tnil) (Syntax.ttcons (Syntax.tcons (Syntax.tyInt Syntax.w64) Syntax.tnil) (Syntax.ttcons Syntax.tnil
+              Syntax.ttnil)))))))))))))))))))))),
+        ) (List._∷_ (9, Rows'.whole (Declared'.row FujiHeader.the-type)) (List._∷_ (
+          10,
+          Rows'.any-gone (Syntax.tyEnum (List._∷_ 98 (List._∷_ 108 (List._∷_ 111
+              (List._∷_ 99 (List._∷_ 107 (List._∷_ 58 (List._∷_ 58 (List._∷_ 68 (List._∷_ 101 (List._∷_ 99 (List._∷_ 111 (List._∷_ 100 (List._∷_ 101 (List._∷_ 100 List.[])))))))))))))) (Syntax.ttcons
+              Syntax.tnil (Syntax.ttcons (Syntax.tcons (Syntax.tyEnum (List._∷_ 115 (List._∷_ 116 (List._∷_ 114 (List._∷_ 101 (List._∷_ 97 (List._∷_ 109 (List._∷_ 58 (List._∷_ 58 (List._∷_ 82 (List._∷_ 101
+              (List._∷_ 102 (List._∷_ 117 (List._∷_ 115 (List._∷_ 97 (List._∷_ 108 List.[]))))))))))))))) (Syntax.ttcons Syntax.tnil (Syntax.ttcons Syntax.tnil (Syntax.ttcons Syntax.tnil (Syntax.ttcons
+              (Syntax.tcons (Syntax.tyInt Syntax.w64) Syntax.tnil) (Syntax.ttcons Syntax.tnil (Syntax.ttcons Syntax.tnil (Syntax.ttcons Syntax.tnil (Syntax.ttcons Syntax.tnil (Syntax.ttcons Syntax.tnil
+              (Syntax.ttcons Syntax.tnil (Syntax.ttcons (Syntax.tcons (Syntax.tyInt Syntax.w64) Syntax.tnil) (Syntax.ttcons (Syntax.tcons (Syntax.tyInt Syntax.w64) Syntax.tnil) (Syntax.ttcons Syntax.tnil
+              (Syntax.ttcons (Syntax.tcons (Syntax.tyInt Syntax.w64) (Syntax.tcons (Syntax.tyInt Syntax.w64) Syntax.tnil)) (Syntax.ttcons (Syntax.tcons (Syntax.tyInt Syntax.w64) Syntax.tnil) (Syntax.ttcons
+              Syntax.tnil (Syntax.ttcons Syntax.tnil (Syntax.ttcons (Syntax.tcons (Syntax.tyInt Syntax.w64) Syntax.tnil) (Syntax.ttcons (Syntax.tcons (Syntax.tyInt Syntax.w64) Syntax.tnil) (Syntax.ttcons
+              (Syntax.tcons (Syntax.tyInt Syntax.w64) Syntax.tnil) (Syntax.ttcons Syntax.tnil Syntax.ttnil)))))))))))))))))))))) Syntax.tnil) Syntax.ttnil))),
+        ) (List._∷_ (
+          11,
+          Rows'.any-gone (Syntax.tyRef
+              Syntax.erased Syntax.mut (Syntax.tyInt Syntax.w16)),
+        ) (List._∷_ (
+          12,
+          Mut.mslice (Referent.rtF (Referent.fInt Syntax.w16)) (Syntax.tyRef Syntax.erased Syntax.mut (Syntax.tyInt Syntax.w16)) 4,
+        ) (List._∷_ (13, Rows'.any-gone (Syntax.tyRef Syntax.erased Syntax.mut (Syntax.tyInt Syntax.w16))) (List._∷_ (
+          14,
+          Mut.mslice (Referent.rtF (Referent.fInt Syntax.w16)) (Syntax.tyRef
+              Syntax.erased Syntax.mut (Syntax.tyInt Syntax.w16)) 5,
+        ) (List._∷_ (15, Rows'.any-gone (Syntax.tyRef Syntax.erased Syntax.mut Element.behind)) List.[])))))))))))))))
 
         abbrev g21 : List.List Row.Entry
         g21 = List._∷_ (
@@ -2968,59 +3086,63 @@ module _ (claims· : Claims) where
               (Syntax.ttcons Syntax.tnil (Syntax.ttcons Syntax.tnil (Syntax.ttcons Syntax.tnil (Syntax.ttcons (Syntax.tcons (Syntax.tyInt Syntax.w64) Syntax.tnil) (Syntax.ttcons Syntax.tnil (Syntax.ttcons
               Syntax.tnil (Syntax.ttcons Syntax.tnil (Syntax.ttcons Syntax.tnil (Syntax.ttcons Syntax.tnil (Syntax.ttcons Syntax.tnil (Syntax.ttcons (Syntax.tcons (Syntax.tyInt Syntax.w64) Syntax.tnil)
               (Syntax.ttcons (Syntax.tcons (Syntax.tyInt Syntax.w64) Syntax.tnil) (Syntax.ttcons Syntax.tnil (Syntax.ttcons (Syntax.tcons (Syntax.tyInt Syntax.w64) (Syntax.tcons (Syntax.tyInt Syntax.w64)
-              Syntax.tnil)) (Syntax.ttcons (Syntax.tcons (Syntax.tyInt Syntax.w64) Syntax.tnil) (Syntax.ttcons Syntax.tnil Syntax.ttnil))))))))))))))))) Syntax.tnil) Syntax.ttnil))),
+              Syntax.tnil)) (Syntax.ttcons (Syntax.tcons (Syntax.tyInt Syntax.w64) Syntax.tnil) (Syntax.ttcons Syntax.tnil (Syntax.ttcons Syntax.tnil (Syntax.ttcons (Syntax.tcons (Syntax.tyInt Syntax.w64)
+              Syntax.tnil) (Syntax.ttcons (Syntax.tcons (Syntax.tyInt Syntax.w64) Syntax.tnil) (Syntax.ttcons (Syntax.tcons (Syntax.tyInt Syntax.w64) Syntax.tnil) (Syntax.ttcons Syntax.tnil
+              Syntax.ttnil)))))))))))))))))))))) Syntax.tnil) Syntax.ttnil))),
         ) (List._∷_ (
           1,
-          Rows'.sslice (Referent.rtF (Referent.fInt Syntax.w8)) (Syntax.tyRef (Syntax.named 0) Syntax.imm (Syntax.tyInt Syntax.w8)) 0,
-        ) (List._∷_ (2, Rows'.whole (Declared'.row Rect.the-type))
-            (List._∷_ (3, Rows.arrF (Referent.rtF (Referent.fInt Syntax.w8)) 36 0) (List._∷_ (
-              4,
-              Relend.mslice-owed (Referent.rtF (Referent.fInt Syntax.w16)) (Syntax.tyRef (Syntax.named 1) Syntax.mut
-                  (Syntax.tyInt Syntax.w16)) 1 4 (Row.lease (κs .1 .0) (qs .1 .0)),
-            ) (List._∷_ (
-              5,
-              Relend.mslice-owed (Referent.rtF (Referent.fInt Syntax.w16)) (Syntax.tyRef (Syntax.named 2) Syntax.mut
-                  (Syntax.tyInt Syntax.w16)) 2 5 (Row.lease (κs .1 .1 .0) (qs .1 .1 .0)),
-            ) (List._∷_ (
-              6,
-              Relend.mslice-owed (Element.type) (Syntax.tyRef (Syntax.named 3) Syntax.mut Element.behind) 3 6
-                  (Row.lease (κs .1 .1 .1 .0) (qs .1 .1 .1 .0)),
-            ) (List._∷_ (
-              7,
-              Rows'.any-gone (Syntax.tyEnum (List._∷_ 115 (List._∷_ 116 (List._∷_ 114 (List._∷_ 101 (List._∷_ 97 (List._∷_ 109 (List._∷_ 58
-                  (List._∷_ 58 (List._∷_ 80 (List._∷_ 97 (List._∷_ 114 (List._∷_ 115 (List._∷_ 101 (List._∷_ 100 List.[])))))))))))))) (Syntax.ttcons (Syntax.tcons (Syntax.tyStruct (List._∷_ 115 (List._∷_ 116
-                  (List._∷_ 114 (List._∷_ 101 (List._∷_ 97 (List._∷_ 109 (List._∷_ 58 (List._∷_ 58 (List._∷_ 70 (List._∷_ 117 (List._∷_ 106 (List._∷_ 105 (List._∷_ 72 (List._∷_ 101 (List._∷_ 97 (List._∷_ 100
-                  (List._∷_ 101 (List._∷_ 114 List.[])))))))))))))))))) (Syntax.tcons Syntax.tyBool (Syntax.tcons Syntax.tyBool (Syntax.tcons (Syntax.tyInt Syntax.w32) (Syntax.tcons (Syntax.tyInt Syntax.w32)
-                  (Syntax.tcons (Syntax.tyInt Syntax.w32) (Syntax.tcons (Syntax.tyInt Syntax.w32) (Syntax.tcons (Syntax.tyInt Syntax.w32) (Syntax.tcons (Syntax.tyInt Syntax.w32) (Syntax.tcons (Syntax.tyInt
-                  Syntax.w32) Syntax.tnil)))))))))) Syntax.tnil) (Syntax.ttcons (Syntax.tcons (Syntax.tyEnum (List._∷_ 115 (List._∷_ 116 (List._∷_ 114 (List._∷_ 101 (List._∷_ 97 (List._∷_ 109 (List._∷_ 58
-                  (List._∷_ 58 (List._∷_ 82 (List._∷_ 101 (List._∷_ 102 (List._∷_ 117 (List._∷_ 115 (List._∷_ 97 (List._∷_ 108 List.[]))))))))))))))) (Syntax.ttcons Syntax.tnil (Syntax.ttcons Syntax.tnil
-                  (Syntax.ttcons Syntax.tnil (Syntax.ttcons (Syntax.tcons (Syntax.tyInt Syntax.w64) Syntax.tnil) (Syntax.ttcons Syntax.tnil (Syntax.ttcons Syntax.tnil (Syntax.ttcons Syntax.tnil (Syntax.ttcons
-                  Syntax.tnil (Syntax.ttcons Syntax.tnil (Syntax.ttcons Syntax.tnil (Syntax.ttcons (Syntax.tcons (Syntax.tyInt Syntax.w64) Syntax.tnil) (Syntax.ttcons (Syntax.tcons (Syntax.tyInt Syntax.w64)
-                  Syntax.tnil) (Syntax.ttcons Syntax.tnil (Syntax.ttcons (Syntax.tcons (Syntax.tyInt Syntax.w64) (Syntax.tcons (Syntax.tyInt Syntax.w64) Syntax.tnil)) (Syntax.ttcons (Syntax.tcons (Syntax.tyInt
-                  Syntax.w64) Syntax.tnil) (Syntax.ttcons Syntax.tnil Syntax.ttnil))))))))))))))))) Syntax.tnil) Syntax.ttnil))),
-            ) (List._∷_ (
-              8,
-              Rows'.any-gone (Syntax.tyEnum (List._∷_ 115 (List._∷_ 116
-                  (List._∷_ 114 (List._∷_ 101 (List._∷_ 97 (List._∷_ 109 (List._∷_ 58 (List._∷_ 58 (List._∷_ 82 (List._∷_ 101 (List._∷_ 102 (List._∷_ 117 (List._∷_ 115 (List._∷_ 97 (List._∷_ 108
-                  List.[]))))))))))))))) (Syntax.ttcons Syntax.tnil (Syntax.ttcons Syntax.tnil (Syntax.ttcons Syntax.tnil (Syntax.ttcons (Syntax.tcons (Syntax.tyInt Syntax.w64) Syntax.tnil) (Syntax.ttcons
-                  Syntax.tnil (Syntax.ttcons Syntax.tnil (Syntax.ttcons Syntax.tnil (Syntax.ttcons Syntax.tnil (Syntax.ttcons Syntax.tnil (Syntax.ttcons Syntax.tnil (Syntax.ttcons (Syntax.tcons (Syntax.tyInt
-                  Syntax.w64) Syntax.tnil) (Syntax.ttcons (Syntax.tcons (Syntax.tyInt Syntax.w64) Syntax.tnil) (Syntax.ttcons Syntax.tnil (Syntax.ttcons (Syntax.tcons (Syntax.tyInt Syntax.w64) (Syntax.tcons
-                  (Syntax.tyInt Syntax.w64) Syntax.tnil)) (Syntax.ttcons (Syntax.tcons (Syntax.tyInt Syntax.w64) Syntax.tnil) (Syntax.ttcons Syntax.tnil Syntax.ttnil))))))))))))))))),
-            ) (List._∷_ (
-              9,
-              Rows'.whole (Declared'.row FujiHeader.the-type),
-            ) (List._∷_ (10, Rows'.whole (Declared.row Decoded.the-type)) (List._∷_ (
-              11,
-              Rows'.any-gone (Syntax.tyRef Syntax.erased Syntax.mut
-                  (Syntax.tyInt Syntax.w16)),
-            ) (List._∷_ (12, Mut.msleft (Referent.rtF (Referent.fInt Syntax.w16)) (Syntax.tyRef Syntax.erased Syntax.mut (Syntax.tyInt Syntax.w16))) (List._∷_ (
-              13,
-              Rows'.any-gone (Syntax.tyRef Syntax.erased Syntax.mut (Syntax.tyInt Syntax.w16)),
-            ) (List._∷_ (
-              14,
-              Mut.msleft (Referent.rtF (Referent.fInt Syntax.w16)) (Syntax.tyRef Syntax.erased Syntax.mut
-                  (Syntax.tyInt Syntax.w16)),
-            ) (List._∷_ (15, Rows'.any-gone (Syntax.tyRef Syntax.erased Syntax.mut Element.behind)) List.[])))))))))))))))
+          Rows'.sslice (Referent.rtF (Referent.fInt Syntax.w8)) (Syntax.tyRef (Syntax.named 0) Syntax.imm (Syntax.tyInt
+              Syntax.w8)) 0,
+        ) (List._∷_ (2, Rows'.whole (Declared'.row Rect.the-type)) (List._∷_ (3, Rows.arrF (Referent.rtF (Referent.fInt Syntax.w8)) 36 0) (List._∷_ (
+          4,
+          Relend.mslice-owed
+              (Referent.rtF (Referent.fInt Syntax.w16)) (Syntax.tyRef (Syntax.named 1) Syntax.mut (Syntax.tyInt Syntax.w16)) 1 4 (Row.lease (κs .1 .0) (qs .1 .0)),
+        ) (List._∷_ (
+          5,
+          Relend.mslice-owed
+              (Referent.rtF (Referent.fInt Syntax.w16)) (Syntax.tyRef (Syntax.named 2) Syntax.mut (Syntax.tyInt Syntax.w16)) 2 5 (Row.lease (κs .1 .1 .0) (qs .1 .1 .0)),
+        ) (List._∷_ (
+          6,
+          Relend.mslice-owed
+              (Element.type) (Syntax.tyRef (Syntax.named 3) Syntax.mut Element.behind) 3 6 (Row.lease (κs .1 .1 .1 .0) (qs .1 .1 .1 .0)),
+        ) (List._∷_ (
+          7,
+          Rows'.any-gone (Syntax.tyEnum (List._∷_ 115
+              (List._∷_ 116 (List._∷_ 114 (List._∷_ 101 (List._∷_ 97 (List._∷_ 109 (List._∷_ 58 (List._∷_ 58 (List._∷_ 80 (List._∷_ 97 (List._∷_ 114 (List._∷_ 115 (List._∷_ 101 (List._∷_ 100
+              List.[])))))))))))))) (Syntax.ttcons (Syntax.tcons (Syntax.tyStruct (List._∷_ 115 (List._∷_ 116 (List._∷_ 114 (List._∷_ 101 (List._∷_ 97 (List._∷_ 109 (List._∷_ 58 (List._∷_ 58 (List._∷_ 70
+              (List._∷_ 117 (List._∷_ 106 (List._∷_ 105 (List._∷_ 72 (List._∷_ 101 (List._∷_ 97 (List._∷_ 100 (List._∷_ 101 (List._∷_ 114 List.[])))))))))))))))))) (Syntax.tcons Syntax.tyBool (Syntax.tcons
+              Syntax.tyBool (Syntax.tcons (Syntax.tyInt Syntax.w32) (Syntax.tcons (Syntax.tyInt Syntax.w32) (Syntax.tcons (Syntax.tyInt Syntax.w32) (Syntax.tcons (Syntax.tyInt Syntax.w32) (Syntax.tcons
+              (Syntax.tyInt Syntax.w32) (Syntax.tcons (Syntax.tyInt Syntax.w32) (Syntax.tcons (Syntax.tyInt Syntax.w32) Syntax.tnil)))))))))) Syntax.tnil) (Syntax.ttcons (Syntax.tcons (Syntax.tyEnum
+              (List._∷_ 115 (List._∷_ 116 (List._∷_ 114 (List._∷_ 101 (List._∷_ 97 (List._∷_ 109 (List._∷_ 58 (List._∷_ 58 (List._∷_ 82 (List._∷_ 101 (List._∷_ 102 (List._∷_ 117 (List._∷_ 115 (List._∷_ 97
+              (List._∷_ 108 List.[]))))))))))))))) (Syntax.ttcons Syntax.tnil (Syntax.ttcons Syntax.tnil (Syntax.ttcons Syntax.tnil (Syntax.ttcons (Syntax.tcons (Syntax.tyInt Syntax.w64) Syntax.tnil)
+              (Syntax.ttcons Syntax.tnil (Syntax.ttcons Syntax.tnil (Syntax.ttcons Syntax.tnil (Syntax.ttcons Syntax.tnil (Syntax.ttcons Syntax.tnil (Syntax.ttcons Syntax.tnil (Syntax.ttcons (Syntax.tcons
+              (Syntax.tyInt Syntax.w64) Syntax.tnil) (Syntax.ttcons (Syntax.tcons (Syntax.tyInt Syntax.w64) Syntax.tnil) (Syntax.ttcons Syntax.tnil (Syntax.ttcons (Syntax.tcons (Syntax.tyInt Syntax.w64)
+              (Syntax.tcons (Syntax.tyInt Syntax.w64) Syntax.tnil)) (Syntax.ttcons (Syntax.tcons (Syntax.tyInt Syntax.w64) Syntax.tnil) (Syntax.ttcons Syntax.tnil (Syntax.ttcons Syntax.tnil (Syntax.ttcons
+              (Syntax.tcons (Syntax.tyInt Syntax.w64) Syntax.tnil) (Syntax.ttcons (Syntax.tcons (Syntax.tyInt Syntax.w64) Syntax.tnil) (Syntax.ttcons (Syntax.tcons (Syntax.tyInt Syntax.w64) Syntax.tnil)
+              (Syntax.ttcons Syntax.tnil Syntax.ttnil)))))))))))))))))))))) Syntax.tnil) Syntax.ttnil))),
+        ) (List._∷_ (
+          8,
+          Rows'.any-gone (Syntax.tyEnum (List._∷_ 115 (List._∷_ 116 (List._∷_ 114 (List._∷_
+              101 (List._∷_ 97 (List._∷_ 109 (List._∷_ 58 (List._∷_ 58 (List._∷_ 82 (List._∷_ 101 (List._∷_ 102 (List._∷_ 117 (List._∷_ 115 (List._∷_ 97 (List._∷_ 108 List.[]))))))))))))))) (Syntax.ttcons
+              Syntax.tnil (Syntax.ttcons Syntax.tnil (Syntax.ttcons Syntax.tnil (Syntax.ttcons (Syntax.tcons (Syntax.tyInt Syntax.w64) Syntax.tnil) (Syntax.ttcons Syntax.tnil (Syntax.ttcons Syntax.tnil
+              (Syntax.ttcons Syntax.tnil (Syntax.ttcons Syntax.tnil (Syntax.ttcons Syntax.tnil (Syntax.ttcons Syntax.tnil (Syntax.ttcons (Syntax.tcons (Syntax.tyInt Syntax.w64) Syntax.tnil) (Syntax.ttcons
+              (Syntax.tcons (Syntax.tyInt Syntax.w64) Syntax.tnil) (Syntax.ttcons Syntax.tnil (Syntax.ttcons (Syntax.tcons (Syntax.tyInt Syntax.w64) (Syntax.tcons (Syntax.tyInt Syntax.w64) Syntax.tnil))
+              (Syntax.ttcons (Syntax.tcons (Syntax.tyInt Syntax.w64) Syntax.tnil) (Syntax.ttcons Syntax.tnil (Syntax.ttcons Syntax.tnil (Syntax.ttcons (Syntax.tcons (Syntax.tyInt Syntax.w64) Syntax.tnil)
+              (Syntax.ttcons (Syntax.tcons (Syntax.tyInt Syntax.w64) Syntax.tnil) (Syntax.ttcons (Syntax.tcons (Syntax.tyInt Syntax.w64) Syntax.tnil) (Syntax.ttcons Syntax.tnil
+              Syntax.ttnil)))))))))))))))))))))),
+        ) (List._∷_ (9, Rows'.whole (Declared'.row FujiHeader.the-type)) (List._∷_ (10, Rows'.whole (Declared.row Decoded.the-type)) (List._∷_ (
+          11,
+          Rows'.any-gone (Syntax.tyRef Syntax.erased Syntax.mut (Syntax.tyInt Syntax.w16)),
+        ) (List._∷_ (
+          12,
+          Mut.msleft (Referent.rtF (Referent.fInt Syntax.w16)) (Syntax.tyRef Syntax.erased Syntax.mut
+              (Syntax.tyInt Syntax.w16)),
+        ) (List._∷_ (13, Rows'.any-gone (Syntax.tyRef Syntax.erased Syntax.mut (Syntax.tyInt Syntax.w16))) (List._∷_ (
+          14,
+          Mut.msleft (Referent.rtF (Referent.fInt
+              Syntax.w16)) (Syntax.tyRef Syntax.erased Syntax.mut (Syntax.tyInt Syntax.w16)),
+        ) (List._∷_ (15, Rows'.any-gone (Syntax.tyRef Syntax.erased Syntax.mut Element.behind))
+            List.[])))))))))))))))
 
         abbrev g23 : List.List Row.Entry
         g23 = List._∷_ (
@@ -3031,27 +3153,325 @@ module _ (claims· : Claims) where
               (Syntax.ttcons Syntax.tnil (Syntax.ttcons Syntax.tnil (Syntax.ttcons Syntax.tnil (Syntax.ttcons (Syntax.tcons (Syntax.tyInt Syntax.w64) Syntax.tnil) (Syntax.ttcons Syntax.tnil (Syntax.ttcons
               Syntax.tnil (Syntax.ttcons Syntax.tnil (Syntax.ttcons Syntax.tnil (Syntax.ttcons Syntax.tnil (Syntax.ttcons Syntax.tnil (Syntax.ttcons (Syntax.tcons (Syntax.tyInt Syntax.w64) Syntax.tnil)
               (Syntax.ttcons (Syntax.tcons (Syntax.tyInt Syntax.w64) Syntax.tnil) (Syntax.ttcons Syntax.tnil (Syntax.ttcons (Syntax.tcons (Syntax.tyInt Syntax.w64) (Syntax.tcons (Syntax.tyInt Syntax.w64)
-              Syntax.tnil)) (Syntax.ttcons (Syntax.tcons (Syntax.tyInt Syntax.w64) Syntax.tnil) (Syntax.ttcons Syntax.tnil Syntax.ttnil))))))))))))))))) Syntax.tnil) Syntax.ttnil))),
+              Syntax.tnil)) (Syntax.ttcons (Syntax.tcons (Syntax.tyInt Syntax.w64) Syntax.tnil) (Syntax.ttcons Syntax.tnil (Syntax.ttcons Syntax.tnil (Syntax.ttcons (Syntax.tcons (Syntax.tyInt Syntax.w64)
+              Syntax.tnil) (Syntax.ttcons (Syntax.tcons (Syntax.tyInt Syntax.w64) Syntax.tnil) (Syntax.ttcons (Syntax.tcons (Syntax.tyInt Syntax.w64) Syntax.tnil) (Syntax.ttcons Syntax.tnil
+              Syntax.ttnil)))))))))))))))))))))) Syntax.tnil) Syntax.ttnil))),
         ) (List._∷_ (
           1,
-          Rows'.sslice (Referent.rtF (Referent.fInt Syntax.w8)) (Syntax.tyRef (Syntax.named 0) Syntax.imm (Syntax.tyInt Syntax.w8)) 0,
+          Rows'.sslice (Referent.rtF (Referent.fInt Syntax.w8)) (Syntax.tyRef (Syntax.named 0) Syntax.imm (Syntax.tyInt
+              Syntax.w8)) 0,
         ) (List._∷_ (
           2,
-          Rows'.any-gone (Syntax.tyStruct (List._∷_ 114
-              (List._∷_ 101 (List._∷_ 103 (List._∷_ 105 (List._∷_ 111 (List._∷_ 110 (List._∷_ 58 (List._∷_ 58 (List._∷_ 82 (List._∷_ 101 (List._∷_ 99 (List._∷_ 116 List.[])))))))))))) (Syntax.tcons
-              (Syntax.tyInt Syntax.w64) (Syntax.tcons (Syntax.tyInt Syntax.w64) (Syntax.tcons (Syntax.tyInt Syntax.w64) (Syntax.tcons (Syntax.tyInt Syntax.w64) Syntax.tnil))))),
-        ) (List._∷_ (
-          3,
-          Rows.arrF
-              (Referent.rtF (Referent.fInt Syntax.w8)) 36 0,
-        ) (List._∷_ (
+          Rows'.any-gone (Syntax.tyStruct (List._∷_ 114 (List._∷_ 101 (List._∷_ 103 (List._∷_ 105 (List._∷_ 111 (List._∷_ 110 (List._∷_ 58 (List._∷_ 58 (List._∷_ 82
+              (List._∷_ 101 (List._∷_ 99 (List._∷_ 116 List.[])))))))))))) (Syntax.tcons (Syntax.tyInt Syntax.w64) (Syntax.tcons (Syntax.tyInt Syntax.w64) (Syntax.tcons (Syntax.tyInt Syntax.w64)
+              (Syntax.tcons (Syntax.tyInt Syntax.w64) Syntax.tnil))))),
+        ) (List._∷_ (3, Rows.arrF (Referent.rtF (Referent.fInt Syntax.w8)) 36 0) (List._∷_ (
           4,
-          Relend.mslice-owed (Referent.rtF (Referent.fInt Syntax.w16)) (Syntax.tyRef (Syntax.named 1) Syntax.mut (Syntax.tyInt Syntax.w16))
-              1 4 (Row.lease (κs .1 .0) (qs .1 .0)),
+          Relend.mslice-owed (Referent.rtF
+              (Referent.fInt Syntax.w16)) (Syntax.tyRef (Syntax.named 1) Syntax.mut (Syntax.tyInt Syntax.w16)) 1 4 (Row.lease (κs .1 .0) (qs .1 .0)),
         ) (List._∷_ (
           5,
-          Relend.mslice-owed (Referent.rtF (Referent.fInt Syntax.w16)) (Syntax.tyRef (Syntax.named 2) Syntax.mut (Syntax.tyInt Syntax.w16)) 2 5
-              (Row.lease (κs .1 .1 .0) (qs .1 .1 .0)),
+          Relend.mslice-owed (Referent.rtF
+              (Referent.fInt Syntax.w16)) (Syntax.tyRef (Syntax.named 2) Syntax.mut (Syntax.tyInt Syntax.w16)) 2 5 (Row.lease (κs .1 .1 .0) (qs .1 .1 .0)),
+        ) (List._∷_ (
+          6,
+          Relend.mslice-owed (Element.type)
+              (Syntax.tyRef (Syntax.named 3) Syntax.mut Element.behind) 3 6 (Row.lease (κs .1 .1 .1 .0) (qs .1 .1 .1 .0)),
+        ) (List._∷_ (
+          7,
+          Rows'.any-gone (Syntax.tyEnum (List._∷_ 115 (List._∷_ 116
+              (List._∷_ 114 (List._∷_ 101 (List._∷_ 97 (List._∷_ 109 (List._∷_ 58 (List._∷_ 58 (List._∷_ 80 (List._∷_ 97 (List._∷_ 114 (List._∷_ 115 (List._∷_ 101 (List._∷_ 100 List.[]))))))))))))))
+              (Syntax.ttcons (Syntax.tcons (Syntax.tyStruct (List._∷_ 115 (List._∷_ 116 (List._∷_ 114 (List._∷_ 101 (List._∷_ 97 (List._∷_ 109 (List._∷_ 58 (List._∷_ 58 (List._∷_ 70 (List._∷_ 117 (List._∷_
+              106 (List._∷_ 105 (List._∷_ 72 (List._∷_ 101 (List._∷_ 97 (List._∷_ 100 (List._∷_ 101 (List._∷_ 114 List.[])))))))))))))))))) (Syntax.tcons Syntax.tyBool (Syntax.tcons Syntax.tyBool
+              (Syntax.tcons (Syntax.tyInt Syntax.w32) (Syntax.tcons (Syntax.tyInt Syntax.w32) (Syntax.tcons (Syntax.tyInt Syntax.w32) (Syntax.tcons (Syntax.tyInt Syntax.w32) (Syntax.tcons (Syntax.tyInt
+              Syntax.w32) (Syntax.tcons (Syntax.tyInt Syntax.w32) (Syntax.tcons (Syntax.tyInt Syntax.w32) Syntax.tnil)))))))))) Syntax.tnil) (Syntax.ttcons (Syntax.tcons (Syntax.tyEnum (List._∷_ 115
+              (List._∷_ 116 (List._∷_ 114 (List._∷_ 101 (List._∷_ 97 (List._∷_ 109 (List._∷_ 58 (List._∷_ 58 (List._∷_ 82 (List._∷_ 101 (List._∷_ 102 (List._∷_ 117 (List._∷_ 115 (List._∷_ 97 (List._∷_ 108
+              List.[]))))))))))))))) (Syntax.ttcons Syntax.tnil (Syntax.ttcons Syntax.tnil (Syntax.ttcons Syntax.tnil (Syntax.ttcons (Syntax.tcons (Syntax.tyInt Syntax.w64) Syntax.tnil) (Syntax.ttcons
+              Syntax.tnil (Syntax.ttcons Syntax.tnil (Syntax.ttcons Syntax.tnil (Syntax.ttcons Syntax.tnil (Syntax.ttcons Syntax.tnil (Syntax.ttcons Syntax.tnil (Syntax.ttcons (Syntax.tcons (Syntax.tyInt
+              Syntax.w64) Syntax.tnil) (Syntax.ttcons (Syntax.tcons (Syntax.tyInt Syntax.w64) Syntax.tnil) (Syntax.ttcons Syntax.tnil (Syntax.ttcons (Syntax.tcons (Syntax.tyInt Syntax.w64) (Syntax.tcons
+              (Syntax.tyInt Syntax.w64) Syntax.tnil)) (Syntax.ttcons (Syntax.tcons (Syntax.tyInt Syntax.w64) Syntax.tnil) (Syntax.ttcons Syntax.tnil (Syntax.ttcons Syntax.tnil (Syntax.ttcons (Syntax.tcons
+              (Syntax.tyInt Syntax.w64) Syntax.tnil) (Syntax.ttcons (Syntax.tcons (Syntax.tyInt Syntax.w64) Syntax.tnil) (Syntax.ttcons (Syntax.tcons (Syntax.tyInt Syntax.w64) Syntax.tnil) (Syntax.ttcons
+              Syntax.tnil Syntax.ttnil)))))))))))))))))))))) Syntax.tnil) Syntax.ttnil))),
+        ) (List._∷_ (
+          8,
+          Rows'.any-gone (Syntax.tyEnum (List._∷_ 115 (List._∷_ 116 (List._∷_ 114 (List._∷_ 101 (List._∷_ 97
+              (List._∷_ 109 (List._∷_ 58 (List._∷_ 58 (List._∷_ 82 (List._∷_ 101 (List._∷_ 102 (List._∷_ 117 (List._∷_ 115 (List._∷_ 97 (List._∷_ 108 List.[]))))))))))))))) (Syntax.ttcons Syntax.tnil
+              (Syntax.ttcons Syntax.tnil (Syntax.ttcons Syntax.tnil (Syntax.ttcons (Syntax.tcons (Syntax.tyInt Syntax.w64) Syntax.tnil) (Syntax.ttcons Syntax.tnil (Syntax.ttcons Syntax.tnil (Syntax.ttcons
+              Syntax.tnil (Syntax.ttcons Syntax.tnil (Syntax.ttcons Syntax.tnil (Syntax.ttcons Syntax.tnil (Syntax.ttcons (Syntax.tcons (Syntax.tyInt Syntax.w64) Syntax.tnil) (Syntax.ttcons (Syntax.tcons
+              (Syntax.tyInt Syntax.w64) Syntax.tnil) (Syntax.ttcons Syntax.tnil (Syntax.ttcons (Syntax.tcons (Syntax.tyInt Syntax.w64) (Syntax.tcons (Syntax.tyInt Syntax.w64) Syntax.tnil)) (Syntax.ttcons
+              (Syntax.tcons (Syntax.tyInt Syntax.w64) Syntax.tnil) (Syntax.ttcons Syntax.tnil (Syntax.ttcons Syntax.tnil (Syntax.ttcons (Syntax.tcons (Syntax.tyInt Syntax.w64) Syntax.tnil) (Syntax.ttcons
+              (Syntax.tcons (Syntax.tyInt Syntax.w64) Syntax.tnil) (Syntax.ttcons (Syntax.tcons (Syntax.tyInt Syntax.w64) Syntax.tnil) (Syntax.ttcons Syntax.tnil Syntax.ttnil)))))))))))))))))))))),
+        )
+            (List._∷_ (9, Rows'.whole (Declared'.row FujiHeader.the-type)) (List._∷_ (10, Rows'.whole (Declared.row Decoded.the-type)) (List._∷_ (
+              11,
+              Rows'.any-gone (Syntax.tyRef Syntax.erased
+                  Syntax.mut (Syntax.tyInt Syntax.w16)),
+            ) (List._∷_ (12, Mut.msleft (Referent.rtF (Referent.fInt Syntax.w16)) (Syntax.tyRef Syntax.erased Syntax.mut (Syntax.tyInt Syntax.w16))) (List._∷_ (
+              13,
+              Rows'.any-gone (Syntax.tyRef Syntax.erased Syntax.mut (Syntax.tyInt Syntax.w16)),
+            ) (List._∷_ (
+              14,
+              Mut.msleft (Referent.rtF (Referent.fInt Syntax.w16)) (Syntax.tyRef Syntax.erased
+                  Syntax.mut (Syntax.tyInt Syntax.w16)),
+            ) (List._∷_ (15, Rows'.any-gone (Syntax.tyRef Syntax.erased Syntax.mut Element.behind)) List.[])))))))))))))))
+
+        abbrev g24 : List.List Row.Entry
+        g24 = List._∷_ (
+          0,
+          Rows'.any-gone (Syntax.tyEnum (List._∷_ 98 (List._∷_ 108 (List._∷_ 111 (List._∷_ 99 (List._∷_ 107 (List._∷_ 58 (List._∷_ 58 (List._∷_ 68 (List._∷_ 101 (List._∷_ 99
+              (List._∷_ 111 (List._∷_ 100 (List._∷_ 101 (List._∷_ 100 List.[])))))))))))))) (Syntax.ttcons Syntax.tnil (Syntax.ttcons (Syntax.tcons (Syntax.tyEnum (List._∷_ 115 (List._∷_ 116 (List._∷_ 114
+              (List._∷_ 101 (List._∷_ 97 (List._∷_ 109 (List._∷_ 58 (List._∷_ 58 (List._∷_ 82 (List._∷_ 101 (List._∷_ 102 (List._∷_ 117 (List._∷_ 115 (List._∷_ 97 (List._∷_ 108 List.[])))))))))))))))
+              (Syntax.ttcons Syntax.tnil (Syntax.ttcons Syntax.tnil (Syntax.ttcons Syntax.tnil (Syntax.ttcons (Syntax.tcons (Syntax.tyInt Syntax.w64) Syntax.tnil) (Syntax.ttcons Syntax.tnil (Syntax.ttcons
+              Syntax.tnil (Syntax.ttcons Syntax.tnil (Syntax.ttcons Syntax.tnil (Syntax.ttcons Syntax.tnil (Syntax.ttcons Syntax.tnil (Syntax.ttcons (Syntax.tcons (Syntax.tyInt Syntax.w64) Syntax.tnil)
+              (Syntax.ttcons (Syntax.tcons (Syntax.tyInt Syntax.w64) Syntax.tnil) (Syntax.ttcons Syntax.tnil (Syntax.ttcons (Syntax.tcons (Syntax.tyInt Syntax.w64) (Syntax.tcons (Syntax.tyInt Syntax.w64)
+              Syntax.tnil)) (Syntax.ttcons (Syntax.tcons (Syntax.tyInt Syntax.w64) Syntax.tnil) (Syntax.ttcons Syntax.tnil (Syntax.ttcons Syntax.tnil (Syntax.ttcons (Syntax.tcons (Syntax.tyInt Syntax.w64)
+              Syntax.tnil) (Syntax.ttcons (Syntax.tcons (Syntax.tyInt Syntax.w64) Syntax.tnil) (Syntax.ttcons (Syntax.tcons (Syntax.tyInt Syntax.w64) Syntax.tnil) (Syntax.ttcons Syntax.tnil
+              Syntax.ttnil)))))))))))))))))))))) Syntax.tnil) Syntax.ttnil))),
+        ) (List._∷_ (
+          1,
+          Rows'.sslice (Referent.rtF (Referent.fInt Syntax.w8)) (Syntax.tyRef (Syntax.named 0) Syntax.imm (Syntax.tyInt
+              Syntax.w8)) 0,
+        ) (List._∷_ (
+          2,
+          Rows'.any-gone (Syntax.tyStruct (List._∷_ 114 (List._∷_ 101 (List._∷_ 103 (List._∷_ 105 (List._∷_ 111 (List._∷_ 110 (List._∷_ 58 (List._∷_ 58 (List._∷_ 82
+              (List._∷_ 101 (List._∷_ 99 (List._∷_ 116 List.[])))))))))))) (Syntax.tcons (Syntax.tyInt Syntax.w64) (Syntax.tcons (Syntax.tyInt Syntax.w64) (Syntax.tcons (Syntax.tyInt Syntax.w64)
+              (Syntax.tcons (Syntax.tyInt Syntax.w64) Syntax.tnil))))),
+        ) (List._∷_ (3, Rows'.any-gone (Syntax.tyArray (Syntax.tyInt Syntax.w8) 36)) (List._∷_ (
+          4,
+          Relend.mslice-owed (Referent.rtF
+              (Referent.fInt Syntax.w16)) (Syntax.tyRef (Syntax.named 1) Syntax.mut (Syntax.tyInt Syntax.w16)) 1 4 (Row.lease (κs .1 .0) (qs .1 .0)),
+        ) (List._∷_ (
+          5,
+          Relend.mslice-owed (Referent.rtF
+              (Referent.fInt Syntax.w16)) (Syntax.tyRef (Syntax.named 2) Syntax.mut (Syntax.tyInt Syntax.w16)) 2 5 (Row.lease (κs .1 .1 .0) (qs .1 .1 .0)),
+        ) (List._∷_ (
+          6,
+          Relend.mslice-owed (Element.type)
+              (Syntax.tyRef (Syntax.named 3) Syntax.mut Element.behind) 3 6 (Row.lease (κs .1 .1 .1 .0) (qs .1 .1 .1 .0)),
+        ) (List._∷_ (
+          7,
+          Rows'.any-gone (Syntax.tyEnum (List._∷_ 115 (List._∷_ 116
+              (List._∷_ 114 (List._∷_ 101 (List._∷_ 97 (List._∷_ 109 (List._∷_ 58 (List._∷_ 58 (List._∷_ 80 (List._∷_ 97 (List._∷_ 114 (List._∷_ 115 (List._∷_ 101 (List._∷_ 100 List.[]))))))))))))))
+              (Syntax.ttcons (Syntax.tcons (Syntax.tyStruct (List._∷_ 115 (List._∷_ 116 (List._∷_ 114 (List._∷_ 101 (List._∷_ 97 (List._∷_ 109 (List._∷_ 58 (List._∷_ 58 (List._∷_ 70 (List._∷_ 117 (List._∷_
+              106 (List._∷_ 105 (List._∷_ 72 (List._∷_ 101 (List._∷_ 97 (List._∷_ 100 (List._∷_ 101 (List._∷_ 114 List.[])))))))))))))))))) (Syntax.tcons Syntax.tyBool (Syntax.tcons Syntax.tyBool
+              (Syntax.tcons (Syntax.tyInt Syntax.w32) (Syntax.tcons (Syntax.tyInt Syntax.w32) (Syntax.tcons (Syntax.tyInt Syntax.w32) (Syntax.tcons (Syntax.tyInt Syntax.w32) (Syntax.tcons (Syntax.tyInt
+              Syntax.w32) (Syntax.tcons (Syntax.tyInt Syntax.w32) (Syntax.tcons (Syntax.tyInt Syntax.w32) Syntax.tnil)))))))))) Syntax.tnil) (Syntax.ttcons (Syntax.tcons (Syntax.tyEnum (List._∷_ 115
+              (List._∷_ 116 (List._∷_ 114 (List._∷_ 101 (List._∷_ 97 (List._∷_ 109 (List._∷_ 58 (List._∷_ 58 (List._∷_ 82 (List._∷_ 101 (List._∷_ 102 (List._∷_ 117 (List._∷_ 115 (List._∷_ 97 (List._∷_ 108
+              List.[]))))))))))))))) (Syntax.ttcons Syntax.tnil (Syntax.ttcons Syntax.tnil (Syntax.ttcons Syntax.tnil (Syntax.ttcons (Syntax.tcons (Syntax.tyInt Syntax.w64) Syntax.tnil) (Syntax.ttcons
+              Syntax.tnil (Syntax.ttcons Syntax.tnil (Syntax.ttcons Syntax.tnil (Syntax.ttcons Syntax.tnil (Syntax.ttcons Syntax.tnil (Syntax.ttcons Syntax.tnil (Syntax.ttcons (Syntax.tcons (Syntax.tyInt
+              Syntax.w64) Syntax.tnil) (Syntax.ttcons (Syntax.tcons (Syntax.tyInt Syntax.w64) Syntax.tnil) (Syntax.ttcons Syntax.tnil (Syntax.ttcons (Syntax.tcons (Syntax.tyInt Syntax.w64) (Syntax.tcons
+              (Syntax.tyInt Syntax.w64) Syntax.tnil)) (Syntax.ttcons (Syntax.tcons (Syntax.tyInt Syntax.w64) Syntax.tnil) (Syntax.ttcons Syntax.tnil (Syntax.ttcons Syntax.tnil (Syntax.ttcons (Syntax.tcons
+              (Syntax.tyInt Syntax.w64) Syntax.tnil) (Syntax.ttcons (Syntax.tcons (Syntax.tyInt Syntax.w64) Syntax.tnil) (Syntax.ttcons (Syntax.tcons (Syntax.tyInt Syntax.w64) Syntax.tnil) (Syntax.ttcons
+              Syntax.tnil Syntax.ttnil)))))))))))))))))))))) Syntax.tnil) Syntax.ttnil))),
+        ) (List._∷_ (
+          8,
+          Rows'.any-gone (Syntax.tyEnum (List._∷_ 115 (List._∷_ 116 (List._∷_ 114 (List._∷_ 101 (List._∷_ 97
+              (List._∷_ 109 (List._∷_ 58 (List._∷_ 58 (List._∷_ 82 (List._∷_ 101 (List._∷_ 102 (List._∷_ 117 (List._∷_ 115 (List._∷_ 97 (List._∷_ 108 List.[]))))))))))))))) (Syntax.ttcons Syntax.tnil
+              (Syntax.ttcons Syntax.tnil (Syntax.ttcons Syntax.tnil (Syntax.ttcons (Syntax.tcons (Syntax.tyInt Syntax.w64) Syntax.tnil) (Syntax.ttcons Syntax.tnil (Syntax.ttcons Syntax.tnil (Syntax.ttcons
+              Syntax.tnil (Syntax.ttcons Syntax.tnil (Syntax.ttcons Syntax.tnil (Syntax.ttcons Syntax.tnil (Syntax.ttcons (Syntax.tcons (Syntax.tyInt Syntax.w64) Syntax.tnil) (Syntax.ttcons (Syntax.tcons
+              (Syntax.tyInt Syntax.w64) Syntax.tnil) (Syntax.ttcons Syntax.tnil (Syntax.ttcons (Syntax.tcons (Syntax.tyInt Syntax.w64) (Syntax.tcons (Syntax.tyInt Syntax.w64) Syntax.tnil)) (Syntax.ttcons
+              (Syntax.tcons (Syntax.tyInt Syntax.w64) Syntax.tnil) (Syntax.ttcons Syntax.tnil (Syntax.ttcons Syntax.tnil (Syntax.ttcons (Syntax.tcons (Syntax.tyInt Syntax.w64) Syntax.tnil) (Syntax.ttcons
+              (Syntax.tcons (Syntax.tyInt Syntax.w64) Syntax.tnil) (Syntax.ttcons (Syntax.tcons (Syntax.tyInt Syntax.w64) Syntax.tnil) (Syntax.ttcons Syntax.tnil Syntax.ttnil)))))))))))))))))))))),
+        )
+            (List._∷_ (9, Rows'.whole (Declared'.row FujiHeader.the-type)) (List._∷_ (10, Rows'.whole (Declared.row Decoded.the-type)) (List._∷_ (
+              11,
+              Rows'.any-gone (Syntax.tyRef Syntax.erased
+                  Syntax.mut (Syntax.tyInt Syntax.w16)),
+            ) (List._∷_ (12, Mut.msleft (Referent.rtF (Referent.fInt Syntax.w16)) (Syntax.tyRef Syntax.erased Syntax.mut (Syntax.tyInt Syntax.w16))) (List._∷_ (
+              13,
+              Rows'.any-gone (Syntax.tyRef Syntax.erased Syntax.mut (Syntax.tyInt Syntax.w16)),
+            ) (List._∷_ (
+              14,
+              Mut.msleft (Referent.rtF (Referent.fInt Syntax.w16)) (Syntax.tyRef Syntax.erased
+                  Syntax.mut (Syntax.tyInt Syntax.w16)),
+            ) (List._∷_ (15, Rows'.any-gone (Syntax.tyRef Syntax.erased Syntax.mut Element.behind)) List.[])))))))))))))))
+
+        abbrev g25 : List.List Row.Entry
+        g25 = List._∷_ (
+          0,
+          Rows'.any-gone (Syntax.tyEnum (List._∷_ 98 (List._∷_ 108 (List._∷_ 111 (List._∷_ 99 (List._∷_ 107 (List._∷_ 58 (List._∷_ 58 (List._∷_ 68 (List._∷_ 101 (List._∷_ 99
+              (List._∷_ 111 (List._∷_ 100 (List._∷_ 101 (List._∷_ 100 List.[])))))))))))))) (Syntax.ttcons Syntax.tnil (Syntax.ttcons (Syntax.tcons (Syntax.tyEnum (List._∷_ 115 (List._∷_ 116 (List._∷_ 114
+              (List._∷_ 101 (List._∷_ 97 (List._∷_ 109 (List._∷_ 58 (List._∷_ 58 (List._∷_ 82 (List._∷_ 101 (List._∷_ 102 (List._∷_ 117 (List._∷_ 115 (List._∷_ 97 (List._∷_ 108 List.[])))))))))))))))
+              (Syntax.ttcons Syntax.tnil (Syntax.ttcons Syntax.tnil (Syntax.ttcons Syntax.tnil (Syntax.ttcons (Syntax.tcons (Syntax.tyInt Syntax.w64) Syntax.tnil) (Syntax.ttcons Syntax.tnil (Syntax.ttcons
+              Syntax.tnil (Syntax.ttcons Syntax.tnil (Syntax.ttcons Syntax.tnil (Syntax.ttcons Syntax.tnil (Syntax.ttcons Syntax.tnil (Syntax.ttcons (Syntax.tcons (Syntax.tyInt Syntax.w64) Syntax.tnil)
+              (Syntax.ttcons (Syntax.tcons (Syntax.tyInt Syntax.w64) Syntax.tnil) (Syntax.ttcons Syntax.tnil (Syntax.ttcons (Syntax.tcons (Syntax.tyInt Syntax.w64) (Syntax.tcons (Syntax.tyInt Syntax.w64)
+              Syntax.tnil)) (Syntax.ttcons (Syntax.tcons (Syntax.tyInt Syntax.w64) Syntax.tnil) (Syntax.ttcons Syntax.tnil (Syntax.ttcons Syntax.tnil (Syntax.ttcons (Syntax.tcons (Syntax.tyInt Syntax.w64)
+              Syntax.tnil) (Syntax.ttcons (Syntax.tcons (Syntax.tyInt Syntax.w64) Syntax.tnil) (Syntax.ttcons (Syntax.tcons (Syntax.tyInt Syntax.w64) Syntax.tnil) (Syntax.ttcons Syntax.tnil
+              Syntax.ttnil)))))))))))))))))))))) Syntax.tnil) Syntax.ttnil))),
+        ) (List._∷_ (
+          1,
+          Rows'.sslice (Referent.rtF (Referent.fInt Syntax.w8)) (Syntax.tyRef (Syntax.named 0) Syntax.imm (Syntax.tyInt
+              Syntax.w8)) 0,
+        ) (List._∷_ (
+          2,
+          Rows'.any-gone (Syntax.tyStruct (List._∷_ 114 (List._∷_ 101 (List._∷_ 103 (List._∷_ 105 (List._∷_ 111 (List._∷_ 110 (List._∷_ 58 (List._∷_ 58 (List._∷_ 82
+              (List._∷_ 101 (List._∷_ 99 (List._∷_ 116 List.[])))))))))))) (Syntax.tcons (Syntax.tyInt Syntax.w64) (Syntax.tcons (Syntax.tyInt Syntax.w64) (Syntax.tcons (Syntax.tyInt Syntax.w64)
+              (Syntax.tcons (Syntax.tyInt Syntax.w64) Syntax.tnil))))),
+        ) (List._∷_ (3, Rows'.any-gone (Syntax.tyArray (Syntax.tyInt Syntax.w8) 36)) (List._∷_ (
+          4,
+          Relend.mslice-owed (Referent.rtF
+              (Referent.fInt Syntax.w16)) (Syntax.tyRef (Syntax.named 1) Syntax.mut (Syntax.tyInt Syntax.w16)) 1 4 (Row.lease (κs .1 .0) (qs .1 .0)),
+        ) (List._∷_ (
+          5,
+          Relend.mslice-owed (Referent.rtF
+              (Referent.fInt Syntax.w16)) (Syntax.tyRef (Syntax.named 2) Syntax.mut (Syntax.tyInt Syntax.w16)) 2 5 (Row.lease (κs .1 .1 .0) (qs .1 .1 .0)),
+        ) (List._∷_ (
+          6,
+          Relend.mslice-owed (Element.type)
+              (Syntax.tyRef (Syntax.named 3) Syntax.mut Element.behind) 3 6 (Row.lease (κs .1 .1 .1 .0) (qs .1 .1 .1 .0)),
+        ) (List._∷_ (
+          7,
+          Rows'.any-gone (Syntax.tyEnum (List._∷_ 115 (List._∷_ 116
+              (List._∷_ 114 (List._∷_ 101 (List._∷_ 97 (List._∷_ 109 (List._∷_ 58 (List._∷_ 58 (List._∷_ 80 (List._∷_ 97 (List._∷_ 114 (List._∷_ 115 (List._∷_ 101 (List._∷_ 100 List.[]))))))))))))))
+              (Syntax.ttcons (Syntax.tcons (Syntax.tyStruct (List._∷_ 115 (List._∷_ 116 (List._∷_ 114 (List._∷_ 101 (List._∷_ 97 (List._∷_ 109 (List._∷_ 58 (List._∷_ 58 (List._∷_ 70 (List._∷_ 117 (List._∷_
+              106 (List._∷_ 105 (List._∷_ 72 (List._∷_ 101 (List._∷_ 97 (List._∷_ 100 (List._∷_ 101 (List._∷_ 114 List.[])))))))))))))))))) (Syntax.tcons Syntax.tyBool (Syntax.tcons Syntax.tyBool
+              (Syntax.tcons (Syntax.tyInt Syntax.w32) (Syntax.tcons (Syntax.tyInt Syntax.w32) (Syntax.tcons (Syntax.tyInt Syntax.w32) (Syntax.tcons (Syntax.tyInt Syntax.w32) (Syntax.tcons (Syntax.tyInt
+              Syntax.w32) (Syntax.tcons (Syntax.tyInt Syntax.w32) (Syntax.tcons (Syntax.tyInt Syntax.w32) Syntax.tnil)))))))))) Syntax.tnil) (Syntax.ttcons (Syntax.tcons (Syntax.tyEnum (List._∷_ 115
+              (List._∷_ 116 (List._∷_ 114 (List._∷_ 101 (List._∷_ 97 (List._∷_ 109 (List._∷_ 58 (List._∷_ 58 (List._∷_ 82 (List._∷_ 101 (List._∷_ 102 (List._∷_ 117 (List._∷_ 115 (List._∷_ 97 (List._∷_ 108
+              List.[]))))))))))))))) (Syntax.ttcons Syntax.tnil (Syntax.ttcons Syntax.tnil (Syntax.ttcons Syntax.tnil (Syntax.ttcons (Syntax.tcons (Syntax.tyInt Syntax.w64) Syntax.tnil) (Syntax.ttcons
+              Syntax.tnil (Syntax.ttcons Syntax.tnil (Syntax.ttcons Syntax.tnil (Syntax.ttcons Syntax.tnil (Syntax.ttcons Syntax.tnil (Syntax.ttcons Syntax.tnil (Syntax.ttcons (Syntax.tcons (Syntax.tyInt
+              Syntax.w64) Syntax.tnil) (Syntax.ttcons (Syntax.tcons (Syntax.tyInt Syntax.w64) Syntax.tnil) (Syntax.ttcons Syntax.tnil (Syntax.ttcons (Syntax.tcons (Syntax.tyInt Syntax.w64) (Syntax.tcons
+              (Syntax.tyInt Syntax.w64) Syntax.tnil)) (Syntax.ttcons (Syntax.tcons (Syntax.tyInt Syntax.w64) Syntax.tnil) (Syntax.ttcons Syntax.tnil (Syntax.ttcons Syntax.tnil (Syntax.ttcons (Syntax.tcons
+              (Syntax.tyInt Syntax.w64) Syntax.tnil) (Syntax.ttcons (Syntax.tcons (Syntax.tyInt Syntax.w64) Syntax.tnil) (Syntax.ttcons (Syntax.tcons (Syntax.tyInt Syntax.w64) Syntax.tnil) (Syntax.ttcons
+              Syntax.tnil Syntax.ttnil)))))))))))))))))))))) Syntax.tnil) Syntax.ttnil))),
+        ) (List._∷_ (
+          8,
+          Rows'.any-gone (Syntax.tyEnum (List._∷_ 115 (List._∷_ 116 (List._∷_ 114 (List._∷_ 101 (List._∷_ 97
+              (List._∷_ 109 (List._∷_ 58 (List._∷_ 58 (List._∷_ 82 (List._∷_ 101 (List._∷_ 102 (List._∷_ 117 (List._∷_ 115 (List._∷_ 97 (List._∷_ 108 List.[]))))))))))))))) (Syntax.ttcons Syntax.tnil
+              (Syntax.ttcons Syntax.tnil (Syntax.ttcons Syntax.tnil (Syntax.ttcons (Syntax.tcons (Syntax.tyInt Syntax.w64) Syntax.tnil) (Syntax.ttcons Syntax.tnil (Syntax.ttcons Syntax.tnil (Syntax.ttcons
+              Syntax.tnil (Syntax.ttcons Syntax.tnil (Syntax.ttcons Syntax.tnil (Syntax.ttcons Syntax.tnil (Syntax.ttcons (Syntax.tcons (Syntax.tyInt Syntax.w64) Syntax.tnil) (Syntax.ttcons (Syntax.tcons
+              (Syntax.tyInt Syntax.w64) Syntax.tnil) (Syntax.ttcons Syntax.tnil (Syntax.ttcons (Syntax.tcons (Syntax.tyInt Syntax.w64) (Syntax.tcons (Syntax.tyInt Syntax.w64) Syntax.tnil)) (Syntax.ttcons
+              (Syntax.tcons (Syntax.tyInt Syntax.w64) Syntax.tnil) (Syntax.ttcons Syntax.tnil (Syntax.ttcons Syntax.tnil (Syntax.ttcons (Syntax.tcons (Syntax.tyInt Syntax.w64) Syntax.tnil) (Syntax.ttcons
+              (Syntax.tcons (Syntax.tyInt Syntax.w64) Syntax.tnil) (Syntax.ttcons (Syntax.tcons (Syntax.tyInt Syntax.w64) Syntax.tnil) (Syntax.ttcons Syntax.tnil Syntax.ttnil)))))))))))))))))))))),
+        )
+            (List._∷_ (
+              9,
+              Rows'.any-gone (Syntax.tyStruct (List._∷_ 115 (List._∷_ 116 (List._∷_ 114 (List._∷_ 101 (List._∷_ 97 (List._∷_ 109 (List._∷_ 58 (List._∷_ 58 (List._∷_ 70 (List._∷_ 117 (List._∷_
+                  106 (List._∷_ 105 (List._∷_ 72 (List._∷_ 101 (List._∷_ 97 (List._∷_ 100 (List._∷_ 101 (List._∷_ 114 List.[])))))))))))))))))) (Syntax.tcons Syntax.tyBool (Syntax.tcons Syntax.tyBool
+                  (Syntax.tcons (Syntax.tyInt Syntax.w32) (Syntax.tcons (Syntax.tyInt Syntax.w32) (Syntax.tcons (Syntax.tyInt Syntax.w32) (Syntax.tcons (Syntax.tyInt Syntax.w32) (Syntax.tcons (Syntax.tyInt
+                  Syntax.w32) (Syntax.tcons (Syntax.tyInt Syntax.w32) (Syntax.tcons (Syntax.tyInt Syntax.w32) Syntax.tnil)))))))))),
+            ) (List._∷_ (10, Rows'.whole (Declared.row Decoded.the-type)) (List._∷_ (
+              11,
+              Rows'.any-gone (Syntax.tyRef Syntax.erased Syntax.mut (Syntax.tyInt Syntax.w16)),
+            ) (List._∷_ (
+              12,
+              Mut.msleft (Referent.rtF (Referent.fInt Syntax.w16)) (Syntax.tyRef Syntax.erased Syntax.mut
+                  (Syntax.tyInt Syntax.w16)),
+            ) (List._∷_ (13, Rows'.any-gone (Syntax.tyRef Syntax.erased Syntax.mut (Syntax.tyInt Syntax.w16))) (List._∷_ (
+              14,
+              Mut.msleft (Referent.rtF (Referent.fInt
+                  Syntax.w16)) (Syntax.tyRef Syntax.erased Syntax.mut (Syntax.tyInt Syntax.w16)),
+            ) (List._∷_ (15, Rows'.any-gone (Syntax.tyRef Syntax.erased Syntax.mut Element.behind))
+            List.[])))))))))))))))
+
+        abbrev g26 : List.List Row.Entry
+        g26 = List._∷_ (
+          0,
+          Rows'.any-gone (Syntax.tyEnum (List._∷_ 98 (List._∷_ 108 (List._∷_ 111 (List._∷_ 99 (List._∷_ 107 (List._∷_ 58 (List._∷_ 58 (List._∷_ 68 (List._∷_ 101 (List._∷_ 99
+              (List._∷_ 111 (List._∷_ 100 (List._∷_ 101 (List._∷_ 100 List.[])))))))))))))) (Syntax.ttcons Syntax.tnil (Syntax.ttcons (Syntax.tcons (Syntax.tyEnum (List._∷_ 115 (List._∷_ 116 (List._∷_ 114
+              (List._∷_ 101 (List._∷_ 97 (List._∷_ 109 (List._∷_ 58 (List._∷_ 58 (List._∷_ 82 (List._∷_ 101 (List._∷_ 102 (List._∷_ 117 (List._∷_ 115 (List._∷_ 97 (List._∷_ 108 List.[])))))))))))))))
+              (Syntax.ttcons Syntax.tnil (Syntax.ttcons Syntax.tnil (Syntax.ttcons Syntax.tnil (Syntax.ttcons (Syntax.tcons (Syntax.tyInt Syntax.w64) Syntax.tnil) (Syntax.ttcons Syntax.tnil (Syntax.ttcons
+              Syntax.tnil (Syntax.ttcons Syntax.tnil (Syntax.ttcons Syntax.tnil (Syntax.ttcons Syntax.tnil (Syntax.ttcons Syntax.tnil (Syntax.ttcons (Syntax.tcons (Syntax.tyInt Syntax.w64) Syntax.tnil)
+              (Syntax.ttcons (Syntax.tcons (Syntax.tyInt Syntax.w64) Syntax.tnil) (Syntax.ttcons Syntax.tnil (Syntax.ttcons (Syntax.tcons (Syntax.tyInt Syntax.w64) (Syntax.tcons (Syntax.tyInt Syntax.w64)
+              Syntax.tnil)) (Syntax.ttcons (Syntax.tcons (Syntax.tyInt Syntax.w64) Syntax.tnil) (Syntax.ttcons Syntax.tnil (Syntax.ttcons Syntax.tnil (Syntax.ttcons (Syntax.tcons (Syntax.tyInt Syntax.w64)
+              Syntax.tnil) (Syntax.ttcons (Syntax.tcons (Syntax.tyInt Syntax.w64) Syntax.tnil) (Syntax.ttcons (Syntax.tcons (Syntax.tyInt Syntax.w64) Syntax.tnil) (Syntax.ttcons Syntax.tnil
+              Syntax.ttnil)))))))))))))))))))))) Syntax.tnil) Syntax.ttnil))),
+        ) (List._∷_ (
+          1,
+          Rows'.sslice (Referent.rtF (Referent.fInt Syntax.w8)) (Syntax.tyRef (Syntax.named 0) Syntax.imm (Syntax.tyInt
+              Syntax.w8)) 0,
+        ) (List._∷_ (
+          2,
+          Rows'.any-gone (Syntax.tyStruct (List._∷_ 114 (List._∷_ 101 (List._∷_ 103 (List._∷_ 105 (List._∷_ 111 (List._∷_ 110 (List._∷_ 58 (List._∷_ 58 (List._∷_ 82
+              (List._∷_ 101 (List._∷_ 99 (List._∷_ 116 List.[])))))))))))) (Syntax.tcons (Syntax.tyInt Syntax.w64) (Syntax.tcons (Syntax.tyInt Syntax.w64) (Syntax.tcons (Syntax.tyInt Syntax.w64)
+              (Syntax.tcons (Syntax.tyInt Syntax.w64) Syntax.tnil))))),
+        ) (List._∷_ (3, Rows'.any-gone (Syntax.tyArray (Syntax.tyInt Syntax.w8) 36)) (List._∷_ (
+          4,
+          Mut.mslice (Referent.rtF (Referent.fInt
+              Syntax.w16)) (Syntax.tyRef (Syntax.named 1) Syntax.mut (Syntax.tyInt Syntax.w16)) 1,
+        ) (List._∷_ (
+          5,
+          Relend.mslice-owed (Referent.rtF (Referent.fInt Syntax.w16)) (Syntax.tyRef (Syntax.named
+              2) Syntax.mut (Syntax.tyInt Syntax.w16)) 2 5 (Row.lease (κs .1 .1 .0) (qs .1 .1 .0)),
+        ) (List._∷_ (
+          6,
+          Relend.mslice-owed (Element.type) (Syntax.tyRef (Syntax.named 3) Syntax.mut
+              Element.behind) 3 6 (Row.lease (κs .1 .1 .1 .0) (qs .1 .1 .1 .0)),
+        ) (List._∷_ (
+          7,
+          Rows'.any-gone (Syntax.tyEnum (List._∷_ 115 (List._∷_ 116 (List._∷_ 114 (List._∷_ 101 (List._∷_ 97 (List._∷_
+              109 (List._∷_ 58 (List._∷_ 58 (List._∷_ 80 (List._∷_ 97 (List._∷_ 114 (List._∷_ 115 (List._∷_ 101 (List._∷_ 100 List.[])))))))))))))) (Syntax.ttcons (Syntax.tcons (Syntax.tyStruct (List._∷_
+              115 (List._∷_ 116 (List._∷_ 114 (List._∷_ 101 (List._∷_ 97 (List._∷_ 109 (List._∷_ 58 (List._∷_ 58 (List._∷_ 70 (List._∷_ 117 (List._∷_ 106 (List._∷_ 105 (List._∷_ 72 (List._∷_ 101 (List._∷_
+              97 (List._∷_ 100 (List._∷_ 101 (List._∷_ 114 List.[])))))))))))))))))) (Syntax.tcons Syntax.tyBool (Syntax.tcons Syntax.tyBool (Syntax.tcons (Syntax.tyInt Syntax.w32) (Syntax.tcons
+              (Syntax.tyInt Syntax.w32) (Syntax.tcons (Syntax.tyInt Syntax.w32) (Syntax.tcons (Syntax.tyInt Syntax.w32) (Syntax.tcons (Syntax.tyInt Syntax.w32) (Syntax.tcons (Syntax.tyInt Syntax.w32)
+              (Syntax.tcons (Syntax.tyInt Syntax.w32) Syntax.tnil)))))))))) Syntax.tnil) (Syntax.ttcons (Syntax.tcons (Syntax.tyEnum (List._∷_ 115 (List._∷_ 116 (List._∷_ 114 (List._∷_ 101 (List._∷_ 97
+              (List._∷_ 109 (List._∷_ 58 (List._∷_ 58 (List._∷_ 82 (List._∷_ 101 (List._∷_ 102 (List._∷_ 117 (List._∷_ 115 (List._∷_ 97 (List._∷_ 108 List.[]))))))))))))))) (Syntax.ttcons Syntax.tnil
+              (Syntax.ttcons Syntax.tnil (Syntax.ttcons Syntax.tnil (Syntax.ttcons (Syntax.tcons (Syntax.tyInt Syntax.w64) Syntax.tnil) (Syntax.ttcons Syntax.tnil (Syntax.ttcons Syntax.tnil (Syntax.ttcons
+              Syntax.tnil (Syntax.ttcons Syntax.tnil (Syntax.ttcons Syntax.tnil (Syntax.ttcons Syntax.tnil (Syntax.ttcons (Syntax.tcons (Syntax.tyInt Syntax.w64) Syntax.tnil) (Syntax.ttcons (Syntax.tcons
+              (Syntax.tyInt Syntax.w64) Syntax.tnil) (Syntax.ttcons Syntax.tnil (Syntax.ttcons (Syntax.tcons (Syntax.tyInt Syntax.w64) (Syntax.tcons (Syntax.tyInt Syntax.w64) Syntax.tnil)) (Syntax.ttcons
+              (Syntax.tcons (Syntax.tyInt Syntax.w64) Syntax.tnil) (Syntax.ttcons Syntax.tnil (Syntax.ttcons Syntax.tnil (Syntax.ttcons (Syntax.tcons (Syntax.tyInt Syntax.w64) Syntax.tnil) (Syntax.ttcons
+              (Syntax.tcons (Syntax.tyInt Syntax.w64) Syntax.tnil) (Syntax.ttcons (Syntax.tcons (Syntax.tyInt Syntax.w64) Syntax.tnil) (Syntax.ttcons Syntax.tnil Syntax.ttnil))))))))))))))))))))))
+              Syntax.tnil) Syntax.ttnil))),
+        ) (List._∷_ (
+          8,
+          Rows'.any-gone (Syntax.tyEnum (List._∷_ 115 (List._∷_ 116 (List._∷_ 114 (List._∷_ 101 (List._∷_ 97 (List._∷_ 109 (List._∷_ 58 (List._∷_ 58
+              (List._∷_ 82 (List._∷_ 101 (List._∷_ 102 (List._∷_ 117 (List._∷_ 115 (List._∷_ 97 (List._∷_ 108 List.[]))))))))))))))) (Syntax.ttcons Syntax.tnil (Syntax.ttcons Syntax.tnil (Syntax.ttcons
+              Syntax.tnil (Syntax.ttcons (Syntax.tcons (Syntax.tyInt Syntax.w64) Syntax.tnil) (Syntax.ttcons Syntax.tnil (Syntax.ttcons Syntax.tnil (Syntax.ttcons Syntax.tnil (Syntax.ttcons Syntax.tnil
+              (Syntax.ttcons Syntax.tnil (Syntax.ttcons Syntax.tnil (Syntax.ttcons (Syntax.tcons (Syntax.tyInt Syntax.w64) Syntax.tnil) (Syntax.ttcons (Syntax.tcons (Syntax.tyInt Syntax.w64) Syntax.tnil)
+              (Syntax.ttcons Syntax.tnil (Syntax.ttcons (Syntax.tcons (Syntax.tyInt Syntax.w64) (Syntax.tcons (Syntax.tyInt Syntax.w64) Syntax.tnil)) (Syntax.ttcons (Syntax.tcons (Syntax.tyInt Syntax.w64)
+              Syntax.tnil) (Syntax.ttcons Syntax.tnil (Syntax.ttcons Syntax.tnil (Syntax.ttcons (Syntax.tcons (Syntax.tyInt Syntax.w64) Syntax.tnil) (Syntax.ttcons (Syntax.tcons (Syntax.tyInt Syntax.w64)
+              Syntax.tnil) (Syntax.ttcons (Syntax.tcons (Syntax.tyInt Syntax.w64) Syntax.tnil) (Syntax.ttcons Syntax.tnil Syntax.ttnil)))))))))))))))))))))),
+        ) (List._∷_ (
+          9,
+          Rows'.any-gone (Syntax.tyStruct
+              (List._∷_ 115 (List._∷_ 116 (List._∷_ 114 (List._∷_ 101 (List._∷_ 97 (List._∷_ 109 (List._∷_ 58 (List._∷_ 58 (List._∷_ 70 (List._∷_ 117 (List._∷_ 106 (List._∷_ 105 (List._∷_ 72 (List._∷_ 101
+              (List._∷_ 97 (List._∷_ 100 (List._∷_ 101 (List._∷_ 114 List.[])))))))))))))))))) (Syntax.tcons Syntax.tyBool (Syntax.tcons Syntax.tyBool (Syntax.tcons (Syntax.tyInt Syntax.w32) (Syntax.tcons
+              (Syntax.tyInt Syntax.w32) (Syntax.tcons (Syntax.tyInt Syntax.w32) (Syntax.tcons (Syntax.tyInt Syntax.w32) (Syntax.tcons (Syntax.tyInt Syntax.w32) (Syntax.tcons (Syntax.tyInt Syntax.w32)
+              (Syntax.tcons (Syntax.tyInt Syntax.w32) Syntax.tnil)))))))))),
+        ) (List._∷_ (10, Rows'.whole (Declared.row Decoded.the-type)) (List._∷_ (
+          11,
+          Rows'.any-gone (Syntax.tyRef Syntax.erased
+              Syntax.mut (Syntax.tyInt Syntax.w16)),
+        ) (List._∷_ (
+          12,
+          Rows'.any-gone (Syntax.tyStruct (List._∷_ 38 (List._∷_ 91 (List._∷_ 93 List.[]))) (Syntax.tcons (Syntax.tyRef Syntax.erased Syntax.mut
+              (Syntax.tyInt Syntax.w16)) (Syntax.tcons (Syntax.tyInt Syntax.w64) Syntax.tnil))),
+        ) (List._∷_ (13, Rows'.any-gone (Syntax.tyRef Syntax.erased Syntax.mut (Syntax.tyInt Syntax.w16)))
+            (List._∷_ (14, Mut.msleft (Referent.rtF (Referent.fInt Syntax.w16)) (Syntax.tyRef Syntax.erased Syntax.mut (Syntax.tyInt Syntax.w16))) (List._∷_ (
+              15,
+              Rows'.any-gone (Syntax.tyRef
+                  Syntax.erased Syntax.mut Element.behind),
+            ) List.[])))))))))))))))
+
+        abbrev g27 : List.List Row.Entry
+        g27 = List._∷_ (
+          0,
+          Rows'.any-gone (Syntax.tyEnum (List._∷_ 98 (List._∷_ 108 (List._∷_ 111 (List._∷_ 99 (List._∷_ 107 (List._∷_ 58 (List._∷_ 58 (List._∷_ 68 (List._∷_ 101 (List._∷_ 99
+              (List._∷_ 111 (List._∷_ 100 (List._∷_ 101 (List._∷_ 100 List.[])))))))))))))) (Syntax.ttcons Syntax.tnil (Syntax.ttcons (Syntax.tcons (Syntax.tyEnum (List._∷_ 115 (List._∷_ 116 (List._∷_ 114
+              (List._∷_ 101 (List._∷_ 97 (List._∷_ 109 (List._∷_ 58 (List._∷_ 58 (List._∷_ 82 (List._∷_ 101 (List._∷_ 102 (List._∷_ 117 (List._∷_ 115 (List._∷_ 97 (List._∷_ 108 List.[])))))))))))))))
+              (Syntax.ttcons Syntax.tnil (Syntax.ttcons Syntax.tnil (Syntax.ttcons Syntax.tnil (Syntax.ttcons (Syntax.tcons (Syntax.tyInt Syntax.w64) Syntax.tnil) (Syntax.ttcons Syntax.tnil (Syntax.ttcons
+              Syntax.tnil (Syntax.ttcons Syntax.tnil (Syntax.ttcons Syntax.tnil (Syntax.ttcons Syntax.tnil (Syntax.ttcons Syntax.tnil (Syntax.ttcons (Syntax.tcons (Syntax.tyInt Syntax.w64) Syntax.tnil)
+              (Syntax.ttcons (Syntax.tcons (Syntax.tyInt Syntax.w64) Syntax.tnil) (Syntax.ttcons Syntax.tnil (Syntax.ttcons (Syntax.tcons (Syntax.tyInt Syntax.w64) (Syntax.tcons (Syntax.tyInt Syntax.w64)
+              Syntax.tnil)) (Syntax.ttcons (Syntax.tcons (Syntax.tyInt Syntax.w64) Syntax.tnil) (Syntax.ttcons Syntax.tnil (Syntax.ttcons Syntax.tnil (Syntax.ttcons (Syntax.tcons (Syntax.tyInt Syntax.w64)
+              Syntax.tnil) (Syntax.ttcons (Syntax.tcons (Syntax.tyInt Syntax.w64) Syntax.tnil) (Syntax.ttcons (Syntax.tcons (Syntax.tyInt Syntax.w64) Syntax.tnil) (Syntax.ttcons Syntax.tnil
+              Syntax.ttnil)))))))))))))))))))))) Syntax.tnil) Syntax.ttnil))),
+        ) (List._∷_ (
+          1,
+          Rows'.sslice (Referent.rtF (Referent.fInt Syntax.w8)) (Syntax.tyRef (Syntax.named 0) Syntax.imm (Syntax.tyInt
+              Syntax.w8)) 0,
+        ) (List._∷_ (
+          2,
+          Rows'.any-gone (Syntax.tyStruct (List._∷_ 114 (List._∷_ 101 (List._∷_ 103 (List._∷_ 105 (List._∷_ 111 (List._∷_ 110 (List._∷_ 58 (List._∷_ 58 (List._∷_ 82
+              (List._∷_ 101 (List._∷_ 99 (List._∷_ 116 List.[])))))))))))) (Syntax.tcons (Syntax.tyInt Syntax.w64) (Syntax.tcons (Syntax.tyInt Syntax.w64) (Syntax.tcons (Syntax.tyInt Syntax.w64)
+              (Syntax.tcons (Syntax.tyInt Syntax.w64) Syntax.tnil))))),
+        ) (List._∷_ (3, Rows'.any-gone (Syntax.tyArray (Syntax.tyInt Syntax.w8) 36)) (List._∷_ (
+          4,
+          Mut.mslice (Referent.rtF (Referent.fInt
+              Syntax.w16)) (Syntax.tyRef (Syntax.named 1) Syntax.mut (Syntax.tyInt Syntax.w16)) 1,
+        ) (List._∷_ (
+          5,
+          Mut.mslice (Referent.rtF (Referent.fInt Syntax.w16)) (Syntax.tyRef (Syntax.named 2)
+              Syntax.mut (Syntax.tyInt Syntax.w16)) 2,
         ) (List._∷_ (
           6,
           Relend.mslice-owed (Element.type) (Syntax.tyRef (Syntax.named 3) Syntax.mut Element.behind) 3 6 (Row.lease (κs .1 .1 .1 .0) (qs .1 .1
@@ -3068,223 +3488,23 @@ module _ (claims· : Claims) where
               Syntax.tnil (Syntax.ttcons (Syntax.tcons (Syntax.tyInt Syntax.w64) Syntax.tnil) (Syntax.ttcons Syntax.tnil (Syntax.ttcons Syntax.tnil (Syntax.ttcons Syntax.tnil (Syntax.ttcons Syntax.tnil
               (Syntax.ttcons Syntax.tnil (Syntax.ttcons Syntax.tnil (Syntax.ttcons (Syntax.tcons (Syntax.tyInt Syntax.w64) Syntax.tnil) (Syntax.ttcons (Syntax.tcons (Syntax.tyInt Syntax.w64) Syntax.tnil)
               (Syntax.ttcons Syntax.tnil (Syntax.ttcons (Syntax.tcons (Syntax.tyInt Syntax.w64) (Syntax.tcons (Syntax.tyInt Syntax.w64) Syntax.tnil)) (Syntax.ttcons (Syntax.tcons (Syntax.tyInt Syntax.w64)
-              Syntax.tnil) (Syntax.ttcons Syntax.tnil Syntax.ttnil))))))))))))))))) Syntax.tnil) Syntax.ttnil))),
+              Syntax.tnil) (Syntax.ttcons Syntax.tnil (Syntax.ttcons Syntax.tnil (Syntax.ttcons (Syntax.tcons (Syntax.tyInt Syntax.w64) Syntax.tnil) (Syntax.ttcons (Syntax.tcons (Syntax.tyInt Syntax.w64)
+              Syntax.tnil) (Syntax.ttcons (Syntax.tcons (Syntax.tyInt Syntax.w64) Syntax.tnil) (Syntax.ttcons Syntax.tnil Syntax.ttnil)))))))))))))))))))))) Syntax.tnil) Syntax.ttnil))),
         ) (List._∷_ (
           8,
-          Rows'.any-gone (Syntax.tyEnum (List._∷_ 115 (List._∷_ 116 (List._∷_ 114
-              (List._∷_ 101 (List._∷_ 97 (List._∷_ 109 (List._∷_ 58 (List._∷_ 58 (List._∷_ 82 (List._∷_ 101 (List._∷_ 102 (List._∷_ 117 (List._∷_ 115 (List._∷_ 97 (List._∷_ 108 List.[])))))))))))))))
-              (Syntax.ttcons Syntax.tnil (Syntax.ttcons Syntax.tnil (Syntax.ttcons Syntax.tnil (Syntax.ttcons (Syntax.tcons (Syntax.tyInt Syntax.w64) Syntax.tnil) (Syntax.ttcons Syntax.tnil (Syntax.ttcons
-              Syntax.tnil (Syntax.ttcons Syntax.tnil (Syntax.ttcons Syntax.tnil (Syntax.ttcons Syntax.tnil (Syntax.ttcons Syntax.tnil (Syntax.ttcons (Syntax.tcons (Syntax.tyInt Syntax.w64) Syntax.tnil)
-              (Syntax.ttcons (Syntax.tcons (Syntax.tyInt Syntax.w64) Syntax.tnil) (Syntax.ttcons Syntax.tnil (Syntax.ttcons (Syntax.tcons (Syntax.tyInt Syntax.w64) (Syntax.tcons (Syntax.tyInt Syntax.w64)
-              Syntax.tnil)) (Syntax.ttcons (Syntax.tcons (Syntax.tyInt Syntax.w64) Syntax.tnil) (Syntax.ttcons Syntax.tnil Syntax.ttnil))))))))))))))))),
-        ) (List._∷_ (
-          9,
-          Rows'.whole (Declared'.row
-              FujiHeader.the-type),
-        ) (List._∷_ (10, Rows'.whole (Declared.row Decoded.the-type)) (List._∷_ (11, Rows'.any-gone (Syntax.tyRef Syntax.erased Syntax.mut (Syntax.tyInt Syntax.w16)))
-            (List._∷_ (12, Mut.msleft (Referent.rtF (Referent.fInt Syntax.w16)) (Syntax.tyRef Syntax.erased Syntax.mut (Syntax.tyInt Syntax.w16))) (List._∷_ (
-              13,
-              Rows'.any-gone (Syntax.tyRef
-                  Syntax.erased Syntax.mut (Syntax.tyInt Syntax.w16)),
-            ) (List._∷_ (14, Mut.msleft (Referent.rtF (Referent.fInt Syntax.w16)) (Syntax.tyRef Syntax.erased Syntax.mut (Syntax.tyInt Syntax.w16)))
-            (List._∷_ (15, Rows'.any-gone (Syntax.tyRef Syntax.erased Syntax.mut Element.behind)) List.[])))))))))))))))
-
-        abbrev g24 : List.List Row.Entry
-        g24 = List._∷_ (
-          0,
-          Rows'.any-gone (Syntax.tyEnum (List._∷_ 98 (List._∷_ 108 (List._∷_ 111 (List._∷_ 99 (List._∷_ 107 (List._∷_ 58 (List._∷_ 58 (List._∷_ 68 (List._∷_ 101 (List._∷_ 99
-              (List._∷_ 111 (List._∷_ 100 (List._∷_ 101 (List._∷_ 100 List.[])))))))))))))) (Syntax.ttcons Syntax.tnil (Syntax.ttcons (Syntax.tcons (Syntax.tyEnum (List._∷_ 115 (List._∷_ 116 (List._∷_ 114
-              (List._∷_ 101 (List._∷_ 97 (List._∷_ 109 (List._∷_ 58 (List._∷_ 58 (List._∷_ 82 (List._∷_ 101 (List._∷_ 102 (List._∷_ 117 (List._∷_ 115 (List._∷_ 97 (List._∷_ 108 List.[])))))))))))))))
-              (Syntax.ttcons Syntax.tnil (Syntax.ttcons Syntax.tnil (Syntax.ttcons Syntax.tnil (Syntax.ttcons (Syntax.tcons (Syntax.tyInt Syntax.w64) Syntax.tnil) (Syntax.ttcons Syntax.tnil (Syntax.ttcons
-              Syntax.tnil (Syntax.ttcons Syntax.tnil (Syntax.ttcons Syntax.tnil (Syntax.ttcons Syntax.tnil (Syntax.ttcons Syntax.tnil (Syntax.ttcons (Syntax.tcons (Syntax.tyInt Syntax.w64) Syntax.tnil)
-              (Syntax.ttcons (Syntax.tcons (Syntax.tyInt Syntax.w64) Syntax.tnil) (Syntax.ttcons Syntax.tnil (Syntax.ttcons (Syntax.tcons (Syntax.tyInt Syntax.w64) (Syntax.tcons (Syntax.tyInt Syntax.w64)
-              Syntax.tnil)) (Syntax.ttcons (Syntax.tcons (Syntax.tyInt Syntax.w64) Syntax.tnil) (Syntax.ttcons Syntax.tnil Syntax.ttnil))))))))))))))))) Syntax.tnil) Syntax.ttnil))),
-        ) (List._∷_ (
-          1,
-          Rows'.sslice (Referent.rtF (Referent.fInt Syntax.w8)) (Syntax.tyRef (Syntax.named 0) Syntax.imm (Syntax.tyInt Syntax.w8)) 0,
-        ) (List._∷_ (
-          2,
-          Rows'.any-gone (Syntax.tyStruct (List._∷_ 114
-              (List._∷_ 101 (List._∷_ 103 (List._∷_ 105 (List._∷_ 111 (List._∷_ 110 (List._∷_ 58 (List._∷_ 58 (List._∷_ 82 (List._∷_ 101 (List._∷_ 99 (List._∷_ 116 List.[])))))))))))) (Syntax.tcons
-              (Syntax.tyInt Syntax.w64) (Syntax.tcons (Syntax.tyInt Syntax.w64) (Syntax.tcons (Syntax.tyInt Syntax.w64) (Syntax.tcons (Syntax.tyInt Syntax.w64) Syntax.tnil))))),
-        ) (List._∷_ (
-          3,
-          Rows'.any-gone (Syntax.tyArray (Syntax.tyInt Syntax.w8) 36),
-        ) (List._∷_ (
-          4,
-          Relend.mslice-owed (Referent.rtF (Referent.fInt Syntax.w16)) (Syntax.tyRef (Syntax.named 1) Syntax.mut (Syntax.tyInt
-              Syntax.w16)) 1 4 (Row.lease (κs .1 .0) (qs .1 .0)),
-        ) (List._∷_ (
-          5,
-          Relend.mslice-owed (Referent.rtF (Referent.fInt Syntax.w16)) (Syntax.tyRef (Syntax.named 2) Syntax.mut (Syntax.tyInt
-              Syntax.w16)) 2 5 (Row.lease (κs .1 .1 .0) (qs .1 .1 .0)),
-        ) (List._∷_ (
-          6,
-          Relend.mslice-owed (Element.type) (Syntax.tyRef (Syntax.named 3) Syntax.mut Element.behind) 3 6 (Row.lease (κs .1 .1
-              .1 .0) (qs .1 .1 .1 .0)),
-        ) (List._∷_ (
-          7,
-          Rows'.any-gone (Syntax.tyEnum (List._∷_ 115 (List._∷_ 116 (List._∷_ 114 (List._∷_ 101 (List._∷_ 97 (List._∷_ 109 (List._∷_ 58 (List._∷_ 58 (List._∷_
-              80 (List._∷_ 97 (List._∷_ 114 (List._∷_ 115 (List._∷_ 101 (List._∷_ 100 List.[])))))))))))))) (Syntax.ttcons (Syntax.tcons (Syntax.tyStruct (List._∷_ 115 (List._∷_ 116 (List._∷_ 114 (List._∷_
-              101 (List._∷_ 97 (List._∷_ 109 (List._∷_ 58 (List._∷_ 58 (List._∷_ 70 (List._∷_ 117 (List._∷_ 106 (List._∷_ 105 (List._∷_ 72 (List._∷_ 101 (List._∷_ 97 (List._∷_ 100 (List._∷_ 101 (List._∷_
-              114 List.[])))))))))))))))))) (Syntax.tcons Syntax.tyBool (Syntax.tcons Syntax.tyBool (Syntax.tcons (Syntax.tyInt Syntax.w32) (Syntax.tcons (Syntax.tyInt Syntax.w32) (Syntax.tcons
-              (Syntax.tyInt Syntax.w32) (Syntax.tcons (Syntax.tyInt Syntax.w32) (Syntax.tcons (Syntax.tyInt Syntax.w32) (Syntax.tcons (Syntax.tyInt Syntax.w32) (Syntax.tcons (Syntax.tyInt Syntax.w32)
-              Syntax.tnil)))))))))) Syntax.tnil) (Syntax.ttcons (Syntax.tcons (Syntax.tyEnum (List._∷_ 115 (List._∷_ 116 (List._∷_ 114 (List._∷_ 101 (List._∷_ 97 (List._∷_ 109 (List._∷_ 58 (List._∷_ 58
-              (List._∷_ 82 (List._∷_ 101 (List._∷_ 102 (List._∷_ 117 (List._∷_ 115 (List._∷_ 97 (List._∷_ 108 List.[]))))))))))))))) (Syntax.ttcons Syntax.tnil (Syntax.ttcons Syntax.tnil (Syntax.ttcons
-              Syntax.tnil (Syntax.ttcons (Syntax.tcons (Syntax.tyInt Syntax.w64) Syntax.tnil) (Syntax.ttcons Syntax.tnil (Syntax.ttcons Syntax.tnil (Syntax.ttcons Syntax.tnil (Syntax.ttcons Syntax.tnil
-              (Syntax.ttcons Syntax.tnil (Syntax.ttcons Syntax.tnil (Syntax.ttcons (Syntax.tcons (Syntax.tyInt Syntax.w64) Syntax.tnil) (Syntax.ttcons (Syntax.tcons (Syntax.tyInt Syntax.w64) Syntax.tnil)
-              (Syntax.ttcons Syntax.tnil (Syntax.ttcons (Syntax.tcons (Syntax.tyInt Syntax.w64) (Syntax.tcons (Syntax.tyInt Syntax.w64) Syntax.tnil)) (Syntax.ttcons (Syntax.tcons (Syntax.tyInt Syntax.w64)
-              Syntax.tnil) (Syntax.ttcons Syntax.tnil Syntax.ttnil))))))))))))))))) Syntax.tnil) Syntax.ttnil))),
-        ) (List._∷_ (
-          8,
-          Rows'.any-gone (Syntax.tyEnum (List._∷_ 115 (List._∷_ 116 (List._∷_ 114
-              (List._∷_ 101 (List._∷_ 97 (List._∷_ 109 (List._∷_ 58 (List._∷_ 58 (List._∷_ 82 (List._∷_ 101 (List._∷_ 102 (List._∷_ 117 (List._∷_ 115 (List._∷_ 97 (List._∷_ 108 List.[])))))))))))))))
-              (Syntax.ttcons Syntax.tnil (Syntax.ttcons Syntax.tnil (Syntax.ttcons Syntax.tnil (Syntax.ttcons (Syntax.tcons (Syntax.tyInt Syntax.w64) Syntax.tnil) (Syntax.ttcons Syntax.tnil (Syntax.ttcons
-              Syntax.tnil (Syntax.ttcons Syntax.tnil (Syntax.ttcons Syntax.tnil (Syntax.ttcons Syntax.tnil (Syntax.ttcons Syntax.tnil (Syntax.ttcons (Syntax.tcons (Syntax.tyInt Syntax.w64) Syntax.tnil)
-              (Syntax.ttcons (Syntax.tcons (Syntax.tyInt Syntax.w64) Syntax.tnil) (Syntax.ttcons Syntax.tnil (Syntax.ttcons (Syntax.tcons (Syntax.tyInt Syntax.w64) (Syntax.tcons (Syntax.tyInt Syntax.w64)
-              Syntax.tnil)) (Syntax.ttcons (Syntax.tcons (Syntax.tyInt Syntax.w64) Syntax.tnil) (Syntax.ttcons Syntax.tnil Syntax.ttnil))))))))))))))))),
-        ) (List._∷_ (
-          9,
-          Rows'.whole (Declared'.row
-              FujiHeader.the-type),
-        ) (List._∷_ (10, Rows'.whole (Declared.row Decoded.the-type)) (List._∷_ (11, Rows'.any-gone (Syntax.tyRef Syntax.erased Syntax.mut (Syntax.tyInt Syntax.w16)))
-            (List._∷_ (12, Mut.msleft (Referent.rtF (Referent.fInt Syntax.w16)) (Syntax.tyRef Syntax.erased Syntax.mut (Syntax.tyInt Syntax.w16))) (List._∷_ (
-              13,
-              Rows'.any-gone (Syntax.tyRef
-                  Syntax.erased Syntax.mut (Syntax.tyInt Syntax.w16)),
-            ) (List._∷_ (14, Mut.msleft (Referent.rtF (Referent.fInt Syntax.w16)) (Syntax.tyRef Syntax.erased Syntax.mut (Syntax.tyInt Syntax.w16)))
-            (List._∷_ (15, Rows'.any-gone (Syntax.tyRef Syntax.erased Syntax.mut Element.behind)) List.[])))))))))))))))
-
-        abbrev g25 : List.List Row.Entry
-        g25 = List._∷_ (
-          0,
-          Rows'.any-gone (Syntax.tyEnum (List._∷_ 98 (List._∷_ 108 (List._∷_ 111 (List._∷_ 99 (List._∷_ 107 (List._∷_ 58 (List._∷_ 58 (List._∷_ 68 (List._∷_ 101 (List._∷_ 99
-              (List._∷_ 111 (List._∷_ 100 (List._∷_ 101 (List._∷_ 100 List.[])))))))))))))) (Syntax.ttcons Syntax.tnil (Syntax.ttcons (Syntax.tcons (Syntax.tyEnum (List._∷_ 115 (List._∷_ 116 (List._∷_ 114
-              (List._∷_ 101 (List._∷_ 97 (List._∷_ 109 (List._∷_ 58 (List._∷_ 58 (List._∷_ 82 (List._∷_ 101 (List._∷_ 102 (List._∷_ 117 (List._∷_ 115 (List._∷_ 97 (List._∷_ 108 List.[])))))))))))))))
-              (Syntax.ttcons Syntax.tnil (Syntax.ttcons Syntax.tnil (Syntax.ttcons Syntax.tnil (Syntax.ttcons (Syntax.tcons (Syntax.tyInt Syntax.w64) Syntax.tnil) (Syntax.ttcons Syntax.tnil (Syntax.ttcons
-              Syntax.tnil (Syntax.ttcons Syntax.tnil (Syntax.ttcons Syntax.tnil (Syntax.ttcons Syntax.tnil (Syntax.ttcons Syntax.tnil (Syntax.ttcons (Syntax.tcons (Syntax.tyInt Syntax.w64) Syntax.tnil)
-              (Syntax.ttcons (Syntax.tcons (Syntax.tyInt Syntax.w64) Syntax.tnil) (Syntax.ttcons Syntax.tnil (Syntax.ttcons (Syntax.tcons (Syntax.tyInt Syntax.w64) (Syntax.tcons (Syntax.tyInt Syntax.w64)
-              Syntax.tnil)) (Syntax.ttcons (Syntax.tcons (Syntax.tyInt Syntax.w64) Syntax.tnil) (Syntax.ttcons Syntax.tnil Syntax.ttnil))))))))))))))))) Syntax.tnil) Syntax.ttnil))),
-        ) (List._∷_ (
-          1,
-          Rows'.sslice (Referent.rtF (Referent.fInt Syntax.w8)) (Syntax.tyRef (Syntax.named 0) Syntax.imm (Syntax.tyInt Syntax.w8)) 0,
-        ) (List._∷_ (
-          2,
-          Rows'.any-gone (Syntax.tyStruct (List._∷_ 114
-              (List._∷_ 101 (List._∷_ 103 (List._∷_ 105 (List._∷_ 111 (List._∷_ 110 (List._∷_ 58 (List._∷_ 58 (List._∷_ 82 (List._∷_ 101 (List._∷_ 99 (List._∷_ 116 List.[])))))))))))) (Syntax.tcons
-              (Syntax.tyInt Syntax.w64) (Syntax.tcons (Syntax.tyInt Syntax.w64) (Syntax.tcons (Syntax.tyInt Syntax.w64) (Syntax.tcons (Syntax.tyInt Syntax.w64) Syntax.tnil))))),
-        ) (List._∷_ (
-          3,
-          Rows'.any-gone (Syntax.tyArray (Syntax.tyInt Syntax.w8) 36),
-        ) (List._∷_ (
-          4,
-          Relend.mslice-owed (Referent.rtF (Referent.fInt Syntax.w16)) (Syntax.tyRef (Syntax.named 1) Syntax.mut (Syntax.tyInt
-              Syntax.w16)) 1 4 (Row.lease (κs .1 .0) (qs .1 .0)),
-        ) (List._∷_ (
-          5,
-          Relend.mslice-owed (Referent.rtF (Referent.fInt Syntax.w16)) (Syntax.tyRef (Syntax.named 2) Syntax.mut (Syntax.tyInt
-              Syntax.w16)) 2 5 (Row.lease (κs .1 .1 .0) (qs .1 .1 .0)),
-        ) (List._∷_ (
-          6,
-          Relend.mslice-owed (Element.type) (Syntax.tyRef (Syntax.named 3) Syntax.mut Element.behind) 3 6 (Row.lease (κs .1 .1
-              .1 .0) (qs .1 .1 .1 .0)),
-        ) (List._∷_ (
-          7,
-          Rows'.any-gone (Syntax.tyEnum (List._∷_ 115 (List._∷_ 116 (List._∷_ 114 (List._∷_ 101 (List._∷_ 97 (List._∷_ 109 (List._∷_ 58 (List._∷_ 58 (List._∷_
-              80 (List._∷_ 97 (List._∷_ 114 (List._∷_ 115 (List._∷_ 101 (List._∷_ 100 List.[])))))))))))))) (Syntax.ttcons (Syntax.tcons (Syntax.tyStruct (List._∷_ 115 (List._∷_ 116 (List._∷_ 114 (List._∷_
-              101 (List._∷_ 97 (List._∷_ 109 (List._∷_ 58 (List._∷_ 58 (List._∷_ 70 (List._∷_ 117 (List._∷_ 106 (List._∷_ 105 (List._∷_ 72 (List._∷_ 101 (List._∷_ 97 (List._∷_ 100 (List._∷_ 101 (List._∷_
-              114 List.[])))))))))))))))))) (Syntax.tcons Syntax.tyBool (Syntax.tcons Syntax.tyBool (Syntax.tcons (Syntax.tyInt Syntax.w32) (Syntax.tcons (Syntax.tyInt Syntax.w32) (Syntax.tcons
-              (Syntax.tyInt Syntax.w32) (Syntax.tcons (Syntax.tyInt Syntax.w32) (Syntax.tcons (Syntax.tyInt Syntax.w32) (Syntax.tcons (Syntax.tyInt Syntax.w32) (Syntax.tcons (Syntax.tyInt Syntax.w32)
-              Syntax.tnil)))))))))) Syntax.tnil) (Syntax.ttcons (Syntax.tcons (Syntax.tyEnum (List._∷_ 115 (List._∷_ 116 (List._∷_ 114 (List._∷_ 101 (List._∷_ 97 (List._∷_ 109 (List._∷_ 58 (List._∷_ 58
-              (List._∷_ 82 (List._∷_ 101 (List._∷_ 102 (List._∷_ 117 (List._∷_ 115 (List._∷_ 97 (List._∷_ 108 List.[]))))))))))))))) (Syntax.ttcons Syntax.tnil (Syntax.ttcons Syntax.tnil (Syntax.ttcons
-              Syntax.tnil (Syntax.ttcons (Syntax.tcons (Syntax.tyInt Syntax.w64) Syntax.tnil) (Syntax.ttcons Syntax.tnil (Syntax.ttcons Syntax.tnil (Syntax.ttcons Syntax.tnil (Syntax.ttcons Syntax.tnil
-              (Syntax.ttcons Syntax.tnil (Syntax.ttcons Syntax.tnil (Syntax.ttcons (Syntax.tcons (Syntax.tyInt Syntax.w64) Syntax.tnil) (Syntax.ttcons (Syntax.tcons (Syntax.tyInt Syntax.w64) Syntax.tnil)
-              (Syntax.ttcons Syntax.tnil (Syntax.ttcons (Syntax.tcons (Syntax.tyInt Syntax.w64) (Syntax.tcons (Syntax.tyInt Syntax.w64) Syntax.tnil)) (Syntax.ttcons (Syntax.tcons (Syntax.tyInt Syntax.w64)
-              Syntax.tnil) (Syntax.ttcons Syntax.tnil Syntax.ttnil))))))))))))))))) Syntax.tnil) Syntax.ttnil))),
-        ) (List._∷_ (
-          8,
-          Rows'.any-gone (Syntax.tyEnum (List._∷_ 115 (List._∷_ 116 (List._∷_ 114
-              (List._∷_ 101 (List._∷_ 97 (List._∷_ 109 (List._∷_ 58 (List._∷_ 58 (List._∷_ 82 (List._∷_ 101 (List._∷_ 102 (List._∷_ 117 (List._∷_ 115 (List._∷_ 97 (List._∷_ 108 List.[])))))))))))))))
-              (Syntax.ttcons Syntax.tnil (Syntax.ttcons Syntax.tnil (Syntax.ttcons Syntax.tnil (Syntax.ttcons (Syntax.tcons (Syntax.tyInt Syntax.w64) Syntax.tnil) (Syntax.ttcons Syntax.tnil (Syntax.ttcons
-              Syntax.tnil (Syntax.ttcons Syntax.tnil (Syntax.ttcons Syntax.tnil (Syntax.ttcons Syntax.tnil (Syntax.ttcons Syntax.tnil (Syntax.ttcons (Syntax.tcons (Syntax.tyInt Syntax.w64) Syntax.tnil)
-              (Syntax.ttcons (Syntax.tcons (Syntax.tyInt Syntax.w64) Syntax.tnil) (Syntax.ttcons Syntax.tnil (Syntax.ttcons (Syntax.tcons (Syntax.tyInt Syntax.w64) (Syntax.tcons (Syntax.tyInt Syntax.w64)
-              Syntax.tnil)) (Syntax.ttcons (Syntax.tcons (Syntax.tyInt Syntax.w64) Syntax.tnil) (Syntax.ttcons Syntax.tnil Syntax.ttnil))))))))))))))))),
-        ) (List._∷_ (
-          9,
-          Rows'.any-gone (Syntax.tyStruct
-              (List._∷_ 115 (List._∷_ 116 (List._∷_ 114 (List._∷_ 101 (List._∷_ 97 (List._∷_ 109 (List._∷_ 58 (List._∷_ 58 (List._∷_ 70 (List._∷_ 117 (List._∷_ 106 (List._∷_ 105 (List._∷_ 72 (List._∷_ 101
-              (List._∷_ 97 (List._∷_ 100 (List._∷_ 101 (List._∷_ 114 List.[])))))))))))))))))) (Syntax.tcons Syntax.tyBool (Syntax.tcons Syntax.tyBool (Syntax.tcons (Syntax.tyInt Syntax.w32) (Syntax.tcons
-              (Syntax.tyInt Syntax.w32) (Syntax.tcons (Syntax.tyInt Syntax.w32) (Syntax.tcons (Syntax.tyInt Syntax.w32) (Syntax.tcons (Syntax.tyInt Syntax.w32) (Syntax.tcons (Syntax.tyInt Syntax.w32)
-              (Syntax.tcons (Syntax.tyInt Syntax.w32) Syntax.tnil)))))))))),
-        ) (List._∷_ (10, Rows'.whole (Declared.row Decoded.the-type)) (List._∷_ (
-          11,
-          Rows'.any-gone (Syntax.tyRef Syntax.erased
-              Syntax.mut (Syntax.tyInt Syntax.w16)),
-        ) (List._∷_ (12, Mut.msleft (Referent.rtF (Referent.fInt Syntax.w16)) (Syntax.tyRef Syntax.erased Syntax.mut (Syntax.tyInt Syntax.w16))) (List._∷_ (
-          13,
-          Rows'.any-gone (Syntax.tyRef Syntax.erased Syntax.mut (Syntax.tyInt Syntax.w16)),
-        ) (List._∷_ (
-          14,
-          Mut.msleft (Referent.rtF (Referent.fInt Syntax.w16)) (Syntax.tyRef Syntax.erased
-              Syntax.mut (Syntax.tyInt Syntax.w16)),
-        ) (List._∷_ (15, Rows'.any-gone (Syntax.tyRef Syntax.erased Syntax.mut Element.behind)) List.[])))))))))))))))
-
-        abbrev g26 : List.List Row.Entry
-        g26 = List._∷_ (
-          0,
-          Rows'.any-gone (Syntax.tyEnum (List._∷_ 98 (List._∷_ 108 (List._∷_ 111 (List._∷_ 99 (List._∷_ 107 (List._∷_ 58 (List._∷_ 58 (List._∷_ 68 (List._∷_ 101 (List._∷_ 99
-              (List._∷_ 111 (List._∷_ 100 (List._∷_ 101 (List._∷_ 100 List.[])))))))))))))) (Syntax.ttcons Syntax.tnil (Syntax.ttcons (Syntax.tcons (Syntax.tyEnum (List._∷_ 115 (List._∷_ 116 (List._∷_ 114
-              (List._∷_ 101 (List._∷_ 97 (List._∷_ 109 (List._∷_ 58 (List._∷_ 58 (List._∷_ 82 (List._∷_ 101 (List._∷_ 102 (List._∷_ 117 (List._∷_ 115 (List._∷_ 97 (List._∷_ 108 List.[])))))))))))))))
-              (Syntax.ttcons Syntax.tnil (Syntax.ttcons Syntax.tnil (Syntax.ttcons Syntax.tnil (Syntax.ttcons (Syntax.tcons (Syntax.tyInt Syntax.w64) Syntax.tnil) (Syntax.ttcons Syntax.tnil (Syntax.ttcons
-              Syntax.tnil (Syntax.ttcons Syntax.tnil (Syntax.ttcons Syntax.tnil (Syntax.ttcons Syntax.tnil (Syntax.ttcons Syntax.tnil (Syntax.ttcons (Syntax.tcons (Syntax.tyInt Syntax.w64) Syntax.tnil)
-              (Syntax.ttcons (Syntax.tcons (Syntax.tyInt Syntax.w64) Syntax.tnil) (Syntax.ttcons Syntax.tnil (Syntax.ttcons (Syntax.tcons (Syntax.tyInt Syntax.w64) (Syntax.tcons (Syntax.tyInt Syntax.w64)
-              Syntax.tnil)) (Syntax.ttcons (Syntax.tcons (Syntax.tyInt Syntax.w64) Syntax.tnil) (Syntax.ttcons Syntax.tnil Syntax.ttnil))))))))))))))))) Syntax.tnil) Syntax.ttnil))),
-        ) (List._∷_ (
-          1,
-          Rows'.sslice (Referent.rtF (Referent.fInt Syntax.w8)) (Syntax.tyRef (Syntax.named 0) Syntax.imm (Syntax.tyInt Syntax.w8)) 0,
-        ) (List._∷_ (
-          2,
-          Rows'.any-gone (Syntax.tyStruct (List._∷_ 114
-              (List._∷_ 101 (List._∷_ 103 (List._∷_ 105 (List._∷_ 111 (List._∷_ 110 (List._∷_ 58 (List._∷_ 58 (List._∷_ 82 (List._∷_ 101 (List._∷_ 99 (List._∷_ 116 List.[])))))))))))) (Syntax.tcons
-              (Syntax.tyInt Syntax.w64) (Syntax.tcons (Syntax.tyInt Syntax.w64) (Syntax.tcons (Syntax.tyInt Syntax.w64) (Syntax.tcons (Syntax.tyInt Syntax.w64) Syntax.tnil))))),
-        ) (List._∷_ (
-          3,
-          Rows'.any-gone (Syntax.tyArray (Syntax.tyInt Syntax.w8) 36),
-        ) (List._∷_ (
-          4,
-          Mut.mslice (Referent.rtF (Referent.fInt Syntax.w16)) (Syntax.tyRef (Syntax.named 1) Syntax.mut (Syntax.tyInt
-              Syntax.w16)) 1,
-        ) (List._∷_ (
-          5,
-          Relend.mslice-owed (Referent.rtF (Referent.fInt Syntax.w16)) (Syntax.tyRef (Syntax.named 2) Syntax.mut (Syntax.tyInt Syntax.w16)) 2 5 (Row.lease (κs .1 .1 .0)
-              (qs .1 .1 .0)),
-        ) (List._∷_ (6, Relend.mslice-owed (Element.type) (Syntax.tyRef (Syntax.named 3) Syntax.mut Element.behind) 3 6 (Row.lease (κs .1 .1 .1 .0) (qs .1 .1 .1 .0))) (List._∷_ (
-          7,
-          Rows'.any-gone (Syntax.tyEnum (List._∷_ 115 (List._∷_ 116 (List._∷_ 114 (List._∷_ 101 (List._∷_ 97 (List._∷_ 109 (List._∷_ 58 (List._∷_ 58 (List._∷_ 80 (List._∷_ 97 (List._∷_ 114 (List._∷_ 115
-              (List._∷_ 101 (List._∷_ 100 List.[])))))))))))))) (Syntax.ttcons (Syntax.tcons (Syntax.tyStruct (List._∷_ 115 (List._∷_ 116 (List._∷_ 114 (List._∷_ 101 (List._∷_ 97 (List._∷_ 109 (List._∷_ 58
-              (List._∷_ 58 (List._∷_ 70 (List._∷_ 117 (List._∷_ 106 (List._∷_ 105 (List._∷_ 72 (List._∷_ 101 (List._∷_ 97 (List._∷_ 100 (List._∷_ 101 (List._∷_ 114 List.[])))))))))))))))))) (Syntax.tcons
-              Syntax.tyBool (Syntax.tcons Syntax.tyBool (Syntax.tcons (Syntax.tyInt Syntax.w32) (Syntax.tcons (Syntax.tyInt Syntax.w32) (Syntax.tcons (Syntax.tyInt Syntax.w32) (Syntax.tcons (Syntax.tyInt
-              Syntax.w32) (Syntax.tcons (Syntax.tyInt Syntax.w32) (Syntax.tcons (Syntax.tyInt Syntax.w32) (Syntax.tcons (Syntax.tyInt Syntax.w32) Syntax.tnil)))))))))) Syntax.tnil) (Syntax.ttcons
-              (Syntax.tcons (Syntax.tyEnum (List._∷_ 115 (List._∷_ 116 (List._∷_ 114 (List._∷_ 101 (List._∷_ 97 (List._∷_ 109 (List._∷_ 58 (List._∷_ 58 (List._∷_ 82 (List._∷_ 101 (List._∷_ 102 (List._∷_ 117
-              (List._∷_ 115 (List._∷_ 97 (List._∷_ 108 List.[]))))))))))))))) (Syntax.ttcons Syntax.tnil (Syntax.ttcons Syntax.tnil (Syntax.ttcons Syntax.tnil (Syntax.ttcons (Syntax.tcons (Syntax.tyInt
+          Rows'.any-gone (Syntax.tyEnum (List._∷_ 115 (List._∷_ 116 (List._∷_ 114 (List._∷_ 101 (List._∷_ 97 (List._∷_ 109 (List._∷_ 58 (List._∷_ 58 (List._∷_ 82 (List._∷_ 101 (List._∷_ 102 (List._∷_
+              117 (List._∷_ 115 (List._∷_ 97 (List._∷_ 108 List.[]))))))))))))))) (Syntax.ttcons Syntax.tnil (Syntax.ttcons Syntax.tnil (Syntax.ttcons Syntax.tnil (Syntax.ttcons (Syntax.tcons (Syntax.tyInt
               Syntax.w64) Syntax.tnil) (Syntax.ttcons Syntax.tnil (Syntax.ttcons Syntax.tnil (Syntax.ttcons Syntax.tnil (Syntax.ttcons Syntax.tnil (Syntax.ttcons Syntax.tnil (Syntax.ttcons Syntax.tnil
               (Syntax.ttcons (Syntax.tcons (Syntax.tyInt Syntax.w64) Syntax.tnil) (Syntax.ttcons (Syntax.tcons (Syntax.tyInt Syntax.w64) Syntax.tnil) (Syntax.ttcons Syntax.tnil (Syntax.ttcons (Syntax.tcons
-              (Syntax.tyInt Syntax.w64) (Syntax.tcons (Syntax.tyInt Syntax.w64) Syntax.tnil)) (Syntax.ttcons (Syntax.tcons (Syntax.tyInt Syntax.w64) Syntax.tnil) (Syntax.ttcons Syntax.tnil
-              Syntax.ttnil))))))))))))))))) Syntax.tnil) Syntax.ttnil))),
-        ) (List._∷_ (
-          8,
-          Rows'.any-gone (Syntax.tyEnum (List._∷_ 115 (List._∷_ 116 (List._∷_ 114 (List._∷_ 101 (List._∷_ 97 (List._∷_ 109
-              (List._∷_ 58 (List._∷_ 58 (List._∷_ 82 (List._∷_ 101 (List._∷_ 102 (List._∷_ 117 (List._∷_ 115 (List._∷_ 97 (List._∷_ 108 List.[]))))))))))))))) (Syntax.ttcons Syntax.tnil (Syntax.ttcons
-              Syntax.tnil (Syntax.ttcons Syntax.tnil (Syntax.ttcons (Syntax.tcons (Syntax.tyInt Syntax.w64) Syntax.tnil) (Syntax.ttcons Syntax.tnil (Syntax.ttcons Syntax.tnil (Syntax.ttcons Syntax.tnil
-              (Syntax.ttcons Syntax.tnil (Syntax.ttcons Syntax.tnil (Syntax.ttcons Syntax.tnil (Syntax.ttcons (Syntax.tcons (Syntax.tyInt Syntax.w64) Syntax.tnil) (Syntax.ttcons (Syntax.tcons (Syntax.tyInt
-              Syntax.w64) Syntax.tnil) (Syntax.ttcons Syntax.tnil (Syntax.ttcons (Syntax.tcons (Syntax.tyInt Syntax.w64) (Syntax.tcons (Syntax.tyInt Syntax.w64) Syntax.tnil)) (Syntax.ttcons (Syntax.tcons
-              (Syntax.tyInt Syntax.w64) Syntax.tnil) (Syntax.ttcons Syntax.tnil Syntax.ttnil))))))))))))))))),
+              (Syntax.tyInt Syntax.w64) (Syntax.tcons (Syntax.tyInt Syntax.w64) Syntax.tnil)) (Syntax.ttcons (Syntax.tcons (Syntax.tyInt Syntax.w64) Syntax.tnil) (Syntax.ttcons Syntax.tnil (Syntax.ttcons
+              Syntax.tnil (Syntax.ttcons (Syntax.tcons (Syntax.tyInt Syntax.w64) Syntax.tnil) (Syntax.ttcons (Syntax.tcons (Syntax.tyInt Syntax.w64) Syntax.tnil) (Syntax.ttcons (Syntax.tcons (Syntax.tyInt
+              Syntax.w64) Syntax.tnil) (Syntax.ttcons Syntax.tnil Syntax.ttnil)))))))))))))))))))))),
         ) (List._∷_ (
           9,
-          Rows'.any-gone (Syntax.tyStruct (List._∷_ 115 (List._∷_ 116 (List._∷_ 114
-              (List._∷_ 101 (List._∷_ 97 (List._∷_ 109 (List._∷_ 58 (List._∷_ 58 (List._∷_ 70 (List._∷_ 117 (List._∷_ 106 (List._∷_ 105 (List._∷_ 72 (List._∷_ 101 (List._∷_ 97 (List._∷_ 100 (List._∷_ 101
-              (List._∷_ 114 List.[])))))))))))))))))) (Syntax.tcons Syntax.tyBool (Syntax.tcons Syntax.tyBool (Syntax.tcons (Syntax.tyInt Syntax.w32) (Syntax.tcons (Syntax.tyInt Syntax.w32) (Syntax.tcons
-              (Syntax.tyInt Syntax.w32) (Syntax.tcons (Syntax.tyInt Syntax.w32) (Syntax.tcons (Syntax.tyInt Syntax.w32) (Syntax.tcons (Syntax.tyInt Syntax.w32) (Syntax.tcons (Syntax.tyInt Syntax.w32)
+          Rows'.any-gone (Syntax.tyStruct (List._∷_ 115 (List._∷_ 116 (List._∷_ 114 (List._∷_ 101
+              (List._∷_ 97 (List._∷_ 109 (List._∷_ 58 (List._∷_ 58 (List._∷_ 70 (List._∷_ 117 (List._∷_ 106 (List._∷_ 105 (List._∷_ 72 (List._∷_ 101 (List._∷_ 97 (List._∷_ 100 (List._∷_ 101 (List._∷_ 114
+              List.[])))))))))))))))))) (Syntax.tcons Syntax.tyBool (Syntax.tcons Syntax.tyBool (Syntax.tcons (Syntax.tyInt Syntax.w32) (Syntax.tcons (Syntax.tyInt Syntax.w32) (Syntax.tcons (Syntax.tyInt
+              Syntax.w32) (Syntax.tcons (Syntax.tyInt Syntax.w32) (Syntax.tcons (Syntax.tyInt Syntax.w32) (Syntax.tcons (Syntax.tyInt Syntax.w32) (Syntax.tcons (Syntax.tyInt Syntax.w32)
               Syntax.tnil)))))))))),
         ) (List._∷_ (10, Rows'.whole (Declared.row Decoded.the-type)) (List._∷_ (11, Rows'.any-gone (Syntax.tyRef Syntax.erased Syntax.mut (Syntax.tyInt Syntax.w16)))
             (List._∷_ (
@@ -3293,84 +3513,10 @@ module _ (claims· : Claims) where
                   (Syntax.tyInt Syntax.w64) Syntax.tnil))),
             ) (List._∷_ (13, Rows'.any-gone (Syntax.tyRef Syntax.erased Syntax.mut (Syntax.tyInt Syntax.w16))) (List._∷_ (
               14,
-              Mut.msleft (Referent.rtF
-                  (Referent.fInt Syntax.w16)) (Syntax.tyRef Syntax.erased Syntax.mut (Syntax.tyInt Syntax.w16)),
-            ) (List._∷_ (15, Rows'.any-gone (Syntax.tyRef Syntax.erased Syntax.mut Element.behind))
-            List.[])))))))))))))))
-
-        abbrev g27 : List.List Row.Entry
-        g27 = List._∷_ (
-          0,
-          Rows'.any-gone (Syntax.tyEnum (List._∷_ 98 (List._∷_ 108 (List._∷_ 111 (List._∷_ 99 (List._∷_ 107 (List._∷_ 58 (List._∷_ 58 (List._∷_ 68 (List._∷_ 101 (List._∷_ 99
-              (List._∷_ 111 (List._∷_ 100 (List._∷_ 101 (List._∷_ 100 List.[])))))))))))))) (Syntax.ttcons Syntax.tnil (Syntax.ttcons (Syntax.tcons (Syntax.tyEnum (List._∷_ 115 (List._∷_ 116 (List._∷_ 114
-              (List._∷_ 101 (List._∷_ 97 (List._∷_ 109 (List._∷_ 58 (List._∷_ 58 (List._∷_ 82 (List._∷_ 101 (List._∷_ 102 (List._∷_ 117 (List._∷_ 115 (List._∷_ 97 (List._∷_ 108 List.[])))))))))))))))
-              (Syntax.ttcons Syntax.tnil (Syntax.ttcons Syntax.tnil (Syntax.ttcons Syntax.tnil (Syntax.ttcons (Syntax.tcons (Syntax.tyInt Syntax.w64) Syntax.tnil) (Syntax.ttcons Syntax.tnil (Syntax.ttcons
-              Syntax.tnil (Syntax.ttcons Syntax.tnil (Syntax.ttcons Syntax.tnil (Syntax.ttcons Syntax.tnil (Syntax.ttcons Syntax.tnil (Syntax.ttcons (Syntax.tcons (Syntax.tyInt Syntax.w64) Syntax.tnil)
-              (Syntax.ttcons (Syntax.tcons (Syntax.tyInt Syntax.w64) Syntax.tnil) (Syntax.ttcons Syntax.tnil (Syntax.ttcons (Syntax.tcons (Syntax.tyInt Syntax.w64) (Syntax.tcons (Syntax.tyInt Syntax.w64)
-              Syntax.tnil)) (Syntax.ttcons (Syntax.tcons (Syntax.tyInt Syntax.w64) Syntax.tnil) (Syntax.ttcons Syntax.tnil Syntax.ttnil))))))))))))))))) Syntax.tnil) Syntax.ttnil))),
-        ) (List._∷_ (
-          1,
-          Rows'.sslice (Referent.rtF (Referent.fInt Syntax.w8)) (Syntax.tyRef (Syntax.named 0) Syntax.imm (Syntax.tyInt Syntax.w8)) 0,
-        ) (List._∷_ (
-          2,
-          Rows'.any-gone (Syntax.tyStruct (List._∷_ 114
-              (List._∷_ 101 (List._∷_ 103 (List._∷_ 105 (List._∷_ 111 (List._∷_ 110 (List._∷_ 58 (List._∷_ 58 (List._∷_ 82 (List._∷_ 101 (List._∷_ 99 (List._∷_ 116 List.[])))))))))))) (Syntax.tcons
-              (Syntax.tyInt Syntax.w64) (Syntax.tcons (Syntax.tyInt Syntax.w64) (Syntax.tcons (Syntax.tyInt Syntax.w64) (Syntax.tcons (Syntax.tyInt Syntax.w64) Syntax.tnil))))),
-        ) (List._∷_ (
-          3,
-          Rows'.any-gone (Syntax.tyArray (Syntax.tyInt Syntax.w8) 36),
-        ) (List._∷_ (
-          4,
-          Mut.mslice (Referent.rtF (Referent.fInt Syntax.w16)) (Syntax.tyRef (Syntax.named 1) Syntax.mut (Syntax.tyInt
-              Syntax.w16)) 1,
-        ) (List._∷_ (5, Mut.mslice (Referent.rtF (Referent.fInt Syntax.w16)) (Syntax.tyRef (Syntax.named 2) Syntax.mut (Syntax.tyInt Syntax.w16)) 2) (List._∷_ (
-          6,
-          Relend.mslice-owed (Element.type) (Syntax.tyRef (Syntax.named 3) Syntax.mut Element.behind) 3 6 (Row.lease (κs .1 .1 .1 .0) (qs .1 .1 .1 .0)),
-        ) (List._∷_ (
-          7,
-          Rows'.any-gone (Syntax.tyEnum
-              (List._∷_ 115 (List._∷_ 116 (List._∷_ 114 (List._∷_ 101 (List._∷_ 97 (List._∷_ 109 (List._∷_ 58 (List._∷_ 58 (List._∷_ 80 (List._∷_ 97 (List._∷_ 114 (List._∷_ 115 (List._∷_ 101 (List._∷_ 100
-              List.[])))))))))))))) (Syntax.ttcons (Syntax.tcons (Syntax.tyStruct (List._∷_ 115 (List._∷_ 116 (List._∷_ 114 (List._∷_ 101 (List._∷_ 97 (List._∷_ 109 (List._∷_ 58 (List._∷_ 58 (List._∷_ 70
-              (List._∷_ 117 (List._∷_ 106 (List._∷_ 105 (List._∷_ 72 (List._∷_ 101 (List._∷_ 97 (List._∷_ 100 (List._∷_ 101 (List._∷_ 114 List.[])))))))))))))))))) (Syntax.tcons Syntax.tyBool (Syntax.tcons
-              Syntax.tyBool (Syntax.tcons (Syntax.tyInt Syntax.w32) (Syntax.tcons (Syntax.tyInt Syntax.w32) (Syntax.tcons (Syntax.tyInt Syntax.w32) (Syntax.tcons (Syntax.tyInt Syntax.w32) (Syntax.tcons
-              (Syntax.tyInt Syntax.w32) (Syntax.tcons (Syntax.tyInt Syntax.w32) (Syntax.tcons (Syntax.tyInt Syntax.w32) Syntax.tnil)))))))))) Syntax.tnil) (Syntax.ttcons (Syntax.tcons (Syntax.tyEnum
-              (List._∷_ 115 (List._∷_ 116 (List._∷_ 114 (List._∷_ 101 (List._∷_ 97 (List._∷_ 109 (List._∷_ 58 (List._∷_ 58 (List._∷_ 82 (List._∷_ 101 (List._∷_ 102 (List._∷_ 117 (List._∷_ 115 (List._∷_ 97
-              (List._∷_ 108 List.[]))))))))))))))) (Syntax.ttcons Syntax.tnil (Syntax.ttcons Syntax.tnil (Syntax.ttcons Syntax.tnil (Syntax.ttcons (Syntax.tcons (Syntax.tyInt Syntax.w64) Syntax.tnil)
-              (Syntax.ttcons Syntax.tnil (Syntax.ttcons Syntax.tnil (Syntax.ttcons Syntax.tnil (Syntax.ttcons Syntax.tnil (Syntax.ttcons Syntax.tnil (Syntax.ttcons Syntax.tnil (Syntax.ttcons (Syntax.tcons
-              (Syntax.tyInt Syntax.w64) Syntax.tnil) (Syntax.ttcons (Syntax.tcons (Syntax.tyInt Syntax.w64) Syntax.tnil) (Syntax.ttcons Syntax.tnil (Syntax.ttcons (Syntax.tcons (Syntax.tyInt Syntax.w64)
-              (Syntax.tcons (Syntax.tyInt Syntax.w64) Syntax.tnil)) (Syntax.ttcons (Syntax.tcons (Syntax.tyInt Syntax.w64) Syntax.tnil) (Syntax.ttcons Syntax.tnil Syntax.ttnil))))))))))))))))) Syntax.tnil)
-              Syntax.ttnil))),
-        ) (List._∷_ (
-          8,
-          Rows'.any-gone (Syntax.tyEnum (List._∷_ 115 (List._∷_ 116 (List._∷_ 114 (List._∷_ 101 (List._∷_ 97 (List._∷_ 109 (List._∷_ 58 (List._∷_ 58 (List._∷_ 82
-              (List._∷_ 101 (List._∷_ 102 (List._∷_ 117 (List._∷_ 115 (List._∷_ 97 (List._∷_ 108 List.[]))))))))))))))) (Syntax.ttcons Syntax.tnil (Syntax.ttcons Syntax.tnil (Syntax.ttcons Syntax.tnil
-              (Syntax.ttcons (Syntax.tcons (Syntax.tyInt Syntax.w64) Syntax.tnil) (Syntax.ttcons Syntax.tnil (Syntax.ttcons Syntax.tnil (Syntax.ttcons Syntax.tnil (Syntax.ttcons Syntax.tnil (Syntax.ttcons
-              Syntax.tnil (Syntax.ttcons Syntax.tnil (Syntax.ttcons (Syntax.tcons (Syntax.tyInt Syntax.w64) Syntax.tnil) (Syntax.ttcons (Syntax.tcons (Syntax.tyInt Syntax.w64) Syntax.tnil) (Syntax.ttcons
-              Syntax.tnil (Syntax.ttcons (Syntax.tcons (Syntax.tyInt Syntax.w64) (Syntax.tcons (Syntax.tyInt Syntax.w64) Syntax.tnil)) (Syntax.ttcons (Syntax.tcons (Syntax.tyInt Syntax.w64) Syntax.tnil)
-              (Syntax.ttcons Syntax.tnil Syntax.ttnil))))))))))))))))),
-        ) (List._∷_ (
-          9,
-          Rows'.any-gone (Syntax.tyStruct (List._∷_ 115 (List._∷_ 116 (List._∷_ 114 (List._∷_ 101 (List._∷_ 97 (List._∷_ 109
-              (List._∷_ 58 (List._∷_ 58 (List._∷_ 70 (List._∷_ 117 (List._∷_ 106 (List._∷_ 105 (List._∷_ 72 (List._∷_ 101 (List._∷_ 97 (List._∷_ 100 (List._∷_ 101 (List._∷_ 114 List.[]))))))))))))))))))
-              (Syntax.tcons Syntax.tyBool (Syntax.tcons Syntax.tyBool (Syntax.tcons (Syntax.tyInt Syntax.w32) (Syntax.tcons (Syntax.tyInt Syntax.w32) (Syntax.tcons (Syntax.tyInt Syntax.w32) (Syntax.tcons
-              (Syntax.tyInt Syntax.w32) (Syntax.tcons (Syntax.tyInt Syntax.w32) (Syntax.tcons (Syntax.tyInt Syntax.w32) (Syntax.tcons (Syntax.tyInt Syntax.w32) Syntax.tnil)))))))))),
-        ) (List._∷_ (
-          10,
-          Rows'.whole (Declared.row Decoded.the-type),
-        ) (List._∷_ (11, Rows'.any-gone (Syntax.tyRef Syntax.erased Syntax.mut (Syntax.tyInt Syntax.w16))) (List._∷_ (
-          12,
-          Rows'.any-gone (Syntax.tyStruct
-              (List._∷_ 38 (List._∷_ 91 (List._∷_ 93 List.[]))) (Syntax.tcons (Syntax.tyRef Syntax.erased Syntax.mut (Syntax.tyInt Syntax.w16)) (Syntax.tcons (Syntax.tyInt Syntax.w64) Syntax.tnil))),
-        )
-            (List._∷_ (13, Rows'.any-gone (Syntax.tyRef Syntax.erased Syntax.mut (Syntax.tyInt Syntax.w16))) (List._∷_ (
-              14,
-              Rows'.any-gone (Syntax.tyStruct (List._∷_ 38 (List._∷_ 91 (List._∷_ 93
-                  List.[]))) (Syntax.tcons (Syntax.tyRef Syntax.erased Syntax.mut (Syntax.tyInt Syntax.w16)) (Syntax.tcons (Syntax.tyInt Syntax.w64) Syntax.tnil))),
-            ) (List._∷_ (
-              15,
-              Rows'.any-gone
-                  (Syntax.tyRef Syntax.erased Syntax.mut Element.behind),
-            ) List.[])))))))))))))))
+              Rows'.any-gone (Syntax.tyStruct
+                  (List._∷_ 38 (List._∷_ 91 (List._∷_ 93 List.[]))) (Syntax.tcons (Syntax.tyRef Syntax.erased Syntax.mut (Syntax.tyInt Syntax.w16)) (Syntax.tcons (Syntax.tyInt Syntax.w64) Syntax.tnil))),
+            )
+            (List._∷_ (15, Rows'.any-gone (Syntax.tyRef Syntax.erased Syntax.mut Element.behind)) List.[])))))))))))))))
 
         abbrev G0 : Row.Cx
         G0 = record {
@@ -3705,18 +3851,21 @@ module _ (claims· : Claims) where
               List.[]))))))))))))))) (Syntax.ttcons Syntax.tnil (Syntax.ttcons Syntax.tnil (Syntax.ttcons Syntax.tnil (Syntax.ttcons (Syntax.tcons (Syntax.tyInt Syntax.w64) Syntax.tnil) (Syntax.ttcons
               Syntax.tnil (Syntax.ttcons Syntax.tnil (Syntax.ttcons Syntax.tnil (Syntax.ttcons Syntax.tnil (Syntax.ttcons Syntax.tnil (Syntax.ttcons Syntax.tnil (Syntax.ttcons (Syntax.tcons (Syntax.tyInt
               Syntax.w64) Syntax.tnil) (Syntax.ttcons (Syntax.tcons (Syntax.tyInt Syntax.w64) Syntax.tnil) (Syntax.ttcons Syntax.tnil (Syntax.ttcons (Syntax.tcons (Syntax.tyInt Syntax.w64) (Syntax.tcons
-              (Syntax.tyInt Syntax.w64) Syntax.tnil)) (Syntax.ttcons (Syntax.tcons (Syntax.tyInt Syntax.w64) Syntax.tnil) (Syntax.ttcons Syntax.tnil Syntax.ttnil))))))))))))))))) (Laws'5.val
-              Refusal.the-type Laws'4.the-laws)) List.[])) (λ m. Decoded.enum .make (Logic.inr (Logic.inl (m .1 .1 .1 .1 .1 .1 .1 .1 .0, tt)))) (Reads.room-gone 𝓤 H A (Syntax.tyEnum (List._∷_ 98 (List._∷_
-              108 (List._∷_ 111 (List._∷_ 99 (List._∷_ 107 (List._∷_ 58 (List._∷_ 58 (List._∷_ 68 (List._∷_ 101 (List._∷_ 99 (List._∷_ 111 (List._∷_ 100 (List._∷_ 101 (List._∷_ 100 List.[]))))))))))))))
-              (Syntax.ttcons Syntax.tnil (Syntax.ttcons (Syntax.tcons (Syntax.tyEnum (List._∷_ 115 (List._∷_ 116 (List._∷_ 114 (List._∷_ 101 (List._∷_ 97 (List._∷_ 109 (List._∷_ 58 (List._∷_ 58 (List._∷_
-              82 (List._∷_ 101 (List._∷_ 102 (List._∷_ 117 (List._∷_ 115 (List._∷_ 97 (List._∷_ 108 List.[]))))))))))))))) (Syntax.ttcons Syntax.tnil (Syntax.ttcons Syntax.tnil (Syntax.ttcons Syntax.tnil
-              (Syntax.ttcons (Syntax.tcons (Syntax.tyInt Syntax.w64) Syntax.tnil) (Syntax.ttcons Syntax.tnil (Syntax.ttcons Syntax.tnil (Syntax.ttcons Syntax.tnil (Syntax.ttcons Syntax.tnil (Syntax.ttcons
-              Syntax.tnil (Syntax.ttcons Syntax.tnil (Syntax.ttcons (Syntax.tcons (Syntax.tyInt Syntax.w64) Syntax.tnil) (Syntax.ttcons (Syntax.tcons (Syntax.tyInt Syntax.w64) Syntax.tnil) (Syntax.ttcons
-              Syntax.tnil (Syntax.ttcons (Syntax.tcons (Syntax.tyInt Syntax.w64) (Syntax.tcons (Syntax.tyInt Syntax.w64) Syntax.tnil)) (Syntax.ttcons (Syntax.tcons (Syntax.tyInt Syntax.w64) Syntax.tnil)
-              (Syntax.ttcons Syntax.tnil Syntax.ttnil))))))))))))))))) Syntax.tnil) Syntax.ttnil)))) (tt, ((Whole.reads-enum 𝓤 H A W Refusal.the-type Laws'4.the-laws, Path'.refl), tt)) Path'.refl (λ m
-              wa. Make.made-val Decoded.the-type Laws.the-laws (List._∷_ (Laws'5.val Refusal.the-type Laws'4.the-laws (m .1 .1 .1 .1 .1 .1 .1 .1 .0)) List.[]) (Decoded.enum .make (Logic.inr (Logic.inl (
-                m
-                    .1 .1 .1 .1 .1 .1 .1 .1 .0,
+              (Syntax.tyInt Syntax.w64) Syntax.tnil)) (Syntax.ttcons (Syntax.tcons (Syntax.tyInt Syntax.w64) Syntax.tnil) (Syntax.ttcons Syntax.tnil (Syntax.ttcons Syntax.tnil (Syntax.ttcons (Syntax.tcons
+              (Syntax.tyInt Syntax.w64) Syntax.tnil) (Syntax.ttcons (Syntax.tcons (Syntax.tyInt Syntax.w64) Syntax.tnil) (Syntax.ttcons (Syntax.tcons (Syntax.tyInt Syntax.w64) Syntax.tnil) (Syntax.ttcons
+              Syntax.tnil Syntax.ttnil)))))))))))))))))))))) (Laws'5.val Refusal.the-type Laws'4.the-laws)) List.[])) (λ m. Decoded.enum .make (Logic.inr (Logic.inl (m .1 .1 .1 .1 .1 .1 .1 .1 .0, tt))))
+              (Reads.room-gone 𝓤 H A (Syntax.tyEnum (List._∷_ 98 (List._∷_ 108 (List._∷_ 111 (List._∷_ 99 (List._∷_ 107 (List._∷_ 58 (List._∷_ 58 (List._∷_ 68 (List._∷_ 101 (List._∷_ 99 (List._∷_ 111
+              (List._∷_ 100 (List._∷_ 101 (List._∷_ 100 List.[])))))))))))))) (Syntax.ttcons Syntax.tnil (Syntax.ttcons (Syntax.tcons (Syntax.tyEnum (List._∷_ 115 (List._∷_ 116 (List._∷_ 114 (List._∷_ 101
+              (List._∷_ 97 (List._∷_ 109 (List._∷_ 58 (List._∷_ 58 (List._∷_ 82 (List._∷_ 101 (List._∷_ 102 (List._∷_ 117 (List._∷_ 115 (List._∷_ 97 (List._∷_ 108 List.[]))))))))))))))) (Syntax.ttcons
+              Syntax.tnil (Syntax.ttcons Syntax.tnil (Syntax.ttcons Syntax.tnil (Syntax.ttcons (Syntax.tcons (Syntax.tyInt Syntax.w64) Syntax.tnil) (Syntax.ttcons Syntax.tnil (Syntax.ttcons Syntax.tnil
+              (Syntax.ttcons Syntax.tnil (Syntax.ttcons Syntax.tnil (Syntax.ttcons Syntax.tnil (Syntax.ttcons Syntax.tnil (Syntax.ttcons (Syntax.tcons (Syntax.tyInt Syntax.w64) Syntax.tnil) (Syntax.ttcons
+              (Syntax.tcons (Syntax.tyInt Syntax.w64) Syntax.tnil) (Syntax.ttcons Syntax.tnil (Syntax.ttcons (Syntax.tcons (Syntax.tyInt Syntax.w64) (Syntax.tcons (Syntax.tyInt Syntax.w64) Syntax.tnil))
+              (Syntax.ttcons (Syntax.tcons (Syntax.tyInt Syntax.w64) Syntax.tnil) (Syntax.ttcons Syntax.tnil (Syntax.ttcons Syntax.tnil (Syntax.ttcons (Syntax.tcons (Syntax.tyInt Syntax.w64) Syntax.tnil)
+              (Syntax.ttcons (Syntax.tcons (Syntax.tyInt Syntax.w64) Syntax.tnil) (Syntax.ttcons (Syntax.tcons (Syntax.tyInt Syntax.w64) Syntax.tnil) (Syntax.ttcons Syntax.tnil
+              Syntax.ttnil)))))))))))))))))))))) Syntax.tnil) Syntax.ttnil)))) (tt, ((Whole.reads-enum 𝓤 H A W Refusal.the-type Laws'4.the-laws, Path'.refl), tt)) Path'.refl (λ m wa. Make.made-val
+              Decoded.the-type Laws.the-laws (List._∷_ (Laws'5.val Refusal.the-type Laws'4.the-laws (m .1 .1 .1 .1 .1 .1 .1 .1 .0)) List.[]) (Decoded.enum .make (Logic.inr (Logic.inl (
+                m .1 .1 .1 .1 .1 .1
+                    .1 .1 .0,
                 tt,
               )))) (
                 Signed.made-wt Refusal.the-field Laws'4.the-field-laws (Whole.enum-wt Refusal.the-type Laws'4.the-laws (
@@ -3731,26 +3880,6 @@ module _ (claims· : Claims) where
                           tt,
                           (
                             tt,
-                            (tt, (tt, (tt, (tt, ((Make'.u64-wt, tt), ((Make'.u64-wt, tt), (tt, ((Make'.u64-wt, (Make'.u64-wt, tt)), ((Make'.u64-wt, tt), (tt, tt)))))))))),
-                          ),
-                        ),
-                      ),
-                    ),
-                  ),
-                ))
-                    (Refusal.the-type .to (m .1 .1 .1 .1 .1 .1 .1 .1 .0)),
-                tt,
-              ) (wa .1)) λ m wa. Make.made-is Decoded.the-type Laws.the-laws (List._∷_ (Laws'5.val Refusal.the-type Laws'4.the-laws (m .1 .1 .1
-              .1 .1 .1 .1 .1 .0)) List.[]) (Decoded.enum .make (Logic.inr (Logic.inl (m .1 .1 .1 .1 .1 .1 .1 .1 .0, tt)))) (
-                Signed.made-wt Refusal.the-field Laws'4.the-field-laws (Whole.enum-wt
-                    Refusal.the-type Laws'4.the-laws (
-                      tt,
-                      (
-                        tt,
-                        (
-                          tt,
-                          (
-                            (Make'.u64-wt, tt),
                             (
                               tt,
                               (
@@ -3760,24 +3889,27 @@ module _ (claims· : Claims) where
                                   (
                                     tt,
                                     (
-                                      tt,
+                                      (Make'.u64-wt, tt),
                                       (
-                                        tt,
+                                        (Make'.u64-wt, tt),
                                         (
-                                          (Make'.u64-wt, tt),
+                                          tt,
                                           (
-                                            (Make'.u64-wt, tt),
+                                            (Make'.u64-wt, (Make'.u64-wt, tt)),
                                             (
-                                              tt,
+                                              (Make'.u64-wt, tt),
                                               (
+                                                tt,
                                                 (
-                                                  Make'.u64-wt,
+                                                  tt,
                                                   (
-                                                    Make'.u64-wt,
-                                                    tt,
+                                                    (Make'.u64-wt, tt),
+                                                    (
+                                                      (Make'.u64-wt, tt),
+                                                      ((Make'.u64-wt, tt), (tt, tt)),
+                                                    ),
                                                   ),
                                                 ),
-                                                ((Make'.u64-wt, tt), (tt, tt)),
                                               ),
                                             ),
                                           ),
@@ -3791,20 +3923,90 @@ module _ (claims· : Claims) where
                           ),
                         ),
                       ),
-                    )) (Refusal.the-type .to (m .1 .1 .1 .1 .1 .1 .1 .1 .0)),
+                    ),
+                  ),
+                )) (Refusal.the-type .to (m .1 .1 .1 .1 .1 .1 .1 .1 .0)),
+                tt,
+              ) (wa .1)) λ m wa. Make.made-is
+              Decoded.the-type Laws.the-laws (List._∷_ (Laws'5.val Refusal.the-type Laws'4.the-laws (m .1 .1 .1 .1 .1 .1 .1 .1 .0)) List.[]) (Decoded.enum .make (Logic.inr (Logic.inl (
+                m .1 .1 .1 .1 .1 .1
+                    .1 .1 .0,
+                tt,
+              )))) (
+                Signed.made-wt Refusal.the-field Laws'4.the-field-laws (Whole.enum-wt Refusal.the-type Laws'4.the-laws (
+                  tt,
+                  (
+                    tt,
+                    (
+                      tt,
+                      (
+                        (Make'.u64-wt, tt),
+                        (
+                          tt,
+                          (
+                            tt,
+                            (
+                              tt,
+                              (
+                                tt,
+                                (
+                                  tt,
+                                  (
+                                    tt,
+                                    (
+                                      (Make'.u64-wt, tt),
+                                      (
+                                        (Make'.u64-wt, tt),
+                                        (
+                                          tt,
+                                          (
+                                            (Make'.u64-wt, (Make'.u64-wt, tt)),
+                                            (
+                                              (Make'.u64-wt, tt),
+                                              (
+                                                tt,
+                                                (
+                                                  tt,
+                                                  (
+                                                    (Make'.u64-wt, tt),
+                                                    (
+                                                      (Make'.u64-wt, tt),
+                                                      ((Make'.u64-wt, tt), (tt, tt)),
+                                                    ),
+                                                  ),
+                                                ),
+                                              ),
+                                            ),
+                                          ),
+                                        ),
+                                      ),
+                                    ),
+                                  ),
+                                ),
+                              ),
+                            ),
+                          ),
+                        ),
+                      ),
+                    ),
+                  ),
+                )) (Refusal.the-type .to (m .1 .1 .1 .1 .1 .1 .1 .1 .0)),
                 tt,
               ) (wa .1)) (Scalar.g-room 𝓤 H A W E G13 8
               (Syntax.tyEnum (List._∷_ 115 (List._∷_ 116 (List._∷_ 114 (List._∷_ 101 (List._∷_ 97 (List._∷_ 109 (List._∷_ 58 (List._∷_ 58 (List._∷_ 82 (List._∷_ 101 (List._∷_ 102 (List._∷_ 117 (List._∷_
               115 (List._∷_ 97 (List._∷_ 108 List.[]))))))))))))))) (Syntax.ttcons Syntax.tnil (Syntax.ttcons Syntax.tnil (Syntax.ttcons Syntax.tnil (Syntax.ttcons (Syntax.tcons (Syntax.tyInt Syntax.w64)
               Syntax.tnil) (Syntax.ttcons Syntax.tnil (Syntax.ttcons Syntax.tnil (Syntax.ttcons Syntax.tnil (Syntax.ttcons Syntax.tnil (Syntax.ttcons Syntax.tnil (Syntax.ttcons Syntax.tnil (Syntax.ttcons
               (Syntax.tcons (Syntax.tyInt Syntax.w64) Syntax.tnil) (Syntax.ttcons (Syntax.tcons (Syntax.tyInt Syntax.w64) Syntax.tnil) (Syntax.ttcons Syntax.tnil (Syntax.ttcons (Syntax.tcons (Syntax.tyInt
-              Syntax.w64) (Syntax.tcons (Syntax.tyInt Syntax.w64) Syntax.tnil)) (Syntax.ttcons (Syntax.tcons (Syntax.tyInt Syntax.w64) Syntax.tnil) (Syntax.ttcons Syntax.tnil Syntax.ttnil)))))))))))))))))
-              (Local.room-whole 𝓤 H A W (Declared.row Refusal.the-type) (Syntax.tyEnum (List._∷_ 115 (List._∷_ 116 (List._∷_ 114 (List._∷_ 101 (List._∷_ 97 (List._∷_ 109 (List._∷_ 58 (List._∷_ 58
-              (List._∷_ 82 (List._∷_ 101 (List._∷_ 102 (List._∷_ 117 (List._∷_ 115 (List._∷_ 97 (List._∷_ 108 List.[]))))))))))))))) (Syntax.ttcons Syntax.tnil (Syntax.ttcons Syntax.tnil (Syntax.ttcons
-              Syntax.tnil (Syntax.ttcons (Syntax.tcons (Syntax.tyInt Syntax.w64) Syntax.tnil) (Syntax.ttcons Syntax.tnil (Syntax.ttcons Syntax.tnil (Syntax.ttcons Syntax.tnil (Syntax.ttcons Syntax.tnil
-              (Syntax.ttcons Syntax.tnil (Syntax.ttcons Syntax.tnil (Syntax.ttcons (Syntax.tcons (Syntax.tyInt Syntax.w64) Syntax.tnil) (Syntax.ttcons (Syntax.tcons (Syntax.tyInt Syntax.w64) Syntax.tnil)
-              (Syntax.ttcons Syntax.tnil (Syntax.ttcons (Syntax.tcons (Syntax.tyInt Syntax.w64) (Syntax.tcons (Syntax.tyInt Syntax.w64) Syntax.tnil)) (Syntax.ttcons (Syntax.tcons (Syntax.tyInt Syntax.w64)
-              Syntax.tnil) (Syntax.ttcons Syntax.tnil Syntax.ttnil))))))))))))))))) Path'.refl)))
+              Syntax.w64) (Syntax.tcons (Syntax.tyInt Syntax.w64) Syntax.tnil)) (Syntax.ttcons (Syntax.tcons (Syntax.tyInt Syntax.w64) Syntax.tnil) (Syntax.ttcons Syntax.tnil (Syntax.ttcons Syntax.tnil
+              (Syntax.ttcons (Syntax.tcons (Syntax.tyInt Syntax.w64) Syntax.tnil) (Syntax.ttcons (Syntax.tcons (Syntax.tyInt Syntax.w64) Syntax.tnil) (Syntax.ttcons (Syntax.tcons (Syntax.tyInt Syntax.w64)
+              Syntax.tnil) (Syntax.ttcons Syntax.tnil Syntax.ttnil)))))))))))))))))))))) (Local.room-whole 𝓤 H A W (Declared.row Refusal.the-type) (Syntax.tyEnum (List._∷_ 115 (List._∷_ 116 (List._∷_ 114
+              (List._∷_ 101 (List._∷_ 97 (List._∷_ 109 (List._∷_ 58 (List._∷_ 58 (List._∷_ 82 (List._∷_ 101 (List._∷_ 102 (List._∷_ 117 (List._∷_ 115 (List._∷_ 97 (List._∷_ 108 List.[])))))))))))))))
+              (Syntax.ttcons Syntax.tnil (Syntax.ttcons Syntax.tnil (Syntax.ttcons Syntax.tnil (Syntax.ttcons (Syntax.tcons (Syntax.tyInt Syntax.w64) Syntax.tnil) (Syntax.ttcons Syntax.tnil (Syntax.ttcons
+              Syntax.tnil (Syntax.ttcons Syntax.tnil (Syntax.ttcons Syntax.tnil (Syntax.ttcons Syntax.tnil (Syntax.ttcons Syntax.tnil (Syntax.ttcons (Syntax.tcons (Syntax.tyInt Syntax.w64) Syntax.tnil)
+              (Syntax.ttcons (Syntax.tcons (Syntax.tyInt Syntax.w64) Syntax.tnil) (Syntax.ttcons Syntax.tnil (Syntax.ttcons (Syntax.tcons (Syntax.tyInt Syntax.w64) (Syntax.tcons (Syntax.tyInt Syntax.w64)
+              Syntax.tnil)) (Syntax.ttcons (Syntax.tcons (Syntax.tyInt Syntax.w64) Syntax.tnil) (Syntax.ttcons Syntax.tnil (Syntax.ttcons Syntax.tnil (Syntax.ttcons (Syntax.tcons (Syntax.tyInt Syntax.w64)
+              Syntax.tnil) (Syntax.ttcons (Syntax.tcons (Syntax.tyInt Syntax.w64) Syntax.tnil) (Syntax.ttcons (Syntax.tcons (Syntax.tyInt Syntax.w64) Syntax.tnil) (Syntax.ttcons Syntax.tnil
+              Syntax.ttnil)))))))))))))))))))))) Path'.refl)))
 
           d1 : Typed.Typed 𝓤 H A 𝓣 E G11 b2 Δ1 at1
           d1 = Typed.g-pre 𝓤 H A W 𝓣 E G11 G12 b2 Δ1 (Typed.pass T11 T12 s9) at0 (Scalar.g-room 𝓤 H A W E G11 7 (Syntax.tyEnum (List._∷_ 115 (List._∷_ 116 (List._∷_ 114 (List._∷_ 101 (List._∷_ 97
@@ -3817,18 +4019,21 @@ module _ (claims· : Claims) where
               (Syntax.ttcons Syntax.tnil (Syntax.ttcons Syntax.tnil (Syntax.ttcons (Syntax.tcons (Syntax.tyInt Syntax.w64) Syntax.tnil) (Syntax.ttcons Syntax.tnil (Syntax.ttcons Syntax.tnil (Syntax.ttcons
               Syntax.tnil (Syntax.ttcons Syntax.tnil (Syntax.ttcons Syntax.tnil (Syntax.ttcons Syntax.tnil (Syntax.ttcons (Syntax.tcons (Syntax.tyInt Syntax.w64) Syntax.tnil) (Syntax.ttcons (Syntax.tcons
               (Syntax.tyInt Syntax.w64) Syntax.tnil) (Syntax.ttcons Syntax.tnil (Syntax.ttcons (Syntax.tcons (Syntax.tyInt Syntax.w64) (Syntax.tcons (Syntax.tyInt Syntax.w64) Syntax.tnil)) (Syntax.ttcons
-              (Syntax.tcons (Syntax.tyInt Syntax.w64) Syntax.tnil) (Syntax.ttcons Syntax.tnil Syntax.ttnil))))))))))))))))) Syntax.tnil) Syntax.ttnil))) (Local.room-whole 𝓤 H A W (Known.Known Parsed.enum
-              1) (Syntax.tyEnum (List._∷_ 115 (List._∷_ 116 (List._∷_ 114 (List._∷_ 101 (List._∷_ 97 (List._∷_ 109 (List._∷_ 58 (List._∷_ 58 (List._∷_ 80 (List._∷_ 97 (List._∷_ 114 (List._∷_ 115 (List._∷_
-              101 (List._∷_ 100 List.[])))))))))))))) (Syntax.ttcons (Syntax.tcons (Syntax.tyStruct (List._∷_ 115 (List._∷_ 116 (List._∷_ 114 (List._∷_ 101 (List._∷_ 97 (List._∷_ 109 (List._∷_ 58
-              (List._∷_ 58 (List._∷_ 70 (List._∷_ 117 (List._∷_ 106 (List._∷_ 105 (List._∷_ 72 (List._∷_ 101 (List._∷_ 97 (List._∷_ 100 (List._∷_ 101 (List._∷_ 114 List.[])))))))))))))))))) (Syntax.tcons
-              Syntax.tyBool (Syntax.tcons Syntax.tyBool (Syntax.tcons (Syntax.tyInt Syntax.w32) (Syntax.tcons (Syntax.tyInt Syntax.w32) (Syntax.tcons (Syntax.tyInt Syntax.w32) (Syntax.tcons (Syntax.tyInt
-              Syntax.w32) (Syntax.tcons (Syntax.tyInt Syntax.w32) (Syntax.tcons (Syntax.tyInt Syntax.w32) (Syntax.tcons (Syntax.tyInt Syntax.w32) Syntax.tnil)))))))))) Syntax.tnil) (Syntax.ttcons
-              (Syntax.tcons (Syntax.tyEnum (List._∷_ 115 (List._∷_ 116 (List._∷_ 114 (List._∷_ 101 (List._∷_ 97 (List._∷_ 109 (List._∷_ 58 (List._∷_ 58 (List._∷_ 82 (List._∷_ 101 (List._∷_ 102 (List._∷_
-              117 (List._∷_ 115 (List._∷_ 97 (List._∷_ 108 List.[]))))))))))))))) (Syntax.ttcons Syntax.tnil (Syntax.ttcons Syntax.tnil (Syntax.ttcons Syntax.tnil (Syntax.ttcons (Syntax.tcons
-              (Syntax.tyInt Syntax.w64) Syntax.tnil) (Syntax.ttcons Syntax.tnil (Syntax.ttcons Syntax.tnil (Syntax.ttcons Syntax.tnil (Syntax.ttcons Syntax.tnil (Syntax.ttcons Syntax.tnil (Syntax.ttcons
-              Syntax.tnil (Syntax.ttcons (Syntax.tcons (Syntax.tyInt Syntax.w64) Syntax.tnil) (Syntax.ttcons (Syntax.tcons (Syntax.tyInt Syntax.w64) Syntax.tnil) (Syntax.ttcons Syntax.tnil (Syntax.ttcons
-              (Syntax.tcons (Syntax.tyInt Syntax.w64) (Syntax.tcons (Syntax.tyInt Syntax.w64) Syntax.tnil)) (Syntax.ttcons (Syntax.tcons (Syntax.tyInt Syntax.w64) Syntax.tnil) (Syntax.ttcons Syntax.tnil
-              Syntax.ttnil))))))))))))))))) Syntax.tnil) Syntax.ttnil))) Path'.refl)) d0
+              (Syntax.tcons (Syntax.tyInt Syntax.w64) Syntax.tnil) (Syntax.ttcons Syntax.tnil (Syntax.ttcons Syntax.tnil (Syntax.ttcons (Syntax.tcons (Syntax.tyInt Syntax.w64) Syntax.tnil) (Syntax.ttcons
+              (Syntax.tcons (Syntax.tyInt Syntax.w64) Syntax.tnil) (Syntax.ttcons (Syntax.tcons (Syntax.tyInt Syntax.w64) Syntax.tnil) (Syntax.ttcons Syntax.tnil Syntax.ttnil))))))))))))))))))))))
+              Syntax.tnil) Syntax.ttnil))) (Local.room-whole 𝓤 H A W (Known.Known Parsed.enum 1) (Syntax.tyEnum (List._∷_ 115 (List._∷_ 116 (List._∷_ 114 (List._∷_ 101 (List._∷_ 97 (List._∷_ 109 (List._∷_
+              58 (List._∷_ 58 (List._∷_ 80 (List._∷_ 97 (List._∷_ 114 (List._∷_ 115 (List._∷_ 101 (List._∷_ 100 List.[])))))))))))))) (Syntax.ttcons (Syntax.tcons (Syntax.tyStruct (List._∷_ 115 (List._∷_
+              116 (List._∷_ 114 (List._∷_ 101 (List._∷_ 97 (List._∷_ 109 (List._∷_ 58 (List._∷_ 58 (List._∷_ 70 (List._∷_ 117 (List._∷_ 106 (List._∷_ 105 (List._∷_ 72 (List._∷_ 101 (List._∷_ 97 (List._∷_
+              100 (List._∷_ 101 (List._∷_ 114 List.[])))))))))))))))))) (Syntax.tcons Syntax.tyBool (Syntax.tcons Syntax.tyBool (Syntax.tcons (Syntax.tyInt Syntax.w32) (Syntax.tcons (Syntax.tyInt
+              Syntax.w32) (Syntax.tcons (Syntax.tyInt Syntax.w32) (Syntax.tcons (Syntax.tyInt Syntax.w32) (Syntax.tcons (Syntax.tyInt Syntax.w32) (Syntax.tcons (Syntax.tyInt Syntax.w32) (Syntax.tcons
+              (Syntax.tyInt Syntax.w32) Syntax.tnil)))))))))) Syntax.tnil) (Syntax.ttcons (Syntax.tcons (Syntax.tyEnum (List._∷_ 115 (List._∷_ 116 (List._∷_ 114 (List._∷_ 101 (List._∷_ 97 (List._∷_ 109
+              (List._∷_ 58 (List._∷_ 58 (List._∷_ 82 (List._∷_ 101 (List._∷_ 102 (List._∷_ 117 (List._∷_ 115 (List._∷_ 97 (List._∷_ 108 List.[]))))))))))))))) (Syntax.ttcons Syntax.tnil (Syntax.ttcons
+              Syntax.tnil (Syntax.ttcons Syntax.tnil (Syntax.ttcons (Syntax.tcons (Syntax.tyInt Syntax.w64) Syntax.tnil) (Syntax.ttcons Syntax.tnil (Syntax.ttcons Syntax.tnil (Syntax.ttcons Syntax.tnil
+              (Syntax.ttcons Syntax.tnil (Syntax.ttcons Syntax.tnil (Syntax.ttcons Syntax.tnil (Syntax.ttcons (Syntax.tcons (Syntax.tyInt Syntax.w64) Syntax.tnil) (Syntax.ttcons (Syntax.tcons
+              (Syntax.tyInt Syntax.w64) Syntax.tnil) (Syntax.ttcons Syntax.tnil (Syntax.ttcons (Syntax.tcons (Syntax.tyInt Syntax.w64) (Syntax.tcons (Syntax.tyInt Syntax.w64) Syntax.tnil)) (Syntax.ttcons
+              (Syntax.tcons (Syntax.tyInt Syntax.w64) Syntax.tnil) (Syntax.ttcons Syntax.tnil (Syntax.ttcons Syntax.tnil (Syntax.ttcons (Syntax.tcons (Syntax.tyInt Syntax.w64) Syntax.tnil) (Syntax.ttcons
+              (Syntax.tcons (Syntax.tyInt Syntax.w64) Syntax.tnil) (Syntax.ttcons (Syntax.tcons (Syntax.tyInt Syntax.w64) Syntax.tnil) (Syntax.ttcons Syntax.tnil Syntax.ttnil))))))))))))))))))))))
+              Syntax.tnil) Syntax.ttnil))) Path'.refl)) d0
 
           d2 : Typed.Typed 𝓤 H A 𝓣 E G10 b3 Δ1 at2
           d2 = Typed.s-seq 𝓤 H A W 𝓣 E G10 G11 b1 b2 Δ1 (Typed.pass T10 T11 s8) at1 (CopyOut.t-copy-told 𝓤 H A W E 𝓣 (Declared.row Refusal.the-type) Path'.refl (Laws'5.val Refusal.the-type
@@ -3838,24 +4043,29 @@ module _ (claims· : Claims) where
               (Syntax.tcons (Syntax.tyInt Syntax.w64) Syntax.tnil) (Syntax.ttcons Syntax.tnil (Syntax.ttcons Syntax.tnil (Syntax.ttcons Syntax.tnil (Syntax.ttcons Syntax.tnil (Syntax.ttcons Syntax.tnil
               (Syntax.ttcons Syntax.tnil (Syntax.ttcons (Syntax.tcons (Syntax.tyInt Syntax.w64) Syntax.tnil) (Syntax.ttcons (Syntax.tcons (Syntax.tyInt Syntax.w64) Syntax.tnil) (Syntax.ttcons Syntax.tnil
               (Syntax.ttcons (Syntax.tcons (Syntax.tyInt Syntax.w64) (Syntax.tcons (Syntax.tyInt Syntax.w64) Syntax.tnil)) (Syntax.ttcons (Syntax.tcons (Syntax.tyInt Syntax.w64) Syntax.tnil)
-              (Syntax.ttcons Syntax.tnil Syntax.ttnil))))))))))))))))) 8 λ v. Laws'5.val Refusal.the-type Laws'4.the-laws (v .0)) (λ m. m .1 .1 .1 .1 .1 .1 .1 .0 .0) (λ m. Laws'5.Fields (Declared.variants
-              Parsed.the-type) (Laws'5.spellss (Parsed.enum .parts) Laws'3.the-laws) (Parsed.the-type .to (Known.at Parsed.enum 1 (m .1 .1 .1 .1 .1 .1 .1 .0)))) (Reads.room-gone 𝓤 H A (Syntax.tyEnum
-              (List._∷_ 115 (List._∷_ 116 (List._∷_ 114 (List._∷_ 101 (List._∷_ 97 (List._∷_ 109 (List._∷_ 58 (List._∷_ 58 (List._∷_ 82 (List._∷_ 101 (List._∷_ 102 (List._∷_ 117 (List._∷_ 115 (List._∷_ 97
-              (List._∷_ 108 List.[]))))))))))))))) (Syntax.ttcons Syntax.tnil (Syntax.ttcons Syntax.tnil (Syntax.ttcons Syntax.tnil (Syntax.ttcons (Syntax.tcons (Syntax.tyInt Syntax.w64) Syntax.tnil)
-              (Syntax.ttcons Syntax.tnil (Syntax.ttcons Syntax.tnil (Syntax.ttcons Syntax.tnil (Syntax.ttcons Syntax.tnil (Syntax.ttcons Syntax.tnil (Syntax.ttcons Syntax.tnil (Syntax.ttcons (Syntax.tcons
-              (Syntax.tyInt Syntax.w64) Syntax.tnil) (Syntax.ttcons (Syntax.tcons (Syntax.tyInt Syntax.w64) Syntax.tnil) (Syntax.ttcons Syntax.tnil (Syntax.ttcons (Syntax.tcons (Syntax.tyInt Syntax.w64)
-              (Syntax.tcons (Syntax.tyInt Syntax.w64) Syntax.tnil)) (Syntax.ttcons (Syntax.tcons (Syntax.tyInt Syntax.w64) Syntax.tnil) (Syntax.ttcons Syntax.tnil Syntax.ttnil)))))))))))))))))) (
-                Match.reads-payload 𝓤 H A W Parsed.enum Laws'3.the-laws 1 Path'.refl Path'.refl (λ v. Val.vcons (Laws'5.val Refusal.the-type Laws'4.the-laws (v .0)) Val.vnil) (λ v. Path'.refl) 0
-                    (Syntax.tyEnum (List._∷_ 115 (List._∷_ 116 (List._∷_ 114 (List._∷_ 101 (List._∷_ 97 (List._∷_ 109 (List._∷_ 58 (List._∷_ 58 (List._∷_ 82 (List._∷_ 101 (List._∷_ 102 (List._∷_ 117 (List._∷_
-                    115 (List._∷_ 97 (List._∷_ 108 List.[]))))))))))))))) (Syntax.ttcons Syntax.tnil (Syntax.ttcons Syntax.tnil (Syntax.ttcons Syntax.tnil (Syntax.ttcons (Syntax.tcons (Syntax.tyInt Syntax.w64)
-                    Syntax.tnil) (Syntax.ttcons Syntax.tnil (Syntax.ttcons Syntax.tnil (Syntax.ttcons Syntax.tnil (Syntax.ttcons Syntax.tnil (Syntax.ttcons Syntax.tnil (Syntax.ttcons Syntax.tnil (Syntax.ttcons
-                    (Syntax.tcons (Syntax.tyInt Syntax.w64) Syntax.tnil) (Syntax.ttcons (Syntax.tcons (Syntax.tyInt Syntax.w64) Syntax.tnil) (Syntax.ttcons Syntax.tnil (Syntax.ttcons (Syntax.tcons (Syntax.tyInt
-                    Syntax.w64) (Syntax.tcons (Syntax.tyInt Syntax.w64) Syntax.tnil)) (Syntax.ttcons (Syntax.tcons (Syntax.tyInt Syntax.w64) Syntax.tnil) (Syntax.ttcons Syntax.tnil Syntax.ttnil)))))))))))))))))
-                    8 Path'.refl,
+              (Syntax.ttcons Syntax.tnil (Syntax.ttcons Syntax.tnil (Syntax.ttcons (Syntax.tcons (Syntax.tyInt Syntax.w64) Syntax.tnil) (Syntax.ttcons (Syntax.tcons (Syntax.tyInt Syntax.w64) Syntax.tnil)
+              (Syntax.ttcons (Syntax.tcons (Syntax.tyInt Syntax.w64) Syntax.tnil) (Syntax.ttcons Syntax.tnil Syntax.ttnil)))))))))))))))))))))) 8 λ v. Laws'5.val Refusal.the-type Laws'4.the-laws (v .0))
+              (λ m. m .1 .1 .1 .1 .1 .1 .1 .0 .0) (λ m. Laws'5.Fields (Declared.variants Parsed.the-type) (Laws'5.spellss (Parsed.enum .parts) Laws'3.the-laws) (Parsed.the-type .to (Known.at Parsed.enum 1
+              (m .1 .1 .1 .1 .1 .1 .1 .0)))) (Reads.room-gone 𝓤 H A (Syntax.tyEnum (List._∷_ 115 (List._∷_ 116 (List._∷_ 114 (List._∷_ 101 (List._∷_ 97 (List._∷_ 109 (List._∷_ 58 (List._∷_ 58 (List._∷_ 82
+              (List._∷_ 101 (List._∷_ 102 (List._∷_ 117 (List._∷_ 115 (List._∷_ 97 (List._∷_ 108 List.[]))))))))))))))) (Syntax.ttcons Syntax.tnil (Syntax.ttcons Syntax.tnil (Syntax.ttcons Syntax.tnil
+              (Syntax.ttcons (Syntax.tcons (Syntax.tyInt Syntax.w64) Syntax.tnil) (Syntax.ttcons Syntax.tnil (Syntax.ttcons Syntax.tnil (Syntax.ttcons Syntax.tnil (Syntax.ttcons Syntax.tnil (Syntax.ttcons
+              Syntax.tnil (Syntax.ttcons Syntax.tnil (Syntax.ttcons (Syntax.tcons (Syntax.tyInt Syntax.w64) Syntax.tnil) (Syntax.ttcons (Syntax.tcons (Syntax.tyInt Syntax.w64) Syntax.tnil) (Syntax.ttcons
+              Syntax.tnil (Syntax.ttcons (Syntax.tcons (Syntax.tyInt Syntax.w64) (Syntax.tcons (Syntax.tyInt Syntax.w64) Syntax.tnil)) (Syntax.ttcons (Syntax.tcons (Syntax.tyInt Syntax.w64) Syntax.tnil)
+              (Syntax.ttcons Syntax.tnil (Syntax.ttcons Syntax.tnil (Syntax.ttcons (Syntax.tcons (Syntax.tyInt Syntax.w64) Syntax.tnil) (Syntax.ttcons (Syntax.tcons (Syntax.tyInt Syntax.w64) Syntax.tnil)
+              (Syntax.ttcons (Syntax.tcons (Syntax.tyInt Syntax.w64) Syntax.tnil) (Syntax.ttcons Syntax.tnil Syntax.ttnil))))))))))))))))))))))) (
+                Match.reads-payload 𝓤 H A W Parsed.enum Laws'3.the-laws 1
+                    Path'.refl Path'.refl (λ v. Val.vcons (Laws'5.val Refusal.the-type Laws'4.the-laws (v .0)) Val.vnil) (λ v. Path'.refl) 0 (Syntax.tyEnum (List._∷_ 115 (List._∷_ 116 (List._∷_ 114 (List._∷_
+                    101 (List._∷_ 97 (List._∷_ 109 (List._∷_ 58 (List._∷_ 58 (List._∷_ 82 (List._∷_ 101 (List._∷_ 102 (List._∷_ 117 (List._∷_ 115 (List._∷_ 97 (List._∷_ 108 List.[]))))))))))))))) (Syntax.ttcons
+                    Syntax.tnil (Syntax.ttcons Syntax.tnil (Syntax.ttcons Syntax.tnil (Syntax.ttcons (Syntax.tcons (Syntax.tyInt Syntax.w64) Syntax.tnil) (Syntax.ttcons Syntax.tnil (Syntax.ttcons Syntax.tnil
+                    (Syntax.ttcons Syntax.tnil (Syntax.ttcons Syntax.tnil (Syntax.ttcons Syntax.tnil (Syntax.ttcons Syntax.tnil (Syntax.ttcons (Syntax.tcons (Syntax.tyInt Syntax.w64) Syntax.tnil) (Syntax.ttcons
+                    (Syntax.tcons (Syntax.tyInt Syntax.w64) Syntax.tnil) (Syntax.ttcons Syntax.tnil (Syntax.ttcons (Syntax.tcons (Syntax.tyInt Syntax.w64) (Syntax.tcons (Syntax.tyInt Syntax.w64) Syntax.tnil))
+                    (Syntax.ttcons (Syntax.tcons (Syntax.tyInt Syntax.w64) Syntax.tnil) (Syntax.ttcons Syntax.tnil (Syntax.ttcons Syntax.tnil (Syntax.ttcons (Syntax.tcons (Syntax.tyInt Syntax.w64) Syntax.tnil)
+                    (Syntax.ttcons (Syntax.tcons (Syntax.tyInt Syntax.w64) Syntax.tnil) (Syntax.ttcons (Syntax.tcons (Syntax.tyInt Syntax.w64) Syntax.tnil) (Syntax.ttcons Syntax.tnil
+                    Syntax.ttnil)))))))))))))))))))))) 8 Path'.refl,
                 Path'.refl,
-              ) Path'.refl (λ ρ m. Make'.tells-row 𝓤 H A W E ρ (Row.out 8 (G10 .locals)) m 7 (Laws'5.Fields (Declared.variants Parsed.the-type) (Laws'5.spellss (Parsed.enum
-              .parts) Laws'3.the-laws) (Parsed.the-type .to (Known.at Parsed.enum 1 (m .1 .1 .1 .1 .1 .1 .1 .0)))) (Known.known-is 𝓤 H A W E Parsed.enum 1 Laws'3.the-laws ρ 7 (m .1 .1 .1 .1 .1 .1 .1 .0)))
-              (λ m k wa. Path'.refl) λ m k wa. k .0) d1
+              ) Path'.refl (λ ρ m. Make'.tells-row 𝓤 H A W E ρ (Row.out 8 (G10 .locals)) m 7 (Laws'5.Fields (Declared.variants Parsed.the-type)
+              (Laws'5.spellss (Parsed.enum .parts) Laws'3.the-laws) (Parsed.the-type .to (Known.at Parsed.enum 1 (m .1 .1 .1 .1 .1 .1 .1 .0)))) (Known.known-is 𝓤 H A W E Parsed.enum 1 Laws'3.the-laws ρ 7
+              (m .1 .1 .1 .1 .1 .1 .1 .0))) (λ m k wa. Path'.refl) λ m k wa. k .0) d1
 
           d3 : Typed.Typed 𝓤 H A 𝓣 E G9 b3 Δ1 at3
           d3 = Typed.g-pre 𝓤 H A W 𝓣 E G9 G10 b3 Δ1 (Typed.pass T9 T10 s7) at2 (Scalar.g-room 𝓤 H A W E G9 3 (Syntax.tyArray (Syntax.tyInt Syntax.w8) 36) (Init.room-arr 𝓤 H A W (Referent.rtF
@@ -3983,36 +4193,40 @@ module _ (claims· : Claims) where
               (Syntax.ttcons Syntax.tnil (Syntax.ttcons (Syntax.tcons (Syntax.tyInt Syntax.w64) Syntax.tnil) (Syntax.ttcons Syntax.tnil (Syntax.ttcons Syntax.tnil (Syntax.ttcons Syntax.tnil (Syntax.ttcons
               Syntax.tnil (Syntax.ttcons Syntax.tnil (Syntax.ttcons Syntax.tnil (Syntax.ttcons (Syntax.tcons (Syntax.tyInt Syntax.w64) Syntax.tnil) (Syntax.ttcons (Syntax.tcons (Syntax.tyInt Syntax.w64)
               Syntax.tnil) (Syntax.ttcons Syntax.tnil (Syntax.ttcons (Syntax.tcons (Syntax.tyInt Syntax.w64) (Syntax.tcons (Syntax.tyInt Syntax.w64) Syntax.tnil)) (Syntax.ttcons (Syntax.tcons
-              (Syntax.tyInt Syntax.w64) Syntax.tnil) (Syntax.ttcons Syntax.tnil Syntax.ttnil))))))))))))))))) Syntax.tnil) Syntax.ttnil)))) (tt, (tt, (tt, (tt, tt)))) Path'.refl) (Scalar.g-room 𝓤 H A W E
-              G28 2 (Syntax.tyStruct (List._∷_ 114 (List._∷_ 101 (List._∷_ 103 (List._∷_ 105 (List._∷_ 111 (List._∷_ 110 (List._∷_ 58 (List._∷_ 58 (List._∷_ 82 (List._∷_ 101 (List._∷_ 99 (List._∷_ 116
-              List.[])))))))))))) (Syntax.tcons (Syntax.tyInt Syntax.w64) (Syntax.tcons (Syntax.tyInt Syntax.w64) (Syntax.tcons (Syntax.tyInt Syntax.w64) (Syntax.tcons (Syntax.tyInt Syntax.w64)
-              Syntax.tnil))))) (Local.room-whole 𝓤 H A W (Declared'.row Rect.the-type) (Syntax.tyStruct (List._∷_ 114 (List._∷_ 101 (List._∷_ 103 (List._∷_ 105 (List._∷_ 111 (List._∷_ 110 (List._∷_ 58
-              (List._∷_ 58 (List._∷_ 82 (List._∷_ 101 (List._∷_ 99 (List._∷_ 116 List.[])))))))))))) (Syntax.tcons (Syntax.tyInt Syntax.w64) (Syntax.tcons (Syntax.tyInt Syntax.w64) (Syntax.tcons
-              (Syntax.tyInt Syntax.w64) (Syntax.tcons (Syntax.tyInt Syntax.w64) Syntax.tnil))))) Path'.refl))) (Scalar.g-room 𝓤 H A W E G29 3 (Syntax.tyArray (Syntax.tyInt Syntax.w8) 36) (Init.room-arr 𝓤
-              H A W (Referent.rtF (Referent.fInt Syntax.w8)) 36 0 36 Path'.refl))) (Scalar.g-room 𝓤 H A W E G30 9 (Syntax.tyStruct (List._∷_ 115 (List._∷_ 116 (List._∷_ 114 (List._∷_ 101 (List._∷_ 97
-              (List._∷_ 109 (List._∷_ 58 (List._∷_ 58 (List._∷_ 70 (List._∷_ 117 (List._∷_ 106 (List._∷_ 105 (List._∷_ 72 (List._∷_ 101 (List._∷_ 97 (List._∷_ 100 (List._∷_ 101 (List._∷_ 114
-              List.[])))))))))))))))))) (Syntax.tcons Syntax.tyBool (Syntax.tcons Syntax.tyBool (Syntax.tcons (Syntax.tyInt Syntax.w32) (Syntax.tcons (Syntax.tyInt Syntax.w32) (Syntax.tcons (Syntax.tyInt
-              Syntax.w32) (Syntax.tcons (Syntax.tyInt Syntax.w32) (Syntax.tcons (Syntax.tyInt Syntax.w32) (Syntax.tcons (Syntax.tyInt Syntax.w32) (Syntax.tcons (Syntax.tyInt Syntax.w32)
-              Syntax.tnil)))))))))) (Local.room-whole 𝓤 H A W (Declared'.row FujiHeader.the-type) (Syntax.tyStruct (List._∷_ 115 (List._∷_ 116 (List._∷_ 114 (List._∷_ 101 (List._∷_ 97 (List._∷_ 109
-              (List._∷_ 58 (List._∷_ 58 (List._∷_ 70 (List._∷_ 117 (List._∷_ 106 (List._∷_ 105 (List._∷_ 72 (List._∷_ 101 (List._∷_ 97 (List._∷_ 100 (List._∷_ 101 (List._∷_ 114 List.[]))))))))))))))))))
-              (Syntax.tcons Syntax.tyBool (Syntax.tcons Syntax.tyBool (Syntax.tcons (Syntax.tyInt Syntax.w32) (Syntax.tcons (Syntax.tyInt Syntax.w32) (Syntax.tcons (Syntax.tyInt Syntax.w32) (Syntax.tcons
-              (Syntax.tyInt Syntax.w32) (Syntax.tcons (Syntax.tyInt Syntax.w32) (Syntax.tcons (Syntax.tyInt Syntax.w32) (Syntax.tcons (Syntax.tyInt Syntax.w32) Syntax.tnil)))))))))) Path'.refl)))
-              (Lifetime.g-end 𝓤 H A W E G31 4 Path'.refl)) (Relend.g-back-sl 𝓤 H A W E (Referent.rtF (Referent.fInt Syntax.w16)) G32 12 4 1 4 (Syntax.tyRef (Syntax.named 1) Syntax.mut (Syntax.tyInt
-              Syntax.w16)) (Syntax.tyRef Syntax.erased Syntax.mut (Syntax.tyInt Syntax.w16)) (Row.lease (κs .1 .0) (qs .1 .0)) (λ x. x) (λ x. x) (Reads.as-is 𝓤 H A (Mut.msleft (Referent.rtF (Referent.fInt
-              Syntax.w16)) (Syntax.tyRef Syntax.erased Syntax.mut (Syntax.tyInt Syntax.w16)))) (Reads.as-is 𝓤 H A (Relend.mslice-owed (Referent.rtF (Referent.fInt Syntax.w16)) (Syntax.tyRef (Syntax.named
-              1) Syntax.mut (Syntax.tyInt Syntax.w16)) 1 4 (Row.lease (κs .1 .0) (qs .1 .0)))) Path'.refl Path'.refl)) (Know.g-sl-known 𝓤 H A W (Referent.fInt Syntax.w16) E G33 4 1 (Syntax.tyRef
-              (Syntax.named 1) Syntax.mut (Syntax.tyInt Syntax.w16)) (Row.lease (κs .1 .0) (qs .1 .0)) 0 (λ x. x) record { fits = Dec'.lit< tt } (Reads.as-is 𝓤 H A (Mut.mslice (Referent.rtF (Referent.fInt
-              Syntax.w16)) (Syntax.tyRef (Syntax.named 1) Syntax.mut (Syntax.tyInt Syntax.w16)) 1)) Path'.refl tt)) (Lifetime.g-forget 𝓤 H A W E G34 4 Row.dead Path'.refl)) (Lifetime.g-end 𝓤 H A W E G35 5
-              Path'.refl)) (Relend.g-back-sl 𝓤 H A W E (Referent.rtF (Referent.fInt Syntax.w16)) G36 14 5 2 5 (Syntax.tyRef (Syntax.named 2) Syntax.mut (Syntax.tyInt Syntax.w16)) (Syntax.tyRef
-              Syntax.erased Syntax.mut (Syntax.tyInt Syntax.w16)) (Row.lease (κs .1 .1 .0) (qs .1 .1 .0)) (λ x. x) (λ x. x) (Reads.as-is 𝓤 H A (Mut.msleft (Referent.rtF (Referent.fInt Syntax.w16))
-              (Syntax.tyRef Syntax.erased Syntax.mut (Syntax.tyInt Syntax.w16)))) (Reads.as-is 𝓤 H A (Relend.mslice-owed (Referent.rtF (Referent.fInt Syntax.w16)) (Syntax.tyRef (Syntax.named 2) Syntax.mut
-              (Syntax.tyInt Syntax.w16)) 2 5 (Row.lease (κs .1 .1 .0) (qs .1 .1 .0)))) Path'.refl Path'.refl)) (Know.g-sl-known 𝓤 H A W (Referent.fInt Syntax.w16) E G37 5 2 (Syntax.tyRef (Syntax.named 2)
-              Syntax.mut (Syntax.tyInt Syntax.w16)) (Row.lease (κs .1 .1 .0) (qs .1 .1 .0)) 0 (λ x. x) record { fits = Dec'.lit< tt } (Reads.as-is 𝓤 H A (Mut.mslice (Referent.rtF (Referent.fInt
-              Syntax.w16)) (Syntax.tyRef (Syntax.named 2) Syntax.mut (Syntax.tyInt Syntax.w16)) 2)) Path'.refl tt)) (Lifetime.g-forget 𝓤 H A W E G38 5 Row.dead Path'.refl)) (Lifetime.g-end 𝓤 H A W E G39 6
-              Path'.refl)) (Relend.g-back-sl 𝓤 H A W E (Element.type) G40 16 6 3 6 (Syntax.tyRef (Syntax.named 3) Syntax.mut Element.behind) (Syntax.tyRef Syntax.erased Syntax.mut Element.behind)
-              (Row.lease (κs .1 .1 .1 .0) (qs .1 .1 .1 .0)) (λ x. x) (λ x. x) (Reads.as-is 𝓤 H A (Mut.msleft (Element.type) (Syntax.tyRef Syntax.erased Syntax.mut Element.behind))) (Reads.as-is 𝓤 H A
-              (Relend.mslice-owed (Element.type) (Syntax.tyRef (Syntax.named 3) Syntax.mut Element.behind) 3 6 (Row.lease (κs .1 .1 .1 .0) (qs .1 .1 .1 .0)))) Path'.refl Path'.refl)) (Lifetime.g-forget 𝓤
-              H A W E G41 6 Row.dead Path'.refl))
+              (Syntax.tyInt Syntax.w64) Syntax.tnil) (Syntax.ttcons Syntax.tnil (Syntax.ttcons Syntax.tnil (Syntax.ttcons (Syntax.tcons (Syntax.tyInt Syntax.w64) Syntax.tnil) (Syntax.ttcons (Syntax.tcons
+              (Syntax.tyInt Syntax.w64) Syntax.tnil) (Syntax.ttcons (Syntax.tcons (Syntax.tyInt Syntax.w64) Syntax.tnil) (Syntax.ttcons Syntax.tnil Syntax.ttnil)))))))))))))))))))))) Syntax.tnil)
+              Syntax.ttnil)))) (tt, (tt, (tt, (tt, tt)))) Path'.refl) (Scalar.g-room 𝓤 H A W E G28 2 (Syntax.tyStruct (List._∷_ 114 (List._∷_ 101 (List._∷_ 103 (List._∷_ 105 (List._∷_ 111 (List._∷_ 110
+              (List._∷_ 58 (List._∷_ 58 (List._∷_ 82 (List._∷_ 101 (List._∷_ 99 (List._∷_ 116 List.[])))))))))))) (Syntax.tcons (Syntax.tyInt Syntax.w64) (Syntax.tcons (Syntax.tyInt Syntax.w64)
+              (Syntax.tcons (Syntax.tyInt Syntax.w64) (Syntax.tcons (Syntax.tyInt Syntax.w64) Syntax.tnil))))) (Local.room-whole 𝓤 H A W (Declared'.row Rect.the-type) (Syntax.tyStruct (List._∷_ 114
+              (List._∷_ 101 (List._∷_ 103 (List._∷_ 105 (List._∷_ 111 (List._∷_ 110 (List._∷_ 58 (List._∷_ 58 (List._∷_ 82 (List._∷_ 101 (List._∷_ 99 (List._∷_ 116 List.[])))))))))))) (Syntax.tcons
+              (Syntax.tyInt Syntax.w64) (Syntax.tcons (Syntax.tyInt Syntax.w64) (Syntax.tcons (Syntax.tyInt Syntax.w64) (Syntax.tcons (Syntax.tyInt Syntax.w64) Syntax.tnil))))) Path'.refl)))
+              (Scalar.g-room 𝓤 H A W E G29 3 (Syntax.tyArray (Syntax.tyInt Syntax.w8) 36) (Init.room-arr 𝓤 H A W (Referent.rtF (Referent.fInt Syntax.w8)) 36 0 36 Path'.refl))) (Scalar.g-room 𝓤 H A W E G30
+              9 (Syntax.tyStruct (List._∷_ 115 (List._∷_ 116 (List._∷_ 114 (List._∷_ 101 (List._∷_ 97 (List._∷_ 109 (List._∷_ 58 (List._∷_ 58 (List._∷_ 70 (List._∷_ 117 (List._∷_ 106 (List._∷_ 105
+              (List._∷_ 72 (List._∷_ 101 (List._∷_ 97 (List._∷_ 100 (List._∷_ 101 (List._∷_ 114 List.[])))))))))))))))))) (Syntax.tcons Syntax.tyBool (Syntax.tcons Syntax.tyBool (Syntax.tcons
+              (Syntax.tyInt Syntax.w32) (Syntax.tcons (Syntax.tyInt Syntax.w32) (Syntax.tcons (Syntax.tyInt Syntax.w32) (Syntax.tcons (Syntax.tyInt Syntax.w32) (Syntax.tcons (Syntax.tyInt Syntax.w32)
+              (Syntax.tcons (Syntax.tyInt Syntax.w32) (Syntax.tcons (Syntax.tyInt Syntax.w32) Syntax.tnil)))))))))) (Local.room-whole 𝓤 H A W (Declared'.row FujiHeader.the-type) (Syntax.tyStruct (List._∷_
+              115 (List._∷_ 116 (List._∷_ 114 (List._∷_ 101 (List._∷_ 97 (List._∷_ 109 (List._∷_ 58 (List._∷_ 58 (List._∷_ 70 (List._∷_ 117 (List._∷_ 106 (List._∷_ 105 (List._∷_ 72 (List._∷_ 101 (List._∷_
+              97 (List._∷_ 100 (List._∷_ 101 (List._∷_ 114 List.[])))))))))))))))))) (Syntax.tcons Syntax.tyBool (Syntax.tcons Syntax.tyBool (Syntax.tcons (Syntax.tyInt Syntax.w32) (Syntax.tcons
+              (Syntax.tyInt Syntax.w32) (Syntax.tcons (Syntax.tyInt Syntax.w32) (Syntax.tcons (Syntax.tyInt Syntax.w32) (Syntax.tcons (Syntax.tyInt Syntax.w32) (Syntax.tcons (Syntax.tyInt Syntax.w32)
+              (Syntax.tcons (Syntax.tyInt Syntax.w32) Syntax.tnil)))))))))) Path'.refl))) (Lifetime.g-end 𝓤 H A W E G31 4 Path'.refl)) (Relend.g-back-sl 𝓤 H A W E (Referent.rtF (Referent.fInt Syntax.w16))
+              G32 12 4 1 4 (Syntax.tyRef (Syntax.named 1) Syntax.mut (Syntax.tyInt Syntax.w16)) (Syntax.tyRef Syntax.erased Syntax.mut (Syntax.tyInt Syntax.w16)) (Row.lease (κs .1 .0) (qs .1 .0)) (λ x. x)
+              (λ x. x) (Reads.as-is 𝓤 H A (Mut.msleft (Referent.rtF (Referent.fInt Syntax.w16)) (Syntax.tyRef Syntax.erased Syntax.mut (Syntax.tyInt Syntax.w16)))) (Reads.as-is 𝓤 H A (Relend.mslice-owed
+              (Referent.rtF (Referent.fInt Syntax.w16)) (Syntax.tyRef (Syntax.named 1) Syntax.mut (Syntax.tyInt Syntax.w16)) 1 4 (Row.lease (κs .1 .0) (qs .1 .0)))) Path'.refl Path'.refl))
+              (Know.g-sl-known 𝓤 H A W (Referent.fInt Syntax.w16) E G33 4 1 (Syntax.tyRef (Syntax.named 1) Syntax.mut (Syntax.tyInt Syntax.w16)) (Row.lease (κs .1 .0) (qs .1 .0)) 0 (λ x. x) record {
+                fits
+                    = Dec'.lit< tt;
+              } (Reads.as-is 𝓤 H A (Mut.mslice (Referent.rtF (Referent.fInt Syntax.w16)) (Syntax.tyRef (Syntax.named 1) Syntax.mut (Syntax.tyInt Syntax.w16)) 1)) Path'.refl tt))
+              (Lifetime.g-forget 𝓤 H A W E G34 4 Row.dead Path'.refl)) (Lifetime.g-end 𝓤 H A W E G35 5 Path'.refl)) (Relend.g-back-sl 𝓤 H A W E (Referent.rtF (Referent.fInt Syntax.w16)) G36 14 5 2 5
+              (Syntax.tyRef (Syntax.named 2) Syntax.mut (Syntax.tyInt Syntax.w16)) (Syntax.tyRef Syntax.erased Syntax.mut (Syntax.tyInt Syntax.w16)) (Row.lease (κs .1 .1 .0) (qs .1 .1 .0)) (λ x. x) (λ x.
+              x) (Reads.as-is 𝓤 H A (Mut.msleft (Referent.rtF (Referent.fInt Syntax.w16)) (Syntax.tyRef Syntax.erased Syntax.mut (Syntax.tyInt Syntax.w16)))) (Reads.as-is 𝓤 H A (Relend.mslice-owed
+              (Referent.rtF (Referent.fInt Syntax.w16)) (Syntax.tyRef (Syntax.named 2) Syntax.mut (Syntax.tyInt Syntax.w16)) 2 5 (Row.lease (κs .1 .1 .0) (qs .1 .1 .0)))) Path'.refl Path'.refl))
+              (Know.g-sl-known 𝓤 H A W (Referent.fInt Syntax.w16) E G37 5 2 (Syntax.tyRef (Syntax.named 2) Syntax.mut (Syntax.tyInt Syntax.w16)) (Row.lease (κs .1 .1 .0) (qs .1 .1 .0)) 0 (λ x. x) record {
+                fits = Dec'.lit< tt;
+              } (Reads.as-is 𝓤 H A (Mut.mslice (Referent.rtF (Referent.fInt Syntax.w16)) (Syntax.tyRef (Syntax.named 2) Syntax.mut (Syntax.tyInt Syntax.w16)) 2)) Path'.refl tt))
+              (Lifetime.g-forget 𝓤 H A W E G38 5 Row.dead Path'.refl)) (Lifetime.g-end 𝓤 H A W E G39 6 Path'.refl)) (Relend.g-back-sl 𝓤 H A W E (Element.type) G40 16 6 3 6 (Syntax.tyRef (Syntax.named 3)
+              Syntax.mut Element.behind) (Syntax.tyRef Syntax.erased Syntax.mut Element.behind) (Row.lease (κs .1 .1 .1 .0) (qs .1 .1 .1 .0)) (λ x. x) (λ x. x) (Reads.as-is 𝓤 H A (Mut.msleft
+              (Element.type) (Syntax.tyRef Syntax.erased Syntax.mut Element.behind))) (Reads.as-is 𝓤 H A (Relend.mslice-owed (Element.type) (Syntax.tyRef (Syntax.named 3) Syntax.mut Element.behind) 3 6
+              (Row.lease (κs .1 .1 .1 .0) (qs .1 .1 .1 .0)))) Path'.refl Path'.refl)) (Lifetime.g-forget 𝓤 H A W E G41 6 Row.dead Path'.refl))
 
           d8 : Typed.Typed 𝓤 H A 𝓣 E G26 b12 Δ1 at8
           d8 = Typed.s-seq 𝓤 H A W 𝓣 E G26 G27 b10 b11 Δ1 (Typed.ask s24) at7 (Relend.t-sl-aggregate 𝓤 H A W E (Element.type) 𝓣 (Relend.asMut (Element.type)) G26 15 16 6 (Syntax.tyRef Syntax.erased
@@ -4227,18 +4441,21 @@ module _ (claims· : Claims) where
               (Syntax.ttcons Syntax.tnil (Syntax.ttcons Syntax.tnil (Syntax.ttcons (Syntax.tcons (Syntax.tyInt Syntax.w64) Syntax.tnil) (Syntax.ttcons Syntax.tnil (Syntax.ttcons Syntax.tnil (Syntax.ttcons
               Syntax.tnil (Syntax.ttcons Syntax.tnil (Syntax.ttcons Syntax.tnil (Syntax.ttcons Syntax.tnil (Syntax.ttcons (Syntax.tcons (Syntax.tyInt Syntax.w64) Syntax.tnil) (Syntax.ttcons (Syntax.tcons
               (Syntax.tyInt Syntax.w64) Syntax.tnil) (Syntax.ttcons Syntax.tnil (Syntax.ttcons (Syntax.tcons (Syntax.tyInt Syntax.w64) (Syntax.tcons (Syntax.tyInt Syntax.w64) Syntax.tnil)) (Syntax.ttcons
-              (Syntax.tcons (Syntax.tyInt Syntax.w64) Syntax.tnil) (Syntax.ttcons Syntax.tnil Syntax.ttnil))))))))))))))))) Syntax.tnil) Syntax.ttnil))) (Local.room-whole 𝓤 H A W (Known.Known Parsed.enum
-              0) (Syntax.tyEnum (List._∷_ 115 (List._∷_ 116 (List._∷_ 114 (List._∷_ 101 (List._∷_ 97 (List._∷_ 109 (List._∷_ 58 (List._∷_ 58 (List._∷_ 80 (List._∷_ 97 (List._∷_ 114 (List._∷_ 115 (List._∷_
-              101 (List._∷_ 100 List.[])))))))))))))) (Syntax.ttcons (Syntax.tcons (Syntax.tyStruct (List._∷_ 115 (List._∷_ 116 (List._∷_ 114 (List._∷_ 101 (List._∷_ 97 (List._∷_ 109 (List._∷_ 58
-              (List._∷_ 58 (List._∷_ 70 (List._∷_ 117 (List._∷_ 106 (List._∷_ 105 (List._∷_ 72 (List._∷_ 101 (List._∷_ 97 (List._∷_ 100 (List._∷_ 101 (List._∷_ 114 List.[])))))))))))))))))) (Syntax.tcons
-              Syntax.tyBool (Syntax.tcons Syntax.tyBool (Syntax.tcons (Syntax.tyInt Syntax.w32) (Syntax.tcons (Syntax.tyInt Syntax.w32) (Syntax.tcons (Syntax.tyInt Syntax.w32) (Syntax.tcons (Syntax.tyInt
-              Syntax.w32) (Syntax.tcons (Syntax.tyInt Syntax.w32) (Syntax.tcons (Syntax.tyInt Syntax.w32) (Syntax.tcons (Syntax.tyInt Syntax.w32) Syntax.tnil)))))))))) Syntax.tnil) (Syntax.ttcons
-              (Syntax.tcons (Syntax.tyEnum (List._∷_ 115 (List._∷_ 116 (List._∷_ 114 (List._∷_ 101 (List._∷_ 97 (List._∷_ 109 (List._∷_ 58 (List._∷_ 58 (List._∷_ 82 (List._∷_ 101 (List._∷_ 102 (List._∷_
-              117 (List._∷_ 115 (List._∷_ 97 (List._∷_ 108 List.[]))))))))))))))) (Syntax.ttcons Syntax.tnil (Syntax.ttcons Syntax.tnil (Syntax.ttcons Syntax.tnil (Syntax.ttcons (Syntax.tcons
-              (Syntax.tyInt Syntax.w64) Syntax.tnil) (Syntax.ttcons Syntax.tnil (Syntax.ttcons Syntax.tnil (Syntax.ttcons Syntax.tnil (Syntax.ttcons Syntax.tnil (Syntax.ttcons Syntax.tnil (Syntax.ttcons
-              Syntax.tnil (Syntax.ttcons (Syntax.tcons (Syntax.tyInt Syntax.w64) Syntax.tnil) (Syntax.ttcons (Syntax.tcons (Syntax.tyInt Syntax.w64) Syntax.tnil) (Syntax.ttcons Syntax.tnil (Syntax.ttcons
-              (Syntax.tcons (Syntax.tyInt Syntax.w64) (Syntax.tcons (Syntax.tyInt Syntax.w64) Syntax.tnil)) (Syntax.ttcons (Syntax.tcons (Syntax.tyInt Syntax.w64) Syntax.tnil) (Syntax.ttcons Syntax.tnil
-              Syntax.ttnil))))))))))))))))) Syntax.tnil) Syntax.ttnil))) Path'.refl)) d16
+              (Syntax.tcons (Syntax.tyInt Syntax.w64) Syntax.tnil) (Syntax.ttcons Syntax.tnil (Syntax.ttcons Syntax.tnil (Syntax.ttcons (Syntax.tcons (Syntax.tyInt Syntax.w64) Syntax.tnil) (Syntax.ttcons
+              (Syntax.tcons (Syntax.tyInt Syntax.w64) Syntax.tnil) (Syntax.ttcons (Syntax.tcons (Syntax.tyInt Syntax.w64) Syntax.tnil) (Syntax.ttcons Syntax.tnil Syntax.ttnil))))))))))))))))))))))
+              Syntax.tnil) Syntax.ttnil))) (Local.room-whole 𝓤 H A W (Known.Known Parsed.enum 0) (Syntax.tyEnum (List._∷_ 115 (List._∷_ 116 (List._∷_ 114 (List._∷_ 101 (List._∷_ 97 (List._∷_ 109 (List._∷_
+              58 (List._∷_ 58 (List._∷_ 80 (List._∷_ 97 (List._∷_ 114 (List._∷_ 115 (List._∷_ 101 (List._∷_ 100 List.[])))))))))))))) (Syntax.ttcons (Syntax.tcons (Syntax.tyStruct (List._∷_ 115 (List._∷_
+              116 (List._∷_ 114 (List._∷_ 101 (List._∷_ 97 (List._∷_ 109 (List._∷_ 58 (List._∷_ 58 (List._∷_ 70 (List._∷_ 117 (List._∷_ 106 (List._∷_ 105 (List._∷_ 72 (List._∷_ 101 (List._∷_ 97 (List._∷_
+              100 (List._∷_ 101 (List._∷_ 114 List.[])))))))))))))))))) (Syntax.tcons Syntax.tyBool (Syntax.tcons Syntax.tyBool (Syntax.tcons (Syntax.tyInt Syntax.w32) (Syntax.tcons (Syntax.tyInt
+              Syntax.w32) (Syntax.tcons (Syntax.tyInt Syntax.w32) (Syntax.tcons (Syntax.tyInt Syntax.w32) (Syntax.tcons (Syntax.tyInt Syntax.w32) (Syntax.tcons (Syntax.tyInt Syntax.w32) (Syntax.tcons
+              (Syntax.tyInt Syntax.w32) Syntax.tnil)))))))))) Syntax.tnil) (Syntax.ttcons (Syntax.tcons (Syntax.tyEnum (List._∷_ 115 (List._∷_ 116 (List._∷_ 114 (List._∷_ 101 (List._∷_ 97 (List._∷_ 109
+              (List._∷_ 58 (List._∷_ 58 (List._∷_ 82 (List._∷_ 101 (List._∷_ 102 (List._∷_ 117 (List._∷_ 115 (List._∷_ 97 (List._∷_ 108 List.[]))))))))))))))) (Syntax.ttcons Syntax.tnil (Syntax.ttcons
+              Syntax.tnil (Syntax.ttcons Syntax.tnil (Syntax.ttcons (Syntax.tcons (Syntax.tyInt Syntax.w64) Syntax.tnil) (Syntax.ttcons Syntax.tnil (Syntax.ttcons Syntax.tnil (Syntax.ttcons Syntax.tnil
+              (Syntax.ttcons Syntax.tnil (Syntax.ttcons Syntax.tnil (Syntax.ttcons Syntax.tnil (Syntax.ttcons (Syntax.tcons (Syntax.tyInt Syntax.w64) Syntax.tnil) (Syntax.ttcons (Syntax.tcons
+              (Syntax.tyInt Syntax.w64) Syntax.tnil) (Syntax.ttcons Syntax.tnil (Syntax.ttcons (Syntax.tcons (Syntax.tyInt Syntax.w64) (Syntax.tcons (Syntax.tyInt Syntax.w64) Syntax.tnil)) (Syntax.ttcons
+              (Syntax.tcons (Syntax.tyInt Syntax.w64) Syntax.tnil) (Syntax.ttcons Syntax.tnil (Syntax.ttcons Syntax.tnil (Syntax.ttcons (Syntax.tcons (Syntax.tyInt Syntax.w64) Syntax.tnil) (Syntax.ttcons
+              (Syntax.tcons (Syntax.tyInt Syntax.w64) Syntax.tnil) (Syntax.ttcons (Syntax.tcons (Syntax.tyInt Syntax.w64) Syntax.tnil) (Syntax.ttcons Syntax.tnil Syntax.ttnil))))))))))))))))))))))
+              Syntax.tnil) Syntax.ttnil))) Path'.refl)) d16
 
           d18 : Typed.Typed 𝓤 H A 𝓣 E G16 b18 Δ1 at18
           d18 = Typed.s-seq 𝓤 H A W 𝓣 E G16 G17 b4 b17 Δ1 (Typed.pass T16 T17 s14) at17 (CopyOut.t-copy-told 𝓤 H A W E 𝓣 (Declared'.row FujiHeader.the-type) Path'.refl (Laws'6.val FujiHeader.the-type
@@ -4291,14 +4508,17 @@ module _ (claims· : Claims) where
               (Syntax.tyInt Syntax.w64) Syntax.tnil) (Syntax.ttcons Syntax.tnil (Syntax.ttcons Syntax.tnil (Syntax.ttcons Syntax.tnil (Syntax.ttcons Syntax.tnil (Syntax.ttcons Syntax.tnil (Syntax.ttcons
               Syntax.tnil (Syntax.ttcons (Syntax.tcons (Syntax.tyInt Syntax.w64) Syntax.tnil) (Syntax.ttcons (Syntax.tcons (Syntax.tyInt Syntax.w64) Syntax.tnil) (Syntax.ttcons Syntax.tnil (Syntax.ttcons
               (Syntax.tcons (Syntax.tyInt Syntax.w64) (Syntax.tcons (Syntax.tyInt Syntax.w64) Syntax.tnil)) (Syntax.ttcons (Syntax.tcons (Syntax.tyInt Syntax.w64) Syntax.tnil) (Syntax.ttcons Syntax.tnil
-              Syntax.ttnil))))))))))))))))) Syntax.tnil) Syntax.ttnil))) (Local.room-whole 𝓤 H A W (Declared.row Decoded.the-type) (Syntax.tyEnum (List._∷_ 98 (List._∷_ 108 (List._∷_ 111 (List._∷_ 99
-              (List._∷_ 107 (List._∷_ 58 (List._∷_ 58 (List._∷_ 68 (List._∷_ 101 (List._∷_ 99 (List._∷_ 111 (List._∷_ 100 (List._∷_ 101 (List._∷_ 100 List.[])))))))))))))) (Syntax.ttcons Syntax.tnil
-              (Syntax.ttcons (Syntax.tcons (Syntax.tyEnum (List._∷_ 115 (List._∷_ 116 (List._∷_ 114 (List._∷_ 101 (List._∷_ 97 (List._∷_ 109 (List._∷_ 58 (List._∷_ 58 (List._∷_ 82 (List._∷_ 101 (List._∷_
-              102 (List._∷_ 117 (List._∷_ 115 (List._∷_ 97 (List._∷_ 108 List.[]))))))))))))))) (Syntax.ttcons Syntax.tnil (Syntax.ttcons Syntax.tnil (Syntax.ttcons Syntax.tnil (Syntax.ttcons
-              (Syntax.tcons (Syntax.tyInt Syntax.w64) Syntax.tnil) (Syntax.ttcons Syntax.tnil (Syntax.ttcons Syntax.tnil (Syntax.ttcons Syntax.tnil (Syntax.ttcons Syntax.tnil (Syntax.ttcons Syntax.tnil
-              (Syntax.ttcons Syntax.tnil (Syntax.ttcons (Syntax.tcons (Syntax.tyInt Syntax.w64) Syntax.tnil) (Syntax.ttcons (Syntax.tcons (Syntax.tyInt Syntax.w64) Syntax.tnil) (Syntax.ttcons Syntax.tnil
-              (Syntax.ttcons (Syntax.tcons (Syntax.tyInt Syntax.w64) (Syntax.tcons (Syntax.tyInt Syntax.w64) Syntax.tnil)) (Syntax.ttcons (Syntax.tcons (Syntax.tyInt Syntax.w64) Syntax.tnil)
-              (Syntax.ttcons Syntax.tnil Syntax.ttnil))))))))))))))))) Syntax.tnil) Syntax.ttnil))) Path'.refl)) d22
+              (Syntax.ttcons Syntax.tnil (Syntax.ttcons (Syntax.tcons (Syntax.tyInt Syntax.w64) Syntax.tnil) (Syntax.ttcons (Syntax.tcons (Syntax.tyInt Syntax.w64) Syntax.tnil) (Syntax.ttcons
+              (Syntax.tcons (Syntax.tyInt Syntax.w64) Syntax.tnil) (Syntax.ttcons Syntax.tnil Syntax.ttnil)))))))))))))))))))))) Syntax.tnil) Syntax.ttnil))) (Local.room-whole 𝓤 H A W (Declared.row
+              Decoded.the-type) (Syntax.tyEnum (List._∷_ 98 (List._∷_ 108 (List._∷_ 111 (List._∷_ 99 (List._∷_ 107 (List._∷_ 58 (List._∷_ 58 (List._∷_ 68 (List._∷_ 101 (List._∷_ 99 (List._∷_ 111 (List._∷_
+              100 (List._∷_ 101 (List._∷_ 100 List.[])))))))))))))) (Syntax.ttcons Syntax.tnil (Syntax.ttcons (Syntax.tcons (Syntax.tyEnum (List._∷_ 115 (List._∷_ 116 (List._∷_ 114 (List._∷_ 101 (List._∷_
+              97 (List._∷_ 109 (List._∷_ 58 (List._∷_ 58 (List._∷_ 82 (List._∷_ 101 (List._∷_ 102 (List._∷_ 117 (List._∷_ 115 (List._∷_ 97 (List._∷_ 108 List.[]))))))))))))))) (Syntax.ttcons Syntax.tnil
+              (Syntax.ttcons Syntax.tnil (Syntax.ttcons Syntax.tnil (Syntax.ttcons (Syntax.tcons (Syntax.tyInt Syntax.w64) Syntax.tnil) (Syntax.ttcons Syntax.tnil (Syntax.ttcons Syntax.tnil (Syntax.ttcons
+              Syntax.tnil (Syntax.ttcons Syntax.tnil (Syntax.ttcons Syntax.tnil (Syntax.ttcons Syntax.tnil (Syntax.ttcons (Syntax.tcons (Syntax.tyInt Syntax.w64) Syntax.tnil) (Syntax.ttcons (Syntax.tcons
+              (Syntax.tyInt Syntax.w64) Syntax.tnil) (Syntax.ttcons Syntax.tnil (Syntax.ttcons (Syntax.tcons (Syntax.tyInt Syntax.w64) (Syntax.tcons (Syntax.tyInt Syntax.w64) Syntax.tnil)) (Syntax.ttcons
+              (Syntax.tcons (Syntax.tyInt Syntax.w64) Syntax.tnil) (Syntax.ttcons Syntax.tnil (Syntax.ttcons Syntax.tnil (Syntax.ttcons (Syntax.tcons (Syntax.tyInt Syntax.w64) Syntax.tnil) (Syntax.ttcons
+              (Syntax.tcons (Syntax.tyInt Syntax.w64) Syntax.tnil) (Syntax.ttcons (Syntax.tcons (Syntax.tyInt Syntax.w64) Syntax.tnil) (Syntax.ttcons Syntax.tnil Syntax.ttnil))))))))))))))))))))))
+              Syntax.tnil) Syntax.ttnil))) Path'.refl)) d22
 
           d24 : Typed.Typed 𝓤 H A 𝓣 E G6 b22 Δ0 at24
           d24 = Typed.s-seq 𝓤 H A W 𝓣 E G6 G43 b20 b21 Δ0 (Typed.pass T6 T43 s40) at23 (LocalCopy.t-val-copy 𝓤 H A W E 𝓣 (λ ρ. Unit) G6 10 0 (Declared.row Decoded.the-type) (Syntax.tyEnum (List._∷_ 98
@@ -4308,25 +4528,29 @@ module _ (claims· : Claims) where
               (Syntax.ttcons Syntax.tnil (Syntax.ttcons (Syntax.tcons (Syntax.tyInt Syntax.w64) Syntax.tnil) (Syntax.ttcons Syntax.tnil (Syntax.ttcons Syntax.tnil (Syntax.ttcons Syntax.tnil (Syntax.ttcons
               Syntax.tnil (Syntax.ttcons Syntax.tnil (Syntax.ttcons Syntax.tnil (Syntax.ttcons (Syntax.tcons (Syntax.tyInt Syntax.w64) Syntax.tnil) (Syntax.ttcons (Syntax.tcons (Syntax.tyInt Syntax.w64)
               Syntax.tnil) (Syntax.ttcons Syntax.tnil (Syntax.ttcons (Syntax.tcons (Syntax.tyInt Syntax.w64) (Syntax.tcons (Syntax.tyInt Syntax.w64) Syntax.tnil)) (Syntax.ttcons (Syntax.tcons
-              (Syntax.tyInt Syntax.w64) Syntax.tnil) (Syntax.ttcons Syntax.tnil Syntax.ttnil))))))))))))))))) Syntax.tnil) Syntax.ttnil))) (Syntax.tyEnum (List._∷_ 98 (List._∷_ 108 (List._∷_ 111 (List._∷_
-              99 (List._∷_ 107 (List._∷_ 58 (List._∷_ 58 (List._∷_ 68 (List._∷_ 101 (List._∷_ 99 (List._∷_ 111 (List._∷_ 100 (List._∷_ 101 (List._∷_ 100 List.[])))))))))))))) (Syntax.ttcons Syntax.tnil
-              (Syntax.ttcons (Syntax.tcons (Syntax.tyEnum (List._∷_ 115 (List._∷_ 116 (List._∷_ 114 (List._∷_ 101 (List._∷_ 97 (List._∷_ 109 (List._∷_ 58 (List._∷_ 58 (List._∷_ 82 (List._∷_ 101 (List._∷_
-              102 (List._∷_ 117 (List._∷_ 115 (List._∷_ 97 (List._∷_ 108 List.[]))))))))))))))) (Syntax.ttcons Syntax.tnil (Syntax.ttcons Syntax.tnil (Syntax.ttcons Syntax.tnil (Syntax.ttcons
-              (Syntax.tcons (Syntax.tyInt Syntax.w64) Syntax.tnil) (Syntax.ttcons Syntax.tnil (Syntax.ttcons Syntax.tnil (Syntax.ttcons Syntax.tnil (Syntax.ttcons Syntax.tnil (Syntax.ttcons Syntax.tnil
-              (Syntax.ttcons Syntax.tnil (Syntax.ttcons (Syntax.tcons (Syntax.tyInt Syntax.w64) Syntax.tnil) (Syntax.ttcons (Syntax.tcons (Syntax.tyInt Syntax.w64) Syntax.tnil) (Syntax.ttcons Syntax.tnil
-              (Syntax.ttcons (Syntax.tcons (Syntax.tyInt Syntax.w64) (Syntax.tcons (Syntax.tyInt Syntax.w64) Syntax.tnil)) (Syntax.ttcons (Syntax.tcons (Syntax.tyInt Syntax.w64) Syntax.tnil)
-              (Syntax.ttcons Syntax.tnil Syntax.ttnil))))))))))))))))) Syntax.tnil) Syntax.ttnil))) (Rows'.whole (Declared.row Decoded.the-type)) (Rows'.whole (Declared.row Decoded.the-type)) (λ x. x) (λ
-              x. x) (λ x. x) Path'.refl (Own.told-none 𝓤 H A (G6 .slots)) (Yields.yields-copy 𝓤 H A W (λ ρ. Unit) (Declared.row Decoded.the-type) Path'.refl (Copies.cEnum Decoded.the-type Laws.the-laws
-              Laws.the-copy .copy 𝓤 H A W) (Rows'.whole (Declared.row Decoded.the-type)) (λ x. x) (λ x. x) (λ ρ told. Local.mem-whole 𝓤 H A W (Declared.row Decoded.the-type) ρ) λ ρ told. Local.whole-mem 𝓤
-              H A W (Declared.row Decoded.the-type) ρ) (Reads.room-gone 𝓤 H A (Syntax.tyEnum (List._∷_ 98 (List._∷_ 108 (List._∷_ 111 (List._∷_ 99 (List._∷_ 107 (List._∷_ 58 (List._∷_ 58 (List._∷_ 68
-              (List._∷_ 101 (List._∷_ 99 (List._∷_ 111 (List._∷_ 100 (List._∷_ 101 (List._∷_ 100 List.[])))))))))))))) (Syntax.ttcons Syntax.tnil (Syntax.ttcons (Syntax.tcons (Syntax.tyEnum (List._∷_ 115
-              (List._∷_ 116 (List._∷_ 114 (List._∷_ 101 (List._∷_ 97 (List._∷_ 109 (List._∷_ 58 (List._∷_ 58 (List._∷_ 82 (List._∷_ 101 (List._∷_ 102 (List._∷_ 117 (List._∷_ 115 (List._∷_ 97 (List._∷_ 108
-              List.[]))))))))))))))) (Syntax.ttcons Syntax.tnil (Syntax.ttcons Syntax.tnil (Syntax.ttcons Syntax.tnil (Syntax.ttcons (Syntax.tcons (Syntax.tyInt Syntax.w64) Syntax.tnil) (Syntax.ttcons
-              Syntax.tnil (Syntax.ttcons Syntax.tnil (Syntax.ttcons Syntax.tnil (Syntax.ttcons Syntax.tnil (Syntax.ttcons Syntax.tnil (Syntax.ttcons Syntax.tnil (Syntax.ttcons (Syntax.tcons (Syntax.tyInt
-              Syntax.w64) Syntax.tnil) (Syntax.ttcons (Syntax.tcons (Syntax.tyInt Syntax.w64) Syntax.tnil) (Syntax.ttcons Syntax.tnil (Syntax.ttcons (Syntax.tcons (Syntax.tyInt Syntax.w64) (Syntax.tcons
-              (Syntax.tyInt Syntax.w64) Syntax.tnil)) (Syntax.ttcons (Syntax.tcons (Syntax.tyInt Syntax.w64) Syntax.tnil) (Syntax.ttcons Syntax.tnil Syntax.ttnil))))))))))))))))) Syntax.tnil)
-              Syntax.ttnil)))) (Yields.makes-mem 𝓤 H A W (λ ρ. Unit) (Declared.row Decoded.the-type) Path'.refl (Rows'.whole (Declared.row Decoded.the-type)) (λ x. x) λ ρ told. Local.whole-mem 𝓤 H A W
-              (Declared.row Decoded.the-type) ρ) Path'.refl Path'.refl) d23
+              (Syntax.tyInt Syntax.w64) Syntax.tnil) (Syntax.ttcons Syntax.tnil (Syntax.ttcons Syntax.tnil (Syntax.ttcons (Syntax.tcons (Syntax.tyInt Syntax.w64) Syntax.tnil) (Syntax.ttcons (Syntax.tcons
+              (Syntax.tyInt Syntax.w64) Syntax.tnil) (Syntax.ttcons (Syntax.tcons (Syntax.tyInt Syntax.w64) Syntax.tnil) (Syntax.ttcons Syntax.tnil Syntax.ttnil)))))))))))))))))))))) Syntax.tnil)
+              Syntax.ttnil))) (Syntax.tyEnum (List._∷_ 98 (List._∷_ 108 (List._∷_ 111 (List._∷_ 99 (List._∷_ 107 (List._∷_ 58 (List._∷_ 58 (List._∷_ 68 (List._∷_ 101 (List._∷_ 99 (List._∷_ 111 (List._∷_
+              100 (List._∷_ 101 (List._∷_ 100 List.[])))))))))))))) (Syntax.ttcons Syntax.tnil (Syntax.ttcons (Syntax.tcons (Syntax.tyEnum (List._∷_ 115 (List._∷_ 116 (List._∷_ 114 (List._∷_ 101 (List._∷_
+              97 (List._∷_ 109 (List._∷_ 58 (List._∷_ 58 (List._∷_ 82 (List._∷_ 101 (List._∷_ 102 (List._∷_ 117 (List._∷_ 115 (List._∷_ 97 (List._∷_ 108 List.[]))))))))))))))) (Syntax.ttcons Syntax.tnil
+              (Syntax.ttcons Syntax.tnil (Syntax.ttcons Syntax.tnil (Syntax.ttcons (Syntax.tcons (Syntax.tyInt Syntax.w64) Syntax.tnil) (Syntax.ttcons Syntax.tnil (Syntax.ttcons Syntax.tnil (Syntax.ttcons
+              Syntax.tnil (Syntax.ttcons Syntax.tnil (Syntax.ttcons Syntax.tnil (Syntax.ttcons Syntax.tnil (Syntax.ttcons (Syntax.tcons (Syntax.tyInt Syntax.w64) Syntax.tnil) (Syntax.ttcons (Syntax.tcons
+              (Syntax.tyInt Syntax.w64) Syntax.tnil) (Syntax.ttcons Syntax.tnil (Syntax.ttcons (Syntax.tcons (Syntax.tyInt Syntax.w64) (Syntax.tcons (Syntax.tyInt Syntax.w64) Syntax.tnil)) (Syntax.ttcons
+              (Syntax.tcons (Syntax.tyInt Syntax.w64) Syntax.tnil) (Syntax.ttcons Syntax.tnil (Syntax.ttcons Syntax.tnil (Syntax.ttcons (Syntax.tcons (Syntax.tyInt Syntax.w64) Syntax.tnil) (Syntax.ttcons
+              (Syntax.tcons (Syntax.tyInt Syntax.w64) Syntax.tnil) (Syntax.ttcons (Syntax.tcons (Syntax.tyInt Syntax.w64) Syntax.tnil) (Syntax.ttcons Syntax.tnil Syntax.ttnil))))))))))))))))))))))
+              Syntax.tnil) Syntax.ttnil))) (Rows'.whole (Declared.row Decoded.the-type)) (Rows'.whole (Declared.row Decoded.the-type)) (λ x. x) (λ x. x) (λ x. x) Path'.refl (Own.told-none 𝓤 H A (G6
+              .slots)) (Yields.yields-copy 𝓤 H A W (λ ρ. Unit) (Declared.row Decoded.the-type) Path'.refl (Copies.cEnum Decoded.the-type Laws.the-laws Laws.the-copy .copy 𝓤 H A W) (Rows'.whole
+              (Declared.row Decoded.the-type)) (λ x. x) (λ x. x) (λ ρ told. Local.mem-whole 𝓤 H A W (Declared.row Decoded.the-type) ρ) λ ρ told. Local.whole-mem 𝓤 H A W (Declared.row Decoded.the-type) ρ)
+              (Reads.room-gone 𝓤 H A (Syntax.tyEnum (List._∷_ 98 (List._∷_ 108 (List._∷_ 111 (List._∷_ 99 (List._∷_ 107 (List._∷_ 58 (List._∷_ 58 (List._∷_ 68 (List._∷_ 101 (List._∷_ 99 (List._∷_ 111
+              (List._∷_ 100 (List._∷_ 101 (List._∷_ 100 List.[])))))))))))))) (Syntax.ttcons Syntax.tnil (Syntax.ttcons (Syntax.tcons (Syntax.tyEnum (List._∷_ 115 (List._∷_ 116 (List._∷_ 114 (List._∷_ 101
+              (List._∷_ 97 (List._∷_ 109 (List._∷_ 58 (List._∷_ 58 (List._∷_ 82 (List._∷_ 101 (List._∷_ 102 (List._∷_ 117 (List._∷_ 115 (List._∷_ 97 (List._∷_ 108 List.[]))))))))))))))) (Syntax.ttcons
+              Syntax.tnil (Syntax.ttcons Syntax.tnil (Syntax.ttcons Syntax.tnil (Syntax.ttcons (Syntax.tcons (Syntax.tyInt Syntax.w64) Syntax.tnil) (Syntax.ttcons Syntax.tnil (Syntax.ttcons Syntax.tnil
+              (Syntax.ttcons Syntax.tnil (Syntax.ttcons Syntax.tnil (Syntax.ttcons Syntax.tnil (Syntax.ttcons Syntax.tnil (Syntax.ttcons (Syntax.tcons (Syntax.tyInt Syntax.w64) Syntax.tnil) (Syntax.ttcons
+              (Syntax.tcons (Syntax.tyInt Syntax.w64) Syntax.tnil) (Syntax.ttcons Syntax.tnil (Syntax.ttcons (Syntax.tcons (Syntax.tyInt Syntax.w64) (Syntax.tcons (Syntax.tyInt Syntax.w64) Syntax.tnil))
+              (Syntax.ttcons (Syntax.tcons (Syntax.tyInt Syntax.w64) Syntax.tnil) (Syntax.ttcons Syntax.tnil (Syntax.ttcons Syntax.tnil (Syntax.ttcons (Syntax.tcons (Syntax.tyInt Syntax.w64) Syntax.tnil)
+              (Syntax.ttcons (Syntax.tcons (Syntax.tyInt Syntax.w64) Syntax.tnil) (Syntax.ttcons (Syntax.tcons (Syntax.tyInt Syntax.w64) Syntax.tnil) (Syntax.ttcons Syntax.tnil
+              Syntax.ttnil)))))))))))))))))))))) Syntax.tnil) Syntax.ttnil)))) (Yields.makes-mem 𝓤 H A W (λ ρ. Unit) (Declared.row Decoded.the-type) Path'.refl (Rows'.whole (Declared.row
+              Decoded.the-type)) (λ x. x) λ ρ told. Local.whole-mem 𝓤 H A W (Declared.row Decoded.the-type) ρ) Path'.refl Path'.refl) d23
 
           d25 : Typed.Typed 𝓤 H A 𝓣 E G5 b23 Δ0 at25
           d25 = Typed.t-seq 𝓤 H A W 𝓣 E G5 G6 b19 b22 Δ0 at21 at24 d21 d24
@@ -4356,8 +4580,9 @@ module _ (claims· : Claims) where
               (Syntax.ttcons Syntax.tnil (Syntax.ttcons Syntax.tnil (Syntax.ttcons Syntax.tnil (Syntax.ttcons (Syntax.tcons (Syntax.tyInt Syntax.w64) Syntax.tnil) (Syntax.ttcons Syntax.tnil (Syntax.ttcons
               Syntax.tnil (Syntax.ttcons Syntax.tnil (Syntax.ttcons Syntax.tnil (Syntax.ttcons Syntax.tnil (Syntax.ttcons Syntax.tnil (Syntax.ttcons (Syntax.tcons (Syntax.tyInt Syntax.w64) Syntax.tnil)
               (Syntax.ttcons (Syntax.tcons (Syntax.tyInt Syntax.w64) Syntax.tnil) (Syntax.ttcons Syntax.tnil (Syntax.ttcons (Syntax.tcons (Syntax.tyInt Syntax.w64) (Syntax.tcons (Syntax.tyInt Syntax.w64)
-              Syntax.tnil)) (Syntax.ttcons (Syntax.tcons (Syntax.tyInt Syntax.w64) Syntax.tnil) (Syntax.ttcons Syntax.tnil Syntax.ttnil))))))))))))))))) Syntax.tnil) Syntax.ttnil)))) (tt, tt) Path'.refl)
-              d25
+              Syntax.tnil)) (Syntax.ttcons (Syntax.tcons (Syntax.tyInt Syntax.w64) Syntax.tnil) (Syntax.ttcons Syntax.tnil (Syntax.ttcons Syntax.tnil (Syntax.ttcons (Syntax.tcons (Syntax.tyInt Syntax.w64)
+              Syntax.tnil) (Syntax.ttcons (Syntax.tcons (Syntax.tyInt Syntax.w64) Syntax.tnil) (Syntax.ttcons (Syntax.tcons (Syntax.tyInt Syntax.w64) Syntax.tnil) (Syntax.ttcons Syntax.tnil
+              Syntax.ttnil)))))))))))))))))))))) Syntax.tnil) Syntax.ttnil)))) (tt, tt) Path'.refl) d25
 
           d27 : Typed.Typed 𝓤 H A 𝓣 E G3 b24 Δ0 at27
           d27 = Typed.g-pre 𝓤 H A W 𝓣 E G3 G4 b24 Δ0 (Typed.give s2) at26 (Know.g-sl-known 𝓤 H A W (Referent.fInt Syntax.w16) E G3 5 2 (Syntax.tyRef (Syntax.named 2) Syntax.mut (Syntax.tyInt

@@ -463,49 +463,49 @@ t0 = List._∷_ (
       (Syntax.ttcons Syntax.tnil (Syntax.ttcons Syntax.tnil (Syntax.ttcons (Syntax.tcons (Syntax.tyInt Syntax.w64) Syntax.tnil) (Syntax.ttcons Syntax.tnil (Syntax.ttcons Syntax.tnil (Syntax.ttcons
       Syntax.tnil (Syntax.ttcons Syntax.tnil (Syntax.ttcons Syntax.tnil (Syntax.ttcons Syntax.tnil (Syntax.ttcons (Syntax.tcons (Syntax.tyInt Syntax.w64) Syntax.tnil) (Syntax.ttcons (Syntax.tcons
       (Syntax.tyInt Syntax.w64) Syntax.tnil) (Syntax.ttcons Syntax.tnil (Syntax.ttcons (Syntax.tcons (Syntax.tyInt Syntax.w64) (Syntax.tcons (Syntax.tyInt Syntax.w64) Syntax.tnil)) (Syntax.ttcons
-      (Syntax.tcons (Syntax.tyInt Syntax.w64) Syntax.tnil) (Syntax.ttcons Syntax.tnil Syntax.ttnil))))))))))))))))) Syntax.tnil) Syntax.ttnil))),
-) (List._∷_ (
-  1,
-  Rows'.sslice (Referent.rtF (Referent.fInt
-      Syntax.w8)) (Syntax.tyRef (Syntax.named 0) Syntax.imm (Syntax.tyInt Syntax.w8)) 0,
-) (List._∷_ (2, Rows'.whole (Declared'.row FujiHeader.the-type)) (List._∷_ (
-  3,
-  Rows'.sc-here (Row.sInt Syntax.w64),
-) (List._∷_ (4, Mut.mslice (Referent.rtF (Referent.fInt Syntax.w16)) (Syntax.tyRef (Syntax.named 1) Syntax.mut (Syntax.tyInt Syntax.w16)) 1) (List._∷_ (
-  5,
-  Mut.mslice (Element.type) (Syntax.tyRef
-      (Syntax.named 2) Syntax.mut Element.behind) 2,
-) (List._∷_ (
+      (Syntax.tcons (Syntax.tyInt Syntax.w64) Syntax.tnil) (Syntax.ttcons Syntax.tnil (Syntax.ttcons Syntax.tnil (Syntax.ttcons (Syntax.tcons (Syntax.tyInt Syntax.w64) Syntax.tnil) (Syntax.ttcons
+      (Syntax.tcons (Syntax.tyInt Syntax.w64) Syntax.tnil) (Syntax.ttcons (Syntax.tcons (Syntax.tyInt Syntax.w64) Syntax.tnil) (Syntax.ttcons Syntax.tnil Syntax.ttnil)))))))))))))))))))))) Syntax.tnil)
+      Syntax.ttnil))),
+) (List._∷_ (1, Rows'.sslice (Referent.rtF (Referent.fInt Syntax.w8)) (Syntax.tyRef (Syntax.named 0) Syntax.imm (Syntax.tyInt Syntax.w8)) 0) (List._∷_ (
+  2,
+  Rows'.whole
+      (Declared'.row FujiHeader.the-type),
+) (List._∷_ (3, Rows'.sc-here (Row.sInt Syntax.w64)) (List._∷_ (
+  4,
+  Mut.mslice (Referent.rtF (Referent.fInt Syntax.w16)) (Syntax.tyRef (Syntax.named 1) Syntax.mut
+      (Syntax.tyInt Syntax.w16)) 1,
+) (List._∷_ (5, Mut.mslice (Element.type) (Syntax.tyRef (Syntax.named 2) Syntax.mut Element.behind) 2) (List._∷_ (
   6,
-  Rows'.any-gone (Syntax.tyStruct (List._∷_ 98 (List._∷_ 108 (List._∷_ 111 (List._∷_ 99 (List._∷_ 107 (List._∷_ 58 (List._∷_ 58 (List._∷_
-      70 (List._∷_ 111 (List._∷_ 114 (List._∷_ 109 List.[]))))))))))) (Syntax.tcons (Syntax.tyInt Syntax.w32) (Syntax.tcons Syntax.tyBool Syntax.tnil))),
-) (List._∷_ (
-  7,
-  Rows'.any-gone (Syntax.tyInt
-      Syntax.w64),
-) (List._∷_ (
+  Rows'.any-gone (Syntax.tyStruct (List._∷_ 98
+      (List._∷_ 108 (List._∷_ 111 (List._∷_ 99 (List._∷_ 107 (List._∷_ 58 (List._∷_ 58 (List._∷_ 70 (List._∷_ 111 (List._∷_ 114 (List._∷_ 109 List.[]))))))))))) (Syntax.tcons (Syntax.tyInt Syntax.w32)
+      (Syntax.tcons Syntax.tyBool Syntax.tnil))),
+) (List._∷_ (7, Rows'.any-gone (Syntax.tyInt Syntax.w64)) (List._∷_ (
   8,
-  Rows'.any-gone (Syntax.tyStruct (List._∷_ 38 (List._∷_ 91 (List._∷_ 93 List.[]))) (Syntax.tcons (Syntax.tyRef Syntax.erased Syntax.imm (Syntax.tyInt Syntax.w8))
-      (Syntax.tcons (Syntax.tyInt Syntax.w64) Syntax.tnil))),
+  Rows'.any-gone (Syntax.tyStruct (List._∷_ 38 (List._∷_ 91 (List._∷_ 93 List.[])))
+      (Syntax.tcons (Syntax.tyRef Syntax.erased Syntax.imm (Syntax.tyInt Syntax.w8)) (Syntax.tcons (Syntax.tyInt Syntax.w64) Syntax.tnil))),
 ) (List._∷_ (
   9,
-  Rows'.any-gone (Syntax.tyStruct (List._∷_ 38 (List._∷_ 91 (List._∷_ 93 List.[]))) (Syntax.tcons (Syntax.tyRef Syntax.erased
-      Syntax.imm (Syntax.tyInt Syntax.w8)) (Syntax.tcons (Syntax.tyInt Syntax.w64) Syntax.tnil))),
-) (List._∷_ (10, Rows'.any-gone (Syntax.tyArray (Syntax.tyInt Syntax.w16) 768)) (List._∷_ (
-  11,
-  Rows'.any-gone (Syntax.tyArray (Syntax.tyInt Syntax.w16) 1),
+  Rows'.any-gone (Syntax.tyStruct (List._∷_ 38
+      (List._∷_ 91 (List._∷_ 93 List.[]))) (Syntax.tcons (Syntax.tyRef Syntax.erased Syntax.imm (Syntax.tyInt Syntax.w8)) (Syntax.tcons (Syntax.tyInt Syntax.w64) Syntax.tnil))),
 ) (List._∷_ (
+  10,
+  Rows'.any-gone (Syntax.tyArray (Syntax.tyInt Syntax.w16) 768),
+) (List._∷_ (11, Rows'.any-gone (Syntax.tyArray (Syntax.tyInt Syntax.w16) 1)) (List._∷_ (
   12,
-  Rows'.any-gone (Syntax.tyStruct (List._∷_ 98 (List._∷_ 108 (List._∷_ 111 (List._∷_ 99 (List._∷_ 107 (List._∷_ 58
-      (List._∷_ 58 (List._∷_ 87 (List._∷_ 97 (List._∷_ 108 (List._∷_ 107 (List._∷_ 101 (List._∷_ 100 List.[]))))))))))))) (Syntax.tcons Syntax.tyBool (Syntax.tcons (Syntax.tyInt Syntax.w64) (Syntax.tcons
-      (Syntax.tyStruct (List._∷_ 98 (List._∷_ 105 (List._∷_ 116 (List._∷_ 115 (List._∷_ 58 (List._∷_ 58 (List._∷_ 66 (List._∷_ 105 (List._∷_ 116 (List._∷_ 80 (List._∷_ 111 (List._∷_ 115 (List._∷_ 105
-      (List._∷_ 116 (List._∷_ 105 (List._∷_ 111 (List._∷_ 110 List.[]))))))))))))))))) (Syntax.tcons (Syntax.tyInt Syntax.w64) Syntax.tnil)) (Syntax.tcons (Syntax.tyInt Syntax.w64) Syntax.tnil))))),
-)
-    (List._∷_ (13, Rows'.any-gone (Syntax.tyArray (Syntax.tyInt Syntax.w16) 768)) (List._∷_ (14, Rows'.any-gone (Syntax.tyRef Syntax.erased Syntax.mut (Syntax.tyInt Syntax.w16))) (List._∷_ (
-      15,
-      Rows'.any-gone (Syntax.tyStruct (List._∷_ 38 (List._∷_ 91 (List._∷_ 93 List.[]))) (Syntax.tcons (Syntax.tyRef Syntax.erased Syntax.mut (Syntax.tyInt Syntax.w16)) (Syntax.tcons (Syntax.tyInt
-          Syntax.w64) Syntax.tnil))),
-    ) List.[])))))))))))))))
+  Rows'.any-gone (Syntax.tyStruct (List._∷_
+      98 (List._∷_ 108 (List._∷_ 111 (List._∷_ 99 (List._∷_ 107 (List._∷_ 58 (List._∷_ 58 (List._∷_ 87 (List._∷_ 97 (List._∷_ 108 (List._∷_ 107 (List._∷_ 101 (List._∷_ 100 List.[]))))))))))))) (Syntax.tcons
+      Syntax.tyBool (Syntax.tcons (Syntax.tyInt Syntax.w64) (Syntax.tcons (Syntax.tyStruct (List._∷_ 98 (List._∷_ 105 (List._∷_ 116 (List._∷_ 115 (List._∷_ 58 (List._∷_ 58 (List._∷_ 66 (List._∷_ 105
+      (List._∷_ 116 (List._∷_ 80 (List._∷_ 111 (List._∷_ 115 (List._∷_ 105 (List._∷_ 116 (List._∷_ 105 (List._∷_ 111 (List._∷_ 110 List.[]))))))))))))))))) (Syntax.tcons (Syntax.tyInt Syntax.w64)
+      Syntax.tnil)) (Syntax.tcons (Syntax.tyInt Syntax.w64) Syntax.tnil))))),
+) (List._∷_ (13, Rows'.any-gone (Syntax.tyArray (Syntax.tyInt Syntax.w16) 768)) (List._∷_ (
+  14,
+  Rows'.any-gone (Syntax.tyRef
+      Syntax.erased Syntax.mut (Syntax.tyInt Syntax.w16)),
+) (List._∷_ (
+  15,
+  Rows'.any-gone (Syntax.tyStruct (List._∷_ 38 (List._∷_ 91 (List._∷_ 93 List.[]))) (Syntax.tcons (Syntax.tyRef Syntax.erased
+      Syntax.mut (Syntax.tyInt Syntax.w16)) (Syntax.tcons (Syntax.tyInt Syntax.w64) Syntax.tnil))),
+) List.[])))))))))))))))
 
 abbrev pub t1 : List.List Row.Entry
 t1 = List._∷_ (16, Rows'.any-gone (Syntax.tyRef Syntax.erased Syntax.mut Element.behind)) (List._∷_ (
@@ -592,44 +592,48 @@ t3 = List._∷_ (
       (Syntax.ttcons Syntax.tnil (Syntax.ttcons Syntax.tnil (Syntax.ttcons (Syntax.tcons (Syntax.tyInt Syntax.w64) Syntax.tnil) (Syntax.ttcons Syntax.tnil (Syntax.ttcons Syntax.tnil (Syntax.ttcons
       Syntax.tnil (Syntax.ttcons Syntax.tnil (Syntax.ttcons Syntax.tnil (Syntax.ttcons Syntax.tnil (Syntax.ttcons (Syntax.tcons (Syntax.tyInt Syntax.w64) Syntax.tnil) (Syntax.ttcons (Syntax.tcons
       (Syntax.tyInt Syntax.w64) Syntax.tnil) (Syntax.ttcons Syntax.tnil (Syntax.ttcons (Syntax.tcons (Syntax.tyInt Syntax.w64) (Syntax.tcons (Syntax.tyInt Syntax.w64) Syntax.tnil)) (Syntax.ttcons
-      (Syntax.tcons (Syntax.tyInt Syntax.w64) Syntax.tnil) (Syntax.ttcons Syntax.tnil Syntax.ttnil))))))))))))))))) Syntax.tnil) Syntax.ttnil))),
-) (List._∷_ (
-  1,
-  Rows'.sslice (Referent.rtF (Referent.fInt
-      Syntax.w8)) (Syntax.tyRef (Syntax.named 0) Syntax.imm (Syntax.tyInt Syntax.w8)) 0,
-) (List._∷_ (2, Rows'.whole (Declared'.row FujiHeader.the-type)) (List._∷_ (
-  3,
-  Rows'.sc-here (Row.sInt Syntax.w64),
-) (List._∷_ (4, Mut.mslice (Referent.rtF (Referent.fInt Syntax.w16)) (Syntax.tyRef (Syntax.named 1) Syntax.mut (Syntax.tyInt Syntax.w16)) 1) (List._∷_ (
-  5,
-  Mut.mslice (Element.type) (Syntax.tyRef
-      (Syntax.named 2) Syntax.mut Element.behind) 2,
-) (List._∷_ (6, Rows'.whole (Declared'.row (Apart.apartT Form.the-type))) (List._∷_ (7, Rows'.any-gone (Syntax.tyInt Syntax.w64)) (List._∷_ (
+      (Syntax.tcons (Syntax.tyInt Syntax.w64) Syntax.tnil) (Syntax.ttcons Syntax.tnil (Syntax.ttcons Syntax.tnil (Syntax.ttcons (Syntax.tcons (Syntax.tyInt Syntax.w64) Syntax.tnil) (Syntax.ttcons
+      (Syntax.tcons (Syntax.tyInt Syntax.w64) Syntax.tnil) (Syntax.ttcons (Syntax.tcons (Syntax.tyInt Syntax.w64) Syntax.tnil) (Syntax.ttcons Syntax.tnil Syntax.ttnil)))))))))))))))))))))) Syntax.tnil)
+      Syntax.ttnil))),
+) (List._∷_ (1, Rows'.sslice (Referent.rtF (Referent.fInt Syntax.w8)) (Syntax.tyRef (Syntax.named 0) Syntax.imm (Syntax.tyInt Syntax.w8)) 0) (List._∷_ (
+  2,
+  Rows'.whole
+      (Declared'.row FujiHeader.the-type),
+) (List._∷_ (3, Rows'.sc-here (Row.sInt Syntax.w64)) (List._∷_ (
+  4,
+  Mut.mslice (Referent.rtF (Referent.fInt Syntax.w16)) (Syntax.tyRef (Syntax.named 1) Syntax.mut
+      (Syntax.tyInt Syntax.w16)) 1,
+) (List._∷_ (5, Mut.mslice (Element.type) (Syntax.tyRef (Syntax.named 2) Syntax.mut Element.behind) 2) (List._∷_ (
+  6,
+  Rows'.whole (Declared'.row (Apart.apartT
+      Form.the-type)),
+) (List._∷_ (7, Rows'.any-gone (Syntax.tyInt Syntax.w64)) (List._∷_ (
   8,
-  Rows'.any-gone (Syntax.tyStruct (List._∷_ 38 (List._∷_ 91 (List._∷_ 93 List.[]))) (Syntax.tcons (Syntax.tyRef Syntax.erased Syntax.imm (Syntax.tyInt Syntax.w8)) (Syntax.tcons (Syntax.tyInt Syntax.w64)
-      Syntax.tnil))),
+  Rows'.any-gone (Syntax.tyStruct (List._∷_ 38 (List._∷_ 91 (List._∷_ 93 List.[]))) (Syntax.tcons (Syntax.tyRef
+      Syntax.erased Syntax.imm (Syntax.tyInt Syntax.w8)) (Syntax.tcons (Syntax.tyInt Syntax.w64) Syntax.tnil))),
 ) (List._∷_ (
   9,
-  Rows'.any-gone (Syntax.tyStruct (List._∷_ 38 (List._∷_ 91 (List._∷_ 93 List.[]))) (Syntax.tcons (Syntax.tyRef Syntax.erased Syntax.imm (Syntax.tyInt Syntax.w8))
-      (Syntax.tcons (Syntax.tyInt Syntax.w64) Syntax.tnil))),
-) (List._∷_ (10, Rows'.any-gone (Syntax.tyArray (Syntax.tyInt Syntax.w16) 768)) (List._∷_ (
-  11,
-  Rows'.any-gone (Syntax.tyArray (Syntax.tyInt
-      Syntax.w16) 1),
+  Rows'.any-gone (Syntax.tyStruct (List._∷_ 38 (List._∷_ 91 (List._∷_ 93
+      List.[]))) (Syntax.tcons (Syntax.tyRef Syntax.erased Syntax.imm (Syntax.tyInt Syntax.w8)) (Syntax.tcons (Syntax.tyInt Syntax.w64) Syntax.tnil))),
 ) (List._∷_ (
+  10,
+  Rows'.any-gone (Syntax.tyArray
+      (Syntax.tyInt Syntax.w16) 768),
+) (List._∷_ (11, Rows'.any-gone (Syntax.tyArray (Syntax.tyInt Syntax.w16) 1)) (List._∷_ (
   12,
-  Rows'.any-gone (Syntax.tyStruct (List._∷_ 98 (List._∷_ 108 (List._∷_ 111 (List._∷_ 99 (List._∷_ 107 (List._∷_ 58 (List._∷_ 58 (List._∷_ 87 (List._∷_ 97 (List._∷_ 108
-      (List._∷_ 107 (List._∷_ 101 (List._∷_ 100 List.[]))))))))))))) (Syntax.tcons Syntax.tyBool (Syntax.tcons (Syntax.tyInt Syntax.w64) (Syntax.tcons (Syntax.tyStruct (List._∷_ 98 (List._∷_ 105 (List._∷_
-      116 (List._∷_ 115 (List._∷_ 58 (List._∷_ 58 (List._∷_ 66 (List._∷_ 105 (List._∷_ 116 (List._∷_ 80 (List._∷_ 111 (List._∷_ 115 (List._∷_ 105 (List._∷_ 116 (List._∷_ 105 (List._∷_ 111 (List._∷_ 110
-      List.[]))))))))))))))))) (Syntax.tcons (Syntax.tyInt Syntax.w64) Syntax.tnil)) (Syntax.tcons (Syntax.tyInt Syntax.w64) Syntax.tnil))))),
+  Rows'.any-gone (Syntax.tyStruct (List._∷_ 98 (List._∷_ 108 (List._∷_ 111
+      (List._∷_ 99 (List._∷_ 107 (List._∷_ 58 (List._∷_ 58 (List._∷_ 87 (List._∷_ 97 (List._∷_ 108 (List._∷_ 107 (List._∷_ 101 (List._∷_ 100 List.[]))))))))))))) (Syntax.tcons Syntax.tyBool (Syntax.tcons
+      (Syntax.tyInt Syntax.w64) (Syntax.tcons (Syntax.tyStruct (List._∷_ 98 (List._∷_ 105 (List._∷_ 116 (List._∷_ 115 (List._∷_ 58 (List._∷_ 58 (List._∷_ 66 (List._∷_ 105 (List._∷_ 116 (List._∷_ 80
+      (List._∷_ 111 (List._∷_ 115 (List._∷_ 105 (List._∷_ 116 (List._∷_ 105 (List._∷_ 111 (List._∷_ 110 List.[]))))))))))))))))) (Syntax.tcons (Syntax.tyInt Syntax.w64) Syntax.tnil)) (Syntax.tcons
+      (Syntax.tyInt Syntax.w64) Syntax.tnil))))),
+) (List._∷_ (13, Rows'.any-gone (Syntax.tyArray (Syntax.tyInt Syntax.w16) 768)) (List._∷_ (
+  14,
+  Rows'.any-gone (Syntax.tyRef Syntax.erased Syntax.mut
+      (Syntax.tyInt Syntax.w16)),
 ) (List._∷_ (
-  13,
-  Rows'.any-gone (Syntax.tyArray (Syntax.tyInt
-      Syntax.w16) 768),
-) (List._∷_ (14, Rows'.any-gone (Syntax.tyRef Syntax.erased Syntax.mut (Syntax.tyInt Syntax.w16))) (List._∷_ (
   15,
-  Rows'.any-gone (Syntax.tyStruct (List._∷_ 38 (List._∷_ 91
-      (List._∷_ 93 List.[]))) (Syntax.tcons (Syntax.tyRef Syntax.erased Syntax.mut (Syntax.tyInt Syntax.w16)) (Syntax.tcons (Syntax.tyInt Syntax.w64) Syntax.tnil))),
+  Rows'.any-gone (Syntax.tyStruct (List._∷_ 38 (List._∷_ 91 (List._∷_ 93 List.[]))) (Syntax.tcons (Syntax.tyRef Syntax.erased Syntax.mut (Syntax.tyInt
+      Syntax.w16)) (Syntax.tcons (Syntax.tyInt Syntax.w64) Syntax.tnil))),
 ) List.[])))))))))))))))
 
 abbrev pub t4 : List.List Row.Entry
@@ -641,44 +645,48 @@ t4 = List._∷_ (
       (Syntax.ttcons Syntax.tnil (Syntax.ttcons Syntax.tnil (Syntax.ttcons (Syntax.tcons (Syntax.tyInt Syntax.w64) Syntax.tnil) (Syntax.ttcons Syntax.tnil (Syntax.ttcons Syntax.tnil (Syntax.ttcons
       Syntax.tnil (Syntax.ttcons Syntax.tnil (Syntax.ttcons Syntax.tnil (Syntax.ttcons Syntax.tnil (Syntax.ttcons (Syntax.tcons (Syntax.tyInt Syntax.w64) Syntax.tnil) (Syntax.ttcons (Syntax.tcons
       (Syntax.tyInt Syntax.w64) Syntax.tnil) (Syntax.ttcons Syntax.tnil (Syntax.ttcons (Syntax.tcons (Syntax.tyInt Syntax.w64) (Syntax.tcons (Syntax.tyInt Syntax.w64) Syntax.tnil)) (Syntax.ttcons
-      (Syntax.tcons (Syntax.tyInt Syntax.w64) Syntax.tnil) (Syntax.ttcons Syntax.tnil Syntax.ttnil))))))))))))))))) Syntax.tnil) Syntax.ttnil))),
-) (List._∷_ (
-  1,
-  Rows'.sslice (Referent.rtF (Referent.fInt
-      Syntax.w8)) (Syntax.tyRef (Syntax.named 0) Syntax.imm (Syntax.tyInt Syntax.w8)) 0,
-) (List._∷_ (2, Rows'.whole (Declared'.row FujiHeader.the-type)) (List._∷_ (
-  3,
-  Rows'.sc-here (Row.sInt Syntax.w64),
-) (List._∷_ (4, Mut.mslice (Referent.rtF (Referent.fInt Syntax.w16)) (Syntax.tyRef (Syntax.named 1) Syntax.mut (Syntax.tyInt Syntax.w16)) 1) (List._∷_ (
-  5,
-  Mut.mslice (Element.type) (Syntax.tyRef
-      (Syntax.named 2) Syntax.mut Element.behind) 2,
-) (List._∷_ (6, Rows'.whole (Declared'.row (Apart.apartT Form.the-type))) (List._∷_ (7, Rows'.sc-here (Row.sInt Syntax.w64)) (List._∷_ (
+      (Syntax.tcons (Syntax.tyInt Syntax.w64) Syntax.tnil) (Syntax.ttcons Syntax.tnil (Syntax.ttcons Syntax.tnil (Syntax.ttcons (Syntax.tcons (Syntax.tyInt Syntax.w64) Syntax.tnil) (Syntax.ttcons
+      (Syntax.tcons (Syntax.tyInt Syntax.w64) Syntax.tnil) (Syntax.ttcons (Syntax.tcons (Syntax.tyInt Syntax.w64) Syntax.tnil) (Syntax.ttcons Syntax.tnil Syntax.ttnil)))))))))))))))))))))) Syntax.tnil)
+      Syntax.ttnil))),
+) (List._∷_ (1, Rows'.sslice (Referent.rtF (Referent.fInt Syntax.w8)) (Syntax.tyRef (Syntax.named 0) Syntax.imm (Syntax.tyInt Syntax.w8)) 0) (List._∷_ (
+  2,
+  Rows'.whole
+      (Declared'.row FujiHeader.the-type),
+) (List._∷_ (3, Rows'.sc-here (Row.sInt Syntax.w64)) (List._∷_ (
+  4,
+  Mut.mslice (Referent.rtF (Referent.fInt Syntax.w16)) (Syntax.tyRef (Syntax.named 1) Syntax.mut
+      (Syntax.tyInt Syntax.w16)) 1,
+) (List._∷_ (5, Mut.mslice (Element.type) (Syntax.tyRef (Syntax.named 2) Syntax.mut Element.behind) 2) (List._∷_ (
+  6,
+  Rows'.whole (Declared'.row (Apart.apartT
+      Form.the-type)),
+) (List._∷_ (7, Rows'.sc-here (Row.sInt Syntax.w64)) (List._∷_ (
   8,
-  Rows'.any-gone (Syntax.tyStruct (List._∷_ 38 (List._∷_ 91 (List._∷_ 93 List.[]))) (Syntax.tcons (Syntax.tyRef Syntax.erased Syntax.imm (Syntax.tyInt Syntax.w8)) (Syntax.tcons (Syntax.tyInt Syntax.w64)
-      Syntax.tnil))),
+  Rows'.any-gone (Syntax.tyStruct (List._∷_ 38 (List._∷_ 91 (List._∷_ 93 List.[]))) (Syntax.tcons (Syntax.tyRef
+      Syntax.erased Syntax.imm (Syntax.tyInt Syntax.w8)) (Syntax.tcons (Syntax.tyInt Syntax.w64) Syntax.tnil))),
 ) (List._∷_ (
   9,
-  Rows'.any-gone (Syntax.tyStruct (List._∷_ 38 (List._∷_ 91 (List._∷_ 93 List.[]))) (Syntax.tcons (Syntax.tyRef Syntax.erased Syntax.imm (Syntax.tyInt Syntax.w8))
-      (Syntax.tcons (Syntax.tyInt Syntax.w64) Syntax.tnil))),
-) (List._∷_ (10, Rows'.any-gone (Syntax.tyArray (Syntax.tyInt Syntax.w16) 768)) (List._∷_ (
-  11,
-  Rows'.any-gone (Syntax.tyArray (Syntax.tyInt
-      Syntax.w16) 1),
+  Rows'.any-gone (Syntax.tyStruct (List._∷_ 38 (List._∷_ 91 (List._∷_ 93
+      List.[]))) (Syntax.tcons (Syntax.tyRef Syntax.erased Syntax.imm (Syntax.tyInt Syntax.w8)) (Syntax.tcons (Syntax.tyInt Syntax.w64) Syntax.tnil))),
 ) (List._∷_ (
+  10,
+  Rows'.any-gone (Syntax.tyArray
+      (Syntax.tyInt Syntax.w16) 768),
+) (List._∷_ (11, Rows'.any-gone (Syntax.tyArray (Syntax.tyInt Syntax.w16) 1)) (List._∷_ (
   12,
-  Rows'.any-gone (Syntax.tyStruct (List._∷_ 98 (List._∷_ 108 (List._∷_ 111 (List._∷_ 99 (List._∷_ 107 (List._∷_ 58 (List._∷_ 58 (List._∷_ 87 (List._∷_ 97 (List._∷_ 108
-      (List._∷_ 107 (List._∷_ 101 (List._∷_ 100 List.[]))))))))))))) (Syntax.tcons Syntax.tyBool (Syntax.tcons (Syntax.tyInt Syntax.w64) (Syntax.tcons (Syntax.tyStruct (List._∷_ 98 (List._∷_ 105 (List._∷_
-      116 (List._∷_ 115 (List._∷_ 58 (List._∷_ 58 (List._∷_ 66 (List._∷_ 105 (List._∷_ 116 (List._∷_ 80 (List._∷_ 111 (List._∷_ 115 (List._∷_ 105 (List._∷_ 116 (List._∷_ 105 (List._∷_ 111 (List._∷_ 110
-      List.[]))))))))))))))))) (Syntax.tcons (Syntax.tyInt Syntax.w64) Syntax.tnil)) (Syntax.tcons (Syntax.tyInt Syntax.w64) Syntax.tnil))))),
+  Rows'.any-gone (Syntax.tyStruct (List._∷_ 98 (List._∷_ 108 (List._∷_ 111
+      (List._∷_ 99 (List._∷_ 107 (List._∷_ 58 (List._∷_ 58 (List._∷_ 87 (List._∷_ 97 (List._∷_ 108 (List._∷_ 107 (List._∷_ 101 (List._∷_ 100 List.[]))))))))))))) (Syntax.tcons Syntax.tyBool (Syntax.tcons
+      (Syntax.tyInt Syntax.w64) (Syntax.tcons (Syntax.tyStruct (List._∷_ 98 (List._∷_ 105 (List._∷_ 116 (List._∷_ 115 (List._∷_ 58 (List._∷_ 58 (List._∷_ 66 (List._∷_ 105 (List._∷_ 116 (List._∷_ 80
+      (List._∷_ 111 (List._∷_ 115 (List._∷_ 105 (List._∷_ 116 (List._∷_ 105 (List._∷_ 111 (List._∷_ 110 List.[]))))))))))))))))) (Syntax.tcons (Syntax.tyInt Syntax.w64) Syntax.tnil)) (Syntax.tcons
+      (Syntax.tyInt Syntax.w64) Syntax.tnil))))),
+) (List._∷_ (13, Rows'.any-gone (Syntax.tyArray (Syntax.tyInt Syntax.w16) 768)) (List._∷_ (
+  14,
+  Rows'.any-gone (Syntax.tyRef Syntax.erased Syntax.mut
+      (Syntax.tyInt Syntax.w16)),
 ) (List._∷_ (
-  13,
-  Rows'.any-gone (Syntax.tyArray (Syntax.tyInt
-      Syntax.w16) 768),
-) (List._∷_ (14, Rows'.any-gone (Syntax.tyRef Syntax.erased Syntax.mut (Syntax.tyInt Syntax.w16))) (List._∷_ (
   15,
-  Rows'.any-gone (Syntax.tyStruct (List._∷_ 38 (List._∷_ 91
-      (List._∷_ 93 List.[]))) (Syntax.tcons (Syntax.tyRef Syntax.erased Syntax.mut (Syntax.tyInt Syntax.w16)) (Syntax.tcons (Syntax.tyInt Syntax.w64) Syntax.tnil))),
+  Rows'.any-gone (Syntax.tyStruct (List._∷_ 38 (List._∷_ 91 (List._∷_ 93 List.[]))) (Syntax.tcons (Syntax.tyRef Syntax.erased Syntax.mut (Syntax.tyInt
+      Syntax.w16)) (Syntax.tcons (Syntax.tyInt Syntax.w64) Syntax.tnil))),
 ) List.[])))))))))))))))
 
 abbrev pub t5 : List.List Row.Entry
@@ -690,44 +698,51 @@ t5 = List._∷_ (
       (Syntax.ttcons Syntax.tnil (Syntax.ttcons Syntax.tnil (Syntax.ttcons (Syntax.tcons (Syntax.tyInt Syntax.w64) Syntax.tnil) (Syntax.ttcons Syntax.tnil (Syntax.ttcons Syntax.tnil (Syntax.ttcons
       Syntax.tnil (Syntax.ttcons Syntax.tnil (Syntax.ttcons Syntax.tnil (Syntax.ttcons Syntax.tnil (Syntax.ttcons (Syntax.tcons (Syntax.tyInt Syntax.w64) Syntax.tnil) (Syntax.ttcons (Syntax.tcons
       (Syntax.tyInt Syntax.w64) Syntax.tnil) (Syntax.ttcons Syntax.tnil (Syntax.ttcons (Syntax.tcons (Syntax.tyInt Syntax.w64) (Syntax.tcons (Syntax.tyInt Syntax.w64) Syntax.tnil)) (Syntax.ttcons
-      (Syntax.tcons (Syntax.tyInt Syntax.w64) Syntax.tnil) (Syntax.ttcons Syntax.tnil Syntax.ttnil))))))))))))))))) Syntax.tnil) Syntax.ttnil))),
-) (List._∷_ (
-  1,
-  Rows'.sslice (Referent.rtF (Referent.fInt
-      Syntax.w8)) (Syntax.tyRef (Syntax.named 0) Syntax.imm (Syntax.tyInt Syntax.w8)) 0,
-) (List._∷_ (
+      (Syntax.tcons (Syntax.tyInt Syntax.w64) Syntax.tnil) (Syntax.ttcons Syntax.tnil (Syntax.ttcons Syntax.tnil (Syntax.ttcons (Syntax.tcons (Syntax.tyInt Syntax.w64) Syntax.tnil) (Syntax.ttcons
+      (Syntax.tcons (Syntax.tyInt Syntax.w64) Syntax.tnil) (Syntax.ttcons (Syntax.tcons (Syntax.tyInt Syntax.w64) Syntax.tnil) (Syntax.ttcons Syntax.tnil Syntax.ttnil)))))))))))))))))))))) Syntax.tnil)
+      Syntax.ttnil))),
+) (List._∷_ (1, Rows'.sslice (Referent.rtF (Referent.fInt Syntax.w8)) (Syntax.tyRef (Syntax.named 0) Syntax.imm (Syntax.tyInt Syntax.w8)) 0) (List._∷_ (
   2,
-  Rows'.any-gone (Syntax.tyStruct (List._∷_ 115 (List._∷_ 116 (List._∷_ 114 (List._∷_ 101 (List._∷_ 97
-      (List._∷_ 109 (List._∷_ 58 (List._∷_ 58 (List._∷_ 70 (List._∷_ 117 (List._∷_ 106 (List._∷_ 105 (List._∷_ 72 (List._∷_ 101 (List._∷_ 97 (List._∷_ 100 (List._∷_ 101 (List._∷_ 114
-      List.[])))))))))))))))))) (Syntax.tcons Syntax.tyBool (Syntax.tcons Syntax.tyBool (Syntax.tcons (Syntax.tyInt Syntax.w32) (Syntax.tcons (Syntax.tyInt Syntax.w32) (Syntax.tcons (Syntax.tyInt
-      Syntax.w32) (Syntax.tcons (Syntax.tyInt Syntax.w32) (Syntax.tcons (Syntax.tyInt Syntax.w32) (Syntax.tcons (Syntax.tyInt Syntax.w32) (Syntax.tcons (Syntax.tyInt Syntax.w32) Syntax.tnil)))))))))),
-)
-    (List._∷_ (3, Rows'.sc-here (Row.sInt Syntax.w64)) (List._∷_ (4, Mut.mslice (Referent.rtF (Referent.fInt Syntax.w16)) (Syntax.tyRef (Syntax.named 1) Syntax.mut (Syntax.tyInt Syntax.w16)) 1)
-    (List._∷_ (5, Mut.mslice (Element.type) (Syntax.tyRef (Syntax.named 2) Syntax.mut Element.behind) 2) (List._∷_ (6, Rows'.whole (Declared'.row (Apart.apartT Form.the-type))) (List._∷_ (
-      7,
-      Rows'.sc-here (Row.sInt Syntax.w64),
-    ) (List._∷_ (
-      8,
-      Rows'.any-gone (Syntax.tyStruct (List._∷_ 38 (List._∷_ 91 (List._∷_ 93 List.[]))) (Syntax.tcons (Syntax.tyRef Syntax.erased Syntax.imm
-          (Syntax.tyInt Syntax.w8)) (Syntax.tcons (Syntax.tyInt Syntax.w64) Syntax.tnil))),
-    ) (List._∷_ (
-      9,
-      Rows'.any-gone (Syntax.tyStruct (List._∷_ 38 (List._∷_ 91 (List._∷_ 93 List.[]))) (Syntax.tcons
-          (Syntax.tyRef Syntax.erased Syntax.imm (Syntax.tyInt Syntax.w8)) (Syntax.tcons (Syntax.tyInt Syntax.w64) Syntax.tnil))),
-    ) (List._∷_ (10, Rows'.any-gone (Syntax.tyArray (Syntax.tyInt Syntax.w16) 768))
-    (List._∷_ (11, Rows'.any-gone (Syntax.tyArray (Syntax.tyInt Syntax.w16) 1)) (List._∷_ (
-      12,
-      Rows'.any-gone (Syntax.tyStruct (List._∷_ 98 (List._∷_ 108 (List._∷_ 111 (List._∷_ 99 (List._∷_ 107
-          (List._∷_ 58 (List._∷_ 58 (List._∷_ 87 (List._∷_ 97 (List._∷_ 108 (List._∷_ 107 (List._∷_ 101 (List._∷_ 100 List.[]))))))))))))) (Syntax.tcons Syntax.tyBool (Syntax.tcons (Syntax.tyInt Syntax.w64)
-          (Syntax.tcons (Syntax.tyStruct (List._∷_ 98 (List._∷_ 105 (List._∷_ 116 (List._∷_ 115 (List._∷_ 58 (List._∷_ 58 (List._∷_ 66 (List._∷_ 105 (List._∷_ 116 (List._∷_ 80 (List._∷_ 111 (List._∷_ 115
-          (List._∷_ 105 (List._∷_ 116 (List._∷_ 105 (List._∷_ 111 (List._∷_ 110 List.[]))))))))))))))))) (Syntax.tcons (Syntax.tyInt Syntax.w64) Syntax.tnil)) (Syntax.tcons (Syntax.tyInt Syntax.w64)
-          Syntax.tnil))))),
-    ) (List._∷_ (13, Rows'.any-gone (Syntax.tyArray (Syntax.tyInt Syntax.w16) 768)) (List._∷_ (14, Rows'.any-gone (Syntax.tyRef Syntax.erased Syntax.mut (Syntax.tyInt Syntax.w16)))
-    (List._∷_ (
-      15,
-      Rows'.any-gone (Syntax.tyStruct (List._∷_ 38 (List._∷_ 91 (List._∷_ 93 List.[]))) (Syntax.tcons (Syntax.tyRef Syntax.erased Syntax.mut (Syntax.tyInt Syntax.w16)) (Syntax.tcons
-          (Syntax.tyInt Syntax.w64) Syntax.tnil))),
-    ) List.[])))))))))))))))
+  Rows'.any-gone
+      (Syntax.tyStruct (List._∷_ 115 (List._∷_ 116 (List._∷_ 114 (List._∷_ 101 (List._∷_ 97 (List._∷_ 109 (List._∷_ 58 (List._∷_ 58 (List._∷_ 70 (List._∷_ 117 (List._∷_ 106 (List._∷_ 105 (List._∷_ 72
+      (List._∷_ 101 (List._∷_ 97 (List._∷_ 100 (List._∷_ 101 (List._∷_ 114 List.[])))))))))))))))))) (Syntax.tcons Syntax.tyBool (Syntax.tcons Syntax.tyBool (Syntax.tcons (Syntax.tyInt Syntax.w32)
+      (Syntax.tcons (Syntax.tyInt Syntax.w32) (Syntax.tcons (Syntax.tyInt Syntax.w32) (Syntax.tcons (Syntax.tyInt Syntax.w32) (Syntax.tcons (Syntax.tyInt Syntax.w32) (Syntax.tcons (Syntax.tyInt Syntax.w32)
+      (Syntax.tcons (Syntax.tyInt Syntax.w32) Syntax.tnil)))))))))),
+) (List._∷_ (3, Rows'.sc-here (Row.sInt Syntax.w64)) (List._∷_ (
+  4,
+  Mut.mslice (Referent.rtF (Referent.fInt Syntax.w16)) (Syntax.tyRef
+      (Syntax.named 1) Syntax.mut (Syntax.tyInt Syntax.w16)) 1,
+) (List._∷_ (5, Mut.mslice (Element.type) (Syntax.tyRef (Syntax.named 2) Syntax.mut Element.behind) 2) (List._∷_ (
+  6,
+  Rows'.whole
+      (Declared'.row (Apart.apartT Form.the-type)),
+) (List._∷_ (7, Rows'.sc-here (Row.sInt Syntax.w64)) (List._∷_ (
+  8,
+  Rows'.any-gone (Syntax.tyStruct (List._∷_ 38 (List._∷_ 91 (List._∷_ 93 List.[])))
+      (Syntax.tcons (Syntax.tyRef Syntax.erased Syntax.imm (Syntax.tyInt Syntax.w8)) (Syntax.tcons (Syntax.tyInt Syntax.w64) Syntax.tnil))),
+) (List._∷_ (
+  9,
+  Rows'.any-gone (Syntax.tyStruct (List._∷_ 38
+      (List._∷_ 91 (List._∷_ 93 List.[]))) (Syntax.tcons (Syntax.tyRef Syntax.erased Syntax.imm (Syntax.tyInt Syntax.w8)) (Syntax.tcons (Syntax.tyInt Syntax.w64) Syntax.tnil))),
+) (List._∷_ (
+  10,
+  Rows'.any-gone (Syntax.tyArray (Syntax.tyInt Syntax.w16) 768),
+) (List._∷_ (11, Rows'.any-gone (Syntax.tyArray (Syntax.tyInt Syntax.w16) 1)) (List._∷_ (
+  12,
+  Rows'.any-gone (Syntax.tyStruct (List._∷_
+      98 (List._∷_ 108 (List._∷_ 111 (List._∷_ 99 (List._∷_ 107 (List._∷_ 58 (List._∷_ 58 (List._∷_ 87 (List._∷_ 97 (List._∷_ 108 (List._∷_ 107 (List._∷_ 101 (List._∷_ 100 List.[]))))))))))))) (Syntax.tcons
+      Syntax.tyBool (Syntax.tcons (Syntax.tyInt Syntax.w64) (Syntax.tcons (Syntax.tyStruct (List._∷_ 98 (List._∷_ 105 (List._∷_ 116 (List._∷_ 115 (List._∷_ 58 (List._∷_ 58 (List._∷_ 66 (List._∷_ 105
+      (List._∷_ 116 (List._∷_ 80 (List._∷_ 111 (List._∷_ 115 (List._∷_ 105 (List._∷_ 116 (List._∷_ 105 (List._∷_ 111 (List._∷_ 110 List.[]))))))))))))))))) (Syntax.tcons (Syntax.tyInt Syntax.w64)
+      Syntax.tnil)) (Syntax.tcons (Syntax.tyInt Syntax.w64) Syntax.tnil))))),
+) (List._∷_ (13, Rows'.any-gone (Syntax.tyArray (Syntax.tyInt Syntax.w16) 768)) (List._∷_ (
+  14,
+  Rows'.any-gone (Syntax.tyRef
+      Syntax.erased Syntax.mut (Syntax.tyInt Syntax.w16)),
+) (List._∷_ (
+  15,
+  Rows'.any-gone (Syntax.tyStruct (List._∷_ 38 (List._∷_ 91 (List._∷_ 93 List.[]))) (Syntax.tcons (Syntax.tyRef Syntax.erased
+      Syntax.mut (Syntax.tyInt Syntax.w16)) (Syntax.tcons (Syntax.tyInt Syntax.w64) Syntax.tnil))),
+) List.[])))))))))))))))
 
 abbrev pub t6 : List.List Row.Entry
 t6 = List._∷_ (
@@ -738,38 +753,52 @@ t6 = List._∷_ (
       (Syntax.ttcons Syntax.tnil (Syntax.ttcons Syntax.tnil (Syntax.ttcons (Syntax.tcons (Syntax.tyInt Syntax.w64) Syntax.tnil) (Syntax.ttcons Syntax.tnil (Syntax.ttcons Syntax.tnil (Syntax.ttcons
       Syntax.tnil (Syntax.ttcons Syntax.tnil (Syntax.ttcons Syntax.tnil (Syntax.ttcons Syntax.tnil (Syntax.ttcons (Syntax.tcons (Syntax.tyInt Syntax.w64) Syntax.tnil) (Syntax.ttcons (Syntax.tcons
       (Syntax.tyInt Syntax.w64) Syntax.tnil) (Syntax.ttcons Syntax.tnil (Syntax.ttcons (Syntax.tcons (Syntax.tyInt Syntax.w64) (Syntax.tcons (Syntax.tyInt Syntax.w64) Syntax.tnil)) (Syntax.ttcons
-      (Syntax.tcons (Syntax.tyInt Syntax.w64) Syntax.tnil) (Syntax.ttcons Syntax.tnil Syntax.ttnil))))))))))))))))) Syntax.tnil) Syntax.ttnil))),
-) (List._∷_ (
-  1,
-  Rows'.sslice (Referent.rtF (Referent.fInt
-      Syntax.w8)) (Syntax.tyRef (Syntax.named 0) Syntax.imm (Syntax.tyInt Syntax.w8)) 0,
-) (List._∷_ (
+      (Syntax.tcons (Syntax.tyInt Syntax.w64) Syntax.tnil) (Syntax.ttcons Syntax.tnil (Syntax.ttcons Syntax.tnil (Syntax.ttcons (Syntax.tcons (Syntax.tyInt Syntax.w64) Syntax.tnil) (Syntax.ttcons
+      (Syntax.tcons (Syntax.tyInt Syntax.w64) Syntax.tnil) (Syntax.ttcons (Syntax.tcons (Syntax.tyInt Syntax.w64) Syntax.tnil) (Syntax.ttcons Syntax.tnil Syntax.ttnil)))))))))))))))))))))) Syntax.tnil)
+      Syntax.ttnil))),
+) (List._∷_ (1, Rows'.sslice (Referent.rtF (Referent.fInt Syntax.w8)) (Syntax.tyRef (Syntax.named 0) Syntax.imm (Syntax.tyInt Syntax.w8)) 0) (List._∷_ (
   2,
-  Rows'.any-gone (Syntax.tyStruct (List._∷_ 115 (List._∷_ 116 (List._∷_ 114 (List._∷_ 101 (List._∷_ 97
-      (List._∷_ 109 (List._∷_ 58 (List._∷_ 58 (List._∷_ 70 (List._∷_ 117 (List._∷_ 106 (List._∷_ 105 (List._∷_ 72 (List._∷_ 101 (List._∷_ 97 (List._∷_ 100 (List._∷_ 101 (List._∷_ 114
-      List.[])))))))))))))))))) (Syntax.tcons Syntax.tyBool (Syntax.tcons Syntax.tyBool (Syntax.tcons (Syntax.tyInt Syntax.w32) (Syntax.tcons (Syntax.tyInt Syntax.w32) (Syntax.tcons (Syntax.tyInt
-      Syntax.w32) (Syntax.tcons (Syntax.tyInt Syntax.w32) (Syntax.tcons (Syntax.tyInt Syntax.w32) (Syntax.tcons (Syntax.tyInt Syntax.w32) (Syntax.tcons (Syntax.tyInt Syntax.w32) Syntax.tnil)))))))))),
+  Rows'.any-gone
+      (Syntax.tyStruct (List._∷_ 115 (List._∷_ 116 (List._∷_ 114 (List._∷_ 101 (List._∷_ 97 (List._∷_ 109 (List._∷_ 58 (List._∷_ 58 (List._∷_ 70 (List._∷_ 117 (List._∷_ 106 (List._∷_ 105 (List._∷_ 72
+      (List._∷_ 101 (List._∷_ 97 (List._∷_ 100 (List._∷_ 101 (List._∷_ 114 List.[])))))))))))))))))) (Syntax.tcons Syntax.tyBool (Syntax.tcons Syntax.tyBool (Syntax.tcons (Syntax.tyInt Syntax.w32)
+      (Syntax.tcons (Syntax.tyInt Syntax.w32) (Syntax.tcons (Syntax.tyInt Syntax.w32) (Syntax.tcons (Syntax.tyInt Syntax.w32) (Syntax.tcons (Syntax.tyInt Syntax.w32) (Syntax.tcons (Syntax.tyInt Syntax.w32)
+      (Syntax.tcons (Syntax.tyInt Syntax.w32) Syntax.tnil)))))))))),
+) (List._∷_ (3, Rows'.sc-here (Row.sInt Syntax.w64)) (List._∷_ (
+  4,
+  Mut.mslice (Referent.rtF (Referent.fInt Syntax.w16)) (Syntax.tyRef
+      (Syntax.named 1) Syntax.mut (Syntax.tyInt Syntax.w16)) 1,
+) (List._∷_ (5, Mut.mslice (Element.type) (Syntax.tyRef (Syntax.named 2) Syntax.mut Element.behind) 2) (List._∷_ (
+  6,
+  Rows'.whole
+      (Declared'.row (Apart.apartT Form.the-type)),
+) (List._∷_ (7, Rows'.sc-here (Row.sInt Syntax.w64)) (List._∷_ (
+  8,
+  Rows'.sslice (Referent.rtF (Referent.fInt Syntax.w8)) (Syntax.tyRef Syntax.erased
+      Syntax.imm (Syntax.tyInt Syntax.w8)) 0,
+) (List._∷_ (
+  9,
+  Rows'.any-gone (Syntax.tyStruct (List._∷_ 38 (List._∷_ 91 (List._∷_ 93 List.[]))) (Syntax.tcons (Syntax.tyRef Syntax.erased Syntax.imm
+      (Syntax.tyInt Syntax.w8)) (Syntax.tcons (Syntax.tyInt Syntax.w64) Syntax.tnil))),
+) (List._∷_ (10, Rows'.any-gone (Syntax.tyArray (Syntax.tyInt Syntax.w16) 768)) (List._∷_ (
+  11,
+  Rows'.any-gone
+      (Syntax.tyArray (Syntax.tyInt Syntax.w16) 1),
+) (List._∷_ (
+  12,
+  Rows'.any-gone (Syntax.tyStruct (List._∷_ 98 (List._∷_ 108 (List._∷_ 111 (List._∷_ 99 (List._∷_ 107 (List._∷_ 58 (List._∷_ 58 (List._∷_
+      87 (List._∷_ 97 (List._∷_ 108 (List._∷_ 107 (List._∷_ 101 (List._∷_ 100 List.[]))))))))))))) (Syntax.tcons Syntax.tyBool (Syntax.tcons (Syntax.tyInt Syntax.w64) (Syntax.tcons (Syntax.tyStruct
+      (List._∷_ 98 (List._∷_ 105 (List._∷_ 116 (List._∷_ 115 (List._∷_ 58 (List._∷_ 58 (List._∷_ 66 (List._∷_ 105 (List._∷_ 116 (List._∷_ 80 (List._∷_ 111 (List._∷_ 115 (List._∷_ 105 (List._∷_ 116 (List._∷_
+      105 (List._∷_ 111 (List._∷_ 110 List.[]))))))))))))))))) (Syntax.tcons (Syntax.tyInt Syntax.w64) Syntax.tnil)) (Syntax.tcons (Syntax.tyInt Syntax.w64) Syntax.tnil))))),
+) (List._∷_ (
+  13,
+  Rows'.any-gone
+      (Syntax.tyArray (Syntax.tyInt Syntax.w16) 768),
+) (List._∷_ (14, Rows'.any-gone (Syntax.tyRef Syntax.erased Syntax.mut (Syntax.tyInt Syntax.w16))) (List._∷_ (
+  15,
+  Rows'.any-gone (Syntax.tyStruct
+      (List._∷_ 38 (List._∷_ 91 (List._∷_ 93 List.[]))) (Syntax.tcons (Syntax.tyRef Syntax.erased Syntax.mut (Syntax.tyInt Syntax.w16)) (Syntax.tcons (Syntax.tyInt Syntax.w64) Syntax.tnil))),
 )
-    (List._∷_ (3, Rows'.sc-here (Row.sInt Syntax.w64)) (List._∷_ (4, Mut.mslice (Referent.rtF (Referent.fInt Syntax.w16)) (Syntax.tyRef (Syntax.named 1) Syntax.mut (Syntax.tyInt Syntax.w16)) 1)
-    (List._∷_ (5, Mut.mslice (Element.type) (Syntax.tyRef (Syntax.named 2) Syntax.mut Element.behind) 2) (List._∷_ (6, Rows'.whole (Declared'.row (Apart.apartT Form.the-type))) (List._∷_ (
-      7,
-      Rows'.sc-here (Row.sInt Syntax.w64),
-    ) (List._∷_ (8, Rows'.sslice (Referent.rtF (Referent.fInt Syntax.w8)) (Syntax.tyRef Syntax.erased Syntax.imm (Syntax.tyInt Syntax.w8)) 0) (List._∷_ (
-      9,
-      Rows'.any-gone (Syntax.tyStruct (List._∷_ 38 (List._∷_ 91 (List._∷_ 93 List.[]))) (Syntax.tcons (Syntax.tyRef Syntax.erased Syntax.imm (Syntax.tyInt Syntax.w8)) (Syntax.tcons (Syntax.tyInt Syntax.w64)
-          Syntax.tnil))),
-    ) (List._∷_ (10, Rows'.any-gone (Syntax.tyArray (Syntax.tyInt Syntax.w16) 768)) (List._∷_ (11, Rows'.any-gone (Syntax.tyArray (Syntax.tyInt Syntax.w16) 1)) (List._∷_ (
-      12,
-      Rows'.any-gone (Syntax.tyStruct (List._∷_ 98 (List._∷_ 108 (List._∷_ 111 (List._∷_ 99 (List._∷_ 107 (List._∷_ 58 (List._∷_ 58 (List._∷_ 87 (List._∷_ 97 (List._∷_ 108 (List._∷_ 107 (List._∷_ 101
-          (List._∷_ 100 List.[]))))))))))))) (Syntax.tcons Syntax.tyBool (Syntax.tcons (Syntax.tyInt Syntax.w64) (Syntax.tcons (Syntax.tyStruct (List._∷_ 98 (List._∷_ 105 (List._∷_ 116 (List._∷_ 115 (List._∷_
-          58 (List._∷_ 58 (List._∷_ 66 (List._∷_ 105 (List._∷_ 116 (List._∷_ 80 (List._∷_ 111 (List._∷_ 115 (List._∷_ 105 (List._∷_ 116 (List._∷_ 105 (List._∷_ 111 (List._∷_ 110 List.[])))))))))))))))))
-          (Syntax.tcons (Syntax.tyInt Syntax.w64) Syntax.tnil)) (Syntax.tcons (Syntax.tyInt Syntax.w64) Syntax.tnil))))),
-    ) (List._∷_ (13, Rows'.any-gone (Syntax.tyArray (Syntax.tyInt Syntax.w16) 768))
-    (List._∷_ (14, Rows'.any-gone (Syntax.tyRef Syntax.erased Syntax.mut (Syntax.tyInt Syntax.w16))) (List._∷_ (
-      15,
-      Rows'.any-gone (Syntax.tyStruct (List._∷_ 38 (List._∷_ 91 (List._∷_ 93 List.[])))
-          (Syntax.tcons (Syntax.tyRef Syntax.erased Syntax.mut (Syntax.tyInt Syntax.w16)) (Syntax.tcons (Syntax.tyInt Syntax.w64) Syntax.tnil))),
-    ) List.[])))))))))))))))
+    List.[])))))))))))))))
 
 abbrev pub t7 : List.List Row.Entry
 t7 = List._∷_ (
@@ -780,42 +809,47 @@ t7 = List._∷_ (
       (Syntax.ttcons Syntax.tnil (Syntax.ttcons Syntax.tnil (Syntax.ttcons (Syntax.tcons (Syntax.tyInt Syntax.w64) Syntax.tnil) (Syntax.ttcons Syntax.tnil (Syntax.ttcons Syntax.tnil (Syntax.ttcons
       Syntax.tnil (Syntax.ttcons Syntax.tnil (Syntax.ttcons Syntax.tnil (Syntax.ttcons Syntax.tnil (Syntax.ttcons (Syntax.tcons (Syntax.tyInt Syntax.w64) Syntax.tnil) (Syntax.ttcons (Syntax.tcons
       (Syntax.tyInt Syntax.w64) Syntax.tnil) (Syntax.ttcons Syntax.tnil (Syntax.ttcons (Syntax.tcons (Syntax.tyInt Syntax.w64) (Syntax.tcons (Syntax.tyInt Syntax.w64) Syntax.tnil)) (Syntax.ttcons
-      (Syntax.tcons (Syntax.tyInt Syntax.w64) Syntax.tnil) (Syntax.ttcons Syntax.tnil Syntax.ttnil))))))))))))))))) Syntax.tnil) Syntax.ttnil))),
-) (List._∷_ (
-  1,
-  Rows'.sslice (Referent.rtF (Referent.fInt
-      Syntax.w8)) (Syntax.tyRef (Syntax.named 0) Syntax.imm (Syntax.tyInt Syntax.w8)) 0,
-) (List._∷_ (
+      (Syntax.tcons (Syntax.tyInt Syntax.w64) Syntax.tnil) (Syntax.ttcons Syntax.tnil (Syntax.ttcons Syntax.tnil (Syntax.ttcons (Syntax.tcons (Syntax.tyInt Syntax.w64) Syntax.tnil) (Syntax.ttcons
+      (Syntax.tcons (Syntax.tyInt Syntax.w64) Syntax.tnil) (Syntax.ttcons (Syntax.tcons (Syntax.tyInt Syntax.w64) Syntax.tnil) (Syntax.ttcons Syntax.tnil Syntax.ttnil)))))))))))))))))))))) Syntax.tnil)
+      Syntax.ttnil))),
+) (List._∷_ (1, Rows'.sslice (Referent.rtF (Referent.fInt Syntax.w8)) (Syntax.tyRef (Syntax.named 0) Syntax.imm (Syntax.tyInt Syntax.w8)) 0) (List._∷_ (
   2,
-  Rows'.any-gone (Syntax.tyStruct (List._∷_ 115 (List._∷_ 116 (List._∷_ 114 (List._∷_ 101 (List._∷_ 97
-      (List._∷_ 109 (List._∷_ 58 (List._∷_ 58 (List._∷_ 70 (List._∷_ 117 (List._∷_ 106 (List._∷_ 105 (List._∷_ 72 (List._∷_ 101 (List._∷_ 97 (List._∷_ 100 (List._∷_ 101 (List._∷_ 114
-      List.[])))))))))))))))))) (Syntax.tcons Syntax.tyBool (Syntax.tcons Syntax.tyBool (Syntax.tcons (Syntax.tyInt Syntax.w32) (Syntax.tcons (Syntax.tyInt Syntax.w32) (Syntax.tcons (Syntax.tyInt
-      Syntax.w32) (Syntax.tcons (Syntax.tyInt Syntax.w32) (Syntax.tcons (Syntax.tyInt Syntax.w32) (Syntax.tcons (Syntax.tyInt Syntax.w32) (Syntax.tcons (Syntax.tyInt Syntax.w32) Syntax.tnil)))))))))),
-)
-    (List._∷_ (3, Rows'.sc-here (Row.sInt Syntax.w64)) (List._∷_ (4, Mut.mslice (Referent.rtF (Referent.fInt Syntax.w16)) (Syntax.tyRef (Syntax.named 1) Syntax.mut (Syntax.tyInt Syntax.w16)) 1)
-    (List._∷_ (5, Mut.mslice (Element.type) (Syntax.tyRef (Syntax.named 2) Syntax.mut Element.behind) 2) (List._∷_ (6, Rows'.whole (Declared'.row (Apart.apartT Form.the-type))) (List._∷_ (
-      7,
-      Rows'.sc-here (Row.sInt Syntax.w64),
-    ) (List._∷_ (8, Rows'.sslice (Referent.rtF (Referent.fInt Syntax.w8)) (Syntax.tyRef Syntax.erased Syntax.imm (Syntax.tyInt Syntax.w8)) 0) (List._∷_ (
-      9,
-      Rows'.sslice (Referent.rtF (Referent.fInt Syntax.w8)) (Syntax.tyRef Syntax.erased Syntax.imm (Syntax.tyInt Syntax.w8)) 0,
-    ) (List._∷_ (
-      10,
-      Rows'.any-gone (Syntax.tyArray (Syntax.tyInt Syntax.w16)
-          768),
-    ) (List._∷_ (11, Rows'.any-gone (Syntax.tyArray (Syntax.tyInt Syntax.w16) 1)) (List._∷_ (
-      12,
-      Rows'.any-gone (Syntax.tyStruct (List._∷_ 98 (List._∷_ 108 (List._∷_ 111 (List._∷_ 99 (List._∷_ 107
-          (List._∷_ 58 (List._∷_ 58 (List._∷_ 87 (List._∷_ 97 (List._∷_ 108 (List._∷_ 107 (List._∷_ 101 (List._∷_ 100 List.[]))))))))))))) (Syntax.tcons Syntax.tyBool (Syntax.tcons (Syntax.tyInt Syntax.w64)
-          (Syntax.tcons (Syntax.tyStruct (List._∷_ 98 (List._∷_ 105 (List._∷_ 116 (List._∷_ 115 (List._∷_ 58 (List._∷_ 58 (List._∷_ 66 (List._∷_ 105 (List._∷_ 116 (List._∷_ 80 (List._∷_ 111 (List._∷_ 115
-          (List._∷_ 105 (List._∷_ 116 (List._∷_ 105 (List._∷_ 111 (List._∷_ 110 List.[]))))))))))))))))) (Syntax.tcons (Syntax.tyInt Syntax.w64) Syntax.tnil)) (Syntax.tcons (Syntax.tyInt Syntax.w64)
-          Syntax.tnil))))),
-    ) (List._∷_ (13, Rows'.any-gone (Syntax.tyArray (Syntax.tyInt Syntax.w16) 768)) (List._∷_ (14, Rows'.any-gone (Syntax.tyRef Syntax.erased Syntax.mut (Syntax.tyInt Syntax.w16)))
-    (List._∷_ (
-      15,
-      Rows'.any-gone (Syntax.tyStruct (List._∷_ 38 (List._∷_ 91 (List._∷_ 93 List.[]))) (Syntax.tcons (Syntax.tyRef Syntax.erased Syntax.mut (Syntax.tyInt Syntax.w16)) (Syntax.tcons
-          (Syntax.tyInt Syntax.w64) Syntax.tnil))),
-    ) List.[])))))))))))))))
+  Rows'.any-gone
+      (Syntax.tyStruct (List._∷_ 115 (List._∷_ 116 (List._∷_ 114 (List._∷_ 101 (List._∷_ 97 (List._∷_ 109 (List._∷_ 58 (List._∷_ 58 (List._∷_ 70 (List._∷_ 117 (List._∷_ 106 (List._∷_ 105 (List._∷_ 72
+      (List._∷_ 101 (List._∷_ 97 (List._∷_ 100 (List._∷_ 101 (List._∷_ 114 List.[])))))))))))))))))) (Syntax.tcons Syntax.tyBool (Syntax.tcons Syntax.tyBool (Syntax.tcons (Syntax.tyInt Syntax.w32)
+      (Syntax.tcons (Syntax.tyInt Syntax.w32) (Syntax.tcons (Syntax.tyInt Syntax.w32) (Syntax.tcons (Syntax.tyInt Syntax.w32) (Syntax.tcons (Syntax.tyInt Syntax.w32) (Syntax.tcons (Syntax.tyInt Syntax.w32)
+      (Syntax.tcons (Syntax.tyInt Syntax.w32) Syntax.tnil)))))))))),
+) (List._∷_ (3, Rows'.sc-here (Row.sInt Syntax.w64)) (List._∷_ (
+  4,
+  Mut.mslice (Referent.rtF (Referent.fInt Syntax.w16)) (Syntax.tyRef
+      (Syntax.named 1) Syntax.mut (Syntax.tyInt Syntax.w16)) 1,
+) (List._∷_ (5, Mut.mslice (Element.type) (Syntax.tyRef (Syntax.named 2) Syntax.mut Element.behind) 2) (List._∷_ (
+  6,
+  Rows'.whole
+      (Declared'.row (Apart.apartT Form.the-type)),
+) (List._∷_ (7, Rows'.sc-here (Row.sInt Syntax.w64)) (List._∷_ (
+  8,
+  Rows'.sslice (Referent.rtF (Referent.fInt Syntax.w8)) (Syntax.tyRef Syntax.erased
+      Syntax.imm (Syntax.tyInt Syntax.w8)) 0,
+) (List._∷_ (9, Rows'.sslice (Referent.rtF (Referent.fInt Syntax.w8)) (Syntax.tyRef Syntax.erased Syntax.imm (Syntax.tyInt Syntax.w8)) 0) (List._∷_ (
+  10,
+  Rows'.any-gone (Syntax.tyArray (Syntax.tyInt Syntax.w16) 768),
+) (List._∷_ (11, Rows'.any-gone (Syntax.tyArray (Syntax.tyInt Syntax.w16) 1)) (List._∷_ (
+  12,
+  Rows'.any-gone (Syntax.tyStruct (List._∷_
+      98 (List._∷_ 108 (List._∷_ 111 (List._∷_ 99 (List._∷_ 107 (List._∷_ 58 (List._∷_ 58 (List._∷_ 87 (List._∷_ 97 (List._∷_ 108 (List._∷_ 107 (List._∷_ 101 (List._∷_ 100 List.[]))))))))))))) (Syntax.tcons
+      Syntax.tyBool (Syntax.tcons (Syntax.tyInt Syntax.w64) (Syntax.tcons (Syntax.tyStruct (List._∷_ 98 (List._∷_ 105 (List._∷_ 116 (List._∷_ 115 (List._∷_ 58 (List._∷_ 58 (List._∷_ 66 (List._∷_ 105
+      (List._∷_ 116 (List._∷_ 80 (List._∷_ 111 (List._∷_ 115 (List._∷_ 105 (List._∷_ 116 (List._∷_ 105 (List._∷_ 111 (List._∷_ 110 List.[]))))))))))))))))) (Syntax.tcons (Syntax.tyInt Syntax.w64)
+      Syntax.tnil)) (Syntax.tcons (Syntax.tyInt Syntax.w64) Syntax.tnil))))),
+) (List._∷_ (13, Rows'.any-gone (Syntax.tyArray (Syntax.tyInt Syntax.w16) 768)) (List._∷_ (
+  14,
+  Rows'.any-gone (Syntax.tyRef
+      Syntax.erased Syntax.mut (Syntax.tyInt Syntax.w16)),
+) (List._∷_ (
+  15,
+  Rows'.any-gone (Syntax.tyStruct (List._∷_ 38 (List._∷_ 91 (List._∷_ 93 List.[]))) (Syntax.tcons (Syntax.tyRef Syntax.erased
+      Syntax.mut (Syntax.tyInt Syntax.w16)) (Syntax.tcons (Syntax.tyInt Syntax.w64) Syntax.tnil))),
+) List.[])))))))))))))))
 
 abbrev pub t8 : List.List Row.Entry
 t8 = List._∷_ (
@@ -826,42 +860,47 @@ t8 = List._∷_ (
       (Syntax.ttcons Syntax.tnil (Syntax.ttcons Syntax.tnil (Syntax.ttcons (Syntax.tcons (Syntax.tyInt Syntax.w64) Syntax.tnil) (Syntax.ttcons Syntax.tnil (Syntax.ttcons Syntax.tnil (Syntax.ttcons
       Syntax.tnil (Syntax.ttcons Syntax.tnil (Syntax.ttcons Syntax.tnil (Syntax.ttcons Syntax.tnil (Syntax.ttcons (Syntax.tcons (Syntax.tyInt Syntax.w64) Syntax.tnil) (Syntax.ttcons (Syntax.tcons
       (Syntax.tyInt Syntax.w64) Syntax.tnil) (Syntax.ttcons Syntax.tnil (Syntax.ttcons (Syntax.tcons (Syntax.tyInt Syntax.w64) (Syntax.tcons (Syntax.tyInt Syntax.w64) Syntax.tnil)) (Syntax.ttcons
-      (Syntax.tcons (Syntax.tyInt Syntax.w64) Syntax.tnil) (Syntax.ttcons Syntax.tnil Syntax.ttnil))))))))))))))))) Syntax.tnil) Syntax.ttnil))),
-) (List._∷_ (
-  1,
-  Rows'.sslice (Referent.rtF (Referent.fInt
-      Syntax.w8)) (Syntax.tyRef (Syntax.named 0) Syntax.imm (Syntax.tyInt Syntax.w8)) 0,
-) (List._∷_ (
+      (Syntax.tcons (Syntax.tyInt Syntax.w64) Syntax.tnil) (Syntax.ttcons Syntax.tnil (Syntax.ttcons Syntax.tnil (Syntax.ttcons (Syntax.tcons (Syntax.tyInt Syntax.w64) Syntax.tnil) (Syntax.ttcons
+      (Syntax.tcons (Syntax.tyInt Syntax.w64) Syntax.tnil) (Syntax.ttcons (Syntax.tcons (Syntax.tyInt Syntax.w64) Syntax.tnil) (Syntax.ttcons Syntax.tnil Syntax.ttnil)))))))))))))))))))))) Syntax.tnil)
+      Syntax.ttnil))),
+) (List._∷_ (1, Rows'.sslice (Referent.rtF (Referent.fInt Syntax.w8)) (Syntax.tyRef (Syntax.named 0) Syntax.imm (Syntax.tyInt Syntax.w8)) 0) (List._∷_ (
   2,
-  Rows'.any-gone (Syntax.tyStruct (List._∷_ 115 (List._∷_ 116 (List._∷_ 114 (List._∷_ 101 (List._∷_ 97
-      (List._∷_ 109 (List._∷_ 58 (List._∷_ 58 (List._∷_ 70 (List._∷_ 117 (List._∷_ 106 (List._∷_ 105 (List._∷_ 72 (List._∷_ 101 (List._∷_ 97 (List._∷_ 100 (List._∷_ 101 (List._∷_ 114
-      List.[])))))))))))))))))) (Syntax.tcons Syntax.tyBool (Syntax.tcons Syntax.tyBool (Syntax.tcons (Syntax.tyInt Syntax.w32) (Syntax.tcons (Syntax.tyInt Syntax.w32) (Syntax.tcons (Syntax.tyInt
-      Syntax.w32) (Syntax.tcons (Syntax.tyInt Syntax.w32) (Syntax.tcons (Syntax.tyInt Syntax.w32) (Syntax.tcons (Syntax.tyInt Syntax.w32) (Syntax.tcons (Syntax.tyInt Syntax.w32) Syntax.tnil)))))))))),
-)
-    (List._∷_ (3, Rows'.sc-here (Row.sInt Syntax.w64)) (List._∷_ (4, Mut.mslice (Referent.rtF (Referent.fInt Syntax.w16)) (Syntax.tyRef (Syntax.named 1) Syntax.mut (Syntax.tyInt Syntax.w16)) 1)
-    (List._∷_ (5, Mut.mslice (Element.type) (Syntax.tyRef (Syntax.named 2) Syntax.mut Element.behind) 2) (List._∷_ (6, Rows'.whole (Declared'.row (Apart.apartT Form.the-type))) (List._∷_ (
-      7,
-      Rows'.sc-here (Row.sInt Syntax.w64),
-    ) (List._∷_ (8, Rows'.sslice (Referent.rtF (Referent.fInt Syntax.w8)) (Syntax.tyRef Syntax.erased Syntax.imm (Syntax.tyInt Syntax.w8)) 0) (List._∷_ (
-      9,
-      Rows'.sslice (Referent.rtF (Referent.fInt Syntax.w8)) (Syntax.tyRef Syntax.erased Syntax.imm (Syntax.tyInt Syntax.w8)) 0,
-    ) (List._∷_ (
-      10,
-      Rows'.any-gone (Syntax.tyArray (Syntax.tyInt Syntax.w16)
-          768),
-    ) (List._∷_ (11, Rows'.any-gone (Syntax.tyArray (Syntax.tyInt Syntax.w16) 1)) (List._∷_ (
-      12,
-      Rows'.any-gone (Syntax.tyStruct (List._∷_ 98 (List._∷_ 108 (List._∷_ 111 (List._∷_ 99 (List._∷_ 107
-          (List._∷_ 58 (List._∷_ 58 (List._∷_ 87 (List._∷_ 97 (List._∷_ 108 (List._∷_ 107 (List._∷_ 101 (List._∷_ 100 List.[]))))))))))))) (Syntax.tcons Syntax.tyBool (Syntax.tcons (Syntax.tyInt Syntax.w64)
-          (Syntax.tcons (Syntax.tyStruct (List._∷_ 98 (List._∷_ 105 (List._∷_ 116 (List._∷_ 115 (List._∷_ 58 (List._∷_ 58 (List._∷_ 66 (List._∷_ 105 (List._∷_ 116 (List._∷_ 80 (List._∷_ 111 (List._∷_ 115
-          (List._∷_ 105 (List._∷_ 116 (List._∷_ 105 (List._∷_ 111 (List._∷_ 110 List.[]))))))))))))))))) (Syntax.tcons (Syntax.tyInt Syntax.w64) Syntax.tnil)) (Syntax.tcons (Syntax.tyInt Syntax.w64)
-          Syntax.tnil))))),
-    ) (List._∷_ (13, Rows.arrF (Referent.rtF (Referent.fInt Syntax.w16)) 768 0) (List._∷_ (14, Rows'.any-gone (Syntax.tyRef Syntax.erased Syntax.mut (Syntax.tyInt Syntax.w16)))
-    (List._∷_ (
-      15,
-      Rows'.any-gone (Syntax.tyStruct (List._∷_ 38 (List._∷_ 91 (List._∷_ 93 List.[]))) (Syntax.tcons (Syntax.tyRef Syntax.erased Syntax.mut (Syntax.tyInt Syntax.w16)) (Syntax.tcons
-          (Syntax.tyInt Syntax.w64) Syntax.tnil))),
-    ) List.[])))))))))))))))
+  Rows'.any-gone
+      (Syntax.tyStruct (List._∷_ 115 (List._∷_ 116 (List._∷_ 114 (List._∷_ 101 (List._∷_ 97 (List._∷_ 109 (List._∷_ 58 (List._∷_ 58 (List._∷_ 70 (List._∷_ 117 (List._∷_ 106 (List._∷_ 105 (List._∷_ 72
+      (List._∷_ 101 (List._∷_ 97 (List._∷_ 100 (List._∷_ 101 (List._∷_ 114 List.[])))))))))))))))))) (Syntax.tcons Syntax.tyBool (Syntax.tcons Syntax.tyBool (Syntax.tcons (Syntax.tyInt Syntax.w32)
+      (Syntax.tcons (Syntax.tyInt Syntax.w32) (Syntax.tcons (Syntax.tyInt Syntax.w32) (Syntax.tcons (Syntax.tyInt Syntax.w32) (Syntax.tcons (Syntax.tyInt Syntax.w32) (Syntax.tcons (Syntax.tyInt Syntax.w32)
+      (Syntax.tcons (Syntax.tyInt Syntax.w32) Syntax.tnil)))))))))),
+) (List._∷_ (3, Rows'.sc-here (Row.sInt Syntax.w64)) (List._∷_ (
+  4,
+  Mut.mslice (Referent.rtF (Referent.fInt Syntax.w16)) (Syntax.tyRef
+      (Syntax.named 1) Syntax.mut (Syntax.tyInt Syntax.w16)) 1,
+) (List._∷_ (5, Mut.mslice (Element.type) (Syntax.tyRef (Syntax.named 2) Syntax.mut Element.behind) 2) (List._∷_ (
+  6,
+  Rows'.whole
+      (Declared'.row (Apart.apartT Form.the-type)),
+) (List._∷_ (7, Rows'.sc-here (Row.sInt Syntax.w64)) (List._∷_ (
+  8,
+  Rows'.sslice (Referent.rtF (Referent.fInt Syntax.w8)) (Syntax.tyRef Syntax.erased
+      Syntax.imm (Syntax.tyInt Syntax.w8)) 0,
+) (List._∷_ (9, Rows'.sslice (Referent.rtF (Referent.fInt Syntax.w8)) (Syntax.tyRef Syntax.erased Syntax.imm (Syntax.tyInt Syntax.w8)) 0) (List._∷_ (
+  10,
+  Rows'.any-gone (Syntax.tyArray (Syntax.tyInt Syntax.w16) 768),
+) (List._∷_ (11, Rows'.any-gone (Syntax.tyArray (Syntax.tyInt Syntax.w16) 1)) (List._∷_ (
+  12,
+  Rows'.any-gone (Syntax.tyStruct (List._∷_
+      98 (List._∷_ 108 (List._∷_ 111 (List._∷_ 99 (List._∷_ 107 (List._∷_ 58 (List._∷_ 58 (List._∷_ 87 (List._∷_ 97 (List._∷_ 108 (List._∷_ 107 (List._∷_ 101 (List._∷_ 100 List.[]))))))))))))) (Syntax.tcons
+      Syntax.tyBool (Syntax.tcons (Syntax.tyInt Syntax.w64) (Syntax.tcons (Syntax.tyStruct (List._∷_ 98 (List._∷_ 105 (List._∷_ 116 (List._∷_ 115 (List._∷_ 58 (List._∷_ 58 (List._∷_ 66 (List._∷_ 105
+      (List._∷_ 116 (List._∷_ 80 (List._∷_ 111 (List._∷_ 115 (List._∷_ 105 (List._∷_ 116 (List._∷_ 105 (List._∷_ 111 (List._∷_ 110 List.[]))))))))))))))))) (Syntax.tcons (Syntax.tyInt Syntax.w64)
+      Syntax.tnil)) (Syntax.tcons (Syntax.tyInt Syntax.w64) Syntax.tnil))))),
+) (List._∷_ (13, Rows.arrF (Referent.rtF (Referent.fInt Syntax.w16)) 768 0) (List._∷_ (
+  14,
+  Rows'.any-gone (Syntax.tyRef
+      Syntax.erased Syntax.mut (Syntax.tyInt Syntax.w16)),
+) (List._∷_ (
+  15,
+  Rows'.any-gone (Syntax.tyStruct (List._∷_ 38 (List._∷_ 91 (List._∷_ 93 List.[]))) (Syntax.tcons (Syntax.tyRef Syntax.erased
+      Syntax.mut (Syntax.tyInt Syntax.w16)) (Syntax.tcons (Syntax.tyInt Syntax.w64) Syntax.tnil))),
+) List.[])))))))))))))))
 
 abbrev pub t9 : List.List Row.Entry
 t9 = List._∷_ (
@@ -872,39 +911,47 @@ t9 = List._∷_ (
       (Syntax.ttcons Syntax.tnil (Syntax.ttcons Syntax.tnil (Syntax.ttcons (Syntax.tcons (Syntax.tyInt Syntax.w64) Syntax.tnil) (Syntax.ttcons Syntax.tnil (Syntax.ttcons Syntax.tnil (Syntax.ttcons
       Syntax.tnil (Syntax.ttcons Syntax.tnil (Syntax.ttcons Syntax.tnil (Syntax.ttcons Syntax.tnil (Syntax.ttcons (Syntax.tcons (Syntax.tyInt Syntax.w64) Syntax.tnil) (Syntax.ttcons (Syntax.tcons
       (Syntax.tyInt Syntax.w64) Syntax.tnil) (Syntax.ttcons Syntax.tnil (Syntax.ttcons (Syntax.tcons (Syntax.tyInt Syntax.w64) (Syntax.tcons (Syntax.tyInt Syntax.w64) Syntax.tnil)) (Syntax.ttcons
-      (Syntax.tcons (Syntax.tyInt Syntax.w64) Syntax.tnil) (Syntax.ttcons Syntax.tnil Syntax.ttnil))))))))))))))))) Syntax.tnil) Syntax.ttnil))),
-) (List._∷_ (
-  1,
-  Rows'.sslice (Referent.rtF (Referent.fInt
-      Syntax.w8)) (Syntax.tyRef (Syntax.named 0) Syntax.imm (Syntax.tyInt Syntax.w8)) 0,
-) (List._∷_ (
+      (Syntax.tcons (Syntax.tyInt Syntax.w64) Syntax.tnil) (Syntax.ttcons Syntax.tnil (Syntax.ttcons Syntax.tnil (Syntax.ttcons (Syntax.tcons (Syntax.tyInt Syntax.w64) Syntax.tnil) (Syntax.ttcons
+      (Syntax.tcons (Syntax.tyInt Syntax.w64) Syntax.tnil) (Syntax.ttcons (Syntax.tcons (Syntax.tyInt Syntax.w64) Syntax.tnil) (Syntax.ttcons Syntax.tnil Syntax.ttnil)))))))))))))))))))))) Syntax.tnil)
+      Syntax.ttnil))),
+) (List._∷_ (1, Rows'.sslice (Referent.rtF (Referent.fInt Syntax.w8)) (Syntax.tyRef (Syntax.named 0) Syntax.imm (Syntax.tyInt Syntax.w8)) 0) (List._∷_ (
   2,
-  Rows'.any-gone (Syntax.tyStruct (List._∷_ 115 (List._∷_ 116 (List._∷_ 114 (List._∷_ 101 (List._∷_ 97
-      (List._∷_ 109 (List._∷_ 58 (List._∷_ 58 (List._∷_ 70 (List._∷_ 117 (List._∷_ 106 (List._∷_ 105 (List._∷_ 72 (List._∷_ 101 (List._∷_ 97 (List._∷_ 100 (List._∷_ 101 (List._∷_ 114
-      List.[])))))))))))))))))) (Syntax.tcons Syntax.tyBool (Syntax.tcons Syntax.tyBool (Syntax.tcons (Syntax.tyInt Syntax.w32) (Syntax.tcons (Syntax.tyInt Syntax.w32) (Syntax.tcons (Syntax.tyInt
-      Syntax.w32) (Syntax.tcons (Syntax.tyInt Syntax.w32) (Syntax.tcons (Syntax.tyInt Syntax.w32) (Syntax.tcons (Syntax.tyInt Syntax.w32) (Syntax.tcons (Syntax.tyInt Syntax.w32) Syntax.tnil)))))))))),
-)
-    (List._∷_ (3, Rows'.sc-here (Row.sInt Syntax.w64)) (List._∷_ (4, Mut.mslice (Referent.rtF (Referent.fInt Syntax.w16)) (Syntax.tyRef (Syntax.named 1) Syntax.mut (Syntax.tyInt Syntax.w16)) 1)
-    (List._∷_ (5, Mut.mslice (Element.type) (Syntax.tyRef (Syntax.named 2) Syntax.mut Element.behind) 2) (List._∷_ (6, Rows'.whole (Declared'.row (Apart.apartT Form.the-type))) (List._∷_ (
-      7,
-      Rows'.sc-here (Row.sInt Syntax.w64),
-    ) (List._∷_ (8, Rows'.sslice (Referent.rtF (Referent.fInt Syntax.w8)) (Syntax.tyRef Syntax.erased Syntax.imm (Syntax.tyInt Syntax.w8)) 0) (List._∷_ (
-      9,
-      Rows'.sslice (Referent.rtF (Referent.fInt Syntax.w8)) (Syntax.tyRef Syntax.erased Syntax.imm (Syntax.tyInt Syntax.w8)) 0,
-    ) (List._∷_ (10, Rows.arrF (Referent.rtF (Referent.fInt Syntax.w16)) 768 0)
-    (List._∷_ (11, Rows'.any-gone (Syntax.tyArray (Syntax.tyInt Syntax.w16) 1)) (List._∷_ (
-      12,
-      Rows'.any-gone (Syntax.tyStruct (List._∷_ 98 (List._∷_ 108 (List._∷_ 111 (List._∷_ 99 (List._∷_ 107
-          (List._∷_ 58 (List._∷_ 58 (List._∷_ 87 (List._∷_ 97 (List._∷_ 108 (List._∷_ 107 (List._∷_ 101 (List._∷_ 100 List.[]))))))))))))) (Syntax.tcons Syntax.tyBool (Syntax.tcons (Syntax.tyInt Syntax.w64)
-          (Syntax.tcons (Syntax.tyStruct (List._∷_ 98 (List._∷_ 105 (List._∷_ 116 (List._∷_ 115 (List._∷_ 58 (List._∷_ 58 (List._∷_ 66 (List._∷_ 105 (List._∷_ 116 (List._∷_ 80 (List._∷_ 111 (List._∷_ 115
-          (List._∷_ 105 (List._∷_ 116 (List._∷_ 105 (List._∷_ 111 (List._∷_ 110 List.[]))))))))))))))))) (Syntax.tcons (Syntax.tyInt Syntax.w64) Syntax.tnil)) (Syntax.tcons (Syntax.tyInt Syntax.w64)
-          Syntax.tnil))))),
-    ) (List._∷_ (13, Rows.arrF (Referent.rtF (Referent.fInt Syntax.w16)) 768 0) (List._∷_ (14, Rows'.any-gone (Syntax.tyRef Syntax.erased Syntax.mut (Syntax.tyInt Syntax.w16)))
-    (List._∷_ (
-      15,
-      Rows'.any-gone (Syntax.tyStruct (List._∷_ 38 (List._∷_ 91 (List._∷_ 93 List.[]))) (Syntax.tcons (Syntax.tyRef Syntax.erased Syntax.mut (Syntax.tyInt Syntax.w16)) (Syntax.tcons
-          (Syntax.tyInt Syntax.w64) Syntax.tnil))),
-    ) List.[])))))))))))))))
+  Rows'.any-gone
+      (Syntax.tyStruct (List._∷_ 115 (List._∷_ 116 (List._∷_ 114 (List._∷_ 101 (List._∷_ 97 (List._∷_ 109 (List._∷_ 58 (List._∷_ 58 (List._∷_ 70 (List._∷_ 117 (List._∷_ 106 (List._∷_ 105 (List._∷_ 72
+      (List._∷_ 101 (List._∷_ 97 (List._∷_ 100 (List._∷_ 101 (List._∷_ 114 List.[])))))))))))))))))) (Syntax.tcons Syntax.tyBool (Syntax.tcons Syntax.tyBool (Syntax.tcons (Syntax.tyInt Syntax.w32)
+      (Syntax.tcons (Syntax.tyInt Syntax.w32) (Syntax.tcons (Syntax.tyInt Syntax.w32) (Syntax.tcons (Syntax.tyInt Syntax.w32) (Syntax.tcons (Syntax.tyInt Syntax.w32) (Syntax.tcons (Syntax.tyInt Syntax.w32)
+      (Syntax.tcons (Syntax.tyInt Syntax.w32) Syntax.tnil)))))))))),
+) (List._∷_ (3, Rows'.sc-here (Row.sInt Syntax.w64)) (List._∷_ (
+  4,
+  Mut.mslice (Referent.rtF (Referent.fInt Syntax.w16)) (Syntax.tyRef
+      (Syntax.named 1) Syntax.mut (Syntax.tyInt Syntax.w16)) 1,
+) (List._∷_ (5, Mut.mslice (Element.type) (Syntax.tyRef (Syntax.named 2) Syntax.mut Element.behind) 2) (List._∷_ (
+  6,
+  Rows'.whole
+      (Declared'.row (Apart.apartT Form.the-type)),
+) (List._∷_ (7, Rows'.sc-here (Row.sInt Syntax.w64)) (List._∷_ (
+  8,
+  Rows'.sslice (Referent.rtF (Referent.fInt Syntax.w8)) (Syntax.tyRef Syntax.erased
+      Syntax.imm (Syntax.tyInt Syntax.w8)) 0,
+) (List._∷_ (9, Rows'.sslice (Referent.rtF (Referent.fInt Syntax.w8)) (Syntax.tyRef Syntax.erased Syntax.imm (Syntax.tyInt Syntax.w8)) 0) (List._∷_ (
+  10,
+  Rows.arrF (Referent.rtF (Referent.fInt Syntax.w16)) 768 0,
+) (List._∷_ (11, Rows'.any-gone (Syntax.tyArray (Syntax.tyInt Syntax.w16) 1)) (List._∷_ (
+  12,
+  Rows'.any-gone (Syntax.tyStruct (List._∷_ 98
+      (List._∷_ 108 (List._∷_ 111 (List._∷_ 99 (List._∷_ 107 (List._∷_ 58 (List._∷_ 58 (List._∷_ 87 (List._∷_ 97 (List._∷_ 108 (List._∷_ 107 (List._∷_ 101 (List._∷_ 100 List.[]))))))))))))) (Syntax.tcons
+      Syntax.tyBool (Syntax.tcons (Syntax.tyInt Syntax.w64) (Syntax.tcons (Syntax.tyStruct (List._∷_ 98 (List._∷_ 105 (List._∷_ 116 (List._∷_ 115 (List._∷_ 58 (List._∷_ 58 (List._∷_ 66 (List._∷_ 105
+      (List._∷_ 116 (List._∷_ 80 (List._∷_ 111 (List._∷_ 115 (List._∷_ 105 (List._∷_ 116 (List._∷_ 105 (List._∷_ 111 (List._∷_ 110 List.[]))))))))))))))))) (Syntax.tcons (Syntax.tyInt Syntax.w64)
+      Syntax.tnil)) (Syntax.tcons (Syntax.tyInt Syntax.w64) Syntax.tnil))))),
+) (List._∷_ (13, Rows.arrF (Referent.rtF (Referent.fInt Syntax.w16)) 768 0) (List._∷_ (
+  14,
+  Rows'.any-gone (Syntax.tyRef
+      Syntax.erased Syntax.mut (Syntax.tyInt Syntax.w16)),
+) (List._∷_ (
+  15,
+  Rows'.any-gone (Syntax.tyStruct (List._∷_ 38 (List._∷_ 91 (List._∷_ 93 List.[]))) (Syntax.tcons (Syntax.tyRef Syntax.erased
+      Syntax.mut (Syntax.tyInt Syntax.w16)) (Syntax.tcons (Syntax.tyInt Syntax.w64) Syntax.tnil))),
+) List.[])))))))))))))))
 
 abbrev pub t10 : List.List Row.Entry
 t10 = List._∷_ (
@@ -915,39 +962,47 @@ t10 = List._∷_ (
       (Syntax.ttcons Syntax.tnil (Syntax.ttcons Syntax.tnil (Syntax.ttcons (Syntax.tcons (Syntax.tyInt Syntax.w64) Syntax.tnil) (Syntax.ttcons Syntax.tnil (Syntax.ttcons Syntax.tnil (Syntax.ttcons
       Syntax.tnil (Syntax.ttcons Syntax.tnil (Syntax.ttcons Syntax.tnil (Syntax.ttcons Syntax.tnil (Syntax.ttcons (Syntax.tcons (Syntax.tyInt Syntax.w64) Syntax.tnil) (Syntax.ttcons (Syntax.tcons
       (Syntax.tyInt Syntax.w64) Syntax.tnil) (Syntax.ttcons Syntax.tnil (Syntax.ttcons (Syntax.tcons (Syntax.tyInt Syntax.w64) (Syntax.tcons (Syntax.tyInt Syntax.w64) Syntax.tnil)) (Syntax.ttcons
-      (Syntax.tcons (Syntax.tyInt Syntax.w64) Syntax.tnil) (Syntax.ttcons Syntax.tnil Syntax.ttnil))))))))))))))))) Syntax.tnil) Syntax.ttnil))),
-) (List._∷_ (
-  1,
-  Rows'.sslice (Referent.rtF (Referent.fInt
-      Syntax.w8)) (Syntax.tyRef (Syntax.named 0) Syntax.imm (Syntax.tyInt Syntax.w8)) 0,
-) (List._∷_ (
+      (Syntax.tcons (Syntax.tyInt Syntax.w64) Syntax.tnil) (Syntax.ttcons Syntax.tnil (Syntax.ttcons Syntax.tnil (Syntax.ttcons (Syntax.tcons (Syntax.tyInt Syntax.w64) Syntax.tnil) (Syntax.ttcons
+      (Syntax.tcons (Syntax.tyInt Syntax.w64) Syntax.tnil) (Syntax.ttcons (Syntax.tcons (Syntax.tyInt Syntax.w64) Syntax.tnil) (Syntax.ttcons Syntax.tnil Syntax.ttnil)))))))))))))))))))))) Syntax.tnil)
+      Syntax.ttnil))),
+) (List._∷_ (1, Rows'.sslice (Referent.rtF (Referent.fInt Syntax.w8)) (Syntax.tyRef (Syntax.named 0) Syntax.imm (Syntax.tyInt Syntax.w8)) 0) (List._∷_ (
   2,
-  Rows'.any-gone (Syntax.tyStruct (List._∷_ 115 (List._∷_ 116 (List._∷_ 114 (List._∷_ 101 (List._∷_ 97
-      (List._∷_ 109 (List._∷_ 58 (List._∷_ 58 (List._∷_ 70 (List._∷_ 117 (List._∷_ 106 (List._∷_ 105 (List._∷_ 72 (List._∷_ 101 (List._∷_ 97 (List._∷_ 100 (List._∷_ 101 (List._∷_ 114
-      List.[])))))))))))))))))) (Syntax.tcons Syntax.tyBool (Syntax.tcons Syntax.tyBool (Syntax.tcons (Syntax.tyInt Syntax.w32) (Syntax.tcons (Syntax.tyInt Syntax.w32) (Syntax.tcons (Syntax.tyInt
-      Syntax.w32) (Syntax.tcons (Syntax.tyInt Syntax.w32) (Syntax.tcons (Syntax.tyInt Syntax.w32) (Syntax.tcons (Syntax.tyInt Syntax.w32) (Syntax.tcons (Syntax.tyInt Syntax.w32) Syntax.tnil)))))))))),
-)
-    (List._∷_ (3, Rows'.sc-here (Row.sInt Syntax.w64)) (List._∷_ (4, Mut.mslice (Referent.rtF (Referent.fInt Syntax.w16)) (Syntax.tyRef (Syntax.named 1) Syntax.mut (Syntax.tyInt Syntax.w16)) 1)
-    (List._∷_ (5, Mut.mslice (Element.type) (Syntax.tyRef (Syntax.named 2) Syntax.mut Element.behind) 2) (List._∷_ (6, Rows'.whole (Declared'.row (Apart.apartT Form.the-type))) (List._∷_ (
-      7,
-      Rows'.sc-here (Row.sInt Syntax.w64),
-    ) (List._∷_ (8, Rows'.sslice (Referent.rtF (Referent.fInt Syntax.w8)) (Syntax.tyRef Syntax.erased Syntax.imm (Syntax.tyInt Syntax.w8)) 0) (List._∷_ (
-      9,
-      Rows'.sslice (Referent.rtF (Referent.fInt Syntax.w8)) (Syntax.tyRef Syntax.erased Syntax.imm (Syntax.tyInt Syntax.w8)) 0,
-    ) (List._∷_ (10, Rows.arrF (Referent.rtF (Referent.fInt Syntax.w16)) 768 0)
-    (List._∷_ (11, Rows'.any-gone (Syntax.tyArray (Syntax.tyInt Syntax.w16) 1)) (List._∷_ (
-      12,
-      Rows'.any-gone (Syntax.tyStruct (List._∷_ 98 (List._∷_ 108 (List._∷_ 111 (List._∷_ 99 (List._∷_ 107
-          (List._∷_ 58 (List._∷_ 58 (List._∷_ 87 (List._∷_ 97 (List._∷_ 108 (List._∷_ 107 (List._∷_ 101 (List._∷_ 100 List.[]))))))))))))) (Syntax.tcons Syntax.tyBool (Syntax.tcons (Syntax.tyInt Syntax.w64)
-          (Syntax.tcons (Syntax.tyStruct (List._∷_ 98 (List._∷_ 105 (List._∷_ 116 (List._∷_ 115 (List._∷_ 58 (List._∷_ 58 (List._∷_ 66 (List._∷_ 105 (List._∷_ 116 (List._∷_ 80 (List._∷_ 111 (List._∷_ 115
-          (List._∷_ 105 (List._∷_ 116 (List._∷_ 105 (List._∷_ 111 (List._∷_ 110 List.[]))))))))))))))))) (Syntax.tcons (Syntax.tyInt Syntax.w64) Syntax.tnil)) (Syntax.tcons (Syntax.tyInt Syntax.w64)
-          Syntax.tnil))))),
-    ) (List._∷_ (13, Rows'.any-gone (Syntax.tyArray (Syntax.tyInt Syntax.w16) 768)) (List._∷_ (14, Rows'.any-gone (Syntax.tyRef Syntax.erased Syntax.mut (Syntax.tyInt Syntax.w16)))
-    (List._∷_ (
-      15,
-      Rows'.any-gone (Syntax.tyStruct (List._∷_ 38 (List._∷_ 91 (List._∷_ 93 List.[]))) (Syntax.tcons (Syntax.tyRef Syntax.erased Syntax.mut (Syntax.tyInt Syntax.w16)) (Syntax.tcons
-          (Syntax.tyInt Syntax.w64) Syntax.tnil))),
-    ) List.[])))))))))))))))
+  Rows'.any-gone
+      (Syntax.tyStruct (List._∷_ 115 (List._∷_ 116 (List._∷_ 114 (List._∷_ 101 (List._∷_ 97 (List._∷_ 109 (List._∷_ 58 (List._∷_ 58 (List._∷_ 70 (List._∷_ 117 (List._∷_ 106 (List._∷_ 105 (List._∷_ 72
+      (List._∷_ 101 (List._∷_ 97 (List._∷_ 100 (List._∷_ 101 (List._∷_ 114 List.[])))))))))))))))))) (Syntax.tcons Syntax.tyBool (Syntax.tcons Syntax.tyBool (Syntax.tcons (Syntax.tyInt Syntax.w32)
+      (Syntax.tcons (Syntax.tyInt Syntax.w32) (Syntax.tcons (Syntax.tyInt Syntax.w32) (Syntax.tcons (Syntax.tyInt Syntax.w32) (Syntax.tcons (Syntax.tyInt Syntax.w32) (Syntax.tcons (Syntax.tyInt Syntax.w32)
+      (Syntax.tcons (Syntax.tyInt Syntax.w32) Syntax.tnil)))))))))),
+) (List._∷_ (3, Rows'.sc-here (Row.sInt Syntax.w64)) (List._∷_ (
+  4,
+  Mut.mslice (Referent.rtF (Referent.fInt Syntax.w16)) (Syntax.tyRef
+      (Syntax.named 1) Syntax.mut (Syntax.tyInt Syntax.w16)) 1,
+) (List._∷_ (5, Mut.mslice (Element.type) (Syntax.tyRef (Syntax.named 2) Syntax.mut Element.behind) 2) (List._∷_ (
+  6,
+  Rows'.whole
+      (Declared'.row (Apart.apartT Form.the-type)),
+) (List._∷_ (7, Rows'.sc-here (Row.sInt Syntax.w64)) (List._∷_ (
+  8,
+  Rows'.sslice (Referent.rtF (Referent.fInt Syntax.w8)) (Syntax.tyRef Syntax.erased
+      Syntax.imm (Syntax.tyInt Syntax.w8)) 0,
+) (List._∷_ (9, Rows'.sslice (Referent.rtF (Referent.fInt Syntax.w8)) (Syntax.tyRef Syntax.erased Syntax.imm (Syntax.tyInt Syntax.w8)) 0) (List._∷_ (
+  10,
+  Rows.arrF (Referent.rtF (Referent.fInt Syntax.w16)) 768 0,
+) (List._∷_ (11, Rows'.any-gone (Syntax.tyArray (Syntax.tyInt Syntax.w16) 1)) (List._∷_ (
+  12,
+  Rows'.any-gone (Syntax.tyStruct (List._∷_ 98
+      (List._∷_ 108 (List._∷_ 111 (List._∷_ 99 (List._∷_ 107 (List._∷_ 58 (List._∷_ 58 (List._∷_ 87 (List._∷_ 97 (List._∷_ 108 (List._∷_ 107 (List._∷_ 101 (List._∷_ 100 List.[]))))))))))))) (Syntax.tcons
+      Syntax.tyBool (Syntax.tcons (Syntax.tyInt Syntax.w64) (Syntax.tcons (Syntax.tyStruct (List._∷_ 98 (List._∷_ 105 (List._∷_ 116 (List._∷_ 115 (List._∷_ 58 (List._∷_ 58 (List._∷_ 66 (List._∷_ 105
+      (List._∷_ 116 (List._∷_ 80 (List._∷_ 111 (List._∷_ 115 (List._∷_ 105 (List._∷_ 116 (List._∷_ 105 (List._∷_ 111 (List._∷_ 110 List.[]))))))))))))))))) (Syntax.tcons (Syntax.tyInt Syntax.w64)
+      Syntax.tnil)) (Syntax.tcons (Syntax.tyInt Syntax.w64) Syntax.tnil))))),
+) (List._∷_ (13, Rows'.any-gone (Syntax.tyArray (Syntax.tyInt Syntax.w16) 768)) (List._∷_ (
+  14,
+  Rows'.any-gone (Syntax.tyRef
+      Syntax.erased Syntax.mut (Syntax.tyInt Syntax.w16)),
+) (List._∷_ (
+  15,
+  Rows'.any-gone (Syntax.tyStruct (List._∷_ 38 (List._∷_ 91 (List._∷_ 93 List.[]))) (Syntax.tcons (Syntax.tyRef Syntax.erased
+      Syntax.mut (Syntax.tyInt Syntax.w16)) (Syntax.tcons (Syntax.tyInt Syntax.w64) Syntax.tnil))),
+) List.[])))))))))))))))
 
 abbrev pub t11 : List.List Row.Entry
 t11 = List._∷_ (
@@ -958,42 +1013,47 @@ t11 = List._∷_ (
       (Syntax.ttcons Syntax.tnil (Syntax.ttcons Syntax.tnil (Syntax.ttcons (Syntax.tcons (Syntax.tyInt Syntax.w64) Syntax.tnil) (Syntax.ttcons Syntax.tnil (Syntax.ttcons Syntax.tnil (Syntax.ttcons
       Syntax.tnil (Syntax.ttcons Syntax.tnil (Syntax.ttcons Syntax.tnil (Syntax.ttcons Syntax.tnil (Syntax.ttcons (Syntax.tcons (Syntax.tyInt Syntax.w64) Syntax.tnil) (Syntax.ttcons (Syntax.tcons
       (Syntax.tyInt Syntax.w64) Syntax.tnil) (Syntax.ttcons Syntax.tnil (Syntax.ttcons (Syntax.tcons (Syntax.tyInt Syntax.w64) (Syntax.tcons (Syntax.tyInt Syntax.w64) Syntax.tnil)) (Syntax.ttcons
-      (Syntax.tcons (Syntax.tyInt Syntax.w64) Syntax.tnil) (Syntax.ttcons Syntax.tnil Syntax.ttnil))))))))))))))))) Syntax.tnil) Syntax.ttnil))),
-) (List._∷_ (
-  1,
-  Rows'.sslice (Referent.rtF (Referent.fInt
-      Syntax.w8)) (Syntax.tyRef (Syntax.named 0) Syntax.imm (Syntax.tyInt Syntax.w8)) 0,
-) (List._∷_ (
+      (Syntax.tcons (Syntax.tyInt Syntax.w64) Syntax.tnil) (Syntax.ttcons Syntax.tnil (Syntax.ttcons Syntax.tnil (Syntax.ttcons (Syntax.tcons (Syntax.tyInt Syntax.w64) Syntax.tnil) (Syntax.ttcons
+      (Syntax.tcons (Syntax.tyInt Syntax.w64) Syntax.tnil) (Syntax.ttcons (Syntax.tcons (Syntax.tyInt Syntax.w64) Syntax.tnil) (Syntax.ttcons Syntax.tnil Syntax.ttnil)))))))))))))))))))))) Syntax.tnil)
+      Syntax.ttnil))),
+) (List._∷_ (1, Rows'.sslice (Referent.rtF (Referent.fInt Syntax.w8)) (Syntax.tyRef (Syntax.named 0) Syntax.imm (Syntax.tyInt Syntax.w8)) 0) (List._∷_ (
   2,
-  Rows'.any-gone (Syntax.tyStruct (List._∷_ 115 (List._∷_ 116 (List._∷_ 114 (List._∷_ 101 (List._∷_ 97
-      (List._∷_ 109 (List._∷_ 58 (List._∷_ 58 (List._∷_ 70 (List._∷_ 117 (List._∷_ 106 (List._∷_ 105 (List._∷_ 72 (List._∷_ 101 (List._∷_ 97 (List._∷_ 100 (List._∷_ 101 (List._∷_ 114
-      List.[])))))))))))))))))) (Syntax.tcons Syntax.tyBool (Syntax.tcons Syntax.tyBool (Syntax.tcons (Syntax.tyInt Syntax.w32) (Syntax.tcons (Syntax.tyInt Syntax.w32) (Syntax.tcons (Syntax.tyInt
-      Syntax.w32) (Syntax.tcons (Syntax.tyInt Syntax.w32) (Syntax.tcons (Syntax.tyInt Syntax.w32) (Syntax.tcons (Syntax.tyInt Syntax.w32) (Syntax.tcons (Syntax.tyInt Syntax.w32) Syntax.tnil)))))))))),
-)
-    (List._∷_ (3, Rows'.sc-here (Row.sInt Syntax.w64)) (List._∷_ (4, Mut.mslice (Referent.rtF (Referent.fInt Syntax.w16)) (Syntax.tyRef (Syntax.named 1) Syntax.mut (Syntax.tyInt Syntax.w16)) 1)
-    (List._∷_ (5, Mut.mslice (Element.type) (Syntax.tyRef (Syntax.named 2) Syntax.mut Element.behind) 2) (List._∷_ (6, Rows'.whole (Declared'.row (Apart.apartT Form.the-type))) (List._∷_ (
-      7,
-      Rows'.sc-here (Row.sInt Syntax.w64),
-    ) (List._∷_ (8, Rows'.sslice (Referent.rtF (Referent.fInt Syntax.w8)) (Syntax.tyRef Syntax.erased Syntax.imm (Syntax.tyInt Syntax.w8)) 0) (List._∷_ (
-      9,
-      Rows'.sslice (Referent.rtF (Referent.fInt Syntax.w8)) (Syntax.tyRef Syntax.erased Syntax.imm (Syntax.tyInt Syntax.w8)) 0,
-    ) (List._∷_ (10, Rows.arrF (Referent.rtF (Referent.fInt Syntax.w16)) 768 0)
-    (List._∷_ (11, Rows'.whole (Array'.Array (Referent.rtF (Referent.fInt Syntax.w16)) 1)) (List._∷_ (
-      12,
-      Rows'.any-gone (Syntax.tyStruct (List._∷_ 98 (List._∷_ 108 (List._∷_ 111 (List._∷_ 99
-          (List._∷_ 107 (List._∷_ 58 (List._∷_ 58 (List._∷_ 87 (List._∷_ 97 (List._∷_ 108 (List._∷_ 107 (List._∷_ 101 (List._∷_ 100 List.[]))))))))))))) (Syntax.tcons Syntax.tyBool (Syntax.tcons (Syntax.tyInt
-          Syntax.w64) (Syntax.tcons (Syntax.tyStruct (List._∷_ 98 (List._∷_ 105 (List._∷_ 116 (List._∷_ 115 (List._∷_ 58 (List._∷_ 58 (List._∷_ 66 (List._∷_ 105 (List._∷_ 116 (List._∷_ 80 (List._∷_ 111
-          (List._∷_ 115 (List._∷_ 105 (List._∷_ 116 (List._∷_ 105 (List._∷_ 111 (List._∷_ 110 List.[]))))))))))))))))) (Syntax.tcons (Syntax.tyInt Syntax.w64) Syntax.tnil)) (Syntax.tcons (Syntax.tyInt
-          Syntax.w64) Syntax.tnil))))),
-    ) (List._∷_ (13, Rows'.any-gone (Syntax.tyArray (Syntax.tyInt Syntax.w16) 768)) (List._∷_ (
-      14,
-      Rows'.any-gone (Syntax.tyRef Syntax.erased Syntax.mut (Syntax.tyInt
-          Syntax.w16)),
-    ) (List._∷_ (
-      15,
-      Rows'.any-gone (Syntax.tyStruct (List._∷_ 38 (List._∷_ 91 (List._∷_ 93 List.[]))) (Syntax.tcons (Syntax.tyRef Syntax.erased Syntax.mut (Syntax.tyInt Syntax.w16))
-          (Syntax.tcons (Syntax.tyInt Syntax.w64) Syntax.tnil))),
-    ) List.[])))))))))))))))
+  Rows'.any-gone
+      (Syntax.tyStruct (List._∷_ 115 (List._∷_ 116 (List._∷_ 114 (List._∷_ 101 (List._∷_ 97 (List._∷_ 109 (List._∷_ 58 (List._∷_ 58 (List._∷_ 70 (List._∷_ 117 (List._∷_ 106 (List._∷_ 105 (List._∷_ 72
+      (List._∷_ 101 (List._∷_ 97 (List._∷_ 100 (List._∷_ 101 (List._∷_ 114 List.[])))))))))))))))))) (Syntax.tcons Syntax.tyBool (Syntax.tcons Syntax.tyBool (Syntax.tcons (Syntax.tyInt Syntax.w32)
+      (Syntax.tcons (Syntax.tyInt Syntax.w32) (Syntax.tcons (Syntax.tyInt Syntax.w32) (Syntax.tcons (Syntax.tyInt Syntax.w32) (Syntax.tcons (Syntax.tyInt Syntax.w32) (Syntax.tcons (Syntax.tyInt Syntax.w32)
+      (Syntax.tcons (Syntax.tyInt Syntax.w32) Syntax.tnil)))))))))),
+) (List._∷_ (3, Rows'.sc-here (Row.sInt Syntax.w64)) (List._∷_ (
+  4,
+  Mut.mslice (Referent.rtF (Referent.fInt Syntax.w16)) (Syntax.tyRef
+      (Syntax.named 1) Syntax.mut (Syntax.tyInt Syntax.w16)) 1,
+) (List._∷_ (5, Mut.mslice (Element.type) (Syntax.tyRef (Syntax.named 2) Syntax.mut Element.behind) 2) (List._∷_ (
+  6,
+  Rows'.whole
+      (Declared'.row (Apart.apartT Form.the-type)),
+) (List._∷_ (7, Rows'.sc-here (Row.sInt Syntax.w64)) (List._∷_ (
+  8,
+  Rows'.sslice (Referent.rtF (Referent.fInt Syntax.w8)) (Syntax.tyRef Syntax.erased
+      Syntax.imm (Syntax.tyInt Syntax.w8)) 0,
+) (List._∷_ (9, Rows'.sslice (Referent.rtF (Referent.fInt Syntax.w8)) (Syntax.tyRef Syntax.erased Syntax.imm (Syntax.tyInt Syntax.w8)) 0) (List._∷_ (
+  10,
+  Rows.arrF (Referent.rtF (Referent.fInt Syntax.w16)) 768 0,
+) (List._∷_ (11, Rows'.whole (Array'.Array (Referent.rtF (Referent.fInt Syntax.w16)) 1)) (List._∷_ (
+  12,
+  Rows'.any-gone (Syntax.tyStruct
+      (List._∷_ 98 (List._∷_ 108 (List._∷_ 111 (List._∷_ 99 (List._∷_ 107 (List._∷_ 58 (List._∷_ 58 (List._∷_ 87 (List._∷_ 97 (List._∷_ 108 (List._∷_ 107 (List._∷_ 101 (List._∷_ 100 List.[])))))))))))))
+      (Syntax.tcons Syntax.tyBool (Syntax.tcons (Syntax.tyInt Syntax.w64) (Syntax.tcons (Syntax.tyStruct (List._∷_ 98 (List._∷_ 105 (List._∷_ 116 (List._∷_ 115 (List._∷_ 58 (List._∷_ 58 (List._∷_ 66
+      (List._∷_ 105 (List._∷_ 116 (List._∷_ 80 (List._∷_ 111 (List._∷_ 115 (List._∷_ 105 (List._∷_ 116 (List._∷_ 105 (List._∷_ 111 (List._∷_ 110 List.[]))))))))))))))))) (Syntax.tcons (Syntax.tyInt
+      Syntax.w64) Syntax.tnil)) (Syntax.tcons (Syntax.tyInt Syntax.w64) Syntax.tnil))))),
+) (List._∷_ (13, Rows'.any-gone (Syntax.tyArray (Syntax.tyInt Syntax.w16) 768)) (List._∷_ (
+  14,
+  Rows'.any-gone
+      (Syntax.tyRef Syntax.erased Syntax.mut (Syntax.tyInt Syntax.w16)),
+) (List._∷_ (
+  15,
+  Rows'.any-gone (Syntax.tyStruct (List._∷_ 38 (List._∷_ 91 (List._∷_ 93 List.[]))) (Syntax.tcons (Syntax.tyRef
+      Syntax.erased Syntax.mut (Syntax.tyInt Syntax.w16)) (Syntax.tcons (Syntax.tyInt Syntax.w64) Syntax.tnil))),
+) List.[])))))))))))))))
 
 abbrev pub t12 : List.List Row.Entry
 t12 = List._∷_ (
@@ -1004,38 +1064,47 @@ t12 = List._∷_ (
       (Syntax.ttcons Syntax.tnil (Syntax.ttcons Syntax.tnil (Syntax.ttcons (Syntax.tcons (Syntax.tyInt Syntax.w64) Syntax.tnil) (Syntax.ttcons Syntax.tnil (Syntax.ttcons Syntax.tnil (Syntax.ttcons
       Syntax.tnil (Syntax.ttcons Syntax.tnil (Syntax.ttcons Syntax.tnil (Syntax.ttcons Syntax.tnil (Syntax.ttcons (Syntax.tcons (Syntax.tyInt Syntax.w64) Syntax.tnil) (Syntax.ttcons (Syntax.tcons
       (Syntax.tyInt Syntax.w64) Syntax.tnil) (Syntax.ttcons Syntax.tnil (Syntax.ttcons (Syntax.tcons (Syntax.tyInt Syntax.w64) (Syntax.tcons (Syntax.tyInt Syntax.w64) Syntax.tnil)) (Syntax.ttcons
-      (Syntax.tcons (Syntax.tyInt Syntax.w64) Syntax.tnil) (Syntax.ttcons Syntax.tnil Syntax.ttnil))))))))))))))))) Syntax.tnil) Syntax.ttnil))),
-) (List._∷_ (
-  1,
-  Rows'.sslice (Referent.rtF (Referent.fInt
-      Syntax.w8)) (Syntax.tyRef (Syntax.named 0) Syntax.imm (Syntax.tyInt Syntax.w8)) 0,
-) (List._∷_ (
+      (Syntax.tcons (Syntax.tyInt Syntax.w64) Syntax.tnil) (Syntax.ttcons Syntax.tnil (Syntax.ttcons Syntax.tnil (Syntax.ttcons (Syntax.tcons (Syntax.tyInt Syntax.w64) Syntax.tnil) (Syntax.ttcons
+      (Syntax.tcons (Syntax.tyInt Syntax.w64) Syntax.tnil) (Syntax.ttcons (Syntax.tcons (Syntax.tyInt Syntax.w64) Syntax.tnil) (Syntax.ttcons Syntax.tnil Syntax.ttnil)))))))))))))))))))))) Syntax.tnil)
+      Syntax.ttnil))),
+) (List._∷_ (1, Rows'.sslice (Referent.rtF (Referent.fInt Syntax.w8)) (Syntax.tyRef (Syntax.named 0) Syntax.imm (Syntax.tyInt Syntax.w8)) 0) (List._∷_ (
   2,
-  Rows'.any-gone (Syntax.tyStruct (List._∷_ 115 (List._∷_ 116 (List._∷_ 114 (List._∷_ 101 (List._∷_ 97
-      (List._∷_ 109 (List._∷_ 58 (List._∷_ 58 (List._∷_ 70 (List._∷_ 117 (List._∷_ 106 (List._∷_ 105 (List._∷_ 72 (List._∷_ 101 (List._∷_ 97 (List._∷_ 100 (List._∷_ 101 (List._∷_ 114
-      List.[])))))))))))))))))) (Syntax.tcons Syntax.tyBool (Syntax.tcons Syntax.tyBool (Syntax.tcons (Syntax.tyInt Syntax.w32) (Syntax.tcons (Syntax.tyInt Syntax.w32) (Syntax.tcons (Syntax.tyInt
-      Syntax.w32) (Syntax.tcons (Syntax.tyInt Syntax.w32) (Syntax.tcons (Syntax.tyInt Syntax.w32) (Syntax.tcons (Syntax.tyInt Syntax.w32) (Syntax.tcons (Syntax.tyInt Syntax.w32) Syntax.tnil)))))))))),
-)
-    (List._∷_ (3, Rows'.sc-here (Row.sInt Syntax.w64)) (List._∷_ (4, Mut.mslice (Referent.rtF (Referent.fInt Syntax.w16)) (Syntax.tyRef (Syntax.named 1) Syntax.mut (Syntax.tyInt Syntax.w16)) 1)
-    (List._∷_ (5, Mut.mslice (Element.type) (Syntax.tyRef (Syntax.named 2) Syntax.mut Element.behind) 2) (List._∷_ (6, Rows'.whole (Declared'.row (Apart.apartT Form.the-type))) (List._∷_ (
-      7,
-      Rows'.sc-here (Row.sInt Syntax.w64),
-    ) (List._∷_ (8, Rows'.sslice (Referent.rtF (Referent.fInt Syntax.w8)) (Syntax.tyRef Syntax.erased Syntax.imm (Syntax.tyInt Syntax.w8)) 0) (List._∷_ (
-      9,
-      Rows'.sslice (Referent.rtF (Referent.fInt Syntax.w8)) (Syntax.tyRef Syntax.erased Syntax.imm (Syntax.tyInt Syntax.w8)) 0,
-    ) (List._∷_ (10, Rows.arrF (Referent.rtF (Referent.fInt Syntax.w16)) 768 0)
-    (List._∷_ (11, Rows.arrF (Referent.rtF (Referent.fInt Syntax.w16)) 1 0) (List._∷_ (
-      12,
-      Rows'.any-gone (Syntax.tyStruct (List._∷_ 98 (List._∷_ 108 (List._∷_ 111 (List._∷_ 99 (List._∷_ 107 (List._∷_
-          58 (List._∷_ 58 (List._∷_ 87 (List._∷_ 97 (List._∷_ 108 (List._∷_ 107 (List._∷_ 101 (List._∷_ 100 List.[]))))))))))))) (Syntax.tcons Syntax.tyBool (Syntax.tcons (Syntax.tyInt Syntax.w64) (Syntax.tcons
-          (Syntax.tyStruct (List._∷_ 98 (List._∷_ 105 (List._∷_ 116 (List._∷_ 115 (List._∷_ 58 (List._∷_ 58 (List._∷_ 66 (List._∷_ 105 (List._∷_ 116 (List._∷_ 80 (List._∷_ 111 (List._∷_ 115 (List._∷_ 105
-          (List._∷_ 116 (List._∷_ 105 (List._∷_ 111 (List._∷_ 110 List.[]))))))))))))))))) (Syntax.tcons (Syntax.tyInt Syntax.w64) Syntax.tnil)) (Syntax.tcons (Syntax.tyInt Syntax.w64) Syntax.tnil))))),
-    )
-    (List._∷_ (13, Rows'.any-gone (Syntax.tyArray (Syntax.tyInt Syntax.w16) 768)) (List._∷_ (14, Rows'.any-gone (Syntax.tyRef Syntax.erased Syntax.mut (Syntax.tyInt Syntax.w16))) (List._∷_ (
-      15,
-      Rows'.any-gone (Syntax.tyStruct (List._∷_ 38 (List._∷_ 91 (List._∷_ 93 List.[]))) (Syntax.tcons (Syntax.tyRef Syntax.erased Syntax.mut (Syntax.tyInt Syntax.w16)) (Syntax.tcons (Syntax.tyInt
-          Syntax.w64) Syntax.tnil))),
-    ) List.[])))))))))))))))
+  Rows'.any-gone
+      (Syntax.tyStruct (List._∷_ 115 (List._∷_ 116 (List._∷_ 114 (List._∷_ 101 (List._∷_ 97 (List._∷_ 109 (List._∷_ 58 (List._∷_ 58 (List._∷_ 70 (List._∷_ 117 (List._∷_ 106 (List._∷_ 105 (List._∷_ 72
+      (List._∷_ 101 (List._∷_ 97 (List._∷_ 100 (List._∷_ 101 (List._∷_ 114 List.[])))))))))))))))))) (Syntax.tcons Syntax.tyBool (Syntax.tcons Syntax.tyBool (Syntax.tcons (Syntax.tyInt Syntax.w32)
+      (Syntax.tcons (Syntax.tyInt Syntax.w32) (Syntax.tcons (Syntax.tyInt Syntax.w32) (Syntax.tcons (Syntax.tyInt Syntax.w32) (Syntax.tcons (Syntax.tyInt Syntax.w32) (Syntax.tcons (Syntax.tyInt Syntax.w32)
+      (Syntax.tcons (Syntax.tyInt Syntax.w32) Syntax.tnil)))))))))),
+) (List._∷_ (3, Rows'.sc-here (Row.sInt Syntax.w64)) (List._∷_ (
+  4,
+  Mut.mslice (Referent.rtF (Referent.fInt Syntax.w16)) (Syntax.tyRef
+      (Syntax.named 1) Syntax.mut (Syntax.tyInt Syntax.w16)) 1,
+) (List._∷_ (5, Mut.mslice (Element.type) (Syntax.tyRef (Syntax.named 2) Syntax.mut Element.behind) 2) (List._∷_ (
+  6,
+  Rows'.whole
+      (Declared'.row (Apart.apartT Form.the-type)),
+) (List._∷_ (7, Rows'.sc-here (Row.sInt Syntax.w64)) (List._∷_ (
+  8,
+  Rows'.sslice (Referent.rtF (Referent.fInt Syntax.w8)) (Syntax.tyRef Syntax.erased
+      Syntax.imm (Syntax.tyInt Syntax.w8)) 0,
+) (List._∷_ (9, Rows'.sslice (Referent.rtF (Referent.fInt Syntax.w8)) (Syntax.tyRef Syntax.erased Syntax.imm (Syntax.tyInt Syntax.w8)) 0) (List._∷_ (
+  10,
+  Rows.arrF (Referent.rtF (Referent.fInt Syntax.w16)) 768 0,
+) (List._∷_ (11, Rows.arrF (Referent.rtF (Referent.fInt Syntax.w16)) 1 0) (List._∷_ (
+  12,
+  Rows'.any-gone (Syntax.tyStruct (List._∷_ 98
+      (List._∷_ 108 (List._∷_ 111 (List._∷_ 99 (List._∷_ 107 (List._∷_ 58 (List._∷_ 58 (List._∷_ 87 (List._∷_ 97 (List._∷_ 108 (List._∷_ 107 (List._∷_ 101 (List._∷_ 100 List.[]))))))))))))) (Syntax.tcons
+      Syntax.tyBool (Syntax.tcons (Syntax.tyInt Syntax.w64) (Syntax.tcons (Syntax.tyStruct (List._∷_ 98 (List._∷_ 105 (List._∷_ 116 (List._∷_ 115 (List._∷_ 58 (List._∷_ 58 (List._∷_ 66 (List._∷_ 105
+      (List._∷_ 116 (List._∷_ 80 (List._∷_ 111 (List._∷_ 115 (List._∷_ 105 (List._∷_ 116 (List._∷_ 105 (List._∷_ 111 (List._∷_ 110 List.[]))))))))))))))))) (Syntax.tcons (Syntax.tyInt Syntax.w64)
+      Syntax.tnil)) (Syntax.tcons (Syntax.tyInt Syntax.w64) Syntax.tnil))))),
+) (List._∷_ (13, Rows'.any-gone (Syntax.tyArray (Syntax.tyInt Syntax.w16) 768)) (List._∷_ (
+  14,
+  Rows'.any-gone (Syntax.tyRef
+      Syntax.erased Syntax.mut (Syntax.tyInt Syntax.w16)),
+) (List._∷_ (
+  15,
+  Rows'.any-gone (Syntax.tyStruct (List._∷_ 38 (List._∷_ 91 (List._∷_ 93 List.[]))) (Syntax.tcons (Syntax.tyRef Syntax.erased
+      Syntax.mut (Syntax.tyInt Syntax.w16)) (Syntax.tcons (Syntax.tyInt Syntax.w64) Syntax.tnil))),
+) List.[])))))))))))))))
 
 abbrev pub t13 : List.List Row.Entry
 t13 = List._∷_ (
@@ -1046,44 +1115,41 @@ t13 = List._∷_ (
       (Syntax.ttcons Syntax.tnil (Syntax.ttcons Syntax.tnil (Syntax.ttcons (Syntax.tcons (Syntax.tyInt Syntax.w64) Syntax.tnil) (Syntax.ttcons Syntax.tnil (Syntax.ttcons Syntax.tnil (Syntax.ttcons
       Syntax.tnil (Syntax.ttcons Syntax.tnil (Syntax.ttcons Syntax.tnil (Syntax.ttcons Syntax.tnil (Syntax.ttcons (Syntax.tcons (Syntax.tyInt Syntax.w64) Syntax.tnil) (Syntax.ttcons (Syntax.tcons
       (Syntax.tyInt Syntax.w64) Syntax.tnil) (Syntax.ttcons Syntax.tnil (Syntax.ttcons (Syntax.tcons (Syntax.tyInt Syntax.w64) (Syntax.tcons (Syntax.tyInt Syntax.w64) Syntax.tnil)) (Syntax.ttcons
-      (Syntax.tcons (Syntax.tyInt Syntax.w64) Syntax.tnil) (Syntax.ttcons Syntax.tnil Syntax.ttnil))))))))))))))))) Syntax.tnil) Syntax.ttnil))),
-) (List._∷_ (
-  1,
-  Rows'.sslice (Referent.rtF (Referent.fInt
-      Syntax.w8)) (Syntax.tyRef (Syntax.named 0) Syntax.imm (Syntax.tyInt Syntax.w8)) 0,
-) (List._∷_ (
+      (Syntax.tcons (Syntax.tyInt Syntax.w64) Syntax.tnil) (Syntax.ttcons Syntax.tnil (Syntax.ttcons Syntax.tnil (Syntax.ttcons (Syntax.tcons (Syntax.tyInt Syntax.w64) Syntax.tnil) (Syntax.ttcons
+      (Syntax.tcons (Syntax.tyInt Syntax.w64) Syntax.tnil) (Syntax.ttcons (Syntax.tcons (Syntax.tyInt Syntax.w64) Syntax.tnil) (Syntax.ttcons Syntax.tnil Syntax.ttnil)))))))))))))))))))))) Syntax.tnil)
+      Syntax.ttnil))),
+) (List._∷_ (1, Rows'.sslice (Referent.rtF (Referent.fInt Syntax.w8)) (Syntax.tyRef (Syntax.named 0) Syntax.imm (Syntax.tyInt Syntax.w8)) 0) (List._∷_ (
   2,
-  Rows'.any-gone (Syntax.tyStruct (List._∷_ 115 (List._∷_ 116 (List._∷_ 114 (List._∷_ 101 (List._∷_ 97
-      (List._∷_ 109 (List._∷_ 58 (List._∷_ 58 (List._∷_ 70 (List._∷_ 117 (List._∷_ 106 (List._∷_ 105 (List._∷_ 72 (List._∷_ 101 (List._∷_ 97 (List._∷_ 100 (List._∷_ 101 (List._∷_ 114
-      List.[])))))))))))))))))) (Syntax.tcons Syntax.tyBool (Syntax.tcons Syntax.tyBool (Syntax.tcons (Syntax.tyInt Syntax.w32) (Syntax.tcons (Syntax.tyInt Syntax.w32) (Syntax.tcons (Syntax.tyInt
-      Syntax.w32) (Syntax.tcons (Syntax.tyInt Syntax.w32) (Syntax.tcons (Syntax.tyInt Syntax.w32) (Syntax.tcons (Syntax.tyInt Syntax.w32) (Syntax.tcons (Syntax.tyInt Syntax.w32) Syntax.tnil)))))))))),
-)
-    (List._∷_ (3, Rows'.sc-here (Row.sInt Syntax.w64)) (List._∷_ (
-      4,
-      Relend.mslice-owed (Referent.rtF (Referent.fInt Syntax.w16)) (Syntax.tyRef (Syntax.named 1) Syntax.mut (Syntax.tyInt Syntax.w16)) 1 3
-          Row.off,
-    ) (List._∷_ (5, Mut.mslice (Element.type) (Syntax.tyRef (Syntax.named 2) Syntax.mut Element.behind) 2) (List._∷_ (6, Rows'.whole (Declared'.row (Apart.apartT Form.the-type))) (List._∷_ (
-      7,
-      Rows'.sc-here (Row.sInt Syntax.w64),
-    ) (List._∷_ (8, Rows'.sslice (Referent.rtF (Referent.fInt Syntax.w8)) (Syntax.tyRef Syntax.erased Syntax.imm (Syntax.tyInt Syntax.w8)) 0) (List._∷_ (
-      9,
-      Rows'.sslice (Referent.rtF (Referent.fInt Syntax.w8)) (Syntax.tyRef Syntax.erased Syntax.imm (Syntax.tyInt Syntax.w8)) 0,
-    ) (List._∷_ (10, Rows.arrF (Referent.rtF (Referent.fInt Syntax.w16)) 768 0)
-    (List._∷_ (11, Rows.arrF (Referent.rtF (Referent.fInt Syntax.w16)) 1 0) (List._∷_ (
+  Rows'.any-gone
+      (Syntax.tyStruct (List._∷_ 115 (List._∷_ 116 (List._∷_ 114 (List._∷_ 101 (List._∷_ 97 (List._∷_ 109 (List._∷_ 58 (List._∷_ 58 (List._∷_ 70 (List._∷_ 117 (List._∷_ 106 (List._∷_ 105 (List._∷_ 72
+      (List._∷_ 101 (List._∷_ 97 (List._∷_ 100 (List._∷_ 101 (List._∷_ 114 List.[])))))))))))))))))) (Syntax.tcons Syntax.tyBool (Syntax.tcons Syntax.tyBool (Syntax.tcons (Syntax.tyInt Syntax.w32)
+      (Syntax.tcons (Syntax.tyInt Syntax.w32) (Syntax.tcons (Syntax.tyInt Syntax.w32) (Syntax.tcons (Syntax.tyInt Syntax.w32) (Syntax.tcons (Syntax.tyInt Syntax.w32) (Syntax.tcons (Syntax.tyInt Syntax.w32)
+      (Syntax.tcons (Syntax.tyInt Syntax.w32) Syntax.tnil)))))))))),
+) (List._∷_ (3, Rows'.sc-here (Row.sInt Syntax.w64)) (List._∷_ (
+  4,
+  Relend.mslice-owed (Referent.rtF (Referent.fInt Syntax.w16))
+      (Syntax.tyRef (Syntax.named 1) Syntax.mut (Syntax.tyInt Syntax.w16)) 1 3 Row.off,
+) (List._∷_ (5, Mut.mslice (Element.type) (Syntax.tyRef (Syntax.named 2) Syntax.mut Element.behind) 2) (List._∷_
+    (6, Rows'.whole (Declared'.row (Apart.apartT Form.the-type))) (List._∷_ (7, Rows'.sc-here (Row.sInt Syntax.w64)) (List._∷_ (
+      8,
+      Rows'.sslice (Referent.rtF (Referent.fInt Syntax.w8)) (Syntax.tyRef
+          Syntax.erased Syntax.imm (Syntax.tyInt Syntax.w8)) 0,
+    ) (List._∷_ (9, Rows'.sslice (Referent.rtF (Referent.fInt Syntax.w8)) (Syntax.tyRef Syntax.erased Syntax.imm (Syntax.tyInt Syntax.w8)) 0)
+    (List._∷_ (10, Rows.arrF (Referent.rtF (Referent.fInt Syntax.w16)) 768 0) (List._∷_ (11, Rows.arrF (Referent.rtF (Referent.fInt Syntax.w16)) 1 0) (List._∷_ (
       12,
-      Rows'.any-gone (Syntax.tyStruct (List._∷_ 98 (List._∷_ 108 (List._∷_ 111 (List._∷_ 99 (List._∷_ 107 (List._∷_
-          58 (List._∷_ 58 (List._∷_ 87 (List._∷_ 97 (List._∷_ 108 (List._∷_ 107 (List._∷_ 101 (List._∷_ 100 List.[]))))))))))))) (Syntax.tcons Syntax.tyBool (Syntax.tcons (Syntax.tyInt Syntax.w64) (Syntax.tcons
-          (Syntax.tyStruct (List._∷_ 98 (List._∷_ 105 (List._∷_ 116 (List._∷_ 115 (List._∷_ 58 (List._∷_ 58 (List._∷_ 66 (List._∷_ 105 (List._∷_ 116 (List._∷_ 80 (List._∷_ 111 (List._∷_ 115 (List._∷_ 105
-          (List._∷_ 116 (List._∷_ 105 (List._∷_ 111 (List._∷_ 110 List.[]))))))))))))))))) (Syntax.tcons (Syntax.tyInt Syntax.w64) Syntax.tnil)) (Syntax.tcons (Syntax.tyInt Syntax.w64) Syntax.tnil))))),
-    )
-    (List._∷_ (13, Rows'.any-gone (Syntax.tyArray (Syntax.tyInt Syntax.w16) 768)) (List._∷_ (
+      Rows'.any-gone (Syntax.tyStruct
+          (List._∷_ 98 (List._∷_ 108 (List._∷_ 111 (List._∷_ 99 (List._∷_ 107 (List._∷_ 58 (List._∷_ 58 (List._∷_ 87 (List._∷_ 97 (List._∷_ 108 (List._∷_ 107 (List._∷_ 101 (List._∷_ 100 List.[])))))))))))))
+          (Syntax.tcons Syntax.tyBool (Syntax.tcons (Syntax.tyInt Syntax.w64) (Syntax.tcons (Syntax.tyStruct (List._∷_ 98 (List._∷_ 105 (List._∷_ 116 (List._∷_ 115 (List._∷_ 58 (List._∷_ 58 (List._∷_ 66
+          (List._∷_ 105 (List._∷_ 116 (List._∷_ 80 (List._∷_ 111 (List._∷_ 115 (List._∷_ 105 (List._∷_ 116 (List._∷_ 105 (List._∷_ 111 (List._∷_ 110 List.[]))))))))))))))))) (Syntax.tcons (Syntax.tyInt
+          Syntax.w64) Syntax.tnil)) (Syntax.tcons (Syntax.tyInt Syntax.w64) Syntax.tnil))))),
+    ) (List._∷_ (13, Rows'.any-gone (Syntax.tyArray (Syntax.tyInt Syntax.w16) 768)) (List._∷_ (
       14,
-      Relend.msptr (Referent.rtF (Referent.fInt Syntax.w16)) (Syntax.tyRef Syntax.erased Syntax.mut
-          (Syntax.tyInt Syntax.w16)) 3,
+      Relend.msptr
+          (Referent.rtF (Referent.fInt Syntax.w16)) (Syntax.tyRef Syntax.erased Syntax.mut (Syntax.tyInt Syntax.w16)) 3,
     ) (List._∷_ (
       15,
-      Rows'.any-gone (Syntax.tyStruct (List._∷_ 38 (List._∷_ 91 (List._∷_ 93 List.[]))) (Syntax.tcons (Syntax.tyRef Syntax.erased Syntax.mut (Syntax.tyInt
-          Syntax.w16)) (Syntax.tcons (Syntax.tyInt Syntax.w64) Syntax.tnil))),
+      Rows'.any-gone (Syntax.tyStruct (List._∷_ 38 (List._∷_ 91 (List._∷_ 93
+          List.[]))) (Syntax.tcons (Syntax.tyRef Syntax.erased Syntax.mut (Syntax.tyInt Syntax.w16)) (Syntax.tcons (Syntax.tyInt Syntax.w64) Syntax.tnil))),
     ) List.[])))))))))))))))
 
 abbrev pub t14 : List.List Row.Entry
@@ -1095,39 +1161,41 @@ t14 = List._∷_ (
       (Syntax.ttcons Syntax.tnil (Syntax.ttcons Syntax.tnil (Syntax.ttcons (Syntax.tcons (Syntax.tyInt Syntax.w64) Syntax.tnil) (Syntax.ttcons Syntax.tnil (Syntax.ttcons Syntax.tnil (Syntax.ttcons
       Syntax.tnil (Syntax.ttcons Syntax.tnil (Syntax.ttcons Syntax.tnil (Syntax.ttcons Syntax.tnil (Syntax.ttcons (Syntax.tcons (Syntax.tyInt Syntax.w64) Syntax.tnil) (Syntax.ttcons (Syntax.tcons
       (Syntax.tyInt Syntax.w64) Syntax.tnil) (Syntax.ttcons Syntax.tnil (Syntax.ttcons (Syntax.tcons (Syntax.tyInt Syntax.w64) (Syntax.tcons (Syntax.tyInt Syntax.w64) Syntax.tnil)) (Syntax.ttcons
-      (Syntax.tcons (Syntax.tyInt Syntax.w64) Syntax.tnil) (Syntax.ttcons Syntax.tnil Syntax.ttnil))))))))))))))))) Syntax.tnil) Syntax.ttnil))),
-) (List._∷_ (
-  1,
-  Rows'.sslice (Referent.rtF (Referent.fInt
-      Syntax.w8)) (Syntax.tyRef (Syntax.named 0) Syntax.imm (Syntax.tyInt Syntax.w8)) 0,
-) (List._∷_ (
+      (Syntax.tcons (Syntax.tyInt Syntax.w64) Syntax.tnil) (Syntax.ttcons Syntax.tnil (Syntax.ttcons Syntax.tnil (Syntax.ttcons (Syntax.tcons (Syntax.tyInt Syntax.w64) Syntax.tnil) (Syntax.ttcons
+      (Syntax.tcons (Syntax.tyInt Syntax.w64) Syntax.tnil) (Syntax.ttcons (Syntax.tcons (Syntax.tyInt Syntax.w64) Syntax.tnil) (Syntax.ttcons Syntax.tnil Syntax.ttnil)))))))))))))))))))))) Syntax.tnil)
+      Syntax.ttnil))),
+) (List._∷_ (1, Rows'.sslice (Referent.rtF (Referent.fInt Syntax.w8)) (Syntax.tyRef (Syntax.named 0) Syntax.imm (Syntax.tyInt Syntax.w8)) 0) (List._∷_ (
   2,
-  Rows'.any-gone (Syntax.tyStruct (List._∷_ 115 (List._∷_ 116 (List._∷_ 114 (List._∷_ 101 (List._∷_ 97
-      (List._∷_ 109 (List._∷_ 58 (List._∷_ 58 (List._∷_ 70 (List._∷_ 117 (List._∷_ 106 (List._∷_ 105 (List._∷_ 72 (List._∷_ 101 (List._∷_ 97 (List._∷_ 100 (List._∷_ 101 (List._∷_ 114
-      List.[])))))))))))))))))) (Syntax.tcons Syntax.tyBool (Syntax.tcons Syntax.tyBool (Syntax.tcons (Syntax.tyInt Syntax.w32) (Syntax.tcons (Syntax.tyInt Syntax.w32) (Syntax.tcons (Syntax.tyInt
-      Syntax.w32) (Syntax.tcons (Syntax.tyInt Syntax.w32) (Syntax.tcons (Syntax.tyInt Syntax.w32) (Syntax.tcons (Syntax.tyInt Syntax.w32) (Syntax.tcons (Syntax.tyInt Syntax.w32) Syntax.tnil)))))))))),
-)
-    (List._∷_ (3, Rows'.sc-here (Row.sInt Syntax.w64)) (List._∷_ (
-      4,
-      Relend.mslice-owed (Referent.rtF (Referent.fInt Syntax.w16)) (Syntax.tyRef (Syntax.named 1) Syntax.mut (Syntax.tyInt Syntax.w16)) 1 3
-          Row.off,
-    ) (List._∷_ (5, Mut.mslice (Element.type) (Syntax.tyRef (Syntax.named 2) Syntax.mut Element.behind) 2) (List._∷_ (6, Rows'.whole (Declared'.row (Apart.apartT Form.the-type))) (List._∷_ (
-      7,
-      Rows'.sc-here (Row.sInt Syntax.w64),
-    ) (List._∷_ (8, Rows'.sslice (Referent.rtF (Referent.fInt Syntax.w8)) (Syntax.tyRef Syntax.erased Syntax.imm (Syntax.tyInt Syntax.w8)) 0) (List._∷_ (
-      9,
-      Rows'.sslice (Referent.rtF (Referent.fInt Syntax.w8)) (Syntax.tyRef Syntax.erased Syntax.imm (Syntax.tyInt Syntax.w8)) 0,
-    ) (List._∷_ (10, Rows.arrF (Referent.rtF (Referent.fInt Syntax.w16)) 768 0)
-    (List._∷_ (11, Rows.arrF (Referent.rtF (Referent.fInt Syntax.w16)) 1 0) (List._∷_ (
+  Rows'.any-gone
+      (Syntax.tyStruct (List._∷_ 115 (List._∷_ 116 (List._∷_ 114 (List._∷_ 101 (List._∷_ 97 (List._∷_ 109 (List._∷_ 58 (List._∷_ 58 (List._∷_ 70 (List._∷_ 117 (List._∷_ 106 (List._∷_ 105 (List._∷_ 72
+      (List._∷_ 101 (List._∷_ 97 (List._∷_ 100 (List._∷_ 101 (List._∷_ 114 List.[])))))))))))))))))) (Syntax.tcons Syntax.tyBool (Syntax.tcons Syntax.tyBool (Syntax.tcons (Syntax.tyInt Syntax.w32)
+      (Syntax.tcons (Syntax.tyInt Syntax.w32) (Syntax.tcons (Syntax.tyInt Syntax.w32) (Syntax.tcons (Syntax.tyInt Syntax.w32) (Syntax.tcons (Syntax.tyInt Syntax.w32) (Syntax.tcons (Syntax.tyInt Syntax.w32)
+      (Syntax.tcons (Syntax.tyInt Syntax.w32) Syntax.tnil)))))))))),
+) (List._∷_ (3, Rows'.sc-here (Row.sInt Syntax.w64)) (List._∷_ (
+  4,
+  Relend.mslice-owed (Referent.rtF (Referent.fInt Syntax.w16))
+      (Syntax.tyRef (Syntax.named 1) Syntax.mut (Syntax.tyInt Syntax.w16)) 1 3 Row.off,
+) (List._∷_ (5, Mut.mslice (Element.type) (Syntax.tyRef (Syntax.named 2) Syntax.mut Element.behind) 2) (List._∷_
+    (6, Rows'.whole (Declared'.row (Apart.apartT Form.the-type))) (List._∷_ (7, Rows'.sc-here (Row.sInt Syntax.w64)) (List._∷_ (
+      8,
+      Rows'.sslice (Referent.rtF (Referent.fInt Syntax.w8)) (Syntax.tyRef
+          Syntax.erased Syntax.imm (Syntax.tyInt Syntax.w8)) 0,
+    ) (List._∷_ (9, Rows'.sslice (Referent.rtF (Referent.fInt Syntax.w8)) (Syntax.tyRef Syntax.erased Syntax.imm (Syntax.tyInt Syntax.w8)) 0)
+    (List._∷_ (10, Rows.arrF (Referent.rtF (Referent.fInt Syntax.w16)) 768 0) (List._∷_ (11, Rows.arrF (Referent.rtF (Referent.fInt Syntax.w16)) 1 0) (List._∷_ (
       12,
-      Rows'.any-gone (Syntax.tyStruct (List._∷_ 98 (List._∷_ 108 (List._∷_ 111 (List._∷_ 99 (List._∷_ 107 (List._∷_
-          58 (List._∷_ 58 (List._∷_ 87 (List._∷_ 97 (List._∷_ 108 (List._∷_ 107 (List._∷_ 101 (List._∷_ 100 List.[]))))))))))))) (Syntax.tcons Syntax.tyBool (Syntax.tcons (Syntax.tyInt Syntax.w64) (Syntax.tcons
-          (Syntax.tyStruct (List._∷_ 98 (List._∷_ 105 (List._∷_ 116 (List._∷_ 115 (List._∷_ 58 (List._∷_ 58 (List._∷_ 66 (List._∷_ 105 (List._∷_ 116 (List._∷_ 80 (List._∷_ 111 (List._∷_ 115 (List._∷_ 105
-          (List._∷_ 116 (List._∷_ 105 (List._∷_ 111 (List._∷_ 110 List.[]))))))))))))))))) (Syntax.tcons (Syntax.tyInt Syntax.w64) Syntax.tnil)) (Syntax.tcons (Syntax.tyInt Syntax.w64) Syntax.tnil))))),
-    )
-    (List._∷_ (13, Rows'.any-gone (Syntax.tyArray (Syntax.tyInt Syntax.w16) 768)) (List._∷_ (14, Rows'.any-gone (Syntax.tyRef Syntax.erased Syntax.mut (Syntax.tyInt Syntax.w16))) (List._∷_ (
+      Rows'.any-gone (Syntax.tyStruct
+          (List._∷_ 98 (List._∷_ 108 (List._∷_ 111 (List._∷_ 99 (List._∷_ 107 (List._∷_ 58 (List._∷_ 58 (List._∷_ 87 (List._∷_ 97 (List._∷_ 108 (List._∷_ 107 (List._∷_ 101 (List._∷_ 100 List.[])))))))))))))
+          (Syntax.tcons Syntax.tyBool (Syntax.tcons (Syntax.tyInt Syntax.w64) (Syntax.tcons (Syntax.tyStruct (List._∷_ 98 (List._∷_ 105 (List._∷_ 116 (List._∷_ 115 (List._∷_ 58 (List._∷_ 58 (List._∷_ 66
+          (List._∷_ 105 (List._∷_ 116 (List._∷_ 80 (List._∷_ 111 (List._∷_ 115 (List._∷_ 105 (List._∷_ 116 (List._∷_ 105 (List._∷_ 111 (List._∷_ 110 List.[]))))))))))))))))) (Syntax.tcons (Syntax.tyInt
+          Syntax.w64) Syntax.tnil)) (Syntax.tcons (Syntax.tyInt Syntax.w64) Syntax.tnil))))),
+    ) (List._∷_ (13, Rows'.any-gone (Syntax.tyArray (Syntax.tyInt Syntax.w16) 768)) (List._∷_ (
+      14,
+      Rows'.any-gone
+          (Syntax.tyRef Syntax.erased Syntax.mut (Syntax.tyInt Syntax.w16)),
+    ) (List._∷_ (
       15,
-      Mut.mslice (Referent.rtF (Referent.fInt Syntax.w16)) (Syntax.tyRef Syntax.erased Syntax.mut (Syntax.tyInt Syntax.w16)) 3,
+      Mut.mslice (Referent.rtF (Referent.fInt Syntax.w16)) (Syntax.tyRef Syntax.erased Syntax.mut (Syntax.tyInt
+          Syntax.w16)) 3,
     ) List.[])))))))))))))))
 
 abbrev pub t15 : List.List Row.Entry
@@ -1139,46 +1207,44 @@ t15 = List._∷_ (
       (Syntax.ttcons Syntax.tnil (Syntax.ttcons Syntax.tnil (Syntax.ttcons (Syntax.tcons (Syntax.tyInt Syntax.w64) Syntax.tnil) (Syntax.ttcons Syntax.tnil (Syntax.ttcons Syntax.tnil (Syntax.ttcons
       Syntax.tnil (Syntax.ttcons Syntax.tnil (Syntax.ttcons Syntax.tnil (Syntax.ttcons Syntax.tnil (Syntax.ttcons (Syntax.tcons (Syntax.tyInt Syntax.w64) Syntax.tnil) (Syntax.ttcons (Syntax.tcons
       (Syntax.tyInt Syntax.w64) Syntax.tnil) (Syntax.ttcons Syntax.tnil (Syntax.ttcons (Syntax.tcons (Syntax.tyInt Syntax.w64) (Syntax.tcons (Syntax.tyInt Syntax.w64) Syntax.tnil)) (Syntax.ttcons
-      (Syntax.tcons (Syntax.tyInt Syntax.w64) Syntax.tnil) (Syntax.ttcons Syntax.tnil Syntax.ttnil))))))))))))))))) Syntax.tnil) Syntax.ttnil))),
-) (List._∷_ (
-  1,
-  Rows'.sslice (Referent.rtF (Referent.fInt
-      Syntax.w8)) (Syntax.tyRef (Syntax.named 0) Syntax.imm (Syntax.tyInt Syntax.w8)) 0,
-) (List._∷_ (
+      (Syntax.tcons (Syntax.tyInt Syntax.w64) Syntax.tnil) (Syntax.ttcons Syntax.tnil (Syntax.ttcons Syntax.tnil (Syntax.ttcons (Syntax.tcons (Syntax.tyInt Syntax.w64) Syntax.tnil) (Syntax.ttcons
+      (Syntax.tcons (Syntax.tyInt Syntax.w64) Syntax.tnil) (Syntax.ttcons (Syntax.tcons (Syntax.tyInt Syntax.w64) Syntax.tnil) (Syntax.ttcons Syntax.tnil Syntax.ttnil)))))))))))))))))))))) Syntax.tnil)
+      Syntax.ttnil))),
+) (List._∷_ (1, Rows'.sslice (Referent.rtF (Referent.fInt Syntax.w8)) (Syntax.tyRef (Syntax.named 0) Syntax.imm (Syntax.tyInt Syntax.w8)) 0) (List._∷_ (
   2,
-  Rows'.any-gone (Syntax.tyStruct (List._∷_ 115 (List._∷_ 116 (List._∷_ 114 (List._∷_ 101 (List._∷_ 97
-      (List._∷_ 109 (List._∷_ 58 (List._∷_ 58 (List._∷_ 70 (List._∷_ 117 (List._∷_ 106 (List._∷_ 105 (List._∷_ 72 (List._∷_ 101 (List._∷_ 97 (List._∷_ 100 (List._∷_ 101 (List._∷_ 114
-      List.[])))))))))))))))))) (Syntax.tcons Syntax.tyBool (Syntax.tcons Syntax.tyBool (Syntax.tcons (Syntax.tyInt Syntax.w32) (Syntax.tcons (Syntax.tyInt Syntax.w32) (Syntax.tcons (Syntax.tyInt
-      Syntax.w32) (Syntax.tcons (Syntax.tyInt Syntax.w32) (Syntax.tcons (Syntax.tyInt Syntax.w32) (Syntax.tcons (Syntax.tyInt Syntax.w32) (Syntax.tcons (Syntax.tyInt Syntax.w32) Syntax.tnil)))))))))),
-)
-    (List._∷_ (3, Rows'.sc-here (Row.sInt Syntax.w64)) (List._∷_ (
-      4,
-      Relend.mslice-owed (Referent.rtF (Referent.fInt Syntax.w16)) (Syntax.tyRef (Syntax.named 1) Syntax.mut (Syntax.tyInt Syntax.w16)) 1 3
-          Row.off,
-    ) (List._∷_ (5, Relend.mslice-owed (Element.type) (Syntax.tyRef (Syntax.named 2) Syntax.mut Element.behind) 2 4 Row.off) (List._∷_ (
-      6,
-      Rows'.whole (Declared'.row (Apart.apartT
-          Form.the-type)),
-    ) (List._∷_ (7, Rows'.sc-here (Row.sInt Syntax.w64)) (List._∷_ (
-      8,
-      Rows'.sslice (Referent.rtF (Referent.fInt Syntax.w8)) (Syntax.tyRef Syntax.erased Syntax.imm (Syntax.tyInt
-          Syntax.w8)) 0,
-    ) (List._∷_ (9, Rows'.sslice (Referent.rtF (Referent.fInt Syntax.w8)) (Syntax.tyRef Syntax.erased Syntax.imm (Syntax.tyInt Syntax.w8)) 0) (List._∷_ (
-      10,
-      Rows.arrF (Referent.rtF
-          (Referent.fInt Syntax.w16)) 768 0,
-    ) (List._∷_ (11, Rows.arrF (Referent.rtF (Referent.fInt Syntax.w16)) 1 0) (List._∷_ (
-      12,
-      Rows'.any-gone (Syntax.tyStruct (List._∷_ 98 (List._∷_ 108 (List._∷_ 111
-          (List._∷_ 99 (List._∷_ 107 (List._∷_ 58 (List._∷_ 58 (List._∷_ 87 (List._∷_ 97 (List._∷_ 108 (List._∷_ 107 (List._∷_ 101 (List._∷_ 100 List.[]))))))))))))) (Syntax.tcons Syntax.tyBool (Syntax.tcons
-          (Syntax.tyInt Syntax.w64) (Syntax.tcons (Syntax.tyStruct (List._∷_ 98 (List._∷_ 105 (List._∷_ 116 (List._∷_ 115 (List._∷_ 58 (List._∷_ 58 (List._∷_ 66 (List._∷_ 105 (List._∷_ 116 (List._∷_ 80
-          (List._∷_ 111 (List._∷_ 115 (List._∷_ 105 (List._∷_ 116 (List._∷_ 105 (List._∷_ 111 (List._∷_ 110 List.[]))))))))))))))))) (Syntax.tcons (Syntax.tyInt Syntax.w64) Syntax.tnil)) (Syntax.tcons
-          (Syntax.tyInt Syntax.w64) Syntax.tnil))))),
-    ) (List._∷_ (13, Rows'.any-gone (Syntax.tyArray (Syntax.tyInt Syntax.w16) 768)) (List._∷_ (
-      14,
-      Rows'.any-gone (Syntax.tyRef Syntax.erased Syntax.mut
-          (Syntax.tyInt Syntax.w16)),
-    ) (List._∷_ (15, Mut.mslice (Referent.rtF (Referent.fInt Syntax.w16)) (Syntax.tyRef Syntax.erased Syntax.mut (Syntax.tyInt Syntax.w16)) 3) List.[])))))))))))))))
+  Rows'.any-gone
+      (Syntax.tyStruct (List._∷_ 115 (List._∷_ 116 (List._∷_ 114 (List._∷_ 101 (List._∷_ 97 (List._∷_ 109 (List._∷_ 58 (List._∷_ 58 (List._∷_ 70 (List._∷_ 117 (List._∷_ 106 (List._∷_ 105 (List._∷_ 72
+      (List._∷_ 101 (List._∷_ 97 (List._∷_ 100 (List._∷_ 101 (List._∷_ 114 List.[])))))))))))))))))) (Syntax.tcons Syntax.tyBool (Syntax.tcons Syntax.tyBool (Syntax.tcons (Syntax.tyInt Syntax.w32)
+      (Syntax.tcons (Syntax.tyInt Syntax.w32) (Syntax.tcons (Syntax.tyInt Syntax.w32) (Syntax.tcons (Syntax.tyInt Syntax.w32) (Syntax.tcons (Syntax.tyInt Syntax.w32) (Syntax.tcons (Syntax.tyInt Syntax.w32)
+      (Syntax.tcons (Syntax.tyInt Syntax.w32) Syntax.tnil)))))))))),
+) (List._∷_ (3, Rows'.sc-here (Row.sInt Syntax.w64)) (List._∷_ (
+  4,
+  Relend.mslice-owed (Referent.rtF (Referent.fInt Syntax.w16))
+      (Syntax.tyRef (Syntax.named 1) Syntax.mut (Syntax.tyInt Syntax.w16)) 1 3 Row.off,
+) (List._∷_ (
+  5,
+  Relend.mslice-owed (Element.type) (Syntax.tyRef (Syntax.named 2) Syntax.mut Element.behind) 2 4
+      Row.off,
+) (List._∷_ (6, Rows'.whole (Declared'.row (Apart.apartT Form.the-type))) (List._∷_ (7, Rows'.sc-here (Row.sInt Syntax.w64)) (List._∷_ (
+  8,
+  Rows'.sslice (Referent.rtF (Referent.fInt
+      Syntax.w8)) (Syntax.tyRef Syntax.erased Syntax.imm (Syntax.tyInt Syntax.w8)) 0,
+) (List._∷_ (
+  9,
+  Rows'.sslice (Referent.rtF (Referent.fInt Syntax.w8)) (Syntax.tyRef Syntax.erased Syntax.imm
+      (Syntax.tyInt Syntax.w8)) 0,
+) (List._∷_ (10, Rows.arrF (Referent.rtF (Referent.fInt Syntax.w16)) 768 0) (List._∷_ (11, Rows.arrF (Referent.rtF (Referent.fInt Syntax.w16)) 1 0) (List._∷_ (
+  12,
+  Rows'.any-gone (Syntax.tyStruct (List._∷_ 98 (List._∷_ 108 (List._∷_ 111 (List._∷_ 99 (List._∷_ 107 (List._∷_ 58 (List._∷_ 58 (List._∷_ 87 (List._∷_ 97 (List._∷_ 108 (List._∷_ 107 (List._∷_ 101
+      (List._∷_ 100 List.[]))))))))))))) (Syntax.tcons Syntax.tyBool (Syntax.tcons (Syntax.tyInt Syntax.w64) (Syntax.tcons (Syntax.tyStruct (List._∷_ 98 (List._∷_ 105 (List._∷_ 116 (List._∷_ 115 (List._∷_
+      58 (List._∷_ 58 (List._∷_ 66 (List._∷_ 105 (List._∷_ 116 (List._∷_ 80 (List._∷_ 111 (List._∷_ 115 (List._∷_ 105 (List._∷_ 116 (List._∷_ 105 (List._∷_ 111 (List._∷_ 110 List.[])))))))))))))))))
+      (Syntax.tcons (Syntax.tyInt Syntax.w64) Syntax.tnil)) (Syntax.tcons (Syntax.tyInt Syntax.w64) Syntax.tnil))))),
+) (List._∷_ (13, Rows'.any-gone (Syntax.tyArray (Syntax.tyInt Syntax.w16) 768))
+    (List._∷_ (14, Rows'.any-gone (Syntax.tyRef Syntax.erased Syntax.mut (Syntax.tyInt Syntax.w16))) (List._∷_ (
+      15,
+      Mut.mslice (Referent.rtF (Referent.fInt Syntax.w16)) (Syntax.tyRef Syntax.erased
+          Syntax.mut (Syntax.tyInt Syntax.w16)) 3,
+    ) List.[])))))))))))))))
 
 abbrev pub t16 : List.List Row.Entry
 t16 = List._∷_ (16, Relend.msptr (Element.type) (Syntax.tyRef Syntax.erased Syntax.mut Element.behind) 4) (List._∷_ (
@@ -1231,47 +1297,44 @@ t18 = List._∷_ (
       (Syntax.ttcons Syntax.tnil (Syntax.ttcons Syntax.tnil (Syntax.ttcons (Syntax.tcons (Syntax.tyInt Syntax.w64) Syntax.tnil) (Syntax.ttcons Syntax.tnil (Syntax.ttcons Syntax.tnil (Syntax.ttcons
       Syntax.tnil (Syntax.ttcons Syntax.tnil (Syntax.ttcons Syntax.tnil (Syntax.ttcons Syntax.tnil (Syntax.ttcons (Syntax.tcons (Syntax.tyInt Syntax.w64) Syntax.tnil) (Syntax.ttcons (Syntax.tcons
       (Syntax.tyInt Syntax.w64) Syntax.tnil) (Syntax.ttcons Syntax.tnil (Syntax.ttcons (Syntax.tcons (Syntax.tyInt Syntax.w64) (Syntax.tcons (Syntax.tyInt Syntax.w64) Syntax.tnil)) (Syntax.ttcons
-      (Syntax.tcons (Syntax.tyInt Syntax.w64) Syntax.tnil) (Syntax.ttcons Syntax.tnil Syntax.ttnil))))))))))))))))) Syntax.tnil) Syntax.ttnil))),
-) (List._∷_ (
-  1,
-  Rows'.sslice (Referent.rtF (Referent.fInt
-      Syntax.w8)) (Syntax.tyRef (Syntax.named 0) Syntax.imm (Syntax.tyInt Syntax.w8)) 0,
-) (List._∷_ (
+      (Syntax.tcons (Syntax.tyInt Syntax.w64) Syntax.tnil) (Syntax.ttcons Syntax.tnil (Syntax.ttcons Syntax.tnil (Syntax.ttcons (Syntax.tcons (Syntax.tyInt Syntax.w64) Syntax.tnil) (Syntax.ttcons
+      (Syntax.tcons (Syntax.tyInt Syntax.w64) Syntax.tnil) (Syntax.ttcons (Syntax.tcons (Syntax.tyInt Syntax.w64) Syntax.tnil) (Syntax.ttcons Syntax.tnil Syntax.ttnil)))))))))))))))))))))) Syntax.tnil)
+      Syntax.ttnil))),
+) (List._∷_ (1, Rows'.sslice (Referent.rtF (Referent.fInt Syntax.w8)) (Syntax.tyRef (Syntax.named 0) Syntax.imm (Syntax.tyInt Syntax.w8)) 0) (List._∷_ (
   2,
-  Rows'.any-gone (Syntax.tyStruct (List._∷_ 115 (List._∷_ 116 (List._∷_ 114 (List._∷_ 101 (List._∷_ 97
-      (List._∷_ 109 (List._∷_ 58 (List._∷_ 58 (List._∷_ 70 (List._∷_ 117 (List._∷_ 106 (List._∷_ 105 (List._∷_ 72 (List._∷_ 101 (List._∷_ 97 (List._∷_ 100 (List._∷_ 101 (List._∷_ 114
-      List.[])))))))))))))))))) (Syntax.tcons Syntax.tyBool (Syntax.tcons Syntax.tyBool (Syntax.tcons (Syntax.tyInt Syntax.w32) (Syntax.tcons (Syntax.tyInt Syntax.w32) (Syntax.tcons (Syntax.tyInt
-      Syntax.w32) (Syntax.tcons (Syntax.tyInt Syntax.w32) (Syntax.tcons (Syntax.tyInt Syntax.w32) (Syntax.tcons (Syntax.tyInt Syntax.w32) (Syntax.tcons (Syntax.tyInt Syntax.w32) Syntax.tnil)))))))))),
-)
-    (List._∷_ (3, Rows'.sc-here (Row.sInt Syntax.w64)) (List._∷_ (
-      4,
-      Relend.mslice-owed (Referent.rtF (Referent.fInt Syntax.w16)) (Syntax.tyRef (Syntax.named 1) Syntax.mut (Syntax.tyInt Syntax.w16)) 1 3
-          Row.off,
-    ) (List._∷_ (5, Relend.mslice-owed (Element.type) (Syntax.tyRef (Syntax.named 2) Syntax.mut Element.behind) 2 4 Row.off) (List._∷_ (
-      6,
-      Rows'.whole (Declared'.row (Apart.apartT
-          Form.the-type)),
-    ) (List._∷_ (7, Rows'.sc-here (Row.sInt Syntax.w64)) (List._∷_ (
-      8,
-      Rows'.sslice (Referent.rtF (Referent.fInt Syntax.w8)) (Syntax.tyRef Syntax.erased Syntax.imm (Syntax.tyInt
-          Syntax.w8)) 0,
-    ) (List._∷_ (9, Rows'.sslice (Referent.rtF (Referent.fInt Syntax.w8)) (Syntax.tyRef Syntax.erased Syntax.imm (Syntax.tyInt Syntax.w8)) 0) (List._∷_ (
-      10,
-      Rows.arrF (Referent.rtF
-          (Referent.fInt Syntax.w16)) 768 0,
-    ) (List._∷_ (11, Rows.arr-owed (Referent.rtF (Referent.fInt Syntax.w16)) 1 5) (List._∷_ (
-      12,
-      Rows'.any-gone (Syntax.tyStruct (List._∷_ 98 (List._∷_ 108 (List._∷_
-          111 (List._∷_ 99 (List._∷_ 107 (List._∷_ 58 (List._∷_ 58 (List._∷_ 87 (List._∷_ 97 (List._∷_ 108 (List._∷_ 107 (List._∷_ 101 (List._∷_ 100 List.[]))))))))))))) (Syntax.tcons Syntax.tyBool
-          (Syntax.tcons (Syntax.tyInt Syntax.w64) (Syntax.tcons (Syntax.tyStruct (List._∷_ 98 (List._∷_ 105 (List._∷_ 116 (List._∷_ 115 (List._∷_ 58 (List._∷_ 58 (List._∷_ 66 (List._∷_ 105 (List._∷_ 116
-          (List._∷_ 80 (List._∷_ 111 (List._∷_ 115 (List._∷_ 105 (List._∷_ 116 (List._∷_ 105 (List._∷_ 111 (List._∷_ 110 List.[]))))))))))))))))) (Syntax.tcons (Syntax.tyInt Syntax.w64) Syntax.tnil))
-          (Syntax.tcons (Syntax.tyInt Syntax.w64) Syntax.tnil))))),
-    ) (List._∷_ (13, Rows'.any-gone (Syntax.tyArray (Syntax.tyInt Syntax.w16) 768)) (List._∷_ (
-      14,
-      Rows'.any-gone (Syntax.tyRef Syntax.erased
-          Syntax.mut (Syntax.tyInt Syntax.w16)),
-    ) (List._∷_ (15, Mut.mslice (Referent.rtF (Referent.fInt Syntax.w16)) (Syntax.tyRef Syntax.erased Syntax.mut (Syntax.tyInt Syntax.w16)) 3)
-    List.[])))))))))))))))
+  Rows'.any-gone
+      (Syntax.tyStruct (List._∷_ 115 (List._∷_ 116 (List._∷_ 114 (List._∷_ 101 (List._∷_ 97 (List._∷_ 109 (List._∷_ 58 (List._∷_ 58 (List._∷_ 70 (List._∷_ 117 (List._∷_ 106 (List._∷_ 105 (List._∷_ 72
+      (List._∷_ 101 (List._∷_ 97 (List._∷_ 100 (List._∷_ 101 (List._∷_ 114 List.[])))))))))))))))))) (Syntax.tcons Syntax.tyBool (Syntax.tcons Syntax.tyBool (Syntax.tcons (Syntax.tyInt Syntax.w32)
+      (Syntax.tcons (Syntax.tyInt Syntax.w32) (Syntax.tcons (Syntax.tyInt Syntax.w32) (Syntax.tcons (Syntax.tyInt Syntax.w32) (Syntax.tcons (Syntax.tyInt Syntax.w32) (Syntax.tcons (Syntax.tyInt Syntax.w32)
+      (Syntax.tcons (Syntax.tyInt Syntax.w32) Syntax.tnil)))))))))),
+) (List._∷_ (3, Rows'.sc-here (Row.sInt Syntax.w64)) (List._∷_ (
+  4,
+  Relend.mslice-owed (Referent.rtF (Referent.fInt Syntax.w16))
+      (Syntax.tyRef (Syntax.named 1) Syntax.mut (Syntax.tyInt Syntax.w16)) 1 3 Row.off,
+) (List._∷_ (
+  5,
+  Relend.mslice-owed (Element.type) (Syntax.tyRef (Syntax.named 2) Syntax.mut Element.behind) 2 4
+      Row.off,
+) (List._∷_ (6, Rows'.whole (Declared'.row (Apart.apartT Form.the-type))) (List._∷_ (7, Rows'.sc-here (Row.sInt Syntax.w64)) (List._∷_ (
+  8,
+  Rows'.sslice (Referent.rtF (Referent.fInt
+      Syntax.w8)) (Syntax.tyRef Syntax.erased Syntax.imm (Syntax.tyInt Syntax.w8)) 0,
+) (List._∷_ (
+  9,
+  Rows'.sslice (Referent.rtF (Referent.fInt Syntax.w8)) (Syntax.tyRef Syntax.erased Syntax.imm
+      (Syntax.tyInt Syntax.w8)) 0,
+) (List._∷_ (10, Rows.arrF (Referent.rtF (Referent.fInt Syntax.w16)) 768 0) (List._∷_ (11, Rows.arr-owed (Referent.rtF (Referent.fInt Syntax.w16)) 1 5) (List._∷_ (
+  12,
+  Rows'.any-gone (Syntax.tyStruct (List._∷_ 98 (List._∷_ 108 (List._∷_ 111 (List._∷_ 99 (List._∷_ 107 (List._∷_ 58 (List._∷_ 58 (List._∷_ 87 (List._∷_ 97 (List._∷_ 108 (List._∷_ 107 (List._∷_ 101
+      (List._∷_ 100 List.[]))))))))))))) (Syntax.tcons Syntax.tyBool (Syntax.tcons (Syntax.tyInt Syntax.w64) (Syntax.tcons (Syntax.tyStruct (List._∷_ 98 (List._∷_ 105 (List._∷_ 116 (List._∷_ 115 (List._∷_
+      58 (List._∷_ 58 (List._∷_ 66 (List._∷_ 105 (List._∷_ 116 (List._∷_ 80 (List._∷_ 111 (List._∷_ 115 (List._∷_ 105 (List._∷_ 116 (List._∷_ 105 (List._∷_ 111 (List._∷_ 110 List.[])))))))))))))))))
+      (Syntax.tcons (Syntax.tyInt Syntax.w64) Syntax.tnil)) (Syntax.tcons (Syntax.tyInt Syntax.w64) Syntax.tnil))))),
+) (List._∷_ (13, Rows'.any-gone (Syntax.tyArray (Syntax.tyInt Syntax.w16) 768))
+    (List._∷_ (14, Rows'.any-gone (Syntax.tyRef Syntax.erased Syntax.mut (Syntax.tyInt Syntax.w16))) (List._∷_ (
+      15,
+      Mut.mslice (Referent.rtF (Referent.fInt Syntax.w16)) (Syntax.tyRef Syntax.erased
+          Syntax.mut (Syntax.tyInt Syntax.w16)) 3,
+    ) List.[])))))))))))))))
 
 abbrev pub t19 : List.List Row.Entry
 t19 = List._∷_ (16, Rows'.any-gone (Syntax.tyRef Syntax.erased Syntax.mut Element.behind)) (List._∷_ (17, Mut.mslice (Element.type) (Syntax.tyRef Syntax.erased Syntax.mut Element.behind) 4)
@@ -1314,50 +1377,42 @@ t21 = List._∷_ (
       (Syntax.ttcons Syntax.tnil (Syntax.ttcons Syntax.tnil (Syntax.ttcons (Syntax.tcons (Syntax.tyInt Syntax.w64) Syntax.tnil) (Syntax.ttcons Syntax.tnil (Syntax.ttcons Syntax.tnil (Syntax.ttcons
       Syntax.tnil (Syntax.ttcons Syntax.tnil (Syntax.ttcons Syntax.tnil (Syntax.ttcons Syntax.tnil (Syntax.ttcons (Syntax.tcons (Syntax.tyInt Syntax.w64) Syntax.tnil) (Syntax.ttcons (Syntax.tcons
       (Syntax.tyInt Syntax.w64) Syntax.tnil) (Syntax.ttcons Syntax.tnil (Syntax.ttcons (Syntax.tcons (Syntax.tyInt Syntax.w64) (Syntax.tcons (Syntax.tyInt Syntax.w64) Syntax.tnil)) (Syntax.ttcons
-      (Syntax.tcons (Syntax.tyInt Syntax.w64) Syntax.tnil) (Syntax.ttcons Syntax.tnil Syntax.ttnil))))))))))))))))) Syntax.tnil) Syntax.ttnil))),
-) (List._∷_ (
-  1,
-  Rows'.sslice (Referent.rtF (Referent.fInt
-      Syntax.w8)) (Syntax.tyRef (Syntax.named 0) Syntax.imm (Syntax.tyInt Syntax.w8)) 0,
-) (List._∷_ (
+      (Syntax.tcons (Syntax.tyInt Syntax.w64) Syntax.tnil) (Syntax.ttcons Syntax.tnil (Syntax.ttcons Syntax.tnil (Syntax.ttcons (Syntax.tcons (Syntax.tyInt Syntax.w64) Syntax.tnil) (Syntax.ttcons
+      (Syntax.tcons (Syntax.tyInt Syntax.w64) Syntax.tnil) (Syntax.ttcons (Syntax.tcons (Syntax.tyInt Syntax.w64) Syntax.tnil) (Syntax.ttcons Syntax.tnil Syntax.ttnil)))))))))))))))))))))) Syntax.tnil)
+      Syntax.ttnil))),
+) (List._∷_ (1, Rows'.sslice (Referent.rtF (Referent.fInt Syntax.w8)) (Syntax.tyRef (Syntax.named 0) Syntax.imm (Syntax.tyInt Syntax.w8)) 0) (List._∷_ (
   2,
-  Rows'.any-gone (Syntax.tyStruct (List._∷_ 115 (List._∷_ 116 (List._∷_ 114 (List._∷_ 101 (List._∷_ 97
-      (List._∷_ 109 (List._∷_ 58 (List._∷_ 58 (List._∷_ 70 (List._∷_ 117 (List._∷_ 106 (List._∷_ 105 (List._∷_ 72 (List._∷_ 101 (List._∷_ 97 (List._∷_ 100 (List._∷_ 101 (List._∷_ 114
-      List.[])))))))))))))))))) (Syntax.tcons Syntax.tyBool (Syntax.tcons Syntax.tyBool (Syntax.tcons (Syntax.tyInt Syntax.w32) (Syntax.tcons (Syntax.tyInt Syntax.w32) (Syntax.tcons (Syntax.tyInt
-      Syntax.w32) (Syntax.tcons (Syntax.tyInt Syntax.w32) (Syntax.tcons (Syntax.tyInt Syntax.w32) (Syntax.tcons (Syntax.tyInt Syntax.w32) (Syntax.tcons (Syntax.tyInt Syntax.w32) Syntax.tnil)))))))))),
-)
-    (List._∷_ (3, Rows'.sc-here (Row.sInt Syntax.w64)) (List._∷_ (
-      4,
-      Relend.mslice-owed (Referent.rtF (Referent.fInt Syntax.w16)) (Syntax.tyRef (Syntax.named 1) Syntax.mut (Syntax.tyInt Syntax.w16)) 1 3
-          Row.off,
-    ) (List._∷_ (5, Relend.mslice-owed (Element.type) (Syntax.tyRef (Syntax.named 2) Syntax.mut Element.behind) 2 4 Row.off) (List._∷_ (
-      6,
-      Rows'.whole (Declared'.row (Apart.apartT
-          Form.the-type)),
-    ) (List._∷_ (7, Rows'.sc-here (Row.sInt Syntax.w64)) (List._∷_ (
-      8,
-      Rows'.sslice (Referent.rtF (Referent.fInt Syntax.w8)) (Syntax.tyRef Syntax.erased Syntax.imm (Syntax.tyInt
-          Syntax.w8)) 0,
-    ) (List._∷_ (9, Rows'.sslice (Referent.rtF (Referent.fInt Syntax.w8)) (Syntax.tyRef Syntax.erased Syntax.imm (Syntax.tyInt Syntax.w8)) 0) (List._∷_ (
-      10,
-      Rows'.sc-shr (Rows.arrF
-          (Referent.rtF (Referent.fInt Syntax.w16)) 768 0) (Array'.Array (Referent.rtF (Referent.fInt Syntax.w16)) 768) (λ x. x) 6,
-    ) (List._∷_ (11, Rows.arr-owed (Referent.rtF (Referent.fInt Syntax.w16)) 1 5)
-    (List._∷_ (
+  Rows'.any-gone
+      (Syntax.tyStruct (List._∷_ 115 (List._∷_ 116 (List._∷_ 114 (List._∷_ 101 (List._∷_ 97 (List._∷_ 109 (List._∷_ 58 (List._∷_ 58 (List._∷_ 70 (List._∷_ 117 (List._∷_ 106 (List._∷_ 105 (List._∷_ 72
+      (List._∷_ 101 (List._∷_ 97 (List._∷_ 100 (List._∷_ 101 (List._∷_ 114 List.[])))))))))))))))))) (Syntax.tcons Syntax.tyBool (Syntax.tcons Syntax.tyBool (Syntax.tcons (Syntax.tyInt Syntax.w32)
+      (Syntax.tcons (Syntax.tyInt Syntax.w32) (Syntax.tcons (Syntax.tyInt Syntax.w32) (Syntax.tcons (Syntax.tyInt Syntax.w32) (Syntax.tcons (Syntax.tyInt Syntax.w32) (Syntax.tcons (Syntax.tyInt Syntax.w32)
+      (Syntax.tcons (Syntax.tyInt Syntax.w32) Syntax.tnil)))))))))),
+) (List._∷_ (3, Rows'.sc-here (Row.sInt Syntax.w64)) (List._∷_ (
+  4,
+  Relend.mslice-owed (Referent.rtF (Referent.fInt Syntax.w16))
+      (Syntax.tyRef (Syntax.named 1) Syntax.mut (Syntax.tyInt Syntax.w16)) 1 3 Row.off,
+) (List._∷_ (
+  5,
+  Relend.mslice-owed (Element.type) (Syntax.tyRef (Syntax.named 2) Syntax.mut Element.behind) 2 4
+      Row.off,
+) (List._∷_ (6, Rows'.whole (Declared'.row (Apart.apartT Form.the-type))) (List._∷_ (7, Rows'.sc-here (Row.sInt Syntax.w64)) (List._∷_ (
+  8,
+  Rows'.sslice (Referent.rtF (Referent.fInt
+      Syntax.w8)) (Syntax.tyRef Syntax.erased Syntax.imm (Syntax.tyInt Syntax.w8)) 0,
+) (List._∷_ (
+  9,
+  Rows'.sslice (Referent.rtF (Referent.fInt Syntax.w8)) (Syntax.tyRef Syntax.erased Syntax.imm
+      (Syntax.tyInt Syntax.w8)) 0,
+) (List._∷_ (10, Rows'.sc-shr (Rows.arrF (Referent.rtF (Referent.fInt Syntax.w16)) 768 0) (Array'.Array (Referent.rtF (Referent.fInt Syntax.w16)) 768) (λ x. x) 6)
+    (List._∷_ (11, Rows.arr-owed (Referent.rtF (Referent.fInt Syntax.w16)) 1 5) (List._∷_ (
       12,
-      Rows'.any-gone (Syntax.tyStruct (List._∷_ 98 (List._∷_ 108 (List._∷_ 111 (List._∷_ 99 (List._∷_ 107 (List._∷_ 58 (List._∷_ 58 (List._∷_ 87 (List._∷_ 97 (List._∷_ 108 (List._∷_ 107
-          (List._∷_ 101 (List._∷_ 100 List.[]))))))))))))) (Syntax.tcons Syntax.tyBool (Syntax.tcons (Syntax.tyInt Syntax.w64) (Syntax.tcons (Syntax.tyStruct (List._∷_ 98 (List._∷_ 105 (List._∷_ 116 (List._∷_
-          115 (List._∷_ 58 (List._∷_ 58 (List._∷_ 66 (List._∷_ 105 (List._∷_ 116 (List._∷_ 80 (List._∷_ 111 (List._∷_ 115 (List._∷_ 105 (List._∷_ 116 (List._∷_ 105 (List._∷_ 111 (List._∷_ 110
-          List.[]))))))))))))))))) (Syntax.tcons (Syntax.tyInt Syntax.w64) Syntax.tnil)) (Syntax.tcons (Syntax.tyInt Syntax.w64) Syntax.tnil))))),
-    ) (List._∷_ (
-      13,
-      Rows'.any-gone (Syntax.tyArray (Syntax.tyInt
-          Syntax.w16) 768),
-    ) (List._∷_ (14, Rows'.any-gone (Syntax.tyRef Syntax.erased Syntax.mut (Syntax.tyInt Syntax.w16))) (List._∷_ (
-      15,
-      Mut.mslice (Referent.rtF (Referent.fInt Syntax.w16)) (Syntax.tyRef
-          Syntax.erased Syntax.mut (Syntax.tyInt Syntax.w16)) 3,
-    ) List.[])))))))))))))))
+      Rows'.any-gone (Syntax.tyStruct (List._∷_ 98 (List._∷_ 108 (List._∷_ 111 (List._∷_ 99 (List._∷_ 107
+          (List._∷_ 58 (List._∷_ 58 (List._∷_ 87 (List._∷_ 97 (List._∷_ 108 (List._∷_ 107 (List._∷_ 101 (List._∷_ 100 List.[]))))))))))))) (Syntax.tcons Syntax.tyBool (Syntax.tcons (Syntax.tyInt Syntax.w64)
+          (Syntax.tcons (Syntax.tyStruct (List._∷_ 98 (List._∷_ 105 (List._∷_ 116 (List._∷_ 115 (List._∷_ 58 (List._∷_ 58 (List._∷_ 66 (List._∷_ 105 (List._∷_ 116 (List._∷_ 80 (List._∷_ 111 (List._∷_ 115
+          (List._∷_ 105 (List._∷_ 116 (List._∷_ 105 (List._∷_ 111 (List._∷_ 110 List.[]))))))))))))))))) (Syntax.tcons (Syntax.tyInt Syntax.w64) Syntax.tnil)) (Syntax.tcons (Syntax.tyInt Syntax.w64)
+          Syntax.tnil))))),
+    ) (List._∷_ (13, Rows'.any-gone (Syntax.tyArray (Syntax.tyInt Syntax.w16) 768)) (List._∷_ (14, Rows'.any-gone (Syntax.tyRef Syntax.erased Syntax.mut (Syntax.tyInt Syntax.w16)))
+    (List._∷_ (15, Mut.mslice (Referent.rtF (Referent.fInt Syntax.w16)) (Syntax.tyRef Syntax.erased Syntax.mut (Syntax.tyInt Syntax.w16)) 3) List.[])))))))))))))))
 
 abbrev pub t22 : List.List Row.Entry
 t22 = List._∷_ (16, Rows'.any-gone (Syntax.tyRef Syntax.erased Syntax.mut Element.behind)) (List._∷_ (17, Mut.mslice (Element.type) (Syntax.tyRef Syntax.erased Syntax.mut Element.behind) 4)
@@ -1432,41 +1487,45 @@ t26 = List._∷_ (
       (Syntax.ttcons Syntax.tnil (Syntax.ttcons Syntax.tnil (Syntax.ttcons (Syntax.tcons (Syntax.tyInt Syntax.w64) Syntax.tnil) (Syntax.ttcons Syntax.tnil (Syntax.ttcons Syntax.tnil (Syntax.ttcons
       Syntax.tnil (Syntax.ttcons Syntax.tnil (Syntax.ttcons Syntax.tnil (Syntax.ttcons Syntax.tnil (Syntax.ttcons (Syntax.tcons (Syntax.tyInt Syntax.w64) Syntax.tnil) (Syntax.ttcons (Syntax.tcons
       (Syntax.tyInt Syntax.w64) Syntax.tnil) (Syntax.ttcons Syntax.tnil (Syntax.ttcons (Syntax.tcons (Syntax.tyInt Syntax.w64) (Syntax.tcons (Syntax.tyInt Syntax.w64) Syntax.tnil)) (Syntax.ttcons
-      (Syntax.tcons (Syntax.tyInt Syntax.w64) Syntax.tnil) (Syntax.ttcons Syntax.tnil Syntax.ttnil))))))))))))))))) Syntax.tnil) Syntax.ttnil))),
-) (List._∷_ (
-  1,
-  Rows'.sslice (Referent.rtF (Referent.fInt
-      Syntax.w8)) (Syntax.tyRef (Syntax.named 0) Syntax.imm (Syntax.tyInt Syntax.w8)) 0,
-) (List._∷_ (
+      (Syntax.tcons (Syntax.tyInt Syntax.w64) Syntax.tnil) (Syntax.ttcons Syntax.tnil (Syntax.ttcons Syntax.tnil (Syntax.ttcons (Syntax.tcons (Syntax.tyInt Syntax.w64) Syntax.tnil) (Syntax.ttcons
+      (Syntax.tcons (Syntax.tyInt Syntax.w64) Syntax.tnil) (Syntax.ttcons (Syntax.tcons (Syntax.tyInt Syntax.w64) Syntax.tnil) (Syntax.ttcons Syntax.tnil Syntax.ttnil)))))))))))))))))))))) Syntax.tnil)
+      Syntax.ttnil))),
+) (List._∷_ (1, Rows'.sslice (Referent.rtF (Referent.fInt Syntax.w8)) (Syntax.tyRef (Syntax.named 0) Syntax.imm (Syntax.tyInt Syntax.w8)) 0) (List._∷_ (
   2,
-  Rows'.any-gone (Syntax.tyStruct (List._∷_ 115 (List._∷_ 116 (List._∷_ 114 (List._∷_ 101 (List._∷_ 97
-      (List._∷_ 109 (List._∷_ 58 (List._∷_ 58 (List._∷_ 70 (List._∷_ 117 (List._∷_ 106 (List._∷_ 105 (List._∷_ 72 (List._∷_ 101 (List._∷_ 97 (List._∷_ 100 (List._∷_ 101 (List._∷_ 114
-      List.[])))))))))))))))))) (Syntax.tcons Syntax.tyBool (Syntax.tcons Syntax.tyBool (Syntax.tcons (Syntax.tyInt Syntax.w32) (Syntax.tcons (Syntax.tyInt Syntax.w32) (Syntax.tcons (Syntax.tyInt
-      Syntax.w32) (Syntax.tcons (Syntax.tyInt Syntax.w32) (Syntax.tcons (Syntax.tyInt Syntax.w32) (Syntax.tcons (Syntax.tyInt Syntax.w32) (Syntax.tcons (Syntax.tyInt Syntax.w32) Syntax.tnil)))))))))),
+  Rows'.any-gone
+      (Syntax.tyStruct (List._∷_ 115 (List._∷_ 116 (List._∷_ 114 (List._∷_ 101 (List._∷_ 97 (List._∷_ 109 (List._∷_ 58 (List._∷_ 58 (List._∷_ 70 (List._∷_ 117 (List._∷_ 106 (List._∷_ 105 (List._∷_ 72
+      (List._∷_ 101 (List._∷_ 97 (List._∷_ 100 (List._∷_ 101 (List._∷_ 114 List.[])))))))))))))))))) (Syntax.tcons Syntax.tyBool (Syntax.tcons Syntax.tyBool (Syntax.tcons (Syntax.tyInt Syntax.w32)
+      (Syntax.tcons (Syntax.tyInt Syntax.w32) (Syntax.tcons (Syntax.tyInt Syntax.w32) (Syntax.tcons (Syntax.tyInt Syntax.w32) (Syntax.tcons (Syntax.tyInt Syntax.w32) (Syntax.tcons (Syntax.tyInt Syntax.w32)
+      (Syntax.tcons (Syntax.tyInt Syntax.w32) Syntax.tnil)))))))))),
+) (List._∷_ (3, Rows'.sc-here (Row.sInt Syntax.w64)) (List._∷_ (
+  4,
+  Relend.mslice-owed (Referent.rtF (Referent.fInt Syntax.w16))
+      (Syntax.tyRef (Syntax.named 1) Syntax.mut (Syntax.tyInt Syntax.w16)) 1 3 Row.off,
+) (List._∷_ (
+  5,
+  Relend.mslice-owed (Element.type) (Syntax.tyRef (Syntax.named 2) Syntax.mut Element.behind) 2 4
+      Row.off,
+) (List._∷_ (6, Rows'.whole (Declared'.row Form.the-type)) (List._∷_ (7, Rows'.sc-here (Row.sInt Syntax.w64)) (List._∷_ (
+  8,
+  Rows'.sslice (Referent.rtF (Referent.fInt Syntax.w8))
+      (Syntax.tyRef Syntax.erased Syntax.imm (Syntax.tyInt Syntax.w8)) 0,
+) (List._∷_ (
+  9,
+  Rows'.sslice (Referent.rtF (Referent.fInt Syntax.w8)) (Syntax.tyRef Syntax.erased Syntax.imm (Syntax.tyInt
+      Syntax.w8)) 0,
+) (List._∷_ (10, Rows'.sc-shr (Rows.arrF (Referent.rtF (Referent.fInt Syntax.w16)) 768 0) (Array'.Array (Referent.rtF (Referent.fInt Syntax.w16)) 768) (λ x. x) 6) (List._∷_ (
+  11,
+  Rows.arr-owed (Referent.rtF (Referent.fInt Syntax.w16)) 1 5,
+) (List._∷_ (
+  12,
+  Rows'.any-gone (Syntax.tyStruct (List._∷_ 98 (List._∷_ 108 (List._∷_ 111 (List._∷_ 99 (List._∷_ 107 (List._∷_ 58 (List._∷_
+      58 (List._∷_ 87 (List._∷_ 97 (List._∷_ 108 (List._∷_ 107 (List._∷_ 101 (List._∷_ 100 List.[]))))))))))))) (Syntax.tcons Syntax.tyBool (Syntax.tcons (Syntax.tyInt Syntax.w64) (Syntax.tcons
+      (Syntax.tyStruct (List._∷_ 98 (List._∷_ 105 (List._∷_ 116 (List._∷_ 115 (List._∷_ 58 (List._∷_ 58 (List._∷_ 66 (List._∷_ 105 (List._∷_ 116 (List._∷_ 80 (List._∷_ 111 (List._∷_ 115 (List._∷_ 105
+      (List._∷_ 116 (List._∷_ 105 (List._∷_ 111 (List._∷_ 110 List.[]))))))))))))))))) (Syntax.tcons (Syntax.tyInt Syntax.w64) Syntax.tnil)) (Syntax.tcons (Syntax.tyInt Syntax.w64) Syntax.tnil))))),
 )
-    (List._∷_ (3, Rows'.sc-here (Row.sInt Syntax.w64)) (List._∷_ (
-      4,
-      Relend.mslice-owed (Referent.rtF (Referent.fInt Syntax.w16)) (Syntax.tyRef (Syntax.named 1) Syntax.mut (Syntax.tyInt Syntax.w16)) 1 3
-          Row.off,
-    ) (List._∷_ (5, Relend.mslice-owed (Element.type) (Syntax.tyRef (Syntax.named 2) Syntax.mut Element.behind) 2 4 Row.off) (List._∷_ (6, Rows'.whole (Declared'.row Form.the-type)) (List._∷_
-    (7, Rows'.sc-here (Row.sInt Syntax.w64)) (List._∷_ (8, Rows'.sslice (Referent.rtF (Referent.fInt Syntax.w8)) (Syntax.tyRef Syntax.erased Syntax.imm (Syntax.tyInt Syntax.w8)) 0) (List._∷_ (
-      9,
-      Rows'.sslice (Referent.rtF (Referent.fInt Syntax.w8)) (Syntax.tyRef Syntax.erased Syntax.imm (Syntax.tyInt Syntax.w8)) 0,
-    ) (List._∷_ (
-      10,
-      Rows'.sc-shr (Rows.arrF (Referent.rtF (Referent.fInt
-          Syntax.w16)) 768 0) (Array'.Array (Referent.rtF (Referent.fInt Syntax.w16)) 768) (λ x. x) 6,
-    ) (List._∷_ (11, Rows.arr-owed (Referent.rtF (Referent.fInt Syntax.w16)) 1 5) (List._∷_ (
-      12,
-      Rows'.any-gone (Syntax.tyStruct (List._∷_ 98 (List._∷_ 108 (List._∷_ 111 (List._∷_ 99 (List._∷_ 107 (List._∷_ 58 (List._∷_ 58 (List._∷_ 87 (List._∷_ 97 (List._∷_ 108 (List._∷_ 107 (List._∷_ 101
-          (List._∷_ 100 List.[]))))))))))))) (Syntax.tcons Syntax.tyBool (Syntax.tcons (Syntax.tyInt Syntax.w64) (Syntax.tcons (Syntax.tyStruct (List._∷_ 98 (List._∷_ 105 (List._∷_ 116 (List._∷_ 115 (List._∷_
-          58 (List._∷_ 58 (List._∷_ 66 (List._∷_ 105 (List._∷_ 116 (List._∷_ 80 (List._∷_ 111 (List._∷_ 115 (List._∷_ 105 (List._∷_ 116 (List._∷_ 105 (List._∷_ 111 (List._∷_ 110 List.[])))))))))))))))))
-          (Syntax.tcons (Syntax.tyInt Syntax.w64) Syntax.tnil)) (Syntax.tcons (Syntax.tyInt Syntax.w64) Syntax.tnil))))),
-    ) (List._∷_ (13, Rows'.any-gone (Syntax.tyArray (Syntax.tyInt Syntax.w16) 768))
-    (List._∷_ (14, Rows'.any-gone (Syntax.tyRef Syntax.erased Syntax.mut (Syntax.tyInt Syntax.w16))) (List._∷_ (
+    (List._∷_ (13, Rows'.any-gone (Syntax.tyArray (Syntax.tyInt Syntax.w16) 768)) (List._∷_ (14, Rows'.any-gone (Syntax.tyRef Syntax.erased Syntax.mut (Syntax.tyInt Syntax.w16))) (List._∷_ (
       15,
-      Mut.mslice (Referent.rtF (Referent.fInt Syntax.w16)) (Syntax.tyRef Syntax.erased
-          Syntax.mut (Syntax.tyInt Syntax.w16)) 3,
+      Mut.mslice (Referent.rtF (Referent.fInt Syntax.w16)) (Syntax.tyRef Syntax.erased Syntax.mut (Syntax.tyInt Syntax.w16)) 3,
     ) List.[])))))))))))))))
 
 abbrev pub t27 : List.List Row.Entry
@@ -1478,39 +1537,44 @@ t27 = List._∷_ (
       (Syntax.ttcons Syntax.tnil (Syntax.ttcons Syntax.tnil (Syntax.ttcons (Syntax.tcons (Syntax.tyInt Syntax.w64) Syntax.tnil) (Syntax.ttcons Syntax.tnil (Syntax.ttcons Syntax.tnil (Syntax.ttcons
       Syntax.tnil (Syntax.ttcons Syntax.tnil (Syntax.ttcons Syntax.tnil (Syntax.ttcons Syntax.tnil (Syntax.ttcons (Syntax.tcons (Syntax.tyInt Syntax.w64) Syntax.tnil) (Syntax.ttcons (Syntax.tcons
       (Syntax.tyInt Syntax.w64) Syntax.tnil) (Syntax.ttcons Syntax.tnil (Syntax.ttcons (Syntax.tcons (Syntax.tyInt Syntax.w64) (Syntax.tcons (Syntax.tyInt Syntax.w64) Syntax.tnil)) (Syntax.ttcons
-      (Syntax.tcons (Syntax.tyInt Syntax.w64) Syntax.tnil) (Syntax.ttcons Syntax.tnil Syntax.ttnil))))))))))))))))) Syntax.tnil) Syntax.ttnil))),
-) (List._∷_ (
-  1,
-  Rows'.sslice (Referent.rtF (Referent.fInt
-      Syntax.w8)) (Syntax.tyRef (Syntax.named 0) Syntax.imm (Syntax.tyInt Syntax.w8)) 0,
-) (List._∷_ (
+      (Syntax.tcons (Syntax.tyInt Syntax.w64) Syntax.tnil) (Syntax.ttcons Syntax.tnil (Syntax.ttcons Syntax.tnil (Syntax.ttcons (Syntax.tcons (Syntax.tyInt Syntax.w64) Syntax.tnil) (Syntax.ttcons
+      (Syntax.tcons (Syntax.tyInt Syntax.w64) Syntax.tnil) (Syntax.ttcons (Syntax.tcons (Syntax.tyInt Syntax.w64) Syntax.tnil) (Syntax.ttcons Syntax.tnil Syntax.ttnil)))))))))))))))))))))) Syntax.tnil)
+      Syntax.ttnil))),
+) (List._∷_ (1, Rows'.sslice (Referent.rtF (Referent.fInt Syntax.w8)) (Syntax.tyRef (Syntax.named 0) Syntax.imm (Syntax.tyInt Syntax.w8)) 0) (List._∷_ (
   2,
-  Rows'.any-gone (Syntax.tyStruct (List._∷_ 115 (List._∷_ 116 (List._∷_ 114 (List._∷_ 101 (List._∷_ 97
-      (List._∷_ 109 (List._∷_ 58 (List._∷_ 58 (List._∷_ 70 (List._∷_ 117 (List._∷_ 106 (List._∷_ 105 (List._∷_ 72 (List._∷_ 101 (List._∷_ 97 (List._∷_ 100 (List._∷_ 101 (List._∷_ 114
-      List.[])))))))))))))))))) (Syntax.tcons Syntax.tyBool (Syntax.tcons Syntax.tyBool (Syntax.tcons (Syntax.tyInt Syntax.w32) (Syntax.tcons (Syntax.tyInt Syntax.w32) (Syntax.tcons (Syntax.tyInt
-      Syntax.w32) (Syntax.tcons (Syntax.tyInt Syntax.w32) (Syntax.tcons (Syntax.tyInt Syntax.w32) (Syntax.tcons (Syntax.tyInt Syntax.w32) (Syntax.tcons (Syntax.tyInt Syntax.w32) Syntax.tnil)))))))))),
-)
-    (List._∷_ (3, Rows'.sc-here (Row.sInt Syntax.w64)) (List._∷_ (
-      4,
-      Relend.mslice-owed (Referent.rtF (Referent.fInt Syntax.w16)) (Syntax.tyRef (Syntax.named 1) Syntax.mut (Syntax.tyInt Syntax.w16)) 1 3
-          Row.off,
-    ) (List._∷_ (5, Relend.mslice-owed (Element.type) (Syntax.tyRef (Syntax.named 2) Syntax.mut Element.behind) 2 4 Row.off) (List._∷_ (6, Rows'.whole (Declared'.row Form.the-type)) (List._∷_
-    (7, Rows'.sc-here (Row.sInt Syntax.w64)) (List._∷_ (8, Rows'.sslice (Referent.rtF (Referent.fInt Syntax.w8)) (Syntax.tyRef Syntax.erased Syntax.imm (Syntax.tyInt Syntax.w8)) 0) (List._∷_ (
-      9,
-      Rows'.sslice (Referent.rtF (Referent.fInt Syntax.w8)) (Syntax.tyRef Syntax.erased Syntax.imm (Syntax.tyInt Syntax.w8)) 0,
-    ) (List._∷_ (
-      10,
-      Rows'.sc-shr (Rows.arrF (Referent.rtF (Referent.fInt
-          Syntax.w16)) 768 0) (Array'.Array (Referent.rtF (Referent.fInt Syntax.w16)) 768) (λ x. x) 6,
-    ) (List._∷_ (11, Rows.arr-owed (Referent.rtF (Referent.fInt Syntax.w16)) 1 5) (List._∷_ (
-      12,
-      Rows'.whole
-          (Declared'.row Walked.the-type),
-    ) (List._∷_ (13, Rows'.any-gone (Syntax.tyArray (Syntax.tyInt Syntax.w16) 768)) (List._∷_ (
-      14,
-      Rows'.any-gone (Syntax.tyRef Syntax.erased Syntax.mut (Syntax.tyInt
-          Syntax.w16)),
-    ) (List._∷_ (15, Mut.msleft (Referent.rtF (Referent.fInt Syntax.w16)) (Syntax.tyRef Syntax.erased Syntax.mut (Syntax.tyInt Syntax.w16))) List.[])))))))))))))))
+  Rows'.any-gone
+      (Syntax.tyStruct (List._∷_ 115 (List._∷_ 116 (List._∷_ 114 (List._∷_ 101 (List._∷_ 97 (List._∷_ 109 (List._∷_ 58 (List._∷_ 58 (List._∷_ 70 (List._∷_ 117 (List._∷_ 106 (List._∷_ 105 (List._∷_ 72
+      (List._∷_ 101 (List._∷_ 97 (List._∷_ 100 (List._∷_ 101 (List._∷_ 114 List.[])))))))))))))))))) (Syntax.tcons Syntax.tyBool (Syntax.tcons Syntax.tyBool (Syntax.tcons (Syntax.tyInt Syntax.w32)
+      (Syntax.tcons (Syntax.tyInt Syntax.w32) (Syntax.tcons (Syntax.tyInt Syntax.w32) (Syntax.tcons (Syntax.tyInt Syntax.w32) (Syntax.tcons (Syntax.tyInt Syntax.w32) (Syntax.tcons (Syntax.tyInt Syntax.w32)
+      (Syntax.tcons (Syntax.tyInt Syntax.w32) Syntax.tnil)))))))))),
+) (List._∷_ (3, Rows'.sc-here (Row.sInt Syntax.w64)) (List._∷_ (
+  4,
+  Relend.mslice-owed (Referent.rtF (Referent.fInt Syntax.w16))
+      (Syntax.tyRef (Syntax.named 1) Syntax.mut (Syntax.tyInt Syntax.w16)) 1 3 Row.off,
+) (List._∷_ (
+  5,
+  Relend.mslice-owed (Element.type) (Syntax.tyRef (Syntax.named 2) Syntax.mut Element.behind) 2 4
+      Row.off,
+) (List._∷_ (6, Rows'.whole (Declared'.row Form.the-type)) (List._∷_ (7, Rows'.sc-here (Row.sInt Syntax.w64)) (List._∷_ (
+  8,
+  Rows'.sslice (Referent.rtF (Referent.fInt Syntax.w8))
+      (Syntax.tyRef Syntax.erased Syntax.imm (Syntax.tyInt Syntax.w8)) 0,
+) (List._∷_ (
+  9,
+  Rows'.sslice (Referent.rtF (Referent.fInt Syntax.w8)) (Syntax.tyRef Syntax.erased Syntax.imm (Syntax.tyInt
+      Syntax.w8)) 0,
+) (List._∷_ (10, Rows'.sc-shr (Rows.arrF (Referent.rtF (Referent.fInt Syntax.w16)) 768 0) (Array'.Array (Referent.rtF (Referent.fInt Syntax.w16)) 768) (λ x. x) 6) (List._∷_ (
+  11,
+  Rows.arr-owed (Referent.rtF (Referent.fInt Syntax.w16)) 1 5,
+) (List._∷_ (12, Rows'.whole (Declared'.row Walked.the-type)) (List._∷_ (
+  13,
+  Rows'.any-gone (Syntax.tyArray (Syntax.tyInt Syntax.w16)
+      768),
+) (List._∷_ (14, Rows'.any-gone (Syntax.tyRef Syntax.erased Syntax.mut (Syntax.tyInt Syntax.w16))) (List._∷_ (
+  15,
+  Mut.msleft (Referent.rtF (Referent.fInt Syntax.w16)) (Syntax.tyRef
+      Syntax.erased Syntax.mut (Syntax.tyInt Syntax.w16)),
+) List.[])))))))))))))))
 
 abbrev pub t28 : List.List Row.Entry
 t28 = List._∷_ (16, Rows'.any-gone (Syntax.tyRef Syntax.erased Syntax.mut Element.behind)) (List._∷_ (17, Mut.msleft (Element.type) (Syntax.tyRef Syntax.erased Syntax.mut Element.behind))
@@ -1533,39 +1597,42 @@ t29 = List._∷_ (
       (Syntax.ttcons Syntax.tnil (Syntax.ttcons Syntax.tnil (Syntax.ttcons (Syntax.tcons (Syntax.tyInt Syntax.w64) Syntax.tnil) (Syntax.ttcons Syntax.tnil (Syntax.ttcons Syntax.tnil (Syntax.ttcons
       Syntax.tnil (Syntax.ttcons Syntax.tnil (Syntax.ttcons Syntax.tnil (Syntax.ttcons Syntax.tnil (Syntax.ttcons (Syntax.tcons (Syntax.tyInt Syntax.w64) Syntax.tnil) (Syntax.ttcons (Syntax.tcons
       (Syntax.tyInt Syntax.w64) Syntax.tnil) (Syntax.ttcons Syntax.tnil (Syntax.ttcons (Syntax.tcons (Syntax.tyInt Syntax.w64) (Syntax.tcons (Syntax.tyInt Syntax.w64) Syntax.tnil)) (Syntax.ttcons
-      (Syntax.tcons (Syntax.tyInt Syntax.w64) Syntax.tnil) (Syntax.ttcons Syntax.tnil Syntax.ttnil))))))))))))))))) Syntax.tnil) Syntax.ttnil))),
-) (List._∷_ (
-  1,
-  Rows'.sslice (Referent.rtF (Referent.fInt
-      Syntax.w8)) (Syntax.tyRef (Syntax.named 0) Syntax.imm (Syntax.tyInt Syntax.w8)) 0,
-) (List._∷_ (
+      (Syntax.tcons (Syntax.tyInt Syntax.w64) Syntax.tnil) (Syntax.ttcons Syntax.tnil (Syntax.ttcons Syntax.tnil (Syntax.ttcons (Syntax.tcons (Syntax.tyInt Syntax.w64) Syntax.tnil) (Syntax.ttcons
+      (Syntax.tcons (Syntax.tyInt Syntax.w64) Syntax.tnil) (Syntax.ttcons (Syntax.tcons (Syntax.tyInt Syntax.w64) Syntax.tnil) (Syntax.ttcons Syntax.tnil Syntax.ttnil)))))))))))))))))))))) Syntax.tnil)
+      Syntax.ttnil))),
+) (List._∷_ (1, Rows'.sslice (Referent.rtF (Referent.fInt Syntax.w8)) (Syntax.tyRef (Syntax.named 0) Syntax.imm (Syntax.tyInt Syntax.w8)) 0) (List._∷_ (
   2,
-  Rows'.any-gone (Syntax.tyStruct (List._∷_ 115 (List._∷_ 116 (List._∷_ 114 (List._∷_ 101 (List._∷_ 97
-      (List._∷_ 109 (List._∷_ 58 (List._∷_ 58 (List._∷_ 70 (List._∷_ 117 (List._∷_ 106 (List._∷_ 105 (List._∷_ 72 (List._∷_ 101 (List._∷_ 97 (List._∷_ 100 (List._∷_ 101 (List._∷_ 114
-      List.[])))))))))))))))))) (Syntax.tcons Syntax.tyBool (Syntax.tcons Syntax.tyBool (Syntax.tcons (Syntax.tyInt Syntax.w32) (Syntax.tcons (Syntax.tyInt Syntax.w32) (Syntax.tcons (Syntax.tyInt
-      Syntax.w32) (Syntax.tcons (Syntax.tyInt Syntax.w32) (Syntax.tcons (Syntax.tyInt Syntax.w32) (Syntax.tcons (Syntax.tyInt Syntax.w32) (Syntax.tcons (Syntax.tyInt Syntax.w32) Syntax.tnil)))))))))),
-)
-    (List._∷_ (3, Rows'.sc-here (Row.sInt Syntax.w64)) (List._∷_ (
-      4,
-      Relend.mslice-owed (Referent.rtF (Referent.fInt Syntax.w16)) (Syntax.tyRef (Syntax.named 1) Syntax.mut (Syntax.tyInt Syntax.w16)) 1 3
-          Row.off,
-    ) (List._∷_ (5, Relend.mslice-owed (Element.type) (Syntax.tyRef (Syntax.named 2) Syntax.mut Element.behind) 2 4 Row.off) (List._∷_ (6, Rows'.whole (Declared'.row Form.the-type)) (List._∷_
-    (7, Rows'.sc-here (Row.sInt Syntax.w64)) (List._∷_ (8, Rows'.sslice (Referent.rtF (Referent.fInt Syntax.w8)) (Syntax.tyRef Syntax.erased Syntax.imm (Syntax.tyInt Syntax.w8)) 0) (List._∷_ (
-      9,
-      Rows'.any-gone (Syntax.tyStruct (List._∷_ 38 (List._∷_ 91 (List._∷_ 93 List.[]))) (Syntax.tcons (Syntax.tyRef Syntax.erased Syntax.imm (Syntax.tyInt Syntax.w8)) (Syntax.tcons (Syntax.tyInt Syntax.w64)
-          Syntax.tnil))),
-    ) (List._∷_ (10, Rows'.sc-shr (Rows.arrF (Referent.rtF (Referent.fInt Syntax.w16)) 768 0) (Array'.Array (Referent.rtF (Referent.fInt Syntax.w16)) 768) (λ x. x) 6) (List._∷_ (
-      11,
-      Rows.arr-owed (Referent.rtF (Referent.fInt Syntax.w16)) 1 5,
-    ) (List._∷_ (12, Rows'.whole (Declared'.row Walked.the-type)) (List._∷_ (
-      13,
-      Rows'.any-gone (Syntax.tyArray (Syntax.tyInt Syntax.w16)
-          768),
-    ) (List._∷_ (14, Rows'.any-gone (Syntax.tyRef Syntax.erased Syntax.mut (Syntax.tyInt Syntax.w16))) (List._∷_ (
-      15,
-      Mut.msleft (Referent.rtF (Referent.fInt Syntax.w16)) (Syntax.tyRef
-          Syntax.erased Syntax.mut (Syntax.tyInt Syntax.w16)),
-    ) List.[])))))))))))))))
+  Rows'.any-gone
+      (Syntax.tyStruct (List._∷_ 115 (List._∷_ 116 (List._∷_ 114 (List._∷_ 101 (List._∷_ 97 (List._∷_ 109 (List._∷_ 58 (List._∷_ 58 (List._∷_ 70 (List._∷_ 117 (List._∷_ 106 (List._∷_ 105 (List._∷_ 72
+      (List._∷_ 101 (List._∷_ 97 (List._∷_ 100 (List._∷_ 101 (List._∷_ 114 List.[])))))))))))))))))) (Syntax.tcons Syntax.tyBool (Syntax.tcons Syntax.tyBool (Syntax.tcons (Syntax.tyInt Syntax.w32)
+      (Syntax.tcons (Syntax.tyInt Syntax.w32) (Syntax.tcons (Syntax.tyInt Syntax.w32) (Syntax.tcons (Syntax.tyInt Syntax.w32) (Syntax.tcons (Syntax.tyInt Syntax.w32) (Syntax.tcons (Syntax.tyInt Syntax.w32)
+      (Syntax.tcons (Syntax.tyInt Syntax.w32) Syntax.tnil)))))))))),
+) (List._∷_ (3, Rows'.sc-here (Row.sInt Syntax.w64)) (List._∷_ (
+  4,
+  Relend.mslice-owed (Referent.rtF (Referent.fInt Syntax.w16))
+      (Syntax.tyRef (Syntax.named 1) Syntax.mut (Syntax.tyInt Syntax.w16)) 1 3 Row.off,
+) (List._∷_ (
+  5,
+  Relend.mslice-owed (Element.type) (Syntax.tyRef (Syntax.named 2) Syntax.mut Element.behind) 2 4
+      Row.off,
+) (List._∷_ (6, Rows'.whole (Declared'.row Form.the-type)) (List._∷_ (7, Rows'.sc-here (Row.sInt Syntax.w64)) (List._∷_ (
+  8,
+  Rows'.sslice (Referent.rtF (Referent.fInt Syntax.w8))
+      (Syntax.tyRef Syntax.erased Syntax.imm (Syntax.tyInt Syntax.w8)) 0,
+) (List._∷_ (
+  9,
+  Rows'.any-gone (Syntax.tyStruct (List._∷_ 38 (List._∷_ 91 (List._∷_ 93 List.[]))) (Syntax.tcons (Syntax.tyRef
+      Syntax.erased Syntax.imm (Syntax.tyInt Syntax.w8)) (Syntax.tcons (Syntax.tyInt Syntax.w64) Syntax.tnil))),
+) (List._∷_ (
+  10,
+  Rows'.sc-shr (Rows.arrF (Referent.rtF (Referent.fInt Syntax.w16)) 768 0)
+      (Array'.Array (Referent.rtF (Referent.fInt Syntax.w16)) 768) (λ x. x) 6,
+) (List._∷_ (11, Rows.arr-owed (Referent.rtF (Referent.fInt Syntax.w16)) 1 5) (List._∷_ (
+  12,
+  Rows'.whole (Declared'.row
+      Walked.the-type),
+) (List._∷_ (13, Rows'.any-gone (Syntax.tyArray (Syntax.tyInt Syntax.w16) 768)) (List._∷_ (14, Rows'.any-gone (Syntax.tyRef Syntax.erased Syntax.mut (Syntax.tyInt Syntax.w16)))
+    (List._∷_ (15, Mut.msleft (Referent.rtF (Referent.fInt Syntax.w16)) (Syntax.tyRef Syntax.erased Syntax.mut (Syntax.tyInt Syntax.w16))) List.[])))))))))))))))
 
 abbrev pub t30 : List.List Row.Entry
 t30 = List._∷_ (16, Rows'.any-gone (Syntax.tyRef Syntax.erased Syntax.mut Element.behind)) (List._∷_ (17, Mut.msleft (Element.type) (Syntax.tyRef Syntax.erased Syntax.mut Element.behind))
@@ -1608,38 +1675,44 @@ t33 = List._∷_ (
       (Syntax.ttcons Syntax.tnil (Syntax.ttcons Syntax.tnil (Syntax.ttcons (Syntax.tcons (Syntax.tyInt Syntax.w64) Syntax.tnil) (Syntax.ttcons Syntax.tnil (Syntax.ttcons Syntax.tnil (Syntax.ttcons
       Syntax.tnil (Syntax.ttcons Syntax.tnil (Syntax.ttcons Syntax.tnil (Syntax.ttcons Syntax.tnil (Syntax.ttcons (Syntax.tcons (Syntax.tyInt Syntax.w64) Syntax.tnil) (Syntax.ttcons (Syntax.tcons
       (Syntax.tyInt Syntax.w64) Syntax.tnil) (Syntax.ttcons Syntax.tnil (Syntax.ttcons (Syntax.tcons (Syntax.tyInt Syntax.w64) (Syntax.tcons (Syntax.tyInt Syntax.w64) Syntax.tnil)) (Syntax.ttcons
-      (Syntax.tcons (Syntax.tyInt Syntax.w64) Syntax.tnil) (Syntax.ttcons Syntax.tnil Syntax.ttnil))))))))))))))))) Syntax.tnil) Syntax.ttnil))),
-) (List._∷_ (
-  1,
-  Rows'.sslice (Referent.rtF (Referent.fInt
-      Syntax.w8)) (Syntax.tyRef (Syntax.named 0) Syntax.imm (Syntax.tyInt Syntax.w8)) 0,
-) (List._∷_ (
+      (Syntax.tcons (Syntax.tyInt Syntax.w64) Syntax.tnil) (Syntax.ttcons Syntax.tnil (Syntax.ttcons Syntax.tnil (Syntax.ttcons (Syntax.tcons (Syntax.tyInt Syntax.w64) Syntax.tnil) (Syntax.ttcons
+      (Syntax.tcons (Syntax.tyInt Syntax.w64) Syntax.tnil) (Syntax.ttcons (Syntax.tcons (Syntax.tyInt Syntax.w64) Syntax.tnil) (Syntax.ttcons Syntax.tnil Syntax.ttnil)))))))))))))))))))))) Syntax.tnil)
+      Syntax.ttnil))),
+) (List._∷_ (1, Rows'.sslice (Referent.rtF (Referent.fInt Syntax.w8)) (Syntax.tyRef (Syntax.named 0) Syntax.imm (Syntax.tyInt Syntax.w8)) 0) (List._∷_ (
   2,
-  Rows'.any-gone (Syntax.tyStruct (List._∷_ 115 (List._∷_ 116 (List._∷_ 114 (List._∷_ 101 (List._∷_ 97
-      (List._∷_ 109 (List._∷_ 58 (List._∷_ 58 (List._∷_ 70 (List._∷_ 117 (List._∷_ 106 (List._∷_ 105 (List._∷_ 72 (List._∷_ 101 (List._∷_ 97 (List._∷_ 100 (List._∷_ 101 (List._∷_ 114
-      List.[])))))))))))))))))) (Syntax.tcons Syntax.tyBool (Syntax.tcons Syntax.tyBool (Syntax.tcons (Syntax.tyInt Syntax.w32) (Syntax.tcons (Syntax.tyInt Syntax.w32) (Syntax.tcons (Syntax.tyInt
-      Syntax.w32) (Syntax.tcons (Syntax.tyInt Syntax.w32) (Syntax.tcons (Syntax.tyInt Syntax.w32) (Syntax.tcons (Syntax.tyInt Syntax.w32) (Syntax.tcons (Syntax.tyInt Syntax.w32) Syntax.tnil)))))))))),
-)
-    (List._∷_ (3, Rows'.sc-here (Row.sInt Syntax.w64)) (List._∷_ (4, Mut.mslice (Referent.rtF (Referent.fInt Syntax.w16)) (Syntax.tyRef (Syntax.named 1) Syntax.mut (Syntax.tyInt Syntax.w16)) 1)
-    (List._∷_ (5, Relend.mslice-owed (Element.type) (Syntax.tyRef (Syntax.named 2) Syntax.mut Element.behind) 2 4 Row.off) (List._∷_ (6, Rows'.whole (Declared'.row Form.the-type)) (List._∷_ (
-      7,
-      Rows'.sc-here (Row.sInt Syntax.w64),
-    ) (List._∷_ (8, Rows'.sslice (Referent.rtF (Referent.fInt Syntax.w8)) (Syntax.tyRef Syntax.erased Syntax.imm (Syntax.tyInt Syntax.w8)) 0) (List._∷_ (
-      9,
-      Rows'.any-gone (Syntax.tyStruct (List._∷_ 38 (List._∷_ 91 (List._∷_ 93 List.[]))) (Syntax.tcons (Syntax.tyRef Syntax.erased Syntax.imm (Syntax.tyInt Syntax.w8)) (Syntax.tcons (Syntax.tyInt Syntax.w64)
-          Syntax.tnil))),
-    ) (List._∷_ (10, Rows'.sc-shr (Rows.arrF (Referent.rtF (Referent.fInt Syntax.w16)) 768 0) (Array'.Array (Referent.rtF (Referent.fInt Syntax.w16)) 768) (λ x. x) 6) (List._∷_ (
-      11,
-      Rows.arr-owed (Referent.rtF (Referent.fInt Syntax.w16)) 1 5,
-    ) (List._∷_ (12, Rows'.whole (Declared'.row Walked.the-type)) (List._∷_ (
-      13,
-      Rows'.any-gone (Syntax.tyArray (Syntax.tyInt Syntax.w16)
-          768),
-    ) (List._∷_ (14, Rows'.any-gone (Syntax.tyRef Syntax.erased Syntax.mut (Syntax.tyInt Syntax.w16))) (List._∷_ (
-      15,
-      Rows'.any-gone (Syntax.tyStruct (List._∷_ 38 (List._∷_ 91 (List._∷_ 93
-          List.[]))) (Syntax.tcons (Syntax.tyRef Syntax.erased Syntax.mut (Syntax.tyInt Syntax.w16)) (Syntax.tcons (Syntax.tyInt Syntax.w64) Syntax.tnil))),
-    ) List.[])))))))))))))))
+  Rows'.any-gone
+      (Syntax.tyStruct (List._∷_ 115 (List._∷_ 116 (List._∷_ 114 (List._∷_ 101 (List._∷_ 97 (List._∷_ 109 (List._∷_ 58 (List._∷_ 58 (List._∷_ 70 (List._∷_ 117 (List._∷_ 106 (List._∷_ 105 (List._∷_ 72
+      (List._∷_ 101 (List._∷_ 97 (List._∷_ 100 (List._∷_ 101 (List._∷_ 114 List.[])))))))))))))))))) (Syntax.tcons Syntax.tyBool (Syntax.tcons Syntax.tyBool (Syntax.tcons (Syntax.tyInt Syntax.w32)
+      (Syntax.tcons (Syntax.tyInt Syntax.w32) (Syntax.tcons (Syntax.tyInt Syntax.w32) (Syntax.tcons (Syntax.tyInt Syntax.w32) (Syntax.tcons (Syntax.tyInt Syntax.w32) (Syntax.tcons (Syntax.tyInt Syntax.w32)
+      (Syntax.tcons (Syntax.tyInt Syntax.w32) Syntax.tnil)))))))))),
+) (List._∷_ (3, Rows'.sc-here (Row.sInt Syntax.w64)) (List._∷_ (
+  4,
+  Mut.mslice (Referent.rtF (Referent.fInt Syntax.w16)) (Syntax.tyRef
+      (Syntax.named 1) Syntax.mut (Syntax.tyInt Syntax.w16)) 1,
+) (List._∷_ (5, Relend.mslice-owed (Element.type) (Syntax.tyRef (Syntax.named 2) Syntax.mut Element.behind) 2 4 Row.off) (List._∷_ (
+  6,
+  Rows'.whole (Declared'.row Form.the-type),
+) (List._∷_ (7, Rows'.sc-here (Row.sInt Syntax.w64)) (List._∷_ (
+  8,
+  Rows'.sslice (Referent.rtF (Referent.fInt Syntax.w8)) (Syntax.tyRef Syntax.erased
+      Syntax.imm (Syntax.tyInt Syntax.w8)) 0,
+) (List._∷_ (
+  9,
+  Rows'.any-gone (Syntax.tyStruct (List._∷_ 38 (List._∷_ 91 (List._∷_ 93 List.[]))) (Syntax.tcons (Syntax.tyRef Syntax.erased Syntax.imm
+      (Syntax.tyInt Syntax.w8)) (Syntax.tcons (Syntax.tyInt Syntax.w64) Syntax.tnil))),
+) (List._∷_ (
+  10,
+  Rows'.sc-shr (Rows.arrF (Referent.rtF (Referent.fInt Syntax.w16)) 768 0) (Array'.Array (Referent.rtF
+      (Referent.fInt Syntax.w16)) 768) (λ x. x) 6,
+) (List._∷_ (11, Rows.arr-owed (Referent.rtF (Referent.fInt Syntax.w16)) 1 5) (List._∷_ (12, Rows'.whole (Declared'.row Walked.the-type)) (List._∷_ (
+  13,
+  Rows'.any-gone (Syntax.tyArray (Syntax.tyInt Syntax.w16) 768),
+) (List._∷_ (14, Rows'.any-gone (Syntax.tyRef Syntax.erased Syntax.mut (Syntax.tyInt Syntax.w16))) (List._∷_ (
+  15,
+  Rows'.any-gone
+      (Syntax.tyStruct (List._∷_ 38 (List._∷_ 91 (List._∷_ 93 List.[]))) (Syntax.tcons (Syntax.tyRef Syntax.erased Syntax.mut (Syntax.tyInt Syntax.w16)) (Syntax.tcons (Syntax.tyInt Syntax.w64)
+      Syntax.tnil))),
+) List.[])))))))))))))))
 
 abbrev pub t34 : List.List Row.Entry
 t34 = List._∷_ (
@@ -1650,42 +1723,45 @@ t34 = List._∷_ (
       (Syntax.ttcons Syntax.tnil (Syntax.ttcons Syntax.tnil (Syntax.ttcons (Syntax.tcons (Syntax.tyInt Syntax.w64) Syntax.tnil) (Syntax.ttcons Syntax.tnil (Syntax.ttcons Syntax.tnil (Syntax.ttcons
       Syntax.tnil (Syntax.ttcons Syntax.tnil (Syntax.ttcons Syntax.tnil (Syntax.ttcons Syntax.tnil (Syntax.ttcons (Syntax.tcons (Syntax.tyInt Syntax.w64) Syntax.tnil) (Syntax.ttcons (Syntax.tcons
       (Syntax.tyInt Syntax.w64) Syntax.tnil) (Syntax.ttcons Syntax.tnil (Syntax.ttcons (Syntax.tcons (Syntax.tyInt Syntax.w64) (Syntax.tcons (Syntax.tyInt Syntax.w64) Syntax.tnil)) (Syntax.ttcons
-      (Syntax.tcons (Syntax.tyInt Syntax.w64) Syntax.tnil) (Syntax.ttcons Syntax.tnil Syntax.ttnil))))))))))))))))) Syntax.tnil) Syntax.ttnil))),
-) (List._∷_ (
-  1,
-  Rows'.sslice (Referent.rtF (Referent.fInt
-      Syntax.w8)) (Syntax.tyRef (Syntax.named 0) Syntax.imm (Syntax.tyInt Syntax.w8)) 0,
-) (List._∷_ (
+      (Syntax.tcons (Syntax.tyInt Syntax.w64) Syntax.tnil) (Syntax.ttcons Syntax.tnil (Syntax.ttcons Syntax.tnil (Syntax.ttcons (Syntax.tcons (Syntax.tyInt Syntax.w64) Syntax.tnil) (Syntax.ttcons
+      (Syntax.tcons (Syntax.tyInt Syntax.w64) Syntax.tnil) (Syntax.ttcons (Syntax.tcons (Syntax.tyInt Syntax.w64) Syntax.tnil) (Syntax.ttcons Syntax.tnil Syntax.ttnil)))))))))))))))))))))) Syntax.tnil)
+      Syntax.ttnil))),
+) (List._∷_ (1, Rows'.sslice (Referent.rtF (Referent.fInt Syntax.w8)) (Syntax.tyRef (Syntax.named 0) Syntax.imm (Syntax.tyInt Syntax.w8)) 0) (List._∷_ (
   2,
-  Rows'.any-gone (Syntax.tyStruct (List._∷_ 115 (List._∷_ 116 (List._∷_ 114 (List._∷_ 101 (List._∷_ 97
-      (List._∷_ 109 (List._∷_ 58 (List._∷_ 58 (List._∷_ 70 (List._∷_ 117 (List._∷_ 106 (List._∷_ 105 (List._∷_ 72 (List._∷_ 101 (List._∷_ 97 (List._∷_ 100 (List._∷_ 101 (List._∷_ 114
-      List.[])))))))))))))))))) (Syntax.tcons Syntax.tyBool (Syntax.tcons Syntax.tyBool (Syntax.tcons (Syntax.tyInt Syntax.w32) (Syntax.tcons (Syntax.tyInt Syntax.w32) (Syntax.tcons (Syntax.tyInt
-      Syntax.w32) (Syntax.tcons (Syntax.tyInt Syntax.w32) (Syntax.tcons (Syntax.tyInt Syntax.w32) (Syntax.tcons (Syntax.tyInt Syntax.w32) (Syntax.tcons (Syntax.tyInt Syntax.w32) Syntax.tnil)))))))))),
-)
-    (List._∷_ (3, Rows'.sc-here (Row.sInt Syntax.w64)) (List._∷_ (4, Mut.mslice (Referent.rtF (Referent.fInt Syntax.w16)) (Syntax.tyRef (Syntax.named 1) Syntax.mut (Syntax.tyInt Syntax.w16)) 1)
-    (List._∷_ (5, Mut.mslice (Element.type) (Syntax.tyRef (Syntax.named 2) Syntax.mut Element.behind) 2) (List._∷_ (6, Rows'.whole (Declared'.row Form.the-type)) (List._∷_ (
-      7,
-      Rows'.sc-here (Row.sInt
-          Syntax.w64),
-    ) (List._∷_ (8, Rows'.sslice (Referent.rtF (Referent.fInt Syntax.w8)) (Syntax.tyRef Syntax.erased Syntax.imm (Syntax.tyInt Syntax.w8)) 0) (List._∷_ (
-      9,
-      Rows'.any-gone (Syntax.tyStruct
-          (List._∷_ 38 (List._∷_ 91 (List._∷_ 93 List.[]))) (Syntax.tcons (Syntax.tyRef Syntax.erased Syntax.imm (Syntax.tyInt Syntax.w8)) (Syntax.tcons (Syntax.tyInt Syntax.w64) Syntax.tnil))),
-    ) (List._∷_ (
-      10,
-      Rows'.sc-shr (Rows.arrF (Referent.rtF (Referent.fInt Syntax.w16)) 768 0) (Array'.Array (Referent.rtF (Referent.fInt Syntax.w16)) 768) (λ x. x) 6,
-    ) (List._∷_ (
-      11,
-      Rows.arr-owed (Referent.rtF
-          (Referent.fInt Syntax.w16)) 1 5,
-    ) (List._∷_ (12, Rows'.whole (Declared'.row Walked.the-type)) (List._∷_ (13, Rows'.any-gone (Syntax.tyArray (Syntax.tyInt Syntax.w16) 768)) (List._∷_ (
-      14,
-      Rows'.any-gone (Syntax.tyRef Syntax.erased Syntax.mut (Syntax.tyInt Syntax.w16)),
-    ) (List._∷_ (
-      15,
-      Rows'.any-gone (Syntax.tyStruct (List._∷_ 38 (List._∷_ 91 (List._∷_ 93 List.[]))) (Syntax.tcons
-          (Syntax.tyRef Syntax.erased Syntax.mut (Syntax.tyInt Syntax.w16)) (Syntax.tcons (Syntax.tyInt Syntax.w64) Syntax.tnil))),
-    ) List.[])))))))))))))))
+  Rows'.any-gone
+      (Syntax.tyStruct (List._∷_ 115 (List._∷_ 116 (List._∷_ 114 (List._∷_ 101 (List._∷_ 97 (List._∷_ 109 (List._∷_ 58 (List._∷_ 58 (List._∷_ 70 (List._∷_ 117 (List._∷_ 106 (List._∷_ 105 (List._∷_ 72
+      (List._∷_ 101 (List._∷_ 97 (List._∷_ 100 (List._∷_ 101 (List._∷_ 114 List.[])))))))))))))))))) (Syntax.tcons Syntax.tyBool (Syntax.tcons Syntax.tyBool (Syntax.tcons (Syntax.tyInt Syntax.w32)
+      (Syntax.tcons (Syntax.tyInt Syntax.w32) (Syntax.tcons (Syntax.tyInt Syntax.w32) (Syntax.tcons (Syntax.tyInt Syntax.w32) (Syntax.tcons (Syntax.tyInt Syntax.w32) (Syntax.tcons (Syntax.tyInt Syntax.w32)
+      (Syntax.tcons (Syntax.tyInt Syntax.w32) Syntax.tnil)))))))))),
+) (List._∷_ (3, Rows'.sc-here (Row.sInt Syntax.w64)) (List._∷_ (
+  4,
+  Mut.mslice (Referent.rtF (Referent.fInt Syntax.w16)) (Syntax.tyRef
+      (Syntax.named 1) Syntax.mut (Syntax.tyInt Syntax.w16)) 1,
+) (List._∷_ (5, Mut.mslice (Element.type) (Syntax.tyRef (Syntax.named 2) Syntax.mut Element.behind) 2) (List._∷_ (
+  6,
+  Rows'.whole
+      (Declared'.row Form.the-type),
+) (List._∷_ (7, Rows'.sc-here (Row.sInt Syntax.w64)) (List._∷_ (
+  8,
+  Rows'.sslice (Referent.rtF (Referent.fInt Syntax.w8)) (Syntax.tyRef Syntax.erased Syntax.imm
+      (Syntax.tyInt Syntax.w8)) 0,
+) (List._∷_ (
+  9,
+  Rows'.any-gone (Syntax.tyStruct (List._∷_ 38 (List._∷_ 91 (List._∷_ 93 List.[]))) (Syntax.tcons (Syntax.tyRef Syntax.erased Syntax.imm (Syntax.tyInt
+      Syntax.w8)) (Syntax.tcons (Syntax.tyInt Syntax.w64) Syntax.tnil))),
+) (List._∷_ (
+  10,
+  Rows'.sc-shr (Rows.arrF (Referent.rtF (Referent.fInt Syntax.w16)) 768 0) (Array'.Array (Referent.rtF
+      (Referent.fInt Syntax.w16)) 768) (λ x. x) 6,
+) (List._∷_ (11, Rows.arr-owed (Referent.rtF (Referent.fInt Syntax.w16)) 1 5) (List._∷_ (12, Rows'.whole (Declared'.row Walked.the-type)) (List._∷_ (
+  13,
+  Rows'.any-gone (Syntax.tyArray (Syntax.tyInt Syntax.w16) 768),
+) (List._∷_ (14, Rows'.any-gone (Syntax.tyRef Syntax.erased Syntax.mut (Syntax.tyInt Syntax.w16))) (List._∷_ (
+  15,
+  Rows'.any-gone
+      (Syntax.tyStruct (List._∷_ 38 (List._∷_ 91 (List._∷_ 93 List.[]))) (Syntax.tcons (Syntax.tyRef Syntax.erased Syntax.mut (Syntax.tyInt Syntax.w16)) (Syntax.tcons (Syntax.tyInt Syntax.w64)
+      Syntax.tnil))),
+) List.[])))))))))))))))
 
 abbrev pub t35 : List.List Row.Entry
 t35 = List._∷_ (16, Rows'.any-gone (Syntax.tyRef Syntax.erased Syntax.mut Element.behind)) (List._∷_ (
@@ -1715,42 +1791,45 @@ t36 = List._∷_ (
       (Syntax.ttcons Syntax.tnil (Syntax.ttcons Syntax.tnil (Syntax.ttcons (Syntax.tcons (Syntax.tyInt Syntax.w64) Syntax.tnil) (Syntax.ttcons Syntax.tnil (Syntax.ttcons Syntax.tnil (Syntax.ttcons
       Syntax.tnil (Syntax.ttcons Syntax.tnil (Syntax.ttcons Syntax.tnil (Syntax.ttcons Syntax.tnil (Syntax.ttcons (Syntax.tcons (Syntax.tyInt Syntax.w64) Syntax.tnil) (Syntax.ttcons (Syntax.tcons
       (Syntax.tyInt Syntax.w64) Syntax.tnil) (Syntax.ttcons Syntax.tnil (Syntax.ttcons (Syntax.tcons (Syntax.tyInt Syntax.w64) (Syntax.tcons (Syntax.tyInt Syntax.w64) Syntax.tnil)) (Syntax.ttcons
-      (Syntax.tcons (Syntax.tyInt Syntax.w64) Syntax.tnil) (Syntax.ttcons Syntax.tnil Syntax.ttnil))))))))))))))))) Syntax.tnil) Syntax.ttnil))),
-) (List._∷_ (
-  1,
-  Rows'.sslice (Referent.rtF (Referent.fInt
-      Syntax.w8)) (Syntax.tyRef (Syntax.named 0) Syntax.imm (Syntax.tyInt Syntax.w8)) 0,
-) (List._∷_ (
+      (Syntax.tcons (Syntax.tyInt Syntax.w64) Syntax.tnil) (Syntax.ttcons Syntax.tnil (Syntax.ttcons Syntax.tnil (Syntax.ttcons (Syntax.tcons (Syntax.tyInt Syntax.w64) Syntax.tnil) (Syntax.ttcons
+      (Syntax.tcons (Syntax.tyInt Syntax.w64) Syntax.tnil) (Syntax.ttcons (Syntax.tcons (Syntax.tyInt Syntax.w64) Syntax.tnil) (Syntax.ttcons Syntax.tnil Syntax.ttnil)))))))))))))))))))))) Syntax.tnil)
+      Syntax.ttnil))),
+) (List._∷_ (1, Rows'.sslice (Referent.rtF (Referent.fInt Syntax.w8)) (Syntax.tyRef (Syntax.named 0) Syntax.imm (Syntax.tyInt Syntax.w8)) 0) (List._∷_ (
   2,
-  Rows'.any-gone (Syntax.tyStruct (List._∷_ 115 (List._∷_ 116 (List._∷_ 114 (List._∷_ 101 (List._∷_ 97
-      (List._∷_ 109 (List._∷_ 58 (List._∷_ 58 (List._∷_ 70 (List._∷_ 117 (List._∷_ 106 (List._∷_ 105 (List._∷_ 72 (List._∷_ 101 (List._∷_ 97 (List._∷_ 100 (List._∷_ 101 (List._∷_ 114
-      List.[])))))))))))))))))) (Syntax.tcons Syntax.tyBool (Syntax.tcons Syntax.tyBool (Syntax.tcons (Syntax.tyInt Syntax.w32) (Syntax.tcons (Syntax.tyInt Syntax.w32) (Syntax.tcons (Syntax.tyInt
-      Syntax.w32) (Syntax.tcons (Syntax.tyInt Syntax.w32) (Syntax.tcons (Syntax.tyInt Syntax.w32) (Syntax.tcons (Syntax.tyInt Syntax.w32) (Syntax.tcons (Syntax.tyInt Syntax.w32) Syntax.tnil)))))))))),
-)
-    (List._∷_ (3, Rows'.sc-here (Row.sInt Syntax.w64)) (List._∷_ (4, Mut.mslice (Referent.rtF (Referent.fInt Syntax.w16)) (Syntax.tyRef (Syntax.named 1) Syntax.mut (Syntax.tyInt Syntax.w16)) 1)
-    (List._∷_ (5, Mut.mslice (Element.type) (Syntax.tyRef (Syntax.named 2) Syntax.mut Element.behind) 2) (List._∷_ (6, Rows'.whole (Declared'.row Form.the-type)) (List._∷_ (
-      7,
-      Rows'.sc-here (Row.sInt
-          Syntax.w64),
-    ) (List._∷_ (8, Rows'.sslice (Referent.rtF (Referent.fInt Syntax.w8)) (Syntax.tyRef Syntax.erased Syntax.imm (Syntax.tyInt Syntax.w8)) 0) (List._∷_ (
-      9,
-      Rows'.any-gone (Syntax.tyStruct
-          (List._∷_ 38 (List._∷_ 91 (List._∷_ 93 List.[]))) (Syntax.tcons (Syntax.tyRef Syntax.erased Syntax.imm (Syntax.tyInt Syntax.w8)) (Syntax.tcons (Syntax.tyInt Syntax.w64) Syntax.tnil))),
-    ) (List._∷_ (
-      10,
-      Rows'.sc-shr (Rows.arrF (Referent.rtF (Referent.fInt Syntax.w16)) 768 0) (Array'.Array (Referent.rtF (Referent.fInt Syntax.w16)) 768) (λ x. x) 6,
-    ) (List._∷_ (
-      11,
-      Rows.arrF (Referent.rtF
-          (Referent.fInt Syntax.w16)) 1 0,
-    ) (List._∷_ (12, Rows'.whole (Declared'.row Walked.the-type)) (List._∷_ (13, Rows'.any-gone (Syntax.tyArray (Syntax.tyInt Syntax.w16) 768)) (List._∷_ (
-      14,
-      Rows'.any-gone (Syntax.tyRef Syntax.erased Syntax.mut (Syntax.tyInt Syntax.w16)),
-    ) (List._∷_ (
-      15,
-      Rows'.any-gone (Syntax.tyStruct (List._∷_ 38 (List._∷_ 91 (List._∷_ 93 List.[]))) (Syntax.tcons
-          (Syntax.tyRef Syntax.erased Syntax.mut (Syntax.tyInt Syntax.w16)) (Syntax.tcons (Syntax.tyInt Syntax.w64) Syntax.tnil))),
-    ) List.[])))))))))))))))
+  Rows'.any-gone
+      (Syntax.tyStruct (List._∷_ 115 (List._∷_ 116 (List._∷_ 114 (List._∷_ 101 (List._∷_ 97 (List._∷_ 109 (List._∷_ 58 (List._∷_ 58 (List._∷_ 70 (List._∷_ 117 (List._∷_ 106 (List._∷_ 105 (List._∷_ 72
+      (List._∷_ 101 (List._∷_ 97 (List._∷_ 100 (List._∷_ 101 (List._∷_ 114 List.[])))))))))))))))))) (Syntax.tcons Syntax.tyBool (Syntax.tcons Syntax.tyBool (Syntax.tcons (Syntax.tyInt Syntax.w32)
+      (Syntax.tcons (Syntax.tyInt Syntax.w32) (Syntax.tcons (Syntax.tyInt Syntax.w32) (Syntax.tcons (Syntax.tyInt Syntax.w32) (Syntax.tcons (Syntax.tyInt Syntax.w32) (Syntax.tcons (Syntax.tyInt Syntax.w32)
+      (Syntax.tcons (Syntax.tyInt Syntax.w32) Syntax.tnil)))))))))),
+) (List._∷_ (3, Rows'.sc-here (Row.sInt Syntax.w64)) (List._∷_ (
+  4,
+  Mut.mslice (Referent.rtF (Referent.fInt Syntax.w16)) (Syntax.tyRef
+      (Syntax.named 1) Syntax.mut (Syntax.tyInt Syntax.w16)) 1,
+) (List._∷_ (5, Mut.mslice (Element.type) (Syntax.tyRef (Syntax.named 2) Syntax.mut Element.behind) 2) (List._∷_ (
+  6,
+  Rows'.whole
+      (Declared'.row Form.the-type),
+) (List._∷_ (7, Rows'.sc-here (Row.sInt Syntax.w64)) (List._∷_ (
+  8,
+  Rows'.sslice (Referent.rtF (Referent.fInt Syntax.w8)) (Syntax.tyRef Syntax.erased Syntax.imm
+      (Syntax.tyInt Syntax.w8)) 0,
+) (List._∷_ (
+  9,
+  Rows'.any-gone (Syntax.tyStruct (List._∷_ 38 (List._∷_ 91 (List._∷_ 93 List.[]))) (Syntax.tcons (Syntax.tyRef Syntax.erased Syntax.imm (Syntax.tyInt
+      Syntax.w8)) (Syntax.tcons (Syntax.tyInt Syntax.w64) Syntax.tnil))),
+) (List._∷_ (
+  10,
+  Rows'.sc-shr (Rows.arrF (Referent.rtF (Referent.fInt Syntax.w16)) 768 0) (Array'.Array (Referent.rtF
+      (Referent.fInt Syntax.w16)) 768) (λ x. x) 6,
+) (List._∷_ (11, Rows.arrF (Referent.rtF (Referent.fInt Syntax.w16)) 1 0) (List._∷_ (12, Rows'.whole (Declared'.row Walked.the-type)) (List._∷_ (
+  13,
+  Rows'.any-gone (Syntax.tyArray (Syntax.tyInt Syntax.w16) 768),
+) (List._∷_ (14, Rows'.any-gone (Syntax.tyRef Syntax.erased Syntax.mut (Syntax.tyInt Syntax.w16))) (List._∷_ (
+  15,
+  Rows'.any-gone
+      (Syntax.tyStruct (List._∷_ 38 (List._∷_ 91 (List._∷_ 93 List.[]))) (Syntax.tcons (Syntax.tyRef Syntax.erased Syntax.mut (Syntax.tyInt Syntax.w16)) (Syntax.tcons (Syntax.tyInt Syntax.w64)
+      Syntax.tnil))),
+) List.[])))))))))))))))
 
 abbrev pub t37 : List.List Row.Entry
 t37 = List._∷_ (
@@ -1761,42 +1840,45 @@ t37 = List._∷_ (
       (Syntax.ttcons Syntax.tnil (Syntax.ttcons Syntax.tnil (Syntax.ttcons (Syntax.tcons (Syntax.tyInt Syntax.w64) Syntax.tnil) (Syntax.ttcons Syntax.tnil (Syntax.ttcons Syntax.tnil (Syntax.ttcons
       Syntax.tnil (Syntax.ttcons Syntax.tnil (Syntax.ttcons Syntax.tnil (Syntax.ttcons Syntax.tnil (Syntax.ttcons (Syntax.tcons (Syntax.tyInt Syntax.w64) Syntax.tnil) (Syntax.ttcons (Syntax.tcons
       (Syntax.tyInt Syntax.w64) Syntax.tnil) (Syntax.ttcons Syntax.tnil (Syntax.ttcons (Syntax.tcons (Syntax.tyInt Syntax.w64) (Syntax.tcons (Syntax.tyInt Syntax.w64) Syntax.tnil)) (Syntax.ttcons
-      (Syntax.tcons (Syntax.tyInt Syntax.w64) Syntax.tnil) (Syntax.ttcons Syntax.tnil Syntax.ttnil))))))))))))))))) Syntax.tnil) Syntax.ttnil))),
-) (List._∷_ (
-  1,
-  Rows'.sslice (Referent.rtF (Referent.fInt
-      Syntax.w8)) (Syntax.tyRef (Syntax.named 0) Syntax.imm (Syntax.tyInt Syntax.w8)) 0,
-) (List._∷_ (
+      (Syntax.tcons (Syntax.tyInt Syntax.w64) Syntax.tnil) (Syntax.ttcons Syntax.tnil (Syntax.ttcons Syntax.tnil (Syntax.ttcons (Syntax.tcons (Syntax.tyInt Syntax.w64) Syntax.tnil) (Syntax.ttcons
+      (Syntax.tcons (Syntax.tyInt Syntax.w64) Syntax.tnil) (Syntax.ttcons (Syntax.tcons (Syntax.tyInt Syntax.w64) Syntax.tnil) (Syntax.ttcons Syntax.tnil Syntax.ttnil)))))))))))))))))))))) Syntax.tnil)
+      Syntax.ttnil))),
+) (List._∷_ (1, Rows'.sslice (Referent.rtF (Referent.fInt Syntax.w8)) (Syntax.tyRef (Syntax.named 0) Syntax.imm (Syntax.tyInt Syntax.w8)) 0) (List._∷_ (
   2,
-  Rows'.any-gone (Syntax.tyStruct (List._∷_ 115 (List._∷_ 116 (List._∷_ 114 (List._∷_ 101 (List._∷_ 97
-      (List._∷_ 109 (List._∷_ 58 (List._∷_ 58 (List._∷_ 70 (List._∷_ 117 (List._∷_ 106 (List._∷_ 105 (List._∷_ 72 (List._∷_ 101 (List._∷_ 97 (List._∷_ 100 (List._∷_ 101 (List._∷_ 114
-      List.[])))))))))))))))))) (Syntax.tcons Syntax.tyBool (Syntax.tcons Syntax.tyBool (Syntax.tcons (Syntax.tyInt Syntax.w32) (Syntax.tcons (Syntax.tyInt Syntax.w32) (Syntax.tcons (Syntax.tyInt
-      Syntax.w32) (Syntax.tcons (Syntax.tyInt Syntax.w32) (Syntax.tcons (Syntax.tyInt Syntax.w32) (Syntax.tcons (Syntax.tyInt Syntax.w32) (Syntax.tcons (Syntax.tyInt Syntax.w32) Syntax.tnil)))))))))),
-)
-    (List._∷_ (3, Rows'.sc-here (Row.sInt Syntax.w64)) (List._∷_ (4, Mut.mslice (Referent.rtF (Referent.fInt Syntax.w16)) (Syntax.tyRef (Syntax.named 1) Syntax.mut (Syntax.tyInt Syntax.w16)) 1)
-    (List._∷_ (5, Mut.mslice (Element.type) (Syntax.tyRef (Syntax.named 2) Syntax.mut Element.behind) 2) (List._∷_ (6, Rows'.whole (Declared'.row Form.the-type)) (List._∷_ (
-      7,
-      Rows'.sc-here (Row.sInt
-          Syntax.w64),
-    ) (List._∷_ (8, Rows'.sslice (Referent.rtF (Referent.fInt Syntax.w8)) (Syntax.tyRef Syntax.erased Syntax.imm (Syntax.tyInt Syntax.w8)) 0) (List._∷_ (
-      9,
-      Rows'.any-gone (Syntax.tyStruct
-          (List._∷_ 38 (List._∷_ 91 (List._∷_ 93 List.[]))) (Syntax.tcons (Syntax.tyRef Syntax.erased Syntax.imm (Syntax.tyInt Syntax.w8)) (Syntax.tcons (Syntax.tyInt Syntax.w64) Syntax.tnil))),
-    ) (List._∷_ (
-      10,
-      Rows'.sc-shr (Rows.arrF (Referent.rtF (Referent.fInt Syntax.w16)) 768 0) (Array'.Array (Referent.rtF (Referent.fInt Syntax.w16)) 768) (λ x. x) 6,
-    ) (List._∷_ (
-      11,
-      Rows'.any-gone (Syntax.tyArray
-          (Syntax.tyInt Syntax.w16) 1),
-    ) (List._∷_ (12, Rows'.whole (Declared'.row Walked.the-type)) (List._∷_ (13, Rows'.any-gone (Syntax.tyArray (Syntax.tyInt Syntax.w16) 768)) (List._∷_ (
-      14,
-      Rows'.any-gone (Syntax.tyRef Syntax.erased Syntax.mut (Syntax.tyInt Syntax.w16)),
-    ) (List._∷_ (
-      15,
-      Rows'.any-gone (Syntax.tyStruct (List._∷_ 38 (List._∷_ 91 (List._∷_ 93 List.[]))) (Syntax.tcons
-          (Syntax.tyRef Syntax.erased Syntax.mut (Syntax.tyInt Syntax.w16)) (Syntax.tcons (Syntax.tyInt Syntax.w64) Syntax.tnil))),
-    ) List.[])))))))))))))))
+  Rows'.any-gone
+      (Syntax.tyStruct (List._∷_ 115 (List._∷_ 116 (List._∷_ 114 (List._∷_ 101 (List._∷_ 97 (List._∷_ 109 (List._∷_ 58 (List._∷_ 58 (List._∷_ 70 (List._∷_ 117 (List._∷_ 106 (List._∷_ 105 (List._∷_ 72
+      (List._∷_ 101 (List._∷_ 97 (List._∷_ 100 (List._∷_ 101 (List._∷_ 114 List.[])))))))))))))))))) (Syntax.tcons Syntax.tyBool (Syntax.tcons Syntax.tyBool (Syntax.tcons (Syntax.tyInt Syntax.w32)
+      (Syntax.tcons (Syntax.tyInt Syntax.w32) (Syntax.tcons (Syntax.tyInt Syntax.w32) (Syntax.tcons (Syntax.tyInt Syntax.w32) (Syntax.tcons (Syntax.tyInt Syntax.w32) (Syntax.tcons (Syntax.tyInt Syntax.w32)
+      (Syntax.tcons (Syntax.tyInt Syntax.w32) Syntax.tnil)))))))))),
+) (List._∷_ (3, Rows'.sc-here (Row.sInt Syntax.w64)) (List._∷_ (
+  4,
+  Mut.mslice (Referent.rtF (Referent.fInt Syntax.w16)) (Syntax.tyRef
+      (Syntax.named 1) Syntax.mut (Syntax.tyInt Syntax.w16)) 1,
+) (List._∷_ (5, Mut.mslice (Element.type) (Syntax.tyRef (Syntax.named 2) Syntax.mut Element.behind) 2) (List._∷_ (
+  6,
+  Rows'.whole
+      (Declared'.row Form.the-type),
+) (List._∷_ (7, Rows'.sc-here (Row.sInt Syntax.w64)) (List._∷_ (
+  8,
+  Rows'.sslice (Referent.rtF (Referent.fInt Syntax.w8)) (Syntax.tyRef Syntax.erased Syntax.imm
+      (Syntax.tyInt Syntax.w8)) 0,
+) (List._∷_ (
+  9,
+  Rows'.any-gone (Syntax.tyStruct (List._∷_ 38 (List._∷_ 91 (List._∷_ 93 List.[]))) (Syntax.tcons (Syntax.tyRef Syntax.erased Syntax.imm (Syntax.tyInt
+      Syntax.w8)) (Syntax.tcons (Syntax.tyInt Syntax.w64) Syntax.tnil))),
+) (List._∷_ (
+  10,
+  Rows'.sc-shr (Rows.arrF (Referent.rtF (Referent.fInt Syntax.w16)) 768 0) (Array'.Array (Referent.rtF
+      (Referent.fInt Syntax.w16)) 768) (λ x. x) 6,
+) (List._∷_ (11, Rows'.any-gone (Syntax.tyArray (Syntax.tyInt Syntax.w16) 1)) (List._∷_ (12, Rows'.whole (Declared'.row Walked.the-type)) (List._∷_ (
+  13,
+  Rows'.any-gone (Syntax.tyArray (Syntax.tyInt Syntax.w16) 768),
+) (List._∷_ (14, Rows'.any-gone (Syntax.tyRef Syntax.erased Syntax.mut (Syntax.tyInt Syntax.w16))) (List._∷_ (
+  15,
+  Rows'.any-gone
+      (Syntax.tyStruct (List._∷_ 38 (List._∷_ 91 (List._∷_ 93 List.[]))) (Syntax.tcons (Syntax.tyRef Syntax.erased Syntax.mut (Syntax.tyInt Syntax.w16)) (Syntax.tcons (Syntax.tyInt Syntax.w64)
+      Syntax.tnil))),
+) List.[])))))))))))))))
 
 abbrev pub t38 : List.List Row.Entry
 t38 = List._∷_ (
@@ -1807,38 +1889,44 @@ t38 = List._∷_ (
       (Syntax.ttcons Syntax.tnil (Syntax.ttcons Syntax.tnil (Syntax.ttcons (Syntax.tcons (Syntax.tyInt Syntax.w64) Syntax.tnil) (Syntax.ttcons Syntax.tnil (Syntax.ttcons Syntax.tnil (Syntax.ttcons
       Syntax.tnil (Syntax.ttcons Syntax.tnil (Syntax.ttcons Syntax.tnil (Syntax.ttcons Syntax.tnil (Syntax.ttcons (Syntax.tcons (Syntax.tyInt Syntax.w64) Syntax.tnil) (Syntax.ttcons (Syntax.tcons
       (Syntax.tyInt Syntax.w64) Syntax.tnil) (Syntax.ttcons Syntax.tnil (Syntax.ttcons (Syntax.tcons (Syntax.tyInt Syntax.w64) (Syntax.tcons (Syntax.tyInt Syntax.w64) Syntax.tnil)) (Syntax.ttcons
-      (Syntax.tcons (Syntax.tyInt Syntax.w64) Syntax.tnil) (Syntax.ttcons Syntax.tnil Syntax.ttnil))))))))))))))))) Syntax.tnil) Syntax.ttnil))),
-) (List._∷_ (
-  1,
-  Rows'.sslice (Referent.rtF (Referent.fInt
-      Syntax.w8)) (Syntax.tyRef (Syntax.named 0) Syntax.imm (Syntax.tyInt Syntax.w8)) 0,
-) (List._∷_ (
+      (Syntax.tcons (Syntax.tyInt Syntax.w64) Syntax.tnil) (Syntax.ttcons Syntax.tnil (Syntax.ttcons Syntax.tnil (Syntax.ttcons (Syntax.tcons (Syntax.tyInt Syntax.w64) Syntax.tnil) (Syntax.ttcons
+      (Syntax.tcons (Syntax.tyInt Syntax.w64) Syntax.tnil) (Syntax.ttcons (Syntax.tcons (Syntax.tyInt Syntax.w64) Syntax.tnil) (Syntax.ttcons Syntax.tnil Syntax.ttnil)))))))))))))))))))))) Syntax.tnil)
+      Syntax.ttnil))),
+) (List._∷_ (1, Rows'.sslice (Referent.rtF (Referent.fInt Syntax.w8)) (Syntax.tyRef (Syntax.named 0) Syntax.imm (Syntax.tyInt Syntax.w8)) 0) (List._∷_ (
   2,
-  Rows'.any-gone (Syntax.tyStruct (List._∷_ 115 (List._∷_ 116 (List._∷_ 114 (List._∷_ 101 (List._∷_ 97
-      (List._∷_ 109 (List._∷_ 58 (List._∷_ 58 (List._∷_ 70 (List._∷_ 117 (List._∷_ 106 (List._∷_ 105 (List._∷_ 72 (List._∷_ 101 (List._∷_ 97 (List._∷_ 100 (List._∷_ 101 (List._∷_ 114
-      List.[])))))))))))))))))) (Syntax.tcons Syntax.tyBool (Syntax.tcons Syntax.tyBool (Syntax.tcons (Syntax.tyInt Syntax.w32) (Syntax.tcons (Syntax.tyInt Syntax.w32) (Syntax.tcons (Syntax.tyInt
-      Syntax.w32) (Syntax.tcons (Syntax.tyInt Syntax.w32) (Syntax.tcons (Syntax.tyInt Syntax.w32) (Syntax.tcons (Syntax.tyInt Syntax.w32) (Syntax.tcons (Syntax.tyInt Syntax.w32) Syntax.tnil)))))))))),
-)
-    (List._∷_ (3, Rows'.sc-here (Row.sInt Syntax.w64)) (List._∷_ (4, Mut.mslice (Referent.rtF (Referent.fInt Syntax.w16)) (Syntax.tyRef (Syntax.named 1) Syntax.mut (Syntax.tyInt Syntax.w16)) 1)
-    (List._∷_ (5, Mut.mslice (Element.type) (Syntax.tyRef (Syntax.named 2) Syntax.mut Element.behind) 2) (List._∷_ (6, Rows'.whole (Declared'.row Form.the-type)) (List._∷_ (
-      7,
-      Rows'.sc-here (Row.sInt
-          Syntax.w64),
-    ) (List._∷_ (8, Rows'.sslice (Referent.rtF (Referent.fInt Syntax.w8)) (Syntax.tyRef Syntax.erased Syntax.imm (Syntax.tyInt Syntax.w8)) 0) (List._∷_ (
-      9,
-      Rows'.any-gone (Syntax.tyStruct
-          (List._∷_ 38 (List._∷_ 91 (List._∷_ 93 List.[]))) (Syntax.tcons (Syntax.tyRef Syntax.erased Syntax.imm (Syntax.tyInt Syntax.w8)) (Syntax.tcons (Syntax.tyInt Syntax.w64) Syntax.tnil))),
-    ) (List._∷_
-    (10, Rows.arrF (Referent.rtF (Referent.fInt Syntax.w16)) 768 0) (List._∷_ (11, Rows'.any-gone (Syntax.tyArray (Syntax.tyInt Syntax.w16) 1)) (List._∷_ (
-      12,
-      Rows'.whole (Declared'.row
-          Walked.the-type),
-    ) (List._∷_ (13, Rows'.any-gone (Syntax.tyArray (Syntax.tyInt Syntax.w16) 768)) (List._∷_ (14, Rows'.any-gone (Syntax.tyRef Syntax.erased Syntax.mut (Syntax.tyInt Syntax.w16)))
-    (List._∷_ (
-      15,
-      Rows'.any-gone (Syntax.tyStruct (List._∷_ 38 (List._∷_ 91 (List._∷_ 93 List.[]))) (Syntax.tcons (Syntax.tyRef Syntax.erased Syntax.mut (Syntax.tyInt Syntax.w16)) (Syntax.tcons
-          (Syntax.tyInt Syntax.w64) Syntax.tnil))),
-    ) List.[])))))))))))))))
+  Rows'.any-gone
+      (Syntax.tyStruct (List._∷_ 115 (List._∷_ 116 (List._∷_ 114 (List._∷_ 101 (List._∷_ 97 (List._∷_ 109 (List._∷_ 58 (List._∷_ 58 (List._∷_ 70 (List._∷_ 117 (List._∷_ 106 (List._∷_ 105 (List._∷_ 72
+      (List._∷_ 101 (List._∷_ 97 (List._∷_ 100 (List._∷_ 101 (List._∷_ 114 List.[])))))))))))))))))) (Syntax.tcons Syntax.tyBool (Syntax.tcons Syntax.tyBool (Syntax.tcons (Syntax.tyInt Syntax.w32)
+      (Syntax.tcons (Syntax.tyInt Syntax.w32) (Syntax.tcons (Syntax.tyInt Syntax.w32) (Syntax.tcons (Syntax.tyInt Syntax.w32) (Syntax.tcons (Syntax.tyInt Syntax.w32) (Syntax.tcons (Syntax.tyInt Syntax.w32)
+      (Syntax.tcons (Syntax.tyInt Syntax.w32) Syntax.tnil)))))))))),
+) (List._∷_ (3, Rows'.sc-here (Row.sInt Syntax.w64)) (List._∷_ (
+  4,
+  Mut.mslice (Referent.rtF (Referent.fInt Syntax.w16)) (Syntax.tyRef
+      (Syntax.named 1) Syntax.mut (Syntax.tyInt Syntax.w16)) 1,
+) (List._∷_ (5, Mut.mslice (Element.type) (Syntax.tyRef (Syntax.named 2) Syntax.mut Element.behind) 2) (List._∷_ (
+  6,
+  Rows'.whole
+      (Declared'.row Form.the-type),
+) (List._∷_ (7, Rows'.sc-here (Row.sInt Syntax.w64)) (List._∷_ (
+  8,
+  Rows'.sslice (Referent.rtF (Referent.fInt Syntax.w8)) (Syntax.tyRef Syntax.erased Syntax.imm
+      (Syntax.tyInt Syntax.w8)) 0,
+) (List._∷_ (
+  9,
+  Rows'.any-gone (Syntax.tyStruct (List._∷_ 38 (List._∷_ 91 (List._∷_ 93 List.[]))) (Syntax.tcons (Syntax.tyRef Syntax.erased Syntax.imm (Syntax.tyInt
+      Syntax.w8)) (Syntax.tcons (Syntax.tyInt Syntax.w64) Syntax.tnil))),
+) (List._∷_ (10, Rows.arrF (Referent.rtF (Referent.fInt Syntax.w16)) 768 0) (List._∷_ (
+  11,
+  Rows'.any-gone (Syntax.tyArray
+      (Syntax.tyInt Syntax.w16) 1),
+) (List._∷_ (12, Rows'.whole (Declared'.row Walked.the-type)) (List._∷_ (13, Rows'.any-gone (Syntax.tyArray (Syntax.tyInt Syntax.w16) 768)) (List._∷_ (
+  14,
+  Rows'.any-gone (Syntax.tyRef Syntax.erased Syntax.mut (Syntax.tyInt Syntax.w16)),
+) (List._∷_ (
+  15,
+  Rows'.any-gone (Syntax.tyStruct (List._∷_ 38 (List._∷_ 91 (List._∷_ 93 List.[]))) (Syntax.tcons
+      (Syntax.tyRef Syntax.erased Syntax.mut (Syntax.tyInt Syntax.w16)) (Syntax.tcons (Syntax.tyInt Syntax.w64) Syntax.tnil))),
+) List.[])))))))))))))))
 
 abbrev pub t39 : List.List Row.Entry
 t39 = List._∷_ (
@@ -1849,38 +1937,44 @@ t39 = List._∷_ (
       (Syntax.ttcons Syntax.tnil (Syntax.ttcons Syntax.tnil (Syntax.ttcons (Syntax.tcons (Syntax.tyInt Syntax.w64) Syntax.tnil) (Syntax.ttcons Syntax.tnil (Syntax.ttcons Syntax.tnil (Syntax.ttcons
       Syntax.tnil (Syntax.ttcons Syntax.tnil (Syntax.ttcons Syntax.tnil (Syntax.ttcons Syntax.tnil (Syntax.ttcons (Syntax.tcons (Syntax.tyInt Syntax.w64) Syntax.tnil) (Syntax.ttcons (Syntax.tcons
       (Syntax.tyInt Syntax.w64) Syntax.tnil) (Syntax.ttcons Syntax.tnil (Syntax.ttcons (Syntax.tcons (Syntax.tyInt Syntax.w64) (Syntax.tcons (Syntax.tyInt Syntax.w64) Syntax.tnil)) (Syntax.ttcons
-      (Syntax.tcons (Syntax.tyInt Syntax.w64) Syntax.tnil) (Syntax.ttcons Syntax.tnil Syntax.ttnil))))))))))))))))) Syntax.tnil) Syntax.ttnil))),
-) (List._∷_ (
-  1,
-  Rows'.sslice (Referent.rtF (Referent.fInt
-      Syntax.w8)) (Syntax.tyRef (Syntax.named 0) Syntax.imm (Syntax.tyInt Syntax.w8)) 0,
-) (List._∷_ (
+      (Syntax.tcons (Syntax.tyInt Syntax.w64) Syntax.tnil) (Syntax.ttcons Syntax.tnil (Syntax.ttcons Syntax.tnil (Syntax.ttcons (Syntax.tcons (Syntax.tyInt Syntax.w64) Syntax.tnil) (Syntax.ttcons
+      (Syntax.tcons (Syntax.tyInt Syntax.w64) Syntax.tnil) (Syntax.ttcons (Syntax.tcons (Syntax.tyInt Syntax.w64) Syntax.tnil) (Syntax.ttcons Syntax.tnil Syntax.ttnil)))))))))))))))))))))) Syntax.tnil)
+      Syntax.ttnil))),
+) (List._∷_ (1, Rows'.sslice (Referent.rtF (Referent.fInt Syntax.w8)) (Syntax.tyRef (Syntax.named 0) Syntax.imm (Syntax.tyInt Syntax.w8)) 0) (List._∷_ (
   2,
-  Rows'.any-gone (Syntax.tyStruct (List._∷_ 115 (List._∷_ 116 (List._∷_ 114 (List._∷_ 101 (List._∷_ 97
-      (List._∷_ 109 (List._∷_ 58 (List._∷_ 58 (List._∷_ 70 (List._∷_ 117 (List._∷_ 106 (List._∷_ 105 (List._∷_ 72 (List._∷_ 101 (List._∷_ 97 (List._∷_ 100 (List._∷_ 101 (List._∷_ 114
-      List.[])))))))))))))))))) (Syntax.tcons Syntax.tyBool (Syntax.tcons Syntax.tyBool (Syntax.tcons (Syntax.tyInt Syntax.w32) (Syntax.tcons (Syntax.tyInt Syntax.w32) (Syntax.tcons (Syntax.tyInt
-      Syntax.w32) (Syntax.tcons (Syntax.tyInt Syntax.w32) (Syntax.tcons (Syntax.tyInt Syntax.w32) (Syntax.tcons (Syntax.tyInt Syntax.w32) (Syntax.tcons (Syntax.tyInt Syntax.w32) Syntax.tnil)))))))))),
-)
-    (List._∷_ (3, Rows'.sc-here (Row.sInt Syntax.w64)) (List._∷_ (4, Mut.mslice (Referent.rtF (Referent.fInt Syntax.w16)) (Syntax.tyRef (Syntax.named 1) Syntax.mut (Syntax.tyInt Syntax.w16)) 1)
-    (List._∷_ (5, Mut.mslice (Element.type) (Syntax.tyRef (Syntax.named 2) Syntax.mut Element.behind) 2) (List._∷_ (6, Rows'.whole (Declared'.row Form.the-type)) (List._∷_ (
-      7,
-      Rows'.sc-here (Row.sInt
-          Syntax.w64),
-    ) (List._∷_ (8, Rows'.sslice (Referent.rtF (Referent.fInt Syntax.w8)) (Syntax.tyRef Syntax.erased Syntax.imm (Syntax.tyInt Syntax.w8)) 0) (List._∷_ (
-      9,
-      Rows'.any-gone (Syntax.tyStruct
-          (List._∷_ 38 (List._∷_ 91 (List._∷_ 93 List.[]))) (Syntax.tcons (Syntax.tyRef Syntax.erased Syntax.imm (Syntax.tyInt Syntax.w8)) (Syntax.tcons (Syntax.tyInt Syntax.w64) Syntax.tnil))),
-    ) (List._∷_
-    (10, Rows'.any-gone (Syntax.tyArray (Syntax.tyInt Syntax.w16) 768)) (List._∷_ (11, Rows'.any-gone (Syntax.tyArray (Syntax.tyInt Syntax.w16) 1)) (List._∷_ (
-      12,
-      Rows'.whole (Declared'.row
-          Walked.the-type),
-    ) (List._∷_ (13, Rows'.any-gone (Syntax.tyArray (Syntax.tyInt Syntax.w16) 768)) (List._∷_ (14, Rows'.any-gone (Syntax.tyRef Syntax.erased Syntax.mut (Syntax.tyInt Syntax.w16)))
-    (List._∷_ (
-      15,
-      Rows'.any-gone (Syntax.tyStruct (List._∷_ 38 (List._∷_ 91 (List._∷_ 93 List.[]))) (Syntax.tcons (Syntax.tyRef Syntax.erased Syntax.mut (Syntax.tyInt Syntax.w16)) (Syntax.tcons
-          (Syntax.tyInt Syntax.w64) Syntax.tnil))),
-    ) List.[])))))))))))))))
+  Rows'.any-gone
+      (Syntax.tyStruct (List._∷_ 115 (List._∷_ 116 (List._∷_ 114 (List._∷_ 101 (List._∷_ 97 (List._∷_ 109 (List._∷_ 58 (List._∷_ 58 (List._∷_ 70 (List._∷_ 117 (List._∷_ 106 (List._∷_ 105 (List._∷_ 72
+      (List._∷_ 101 (List._∷_ 97 (List._∷_ 100 (List._∷_ 101 (List._∷_ 114 List.[])))))))))))))))))) (Syntax.tcons Syntax.tyBool (Syntax.tcons Syntax.tyBool (Syntax.tcons (Syntax.tyInt Syntax.w32)
+      (Syntax.tcons (Syntax.tyInt Syntax.w32) (Syntax.tcons (Syntax.tyInt Syntax.w32) (Syntax.tcons (Syntax.tyInt Syntax.w32) (Syntax.tcons (Syntax.tyInt Syntax.w32) (Syntax.tcons (Syntax.tyInt Syntax.w32)
+      (Syntax.tcons (Syntax.tyInt Syntax.w32) Syntax.tnil)))))))))),
+) (List._∷_ (3, Rows'.sc-here (Row.sInt Syntax.w64)) (List._∷_ (
+  4,
+  Mut.mslice (Referent.rtF (Referent.fInt Syntax.w16)) (Syntax.tyRef
+      (Syntax.named 1) Syntax.mut (Syntax.tyInt Syntax.w16)) 1,
+) (List._∷_ (5, Mut.mslice (Element.type) (Syntax.tyRef (Syntax.named 2) Syntax.mut Element.behind) 2) (List._∷_ (
+  6,
+  Rows'.whole
+      (Declared'.row Form.the-type),
+) (List._∷_ (7, Rows'.sc-here (Row.sInt Syntax.w64)) (List._∷_ (
+  8,
+  Rows'.sslice (Referent.rtF (Referent.fInt Syntax.w8)) (Syntax.tyRef Syntax.erased Syntax.imm
+      (Syntax.tyInt Syntax.w8)) 0,
+) (List._∷_ (
+  9,
+  Rows'.any-gone (Syntax.tyStruct (List._∷_ 38 (List._∷_ 91 (List._∷_ 93 List.[]))) (Syntax.tcons (Syntax.tyRef Syntax.erased Syntax.imm (Syntax.tyInt
+      Syntax.w8)) (Syntax.tcons (Syntax.tyInt Syntax.w64) Syntax.tnil))),
+) (List._∷_ (10, Rows'.any-gone (Syntax.tyArray (Syntax.tyInt Syntax.w16) 768)) (List._∷_ (
+  11,
+  Rows'.any-gone (Syntax.tyArray
+      (Syntax.tyInt Syntax.w16) 1),
+) (List._∷_ (12, Rows'.whole (Declared'.row Walked.the-type)) (List._∷_ (13, Rows'.any-gone (Syntax.tyArray (Syntax.tyInt Syntax.w16) 768)) (List._∷_ (
+  14,
+  Rows'.any-gone (Syntax.tyRef Syntax.erased Syntax.mut (Syntax.tyInt Syntax.w16)),
+) (List._∷_ (
+  15,
+  Rows'.any-gone (Syntax.tyStruct (List._∷_ 38 (List._∷_ 91 (List._∷_ 93 List.[]))) (Syntax.tcons
+      (Syntax.tyRef Syntax.erased Syntax.mut (Syntax.tyInt Syntax.w16)) (Syntax.tcons (Syntax.tyInt Syntax.w64) Syntax.tnil))),
+) List.[])))))))))))))))
 
 abbrev pub t40 : List.List Row.Entry
 t40 = List._∷_ (0, Rows'.whole (Declared.row Decoded.the-type)) (List._∷_ (
@@ -2406,7 +2500,8 @@ module _ (claims· : Claims) where
       (Syntax.ttcons (Syntax.tcons (Syntax.tyInt Syntax.w64) Syntax.tnil) (Syntax.ttcons Syntax.tnil (Syntax.ttcons Syntax.tnil (Syntax.ttcons Syntax.tnil (Syntax.ttcons Syntax.tnil (Syntax.ttcons
       Syntax.tnil (Syntax.ttcons Syntax.tnil (Syntax.ttcons (Syntax.tcons (Syntax.tyInt Syntax.w64) Syntax.tnil) (Syntax.ttcons (Syntax.tcons (Syntax.tyInt Syntax.w64) Syntax.tnil) (Syntax.ttcons
       Syntax.tnil (Syntax.ttcons (Syntax.tcons (Syntax.tyInt Syntax.w64) (Syntax.tcons (Syntax.tyInt Syntax.w64) Syntax.tnil)) (Syntax.ttcons (Syntax.tcons (Syntax.tyInt Syntax.w64) Syntax.tnil)
-      (Syntax.ttcons Syntax.tnil Syntax.ttnil))))))))))))))))) Syntax.tnil) Syntax.ttnil)))
+      (Syntax.ttcons Syntax.tnil (Syntax.ttcons Syntax.tnil (Syntax.ttcons (Syntax.tcons (Syntax.tyInt Syntax.w64) Syntax.tnil) (Syntax.ttcons (Syntax.tcons (Syntax.tyInt Syntax.w64) Syntax.tnil)
+      (Syntax.ttcons (Syntax.tcons (Syntax.tyInt Syntax.w64) Syntax.tnil) (Syntax.ttcons Syntax.tnil Syntax.ttnil)))))))))))))))))))))) Syntax.tnil) Syntax.ttnil)))
 
   abbrev s48 : (bs : List.List Nat.ℕ) → Typed.Mo T49 → Typed.Mo T50
   s48 = λ bs. Scalar.n-room T49 8 (Syntax.tyStruct (List._∷_ 38 (List._∷_ 91 (List._∷_ 93 List.[]))) (Syntax.tcons (Syntax.tyRef Syntax.erased Syntax.imm (Syntax.tyInt Syntax.w8)) (Syntax.tcons
@@ -2619,55 +2714,48 @@ module _ (claims· : Claims) where
               (Syntax.ttcons Syntax.tnil (Syntax.ttcons Syntax.tnil (Syntax.ttcons Syntax.tnil (Syntax.ttcons (Syntax.tcons (Syntax.tyInt Syntax.w64) Syntax.tnil) (Syntax.ttcons Syntax.tnil (Syntax.ttcons
               Syntax.tnil (Syntax.ttcons Syntax.tnil (Syntax.ttcons Syntax.tnil (Syntax.ttcons Syntax.tnil (Syntax.ttcons Syntax.tnil (Syntax.ttcons (Syntax.tcons (Syntax.tyInt Syntax.w64) Syntax.tnil)
               (Syntax.ttcons (Syntax.tcons (Syntax.tyInt Syntax.w64) Syntax.tnil) (Syntax.ttcons Syntax.tnil (Syntax.ttcons (Syntax.tcons (Syntax.tyInt Syntax.w64) (Syntax.tcons (Syntax.tyInt Syntax.w64)
-              Syntax.tnil)) (Syntax.ttcons (Syntax.tcons (Syntax.tyInt Syntax.w64) Syntax.tnil) (Syntax.ttcons Syntax.tnil Syntax.ttnil))))))))))))))))) Syntax.tnil) Syntax.ttnil))),
+              Syntax.tnil)) (Syntax.ttcons (Syntax.tcons (Syntax.tyInt Syntax.w64) Syntax.tnil) (Syntax.ttcons Syntax.tnil (Syntax.ttcons Syntax.tnil (Syntax.ttcons (Syntax.tcons (Syntax.tyInt Syntax.w64)
+              Syntax.tnil) (Syntax.ttcons (Syntax.tcons (Syntax.tyInt Syntax.w64) Syntax.tnil) (Syntax.ttcons (Syntax.tcons (Syntax.tyInt Syntax.w64) Syntax.tnil) (Syntax.ttcons Syntax.tnil
+              Syntax.ttnil)))))))))))))))))))))) Syntax.tnil) Syntax.ttnil))),
         ) (List._∷_ (
           1,
-          Rows'.sslice (Referent.rtF (Referent.fInt Syntax.w8)) (Syntax.tyRef (Syntax.named 0) Syntax.imm (Syntax.tyInt Syntax.w8)) 0,
+          Rows'.sslice (Referent.rtF (Referent.fInt Syntax.w8)) (Syntax.tyRef (Syntax.named 0) Syntax.imm (Syntax.tyInt
+              Syntax.w8)) 0,
         ) (List._∷_ (
           2,
-          Rows'.any-gone (Syntax.tyStruct (List._∷_ 115
-              (List._∷_ 116 (List._∷_ 114 (List._∷_ 101 (List._∷_ 97 (List._∷_ 109 (List._∷_ 58 (List._∷_ 58 (List._∷_ 70 (List._∷_ 117 (List._∷_ 106 (List._∷_ 105 (List._∷_ 72 (List._∷_ 101 (List._∷_ 97
-              (List._∷_ 100 (List._∷_ 101 (List._∷_ 114 List.[])))))))))))))))))) (Syntax.tcons Syntax.tyBool (Syntax.tcons Syntax.tyBool (Syntax.tcons (Syntax.tyInt Syntax.w32) (Syntax.tcons (Syntax.tyInt
-              Syntax.w32) (Syntax.tcons (Syntax.tyInt Syntax.w32) (Syntax.tcons (Syntax.tyInt Syntax.w32) (Syntax.tcons (Syntax.tyInt Syntax.w32) (Syntax.tcons (Syntax.tyInt Syntax.w32) (Syntax.tcons
-              (Syntax.tyInt Syntax.w32) Syntax.tnil)))))))))),
-        ) (List._∷_ (3, Rows'.sc-here (Row.sInt Syntax.w64)) (List._∷_ (
-          4,
-          Relend.mslice-owed (Referent.rtF (Referent.fInt Syntax.w16)) (Syntax.tyRef
-              (Syntax.named 1) Syntax.mut (Syntax.tyInt Syntax.w16)) 1 3 (Row.lease (κs .1 .0) (qs .1 .0)),
-        ) (List._∷_ (
-          5,
-          Mut.mslice (Element.type) (Syntax.tyRef (Syntax.named 2) Syntax.mut
-              Element.behind) 2,
-        ) (List._∷_ (6, Rows'.whole (Declared'.row (Apart.apartT Form.the-type))) (List._∷_ (7, Rows'.sc-here (Row.sInt Syntax.w64)) (List._∷_ (
-          8,
-          Rows'.sslice (Referent.rtF
-              (Referent.fInt Syntax.w8)) (Syntax.tyRef Syntax.erased Syntax.imm (Syntax.tyInt Syntax.w8)) 0,
-        ) (List._∷_ (
-          9,
-          Rows'.sslice (Referent.rtF (Referent.fInt Syntax.w8)) (Syntax.tyRef
-              Syntax.erased Syntax.imm (Syntax.tyInt Syntax.w8)) 0,
-        ) (List._∷_ (10, Rows.arrF (Referent.rtF (Referent.fInt Syntax.w16)) 768 0) (List._∷_ (
-          11,
-          Rows.arrF (Referent.rtF (Referent.fInt
-              Syntax.w16)) 1 0,
-        ) (List._∷_ (
-          12,
-          Rows'.any-gone (Syntax.tyStruct (List._∷_ 98 (List._∷_ 108 (List._∷_ 111 (List._∷_ 99 (List._∷_ 107 (List._∷_ 58 (List._∷_ 58 (List._∷_ 87 (List._∷_ 97
-              (List._∷_ 108 (List._∷_ 107 (List._∷_ 101 (List._∷_ 100 List.[]))))))))))))) (Syntax.tcons Syntax.tyBool (Syntax.tcons (Syntax.tyInt Syntax.w64) (Syntax.tcons (Syntax.tyStruct (List._∷_ 98
-              (List._∷_ 105 (List._∷_ 116 (List._∷_ 115 (List._∷_ 58 (List._∷_ 58 (List._∷_ 66 (List._∷_ 105 (List._∷_ 116 (List._∷_ 80 (List._∷_ 111 (List._∷_ 115 (List._∷_ 105 (List._∷_ 116 (List._∷_ 105
-              (List._∷_ 111 (List._∷_ 110 List.[]))))))))))))))))) (Syntax.tcons (Syntax.tyInt Syntax.w64) Syntax.tnil)) (Syntax.tcons (Syntax.tyInt Syntax.w64) Syntax.tnil))))),
-        ) (List._∷_ (
-          13,
-          Rows'.any-gone (Syntax.tyArray (Syntax.tyInt Syntax.w16) 768),
-        ) (List._∷_ (
-          14,
-          Relend.msptr (Referent.rtF (Referent.fInt Syntax.w16)) (Syntax.tyRef Syntax.erased Syntax.mut (Syntax.tyInt
-              Syntax.w16)) 3,
-        ) (List._∷_ (
-          15,
-          Rows'.any-gone (Syntax.tyStruct (List._∷_ 38 (List._∷_ 91 (List._∷_ 93 List.[]))) (Syntax.tcons (Syntax.tyRef Syntax.erased Syntax.mut (Syntax.tyInt
-              Syntax.w16)) (Syntax.tcons (Syntax.tyInt Syntax.w64) Syntax.tnil))),
-        ) List.[])))))))))))))))
+          Rows'.any-gone (Syntax.tyStruct (List._∷_ 115 (List._∷_ 116 (List._∷_ 114 (List._∷_ 101 (List._∷_ 97 (List._∷_ 109 (List._∷_ 58 (List._∷_ 58 (List._∷_ 70
+              (List._∷_ 117 (List._∷_ 106 (List._∷_ 105 (List._∷_ 72 (List._∷_ 101 (List._∷_ 97 (List._∷_ 100 (List._∷_ 101 (List._∷_ 114 List.[])))))))))))))))))) (Syntax.tcons Syntax.tyBool (Syntax.tcons
+              Syntax.tyBool (Syntax.tcons (Syntax.tyInt Syntax.w32) (Syntax.tcons (Syntax.tyInt Syntax.w32) (Syntax.tcons (Syntax.tyInt Syntax.w32) (Syntax.tcons (Syntax.tyInt Syntax.w32) (Syntax.tcons
+              (Syntax.tyInt Syntax.w32) (Syntax.tcons (Syntax.tyInt Syntax.w32) (Syntax.tcons (Syntax.tyInt Syntax.w32) Syntax.tnil)))))))))),
+        ) (List._∷_ (3, Rows'.sc-here (Row.sInt Syntax.w64)) (List._∷_
+            (4, Relend.mslice-owed (Referent.rtF (Referent.fInt Syntax.w16)) (Syntax.tyRef (Syntax.named 1) Syntax.mut (Syntax.tyInt Syntax.w16)) 1 3 (Row.lease (κs .1 .0) (qs .1 .0))) (List._∷_ (
+              5,
+              Mut.mslice (Element.type) (Syntax.tyRef (Syntax.named 2) Syntax.mut Element.behind) 2,
+            ) (List._∷_ (6, Rows'.whole (Declared'.row (Apart.apartT Form.the-type))) (List._∷_ (
+              7,
+              Rows'.sc-here
+                  (Row.sInt Syntax.w64),
+            ) (List._∷_ (8, Rows'.sslice (Referent.rtF (Referent.fInt Syntax.w8)) (Syntax.tyRef Syntax.erased Syntax.imm (Syntax.tyInt Syntax.w8)) 0) (List._∷_ (
+              9,
+              Rows'.sslice
+                  (Referent.rtF (Referent.fInt Syntax.w8)) (Syntax.tyRef Syntax.erased Syntax.imm (Syntax.tyInt Syntax.w8)) 0,
+            ) (List._∷_ (10, Rows.arrF (Referent.rtF (Referent.fInt Syntax.w16)) 768 0)
+            (List._∷_ (11, Rows.arrF (Referent.rtF (Referent.fInt Syntax.w16)) 1 0) (List._∷_ (
+              12,
+              Rows'.any-gone (Syntax.tyStruct (List._∷_ 98 (List._∷_ 108 (List._∷_ 111 (List._∷_ 99 (List._∷_ 107
+                  (List._∷_ 58 (List._∷_ 58 (List._∷_ 87 (List._∷_ 97 (List._∷_ 108 (List._∷_ 107 (List._∷_ 101 (List._∷_ 100 List.[]))))))))))))) (Syntax.tcons Syntax.tyBool (Syntax.tcons (Syntax.tyInt
+                  Syntax.w64) (Syntax.tcons (Syntax.tyStruct (List._∷_ 98 (List._∷_ 105 (List._∷_ 116 (List._∷_ 115 (List._∷_ 58 (List._∷_ 58 (List._∷_ 66 (List._∷_ 105 (List._∷_ 116 (List._∷_ 80 (List._∷_ 111
+                  (List._∷_ 115 (List._∷_ 105 (List._∷_ 116 (List._∷_ 105 (List._∷_ 111 (List._∷_ 110 List.[]))))))))))))))))) (Syntax.tcons (Syntax.tyInt Syntax.w64) Syntax.tnil)) (Syntax.tcons (Syntax.tyInt
+                  Syntax.w64) Syntax.tnil))))),
+            ) (List._∷_ (13, Rows'.any-gone (Syntax.tyArray (Syntax.tyInt Syntax.w16) 768)) (List._∷_ (
+              14,
+              Relend.msptr (Referent.rtF (Referent.fInt Syntax.w16))
+                  (Syntax.tyRef Syntax.erased Syntax.mut (Syntax.tyInt Syntax.w16)) 3,
+            ) (List._∷_ (
+              15,
+              Rows'.any-gone (Syntax.tyStruct (List._∷_ 38 (List._∷_ 91 (List._∷_ 93 List.[]))) (Syntax.tcons
+                  (Syntax.tyRef Syntax.erased Syntax.mut (Syntax.tyInt Syntax.w16)) (Syntax.tcons (Syntax.tyInt Syntax.w64) Syntax.tnil))),
+            ) List.[])))))))))))))))
 
         abbrev g14 : List.List Row.Entry
         g14 = List._∷_ (
@@ -2678,51 +2766,44 @@ module _ (claims· : Claims) where
               (Syntax.ttcons Syntax.tnil (Syntax.ttcons Syntax.tnil (Syntax.ttcons Syntax.tnil (Syntax.ttcons (Syntax.tcons (Syntax.tyInt Syntax.w64) Syntax.tnil) (Syntax.ttcons Syntax.tnil (Syntax.ttcons
               Syntax.tnil (Syntax.ttcons Syntax.tnil (Syntax.ttcons Syntax.tnil (Syntax.ttcons Syntax.tnil (Syntax.ttcons Syntax.tnil (Syntax.ttcons (Syntax.tcons (Syntax.tyInt Syntax.w64) Syntax.tnil)
               (Syntax.ttcons (Syntax.tcons (Syntax.tyInt Syntax.w64) Syntax.tnil) (Syntax.ttcons Syntax.tnil (Syntax.ttcons (Syntax.tcons (Syntax.tyInt Syntax.w64) (Syntax.tcons (Syntax.tyInt Syntax.w64)
-              Syntax.tnil)) (Syntax.ttcons (Syntax.tcons (Syntax.tyInt Syntax.w64) Syntax.tnil) (Syntax.ttcons Syntax.tnil Syntax.ttnil))))))))))))))))) Syntax.tnil) Syntax.ttnil))),
+              Syntax.tnil)) (Syntax.ttcons (Syntax.tcons (Syntax.tyInt Syntax.w64) Syntax.tnil) (Syntax.ttcons Syntax.tnil (Syntax.ttcons Syntax.tnil (Syntax.ttcons (Syntax.tcons (Syntax.tyInt Syntax.w64)
+              Syntax.tnil) (Syntax.ttcons (Syntax.tcons (Syntax.tyInt Syntax.w64) Syntax.tnil) (Syntax.ttcons (Syntax.tcons (Syntax.tyInt Syntax.w64) Syntax.tnil) (Syntax.ttcons Syntax.tnil
+              Syntax.ttnil)))))))))))))))))))))) Syntax.tnil) Syntax.ttnil))),
         ) (List._∷_ (
           1,
-          Rows'.sslice (Referent.rtF (Referent.fInt Syntax.w8)) (Syntax.tyRef (Syntax.named 0) Syntax.imm (Syntax.tyInt Syntax.w8)) 0,
+          Rows'.sslice (Referent.rtF (Referent.fInt Syntax.w8)) (Syntax.tyRef (Syntax.named 0) Syntax.imm (Syntax.tyInt
+              Syntax.w8)) 0,
         ) (List._∷_ (
           2,
-          Rows'.any-gone (Syntax.tyStruct (List._∷_ 115
-              (List._∷_ 116 (List._∷_ 114 (List._∷_ 101 (List._∷_ 97 (List._∷_ 109 (List._∷_ 58 (List._∷_ 58 (List._∷_ 70 (List._∷_ 117 (List._∷_ 106 (List._∷_ 105 (List._∷_ 72 (List._∷_ 101 (List._∷_ 97
-              (List._∷_ 100 (List._∷_ 101 (List._∷_ 114 List.[])))))))))))))))))) (Syntax.tcons Syntax.tyBool (Syntax.tcons Syntax.tyBool (Syntax.tcons (Syntax.tyInt Syntax.w32) (Syntax.tcons (Syntax.tyInt
-              Syntax.w32) (Syntax.tcons (Syntax.tyInt Syntax.w32) (Syntax.tcons (Syntax.tyInt Syntax.w32) (Syntax.tcons (Syntax.tyInt Syntax.w32) (Syntax.tcons (Syntax.tyInt Syntax.w32) (Syntax.tcons
-              (Syntax.tyInt Syntax.w32) Syntax.tnil)))))))))),
-        ) (List._∷_ (3, Rows'.sc-here (Row.sInt Syntax.w64)) (List._∷_ (
-          4,
-          Relend.mslice-owed (Referent.rtF (Referent.fInt Syntax.w16)) (Syntax.tyRef
-              (Syntax.named 1) Syntax.mut (Syntax.tyInt Syntax.w16)) 1 3 (Row.lease (κs .1 .0) (qs .1 .0)),
-        ) (List._∷_ (
-          5,
-          Mut.mslice (Element.type) (Syntax.tyRef (Syntax.named 2) Syntax.mut
-              Element.behind) 2,
-        ) (List._∷_ (6, Rows'.whole (Declared'.row (Apart.apartT Form.the-type))) (List._∷_ (7, Rows'.sc-here (Row.sInt Syntax.w64)) (List._∷_ (
-          8,
-          Rows'.sslice (Referent.rtF
-              (Referent.fInt Syntax.w8)) (Syntax.tyRef Syntax.erased Syntax.imm (Syntax.tyInt Syntax.w8)) 0,
-        ) (List._∷_ (
-          9,
-          Rows'.sslice (Referent.rtF (Referent.fInt Syntax.w8)) (Syntax.tyRef
-              Syntax.erased Syntax.imm (Syntax.tyInt Syntax.w8)) 0,
-        ) (List._∷_ (10, Rows.arrF (Referent.rtF (Referent.fInt Syntax.w16)) 768 0) (List._∷_ (
-          11,
-          Rows.arrF (Referent.rtF (Referent.fInt
-              Syntax.w16)) 1 0,
-        ) (List._∷_ (
-          12,
-          Rows'.any-gone (Syntax.tyStruct (List._∷_ 98 (List._∷_ 108 (List._∷_ 111 (List._∷_ 99 (List._∷_ 107 (List._∷_ 58 (List._∷_ 58 (List._∷_ 87 (List._∷_ 97
-              (List._∷_ 108 (List._∷_ 107 (List._∷_ 101 (List._∷_ 100 List.[]))))))))))))) (Syntax.tcons Syntax.tyBool (Syntax.tcons (Syntax.tyInt Syntax.w64) (Syntax.tcons (Syntax.tyStruct (List._∷_ 98
-              (List._∷_ 105 (List._∷_ 116 (List._∷_ 115 (List._∷_ 58 (List._∷_ 58 (List._∷_ 66 (List._∷_ 105 (List._∷_ 116 (List._∷_ 80 (List._∷_ 111 (List._∷_ 115 (List._∷_ 105 (List._∷_ 116 (List._∷_ 105
-              (List._∷_ 111 (List._∷_ 110 List.[]))))))))))))))))) (Syntax.tcons (Syntax.tyInt Syntax.w64) Syntax.tnil)) (Syntax.tcons (Syntax.tyInt Syntax.w64) Syntax.tnil))))),
-        ) (List._∷_ (
-          13,
-          Rows'.any-gone (Syntax.tyArray (Syntax.tyInt Syntax.w16) 768),
-        ) (List._∷_ (14, Rows'.any-gone (Syntax.tyRef Syntax.erased Syntax.mut (Syntax.tyInt Syntax.w16))) (List._∷_ (
-          15,
-          Mut.mslice
-              (Referent.rtF (Referent.fInt Syntax.w16)) (Syntax.tyRef Syntax.erased Syntax.mut (Syntax.tyInt Syntax.w16)) 3,
-        ) List.[])))))))))))))))
+          Rows'.any-gone (Syntax.tyStruct (List._∷_ 115 (List._∷_ 116 (List._∷_ 114 (List._∷_ 101 (List._∷_ 97 (List._∷_ 109 (List._∷_ 58 (List._∷_ 58 (List._∷_ 70
+              (List._∷_ 117 (List._∷_ 106 (List._∷_ 105 (List._∷_ 72 (List._∷_ 101 (List._∷_ 97 (List._∷_ 100 (List._∷_ 101 (List._∷_ 114 List.[])))))))))))))))))) (Syntax.tcons Syntax.tyBool (Syntax.tcons
+              Syntax.tyBool (Syntax.tcons (Syntax.tyInt Syntax.w32) (Syntax.tcons (Syntax.tyInt Syntax.w32) (Syntax.tcons (Syntax.tyInt Syntax.w32) (Syntax.tcons (Syntax.tyInt Syntax.w32) (Syntax.tcons
+              (Syntax.tyInt Syntax.w32) (Syntax.tcons (Syntax.tyInt Syntax.w32) (Syntax.tcons (Syntax.tyInt Syntax.w32) Syntax.tnil)))))))))),
+        ) (List._∷_ (3, Rows'.sc-here (Row.sInt Syntax.w64)) (List._∷_
+            (4, Relend.mslice-owed (Referent.rtF (Referent.fInt Syntax.w16)) (Syntax.tyRef (Syntax.named 1) Syntax.mut (Syntax.tyInt Syntax.w16)) 1 3 (Row.lease (κs .1 .0) (qs .1 .0))) (List._∷_ (
+              5,
+              Mut.mslice (Element.type) (Syntax.tyRef (Syntax.named 2) Syntax.mut Element.behind) 2,
+            ) (List._∷_ (6, Rows'.whole (Declared'.row (Apart.apartT Form.the-type))) (List._∷_ (
+              7,
+              Rows'.sc-here
+                  (Row.sInt Syntax.w64),
+            ) (List._∷_ (8, Rows'.sslice (Referent.rtF (Referent.fInt Syntax.w8)) (Syntax.tyRef Syntax.erased Syntax.imm (Syntax.tyInt Syntax.w8)) 0) (List._∷_ (
+              9,
+              Rows'.sslice
+                  (Referent.rtF (Referent.fInt Syntax.w8)) (Syntax.tyRef Syntax.erased Syntax.imm (Syntax.tyInt Syntax.w8)) 0,
+            ) (List._∷_ (10, Rows.arrF (Referent.rtF (Referent.fInt Syntax.w16)) 768 0)
+            (List._∷_ (11, Rows.arrF (Referent.rtF (Referent.fInt Syntax.w16)) 1 0) (List._∷_ (
+              12,
+              Rows'.any-gone (Syntax.tyStruct (List._∷_ 98 (List._∷_ 108 (List._∷_ 111 (List._∷_ 99 (List._∷_ 107
+                  (List._∷_ 58 (List._∷_ 58 (List._∷_ 87 (List._∷_ 97 (List._∷_ 108 (List._∷_ 107 (List._∷_ 101 (List._∷_ 100 List.[]))))))))))))) (Syntax.tcons Syntax.tyBool (Syntax.tcons (Syntax.tyInt
+                  Syntax.w64) (Syntax.tcons (Syntax.tyStruct (List._∷_ 98 (List._∷_ 105 (List._∷_ 116 (List._∷_ 115 (List._∷_ 58 (List._∷_ 58 (List._∷_ 66 (List._∷_ 105 (List._∷_ 116 (List._∷_ 80 (List._∷_ 111
+                  (List._∷_ 115 (List._∷_ 105 (List._∷_ 116 (List._∷_ 105 (List._∷_ 111 (List._∷_ 110 List.[]))))))))))))))))) (Syntax.tcons (Syntax.tyInt Syntax.w64) Syntax.tnil)) (Syntax.tcons (Syntax.tyInt
+                  Syntax.w64) Syntax.tnil))))),
+            ) (List._∷_ (13, Rows'.any-gone (Syntax.tyArray (Syntax.tyInt Syntax.w16) 768)) (List._∷_ (
+              14,
+              Rows'.any-gone (Syntax.tyRef Syntax.erased Syntax.mut
+                  (Syntax.tyInt Syntax.w16)),
+            ) (List._∷_ (15, Mut.mslice (Referent.rtF (Referent.fInt Syntax.w16)) (Syntax.tyRef Syntax.erased Syntax.mut (Syntax.tyInt Syntax.w16)) 3) List.[])))))))))))))))
 
         abbrev g15 : List.List Row.Entry
         g15 = List._∷_ (
@@ -2733,45 +2814,49 @@ module _ (claims· : Claims) where
               (Syntax.ttcons Syntax.tnil (Syntax.ttcons Syntax.tnil (Syntax.ttcons Syntax.tnil (Syntax.ttcons (Syntax.tcons (Syntax.tyInt Syntax.w64) Syntax.tnil) (Syntax.ttcons Syntax.tnil (Syntax.ttcons
               Syntax.tnil (Syntax.ttcons Syntax.tnil (Syntax.ttcons Syntax.tnil (Syntax.ttcons Syntax.tnil (Syntax.ttcons Syntax.tnil (Syntax.ttcons (Syntax.tcons (Syntax.tyInt Syntax.w64) Syntax.tnil)
               (Syntax.ttcons (Syntax.tcons (Syntax.tyInt Syntax.w64) Syntax.tnil) (Syntax.ttcons Syntax.tnil (Syntax.ttcons (Syntax.tcons (Syntax.tyInt Syntax.w64) (Syntax.tcons (Syntax.tyInt Syntax.w64)
-              Syntax.tnil)) (Syntax.ttcons (Syntax.tcons (Syntax.tyInt Syntax.w64) Syntax.tnil) (Syntax.ttcons Syntax.tnil Syntax.ttnil))))))))))))))))) Syntax.tnil) Syntax.ttnil))),
+              Syntax.tnil)) (Syntax.ttcons (Syntax.tcons (Syntax.tyInt Syntax.w64) Syntax.tnil) (Syntax.ttcons Syntax.tnil (Syntax.ttcons Syntax.tnil (Syntax.ttcons (Syntax.tcons (Syntax.tyInt Syntax.w64)
+              Syntax.tnil) (Syntax.ttcons (Syntax.tcons (Syntax.tyInt Syntax.w64) Syntax.tnil) (Syntax.ttcons (Syntax.tcons (Syntax.tyInt Syntax.w64) Syntax.tnil) (Syntax.ttcons Syntax.tnil
+              Syntax.ttnil)))))))))))))))))))))) Syntax.tnil) Syntax.ttnil))),
         ) (List._∷_ (
           1,
-          Rows'.sslice (Referent.rtF (Referent.fInt Syntax.w8)) (Syntax.tyRef (Syntax.named 0) Syntax.imm (Syntax.tyInt Syntax.w8)) 0,
+          Rows'.sslice (Referent.rtF (Referent.fInt Syntax.w8)) (Syntax.tyRef (Syntax.named 0) Syntax.imm (Syntax.tyInt
+              Syntax.w8)) 0,
         ) (List._∷_ (
           2,
-          Rows'.any-gone (Syntax.tyStruct (List._∷_ 115
-              (List._∷_ 116 (List._∷_ 114 (List._∷_ 101 (List._∷_ 97 (List._∷_ 109 (List._∷_ 58 (List._∷_ 58 (List._∷_ 70 (List._∷_ 117 (List._∷_ 106 (List._∷_ 105 (List._∷_ 72 (List._∷_ 101 (List._∷_ 97
-              (List._∷_ 100 (List._∷_ 101 (List._∷_ 114 List.[])))))))))))))))))) (Syntax.tcons Syntax.tyBool (Syntax.tcons Syntax.tyBool (Syntax.tcons (Syntax.tyInt Syntax.w32) (Syntax.tcons (Syntax.tyInt
-              Syntax.w32) (Syntax.tcons (Syntax.tyInt Syntax.w32) (Syntax.tcons (Syntax.tyInt Syntax.w32) (Syntax.tcons (Syntax.tyInt Syntax.w32) (Syntax.tcons (Syntax.tyInt Syntax.w32) (Syntax.tcons
-              (Syntax.tyInt Syntax.w32) Syntax.tnil)))))))))),
-        ) (List._∷_ (3, Rows'.sc-here (Row.sInt Syntax.w64)) (List._∷_ (
-          4,
-          Relend.mslice-owed (Referent.rtF (Referent.fInt Syntax.w16)) (Syntax.tyRef
-              (Syntax.named 1) Syntax.mut (Syntax.tyInt Syntax.w16)) 1 3 (Row.lease (κs .1 .0) (qs .1 .0)),
-        ) (List._∷_ (
-          5,
-          Relend.mslice-owed (Element.type) (Syntax.tyRef (Syntax.named 2) Syntax.mut
-              Element.behind) 2 4 (Row.lease (κs .1 .1 .0) (qs .1 .1 .0)),
-        ) (List._∷_ (6, Rows'.whole (Declared'.row (Apart.apartT Form.the-type))) (List._∷_ (7, Rows'.sc-here (Row.sInt Syntax.w64))
-            (List._∷_ (8, Rows'.sslice (Referent.rtF (Referent.fInt Syntax.w8)) (Syntax.tyRef Syntax.erased Syntax.imm (Syntax.tyInt Syntax.w8)) 0) (List._∷_ (
-              9,
-              Rows'.sslice (Referent.rtF
-                  (Referent.fInt Syntax.w8)) (Syntax.tyRef Syntax.erased Syntax.imm (Syntax.tyInt Syntax.w8)) 0,
-            ) (List._∷_ (10, Rows.arrF (Referent.rtF (Referent.fInt Syntax.w16)) 768 0) (List._∷_ (
-              11,
-              Rows.arrF (Referent.rtF (Referent.fInt Syntax.w16)) 1 0,
+          Rows'.any-gone (Syntax.tyStruct (List._∷_ 115 (List._∷_ 116 (List._∷_ 114 (List._∷_ 101 (List._∷_ 97 (List._∷_ 109 (List._∷_ 58 (List._∷_ 58 (List._∷_ 70
+              (List._∷_ 117 (List._∷_ 106 (List._∷_ 105 (List._∷_ 72 (List._∷_ 101 (List._∷_ 97 (List._∷_ 100 (List._∷_ 101 (List._∷_ 114 List.[])))))))))))))))))) (Syntax.tcons Syntax.tyBool (Syntax.tcons
+              Syntax.tyBool (Syntax.tcons (Syntax.tyInt Syntax.w32) (Syntax.tcons (Syntax.tyInt Syntax.w32) (Syntax.tcons (Syntax.tyInt Syntax.w32) (Syntax.tcons (Syntax.tyInt Syntax.w32) (Syntax.tcons
+              (Syntax.tyInt Syntax.w32) (Syntax.tcons (Syntax.tyInt Syntax.w32) (Syntax.tcons (Syntax.tyInt Syntax.w32) Syntax.tnil)))))))))),
+        ) (List._∷_ (3, Rows'.sc-here (Row.sInt Syntax.w64)) (List._∷_
+            (4, Relend.mslice-owed (Referent.rtF (Referent.fInt Syntax.w16)) (Syntax.tyRef (Syntax.named 1) Syntax.mut (Syntax.tyInt Syntax.w16)) 1 3 (Row.lease (κs .1 .0) (qs .1 .0))) (List._∷_ (
+              5,
+              Relend.mslice-owed (Element.type) (Syntax.tyRef (Syntax.named 2) Syntax.mut Element.behind) 2 4 (Row.lease (κs .1 .1 .0) (qs .1 .1 .0)),
             ) (List._∷_ (
+              6,
+              Rows'.whole (Declared'.row
+                  (Apart.apartT Form.the-type)),
+            ) (List._∷_ (7, Rows'.sc-here (Row.sInt Syntax.w64)) (List._∷_ (
+              8,
+              Rows'.sslice (Referent.rtF (Referent.fInt Syntax.w8)) (Syntax.tyRef Syntax.erased Syntax.imm
+                  (Syntax.tyInt Syntax.w8)) 0,
+            ) (List._∷_ (9, Rows'.sslice (Referent.rtF (Referent.fInt Syntax.w8)) (Syntax.tyRef Syntax.erased Syntax.imm (Syntax.tyInt Syntax.w8)) 0) (List._∷_ (
+              10,
+              Rows.arrF (Referent.rtF (Referent.fInt Syntax.w16)) 768 0,
+            ) (List._∷_ (11, Rows.arrF (Referent.rtF (Referent.fInt Syntax.w16)) 1 0) (List._∷_ (
               12,
-              Rows'.any-gone (Syntax.tyStruct (List._∷_ 98 (List._∷_ 108 (List._∷_ 111 (List._∷_ 99 (List._∷_ 107 (List._∷_ 58
-                  (List._∷_ 58 (List._∷_ 87 (List._∷_ 97 (List._∷_ 108 (List._∷_ 107 (List._∷_ 101 (List._∷_ 100 List.[]))))))))))))) (Syntax.tcons Syntax.tyBool (Syntax.tcons (Syntax.tyInt Syntax.w64)
-                  (Syntax.tcons (Syntax.tyStruct (List._∷_ 98 (List._∷_ 105 (List._∷_ 116 (List._∷_ 115 (List._∷_ 58 (List._∷_ 58 (List._∷_ 66 (List._∷_ 105 (List._∷_ 116 (List._∷_ 80 (List._∷_ 111 (List._∷_
-                  115 (List._∷_ 105 (List._∷_ 116 (List._∷_ 105 (List._∷_ 111 (List._∷_ 110 List.[]))))))))))))))))) (Syntax.tcons (Syntax.tyInt Syntax.w64) Syntax.tnil)) (Syntax.tcons (Syntax.tyInt Syntax.w64)
-                  Syntax.tnil))))),
+              Rows'.any-gone (Syntax.tyStruct (List._∷_
+                  98 (List._∷_ 108 (List._∷_ 111 (List._∷_ 99 (List._∷_ 107 (List._∷_ 58 (List._∷_ 58 (List._∷_ 87 (List._∷_ 97 (List._∷_ 108 (List._∷_ 107 (List._∷_ 101 (List._∷_ 100 List.[])))))))))))))
+                  (Syntax.tcons Syntax.tyBool (Syntax.tcons (Syntax.tyInt Syntax.w64) (Syntax.tcons (Syntax.tyStruct (List._∷_ 98 (List._∷_ 105 (List._∷_ 116 (List._∷_ 115 (List._∷_ 58 (List._∷_ 58 (List._∷_ 66
+                  (List._∷_ 105 (List._∷_ 116 (List._∷_ 80 (List._∷_ 111 (List._∷_ 115 (List._∷_ 105 (List._∷_ 116 (List._∷_ 105 (List._∷_ 111 (List._∷_ 110 List.[]))))))))))))))))) (Syntax.tcons (Syntax.tyInt
+                  Syntax.w64) Syntax.tnil)) (Syntax.tcons (Syntax.tyInt Syntax.w64) Syntax.tnil))))),
             ) (List._∷_ (13, Rows'.any-gone (Syntax.tyArray (Syntax.tyInt Syntax.w16) 768)) (List._∷_ (
               14,
-              Rows'.any-gone (Syntax.tyRef Syntax.erased Syntax.mut (Syntax.tyInt
-                  Syntax.w16)),
-            ) (List._∷_ (15, Mut.mslice (Referent.rtF (Referent.fInt Syntax.w16)) (Syntax.tyRef Syntax.erased Syntax.mut (Syntax.tyInt Syntax.w16)) 3) List.[])))))))))))))))
+              Rows'.any-gone (Syntax.tyRef Syntax.erased Syntax.mut (Syntax.tyInt Syntax.w16)),
+            ) (List._∷_ (
+              15,
+              Mut.mslice (Referent.rtF (Referent.fInt Syntax.w16)) (Syntax.tyRef Syntax.erased Syntax.mut
+                  (Syntax.tyInt Syntax.w16)) 3,
+            ) List.[])))))))))))))))
 
         abbrev g18 : List.List Row.Entry
         g18 = List._∷_ (
@@ -2782,45 +2867,47 @@ module _ (claims· : Claims) where
               (Syntax.ttcons Syntax.tnil (Syntax.ttcons Syntax.tnil (Syntax.ttcons Syntax.tnil (Syntax.ttcons (Syntax.tcons (Syntax.tyInt Syntax.w64) Syntax.tnil) (Syntax.ttcons Syntax.tnil (Syntax.ttcons
               Syntax.tnil (Syntax.ttcons Syntax.tnil (Syntax.ttcons Syntax.tnil (Syntax.ttcons Syntax.tnil (Syntax.ttcons Syntax.tnil (Syntax.ttcons (Syntax.tcons (Syntax.tyInt Syntax.w64) Syntax.tnil)
               (Syntax.ttcons (Syntax.tcons (Syntax.tyInt Syntax.w64) Syntax.tnil) (Syntax.ttcons Syntax.tnil (Syntax.ttcons (Syntax.tcons (Syntax.tyInt Syntax.w64) (Syntax.tcons (Syntax.tyInt Syntax.w64)
-              Syntax.tnil)) (Syntax.ttcons (Syntax.tcons (Syntax.tyInt Syntax.w64) Syntax.tnil) (Syntax.ttcons Syntax.tnil Syntax.ttnil))))))))))))))))) Syntax.tnil) Syntax.ttnil))),
+              Syntax.tnil)) (Syntax.ttcons (Syntax.tcons (Syntax.tyInt Syntax.w64) Syntax.tnil) (Syntax.ttcons Syntax.tnil (Syntax.ttcons Syntax.tnil (Syntax.ttcons (Syntax.tcons (Syntax.tyInt Syntax.w64)
+              Syntax.tnil) (Syntax.ttcons (Syntax.tcons (Syntax.tyInt Syntax.w64) Syntax.tnil) (Syntax.ttcons (Syntax.tcons (Syntax.tyInt Syntax.w64) Syntax.tnil) (Syntax.ttcons Syntax.tnil
+              Syntax.ttnil)))))))))))))))))))))) Syntax.tnil) Syntax.ttnil))),
         ) (List._∷_ (
           1,
-          Rows'.sslice (Referent.rtF (Referent.fInt Syntax.w8)) (Syntax.tyRef (Syntax.named 0) Syntax.imm (Syntax.tyInt Syntax.w8)) 0,
+          Rows'.sslice (Referent.rtF (Referent.fInt Syntax.w8)) (Syntax.tyRef (Syntax.named 0) Syntax.imm (Syntax.tyInt
+              Syntax.w8)) 0,
         ) (List._∷_ (
           2,
-          Rows'.any-gone (Syntax.tyStruct (List._∷_ 115
-              (List._∷_ 116 (List._∷_ 114 (List._∷_ 101 (List._∷_ 97 (List._∷_ 109 (List._∷_ 58 (List._∷_ 58 (List._∷_ 70 (List._∷_ 117 (List._∷_ 106 (List._∷_ 105 (List._∷_ 72 (List._∷_ 101 (List._∷_ 97
-              (List._∷_ 100 (List._∷_ 101 (List._∷_ 114 List.[])))))))))))))))))) (Syntax.tcons Syntax.tyBool (Syntax.tcons Syntax.tyBool (Syntax.tcons (Syntax.tyInt Syntax.w32) (Syntax.tcons (Syntax.tyInt
-              Syntax.w32) (Syntax.tcons (Syntax.tyInt Syntax.w32) (Syntax.tcons (Syntax.tyInt Syntax.w32) (Syntax.tcons (Syntax.tyInt Syntax.w32) (Syntax.tcons (Syntax.tyInt Syntax.w32) (Syntax.tcons
-              (Syntax.tyInt Syntax.w32) Syntax.tnil)))))))))),
-        ) (List._∷_ (3, Rows'.sc-here (Row.sInt Syntax.w64)) (List._∷_ (
-          4,
-          Relend.mslice-owed (Referent.rtF (Referent.fInt Syntax.w16)) (Syntax.tyRef
-              (Syntax.named 1) Syntax.mut (Syntax.tyInt Syntax.w16)) 1 3 (Row.lease (κs .1 .0) (qs .1 .0)),
-        ) (List._∷_ (
-          5,
-          Relend.mslice-owed (Element.type) (Syntax.tyRef (Syntax.named 2) Syntax.mut
-              Element.behind) 2 4 (Row.lease (κs .1 .1 .0) (qs .1 .1 .0)),
-        ) (List._∷_ (6, Rows'.whole (Declared'.row (Apart.apartT Form.the-type))) (List._∷_ (7, Rows'.sc-here (Row.sInt Syntax.w64))
-            (List._∷_ (8, Rows'.sslice (Referent.rtF (Referent.fInt Syntax.w8)) (Syntax.tyRef Syntax.erased Syntax.imm (Syntax.tyInt Syntax.w8)) 0) (List._∷_ (
-              9,
-              Rows'.sslice (Referent.rtF
-                  (Referent.fInt Syntax.w8)) (Syntax.tyRef Syntax.erased Syntax.imm (Syntax.tyInt Syntax.w8)) 0,
-            ) (List._∷_ (10, Rows.arrF (Referent.rtF (Referent.fInt Syntax.w16)) 768 0) (List._∷_ (
-              11,
-              Rows.arr-owed (Referent.rtF (Referent.fInt Syntax.w16)) 1 5,
+          Rows'.any-gone (Syntax.tyStruct (List._∷_ 115 (List._∷_ 116 (List._∷_ 114 (List._∷_ 101 (List._∷_ 97 (List._∷_ 109 (List._∷_ 58 (List._∷_ 58 (List._∷_ 70
+              (List._∷_ 117 (List._∷_ 106 (List._∷_ 105 (List._∷_ 72 (List._∷_ 101 (List._∷_ 97 (List._∷_ 100 (List._∷_ 101 (List._∷_ 114 List.[])))))))))))))))))) (Syntax.tcons Syntax.tyBool (Syntax.tcons
+              Syntax.tyBool (Syntax.tcons (Syntax.tyInt Syntax.w32) (Syntax.tcons (Syntax.tyInt Syntax.w32) (Syntax.tcons (Syntax.tyInt Syntax.w32) (Syntax.tcons (Syntax.tyInt Syntax.w32) (Syntax.tcons
+              (Syntax.tyInt Syntax.w32) (Syntax.tcons (Syntax.tyInt Syntax.w32) (Syntax.tcons (Syntax.tyInt Syntax.w32) Syntax.tnil)))))))))),
+        ) (List._∷_ (3, Rows'.sc-here (Row.sInt Syntax.w64)) (List._∷_
+            (4, Relend.mslice-owed (Referent.rtF (Referent.fInt Syntax.w16)) (Syntax.tyRef (Syntax.named 1) Syntax.mut (Syntax.tyInt Syntax.w16)) 1 3 (Row.lease (κs .1 .0) (qs .1 .0))) (List._∷_ (
+              5,
+              Relend.mslice-owed (Element.type) (Syntax.tyRef (Syntax.named 2) Syntax.mut Element.behind) 2 4 (Row.lease (κs .1 .1 .0) (qs .1 .1 .0)),
             ) (List._∷_ (
+              6,
+              Rows'.whole (Declared'.row
+                  (Apart.apartT Form.the-type)),
+            ) (List._∷_ (7, Rows'.sc-here (Row.sInt Syntax.w64)) (List._∷_ (
+              8,
+              Rows'.sslice (Referent.rtF (Referent.fInt Syntax.w8)) (Syntax.tyRef Syntax.erased Syntax.imm
+                  (Syntax.tyInt Syntax.w8)) 0,
+            ) (List._∷_ (9, Rows'.sslice (Referent.rtF (Referent.fInt Syntax.w8)) (Syntax.tyRef Syntax.erased Syntax.imm (Syntax.tyInt Syntax.w8)) 0) (List._∷_ (
+              10,
+              Rows.arrF (Referent.rtF (Referent.fInt Syntax.w16)) 768 0,
+            ) (List._∷_ (11, Rows.arr-owed (Referent.rtF (Referent.fInt Syntax.w16)) 1 5) (List._∷_ (
               12,
-              Rows'.any-gone (Syntax.tyStruct (List._∷_ 98 (List._∷_ 108 (List._∷_ 111 (List._∷_ 99 (List._∷_ 107 (List._∷_ 58
-                  (List._∷_ 58 (List._∷_ 87 (List._∷_ 97 (List._∷_ 108 (List._∷_ 107 (List._∷_ 101 (List._∷_ 100 List.[]))))))))))))) (Syntax.tcons Syntax.tyBool (Syntax.tcons (Syntax.tyInt Syntax.w64)
-                  (Syntax.tcons (Syntax.tyStruct (List._∷_ 98 (List._∷_ 105 (List._∷_ 116 (List._∷_ 115 (List._∷_ 58 (List._∷_ 58 (List._∷_ 66 (List._∷_ 105 (List._∷_ 116 (List._∷_ 80 (List._∷_ 111 (List._∷_
-                  115 (List._∷_ 105 (List._∷_ 116 (List._∷_ 105 (List._∷_ 111 (List._∷_ 110 List.[]))))))))))))))))) (Syntax.tcons (Syntax.tyInt Syntax.w64) Syntax.tnil)) (Syntax.tcons (Syntax.tyInt Syntax.w64)
-                  Syntax.tnil))))),
-            ) (List._∷_ (13, Rows'.any-gone (Syntax.tyArray (Syntax.tyInt Syntax.w16) 768)) (List._∷_ (
-              14,
-              Rows'.any-gone (Syntax.tyRef Syntax.erased Syntax.mut (Syntax.tyInt
-                  Syntax.w16)),
-            ) (List._∷_ (15, Mut.mslice (Referent.rtF (Referent.fInt Syntax.w16)) (Syntax.tyRef Syntax.erased Syntax.mut (Syntax.tyInt Syntax.w16)) 3) List.[])))))))))))))))
+              Rows'.any-gone (Syntax.tyStruct
+                  (List._∷_ 98 (List._∷_ 108 (List._∷_ 111 (List._∷_ 99 (List._∷_ 107 (List._∷_ 58 (List._∷_ 58 (List._∷_ 87 (List._∷_ 97 (List._∷_ 108 (List._∷_ 107 (List._∷_ 101 (List._∷_ 100
+                  List.[]))))))))))))) (Syntax.tcons Syntax.tyBool (Syntax.tcons (Syntax.tyInt Syntax.w64) (Syntax.tcons (Syntax.tyStruct (List._∷_ 98 (List._∷_ 105 (List._∷_ 116 (List._∷_ 115 (List._∷_ 58
+                  (List._∷_ 58 (List._∷_ 66 (List._∷_ 105 (List._∷_ 116 (List._∷_ 80 (List._∷_ 111 (List._∷_ 115 (List._∷_ 105 (List._∷_ 116 (List._∷_ 105 (List._∷_ 111 (List._∷_ 110 List.[])))))))))))))))))
+                  (Syntax.tcons (Syntax.tyInt Syntax.w64) Syntax.tnil)) (Syntax.tcons (Syntax.tyInt Syntax.w64) Syntax.tnil))))),
+            ) (List._∷_ (13, Rows'.any-gone (Syntax.tyArray (Syntax.tyInt Syntax.w16) 768))
+            (List._∷_ (14, Rows'.any-gone (Syntax.tyRef Syntax.erased Syntax.mut (Syntax.tyInt Syntax.w16))) (List._∷_ (
+              15,
+              Mut.mslice (Referent.rtF (Referent.fInt Syntax.w16)) (Syntax.tyRef
+                  Syntax.erased Syntax.mut (Syntax.tyInt Syntax.w16)) 3,
+            ) List.[])))))))))))))))
 
         abbrev g21 : List.List Row.Entry
         g21 = List._∷_ (
@@ -2831,46 +2918,48 @@ module _ (claims· : Claims) where
               (Syntax.ttcons Syntax.tnil (Syntax.ttcons Syntax.tnil (Syntax.ttcons Syntax.tnil (Syntax.ttcons (Syntax.tcons (Syntax.tyInt Syntax.w64) Syntax.tnil) (Syntax.ttcons Syntax.tnil (Syntax.ttcons
               Syntax.tnil (Syntax.ttcons Syntax.tnil (Syntax.ttcons Syntax.tnil (Syntax.ttcons Syntax.tnil (Syntax.ttcons Syntax.tnil (Syntax.ttcons (Syntax.tcons (Syntax.tyInt Syntax.w64) Syntax.tnil)
               (Syntax.ttcons (Syntax.tcons (Syntax.tyInt Syntax.w64) Syntax.tnil) (Syntax.ttcons Syntax.tnil (Syntax.ttcons (Syntax.tcons (Syntax.tyInt Syntax.w64) (Syntax.tcons (Syntax.tyInt Syntax.w64)
-              Syntax.tnil)) (Syntax.ttcons (Syntax.tcons (Syntax.tyInt Syntax.w64) Syntax.tnil) (Syntax.ttcons Syntax.tnil Syntax.ttnil))))))))))))))))) Syntax.tnil) Syntax.ttnil))),
+              Syntax.tnil)) (Syntax.ttcons (Syntax.tcons (Syntax.tyInt Syntax.w64) Syntax.tnil) (Syntax.ttcons Syntax.tnil (Syntax.ttcons Syntax.tnil (Syntax.ttcons (Syntax.tcons (Syntax.tyInt Syntax.w64)
+              Syntax.tnil) (Syntax.ttcons (Syntax.tcons (Syntax.tyInt Syntax.w64) Syntax.tnil) (Syntax.ttcons (Syntax.tcons (Syntax.tyInt Syntax.w64) Syntax.tnil) (Syntax.ttcons Syntax.tnil
+              Syntax.ttnil)))))))))))))))))))))) Syntax.tnil) Syntax.ttnil))),
         ) (List._∷_ (
           1,
-          Rows'.sslice (Referent.rtF (Referent.fInt Syntax.w8)) (Syntax.tyRef (Syntax.named 0) Syntax.imm (Syntax.tyInt Syntax.w8)) 0,
+          Rows'.sslice (Referent.rtF (Referent.fInt Syntax.w8)) (Syntax.tyRef (Syntax.named 0) Syntax.imm (Syntax.tyInt
+              Syntax.w8)) 0,
         ) (List._∷_ (
           2,
-          Rows'.any-gone (Syntax.tyStruct (List._∷_ 115
-              (List._∷_ 116 (List._∷_ 114 (List._∷_ 101 (List._∷_ 97 (List._∷_ 109 (List._∷_ 58 (List._∷_ 58 (List._∷_ 70 (List._∷_ 117 (List._∷_ 106 (List._∷_ 105 (List._∷_ 72 (List._∷_ 101 (List._∷_ 97
-              (List._∷_ 100 (List._∷_ 101 (List._∷_ 114 List.[])))))))))))))))))) (Syntax.tcons Syntax.tyBool (Syntax.tcons Syntax.tyBool (Syntax.tcons (Syntax.tyInt Syntax.w32) (Syntax.tcons (Syntax.tyInt
-              Syntax.w32) (Syntax.tcons (Syntax.tyInt Syntax.w32) (Syntax.tcons (Syntax.tyInt Syntax.w32) (Syntax.tcons (Syntax.tyInt Syntax.w32) (Syntax.tcons (Syntax.tyInt Syntax.w32) (Syntax.tcons
-              (Syntax.tyInt Syntax.w32) Syntax.tnil)))))))))),
-        ) (List._∷_ (3, Rows'.sc-here (Row.sInt Syntax.w64)) (List._∷_ (
-          4,
-          Relend.mslice-owed (Referent.rtF (Referent.fInt Syntax.w16)) (Syntax.tyRef
-              (Syntax.named 1) Syntax.mut (Syntax.tyInt Syntax.w16)) 1 3 (Row.lease (κs .1 .0) (qs .1 .0)),
-        ) (List._∷_ (
-          5,
-          Relend.mslice-owed (Element.type) (Syntax.tyRef (Syntax.named 2) Syntax.mut
-              Element.behind) 2 4 (Row.lease (κs .1 .1 .0) (qs .1 .1 .0)),
-        ) (List._∷_ (6, Rows'.whole (Declared'.row (Apart.apartT Form.the-type))) (List._∷_ (7, Rows'.sc-here (Row.sInt Syntax.w64))
-            (List._∷_ (8, Rows'.sslice (Referent.rtF (Referent.fInt Syntax.w8)) (Syntax.tyRef Syntax.erased Syntax.imm (Syntax.tyInt Syntax.w8)) 0) (List._∷_ (
-              9,
-              Rows'.sslice (Referent.rtF
-                  (Referent.fInt Syntax.w8)) (Syntax.tyRef Syntax.erased Syntax.imm (Syntax.tyInt Syntax.w8)) 0,
+          Rows'.any-gone (Syntax.tyStruct (List._∷_ 115 (List._∷_ 116 (List._∷_ 114 (List._∷_ 101 (List._∷_ 97 (List._∷_ 109 (List._∷_ 58 (List._∷_ 58 (List._∷_ 70
+              (List._∷_ 117 (List._∷_ 106 (List._∷_ 105 (List._∷_ 72 (List._∷_ 101 (List._∷_ 97 (List._∷_ 100 (List._∷_ 101 (List._∷_ 114 List.[])))))))))))))))))) (Syntax.tcons Syntax.tyBool (Syntax.tcons
+              Syntax.tyBool (Syntax.tcons (Syntax.tyInt Syntax.w32) (Syntax.tcons (Syntax.tyInt Syntax.w32) (Syntax.tcons (Syntax.tyInt Syntax.w32) (Syntax.tcons (Syntax.tyInt Syntax.w32) (Syntax.tcons
+              (Syntax.tyInt Syntax.w32) (Syntax.tcons (Syntax.tyInt Syntax.w32) (Syntax.tcons (Syntax.tyInt Syntax.w32) Syntax.tnil)))))))))),
+        ) (List._∷_ (3, Rows'.sc-here (Row.sInt Syntax.w64)) (List._∷_
+            (4, Relend.mslice-owed (Referent.rtF (Referent.fInt Syntax.w16)) (Syntax.tyRef (Syntax.named 1) Syntax.mut (Syntax.tyInt Syntax.w16)) 1 3 (Row.lease (κs .1 .0) (qs .1 .0))) (List._∷_ (
+              5,
+              Relend.mslice-owed (Element.type) (Syntax.tyRef (Syntax.named 2) Syntax.mut Element.behind) 2 4 (Row.lease (κs .1 .1 .0) (qs .1 .1 .0)),
             ) (List._∷_ (
+              6,
+              Rows'.whole (Declared'.row
+                  (Apart.apartT Form.the-type)),
+            ) (List._∷_ (7, Rows'.sc-here (Row.sInt Syntax.w64)) (List._∷_ (
+              8,
+              Rows'.sslice (Referent.rtF (Referent.fInt Syntax.w8)) (Syntax.tyRef Syntax.erased Syntax.imm
+                  (Syntax.tyInt Syntax.w8)) 0,
+            ) (List._∷_ (9, Rows'.sslice (Referent.rtF (Referent.fInt Syntax.w8)) (Syntax.tyRef Syntax.erased Syntax.imm (Syntax.tyInt Syntax.w8)) 0) (List._∷_ (
               10,
-              Rows'.sc-shr (Rows.arrF (Referent.rtF (Referent.fInt Syntax.w16)) 768 0)
-                  (Array'.Array (Referent.rtF (Referent.fInt Syntax.w16)) 768) (λ x. x) 6,
-            ) (List._∷_ (11, Rows.arr-owed (Referent.rtF (Referent.fInt Syntax.w16)) 1 5) (List._∷_ (
+              Rows'.sc-shr (Rows.arrF (Referent.rtF (Referent.fInt Syntax.w16)) 768 0) (Array'.Array (Referent.rtF (Referent.fInt Syntax.w16)) 768) (λ x. x) 6,
+            ) (List._∷_ (
+              11,
+              Rows.arr-owed (Referent.rtF
+                  (Referent.fInt Syntax.w16)) 1 5,
+            ) (List._∷_ (
               12,
-              Rows'.any-gone
-                  (Syntax.tyStruct (List._∷_ 98 (List._∷_ 108 (List._∷_ 111 (List._∷_ 99 (List._∷_ 107 (List._∷_ 58 (List._∷_ 58 (List._∷_ 87 (List._∷_ 97 (List._∷_ 108 (List._∷_ 107 (List._∷_ 101 (List._∷_ 100
-                  List.[]))))))))))))) (Syntax.tcons Syntax.tyBool (Syntax.tcons (Syntax.tyInt Syntax.w64) (Syntax.tcons (Syntax.tyStruct (List._∷_ 98 (List._∷_ 105 (List._∷_ 116 (List._∷_ 115 (List._∷_ 58
-                  (List._∷_ 58 (List._∷_ 66 (List._∷_ 105 (List._∷_ 116 (List._∷_ 80 (List._∷_ 111 (List._∷_ 115 (List._∷_ 105 (List._∷_ 116 (List._∷_ 105 (List._∷_ 111 (List._∷_ 110 List.[])))))))))))))))))
-                  (Syntax.tcons (Syntax.tyInt Syntax.w64) Syntax.tnil)) (Syntax.tcons (Syntax.tyInt Syntax.w64) Syntax.tnil))))),
-            ) (List._∷_ (13, Rows'.any-gone (Syntax.tyArray (Syntax.tyInt Syntax.w16) 768))
-            (List._∷_ (14, Rows'.any-gone (Syntax.tyRef Syntax.erased Syntax.mut (Syntax.tyInt Syntax.w16))) (List._∷_ (
+              Rows'.any-gone (Syntax.tyStruct (List._∷_ 98 (List._∷_ 108 (List._∷_ 111 (List._∷_ 99 (List._∷_ 107 (List._∷_ 58 (List._∷_ 58 (List._∷_ 87
+                  (List._∷_ 97 (List._∷_ 108 (List._∷_ 107 (List._∷_ 101 (List._∷_ 100 List.[]))))))))))))) (Syntax.tcons Syntax.tyBool (Syntax.tcons (Syntax.tyInt Syntax.w64) (Syntax.tcons (Syntax.tyStruct
+                  (List._∷_ 98 (List._∷_ 105 (List._∷_ 116 (List._∷_ 115 (List._∷_ 58 (List._∷_ 58 (List._∷_ 66 (List._∷_ 105 (List._∷_ 116 (List._∷_ 80 (List._∷_ 111 (List._∷_ 115 (List._∷_ 105 (List._∷_ 116
+                  (List._∷_ 105 (List._∷_ 111 (List._∷_ 110 List.[]))))))))))))))))) (Syntax.tcons (Syntax.tyInt Syntax.w64) Syntax.tnil)) (Syntax.tcons (Syntax.tyInt Syntax.w64) Syntax.tnil))))),
+            ) (List._∷_
+            (13, Rows'.any-gone (Syntax.tyArray (Syntax.tyInt Syntax.w16) 768)) (List._∷_ (14, Rows'.any-gone (Syntax.tyRef Syntax.erased Syntax.mut (Syntax.tyInt Syntax.w16))) (List._∷_ (
               15,
-              Mut.mslice (Referent.rtF (Referent.fInt Syntax.w16)) (Syntax.tyRef
-                  Syntax.erased Syntax.mut (Syntax.tyInt Syntax.w16)) 3,
+              Mut.mslice (Referent.rtF (Referent.fInt Syntax.w16)) (Syntax.tyRef Syntax.erased Syntax.mut (Syntax.tyInt Syntax.w16)) 3,
             ) List.[])))))))))))))))
 
         abbrev g26 : List.List Row.Entry
@@ -2882,51 +2971,53 @@ module _ (claims· : Claims) where
               (Syntax.ttcons Syntax.tnil (Syntax.ttcons Syntax.tnil (Syntax.ttcons Syntax.tnil (Syntax.ttcons (Syntax.tcons (Syntax.tyInt Syntax.w64) Syntax.tnil) (Syntax.ttcons Syntax.tnil (Syntax.ttcons
               Syntax.tnil (Syntax.ttcons Syntax.tnil (Syntax.ttcons Syntax.tnil (Syntax.ttcons Syntax.tnil (Syntax.ttcons Syntax.tnil (Syntax.ttcons (Syntax.tcons (Syntax.tyInt Syntax.w64) Syntax.tnil)
               (Syntax.ttcons (Syntax.tcons (Syntax.tyInt Syntax.w64) Syntax.tnil) (Syntax.ttcons Syntax.tnil (Syntax.ttcons (Syntax.tcons (Syntax.tyInt Syntax.w64) (Syntax.tcons (Syntax.tyInt Syntax.w64)
-              Syntax.tnil)) (Syntax.ttcons (Syntax.tcons (Syntax.tyInt Syntax.w64) Syntax.tnil) (Syntax.ttcons Syntax.tnil Syntax.ttnil))))))))))))))))) Syntax.tnil) Syntax.ttnil))),
+              Syntax.tnil)) (Syntax.ttcons (Syntax.tcons (Syntax.tyInt Syntax.w64) Syntax.tnil) (Syntax.ttcons Syntax.tnil (Syntax.ttcons Syntax.tnil (Syntax.ttcons (Syntax.tcons (Syntax.tyInt Syntax.w64)
+              Syntax.tnil) (Syntax.ttcons (Syntax.tcons (Syntax.tyInt Syntax.w64) Syntax.tnil) (Syntax.ttcons (Syntax.tcons (Syntax.tyInt Syntax.w64) Syntax.tnil) (Syntax.ttcons Syntax.tnil
+              Syntax.ttnil)))))))))))))))))))))) Syntax.tnil) Syntax.ttnil))),
         ) (List._∷_ (
           1,
-          Rows'.sslice (Referent.rtF (Referent.fInt Syntax.w8)) (Syntax.tyRef (Syntax.named 0) Syntax.imm (Syntax.tyInt Syntax.w8)) 0,
+          Rows'.sslice (Referent.rtF (Referent.fInt Syntax.w8)) (Syntax.tyRef (Syntax.named 0) Syntax.imm (Syntax.tyInt
+              Syntax.w8)) 0,
         ) (List._∷_ (
           2,
-          Rows'.any-gone (Syntax.tyStruct (List._∷_ 115
-              (List._∷_ 116 (List._∷_ 114 (List._∷_ 101 (List._∷_ 97 (List._∷_ 109 (List._∷_ 58 (List._∷_ 58 (List._∷_ 70 (List._∷_ 117 (List._∷_ 106 (List._∷_ 105 (List._∷_ 72 (List._∷_ 101 (List._∷_ 97
-              (List._∷_ 100 (List._∷_ 101 (List._∷_ 114 List.[])))))))))))))))))) (Syntax.tcons Syntax.tyBool (Syntax.tcons Syntax.tyBool (Syntax.tcons (Syntax.tyInt Syntax.w32) (Syntax.tcons (Syntax.tyInt
-              Syntax.w32) (Syntax.tcons (Syntax.tyInt Syntax.w32) (Syntax.tcons (Syntax.tyInt Syntax.w32) (Syntax.tcons (Syntax.tyInt Syntax.w32) (Syntax.tcons (Syntax.tyInt Syntax.w32) (Syntax.tcons
-              (Syntax.tyInt Syntax.w32) Syntax.tnil)))))))))),
-        ) (List._∷_ (3, Rows'.sc-here (Row.sInt Syntax.w64)) (List._∷_ (
-          4,
-          Relend.mslice-owed (Referent.rtF (Referent.fInt Syntax.w16)) (Syntax.tyRef
-              (Syntax.named 1) Syntax.mut (Syntax.tyInt Syntax.w16)) 1 3 (Row.lease (κs .1 .0) (qs .1 .0)),
-        ) (List._∷_ (
-          5,
-          Relend.mslice-owed (Element.type) (Syntax.tyRef (Syntax.named 2) Syntax.mut
-              Element.behind) 2 4 (Row.lease (κs .1 .1 .0) (qs .1 .1 .0)),
-        ) (List._∷_ (6, Rows'.whole (Declared'.row Form.the-type)) (List._∷_ (7, Rows'.sc-here (Row.sInt Syntax.w64)) (List._∷_ (
-          8,
-          Rows'.sslice (Referent.rtF (Referent.fInt Syntax.w8)) (Syntax.tyRef Syntax.erased Syntax.imm (Syntax.tyInt Syntax.w8)) 0,
-        ) (List._∷_ (
-          9,
-          Rows'.sslice (Referent.rtF (Referent.fInt Syntax.w8))
-              (Syntax.tyRef Syntax.erased Syntax.imm (Syntax.tyInt Syntax.w8)) 0,
-        ) (List._∷_ (
-          10,
-          Rows'.sc-shr (Rows.arrF (Referent.rtF (Referent.fInt Syntax.w16)) 768 0) (Array'.Array (Referent.rtF
-              (Referent.fInt Syntax.w16)) 768) (λ x. x) 6,
-        ) (List._∷_ (11, Rows.arr-owed (Referent.rtF (Referent.fInt Syntax.w16)) 1 5) (List._∷_ (
-          12,
-          Rows'.any-gone (Syntax.tyStruct (List._∷_ 98
-              (List._∷_ 108 (List._∷_ 111 (List._∷_ 99 (List._∷_ 107 (List._∷_ 58 (List._∷_ 58 (List._∷_ 87 (List._∷_ 97 (List._∷_ 108 (List._∷_ 107 (List._∷_ 101 (List._∷_ 100 List.[])))))))))))))
-              (Syntax.tcons Syntax.tyBool (Syntax.tcons (Syntax.tyInt Syntax.w64) (Syntax.tcons (Syntax.tyStruct (List._∷_ 98 (List._∷_ 105 (List._∷_ 116 (List._∷_ 115 (List._∷_ 58 (List._∷_ 58 (List._∷_ 66
-              (List._∷_ 105 (List._∷_ 116 (List._∷_ 80 (List._∷_ 111 (List._∷_ 115 (List._∷_ 105 (List._∷_ 116 (List._∷_ 105 (List._∷_ 111 (List._∷_ 110 List.[]))))))))))))))))) (Syntax.tcons (Syntax.tyInt
-              Syntax.w64) Syntax.tnil)) (Syntax.tcons (Syntax.tyInt Syntax.w64) Syntax.tnil))))),
-        ) (List._∷_ (13, Rows'.any-gone (Syntax.tyArray (Syntax.tyInt Syntax.w16) 768)) (List._∷_ (
-          14,
-          Rows'.any-gone (Syntax.tyRef Syntax.erased Syntax.mut (Syntax.tyInt Syntax.w16)),
-        ) (List._∷_ (
-          15,
-          Mut.mslice (Referent.rtF (Referent.fInt Syntax.w16)) (Syntax.tyRef Syntax.erased Syntax.mut
-              (Syntax.tyInt Syntax.w16)) 3,
-        ) List.[])))))))))))))))
+          Rows'.any-gone (Syntax.tyStruct (List._∷_ 115 (List._∷_ 116 (List._∷_ 114 (List._∷_ 101 (List._∷_ 97 (List._∷_ 109 (List._∷_ 58 (List._∷_ 58 (List._∷_ 70
+              (List._∷_ 117 (List._∷_ 106 (List._∷_ 105 (List._∷_ 72 (List._∷_ 101 (List._∷_ 97 (List._∷_ 100 (List._∷_ 101 (List._∷_ 114 List.[])))))))))))))))))) (Syntax.tcons Syntax.tyBool (Syntax.tcons
+              Syntax.tyBool (Syntax.tcons (Syntax.tyInt Syntax.w32) (Syntax.tcons (Syntax.tyInt Syntax.w32) (Syntax.tcons (Syntax.tyInt Syntax.w32) (Syntax.tcons (Syntax.tyInt Syntax.w32) (Syntax.tcons
+              (Syntax.tyInt Syntax.w32) (Syntax.tcons (Syntax.tyInt Syntax.w32) (Syntax.tcons (Syntax.tyInt Syntax.w32) Syntax.tnil)))))))))),
+        ) (List._∷_ (3, Rows'.sc-here (Row.sInt Syntax.w64)) (List._∷_
+            (4, Relend.mslice-owed (Referent.rtF (Referent.fInt Syntax.w16)) (Syntax.tyRef (Syntax.named 1) Syntax.mut (Syntax.tyInt Syntax.w16)) 1 3 (Row.lease (κs .1 .0) (qs .1 .0))) (List._∷_ (
+              5,
+              Relend.mslice-owed (Element.type) (Syntax.tyRef (Syntax.named 2) Syntax.mut Element.behind) 2 4 (Row.lease (κs .1 .1 .0) (qs .1 .1 .0)),
+            ) (List._∷_ (
+              6,
+              Rows'.whole (Declared'.row
+                  Form.the-type),
+            ) (List._∷_ (7, Rows'.sc-here (Row.sInt Syntax.w64)) (List._∷_ (
+              8,
+              Rows'.sslice (Referent.rtF (Referent.fInt Syntax.w8)) (Syntax.tyRef Syntax.erased Syntax.imm (Syntax.tyInt
+                  Syntax.w8)) 0,
+            ) (List._∷_ (9, Rows'.sslice (Referent.rtF (Referent.fInt Syntax.w8)) (Syntax.tyRef Syntax.erased Syntax.imm (Syntax.tyInt Syntax.w8)) 0) (List._∷_ (
+              10,
+              Rows'.sc-shr
+                  (Rows.arrF (Referent.rtF (Referent.fInt Syntax.w16)) 768 0) (Array'.Array (Referent.rtF (Referent.fInt Syntax.w16)) 768) (λ x. x) 6,
+            ) (List._∷_ (
+              11,
+              Rows.arr-owed (Referent.rtF (Referent.fInt
+                  Syntax.w16)) 1 5,
+            ) (List._∷_ (
+              12,
+              Rows'.any-gone (Syntax.tyStruct (List._∷_ 98 (List._∷_ 108 (List._∷_ 111 (List._∷_ 99 (List._∷_ 107 (List._∷_ 58 (List._∷_ 58 (List._∷_ 87 (List._∷_ 97
+                  (List._∷_ 108 (List._∷_ 107 (List._∷_ 101 (List._∷_ 100 List.[]))))))))))))) (Syntax.tcons Syntax.tyBool (Syntax.tcons (Syntax.tyInt Syntax.w64) (Syntax.tcons (Syntax.tyStruct (List._∷_ 98
+                  (List._∷_ 105 (List._∷_ 116 (List._∷_ 115 (List._∷_ 58 (List._∷_ 58 (List._∷_ 66 (List._∷_ 105 (List._∷_ 116 (List._∷_ 80 (List._∷_ 111 (List._∷_ 115 (List._∷_ 105 (List._∷_ 116 (List._∷_ 105
+                  (List._∷_ 111 (List._∷_ 110 List.[]))))))))))))))))) (Syntax.tcons (Syntax.tyInt Syntax.w64) Syntax.tnil)) (Syntax.tcons (Syntax.tyInt Syntax.w64) Syntax.tnil))))),
+            ) (List._∷_ (
+              13,
+              Rows'.any-gone (Syntax.tyArray (Syntax.tyInt Syntax.w16) 768),
+            ) (List._∷_ (14, Rows'.any-gone (Syntax.tyRef Syntax.erased Syntax.mut (Syntax.tyInt Syntax.w16))) (List._∷_ (
+              15,
+              Mut.mslice
+                  (Referent.rtF (Referent.fInt Syntax.w16)) (Syntax.tyRef Syntax.erased Syntax.mut (Syntax.tyInt Syntax.w16)) 3,
+            ) List.[])))))))))))))))
 
         abbrev g27 : List.List Row.Entry
         g27 = List._∷_ (
@@ -2937,40 +3028,47 @@ module _ (claims· : Claims) where
               (Syntax.ttcons Syntax.tnil (Syntax.ttcons Syntax.tnil (Syntax.ttcons Syntax.tnil (Syntax.ttcons (Syntax.tcons (Syntax.tyInt Syntax.w64) Syntax.tnil) (Syntax.ttcons Syntax.tnil (Syntax.ttcons
               Syntax.tnil (Syntax.ttcons Syntax.tnil (Syntax.ttcons Syntax.tnil (Syntax.ttcons Syntax.tnil (Syntax.ttcons Syntax.tnil (Syntax.ttcons (Syntax.tcons (Syntax.tyInt Syntax.w64) Syntax.tnil)
               (Syntax.ttcons (Syntax.tcons (Syntax.tyInt Syntax.w64) Syntax.tnil) (Syntax.ttcons Syntax.tnil (Syntax.ttcons (Syntax.tcons (Syntax.tyInt Syntax.w64) (Syntax.tcons (Syntax.tyInt Syntax.w64)
-              Syntax.tnil)) (Syntax.ttcons (Syntax.tcons (Syntax.tyInt Syntax.w64) Syntax.tnil) (Syntax.ttcons Syntax.tnil Syntax.ttnil))))))))))))))))) Syntax.tnil) Syntax.ttnil))),
+              Syntax.tnil)) (Syntax.ttcons (Syntax.tcons (Syntax.tyInt Syntax.w64) Syntax.tnil) (Syntax.ttcons Syntax.tnil (Syntax.ttcons Syntax.tnil (Syntax.ttcons (Syntax.tcons (Syntax.tyInt Syntax.w64)
+              Syntax.tnil) (Syntax.ttcons (Syntax.tcons (Syntax.tyInt Syntax.w64) Syntax.tnil) (Syntax.ttcons (Syntax.tcons (Syntax.tyInt Syntax.w64) Syntax.tnil) (Syntax.ttcons Syntax.tnil
+              Syntax.ttnil)))))))))))))))))))))) Syntax.tnil) Syntax.ttnil))),
         ) (List._∷_ (
           1,
-          Rows'.sslice (Referent.rtF (Referent.fInt Syntax.w8)) (Syntax.tyRef (Syntax.named 0) Syntax.imm (Syntax.tyInt Syntax.w8)) 0,
+          Rows'.sslice (Referent.rtF (Referent.fInt Syntax.w8)) (Syntax.tyRef (Syntax.named 0) Syntax.imm (Syntax.tyInt
+              Syntax.w8)) 0,
         ) (List._∷_ (
           2,
-          Rows'.any-gone (Syntax.tyStruct (List._∷_ 115
-              (List._∷_ 116 (List._∷_ 114 (List._∷_ 101 (List._∷_ 97 (List._∷_ 109 (List._∷_ 58 (List._∷_ 58 (List._∷_ 70 (List._∷_ 117 (List._∷_ 106 (List._∷_ 105 (List._∷_ 72 (List._∷_ 101 (List._∷_ 97
-              (List._∷_ 100 (List._∷_ 101 (List._∷_ 114 List.[])))))))))))))))))) (Syntax.tcons Syntax.tyBool (Syntax.tcons Syntax.tyBool (Syntax.tcons (Syntax.tyInt Syntax.w32) (Syntax.tcons (Syntax.tyInt
-              Syntax.w32) (Syntax.tcons (Syntax.tyInt Syntax.w32) (Syntax.tcons (Syntax.tyInt Syntax.w32) (Syntax.tcons (Syntax.tyInt Syntax.w32) (Syntax.tcons (Syntax.tyInt Syntax.w32) (Syntax.tcons
-              (Syntax.tyInt Syntax.w32) Syntax.tnil)))))))))),
-        ) (List._∷_ (3, Rows'.sc-here (Row.sInt Syntax.w64)) (List._∷_ (
-          4,
-          Relend.mslice-owed (Referent.rtF (Referent.fInt Syntax.w16)) (Syntax.tyRef
-              (Syntax.named 1) Syntax.mut (Syntax.tyInt Syntax.w16)) 1 3 (Row.lease (κs .1 .0) (qs .1 .0)),
-        ) (List._∷_ (
-          5,
-          Relend.mslice-owed (Element.type) (Syntax.tyRef (Syntax.named 2) Syntax.mut
-              Element.behind) 2 4 (Row.lease (κs .1 .1 .0) (qs .1 .1 .0)),
-        ) (List._∷_ (6, Rows'.whole (Declared'.row Form.the-type)) (List._∷_ (7, Rows'.sc-here (Row.sInt Syntax.w64)) (List._∷_ (
-          8,
-          Rows'.sslice (Referent.rtF (Referent.fInt Syntax.w8)) (Syntax.tyRef Syntax.erased Syntax.imm (Syntax.tyInt Syntax.w8)) 0,
-        ) (List._∷_ (
-          9,
-          Rows'.sslice (Referent.rtF (Referent.fInt Syntax.w8))
-              (Syntax.tyRef Syntax.erased Syntax.imm (Syntax.tyInt Syntax.w8)) 0,
-        ) (List._∷_ (
-          10,
-          Rows'.sc-shr (Rows.arrF (Referent.rtF (Referent.fInt Syntax.w16)) 768 0) (Array'.Array (Referent.rtF
-              (Referent.fInt Syntax.w16)) 768) (λ x. x) 6,
-        ) (List._∷_ (11, Rows.arr-owed (Referent.rtF (Referent.fInt Syntax.w16)) 1 5) (List._∷_ (12, Rows'.whole (Declared'.row Walked.the-type))
-            (List._∷_ (13, Rows'.any-gone (Syntax.tyArray (Syntax.tyInt Syntax.w16) 768)) (List._∷_ (14, Rows'.any-gone (Syntax.tyRef Syntax.erased Syntax.mut (Syntax.tyInt Syntax.w16))) (List._∷_ (
+          Rows'.any-gone (Syntax.tyStruct (List._∷_ 115 (List._∷_ 116 (List._∷_ 114 (List._∷_ 101 (List._∷_ 97 (List._∷_ 109 (List._∷_ 58 (List._∷_ 58 (List._∷_ 70
+              (List._∷_ 117 (List._∷_ 106 (List._∷_ 105 (List._∷_ 72 (List._∷_ 101 (List._∷_ 97 (List._∷_ 100 (List._∷_ 101 (List._∷_ 114 List.[])))))))))))))))))) (Syntax.tcons Syntax.tyBool (Syntax.tcons
+              Syntax.tyBool (Syntax.tcons (Syntax.tyInt Syntax.w32) (Syntax.tcons (Syntax.tyInt Syntax.w32) (Syntax.tcons (Syntax.tyInt Syntax.w32) (Syntax.tcons (Syntax.tyInt Syntax.w32) (Syntax.tcons
+              (Syntax.tyInt Syntax.w32) (Syntax.tcons (Syntax.tyInt Syntax.w32) (Syntax.tcons (Syntax.tyInt Syntax.w32) Syntax.tnil)))))))))),
+        ) (List._∷_ (3, Rows'.sc-here (Row.sInt Syntax.w64)) (List._∷_
+            (4, Relend.mslice-owed (Referent.rtF (Referent.fInt Syntax.w16)) (Syntax.tyRef (Syntax.named 1) Syntax.mut (Syntax.tyInt Syntax.w16)) 1 3 (Row.lease (κs .1 .0) (qs .1 .0))) (List._∷_ (
+              5,
+              Relend.mslice-owed (Element.type) (Syntax.tyRef (Syntax.named 2) Syntax.mut Element.behind) 2 4 (Row.lease (κs .1 .1 .0) (qs .1 .1 .0)),
+            ) (List._∷_ (
+              6,
+              Rows'.whole (Declared'.row
+                  Form.the-type),
+            ) (List._∷_ (7, Rows'.sc-here (Row.sInt Syntax.w64)) (List._∷_ (
+              8,
+              Rows'.sslice (Referent.rtF (Referent.fInt Syntax.w8)) (Syntax.tyRef Syntax.erased Syntax.imm (Syntax.tyInt
+                  Syntax.w8)) 0,
+            ) (List._∷_ (9, Rows'.sslice (Referent.rtF (Referent.fInt Syntax.w8)) (Syntax.tyRef Syntax.erased Syntax.imm (Syntax.tyInt Syntax.w8)) 0) (List._∷_ (
+              10,
+              Rows'.sc-shr
+                  (Rows.arrF (Referent.rtF (Referent.fInt Syntax.w16)) 768 0) (Array'.Array (Referent.rtF (Referent.fInt Syntax.w16)) 768) (λ x. x) 6,
+            ) (List._∷_ (
+              11,
+              Rows.arr-owed (Referent.rtF (Referent.fInt
+                  Syntax.w16)) 1 5,
+            ) (List._∷_ (12, Rows'.whole (Declared'.row Walked.the-type)) (List._∷_ (13, Rows'.any-gone (Syntax.tyArray (Syntax.tyInt Syntax.w16) 768)) (List._∷_ (
+              14,
+              Rows'.any-gone
+                  (Syntax.tyRef Syntax.erased Syntax.mut (Syntax.tyInt Syntax.w16)),
+            ) (List._∷_ (
               15,
-              Mut.msleft (Referent.rtF (Referent.fInt Syntax.w16)) (Syntax.tyRef Syntax.erased Syntax.mut (Syntax.tyInt Syntax.w16)),
+              Mut.msleft (Referent.rtF (Referent.fInt Syntax.w16)) (Syntax.tyRef Syntax.erased Syntax.mut (Syntax.tyInt
+                  Syntax.w16)),
             ) List.[])))))))))))))))
 
         abbrev g29 : List.List Row.Entry
@@ -2982,47 +3080,47 @@ module _ (claims· : Claims) where
               (Syntax.ttcons Syntax.tnil (Syntax.ttcons Syntax.tnil (Syntax.ttcons Syntax.tnil (Syntax.ttcons (Syntax.tcons (Syntax.tyInt Syntax.w64) Syntax.tnil) (Syntax.ttcons Syntax.tnil (Syntax.ttcons
               Syntax.tnil (Syntax.ttcons Syntax.tnil (Syntax.ttcons Syntax.tnil (Syntax.ttcons Syntax.tnil (Syntax.ttcons Syntax.tnil (Syntax.ttcons (Syntax.tcons (Syntax.tyInt Syntax.w64) Syntax.tnil)
               (Syntax.ttcons (Syntax.tcons (Syntax.tyInt Syntax.w64) Syntax.tnil) (Syntax.ttcons Syntax.tnil (Syntax.ttcons (Syntax.tcons (Syntax.tyInt Syntax.w64) (Syntax.tcons (Syntax.tyInt Syntax.w64)
-              Syntax.tnil)) (Syntax.ttcons (Syntax.tcons (Syntax.tyInt Syntax.w64) Syntax.tnil) (Syntax.ttcons Syntax.tnil Syntax.ttnil))))))))))))))))) Syntax.tnil) Syntax.ttnil))),
+              Syntax.tnil)) (Syntax.ttcons (Syntax.tcons (Syntax.tyInt Syntax.w64) Syntax.tnil) (Syntax.ttcons Syntax.tnil (Syntax.ttcons Syntax.tnil (Syntax.ttcons (Syntax.tcons (Syntax.tyInt Syntax.w64)
+              Syntax.tnil) (Syntax.ttcons (Syntax.tcons (Syntax.tyInt Syntax.w64) Syntax.tnil) (Syntax.ttcons (Syntax.tcons (Syntax.tyInt Syntax.w64) Syntax.tnil) (Syntax.ttcons Syntax.tnil
+              Syntax.ttnil)))))))))))))))))))))) Syntax.tnil) Syntax.ttnil))),
         ) (List._∷_ (
           1,
-          Rows'.sslice (Referent.rtF (Referent.fInt Syntax.w8)) (Syntax.tyRef (Syntax.named 0) Syntax.imm (Syntax.tyInt Syntax.w8)) 0,
+          Rows'.sslice (Referent.rtF (Referent.fInt Syntax.w8)) (Syntax.tyRef (Syntax.named 0) Syntax.imm (Syntax.tyInt
+              Syntax.w8)) 0,
         ) (List._∷_ (
           2,
-          Rows'.any-gone (Syntax.tyStruct (List._∷_ 115
-              (List._∷_ 116 (List._∷_ 114 (List._∷_ 101 (List._∷_ 97 (List._∷_ 109 (List._∷_ 58 (List._∷_ 58 (List._∷_ 70 (List._∷_ 117 (List._∷_ 106 (List._∷_ 105 (List._∷_ 72 (List._∷_ 101 (List._∷_ 97
-              (List._∷_ 100 (List._∷_ 101 (List._∷_ 114 List.[])))))))))))))))))) (Syntax.tcons Syntax.tyBool (Syntax.tcons Syntax.tyBool (Syntax.tcons (Syntax.tyInt Syntax.w32) (Syntax.tcons (Syntax.tyInt
-              Syntax.w32) (Syntax.tcons (Syntax.tyInt Syntax.w32) (Syntax.tcons (Syntax.tyInt Syntax.w32) (Syntax.tcons (Syntax.tyInt Syntax.w32) (Syntax.tcons (Syntax.tyInt Syntax.w32) (Syntax.tcons
-              (Syntax.tyInt Syntax.w32) Syntax.tnil)))))))))),
-        ) (List._∷_ (3, Rows'.sc-here (Row.sInt Syntax.w64)) (List._∷_ (
-          4,
-          Relend.mslice-owed (Referent.rtF (Referent.fInt Syntax.w16)) (Syntax.tyRef
-              (Syntax.named 1) Syntax.mut (Syntax.tyInt Syntax.w16)) 1 3 (Row.lease (κs .1 .0) (qs .1 .0)),
-        ) (List._∷_ (
-          5,
-          Relend.mslice-owed (Element.type) (Syntax.tyRef (Syntax.named 2) Syntax.mut
-              Element.behind) 2 4 (Row.lease (κs .1 .1 .0) (qs .1 .1 .0)),
-        ) (List._∷_ (6, Rows'.whole (Declared'.row Form.the-type)) (List._∷_ (7, Rows'.sc-here (Row.sInt Syntax.w64)) (List._∷_ (
-          8,
-          Rows'.sslice (Referent.rtF (Referent.fInt Syntax.w8)) (Syntax.tyRef Syntax.erased Syntax.imm (Syntax.tyInt Syntax.w8)) 0,
-        ) (List._∷_ (
-          9,
-          Rows'.any-gone (Syntax.tyStruct (List._∷_ 38
-              (List._∷_ 91 (List._∷_ 93 List.[]))) (Syntax.tcons (Syntax.tyRef Syntax.erased Syntax.imm (Syntax.tyInt Syntax.w8)) (Syntax.tcons (Syntax.tyInt Syntax.w64) Syntax.tnil))),
-        ) (List._∷_ (
-          10,
-          Rows'.sc-shr (Rows.arrF (Referent.rtF (Referent.fInt Syntax.w16)) 768 0) (Array'.Array (Referent.rtF (Referent.fInt Syntax.w16)) 768) (λ x. x) 6,
-        ) (List._∷_ (
-          11,
-          Rows.arr-owed (Referent.rtF
-              (Referent.fInt Syntax.w16)) 1 5,
-        ) (List._∷_ (12, Rows'.whole (Declared'.row Walked.the-type)) (List._∷_ (13, Rows'.any-gone (Syntax.tyArray (Syntax.tyInt Syntax.w16) 768)) (List._∷_ (
-          14,
-          Rows'.any-gone (Syntax.tyRef Syntax.erased Syntax.mut (Syntax.tyInt Syntax.w16)),
-        ) (List._∷_ (
-          15,
-          Mut.msleft (Referent.rtF (Referent.fInt Syntax.w16)) (Syntax.tyRef Syntax.erased Syntax.mut
-              (Syntax.tyInt Syntax.w16)),
-        ) List.[])))))))))))))))
+          Rows'.any-gone (Syntax.tyStruct (List._∷_ 115 (List._∷_ 116 (List._∷_ 114 (List._∷_ 101 (List._∷_ 97 (List._∷_ 109 (List._∷_ 58 (List._∷_ 58 (List._∷_ 70
+              (List._∷_ 117 (List._∷_ 106 (List._∷_ 105 (List._∷_ 72 (List._∷_ 101 (List._∷_ 97 (List._∷_ 100 (List._∷_ 101 (List._∷_ 114 List.[])))))))))))))))))) (Syntax.tcons Syntax.tyBool (Syntax.tcons
+              Syntax.tyBool (Syntax.tcons (Syntax.tyInt Syntax.w32) (Syntax.tcons (Syntax.tyInt Syntax.w32) (Syntax.tcons (Syntax.tyInt Syntax.w32) (Syntax.tcons (Syntax.tyInt Syntax.w32) (Syntax.tcons
+              (Syntax.tyInt Syntax.w32) (Syntax.tcons (Syntax.tyInt Syntax.w32) (Syntax.tcons (Syntax.tyInt Syntax.w32) Syntax.tnil)))))))))),
+        ) (List._∷_ (3, Rows'.sc-here (Row.sInt Syntax.w64)) (List._∷_
+            (4, Relend.mslice-owed (Referent.rtF (Referent.fInt Syntax.w16)) (Syntax.tyRef (Syntax.named 1) Syntax.mut (Syntax.tyInt Syntax.w16)) 1 3 (Row.lease (κs .1 .0) (qs .1 .0))) (List._∷_ (
+              5,
+              Relend.mslice-owed (Element.type) (Syntax.tyRef (Syntax.named 2) Syntax.mut Element.behind) 2 4 (Row.lease (κs .1 .1 .0) (qs .1 .1 .0)),
+            ) (List._∷_ (
+              6,
+              Rows'.whole (Declared'.row
+                  Form.the-type),
+            ) (List._∷_ (7, Rows'.sc-here (Row.sInt Syntax.w64)) (List._∷_ (
+              8,
+              Rows'.sslice (Referent.rtF (Referent.fInt Syntax.w8)) (Syntax.tyRef Syntax.erased Syntax.imm (Syntax.tyInt
+                  Syntax.w8)) 0,
+            ) (List._∷_ (
+              9,
+              Rows'.any-gone (Syntax.tyStruct (List._∷_ 38 (List._∷_ 91 (List._∷_ 93 List.[]))) (Syntax.tcons (Syntax.tyRef Syntax.erased Syntax.imm (Syntax.tyInt Syntax.w8))
+                  (Syntax.tcons (Syntax.tyInt Syntax.w64) Syntax.tnil))),
+            ) (List._∷_ (
+              10,
+              Rows'.sc-shr (Rows.arrF (Referent.rtF (Referent.fInt Syntax.w16)) 768 0) (Array'.Array (Referent.rtF (Referent.fInt
+                  Syntax.w16)) 768) (λ x. x) 6,
+            ) (List._∷_ (11, Rows.arr-owed (Referent.rtF (Referent.fInt Syntax.w16)) 1 5) (List._∷_ (12, Rows'.whole (Declared'.row Walked.the-type)) (List._∷_ (
+              13,
+              Rows'.any-gone (Syntax.tyArray (Syntax.tyInt Syntax.w16) 768),
+            ) (List._∷_ (14, Rows'.any-gone (Syntax.tyRef Syntax.erased Syntax.mut (Syntax.tyInt Syntax.w16))) (List._∷_ (
+              15,
+              Mut.msleft
+                  (Referent.rtF (Referent.fInt Syntax.w16)) (Syntax.tyRef Syntax.erased Syntax.mut (Syntax.tyInt Syntax.w16)),
+            ) List.[])))))))))))))))
 
         abbrev g33 : List.List Row.Entry
         g33 = List._∷_ (
@@ -3033,49 +3131,45 @@ module _ (claims· : Claims) where
               (Syntax.ttcons Syntax.tnil (Syntax.ttcons Syntax.tnil (Syntax.ttcons Syntax.tnil (Syntax.ttcons (Syntax.tcons (Syntax.tyInt Syntax.w64) Syntax.tnil) (Syntax.ttcons Syntax.tnil (Syntax.ttcons
               Syntax.tnil (Syntax.ttcons Syntax.tnil (Syntax.ttcons Syntax.tnil (Syntax.ttcons Syntax.tnil (Syntax.ttcons Syntax.tnil (Syntax.ttcons (Syntax.tcons (Syntax.tyInt Syntax.w64) Syntax.tnil)
               (Syntax.ttcons (Syntax.tcons (Syntax.tyInt Syntax.w64) Syntax.tnil) (Syntax.ttcons Syntax.tnil (Syntax.ttcons (Syntax.tcons (Syntax.tyInt Syntax.w64) (Syntax.tcons (Syntax.tyInt Syntax.w64)
-              Syntax.tnil)) (Syntax.ttcons (Syntax.tcons (Syntax.tyInt Syntax.w64) Syntax.tnil) (Syntax.ttcons Syntax.tnil Syntax.ttnil))))))))))))))))) Syntax.tnil) Syntax.ttnil))),
+              Syntax.tnil)) (Syntax.ttcons (Syntax.tcons (Syntax.tyInt Syntax.w64) Syntax.tnil) (Syntax.ttcons Syntax.tnil (Syntax.ttcons Syntax.tnil (Syntax.ttcons (Syntax.tcons (Syntax.tyInt Syntax.w64)
+              Syntax.tnil) (Syntax.ttcons (Syntax.tcons (Syntax.tyInt Syntax.w64) Syntax.tnil) (Syntax.ttcons (Syntax.tcons (Syntax.tyInt Syntax.w64) Syntax.tnil) (Syntax.ttcons Syntax.tnil
+              Syntax.ttnil)))))))))))))))))))))) Syntax.tnil) Syntax.ttnil))),
         ) (List._∷_ (
           1,
-          Rows'.sslice (Referent.rtF (Referent.fInt Syntax.w8)) (Syntax.tyRef (Syntax.named 0) Syntax.imm (Syntax.tyInt Syntax.w8)) 0,
+          Rows'.sslice (Referent.rtF (Referent.fInt Syntax.w8)) (Syntax.tyRef (Syntax.named 0) Syntax.imm (Syntax.tyInt
+              Syntax.w8)) 0,
         ) (List._∷_ (
           2,
-          Rows'.any-gone (Syntax.tyStruct (List._∷_ 115
-              (List._∷_ 116 (List._∷_ 114 (List._∷_ 101 (List._∷_ 97 (List._∷_ 109 (List._∷_ 58 (List._∷_ 58 (List._∷_ 70 (List._∷_ 117 (List._∷_ 106 (List._∷_ 105 (List._∷_ 72 (List._∷_ 101 (List._∷_ 97
-              (List._∷_ 100 (List._∷_ 101 (List._∷_ 114 List.[])))))))))))))))))) (Syntax.tcons Syntax.tyBool (Syntax.tcons Syntax.tyBool (Syntax.tcons (Syntax.tyInt Syntax.w32) (Syntax.tcons (Syntax.tyInt
-              Syntax.w32) (Syntax.tcons (Syntax.tyInt Syntax.w32) (Syntax.tcons (Syntax.tyInt Syntax.w32) (Syntax.tcons (Syntax.tyInt Syntax.w32) (Syntax.tcons (Syntax.tyInt Syntax.w32) (Syntax.tcons
-              (Syntax.tyInt Syntax.w32) Syntax.tnil)))))))))),
-        ) (List._∷_ (3, Rows'.sc-here (Row.sInt Syntax.w64)) (List._∷_ (
-          4,
-          Mut.mslice (Referent.rtF (Referent.fInt Syntax.w16)) (Syntax.tyRef
-              (Syntax.named 1) Syntax.mut (Syntax.tyInt Syntax.w16)) 1,
-        ) (List._∷_ (
-          5,
-          Relend.mslice-owed (Element.type) (Syntax.tyRef (Syntax.named 2) Syntax.mut Element.behind) 2 4 (Row.lease (κs .1 .1
-              .0) (qs .1 .1 .0)),
-        ) (List._∷_ (6, Rows'.whole (Declared'.row Form.the-type)) (List._∷_ (7, Rows'.sc-here (Row.sInt Syntax.w64)) (List._∷_ (
-          8,
-          Rows'.sslice (Referent.rtF (Referent.fInt
-              Syntax.w8)) (Syntax.tyRef Syntax.erased Syntax.imm (Syntax.tyInt Syntax.w8)) 0,
-        ) (List._∷_ (
-          9,
-          Rows'.any-gone (Syntax.tyStruct (List._∷_ 38 (List._∷_ 91 (List._∷_ 93 List.[]))) (Syntax.tcons
-              (Syntax.tyRef Syntax.erased Syntax.imm (Syntax.tyInt Syntax.w8)) (Syntax.tcons (Syntax.tyInt Syntax.w64) Syntax.tnil))),
-        ) (List._∷_ (
-          10,
-          Rows'.sc-shr (Rows.arrF (Referent.rtF (Referent.fInt
-              Syntax.w16)) 768 0) (Array'.Array (Referent.rtF (Referent.fInt Syntax.w16)) 768) (λ x. x) 6,
-        ) (List._∷_ (11, Rows.arr-owed (Referent.rtF (Referent.fInt Syntax.w16)) 1 5) (List._∷_ (
-          12,
-          Rows'.whole (Declared'.row Walked.the-type),
-        ) (List._∷_ (13, Rows'.any-gone (Syntax.tyArray (Syntax.tyInt Syntax.w16) 768)) (List._∷_ (
-          14,
-          Rows'.any-gone (Syntax.tyRef Syntax.erased
-              Syntax.mut (Syntax.tyInt Syntax.w16)),
-        ) (List._∷_ (
-          15,
-          Rows'.any-gone (Syntax.tyStruct (List._∷_ 38 (List._∷_ 91 (List._∷_ 93 List.[]))) (Syntax.tcons (Syntax.tyRef Syntax.erased Syntax.mut
-              (Syntax.tyInt Syntax.w16)) (Syntax.tcons (Syntax.tyInt Syntax.w64) Syntax.tnil))),
-        ) List.[])))))))))))))))
+          Rows'.any-gone (Syntax.tyStruct (List._∷_ 115 (List._∷_ 116 (List._∷_ 114 (List._∷_ 101 (List._∷_ 97 (List._∷_ 109 (List._∷_ 58 (List._∷_ 58 (List._∷_ 70
+              (List._∷_ 117 (List._∷_ 106 (List._∷_ 105 (List._∷_ 72 (List._∷_ 101 (List._∷_ 97 (List._∷_ 100 (List._∷_ 101 (List._∷_ 114 List.[])))))))))))))))))) (Syntax.tcons Syntax.tyBool (Syntax.tcons
+              Syntax.tyBool (Syntax.tcons (Syntax.tyInt Syntax.w32) (Syntax.tcons (Syntax.tyInt Syntax.w32) (Syntax.tcons (Syntax.tyInt Syntax.w32) (Syntax.tcons (Syntax.tyInt Syntax.w32) (Syntax.tcons
+              (Syntax.tyInt Syntax.w32) (Syntax.tcons (Syntax.tyInt Syntax.w32) (Syntax.tcons (Syntax.tyInt Syntax.w32) Syntax.tnil)))))))))),
+        ) (List._∷_ (3, Rows'.sc-here (Row.sInt Syntax.w64)) (List._∷_
+            (4, Mut.mslice (Referent.rtF (Referent.fInt Syntax.w16)) (Syntax.tyRef (Syntax.named 1) Syntax.mut (Syntax.tyInt Syntax.w16)) 1) (List._∷_ (
+              5,
+              Relend.mslice-owed (Element.type)
+                  (Syntax.tyRef (Syntax.named 2) Syntax.mut Element.behind) 2 4 (Row.lease (κs .1 .1 .0) (qs .1 .1 .0)),
+            ) (List._∷_ (6, Rows'.whole (Declared'.row Form.the-type)) (List._∷_ (
+              7,
+              Rows'.sc-here
+                  (Row.sInt Syntax.w64),
+            ) (List._∷_ (8, Rows'.sslice (Referent.rtF (Referent.fInt Syntax.w8)) (Syntax.tyRef Syntax.erased Syntax.imm (Syntax.tyInt Syntax.w8)) 0) (List._∷_ (
+              9,
+              Rows'.any-gone (Syntax.tyStruct (List._∷_ 38 (List._∷_ 91 (List._∷_ 93 List.[]))) (Syntax.tcons (Syntax.tyRef Syntax.erased Syntax.imm (Syntax.tyInt Syntax.w8)) (Syntax.tcons (Syntax.tyInt
+                  Syntax.w64) Syntax.tnil))),
+            ) (List._∷_ (
+              10,
+              Rows'.sc-shr (Rows.arrF (Referent.rtF (Referent.fInt Syntax.w16)) 768 0) (Array'.Array (Referent.rtF (Referent.fInt Syntax.w16)) 768) (λ x. x) 6,
+            ) (List._∷_ (11, Rows.arr-owed (Referent.rtF (Referent.fInt Syntax.w16)) 1 5) (List._∷_ (12, Rows'.whole (Declared'.row Walked.the-type)) (List._∷_ (
+              13,
+              Rows'.any-gone (Syntax.tyArray
+                  (Syntax.tyInt Syntax.w16) 768),
+            ) (List._∷_ (14, Rows'.any-gone (Syntax.tyRef Syntax.erased Syntax.mut (Syntax.tyInt Syntax.w16))) (List._∷_ (
+              15,
+              Rows'.any-gone (Syntax.tyStruct (List._∷_ 38
+                  (List._∷_ 91 (List._∷_ 93 List.[]))) (Syntax.tcons (Syntax.tyRef Syntax.erased Syntax.mut (Syntax.tyInt Syntax.w16)) (Syntax.tcons (Syntax.tyInt Syntax.w64) Syntax.tnil))),
+            )
+            List.[])))))))))))))))
 
         abbrev G0 : Row.Cx
         G0 = record {
@@ -3552,8 +3646,9 @@ module _ (claims· : Claims) where
               (List._∷_ 108 List.[]))))))))))))))) (Syntax.ttcons Syntax.tnil (Syntax.ttcons Syntax.tnil (Syntax.ttcons Syntax.tnil (Syntax.ttcons (Syntax.tcons (Syntax.tyInt Syntax.w64) Syntax.tnil)
               (Syntax.ttcons Syntax.tnil (Syntax.ttcons Syntax.tnil (Syntax.ttcons Syntax.tnil (Syntax.ttcons Syntax.tnil (Syntax.ttcons Syntax.tnil (Syntax.ttcons Syntax.tnil (Syntax.ttcons (Syntax.tcons
               (Syntax.tyInt Syntax.w64) Syntax.tnil) (Syntax.ttcons (Syntax.tcons (Syntax.tyInt Syntax.w64) Syntax.tnil) (Syntax.ttcons Syntax.tnil (Syntax.ttcons (Syntax.tcons (Syntax.tyInt Syntax.w64)
-              (Syntax.tcons (Syntax.tyInt Syntax.w64) Syntax.tnil)) (Syntax.ttcons (Syntax.tcons (Syntax.tyInt Syntax.w64) Syntax.tnil) (Syntax.ttcons Syntax.tnil Syntax.ttnil)))))))))))))))))
-              Syntax.tnil) Syntax.ttnil)))) (tt, tt) Path'.refl) d5
+              (Syntax.tcons (Syntax.tyInt Syntax.w64) Syntax.tnil)) (Syntax.ttcons (Syntax.tcons (Syntax.tyInt Syntax.w64) Syntax.tnil) (Syntax.ttcons Syntax.tnil (Syntax.ttcons Syntax.tnil (Syntax.ttcons
+              (Syntax.tcons (Syntax.tyInt Syntax.w64) Syntax.tnil) (Syntax.ttcons (Syntax.tcons (Syntax.tyInt Syntax.w64) Syntax.tnil) (Syntax.ttcons (Syntax.tcons (Syntax.tyInt Syntax.w64) Syntax.tnil)
+              (Syntax.ttcons Syntax.tnil Syntax.ttnil)))))))))))))))))))))) Syntax.tnil) Syntax.ttnil)))) (tt, tt) Path'.refl) d5
 
           d7 : Typed.Typed 𝓤 H A 𝓣 E G47 b19 Δ0 (at7 bs)
           d7 = Typed.g-pre 𝓤 H A W 𝓣 E G47 G48 b19 Δ0 (Typed.pass T46 T48 (s46 bs)) (at6 bs) (Scalar.g-room 𝓤 H A W E G47 10 (Syntax.tyArray (Syntax.tyInt Syntax.w16) 768) (Init.room-arr 𝓤 H A W

@@ -112,15 +112,18 @@ xs = List._∷_ (Syntax.tyInt Syntax.w64) (List._∷_ (Syntax.tyInt Syntax.w64) 
     (Syntax.ttcons Syntax.tnil (Syntax.ttcons Syntax.tnil (Syntax.ttcons Syntax.tnil (Syntax.ttcons (Syntax.tcons (Syntax.tyInt Syntax.w64) Syntax.tnil) (Syntax.ttcons Syntax.tnil (Syntax.ttcons
     Syntax.tnil (Syntax.ttcons Syntax.tnil (Syntax.ttcons Syntax.tnil (Syntax.ttcons Syntax.tnil (Syntax.ttcons Syntax.tnil (Syntax.ttcons (Syntax.tcons (Syntax.tyInt Syntax.w64) Syntax.tnil)
     (Syntax.ttcons (Syntax.tcons (Syntax.tyInt Syntax.w64) Syntax.tnil) (Syntax.ttcons Syntax.tnil (Syntax.ttcons (Syntax.tcons (Syntax.tyInt Syntax.w64) (Syntax.tcons (Syntax.tyInt Syntax.w64)
-    Syntax.tnil)) (Syntax.ttcons (Syntax.tcons (Syntax.tyInt Syntax.w64) Syntax.tnil) (Syntax.ttcons Syntax.tnil Syntax.ttnil))))))))))))))))) (List._∷_ (Syntax.tyEnum (List._∷_ 115 (List._∷_ 116
-    (List._∷_ 114 (List._∷_ 101 (List._∷_ 97 (List._∷_ 109 (List._∷_ 58 (List._∷_ 58 (List._∷_ 82 (List._∷_ 101 (List._∷_ 102 (List._∷_ 117 (List._∷_ 115 (List._∷_ 97 (List._∷_ 108 List.[])))))))))))))))
-    (Syntax.ttcons Syntax.tnil (Syntax.ttcons Syntax.tnil (Syntax.ttcons Syntax.tnil (Syntax.ttcons (Syntax.tcons (Syntax.tyInt Syntax.w64) Syntax.tnil) (Syntax.ttcons Syntax.tnil (Syntax.ttcons
-    Syntax.tnil (Syntax.ttcons Syntax.tnil (Syntax.ttcons Syntax.tnil (Syntax.ttcons Syntax.tnil (Syntax.ttcons Syntax.tnil (Syntax.ttcons (Syntax.tcons (Syntax.tyInt Syntax.w64) Syntax.tnil)
-    (Syntax.ttcons (Syntax.tcons (Syntax.tyInt Syntax.w64) Syntax.tnil) (Syntax.ttcons Syntax.tnil (Syntax.ttcons (Syntax.tcons (Syntax.tyInt Syntax.w64) (Syntax.tcons (Syntax.tyInt Syntax.w64)
-    Syntax.tnil)) (Syntax.ttcons (Syntax.tcons (Syntax.tyInt Syntax.w64) Syntax.tnil) (Syntax.ttcons Syntax.tnil Syntax.ttnil))))))))))))))))) (List._∷_ Syntax.tyPtr (List._∷_ (Syntax.tyRef Syntax.erased
-    Syntax.mut (Syntax.tyInt Syntax.w16)) (List._∷_ (Syntax.tyStruct (List._∷_ 38 (List._∷_ 91 (List._∷_ 93 List.[]))) (Syntax.tcons (Syntax.tyRef Syntax.erased Syntax.mut (Syntax.tyInt Syntax.w16))
-    (Syntax.tcons (Syntax.tyInt Syntax.w64) Syntax.tnil))) (List._∷_ Syntax.tyPtr (List._∷_ (Syntax.tyRef Syntax.erased Syntax.mut Element.behind) (List._∷_ (Syntax.tyStruct (List._∷_ 38 (List._∷_ 91
-    (List._∷_ 93 List.[]))) (Syntax.tcons (Syntax.tyRef Syntax.erased Syntax.mut Element.behind) (Syntax.tcons (Syntax.tyInt Syntax.w64) Syntax.tnil))) List.[])))))))))))
+    Syntax.tnil)) (Syntax.ttcons (Syntax.tcons (Syntax.tyInt Syntax.w64) Syntax.tnil) (Syntax.ttcons Syntax.tnil (Syntax.ttcons Syntax.tnil (Syntax.ttcons (Syntax.tcons (Syntax.tyInt Syntax.w64)
+    Syntax.tnil) (Syntax.ttcons (Syntax.tcons (Syntax.tyInt Syntax.w64) Syntax.tnil) (Syntax.ttcons (Syntax.tcons (Syntax.tyInt Syntax.w64) Syntax.tnil) (Syntax.ttcons Syntax.tnil
+    Syntax.ttnil)))))))))))))))))))))) (List._∷_ (Syntax.tyEnum (List._∷_ 115 (List._∷_ 116 (List._∷_ 114 (List._∷_ 101 (List._∷_ 97 (List._∷_ 109 (List._∷_ 58 (List._∷_ 58 (List._∷_ 82 (List._∷_ 101
+    (List._∷_ 102 (List._∷_ 117 (List._∷_ 115 (List._∷_ 97 (List._∷_ 108 List.[]))))))))))))))) (Syntax.ttcons Syntax.tnil (Syntax.ttcons Syntax.tnil (Syntax.ttcons Syntax.tnil (Syntax.ttcons
+    (Syntax.tcons (Syntax.tyInt Syntax.w64) Syntax.tnil) (Syntax.ttcons Syntax.tnil (Syntax.ttcons Syntax.tnil (Syntax.ttcons Syntax.tnil (Syntax.ttcons Syntax.tnil (Syntax.ttcons Syntax.tnil
+    (Syntax.ttcons Syntax.tnil (Syntax.ttcons (Syntax.tcons (Syntax.tyInt Syntax.w64) Syntax.tnil) (Syntax.ttcons (Syntax.tcons (Syntax.tyInt Syntax.w64) Syntax.tnil) (Syntax.ttcons Syntax.tnil
+    (Syntax.ttcons (Syntax.tcons (Syntax.tyInt Syntax.w64) (Syntax.tcons (Syntax.tyInt Syntax.w64) Syntax.tnil)) (Syntax.ttcons (Syntax.tcons (Syntax.tyInt Syntax.w64) Syntax.tnil) (Syntax.ttcons
+    Syntax.tnil (Syntax.ttcons Syntax.tnil (Syntax.ttcons (Syntax.tcons (Syntax.tyInt Syntax.w64) Syntax.tnil) (Syntax.ttcons (Syntax.tcons (Syntax.tyInt Syntax.w64) Syntax.tnil) (Syntax.ttcons
+    (Syntax.tcons (Syntax.tyInt Syntax.w64) Syntax.tnil) (Syntax.ttcons Syntax.tnil Syntax.ttnil)))))))))))))))))))))) (List._∷_ Syntax.tyPtr (List._∷_ (Syntax.tyRef Syntax.erased Syntax.mut (Syntax.tyInt
+    Syntax.w16)) (List._∷_ (Syntax.tyStruct (List._∷_ 38 (List._∷_ 91 (List._∷_ 93 List.[]))) (Syntax.tcons (Syntax.tyRef Syntax.erased Syntax.mut (Syntax.tyInt Syntax.w16)) (Syntax.tcons (Syntax.tyInt
+    Syntax.w64) Syntax.tnil))) (List._∷_ Syntax.tyPtr (List._∷_ (Syntax.tyRef Syntax.erased Syntax.mut Element.behind) (List._∷_ (Syntax.tyStruct (List._∷_ 38 (List._∷_ 91 (List._∷_ 93 List.[])))
+    (Syntax.tcons (Syntax.tyRef Syntax.erased Syntax.mut Element.behind) (Syntax.tcons (Syntax.tyInt Syntax.w64) Syntax.tnil))) List.[])))))))))))
 
 abbrev pub m : Nat.ℕ
 m = 2
@@ -342,45 +345,47 @@ t0 = List._∷_ (
       (Syntax.ttcons Syntax.tnil (Syntax.ttcons Syntax.tnil (Syntax.ttcons (Syntax.tcons (Syntax.tyInt Syntax.w64) Syntax.tnil) (Syntax.ttcons Syntax.tnil (Syntax.ttcons Syntax.tnil (Syntax.ttcons
       Syntax.tnil (Syntax.ttcons Syntax.tnil (Syntax.ttcons Syntax.tnil (Syntax.ttcons Syntax.tnil (Syntax.ttcons (Syntax.tcons (Syntax.tyInt Syntax.w64) Syntax.tnil) (Syntax.ttcons (Syntax.tcons
       (Syntax.tyInt Syntax.w64) Syntax.tnil) (Syntax.ttcons Syntax.tnil (Syntax.ttcons (Syntax.tcons (Syntax.tyInt Syntax.w64) (Syntax.tcons (Syntax.tyInt Syntax.w64) Syntax.tnil)) (Syntax.ttcons
-      (Syntax.tcons (Syntax.tyInt Syntax.w64) Syntax.tnil) (Syntax.ttcons Syntax.tnil Syntax.ttnil))))))))))))))))) Syntax.tnil) Syntax.ttnil))),
+      (Syntax.tcons (Syntax.tyInt Syntax.w64) Syntax.tnil) (Syntax.ttcons Syntax.tnil (Syntax.ttcons Syntax.tnil (Syntax.ttcons (Syntax.tcons (Syntax.tyInt Syntax.w64) Syntax.tnil) (Syntax.ttcons
+      (Syntax.tcons (Syntax.tyInt Syntax.w64) Syntax.tnil) (Syntax.ttcons (Syntax.tcons (Syntax.tyInt Syntax.w64) Syntax.tnil) (Syntax.ttcons Syntax.tnil Syntax.ttnil)))))))))))))))))))))) Syntax.tnil)
+      Syntax.ttnil))),
+) (List._∷_ (1, Rows.sslice (Referent.rtF (Referent.fInt Syntax.w8)) (Syntax.tyRef (Syntax.named 0) Syntax.imm (Syntax.tyInt Syntax.w8)) 0) (List._∷_ (
+  2,
+  Rows.whole (Declared'.row
+      FujiHeader.the-type),
+) (List._∷_ (3, Rows.sc-here (Row.sInt Syntax.w64)) (List._∷_ (
+  4,
+  Mut.mslice (Referent.rtF (Referent.fInt Syntax.w16)) (Syntax.tyRef (Syntax.named 1) Syntax.mut (Syntax.tyInt
+      Syntax.w16)) 1,
+) (List._∷_ (5, Mut.mslice (Element.type) (Syntax.tyRef (Syntax.named 2) Syntax.mut Element.behind) 2) (List._∷_ (6, Rows.any-gone (Syntax.tyInt Syntax.w64)) (List._∷_ (
+  7,
+  Rows.any-gone (Syntax.tyInt Syntax.w64),
+) (List._∷_ (8, Rows.any-gone (Syntax.tyInt Syntax.w64)) (List._∷_ (9, Rows.any-gone Syntax.tyBool) (List._∷_ (
+  10,
+  Rows.any-gone (Syntax.tyEnum (List._∷_
+      115 (List._∷_ 116 (List._∷_ 114 (List._∷_ 101 (List._∷_ 97 (List._∷_ 109 (List._∷_ 58 (List._∷_ 58 (List._∷_ 82 (List._∷_ 101 (List._∷_ 102 (List._∷_ 117 (List._∷_ 115 (List._∷_ 97 (List._∷_ 108
+      List.[]))))))))))))))) (Syntax.ttcons Syntax.tnil (Syntax.ttcons Syntax.tnil (Syntax.ttcons Syntax.tnil (Syntax.ttcons (Syntax.tcons (Syntax.tyInt Syntax.w64) Syntax.tnil) (Syntax.ttcons Syntax.tnil
+      (Syntax.ttcons Syntax.tnil (Syntax.ttcons Syntax.tnil (Syntax.ttcons Syntax.tnil (Syntax.ttcons Syntax.tnil (Syntax.ttcons Syntax.tnil (Syntax.ttcons (Syntax.tcons (Syntax.tyInt Syntax.w64)
+      Syntax.tnil) (Syntax.ttcons (Syntax.tcons (Syntax.tyInt Syntax.w64) Syntax.tnil) (Syntax.ttcons Syntax.tnil (Syntax.ttcons (Syntax.tcons (Syntax.tyInt Syntax.w64) (Syntax.tcons (Syntax.tyInt
+      Syntax.w64) Syntax.tnil)) (Syntax.ttcons (Syntax.tcons (Syntax.tyInt Syntax.w64) Syntax.tnil) (Syntax.ttcons Syntax.tnil (Syntax.ttcons Syntax.tnil (Syntax.ttcons (Syntax.tcons (Syntax.tyInt
+      Syntax.w64) Syntax.tnil) (Syntax.ttcons (Syntax.tcons (Syntax.tyInt Syntax.w64) Syntax.tnil) (Syntax.ttcons (Syntax.tcons (Syntax.tyInt Syntax.w64) Syntax.tnil) (Syntax.ttcons Syntax.tnil
+      Syntax.ttnil)))))))))))))))))))))),
 ) (List._∷_ (
-  1,
-  Rows.sslice (Referent.rtF (Referent.fInt
-      Syntax.w8)) (Syntax.tyRef (Syntax.named 0) Syntax.imm (Syntax.tyInt Syntax.w8)) 0,
-) (List._∷_ (2, Rows.whole (Declared'.row FujiHeader.the-type)) (List._∷_ (3, Rows.sc-here (Row.sInt Syntax.w64))
-    (List._∷_ (4, Mut.mslice (Referent.rtF (Referent.fInt Syntax.w16)) (Syntax.tyRef (Syntax.named 1) Syntax.mut (Syntax.tyInt Syntax.w16)) 1) (List._∷_ (
-      5,
-      Mut.mslice (Element.type) (Syntax.tyRef
-          (Syntax.named 2) Syntax.mut Element.behind) 2,
-    ) (List._∷_ (6, Rows.any-gone (Syntax.tyInt Syntax.w64)) (List._∷_ (7, Rows.any-gone (Syntax.tyInt Syntax.w64)) (List._∷_ (
-      8,
-      Rows.any-gone
-          (Syntax.tyInt Syntax.w64),
-    ) (List._∷_ (9, Rows.any-gone Syntax.tyBool) (List._∷_ (
-      10,
-      Rows.any-gone (Syntax.tyEnum (List._∷_ 115 (List._∷_ 116 (List._∷_ 114 (List._∷_ 101 (List._∷_ 97 (List._∷_ 109
-          (List._∷_ 58 (List._∷_ 58 (List._∷_ 82 (List._∷_ 101 (List._∷_ 102 (List._∷_ 117 (List._∷_ 115 (List._∷_ 97 (List._∷_ 108 List.[]))))))))))))))) (Syntax.ttcons Syntax.tnil (Syntax.ttcons Syntax.tnil
-          (Syntax.ttcons Syntax.tnil (Syntax.ttcons (Syntax.tcons (Syntax.tyInt Syntax.w64) Syntax.tnil) (Syntax.ttcons Syntax.tnil (Syntax.ttcons Syntax.tnil (Syntax.ttcons Syntax.tnil (Syntax.ttcons
-          Syntax.tnil (Syntax.ttcons Syntax.tnil (Syntax.ttcons Syntax.tnil (Syntax.ttcons (Syntax.tcons (Syntax.tyInt Syntax.w64) Syntax.tnil) (Syntax.ttcons (Syntax.tcons (Syntax.tyInt Syntax.w64)
-          Syntax.tnil) (Syntax.ttcons Syntax.tnil (Syntax.ttcons (Syntax.tcons (Syntax.tyInt Syntax.w64) (Syntax.tcons (Syntax.tyInt Syntax.w64) Syntax.tnil)) (Syntax.ttcons (Syntax.tcons (Syntax.tyInt
-          Syntax.w64) Syntax.tnil) (Syntax.ttcons Syntax.tnil Syntax.ttnil))))))))))))))))),
-    ) (List._∷_ (
-      11,
-      Rows.any-gone (Syntax.tyEnum (List._∷_ 115 (List._∷_ 116 (List._∷_ 114 (List._∷_ 101 (List._∷_ 97
-          (List._∷_ 109 (List._∷_ 58 (List._∷_ 58 (List._∷_ 82 (List._∷_ 101 (List._∷_ 102 (List._∷_ 117 (List._∷_ 115 (List._∷_ 97 (List._∷_ 108 List.[]))))))))))))))) (Syntax.ttcons Syntax.tnil (Syntax.ttcons
-          Syntax.tnil (Syntax.ttcons Syntax.tnil (Syntax.ttcons (Syntax.tcons (Syntax.tyInt Syntax.w64) Syntax.tnil) (Syntax.ttcons Syntax.tnil (Syntax.ttcons Syntax.tnil (Syntax.ttcons Syntax.tnil
-          (Syntax.ttcons Syntax.tnil (Syntax.ttcons Syntax.tnil (Syntax.ttcons Syntax.tnil (Syntax.ttcons (Syntax.tcons (Syntax.tyInt Syntax.w64) Syntax.tnil) (Syntax.ttcons (Syntax.tcons (Syntax.tyInt
-          Syntax.w64) Syntax.tnil) (Syntax.ttcons Syntax.tnil (Syntax.ttcons (Syntax.tcons (Syntax.tyInt Syntax.w64) (Syntax.tcons (Syntax.tyInt Syntax.w64) Syntax.tnil)) (Syntax.ttcons (Syntax.tcons
-          (Syntax.tyInt Syntax.w64) Syntax.tnil) (Syntax.ttcons Syntax.tnil Syntax.ttnil))))))))))))))))),
-    ) (List._∷_ (12, Rows.any-gone Syntax.tyPtr) (List._∷_ (
-      13,
-      Rows.any-gone (Syntax.tyRef Syntax.erased
-          Syntax.mut (Syntax.tyInt Syntax.w16)),
-    ) (List._∷_ (
-      14,
-      Rows.any-gone (Syntax.tyStruct (List._∷_ 38 (List._∷_ 91 (List._∷_ 93 List.[]))) (Syntax.tcons (Syntax.tyRef Syntax.erased Syntax.mut
-          (Syntax.tyInt Syntax.w16)) (Syntax.tcons (Syntax.tyInt Syntax.w64) Syntax.tnil))),
-    ) (List._∷_ (15, Rows.any-gone Syntax.tyPtr) List.[])))))))))))))))
+  11,
+  Rows.any-gone (Syntax.tyEnum (List._∷_ 115 (List._∷_ 116 (List._∷_ 114 (List._∷_ 101 (List._∷_ 97 (List._∷_ 109 (List._∷_ 58 (List._∷_ 58
+      (List._∷_ 82 (List._∷_ 101 (List._∷_ 102 (List._∷_ 117 (List._∷_ 115 (List._∷_ 97 (List._∷_ 108 List.[]))))))))))))))) (Syntax.ttcons Syntax.tnil (Syntax.ttcons Syntax.tnil (Syntax.ttcons Syntax.tnil
+      (Syntax.ttcons (Syntax.tcons (Syntax.tyInt Syntax.w64) Syntax.tnil) (Syntax.ttcons Syntax.tnil (Syntax.ttcons Syntax.tnil (Syntax.ttcons Syntax.tnil (Syntax.ttcons Syntax.tnil (Syntax.ttcons
+      Syntax.tnil (Syntax.ttcons Syntax.tnil (Syntax.ttcons (Syntax.tcons (Syntax.tyInt Syntax.w64) Syntax.tnil) (Syntax.ttcons (Syntax.tcons (Syntax.tyInt Syntax.w64) Syntax.tnil) (Syntax.ttcons
+      Syntax.tnil (Syntax.ttcons (Syntax.tcons (Syntax.tyInt Syntax.w64) (Syntax.tcons (Syntax.tyInt Syntax.w64) Syntax.tnil)) (Syntax.ttcons (Syntax.tcons (Syntax.tyInt Syntax.w64) Syntax.tnil)
+      (Syntax.ttcons Syntax.tnil (Syntax.ttcons Syntax.tnil (Syntax.ttcons (Syntax.tcons (Syntax.tyInt Syntax.w64) Syntax.tnil) (Syntax.ttcons (Syntax.tcons (Syntax.tyInt Syntax.w64) Syntax.tnil)
+      (Syntax.ttcons (Syntax.tcons (Syntax.tyInt Syntax.w64) Syntax.tnil) (Syntax.ttcons Syntax.tnil Syntax.ttnil)))))))))))))))))))))),
+) (List._∷_ (12, Rows.any-gone Syntax.tyPtr) (List._∷_ (
+  13,
+  Rows.any-gone (Syntax.tyRef Syntax.erased Syntax.mut (Syntax.tyInt Syntax.w16)),
+) (List._∷_ (
+  14,
+  Rows.any-gone (Syntax.tyStruct (List._∷_ 38 (List._∷_ 91 (List._∷_ 93 List.[]))) (Syntax.tcons
+      (Syntax.tyRef Syntax.erased Syntax.mut (Syntax.tyInt Syntax.w16)) (Syntax.tcons (Syntax.tyInt Syntax.w64) Syntax.tnil))),
+) (List._∷_ (15, Rows.any-gone Syntax.tyPtr) List.[])))))))))))))))
 
 abbrev pub t1 : List.List Row.Entry
 t1 = List._∷_ (16, Rows.any-gone (Syntax.tyRef Syntax.erased Syntax.mut Element.behind)) (List._∷_ (
@@ -415,22 +420,22 @@ t2 = List._∷_ (0, Rows.whole (Declared.row Decoded.the-type)) (List._∷_ (
           (Syntax.tcons (Syntax.tyInt Syntax.w64) Syntax.tnil) (Syntax.ttcons Syntax.tnil (Syntax.ttcons Syntax.tnil (Syntax.ttcons Syntax.tnil (Syntax.ttcons Syntax.tnil (Syntax.ttcons Syntax.tnil
           (Syntax.ttcons Syntax.tnil (Syntax.ttcons (Syntax.tcons (Syntax.tyInt Syntax.w64) Syntax.tnil) (Syntax.ttcons (Syntax.tcons (Syntax.tyInt Syntax.w64) Syntax.tnil) (Syntax.ttcons Syntax.tnil
           (Syntax.ttcons (Syntax.tcons (Syntax.tyInt Syntax.w64) (Syntax.tcons (Syntax.tyInt Syntax.w64) Syntax.tnil)) (Syntax.ttcons (Syntax.tcons (Syntax.tyInt Syntax.w64) Syntax.tnil) (Syntax.ttcons
-          Syntax.tnil Syntax.ttnil))))))))))))))))),
+          Syntax.tnil (Syntax.ttcons Syntax.tnil (Syntax.ttcons (Syntax.tcons (Syntax.tyInt Syntax.w64) Syntax.tnil) (Syntax.ttcons (Syntax.tcons (Syntax.tyInt Syntax.w64) Syntax.tnil) (Syntax.ttcons
+          (Syntax.tcons (Syntax.tyInt Syntax.w64) Syntax.tnil) (Syntax.ttcons Syntax.tnil Syntax.ttnil)))))))))))))))))))))),
     ) (List._∷_ (
       11,
-      Rows.any-gone (Syntax.tyEnum (List._∷_ 115 (List._∷_ 116 (List._∷_ 114 (List._∷_ 101 (List._∷_ 97 (List._∷_ 109 (List._∷_ 58 (List._∷_ 58
-          (List._∷_ 82 (List._∷_ 101 (List._∷_ 102 (List._∷_ 117 (List._∷_ 115 (List._∷_ 97 (List._∷_ 108 List.[]))))))))))))))) (Syntax.ttcons Syntax.tnil (Syntax.ttcons Syntax.tnil (Syntax.ttcons Syntax.tnil
-          (Syntax.ttcons (Syntax.tcons (Syntax.tyInt Syntax.w64) Syntax.tnil) (Syntax.ttcons Syntax.tnil (Syntax.ttcons Syntax.tnil (Syntax.ttcons Syntax.tnil (Syntax.ttcons Syntax.tnil (Syntax.ttcons
-          Syntax.tnil (Syntax.ttcons Syntax.tnil (Syntax.ttcons (Syntax.tcons (Syntax.tyInt Syntax.w64) Syntax.tnil) (Syntax.ttcons (Syntax.tcons (Syntax.tyInt Syntax.w64) Syntax.tnil) (Syntax.ttcons
-          Syntax.tnil (Syntax.ttcons (Syntax.tcons (Syntax.tyInt Syntax.w64) (Syntax.tcons (Syntax.tyInt Syntax.w64) Syntax.tnil)) (Syntax.ttcons (Syntax.tcons (Syntax.tyInt Syntax.w64) Syntax.tnil)
-          (Syntax.ttcons Syntax.tnil Syntax.ttnil))))))))))))))))),
-    ) (List._∷_ (12, Rows.any-gone Syntax.tyPtr) (List._∷_ (
-      13,
-      Rows.any-gone (Syntax.tyRef Syntax.erased Syntax.mut (Syntax.tyInt Syntax.w16)),
-    ) (List._∷_ (
+      Rows.any-gone (Syntax.tyEnum (List._∷_ 115 (List._∷_ 116 (List._∷_
+          114 (List._∷_ 101 (List._∷_ 97 (List._∷_ 109 (List._∷_ 58 (List._∷_ 58 (List._∷_ 82 (List._∷_ 101 (List._∷_ 102 (List._∷_ 117 (List._∷_ 115 (List._∷_ 97 (List._∷_ 108 List.[])))))))))))))))
+          (Syntax.ttcons Syntax.tnil (Syntax.ttcons Syntax.tnil (Syntax.ttcons Syntax.tnil (Syntax.ttcons (Syntax.tcons (Syntax.tyInt Syntax.w64) Syntax.tnil) (Syntax.ttcons Syntax.tnil (Syntax.ttcons
+          Syntax.tnil (Syntax.ttcons Syntax.tnil (Syntax.ttcons Syntax.tnil (Syntax.ttcons Syntax.tnil (Syntax.ttcons Syntax.tnil (Syntax.ttcons (Syntax.tcons (Syntax.tyInt Syntax.w64) Syntax.tnil)
+          (Syntax.ttcons (Syntax.tcons (Syntax.tyInt Syntax.w64) Syntax.tnil) (Syntax.ttcons Syntax.tnil (Syntax.ttcons (Syntax.tcons (Syntax.tyInt Syntax.w64) (Syntax.tcons (Syntax.tyInt Syntax.w64)
+          Syntax.tnil)) (Syntax.ttcons (Syntax.tcons (Syntax.tyInt Syntax.w64) Syntax.tnil) (Syntax.ttcons Syntax.tnil (Syntax.ttcons Syntax.tnil (Syntax.ttcons (Syntax.tcons (Syntax.tyInt Syntax.w64)
+          Syntax.tnil) (Syntax.ttcons (Syntax.tcons (Syntax.tyInt Syntax.w64) Syntax.tnil) (Syntax.ttcons (Syntax.tcons (Syntax.tyInt Syntax.w64) Syntax.tnil) (Syntax.ttcons Syntax.tnil
+          Syntax.ttnil)))))))))))))))))))))),
+    ) (List._∷_ (12, Rows.any-gone Syntax.tyPtr) (List._∷_ (13, Rows.any-gone (Syntax.tyRef Syntax.erased Syntax.mut (Syntax.tyInt Syntax.w16))) (List._∷_ (
       14,
-      Rows.any-gone (Syntax.tyStruct (List._∷_ 38 (List._∷_ 91 (List._∷_ 93 List.[]))) (Syntax.tcons (Syntax.tyRef Syntax.erased Syntax.mut (Syntax.tyInt Syntax.w16)) (Syntax.tcons
-          (Syntax.tyInt Syntax.w64) Syntax.tnil))),
+      Rows.any-gone (Syntax.tyStruct (List._∷_ 38 (List._∷_ 91 (List._∷_ 93 List.[]))) (Syntax.tcons (Syntax.tyRef Syntax.erased Syntax.mut (Syntax.tyInt Syntax.w16)) (Syntax.tcons (Syntax.tyInt Syntax.w64)
+          Syntax.tnil))),
     ) (List._∷_ (15, Rows.any-gone Syntax.tyPtr) List.[])))))))))))))))
 
 abbrev pub t3 : List.List Row.Entry
@@ -442,45 +447,47 @@ t3 = List._∷_ (
       (Syntax.ttcons Syntax.tnil (Syntax.ttcons Syntax.tnil (Syntax.ttcons (Syntax.tcons (Syntax.tyInt Syntax.w64) Syntax.tnil) (Syntax.ttcons Syntax.tnil (Syntax.ttcons Syntax.tnil (Syntax.ttcons
       Syntax.tnil (Syntax.ttcons Syntax.tnil (Syntax.ttcons Syntax.tnil (Syntax.ttcons Syntax.tnil (Syntax.ttcons (Syntax.tcons (Syntax.tyInt Syntax.w64) Syntax.tnil) (Syntax.ttcons (Syntax.tcons
       (Syntax.tyInt Syntax.w64) Syntax.tnil) (Syntax.ttcons Syntax.tnil (Syntax.ttcons (Syntax.tcons (Syntax.tyInt Syntax.w64) (Syntax.tcons (Syntax.tyInt Syntax.w64) Syntax.tnil)) (Syntax.ttcons
-      (Syntax.tcons (Syntax.tyInt Syntax.w64) Syntax.tnil) (Syntax.ttcons Syntax.tnil Syntax.ttnil))))))))))))))))) Syntax.tnil) Syntax.ttnil))),
+      (Syntax.tcons (Syntax.tyInt Syntax.w64) Syntax.tnil) (Syntax.ttcons Syntax.tnil (Syntax.ttcons Syntax.tnil (Syntax.ttcons (Syntax.tcons (Syntax.tyInt Syntax.w64) Syntax.tnil) (Syntax.ttcons
+      (Syntax.tcons (Syntax.tyInt Syntax.w64) Syntax.tnil) (Syntax.ttcons (Syntax.tcons (Syntax.tyInt Syntax.w64) Syntax.tnil) (Syntax.ttcons Syntax.tnil Syntax.ttnil)))))))))))))))))))))) Syntax.tnil)
+      Syntax.ttnil))),
+) (List._∷_ (1, Rows.sslice (Referent.rtF (Referent.fInt Syntax.w8)) (Syntax.tyRef (Syntax.named 0) Syntax.imm (Syntax.tyInt Syntax.w8)) 0) (List._∷_ (
+  2,
+  Rows.whole (Declared'.row
+      FujiHeader.the-type),
+) (List._∷_ (3, Rows.sc-here (Row.sInt Syntax.w64)) (List._∷_ (
+  4,
+  Mut.mslice (Referent.rtF (Referent.fInt Syntax.w16)) (Syntax.tyRef (Syntax.named 1) Syntax.mut (Syntax.tyInt
+      Syntax.w16)) 1,
+) (List._∷_ (5, Mut.mslice (Element.type) (Syntax.tyRef (Syntax.named 2) Syntax.mut Element.behind) 2) (List._∷_ (6, Rows.any-gone (Syntax.tyInt Syntax.w64)) (List._∷_ (
+  7,
+  Rows.sc-here (Row.sInt Syntax.w64),
+) (List._∷_ (8, Rows.any-gone (Syntax.tyInt Syntax.w64)) (List._∷_ (9, Rows.any-gone Syntax.tyBool) (List._∷_ (
+  10,
+  Rows.any-gone (Syntax.tyEnum (List._∷_ 115
+      (List._∷_ 116 (List._∷_ 114 (List._∷_ 101 (List._∷_ 97 (List._∷_ 109 (List._∷_ 58 (List._∷_ 58 (List._∷_ 82 (List._∷_ 101 (List._∷_ 102 (List._∷_ 117 (List._∷_ 115 (List._∷_ 97 (List._∷_ 108
+      List.[]))))))))))))))) (Syntax.ttcons Syntax.tnil (Syntax.ttcons Syntax.tnil (Syntax.ttcons Syntax.tnil (Syntax.ttcons (Syntax.tcons (Syntax.tyInt Syntax.w64) Syntax.tnil) (Syntax.ttcons Syntax.tnil
+      (Syntax.ttcons Syntax.tnil (Syntax.ttcons Syntax.tnil (Syntax.ttcons Syntax.tnil (Syntax.ttcons Syntax.tnil (Syntax.ttcons Syntax.tnil (Syntax.ttcons (Syntax.tcons (Syntax.tyInt Syntax.w64)
+      Syntax.tnil) (Syntax.ttcons (Syntax.tcons (Syntax.tyInt Syntax.w64) Syntax.tnil) (Syntax.ttcons Syntax.tnil (Syntax.ttcons (Syntax.tcons (Syntax.tyInt Syntax.w64) (Syntax.tcons (Syntax.tyInt
+      Syntax.w64) Syntax.tnil)) (Syntax.ttcons (Syntax.tcons (Syntax.tyInt Syntax.w64) Syntax.tnil) (Syntax.ttcons Syntax.tnil (Syntax.ttcons Syntax.tnil (Syntax.ttcons (Syntax.tcons (Syntax.tyInt
+      Syntax.w64) Syntax.tnil) (Syntax.ttcons (Syntax.tcons (Syntax.tyInt Syntax.w64) Syntax.tnil) (Syntax.ttcons (Syntax.tcons (Syntax.tyInt Syntax.w64) Syntax.tnil) (Syntax.ttcons Syntax.tnil
+      Syntax.ttnil)))))))))))))))))))))),
 ) (List._∷_ (
-  1,
-  Rows.sslice (Referent.rtF (Referent.fInt
-      Syntax.w8)) (Syntax.tyRef (Syntax.named 0) Syntax.imm (Syntax.tyInt Syntax.w8)) 0,
-) (List._∷_ (2, Rows.whole (Declared'.row FujiHeader.the-type)) (List._∷_ (3, Rows.sc-here (Row.sInt Syntax.w64))
-    (List._∷_ (4, Mut.mslice (Referent.rtF (Referent.fInt Syntax.w16)) (Syntax.tyRef (Syntax.named 1) Syntax.mut (Syntax.tyInt Syntax.w16)) 1) (List._∷_ (
-      5,
-      Mut.mslice (Element.type) (Syntax.tyRef
-          (Syntax.named 2) Syntax.mut Element.behind) 2,
-    ) (List._∷_ (6, Rows.any-gone (Syntax.tyInt Syntax.w64)) (List._∷_ (7, Rows.sc-here (Row.sInt Syntax.w64)) (List._∷_ (
-      8,
-      Rows.any-gone (Syntax.tyInt
-          Syntax.w64),
-    ) (List._∷_ (9, Rows.any-gone Syntax.tyBool) (List._∷_ (
-      10,
-      Rows.any-gone (Syntax.tyEnum (List._∷_ 115 (List._∷_ 116 (List._∷_ 114 (List._∷_ 101 (List._∷_ 97 (List._∷_ 109 (List._∷_ 58
-          (List._∷_ 58 (List._∷_ 82 (List._∷_ 101 (List._∷_ 102 (List._∷_ 117 (List._∷_ 115 (List._∷_ 97 (List._∷_ 108 List.[]))))))))))))))) (Syntax.ttcons Syntax.tnil (Syntax.ttcons Syntax.tnil (Syntax.ttcons
-          Syntax.tnil (Syntax.ttcons (Syntax.tcons (Syntax.tyInt Syntax.w64) Syntax.tnil) (Syntax.ttcons Syntax.tnil (Syntax.ttcons Syntax.tnil (Syntax.ttcons Syntax.tnil (Syntax.ttcons Syntax.tnil
-          (Syntax.ttcons Syntax.tnil (Syntax.ttcons Syntax.tnil (Syntax.ttcons (Syntax.tcons (Syntax.tyInt Syntax.w64) Syntax.tnil) (Syntax.ttcons (Syntax.tcons (Syntax.tyInt Syntax.w64) Syntax.tnil)
-          (Syntax.ttcons Syntax.tnil (Syntax.ttcons (Syntax.tcons (Syntax.tyInt Syntax.w64) (Syntax.tcons (Syntax.tyInt Syntax.w64) Syntax.tnil)) (Syntax.ttcons (Syntax.tcons (Syntax.tyInt Syntax.w64)
-          Syntax.tnil) (Syntax.ttcons Syntax.tnil Syntax.ttnil))))))))))))))))),
-    ) (List._∷_ (
-      11,
-      Rows.any-gone (Syntax.tyEnum (List._∷_ 115 (List._∷_ 116 (List._∷_ 114 (List._∷_ 101 (List._∷_ 97 (List._∷_ 109
-          (List._∷_ 58 (List._∷_ 58 (List._∷_ 82 (List._∷_ 101 (List._∷_ 102 (List._∷_ 117 (List._∷_ 115 (List._∷_ 97 (List._∷_ 108 List.[]))))))))))))))) (Syntax.ttcons Syntax.tnil (Syntax.ttcons Syntax.tnil
-          (Syntax.ttcons Syntax.tnil (Syntax.ttcons (Syntax.tcons (Syntax.tyInt Syntax.w64) Syntax.tnil) (Syntax.ttcons Syntax.tnil (Syntax.ttcons Syntax.tnil (Syntax.ttcons Syntax.tnil (Syntax.ttcons
-          Syntax.tnil (Syntax.ttcons Syntax.tnil (Syntax.ttcons Syntax.tnil (Syntax.ttcons (Syntax.tcons (Syntax.tyInt Syntax.w64) Syntax.tnil) (Syntax.ttcons (Syntax.tcons (Syntax.tyInt Syntax.w64)
-          Syntax.tnil) (Syntax.ttcons Syntax.tnil (Syntax.ttcons (Syntax.tcons (Syntax.tyInt Syntax.w64) (Syntax.tcons (Syntax.tyInt Syntax.w64) Syntax.tnil)) (Syntax.ttcons (Syntax.tcons (Syntax.tyInt
-          Syntax.w64) Syntax.tnil) (Syntax.ttcons Syntax.tnil Syntax.ttnil))))))))))))))))),
-    ) (List._∷_ (12, Rows.any-gone Syntax.tyPtr) (List._∷_ (
-      13,
-      Rows.any-gone (Syntax.tyRef Syntax.erased Syntax.mut
-          (Syntax.tyInt Syntax.w16)),
-    ) (List._∷_ (
-      14,
-      Rows.any-gone (Syntax.tyStruct (List._∷_ 38 (List._∷_ 91 (List._∷_ 93 List.[]))) (Syntax.tcons (Syntax.tyRef Syntax.erased Syntax.mut (Syntax.tyInt
-          Syntax.w16)) (Syntax.tcons (Syntax.tyInt Syntax.w64) Syntax.tnil))),
-    ) (List._∷_ (15, Rows.any-gone Syntax.tyPtr) List.[])))))))))))))))
+  11,
+  Rows.any-gone (Syntax.tyEnum (List._∷_ 115 (List._∷_ 116 (List._∷_ 114 (List._∷_ 101 (List._∷_ 97 (List._∷_ 109 (List._∷_ 58 (List._∷_ 58
+      (List._∷_ 82 (List._∷_ 101 (List._∷_ 102 (List._∷_ 117 (List._∷_ 115 (List._∷_ 97 (List._∷_ 108 List.[]))))))))))))))) (Syntax.ttcons Syntax.tnil (Syntax.ttcons Syntax.tnil (Syntax.ttcons Syntax.tnil
+      (Syntax.ttcons (Syntax.tcons (Syntax.tyInt Syntax.w64) Syntax.tnil) (Syntax.ttcons Syntax.tnil (Syntax.ttcons Syntax.tnil (Syntax.ttcons Syntax.tnil (Syntax.ttcons Syntax.tnil (Syntax.ttcons
+      Syntax.tnil (Syntax.ttcons Syntax.tnil (Syntax.ttcons (Syntax.tcons (Syntax.tyInt Syntax.w64) Syntax.tnil) (Syntax.ttcons (Syntax.tcons (Syntax.tyInt Syntax.w64) Syntax.tnil) (Syntax.ttcons
+      Syntax.tnil (Syntax.ttcons (Syntax.tcons (Syntax.tyInt Syntax.w64) (Syntax.tcons (Syntax.tyInt Syntax.w64) Syntax.tnil)) (Syntax.ttcons (Syntax.tcons (Syntax.tyInt Syntax.w64) Syntax.tnil)
+      (Syntax.ttcons Syntax.tnil (Syntax.ttcons Syntax.tnil (Syntax.ttcons (Syntax.tcons (Syntax.tyInt Syntax.w64) Syntax.tnil) (Syntax.ttcons (Syntax.tcons (Syntax.tyInt Syntax.w64) Syntax.tnil)
+      (Syntax.ttcons (Syntax.tcons (Syntax.tyInt Syntax.w64) Syntax.tnil) (Syntax.ttcons Syntax.tnil Syntax.ttnil)))))))))))))))))))))),
+) (List._∷_ (12, Rows.any-gone Syntax.tyPtr) (List._∷_ (
+  13,
+  Rows.any-gone (Syntax.tyRef Syntax.erased Syntax.mut (Syntax.tyInt Syntax.w16)),
+) (List._∷_ (
+  14,
+  Rows.any-gone (Syntax.tyStruct (List._∷_ 38 (List._∷_ 91 (List._∷_ 93 List.[]))) (Syntax.tcons
+      (Syntax.tyRef Syntax.erased Syntax.mut (Syntax.tyInt Syntax.w16)) (Syntax.tcons (Syntax.tyInt Syntax.w64) Syntax.tnil))),
+) (List._∷_ (15, Rows.any-gone Syntax.tyPtr) List.[])))))))))))))))
 
 abbrev pub t4 : List.List Row.Entry
 t4 = List._∷_ (
@@ -491,45 +498,47 @@ t4 = List._∷_ (
       (Syntax.ttcons Syntax.tnil (Syntax.ttcons Syntax.tnil (Syntax.ttcons (Syntax.tcons (Syntax.tyInt Syntax.w64) Syntax.tnil) (Syntax.ttcons Syntax.tnil (Syntax.ttcons Syntax.tnil (Syntax.ttcons
       Syntax.tnil (Syntax.ttcons Syntax.tnil (Syntax.ttcons Syntax.tnil (Syntax.ttcons Syntax.tnil (Syntax.ttcons (Syntax.tcons (Syntax.tyInt Syntax.w64) Syntax.tnil) (Syntax.ttcons (Syntax.tcons
       (Syntax.tyInt Syntax.w64) Syntax.tnil) (Syntax.ttcons Syntax.tnil (Syntax.ttcons (Syntax.tcons (Syntax.tyInt Syntax.w64) (Syntax.tcons (Syntax.tyInt Syntax.w64) Syntax.tnil)) (Syntax.ttcons
-      (Syntax.tcons (Syntax.tyInt Syntax.w64) Syntax.tnil) (Syntax.ttcons Syntax.tnil Syntax.ttnil))))))))))))))))) Syntax.tnil) Syntax.ttnil))),
+      (Syntax.tcons (Syntax.tyInt Syntax.w64) Syntax.tnil) (Syntax.ttcons Syntax.tnil (Syntax.ttcons Syntax.tnil (Syntax.ttcons (Syntax.tcons (Syntax.tyInt Syntax.w64) Syntax.tnil) (Syntax.ttcons
+      (Syntax.tcons (Syntax.tyInt Syntax.w64) Syntax.tnil) (Syntax.ttcons (Syntax.tcons (Syntax.tyInt Syntax.w64) Syntax.tnil) (Syntax.ttcons Syntax.tnil Syntax.ttnil)))))))))))))))))))))) Syntax.tnil)
+      Syntax.ttnil))),
+) (List._∷_ (1, Rows.sslice (Referent.rtF (Referent.fInt Syntax.w8)) (Syntax.tyRef (Syntax.named 0) Syntax.imm (Syntax.tyInt Syntax.w8)) 0) (List._∷_ (
+  2,
+  Rows.whole (Declared'.row
+      FujiHeader.the-type),
+) (List._∷_ (3, Rows.sc-here (Row.sInt Syntax.w64)) (List._∷_ (
+  4,
+  Mut.mslice (Referent.rtF (Referent.fInt Syntax.w16)) (Syntax.tyRef (Syntax.named 1) Syntax.mut (Syntax.tyInt
+      Syntax.w16)) 1,
+) (List._∷_ (5, Mut.mslice (Element.type) (Syntax.tyRef (Syntax.named 2) Syntax.mut Element.behind) 2) (List._∷_ (6, Rows.any-gone (Syntax.tyInt Syntax.w64)) (List._∷_ (
+  7,
+  Rows.sc-here (Row.sInt Syntax.w64),
+) (List._∷_ (8, Rows.sc-here (Row.sInt Syntax.w64)) (List._∷_ (9, Rows.any-gone Syntax.tyBool) (List._∷_ (
+  10,
+  Rows.any-gone (Syntax.tyEnum (List._∷_ 115 (List._∷_
+      116 (List._∷_ 114 (List._∷_ 101 (List._∷_ 97 (List._∷_ 109 (List._∷_ 58 (List._∷_ 58 (List._∷_ 82 (List._∷_ 101 (List._∷_ 102 (List._∷_ 117 (List._∷_ 115 (List._∷_ 97 (List._∷_ 108
+      List.[]))))))))))))))) (Syntax.ttcons Syntax.tnil (Syntax.ttcons Syntax.tnil (Syntax.ttcons Syntax.tnil (Syntax.ttcons (Syntax.tcons (Syntax.tyInt Syntax.w64) Syntax.tnil) (Syntax.ttcons Syntax.tnil
+      (Syntax.ttcons Syntax.tnil (Syntax.ttcons Syntax.tnil (Syntax.ttcons Syntax.tnil (Syntax.ttcons Syntax.tnil (Syntax.ttcons Syntax.tnil (Syntax.ttcons (Syntax.tcons (Syntax.tyInt Syntax.w64)
+      Syntax.tnil) (Syntax.ttcons (Syntax.tcons (Syntax.tyInt Syntax.w64) Syntax.tnil) (Syntax.ttcons Syntax.tnil (Syntax.ttcons (Syntax.tcons (Syntax.tyInt Syntax.w64) (Syntax.tcons (Syntax.tyInt
+      Syntax.w64) Syntax.tnil)) (Syntax.ttcons (Syntax.tcons (Syntax.tyInt Syntax.w64) Syntax.tnil) (Syntax.ttcons Syntax.tnil (Syntax.ttcons Syntax.tnil (Syntax.ttcons (Syntax.tcons (Syntax.tyInt
+      Syntax.w64) Syntax.tnil) (Syntax.ttcons (Syntax.tcons (Syntax.tyInt Syntax.w64) Syntax.tnil) (Syntax.ttcons (Syntax.tcons (Syntax.tyInt Syntax.w64) Syntax.tnil) (Syntax.ttcons Syntax.tnil
+      Syntax.ttnil)))))))))))))))))))))),
 ) (List._∷_ (
-  1,
-  Rows.sslice (Referent.rtF (Referent.fInt
-      Syntax.w8)) (Syntax.tyRef (Syntax.named 0) Syntax.imm (Syntax.tyInt Syntax.w8)) 0,
-) (List._∷_ (2, Rows.whole (Declared'.row FujiHeader.the-type)) (List._∷_ (3, Rows.sc-here (Row.sInt Syntax.w64))
-    (List._∷_ (4, Mut.mslice (Referent.rtF (Referent.fInt Syntax.w16)) (Syntax.tyRef (Syntax.named 1) Syntax.mut (Syntax.tyInt Syntax.w16)) 1) (List._∷_ (
-      5,
-      Mut.mslice (Element.type) (Syntax.tyRef
-          (Syntax.named 2) Syntax.mut Element.behind) 2,
-    ) (List._∷_ (6, Rows.any-gone (Syntax.tyInt Syntax.w64)) (List._∷_ (7, Rows.sc-here (Row.sInt Syntax.w64)) (List._∷_ (
-      8,
-      Rows.sc-here (Row.sInt
-          Syntax.w64),
-    ) (List._∷_ (9, Rows.any-gone Syntax.tyBool) (List._∷_ (
-      10,
-      Rows.any-gone (Syntax.tyEnum (List._∷_ 115 (List._∷_ 116 (List._∷_ 114 (List._∷_ 101 (List._∷_ 97 (List._∷_ 109 (List._∷_ 58
-          (List._∷_ 58 (List._∷_ 82 (List._∷_ 101 (List._∷_ 102 (List._∷_ 117 (List._∷_ 115 (List._∷_ 97 (List._∷_ 108 List.[]))))))))))))))) (Syntax.ttcons Syntax.tnil (Syntax.ttcons Syntax.tnil (Syntax.ttcons
-          Syntax.tnil (Syntax.ttcons (Syntax.tcons (Syntax.tyInt Syntax.w64) Syntax.tnil) (Syntax.ttcons Syntax.tnil (Syntax.ttcons Syntax.tnil (Syntax.ttcons Syntax.tnil (Syntax.ttcons Syntax.tnil
-          (Syntax.ttcons Syntax.tnil (Syntax.ttcons Syntax.tnil (Syntax.ttcons (Syntax.tcons (Syntax.tyInt Syntax.w64) Syntax.tnil) (Syntax.ttcons (Syntax.tcons (Syntax.tyInt Syntax.w64) Syntax.tnil)
-          (Syntax.ttcons Syntax.tnil (Syntax.ttcons (Syntax.tcons (Syntax.tyInt Syntax.w64) (Syntax.tcons (Syntax.tyInt Syntax.w64) Syntax.tnil)) (Syntax.ttcons (Syntax.tcons (Syntax.tyInt Syntax.w64)
-          Syntax.tnil) (Syntax.ttcons Syntax.tnil Syntax.ttnil))))))))))))))))),
-    ) (List._∷_ (
-      11,
-      Rows.any-gone (Syntax.tyEnum (List._∷_ 115 (List._∷_ 116 (List._∷_ 114 (List._∷_ 101 (List._∷_ 97 (List._∷_ 109
-          (List._∷_ 58 (List._∷_ 58 (List._∷_ 82 (List._∷_ 101 (List._∷_ 102 (List._∷_ 117 (List._∷_ 115 (List._∷_ 97 (List._∷_ 108 List.[]))))))))))))))) (Syntax.ttcons Syntax.tnil (Syntax.ttcons Syntax.tnil
-          (Syntax.ttcons Syntax.tnil (Syntax.ttcons (Syntax.tcons (Syntax.tyInt Syntax.w64) Syntax.tnil) (Syntax.ttcons Syntax.tnil (Syntax.ttcons Syntax.tnil (Syntax.ttcons Syntax.tnil (Syntax.ttcons
-          Syntax.tnil (Syntax.ttcons Syntax.tnil (Syntax.ttcons Syntax.tnil (Syntax.ttcons (Syntax.tcons (Syntax.tyInt Syntax.w64) Syntax.tnil) (Syntax.ttcons (Syntax.tcons (Syntax.tyInt Syntax.w64)
-          Syntax.tnil) (Syntax.ttcons Syntax.tnil (Syntax.ttcons (Syntax.tcons (Syntax.tyInt Syntax.w64) (Syntax.tcons (Syntax.tyInt Syntax.w64) Syntax.tnil)) (Syntax.ttcons (Syntax.tcons (Syntax.tyInt
-          Syntax.w64) Syntax.tnil) (Syntax.ttcons Syntax.tnil Syntax.ttnil))))))))))))))))),
-    ) (List._∷_ (12, Rows.any-gone Syntax.tyPtr) (List._∷_ (
-      13,
-      Rows.any-gone (Syntax.tyRef Syntax.erased Syntax.mut
-          (Syntax.tyInt Syntax.w16)),
-    ) (List._∷_ (
-      14,
-      Rows.any-gone (Syntax.tyStruct (List._∷_ 38 (List._∷_ 91 (List._∷_ 93 List.[]))) (Syntax.tcons (Syntax.tyRef Syntax.erased Syntax.mut (Syntax.tyInt
-          Syntax.w16)) (Syntax.tcons (Syntax.tyInt Syntax.w64) Syntax.tnil))),
-    ) (List._∷_ (15, Rows.any-gone Syntax.tyPtr) List.[])))))))))))))))
+  11,
+  Rows.any-gone (Syntax.tyEnum (List._∷_ 115 (List._∷_ 116 (List._∷_ 114 (List._∷_ 101 (List._∷_ 97 (List._∷_ 109 (List._∷_ 58 (List._∷_ 58
+      (List._∷_ 82 (List._∷_ 101 (List._∷_ 102 (List._∷_ 117 (List._∷_ 115 (List._∷_ 97 (List._∷_ 108 List.[]))))))))))))))) (Syntax.ttcons Syntax.tnil (Syntax.ttcons Syntax.tnil (Syntax.ttcons Syntax.tnil
+      (Syntax.ttcons (Syntax.tcons (Syntax.tyInt Syntax.w64) Syntax.tnil) (Syntax.ttcons Syntax.tnil (Syntax.ttcons Syntax.tnil (Syntax.ttcons Syntax.tnil (Syntax.ttcons Syntax.tnil (Syntax.ttcons
+      Syntax.tnil (Syntax.ttcons Syntax.tnil (Syntax.ttcons (Syntax.tcons (Syntax.tyInt Syntax.w64) Syntax.tnil) (Syntax.ttcons (Syntax.tcons (Syntax.tyInt Syntax.w64) Syntax.tnil) (Syntax.ttcons
+      Syntax.tnil (Syntax.ttcons (Syntax.tcons (Syntax.tyInt Syntax.w64) (Syntax.tcons (Syntax.tyInt Syntax.w64) Syntax.tnil)) (Syntax.ttcons (Syntax.tcons (Syntax.tyInt Syntax.w64) Syntax.tnil)
+      (Syntax.ttcons Syntax.tnil (Syntax.ttcons Syntax.tnil (Syntax.ttcons (Syntax.tcons (Syntax.tyInt Syntax.w64) Syntax.tnil) (Syntax.ttcons (Syntax.tcons (Syntax.tyInt Syntax.w64) Syntax.tnil)
+      (Syntax.ttcons (Syntax.tcons (Syntax.tyInt Syntax.w64) Syntax.tnil) (Syntax.ttcons Syntax.tnil Syntax.ttnil)))))))))))))))))))))),
+) (List._∷_ (12, Rows.any-gone Syntax.tyPtr) (List._∷_ (
+  13,
+  Rows.any-gone (Syntax.tyRef Syntax.erased Syntax.mut (Syntax.tyInt Syntax.w16)),
+) (List._∷_ (
+  14,
+  Rows.any-gone (Syntax.tyStruct (List._∷_ 38 (List._∷_ 91 (List._∷_ 93 List.[]))) (Syntax.tcons
+      (Syntax.tyRef Syntax.erased Syntax.mut (Syntax.tyInt Syntax.w16)) (Syntax.tcons (Syntax.tyInt Syntax.w64) Syntax.tnil))),
+) (List._∷_ (15, Rows.any-gone Syntax.tyPtr) List.[])))))))))))))))
 
 abbrev pub t5 : List.List Row.Entry
 t5 = List._∷_ (
@@ -540,45 +549,47 @@ t5 = List._∷_ (
       (Syntax.ttcons Syntax.tnil (Syntax.ttcons Syntax.tnil (Syntax.ttcons (Syntax.tcons (Syntax.tyInt Syntax.w64) Syntax.tnil) (Syntax.ttcons Syntax.tnil (Syntax.ttcons Syntax.tnil (Syntax.ttcons
       Syntax.tnil (Syntax.ttcons Syntax.tnil (Syntax.ttcons Syntax.tnil (Syntax.ttcons Syntax.tnil (Syntax.ttcons (Syntax.tcons (Syntax.tyInt Syntax.w64) Syntax.tnil) (Syntax.ttcons (Syntax.tcons
       (Syntax.tyInt Syntax.w64) Syntax.tnil) (Syntax.ttcons Syntax.tnil (Syntax.ttcons (Syntax.tcons (Syntax.tyInt Syntax.w64) (Syntax.tcons (Syntax.tyInt Syntax.w64) Syntax.tnil)) (Syntax.ttcons
-      (Syntax.tcons (Syntax.tyInt Syntax.w64) Syntax.tnil) (Syntax.ttcons Syntax.tnil Syntax.ttnil))))))))))))))))) Syntax.tnil) Syntax.ttnil))),
+      (Syntax.tcons (Syntax.tyInt Syntax.w64) Syntax.tnil) (Syntax.ttcons Syntax.tnil (Syntax.ttcons Syntax.tnil (Syntax.ttcons (Syntax.tcons (Syntax.tyInt Syntax.w64) Syntax.tnil) (Syntax.ttcons
+      (Syntax.tcons (Syntax.tyInt Syntax.w64) Syntax.tnil) (Syntax.ttcons (Syntax.tcons (Syntax.tyInt Syntax.w64) Syntax.tnil) (Syntax.ttcons Syntax.tnil Syntax.ttnil)))))))))))))))))))))) Syntax.tnil)
+      Syntax.ttnil))),
+) (List._∷_ (1, Rows.sslice (Referent.rtF (Referent.fInt Syntax.w8)) (Syntax.tyRef (Syntax.named 0) Syntax.imm (Syntax.tyInt Syntax.w8)) 0) (List._∷_ (
+  2,
+  Rows.whole (Declared'.row
+      FujiHeader.the-type),
+) (List._∷_ (3, Rows.sc-here (Row.sInt Syntax.w64)) (List._∷_ (
+  4,
+  Mut.mslice (Referent.rtF (Referent.fInt Syntax.w16)) (Syntax.tyRef (Syntax.named 1) Syntax.mut (Syntax.tyInt
+      Syntax.w16)) 1,
+) (List._∷_ (5, Mut.mslice (Element.type) (Syntax.tyRef (Syntax.named 2) Syntax.mut Element.behind) 2) (List._∷_ (6, Rows.any-gone (Syntax.tyInt Syntax.w64)) (List._∷_ (
+  7,
+  Rows.any-gone (Syntax.tyInt Syntax.w64),
+) (List._∷_ (8, Rows.sc-here (Row.sInt Syntax.w64)) (List._∷_ (9, Rows.any-gone Syntax.tyBool) (List._∷_ (
+  10,
+  Rows.any-gone (Syntax.tyEnum (List._∷_ 115
+      (List._∷_ 116 (List._∷_ 114 (List._∷_ 101 (List._∷_ 97 (List._∷_ 109 (List._∷_ 58 (List._∷_ 58 (List._∷_ 82 (List._∷_ 101 (List._∷_ 102 (List._∷_ 117 (List._∷_ 115 (List._∷_ 97 (List._∷_ 108
+      List.[]))))))))))))))) (Syntax.ttcons Syntax.tnil (Syntax.ttcons Syntax.tnil (Syntax.ttcons Syntax.tnil (Syntax.ttcons (Syntax.tcons (Syntax.tyInt Syntax.w64) Syntax.tnil) (Syntax.ttcons Syntax.tnil
+      (Syntax.ttcons Syntax.tnil (Syntax.ttcons Syntax.tnil (Syntax.ttcons Syntax.tnil (Syntax.ttcons Syntax.tnil (Syntax.ttcons Syntax.tnil (Syntax.ttcons (Syntax.tcons (Syntax.tyInt Syntax.w64)
+      Syntax.tnil) (Syntax.ttcons (Syntax.tcons (Syntax.tyInt Syntax.w64) Syntax.tnil) (Syntax.ttcons Syntax.tnil (Syntax.ttcons (Syntax.tcons (Syntax.tyInt Syntax.w64) (Syntax.tcons (Syntax.tyInt
+      Syntax.w64) Syntax.tnil)) (Syntax.ttcons (Syntax.tcons (Syntax.tyInt Syntax.w64) Syntax.tnil) (Syntax.ttcons Syntax.tnil (Syntax.ttcons Syntax.tnil (Syntax.ttcons (Syntax.tcons (Syntax.tyInt
+      Syntax.w64) Syntax.tnil) (Syntax.ttcons (Syntax.tcons (Syntax.tyInt Syntax.w64) Syntax.tnil) (Syntax.ttcons (Syntax.tcons (Syntax.tyInt Syntax.w64) Syntax.tnil) (Syntax.ttcons Syntax.tnil
+      Syntax.ttnil)))))))))))))))))))))),
 ) (List._∷_ (
-  1,
-  Rows.sslice (Referent.rtF (Referent.fInt
-      Syntax.w8)) (Syntax.tyRef (Syntax.named 0) Syntax.imm (Syntax.tyInt Syntax.w8)) 0,
-) (List._∷_ (2, Rows.whole (Declared'.row FujiHeader.the-type)) (List._∷_ (3, Rows.sc-here (Row.sInt Syntax.w64))
-    (List._∷_ (4, Mut.mslice (Referent.rtF (Referent.fInt Syntax.w16)) (Syntax.tyRef (Syntax.named 1) Syntax.mut (Syntax.tyInt Syntax.w16)) 1) (List._∷_ (
-      5,
-      Mut.mslice (Element.type) (Syntax.tyRef
-          (Syntax.named 2) Syntax.mut Element.behind) 2,
-    ) (List._∷_ (6, Rows.any-gone (Syntax.tyInt Syntax.w64)) (List._∷_ (7, Rows.any-gone (Syntax.tyInt Syntax.w64)) (List._∷_ (
-      8,
-      Rows.sc-here (Row.sInt
-          Syntax.w64),
-    ) (List._∷_ (9, Rows.any-gone Syntax.tyBool) (List._∷_ (
-      10,
-      Rows.any-gone (Syntax.tyEnum (List._∷_ 115 (List._∷_ 116 (List._∷_ 114 (List._∷_ 101 (List._∷_ 97 (List._∷_ 109 (List._∷_ 58
-          (List._∷_ 58 (List._∷_ 82 (List._∷_ 101 (List._∷_ 102 (List._∷_ 117 (List._∷_ 115 (List._∷_ 97 (List._∷_ 108 List.[]))))))))))))))) (Syntax.ttcons Syntax.tnil (Syntax.ttcons Syntax.tnil (Syntax.ttcons
-          Syntax.tnil (Syntax.ttcons (Syntax.tcons (Syntax.tyInt Syntax.w64) Syntax.tnil) (Syntax.ttcons Syntax.tnil (Syntax.ttcons Syntax.tnil (Syntax.ttcons Syntax.tnil (Syntax.ttcons Syntax.tnil
-          (Syntax.ttcons Syntax.tnil (Syntax.ttcons Syntax.tnil (Syntax.ttcons (Syntax.tcons (Syntax.tyInt Syntax.w64) Syntax.tnil) (Syntax.ttcons (Syntax.tcons (Syntax.tyInt Syntax.w64) Syntax.tnil)
-          (Syntax.ttcons Syntax.tnil (Syntax.ttcons (Syntax.tcons (Syntax.tyInt Syntax.w64) (Syntax.tcons (Syntax.tyInt Syntax.w64) Syntax.tnil)) (Syntax.ttcons (Syntax.tcons (Syntax.tyInt Syntax.w64)
-          Syntax.tnil) (Syntax.ttcons Syntax.tnil Syntax.ttnil))))))))))))))))),
-    ) (List._∷_ (
-      11,
-      Rows.any-gone (Syntax.tyEnum (List._∷_ 115 (List._∷_ 116 (List._∷_ 114 (List._∷_ 101 (List._∷_ 97 (List._∷_ 109
-          (List._∷_ 58 (List._∷_ 58 (List._∷_ 82 (List._∷_ 101 (List._∷_ 102 (List._∷_ 117 (List._∷_ 115 (List._∷_ 97 (List._∷_ 108 List.[]))))))))))))))) (Syntax.ttcons Syntax.tnil (Syntax.ttcons Syntax.tnil
-          (Syntax.ttcons Syntax.tnil (Syntax.ttcons (Syntax.tcons (Syntax.tyInt Syntax.w64) Syntax.tnil) (Syntax.ttcons Syntax.tnil (Syntax.ttcons Syntax.tnil (Syntax.ttcons Syntax.tnil (Syntax.ttcons
-          Syntax.tnil (Syntax.ttcons Syntax.tnil (Syntax.ttcons Syntax.tnil (Syntax.ttcons (Syntax.tcons (Syntax.tyInt Syntax.w64) Syntax.tnil) (Syntax.ttcons (Syntax.tcons (Syntax.tyInt Syntax.w64)
-          Syntax.tnil) (Syntax.ttcons Syntax.tnil (Syntax.ttcons (Syntax.tcons (Syntax.tyInt Syntax.w64) (Syntax.tcons (Syntax.tyInt Syntax.w64) Syntax.tnil)) (Syntax.ttcons (Syntax.tcons (Syntax.tyInt
-          Syntax.w64) Syntax.tnil) (Syntax.ttcons Syntax.tnil Syntax.ttnil))))))))))))))))),
-    ) (List._∷_ (12, Rows.any-gone Syntax.tyPtr) (List._∷_ (
-      13,
-      Rows.any-gone (Syntax.tyRef Syntax.erased Syntax.mut
-          (Syntax.tyInt Syntax.w16)),
-    ) (List._∷_ (
-      14,
-      Rows.any-gone (Syntax.tyStruct (List._∷_ 38 (List._∷_ 91 (List._∷_ 93 List.[]))) (Syntax.tcons (Syntax.tyRef Syntax.erased Syntax.mut (Syntax.tyInt
-          Syntax.w16)) (Syntax.tcons (Syntax.tyInt Syntax.w64) Syntax.tnil))),
-    ) (List._∷_ (15, Rows.any-gone Syntax.tyPtr) List.[])))))))))))))))
+  11,
+  Rows.any-gone (Syntax.tyEnum (List._∷_ 115 (List._∷_ 116 (List._∷_ 114 (List._∷_ 101 (List._∷_ 97 (List._∷_ 109 (List._∷_ 58 (List._∷_ 58
+      (List._∷_ 82 (List._∷_ 101 (List._∷_ 102 (List._∷_ 117 (List._∷_ 115 (List._∷_ 97 (List._∷_ 108 List.[]))))))))))))))) (Syntax.ttcons Syntax.tnil (Syntax.ttcons Syntax.tnil (Syntax.ttcons Syntax.tnil
+      (Syntax.ttcons (Syntax.tcons (Syntax.tyInt Syntax.w64) Syntax.tnil) (Syntax.ttcons Syntax.tnil (Syntax.ttcons Syntax.tnil (Syntax.ttcons Syntax.tnil (Syntax.ttcons Syntax.tnil (Syntax.ttcons
+      Syntax.tnil (Syntax.ttcons Syntax.tnil (Syntax.ttcons (Syntax.tcons (Syntax.tyInt Syntax.w64) Syntax.tnil) (Syntax.ttcons (Syntax.tcons (Syntax.tyInt Syntax.w64) Syntax.tnil) (Syntax.ttcons
+      Syntax.tnil (Syntax.ttcons (Syntax.tcons (Syntax.tyInt Syntax.w64) (Syntax.tcons (Syntax.tyInt Syntax.w64) Syntax.tnil)) (Syntax.ttcons (Syntax.tcons (Syntax.tyInt Syntax.w64) Syntax.tnil)
+      (Syntax.ttcons Syntax.tnil (Syntax.ttcons Syntax.tnil (Syntax.ttcons (Syntax.tcons (Syntax.tyInt Syntax.w64) Syntax.tnil) (Syntax.ttcons (Syntax.tcons (Syntax.tyInt Syntax.w64) Syntax.tnil)
+      (Syntax.ttcons (Syntax.tcons (Syntax.tyInt Syntax.w64) Syntax.tnil) (Syntax.ttcons Syntax.tnil Syntax.ttnil)))))))))))))))))))))),
+) (List._∷_ (12, Rows.any-gone Syntax.tyPtr) (List._∷_ (
+  13,
+  Rows.any-gone (Syntax.tyRef Syntax.erased Syntax.mut (Syntax.tyInt Syntax.w16)),
+) (List._∷_ (
+  14,
+  Rows.any-gone (Syntax.tyStruct (List._∷_ 38 (List._∷_ 91 (List._∷_ 93 List.[]))) (Syntax.tcons
+      (Syntax.tyRef Syntax.erased Syntax.mut (Syntax.tyInt Syntax.w16)) (Syntax.tcons (Syntax.tyInt Syntax.w64) Syntax.tnil))),
+) (List._∷_ (15, Rows.any-gone Syntax.tyPtr) List.[])))))))))))))))
 
 abbrev pub t6 : List.List Row.Entry
 t6 = List._∷_ (
@@ -589,45 +600,48 @@ t6 = List._∷_ (
       (Syntax.ttcons Syntax.tnil (Syntax.ttcons Syntax.tnil (Syntax.ttcons (Syntax.tcons (Syntax.tyInt Syntax.w64) Syntax.tnil) (Syntax.ttcons Syntax.tnil (Syntax.ttcons Syntax.tnil (Syntax.ttcons
       Syntax.tnil (Syntax.ttcons Syntax.tnil (Syntax.ttcons Syntax.tnil (Syntax.ttcons Syntax.tnil (Syntax.ttcons (Syntax.tcons (Syntax.tyInt Syntax.w64) Syntax.tnil) (Syntax.ttcons (Syntax.tcons
       (Syntax.tyInt Syntax.w64) Syntax.tnil) (Syntax.ttcons Syntax.tnil (Syntax.ttcons (Syntax.tcons (Syntax.tyInt Syntax.w64) (Syntax.tcons (Syntax.tyInt Syntax.w64) Syntax.tnil)) (Syntax.ttcons
-      (Syntax.tcons (Syntax.tyInt Syntax.w64) Syntax.tnil) (Syntax.ttcons Syntax.tnil Syntax.ttnil))))))))))))))))) Syntax.tnil) Syntax.ttnil))),
+      (Syntax.tcons (Syntax.tyInt Syntax.w64) Syntax.tnil) (Syntax.ttcons Syntax.tnil (Syntax.ttcons Syntax.tnil (Syntax.ttcons (Syntax.tcons (Syntax.tyInt Syntax.w64) Syntax.tnil) (Syntax.ttcons
+      (Syntax.tcons (Syntax.tyInt Syntax.w64) Syntax.tnil) (Syntax.ttcons (Syntax.tcons (Syntax.tyInt Syntax.w64) Syntax.tnil) (Syntax.ttcons Syntax.tnil Syntax.ttnil)))))))))))))))))))))) Syntax.tnil)
+      Syntax.ttnil))),
+) (List._∷_ (1, Rows.sslice (Referent.rtF (Referent.fInt Syntax.w8)) (Syntax.tyRef (Syntax.named 0) Syntax.imm (Syntax.tyInt Syntax.w8)) 0) (List._∷_ (
+  2,
+  Rows.whole (Declared'.row
+      FujiHeader.the-type),
+) (List._∷_ (3, Rows.sc-here (Row.sInt Syntax.w64)) (List._∷_ (
+  4,
+  Mut.mslice (Referent.rtF (Referent.fInt Syntax.w16)) (Syntax.tyRef (Syntax.named 1) Syntax.mut (Syntax.tyInt
+      Syntax.w16)) 1,
+) (List._∷_ (5, Mut.mslice (Element.type) (Syntax.tyRef (Syntax.named 2) Syntax.mut Element.behind) 2) (List._∷_ (6, Rows.sc-here (Row.sInt Syntax.w64)) (List._∷_ (
+  7,
+  Rows.any-gone
+      (Syntax.tyInt Syntax.w64),
+) (List._∷_ (8, Rows.sc-here (Row.sInt Syntax.w64)) (List._∷_ (9, Rows.any-gone Syntax.tyBool) (List._∷_ (
+  10,
+  Rows.any-gone (Syntax.tyEnum (List._∷_ 115 (List._∷_ 116
+      (List._∷_ 114 (List._∷_ 101 (List._∷_ 97 (List._∷_ 109 (List._∷_ 58 (List._∷_ 58 (List._∷_ 82 (List._∷_ 101 (List._∷_ 102 (List._∷_ 117 (List._∷_ 115 (List._∷_ 97 (List._∷_ 108 List.[])))))))))))))))
+      (Syntax.ttcons Syntax.tnil (Syntax.ttcons Syntax.tnil (Syntax.ttcons Syntax.tnil (Syntax.ttcons (Syntax.tcons (Syntax.tyInt Syntax.w64) Syntax.tnil) (Syntax.ttcons Syntax.tnil (Syntax.ttcons
+      Syntax.tnil (Syntax.ttcons Syntax.tnil (Syntax.ttcons Syntax.tnil (Syntax.ttcons Syntax.tnil (Syntax.ttcons Syntax.tnil (Syntax.ttcons (Syntax.tcons (Syntax.tyInt Syntax.w64) Syntax.tnil)
+      (Syntax.ttcons (Syntax.tcons (Syntax.tyInt Syntax.w64) Syntax.tnil) (Syntax.ttcons Syntax.tnil (Syntax.ttcons (Syntax.tcons (Syntax.tyInt Syntax.w64) (Syntax.tcons (Syntax.tyInt Syntax.w64)
+      Syntax.tnil)) (Syntax.ttcons (Syntax.tcons (Syntax.tyInt Syntax.w64) Syntax.tnil) (Syntax.ttcons Syntax.tnil (Syntax.ttcons Syntax.tnil (Syntax.ttcons (Syntax.tcons (Syntax.tyInt Syntax.w64)
+      Syntax.tnil) (Syntax.ttcons (Syntax.tcons (Syntax.tyInt Syntax.w64) Syntax.tnil) (Syntax.ttcons (Syntax.tcons (Syntax.tyInt Syntax.w64) Syntax.tnil) (Syntax.ttcons Syntax.tnil
+      Syntax.ttnil)))))))))))))))))))))),
 ) (List._∷_ (
-  1,
-  Rows.sslice (Referent.rtF (Referent.fInt
-      Syntax.w8)) (Syntax.tyRef (Syntax.named 0) Syntax.imm (Syntax.tyInt Syntax.w8)) 0,
-) (List._∷_ (2, Rows.whole (Declared'.row FujiHeader.the-type)) (List._∷_ (3, Rows.sc-here (Row.sInt Syntax.w64))
-    (List._∷_ (4, Mut.mslice (Referent.rtF (Referent.fInt Syntax.w16)) (Syntax.tyRef (Syntax.named 1) Syntax.mut (Syntax.tyInt Syntax.w16)) 1) (List._∷_ (
-      5,
-      Mut.mslice (Element.type) (Syntax.tyRef
-          (Syntax.named 2) Syntax.mut Element.behind) 2,
-    ) (List._∷_ (6, Rows.sc-here (Row.sInt Syntax.w64)) (List._∷_ (7, Rows.any-gone (Syntax.tyInt Syntax.w64)) (List._∷_ (
-      8,
-      Rows.sc-here (Row.sInt
-          Syntax.w64),
-    ) (List._∷_ (9, Rows.any-gone Syntax.tyBool) (List._∷_ (
-      10,
-      Rows.any-gone (Syntax.tyEnum (List._∷_ 115 (List._∷_ 116 (List._∷_ 114 (List._∷_ 101 (List._∷_ 97 (List._∷_ 109 (List._∷_ 58
-          (List._∷_ 58 (List._∷_ 82 (List._∷_ 101 (List._∷_ 102 (List._∷_ 117 (List._∷_ 115 (List._∷_ 97 (List._∷_ 108 List.[]))))))))))))))) (Syntax.ttcons Syntax.tnil (Syntax.ttcons Syntax.tnil (Syntax.ttcons
-          Syntax.tnil (Syntax.ttcons (Syntax.tcons (Syntax.tyInt Syntax.w64) Syntax.tnil) (Syntax.ttcons Syntax.tnil (Syntax.ttcons Syntax.tnil (Syntax.ttcons Syntax.tnil (Syntax.ttcons Syntax.tnil
-          (Syntax.ttcons Syntax.tnil (Syntax.ttcons Syntax.tnil (Syntax.ttcons (Syntax.tcons (Syntax.tyInt Syntax.w64) Syntax.tnil) (Syntax.ttcons (Syntax.tcons (Syntax.tyInt Syntax.w64) Syntax.tnil)
-          (Syntax.ttcons Syntax.tnil (Syntax.ttcons (Syntax.tcons (Syntax.tyInt Syntax.w64) (Syntax.tcons (Syntax.tyInt Syntax.w64) Syntax.tnil)) (Syntax.ttcons (Syntax.tcons (Syntax.tyInt Syntax.w64)
-          Syntax.tnil) (Syntax.ttcons Syntax.tnil Syntax.ttnil))))))))))))))))),
-    ) (List._∷_ (
-      11,
-      Rows.any-gone (Syntax.tyEnum (List._∷_ 115 (List._∷_ 116 (List._∷_ 114 (List._∷_ 101 (List._∷_ 97 (List._∷_ 109
-          (List._∷_ 58 (List._∷_ 58 (List._∷_ 82 (List._∷_ 101 (List._∷_ 102 (List._∷_ 117 (List._∷_ 115 (List._∷_ 97 (List._∷_ 108 List.[]))))))))))))))) (Syntax.ttcons Syntax.tnil (Syntax.ttcons Syntax.tnil
-          (Syntax.ttcons Syntax.tnil (Syntax.ttcons (Syntax.tcons (Syntax.tyInt Syntax.w64) Syntax.tnil) (Syntax.ttcons Syntax.tnil (Syntax.ttcons Syntax.tnil (Syntax.ttcons Syntax.tnil (Syntax.ttcons
-          Syntax.tnil (Syntax.ttcons Syntax.tnil (Syntax.ttcons Syntax.tnil (Syntax.ttcons (Syntax.tcons (Syntax.tyInt Syntax.w64) Syntax.tnil) (Syntax.ttcons (Syntax.tcons (Syntax.tyInt Syntax.w64)
-          Syntax.tnil) (Syntax.ttcons Syntax.tnil (Syntax.ttcons (Syntax.tcons (Syntax.tyInt Syntax.w64) (Syntax.tcons (Syntax.tyInt Syntax.w64) Syntax.tnil)) (Syntax.ttcons (Syntax.tcons (Syntax.tyInt
-          Syntax.w64) Syntax.tnil) (Syntax.ttcons Syntax.tnil Syntax.ttnil))))))))))))))))),
-    ) (List._∷_ (12, Rows.any-gone Syntax.tyPtr) (List._∷_ (
-      13,
-      Rows.any-gone (Syntax.tyRef Syntax.erased Syntax.mut
-          (Syntax.tyInt Syntax.w16)),
-    ) (List._∷_ (
-      14,
-      Rows.any-gone (Syntax.tyStruct (List._∷_ 38 (List._∷_ 91 (List._∷_ 93 List.[]))) (Syntax.tcons (Syntax.tyRef Syntax.erased Syntax.mut (Syntax.tyInt
-          Syntax.w16)) (Syntax.tcons (Syntax.tyInt Syntax.w64) Syntax.tnil))),
-    ) (List._∷_ (15, Rows.any-gone Syntax.tyPtr) List.[])))))))))))))))
+  11,
+  Rows.any-gone (Syntax.tyEnum (List._∷_ 115 (List._∷_ 116 (List._∷_ 114 (List._∷_ 101 (List._∷_ 97 (List._∷_ 109 (List._∷_ 58 (List._∷_ 58
+      (List._∷_ 82 (List._∷_ 101 (List._∷_ 102 (List._∷_ 117 (List._∷_ 115 (List._∷_ 97 (List._∷_ 108 List.[]))))))))))))))) (Syntax.ttcons Syntax.tnil (Syntax.ttcons Syntax.tnil (Syntax.ttcons Syntax.tnil
+      (Syntax.ttcons (Syntax.tcons (Syntax.tyInt Syntax.w64) Syntax.tnil) (Syntax.ttcons Syntax.tnil (Syntax.ttcons Syntax.tnil (Syntax.ttcons Syntax.tnil (Syntax.ttcons Syntax.tnil (Syntax.ttcons
+      Syntax.tnil (Syntax.ttcons Syntax.tnil (Syntax.ttcons (Syntax.tcons (Syntax.tyInt Syntax.w64) Syntax.tnil) (Syntax.ttcons (Syntax.tcons (Syntax.tyInt Syntax.w64) Syntax.tnil) (Syntax.ttcons
+      Syntax.tnil (Syntax.ttcons (Syntax.tcons (Syntax.tyInt Syntax.w64) (Syntax.tcons (Syntax.tyInt Syntax.w64) Syntax.tnil)) (Syntax.ttcons (Syntax.tcons (Syntax.tyInt Syntax.w64) Syntax.tnil)
+      (Syntax.ttcons Syntax.tnil (Syntax.ttcons Syntax.tnil (Syntax.ttcons (Syntax.tcons (Syntax.tyInt Syntax.w64) Syntax.tnil) (Syntax.ttcons (Syntax.tcons (Syntax.tyInt Syntax.w64) Syntax.tnil)
+      (Syntax.ttcons (Syntax.tcons (Syntax.tyInt Syntax.w64) Syntax.tnil) (Syntax.ttcons Syntax.tnil Syntax.ttnil)))))))))))))))))))))),
+) (List._∷_ (12, Rows.any-gone Syntax.tyPtr) (List._∷_ (
+  13,
+  Rows.any-gone (Syntax.tyRef Syntax.erased Syntax.mut (Syntax.tyInt Syntax.w16)),
+) (List._∷_ (
+  14,
+  Rows.any-gone (Syntax.tyStruct (List._∷_ 38 (List._∷_ 91 (List._∷_ 93 List.[]))) (Syntax.tcons
+      (Syntax.tyRef Syntax.erased Syntax.mut (Syntax.tyInt Syntax.w16)) (Syntax.tcons (Syntax.tyInt Syntax.w64) Syntax.tnil))),
+) (List._∷_ (15, Rows.any-gone Syntax.tyPtr) List.[])))))))))))))))
 
 abbrev pub t7 : List.List Row.Entry
 t7 = List._∷_ (
@@ -638,45 +652,48 @@ t7 = List._∷_ (
       (Syntax.ttcons Syntax.tnil (Syntax.ttcons Syntax.tnil (Syntax.ttcons (Syntax.tcons (Syntax.tyInt Syntax.w64) Syntax.tnil) (Syntax.ttcons Syntax.tnil (Syntax.ttcons Syntax.tnil (Syntax.ttcons
       Syntax.tnil (Syntax.ttcons Syntax.tnil (Syntax.ttcons Syntax.tnil (Syntax.ttcons Syntax.tnil (Syntax.ttcons (Syntax.tcons (Syntax.tyInt Syntax.w64) Syntax.tnil) (Syntax.ttcons (Syntax.tcons
       (Syntax.tyInt Syntax.w64) Syntax.tnil) (Syntax.ttcons Syntax.tnil (Syntax.ttcons (Syntax.tcons (Syntax.tyInt Syntax.w64) (Syntax.tcons (Syntax.tyInt Syntax.w64) Syntax.tnil)) (Syntax.ttcons
-      (Syntax.tcons (Syntax.tyInt Syntax.w64) Syntax.tnil) (Syntax.ttcons Syntax.tnil Syntax.ttnil))))))))))))))))) Syntax.tnil) Syntax.ttnil))),
+      (Syntax.tcons (Syntax.tyInt Syntax.w64) Syntax.tnil) (Syntax.ttcons Syntax.tnil (Syntax.ttcons Syntax.tnil (Syntax.ttcons (Syntax.tcons (Syntax.tyInt Syntax.w64) Syntax.tnil) (Syntax.ttcons
+      (Syntax.tcons (Syntax.tyInt Syntax.w64) Syntax.tnil) (Syntax.ttcons (Syntax.tcons (Syntax.tyInt Syntax.w64) Syntax.tnil) (Syntax.ttcons Syntax.tnil Syntax.ttnil)))))))))))))))))))))) Syntax.tnil)
+      Syntax.ttnil))),
+) (List._∷_ (1, Rows.sslice (Referent.rtF (Referent.fInt Syntax.w8)) (Syntax.tyRef (Syntax.named 0) Syntax.imm (Syntax.tyInt Syntax.w8)) 0) (List._∷_ (
+  2,
+  Rows.whole (Declared'.row
+      FujiHeader.the-type),
+) (List._∷_ (3, Rows.sc-here (Row.sInt Syntax.w64)) (List._∷_ (
+  4,
+  Mut.mslice (Referent.rtF (Referent.fInt Syntax.w16)) (Syntax.tyRef (Syntax.named 1) Syntax.mut (Syntax.tyInt
+      Syntax.w16)) 1,
+) (List._∷_ (5, Mut.mslice (Element.type) (Syntax.tyRef (Syntax.named 2) Syntax.mut Element.behind) 2) (List._∷_ (6, Rows.sc-here (Row.sInt Syntax.w64)) (List._∷_ (
+  7,
+  Rows.any-gone
+      (Syntax.tyInt Syntax.w64),
+) (List._∷_ (8, Rows.any-gone (Syntax.tyInt Syntax.w64)) (List._∷_ (9, Rows.any-gone Syntax.tyBool) (List._∷_ (
+  10,
+  Rows.any-gone (Syntax.tyEnum (List._∷_ 115 (List._∷_
+      116 (List._∷_ 114 (List._∷_ 101 (List._∷_ 97 (List._∷_ 109 (List._∷_ 58 (List._∷_ 58 (List._∷_ 82 (List._∷_ 101 (List._∷_ 102 (List._∷_ 117 (List._∷_ 115 (List._∷_ 97 (List._∷_ 108
+      List.[]))))))))))))))) (Syntax.ttcons Syntax.tnil (Syntax.ttcons Syntax.tnil (Syntax.ttcons Syntax.tnil (Syntax.ttcons (Syntax.tcons (Syntax.tyInt Syntax.w64) Syntax.tnil) (Syntax.ttcons Syntax.tnil
+      (Syntax.ttcons Syntax.tnil (Syntax.ttcons Syntax.tnil (Syntax.ttcons Syntax.tnil (Syntax.ttcons Syntax.tnil (Syntax.ttcons Syntax.tnil (Syntax.ttcons (Syntax.tcons (Syntax.tyInt Syntax.w64)
+      Syntax.tnil) (Syntax.ttcons (Syntax.tcons (Syntax.tyInt Syntax.w64) Syntax.tnil) (Syntax.ttcons Syntax.tnil (Syntax.ttcons (Syntax.tcons (Syntax.tyInt Syntax.w64) (Syntax.tcons (Syntax.tyInt
+      Syntax.w64) Syntax.tnil)) (Syntax.ttcons (Syntax.tcons (Syntax.tyInt Syntax.w64) Syntax.tnil) (Syntax.ttcons Syntax.tnil (Syntax.ttcons Syntax.tnil (Syntax.ttcons (Syntax.tcons (Syntax.tyInt
+      Syntax.w64) Syntax.tnil) (Syntax.ttcons (Syntax.tcons (Syntax.tyInt Syntax.w64) Syntax.tnil) (Syntax.ttcons (Syntax.tcons (Syntax.tyInt Syntax.w64) Syntax.tnil) (Syntax.ttcons Syntax.tnil
+      Syntax.ttnil)))))))))))))))))))))),
 ) (List._∷_ (
-  1,
-  Rows.sslice (Referent.rtF (Referent.fInt
-      Syntax.w8)) (Syntax.tyRef (Syntax.named 0) Syntax.imm (Syntax.tyInt Syntax.w8)) 0,
-) (List._∷_ (2, Rows.whole (Declared'.row FujiHeader.the-type)) (List._∷_ (3, Rows.sc-here (Row.sInt Syntax.w64))
-    (List._∷_ (4, Mut.mslice (Referent.rtF (Referent.fInt Syntax.w16)) (Syntax.tyRef (Syntax.named 1) Syntax.mut (Syntax.tyInt Syntax.w16)) 1) (List._∷_ (
-      5,
-      Mut.mslice (Element.type) (Syntax.tyRef
-          (Syntax.named 2) Syntax.mut Element.behind) 2,
-    ) (List._∷_ (6, Rows.sc-here (Row.sInt Syntax.w64)) (List._∷_ (7, Rows.any-gone (Syntax.tyInt Syntax.w64)) (List._∷_ (
-      8,
-      Rows.any-gone (Syntax.tyInt
-          Syntax.w64),
-    ) (List._∷_ (9, Rows.any-gone Syntax.tyBool) (List._∷_ (
-      10,
-      Rows.any-gone (Syntax.tyEnum (List._∷_ 115 (List._∷_ 116 (List._∷_ 114 (List._∷_ 101 (List._∷_ 97 (List._∷_ 109 (List._∷_ 58
-          (List._∷_ 58 (List._∷_ 82 (List._∷_ 101 (List._∷_ 102 (List._∷_ 117 (List._∷_ 115 (List._∷_ 97 (List._∷_ 108 List.[]))))))))))))))) (Syntax.ttcons Syntax.tnil (Syntax.ttcons Syntax.tnil (Syntax.ttcons
-          Syntax.tnil (Syntax.ttcons (Syntax.tcons (Syntax.tyInt Syntax.w64) Syntax.tnil) (Syntax.ttcons Syntax.tnil (Syntax.ttcons Syntax.tnil (Syntax.ttcons Syntax.tnil (Syntax.ttcons Syntax.tnil
-          (Syntax.ttcons Syntax.tnil (Syntax.ttcons Syntax.tnil (Syntax.ttcons (Syntax.tcons (Syntax.tyInt Syntax.w64) Syntax.tnil) (Syntax.ttcons (Syntax.tcons (Syntax.tyInt Syntax.w64) Syntax.tnil)
-          (Syntax.ttcons Syntax.tnil (Syntax.ttcons (Syntax.tcons (Syntax.tyInt Syntax.w64) (Syntax.tcons (Syntax.tyInt Syntax.w64) Syntax.tnil)) (Syntax.ttcons (Syntax.tcons (Syntax.tyInt Syntax.w64)
-          Syntax.tnil) (Syntax.ttcons Syntax.tnil Syntax.ttnil))))))))))))))))),
-    ) (List._∷_ (
-      11,
-      Rows.any-gone (Syntax.tyEnum (List._∷_ 115 (List._∷_ 116 (List._∷_ 114 (List._∷_ 101 (List._∷_ 97 (List._∷_ 109
-          (List._∷_ 58 (List._∷_ 58 (List._∷_ 82 (List._∷_ 101 (List._∷_ 102 (List._∷_ 117 (List._∷_ 115 (List._∷_ 97 (List._∷_ 108 List.[]))))))))))))))) (Syntax.ttcons Syntax.tnil (Syntax.ttcons Syntax.tnil
-          (Syntax.ttcons Syntax.tnil (Syntax.ttcons (Syntax.tcons (Syntax.tyInt Syntax.w64) Syntax.tnil) (Syntax.ttcons Syntax.tnil (Syntax.ttcons Syntax.tnil (Syntax.ttcons Syntax.tnil (Syntax.ttcons
-          Syntax.tnil (Syntax.ttcons Syntax.tnil (Syntax.ttcons Syntax.tnil (Syntax.ttcons (Syntax.tcons (Syntax.tyInt Syntax.w64) Syntax.tnil) (Syntax.ttcons (Syntax.tcons (Syntax.tyInt Syntax.w64)
-          Syntax.tnil) (Syntax.ttcons Syntax.tnil (Syntax.ttcons (Syntax.tcons (Syntax.tyInt Syntax.w64) (Syntax.tcons (Syntax.tyInt Syntax.w64) Syntax.tnil)) (Syntax.ttcons (Syntax.tcons (Syntax.tyInt
-          Syntax.w64) Syntax.tnil) (Syntax.ttcons Syntax.tnil Syntax.ttnil))))))))))))))))),
-    ) (List._∷_ (12, Rows.any-gone Syntax.tyPtr) (List._∷_ (
-      13,
-      Rows.any-gone (Syntax.tyRef Syntax.erased Syntax.mut
-          (Syntax.tyInt Syntax.w16)),
-    ) (List._∷_ (
-      14,
-      Rows.any-gone (Syntax.tyStruct (List._∷_ 38 (List._∷_ 91 (List._∷_ 93 List.[]))) (Syntax.tcons (Syntax.tyRef Syntax.erased Syntax.mut (Syntax.tyInt
-          Syntax.w16)) (Syntax.tcons (Syntax.tyInt Syntax.w64) Syntax.tnil))),
-    ) (List._∷_ (15, Rows.any-gone Syntax.tyPtr) List.[])))))))))))))))
+  11,
+  Rows.any-gone (Syntax.tyEnum (List._∷_ 115 (List._∷_ 116 (List._∷_ 114 (List._∷_ 101 (List._∷_ 97 (List._∷_ 109 (List._∷_ 58 (List._∷_ 58
+      (List._∷_ 82 (List._∷_ 101 (List._∷_ 102 (List._∷_ 117 (List._∷_ 115 (List._∷_ 97 (List._∷_ 108 List.[]))))))))))))))) (Syntax.ttcons Syntax.tnil (Syntax.ttcons Syntax.tnil (Syntax.ttcons Syntax.tnil
+      (Syntax.ttcons (Syntax.tcons (Syntax.tyInt Syntax.w64) Syntax.tnil) (Syntax.ttcons Syntax.tnil (Syntax.ttcons Syntax.tnil (Syntax.ttcons Syntax.tnil (Syntax.ttcons Syntax.tnil (Syntax.ttcons
+      Syntax.tnil (Syntax.ttcons Syntax.tnil (Syntax.ttcons (Syntax.tcons (Syntax.tyInt Syntax.w64) Syntax.tnil) (Syntax.ttcons (Syntax.tcons (Syntax.tyInt Syntax.w64) Syntax.tnil) (Syntax.ttcons
+      Syntax.tnil (Syntax.ttcons (Syntax.tcons (Syntax.tyInt Syntax.w64) (Syntax.tcons (Syntax.tyInt Syntax.w64) Syntax.tnil)) (Syntax.ttcons (Syntax.tcons (Syntax.tyInt Syntax.w64) Syntax.tnil)
+      (Syntax.ttcons Syntax.tnil (Syntax.ttcons Syntax.tnil (Syntax.ttcons (Syntax.tcons (Syntax.tyInt Syntax.w64) Syntax.tnil) (Syntax.ttcons (Syntax.tcons (Syntax.tyInt Syntax.w64) Syntax.tnil)
+      (Syntax.ttcons (Syntax.tcons (Syntax.tyInt Syntax.w64) Syntax.tnil) (Syntax.ttcons Syntax.tnil Syntax.ttnil)))))))))))))))))))))),
+) (List._∷_ (12, Rows.any-gone Syntax.tyPtr) (List._∷_ (
+  13,
+  Rows.any-gone (Syntax.tyRef Syntax.erased Syntax.mut (Syntax.tyInt Syntax.w16)),
+) (List._∷_ (
+  14,
+  Rows.any-gone (Syntax.tyStruct (List._∷_ 38 (List._∷_ 91 (List._∷_ 93 List.[]))) (Syntax.tcons
+      (Syntax.tyRef Syntax.erased Syntax.mut (Syntax.tyInt Syntax.w16)) (Syntax.tcons (Syntax.tyInt Syntax.w64) Syntax.tnil))),
+) (List._∷_ (15, Rows.any-gone Syntax.tyPtr) List.[])))))))))))))))
 
 abbrev pub t8 : List.List Row.Entry
 t8 = List._∷_ (
@@ -687,45 +704,48 @@ t8 = List._∷_ (
       (Syntax.ttcons Syntax.tnil (Syntax.ttcons Syntax.tnil (Syntax.ttcons (Syntax.tcons (Syntax.tyInt Syntax.w64) Syntax.tnil) (Syntax.ttcons Syntax.tnil (Syntax.ttcons Syntax.tnil (Syntax.ttcons
       Syntax.tnil (Syntax.ttcons Syntax.tnil (Syntax.ttcons Syntax.tnil (Syntax.ttcons Syntax.tnil (Syntax.ttcons (Syntax.tcons (Syntax.tyInt Syntax.w64) Syntax.tnil) (Syntax.ttcons (Syntax.tcons
       (Syntax.tyInt Syntax.w64) Syntax.tnil) (Syntax.ttcons Syntax.tnil (Syntax.ttcons (Syntax.tcons (Syntax.tyInt Syntax.w64) (Syntax.tcons (Syntax.tyInt Syntax.w64) Syntax.tnil)) (Syntax.ttcons
-      (Syntax.tcons (Syntax.tyInt Syntax.w64) Syntax.tnil) (Syntax.ttcons Syntax.tnil Syntax.ttnil))))))))))))))))) Syntax.tnil) Syntax.ttnil))),
+      (Syntax.tcons (Syntax.tyInt Syntax.w64) Syntax.tnil) (Syntax.ttcons Syntax.tnil (Syntax.ttcons Syntax.tnil (Syntax.ttcons (Syntax.tcons (Syntax.tyInt Syntax.w64) Syntax.tnil) (Syntax.ttcons
+      (Syntax.tcons (Syntax.tyInt Syntax.w64) Syntax.tnil) (Syntax.ttcons (Syntax.tcons (Syntax.tyInt Syntax.w64) Syntax.tnil) (Syntax.ttcons Syntax.tnil Syntax.ttnil)))))))))))))))))))))) Syntax.tnil)
+      Syntax.ttnil))),
+) (List._∷_ (1, Rows.sslice (Referent.rtF (Referent.fInt Syntax.w8)) (Syntax.tyRef (Syntax.named 0) Syntax.imm (Syntax.tyInt Syntax.w8)) 0) (List._∷_ (
+  2,
+  Rows.whole (Declared'.row
+      FujiHeader.the-type),
+) (List._∷_ (3, Rows.sc-here (Row.sInt Syntax.w64)) (List._∷_ (
+  4,
+  Mut.mslice (Referent.rtF (Referent.fInt Syntax.w16)) (Syntax.tyRef (Syntax.named 1) Syntax.mut (Syntax.tyInt
+      Syntax.w16)) 1,
+) (List._∷_ (5, Mut.mslice (Element.type) (Syntax.tyRef (Syntax.named 2) Syntax.mut Element.behind) 2) (List._∷_ (6, Rows.sc-here (Row.sInt Syntax.w64)) (List._∷_ (
+  7,
+  Rows.sc-here
+      (Row.sInt Syntax.w64),
+) (List._∷_ (8, Rows.any-gone (Syntax.tyInt Syntax.w64)) (List._∷_ (9, Rows.any-gone Syntax.tyBool) (List._∷_ (
+  10,
+  Rows.any-gone (Syntax.tyEnum (List._∷_ 115 (List._∷_ 116
+      (List._∷_ 114 (List._∷_ 101 (List._∷_ 97 (List._∷_ 109 (List._∷_ 58 (List._∷_ 58 (List._∷_ 82 (List._∷_ 101 (List._∷_ 102 (List._∷_ 117 (List._∷_ 115 (List._∷_ 97 (List._∷_ 108 List.[])))))))))))))))
+      (Syntax.ttcons Syntax.tnil (Syntax.ttcons Syntax.tnil (Syntax.ttcons Syntax.tnil (Syntax.ttcons (Syntax.tcons (Syntax.tyInt Syntax.w64) Syntax.tnil) (Syntax.ttcons Syntax.tnil (Syntax.ttcons
+      Syntax.tnil (Syntax.ttcons Syntax.tnil (Syntax.ttcons Syntax.tnil (Syntax.ttcons Syntax.tnil (Syntax.ttcons Syntax.tnil (Syntax.ttcons (Syntax.tcons (Syntax.tyInt Syntax.w64) Syntax.tnil)
+      (Syntax.ttcons (Syntax.tcons (Syntax.tyInt Syntax.w64) Syntax.tnil) (Syntax.ttcons Syntax.tnil (Syntax.ttcons (Syntax.tcons (Syntax.tyInt Syntax.w64) (Syntax.tcons (Syntax.tyInt Syntax.w64)
+      Syntax.tnil)) (Syntax.ttcons (Syntax.tcons (Syntax.tyInt Syntax.w64) Syntax.tnil) (Syntax.ttcons Syntax.tnil (Syntax.ttcons Syntax.tnil (Syntax.ttcons (Syntax.tcons (Syntax.tyInt Syntax.w64)
+      Syntax.tnil) (Syntax.ttcons (Syntax.tcons (Syntax.tyInt Syntax.w64) Syntax.tnil) (Syntax.ttcons (Syntax.tcons (Syntax.tyInt Syntax.w64) Syntax.tnil) (Syntax.ttcons Syntax.tnil
+      Syntax.ttnil)))))))))))))))))))))),
 ) (List._∷_ (
-  1,
-  Rows.sslice (Referent.rtF (Referent.fInt
-      Syntax.w8)) (Syntax.tyRef (Syntax.named 0) Syntax.imm (Syntax.tyInt Syntax.w8)) 0,
-) (List._∷_ (2, Rows.whole (Declared'.row FujiHeader.the-type)) (List._∷_ (3, Rows.sc-here (Row.sInt Syntax.w64))
-    (List._∷_ (4, Mut.mslice (Referent.rtF (Referent.fInt Syntax.w16)) (Syntax.tyRef (Syntax.named 1) Syntax.mut (Syntax.tyInt Syntax.w16)) 1) (List._∷_ (
-      5,
-      Mut.mslice (Element.type) (Syntax.tyRef
-          (Syntax.named 2) Syntax.mut Element.behind) 2,
-    ) (List._∷_ (6, Rows.sc-here (Row.sInt Syntax.w64)) (List._∷_ (7, Rows.sc-here (Row.sInt Syntax.w64)) (List._∷_ (
-      8,
-      Rows.any-gone (Syntax.tyInt
-          Syntax.w64),
-    ) (List._∷_ (9, Rows.any-gone Syntax.tyBool) (List._∷_ (
-      10,
-      Rows.any-gone (Syntax.tyEnum (List._∷_ 115 (List._∷_ 116 (List._∷_ 114 (List._∷_ 101 (List._∷_ 97 (List._∷_ 109 (List._∷_ 58
-          (List._∷_ 58 (List._∷_ 82 (List._∷_ 101 (List._∷_ 102 (List._∷_ 117 (List._∷_ 115 (List._∷_ 97 (List._∷_ 108 List.[]))))))))))))))) (Syntax.ttcons Syntax.tnil (Syntax.ttcons Syntax.tnil (Syntax.ttcons
-          Syntax.tnil (Syntax.ttcons (Syntax.tcons (Syntax.tyInt Syntax.w64) Syntax.tnil) (Syntax.ttcons Syntax.tnil (Syntax.ttcons Syntax.tnil (Syntax.ttcons Syntax.tnil (Syntax.ttcons Syntax.tnil
-          (Syntax.ttcons Syntax.tnil (Syntax.ttcons Syntax.tnil (Syntax.ttcons (Syntax.tcons (Syntax.tyInt Syntax.w64) Syntax.tnil) (Syntax.ttcons (Syntax.tcons (Syntax.tyInt Syntax.w64) Syntax.tnil)
-          (Syntax.ttcons Syntax.tnil (Syntax.ttcons (Syntax.tcons (Syntax.tyInt Syntax.w64) (Syntax.tcons (Syntax.tyInt Syntax.w64) Syntax.tnil)) (Syntax.ttcons (Syntax.tcons (Syntax.tyInt Syntax.w64)
-          Syntax.tnil) (Syntax.ttcons Syntax.tnil Syntax.ttnil))))))))))))))))),
-    ) (List._∷_ (
-      11,
-      Rows.any-gone (Syntax.tyEnum (List._∷_ 115 (List._∷_ 116 (List._∷_ 114 (List._∷_ 101 (List._∷_ 97 (List._∷_ 109
-          (List._∷_ 58 (List._∷_ 58 (List._∷_ 82 (List._∷_ 101 (List._∷_ 102 (List._∷_ 117 (List._∷_ 115 (List._∷_ 97 (List._∷_ 108 List.[]))))))))))))))) (Syntax.ttcons Syntax.tnil (Syntax.ttcons Syntax.tnil
-          (Syntax.ttcons Syntax.tnil (Syntax.ttcons (Syntax.tcons (Syntax.tyInt Syntax.w64) Syntax.tnil) (Syntax.ttcons Syntax.tnil (Syntax.ttcons Syntax.tnil (Syntax.ttcons Syntax.tnil (Syntax.ttcons
-          Syntax.tnil (Syntax.ttcons Syntax.tnil (Syntax.ttcons Syntax.tnil (Syntax.ttcons (Syntax.tcons (Syntax.tyInt Syntax.w64) Syntax.tnil) (Syntax.ttcons (Syntax.tcons (Syntax.tyInt Syntax.w64)
-          Syntax.tnil) (Syntax.ttcons Syntax.tnil (Syntax.ttcons (Syntax.tcons (Syntax.tyInt Syntax.w64) (Syntax.tcons (Syntax.tyInt Syntax.w64) Syntax.tnil)) (Syntax.ttcons (Syntax.tcons (Syntax.tyInt
-          Syntax.w64) Syntax.tnil) (Syntax.ttcons Syntax.tnil Syntax.ttnil))))))))))))))))),
-    ) (List._∷_ (12, Rows.any-gone Syntax.tyPtr) (List._∷_ (
-      13,
-      Rows.any-gone (Syntax.tyRef Syntax.erased Syntax.mut
-          (Syntax.tyInt Syntax.w16)),
-    ) (List._∷_ (
-      14,
-      Rows.any-gone (Syntax.tyStruct (List._∷_ 38 (List._∷_ 91 (List._∷_ 93 List.[]))) (Syntax.tcons (Syntax.tyRef Syntax.erased Syntax.mut (Syntax.tyInt
-          Syntax.w16)) (Syntax.tcons (Syntax.tyInt Syntax.w64) Syntax.tnil))),
-    ) (List._∷_ (15, Rows.any-gone Syntax.tyPtr) List.[])))))))))))))))
+  11,
+  Rows.any-gone (Syntax.tyEnum (List._∷_ 115 (List._∷_ 116 (List._∷_ 114 (List._∷_ 101 (List._∷_ 97 (List._∷_ 109 (List._∷_ 58 (List._∷_ 58
+      (List._∷_ 82 (List._∷_ 101 (List._∷_ 102 (List._∷_ 117 (List._∷_ 115 (List._∷_ 97 (List._∷_ 108 List.[]))))))))))))))) (Syntax.ttcons Syntax.tnil (Syntax.ttcons Syntax.tnil (Syntax.ttcons Syntax.tnil
+      (Syntax.ttcons (Syntax.tcons (Syntax.tyInt Syntax.w64) Syntax.tnil) (Syntax.ttcons Syntax.tnil (Syntax.ttcons Syntax.tnil (Syntax.ttcons Syntax.tnil (Syntax.ttcons Syntax.tnil (Syntax.ttcons
+      Syntax.tnil (Syntax.ttcons Syntax.tnil (Syntax.ttcons (Syntax.tcons (Syntax.tyInt Syntax.w64) Syntax.tnil) (Syntax.ttcons (Syntax.tcons (Syntax.tyInt Syntax.w64) Syntax.tnil) (Syntax.ttcons
+      Syntax.tnil (Syntax.ttcons (Syntax.tcons (Syntax.tyInt Syntax.w64) (Syntax.tcons (Syntax.tyInt Syntax.w64) Syntax.tnil)) (Syntax.ttcons (Syntax.tcons (Syntax.tyInt Syntax.w64) Syntax.tnil)
+      (Syntax.ttcons Syntax.tnil (Syntax.ttcons Syntax.tnil (Syntax.ttcons (Syntax.tcons (Syntax.tyInt Syntax.w64) Syntax.tnil) (Syntax.ttcons (Syntax.tcons (Syntax.tyInt Syntax.w64) Syntax.tnil)
+      (Syntax.ttcons (Syntax.tcons (Syntax.tyInt Syntax.w64) Syntax.tnil) (Syntax.ttcons Syntax.tnil Syntax.ttnil)))))))))))))))))))))),
+) (List._∷_ (12, Rows.any-gone Syntax.tyPtr) (List._∷_ (
+  13,
+  Rows.any-gone (Syntax.tyRef Syntax.erased Syntax.mut (Syntax.tyInt Syntax.w16)),
+) (List._∷_ (
+  14,
+  Rows.any-gone (Syntax.tyStruct (List._∷_ 38 (List._∷_ 91 (List._∷_ 93 List.[]))) (Syntax.tcons
+      (Syntax.tyRef Syntax.erased Syntax.mut (Syntax.tyInt Syntax.w16)) (Syntax.tcons (Syntax.tyInt Syntax.w64) Syntax.tnil))),
+) (List._∷_ (15, Rows.any-gone Syntax.tyPtr) List.[])))))))))))))))
 
 abbrev pub t9 : List.List Row.Entry
 t9 = List._∷_ (
@@ -736,45 +756,48 @@ t9 = List._∷_ (
       (Syntax.ttcons Syntax.tnil (Syntax.ttcons Syntax.tnil (Syntax.ttcons (Syntax.tcons (Syntax.tyInt Syntax.w64) Syntax.tnil) (Syntax.ttcons Syntax.tnil (Syntax.ttcons Syntax.tnil (Syntax.ttcons
       Syntax.tnil (Syntax.ttcons Syntax.tnil (Syntax.ttcons Syntax.tnil (Syntax.ttcons Syntax.tnil (Syntax.ttcons (Syntax.tcons (Syntax.tyInt Syntax.w64) Syntax.tnil) (Syntax.ttcons (Syntax.tcons
       (Syntax.tyInt Syntax.w64) Syntax.tnil) (Syntax.ttcons Syntax.tnil (Syntax.ttcons (Syntax.tcons (Syntax.tyInt Syntax.w64) (Syntax.tcons (Syntax.tyInt Syntax.w64) Syntax.tnil)) (Syntax.ttcons
-      (Syntax.tcons (Syntax.tyInt Syntax.w64) Syntax.tnil) (Syntax.ttcons Syntax.tnil Syntax.ttnil))))))))))))))))) Syntax.tnil) Syntax.ttnil))),
+      (Syntax.tcons (Syntax.tyInt Syntax.w64) Syntax.tnil) (Syntax.ttcons Syntax.tnil (Syntax.ttcons Syntax.tnil (Syntax.ttcons (Syntax.tcons (Syntax.tyInt Syntax.w64) Syntax.tnil) (Syntax.ttcons
+      (Syntax.tcons (Syntax.tyInt Syntax.w64) Syntax.tnil) (Syntax.ttcons (Syntax.tcons (Syntax.tyInt Syntax.w64) Syntax.tnil) (Syntax.ttcons Syntax.tnil Syntax.ttnil)))))))))))))))))))))) Syntax.tnil)
+      Syntax.ttnil))),
+) (List._∷_ (1, Rows.sslice (Referent.rtF (Referent.fInt Syntax.w8)) (Syntax.tyRef (Syntax.named 0) Syntax.imm (Syntax.tyInt Syntax.w8)) 0) (List._∷_ (
+  2,
+  Rows.whole (Declared'.row
+      FujiHeader.the-type),
+) (List._∷_ (3, Rows.sc-here (Row.sInt Syntax.w64)) (List._∷_ (
+  4,
+  Mut.mslice (Referent.rtF (Referent.fInt Syntax.w16)) (Syntax.tyRef (Syntax.named 1) Syntax.mut (Syntax.tyInt
+      Syntax.w16)) 1,
+) (List._∷_ (5, Mut.mslice (Element.type) (Syntax.tyRef (Syntax.named 2) Syntax.mut Element.behind) 2) (List._∷_ (6, Rows.sc-here (Row.sInt Syntax.w64)) (List._∷_ (
+  7,
+  Rows.sc-here
+      (Row.sInt Syntax.w64),
+) (List._∷_ (8, Rows.any-gone (Syntax.tyInt Syntax.w64)) (List._∷_ (9, Rows.sc-here Row.sBool) (List._∷_ (
+  10,
+  Rows.any-gone (Syntax.tyEnum (List._∷_ 115 (List._∷_ 116 (List._∷_
+      114 (List._∷_ 101 (List._∷_ 97 (List._∷_ 109 (List._∷_ 58 (List._∷_ 58 (List._∷_ 82 (List._∷_ 101 (List._∷_ 102 (List._∷_ 117 (List._∷_ 115 (List._∷_ 97 (List._∷_ 108 List.[])))))))))))))))
+      (Syntax.ttcons Syntax.tnil (Syntax.ttcons Syntax.tnil (Syntax.ttcons Syntax.tnil (Syntax.ttcons (Syntax.tcons (Syntax.tyInt Syntax.w64) Syntax.tnil) (Syntax.ttcons Syntax.tnil (Syntax.ttcons
+      Syntax.tnil (Syntax.ttcons Syntax.tnil (Syntax.ttcons Syntax.tnil (Syntax.ttcons Syntax.tnil (Syntax.ttcons Syntax.tnil (Syntax.ttcons (Syntax.tcons (Syntax.tyInt Syntax.w64) Syntax.tnil)
+      (Syntax.ttcons (Syntax.tcons (Syntax.tyInt Syntax.w64) Syntax.tnil) (Syntax.ttcons Syntax.tnil (Syntax.ttcons (Syntax.tcons (Syntax.tyInt Syntax.w64) (Syntax.tcons (Syntax.tyInt Syntax.w64)
+      Syntax.tnil)) (Syntax.ttcons (Syntax.tcons (Syntax.tyInt Syntax.w64) Syntax.tnil) (Syntax.ttcons Syntax.tnil (Syntax.ttcons Syntax.tnil (Syntax.ttcons (Syntax.tcons (Syntax.tyInt Syntax.w64)
+      Syntax.tnil) (Syntax.ttcons (Syntax.tcons (Syntax.tyInt Syntax.w64) Syntax.tnil) (Syntax.ttcons (Syntax.tcons (Syntax.tyInt Syntax.w64) Syntax.tnil) (Syntax.ttcons Syntax.tnil
+      Syntax.ttnil)))))))))))))))))))))),
 ) (List._∷_ (
-  1,
-  Rows.sslice (Referent.rtF (Referent.fInt
-      Syntax.w8)) (Syntax.tyRef (Syntax.named 0) Syntax.imm (Syntax.tyInt Syntax.w8)) 0,
-) (List._∷_ (2, Rows.whole (Declared'.row FujiHeader.the-type)) (List._∷_ (3, Rows.sc-here (Row.sInt Syntax.w64))
-    (List._∷_ (4, Mut.mslice (Referent.rtF (Referent.fInt Syntax.w16)) (Syntax.tyRef (Syntax.named 1) Syntax.mut (Syntax.tyInt Syntax.w16)) 1) (List._∷_ (
-      5,
-      Mut.mslice (Element.type) (Syntax.tyRef
-          (Syntax.named 2) Syntax.mut Element.behind) 2,
-    ) (List._∷_ (6, Rows.sc-here (Row.sInt Syntax.w64)) (List._∷_ (7, Rows.sc-here (Row.sInt Syntax.w64)) (List._∷_ (
-      8,
-      Rows.any-gone (Syntax.tyInt
-          Syntax.w64),
-    ) (List._∷_ (9, Rows.sc-here Row.sBool) (List._∷_ (
-      10,
-      Rows.any-gone (Syntax.tyEnum (List._∷_ 115 (List._∷_ 116 (List._∷_ 114 (List._∷_ 101 (List._∷_ 97 (List._∷_ 109 (List._∷_ 58
-          (List._∷_ 58 (List._∷_ 82 (List._∷_ 101 (List._∷_ 102 (List._∷_ 117 (List._∷_ 115 (List._∷_ 97 (List._∷_ 108 List.[]))))))))))))))) (Syntax.ttcons Syntax.tnil (Syntax.ttcons Syntax.tnil (Syntax.ttcons
-          Syntax.tnil (Syntax.ttcons (Syntax.tcons (Syntax.tyInt Syntax.w64) Syntax.tnil) (Syntax.ttcons Syntax.tnil (Syntax.ttcons Syntax.tnil (Syntax.ttcons Syntax.tnil (Syntax.ttcons Syntax.tnil
-          (Syntax.ttcons Syntax.tnil (Syntax.ttcons Syntax.tnil (Syntax.ttcons (Syntax.tcons (Syntax.tyInt Syntax.w64) Syntax.tnil) (Syntax.ttcons (Syntax.tcons (Syntax.tyInt Syntax.w64) Syntax.tnil)
-          (Syntax.ttcons Syntax.tnil (Syntax.ttcons (Syntax.tcons (Syntax.tyInt Syntax.w64) (Syntax.tcons (Syntax.tyInt Syntax.w64) Syntax.tnil)) (Syntax.ttcons (Syntax.tcons (Syntax.tyInt Syntax.w64)
-          Syntax.tnil) (Syntax.ttcons Syntax.tnil Syntax.ttnil))))))))))))))))),
-    ) (List._∷_ (
-      11,
-      Rows.any-gone (Syntax.tyEnum (List._∷_ 115 (List._∷_ 116 (List._∷_ 114 (List._∷_ 101 (List._∷_ 97 (List._∷_ 109
-          (List._∷_ 58 (List._∷_ 58 (List._∷_ 82 (List._∷_ 101 (List._∷_ 102 (List._∷_ 117 (List._∷_ 115 (List._∷_ 97 (List._∷_ 108 List.[]))))))))))))))) (Syntax.ttcons Syntax.tnil (Syntax.ttcons Syntax.tnil
-          (Syntax.ttcons Syntax.tnil (Syntax.ttcons (Syntax.tcons (Syntax.tyInt Syntax.w64) Syntax.tnil) (Syntax.ttcons Syntax.tnil (Syntax.ttcons Syntax.tnil (Syntax.ttcons Syntax.tnil (Syntax.ttcons
-          Syntax.tnil (Syntax.ttcons Syntax.tnil (Syntax.ttcons Syntax.tnil (Syntax.ttcons (Syntax.tcons (Syntax.tyInt Syntax.w64) Syntax.tnil) (Syntax.ttcons (Syntax.tcons (Syntax.tyInt Syntax.w64)
-          Syntax.tnil) (Syntax.ttcons Syntax.tnil (Syntax.ttcons (Syntax.tcons (Syntax.tyInt Syntax.w64) (Syntax.tcons (Syntax.tyInt Syntax.w64) Syntax.tnil)) (Syntax.ttcons (Syntax.tcons (Syntax.tyInt
-          Syntax.w64) Syntax.tnil) (Syntax.ttcons Syntax.tnil Syntax.ttnil))))))))))))))))),
-    ) (List._∷_ (12, Rows.any-gone Syntax.tyPtr) (List._∷_ (
-      13,
-      Rows.any-gone (Syntax.tyRef Syntax.erased Syntax.mut
-          (Syntax.tyInt Syntax.w16)),
-    ) (List._∷_ (
-      14,
-      Rows.any-gone (Syntax.tyStruct (List._∷_ 38 (List._∷_ 91 (List._∷_ 93 List.[]))) (Syntax.tcons (Syntax.tyRef Syntax.erased Syntax.mut (Syntax.tyInt
-          Syntax.w16)) (Syntax.tcons (Syntax.tyInt Syntax.w64) Syntax.tnil))),
-    ) (List._∷_ (15, Rows.any-gone Syntax.tyPtr) List.[])))))))))))))))
+  11,
+  Rows.any-gone (Syntax.tyEnum (List._∷_ 115 (List._∷_ 116 (List._∷_ 114 (List._∷_ 101 (List._∷_ 97 (List._∷_ 109 (List._∷_ 58 (List._∷_ 58
+      (List._∷_ 82 (List._∷_ 101 (List._∷_ 102 (List._∷_ 117 (List._∷_ 115 (List._∷_ 97 (List._∷_ 108 List.[]))))))))))))))) (Syntax.ttcons Syntax.tnil (Syntax.ttcons Syntax.tnil (Syntax.ttcons Syntax.tnil
+      (Syntax.ttcons (Syntax.tcons (Syntax.tyInt Syntax.w64) Syntax.tnil) (Syntax.ttcons Syntax.tnil (Syntax.ttcons Syntax.tnil (Syntax.ttcons Syntax.tnil (Syntax.ttcons Syntax.tnil (Syntax.ttcons
+      Syntax.tnil (Syntax.ttcons Syntax.tnil (Syntax.ttcons (Syntax.tcons (Syntax.tyInt Syntax.w64) Syntax.tnil) (Syntax.ttcons (Syntax.tcons (Syntax.tyInt Syntax.w64) Syntax.tnil) (Syntax.ttcons
+      Syntax.tnil (Syntax.ttcons (Syntax.tcons (Syntax.tyInt Syntax.w64) (Syntax.tcons (Syntax.tyInt Syntax.w64) Syntax.tnil)) (Syntax.ttcons (Syntax.tcons (Syntax.tyInt Syntax.w64) Syntax.tnil)
+      (Syntax.ttcons Syntax.tnil (Syntax.ttcons Syntax.tnil (Syntax.ttcons (Syntax.tcons (Syntax.tyInt Syntax.w64) Syntax.tnil) (Syntax.ttcons (Syntax.tcons (Syntax.tyInt Syntax.w64) Syntax.tnil)
+      (Syntax.ttcons (Syntax.tcons (Syntax.tyInt Syntax.w64) Syntax.tnil) (Syntax.ttcons Syntax.tnil Syntax.ttnil)))))))))))))))))))))),
+) (List._∷_ (12, Rows.any-gone Syntax.tyPtr) (List._∷_ (
+  13,
+  Rows.any-gone (Syntax.tyRef Syntax.erased Syntax.mut (Syntax.tyInt Syntax.w16)),
+) (List._∷_ (
+  14,
+  Rows.any-gone (Syntax.tyStruct (List._∷_ 38 (List._∷_ 91 (List._∷_ 93 List.[]))) (Syntax.tcons
+      (Syntax.tyRef Syntax.erased Syntax.mut (Syntax.tyInt Syntax.w16)) (Syntax.tcons (Syntax.tyInt Syntax.w64) Syntax.tnil))),
+) (List._∷_ (15, Rows.any-gone Syntax.tyPtr) List.[])))))))))))))))
 
 abbrev pub t10 : List.List Row.Entry
 t10 = List._∷_ (
@@ -785,45 +808,48 @@ t10 = List._∷_ (
       (Syntax.ttcons Syntax.tnil (Syntax.ttcons Syntax.tnil (Syntax.ttcons (Syntax.tcons (Syntax.tyInt Syntax.w64) Syntax.tnil) (Syntax.ttcons Syntax.tnil (Syntax.ttcons Syntax.tnil (Syntax.ttcons
       Syntax.tnil (Syntax.ttcons Syntax.tnil (Syntax.ttcons Syntax.tnil (Syntax.ttcons Syntax.tnil (Syntax.ttcons (Syntax.tcons (Syntax.tyInt Syntax.w64) Syntax.tnil) (Syntax.ttcons (Syntax.tcons
       (Syntax.tyInt Syntax.w64) Syntax.tnil) (Syntax.ttcons Syntax.tnil (Syntax.ttcons (Syntax.tcons (Syntax.tyInt Syntax.w64) (Syntax.tcons (Syntax.tyInt Syntax.w64) Syntax.tnil)) (Syntax.ttcons
-      (Syntax.tcons (Syntax.tyInt Syntax.w64) Syntax.tnil) (Syntax.ttcons Syntax.tnil Syntax.ttnil))))))))))))))))) Syntax.tnil) Syntax.ttnil))),
+      (Syntax.tcons (Syntax.tyInt Syntax.w64) Syntax.tnil) (Syntax.ttcons Syntax.tnil (Syntax.ttcons Syntax.tnil (Syntax.ttcons (Syntax.tcons (Syntax.tyInt Syntax.w64) Syntax.tnil) (Syntax.ttcons
+      (Syntax.tcons (Syntax.tyInt Syntax.w64) Syntax.tnil) (Syntax.ttcons (Syntax.tcons (Syntax.tyInt Syntax.w64) Syntax.tnil) (Syntax.ttcons Syntax.tnil Syntax.ttnil)))))))))))))))))))))) Syntax.tnil)
+      Syntax.ttnil))),
+) (List._∷_ (1, Rows.sslice (Referent.rtF (Referent.fInt Syntax.w8)) (Syntax.tyRef (Syntax.named 0) Syntax.imm (Syntax.tyInt Syntax.w8)) 0) (List._∷_ (
+  2,
+  Rows.whole (Declared'.row
+      FujiHeader.the-type),
+) (List._∷_ (3, Rows.sc-here (Row.sInt Syntax.w64)) (List._∷_ (
+  4,
+  Mut.mslice (Referent.rtF (Referent.fInt Syntax.w16)) (Syntax.tyRef (Syntax.named 1) Syntax.mut (Syntax.tyInt
+      Syntax.w16)) 1,
+) (List._∷_ (5, Mut.mslice (Element.type) (Syntax.tyRef (Syntax.named 2) Syntax.mut Element.behind) 2) (List._∷_ (6, Rows.sc-here (Row.sInt Syntax.w64)) (List._∷_ (
+  7,
+  Rows.any-gone
+      (Syntax.tyInt Syntax.w64),
+) (List._∷_ (8, Rows.any-gone (Syntax.tyInt Syntax.w64)) (List._∷_ (9, Rows.sc-here Row.sBool) (List._∷_ (
+  10,
+  Rows.any-gone (Syntax.tyEnum (List._∷_ 115 (List._∷_ 116
+      (List._∷_ 114 (List._∷_ 101 (List._∷_ 97 (List._∷_ 109 (List._∷_ 58 (List._∷_ 58 (List._∷_ 82 (List._∷_ 101 (List._∷_ 102 (List._∷_ 117 (List._∷_ 115 (List._∷_ 97 (List._∷_ 108 List.[])))))))))))))))
+      (Syntax.ttcons Syntax.tnil (Syntax.ttcons Syntax.tnil (Syntax.ttcons Syntax.tnil (Syntax.ttcons (Syntax.tcons (Syntax.tyInt Syntax.w64) Syntax.tnil) (Syntax.ttcons Syntax.tnil (Syntax.ttcons
+      Syntax.tnil (Syntax.ttcons Syntax.tnil (Syntax.ttcons Syntax.tnil (Syntax.ttcons Syntax.tnil (Syntax.ttcons Syntax.tnil (Syntax.ttcons (Syntax.tcons (Syntax.tyInt Syntax.w64) Syntax.tnil)
+      (Syntax.ttcons (Syntax.tcons (Syntax.tyInt Syntax.w64) Syntax.tnil) (Syntax.ttcons Syntax.tnil (Syntax.ttcons (Syntax.tcons (Syntax.tyInt Syntax.w64) (Syntax.tcons (Syntax.tyInt Syntax.w64)
+      Syntax.tnil)) (Syntax.ttcons (Syntax.tcons (Syntax.tyInt Syntax.w64) Syntax.tnil) (Syntax.ttcons Syntax.tnil (Syntax.ttcons Syntax.tnil (Syntax.ttcons (Syntax.tcons (Syntax.tyInt Syntax.w64)
+      Syntax.tnil) (Syntax.ttcons (Syntax.tcons (Syntax.tyInt Syntax.w64) Syntax.tnil) (Syntax.ttcons (Syntax.tcons (Syntax.tyInt Syntax.w64) Syntax.tnil) (Syntax.ttcons Syntax.tnil
+      Syntax.ttnil)))))))))))))))))))))),
 ) (List._∷_ (
-  1,
-  Rows.sslice (Referent.rtF (Referent.fInt
-      Syntax.w8)) (Syntax.tyRef (Syntax.named 0) Syntax.imm (Syntax.tyInt Syntax.w8)) 0,
-) (List._∷_ (2, Rows.whole (Declared'.row FujiHeader.the-type)) (List._∷_ (3, Rows.sc-here (Row.sInt Syntax.w64))
-    (List._∷_ (4, Mut.mslice (Referent.rtF (Referent.fInt Syntax.w16)) (Syntax.tyRef (Syntax.named 1) Syntax.mut (Syntax.tyInt Syntax.w16)) 1) (List._∷_ (
-      5,
-      Mut.mslice (Element.type) (Syntax.tyRef
-          (Syntax.named 2) Syntax.mut Element.behind) 2,
-    ) (List._∷_ (6, Rows.sc-here (Row.sInt Syntax.w64)) (List._∷_ (7, Rows.any-gone (Syntax.tyInt Syntax.w64)) (List._∷_ (
-      8,
-      Rows.any-gone (Syntax.tyInt
-          Syntax.w64),
-    ) (List._∷_ (9, Rows.sc-here Row.sBool) (List._∷_ (
-      10,
-      Rows.any-gone (Syntax.tyEnum (List._∷_ 115 (List._∷_ 116 (List._∷_ 114 (List._∷_ 101 (List._∷_ 97 (List._∷_ 109 (List._∷_ 58
-          (List._∷_ 58 (List._∷_ 82 (List._∷_ 101 (List._∷_ 102 (List._∷_ 117 (List._∷_ 115 (List._∷_ 97 (List._∷_ 108 List.[]))))))))))))))) (Syntax.ttcons Syntax.tnil (Syntax.ttcons Syntax.tnil (Syntax.ttcons
-          Syntax.tnil (Syntax.ttcons (Syntax.tcons (Syntax.tyInt Syntax.w64) Syntax.tnil) (Syntax.ttcons Syntax.tnil (Syntax.ttcons Syntax.tnil (Syntax.ttcons Syntax.tnil (Syntax.ttcons Syntax.tnil
-          (Syntax.ttcons Syntax.tnil (Syntax.ttcons Syntax.tnil (Syntax.ttcons (Syntax.tcons (Syntax.tyInt Syntax.w64) Syntax.tnil) (Syntax.ttcons (Syntax.tcons (Syntax.tyInt Syntax.w64) Syntax.tnil)
-          (Syntax.ttcons Syntax.tnil (Syntax.ttcons (Syntax.tcons (Syntax.tyInt Syntax.w64) (Syntax.tcons (Syntax.tyInt Syntax.w64) Syntax.tnil)) (Syntax.ttcons (Syntax.tcons (Syntax.tyInt Syntax.w64)
-          Syntax.tnil) (Syntax.ttcons Syntax.tnil Syntax.ttnil))))))))))))))))),
-    ) (List._∷_ (
-      11,
-      Rows.any-gone (Syntax.tyEnum (List._∷_ 115 (List._∷_ 116 (List._∷_ 114 (List._∷_ 101 (List._∷_ 97 (List._∷_ 109
-          (List._∷_ 58 (List._∷_ 58 (List._∷_ 82 (List._∷_ 101 (List._∷_ 102 (List._∷_ 117 (List._∷_ 115 (List._∷_ 97 (List._∷_ 108 List.[]))))))))))))))) (Syntax.ttcons Syntax.tnil (Syntax.ttcons Syntax.tnil
-          (Syntax.ttcons Syntax.tnil (Syntax.ttcons (Syntax.tcons (Syntax.tyInt Syntax.w64) Syntax.tnil) (Syntax.ttcons Syntax.tnil (Syntax.ttcons Syntax.tnil (Syntax.ttcons Syntax.tnil (Syntax.ttcons
-          Syntax.tnil (Syntax.ttcons Syntax.tnil (Syntax.ttcons Syntax.tnil (Syntax.ttcons (Syntax.tcons (Syntax.tyInt Syntax.w64) Syntax.tnil) (Syntax.ttcons (Syntax.tcons (Syntax.tyInt Syntax.w64)
-          Syntax.tnil) (Syntax.ttcons Syntax.tnil (Syntax.ttcons (Syntax.tcons (Syntax.tyInt Syntax.w64) (Syntax.tcons (Syntax.tyInt Syntax.w64) Syntax.tnil)) (Syntax.ttcons (Syntax.tcons (Syntax.tyInt
-          Syntax.w64) Syntax.tnil) (Syntax.ttcons Syntax.tnil Syntax.ttnil))))))))))))))))),
-    ) (List._∷_ (12, Rows.any-gone Syntax.tyPtr) (List._∷_ (
-      13,
-      Rows.any-gone (Syntax.tyRef Syntax.erased Syntax.mut
-          (Syntax.tyInt Syntax.w16)),
-    ) (List._∷_ (
-      14,
-      Rows.any-gone (Syntax.tyStruct (List._∷_ 38 (List._∷_ 91 (List._∷_ 93 List.[]))) (Syntax.tcons (Syntax.tyRef Syntax.erased Syntax.mut (Syntax.tyInt
-          Syntax.w16)) (Syntax.tcons (Syntax.tyInt Syntax.w64) Syntax.tnil))),
-    ) (List._∷_ (15, Rows.any-gone Syntax.tyPtr) List.[])))))))))))))))
+  11,
+  Rows.any-gone (Syntax.tyEnum (List._∷_ 115 (List._∷_ 116 (List._∷_ 114 (List._∷_ 101 (List._∷_ 97 (List._∷_ 109 (List._∷_ 58 (List._∷_ 58
+      (List._∷_ 82 (List._∷_ 101 (List._∷_ 102 (List._∷_ 117 (List._∷_ 115 (List._∷_ 97 (List._∷_ 108 List.[]))))))))))))))) (Syntax.ttcons Syntax.tnil (Syntax.ttcons Syntax.tnil (Syntax.ttcons Syntax.tnil
+      (Syntax.ttcons (Syntax.tcons (Syntax.tyInt Syntax.w64) Syntax.tnil) (Syntax.ttcons Syntax.tnil (Syntax.ttcons Syntax.tnil (Syntax.ttcons Syntax.tnil (Syntax.ttcons Syntax.tnil (Syntax.ttcons
+      Syntax.tnil (Syntax.ttcons Syntax.tnil (Syntax.ttcons (Syntax.tcons (Syntax.tyInt Syntax.w64) Syntax.tnil) (Syntax.ttcons (Syntax.tcons (Syntax.tyInt Syntax.w64) Syntax.tnil) (Syntax.ttcons
+      Syntax.tnil (Syntax.ttcons (Syntax.tcons (Syntax.tyInt Syntax.w64) (Syntax.tcons (Syntax.tyInt Syntax.w64) Syntax.tnil)) (Syntax.ttcons (Syntax.tcons (Syntax.tyInt Syntax.w64) Syntax.tnil)
+      (Syntax.ttcons Syntax.tnil (Syntax.ttcons Syntax.tnil (Syntax.ttcons (Syntax.tcons (Syntax.tyInt Syntax.w64) Syntax.tnil) (Syntax.ttcons (Syntax.tcons (Syntax.tyInt Syntax.w64) Syntax.tnil)
+      (Syntax.ttcons (Syntax.tcons (Syntax.tyInt Syntax.w64) Syntax.tnil) (Syntax.ttcons Syntax.tnil Syntax.ttnil)))))))))))))))))))))),
+) (List._∷_ (12, Rows.any-gone Syntax.tyPtr) (List._∷_ (
+  13,
+  Rows.any-gone (Syntax.tyRef Syntax.erased Syntax.mut (Syntax.tyInt Syntax.w16)),
+) (List._∷_ (
+  14,
+  Rows.any-gone (Syntax.tyStruct (List._∷_ 38 (List._∷_ 91 (List._∷_ 93 List.[]))) (Syntax.tcons
+      (Syntax.tyRef Syntax.erased Syntax.mut (Syntax.tyInt Syntax.w16)) (Syntax.tcons (Syntax.tyInt Syntax.w64) Syntax.tnil))),
+) (List._∷_ (15, Rows.any-gone Syntax.tyPtr) List.[])))))))))))))))
 
 abbrev pub t11 : List.List Row.Entry
 t11 = List._∷_ (
@@ -834,47 +860,50 @@ t11 = List._∷_ (
       (Syntax.ttcons Syntax.tnil (Syntax.ttcons Syntax.tnil (Syntax.ttcons (Syntax.tcons (Syntax.tyInt Syntax.w64) Syntax.tnil) (Syntax.ttcons Syntax.tnil (Syntax.ttcons Syntax.tnil (Syntax.ttcons
       Syntax.tnil (Syntax.ttcons Syntax.tnil (Syntax.ttcons Syntax.tnil (Syntax.ttcons Syntax.tnil (Syntax.ttcons (Syntax.tcons (Syntax.tyInt Syntax.w64) Syntax.tnil) (Syntax.ttcons (Syntax.tcons
       (Syntax.tyInt Syntax.w64) Syntax.tnil) (Syntax.ttcons Syntax.tnil (Syntax.ttcons (Syntax.tcons (Syntax.tyInt Syntax.w64) (Syntax.tcons (Syntax.tyInt Syntax.w64) Syntax.tnil)) (Syntax.ttcons
-      (Syntax.tcons (Syntax.tyInt Syntax.w64) Syntax.tnil) (Syntax.ttcons Syntax.tnil Syntax.ttnil))))))))))))))))) Syntax.tnil) Syntax.ttnil))),
-) (List._∷_ (
-  1,
-  Rows.sslice (Referent.rtF (Referent.fInt
-      Syntax.w8)) (Syntax.tyRef (Syntax.named 0) Syntax.imm (Syntax.tyInt Syntax.w8)) 0,
-) (List._∷_ (
+      (Syntax.tcons (Syntax.tyInt Syntax.w64) Syntax.tnil) (Syntax.ttcons Syntax.tnil (Syntax.ttcons Syntax.tnil (Syntax.ttcons (Syntax.tcons (Syntax.tyInt Syntax.w64) Syntax.tnil) (Syntax.ttcons
+      (Syntax.tcons (Syntax.tyInt Syntax.w64) Syntax.tnil) (Syntax.ttcons (Syntax.tcons (Syntax.tyInt Syntax.w64) Syntax.tnil) (Syntax.ttcons Syntax.tnil Syntax.ttnil)))))))))))))))))))))) Syntax.tnil)
+      Syntax.ttnil))),
+) (List._∷_ (1, Rows.sslice (Referent.rtF (Referent.fInt Syntax.w8)) (Syntax.tyRef (Syntax.named 0) Syntax.imm (Syntax.tyInt Syntax.w8)) 0) (List._∷_ (
   2,
-  Rows.any-gone (Syntax.tyStruct (List._∷_ 115 (List._∷_ 116 (List._∷_ 114 (List._∷_ 101 (List._∷_ 97
-      (List._∷_ 109 (List._∷_ 58 (List._∷_ 58 (List._∷_ 70 (List._∷_ 117 (List._∷_ 106 (List._∷_ 105 (List._∷_ 72 (List._∷_ 101 (List._∷_ 97 (List._∷_ 100 (List._∷_ 101 (List._∷_ 114
-      List.[])))))))))))))))))) (Syntax.tcons Syntax.tyBool (Syntax.tcons Syntax.tyBool (Syntax.tcons (Syntax.tyInt Syntax.w32) (Syntax.tcons (Syntax.tyInt Syntax.w32) (Syntax.tcons (Syntax.tyInt
-      Syntax.w32) (Syntax.tcons (Syntax.tyInt Syntax.w32) (Syntax.tcons (Syntax.tyInt Syntax.w32) (Syntax.tcons (Syntax.tyInt Syntax.w32) (Syntax.tcons (Syntax.tyInt Syntax.w32) Syntax.tnil)))))))))),
-)
-    (List._∷_ (3, Rows.sc-here (Row.sInt Syntax.w64)) (List._∷_ (4, Mut.mslice (Referent.rtF (Referent.fInt Syntax.w16)) (Syntax.tyRef (Syntax.named 1) Syntax.mut (Syntax.tyInt Syntax.w16)) 1)
-    (List._∷_ (5, Mut.mslice (Element.type) (Syntax.tyRef (Syntax.named 2) Syntax.mut Element.behind) 2) (List._∷_ (6, Rows.sc-here (Row.sInt Syntax.w64)) (List._∷_ (
-      7,
-      Rows.any-gone (Syntax.tyInt
-          Syntax.w64),
-    ) (List._∷_ (8, Rows.any-gone (Syntax.tyInt Syntax.w64)) (List._∷_ (9, Rows.sc-here Row.sBool) (List._∷_ (
-      10,
-      Rows.any-gone (Syntax.tyEnum (List._∷_ 115 (List._∷_ 116 (List._∷_ 114
-          (List._∷_ 101 (List._∷_ 97 (List._∷_ 109 (List._∷_ 58 (List._∷_ 58 (List._∷_ 82 (List._∷_ 101 (List._∷_ 102 (List._∷_ 117 (List._∷_ 115 (List._∷_ 97 (List._∷_ 108 List.[]))))))))))))))) (Syntax.ttcons
-          Syntax.tnil (Syntax.ttcons Syntax.tnil (Syntax.ttcons Syntax.tnil (Syntax.ttcons (Syntax.tcons (Syntax.tyInt Syntax.w64) Syntax.tnil) (Syntax.ttcons Syntax.tnil (Syntax.ttcons Syntax.tnil
-          (Syntax.ttcons Syntax.tnil (Syntax.ttcons Syntax.tnil (Syntax.ttcons Syntax.tnil (Syntax.ttcons Syntax.tnil (Syntax.ttcons (Syntax.tcons (Syntax.tyInt Syntax.w64) Syntax.tnil) (Syntax.ttcons
-          (Syntax.tcons (Syntax.tyInt Syntax.w64) Syntax.tnil) (Syntax.ttcons Syntax.tnil (Syntax.ttcons (Syntax.tcons (Syntax.tyInt Syntax.w64) (Syntax.tcons (Syntax.tyInt Syntax.w64) Syntax.tnil))
-          (Syntax.ttcons (Syntax.tcons (Syntax.tyInt Syntax.w64) Syntax.tnil) (Syntax.ttcons Syntax.tnil Syntax.ttnil))))))))))))))))),
-    ) (List._∷_ (
-      11,
-      Rows.any-gone (Syntax.tyEnum (List._∷_ 115 (List._∷_ 116
-          (List._∷_ 114 (List._∷_ 101 (List._∷_ 97 (List._∷_ 109 (List._∷_ 58 (List._∷_ 58 (List._∷_ 82 (List._∷_ 101 (List._∷_ 102 (List._∷_ 117 (List._∷_ 115 (List._∷_ 97 (List._∷_ 108 List.[])))))))))))))))
-          (Syntax.ttcons Syntax.tnil (Syntax.ttcons Syntax.tnil (Syntax.ttcons Syntax.tnil (Syntax.ttcons (Syntax.tcons (Syntax.tyInt Syntax.w64) Syntax.tnil) (Syntax.ttcons Syntax.tnil (Syntax.ttcons
-          Syntax.tnil (Syntax.ttcons Syntax.tnil (Syntax.ttcons Syntax.tnil (Syntax.ttcons Syntax.tnil (Syntax.ttcons Syntax.tnil (Syntax.ttcons (Syntax.tcons (Syntax.tyInt Syntax.w64) Syntax.tnil)
-          (Syntax.ttcons (Syntax.tcons (Syntax.tyInt Syntax.w64) Syntax.tnil) (Syntax.ttcons Syntax.tnil (Syntax.ttcons (Syntax.tcons (Syntax.tyInt Syntax.w64) (Syntax.tcons (Syntax.tyInt Syntax.w64)
-          Syntax.tnil)) (Syntax.ttcons (Syntax.tcons (Syntax.tyInt Syntax.w64) Syntax.tnil) (Syntax.ttcons Syntax.tnil Syntax.ttnil))))))))))))))))),
-    ) (List._∷_ (12, Rows.any-gone Syntax.tyPtr) (List._∷_ (
-      13,
-      Rows.any-gone (Syntax.tyRef Syntax.erased Syntax.mut (Syntax.tyInt Syntax.w16)),
-    ) (List._∷_ (
+  Rows.any-gone
+      (Syntax.tyStruct (List._∷_ 115 (List._∷_ 116 (List._∷_ 114 (List._∷_ 101 (List._∷_ 97 (List._∷_ 109 (List._∷_ 58 (List._∷_ 58 (List._∷_ 70 (List._∷_ 117 (List._∷_ 106 (List._∷_ 105 (List._∷_ 72
+      (List._∷_ 101 (List._∷_ 97 (List._∷_ 100 (List._∷_ 101 (List._∷_ 114 List.[])))))))))))))))))) (Syntax.tcons Syntax.tyBool (Syntax.tcons Syntax.tyBool (Syntax.tcons (Syntax.tyInt Syntax.w32)
+      (Syntax.tcons (Syntax.tyInt Syntax.w32) (Syntax.tcons (Syntax.tyInt Syntax.w32) (Syntax.tcons (Syntax.tyInt Syntax.w32) (Syntax.tcons (Syntax.tyInt Syntax.w32) (Syntax.tcons (Syntax.tyInt Syntax.w32)
+      (Syntax.tcons (Syntax.tyInt Syntax.w32) Syntax.tnil)))))))))),
+) (List._∷_ (3, Rows.sc-here (Row.sInt Syntax.w64)) (List._∷_ (
+  4,
+  Mut.mslice (Referent.rtF (Referent.fInt Syntax.w16)) (Syntax.tyRef
+      (Syntax.named 1) Syntax.mut (Syntax.tyInt Syntax.w16)) 1,
+) (List._∷_ (5, Mut.mslice (Element.type) (Syntax.tyRef (Syntax.named 2) Syntax.mut Element.behind) 2) (List._∷_ (
+  6,
+  Rows.sc-here (Row.sInt
+      Syntax.w64),
+) (List._∷_ (7, Rows.any-gone (Syntax.tyInt Syntax.w64)) (List._∷_ (8, Rows.any-gone (Syntax.tyInt Syntax.w64)) (List._∷_ (9, Rows.sc-here Row.sBool) (List._∷_ (
+  10,
+  Rows.any-gone
+      (Syntax.tyEnum (List._∷_ 115 (List._∷_ 116 (List._∷_ 114 (List._∷_ 101 (List._∷_ 97 (List._∷_ 109 (List._∷_ 58 (List._∷_ 58 (List._∷_ 82 (List._∷_ 101 (List._∷_ 102 (List._∷_ 117 (List._∷_ 115
+      (List._∷_ 97 (List._∷_ 108 List.[]))))))))))))))) (Syntax.ttcons Syntax.tnil (Syntax.ttcons Syntax.tnil (Syntax.ttcons Syntax.tnil (Syntax.ttcons (Syntax.tcons (Syntax.tyInt Syntax.w64) Syntax.tnil)
+      (Syntax.ttcons Syntax.tnil (Syntax.ttcons Syntax.tnil (Syntax.ttcons Syntax.tnil (Syntax.ttcons Syntax.tnil (Syntax.ttcons Syntax.tnil (Syntax.ttcons Syntax.tnil (Syntax.ttcons (Syntax.tcons
+      (Syntax.tyInt Syntax.w64) Syntax.tnil) (Syntax.ttcons (Syntax.tcons (Syntax.tyInt Syntax.w64) Syntax.tnil) (Syntax.ttcons Syntax.tnil (Syntax.ttcons (Syntax.tcons (Syntax.tyInt Syntax.w64)
+      (Syntax.tcons (Syntax.tyInt Syntax.w64) Syntax.tnil)) (Syntax.ttcons (Syntax.tcons (Syntax.tyInt Syntax.w64) Syntax.tnil) (Syntax.ttcons Syntax.tnil (Syntax.ttcons Syntax.tnil (Syntax.ttcons
+      (Syntax.tcons (Syntax.tyInt Syntax.w64) Syntax.tnil) (Syntax.ttcons (Syntax.tcons (Syntax.tyInt Syntax.w64) Syntax.tnil) (Syntax.ttcons (Syntax.tcons (Syntax.tyInt Syntax.w64) Syntax.tnil)
+      (Syntax.ttcons Syntax.tnil Syntax.ttnil)))))))))))))))))))))),
+) (List._∷_ (
+  11,
+  Rows.any-gone (Syntax.tyEnum (List._∷_ 115 (List._∷_ 116 (List._∷_ 114 (List._∷_ 101 (List._∷_ 97 (List._∷_ 109
+      (List._∷_ 58 (List._∷_ 58 (List._∷_ 82 (List._∷_ 101 (List._∷_ 102 (List._∷_ 117 (List._∷_ 115 (List._∷_ 97 (List._∷_ 108 List.[]))))))))))))))) (Syntax.ttcons Syntax.tnil (Syntax.ttcons Syntax.tnil
+      (Syntax.ttcons Syntax.tnil (Syntax.ttcons (Syntax.tcons (Syntax.tyInt Syntax.w64) Syntax.tnil) (Syntax.ttcons Syntax.tnil (Syntax.ttcons Syntax.tnil (Syntax.ttcons Syntax.tnil (Syntax.ttcons
+      Syntax.tnil (Syntax.ttcons Syntax.tnil (Syntax.ttcons Syntax.tnil (Syntax.ttcons (Syntax.tcons (Syntax.tyInt Syntax.w64) Syntax.tnil) (Syntax.ttcons (Syntax.tcons (Syntax.tyInt Syntax.w64)
+      Syntax.tnil) (Syntax.ttcons Syntax.tnil (Syntax.ttcons (Syntax.tcons (Syntax.tyInt Syntax.w64) (Syntax.tcons (Syntax.tyInt Syntax.w64) Syntax.tnil)) (Syntax.ttcons (Syntax.tcons (Syntax.tyInt
+      Syntax.w64) Syntax.tnil) (Syntax.ttcons Syntax.tnil (Syntax.ttcons Syntax.tnil (Syntax.ttcons (Syntax.tcons (Syntax.tyInt Syntax.w64) Syntax.tnil) (Syntax.ttcons (Syntax.tcons (Syntax.tyInt
+      Syntax.w64) Syntax.tnil) (Syntax.ttcons (Syntax.tcons (Syntax.tyInt Syntax.w64) Syntax.tnil) (Syntax.ttcons Syntax.tnil Syntax.ttnil)))))))))))))))))))))),
+) (List._∷_ (12, Rows.any-gone Syntax.tyPtr)
+    (List._∷_ (13, Rows.any-gone (Syntax.tyRef Syntax.erased Syntax.mut (Syntax.tyInt Syntax.w16))) (List._∷_ (
       14,
-      Rows.any-gone (Syntax.tyStruct (List._∷_ 38 (List._∷_ 91 (List._∷_ 93 List.[]))) (Syntax.tcons
-          (Syntax.tyRef Syntax.erased Syntax.mut (Syntax.tyInt Syntax.w16)) (Syntax.tcons (Syntax.tyInt Syntax.w64) Syntax.tnil))),
-    ) (List._∷_ (15, Rows.any-gone Syntax.tyPtr) List.[])))))))))))))))
+      Rows.any-gone (Syntax.tyStruct (List._∷_ 38 (List._∷_ 91 (List._∷_ 93 List.[])))
+          (Syntax.tcons (Syntax.tyRef Syntax.erased Syntax.mut (Syntax.tyInt Syntax.w16)) (Syntax.tcons (Syntax.tyInt Syntax.w64) Syntax.tnil))),
+    ) (List._∷_ (15, Rows.any-gone Syntax.tyPtr)
+    List.[])))))))))))))))
 
 abbrev pub t12 : List.List Row.Entry
 t12 = List._∷_ (
@@ -885,45 +914,51 @@ t12 = List._∷_ (
       (Syntax.ttcons Syntax.tnil (Syntax.ttcons Syntax.tnil (Syntax.ttcons (Syntax.tcons (Syntax.tyInt Syntax.w64) Syntax.tnil) (Syntax.ttcons Syntax.tnil (Syntax.ttcons Syntax.tnil (Syntax.ttcons
       Syntax.tnil (Syntax.ttcons Syntax.tnil (Syntax.ttcons Syntax.tnil (Syntax.ttcons Syntax.tnil (Syntax.ttcons (Syntax.tcons (Syntax.tyInt Syntax.w64) Syntax.tnil) (Syntax.ttcons (Syntax.tcons
       (Syntax.tyInt Syntax.w64) Syntax.tnil) (Syntax.ttcons Syntax.tnil (Syntax.ttcons (Syntax.tcons (Syntax.tyInt Syntax.w64) (Syntax.tcons (Syntax.tyInt Syntax.w64) Syntax.tnil)) (Syntax.ttcons
-      (Syntax.tcons (Syntax.tyInt Syntax.w64) Syntax.tnil) (Syntax.ttcons Syntax.tnil Syntax.ttnil))))))))))))))))) Syntax.tnil) Syntax.ttnil))),
-) (List._∷_ (
-  1,
-  Rows.sslice (Referent.rtF (Referent.fInt
-      Syntax.w8)) (Syntax.tyRef (Syntax.named 0) Syntax.imm (Syntax.tyInt Syntax.w8)) 0,
-) (List._∷_ (
+      (Syntax.tcons (Syntax.tyInt Syntax.w64) Syntax.tnil) (Syntax.ttcons Syntax.tnil (Syntax.ttcons Syntax.tnil (Syntax.ttcons (Syntax.tcons (Syntax.tyInt Syntax.w64) Syntax.tnil) (Syntax.ttcons
+      (Syntax.tcons (Syntax.tyInt Syntax.w64) Syntax.tnil) (Syntax.ttcons (Syntax.tcons (Syntax.tyInt Syntax.w64) Syntax.tnil) (Syntax.ttcons Syntax.tnil Syntax.ttnil)))))))))))))))))))))) Syntax.tnil)
+      Syntax.ttnil))),
+) (List._∷_ (1, Rows.sslice (Referent.rtF (Referent.fInt Syntax.w8)) (Syntax.tyRef (Syntax.named 0) Syntax.imm (Syntax.tyInt Syntax.w8)) 0) (List._∷_ (
   2,
-  Rows.any-gone (Syntax.tyStruct (List._∷_ 115 (List._∷_ 116 (List._∷_ 114 (List._∷_ 101 (List._∷_ 97
-      (List._∷_ 109 (List._∷_ 58 (List._∷_ 58 (List._∷_ 70 (List._∷_ 117 (List._∷_ 106 (List._∷_ 105 (List._∷_ 72 (List._∷_ 101 (List._∷_ 97 (List._∷_ 100 (List._∷_ 101 (List._∷_ 114
-      List.[])))))))))))))))))) (Syntax.tcons Syntax.tyBool (Syntax.tcons Syntax.tyBool (Syntax.tcons (Syntax.tyInt Syntax.w32) (Syntax.tcons (Syntax.tyInt Syntax.w32) (Syntax.tcons (Syntax.tyInt
-      Syntax.w32) (Syntax.tcons (Syntax.tyInt Syntax.w32) (Syntax.tcons (Syntax.tyInt Syntax.w32) (Syntax.tcons (Syntax.tyInt Syntax.w32) (Syntax.tcons (Syntax.tyInt Syntax.w32) Syntax.tnil)))))))))),
-)
-    (List._∷_ (3, Rows.sc-here (Row.sInt Syntax.w64)) (List._∷_ (4, Mut.mslice (Referent.rtF (Referent.fInt Syntax.w16)) (Syntax.tyRef (Syntax.named 1) Syntax.mut (Syntax.tyInt Syntax.w16)) 1)
-    (List._∷_ (5, Mut.mslice (Element.type) (Syntax.tyRef (Syntax.named 2) Syntax.mut Element.behind) 2) (List._∷_ (6, Rows.sc-here (Row.sInt Syntax.w64)) (List._∷_ (
-      7,
-      Rows.any-gone (Syntax.tyInt
-          Syntax.w64),
-    ) (List._∷_ (8, Rows.any-gone (Syntax.tyInt Syntax.w64)) (List._∷_ (9, Rows.any-gone Syntax.tyBool) (List._∷_ (
-      10,
-      Rows.any-gone (Syntax.tyEnum (List._∷_ 115 (List._∷_ 116 (List._∷_
-          114 (List._∷_ 101 (List._∷_ 97 (List._∷_ 109 (List._∷_ 58 (List._∷_ 58 (List._∷_ 82 (List._∷_ 101 (List._∷_ 102 (List._∷_ 117 (List._∷_ 115 (List._∷_ 97 (List._∷_ 108 List.[])))))))))))))))
-          (Syntax.ttcons Syntax.tnil (Syntax.ttcons Syntax.tnil (Syntax.ttcons Syntax.tnil (Syntax.ttcons (Syntax.tcons (Syntax.tyInt Syntax.w64) Syntax.tnil) (Syntax.ttcons Syntax.tnil (Syntax.ttcons
-          Syntax.tnil (Syntax.ttcons Syntax.tnil (Syntax.ttcons Syntax.tnil (Syntax.ttcons Syntax.tnil (Syntax.ttcons Syntax.tnil (Syntax.ttcons (Syntax.tcons (Syntax.tyInt Syntax.w64) Syntax.tnil)
-          (Syntax.ttcons (Syntax.tcons (Syntax.tyInt Syntax.w64) Syntax.tnil) (Syntax.ttcons Syntax.tnil (Syntax.ttcons (Syntax.tcons (Syntax.tyInt Syntax.w64) (Syntax.tcons (Syntax.tyInt Syntax.w64)
-          Syntax.tnil)) (Syntax.ttcons (Syntax.tcons (Syntax.tyInt Syntax.w64) Syntax.tnil) (Syntax.ttcons Syntax.tnil Syntax.ttnil))))))))))))))))),
-    ) (List._∷_ (
-      11,
-      Rows.any-gone (Syntax.tyEnum (List._∷_ 115
-          (List._∷_ 116 (List._∷_ 114 (List._∷_ 101 (List._∷_ 97 (List._∷_ 109 (List._∷_ 58 (List._∷_ 58 (List._∷_ 82 (List._∷_ 101 (List._∷_ 102 (List._∷_ 117 (List._∷_ 115 (List._∷_ 97 (List._∷_ 108
-          List.[]))))))))))))))) (Syntax.ttcons Syntax.tnil (Syntax.ttcons Syntax.tnil (Syntax.ttcons Syntax.tnil (Syntax.ttcons (Syntax.tcons (Syntax.tyInt Syntax.w64) Syntax.tnil) (Syntax.ttcons Syntax.tnil
-          (Syntax.ttcons Syntax.tnil (Syntax.ttcons Syntax.tnil (Syntax.ttcons Syntax.tnil (Syntax.ttcons Syntax.tnil (Syntax.ttcons Syntax.tnil (Syntax.ttcons (Syntax.tcons (Syntax.tyInt Syntax.w64)
-          Syntax.tnil) (Syntax.ttcons (Syntax.tcons (Syntax.tyInt Syntax.w64) Syntax.tnil) (Syntax.ttcons Syntax.tnil (Syntax.ttcons (Syntax.tcons (Syntax.tyInt Syntax.w64) (Syntax.tcons (Syntax.tyInt
-          Syntax.w64) Syntax.tnil)) (Syntax.ttcons (Syntax.tcons (Syntax.tyInt Syntax.w64) Syntax.tnil) (Syntax.ttcons Syntax.tnil Syntax.ttnil))))))))))))))))),
-    ) (List._∷_ (12, Rows.any-gone Syntax.tyPtr)
-    (List._∷_ (13, Rows.any-gone (Syntax.tyRef Syntax.erased Syntax.mut (Syntax.tyInt Syntax.w16))) (List._∷_ (
-      14,
-      Rows.any-gone (Syntax.tyStruct (List._∷_ 38 (List._∷_ 91 (List._∷_ 93 List.[])))
-          (Syntax.tcons (Syntax.tyRef Syntax.erased Syntax.mut (Syntax.tyInt Syntax.w16)) (Syntax.tcons (Syntax.tyInt Syntax.w64) Syntax.tnil))),
-    ) (List._∷_ (15, Rows.any-gone Syntax.tyPtr)
+  Rows.any-gone
+      (Syntax.tyStruct (List._∷_ 115 (List._∷_ 116 (List._∷_ 114 (List._∷_ 101 (List._∷_ 97 (List._∷_ 109 (List._∷_ 58 (List._∷_ 58 (List._∷_ 70 (List._∷_ 117 (List._∷_ 106 (List._∷_ 105 (List._∷_ 72
+      (List._∷_ 101 (List._∷_ 97 (List._∷_ 100 (List._∷_ 101 (List._∷_ 114 List.[])))))))))))))))))) (Syntax.tcons Syntax.tyBool (Syntax.tcons Syntax.tyBool (Syntax.tcons (Syntax.tyInt Syntax.w32)
+      (Syntax.tcons (Syntax.tyInt Syntax.w32) (Syntax.tcons (Syntax.tyInt Syntax.w32) (Syntax.tcons (Syntax.tyInt Syntax.w32) (Syntax.tcons (Syntax.tyInt Syntax.w32) (Syntax.tcons (Syntax.tyInt Syntax.w32)
+      (Syntax.tcons (Syntax.tyInt Syntax.w32) Syntax.tnil)))))))))),
+) (List._∷_ (3, Rows.sc-here (Row.sInt Syntax.w64)) (List._∷_ (
+  4,
+  Mut.mslice (Referent.rtF (Referent.fInt Syntax.w16)) (Syntax.tyRef
+      (Syntax.named 1) Syntax.mut (Syntax.tyInt Syntax.w16)) 1,
+) (List._∷_ (5, Mut.mslice (Element.type) (Syntax.tyRef (Syntax.named 2) Syntax.mut Element.behind) 2) (List._∷_ (
+  6,
+  Rows.sc-here (Row.sInt
+      Syntax.w64),
+) (List._∷_ (7, Rows.any-gone (Syntax.tyInt Syntax.w64)) (List._∷_ (8, Rows.any-gone (Syntax.tyInt Syntax.w64)) (List._∷_ (9, Rows.any-gone Syntax.tyBool) (List._∷_ (
+  10,
+  Rows.any-gone (Syntax.tyEnum (List._∷_ 115 (List._∷_ 116 (List._∷_ 114 (List._∷_ 101 (List._∷_ 97 (List._∷_ 109 (List._∷_ 58 (List._∷_ 58 (List._∷_ 82 (List._∷_ 101 (List._∷_ 102 (List._∷_ 117
+      (List._∷_ 115 (List._∷_ 97 (List._∷_ 108 List.[]))))))))))))))) (Syntax.ttcons Syntax.tnil (Syntax.ttcons Syntax.tnil (Syntax.ttcons Syntax.tnil (Syntax.ttcons (Syntax.tcons (Syntax.tyInt Syntax.w64)
+      Syntax.tnil) (Syntax.ttcons Syntax.tnil (Syntax.ttcons Syntax.tnil (Syntax.ttcons Syntax.tnil (Syntax.ttcons Syntax.tnil (Syntax.ttcons Syntax.tnil (Syntax.ttcons Syntax.tnil (Syntax.ttcons
+      (Syntax.tcons (Syntax.tyInt Syntax.w64) Syntax.tnil) (Syntax.ttcons (Syntax.tcons (Syntax.tyInt Syntax.w64) Syntax.tnil) (Syntax.ttcons Syntax.tnil (Syntax.ttcons (Syntax.tcons (Syntax.tyInt
+      Syntax.w64) (Syntax.tcons (Syntax.tyInt Syntax.w64) Syntax.tnil)) (Syntax.ttcons (Syntax.tcons (Syntax.tyInt Syntax.w64) Syntax.tnil) (Syntax.ttcons Syntax.tnil (Syntax.ttcons Syntax.tnil
+      (Syntax.ttcons (Syntax.tcons (Syntax.tyInt Syntax.w64) Syntax.tnil) (Syntax.ttcons (Syntax.tcons (Syntax.tyInt Syntax.w64) Syntax.tnil) (Syntax.ttcons (Syntax.tcons (Syntax.tyInt Syntax.w64)
+      Syntax.tnil) (Syntax.ttcons Syntax.tnil Syntax.ttnil)))))))))))))))))))))),
+) (List._∷_ (
+  11,
+  Rows.any-gone (Syntax.tyEnum (List._∷_ 115 (List._∷_ 116 (List._∷_ 114 (List._∷_ 101 (List._∷_ 97
+      (List._∷_ 109 (List._∷_ 58 (List._∷_ 58 (List._∷_ 82 (List._∷_ 101 (List._∷_ 102 (List._∷_ 117 (List._∷_ 115 (List._∷_ 97 (List._∷_ 108 List.[]))))))))))))))) (Syntax.ttcons Syntax.tnil (Syntax.ttcons
+      Syntax.tnil (Syntax.ttcons Syntax.tnil (Syntax.ttcons (Syntax.tcons (Syntax.tyInt Syntax.w64) Syntax.tnil) (Syntax.ttcons Syntax.tnil (Syntax.ttcons Syntax.tnil (Syntax.ttcons Syntax.tnil
+      (Syntax.ttcons Syntax.tnil (Syntax.ttcons Syntax.tnil (Syntax.ttcons Syntax.tnil (Syntax.ttcons (Syntax.tcons (Syntax.tyInt Syntax.w64) Syntax.tnil) (Syntax.ttcons (Syntax.tcons (Syntax.tyInt
+      Syntax.w64) Syntax.tnil) (Syntax.ttcons Syntax.tnil (Syntax.ttcons (Syntax.tcons (Syntax.tyInt Syntax.w64) (Syntax.tcons (Syntax.tyInt Syntax.w64) Syntax.tnil)) (Syntax.ttcons (Syntax.tcons
+      (Syntax.tyInt Syntax.w64) Syntax.tnil) (Syntax.ttcons Syntax.tnil (Syntax.ttcons Syntax.tnil (Syntax.ttcons (Syntax.tcons (Syntax.tyInt Syntax.w64) Syntax.tnil) (Syntax.ttcons (Syntax.tcons
+      (Syntax.tyInt Syntax.w64) Syntax.tnil) (Syntax.ttcons (Syntax.tcons (Syntax.tyInt Syntax.w64) Syntax.tnil) (Syntax.ttcons Syntax.tnil Syntax.ttnil)))))))))))))))))))))),
+) (List._∷_ (
+  12,
+  Rows.any-gone
+      Syntax.tyPtr,
+) (List._∷_ (13, Rows.any-gone (Syntax.tyRef Syntax.erased Syntax.mut (Syntax.tyInt Syntax.w16))) (List._∷_ (
+  14,
+  Rows.any-gone (Syntax.tyStruct (List._∷_ 38 (List._∷_ 91 (List._∷_ 93
+      List.[]))) (Syntax.tcons (Syntax.tyRef Syntax.erased Syntax.mut (Syntax.tyInt Syntax.w16)) (Syntax.tcons (Syntax.tyInt Syntax.w64) Syntax.tnil))),
+) (List._∷_ (15, Rows.any-gone Syntax.tyPtr)
     List.[])))))))))))))))
 
 abbrev pub t13 : List.List Row.Entry
@@ -935,39 +970,45 @@ t13 = List._∷_ (
       (Syntax.ttcons Syntax.tnil (Syntax.ttcons Syntax.tnil (Syntax.ttcons (Syntax.tcons (Syntax.tyInt Syntax.w64) Syntax.tnil) (Syntax.ttcons Syntax.tnil (Syntax.ttcons Syntax.tnil (Syntax.ttcons
       Syntax.tnil (Syntax.ttcons Syntax.tnil (Syntax.ttcons Syntax.tnil (Syntax.ttcons Syntax.tnil (Syntax.ttcons (Syntax.tcons (Syntax.tyInt Syntax.w64) Syntax.tnil) (Syntax.ttcons (Syntax.tcons
       (Syntax.tyInt Syntax.w64) Syntax.tnil) (Syntax.ttcons Syntax.tnil (Syntax.ttcons (Syntax.tcons (Syntax.tyInt Syntax.w64) (Syntax.tcons (Syntax.tyInt Syntax.w64) Syntax.tnil)) (Syntax.ttcons
-      (Syntax.tcons (Syntax.tyInt Syntax.w64) Syntax.tnil) (Syntax.ttcons Syntax.tnil Syntax.ttnil))))))))))))))))) Syntax.tnil) Syntax.ttnil))),
-) (List._∷_ (
-  1,
-  Rows.sslice (Referent.rtF (Referent.fInt
-      Syntax.w8)) (Syntax.tyRef (Syntax.named 0) Syntax.imm (Syntax.tyInt Syntax.w8)) 0,
-) (List._∷_ (
+      (Syntax.tcons (Syntax.tyInt Syntax.w64) Syntax.tnil) (Syntax.ttcons Syntax.tnil (Syntax.ttcons Syntax.tnil (Syntax.ttcons (Syntax.tcons (Syntax.tyInt Syntax.w64) Syntax.tnil) (Syntax.ttcons
+      (Syntax.tcons (Syntax.tyInt Syntax.w64) Syntax.tnil) (Syntax.ttcons (Syntax.tcons (Syntax.tyInt Syntax.w64) Syntax.tnil) (Syntax.ttcons Syntax.tnil Syntax.ttnil)))))))))))))))))))))) Syntax.tnil)
+      Syntax.ttnil))),
+) (List._∷_ (1, Rows.sslice (Referent.rtF (Referent.fInt Syntax.w8)) (Syntax.tyRef (Syntax.named 0) Syntax.imm (Syntax.tyInt Syntax.w8)) 0) (List._∷_ (
   2,
-  Rows.any-gone (Syntax.tyStruct (List._∷_ 115 (List._∷_ 116 (List._∷_ 114 (List._∷_ 101 (List._∷_ 97
-      (List._∷_ 109 (List._∷_ 58 (List._∷_ 58 (List._∷_ 70 (List._∷_ 117 (List._∷_ 106 (List._∷_ 105 (List._∷_ 72 (List._∷_ 101 (List._∷_ 97 (List._∷_ 100 (List._∷_ 101 (List._∷_ 114
-      List.[])))))))))))))))))) (Syntax.tcons Syntax.tyBool (Syntax.tcons Syntax.tyBool (Syntax.tcons (Syntax.tyInt Syntax.w32) (Syntax.tcons (Syntax.tyInt Syntax.w32) (Syntax.tcons (Syntax.tyInt
-      Syntax.w32) (Syntax.tcons (Syntax.tyInt Syntax.w32) (Syntax.tcons (Syntax.tyInt Syntax.w32) (Syntax.tcons (Syntax.tyInt Syntax.w32) (Syntax.tcons (Syntax.tyInt Syntax.w32) Syntax.tnil)))))))))),
-)
-    (List._∷_ (3, Rows.sc-here (Row.sInt Syntax.w64)) (List._∷_ (4, Mut.mslice (Referent.rtF (Referent.fInt Syntax.w16)) (Syntax.tyRef (Syntax.named 1) Syntax.mut (Syntax.tyInt Syntax.w16)) 1)
-    (List._∷_ (5, Mut.mslice (Element.type) (Syntax.tyRef (Syntax.named 2) Syntax.mut Element.behind) 2) (List._∷_ (6, Rows.sc-here (Row.sInt Syntax.w64)) (List._∷_ (
-      7,
-      Rows.any-gone (Syntax.tyInt
-          Syntax.w64),
-    ) (List._∷_ (8, Rows.any-gone (Syntax.tyInt Syntax.w64)) (List._∷_ (9, Rows.any-gone Syntax.tyBool) (List._∷_ (10, Rows.whole (Declared.row Refusal.the-type)) (List._∷_ (
-      11,
-      Rows.any-gone (Syntax.tyEnum (List._∷_ 115 (List._∷_ 116 (List._∷_ 114 (List._∷_ 101 (List._∷_ 97 (List._∷_ 109 (List._∷_ 58 (List._∷_ 58 (List._∷_ 82 (List._∷_ 101 (List._∷_ 102 (List._∷_ 117
-          (List._∷_ 115 (List._∷_ 97 (List._∷_ 108 List.[]))))))))))))))) (Syntax.ttcons Syntax.tnil (Syntax.ttcons Syntax.tnil (Syntax.ttcons Syntax.tnil (Syntax.ttcons (Syntax.tcons (Syntax.tyInt Syntax.w64)
-          Syntax.tnil) (Syntax.ttcons Syntax.tnil (Syntax.ttcons Syntax.tnil (Syntax.ttcons Syntax.tnil (Syntax.ttcons Syntax.tnil (Syntax.ttcons Syntax.tnil (Syntax.ttcons Syntax.tnil (Syntax.ttcons
-          (Syntax.tcons (Syntax.tyInt Syntax.w64) Syntax.tnil) (Syntax.ttcons (Syntax.tcons (Syntax.tyInt Syntax.w64) Syntax.tnil) (Syntax.ttcons Syntax.tnil (Syntax.ttcons (Syntax.tcons (Syntax.tyInt
-          Syntax.w64) (Syntax.tcons (Syntax.tyInt Syntax.w64) Syntax.tnil)) (Syntax.ttcons (Syntax.tcons (Syntax.tyInt Syntax.w64) Syntax.tnil) (Syntax.ttcons Syntax.tnil Syntax.ttnil))))))))))))))))),
-    )
-    (List._∷_ (12, Rows.any-gone Syntax.tyPtr) (List._∷_ (13, Rows.any-gone (Syntax.tyRef Syntax.erased Syntax.mut (Syntax.tyInt Syntax.w16))) (List._∷_ (
-      14,
-      Rows.any-gone (Syntax.tyStruct (List._∷_
-          38 (List._∷_ 91 (List._∷_ 93 List.[]))) (Syntax.tcons (Syntax.tyRef Syntax.erased Syntax.mut (Syntax.tyInt Syntax.w16)) (Syntax.tcons (Syntax.tyInt Syntax.w64) Syntax.tnil))),
-    ) (List._∷_ (
-      15,
-      Rows.any-gone Syntax.tyPtr,
-    ) List.[])))))))))))))))
+  Rows.any-gone
+      (Syntax.tyStruct (List._∷_ 115 (List._∷_ 116 (List._∷_ 114 (List._∷_ 101 (List._∷_ 97 (List._∷_ 109 (List._∷_ 58 (List._∷_ 58 (List._∷_ 70 (List._∷_ 117 (List._∷_ 106 (List._∷_ 105 (List._∷_ 72
+      (List._∷_ 101 (List._∷_ 97 (List._∷_ 100 (List._∷_ 101 (List._∷_ 114 List.[])))))))))))))))))) (Syntax.tcons Syntax.tyBool (Syntax.tcons Syntax.tyBool (Syntax.tcons (Syntax.tyInt Syntax.w32)
+      (Syntax.tcons (Syntax.tyInt Syntax.w32) (Syntax.tcons (Syntax.tyInt Syntax.w32) (Syntax.tcons (Syntax.tyInt Syntax.w32) (Syntax.tcons (Syntax.tyInt Syntax.w32) (Syntax.tcons (Syntax.tyInt Syntax.w32)
+      (Syntax.tcons (Syntax.tyInt Syntax.w32) Syntax.tnil)))))))))),
+) (List._∷_ (3, Rows.sc-here (Row.sInt Syntax.w64)) (List._∷_ (
+  4,
+  Mut.mslice (Referent.rtF (Referent.fInt Syntax.w16)) (Syntax.tyRef
+      (Syntax.named 1) Syntax.mut (Syntax.tyInt Syntax.w16)) 1,
+) (List._∷_ (5, Mut.mslice (Element.type) (Syntax.tyRef (Syntax.named 2) Syntax.mut Element.behind) 2) (List._∷_ (
+  6,
+  Rows.sc-here (Row.sInt
+      Syntax.w64),
+) (List._∷_ (7, Rows.any-gone (Syntax.tyInt Syntax.w64)) (List._∷_ (8, Rows.any-gone (Syntax.tyInt Syntax.w64)) (List._∷_ (9, Rows.any-gone Syntax.tyBool) (List._∷_ (
+  10,
+  Rows.whole
+      (Declared.row Refusal.the-type),
+) (List._∷_ (
+  11,
+  Rows.any-gone (Syntax.tyEnum (List._∷_ 115 (List._∷_ 116 (List._∷_ 114 (List._∷_ 101 (List._∷_ 97 (List._∷_ 109 (List._∷_ 58 (List._∷_ 58 (List._∷_ 82
+      (List._∷_ 101 (List._∷_ 102 (List._∷_ 117 (List._∷_ 115 (List._∷_ 97 (List._∷_ 108 List.[]))))))))))))))) (Syntax.ttcons Syntax.tnil (Syntax.ttcons Syntax.tnil (Syntax.ttcons Syntax.tnil
+      (Syntax.ttcons (Syntax.tcons (Syntax.tyInt Syntax.w64) Syntax.tnil) (Syntax.ttcons Syntax.tnil (Syntax.ttcons Syntax.tnil (Syntax.ttcons Syntax.tnil (Syntax.ttcons Syntax.tnil (Syntax.ttcons
+      Syntax.tnil (Syntax.ttcons Syntax.tnil (Syntax.ttcons (Syntax.tcons (Syntax.tyInt Syntax.w64) Syntax.tnil) (Syntax.ttcons (Syntax.tcons (Syntax.tyInt Syntax.w64) Syntax.tnil) (Syntax.ttcons
+      Syntax.tnil (Syntax.ttcons (Syntax.tcons (Syntax.tyInt Syntax.w64) (Syntax.tcons (Syntax.tyInt Syntax.w64) Syntax.tnil)) (Syntax.ttcons (Syntax.tcons (Syntax.tyInt Syntax.w64) Syntax.tnil)
+      (Syntax.ttcons Syntax.tnil (Syntax.ttcons Syntax.tnil (Syntax.ttcons (Syntax.tcons (Syntax.tyInt Syntax.w64) Syntax.tnil) (Syntax.ttcons (Syntax.tcons (Syntax.tyInt Syntax.w64) Syntax.tnil)
+      (Syntax.ttcons (Syntax.tcons (Syntax.tyInt Syntax.w64) Syntax.tnil) (Syntax.ttcons Syntax.tnil Syntax.ttnil)))))))))))))))))))))),
+) (List._∷_ (12, Rows.any-gone Syntax.tyPtr) (List._∷_ (
+  13,
+  Rows.any-gone (Syntax.tyRef Syntax.erased Syntax.mut (Syntax.tyInt Syntax.w16)),
+) (List._∷_ (
+  14,
+  Rows.any-gone (Syntax.tyStruct (List._∷_ 38 (List._∷_ 91 (List._∷_ 93 List.[]))) (Syntax.tcons
+      (Syntax.tyRef Syntax.erased Syntax.mut (Syntax.tyInt Syntax.w16)) (Syntax.tcons (Syntax.tyInt Syntax.w64) Syntax.tnil))),
+) (List._∷_ (15, Rows.any-gone Syntax.tyPtr) List.[])))))))))))))))
 
 abbrev pub t14 : List.List Row.Entry
 t14 = List._∷_ (0, Rows.whole (Declared.row Decoded.the-type)) (List._∷_ (
@@ -993,15 +1034,15 @@ t14 = List._∷_ (0, Rows.whole (Declared.row Decoded.the-type)) (List._∷_ (
           Syntax.tnil (Syntax.ttcons (Syntax.tcons (Syntax.tyInt Syntax.w64) Syntax.tnil) (Syntax.ttcons Syntax.tnil (Syntax.ttcons Syntax.tnil (Syntax.ttcons Syntax.tnil (Syntax.ttcons Syntax.tnil
           (Syntax.ttcons Syntax.tnil (Syntax.ttcons Syntax.tnil (Syntax.ttcons (Syntax.tcons (Syntax.tyInt Syntax.w64) Syntax.tnil) (Syntax.ttcons (Syntax.tcons (Syntax.tyInt Syntax.w64) Syntax.tnil)
           (Syntax.ttcons Syntax.tnil (Syntax.ttcons (Syntax.tcons (Syntax.tyInt Syntax.w64) (Syntax.tcons (Syntax.tyInt Syntax.w64) Syntax.tnil)) (Syntax.ttcons (Syntax.tcons (Syntax.tyInt Syntax.w64)
-          Syntax.tnil) (Syntax.ttcons Syntax.tnil Syntax.ttnil))))))))))))))))),
+          Syntax.tnil) (Syntax.ttcons Syntax.tnil (Syntax.ttcons Syntax.tnil (Syntax.ttcons (Syntax.tcons (Syntax.tyInt Syntax.w64) Syntax.tnil) (Syntax.ttcons (Syntax.tcons (Syntax.tyInt Syntax.w64)
+          Syntax.tnil) (Syntax.ttcons (Syntax.tcons (Syntax.tyInt Syntax.w64) Syntax.tnil) (Syntax.ttcons Syntax.tnil Syntax.ttnil)))))))))))))))))))))),
     ) (List._∷_ (12, Rows.any-gone Syntax.tyPtr) (List._∷_ (
       13,
-      Rows.any-gone (Syntax.tyRef Syntax.erased Syntax.mut (Syntax.tyInt
-          Syntax.w16)),
+      Rows.any-gone (Syntax.tyRef Syntax.erased Syntax.mut (Syntax.tyInt Syntax.w16)),
     ) (List._∷_ (
       14,
-      Rows.any-gone (Syntax.tyStruct (List._∷_ 38 (List._∷_ 91 (List._∷_ 93 List.[]))) (Syntax.tcons (Syntax.tyRef Syntax.erased Syntax.mut (Syntax.tyInt Syntax.w16))
-          (Syntax.tcons (Syntax.tyInt Syntax.w64) Syntax.tnil))),
+      Rows.any-gone (Syntax.tyStruct (List._∷_ 38 (List._∷_ 91 (List._∷_ 93 List.[]))) (Syntax.tcons
+          (Syntax.tyRef Syntax.erased Syntax.mut (Syntax.tyInt Syntax.w16)) (Syntax.tcons (Syntax.tyInt Syntax.w64) Syntax.tnil))),
     ) (List._∷_ (15, Rows.any-gone Syntax.tyPtr) List.[])))))))))))))))
 
 abbrev pub t15 : List.List Row.Entry
@@ -1027,24 +1068,30 @@ t15 = List._∷_ (0, Rows.whole (Declared.row Decoded.the-type)) (List._∷_ (
           (List._∷_ 117 (List._∷_ 115 (List._∷_ 97 (List._∷_ 108 List.[]))))))))))))))) (Syntax.ttcons Syntax.tnil (Syntax.ttcons Syntax.tnil (Syntax.ttcons Syntax.tnil (Syntax.ttcons (Syntax.tcons
           (Syntax.tyInt Syntax.w64) Syntax.tnil) (Syntax.ttcons Syntax.tnil (Syntax.ttcons Syntax.tnil (Syntax.ttcons Syntax.tnil (Syntax.ttcons Syntax.tnil (Syntax.ttcons Syntax.tnil (Syntax.ttcons Syntax.tnil
           (Syntax.ttcons (Syntax.tcons (Syntax.tyInt Syntax.w64) Syntax.tnil) (Syntax.ttcons (Syntax.tcons (Syntax.tyInt Syntax.w64) Syntax.tnil) (Syntax.ttcons Syntax.tnil (Syntax.ttcons (Syntax.tcons
-          (Syntax.tyInt Syntax.w64) (Syntax.tcons (Syntax.tyInt Syntax.w64) Syntax.tnil)) (Syntax.ttcons (Syntax.tcons (Syntax.tyInt Syntax.w64) Syntax.tnil) (Syntax.ttcons Syntax.tnil
-          Syntax.ttnil))))))))))))))))),
+          (Syntax.tyInt Syntax.w64) (Syntax.tcons (Syntax.tyInt Syntax.w64) Syntax.tnil)) (Syntax.ttcons (Syntax.tcons (Syntax.tyInt Syntax.w64) Syntax.tnil) (Syntax.ttcons Syntax.tnil (Syntax.ttcons
+          Syntax.tnil (Syntax.ttcons (Syntax.tcons (Syntax.tyInt Syntax.w64) Syntax.tnil) (Syntax.ttcons (Syntax.tcons (Syntax.tyInt Syntax.w64) Syntax.tnil) (Syntax.ttcons (Syntax.tcons (Syntax.tyInt
+          Syntax.w64) Syntax.tnil) (Syntax.ttcons Syntax.tnil Syntax.ttnil)))))))))))))))))))))),
     ) (List._∷_ (
       11,
-      Rows.any-gone (Syntax.tyEnum (List._∷_ 115 (List._∷_ 116 (List._∷_ 114 (List._∷_ 101 (List._∷_ 97 (List._∷_ 109 (List._∷_ 58 (List._∷_ 58 (List._∷_ 82
-          (List._∷_ 101 (List._∷_ 102 (List._∷_ 117 (List._∷_ 115 (List._∷_ 97 (List._∷_ 108 List.[]))))))))))))))) (Syntax.ttcons Syntax.tnil (Syntax.ttcons Syntax.tnil (Syntax.ttcons Syntax.tnil
-          (Syntax.ttcons (Syntax.tcons (Syntax.tyInt Syntax.w64) Syntax.tnil) (Syntax.ttcons Syntax.tnil (Syntax.ttcons Syntax.tnil (Syntax.ttcons Syntax.tnil (Syntax.ttcons Syntax.tnil (Syntax.ttcons
-          Syntax.tnil (Syntax.ttcons Syntax.tnil (Syntax.ttcons (Syntax.tcons (Syntax.tyInt Syntax.w64) Syntax.tnil) (Syntax.ttcons (Syntax.tcons (Syntax.tyInt Syntax.w64) Syntax.tnil) (Syntax.ttcons
-          Syntax.tnil (Syntax.ttcons (Syntax.tcons (Syntax.tyInt Syntax.w64) (Syntax.tcons (Syntax.tyInt Syntax.w64) Syntax.tnil)) (Syntax.ttcons (Syntax.tcons (Syntax.tyInt Syntax.w64) Syntax.tnil)
-          (Syntax.ttcons Syntax.tnil Syntax.ttnil))))))))))))))))),
-    ) (List._∷_ (12, Rows.any-gone Syntax.tyPtr) (List._∷_ (
-      13,
-      Rows.any-gone (Syntax.tyRef Syntax.erased Syntax.mut (Syntax.tyInt Syntax.w16)),
+      Rows.any-gone (Syntax.tyEnum (List._∷_ 115 (List._∷_ 116 (List._∷_ 114 (List._∷_ 101 (List._∷_
+          97 (List._∷_ 109 (List._∷_ 58 (List._∷_ 58 (List._∷_ 82 (List._∷_ 101 (List._∷_ 102 (List._∷_ 117 (List._∷_ 115 (List._∷_ 97 (List._∷_ 108 List.[]))))))))))))))) (Syntax.ttcons Syntax.tnil
+          (Syntax.ttcons Syntax.tnil (Syntax.ttcons Syntax.tnil (Syntax.ttcons (Syntax.tcons (Syntax.tyInt Syntax.w64) Syntax.tnil) (Syntax.ttcons Syntax.tnil (Syntax.ttcons Syntax.tnil (Syntax.ttcons
+          Syntax.tnil (Syntax.ttcons Syntax.tnil (Syntax.ttcons Syntax.tnil (Syntax.ttcons Syntax.tnil (Syntax.ttcons (Syntax.tcons (Syntax.tyInt Syntax.w64) Syntax.tnil) (Syntax.ttcons (Syntax.tcons
+          (Syntax.tyInt Syntax.w64) Syntax.tnil) (Syntax.ttcons Syntax.tnil (Syntax.ttcons (Syntax.tcons (Syntax.tyInt Syntax.w64) (Syntax.tcons (Syntax.tyInt Syntax.w64) Syntax.tnil)) (Syntax.ttcons
+          (Syntax.tcons (Syntax.tyInt Syntax.w64) Syntax.tnil) (Syntax.ttcons Syntax.tnil (Syntax.ttcons Syntax.tnil (Syntax.ttcons (Syntax.tcons (Syntax.tyInt Syntax.w64) Syntax.tnil) (Syntax.ttcons
+          (Syntax.tcons (Syntax.tyInt Syntax.w64) Syntax.tnil) (Syntax.ttcons (Syntax.tcons (Syntax.tyInt Syntax.w64) Syntax.tnil) (Syntax.ttcons Syntax.tnil Syntax.ttnil)))))))))))))))))))))),
     ) (List._∷_ (
+      12,
+      Rows.any-gone Syntax.tyPtr,
+    ) (List._∷_ (13, Rows.any-gone (Syntax.tyRef Syntax.erased Syntax.mut (Syntax.tyInt Syntax.w16))) (List._∷_ (
       14,
-      Rows.any-gone (Syntax.tyStruct (List._∷_ 38 (List._∷_ 91 (List._∷_ 93 List.[]))) (Syntax.tcons (Syntax.tyRef Syntax.erased Syntax.mut (Syntax.tyInt Syntax.w16)) (Syntax.tcons
-          (Syntax.tyInt Syntax.w64) Syntax.tnil))),
-    ) (List._∷_ (15, Rows.any-gone Syntax.tyPtr) List.[])))))))))))))))
+      Rows.any-gone (Syntax.tyStruct (List._∷_ 38 (List._∷_ 91
+          (List._∷_ 93 List.[]))) (Syntax.tcons (Syntax.tyRef Syntax.erased Syntax.mut (Syntax.tyInt Syntax.w16)) (Syntax.tcons (Syntax.tyInt Syntax.w64) Syntax.tnil))),
+    ) (List._∷_ (
+      15,
+      Rows.any-gone
+          Syntax.tyPtr,
+    ) List.[])))))))))))))))
 
 abbrev pub t16 : List.List Row.Entry
 t16 = List._∷_ (0, Rows.whole (Declared.row Decoded.the-type)) (List._∷_ (
@@ -1069,24 +1116,30 @@ t16 = List._∷_ (0, Rows.whole (Declared.row Decoded.the-type)) (List._∷_ (
           (List._∷_ 117 (List._∷_ 115 (List._∷_ 97 (List._∷_ 108 List.[]))))))))))))))) (Syntax.ttcons Syntax.tnil (Syntax.ttcons Syntax.tnil (Syntax.ttcons Syntax.tnil (Syntax.ttcons (Syntax.tcons
           (Syntax.tyInt Syntax.w64) Syntax.tnil) (Syntax.ttcons Syntax.tnil (Syntax.ttcons Syntax.tnil (Syntax.ttcons Syntax.tnil (Syntax.ttcons Syntax.tnil (Syntax.ttcons Syntax.tnil (Syntax.ttcons Syntax.tnil
           (Syntax.ttcons (Syntax.tcons (Syntax.tyInt Syntax.w64) Syntax.tnil) (Syntax.ttcons (Syntax.tcons (Syntax.tyInt Syntax.w64) Syntax.tnil) (Syntax.ttcons Syntax.tnil (Syntax.ttcons (Syntax.tcons
-          (Syntax.tyInt Syntax.w64) (Syntax.tcons (Syntax.tyInt Syntax.w64) Syntax.tnil)) (Syntax.ttcons (Syntax.tcons (Syntax.tyInt Syntax.w64) Syntax.tnil) (Syntax.ttcons Syntax.tnil
-          Syntax.ttnil))))))))))))))))),
+          (Syntax.tyInt Syntax.w64) (Syntax.tcons (Syntax.tyInt Syntax.w64) Syntax.tnil)) (Syntax.ttcons (Syntax.tcons (Syntax.tyInt Syntax.w64) Syntax.tnil) (Syntax.ttcons Syntax.tnil (Syntax.ttcons
+          Syntax.tnil (Syntax.ttcons (Syntax.tcons (Syntax.tyInt Syntax.w64) Syntax.tnil) (Syntax.ttcons (Syntax.tcons (Syntax.tyInt Syntax.w64) Syntax.tnil) (Syntax.ttcons (Syntax.tcons (Syntax.tyInt
+          Syntax.w64) Syntax.tnil) (Syntax.ttcons Syntax.tnil Syntax.ttnil)))))))))))))))))))))),
     ) (List._∷_ (
       11,
-      Rows.any-gone (Syntax.tyEnum (List._∷_ 115 (List._∷_ 116 (List._∷_ 114 (List._∷_ 101 (List._∷_ 97 (List._∷_ 109 (List._∷_ 58 (List._∷_ 58 (List._∷_ 82
-          (List._∷_ 101 (List._∷_ 102 (List._∷_ 117 (List._∷_ 115 (List._∷_ 97 (List._∷_ 108 List.[]))))))))))))))) (Syntax.ttcons Syntax.tnil (Syntax.ttcons Syntax.tnil (Syntax.ttcons Syntax.tnil
-          (Syntax.ttcons (Syntax.tcons (Syntax.tyInt Syntax.w64) Syntax.tnil) (Syntax.ttcons Syntax.tnil (Syntax.ttcons Syntax.tnil (Syntax.ttcons Syntax.tnil (Syntax.ttcons Syntax.tnil (Syntax.ttcons
-          Syntax.tnil (Syntax.ttcons Syntax.tnil (Syntax.ttcons (Syntax.tcons (Syntax.tyInt Syntax.w64) Syntax.tnil) (Syntax.ttcons (Syntax.tcons (Syntax.tyInt Syntax.w64) Syntax.tnil) (Syntax.ttcons
-          Syntax.tnil (Syntax.ttcons (Syntax.tcons (Syntax.tyInt Syntax.w64) (Syntax.tcons (Syntax.tyInt Syntax.w64) Syntax.tnil)) (Syntax.ttcons (Syntax.tcons (Syntax.tyInt Syntax.w64) Syntax.tnil)
-          (Syntax.ttcons Syntax.tnil Syntax.ttnil))))))))))))))))),
-    ) (List._∷_ (12, Rows.any-gone Syntax.tyPtr) (List._∷_ (
-      13,
-      Rows.any-gone (Syntax.tyRef Syntax.erased Syntax.mut (Syntax.tyInt Syntax.w16)),
+      Rows.any-gone (Syntax.tyEnum (List._∷_ 115 (List._∷_ 116 (List._∷_ 114 (List._∷_ 101 (List._∷_
+          97 (List._∷_ 109 (List._∷_ 58 (List._∷_ 58 (List._∷_ 82 (List._∷_ 101 (List._∷_ 102 (List._∷_ 117 (List._∷_ 115 (List._∷_ 97 (List._∷_ 108 List.[]))))))))))))))) (Syntax.ttcons Syntax.tnil
+          (Syntax.ttcons Syntax.tnil (Syntax.ttcons Syntax.tnil (Syntax.ttcons (Syntax.tcons (Syntax.tyInt Syntax.w64) Syntax.tnil) (Syntax.ttcons Syntax.tnil (Syntax.ttcons Syntax.tnil (Syntax.ttcons
+          Syntax.tnil (Syntax.ttcons Syntax.tnil (Syntax.ttcons Syntax.tnil (Syntax.ttcons Syntax.tnil (Syntax.ttcons (Syntax.tcons (Syntax.tyInt Syntax.w64) Syntax.tnil) (Syntax.ttcons (Syntax.tcons
+          (Syntax.tyInt Syntax.w64) Syntax.tnil) (Syntax.ttcons Syntax.tnil (Syntax.ttcons (Syntax.tcons (Syntax.tyInt Syntax.w64) (Syntax.tcons (Syntax.tyInt Syntax.w64) Syntax.tnil)) (Syntax.ttcons
+          (Syntax.tcons (Syntax.tyInt Syntax.w64) Syntax.tnil) (Syntax.ttcons Syntax.tnil (Syntax.ttcons Syntax.tnil (Syntax.ttcons (Syntax.tcons (Syntax.tyInt Syntax.w64) Syntax.tnil) (Syntax.ttcons
+          (Syntax.tcons (Syntax.tyInt Syntax.w64) Syntax.tnil) (Syntax.ttcons (Syntax.tcons (Syntax.tyInt Syntax.w64) Syntax.tnil) (Syntax.ttcons Syntax.tnil Syntax.ttnil)))))))))))))))))))))),
     ) (List._∷_ (
+      12,
+      Rows.any-gone Syntax.tyPtr,
+    ) (List._∷_ (13, Rows.any-gone (Syntax.tyRef Syntax.erased Syntax.mut (Syntax.tyInt Syntax.w16))) (List._∷_ (
       14,
-      Rows.any-gone (Syntax.tyStruct (List._∷_ 38 (List._∷_ 91 (List._∷_ 93 List.[]))) (Syntax.tcons (Syntax.tyRef Syntax.erased Syntax.mut (Syntax.tyInt Syntax.w16)) (Syntax.tcons
-          (Syntax.tyInt Syntax.w64) Syntax.tnil))),
-    ) (List._∷_ (15, Rows.any-gone Syntax.tyPtr) List.[])))))))))))))))
+      Rows.any-gone (Syntax.tyStruct (List._∷_ 38 (List._∷_ 91
+          (List._∷_ 93 List.[]))) (Syntax.tcons (Syntax.tyRef Syntax.erased Syntax.mut (Syntax.tyInt Syntax.w16)) (Syntax.tcons (Syntax.tyInt Syntax.w64) Syntax.tnil))),
+    ) (List._∷_ (
+      15,
+      Rows.any-gone
+          Syntax.tyPtr,
+    ) List.[])))))))))))))))
 
 abbrev pub t17 : List.List Row.Entry
 t17 = List._∷_ (
@@ -1097,45 +1150,48 @@ t17 = List._∷_ (
       (Syntax.ttcons Syntax.tnil (Syntax.ttcons Syntax.tnil (Syntax.ttcons (Syntax.tcons (Syntax.tyInt Syntax.w64) Syntax.tnil) (Syntax.ttcons Syntax.tnil (Syntax.ttcons Syntax.tnil (Syntax.ttcons
       Syntax.tnil (Syntax.ttcons Syntax.tnil (Syntax.ttcons Syntax.tnil (Syntax.ttcons Syntax.tnil (Syntax.ttcons (Syntax.tcons (Syntax.tyInt Syntax.w64) Syntax.tnil) (Syntax.ttcons (Syntax.tcons
       (Syntax.tyInt Syntax.w64) Syntax.tnil) (Syntax.ttcons Syntax.tnil (Syntax.ttcons (Syntax.tcons (Syntax.tyInt Syntax.w64) (Syntax.tcons (Syntax.tyInt Syntax.w64) Syntax.tnil)) (Syntax.ttcons
-      (Syntax.tcons (Syntax.tyInt Syntax.w64) Syntax.tnil) (Syntax.ttcons Syntax.tnil Syntax.ttnil))))))))))))))))) Syntax.tnil) Syntax.ttnil))),
+      (Syntax.tcons (Syntax.tyInt Syntax.w64) Syntax.tnil) (Syntax.ttcons Syntax.tnil (Syntax.ttcons Syntax.tnil (Syntax.ttcons (Syntax.tcons (Syntax.tyInt Syntax.w64) Syntax.tnil) (Syntax.ttcons
+      (Syntax.tcons (Syntax.tyInt Syntax.w64) Syntax.tnil) (Syntax.ttcons (Syntax.tcons (Syntax.tyInt Syntax.w64) Syntax.tnil) (Syntax.ttcons Syntax.tnil Syntax.ttnil)))))))))))))))))))))) Syntax.tnil)
+      Syntax.ttnil))),
+) (List._∷_ (1, Rows.sslice (Referent.rtF (Referent.fInt Syntax.w8)) (Syntax.tyRef (Syntax.named 0) Syntax.imm (Syntax.tyInt Syntax.w8)) 0) (List._∷_ (
+  2,
+  Rows.whole (Declared'.row
+      FujiHeader.the-type),
+) (List._∷_ (3, Rows.sc-here (Row.sInt Syntax.w64)) (List._∷_ (
+  4,
+  Mut.mslice (Referent.rtF (Referent.fInt Syntax.w16)) (Syntax.tyRef (Syntax.named 1) Syntax.mut (Syntax.tyInt
+      Syntax.w16)) 1,
+) (List._∷_ (5, Mut.mslice (Element.type) (Syntax.tyRef (Syntax.named 2) Syntax.mut Element.behind) 2) (List._∷_ (6, Rows.sc-here (Row.sInt Syntax.w64)) (List._∷_ (
+  7,
+  Rows.any-gone
+      (Syntax.tyInt Syntax.w64),
+) (List._∷_ (8, Rows.sc-here (Row.sInt Syntax.w64)) (List._∷_ (9, Rows.sc-here Row.sBool) (List._∷_ (
+  10,
+  Rows.any-gone (Syntax.tyEnum (List._∷_ 115 (List._∷_ 116 (List._∷_
+      114 (List._∷_ 101 (List._∷_ 97 (List._∷_ 109 (List._∷_ 58 (List._∷_ 58 (List._∷_ 82 (List._∷_ 101 (List._∷_ 102 (List._∷_ 117 (List._∷_ 115 (List._∷_ 97 (List._∷_ 108 List.[])))))))))))))))
+      (Syntax.ttcons Syntax.tnil (Syntax.ttcons Syntax.tnil (Syntax.ttcons Syntax.tnil (Syntax.ttcons (Syntax.tcons (Syntax.tyInt Syntax.w64) Syntax.tnil) (Syntax.ttcons Syntax.tnil (Syntax.ttcons
+      Syntax.tnil (Syntax.ttcons Syntax.tnil (Syntax.ttcons Syntax.tnil (Syntax.ttcons Syntax.tnil (Syntax.ttcons Syntax.tnil (Syntax.ttcons (Syntax.tcons (Syntax.tyInt Syntax.w64) Syntax.tnil)
+      (Syntax.ttcons (Syntax.tcons (Syntax.tyInt Syntax.w64) Syntax.tnil) (Syntax.ttcons Syntax.tnil (Syntax.ttcons (Syntax.tcons (Syntax.tyInt Syntax.w64) (Syntax.tcons (Syntax.tyInt Syntax.w64)
+      Syntax.tnil)) (Syntax.ttcons (Syntax.tcons (Syntax.tyInt Syntax.w64) Syntax.tnil) (Syntax.ttcons Syntax.tnil (Syntax.ttcons Syntax.tnil (Syntax.ttcons (Syntax.tcons (Syntax.tyInt Syntax.w64)
+      Syntax.tnil) (Syntax.ttcons (Syntax.tcons (Syntax.tyInt Syntax.w64) Syntax.tnil) (Syntax.ttcons (Syntax.tcons (Syntax.tyInt Syntax.w64) Syntax.tnil) (Syntax.ttcons Syntax.tnil
+      Syntax.ttnil)))))))))))))))))))))),
 ) (List._∷_ (
-  1,
-  Rows.sslice (Referent.rtF (Referent.fInt
-      Syntax.w8)) (Syntax.tyRef (Syntax.named 0) Syntax.imm (Syntax.tyInt Syntax.w8)) 0,
-) (List._∷_ (2, Rows.whole (Declared'.row FujiHeader.the-type)) (List._∷_ (3, Rows.sc-here (Row.sInt Syntax.w64))
-    (List._∷_ (4, Mut.mslice (Referent.rtF (Referent.fInt Syntax.w16)) (Syntax.tyRef (Syntax.named 1) Syntax.mut (Syntax.tyInt Syntax.w16)) 1) (List._∷_ (
-      5,
-      Mut.mslice (Element.type) (Syntax.tyRef
-          (Syntax.named 2) Syntax.mut Element.behind) 2,
-    ) (List._∷_ (6, Rows.sc-here (Row.sInt Syntax.w64)) (List._∷_ (7, Rows.any-gone (Syntax.tyInt Syntax.w64)) (List._∷_ (
-      8,
-      Rows.sc-here (Row.sInt
-          Syntax.w64),
-    ) (List._∷_ (9, Rows.sc-here Row.sBool) (List._∷_ (
-      10,
-      Rows.any-gone (Syntax.tyEnum (List._∷_ 115 (List._∷_ 116 (List._∷_ 114 (List._∷_ 101 (List._∷_ 97 (List._∷_ 109 (List._∷_ 58
-          (List._∷_ 58 (List._∷_ 82 (List._∷_ 101 (List._∷_ 102 (List._∷_ 117 (List._∷_ 115 (List._∷_ 97 (List._∷_ 108 List.[]))))))))))))))) (Syntax.ttcons Syntax.tnil (Syntax.ttcons Syntax.tnil (Syntax.ttcons
-          Syntax.tnil (Syntax.ttcons (Syntax.tcons (Syntax.tyInt Syntax.w64) Syntax.tnil) (Syntax.ttcons Syntax.tnil (Syntax.ttcons Syntax.tnil (Syntax.ttcons Syntax.tnil (Syntax.ttcons Syntax.tnil
-          (Syntax.ttcons Syntax.tnil (Syntax.ttcons Syntax.tnil (Syntax.ttcons (Syntax.tcons (Syntax.tyInt Syntax.w64) Syntax.tnil) (Syntax.ttcons (Syntax.tcons (Syntax.tyInt Syntax.w64) Syntax.tnil)
-          (Syntax.ttcons Syntax.tnil (Syntax.ttcons (Syntax.tcons (Syntax.tyInt Syntax.w64) (Syntax.tcons (Syntax.tyInt Syntax.w64) Syntax.tnil)) (Syntax.ttcons (Syntax.tcons (Syntax.tyInt Syntax.w64)
-          Syntax.tnil) (Syntax.ttcons Syntax.tnil Syntax.ttnil))))))))))))))))),
-    ) (List._∷_ (
-      11,
-      Rows.any-gone (Syntax.tyEnum (List._∷_ 115 (List._∷_ 116 (List._∷_ 114 (List._∷_ 101 (List._∷_ 97 (List._∷_ 109
-          (List._∷_ 58 (List._∷_ 58 (List._∷_ 82 (List._∷_ 101 (List._∷_ 102 (List._∷_ 117 (List._∷_ 115 (List._∷_ 97 (List._∷_ 108 List.[]))))))))))))))) (Syntax.ttcons Syntax.tnil (Syntax.ttcons Syntax.tnil
-          (Syntax.ttcons Syntax.tnil (Syntax.ttcons (Syntax.tcons (Syntax.tyInt Syntax.w64) Syntax.tnil) (Syntax.ttcons Syntax.tnil (Syntax.ttcons Syntax.tnil (Syntax.ttcons Syntax.tnil (Syntax.ttcons
-          Syntax.tnil (Syntax.ttcons Syntax.tnil (Syntax.ttcons Syntax.tnil (Syntax.ttcons (Syntax.tcons (Syntax.tyInt Syntax.w64) Syntax.tnil) (Syntax.ttcons (Syntax.tcons (Syntax.tyInt Syntax.w64)
-          Syntax.tnil) (Syntax.ttcons Syntax.tnil (Syntax.ttcons (Syntax.tcons (Syntax.tyInt Syntax.w64) (Syntax.tcons (Syntax.tyInt Syntax.w64) Syntax.tnil)) (Syntax.ttcons (Syntax.tcons (Syntax.tyInt
-          Syntax.w64) Syntax.tnil) (Syntax.ttcons Syntax.tnil Syntax.ttnil))))))))))))))))),
-    ) (List._∷_ (12, Rows.any-gone Syntax.tyPtr) (List._∷_ (
-      13,
-      Rows.any-gone (Syntax.tyRef Syntax.erased Syntax.mut
-          (Syntax.tyInt Syntax.w16)),
-    ) (List._∷_ (
-      14,
-      Rows.any-gone (Syntax.tyStruct (List._∷_ 38 (List._∷_ 91 (List._∷_ 93 List.[]))) (Syntax.tcons (Syntax.tyRef Syntax.erased Syntax.mut (Syntax.tyInt
-          Syntax.w16)) (Syntax.tcons (Syntax.tyInt Syntax.w64) Syntax.tnil))),
-    ) (List._∷_ (15, Rows.any-gone Syntax.tyPtr) List.[])))))))))))))))
+  11,
+  Rows.any-gone (Syntax.tyEnum (List._∷_ 115 (List._∷_ 116 (List._∷_ 114 (List._∷_ 101 (List._∷_ 97 (List._∷_ 109 (List._∷_ 58 (List._∷_ 58
+      (List._∷_ 82 (List._∷_ 101 (List._∷_ 102 (List._∷_ 117 (List._∷_ 115 (List._∷_ 97 (List._∷_ 108 List.[]))))))))))))))) (Syntax.ttcons Syntax.tnil (Syntax.ttcons Syntax.tnil (Syntax.ttcons Syntax.tnil
+      (Syntax.ttcons (Syntax.tcons (Syntax.tyInt Syntax.w64) Syntax.tnil) (Syntax.ttcons Syntax.tnil (Syntax.ttcons Syntax.tnil (Syntax.ttcons Syntax.tnil (Syntax.ttcons Syntax.tnil (Syntax.ttcons
+      Syntax.tnil (Syntax.ttcons Syntax.tnil (Syntax.ttcons (Syntax.tcons (Syntax.tyInt Syntax.w64) Syntax.tnil) (Syntax.ttcons (Syntax.tcons (Syntax.tyInt Syntax.w64) Syntax.tnil) (Syntax.ttcons
+      Syntax.tnil (Syntax.ttcons (Syntax.tcons (Syntax.tyInt Syntax.w64) (Syntax.tcons (Syntax.tyInt Syntax.w64) Syntax.tnil)) (Syntax.ttcons (Syntax.tcons (Syntax.tyInt Syntax.w64) Syntax.tnil)
+      (Syntax.ttcons Syntax.tnil (Syntax.ttcons Syntax.tnil (Syntax.ttcons (Syntax.tcons (Syntax.tyInt Syntax.w64) Syntax.tnil) (Syntax.ttcons (Syntax.tcons (Syntax.tyInt Syntax.w64) Syntax.tnil)
+      (Syntax.ttcons (Syntax.tcons (Syntax.tyInt Syntax.w64) Syntax.tnil) (Syntax.ttcons Syntax.tnil Syntax.ttnil)))))))))))))))))))))),
+) (List._∷_ (12, Rows.any-gone Syntax.tyPtr) (List._∷_ (
+  13,
+  Rows.any-gone (Syntax.tyRef Syntax.erased Syntax.mut (Syntax.tyInt Syntax.w16)),
+) (List._∷_ (
+  14,
+  Rows.any-gone (Syntax.tyStruct (List._∷_ 38 (List._∷_ 91 (List._∷_ 93 List.[]))) (Syntax.tcons
+      (Syntax.tyRef Syntax.erased Syntax.mut (Syntax.tyInt Syntax.w16)) (Syntax.tcons (Syntax.tyInt Syntax.w64) Syntax.tnil))),
+) (List._∷_ (15, Rows.any-gone Syntax.tyPtr) List.[])))))))))))))))
 
 abbrev pub t18 : List.List Row.Entry
 t18 = List._∷_ (
@@ -1146,38 +1202,41 @@ t18 = List._∷_ (
       (Syntax.ttcons Syntax.tnil (Syntax.ttcons Syntax.tnil (Syntax.ttcons (Syntax.tcons (Syntax.tyInt Syntax.w64) Syntax.tnil) (Syntax.ttcons Syntax.tnil (Syntax.ttcons Syntax.tnil (Syntax.ttcons
       Syntax.tnil (Syntax.ttcons Syntax.tnil (Syntax.ttcons Syntax.tnil (Syntax.ttcons Syntax.tnil (Syntax.ttcons (Syntax.tcons (Syntax.tyInt Syntax.w64) Syntax.tnil) (Syntax.ttcons (Syntax.tcons
       (Syntax.tyInt Syntax.w64) Syntax.tnil) (Syntax.ttcons Syntax.tnil (Syntax.ttcons (Syntax.tcons (Syntax.tyInt Syntax.w64) (Syntax.tcons (Syntax.tyInt Syntax.w64) Syntax.tnil)) (Syntax.ttcons
-      (Syntax.tcons (Syntax.tyInt Syntax.w64) Syntax.tnil) (Syntax.ttcons Syntax.tnil Syntax.ttnil))))))))))))))))) Syntax.tnil) Syntax.ttnil))),
-) (List._∷_ (
-  1,
-  Rows.sslice (Referent.rtF (Referent.fInt
-      Syntax.w8)) (Syntax.tyRef (Syntax.named 0) Syntax.imm (Syntax.tyInt Syntax.w8)) 0,
-) (List._∷_ (
+      (Syntax.tcons (Syntax.tyInt Syntax.w64) Syntax.tnil) (Syntax.ttcons Syntax.tnil (Syntax.ttcons Syntax.tnil (Syntax.ttcons (Syntax.tcons (Syntax.tyInt Syntax.w64) Syntax.tnil) (Syntax.ttcons
+      (Syntax.tcons (Syntax.tyInt Syntax.w64) Syntax.tnil) (Syntax.ttcons (Syntax.tcons (Syntax.tyInt Syntax.w64) Syntax.tnil) (Syntax.ttcons Syntax.tnil Syntax.ttnil)))))))))))))))))))))) Syntax.tnil)
+      Syntax.ttnil))),
+) (List._∷_ (1, Rows.sslice (Referent.rtF (Referent.fInt Syntax.w8)) (Syntax.tyRef (Syntax.named 0) Syntax.imm (Syntax.tyInt Syntax.w8)) 0) (List._∷_ (
   2,
-  Rows.any-gone (Syntax.tyStruct (List._∷_ 115 (List._∷_ 116 (List._∷_ 114 (List._∷_ 101 (List._∷_ 97
-      (List._∷_ 109 (List._∷_ 58 (List._∷_ 58 (List._∷_ 70 (List._∷_ 117 (List._∷_ 106 (List._∷_ 105 (List._∷_ 72 (List._∷_ 101 (List._∷_ 97 (List._∷_ 100 (List._∷_ 101 (List._∷_ 114
-      List.[])))))))))))))))))) (Syntax.tcons Syntax.tyBool (Syntax.tcons Syntax.tyBool (Syntax.tcons (Syntax.tyInt Syntax.w32) (Syntax.tcons (Syntax.tyInt Syntax.w32) (Syntax.tcons (Syntax.tyInt
-      Syntax.w32) (Syntax.tcons (Syntax.tyInt Syntax.w32) (Syntax.tcons (Syntax.tyInt Syntax.w32) (Syntax.tcons (Syntax.tyInt Syntax.w32) (Syntax.tcons (Syntax.tyInt Syntax.w32) Syntax.tnil)))))))))),
-)
-    (List._∷_ (3, Rows.sc-here (Row.sInt Syntax.w64)) (List._∷_ (4, Mut.mslice (Referent.rtF (Referent.fInt Syntax.w16)) (Syntax.tyRef (Syntax.named 1) Syntax.mut (Syntax.tyInt Syntax.w16)) 1)
-    (List._∷_ (5, Mut.mslice (Element.type) (Syntax.tyRef (Syntax.named 2) Syntax.mut Element.behind) 2) (List._∷_ (6, Rows.sc-here (Row.sInt Syntax.w64)) (List._∷_ (
-      7,
-      Rows.any-gone (Syntax.tyInt
-          Syntax.w64),
-    ) (List._∷_ (8, Rows.any-gone (Syntax.tyInt Syntax.w64)) (List._∷_ (9, Rows.any-gone Syntax.tyBool) (List._∷_ (
-      10,
-      Rows.any-gone (Syntax.tyEnum (List._∷_ 115 (List._∷_ 116 (List._∷_
-          114 (List._∷_ 101 (List._∷_ 97 (List._∷_ 109 (List._∷_ 58 (List._∷_ 58 (List._∷_ 82 (List._∷_ 101 (List._∷_ 102 (List._∷_ 117 (List._∷_ 115 (List._∷_ 97 (List._∷_ 108 List.[])))))))))))))))
-          (Syntax.ttcons Syntax.tnil (Syntax.ttcons Syntax.tnil (Syntax.ttcons Syntax.tnil (Syntax.ttcons (Syntax.tcons (Syntax.tyInt Syntax.w64) Syntax.tnil) (Syntax.ttcons Syntax.tnil (Syntax.ttcons
-          Syntax.tnil (Syntax.ttcons Syntax.tnil (Syntax.ttcons Syntax.tnil (Syntax.ttcons Syntax.tnil (Syntax.ttcons Syntax.tnil (Syntax.ttcons (Syntax.tcons (Syntax.tyInt Syntax.w64) Syntax.tnil)
-          (Syntax.ttcons (Syntax.tcons (Syntax.tyInt Syntax.w64) Syntax.tnil) (Syntax.ttcons Syntax.tnil (Syntax.ttcons (Syntax.tcons (Syntax.tyInt Syntax.w64) (Syntax.tcons (Syntax.tyInt Syntax.w64)
-          Syntax.tnil)) (Syntax.ttcons (Syntax.tcons (Syntax.tyInt Syntax.w64) Syntax.tnil) (Syntax.ttcons Syntax.tnil Syntax.ttnil))))))))))))))))),
-    ) (List._∷_ (11, Rows.whole (Declared.row Refusal.the-type))
-    (List._∷_ (12, Rows.any-gone Syntax.tyPtr) (List._∷_ (13, Rows.any-gone (Syntax.tyRef Syntax.erased Syntax.mut (Syntax.tyInt Syntax.w16))) (List._∷_ (
-      14,
-      Rows.any-gone (Syntax.tyStruct
-          (List._∷_ 38 (List._∷_ 91 (List._∷_ 93 List.[]))) (Syntax.tcons (Syntax.tyRef Syntax.erased Syntax.mut (Syntax.tyInt Syntax.w16)) (Syntax.tcons (Syntax.tyInt Syntax.w64) Syntax.tnil))),
-    ) (List._∷_
-    (15, Rows.any-gone Syntax.tyPtr) List.[])))))))))))))))
+  Rows.any-gone
+      (Syntax.tyStruct (List._∷_ 115 (List._∷_ 116 (List._∷_ 114 (List._∷_ 101 (List._∷_ 97 (List._∷_ 109 (List._∷_ 58 (List._∷_ 58 (List._∷_ 70 (List._∷_ 117 (List._∷_ 106 (List._∷_ 105 (List._∷_ 72
+      (List._∷_ 101 (List._∷_ 97 (List._∷_ 100 (List._∷_ 101 (List._∷_ 114 List.[])))))))))))))))))) (Syntax.tcons Syntax.tyBool (Syntax.tcons Syntax.tyBool (Syntax.tcons (Syntax.tyInt Syntax.w32)
+      (Syntax.tcons (Syntax.tyInt Syntax.w32) (Syntax.tcons (Syntax.tyInt Syntax.w32) (Syntax.tcons (Syntax.tyInt Syntax.w32) (Syntax.tcons (Syntax.tyInt Syntax.w32) (Syntax.tcons (Syntax.tyInt Syntax.w32)
+      (Syntax.tcons (Syntax.tyInt Syntax.w32) Syntax.tnil)))))))))),
+) (List._∷_ (3, Rows.sc-here (Row.sInt Syntax.w64)) (List._∷_ (
+  4,
+  Mut.mslice (Referent.rtF (Referent.fInt Syntax.w16)) (Syntax.tyRef
+      (Syntax.named 1) Syntax.mut (Syntax.tyInt Syntax.w16)) 1,
+) (List._∷_ (5, Mut.mslice (Element.type) (Syntax.tyRef (Syntax.named 2) Syntax.mut Element.behind) 2) (List._∷_ (
+  6,
+  Rows.sc-here (Row.sInt
+      Syntax.w64),
+) (List._∷_ (7, Rows.any-gone (Syntax.tyInt Syntax.w64)) (List._∷_ (8, Rows.any-gone (Syntax.tyInt Syntax.w64)) (List._∷_ (9, Rows.any-gone Syntax.tyBool) (List._∷_ (
+  10,
+  Rows.any-gone (Syntax.tyEnum (List._∷_ 115 (List._∷_ 116 (List._∷_ 114 (List._∷_ 101 (List._∷_ 97 (List._∷_ 109 (List._∷_ 58 (List._∷_ 58 (List._∷_ 82 (List._∷_ 101 (List._∷_ 102 (List._∷_ 117
+      (List._∷_ 115 (List._∷_ 97 (List._∷_ 108 List.[]))))))))))))))) (Syntax.ttcons Syntax.tnil (Syntax.ttcons Syntax.tnil (Syntax.ttcons Syntax.tnil (Syntax.ttcons (Syntax.tcons (Syntax.tyInt Syntax.w64)
+      Syntax.tnil) (Syntax.ttcons Syntax.tnil (Syntax.ttcons Syntax.tnil (Syntax.ttcons Syntax.tnil (Syntax.ttcons Syntax.tnil (Syntax.ttcons Syntax.tnil (Syntax.ttcons Syntax.tnil (Syntax.ttcons
+      (Syntax.tcons (Syntax.tyInt Syntax.w64) Syntax.tnil) (Syntax.ttcons (Syntax.tcons (Syntax.tyInt Syntax.w64) Syntax.tnil) (Syntax.ttcons Syntax.tnil (Syntax.ttcons (Syntax.tcons (Syntax.tyInt
+      Syntax.w64) (Syntax.tcons (Syntax.tyInt Syntax.w64) Syntax.tnil)) (Syntax.ttcons (Syntax.tcons (Syntax.tyInt Syntax.w64) Syntax.tnil) (Syntax.ttcons Syntax.tnil (Syntax.ttcons Syntax.tnil
+      (Syntax.ttcons (Syntax.tcons (Syntax.tyInt Syntax.w64) Syntax.tnil) (Syntax.ttcons (Syntax.tcons (Syntax.tyInt Syntax.w64) Syntax.tnil) (Syntax.ttcons (Syntax.tcons (Syntax.tyInt Syntax.w64)
+      Syntax.tnil) (Syntax.ttcons Syntax.tnil Syntax.ttnil)))))))))))))))))))))),
+) (List._∷_ (11, Rows.whole (Declared.row Refusal.the-type)) (List._∷_ (12, Rows.any-gone Syntax.tyPtr) (List._∷_ (
+  13,
+  Rows.any-gone (Syntax.tyRef Syntax.erased Syntax.mut (Syntax.tyInt Syntax.w16)),
+) (List._∷_ (
+  14,
+  Rows.any-gone (Syntax.tyStruct (List._∷_ 38 (List._∷_ 91 (List._∷_ 93 List.[]))) (Syntax.tcons
+      (Syntax.tyRef Syntax.erased Syntax.mut (Syntax.tyInt Syntax.w16)) (Syntax.tcons (Syntax.tyInt Syntax.w64) Syntax.tnil))),
+) (List._∷_ (15, Rows.any-gone Syntax.tyPtr) List.[])))))))))))))))
 
 abbrev pub t19 : List.List Row.Entry
 t19 = List._∷_ (0, Rows.whole (Declared.row Decoded.the-type)) (List._∷_ (
@@ -1202,17 +1261,16 @@ t19 = List._∷_ (0, Rows.whole (Declared.row Decoded.the-type)) (List._∷_ (
           (List._∷_ 117 (List._∷_ 115 (List._∷_ 97 (List._∷_ 108 List.[]))))))))))))))) (Syntax.ttcons Syntax.tnil (Syntax.ttcons Syntax.tnil (Syntax.ttcons Syntax.tnil (Syntax.ttcons (Syntax.tcons
           (Syntax.tyInt Syntax.w64) Syntax.tnil) (Syntax.ttcons Syntax.tnil (Syntax.ttcons Syntax.tnil (Syntax.ttcons Syntax.tnil (Syntax.ttcons Syntax.tnil (Syntax.ttcons Syntax.tnil (Syntax.ttcons Syntax.tnil
           (Syntax.ttcons (Syntax.tcons (Syntax.tyInt Syntax.w64) Syntax.tnil) (Syntax.ttcons (Syntax.tcons (Syntax.tyInt Syntax.w64) Syntax.tnil) (Syntax.ttcons Syntax.tnil (Syntax.ttcons (Syntax.tcons
-          (Syntax.tyInt Syntax.w64) (Syntax.tcons (Syntax.tyInt Syntax.w64) Syntax.tnil)) (Syntax.ttcons (Syntax.tcons (Syntax.tyInt Syntax.w64) Syntax.tnil) (Syntax.ttcons Syntax.tnil
-          Syntax.ttnil))))))))))))))))),
-    ) (List._∷_ (11, Rows.whole (Declared.row Refusal.the-type)) (List._∷_ (12, Rows.any-gone Syntax.tyPtr) (List._∷_ (
-      13,
-      Rows.any-gone (Syntax.tyRef Syntax.erased
-          Syntax.mut (Syntax.tyInt Syntax.w16)),
-    ) (List._∷_ (
+          (Syntax.tyInt Syntax.w64) (Syntax.tcons (Syntax.tyInt Syntax.w64) Syntax.tnil)) (Syntax.ttcons (Syntax.tcons (Syntax.tyInt Syntax.w64) Syntax.tnil) (Syntax.ttcons Syntax.tnil (Syntax.ttcons
+          Syntax.tnil (Syntax.ttcons (Syntax.tcons (Syntax.tyInt Syntax.w64) Syntax.tnil) (Syntax.ttcons (Syntax.tcons (Syntax.tyInt Syntax.w64) Syntax.tnil) (Syntax.ttcons (Syntax.tcons (Syntax.tyInt
+          Syntax.w64) Syntax.tnil) (Syntax.ttcons Syntax.tnil Syntax.ttnil)))))))))))))))))))))),
+    ) (List._∷_ (11, Rows.whole (Declared.row Refusal.the-type)) (List._∷_ (12, Rows.any-gone Syntax.tyPtr)
+    (List._∷_ (13, Rows.any-gone (Syntax.tyRef Syntax.erased Syntax.mut (Syntax.tyInt Syntax.w16))) (List._∷_ (
       14,
-      Rows.any-gone (Syntax.tyStruct (List._∷_ 38 (List._∷_ 91 (List._∷_ 93 List.[]))) (Syntax.tcons (Syntax.tyRef Syntax.erased Syntax.mut
-          (Syntax.tyInt Syntax.w16)) (Syntax.tcons (Syntax.tyInt Syntax.w64) Syntax.tnil))),
-    ) (List._∷_ (15, Rows.any-gone Syntax.tyPtr) List.[])))))))))))))))
+      Rows.any-gone (Syntax.tyStruct (List._∷_ 38 (List._∷_ 91 (List._∷_ 93 List.[])))
+          (Syntax.tcons (Syntax.tyRef Syntax.erased Syntax.mut (Syntax.tyInt Syntax.w16)) (Syntax.tcons (Syntax.tyInt Syntax.w64) Syntax.tnil))),
+    ) (List._∷_ (15, Rows.any-gone Syntax.tyPtr)
+    List.[])))))))))))))))
 
 abbrev pub t20 : List.List Row.Entry
 t20 = List._∷_ (
@@ -1223,45 +1281,49 @@ t20 = List._∷_ (
       (Syntax.ttcons Syntax.tnil (Syntax.ttcons Syntax.tnil (Syntax.ttcons (Syntax.tcons (Syntax.tyInt Syntax.w64) Syntax.tnil) (Syntax.ttcons Syntax.tnil (Syntax.ttcons Syntax.tnil (Syntax.ttcons
       Syntax.tnil (Syntax.ttcons Syntax.tnil (Syntax.ttcons Syntax.tnil (Syntax.ttcons Syntax.tnil (Syntax.ttcons (Syntax.tcons (Syntax.tyInt Syntax.w64) Syntax.tnil) (Syntax.ttcons (Syntax.tcons
       (Syntax.tyInt Syntax.w64) Syntax.tnil) (Syntax.ttcons Syntax.tnil (Syntax.ttcons (Syntax.tcons (Syntax.tyInt Syntax.w64) (Syntax.tcons (Syntax.tyInt Syntax.w64) Syntax.tnil)) (Syntax.ttcons
-      (Syntax.tcons (Syntax.tyInt Syntax.w64) Syntax.tnil) (Syntax.ttcons Syntax.tnil Syntax.ttnil))))))))))))))))) Syntax.tnil) Syntax.ttnil))),
+      (Syntax.tcons (Syntax.tyInt Syntax.w64) Syntax.tnil) (Syntax.ttcons Syntax.tnil (Syntax.ttcons Syntax.tnil (Syntax.ttcons (Syntax.tcons (Syntax.tyInt Syntax.w64) Syntax.tnil) (Syntax.ttcons
+      (Syntax.tcons (Syntax.tyInt Syntax.w64) Syntax.tnil) (Syntax.ttcons (Syntax.tcons (Syntax.tyInt Syntax.w64) Syntax.tnil) (Syntax.ttcons Syntax.tnil Syntax.ttnil)))))))))))))))))))))) Syntax.tnil)
+      Syntax.ttnil))),
+) (List._∷_ (1, Rows.sslice (Referent.rtF (Referent.fInt Syntax.w8)) (Syntax.tyRef (Syntax.named 0) Syntax.imm (Syntax.tyInt Syntax.w8)) 0) (List._∷_ (
+  2,
+  Rows.whole (Declared'.row
+      FujiHeader.the-type),
+) (List._∷_ (3, Rows.sc-here (Row.sInt Syntax.w64)) (List._∷_ (
+  4,
+  Mut.mslice (Referent.rtF (Referent.fInt Syntax.w16)) (Syntax.tyRef (Syntax.named 1) Syntax.mut (Syntax.tyInt
+      Syntax.w16)) 1,
+) (List._∷_ (5, Mut.mslice (Element.type) (Syntax.tyRef (Syntax.named 2) Syntax.mut Element.behind) 2) (List._∷_ (6, Rows.sc-here (Row.sInt Syntax.w64)) (List._∷_ (
+  7,
+  Rows.any-gone
+      (Syntax.tyInt Syntax.w64),
+) (List._∷_ (8, Rows.any-gone (Syntax.tyInt Syntax.w64)) (List._∷_ (9, Rows.any-gone Syntax.tyBool) (List._∷_ (
+  10,
+  Rows.any-gone (Syntax.tyEnum (List._∷_ 115 (List._∷_
+      116 (List._∷_ 114 (List._∷_ 101 (List._∷_ 97 (List._∷_ 109 (List._∷_ 58 (List._∷_ 58 (List._∷_ 82 (List._∷_ 101 (List._∷_ 102 (List._∷_ 117 (List._∷_ 115 (List._∷_ 97 (List._∷_ 108
+      List.[]))))))))))))))) (Syntax.ttcons Syntax.tnil (Syntax.ttcons Syntax.tnil (Syntax.ttcons Syntax.tnil (Syntax.ttcons (Syntax.tcons (Syntax.tyInt Syntax.w64) Syntax.tnil) (Syntax.ttcons Syntax.tnil
+      (Syntax.ttcons Syntax.tnil (Syntax.ttcons Syntax.tnil (Syntax.ttcons Syntax.tnil (Syntax.ttcons Syntax.tnil (Syntax.ttcons Syntax.tnil (Syntax.ttcons (Syntax.tcons (Syntax.tyInt Syntax.w64)
+      Syntax.tnil) (Syntax.ttcons (Syntax.tcons (Syntax.tyInt Syntax.w64) Syntax.tnil) (Syntax.ttcons Syntax.tnil (Syntax.ttcons (Syntax.tcons (Syntax.tyInt Syntax.w64) (Syntax.tcons (Syntax.tyInt
+      Syntax.w64) Syntax.tnil)) (Syntax.ttcons (Syntax.tcons (Syntax.tyInt Syntax.w64) Syntax.tnil) (Syntax.ttcons Syntax.tnil (Syntax.ttcons Syntax.tnil (Syntax.ttcons (Syntax.tcons (Syntax.tyInt
+      Syntax.w64) Syntax.tnil) (Syntax.ttcons (Syntax.tcons (Syntax.tyInt Syntax.w64) Syntax.tnil) (Syntax.ttcons (Syntax.tcons (Syntax.tyInt Syntax.w64) Syntax.tnil) (Syntax.ttcons Syntax.tnil
+      Syntax.ttnil)))))))))))))))))))))),
 ) (List._∷_ (
-  1,
-  Rows.sslice (Referent.rtF (Referent.fInt
-      Syntax.w8)) (Syntax.tyRef (Syntax.named 0) Syntax.imm (Syntax.tyInt Syntax.w8)) 0,
-) (List._∷_ (2, Rows.whole (Declared'.row FujiHeader.the-type)) (List._∷_ (3, Rows.sc-here (Row.sInt Syntax.w64))
-    (List._∷_ (4, Mut.mslice (Referent.rtF (Referent.fInt Syntax.w16)) (Syntax.tyRef (Syntax.named 1) Syntax.mut (Syntax.tyInt Syntax.w16)) 1) (List._∷_ (
-      5,
-      Mut.mslice (Element.type) (Syntax.tyRef
-          (Syntax.named 2) Syntax.mut Element.behind) 2,
-    ) (List._∷_ (6, Rows.sc-here (Row.sInt Syntax.w64)) (List._∷_ (7, Rows.any-gone (Syntax.tyInt Syntax.w64)) (List._∷_ (
-      8,
-      Rows.any-gone (Syntax.tyInt
-          Syntax.w64),
-    ) (List._∷_ (9, Rows.any-gone Syntax.tyBool) (List._∷_ (
-      10,
-      Rows.any-gone (Syntax.tyEnum (List._∷_ 115 (List._∷_ 116 (List._∷_ 114 (List._∷_ 101 (List._∷_ 97 (List._∷_ 109 (List._∷_ 58
-          (List._∷_ 58 (List._∷_ 82 (List._∷_ 101 (List._∷_ 102 (List._∷_ 117 (List._∷_ 115 (List._∷_ 97 (List._∷_ 108 List.[]))))))))))))))) (Syntax.ttcons Syntax.tnil (Syntax.ttcons Syntax.tnil (Syntax.ttcons
-          Syntax.tnil (Syntax.ttcons (Syntax.tcons (Syntax.tyInt Syntax.w64) Syntax.tnil) (Syntax.ttcons Syntax.tnil (Syntax.ttcons Syntax.tnil (Syntax.ttcons Syntax.tnil (Syntax.ttcons Syntax.tnil
-          (Syntax.ttcons Syntax.tnil (Syntax.ttcons Syntax.tnil (Syntax.ttcons (Syntax.tcons (Syntax.tyInt Syntax.w64) Syntax.tnil) (Syntax.ttcons (Syntax.tcons (Syntax.tyInt Syntax.w64) Syntax.tnil)
-          (Syntax.ttcons Syntax.tnil (Syntax.ttcons (Syntax.tcons (Syntax.tyInt Syntax.w64) (Syntax.tcons (Syntax.tyInt Syntax.w64) Syntax.tnil)) (Syntax.ttcons (Syntax.tcons (Syntax.tyInt Syntax.w64)
-          Syntax.tnil) (Syntax.ttcons Syntax.tnil Syntax.ttnil))))))))))))))))),
-    ) (List._∷_ (
-      11,
-      Rows.any-gone (Syntax.tyEnum (List._∷_ 115 (List._∷_ 116 (List._∷_ 114 (List._∷_ 101 (List._∷_ 97 (List._∷_ 109
-          (List._∷_ 58 (List._∷_ 58 (List._∷_ 82 (List._∷_ 101 (List._∷_ 102 (List._∷_ 117 (List._∷_ 115 (List._∷_ 97 (List._∷_ 108 List.[]))))))))))))))) (Syntax.ttcons Syntax.tnil (Syntax.ttcons Syntax.tnil
-          (Syntax.ttcons Syntax.tnil (Syntax.ttcons (Syntax.tcons (Syntax.tyInt Syntax.w64) Syntax.tnil) (Syntax.ttcons Syntax.tnil (Syntax.ttcons Syntax.tnil (Syntax.ttcons Syntax.tnil (Syntax.ttcons
-          Syntax.tnil (Syntax.ttcons Syntax.tnil (Syntax.ttcons Syntax.tnil (Syntax.ttcons (Syntax.tcons (Syntax.tyInt Syntax.w64) Syntax.tnil) (Syntax.ttcons (Syntax.tcons (Syntax.tyInt Syntax.w64)
-          Syntax.tnil) (Syntax.ttcons Syntax.tnil (Syntax.ttcons (Syntax.tcons (Syntax.tyInt Syntax.w64) (Syntax.tcons (Syntax.tyInt Syntax.w64) Syntax.tnil)) (Syntax.ttcons (Syntax.tcons (Syntax.tyInt
-          Syntax.w64) Syntax.tnil) (Syntax.ttcons Syntax.tnil Syntax.ttnil))))))))))))))))),
-    ) (List._∷_ (12, Rows.sc-here Row.sPtr) (List._∷_ (
-      13,
-      Rows.any-gone (Syntax.tyRef Syntax.erased Syntax.mut
-          (Syntax.tyInt Syntax.w16)),
-    ) (List._∷_ (
-      14,
-      Rows.any-gone (Syntax.tyStruct (List._∷_ 38 (List._∷_ 91 (List._∷_ 93 List.[]))) (Syntax.tcons (Syntax.tyRef Syntax.erased Syntax.mut (Syntax.tyInt
-          Syntax.w16)) (Syntax.tcons (Syntax.tyInt Syntax.w64) Syntax.tnil))),
-    ) (List._∷_ (15, Rows.any-gone Syntax.tyPtr) List.[])))))))))))))))
+  11,
+  Rows.any-gone (Syntax.tyEnum (List._∷_ 115 (List._∷_ 116 (List._∷_ 114 (List._∷_ 101 (List._∷_ 97 (List._∷_ 109 (List._∷_ 58 (List._∷_ 58
+      (List._∷_ 82 (List._∷_ 101 (List._∷_ 102 (List._∷_ 117 (List._∷_ 115 (List._∷_ 97 (List._∷_ 108 List.[]))))))))))))))) (Syntax.ttcons Syntax.tnil (Syntax.ttcons Syntax.tnil (Syntax.ttcons Syntax.tnil
+      (Syntax.ttcons (Syntax.tcons (Syntax.tyInt Syntax.w64) Syntax.tnil) (Syntax.ttcons Syntax.tnil (Syntax.ttcons Syntax.tnil (Syntax.ttcons Syntax.tnil (Syntax.ttcons Syntax.tnil (Syntax.ttcons
+      Syntax.tnil (Syntax.ttcons Syntax.tnil (Syntax.ttcons (Syntax.tcons (Syntax.tyInt Syntax.w64) Syntax.tnil) (Syntax.ttcons (Syntax.tcons (Syntax.tyInt Syntax.w64) Syntax.tnil) (Syntax.ttcons
+      Syntax.tnil (Syntax.ttcons (Syntax.tcons (Syntax.tyInt Syntax.w64) (Syntax.tcons (Syntax.tyInt Syntax.w64) Syntax.tnil)) (Syntax.ttcons (Syntax.tcons (Syntax.tyInt Syntax.w64) Syntax.tnil)
+      (Syntax.ttcons Syntax.tnil (Syntax.ttcons Syntax.tnil (Syntax.ttcons (Syntax.tcons (Syntax.tyInt Syntax.w64) Syntax.tnil) (Syntax.ttcons (Syntax.tcons (Syntax.tyInt Syntax.w64) Syntax.tnil)
+      (Syntax.ttcons (Syntax.tcons (Syntax.tyInt Syntax.w64) Syntax.tnil) (Syntax.ttcons Syntax.tnil Syntax.ttnil)))))))))))))))))))))),
+) (List._∷_ (12, Rows.sc-here Row.sPtr) (List._∷_ (
+  13,
+  Rows.any-gone
+      (Syntax.tyRef Syntax.erased Syntax.mut (Syntax.tyInt Syntax.w16)),
+) (List._∷_ (
+  14,
+  Rows.any-gone (Syntax.tyStruct (List._∷_ 38 (List._∷_ 91 (List._∷_ 93 List.[]))) (Syntax.tcons (Syntax.tyRef
+      Syntax.erased Syntax.mut (Syntax.tyInt Syntax.w16)) (Syntax.tcons (Syntax.tyInt Syntax.w64) Syntax.tnil))),
+) (List._∷_ (15, Rows.any-gone Syntax.tyPtr) List.[])))))))))))))))
 
 abbrev pub t21 : List.List Row.Entry
 t21 = List._∷_ (
@@ -1272,45 +1334,49 @@ t21 = List._∷_ (
       (Syntax.ttcons Syntax.tnil (Syntax.ttcons Syntax.tnil (Syntax.ttcons (Syntax.tcons (Syntax.tyInt Syntax.w64) Syntax.tnil) (Syntax.ttcons Syntax.tnil (Syntax.ttcons Syntax.tnil (Syntax.ttcons
       Syntax.tnil (Syntax.ttcons Syntax.tnil (Syntax.ttcons Syntax.tnil (Syntax.ttcons Syntax.tnil (Syntax.ttcons (Syntax.tcons (Syntax.tyInt Syntax.w64) Syntax.tnil) (Syntax.ttcons (Syntax.tcons
       (Syntax.tyInt Syntax.w64) Syntax.tnil) (Syntax.ttcons Syntax.tnil (Syntax.ttcons (Syntax.tcons (Syntax.tyInt Syntax.w64) (Syntax.tcons (Syntax.tyInt Syntax.w64) Syntax.tnil)) (Syntax.ttcons
-      (Syntax.tcons (Syntax.tyInt Syntax.w64) Syntax.tnil) (Syntax.ttcons Syntax.tnil Syntax.ttnil))))))))))))))))) Syntax.tnil) Syntax.ttnil))),
+      (Syntax.tcons (Syntax.tyInt Syntax.w64) Syntax.tnil) (Syntax.ttcons Syntax.tnil (Syntax.ttcons Syntax.tnil (Syntax.ttcons (Syntax.tcons (Syntax.tyInt Syntax.w64) Syntax.tnil) (Syntax.ttcons
+      (Syntax.tcons (Syntax.tyInt Syntax.w64) Syntax.tnil) (Syntax.ttcons (Syntax.tcons (Syntax.tyInt Syntax.w64) Syntax.tnil) (Syntax.ttcons Syntax.tnil Syntax.ttnil)))))))))))))))))))))) Syntax.tnil)
+      Syntax.ttnil))),
+) (List._∷_ (1, Rows.sslice (Referent.rtF (Referent.fInt Syntax.w8)) (Syntax.tyRef (Syntax.named 0) Syntax.imm (Syntax.tyInt Syntax.w8)) 0) (List._∷_ (
+  2,
+  Rows.whole (Declared'.row
+      FujiHeader.the-type),
+) (List._∷_ (3, Rows.sc-here (Row.sInt Syntax.w64)) (List._∷_ (
+  4,
+  Mut.mslice (Referent.rtF (Referent.fInt Syntax.w16)) (Syntax.tyRef (Syntax.named 1) Syntax.mut (Syntax.tyInt
+      Syntax.w16)) 1,
+) (List._∷_ (5, Mut.mslice (Element.type) (Syntax.tyRef (Syntax.named 2) Syntax.mut Element.behind) 2) (List._∷_ (6, Rows.sc-here (Row.sInt Syntax.w64)) (List._∷_ (
+  7,
+  Rows.sc-here
+      (Row.sInt Syntax.w64),
+) (List._∷_ (8, Rows.any-gone (Syntax.tyInt Syntax.w64)) (List._∷_ (9, Rows.any-gone Syntax.tyBool) (List._∷_ (
+  10,
+  Rows.any-gone (Syntax.tyEnum (List._∷_ 115 (List._∷_ 116
+      (List._∷_ 114 (List._∷_ 101 (List._∷_ 97 (List._∷_ 109 (List._∷_ 58 (List._∷_ 58 (List._∷_ 82 (List._∷_ 101 (List._∷_ 102 (List._∷_ 117 (List._∷_ 115 (List._∷_ 97 (List._∷_ 108 List.[])))))))))))))))
+      (Syntax.ttcons Syntax.tnil (Syntax.ttcons Syntax.tnil (Syntax.ttcons Syntax.tnil (Syntax.ttcons (Syntax.tcons (Syntax.tyInt Syntax.w64) Syntax.tnil) (Syntax.ttcons Syntax.tnil (Syntax.ttcons
+      Syntax.tnil (Syntax.ttcons Syntax.tnil (Syntax.ttcons Syntax.tnil (Syntax.ttcons Syntax.tnil (Syntax.ttcons Syntax.tnil (Syntax.ttcons (Syntax.tcons (Syntax.tyInt Syntax.w64) Syntax.tnil)
+      (Syntax.ttcons (Syntax.tcons (Syntax.tyInt Syntax.w64) Syntax.tnil) (Syntax.ttcons Syntax.tnil (Syntax.ttcons (Syntax.tcons (Syntax.tyInt Syntax.w64) (Syntax.tcons (Syntax.tyInt Syntax.w64)
+      Syntax.tnil)) (Syntax.ttcons (Syntax.tcons (Syntax.tyInt Syntax.w64) Syntax.tnil) (Syntax.ttcons Syntax.tnil (Syntax.ttcons Syntax.tnil (Syntax.ttcons (Syntax.tcons (Syntax.tyInt Syntax.w64)
+      Syntax.tnil) (Syntax.ttcons (Syntax.tcons (Syntax.tyInt Syntax.w64) Syntax.tnil) (Syntax.ttcons (Syntax.tcons (Syntax.tyInt Syntax.w64) Syntax.tnil) (Syntax.ttcons Syntax.tnil
+      Syntax.ttnil)))))))))))))))))))))),
 ) (List._∷_ (
-  1,
-  Rows.sslice (Referent.rtF (Referent.fInt
-      Syntax.w8)) (Syntax.tyRef (Syntax.named 0) Syntax.imm (Syntax.tyInt Syntax.w8)) 0,
-) (List._∷_ (2, Rows.whole (Declared'.row FujiHeader.the-type)) (List._∷_ (3, Rows.sc-here (Row.sInt Syntax.w64))
-    (List._∷_ (4, Mut.mslice (Referent.rtF (Referent.fInt Syntax.w16)) (Syntax.tyRef (Syntax.named 1) Syntax.mut (Syntax.tyInt Syntax.w16)) 1) (List._∷_ (
-      5,
-      Mut.mslice (Element.type) (Syntax.tyRef
-          (Syntax.named 2) Syntax.mut Element.behind) 2,
-    ) (List._∷_ (6, Rows.sc-here (Row.sInt Syntax.w64)) (List._∷_ (7, Rows.sc-here (Row.sInt Syntax.w64)) (List._∷_ (
-      8,
-      Rows.any-gone (Syntax.tyInt
-          Syntax.w64),
-    ) (List._∷_ (9, Rows.any-gone Syntax.tyBool) (List._∷_ (
-      10,
-      Rows.any-gone (Syntax.tyEnum (List._∷_ 115 (List._∷_ 116 (List._∷_ 114 (List._∷_ 101 (List._∷_ 97 (List._∷_ 109 (List._∷_ 58
-          (List._∷_ 58 (List._∷_ 82 (List._∷_ 101 (List._∷_ 102 (List._∷_ 117 (List._∷_ 115 (List._∷_ 97 (List._∷_ 108 List.[]))))))))))))))) (Syntax.ttcons Syntax.tnil (Syntax.ttcons Syntax.tnil (Syntax.ttcons
-          Syntax.tnil (Syntax.ttcons (Syntax.tcons (Syntax.tyInt Syntax.w64) Syntax.tnil) (Syntax.ttcons Syntax.tnil (Syntax.ttcons Syntax.tnil (Syntax.ttcons Syntax.tnil (Syntax.ttcons Syntax.tnil
-          (Syntax.ttcons Syntax.tnil (Syntax.ttcons Syntax.tnil (Syntax.ttcons (Syntax.tcons (Syntax.tyInt Syntax.w64) Syntax.tnil) (Syntax.ttcons (Syntax.tcons (Syntax.tyInt Syntax.w64) Syntax.tnil)
-          (Syntax.ttcons Syntax.tnil (Syntax.ttcons (Syntax.tcons (Syntax.tyInt Syntax.w64) (Syntax.tcons (Syntax.tyInt Syntax.w64) Syntax.tnil)) (Syntax.ttcons (Syntax.tcons (Syntax.tyInt Syntax.w64)
-          Syntax.tnil) (Syntax.ttcons Syntax.tnil Syntax.ttnil))))))))))))))))),
-    ) (List._∷_ (
-      11,
-      Rows.any-gone (Syntax.tyEnum (List._∷_ 115 (List._∷_ 116 (List._∷_ 114 (List._∷_ 101 (List._∷_ 97 (List._∷_ 109
-          (List._∷_ 58 (List._∷_ 58 (List._∷_ 82 (List._∷_ 101 (List._∷_ 102 (List._∷_ 117 (List._∷_ 115 (List._∷_ 97 (List._∷_ 108 List.[]))))))))))))))) (Syntax.ttcons Syntax.tnil (Syntax.ttcons Syntax.tnil
-          (Syntax.ttcons Syntax.tnil (Syntax.ttcons (Syntax.tcons (Syntax.tyInt Syntax.w64) Syntax.tnil) (Syntax.ttcons Syntax.tnil (Syntax.ttcons Syntax.tnil (Syntax.ttcons Syntax.tnil (Syntax.ttcons
-          Syntax.tnil (Syntax.ttcons Syntax.tnil (Syntax.ttcons Syntax.tnil (Syntax.ttcons (Syntax.tcons (Syntax.tyInt Syntax.w64) Syntax.tnil) (Syntax.ttcons (Syntax.tcons (Syntax.tyInt Syntax.w64)
-          Syntax.tnil) (Syntax.ttcons Syntax.tnil (Syntax.ttcons (Syntax.tcons (Syntax.tyInt Syntax.w64) (Syntax.tcons (Syntax.tyInt Syntax.w64) Syntax.tnil)) (Syntax.ttcons (Syntax.tcons (Syntax.tyInt
-          Syntax.w64) Syntax.tnil) (Syntax.ttcons Syntax.tnil Syntax.ttnil))))))))))))))))),
-    ) (List._∷_ (12, Rows.sc-here Row.sPtr) (List._∷_ (
-      13,
-      Rows.any-gone (Syntax.tyRef Syntax.erased Syntax.mut
-          (Syntax.tyInt Syntax.w16)),
-    ) (List._∷_ (
-      14,
-      Rows.any-gone (Syntax.tyStruct (List._∷_ 38 (List._∷_ 91 (List._∷_ 93 List.[]))) (Syntax.tcons (Syntax.tyRef Syntax.erased Syntax.mut (Syntax.tyInt
-          Syntax.w16)) (Syntax.tcons (Syntax.tyInt Syntax.w64) Syntax.tnil))),
-    ) (List._∷_ (15, Rows.any-gone Syntax.tyPtr) List.[])))))))))))))))
+  11,
+  Rows.any-gone (Syntax.tyEnum (List._∷_ 115 (List._∷_ 116 (List._∷_ 114 (List._∷_ 101 (List._∷_ 97 (List._∷_ 109 (List._∷_ 58 (List._∷_ 58
+      (List._∷_ 82 (List._∷_ 101 (List._∷_ 102 (List._∷_ 117 (List._∷_ 115 (List._∷_ 97 (List._∷_ 108 List.[]))))))))))))))) (Syntax.ttcons Syntax.tnil (Syntax.ttcons Syntax.tnil (Syntax.ttcons Syntax.tnil
+      (Syntax.ttcons (Syntax.tcons (Syntax.tyInt Syntax.w64) Syntax.tnil) (Syntax.ttcons Syntax.tnil (Syntax.ttcons Syntax.tnil (Syntax.ttcons Syntax.tnil (Syntax.ttcons Syntax.tnil (Syntax.ttcons
+      Syntax.tnil (Syntax.ttcons Syntax.tnil (Syntax.ttcons (Syntax.tcons (Syntax.tyInt Syntax.w64) Syntax.tnil) (Syntax.ttcons (Syntax.tcons (Syntax.tyInt Syntax.w64) Syntax.tnil) (Syntax.ttcons
+      Syntax.tnil (Syntax.ttcons (Syntax.tcons (Syntax.tyInt Syntax.w64) (Syntax.tcons (Syntax.tyInt Syntax.w64) Syntax.tnil)) (Syntax.ttcons (Syntax.tcons (Syntax.tyInt Syntax.w64) Syntax.tnil)
+      (Syntax.ttcons Syntax.tnil (Syntax.ttcons Syntax.tnil (Syntax.ttcons (Syntax.tcons (Syntax.tyInt Syntax.w64) Syntax.tnil) (Syntax.ttcons (Syntax.tcons (Syntax.tyInt Syntax.w64) Syntax.tnil)
+      (Syntax.ttcons (Syntax.tcons (Syntax.tyInt Syntax.w64) Syntax.tnil) (Syntax.ttcons Syntax.tnil Syntax.ttnil)))))))))))))))))))))),
+) (List._∷_ (12, Rows.sc-here Row.sPtr) (List._∷_ (
+  13,
+  Rows.any-gone
+      (Syntax.tyRef Syntax.erased Syntax.mut (Syntax.tyInt Syntax.w16)),
+) (List._∷_ (
+  14,
+  Rows.any-gone (Syntax.tyStruct (List._∷_ 38 (List._∷_ 91 (List._∷_ 93 List.[]))) (Syntax.tcons (Syntax.tyRef
+      Syntax.erased Syntax.mut (Syntax.tyInt Syntax.w16)) (Syntax.tcons (Syntax.tyInt Syntax.w64) Syntax.tnil))),
+) (List._∷_ (15, Rows.any-gone Syntax.tyPtr) List.[])))))))))))))))
 
 abbrev pub t22 : List.List Row.Entry
 t22 = List._∷_ (
@@ -1321,45 +1387,49 @@ t22 = List._∷_ (
       (Syntax.ttcons Syntax.tnil (Syntax.ttcons Syntax.tnil (Syntax.ttcons (Syntax.tcons (Syntax.tyInt Syntax.w64) Syntax.tnil) (Syntax.ttcons Syntax.tnil (Syntax.ttcons Syntax.tnil (Syntax.ttcons
       Syntax.tnil (Syntax.ttcons Syntax.tnil (Syntax.ttcons Syntax.tnil (Syntax.ttcons Syntax.tnil (Syntax.ttcons (Syntax.tcons (Syntax.tyInt Syntax.w64) Syntax.tnil) (Syntax.ttcons (Syntax.tcons
       (Syntax.tyInt Syntax.w64) Syntax.tnil) (Syntax.ttcons Syntax.tnil (Syntax.ttcons (Syntax.tcons (Syntax.tyInt Syntax.w64) (Syntax.tcons (Syntax.tyInt Syntax.w64) Syntax.tnil)) (Syntax.ttcons
-      (Syntax.tcons (Syntax.tyInt Syntax.w64) Syntax.tnil) (Syntax.ttcons Syntax.tnil Syntax.ttnil))))))))))))))))) Syntax.tnil) Syntax.ttnil))),
-) (List._∷_ (
-  1,
-  Rows.sslice (Referent.rtF (Referent.fInt
-      Syntax.w8)) (Syntax.tyRef (Syntax.named 0) Syntax.imm (Syntax.tyInt Syntax.w8)) 0,
-) (List._∷_ (2, Rows.whole (Declared'.row FujiHeader.the-type)) (List._∷_ (3, Rows.sc-here (Row.sInt Syntax.w64))
-    (List._∷_ (4, PartMut.mslice-owedM (Referent.rtF (Referent.fInt Syntax.w16)) (Syntax.tyRef (Syntax.named 1) Syntax.mut (Syntax.tyInt Syntax.w16)) 1 3 Row.off) (List._∷_ (
-      5,
-      Mut.mslice
-          (Element.type) (Syntax.tyRef (Syntax.named 2) Syntax.mut Element.behind) 2,
-    ) (List._∷_ (6, Rows.sc-here (Row.sInt Syntax.w64)) (List._∷_ (7, Rows.sc-here (Row.sInt Syntax.w64)) (List._∷_ (
-      8,
-      Rows.any-gone (Syntax.tyInt Syntax.w64),
-    ) (List._∷_ (9, Rows.any-gone Syntax.tyBool) (List._∷_ (
+      (Syntax.tcons (Syntax.tyInt Syntax.w64) Syntax.tnil) (Syntax.ttcons Syntax.tnil (Syntax.ttcons Syntax.tnil (Syntax.ttcons (Syntax.tcons (Syntax.tyInt Syntax.w64) Syntax.tnil) (Syntax.ttcons
+      (Syntax.tcons (Syntax.tyInt Syntax.w64) Syntax.tnil) (Syntax.ttcons (Syntax.tcons (Syntax.tyInt Syntax.w64) Syntax.tnil) (Syntax.ttcons Syntax.tnil Syntax.ttnil)))))))))))))))))))))) Syntax.tnil)
+      Syntax.ttnil))),
+) (List._∷_ (1, Rows.sslice (Referent.rtF (Referent.fInt Syntax.w8)) (Syntax.tyRef (Syntax.named 0) Syntax.imm (Syntax.tyInt Syntax.w8)) 0) (List._∷_ (
+  2,
+  Rows.whole (Declared'.row
+      FujiHeader.the-type),
+) (List._∷_ (3, Rows.sc-here (Row.sInt Syntax.w64)) (List._∷_ (
+  4,
+  PartMut.mslice-owedM (Referent.rtF (Referent.fInt Syntax.w16)) (Syntax.tyRef (Syntax.named 1) Syntax.mut
+      (Syntax.tyInt Syntax.w16)) 1 3 Row.off,
+) (List._∷_ (5, Mut.mslice (Element.type) (Syntax.tyRef (Syntax.named 2) Syntax.mut Element.behind) 2) (List._∷_ (6, Rows.sc-here (Row.sInt Syntax.w64))
+    (List._∷_ (7, Rows.sc-here (Row.sInt Syntax.w64)) (List._∷_ (8, Rows.any-gone (Syntax.tyInt Syntax.w64)) (List._∷_ (9, Rows.any-gone Syntax.tyBool) (List._∷_ (
       10,
-      Rows.any-gone (Syntax.tyEnum (List._∷_ 115 (List._∷_ 116 (List._∷_ 114 (List._∷_ 101 (List._∷_ 97
-          (List._∷_ 109 (List._∷_ 58 (List._∷_ 58 (List._∷_ 82 (List._∷_ 101 (List._∷_ 102 (List._∷_ 117 (List._∷_ 115 (List._∷_ 97 (List._∷_ 108 List.[]))))))))))))))) (Syntax.ttcons Syntax.tnil (Syntax.ttcons
-          Syntax.tnil (Syntax.ttcons Syntax.tnil (Syntax.ttcons (Syntax.tcons (Syntax.tyInt Syntax.w64) Syntax.tnil) (Syntax.ttcons Syntax.tnil (Syntax.ttcons Syntax.tnil (Syntax.ttcons Syntax.tnil
-          (Syntax.ttcons Syntax.tnil (Syntax.ttcons Syntax.tnil (Syntax.ttcons Syntax.tnil (Syntax.ttcons (Syntax.tcons (Syntax.tyInt Syntax.w64) Syntax.tnil) (Syntax.ttcons (Syntax.tcons (Syntax.tyInt
-          Syntax.w64) Syntax.tnil) (Syntax.ttcons Syntax.tnil (Syntax.ttcons (Syntax.tcons (Syntax.tyInt Syntax.w64) (Syntax.tcons (Syntax.tyInt Syntax.w64) Syntax.tnil)) (Syntax.ttcons (Syntax.tcons
-          (Syntax.tyInt Syntax.w64) Syntax.tnil) (Syntax.ttcons Syntax.tnil Syntax.ttnil))))))))))))))))),
+      Rows.any-gone (Syntax.tyEnum
+          (List._∷_ 115 (List._∷_ 116 (List._∷_ 114 (List._∷_ 101 (List._∷_ 97 (List._∷_ 109 (List._∷_ 58 (List._∷_ 58 (List._∷_ 82 (List._∷_ 101 (List._∷_ 102 (List._∷_ 117 (List._∷_ 115 (List._∷_ 97 (List._∷_
+          108 List.[]))))))))))))))) (Syntax.ttcons Syntax.tnil (Syntax.ttcons Syntax.tnil (Syntax.ttcons Syntax.tnil (Syntax.ttcons (Syntax.tcons (Syntax.tyInt Syntax.w64) Syntax.tnil) (Syntax.ttcons
+          Syntax.tnil (Syntax.ttcons Syntax.tnil (Syntax.ttcons Syntax.tnil (Syntax.ttcons Syntax.tnil (Syntax.ttcons Syntax.tnil (Syntax.ttcons Syntax.tnil (Syntax.ttcons (Syntax.tcons (Syntax.tyInt
+          Syntax.w64) Syntax.tnil) (Syntax.ttcons (Syntax.tcons (Syntax.tyInt Syntax.w64) Syntax.tnil) (Syntax.ttcons Syntax.tnil (Syntax.ttcons (Syntax.tcons (Syntax.tyInt Syntax.w64) (Syntax.tcons
+          (Syntax.tyInt Syntax.w64) Syntax.tnil)) (Syntax.ttcons (Syntax.tcons (Syntax.tyInt Syntax.w64) Syntax.tnil) (Syntax.ttcons Syntax.tnil (Syntax.ttcons Syntax.tnil (Syntax.ttcons (Syntax.tcons
+          (Syntax.tyInt Syntax.w64) Syntax.tnil) (Syntax.ttcons (Syntax.tcons (Syntax.tyInt Syntax.w64) Syntax.tnil) (Syntax.ttcons (Syntax.tcons (Syntax.tyInt Syntax.w64) Syntax.tnil) (Syntax.ttcons
+          Syntax.tnil Syntax.ttnil)))))))))))))))))))))),
     ) (List._∷_ (
       11,
-      Rows.any-gone (Syntax.tyEnum (List._∷_ 115 (List._∷_ 116 (List._∷_ 114 (List._∷_ 101
-          (List._∷_ 97 (List._∷_ 109 (List._∷_ 58 (List._∷_ 58 (List._∷_ 82 (List._∷_ 101 (List._∷_ 102 (List._∷_ 117 (List._∷_ 115 (List._∷_ 97 (List._∷_ 108 List.[]))))))))))))))) (Syntax.ttcons Syntax.tnil
-          (Syntax.ttcons Syntax.tnil (Syntax.ttcons Syntax.tnil (Syntax.ttcons (Syntax.tcons (Syntax.tyInt Syntax.w64) Syntax.tnil) (Syntax.ttcons Syntax.tnil (Syntax.ttcons Syntax.tnil (Syntax.ttcons
-          Syntax.tnil (Syntax.ttcons Syntax.tnil (Syntax.ttcons Syntax.tnil (Syntax.ttcons Syntax.tnil (Syntax.ttcons (Syntax.tcons (Syntax.tyInt Syntax.w64) Syntax.tnil) (Syntax.ttcons (Syntax.tcons
-          (Syntax.tyInt Syntax.w64) Syntax.tnil) (Syntax.ttcons Syntax.tnil (Syntax.ttcons (Syntax.tcons (Syntax.tyInt Syntax.w64) (Syntax.tcons (Syntax.tyInt Syntax.w64) Syntax.tnil)) (Syntax.ttcons
-          (Syntax.tcons (Syntax.tyInt Syntax.w64) Syntax.tnil) (Syntax.ttcons Syntax.tnil Syntax.ttnil))))))))))))))))),
+      Rows.any-gone (Syntax.tyEnum (List._∷_ 115 (List._∷_ 116 (List._∷_ 114 (List._∷_ 101 (List._∷_ 97 (List._∷_ 109 (List._∷_ 58 (List._∷_
+          58 (List._∷_ 82 (List._∷_ 101 (List._∷_ 102 (List._∷_ 117 (List._∷_ 115 (List._∷_ 97 (List._∷_ 108 List.[]))))))))))))))) (Syntax.ttcons Syntax.tnil (Syntax.ttcons Syntax.tnil (Syntax.ttcons
+          Syntax.tnil (Syntax.ttcons (Syntax.tcons (Syntax.tyInt Syntax.w64) Syntax.tnil) (Syntax.ttcons Syntax.tnil (Syntax.ttcons Syntax.tnil (Syntax.ttcons Syntax.tnil (Syntax.ttcons Syntax.tnil
+          (Syntax.ttcons Syntax.tnil (Syntax.ttcons Syntax.tnil (Syntax.ttcons (Syntax.tcons (Syntax.tyInt Syntax.w64) Syntax.tnil) (Syntax.ttcons (Syntax.tcons (Syntax.tyInt Syntax.w64) Syntax.tnil)
+          (Syntax.ttcons Syntax.tnil (Syntax.ttcons (Syntax.tcons (Syntax.tyInt Syntax.w64) (Syntax.tcons (Syntax.tyInt Syntax.w64) Syntax.tnil)) (Syntax.ttcons (Syntax.tcons (Syntax.tyInt Syntax.w64)
+          Syntax.tnil) (Syntax.ttcons Syntax.tnil (Syntax.ttcons Syntax.tnil (Syntax.ttcons (Syntax.tcons (Syntax.tyInt Syntax.w64) Syntax.tnil) (Syntax.ttcons (Syntax.tcons (Syntax.tyInt Syntax.w64)
+          Syntax.tnil) (Syntax.ttcons (Syntax.tcons (Syntax.tyInt Syntax.w64) Syntax.tnil) (Syntax.ttcons Syntax.tnil Syntax.ttnil)))))))))))))))))))))),
     ) (List._∷_ (12, Rows.sc-here Row.sPtr) (List._∷_ (
       13,
-      Relend.msptr (Referent.rtF
-          (Referent.fInt Syntax.w16)) (Syntax.tyRef Syntax.erased Syntax.mut (Syntax.tyInt Syntax.w16)) 3,
+      Relend.msptr (Referent.rtF (Referent.fInt Syntax.w16)) (Syntax.tyRef Syntax.erased Syntax.mut (Syntax.tyInt Syntax.w16)) 3,
     ) (List._∷_ (
       14,
-      Rows.any-gone (Syntax.tyStruct (List._∷_ 38 (List._∷_ 91 (List._∷_ 93 List.[])))
-          (Syntax.tcons (Syntax.tyRef Syntax.erased Syntax.mut (Syntax.tyInt Syntax.w16)) (Syntax.tcons (Syntax.tyInt Syntax.w64) Syntax.tnil))),
-    ) (List._∷_ (15, Rows.any-gone Syntax.tyPtr)
-    List.[])))))))))))))))
+      Rows.any-gone (Syntax.tyStruct (List._∷_ 38 (List._∷_ 91
+          (List._∷_ 93 List.[]))) (Syntax.tcons (Syntax.tyRef Syntax.erased Syntax.mut (Syntax.tyInt Syntax.w16)) (Syntax.tcons (Syntax.tyInt Syntax.w64) Syntax.tnil))),
+    ) (List._∷_ (
+      15,
+      Rows.any-gone
+          Syntax.tyPtr,
+    ) List.[])))))))))))))))
 
 abbrev pub t23 : List.List Row.Entry
 t23 = List._∷_ (
@@ -1370,45 +1440,49 @@ t23 = List._∷_ (
       (Syntax.ttcons Syntax.tnil (Syntax.ttcons Syntax.tnil (Syntax.ttcons (Syntax.tcons (Syntax.tyInt Syntax.w64) Syntax.tnil) (Syntax.ttcons Syntax.tnil (Syntax.ttcons Syntax.tnil (Syntax.ttcons
       Syntax.tnil (Syntax.ttcons Syntax.tnil (Syntax.ttcons Syntax.tnil (Syntax.ttcons Syntax.tnil (Syntax.ttcons (Syntax.tcons (Syntax.tyInt Syntax.w64) Syntax.tnil) (Syntax.ttcons (Syntax.tcons
       (Syntax.tyInt Syntax.w64) Syntax.tnil) (Syntax.ttcons Syntax.tnil (Syntax.ttcons (Syntax.tcons (Syntax.tyInt Syntax.w64) (Syntax.tcons (Syntax.tyInt Syntax.w64) Syntax.tnil)) (Syntax.ttcons
-      (Syntax.tcons (Syntax.tyInt Syntax.w64) Syntax.tnil) (Syntax.ttcons Syntax.tnil Syntax.ttnil))))))))))))))))) Syntax.tnil) Syntax.ttnil))),
-) (List._∷_ (
-  1,
-  Rows.sslice (Referent.rtF (Referent.fInt
-      Syntax.w8)) (Syntax.tyRef (Syntax.named 0) Syntax.imm (Syntax.tyInt Syntax.w8)) 0,
-) (List._∷_ (2, Rows.whole (Declared'.row FujiHeader.the-type)) (List._∷_ (3, Rows.sc-here (Row.sInt Syntax.w64))
-    (List._∷_ (4, PartMut.mslice-owedM (Referent.rtF (Referent.fInt Syntax.w16)) (Syntax.tyRef (Syntax.named 1) Syntax.mut (Syntax.tyInt Syntax.w16)) 1 3 Row.off) (List._∷_ (
-      5,
-      Mut.mslice
-          (Element.type) (Syntax.tyRef (Syntax.named 2) Syntax.mut Element.behind) 2,
-    ) (List._∷_ (6, Rows.sc-here (Row.sInt Syntax.w64)) (List._∷_ (7, Rows.sc-here (Row.sInt Syntax.w64)) (List._∷_ (
-      8,
-      Rows.any-gone (Syntax.tyInt Syntax.w64),
-    ) (List._∷_ (9, Rows.any-gone Syntax.tyBool) (List._∷_ (
+      (Syntax.tcons (Syntax.tyInt Syntax.w64) Syntax.tnil) (Syntax.ttcons Syntax.tnil (Syntax.ttcons Syntax.tnil (Syntax.ttcons (Syntax.tcons (Syntax.tyInt Syntax.w64) Syntax.tnil) (Syntax.ttcons
+      (Syntax.tcons (Syntax.tyInt Syntax.w64) Syntax.tnil) (Syntax.ttcons (Syntax.tcons (Syntax.tyInt Syntax.w64) Syntax.tnil) (Syntax.ttcons Syntax.tnil Syntax.ttnil)))))))))))))))))))))) Syntax.tnil)
+      Syntax.ttnil))),
+) (List._∷_ (1, Rows.sslice (Referent.rtF (Referent.fInt Syntax.w8)) (Syntax.tyRef (Syntax.named 0) Syntax.imm (Syntax.tyInt Syntax.w8)) 0) (List._∷_ (
+  2,
+  Rows.whole (Declared'.row
+      FujiHeader.the-type),
+) (List._∷_ (3, Rows.sc-here (Row.sInt Syntax.w64)) (List._∷_ (
+  4,
+  PartMut.mslice-owedM (Referent.rtF (Referent.fInt Syntax.w16)) (Syntax.tyRef (Syntax.named 1) Syntax.mut
+      (Syntax.tyInt Syntax.w16)) 1 3 Row.off,
+) (List._∷_ (5, Mut.mslice (Element.type) (Syntax.tyRef (Syntax.named 2) Syntax.mut Element.behind) 2) (List._∷_ (6, Rows.sc-here (Row.sInt Syntax.w64))
+    (List._∷_ (7, Rows.sc-here (Row.sInt Syntax.w64)) (List._∷_ (8, Rows.any-gone (Syntax.tyInt Syntax.w64)) (List._∷_ (9, Rows.any-gone Syntax.tyBool) (List._∷_ (
       10,
-      Rows.any-gone (Syntax.tyEnum (List._∷_ 115 (List._∷_ 116 (List._∷_ 114 (List._∷_ 101 (List._∷_ 97
-          (List._∷_ 109 (List._∷_ 58 (List._∷_ 58 (List._∷_ 82 (List._∷_ 101 (List._∷_ 102 (List._∷_ 117 (List._∷_ 115 (List._∷_ 97 (List._∷_ 108 List.[]))))))))))))))) (Syntax.ttcons Syntax.tnil (Syntax.ttcons
-          Syntax.tnil (Syntax.ttcons Syntax.tnil (Syntax.ttcons (Syntax.tcons (Syntax.tyInt Syntax.w64) Syntax.tnil) (Syntax.ttcons Syntax.tnil (Syntax.ttcons Syntax.tnil (Syntax.ttcons Syntax.tnil
-          (Syntax.ttcons Syntax.tnil (Syntax.ttcons Syntax.tnil (Syntax.ttcons Syntax.tnil (Syntax.ttcons (Syntax.tcons (Syntax.tyInt Syntax.w64) Syntax.tnil) (Syntax.ttcons (Syntax.tcons (Syntax.tyInt
-          Syntax.w64) Syntax.tnil) (Syntax.ttcons Syntax.tnil (Syntax.ttcons (Syntax.tcons (Syntax.tyInt Syntax.w64) (Syntax.tcons (Syntax.tyInt Syntax.w64) Syntax.tnil)) (Syntax.ttcons (Syntax.tcons
-          (Syntax.tyInt Syntax.w64) Syntax.tnil) (Syntax.ttcons Syntax.tnil Syntax.ttnil))))))))))))))))),
+      Rows.any-gone (Syntax.tyEnum
+          (List._∷_ 115 (List._∷_ 116 (List._∷_ 114 (List._∷_ 101 (List._∷_ 97 (List._∷_ 109 (List._∷_ 58 (List._∷_ 58 (List._∷_ 82 (List._∷_ 101 (List._∷_ 102 (List._∷_ 117 (List._∷_ 115 (List._∷_ 97 (List._∷_
+          108 List.[]))))))))))))))) (Syntax.ttcons Syntax.tnil (Syntax.ttcons Syntax.tnil (Syntax.ttcons Syntax.tnil (Syntax.ttcons (Syntax.tcons (Syntax.tyInt Syntax.w64) Syntax.tnil) (Syntax.ttcons
+          Syntax.tnil (Syntax.ttcons Syntax.tnil (Syntax.ttcons Syntax.tnil (Syntax.ttcons Syntax.tnil (Syntax.ttcons Syntax.tnil (Syntax.ttcons Syntax.tnil (Syntax.ttcons (Syntax.tcons (Syntax.tyInt
+          Syntax.w64) Syntax.tnil) (Syntax.ttcons (Syntax.tcons (Syntax.tyInt Syntax.w64) Syntax.tnil) (Syntax.ttcons Syntax.tnil (Syntax.ttcons (Syntax.tcons (Syntax.tyInt Syntax.w64) (Syntax.tcons
+          (Syntax.tyInt Syntax.w64) Syntax.tnil)) (Syntax.ttcons (Syntax.tcons (Syntax.tyInt Syntax.w64) Syntax.tnil) (Syntax.ttcons Syntax.tnil (Syntax.ttcons Syntax.tnil (Syntax.ttcons (Syntax.tcons
+          (Syntax.tyInt Syntax.w64) Syntax.tnil) (Syntax.ttcons (Syntax.tcons (Syntax.tyInt Syntax.w64) Syntax.tnil) (Syntax.ttcons (Syntax.tcons (Syntax.tyInt Syntax.w64) Syntax.tnil) (Syntax.ttcons
+          Syntax.tnil Syntax.ttnil)))))))))))))))))))))),
     ) (List._∷_ (
       11,
-      Rows.any-gone (Syntax.tyEnum (List._∷_ 115 (List._∷_ 116 (List._∷_ 114 (List._∷_ 101
-          (List._∷_ 97 (List._∷_ 109 (List._∷_ 58 (List._∷_ 58 (List._∷_ 82 (List._∷_ 101 (List._∷_ 102 (List._∷_ 117 (List._∷_ 115 (List._∷_ 97 (List._∷_ 108 List.[]))))))))))))))) (Syntax.ttcons Syntax.tnil
-          (Syntax.ttcons Syntax.tnil (Syntax.ttcons Syntax.tnil (Syntax.ttcons (Syntax.tcons (Syntax.tyInt Syntax.w64) Syntax.tnil) (Syntax.ttcons Syntax.tnil (Syntax.ttcons Syntax.tnil (Syntax.ttcons
-          Syntax.tnil (Syntax.ttcons Syntax.tnil (Syntax.ttcons Syntax.tnil (Syntax.ttcons Syntax.tnil (Syntax.ttcons (Syntax.tcons (Syntax.tyInt Syntax.w64) Syntax.tnil) (Syntax.ttcons (Syntax.tcons
-          (Syntax.tyInt Syntax.w64) Syntax.tnil) (Syntax.ttcons Syntax.tnil (Syntax.ttcons (Syntax.tcons (Syntax.tyInt Syntax.w64) (Syntax.tcons (Syntax.tyInt Syntax.w64) Syntax.tnil)) (Syntax.ttcons
-          (Syntax.tcons (Syntax.tyInt Syntax.w64) Syntax.tnil) (Syntax.ttcons Syntax.tnil Syntax.ttnil))))))))))))))))),
+      Rows.any-gone (Syntax.tyEnum (List._∷_ 115 (List._∷_ 116 (List._∷_ 114 (List._∷_ 101 (List._∷_ 97 (List._∷_ 109 (List._∷_ 58 (List._∷_
+          58 (List._∷_ 82 (List._∷_ 101 (List._∷_ 102 (List._∷_ 117 (List._∷_ 115 (List._∷_ 97 (List._∷_ 108 List.[]))))))))))))))) (Syntax.ttcons Syntax.tnil (Syntax.ttcons Syntax.tnil (Syntax.ttcons
+          Syntax.tnil (Syntax.ttcons (Syntax.tcons (Syntax.tyInt Syntax.w64) Syntax.tnil) (Syntax.ttcons Syntax.tnil (Syntax.ttcons Syntax.tnil (Syntax.ttcons Syntax.tnil (Syntax.ttcons Syntax.tnil
+          (Syntax.ttcons Syntax.tnil (Syntax.ttcons Syntax.tnil (Syntax.ttcons (Syntax.tcons (Syntax.tyInt Syntax.w64) Syntax.tnil) (Syntax.ttcons (Syntax.tcons (Syntax.tyInt Syntax.w64) Syntax.tnil)
+          (Syntax.ttcons Syntax.tnil (Syntax.ttcons (Syntax.tcons (Syntax.tyInt Syntax.w64) (Syntax.tcons (Syntax.tyInt Syntax.w64) Syntax.tnil)) (Syntax.ttcons (Syntax.tcons (Syntax.tyInt Syntax.w64)
+          Syntax.tnil) (Syntax.ttcons Syntax.tnil (Syntax.ttcons Syntax.tnil (Syntax.ttcons (Syntax.tcons (Syntax.tyInt Syntax.w64) Syntax.tnil) (Syntax.ttcons (Syntax.tcons (Syntax.tyInt Syntax.w64)
+          Syntax.tnil) (Syntax.ttcons (Syntax.tcons (Syntax.tyInt Syntax.w64) Syntax.tnil) (Syntax.ttcons Syntax.tnil Syntax.ttnil)))))))))))))))))))))),
     ) (List._∷_ (12, Rows.any-gone Syntax.tyPtr) (List._∷_ (
       13,
-      Relend.msptr (Referent.rtF
-          (Referent.fInt Syntax.w16)) (Syntax.tyRef Syntax.erased Syntax.mut (Syntax.tyInt Syntax.w16)) 3,
+      Relend.msptr (Referent.rtF (Referent.fInt Syntax.w16)) (Syntax.tyRef Syntax.erased Syntax.mut (Syntax.tyInt Syntax.w16)) 3,
     ) (List._∷_ (
       14,
-      Rows.any-gone (Syntax.tyStruct (List._∷_ 38 (List._∷_ 91 (List._∷_ 93 List.[])))
-          (Syntax.tcons (Syntax.tyRef Syntax.erased Syntax.mut (Syntax.tyInt Syntax.w16)) (Syntax.tcons (Syntax.tyInt Syntax.w64) Syntax.tnil))),
-    ) (List._∷_ (15, Rows.any-gone Syntax.tyPtr)
-    List.[])))))))))))))))
+      Rows.any-gone (Syntax.tyStruct (List._∷_ 38 (List._∷_
+          91 (List._∷_ 93 List.[]))) (Syntax.tcons (Syntax.tyRef Syntax.erased Syntax.mut (Syntax.tyInt Syntax.w16)) (Syntax.tcons (Syntax.tyInt Syntax.w64) Syntax.tnil))),
+    ) (List._∷_ (
+      15,
+      Rows.any-gone
+          Syntax.tyPtr,
+    ) List.[])))))))))))))))
 
 abbrev pub t24 : List.List Row.Entry
 t24 = List._∷_ (
@@ -1419,41 +1493,45 @@ t24 = List._∷_ (
       (Syntax.ttcons Syntax.tnil (Syntax.ttcons Syntax.tnil (Syntax.ttcons (Syntax.tcons (Syntax.tyInt Syntax.w64) Syntax.tnil) (Syntax.ttcons Syntax.tnil (Syntax.ttcons Syntax.tnil (Syntax.ttcons
       Syntax.tnil (Syntax.ttcons Syntax.tnil (Syntax.ttcons Syntax.tnil (Syntax.ttcons Syntax.tnil (Syntax.ttcons (Syntax.tcons (Syntax.tyInt Syntax.w64) Syntax.tnil) (Syntax.ttcons (Syntax.tcons
       (Syntax.tyInt Syntax.w64) Syntax.tnil) (Syntax.ttcons Syntax.tnil (Syntax.ttcons (Syntax.tcons (Syntax.tyInt Syntax.w64) (Syntax.tcons (Syntax.tyInt Syntax.w64) Syntax.tnil)) (Syntax.ttcons
-      (Syntax.tcons (Syntax.tyInt Syntax.w64) Syntax.tnil) (Syntax.ttcons Syntax.tnil Syntax.ttnil))))))))))))))))) Syntax.tnil) Syntax.ttnil))),
-) (List._∷_ (
-  1,
-  Rows.sslice (Referent.rtF (Referent.fInt
-      Syntax.w8)) (Syntax.tyRef (Syntax.named 0) Syntax.imm (Syntax.tyInt Syntax.w8)) 0,
-) (List._∷_ (2, Rows.whole (Declared'.row FujiHeader.the-type)) (List._∷_ (3, Rows.sc-here (Row.sInt Syntax.w64))
-    (List._∷_ (4, PartMut.mslice-owedM (Referent.rtF (Referent.fInt Syntax.w16)) (Syntax.tyRef (Syntax.named 1) Syntax.mut (Syntax.tyInt Syntax.w16)) 1 3 Row.off) (List._∷_ (
-      5,
-      Mut.mslice
-          (Element.type) (Syntax.tyRef (Syntax.named 2) Syntax.mut Element.behind) 2,
-    ) (List._∷_ (6, Rows.sc-here (Row.sInt Syntax.w64)) (List._∷_ (7, Rows.sc-here (Row.sInt Syntax.w64)) (List._∷_ (
-      8,
-      Rows.any-gone (Syntax.tyInt Syntax.w64),
-    ) (List._∷_ (9, Rows.any-gone Syntax.tyBool) (List._∷_ (
+      (Syntax.tcons (Syntax.tyInt Syntax.w64) Syntax.tnil) (Syntax.ttcons Syntax.tnil (Syntax.ttcons Syntax.tnil (Syntax.ttcons (Syntax.tcons (Syntax.tyInt Syntax.w64) Syntax.tnil) (Syntax.ttcons
+      (Syntax.tcons (Syntax.tyInt Syntax.w64) Syntax.tnil) (Syntax.ttcons (Syntax.tcons (Syntax.tyInt Syntax.w64) Syntax.tnil) (Syntax.ttcons Syntax.tnil Syntax.ttnil)))))))))))))))))))))) Syntax.tnil)
+      Syntax.ttnil))),
+) (List._∷_ (1, Rows.sslice (Referent.rtF (Referent.fInt Syntax.w8)) (Syntax.tyRef (Syntax.named 0) Syntax.imm (Syntax.tyInt Syntax.w8)) 0) (List._∷_ (
+  2,
+  Rows.whole (Declared'.row
+      FujiHeader.the-type),
+) (List._∷_ (3, Rows.sc-here (Row.sInt Syntax.w64)) (List._∷_ (
+  4,
+  PartMut.mslice-owedM (Referent.rtF (Referent.fInt Syntax.w16)) (Syntax.tyRef (Syntax.named 1) Syntax.mut
+      (Syntax.tyInt Syntax.w16)) 1 3 Row.off,
+) (List._∷_ (5, Mut.mslice (Element.type) (Syntax.tyRef (Syntax.named 2) Syntax.mut Element.behind) 2) (List._∷_ (6, Rows.sc-here (Row.sInt Syntax.w64))
+    (List._∷_ (7, Rows.sc-here (Row.sInt Syntax.w64)) (List._∷_ (8, Rows.any-gone (Syntax.tyInt Syntax.w64)) (List._∷_ (9, Rows.any-gone Syntax.tyBool) (List._∷_ (
       10,
-      Rows.any-gone (Syntax.tyEnum (List._∷_ 115 (List._∷_ 116 (List._∷_ 114 (List._∷_ 101 (List._∷_ 97
-          (List._∷_ 109 (List._∷_ 58 (List._∷_ 58 (List._∷_ 82 (List._∷_ 101 (List._∷_ 102 (List._∷_ 117 (List._∷_ 115 (List._∷_ 97 (List._∷_ 108 List.[]))))))))))))))) (Syntax.ttcons Syntax.tnil (Syntax.ttcons
-          Syntax.tnil (Syntax.ttcons Syntax.tnil (Syntax.ttcons (Syntax.tcons (Syntax.tyInt Syntax.w64) Syntax.tnil) (Syntax.ttcons Syntax.tnil (Syntax.ttcons Syntax.tnil (Syntax.ttcons Syntax.tnil
-          (Syntax.ttcons Syntax.tnil (Syntax.ttcons Syntax.tnil (Syntax.ttcons Syntax.tnil (Syntax.ttcons (Syntax.tcons (Syntax.tyInt Syntax.w64) Syntax.tnil) (Syntax.ttcons (Syntax.tcons (Syntax.tyInt
-          Syntax.w64) Syntax.tnil) (Syntax.ttcons Syntax.tnil (Syntax.ttcons (Syntax.tcons (Syntax.tyInt Syntax.w64) (Syntax.tcons (Syntax.tyInt Syntax.w64) Syntax.tnil)) (Syntax.ttcons (Syntax.tcons
-          (Syntax.tyInt Syntax.w64) Syntax.tnil) (Syntax.ttcons Syntax.tnil Syntax.ttnil))))))))))))))))),
+      Rows.any-gone (Syntax.tyEnum
+          (List._∷_ 115 (List._∷_ 116 (List._∷_ 114 (List._∷_ 101 (List._∷_ 97 (List._∷_ 109 (List._∷_ 58 (List._∷_ 58 (List._∷_ 82 (List._∷_ 101 (List._∷_ 102 (List._∷_ 117 (List._∷_ 115 (List._∷_ 97 (List._∷_
+          108 List.[]))))))))))))))) (Syntax.ttcons Syntax.tnil (Syntax.ttcons Syntax.tnil (Syntax.ttcons Syntax.tnil (Syntax.ttcons (Syntax.tcons (Syntax.tyInt Syntax.w64) Syntax.tnil) (Syntax.ttcons
+          Syntax.tnil (Syntax.ttcons Syntax.tnil (Syntax.ttcons Syntax.tnil (Syntax.ttcons Syntax.tnil (Syntax.ttcons Syntax.tnil (Syntax.ttcons Syntax.tnil (Syntax.ttcons (Syntax.tcons (Syntax.tyInt
+          Syntax.w64) Syntax.tnil) (Syntax.ttcons (Syntax.tcons (Syntax.tyInt Syntax.w64) Syntax.tnil) (Syntax.ttcons Syntax.tnil (Syntax.ttcons (Syntax.tcons (Syntax.tyInt Syntax.w64) (Syntax.tcons
+          (Syntax.tyInt Syntax.w64) Syntax.tnil)) (Syntax.ttcons (Syntax.tcons (Syntax.tyInt Syntax.w64) Syntax.tnil) (Syntax.ttcons Syntax.tnil (Syntax.ttcons Syntax.tnil (Syntax.ttcons (Syntax.tcons
+          (Syntax.tyInt Syntax.w64) Syntax.tnil) (Syntax.ttcons (Syntax.tcons (Syntax.tyInt Syntax.w64) Syntax.tnil) (Syntax.ttcons (Syntax.tcons (Syntax.tyInt Syntax.w64) Syntax.tnil) (Syntax.ttcons
+          Syntax.tnil Syntax.ttnil)))))))))))))))))))))),
     ) (List._∷_ (
       11,
-      Rows.any-gone (Syntax.tyEnum (List._∷_ 115 (List._∷_ 116 (List._∷_ 114 (List._∷_ 101
-          (List._∷_ 97 (List._∷_ 109 (List._∷_ 58 (List._∷_ 58 (List._∷_ 82 (List._∷_ 101 (List._∷_ 102 (List._∷_ 117 (List._∷_ 115 (List._∷_ 97 (List._∷_ 108 List.[]))))))))))))))) (Syntax.ttcons Syntax.tnil
-          (Syntax.ttcons Syntax.tnil (Syntax.ttcons Syntax.tnil (Syntax.ttcons (Syntax.tcons (Syntax.tyInt Syntax.w64) Syntax.tnil) (Syntax.ttcons Syntax.tnil (Syntax.ttcons Syntax.tnil (Syntax.ttcons
-          Syntax.tnil (Syntax.ttcons Syntax.tnil (Syntax.ttcons Syntax.tnil (Syntax.ttcons Syntax.tnil (Syntax.ttcons (Syntax.tcons (Syntax.tyInt Syntax.w64) Syntax.tnil) (Syntax.ttcons (Syntax.tcons
-          (Syntax.tyInt Syntax.w64) Syntax.tnil) (Syntax.ttcons Syntax.tnil (Syntax.ttcons (Syntax.tcons (Syntax.tyInt Syntax.w64) (Syntax.tcons (Syntax.tyInt Syntax.w64) Syntax.tnil)) (Syntax.ttcons
-          (Syntax.tcons (Syntax.tyInt Syntax.w64) Syntax.tnil) (Syntax.ttcons Syntax.tnil Syntax.ttnil))))))))))))))))),
+      Rows.any-gone (Syntax.tyEnum (List._∷_ 115 (List._∷_ 116 (List._∷_ 114 (List._∷_ 101 (List._∷_ 97 (List._∷_ 109 (List._∷_ 58 (List._∷_
+          58 (List._∷_ 82 (List._∷_ 101 (List._∷_ 102 (List._∷_ 117 (List._∷_ 115 (List._∷_ 97 (List._∷_ 108 List.[]))))))))))))))) (Syntax.ttcons Syntax.tnil (Syntax.ttcons Syntax.tnil (Syntax.ttcons
+          Syntax.tnil (Syntax.ttcons (Syntax.tcons (Syntax.tyInt Syntax.w64) Syntax.tnil) (Syntax.ttcons Syntax.tnil (Syntax.ttcons Syntax.tnil (Syntax.ttcons Syntax.tnil (Syntax.ttcons Syntax.tnil
+          (Syntax.ttcons Syntax.tnil (Syntax.ttcons Syntax.tnil (Syntax.ttcons (Syntax.tcons (Syntax.tyInt Syntax.w64) Syntax.tnil) (Syntax.ttcons (Syntax.tcons (Syntax.tyInt Syntax.w64) Syntax.tnil)
+          (Syntax.ttcons Syntax.tnil (Syntax.ttcons (Syntax.tcons (Syntax.tyInt Syntax.w64) (Syntax.tcons (Syntax.tyInt Syntax.w64) Syntax.tnil)) (Syntax.ttcons (Syntax.tcons (Syntax.tyInt Syntax.w64)
+          Syntax.tnil) (Syntax.ttcons Syntax.tnil (Syntax.ttcons Syntax.tnil (Syntax.ttcons (Syntax.tcons (Syntax.tyInt Syntax.w64) Syntax.tnil) (Syntax.ttcons (Syntax.tcons (Syntax.tyInt Syntax.w64)
+          Syntax.tnil) (Syntax.ttcons (Syntax.tcons (Syntax.tyInt Syntax.w64) Syntax.tnil) (Syntax.ttcons Syntax.tnil Syntax.ttnil)))))))))))))))))))))),
     ) (List._∷_ (12, Rows.any-gone Syntax.tyPtr) (List._∷_ (
       13,
-      Rows.any-gone (Syntax.tyRef
-          Syntax.erased Syntax.mut (Syntax.tyInt Syntax.w16)),
-    ) (List._∷_ (14, Mut.mslice (Referent.rtF (Referent.fInt Syntax.w16)) (Syntax.tyRef Syntax.erased Syntax.mut (Syntax.tyInt Syntax.w16)) 3)
-    (List._∷_ (15, Rows.any-gone Syntax.tyPtr) List.[])))))))))))))))
+      Rows.any-gone (Syntax.tyRef Syntax.erased Syntax.mut (Syntax.tyInt Syntax.w16)),
+    ) (List._∷_ (
+      14,
+      Mut.mslice (Referent.rtF (Referent.fInt Syntax.w16)) (Syntax.tyRef Syntax.erased Syntax.mut
+          (Syntax.tyInt Syntax.w16)) 3,
+    ) (List._∷_ (15, Rows.any-gone Syntax.tyPtr) List.[])))))))))))))))
 
 abbrev pub t25 : List.List Row.Entry
 t25 = List._∷_ (
@@ -1464,41 +1542,43 @@ t25 = List._∷_ (
       (Syntax.ttcons Syntax.tnil (Syntax.ttcons Syntax.tnil (Syntax.ttcons (Syntax.tcons (Syntax.tyInt Syntax.w64) Syntax.tnil) (Syntax.ttcons Syntax.tnil (Syntax.ttcons Syntax.tnil (Syntax.ttcons
       Syntax.tnil (Syntax.ttcons Syntax.tnil (Syntax.ttcons Syntax.tnil (Syntax.ttcons Syntax.tnil (Syntax.ttcons (Syntax.tcons (Syntax.tyInt Syntax.w64) Syntax.tnil) (Syntax.ttcons (Syntax.tcons
       (Syntax.tyInt Syntax.w64) Syntax.tnil) (Syntax.ttcons Syntax.tnil (Syntax.ttcons (Syntax.tcons (Syntax.tyInt Syntax.w64) (Syntax.tcons (Syntax.tyInt Syntax.w64) Syntax.tnil)) (Syntax.ttcons
-      (Syntax.tcons (Syntax.tyInt Syntax.w64) Syntax.tnil) (Syntax.ttcons Syntax.tnil Syntax.ttnil))))))))))))))))) Syntax.tnil) Syntax.ttnil))),
-) (List._∷_ (
-  1,
-  Rows.sslice (Referent.rtF (Referent.fInt
-      Syntax.w8)) (Syntax.tyRef (Syntax.named 0) Syntax.imm (Syntax.tyInt Syntax.w8)) 0,
-) (List._∷_ (2, Rows.whole (Declared'.row FujiHeader.the-type)) (List._∷_ (3, Rows.sc-here (Row.sInt Syntax.w64))
-    (List._∷_ (4, PartMut.mslice-owedM (Referent.rtF (Referent.fInt Syntax.w16)) (Syntax.tyRef (Syntax.named 1) Syntax.mut (Syntax.tyInt Syntax.w16)) 1 3 Row.off) (List._∷_ (
-      5,
-      Mut.mslice
-          (Element.type) (Syntax.tyRef (Syntax.named 2) Syntax.mut Element.behind) 2,
-    ) (List._∷_ (6, Rows.sc-here (Row.sInt Syntax.w64)) (List._∷_ (7, Rows.any-gone (Syntax.tyInt Syntax.w64)) (List._∷_ (
-      8,
-      Rows.any-gone (Syntax.tyInt Syntax.w64),
-    ) (List._∷_ (9, Rows.any-gone Syntax.tyBool) (List._∷_ (
+      (Syntax.tcons (Syntax.tyInt Syntax.w64) Syntax.tnil) (Syntax.ttcons Syntax.tnil (Syntax.ttcons Syntax.tnil (Syntax.ttcons (Syntax.tcons (Syntax.tyInt Syntax.w64) Syntax.tnil) (Syntax.ttcons
+      (Syntax.tcons (Syntax.tyInt Syntax.w64) Syntax.tnil) (Syntax.ttcons (Syntax.tcons (Syntax.tyInt Syntax.w64) Syntax.tnil) (Syntax.ttcons Syntax.tnil Syntax.ttnil)))))))))))))))))))))) Syntax.tnil)
+      Syntax.ttnil))),
+) (List._∷_ (1, Rows.sslice (Referent.rtF (Referent.fInt Syntax.w8)) (Syntax.tyRef (Syntax.named 0) Syntax.imm (Syntax.tyInt Syntax.w8)) 0) (List._∷_ (
+  2,
+  Rows.whole (Declared'.row
+      FujiHeader.the-type),
+) (List._∷_ (3, Rows.sc-here (Row.sInt Syntax.w64)) (List._∷_ (
+  4,
+  PartMut.mslice-owedM (Referent.rtF (Referent.fInt Syntax.w16)) (Syntax.tyRef (Syntax.named 1) Syntax.mut
+      (Syntax.tyInt Syntax.w16)) 1 3 Row.off,
+) (List._∷_ (5, Mut.mslice (Element.type) (Syntax.tyRef (Syntax.named 2) Syntax.mut Element.behind) 2) (List._∷_ (6, Rows.sc-here (Row.sInt Syntax.w64))
+    (List._∷_ (7, Rows.any-gone (Syntax.tyInt Syntax.w64)) (List._∷_ (8, Rows.any-gone (Syntax.tyInt Syntax.w64)) (List._∷_ (9, Rows.any-gone Syntax.tyBool) (List._∷_ (
       10,
-      Rows.any-gone (Syntax.tyEnum (List._∷_ 115 (List._∷_ 116 (List._∷_ 114 (List._∷_ 101 (List._∷_ 97
-          (List._∷_ 109 (List._∷_ 58 (List._∷_ 58 (List._∷_ 82 (List._∷_ 101 (List._∷_ 102 (List._∷_ 117 (List._∷_ 115 (List._∷_ 97 (List._∷_ 108 List.[]))))))))))))))) (Syntax.ttcons Syntax.tnil (Syntax.ttcons
-          Syntax.tnil (Syntax.ttcons Syntax.tnil (Syntax.ttcons (Syntax.tcons (Syntax.tyInt Syntax.w64) Syntax.tnil) (Syntax.ttcons Syntax.tnil (Syntax.ttcons Syntax.tnil (Syntax.ttcons Syntax.tnil
-          (Syntax.ttcons Syntax.tnil (Syntax.ttcons Syntax.tnil (Syntax.ttcons Syntax.tnil (Syntax.ttcons (Syntax.tcons (Syntax.tyInt Syntax.w64) Syntax.tnil) (Syntax.ttcons (Syntax.tcons (Syntax.tyInt
-          Syntax.w64) Syntax.tnil) (Syntax.ttcons Syntax.tnil (Syntax.ttcons (Syntax.tcons (Syntax.tyInt Syntax.w64) (Syntax.tcons (Syntax.tyInt Syntax.w64) Syntax.tnil)) (Syntax.ttcons (Syntax.tcons
-          (Syntax.tyInt Syntax.w64) Syntax.tnil) (Syntax.ttcons Syntax.tnil Syntax.ttnil))))))))))))))))),
+      Rows.any-gone
+          (Syntax.tyEnum (List._∷_ 115 (List._∷_ 116 (List._∷_ 114 (List._∷_ 101 (List._∷_ 97 (List._∷_ 109 (List._∷_ 58 (List._∷_ 58 (List._∷_ 82 (List._∷_ 101 (List._∷_ 102 (List._∷_ 117 (List._∷_ 115
+          (List._∷_ 97 (List._∷_ 108 List.[]))))))))))))))) (Syntax.ttcons Syntax.tnil (Syntax.ttcons Syntax.tnil (Syntax.ttcons Syntax.tnil (Syntax.ttcons (Syntax.tcons (Syntax.tyInt Syntax.w64) Syntax.tnil)
+          (Syntax.ttcons Syntax.tnil (Syntax.ttcons Syntax.tnil (Syntax.ttcons Syntax.tnil (Syntax.ttcons Syntax.tnil (Syntax.ttcons Syntax.tnil (Syntax.ttcons Syntax.tnil (Syntax.ttcons (Syntax.tcons
+          (Syntax.tyInt Syntax.w64) Syntax.tnil) (Syntax.ttcons (Syntax.tcons (Syntax.tyInt Syntax.w64) Syntax.tnil) (Syntax.ttcons Syntax.tnil (Syntax.ttcons (Syntax.tcons (Syntax.tyInt Syntax.w64)
+          (Syntax.tcons (Syntax.tyInt Syntax.w64) Syntax.tnil)) (Syntax.ttcons (Syntax.tcons (Syntax.tyInt Syntax.w64) Syntax.tnil) (Syntax.ttcons Syntax.tnil (Syntax.ttcons Syntax.tnil (Syntax.ttcons
+          (Syntax.tcons (Syntax.tyInt Syntax.w64) Syntax.tnil) (Syntax.ttcons (Syntax.tcons (Syntax.tyInt Syntax.w64) Syntax.tnil) (Syntax.ttcons (Syntax.tcons (Syntax.tyInt Syntax.w64) Syntax.tnil)
+          (Syntax.ttcons Syntax.tnil Syntax.ttnil)))))))))))))))))))))),
     ) (List._∷_ (
       11,
-      Rows.any-gone (Syntax.tyEnum (List._∷_ 115 (List._∷_ 116 (List._∷_ 114 (List._∷_ 101
-          (List._∷_ 97 (List._∷_ 109 (List._∷_ 58 (List._∷_ 58 (List._∷_ 82 (List._∷_ 101 (List._∷_ 102 (List._∷_ 117 (List._∷_ 115 (List._∷_ 97 (List._∷_ 108 List.[]))))))))))))))) (Syntax.ttcons Syntax.tnil
-          (Syntax.ttcons Syntax.tnil (Syntax.ttcons Syntax.tnil (Syntax.ttcons (Syntax.tcons (Syntax.tyInt Syntax.w64) Syntax.tnil) (Syntax.ttcons Syntax.tnil (Syntax.ttcons Syntax.tnil (Syntax.ttcons
-          Syntax.tnil (Syntax.ttcons Syntax.tnil (Syntax.ttcons Syntax.tnil (Syntax.ttcons Syntax.tnil (Syntax.ttcons (Syntax.tcons (Syntax.tyInt Syntax.w64) Syntax.tnil) (Syntax.ttcons (Syntax.tcons
-          (Syntax.tyInt Syntax.w64) Syntax.tnil) (Syntax.ttcons Syntax.tnil (Syntax.ttcons (Syntax.tcons (Syntax.tyInt Syntax.w64) (Syntax.tcons (Syntax.tyInt Syntax.w64) Syntax.tnil)) (Syntax.ttcons
-          (Syntax.tcons (Syntax.tyInt Syntax.w64) Syntax.tnil) (Syntax.ttcons Syntax.tnil Syntax.ttnil))))))))))))))))),
-    ) (List._∷_ (12, Rows.any-gone Syntax.tyPtr) (List._∷_ (
-      13,
-      Rows.any-gone (Syntax.tyRef
-          Syntax.erased Syntax.mut (Syntax.tyInt Syntax.w16)),
-    ) (List._∷_ (14, Mut.mslice (Referent.rtF (Referent.fInt Syntax.w16)) (Syntax.tyRef Syntax.erased Syntax.mut (Syntax.tyInt Syntax.w16)) 3)
-    (List._∷_ (15, Rows.any-gone Syntax.tyPtr) List.[])))))))))))))))
+      Rows.any-gone (Syntax.tyEnum (List._∷_ 115 (List._∷_ 116 (List._∷_ 114 (List._∷_ 101 (List._∷_ 97 (List._∷_ 109
+          (List._∷_ 58 (List._∷_ 58 (List._∷_ 82 (List._∷_ 101 (List._∷_ 102 (List._∷_ 117 (List._∷_ 115 (List._∷_ 97 (List._∷_ 108 List.[]))))))))))))))) (Syntax.ttcons Syntax.tnil (Syntax.ttcons Syntax.tnil
+          (Syntax.ttcons Syntax.tnil (Syntax.ttcons (Syntax.tcons (Syntax.tyInt Syntax.w64) Syntax.tnil) (Syntax.ttcons Syntax.tnil (Syntax.ttcons Syntax.tnil (Syntax.ttcons Syntax.tnil (Syntax.ttcons
+          Syntax.tnil (Syntax.ttcons Syntax.tnil (Syntax.ttcons Syntax.tnil (Syntax.ttcons (Syntax.tcons (Syntax.tyInt Syntax.w64) Syntax.tnil) (Syntax.ttcons (Syntax.tcons (Syntax.tyInt Syntax.w64)
+          Syntax.tnil) (Syntax.ttcons Syntax.tnil (Syntax.ttcons (Syntax.tcons (Syntax.tyInt Syntax.w64) (Syntax.tcons (Syntax.tyInt Syntax.w64) Syntax.tnil)) (Syntax.ttcons (Syntax.tcons (Syntax.tyInt
+          Syntax.w64) Syntax.tnil) (Syntax.ttcons Syntax.tnil (Syntax.ttcons Syntax.tnil (Syntax.ttcons (Syntax.tcons (Syntax.tyInt Syntax.w64) Syntax.tnil) (Syntax.ttcons (Syntax.tcons (Syntax.tyInt
+          Syntax.w64) Syntax.tnil) (Syntax.ttcons (Syntax.tcons (Syntax.tyInt Syntax.w64) Syntax.tnil) (Syntax.ttcons Syntax.tnil Syntax.ttnil)))))))))))))))))))))),
+    ) (List._∷_ (12, Rows.any-gone Syntax.tyPtr)
+    (List._∷_ (13, Rows.any-gone (Syntax.tyRef Syntax.erased Syntax.mut (Syntax.tyInt Syntax.w16))) (List._∷_ (
+      14,
+      Mut.mslice (Referent.rtF (Referent.fInt Syntax.w16)) (Syntax.tyRef Syntax.erased
+          Syntax.mut (Syntax.tyInt Syntax.w16)) 3,
+    ) (List._∷_ (15, Rows.any-gone Syntax.tyPtr) List.[])))))))))))))))
 
 abbrev pub t26 : List.List Row.Entry
 t26 = List._∷_ (
@@ -1509,41 +1589,43 @@ t26 = List._∷_ (
       (Syntax.ttcons Syntax.tnil (Syntax.ttcons Syntax.tnil (Syntax.ttcons (Syntax.tcons (Syntax.tyInt Syntax.w64) Syntax.tnil) (Syntax.ttcons Syntax.tnil (Syntax.ttcons Syntax.tnil (Syntax.ttcons
       Syntax.tnil (Syntax.ttcons Syntax.tnil (Syntax.ttcons Syntax.tnil (Syntax.ttcons Syntax.tnil (Syntax.ttcons (Syntax.tcons (Syntax.tyInt Syntax.w64) Syntax.tnil) (Syntax.ttcons (Syntax.tcons
       (Syntax.tyInt Syntax.w64) Syntax.tnil) (Syntax.ttcons Syntax.tnil (Syntax.ttcons (Syntax.tcons (Syntax.tyInt Syntax.w64) (Syntax.tcons (Syntax.tyInt Syntax.w64) Syntax.tnil)) (Syntax.ttcons
-      (Syntax.tcons (Syntax.tyInt Syntax.w64) Syntax.tnil) (Syntax.ttcons Syntax.tnil Syntax.ttnil))))))))))))))))) Syntax.tnil) Syntax.ttnil))),
-) (List._∷_ (
-  1,
-  Rows.sslice (Referent.rtF (Referent.fInt
-      Syntax.w8)) (Syntax.tyRef (Syntax.named 0) Syntax.imm (Syntax.tyInt Syntax.w8)) 0,
-) (List._∷_ (2, Rows.whole (Declared'.row FujiHeader.the-type)) (List._∷_ (3, Rows.sc-here (Row.sInt Syntax.w64))
-    (List._∷_ (4, PartMut.mslice-owedM (Referent.rtF (Referent.fInt Syntax.w16)) (Syntax.tyRef (Syntax.named 1) Syntax.mut (Syntax.tyInt Syntax.w16)) 1 3 Row.off) (List._∷_ (
-      5,
-      Mut.mslice
-          (Element.type) (Syntax.tyRef (Syntax.named 2) Syntax.mut Element.behind) 2,
-    ) (List._∷_ (6, Rows.sc-here (Row.sInt Syntax.w64)) (List._∷_ (7, Rows.any-gone (Syntax.tyInt Syntax.w64)) (List._∷_ (
-      8,
-      Rows.any-gone (Syntax.tyInt Syntax.w64),
-    ) (List._∷_ (9, Rows.any-gone Syntax.tyBool) (List._∷_ (
+      (Syntax.tcons (Syntax.tyInt Syntax.w64) Syntax.tnil) (Syntax.ttcons Syntax.tnil (Syntax.ttcons Syntax.tnil (Syntax.ttcons (Syntax.tcons (Syntax.tyInt Syntax.w64) Syntax.tnil) (Syntax.ttcons
+      (Syntax.tcons (Syntax.tyInt Syntax.w64) Syntax.tnil) (Syntax.ttcons (Syntax.tcons (Syntax.tyInt Syntax.w64) Syntax.tnil) (Syntax.ttcons Syntax.tnil Syntax.ttnil)))))))))))))))))))))) Syntax.tnil)
+      Syntax.ttnil))),
+) (List._∷_ (1, Rows.sslice (Referent.rtF (Referent.fInt Syntax.w8)) (Syntax.tyRef (Syntax.named 0) Syntax.imm (Syntax.tyInt Syntax.w8)) 0) (List._∷_ (
+  2,
+  Rows.whole (Declared'.row
+      FujiHeader.the-type),
+) (List._∷_ (3, Rows.sc-here (Row.sInt Syntax.w64)) (List._∷_ (
+  4,
+  PartMut.mslice-owedM (Referent.rtF (Referent.fInt Syntax.w16)) (Syntax.tyRef (Syntax.named 1) Syntax.mut
+      (Syntax.tyInt Syntax.w16)) 1 3 Row.off,
+) (List._∷_ (5, Mut.mslice (Element.type) (Syntax.tyRef (Syntax.named 2) Syntax.mut Element.behind) 2) (List._∷_ (6, Rows.sc-here (Row.sInt Syntax.w64))
+    (List._∷_ (7, Rows.any-gone (Syntax.tyInt Syntax.w64)) (List._∷_ (8, Rows.any-gone (Syntax.tyInt Syntax.w64)) (List._∷_ (9, Rows.any-gone Syntax.tyBool) (List._∷_ (
       10,
-      Rows.any-gone (Syntax.tyEnum (List._∷_ 115 (List._∷_ 116 (List._∷_ 114 (List._∷_ 101 (List._∷_ 97
-          (List._∷_ 109 (List._∷_ 58 (List._∷_ 58 (List._∷_ 82 (List._∷_ 101 (List._∷_ 102 (List._∷_ 117 (List._∷_ 115 (List._∷_ 97 (List._∷_ 108 List.[]))))))))))))))) (Syntax.ttcons Syntax.tnil (Syntax.ttcons
-          Syntax.tnil (Syntax.ttcons Syntax.tnil (Syntax.ttcons (Syntax.tcons (Syntax.tyInt Syntax.w64) Syntax.tnil) (Syntax.ttcons Syntax.tnil (Syntax.ttcons Syntax.tnil (Syntax.ttcons Syntax.tnil
-          (Syntax.ttcons Syntax.tnil (Syntax.ttcons Syntax.tnil (Syntax.ttcons Syntax.tnil (Syntax.ttcons (Syntax.tcons (Syntax.tyInt Syntax.w64) Syntax.tnil) (Syntax.ttcons (Syntax.tcons (Syntax.tyInt
-          Syntax.w64) Syntax.tnil) (Syntax.ttcons Syntax.tnil (Syntax.ttcons (Syntax.tcons (Syntax.tyInt Syntax.w64) (Syntax.tcons (Syntax.tyInt Syntax.w64) Syntax.tnil)) (Syntax.ttcons (Syntax.tcons
-          (Syntax.tyInt Syntax.w64) Syntax.tnil) (Syntax.ttcons Syntax.tnil Syntax.ttnil))))))))))))))))),
+      Rows.any-gone
+          (Syntax.tyEnum (List._∷_ 115 (List._∷_ 116 (List._∷_ 114 (List._∷_ 101 (List._∷_ 97 (List._∷_ 109 (List._∷_ 58 (List._∷_ 58 (List._∷_ 82 (List._∷_ 101 (List._∷_ 102 (List._∷_ 117 (List._∷_ 115
+          (List._∷_ 97 (List._∷_ 108 List.[]))))))))))))))) (Syntax.ttcons Syntax.tnil (Syntax.ttcons Syntax.tnil (Syntax.ttcons Syntax.tnil (Syntax.ttcons (Syntax.tcons (Syntax.tyInt Syntax.w64) Syntax.tnil)
+          (Syntax.ttcons Syntax.tnil (Syntax.ttcons Syntax.tnil (Syntax.ttcons Syntax.tnil (Syntax.ttcons Syntax.tnil (Syntax.ttcons Syntax.tnil (Syntax.ttcons Syntax.tnil (Syntax.ttcons (Syntax.tcons
+          (Syntax.tyInt Syntax.w64) Syntax.tnil) (Syntax.ttcons (Syntax.tcons (Syntax.tyInt Syntax.w64) Syntax.tnil) (Syntax.ttcons Syntax.tnil (Syntax.ttcons (Syntax.tcons (Syntax.tyInt Syntax.w64)
+          (Syntax.tcons (Syntax.tyInt Syntax.w64) Syntax.tnil)) (Syntax.ttcons (Syntax.tcons (Syntax.tyInt Syntax.w64) Syntax.tnil) (Syntax.ttcons Syntax.tnil (Syntax.ttcons Syntax.tnil (Syntax.ttcons
+          (Syntax.tcons (Syntax.tyInt Syntax.w64) Syntax.tnil) (Syntax.ttcons (Syntax.tcons (Syntax.tyInt Syntax.w64) Syntax.tnil) (Syntax.ttcons (Syntax.tcons (Syntax.tyInt Syntax.w64) Syntax.tnil)
+          (Syntax.ttcons Syntax.tnil Syntax.ttnil)))))))))))))))))))))),
     ) (List._∷_ (
       11,
-      Rows.any-gone (Syntax.tyEnum (List._∷_ 115 (List._∷_ 116 (List._∷_ 114 (List._∷_ 101
-          (List._∷_ 97 (List._∷_ 109 (List._∷_ 58 (List._∷_ 58 (List._∷_ 82 (List._∷_ 101 (List._∷_ 102 (List._∷_ 117 (List._∷_ 115 (List._∷_ 97 (List._∷_ 108 List.[]))))))))))))))) (Syntax.ttcons Syntax.tnil
-          (Syntax.ttcons Syntax.tnil (Syntax.ttcons Syntax.tnil (Syntax.ttcons (Syntax.tcons (Syntax.tyInt Syntax.w64) Syntax.tnil) (Syntax.ttcons Syntax.tnil (Syntax.ttcons Syntax.tnil (Syntax.ttcons
-          Syntax.tnil (Syntax.ttcons Syntax.tnil (Syntax.ttcons Syntax.tnil (Syntax.ttcons Syntax.tnil (Syntax.ttcons (Syntax.tcons (Syntax.tyInt Syntax.w64) Syntax.tnil) (Syntax.ttcons (Syntax.tcons
-          (Syntax.tyInt Syntax.w64) Syntax.tnil) (Syntax.ttcons Syntax.tnil (Syntax.ttcons (Syntax.tcons (Syntax.tyInt Syntax.w64) (Syntax.tcons (Syntax.tyInt Syntax.w64) Syntax.tnil)) (Syntax.ttcons
-          (Syntax.tcons (Syntax.tyInt Syntax.w64) Syntax.tnil) (Syntax.ttcons Syntax.tnil Syntax.ttnil))))))))))))))))),
-    ) (List._∷_ (12, Rows.any-gone Syntax.tyPtr) (List._∷_ (
-      13,
-      Rows.any-gone (Syntax.tyRef
-          Syntax.erased Syntax.mut (Syntax.tyInt Syntax.w16)),
-    ) (List._∷_ (14, Mut.mslice (Referent.rtF (Referent.fInt Syntax.w16)) (Syntax.tyRef Syntax.erased Syntax.mut (Syntax.tyInt Syntax.w16)) 3)
-    (List._∷_ (15, Rows.sc-here Row.sPtr) List.[])))))))))))))))
+      Rows.any-gone (Syntax.tyEnum (List._∷_ 115 (List._∷_ 116 (List._∷_ 114 (List._∷_ 101 (List._∷_ 97 (List._∷_ 109
+          (List._∷_ 58 (List._∷_ 58 (List._∷_ 82 (List._∷_ 101 (List._∷_ 102 (List._∷_ 117 (List._∷_ 115 (List._∷_ 97 (List._∷_ 108 List.[]))))))))))))))) (Syntax.ttcons Syntax.tnil (Syntax.ttcons Syntax.tnil
+          (Syntax.ttcons Syntax.tnil (Syntax.ttcons (Syntax.tcons (Syntax.tyInt Syntax.w64) Syntax.tnil) (Syntax.ttcons Syntax.tnil (Syntax.ttcons Syntax.tnil (Syntax.ttcons Syntax.tnil (Syntax.ttcons
+          Syntax.tnil (Syntax.ttcons Syntax.tnil (Syntax.ttcons Syntax.tnil (Syntax.ttcons (Syntax.tcons (Syntax.tyInt Syntax.w64) Syntax.tnil) (Syntax.ttcons (Syntax.tcons (Syntax.tyInt Syntax.w64)
+          Syntax.tnil) (Syntax.ttcons Syntax.tnil (Syntax.ttcons (Syntax.tcons (Syntax.tyInt Syntax.w64) (Syntax.tcons (Syntax.tyInt Syntax.w64) Syntax.tnil)) (Syntax.ttcons (Syntax.tcons (Syntax.tyInt
+          Syntax.w64) Syntax.tnil) (Syntax.ttcons Syntax.tnil (Syntax.ttcons Syntax.tnil (Syntax.ttcons (Syntax.tcons (Syntax.tyInt Syntax.w64) Syntax.tnil) (Syntax.ttcons (Syntax.tcons (Syntax.tyInt
+          Syntax.w64) Syntax.tnil) (Syntax.ttcons (Syntax.tcons (Syntax.tyInt Syntax.w64) Syntax.tnil) (Syntax.ttcons Syntax.tnil Syntax.ttnil)))))))))))))))))))))),
+    ) (List._∷_ (12, Rows.any-gone Syntax.tyPtr)
+    (List._∷_ (13, Rows.any-gone (Syntax.tyRef Syntax.erased Syntax.mut (Syntax.tyInt Syntax.w16))) (List._∷_ (
+      14,
+      Mut.mslice (Referent.rtF (Referent.fInt Syntax.w16)) (Syntax.tyRef Syntax.erased
+          Syntax.mut (Syntax.tyInt Syntax.w16)) 3,
+    ) (List._∷_ (15, Rows.sc-here Row.sPtr) List.[])))))))))))))))
 
 abbrev pub t27 : List.List Row.Entry
 t27 = List._∷_ (
@@ -1554,41 +1636,45 @@ t27 = List._∷_ (
       (Syntax.ttcons Syntax.tnil (Syntax.ttcons Syntax.tnil (Syntax.ttcons (Syntax.tcons (Syntax.tyInt Syntax.w64) Syntax.tnil) (Syntax.ttcons Syntax.tnil (Syntax.ttcons Syntax.tnil (Syntax.ttcons
       Syntax.tnil (Syntax.ttcons Syntax.tnil (Syntax.ttcons Syntax.tnil (Syntax.ttcons Syntax.tnil (Syntax.ttcons (Syntax.tcons (Syntax.tyInt Syntax.w64) Syntax.tnil) (Syntax.ttcons (Syntax.tcons
       (Syntax.tyInt Syntax.w64) Syntax.tnil) (Syntax.ttcons Syntax.tnil (Syntax.ttcons (Syntax.tcons (Syntax.tyInt Syntax.w64) (Syntax.tcons (Syntax.tyInt Syntax.w64) Syntax.tnil)) (Syntax.ttcons
-      (Syntax.tcons (Syntax.tyInt Syntax.w64) Syntax.tnil) (Syntax.ttcons Syntax.tnil Syntax.ttnil))))))))))))))))) Syntax.tnil) Syntax.ttnil))),
-) (List._∷_ (
-  1,
-  Rows.sslice (Referent.rtF (Referent.fInt
-      Syntax.w8)) (Syntax.tyRef (Syntax.named 0) Syntax.imm (Syntax.tyInt Syntax.w8)) 0,
-) (List._∷_ (2, Rows.whole (Declared'.row FujiHeader.the-type)) (List._∷_ (3, Rows.sc-here (Row.sInt Syntax.w64))
-    (List._∷_ (4, PartMut.mslice-owedM (Referent.rtF (Referent.fInt Syntax.w16)) (Syntax.tyRef (Syntax.named 1) Syntax.mut (Syntax.tyInt Syntax.w16)) 1 3 Row.off) (List._∷_ (
-      5,
-      Mut.mslice
-          (Element.type) (Syntax.tyRef (Syntax.named 2) Syntax.mut Element.behind) 2,
-    ) (List._∷_ (6, Rows.sc-here (Row.sInt Syntax.w64)) (List._∷_ (7, Rows.any-gone (Syntax.tyInt Syntax.w64)) (List._∷_ (
-      8,
-      Rows.sc-here (Row.sInt Syntax.w64),
-    ) (List._∷_ (9, Rows.any-gone Syntax.tyBool) (List._∷_ (
+      (Syntax.tcons (Syntax.tyInt Syntax.w64) Syntax.tnil) (Syntax.ttcons Syntax.tnil (Syntax.ttcons Syntax.tnil (Syntax.ttcons (Syntax.tcons (Syntax.tyInt Syntax.w64) Syntax.tnil) (Syntax.ttcons
+      (Syntax.tcons (Syntax.tyInt Syntax.w64) Syntax.tnil) (Syntax.ttcons (Syntax.tcons (Syntax.tyInt Syntax.w64) Syntax.tnil) (Syntax.ttcons Syntax.tnil Syntax.ttnil)))))))))))))))))))))) Syntax.tnil)
+      Syntax.ttnil))),
+) (List._∷_ (1, Rows.sslice (Referent.rtF (Referent.fInt Syntax.w8)) (Syntax.tyRef (Syntax.named 0) Syntax.imm (Syntax.tyInt Syntax.w8)) 0) (List._∷_ (
+  2,
+  Rows.whole (Declared'.row
+      FujiHeader.the-type),
+) (List._∷_ (3, Rows.sc-here (Row.sInt Syntax.w64)) (List._∷_ (
+  4,
+  PartMut.mslice-owedM (Referent.rtF (Referent.fInt Syntax.w16)) (Syntax.tyRef (Syntax.named 1) Syntax.mut
+      (Syntax.tyInt Syntax.w16)) 1 3 Row.off,
+) (List._∷_ (5, Mut.mslice (Element.type) (Syntax.tyRef (Syntax.named 2) Syntax.mut Element.behind) 2) (List._∷_ (6, Rows.sc-here (Row.sInt Syntax.w64))
+    (List._∷_ (7, Rows.any-gone (Syntax.tyInt Syntax.w64)) (List._∷_ (8, Rows.sc-here (Row.sInt Syntax.w64)) (List._∷_ (9, Rows.any-gone Syntax.tyBool) (List._∷_ (
       10,
-      Rows.any-gone (Syntax.tyEnum (List._∷_ 115 (List._∷_ 116 (List._∷_ 114 (List._∷_ 101 (List._∷_ 97
-          (List._∷_ 109 (List._∷_ 58 (List._∷_ 58 (List._∷_ 82 (List._∷_ 101 (List._∷_ 102 (List._∷_ 117 (List._∷_ 115 (List._∷_ 97 (List._∷_ 108 List.[]))))))))))))))) (Syntax.ttcons Syntax.tnil (Syntax.ttcons
-          Syntax.tnil (Syntax.ttcons Syntax.tnil (Syntax.ttcons (Syntax.tcons (Syntax.tyInt Syntax.w64) Syntax.tnil) (Syntax.ttcons Syntax.tnil (Syntax.ttcons Syntax.tnil (Syntax.ttcons Syntax.tnil
-          (Syntax.ttcons Syntax.tnil (Syntax.ttcons Syntax.tnil (Syntax.ttcons Syntax.tnil (Syntax.ttcons (Syntax.tcons (Syntax.tyInt Syntax.w64) Syntax.tnil) (Syntax.ttcons (Syntax.tcons (Syntax.tyInt
-          Syntax.w64) Syntax.tnil) (Syntax.ttcons Syntax.tnil (Syntax.ttcons (Syntax.tcons (Syntax.tyInt Syntax.w64) (Syntax.tcons (Syntax.tyInt Syntax.w64) Syntax.tnil)) (Syntax.ttcons (Syntax.tcons
-          (Syntax.tyInt Syntax.w64) Syntax.tnil) (Syntax.ttcons Syntax.tnil Syntax.ttnil))))))))))))))))),
+      Rows.any-gone (Syntax.tyEnum
+          (List._∷_ 115 (List._∷_ 116 (List._∷_ 114 (List._∷_ 101 (List._∷_ 97 (List._∷_ 109 (List._∷_ 58 (List._∷_ 58 (List._∷_ 82 (List._∷_ 101 (List._∷_ 102 (List._∷_ 117 (List._∷_ 115 (List._∷_ 97 (List._∷_
+          108 List.[]))))))))))))))) (Syntax.ttcons Syntax.tnil (Syntax.ttcons Syntax.tnil (Syntax.ttcons Syntax.tnil (Syntax.ttcons (Syntax.tcons (Syntax.tyInt Syntax.w64) Syntax.tnil) (Syntax.ttcons
+          Syntax.tnil (Syntax.ttcons Syntax.tnil (Syntax.ttcons Syntax.tnil (Syntax.ttcons Syntax.tnil (Syntax.ttcons Syntax.tnil (Syntax.ttcons Syntax.tnil (Syntax.ttcons (Syntax.tcons (Syntax.tyInt
+          Syntax.w64) Syntax.tnil) (Syntax.ttcons (Syntax.tcons (Syntax.tyInt Syntax.w64) Syntax.tnil) (Syntax.ttcons Syntax.tnil (Syntax.ttcons (Syntax.tcons (Syntax.tyInt Syntax.w64) (Syntax.tcons
+          (Syntax.tyInt Syntax.w64) Syntax.tnil)) (Syntax.ttcons (Syntax.tcons (Syntax.tyInt Syntax.w64) Syntax.tnil) (Syntax.ttcons Syntax.tnil (Syntax.ttcons Syntax.tnil (Syntax.ttcons (Syntax.tcons
+          (Syntax.tyInt Syntax.w64) Syntax.tnil) (Syntax.ttcons (Syntax.tcons (Syntax.tyInt Syntax.w64) Syntax.tnil) (Syntax.ttcons (Syntax.tcons (Syntax.tyInt Syntax.w64) Syntax.tnil) (Syntax.ttcons
+          Syntax.tnil Syntax.ttnil)))))))))))))))))))))),
     ) (List._∷_ (
       11,
-      Rows.any-gone (Syntax.tyEnum (List._∷_ 115 (List._∷_ 116 (List._∷_ 114 (List._∷_ 101
-          (List._∷_ 97 (List._∷_ 109 (List._∷_ 58 (List._∷_ 58 (List._∷_ 82 (List._∷_ 101 (List._∷_ 102 (List._∷_ 117 (List._∷_ 115 (List._∷_ 97 (List._∷_ 108 List.[]))))))))))))))) (Syntax.ttcons Syntax.tnil
-          (Syntax.ttcons Syntax.tnil (Syntax.ttcons Syntax.tnil (Syntax.ttcons (Syntax.tcons (Syntax.tyInt Syntax.w64) Syntax.tnil) (Syntax.ttcons Syntax.tnil (Syntax.ttcons Syntax.tnil (Syntax.ttcons
-          Syntax.tnil (Syntax.ttcons Syntax.tnil (Syntax.ttcons Syntax.tnil (Syntax.ttcons Syntax.tnil (Syntax.ttcons (Syntax.tcons (Syntax.tyInt Syntax.w64) Syntax.tnil) (Syntax.ttcons (Syntax.tcons
-          (Syntax.tyInt Syntax.w64) Syntax.tnil) (Syntax.ttcons Syntax.tnil (Syntax.ttcons (Syntax.tcons (Syntax.tyInt Syntax.w64) (Syntax.tcons (Syntax.tyInt Syntax.w64) Syntax.tnil)) (Syntax.ttcons
-          (Syntax.tcons (Syntax.tyInt Syntax.w64) Syntax.tnil) (Syntax.ttcons Syntax.tnil Syntax.ttnil))))))))))))))))),
+      Rows.any-gone (Syntax.tyEnum (List._∷_ 115 (List._∷_ 116 (List._∷_ 114 (List._∷_ 101 (List._∷_ 97 (List._∷_ 109 (List._∷_ 58 (List._∷_
+          58 (List._∷_ 82 (List._∷_ 101 (List._∷_ 102 (List._∷_ 117 (List._∷_ 115 (List._∷_ 97 (List._∷_ 108 List.[]))))))))))))))) (Syntax.ttcons Syntax.tnil (Syntax.ttcons Syntax.tnil (Syntax.ttcons
+          Syntax.tnil (Syntax.ttcons (Syntax.tcons (Syntax.tyInt Syntax.w64) Syntax.tnil) (Syntax.ttcons Syntax.tnil (Syntax.ttcons Syntax.tnil (Syntax.ttcons Syntax.tnil (Syntax.ttcons Syntax.tnil
+          (Syntax.ttcons Syntax.tnil (Syntax.ttcons Syntax.tnil (Syntax.ttcons (Syntax.tcons (Syntax.tyInt Syntax.w64) Syntax.tnil) (Syntax.ttcons (Syntax.tcons (Syntax.tyInt Syntax.w64) Syntax.tnil)
+          (Syntax.ttcons Syntax.tnil (Syntax.ttcons (Syntax.tcons (Syntax.tyInt Syntax.w64) (Syntax.tcons (Syntax.tyInt Syntax.w64) Syntax.tnil)) (Syntax.ttcons (Syntax.tcons (Syntax.tyInt Syntax.w64)
+          Syntax.tnil) (Syntax.ttcons Syntax.tnil (Syntax.ttcons Syntax.tnil (Syntax.ttcons (Syntax.tcons (Syntax.tyInt Syntax.w64) Syntax.tnil) (Syntax.ttcons (Syntax.tcons (Syntax.tyInt Syntax.w64)
+          Syntax.tnil) (Syntax.ttcons (Syntax.tcons (Syntax.tyInt Syntax.w64) Syntax.tnil) (Syntax.ttcons Syntax.tnil Syntax.ttnil)))))))))))))))))))))),
     ) (List._∷_ (12, Rows.any-gone Syntax.tyPtr) (List._∷_ (
       13,
-      Rows.any-gone (Syntax.tyRef
-          Syntax.erased Syntax.mut (Syntax.tyInt Syntax.w16)),
-    ) (List._∷_ (14, Mut.mslice (Referent.rtF (Referent.fInt Syntax.w16)) (Syntax.tyRef Syntax.erased Syntax.mut (Syntax.tyInt Syntax.w16)) 3)
-    (List._∷_ (15, Rows.sc-here Row.sPtr) List.[])))))))))))))))
+      Rows.any-gone (Syntax.tyRef Syntax.erased Syntax.mut (Syntax.tyInt Syntax.w16)),
+    ) (List._∷_ (
+      14,
+      Mut.mslice (Referent.rtF (Referent.fInt Syntax.w16)) (Syntax.tyRef Syntax.erased Syntax.mut
+          (Syntax.tyInt Syntax.w16)) 3,
+    ) (List._∷_ (15, Rows.sc-here Row.sPtr) List.[])))))))))))))))
 
 abbrev pub t28 : List.List Row.Entry
 t28 = List._∷_ (
@@ -1599,42 +1685,48 @@ t28 = List._∷_ (
       (Syntax.ttcons Syntax.tnil (Syntax.ttcons Syntax.tnil (Syntax.ttcons (Syntax.tcons (Syntax.tyInt Syntax.w64) Syntax.tnil) (Syntax.ttcons Syntax.tnil (Syntax.ttcons Syntax.tnil (Syntax.ttcons
       Syntax.tnil (Syntax.ttcons Syntax.tnil (Syntax.ttcons Syntax.tnil (Syntax.ttcons Syntax.tnil (Syntax.ttcons (Syntax.tcons (Syntax.tyInt Syntax.w64) Syntax.tnil) (Syntax.ttcons (Syntax.tcons
       (Syntax.tyInt Syntax.w64) Syntax.tnil) (Syntax.ttcons Syntax.tnil (Syntax.ttcons (Syntax.tcons (Syntax.tyInt Syntax.w64) (Syntax.tcons (Syntax.tyInt Syntax.w64) Syntax.tnil)) (Syntax.ttcons
-      (Syntax.tcons (Syntax.tyInt Syntax.w64) Syntax.tnil) (Syntax.ttcons Syntax.tnil Syntax.ttnil))))))))))))))))) Syntax.tnil) Syntax.ttnil))),
+      (Syntax.tcons (Syntax.tyInt Syntax.w64) Syntax.tnil) (Syntax.ttcons Syntax.tnil (Syntax.ttcons Syntax.tnil (Syntax.ttcons (Syntax.tcons (Syntax.tyInt Syntax.w64) Syntax.tnil) (Syntax.ttcons
+      (Syntax.tcons (Syntax.tyInt Syntax.w64) Syntax.tnil) (Syntax.ttcons (Syntax.tcons (Syntax.tyInt Syntax.w64) Syntax.tnil) (Syntax.ttcons Syntax.tnil Syntax.ttnil)))))))))))))))))))))) Syntax.tnil)
+      Syntax.ttnil))),
+) (List._∷_ (1, Rows.sslice (Referent.rtF (Referent.fInt Syntax.w8)) (Syntax.tyRef (Syntax.named 0) Syntax.imm (Syntax.tyInt Syntax.w8)) 0) (List._∷_ (
+  2,
+  Rows.whole (Declared'.row
+      FujiHeader.the-type),
+) (List._∷_ (3, Rows.sc-here (Row.sInt Syntax.w64)) (List._∷_ (
+  4,
+  PartMut.mslice-owedM (Referent.rtF (Referent.fInt Syntax.w16)) (Syntax.tyRef (Syntax.named 1) Syntax.mut
+      (Syntax.tyInt Syntax.w16)) 1 3 Row.off,
+) (List._∷_ (5, PartMut.mslice-owedM (Element.type) (Syntax.tyRef (Syntax.named 2) Syntax.mut Element.behind) 2 4 Row.off) (List._∷_ (
+  6,
+  Rows.sc-here
+      (Row.sInt Syntax.w64),
+) (List._∷_ (7, Rows.any-gone (Syntax.tyInt Syntax.w64)) (List._∷_ (8, Rows.sc-here (Row.sInt Syntax.w64)) (List._∷_ (9, Rows.any-gone Syntax.tyBool) (List._∷_ (
+  10,
+  Rows.any-gone (Syntax.tyEnum (List._∷_ 115 (List._∷_ 116 (List._∷_ 114 (List._∷_ 101 (List._∷_ 97 (List._∷_ 109 (List._∷_ 58 (List._∷_ 58 (List._∷_ 82 (List._∷_ 101 (List._∷_ 102 (List._∷_ 117
+      (List._∷_ 115 (List._∷_ 97 (List._∷_ 108 List.[]))))))))))))))) (Syntax.ttcons Syntax.tnil (Syntax.ttcons Syntax.tnil (Syntax.ttcons Syntax.tnil (Syntax.ttcons (Syntax.tcons (Syntax.tyInt Syntax.w64)
+      Syntax.tnil) (Syntax.ttcons Syntax.tnil (Syntax.ttcons Syntax.tnil (Syntax.ttcons Syntax.tnil (Syntax.ttcons Syntax.tnil (Syntax.ttcons Syntax.tnil (Syntax.ttcons Syntax.tnil (Syntax.ttcons
+      (Syntax.tcons (Syntax.tyInt Syntax.w64) Syntax.tnil) (Syntax.ttcons (Syntax.tcons (Syntax.tyInt Syntax.w64) Syntax.tnil) (Syntax.ttcons Syntax.tnil (Syntax.ttcons (Syntax.tcons (Syntax.tyInt
+      Syntax.w64) (Syntax.tcons (Syntax.tyInt Syntax.w64) Syntax.tnil)) (Syntax.ttcons (Syntax.tcons (Syntax.tyInt Syntax.w64) Syntax.tnil) (Syntax.ttcons Syntax.tnil (Syntax.ttcons Syntax.tnil
+      (Syntax.ttcons (Syntax.tcons (Syntax.tyInt Syntax.w64) Syntax.tnil) (Syntax.ttcons (Syntax.tcons (Syntax.tyInt Syntax.w64) Syntax.tnil) (Syntax.ttcons (Syntax.tcons (Syntax.tyInt Syntax.w64)
+      Syntax.tnil) (Syntax.ttcons Syntax.tnil Syntax.ttnil)))))))))))))))))))))),
 ) (List._∷_ (
-  1,
-  Rows.sslice (Referent.rtF (Referent.fInt
-      Syntax.w8)) (Syntax.tyRef (Syntax.named 0) Syntax.imm (Syntax.tyInt Syntax.w8)) 0,
-) (List._∷_ (2, Rows.whole (Declared'.row FujiHeader.the-type)) (List._∷_ (3, Rows.sc-here (Row.sInt Syntax.w64))
-    (List._∷_ (4, PartMut.mslice-owedM (Referent.rtF (Referent.fInt Syntax.w16)) (Syntax.tyRef (Syntax.named 1) Syntax.mut (Syntax.tyInt Syntax.w16)) 1 3 Row.off) (List._∷_ (
-      5,
-      PartMut.mslice-owedM
-          (Element.type) (Syntax.tyRef (Syntax.named 2) Syntax.mut Element.behind) 2 4 Row.off,
-    ) (List._∷_ (6, Rows.sc-here (Row.sInt Syntax.w64)) (List._∷_ (7, Rows.any-gone (Syntax.tyInt Syntax.w64))
-    (List._∷_ (8, Rows.sc-here (Row.sInt Syntax.w64)) (List._∷_ (9, Rows.any-gone Syntax.tyBool) (List._∷_ (
-      10,
-      Rows.any-gone (Syntax.tyEnum (List._∷_ 115 (List._∷_ 116 (List._∷_ 114 (List._∷_ 101
-          (List._∷_ 97 (List._∷_ 109 (List._∷_ 58 (List._∷_ 58 (List._∷_ 82 (List._∷_ 101 (List._∷_ 102 (List._∷_ 117 (List._∷_ 115 (List._∷_ 97 (List._∷_ 108 List.[]))))))))))))))) (Syntax.ttcons Syntax.tnil
-          (Syntax.ttcons Syntax.tnil (Syntax.ttcons Syntax.tnil (Syntax.ttcons (Syntax.tcons (Syntax.tyInt Syntax.w64) Syntax.tnil) (Syntax.ttcons Syntax.tnil (Syntax.ttcons Syntax.tnil (Syntax.ttcons
-          Syntax.tnil (Syntax.ttcons Syntax.tnil (Syntax.ttcons Syntax.tnil (Syntax.ttcons Syntax.tnil (Syntax.ttcons (Syntax.tcons (Syntax.tyInt Syntax.w64) Syntax.tnil) (Syntax.ttcons (Syntax.tcons
-          (Syntax.tyInt Syntax.w64) Syntax.tnil) (Syntax.ttcons Syntax.tnil (Syntax.ttcons (Syntax.tcons (Syntax.tyInt Syntax.w64) (Syntax.tcons (Syntax.tyInt Syntax.w64) Syntax.tnil)) (Syntax.ttcons
-          (Syntax.tcons (Syntax.tyInt Syntax.w64) Syntax.tnil) (Syntax.ttcons Syntax.tnil Syntax.ttnil))))))))))))))))),
-    ) (List._∷_ (
-      11,
-      Rows.any-gone (Syntax.tyEnum (List._∷_ 115 (List._∷_ 116 (List._∷_ 114
-          (List._∷_ 101 (List._∷_ 97 (List._∷_ 109 (List._∷_ 58 (List._∷_ 58 (List._∷_ 82 (List._∷_ 101 (List._∷_ 102 (List._∷_ 117 (List._∷_ 115 (List._∷_ 97 (List._∷_ 108 List.[]))))))))))))))) (Syntax.ttcons
-          Syntax.tnil (Syntax.ttcons Syntax.tnil (Syntax.ttcons Syntax.tnil (Syntax.ttcons (Syntax.tcons (Syntax.tyInt Syntax.w64) Syntax.tnil) (Syntax.ttcons Syntax.tnil (Syntax.ttcons Syntax.tnil
-          (Syntax.ttcons Syntax.tnil (Syntax.ttcons Syntax.tnil (Syntax.ttcons Syntax.tnil (Syntax.ttcons Syntax.tnil (Syntax.ttcons (Syntax.tcons (Syntax.tyInt Syntax.w64) Syntax.tnil) (Syntax.ttcons
-          (Syntax.tcons (Syntax.tyInt Syntax.w64) Syntax.tnil) (Syntax.ttcons Syntax.tnil (Syntax.ttcons (Syntax.tcons (Syntax.tyInt Syntax.w64) (Syntax.tcons (Syntax.tyInt Syntax.w64) Syntax.tnil))
-          (Syntax.ttcons (Syntax.tcons (Syntax.tyInt Syntax.w64) Syntax.tnil) (Syntax.ttcons Syntax.tnil Syntax.ttnil))))))))))))))))),
-    ) (List._∷_ (12, Rows.any-gone Syntax.tyPtr) (List._∷_ (
-      13,
-      Rows.any-gone
-          (Syntax.tyRef Syntax.erased Syntax.mut (Syntax.tyInt Syntax.w16)),
-    ) (List._∷_ (
-      14,
-      Mut.mslice (Referent.rtF (Referent.fInt Syntax.w16)) (Syntax.tyRef Syntax.erased Syntax.mut (Syntax.tyInt
-          Syntax.w16)) 3,
-    ) (List._∷_ (15, Rows.sc-here Row.sPtr) List.[])))))))))))))))
+  11,
+  Rows.any-gone (Syntax.tyEnum (List._∷_ 115 (List._∷_ 116 (List._∷_ 114 (List._∷_ 101 (List._∷_ 97
+      (List._∷_ 109 (List._∷_ 58 (List._∷_ 58 (List._∷_ 82 (List._∷_ 101 (List._∷_ 102 (List._∷_ 117 (List._∷_ 115 (List._∷_ 97 (List._∷_ 108 List.[]))))))))))))))) (Syntax.ttcons Syntax.tnil (Syntax.ttcons
+      Syntax.tnil (Syntax.ttcons Syntax.tnil (Syntax.ttcons (Syntax.tcons (Syntax.tyInt Syntax.w64) Syntax.tnil) (Syntax.ttcons Syntax.tnil (Syntax.ttcons Syntax.tnil (Syntax.ttcons Syntax.tnil
+      (Syntax.ttcons Syntax.tnil (Syntax.ttcons Syntax.tnil (Syntax.ttcons Syntax.tnil (Syntax.ttcons (Syntax.tcons (Syntax.tyInt Syntax.w64) Syntax.tnil) (Syntax.ttcons (Syntax.tcons (Syntax.tyInt
+      Syntax.w64) Syntax.tnil) (Syntax.ttcons Syntax.tnil (Syntax.ttcons (Syntax.tcons (Syntax.tyInt Syntax.w64) (Syntax.tcons (Syntax.tyInt Syntax.w64) Syntax.tnil)) (Syntax.ttcons (Syntax.tcons
+      (Syntax.tyInt Syntax.w64) Syntax.tnil) (Syntax.ttcons Syntax.tnil (Syntax.ttcons Syntax.tnil (Syntax.ttcons (Syntax.tcons (Syntax.tyInt Syntax.w64) Syntax.tnil) (Syntax.ttcons (Syntax.tcons
+      (Syntax.tyInt Syntax.w64) Syntax.tnil) (Syntax.ttcons (Syntax.tcons (Syntax.tyInt Syntax.w64) Syntax.tnil) (Syntax.ttcons Syntax.tnil Syntax.ttnil)))))))))))))))))))))),
+) (List._∷_ (
+  12,
+  Rows.any-gone
+      Syntax.tyPtr,
+) (List._∷_ (13, Rows.any-gone (Syntax.tyRef Syntax.erased Syntax.mut (Syntax.tyInt Syntax.w16))) (List._∷_ (
+  14,
+  Mut.mslice (Referent.rtF (Referent.fInt Syntax.w16)) (Syntax.tyRef
+      Syntax.erased Syntax.mut (Syntax.tyInt Syntax.w16)) 3,
+) (List._∷_ (15, Rows.sc-here Row.sPtr) List.[])))))))))))))))
 
 abbrev pub t29 : List.List Row.Entry
 t29 = List._∷_ (16, Relend.msptr (Element.type) (Syntax.tyRef Syntax.erased Syntax.mut Element.behind) 4) (List._∷_ (
@@ -1652,42 +1744,48 @@ t30 = List._∷_ (
       (Syntax.ttcons Syntax.tnil (Syntax.ttcons Syntax.tnil (Syntax.ttcons (Syntax.tcons (Syntax.tyInt Syntax.w64) Syntax.tnil) (Syntax.ttcons Syntax.tnil (Syntax.ttcons Syntax.tnil (Syntax.ttcons
       Syntax.tnil (Syntax.ttcons Syntax.tnil (Syntax.ttcons Syntax.tnil (Syntax.ttcons Syntax.tnil (Syntax.ttcons (Syntax.tcons (Syntax.tyInt Syntax.w64) Syntax.tnil) (Syntax.ttcons (Syntax.tcons
       (Syntax.tyInt Syntax.w64) Syntax.tnil) (Syntax.ttcons Syntax.tnil (Syntax.ttcons (Syntax.tcons (Syntax.tyInt Syntax.w64) (Syntax.tcons (Syntax.tyInt Syntax.w64) Syntax.tnil)) (Syntax.ttcons
-      (Syntax.tcons (Syntax.tyInt Syntax.w64) Syntax.tnil) (Syntax.ttcons Syntax.tnil Syntax.ttnil))))))))))))))))) Syntax.tnil) Syntax.ttnil))),
+      (Syntax.tcons (Syntax.tyInt Syntax.w64) Syntax.tnil) (Syntax.ttcons Syntax.tnil (Syntax.ttcons Syntax.tnil (Syntax.ttcons (Syntax.tcons (Syntax.tyInt Syntax.w64) Syntax.tnil) (Syntax.ttcons
+      (Syntax.tcons (Syntax.tyInt Syntax.w64) Syntax.tnil) (Syntax.ttcons (Syntax.tcons (Syntax.tyInt Syntax.w64) Syntax.tnil) (Syntax.ttcons Syntax.tnil Syntax.ttnil)))))))))))))))))))))) Syntax.tnil)
+      Syntax.ttnil))),
+) (List._∷_ (1, Rows.sslice (Referent.rtF (Referent.fInt Syntax.w8)) (Syntax.tyRef (Syntax.named 0) Syntax.imm (Syntax.tyInt Syntax.w8)) 0) (List._∷_ (
+  2,
+  Rows.whole (Declared'.row
+      FujiHeader.the-type),
+) (List._∷_ (3, Rows.sc-here (Row.sInt Syntax.w64)) (List._∷_ (
+  4,
+  PartMut.mslice-owedM (Referent.rtF (Referent.fInt Syntax.w16)) (Syntax.tyRef (Syntax.named 1) Syntax.mut
+      (Syntax.tyInt Syntax.w16)) 1 3 Row.off,
+) (List._∷_ (5, PartMut.mslice-owedM (Element.type) (Syntax.tyRef (Syntax.named 2) Syntax.mut Element.behind) 2 4 Row.off) (List._∷_ (
+  6,
+  Rows.sc-here
+      (Row.sInt Syntax.w64),
+) (List._∷_ (7, Rows.any-gone (Syntax.tyInt Syntax.w64)) (List._∷_ (8, Rows.sc-here (Row.sInt Syntax.w64)) (List._∷_ (9, Rows.any-gone Syntax.tyBool) (List._∷_ (
+  10,
+  Rows.any-gone (Syntax.tyEnum (List._∷_ 115 (List._∷_ 116 (List._∷_ 114 (List._∷_ 101 (List._∷_ 97 (List._∷_ 109 (List._∷_ 58 (List._∷_ 58 (List._∷_ 82 (List._∷_ 101 (List._∷_ 102 (List._∷_ 117
+      (List._∷_ 115 (List._∷_ 97 (List._∷_ 108 List.[]))))))))))))))) (Syntax.ttcons Syntax.tnil (Syntax.ttcons Syntax.tnil (Syntax.ttcons Syntax.tnil (Syntax.ttcons (Syntax.tcons (Syntax.tyInt Syntax.w64)
+      Syntax.tnil) (Syntax.ttcons Syntax.tnil (Syntax.ttcons Syntax.tnil (Syntax.ttcons Syntax.tnil (Syntax.ttcons Syntax.tnil (Syntax.ttcons Syntax.tnil (Syntax.ttcons Syntax.tnil (Syntax.ttcons
+      (Syntax.tcons (Syntax.tyInt Syntax.w64) Syntax.tnil) (Syntax.ttcons (Syntax.tcons (Syntax.tyInt Syntax.w64) Syntax.tnil) (Syntax.ttcons Syntax.tnil (Syntax.ttcons (Syntax.tcons (Syntax.tyInt
+      Syntax.w64) (Syntax.tcons (Syntax.tyInt Syntax.w64) Syntax.tnil)) (Syntax.ttcons (Syntax.tcons (Syntax.tyInt Syntax.w64) Syntax.tnil) (Syntax.ttcons Syntax.tnil (Syntax.ttcons Syntax.tnil
+      (Syntax.ttcons (Syntax.tcons (Syntax.tyInt Syntax.w64) Syntax.tnil) (Syntax.ttcons (Syntax.tcons (Syntax.tyInt Syntax.w64) Syntax.tnil) (Syntax.ttcons (Syntax.tcons (Syntax.tyInt Syntax.w64)
+      Syntax.tnil) (Syntax.ttcons Syntax.tnil Syntax.ttnil)))))))))))))))))))))),
 ) (List._∷_ (
-  1,
-  Rows.sslice (Referent.rtF (Referent.fInt
-      Syntax.w8)) (Syntax.tyRef (Syntax.named 0) Syntax.imm (Syntax.tyInt Syntax.w8)) 0,
-) (List._∷_ (2, Rows.whole (Declared'.row FujiHeader.the-type)) (List._∷_ (3, Rows.sc-here (Row.sInt Syntax.w64))
-    (List._∷_ (4, PartMut.mslice-owedM (Referent.rtF (Referent.fInt Syntax.w16)) (Syntax.tyRef (Syntax.named 1) Syntax.mut (Syntax.tyInt Syntax.w16)) 1 3 Row.off) (List._∷_ (
-      5,
-      PartMut.mslice-owedM
-          (Element.type) (Syntax.tyRef (Syntax.named 2) Syntax.mut Element.behind) 2 4 Row.off,
-    ) (List._∷_ (6, Rows.sc-here (Row.sInt Syntax.w64)) (List._∷_ (7, Rows.any-gone (Syntax.tyInt Syntax.w64))
-    (List._∷_ (8, Rows.sc-here (Row.sInt Syntax.w64)) (List._∷_ (9, Rows.any-gone Syntax.tyBool) (List._∷_ (
-      10,
-      Rows.any-gone (Syntax.tyEnum (List._∷_ 115 (List._∷_ 116 (List._∷_ 114 (List._∷_ 101
-          (List._∷_ 97 (List._∷_ 109 (List._∷_ 58 (List._∷_ 58 (List._∷_ 82 (List._∷_ 101 (List._∷_ 102 (List._∷_ 117 (List._∷_ 115 (List._∷_ 97 (List._∷_ 108 List.[]))))))))))))))) (Syntax.ttcons Syntax.tnil
-          (Syntax.ttcons Syntax.tnil (Syntax.ttcons Syntax.tnil (Syntax.ttcons (Syntax.tcons (Syntax.tyInt Syntax.w64) Syntax.tnil) (Syntax.ttcons Syntax.tnil (Syntax.ttcons Syntax.tnil (Syntax.ttcons
-          Syntax.tnil (Syntax.ttcons Syntax.tnil (Syntax.ttcons Syntax.tnil (Syntax.ttcons Syntax.tnil (Syntax.ttcons (Syntax.tcons (Syntax.tyInt Syntax.w64) Syntax.tnil) (Syntax.ttcons (Syntax.tcons
-          (Syntax.tyInt Syntax.w64) Syntax.tnil) (Syntax.ttcons Syntax.tnil (Syntax.ttcons (Syntax.tcons (Syntax.tyInt Syntax.w64) (Syntax.tcons (Syntax.tyInt Syntax.w64) Syntax.tnil)) (Syntax.ttcons
-          (Syntax.tcons (Syntax.tyInt Syntax.w64) Syntax.tnil) (Syntax.ttcons Syntax.tnil Syntax.ttnil))))))))))))))))),
-    ) (List._∷_ (
-      11,
-      Rows.any-gone (Syntax.tyEnum (List._∷_ 115 (List._∷_ 116 (List._∷_ 114
-          (List._∷_ 101 (List._∷_ 97 (List._∷_ 109 (List._∷_ 58 (List._∷_ 58 (List._∷_ 82 (List._∷_ 101 (List._∷_ 102 (List._∷_ 117 (List._∷_ 115 (List._∷_ 97 (List._∷_ 108 List.[]))))))))))))))) (Syntax.ttcons
-          Syntax.tnil (Syntax.ttcons Syntax.tnil (Syntax.ttcons Syntax.tnil (Syntax.ttcons (Syntax.tcons (Syntax.tyInt Syntax.w64) Syntax.tnil) (Syntax.ttcons Syntax.tnil (Syntax.ttcons Syntax.tnil
-          (Syntax.ttcons Syntax.tnil (Syntax.ttcons Syntax.tnil (Syntax.ttcons Syntax.tnil (Syntax.ttcons Syntax.tnil (Syntax.ttcons (Syntax.tcons (Syntax.tyInt Syntax.w64) Syntax.tnil) (Syntax.ttcons
-          (Syntax.tcons (Syntax.tyInt Syntax.w64) Syntax.tnil) (Syntax.ttcons Syntax.tnil (Syntax.ttcons (Syntax.tcons (Syntax.tyInt Syntax.w64) (Syntax.tcons (Syntax.tyInt Syntax.w64) Syntax.tnil))
-          (Syntax.ttcons (Syntax.tcons (Syntax.tyInt Syntax.w64) Syntax.tnil) (Syntax.ttcons Syntax.tnil Syntax.ttnil))))))))))))))))),
-    ) (List._∷_ (12, Rows.any-gone Syntax.tyPtr) (List._∷_ (
-      13,
-      Rows.any-gone
-          (Syntax.tyRef Syntax.erased Syntax.mut (Syntax.tyInt Syntax.w16)),
-    ) (List._∷_ (
-      14,
-      Mut.mslice (Referent.rtF (Referent.fInt Syntax.w16)) (Syntax.tyRef Syntax.erased Syntax.mut (Syntax.tyInt
-          Syntax.w16)) 3,
-    ) (List._∷_ (15, Rows.any-gone Syntax.tyPtr) List.[])))))))))))))))
+  11,
+  Rows.any-gone (Syntax.tyEnum (List._∷_ 115 (List._∷_ 116 (List._∷_ 114 (List._∷_ 101 (List._∷_ 97
+      (List._∷_ 109 (List._∷_ 58 (List._∷_ 58 (List._∷_ 82 (List._∷_ 101 (List._∷_ 102 (List._∷_ 117 (List._∷_ 115 (List._∷_ 97 (List._∷_ 108 List.[]))))))))))))))) (Syntax.ttcons Syntax.tnil (Syntax.ttcons
+      Syntax.tnil (Syntax.ttcons Syntax.tnil (Syntax.ttcons (Syntax.tcons (Syntax.tyInt Syntax.w64) Syntax.tnil) (Syntax.ttcons Syntax.tnil (Syntax.ttcons Syntax.tnil (Syntax.ttcons Syntax.tnil
+      (Syntax.ttcons Syntax.tnil (Syntax.ttcons Syntax.tnil (Syntax.ttcons Syntax.tnil (Syntax.ttcons (Syntax.tcons (Syntax.tyInt Syntax.w64) Syntax.tnil) (Syntax.ttcons (Syntax.tcons (Syntax.tyInt
+      Syntax.w64) Syntax.tnil) (Syntax.ttcons Syntax.tnil (Syntax.ttcons (Syntax.tcons (Syntax.tyInt Syntax.w64) (Syntax.tcons (Syntax.tyInt Syntax.w64) Syntax.tnil)) (Syntax.ttcons (Syntax.tcons
+      (Syntax.tyInt Syntax.w64) Syntax.tnil) (Syntax.ttcons Syntax.tnil (Syntax.ttcons Syntax.tnil (Syntax.ttcons (Syntax.tcons (Syntax.tyInt Syntax.w64) Syntax.tnil) (Syntax.ttcons (Syntax.tcons
+      (Syntax.tyInt Syntax.w64) Syntax.tnil) (Syntax.ttcons (Syntax.tcons (Syntax.tyInt Syntax.w64) Syntax.tnil) (Syntax.ttcons Syntax.tnil Syntax.ttnil)))))))))))))))))))))),
+) (List._∷_ (
+  12,
+  Rows.any-gone
+      Syntax.tyPtr,
+) (List._∷_ (13, Rows.any-gone (Syntax.tyRef Syntax.erased Syntax.mut (Syntax.tyInt Syntax.w16))) (List._∷_ (
+  14,
+  Mut.mslice (Referent.rtF (Referent.fInt Syntax.w16)) (Syntax.tyRef
+      Syntax.erased Syntax.mut (Syntax.tyInt Syntax.w16)) 3,
+) (List._∷_ (15, Rows.any-gone Syntax.tyPtr) List.[])))))))))))))))
 
 abbrev pub t31 : List.List Row.Entry
 t31 = List._∷_ (16, Rows.any-gone (Syntax.tyRef Syntax.erased Syntax.mut Element.behind)) (List._∷_ (17, Mut.mslice (Element.type) (Syntax.tyRef Syntax.erased Syntax.mut Element.behind) 4)
@@ -1702,41 +1800,48 @@ t32 = List._∷_ (
       (Syntax.ttcons Syntax.tnil (Syntax.ttcons Syntax.tnil (Syntax.ttcons (Syntax.tcons (Syntax.tyInt Syntax.w64) Syntax.tnil) (Syntax.ttcons Syntax.tnil (Syntax.ttcons Syntax.tnil (Syntax.ttcons
       Syntax.tnil (Syntax.ttcons Syntax.tnil (Syntax.ttcons Syntax.tnil (Syntax.ttcons Syntax.tnil (Syntax.ttcons (Syntax.tcons (Syntax.tyInt Syntax.w64) Syntax.tnil) (Syntax.ttcons (Syntax.tcons
       (Syntax.tyInt Syntax.w64) Syntax.tnil) (Syntax.ttcons Syntax.tnil (Syntax.ttcons (Syntax.tcons (Syntax.tyInt Syntax.w64) (Syntax.tcons (Syntax.tyInt Syntax.w64) Syntax.tnil)) (Syntax.ttcons
-      (Syntax.tcons (Syntax.tyInt Syntax.w64) Syntax.tnil) (Syntax.ttcons Syntax.tnil Syntax.ttnil))))))))))))))))) Syntax.tnil) Syntax.ttnil))),
+      (Syntax.tcons (Syntax.tyInt Syntax.w64) Syntax.tnil) (Syntax.ttcons Syntax.tnil (Syntax.ttcons Syntax.tnil (Syntax.ttcons (Syntax.tcons (Syntax.tyInt Syntax.w64) Syntax.tnil) (Syntax.ttcons
+      (Syntax.tcons (Syntax.tyInt Syntax.w64) Syntax.tnil) (Syntax.ttcons (Syntax.tcons (Syntax.tyInt Syntax.w64) Syntax.tnil) (Syntax.ttcons Syntax.tnil Syntax.ttnil)))))))))))))))))))))) Syntax.tnil)
+      Syntax.ttnil))),
+) (List._∷_ (1, Rows.sslice (Referent.rtF (Referent.fInt Syntax.w8)) (Syntax.tyRef (Syntax.named 0) Syntax.imm (Syntax.tyInt Syntax.w8)) 0) (List._∷_ (
+  2,
+  Rows.whole (Declared'.row
+      FujiHeader.the-type),
+) (List._∷_ (3, Rows.sc-here (Row.sInt Syntax.w64)) (List._∷_ (
+  4,
+  PartMut.mslice-owedM (Referent.rtF (Referent.fInt Syntax.w16)) (Syntax.tyRef (Syntax.named 1) Syntax.mut
+      (Syntax.tyInt Syntax.w16)) 1 3 Row.off,
+) (List._∷_ (5, PartMut.mslice-owedM (Element.type) (Syntax.tyRef (Syntax.named 2) Syntax.mut Element.behind) 2 4 Row.off) (List._∷_ (
+  6,
+  Rows.sc-here
+      (Row.sInt Syntax.w64),
+) (List._∷_ (7, Rows.any-gone (Syntax.tyInt Syntax.w64)) (List._∷_ (8, Rows.any-gone (Syntax.tyInt Syntax.w64)) (List._∷_ (9, Rows.any-gone Syntax.tyBool) (List._∷_ (
+  10,
+  Rows.any-gone (Syntax.tyEnum (List._∷_ 115 (List._∷_ 116 (List._∷_ 114 (List._∷_ 101 (List._∷_ 97 (List._∷_ 109 (List._∷_ 58 (List._∷_ 58 (List._∷_ 82 (List._∷_ 101 (List._∷_ 102 (List._∷_ 117
+      (List._∷_ 115 (List._∷_ 97 (List._∷_ 108 List.[]))))))))))))))) (Syntax.ttcons Syntax.tnil (Syntax.ttcons Syntax.tnil (Syntax.ttcons Syntax.tnil (Syntax.ttcons (Syntax.tcons (Syntax.tyInt Syntax.w64)
+      Syntax.tnil) (Syntax.ttcons Syntax.tnil (Syntax.ttcons Syntax.tnil (Syntax.ttcons Syntax.tnil (Syntax.ttcons Syntax.tnil (Syntax.ttcons Syntax.tnil (Syntax.ttcons Syntax.tnil (Syntax.ttcons
+      (Syntax.tcons (Syntax.tyInt Syntax.w64) Syntax.tnil) (Syntax.ttcons (Syntax.tcons (Syntax.tyInt Syntax.w64) Syntax.tnil) (Syntax.ttcons Syntax.tnil (Syntax.ttcons (Syntax.tcons (Syntax.tyInt
+      Syntax.w64) (Syntax.tcons (Syntax.tyInt Syntax.w64) Syntax.tnil)) (Syntax.ttcons (Syntax.tcons (Syntax.tyInt Syntax.w64) Syntax.tnil) (Syntax.ttcons Syntax.tnil (Syntax.ttcons Syntax.tnil
+      (Syntax.ttcons (Syntax.tcons (Syntax.tyInt Syntax.w64) Syntax.tnil) (Syntax.ttcons (Syntax.tcons (Syntax.tyInt Syntax.w64) Syntax.tnil) (Syntax.ttcons (Syntax.tcons (Syntax.tyInt Syntax.w64)
+      Syntax.tnil) (Syntax.ttcons Syntax.tnil Syntax.ttnil)))))))))))))))))))))),
 ) (List._∷_ (
-  1,
-  Rows.sslice (Referent.rtF (Referent.fInt
-      Syntax.w8)) (Syntax.tyRef (Syntax.named 0) Syntax.imm (Syntax.tyInt Syntax.w8)) 0,
-) (List._∷_ (2, Rows.whole (Declared'.row FujiHeader.the-type)) (List._∷_ (3, Rows.sc-here (Row.sInt Syntax.w64))
-    (List._∷_ (4, PartMut.mslice-owedM (Referent.rtF (Referent.fInt Syntax.w16)) (Syntax.tyRef (Syntax.named 1) Syntax.mut (Syntax.tyInt Syntax.w16)) 1 3 Row.off) (List._∷_ (
-      5,
-      PartMut.mslice-owedM
-          (Element.type) (Syntax.tyRef (Syntax.named 2) Syntax.mut Element.behind) 2 4 Row.off,
-    ) (List._∷_ (6, Rows.sc-here (Row.sInt Syntax.w64)) (List._∷_ (7, Rows.any-gone (Syntax.tyInt Syntax.w64))
-    (List._∷_ (8, Rows.any-gone (Syntax.tyInt Syntax.w64)) (List._∷_ (9, Rows.any-gone Syntax.tyBool) (List._∷_ (
-      10,
-      Rows.any-gone (Syntax.tyEnum (List._∷_ 115 (List._∷_ 116 (List._∷_ 114 (List._∷_
-          101 (List._∷_ 97 (List._∷_ 109 (List._∷_ 58 (List._∷_ 58 (List._∷_ 82 (List._∷_ 101 (List._∷_ 102 (List._∷_ 117 (List._∷_ 115 (List._∷_ 97 (List._∷_ 108 List.[]))))))))))))))) (Syntax.ttcons
-          Syntax.tnil (Syntax.ttcons Syntax.tnil (Syntax.ttcons Syntax.tnil (Syntax.ttcons (Syntax.tcons (Syntax.tyInt Syntax.w64) Syntax.tnil) (Syntax.ttcons Syntax.tnil (Syntax.ttcons Syntax.tnil
-          (Syntax.ttcons Syntax.tnil (Syntax.ttcons Syntax.tnil (Syntax.ttcons Syntax.tnil (Syntax.ttcons Syntax.tnil (Syntax.ttcons (Syntax.tcons (Syntax.tyInt Syntax.w64) Syntax.tnil) (Syntax.ttcons
-          (Syntax.tcons (Syntax.tyInt Syntax.w64) Syntax.tnil) (Syntax.ttcons Syntax.tnil (Syntax.ttcons (Syntax.tcons (Syntax.tyInt Syntax.w64) (Syntax.tcons (Syntax.tyInt Syntax.w64) Syntax.tnil))
-          (Syntax.ttcons (Syntax.tcons (Syntax.tyInt Syntax.w64) Syntax.tnil) (Syntax.ttcons Syntax.tnil Syntax.ttnil))))))))))))))))),
-    ) (List._∷_ (
-      11,
-      Rows.any-gone (Syntax.tyEnum (List._∷_ 115 (List._∷_ 116
-          (List._∷_ 114 (List._∷_ 101 (List._∷_ 97 (List._∷_ 109 (List._∷_ 58 (List._∷_ 58 (List._∷_ 82 (List._∷_ 101 (List._∷_ 102 (List._∷_ 117 (List._∷_ 115 (List._∷_ 97 (List._∷_ 108 List.[])))))))))))))))
-          (Syntax.ttcons Syntax.tnil (Syntax.ttcons Syntax.tnil (Syntax.ttcons Syntax.tnil (Syntax.ttcons (Syntax.tcons (Syntax.tyInt Syntax.w64) Syntax.tnil) (Syntax.ttcons Syntax.tnil (Syntax.ttcons
-          Syntax.tnil (Syntax.ttcons Syntax.tnil (Syntax.ttcons Syntax.tnil (Syntax.ttcons Syntax.tnil (Syntax.ttcons Syntax.tnil (Syntax.ttcons (Syntax.tcons (Syntax.tyInt Syntax.w64) Syntax.tnil)
-          (Syntax.ttcons (Syntax.tcons (Syntax.tyInt Syntax.w64) Syntax.tnil) (Syntax.ttcons Syntax.tnil (Syntax.ttcons (Syntax.tcons (Syntax.tyInt Syntax.w64) (Syntax.tcons (Syntax.tyInt Syntax.w64)
-          Syntax.tnil)) (Syntax.ttcons (Syntax.tcons (Syntax.tyInt Syntax.w64) Syntax.tnil) (Syntax.ttcons Syntax.tnil Syntax.ttnil))))))))))))))))),
-    ) (List._∷_ (12, Rows.any-gone Syntax.tyPtr) (List._∷_ (
-      13,
-      Rows.any-gone (Syntax.tyRef Syntax.erased Syntax.mut (Syntax.tyInt Syntax.w16)),
-    ) (List._∷_ (
-      14,
-      Mut.mslice (Referent.rtF (Referent.fInt Syntax.w16)) (Syntax.tyRef Syntax.erased Syntax.mut
-          (Syntax.tyInt Syntax.w16)) 3,
-    ) (List._∷_ (15, Rows.any-gone Syntax.tyPtr) List.[])))))))))))))))
+  11,
+  Rows.any-gone (Syntax.tyEnum (List._∷_ 115 (List._∷_ 116 (List._∷_ 114 (List._∷_ 101 (List._∷_ 97
+      (List._∷_ 109 (List._∷_ 58 (List._∷_ 58 (List._∷_ 82 (List._∷_ 101 (List._∷_ 102 (List._∷_ 117 (List._∷_ 115 (List._∷_ 97 (List._∷_ 108 List.[]))))))))))))))) (Syntax.ttcons Syntax.tnil (Syntax.ttcons
+      Syntax.tnil (Syntax.ttcons Syntax.tnil (Syntax.ttcons (Syntax.tcons (Syntax.tyInt Syntax.w64) Syntax.tnil) (Syntax.ttcons Syntax.tnil (Syntax.ttcons Syntax.tnil (Syntax.ttcons Syntax.tnil
+      (Syntax.ttcons Syntax.tnil (Syntax.ttcons Syntax.tnil (Syntax.ttcons Syntax.tnil (Syntax.ttcons (Syntax.tcons (Syntax.tyInt Syntax.w64) Syntax.tnil) (Syntax.ttcons (Syntax.tcons (Syntax.tyInt
+      Syntax.w64) Syntax.tnil) (Syntax.ttcons Syntax.tnil (Syntax.ttcons (Syntax.tcons (Syntax.tyInt Syntax.w64) (Syntax.tcons (Syntax.tyInt Syntax.w64) Syntax.tnil)) (Syntax.ttcons (Syntax.tcons
+      (Syntax.tyInt Syntax.w64) Syntax.tnil) (Syntax.ttcons Syntax.tnil (Syntax.ttcons Syntax.tnil (Syntax.ttcons (Syntax.tcons (Syntax.tyInt Syntax.w64) Syntax.tnil) (Syntax.ttcons (Syntax.tcons
+      (Syntax.tyInt Syntax.w64) Syntax.tnil) (Syntax.ttcons (Syntax.tcons (Syntax.tyInt Syntax.w64) Syntax.tnil) (Syntax.ttcons Syntax.tnil Syntax.ttnil)))))))))))))))))))))),
+) (List._∷_ (
+  12,
+  Rows.any-gone
+      Syntax.tyPtr,
+) (List._∷_ (13, Rows.any-gone (Syntax.tyRef Syntax.erased Syntax.mut (Syntax.tyInt Syntax.w16))) (List._∷_ (
+  14,
+  Mut.mslice (Referent.rtF (Referent.fInt Syntax.w16)) (Syntax.tyRef
+      Syntax.erased Syntax.mut (Syntax.tyInt Syntax.w16)) 3,
+) (List._∷_ (15, Rows.any-gone Syntax.tyPtr) List.[])))))))))))))))
 
 abbrev pub t33 : List.List Row.Entry
 t33 = List._∷_ (0, Rows.whole (Declared.row Decoded.the-type)) (List._∷_ (
@@ -1761,21 +1866,22 @@ t33 = List._∷_ (0, Rows.whole (Declared.row Decoded.the-type)) (List._∷_ (
       (Syntax.ttcons (Syntax.tcons (Syntax.tyInt Syntax.w64) Syntax.tnil) (Syntax.ttcons Syntax.tnil (Syntax.ttcons Syntax.tnil (Syntax.ttcons Syntax.tnil (Syntax.ttcons Syntax.tnil (Syntax.ttcons
       Syntax.tnil (Syntax.ttcons Syntax.tnil (Syntax.ttcons (Syntax.tcons (Syntax.tyInt Syntax.w64) Syntax.tnil) (Syntax.ttcons (Syntax.tcons (Syntax.tyInt Syntax.w64) Syntax.tnil) (Syntax.ttcons
       Syntax.tnil (Syntax.ttcons (Syntax.tcons (Syntax.tyInt Syntax.w64) (Syntax.tcons (Syntax.tyInt Syntax.w64) Syntax.tnil)) (Syntax.ttcons (Syntax.tcons (Syntax.tyInt Syntax.w64) Syntax.tnil)
-      (Syntax.ttcons Syntax.tnil Syntax.ttnil))))))))))))))))),
+      (Syntax.ttcons Syntax.tnil (Syntax.ttcons Syntax.tnil (Syntax.ttcons (Syntax.tcons (Syntax.tyInt Syntax.w64) Syntax.tnil) (Syntax.ttcons (Syntax.tcons (Syntax.tyInt Syntax.w64) Syntax.tnil)
+      (Syntax.ttcons (Syntax.tcons (Syntax.tyInt Syntax.w64) Syntax.tnil) (Syntax.ttcons Syntax.tnil Syntax.ttnil)))))))))))))))))))))),
 ) (List._∷_ (
   11,
-  Rows.any-gone (Syntax.tyEnum (List._∷_ 115 (List._∷_ 116 (List._∷_ 114 (List._∷_ 101 (List._∷_ 97 (List._∷_ 109 (List._∷_ 58
-      (List._∷_ 58 (List._∷_ 82 (List._∷_ 101 (List._∷_ 102 (List._∷_ 117 (List._∷_ 115 (List._∷_ 97 (List._∷_ 108 List.[]))))))))))))))) (Syntax.ttcons Syntax.tnil (Syntax.ttcons Syntax.tnil (Syntax.ttcons
-      Syntax.tnil (Syntax.ttcons (Syntax.tcons (Syntax.tyInt Syntax.w64) Syntax.tnil) (Syntax.ttcons Syntax.tnil (Syntax.ttcons Syntax.tnil (Syntax.ttcons Syntax.tnil (Syntax.ttcons Syntax.tnil
-      (Syntax.ttcons Syntax.tnil (Syntax.ttcons Syntax.tnil (Syntax.ttcons (Syntax.tcons (Syntax.tyInt Syntax.w64) Syntax.tnil) (Syntax.ttcons (Syntax.tcons (Syntax.tyInt Syntax.w64) Syntax.tnil)
-      (Syntax.ttcons Syntax.tnil (Syntax.ttcons (Syntax.tcons (Syntax.tyInt Syntax.w64) (Syntax.tcons (Syntax.tyInt Syntax.w64) Syntax.tnil)) (Syntax.ttcons (Syntax.tcons (Syntax.tyInt Syntax.w64)
-      Syntax.tnil) (Syntax.ttcons Syntax.tnil Syntax.ttnil))))))))))))))))),
-) (List._∷_ (12, Rows.any-gone Syntax.tyPtr) (List._∷_ (
-  13,
-  Rows.any-gone (Syntax.tyRef Syntax.erased Syntax.mut (Syntax.tyInt
-      Syntax.w16)),
-) (List._∷_ (14, Mut.msleft (Referent.rtF (Referent.fInt Syntax.w16)) (Syntax.tyRef Syntax.erased Syntax.mut (Syntax.tyInt Syntax.w16))) (List._∷_ (15, Rows.any-gone Syntax.tyPtr)
-    List.[])))))))))))))))
+  Rows.any-gone (Syntax.tyEnum (List._∷_ 115
+      (List._∷_ 116 (List._∷_ 114 (List._∷_ 101 (List._∷_ 97 (List._∷_ 109 (List._∷_ 58 (List._∷_ 58 (List._∷_ 82 (List._∷_ 101 (List._∷_ 102 (List._∷_ 117 (List._∷_ 115 (List._∷_ 97 (List._∷_ 108
+      List.[]))))))))))))))) (Syntax.ttcons Syntax.tnil (Syntax.ttcons Syntax.tnil (Syntax.ttcons Syntax.tnil (Syntax.ttcons (Syntax.tcons (Syntax.tyInt Syntax.w64) Syntax.tnil) (Syntax.ttcons Syntax.tnil
+      (Syntax.ttcons Syntax.tnil (Syntax.ttcons Syntax.tnil (Syntax.ttcons Syntax.tnil (Syntax.ttcons Syntax.tnil (Syntax.ttcons Syntax.tnil (Syntax.ttcons (Syntax.tcons (Syntax.tyInt Syntax.w64)
+      Syntax.tnil) (Syntax.ttcons (Syntax.tcons (Syntax.tyInt Syntax.w64) Syntax.tnil) (Syntax.ttcons Syntax.tnil (Syntax.ttcons (Syntax.tcons (Syntax.tyInt Syntax.w64) (Syntax.tcons (Syntax.tyInt
+      Syntax.w64) Syntax.tnil)) (Syntax.ttcons (Syntax.tcons (Syntax.tyInt Syntax.w64) Syntax.tnil) (Syntax.ttcons Syntax.tnil (Syntax.ttcons Syntax.tnil (Syntax.ttcons (Syntax.tcons (Syntax.tyInt
+      Syntax.w64) Syntax.tnil) (Syntax.ttcons (Syntax.tcons (Syntax.tyInt Syntax.w64) Syntax.tnil) (Syntax.ttcons (Syntax.tcons (Syntax.tyInt Syntax.w64) Syntax.tnil) (Syntax.ttcons Syntax.tnil
+      Syntax.ttnil)))))))))))))))))))))),
+) (List._∷_ (12, Rows.any-gone Syntax.tyPtr) (List._∷_ (13, Rows.any-gone (Syntax.tyRef Syntax.erased Syntax.mut (Syntax.tyInt Syntax.w16))) (List._∷_ (
+  14,
+  Mut.msleft (Referent.rtF (Referent.fInt Syntax.w16)) (Syntax.tyRef Syntax.erased Syntax.mut (Syntax.tyInt Syntax.w16)),
+) (List._∷_ (15, Rows.any-gone Syntax.tyPtr) List.[])))))))))))))))
 
 abbrev pub t34 : List.List Row.Entry
 t34 = List._∷_ (16, Rows.any-gone (Syntax.tyRef Syntax.erased Syntax.mut Element.behind)) (List._∷_ (17, Mut.msleft (Element.type) (Syntax.tyRef Syntax.erased Syntax.mut Element.behind))
@@ -1811,24 +1917,22 @@ t35 = List._∷_ (0, Rows.whole (Declared.row Decoded.the-type)) (List._∷_ (
       Syntax.tnil (Syntax.ttcons (Syntax.tcons (Syntax.tyInt Syntax.w64) Syntax.tnil) (Syntax.ttcons Syntax.tnil (Syntax.ttcons Syntax.tnil (Syntax.ttcons Syntax.tnil (Syntax.ttcons Syntax.tnil
       (Syntax.ttcons Syntax.tnil (Syntax.ttcons Syntax.tnil (Syntax.ttcons (Syntax.tcons (Syntax.tyInt Syntax.w64) Syntax.tnil) (Syntax.ttcons (Syntax.tcons (Syntax.tyInt Syntax.w64) Syntax.tnil)
       (Syntax.ttcons Syntax.tnil (Syntax.ttcons (Syntax.tcons (Syntax.tyInt Syntax.w64) (Syntax.tcons (Syntax.tyInt Syntax.w64) Syntax.tnil)) (Syntax.ttcons (Syntax.tcons (Syntax.tyInt Syntax.w64)
-      Syntax.tnil) (Syntax.ttcons Syntax.tnil Syntax.ttnil))))))))))))))))),
+      Syntax.tnil) (Syntax.ttcons Syntax.tnil (Syntax.ttcons Syntax.tnil (Syntax.ttcons (Syntax.tcons (Syntax.tyInt Syntax.w64) Syntax.tnil) (Syntax.ttcons (Syntax.tcons (Syntax.tyInt Syntax.w64)
+      Syntax.tnil) (Syntax.ttcons (Syntax.tcons (Syntax.tyInt Syntax.w64) Syntax.tnil) (Syntax.ttcons Syntax.tnil Syntax.ttnil)))))))))))))))))))))),
 ) (List._∷_ (
   11,
-  Rows.any-gone (Syntax.tyEnum (List._∷_ 115 (List._∷_ 116 (List._∷_ 114 (List._∷_ 101 (List._∷_ 97 (List._∷_ 109
-      (List._∷_ 58 (List._∷_ 58 (List._∷_ 82 (List._∷_ 101 (List._∷_ 102 (List._∷_ 117 (List._∷_ 115 (List._∷_ 97 (List._∷_ 108 List.[]))))))))))))))) (Syntax.ttcons Syntax.tnil (Syntax.ttcons Syntax.tnil
-      (Syntax.ttcons Syntax.tnil (Syntax.ttcons (Syntax.tcons (Syntax.tyInt Syntax.w64) Syntax.tnil) (Syntax.ttcons Syntax.tnil (Syntax.ttcons Syntax.tnil (Syntax.ttcons Syntax.tnil (Syntax.ttcons
-      Syntax.tnil (Syntax.ttcons Syntax.tnil (Syntax.ttcons Syntax.tnil (Syntax.ttcons (Syntax.tcons (Syntax.tyInt Syntax.w64) Syntax.tnil) (Syntax.ttcons (Syntax.tcons (Syntax.tyInt Syntax.w64)
-      Syntax.tnil) (Syntax.ttcons Syntax.tnil (Syntax.ttcons (Syntax.tcons (Syntax.tyInt Syntax.w64) (Syntax.tcons (Syntax.tyInt Syntax.w64) Syntax.tnil)) (Syntax.ttcons (Syntax.tcons (Syntax.tyInt
-      Syntax.w64) Syntax.tnil) (Syntax.ttcons Syntax.tnil Syntax.ttnil))))))))))))))))),
-) (List._∷_ (12, Rows.any-gone Syntax.tyPtr) (List._∷_ (
-  13,
-  Rows.any-gone (Syntax.tyRef Syntax.erased Syntax.mut
-      (Syntax.tyInt Syntax.w16)),
-) (List._∷_ (14, Mut.msleft (Referent.rtF (Referent.fInt Syntax.w16)) (Syntax.tyRef Syntax.erased Syntax.mut (Syntax.tyInt Syntax.w16))) (List._∷_ (
-  15,
-  Rows.any-gone
-      Syntax.tyPtr,
-) List.[])))))))))))))))
+  Rows.any-gone (Syntax.tyEnum (List._∷_
+      115 (List._∷_ 116 (List._∷_ 114 (List._∷_ 101 (List._∷_ 97 (List._∷_ 109 (List._∷_ 58 (List._∷_ 58 (List._∷_ 82 (List._∷_ 101 (List._∷_ 102 (List._∷_ 117 (List._∷_ 115 (List._∷_ 97 (List._∷_ 108
+      List.[]))))))))))))))) (Syntax.ttcons Syntax.tnil (Syntax.ttcons Syntax.tnil (Syntax.ttcons Syntax.tnil (Syntax.ttcons (Syntax.tcons (Syntax.tyInt Syntax.w64) Syntax.tnil) (Syntax.ttcons Syntax.tnil
+      (Syntax.ttcons Syntax.tnil (Syntax.ttcons Syntax.tnil (Syntax.ttcons Syntax.tnil (Syntax.ttcons Syntax.tnil (Syntax.ttcons Syntax.tnil (Syntax.ttcons (Syntax.tcons (Syntax.tyInt Syntax.w64)
+      Syntax.tnil) (Syntax.ttcons (Syntax.tcons (Syntax.tyInt Syntax.w64) Syntax.tnil) (Syntax.ttcons Syntax.tnil (Syntax.ttcons (Syntax.tcons (Syntax.tyInt Syntax.w64) (Syntax.tcons (Syntax.tyInt
+      Syntax.w64) Syntax.tnil)) (Syntax.ttcons (Syntax.tcons (Syntax.tyInt Syntax.w64) Syntax.tnil) (Syntax.ttcons Syntax.tnil (Syntax.ttcons Syntax.tnil (Syntax.ttcons (Syntax.tcons (Syntax.tyInt
+      Syntax.w64) Syntax.tnil) (Syntax.ttcons (Syntax.tcons (Syntax.tyInt Syntax.w64) Syntax.tnil) (Syntax.ttcons (Syntax.tcons (Syntax.tyInt Syntax.w64) Syntax.tnil) (Syntax.ttcons Syntax.tnil
+      Syntax.ttnil)))))))))))))))))))))),
+) (List._∷_ (12, Rows.any-gone Syntax.tyPtr) (List._∷_ (13, Rows.any-gone (Syntax.tyRef Syntax.erased Syntax.mut (Syntax.tyInt Syntax.w16))) (List._∷_ (
+  14,
+  Mut.msleft (Referent.rtF (Referent.fInt Syntax.w16)) (Syntax.tyRef Syntax.erased Syntax.mut (Syntax.tyInt Syntax.w16)),
+) (List._∷_ (15, Rows.any-gone Syntax.tyPtr) List.[])))))))))))))))
 
 abbrev pub t36 : List.List Row.Entry
 t36 = List._∷_ (0, Rows.whole (Declared.row Decoded.the-type)) (List._∷_ (
@@ -1860,24 +1964,22 @@ t36 = List._∷_ (0, Rows.whole (Declared.row Decoded.the-type)) (List._∷_ (
       Syntax.tnil (Syntax.ttcons (Syntax.tcons (Syntax.tyInt Syntax.w64) Syntax.tnil) (Syntax.ttcons Syntax.tnil (Syntax.ttcons Syntax.tnil (Syntax.ttcons Syntax.tnil (Syntax.ttcons Syntax.tnil
       (Syntax.ttcons Syntax.tnil (Syntax.ttcons Syntax.tnil (Syntax.ttcons (Syntax.tcons (Syntax.tyInt Syntax.w64) Syntax.tnil) (Syntax.ttcons (Syntax.tcons (Syntax.tyInt Syntax.w64) Syntax.tnil)
       (Syntax.ttcons Syntax.tnil (Syntax.ttcons (Syntax.tcons (Syntax.tyInt Syntax.w64) (Syntax.tcons (Syntax.tyInt Syntax.w64) Syntax.tnil)) (Syntax.ttcons (Syntax.tcons (Syntax.tyInt Syntax.w64)
-      Syntax.tnil) (Syntax.ttcons Syntax.tnil Syntax.ttnil))))))))))))))))),
+      Syntax.tnil) (Syntax.ttcons Syntax.tnil (Syntax.ttcons Syntax.tnil (Syntax.ttcons (Syntax.tcons (Syntax.tyInt Syntax.w64) Syntax.tnil) (Syntax.ttcons (Syntax.tcons (Syntax.tyInt Syntax.w64)
+      Syntax.tnil) (Syntax.ttcons (Syntax.tcons (Syntax.tyInt Syntax.w64) Syntax.tnil) (Syntax.ttcons Syntax.tnil Syntax.ttnil)))))))))))))))))))))),
 ) (List._∷_ (
   11,
-  Rows.any-gone (Syntax.tyEnum (List._∷_ 115 (List._∷_ 116 (List._∷_ 114 (List._∷_ 101 (List._∷_ 97 (List._∷_ 109
-      (List._∷_ 58 (List._∷_ 58 (List._∷_ 82 (List._∷_ 101 (List._∷_ 102 (List._∷_ 117 (List._∷_ 115 (List._∷_ 97 (List._∷_ 108 List.[]))))))))))))))) (Syntax.ttcons Syntax.tnil (Syntax.ttcons Syntax.tnil
-      (Syntax.ttcons Syntax.tnil (Syntax.ttcons (Syntax.tcons (Syntax.tyInt Syntax.w64) Syntax.tnil) (Syntax.ttcons Syntax.tnil (Syntax.ttcons Syntax.tnil (Syntax.ttcons Syntax.tnil (Syntax.ttcons
-      Syntax.tnil (Syntax.ttcons Syntax.tnil (Syntax.ttcons Syntax.tnil (Syntax.ttcons (Syntax.tcons (Syntax.tyInt Syntax.w64) Syntax.tnil) (Syntax.ttcons (Syntax.tcons (Syntax.tyInt Syntax.w64)
-      Syntax.tnil) (Syntax.ttcons Syntax.tnil (Syntax.ttcons (Syntax.tcons (Syntax.tyInt Syntax.w64) (Syntax.tcons (Syntax.tyInt Syntax.w64) Syntax.tnil)) (Syntax.ttcons (Syntax.tcons (Syntax.tyInt
-      Syntax.w64) Syntax.tnil) (Syntax.ttcons Syntax.tnil Syntax.ttnil))))))))))))))))),
-) (List._∷_ (12, Rows.any-gone Syntax.tyPtr) (List._∷_ (
-  13,
-  Rows.any-gone (Syntax.tyRef Syntax.erased Syntax.mut
-      (Syntax.tyInt Syntax.w16)),
-) (List._∷_ (14, Mut.msleft (Referent.rtF (Referent.fInt Syntax.w16)) (Syntax.tyRef Syntax.erased Syntax.mut (Syntax.tyInt Syntax.w16))) (List._∷_ (
-  15,
-  Rows.any-gone
-      Syntax.tyPtr,
-) List.[])))))))))))))))
+  Rows.any-gone (Syntax.tyEnum (List._∷_
+      115 (List._∷_ 116 (List._∷_ 114 (List._∷_ 101 (List._∷_ 97 (List._∷_ 109 (List._∷_ 58 (List._∷_ 58 (List._∷_ 82 (List._∷_ 101 (List._∷_ 102 (List._∷_ 117 (List._∷_ 115 (List._∷_ 97 (List._∷_ 108
+      List.[]))))))))))))))) (Syntax.ttcons Syntax.tnil (Syntax.ttcons Syntax.tnil (Syntax.ttcons Syntax.tnil (Syntax.ttcons (Syntax.tcons (Syntax.tyInt Syntax.w64) Syntax.tnil) (Syntax.ttcons Syntax.tnil
+      (Syntax.ttcons Syntax.tnil (Syntax.ttcons Syntax.tnil (Syntax.ttcons Syntax.tnil (Syntax.ttcons Syntax.tnil (Syntax.ttcons Syntax.tnil (Syntax.ttcons (Syntax.tcons (Syntax.tyInt Syntax.w64)
+      Syntax.tnil) (Syntax.ttcons (Syntax.tcons (Syntax.tyInt Syntax.w64) Syntax.tnil) (Syntax.ttcons Syntax.tnil (Syntax.ttcons (Syntax.tcons (Syntax.tyInt Syntax.w64) (Syntax.tcons (Syntax.tyInt
+      Syntax.w64) Syntax.tnil)) (Syntax.ttcons (Syntax.tcons (Syntax.tyInt Syntax.w64) Syntax.tnil) (Syntax.ttcons Syntax.tnil (Syntax.ttcons Syntax.tnil (Syntax.ttcons (Syntax.tcons (Syntax.tyInt
+      Syntax.w64) Syntax.tnil) (Syntax.ttcons (Syntax.tcons (Syntax.tyInt Syntax.w64) Syntax.tnil) (Syntax.ttcons (Syntax.tcons (Syntax.tyInt Syntax.w64) Syntax.tnil) (Syntax.ttcons Syntax.tnil
+      Syntax.ttnil)))))))))))))))))))))),
+) (List._∷_ (12, Rows.any-gone Syntax.tyPtr) (List._∷_ (13, Rows.any-gone (Syntax.tyRef Syntax.erased Syntax.mut (Syntax.tyInt Syntax.w16))) (List._∷_ (
+  14,
+  Mut.msleft (Referent.rtF (Referent.fInt Syntax.w16)) (Syntax.tyRef Syntax.erased Syntax.mut (Syntax.tyInt Syntax.w16)),
+) (List._∷_ (15, Rows.any-gone Syntax.tyPtr) List.[])))))))))))))))
 
 abbrev pub t37 : List.List Row.Entry
 t37 = List._∷_ (0, Rows.whole (Declared.row Decoded.the-type)) (List._∷_ (
@@ -1908,23 +2010,22 @@ t37 = List._∷_ (0, Rows.whole (Declared.row Decoded.the-type)) (List._∷_ (
       (Syntax.ttcons (Syntax.tcons (Syntax.tyInt Syntax.w64) Syntax.tnil) (Syntax.ttcons Syntax.tnil (Syntax.ttcons Syntax.tnil (Syntax.ttcons Syntax.tnil (Syntax.ttcons Syntax.tnil (Syntax.ttcons
       Syntax.tnil (Syntax.ttcons Syntax.tnil (Syntax.ttcons (Syntax.tcons (Syntax.tyInt Syntax.w64) Syntax.tnil) (Syntax.ttcons (Syntax.tcons (Syntax.tyInt Syntax.w64) Syntax.tnil) (Syntax.ttcons
       Syntax.tnil (Syntax.ttcons (Syntax.tcons (Syntax.tyInt Syntax.w64) (Syntax.tcons (Syntax.tyInt Syntax.w64) Syntax.tnil)) (Syntax.ttcons (Syntax.tcons (Syntax.tyInt Syntax.w64) Syntax.tnil)
-      (Syntax.ttcons Syntax.tnil Syntax.ttnil))))))))))))))))),
+      (Syntax.ttcons Syntax.tnil (Syntax.ttcons Syntax.tnil (Syntax.ttcons (Syntax.tcons (Syntax.tyInt Syntax.w64) Syntax.tnil) (Syntax.ttcons (Syntax.tcons (Syntax.tyInt Syntax.w64) Syntax.tnil)
+      (Syntax.ttcons (Syntax.tcons (Syntax.tyInt Syntax.w64) Syntax.tnil) (Syntax.ttcons Syntax.tnil Syntax.ttnil)))))))))))))))))))))),
 ) (List._∷_ (
   11,
-  Rows.any-gone (Syntax.tyEnum (List._∷_ 115 (List._∷_ 116 (List._∷_ 114 (List._∷_ 101 (List._∷_ 97 (List._∷_ 109 (List._∷_ 58
-      (List._∷_ 58 (List._∷_ 82 (List._∷_ 101 (List._∷_ 102 (List._∷_ 117 (List._∷_ 115 (List._∷_ 97 (List._∷_ 108 List.[]))))))))))))))) (Syntax.ttcons Syntax.tnil (Syntax.ttcons Syntax.tnil (Syntax.ttcons
-      Syntax.tnil (Syntax.ttcons (Syntax.tcons (Syntax.tyInt Syntax.w64) Syntax.tnil) (Syntax.ttcons Syntax.tnil (Syntax.ttcons Syntax.tnil (Syntax.ttcons Syntax.tnil (Syntax.ttcons Syntax.tnil
-      (Syntax.ttcons Syntax.tnil (Syntax.ttcons Syntax.tnil (Syntax.ttcons (Syntax.tcons (Syntax.tyInt Syntax.w64) Syntax.tnil) (Syntax.ttcons (Syntax.tcons (Syntax.tyInt Syntax.w64) Syntax.tnil)
-      (Syntax.ttcons Syntax.tnil (Syntax.ttcons (Syntax.tcons (Syntax.tyInt Syntax.w64) (Syntax.tcons (Syntax.tyInt Syntax.w64) Syntax.tnil)) (Syntax.ttcons (Syntax.tcons (Syntax.tyInt Syntax.w64)
-      Syntax.tnil) (Syntax.ttcons Syntax.tnil Syntax.ttnil))))))))))))))))),
-) (List._∷_ (12, Rows.any-gone Syntax.tyPtr) (List._∷_ (
-  13,
-  Rows.any-gone (Syntax.tyRef Syntax.erased Syntax.mut (Syntax.tyInt
-      Syntax.w16)),
-) (List._∷_ (
+  Rows.any-gone (Syntax.tyEnum (List._∷_ 115
+      (List._∷_ 116 (List._∷_ 114 (List._∷_ 101 (List._∷_ 97 (List._∷_ 109 (List._∷_ 58 (List._∷_ 58 (List._∷_ 82 (List._∷_ 101 (List._∷_ 102 (List._∷_ 117 (List._∷_ 115 (List._∷_ 97 (List._∷_ 108
+      List.[]))))))))))))))) (Syntax.ttcons Syntax.tnil (Syntax.ttcons Syntax.tnil (Syntax.ttcons Syntax.tnil (Syntax.ttcons (Syntax.tcons (Syntax.tyInt Syntax.w64) Syntax.tnil) (Syntax.ttcons Syntax.tnil
+      (Syntax.ttcons Syntax.tnil (Syntax.ttcons Syntax.tnil (Syntax.ttcons Syntax.tnil (Syntax.ttcons Syntax.tnil (Syntax.ttcons Syntax.tnil (Syntax.ttcons (Syntax.tcons (Syntax.tyInt Syntax.w64)
+      Syntax.tnil) (Syntax.ttcons (Syntax.tcons (Syntax.tyInt Syntax.w64) Syntax.tnil) (Syntax.ttcons Syntax.tnil (Syntax.ttcons (Syntax.tcons (Syntax.tyInt Syntax.w64) (Syntax.tcons (Syntax.tyInt
+      Syntax.w64) Syntax.tnil)) (Syntax.ttcons (Syntax.tcons (Syntax.tyInt Syntax.w64) Syntax.tnil) (Syntax.ttcons Syntax.tnil (Syntax.ttcons Syntax.tnil (Syntax.ttcons (Syntax.tcons (Syntax.tyInt
+      Syntax.w64) Syntax.tnil) (Syntax.ttcons (Syntax.tcons (Syntax.tyInt Syntax.w64) Syntax.tnil) (Syntax.ttcons (Syntax.tcons (Syntax.tyInt Syntax.w64) Syntax.tnil) (Syntax.ttcons Syntax.tnil
+      Syntax.ttnil)))))))))))))))))))))),
+) (List._∷_ (12, Rows.any-gone Syntax.tyPtr) (List._∷_ (13, Rows.any-gone (Syntax.tyRef Syntax.erased Syntax.mut (Syntax.tyInt Syntax.w16))) (List._∷_ (
   14,
-  Rows.any-gone (Syntax.tyStruct (List._∷_ 38 (List._∷_ 91 (List._∷_ 93 List.[]))) (Syntax.tcons (Syntax.tyRef Syntax.erased Syntax.mut (Syntax.tyInt Syntax.w16))
-      (Syntax.tcons (Syntax.tyInt Syntax.w64) Syntax.tnil))),
+  Rows.any-gone (Syntax.tyStruct (List._∷_ 38 (List._∷_ 91 (List._∷_ 93 List.[]))) (Syntax.tcons (Syntax.tyRef Syntax.erased Syntax.mut (Syntax.tyInt Syntax.w16)) (Syntax.tcons (Syntax.tyInt Syntax.w64)
+      Syntax.tnil))),
 ) (List._∷_ (15, Rows.any-gone Syntax.tyPtr) List.[])))))))))))))))
 
 abbrev pub t38 : List.List Row.Entry
@@ -1954,22 +2055,22 @@ t38 = List._∷_ (0, Rows.whole (Declared.row Decoded.the-type)) (List._∷_ (
           (Syntax.tcons (Syntax.tyInt Syntax.w64) Syntax.tnil) (Syntax.ttcons Syntax.tnil (Syntax.ttcons Syntax.tnil (Syntax.ttcons Syntax.tnil (Syntax.ttcons Syntax.tnil (Syntax.ttcons Syntax.tnil
           (Syntax.ttcons Syntax.tnil (Syntax.ttcons (Syntax.tcons (Syntax.tyInt Syntax.w64) Syntax.tnil) (Syntax.ttcons (Syntax.tcons (Syntax.tyInt Syntax.w64) Syntax.tnil) (Syntax.ttcons Syntax.tnil
           (Syntax.ttcons (Syntax.tcons (Syntax.tyInt Syntax.w64) (Syntax.tcons (Syntax.tyInt Syntax.w64) Syntax.tnil)) (Syntax.ttcons (Syntax.tcons (Syntax.tyInt Syntax.w64) Syntax.tnil) (Syntax.ttcons
-          Syntax.tnil Syntax.ttnil))))))))))))))))),
+          Syntax.tnil (Syntax.ttcons Syntax.tnil (Syntax.ttcons (Syntax.tcons (Syntax.tyInt Syntax.w64) Syntax.tnil) (Syntax.ttcons (Syntax.tcons (Syntax.tyInt Syntax.w64) Syntax.tnil) (Syntax.ttcons
+          (Syntax.tcons (Syntax.tyInt Syntax.w64) Syntax.tnil) (Syntax.ttcons Syntax.tnil Syntax.ttnil)))))))))))))))))))))),
     ) (List._∷_ (
       11,
-      Rows.any-gone (Syntax.tyEnum (List._∷_ 115 (List._∷_ 116 (List._∷_ 114 (List._∷_ 101 (List._∷_ 97 (List._∷_ 109 (List._∷_ 58 (List._∷_ 58
-          (List._∷_ 82 (List._∷_ 101 (List._∷_ 102 (List._∷_ 117 (List._∷_ 115 (List._∷_ 97 (List._∷_ 108 List.[]))))))))))))))) (Syntax.ttcons Syntax.tnil (Syntax.ttcons Syntax.tnil (Syntax.ttcons Syntax.tnil
-          (Syntax.ttcons (Syntax.tcons (Syntax.tyInt Syntax.w64) Syntax.tnil) (Syntax.ttcons Syntax.tnil (Syntax.ttcons Syntax.tnil (Syntax.ttcons Syntax.tnil (Syntax.ttcons Syntax.tnil (Syntax.ttcons
-          Syntax.tnil (Syntax.ttcons Syntax.tnil (Syntax.ttcons (Syntax.tcons (Syntax.tyInt Syntax.w64) Syntax.tnil) (Syntax.ttcons (Syntax.tcons (Syntax.tyInt Syntax.w64) Syntax.tnil) (Syntax.ttcons
-          Syntax.tnil (Syntax.ttcons (Syntax.tcons (Syntax.tyInt Syntax.w64) (Syntax.tcons (Syntax.tyInt Syntax.w64) Syntax.tnil)) (Syntax.ttcons (Syntax.tcons (Syntax.tyInt Syntax.w64) Syntax.tnil)
-          (Syntax.ttcons Syntax.tnil Syntax.ttnil))))))))))))))))),
-    ) (List._∷_ (12, Rows.any-gone Syntax.tyPtr) (List._∷_ (
-      13,
-      Rows.any-gone (Syntax.tyRef Syntax.erased Syntax.mut (Syntax.tyInt Syntax.w16)),
-    ) (List._∷_ (
+      Rows.any-gone (Syntax.tyEnum (List._∷_ 115 (List._∷_ 116 (List._∷_
+          114 (List._∷_ 101 (List._∷_ 97 (List._∷_ 109 (List._∷_ 58 (List._∷_ 58 (List._∷_ 82 (List._∷_ 101 (List._∷_ 102 (List._∷_ 117 (List._∷_ 115 (List._∷_ 97 (List._∷_ 108 List.[])))))))))))))))
+          (Syntax.ttcons Syntax.tnil (Syntax.ttcons Syntax.tnil (Syntax.ttcons Syntax.tnil (Syntax.ttcons (Syntax.tcons (Syntax.tyInt Syntax.w64) Syntax.tnil) (Syntax.ttcons Syntax.tnil (Syntax.ttcons
+          Syntax.tnil (Syntax.ttcons Syntax.tnil (Syntax.ttcons Syntax.tnil (Syntax.ttcons Syntax.tnil (Syntax.ttcons Syntax.tnil (Syntax.ttcons (Syntax.tcons (Syntax.tyInt Syntax.w64) Syntax.tnil)
+          (Syntax.ttcons (Syntax.tcons (Syntax.tyInt Syntax.w64) Syntax.tnil) (Syntax.ttcons Syntax.tnil (Syntax.ttcons (Syntax.tcons (Syntax.tyInt Syntax.w64) (Syntax.tcons (Syntax.tyInt Syntax.w64)
+          Syntax.tnil)) (Syntax.ttcons (Syntax.tcons (Syntax.tyInt Syntax.w64) Syntax.tnil) (Syntax.ttcons Syntax.tnil (Syntax.ttcons Syntax.tnil (Syntax.ttcons (Syntax.tcons (Syntax.tyInt Syntax.w64)
+          Syntax.tnil) (Syntax.ttcons (Syntax.tcons (Syntax.tyInt Syntax.w64) Syntax.tnil) (Syntax.ttcons (Syntax.tcons (Syntax.tyInt Syntax.w64) Syntax.tnil) (Syntax.ttcons Syntax.tnil
+          Syntax.ttnil)))))))))))))))))))))),
+    ) (List._∷_ (12, Rows.any-gone Syntax.tyPtr) (List._∷_ (13, Rows.any-gone (Syntax.tyRef Syntax.erased Syntax.mut (Syntax.tyInt Syntax.w16))) (List._∷_ (
       14,
-      Rows.any-gone (Syntax.tyStruct (List._∷_ 38 (List._∷_ 91 (List._∷_ 93 List.[]))) (Syntax.tcons (Syntax.tyRef Syntax.erased Syntax.mut (Syntax.tyInt Syntax.w16)) (Syntax.tcons
-          (Syntax.tyInt Syntax.w64) Syntax.tnil))),
+      Rows.any-gone (Syntax.tyStruct (List._∷_ 38 (List._∷_ 91 (List._∷_ 93 List.[]))) (Syntax.tcons (Syntax.tyRef Syntax.erased Syntax.mut (Syntax.tyInt Syntax.w16)) (Syntax.tcons (Syntax.tyInt Syntax.w64)
+          Syntax.tnil))),
     ) (List._∷_ (15, Rows.any-gone Syntax.tyPtr) List.[])))))))))))))))
 
 abbrev pub T0 : Row.Cx
@@ -2192,7 +2293,8 @@ module _ (claims· : Claims) where
       (Syntax.tyInt Syntax.w64) Syntax.tnil) (Syntax.ttcons Syntax.tnil (Syntax.ttcons Syntax.tnil (Syntax.ttcons Syntax.tnil (Syntax.ttcons Syntax.tnil (Syntax.ttcons Syntax.tnil (Syntax.ttcons
       Syntax.tnil (Syntax.ttcons (Syntax.tcons (Syntax.tyInt Syntax.w64) Syntax.tnil) (Syntax.ttcons (Syntax.tcons (Syntax.tyInt Syntax.w64) Syntax.tnil) (Syntax.ttcons Syntax.tnil (Syntax.ttcons
       (Syntax.tcons (Syntax.tyInt Syntax.w64) (Syntax.tcons (Syntax.tyInt Syntax.w64) Syntax.tnil)) (Syntax.ttcons (Syntax.tcons (Syntax.tyInt Syntax.w64) Syntax.tnil) (Syntax.ttcons Syntax.tnil
-      Syntax.ttnil)))))))))))))))))
+      (Syntax.ttcons Syntax.tnil (Syntax.ttcons (Syntax.tcons (Syntax.tyInt Syntax.w64) Syntax.tnil) (Syntax.ttcons (Syntax.tcons (Syntax.tyInt Syntax.w64) Syntax.tnil) (Syntax.ttcons (Syntax.tcons
+      (Syntax.tyInt Syntax.w64) Syntax.tnil) (Syntax.ttcons Syntax.tnil Syntax.ttnil))))))))))))))))))))))
 
   abbrev s15 : Typed.Mo T17 → Typed.Mo T18
   s15 = Scalar.n-room T17 3 (Syntax.tyInt Syntax.w64)
@@ -2233,7 +2335,8 @@ module _ (claims· : Claims) where
       (Syntax.tyInt Syntax.w64) Syntax.tnil) (Syntax.ttcons Syntax.tnil (Syntax.ttcons Syntax.tnil (Syntax.ttcons Syntax.tnil (Syntax.ttcons Syntax.tnil (Syntax.ttcons Syntax.tnil (Syntax.ttcons
       Syntax.tnil (Syntax.ttcons (Syntax.tcons (Syntax.tyInt Syntax.w64) Syntax.tnil) (Syntax.ttcons (Syntax.tcons (Syntax.tyInt Syntax.w64) Syntax.tnil) (Syntax.ttcons Syntax.tnil (Syntax.ttcons
       (Syntax.tcons (Syntax.tyInt Syntax.w64) (Syntax.tcons (Syntax.tyInt Syntax.w64) Syntax.tnil)) (Syntax.ttcons (Syntax.tcons (Syntax.tyInt Syntax.w64) Syntax.tnil) (Syntax.ttcons Syntax.tnil
-      Syntax.ttnil)))))))))))))))))
+      (Syntax.ttcons Syntax.tnil (Syntax.ttcons (Syntax.tcons (Syntax.tyInt Syntax.w64) Syntax.tnil) (Syntax.ttcons (Syntax.tcons (Syntax.tyInt Syntax.w64) Syntax.tnil) (Syntax.ttcons (Syntax.tcons
+      (Syntax.tyInt Syntax.w64) Syntax.tnil) (Syntax.ttcons Syntax.tnil Syntax.ttnil))))))))))))))))))))))
 
   abbrev s26 : Typed.Mo T29 → Typed.Mo T30
   s26 = Scalar.n-room T29 3 (Syntax.tyInt Syntax.w64)
@@ -2320,7 +2423,8 @@ module _ (claims· : Claims) where
       (Syntax.tyInt Syntax.w64) Syntax.tnil) (Syntax.ttcons Syntax.tnil (Syntax.ttcons Syntax.tnil (Syntax.ttcons Syntax.tnil (Syntax.ttcons Syntax.tnil (Syntax.ttcons Syntax.tnil (Syntax.ttcons
       Syntax.tnil (Syntax.ttcons (Syntax.tcons (Syntax.tyInt Syntax.w64) Syntax.tnil) (Syntax.ttcons (Syntax.tcons (Syntax.tyInt Syntax.w64) Syntax.tnil) (Syntax.ttcons Syntax.tnil (Syntax.ttcons
       (Syntax.tcons (Syntax.tyInt Syntax.w64) (Syntax.tcons (Syntax.tyInt Syntax.w64) Syntax.tnil)) (Syntax.ttcons (Syntax.tcons (Syntax.tyInt Syntax.w64) Syntax.tnil) (Syntax.ttcons Syntax.tnil
-      Syntax.ttnil))))))))))))))))) Syntax.tnil) Syntax.ttnil)))
+      (Syntax.ttcons Syntax.tnil (Syntax.ttcons (Syntax.tcons (Syntax.tyInt Syntax.w64) Syntax.tnil) (Syntax.ttcons (Syntax.tcons (Syntax.tyInt Syntax.w64) Syntax.tnil) (Syntax.ttcons (Syntax.tcons
+      (Syntax.tyInt Syntax.w64) Syntax.tnil) (Syntax.ttcons Syntax.tnil Syntax.ttnil)))))))))))))))))))))) Syntax.tnil) Syntax.ttnil)))
 
   abbrev s44 : Typed.Mo T47 → Typed.Mo T48
   s44 = Scalar.n-room T47 2 (Syntax.tyStruct (List._∷_ 115 (List._∷_ 116 (List._∷_ 114 (List._∷_ 101 (List._∷_ 97 (List._∷_ 109 (List._∷_ 58 (List._∷_ 58 (List._∷_ 70 (List._∷_ 117 (List._∷_ 106
@@ -2558,44 +2662,54 @@ module _ (claims· : Claims) where
               Syntax.tnil (Syntax.ttcons Syntax.tnil (Syntax.ttcons Syntax.tnil (Syntax.ttcons (Syntax.tcons (Syntax.tyInt Syntax.w64) Syntax.tnil) (Syntax.ttcons Syntax.tnil (Syntax.ttcons Syntax.tnil
               (Syntax.ttcons Syntax.tnil (Syntax.ttcons Syntax.tnil (Syntax.ttcons Syntax.tnil (Syntax.ttcons Syntax.tnil (Syntax.ttcons (Syntax.tcons (Syntax.tyInt Syntax.w64) Syntax.tnil) (Syntax.ttcons
               (Syntax.tcons (Syntax.tyInt Syntax.w64) Syntax.tnil) (Syntax.ttcons Syntax.tnil (Syntax.ttcons (Syntax.tcons (Syntax.tyInt Syntax.w64) (Syntax.tcons (Syntax.tyInt Syntax.w64) Syntax.tnil))
-              (Syntax.ttcons (Syntax.tcons (Syntax.tyInt Syntax.w64) Syntax.tnil) (Syntax.ttcons Syntax.tnil Syntax.ttnil))))))))))))))))) Syntax.tnil) Syntax.ttnil))),
+              (Syntax.ttcons (Syntax.tcons (Syntax.tyInt Syntax.w64) Syntax.tnil) (Syntax.ttcons Syntax.tnil (Syntax.ttcons Syntax.tnil (Syntax.ttcons (Syntax.tcons (Syntax.tyInt Syntax.w64) Syntax.tnil)
+              (Syntax.ttcons (Syntax.tcons (Syntax.tyInt Syntax.w64) Syntax.tnil) (Syntax.ttcons (Syntax.tcons (Syntax.tyInt Syntax.w64) Syntax.tnil) (Syntax.ttcons Syntax.tnil
+              Syntax.ttnil)))))))))))))))))))))) Syntax.tnil) Syntax.ttnil))),
         ) (List._∷_ (
           1,
-          Rows.sslice
-              (Referent.rtF (Referent.fInt Syntax.w8)) (Syntax.tyRef (Syntax.named 0) Syntax.imm (Syntax.tyInt Syntax.w8)) 0,
-        ) (List._∷_ (2, Rows.whole (Declared'.row FujiHeader.the-type)) (List._∷_ (
-          3,
-          Rows.sc-here (Row.sInt Syntax.w64),
-        ) (List._∷_ (
+          Rows.sslice (Referent.rtF (Referent.fInt Syntax.w8)) (Syntax.tyRef (Syntax.named 0) Syntax.imm (Syntax.tyInt
+              Syntax.w8)) 0,
+        ) (List._∷_ (2, Rows.whole (Declared'.row FujiHeader.the-type)) (List._∷_ (3, Rows.sc-here (Row.sInt Syntax.w64)) (List._∷_ (
           4,
-          PartMut.mslice-owedM (Referent.rtF (Referent.fInt Syntax.w16)) (Syntax.tyRef (Syntax.named 1) Syntax.mut (Syntax.tyInt Syntax.w16)) 1 3
-              (Row.lease (κs .1 .0) (qs .1 .0)),
-        ) (List._∷_ (5, Mut.mslice (Element.type) (Syntax.tyRef (Syntax.named 2) Syntax.mut Element.behind) 2) (List._∷_ (6, Rows.sc-here (Row.sInt Syntax.w64))
-            (List._∷_ (7, Rows.sc-here (Row.sInt Syntax.w64)) (List._∷_ (8, Rows.any-gone (Syntax.tyInt Syntax.w64)) (List._∷_ (9, Rows.any-gone Syntax.tyBool) (List._∷_ (
-              10,
-              Rows.any-gone
-                  (Syntax.tyEnum (List._∷_ 115 (List._∷_ 116 (List._∷_ 114 (List._∷_ 101 (List._∷_ 97 (List._∷_ 109 (List._∷_ 58 (List._∷_ 58 (List._∷_ 82 (List._∷_ 101 (List._∷_ 102 (List._∷_ 117 (List._∷_ 115
-                  (List._∷_ 97 (List._∷_ 108 List.[]))))))))))))))) (Syntax.ttcons Syntax.tnil (Syntax.ttcons Syntax.tnil (Syntax.ttcons Syntax.tnil (Syntax.ttcons (Syntax.tcons (Syntax.tyInt Syntax.w64)
-                  Syntax.tnil) (Syntax.ttcons Syntax.tnil (Syntax.ttcons Syntax.tnil (Syntax.ttcons Syntax.tnil (Syntax.ttcons Syntax.tnil (Syntax.ttcons Syntax.tnil (Syntax.ttcons Syntax.tnil (Syntax.ttcons
-                  (Syntax.tcons (Syntax.tyInt Syntax.w64) Syntax.tnil) (Syntax.ttcons (Syntax.tcons (Syntax.tyInt Syntax.w64) Syntax.tnil) (Syntax.ttcons Syntax.tnil (Syntax.ttcons (Syntax.tcons (Syntax.tyInt
-                  Syntax.w64) (Syntax.tcons (Syntax.tyInt Syntax.w64) Syntax.tnil)) (Syntax.ttcons (Syntax.tcons (Syntax.tyInt Syntax.w64) Syntax.tnil) (Syntax.ttcons Syntax.tnil Syntax.ttnil))))))))))))))))),
-            ) (List._∷_ (
+          PartMut.mslice-owedM (Referent.rtF
+              (Referent.fInt Syntax.w16)) (Syntax.tyRef (Syntax.named 1) Syntax.mut (Syntax.tyInt Syntax.w16)) 1 3 (Row.lease (κs .1 .0) (qs .1 .0)),
+        ) (List._∷_ (
+          5,
+          Mut.mslice (Element.type) (Syntax.tyRef
+              (Syntax.named 2) Syntax.mut Element.behind) 2,
+        ) (List._∷_ (6, Rows.sc-here (Row.sInt Syntax.w64)) (List._∷_ (7, Rows.sc-here (Row.sInt Syntax.w64)) (List._∷_ (
+          8,
+          Rows.any-gone
+              (Syntax.tyInt Syntax.w64),
+        ) (List._∷_ (9, Rows.any-gone Syntax.tyBool) (List._∷_ (
+          10,
+          Rows.any-gone (Syntax.tyEnum (List._∷_ 115 (List._∷_ 116 (List._∷_ 114 (List._∷_ 101 (List._∷_ 97
+              (List._∷_ 109 (List._∷_ 58 (List._∷_ 58 (List._∷_ 82 (List._∷_ 101 (List._∷_ 102 (List._∷_ 117 (List._∷_ 115 (List._∷_ 97 (List._∷_ 108 List.[]))))))))))))))) (Syntax.ttcons Syntax.tnil
+              (Syntax.ttcons Syntax.tnil (Syntax.ttcons Syntax.tnil (Syntax.ttcons (Syntax.tcons (Syntax.tyInt Syntax.w64) Syntax.tnil) (Syntax.ttcons Syntax.tnil (Syntax.ttcons Syntax.tnil (Syntax.ttcons
+              Syntax.tnil (Syntax.ttcons Syntax.tnil (Syntax.ttcons Syntax.tnil (Syntax.ttcons Syntax.tnil (Syntax.ttcons (Syntax.tcons (Syntax.tyInt Syntax.w64) Syntax.tnil) (Syntax.ttcons (Syntax.tcons
+              (Syntax.tyInt Syntax.w64) Syntax.tnil) (Syntax.ttcons Syntax.tnil (Syntax.ttcons (Syntax.tcons (Syntax.tyInt Syntax.w64) (Syntax.tcons (Syntax.tyInt Syntax.w64) Syntax.tnil)) (Syntax.ttcons
+              (Syntax.tcons (Syntax.tyInt Syntax.w64) Syntax.tnil) (Syntax.ttcons Syntax.tnil (Syntax.ttcons Syntax.tnil (Syntax.ttcons (Syntax.tcons (Syntax.tyInt Syntax.w64) Syntax.tnil) (Syntax.ttcons
+              (Syntax.tcons (Syntax.tyInt Syntax.w64) Syntax.tnil) (Syntax.ttcons (Syntax.tcons (Syntax.tyInt Syntax.w64) Syntax.tnil) (Syntax.ttcons Syntax.tnil Syntax.ttnil)))))))))))))))))))))),
+        )
+            (List._∷_ (
               11,
               Rows.any-gone (Syntax.tyEnum (List._∷_ 115 (List._∷_ 116 (List._∷_ 114 (List._∷_ 101 (List._∷_ 97 (List._∷_ 109 (List._∷_ 58 (List._∷_ 58 (List._∷_ 82 (List._∷_ 101 (List._∷_
                   102 (List._∷_ 117 (List._∷_ 115 (List._∷_ 97 (List._∷_ 108 List.[]))))))))))))))) (Syntax.ttcons Syntax.tnil (Syntax.ttcons Syntax.tnil (Syntax.ttcons Syntax.tnil (Syntax.ttcons (Syntax.tcons
                   (Syntax.tyInt Syntax.w64) Syntax.tnil) (Syntax.ttcons Syntax.tnil (Syntax.ttcons Syntax.tnil (Syntax.ttcons Syntax.tnil (Syntax.ttcons Syntax.tnil (Syntax.ttcons Syntax.tnil (Syntax.ttcons
                   Syntax.tnil (Syntax.ttcons (Syntax.tcons (Syntax.tyInt Syntax.w64) Syntax.tnil) (Syntax.ttcons (Syntax.tcons (Syntax.tyInt Syntax.w64) Syntax.tnil) (Syntax.ttcons Syntax.tnil (Syntax.ttcons
                   (Syntax.tcons (Syntax.tyInt Syntax.w64) (Syntax.tcons (Syntax.tyInt Syntax.w64) Syntax.tnil)) (Syntax.ttcons (Syntax.tcons (Syntax.tyInt Syntax.w64) Syntax.tnil) (Syntax.ttcons Syntax.tnil
-                  Syntax.ttnil))))))))))))))))),
+                  (Syntax.ttcons Syntax.tnil (Syntax.ttcons (Syntax.tcons (Syntax.tyInt Syntax.w64) Syntax.tnil) (Syntax.ttcons (Syntax.tcons (Syntax.tyInt Syntax.w64) Syntax.tnil) (Syntax.ttcons (Syntax.tcons
+                  (Syntax.tyInt Syntax.w64) Syntax.tnil) (Syntax.ttcons Syntax.tnil Syntax.ttnil)))))))))))))))))))))),
             ) (List._∷_ (12, Rows.sc-here Row.sPtr) (List._∷_ (
               13,
-              Relend.msptr (Referent.rtF (Referent.fInt Syntax.w16)) (Syntax.tyRef Syntax.erased Syntax.mut
-                  (Syntax.tyInt Syntax.w16)) 3,
+              Relend.msptr (Referent.rtF
+                  (Referent.fInt Syntax.w16)) (Syntax.tyRef Syntax.erased Syntax.mut (Syntax.tyInt Syntax.w16)) 3,
             ) (List._∷_ (
               14,
-              Rows.any-gone (Syntax.tyStruct (List._∷_ 38 (List._∷_ 91 (List._∷_ 93 List.[]))) (Syntax.tcons (Syntax.tyRef Syntax.erased Syntax.mut
-                  (Syntax.tyInt Syntax.w16)) (Syntax.tcons (Syntax.tyInt Syntax.w64) Syntax.tnil))),
-            ) (List._∷_ (15, Rows.any-gone Syntax.tyPtr) List.[])))))))))))))))
+              Rows.any-gone (Syntax.tyStruct (List._∷_ 38 (List._∷_ 91 (List._∷_ 93
+                  List.[]))) (Syntax.tcons (Syntax.tyRef Syntax.erased Syntax.mut (Syntax.tyInt Syntax.w16)) (Syntax.tcons (Syntax.tyInt Syntax.w64) Syntax.tnil))),
+            ) (List._∷_ (15, Rows.any-gone Syntax.tyPtr)
+            List.[])))))))))))))))
 
         abbrev g23 : List.List Row.Entry
         g23 = List._∷_ (
@@ -2606,44 +2720,54 @@ module _ (claims· : Claims) where
               Syntax.tnil (Syntax.ttcons Syntax.tnil (Syntax.ttcons Syntax.tnil (Syntax.ttcons (Syntax.tcons (Syntax.tyInt Syntax.w64) Syntax.tnil) (Syntax.ttcons Syntax.tnil (Syntax.ttcons Syntax.tnil
               (Syntax.ttcons Syntax.tnil (Syntax.ttcons Syntax.tnil (Syntax.ttcons Syntax.tnil (Syntax.ttcons Syntax.tnil (Syntax.ttcons (Syntax.tcons (Syntax.tyInt Syntax.w64) Syntax.tnil) (Syntax.ttcons
               (Syntax.tcons (Syntax.tyInt Syntax.w64) Syntax.tnil) (Syntax.ttcons Syntax.tnil (Syntax.ttcons (Syntax.tcons (Syntax.tyInt Syntax.w64) (Syntax.tcons (Syntax.tyInt Syntax.w64) Syntax.tnil))
-              (Syntax.ttcons (Syntax.tcons (Syntax.tyInt Syntax.w64) Syntax.tnil) (Syntax.ttcons Syntax.tnil Syntax.ttnil))))))))))))))))) Syntax.tnil) Syntax.ttnil))),
+              (Syntax.ttcons (Syntax.tcons (Syntax.tyInt Syntax.w64) Syntax.tnil) (Syntax.ttcons Syntax.tnil (Syntax.ttcons Syntax.tnil (Syntax.ttcons (Syntax.tcons (Syntax.tyInt Syntax.w64) Syntax.tnil)
+              (Syntax.ttcons (Syntax.tcons (Syntax.tyInt Syntax.w64) Syntax.tnil) (Syntax.ttcons (Syntax.tcons (Syntax.tyInt Syntax.w64) Syntax.tnil) (Syntax.ttcons Syntax.tnil
+              Syntax.ttnil)))))))))))))))))))))) Syntax.tnil) Syntax.ttnil))),
         ) (List._∷_ (
           1,
-          Rows.sslice
-              (Referent.rtF (Referent.fInt Syntax.w8)) (Syntax.tyRef (Syntax.named 0) Syntax.imm (Syntax.tyInt Syntax.w8)) 0,
-        ) (List._∷_ (2, Rows.whole (Declared'.row FujiHeader.the-type)) (List._∷_ (
-          3,
-          Rows.sc-here (Row.sInt Syntax.w64),
-        ) (List._∷_ (
+          Rows.sslice (Referent.rtF (Referent.fInt Syntax.w8)) (Syntax.tyRef (Syntax.named 0) Syntax.imm (Syntax.tyInt
+              Syntax.w8)) 0,
+        ) (List._∷_ (2, Rows.whole (Declared'.row FujiHeader.the-type)) (List._∷_ (3, Rows.sc-here (Row.sInt Syntax.w64)) (List._∷_ (
           4,
-          PartMut.mslice-owedM (Referent.rtF (Referent.fInt Syntax.w16)) (Syntax.tyRef (Syntax.named 1) Syntax.mut (Syntax.tyInt Syntax.w16)) 1 3
-              (Row.lease (κs .1 .0) (qs .1 .0)),
-        ) (List._∷_ (5, Mut.mslice (Element.type) (Syntax.tyRef (Syntax.named 2) Syntax.mut Element.behind) 2) (List._∷_ (6, Rows.sc-here (Row.sInt Syntax.w64))
-            (List._∷_ (7, Rows.sc-here (Row.sInt Syntax.w64)) (List._∷_ (8, Rows.any-gone (Syntax.tyInt Syntax.w64)) (List._∷_ (9, Rows.any-gone Syntax.tyBool) (List._∷_ (
-              10,
-              Rows.any-gone
-                  (Syntax.tyEnum (List._∷_ 115 (List._∷_ 116 (List._∷_ 114 (List._∷_ 101 (List._∷_ 97 (List._∷_ 109 (List._∷_ 58 (List._∷_ 58 (List._∷_ 82 (List._∷_ 101 (List._∷_ 102 (List._∷_ 117 (List._∷_ 115
-                  (List._∷_ 97 (List._∷_ 108 List.[]))))))))))))))) (Syntax.ttcons Syntax.tnil (Syntax.ttcons Syntax.tnil (Syntax.ttcons Syntax.tnil (Syntax.ttcons (Syntax.tcons (Syntax.tyInt Syntax.w64)
-                  Syntax.tnil) (Syntax.ttcons Syntax.tnil (Syntax.ttcons Syntax.tnil (Syntax.ttcons Syntax.tnil (Syntax.ttcons Syntax.tnil (Syntax.ttcons Syntax.tnil (Syntax.ttcons Syntax.tnil (Syntax.ttcons
-                  (Syntax.tcons (Syntax.tyInt Syntax.w64) Syntax.tnil) (Syntax.ttcons (Syntax.tcons (Syntax.tyInt Syntax.w64) Syntax.tnil) (Syntax.ttcons Syntax.tnil (Syntax.ttcons (Syntax.tcons (Syntax.tyInt
-                  Syntax.w64) (Syntax.tcons (Syntax.tyInt Syntax.w64) Syntax.tnil)) (Syntax.ttcons (Syntax.tcons (Syntax.tyInt Syntax.w64) Syntax.tnil) (Syntax.ttcons Syntax.tnil Syntax.ttnil))))))))))))))))),
-            ) (List._∷_ (
+          PartMut.mslice-owedM (Referent.rtF
+              (Referent.fInt Syntax.w16)) (Syntax.tyRef (Syntax.named 1) Syntax.mut (Syntax.tyInt Syntax.w16)) 1 3 (Row.lease (κs .1 .0) (qs .1 .0)),
+        ) (List._∷_ (
+          5,
+          Mut.mslice (Element.type) (Syntax.tyRef
+              (Syntax.named 2) Syntax.mut Element.behind) 2,
+        ) (List._∷_ (6, Rows.sc-here (Row.sInt Syntax.w64)) (List._∷_ (7, Rows.sc-here (Row.sInt Syntax.w64)) (List._∷_ (
+          8,
+          Rows.any-gone
+              (Syntax.tyInt Syntax.w64),
+        ) (List._∷_ (9, Rows.any-gone Syntax.tyBool) (List._∷_ (
+          10,
+          Rows.any-gone (Syntax.tyEnum (List._∷_ 115 (List._∷_ 116 (List._∷_ 114 (List._∷_ 101 (List._∷_ 97
+              (List._∷_ 109 (List._∷_ 58 (List._∷_ 58 (List._∷_ 82 (List._∷_ 101 (List._∷_ 102 (List._∷_ 117 (List._∷_ 115 (List._∷_ 97 (List._∷_ 108 List.[]))))))))))))))) (Syntax.ttcons Syntax.tnil
+              (Syntax.ttcons Syntax.tnil (Syntax.ttcons Syntax.tnil (Syntax.ttcons (Syntax.tcons (Syntax.tyInt Syntax.w64) Syntax.tnil) (Syntax.ttcons Syntax.tnil (Syntax.ttcons Syntax.tnil (Syntax.ttcons
+              Syntax.tnil (Syntax.ttcons Syntax.tnil (Syntax.ttcons Syntax.tnil (Syntax.ttcons Syntax.tnil (Syntax.ttcons (Syntax.tcons (Syntax.tyInt Syntax.w64) Syntax.tnil) (Syntax.ttcons (Syntax.tcons
+              (Syntax.tyInt Syntax.w64) Syntax.tnil) (Syntax.ttcons Syntax.tnil (Syntax.ttcons (Syntax.tcons (Syntax.tyInt Syntax.w64) (Syntax.tcons (Syntax.tyInt Syntax.w64) Syntax.tnil)) (Syntax.ttcons
+              (Syntax.tcons (Syntax.tyInt Syntax.w64) Syntax.tnil) (Syntax.ttcons Syntax.tnil (Syntax.ttcons Syntax.tnil (Syntax.ttcons (Syntax.tcons (Syntax.tyInt Syntax.w64) Syntax.tnil) (Syntax.ttcons
+              (Syntax.tcons (Syntax.tyInt Syntax.w64) Syntax.tnil) (Syntax.ttcons (Syntax.tcons (Syntax.tyInt Syntax.w64) Syntax.tnil) (Syntax.ttcons Syntax.tnil Syntax.ttnil)))))))))))))))))))))),
+        )
+            (List._∷_ (
               11,
               Rows.any-gone (Syntax.tyEnum (List._∷_ 115 (List._∷_ 116 (List._∷_ 114 (List._∷_ 101 (List._∷_ 97 (List._∷_ 109 (List._∷_ 58 (List._∷_ 58 (List._∷_ 82 (List._∷_ 101 (List._∷_
                   102 (List._∷_ 117 (List._∷_ 115 (List._∷_ 97 (List._∷_ 108 List.[]))))))))))))))) (Syntax.ttcons Syntax.tnil (Syntax.ttcons Syntax.tnil (Syntax.ttcons Syntax.tnil (Syntax.ttcons (Syntax.tcons
                   (Syntax.tyInt Syntax.w64) Syntax.tnil) (Syntax.ttcons Syntax.tnil (Syntax.ttcons Syntax.tnil (Syntax.ttcons Syntax.tnil (Syntax.ttcons Syntax.tnil (Syntax.ttcons Syntax.tnil (Syntax.ttcons
                   Syntax.tnil (Syntax.ttcons (Syntax.tcons (Syntax.tyInt Syntax.w64) Syntax.tnil) (Syntax.ttcons (Syntax.tcons (Syntax.tyInt Syntax.w64) Syntax.tnil) (Syntax.ttcons Syntax.tnil (Syntax.ttcons
                   (Syntax.tcons (Syntax.tyInt Syntax.w64) (Syntax.tcons (Syntax.tyInt Syntax.w64) Syntax.tnil)) (Syntax.ttcons (Syntax.tcons (Syntax.tyInt Syntax.w64) Syntax.tnil) (Syntax.ttcons Syntax.tnil
-                  Syntax.ttnil))))))))))))))))),
+                  (Syntax.ttcons Syntax.tnil (Syntax.ttcons (Syntax.tcons (Syntax.tyInt Syntax.w64) Syntax.tnil) (Syntax.ttcons (Syntax.tcons (Syntax.tyInt Syntax.w64) Syntax.tnil) (Syntax.ttcons (Syntax.tcons
+                  (Syntax.tyInt Syntax.w64) Syntax.tnil) (Syntax.ttcons Syntax.tnil Syntax.ttnil)))))))))))))))))))))),
             ) (List._∷_ (12, Rows.any-gone Syntax.tyPtr) (List._∷_ (
               13,
-              Relend.msptr (Referent.rtF (Referent.fInt Syntax.w16)) (Syntax.tyRef Syntax.erased Syntax.mut
-                  (Syntax.tyInt Syntax.w16)) 3,
+              Relend.msptr (Referent.rtF
+                  (Referent.fInt Syntax.w16)) (Syntax.tyRef Syntax.erased Syntax.mut (Syntax.tyInt Syntax.w16)) 3,
             ) (List._∷_ (
               14,
-              Rows.any-gone (Syntax.tyStruct (List._∷_ 38 (List._∷_ 91 (List._∷_ 93 List.[]))) (Syntax.tcons (Syntax.tyRef Syntax.erased Syntax.mut
-                  (Syntax.tyInt Syntax.w16)) (Syntax.tcons (Syntax.tyInt Syntax.w64) Syntax.tnil))),
-            ) (List._∷_ (15, Rows.any-gone Syntax.tyPtr) List.[])))))))))))))))
+              Rows.any-gone (Syntax.tyStruct (List._∷_ 38 (List._∷_ 91 (List._∷_ 93
+                  List.[]))) (Syntax.tcons (Syntax.tyRef Syntax.erased Syntax.mut (Syntax.tyInt Syntax.w16)) (Syntax.tcons (Syntax.tyInt Syntax.w64) Syntax.tnil))),
+            ) (List._∷_ (15, Rows.any-gone Syntax.tyPtr)
+            List.[])))))))))))))))
 
         abbrev g24 : List.List Row.Entry
         g24 = List._∷_ (
@@ -2654,36 +2778,49 @@ module _ (claims· : Claims) where
               Syntax.tnil (Syntax.ttcons Syntax.tnil (Syntax.ttcons Syntax.tnil (Syntax.ttcons (Syntax.tcons (Syntax.tyInt Syntax.w64) Syntax.tnil) (Syntax.ttcons Syntax.tnil (Syntax.ttcons Syntax.tnil
               (Syntax.ttcons Syntax.tnil (Syntax.ttcons Syntax.tnil (Syntax.ttcons Syntax.tnil (Syntax.ttcons Syntax.tnil (Syntax.ttcons (Syntax.tcons (Syntax.tyInt Syntax.w64) Syntax.tnil) (Syntax.ttcons
               (Syntax.tcons (Syntax.tyInt Syntax.w64) Syntax.tnil) (Syntax.ttcons Syntax.tnil (Syntax.ttcons (Syntax.tcons (Syntax.tyInt Syntax.w64) (Syntax.tcons (Syntax.tyInt Syntax.w64) Syntax.tnil))
-              (Syntax.ttcons (Syntax.tcons (Syntax.tyInt Syntax.w64) Syntax.tnil) (Syntax.ttcons Syntax.tnil Syntax.ttnil))))))))))))))))) Syntax.tnil) Syntax.ttnil))),
+              (Syntax.ttcons (Syntax.tcons (Syntax.tyInt Syntax.w64) Syntax.tnil) (Syntax.ttcons Syntax.tnil (Syntax.ttcons Syntax.tnil (Syntax.ttcons (Syntax.tcons (Syntax.tyInt Syntax.w64) Syntax.tnil)
+              (Syntax.ttcons (Syntax.tcons (Syntax.tyInt Syntax.w64) Syntax.tnil) (Syntax.ttcons (Syntax.tcons (Syntax.tyInt Syntax.w64) Syntax.tnil) (Syntax.ttcons Syntax.tnil
+              Syntax.ttnil)))))))))))))))))))))) Syntax.tnil) Syntax.ttnil))),
         ) (List._∷_ (
           1,
-          Rows.sslice
-              (Referent.rtF (Referent.fInt Syntax.w8)) (Syntax.tyRef (Syntax.named 0) Syntax.imm (Syntax.tyInt Syntax.w8)) 0,
-        ) (List._∷_ (2, Rows.whole (Declared'.row FujiHeader.the-type)) (List._∷_ (
-          3,
-          Rows.sc-here (Row.sInt Syntax.w64),
-        ) (List._∷_ (
+          Rows.sslice (Referent.rtF (Referent.fInt Syntax.w8)) (Syntax.tyRef (Syntax.named 0) Syntax.imm (Syntax.tyInt
+              Syntax.w8)) 0,
+        ) (List._∷_ (2, Rows.whole (Declared'.row FujiHeader.the-type)) (List._∷_ (3, Rows.sc-here (Row.sInt Syntax.w64)) (List._∷_ (
           4,
-          PartMut.mslice-owedM (Referent.rtF (Referent.fInt Syntax.w16)) (Syntax.tyRef (Syntax.named 1) Syntax.mut (Syntax.tyInt Syntax.w16)) 1 3
-              (Row.lease (κs .1 .0) (qs .1 .0)),
-        ) (List._∷_ (5, Mut.mslice (Element.type) (Syntax.tyRef (Syntax.named 2) Syntax.mut Element.behind) 2) (List._∷_ (6, Rows.sc-here (Row.sInt Syntax.w64))
-            (List._∷_ (7, Rows.sc-here (Row.sInt Syntax.w64)) (List._∷_ (8, Rows.any-gone (Syntax.tyInt Syntax.w64)) (List._∷_ (9, Rows.any-gone Syntax.tyBool) (List._∷_ (
-              10,
-              Rows.any-gone
-                  (Syntax.tyEnum (List._∷_ 115 (List._∷_ 116 (List._∷_ 114 (List._∷_ 101 (List._∷_ 97 (List._∷_ 109 (List._∷_ 58 (List._∷_ 58 (List._∷_ 82 (List._∷_ 101 (List._∷_ 102 (List._∷_ 117 (List._∷_ 115
-                  (List._∷_ 97 (List._∷_ 108 List.[]))))))))))))))) (Syntax.ttcons Syntax.tnil (Syntax.ttcons Syntax.tnil (Syntax.ttcons Syntax.tnil (Syntax.ttcons (Syntax.tcons (Syntax.tyInt Syntax.w64)
-                  Syntax.tnil) (Syntax.ttcons Syntax.tnil (Syntax.ttcons Syntax.tnil (Syntax.ttcons Syntax.tnil (Syntax.ttcons Syntax.tnil (Syntax.ttcons Syntax.tnil (Syntax.ttcons Syntax.tnil (Syntax.ttcons
-                  (Syntax.tcons (Syntax.tyInt Syntax.w64) Syntax.tnil) (Syntax.ttcons (Syntax.tcons (Syntax.tyInt Syntax.w64) Syntax.tnil) (Syntax.ttcons Syntax.tnil (Syntax.ttcons (Syntax.tcons (Syntax.tyInt
-                  Syntax.w64) (Syntax.tcons (Syntax.tyInt Syntax.w64) Syntax.tnil)) (Syntax.ttcons (Syntax.tcons (Syntax.tyInt Syntax.w64) Syntax.tnil) (Syntax.ttcons Syntax.tnil Syntax.ttnil))))))))))))))))),
-            ) (List._∷_ (
+          PartMut.mslice-owedM (Referent.rtF
+              (Referent.fInt Syntax.w16)) (Syntax.tyRef (Syntax.named 1) Syntax.mut (Syntax.tyInt Syntax.w16)) 1 3 (Row.lease (κs .1 .0) (qs .1 .0)),
+        ) (List._∷_ (
+          5,
+          Mut.mslice (Element.type) (Syntax.tyRef
+              (Syntax.named 2) Syntax.mut Element.behind) 2,
+        ) (List._∷_ (6, Rows.sc-here (Row.sInt Syntax.w64)) (List._∷_ (7, Rows.sc-here (Row.sInt Syntax.w64)) (List._∷_ (
+          8,
+          Rows.any-gone
+              (Syntax.tyInt Syntax.w64),
+        ) (List._∷_ (9, Rows.any-gone Syntax.tyBool) (List._∷_ (
+          10,
+          Rows.any-gone (Syntax.tyEnum (List._∷_ 115 (List._∷_ 116 (List._∷_ 114 (List._∷_ 101 (List._∷_ 97
+              (List._∷_ 109 (List._∷_ 58 (List._∷_ 58 (List._∷_ 82 (List._∷_ 101 (List._∷_ 102 (List._∷_ 117 (List._∷_ 115 (List._∷_ 97 (List._∷_ 108 List.[]))))))))))))))) (Syntax.ttcons Syntax.tnil
+              (Syntax.ttcons Syntax.tnil (Syntax.ttcons Syntax.tnil (Syntax.ttcons (Syntax.tcons (Syntax.tyInt Syntax.w64) Syntax.tnil) (Syntax.ttcons Syntax.tnil (Syntax.ttcons Syntax.tnil (Syntax.ttcons
+              Syntax.tnil (Syntax.ttcons Syntax.tnil (Syntax.ttcons Syntax.tnil (Syntax.ttcons Syntax.tnil (Syntax.ttcons (Syntax.tcons (Syntax.tyInt Syntax.w64) Syntax.tnil) (Syntax.ttcons (Syntax.tcons
+              (Syntax.tyInt Syntax.w64) Syntax.tnil) (Syntax.ttcons Syntax.tnil (Syntax.ttcons (Syntax.tcons (Syntax.tyInt Syntax.w64) (Syntax.tcons (Syntax.tyInt Syntax.w64) Syntax.tnil)) (Syntax.ttcons
+              (Syntax.tcons (Syntax.tyInt Syntax.w64) Syntax.tnil) (Syntax.ttcons Syntax.tnil (Syntax.ttcons Syntax.tnil (Syntax.ttcons (Syntax.tcons (Syntax.tyInt Syntax.w64) Syntax.tnil) (Syntax.ttcons
+              (Syntax.tcons (Syntax.tyInt Syntax.w64) Syntax.tnil) (Syntax.ttcons (Syntax.tcons (Syntax.tyInt Syntax.w64) Syntax.tnil) (Syntax.ttcons Syntax.tnil Syntax.ttnil)))))))))))))))))))))),
+        )
+            (List._∷_ (
               11,
               Rows.any-gone (Syntax.tyEnum (List._∷_ 115 (List._∷_ 116 (List._∷_ 114 (List._∷_ 101 (List._∷_ 97 (List._∷_ 109 (List._∷_ 58 (List._∷_ 58 (List._∷_ 82 (List._∷_ 101 (List._∷_
                   102 (List._∷_ 117 (List._∷_ 115 (List._∷_ 97 (List._∷_ 108 List.[]))))))))))))))) (Syntax.ttcons Syntax.tnil (Syntax.ttcons Syntax.tnil (Syntax.ttcons Syntax.tnil (Syntax.ttcons (Syntax.tcons
                   (Syntax.tyInt Syntax.w64) Syntax.tnil) (Syntax.ttcons Syntax.tnil (Syntax.ttcons Syntax.tnil (Syntax.ttcons Syntax.tnil (Syntax.ttcons Syntax.tnil (Syntax.ttcons Syntax.tnil (Syntax.ttcons
                   Syntax.tnil (Syntax.ttcons (Syntax.tcons (Syntax.tyInt Syntax.w64) Syntax.tnil) (Syntax.ttcons (Syntax.tcons (Syntax.tyInt Syntax.w64) Syntax.tnil) (Syntax.ttcons Syntax.tnil (Syntax.ttcons
                   (Syntax.tcons (Syntax.tyInt Syntax.w64) (Syntax.tcons (Syntax.tyInt Syntax.w64) Syntax.tnil)) (Syntax.ttcons (Syntax.tcons (Syntax.tyInt Syntax.w64) Syntax.tnil) (Syntax.ttcons Syntax.tnil
-                  Syntax.ttnil))))))))))))))))),
-            ) (List._∷_ (12, Rows.any-gone Syntax.tyPtr) (List._∷_ (13, Rows.any-gone (Syntax.tyRef Syntax.erased Syntax.mut (Syntax.tyInt Syntax.w16))) (List._∷_ (
+                  (Syntax.ttcons Syntax.tnil (Syntax.ttcons (Syntax.tcons (Syntax.tyInt Syntax.w64) Syntax.tnil) (Syntax.ttcons (Syntax.tcons (Syntax.tyInt Syntax.w64) Syntax.tnil) (Syntax.ttcons (Syntax.tcons
+                  (Syntax.tyInt Syntax.w64) Syntax.tnil) (Syntax.ttcons Syntax.tnil Syntax.ttnil)))))))))))))))))))))),
+            ) (List._∷_ (12, Rows.any-gone Syntax.tyPtr) (List._∷_ (
+              13,
+              Rows.any-gone (Syntax.tyRef
+                  Syntax.erased Syntax.mut (Syntax.tyInt Syntax.w16)),
+            ) (List._∷_ (
               14,
               Mut.mslice (Referent.rtF (Referent.fInt Syntax.w16)) (Syntax.tyRef Syntax.erased Syntax.mut (Syntax.tyInt Syntax.w16)) 3,
             ) (List._∷_ (15, Rows.any-gone Syntax.tyPtr) List.[])))))))))))))))
@@ -2697,36 +2834,49 @@ module _ (claims· : Claims) where
               Syntax.tnil (Syntax.ttcons Syntax.tnil (Syntax.ttcons Syntax.tnil (Syntax.ttcons (Syntax.tcons (Syntax.tyInt Syntax.w64) Syntax.tnil) (Syntax.ttcons Syntax.tnil (Syntax.ttcons Syntax.tnil
               (Syntax.ttcons Syntax.tnil (Syntax.ttcons Syntax.tnil (Syntax.ttcons Syntax.tnil (Syntax.ttcons Syntax.tnil (Syntax.ttcons (Syntax.tcons (Syntax.tyInt Syntax.w64) Syntax.tnil) (Syntax.ttcons
               (Syntax.tcons (Syntax.tyInt Syntax.w64) Syntax.tnil) (Syntax.ttcons Syntax.tnil (Syntax.ttcons (Syntax.tcons (Syntax.tyInt Syntax.w64) (Syntax.tcons (Syntax.tyInt Syntax.w64) Syntax.tnil))
-              (Syntax.ttcons (Syntax.tcons (Syntax.tyInt Syntax.w64) Syntax.tnil) (Syntax.ttcons Syntax.tnil Syntax.ttnil))))))))))))))))) Syntax.tnil) Syntax.ttnil))),
+              (Syntax.ttcons (Syntax.tcons (Syntax.tyInt Syntax.w64) Syntax.tnil) (Syntax.ttcons Syntax.tnil (Syntax.ttcons Syntax.tnil (Syntax.ttcons (Syntax.tcons (Syntax.tyInt Syntax.w64) Syntax.tnil)
+              (Syntax.ttcons (Syntax.tcons (Syntax.tyInt Syntax.w64) Syntax.tnil) (Syntax.ttcons (Syntax.tcons (Syntax.tyInt Syntax.w64) Syntax.tnil) (Syntax.ttcons Syntax.tnil
+              Syntax.ttnil)))))))))))))))))))))) Syntax.tnil) Syntax.ttnil))),
         ) (List._∷_ (
           1,
-          Rows.sslice
-              (Referent.rtF (Referent.fInt Syntax.w8)) (Syntax.tyRef (Syntax.named 0) Syntax.imm (Syntax.tyInt Syntax.w8)) 0,
-        ) (List._∷_ (2, Rows.whole (Declared'.row FujiHeader.the-type)) (List._∷_ (
-          3,
-          Rows.sc-here (Row.sInt Syntax.w64),
-        ) (List._∷_ (
+          Rows.sslice (Referent.rtF (Referent.fInt Syntax.w8)) (Syntax.tyRef (Syntax.named 0) Syntax.imm (Syntax.tyInt
+              Syntax.w8)) 0,
+        ) (List._∷_ (2, Rows.whole (Declared'.row FujiHeader.the-type)) (List._∷_ (3, Rows.sc-here (Row.sInt Syntax.w64)) (List._∷_ (
           4,
-          PartMut.mslice-owedM (Referent.rtF (Referent.fInt Syntax.w16)) (Syntax.tyRef (Syntax.named 1) Syntax.mut (Syntax.tyInt Syntax.w16)) 1 3
-              (Row.lease (κs .1 .0) (qs .1 .0)),
-        ) (List._∷_ (5, Mut.mslice (Element.type) (Syntax.tyRef (Syntax.named 2) Syntax.mut Element.behind) 2) (List._∷_ (6, Rows.sc-here (Row.sInt Syntax.w64))
-            (List._∷_ (7, Rows.any-gone (Syntax.tyInt Syntax.w64)) (List._∷_ (8, Rows.any-gone (Syntax.tyInt Syntax.w64)) (List._∷_ (9, Rows.any-gone Syntax.tyBool) (List._∷_ (
-              10,
-              Rows.any-gone
-                  (Syntax.tyEnum (List._∷_ 115 (List._∷_ 116 (List._∷_ 114 (List._∷_ 101 (List._∷_ 97 (List._∷_ 109 (List._∷_ 58 (List._∷_ 58 (List._∷_ 82 (List._∷_ 101 (List._∷_ 102 (List._∷_ 117 (List._∷_ 115
-                  (List._∷_ 97 (List._∷_ 108 List.[]))))))))))))))) (Syntax.ttcons Syntax.tnil (Syntax.ttcons Syntax.tnil (Syntax.ttcons Syntax.tnil (Syntax.ttcons (Syntax.tcons (Syntax.tyInt Syntax.w64)
-                  Syntax.tnil) (Syntax.ttcons Syntax.tnil (Syntax.ttcons Syntax.tnil (Syntax.ttcons Syntax.tnil (Syntax.ttcons Syntax.tnil (Syntax.ttcons Syntax.tnil (Syntax.ttcons Syntax.tnil (Syntax.ttcons
-                  (Syntax.tcons (Syntax.tyInt Syntax.w64) Syntax.tnil) (Syntax.ttcons (Syntax.tcons (Syntax.tyInt Syntax.w64) Syntax.tnil) (Syntax.ttcons Syntax.tnil (Syntax.ttcons (Syntax.tcons (Syntax.tyInt
-                  Syntax.w64) (Syntax.tcons (Syntax.tyInt Syntax.w64) Syntax.tnil)) (Syntax.ttcons (Syntax.tcons (Syntax.tyInt Syntax.w64) Syntax.tnil) (Syntax.ttcons Syntax.tnil Syntax.ttnil))))))))))))))))),
-            ) (List._∷_ (
+          PartMut.mslice-owedM (Referent.rtF
+              (Referent.fInt Syntax.w16)) (Syntax.tyRef (Syntax.named 1) Syntax.mut (Syntax.tyInt Syntax.w16)) 1 3 (Row.lease (κs .1 .0) (qs .1 .0)),
+        ) (List._∷_ (
+          5,
+          Mut.mslice (Element.type) (Syntax.tyRef
+              (Syntax.named 2) Syntax.mut Element.behind) 2,
+        ) (List._∷_ (6, Rows.sc-here (Row.sInt Syntax.w64)) (List._∷_ (7, Rows.any-gone (Syntax.tyInt Syntax.w64)) (List._∷_ (
+          8,
+          Rows.any-gone
+              (Syntax.tyInt Syntax.w64),
+        ) (List._∷_ (9, Rows.any-gone Syntax.tyBool) (List._∷_ (
+          10,
+          Rows.any-gone (Syntax.tyEnum (List._∷_ 115 (List._∷_ 116 (List._∷_ 114 (List._∷_ 101 (List._∷_ 97
+              (List._∷_ 109 (List._∷_ 58 (List._∷_ 58 (List._∷_ 82 (List._∷_ 101 (List._∷_ 102 (List._∷_ 117 (List._∷_ 115 (List._∷_ 97 (List._∷_ 108 List.[]))))))))))))))) (Syntax.ttcons Syntax.tnil
+              (Syntax.ttcons Syntax.tnil (Syntax.ttcons Syntax.tnil (Syntax.ttcons (Syntax.tcons (Syntax.tyInt Syntax.w64) Syntax.tnil) (Syntax.ttcons Syntax.tnil (Syntax.ttcons Syntax.tnil (Syntax.ttcons
+              Syntax.tnil (Syntax.ttcons Syntax.tnil (Syntax.ttcons Syntax.tnil (Syntax.ttcons Syntax.tnil (Syntax.ttcons (Syntax.tcons (Syntax.tyInt Syntax.w64) Syntax.tnil) (Syntax.ttcons (Syntax.tcons
+              (Syntax.tyInt Syntax.w64) Syntax.tnil) (Syntax.ttcons Syntax.tnil (Syntax.ttcons (Syntax.tcons (Syntax.tyInt Syntax.w64) (Syntax.tcons (Syntax.tyInt Syntax.w64) Syntax.tnil)) (Syntax.ttcons
+              (Syntax.tcons (Syntax.tyInt Syntax.w64) Syntax.tnil) (Syntax.ttcons Syntax.tnil (Syntax.ttcons Syntax.tnil (Syntax.ttcons (Syntax.tcons (Syntax.tyInt Syntax.w64) Syntax.tnil) (Syntax.ttcons
+              (Syntax.tcons (Syntax.tyInt Syntax.w64) Syntax.tnil) (Syntax.ttcons (Syntax.tcons (Syntax.tyInt Syntax.w64) Syntax.tnil) (Syntax.ttcons Syntax.tnil Syntax.ttnil)))))))))))))))))))))),
+        )
+            (List._∷_ (
               11,
               Rows.any-gone (Syntax.tyEnum (List._∷_ 115 (List._∷_ 116 (List._∷_ 114 (List._∷_ 101 (List._∷_ 97 (List._∷_ 109 (List._∷_ 58 (List._∷_ 58 (List._∷_ 82 (List._∷_ 101 (List._∷_
                   102 (List._∷_ 117 (List._∷_ 115 (List._∷_ 97 (List._∷_ 108 List.[]))))))))))))))) (Syntax.ttcons Syntax.tnil (Syntax.ttcons Syntax.tnil (Syntax.ttcons Syntax.tnil (Syntax.ttcons (Syntax.tcons
                   (Syntax.tyInt Syntax.w64) Syntax.tnil) (Syntax.ttcons Syntax.tnil (Syntax.ttcons Syntax.tnil (Syntax.ttcons Syntax.tnil (Syntax.ttcons Syntax.tnil (Syntax.ttcons Syntax.tnil (Syntax.ttcons
                   Syntax.tnil (Syntax.ttcons (Syntax.tcons (Syntax.tyInt Syntax.w64) Syntax.tnil) (Syntax.ttcons (Syntax.tcons (Syntax.tyInt Syntax.w64) Syntax.tnil) (Syntax.ttcons Syntax.tnil (Syntax.ttcons
                   (Syntax.tcons (Syntax.tyInt Syntax.w64) (Syntax.tcons (Syntax.tyInt Syntax.w64) Syntax.tnil)) (Syntax.ttcons (Syntax.tcons (Syntax.tyInt Syntax.w64) Syntax.tnil) (Syntax.ttcons Syntax.tnil
-                  Syntax.ttnil))))))))))))))))),
-            ) (List._∷_ (12, Rows.any-gone Syntax.tyPtr) (List._∷_ (13, Rows.any-gone (Syntax.tyRef Syntax.erased Syntax.mut (Syntax.tyInt Syntax.w16))) (List._∷_ (
+                  (Syntax.ttcons Syntax.tnil (Syntax.ttcons (Syntax.tcons (Syntax.tyInt Syntax.w64) Syntax.tnil) (Syntax.ttcons (Syntax.tcons (Syntax.tyInt Syntax.w64) Syntax.tnil) (Syntax.ttcons (Syntax.tcons
+                  (Syntax.tyInt Syntax.w64) Syntax.tnil) (Syntax.ttcons Syntax.tnil Syntax.ttnil)))))))))))))))))))))),
+            ) (List._∷_ (12, Rows.any-gone Syntax.tyPtr) (List._∷_ (
+              13,
+              Rows.any-gone (Syntax.tyRef
+                  Syntax.erased Syntax.mut (Syntax.tyInt Syntax.w16)),
+            ) (List._∷_ (
               14,
               Mut.mslice (Referent.rtF (Referent.fInt Syntax.w16)) (Syntax.tyRef Syntax.erased Syntax.mut (Syntax.tyInt Syntax.w16)) 3,
             ) (List._∷_ (15, Rows.any-gone Syntax.tyPtr) List.[])))))))))))))))
@@ -2740,36 +2890,49 @@ module _ (claims· : Claims) where
               Syntax.tnil (Syntax.ttcons Syntax.tnil (Syntax.ttcons Syntax.tnil (Syntax.ttcons (Syntax.tcons (Syntax.tyInt Syntax.w64) Syntax.tnil) (Syntax.ttcons Syntax.tnil (Syntax.ttcons Syntax.tnil
               (Syntax.ttcons Syntax.tnil (Syntax.ttcons Syntax.tnil (Syntax.ttcons Syntax.tnil (Syntax.ttcons Syntax.tnil (Syntax.ttcons (Syntax.tcons (Syntax.tyInt Syntax.w64) Syntax.tnil) (Syntax.ttcons
               (Syntax.tcons (Syntax.tyInt Syntax.w64) Syntax.tnil) (Syntax.ttcons Syntax.tnil (Syntax.ttcons (Syntax.tcons (Syntax.tyInt Syntax.w64) (Syntax.tcons (Syntax.tyInt Syntax.w64) Syntax.tnil))
-              (Syntax.ttcons (Syntax.tcons (Syntax.tyInt Syntax.w64) Syntax.tnil) (Syntax.ttcons Syntax.tnil Syntax.ttnil))))))))))))))))) Syntax.tnil) Syntax.ttnil))),
+              (Syntax.ttcons (Syntax.tcons (Syntax.tyInt Syntax.w64) Syntax.tnil) (Syntax.ttcons Syntax.tnil (Syntax.ttcons Syntax.tnil (Syntax.ttcons (Syntax.tcons (Syntax.tyInt Syntax.w64) Syntax.tnil)
+              (Syntax.ttcons (Syntax.tcons (Syntax.tyInt Syntax.w64) Syntax.tnil) (Syntax.ttcons (Syntax.tcons (Syntax.tyInt Syntax.w64) Syntax.tnil) (Syntax.ttcons Syntax.tnil
+              Syntax.ttnil)))))))))))))))))))))) Syntax.tnil) Syntax.ttnil))),
         ) (List._∷_ (
           1,
-          Rows.sslice
-              (Referent.rtF (Referent.fInt Syntax.w8)) (Syntax.tyRef (Syntax.named 0) Syntax.imm (Syntax.tyInt Syntax.w8)) 0,
-        ) (List._∷_ (2, Rows.whole (Declared'.row FujiHeader.the-type)) (List._∷_ (
-          3,
-          Rows.sc-here (Row.sInt Syntax.w64),
-        ) (List._∷_ (
+          Rows.sslice (Referent.rtF (Referent.fInt Syntax.w8)) (Syntax.tyRef (Syntax.named 0) Syntax.imm (Syntax.tyInt
+              Syntax.w8)) 0,
+        ) (List._∷_ (2, Rows.whole (Declared'.row FujiHeader.the-type)) (List._∷_ (3, Rows.sc-here (Row.sInt Syntax.w64)) (List._∷_ (
           4,
-          PartMut.mslice-owedM (Referent.rtF (Referent.fInt Syntax.w16)) (Syntax.tyRef (Syntax.named 1) Syntax.mut (Syntax.tyInt Syntax.w16)) 1 3
-              (Row.lease (κs .1 .0) (qs .1 .0)),
-        ) (List._∷_ (5, Mut.mslice (Element.type) (Syntax.tyRef (Syntax.named 2) Syntax.mut Element.behind) 2) (List._∷_ (6, Rows.sc-here (Row.sInt Syntax.w64))
-            (List._∷_ (7, Rows.any-gone (Syntax.tyInt Syntax.w64)) (List._∷_ (8, Rows.any-gone (Syntax.tyInt Syntax.w64)) (List._∷_ (9, Rows.any-gone Syntax.tyBool) (List._∷_ (
-              10,
-              Rows.any-gone
-                  (Syntax.tyEnum (List._∷_ 115 (List._∷_ 116 (List._∷_ 114 (List._∷_ 101 (List._∷_ 97 (List._∷_ 109 (List._∷_ 58 (List._∷_ 58 (List._∷_ 82 (List._∷_ 101 (List._∷_ 102 (List._∷_ 117 (List._∷_ 115
-                  (List._∷_ 97 (List._∷_ 108 List.[]))))))))))))))) (Syntax.ttcons Syntax.tnil (Syntax.ttcons Syntax.tnil (Syntax.ttcons Syntax.tnil (Syntax.ttcons (Syntax.tcons (Syntax.tyInt Syntax.w64)
-                  Syntax.tnil) (Syntax.ttcons Syntax.tnil (Syntax.ttcons Syntax.tnil (Syntax.ttcons Syntax.tnil (Syntax.ttcons Syntax.tnil (Syntax.ttcons Syntax.tnil (Syntax.ttcons Syntax.tnil (Syntax.ttcons
-                  (Syntax.tcons (Syntax.tyInt Syntax.w64) Syntax.tnil) (Syntax.ttcons (Syntax.tcons (Syntax.tyInt Syntax.w64) Syntax.tnil) (Syntax.ttcons Syntax.tnil (Syntax.ttcons (Syntax.tcons (Syntax.tyInt
-                  Syntax.w64) (Syntax.tcons (Syntax.tyInt Syntax.w64) Syntax.tnil)) (Syntax.ttcons (Syntax.tcons (Syntax.tyInt Syntax.w64) Syntax.tnil) (Syntax.ttcons Syntax.tnil Syntax.ttnil))))))))))))))))),
-            ) (List._∷_ (
+          PartMut.mslice-owedM (Referent.rtF
+              (Referent.fInt Syntax.w16)) (Syntax.tyRef (Syntax.named 1) Syntax.mut (Syntax.tyInt Syntax.w16)) 1 3 (Row.lease (κs .1 .0) (qs .1 .0)),
+        ) (List._∷_ (
+          5,
+          Mut.mslice (Element.type) (Syntax.tyRef
+              (Syntax.named 2) Syntax.mut Element.behind) 2,
+        ) (List._∷_ (6, Rows.sc-here (Row.sInt Syntax.w64)) (List._∷_ (7, Rows.any-gone (Syntax.tyInt Syntax.w64)) (List._∷_ (
+          8,
+          Rows.any-gone
+              (Syntax.tyInt Syntax.w64),
+        ) (List._∷_ (9, Rows.any-gone Syntax.tyBool) (List._∷_ (
+          10,
+          Rows.any-gone (Syntax.tyEnum (List._∷_ 115 (List._∷_ 116 (List._∷_ 114 (List._∷_ 101 (List._∷_ 97
+              (List._∷_ 109 (List._∷_ 58 (List._∷_ 58 (List._∷_ 82 (List._∷_ 101 (List._∷_ 102 (List._∷_ 117 (List._∷_ 115 (List._∷_ 97 (List._∷_ 108 List.[]))))))))))))))) (Syntax.ttcons Syntax.tnil
+              (Syntax.ttcons Syntax.tnil (Syntax.ttcons Syntax.tnil (Syntax.ttcons (Syntax.tcons (Syntax.tyInt Syntax.w64) Syntax.tnil) (Syntax.ttcons Syntax.tnil (Syntax.ttcons Syntax.tnil (Syntax.ttcons
+              Syntax.tnil (Syntax.ttcons Syntax.tnil (Syntax.ttcons Syntax.tnil (Syntax.ttcons Syntax.tnil (Syntax.ttcons (Syntax.tcons (Syntax.tyInt Syntax.w64) Syntax.tnil) (Syntax.ttcons (Syntax.tcons
+              (Syntax.tyInt Syntax.w64) Syntax.tnil) (Syntax.ttcons Syntax.tnil (Syntax.ttcons (Syntax.tcons (Syntax.tyInt Syntax.w64) (Syntax.tcons (Syntax.tyInt Syntax.w64) Syntax.tnil)) (Syntax.ttcons
+              (Syntax.tcons (Syntax.tyInt Syntax.w64) Syntax.tnil) (Syntax.ttcons Syntax.tnil (Syntax.ttcons Syntax.tnil (Syntax.ttcons (Syntax.tcons (Syntax.tyInt Syntax.w64) Syntax.tnil) (Syntax.ttcons
+              (Syntax.tcons (Syntax.tyInt Syntax.w64) Syntax.tnil) (Syntax.ttcons (Syntax.tcons (Syntax.tyInt Syntax.w64) Syntax.tnil) (Syntax.ttcons Syntax.tnil Syntax.ttnil)))))))))))))))))))))),
+        )
+            (List._∷_ (
               11,
               Rows.any-gone (Syntax.tyEnum (List._∷_ 115 (List._∷_ 116 (List._∷_ 114 (List._∷_ 101 (List._∷_ 97 (List._∷_ 109 (List._∷_ 58 (List._∷_ 58 (List._∷_ 82 (List._∷_ 101 (List._∷_
                   102 (List._∷_ 117 (List._∷_ 115 (List._∷_ 97 (List._∷_ 108 List.[]))))))))))))))) (Syntax.ttcons Syntax.tnil (Syntax.ttcons Syntax.tnil (Syntax.ttcons Syntax.tnil (Syntax.ttcons (Syntax.tcons
                   (Syntax.tyInt Syntax.w64) Syntax.tnil) (Syntax.ttcons Syntax.tnil (Syntax.ttcons Syntax.tnil (Syntax.ttcons Syntax.tnil (Syntax.ttcons Syntax.tnil (Syntax.ttcons Syntax.tnil (Syntax.ttcons
                   Syntax.tnil (Syntax.ttcons (Syntax.tcons (Syntax.tyInt Syntax.w64) Syntax.tnil) (Syntax.ttcons (Syntax.tcons (Syntax.tyInt Syntax.w64) Syntax.tnil) (Syntax.ttcons Syntax.tnil (Syntax.ttcons
                   (Syntax.tcons (Syntax.tyInt Syntax.w64) (Syntax.tcons (Syntax.tyInt Syntax.w64) Syntax.tnil)) (Syntax.ttcons (Syntax.tcons (Syntax.tyInt Syntax.w64) Syntax.tnil) (Syntax.ttcons Syntax.tnil
-                  Syntax.ttnil))))))))))))))))),
-            ) (List._∷_ (12, Rows.any-gone Syntax.tyPtr) (List._∷_ (13, Rows.any-gone (Syntax.tyRef Syntax.erased Syntax.mut (Syntax.tyInt Syntax.w16))) (List._∷_ (
+                  (Syntax.ttcons Syntax.tnil (Syntax.ttcons (Syntax.tcons (Syntax.tyInt Syntax.w64) Syntax.tnil) (Syntax.ttcons (Syntax.tcons (Syntax.tyInt Syntax.w64) Syntax.tnil) (Syntax.ttcons (Syntax.tcons
+                  (Syntax.tyInt Syntax.w64) Syntax.tnil) (Syntax.ttcons Syntax.tnil Syntax.ttnil)))))))))))))))))))))),
+            ) (List._∷_ (12, Rows.any-gone Syntax.tyPtr) (List._∷_ (
+              13,
+              Rows.any-gone (Syntax.tyRef
+                  Syntax.erased Syntax.mut (Syntax.tyInt Syntax.w16)),
+            ) (List._∷_ (
               14,
               Mut.mslice (Referent.rtF (Referent.fInt Syntax.w16)) (Syntax.tyRef Syntax.erased Syntax.mut (Syntax.tyInt Syntax.w16)) 3,
             ) (List._∷_ (15, Rows.sc-here Row.sPtr) List.[])))))))))))))))
@@ -2783,39 +2946,49 @@ module _ (claims· : Claims) where
               Syntax.tnil (Syntax.ttcons Syntax.tnil (Syntax.ttcons Syntax.tnil (Syntax.ttcons (Syntax.tcons (Syntax.tyInt Syntax.w64) Syntax.tnil) (Syntax.ttcons Syntax.tnil (Syntax.ttcons Syntax.tnil
               (Syntax.ttcons Syntax.tnil (Syntax.ttcons Syntax.tnil (Syntax.ttcons Syntax.tnil (Syntax.ttcons Syntax.tnil (Syntax.ttcons (Syntax.tcons (Syntax.tyInt Syntax.w64) Syntax.tnil) (Syntax.ttcons
               (Syntax.tcons (Syntax.tyInt Syntax.w64) Syntax.tnil) (Syntax.ttcons Syntax.tnil (Syntax.ttcons (Syntax.tcons (Syntax.tyInt Syntax.w64) (Syntax.tcons (Syntax.tyInt Syntax.w64) Syntax.tnil))
-              (Syntax.ttcons (Syntax.tcons (Syntax.tyInt Syntax.w64) Syntax.tnil) (Syntax.ttcons Syntax.tnil Syntax.ttnil))))))))))))))))) Syntax.tnil) Syntax.ttnil))),
+              (Syntax.ttcons (Syntax.tcons (Syntax.tyInt Syntax.w64) Syntax.tnil) (Syntax.ttcons Syntax.tnil (Syntax.ttcons Syntax.tnil (Syntax.ttcons (Syntax.tcons (Syntax.tyInt Syntax.w64) Syntax.tnil)
+              (Syntax.ttcons (Syntax.tcons (Syntax.tyInt Syntax.w64) Syntax.tnil) (Syntax.ttcons (Syntax.tcons (Syntax.tyInt Syntax.w64) Syntax.tnil) (Syntax.ttcons Syntax.tnil
+              Syntax.ttnil)))))))))))))))))))))) Syntax.tnil) Syntax.ttnil))),
         ) (List._∷_ (
           1,
-          Rows.sslice
-              (Referent.rtF (Referent.fInt Syntax.w8)) (Syntax.tyRef (Syntax.named 0) Syntax.imm (Syntax.tyInt Syntax.w8)) 0,
-        ) (List._∷_ (2, Rows.whole (Declared'.row FujiHeader.the-type)) (List._∷_ (
-          3,
-          Rows.sc-here (Row.sInt Syntax.w64),
-        ) (List._∷_ (
+          Rows.sslice (Referent.rtF (Referent.fInt Syntax.w8)) (Syntax.tyRef (Syntax.named 0) Syntax.imm (Syntax.tyInt
+              Syntax.w8)) 0,
+        ) (List._∷_ (2, Rows.whole (Declared'.row FujiHeader.the-type)) (List._∷_ (3, Rows.sc-here (Row.sInt Syntax.w64)) (List._∷_ (
           4,
-          PartMut.mslice-owedM (Referent.rtF (Referent.fInt Syntax.w16)) (Syntax.tyRef (Syntax.named 1) Syntax.mut (Syntax.tyInt Syntax.w16)) 1 3
-              (Row.lease (κs .1 .0) (qs .1 .0)),
-        ) (List._∷_ (5, Mut.mslice (Element.type) (Syntax.tyRef (Syntax.named 2) Syntax.mut Element.behind) 2) (List._∷_ (6, Rows.sc-here (Row.sInt Syntax.w64))
-            (List._∷_ (7, Rows.any-gone (Syntax.tyInt Syntax.w64)) (List._∷_ (8, Rows.sc-here (Row.sInt Syntax.w64)) (List._∷_ (9, Rows.any-gone Syntax.tyBool) (List._∷_ (
-              10,
-              Rows.any-gone
-                  (Syntax.tyEnum (List._∷_ 115 (List._∷_ 116 (List._∷_ 114 (List._∷_ 101 (List._∷_ 97 (List._∷_ 109 (List._∷_ 58 (List._∷_ 58 (List._∷_ 82 (List._∷_ 101 (List._∷_ 102 (List._∷_ 117 (List._∷_ 115
-                  (List._∷_ 97 (List._∷_ 108 List.[]))))))))))))))) (Syntax.ttcons Syntax.tnil (Syntax.ttcons Syntax.tnil (Syntax.ttcons Syntax.tnil (Syntax.ttcons (Syntax.tcons (Syntax.tyInt Syntax.w64)
-                  Syntax.tnil) (Syntax.ttcons Syntax.tnil (Syntax.ttcons Syntax.tnil (Syntax.ttcons Syntax.tnil (Syntax.ttcons Syntax.tnil (Syntax.ttcons Syntax.tnil (Syntax.ttcons Syntax.tnil (Syntax.ttcons
-                  (Syntax.tcons (Syntax.tyInt Syntax.w64) Syntax.tnil) (Syntax.ttcons (Syntax.tcons (Syntax.tyInt Syntax.w64) Syntax.tnil) (Syntax.ttcons Syntax.tnil (Syntax.ttcons (Syntax.tcons (Syntax.tyInt
-                  Syntax.w64) (Syntax.tcons (Syntax.tyInt Syntax.w64) Syntax.tnil)) (Syntax.ttcons (Syntax.tcons (Syntax.tyInt Syntax.w64) Syntax.tnil) (Syntax.ttcons Syntax.tnil Syntax.ttnil))))))))))))))))),
-            ) (List._∷_ (
-              11,
-              Rows.any-gone (Syntax.tyEnum (List._∷_ 115 (List._∷_ 116 (List._∷_ 114 (List._∷_ 101 (List._∷_ 97 (List._∷_ 109 (List._∷_ 58 (List._∷_ 58 (List._∷_ 82 (List._∷_ 101 (List._∷_
-                  102 (List._∷_ 117 (List._∷_ 115 (List._∷_ 97 (List._∷_ 108 List.[]))))))))))))))) (Syntax.ttcons Syntax.tnil (Syntax.ttcons Syntax.tnil (Syntax.ttcons Syntax.tnil (Syntax.ttcons (Syntax.tcons
-                  (Syntax.tyInt Syntax.w64) Syntax.tnil) (Syntax.ttcons Syntax.tnil (Syntax.ttcons Syntax.tnil (Syntax.ttcons Syntax.tnil (Syntax.ttcons Syntax.tnil (Syntax.ttcons Syntax.tnil (Syntax.ttcons
-                  Syntax.tnil (Syntax.ttcons (Syntax.tcons (Syntax.tyInt Syntax.w64) Syntax.tnil) (Syntax.ttcons (Syntax.tcons (Syntax.tyInt Syntax.w64) Syntax.tnil) (Syntax.ttcons Syntax.tnil (Syntax.ttcons
-                  (Syntax.tcons (Syntax.tyInt Syntax.w64) (Syntax.tcons (Syntax.tyInt Syntax.w64) Syntax.tnil)) (Syntax.ttcons (Syntax.tcons (Syntax.tyInt Syntax.w64) Syntax.tnil) (Syntax.ttcons Syntax.tnil
-                  Syntax.ttnil))))))))))))))))),
-            ) (List._∷_ (12, Rows.any-gone Syntax.tyPtr) (List._∷_ (13, Rows.any-gone (Syntax.tyRef Syntax.erased Syntax.mut (Syntax.tyInt Syntax.w16))) (List._∷_ (
-              14,
-              Mut.mslice (Referent.rtF (Referent.fInt Syntax.w16)) (Syntax.tyRef Syntax.erased Syntax.mut (Syntax.tyInt Syntax.w16)) 3,
-            ) (List._∷_ (15, Rows.sc-here Row.sPtr) List.[])))))))))))))))
+          PartMut.mslice-owedM (Referent.rtF
+              (Referent.fInt Syntax.w16)) (Syntax.tyRef (Syntax.named 1) Syntax.mut (Syntax.tyInt Syntax.w16)) 1 3 (Row.lease (κs .1 .0) (qs .1 .0)),
+        ) (List._∷_ (
+          5,
+          Mut.mslice (Element.type) (Syntax.tyRef
+              (Syntax.named 2) Syntax.mut Element.behind) 2,
+        ) (List._∷_ (6, Rows.sc-here (Row.sInt Syntax.w64)) (List._∷_ (7, Rows.any-gone (Syntax.tyInt Syntax.w64)) (List._∷_ (
+          8,
+          Rows.sc-here
+              (Row.sInt Syntax.w64),
+        ) (List._∷_ (9, Rows.any-gone Syntax.tyBool) (List._∷_ (
+          10,
+          Rows.any-gone (Syntax.tyEnum (List._∷_ 115 (List._∷_ 116 (List._∷_ 114 (List._∷_ 101 (List._∷_ 97 (List._∷_
+              109 (List._∷_ 58 (List._∷_ 58 (List._∷_ 82 (List._∷_ 101 (List._∷_ 102 (List._∷_ 117 (List._∷_ 115 (List._∷_ 97 (List._∷_ 108 List.[]))))))))))))))) (Syntax.ttcons Syntax.tnil (Syntax.ttcons
+              Syntax.tnil (Syntax.ttcons Syntax.tnil (Syntax.ttcons (Syntax.tcons (Syntax.tyInt Syntax.w64) Syntax.tnil) (Syntax.ttcons Syntax.tnil (Syntax.ttcons Syntax.tnil (Syntax.ttcons Syntax.tnil
+              (Syntax.ttcons Syntax.tnil (Syntax.ttcons Syntax.tnil (Syntax.ttcons Syntax.tnil (Syntax.ttcons (Syntax.tcons (Syntax.tyInt Syntax.w64) Syntax.tnil) (Syntax.ttcons (Syntax.tcons (Syntax.tyInt
+              Syntax.w64) Syntax.tnil) (Syntax.ttcons Syntax.tnil (Syntax.ttcons (Syntax.tcons (Syntax.tyInt Syntax.w64) (Syntax.tcons (Syntax.tyInt Syntax.w64) Syntax.tnil)) (Syntax.ttcons (Syntax.tcons
+              (Syntax.tyInt Syntax.w64) Syntax.tnil) (Syntax.ttcons Syntax.tnil (Syntax.ttcons Syntax.tnil (Syntax.ttcons (Syntax.tcons (Syntax.tyInt Syntax.w64) Syntax.tnil) (Syntax.ttcons (Syntax.tcons
+              (Syntax.tyInt Syntax.w64) Syntax.tnil) (Syntax.ttcons (Syntax.tcons (Syntax.tyInt Syntax.w64) Syntax.tnil) (Syntax.ttcons Syntax.tnil Syntax.ttnil)))))))))))))))))))))),
+        ) (List._∷_ (
+          11,
+          Rows.any-gone (Syntax.tyEnum (List._∷_ 115 (List._∷_ 116 (List._∷_ 114 (List._∷_ 101 (List._∷_ 97 (List._∷_ 109 (List._∷_ 58 (List._∷_ 58 (List._∷_ 82 (List._∷_ 101 (List._∷_ 102 (List._∷_ 117
+              (List._∷_ 115 (List._∷_ 97 (List._∷_ 108 List.[]))))))))))))))) (Syntax.ttcons Syntax.tnil (Syntax.ttcons Syntax.tnil (Syntax.ttcons Syntax.tnil (Syntax.ttcons (Syntax.tcons (Syntax.tyInt
+              Syntax.w64) Syntax.tnil) (Syntax.ttcons Syntax.tnil (Syntax.ttcons Syntax.tnil (Syntax.ttcons Syntax.tnil (Syntax.ttcons Syntax.tnil (Syntax.ttcons Syntax.tnil (Syntax.ttcons Syntax.tnil
+              (Syntax.ttcons (Syntax.tcons (Syntax.tyInt Syntax.w64) Syntax.tnil) (Syntax.ttcons (Syntax.tcons (Syntax.tyInt Syntax.w64) Syntax.tnil) (Syntax.ttcons Syntax.tnil (Syntax.ttcons (Syntax.tcons
+              (Syntax.tyInt Syntax.w64) (Syntax.tcons (Syntax.tyInt Syntax.w64) Syntax.tnil)) (Syntax.ttcons (Syntax.tcons (Syntax.tyInt Syntax.w64) Syntax.tnil) (Syntax.ttcons Syntax.tnil (Syntax.ttcons
+              Syntax.tnil (Syntax.ttcons (Syntax.tcons (Syntax.tyInt Syntax.w64) Syntax.tnil) (Syntax.ttcons (Syntax.tcons (Syntax.tyInt Syntax.w64) Syntax.tnil) (Syntax.ttcons (Syntax.tcons (Syntax.tyInt
+              Syntax.w64) Syntax.tnil) (Syntax.ttcons Syntax.tnil Syntax.ttnil)))))))))))))))))))))),
+        ) (List._∷_ (12, Rows.any-gone Syntax.tyPtr) (List._∷_ (
+          13,
+          Rows.any-gone (Syntax.tyRef Syntax.erased
+              Syntax.mut (Syntax.tyInt Syntax.w16)),
+        ) (List._∷_ (14, Mut.mslice (Referent.rtF (Referent.fInt Syntax.w16)) (Syntax.tyRef Syntax.erased Syntax.mut (Syntax.tyInt Syntax.w16)) 3) (List._∷_
+            (15, Rows.sc-here Row.sPtr) List.[])))))))))))))))
 
         abbrev g28 : List.List Row.Entry
         g28 = List._∷_ (
@@ -2826,47 +2999,53 @@ module _ (claims· : Claims) where
               Syntax.tnil (Syntax.ttcons Syntax.tnil (Syntax.ttcons Syntax.tnil (Syntax.ttcons (Syntax.tcons (Syntax.tyInt Syntax.w64) Syntax.tnil) (Syntax.ttcons Syntax.tnil (Syntax.ttcons Syntax.tnil
               (Syntax.ttcons Syntax.tnil (Syntax.ttcons Syntax.tnil (Syntax.ttcons Syntax.tnil (Syntax.ttcons Syntax.tnil (Syntax.ttcons (Syntax.tcons (Syntax.tyInt Syntax.w64) Syntax.tnil) (Syntax.ttcons
               (Syntax.tcons (Syntax.tyInt Syntax.w64) Syntax.tnil) (Syntax.ttcons Syntax.tnil (Syntax.ttcons (Syntax.tcons (Syntax.tyInt Syntax.w64) (Syntax.tcons (Syntax.tyInt Syntax.w64) Syntax.tnil))
-              (Syntax.ttcons (Syntax.tcons (Syntax.tyInt Syntax.w64) Syntax.tnil) (Syntax.ttcons Syntax.tnil Syntax.ttnil))))))))))))))))) Syntax.tnil) Syntax.ttnil))),
+              (Syntax.ttcons (Syntax.tcons (Syntax.tyInt Syntax.w64) Syntax.tnil) (Syntax.ttcons Syntax.tnil (Syntax.ttcons Syntax.tnil (Syntax.ttcons (Syntax.tcons (Syntax.tyInt Syntax.w64) Syntax.tnil)
+              (Syntax.ttcons (Syntax.tcons (Syntax.tyInt Syntax.w64) Syntax.tnil) (Syntax.ttcons (Syntax.tcons (Syntax.tyInt Syntax.w64) Syntax.tnil) (Syntax.ttcons Syntax.tnil
+              Syntax.ttnil)))))))))))))))))))))) Syntax.tnil) Syntax.ttnil))),
         ) (List._∷_ (
           1,
-          Rows.sslice
-              (Referent.rtF (Referent.fInt Syntax.w8)) (Syntax.tyRef (Syntax.named 0) Syntax.imm (Syntax.tyInt Syntax.w8)) 0,
-        ) (List._∷_ (2, Rows.whole (Declared'.row FujiHeader.the-type)) (List._∷_ (
-          3,
-          Rows.sc-here (Row.sInt Syntax.w64),
-        ) (List._∷_ (
+          Rows.sslice (Referent.rtF (Referent.fInt Syntax.w8)) (Syntax.tyRef (Syntax.named 0) Syntax.imm (Syntax.tyInt
+              Syntax.w8)) 0,
+        ) (List._∷_ (2, Rows.whole (Declared'.row FujiHeader.the-type)) (List._∷_ (3, Rows.sc-here (Row.sInt Syntax.w64)) (List._∷_ (
           4,
-          PartMut.mslice-owedM (Referent.rtF (Referent.fInt Syntax.w16)) (Syntax.tyRef (Syntax.named 1) Syntax.mut (Syntax.tyInt Syntax.w16)) 1 3
-              (Row.lease (κs .1 .0) (qs .1 .0)),
-        ) (List._∷_ (5, PartMut.mslice-owedM (Element.type) (Syntax.tyRef (Syntax.named 2) Syntax.mut Element.behind) 2 4 (Row.lease (κs .1 .1 .0) (qs .1 .1 .0)))
-            (List._∷_ (6, Rows.sc-here (Row.sInt Syntax.w64)) (List._∷_ (7, Rows.any-gone (Syntax.tyInt Syntax.w64)) (List._∷_ (8, Rows.sc-here (Row.sInt Syntax.w64)) (List._∷_ (
-              9,
-              Rows.any-gone
-                  Syntax.tyBool,
-            ) (List._∷_ (
-              10,
-              Rows.any-gone (Syntax.tyEnum (List._∷_ 115 (List._∷_ 116 (List._∷_ 114 (List._∷_ 101 (List._∷_ 97 (List._∷_ 109 (List._∷_ 58 (List._∷_ 58 (List._∷_ 82
-                  (List._∷_ 101 (List._∷_ 102 (List._∷_ 117 (List._∷_ 115 (List._∷_ 97 (List._∷_ 108 List.[]))))))))))))))) (Syntax.ttcons Syntax.tnil (Syntax.ttcons Syntax.tnil (Syntax.ttcons Syntax.tnil
-                  (Syntax.ttcons (Syntax.tcons (Syntax.tyInt Syntax.w64) Syntax.tnil) (Syntax.ttcons Syntax.tnil (Syntax.ttcons Syntax.tnil (Syntax.ttcons Syntax.tnil (Syntax.ttcons Syntax.tnil (Syntax.ttcons
-                  Syntax.tnil (Syntax.ttcons Syntax.tnil (Syntax.ttcons (Syntax.tcons (Syntax.tyInt Syntax.w64) Syntax.tnil) (Syntax.ttcons (Syntax.tcons (Syntax.tyInt Syntax.w64) Syntax.tnil) (Syntax.ttcons
-                  Syntax.tnil (Syntax.ttcons (Syntax.tcons (Syntax.tyInt Syntax.w64) (Syntax.tcons (Syntax.tyInt Syntax.w64) Syntax.tnil)) (Syntax.ttcons (Syntax.tcons (Syntax.tyInt Syntax.w64) Syntax.tnil)
-                  (Syntax.ttcons Syntax.tnil Syntax.ttnil))))))))))))))))),
-            ) (List._∷_ (
-              11,
-              Rows.any-gone (Syntax.tyEnum (List._∷_ 115 (List._∷_ 116 (List._∷_ 114 (List._∷_ 101 (List._∷_ 97 (List._∷_ 109
-                  (List._∷_ 58 (List._∷_ 58 (List._∷_ 82 (List._∷_ 101 (List._∷_ 102 (List._∷_ 117 (List._∷_ 115 (List._∷_ 97 (List._∷_ 108 List.[]))))))))))))))) (Syntax.ttcons Syntax.tnil (Syntax.ttcons
-                  Syntax.tnil (Syntax.ttcons Syntax.tnil (Syntax.ttcons (Syntax.tcons (Syntax.tyInt Syntax.w64) Syntax.tnil) (Syntax.ttcons Syntax.tnil (Syntax.ttcons Syntax.tnil (Syntax.ttcons Syntax.tnil
-                  (Syntax.ttcons Syntax.tnil (Syntax.ttcons Syntax.tnil (Syntax.ttcons Syntax.tnil (Syntax.ttcons (Syntax.tcons (Syntax.tyInt Syntax.w64) Syntax.tnil) (Syntax.ttcons (Syntax.tcons (Syntax.tyInt
-                  Syntax.w64) Syntax.tnil) (Syntax.ttcons Syntax.tnil (Syntax.ttcons (Syntax.tcons (Syntax.tyInt Syntax.w64) (Syntax.tcons (Syntax.tyInt Syntax.w64) Syntax.tnil)) (Syntax.ttcons (Syntax.tcons
-                  (Syntax.tyInt Syntax.w64) Syntax.tnil) (Syntax.ttcons Syntax.tnil Syntax.ttnil))))))))))))))))),
-            ) (List._∷_ (12, Rows.any-gone Syntax.tyPtr) (List._∷_ (
-              13,
-              Rows.any-gone (Syntax.tyRef
-                  Syntax.erased Syntax.mut (Syntax.tyInt Syntax.w16)),
-            ) (List._∷_ (
-              14,
-              Mut.mslice (Referent.rtF (Referent.fInt Syntax.w16)) (Syntax.tyRef Syntax.erased Syntax.mut (Syntax.tyInt Syntax.w16)) 3,
-            ) (List._∷_ (15, Rows.sc-here Row.sPtr) List.[])))))))))))))))
+          PartMut.mslice-owedM (Referent.rtF
+              (Referent.fInt Syntax.w16)) (Syntax.tyRef (Syntax.named 1) Syntax.mut (Syntax.tyInt Syntax.w16)) 1 3 (Row.lease (κs .1 .0) (qs .1 .0)),
+        ) (List._∷_ (
+          5,
+          PartMut.mslice-owedM (Element.type)
+              (Syntax.tyRef (Syntax.named 2) Syntax.mut Element.behind) 2 4 (Row.lease (κs .1 .1 .0) (qs .1 .1 .0)),
+        ) (List._∷_ (6, Rows.sc-here (Row.sInt Syntax.w64)) (List._∷_ (
+          7,
+          Rows.any-gone
+              (Syntax.tyInt Syntax.w64),
+        ) (List._∷_ (8, Rows.sc-here (Row.sInt Syntax.w64)) (List._∷_ (9, Rows.any-gone Syntax.tyBool) (List._∷_ (
+          10,
+          Rows.any-gone (Syntax.tyEnum (List._∷_ 115
+              (List._∷_ 116 (List._∷_ 114 (List._∷_ 101 (List._∷_ 97 (List._∷_ 109 (List._∷_ 58 (List._∷_ 58 (List._∷_ 82 (List._∷_ 101 (List._∷_ 102 (List._∷_ 117 (List._∷_ 115 (List._∷_ 97 (List._∷_ 108
+              List.[]))))))))))))))) (Syntax.ttcons Syntax.tnil (Syntax.ttcons Syntax.tnil (Syntax.ttcons Syntax.tnil (Syntax.ttcons (Syntax.tcons (Syntax.tyInt Syntax.w64) Syntax.tnil) (Syntax.ttcons
+              Syntax.tnil (Syntax.ttcons Syntax.tnil (Syntax.ttcons Syntax.tnil (Syntax.ttcons Syntax.tnil (Syntax.ttcons Syntax.tnil (Syntax.ttcons Syntax.tnil (Syntax.ttcons (Syntax.tcons (Syntax.tyInt
+              Syntax.w64) Syntax.tnil) (Syntax.ttcons (Syntax.tcons (Syntax.tyInt Syntax.w64) Syntax.tnil) (Syntax.ttcons Syntax.tnil (Syntax.ttcons (Syntax.tcons (Syntax.tyInt Syntax.w64) (Syntax.tcons
+              (Syntax.tyInt Syntax.w64) Syntax.tnil)) (Syntax.ttcons (Syntax.tcons (Syntax.tyInt Syntax.w64) Syntax.tnil) (Syntax.ttcons Syntax.tnil (Syntax.ttcons Syntax.tnil (Syntax.ttcons (Syntax.tcons
+              (Syntax.tyInt Syntax.w64) Syntax.tnil) (Syntax.ttcons (Syntax.tcons (Syntax.tyInt Syntax.w64) Syntax.tnil) (Syntax.ttcons (Syntax.tcons (Syntax.tyInt Syntax.w64) Syntax.tnil) (Syntax.ttcons
+              Syntax.tnil Syntax.ttnil)))))))))))))))))))))),
+        ) (List._∷_ (
+          11,
+          Rows.any-gone (Syntax.tyEnum (List._∷_ 115 (List._∷_ 116 (List._∷_ 114 (List._∷_ 101 (List._∷_ 97 (List._∷_ 109 (List._∷_ 58
+              (List._∷_ 58 (List._∷_ 82 (List._∷_ 101 (List._∷_ 102 (List._∷_ 117 (List._∷_ 115 (List._∷_ 97 (List._∷_ 108 List.[]))))))))))))))) (Syntax.ttcons Syntax.tnil (Syntax.ttcons Syntax.tnil
+              (Syntax.ttcons Syntax.tnil (Syntax.ttcons (Syntax.tcons (Syntax.tyInt Syntax.w64) Syntax.tnil) (Syntax.ttcons Syntax.tnil (Syntax.ttcons Syntax.tnil (Syntax.ttcons Syntax.tnil (Syntax.ttcons
+              Syntax.tnil (Syntax.ttcons Syntax.tnil (Syntax.ttcons Syntax.tnil (Syntax.ttcons (Syntax.tcons (Syntax.tyInt Syntax.w64) Syntax.tnil) (Syntax.ttcons (Syntax.tcons (Syntax.tyInt Syntax.w64)
+              Syntax.tnil) (Syntax.ttcons Syntax.tnil (Syntax.ttcons (Syntax.tcons (Syntax.tyInt Syntax.w64) (Syntax.tcons (Syntax.tyInt Syntax.w64) Syntax.tnil)) (Syntax.ttcons (Syntax.tcons (Syntax.tyInt
+              Syntax.w64) Syntax.tnil) (Syntax.ttcons Syntax.tnil (Syntax.ttcons Syntax.tnil (Syntax.ttcons (Syntax.tcons (Syntax.tyInt Syntax.w64) Syntax.tnil) (Syntax.ttcons (Syntax.tcons (Syntax.tyInt
+              Syntax.w64) Syntax.tnil) (Syntax.ttcons (Syntax.tcons (Syntax.tyInt Syntax.w64) Syntax.tnil) (Syntax.ttcons Syntax.tnil Syntax.ttnil)))))))))))))))))))))),
+        ) (List._∷_ (
+          12,
+          Rows.any-gone
+              Syntax.tyPtr,
+        ) (List._∷_ (13, Rows.any-gone (Syntax.tyRef Syntax.erased Syntax.mut (Syntax.tyInt Syntax.w16))) (List._∷_ (
+          14,
+          Mut.mslice (Referent.rtF (Referent.fInt Syntax.w16))
+              (Syntax.tyRef Syntax.erased Syntax.mut (Syntax.tyInt Syntax.w16)) 3,
+        ) (List._∷_ (15, Rows.sc-here Row.sPtr) List.[])))))))))))))))
 
         abbrev g30 : List.List Row.Entry
         g30 = List._∷_ (
@@ -2877,47 +3056,53 @@ module _ (claims· : Claims) where
               Syntax.tnil (Syntax.ttcons Syntax.tnil (Syntax.ttcons Syntax.tnil (Syntax.ttcons (Syntax.tcons (Syntax.tyInt Syntax.w64) Syntax.tnil) (Syntax.ttcons Syntax.tnil (Syntax.ttcons Syntax.tnil
               (Syntax.ttcons Syntax.tnil (Syntax.ttcons Syntax.tnil (Syntax.ttcons Syntax.tnil (Syntax.ttcons Syntax.tnil (Syntax.ttcons (Syntax.tcons (Syntax.tyInt Syntax.w64) Syntax.tnil) (Syntax.ttcons
               (Syntax.tcons (Syntax.tyInt Syntax.w64) Syntax.tnil) (Syntax.ttcons Syntax.tnil (Syntax.ttcons (Syntax.tcons (Syntax.tyInt Syntax.w64) (Syntax.tcons (Syntax.tyInt Syntax.w64) Syntax.tnil))
-              (Syntax.ttcons (Syntax.tcons (Syntax.tyInt Syntax.w64) Syntax.tnil) (Syntax.ttcons Syntax.tnil Syntax.ttnil))))))))))))))))) Syntax.tnil) Syntax.ttnil))),
+              (Syntax.ttcons (Syntax.tcons (Syntax.tyInt Syntax.w64) Syntax.tnil) (Syntax.ttcons Syntax.tnil (Syntax.ttcons Syntax.tnil (Syntax.ttcons (Syntax.tcons (Syntax.tyInt Syntax.w64) Syntax.tnil)
+              (Syntax.ttcons (Syntax.tcons (Syntax.tyInt Syntax.w64) Syntax.tnil) (Syntax.ttcons (Syntax.tcons (Syntax.tyInt Syntax.w64) Syntax.tnil) (Syntax.ttcons Syntax.tnil
+              Syntax.ttnil)))))))))))))))))))))) Syntax.tnil) Syntax.ttnil))),
         ) (List._∷_ (
           1,
-          Rows.sslice
-              (Referent.rtF (Referent.fInt Syntax.w8)) (Syntax.tyRef (Syntax.named 0) Syntax.imm (Syntax.tyInt Syntax.w8)) 0,
-        ) (List._∷_ (2, Rows.whole (Declared'.row FujiHeader.the-type)) (List._∷_ (
-          3,
-          Rows.sc-here (Row.sInt Syntax.w64),
-        ) (List._∷_ (
+          Rows.sslice (Referent.rtF (Referent.fInt Syntax.w8)) (Syntax.tyRef (Syntax.named 0) Syntax.imm (Syntax.tyInt
+              Syntax.w8)) 0,
+        ) (List._∷_ (2, Rows.whole (Declared'.row FujiHeader.the-type)) (List._∷_ (3, Rows.sc-here (Row.sInt Syntax.w64)) (List._∷_ (
           4,
-          PartMut.mslice-owedM (Referent.rtF (Referent.fInt Syntax.w16)) (Syntax.tyRef (Syntax.named 1) Syntax.mut (Syntax.tyInt Syntax.w16)) 1 3
-              (Row.lease (κs .1 .0) (qs .1 .0)),
-        ) (List._∷_ (5, PartMut.mslice-owedM (Element.type) (Syntax.tyRef (Syntax.named 2) Syntax.mut Element.behind) 2 4 (Row.lease (κs .1 .1 .0) (qs .1 .1 .0)))
-            (List._∷_ (6, Rows.sc-here (Row.sInt Syntax.w64)) (List._∷_ (7, Rows.any-gone (Syntax.tyInt Syntax.w64)) (List._∷_ (8, Rows.sc-here (Row.sInt Syntax.w64)) (List._∷_ (
-              9,
-              Rows.any-gone
-                  Syntax.tyBool,
-            ) (List._∷_ (
-              10,
-              Rows.any-gone (Syntax.tyEnum (List._∷_ 115 (List._∷_ 116 (List._∷_ 114 (List._∷_ 101 (List._∷_ 97 (List._∷_ 109 (List._∷_ 58 (List._∷_ 58 (List._∷_ 82
-                  (List._∷_ 101 (List._∷_ 102 (List._∷_ 117 (List._∷_ 115 (List._∷_ 97 (List._∷_ 108 List.[]))))))))))))))) (Syntax.ttcons Syntax.tnil (Syntax.ttcons Syntax.tnil (Syntax.ttcons Syntax.tnil
-                  (Syntax.ttcons (Syntax.tcons (Syntax.tyInt Syntax.w64) Syntax.tnil) (Syntax.ttcons Syntax.tnil (Syntax.ttcons Syntax.tnil (Syntax.ttcons Syntax.tnil (Syntax.ttcons Syntax.tnil (Syntax.ttcons
-                  Syntax.tnil (Syntax.ttcons Syntax.tnil (Syntax.ttcons (Syntax.tcons (Syntax.tyInt Syntax.w64) Syntax.tnil) (Syntax.ttcons (Syntax.tcons (Syntax.tyInt Syntax.w64) Syntax.tnil) (Syntax.ttcons
-                  Syntax.tnil (Syntax.ttcons (Syntax.tcons (Syntax.tyInt Syntax.w64) (Syntax.tcons (Syntax.tyInt Syntax.w64) Syntax.tnil)) (Syntax.ttcons (Syntax.tcons (Syntax.tyInt Syntax.w64) Syntax.tnil)
-                  (Syntax.ttcons Syntax.tnil Syntax.ttnil))))))))))))))))),
-            ) (List._∷_ (
-              11,
-              Rows.any-gone (Syntax.tyEnum (List._∷_ 115 (List._∷_ 116 (List._∷_ 114 (List._∷_ 101 (List._∷_ 97 (List._∷_ 109
-                  (List._∷_ 58 (List._∷_ 58 (List._∷_ 82 (List._∷_ 101 (List._∷_ 102 (List._∷_ 117 (List._∷_ 115 (List._∷_ 97 (List._∷_ 108 List.[]))))))))))))))) (Syntax.ttcons Syntax.tnil (Syntax.ttcons
-                  Syntax.tnil (Syntax.ttcons Syntax.tnil (Syntax.ttcons (Syntax.tcons (Syntax.tyInt Syntax.w64) Syntax.tnil) (Syntax.ttcons Syntax.tnil (Syntax.ttcons Syntax.tnil (Syntax.ttcons Syntax.tnil
-                  (Syntax.ttcons Syntax.tnil (Syntax.ttcons Syntax.tnil (Syntax.ttcons Syntax.tnil (Syntax.ttcons (Syntax.tcons (Syntax.tyInt Syntax.w64) Syntax.tnil) (Syntax.ttcons (Syntax.tcons (Syntax.tyInt
-                  Syntax.w64) Syntax.tnil) (Syntax.ttcons Syntax.tnil (Syntax.ttcons (Syntax.tcons (Syntax.tyInt Syntax.w64) (Syntax.tcons (Syntax.tyInt Syntax.w64) Syntax.tnil)) (Syntax.ttcons (Syntax.tcons
-                  (Syntax.tyInt Syntax.w64) Syntax.tnil) (Syntax.ttcons Syntax.tnil Syntax.ttnil))))))))))))))))),
-            ) (List._∷_ (12, Rows.any-gone Syntax.tyPtr) (List._∷_ (
-              13,
-              Rows.any-gone (Syntax.tyRef
-                  Syntax.erased Syntax.mut (Syntax.tyInt Syntax.w16)),
-            ) (List._∷_ (
-              14,
-              Mut.mslice (Referent.rtF (Referent.fInt Syntax.w16)) (Syntax.tyRef Syntax.erased Syntax.mut (Syntax.tyInt Syntax.w16)) 3,
-            ) (List._∷_ (15, Rows.any-gone Syntax.tyPtr) List.[])))))))))))))))
+          PartMut.mslice-owedM (Referent.rtF
+              (Referent.fInt Syntax.w16)) (Syntax.tyRef (Syntax.named 1) Syntax.mut (Syntax.tyInt Syntax.w16)) 1 3 (Row.lease (κs .1 .0) (qs .1 .0)),
+        ) (List._∷_ (
+          5,
+          PartMut.mslice-owedM (Element.type)
+              (Syntax.tyRef (Syntax.named 2) Syntax.mut Element.behind) 2 4 (Row.lease (κs .1 .1 .0) (qs .1 .1 .0)),
+        ) (List._∷_ (6, Rows.sc-here (Row.sInt Syntax.w64)) (List._∷_ (
+          7,
+          Rows.any-gone
+              (Syntax.tyInt Syntax.w64),
+        ) (List._∷_ (8, Rows.sc-here (Row.sInt Syntax.w64)) (List._∷_ (9, Rows.any-gone Syntax.tyBool) (List._∷_ (
+          10,
+          Rows.any-gone (Syntax.tyEnum (List._∷_ 115
+              (List._∷_ 116 (List._∷_ 114 (List._∷_ 101 (List._∷_ 97 (List._∷_ 109 (List._∷_ 58 (List._∷_ 58 (List._∷_ 82 (List._∷_ 101 (List._∷_ 102 (List._∷_ 117 (List._∷_ 115 (List._∷_ 97 (List._∷_ 108
+              List.[]))))))))))))))) (Syntax.ttcons Syntax.tnil (Syntax.ttcons Syntax.tnil (Syntax.ttcons Syntax.tnil (Syntax.ttcons (Syntax.tcons (Syntax.tyInt Syntax.w64) Syntax.tnil) (Syntax.ttcons
+              Syntax.tnil (Syntax.ttcons Syntax.tnil (Syntax.ttcons Syntax.tnil (Syntax.ttcons Syntax.tnil (Syntax.ttcons Syntax.tnil (Syntax.ttcons Syntax.tnil (Syntax.ttcons (Syntax.tcons (Syntax.tyInt
+              Syntax.w64) Syntax.tnil) (Syntax.ttcons (Syntax.tcons (Syntax.tyInt Syntax.w64) Syntax.tnil) (Syntax.ttcons Syntax.tnil (Syntax.ttcons (Syntax.tcons (Syntax.tyInt Syntax.w64) (Syntax.tcons
+              (Syntax.tyInt Syntax.w64) Syntax.tnil)) (Syntax.ttcons (Syntax.tcons (Syntax.tyInt Syntax.w64) Syntax.tnil) (Syntax.ttcons Syntax.tnil (Syntax.ttcons Syntax.tnil (Syntax.ttcons (Syntax.tcons
+              (Syntax.tyInt Syntax.w64) Syntax.tnil) (Syntax.ttcons (Syntax.tcons (Syntax.tyInt Syntax.w64) Syntax.tnil) (Syntax.ttcons (Syntax.tcons (Syntax.tyInt Syntax.w64) Syntax.tnil) (Syntax.ttcons
+              Syntax.tnil Syntax.ttnil)))))))))))))))))))))),
+        ) (List._∷_ (
+          11,
+          Rows.any-gone (Syntax.tyEnum (List._∷_ 115 (List._∷_ 116 (List._∷_ 114 (List._∷_ 101 (List._∷_ 97 (List._∷_ 109 (List._∷_ 58
+              (List._∷_ 58 (List._∷_ 82 (List._∷_ 101 (List._∷_ 102 (List._∷_ 117 (List._∷_ 115 (List._∷_ 97 (List._∷_ 108 List.[]))))))))))))))) (Syntax.ttcons Syntax.tnil (Syntax.ttcons Syntax.tnil
+              (Syntax.ttcons Syntax.tnil (Syntax.ttcons (Syntax.tcons (Syntax.tyInt Syntax.w64) Syntax.tnil) (Syntax.ttcons Syntax.tnil (Syntax.ttcons Syntax.tnil (Syntax.ttcons Syntax.tnil (Syntax.ttcons
+              Syntax.tnil (Syntax.ttcons Syntax.tnil (Syntax.ttcons Syntax.tnil (Syntax.ttcons (Syntax.tcons (Syntax.tyInt Syntax.w64) Syntax.tnil) (Syntax.ttcons (Syntax.tcons (Syntax.tyInt Syntax.w64)
+              Syntax.tnil) (Syntax.ttcons Syntax.tnil (Syntax.ttcons (Syntax.tcons (Syntax.tyInt Syntax.w64) (Syntax.tcons (Syntax.tyInt Syntax.w64) Syntax.tnil)) (Syntax.ttcons (Syntax.tcons (Syntax.tyInt
+              Syntax.w64) Syntax.tnil) (Syntax.ttcons Syntax.tnil (Syntax.ttcons Syntax.tnil (Syntax.ttcons (Syntax.tcons (Syntax.tyInt Syntax.w64) Syntax.tnil) (Syntax.ttcons (Syntax.tcons (Syntax.tyInt
+              Syntax.w64) Syntax.tnil) (Syntax.ttcons (Syntax.tcons (Syntax.tyInt Syntax.w64) Syntax.tnil) (Syntax.ttcons Syntax.tnil Syntax.ttnil)))))))))))))))))))))),
+        ) (List._∷_ (
+          12,
+          Rows.any-gone
+              Syntax.tyPtr,
+        ) (List._∷_ (13, Rows.any-gone (Syntax.tyRef Syntax.erased Syntax.mut (Syntax.tyInt Syntax.w16))) (List._∷_ (
+          14,
+          Mut.mslice (Referent.rtF (Referent.fInt Syntax.w16))
+              (Syntax.tyRef Syntax.erased Syntax.mut (Syntax.tyInt Syntax.w16)) 3,
+        ) (List._∷_ (15, Rows.any-gone Syntax.tyPtr) List.[])))))))))))))))
 
         abbrev g32 : List.List Row.Entry
         g32 = List._∷_ (
@@ -2928,47 +3113,53 @@ module _ (claims· : Claims) where
               Syntax.tnil (Syntax.ttcons Syntax.tnil (Syntax.ttcons Syntax.tnil (Syntax.ttcons (Syntax.tcons (Syntax.tyInt Syntax.w64) Syntax.tnil) (Syntax.ttcons Syntax.tnil (Syntax.ttcons Syntax.tnil
               (Syntax.ttcons Syntax.tnil (Syntax.ttcons Syntax.tnil (Syntax.ttcons Syntax.tnil (Syntax.ttcons Syntax.tnil (Syntax.ttcons (Syntax.tcons (Syntax.tyInt Syntax.w64) Syntax.tnil) (Syntax.ttcons
               (Syntax.tcons (Syntax.tyInt Syntax.w64) Syntax.tnil) (Syntax.ttcons Syntax.tnil (Syntax.ttcons (Syntax.tcons (Syntax.tyInt Syntax.w64) (Syntax.tcons (Syntax.tyInt Syntax.w64) Syntax.tnil))
-              (Syntax.ttcons (Syntax.tcons (Syntax.tyInt Syntax.w64) Syntax.tnil) (Syntax.ttcons Syntax.tnil Syntax.ttnil))))))))))))))))) Syntax.tnil) Syntax.ttnil))),
+              (Syntax.ttcons (Syntax.tcons (Syntax.tyInt Syntax.w64) Syntax.tnil) (Syntax.ttcons Syntax.tnil (Syntax.ttcons Syntax.tnil (Syntax.ttcons (Syntax.tcons (Syntax.tyInt Syntax.w64) Syntax.tnil)
+              (Syntax.ttcons (Syntax.tcons (Syntax.tyInt Syntax.w64) Syntax.tnil) (Syntax.ttcons (Syntax.tcons (Syntax.tyInt Syntax.w64) Syntax.tnil) (Syntax.ttcons Syntax.tnil
+              Syntax.ttnil)))))))))))))))))))))) Syntax.tnil) Syntax.ttnil))),
         ) (List._∷_ (
           1,
-          Rows.sslice
-              (Referent.rtF (Referent.fInt Syntax.w8)) (Syntax.tyRef (Syntax.named 0) Syntax.imm (Syntax.tyInt Syntax.w8)) 0,
-        ) (List._∷_ (2, Rows.whole (Declared'.row FujiHeader.the-type)) (List._∷_ (
-          3,
-          Rows.sc-here (Row.sInt Syntax.w64),
-        ) (List._∷_ (
+          Rows.sslice (Referent.rtF (Referent.fInt Syntax.w8)) (Syntax.tyRef (Syntax.named 0) Syntax.imm (Syntax.tyInt
+              Syntax.w8)) 0,
+        ) (List._∷_ (2, Rows.whole (Declared'.row FujiHeader.the-type)) (List._∷_ (3, Rows.sc-here (Row.sInt Syntax.w64)) (List._∷_ (
           4,
-          PartMut.mslice-owedM (Referent.rtF (Referent.fInt Syntax.w16)) (Syntax.tyRef (Syntax.named 1) Syntax.mut (Syntax.tyInt Syntax.w16)) 1 3
-              (Row.lease (κs .1 .0) (qs .1 .0)),
-        ) (List._∷_ (5, PartMut.mslice-owedM (Element.type) (Syntax.tyRef (Syntax.named 2) Syntax.mut Element.behind) 2 4 (Row.lease (κs .1 .1 .0) (qs .1 .1 .0)))
-            (List._∷_ (6, Rows.sc-here (Row.sInt Syntax.w64)) (List._∷_ (7, Rows.any-gone (Syntax.tyInt Syntax.w64)) (List._∷_ (8, Rows.any-gone (Syntax.tyInt Syntax.w64)) (List._∷_ (
-              9,
-              Rows.any-gone
-                  Syntax.tyBool,
-            ) (List._∷_ (
-              10,
-              Rows.any-gone (Syntax.tyEnum (List._∷_ 115 (List._∷_ 116 (List._∷_ 114 (List._∷_ 101 (List._∷_ 97 (List._∷_ 109 (List._∷_ 58 (List._∷_ 58 (List._∷_ 82
-                  (List._∷_ 101 (List._∷_ 102 (List._∷_ 117 (List._∷_ 115 (List._∷_ 97 (List._∷_ 108 List.[]))))))))))))))) (Syntax.ttcons Syntax.tnil (Syntax.ttcons Syntax.tnil (Syntax.ttcons Syntax.tnil
-                  (Syntax.ttcons (Syntax.tcons (Syntax.tyInt Syntax.w64) Syntax.tnil) (Syntax.ttcons Syntax.tnil (Syntax.ttcons Syntax.tnil (Syntax.ttcons Syntax.tnil (Syntax.ttcons Syntax.tnil (Syntax.ttcons
-                  Syntax.tnil (Syntax.ttcons Syntax.tnil (Syntax.ttcons (Syntax.tcons (Syntax.tyInt Syntax.w64) Syntax.tnil) (Syntax.ttcons (Syntax.tcons (Syntax.tyInt Syntax.w64) Syntax.tnil) (Syntax.ttcons
-                  Syntax.tnil (Syntax.ttcons (Syntax.tcons (Syntax.tyInt Syntax.w64) (Syntax.tcons (Syntax.tyInt Syntax.w64) Syntax.tnil)) (Syntax.ttcons (Syntax.tcons (Syntax.tyInt Syntax.w64) Syntax.tnil)
-                  (Syntax.ttcons Syntax.tnil Syntax.ttnil))))))))))))))))),
-            ) (List._∷_ (
-              11,
-              Rows.any-gone (Syntax.tyEnum (List._∷_ 115 (List._∷_ 116 (List._∷_ 114 (List._∷_ 101 (List._∷_ 97 (List._∷_ 109
-                  (List._∷_ 58 (List._∷_ 58 (List._∷_ 82 (List._∷_ 101 (List._∷_ 102 (List._∷_ 117 (List._∷_ 115 (List._∷_ 97 (List._∷_ 108 List.[]))))))))))))))) (Syntax.ttcons Syntax.tnil (Syntax.ttcons
-                  Syntax.tnil (Syntax.ttcons Syntax.tnil (Syntax.ttcons (Syntax.tcons (Syntax.tyInt Syntax.w64) Syntax.tnil) (Syntax.ttcons Syntax.tnil (Syntax.ttcons Syntax.tnil (Syntax.ttcons Syntax.tnil
-                  (Syntax.ttcons Syntax.tnil (Syntax.ttcons Syntax.tnil (Syntax.ttcons Syntax.tnil (Syntax.ttcons (Syntax.tcons (Syntax.tyInt Syntax.w64) Syntax.tnil) (Syntax.ttcons (Syntax.tcons (Syntax.tyInt
-                  Syntax.w64) Syntax.tnil) (Syntax.ttcons Syntax.tnil (Syntax.ttcons (Syntax.tcons (Syntax.tyInt Syntax.w64) (Syntax.tcons (Syntax.tyInt Syntax.w64) Syntax.tnil)) (Syntax.ttcons (Syntax.tcons
-                  (Syntax.tyInt Syntax.w64) Syntax.tnil) (Syntax.ttcons Syntax.tnil Syntax.ttnil))))))))))))))))),
-            ) (List._∷_ (12, Rows.any-gone Syntax.tyPtr) (List._∷_ (
-              13,
-              Rows.any-gone (Syntax.tyRef
-                  Syntax.erased Syntax.mut (Syntax.tyInt Syntax.w16)),
-            ) (List._∷_ (
-              14,
-              Mut.mslice (Referent.rtF (Referent.fInt Syntax.w16)) (Syntax.tyRef Syntax.erased Syntax.mut (Syntax.tyInt Syntax.w16)) 3,
-            ) (List._∷_ (15, Rows.any-gone Syntax.tyPtr) List.[])))))))))))))))
+          PartMut.mslice-owedM (Referent.rtF
+              (Referent.fInt Syntax.w16)) (Syntax.tyRef (Syntax.named 1) Syntax.mut (Syntax.tyInt Syntax.w16)) 1 3 (Row.lease (κs .1 .0) (qs .1 .0)),
+        ) (List._∷_ (
+          5,
+          PartMut.mslice-owedM (Element.type)
+              (Syntax.tyRef (Syntax.named 2) Syntax.mut Element.behind) 2 4 (Row.lease (κs .1 .1 .0) (qs .1 .1 .0)),
+        ) (List._∷_ (6, Rows.sc-here (Row.sInt Syntax.w64)) (List._∷_ (
+          7,
+          Rows.any-gone
+              (Syntax.tyInt Syntax.w64),
+        ) (List._∷_ (8, Rows.any-gone (Syntax.tyInt Syntax.w64)) (List._∷_ (9, Rows.any-gone Syntax.tyBool) (List._∷_ (
+          10,
+          Rows.any-gone (Syntax.tyEnum (List._∷_ 115
+              (List._∷_ 116 (List._∷_ 114 (List._∷_ 101 (List._∷_ 97 (List._∷_ 109 (List._∷_ 58 (List._∷_ 58 (List._∷_ 82 (List._∷_ 101 (List._∷_ 102 (List._∷_ 117 (List._∷_ 115 (List._∷_ 97 (List._∷_ 108
+              List.[]))))))))))))))) (Syntax.ttcons Syntax.tnil (Syntax.ttcons Syntax.tnil (Syntax.ttcons Syntax.tnil (Syntax.ttcons (Syntax.tcons (Syntax.tyInt Syntax.w64) Syntax.tnil) (Syntax.ttcons
+              Syntax.tnil (Syntax.ttcons Syntax.tnil (Syntax.ttcons Syntax.tnil (Syntax.ttcons Syntax.tnil (Syntax.ttcons Syntax.tnil (Syntax.ttcons Syntax.tnil (Syntax.ttcons (Syntax.tcons (Syntax.tyInt
+              Syntax.w64) Syntax.tnil) (Syntax.ttcons (Syntax.tcons (Syntax.tyInt Syntax.w64) Syntax.tnil) (Syntax.ttcons Syntax.tnil (Syntax.ttcons (Syntax.tcons (Syntax.tyInt Syntax.w64) (Syntax.tcons
+              (Syntax.tyInt Syntax.w64) Syntax.tnil)) (Syntax.ttcons (Syntax.tcons (Syntax.tyInt Syntax.w64) Syntax.tnil) (Syntax.ttcons Syntax.tnil (Syntax.ttcons Syntax.tnil (Syntax.ttcons (Syntax.tcons
+              (Syntax.tyInt Syntax.w64) Syntax.tnil) (Syntax.ttcons (Syntax.tcons (Syntax.tyInt Syntax.w64) Syntax.tnil) (Syntax.ttcons (Syntax.tcons (Syntax.tyInt Syntax.w64) Syntax.tnil) (Syntax.ttcons
+              Syntax.tnil Syntax.ttnil)))))))))))))))))))))),
+        ) (List._∷_ (
+          11,
+          Rows.any-gone (Syntax.tyEnum (List._∷_ 115 (List._∷_ 116 (List._∷_ 114 (List._∷_ 101 (List._∷_ 97 (List._∷_ 109 (List._∷_ 58
+              (List._∷_ 58 (List._∷_ 82 (List._∷_ 101 (List._∷_ 102 (List._∷_ 117 (List._∷_ 115 (List._∷_ 97 (List._∷_ 108 List.[]))))))))))))))) (Syntax.ttcons Syntax.tnil (Syntax.ttcons Syntax.tnil
+              (Syntax.ttcons Syntax.tnil (Syntax.ttcons (Syntax.tcons (Syntax.tyInt Syntax.w64) Syntax.tnil) (Syntax.ttcons Syntax.tnil (Syntax.ttcons Syntax.tnil (Syntax.ttcons Syntax.tnil (Syntax.ttcons
+              Syntax.tnil (Syntax.ttcons Syntax.tnil (Syntax.ttcons Syntax.tnil (Syntax.ttcons (Syntax.tcons (Syntax.tyInt Syntax.w64) Syntax.tnil) (Syntax.ttcons (Syntax.tcons (Syntax.tyInt Syntax.w64)
+              Syntax.tnil) (Syntax.ttcons Syntax.tnil (Syntax.ttcons (Syntax.tcons (Syntax.tyInt Syntax.w64) (Syntax.tcons (Syntax.tyInt Syntax.w64) Syntax.tnil)) (Syntax.ttcons (Syntax.tcons (Syntax.tyInt
+              Syntax.w64) Syntax.tnil) (Syntax.ttcons Syntax.tnil (Syntax.ttcons Syntax.tnil (Syntax.ttcons (Syntax.tcons (Syntax.tyInt Syntax.w64) Syntax.tnil) (Syntax.ttcons (Syntax.tcons (Syntax.tyInt
+              Syntax.w64) Syntax.tnil) (Syntax.ttcons (Syntax.tcons (Syntax.tyInt Syntax.w64) Syntax.tnil) (Syntax.ttcons Syntax.tnil Syntax.ttnil)))))))))))))))))))))),
+        ) (List._∷_ (
+          12,
+          Rows.any-gone
+              Syntax.tyPtr,
+        ) (List._∷_ (13, Rows.any-gone (Syntax.tyRef Syntax.erased Syntax.mut (Syntax.tyInt Syntax.w16))) (List._∷_ (
+          14,
+          Mut.mslice (Referent.rtF (Referent.fInt Syntax.w16))
+              (Syntax.tyRef Syntax.erased Syntax.mut (Syntax.tyInt Syntax.w16)) 3,
+        ) (List._∷_ (15, Rows.any-gone Syntax.tyPtr) List.[])))))))))))))))
 
         abbrev g33 : List.List Row.Entry
         g33 = List._∷_ (0, Rows.whole (Declared.row Decoded.the-type)) (List._∷_ (
@@ -2994,18 +3185,26 @@ module _ (claims· : Claims) where
               List.[]))))))))))))))) (Syntax.ttcons Syntax.tnil (Syntax.ttcons Syntax.tnil (Syntax.ttcons Syntax.tnil (Syntax.ttcons (Syntax.tcons (Syntax.tyInt Syntax.w64) Syntax.tnil) (Syntax.ttcons
               Syntax.tnil (Syntax.ttcons Syntax.tnil (Syntax.ttcons Syntax.tnil (Syntax.ttcons Syntax.tnil (Syntax.ttcons Syntax.tnil (Syntax.ttcons Syntax.tnil (Syntax.ttcons (Syntax.tcons (Syntax.tyInt
               Syntax.w64) Syntax.tnil) (Syntax.ttcons (Syntax.tcons (Syntax.tyInt Syntax.w64) Syntax.tnil) (Syntax.ttcons Syntax.tnil (Syntax.ttcons (Syntax.tcons (Syntax.tyInt Syntax.w64) (Syntax.tcons
-              (Syntax.tyInt Syntax.w64) Syntax.tnil)) (Syntax.ttcons (Syntax.tcons (Syntax.tyInt Syntax.w64) Syntax.tnil) (Syntax.ttcons Syntax.tnil Syntax.ttnil))))))))))))))))),
+              (Syntax.tyInt Syntax.w64) Syntax.tnil)) (Syntax.ttcons (Syntax.tcons (Syntax.tyInt Syntax.w64) Syntax.tnil) (Syntax.ttcons Syntax.tnil (Syntax.ttcons Syntax.tnil (Syntax.ttcons (Syntax.tcons
+              (Syntax.tyInt Syntax.w64) Syntax.tnil) (Syntax.ttcons (Syntax.tcons (Syntax.tyInt Syntax.w64) Syntax.tnil) (Syntax.ttcons (Syntax.tcons (Syntax.tyInt Syntax.w64) Syntax.tnil) (Syntax.ttcons
+              Syntax.tnil Syntax.ttnil)))))))))))))))))))))),
         ) (List._∷_ (
           11,
-          Rows.any-gone (Syntax.tyEnum (List._∷_ 115 (List._∷_ 116 (List._∷_ 114 (List._∷_ 101 (List._∷_ 97 (List._∷_ 109 (List._∷_ 58 (List._∷_ 58 (List._∷_ 82 (List._∷_ 101 (List._∷_ 102 (List._∷_ 117
-              (List._∷_ 115 (List._∷_ 97 (List._∷_ 108 List.[]))))))))))))))) (Syntax.ttcons Syntax.tnil (Syntax.ttcons Syntax.tnil (Syntax.ttcons Syntax.tnil (Syntax.ttcons (Syntax.tcons (Syntax.tyInt
-              Syntax.w64) Syntax.tnil) (Syntax.ttcons Syntax.tnil (Syntax.ttcons Syntax.tnil (Syntax.ttcons Syntax.tnil (Syntax.ttcons Syntax.tnil (Syntax.ttcons Syntax.tnil (Syntax.ttcons Syntax.tnil
-              (Syntax.ttcons (Syntax.tcons (Syntax.tyInt Syntax.w64) Syntax.tnil) (Syntax.ttcons (Syntax.tcons (Syntax.tyInt Syntax.w64) Syntax.tnil) (Syntax.ttcons Syntax.tnil (Syntax.ttcons (Syntax.tcons
-              (Syntax.tyInt Syntax.w64) (Syntax.tcons (Syntax.tyInt Syntax.w64) Syntax.tnil)) (Syntax.ttcons (Syntax.tcons (Syntax.tyInt Syntax.w64) Syntax.tnil) (Syntax.ttcons Syntax.tnil
-              Syntax.ttnil))))))))))))))))),
-        ) (List._∷_ (12, Rows.any-gone Syntax.tyPtr) (List._∷_ (13, Rows.any-gone (Syntax.tyRef Syntax.erased Syntax.mut (Syntax.tyInt Syntax.w16))) (List._∷_ (
+          Rows.any-gone (Syntax.tyEnum (List._∷_ 115 (List._∷_ 116 (List._∷_ 114 (List._∷_ 101 (List._∷_ 97 (List._∷_ 109 (List._∷_ 58
+              (List._∷_ 58 (List._∷_ 82 (List._∷_ 101 (List._∷_ 102 (List._∷_ 117 (List._∷_ 115 (List._∷_ 97 (List._∷_ 108 List.[]))))))))))))))) (Syntax.ttcons Syntax.tnil (Syntax.ttcons Syntax.tnil
+              (Syntax.ttcons Syntax.tnil (Syntax.ttcons (Syntax.tcons (Syntax.tyInt Syntax.w64) Syntax.tnil) (Syntax.ttcons Syntax.tnil (Syntax.ttcons Syntax.tnil (Syntax.ttcons Syntax.tnil (Syntax.ttcons
+              Syntax.tnil (Syntax.ttcons Syntax.tnil (Syntax.ttcons Syntax.tnil (Syntax.ttcons (Syntax.tcons (Syntax.tyInt Syntax.w64) Syntax.tnil) (Syntax.ttcons (Syntax.tcons (Syntax.tyInt Syntax.w64)
+              Syntax.tnil) (Syntax.ttcons Syntax.tnil (Syntax.ttcons (Syntax.tcons (Syntax.tyInt Syntax.w64) (Syntax.tcons (Syntax.tyInt Syntax.w64) Syntax.tnil)) (Syntax.ttcons (Syntax.tcons (Syntax.tyInt
+              Syntax.w64) Syntax.tnil) (Syntax.ttcons Syntax.tnil (Syntax.ttcons Syntax.tnil (Syntax.ttcons (Syntax.tcons (Syntax.tyInt Syntax.w64) Syntax.tnil) (Syntax.ttcons (Syntax.tcons (Syntax.tyInt
+              Syntax.w64) Syntax.tnil) (Syntax.ttcons (Syntax.tcons (Syntax.tyInt Syntax.w64) Syntax.tnil) (Syntax.ttcons Syntax.tnil Syntax.ttnil)))))))))))))))))))))),
+        ) (List._∷_ (
+          12,
+          Rows.any-gone
+              Syntax.tyPtr,
+        ) (List._∷_ (13, Rows.any-gone (Syntax.tyRef Syntax.erased Syntax.mut (Syntax.tyInt Syntax.w16))) (List._∷_ (
           14,
-          Mut.msleft (Referent.rtF (Referent.fInt Syntax.w16)) (Syntax.tyRef Syntax.erased Syntax.mut (Syntax.tyInt Syntax.w16)),
+          Mut.msleft (Referent.rtF (Referent.fInt Syntax.w16))
+              (Syntax.tyRef Syntax.erased Syntax.mut (Syntax.tyInt Syntax.w16)),
         ) (List._∷_ (15, Rows.any-gone Syntax.tyPtr) List.[])))))))))))))))
 
         abbrev g35 : List.List Row.Entry
@@ -3033,18 +3232,23 @@ module _ (claims· : Claims) where
                   (List._∷_ 97 (List._∷_ 108 List.[]))))))))))))))) (Syntax.ttcons Syntax.tnil (Syntax.ttcons Syntax.tnil (Syntax.ttcons Syntax.tnil (Syntax.ttcons (Syntax.tcons (Syntax.tyInt Syntax.w64)
                   Syntax.tnil) (Syntax.ttcons Syntax.tnil (Syntax.ttcons Syntax.tnil (Syntax.ttcons Syntax.tnil (Syntax.ttcons Syntax.tnil (Syntax.ttcons Syntax.tnil (Syntax.ttcons Syntax.tnil (Syntax.ttcons
                   (Syntax.tcons (Syntax.tyInt Syntax.w64) Syntax.tnil) (Syntax.ttcons (Syntax.tcons (Syntax.tyInt Syntax.w64) Syntax.tnil) (Syntax.ttcons Syntax.tnil (Syntax.ttcons (Syntax.tcons (Syntax.tyInt
-                  Syntax.w64) (Syntax.tcons (Syntax.tyInt Syntax.w64) Syntax.tnil)) (Syntax.ttcons (Syntax.tcons (Syntax.tyInt Syntax.w64) Syntax.tnil) (Syntax.ttcons Syntax.tnil Syntax.ttnil))))))))))))))))),
+                  Syntax.w64) (Syntax.tcons (Syntax.tyInt Syntax.w64) Syntax.tnil)) (Syntax.ttcons (Syntax.tcons (Syntax.tyInt Syntax.w64) Syntax.tnil) (Syntax.ttcons Syntax.tnil (Syntax.ttcons Syntax.tnil
+                  (Syntax.ttcons (Syntax.tcons (Syntax.tyInt Syntax.w64) Syntax.tnil) (Syntax.ttcons (Syntax.tcons (Syntax.tyInt Syntax.w64) Syntax.tnil) (Syntax.ttcons (Syntax.tcons (Syntax.tyInt Syntax.w64)
+                  Syntax.tnil) (Syntax.ttcons Syntax.tnil Syntax.ttnil)))))))))))))))))))))),
             ) (List._∷_ (
               11,
-              Rows.any-gone (Syntax.tyEnum (List._∷_ 115 (List._∷_ 116 (List._∷_ 114 (List._∷_ 101 (List._∷_ 97 (List._∷_ 109 (List._∷_ 58 (List._∷_ 58 (List._∷_ 82 (List._∷_ 101 (List._∷_
-                  102 (List._∷_ 117 (List._∷_ 115 (List._∷_ 97 (List._∷_ 108 List.[]))))))))))))))) (Syntax.ttcons Syntax.tnil (Syntax.ttcons Syntax.tnil (Syntax.ttcons Syntax.tnil (Syntax.ttcons (Syntax.tcons
-                  (Syntax.tyInt Syntax.w64) Syntax.tnil) (Syntax.ttcons Syntax.tnil (Syntax.ttcons Syntax.tnil (Syntax.ttcons Syntax.tnil (Syntax.ttcons Syntax.tnil (Syntax.ttcons Syntax.tnil (Syntax.ttcons
-                  Syntax.tnil (Syntax.ttcons (Syntax.tcons (Syntax.tyInt Syntax.w64) Syntax.tnil) (Syntax.ttcons (Syntax.tcons (Syntax.tyInt Syntax.w64) Syntax.tnil) (Syntax.ttcons Syntax.tnil (Syntax.ttcons
-                  (Syntax.tcons (Syntax.tyInt Syntax.w64) (Syntax.tcons (Syntax.tyInt Syntax.w64) Syntax.tnil)) (Syntax.ttcons (Syntax.tcons (Syntax.tyInt Syntax.w64) Syntax.tnil) (Syntax.ttcons Syntax.tnil
-                  Syntax.ttnil))))))))))))))))),
-            ) (List._∷_ (12, Rows.any-gone Syntax.tyPtr) (List._∷_ (13, Rows.any-gone (Syntax.tyRef Syntax.erased Syntax.mut (Syntax.tyInt Syntax.w16))) (List._∷_ (
+              Rows.any-gone (Syntax.tyEnum (List._∷_ 115 (List._∷_ 116 (List._∷_ 114 (List._∷_ 101 (List._∷_ 97
+                  (List._∷_ 109 (List._∷_ 58 (List._∷_ 58 (List._∷_ 82 (List._∷_ 101 (List._∷_ 102 (List._∷_ 117 (List._∷_ 115 (List._∷_ 97 (List._∷_ 108 List.[]))))))))))))))) (Syntax.ttcons Syntax.tnil
+                  (Syntax.ttcons Syntax.tnil (Syntax.ttcons Syntax.tnil (Syntax.ttcons (Syntax.tcons (Syntax.tyInt Syntax.w64) Syntax.tnil) (Syntax.ttcons Syntax.tnil (Syntax.ttcons Syntax.tnil (Syntax.ttcons
+                  Syntax.tnil (Syntax.ttcons Syntax.tnil (Syntax.ttcons Syntax.tnil (Syntax.ttcons Syntax.tnil (Syntax.ttcons (Syntax.tcons (Syntax.tyInt Syntax.w64) Syntax.tnil) (Syntax.ttcons (Syntax.tcons
+                  (Syntax.tyInt Syntax.w64) Syntax.tnil) (Syntax.ttcons Syntax.tnil (Syntax.ttcons (Syntax.tcons (Syntax.tyInt Syntax.w64) (Syntax.tcons (Syntax.tyInt Syntax.w64) Syntax.tnil)) (Syntax.ttcons
+                  (Syntax.tcons (Syntax.tyInt Syntax.w64) Syntax.tnil) (Syntax.ttcons Syntax.tnil (Syntax.ttcons Syntax.tnil (Syntax.ttcons (Syntax.tcons (Syntax.tyInt Syntax.w64) Syntax.tnil) (Syntax.ttcons
+                  (Syntax.tcons (Syntax.tyInt Syntax.w64) Syntax.tnil) (Syntax.ttcons (Syntax.tcons (Syntax.tyInt Syntax.w64) Syntax.tnil) (Syntax.ttcons Syntax.tnil Syntax.ttnil)))))))))))))))))))))),
+            )
+            (List._∷_ (12, Rows.any-gone Syntax.tyPtr) (List._∷_ (13, Rows.any-gone (Syntax.tyRef Syntax.erased Syntax.mut (Syntax.tyInt Syntax.w16))) (List._∷_ (
               14,
-              Mut.msleft (Referent.rtF (Referent.fInt Syntax.w16)) (Syntax.tyRef Syntax.erased Syntax.mut (Syntax.tyInt Syntax.w16)),
+              Mut.msleft (Referent.rtF
+                  (Referent.fInt Syntax.w16)) (Syntax.tyRef Syntax.erased Syntax.mut (Syntax.tyInt Syntax.w16)),
             ) (List._∷_ (15, Rows.any-gone Syntax.tyPtr) List.[])))))))))))))))
 
         abbrev g36 : List.List Row.Entry
@@ -3074,24 +3278,23 @@ module _ (claims· : Claims) where
               (List._∷_ 115 (List._∷_ 97 (List._∷_ 108 List.[]))))))))))))))) (Syntax.ttcons Syntax.tnil (Syntax.ttcons Syntax.tnil (Syntax.ttcons Syntax.tnil (Syntax.ttcons (Syntax.tcons (Syntax.tyInt
               Syntax.w64) Syntax.tnil) (Syntax.ttcons Syntax.tnil (Syntax.ttcons Syntax.tnil (Syntax.ttcons Syntax.tnil (Syntax.ttcons Syntax.tnil (Syntax.ttcons Syntax.tnil (Syntax.ttcons Syntax.tnil
               (Syntax.ttcons (Syntax.tcons (Syntax.tyInt Syntax.w64) Syntax.tnil) (Syntax.ttcons (Syntax.tcons (Syntax.tyInt Syntax.w64) Syntax.tnil) (Syntax.ttcons Syntax.tnil (Syntax.ttcons (Syntax.tcons
-              (Syntax.tyInt Syntax.w64) (Syntax.tcons (Syntax.tyInt Syntax.w64) Syntax.tnil)) (Syntax.ttcons (Syntax.tcons (Syntax.tyInt Syntax.w64) Syntax.tnil) (Syntax.ttcons Syntax.tnil
-              Syntax.ttnil))))))))))))))))),
+              (Syntax.tyInt Syntax.w64) (Syntax.tcons (Syntax.tyInt Syntax.w64) Syntax.tnil)) (Syntax.ttcons (Syntax.tcons (Syntax.tyInt Syntax.w64) Syntax.tnil) (Syntax.ttcons Syntax.tnil (Syntax.ttcons
+              Syntax.tnil (Syntax.ttcons (Syntax.tcons (Syntax.tyInt Syntax.w64) Syntax.tnil) (Syntax.ttcons (Syntax.tcons (Syntax.tyInt Syntax.w64) Syntax.tnil) (Syntax.ttcons (Syntax.tcons (Syntax.tyInt
+              Syntax.w64) Syntax.tnil) (Syntax.ttcons Syntax.tnil Syntax.ttnil)))))))))))))))))))))),
         ) (List._∷_ (
           11,
-          Rows.any-gone (Syntax.tyEnum (List._∷_ 115 (List._∷_ 116 (List._∷_ 114 (List._∷_ 101 (List._∷_ 97 (List._∷_ 109 (List._∷_ 58 (List._∷_ 58
-              (List._∷_ 82 (List._∷_ 101 (List._∷_ 102 (List._∷_ 117 (List._∷_ 115 (List._∷_ 97 (List._∷_ 108 List.[]))))))))))))))) (Syntax.ttcons Syntax.tnil (Syntax.ttcons Syntax.tnil (Syntax.ttcons
-              Syntax.tnil (Syntax.ttcons (Syntax.tcons (Syntax.tyInt Syntax.w64) Syntax.tnil) (Syntax.ttcons Syntax.tnil (Syntax.ttcons Syntax.tnil (Syntax.ttcons Syntax.tnil (Syntax.ttcons Syntax.tnil
-              (Syntax.ttcons Syntax.tnil (Syntax.ttcons Syntax.tnil (Syntax.ttcons (Syntax.tcons (Syntax.tyInt Syntax.w64) Syntax.tnil) (Syntax.ttcons (Syntax.tcons (Syntax.tyInt Syntax.w64) Syntax.tnil)
-              (Syntax.ttcons Syntax.tnil (Syntax.ttcons (Syntax.tcons (Syntax.tyInt Syntax.w64) (Syntax.tcons (Syntax.tyInt Syntax.w64) Syntax.tnil)) (Syntax.ttcons (Syntax.tcons (Syntax.tyInt Syntax.w64)
-              Syntax.tnil) (Syntax.ttcons Syntax.tnil Syntax.ttnil))))))))))))))))),
-        ) (List._∷_ (12, Rows.any-gone Syntax.tyPtr) (List._∷_ (
-          13,
-          Rows.any-gone (Syntax.tyRef Syntax.erased Syntax.mut
-              (Syntax.tyInt Syntax.w16)),
-        ) (List._∷_ (14, Mut.msleft (Referent.rtF (Referent.fInt Syntax.w16)) (Syntax.tyRef Syntax.erased Syntax.mut (Syntax.tyInt Syntax.w16))) (List._∷_ (
-          15,
-          Rows.any-gone Syntax.tyPtr,
-        ) List.[])))))))))))))))
+          Rows.any-gone (Syntax.tyEnum (List._∷_ 115 (List._∷_ 116 (List._∷_ 114 (List._∷_ 101
+              (List._∷_ 97 (List._∷_ 109 (List._∷_ 58 (List._∷_ 58 (List._∷_ 82 (List._∷_ 101 (List._∷_ 102 (List._∷_ 117 (List._∷_ 115 (List._∷_ 97 (List._∷_ 108 List.[]))))))))))))))) (Syntax.ttcons
+              Syntax.tnil (Syntax.ttcons Syntax.tnil (Syntax.ttcons Syntax.tnil (Syntax.ttcons (Syntax.tcons (Syntax.tyInt Syntax.w64) Syntax.tnil) (Syntax.ttcons Syntax.tnil (Syntax.ttcons Syntax.tnil
+              (Syntax.ttcons Syntax.tnil (Syntax.ttcons Syntax.tnil (Syntax.ttcons Syntax.tnil (Syntax.ttcons Syntax.tnil (Syntax.ttcons (Syntax.tcons (Syntax.tyInt Syntax.w64) Syntax.tnil) (Syntax.ttcons
+              (Syntax.tcons (Syntax.tyInt Syntax.w64) Syntax.tnil) (Syntax.ttcons Syntax.tnil (Syntax.ttcons (Syntax.tcons (Syntax.tyInt Syntax.w64) (Syntax.tcons (Syntax.tyInt Syntax.w64) Syntax.tnil))
+              (Syntax.ttcons (Syntax.tcons (Syntax.tyInt Syntax.w64) Syntax.tnil) (Syntax.ttcons Syntax.tnil (Syntax.ttcons Syntax.tnil (Syntax.ttcons (Syntax.tcons (Syntax.tyInt Syntax.w64) Syntax.tnil)
+              (Syntax.ttcons (Syntax.tcons (Syntax.tyInt Syntax.w64) Syntax.tnil) (Syntax.ttcons (Syntax.tcons (Syntax.tyInt Syntax.w64) Syntax.tnil) (Syntax.ttcons Syntax.tnil
+              Syntax.ttnil)))))))))))))))))))))),
+        ) (List._∷_ (12, Rows.any-gone Syntax.tyPtr) (List._∷_ (13, Rows.any-gone (Syntax.tyRef Syntax.erased Syntax.mut (Syntax.tyInt Syntax.w16))) (List._∷_ (
+          14,
+          Mut.msleft (Referent.rtF (Referent.fInt Syntax.w16)) (Syntax.tyRef Syntax.erased Syntax.mut (Syntax.tyInt Syntax.w16)),
+        ) (List._∷_ (15, Rows.any-gone Syntax.tyPtr) List.[])))))))))))))))
 
         abbrev g37 : List.List Row.Entry
         g37 = List._∷_ (0, Rows.whole (Declared.row Decoded.the-type)) (List._∷_ (
@@ -3122,20 +3325,31 @@ module _ (claims· : Claims) where
               List.[]))))))))))))))) (Syntax.ttcons Syntax.tnil (Syntax.ttcons Syntax.tnil (Syntax.ttcons Syntax.tnil (Syntax.ttcons (Syntax.tcons (Syntax.tyInt Syntax.w64) Syntax.tnil) (Syntax.ttcons
               Syntax.tnil (Syntax.ttcons Syntax.tnil (Syntax.ttcons Syntax.tnil (Syntax.ttcons Syntax.tnil (Syntax.ttcons Syntax.tnil (Syntax.ttcons Syntax.tnil (Syntax.ttcons (Syntax.tcons (Syntax.tyInt
               Syntax.w64) Syntax.tnil) (Syntax.ttcons (Syntax.tcons (Syntax.tyInt Syntax.w64) Syntax.tnil) (Syntax.ttcons Syntax.tnil (Syntax.ttcons (Syntax.tcons (Syntax.tyInt Syntax.w64) (Syntax.tcons
-              (Syntax.tyInt Syntax.w64) Syntax.tnil)) (Syntax.ttcons (Syntax.tcons (Syntax.tyInt Syntax.w64) Syntax.tnil) (Syntax.ttcons Syntax.tnil Syntax.ttnil))))))))))))))))),
+              (Syntax.tyInt Syntax.w64) Syntax.tnil)) (Syntax.ttcons (Syntax.tcons (Syntax.tyInt Syntax.w64) Syntax.tnil) (Syntax.ttcons Syntax.tnil (Syntax.ttcons Syntax.tnil (Syntax.ttcons (Syntax.tcons
+              (Syntax.tyInt Syntax.w64) Syntax.tnil) (Syntax.ttcons (Syntax.tcons (Syntax.tyInt Syntax.w64) Syntax.tnil) (Syntax.ttcons (Syntax.tcons (Syntax.tyInt Syntax.w64) Syntax.tnil) (Syntax.ttcons
+              Syntax.tnil Syntax.ttnil)))))))))))))))))))))),
         ) (List._∷_ (
           11,
-          Rows.any-gone (Syntax.tyEnum (List._∷_ 115 (List._∷_ 116 (List._∷_ 114 (List._∷_ 101 (List._∷_ 97 (List._∷_ 109 (List._∷_ 58 (List._∷_ 58 (List._∷_ 82 (List._∷_ 101 (List._∷_ 102 (List._∷_ 117
-              (List._∷_ 115 (List._∷_ 97 (List._∷_ 108 List.[]))))))))))))))) (Syntax.ttcons Syntax.tnil (Syntax.ttcons Syntax.tnil (Syntax.ttcons Syntax.tnil (Syntax.ttcons (Syntax.tcons (Syntax.tyInt
-              Syntax.w64) Syntax.tnil) (Syntax.ttcons Syntax.tnil (Syntax.ttcons Syntax.tnil (Syntax.ttcons Syntax.tnil (Syntax.ttcons Syntax.tnil (Syntax.ttcons Syntax.tnil (Syntax.ttcons Syntax.tnil
-              (Syntax.ttcons (Syntax.tcons (Syntax.tyInt Syntax.w64) Syntax.tnil) (Syntax.ttcons (Syntax.tcons (Syntax.tyInt Syntax.w64) Syntax.tnil) (Syntax.ttcons Syntax.tnil (Syntax.ttcons (Syntax.tcons
-              (Syntax.tyInt Syntax.w64) (Syntax.tcons (Syntax.tyInt Syntax.w64) Syntax.tnil)) (Syntax.ttcons (Syntax.tcons (Syntax.tyInt Syntax.w64) Syntax.tnil) (Syntax.ttcons Syntax.tnil
-              Syntax.ttnil))))))))))))))))),
-        ) (List._∷_ (12, Rows.any-gone Syntax.tyPtr) (List._∷_ (13, Rows.any-gone (Syntax.tyRef Syntax.erased Syntax.mut (Syntax.tyInt Syntax.w16))) (List._∷_ (
+          Rows.any-gone (Syntax.tyEnum (List._∷_ 115 (List._∷_ 116 (List._∷_ 114 (List._∷_ 101 (List._∷_ 97 (List._∷_ 109 (List._∷_ 58
+              (List._∷_ 58 (List._∷_ 82 (List._∷_ 101 (List._∷_ 102 (List._∷_ 117 (List._∷_ 115 (List._∷_ 97 (List._∷_ 108 List.[]))))))))))))))) (Syntax.ttcons Syntax.tnil (Syntax.ttcons Syntax.tnil
+              (Syntax.ttcons Syntax.tnil (Syntax.ttcons (Syntax.tcons (Syntax.tyInt Syntax.w64) Syntax.tnil) (Syntax.ttcons Syntax.tnil (Syntax.ttcons Syntax.tnil (Syntax.ttcons Syntax.tnil (Syntax.ttcons
+              Syntax.tnil (Syntax.ttcons Syntax.tnil (Syntax.ttcons Syntax.tnil (Syntax.ttcons (Syntax.tcons (Syntax.tyInt Syntax.w64) Syntax.tnil) (Syntax.ttcons (Syntax.tcons (Syntax.tyInt Syntax.w64)
+              Syntax.tnil) (Syntax.ttcons Syntax.tnil (Syntax.ttcons (Syntax.tcons (Syntax.tyInt Syntax.w64) (Syntax.tcons (Syntax.tyInt Syntax.w64) Syntax.tnil)) (Syntax.ttcons (Syntax.tcons (Syntax.tyInt
+              Syntax.w64) Syntax.tnil) (Syntax.ttcons Syntax.tnil (Syntax.ttcons Syntax.tnil (Syntax.ttcons (Syntax.tcons (Syntax.tyInt Syntax.w64) Syntax.tnil) (Syntax.ttcons (Syntax.tcons (Syntax.tyInt
+              Syntax.w64) Syntax.tnil) (Syntax.ttcons (Syntax.tcons (Syntax.tyInt Syntax.w64) Syntax.tnil) (Syntax.ttcons Syntax.tnil Syntax.ttnil)))))))))))))))))))))),
+        ) (List._∷_ (
+          12,
+          Rows.any-gone
+              Syntax.tyPtr,
+        ) (List._∷_ (13, Rows.any-gone (Syntax.tyRef Syntax.erased Syntax.mut (Syntax.tyInt Syntax.w16))) (List._∷_ (
           14,
-          Rows.any-gone (Syntax.tyStruct (List._∷_ 38 (List._∷_ 91 (List._∷_ 93 List.[]))) (Syntax.tcons (Syntax.tyRef Syntax.erased Syntax.mut (Syntax.tyInt Syntax.w16)) (Syntax.tcons (Syntax.tyInt
-              Syntax.w64) Syntax.tnil))),
-        ) (List._∷_ (15, Rows.any-gone Syntax.tyPtr) List.[])))))))))))))))
+          Rows.any-gone (Syntax.tyStruct (List._∷_ 38 (List._∷_ 91
+              (List._∷_ 93 List.[]))) (Syntax.tcons (Syntax.tyRef Syntax.erased Syntax.mut (Syntax.tyInt Syntax.w16)) (Syntax.tcons (Syntax.tyInt Syntax.w64) Syntax.tnil))),
+        ) (List._∷_ (
+          15,
+          Rows.any-gone
+              Syntax.tyPtr,
+        ) List.[])))))))))))))))
 
         abbrev G0 : Row.Cx
         G0 = record {
@@ -3540,13 +3754,15 @@ module _ (claims· : Claims) where
               (Syntax.ttcons Syntax.tnil (Syntax.ttcons Syntax.tnil (Syntax.ttcons (Syntax.tcons (Syntax.tyInt Syntax.w64) Syntax.tnil) (Syntax.ttcons Syntax.tnil (Syntax.ttcons Syntax.tnil (Syntax.ttcons
               Syntax.tnil (Syntax.ttcons Syntax.tnil (Syntax.ttcons Syntax.tnil (Syntax.ttcons Syntax.tnil (Syntax.ttcons (Syntax.tcons (Syntax.tyInt Syntax.w64) Syntax.tnil) (Syntax.ttcons (Syntax.tcons
               (Syntax.tyInt Syntax.w64) Syntax.tnil) (Syntax.ttcons Syntax.tnil (Syntax.ttcons (Syntax.tcons (Syntax.tyInt Syntax.w64) (Syntax.tcons (Syntax.tyInt Syntax.w64) Syntax.tnil)) (Syntax.ttcons
-              (Syntax.tcons (Syntax.tyInt Syntax.w64) Syntax.tnil) (Syntax.ttcons Syntax.tnil Syntax.ttnil))))))))))))))))) (Local.room-whole 𝓤 H A W (Declared.row Refusal.the-type) (Syntax.tyEnum
-              (List._∷_ 115 (List._∷_ 116 (List._∷_ 114 (List._∷_ 101 (List._∷_ 97 (List._∷_ 109 (List._∷_ 58 (List._∷_ 58 (List._∷_ 82 (List._∷_ 101 (List._∷_ 102 (List._∷_ 117 (List._∷_ 115 (List._∷_ 97
-              (List._∷_ 108 List.[]))))))))))))))) (Syntax.ttcons Syntax.tnil (Syntax.ttcons Syntax.tnil (Syntax.ttcons Syntax.tnil (Syntax.ttcons (Syntax.tcons (Syntax.tyInt Syntax.w64) Syntax.tnil)
-              (Syntax.ttcons Syntax.tnil (Syntax.ttcons Syntax.tnil (Syntax.ttcons Syntax.tnil (Syntax.ttcons Syntax.tnil (Syntax.ttcons Syntax.tnil (Syntax.ttcons Syntax.tnil (Syntax.ttcons (Syntax.tcons
-              (Syntax.tyInt Syntax.w64) Syntax.tnil) (Syntax.ttcons (Syntax.tcons (Syntax.tyInt Syntax.w64) Syntax.tnil) (Syntax.ttcons Syntax.tnil (Syntax.ttcons (Syntax.tcons (Syntax.tyInt Syntax.w64)
-              (Syntax.tcons (Syntax.tyInt Syntax.w64) Syntax.tnil)) (Syntax.ttcons (Syntax.tcons (Syntax.tyInt Syntax.w64) Syntax.tnil) (Syntax.ttcons Syntax.tnil Syntax.ttnil)))))))))))))))))
-              Path'.refl)) d2
+              (Syntax.tcons (Syntax.tyInt Syntax.w64) Syntax.tnil) (Syntax.ttcons Syntax.tnil (Syntax.ttcons Syntax.tnil (Syntax.ttcons (Syntax.tcons (Syntax.tyInt Syntax.w64) Syntax.tnil) (Syntax.ttcons
+              (Syntax.tcons (Syntax.tyInt Syntax.w64) Syntax.tnil) (Syntax.ttcons (Syntax.tcons (Syntax.tyInt Syntax.w64) Syntax.tnil) (Syntax.ttcons Syntax.tnil Syntax.ttnil))))))))))))))))))))))
+              (Local.room-whole 𝓤 H A W (Declared.row Refusal.the-type) (Syntax.tyEnum (List._∷_ 115 (List._∷_ 116 (List._∷_ 114 (List._∷_ 101 (List._∷_ 97 (List._∷_ 109 (List._∷_ 58 (List._∷_ 58
+              (List._∷_ 82 (List._∷_ 101 (List._∷_ 102 (List._∷_ 117 (List._∷_ 115 (List._∷_ 97 (List._∷_ 108 List.[]))))))))))))))) (Syntax.ttcons Syntax.tnil (Syntax.ttcons Syntax.tnil (Syntax.ttcons
+              Syntax.tnil (Syntax.ttcons (Syntax.tcons (Syntax.tyInt Syntax.w64) Syntax.tnil) (Syntax.ttcons Syntax.tnil (Syntax.ttcons Syntax.tnil (Syntax.ttcons Syntax.tnil (Syntax.ttcons Syntax.tnil
+              (Syntax.ttcons Syntax.tnil (Syntax.ttcons Syntax.tnil (Syntax.ttcons (Syntax.tcons (Syntax.tyInt Syntax.w64) Syntax.tnil) (Syntax.ttcons (Syntax.tcons (Syntax.tyInt Syntax.w64) Syntax.tnil)
+              (Syntax.ttcons Syntax.tnil (Syntax.ttcons (Syntax.tcons (Syntax.tyInt Syntax.w64) (Syntax.tcons (Syntax.tyInt Syntax.w64) Syntax.tnil)) (Syntax.ttcons (Syntax.tcons (Syntax.tyInt Syntax.w64)
+              Syntax.tnil) (Syntax.ttcons Syntax.tnil (Syntax.ttcons Syntax.tnil (Syntax.ttcons (Syntax.tcons (Syntax.tyInt Syntax.w64) Syntax.tnil) (Syntax.ttcons (Syntax.tcons (Syntax.tyInt Syntax.w64)
+              Syntax.tnil) (Syntax.ttcons (Syntax.tcons (Syntax.tyInt Syntax.w64) Syntax.tnil) (Syntax.ttcons Syntax.tnil Syntax.ttnil)))))))))))))))))))))) Path'.refl)) d2
 
           d4 : Typed.Typed 𝓤 H A 𝓣 E G15 b8 Δ1 at4
           d4 = Typed.s-seq 𝓤 H A W 𝓣 E G15 G16 b6 b7 Δ1 (Typed.pass T15 T16 s13) at3 (Make.t-enum-make-wt 𝓤 H A W E 𝓣 Decoded.the-type Laws.the-laws Laws.the-plain tt G15 0 (List._∷_ (Scalar.oInt
@@ -3555,23 +3771,30 @@ module _ (claims· : Claims) where
               (Syntax.tcons (Syntax.tyInt Syntax.w64) Syntax.tnil) (Syntax.ttcons Syntax.tnil (Syntax.ttcons Syntax.tnil (Syntax.ttcons Syntax.tnil (Syntax.ttcons Syntax.tnil (Syntax.ttcons Syntax.tnil
               (Syntax.ttcons Syntax.tnil (Syntax.ttcons (Syntax.tcons (Syntax.tyInt Syntax.w64) Syntax.tnil) (Syntax.ttcons (Syntax.tcons (Syntax.tyInt Syntax.w64) Syntax.tnil) (Syntax.ttcons Syntax.tnil
               (Syntax.ttcons (Syntax.tcons (Syntax.tyInt Syntax.w64) (Syntax.tcons (Syntax.tyInt Syntax.w64) Syntax.tnil)) (Syntax.ttcons (Syntax.tcons (Syntax.tyInt Syntax.w64) Syntax.tnil)
-              (Syntax.ttcons Syntax.tnil Syntax.ttnil))))))))))))))))) (Laws'3.val Refusal.the-type Laws''.the-laws)) List.[])) (λ m. Decoded.enum .make (Logic.inr (Logic.inl (
-                m .1 .1 .1 .1 .1 .1 .1 .1
-                    .1 .1 .0,
+              (Syntax.ttcons Syntax.tnil (Syntax.ttcons Syntax.tnil (Syntax.ttcons (Syntax.tcons (Syntax.tyInt Syntax.w64) Syntax.tnil) (Syntax.ttcons (Syntax.tcons (Syntax.tyInt Syntax.w64) Syntax.tnil)
+              (Syntax.ttcons (Syntax.tcons (Syntax.tyInt Syntax.w64) Syntax.tnil) (Syntax.ttcons Syntax.tnil Syntax.ttnil)))))))))))))))))))))) (Laws'3.val Refusal.the-type Laws''.the-laws)) List.[])) (λ
+              m. Decoded.enum .make (Logic.inr (Logic.inl (m .1 .1 .1 .1 .1 .1 .1 .1 .1 .1 .0, tt)))) (Reads'.room-gone 𝓤 H A (Syntax.tyEnum (List._∷_ 98 (List._∷_ 108 (List._∷_ 111 (List._∷_ 99
+              (List._∷_ 107 (List._∷_ 58 (List._∷_ 58 (List._∷_ 68 (List._∷_ 101 (List._∷_ 99 (List._∷_ 111 (List._∷_ 100 (List._∷_ 101 (List._∷_ 100 List.[])))))))))))))) (Syntax.ttcons Syntax.tnil
+              (Syntax.ttcons (Syntax.tcons (Syntax.tyEnum (List._∷_ 115 (List._∷_ 116 (List._∷_ 114 (List._∷_ 101 (List._∷_ 97 (List._∷_ 109 (List._∷_ 58 (List._∷_ 58 (List._∷_ 82 (List._∷_ 101 (List._∷_
+              102 (List._∷_ 117 (List._∷_ 115 (List._∷_ 97 (List._∷_ 108 List.[]))))))))))))))) (Syntax.ttcons Syntax.tnil (Syntax.ttcons Syntax.tnil (Syntax.ttcons Syntax.tnil (Syntax.ttcons
+              (Syntax.tcons (Syntax.tyInt Syntax.w64) Syntax.tnil) (Syntax.ttcons Syntax.tnil (Syntax.ttcons Syntax.tnil (Syntax.ttcons Syntax.tnil (Syntax.ttcons Syntax.tnil (Syntax.ttcons Syntax.tnil
+              (Syntax.ttcons Syntax.tnil (Syntax.ttcons (Syntax.tcons (Syntax.tyInt Syntax.w64) Syntax.tnil) (Syntax.ttcons (Syntax.tcons (Syntax.tyInt Syntax.w64) Syntax.tnil) (Syntax.ttcons Syntax.tnil
+              (Syntax.ttcons (Syntax.tcons (Syntax.tyInt Syntax.w64) (Syntax.tcons (Syntax.tyInt Syntax.w64) Syntax.tnil)) (Syntax.ttcons (Syntax.tcons (Syntax.tyInt Syntax.w64) Syntax.tnil)
+              (Syntax.ttcons Syntax.tnil (Syntax.ttcons Syntax.tnil (Syntax.ttcons (Syntax.tcons (Syntax.tyInt Syntax.w64) Syntax.tnil) (Syntax.ttcons (Syntax.tcons (Syntax.tyInt Syntax.w64) Syntax.tnil)
+              (Syntax.ttcons (Syntax.tcons (Syntax.tyInt Syntax.w64) Syntax.tnil) (Syntax.ttcons Syntax.tnil Syntax.ttnil)))))))))))))))))))))) Syntax.tnil) Syntax.ttnil)))) (
                 tt,
-              )))) (Reads'.room-gone 𝓤 H A (Syntax.tyEnum (List._∷_ 98 (List._∷_ 108 (List._∷_ 111 (List._∷_ 99 (List._∷_ 107 (List._∷_ 58 (List._∷_ 58 (List._∷_ 68 (List._∷_ 101 (List._∷_
-              99 (List._∷_ 111 (List._∷_ 100 (List._∷_ 101 (List._∷_ 100 List.[])))))))))))))) (Syntax.ttcons Syntax.tnil (Syntax.ttcons (Syntax.tcons (Syntax.tyEnum (List._∷_ 115 (List._∷_ 116 (List._∷_
-              114 (List._∷_ 101 (List._∷_ 97 (List._∷_ 109 (List._∷_ 58 (List._∷_ 58 (List._∷_ 82 (List._∷_ 101 (List._∷_ 102 (List._∷_ 117 (List._∷_ 115 (List._∷_ 97 (List._∷_ 108 List.[])))))))))))))))
-              (Syntax.ttcons Syntax.tnil (Syntax.ttcons Syntax.tnil (Syntax.ttcons Syntax.tnil (Syntax.ttcons (Syntax.tcons (Syntax.tyInt Syntax.w64) Syntax.tnil) (Syntax.ttcons Syntax.tnil (Syntax.ttcons
-              Syntax.tnil (Syntax.ttcons Syntax.tnil (Syntax.ttcons Syntax.tnil (Syntax.ttcons Syntax.tnil (Syntax.ttcons Syntax.tnil (Syntax.ttcons (Syntax.tcons (Syntax.tyInt Syntax.w64) Syntax.tnil)
-              (Syntax.ttcons (Syntax.tcons (Syntax.tyInt Syntax.w64) Syntax.tnil) (Syntax.ttcons Syntax.tnil (Syntax.ttcons (Syntax.tcons (Syntax.tyInt Syntax.w64) (Syntax.tcons (Syntax.tyInt Syntax.w64)
-              Syntax.tnil)) (Syntax.ttcons (Syntax.tcons (Syntax.tyInt Syntax.w64) Syntax.tnil) (Syntax.ttcons Syntax.tnil Syntax.ttnil))))))))))))))))) Syntax.tnil) Syntax.ttnil)))) (
-                tt,
-                ((Whole.reads-enum 𝓤 H A W Refusal.the-type Laws''.the-laws, Path'.refl), tt),
-              ) Path'.refl (λ m wa. Make.made-val Decoded.the-type Laws.the-laws (List._∷_ (Laws'3.val Refusal.the-type
-              Laws''.the-laws (m .1 .1 .1 .1 .1 .1 .1 .1 .1 .1 .0)) List.[]) (Decoded.enum .make (Logic.inr (Logic.inl (m .1 .1 .1 .1 .1 .1 .1 .1 .1 .1 .0, tt)))) (
-                Signed.made-wt Refusal.the-field
-                    Laws''.the-field-laws (Whole.enum-wt Refusal.the-type Laws''.the-laws (
+                (
+                  (
+                    Whole.reads-enum 𝓤 H A
+                        W Refusal.the-type Laws''.the-laws,
+                    Path'.refl,
+                  ),
+                  tt,
+                ),
+              ) Path'.refl (λ m wa. Make.made-val Decoded.the-type Laws.the-laws (List._∷_ (Laws'3.val Refusal.the-type Laws''.the-laws (m .1 .1 .1 .1
+              .1 .1 .1 .1 .1 .1 .0)) List.[]) (Decoded.enum .make (Logic.inr (Logic.inl (m .1 .1 .1 .1 .1 .1 .1 .1 .1 .1 .0, tt)))) (
+                Signed.made-wt Refusal.the-field Laws''.the-field-laws (Whole.enum-wt
+                    Refusal.the-type Laws''.the-laws (
                       tt,
                       (
                         tt,
@@ -3595,7 +3818,19 @@ module _ (claims· : Claims) where
                                           (Make'.u64-wt, tt),
                                           (
                                             (Make'.u64-wt, tt),
-                                            (tt, ((Make'.u64-wt, (Make'.u64-wt, tt)), ((Make'.u64-wt, tt), (tt, tt)))),
+                                            (
+                                              tt,
+                                              (
+                                                (
+                                                  Make'.u64-wt,
+                                                  (
+                                                    Make'.u64-wt,
+                                                    tt,
+                                                  ),
+                                                ),
+                                                ((Make'.u64-wt, tt), (tt, (tt, ((Make'.u64-wt, tt), ((Make'.u64-wt, tt), ((Make'.u64-wt, tt), (tt, tt))))))),
+                                              ),
+                                            ),
                                           ),
                                         ),
                                       ),
@@ -3607,39 +3842,62 @@ module _ (claims· : Claims) where
                           ),
                         ),
                       ),
-                    )) (Refusal.the-type .to (m .1 .1 .1 .1 .1 .1 .1 .1 .1 .1 .0)),
+                    )) (Refusal.the-type
+                    .to (m .1 .1 .1 .1 .1 .1 .1 .1 .1 .1 .0)),
                 tt,
-              ) (wa
-              .1)) λ m wa. Make.made-is Decoded.the-type Laws.the-laws (List._∷_ (Laws'3.val Refusal.the-type Laws''.the-laws (m .1 .1 .1 .1 .1 .1 .1 .1 .1 .1 .0)) List.[]) (Decoded.enum .make (Logic.inr
-              (Logic.inl (m .1 .1 .1 .1 .1 .1 .1 .1 .1 .1 .0, tt)))) (
-                Signed.made-wt Refusal.the-field Laws''.the-field-laws (Whole.enum-wt Refusal.the-type Laws''.the-laws (
-                  tt,
-                  (
-                    tt,
-                    (
+              ) (wa .1)) λ m wa. Make.made-is Decoded.the-type Laws.the-laws (List._∷_ (Laws'3.val Refusal.the-type Laws''.the-laws (m .1 .1 .1 .1 .1 .1 .1
+              .1 .1 .1 .0)) List.[]) (Decoded.enum .make (Logic.inr (Logic.inl (m .1 .1 .1 .1 .1 .1 .1 .1 .1 .1 .0, tt)))) (
+                Signed.made-wt Refusal.the-field Laws''.the-field-laws (Whole.enum-wt
+                    Refusal.the-type Laws''.the-laws (
                       tt,
                       (
-                        (Make'.u64-wt, tt),
+                        tt,
                         (
                           tt,
                           (
-                            tt,
+                            (Make'.u64-wt, tt),
                             (
                               tt,
                               (
                                 tt,
                                 (
                                   tt,
-                                  (tt, ((Make'.u64-wt, tt), ((Make'.u64-wt, tt), (tt, ((Make'.u64-wt, (Make'.u64-wt, tt)), ((Make'.u64-wt, tt), (tt, tt))))))),
+                                  (
+                                    tt,
+                                    (
+                                      tt,
+                                      (
+                                        tt,
+                                        (
+                                          (Make'.u64-wt, tt),
+                                          (
+                                            (Make'.u64-wt, tt),
+                                            (
+                                              tt,
+                                              (
+                                                (
+                                                  Make'.u64-wt,
+                                                  (
+                                                    Make'.u64-wt,
+                                                    tt,
+                                                  ),
+                                                ),
+                                                ((Make'.u64-wt, tt), (tt, (tt, ((Make'.u64-wt, tt), ((Make'.u64-wt, tt), ((Make'.u64-wt, tt), (tt, tt))))))),
+                                              ),
+                                            ),
+                                          ),
+                                        ),
+                                      ),
+                                    ),
+                                  ),
                                 ),
                               ),
                             ),
                           ),
                         ),
                       ),
-                    ),
-                  ),
-                )) (Refusal.the-type .to (m .1 .1 .1 .1 .1 .1 .1 .1 .1 .1 .0)),
+                    )) (Refusal.the-type
+                    .to (m .1 .1 .1 .1 .1 .1 .1 .1 .1 .1 .0)),
                 tt,
               ) (wa .1)) d3
 
@@ -3651,9 +3909,11 @@ module _ (claims· : Claims) where
               Syntax.w64) Syntax.tnil) (Syntax.ttcons Syntax.tnil (Syntax.ttcons Syntax.tnil (Syntax.ttcons Syntax.tnil (Syntax.ttcons Syntax.tnil (Syntax.ttcons Syntax.tnil (Syntax.ttcons Syntax.tnil
               (Syntax.ttcons (Syntax.tcons (Syntax.tyInt Syntax.w64) Syntax.tnil) (Syntax.ttcons (Syntax.tcons (Syntax.tyInt Syntax.w64) Syntax.tnil) (Syntax.ttcons Syntax.tnil (Syntax.ttcons
               (Syntax.tcons (Syntax.tyInt Syntax.w64) (Syntax.tcons (Syntax.tyInt Syntax.w64) Syntax.tnil)) (Syntax.ttcons (Syntax.tcons (Syntax.tyInt Syntax.w64) Syntax.tnil) (Syntax.ttcons Syntax.tnil
-              Syntax.ttnil)))))))))))))))))) (tt, tt) Path'.refl (λ m wa. Make.made-val Refusal.the-type Laws''.the-laws List.[] (Refusal.enum .make (Logic.inr (Logic.inr (Logic.inr (Logic.inr (Logic.inr
-              (Logic.inr (Logic.inr (Logic.inr (Logic.inr (Logic.inl tt))))))))))) tt (wa .1)) λ m wa. Make.made-is Refusal.the-type Laws''.the-laws List.[] (Refusal.enum .make (Logic.inr (Logic.inr
-              (Logic.inr (Logic.inr (Logic.inr (Logic.inr (Logic.inr (Logic.inr (Logic.inr (Logic.inl tt))))))))))) tt (wa .1)) d4
+              (Syntax.ttcons Syntax.tnil (Syntax.ttcons (Syntax.tcons (Syntax.tyInt Syntax.w64) Syntax.tnil) (Syntax.ttcons (Syntax.tcons (Syntax.tyInt Syntax.w64) Syntax.tnil) (Syntax.ttcons
+              (Syntax.tcons (Syntax.tyInt Syntax.w64) Syntax.tnil) (Syntax.ttcons Syntax.tnil Syntax.ttnil))))))))))))))))))))))) (tt, tt) Path'.refl (λ m wa. Make.made-val Refusal.the-type
+              Laws''.the-laws List.[] (Refusal.enum .make (Logic.inr (Logic.inr (Logic.inr (Logic.inr (Logic.inr (Logic.inr (Logic.inr (Logic.inr (Logic.inr (Logic.inl tt))))))))))) tt (wa .1)) λ m wa.
+              Make.made-is Refusal.the-type Laws''.the-laws List.[] (Refusal.enum .make (Logic.inr (Logic.inr (Logic.inr (Logic.inr (Logic.inr (Logic.inr (Logic.inr (Logic.inr (Logic.inr (Logic.inl
+              tt))))))))))) tt (wa .1)) d4
 
           d6 : Typed.Typed 𝓤 H A 𝓣 E G13 b9 Δ1 at6
           d6 = Typed.g-pre 𝓤 H A W 𝓣 E G13 G14 b9 Δ1 (Typed.pass T13 T14 s11) at5 (Scalar.g-room 𝓤 H A W E G13 9 Syntax.tyBool (Scalar.room-sc 𝓤 H A W Row.sBool)) d5
@@ -3695,13 +3955,15 @@ module _ (claims· : Claims) where
               (Syntax.ttcons Syntax.tnil (Syntax.ttcons Syntax.tnil (Syntax.ttcons (Syntax.tcons (Syntax.tyInt Syntax.w64) Syntax.tnil) (Syntax.ttcons Syntax.tnil (Syntax.ttcons Syntax.tnil (Syntax.ttcons
               Syntax.tnil (Syntax.ttcons Syntax.tnil (Syntax.ttcons Syntax.tnil (Syntax.ttcons Syntax.tnil (Syntax.ttcons (Syntax.tcons (Syntax.tyInt Syntax.w64) Syntax.tnil) (Syntax.ttcons (Syntax.tcons
               (Syntax.tyInt Syntax.w64) Syntax.tnil) (Syntax.ttcons Syntax.tnil (Syntax.ttcons (Syntax.tcons (Syntax.tyInt Syntax.w64) (Syntax.tcons (Syntax.tyInt Syntax.w64) Syntax.tnil)) (Syntax.ttcons
-              (Syntax.tcons (Syntax.tyInt Syntax.w64) Syntax.tnil) (Syntax.ttcons Syntax.tnil Syntax.ttnil))))))))))))))))) (Local.room-whole 𝓤 H A W (Declared.row Refusal.the-type) (Syntax.tyEnum
-              (List._∷_ 115 (List._∷_ 116 (List._∷_ 114 (List._∷_ 101 (List._∷_ 97 (List._∷_ 109 (List._∷_ 58 (List._∷_ 58 (List._∷_ 82 (List._∷_ 101 (List._∷_ 102 (List._∷_ 117 (List._∷_ 115 (List._∷_ 97
-              (List._∷_ 108 List.[]))))))))))))))) (Syntax.ttcons Syntax.tnil (Syntax.ttcons Syntax.tnil (Syntax.ttcons Syntax.tnil (Syntax.ttcons (Syntax.tcons (Syntax.tyInt Syntax.w64) Syntax.tnil)
-              (Syntax.ttcons Syntax.tnil (Syntax.ttcons Syntax.tnil (Syntax.ttcons Syntax.tnil (Syntax.ttcons Syntax.tnil (Syntax.ttcons Syntax.tnil (Syntax.ttcons Syntax.tnil (Syntax.ttcons (Syntax.tcons
-              (Syntax.tyInt Syntax.w64) Syntax.tnil) (Syntax.ttcons (Syntax.tcons (Syntax.tyInt Syntax.w64) Syntax.tnil) (Syntax.ttcons Syntax.tnil (Syntax.ttcons (Syntax.tcons (Syntax.tyInt Syntax.w64)
-              (Syntax.tcons (Syntax.tyInt Syntax.w64) Syntax.tnil)) (Syntax.ttcons (Syntax.tcons (Syntax.tyInt Syntax.w64) Syntax.tnil) (Syntax.ttcons Syntax.tnil Syntax.ttnil)))))))))))))))))
-              Path'.refl)) d14
+              (Syntax.tcons (Syntax.tyInt Syntax.w64) Syntax.tnil) (Syntax.ttcons Syntax.tnil (Syntax.ttcons Syntax.tnil (Syntax.ttcons (Syntax.tcons (Syntax.tyInt Syntax.w64) Syntax.tnil) (Syntax.ttcons
+              (Syntax.tcons (Syntax.tyInt Syntax.w64) Syntax.tnil) (Syntax.ttcons (Syntax.tcons (Syntax.tyInt Syntax.w64) Syntax.tnil) (Syntax.ttcons Syntax.tnil Syntax.ttnil))))))))))))))))))))))
+              (Local.room-whole 𝓤 H A W (Declared.row Refusal.the-type) (Syntax.tyEnum (List._∷_ 115 (List._∷_ 116 (List._∷_ 114 (List._∷_ 101 (List._∷_ 97 (List._∷_ 109 (List._∷_ 58 (List._∷_ 58
+              (List._∷_ 82 (List._∷_ 101 (List._∷_ 102 (List._∷_ 117 (List._∷_ 115 (List._∷_ 97 (List._∷_ 108 List.[]))))))))))))))) (Syntax.ttcons Syntax.tnil (Syntax.ttcons Syntax.tnil (Syntax.ttcons
+              Syntax.tnil (Syntax.ttcons (Syntax.tcons (Syntax.tyInt Syntax.w64) Syntax.tnil) (Syntax.ttcons Syntax.tnil (Syntax.ttcons Syntax.tnil (Syntax.ttcons Syntax.tnil (Syntax.ttcons Syntax.tnil
+              (Syntax.ttcons Syntax.tnil (Syntax.ttcons Syntax.tnil (Syntax.ttcons (Syntax.tcons (Syntax.tyInt Syntax.w64) Syntax.tnil) (Syntax.ttcons (Syntax.tcons (Syntax.tyInt Syntax.w64) Syntax.tnil)
+              (Syntax.ttcons Syntax.tnil (Syntax.ttcons (Syntax.tcons (Syntax.tyInt Syntax.w64) (Syntax.tcons (Syntax.tyInt Syntax.w64) Syntax.tnil)) (Syntax.ttcons (Syntax.tcons (Syntax.tyInt Syntax.w64)
+              Syntax.tnil) (Syntax.ttcons Syntax.tnil (Syntax.ttcons Syntax.tnil (Syntax.ttcons (Syntax.tcons (Syntax.tyInt Syntax.w64) Syntax.tnil) (Syntax.ttcons (Syntax.tcons (Syntax.tyInt Syntax.w64)
+              Syntax.tnil) (Syntax.ttcons (Syntax.tcons (Syntax.tyInt Syntax.w64) Syntax.tnil) (Syntax.ttcons Syntax.tnil Syntax.ttnil)))))))))))))))))))))) Path'.refl)) d14
 
           d16 : Typed.Typed 𝓤 H A 𝓣 E G27 b17 Δ2 at16
           d16 = Typed.s-seq 𝓤 H A W 𝓣 E G27 G28 b15 b16 Δ2 (Typed.pass T27 T28 s24) at15 (Make.t-enum-make-wt 𝓤 H A W E 𝓣 Decoded.the-type Laws.the-laws Laws.the-plain tt G27 0 (List._∷_ (Scalar.oInt
@@ -3710,63 +3972,30 @@ module _ (claims· : Claims) where
               (Syntax.tcons (Syntax.tyInt Syntax.w64) Syntax.tnil) (Syntax.ttcons Syntax.tnil (Syntax.ttcons Syntax.tnil (Syntax.ttcons Syntax.tnil (Syntax.ttcons Syntax.tnil (Syntax.ttcons Syntax.tnil
               (Syntax.ttcons Syntax.tnil (Syntax.ttcons (Syntax.tcons (Syntax.tyInt Syntax.w64) Syntax.tnil) (Syntax.ttcons (Syntax.tcons (Syntax.tyInt Syntax.w64) Syntax.tnil) (Syntax.ttcons Syntax.tnil
               (Syntax.ttcons (Syntax.tcons (Syntax.tyInt Syntax.w64) (Syntax.tcons (Syntax.tyInt Syntax.w64) Syntax.tnil)) (Syntax.ttcons (Syntax.tcons (Syntax.tyInt Syntax.w64) Syntax.tnil)
-              (Syntax.ttcons Syntax.tnil Syntax.ttnil))))))))))))))))) (Laws'3.val Refusal.the-type Laws''.the-laws)) List.[])) (λ m. Decoded.enum .make (Logic.inr (Logic.inl (
-                m .1 .1 .1 .1 .1 .1 .1 .1
-                    .1 .1 .1 .0,
+              (Syntax.ttcons Syntax.tnil (Syntax.ttcons Syntax.tnil (Syntax.ttcons (Syntax.tcons (Syntax.tyInt Syntax.w64) Syntax.tnil) (Syntax.ttcons (Syntax.tcons (Syntax.tyInt Syntax.w64) Syntax.tnil)
+              (Syntax.ttcons (Syntax.tcons (Syntax.tyInt Syntax.w64) Syntax.tnil) (Syntax.ttcons Syntax.tnil Syntax.ttnil)))))))))))))))))))))) (Laws'3.val Refusal.the-type Laws''.the-laws)) List.[])) (λ
+              m. Decoded.enum .make (Logic.inr (Logic.inl (m .1 .1 .1 .1 .1 .1 .1 .1 .1 .1 .1 .0, tt)))) (Reads'.room-gone 𝓤 H A (Syntax.tyEnum (List._∷_ 98 (List._∷_ 108 (List._∷_ 111 (List._∷_ 99
+              (List._∷_ 107 (List._∷_ 58 (List._∷_ 58 (List._∷_ 68 (List._∷_ 101 (List._∷_ 99 (List._∷_ 111 (List._∷_ 100 (List._∷_ 101 (List._∷_ 100 List.[])))))))))))))) (Syntax.ttcons Syntax.tnil
+              (Syntax.ttcons (Syntax.tcons (Syntax.tyEnum (List._∷_ 115 (List._∷_ 116 (List._∷_ 114 (List._∷_ 101 (List._∷_ 97 (List._∷_ 109 (List._∷_ 58 (List._∷_ 58 (List._∷_ 82 (List._∷_ 101 (List._∷_
+              102 (List._∷_ 117 (List._∷_ 115 (List._∷_ 97 (List._∷_ 108 List.[]))))))))))))))) (Syntax.ttcons Syntax.tnil (Syntax.ttcons Syntax.tnil (Syntax.ttcons Syntax.tnil (Syntax.ttcons
+              (Syntax.tcons (Syntax.tyInt Syntax.w64) Syntax.tnil) (Syntax.ttcons Syntax.tnil (Syntax.ttcons Syntax.tnil (Syntax.ttcons Syntax.tnil (Syntax.ttcons Syntax.tnil (Syntax.ttcons Syntax.tnil
+              (Syntax.ttcons Syntax.tnil (Syntax.ttcons (Syntax.tcons (Syntax.tyInt Syntax.w64) Syntax.tnil) (Syntax.ttcons (Syntax.tcons (Syntax.tyInt Syntax.w64) Syntax.tnil) (Syntax.ttcons Syntax.tnil
+              (Syntax.ttcons (Syntax.tcons (Syntax.tyInt Syntax.w64) (Syntax.tcons (Syntax.tyInt Syntax.w64) Syntax.tnil)) (Syntax.ttcons (Syntax.tcons (Syntax.tyInt Syntax.w64) Syntax.tnil)
+              (Syntax.ttcons Syntax.tnil (Syntax.ttcons Syntax.tnil (Syntax.ttcons (Syntax.tcons (Syntax.tyInt Syntax.w64) Syntax.tnil) (Syntax.ttcons (Syntax.tcons (Syntax.tyInt Syntax.w64) Syntax.tnil)
+              (Syntax.ttcons (Syntax.tcons (Syntax.tyInt Syntax.w64) Syntax.tnil) (Syntax.ttcons Syntax.tnil Syntax.ttnil)))))))))))))))))))))) Syntax.tnil) Syntax.ttnil)))) (
                 tt,
-              )))) (Reads'.room-gone 𝓤 H A (Syntax.tyEnum (List._∷_ 98 (List._∷_ 108 (List._∷_ 111 (List._∷_ 99 (List._∷_ 107 (List._∷_ 58 (List._∷_ 58 (List._∷_ 68 (List._∷_ 101
-              (List._∷_ 99 (List._∷_ 111 (List._∷_ 100 (List._∷_ 101 (List._∷_ 100 List.[])))))))))))))) (Syntax.ttcons Syntax.tnil (Syntax.ttcons (Syntax.tcons (Syntax.tyEnum (List._∷_ 115 (List._∷_ 116
-              (List._∷_ 114 (List._∷_ 101 (List._∷_ 97 (List._∷_ 109 (List._∷_ 58 (List._∷_ 58 (List._∷_ 82 (List._∷_ 101 (List._∷_ 102 (List._∷_ 117 (List._∷_ 115 (List._∷_ 97 (List._∷_ 108
-              List.[]))))))))))))))) (Syntax.ttcons Syntax.tnil (Syntax.ttcons Syntax.tnil (Syntax.ttcons Syntax.tnil (Syntax.ttcons (Syntax.tcons (Syntax.tyInt Syntax.w64) Syntax.tnil) (Syntax.ttcons
-              Syntax.tnil (Syntax.ttcons Syntax.tnil (Syntax.ttcons Syntax.tnil (Syntax.ttcons Syntax.tnil (Syntax.ttcons Syntax.tnil (Syntax.ttcons Syntax.tnil (Syntax.ttcons (Syntax.tcons (Syntax.tyInt
-              Syntax.w64) Syntax.tnil) (Syntax.ttcons (Syntax.tcons (Syntax.tyInt Syntax.w64) Syntax.tnil) (Syntax.ttcons Syntax.tnil (Syntax.ttcons (Syntax.tcons (Syntax.tyInt Syntax.w64) (Syntax.tcons
-              (Syntax.tyInt Syntax.w64) Syntax.tnil)) (Syntax.ttcons (Syntax.tcons (Syntax.tyInt Syntax.w64) Syntax.tnil) (Syntax.ttcons Syntax.tnil Syntax.ttnil))))))))))))))))) Syntax.tnil)
-              Syntax.ttnil)))) (tt, ((Whole.reads-enum 𝓤 H A W Refusal.the-type Laws''.the-laws, Path'.refl), tt)) Path'.refl (λ m wa. Make.made-val Decoded.the-type Laws.the-laws (List._∷_ (Laws'3.val
-              Refusal.the-type Laws''.the-laws (m .1 .1 .1 .1 .1 .1 .1 .1 .1 .1 .1 .0)) List.[]) (Decoded.enum .make (Logic.inr (Logic.inl (m .1 .1 .1 .1 .1 .1 .1 .1 .1 .1 .1 .0, tt)))) (
-                Signed.made-wt
-                    Refusal.the-field Laws''.the-field-laws (Whole.enum-wt Refusal.the-type Laws''.the-laws (
-                      tt,
-                      (
-                        tt,
-                        (
-                          tt,
-                          (
-                            (Make'.u64-wt, tt),
-                            (
-                              tt,
-                              (
-                                tt,
-                                (
-                                  tt,
-                                  (
-                                    tt,
-                                    (
-                                      tt,
-                                      (
-                                        tt,
-                                        (
-                                          (Make'.u64-wt, tt),
-                                          (
-                                            (Make'.u64-wt, tt),
-                                            (tt, ((Make'.u64-wt, (Make'.u64-wt, tt)), ((Make'.u64-wt, tt), (tt, tt)))),
-                                          ),
-                                        ),
-                                      ),
-                                    ),
-                                  ),
-                                ),
-                              ),
-                            ),
-                          ),
-                        ),
-                      ),
-                    )) (Refusal.the-type .to (m .1 .1 .1 .1 .1 .1 .1 .1 .1
-                    .1 .1 .0)),
-                tt,
-              ) (wa .1)) λ m wa. Make.made-is Decoded.the-type Laws.the-laws (List._∷_ (Laws'3.val Refusal.the-type Laws''.the-laws (m .1 .1 .1 .1 .1 .1 .1 .1 .1 .1 .1 .0)) List.[])
-              (Decoded.enum .make (Logic.inr (Logic.inl (m .1 .1 .1 .1 .1 .1 .1 .1 .1 .1 .1 .0, tt)))) (
-                Signed.made-wt Refusal.the-field Laws''.the-field-laws (Whole.enum-wt Refusal.the-type
-                    Laws''.the-laws (
+                (
+                  (
+                    Whole.reads-enum 𝓤 H A
+                        W Refusal.the-type Laws''.the-laws,
+                    Path'.refl,
+                  ),
+                  tt,
+                ),
+              ) Path'.refl (λ m wa. Make.made-val Decoded.the-type Laws.the-laws (List._∷_ (Laws'3.val Refusal.the-type Laws''.the-laws (m .1 .1 .1 .1
+              .1 .1 .1 .1 .1 .1 .1 .0)) List.[]) (Decoded.enum .make (Logic.inr (Logic.inl (m .1 .1 .1 .1 .1 .1 .1 .1 .1 .1 .1 .0, tt)))) (
+                Signed.made-wt Refusal.the-field Laws''.the-field-laws
+                    (Whole.enum-wt Refusal.the-type Laws''.the-laws (
                       tt,
                       (
                         tt,
@@ -3793,10 +4022,55 @@ module _ (claims· : Claims) where
                                             (
                                               tt,
                                               (
-                                                (Make'.u64-wt, (Make'.u64-wt, tt)),
-                                                ((Make'.u64-wt, tt), (tt, tt)),
+                                                (
+                                                  Make'.u64-wt,
+                                                  (Make'.u64-wt, tt),
+                                                ),
+                                                ((Make'.u64-wt, tt), (tt, (tt, ((Make'.u64-wt, tt), ((Make'.u64-wt, tt), ((Make'.u64-wt, tt), (tt, tt))))))),
                                               ),
                                             ),
+                                          ),
+                                        ),
+                                      ),
+                                    ),
+                                  ),
+                                ),
+                              ),
+                            ),
+                          ),
+                        ),
+                      ),
+                    ))
+                    (Refusal.the-type .to (m .1 .1 .1 .1 .1 .1 .1 .1 .1 .1 .1 .0)),
+                tt,
+              ) (wa .1)) λ m wa. Make.made-is Decoded.the-type Laws.the-laws (List._∷_ (Laws'3.val Refusal.the-type Laws''.the-laws (m
+              .1 .1 .1 .1 .1 .1 .1 .1 .1 .1 .1 .0)) List.[]) (Decoded.enum .make (Logic.inr (Logic.inl (m .1 .1 .1 .1 .1 .1 .1 .1 .1 .1 .1 .0, tt)))) (
+                Signed.made-wt Refusal.the-field
+                    Laws''.the-field-laws (Whole.enum-wt Refusal.the-type Laws''.the-laws (
+                      tt,
+                      (
+                        tt,
+                        (
+                          tt,
+                          (
+                            (Make'.u64-wt, tt),
+                            (
+                              tt,
+                              (
+                                tt,
+                                (
+                                  tt,
+                                  (
+                                    tt,
+                                    (
+                                      tt,
+                                      (
+                                        tt,
+                                        (
+                                          (Make'.u64-wt, tt),
+                                          (
+                                            (Make'.u64-wt, tt),
+                                            (tt, ((Make'.u64-wt, (Make'.u64-wt, tt)), ((Make'.u64-wt, tt), (tt, (tt, ((Make'.u64-wt, tt), ((Make'.u64-wt, tt), ((Make'.u64-wt, tt), (tt, tt))))))))),
                                           ),
                                         ),
                                       ),
@@ -3820,9 +4094,11 @@ module _ (claims· : Claims) where
               (Syntax.tyInt Syntax.w64) Syntax.tnil) (Syntax.ttcons Syntax.tnil (Syntax.ttcons Syntax.tnil (Syntax.ttcons Syntax.tnil (Syntax.ttcons Syntax.tnil (Syntax.ttcons Syntax.tnil (Syntax.ttcons
               Syntax.tnil (Syntax.ttcons (Syntax.tcons (Syntax.tyInt Syntax.w64) Syntax.tnil) (Syntax.ttcons (Syntax.tcons (Syntax.tyInt Syntax.w64) Syntax.tnil) (Syntax.ttcons Syntax.tnil (Syntax.ttcons
               (Syntax.tcons (Syntax.tyInt Syntax.w64) (Syntax.tcons (Syntax.tyInt Syntax.w64) Syntax.tnil)) (Syntax.ttcons (Syntax.tcons (Syntax.tyInt Syntax.w64) Syntax.tnil) (Syntax.ttcons Syntax.tnil
-              Syntax.ttnil)))))))))))))))))) (tt, tt) Path'.refl (λ m wa. Make.made-val Refusal.the-type Laws''.the-laws List.[] (Refusal.enum .make (Logic.inr (Logic.inr (Logic.inr (Logic.inr (Logic.inr
-              (Logic.inr (Logic.inr (Logic.inr (Logic.inr (Logic.inl tt))))))))))) tt (wa .1)) λ m wa. Make.made-is Refusal.the-type Laws''.the-laws List.[] (Refusal.enum .make (Logic.inr (Logic.inr
-              (Logic.inr (Logic.inr (Logic.inr (Logic.inr (Logic.inr (Logic.inr (Logic.inr (Logic.inl tt))))))))))) tt (wa .1)) d16
+              (Syntax.ttcons Syntax.tnil (Syntax.ttcons (Syntax.tcons (Syntax.tyInt Syntax.w64) Syntax.tnil) (Syntax.ttcons (Syntax.tcons (Syntax.tyInt Syntax.w64) Syntax.tnil) (Syntax.ttcons
+              (Syntax.tcons (Syntax.tyInt Syntax.w64) Syntax.tnil) (Syntax.ttcons Syntax.tnil Syntax.ttnil))))))))))))))))))))))) (tt, tt) Path'.refl (λ m wa. Make.made-val Refusal.the-type
+              Laws''.the-laws List.[] (Refusal.enum .make (Logic.inr (Logic.inr (Logic.inr (Logic.inr (Logic.inr (Logic.inr (Logic.inr (Logic.inr (Logic.inr (Logic.inl tt))))))))))) tt (wa .1)) λ m wa.
+              Make.made-is Refusal.the-type Laws''.the-laws List.[] (Refusal.enum .make (Logic.inr (Logic.inr (Logic.inr (Logic.inr (Logic.inr (Logic.inr (Logic.inr (Logic.inr (Logic.inr (Logic.inl
+              tt))))))))))) tt (wa .1)) d16
 
           d18 : Typed.Typed 𝓤 H A 𝓣 E G25 b18 Δ2 at18
           d18 = Typed.g-pre 𝓤 H A W 𝓣 E G25 G26 b18 Δ2 (Typed.pass T25 T26 s22) at17 (Scalar.g-room 𝓤 H A W E G25 9 Syntax.tyBool (Scalar.room-sc 𝓤 H A W Row.sBool)) d17
@@ -3957,7 +4233,9 @@ module _ (claims· : Claims) where
               (Syntax.ttcons (Syntax.tcons (Syntax.tyInt Syntax.w64) Syntax.tnil) (Syntax.ttcons Syntax.tnil (Syntax.ttcons Syntax.tnil (Syntax.ttcons Syntax.tnil (Syntax.ttcons Syntax.tnil (Syntax.ttcons
               Syntax.tnil (Syntax.ttcons Syntax.tnil (Syntax.ttcons (Syntax.tcons (Syntax.tyInt Syntax.w64) Syntax.tnil) (Syntax.ttcons (Syntax.tcons (Syntax.tyInt Syntax.w64) Syntax.tnil) (Syntax.ttcons
               Syntax.tnil (Syntax.ttcons (Syntax.tcons (Syntax.tyInt Syntax.w64) (Syntax.tcons (Syntax.tyInt Syntax.w64) Syntax.tnil)) (Syntax.ttcons (Syntax.tcons (Syntax.tyInt Syntax.w64) Syntax.tnil)
-              (Syntax.ttcons Syntax.tnil Syntax.ttnil))))))))))))))))) Syntax.tnil) Syntax.ttnil)))) (tt, (tt, (tt, tt))) Path'.refl) d34
+              (Syntax.ttcons Syntax.tnil (Syntax.ttcons Syntax.tnil (Syntax.ttcons (Syntax.tcons (Syntax.tyInt Syntax.w64) Syntax.tnil) (Syntax.ttcons (Syntax.tcons (Syntax.tyInt Syntax.w64) Syntax.tnil)
+              (Syntax.ttcons (Syntax.tcons (Syntax.tyInt Syntax.w64) Syntax.tnil) (Syntax.ttcons Syntax.tnil Syntax.ttnil)))))))))))))))))))))) Syntax.tnil) Syntax.ttnil)))) (tt, (tt, (tt, tt)))
+              Path'.refl) d34
 
           d36 : Typed.Typed 𝓤 H A 𝓣 E G45 b31 Δ0 at36
           d36 = Typed.g-pre 𝓤 H A W 𝓣 E G45 G46 b31 Δ0 (Typed.pass T45 T46 s42) at35 (Scalar.g-room 𝓤 H A W E G45 8 (Syntax.tyInt Syntax.w64) (Scalar.room-sc 𝓤 H A W (Row.sInt Syntax.w64))) d35

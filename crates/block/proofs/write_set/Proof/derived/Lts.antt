@@ -113,11 +113,13 @@ xs = List._∷_ (Syntax.tyInt Syntax.w32) (List._∷_ (Syntax.tyInt Syntax.w64) 
     Syntax.tnil (Syntax.ttcons Syntax.tnil (Syntax.ttcons Syntax.tnil (Syntax.ttcons (Syntax.tcons (Syntax.tyInt Syntax.w64) Syntax.tnil) (Syntax.ttcons Syntax.tnil (Syntax.ttcons Syntax.tnil
     (Syntax.ttcons Syntax.tnil (Syntax.ttcons Syntax.tnil (Syntax.ttcons Syntax.tnil (Syntax.ttcons Syntax.tnil (Syntax.ttcons (Syntax.tcons (Syntax.tyInt Syntax.w64) Syntax.tnil) (Syntax.ttcons
     (Syntax.tcons (Syntax.tyInt Syntax.w64) Syntax.tnil) (Syntax.ttcons Syntax.tnil (Syntax.ttcons (Syntax.tcons (Syntax.tyInt Syntax.w64) (Syntax.tcons (Syntax.tyInt Syntax.w64) Syntax.tnil))
-    (Syntax.ttcons (Syntax.tcons (Syntax.tyInt Syntax.w64) Syntax.tnil) (Syntax.ttcons Syntax.tnil Syntax.ttnil))))))))))))))))) (List._∷_ (Syntax.tyRef Syntax.erased Syntax.mut (Syntax.tyInt Syntax.w8))
-    (List._∷_ (Syntax.tyStruct (List._∷_ 38 (List._∷_ 91 (List._∷_ 93 List.[]))) (Syntax.tcons (Syntax.tyRef Syntax.erased Syntax.mut (Syntax.tyInt Syntax.w8)) (Syntax.tcons (Syntax.tyInt Syntax.w64)
-    Syntax.tnil))) (List._∷_ (Syntax.tyRef Syntax.erased Syntax.mut (Syntax.tyInt Syntax.w16)) (List._∷_ (Syntax.tyStruct (List._∷_ 38 (List._∷_ 91 (List._∷_ 93 List.[]))) (Syntax.tcons (Syntax.tyRef
-    Syntax.erased Syntax.mut (Syntax.tyInt Syntax.w16)) (Syntax.tcons (Syntax.tyInt Syntax.w64) Syntax.tnil))) (List._∷_ (Syntax.tyRef Syntax.erased Syntax.mut Element.behind) (List._∷_ (Syntax.tyStruct
-    (List._∷_ 38 (List._∷_ 91 (List._∷_ 93 List.[]))) (Syntax.tcons (Syntax.tyRef Syntax.erased Syntax.mut Element.behind) (Syntax.tcons (Syntax.tyInt Syntax.w64) Syntax.tnil))) List.[])))))))))))))))
+    (Syntax.ttcons (Syntax.tcons (Syntax.tyInt Syntax.w64) Syntax.tnil) (Syntax.ttcons Syntax.tnil (Syntax.ttcons Syntax.tnil (Syntax.ttcons (Syntax.tcons (Syntax.tyInt Syntax.w64) Syntax.tnil)
+    (Syntax.ttcons (Syntax.tcons (Syntax.tyInt Syntax.w64) Syntax.tnil) (Syntax.ttcons (Syntax.tcons (Syntax.tyInt Syntax.w64) Syntax.tnil) (Syntax.ttcons Syntax.tnil Syntax.ttnil))))))))))))))))))))))
+    (List._∷_ (Syntax.tyRef Syntax.erased Syntax.mut (Syntax.tyInt Syntax.w8)) (List._∷_ (Syntax.tyStruct (List._∷_ 38 (List._∷_ 91 (List._∷_ 93 List.[]))) (Syntax.tcons (Syntax.tyRef Syntax.erased
+    Syntax.mut (Syntax.tyInt Syntax.w8)) (Syntax.tcons (Syntax.tyInt Syntax.w64) Syntax.tnil))) (List._∷_ (Syntax.tyRef Syntax.erased Syntax.mut (Syntax.tyInt Syntax.w16)) (List._∷_ (Syntax.tyStruct
+    (List._∷_ 38 (List._∷_ 91 (List._∷_ 93 List.[]))) (Syntax.tcons (Syntax.tyRef Syntax.erased Syntax.mut (Syntax.tyInt Syntax.w16)) (Syntax.tcons (Syntax.tyInt Syntax.w64) Syntax.tnil))) (List._∷_
+    (Syntax.tyRef Syntax.erased Syntax.mut Element.behind) (List._∷_ (Syntax.tyStruct (List._∷_ 38 (List._∷_ 91 (List._∷_ 93 List.[]))) (Syntax.tcons (Syntax.tyRef Syntax.erased Syntax.mut Element.behind)
+    (Syntax.tcons (Syntax.tyInt Syntax.w64) Syntax.tnil))) List.[])))))))))))))))
 
 abbrev pub m : Nat.ℕ
 m = 5
@@ -343,36 +345,40 @@ t0 = List._∷_ (
       List.[]))))))))))))))) (Syntax.ttcons Syntax.tnil (Syntax.ttcons Syntax.tnil (Syntax.ttcons Syntax.tnil (Syntax.ttcons (Syntax.tcons (Syntax.tyInt Syntax.w64) Syntax.tnil) (Syntax.ttcons Syntax.tnil
       (Syntax.ttcons Syntax.tnil (Syntax.ttcons Syntax.tnil (Syntax.ttcons Syntax.tnil (Syntax.ttcons Syntax.tnil (Syntax.ttcons Syntax.tnil (Syntax.ttcons (Syntax.tcons (Syntax.tyInt Syntax.w64)
       Syntax.tnil) (Syntax.ttcons (Syntax.tcons (Syntax.tyInt Syntax.w64) Syntax.tnil) (Syntax.ttcons Syntax.tnil (Syntax.ttcons (Syntax.tcons (Syntax.tyInt Syntax.w64) (Syntax.tcons (Syntax.tyInt
-      Syntax.w64) Syntax.tnil)) (Syntax.ttcons (Syntax.tcons (Syntax.tyInt Syntax.w64) Syntax.tnil) (Syntax.ttcons Syntax.tnil Syntax.ttnil))))))))))))))))) Syntax.tnil) Syntax.ttnil))),
+      Syntax.w64) Syntax.tnil)) (Syntax.ttcons (Syntax.tcons (Syntax.tyInt Syntax.w64) Syntax.tnil) (Syntax.ttcons Syntax.tnil (Syntax.ttcons Syntax.tnil (Syntax.ttcons (Syntax.tcons (Syntax.tyInt
+      Syntax.w64) Syntax.tnil) (Syntax.ttcons (Syntax.tcons (Syntax.tyInt Syntax.w64) Syntax.tnil) (Syntax.ttcons (Syntax.tcons (Syntax.tyInt Syntax.w64) Syntax.tnil) (Syntax.ttcons Syntax.tnil
+      Syntax.ttnil)))))))))))))))))))))) Syntax.tnil) Syntax.ttnil))),
 ) (List._∷_ (
   1,
-  Rows.sslice (Referent.rtF (Referent.fInt Syntax.w16)) (Syntax.tyRef (Syntax.named 0) Syntax.imm (Syntax.tyInt Syntax.w16)) 0,
-) (List._∷_ (
-  2,
-  Mut.mslice (Referent.rtF (Referent.fInt Syntax.w8))
-      (Syntax.tyRef (Syntax.named 1) Syntax.mut (Syntax.tyInt Syntax.w8)) 1,
-) (List._∷_ (
+  Rows.sslice (Referent.rtF (Referent.fInt Syntax.w16)) (Syntax.tyRef (Syntax.named 0) Syntax.imm (Syntax.tyInt
+      Syntax.w16)) 0,
+) (List._∷_ (2, Mut.mslice (Referent.rtF (Referent.fInt Syntax.w8)) (Syntax.tyRef (Syntax.named 1) Syntax.mut (Syntax.tyInt Syntax.w8)) 1) (List._∷_ (
   3,
-  Mut.mslice (Referent.rtF (Referent.fInt Syntax.w16)) (Syntax.tyRef (Syntax.named 2) Syntax.mut (Syntax.tyInt
-      Syntax.w16)) 2,
-) (List._∷_ (4, Mut.mslice (Element.type) (Syntax.tyRef (Syntax.named 3) Syntax.mut Element.behind) 3) (List._∷_ (5, Rows.whole (Declared'.row Form.the-type)) (List._∷_ (
-  6,
-  Rows.sc-here (Row.sInt Syntax.w64),
-) (List._∷_ (7, Rows.any-gone (Syntax.tyInt Syntax.w32)) (List._∷_ (8, Rows.any-gone (Syntax.tyInt Syntax.w64)) (List._∷_ (
-  9,
-  Rows.any-gone (Syntax.tyInt
-      Syntax.w64),
-) (List._∷_ (10, Rows.any-gone Syntax.tyBool) (List._∷_ (11, Rows.any-gone Syntax.tyUnit) (List._∷_ (
+  Mut.mslice (Referent.rtF
+      (Referent.fInt Syntax.w16)) (Syntax.tyRef (Syntax.named 2) Syntax.mut (Syntax.tyInt Syntax.w16)) 2,
+) (List._∷_ (
+  4,
+  Mut.mslice (Element.type) (Syntax.tyRef (Syntax.named 3) Syntax.mut Element.behind)
+      3,
+) (List._∷_ (5, Rows.whole (Declared'.row Form.the-type)) (List._∷_ (6, Rows.sc-here (Row.sInt Syntax.w64)) (List._∷_ (7, Rows.any-gone (Syntax.tyInt Syntax.w32)) (List._∷_ (
+  8,
+  Rows.any-gone
+      (Syntax.tyInt Syntax.w64),
+) (List._∷_ (9, Rows.any-gone (Syntax.tyInt Syntax.w64)) (List._∷_ (10, Rows.any-gone Syntax.tyBool) (List._∷_ (11, Rows.any-gone Syntax.tyUnit) (List._∷_ (
   12,
   Rows.any-gone (Syntax.tyRef Syntax.erased Syntax.mut (Syntax.tyInt Syntax.w16)),
 ) (List._∷_ (
   13,
-  Rows.any-gone (Syntax.tyStruct (List._∷_ 38 (List._∷_ 91 (List._∷_ 93 List.[]))) (Syntax.tcons (Syntax.tyRef Syntax.erased Syntax.mut (Syntax.tyInt Syntax.w16)) (Syntax.tcons
-      (Syntax.tyInt Syntax.w64) Syntax.tnil))),
-) (List._∷_ (14, Rows.any-gone (Syntax.tyRef Syntax.erased Syntax.mut Element.behind)) (List._∷_ (
+  Rows.any-gone (Syntax.tyStruct (List._∷_ 38 (List._∷_ 91 (List._∷_ 93 List.[]))) (Syntax.tcons
+      (Syntax.tyRef Syntax.erased Syntax.mut (Syntax.tyInt Syntax.w16)) (Syntax.tcons (Syntax.tyInt Syntax.w64) Syntax.tnil))),
+) (List._∷_ (
+  14,
+  Rows.any-gone (Syntax.tyRef Syntax.erased Syntax.mut
+      Element.behind),
+) (List._∷_ (
   15,
-  Rows.any-gone (Syntax.tyStruct (List._∷_ 38
-      (List._∷_ 91 (List._∷_ 93 List.[]))) (Syntax.tcons (Syntax.tyRef Syntax.erased Syntax.mut Element.behind) (Syntax.tcons (Syntax.tyInt Syntax.w64) Syntax.tnil))),
+  Rows.any-gone (Syntax.tyStruct (List._∷_ 38 (List._∷_ 91 (List._∷_ 93 List.[]))) (Syntax.tcons (Syntax.tyRef Syntax.erased Syntax.mut Element.behind) (Syntax.tcons
+      (Syntax.tyInt Syntax.w64) Syntax.tnil))),
 ) List.[])))))))))))))))
 
 abbrev pub t1 : List.List Row.Entry
@@ -382,26 +388,26 @@ t1 = List._∷_ (
       (List._∷_ 117 (List._∷_ 115 (List._∷_ 97 (List._∷_ 108 List.[]))))))))))))))) (Syntax.ttcons Syntax.tnil (Syntax.ttcons Syntax.tnil (Syntax.ttcons Syntax.tnil (Syntax.ttcons (Syntax.tcons
       (Syntax.tyInt Syntax.w64) Syntax.tnil) (Syntax.ttcons Syntax.tnil (Syntax.ttcons Syntax.tnil (Syntax.ttcons Syntax.tnil (Syntax.ttcons Syntax.tnil (Syntax.ttcons Syntax.tnil (Syntax.ttcons Syntax.tnil
       (Syntax.ttcons (Syntax.tcons (Syntax.tyInt Syntax.w64) Syntax.tnil) (Syntax.ttcons (Syntax.tcons (Syntax.tyInt Syntax.w64) Syntax.tnil) (Syntax.ttcons Syntax.tnil (Syntax.ttcons (Syntax.tcons
-      (Syntax.tyInt Syntax.w64) (Syntax.tcons (Syntax.tyInt Syntax.w64) Syntax.tnil)) (Syntax.ttcons (Syntax.tcons (Syntax.tyInt Syntax.w64) Syntax.tnil) (Syntax.ttcons Syntax.tnil
-      Syntax.ttnil))))))))))))))))),
+      (Syntax.tyInt Syntax.w64) (Syntax.tcons (Syntax.tyInt Syntax.w64) Syntax.tnil)) (Syntax.ttcons (Syntax.tcons (Syntax.tyInt Syntax.w64) Syntax.tnil) (Syntax.ttcons Syntax.tnil (Syntax.ttcons
+      Syntax.tnil (Syntax.ttcons (Syntax.tcons (Syntax.tyInt Syntax.w64) Syntax.tnil) (Syntax.ttcons (Syntax.tcons (Syntax.tyInt Syntax.w64) Syntax.tnil) (Syntax.ttcons (Syntax.tcons (Syntax.tyInt
+      Syntax.w64) Syntax.tnil) (Syntax.ttcons Syntax.tnil Syntax.ttnil)))))))))))))))))))))),
 ) (List._∷_ (17, Rows.any-gone (Syntax.tyRef Syntax.erased Syntax.mut (Syntax.tyInt Syntax.w8))) (List._∷_ (
   18,
-  Rows.any-gone (Syntax.tyStruct (List._∷_ 38 (List._∷_ 91
-      (List._∷_ 93 List.[]))) (Syntax.tcons (Syntax.tyRef Syntax.erased Syntax.mut (Syntax.tyInt Syntax.w8)) (Syntax.tcons (Syntax.tyInt Syntax.w64) Syntax.tnil))),
-) (List._∷_ (
-  19,
-  Rows.any-gone
-      (Syntax.tyRef Syntax.erased Syntax.mut (Syntax.tyInt Syntax.w16)),
-) (List._∷_ (
+  Rows.any-gone (Syntax.tyStruct (List._∷_ 38 (List._∷_ 91 (List._∷_ 93 List.[]))) (Syntax.tcons (Syntax.tyRef Syntax.erased Syntax.mut (Syntax.tyInt Syntax.w8)) (Syntax.tcons (Syntax.tyInt Syntax.w64)
+      Syntax.tnil))),
+) (List._∷_ (19, Rows.any-gone (Syntax.tyRef Syntax.erased Syntax.mut (Syntax.tyInt Syntax.w16))) (List._∷_ (
   20,
-  Rows.any-gone (Syntax.tyStruct (List._∷_ 38 (List._∷_ 91 (List._∷_ 93 List.[]))) (Syntax.tcons (Syntax.tyRef
-      Syntax.erased Syntax.mut (Syntax.tyInt Syntax.w16)) (Syntax.tcons (Syntax.tyInt Syntax.w64) Syntax.tnil))),
-) (List._∷_ (21, Rows.any-gone (Syntax.tyRef Syntax.erased Syntax.mut Element.behind))
-    (List._∷_ (
-      22,
-      Rows.any-gone (Syntax.tyStruct (List._∷_ 38 (List._∷_ 91 (List._∷_ 93 List.[]))) (Syntax.tcons (Syntax.tyRef Syntax.erased Syntax.mut Element.behind) (Syntax.tcons (Syntax.tyInt
-          Syntax.w64) Syntax.tnil))),
-    ) List.[]))))))
+  Rows.any-gone (Syntax.tyStruct (List._∷_ 38 (List._∷_ 91 (List._∷_
+      93 List.[]))) (Syntax.tcons (Syntax.tyRef Syntax.erased Syntax.mut (Syntax.tyInt Syntax.w16)) (Syntax.tcons (Syntax.tyInt Syntax.w64) Syntax.tnil))),
+) (List._∷_ (
+  21,
+  Rows.any-gone (Syntax.tyRef
+      Syntax.erased Syntax.mut Element.behind),
+) (List._∷_ (
+  22,
+  Rows.any-gone (Syntax.tyStruct (List._∷_ 38 (List._∷_ 91 (List._∷_ 93 List.[]))) (Syntax.tcons (Syntax.tyRef Syntax.erased Syntax.mut
+      Element.behind) (Syntax.tcons (Syntax.tyInt Syntax.w64) Syntax.tnil))),
+) List.[]))))))
 
 abbrev pub t2 : List.List Row.Entry
 t2 = List._∷_ (0, Rows.whole (Declared.row Written.the-type)) (List._∷_ (
@@ -446,31 +452,41 @@ t3 = List._∷_ (
       List.[]))))))))))))))) (Syntax.ttcons Syntax.tnil (Syntax.ttcons Syntax.tnil (Syntax.ttcons Syntax.tnil (Syntax.ttcons (Syntax.tcons (Syntax.tyInt Syntax.w64) Syntax.tnil) (Syntax.ttcons Syntax.tnil
       (Syntax.ttcons Syntax.tnil (Syntax.ttcons Syntax.tnil (Syntax.ttcons Syntax.tnil (Syntax.ttcons Syntax.tnil (Syntax.ttcons Syntax.tnil (Syntax.ttcons (Syntax.tcons (Syntax.tyInt Syntax.w64)
       Syntax.tnil) (Syntax.ttcons (Syntax.tcons (Syntax.tyInt Syntax.w64) Syntax.tnil) (Syntax.ttcons Syntax.tnil (Syntax.ttcons (Syntax.tcons (Syntax.tyInt Syntax.w64) (Syntax.tcons (Syntax.tyInt
-      Syntax.w64) Syntax.tnil)) (Syntax.ttcons (Syntax.tcons (Syntax.tyInt Syntax.w64) Syntax.tnil) (Syntax.ttcons Syntax.tnil Syntax.ttnil))))))))))))))))) Syntax.tnil) Syntax.ttnil))),
+      Syntax.w64) Syntax.tnil)) (Syntax.ttcons (Syntax.tcons (Syntax.tyInt Syntax.w64) Syntax.tnil) (Syntax.ttcons Syntax.tnil (Syntax.ttcons Syntax.tnil (Syntax.ttcons (Syntax.tcons (Syntax.tyInt
+      Syntax.w64) Syntax.tnil) (Syntax.ttcons (Syntax.tcons (Syntax.tyInt Syntax.w64) Syntax.tnil) (Syntax.ttcons (Syntax.tcons (Syntax.tyInt Syntax.w64) Syntax.tnil) (Syntax.ttcons Syntax.tnil
+      Syntax.ttnil)))))))))))))))))))))) Syntax.tnil) Syntax.ttnil))),
 ) (List._∷_ (
   1,
-  Rows.sslice (Referent.rtF (Referent.fInt Syntax.w16)) (Syntax.tyRef (Syntax.named 0) Syntax.imm (Syntax.tyInt Syntax.w16)) 0,
-) (List._∷_ (
-  2,
-  Mut.mslice (Referent.rtF (Referent.fInt Syntax.w8))
-      (Syntax.tyRef (Syntax.named 1) Syntax.mut (Syntax.tyInt Syntax.w8)) 1,
-) (List._∷_ (
+  Rows.sslice (Referent.rtF (Referent.fInt Syntax.w16)) (Syntax.tyRef (Syntax.named 0) Syntax.imm (Syntax.tyInt
+      Syntax.w16)) 0,
+) (List._∷_ (2, Mut.mslice (Referent.rtF (Referent.fInt Syntax.w8)) (Syntax.tyRef (Syntax.named 1) Syntax.mut (Syntax.tyInt Syntax.w8)) 1) (List._∷_ (
   3,
-  Mut.mslice (Referent.rtF (Referent.fInt Syntax.w16)) (Syntax.tyRef (Syntax.named 2) Syntax.mut (Syntax.tyInt
-      Syntax.w16)) 2,
-) (List._∷_ (4, Mut.mslice (Element.type) (Syntax.tyRef (Syntax.named 3) Syntax.mut Element.behind) 3) (List._∷_ (5, Rows.whole (Declared'.row Form.the-type)) (List._∷_ (
-  6,
-  Rows.sc-here (Row.sInt Syntax.w64),
-) (List._∷_ (7, Rows.sc-here (Row.sInt Syntax.w32)) (List._∷_ (8, Rows.any-gone (Syntax.tyInt Syntax.w64)) (List._∷_ (9, Rows.any-gone (Syntax.tyInt Syntax.w64))
-    (List._∷_ (10, Rows.any-gone Syntax.tyBool) (List._∷_ (11, Rows.any-gone Syntax.tyUnit) (List._∷_ (12, Rows.any-gone (Syntax.tyRef Syntax.erased Syntax.mut (Syntax.tyInt Syntax.w16))) (List._∷_ (
-      13,
-      Rows.any-gone (Syntax.tyStruct (List._∷_ 38 (List._∷_ 91 (List._∷_ 93 List.[]))) (Syntax.tcons (Syntax.tyRef Syntax.erased Syntax.mut (Syntax.tyInt Syntax.w16)) (Syntax.tcons (Syntax.tyInt
-          Syntax.w64) Syntax.tnil))),
-    ) (List._∷_ (14, Rows.any-gone (Syntax.tyRef Syntax.erased Syntax.mut Element.behind)) (List._∷_ (
-      15,
-      Rows.any-gone (Syntax.tyStruct (List._∷_ 38 (List._∷_ 91 (List._∷_
-          93 List.[]))) (Syntax.tcons (Syntax.tyRef Syntax.erased Syntax.mut Element.behind) (Syntax.tcons (Syntax.tyInt Syntax.w64) Syntax.tnil))),
-    ) List.[])))))))))))))))
+  Mut.mslice (Referent.rtF
+      (Referent.fInt Syntax.w16)) (Syntax.tyRef (Syntax.named 2) Syntax.mut (Syntax.tyInt Syntax.w16)) 2,
+) (List._∷_ (
+  4,
+  Mut.mslice (Element.type) (Syntax.tyRef (Syntax.named 3) Syntax.mut Element.behind)
+      3,
+) (List._∷_ (5, Rows.whole (Declared'.row Form.the-type)) (List._∷_ (6, Rows.sc-here (Row.sInt Syntax.w64)) (List._∷_ (7, Rows.sc-here (Row.sInt Syntax.w32)) (List._∷_ (
+  8,
+  Rows.any-gone
+      (Syntax.tyInt Syntax.w64),
+) (List._∷_ (9, Rows.any-gone (Syntax.tyInt Syntax.w64)) (List._∷_ (10, Rows.any-gone Syntax.tyBool) (List._∷_ (11, Rows.any-gone Syntax.tyUnit) (List._∷_ (
+  12,
+  Rows.any-gone (Syntax.tyRef Syntax.erased Syntax.mut (Syntax.tyInt Syntax.w16)),
+) (List._∷_ (
+  13,
+  Rows.any-gone (Syntax.tyStruct (List._∷_ 38 (List._∷_ 91 (List._∷_ 93 List.[]))) (Syntax.tcons
+      (Syntax.tyRef Syntax.erased Syntax.mut (Syntax.tyInt Syntax.w16)) (Syntax.tcons (Syntax.tyInt Syntax.w64) Syntax.tnil))),
+) (List._∷_ (
+  14,
+  Rows.any-gone (Syntax.tyRef Syntax.erased Syntax.mut
+      Element.behind),
+) (List._∷_ (
+  15,
+  Rows.any-gone (Syntax.tyStruct (List._∷_ 38 (List._∷_ 91 (List._∷_ 93 List.[]))) (Syntax.tcons (Syntax.tyRef Syntax.erased Syntax.mut Element.behind) (Syntax.tcons
+      (Syntax.tyInt Syntax.w64) Syntax.tnil))),
+) List.[])))))))))))))))
 
 abbrev pub t4 : List.List Row.Entry
 t4 = List._∷_ (
@@ -481,30 +497,38 @@ t4 = List._∷_ (
       List.[]))))))))))))))) (Syntax.ttcons Syntax.tnil (Syntax.ttcons Syntax.tnil (Syntax.ttcons Syntax.tnil (Syntax.ttcons (Syntax.tcons (Syntax.tyInt Syntax.w64) Syntax.tnil) (Syntax.ttcons Syntax.tnil
       (Syntax.ttcons Syntax.tnil (Syntax.ttcons Syntax.tnil (Syntax.ttcons Syntax.tnil (Syntax.ttcons Syntax.tnil (Syntax.ttcons Syntax.tnil (Syntax.ttcons (Syntax.tcons (Syntax.tyInt Syntax.w64)
       Syntax.tnil) (Syntax.ttcons (Syntax.tcons (Syntax.tyInt Syntax.w64) Syntax.tnil) (Syntax.ttcons Syntax.tnil (Syntax.ttcons (Syntax.tcons (Syntax.tyInt Syntax.w64) (Syntax.tcons (Syntax.tyInt
-      Syntax.w64) Syntax.tnil)) (Syntax.ttcons (Syntax.tcons (Syntax.tyInt Syntax.w64) Syntax.tnil) (Syntax.ttcons Syntax.tnil Syntax.ttnil))))))))))))))))) Syntax.tnil) Syntax.ttnil))),
+      Syntax.w64) Syntax.tnil)) (Syntax.ttcons (Syntax.tcons (Syntax.tyInt Syntax.w64) Syntax.tnil) (Syntax.ttcons Syntax.tnil (Syntax.ttcons Syntax.tnil (Syntax.ttcons (Syntax.tcons (Syntax.tyInt
+      Syntax.w64) Syntax.tnil) (Syntax.ttcons (Syntax.tcons (Syntax.tyInt Syntax.w64) Syntax.tnil) (Syntax.ttcons (Syntax.tcons (Syntax.tyInt Syntax.w64) Syntax.tnil) (Syntax.ttcons Syntax.tnil
+      Syntax.ttnil)))))))))))))))))))))) Syntax.tnil) Syntax.ttnil))),
 ) (List._∷_ (
   1,
-  Rows.sslice (Referent.rtF (Referent.fInt Syntax.w16)) (Syntax.tyRef (Syntax.named 0) Syntax.imm (Syntax.tyInt Syntax.w16)) 0,
-) (List._∷_ (
-  2,
-  Mut.mslice (Referent.rtF (Referent.fInt Syntax.w8))
-      (Syntax.tyRef (Syntax.named 1) Syntax.mut (Syntax.tyInt Syntax.w8)) 1,
-) (List._∷_ (
+  Rows.sslice (Referent.rtF (Referent.fInt Syntax.w16)) (Syntax.tyRef (Syntax.named 0) Syntax.imm (Syntax.tyInt
+      Syntax.w16)) 0,
+) (List._∷_ (2, Mut.mslice (Referent.rtF (Referent.fInt Syntax.w8)) (Syntax.tyRef (Syntax.named 1) Syntax.mut (Syntax.tyInt Syntax.w8)) 1) (List._∷_ (
   3,
-  Mut.mslice (Referent.rtF (Referent.fInt Syntax.w16)) (Syntax.tyRef (Syntax.named 2) Syntax.mut (Syntax.tyInt
-      Syntax.w16)) 2,
-) (List._∷_ (4, Mut.mslice (Element.type) (Syntax.tyRef (Syntax.named 3) Syntax.mut Element.behind) 3) (List._∷_ (5, Rows.whole (Declared'.row Form.the-type)) (List._∷_ (
-  6,
-  Rows.sc-here (Row.sInt Syntax.w64),
-) (List._∷_ (7, Rows.sc-here (Row.sInt Syntax.w32)) (List._∷_ (8, Rows.sc-here (Row.sInt Syntax.w64)) (List._∷_ (9, Rows.any-gone (Syntax.tyInt Syntax.w64))
-    (List._∷_ (10, Rows.any-gone Syntax.tyBool) (List._∷_ (11, Rows.any-gone Syntax.tyUnit) (List._∷_ (12, Rows.any-gone (Syntax.tyRef Syntax.erased Syntax.mut (Syntax.tyInt Syntax.w16))) (List._∷_ (
-      13,
-      Rows.any-gone (Syntax.tyStruct (List._∷_ 38 (List._∷_ 91 (List._∷_ 93 List.[]))) (Syntax.tcons (Syntax.tyRef Syntax.erased Syntax.mut (Syntax.tyInt Syntax.w16)) (Syntax.tcons (Syntax.tyInt
-          Syntax.w64) Syntax.tnil))),
-    ) (List._∷_ (14, Rows.any-gone (Syntax.tyRef Syntax.erased Syntax.mut Element.behind)) (List._∷_ (
+  Mut.mslice (Referent.rtF
+      (Referent.fInt Syntax.w16)) (Syntax.tyRef (Syntax.named 2) Syntax.mut (Syntax.tyInt Syntax.w16)) 2,
+) (List._∷_ (
+  4,
+  Mut.mslice (Element.type) (Syntax.tyRef (Syntax.named 3) Syntax.mut Element.behind)
+      3,
+) (List._∷_ (5, Rows.whole (Declared'.row Form.the-type)) (List._∷_ (6, Rows.sc-here (Row.sInt Syntax.w64)) (List._∷_ (7, Rows.sc-here (Row.sInt Syntax.w32)) (List._∷_ (
+  8,
+  Rows.sc-here
+      (Row.sInt Syntax.w64),
+) (List._∷_ (9, Rows.any-gone (Syntax.tyInt Syntax.w64)) (List._∷_ (10, Rows.any-gone Syntax.tyBool) (List._∷_ (11, Rows.any-gone Syntax.tyUnit) (List._∷_ (
+  12,
+  Rows.any-gone
+      (Syntax.tyRef Syntax.erased Syntax.mut (Syntax.tyInt Syntax.w16)),
+) (List._∷_ (
+  13,
+  Rows.any-gone (Syntax.tyStruct (List._∷_ 38 (List._∷_ 91 (List._∷_ 93 List.[]))) (Syntax.tcons (Syntax.tyRef
+      Syntax.erased Syntax.mut (Syntax.tyInt Syntax.w16)) (Syntax.tcons (Syntax.tyInt Syntax.w64) Syntax.tnil))),
+) (List._∷_ (14, Rows.any-gone (Syntax.tyRef Syntax.erased Syntax.mut Element.behind))
+    (List._∷_ (
       15,
-      Rows.any-gone (Syntax.tyStruct (List._∷_ 38 (List._∷_ 91 (List._∷_
-          93 List.[]))) (Syntax.tcons (Syntax.tyRef Syntax.erased Syntax.mut Element.behind) (Syntax.tcons (Syntax.tyInt Syntax.w64) Syntax.tnil))),
+      Rows.any-gone (Syntax.tyStruct (List._∷_ 38 (List._∷_ 91 (List._∷_ 93 List.[]))) (Syntax.tcons (Syntax.tyRef Syntax.erased Syntax.mut Element.behind) (Syntax.tcons (Syntax.tyInt
+          Syntax.w64) Syntax.tnil))),
     ) List.[])))))))))))))))
 
 abbrev pub t5 : List.List Row.Entry
@@ -516,30 +540,38 @@ t5 = List._∷_ (
       List.[]))))))))))))))) (Syntax.ttcons Syntax.tnil (Syntax.ttcons Syntax.tnil (Syntax.ttcons Syntax.tnil (Syntax.ttcons (Syntax.tcons (Syntax.tyInt Syntax.w64) Syntax.tnil) (Syntax.ttcons Syntax.tnil
       (Syntax.ttcons Syntax.tnil (Syntax.ttcons Syntax.tnil (Syntax.ttcons Syntax.tnil (Syntax.ttcons Syntax.tnil (Syntax.ttcons Syntax.tnil (Syntax.ttcons (Syntax.tcons (Syntax.tyInt Syntax.w64)
       Syntax.tnil) (Syntax.ttcons (Syntax.tcons (Syntax.tyInt Syntax.w64) Syntax.tnil) (Syntax.ttcons Syntax.tnil (Syntax.ttcons (Syntax.tcons (Syntax.tyInt Syntax.w64) (Syntax.tcons (Syntax.tyInt
-      Syntax.w64) Syntax.tnil)) (Syntax.ttcons (Syntax.tcons (Syntax.tyInt Syntax.w64) Syntax.tnil) (Syntax.ttcons Syntax.tnil Syntax.ttnil))))))))))))))))) Syntax.tnil) Syntax.ttnil))),
+      Syntax.w64) Syntax.tnil)) (Syntax.ttcons (Syntax.tcons (Syntax.tyInt Syntax.w64) Syntax.tnil) (Syntax.ttcons Syntax.tnil (Syntax.ttcons Syntax.tnil (Syntax.ttcons (Syntax.tcons (Syntax.tyInt
+      Syntax.w64) Syntax.tnil) (Syntax.ttcons (Syntax.tcons (Syntax.tyInt Syntax.w64) Syntax.tnil) (Syntax.ttcons (Syntax.tcons (Syntax.tyInt Syntax.w64) Syntax.tnil) (Syntax.ttcons Syntax.tnil
+      Syntax.ttnil)))))))))))))))))))))) Syntax.tnil) Syntax.ttnil))),
 ) (List._∷_ (
   1,
-  Rows.sslice (Referent.rtF (Referent.fInt Syntax.w16)) (Syntax.tyRef (Syntax.named 0) Syntax.imm (Syntax.tyInt Syntax.w16)) 0,
-) (List._∷_ (
-  2,
-  Mut.mslice (Referent.rtF (Referent.fInt Syntax.w8))
-      (Syntax.tyRef (Syntax.named 1) Syntax.mut (Syntax.tyInt Syntax.w8)) 1,
-) (List._∷_ (
+  Rows.sslice (Referent.rtF (Referent.fInt Syntax.w16)) (Syntax.tyRef (Syntax.named 0) Syntax.imm (Syntax.tyInt
+      Syntax.w16)) 0,
+) (List._∷_ (2, Mut.mslice (Referent.rtF (Referent.fInt Syntax.w8)) (Syntax.tyRef (Syntax.named 1) Syntax.mut (Syntax.tyInt Syntax.w8)) 1) (List._∷_ (
   3,
-  Mut.mslice (Referent.rtF (Referent.fInt Syntax.w16)) (Syntax.tyRef (Syntax.named 2) Syntax.mut (Syntax.tyInt
-      Syntax.w16)) 2,
-) (List._∷_ (4, Mut.mslice (Element.type) (Syntax.tyRef (Syntax.named 3) Syntax.mut Element.behind) 3) (List._∷_ (5, Rows.whole (Declared'.row Form.the-type)) (List._∷_ (
-  6,
-  Rows.sc-here (Row.sInt Syntax.w64),
-) (List._∷_ (7, Rows.sc-here (Row.sInt Syntax.w32)) (List._∷_ (8, Rows.sc-here (Row.sInt Syntax.w64)) (List._∷_ (9, Rows.sc-here (Row.sInt Syntax.w64)) (List._∷_
-    (10, Rows.any-gone Syntax.tyBool) (List._∷_ (11, Rows.any-gone Syntax.tyUnit) (List._∷_ (12, Rows.any-gone (Syntax.tyRef Syntax.erased Syntax.mut (Syntax.tyInt Syntax.w16))) (List._∷_ (
-      13,
-      Rows.any-gone (Syntax.tyStruct (List._∷_ 38 (List._∷_ 91 (List._∷_ 93 List.[]))) (Syntax.tcons (Syntax.tyRef Syntax.erased Syntax.mut (Syntax.tyInt Syntax.w16)) (Syntax.tcons (Syntax.tyInt Syntax.w64)
-          Syntax.tnil))),
-    ) (List._∷_ (14, Rows.any-gone (Syntax.tyRef Syntax.erased Syntax.mut Element.behind)) (List._∷_ (
+  Mut.mslice (Referent.rtF
+      (Referent.fInt Syntax.w16)) (Syntax.tyRef (Syntax.named 2) Syntax.mut (Syntax.tyInt Syntax.w16)) 2,
+) (List._∷_ (
+  4,
+  Mut.mslice (Element.type) (Syntax.tyRef (Syntax.named 3) Syntax.mut Element.behind)
+      3,
+) (List._∷_ (5, Rows.whole (Declared'.row Form.the-type)) (List._∷_ (6, Rows.sc-here (Row.sInt Syntax.w64)) (List._∷_ (7, Rows.sc-here (Row.sInt Syntax.w32)) (List._∷_ (
+  8,
+  Rows.sc-here
+      (Row.sInt Syntax.w64),
+) (List._∷_ (9, Rows.sc-here (Row.sInt Syntax.w64)) (List._∷_ (10, Rows.any-gone Syntax.tyBool) (List._∷_ (11, Rows.any-gone Syntax.tyUnit) (List._∷_ (
+  12,
+  Rows.any-gone
+      (Syntax.tyRef Syntax.erased Syntax.mut (Syntax.tyInt Syntax.w16)),
+) (List._∷_ (
+  13,
+  Rows.any-gone (Syntax.tyStruct (List._∷_ 38 (List._∷_ 91 (List._∷_ 93 List.[]))) (Syntax.tcons (Syntax.tyRef
+      Syntax.erased Syntax.mut (Syntax.tyInt Syntax.w16)) (Syntax.tcons (Syntax.tyInt Syntax.w64) Syntax.tnil))),
+) (List._∷_ (14, Rows.any-gone (Syntax.tyRef Syntax.erased Syntax.mut Element.behind))
+    (List._∷_ (
       15,
-      Rows.any-gone (Syntax.tyStruct (List._∷_ 38 (List._∷_ 91 (List._∷_ 93
-          List.[]))) (Syntax.tcons (Syntax.tyRef Syntax.erased Syntax.mut Element.behind) (Syntax.tcons (Syntax.tyInt Syntax.w64) Syntax.tnil))),
+      Rows.any-gone (Syntax.tyStruct (List._∷_ 38 (List._∷_ 91 (List._∷_ 93 List.[]))) (Syntax.tcons (Syntax.tyRef Syntax.erased Syntax.mut Element.behind) (Syntax.tcons (Syntax.tyInt
+          Syntax.w64) Syntax.tnil))),
     ) List.[])))))))))))))))
 
 abbrev pub t6 : List.List Row.Entry
@@ -551,30 +583,38 @@ t6 = List._∷_ (
       List.[]))))))))))))))) (Syntax.ttcons Syntax.tnil (Syntax.ttcons Syntax.tnil (Syntax.ttcons Syntax.tnil (Syntax.ttcons (Syntax.tcons (Syntax.tyInt Syntax.w64) Syntax.tnil) (Syntax.ttcons Syntax.tnil
       (Syntax.ttcons Syntax.tnil (Syntax.ttcons Syntax.tnil (Syntax.ttcons Syntax.tnil (Syntax.ttcons Syntax.tnil (Syntax.ttcons Syntax.tnil (Syntax.ttcons (Syntax.tcons (Syntax.tyInt Syntax.w64)
       Syntax.tnil) (Syntax.ttcons (Syntax.tcons (Syntax.tyInt Syntax.w64) Syntax.tnil) (Syntax.ttcons Syntax.tnil (Syntax.ttcons (Syntax.tcons (Syntax.tyInt Syntax.w64) (Syntax.tcons (Syntax.tyInt
-      Syntax.w64) Syntax.tnil)) (Syntax.ttcons (Syntax.tcons (Syntax.tyInt Syntax.w64) Syntax.tnil) (Syntax.ttcons Syntax.tnil Syntax.ttnil))))))))))))))))) Syntax.tnil) Syntax.ttnil))),
+      Syntax.w64) Syntax.tnil)) (Syntax.ttcons (Syntax.tcons (Syntax.tyInt Syntax.w64) Syntax.tnil) (Syntax.ttcons Syntax.tnil (Syntax.ttcons Syntax.tnil (Syntax.ttcons (Syntax.tcons (Syntax.tyInt
+      Syntax.w64) Syntax.tnil) (Syntax.ttcons (Syntax.tcons (Syntax.tyInt Syntax.w64) Syntax.tnil) (Syntax.ttcons (Syntax.tcons (Syntax.tyInt Syntax.w64) Syntax.tnil) (Syntax.ttcons Syntax.tnil
+      Syntax.ttnil)))))))))))))))))))))) Syntax.tnil) Syntax.ttnil))),
 ) (List._∷_ (
   1,
-  Rows.sslice (Referent.rtF (Referent.fInt Syntax.w16)) (Syntax.tyRef (Syntax.named 0) Syntax.imm (Syntax.tyInt Syntax.w16)) 0,
-) (List._∷_ (
-  2,
-  Mut.mslice (Referent.rtF (Referent.fInt Syntax.w8))
-      (Syntax.tyRef (Syntax.named 1) Syntax.mut (Syntax.tyInt Syntax.w8)) 1,
-) (List._∷_ (
+  Rows.sslice (Referent.rtF (Referent.fInt Syntax.w16)) (Syntax.tyRef (Syntax.named 0) Syntax.imm (Syntax.tyInt
+      Syntax.w16)) 0,
+) (List._∷_ (2, Mut.mslice (Referent.rtF (Referent.fInt Syntax.w8)) (Syntax.tyRef (Syntax.named 1) Syntax.mut (Syntax.tyInt Syntax.w8)) 1) (List._∷_ (
   3,
-  Mut.mslice (Referent.rtF (Referent.fInt Syntax.w16)) (Syntax.tyRef (Syntax.named 2) Syntax.mut (Syntax.tyInt
-      Syntax.w16)) 2,
-) (List._∷_ (4, Mut.mslice (Element.type) (Syntax.tyRef (Syntax.named 3) Syntax.mut Element.behind) 3) (List._∷_ (5, Rows.whole (Declared'.row Form.the-type)) (List._∷_ (
-  6,
-  Rows.sc-here (Row.sInt Syntax.w64),
-) (List._∷_ (7, Rows.sc-here (Row.sInt Syntax.w32)) (List._∷_ (8, Rows.sc-here (Row.sInt Syntax.w64)) (List._∷_ (9, Rows.sc-here (Row.sInt Syntax.w64)) (List._∷_
-    (10, Rows.sc-here Row.sBool) (List._∷_ (11, Rows.any-gone Syntax.tyUnit) (List._∷_ (12, Rows.any-gone (Syntax.tyRef Syntax.erased Syntax.mut (Syntax.tyInt Syntax.w16))) (List._∷_ (
-      13,
-      Rows.any-gone (Syntax.tyStruct (List._∷_ 38 (List._∷_ 91 (List._∷_ 93 List.[]))) (Syntax.tcons (Syntax.tyRef Syntax.erased Syntax.mut (Syntax.tyInt Syntax.w16)) (Syntax.tcons (Syntax.tyInt Syntax.w64)
-          Syntax.tnil))),
-    ) (List._∷_ (14, Rows.any-gone (Syntax.tyRef Syntax.erased Syntax.mut Element.behind)) (List._∷_ (
+  Mut.mslice (Referent.rtF
+      (Referent.fInt Syntax.w16)) (Syntax.tyRef (Syntax.named 2) Syntax.mut (Syntax.tyInt Syntax.w16)) 2,
+) (List._∷_ (
+  4,
+  Mut.mslice (Element.type) (Syntax.tyRef (Syntax.named 3) Syntax.mut Element.behind)
+      3,
+) (List._∷_ (5, Rows.whole (Declared'.row Form.the-type)) (List._∷_ (6, Rows.sc-here (Row.sInt Syntax.w64)) (List._∷_ (7, Rows.sc-here (Row.sInt Syntax.w32)) (List._∷_ (
+  8,
+  Rows.sc-here
+      (Row.sInt Syntax.w64),
+) (List._∷_ (9, Rows.sc-here (Row.sInt Syntax.w64)) (List._∷_ (10, Rows.sc-here Row.sBool) (List._∷_ (11, Rows.any-gone Syntax.tyUnit) (List._∷_ (
+  12,
+  Rows.any-gone
+      (Syntax.tyRef Syntax.erased Syntax.mut (Syntax.tyInt Syntax.w16)),
+) (List._∷_ (
+  13,
+  Rows.any-gone (Syntax.tyStruct (List._∷_ 38 (List._∷_ 91 (List._∷_ 93 List.[]))) (Syntax.tcons (Syntax.tyRef
+      Syntax.erased Syntax.mut (Syntax.tyInt Syntax.w16)) (Syntax.tcons (Syntax.tyInt Syntax.w64) Syntax.tnil))),
+) (List._∷_ (14, Rows.any-gone (Syntax.tyRef Syntax.erased Syntax.mut Element.behind))
+    (List._∷_ (
       15,
-      Rows.any-gone (Syntax.tyStruct (List._∷_ 38 (List._∷_ 91 (List._∷_ 93
-          List.[]))) (Syntax.tcons (Syntax.tyRef Syntax.erased Syntax.mut Element.behind) (Syntax.tcons (Syntax.tyInt Syntax.w64) Syntax.tnil))),
+      Rows.any-gone (Syntax.tyStruct (List._∷_ 38 (List._∷_ 91 (List._∷_ 93 List.[]))) (Syntax.tcons (Syntax.tyRef Syntax.erased Syntax.mut Element.behind) (Syntax.tcons (Syntax.tyInt
+          Syntax.w64) Syntax.tnil))),
     ) List.[])))))))))))))))
 
 abbrev pub t7 : List.List Row.Entry
@@ -586,30 +626,38 @@ t7 = List._∷_ (
       List.[]))))))))))))))) (Syntax.ttcons Syntax.tnil (Syntax.ttcons Syntax.tnil (Syntax.ttcons Syntax.tnil (Syntax.ttcons (Syntax.tcons (Syntax.tyInt Syntax.w64) Syntax.tnil) (Syntax.ttcons Syntax.tnil
       (Syntax.ttcons Syntax.tnil (Syntax.ttcons Syntax.tnil (Syntax.ttcons Syntax.tnil (Syntax.ttcons Syntax.tnil (Syntax.ttcons Syntax.tnil (Syntax.ttcons (Syntax.tcons (Syntax.tyInt Syntax.w64)
       Syntax.tnil) (Syntax.ttcons (Syntax.tcons (Syntax.tyInt Syntax.w64) Syntax.tnil) (Syntax.ttcons Syntax.tnil (Syntax.ttcons (Syntax.tcons (Syntax.tyInt Syntax.w64) (Syntax.tcons (Syntax.tyInt
-      Syntax.w64) Syntax.tnil)) (Syntax.ttcons (Syntax.tcons (Syntax.tyInt Syntax.w64) Syntax.tnil) (Syntax.ttcons Syntax.tnil Syntax.ttnil))))))))))))))))) Syntax.tnil) Syntax.ttnil))),
+      Syntax.w64) Syntax.tnil)) (Syntax.ttcons (Syntax.tcons (Syntax.tyInt Syntax.w64) Syntax.tnil) (Syntax.ttcons Syntax.tnil (Syntax.ttcons Syntax.tnil (Syntax.ttcons (Syntax.tcons (Syntax.tyInt
+      Syntax.w64) Syntax.tnil) (Syntax.ttcons (Syntax.tcons (Syntax.tyInt Syntax.w64) Syntax.tnil) (Syntax.ttcons (Syntax.tcons (Syntax.tyInt Syntax.w64) Syntax.tnil) (Syntax.ttcons Syntax.tnil
+      Syntax.ttnil)))))))))))))))))))))) Syntax.tnil) Syntax.ttnil))),
 ) (List._∷_ (
   1,
-  Rows.sslice (Referent.rtF (Referent.fInt Syntax.w16)) (Syntax.tyRef (Syntax.named 0) Syntax.imm (Syntax.tyInt Syntax.w16)) 0,
-) (List._∷_ (
-  2,
-  Mut.mslice (Referent.rtF (Referent.fInt Syntax.w8))
-      (Syntax.tyRef (Syntax.named 1) Syntax.mut (Syntax.tyInt Syntax.w8)) 1,
-) (List._∷_ (
+  Rows.sslice (Referent.rtF (Referent.fInt Syntax.w16)) (Syntax.tyRef (Syntax.named 0) Syntax.imm (Syntax.tyInt
+      Syntax.w16)) 0,
+) (List._∷_ (2, Mut.mslice (Referent.rtF (Referent.fInt Syntax.w8)) (Syntax.tyRef (Syntax.named 1) Syntax.mut (Syntax.tyInt Syntax.w8)) 1) (List._∷_ (
   3,
-  Mut.mslice (Referent.rtF (Referent.fInt Syntax.w16)) (Syntax.tyRef (Syntax.named 2) Syntax.mut (Syntax.tyInt
-      Syntax.w16)) 2,
-) (List._∷_ (4, Mut.mslice (Element.type) (Syntax.tyRef (Syntax.named 3) Syntax.mut Element.behind) 3) (List._∷_ (5, Rows.whole (Declared'.row Form.the-type)) (List._∷_ (
-  6,
-  Rows.sc-here (Row.sInt Syntax.w64),
-) (List._∷_ (7, Rows.sc-here (Row.sInt Syntax.w32)) (List._∷_ (8, Rows.sc-here (Row.sInt Syntax.w64)) (List._∷_ (9, Rows.any-gone (Syntax.tyInt Syntax.w64))
-    (List._∷_ (10, Rows.sc-here Row.sBool) (List._∷_ (11, Rows.any-gone Syntax.tyUnit) (List._∷_ (12, Rows.any-gone (Syntax.tyRef Syntax.erased Syntax.mut (Syntax.tyInt Syntax.w16))) (List._∷_ (
-      13,
-      Rows.any-gone (Syntax.tyStruct (List._∷_ 38 (List._∷_ 91 (List._∷_ 93 List.[]))) (Syntax.tcons (Syntax.tyRef Syntax.erased Syntax.mut (Syntax.tyInt Syntax.w16)) (Syntax.tcons (Syntax.tyInt Syntax.w64)
-          Syntax.tnil))),
-    ) (List._∷_ (14, Rows.any-gone (Syntax.tyRef Syntax.erased Syntax.mut Element.behind)) (List._∷_ (
+  Mut.mslice (Referent.rtF
+      (Referent.fInt Syntax.w16)) (Syntax.tyRef (Syntax.named 2) Syntax.mut (Syntax.tyInt Syntax.w16)) 2,
+) (List._∷_ (
+  4,
+  Mut.mslice (Element.type) (Syntax.tyRef (Syntax.named 3) Syntax.mut Element.behind)
+      3,
+) (List._∷_ (5, Rows.whole (Declared'.row Form.the-type)) (List._∷_ (6, Rows.sc-here (Row.sInt Syntax.w64)) (List._∷_ (7, Rows.sc-here (Row.sInt Syntax.w32)) (List._∷_ (
+  8,
+  Rows.sc-here
+      (Row.sInt Syntax.w64),
+) (List._∷_ (9, Rows.any-gone (Syntax.tyInt Syntax.w64)) (List._∷_ (10, Rows.sc-here Row.sBool) (List._∷_ (11, Rows.any-gone Syntax.tyUnit) (List._∷_ (
+  12,
+  Rows.any-gone
+      (Syntax.tyRef Syntax.erased Syntax.mut (Syntax.tyInt Syntax.w16)),
+) (List._∷_ (
+  13,
+  Rows.any-gone (Syntax.tyStruct (List._∷_ 38 (List._∷_ 91 (List._∷_ 93 List.[]))) (Syntax.tcons (Syntax.tyRef
+      Syntax.erased Syntax.mut (Syntax.tyInt Syntax.w16)) (Syntax.tcons (Syntax.tyInt Syntax.w64) Syntax.tnil))),
+) (List._∷_ (14, Rows.any-gone (Syntax.tyRef Syntax.erased Syntax.mut Element.behind))
+    (List._∷_ (
       15,
-      Rows.any-gone (Syntax.tyStruct (List._∷_ 38 (List._∷_ 91 (List._∷_ 93
-          List.[]))) (Syntax.tcons (Syntax.tyRef Syntax.erased Syntax.mut Element.behind) (Syntax.tcons (Syntax.tyInt Syntax.w64) Syntax.tnil))),
+      Rows.any-gone (Syntax.tyStruct (List._∷_ 38 (List._∷_ 91 (List._∷_ 93 List.[]))) (Syntax.tcons (Syntax.tyRef Syntax.erased Syntax.mut Element.behind) (Syntax.tcons (Syntax.tyInt
+          Syntax.w64) Syntax.tnil))),
     ) List.[])))))))))))))))
 
 abbrev pub t8 : List.List Row.Entry
@@ -621,120 +669,34 @@ t8 = List._∷_ (
       List.[]))))))))))))))) (Syntax.ttcons Syntax.tnil (Syntax.ttcons Syntax.tnil (Syntax.ttcons Syntax.tnil (Syntax.ttcons (Syntax.tcons (Syntax.tyInt Syntax.w64) Syntax.tnil) (Syntax.ttcons Syntax.tnil
       (Syntax.ttcons Syntax.tnil (Syntax.ttcons Syntax.tnil (Syntax.ttcons Syntax.tnil (Syntax.ttcons Syntax.tnil (Syntax.ttcons Syntax.tnil (Syntax.ttcons (Syntax.tcons (Syntax.tyInt Syntax.w64)
       Syntax.tnil) (Syntax.ttcons (Syntax.tcons (Syntax.tyInt Syntax.w64) Syntax.tnil) (Syntax.ttcons Syntax.tnil (Syntax.ttcons (Syntax.tcons (Syntax.tyInt Syntax.w64) (Syntax.tcons (Syntax.tyInt
-      Syntax.w64) Syntax.tnil)) (Syntax.ttcons (Syntax.tcons (Syntax.tyInt Syntax.w64) Syntax.tnil) (Syntax.ttcons Syntax.tnil Syntax.ttnil))))))))))))))))) Syntax.tnil) Syntax.ttnil))),
+      Syntax.w64) Syntax.tnil)) (Syntax.ttcons (Syntax.tcons (Syntax.tyInt Syntax.w64) Syntax.tnil) (Syntax.ttcons Syntax.tnil (Syntax.ttcons Syntax.tnil (Syntax.ttcons (Syntax.tcons (Syntax.tyInt
+      Syntax.w64) Syntax.tnil) (Syntax.ttcons (Syntax.tcons (Syntax.tyInt Syntax.w64) Syntax.tnil) (Syntax.ttcons (Syntax.tcons (Syntax.tyInt Syntax.w64) Syntax.tnil) (Syntax.ttcons Syntax.tnil
+      Syntax.ttnil)))))))))))))))))))))) Syntax.tnil) Syntax.ttnil))),
 ) (List._∷_ (
   1,
-  Rows.sslice (Referent.rtF (Referent.fInt Syntax.w16)) (Syntax.tyRef (Syntax.named 0) Syntax.imm (Syntax.tyInt Syntax.w16)) 0,
-) (List._∷_ (
-  2,
-  Mut.mslice (Referent.rtF (Referent.fInt Syntax.w8))
-      (Syntax.tyRef (Syntax.named 1) Syntax.mut (Syntax.tyInt Syntax.w8)) 1,
-) (List._∷_ (
+  Rows.sslice (Referent.rtF (Referent.fInt Syntax.w16)) (Syntax.tyRef (Syntax.named 0) Syntax.imm (Syntax.tyInt
+      Syntax.w16)) 0,
+) (List._∷_ (2, Mut.mslice (Referent.rtF (Referent.fInt Syntax.w8)) (Syntax.tyRef (Syntax.named 1) Syntax.mut (Syntax.tyInt Syntax.w8)) 1) (List._∷_ (
   3,
-  Mut.mslice (Referent.rtF (Referent.fInt Syntax.w16)) (Syntax.tyRef (Syntax.named 2) Syntax.mut (Syntax.tyInt
-      Syntax.w16)) 2,
-) (List._∷_ (4, Mut.mslice (Element.type) (Syntax.tyRef (Syntax.named 3) Syntax.mut Element.behind) 3) (List._∷_ (
+  Mut.mslice (Referent.rtF
+      (Referent.fInt Syntax.w16)) (Syntax.tyRef (Syntax.named 2) Syntax.mut (Syntax.tyInt Syntax.w16)) 2,
+) (List._∷_ (
+  4,
+  Mut.mslice (Element.type) (Syntax.tyRef (Syntax.named 3) Syntax.mut Element.behind)
+      3,
+) (List._∷_ (
   5,
-  Rows.any-gone (Syntax.tyStruct (List._∷_ 98 (List._∷_ 108
-      (List._∷_ 111 (List._∷_ 99 (List._∷_ 107 (List._∷_ 58 (List._∷_ 58 (List._∷_ 70 (List._∷_ 111 (List._∷_ 114 (List._∷_ 109 List.[]))))))))))) (Syntax.tcons (Syntax.tyInt Syntax.w32) (Syntax.tcons
-      Syntax.tyBool Syntax.tnil))),
-) (List._∷_ (6, Rows.sc-here (Row.sInt Syntax.w64)) (List._∷_ (7, Rows.sc-here (Row.sInt Syntax.w32)) (List._∷_ (8, Rows.sc-here (Row.sInt Syntax.w64)) (List._∷_ (
-  9,
-  Rows.any-gone (Syntax.tyInt Syntax.w64),
-) (List._∷_ (10, Rows.sc-here Row.sBool) (List._∷_ (11, Rows.any-gone Syntax.tyUnit) (List._∷_ (
-  12,
-  Rows.any-gone (Syntax.tyRef Syntax.erased Syntax.mut
-      (Syntax.tyInt Syntax.w16)),
-) (List._∷_ (
-  13,
-  Rows.any-gone (Syntax.tyStruct (List._∷_ 38 (List._∷_ 91 (List._∷_ 93 List.[]))) (Syntax.tcons (Syntax.tyRef Syntax.erased Syntax.mut (Syntax.tyInt
-      Syntax.w16)) (Syntax.tcons (Syntax.tyInt Syntax.w64) Syntax.tnil))),
-) (List._∷_ (14, Rows.any-gone (Syntax.tyRef Syntax.erased Syntax.mut Element.behind)) (List._∷_ (
-  15,
-  Rows.any-gone
-      (Syntax.tyStruct (List._∷_ 38 (List._∷_ 91 (List._∷_ 93 List.[]))) (Syntax.tcons (Syntax.tyRef Syntax.erased Syntax.mut Element.behind) (Syntax.tcons (Syntax.tyInt Syntax.w64) Syntax.tnil))),
-)
-    List.[])))))))))))))))
-
-abbrev pub t9 : List.List Row.Entry
-t9 = List._∷_ (
-  0,
-  Rows.any-gone (Syntax.tyEnum (List._∷_ 98 (List._∷_ 108 (List._∷_ 111 (List._∷_ 99 (List._∷_ 107 (List._∷_ 58 (List._∷_ 58 (List._∷_ 87 (List._∷_ 114 (List._∷_ 105 (List._∷_ 116
-      (List._∷_ 116 (List._∷_ 101 (List._∷_ 110 List.[])))))))))))))) (Syntax.ttcons (Syntax.tcons (Syntax.tyInt Syntax.w64) Syntax.tnil) (Syntax.ttcons (Syntax.tcons (Syntax.tyEnum (List._∷_ 115 (List._∷_
-      116 (List._∷_ 114 (List._∷_ 101 (List._∷_ 97 (List._∷_ 109 (List._∷_ 58 (List._∷_ 58 (List._∷_ 82 (List._∷_ 101 (List._∷_ 102 (List._∷_ 117 (List._∷_ 115 (List._∷_ 97 (List._∷_ 108
-      List.[]))))))))))))))) (Syntax.ttcons Syntax.tnil (Syntax.ttcons Syntax.tnil (Syntax.ttcons Syntax.tnil (Syntax.ttcons (Syntax.tcons (Syntax.tyInt Syntax.w64) Syntax.tnil) (Syntax.ttcons Syntax.tnil
-      (Syntax.ttcons Syntax.tnil (Syntax.ttcons Syntax.tnil (Syntax.ttcons Syntax.tnil (Syntax.ttcons Syntax.tnil (Syntax.ttcons Syntax.tnil (Syntax.ttcons (Syntax.tcons (Syntax.tyInt Syntax.w64)
-      Syntax.tnil) (Syntax.ttcons (Syntax.tcons (Syntax.tyInt Syntax.w64) Syntax.tnil) (Syntax.ttcons Syntax.tnil (Syntax.ttcons (Syntax.tcons (Syntax.tyInt Syntax.w64) (Syntax.tcons (Syntax.tyInt
-      Syntax.w64) Syntax.tnil)) (Syntax.ttcons (Syntax.tcons (Syntax.tyInt Syntax.w64) Syntax.tnil) (Syntax.ttcons Syntax.tnil Syntax.ttnil))))))))))))))))) Syntax.tnil) Syntax.ttnil))),
-) (List._∷_ (
-  1,
-  Rows.sslice (Referent.rtF (Referent.fInt Syntax.w16)) (Syntax.tyRef (Syntax.named 0) Syntax.imm (Syntax.tyInt Syntax.w16)) 0,
-) (List._∷_ (
-  2,
-  Mut.mslice (Referent.rtF (Referent.fInt Syntax.w8))
-      (Syntax.tyRef (Syntax.named 1) Syntax.mut (Syntax.tyInt Syntax.w8)) 1,
-) (List._∷_ (
-  3,
-  Mut.mslice (Referent.rtF (Referent.fInt Syntax.w16)) (Syntax.tyRef (Syntax.named 2) Syntax.mut (Syntax.tyInt
-      Syntax.w16)) 2,
-) (List._∷_ (4, Mut.mslice (Element.type) (Syntax.tyRef (Syntax.named 3) Syntax.mut Element.behind) 3) (List._∷_ (
-  5,
-  Rows.any-gone (Syntax.tyStruct (List._∷_ 98 (List._∷_ 108
-      (List._∷_ 111 (List._∷_ 99 (List._∷_ 107 (List._∷_ 58 (List._∷_ 58 (List._∷_ 70 (List._∷_ 111 (List._∷_ 114 (List._∷_ 109 List.[]))))))))))) (Syntax.tcons (Syntax.tyInt Syntax.w32) (Syntax.tcons
-      Syntax.tyBool Syntax.tnil))),
-) (List._∷_ (6, Rows.sc-here (Row.sInt Syntax.w64)) (List._∷_ (7, Rows.sc-here (Row.sInt Syntax.w32)) (List._∷_ (8, Rows.sc-here (Row.sInt Syntax.w64)) (List._∷_ (
-  9,
-  Rows.any-gone (Syntax.tyInt Syntax.w64),
-) (List._∷_ (10, Rows.any-gone Syntax.tyBool) (List._∷_ (11, Rows.any-gone Syntax.tyUnit) (List._∷_ (
-  12,
-  Rows.any-gone (Syntax.tyRef Syntax.erased Syntax.mut
-      (Syntax.tyInt Syntax.w16)),
-) (List._∷_ (
-  13,
-  Rows.any-gone (Syntax.tyStruct (List._∷_ 38 (List._∷_ 91 (List._∷_ 93 List.[]))) (Syntax.tcons (Syntax.tyRef Syntax.erased Syntax.mut (Syntax.tyInt
-      Syntax.w16)) (Syntax.tcons (Syntax.tyInt Syntax.w64) Syntax.tnil))),
-) (List._∷_ (14, Rows.any-gone (Syntax.tyRef Syntax.erased Syntax.mut Element.behind)) (List._∷_ (
-  15,
-  Rows.any-gone
-      (Syntax.tyStruct (List._∷_ 38 (List._∷_ 91 (List._∷_ 93 List.[]))) (Syntax.tcons (Syntax.tyRef Syntax.erased Syntax.mut Element.behind) (Syntax.tcons (Syntax.tyInt Syntax.w64) Syntax.tnil))),
-)
-    List.[])))))))))))))))
-
-abbrev pub t10 : List.List Row.Entry
-t10 = List._∷_ (
-  0,
-  Rows.any-gone (Syntax.tyEnum (List._∷_ 98 (List._∷_ 108 (List._∷_ 111 (List._∷_ 99 (List._∷_ 107 (List._∷_ 58 (List._∷_ 58 (List._∷_ 87 (List._∷_ 114 (List._∷_ 105 (List._∷_ 116
-      (List._∷_ 116 (List._∷_ 101 (List._∷_ 110 List.[])))))))))))))) (Syntax.ttcons (Syntax.tcons (Syntax.tyInt Syntax.w64) Syntax.tnil) (Syntax.ttcons (Syntax.tcons (Syntax.tyEnum (List._∷_ 115 (List._∷_
-      116 (List._∷_ 114 (List._∷_ 101 (List._∷_ 97 (List._∷_ 109 (List._∷_ 58 (List._∷_ 58 (List._∷_ 82 (List._∷_ 101 (List._∷_ 102 (List._∷_ 117 (List._∷_ 115 (List._∷_ 97 (List._∷_ 108
-      List.[]))))))))))))))) (Syntax.ttcons Syntax.tnil (Syntax.ttcons Syntax.tnil (Syntax.ttcons Syntax.tnil (Syntax.ttcons (Syntax.tcons (Syntax.tyInt Syntax.w64) Syntax.tnil) (Syntax.ttcons Syntax.tnil
-      (Syntax.ttcons Syntax.tnil (Syntax.ttcons Syntax.tnil (Syntax.ttcons Syntax.tnil (Syntax.ttcons Syntax.tnil (Syntax.ttcons Syntax.tnil (Syntax.ttcons (Syntax.tcons (Syntax.tyInt Syntax.w64)
-      Syntax.tnil) (Syntax.ttcons (Syntax.tcons (Syntax.tyInt Syntax.w64) Syntax.tnil) (Syntax.ttcons Syntax.tnil (Syntax.ttcons (Syntax.tcons (Syntax.tyInt Syntax.w64) (Syntax.tcons (Syntax.tyInt
-      Syntax.w64) Syntax.tnil)) (Syntax.ttcons (Syntax.tcons (Syntax.tyInt Syntax.w64) Syntax.tnil) (Syntax.ttcons Syntax.tnil Syntax.ttnil))))))))))))))))) Syntax.tnil) Syntax.ttnil))),
-) (List._∷_ (
-  1,
-  Rows.sslice (Referent.rtF (Referent.fInt Syntax.w16)) (Syntax.tyRef (Syntax.named 0) Syntax.imm (Syntax.tyInt Syntax.w16)) 0,
-) (List._∷_ (
-  2,
-  Mut.mslice (Referent.rtF (Referent.fInt Syntax.w8))
-      (Syntax.tyRef (Syntax.named 1) Syntax.mut (Syntax.tyInt Syntax.w8)) 1,
-) (List._∷_ (
-  3,
-  Relend.mslice-owed (Referent.rtF (Referent.fInt Syntax.w16)) (Syntax.tyRef (Syntax.named 2) Syntax.mut
-      (Syntax.tyInt Syntax.w16)) 2 4 Row.off,
-) (List._∷_ (4, Mut.mslice (Element.type) (Syntax.tyRef (Syntax.named 3) Syntax.mut Element.behind) 3) (List._∷_ (
-  5,
-  Rows.any-gone (Syntax.tyStruct
-      (List._∷_ 98 (List._∷_ 108 (List._∷_ 111 (List._∷_ 99 (List._∷_ 107 (List._∷_ 58 (List._∷_ 58 (List._∷_ 70 (List._∷_ 111 (List._∷_ 114 (List._∷_ 109 List.[]))))))))))) (Syntax.tcons (Syntax.tyInt
-      Syntax.w32) (Syntax.tcons Syntax.tyBool Syntax.tnil))),
-) (List._∷_ (6, Rows.sc-here (Row.sInt Syntax.w64)) (List._∷_ (7, Rows.sc-here (Row.sInt Syntax.w32)) (List._∷_ (
-  8,
+  Rows.any-gone (Syntax.tyStruct (List._∷_ 98 (List._∷_ 108 (List._∷_ 111 (List._∷_ 99 (List._∷_ 107 (List._∷_ 58 (List._∷_ 58 (List._∷_ 70 (List._∷_ 111 (List._∷_ 114 (List._∷_ 109
+      List.[]))))))))))) (Syntax.tcons (Syntax.tyInt Syntax.w32) (Syntax.tcons Syntax.tyBool Syntax.tnil))),
+) (List._∷_ (6, Rows.sc-here (Row.sInt Syntax.w64)) (List._∷_ (
+  7,
   Rows.sc-here (Row.sInt
-      Syntax.w64),
-) (List._∷_ (9, Rows.any-gone (Syntax.tyInt Syntax.w64)) (List._∷_ (10, Rows.any-gone Syntax.tyBool) (List._∷_ (11, Rows.any-gone Syntax.tyUnit) (List._∷_ (
-  12,
-  Relend.msptr
-      (Referent.rtF (Referent.fInt Syntax.w16)) (Syntax.tyRef Syntax.erased Syntax.mut (Syntax.tyInt Syntax.w16)) 4,
-) (List._∷_ (
+      Syntax.w32),
+) (List._∷_ (8, Rows.sc-here (Row.sInt Syntax.w64)) (List._∷_ (9, Rows.any-gone (Syntax.tyInt Syntax.w64)) (List._∷_ (10, Rows.sc-here Row.sBool) (List._∷_ (
+  11,
+  Rows.any-gone
+      Syntax.tyUnit,
+) (List._∷_ (12, Rows.any-gone (Syntax.tyRef Syntax.erased Syntax.mut (Syntax.tyInt Syntax.w16))) (List._∷_ (
   13,
   Rows.any-gone (Syntax.tyStruct (List._∷_ 38 (List._∷_ 91 (List._∷_ 93
       List.[]))) (Syntax.tcons (Syntax.tyRef Syntax.erased Syntax.mut (Syntax.tyInt Syntax.w16)) (Syntax.tcons (Syntax.tyInt Syntax.w64) Syntax.tnil))),
@@ -748,6 +710,98 @@ t10 = List._∷_ (
       Element.behind) (Syntax.tcons (Syntax.tyInt Syntax.w64) Syntax.tnil))),
 ) List.[])))))))))))))))
 
+abbrev pub t9 : List.List Row.Entry
+t9 = List._∷_ (
+  0,
+  Rows.any-gone (Syntax.tyEnum (List._∷_ 98 (List._∷_ 108 (List._∷_ 111 (List._∷_ 99 (List._∷_ 107 (List._∷_ 58 (List._∷_ 58 (List._∷_ 87 (List._∷_ 114 (List._∷_ 105 (List._∷_ 116
+      (List._∷_ 116 (List._∷_ 101 (List._∷_ 110 List.[])))))))))))))) (Syntax.ttcons (Syntax.tcons (Syntax.tyInt Syntax.w64) Syntax.tnil) (Syntax.ttcons (Syntax.tcons (Syntax.tyEnum (List._∷_ 115 (List._∷_
+      116 (List._∷_ 114 (List._∷_ 101 (List._∷_ 97 (List._∷_ 109 (List._∷_ 58 (List._∷_ 58 (List._∷_ 82 (List._∷_ 101 (List._∷_ 102 (List._∷_ 117 (List._∷_ 115 (List._∷_ 97 (List._∷_ 108
+      List.[]))))))))))))))) (Syntax.ttcons Syntax.tnil (Syntax.ttcons Syntax.tnil (Syntax.ttcons Syntax.tnil (Syntax.ttcons (Syntax.tcons (Syntax.tyInt Syntax.w64) Syntax.tnil) (Syntax.ttcons Syntax.tnil
+      (Syntax.ttcons Syntax.tnil (Syntax.ttcons Syntax.tnil (Syntax.ttcons Syntax.tnil (Syntax.ttcons Syntax.tnil (Syntax.ttcons Syntax.tnil (Syntax.ttcons (Syntax.tcons (Syntax.tyInt Syntax.w64)
+      Syntax.tnil) (Syntax.ttcons (Syntax.tcons (Syntax.tyInt Syntax.w64) Syntax.tnil) (Syntax.ttcons Syntax.tnil (Syntax.ttcons (Syntax.tcons (Syntax.tyInt Syntax.w64) (Syntax.tcons (Syntax.tyInt
+      Syntax.w64) Syntax.tnil)) (Syntax.ttcons (Syntax.tcons (Syntax.tyInt Syntax.w64) Syntax.tnil) (Syntax.ttcons Syntax.tnil (Syntax.ttcons Syntax.tnil (Syntax.ttcons (Syntax.tcons (Syntax.tyInt
+      Syntax.w64) Syntax.tnil) (Syntax.ttcons (Syntax.tcons (Syntax.tyInt Syntax.w64) Syntax.tnil) (Syntax.ttcons (Syntax.tcons (Syntax.tyInt Syntax.w64) Syntax.tnil) (Syntax.ttcons Syntax.tnil
+      Syntax.ttnil)))))))))))))))))))))) Syntax.tnil) Syntax.ttnil))),
+) (List._∷_ (
+  1,
+  Rows.sslice (Referent.rtF (Referent.fInt Syntax.w16)) (Syntax.tyRef (Syntax.named 0) Syntax.imm (Syntax.tyInt
+      Syntax.w16)) 0,
+) (List._∷_ (2, Mut.mslice (Referent.rtF (Referent.fInt Syntax.w8)) (Syntax.tyRef (Syntax.named 1) Syntax.mut (Syntax.tyInt Syntax.w8)) 1) (List._∷_ (
+  3,
+  Mut.mslice (Referent.rtF
+      (Referent.fInt Syntax.w16)) (Syntax.tyRef (Syntax.named 2) Syntax.mut (Syntax.tyInt Syntax.w16)) 2,
+) (List._∷_ (
+  4,
+  Mut.mslice (Element.type) (Syntax.tyRef (Syntax.named 3) Syntax.mut Element.behind)
+      3,
+) (List._∷_ (
+  5,
+  Rows.any-gone (Syntax.tyStruct (List._∷_ 98 (List._∷_ 108 (List._∷_ 111 (List._∷_ 99 (List._∷_ 107 (List._∷_ 58 (List._∷_ 58 (List._∷_ 70 (List._∷_ 111 (List._∷_ 114 (List._∷_ 109
+      List.[]))))))))))) (Syntax.tcons (Syntax.tyInt Syntax.w32) (Syntax.tcons Syntax.tyBool Syntax.tnil))),
+) (List._∷_ (6, Rows.sc-here (Row.sInt Syntax.w64)) (List._∷_ (
+  7,
+  Rows.sc-here (Row.sInt
+      Syntax.w32),
+) (List._∷_ (8, Rows.sc-here (Row.sInt Syntax.w64)) (List._∷_ (9, Rows.any-gone (Syntax.tyInt Syntax.w64)) (List._∷_ (10, Rows.any-gone Syntax.tyBool) (List._∷_ (
+  11,
+  Rows.any-gone
+      Syntax.tyUnit,
+) (List._∷_ (12, Rows.any-gone (Syntax.tyRef Syntax.erased Syntax.mut (Syntax.tyInt Syntax.w16))) (List._∷_ (
+  13,
+  Rows.any-gone (Syntax.tyStruct (List._∷_ 38 (List._∷_ 91 (List._∷_ 93
+      List.[]))) (Syntax.tcons (Syntax.tyRef Syntax.erased Syntax.mut (Syntax.tyInt Syntax.w16)) (Syntax.tcons (Syntax.tyInt Syntax.w64) Syntax.tnil))),
+) (List._∷_ (
+  14,
+  Rows.any-gone (Syntax.tyRef
+      Syntax.erased Syntax.mut Element.behind),
+) (List._∷_ (
+  15,
+  Rows.any-gone (Syntax.tyStruct (List._∷_ 38 (List._∷_ 91 (List._∷_ 93 List.[]))) (Syntax.tcons (Syntax.tyRef Syntax.erased Syntax.mut
+      Element.behind) (Syntax.tcons (Syntax.tyInt Syntax.w64) Syntax.tnil))),
+) List.[])))))))))))))))
+
+abbrev pub t10 : List.List Row.Entry
+t10 = List._∷_ (
+  0,
+  Rows.any-gone (Syntax.tyEnum (List._∷_ 98 (List._∷_ 108 (List._∷_ 111 (List._∷_ 99 (List._∷_ 107 (List._∷_ 58 (List._∷_ 58 (List._∷_ 87 (List._∷_ 114 (List._∷_ 105 (List._∷_ 116
+      (List._∷_ 116 (List._∷_ 101 (List._∷_ 110 List.[])))))))))))))) (Syntax.ttcons (Syntax.tcons (Syntax.tyInt Syntax.w64) Syntax.tnil) (Syntax.ttcons (Syntax.tcons (Syntax.tyEnum (List._∷_ 115 (List._∷_
+      116 (List._∷_ 114 (List._∷_ 101 (List._∷_ 97 (List._∷_ 109 (List._∷_ 58 (List._∷_ 58 (List._∷_ 82 (List._∷_ 101 (List._∷_ 102 (List._∷_ 117 (List._∷_ 115 (List._∷_ 97 (List._∷_ 108
+      List.[]))))))))))))))) (Syntax.ttcons Syntax.tnil (Syntax.ttcons Syntax.tnil (Syntax.ttcons Syntax.tnil (Syntax.ttcons (Syntax.tcons (Syntax.tyInt Syntax.w64) Syntax.tnil) (Syntax.ttcons Syntax.tnil
+      (Syntax.ttcons Syntax.tnil (Syntax.ttcons Syntax.tnil (Syntax.ttcons Syntax.tnil (Syntax.ttcons Syntax.tnil (Syntax.ttcons Syntax.tnil (Syntax.ttcons (Syntax.tcons (Syntax.tyInt Syntax.w64)
+      Syntax.tnil) (Syntax.ttcons (Syntax.tcons (Syntax.tyInt Syntax.w64) Syntax.tnil) (Syntax.ttcons Syntax.tnil (Syntax.ttcons (Syntax.tcons (Syntax.tyInt Syntax.w64) (Syntax.tcons (Syntax.tyInt
+      Syntax.w64) Syntax.tnil)) (Syntax.ttcons (Syntax.tcons (Syntax.tyInt Syntax.w64) Syntax.tnil) (Syntax.ttcons Syntax.tnil (Syntax.ttcons Syntax.tnil (Syntax.ttcons (Syntax.tcons (Syntax.tyInt
+      Syntax.w64) Syntax.tnil) (Syntax.ttcons (Syntax.tcons (Syntax.tyInt Syntax.w64) Syntax.tnil) (Syntax.ttcons (Syntax.tcons (Syntax.tyInt Syntax.w64) Syntax.tnil) (Syntax.ttcons Syntax.tnil
+      Syntax.ttnil)))))))))))))))))))))) Syntax.tnil) Syntax.ttnil))),
+) (List._∷_ (
+  1,
+  Rows.sslice (Referent.rtF (Referent.fInt Syntax.w16)) (Syntax.tyRef (Syntax.named 0) Syntax.imm (Syntax.tyInt
+      Syntax.w16)) 0,
+) (List._∷_ (2, Mut.mslice (Referent.rtF (Referent.fInt Syntax.w8)) (Syntax.tyRef (Syntax.named 1) Syntax.mut (Syntax.tyInt Syntax.w8)) 1) (List._∷_ (
+  3,
+  Relend.mslice-owed
+      (Referent.rtF (Referent.fInt Syntax.w16)) (Syntax.tyRef (Syntax.named 2) Syntax.mut (Syntax.tyInt Syntax.w16)) 2 4 Row.off,
+) (List._∷_ (
+  4,
+  Mut.mslice (Element.type) (Syntax.tyRef (Syntax.named 3)
+      Syntax.mut Element.behind) 3,
+) (List._∷_ (
+  5,
+  Rows.any-gone (Syntax.tyStruct (List._∷_ 98 (List._∷_ 108 (List._∷_ 111 (List._∷_ 99 (List._∷_ 107 (List._∷_ 58 (List._∷_ 58 (List._∷_ 70 (List._∷_ 111
+      (List._∷_ 114 (List._∷_ 109 List.[]))))))))))) (Syntax.tcons (Syntax.tyInt Syntax.w32) (Syntax.tcons Syntax.tyBool Syntax.tnil))),
+) (List._∷_ (6, Rows.sc-here (Row.sInt Syntax.w64)) (List._∷_ (
+  7,
+  Rows.sc-here (Row.sInt Syntax.w32),
+) (List._∷_ (8, Rows.sc-here (Row.sInt Syntax.w64)) (List._∷_ (9, Rows.any-gone (Syntax.tyInt Syntax.w64)) (List._∷_ (10, Rows.any-gone Syntax.tyBool) (List._∷_
+    (11, Rows.any-gone Syntax.tyUnit) (List._∷_ (12, Relend.msptr (Referent.rtF (Referent.fInt Syntax.w16)) (Syntax.tyRef Syntax.erased Syntax.mut (Syntax.tyInt Syntax.w16)) 4) (List._∷_ (
+      13,
+      Rows.any-gone (Syntax.tyStruct (List._∷_ 38 (List._∷_ 91 (List._∷_ 93 List.[]))) (Syntax.tcons (Syntax.tyRef Syntax.erased Syntax.mut (Syntax.tyInt Syntax.w16)) (Syntax.tcons (Syntax.tyInt Syntax.w64)
+          Syntax.tnil))),
+    ) (List._∷_ (14, Rows.any-gone (Syntax.tyRef Syntax.erased Syntax.mut Element.behind)) (List._∷_ (
+      15,
+      Rows.any-gone (Syntax.tyStruct (List._∷_ 38 (List._∷_ 91 (List._∷_ 93
+          List.[]))) (Syntax.tcons (Syntax.tyRef Syntax.erased Syntax.mut Element.behind) (Syntax.tcons (Syntax.tyInt Syntax.w64) Syntax.tnil))),
+    ) List.[])))))))))))))))
+
 abbrev pub t11 : List.List Row.Entry
 t11 = List._∷_ (
   0,
@@ -757,40 +811,38 @@ t11 = List._∷_ (
       List.[]))))))))))))))) (Syntax.ttcons Syntax.tnil (Syntax.ttcons Syntax.tnil (Syntax.ttcons Syntax.tnil (Syntax.ttcons (Syntax.tcons (Syntax.tyInt Syntax.w64) Syntax.tnil) (Syntax.ttcons Syntax.tnil
       (Syntax.ttcons Syntax.tnil (Syntax.ttcons Syntax.tnil (Syntax.ttcons Syntax.tnil (Syntax.ttcons Syntax.tnil (Syntax.ttcons Syntax.tnil (Syntax.ttcons (Syntax.tcons (Syntax.tyInt Syntax.w64)
       Syntax.tnil) (Syntax.ttcons (Syntax.tcons (Syntax.tyInt Syntax.w64) Syntax.tnil) (Syntax.ttcons Syntax.tnil (Syntax.ttcons (Syntax.tcons (Syntax.tyInt Syntax.w64) (Syntax.tcons (Syntax.tyInt
-      Syntax.w64) Syntax.tnil)) (Syntax.ttcons (Syntax.tcons (Syntax.tyInt Syntax.w64) Syntax.tnil) (Syntax.ttcons Syntax.tnil Syntax.ttnil))))))))))))))))) Syntax.tnil) Syntax.ttnil))),
+      Syntax.w64) Syntax.tnil)) (Syntax.ttcons (Syntax.tcons (Syntax.tyInt Syntax.w64) Syntax.tnil) (Syntax.ttcons Syntax.tnil (Syntax.ttcons Syntax.tnil (Syntax.ttcons (Syntax.tcons (Syntax.tyInt
+      Syntax.w64) Syntax.tnil) (Syntax.ttcons (Syntax.tcons (Syntax.tyInt Syntax.w64) Syntax.tnil) (Syntax.ttcons (Syntax.tcons (Syntax.tyInt Syntax.w64) Syntax.tnil) (Syntax.ttcons Syntax.tnil
+      Syntax.ttnil)))))))))))))))))))))) Syntax.tnil) Syntax.ttnil))),
 ) (List._∷_ (
   1,
-  Rows.sslice (Referent.rtF (Referent.fInt Syntax.w16)) (Syntax.tyRef (Syntax.named 0) Syntax.imm (Syntax.tyInt Syntax.w16)) 0,
-) (List._∷_ (
-  2,
-  Mut.mslice (Referent.rtF (Referent.fInt Syntax.w8))
-      (Syntax.tyRef (Syntax.named 1) Syntax.mut (Syntax.tyInt Syntax.w8)) 1,
-) (List._∷_ (
+  Rows.sslice (Referent.rtF (Referent.fInt Syntax.w16)) (Syntax.tyRef (Syntax.named 0) Syntax.imm (Syntax.tyInt
+      Syntax.w16)) 0,
+) (List._∷_ (2, Mut.mslice (Referent.rtF (Referent.fInt Syntax.w8)) (Syntax.tyRef (Syntax.named 1) Syntax.mut (Syntax.tyInt Syntax.w8)) 1) (List._∷_ (
   3,
-  Relend.mslice-owed (Referent.rtF (Referent.fInt Syntax.w16)) (Syntax.tyRef (Syntax.named 2) Syntax.mut
-      (Syntax.tyInt Syntax.w16)) 2 4 Row.off,
-) (List._∷_ (4, Mut.mslice (Element.type) (Syntax.tyRef (Syntax.named 3) Syntax.mut Element.behind) 3) (List._∷_ (
-  5,
-  Rows.any-gone (Syntax.tyStruct
-      (List._∷_ 98 (List._∷_ 108 (List._∷_ 111 (List._∷_ 99 (List._∷_ 107 (List._∷_ 58 (List._∷_ 58 (List._∷_ 70 (List._∷_ 111 (List._∷_ 114 (List._∷_ 109 List.[]))))))))))) (Syntax.tcons (Syntax.tyInt
-      Syntax.w32) (Syntax.tcons Syntax.tyBool Syntax.tnil))),
-) (List._∷_ (6, Rows.sc-here (Row.sInt Syntax.w64)) (List._∷_ (7, Rows.sc-here (Row.sInt Syntax.w32)) (List._∷_ (
-  8,
-  Rows.sc-here (Row.sInt
-      Syntax.w64),
-) (List._∷_ (9, Rows.any-gone (Syntax.tyInt Syntax.w64)) (List._∷_ (10, Rows.any-gone Syntax.tyBool) (List._∷_ (11, Rows.any-gone Syntax.tyUnit) (List._∷_ (
-  12,
-  Rows.any-gone
-      (Syntax.tyRef Syntax.erased Syntax.mut (Syntax.tyInt Syntax.w16)),
+  Relend.mslice-owed
+      (Referent.rtF (Referent.fInt Syntax.w16)) (Syntax.tyRef (Syntax.named 2) Syntax.mut (Syntax.tyInt Syntax.w16)) 2 4 Row.off,
 ) (List._∷_ (
-  13,
-  Mut.mslice (Referent.rtF (Referent.fInt Syntax.w16)) (Syntax.tyRef Syntax.erased Syntax.mut (Syntax.tyInt
-      Syntax.w16)) 4,
-) (List._∷_ (14, Rows.any-gone (Syntax.tyRef Syntax.erased Syntax.mut Element.behind)) (List._∷_ (
-  15,
-  Rows.any-gone (Syntax.tyStruct (List._∷_ 38 (List._∷_ 91 (List._∷_ 93
-      List.[]))) (Syntax.tcons (Syntax.tyRef Syntax.erased Syntax.mut Element.behind) (Syntax.tcons (Syntax.tyInt Syntax.w64) Syntax.tnil))),
-) List.[])))))))))))))))
+  4,
+  Mut.mslice (Element.type) (Syntax.tyRef (Syntax.named 3)
+      Syntax.mut Element.behind) 3,
+) (List._∷_ (
+  5,
+  Rows.any-gone (Syntax.tyStruct (List._∷_ 98 (List._∷_ 108 (List._∷_ 111 (List._∷_ 99 (List._∷_ 107 (List._∷_ 58 (List._∷_ 58 (List._∷_ 70 (List._∷_ 111
+      (List._∷_ 114 (List._∷_ 109 List.[]))))))))))) (Syntax.tcons (Syntax.tyInt Syntax.w32) (Syntax.tcons Syntax.tyBool Syntax.tnil))),
+) (List._∷_ (6, Rows.sc-here (Row.sInt Syntax.w64)) (List._∷_ (
+  7,
+  Rows.sc-here (Row.sInt Syntax.w32),
+) (List._∷_ (8, Rows.sc-here (Row.sInt Syntax.w64)) (List._∷_ (9, Rows.any-gone (Syntax.tyInt Syntax.w64)) (List._∷_ (10, Rows.any-gone Syntax.tyBool) (List._∷_
+    (11, Rows.any-gone Syntax.tyUnit) (List._∷_ (12, Rows.any-gone (Syntax.tyRef Syntax.erased Syntax.mut (Syntax.tyInt Syntax.w16))) (List._∷_ (
+      13,
+      Mut.mslice (Referent.rtF (Referent.fInt
+          Syntax.w16)) (Syntax.tyRef Syntax.erased Syntax.mut (Syntax.tyInt Syntax.w16)) 4,
+    ) (List._∷_ (14, Rows.any-gone (Syntax.tyRef Syntax.erased Syntax.mut Element.behind)) (List._∷_ (
+      15,
+      Rows.any-gone (Syntax.tyStruct (List._∷_ 38 (List._∷_ 91 (List._∷_ 93 List.[]))) (Syntax.tcons (Syntax.tyRef Syntax.erased Syntax.mut Element.behind) (Syntax.tcons (Syntax.tyInt Syntax.w64)
+          Syntax.tnil))),
+    ) List.[])))))))))))))))
 
 abbrev pub t12 : List.List Row.Entry
 t12 = List._∷_ (
@@ -801,37 +853,39 @@ t12 = List._∷_ (
       List.[]))))))))))))))) (Syntax.ttcons Syntax.tnil (Syntax.ttcons Syntax.tnil (Syntax.ttcons Syntax.tnil (Syntax.ttcons (Syntax.tcons (Syntax.tyInt Syntax.w64) Syntax.tnil) (Syntax.ttcons Syntax.tnil
       (Syntax.ttcons Syntax.tnil (Syntax.ttcons Syntax.tnil (Syntax.ttcons Syntax.tnil (Syntax.ttcons Syntax.tnil (Syntax.ttcons Syntax.tnil (Syntax.ttcons (Syntax.tcons (Syntax.tyInt Syntax.w64)
       Syntax.tnil) (Syntax.ttcons (Syntax.tcons (Syntax.tyInt Syntax.w64) Syntax.tnil) (Syntax.ttcons Syntax.tnil (Syntax.ttcons (Syntax.tcons (Syntax.tyInt Syntax.w64) (Syntax.tcons (Syntax.tyInt
-      Syntax.w64) Syntax.tnil)) (Syntax.ttcons (Syntax.tcons (Syntax.tyInt Syntax.w64) Syntax.tnil) (Syntax.ttcons Syntax.tnil Syntax.ttnil))))))))))))))))) Syntax.tnil) Syntax.ttnil))),
+      Syntax.w64) Syntax.tnil)) (Syntax.ttcons (Syntax.tcons (Syntax.tyInt Syntax.w64) Syntax.tnil) (Syntax.ttcons Syntax.tnil (Syntax.ttcons Syntax.tnil (Syntax.ttcons (Syntax.tcons (Syntax.tyInt
+      Syntax.w64) Syntax.tnil) (Syntax.ttcons (Syntax.tcons (Syntax.tyInt Syntax.w64) Syntax.tnil) (Syntax.ttcons (Syntax.tcons (Syntax.tyInt Syntax.w64) Syntax.tnil) (Syntax.ttcons Syntax.tnil
+      Syntax.ttnil)))))))))))))))))))))) Syntax.tnil) Syntax.ttnil))),
 ) (List._∷_ (
   1,
-  Rows.sslice (Referent.rtF (Referent.fInt Syntax.w16)) (Syntax.tyRef (Syntax.named 0) Syntax.imm (Syntax.tyInt Syntax.w16)) 0,
-) (List._∷_ (
-  2,
-  Mut.mslice (Referent.rtF (Referent.fInt Syntax.w8))
-      (Syntax.tyRef (Syntax.named 1) Syntax.mut (Syntax.tyInt Syntax.w8)) 1,
-) (List._∷_ (
+  Rows.sslice (Referent.rtF (Referent.fInt Syntax.w16)) (Syntax.tyRef (Syntax.named 0) Syntax.imm (Syntax.tyInt
+      Syntax.w16)) 0,
+) (List._∷_ (2, Mut.mslice (Referent.rtF (Referent.fInt Syntax.w8)) (Syntax.tyRef (Syntax.named 1) Syntax.mut (Syntax.tyInt Syntax.w8)) 1) (List._∷_ (
   3,
-  Relend.mslice-owed (Referent.rtF (Referent.fInt Syntax.w16)) (Syntax.tyRef (Syntax.named 2) Syntax.mut
-      (Syntax.tyInt Syntax.w16)) 2 4 Row.off,
-) (List._∷_ (4, Mut.mslice (Element.type) (Syntax.tyRef (Syntax.named 3) Syntax.mut Element.behind) 3) (List._∷_ (
+  Relend.mslice-owed
+      (Referent.rtF (Referent.fInt Syntax.w16)) (Syntax.tyRef (Syntax.named 2) Syntax.mut (Syntax.tyInt Syntax.w16)) 2 4 Row.off,
+) (List._∷_ (
+  4,
+  Mut.mslice (Element.type) (Syntax.tyRef (Syntax.named 3)
+      Syntax.mut Element.behind) 3,
+) (List._∷_ (
   5,
-  Rows.any-gone (Syntax.tyStruct
-      (List._∷_ 98 (List._∷_ 108 (List._∷_ 111 (List._∷_ 99 (List._∷_ 107 (List._∷_ 58 (List._∷_ 58 (List._∷_ 70 (List._∷_ 111 (List._∷_ 114 (List._∷_ 109 List.[]))))))))))) (Syntax.tcons (Syntax.tyInt
-      Syntax.w32) (Syntax.tcons Syntax.tyBool Syntax.tnil))),
-) (List._∷_ (6, Rows.sc-here (Row.sInt Syntax.w64)) (List._∷_ (7, Rows.sc-here (Row.sInt Syntax.w32)) (List._∷_ (
-  8,
-  Rows.sc-here (Row.sInt
-      Syntax.w64),
-) (List._∷_ (9, Rows.any-gone (Syntax.tyInt Syntax.w64)) (List._∷_ (10, Rows.any-gone Syntax.tyBool) (List._∷_ (11, Rows.sc-here Row.sUnit) (List._∷_ (
-  12,
-  Rows.any-gone (Syntax.tyRef
-      Syntax.erased Syntax.mut (Syntax.tyInt Syntax.w16)),
-) (List._∷_ (13, Mut.msleft (Referent.rtF (Referent.fInt Syntax.w16)) (Syntax.tyRef Syntax.erased Syntax.mut (Syntax.tyInt Syntax.w16)))
-    (List._∷_ (14, Rows.any-gone (Syntax.tyRef Syntax.erased Syntax.mut Element.behind)) (List._∷_ (
+  Rows.any-gone (Syntax.tyStruct (List._∷_ 98 (List._∷_ 108 (List._∷_ 111 (List._∷_ 99 (List._∷_ 107 (List._∷_ 58 (List._∷_ 58 (List._∷_ 70 (List._∷_ 111
+      (List._∷_ 114 (List._∷_ 109 List.[]))))))))))) (Syntax.tcons (Syntax.tyInt Syntax.w32) (Syntax.tcons Syntax.tyBool Syntax.tnil))),
+) (List._∷_ (6, Rows.sc-here (Row.sInt Syntax.w64)) (List._∷_ (
+  7,
+  Rows.sc-here (Row.sInt Syntax.w32),
+) (List._∷_ (8, Rows.sc-here (Row.sInt Syntax.w64)) (List._∷_ (9, Rows.any-gone (Syntax.tyInt Syntax.w64)) (List._∷_ (10, Rows.any-gone Syntax.tyBool) (List._∷_
+    (11, Rows.sc-here Row.sUnit) (List._∷_ (12, Rows.any-gone (Syntax.tyRef Syntax.erased Syntax.mut (Syntax.tyInt Syntax.w16))) (List._∷_ (
+      13,
+      Mut.msleft (Referent.rtF (Referent.fInt Syntax.w16))
+          (Syntax.tyRef Syntax.erased Syntax.mut (Syntax.tyInt Syntax.w16)),
+    ) (List._∷_ (14, Rows.any-gone (Syntax.tyRef Syntax.erased Syntax.mut Element.behind)) (List._∷_ (
       15,
-      Rows.any-gone (Syntax.tyStruct (List._∷_ 38 (List._∷_ 91 (List._∷_ 93 List.[]))) (Syntax.tcons
-          (Syntax.tyRef Syntax.erased Syntax.mut Element.behind) (Syntax.tcons (Syntax.tyInt Syntax.w64) Syntax.tnil))),
-    ) List.[])))))))))))))))
+      Rows.any-gone
+          (Syntax.tyStruct (List._∷_ 38 (List._∷_ 91 (List._∷_ 93 List.[]))) (Syntax.tcons (Syntax.tyRef Syntax.erased Syntax.mut Element.behind) (Syntax.tcons (Syntax.tyInt Syntax.w64) Syntax.tnil))),
+    )
+    List.[])))))))))))))))
 
 abbrev pub t13 : List.List Row.Entry
 t13 = List._∷_ (
@@ -842,40 +896,39 @@ t13 = List._∷_ (
       List.[]))))))))))))))) (Syntax.ttcons Syntax.tnil (Syntax.ttcons Syntax.tnil (Syntax.ttcons Syntax.tnil (Syntax.ttcons (Syntax.tcons (Syntax.tyInt Syntax.w64) Syntax.tnil) (Syntax.ttcons Syntax.tnil
       (Syntax.ttcons Syntax.tnil (Syntax.ttcons Syntax.tnil (Syntax.ttcons Syntax.tnil (Syntax.ttcons Syntax.tnil (Syntax.ttcons Syntax.tnil (Syntax.ttcons (Syntax.tcons (Syntax.tyInt Syntax.w64)
       Syntax.tnil) (Syntax.ttcons (Syntax.tcons (Syntax.tyInt Syntax.w64) Syntax.tnil) (Syntax.ttcons Syntax.tnil (Syntax.ttcons (Syntax.tcons (Syntax.tyInt Syntax.w64) (Syntax.tcons (Syntax.tyInt
-      Syntax.w64) Syntax.tnil)) (Syntax.ttcons (Syntax.tcons (Syntax.tyInt Syntax.w64) Syntax.tnil) (Syntax.ttcons Syntax.tnil Syntax.ttnil))))))))))))))))) Syntax.tnil) Syntax.ttnil))),
+      Syntax.w64) Syntax.tnil)) (Syntax.ttcons (Syntax.tcons (Syntax.tyInt Syntax.w64) Syntax.tnil) (Syntax.ttcons Syntax.tnil (Syntax.ttcons Syntax.tnil (Syntax.ttcons (Syntax.tcons (Syntax.tyInt
+      Syntax.w64) Syntax.tnil) (Syntax.ttcons (Syntax.tcons (Syntax.tyInt Syntax.w64) Syntax.tnil) (Syntax.ttcons (Syntax.tcons (Syntax.tyInt Syntax.w64) Syntax.tnil) (Syntax.ttcons Syntax.tnil
+      Syntax.ttnil)))))))))))))))))))))) Syntax.tnil) Syntax.ttnil))),
 ) (List._∷_ (
   1,
-  Rows.sslice (Referent.rtF (Referent.fInt Syntax.w16)) (Syntax.tyRef (Syntax.named 0) Syntax.imm (Syntax.tyInt Syntax.w16)) 0,
-) (List._∷_ (
-  2,
-  Mut.mslice (Referent.rtF (Referent.fInt Syntax.w8))
-      (Syntax.tyRef (Syntax.named 1) Syntax.mut (Syntax.tyInt Syntax.w8)) 1,
-) (List._∷_ (
+  Rows.sslice (Referent.rtF (Referent.fInt Syntax.w16)) (Syntax.tyRef (Syntax.named 0) Syntax.imm (Syntax.tyInt
+      Syntax.w16)) 0,
+) (List._∷_ (2, Mut.mslice (Referent.rtF (Referent.fInt Syntax.w8)) (Syntax.tyRef (Syntax.named 1) Syntax.mut (Syntax.tyInt Syntax.w8)) 1) (List._∷_ (
   3,
-  Relend.mslice-owed (Referent.rtF (Referent.fInt Syntax.w16)) (Syntax.tyRef (Syntax.named 2) Syntax.mut
-      (Syntax.tyInt Syntax.w16)) 2 4 Row.off,
-) (List._∷_ (4, Mut.mslice (Element.type) (Syntax.tyRef (Syntax.named 3) Syntax.mut Element.behind) 3) (List._∷_ (
-  5,
-  Rows.any-gone (Syntax.tyStruct
-      (List._∷_ 98 (List._∷_ 108 (List._∷_ 111 (List._∷_ 99 (List._∷_ 107 (List._∷_ 58 (List._∷_ 58 (List._∷_ 70 (List._∷_ 111 (List._∷_ 114 (List._∷_ 109 List.[]))))))))))) (Syntax.tcons (Syntax.tyInt
-      Syntax.w32) (Syntax.tcons Syntax.tyBool Syntax.tnil))),
-) (List._∷_ (6, Rows.sc-here (Row.sInt Syntax.w64)) (List._∷_ (7, Rows.sc-here (Row.sInt Syntax.w32)) (List._∷_ (
-  8,
-  Rows.sc-here (Row.sInt
-      Syntax.w64),
-) (List._∷_ (9, Rows.any-gone (Syntax.tyInt Syntax.w64)) (List._∷_ (10, Rows.any-gone Syntax.tyBool) (List._∷_ (11, Rows.any-gone Syntax.tyUnit) (List._∷_ (
-  12,
-  Rows.any-gone
-      (Syntax.tyRef Syntax.erased Syntax.mut (Syntax.tyInt Syntax.w16)),
+  Relend.mslice-owed
+      (Referent.rtF (Referent.fInt Syntax.w16)) (Syntax.tyRef (Syntax.named 2) Syntax.mut (Syntax.tyInt Syntax.w16)) 2 4 Row.off,
 ) (List._∷_ (
-  13,
-  Mut.msleft (Referent.rtF (Referent.fInt Syntax.w16)) (Syntax.tyRef Syntax.erased Syntax.mut (Syntax.tyInt
-      Syntax.w16)),
-) (List._∷_ (14, Rows.any-gone (Syntax.tyRef Syntax.erased Syntax.mut Element.behind)) (List._∷_ (
-  15,
-  Rows.any-gone (Syntax.tyStruct (List._∷_ 38 (List._∷_ 91 (List._∷_ 93 List.[])))
-      (Syntax.tcons (Syntax.tyRef Syntax.erased Syntax.mut Element.behind) (Syntax.tcons (Syntax.tyInt Syntax.w64) Syntax.tnil))),
-) List.[])))))))))))))))
+  4,
+  Mut.mslice (Element.type) (Syntax.tyRef (Syntax.named 3)
+      Syntax.mut Element.behind) 3,
+) (List._∷_ (
+  5,
+  Rows.any-gone (Syntax.tyStruct (List._∷_ 98 (List._∷_ 108 (List._∷_ 111 (List._∷_ 99 (List._∷_ 107 (List._∷_ 58 (List._∷_ 58 (List._∷_ 70 (List._∷_ 111
+      (List._∷_ 114 (List._∷_ 109 List.[]))))))))))) (Syntax.tcons (Syntax.tyInt Syntax.w32) (Syntax.tcons Syntax.tyBool Syntax.tnil))),
+) (List._∷_ (6, Rows.sc-here (Row.sInt Syntax.w64)) (List._∷_ (
+  7,
+  Rows.sc-here (Row.sInt Syntax.w32),
+) (List._∷_ (8, Rows.sc-here (Row.sInt Syntax.w64)) (List._∷_ (9, Rows.any-gone (Syntax.tyInt Syntax.w64)) (List._∷_ (10, Rows.any-gone Syntax.tyBool) (List._∷_
+    (11, Rows.any-gone Syntax.tyUnit) (List._∷_ (12, Rows.any-gone (Syntax.tyRef Syntax.erased Syntax.mut (Syntax.tyInt Syntax.w16))) (List._∷_ (
+      13,
+      Mut.msleft (Referent.rtF (Referent.fInt
+          Syntax.w16)) (Syntax.tyRef Syntax.erased Syntax.mut (Syntax.tyInt Syntax.w16)),
+    ) (List._∷_ (14, Rows.any-gone (Syntax.tyRef Syntax.erased Syntax.mut Element.behind)) (List._∷_ (
+      15,
+      Rows.any-gone
+          (Syntax.tyStruct (List._∷_ 38 (List._∷_ 91 (List._∷_ 93 List.[]))) (Syntax.tcons (Syntax.tyRef Syntax.erased Syntax.mut Element.behind) (Syntax.tcons (Syntax.tyInt Syntax.w64) Syntax.tnil))),
+    )
+    List.[])))))))))))))))
 
 abbrev pub t14 : List.List Row.Entry
 t14 = List._∷_ (
@@ -886,37 +939,40 @@ t14 = List._∷_ (
       List.[]))))))))))))))) (Syntax.ttcons Syntax.tnil (Syntax.ttcons Syntax.tnil (Syntax.ttcons Syntax.tnil (Syntax.ttcons (Syntax.tcons (Syntax.tyInt Syntax.w64) Syntax.tnil) (Syntax.ttcons Syntax.tnil
       (Syntax.ttcons Syntax.tnil (Syntax.ttcons Syntax.tnil (Syntax.ttcons Syntax.tnil (Syntax.ttcons Syntax.tnil (Syntax.ttcons Syntax.tnil (Syntax.ttcons (Syntax.tcons (Syntax.tyInt Syntax.w64)
       Syntax.tnil) (Syntax.ttcons (Syntax.tcons (Syntax.tyInt Syntax.w64) Syntax.tnil) (Syntax.ttcons Syntax.tnil (Syntax.ttcons (Syntax.tcons (Syntax.tyInt Syntax.w64) (Syntax.tcons (Syntax.tyInt
-      Syntax.w64) Syntax.tnil)) (Syntax.ttcons (Syntax.tcons (Syntax.tyInt Syntax.w64) Syntax.tnil) (Syntax.ttcons Syntax.tnil Syntax.ttnil))))))))))))))))) Syntax.tnil) Syntax.ttnil))),
+      Syntax.w64) Syntax.tnil)) (Syntax.ttcons (Syntax.tcons (Syntax.tyInt Syntax.w64) Syntax.tnil) (Syntax.ttcons Syntax.tnil (Syntax.ttcons Syntax.tnil (Syntax.ttcons (Syntax.tcons (Syntax.tyInt
+      Syntax.w64) Syntax.tnil) (Syntax.ttcons (Syntax.tcons (Syntax.tyInt Syntax.w64) Syntax.tnil) (Syntax.ttcons (Syntax.tcons (Syntax.tyInt Syntax.w64) Syntax.tnil) (Syntax.ttcons Syntax.tnil
+      Syntax.ttnil)))))))))))))))))))))) Syntax.tnil) Syntax.ttnil))),
 ) (List._∷_ (
   1,
-  Rows.sslice (Referent.rtF (Referent.fInt Syntax.w16)) (Syntax.tyRef (Syntax.named 0) Syntax.imm (Syntax.tyInt Syntax.w16)) 0,
-) (List._∷_ (
-  2,
-  Mut.mslice (Referent.rtF (Referent.fInt Syntax.w8))
-      (Syntax.tyRef (Syntax.named 1) Syntax.mut (Syntax.tyInt Syntax.w8)) 1,
-) (List._∷_ (
+  Rows.sslice (Referent.rtF (Referent.fInt Syntax.w16)) (Syntax.tyRef (Syntax.named 0) Syntax.imm (Syntax.tyInt
+      Syntax.w16)) 0,
+) (List._∷_ (2, Mut.mslice (Referent.rtF (Referent.fInt Syntax.w8)) (Syntax.tyRef (Syntax.named 1) Syntax.mut (Syntax.tyInt Syntax.w8)) 1) (List._∷_ (
   3,
-  Mut.mslice (Referent.rtF (Referent.fInt Syntax.w16)) (Syntax.tyRef (Syntax.named 2) Syntax.mut (Syntax.tyInt
-      Syntax.w16)) 2,
-) (List._∷_ (4, Relend.mslice-owed (Element.type) (Syntax.tyRef (Syntax.named 3) Syntax.mut Element.behind) 3 5 Row.off) (List._∷_ (
+  Mut.mslice (Referent.rtF
+      (Referent.fInt Syntax.w16)) (Syntax.tyRef (Syntax.named 2) Syntax.mut (Syntax.tyInt Syntax.w16)) 2,
+) (List._∷_ (
+  4,
+  Relend.mslice-owed (Element.type) (Syntax.tyRef (Syntax.named 3) Syntax.mut
+      Element.behind) 3 5 Row.off,
+) (List._∷_ (
   5,
-  Rows.any-gone (Syntax.tyStruct (List._∷_ 98
-      (List._∷_ 108 (List._∷_ 111 (List._∷_ 99 (List._∷_ 107 (List._∷_ 58 (List._∷_ 58 (List._∷_ 70 (List._∷_ 111 (List._∷_ 114 (List._∷_ 109 List.[]))))))))))) (Syntax.tcons (Syntax.tyInt Syntax.w32)
-      (Syntax.tcons Syntax.tyBool Syntax.tnil))),
-) (List._∷_ (6, Rows.sc-here (Row.sInt Syntax.w64)) (List._∷_ (7, Rows.sc-here (Row.sInt Syntax.w32)) (List._∷_ (8, Rows.sc-here (Row.sInt Syntax.w64))
-    (List._∷_ (9, Rows.any-gone (Syntax.tyInt Syntax.w64)) (List._∷_ (10, Rows.any-gone Syntax.tyBool) (List._∷_ (11, Rows.any-gone Syntax.tyUnit) (List._∷_ (
-      12,
-      Rows.any-gone (Syntax.tyRef
-          Syntax.erased Syntax.mut (Syntax.tyInt Syntax.w16)),
-    ) (List._∷_ (
+  Rows.any-gone (Syntax.tyStruct (List._∷_ 98 (List._∷_ 108 (List._∷_ 111 (List._∷_ 99 (List._∷_ 107 (List._∷_ 58 (List._∷_ 58 (List._∷_ 70 (List._∷_ 111
+      (List._∷_ 114 (List._∷_ 109 List.[]))))))))))) (Syntax.tcons (Syntax.tyInt Syntax.w32) (Syntax.tcons Syntax.tyBool Syntax.tnil))),
+) (List._∷_ (6, Rows.sc-here (Row.sInt Syntax.w64)) (List._∷_ (
+  7,
+  Rows.sc-here (Row.sInt Syntax.w32),
+) (List._∷_ (8, Rows.sc-here (Row.sInt Syntax.w64)) (List._∷_ (9, Rows.any-gone (Syntax.tyInt Syntax.w64)) (List._∷_ (10, Rows.any-gone Syntax.tyBool) (List._∷_
+    (11, Rows.any-gone Syntax.tyUnit) (List._∷_ (12, Rows.any-gone (Syntax.tyRef Syntax.erased Syntax.mut (Syntax.tyInt Syntax.w16))) (List._∷_ (
       13,
-      Rows.any-gone (Syntax.tyStruct (List._∷_ 38 (List._∷_ 91 (List._∷_ 93 List.[]))) (Syntax.tcons (Syntax.tyRef Syntax.erased
-          Syntax.mut (Syntax.tyInt Syntax.w16)) (Syntax.tcons (Syntax.tyInt Syntax.w64) Syntax.tnil))),
-    ) (List._∷_ (14, Relend.msptr (Element.type) (Syntax.tyRef Syntax.erased Syntax.mut Element.behind) 5)
-    (List._∷_ (
+      Rows.any-gone (Syntax.tyStruct (List._∷_ 38
+          (List._∷_ 91 (List._∷_ 93 List.[]))) (Syntax.tcons (Syntax.tyRef Syntax.erased Syntax.mut (Syntax.tyInt Syntax.w16)) (Syntax.tcons (Syntax.tyInt Syntax.w64) Syntax.tnil))),
+    ) (List._∷_ (
+      14,
+      Relend.msptr (Element.type) (Syntax.tyRef Syntax.erased Syntax.mut Element.behind) 5,
+    ) (List._∷_ (
       15,
-      Rows.any-gone (Syntax.tyStruct (List._∷_ 38 (List._∷_ 91 (List._∷_ 93 List.[]))) (Syntax.tcons (Syntax.tyRef Syntax.erased Syntax.mut Element.behind) (Syntax.tcons (Syntax.tyInt
-          Syntax.w64) Syntax.tnil))),
+      Rows.any-gone (Syntax.tyStruct (List._∷_ 38 (List._∷_ 91 (List._∷_ 93 List.[]))) (Syntax.tcons
+          (Syntax.tyRef Syntax.erased Syntax.mut Element.behind) (Syntax.tcons (Syntax.tyInt Syntax.w64) Syntax.tnil))),
     ) List.[])))))))))))))))
 
 abbrev pub t15 : List.List Row.Entry
@@ -928,36 +984,37 @@ t15 = List._∷_ (
       List.[]))))))))))))))) (Syntax.ttcons Syntax.tnil (Syntax.ttcons Syntax.tnil (Syntax.ttcons Syntax.tnil (Syntax.ttcons (Syntax.tcons (Syntax.tyInt Syntax.w64) Syntax.tnil) (Syntax.ttcons Syntax.tnil
       (Syntax.ttcons Syntax.tnil (Syntax.ttcons Syntax.tnil (Syntax.ttcons Syntax.tnil (Syntax.ttcons Syntax.tnil (Syntax.ttcons Syntax.tnil (Syntax.ttcons (Syntax.tcons (Syntax.tyInt Syntax.w64)
       Syntax.tnil) (Syntax.ttcons (Syntax.tcons (Syntax.tyInt Syntax.w64) Syntax.tnil) (Syntax.ttcons Syntax.tnil (Syntax.ttcons (Syntax.tcons (Syntax.tyInt Syntax.w64) (Syntax.tcons (Syntax.tyInt
-      Syntax.w64) Syntax.tnil)) (Syntax.ttcons (Syntax.tcons (Syntax.tyInt Syntax.w64) Syntax.tnil) (Syntax.ttcons Syntax.tnil Syntax.ttnil))))))))))))))))) Syntax.tnil) Syntax.ttnil))),
+      Syntax.w64) Syntax.tnil)) (Syntax.ttcons (Syntax.tcons (Syntax.tyInt Syntax.w64) Syntax.tnil) (Syntax.ttcons Syntax.tnil (Syntax.ttcons Syntax.tnil (Syntax.ttcons (Syntax.tcons (Syntax.tyInt
+      Syntax.w64) Syntax.tnil) (Syntax.ttcons (Syntax.tcons (Syntax.tyInt Syntax.w64) Syntax.tnil) (Syntax.ttcons (Syntax.tcons (Syntax.tyInt Syntax.w64) Syntax.tnil) (Syntax.ttcons Syntax.tnil
+      Syntax.ttnil)))))))))))))))))))))) Syntax.tnil) Syntax.ttnil))),
 ) (List._∷_ (
   1,
-  Rows.sslice (Referent.rtF (Referent.fInt Syntax.w16)) (Syntax.tyRef (Syntax.named 0) Syntax.imm (Syntax.tyInt Syntax.w16)) 0,
-) (List._∷_ (
-  2,
-  Mut.mslice (Referent.rtF (Referent.fInt Syntax.w8))
-      (Syntax.tyRef (Syntax.named 1) Syntax.mut (Syntax.tyInt Syntax.w8)) 1,
-) (List._∷_ (
+  Rows.sslice (Referent.rtF (Referent.fInt Syntax.w16)) (Syntax.tyRef (Syntax.named 0) Syntax.imm (Syntax.tyInt
+      Syntax.w16)) 0,
+) (List._∷_ (2, Mut.mslice (Referent.rtF (Referent.fInt Syntax.w8)) (Syntax.tyRef (Syntax.named 1) Syntax.mut (Syntax.tyInt Syntax.w8)) 1) (List._∷_ (
   3,
-  Mut.mslice (Referent.rtF (Referent.fInt Syntax.w16)) (Syntax.tyRef (Syntax.named 2) Syntax.mut (Syntax.tyInt
-      Syntax.w16)) 2,
-) (List._∷_ (4, Relend.mslice-owed (Element.type) (Syntax.tyRef (Syntax.named 3) Syntax.mut Element.behind) 3 5 Row.off) (List._∷_ (
+  Mut.mslice (Referent.rtF
+      (Referent.fInt Syntax.w16)) (Syntax.tyRef (Syntax.named 2) Syntax.mut (Syntax.tyInt Syntax.w16)) 2,
+) (List._∷_ (
+  4,
+  Relend.mslice-owed (Element.type) (Syntax.tyRef (Syntax.named 3) Syntax.mut
+      Element.behind) 3 5 Row.off,
+) (List._∷_ (
   5,
-  Rows.any-gone (Syntax.tyStruct (List._∷_ 98
-      (List._∷_ 108 (List._∷_ 111 (List._∷_ 99 (List._∷_ 107 (List._∷_ 58 (List._∷_ 58 (List._∷_ 70 (List._∷_ 111 (List._∷_ 114 (List._∷_ 109 List.[]))))))))))) (Syntax.tcons (Syntax.tyInt Syntax.w32)
-      (Syntax.tcons Syntax.tyBool Syntax.tnil))),
-) (List._∷_ (6, Rows.sc-here (Row.sInt Syntax.w64)) (List._∷_ (7, Rows.sc-here (Row.sInt Syntax.w32)) (List._∷_ (8, Rows.sc-here (Row.sInt Syntax.w64))
-    (List._∷_ (9, Rows.any-gone (Syntax.tyInt Syntax.w64)) (List._∷_ (10, Rows.any-gone Syntax.tyBool) (List._∷_ (11, Rows.any-gone Syntax.tyUnit) (List._∷_ (
-      12,
-      Rows.any-gone (Syntax.tyRef
-          Syntax.erased Syntax.mut (Syntax.tyInt Syntax.w16)),
-    ) (List._∷_ (
+  Rows.any-gone (Syntax.tyStruct (List._∷_ 98 (List._∷_ 108 (List._∷_ 111 (List._∷_ 99 (List._∷_ 107 (List._∷_ 58 (List._∷_ 58 (List._∷_ 70 (List._∷_ 111
+      (List._∷_ 114 (List._∷_ 109 List.[]))))))))))) (Syntax.tcons (Syntax.tyInt Syntax.w32) (Syntax.tcons Syntax.tyBool Syntax.tnil))),
+) (List._∷_ (6, Rows.sc-here (Row.sInt Syntax.w64)) (List._∷_ (
+  7,
+  Rows.sc-here (Row.sInt Syntax.w32),
+) (List._∷_ (8, Rows.sc-here (Row.sInt Syntax.w64)) (List._∷_ (9, Rows.any-gone (Syntax.tyInt Syntax.w64)) (List._∷_ (10, Rows.any-gone Syntax.tyBool) (List._∷_
+    (11, Rows.any-gone Syntax.tyUnit) (List._∷_ (12, Rows.any-gone (Syntax.tyRef Syntax.erased Syntax.mut (Syntax.tyInt Syntax.w16))) (List._∷_ (
       13,
-      Rows.any-gone (Syntax.tyStruct (List._∷_ 38 (List._∷_ 91 (List._∷_ 93 List.[]))) (Syntax.tcons (Syntax.tyRef Syntax.erased
-          Syntax.mut (Syntax.tyInt Syntax.w16)) (Syntax.tcons (Syntax.tyInt Syntax.w64) Syntax.tnil))),
-    ) (List._∷_ (14, Rows.any-gone (Syntax.tyRef Syntax.erased Syntax.mut Element.behind)) (List._∷_ (
-      15,
-      Mut.mslice (Element.type) (Syntax.tyRef Syntax.erased Syntax.mut Element.behind) 5,
-    ) List.[])))))))))))))))
+      Rows.any-gone (Syntax.tyStruct (List._∷_ 38
+          (List._∷_ 91 (List._∷_ 93 List.[]))) (Syntax.tcons (Syntax.tyRef Syntax.erased Syntax.mut (Syntax.tyInt Syntax.w16)) (Syntax.tcons (Syntax.tyInt Syntax.w64) Syntax.tnil))),
+    ) (List._∷_ (
+      14,
+      Rows.any-gone (Syntax.tyRef Syntax.erased Syntax.mut Element.behind),
+    ) (List._∷_ (15, Mut.mslice (Element.type) (Syntax.tyRef Syntax.erased Syntax.mut Element.behind) 5) List.[])))))))))))))))
 
 abbrev pub t16 : List.List Row.Entry
 t16 = List._∷_ (
@@ -968,37 +1025,38 @@ t16 = List._∷_ (
       List.[]))))))))))))))) (Syntax.ttcons Syntax.tnil (Syntax.ttcons Syntax.tnil (Syntax.ttcons Syntax.tnil (Syntax.ttcons (Syntax.tcons (Syntax.tyInt Syntax.w64) Syntax.tnil) (Syntax.ttcons Syntax.tnil
       (Syntax.ttcons Syntax.tnil (Syntax.ttcons Syntax.tnil (Syntax.ttcons Syntax.tnil (Syntax.ttcons Syntax.tnil (Syntax.ttcons Syntax.tnil (Syntax.ttcons (Syntax.tcons (Syntax.tyInt Syntax.w64)
       Syntax.tnil) (Syntax.ttcons (Syntax.tcons (Syntax.tyInt Syntax.w64) Syntax.tnil) (Syntax.ttcons Syntax.tnil (Syntax.ttcons (Syntax.tcons (Syntax.tyInt Syntax.w64) (Syntax.tcons (Syntax.tyInt
-      Syntax.w64) Syntax.tnil)) (Syntax.ttcons (Syntax.tcons (Syntax.tyInt Syntax.w64) Syntax.tnil) (Syntax.ttcons Syntax.tnil Syntax.ttnil))))))))))))))))) Syntax.tnil) Syntax.ttnil))),
+      Syntax.w64) Syntax.tnil)) (Syntax.ttcons (Syntax.tcons (Syntax.tyInt Syntax.w64) Syntax.tnil) (Syntax.ttcons Syntax.tnil (Syntax.ttcons Syntax.tnil (Syntax.ttcons (Syntax.tcons (Syntax.tyInt
+      Syntax.w64) Syntax.tnil) (Syntax.ttcons (Syntax.tcons (Syntax.tyInt Syntax.w64) Syntax.tnil) (Syntax.ttcons (Syntax.tcons (Syntax.tyInt Syntax.w64) Syntax.tnil) (Syntax.ttcons Syntax.tnil
+      Syntax.ttnil)))))))))))))))))))))) Syntax.tnil) Syntax.ttnil))),
 ) (List._∷_ (
   1,
-  Rows.sslice (Referent.rtF (Referent.fInt Syntax.w16)) (Syntax.tyRef (Syntax.named 0) Syntax.imm (Syntax.tyInt Syntax.w16)) 0,
-) (List._∷_ (
-  2,
-  Mut.mslice (Referent.rtF (Referent.fInt Syntax.w8))
-      (Syntax.tyRef (Syntax.named 1) Syntax.mut (Syntax.tyInt Syntax.w8)) 1,
-) (List._∷_ (
+  Rows.sslice (Referent.rtF (Referent.fInt Syntax.w16)) (Syntax.tyRef (Syntax.named 0) Syntax.imm (Syntax.tyInt
+      Syntax.w16)) 0,
+) (List._∷_ (2, Mut.mslice (Referent.rtF (Referent.fInt Syntax.w8)) (Syntax.tyRef (Syntax.named 1) Syntax.mut (Syntax.tyInt Syntax.w8)) 1) (List._∷_ (
   3,
-  Mut.mslice (Referent.rtF (Referent.fInt Syntax.w16)) (Syntax.tyRef (Syntax.named 2) Syntax.mut (Syntax.tyInt
-      Syntax.w16)) 2,
-) (List._∷_ (4, Relend.mslice-owed (Element.type) (Syntax.tyRef (Syntax.named 3) Syntax.mut Element.behind) 3 5 Row.off) (List._∷_ (
+  Mut.mslice (Referent.rtF
+      (Referent.fInt Syntax.w16)) (Syntax.tyRef (Syntax.named 2) Syntax.mut (Syntax.tyInt Syntax.w16)) 2,
+) (List._∷_ (
+  4,
+  Relend.mslice-owed (Element.type) (Syntax.tyRef (Syntax.named 3) Syntax.mut
+      Element.behind) 3 5 Row.off,
+) (List._∷_ (
   5,
-  Rows.any-gone (Syntax.tyStruct (List._∷_ 98
-      (List._∷_ 108 (List._∷_ 111 (List._∷_ 99 (List._∷_ 107 (List._∷_ 58 (List._∷_ 58 (List._∷_ 70 (List._∷_ 111 (List._∷_ 114 (List._∷_ 109 List.[]))))))))))) (Syntax.tcons (Syntax.tyInt Syntax.w32)
-      (Syntax.tcons Syntax.tyBool Syntax.tnil))),
-) (List._∷_ (6, Rows.sc-here (Row.sInt Syntax.w64)) (List._∷_ (7, Rows.sc-here (Row.sInt Syntax.w32)) (List._∷_ (8, Rows.sc-here (Row.sInt Syntax.w64))
-    (List._∷_ (9, Rows.any-gone (Syntax.tyInt Syntax.w64)) (List._∷_ (10, Rows.any-gone Syntax.tyBool) (List._∷_ (11, Rows.sc-here Row.sUnit) (List._∷_ (
-      12,
-      Rows.any-gone (Syntax.tyRef Syntax.erased
-          Syntax.mut (Syntax.tyInt Syntax.w16)),
-    ) (List._∷_ (
+  Rows.any-gone (Syntax.tyStruct (List._∷_ 98 (List._∷_ 108 (List._∷_ 111 (List._∷_ 99 (List._∷_ 107 (List._∷_ 58 (List._∷_ 58 (List._∷_ 70 (List._∷_ 111
+      (List._∷_ 114 (List._∷_ 109 List.[]))))))))))) (Syntax.tcons (Syntax.tyInt Syntax.w32) (Syntax.tcons Syntax.tyBool Syntax.tnil))),
+) (List._∷_ (6, Rows.sc-here (Row.sInt Syntax.w64)) (List._∷_ (
+  7,
+  Rows.sc-here (Row.sInt Syntax.w32),
+) (List._∷_ (8, Rows.sc-here (Row.sInt Syntax.w64)) (List._∷_ (9, Rows.any-gone (Syntax.tyInt Syntax.w64)) (List._∷_ (10, Rows.any-gone Syntax.tyBool) (List._∷_
+    (11, Rows.sc-here Row.sUnit) (List._∷_ (12, Rows.any-gone (Syntax.tyRef Syntax.erased Syntax.mut (Syntax.tyInt Syntax.w16))) (List._∷_ (
       13,
-      Rows.any-gone (Syntax.tyStruct (List._∷_ 38 (List._∷_ 91 (List._∷_ 93 List.[]))) (Syntax.tcons (Syntax.tyRef Syntax.erased Syntax.mut
-          (Syntax.tyInt Syntax.w16)) (Syntax.tcons (Syntax.tyInt Syntax.w64) Syntax.tnil))),
-    ) (List._∷_ (14, Rows.any-gone (Syntax.tyRef Syntax.erased Syntax.mut Element.behind)) (List._∷_ (
-      15,
-      Mut.msleft
-          (Element.type) (Syntax.tyRef Syntax.erased Syntax.mut Element.behind),
-    ) List.[])))))))))))))))
+      Rows.any-gone (Syntax.tyStruct (List._∷_ 38 (List._∷_ 91
+          (List._∷_ 93 List.[]))) (Syntax.tcons (Syntax.tyRef Syntax.erased Syntax.mut (Syntax.tyInt Syntax.w16)) (Syntax.tcons (Syntax.tyInt Syntax.w64) Syntax.tnil))),
+    ) (List._∷_ (
+      14,
+      Rows.any-gone
+          (Syntax.tyRef Syntax.erased Syntax.mut Element.behind),
+    ) (List._∷_ (15, Mut.msleft (Element.type) (Syntax.tyRef Syntax.erased Syntax.mut Element.behind)) List.[])))))))))))))))
 
 abbrev pub t17 : List.List Row.Entry
 t17 = List._∷_ (
@@ -1009,36 +1067,37 @@ t17 = List._∷_ (
       List.[]))))))))))))))) (Syntax.ttcons Syntax.tnil (Syntax.ttcons Syntax.tnil (Syntax.ttcons Syntax.tnil (Syntax.ttcons (Syntax.tcons (Syntax.tyInt Syntax.w64) Syntax.tnil) (Syntax.ttcons Syntax.tnil
       (Syntax.ttcons Syntax.tnil (Syntax.ttcons Syntax.tnil (Syntax.ttcons Syntax.tnil (Syntax.ttcons Syntax.tnil (Syntax.ttcons Syntax.tnil (Syntax.ttcons (Syntax.tcons (Syntax.tyInt Syntax.w64)
       Syntax.tnil) (Syntax.ttcons (Syntax.tcons (Syntax.tyInt Syntax.w64) Syntax.tnil) (Syntax.ttcons Syntax.tnil (Syntax.ttcons (Syntax.tcons (Syntax.tyInt Syntax.w64) (Syntax.tcons (Syntax.tyInt
-      Syntax.w64) Syntax.tnil)) (Syntax.ttcons (Syntax.tcons (Syntax.tyInt Syntax.w64) Syntax.tnil) (Syntax.ttcons Syntax.tnil Syntax.ttnil))))))))))))))))) Syntax.tnil) Syntax.ttnil))),
+      Syntax.w64) Syntax.tnil)) (Syntax.ttcons (Syntax.tcons (Syntax.tyInt Syntax.w64) Syntax.tnil) (Syntax.ttcons Syntax.tnil (Syntax.ttcons Syntax.tnil (Syntax.ttcons (Syntax.tcons (Syntax.tyInt
+      Syntax.w64) Syntax.tnil) (Syntax.ttcons (Syntax.tcons (Syntax.tyInt Syntax.w64) Syntax.tnil) (Syntax.ttcons (Syntax.tcons (Syntax.tyInt Syntax.w64) Syntax.tnil) (Syntax.ttcons Syntax.tnil
+      Syntax.ttnil)))))))))))))))))))))) Syntax.tnil) Syntax.ttnil))),
 ) (List._∷_ (
   1,
-  Rows.sslice (Referent.rtF (Referent.fInt Syntax.w16)) (Syntax.tyRef (Syntax.named 0) Syntax.imm (Syntax.tyInt Syntax.w16)) 0,
-) (List._∷_ (
-  2,
-  Mut.mslice (Referent.rtF (Referent.fInt Syntax.w8))
-      (Syntax.tyRef (Syntax.named 1) Syntax.mut (Syntax.tyInt Syntax.w8)) 1,
-) (List._∷_ (
+  Rows.sslice (Referent.rtF (Referent.fInt Syntax.w16)) (Syntax.tyRef (Syntax.named 0) Syntax.imm (Syntax.tyInt
+      Syntax.w16)) 0,
+) (List._∷_ (2, Mut.mslice (Referent.rtF (Referent.fInt Syntax.w8)) (Syntax.tyRef (Syntax.named 1) Syntax.mut (Syntax.tyInt Syntax.w8)) 1) (List._∷_ (
   3,
-  Mut.mslice (Referent.rtF (Referent.fInt Syntax.w16)) (Syntax.tyRef (Syntax.named 2) Syntax.mut (Syntax.tyInt
-      Syntax.w16)) 2,
-) (List._∷_ (4, Relend.mslice-owed (Element.type) (Syntax.tyRef (Syntax.named 3) Syntax.mut Element.behind) 3 5 Row.off) (List._∷_ (
+  Mut.mslice (Referent.rtF
+      (Referent.fInt Syntax.w16)) (Syntax.tyRef (Syntax.named 2) Syntax.mut (Syntax.tyInt Syntax.w16)) 2,
+) (List._∷_ (
+  4,
+  Relend.mslice-owed (Element.type) (Syntax.tyRef (Syntax.named 3) Syntax.mut
+      Element.behind) 3 5 Row.off,
+) (List._∷_ (
   5,
-  Rows.any-gone (Syntax.tyStruct (List._∷_ 98
-      (List._∷_ 108 (List._∷_ 111 (List._∷_ 99 (List._∷_ 107 (List._∷_ 58 (List._∷_ 58 (List._∷_ 70 (List._∷_ 111 (List._∷_ 114 (List._∷_ 109 List.[]))))))))))) (Syntax.tcons (Syntax.tyInt Syntax.w32)
-      (Syntax.tcons Syntax.tyBool Syntax.tnil))),
-) (List._∷_ (6, Rows.sc-here (Row.sInt Syntax.w64)) (List._∷_ (7, Rows.sc-here (Row.sInt Syntax.w32)) (List._∷_ (8, Rows.sc-here (Row.sInt Syntax.w64))
-    (List._∷_ (9, Rows.any-gone (Syntax.tyInt Syntax.w64)) (List._∷_ (10, Rows.any-gone Syntax.tyBool) (List._∷_ (11, Rows.any-gone Syntax.tyUnit) (List._∷_ (
-      12,
-      Rows.any-gone (Syntax.tyRef
-          Syntax.erased Syntax.mut (Syntax.tyInt Syntax.w16)),
-    ) (List._∷_ (
+  Rows.any-gone (Syntax.tyStruct (List._∷_ 98 (List._∷_ 108 (List._∷_ 111 (List._∷_ 99 (List._∷_ 107 (List._∷_ 58 (List._∷_ 58 (List._∷_ 70 (List._∷_ 111
+      (List._∷_ 114 (List._∷_ 109 List.[]))))))))))) (Syntax.tcons (Syntax.tyInt Syntax.w32) (Syntax.tcons Syntax.tyBool Syntax.tnil))),
+) (List._∷_ (6, Rows.sc-here (Row.sInt Syntax.w64)) (List._∷_ (
+  7,
+  Rows.sc-here (Row.sInt Syntax.w32),
+) (List._∷_ (8, Rows.sc-here (Row.sInt Syntax.w64)) (List._∷_ (9, Rows.any-gone (Syntax.tyInt Syntax.w64)) (List._∷_ (10, Rows.any-gone Syntax.tyBool) (List._∷_
+    (11, Rows.any-gone Syntax.tyUnit) (List._∷_ (12, Rows.any-gone (Syntax.tyRef Syntax.erased Syntax.mut (Syntax.tyInt Syntax.w16))) (List._∷_ (
       13,
-      Rows.any-gone (Syntax.tyStruct (List._∷_ 38 (List._∷_ 91 (List._∷_ 93 List.[]))) (Syntax.tcons (Syntax.tyRef Syntax.erased
-          Syntax.mut (Syntax.tyInt Syntax.w16)) (Syntax.tcons (Syntax.tyInt Syntax.w64) Syntax.tnil))),
-    ) (List._∷_ (14, Rows.any-gone (Syntax.tyRef Syntax.erased Syntax.mut Element.behind)) (List._∷_ (
-      15,
-      Mut.msleft (Element.type) (Syntax.tyRef Syntax.erased Syntax.mut Element.behind),
-    ) List.[])))))))))))))))
+      Rows.any-gone (Syntax.tyStruct (List._∷_ 38
+          (List._∷_ 91 (List._∷_ 93 List.[]))) (Syntax.tcons (Syntax.tyRef Syntax.erased Syntax.mut (Syntax.tyInt Syntax.w16)) (Syntax.tcons (Syntax.tyInt Syntax.w64) Syntax.tnil))),
+    ) (List._∷_ (
+      14,
+      Rows.any-gone (Syntax.tyRef Syntax.erased Syntax.mut Element.behind),
+    ) (List._∷_ (15, Mut.msleft (Element.type) (Syntax.tyRef Syntax.erased Syntax.mut Element.behind)) List.[])))))))))))))))
 
 abbrev pub t18 : List.List Row.Entry
 t18 = List._∷_ (16, Rows.whole (Declared.row Refusal.the-type)) (List._∷_ (17, Rows.any-gone (Syntax.tyRef Syntax.erased Syntax.mut (Syntax.tyInt Syntax.w8))) (List._∷_ (
@@ -1173,39 +1232,37 @@ t22 = List._∷_ (
       List.[]))))))))))))))) (Syntax.ttcons Syntax.tnil (Syntax.ttcons Syntax.tnil (Syntax.ttcons Syntax.tnil (Syntax.ttcons (Syntax.tcons (Syntax.tyInt Syntax.w64) Syntax.tnil) (Syntax.ttcons Syntax.tnil
       (Syntax.ttcons Syntax.tnil (Syntax.ttcons Syntax.tnil (Syntax.ttcons Syntax.tnil (Syntax.ttcons Syntax.tnil (Syntax.ttcons Syntax.tnil (Syntax.ttcons (Syntax.tcons (Syntax.tyInt Syntax.w64)
       Syntax.tnil) (Syntax.ttcons (Syntax.tcons (Syntax.tyInt Syntax.w64) Syntax.tnil) (Syntax.ttcons Syntax.tnil (Syntax.ttcons (Syntax.tcons (Syntax.tyInt Syntax.w64) (Syntax.tcons (Syntax.tyInt
-      Syntax.w64) Syntax.tnil)) (Syntax.ttcons (Syntax.tcons (Syntax.tyInt Syntax.w64) Syntax.tnil) (Syntax.ttcons Syntax.tnil Syntax.ttnil))))))))))))))))) Syntax.tnil) Syntax.ttnil))),
+      Syntax.w64) Syntax.tnil)) (Syntax.ttcons (Syntax.tcons (Syntax.tyInt Syntax.w64) Syntax.tnil) (Syntax.ttcons Syntax.tnil (Syntax.ttcons Syntax.tnil (Syntax.ttcons (Syntax.tcons (Syntax.tyInt
+      Syntax.w64) Syntax.tnil) (Syntax.ttcons (Syntax.tcons (Syntax.tyInt Syntax.w64) Syntax.tnil) (Syntax.ttcons (Syntax.tcons (Syntax.tyInt Syntax.w64) Syntax.tnil) (Syntax.ttcons Syntax.tnil
+      Syntax.ttnil)))))))))))))))))))))) Syntax.tnil) Syntax.ttnil))),
 ) (List._∷_ (
   1,
-  Rows.sslice (Referent.rtF (Referent.fInt Syntax.w16)) (Syntax.tyRef (Syntax.named 0) Syntax.imm (Syntax.tyInt Syntax.w16)) 0,
-) (List._∷_ (
-  2,
-  Relend.mslice-owed (Referent.rtF (Referent.fInt
-      Syntax.w8)) (Syntax.tyRef (Syntax.named 1) Syntax.mut (Syntax.tyInt Syntax.w8)) 1 6 Row.off,
-) (List._∷_ (
+  Rows.sslice (Referent.rtF (Referent.fInt Syntax.w16)) (Syntax.tyRef (Syntax.named 0) Syntax.imm (Syntax.tyInt
+      Syntax.w16)) 0,
+) (List._∷_ (2, Relend.mslice-owed (Referent.rtF (Referent.fInt Syntax.w8)) (Syntax.tyRef (Syntax.named 1) Syntax.mut (Syntax.tyInt Syntax.w8)) 1 6 Row.off) (List._∷_ (
   3,
-  Mut.mslice (Referent.rtF (Referent.fInt Syntax.w16)) (Syntax.tyRef (Syntax.named 2)
-      Syntax.mut (Syntax.tyInt Syntax.w16)) 2,
-) (List._∷_ (4, Mut.mslice (Element.type) (Syntax.tyRef (Syntax.named 3) Syntax.mut Element.behind) 3) (List._∷_ (
-  5,
-  Rows.whole (Declared'.row
-      Form.the-type),
-) (List._∷_ (6, Rows.sc-here (Row.sInt Syntax.w64)) (List._∷_ (7, Rows.sc-here (Row.sInt Syntax.w32)) (List._∷_ (8, Rows.sc-here (Row.sInt Syntax.w64)) (List._∷_ (
-  9,
-  Rows.any-gone
-      (Syntax.tyInt Syntax.w64),
-) (List._∷_ (10, Rows.any-gone Syntax.tyBool) (List._∷_ (11, Rows.any-gone Syntax.tyUnit) (List._∷_ (
-  12,
-  Rows.any-gone (Syntax.tyRef Syntax.erased Syntax.mut (Syntax.tyInt
-      Syntax.w16)),
+  Mut.mslice (Referent.rtF (Referent.fInt Syntax.w16)) (Syntax.tyRef (Syntax.named 2) Syntax.mut (Syntax.tyInt Syntax.w16)) 2,
 ) (List._∷_ (
-  13,
-  Rows.any-gone (Syntax.tyStruct (List._∷_ 38 (List._∷_ 91 (List._∷_ 93 List.[]))) (Syntax.tcons (Syntax.tyRef Syntax.erased Syntax.mut (Syntax.tyInt Syntax.w16))
-      (Syntax.tcons (Syntax.tyInt Syntax.w64) Syntax.tnil))),
-) (List._∷_ (14, Rows.any-gone (Syntax.tyRef Syntax.erased Syntax.mut Element.behind)) (List._∷_ (
-  15,
-  Rows.any-gone (Syntax.tyStruct
-      (List._∷_ 38 (List._∷_ 91 (List._∷_ 93 List.[]))) (Syntax.tcons (Syntax.tyRef Syntax.erased Syntax.mut Element.behind) (Syntax.tcons (Syntax.tyInt Syntax.w64) Syntax.tnil))),
-) List.[])))))))))))))))
+  4,
+  Mut.mslice (Element.type) (Syntax.tyRef (Syntax.named 3)
+      Syntax.mut Element.behind) 3,
+) (List._∷_ (5, Rows.whole (Declared'.row Form.the-type)) (List._∷_ (6, Rows.sc-here (Row.sInt Syntax.w64)) (List._∷_ (7, Rows.sc-here (Row.sInt Syntax.w32)) (List._∷_
+    (8, Rows.sc-here (Row.sInt Syntax.w64)) (List._∷_ (9, Rows.any-gone (Syntax.tyInt Syntax.w64)) (List._∷_ (10, Rows.any-gone Syntax.tyBool) (List._∷_ (11, Rows.any-gone Syntax.tyUnit) (List._∷_ (
+      12,
+      Rows.any-gone (Syntax.tyRef Syntax.erased Syntax.mut (Syntax.tyInt Syntax.w16)),
+    ) (List._∷_ (
+      13,
+      Rows.any-gone (Syntax.tyStruct (List._∷_ 38 (List._∷_ 91 (List._∷_ 93 List.[]))) (Syntax.tcons
+          (Syntax.tyRef Syntax.erased Syntax.mut (Syntax.tyInt Syntax.w16)) (Syntax.tcons (Syntax.tyInt Syntax.w64) Syntax.tnil))),
+    ) (List._∷_ (
+      14,
+      Rows.any-gone (Syntax.tyRef Syntax.erased Syntax.mut
+          Element.behind),
+    ) (List._∷_ (
+      15,
+      Rows.any-gone (Syntax.tyStruct (List._∷_ 38 (List._∷_ 91 (List._∷_ 93 List.[]))) (Syntax.tcons (Syntax.tyRef Syntax.erased Syntax.mut Element.behind) (Syntax.tcons
+          (Syntax.tyInt Syntax.w64) Syntax.tnil))),
+    ) List.[])))))))))))))))
 
 abbrev pub t23 : List.List Row.Entry
 t23 = List._∷_ (
@@ -1214,39 +1271,17 @@ t23 = List._∷_ (
       (List._∷_ 117 (List._∷_ 115 (List._∷_ 97 (List._∷_ 108 List.[]))))))))))))))) (Syntax.ttcons Syntax.tnil (Syntax.ttcons Syntax.tnil (Syntax.ttcons Syntax.tnil (Syntax.ttcons (Syntax.tcons
       (Syntax.tyInt Syntax.w64) Syntax.tnil) (Syntax.ttcons Syntax.tnil (Syntax.ttcons Syntax.tnil (Syntax.ttcons Syntax.tnil (Syntax.ttcons Syntax.tnil (Syntax.ttcons Syntax.tnil (Syntax.ttcons Syntax.tnil
       (Syntax.ttcons (Syntax.tcons (Syntax.tyInt Syntax.w64) Syntax.tnil) (Syntax.ttcons (Syntax.tcons (Syntax.tyInt Syntax.w64) Syntax.tnil) (Syntax.ttcons Syntax.tnil (Syntax.ttcons (Syntax.tcons
-      (Syntax.tyInt Syntax.w64) (Syntax.tcons (Syntax.tyInt Syntax.w64) Syntax.tnil)) (Syntax.ttcons (Syntax.tcons (Syntax.tyInt Syntax.w64) Syntax.tnil) (Syntax.ttcons Syntax.tnil
-      Syntax.ttnil))))))))))))))))),
-) (List._∷_ (17, Relend.msptr (Referent.rtF (Referent.fInt Syntax.w8)) (Syntax.tyRef Syntax.erased Syntax.mut (Syntax.tyInt Syntax.w8)) 6) (List._∷_ (
-  18,
-  Rows.any-gone (Syntax.tyStruct (List._∷_ 38 (List._∷_ 91 (List._∷_ 93 List.[]))) (Syntax.tcons (Syntax.tyRef Syntax.erased Syntax.mut (Syntax.tyInt Syntax.w8)) (Syntax.tcons (Syntax.tyInt Syntax.w64)
-      Syntax.tnil))),
-) (List._∷_ (19, Rows.any-gone (Syntax.tyRef Syntax.erased Syntax.mut (Syntax.tyInt Syntax.w16))) (List._∷_ (
-  20,
-  Rows.any-gone (Syntax.tyStruct (List._∷_ 38 (List._∷_ 91 (List._∷_
-      93 List.[]))) (Syntax.tcons (Syntax.tyRef Syntax.erased Syntax.mut (Syntax.tyInt Syntax.w16)) (Syntax.tcons (Syntax.tyInt Syntax.w64) Syntax.tnil))),
+      (Syntax.tyInt Syntax.w64) (Syntax.tcons (Syntax.tyInt Syntax.w64) Syntax.tnil)) (Syntax.ttcons (Syntax.tcons (Syntax.tyInt Syntax.w64) Syntax.tnil) (Syntax.ttcons Syntax.tnil (Syntax.ttcons
+      Syntax.tnil (Syntax.ttcons (Syntax.tcons (Syntax.tyInt Syntax.w64) Syntax.tnil) (Syntax.ttcons (Syntax.tcons (Syntax.tyInt Syntax.w64) Syntax.tnil) (Syntax.ttcons (Syntax.tcons (Syntax.tyInt
+      Syntax.w64) Syntax.tnil) (Syntax.ttcons Syntax.tnil Syntax.ttnil)))))))))))))))))))))),
 ) (List._∷_ (
-  21,
-  Rows.any-gone (Syntax.tyRef
-      Syntax.erased Syntax.mut Element.behind),
+  17,
+  Relend.msptr (Referent.rtF (Referent.fInt Syntax.w8)) (Syntax.tyRef Syntax.erased Syntax.mut
+      (Syntax.tyInt Syntax.w8)) 6,
 ) (List._∷_ (
-  22,
-  Rows.any-gone (Syntax.tyStruct (List._∷_ 38 (List._∷_ 91 (List._∷_ 93 List.[]))) (Syntax.tcons (Syntax.tyRef Syntax.erased Syntax.mut
-      Element.behind) (Syntax.tcons (Syntax.tyInt Syntax.w64) Syntax.tnil))),
-) List.[]))))))
-
-abbrev pub t24 : List.List Row.Entry
-t24 = List._∷_ (
-  16,
-  Rows.any-gone (Syntax.tyEnum (List._∷_ 115 (List._∷_ 116 (List._∷_ 114 (List._∷_ 101 (List._∷_ 97 (List._∷_ 109 (List._∷_ 58 (List._∷_ 58 (List._∷_ 82 (List._∷_ 101 (List._∷_ 102
-      (List._∷_ 117 (List._∷_ 115 (List._∷_ 97 (List._∷_ 108 List.[]))))))))))))))) (Syntax.ttcons Syntax.tnil (Syntax.ttcons Syntax.tnil (Syntax.ttcons Syntax.tnil (Syntax.ttcons (Syntax.tcons
-      (Syntax.tyInt Syntax.w64) Syntax.tnil) (Syntax.ttcons Syntax.tnil (Syntax.ttcons Syntax.tnil (Syntax.ttcons Syntax.tnil (Syntax.ttcons Syntax.tnil (Syntax.ttcons Syntax.tnil (Syntax.ttcons Syntax.tnil
-      (Syntax.ttcons (Syntax.tcons (Syntax.tyInt Syntax.w64) Syntax.tnil) (Syntax.ttcons (Syntax.tcons (Syntax.tyInt Syntax.w64) Syntax.tnil) (Syntax.ttcons Syntax.tnil (Syntax.ttcons (Syntax.tcons
-      (Syntax.tyInt Syntax.w64) (Syntax.tcons (Syntax.tyInt Syntax.w64) Syntax.tnil)) (Syntax.ttcons (Syntax.tcons (Syntax.tyInt Syntax.w64) Syntax.tnil) (Syntax.ttcons Syntax.tnil
-      Syntax.ttnil))))))))))))))))),
-) (List._∷_ (17, Rows.any-gone (Syntax.tyRef Syntax.erased Syntax.mut (Syntax.tyInt Syntax.w8))) (List._∷_ (
   18,
-  Mut.mslice (Referent.rtF (Referent.fInt Syntax.w8))
-      (Syntax.tyRef Syntax.erased Syntax.mut (Syntax.tyInt Syntax.w8)) 6,
+  Rows.any-gone (Syntax.tyStruct (List._∷_ 38 (List._∷_ 91 (List._∷_ 93 List.[]))) (Syntax.tcons (Syntax.tyRef Syntax.erased Syntax.mut (Syntax.tyInt
+      Syntax.w8)) (Syntax.tcons (Syntax.tyInt Syntax.w64) Syntax.tnil))),
 ) (List._∷_ (19, Rows.any-gone (Syntax.tyRef Syntax.erased Syntax.mut (Syntax.tyInt Syntax.w16))) (List._∷_ (
   20,
   Rows.any-gone
@@ -1258,6 +1293,34 @@ t24 = List._∷_ (
       List.[]))) (Syntax.tcons (Syntax.tyRef Syntax.erased Syntax.mut Element.behind) (Syntax.tcons (Syntax.tyInt Syntax.w64) Syntax.tnil))),
 ) List.[]))))))
 
+abbrev pub t24 : List.List Row.Entry
+t24 = List._∷_ (
+  16,
+  Rows.any-gone (Syntax.tyEnum (List._∷_ 115 (List._∷_ 116 (List._∷_ 114 (List._∷_ 101 (List._∷_ 97 (List._∷_ 109 (List._∷_ 58 (List._∷_ 58 (List._∷_ 82 (List._∷_ 101 (List._∷_ 102
+      (List._∷_ 117 (List._∷_ 115 (List._∷_ 97 (List._∷_ 108 List.[]))))))))))))))) (Syntax.ttcons Syntax.tnil (Syntax.ttcons Syntax.tnil (Syntax.ttcons Syntax.tnil (Syntax.ttcons (Syntax.tcons
+      (Syntax.tyInt Syntax.w64) Syntax.tnil) (Syntax.ttcons Syntax.tnil (Syntax.ttcons Syntax.tnil (Syntax.ttcons Syntax.tnil (Syntax.ttcons Syntax.tnil (Syntax.ttcons Syntax.tnil (Syntax.ttcons Syntax.tnil
+      (Syntax.ttcons (Syntax.tcons (Syntax.tyInt Syntax.w64) Syntax.tnil) (Syntax.ttcons (Syntax.tcons (Syntax.tyInt Syntax.w64) Syntax.tnil) (Syntax.ttcons Syntax.tnil (Syntax.ttcons (Syntax.tcons
+      (Syntax.tyInt Syntax.w64) (Syntax.tcons (Syntax.tyInt Syntax.w64) Syntax.tnil)) (Syntax.ttcons (Syntax.tcons (Syntax.tyInt Syntax.w64) Syntax.tnil) (Syntax.ttcons Syntax.tnil (Syntax.ttcons
+      Syntax.tnil (Syntax.ttcons (Syntax.tcons (Syntax.tyInt Syntax.w64) Syntax.tnil) (Syntax.ttcons (Syntax.tcons (Syntax.tyInt Syntax.w64) Syntax.tnil) (Syntax.ttcons (Syntax.tcons (Syntax.tyInt
+      Syntax.w64) Syntax.tnil) (Syntax.ttcons Syntax.tnil Syntax.ttnil)))))))))))))))))))))),
+) (List._∷_ (17, Rows.any-gone (Syntax.tyRef Syntax.erased Syntax.mut (Syntax.tyInt Syntax.w8))) (List._∷_ (
+  18,
+  Mut.mslice (Referent.rtF (Referent.fInt Syntax.w8)) (Syntax.tyRef Syntax.erased Syntax.mut (Syntax.tyInt Syntax.w8)) 6,
+) (List._∷_ (
+  19,
+  Rows.any-gone (Syntax.tyRef Syntax.erased Syntax.mut
+      (Syntax.tyInt Syntax.w16)),
+) (List._∷_ (
+  20,
+  Rows.any-gone (Syntax.tyStruct (List._∷_ 38 (List._∷_ 91 (List._∷_ 93 List.[]))) (Syntax.tcons (Syntax.tyRef Syntax.erased Syntax.mut (Syntax.tyInt
+      Syntax.w16)) (Syntax.tcons (Syntax.tyInt Syntax.w64) Syntax.tnil))),
+) (List._∷_ (21, Rows.any-gone (Syntax.tyRef Syntax.erased Syntax.mut Element.behind)) (List._∷_ (
+  22,
+  Rows.any-gone
+      (Syntax.tyStruct (List._∷_ 38 (List._∷_ 91 (List._∷_ 93 List.[]))) (Syntax.tcons (Syntax.tyRef Syntax.erased Syntax.mut Element.behind) (Syntax.tcons (Syntax.tyInt Syntax.w64) Syntax.tnil))),
+)
+    List.[]))))))
+
 abbrev pub t25 : List.List Row.Entry
 t25 = List._∷_ (
   0,
@@ -1267,38 +1330,40 @@ t25 = List._∷_ (
       List.[]))))))))))))))) (Syntax.ttcons Syntax.tnil (Syntax.ttcons Syntax.tnil (Syntax.ttcons Syntax.tnil (Syntax.ttcons (Syntax.tcons (Syntax.tyInt Syntax.w64) Syntax.tnil) (Syntax.ttcons Syntax.tnil
       (Syntax.ttcons Syntax.tnil (Syntax.ttcons Syntax.tnil (Syntax.ttcons Syntax.tnil (Syntax.ttcons Syntax.tnil (Syntax.ttcons Syntax.tnil (Syntax.ttcons (Syntax.tcons (Syntax.tyInt Syntax.w64)
       Syntax.tnil) (Syntax.ttcons (Syntax.tcons (Syntax.tyInt Syntax.w64) Syntax.tnil) (Syntax.ttcons Syntax.tnil (Syntax.ttcons (Syntax.tcons (Syntax.tyInt Syntax.w64) (Syntax.tcons (Syntax.tyInt
-      Syntax.w64) Syntax.tnil)) (Syntax.ttcons (Syntax.tcons (Syntax.tyInt Syntax.w64) Syntax.tnil) (Syntax.ttcons Syntax.tnil Syntax.ttnil))))))))))))))))) Syntax.tnil) Syntax.ttnil))),
+      Syntax.w64) Syntax.tnil)) (Syntax.ttcons (Syntax.tcons (Syntax.tyInt Syntax.w64) Syntax.tnil) (Syntax.ttcons Syntax.tnil (Syntax.ttcons Syntax.tnil (Syntax.ttcons (Syntax.tcons (Syntax.tyInt
+      Syntax.w64) Syntax.tnil) (Syntax.ttcons (Syntax.tcons (Syntax.tyInt Syntax.w64) Syntax.tnil) (Syntax.ttcons (Syntax.tcons (Syntax.tyInt Syntax.w64) Syntax.tnil) (Syntax.ttcons Syntax.tnil
+      Syntax.ttnil)))))))))))))))))))))) Syntax.tnil) Syntax.ttnil))),
 ) (List._∷_ (
   1,
-  Rows.sslice (Referent.rtF (Referent.fInt Syntax.w16)) (Syntax.tyRef (Syntax.named 0) Syntax.imm (Syntax.tyInt Syntax.w16)) 0,
-) (List._∷_ (
-  2,
-  Relend.mslice-owed (Referent.rtF (Referent.fInt
-      Syntax.w8)) (Syntax.tyRef (Syntax.named 1) Syntax.mut (Syntax.tyInt Syntax.w8)) 1 6 Row.off,
-) (List._∷_ (
+  Rows.sslice (Referent.rtF (Referent.fInt Syntax.w16)) (Syntax.tyRef (Syntax.named 0) Syntax.imm (Syntax.tyInt
+      Syntax.w16)) 0,
+) (List._∷_ (2, Relend.mslice-owed (Referent.rtF (Referent.fInt Syntax.w8)) (Syntax.tyRef (Syntax.named 1) Syntax.mut (Syntax.tyInt Syntax.w8)) 1 6 Row.off) (List._∷_ (
   3,
-  Relend.mslice-owed (Referent.rtF (Referent.fInt Syntax.w16)) (Syntax.tyRef (Syntax.named
-      2) Syntax.mut (Syntax.tyInt Syntax.w16)) 2 7 Row.off,
-) (List._∷_ (4, Mut.mslice (Element.type) (Syntax.tyRef (Syntax.named 3) Syntax.mut Element.behind) 3) (List._∷_ (
-  5,
-  Rows.whole (Declared'.row
-      Form.the-type),
-) (List._∷_ (6, Rows.sc-here (Row.sInt Syntax.w64)) (List._∷_ (7, Rows.sc-here (Row.sInt Syntax.w32)) (List._∷_ (8, Rows.sc-here (Row.sInt Syntax.w64)) (List._∷_ (
-  9,
-  Rows.any-gone
-      (Syntax.tyInt Syntax.w64),
-) (List._∷_ (10, Rows.any-gone Syntax.tyBool) (List._∷_ (11, Rows.any-gone Syntax.tyUnit) (List._∷_ (
-  12,
-  Rows.any-gone (Syntax.tyRef Syntax.erased Syntax.mut (Syntax.tyInt
-      Syntax.w16)),
+  Relend.mslice-owed (Referent.rtF (Referent.fInt Syntax.w16)) (Syntax.tyRef (Syntax.named 2) Syntax.mut (Syntax.tyInt Syntax.w16)) 2 7 Row.off,
 ) (List._∷_ (
+  4,
+  Mut.mslice (Element.type) (Syntax.tyRef
+      (Syntax.named 3) Syntax.mut Element.behind) 3,
+) (List._∷_ (5, Rows.whole (Declared'.row Form.the-type)) (List._∷_ (6, Rows.sc-here (Row.sInt Syntax.w64)) (List._∷_ (
+  7,
+  Rows.sc-here (Row.sInt
+      Syntax.w32),
+) (List._∷_ (8, Rows.sc-here (Row.sInt Syntax.w64)) (List._∷_ (9, Rows.any-gone (Syntax.tyInt Syntax.w64)) (List._∷_ (10, Rows.any-gone Syntax.tyBool) (List._∷_ (
+  11,
+  Rows.any-gone
+      Syntax.tyUnit,
+) (List._∷_ (12, Rows.any-gone (Syntax.tyRef Syntax.erased Syntax.mut (Syntax.tyInt Syntax.w16))) (List._∷_ (
   13,
-  Rows.any-gone (Syntax.tyStruct (List._∷_ 38 (List._∷_ 91 (List._∷_ 93 List.[]))) (Syntax.tcons (Syntax.tyRef Syntax.erased Syntax.mut (Syntax.tyInt Syntax.w16))
-      (Syntax.tcons (Syntax.tyInt Syntax.w64) Syntax.tnil))),
-) (List._∷_ (14, Rows.any-gone (Syntax.tyRef Syntax.erased Syntax.mut Element.behind)) (List._∷_ (
+  Rows.any-gone (Syntax.tyStruct (List._∷_ 38 (List._∷_ 91 (List._∷_ 93
+      List.[]))) (Syntax.tcons (Syntax.tyRef Syntax.erased Syntax.mut (Syntax.tyInt Syntax.w16)) (Syntax.tcons (Syntax.tyInt Syntax.w64) Syntax.tnil))),
+) (List._∷_ (
+  14,
+  Rows.any-gone (Syntax.tyRef
+      Syntax.erased Syntax.mut Element.behind),
+) (List._∷_ (
   15,
-  Rows.any-gone (Syntax.tyStruct
-      (List._∷_ 38 (List._∷_ 91 (List._∷_ 93 List.[]))) (Syntax.tcons (Syntax.tyRef Syntax.erased Syntax.mut Element.behind) (Syntax.tcons (Syntax.tyInt Syntax.w64) Syntax.tnil))),
+  Rows.any-gone (Syntax.tyStruct (List._∷_ 38 (List._∷_ 91 (List._∷_ 93 List.[]))) (Syntax.tcons (Syntax.tyRef Syntax.erased Syntax.mut
+      Element.behind) (Syntax.tcons (Syntax.tyInt Syntax.w64) Syntax.tnil))),
 ) List.[])))))))))))))))
 
 abbrev pub t26 : List.List Row.Entry
@@ -1308,25 +1373,26 @@ t26 = List._∷_ (
       (List._∷_ 117 (List._∷_ 115 (List._∷_ 97 (List._∷_ 108 List.[]))))))))))))))) (Syntax.ttcons Syntax.tnil (Syntax.ttcons Syntax.tnil (Syntax.ttcons Syntax.tnil (Syntax.ttcons (Syntax.tcons
       (Syntax.tyInt Syntax.w64) Syntax.tnil) (Syntax.ttcons Syntax.tnil (Syntax.ttcons Syntax.tnil (Syntax.ttcons Syntax.tnil (Syntax.ttcons Syntax.tnil (Syntax.ttcons Syntax.tnil (Syntax.ttcons Syntax.tnil
       (Syntax.ttcons (Syntax.tcons (Syntax.tyInt Syntax.w64) Syntax.tnil) (Syntax.ttcons (Syntax.tcons (Syntax.tyInt Syntax.w64) Syntax.tnil) (Syntax.ttcons Syntax.tnil (Syntax.ttcons (Syntax.tcons
-      (Syntax.tyInt Syntax.w64) (Syntax.tcons (Syntax.tyInt Syntax.w64) Syntax.tnil)) (Syntax.ttcons (Syntax.tcons (Syntax.tyInt Syntax.w64) Syntax.tnil) (Syntax.ttcons Syntax.tnil
-      Syntax.ttnil))))))))))))))))),
+      (Syntax.tyInt Syntax.w64) (Syntax.tcons (Syntax.tyInt Syntax.w64) Syntax.tnil)) (Syntax.ttcons (Syntax.tcons (Syntax.tyInt Syntax.w64) Syntax.tnil) (Syntax.ttcons Syntax.tnil (Syntax.ttcons
+      Syntax.tnil (Syntax.ttcons (Syntax.tcons (Syntax.tyInt Syntax.w64) Syntax.tnil) (Syntax.ttcons (Syntax.tcons (Syntax.tyInt Syntax.w64) Syntax.tnil) (Syntax.ttcons (Syntax.tcons (Syntax.tyInt
+      Syntax.w64) Syntax.tnil) (Syntax.ttcons Syntax.tnil Syntax.ttnil)))))))))))))))))))))),
 ) (List._∷_ (17, Rows.any-gone (Syntax.tyRef Syntax.erased Syntax.mut (Syntax.tyInt Syntax.w8))) (List._∷_ (
   18,
-  Mut.mslice (Referent.rtF (Referent.fInt Syntax.w8))
-      (Syntax.tyRef Syntax.erased Syntax.mut (Syntax.tyInt Syntax.w8)) 6,
+  Mut.mslice (Referent.rtF (Referent.fInt Syntax.w8)) (Syntax.tyRef Syntax.erased Syntax.mut (Syntax.tyInt Syntax.w8)) 6,
 ) (List._∷_ (
   19,
-  Relend.msptr (Referent.rtF (Referent.fInt Syntax.w16)) (Syntax.tyRef Syntax.erased Syntax.mut (Syntax.tyInt
-      Syntax.w16)) 7,
+  Relend.msptr (Referent.rtF (Referent.fInt Syntax.w16))
+      (Syntax.tyRef Syntax.erased Syntax.mut (Syntax.tyInt Syntax.w16)) 7,
 ) (List._∷_ (
   20,
-  Rows.any-gone (Syntax.tyStruct (List._∷_ 38 (List._∷_ 91 (List._∷_ 93 List.[]))) (Syntax.tcons (Syntax.tyRef Syntax.erased Syntax.mut (Syntax.tyInt Syntax.w16))
-      (Syntax.tcons (Syntax.tyInt Syntax.w64) Syntax.tnil))),
-) (List._∷_ (21, Rows.any-gone (Syntax.tyRef Syntax.erased Syntax.mut Element.behind)) (List._∷_ (
-  22,
-  Rows.any-gone (Syntax.tyStruct
-      (List._∷_ 38 (List._∷_ 91 (List._∷_ 93 List.[]))) (Syntax.tcons (Syntax.tyRef Syntax.erased Syntax.mut Element.behind) (Syntax.tcons (Syntax.tyInt Syntax.w64) Syntax.tnil))),
-) List.[]))))))
+  Rows.any-gone (Syntax.tyStruct (List._∷_ 38 (List._∷_ 91 (List._∷_ 93 List.[]))) (Syntax.tcons (Syntax.tyRef
+      Syntax.erased Syntax.mut (Syntax.tyInt Syntax.w16)) (Syntax.tcons (Syntax.tyInt Syntax.w64) Syntax.tnil))),
+) (List._∷_ (21, Rows.any-gone (Syntax.tyRef Syntax.erased Syntax.mut Element.behind))
+    (List._∷_ (
+      22,
+      Rows.any-gone (Syntax.tyStruct (List._∷_ 38 (List._∷_ 91 (List._∷_ 93 List.[]))) (Syntax.tcons (Syntax.tyRef Syntax.erased Syntax.mut Element.behind) (Syntax.tcons (Syntax.tyInt
+          Syntax.w64) Syntax.tnil))),
+    ) List.[]))))))
 
 abbrev pub t27 : List.List Row.Entry
 t27 = List._∷_ (
@@ -1335,22 +1401,25 @@ t27 = List._∷_ (
       (List._∷_ 117 (List._∷_ 115 (List._∷_ 97 (List._∷_ 108 List.[]))))))))))))))) (Syntax.ttcons Syntax.tnil (Syntax.ttcons Syntax.tnil (Syntax.ttcons Syntax.tnil (Syntax.ttcons (Syntax.tcons
       (Syntax.tyInt Syntax.w64) Syntax.tnil) (Syntax.ttcons Syntax.tnil (Syntax.ttcons Syntax.tnil (Syntax.ttcons Syntax.tnil (Syntax.ttcons Syntax.tnil (Syntax.ttcons Syntax.tnil (Syntax.ttcons Syntax.tnil
       (Syntax.ttcons (Syntax.tcons (Syntax.tyInt Syntax.w64) Syntax.tnil) (Syntax.ttcons (Syntax.tcons (Syntax.tyInt Syntax.w64) Syntax.tnil) (Syntax.ttcons Syntax.tnil (Syntax.ttcons (Syntax.tcons
-      (Syntax.tyInt Syntax.w64) (Syntax.tcons (Syntax.tyInt Syntax.w64) Syntax.tnil)) (Syntax.ttcons (Syntax.tcons (Syntax.tyInt Syntax.w64) Syntax.tnil) (Syntax.ttcons Syntax.tnil
-      Syntax.ttnil))))))))))))))))),
+      (Syntax.tyInt Syntax.w64) (Syntax.tcons (Syntax.tyInt Syntax.w64) Syntax.tnil)) (Syntax.ttcons (Syntax.tcons (Syntax.tyInt Syntax.w64) Syntax.tnil) (Syntax.ttcons Syntax.tnil (Syntax.ttcons
+      Syntax.tnil (Syntax.ttcons (Syntax.tcons (Syntax.tyInt Syntax.w64) Syntax.tnil) (Syntax.ttcons (Syntax.tcons (Syntax.tyInt Syntax.w64) Syntax.tnil) (Syntax.ttcons (Syntax.tcons (Syntax.tyInt
+      Syntax.w64) Syntax.tnil) (Syntax.ttcons Syntax.tnil Syntax.ttnil)))))))))))))))))))))),
 ) (List._∷_ (17, Rows.any-gone (Syntax.tyRef Syntax.erased Syntax.mut (Syntax.tyInt Syntax.w8))) (List._∷_ (
   18,
-  Mut.mslice (Referent.rtF (Referent.fInt Syntax.w8))
-      (Syntax.tyRef Syntax.erased Syntax.mut (Syntax.tyInt Syntax.w8)) 6,
-) (List._∷_ (19, Rows.any-gone (Syntax.tyRef Syntax.erased Syntax.mut (Syntax.tyInt Syntax.w16))) (List._∷_ (
-  20,
-  Mut.mslice
-      (Referent.rtF (Referent.fInt Syntax.w16)) (Syntax.tyRef Syntax.erased Syntax.mut (Syntax.tyInt Syntax.w16)) 7,
-) (List._∷_ (21, Rows.any-gone (Syntax.tyRef Syntax.erased Syntax.mut Element.behind))
-    (List._∷_ (
-      22,
-      Rows.any-gone (Syntax.tyStruct (List._∷_ 38 (List._∷_ 91 (List._∷_ 93 List.[]))) (Syntax.tcons (Syntax.tyRef Syntax.erased Syntax.mut Element.behind) (Syntax.tcons (Syntax.tyInt
-          Syntax.w64) Syntax.tnil))),
-    ) List.[]))))))
+  Mut.mslice (Referent.rtF (Referent.fInt Syntax.w8)) (Syntax.tyRef Syntax.erased Syntax.mut (Syntax.tyInt Syntax.w8)) 6,
+) (List._∷_ (
+  19,
+  Rows.any-gone (Syntax.tyRef Syntax.erased Syntax.mut
+      (Syntax.tyInt Syntax.w16)),
+) (List._∷_ (20, Mut.mslice (Referent.rtF (Referent.fInt Syntax.w16)) (Syntax.tyRef Syntax.erased Syntax.mut (Syntax.tyInt Syntax.w16)) 7) (List._∷_ (
+  21,
+  Rows.any-gone
+      (Syntax.tyRef Syntax.erased Syntax.mut Element.behind),
+) (List._∷_ (
+  22,
+  Rows.any-gone (Syntax.tyStruct (List._∷_ 38 (List._∷_ 91 (List._∷_ 93 List.[]))) (Syntax.tcons (Syntax.tyRef Syntax.erased
+      Syntax.mut Element.behind) (Syntax.tcons (Syntax.tyInt Syntax.w64) Syntax.tnil))),
+) List.[]))))))
 
 abbrev pub t28 : List.List Row.Entry
 t28 = List._∷_ (
@@ -1361,34 +1430,35 @@ t28 = List._∷_ (
       List.[]))))))))))))))) (Syntax.ttcons Syntax.tnil (Syntax.ttcons Syntax.tnil (Syntax.ttcons Syntax.tnil (Syntax.ttcons (Syntax.tcons (Syntax.tyInt Syntax.w64) Syntax.tnil) (Syntax.ttcons Syntax.tnil
       (Syntax.ttcons Syntax.tnil (Syntax.ttcons Syntax.tnil (Syntax.ttcons Syntax.tnil (Syntax.ttcons Syntax.tnil (Syntax.ttcons Syntax.tnil (Syntax.ttcons (Syntax.tcons (Syntax.tyInt Syntax.w64)
       Syntax.tnil) (Syntax.ttcons (Syntax.tcons (Syntax.tyInt Syntax.w64) Syntax.tnil) (Syntax.ttcons Syntax.tnil (Syntax.ttcons (Syntax.tcons (Syntax.tyInt Syntax.w64) (Syntax.tcons (Syntax.tyInt
-      Syntax.w64) Syntax.tnil)) (Syntax.ttcons (Syntax.tcons (Syntax.tyInt Syntax.w64) Syntax.tnil) (Syntax.ttcons Syntax.tnil Syntax.ttnil))))))))))))))))) Syntax.tnil) Syntax.ttnil))),
+      Syntax.w64) Syntax.tnil)) (Syntax.ttcons (Syntax.tcons (Syntax.tyInt Syntax.w64) Syntax.tnil) (Syntax.ttcons Syntax.tnil (Syntax.ttcons Syntax.tnil (Syntax.ttcons (Syntax.tcons (Syntax.tyInt
+      Syntax.w64) Syntax.tnil) (Syntax.ttcons (Syntax.tcons (Syntax.tyInt Syntax.w64) Syntax.tnil) (Syntax.ttcons (Syntax.tcons (Syntax.tyInt Syntax.w64) Syntax.tnil) (Syntax.ttcons Syntax.tnil
+      Syntax.ttnil)))))))))))))))))))))) Syntax.tnil) Syntax.ttnil))),
 ) (List._∷_ (
   1,
-  Rows.sslice (Referent.rtF (Referent.fInt Syntax.w16)) (Syntax.tyRef (Syntax.named 0) Syntax.imm (Syntax.tyInt Syntax.w16)) 0,
-) (List._∷_ (
-  2,
-  Relend.mslice-owed (Referent.rtF (Referent.fInt
-      Syntax.w8)) (Syntax.tyRef (Syntax.named 1) Syntax.mut (Syntax.tyInt Syntax.w8)) 1 6 Row.off,
-) (List._∷_ (
+  Rows.sslice (Referent.rtF (Referent.fInt Syntax.w16)) (Syntax.tyRef (Syntax.named 0) Syntax.imm (Syntax.tyInt
+      Syntax.w16)) 0,
+) (List._∷_ (2, Relend.mslice-owed (Referent.rtF (Referent.fInt Syntax.w8)) (Syntax.tyRef (Syntax.named 1) Syntax.mut (Syntax.tyInt Syntax.w8)) 1 6 Row.off) (List._∷_ (
   3,
-  Relend.mslice-owed (Referent.rtF (Referent.fInt Syntax.w16)) (Syntax.tyRef (Syntax.named
-      2) Syntax.mut (Syntax.tyInt Syntax.w16)) 2 7 Row.off,
-) (List._∷_ (4, Relend.mslice-owed (Element.type) (Syntax.tyRef (Syntax.named 3) Syntax.mut Element.behind) 3 8 Row.off) (List._∷_ (
-  5,
-  Rows.whole (Declared'.row Form.the-type),
-) (List._∷_ (6, Rows.sc-here (Row.sInt Syntax.w64)) (List._∷_ (7, Rows.sc-here (Row.sInt Syntax.w32)) (List._∷_ (8, Rows.sc-here (Row.sInt Syntax.w64))
-    (List._∷_ (9, Rows.any-gone (Syntax.tyInt Syntax.w64)) (List._∷_ (10, Rows.any-gone Syntax.tyBool) (List._∷_ (11, Rows.any-gone Syntax.tyUnit) (List._∷_ (
-      12,
-      Rows.any-gone (Syntax.tyRef
-          Syntax.erased Syntax.mut (Syntax.tyInt Syntax.w16)),
-    ) (List._∷_ (
+  Relend.mslice-owed (Referent.rtF (Referent.fInt Syntax.w16)) (Syntax.tyRef (Syntax.named 2) Syntax.mut (Syntax.tyInt Syntax.w16)) 2 7 Row.off,
+) (List._∷_ (
+  4,
+  Relend.mslice-owed (Element.type)
+      (Syntax.tyRef (Syntax.named 3) Syntax.mut Element.behind) 3 8 Row.off,
+) (List._∷_ (5, Rows.whole (Declared'.row Form.the-type)) (List._∷_ (6, Rows.sc-here (Row.sInt Syntax.w64)) (List._∷_ (
+  7,
+  Rows.sc-here (Row.sInt Syntax.w32),
+) (List._∷_ (8, Rows.sc-here (Row.sInt Syntax.w64)) (List._∷_ (9, Rows.any-gone (Syntax.tyInt Syntax.w64)) (List._∷_ (10, Rows.any-gone Syntax.tyBool) (List._∷_
+    (11, Rows.any-gone Syntax.tyUnit) (List._∷_ (12, Rows.any-gone (Syntax.tyRef Syntax.erased Syntax.mut (Syntax.tyInt Syntax.w16))) (List._∷_ (
       13,
-      Rows.any-gone (Syntax.tyStruct (List._∷_ 38 (List._∷_ 91 (List._∷_ 93 List.[]))) (Syntax.tcons (Syntax.tyRef Syntax.erased
-          Syntax.mut (Syntax.tyInt Syntax.w16)) (Syntax.tcons (Syntax.tyInt Syntax.w64) Syntax.tnil))),
-    ) (List._∷_ (14, Rows.any-gone (Syntax.tyRef Syntax.erased Syntax.mut Element.behind)) (List._∷_ (
+      Rows.any-gone (Syntax.tyStruct (List._∷_ 38
+          (List._∷_ 91 (List._∷_ 93 List.[]))) (Syntax.tcons (Syntax.tyRef Syntax.erased Syntax.mut (Syntax.tyInt Syntax.w16)) (Syntax.tcons (Syntax.tyInt Syntax.w64) Syntax.tnil))),
+    ) (List._∷_ (
+      14,
+      Rows.any-gone (Syntax.tyRef Syntax.erased Syntax.mut Element.behind),
+    ) (List._∷_ (
       15,
-      Rows.any-gone (Syntax.tyStruct (List._∷_ 38 (List._∷_ 91 (List._∷_ 93 List.[]))) (Syntax.tcons (Syntax.tyRef Syntax.erased Syntax.mut Element.behind) (Syntax.tcons (Syntax.tyInt Syntax.w64)
-          Syntax.tnil))),
+      Rows.any-gone (Syntax.tyStruct (List._∷_ 38 (List._∷_ 91 (List._∷_ 93 List.[]))) (Syntax.tcons (Syntax.tyRef
+          Syntax.erased Syntax.mut Element.behind) (Syntax.tcons (Syntax.tyInt Syntax.w64) Syntax.tnil))),
     ) List.[])))))))))))))))
 
 abbrev pub t29 : List.List Row.Entry
@@ -1398,24 +1468,24 @@ t29 = List._∷_ (
       (List._∷_ 117 (List._∷_ 115 (List._∷_ 97 (List._∷_ 108 List.[]))))))))))))))) (Syntax.ttcons Syntax.tnil (Syntax.ttcons Syntax.tnil (Syntax.ttcons Syntax.tnil (Syntax.ttcons (Syntax.tcons
       (Syntax.tyInt Syntax.w64) Syntax.tnil) (Syntax.ttcons Syntax.tnil (Syntax.ttcons Syntax.tnil (Syntax.ttcons Syntax.tnil (Syntax.ttcons Syntax.tnil (Syntax.ttcons Syntax.tnil (Syntax.ttcons Syntax.tnil
       (Syntax.ttcons (Syntax.tcons (Syntax.tyInt Syntax.w64) Syntax.tnil) (Syntax.ttcons (Syntax.tcons (Syntax.tyInt Syntax.w64) Syntax.tnil) (Syntax.ttcons Syntax.tnil (Syntax.ttcons (Syntax.tcons
-      (Syntax.tyInt Syntax.w64) (Syntax.tcons (Syntax.tyInt Syntax.w64) Syntax.tnil)) (Syntax.ttcons (Syntax.tcons (Syntax.tyInt Syntax.w64) Syntax.tnil) (Syntax.ttcons Syntax.tnil
-      Syntax.ttnil))))))))))))))))),
+      (Syntax.tyInt Syntax.w64) (Syntax.tcons (Syntax.tyInt Syntax.w64) Syntax.tnil)) (Syntax.ttcons (Syntax.tcons (Syntax.tyInt Syntax.w64) Syntax.tnil) (Syntax.ttcons Syntax.tnil (Syntax.ttcons
+      Syntax.tnil (Syntax.ttcons (Syntax.tcons (Syntax.tyInt Syntax.w64) Syntax.tnil) (Syntax.ttcons (Syntax.tcons (Syntax.tyInt Syntax.w64) Syntax.tnil) (Syntax.ttcons (Syntax.tcons (Syntax.tyInt
+      Syntax.w64) Syntax.tnil) (Syntax.ttcons Syntax.tnil Syntax.ttnil)))))))))))))))))))))),
 ) (List._∷_ (17, Rows.any-gone (Syntax.tyRef Syntax.erased Syntax.mut (Syntax.tyInt Syntax.w8))) (List._∷_ (
   18,
-  Mut.mslice (Referent.rtF (Referent.fInt Syntax.w8))
-      (Syntax.tyRef Syntax.erased Syntax.mut (Syntax.tyInt Syntax.w8)) 6,
-) (List._∷_ (19, Rows.any-gone (Syntax.tyRef Syntax.erased Syntax.mut (Syntax.tyInt Syntax.w16))) (List._∷_ (
-  20,
-  Mut.mslice
-      (Referent.rtF (Referent.fInt Syntax.w16)) (Syntax.tyRef Syntax.erased Syntax.mut (Syntax.tyInt Syntax.w16)) 7,
+  Mut.mslice (Referent.rtF (Referent.fInt Syntax.w8)) (Syntax.tyRef Syntax.erased Syntax.mut (Syntax.tyInt Syntax.w8)) 6,
 ) (List._∷_ (
+  19,
+  Rows.any-gone (Syntax.tyRef Syntax.erased Syntax.mut
+      (Syntax.tyInt Syntax.w16)),
+) (List._∷_ (20, Mut.mslice (Referent.rtF (Referent.fInt Syntax.w16)) (Syntax.tyRef Syntax.erased Syntax.mut (Syntax.tyInt Syntax.w16)) 7) (List._∷_ (
   21,
-  Relend.msptr (Element.type) (Syntax.tyRef Syntax.erased Syntax.mut
-      Element.behind) 8,
+  Relend.msptr
+      (Element.type) (Syntax.tyRef Syntax.erased Syntax.mut Element.behind) 8,
 ) (List._∷_ (
   22,
-  Rows.any-gone (Syntax.tyStruct (List._∷_ 38 (List._∷_ 91 (List._∷_ 93 List.[]))) (Syntax.tcons (Syntax.tyRef Syntax.erased Syntax.mut Element.behind) (Syntax.tcons
-      (Syntax.tyInt Syntax.w64) Syntax.tnil))),
+  Rows.any-gone (Syntax.tyStruct (List._∷_ 38 (List._∷_ 91 (List._∷_ 93 List.[]))) (Syntax.tcons (Syntax.tyRef
+      Syntax.erased Syntax.mut Element.behind) (Syntax.tcons (Syntax.tyInt Syntax.w64) Syntax.tnil))),
 ) List.[]))))))
 
 abbrev pub t30 : List.List Row.Entry
@@ -1425,18 +1495,21 @@ t30 = List._∷_ (
       (List._∷_ 117 (List._∷_ 115 (List._∷_ 97 (List._∷_ 108 List.[]))))))))))))))) (Syntax.ttcons Syntax.tnil (Syntax.ttcons Syntax.tnil (Syntax.ttcons Syntax.tnil (Syntax.ttcons (Syntax.tcons
       (Syntax.tyInt Syntax.w64) Syntax.tnil) (Syntax.ttcons Syntax.tnil (Syntax.ttcons Syntax.tnil (Syntax.ttcons Syntax.tnil (Syntax.ttcons Syntax.tnil (Syntax.ttcons Syntax.tnil (Syntax.ttcons Syntax.tnil
       (Syntax.ttcons (Syntax.tcons (Syntax.tyInt Syntax.w64) Syntax.tnil) (Syntax.ttcons (Syntax.tcons (Syntax.tyInt Syntax.w64) Syntax.tnil) (Syntax.ttcons Syntax.tnil (Syntax.ttcons (Syntax.tcons
-      (Syntax.tyInt Syntax.w64) (Syntax.tcons (Syntax.tyInt Syntax.w64) Syntax.tnil)) (Syntax.ttcons (Syntax.tcons (Syntax.tyInt Syntax.w64) Syntax.tnil) (Syntax.ttcons Syntax.tnil
-      Syntax.ttnil))))))))))))))))),
+      (Syntax.tyInt Syntax.w64) (Syntax.tcons (Syntax.tyInt Syntax.w64) Syntax.tnil)) (Syntax.ttcons (Syntax.tcons (Syntax.tyInt Syntax.w64) Syntax.tnil) (Syntax.ttcons Syntax.tnil (Syntax.ttcons
+      Syntax.tnil (Syntax.ttcons (Syntax.tcons (Syntax.tyInt Syntax.w64) Syntax.tnil) (Syntax.ttcons (Syntax.tcons (Syntax.tyInt Syntax.w64) Syntax.tnil) (Syntax.ttcons (Syntax.tcons (Syntax.tyInt
+      Syntax.w64) Syntax.tnil) (Syntax.ttcons Syntax.tnil Syntax.ttnil)))))))))))))))))))))),
 ) (List._∷_ (17, Rows.any-gone (Syntax.tyRef Syntax.erased Syntax.mut (Syntax.tyInt Syntax.w8))) (List._∷_ (
   18,
-  Mut.mslice (Referent.rtF (Referent.fInt Syntax.w8))
-      (Syntax.tyRef Syntax.erased Syntax.mut (Syntax.tyInt Syntax.w8)) 6,
-) (List._∷_ (19, Rows.any-gone (Syntax.tyRef Syntax.erased Syntax.mut (Syntax.tyInt Syntax.w16))) (List._∷_ (
-  20,
-  Mut.mslice
-      (Referent.rtF (Referent.fInt Syntax.w16)) (Syntax.tyRef Syntax.erased Syntax.mut (Syntax.tyInt Syntax.w16)) 7,
-) (List._∷_ (21, Rows.any-gone (Syntax.tyRef Syntax.erased Syntax.mut Element.behind))
-    (List._∷_ (22, Mut.mslice (Element.type) (Syntax.tyRef Syntax.erased Syntax.mut Element.behind) 8) List.[]))))))
+  Mut.mslice (Referent.rtF (Referent.fInt Syntax.w8)) (Syntax.tyRef Syntax.erased Syntax.mut (Syntax.tyInt Syntax.w8)) 6,
+) (List._∷_ (
+  19,
+  Rows.any-gone (Syntax.tyRef Syntax.erased Syntax.mut
+      (Syntax.tyInt Syntax.w16)),
+) (List._∷_ (20, Mut.mslice (Referent.rtF (Referent.fInt Syntax.w16)) (Syntax.tyRef Syntax.erased Syntax.mut (Syntax.tyInt Syntax.w16)) 7) (List._∷_ (
+  21,
+  Rows.any-gone
+      (Syntax.tyRef Syntax.erased Syntax.mut Element.behind),
+) (List._∷_ (22, Mut.mslice (Element.type) (Syntax.tyRef Syntax.erased Syntax.mut Element.behind) 8) List.[]))))))
 
 abbrev pub t31 : List.List Row.Entry
 t31 = List._∷_ (0, Rows.whole (Declared.row Written.the-type)) (List._∷_ (
@@ -1479,18 +1552,21 @@ t32 = List._∷_ (
       (List._∷_ 117 (List._∷_ 115 (List._∷_ 97 (List._∷_ 108 List.[]))))))))))))))) (Syntax.ttcons Syntax.tnil (Syntax.ttcons Syntax.tnil (Syntax.ttcons Syntax.tnil (Syntax.ttcons (Syntax.tcons
       (Syntax.tyInt Syntax.w64) Syntax.tnil) (Syntax.ttcons Syntax.tnil (Syntax.ttcons Syntax.tnil (Syntax.ttcons Syntax.tnil (Syntax.ttcons Syntax.tnil (Syntax.ttcons Syntax.tnil (Syntax.ttcons Syntax.tnil
       (Syntax.ttcons (Syntax.tcons (Syntax.tyInt Syntax.w64) Syntax.tnil) (Syntax.ttcons (Syntax.tcons (Syntax.tyInt Syntax.w64) Syntax.tnil) (Syntax.ttcons Syntax.tnil (Syntax.ttcons (Syntax.tcons
-      (Syntax.tyInt Syntax.w64) (Syntax.tcons (Syntax.tyInt Syntax.w64) Syntax.tnil)) (Syntax.ttcons (Syntax.tcons (Syntax.tyInt Syntax.w64) Syntax.tnil) (Syntax.ttcons Syntax.tnil
-      Syntax.ttnil))))))))))))))))),
+      (Syntax.tyInt Syntax.w64) (Syntax.tcons (Syntax.tyInt Syntax.w64) Syntax.tnil)) (Syntax.ttcons (Syntax.tcons (Syntax.tyInt Syntax.w64) Syntax.tnil) (Syntax.ttcons Syntax.tnil (Syntax.ttcons
+      Syntax.tnil (Syntax.ttcons (Syntax.tcons (Syntax.tyInt Syntax.w64) Syntax.tnil) (Syntax.ttcons (Syntax.tcons (Syntax.tyInt Syntax.w64) Syntax.tnil) (Syntax.ttcons (Syntax.tcons (Syntax.tyInt
+      Syntax.w64) Syntax.tnil) (Syntax.ttcons Syntax.tnil Syntax.ttnil)))))))))))))))))))))),
 ) (List._∷_ (17, Rows.any-gone (Syntax.tyRef Syntax.erased Syntax.mut (Syntax.tyInt Syntax.w8))) (List._∷_ (
   18,
-  Mut.msleft (Referent.rtF (Referent.fInt Syntax.w8))
-      (Syntax.tyRef Syntax.erased Syntax.mut (Syntax.tyInt Syntax.w8)),
-) (List._∷_ (19, Rows.any-gone (Syntax.tyRef Syntax.erased Syntax.mut (Syntax.tyInt Syntax.w16))) (List._∷_ (
-  20,
-  Mut.msleft
-      (Referent.rtF (Referent.fInt Syntax.w16)) (Syntax.tyRef Syntax.erased Syntax.mut (Syntax.tyInt Syntax.w16)),
-) (List._∷_ (21, Rows.any-gone (Syntax.tyRef Syntax.erased Syntax.mut Element.behind))
-    (List._∷_ (22, Mut.msleft (Element.type) (Syntax.tyRef Syntax.erased Syntax.mut Element.behind)) List.[]))))))
+  Mut.msleft (Referent.rtF (Referent.fInt Syntax.w8)) (Syntax.tyRef Syntax.erased Syntax.mut (Syntax.tyInt Syntax.w8)),
+) (List._∷_ (
+  19,
+  Rows.any-gone (Syntax.tyRef Syntax.erased Syntax.mut
+      (Syntax.tyInt Syntax.w16)),
+) (List._∷_ (20, Mut.msleft (Referent.rtF (Referent.fInt Syntax.w16)) (Syntax.tyRef Syntax.erased Syntax.mut (Syntax.tyInt Syntax.w16))) (List._∷_ (
+  21,
+  Rows.any-gone
+      (Syntax.tyRef Syntax.erased Syntax.mut Element.behind),
+) (List._∷_ (22, Mut.msleft (Element.type) (Syntax.tyRef Syntax.erased Syntax.mut Element.behind)) List.[]))))))
 
 abbrev pub t33 : List.List Row.Entry
 t33 = List._∷_ (0, Rows.whole (Declared.row Written.the-type)) (List._∷_ (
@@ -1634,24 +1710,21 @@ t37 = List._∷_ (
       (List._∷_ 117 (List._∷_ 115 (List._∷_ 97 (List._∷_ 108 List.[]))))))))))))))) (Syntax.ttcons Syntax.tnil (Syntax.ttcons Syntax.tnil (Syntax.ttcons Syntax.tnil (Syntax.ttcons (Syntax.tcons
       (Syntax.tyInt Syntax.w64) Syntax.tnil) (Syntax.ttcons Syntax.tnil (Syntax.ttcons Syntax.tnil (Syntax.ttcons Syntax.tnil (Syntax.ttcons Syntax.tnil (Syntax.ttcons Syntax.tnil (Syntax.ttcons Syntax.tnil
       (Syntax.ttcons (Syntax.tcons (Syntax.tyInt Syntax.w64) Syntax.tnil) (Syntax.ttcons (Syntax.tcons (Syntax.tyInt Syntax.w64) Syntax.tnil) (Syntax.ttcons Syntax.tnil (Syntax.ttcons (Syntax.tcons
-      (Syntax.tyInt Syntax.w64) (Syntax.tcons (Syntax.tyInt Syntax.w64) Syntax.tnil)) (Syntax.ttcons (Syntax.tcons (Syntax.tyInt Syntax.w64) Syntax.tnil) (Syntax.ttcons Syntax.tnil
-      Syntax.ttnil))))))))))))))))),
+      (Syntax.tyInt Syntax.w64) (Syntax.tcons (Syntax.tyInt Syntax.w64) Syntax.tnil)) (Syntax.ttcons (Syntax.tcons (Syntax.tyInt Syntax.w64) Syntax.tnil) (Syntax.ttcons Syntax.tnil (Syntax.ttcons
+      Syntax.tnil (Syntax.ttcons (Syntax.tcons (Syntax.tyInt Syntax.w64) Syntax.tnil) (Syntax.ttcons (Syntax.tcons (Syntax.tyInt Syntax.w64) Syntax.tnil) (Syntax.ttcons (Syntax.tcons (Syntax.tyInt
+      Syntax.w64) Syntax.tnil) (Syntax.ttcons Syntax.tnil Syntax.ttnil)))))))))))))))))))))),
 ) (List._∷_ (17, Rows.any-gone (Syntax.tyRef Syntax.erased Syntax.mut (Syntax.tyInt Syntax.w8))) (List._∷_ (
   18,
-  Rows.any-gone (Syntax.tyStruct (List._∷_ 38 (List._∷_ 91
-      (List._∷_ 93 List.[]))) (Syntax.tcons (Syntax.tyRef Syntax.erased Syntax.mut (Syntax.tyInt Syntax.w8)) (Syntax.tcons (Syntax.tyInt Syntax.w64) Syntax.tnil))),
-) (List._∷_ (
-  19,
-  Rows.any-gone
-      (Syntax.tyRef Syntax.erased Syntax.mut (Syntax.tyInt Syntax.w16)),
-) (List._∷_ (
+  Rows.any-gone (Syntax.tyStruct (List._∷_ 38 (List._∷_ 91 (List._∷_ 93 List.[]))) (Syntax.tcons (Syntax.tyRef Syntax.erased Syntax.mut (Syntax.tyInt Syntax.w8)) (Syntax.tcons (Syntax.tyInt Syntax.w64)
+      Syntax.tnil))),
+) (List._∷_ (19, Rows.any-gone (Syntax.tyRef Syntax.erased Syntax.mut (Syntax.tyInt Syntax.w16))) (List._∷_ (
   20,
-  Mut.msleft (Referent.rtF (Referent.fInt Syntax.w16)) (Syntax.tyRef Syntax.erased Syntax.mut (Syntax.tyInt
-      Syntax.w16)),
+  Mut.msleft (Referent.rtF (Referent.fInt Syntax.w16)) (Syntax.tyRef
+      Syntax.erased Syntax.mut (Syntax.tyInt Syntax.w16)),
 ) (List._∷_ (21, Rows.any-gone (Syntax.tyRef Syntax.erased Syntax.mut Element.behind)) (List._∷_ (
   22,
-  Mut.msleft (Element.type) (Syntax.tyRef Syntax.erased Syntax.mut
-      Element.behind),
+  Mut.msleft (Element.type) (Syntax.tyRef
+      Syntax.erased Syntax.mut Element.behind),
 ) List.[]))))))
 
 abbrev pub t38 : List.List Row.Entry
@@ -1699,22 +1772,22 @@ t39 = List._∷_ (
       (List._∷_ 117 (List._∷_ 115 (List._∷_ 97 (List._∷_ 108 List.[]))))))))))))))) (Syntax.ttcons Syntax.tnil (Syntax.ttcons Syntax.tnil (Syntax.ttcons Syntax.tnil (Syntax.ttcons (Syntax.tcons
       (Syntax.tyInt Syntax.w64) Syntax.tnil) (Syntax.ttcons Syntax.tnil (Syntax.ttcons Syntax.tnil (Syntax.ttcons Syntax.tnil (Syntax.ttcons Syntax.tnil (Syntax.ttcons Syntax.tnil (Syntax.ttcons Syntax.tnil
       (Syntax.ttcons (Syntax.tcons (Syntax.tyInt Syntax.w64) Syntax.tnil) (Syntax.ttcons (Syntax.tcons (Syntax.tyInt Syntax.w64) Syntax.tnil) (Syntax.ttcons Syntax.tnil (Syntax.ttcons (Syntax.tcons
-      (Syntax.tyInt Syntax.w64) (Syntax.tcons (Syntax.tyInt Syntax.w64) Syntax.tnil)) (Syntax.ttcons (Syntax.tcons (Syntax.tyInt Syntax.w64) Syntax.tnil) (Syntax.ttcons Syntax.tnil
-      Syntax.ttnil))))))))))))))))),
+      (Syntax.tyInt Syntax.w64) (Syntax.tcons (Syntax.tyInt Syntax.w64) Syntax.tnil)) (Syntax.ttcons (Syntax.tcons (Syntax.tyInt Syntax.w64) Syntax.tnil) (Syntax.ttcons Syntax.tnil (Syntax.ttcons
+      Syntax.tnil (Syntax.ttcons (Syntax.tcons (Syntax.tyInt Syntax.w64) Syntax.tnil) (Syntax.ttcons (Syntax.tcons (Syntax.tyInt Syntax.w64) Syntax.tnil) (Syntax.ttcons (Syntax.tcons (Syntax.tyInt
+      Syntax.w64) Syntax.tnil) (Syntax.ttcons Syntax.tnil Syntax.ttnil)))))))))))))))))))))),
 ) (List._∷_ (17, Rows.any-gone (Syntax.tyRef Syntax.erased Syntax.mut (Syntax.tyInt Syntax.w8))) (List._∷_ (
   18,
-  Rows.any-gone (Syntax.tyStruct (List._∷_ 38 (List._∷_ 91
-      (List._∷_ 93 List.[]))) (Syntax.tcons (Syntax.tyRef Syntax.erased Syntax.mut (Syntax.tyInt Syntax.w8)) (Syntax.tcons (Syntax.tyInt Syntax.w64) Syntax.tnil))),
-) (List._∷_ (
-  19,
-  Rows.any-gone
-      (Syntax.tyRef Syntax.erased Syntax.mut (Syntax.tyInt Syntax.w16)),
-) (List._∷_ (
+  Rows.any-gone (Syntax.tyStruct (List._∷_ 38 (List._∷_ 91 (List._∷_ 93 List.[]))) (Syntax.tcons (Syntax.tyRef Syntax.erased Syntax.mut (Syntax.tyInt Syntax.w8)) (Syntax.tcons (Syntax.tyInt Syntax.w64)
+      Syntax.tnil))),
+) (List._∷_ (19, Rows.any-gone (Syntax.tyRef Syntax.erased Syntax.mut (Syntax.tyInt Syntax.w16))) (List._∷_ (
   20,
-  Rows.any-gone (Syntax.tyStruct (List._∷_ 38 (List._∷_ 91 (List._∷_ 93 List.[]))) (Syntax.tcons (Syntax.tyRef
-      Syntax.erased Syntax.mut (Syntax.tyInt Syntax.w16)) (Syntax.tcons (Syntax.tyInt Syntax.w64) Syntax.tnil))),
-) (List._∷_ (21, Rows.any-gone (Syntax.tyRef Syntax.erased Syntax.mut Element.behind))
-    (List._∷_ (22, Mut.msleft (Element.type) (Syntax.tyRef Syntax.erased Syntax.mut Element.behind)) List.[]))))))
+  Rows.any-gone (Syntax.tyStruct (List._∷_ 38 (List._∷_ 91 (List._∷_
+      93 List.[]))) (Syntax.tcons (Syntax.tyRef Syntax.erased Syntax.mut (Syntax.tyInt Syntax.w16)) (Syntax.tcons (Syntax.tyInt Syntax.w64) Syntax.tnil))),
+) (List._∷_ (
+  21,
+  Rows.any-gone (Syntax.tyRef
+      Syntax.erased Syntax.mut Element.behind),
+) (List._∷_ (22, Mut.msleft (Element.type) (Syntax.tyRef Syntax.erased Syntax.mut Element.behind)) List.[]))))))
 
 abbrev pub t40 : List.List Row.Entry
 t40 = List._∷_ (0, Rows.whole (Declared.row Written.the-type)) (List._∷_ (
@@ -1986,7 +2059,8 @@ module _ (claims· : Claims) where
       (Syntax.tyInt Syntax.w64) Syntax.tnil) (Syntax.ttcons Syntax.tnil (Syntax.ttcons Syntax.tnil (Syntax.ttcons Syntax.tnil (Syntax.ttcons Syntax.tnil (Syntax.ttcons Syntax.tnil (Syntax.ttcons
       Syntax.tnil (Syntax.ttcons (Syntax.tcons (Syntax.tyInt Syntax.w64) Syntax.tnil) (Syntax.ttcons (Syntax.tcons (Syntax.tyInt Syntax.w64) Syntax.tnil) (Syntax.ttcons Syntax.tnil (Syntax.ttcons
       (Syntax.tcons (Syntax.tyInt Syntax.w64) (Syntax.tcons (Syntax.tyInt Syntax.w64) Syntax.tnil)) (Syntax.ttcons (Syntax.tcons (Syntax.tyInt Syntax.w64) Syntax.tnil) (Syntax.ttcons Syntax.tnil
-      Syntax.ttnil)))))))))))))))))
+      (Syntax.ttcons Syntax.tnil (Syntax.ttcons (Syntax.tcons (Syntax.tyInt Syntax.w64) Syntax.tnil) (Syntax.ttcons (Syntax.tcons (Syntax.tyInt Syntax.w64) Syntax.tnil) (Syntax.ttcons (Syntax.tcons
+      (Syntax.tyInt Syntax.w64) Syntax.tnil) (Syntax.ttcons Syntax.tnil Syntax.ttnil))))))))))))))))))))))
 
   abbrev s30 : Typed.Mo T32 → Typed.Mo T33
   s30 = Scalar.n-room T32 6 (Syntax.tyInt Syntax.w64)
@@ -2049,8 +2123,9 @@ module _ (claims· : Claims) where
       (List._∷_ 108 List.[]))))))))))))))) (Syntax.ttcons Syntax.tnil (Syntax.ttcons Syntax.tnil (Syntax.ttcons Syntax.tnil (Syntax.ttcons (Syntax.tcons (Syntax.tyInt Syntax.w64) Syntax.tnil)
       (Syntax.ttcons Syntax.tnil (Syntax.ttcons Syntax.tnil (Syntax.ttcons Syntax.tnil (Syntax.ttcons Syntax.tnil (Syntax.ttcons Syntax.tnil (Syntax.ttcons Syntax.tnil (Syntax.ttcons (Syntax.tcons
       (Syntax.tyInt Syntax.w64) Syntax.tnil) (Syntax.ttcons (Syntax.tcons (Syntax.tyInt Syntax.w64) Syntax.tnil) (Syntax.ttcons Syntax.tnil (Syntax.ttcons (Syntax.tcons (Syntax.tyInt Syntax.w64)
-      (Syntax.tcons (Syntax.tyInt Syntax.w64) Syntax.tnil)) (Syntax.ttcons (Syntax.tcons (Syntax.tyInt Syntax.w64) Syntax.tnil) (Syntax.ttcons Syntax.tnil Syntax.ttnil))))))))))))))))) Syntax.tnil)
-      Syntax.ttnil)))
+      (Syntax.tcons (Syntax.tyInt Syntax.w64) Syntax.tnil)) (Syntax.ttcons (Syntax.tcons (Syntax.tyInt Syntax.w64) Syntax.tnil) (Syntax.ttcons Syntax.tnil (Syntax.ttcons Syntax.tnil (Syntax.ttcons
+      (Syntax.tcons (Syntax.tyInt Syntax.w64) Syntax.tnil) (Syntax.ttcons (Syntax.tcons (Syntax.tyInt Syntax.w64) Syntax.tnil) (Syntax.ttcons (Syntax.tcons (Syntax.tyInt Syntax.w64) Syntax.tnil)
+      (Syntax.ttcons Syntax.tnil Syntax.ttnil)))))))))))))))))))))) Syntax.tnil) Syntax.ttnil)))
 
   abbrev s44 : Typed.Mo T46 → Typed.Mo T47
   s44 = Scalar.n-room T46 5 (Syntax.tyStruct (List._∷_ 98 (List._∷_ 108 (List._∷_ 111 (List._∷_ 99 (List._∷_ 107 (List._∷_ 58 (List._∷_ 58 (List._∷_ 70 (List._∷_ 111 (List._∷_ 114 (List._∷_ 109
@@ -2302,44 +2377,38 @@ module _ (claims· : Claims) where
               (List._∷_ 108 List.[]))))))))))))))) (Syntax.ttcons Syntax.tnil (Syntax.ttcons Syntax.tnil (Syntax.ttcons Syntax.tnil (Syntax.ttcons (Syntax.tcons (Syntax.tyInt Syntax.w64) Syntax.tnil)
               (Syntax.ttcons Syntax.tnil (Syntax.ttcons Syntax.tnil (Syntax.ttcons Syntax.tnil (Syntax.ttcons Syntax.tnil (Syntax.ttcons Syntax.tnil (Syntax.ttcons Syntax.tnil (Syntax.ttcons (Syntax.tcons
               (Syntax.tyInt Syntax.w64) Syntax.tnil) (Syntax.ttcons (Syntax.tcons (Syntax.tyInt Syntax.w64) Syntax.tnil) (Syntax.ttcons Syntax.tnil (Syntax.ttcons (Syntax.tcons (Syntax.tyInt Syntax.w64)
-              (Syntax.tcons (Syntax.tyInt Syntax.w64) Syntax.tnil)) (Syntax.ttcons (Syntax.tcons (Syntax.tyInt Syntax.w64) Syntax.tnil) (Syntax.ttcons Syntax.tnil Syntax.ttnil))))))))))))))))) Syntax.tnil)
-              Syntax.ttnil))),
-        ) (List._∷_ (1, Rows.sslice (Referent.rtF (Referent.fInt Syntax.w16)) (Syntax.tyRef (Syntax.named 0) Syntax.imm (Syntax.tyInt Syntax.w16)) 0) (List._∷_ (
-          2,
-          Mut.mslice
-              (Referent.rtF (Referent.fInt Syntax.w8)) (Syntax.tyRef (Syntax.named 1) Syntax.mut (Syntax.tyInt Syntax.w8)) 1,
+              (Syntax.tcons (Syntax.tyInt Syntax.w64) Syntax.tnil)) (Syntax.ttcons (Syntax.tcons (Syntax.tyInt Syntax.w64) Syntax.tnil) (Syntax.ttcons Syntax.tnil (Syntax.ttcons Syntax.tnil (Syntax.ttcons
+              (Syntax.tcons (Syntax.tyInt Syntax.w64) Syntax.tnil) (Syntax.ttcons (Syntax.tcons (Syntax.tyInt Syntax.w64) Syntax.tnil) (Syntax.ttcons (Syntax.tcons (Syntax.tyInt Syntax.w64) Syntax.tnil)
+              (Syntax.ttcons Syntax.tnil Syntax.ttnil)))))))))))))))))))))) Syntax.tnil) Syntax.ttnil))),
         ) (List._∷_ (
-          3,
-          Relend.mslice-owed (Referent.rtF (Referent.fInt Syntax.w16))
-              (Syntax.tyRef (Syntax.named 2) Syntax.mut (Syntax.tyInt Syntax.w16)) 2 4 (Row.lease (κs .1 .1 .0) (qs .1 .1 .0)),
-        ) (List._∷_ (
-          4,
-          Mut.mslice (Element.type) (Syntax.tyRef (Syntax.named 3)
-              Syntax.mut Element.behind) 3,
-        ) (List._∷_ (
-          5,
-          Rows.any-gone (Syntax.tyStruct (List._∷_ 98 (List._∷_ 108 (List._∷_ 111 (List._∷_ 99 (List._∷_ 107 (List._∷_ 58 (List._∷_ 58 (List._∷_ 70
-              (List._∷_ 111 (List._∷_ 114 (List._∷_ 109 List.[]))))))))))) (Syntax.tcons (Syntax.tyInt Syntax.w32) (Syntax.tcons Syntax.tyBool Syntax.tnil))),
-        ) (List._∷_ (
-          6,
-          Rows.sc-here (Row.sInt
-              Syntax.w64),
-        ) (List._∷_ (7, Rows.sc-here (Row.sInt Syntax.w32)) (List._∷_ (8, Rows.sc-here (Row.sInt Syntax.w64)) (List._∷_ (9, Rows.any-gone (Syntax.tyInt Syntax.w64)) (List._∷_ (
-          10,
-          Rows.any-gone Syntax.tyBool,
-        ) (List._∷_ (11, Rows.any-gone Syntax.tyUnit) (List._∷_ (
-          12,
-          Relend.msptr (Referent.rtF (Referent.fInt Syntax.w16)) (Syntax.tyRef Syntax.erased Syntax.mut
-              (Syntax.tyInt Syntax.w16)) 4,
-        ) (List._∷_ (
-          13,
-          Rows.any-gone (Syntax.tyStruct (List._∷_ 38 (List._∷_ 91 (List._∷_ 93 List.[]))) (Syntax.tcons (Syntax.tyRef Syntax.erased Syntax.mut
-              (Syntax.tyInt Syntax.w16)) (Syntax.tcons (Syntax.tyInt Syntax.w64) Syntax.tnil))),
-        ) (List._∷_ (14, Rows.any-gone (Syntax.tyRef Syntax.erased Syntax.mut Element.behind)) (List._∷_ (
-          15,
-          Rows.any-gone (Syntax.tyStruct (List._∷_ 38 (List._∷_ 91 (List._∷_ 93 List.[]))) (Syntax.tcons (Syntax.tyRef Syntax.erased Syntax.mut Element.behind) (Syntax.tcons (Syntax.tyInt Syntax.w64)
-              Syntax.tnil))),
-        ) List.[])))))))))))))))
+          1,
+          Rows.sslice (Referent.rtF (Referent.fInt Syntax.w16)) (Syntax.tyRef (Syntax.named
+              0) Syntax.imm (Syntax.tyInt Syntax.w16)) 0,
+        ) (List._∷_ (2, Mut.mslice (Referent.rtF (Referent.fInt Syntax.w8)) (Syntax.tyRef (Syntax.named 1) Syntax.mut (Syntax.tyInt Syntax.w8)) 1)
+            (List._∷_ (3, Relend.mslice-owed (Referent.rtF (Referent.fInt Syntax.w16)) (Syntax.tyRef (Syntax.named 2) Syntax.mut (Syntax.tyInt Syntax.w16)) 2 4 (Row.lease (κs .1 .1 .0) (qs .1 .1 .0)))
+            (List._∷_ (4, Mut.mslice (Element.type) (Syntax.tyRef (Syntax.named 3) Syntax.mut Element.behind) 3) (List._∷_ (
+              5,
+              Rows.any-gone (Syntax.tyStruct (List._∷_ 98 (List._∷_ 108 (List._∷_ 111
+                  (List._∷_ 99 (List._∷_ 107 (List._∷_ 58 (List._∷_ 58 (List._∷_ 70 (List._∷_ 111 (List._∷_ 114 (List._∷_ 109 List.[]))))))))))) (Syntax.tcons (Syntax.tyInt Syntax.w32) (Syntax.tcons
+                  Syntax.tyBool Syntax.tnil))),
+            ) (List._∷_ (6, Rows.sc-here (Row.sInt Syntax.w64)) (List._∷_ (7, Rows.sc-here (Row.sInt Syntax.w32)) (List._∷_ (8, Rows.sc-here (Row.sInt Syntax.w64))
+            (List._∷_ (9, Rows.any-gone (Syntax.tyInt Syntax.w64)) (List._∷_ (10, Rows.any-gone Syntax.tyBool) (List._∷_ (11, Rows.any-gone Syntax.tyUnit) (List._∷_ (
+              12,
+              Relend.msptr (Referent.rtF
+                  (Referent.fInt Syntax.w16)) (Syntax.tyRef Syntax.erased Syntax.mut (Syntax.tyInt Syntax.w16)) 4,
+            ) (List._∷_ (
+              13,
+              Rows.any-gone (Syntax.tyStruct (List._∷_ 38 (List._∷_ 91 (List._∷_ 93
+                  List.[]))) (Syntax.tcons (Syntax.tyRef Syntax.erased Syntax.mut (Syntax.tyInt Syntax.w16)) (Syntax.tcons (Syntax.tyInt Syntax.w64) Syntax.tnil))),
+            ) (List._∷_ (
+              14,
+              Rows.any-gone (Syntax.tyRef
+                  Syntax.erased Syntax.mut Element.behind),
+            ) (List._∷_ (
+              15,
+              Rows.any-gone (Syntax.tyStruct (List._∷_ 38 (List._∷_ 91 (List._∷_ 93 List.[]))) (Syntax.tcons (Syntax.tyRef Syntax.erased
+                  Syntax.mut Element.behind) (Syntax.tcons (Syntax.tyInt Syntax.w64) Syntax.tnil))),
+            ) List.[])))))))))))))))
 
         abbrev g11 : List.List Row.Entry
         g11 = List._∷_ (
@@ -2350,43 +2419,33 @@ module _ (claims· : Claims) where
               (List._∷_ 108 List.[]))))))))))))))) (Syntax.ttcons Syntax.tnil (Syntax.ttcons Syntax.tnil (Syntax.ttcons Syntax.tnil (Syntax.ttcons (Syntax.tcons (Syntax.tyInt Syntax.w64) Syntax.tnil)
               (Syntax.ttcons Syntax.tnil (Syntax.ttcons Syntax.tnil (Syntax.ttcons Syntax.tnil (Syntax.ttcons Syntax.tnil (Syntax.ttcons Syntax.tnil (Syntax.ttcons Syntax.tnil (Syntax.ttcons (Syntax.tcons
               (Syntax.tyInt Syntax.w64) Syntax.tnil) (Syntax.ttcons (Syntax.tcons (Syntax.tyInt Syntax.w64) Syntax.tnil) (Syntax.ttcons Syntax.tnil (Syntax.ttcons (Syntax.tcons (Syntax.tyInt Syntax.w64)
-              (Syntax.tcons (Syntax.tyInt Syntax.w64) Syntax.tnil)) (Syntax.ttcons (Syntax.tcons (Syntax.tyInt Syntax.w64) Syntax.tnil) (Syntax.ttcons Syntax.tnil Syntax.ttnil))))))))))))))))) Syntax.tnil)
-              Syntax.ttnil))),
-        ) (List._∷_ (1, Rows.sslice (Referent.rtF (Referent.fInt Syntax.w16)) (Syntax.tyRef (Syntax.named 0) Syntax.imm (Syntax.tyInt Syntax.w16)) 0) (List._∷_ (
-          2,
-          Mut.mslice
-              (Referent.rtF (Referent.fInt Syntax.w8)) (Syntax.tyRef (Syntax.named 1) Syntax.mut (Syntax.tyInt Syntax.w8)) 1,
+              (Syntax.tcons (Syntax.tyInt Syntax.w64) Syntax.tnil)) (Syntax.ttcons (Syntax.tcons (Syntax.tyInt Syntax.w64) Syntax.tnil) (Syntax.ttcons Syntax.tnil (Syntax.ttcons Syntax.tnil (Syntax.ttcons
+              (Syntax.tcons (Syntax.tyInt Syntax.w64) Syntax.tnil) (Syntax.ttcons (Syntax.tcons (Syntax.tyInt Syntax.w64) Syntax.tnil) (Syntax.ttcons (Syntax.tcons (Syntax.tyInt Syntax.w64) Syntax.tnil)
+              (Syntax.ttcons Syntax.tnil Syntax.ttnil)))))))))))))))))))))) Syntax.tnil) Syntax.ttnil))),
         ) (List._∷_ (
-          3,
-          Relend.mslice-owed (Referent.rtF (Referent.fInt Syntax.w16))
-              (Syntax.tyRef (Syntax.named 2) Syntax.mut (Syntax.tyInt Syntax.w16)) 2 4 (Row.lease (κs .1 .1 .0) (qs .1 .1 .0)),
-        ) (List._∷_ (
-          4,
-          Mut.mslice (Element.type) (Syntax.tyRef (Syntax.named 3)
-              Syntax.mut Element.behind) 3,
-        ) (List._∷_ (
-          5,
-          Rows.any-gone (Syntax.tyStruct (List._∷_ 98 (List._∷_ 108 (List._∷_ 111 (List._∷_ 99 (List._∷_ 107 (List._∷_ 58 (List._∷_ 58 (List._∷_ 70
-              (List._∷_ 111 (List._∷_ 114 (List._∷_ 109 List.[]))))))))))) (Syntax.tcons (Syntax.tyInt Syntax.w32) (Syntax.tcons Syntax.tyBool Syntax.tnil))),
-        ) (List._∷_ (
-          6,
-          Rows.sc-here (Row.sInt
-              Syntax.w64),
-        ) (List._∷_ (7, Rows.sc-here (Row.sInt Syntax.w32)) (List._∷_ (8, Rows.sc-here (Row.sInt Syntax.w64)) (List._∷_ (9, Rows.any-gone (Syntax.tyInt Syntax.w64)) (List._∷_ (
-          10,
-          Rows.any-gone Syntax.tyBool,
-        ) (List._∷_ (11, Rows.any-gone Syntax.tyUnit) (List._∷_ (12, Rows.any-gone (Syntax.tyRef Syntax.erased Syntax.mut (Syntax.tyInt Syntax.w16))) (List._∷_ (
-          13,
-          Mut.mslice (Referent.rtF (Referent.fInt Syntax.w16)) (Syntax.tyRef Syntax.erased Syntax.mut (Syntax.tyInt Syntax.w16)) 4,
-        ) (List._∷_ (
-          14,
-          Rows.any-gone (Syntax.tyRef Syntax.erased Syntax.mut
-              Element.behind),
-        ) (List._∷_ (
-          15,
-          Rows.any-gone (Syntax.tyStruct (List._∷_ 38 (List._∷_ 91 (List._∷_ 93 List.[]))) (Syntax.tcons (Syntax.tyRef Syntax.erased Syntax.mut Element.behind)
-              (Syntax.tcons (Syntax.tyInt Syntax.w64) Syntax.tnil))),
-        ) List.[])))))))))))))))
+          1,
+          Rows.sslice (Referent.rtF (Referent.fInt Syntax.w16)) (Syntax.tyRef (Syntax.named
+              0) Syntax.imm (Syntax.tyInt Syntax.w16)) 0,
+        ) (List._∷_ (2, Mut.mslice (Referent.rtF (Referent.fInt Syntax.w8)) (Syntax.tyRef (Syntax.named 1) Syntax.mut (Syntax.tyInt Syntax.w8)) 1)
+            (List._∷_ (3, Relend.mslice-owed (Referent.rtF (Referent.fInt Syntax.w16)) (Syntax.tyRef (Syntax.named 2) Syntax.mut (Syntax.tyInt Syntax.w16)) 2 4 (Row.lease (κs .1 .1 .0) (qs .1 .1 .0)))
+            (List._∷_ (4, Mut.mslice (Element.type) (Syntax.tyRef (Syntax.named 3) Syntax.mut Element.behind) 3) (List._∷_ (
+              5,
+              Rows.any-gone (Syntax.tyStruct (List._∷_ 98 (List._∷_ 108 (List._∷_ 111
+                  (List._∷_ 99 (List._∷_ 107 (List._∷_ 58 (List._∷_ 58 (List._∷_ 70 (List._∷_ 111 (List._∷_ 114 (List._∷_ 109 List.[]))))))))))) (Syntax.tcons (Syntax.tyInt Syntax.w32) (Syntax.tcons
+                  Syntax.tyBool Syntax.tnil))),
+            ) (List._∷_ (6, Rows.sc-here (Row.sInt Syntax.w64)) (List._∷_ (7, Rows.sc-here (Row.sInt Syntax.w32)) (List._∷_ (8, Rows.sc-here (Row.sInt Syntax.w64))
+            (List._∷_ (9, Rows.any-gone (Syntax.tyInt Syntax.w64)) (List._∷_ (10, Rows.any-gone Syntax.tyBool) (List._∷_ (11, Rows.any-gone Syntax.tyUnit) (List._∷_ (
+              12,
+              Rows.any-gone (Syntax.tyRef
+                  Syntax.erased Syntax.mut (Syntax.tyInt Syntax.w16)),
+            ) (List._∷_ (
+              13,
+              Mut.mslice (Referent.rtF (Referent.fInt Syntax.w16)) (Syntax.tyRef Syntax.erased Syntax.mut (Syntax.tyInt Syntax.w16)) 4,
+            ) (List._∷_ (14, Rows.any-gone (Syntax.tyRef Syntax.erased Syntax.mut Element.behind)) (List._∷_ (
+              15,
+              Rows.any-gone (Syntax.tyStruct (List._∷_ 38 (List._∷_ 91 (List._∷_ 93 List.[])))
+                  (Syntax.tcons (Syntax.tyRef Syntax.erased Syntax.mut Element.behind) (Syntax.tcons (Syntax.tyInt Syntax.w64) Syntax.tnil))),
+            ) List.[])))))))))))))))
 
         abbrev g12 : List.List Row.Entry
         g12 = List._∷_ (
@@ -2397,43 +2456,31 @@ module _ (claims· : Claims) where
               (List._∷_ 108 List.[]))))))))))))))) (Syntax.ttcons Syntax.tnil (Syntax.ttcons Syntax.tnil (Syntax.ttcons Syntax.tnil (Syntax.ttcons (Syntax.tcons (Syntax.tyInt Syntax.w64) Syntax.tnil)
               (Syntax.ttcons Syntax.tnil (Syntax.ttcons Syntax.tnil (Syntax.ttcons Syntax.tnil (Syntax.ttcons Syntax.tnil (Syntax.ttcons Syntax.tnil (Syntax.ttcons Syntax.tnil (Syntax.ttcons (Syntax.tcons
               (Syntax.tyInt Syntax.w64) Syntax.tnil) (Syntax.ttcons (Syntax.tcons (Syntax.tyInt Syntax.w64) Syntax.tnil) (Syntax.ttcons Syntax.tnil (Syntax.ttcons (Syntax.tcons (Syntax.tyInt Syntax.w64)
-              (Syntax.tcons (Syntax.tyInt Syntax.w64) Syntax.tnil)) (Syntax.ttcons (Syntax.tcons (Syntax.tyInt Syntax.w64) Syntax.tnil) (Syntax.ttcons Syntax.tnil Syntax.ttnil))))))))))))))))) Syntax.tnil)
-              Syntax.ttnil))),
-        ) (List._∷_ (1, Rows.sslice (Referent.rtF (Referent.fInt Syntax.w16)) (Syntax.tyRef (Syntax.named 0) Syntax.imm (Syntax.tyInt Syntax.w16)) 0) (List._∷_ (
-          2,
-          Mut.mslice
-              (Referent.rtF (Referent.fInt Syntax.w8)) (Syntax.tyRef (Syntax.named 1) Syntax.mut (Syntax.tyInt Syntax.w8)) 1,
+              (Syntax.tcons (Syntax.tyInt Syntax.w64) Syntax.tnil)) (Syntax.ttcons (Syntax.tcons (Syntax.tyInt Syntax.w64) Syntax.tnil) (Syntax.ttcons Syntax.tnil (Syntax.ttcons Syntax.tnil (Syntax.ttcons
+              (Syntax.tcons (Syntax.tyInt Syntax.w64) Syntax.tnil) (Syntax.ttcons (Syntax.tcons (Syntax.tyInt Syntax.w64) Syntax.tnil) (Syntax.ttcons (Syntax.tcons (Syntax.tyInt Syntax.w64) Syntax.tnil)
+              (Syntax.ttcons Syntax.tnil Syntax.ttnil)))))))))))))))))))))) Syntax.tnil) Syntax.ttnil))),
         ) (List._∷_ (
-          3,
-          Relend.mslice-owed (Referent.rtF (Referent.fInt Syntax.w16))
-              (Syntax.tyRef (Syntax.named 2) Syntax.mut (Syntax.tyInt Syntax.w16)) 2 4 (Row.lease (κs .1 .1 .0) (qs .1 .1 .0)),
-        ) (List._∷_ (
-          4,
-          Mut.mslice (Element.type) (Syntax.tyRef (Syntax.named 3)
-              Syntax.mut Element.behind) 3,
-        ) (List._∷_ (
-          5,
-          Rows.any-gone (Syntax.tyStruct (List._∷_ 98 (List._∷_ 108 (List._∷_ 111 (List._∷_ 99 (List._∷_ 107 (List._∷_ 58 (List._∷_ 58 (List._∷_ 70
-              (List._∷_ 111 (List._∷_ 114 (List._∷_ 109 List.[]))))))))))) (Syntax.tcons (Syntax.tyInt Syntax.w32) (Syntax.tcons Syntax.tyBool Syntax.tnil))),
-        ) (List._∷_ (
-          6,
-          Rows.sc-here (Row.sInt
-              Syntax.w64),
-        ) (List._∷_ (7, Rows.sc-here (Row.sInt Syntax.w32)) (List._∷_ (8, Rows.sc-here (Row.sInt Syntax.w64)) (List._∷_ (9, Rows.any-gone (Syntax.tyInt Syntax.w64)) (List._∷_ (
-          10,
-          Rows.any-gone Syntax.tyBool,
-        ) (List._∷_ (11, Rows.sc-here Row.sUnit) (List._∷_ (12, Rows.any-gone (Syntax.tyRef Syntax.erased Syntax.mut (Syntax.tyInt Syntax.w16))) (List._∷_ (
-          13,
-          Mut.msleft (Referent.rtF (Referent.fInt Syntax.w16)) (Syntax.tyRef Syntax.erased Syntax.mut (Syntax.tyInt Syntax.w16)),
-        ) (List._∷_ (
-          14,
-          Rows.any-gone (Syntax.tyRef Syntax.erased Syntax.mut
-              Element.behind),
-        ) (List._∷_ (
-          15,
-          Rows.any-gone (Syntax.tyStruct (List._∷_ 38 (List._∷_ 91 (List._∷_ 93 List.[]))) (Syntax.tcons (Syntax.tyRef Syntax.erased Syntax.mut Element.behind)
-              (Syntax.tcons (Syntax.tyInt Syntax.w64) Syntax.tnil))),
-        ) List.[])))))))))))))))
+          1,
+          Rows.sslice (Referent.rtF (Referent.fInt Syntax.w16)) (Syntax.tyRef (Syntax.named
+              0) Syntax.imm (Syntax.tyInt Syntax.w16)) 0,
+        ) (List._∷_ (2, Mut.mslice (Referent.rtF (Referent.fInt Syntax.w8)) (Syntax.tyRef (Syntax.named 1) Syntax.mut (Syntax.tyInt Syntax.w8)) 1)
+            (List._∷_ (3, Relend.mslice-owed (Referent.rtF (Referent.fInt Syntax.w16)) (Syntax.tyRef (Syntax.named 2) Syntax.mut (Syntax.tyInt Syntax.w16)) 2 4 (Row.lease (κs .1 .1 .0) (qs .1 .1 .0)))
+            (List._∷_ (4, Mut.mslice (Element.type) (Syntax.tyRef (Syntax.named 3) Syntax.mut Element.behind) 3) (List._∷_ (
+              5,
+              Rows.any-gone (Syntax.tyStruct (List._∷_ 98 (List._∷_ 108 (List._∷_ 111
+                  (List._∷_ 99 (List._∷_ 107 (List._∷_ 58 (List._∷_ 58 (List._∷_ 70 (List._∷_ 111 (List._∷_ 114 (List._∷_ 109 List.[]))))))))))) (Syntax.tcons (Syntax.tyInt Syntax.w32) (Syntax.tcons
+                  Syntax.tyBool Syntax.tnil))),
+            ) (List._∷_ (6, Rows.sc-here (Row.sInt Syntax.w64)) (List._∷_ (7, Rows.sc-here (Row.sInt Syntax.w32)) (List._∷_ (8, Rows.sc-here (Row.sInt Syntax.w64))
+            (List._∷_ (9, Rows.any-gone (Syntax.tyInt Syntax.w64)) (List._∷_ (10, Rows.any-gone Syntax.tyBool) (List._∷_ (11, Rows.sc-here Row.sUnit) (List._∷_ (
+              12,
+              Rows.any-gone (Syntax.tyRef
+                  Syntax.erased Syntax.mut (Syntax.tyInt Syntax.w16)),
+            ) (List._∷_ (13, Mut.msleft (Referent.rtF (Referent.fInt Syntax.w16)) (Syntax.tyRef Syntax.erased Syntax.mut (Syntax.tyInt Syntax.w16)))
+            (List._∷_ (14, Rows.any-gone (Syntax.tyRef Syntax.erased Syntax.mut Element.behind)) (List._∷_ (
+              15,
+              Rows.any-gone (Syntax.tyStruct (List._∷_ 38 (List._∷_ 91 (List._∷_ 93 List.[])))
+                  (Syntax.tcons (Syntax.tyRef Syntax.erased Syntax.mut Element.behind) (Syntax.tcons (Syntax.tyInt Syntax.w64) Syntax.tnil))),
+            ) List.[])))))))))))))))
 
         abbrev g13 : List.List Row.Entry
         g13 = List._∷_ (
@@ -2444,43 +2491,31 @@ module _ (claims· : Claims) where
               (List._∷_ 108 List.[]))))))))))))))) (Syntax.ttcons Syntax.tnil (Syntax.ttcons Syntax.tnil (Syntax.ttcons Syntax.tnil (Syntax.ttcons (Syntax.tcons (Syntax.tyInt Syntax.w64) Syntax.tnil)
               (Syntax.ttcons Syntax.tnil (Syntax.ttcons Syntax.tnil (Syntax.ttcons Syntax.tnil (Syntax.ttcons Syntax.tnil (Syntax.ttcons Syntax.tnil (Syntax.ttcons Syntax.tnil (Syntax.ttcons (Syntax.tcons
               (Syntax.tyInt Syntax.w64) Syntax.tnil) (Syntax.ttcons (Syntax.tcons (Syntax.tyInt Syntax.w64) Syntax.tnil) (Syntax.ttcons Syntax.tnil (Syntax.ttcons (Syntax.tcons (Syntax.tyInt Syntax.w64)
-              (Syntax.tcons (Syntax.tyInt Syntax.w64) Syntax.tnil)) (Syntax.ttcons (Syntax.tcons (Syntax.tyInt Syntax.w64) Syntax.tnil) (Syntax.ttcons Syntax.tnil Syntax.ttnil))))))))))))))))) Syntax.tnil)
-              Syntax.ttnil))),
-        ) (List._∷_ (1, Rows.sslice (Referent.rtF (Referent.fInt Syntax.w16)) (Syntax.tyRef (Syntax.named 0) Syntax.imm (Syntax.tyInt Syntax.w16)) 0) (List._∷_ (
-          2,
-          Mut.mslice
-              (Referent.rtF (Referent.fInt Syntax.w8)) (Syntax.tyRef (Syntax.named 1) Syntax.mut (Syntax.tyInt Syntax.w8)) 1,
+              (Syntax.tcons (Syntax.tyInt Syntax.w64) Syntax.tnil)) (Syntax.ttcons (Syntax.tcons (Syntax.tyInt Syntax.w64) Syntax.tnil) (Syntax.ttcons Syntax.tnil (Syntax.ttcons Syntax.tnil (Syntax.ttcons
+              (Syntax.tcons (Syntax.tyInt Syntax.w64) Syntax.tnil) (Syntax.ttcons (Syntax.tcons (Syntax.tyInt Syntax.w64) Syntax.tnil) (Syntax.ttcons (Syntax.tcons (Syntax.tyInt Syntax.w64) Syntax.tnil)
+              (Syntax.ttcons Syntax.tnil Syntax.ttnil)))))))))))))))))))))) Syntax.tnil) Syntax.ttnil))),
         ) (List._∷_ (
-          3,
-          Relend.mslice-owed (Referent.rtF (Referent.fInt Syntax.w16))
-              (Syntax.tyRef (Syntax.named 2) Syntax.mut (Syntax.tyInt Syntax.w16)) 2 4 (Row.lease (κs .1 .1 .0) (qs .1 .1 .0)),
-        ) (List._∷_ (
-          4,
-          Mut.mslice (Element.type) (Syntax.tyRef (Syntax.named 3)
-              Syntax.mut Element.behind) 3,
-        ) (List._∷_ (
-          5,
-          Rows.any-gone (Syntax.tyStruct (List._∷_ 98 (List._∷_ 108 (List._∷_ 111 (List._∷_ 99 (List._∷_ 107 (List._∷_ 58 (List._∷_ 58 (List._∷_ 70
-              (List._∷_ 111 (List._∷_ 114 (List._∷_ 109 List.[]))))))))))) (Syntax.tcons (Syntax.tyInt Syntax.w32) (Syntax.tcons Syntax.tyBool Syntax.tnil))),
-        ) (List._∷_ (
-          6,
-          Rows.sc-here (Row.sInt
-              Syntax.w64),
-        ) (List._∷_ (7, Rows.sc-here (Row.sInt Syntax.w32)) (List._∷_ (8, Rows.sc-here (Row.sInt Syntax.w64)) (List._∷_ (9, Rows.any-gone (Syntax.tyInt Syntax.w64)) (List._∷_ (
-          10,
-          Rows.any-gone Syntax.tyBool,
-        ) (List._∷_ (11, Rows.any-gone Syntax.tyUnit) (List._∷_ (12, Rows.any-gone (Syntax.tyRef Syntax.erased Syntax.mut (Syntax.tyInt Syntax.w16))) (List._∷_ (
-          13,
-          Mut.msleft (Referent.rtF (Referent.fInt Syntax.w16)) (Syntax.tyRef Syntax.erased Syntax.mut (Syntax.tyInt Syntax.w16)),
-        ) (List._∷_ (
-          14,
-          Rows.any-gone (Syntax.tyRef Syntax.erased Syntax.mut
-              Element.behind),
-        ) (List._∷_ (
-          15,
-          Rows.any-gone (Syntax.tyStruct (List._∷_ 38 (List._∷_ 91 (List._∷_ 93 List.[]))) (Syntax.tcons (Syntax.tyRef Syntax.erased Syntax.mut Element.behind)
-              (Syntax.tcons (Syntax.tyInt Syntax.w64) Syntax.tnil))),
-        ) List.[])))))))))))))))
+          1,
+          Rows.sslice (Referent.rtF (Referent.fInt Syntax.w16)) (Syntax.tyRef (Syntax.named
+              0) Syntax.imm (Syntax.tyInt Syntax.w16)) 0,
+        ) (List._∷_ (2, Mut.mslice (Referent.rtF (Referent.fInt Syntax.w8)) (Syntax.tyRef (Syntax.named 1) Syntax.mut (Syntax.tyInt Syntax.w8)) 1)
+            (List._∷_ (3, Relend.mslice-owed (Referent.rtF (Referent.fInt Syntax.w16)) (Syntax.tyRef (Syntax.named 2) Syntax.mut (Syntax.tyInt Syntax.w16)) 2 4 (Row.lease (κs .1 .1 .0) (qs .1 .1 .0)))
+            (List._∷_ (4, Mut.mslice (Element.type) (Syntax.tyRef (Syntax.named 3) Syntax.mut Element.behind) 3) (List._∷_ (
+              5,
+              Rows.any-gone (Syntax.tyStruct (List._∷_ 98 (List._∷_ 108 (List._∷_ 111
+                  (List._∷_ 99 (List._∷_ 107 (List._∷_ 58 (List._∷_ 58 (List._∷_ 70 (List._∷_ 111 (List._∷_ 114 (List._∷_ 109 List.[]))))))))))) (Syntax.tcons (Syntax.tyInt Syntax.w32) (Syntax.tcons
+                  Syntax.tyBool Syntax.tnil))),
+            ) (List._∷_ (6, Rows.sc-here (Row.sInt Syntax.w64)) (List._∷_ (7, Rows.sc-here (Row.sInt Syntax.w32)) (List._∷_ (8, Rows.sc-here (Row.sInt Syntax.w64))
+            (List._∷_ (9, Rows.any-gone (Syntax.tyInt Syntax.w64)) (List._∷_ (10, Rows.any-gone Syntax.tyBool) (List._∷_ (11, Rows.any-gone Syntax.tyUnit) (List._∷_ (
+              12,
+              Rows.any-gone (Syntax.tyRef
+                  Syntax.erased Syntax.mut (Syntax.tyInt Syntax.w16)),
+            ) (List._∷_ (13, Mut.msleft (Referent.rtF (Referent.fInt Syntax.w16)) (Syntax.tyRef Syntax.erased Syntax.mut (Syntax.tyInt Syntax.w16)))
+            (List._∷_ (14, Rows.any-gone (Syntax.tyRef Syntax.erased Syntax.mut Element.behind)) (List._∷_ (
+              15,
+              Rows.any-gone (Syntax.tyStruct (List._∷_ 38 (List._∷_ 91 (List._∷_ 93 List.[])))
+                  (Syntax.tcons (Syntax.tyRef Syntax.erased Syntax.mut Element.behind) (Syntax.tcons (Syntax.tyInt Syntax.w64) Syntax.tnil))),
+            ) List.[])))))))))))))))
 
         abbrev g14 : List.List Row.Entry
         g14 = List._∷_ (
@@ -2491,38 +2526,43 @@ module _ (claims· : Claims) where
               (List._∷_ 108 List.[]))))))))))))))) (Syntax.ttcons Syntax.tnil (Syntax.ttcons Syntax.tnil (Syntax.ttcons Syntax.tnil (Syntax.ttcons (Syntax.tcons (Syntax.tyInt Syntax.w64) Syntax.tnil)
               (Syntax.ttcons Syntax.tnil (Syntax.ttcons Syntax.tnil (Syntax.ttcons Syntax.tnil (Syntax.ttcons Syntax.tnil (Syntax.ttcons Syntax.tnil (Syntax.ttcons Syntax.tnil (Syntax.ttcons (Syntax.tcons
               (Syntax.tyInt Syntax.w64) Syntax.tnil) (Syntax.ttcons (Syntax.tcons (Syntax.tyInt Syntax.w64) Syntax.tnil) (Syntax.ttcons Syntax.tnil (Syntax.ttcons (Syntax.tcons (Syntax.tyInt Syntax.w64)
-              (Syntax.tcons (Syntax.tyInt Syntax.w64) Syntax.tnil)) (Syntax.ttcons (Syntax.tcons (Syntax.tyInt Syntax.w64) Syntax.tnil) (Syntax.ttcons Syntax.tnil Syntax.ttnil))))))))))))))))) Syntax.tnil)
-              Syntax.ttnil))),
-        ) (List._∷_ (1, Rows.sslice (Referent.rtF (Referent.fInt Syntax.w16)) (Syntax.tyRef (Syntax.named 0) Syntax.imm (Syntax.tyInt Syntax.w16)) 0) (List._∷_ (
-          2,
-          Mut.mslice
-              (Referent.rtF (Referent.fInt Syntax.w8)) (Syntax.tyRef (Syntax.named 1) Syntax.mut (Syntax.tyInt Syntax.w8)) 1,
+              (Syntax.tcons (Syntax.tyInt Syntax.w64) Syntax.tnil)) (Syntax.ttcons (Syntax.tcons (Syntax.tyInt Syntax.w64) Syntax.tnil) (Syntax.ttcons Syntax.tnil (Syntax.ttcons Syntax.tnil (Syntax.ttcons
+              (Syntax.tcons (Syntax.tyInt Syntax.w64) Syntax.tnil) (Syntax.ttcons (Syntax.tcons (Syntax.tyInt Syntax.w64) Syntax.tnil) (Syntax.ttcons (Syntax.tcons (Syntax.tyInt Syntax.w64) Syntax.tnil)
+              (Syntax.ttcons Syntax.tnil Syntax.ttnil)))))))))))))))))))))) Syntax.tnil) Syntax.ttnil))),
         ) (List._∷_ (
-          3,
-          Mut.mslice (Referent.rtF (Referent.fInt Syntax.w16))
-              (Syntax.tyRef (Syntax.named 2) Syntax.mut (Syntax.tyInt Syntax.w16)) 2,
-        ) (List._∷_ (
-          4,
-          Relend.mslice-owed (Element.type) (Syntax.tyRef (Syntax.named 3) Syntax.mut Element.behind) 3 5
-              (Row.lease (κs .1 .1 .1 .0) (qs .1 .1 .1 .0)),
-        ) (List._∷_ (
-          5,
-          Rows.any-gone (Syntax.tyStruct (List._∷_ 98 (List._∷_ 108 (List._∷_ 111 (List._∷_ 99 (List._∷_ 107 (List._∷_ 58 (List._∷_ 58
-              (List._∷_ 70 (List._∷_ 111 (List._∷_ 114 (List._∷_ 109 List.[]))))))))))) (Syntax.tcons (Syntax.tyInt Syntax.w32) (Syntax.tcons Syntax.tyBool Syntax.tnil))),
-        ) (List._∷_ (
-          6,
-          Rows.sc-here
-              (Row.sInt Syntax.w64),
-        ) (List._∷_ (7, Rows.sc-here (Row.sInt Syntax.w32)) (List._∷_ (8, Rows.sc-here (Row.sInt Syntax.w64)) (List._∷_ (9, Rows.any-gone (Syntax.tyInt Syntax.w64))
-            (List._∷_ (10, Rows.any-gone Syntax.tyBool) (List._∷_ (11, Rows.any-gone Syntax.tyUnit) (List._∷_ (12, Rows.any-gone (Syntax.tyRef Syntax.erased Syntax.mut (Syntax.tyInt Syntax.w16)))
-            (List._∷_ (
-              13,
-              Rows.any-gone (Syntax.tyStruct (List._∷_ 38 (List._∷_ 91 (List._∷_ 93 List.[]))) (Syntax.tcons (Syntax.tyRef Syntax.erased Syntax.mut (Syntax.tyInt Syntax.w16)) (Syntax.tcons
-                  (Syntax.tyInt Syntax.w64) Syntax.tnil))),
-            ) (List._∷_ (14, Relend.msptr (Element.type) (Syntax.tyRef Syntax.erased Syntax.mut Element.behind) 5) (List._∷_ (
-              15,
+          1,
+          Rows.sslice (Referent.rtF (Referent.fInt Syntax.w16)) (Syntax.tyRef (Syntax.named
+              0) Syntax.imm (Syntax.tyInt Syntax.w16)) 0,
+        ) (List._∷_ (2, Mut.mslice (Referent.rtF (Referent.fInt Syntax.w8)) (Syntax.tyRef (Syntax.named 1) Syntax.mut (Syntax.tyInt Syntax.w8)) 1)
+            (List._∷_ (3, Mut.mslice (Referent.rtF (Referent.fInt Syntax.w16)) (Syntax.tyRef (Syntax.named 2) Syntax.mut (Syntax.tyInt Syntax.w16)) 2) (List._∷_ (
+              4,
+              Relend.mslice-owed (Element.type)
+                  (Syntax.tyRef (Syntax.named 3) Syntax.mut Element.behind) 3 5 (Row.lease (κs .1 .1 .1 .0) (qs .1 .1 .1 .0)),
+            ) (List._∷_ (
+              5,
+              Rows.any-gone (Syntax.tyStruct (List._∷_ 98 (List._∷_ 108
+                  (List._∷_ 111 (List._∷_ 99 (List._∷_ 107 (List._∷_ 58 (List._∷_ 58 (List._∷_ 70 (List._∷_ 111 (List._∷_ 114 (List._∷_ 109 List.[]))))))))))) (Syntax.tcons (Syntax.tyInt Syntax.w32)
+                  (Syntax.tcons Syntax.tyBool Syntax.tnil))),
+            ) (List._∷_ (6, Rows.sc-here (Row.sInt Syntax.w64)) (List._∷_ (7, Rows.sc-here (Row.sInt Syntax.w32)) (List._∷_ (
+              8,
+              Rows.sc-here (Row.sInt
+                  Syntax.w64),
+            ) (List._∷_ (9, Rows.any-gone (Syntax.tyInt Syntax.w64)) (List._∷_ (10, Rows.any-gone Syntax.tyBool) (List._∷_ (11, Rows.any-gone Syntax.tyUnit) (List._∷_ (
+              12,
               Rows.any-gone
-                  (Syntax.tyStruct (List._∷_ 38 (List._∷_ 91 (List._∷_ 93 List.[]))) (Syntax.tcons (Syntax.tyRef Syntax.erased Syntax.mut Element.behind) (Syntax.tcons (Syntax.tyInt Syntax.w64) Syntax.tnil))),
+                  (Syntax.tyRef Syntax.erased Syntax.mut (Syntax.tyInt Syntax.w16)),
+            ) (List._∷_ (
+              13,
+              Rows.any-gone (Syntax.tyStruct (List._∷_ 38 (List._∷_ 91 (List._∷_ 93 List.[]))) (Syntax.tcons
+                  (Syntax.tyRef Syntax.erased Syntax.mut (Syntax.tyInt Syntax.w16)) (Syntax.tcons (Syntax.tyInt Syntax.w64) Syntax.tnil))),
+            ) (List._∷_ (
+              14,
+              Relend.msptr (Element.type) (Syntax.tyRef
+                  Syntax.erased Syntax.mut Element.behind) 5,
+            ) (List._∷_ (
+              15,
+              Rows.any-gone (Syntax.tyStruct (List._∷_ 38 (List._∷_ 91 (List._∷_ 93 List.[]))) (Syntax.tcons (Syntax.tyRef Syntax.erased
+                  Syntax.mut Element.behind) (Syntax.tcons (Syntax.tyInt Syntax.w64) Syntax.tnil))),
             ) List.[])))))))))))))))
 
         abbrev g15 : List.List Row.Entry
@@ -2534,39 +2574,40 @@ module _ (claims· : Claims) where
               (List._∷_ 108 List.[]))))))))))))))) (Syntax.ttcons Syntax.tnil (Syntax.ttcons Syntax.tnil (Syntax.ttcons Syntax.tnil (Syntax.ttcons (Syntax.tcons (Syntax.tyInt Syntax.w64) Syntax.tnil)
               (Syntax.ttcons Syntax.tnil (Syntax.ttcons Syntax.tnil (Syntax.ttcons Syntax.tnil (Syntax.ttcons Syntax.tnil (Syntax.ttcons Syntax.tnil (Syntax.ttcons Syntax.tnil (Syntax.ttcons (Syntax.tcons
               (Syntax.tyInt Syntax.w64) Syntax.tnil) (Syntax.ttcons (Syntax.tcons (Syntax.tyInt Syntax.w64) Syntax.tnil) (Syntax.ttcons Syntax.tnil (Syntax.ttcons (Syntax.tcons (Syntax.tyInt Syntax.w64)
-              (Syntax.tcons (Syntax.tyInt Syntax.w64) Syntax.tnil)) (Syntax.ttcons (Syntax.tcons (Syntax.tyInt Syntax.w64) Syntax.tnil) (Syntax.ttcons Syntax.tnil Syntax.ttnil))))))))))))))))) Syntax.tnil)
-              Syntax.ttnil))),
-        ) (List._∷_ (1, Rows.sslice (Referent.rtF (Referent.fInt Syntax.w16)) (Syntax.tyRef (Syntax.named 0) Syntax.imm (Syntax.tyInt Syntax.w16)) 0) (List._∷_ (
-          2,
-          Mut.mslice
-              (Referent.rtF (Referent.fInt Syntax.w8)) (Syntax.tyRef (Syntax.named 1) Syntax.mut (Syntax.tyInt Syntax.w8)) 1,
+              (Syntax.tcons (Syntax.tyInt Syntax.w64) Syntax.tnil)) (Syntax.ttcons (Syntax.tcons (Syntax.tyInt Syntax.w64) Syntax.tnil) (Syntax.ttcons Syntax.tnil (Syntax.ttcons Syntax.tnil (Syntax.ttcons
+              (Syntax.tcons (Syntax.tyInt Syntax.w64) Syntax.tnil) (Syntax.ttcons (Syntax.tcons (Syntax.tyInt Syntax.w64) Syntax.tnil) (Syntax.ttcons (Syntax.tcons (Syntax.tyInt Syntax.w64) Syntax.tnil)
+              (Syntax.ttcons Syntax.tnil Syntax.ttnil)))))))))))))))))))))) Syntax.tnil) Syntax.ttnil))),
         ) (List._∷_ (
-          3,
-          Mut.mslice (Referent.rtF (Referent.fInt Syntax.w16))
-              (Syntax.tyRef (Syntax.named 2) Syntax.mut (Syntax.tyInt Syntax.w16)) 2,
-        ) (List._∷_ (
-          4,
-          Relend.mslice-owed (Element.type) (Syntax.tyRef (Syntax.named 3) Syntax.mut Element.behind) 3 5
-              (Row.lease (κs .1 .1 .1 .0) (qs .1 .1 .1 .0)),
-        ) (List._∷_ (
-          5,
-          Rows.any-gone (Syntax.tyStruct (List._∷_ 98 (List._∷_ 108 (List._∷_ 111 (List._∷_ 99 (List._∷_ 107 (List._∷_ 58 (List._∷_ 58
-              (List._∷_ 70 (List._∷_ 111 (List._∷_ 114 (List._∷_ 109 List.[]))))))))))) (Syntax.tcons (Syntax.tyInt Syntax.w32) (Syntax.tcons Syntax.tyBool Syntax.tnil))),
-        ) (List._∷_ (
-          6,
-          Rows.sc-here
-              (Row.sInt Syntax.w64),
-        ) (List._∷_ (7, Rows.sc-here (Row.sInt Syntax.w32)) (List._∷_ (8, Rows.sc-here (Row.sInt Syntax.w64)) (List._∷_ (9, Rows.any-gone (Syntax.tyInt Syntax.w64))
-            (List._∷_ (10, Rows.any-gone Syntax.tyBool) (List._∷_ (11, Rows.any-gone Syntax.tyUnit) (List._∷_ (12, Rows.any-gone (Syntax.tyRef Syntax.erased Syntax.mut (Syntax.tyInt Syntax.w16)))
-            (List._∷_ (
+          1,
+          Rows.sslice (Referent.rtF (Referent.fInt Syntax.w16)) (Syntax.tyRef (Syntax.named
+              0) Syntax.imm (Syntax.tyInt Syntax.w16)) 0,
+        ) (List._∷_ (2, Mut.mslice (Referent.rtF (Referent.fInt Syntax.w8)) (Syntax.tyRef (Syntax.named 1) Syntax.mut (Syntax.tyInt Syntax.w8)) 1)
+            (List._∷_ (3, Mut.mslice (Referent.rtF (Referent.fInt Syntax.w16)) (Syntax.tyRef (Syntax.named 2) Syntax.mut (Syntax.tyInt Syntax.w16)) 2) (List._∷_ (
+              4,
+              Relend.mslice-owed (Element.type)
+                  (Syntax.tyRef (Syntax.named 3) Syntax.mut Element.behind) 3 5 (Row.lease (κs .1 .1 .1 .0) (qs .1 .1 .1 .0)),
+            ) (List._∷_ (
+              5,
+              Rows.any-gone (Syntax.tyStruct (List._∷_ 98 (List._∷_ 108
+                  (List._∷_ 111 (List._∷_ 99 (List._∷_ 107 (List._∷_ 58 (List._∷_ 58 (List._∷_ 70 (List._∷_ 111 (List._∷_ 114 (List._∷_ 109 List.[]))))))))))) (Syntax.tcons (Syntax.tyInt Syntax.w32)
+                  (Syntax.tcons Syntax.tyBool Syntax.tnil))),
+            ) (List._∷_ (6, Rows.sc-here (Row.sInt Syntax.w64)) (List._∷_ (7, Rows.sc-here (Row.sInt Syntax.w32)) (List._∷_ (
+              8,
+              Rows.sc-here (Row.sInt
+                  Syntax.w64),
+            ) (List._∷_ (9, Rows.any-gone (Syntax.tyInt Syntax.w64)) (List._∷_ (10, Rows.any-gone Syntax.tyBool) (List._∷_ (11, Rows.any-gone Syntax.tyUnit) (List._∷_ (
+              12,
+              Rows.any-gone
+                  (Syntax.tyRef Syntax.erased Syntax.mut (Syntax.tyInt Syntax.w16)),
+            ) (List._∷_ (
               13,
-              Rows.any-gone (Syntax.tyStruct (List._∷_ 38 (List._∷_ 91 (List._∷_ 93 List.[]))) (Syntax.tcons (Syntax.tyRef Syntax.erased Syntax.mut (Syntax.tyInt Syntax.w16)) (Syntax.tcons
-                  (Syntax.tyInt Syntax.w64) Syntax.tnil))),
-            ) (List._∷_ (14, Rows.any-gone (Syntax.tyRef Syntax.erased Syntax.mut Element.behind)) (List._∷_ (
-              15,
-              Mut.mslice (Element.type) (Syntax.tyRef
-                  Syntax.erased Syntax.mut Element.behind) 5,
-            ) List.[])))))))))))))))
+              Rows.any-gone (Syntax.tyStruct (List._∷_ 38 (List._∷_ 91 (List._∷_ 93 List.[]))) (Syntax.tcons
+                  (Syntax.tyRef Syntax.erased Syntax.mut (Syntax.tyInt Syntax.w16)) (Syntax.tcons (Syntax.tyInt Syntax.w64) Syntax.tnil))),
+            ) (List._∷_ (
+              14,
+              Rows.any-gone (Syntax.tyRef Syntax.erased Syntax.mut
+                  Element.behind),
+            ) (List._∷_ (15, Mut.mslice (Element.type) (Syntax.tyRef Syntax.erased Syntax.mut Element.behind) 5) List.[])))))))))))))))
 
         abbrev g16 : List.List Row.Entry
         g16 = List._∷_ (
@@ -2577,38 +2618,40 @@ module _ (claims· : Claims) where
               (List._∷_ 108 List.[]))))))))))))))) (Syntax.ttcons Syntax.tnil (Syntax.ttcons Syntax.tnil (Syntax.ttcons Syntax.tnil (Syntax.ttcons (Syntax.tcons (Syntax.tyInt Syntax.w64) Syntax.tnil)
               (Syntax.ttcons Syntax.tnil (Syntax.ttcons Syntax.tnil (Syntax.ttcons Syntax.tnil (Syntax.ttcons Syntax.tnil (Syntax.ttcons Syntax.tnil (Syntax.ttcons Syntax.tnil (Syntax.ttcons (Syntax.tcons
               (Syntax.tyInt Syntax.w64) Syntax.tnil) (Syntax.ttcons (Syntax.tcons (Syntax.tyInt Syntax.w64) Syntax.tnil) (Syntax.ttcons Syntax.tnil (Syntax.ttcons (Syntax.tcons (Syntax.tyInt Syntax.w64)
-              (Syntax.tcons (Syntax.tyInt Syntax.w64) Syntax.tnil)) (Syntax.ttcons (Syntax.tcons (Syntax.tyInt Syntax.w64) Syntax.tnil) (Syntax.ttcons Syntax.tnil Syntax.ttnil))))))))))))))))) Syntax.tnil)
-              Syntax.ttnil))),
-        ) (List._∷_ (1, Rows.sslice (Referent.rtF (Referent.fInt Syntax.w16)) (Syntax.tyRef (Syntax.named 0) Syntax.imm (Syntax.tyInt Syntax.w16)) 0) (List._∷_ (
-          2,
-          Mut.mslice
-              (Referent.rtF (Referent.fInt Syntax.w8)) (Syntax.tyRef (Syntax.named 1) Syntax.mut (Syntax.tyInt Syntax.w8)) 1,
+              (Syntax.tcons (Syntax.tyInt Syntax.w64) Syntax.tnil)) (Syntax.ttcons (Syntax.tcons (Syntax.tyInt Syntax.w64) Syntax.tnil) (Syntax.ttcons Syntax.tnil (Syntax.ttcons Syntax.tnil (Syntax.ttcons
+              (Syntax.tcons (Syntax.tyInt Syntax.w64) Syntax.tnil) (Syntax.ttcons (Syntax.tcons (Syntax.tyInt Syntax.w64) Syntax.tnil) (Syntax.ttcons (Syntax.tcons (Syntax.tyInt Syntax.w64) Syntax.tnil)
+              (Syntax.ttcons Syntax.tnil Syntax.ttnil)))))))))))))))))))))) Syntax.tnil) Syntax.ttnil))),
         ) (List._∷_ (
-          3,
-          Mut.mslice (Referent.rtF (Referent.fInt Syntax.w16))
-              (Syntax.tyRef (Syntax.named 2) Syntax.mut (Syntax.tyInt Syntax.w16)) 2,
-        ) (List._∷_ (
-          4,
-          Relend.mslice-owed (Element.type) (Syntax.tyRef (Syntax.named 3) Syntax.mut Element.behind) 3 5
-              (Row.lease (κs .1 .1 .1 .0) (qs .1 .1 .1 .0)),
-        ) (List._∷_ (
-          5,
-          Rows.any-gone (Syntax.tyStruct (List._∷_ 98 (List._∷_ 108 (List._∷_ 111 (List._∷_ 99 (List._∷_ 107 (List._∷_ 58 (List._∷_ 58
-              (List._∷_ 70 (List._∷_ 111 (List._∷_ 114 (List._∷_ 109 List.[]))))))))))) (Syntax.tcons (Syntax.tyInt Syntax.w32) (Syntax.tcons Syntax.tyBool Syntax.tnil))),
-        ) (List._∷_ (
-          6,
-          Rows.sc-here
-              (Row.sInt Syntax.w64),
-        ) (List._∷_ (7, Rows.sc-here (Row.sInt Syntax.w32)) (List._∷_ (8, Rows.sc-here (Row.sInt Syntax.w64)) (List._∷_ (9, Rows.any-gone (Syntax.tyInt Syntax.w64))
-            (List._∷_ (10, Rows.any-gone Syntax.tyBool) (List._∷_ (11, Rows.sc-here Row.sUnit) (List._∷_ (12, Rows.any-gone (Syntax.tyRef Syntax.erased Syntax.mut (Syntax.tyInt Syntax.w16))) (List._∷_ (
+          1,
+          Rows.sslice (Referent.rtF (Referent.fInt Syntax.w16)) (Syntax.tyRef (Syntax.named
+              0) Syntax.imm (Syntax.tyInt Syntax.w16)) 0,
+        ) (List._∷_ (2, Mut.mslice (Referent.rtF (Referent.fInt Syntax.w8)) (Syntax.tyRef (Syntax.named 1) Syntax.mut (Syntax.tyInt Syntax.w8)) 1)
+            (List._∷_ (3, Mut.mslice (Referent.rtF (Referent.fInt Syntax.w16)) (Syntax.tyRef (Syntax.named 2) Syntax.mut (Syntax.tyInt Syntax.w16)) 2) (List._∷_ (
+              4,
+              Relend.mslice-owed (Element.type)
+                  (Syntax.tyRef (Syntax.named 3) Syntax.mut Element.behind) 3 5 (Row.lease (κs .1 .1 .1 .0) (qs .1 .1 .1 .0)),
+            ) (List._∷_ (
+              5,
+              Rows.any-gone (Syntax.tyStruct (List._∷_ 98 (List._∷_ 108
+                  (List._∷_ 111 (List._∷_ 99 (List._∷_ 107 (List._∷_ 58 (List._∷_ 58 (List._∷_ 70 (List._∷_ 111 (List._∷_ 114 (List._∷_ 109 List.[]))))))))))) (Syntax.tcons (Syntax.tyInt Syntax.w32)
+                  (Syntax.tcons Syntax.tyBool Syntax.tnil))),
+            ) (List._∷_ (6, Rows.sc-here (Row.sInt Syntax.w64)) (List._∷_ (7, Rows.sc-here (Row.sInt Syntax.w32)) (List._∷_ (
+              8,
+              Rows.sc-here (Row.sInt
+                  Syntax.w64),
+            ) (List._∷_ (9, Rows.any-gone (Syntax.tyInt Syntax.w64)) (List._∷_ (10, Rows.any-gone Syntax.tyBool) (List._∷_ (11, Rows.sc-here Row.sUnit) (List._∷_ (
+              12,
+              Rows.any-gone
+                  (Syntax.tyRef Syntax.erased Syntax.mut (Syntax.tyInt Syntax.w16)),
+            ) (List._∷_ (
               13,
-              Rows.any-gone (Syntax.tyStruct (List._∷_ 38 (List._∷_ 91 (List._∷_ 93 List.[]))) (Syntax.tcons (Syntax.tyRef Syntax.erased Syntax.mut (Syntax.tyInt Syntax.w16)) (Syntax.tcons
-                  (Syntax.tyInt Syntax.w64) Syntax.tnil))),
-            ) (List._∷_ (14, Rows.any-gone (Syntax.tyRef Syntax.erased Syntax.mut Element.behind)) (List._∷_ (
-              15,
-              Mut.msleft (Element.type) (Syntax.tyRef
-                  Syntax.erased Syntax.mut Element.behind),
-            ) List.[])))))))))))))))
+              Rows.any-gone (Syntax.tyStruct (List._∷_ 38 (List._∷_ 91 (List._∷_ 93 List.[]))) (Syntax.tcons
+                  (Syntax.tyRef Syntax.erased Syntax.mut (Syntax.tyInt Syntax.w16)) (Syntax.tcons (Syntax.tyInt Syntax.w64) Syntax.tnil))),
+            ) (List._∷_ (
+              14,
+              Rows.any-gone (Syntax.tyRef Syntax.erased Syntax.mut
+                  Element.behind),
+            ) (List._∷_ (15, Mut.msleft (Element.type) (Syntax.tyRef Syntax.erased Syntax.mut Element.behind)) List.[])))))))))))))))
 
         abbrev g17 : List.List Row.Entry
         g17 = List._∷_ (
@@ -2619,39 +2662,40 @@ module _ (claims· : Claims) where
               (List._∷_ 108 List.[]))))))))))))))) (Syntax.ttcons Syntax.tnil (Syntax.ttcons Syntax.tnil (Syntax.ttcons Syntax.tnil (Syntax.ttcons (Syntax.tcons (Syntax.tyInt Syntax.w64) Syntax.tnil)
               (Syntax.ttcons Syntax.tnil (Syntax.ttcons Syntax.tnil (Syntax.ttcons Syntax.tnil (Syntax.ttcons Syntax.tnil (Syntax.ttcons Syntax.tnil (Syntax.ttcons Syntax.tnil (Syntax.ttcons (Syntax.tcons
               (Syntax.tyInt Syntax.w64) Syntax.tnil) (Syntax.ttcons (Syntax.tcons (Syntax.tyInt Syntax.w64) Syntax.tnil) (Syntax.ttcons Syntax.tnil (Syntax.ttcons (Syntax.tcons (Syntax.tyInt Syntax.w64)
-              (Syntax.tcons (Syntax.tyInt Syntax.w64) Syntax.tnil)) (Syntax.ttcons (Syntax.tcons (Syntax.tyInt Syntax.w64) Syntax.tnil) (Syntax.ttcons Syntax.tnil Syntax.ttnil))))))))))))))))) Syntax.tnil)
-              Syntax.ttnil))),
-        ) (List._∷_ (1, Rows.sslice (Referent.rtF (Referent.fInt Syntax.w16)) (Syntax.tyRef (Syntax.named 0) Syntax.imm (Syntax.tyInt Syntax.w16)) 0) (List._∷_ (
-          2,
-          Mut.mslice
-              (Referent.rtF (Referent.fInt Syntax.w8)) (Syntax.tyRef (Syntax.named 1) Syntax.mut (Syntax.tyInt Syntax.w8)) 1,
+              (Syntax.tcons (Syntax.tyInt Syntax.w64) Syntax.tnil)) (Syntax.ttcons (Syntax.tcons (Syntax.tyInt Syntax.w64) Syntax.tnil) (Syntax.ttcons Syntax.tnil (Syntax.ttcons Syntax.tnil (Syntax.ttcons
+              (Syntax.tcons (Syntax.tyInt Syntax.w64) Syntax.tnil) (Syntax.ttcons (Syntax.tcons (Syntax.tyInt Syntax.w64) Syntax.tnil) (Syntax.ttcons (Syntax.tcons (Syntax.tyInt Syntax.w64) Syntax.tnil)
+              (Syntax.ttcons Syntax.tnil Syntax.ttnil)))))))))))))))))))))) Syntax.tnil) Syntax.ttnil))),
         ) (List._∷_ (
-          3,
-          Mut.mslice (Referent.rtF (Referent.fInt Syntax.w16))
-              (Syntax.tyRef (Syntax.named 2) Syntax.mut (Syntax.tyInt Syntax.w16)) 2,
-        ) (List._∷_ (
-          4,
-          Relend.mslice-owed (Element.type) (Syntax.tyRef (Syntax.named 3) Syntax.mut Element.behind) 3 5
-              (Row.lease (κs .1 .1 .1 .0) (qs .1 .1 .1 .0)),
-        ) (List._∷_ (
-          5,
-          Rows.any-gone (Syntax.tyStruct (List._∷_ 98 (List._∷_ 108 (List._∷_ 111 (List._∷_ 99 (List._∷_ 107 (List._∷_ 58 (List._∷_ 58
-              (List._∷_ 70 (List._∷_ 111 (List._∷_ 114 (List._∷_ 109 List.[]))))))))))) (Syntax.tcons (Syntax.tyInt Syntax.w32) (Syntax.tcons Syntax.tyBool Syntax.tnil))),
-        ) (List._∷_ (
-          6,
-          Rows.sc-here
-              (Row.sInt Syntax.w64),
-        ) (List._∷_ (7, Rows.sc-here (Row.sInt Syntax.w32)) (List._∷_ (8, Rows.sc-here (Row.sInt Syntax.w64)) (List._∷_ (9, Rows.any-gone (Syntax.tyInt Syntax.w64))
-            (List._∷_ (10, Rows.any-gone Syntax.tyBool) (List._∷_ (11, Rows.any-gone Syntax.tyUnit) (List._∷_ (12, Rows.any-gone (Syntax.tyRef Syntax.erased Syntax.mut (Syntax.tyInt Syntax.w16)))
-            (List._∷_ (
+          1,
+          Rows.sslice (Referent.rtF (Referent.fInt Syntax.w16)) (Syntax.tyRef (Syntax.named
+              0) Syntax.imm (Syntax.tyInt Syntax.w16)) 0,
+        ) (List._∷_ (2, Mut.mslice (Referent.rtF (Referent.fInt Syntax.w8)) (Syntax.tyRef (Syntax.named 1) Syntax.mut (Syntax.tyInt Syntax.w8)) 1)
+            (List._∷_ (3, Mut.mslice (Referent.rtF (Referent.fInt Syntax.w16)) (Syntax.tyRef (Syntax.named 2) Syntax.mut (Syntax.tyInt Syntax.w16)) 2) (List._∷_ (
+              4,
+              Relend.mslice-owed (Element.type)
+                  (Syntax.tyRef (Syntax.named 3) Syntax.mut Element.behind) 3 5 (Row.lease (κs .1 .1 .1 .0) (qs .1 .1 .1 .0)),
+            ) (List._∷_ (
+              5,
+              Rows.any-gone (Syntax.tyStruct (List._∷_ 98 (List._∷_ 108
+                  (List._∷_ 111 (List._∷_ 99 (List._∷_ 107 (List._∷_ 58 (List._∷_ 58 (List._∷_ 70 (List._∷_ 111 (List._∷_ 114 (List._∷_ 109 List.[]))))))))))) (Syntax.tcons (Syntax.tyInt Syntax.w32)
+                  (Syntax.tcons Syntax.tyBool Syntax.tnil))),
+            ) (List._∷_ (6, Rows.sc-here (Row.sInt Syntax.w64)) (List._∷_ (7, Rows.sc-here (Row.sInt Syntax.w32)) (List._∷_ (
+              8,
+              Rows.sc-here (Row.sInt
+                  Syntax.w64),
+            ) (List._∷_ (9, Rows.any-gone (Syntax.tyInt Syntax.w64)) (List._∷_ (10, Rows.any-gone Syntax.tyBool) (List._∷_ (11, Rows.any-gone Syntax.tyUnit) (List._∷_ (
+              12,
+              Rows.any-gone
+                  (Syntax.tyRef Syntax.erased Syntax.mut (Syntax.tyInt Syntax.w16)),
+            ) (List._∷_ (
               13,
-              Rows.any-gone (Syntax.tyStruct (List._∷_ 38 (List._∷_ 91 (List._∷_ 93 List.[]))) (Syntax.tcons (Syntax.tyRef Syntax.erased Syntax.mut (Syntax.tyInt Syntax.w16)) (Syntax.tcons
-                  (Syntax.tyInt Syntax.w64) Syntax.tnil))),
-            ) (List._∷_ (14, Rows.any-gone (Syntax.tyRef Syntax.erased Syntax.mut Element.behind)) (List._∷_ (
-              15,
-              Mut.msleft (Element.type) (Syntax.tyRef
-                  Syntax.erased Syntax.mut Element.behind),
-            ) List.[])))))))))))))))
+              Rows.any-gone (Syntax.tyStruct (List._∷_ 38 (List._∷_ 91 (List._∷_ 93 List.[]))) (Syntax.tcons
+                  (Syntax.tyRef Syntax.erased Syntax.mut (Syntax.tyInt Syntax.w16)) (Syntax.tcons (Syntax.tyInt Syntax.w64) Syntax.tnil))),
+            ) (List._∷_ (
+              14,
+              Rows.any-gone (Syntax.tyRef Syntax.erased Syntax.mut
+                  Element.behind),
+            ) (List._∷_ (15, Mut.msleft (Element.type) (Syntax.tyRef Syntax.erased Syntax.mut Element.behind)) List.[])))))))))))))))
 
         abbrev g22 : List.List Row.Entry
         g22 = List._∷_ (
@@ -2662,56 +2706,18 @@ module _ (claims· : Claims) where
               (List._∷_ 108 List.[]))))))))))))))) (Syntax.ttcons Syntax.tnil (Syntax.ttcons Syntax.tnil (Syntax.ttcons Syntax.tnil (Syntax.ttcons (Syntax.tcons (Syntax.tyInt Syntax.w64) Syntax.tnil)
               (Syntax.ttcons Syntax.tnil (Syntax.ttcons Syntax.tnil (Syntax.ttcons Syntax.tnil (Syntax.ttcons Syntax.tnil (Syntax.ttcons Syntax.tnil (Syntax.ttcons Syntax.tnil (Syntax.ttcons (Syntax.tcons
               (Syntax.tyInt Syntax.w64) Syntax.tnil) (Syntax.ttcons (Syntax.tcons (Syntax.tyInt Syntax.w64) Syntax.tnil) (Syntax.ttcons Syntax.tnil (Syntax.ttcons (Syntax.tcons (Syntax.tyInt Syntax.w64)
-              (Syntax.tcons (Syntax.tyInt Syntax.w64) Syntax.tnil)) (Syntax.ttcons (Syntax.tcons (Syntax.tyInt Syntax.w64) Syntax.tnil) (Syntax.ttcons Syntax.tnil Syntax.ttnil))))))))))))))))) Syntax.tnil)
-              Syntax.ttnil))),
-        ) (List._∷_ (1, Rows.sslice (Referent.rtF (Referent.fInt Syntax.w16)) (Syntax.tyRef (Syntax.named 0) Syntax.imm (Syntax.tyInt Syntax.w16)) 0) (List._∷_ (
+              (Syntax.tcons (Syntax.tyInt Syntax.w64) Syntax.tnil)) (Syntax.ttcons (Syntax.tcons (Syntax.tyInt Syntax.w64) Syntax.tnil) (Syntax.ttcons Syntax.tnil (Syntax.ttcons Syntax.tnil (Syntax.ttcons
+              (Syntax.tcons (Syntax.tyInt Syntax.w64) Syntax.tnil) (Syntax.ttcons (Syntax.tcons (Syntax.tyInt Syntax.w64) Syntax.tnil) (Syntax.ttcons (Syntax.tcons (Syntax.tyInt Syntax.w64) Syntax.tnil)
+              (Syntax.ttcons Syntax.tnil Syntax.ttnil)))))))))))))))))))))) Syntax.tnil) Syntax.ttnil))),
+        ) (List._∷_ (
+          1,
+          Rows.sslice (Referent.rtF (Referent.fInt Syntax.w16)) (Syntax.tyRef (Syntax.named
+              0) Syntax.imm (Syntax.tyInt Syntax.w16)) 0,
+        ) (List._∷_ (
           2,
-          Relend.mslice-owed (Referent.rtF (Referent.fInt Syntax.w8)) (Syntax.tyRef (Syntax.named 1) Syntax.mut (Syntax.tyInt Syntax.w8)) 1 6 (Row.lease (κs .1 .0) (qs .1 .0)),
-        ) (List._∷_ (
-          3,
-          Mut.mslice (Referent.rtF (Referent.fInt Syntax.w16)) (Syntax.tyRef (Syntax.named 2) Syntax.mut (Syntax.tyInt Syntax.w16)) 2,
-        ) (List._∷_ (
-          4,
-          Mut.mslice (Element.type) (Syntax.tyRef
-              (Syntax.named 3) Syntax.mut Element.behind) 3,
-        ) (List._∷_ (5, Rows.whole (Declared'.row Form.the-type)) (List._∷_ (6, Rows.sc-here (Row.sInt Syntax.w64)) (List._∷_ (
-          7,
-          Rows.sc-here
-              (Row.sInt Syntax.w32),
-        ) (List._∷_ (8, Rows.sc-here (Row.sInt Syntax.w64)) (List._∷_ (9, Rows.any-gone (Syntax.tyInt Syntax.w64)) (List._∷_ (10, Rows.any-gone Syntax.tyBool) (List._∷_ (
-          11,
-          Rows.any-gone Syntax.tyUnit,
-        ) (List._∷_ (12, Rows.any-gone (Syntax.tyRef Syntax.erased Syntax.mut (Syntax.tyInt Syntax.w16))) (List._∷_ (
-          13,
-          Rows.any-gone (Syntax.tyStruct (List._∷_ 38
-              (List._∷_ 91 (List._∷_ 93 List.[]))) (Syntax.tcons (Syntax.tyRef Syntax.erased Syntax.mut (Syntax.tyInt Syntax.w16)) (Syntax.tcons (Syntax.tyInt Syntax.w64) Syntax.tnil))),
-        ) (List._∷_ (
-          14,
-          Rows.any-gone (Syntax.tyRef Syntax.erased Syntax.mut Element.behind),
-        ) (List._∷_ (
-          15,
-          Rows.any-gone (Syntax.tyStruct (List._∷_ 38 (List._∷_ 91 (List._∷_ 93 List.[]))) (Syntax.tcons
-              (Syntax.tyRef Syntax.erased Syntax.mut Element.behind) (Syntax.tcons (Syntax.tyInt Syntax.w64) Syntax.tnil))),
-        ) List.[])))))))))))))))
-
-        abbrev g25 : List.List Row.Entry
-        g25 = List._∷_ (
-          0,
-          Rows.any-gone (Syntax.tyEnum (List._∷_ 98 (List._∷_ 108 (List._∷_ 111 (List._∷_ 99 (List._∷_ 107 (List._∷_ 58 (List._∷_ 58 (List._∷_ 87 (List._∷_ 114 (List._∷_ 105
-              (List._∷_ 116 (List._∷_ 116 (List._∷_ 101 (List._∷_ 110 List.[])))))))))))))) (Syntax.ttcons (Syntax.tcons (Syntax.tyInt Syntax.w64) Syntax.tnil) (Syntax.ttcons (Syntax.tcons (Syntax.tyEnum
-              (List._∷_ 115 (List._∷_ 116 (List._∷_ 114 (List._∷_ 101 (List._∷_ 97 (List._∷_ 109 (List._∷_ 58 (List._∷_ 58 (List._∷_ 82 (List._∷_ 101 (List._∷_ 102 (List._∷_ 117 (List._∷_ 115 (List._∷_ 97
-              (List._∷_ 108 List.[]))))))))))))))) (Syntax.ttcons Syntax.tnil (Syntax.ttcons Syntax.tnil (Syntax.ttcons Syntax.tnil (Syntax.ttcons (Syntax.tcons (Syntax.tyInt Syntax.w64) Syntax.tnil)
-              (Syntax.ttcons Syntax.tnil (Syntax.ttcons Syntax.tnil (Syntax.ttcons Syntax.tnil (Syntax.ttcons Syntax.tnil (Syntax.ttcons Syntax.tnil (Syntax.ttcons Syntax.tnil (Syntax.ttcons (Syntax.tcons
-              (Syntax.tyInt Syntax.w64) Syntax.tnil) (Syntax.ttcons (Syntax.tcons (Syntax.tyInt Syntax.w64) Syntax.tnil) (Syntax.ttcons Syntax.tnil (Syntax.ttcons (Syntax.tcons (Syntax.tyInt Syntax.w64)
-              (Syntax.tcons (Syntax.tyInt Syntax.w64) Syntax.tnil)) (Syntax.ttcons (Syntax.tcons (Syntax.tyInt Syntax.w64) Syntax.tnil) (Syntax.ttcons Syntax.tnil Syntax.ttnil))))))))))))))))) Syntax.tnil)
-              Syntax.ttnil))),
-        ) (List._∷_ (1, Rows.sslice (Referent.rtF (Referent.fInt Syntax.w16)) (Syntax.tyRef (Syntax.named 0) Syntax.imm (Syntax.tyInt Syntax.w16)) 0) (List._∷_ (
-          2,
-          Relend.mslice-owed (Referent.rtF (Referent.fInt Syntax.w8)) (Syntax.tyRef (Syntax.named 1) Syntax.mut (Syntax.tyInt Syntax.w8)) 1 6 (Row.lease (κs .1 .0) (qs .1 .0)),
-        ) (List._∷_ (
-          3,
-          Relend.mslice-owed (Referent.rtF (Referent.fInt Syntax.w16)) (Syntax.tyRef (Syntax.named 2) Syntax.mut (Syntax.tyInt Syntax.w16)) 2 7 (Row.lease (κs .1 .1 .0) (qs .1 .1 .0)),
-        ) (List._∷_ (
+          Relend.mslice-owed (Referent.rtF (Referent.fInt Syntax.w8)) (Syntax.tyRef (Syntax.named 1) Syntax.mut (Syntax.tyInt Syntax.w8)) 1 6
+              (Row.lease (κs .1 .0) (qs .1 .0)),
+        ) (List._∷_ (3, Mut.mslice (Referent.rtF (Referent.fInt Syntax.w16)) (Syntax.tyRef (Syntax.named 2) Syntax.mut (Syntax.tyInt Syntax.w16)) 2) (List._∷_ (
           4,
           Mut.mslice (Element.type) (Syntax.tyRef (Syntax.named 3) Syntax.mut Element.behind) 3,
         ) (List._∷_ (5, Rows.whole (Declared'.row Form.the-type)) (List._∷_ (
@@ -2731,8 +2737,8 @@ module _ (claims· : Claims) where
               (List._∷_ 93 List.[]))) (Syntax.tcons (Syntax.tyRef Syntax.erased Syntax.mut Element.behind) (Syntax.tcons (Syntax.tyInt Syntax.w64) Syntax.tnil))),
         ) List.[])))))))))))))))
 
-        abbrev g28 : List.List Row.Entry
-        g28 = List._∷_ (
+        abbrev g25 : List.List Row.Entry
+        g25 = List._∷_ (
           0,
           Rows.any-gone (Syntax.tyEnum (List._∷_ 98 (List._∷_ 108 (List._∷_ 111 (List._∷_ 99 (List._∷_ 107 (List._∷_ 58 (List._∷_ 58 (List._∷_ 87 (List._∷_ 114 (List._∷_ 105
               (List._∷_ 116 (List._∷_ 116 (List._∷_ 101 (List._∷_ 110 List.[])))))))))))))) (Syntax.ttcons (Syntax.tcons (Syntax.tyInt Syntax.w64) Syntax.tnil) (Syntax.ttcons (Syntax.tcons (Syntax.tyEnum
@@ -2740,18 +2746,22 @@ module _ (claims· : Claims) where
               (List._∷_ 108 List.[]))))))))))))))) (Syntax.ttcons Syntax.tnil (Syntax.ttcons Syntax.tnil (Syntax.ttcons Syntax.tnil (Syntax.ttcons (Syntax.tcons (Syntax.tyInt Syntax.w64) Syntax.tnil)
               (Syntax.ttcons Syntax.tnil (Syntax.ttcons Syntax.tnil (Syntax.ttcons Syntax.tnil (Syntax.ttcons Syntax.tnil (Syntax.ttcons Syntax.tnil (Syntax.ttcons Syntax.tnil (Syntax.ttcons (Syntax.tcons
               (Syntax.tyInt Syntax.w64) Syntax.tnil) (Syntax.ttcons (Syntax.tcons (Syntax.tyInt Syntax.w64) Syntax.tnil) (Syntax.ttcons Syntax.tnil (Syntax.ttcons (Syntax.tcons (Syntax.tyInt Syntax.w64)
-              (Syntax.tcons (Syntax.tyInt Syntax.w64) Syntax.tnil)) (Syntax.ttcons (Syntax.tcons (Syntax.tyInt Syntax.w64) Syntax.tnil) (Syntax.ttcons Syntax.tnil Syntax.ttnil))))))))))))))))) Syntax.tnil)
-              Syntax.ttnil))),
-        ) (List._∷_ (1, Rows.sslice (Referent.rtF (Referent.fInt Syntax.w16)) (Syntax.tyRef (Syntax.named 0) Syntax.imm (Syntax.tyInt Syntax.w16)) 0) (List._∷_ (
+              (Syntax.tcons (Syntax.tyInt Syntax.w64) Syntax.tnil)) (Syntax.ttcons (Syntax.tcons (Syntax.tyInt Syntax.w64) Syntax.tnil) (Syntax.ttcons Syntax.tnil (Syntax.ttcons Syntax.tnil (Syntax.ttcons
+              (Syntax.tcons (Syntax.tyInt Syntax.w64) Syntax.tnil) (Syntax.ttcons (Syntax.tcons (Syntax.tyInt Syntax.w64) Syntax.tnil) (Syntax.ttcons (Syntax.tcons (Syntax.tyInt Syntax.w64) Syntax.tnil)
+              (Syntax.ttcons Syntax.tnil Syntax.ttnil)))))))))))))))))))))) Syntax.tnil) Syntax.ttnil))),
+        ) (List._∷_ (
+          1,
+          Rows.sslice (Referent.rtF (Referent.fInt Syntax.w16)) (Syntax.tyRef (Syntax.named
+              0) Syntax.imm (Syntax.tyInt Syntax.w16)) 0,
+        ) (List._∷_ (
           2,
-          Relend.mslice-owed (Referent.rtF (Referent.fInt Syntax.w8)) (Syntax.tyRef (Syntax.named 1) Syntax.mut (Syntax.tyInt Syntax.w8)) 1 6 (Row.lease (κs .1 .0) (qs .1 .0)),
+          Relend.mslice-owed (Referent.rtF (Referent.fInt Syntax.w8)) (Syntax.tyRef (Syntax.named 1) Syntax.mut (Syntax.tyInt Syntax.w8)) 1 6
+              (Row.lease (κs .1 .0) (qs .1 .0)),
         ) (List._∷_ (
           3,
-          Relend.mslice-owed (Referent.rtF (Referent.fInt Syntax.w16)) (Syntax.tyRef (Syntax.named 2) Syntax.mut (Syntax.tyInt Syntax.w16)) 2 7 (Row.lease (κs .1 .1 .0) (qs .1 .1 .0)),
-        ) (List._∷_ (
-          4,
-          Relend.mslice-owed (Element.type) (Syntax.tyRef (Syntax.named 3) Syntax.mut Element.behind) 3 8 (Row.lease (κs .1 .1 .1 .0) (qs .1 .1 .1 .0)),
-        ) (List._∷_ (
+          Relend.mslice-owed (Referent.rtF (Referent.fInt Syntax.w16)) (Syntax.tyRef (Syntax.named 2) Syntax.mut (Syntax.tyInt Syntax.w16)) 2 7
+              (Row.lease (κs .1 .1 .0) (qs .1 .1 .0)),
+        ) (List._∷_ (4, Mut.mslice (Element.type) (Syntax.tyRef (Syntax.named 3) Syntax.mut Element.behind) 3) (List._∷_ (
           5,
           Rows.whole (Declared'.row
               Form.the-type),
@@ -2771,6 +2781,52 @@ module _ (claims· : Claims) where
           Rows.any-gone (Syntax.tyStruct (List._∷_ 38 (List._∷_ 91 (List._∷_ 93 List.[]))) (Syntax.tcons (Syntax.tyRef Syntax.erased Syntax.mut Element.behind) (Syntax.tcons (Syntax.tyInt Syntax.w64)
               Syntax.tnil))),
         ) List.[])))))))))))))))
+
+        abbrev g28 : List.List Row.Entry
+        g28 = List._∷_ (
+          0,
+          Rows.any-gone (Syntax.tyEnum (List._∷_ 98 (List._∷_ 108 (List._∷_ 111 (List._∷_ 99 (List._∷_ 107 (List._∷_ 58 (List._∷_ 58 (List._∷_ 87 (List._∷_ 114 (List._∷_ 105
+              (List._∷_ 116 (List._∷_ 116 (List._∷_ 101 (List._∷_ 110 List.[])))))))))))))) (Syntax.ttcons (Syntax.tcons (Syntax.tyInt Syntax.w64) Syntax.tnil) (Syntax.ttcons (Syntax.tcons (Syntax.tyEnum
+              (List._∷_ 115 (List._∷_ 116 (List._∷_ 114 (List._∷_ 101 (List._∷_ 97 (List._∷_ 109 (List._∷_ 58 (List._∷_ 58 (List._∷_ 82 (List._∷_ 101 (List._∷_ 102 (List._∷_ 117 (List._∷_ 115 (List._∷_ 97
+              (List._∷_ 108 List.[]))))))))))))))) (Syntax.ttcons Syntax.tnil (Syntax.ttcons Syntax.tnil (Syntax.ttcons Syntax.tnil (Syntax.ttcons (Syntax.tcons (Syntax.tyInt Syntax.w64) Syntax.tnil)
+              (Syntax.ttcons Syntax.tnil (Syntax.ttcons Syntax.tnil (Syntax.ttcons Syntax.tnil (Syntax.ttcons Syntax.tnil (Syntax.ttcons Syntax.tnil (Syntax.ttcons Syntax.tnil (Syntax.ttcons (Syntax.tcons
+              (Syntax.tyInt Syntax.w64) Syntax.tnil) (Syntax.ttcons (Syntax.tcons (Syntax.tyInt Syntax.w64) Syntax.tnil) (Syntax.ttcons Syntax.tnil (Syntax.ttcons (Syntax.tcons (Syntax.tyInt Syntax.w64)
+              (Syntax.tcons (Syntax.tyInt Syntax.w64) Syntax.tnil)) (Syntax.ttcons (Syntax.tcons (Syntax.tyInt Syntax.w64) Syntax.tnil) (Syntax.ttcons Syntax.tnil (Syntax.ttcons Syntax.tnil (Syntax.ttcons
+              (Syntax.tcons (Syntax.tyInt Syntax.w64) Syntax.tnil) (Syntax.ttcons (Syntax.tcons (Syntax.tyInt Syntax.w64) Syntax.tnil) (Syntax.ttcons (Syntax.tcons (Syntax.tyInt Syntax.w64) Syntax.tnil)
+              (Syntax.ttcons Syntax.tnil Syntax.ttnil)))))))))))))))))))))) Syntax.tnil) Syntax.ttnil))),
+        ) (List._∷_ (
+          1,
+          Rows.sslice (Referent.rtF (Referent.fInt Syntax.w16)) (Syntax.tyRef (Syntax.named
+              0) Syntax.imm (Syntax.tyInt Syntax.w16)) 0,
+        ) (List._∷_ (
+          2,
+          Relend.mslice-owed (Referent.rtF (Referent.fInt Syntax.w8)) (Syntax.tyRef (Syntax.named 1) Syntax.mut (Syntax.tyInt Syntax.w8)) 1 6
+              (Row.lease (κs .1 .0) (qs .1 .0)),
+        ) (List._∷_ (
+          3,
+          Relend.mslice-owed (Referent.rtF (Referent.fInt Syntax.w16)) (Syntax.tyRef (Syntax.named 2) Syntax.mut (Syntax.tyInt Syntax.w16)) 2 7
+              (Row.lease (κs .1 .1 .0) (qs .1 .1 .0)),
+        ) (List._∷_ (
+          4,
+          Relend.mslice-owed (Element.type) (Syntax.tyRef (Syntax.named 3) Syntax.mut Element.behind) 3 8 (Row.lease (κs .1 .1 .1 .0) (qs .1 .1
+              .1 .0)),
+        ) (List._∷_ (5, Rows.whole (Declared'.row Form.the-type)) (List._∷_ (6, Rows.sc-here (Row.sInt Syntax.w64)) (List._∷_ (7, Rows.sc-here (Row.sInt Syntax.w32)) (List._∷_ (
+          8,
+          Rows.sc-here (Row.sInt Syntax.w64),
+        ) (List._∷_ (9, Rows.any-gone (Syntax.tyInt Syntax.w64)) (List._∷_ (10, Rows.any-gone Syntax.tyBool) (List._∷_ (11, Rows.any-gone Syntax.tyUnit)
+            (List._∷_ (12, Rows.any-gone (Syntax.tyRef Syntax.erased Syntax.mut (Syntax.tyInt Syntax.w16))) (List._∷_ (
+              13,
+              Rows.any-gone (Syntax.tyStruct (List._∷_ 38 (List._∷_ 91 (List._∷_ 93
+                  List.[]))) (Syntax.tcons (Syntax.tyRef Syntax.erased Syntax.mut (Syntax.tyInt Syntax.w16)) (Syntax.tcons (Syntax.tyInt Syntax.w64) Syntax.tnil))),
+            ) (List._∷_ (
+              14,
+              Rows.any-gone (Syntax.tyRef
+                  Syntax.erased Syntax.mut Element.behind),
+            ) (List._∷_ (
+              15,
+              Rows.any-gone (Syntax.tyStruct (List._∷_ 38 (List._∷_ 91 (List._∷_ 93 List.[]))) (Syntax.tcons (Syntax.tyRef Syntax.erased
+                  Syntax.mut Element.behind) (Syntax.tcons (Syntax.tyInt Syntax.w64) Syntax.tnil))),
+            ) List.[])))))))))))))))
 
         abbrev g31 : List.List Row.Entry
         g31 = List._∷_ (0, Rows.whole (Declared.row Written.the-type)) (List._∷_ (
@@ -3452,13 +3508,15 @@ module _ (claims· : Claims) where
               (Syntax.ttcons Syntax.tnil (Syntax.ttcons Syntax.tnil (Syntax.ttcons (Syntax.tcons (Syntax.tyInt Syntax.w64) Syntax.tnil) (Syntax.ttcons Syntax.tnil (Syntax.ttcons Syntax.tnil (Syntax.ttcons
               Syntax.tnil (Syntax.ttcons Syntax.tnil (Syntax.ttcons Syntax.tnil (Syntax.ttcons Syntax.tnil (Syntax.ttcons (Syntax.tcons (Syntax.tyInt Syntax.w64) Syntax.tnil) (Syntax.ttcons (Syntax.tcons
               (Syntax.tyInt Syntax.w64) Syntax.tnil) (Syntax.ttcons Syntax.tnil (Syntax.ttcons (Syntax.tcons (Syntax.tyInt Syntax.w64) (Syntax.tcons (Syntax.tyInt Syntax.w64) Syntax.tnil)) (Syntax.ttcons
-              (Syntax.tcons (Syntax.tyInt Syntax.w64) Syntax.tnil) (Syntax.ttcons Syntax.tnil Syntax.ttnil))))))))))))))))) (Local.room-whole 𝓤 H A W (Declared.row Refusal.the-type) (Syntax.tyEnum
-              (List._∷_ 115 (List._∷_ 116 (List._∷_ 114 (List._∷_ 101 (List._∷_ 97 (List._∷_ 109 (List._∷_ 58 (List._∷_ 58 (List._∷_ 82 (List._∷_ 101 (List._∷_ 102 (List._∷_ 117 (List._∷_ 115 (List._∷_ 97
-              (List._∷_ 108 List.[]))))))))))))))) (Syntax.ttcons Syntax.tnil (Syntax.ttcons Syntax.tnil (Syntax.ttcons Syntax.tnil (Syntax.ttcons (Syntax.tcons (Syntax.tyInt Syntax.w64) Syntax.tnil)
-              (Syntax.ttcons Syntax.tnil (Syntax.ttcons Syntax.tnil (Syntax.ttcons Syntax.tnil (Syntax.ttcons Syntax.tnil (Syntax.ttcons Syntax.tnil (Syntax.ttcons Syntax.tnil (Syntax.ttcons (Syntax.tcons
-              (Syntax.tyInt Syntax.w64) Syntax.tnil) (Syntax.ttcons (Syntax.tcons (Syntax.tyInt Syntax.w64) Syntax.tnil) (Syntax.ttcons Syntax.tnil (Syntax.ttcons (Syntax.tcons (Syntax.tyInt Syntax.w64)
-              (Syntax.tcons (Syntax.tyInt Syntax.w64) Syntax.tnil)) (Syntax.ttcons (Syntax.tcons (Syntax.tyInt Syntax.w64) Syntax.tnil) (Syntax.ttcons Syntax.tnil Syntax.ttnil)))))))))))))))))
-              Path'.refl)) d3
+              (Syntax.tcons (Syntax.tyInt Syntax.w64) Syntax.tnil) (Syntax.ttcons Syntax.tnil (Syntax.ttcons Syntax.tnil (Syntax.ttcons (Syntax.tcons (Syntax.tyInt Syntax.w64) Syntax.tnil) (Syntax.ttcons
+              (Syntax.tcons (Syntax.tyInt Syntax.w64) Syntax.tnil) (Syntax.ttcons (Syntax.tcons (Syntax.tyInt Syntax.w64) Syntax.tnil) (Syntax.ttcons Syntax.tnil Syntax.ttnil))))))))))))))))))))))
+              (Local.room-whole 𝓤 H A W (Declared.row Refusal.the-type) (Syntax.tyEnum (List._∷_ 115 (List._∷_ 116 (List._∷_ 114 (List._∷_ 101 (List._∷_ 97 (List._∷_ 109 (List._∷_ 58 (List._∷_ 58
+              (List._∷_ 82 (List._∷_ 101 (List._∷_ 102 (List._∷_ 117 (List._∷_ 115 (List._∷_ 97 (List._∷_ 108 List.[]))))))))))))))) (Syntax.ttcons Syntax.tnil (Syntax.ttcons Syntax.tnil (Syntax.ttcons
+              Syntax.tnil (Syntax.ttcons (Syntax.tcons (Syntax.tyInt Syntax.w64) Syntax.tnil) (Syntax.ttcons Syntax.tnil (Syntax.ttcons Syntax.tnil (Syntax.ttcons Syntax.tnil (Syntax.ttcons Syntax.tnil
+              (Syntax.ttcons Syntax.tnil (Syntax.ttcons Syntax.tnil (Syntax.ttcons (Syntax.tcons (Syntax.tyInt Syntax.w64) Syntax.tnil) (Syntax.ttcons (Syntax.tcons (Syntax.tyInt Syntax.w64) Syntax.tnil)
+              (Syntax.ttcons Syntax.tnil (Syntax.ttcons (Syntax.tcons (Syntax.tyInt Syntax.w64) (Syntax.tcons (Syntax.tyInt Syntax.w64) Syntax.tnil)) (Syntax.ttcons (Syntax.tcons (Syntax.tyInt Syntax.w64)
+              Syntax.tnil) (Syntax.ttcons Syntax.tnil (Syntax.ttcons Syntax.tnil (Syntax.ttcons (Syntax.tcons (Syntax.tyInt Syntax.w64) Syntax.tnil) (Syntax.ttcons (Syntax.tcons (Syntax.tyInt Syntax.w64)
+              Syntax.tnil) (Syntax.ttcons (Syntax.tcons (Syntax.tyInt Syntax.w64) Syntax.tnil) (Syntax.ttcons Syntax.tnil Syntax.ttnil)))))))))))))))))))))) Path'.refl)) d3
 
           d5 : Typed.Typed 𝓤 H A 𝓣 E G30 b13 Δ1 at5
           d5 = Typed.s-seq 𝓤 H A W 𝓣 E G30 G31 b11 b12 Δ1 (Typed.pass T30 T31 s28) at4 (Make.t-enum-make-wt 𝓤 H A W E 𝓣 Written.the-type Laws'.the-laws Laws'.the-plain tt G30 0 (List._∷_ (Scalar.oInt
@@ -3467,20 +3525,23 @@ module _ (claims· : Claims) where
               (Syntax.tcons (Syntax.tyInt Syntax.w64) Syntax.tnil) (Syntax.ttcons Syntax.tnil (Syntax.ttcons Syntax.tnil (Syntax.ttcons Syntax.tnil (Syntax.ttcons Syntax.tnil (Syntax.ttcons Syntax.tnil
               (Syntax.ttcons Syntax.tnil (Syntax.ttcons (Syntax.tcons (Syntax.tyInt Syntax.w64) Syntax.tnil) (Syntax.ttcons (Syntax.tcons (Syntax.tyInt Syntax.w64) Syntax.tnil) (Syntax.ttcons Syntax.tnil
               (Syntax.ttcons (Syntax.tcons (Syntax.tyInt Syntax.w64) (Syntax.tcons (Syntax.tyInt Syntax.w64) Syntax.tnil)) (Syntax.ttcons (Syntax.tcons (Syntax.tyInt Syntax.w64) Syntax.tnil)
-              (Syntax.ttcons Syntax.tnil Syntax.ttnil))))))))))))))))) (Laws'3.val Refusal.the-type Laws''.the-laws)) List.[])) (λ m. Written.enum .make (Logic.inr (Logic.inl (
-                m .1 .1 .1 .1 .1 .1 .1 .1
-                    .1 .1 .1 .1 .1 .1 .1 .1 .0,
+              (Syntax.ttcons Syntax.tnil (Syntax.ttcons Syntax.tnil (Syntax.ttcons (Syntax.tcons (Syntax.tyInt Syntax.w64) Syntax.tnil) (Syntax.ttcons (Syntax.tcons (Syntax.tyInt Syntax.w64) Syntax.tnil)
+              (Syntax.ttcons (Syntax.tcons (Syntax.tyInt Syntax.w64) Syntax.tnil) (Syntax.ttcons Syntax.tnil Syntax.ttnil)))))))))))))))))))))) (Laws'3.val Refusal.the-type Laws''.the-laws)) List.[])) (λ
+              m. Written.enum .make (Logic.inr (Logic.inl (m .1 .1 .1 .1 .1 .1 .1 .1 .1 .1 .1 .1 .1 .1 .1 .1 .0, tt)))) (Reads'.room-gone 𝓤 H A (Syntax.tyEnum (List._∷_ 98 (List._∷_ 108 (List._∷_ 111
+              (List._∷_ 99 (List._∷_ 107 (List._∷_ 58 (List._∷_ 58 (List._∷_ 87 (List._∷_ 114 (List._∷_ 105 (List._∷_ 116 (List._∷_ 116 (List._∷_ 101 (List._∷_ 110 List.[])))))))))))))) (Syntax.ttcons
+              (Syntax.tcons (Syntax.tyInt Syntax.w64) Syntax.tnil) (Syntax.ttcons (Syntax.tcons (Syntax.tyEnum (List._∷_ 115 (List._∷_ 116 (List._∷_ 114 (List._∷_ 101 (List._∷_ 97 (List._∷_ 109 (List._∷_
+              58 (List._∷_ 58 (List._∷_ 82 (List._∷_ 101 (List._∷_ 102 (List._∷_ 117 (List._∷_ 115 (List._∷_ 97 (List._∷_ 108 List.[]))))))))))))))) (Syntax.ttcons Syntax.tnil (Syntax.ttcons Syntax.tnil
+              (Syntax.ttcons Syntax.tnil (Syntax.ttcons (Syntax.tcons (Syntax.tyInt Syntax.w64) Syntax.tnil) (Syntax.ttcons Syntax.tnil (Syntax.ttcons Syntax.tnil (Syntax.ttcons Syntax.tnil (Syntax.ttcons
+              Syntax.tnil (Syntax.ttcons Syntax.tnil (Syntax.ttcons Syntax.tnil (Syntax.ttcons (Syntax.tcons (Syntax.tyInt Syntax.w64) Syntax.tnil) (Syntax.ttcons (Syntax.tcons (Syntax.tyInt Syntax.w64)
+              Syntax.tnil) (Syntax.ttcons Syntax.tnil (Syntax.ttcons (Syntax.tcons (Syntax.tyInt Syntax.w64) (Syntax.tcons (Syntax.tyInt Syntax.w64) Syntax.tnil)) (Syntax.ttcons (Syntax.tcons
+              (Syntax.tyInt Syntax.w64) Syntax.tnil) (Syntax.ttcons Syntax.tnil (Syntax.ttcons Syntax.tnil (Syntax.ttcons (Syntax.tcons (Syntax.tyInt Syntax.w64) Syntax.tnil) (Syntax.ttcons (Syntax.tcons
+              (Syntax.tyInt Syntax.w64) Syntax.tnil) (Syntax.ttcons (Syntax.tcons (Syntax.tyInt Syntax.w64) Syntax.tnil) (Syntax.ttcons Syntax.tnil Syntax.ttnil)))))))))))))))))))))) Syntax.tnil)
+              Syntax.ttnil)))) (tt, ((Whole.reads-enum 𝓤 H A W Refusal.the-type Laws''.the-laws, Path'.refl), tt)) Path'.refl (λ m wa. Make.made-val Written.the-type Laws'.the-laws (List._∷_
+              (Laws'3.val Refusal.the-type Laws''.the-laws (m .1 .1 .1 .1 .1 .1 .1 .1 .1 .1 .1 .1 .1 .1 .1 .1 .0)) List.[]) (Written.enum .make (Logic.inr (Logic.inl (
+                m .1 .1 .1 .1 .1 .1 .1 .1 .1 .1 .1
+                    .1 .1 .1 .1 .1 .0,
                 tt,
-              )))) (Reads'.room-gone 𝓤 H A (Syntax.tyEnum (List._∷_ 98 (List._∷_ 108 (List._∷_ 111 (List._∷_ 99 (List._∷_ 107 (List._∷_ 58 (List._∷_ 58 (List._∷_ 87
-              (List._∷_ 114 (List._∷_ 105 (List._∷_ 116 (List._∷_ 116 (List._∷_ 101 (List._∷_ 110 List.[])))))))))))))) (Syntax.ttcons (Syntax.tcons (Syntax.tyInt Syntax.w64) Syntax.tnil) (Syntax.ttcons
-              (Syntax.tcons (Syntax.tyEnum (List._∷_ 115 (List._∷_ 116 (List._∷_ 114 (List._∷_ 101 (List._∷_ 97 (List._∷_ 109 (List._∷_ 58 (List._∷_ 58 (List._∷_ 82 (List._∷_ 101 (List._∷_ 102 (List._∷_
-              117 (List._∷_ 115 (List._∷_ 97 (List._∷_ 108 List.[]))))))))))))))) (Syntax.ttcons Syntax.tnil (Syntax.ttcons Syntax.tnil (Syntax.ttcons Syntax.tnil (Syntax.ttcons (Syntax.tcons
-              (Syntax.tyInt Syntax.w64) Syntax.tnil) (Syntax.ttcons Syntax.tnil (Syntax.ttcons Syntax.tnil (Syntax.ttcons Syntax.tnil (Syntax.ttcons Syntax.tnil (Syntax.ttcons Syntax.tnil (Syntax.ttcons
-              Syntax.tnil (Syntax.ttcons (Syntax.tcons (Syntax.tyInt Syntax.w64) Syntax.tnil) (Syntax.ttcons (Syntax.tcons (Syntax.tyInt Syntax.w64) Syntax.tnil) (Syntax.ttcons Syntax.tnil (Syntax.ttcons
-              (Syntax.tcons (Syntax.tyInt Syntax.w64) (Syntax.tcons (Syntax.tyInt Syntax.w64) Syntax.tnil)) (Syntax.ttcons (Syntax.tcons (Syntax.tyInt Syntax.w64) Syntax.tnil) (Syntax.ttcons Syntax.tnil
-              Syntax.ttnil))))))))))))))))) Syntax.tnil) Syntax.ttnil)))) (tt, ((Whole.reads-enum 𝓤 H A W Refusal.the-type Laws''.the-laws, Path'.refl), tt)) Path'.refl (λ m wa. Make.made-val
-              Written.the-type Laws'.the-laws (List._∷_ (Laws'3.val Refusal.the-type Laws''.the-laws (m .1 .1 .1 .1 .1 .1 .1 .1 .1 .1 .1 .1 .1 .1 .1 .1 .0)) List.[]) (Written.enum .make (Logic.inr
-              (Logic.inl (m .1 .1 .1 .1 .1 .1 .1 .1 .1 .1 .1 .1 .1 .1 .1 .1 .0, tt)))) (
+              )))) (
                 Signed.made-wt Refusal.the-field Laws''.the-field-laws (Whole.enum-wt Refusal.the-type Laws''.the-laws (
                   tt,
                   (
@@ -3507,7 +3568,25 @@ module _ (claims· : Claims) where
                                         (Make'.u64-wt, tt),
                                         (
                                           tt,
-                                          ((Make'.u64-wt, (Make'.u64-wt, tt)), ((Make'.u64-wt, tt), (tt, tt))),
+                                          (
+                                            (Make'.u64-wt, (Make'.u64-wt, tt)),
+                                            (
+                                              (Make'.u64-wt, tt),
+                                              (
+                                                tt,
+                                                (
+                                                  tt,
+                                                  (
+                                                    (Make'.u64-wt, tt),
+                                                    (
+                                                      (Make'.u64-wt, tt),
+                                                      ((Make'.u64-wt, tt), (tt, tt)),
+                                                    ),
+                                                  ),
+                                                ),
+                                              ),
+                                            ),
+                                          ),
                                         ),
                                       ),
                                     ),
@@ -3522,32 +3601,57 @@ module _ (claims· : Claims) where
                   ),
                 )) (Refusal.the-type .to (m .1 .1 .1 .1 .1 .1 .1 .1 .1 .1 .1 .1 .1 .1 .1 .1 .0)),
                 tt,
-              ) (wa .1)) λ m wa. Make.made-is Written.the-type Laws'.the-laws
-              (List._∷_ (Laws'3.val Refusal.the-type Laws''.the-laws (m .1 .1 .1 .1 .1 .1 .1 .1 .1 .1 .1 .1 .1 .1 .1 .1 .0)) List.[]) (Written.enum .make (Logic.inr (Logic.inl (
-                m .1 .1 .1 .1 .1 .1 .1 .1
-                    .1 .1 .1 .1 .1 .1 .1 .1 .0,
-                tt,
-              )))) (
-                Signed.made-wt Refusal.the-field Laws''.the-field-laws (Whole.enum-wt Refusal.the-type Laws''.the-laws (
-                  tt,
-                  (
-                    tt,
-                    (
+              ) (wa .1)) λ m wa.
+              Make.made-is Written.the-type Laws'.the-laws (List._∷_ (Laws'3.val Refusal.the-type Laws''.the-laws (m .1 .1 .1 .1 .1 .1 .1 .1 .1 .1 .1 .1 .1 .1 .1 .1 .0)) List.[]) (Written.enum .make
+              (Logic.inr (Logic.inl (m .1 .1 .1 .1 .1 .1 .1 .1 .1 .1 .1 .1 .1 .1 .1 .1 .0, tt)))) (
+                Signed.made-wt Refusal.the-field Laws''.the-field-laws (Whole.enum-wt Refusal.the-type
+                    Laws''.the-laws (
                       tt,
                       (
-                        (Make'.u64-wt, tt),
+                        tt,
                         (
                           tt,
                           (
-                            tt,
-                            (tt, (tt, (tt, (tt, ((Make'.u64-wt, tt), ((Make'.u64-wt, tt), (tt, ((Make'.u64-wt, (Make'.u64-wt, tt)), ((Make'.u64-wt, tt), (tt, tt)))))))))),
+                            (Make'.u64-wt, tt),
+                            (
+                              tt,
+                              (
+                                tt,
+                                (
+                                  tt,
+                                  (
+                                    tt,
+                                    (
+                                      tt,
+                                      (
+                                        tt,
+                                        (
+                                          (Make'.u64-wt, tt),
+                                          (
+                                            (Make'.u64-wt, tt),
+                                            (
+                                              tt,
+                                              (
+                                                (Make'.u64-wt, (Make'.u64-wt, tt)),
+                                                (
+                                                  (Make'.u64-wt, tt),
+                                                  (tt, (tt, ((Make'.u64-wt, tt), ((Make'.u64-wt, tt), ((Make'.u64-wt, tt), (tt, tt)))))),
+                                                ),
+                                              ),
+                                            ),
+                                          ),
+                                        ),
+                                      ),
+                                    ),
+                                  ),
+                                ),
+                              ),
+                            ),
                           ),
                         ),
                       ),
-                    ),
-                  ),
-                ))
-                    (Refusal.the-type .to (m .1 .1 .1 .1 .1 .1 .1 .1 .1 .1 .1 .1 .1 .1 .1 .1 .0)),
+                    )) (Refusal.the-type .to (m
+                    .1 .1 .1 .1 .1 .1 .1 .1 .1 .1 .1 .1 .1 .1 .1 .1 .0)),
                 tt,
               ) (wa .1)) d4
 
@@ -3559,28 +3663,21 @@ module _ (claims· : Claims) where
               List.[]))))))))))))))) (Syntax.ttcons Syntax.tnil (Syntax.ttcons Syntax.tnil (Syntax.ttcons Syntax.tnil (Syntax.ttcons (Syntax.tcons (Syntax.tyInt Syntax.w64) Syntax.tnil) (Syntax.ttcons
               Syntax.tnil (Syntax.ttcons Syntax.tnil (Syntax.ttcons Syntax.tnil (Syntax.ttcons Syntax.tnil (Syntax.ttcons Syntax.tnil (Syntax.ttcons Syntax.tnil (Syntax.ttcons (Syntax.tcons (Syntax.tyInt
               Syntax.w64) Syntax.tnil) (Syntax.ttcons (Syntax.tcons (Syntax.tyInt Syntax.w64) Syntax.tnil) (Syntax.ttcons Syntax.tnil (Syntax.ttcons (Syntax.tcons (Syntax.tyInt Syntax.w64) (Syntax.tcons
-              (Syntax.tyInt Syntax.w64) Syntax.tnil)) (Syntax.ttcons (Syntax.tcons (Syntax.tyInt Syntax.w64) Syntax.tnil) (Syntax.ttcons Syntax.tnil Syntax.ttnil)))))))))))))))))) (
+              (Syntax.tyInt Syntax.w64) Syntax.tnil)) (Syntax.ttcons (Syntax.tcons (Syntax.tyInt Syntax.w64) Syntax.tnil) (Syntax.ttcons Syntax.tnil (Syntax.ttcons Syntax.tnil (Syntax.ttcons (Syntax.tcons
+              (Syntax.tyInt Syntax.w64) Syntax.tnil) (Syntax.ttcons (Syntax.tcons (Syntax.tyInt Syntax.w64) Syntax.tnil) (Syntax.ttcons (Syntax.tcons (Syntax.tyInt Syntax.w64) Syntax.tnil) (Syntax.ttcons
+              Syntax.tnil Syntax.ttnil))))))))))))))))))))))) (tt, ((Scalar.reads-sc 𝓤 H A W (Row.sInt Syntax.w64), Path'.refl), tt)) Path'.refl (λ m wa. Make.made-val Refusal.the-type Laws''.the-laws
+              (List._∷_ (Laws''.the-laws .1 .1 .1 .1 .1 .1 .1 .1 .1 .1 .0 .0 .val (m .1 .1 .1 .1 .1 .1 .1 .1 .0)) List.[]) (Refusal.enum .make (Logic.inr (Logic.inr (Logic.inr (Logic.inr (Logic.inr
+              (Logic.inr (Logic.inr (Logic.inr (Logic.inr (Logic.inr (Logic.inl (m .1 .1 .1 .1 .1 .1 .1 .1 .0, tt))))))))))))) (
+                Signed.made-wt Field.u64-field (Laws''.the-laws .1 .1 .1 .1 .1 .1 .1 .1
+                    .1 .1 .0 .0) Make'.u64-wt (m .1 .1 .1 .1 .1 .1 .1 .1 .0),
                 tt,
-                (
-                  (
-                    Scalar.reads-sc 𝓤
-                        H A W (Row.sInt Syntax.w64),
-                    Path'.refl,
-                  ),
-                  tt,
-                ),
-              ) Path'.refl (λ m wa. Make.made-val Refusal.the-type Laws''.the-laws (List._∷_ (Laws''.the-laws .1 .1 .1 .1 .1 .1 .1 .1 .1 .1 .0 .0 .val (m .1 .1
-              .1 .1 .1 .1 .1 .1 .0)) List.[]) (Refusal.enum .make (Logic.inr (Logic.inr (Logic.inr (Logic.inr (Logic.inr (Logic.inr (Logic.inr (Logic.inr (Logic.inr (Logic.inr (Logic.inl (
-                m .1 .1 .1 .1
-                    .1 .1 .1 .1 .0,
+              ) (wa .1)) λ m wa. Make.made-is Refusal.the-type Laws''.the-laws (List._∷_ (Laws''.the-laws .1 .1 .1 .1 .1 .1 .1 .1 .1 .1 .0 .0
+              .val (m .1 .1 .1 .1 .1 .1 .1 .1 .0)) List.[]) (Refusal.enum .make (Logic.inr (Logic.inr (Logic.inr (Logic.inr (Logic.inr (Logic.inr (Logic.inr (Logic.inr (Logic.inr (Logic.inr (Logic.inl (
+                m
+                    .1 .1 .1 .1 .1 .1 .1 .1 .0,
                 tt,
-              ))))))))))))) (Signed.made-wt Field.u64-field (Laws''.the-laws .1 .1 .1 .1 .1 .1 .1 .1 .1 .1 .0 .0) Make'.u64-wt (m .1 .1 .1 .1 .1 .1 .1 .1 .0), tt) (wa .1)) λ m wa.
-              Make.made-is Refusal.the-type Laws''.the-laws (List._∷_ (Laws''.the-laws .1 .1 .1 .1 .1 .1 .1 .1 .1 .1 .0 .0 .val (m .1 .1 .1 .1 .1 .1 .1 .1 .0)) List.[]) (Refusal.enum .make (Logic.inr
-              (Logic.inr (Logic.inr (Logic.inr (Logic.inr (Logic.inr (Logic.inr (Logic.inr (Logic.inr (Logic.inr (Logic.inl (m .1 .1 .1 .1 .1 .1 .1 .1 .0, tt))))))))))))) (
-                Signed.made-wt
-                    Field.u64-field (Laws''.the-laws .1 .1 .1 .1 .1 .1 .1 .1 .1 .1 .0 .0) Make'.u64-wt (m .1 .1 .1 .1 .1 .1 .1 .1 .0),
-                tt,
-              ) (wa .1)) d5
+              ))))))))))))) (Signed.made-wt Field.u64-field (Laws''.the-laws .1 .1 .1 .1 .1 .1 .1 .1 .1 .1 .0 .0) Make'.u64-wt (m .1 .1 .1 .1 .1 .1 .1 .1 .0), tt) (wa
+              .1)) d5
 
           d7 : Typed.Typed 𝓤 H A 𝓣 E G28 b14 Δ1 at7
           d7 = Typed.g-pre 𝓤 H A W 𝓣 E G28 G29 b14 Δ1 (λ Ψ. Ψ) at6 (Lifetime.g-forget 𝓤 H A W E G28 5 Row.dead Path'.refl) d6
@@ -3925,7 +4022,9 @@ module _ (claims· : Claims) where
               (Syntax.ttcons Syntax.tnil (Syntax.ttcons (Syntax.tcons (Syntax.tyInt Syntax.w64) Syntax.tnil) (Syntax.ttcons Syntax.tnil (Syntax.ttcons Syntax.tnil (Syntax.ttcons Syntax.tnil (Syntax.ttcons
               Syntax.tnil (Syntax.ttcons Syntax.tnil (Syntax.ttcons Syntax.tnil (Syntax.ttcons (Syntax.tcons (Syntax.tyInt Syntax.w64) Syntax.tnil) (Syntax.ttcons (Syntax.tcons (Syntax.tyInt Syntax.w64)
               Syntax.tnil) (Syntax.ttcons Syntax.tnil (Syntax.ttcons (Syntax.tcons (Syntax.tyInt Syntax.w64) (Syntax.tcons (Syntax.tyInt Syntax.w64) Syntax.tnil)) (Syntax.ttcons (Syntax.tcons
-              (Syntax.tyInt Syntax.w64) Syntax.tnil) (Syntax.ttcons Syntax.tnil Syntax.ttnil))))))))))))))))) Syntax.tnil) Syntax.ttnil)))) (tt, (tt, (tt, (tt, tt)))) Path'.refl) d45
+              (Syntax.tyInt Syntax.w64) Syntax.tnil) (Syntax.ttcons Syntax.tnil (Syntax.ttcons Syntax.tnil (Syntax.ttcons (Syntax.tcons (Syntax.tyInt Syntax.w64) Syntax.tnil) (Syntax.ttcons (Syntax.tcons
+              (Syntax.tyInt Syntax.w64) Syntax.tnil) (Syntax.ttcons (Syntax.tcons (Syntax.tyInt Syntax.w64) Syntax.tnil) (Syntax.ttcons Syntax.tnil Syntax.ttnil)))))))))))))))))))))) Syntax.tnil)
+              Syntax.ttnil)))) (tt, (tt, (tt, (tt, tt)))) Path'.refl) d45
 
           d47 : Typed.Typed 𝓤 H A 𝓣 E G44 b32 Δ0 at47
           d47 = Typed.s-seq 𝓤 H A W 𝓣 E G44 G45 b28 b31 Δ0 (Typed.ask s42) at46 (Relend.t-sl-aggregate 𝓤 H A W E (Element.type) 𝓣 (Relend.asMut (Element.type)) G44 21 22 8 (Syntax.tyRef Syntax.erased
