@@ -13,10 +13,15 @@ usage: fujiraw info STREAM...
        fujiraw decode STREAM OUT [OPTION...]
        fujiraw decode STREAM... FOLDER [OPTION...]
 
-info shows the header of each stream, and where its blocks lie. check says of each block whether it is tight. write writes the tight block of a set of colour lines: HEADER is a
-stream or its first 16 bytes, SAMPLES has 16 bits each, little-endian, for each line red 2 to 4, green 7 to 12, blue 15 to 17. codes lists every bit string of at most LENGTH bits (1 to 16) that is one tight lossless code for a DEPTH of 12, 14 or 16 and a K of 0 to 15: its
-bits, how many they are, their value and the code, parted by tabs. plan writes the base bytes of a lossy header's lines: PLAN is text, one record a line, which is first line, last line and base,
-parted by tabs; every line lies in exactly one record. decode writes its picture to OUT, or those of several streams to a folder that is there.
+info      the header of each stream, and where its blocks lie
+check     says of each block whether it is tight
+write     writes the tight block of a set of colour lines: HEADER is a stream or its first 16 bytes, SAMPLES has 16 bits each,
+          little-endian, for each line red 2 to 4, green 7 to 12, blue 15 to 17
+codes     lists every bit string of at most LENGTH bits (1 to 16) that is one tight lossless code for a DEPTH of 12, 14 or 16 and
+          a K of 0 to 15: its bits, how many they are, their value and the code, parted by tabs
+plan      writes the base bytes of a lossy header's lines: PLAN is text, one record a line, which is first line, last line and
+          base, parted by tabs; every line lies in exactly one record
+decode    writes a stream's picture to OUT, or those of several to a folder that is there
 
   --region X,Y,W,H    only the W columns from X on, and the H rows from Y on
   --tile DIGITS       the colours of the sensor, six rows of six: 0 red, 1 green, 2 blue (else RGGB or the usual X-Trans)
