@@ -239,7 +239,9 @@ impl<'a> BitPumpMsb<'a> {
 
     // The next n bits, and moves on past them. A count above 32 is taken as 32.
     pub fn get(&mut self, n: u32) -> u32
-        ensures { λ r. ⌜ (r ≡ nextBits (now (self .entry)) n) × (now (self .exit) ≡ movedTo (now (self .entry)) (ahead (now (self .entry) .at .0) (min n 32))) ⌝ }
+        ensures { λ r.
+            ⌜ (r ≡ nextBits (now (self .entry)) n)
+            × (now (self .exit) ≡ movedTo (now (self .entry)) (ahead (now (self .entry) .at .0) (min n 32))) ⌝ }
     {
         let at = self.at;
         let v = peek_at(self.data, at, n);
@@ -250,7 +252,9 @@ impl<'a> BitPumpMsb<'a> {
     // The zeros up to the next one bit, and moves on past that bit. Where none is left it stays.
     pub fn zero_run(&mut self) -> ZeroRun
         requires { ⌜ length (now (now self .«data»)) < 2 ^ 58 ⌝ }
-        ensures { λ r. ⌜ (r ≡ zeroRun (now (now (self .entry) .«data»)) (now (self .entry) .at .0)) × (now (self .exit) ≡ movedTo (now (self .entry)) (afterRun (now (self .entry) .at .0) r)) ⌝ }
+        ensures { λ r.
+            ⌜ (r ≡ zeroRun (now (now (self .entry) .«data»)) (now (self .entry) .at .0))
+            × (now (self .exit) ≡ movedTo (now (self .entry)) (afterRun (now (self .entry) .at .0) r)) ⌝ }
     {
         let at = self.at;
         let run = zero_run(self.data, at);

@@ -56,7 +56,9 @@ fn write_line(
     requires { ⌜ Depth (form .bits) × ScratchOf (form .xtrans) (now lines) (now rs) ⌝ }
     requires { ⌜ Within (largest (form .bits)) (now lines) × AllInRange (now rs) ⌝ }
     requires { ⌜ (from .0 < 2 ^ 58) × Room store (now out) (from .0) ((passesFrom form (now samples) n 6 (now lines) (now rs)) .bits) ⌝ }
-    ensures { λ r. ⌜ LineWritten (passesFrom form (now (samples .entry)) n 6 (now (lines .entry)) (now (rs .entry))) (from .0) store (now (out .entry)) (now (lines .exit)) (now (rs .exit)) (now (out .exit)) r ⌝ }
+    ensures { λ r.
+        let written = passesFrom form (now (samples .entry)) n 6 (now (lines .entry)) (now (rs .entry)) in
+        ⌜ LineWritten written (from .0) store (now (out .entry)) (now (lines .exit)) (now (rs .exit)) (now (out .exit)) r ⌝ }
     ensures { λ _. ⌜ AllInRange (now (rs .exit)) ⌝ }
 {
     let bits = form.bits;
@@ -149,7 +151,9 @@ fn write_measured(
 ) -> Written
     requires { ⌜ (count < 2 ^ 16) × ((length (now samples) ≡ setSize (widthOf (form .xtrans)) count) × Within (largest (form .bits)) (now samples)) ⌝ }
     requires { ⌜ Depth (form .bits) × ScratchOf (form .xtrans) (now lines) (now rs) ⌝ }
-    ensures { λ r. ⌜ (r ≡ measuredAnswer form count (now (samples .entry)) (length (now (out .entry)))) × (now (out .exit) ≡ writtenOut r (tightBlock form count (now (samples .entry))) (now (out .entry))) ⌝ }
+    ensures { λ r.
+        ⌜ (r ≡ measuredAnswer form count (now (samples .entry)) (length (now (out .entry))))
+        × (now (out .exit) ≡ writtenOut r (tightBlock form count (now (samples .entry))) (now (out .entry))) ⌝ }
     ensures { λ _. ⌜ (now (lines .exit) ≡ zeroLines (widthOf (form .xtrans))) × (now (rs .exit) ≡ clearRecords) ⌝ }
 {
     let measured = write_walk(samples, out, false, lines, rs, form, count);
@@ -177,7 +181,9 @@ fn write_set(
 ) -> Written
     requires { ⌜ (count < 2 ^ 16) × (length (now samples) ≡ setSize (widthOf (form .xtrans)) count) ⌝ }
     requires { ⌜ Depth (form .bits) × ScratchOf (form .xtrans) (now lines) (now rs) ⌝ }
-    ensures { λ r. ⌜ (r ≡ writtenAnswer form count (now (samples .entry)) (length (now (out .entry)))) × (now (out .exit) ≡ writtenOut r (tightBlock form count (now (samples .entry))) (now (out .entry))) ⌝ }
+    ensures { λ r.
+        ⌜ (r ≡ writtenAnswer form count (now (samples .entry)) (length (now (out .entry))))
+        × (now (out .exit) ≡ writtenOut r (tightBlock form count (now (samples .entry))) (now (out .entry))) ⌝ }
     ensures { λ _. ⌜ (now (lines .exit) ≡ zeroLines (widthOf (form .xtrans))) × (now (rs .exit) ≡ clearRecords) ⌝ }
 {
     let m = quantiser::largest(form.bits);

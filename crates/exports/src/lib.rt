@@ -114,7 +114,9 @@ pub extern "C" fn fuji_block_width(
     width: &mut [usize; 1],
     refusal: &mut [usize; 4],
 )
-    ensures { λ _. ⌜ (now (width .exit) ≡ widthWords (widthAnswer (parseOf (now (d .entry))) i)) × (now (refusal .exit) ≡ widthRefusal (widthAnswer (parseOf (now (d .entry))) i)) ⌝ }
+    ensures { λ _.
+        let answer = widthAnswer (parseOf (now (d .entry))) i in
+        ⌜ (now (width .exit) ≡ widthWords answer) × (now (refusal .exit) ≡ widthRefusal answer) ⌝ }
 {
     let x = stream::block_width(d, i);
     let w = width_words(x);
