@@ -1,10 +1,11 @@
-// Functions that C and Rust link to: the header, where blocks and base rows lie, and the sheet of short codes. Each hands back a refusal's four words, all 0
-// where nothing is refused, and what was asked for, all 0 where it is refused. Those that decode stand in `block`.
+// Functions that C and Rust link to: the header, where blocks and base rows lie, the sheet of short codes, and plans of bases. Each hands back a
+// refusal's four words, all 0 where nothing is refused, and what was asked for, all 0 where it is refused. Those that decode stand in `block`.
 ghost use mathlib.Core.Path.{_≡_};
 ghost use Rattle.stream.specs.Headers.{parseOf, widthAnswer};
 ghost use Rattle.stream.specs.Streams.{openOf, rangeOf, rowOf};
-ghost use Rattle.exports.specs.Exports.{headerWords, parsedWords, parsedRefusal, rangedWords, rangedRefusal, widthWords, widthRefusal, listedWords, listedRefusal};
-ghost use Rattle.short_codes.specs.Sheets.{listedAnswer, ListAfter};
+ghost use Rattle.exports.specs.Exports.{headerWords, parsedWords, parsedRefusal, rangedWords, rangedRefusal, widthWords, widthRefusal};
+ghost use Rattle.exports.specs.Exports.{listedWords, listedRefusal, ToldSheet, plannedRefusal, ToldPlan};
+use plan::Planned;
 use short_codes::Listed;
 use stream::FujiHeader;
 use stream::Parsed;
@@ -186,12 +187,35 @@ pub extern "C" fn fuji_short_codes(
     count: &mut [usize; 1],
     refusal: &mut [usize; 4],
 )
-    ensures words { λ _. ⌜ (now (count .exit) ≡ listedWords (listedAnswer depth k longest)) × (now (refusal .exit) ≡ listedRefusal (listedAnswer depth k longest)) ⌝ }
-    ensures list { λ _. ⌜ ListAfter depth k longest (now (list .entry)) (now (list .exit)) ⌝ }
+    ensures { λ _. ⌜ ToldSheet depth k longest (now (list .entry)) (now (list .exit)) (now (count .exit)) (now (refusal .exit)) ⌝ }
 {
     let x = short_codes::short_codes(depth, k, longest, list);
     let w = listed_words(x);
     *count = w;
     let r = listed_refusal(x);
+    *refusal = r;
+}
+
+fn planned_refusal(a: Planned) -> [usize; 4]
+    ensures { λ w. ⌜ w ≡ plannedRefusal a ⌝ }
+{
+    match a {
+        Planned::Done => [0; 4],
+        Planned::Refused(r) => stream::refusal_words(r),
+    }
+}
+
+// The bases of a lossy header's lines, as a plan says.
+#[no_mangle]
+pub extern "C" fn fuji_plan_bases(
+    header: &[u8],
+    plan: &[u8],
+    bases: &mut [u8],
+    refusal: &mut [usize; 4],
+)
+    ensures { λ _. ⌜ ToldPlan (now (header .entry)) (now (plan .entry)) (now (bases .entry)) (now (bases .exit)) (now (refusal .exit)) ⌝ }
+{
+    let x = plan::plan_bases(header, plan, bases);
+    let r = planned_refusal(x);
     *refusal = r;
 }

@@ -35,7 +35,7 @@ pub new-none : (f : ℕ → ℕ) (l : List ℕ) → NewTo f 0 l l
 new-none f l i = rw (le-ltb i 0 (omega arith))
 
 -- a number other than j lies before j if it lies before the next
-next-below : (j i : ℕ) → (i ≡ j → ⊥) → ltb i j ≡ ltb i (j + 1)
+pub next-below : (j i : ℕ) → (i ≡ j → ⊥) → ltb i j ≡ ltb i (j + 1)
 next-below j i n =
     split j i
     (λ a. le-ltb i j a ∙ sym (le-ltb i (j + 1) (split i j (λ b. absurd (n (omega arith))) (λ b. omega arith))))

@@ -24,6 +24,11 @@ pub enum Refusal {
     ShortOutput,
     Truncated(usize, usize),
     NotTight(usize),
+    Lossless,
+    WrongBases,
+    BadRecord(usize),
+    HeldTwice(usize),
+    NotHeld(usize),
     OutsideSheet,
 }
 
@@ -47,6 +52,11 @@ pub fn refusal_words(r: Refusal) -> [usize; 4]
         Refusal::ShortOutput => [13, 0, 0, 0],
         Refusal::Truncated(b, l) => [14, b, l, 0],
         Refusal::NotTight(l) => [15, 0, l, 0],
+        Refusal::Lossless => [16, 0, 0, 0],
+        Refusal::WrongBases => [17, 0, 0, 0],
+        Refusal::BadRecord(i) => [18, 0, 0, i],
+        Refusal::HeldTwice(l) => [19, 0, l, 0],
+        Refusal::NotHeld(l) => [20, 0, l, 0],
         Refusal::OutsideSheet => [24, 0, 0, 0],
     }
 }

@@ -70,4 +70,13 @@ unsafe extern "C" {
         count: *mut [usize; 1],
         refusal: *mut [usize; 4],
     );
+    pub fn fuji_plan_bases(
+        header: *const u8,
+        header_length: usize,
+        plan: *const u8,
+        plan_length: usize,
+        bases: *mut u8,
+        bases_length: usize,
+        refusal: *mut [usize; 4],
+    );
 }

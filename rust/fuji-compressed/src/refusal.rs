@@ -36,6 +36,11 @@ impl Refusal {
             13 => "the output is too short",
             14 => "a line is truncated",
             15 => "the block is not tight",
+            16 => "the header is lossless",
+            17 => "the number of base bytes is not that of the lines",
+            18 => "the plan's record is malformed, runs backwards, passes the last line or has a base above 255",
+            19 => "two records of the plan hold it",
+            20 => "no record of the plan holds it",
             24 => "the depth is not 12, 14 or 16, k is above 15, or the length is not 1 to 16",
             _ => "refused",
         }
@@ -49,7 +54,8 @@ impl fmt::Display for Refusal {
             4 => write!(f, "block {}: ", self.block)?,
             11 | 12 => write!(f, "sample {}: ", self.index)?,
             14 => write!(f, "block {}, line {}: ", self.block, self.line)?,
-            15 => write!(f, "line {}: ", self.line)?,
+            15 | 19 | 20 => write!(f, "line {}: ", self.line)?,
+            18 => write!(f, "record {}: ", self.index)?,
             _ => {}
         }
         f.write_str(self.words())

@@ -10,7 +10,11 @@ returns : tie.Need-returns
 returns c =
     let s = c .before .before .before .before in
     let e = sym (s .short-codes .ensures .0) in
-    ((same listedWords _ _ _ e (c .before .listed-words .ensures), same listedRefusal _ _ _ e (c .listed-refusal .ensures)), s .short-codes .ensures .1)
+    record {
+      count-is = same listedWords _ _ _ e (c .before .listed-words .ensures);
+      told = same listedRefusal _ _ _ e (c .listed-refusal .ensures);
+      left = s .short-codes .ensures .1;
+    }
 
 pub fuji-short-codes-spec : {M : Type 1} → statement M
 fuji-short-codes-spec =
