@@ -8,3 +8,5 @@ pub mod BlockLaws
 pub mod AnswerLaws
 pub mod DemandHolds
 pub mod WriterHolds
+pub mod CallsHold
+pub mod ZerosFit
