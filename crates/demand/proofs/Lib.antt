@@ -10,3 +10,4 @@ pub mod DemandHolds
 pub mod WriterHolds
 pub mod CallsHold
 pub mod ZerosFit
+pub mod PredictedSteps
