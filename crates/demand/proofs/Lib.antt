@@ -11,3 +11,4 @@ pub mod WriterHolds
 pub mod CallsHold
 pub mod ZerosFit
 pub mod PredictedSteps
+pub mod PredictedPasses
