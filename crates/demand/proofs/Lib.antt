@@ -12,3 +12,5 @@ pub mod CallsHold
 pub mod ZerosFit
 pub mod PredictedSteps
 pub mod PredictedPasses
+pub mod PredictedLines
+pub mod PredictedBlocks

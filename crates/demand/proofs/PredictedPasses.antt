@@ -43,6 +43,12 @@ odd-coded false l p h = refl
 odd-coded true l p h =
     rw (ne-eqb (p % 2) 0 h, ne-eqb (p % 4) 0 (λ e. h (omega arith)), ne-eqb (p % 4) 2 (λ e. h (omega arith)))
 
+-- so an interpolated one is even
+pub interpolated-even : (xtrans : Bool) (l p : ℕ) → isInterpolated xtrans l p ≡ true → p % 2 ≡ 0
+interpolated-even xtrans l p e =
+    split (p % 2) 0 (λ k. omega arith)
+    (λ k. let no : false ≡ true = sym (odd-coded xtrans l p (λ z. omega arith)) ∙ e in let y : _≡_ {A = ℕ} 0 1 = cc in absurd (omega arith))
+
 same-rules : (xtrans : Bool) (i : ℕ) → i < 6 → SameRules xtrans (planOf xtrans i)
 unfolding planOf interpolated isInterpolated
 same-rules false i h = λ p e. by-four p e (λ f. rw f (refl, refl)) (λ f. rw f (refl, refl))
@@ -58,10 +64,10 @@ same-rules true i h =
 
 -- ---- the steps of a pass
 
-abbrev CodedIn : Bool → Step → Type 0
+abbrev pub CodedIn : Bool → Step → Type 0
 CodedIn xtrans x = x .coded ≡ not (isInterpolated xtrans (x .line) (x .position))
 
-steps-coded : (xtrans : Bool) (W i : ℕ) → i < 6 → All (CodedIn xtrans) (passSteps W (planOf xtrans i))
+pub steps-coded : (xtrans : Bool) (W i : ℕ) → i < 6 → All (CodedIn xtrans) (passSteps W (planOf xtrans i))
 unfolding passSteps turnSteps
 steps-coded xtrans W i h = all-upto (CodedIn xtrans) (turnSteps W P) (W / 2 + 4) (λ t k. turn t)
   where
@@ -163,6 +169,30 @@ either : (a b : Bool) → a || b ≡ true → (a ≡ true) ⊎ (b ≡ true)
 either true b e = inl refl
 either false b e = inr e
 
+-- what holds of the first two lines of each colour holds of every line that is ready before the first pass
+abbrev early : ℕ → Bool
+early l = not (eqb (ready l) 0) || (eqb l 0 || (eqb l 1 || (eqb l 5 || (eqb l 6 || (eqb l 13 || eqb l 14)))))
+
+all-early : allBelow early 18 ≡ true
+unfolding allBelow ready
+all-early = refl
+
+pub each-before : (Q : ℕ → Type 0) → Q 0 × Q 1 × Q 5 × Q 6 × Q 13 × Q 14 → (l : ℕ) → l ≤ 17 → ready l ≤ 0 → Q l
+each-before Q a l h k =
+    let z : ready l ≡ 0 = omega arith in
+    let e = rw z at (below early 18 all-early l (omega arith)) in
+    pick 0 _ (a .0) (pick 1 _ (a .1) (pick 5 _ (a .2) (pick 6 _ (a .3) (pick 13 _ (a .4) (λ u. is 14 (a .5) u))))) e
+  where
+    is : (m : ℕ) → Q m → eqb l m ≡ true → Q l
+    is m q u = rw (eqb-true l m u) q
+
+    go : (m : ℕ) (rest : Bool) → Q m → (rest ≡ true → Q l) → (eqb l m ≡ true) ⊎ (rest ≡ true) → Q l
+    go m rest q f (inl u) = is m q u
+    go m rest q f (inr u) = f u
+
+    pick : (m : ℕ) (rest : Bool) → Q m → (rest ≡ true → Q l) → eqb l m || rest ≡ true → Q l
+    pick m rest q f u = go m rest q f (either (eqb l m) rest u)
+
 pub data Owner (xtrans : Bool) (l : ℕ) : Type 0 where
   before : ready l ≡ 0 → Owner xtrans l
   first : (i : ℕ) → i < 6 → ready l ≡ suc i → l ≡ (planOf xtrans i) .first → Owner xtrans l
@@ -228,8 +258,7 @@ module _ (xtrans : Bool) (W : ℕ) (even : W % 2 ≡ 0) (i : ℕ) (h : i < 6) wh
     where
       even-position : (b : Bool) → isInterpolated xtrans (x .line) (x .position) ≡ b → false ≡ not b → x .position % 2 ≡ 0
       even-position false u v = let y : _≡_ {A = ℕ} 0 1 = cc in absurd (omega arith)
-      even-position true u v =
-          split (x .position % 2) 0 (λ k. omega arith) (λ k. let no : false ≡ true = sym (odd-coded xtrans (x .line) (x .position) (λ z. omega arith)) ∙ u in let y : _≡_ {A = ℕ} 0 1 = cc in absurd (omega arith))
+      even-position true u v = interpolated-even xtrans (x .line) (x .position) u
 
   pub all-in-pass : All (InPass W A B) (passSteps W (planOf xtrans i))
   all-in-pass =
