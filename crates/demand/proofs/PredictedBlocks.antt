@@ -11,7 +11,7 @@ use Rattle.numbers.proofs.OrderLaws.{split}
 use Rattle.pass.specs.Steps.{planOf, Step, passSteps}
 use Rattle.pass.specs.Readings.{contextAt}
 use Rattle.pass.specs.declared.Plan.{Plan}
-use Rattle.lines.specs.ColourLines.{turned}
+use Rattle.lines.specs.ColourLines.{zeroLines, turned}
 use Rattle.lines.proofs.LineLaws.{length-turned}
 use Rattle.lines.proofs.MoveLaws.{turned-at}
 use Rattle.map.specs.Places.{widthOf}
@@ -25,7 +25,7 @@ use Rattle.block.proofs.LineLaws.{width-in-range}
 use Rattle.block.proofs.SampleLaws.{zeros-le, turned-le}
 use Rattle.demand.specs.PredictedSets.{sampleAt, predictionIn, isInterpolated, PredictedSet}
 use Rattle.demand.proofs.PredictedSteps.{place, AllRight, writes-wrong}
-use Rattle.demand.proofs.PredictedPasses.{all-both, interpolated-even, steps-coded, ready, LineOf, lines-of, each-before, Owner, before, first, second, owner, all-in-pass}
+use Rattle.demand.proofs.PredictedPasses.{all-both, interpolated-even, steps-coded, ready, LineOf, lines-of, each-before, early-coded, Owner, before, first, second, owner, all-in-pass}
 use Rattle.demand.proofs.PredictedLines.{Found, entered, found-next, prediction-is}
 
 module _ (F : Form) (t : List ℕ) where
@@ -110,3 +110,99 @@ module _ (F : Form) (t : List ℕ) where
               (b .0, λ i hi. split k i (λ u. let q : i ≡ k = omega arith in rw q (a .1)) (λ u. b .1 i u)),
           λ e. one .1 (rest .1 (e .0, λ i hi. e .1 i (omega arith)), e .1 k (omega arith)),
         )
+
+  -- ---- the lines of a block
+
+  -- before line n the last two lines of each colour have become its first two
+  turned-found : (n : ℕ) (lines : List ℕ) → Found W t n 6 lines → Found W t (suc n) 0 (turned W lines)
+  unfolding sampleAt ready
+  turned-found n lines f =
+      let long : 18 * (W + 2) ≤ length lines = omega (arith, f .long) in
+      let at = turned-at W lines long in
+      record {
+        long = length-turned W lines long ∙ f .long;
+        samples = λ l p hl k h. each-before (λ l. getD (turned W lines) (place W l (p + 1)) 0 ≡ sampleAt W t (suc n) l p) (
+          at (p + 1) (omega arith) .0 ∙ f .samples 3 p (omega arith) (omega arith) h,
+          at (p + 1) (omega arith) .1 ∙ f .samples 4 p (omega arith) (omega arith) h,
+          at (p + 1) (omega arith) .2 ∙ f .samples 11 p (omega arith) (omega arith) h,
+          at (p + 1) (omega arith) .3 ∙ f .samples 12 p (omega arith) (omega arith) h,
+          at (p + 1) (omega arith) .4 ∙ f .samples 16 p (omega arith) (omega arith) h,
+          at (p + 1) (omega arith) .5 ∙ f .samples 17 p (omega arith) (omega arith) h,
+        ) l hl k;
+        guards = λ l hl k ne. each-before (λ l. (l ≢ 0) × (l ≢ 5) × (l ≢ 13) → getD (turned W lines) (place W l 0) 0 ≡ sampleAt W t (suc n) (l - 1) 0) (
+          λ ne. absurd (ne .0 refl),
+          λ ne. at 0 (omega arith) .1 ∙ f .guards 4 (omega arith) (omega arith) (λ e. omega arith, λ e. omega arith, λ e. omega arith),
+          λ ne. absurd (ne .1 refl),
+          λ ne. at 0 (omega arith) .3 ∙ f .guards 12 (omega arith) (omega arith) (λ e. omega arith, λ e. omega arith, λ e. omega arith),
+          λ ne. absurd (ne .2 refl),
+          λ ne. at 0 (omega arith) .5 ∙ f .guards 17 (omega arith) (omega arith) (λ e. omega arith, λ e. omega arith, λ e. omega arith),
+        ) l hl k ne;
+      }
+
+  -- line 0 finds lines of 0
+  zeros-found : (lines : List ℕ) → length lines ≡ 18 * (W + 2) → ((j : ℕ) → getD lines j 0 ≤ 0) → Found W t 0 0 lines
+  unfolding sampleAt
+  zeros-found lines long z =
+      record {
+        long = long;
+        samples = λ l p hl k h. each-before (λ l. getD lines (place W l (p + 1)) 0 ≡ sampleAt W t 0 l p)
+            (omega (arith, z (place W 0 (p + 1))), omega (arith, z (place W 1 (p + 1))), omega (arith, z (place W 5 (p + 1))), omega (arith, z (place W 6 (p + 1))), omega (arith, z (place W 13 (p + 1))), omega (arith, z (place W 14 (p + 1)))) l hl k;
+        guards = λ l hl k ne. each-before (λ l. (l ≢ 0) × (l ≢ 5) × (l ≢ 13) → getD lines (place W l 0) 0 ≡ sampleAt W t 0 (l - 1) 0) (
+          λ ne. absurd (ne .0 refl), λ ne. omega (arith, z (place W 1 0)), λ ne. absurd (ne .1 refl), λ ne. omega (arith, z (place W 6 0)), λ ne. absurd (ne .2 refl), λ ne. omega (arith, z (place W 14 0))
+        ) l hl k ne;
+      }
+
+  -- after n lines: line n finds what it should, and no sample was wrong exactly if each has its prediction
+  abbrev LinesRight : ℕ → Type 0
+  LinesRight n = (m i : ℕ) → m < n → i < 6 → PassRight m i
+
+  lines-found : (n : ℕ) → Found W t n 0 ((beforeWriting F n (writeLines F t n)) .lines)
+  unfolding writeLines repeats startWriting writeLine
+  lines-found zero =
+      let long : length (zeroLines W) ≡ 18 * (W + 2) = length-replicate (18 * (W + 2)) 0 in
+      zeros-found (turned W (zeroLines W)) (length-turned W (zeroLines W) (omega arith) ∙ long) (turned-le 0 W (zeroLines W) (zeros-le 0 (18 * (W + 2))))
+  lines-found (suc n) = turned-found n _ (passes-found n (beforeWriting F n (writeLines F t n)) (lines-found n) 6 (omega arith))
+
+  lines-wrong : (n : ℕ) → (writeLines F t n) .wrong ≡ none ↔ LinesRight n
+  unfolding writeLines repeats startWriting writeLine
+  lines-wrong zero = (λ e m i h k. absurd (omega arith), λ e. refl)
+  lines-wrong (suc n) =
+      let one = passes-wrong n (beforeWriting F n (writeLines F t n)) (lines-found n) 6 (omega arith) in
+      let rest = lines-wrong n in (
+        λ e. let a = one .0 e in λ m i h k. split n m (λ u. let q : m ≡ n = omega arith in rw q (a .1 i k)) (λ u. rest .0 (a .0) m i u k),
+        λ e. one .1 (rest .1 (λ m i h k. e m i (omega arith) k), λ i k. e n i (omega arith) k),
+      )
+
+  -- ---- a set that fits
+
+  module _ (lines : ℕ) where
+    pub to-predicted : FitSet F lines t → PredictedSet F lines t
+    to-predicted f =
+        record {
+          size = f .size;
+          range = f .range;
+          predicted = λ n l p hn hl hp e. at n l p hn hp e (owner (F .xtrans) l hl);
+        }
+      where
+        right : LinesRight lines
+        right = lines-wrong lines .0 (f .predicted)
+
+        at : (n l p : ℕ) → n < lines → p < W → isInterpolated (F .xtrans) l p ≡ true → Owner (F .xtrans) l → getD t (indexIn W n l p) 0 ≡ predictionIn W t n l p
+        at n l p hn hp e (before k z) =
+            let no : false ≡ true = sym (early-coded (F .xtrans) l p k (omega arith)) ∙ e in
+            let y : _≡_ {A = ℕ} 0 1 = cc in
+            absurd (omega arith)
+        at n l p hn hp e (first i k z is) = rw is (right n i hn k p hp .0 (rw is at e))
+        at n l p hn hp e (second i k z is) = rw is (right n i hn k p hp .1 (rw is at e))
+
+    pub from-predicted : PredictedSet F lines t → FitSet F lines t
+    from-predicted f =
+        record {
+          size = f .size;
+          range = f .range;
+          predicted = lines-wrong lines .1 (λ m i h k p hp. let L = lines-of (F .xtrans) i k in
+              (f .predicted m ((planOf (F .xtrans) i) .first) p h (L .0 .high) hp, f .predicted m ((planOf (F .xtrans) i) .second) p h (L .1 .high) hp));
+        }
+
+pub fits-is : (F : Form) (lines : ℕ) (t : List ℕ) → FitSet F lines t ↔ PredictedSet F lines t
+fits-is F lines t = (to-predicted F t lines, from-predicted F t lines)

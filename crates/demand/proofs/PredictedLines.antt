@@ -168,7 +168,7 @@ module _ (xtrans : Bool) (W : ℕ) (even : W % 2 ≡ 0) (positive : 0 < W) (t : 
       where
         -- a line that is ready just now is one of the two
         now : (X : ℕ → Type 0) (l : ℕ) → ready l ≡ suc i → Owner xtrans l → X A → X B → X l
-        now X l e (before f) a b = absurd (omega arith)
+        now X l e (before h f) a b = absurd (omega arith)
         now X l e (first j h f g) a b = let q : j ≡ i = omega arith in rw (g, q) a
         now X l e (second j h f g) a b = let q : j ≡ i = omega arith in rw (g, q) b
 

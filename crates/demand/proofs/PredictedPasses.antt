@@ -193,8 +193,20 @@ each-before Q a l h k =
     pick : (m : ℕ) (rest : Bool) → Q m → (rest ≡ true → Q l) → eqb l m || rest ≡ true → Q l
     pick m rest q f u = go m rest q f (either (eqb l m) rest u)
 
+-- none of them is interpolated
+none-of : (a b c : Bool) → (a && false) || (b && false) || (c && false) ≡ false
+none-of a b c = rw (and-false a, and-false b, and-false c)
+
+pub early-coded : (xtrans : Bool) (l p : ℕ) → l ≤ 17 → ready l ≤ 0 → isInterpolated xtrans l p ≡ false
+unfolding isInterpolated
+early-coded false l p h k = refl
+early-coded true l p h k = each-before (λ l. isInterpolated true l p ≡ false) (none, none, none, none, none, none) l h k
+  where
+    none : (eqb (p % 2) 0 && false) || (eqb (p % 4) 0 && false) || (eqb (p % 4) 2 && false) ≡ false
+    none = none-of (eqb (p % 2) 0) (eqb (p % 4) 0) (eqb (p % 4) 2)
+
 pub data Owner (xtrans : Bool) (l : ℕ) : Type 0 where
-  before : ready l ≡ 0 → Owner xtrans l
+  before : l ≤ 17 → ready l ≡ 0 → Owner xtrans l
   first : (i : ℕ) → i < 6 → ready l ≡ suc i → l ≡ (planOf xtrans i) .first → Owner xtrans l
   second : (i : ℕ) → i < 6 → ready l ≡ suc i → l ≡ (planOf xtrans i) .second → Owner xtrans l
 
@@ -212,10 +224,10 @@ owner xtrans l h = go (either _ _ (below owned 18 all-owned l (omega arith)))
     in-pass k pos (inr f) = second i k (omega arith) (eqb-true l (secondLine i) f ∙ sym (e .1))
 
     go : (eqb (ready l) 0 ≡ true) ⊎ (ltb i 6 && (eqb l (firstLine i) || eqb l (secondLine i)) ≡ true) → Owner xtrans l
-    go (inl f) = before (eqb-true (ready l) 0 f)
+    go (inl f) = before h (eqb-true (ready l) 0 f)
     go (inr f) =
         let b = both (ltb i 6) (eqb l (firstLine i) || eqb l (secondLine i)) f in
-        split (ready l) 0 (λ k. before (omega arith)) (λ k. in-pass (ltb-true i 6 (b .0)) k (either _ _ (b .1)))
+        split (ready l) 0 (λ k. before h (omega arith)) (λ k. in-pass (ltb-true i 6 (b .0)) k (either _ _ (b .1)))
 
 -- ---- the steps of pass i
 
