@@ -14,3 +14,5 @@ pub mod PredictedSteps
 pub mod PredictedPasses
 pub mod PredictedLines
 pub mod PredictedBlocks
+pub mod StreamOfBlocks
+pub mod SomethingHolds
