@@ -1,23 +1,22 @@
 -- Sets of colour lines fit, by the writer's rules, exactly when each interpolated position has its prediction. Assumes nothing.
-use mathlib.Core.Bool.{Bool, true, false, cond, not}
+use mathlib.Core.Bool.{Bool, true, false, not}
 use mathlib.Core.List.{List}
 use mathlib.Core.Logic.{_≢_, _↔_}
 use mathlib.Core.Option.{none}
-use mathlib.Core.Path.{_≡_, refl, sym, ap, _∙_}
+use mathlib.Core.Path.{_≡_, refl, sym, _∙_}
 use Prim.Native.Nat.{ℕ, zero, suc, _+_, _-_, _*_, _%_, _≤_, _<_}
 use native.Mathlib.Omega.{arith}
 use lib.ListN.{length, getD, length-replicate}
 use Rattle.numbers.proofs.OrderLaws.{split}
-use Rattle.pass.specs.Steps.{planOf, Step, passSteps}
+use Rattle.pass.specs.Steps.{planOf, passSteps}
 use Rattle.pass.specs.Readings.{contextAt}
 use Rattle.pass.specs.declared.Plan.{Plan}
 use Rattle.lines.specs.ColourLines.{zeroLines, turned}
 use Rattle.lines.proofs.LineLaws.{length-turned}
 use Rattle.lines.proofs.MoveLaws.{turned-at}
 use Rattle.map.specs.Places.{widthOf}
-use Rattle.writing.specs.Sets.{setSize, indexIn}
-use Rattle.writing.specs.Writings.{Writing, writePass, writes}
-use Rattle.writing.proofs.ListTwins.{All}
+use Rattle.writing.specs.Sets.{indexIn}
+use Rattle.writing.specs.Writings.{writePass}
 use Rattle.writing.proofs.OrderLaws.{pass-all, all-pass}
 use Rattle.block.specs.WrittenBlocks.{WriteState, repeats, enterWriting, writePassAt, beforeWriting, writeLine, startWriting, writeLines, FitSet}
 use Rattle.block.specs.declared.Form.{Form}
@@ -148,7 +147,12 @@ module _ (F : Form) (t : List ℕ) where
         samples = λ l p hl k h. each-before (λ l. getD lines (place W l (p + 1)) 0 ≡ sampleAt W t 0 l p)
             (omega (arith, z (place W 0 (p + 1))), omega (arith, z (place W 1 (p + 1))), omega (arith, z (place W 5 (p + 1))), omega (arith, z (place W 6 (p + 1))), omega (arith, z (place W 13 (p + 1))), omega (arith, z (place W 14 (p + 1)))) l hl k;
         guards = λ l hl k ne. each-before (λ l. (l ≢ 0) × (l ≢ 5) × (l ≢ 13) → getD lines (place W l 0) 0 ≡ sampleAt W t 0 (l - 1) 0) (
-          λ ne. absurd (ne .0 refl), λ ne. omega (arith, z (place W 1 0)), λ ne. absurd (ne .1 refl), λ ne. omega (arith, z (place W 6 0)), λ ne. absurd (ne .2 refl), λ ne. omega (arith, z (place W 14 0))
+          λ ne. absurd (ne .0 refl),
+          λ ne. omega (arith, z (place W 1 0)),
+          λ ne. absurd (ne .1 refl),
+          λ ne. omega (arith, z (place W 6 0)),
+          λ ne. absurd (ne .2 refl),
+          λ ne. omega (arith, z (place W 14 0)),
         ) l hl k ne;
       }
 

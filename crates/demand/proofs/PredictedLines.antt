@@ -1,9 +1,8 @@
 -- Lines by the samples of a set: what each pass finds in the colour lines, and the predictions that come from it. Assumes nothing.
-use mathlib.Core.Bool.{Bool, true, false, cond}
+use mathlib.Core.Bool.{Bool, cond}
 use mathlib.Core.List.{List}
-use mathlib.Core.Logic.{_≢_, _↔_, _⊎_, inl, inr}
-use mathlib.Core.Option.{none}
-use mathlib.Core.Path.{_≡_, refl, sym, ap, _∙_}
+use mathlib.Core.Logic.{_≢_}
+use mathlib.Core.Path.{_≡_, ap, _∙_}
 use Prim.Native.Nat.{ℕ, zero, suc, _+_, _-_, _*_, _%_, _≤_, _<_}
 use native.Mathlib.Nat.{mul-le-mul-right}
 use native.Mathlib.Omega.{arith}
@@ -11,8 +10,7 @@ use lib.Dec.{eqb}
 use lib.ListN.{length, getD}
 use borrow.Author.Tests.{eq-eqb, ne-eqb}
 use Rattle.numbers.proofs.OrderLaws.{split}
-use Rattle.prediction.specs.Predictions.{evenPrediction}
-use Rattle.pass.specs.Steps.{planOf, Step, passSteps}
+use Rattle.pass.specs.Steps.{planOf, passSteps}
 use Rattle.pass.specs.Readings.{contextAt}
 use Rattle.pass.specs.declared.Plan.{Plan}
 use Rattle.lines.specs.ColourLines.{guarded}
@@ -20,12 +18,11 @@ use Rattle.lines.proofs.LineLaws.{length-guarded}
 use Rattle.lines.proofs.MoveLaws.{place-is, samples-stay, guard-leaves, left-guard}
 use Rattle.writing.specs.Sets.{indexIn}
 use Rattle.writing.specs.Writings.{Writing, writes}
-use Rattle.writing.proofs.ListTwins.{All, cell}
 use Rattle.writing.proofs.OrderLaws.{pass-all, all-pass, pass-apart}
-use Rattle.demand.specs.PredictedSets.{isBefore, sampleAt, predictionIn, isInterpolated}
+use Rattle.demand.specs.PredictedSets.{sampleAt, predictionIn}
 use Rattle.demand.proofs.PlanLaws.{two-lines}
 use Rattle.demand.proofs.PredictedSteps.{place, even-sees, writes-leave, writes-length, writes-stand}
-use Rattle.demand.proofs.PredictedPasses.{ready, LineOf, lines-of, Owner, before, first, second, owner, not-ready, all-in-pass}
+use Rattle.demand.proofs.PredictedPasses.{ready, LineOf, lines-of, Owner, before, first, second, owner, not-ready}
 
 -- what the colour lines hold in line n, after i passes: the samples of the set in each line that is ready, and left of it the first sample of the
 -- line above
@@ -143,13 +140,13 @@ module _ (xtrans : Bool) (W : ℕ) (even : W % 2 ≡ 0) (positive : 0 < W) (t : 
     new-guard : (getD after (place W A 0) 0 ≡ sampleAt W t n (A - 1) 0) × (getD after (place W B 0) 0 ≡ sampleAt W t n (B - 1) 0)
     new-guard = (
       guard-stays A
-      ∙ guard-leaves W B A 0 (guarded W A lines) (omega arith) (two-lines xtrans i hi)
-      ∙ rw (zero A) (left-guard W A lines (inside A (L .0 .high) lines (found .long)))
-      ∙ first-above A (L .0),
+          ∙ guard-leaves W B A 0 (guarded W A lines) (omega arith) (two-lines xtrans i hi)
+          ∙ rw (zero A) (left-guard W A lines (inside A (L .0 .high) lines (found .long)))
+          ∙ first-above A (L .0),
       guard-stays B
-      ∙ rw (zero B) (left-guard W B (guarded W A lines) (inside B (L .1 .high) (guarded W A lines) (length-guarded W A lines ∙ found .long)))
-      ∙ samples-stay-first
-      ∙ first-above B (L .1),
+          ∙ rw (zero B) (left-guard W B (guarded W A lines) (inside B (L .1 .high) (guarded W A lines) (length-guarded W A lines ∙ found .long)))
+          ∙ samples-stay-first
+          ∙ first-above B (L .1),
     )
       where
         zero : (l : ℕ) → place W l 0 ≡ l * (W + 2)

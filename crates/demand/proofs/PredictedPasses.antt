@@ -1,19 +1,19 @@
 -- The passes of a line, by the samples of a set: which lines a pass finds, and when none of its interpolated samples is wrong. Assumes nothing.
 use mathlib.Core.Bool.{Bool, true, false, cond, not, _&&_, _||_, and-false}
 use mathlib.Core.List.{List, [], _∷_}
-use mathlib.Core.Logic.{_≢_, _↔_, _⊎_, inl, inr}
+use mathlib.Core.Logic.{_≢_, _⊎_, inl, inr}
 use mathlib.Core.Option.{none}
 use mathlib.Core.Path.{_≡_, refl, sym, ap, _∙_}
-use Prim.Native.Nat.{ℕ, zero, suc, _+_, _-_, _*_, _/_, _%_, _^_, _≤_, _<_}
+use Prim.Native.Nat.{ℕ, zero, suc, _+_, _-_, _*_, _/_, _%_, _≤_, _<_}
 use native.Mathlib.Omega.{arith}
 use lib.Dec.{leb, ltb, eqb}
-use lib.ListN.{length, getD}
+use lib.ListN.{getD}
 use borrow.Author.Tests.{eq-eqb, ne-eqb, le-ltb, lt-ltb, le-leb, lt-leb, leb-true, ltb-true, eqb-true}
 use Rattle.numbers.proofs.BoolLaws.{both}
 use Rattle.numbers.proofs.OrderLaws.{split}
 use Rattle.pass.specs.Steps.{plans, noPlan, planOf, interpolated, Step, evenSteps, oddSteps, turnSteps, passSteps}
 use Rattle.pass.specs.declared.Plan.{Plan}
-use Rattle.writing.proofs.ListTwins.{All, cell}
+use Rattle.writing.proofs.ListTwins.{All}
 use Rattle.writing.proofs.OrderLaws.{all-append, all-upto, pass-all}
 use Rattle.lines.proofs.MoveLaws.{place-is}
 use Rattle.demand.specs.PredictedSets.{isBefore, isInterpolated}

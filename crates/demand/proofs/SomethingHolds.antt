@@ -1,38 +1,36 @@
 -- Every lossless header has a stream that is accepted: that of the set of zeros in each block. Assumes nothing.
-use mathlib.Core.Bool.{Bool, true, false, cond}
-use mathlib.Core.List.{List, [], _∷_, _++_}
+use mathlib.Core.Bool.{true}
+use mathlib.Core.List.{List, []}
 use mathlib.Core.Option.{Option, none, some}
-use mathlib.Core.Path.{_≡_, refl, sym, ap, _∙_}
-use Prim.Native.Nat.{ℕ, zero, suc, _+_, _-_, _*_, _^_, _≤_, _<_}
+use mathlib.Core.Path.{_≡_, refl, sym, _∙_}
+use Prim.Native.Nat.{ℕ, zero, suc, _+_, _-_, _^_, _≤_, _<_}
 use native.Mathlib.Omega.{arith}
-use lib.Dec.{ltb}
-use lib.ListN.{length, getD, replicate}
+use lib.ListN.{length, replicate}
 use borrow.Author.Tests.{le-ltb}
-use Rattle.bits.specs.BitLists.{bytesFor, bytesOf as packedBytes}
 use Rattle.bits.proofs.PackLaws.{length-bytesOf}
 use Rattle.map.specs.Places.{widthOf}
 use Rattle.stream.specs.Headers.{parseOf, Ruled}
 use Rattle.stream.specs.Streams.{openOf}
 use Rattle.stream.specs.declared.FujiHeader.{FujiHeader}
 use Rattle.stream.specs.declared.Parsed.the-variants.{Header}
-use Rattle.stream.specs.declared.Refusal.the-variants.{Truncated}
 use Rattle.stream.proofs.HeaderLaws.{ruled}
 use Rattle.region.specs.Regions.{Accepted, firstBlock, lastBlock, linesOf as lineCount}
 use Rattle.region.specs.declared.Rect.{Rect}
 use Rattle.region.proofs.RegionLaws.{block-inside, block-order, lines-inside}
 use Rattle.writing.specs.Sets.{setSize}
-use Rattle.block.specs.Blocks.{State, lineAt, startState, readLines, runs}
-use Rattle.block.specs.Images.{formOf, bytesOf, basesOf, linesRead, readIn, orElse, answerOf}
+use Rattle.block.specs.Blocks.{State, lineAt, startState, readLines}
+use Rattle.block.specs.Images.{formOf, bytesOf, linesRead, readIn, answerOf}
 use Rattle.block.specs.TightBlocks.{Tight}
 use Rattle.block.specs.WrittenBlocks.{writeLines, tightBlock}
-use Rattle.block.specs.declared.Decoded.the-variants.{Done, Refused}
+use Rattle.block.specs.declared.Decoded.the-variants.{Done}
 use Rattle.block.specs.declared.Form.{Form}
 use Rattle.block.proofs.DecodeLaws.{all-read}
 use Rattle.block.proofs.RunLaws.{runs-stay}
 use Rattle.block.proofs.WalkLaws.{lines-short}
 use Rattle.demand.specs.Demand.{Bytes}
-use Rattle.demand.specs.AcceptedStreams.{AcceptedStream, SomethingAccepted}
+use Rattle.demand.specs.AcceptedStreams.{SomethingAccepted}
 use Rattle.demand.proofs.DemandHolds.{demand-of-headers, no-bases}
+use Rattle.demand.proofs.PredictedBlocks.{fits-is}
 use Rattle.demand.proofs.ZerosFit.{zeros-fit}
 use Rattle.demand.proofs.StreamOfBlocks.{streamOf, stream-bytes, opens, block-there}
 
@@ -72,7 +70,7 @@ module _ (d : List ℕ) (h : FujiHeader) (bytes : Bytes d) (e : parseOf d ≡ He
 
   W : Bytes block × Tight F (h .lines) block
   unfolding block
-  W = let w = demand-of-headers d h e lossless .written zeros (zeros-fit F (h .lines)) in (w .0, w .1)
+  W = let w = demand-of-headers d h e lossless .written zeros (fits-is F (h .lines) zeros .0 (zeros-fit F (h .lines))) in (w .0, w .1)
 
   stream : List ℕ
   stream = streamOf d h e lossless block short

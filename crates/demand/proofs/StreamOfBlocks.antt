@@ -1,16 +1,14 @@
 -- A lossless stream whose blocks are all the same: it opens, and each block is there. Assumes nothing.
-use mathlib.Core.Bool.{Bool, true, false, cond}
+use mathlib.Core.Bool.{true}
 use mathlib.Core.List.{List, [], _∷_, _++_}
 use mathlib.Core.Path.{_≡_, refl, sym, ap, _∙_}
 use Prim.Native.Nat.{ℕ, zero, suc, _+_, _-_, _*_, _/_, _%_, _^_, _≤_, _<_, min}
 use native.Mathlib.Nat.{mul-le-mul-right, min-eq-left}
 use native.Mathlib.Omega.{arith}
-use lib.Dec.{ltb, lit<}
+use lib.Dec.{lit<}
 use lib.ListN.{length, getD, take, drop, replicate, length-append, length-replicate, List·getD-append}
-use lib.Seq.{length-take-le, getD-take, getD-drop, getD-append-add, drop-append-add, take-append-le, take-at, drop-at}
+use lib.Seq.{length-take-le, getD-take, getD-drop, getD-append-add, drop-append-add, take-at}
 use borrow.Author.Tests.{le-ltb, lt-ltb}
-use Rattle.bits.specs.Bits.{be32}
-use Rattle.numbers.proofs.OrderLaws.{split}
 use Rattle.stream.specs.Headers.{byteAt, headerOf, kindRules, parseOf, Ruled}
 use Rattle.stream.specs.Streams.{padded, rowStart, openOf, sizeOf, sizesBefore, rangeOf, partOf}
 use Rattle.stream.specs.declared.FujiHeader.{FujiHeader}
@@ -151,8 +149,22 @@ module _ (d : List ℕ) (h : FujiHeader) (e : parseOf d ≡ Header h) (lossless 
   same-header : headerOf streamOf ≡ headerOf d
   unfolding headerOf
   same-header =
-      rw (head-at 2 (lit< tt), head-at 3 (lit< tt), head-at 4 (lit< tt), head-at 5 (lit< tt), head-at 6 (lit< tt), head-at 7 (lit< tt), head-at 8 (lit< tt), head-at 9 (lit< tt),
-      head-at 10 (lit< tt), head-at 11 (lit< tt), head-at 12 (lit< tt), head-at 13 (lit< tt), head-at 14 (lit< tt), head-at 15 (lit< tt))
+      rw (
+        head-at 2 (lit< tt),
+        head-at 3 (lit< tt),
+        head-at 4 (lit< tt),
+        head-at 5 (lit< tt),
+        head-at 6 (lit< tt),
+        head-at 7 (lit< tt),
+        head-at 8 (lit< tt),
+        head-at 9 (lit< tt),
+        head-at 10 (lit< tt),
+        head-at 11 (lit< tt),
+        head-at 12 (lit< tt),
+        head-at 13 (lit< tt),
+        head-at 14 (lit< tt),
+        head-at 15 (lit< tt),
+      )
 
   same-kind : kindRules streamOf ≡ kindRules d
   unfolding kindRules

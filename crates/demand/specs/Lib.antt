@@ -1,4 +1,4 @@
 -- The statement of demand 3.
-pub mod Demand
 pub mod PredictedSets
+pub mod Demand
 pub mod AcceptedStreams

@@ -13,9 +13,10 @@ use Rattle.lines.proofs.LineLaws.{after-paste, apart, line-inside, leng
 
 -- two places: their lines, and where they are in them
 pub place-is : (W l a m b : ℕ) → a < W + 2 → b < W + 2 → l * (W + 2) + a ≡ m * (W + 2) + b → (l ≡ m) × (a ≡ b)
-place-is W l a m b ha hb e =
-    (sym (digits-div l ha) ∙ ap (λ (z : ℕ). z / (W + 2)) e ∙ digits-div m hb,
-    sym (digits-mod l ha) ∙ ap (λ (z : ℕ). z % (W + 2)) e ∙ digits-mod m hb)
+place-is W l a m b ha hb e = (
+  sym (digits-div l ha) ∙ ap (λ (z : ℕ). z / (W + 2)) e ∙ digits-div m hb,
+  sym (digits-mod l ha) ∙ ap (λ (z : ℕ). z % (W + 2)) e ∙ digits-mod m hb,
+)
 
 -- ---- a copy
 
