@@ -1,162 +1,221 @@
 #!/usr/bin/env python3
-"""Proofs for functions over forms that the borrow checker does not cover: a lent slice of structs, `&[S]` and `&mut [S]`, and
-a lent struct that holds a slice, `&'s mut P<'a>` with `struct P<'a> { data: &'a [u8], .. }`.
+"""Derivations for functions over forms that the borrow checker does not cover: a lent slice of structs, `&[S]` and `&mut [S]`, and a
+lent struct that holds a slice, `&'s mut P<'a>` with `struct P<'a> { data: &'a [u8], .. }`.
 
-  lend.py CRATE [--record S] [--pump P] [--touch f,g] [--walked f,g] [--carry f,g,+h] [--own f] [--only f,..]
+  lend.py CRATE [FUNCTION..]   makes the derivations of CRATE anew, or of these functions
+  lend.py --check [CRATE..]    makes all anew in target/lend, and says which differ from the committed ones and which files nothing made
+  lend.py --skeleton CRATE FUNCTION   prints a first Proof.antt for the function: its needs, each with `search needs`
 
-Run it in the repository's root, where `rt check` proves the crates that CRATE depends on. All functions stand in CRATE's lib.rt.
-  --touch    they read or write an element of a `[S]`
-  --carry    they pass the slice, or the lent P, on: any code that would be covered if S were a plain array. A cycle: +f+g
-  --walked   they are over P and proved by walks (proofs/F/Proof.antt is the author's); a carrier may call those with `&mut P`
-  --own      they have a local array of S, and lend it to a carrier
-  --pump     P, or HOME::P where it stands in another crate: then P's methods with `&self` and `&mut self` may be called
-  --only     does some of --carry alone ('touch' for --touch)
-The borrow checker's rules hold of every element type, and only its front refuses a struct. So for each function the tool
-  1. writes a twin of the crate in target/lend, in which `[S]` is `[[u32; N]]` (N is SIZE, 2) and P<'a> is `[&'a [u8]; 1]`. In a
-     --touch function S is the array by value too; in a carrier S by value stays S. A clause of a contract becomes a trivial
-     one, and each other function of the lists has a body that proves itself;
-  2. lets Rattle write the twin's derivation (`rt dev CRATE --generated`);
-  3. puts the struct in the array's place, and writes below crates/CRATE/proofs:
-       derived/F/Kinds, Reads       what a caller of F cites
-       F/Proof/derived/Lts, Tie     F's derivation over the MIR, and its needs at F's contract
-       F/Proof.antt             if there is none: the needs, each with `search needs`. This file is the author's part
+tools/lend.txt lists the functions. Run it in the repository's root, where `rt check` proves the crates that CRATE depends on.
+The borrow checker's rules hold of every element type, and only its front refuses a struct. So the tool
+  1. writes a twin of the crate in target/lend, in which `[S]` is `[[u32; N]]` (N is SIZE, 2) and P<'a> is `[&'a [u8]; 1]`. A clause of a
+     contract becomes a trivial one. There are up to three twins: of the functions that touch an element and of those that have an array of
+     S of their own, in which S is the array by value too, and of those that pass the slice, or P, on, in which S by value stays S;
+  2. lets Rattle write the twin's derivations (`rt dev CRATE --generated`). Each function has a proof there that is a hole: no
+     search is run for what the twin, whose contracts say nothing, could not have anyway;
+  3. puts the struct in the array's place, and writes below crates/CRATE/proofs, M being the function's module, if it has one:
+       M/derived/F/Kinds, Reads       what a caller of F cites
+       M/F/Proof/derived/Lts, Tie     F's derivation over the MIR, and its needs at F's contract
+     lend_layout.py gives a name to what a derivation says again and again, and breaks its lines.
 The check admits each derivation over the real function's MIR and contract, or refuses it: nothing here is trusted.
-The author copies proofs/Element.antt (for S), proofs/Held.antt (for P), and lists them in proofs/Lib.antt with `pub mod derived`.
-A line `// twin: EXPR` before a function is its body in the twins of the others: any value of its result's type. A listed function
-needs none where its result is (), a bool or an integer; one that is not listed needs one where it has a loop.  WIDTH (200) is the width of what is written.
 """
-import argparse, os, re, shutil, subprocess, sys
-ap = argparse.ArgumentParser()
-ap.add_argument("crate")
-for o in ("record", "pump", "touch", "walked", "carry", "own", "only"):
-    ap.add_argument("--" + o, default="")
-a = ap.parse_args()
-crate, S = a.crate, a.record
-HOME, _, PUMP = a.pump.rpartition("::")
-lst = lambda s: [x for x in s.split(",") if x]
-touch, walked, carrys, owns, only = lst(a.touch), lst(a.walked), lst(a.carry), lst(a.own), lst(a.only)
-SIZE, WIDTH = os.environ.get("SIZE", "2"), int(os.environ.get("WIDTH", "200"))
-ARR = f"[u32; {SIZE}]"
-work, base, P = "target/lend", f"crates/{crate}/proofs", f"Rattle.{crate}.proofs"
-root_file = "main.rt" if os.path.exists(f"crates/{crate}/src/main.rt") else "lib.rt"
-src = open(f"crates/{crate}/src/{root_file}").read()
+import filecmp, os, re, shutil, subprocess, sys
+sys.dont_write_bytecode = True
+from lend_layout import laid_out
+SIZE = os.environ.get("SIZE", "2")
+ARR, WORK = f"[u32; {SIZE}]", "target/lend"
+# A function: comments, head with its clauses, body. The layout is that of `rt fmt`.
+ITEM = re.compile(r"(?:^//[^\n]*\n)*^(?P<head>(?:#\[no_mangle\]\n)?(?:pub(?:\(crate\))? )?(?:extern \"C\" )?fn (?P<name>\w+)[^{]*?(?:\n    (?:requires|ensures)[^\n]*(?:\n        [^\n]*)*)*)\s*\{\n(?P<body>.*?)\n\}\n", re.S | re.M)
+METHOD = re.compile(r"^    pub fn (?P<name>\w+)\(&(?P<mut>mut )?self(?P<args>[^)]*)\)(?P<rest>[^\n]*(?:\n        (?:requires|ensures)[^\n]*)*)\n    \{", re.M)
 
-def members(f):
-    return f.split("+")[1:] if f.startswith("+") else [f]
-listed = touch + walked + [g for f in carrys for g in members(f)]
-moved = touch + carrys + owns                                  # their Lts and Tie stand below Proof
+def read(path):
+    with open(path) as f:
+        return f.read()
 
-# ---- the twin's text
-item = re.compile(r"(?:^// twin: (?P<expr>[^\n]*)\n)?(?:^//[^\n]*\n)*^(?P<head>(?:#\[no_mangle\]\n)?(?:pub )?(?:extern \"C\" )?fn (?P<name>\w+)[^{]*?(?:\n    (?:requires|ensures)[^\n]*)*)\s*\{\n(?P<body>.*?)\n\}\n", re.S | re.M)
+def put(path, text):
+    os.makedirs(os.path.dirname(path), exist_ok=True)
+    with open(path, "w") as f:
+        f.write(text.rstrip("\n") + "\n")
 
-def trivial(t):
-    t = re.sub(r"⌜.*?⌝", "⌜ 0 < 1 ⌝", t, flags=re.S)           # the shape of a clause is kept, and not what it says
-    return "ghost use Prim.Native.Nat.{_<_};\n" + re.sub(r"ghost use [^\n]*\n", "", t)
+class Crate:
+    """A crate of the list: its functions by how they meet the slice or the pump, the values in twins, and its source by modules ('' is the root)."""
+    def __init__(self, name, words):
+        self.name, self.record, self.pump, self.home = name, "", "", ""
+        for kind, what in zip(words[::2], words[1::2]):
+            if kind == "record":
+                self.record = what
+            elif kind == "pump":
+                self.home, _, self.pump = what.rpartition("::")
+            else:
+                sys.exit(f"tools/lend.txt: {name} has neither a record nor a pump, but '{kind}'")
+        self.kinds, self.values = {}, {}
 
-def dummy(m):
-    if m["expr"]:
-        return "    " + m["expr"]
-    r = re.search(r"->\s*(.+?)\s*(?:\n|$)", m["head"])
-    r = r[1].strip() if r else "()"
-    if r == "()":
-        return ""
-    if r == "bool":
-        return "    false"
-    if re.fullmatch(r"[ui](8|16|32|64|size)", r):
-        return "    0"
-    sys.exit(f"write a line `// twin: EXPR` before {m['name']}: a value of {r}")
+    def load(self):
+        d = f"crates/{self.name}/src"
+        self.root = "main" if os.path.exists(f"{d}/main.rt") else "lib"
+        self.files = {"": read(f"{d}/{self.root}.rt")}
+        for m in re.findall(r"^(?:pub )?mod (\w+);", self.files[""], flags=re.M):
+            self.files[m] = read(f"{d}/{m}.rt")
+        self.item, self.module = {}, {}
+        for m, text in self.files.items():
+            for i in ITEM.finditer(text):
+                if i["name"] in self.item:
+                    sys.exit(f"{self.name}: two functions are named {i['name']}")
+                self.item[i["name"]], self.module[i["name"]] = i, m
+        for f in self.kinds:
+            if f not in self.item:
+                sys.exit(f"tools/lend.txt: {self.name} has no function {f}")
+        self.far = self.methods() if self.home else {}
+        return self
 
-def methods():
-    """The methods of P, which stands in HOME, as functions of the twin: P is the array there, and has none."""
-    text = open(f"crates/{HOME}/src/lib.rt").read()
-    types = "|".join(re.findall(r"^pub (?:struct|enum) (\w+)", text, flags=re.M))
-    there = lambda t: re.sub(r"\b(" + types + r")\b", HOME + r"::\1", t or "")
-    for m in re.finditer(r"(?:^    // twin: (?P<expr>[^\n]*)\n)?(?:^    //[^\n]*\n)*^    pub fn (?P<name>\w+)\(&(?P<mut>mut )?self(?P<args>[^)]*)\)(?P<rest>[^\n]*(?:\n        (?:requires|ensures)[^\n]*)*)\n    \{", text, flags=re.M):
-        head = f"pub fn {m['name']}<'s, 'a>(p: &'s {m['mut'] or ''}{PUMP}<'a>{there(m['args'])}){there(m['rest'])}"
-        yield m["name"], head + "\n{\n" + dummy({"expr": there(m["expr"]), "head": head, "name": m["name"]}) + "\n}\n"
-far = {g: t for g, t in methods() if re.search(r"\bp\." + g + r"\(", src)} if HOME else {}
+    def of(self, kind):
+        return [f for f in self.kinds if self.kinds[f] == kind]
 
-def twin_touch():
-    ms = [m for m in item.finditer(src) if m["name"] in touch]
-    return trivial("\n".join(re.sub(r"\b" + S + r"\b", ARR, m["head"] + "\n{\n" + m["body"] + "\n}\n") for m in ms))
+    def below(self, f, sep):
+        """The function's place: its module and its name."""
+        return (self.module[f] + sep if self.module.get(f) else "") + f
 
-def twin_carry(f):
+    def cited(self, f, sep):
+        """The place of what a caller of f cites."""
+        return (self.module[f] + sep if self.module.get(f) else "") + "derived" + sep + f
+
+    def path(self, f):
+        return f"Rattle.{self.name}.proofs." + self.below(f, ".")
+
+    def dummy(self, f, head):
+        """A body for f in a twin that is not of f."""
+        if f in self.values:
+            return "    " + self.values[f]
+        r = re.search(r"->\s*(.+?)\s*(?:\n|$)", head)
+        r = r[1].strip() if r else "()"
+        if r == "()":
+            return ""
+        if r == "bool":
+            return "    false"
+        if re.fullmatch(r"[ui](8|16|32|64|size)", r):
+            return "    0"
+        sys.exit(f"tools/lend.txt: {f} of {self.name} needs a value of {r}")
+
+    def methods(self):
+        """The methods of P that are called, as functions of the twin: P is the array there, and has none."""
+        text, found = read(f"crates/{self.home}/src/lib.rt"), {}
+        types = "|".join(re.findall(r"^pub (?:struct|enum) (\w+)", text, flags=re.M))
+        there = lambda t: re.sub(r"\b(" + types + r")\b", self.home + r"::\1", t or "")
+        for m in METHOD.finditer(text):
+            f = m["name"]
+            if any(re.search(r"\bp\." + f + r"\(", t) for t in self.files.values()):
+                head = f"pub fn {f}<'s, 'a>(p: &'s {m['mut'] or ''}{self.pump}<'a>{there(m['args'])}){there(m['rest'])}"
+                found[f] = head + "\n{\n" + self.dummy(f, head) + "\n}\n"
+        return found
+
+# ---- the twins' text, by module
+
+def trivial(text):
+    # the shape of a clause is kept, and not what it says
+    text = re.sub(r"((?:requires|ensures) \{(?:\s*λ \w+\.)?)[^⌜{}]*(?:\{[^⌜{}]*\}[^⌜{}]*)*⌜.*?⌝", r"\1 ⌜ 0 < 1 ⌝", text, flags=re.S)
+    return "ghost use Prim.Native.Nat.{_<_};\n" + re.sub(r"ghost use [^\n]*\n", "", text)
+
+def function(head, body):
+    return head + "\n{\n" + body + "\n}\n"
+
+def twin_small(c, real):
+    """S is the array by value too. The twin has these functions and, with other bodies, those that they call, and nothing else."""
+    called = {g for f in real for g in c.item if g not in real and re.search(r"(?<![\w:.])" + g + r"\(", c.item[f]["body"])}
+    files = {}
+    for m, text in c.files.items():
+        own = [f for f in c.item if c.module[f] == m and f in called | set(real)]
+        uses = [u for u in re.findall(r"^(?:pub )?use [^\n]*\n", text, flags=re.M) if own and kept_use(c, u, called | set(real))]
+        types = re.findall(r"^pub (?:struct|enum) \w+ \{\n.*?^\}\n", text, flags=re.S | re.M)
+        text = "".join(types) + "\n".join(function(c.item[f]["head"], c.item[f]["body"] if f in real else c.dummy(f, c.item[f]["head"])) for f in own)
+        files[m] = "".join(uses) + re.sub(r"\b" + c.record + r"\b", ARR, text)
+    return with_modules(c, files)
+
+def kept_use(c, line, there):
+    name = re.search(r"(\w+);", line)[1]
+    return name != c.record and (name not in c.item or name in there)
+
+def with_modules(c, files):
+    """The root declares the modules that have something."""
+    whole = {m: trivial(t) for m, t in files.items() if t or not m}
+    uses = re.findall(r"^use [^\n]*\n", c.files[""], flags=re.M)
+    names = [u for u in uses if re.search(r"(\w+);", u)[1] != c.record and u not in files[""]]
+    whole[""] = whole[""].split("\n", 1)[0] + "\n" + "".join(f"mod {m};\n" for m in whole if m) + "".join(names) + whole[""].split("\n", 1)[1]
+    return whole
+
+def twin_carry(c):
+    """S by value stays S. Every function is there: those that pass the slice on as they are, those that touch an element with another body."""
     gone = set()                                               # P by value, or a call of such: not in the twin
-    while PUMP:
-        by_value = r"(?<!mut )\b" + PUMP + r"\b" + "".join(r"|\b" + g + r"\(" for g in gone)
-        more = {m["name"] for m in item.finditer(src) if re.search(by_value, m["head"] + "\n" + (m["body"] if m["name"] not in listed else ""))}
+    while c.pump:
+        by_value = r"(?<!mut )\b" + c.pump + r"\b" + "".join(r"|\b" + g + r"\(" for g in gone)
+        more = {f for f, m in c.item.items() if re.search(by_value, m["head"] + "\n" + ("" if f in c.kinds else m["body"]))}
         if more == gone:
             break
         gone = more
     def one(m):
-        if m["name"] in gone:
+        f = m["name"]
+        if f in gone:
             return ""
-        keep = m["name"] in members(f) or m["name"] not in listed + owns and not (m["expr"] and "while " in m["body"])
-        return m["head"] + "\n{\n" + (m["body"] if keep else dummy(m)) + "\n}\n"
-    t = item.sub(one, src) + ("fn main() {}\n" if "main" in gone else "")
-    if PUMP:
-        t = re.sub(r"pub struct " + PUMP + r"<.*?\n\}\n", "", t, flags=re.S)
-        t = re.sub(r"use " + HOME + "::" + PUMP + ";\n", "", t) + "".join(far.values())
-        for g in far:
-            t = re.sub(r"\bp\." + g + r"\(\)", g + "(p)", t)
-            t = re.sub(r"\bp\." + g + r"\(", g + "(p, ", t)
-        t = re.sub(PUMP + r"<('\w+)>", r"[&\1 [u8]; 1]", t)
-    if S:
-        t = re.sub(r"(&(?:'\w+ )?(?:mut )?)\[" + S + r"\]", r"\1[" + ARR + "]", t)
-    return trivial(t)
+        other = c.kinds.get(f) in ("touch", "own")
+        return function(m["head"], c.dummy(f, m["head"]) if other else m["body"])
+    files = {}
+    for module, text in c.files.items():
+        text = ITEM.sub(one, text)
+        if c.pump and not module:
+            text += ("fn main() {}\n" if "main" in gone else "") + "".join(c.far.values())
+            text = re.sub(r"use " + c.home + "::" + c.pump + ";\n", "", text)
+            for f in c.far:
+                text = re.sub(r"\bp\." + f + r"\(\)", f + "(p)", text)
+                text = re.sub(r"\bp\." + f + r"\(", f + "(p, ", text)
+            text = re.sub(c.pump + r"<('\w+)>", r"[&\1 [u8]; 1]", text)
+        if c.record:
+            text = re.sub(r"(&(?:'\w+ )?(?:mut )?)\[" + c.record + r"\]", r"\1[" + ARR + "]", text)
+        files[module] = trivial(text)
+    return files
 
-def twin_own(f):
-    """S is the array by value too: f has a local array of S, which it lends."""
-    out = []
-    body = next(m["body"] for m in item.finditer(src) if m["name"] == f)
-    for m in item.finditer(src):
-        if m["name"] == f:
-            out.append(m["head"] + "\n{\n" + m["body"] + "\n}\n")
-        elif re.search(r"(?<![\w:])" + m["name"] + r"\(", body):
-            out.append(m["head"] + "\n{\n" + dummy(m) + "\n}\n")
-    uses = "".join(re.findall(r"^use [^\n]*\n", src, flags=re.M))
-    uses = re.sub(r"\b" + S + r", ?", "", uses)
-    structs = "".join(re.findall(r"^pub (?:struct|enum) \w+ \{\n.*?^\}\n", src, flags=re.S | re.M))
-    text = structs + "\n".join(out)
-    return trivial(uses + re.sub(r"\b" + S + r"\b", ARR, text))
-
-def generate(text, out):
-    d = f"{work}/{out}"
+def below(c):
+    """A folder in which the twins of a crate are checked: the crates that it depends on, and what is proved of them."""
+    d = f"{WORK}/{c.name}"
     shutil.rmtree(d, ignore_errors=True)
-    os.makedirs(f"{d}/crates/{crate}/src")
-    lines = {l.split(":")[0].strip(): l for l in open("crates.txt").read().splitlines() if ":" in l}
-    need, todo = [], [crate]
-    while todo:                                                # the crate and what it depends on
-        c = todo.pop()
-        if c in lines and c not in need:
-            need.append(c)
-            todo += lines[c].split(":")[1].split()
-    open(f"{d}/crates.txt", "w").write("".join(lines[c] + "\n" for c in need))
-    for c in need:
-        if c != crate:
-            shutil.copytree(f"crates/{c}", f"{d}/crates/{c}")
-    if os.path.isdir("target"):
-        shutil.copytree("target", f"{d}/target", ignore=lambda p, n: ["lend"] if p == "target" else [])
-    open(f"{d}/crates/{crate}/src/{root_file}", "w").write(text)
-    r = subprocess.run(["rt", "dev", crate, "--generated", "gen"], cwd=d, capture_output=True, text=True)
-    open(f"{work}/{out}.log", "w").write(r.stdout + r.stderr)
-    for l in (r.stdout + r.stderr).splitlines():
-        if "error" in l and "`search`" not in l and "was not admitted" not in l:
-            print(out + ":", l[:300])
-    for g in (f"{d}/gen", f"{d}/crates/{crate}/gen"):
+    lines = {l.split(":")[0].strip(): l for l in read("crates.txt").splitlines() if ":" in l}
+    need, todo = [], [c.name]
+    while todo:
+        x = todo.pop()
+        if x in lines and x not in need:
+            need.append(x)
+            todo += lines[x].split(":")[1].split()
+    put(f"{d}/crates.txt", "\n".join(lines[x] for x in need))
+    for x in need:
+        if x != c.name:
+            shutil.copytree(f"crates/{x}", f"{d}/crates/{x}")
+    shutil.copytree("target", f"{d}/target", ignore=lambda p, n: [x for x in n if p == "target" and x in ("lend", "inc", "log")])
+    return d
+
+def generate(c, d, twin, files, bare=""):
+    """Lets Rattle write what it derives for a twin; the answer is the folder that has it. Each function has a hole for a proof, but not `bare`."""
+    own = f"{d}/crates/{c.name}"
+    for x in (own, f"{d}/gen", f"{d}/target/inc"):
+        shutil.rmtree(x, ignore_errors=True)
+    for m, text in files.items():
+        put(f"{own}/src/{m or c.root}.rt", text)
+    for f in [i["name"] for text in files.values() for i in ITEM.finditer(text) if i["name"] != bare]:
+        name = f.replace("_", "-") + "-spec"
+        put(f"{own}/proofs/{c.below(f, '/')}/Proof.antt", f"use {c.path(f)}.Statement.{{statement}}\npub {name} : {{M : Type 1}} → statement M\n{name} = ?\n")
+    r = subprocess.run(["rt", "dev", c.name, "--generated", "gen"], cwd=d, capture_output=True, text=True)
+    put(f"{WORK}/{c.name}-{twin}.log", r.stdout + r.stderr)
+    for g in (f"{d}/gen", f"{own}/gen"):
         if os.path.isdir(g):
-            return f"{g}/Rattle.{crate}.proofs/proofs"
-    sys.exit(f"{out}: nothing was generated: see {work}/{out}.log")
+            return f"{g}/Rattle.{c.name}.proofs/proofs"
+    sys.exit(f"{c.name}: nothing was generated for its twin: see {WORK}/{c.name}-{twin}.log")
 
 # ---- the struct in the array's place
 # The printer gives a module an alias where two modules' last names clash: a pattern names a module by its whole path in
-# braces, and each file's own `use` lines say under which name it stands there.
+# braces, and each file's own `use` lines say under which name it is there.
 def pat(s):
     return r"\s+".join(re.escape(t) for t in s.split())
 T = "({borrow.Table.Referent}.rtF ({borrow.Table.Referent}.fInt {mir.Syntax}.w32))"
 A2 = "{mir.Syntax}.tyArray ({mir.Syntax}.tyInt {mir.Syntax}.w32) " + SIZE
 ELEM = "({borrow.Kind.Array}.eInt {mir.Syntax}.w32) ({borrow.Kind.Array}.eInt-laws {mir.Syntax}.w32) " + SIZE
-record_patterns = [
+RECORD = [
     ("{borrow.Kind.Array}.pArr " + ELEM, "Element.param"),     # the record by value: a parameter, a result, an argument
     ("{borrow.Kind.Array}.rArr " + ELEM, "Element.result"),
     ("{borrow.Kind.Array}.arr-yields 𝓤 H A W " + ELEM, "Element.yields 𝓤 H A W"),
@@ -173,7 +232,7 @@ record_patterns = [
 SL = "({mir.Syntax}.tyStruct ({mathlib.Core.List}._∷_ 38 ({mathlib.Core.List}._∷_ 91 ({mathlib.Core.List}._∷_ 93 {mathlib.Core.List}.[]))) ({mir.Syntax}.tcons ({mir.Syntax}.tyRef @ {mir.Syntax}.imm ({mir.Syntax}.tyInt {mir.Syntax}.w8)) ({mir.Syntax}.tcons ({mir.Syntax}.tyInt {mir.Syntax}.w64) {mir.Syntax}.tnil)))"
 U8 = "{borrow.Table.Referent}.rtF ({borrow.Table.Referent}.fInt {mir.Syntax}.w8)"
 
-def patterns(text):
+def patterns(c, text):
     alias = {}
     for m in re.finditer(r"^use (\S+?)(?: as (\S+))?$", text, flags=re.M):
         alias[m[1]] = m[2] or m[1].split(".")[-1]
@@ -182,12 +241,12 @@ def patterns(text):
     label = r"(?:" + syn + r"\.erased|\(" + syn + r"\.named\s+\d+\))"
     ref = r"(" + syn + r"\.tyRef\s+" + label + r"\s+" + syn + r"\.(?:mut|imm))\s+"
     out = []
-    if S:
+    if c.record:
         out.append((ref + r"\(" + pat(nm(A2)) + r"\)", r"\1 Element.behind"))            # behind a reference: its bare name
         out.append((ref + r"\(" + pat(nm("{mir.Syntax}.tyArray")) + r"\s+\(" + pat(nm(A2)) + r"\)\s+(\d+)\)", r"\1 (" + nm("{mir.Syntax}") + r".tyArray Element.behind \2)"))
-        out += [(pat(nm(x)), y) for x, y in record_patterns]
+        out += [(pat(nm(x)), y) for x, y in RECORD]
         out.append((r"(\(λ x\. x\)\s+)List\.\[\](\s+\(λ x\. Unit\))", r"\1Element.past\2"))    # what lies past the end
-    if PUMP:
+    if c.pump:
         arr = r"\(" + pat(nm("{mir.Syntax}.tyArray " + SL + " 1")).replace("@", "(" + label + ")") + r"\)"
         out += [
             (ref + arr, r"\1 (Held.behind \2)"),
@@ -199,116 +258,142 @@ def patterns(text):
         ]
     return out
 
-def carry(text):
-    for x, y in patterns(text):
+def moved(c, text):
+    """A derivation of the twin as one of the crate."""
+    P = f"Rattle.{c.name}.proofs"
+    for x, y in patterns(c, text):
         text = re.sub(x, y, text)
-    for g in listed + list(far):
-        for m in ("Kinds", "Reads"):
-            text = re.sub(re.escape(f"{P}.{g}.{m}") + r"\b", f"{P}.derived.{g}.{m}", text)
-    for g in far:                                              # a method's own name, where the twin has a function
-        there, calls = f"Rattle.{HOME}.proofs.{PUMP}.{g}", g.replace("_", "-")
-        text = re.sub(r"^use " + re.escape(f"{P}.{g}") + r"$", f"use {there} as {g}", text, flags=re.M)
-        text = re.sub(re.escape(f"{P}.{g}.") + r"(Met|Symbol)\b", there + r".\1", text)
-        text = text.replace(f'"{crate}::{g}"', f'"{HOME}::{PUMP}::{g}"')
-        text = re.sub(r"\bcalls-" + crate.replace("_", "-") + "·" + calls + r"(?![\w-])", f"calls-{HOME}·{PUMP}·{calls}", text)
-    for f in moved:
-        for m in (["Tie"] + [f"Lts-{g}" for g in members(f)] if f.startswith("+") else ["Lts", "Tie"]):
-            text = re.sub(re.escape(f"{P}.{f}.{m}") + r"(?![\w-])", f"{P}.{f}.Proof.derived.{m}", text)
+    for f in [g for g in c.kinds if c.kinds[g] != "own"] + list(c.far):
+        text = re.sub(re.escape(c.path(f)) + r"\.(Kinds|Reads)\b", f"{P}." + c.cited(f, ".") + r".\1", text)
+    for f in c.far:                                            # a method's own name, where the twin has a function
+        there, calls = f"Rattle.{c.home}.proofs.{c.pump}.{f}", f.replace("_", "-")
+        text = re.sub(r"^use " + re.escape(f"{P}.{f}") + r"$", f"use {there} as {f}", text, flags=re.M)
+        text = re.sub(re.escape(f"{P}.{f}.") + r"(Met|Symbol)\b", there + r".\1", text)
+        text = text.replace(f'"{c.name}::{f}"', f'"{c.home}::{c.pump}::{f}"')
+        text = re.sub(r"\bcalls-" + c.name.replace("_", "-") + "·" + calls + r"(?![\w-])", f"calls-{c.home}·{c.pump}·{calls}", text)
+    for f in c.kinds:
+        text = re.sub(re.escape(c.path(f)) + r"\.(Lts|Tie)(?![\w-])", c.path(f) + r".Proof.derived.\1", text)
     lines = [l for l in text.split("\n") if not l.startswith("-- the `use` lines") and "antt refused" not in l]
     first = next(i for i, l in enumerate(lines) if l.startswith("use "))
     for m in ("Element", "Held"):
         if m + "." in text:
-            lines.insert(first, f"use Rattle.{HOME}.proofs.{m}" if m == "Held" and HOME else f"use {P}.{m}")
-    lines.insert(0, f"-- Written by tools/lend.py from Rattle's derivation of the twin of `{crate}`; not edited by hand. Assumes nothing.")
-    return reflow(lines)
+            lines.insert(first, f"use Rattle.{c.home}.proofs.{m}" if m == "Held" and c.home else f"use {P}.{m}")
+    lines.insert(0, f"-- Written by tools/lend.py from Rattle's derivation of the twin of `{c.name}`; not edited by hand. Assumes nothing.")
+    return laid_out(lines)
 
-def reflow(lines):                                             # one declaration's lines are joined, and broken at WIDTH
-    out, cur, ind = [], None, 0
-    def flush():
-        nonlocal cur
-        if cur is None:
-            return
-        pad, line, first = " " * ind, "", True
-        for tok in cur.split(" "):
-            if line and len(pad) + len(line) + 1 + len(tok) > WIDTH:
-                out.append((pad if first else pad + "    ") + line)
-                line, first = tok, False
-            else:
-                line = tok if not line else line + " " + tok
-        out.append((pad if first else pad + "    ") + line)
-        cur = None
-    for l in lines:
-        s, i = l.strip(), len(l) - len(l.lstrip())
-        if not s or s.startswith("--"):
-            flush()
-            out.append(l)
-        elif cur is not None and (i > ind or s[0] in ")}]") and not cur.endswith(" where"):
-            cur += " " + s
-        else:
-            flush()
-            cur, ind = s, i
-    flush()
-    return "\n".join(out)
+# ---- what is written
 
-def put(path, text):
-    os.makedirs(os.path.dirname(path), exist_ok=True)
-    open(path, "w").write(text.rstrip("\n") + "\n")
-
-def place_caller(g, root):
+def place(c, root, f, to):
+    """The derivation of f, from the folder that Rattle wrote."""
     for m in ("Kinds", "Reads"):
-        put(f"{base}/derived/{g}/{m}.antt", carry(open(f"{root}/{g}/{m}.antt").read()))
-    put(f"{base}/derived/{g}.antt", "pub mod Kinds\npub mod Reads\n")
-
-def place(f, root, out):
-    cyc, n = f.startswith("+"), 0
-    for g in members(f):
-        place_caller(g, root)
-    for m in [f"Lts-{g}" for g in members(f)] + ["Tie"] if cyc else ["Lts", "Tie"]:
-        if not os.path.exists(f"{root}/{f}/{m}.antt"):
-            sys.exit(f"{f}: the twin is not covered, or a callee is not proved there: `rt check {crate}` in {work}/{out} says why")
-        t = carry(open(f"{root}/{f}/{m}.antt").read())
-        put(f"{base}/{f}/Proof/derived/{m}.antt", t)
-        n += t.count("\n")
-    put(f"{base}/{f}/Proof/derived.antt", "".join(f"pub mod {m}\n" for m in ([f"Lts-{g}" for g in members(f)] + ["Tie"] if cyc else ["Lts", "Tie"])))
-    print(f"{f}: {n} lines of Lts and Tie")
-    proof = f"{base}/{f}/Proof.antt"
-    if os.path.exists(proof):
+        put(f"{to}/{c.cited(f, '/')}/{m}.antt", moved(c, read(f"{root}/{c.below(f, '/')}/{m}.antt")))
+    if f in c.far:
         return
-    if cyc:
-        return print(f"write {proof}: begin with `mod derived`")
-    tie = open(f"{root}/{f}/Tie.antt").read()
+    for m in ("Lts", "Tie"):
+        made = f"{root}/{c.below(f, '/')}/{m}.antt"
+        if not os.path.exists(made):
+            sys.exit(f"{f}: Rattle has no derivation of its twin: {WORK}/{c.name}-{c.kinds[f]}.log says why")
+        put(f"{to}/{c.below(f, '/')}/Proof/derived/{m}.antt", moved(c, read(made)))
+    put(f"{to}/{c.below(f, '/')}/Proof/derived.antt", "pub mod Lts\npub mod Tie")
+
+def declare(c, to):
+    """`mod` lines for what callers cite."""
+    for d in {os.path.dirname(f"{to}/{c.cited(f, '/')}") for f in list(c.kinds) + list(c.far)}:
+        for f in [x for x in os.listdir(d) if not x.endswith(".antt")] if os.path.isdir(d) else []:
+            put(f"{d}/{f}.antt", "pub mod Kinds\npub mod Reads")
+            put(f"{d}.antt", "\n".join(f"pub mod {x}" for x in sorted(os.listdir(d)) if not x.endswith(".antt")))
+
+def make(c, to, only=()):
+    d = below(c)
+    for kind in ("touch", "carry", "own"):
+        wanted = [f for f in c.of(kind) if not only or f in only]
+        if wanted:
+            root = generate(c, d, kind, twin_carry(c) if kind == "carry" else twin_small(c, c.of(kind)))
+            for f in wanted + [f for f in c.far if os.path.isdir(f"{root}/{f}")]:
+                place(c, root, f, to)
+    declare(c, to)
+    shutil.rmtree(f"{d}/target")
+
+def skeleton(c, f):
+    """A first proof of a function: its needs. The names of an invariant's arguments are as the check of the twin prints them."""
+    twin = twin_carry(c) if c.kinds[f] == "carry" else twin_small(c, c.of(c.kinds[f]))
+    root = generate(c, below(c), "skeleton", twin, f)
+    tie = read(f"{root}/{c.below(f, '/')}/Tie.antt")
+    names = dict(re.findall(r"^\s+Inv-(\S+) (.*) = \?$", read(f"{WORK}/{c.name}-skeleton.log"), flags=re.M))
     needs, loops = re.findall(r"abbrev pub Need-(\S+)", tie), re.findall(r"abbrev pub InvT-(\S+)", tie)
-    names = {}
-    if loops:                                                  # the invariants' arguments, as the check of the twin prints them
-        r = subprocess.run(["rt", "check", crate], cwd=f"{work}/{out}", capture_output=True, text=True)
-        names = dict(re.findall(r"^\s+Inv-(\S+) (.*) = \?$", r.stdout + r.stderr, flags=re.M))
-    o = ["mod derived", "use borrow.Author.Needs.{needs}", f"use {P}.{f}.Statement.{{statement}}", f"use {P}.{f}.Proof.derived.Tie as tie", f"use {P}.derived.{f}.Reads as reads", f"use {P}.{f}.Proof.derived.Lts as lts", ""]
-    args = re.search(r"  spec :\n((?:.*→\n)*?)\s+\(answer", tie)
-    args = "".join(" " + x for x in re.findall(r"\((\S+) : (?:InvT|MeasureT)", args[1])) if args else ""
-    order = re.findall(r"\S+", args)
-    given = [f"Inv-{l}" for l in loops] + [f"μ-{l}" for l in loops] if len(loops) != 1 else [f"Inv-{loops[0]}", f"μ-{loops[0]}"]
-    args = "".join(" " + x for x in given)
+    args = "".join(" " + x for x in [f"Inv-{l}" for l in loops] + [f"μ-{l}" for l in loops])
+    o = [f"-- `{c.name}::{f}` meets its contract. Assumes nothing.", "mod derived", "use borrow.Author.Needs.{needs}", f"use {c.path(f)}.Statement.{{statement}}", f"use {c.path(f)}.Proof.derived.Tie as tie", ""]
     for l in loops:
         o += [f"abbrev Inv-{l} : tie.InvT-{l}", f"Inv-{l} {names.get(l, '')} = ?", "", f"abbrev μ-{l} : tie.MeasureT-{l}", f"μ-{l} {names.get(l, '')} = ?", ""]
     for x in needs:
         o += [f"{x} : tie.Need-{x}{args}", f"{x} c = search needs", ""]
     spec = f.replace("_", "-") + "-spec"
-    o += [f"pub {spec} : {{M : Type 1}} → statement M", f"{spec} = tie.close (tie.spec{args} {' '.join(needs)})", ""]
-    put(proof, "\n".join(o))
+    o += [f"pub {spec} : {{M : Type 1}} → statement M", f"{spec} = tie.close (tie.spec{args} {' '.join(needs)})"]
+    return "\n".join(o)
 
-if touch and (not only or "touch" in only):
-    root = generate(twin_touch(), "touch")
-    for f in touch:
-        place(f, root, "touch")
-for f in carrys:
-    if not only or f in only:
-        root = generate(twin_carry(f), "twin-" + f)
-        place(f, root, "twin-" + f)
-        for g in walked + list(far):
-            if os.path.isdir(f"{root}/{g}"):
-                place_caller(g, root)
-for f in owns:
-    if not only or f in only:
-        place(f, generate(twin_own(f), "own-" + f), "own-" + f)
-lent = sorted(d[:-5] for d in os.listdir(f"{base}/derived") if d.endswith(".antt"))
-put(f"{base}/derived.antt", "".join(f"pub mod {d}\n" for d in lent))
+def derived_files(folder):
+    found = set()
+    for d, _, files in os.walk(folder):
+        found |= {os.path.relpath(f"{d}/{x}", folder) for x in files if "/derived/" in f"{d}/{x}" or x == "derived.antt"}
+    return found
+
+def check(crates):
+    """All anew, beside the committed ones."""
+    d, bad = f"{WORK}/made", 0
+    shutil.rmtree(d, ignore_errors=True)
+    for c in crates:
+        make(c.load(), f"{d}/crates/{c.name}/proofs")
+    put(f"{d}/crates.txt", "\n".join(f"{c.name}:" for c in crates))
+    subprocess.run(["rt", "fmt"], cwd=d, capture_output=True)
+    for c in crates:
+        made, there = f"{d}/crates/{c.name}/proofs", f"crates/{c.name}/proofs"
+        new, old = derived_files(made), derived_files(there)
+        for x in sorted(new | old):
+            if x not in old:
+                print(f"{there}/{x}: is not there")
+            elif x not in new:
+                print(f"{there}/{x}: nothing makes it")
+            elif not filecmp.cmp(f"{made}/{x}", f"{there}/{x}", shallow=False):
+                print(f"{there}/{x}: differs")
+            else:
+                continue
+            bad += 1
+    print(f"lend.py: {bad} files differ" if bad else "lend.py: all derivations are as they are made")
+    sys.exit(1 if bad else 0)
+
+def listed():
+    crates = {}
+    for l in read("tools/lend.txt").splitlines():
+        l = l.split("#")[0].strip()
+        head, _, value = l.partition(" = ")
+        words = head.split()
+        if not words:
+            continue
+        if words[0] == "crate":
+            c = crates[words[1]] = Crate(words[1], words[2:])
+            continue
+        if words[0] not in ("touch", "carry", "own", "value") or len(words) != 2:
+            sys.exit(f"tools/lend.txt: what is '{l}'?")
+        if words[0] != "value":
+            c.kinds[words[1]] = words[0]
+        if value:
+            c.values[words[1]] = value.strip()
+    return crates
+
+def main():
+    words, crates = sys.argv[1:], listed()
+    checked, first = "--check" in words, "--skeleton" in words
+    words = [w for w in words if not w.startswith("--")]
+    if checked:
+        return check([crates[w] for w in words or crates])
+    if not words or words[0] not in crates:
+        sys.exit("usage: lend.py CRATE [FUNCTION..] | lend.py --check [CRATE..] | lend.py --skeleton CRATE FUNCTION")
+    c = crates[words[0]].load()
+    for f in words[1:]:
+        if f not in c.kinds:
+            sys.exit(f"tools/lend.txt: {c.name} lists no function {f}")
+    if first:
+        return print(skeleton(c, words[1]))
+    make(c, f"crates/{c.name}/proofs", words[1:])
+
+main()

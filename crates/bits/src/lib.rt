@@ -1,6 +1,7 @@
 // The bits of a block: most significant first, zeros after the end. There is no cache: eight bytes are loaded where the position stands.
 ghost use mathlib.Core.Path.{_≡_};
 ghost use Prim.Native.Nat.{_+_, _*_, _/_, _^_, _≤_, _<_, min};
+ghost use lib.Dec.{ltb};
 ghost use lib.ListN.{length, getD};
 ghost use Rattle.bits.specs.Bits.{bitsAt, wordAt, zeroRun, afterRun, be32};
 ghost use Rattle.bits.specs.BitLists.{isTail};
@@ -133,6 +134,15 @@ pub fn peek_at(s: &[u8], at: BitPosition, n: u32) -> u32
     (((w << (at.0 % 8)) >> 32) >> (32 - m)) as u32
 }
 
+// Whether more bits are consumed than the block has, and seven.
+pub fn is_past(block: &[u8], at: BitPosition) -> bool
+    requires { ⌜ length (now block) < 2 ^ 32 ⌝ }
+    ensures { λ r. ⌜ r ≡ ltb (8 * length (now (block .entry)) + 7) (at .0) ⌝ }
+{
+    let end = 8 * (block.len() as u64) + 7;
+    end < at.0
+}
+
 // Whether a tight block may end at this position: there is no byte more than the bits need, and spare bits are 0.
 pub fn is_tail(s: &[u8], at: BitPosition) -> bool
     requires { ⌜ length (now s) < 2 ^ 32 ⌝ }
@@ -239,7 +249,6 @@ impl<'a> BitPumpMsb<'a> {
         v
     }
 
-    // twin: ZeroRun::None
     // The zeros up to the next one bit, and moves on past that bit. Where none is left it stays.
     pub fn zero_run(&mut self) -> ZeroRun
         requires { ⌜ length (now (now self .«data»)) < 2 ^ 58 ⌝ }
@@ -251,7 +260,6 @@ impl<'a> BitPumpMsb<'a> {
         run
     }
 
-    // twin: BitPosition(0)
     // The bits before the next one, from the block's first on.
     pub fn bit_position(&self) -> BitPosition
         ensures { λ r. ⌜ r ≡ now (self .entry) .at ⌝ }
@@ -259,7 +267,6 @@ impl<'a> BitPumpMsb<'a> {
         self.at
     }
 
-    // twin: ByteOffset(0)
     // The bytes that they take, the last of them counted whole.
     pub fn byte_position(&self) -> ByteOffset
         ensures { λ r. ⌜ r .0 ≡ (now (self .entry) .at .0 + 7) / 8 ⌝ }

@@ -20,27 +20,16 @@ use Rattle.stream.specs.declared.Refusal.the-variants.{AboveLargest, NotPredict
 use Rattle.map.specs.Places.{widthOf}
 use Rattle.writing.specs.Sets.{setSize}
 use Rattle.writing.specs.Puts.{putBits, Room, Within}
+use Rattle.begin.specs.Beginnings.{firstAbove}
+use Rattle.writing.specs.declared.Put.{Put}
+use Rattle.writing.specs.declared.Put.the-variants.{At, Wrong}
 use Rattle.block.specs.WrittenBlocks.{writeLines, tightBlock, FitSet}
-use Rattle.block.specs.WrittenAnswers.{IsSetPut, SetWritten, firstAbove, predictedAnswer, rangeAnswer, measuredAnswer, writtenAnswer}
+use Rattle.block.specs.WrittenAnswers.{IsSetPut, SetWritten, predictedAnswer, rangeAnswer, measuredAnswer, writtenAnswer}
 use Rattle.block.specs.declared.Form.{Form}
-use Rattle.block.specs.declared.LinePut.{LinePut}
 use Rattle.block.specs.declared.Written.{Written}
 use Rattle.block.specs.declared.Written.the-variants.{Length, Refused}
 
--- ---- the first sample above M
-
-module _ (m : ℕ) (t : List ℕ) (i : ℕ) (so-far : firstAbove m 0 t ≡ firstAbove m i (drop i t)) where
-  pub above-next : i < length t → getD t i 0 ≤ m → firstAbove m 0 t ≡ firstAbove m (i + 1) (drop (i + 1) t)
-  unfolding firstAbove
-  above-next h le = so-far ∙ rw (drop-cons t i 0 h, le-leb (getD t i 0) m le, add-one)
-
-  pub above-found : i < length t → m < getD t i 0 → firstAbove m 0 t ≡ cond (ltb i (length t)) (some i) none
-  unfolding firstAbove
-  above-found h lt = so-far ∙ rw (drop-cons t i 0 h, lt-leb (getD t i 0) m lt, lt-ltb i (length t) h)
-
-  pub above-none : length t ≤ i → firstAbove m 0 t ≡ cond (ltb i (length t)) (some i) none
-  unfolding firstAbove
-  above-none h = so-far ∙ rw (drop-of-length-le t h, le-ltb i (length t) h)
+-- ---- samples within M
 
 -- where there is none all are within M
 none-within : (m i : ℕ) (t : List ℕ) → firstAbove m i t ≡ none → Within m t
@@ -69,32 +58,38 @@ put-all out (b ∷ l) = rw zero-add
 
 -- ---- what the walks say
 
+clash : {X : Type 0} (at : BitPosition) (j : ℕ) → At at ≡ Wrong j → X
+clash at j e = let no : _≡_ {A = ℕ} 0 1 = cc in absurd (omega arith)
+
 module _ (F : Form) (count : ℕ) (t out : List ℕ) where
   -- a measured set with a wrong sample
-  pub measured-wrong : (out₁ : List ℕ) (r : LinePut) → SetWritten (writeLines F t count) false out out₁ r → r .ok ≡ false
-      → (Refused (NotPredicted (r .wrong)) ≡ measuredAnswer F count t (length out)) × (out₁ ≡ out)
+  pub measured-wrong : (out₁ : List ℕ) (r : Put) (i : ℕ) → SetWritten (writeLines F t count) false out out₁ r → r ≡ Wrong i
+      → (Refused (NotPredicted i) ≡ measuredAnswer F count t (length out)) × (out₁ ≡ out)
   unfolding measuredAnswer
-  measured-wrong out₁ r s ok = go ((writeLines F t count) .wrong) refl (s .are)
+  measured-wrong out₁ r i s is = go ((writeLines F t count) .wrong) refl (s .are)
     where
       go : (o : Option ℕ) → (writeLines F t count) .wrong ≡ o → IsSetPut o (writeLines F t count) false out out₁ r
-          → (Refused (NotPredicted (r .wrong)) ≡ measuredAnswer F count t (length out)) × (out₁ ≡ out)
-      go none e p = absurd (false≢true (sym ok ∙ p .0))
-      go (some j) e p = (rw (e, p .1), p .2 refl)
+          → (Refused (NotPredicted i) ≡ measuredAnswer F count t (length out)) × (out₁ ≡ out)
+      go none e p = clash _ i (sym (p .0) ∙ is)
+      go (some j) e p = let f : Wrong j ≡ Wrong i = sym (p .0) ∙ is in let q : j ≡ i = cc in (rw (e, q), p .1 refl)
 
   -- and with none
-  pub record Measured (out₁ : List ℕ) (r : LinePut) : Type 0 where
+  pub record Measured (out₁ : List ℕ) (end : BitPosition) : Type 0 where
     pub right : (writeLines F t count) .wrong ≡ none
-    pub position : r .at .0 ≡ length ((writeLines F t count) .bits)
+    pub position : end .0 ≡ length ((writeLines F t count) .bits)
     pub kept : out₁ ≡ out
 
-  pub measured-right : (out₁ : List ℕ) (r : LinePut) → SetWritten (writeLines F t count) false out out₁ r → r .ok ≡ true → Measured out₁ r
-  measured-right out₁ r s ok = go ((writeLines F t count) .wrong) refl (s .are)
+  pub measured-right : (out₁ : List ℕ) (r : Put) (end : BitPosition) → SetWritten (writeLines F t count) false out out₁ r → r ≡ At end → Measured out₁ end
+  measured-right out₁ r end s is = go ((writeLines F t count) .wrong) refl (s .are)
     where
-      go : (o : Option ℕ) → (writeLines F t count) .wrong ≡ o → IsSetPut o (writeLines F t count) false out out₁ r → Measured out₁ r
-      go none e p = record { right = e; position = ap (λ (a : BitPosition). a .0) (p .1); kept = p .2 }
-      go (some j) e p = absurd (false≢true (sym (p .0) ∙ ok))
+      go : (o : Option ℕ) → (writeLines F t count) .wrong ≡ o → IsSetPut o (writeLines F t count) false out out₁ r → Measured out₁ end
+      go none e p =
+          let f : At end ≡ At (record { 0 = length ((writeLines F t count) .bits) }) = sym is ∙ p .0 in
+          let q : end ≡ record { 0 = length ((writeLines F t count) .bits) } = cc in
+          record { right = e; position = ap (λ (a : BitPosition). a .0) q; kept = p .1 }
+      go (some j) e p = clash end j (sym is ∙ p .0)
 
-  module _ (out₁ : List ℕ) (r : LinePut) (k : Measured out₁ r) (n : ℕ) (en : n ≡ bytesFor (r .at .0)) where
+  module _ (out₁ : List ℕ) (end : BitPosition) (k : Measured out₁ end) (n : ℕ) (en : n ≡ bytesFor (end .0)) where
     needed : n ≡ length (tightBlock F count t)
     needed = en ∙ rw (k .position) (sym (block-length F count t))
 
@@ -111,14 +106,14 @@ module _ (F : Form) (count : ℕ) (t out : List ℕ) where
     pub measured-room : (b : Bool) → b ≡ ltb (length out₁) n → b ≡ false → Room true out₁ 0 ((writeLines F t count) .bits)
     measured-room b eb h e = omega (arith, long-enough b eb h, block-length F count t, ap length (k .kept))
 
-    pub measured-stored : (b : Bool) → b ≡ ltb (length out₁) n → b ≡ false → (out₂ : List ℕ) (r₂ : LinePut) → SetWritten (writeLines F t count) true out₁ out₂ r₂
+    pub measured-stored : (b : Bool) → b ≡ ltb (length out₁) n → b ≡ false → (out₂ : List ℕ) (r₂ : Put) → SetWritten (writeLines F t count) true out₁ out₂ r₂
         → (Length n ≡ measuredAnswer F count t (length out)) × (out₂ ≡ tightBlock F count t ++ drop n out)
     unfolding measuredAnswer tightBlock
     measured-stored b eb h out₂ r₂ s =
         let p : IsSetPut none (writeLines F t count) true out₁ out₂ r₂ = rw (k .right) at (s .are) in
         let f : bytesFor (length ((writeLines F t count) .bits)) ≡ n = sym (en ∙ rw (k .position)) in (
           rw (k .right, le-ltb (length out) (length (tightBlock F count t)) (long-enough b eb h), needed),
-          p .2 ∙ (put-all out₁ ((writeLines F t count) .bits) ∙ rw (k .kept, f)),
+          p .1 ∙ (put-all out₁ ((writeLines F t count) .bits) ∙ rw (k .kept, f)),
         )
 
 -- ---- the answer for any set

@@ -1,10 +1,11 @@
 -- A block as lines, each of which goes by what `line` says of it. Assumes nothing.
-use mathlib.Core.Bool.{Bool, true, false, cond, _&&_, false≢true}
+use mathlib.Core.Bool.{Bool, true, false, cond, _&&_}
 use mathlib.Core.List.{List}
 use mathlib.Core.Option.{Option, none, some}
 use mathlib.Core.Path.{_≡_, refl, sym, _∙_}
 use Prim.Native.Nat.{ℕ, _+_, _-_, _<_}
 use native.Mathlib.Numerals.{add-one}
+use native.Mathlib.Omega.{arith}
 use lib.Dec.{eqb}
 use Rattle.bits.specs.declared.BitPosition.{BitPosition}
 use Rattle.statistics.specs.declared.Record.{Record}
@@ -12,11 +13,11 @@ use Rattle.lines.specs.ColourLines.{zeroLines, turned}
 use Rattle.map.specs.Places.{widthOf}
 use Rattle.pass.specs.Readings.{quantisersOf}
 use Rattle.pass.specs.declared.Quantisers.{Quantisers}
-use Rattle.block.specs.Blocks.{State, readLine, lineAt, beforeLine, startState, readLines, tightLines, IsLined, ReadAll, CutAt}
+use Rattle.block.specs.Blocks.{State, readLine, lineAt, beforeLine, startState, readLines, tightLines, IsLined, LineRead, ReadAll, CutAt}
 use Rattle.block.specs.Records.{startRecords, restartedMain, baseOf, isRestarted}
 use Rattle.block.specs.declared.Form.{Form}
 use Rattle.block.specs.declared.Lined.{Lined}
-use Rattle.block.specs.declared.Walked.{Walked}
+use Rattle.block.specs.declared.Lined.the-variants.{Read, Truncated}
 use Rattle.block.proofs.RunLaws.{runs-none, runs-more}
 
 -- the quantisers of a line have its base
@@ -26,14 +27,21 @@ base-known bits q Q e = rw e (refl, refl)
 
 -- ---- what a line answered
 
-lined-none : (o : Option State) (lines : List ℕ) (records : List Record) (r : Lined) → IsLined o lines records r → r .ok ≡ false → o ≡ none
-lined-none none lines records r p e = refl
-lined-none (some z) lines records r p e = absurd (false≢true (sym e ∙ p .0))
+clash : {X : Type 0} (at : BitPosition) (tight : Bool) → Read at tight ≡ Truncated → X
+clash at tight e = let no : _≡_ {A = ℕ} 0 1 = cc in absurd (omega arith)
 
-lined-some : (o : Option State) (lines : List ℕ) (records : List Record) (r : Lined) → IsLined o lines records r → r .ok ≡ true
-    → o ≡ some (record { lines = lines; records = records; at = r .at; tight = r .tight })
-lined-some none lines records r p e = absurd (false≢true (sym p ∙ e))
-lined-some (some z) lines records r p e = rw (p .1, p .2, p .3, p .4)
+lined-none : (o : Option State) (lines : List ℕ) (records : List Record) (r : Lined) → IsLined o lines records r → r ≡ Truncated → o ≡ none
+lined-none none lines records r p e = refl
+lined-none (some z) lines records r p e = clash (z .at) (z .tight) (sym (p .0) ∙ e)
+
+lined-some : (o : Option State) (lines : List ℕ) (records : List Record) (r : Lined) (at : BitPosition) (tight : Bool) → IsLined o lines records r → r ≡ Read at tight
+    → o ≡ some (record { lines = lines; records = records; at = at; tight = tight })
+lined-some none lines records r at tight p e = clash at tight (sym e ∙ p)
+lined-some (some z) lines records r at tight p e =
+    let f : Read at tight ≡ Read (z .at) (z .tight) = sym e ∙ p .0 in
+    let a : at ≡ z .at = cc in
+    let b : tight ≡ z .tight = cc in
+    rw (p .1, p .2, a, b)
 
 -- ---- the loop over the lines
 
@@ -47,7 +55,7 @@ module _ (F : Form) (bases s : List ℕ) (n W q : ℕ) (b : Bool) (Q : Quantiser
     (so-far : readLines F bases s n ≡ some (record { lines = l₀; records = rs₀; at = at; tight = tight })) (eW : W ≡ widthOf (F .xtrans))
     (eq : q ≡ baseOf bases n) (eb : b ≡ isRestarted bases n) (eQ : Q ≡ quantisersOf (F .bits) q)
     (el : l₁ ≡ turned W l₀) (er : rs₁ ≡ cond b (restartedMain (F .bits) q rs₀) rs₀) (lines : List ℕ) (records : List Record) (d : Lined)
-    (answer : IsLined (readLine F (Q .base) s (record { lines = l₁; records = rs₁; at = at; tight = tight })) lines records d) where
+    (answer : LineRead F Q s at tight l₁ rs₁ lines records d) where
   line-is : (o : Option State) → readLine F (Q .base) s (record { lines = l₁; records = rs₁; at = at; tight = tight }) ≡ o → readLines F bases s (n + 1) ≡ o
   unfolding readLines lineAt
   line-is o e =
@@ -55,10 +63,11 @@ module _ (F : Form) (bases s : List ℕ) (n W q : ℕ) (b : Bool) (Q : Quantiser
       let g : beforeLine F bases n r ≡ record { lines = l₁; records = rs₁; at = at; tight = tight } = rw (el, er, eb, eW, eq) in
       runs-more (lineAt F bases s) (startState F bases) n _ so-far ∙ rw (g, ← eq, ← base-known (F .bits) q Q eQ .0) e
 
-  pub line-more : d .ok ≡ true → readLines F bases s (n + 1) ≡ some (record { lines = lines; records = records; at = d .at; tight = d .tight })
-  line-more ok = line-is _ (lined-some _ lines records d answer ok)
+  pub line-more : (at' : BitPosition) (tight' : Bool) → d ≡ Read at' tight'
+      → readLines F bases s (n + 1) ≡ some (record { lines = lines; records = records; at = at'; tight = tight' })
+  line-more at' tight' ok = line-is _ (lined-some _ lines records d at' tight' answer ok)
 
-  pub line-cut : d .ok ≡ false → readLines F bases s (n + 1) ≡ none
+  pub line-cut : d ≡ Truncated → readLines F bases s (n + 1) ≡ none
   line-cut ok = line-is _ (lined-none _ lines records d answer ok)
 
 -- how many lines have only tight codes
@@ -73,10 +82,10 @@ tight-more F bases s n m k z em ez ek = ek ∙ rw (add-one, em, ← add-one, ez)
 
 -- ---- the answers
 
-pub read-all : (F : Form) (bases s : List ℕ) (n count : ℕ) (r : Walked) (z : State) → n ≡ count → readLines F bases s n ≡ some z → r .at ≡ z .at
-    → r .«tight_lines» ≡ tightLines F bases s n → ReadAll F bases s count r
-read-all F bases s n count r z e read at tight = record { end = z; read = rw e at read; at = at; tight = rw e at tight }
+pub read-all : (F : Form) (bases s : List ℕ) (n count tight : ℕ) (z : State) → n ≡ count → readLines F bases s n ≡ some z → tight ≡ tightLines F bases s n
+    → ReadAll F bases s count (z .at) tight
+read-all F bases s n count tight z e read is = record { end = z; read = rw e at read; at-end = refl; tight-is = rw e at is }
 
-pub cut-at : (F : Form) (bases s : List ℕ) (count : ℕ) (r : Walked) (z : State) → r .line < count → readLines F bases s (r .line) ≡ some z
-    → readLines F bases s (r .line + 1) ≡ none → CutAt F bases s count r
-cut-at F bases s count r z lt read cut = record { before = z; inside = lt; read = read; cut = rw add-one at cut }
+pub cut-at : (F : Form) (bases s : List ℕ) (count line : ℕ) (z : State) → line < count → readLines F bases s line ≡ some z
+    → readLines F bases s (line + 1) ≡ none → CutAt F bases s count line
+cut-at F bases s count line z lt read cut = record { before = z; inside = lt; read = read; cut = rw add-one at cut }

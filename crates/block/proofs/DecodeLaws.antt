@@ -1,26 +1,27 @@
 -- Decoding block by block: how many lines of a block are read, the answer, and the image. Assumes nothing.
 use borrow.Author.Tests.{ltb-true, ltb-false, lt-ltb, le-ltb, le-leb, leb-true, eqb-true, eqb-false}
-use mathlib.Core.Bool.{Bool, true, false, cond, _&&_}
+use mathlib.Core.Bool.{Bool, true, false, cond, _&&_, and-true, and-false}
 use mathlib.Core.List.{List}
 use mathlib.Core.Option.{none, some}
 use mathlib.Core.Path.{_≡_, refl, sym, _∙_}
-use Prim.Native.Nat.{ℕ, zero, suc, _+_, _-_, _*_, _/_, _≤_, _<_}
+use Prim.Native.Nat.{ℕ, zero, suc, _+_, _-_, _*_, _/_, _≤_, _<_, zero-le}
 use native.Mathlib.Nat.{add-zero, add-suc}
 use native.Mathlib.Omega.{arith}
-use lib.Dec.{ltb, leb, eqb}
+use lib.Dec.{ltb, eqb}
 use lib.ListN.{getD}
-use Rattle.map.specs.Places.{widthOf, emittedSample}
+use Rattle.map.specs.Places.{pictureRow, inRows}
 use Rattle.map.specs.declared.Part.{Part}
-use Rattle.map.proofs.PartLaws.{by-test}
+use Rattle.map.proofs.PartLaws.{by-test, not-in}
 use Rattle.stream.specs.declared.FujiHeader.{FujiHeader}
 use Rattle.stream.specs.declared.Refusal.the-variants.{Truncated}
 use Rattle.region.specs.Regions.{blockOf, firstBlock, lastBlock, bottomOf, partIn, linesOf as lineCount, Accepted}
 use Rattle.region.specs.declared.Rect.{Rect}
 use Rattle.region.proofs.RegionLaws.{InColumns, one-block, row-inside}
-use Rattle.block.specs.Blocks.{State, lineAt, startState, readLines, linesOf, rowOf, columnOf, isShown, Shown, shownLines, IsWalked, ReadAll, CutAt, eitherOf}
-use Rattle.block.specs.Images.{formOf, bytesOf, basesOf, linesRead, readIn, lineOf, isDecoded, decodedSample, Pictured, orElse, answerOf}
+use Rattle.block.specs.Blocks.{State, lineAt, startState, readLines, shownSample, Shown, shownLines, IsWalked}
+use Rattle.block.specs.Images.{formOf, bytesOf, basesOf, linesRead, readIn, lineOf, isDecoded, decodedSample, Pictured, orElse, walkedAnswer, answerOf}
 use Rattle.block.specs.declared.Form.{Form}
 use Rattle.block.specs.declared.Walked.{Walked}
+use Rattle.block.specs.declared.Walked.the-variants as Walk
 use Rattle.block.specs.declared.Decoded.{Decoded}
 use Rattle.block.specs.declared.Decoded.the-variants.{Done, Refused}
 use Rattle.block.proofs.RunLaws.{runs-stay}
@@ -66,14 +67,10 @@ module _ (F : Form) (bases s : List ℕ) where
       rw f (sym (some-read m z e cut (count - m)))
 
 -- by what a walk answered
-lines-by : (F : Form) (bases s : List ℕ) (count : ℕ) (w : Walked) (ok : Bool) → eitherOf ok (ReadAll F bases s count w) (CutAt F bases s count w)
-    → cond ok count (w .line) ≡ linesRead F bases s count
-lines-by F bases s count w true p = sym (all-read F bases s count (p .end) (p .read))
-lines-by F bases s count w false p = cut-lines F bases s (w .line) count (p .before) (p .inside) (p .read) (p .cut)
-
 pub walked-lines : (F : Form) (bases s : List ℕ) (count : ℕ) (w : Walked) → IsWalked F bases s count w
     → shownLines w count ≡ linesRead F bases s count
-walked-lines F bases s count w p = lines-by F bases s count w (w .ok) p
+walked-lines F bases s count (Walk.Read at tight) p = sym (all-read F bases s count (p .end) (p .read))
+walked-lines F bases s count (Walk.Truncated line) p = cut-lines F bases s line count (p .before) (p .inside) (p .read) (p .cut)
 
 -- ---- the answer
 
@@ -82,15 +79,14 @@ unfolding answerOf
 answer-none d h r b e = let f : b - firstBlock r ≡ 0 = omega arith in rw f
 
 -- a walk that was not cut read all lines, and one that was cut read fewer
-judged-by : (F : Form) (bases s : List ℕ) (count b : ℕ) (w : Walked) (ok : Bool) → eitherOf ok (ReadAll F bases s count w) (CutAt F bases s count w)
-    → cond ok Done (Refused (Truncated b (w .line)))
-    ≡ cond (ltb (linesRead F bases s count) count) (Refused (Truncated b (linesRead F bases s count))) Done
-judged-by F bases s count b w true p =
+judged-by : (F : Form) (bases s : List ℕ) (count b : ℕ) (w : Walked) → IsWalked F bases s count w
+    → walkedAnswer b w ≡ cond (ltb (linesRead F bases s count) count) (Refused (Truncated b (linesRead F bases s count))) Done
+judged-by F bases s count b (Walk.Read at tight) p =
     let e : linesRead F bases s count ≡ count = all-read F bases s count (p .end) (p .read) in
     rw (e, le-ltb count count (omega arith))
-judged-by F bases s count b w false p =
-    let e : w .line ≡ linesRead F bases s count = lines-by F bases s count w false p in
-    rw (← e, lt-ltb (w .line) count (p .inside))
+judged-by F bases s count b (Walk.Truncated line) p =
+    let e : line ≡ linesRead F bases s count = walked-lines F bases s count (Walk.Truncated line) p in
+    rw (← e, lt-ltb line count (p .inside))
 
 answer-step : (d : List ℕ) (h : FujiHeader) (r : Rect) (n b : ℕ) → b ≡ firstBlock r + n → answerOf d h r (suc n)
     ≡ orElse (answerOf d h r n) (cond (ltb (readIn d h r b) (lineCount r)) (Refused (Truncated b (readIn d h r b))) Done)
@@ -99,10 +95,10 @@ answer-step d h r n b e = rw e
 
 pub answer-more : (d : List ℕ) (h : FujiHeader) (r : Rect) (b : ℕ) (w : Walked) (before after : Decoded) → firstBlock r ≤ b
     → before ≡ answerOf d h r (b - firstBlock r) → IsWalked (formOf h) (basesOf d b) (bytesOf d b) (lineCount r) w
-    → after ≡ orElse before (cond (w .ok) Done (Refused (Truncated b (w .line)))) → after ≡ answerOf d h r (b + 1 - firstBlock r)
+    → after ≡ orElse before (walkedAnswer b w) → after ≡ answerOf d h r (b + 1 - firstBlock r)
 answer-more d h r b w before after l e p f =
     let n : b + 1 - firstBlock r ≡ suc (b - firstBlock r) = omega arith in
-    let j = judged-by (formOf h) (basesOf d b) (bytesOf d b) (lineCount r) b w (w .ok) p in
+    let j = judged-by (formOf h) (basesOf d b) (bytesOf d b) (lineCount r) b w p in
     f ∙ rw (n, answer-step d h r (b - firstBlock r) b (omega arith), j, e)
 
 -- ---- tests
@@ -112,14 +108,6 @@ same-test : (s t : Bool) → (s ≡ true → t ≡ true) → (t ≡ true → s �
 same-test true t f g = sym (f refl)
 same-test false true f g = g refl
 same-test false false f g = refl
-
-and-true : (s : Bool) → s && true ≡ s
-and-true true = refl
-and-true false = refl
-
-and-false : (s : Bool) → s && false ≡ false
-and-false true = refl
-and-false false = refl
 
 and-swap : (s t : Bool) → s && t ≡ t && s
 and-swap true t = sym (and-true t)
@@ -146,22 +134,15 @@ pictured-none d h r tile b image e = record { kept = refl; entries = λ i. rw (n
 -- ---- which entries a part shows
 
 -- none outside its columns
-shown-outside : (a : Part) (n i : ℕ) → (InColumns a i → ⊥) → isShown a n i ≡ false
-unfolding isShown
-shown-outside a n i other =
-    let rows = ltb (rowOf a i) (6 * n) && ltb (rowOf a i) (a .bottom) in
-    by-test (leb (a .start) (columnOf a i))
-    (λ t. by-test (ltb (columnOf a i) (a .start + (a .right - a .left)))
-    (λ u. absurd (other (leb-true _ _ t, ltb-true _ _ u)))
-    (λ u. rw (u, and-false (rows && leb (a .start) (columnOf a i)))))
-    (λ t. rw (t, and-false rows))
+shown-outside : (a : Part) (n i : ℕ) → (InColumns a i → ⊥) → inRows a 0 (6 * n) i ≡ false
+shown-outside a n i other = not-in a 0 (6 * n) i (λ h. other (h .left, h .right))
 
 -- and those inside by their row
-shown-inside : (a : Part) (n i : ℕ) → InColumns a i → isShown a n i ≡ ltb (rowOf a i) (6 * n) && ltb (rowOf a i) (a .bottom)
-unfolding isShown
+shown-inside : (a : Part) (n i : ℕ) → InColumns a i → inRows a 0 (6 * n) i ≡ ltb (pictureRow a i) (6 * n) && ltb (pictureRow a i) (a .bottom)
+unfolding inRows
 shown-inside a n i c =
-    let rows = ltb (rowOf a i) (6 * n) && ltb (rowOf a i) (a .bottom) in
-    rw (le-leb _ _ (c .0), lt-ltb _ _ (c .1), and-true rows, and-true rows)
+    let rows = ltb (pictureRow a i) (6 * n) && ltb (pictureRow a i) (a .bottom) in
+    rw (le-leb 0 (pictureRow a i) zero-le, le-leb _ _ (c .0), lt-ltb _ _ (c .1), and-true rows, and-true rows)
 
 -- a row is one of the first n lines exactly if its line is
 row-line : (row n : ℕ) → ltb row (6 * n) ≡ ltb (row / 6) n
@@ -170,7 +151,7 @@ row-line row n =
     (λ t. lt-ltb (row / 6) n (let l = ltb-true row (6 * n) t in omega arith))
     (λ t. lt-ltb row (6 * n) (let l = ltb-true (row / 6) n t in omega arith))
 
-part-row : (r : Rect) (b i : ℕ) → rowOf (partIn r b) i ≡ r .y + i / r .width
+part-row : (r : Rect) (b i : ℕ) → pictureRow (partIn r b) i ≡ r .y + i / r .width
 unfolding partIn
 part-row r b i = refl
 
@@ -190,14 +171,14 @@ module _ (d : List ℕ) (h : FujiHeader) (r : Rect) (n i : ℕ) (ok : Accepted h
       (λ t. lt-ltb _ _ (e .1 (ltb-true _ _ t)))
 
   -- an entry of block b is shown by its part exactly if it is decoded
-  of-block : (b : ℕ) → blockOf r i ≡ b → isShown (partIn r b) (readIn d h r b) i ≡ isDecoded d h r (b + 1) i
+  of-block : (b : ℕ) → blockOf r i ≡ b → inRows (partIn r b) 0 (6 * readIn d h r b) i ≡ isDecoded d h r (b + 1) i
   of-block b e =
       shown-inside (partIn r b) (readIn d h r b) i (one-block h r n ok b i .1 (sym e))
       ∙ rw (part-row r b i, part-bottom r b, row-place, row-line (r .y + i / r .width) (readIn d h r b))
       (and-swap (ltb (lineOf r i) (readIn d h r b)) (ltb i (r .width * r .height)) ∙ sym (rw e at (is-decoded d h r i (b + 1) (omega arith))))
 
   -- and an entry of another block is not shown
-  of-other : (b m : ℕ) → (blockOf r i ≡ b → ⊥) → isShown (partIn r b) m i ≡ false
+  of-other : (b m : ℕ) → (blockOf r i ≡ b → ⊥) → inRows (partIn r b) 0 (6 * m) i ≡ false
   of-other b m other = shown-outside (partIn r b) m i (λ c. other (sym (one-block h r n ok b i .0 c)))
 
   other-decoded : (b : ℕ) → (blockOf r i ≡ b → ⊥) → isDecoded d h r (b + 1) i ≡ isDecoded d h r b i
@@ -212,9 +193,7 @@ module _ (d : List ℕ) (h : FujiHeader) (r : Rect) (n i : ℕ) (ok : Accepted h
 module _ (d : List ℕ) (h : FujiHeader) (r : Rect) (tile : List ℕ) (b : ℕ) where
   -- the sample that the part of block b shows
   abbrev sample : ℕ → ℕ
-  sample i =
-      emittedSample (h .xtrans) (widthOf (h .xtrans)) tile
-      (linesOf (readLines (formOf h) (basesOf d b) (bytesOf d b) (suc (rowOf (partIn r b) i / 6)))) (partIn r b) i
+  sample = shownSample (formOf h) (basesOf d b) (bytesOf d b) tile (partIn r b)
 
   same-sample : (i : ℕ) → blockOf r i ≡ b → sample i ≡ decodedSample d h r tile i
   unfolding decodedSample

@@ -1,6 +1,5 @@
--- What the proofs share: the record in the borrow checker's tables, what a tool derives, and the laws of the definitions.
+-- What the proofs share: the record in the borrow checker's tables, and the laws of the definitions.
 pub mod Element
-pub mod derived
 pub mod TableLaws
 pub mod SetLaws
 pub mod RangeLaws
@@ -15,3 +14,4 @@ pub mod DecodeLaws
 pub mod BadCodeLaws
 pub mod TightLaws
 pub mod ImageLaws
+pub mod LeftLaws

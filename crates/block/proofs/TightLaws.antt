@@ -2,20 +2,21 @@
 use mathlib.Core.Bool.{Bool, true, false, cond}
 use mathlib.Core.List.{List, []}
 use mathlib.Core.Option.{Option, none, some}
-use mathlib.Core.Path.{_≡_, refl, sym, ap, _∙_, subst}
+use mathlib.Core.Path.{_≡_, refl, sym, ap, _∙_}
 use Prim.Native.Nat.{ℕ, _-_, _≤_, _<_}
 use native.Mathlib.Omega.{arith}
 use borrow.Author.Tests.{lt-ltb, le-ltb}
 use Rattle.bits.specs.BitLists.{isTail}
 use Rattle.bits.specs.declared.BitPosition.{BitPosition}
 use Rattle.stream.specs.declared.Refusal.the-variants.{Truncated, NotTight}
-use Rattle.block.specs.Blocks.{ReadAll, CutAt, IsWalked, eitherOf, readLines}
+use Rattle.block.specs.Blocks.{ReadAll, CutAt, IsWalked, readLines}
 use Rattle.block.specs.Images.{linesRead}
 use Rattle.block.specs.BadCodes.{BadCode, firstBad}
 use Rattle.block.specs.TightBlocks.{bitsRead, readAnswer, tightAnswer}
 use Rattle.block.specs.declared.Decoded.the-variants.{Done, Refused}
 use Rattle.block.specs.declared.Form.{Form}
 use Rattle.block.specs.declared.Walked.{Walked}
+use Rattle.block.specs.declared.Walked.the-variants as Walk
 use Rattle.block.proofs.DecodeLaws.{walked-lines}
 use Rattle.block.proofs.BadCodeLaws.{lineOr, bad-in, tight-lines}
 
@@ -31,33 +32,35 @@ ends-by : (o : Option BadCode) (lines m : ℕ) (tail : Bool) → m ≡ lineOr li
 ends-by none lines m tail e h low = refl
 ends-by (some x) lines m tail e h low = absurd (omega (arith, low x refl))
 
-module _ (F : Form) (s : List ℕ) (b count : ℕ) (w : Walked) (p : IsWalked F [] s count w) where
-  pub cut-off : w .ok ≡ false → Refused (Truncated b (w .line)) ≡ tightAnswer F b count s
+-- a line is truncated
+pub cut-off : (F : Form) (s : List ℕ) (b count line : ℕ) (w : Walked) → IsWalked F [] s count w → w ≡ Walk.Truncated line
+    → Refused (Truncated b line) ≡ tightAnswer F b count s
+unfolding tightAnswer
+cut-off F s b count line w p e =
+    let c : CutAt F [] s count line = rw e at p in
+    let l : line ≡ linesRead F [] s count = walked-lines F [] s count (Walk.Truncated line) c in
+    rw (← l, lt-ltb line count (c .inside))
+
+-- all lines were read
+module _ (F : Form) (s : List ℕ) (b count : ℕ) (at : BitPosition) (tight : ℕ) (w : Walked) (p : IsWalked F [] s count w) (e : w ≡ Walk.Read at tight) where
+  all : ReadAll F [] s count at tight
+  all = rw e at p
+
+  complete : linesRead F [] s count ≡ count
+  complete = sym (walked-lines F [] s count (Walk.Read at tight) all)
+
+  tight-count : tight ≡ lineOr count (firstBad F [] s count)
+  tight-count = all .tight-is ∙ tight-lines F [] s count (all .end) (all .read)
+
+  pub loose : tight < count → Refused (NotTight tight) ≡ tightAnswer F b count s
   unfolding tightAnswer
-  cut-off e =
-      let c : CutAt F [] s count w = subst (λ (k : Bool). eitherOf k (ReadAll F [] s count w) (CutAt F [] s count w)) e p in
-      let l : w .line ≡ linesRead F [] s count = subst (λ (k : Bool). cond k count (w .line) ≡ linesRead F [] s count) e (walked-lines F [] s count w p) in
-      rw (← l, lt-ltb (w .line) count (c .inside))
+  loose h = rw (complete, le-ltb count count (omega arith)) (loose-by (firstBad F [] s count) count tight _ tight-count h)
 
-  all : w .ok ≡ true → ReadAll F [] s count w
-  all e = subst (λ (k : Bool). eitherOf k (ReadAll F [] s count w) (CutAt F [] s count w)) e p
+  last : isTail s (at .0) ≡ isTail s (bitsRead (readLines F [] s count))
+  last = rw (all .read) (ap (λ (x : BitPosition). isTail s (x .0)) (all .at-end))
 
-  complete : w .ok ≡ true → linesRead F [] s count ≡ count
-  complete e = sym (subst (λ (k : Bool). cond k count (w .line) ≡ linesRead F [] s count) e (walked-lines F [] s count w p))
-
-  tight-is : w .ok ≡ true → w .«tight_lines» ≡ lineOr count (firstBad F [] s count)
-  tight-is e = all e .tight ∙ tight-lines F [] s count (all e .end) (all e .read)
-
-  pub loose : w .ok ≡ true → w .«tight_lines» < count → Refused (NotTight (w .«tight_lines»)) ≡ tightAnswer F b count s
+  pub ends : count ≤ tight → (t : Bool) → t ≡ isTail s (at .0) → cond t Done (Refused (NotTight count)) ≡ tightAnswer F b count s
   unfolding tightAnswer
-  loose e h =
-      rw (complete e, le-ltb count count (omega arith)) (loose-by (firstBad F [] s count) count (w .«tight_lines») _ (tight-is e) h)
-
-  last : w .ok ≡ true → isTail s (w .at .0) ≡ isTail s (bitsRead (readLines F [] s count))
-  last e = rw (all e .read) (ap (λ (x : BitPosition). isTail s (x .0)) (all e .at))
-
-  pub ends : w .ok ≡ true → count ≤ w .«tight_lines» → (t : Bool) → t ≡ isTail s (w .at .0) → cond t Done (Refused (NotTight count)) ≡ tightAnswer F b count s
-  unfolding tightAnswer
-  ends e h t f =
-      rw (complete e, le-ltb count count (omega arith), ← last e, f)
-      (ends-by (firstBad F [] s count) count (w .«tight_lines») (isTail s (w .at .0)) (tight-is e) h (λ x g. bad-in F [] s count x g .line-inside))
+  ends h t f =
+      rw (complete, le-ltb count count (omega arith), ← last, f)
+      (ends-by (firstBad F [] s count) count tight (isTail s (at .0)) tight-count h (λ x g. bad-in F [] s count x g .line-inside))

@@ -23,13 +23,14 @@ use Rattle.writing.specs.Sets.{lineSize, setSize}
 use Rattle.writing.specs.Puts.{putIf, Room, Within, IsPassPut}
 use Rattle.writing.specs.Writings.{Writing, writePass}
 use Rattle.writing.specs.declared.PassPut.{PassPut}
+use Rattle.writing.specs.declared.Put.{Put}
+use Rattle.writing.specs.declared.Put.the-variants.{At, Wrong}
 use Rattle.writing.proofs.PassLaws.{pass-within, pass-wrong, pass-short}
 use Rattle.writing.proofs.PutLaws.{put-none, put-more}
 use Rattle.block.specs.Records.{startRecords, restartedMain, isRestarted, setOf, putSet}
 use Rattle.block.specs.WrittenBlocks.{WriteState, repeats, enterWriting, writePassAt, beforeWriting, writeLine, startWriting, writeLines}
 use Rattle.block.specs.WrittenAnswers.{passesFrom, IsLinePut, LineWritten, SetWritten}
 use Rattle.block.specs.declared.Form.{Form}
-use Rattle.block.specs.declared.LinePut.{LinePut}
 use Rattle.block.proofs.SampleLaws.{zeros-le, guarded-le, turned-le}
 use Rattle.block.proofs.WrittenLaws.{afterBits, passAt-adds, line-adds}
 
@@ -43,36 +44,44 @@ pub record Sofar (z : WriteState) (from : ℕ) (store : Bool) (out lines' : List
   pub position : at .0 ≡ from + length (z .bits)
   pub output : out' ≡ putIf store out from (z .bits)
 
-went : (o : Option ℕ) (z : WriteState) (from : ℕ) (store : Bool) (out lines' : List ℕ) (rs' : List Record) (out' : List ℕ) (r : LinePut)
-    → z .wrong ≡ o → IsLinePut o z from store out lines' rs' out' r → r .ok ≡ true → Sofar z from store out lines' rs' out' (r .at)
-went none z from store out lines' rs' out' r e p k =
-    record { lines = sym (p .1); records = sym (p .2); right = e; position = ap (λ (a : BitPosition). a .0) (p .3); output = p .4 }
-went (some j) z from store out lines' rs' out' r e p k = absurd (false≢true (sym (p .0) ∙ k))
+clash : {X : Type 0} (at : BitPosition) (j : ℕ) → At at ≡ Wrong j → X
+clash at j e = let no : _≡_ {A = ℕ} 0 1 = cc in absurd (omega arith)
 
-was-wrong : (o : Option ℕ) (z : WriteState) (from : ℕ) (store : Bool) (out lines' : List ℕ) (rs' : List Record) (out' : List ℕ) (r : LinePut)
-    → IsLinePut o z from store out lines' rs' out' r → r .ok ≡ false → (o ≡ some (r .wrong)) × (store ≡ false → out' ≡ out)
-was-wrong none z from store out lines' rs' out' r p k = absurd (false≢true (sym k ∙ p .0))
-was-wrong (some j) z from store out lines' rs' out' r p k = (rw (p .1), p .2)
+went : (o : Option ℕ) (z : WriteState) (from : ℕ) (store : Bool) (out lines' : List ℕ) (rs' : List Record) (out' : List ℕ) (r : Put) (at : BitPosition)
+    → z .wrong ≡ o → IsLinePut o z from store out lines' rs' out' r → r ≡ At at → Sofar z from store out lines' rs' out' at
+went none z from store out lines' rs' out' r at e p k =
+    let f : At at ≡ At (record { 0 = from + length (z .bits) }) = sym k ∙ p .0 in
+    let q : at ≡ record { 0 = from + length (z .bits) } = cc in
+    record { lines = sym (p .1); records = sym (p .2); right = e; position = ap (λ (a : BitPosition). a .0) q; output = p .3 }
+went (some j) z from store out lines' rs' out' r at e p k = clash at j (sym k ∙ p .0)
+
+was-wrong : (o : Option ℕ) (z : WriteState) (from : ℕ) (store : Bool) (out lines' : List ℕ) (rs' : List Record) (out' : List ℕ) (r : Put) (i : ℕ)
+    → IsLinePut o z from store out lines' rs' out' r → r ≡ Wrong i → (o ≡ some i) × (store ≡ false → out' ≡ out)
+was-wrong none z from store out lines' rs' out' r i p k = clash _ i (sym (p .0) ∙ k)
+was-wrong (some j) z from store out lines' rs' out' r i p k =
+    let f : Wrong j ≡ Wrong i = sym (p .0) ∙ k in
+    let q : j ≡ i = cc in
+    (ap some q, p .1)
 
 -- the answers that say so
 pub line-right-is : (z : WriteState) (from : ℕ) (store : Bool) (out lines' : List ℕ) (rs' : List Record) (out' : List ℕ) (at : BitPosition)
-    → Sofar z from store out lines' rs' out' at → LineWritten z from store out lines' rs' out' (record { ok = true; wrong = 0; at = at })
+    → Sofar z from store out lines' rs' out' at → LineWritten z from store out lines' rs' out' (At at)
 line-right-is z from store out lines' rs' out' at s =
-    record { are = rw (s .right) (refl, sym (s .lines), sym (s .records), ap (λ (n : ℕ). record { 0 = n }) (s .position), s .output) }
+    record { are = rw (s .right) (ap (λ (n : ℕ). At (record { 0 = n })) (s .position), sym (s .lines), sym (s .records), s .output) }
 
-pub line-wrong-is : (z : WriteState) (from : ℕ) (store : Bool) (out lines' : List ℕ) (rs' : List Record) (out' : List ℕ) (j : ℕ) (at : BitPosition)
-    → (z .wrong ≡ some j) × (store ≡ false → out' ≡ out) → LineWritten z from store out lines' rs' out' (record { ok = false; wrong = j; at = at })
-line-wrong-is z from store out lines' rs' out' j at w = record { are = rw (w .0) (refl, refl, w .1) }
+pub line-wrong-is : (z : WriteState) (from : ℕ) (store : Bool) (out lines' : List ℕ) (rs' : List Record) (out' : List ℕ) (j : ℕ)
+    → (z .wrong ≡ some j) × (store ≡ false → out' ≡ out) → LineWritten z from store out lines' rs' out' (Wrong j)
+line-wrong-is z from store out lines' rs' out' j w = record { are = rw (w .0) (refl, w .1) }
 
 pub set-right-is : (z : WriteState) (store : Bool) (out lines' : List ℕ) (rs' : List Record) (out' : List ℕ) (at : BitPosition)
-    → Sofar z 0 store out lines' rs' out' at → SetWritten z store out out' (record { ok = true; wrong = 0; at = at })
+    → Sofar z 0 store out lines' rs' out' at → SetWritten z store out out' (At at)
 set-right-is z store out lines' rs' out' at s =
     let e : at .0 ≡ length (z .bits) = omega (arith, s .position) in
-    record { are = rw (s .right) (refl, ap (λ (n : ℕ). record { 0 = n }) e, s .output) }
+    record { are = rw (s .right) (ap (λ (n : ℕ). At (record { 0 = n })) e, s .output) }
 
-pub set-wrong-is : (z : WriteState) (store : Bool) (out out' : List ℕ) (j : ℕ) (at : BitPosition)
-    → (z .wrong ≡ some j) × (store ≡ false → out' ≡ out) → SetWritten z store out out' (record { ok = false; wrong = j; at = at })
-set-wrong-is z store out out' j at w = record { are = rw (w .0) (refl, refl, w .1) }
+pub set-wrong-is : (z : WriteState) (store : Bool) (out out' : List ℕ) (j : ℕ)
+    → (z .wrong ≡ some j) × (store ≡ false → out' ≡ out) → SetWritten z store out out' (Wrong j)
+set-wrong-is z store out out' j w = record { are = rw (w .0) (refl, w .1) }
 
 -- ---- two parts
 
@@ -138,21 +147,21 @@ module _ (f : ℕ → WriteState → WriteState) (adds : Adds f) (r₀ : WriteSt
       let h = rw length-append at (part-room e) in
       omega (arith, h, same, so-far .position)
 
-  module _ (lines' : List ℕ) (rs' : List Record) (out' : List ℕ) (r : LinePut) (answer : IsLinePut (y .wrong) y (at .0) store out₁ lines' rs' out' r) where
-    pub turn-more : r .ok ≡ true → Sofar (repeats f (i + 1) r₀) from store out lines' rs' out' (r .at)
-    turn-more ok =
-        let s = went (y .wrong) y (at .0) store out₁ lines' rs' out' r refl answer ok in
-        let p : r .at .0 ≡ from + length ((repeats f i r₀) .bits ++ y .bits) = rw length-append (omega (arith, s .position, so-far .position)) in
+  module _ (lines' : List ℕ) (rs' : List Record) (out' : List ℕ) (r : Put) (answer : IsLinePut (y .wrong) y (at .0) store out₁ lines' rs' out' r) where
+    pub turn-more : (at' : BitPosition) → r ≡ At at' → Sofar (repeats f (i + 1) r₀) from store out lines' rs' out' at'
+    turn-more at' ok =
+        let s = went (y .wrong) y (at .0) store out₁ lines' rs' out' r at' refl answer ok in
+        let p : at' .0 ≡ from + length ((repeats f i r₀) .bits ++ y .bits) = rw length-append (omega (arith, s .position, so-far .position)) in
         let o = put-join store from (at .0) out out₁ out' ((repeats f i r₀) .bits) (y .bits) (so-far .position) (so-far .output) part-room (s .output) in
         rw more-is (record { lines = s .lines; records = s .records; right = s .right; position = p; output = o })
 
-    pub turn-wrong : r .ok ≡ false → ((repeats f m r₀) .wrong ≡ some (r .wrong)) × (store ≡ false → out' ≡ out)
-    turn-wrong ok =
-        let w = was-wrong (y .wrong) y (at .0) store out₁ lines' rs' out' r answer ok in
+    pub turn-wrong : (j : ℕ) → r ≡ Wrong j → ((repeats f m r₀) .wrong ≡ some j) × (store ≡ false → out' ≡ out)
+    turn-wrong j ok =
+        let w = was-wrong (y .wrong) y (at .0) store out₁ lines' rs' out' r j answer ok in
         let e : i + 1 + (m - (i + 1)) ≡ m = omega arith in
-        let now : (repeats f (i + 1) r₀) .wrong ≡ some (r .wrong) = rw more-is (w .0) in
-        let g : (repeats f (i + 1 + (m - (i + 1))) r₀) .wrong ≡ some (r .wrong) =
-        repeats-keep f r₀ (λ (z : WriteState). z .wrong ≡ some (r .wrong)) (λ k z h. adds .stays k z (r .wrong) h) (i + 1) (m - (i + 1)) now in
+        let now : (repeats f (i + 1) r₀) .wrong ≡ some j = rw more-is (w .0) in
+        let g : (repeats f (i + 1 + (m - (i + 1))) r₀) .wrong ≡ some j =
+        repeats-keep f r₀ (λ (z : WriteState). z .wrong ≡ some j) (λ k z h. adds .stays k z j h) (i + 1) (m - (i + 1)) now in
         (rw e at g, kept-out store from out out₁ out' ((repeats f i r₀) .bits) (so-far .output) (w .1))
 
 -- ---- passes
@@ -198,7 +207,7 @@ module _ (F : Form) (t : List ℕ) (n : ℕ) (lines₀ : List ℕ) (rs₀ : List
 
   pub passes-done : (i from : ℕ) (store : Bool) (out lines' : List ℕ) (rs' : List Record) (out' : List ℕ) (at : BitPosition) → i ≡ 6
       → Sofar (passesFrom F t n i lines₀ rs₀) from store out lines' rs' out' at
-      → LineWritten (passesFrom F t n 6 lines₀ rs₀) from store out lines' rs' out' (record { ok = true; wrong = 0; at = at })
+      → LineWritten (passesFrom F t n 6 lines₀ rs₀) from store out lines' rs' out' (At at)
   passes-done i from store out lines' rs' out' at e s =
       line-right-is (passesFrom F t n 6 lines₀ rs₀) from store out lines' rs' out' at (rw e at s)
 
@@ -235,27 +244,40 @@ module _ (F : Form) (t : List ℕ) (n : ℕ) (lines₀ : List ℕ) (rs₀ : List
     pass-position h small = omega (arith, so-far .position, passes-short i h)
 
     module _ (lines' out' : List ℕ) (d : PassPut) (answer : IsPassPut (own .wrong) own (at .0) store out₁ lines' out' d) where
-      pass-answer : IsLinePut (own .wrong) part (at .0) store out₁ lines' (putSet (P .set) (recordsOf (d .set)) rs) out' (record { ok = d .ok; wrong = d .wrong; at = d .at })
+      -- its answer, as that of a line
+      told : Put
+      told = cond (d .ok) (At (d .at)) (Wrong (d .wrong))
+
+      pass-answer : IsLinePut (own .wrong) part (at .0) store out₁ lines' (putSet (P .set) (recordsOf (d .set)) rs) out' told
+      unfolding told
       pass-answer = go (own .wrong) answer
         where
           go : (o : Option ℕ) → IsPassPut o own (at .0) store out₁ lines' out' d
-              → IsLinePut o part (at .0) store out₁ lines' (putSet (P .set) (recordsOf (d .set)) rs) out' (record { ok = d .ok; wrong = d .wrong; at = d .at })
-          go none p = (p .0, p .1, rw (p .2) refl, p .3, p .4)
-          go (some j) p = p
+              → IsLinePut o part (at .0) store out₁ lines' (putSet (P .set) (recordsOf (d .set)) rs) out' (cond (d .ok) (At (d .at)) (Wrong (d .wrong)))
+          go none p = (rw (p .0, p .3), p .1, rw (p .2) refl, p .4)
+          go (some j) p = (rw (p .0, p .1), p .2)
+
+      told-right : d .ok ≡ true → told ≡ At (d .at)
+      unfolding told
+      told-right ok = rw ok
+
+      told-wrong : d .ok ≡ false → told ≡ Wrong (d .wrong)
+      unfolding told
+      told-wrong ok = rw ok
 
       pub pass-more : d .ok ≡ true → Sofar (passesFrom F t n (i + 1) lines₀ rs₀) from store out lines' (putSet (P .set) (recordsOf (d .set)) rs) out' (d .at)
       unfolding passesFrom
-      pass-more =
+      pass-more ok =
           turn-more (writePassAt F t n) (passes-add F t n) (record { lines = lines₀; records = rs₀; bits = []; wrong = none }) i 6 lt part from store out lines rs out₁ at so-far same pass-next room
-          lines' _ out' _ pass-answer
+          lines' _ out' told pass-answer (d .at) (told-right ok)
 
       pub pass-failed : (rs' : List Record) → d .ok ≡ false
-          → LineWritten (passesFrom F t n 6 lines₀ rs₀) from store out lines' rs' out' (record { ok = false; wrong = d .wrong; at = at })
+          → LineWritten (passesFrom F t n 6 lines₀ rs₀) from store out lines' rs' out' (Wrong (d .wrong))
       unfolding passesFrom
       pass-failed rs' ok =
-          line-wrong-is (passesFrom F t n 6 lines₀ rs₀) from store out lines' rs' out' (d .wrong) at
+          line-wrong-is (passesFrom F t n 6 lines₀ rs₀) from store out lines' rs' out' (d .wrong)
           (turn-wrong (writePassAt F t n) (passes-add F t n) (record { lines = lines₀; records = rs₀; bits = []; wrong = none }) i 6 lt part from store out lines rs out₁ at so-far same pass-next room
-          lines' _ out' _ pass-answer ok)
+          lines' _ out' told pass-answer (d .wrong) (told-wrong ok))
 
 -- ---- lines
 
@@ -299,7 +321,7 @@ module _ (F : Form) (t : List ℕ) where
       omega (arith, e)
 
   pub lines-done : (n count : ℕ) (store : Bool) (out lines' : List ℕ) (rs' : List Record) (out' : List ℕ) (at : BitPosition) → n ≡ count
-      → Sofar (writeLines F t n) 0 store out lines' rs' out' at → SetWritten (writeLines F t count) store out out' (record { ok = true; wrong = 0; at = at })
+      → Sofar (writeLines F t n) 0 store out lines' rs' out' at → SetWritten (writeLines F t count) store out out' (At at)
   lines-done n count store out lines' rs' out' at e s = set-right-is (writeLines F t count) store out lines' rs' out' at (rw e at s)
 
   -- without bases only line 0 starts the records anew
@@ -332,17 +354,17 @@ module _ (F : Form) (t : List ℕ) where
     pub line-position : F .bits ≤ 16 → m < 2 ^ 16 → at .0 < 2 ^ 58
     line-position h small = omega (arith, so-far .position, lines-short n h)
 
-    module _ (lines' : List ℕ) (rs' : List Record) (out' : List ℕ) (d : LinePut) (answer : LineWritten (passesFrom F t n 6 l₁ rs₁) (at .0) store out₁ lines' rs' out' d) where
-      pub line-more : d .ok ≡ true → Sofar (writeLines F t (n + 1)) 0 store out lines' rs' out' (d .at)
+    module _ (lines' : List ℕ) (rs' : List Record) (out' : List ℕ) (d : Put) (answer : LineWritten (passesFrom F t n 6 l₁ rs₁) (at .0) store out₁ lines' rs' out' d) where
+      pub line-more : (at' : BitPosition) → d ≡ At at' → Sofar (writeLines F t (n + 1)) 0 store out lines' rs' out' at'
       unfolding writeLines
       line-more =
           turn-more (writeLine F t) lines-add (startWriting F) n m lt (passesFrom F t n 6 l₁ rs₁) 0 store out lines rs out₁ at so-far same line-next room lines' rs' out' d (answer .are)
 
-      pub line-failed : d .ok ≡ false → SetWritten (writeLines F t m) store out out' (record { ok = false; wrong = d .wrong; at = at })
+      pub line-failed : (j : ℕ) → d ≡ Wrong j → SetWritten (writeLines F t m) store out out' d
       unfolding writeLines
-      line-failed ok =
-          set-wrong-is (writeLines F t m) store out out' (d .wrong) at
-          (turn-wrong (writeLine F t) lines-add (startWriting F) n m lt (passesFrom F t n 6 l₁ rs₁) 0 store out lines rs out₁ at so-far same line-next room lines' rs' out' d (answer .are) ok)
+      line-failed j ok =
+          rw ok (set-wrong-is (writeLines F t m) store out out' j
+          (turn-wrong (writeLine F t) lines-add (startWriting F) n m lt (passesFrom F t n 6 l₁ rs₁) 0 store out lines rs out₁ at so-far same line-next room lines' rs' out' d (answer .are) j ok))
 
 -- a line of a set lies inside it
 pub line-size : (W n count : ℕ) (t : List ℕ) → n < count → length t ≡ setSize W count → (n + 1) * lineSize W ≤ length t

@@ -1,10 +1,10 @@
 -- Reading a block: six passes make a line, and lines make a block. Assumes nothing.
-use mathlib.Core.Bool.{Bool, true, false, cond, _&&_}
+use mathlib.Core.Bool.{Bool, true, cond, _&&_}
 use mathlib.Core.List.{List, []}
 use mathlib.Core.Option.{Option, none, some}
 use mathlib.Core.Path.{_≡_}
-use Prim.Native.Nat.{ℕ, zero, suc, _+_, _-_, _*_, _/_, _%_, _≤_, _<_}
-use lib.Dec.{leb, ltb, eqb}
+use Prim.Native.Nat.{ℕ, zero, suc, _+_, _*_, _/_, _≤_, _<_}
+use lib.Dec.{leb, eqb}
 use lib.ListN.{length, getD}
 use Rattle.bits.specs.declared.BitPosition.{BitPosition}
 use Rattle.statistics.specs.Statistics.{InRange}
@@ -12,13 +12,16 @@ use Rattle.statistics.specs.declared.Record.{Record}
 use Rattle.pass.specs.Steps.{planOf}
 use Rattle.pass.specs.Readings.{Reading, readPass, andThen, noRecord}
 use Rattle.pass.specs.declared.Plan.{Plan}
-use Rattle.lines.specs.ColourLines.{zeroLines, guarded, turned}
-use Rattle.map.specs.Places.{widthOf, emittedSample}
+use Rattle.pass.specs.declared.Quantisers.{Quantisers}
+use Rattle.map.specs.Places.{widthOf, pictureRow, inRows, emittedSample, Changed}
 use Rattle.map.specs.declared.Part.{Part}
-use Rattle.block.specs.Records.{startRecords, restartedMain, baseOf, isRestarted, setOf, putSet}
+use Rattle.block.specs.Records.{baseOf, setOf, putSet}
+use Rattle.block.specs.Between.{linesAtStart, recordsAtStart, linesBefore, recordsBefore, linesEntered}
 use Rattle.block.specs.declared.Form.{Form}
 use Rattle.block.specs.declared.Lined.{Lined}
+use Rattle.block.specs.declared.Lined.the-variants as Line
 use Rattle.block.specs.declared.Walked.{Walked}
+use Rattle.block.specs.declared.Walked.the-variants as Walk
 
 -- what reading a block goes on: the colour lines, the records, the bit position, and whether all codes so far were tight
 pub record State : Type 0 where
@@ -38,7 +41,7 @@ runs f (suc n) r = andThen (runs f n r) (λ z. f n z)
 abbrev pub enter : Form → Plan → State → Reading
 enter F P r =
     record {
-      lines = guarded (widthOf (F .xtrans)) (P .second) (guarded (widthOf (F .xtrans)) (P .first) (r .lines));
+      lines = linesEntered F P (r .lines);
       set = setOf (P .set) (r .records);
       at = r .at;
       tight = r .tight;
@@ -69,8 +72,8 @@ readLine F q s r = andThen (runs (passAt F q s) 6 r) (endLine s)
 abbrev pub beforeLine : Form → List ℕ → ℕ → State → State
 beforeLine F bases n r =
     record {
-      lines = turned (widthOf (F .xtrans)) (r .lines);
-      records = cond (isRestarted bases n) (restartedMain (F .bits) (baseOf bases n) (r .records)) (r .records);
+      lines = linesBefore F (r .lines);
+      records = recordsBefore F bases n (r .records);
       at = r .at;
       tight = r .tight;
     }
@@ -83,8 +86,8 @@ lineAt F bases s n r = readLine F (baseOf bases n) s (beforeLine F bases n r)
 unfoldable pub startState : Form → List ℕ → State
 startState F bases =
     record {
-      lines = zeroLines (widthOf (F .xtrans));
-      records = startRecords (F .bits) (baseOf bases 0);
+      lines = linesAtStart F;
+      records = recordsAtStart F bases;
       at = record { 0 = 0 };
       tight = true;
     }
@@ -111,25 +114,14 @@ tightLines F bases s (suc n) =
 
 -- ---- the image
 
--- the row of the picture, and the column of the image, that entry i of the image shows
-abbrev pub rowOf : Part → ℕ → ℕ
-rowOf a i = a .top + i / a .stride
+-- the sample that entry i of the image shows: that of its line
+abbrev pub shownSample : Form → (bases s tile : List ℕ) → Part → ℕ → ℕ
+shownSample F bases s tile a i =
+    emittedSample (F .xtrans) (widthOf (F .xtrans)) tile (linesOf (readLines F bases s (suc (pictureRow a i / 6)))) a i
 
-abbrev pub columnOf : Part → ℕ → ℕ
-columnOf a i = i % a .stride
-
--- whether entry i belongs to the part, and to one of the first n lines
-unfoldable pub isShown : Part → ℕ → ℕ → Bool
-isShown a n i =
-    ltb (rowOf a i) (6 * n) && ltb (rowOf a i) (a .bottom) && leb (a .start) (columnOf a i) && ltb (columnOf a i) (a .start + (a .right - a .left))
-
--- the image after n lines: each entry of theirs is the sample of its line, and the others are what they were
-pub record Shown (F : Form) (bases s tile : List ℕ) (a : Part) (n : ℕ) (before after : List ℕ) : Type 0 where
-  pub kept : length after ≡ length before
-  pub entries : (i : ℕ) → getD after i 0
-      ≡ cond (isShown a n i)
-      (emittedSample (F .xtrans) (widthOf (F .xtrans)) tile (linesOf (readLines F bases s (suc (rowOf a i / 6)))) a i)
-      (getD before i 0)
+-- the image after n lines: their rows have been put into it
+abbrev pub Shown : Form → (bases s tile : List ℕ) → Part → ℕ → (before after : List ℕ) → Type 0
+Shown F bases s tile a n before after = Changed (inRows a 0 (6 * n)) (shownSample F bases s tile a) before after
 
 -- ---- the answers
 
@@ -139,31 +131,33 @@ AllInRange l = (j : ℕ) → j < 336 → InRange (getD l j noRecord)
 
 -- the lines that go to the image: all of them, or those before the truncated one
 abbrev pub shownLines : Walked → ℕ → ℕ
-shownLines r count = cond (r .ok) count (r .line)
+shownLines (Walk.Read at tight) count = count
+shownLines (Walk.Truncated line) count = line
 
 -- what a line hands back. Where it is truncated the colour lines and the records are left free
 abbrev pub IsLined : Option State → List ℕ → List Record → Lined → Type 0
-IsLined none lines records r = r .ok ≡ false
-IsLined (some z) lines records r =
-    (r .ok ≡ true) × (lines ≡ z .lines) × (records ≡ z .records) × (r .at ≡ z .at) × (r .tight ≡ z .tight)
+IsLined none lines records r = r ≡ Line.Truncated
+IsLined (some z) lines records r = (r ≡ Line.Read (z .at) (z .tight)) × (lines ≡ z .lines) × (records ≡ z .records)
+
+-- a line with these quantisers, from this bit on, with these lines and records before it and those after it
+abbrev pub LineRead : Form → Quantisers → List ℕ → BitPosition → Bool → (lines : List ℕ) → List Record → (lines' : List ℕ) → List Record → Lined → Type 0
+LineRead F Q s from tight lines records lines' records' r =
+    IsLined (readLine F (Q .base) s (record { lines = lines; records = records; at = from; tight = tight })) lines' records' r
 
 -- what a walk over the first `count` lines of a block says: all were read, up to this bit, and so many had only tight codes
-pub record ReadAll (F : Form) (bases s : List ℕ) (count : ℕ) (r : Walked) : Type 0 where
+pub record ReadAll (F : Form) (bases s : List ℕ) (count : ℕ) (at : BitPosition) (tight : ℕ) : Type 0 where
   pub end : State
   pub read : readLines F bases s count ≡ some end
-  pub at : r .at ≡ end .at
-  pub tight : r .«tight_lines» ≡ tightLines F bases s count
+  pub at-end : at ≡ end .at
+  pub tight-is : tight ≡ tightLines F bases s count
 
 -- or this line is the first that is truncated
-pub record CutAt (F : Form) (bases s : List ℕ) (count : ℕ) (r : Walked) : Type 0 where
+pub record CutAt (F : Form) (bases s : List ℕ) (count line : ℕ) : Type 0 where
   pub before : State
-  pub inside : suc (r .line) ≤ count
-  pub read : readLines F bases s (r .line) ≡ some before
-  pub cut : readLines F bases s (suc (r .line)) ≡ none
-
-abbrev pub eitherOf : Bool → Type 0 → Type 0 → Type 0
-eitherOf true A B = A
-eitherOf false A B = B
+  pub inside : suc line ≤ count
+  pub read : readLines F bases s line ≡ some before
+  pub cut : readLines F bases s (suc line) ≡ none
 
 abbrev pub IsWalked : Form → List ℕ → List ℕ → ℕ → Walked → Type 0
-IsWalked F bases s count r = eitherOf (r .ok) (ReadAll F bases s count r) (CutAt F bases s count r)
+IsWalked F bases s count (Walk.Read at tight) = ReadAll F bases s count at tight
+IsWalked F bases s count (Walk.Truncated line) = CutAt F bases s count line

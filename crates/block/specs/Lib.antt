@@ -1,6 +1,8 @@
 -- The definitions of a block.
 pub mod Records
+pub mod Between
 pub mod Blocks
+pub mod Lent
 pub mod Images
 pub mod BadCodes
 pub mod TightBlocks

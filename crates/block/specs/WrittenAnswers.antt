@@ -1,27 +1,25 @@
 -- What a call of the writer answers and leaves. Assumes nothing.
 use mathlib.Core.Bool.{Bool, true, false, cond}
-use mathlib.Core.List.{List, [], _∷_, _++_}
+use mathlib.Core.List.{List, [], _++_}
 use mathlib.Core.Option.{Option, none, some}
 use mathlib.Core.Path.{_≡_}
-use Prim.Native.Nat.{ℕ, suc, _+_, _*_}
-use lib.Dec.{leb, ltb, eqb}
+use Prim.Native.Nat.{ℕ, _+_}
+use lib.Dec.{ltb}
 use lib.ListN.{length, drop}
 use Rattle.statistics.specs.declared.Record.{Record}
 use Rattle.quantiser.specs.Quantisers.{largest}
-use Rattle.lines.specs.ColourLines.{zeroLines}
-use Rattle.map.specs.Places.{widthOf}
-use Rattle.stream.specs.Headers.{parseOf}
 use Rattle.stream.specs.declared.FujiHeader.{FujiHeader}
 use Rattle.stream.specs.declared.Parsed.{Parsed}
 use Rattle.stream.specs.declared.Parsed.the-variants as Parsing
-use Rattle.stream.specs.declared.Refusal.the-variants.{Lossy, WrongCount, AboveLargest, NotPredicted, ShortOutput}
-use Rattle.writing.specs.Sets.{setSize}
+use Rattle.stream.specs.declared.Refusal.the-variants.{AboveLargest, NotPredicted, ShortOutput}
 use Rattle.writing.specs.Puts.{putIf}
-use Rattle.block.specs.Records.{clearRecords}
-use Rattle.block.specs.Images.{formOf, Beginning, refused, nothing, reading, withScratch}
+use Rattle.begin.specs.Beginnings.{firstAbove}
+use Rattle.writing.specs.declared.Put.{Put}
+use Rattle.writing.specs.declared.Put.the-variants.{At, Wrong}
+use Rattle.block.specs.Images.{formOf}
+use Rattle.block.specs.Lent.{Outputs, clearedLines, clearedRecords}
 use Rattle.block.specs.WrittenBlocks.{WriteState, repeats, writePassAt, writeLines, tightBlock}
 use Rattle.block.specs.declared.Form.{Form}
-use Rattle.block.specs.declared.LinePut.{LinePut}
 use Rattle.block.specs.declared.Written.{Written}
 use Rattle.block.specs.declared.Written.the-variants.{Length, Refused}
 
@@ -33,28 +31,23 @@ passesFrom F t n i lines rs = repeats (writePassAt F t n) i (record { lines = li
 
 -- lines that were written up to the state z, from no bits on: the position after their bits, or the first interpolated sample that is not its
 -- prediction; then lines and records are left free, and so is the output where it is stored
-abbrev pub IsLinePut : Option ℕ → WriteState → ℕ → Bool → (out lines' : List ℕ) → List Record → (out' : List ℕ) → LinePut → Type 0
+abbrev pub IsLinePut : Option ℕ → WriteState → ℕ → Bool → (out lines' : List ℕ) → List Record → (out' : List ℕ) → Put → Type 0
 IsLinePut none z from store out lines' rs' out' r =
-    (r .ok ≡ true) × (lines' ≡ z .lines) × (rs' ≡ z .records) × (r .at ≡ record { 0 = from + length (z .bits) }) × (out' ≡ putIf store out from (z .bits))
-IsLinePut (some j) z from store out lines' rs' out' r = (r .ok ≡ false) × (r .wrong ≡ j) × (store ≡ false → out' ≡ out)
+    (r ≡ At (record { 0 = from + length (z .bits) })) × (lines' ≡ z .lines) × (rs' ≡ z .records) × (out' ≡ putIf store out from (z .bits))
+IsLinePut (some j) z from store out lines' rs' out' r = (r ≡ Wrong j) × (store ≡ false → out' ≡ out)
 
-pub record LineWritten (z : WriteState) (from : ℕ) (store : Bool) (out lines' : List ℕ) (rs' : List Record) (out' : List ℕ) (r : LinePut) : Type 0 where
+pub record LineWritten (z : WriteState) (from : ℕ) (store : Bool) (out lines' : List ℕ) (rs' : List Record) (out' : List ℕ) (r : Put) : Type 0 where
   pub are : IsLinePut (z .wrong) z from store out lines' rs' out' r
 
 -- the same of all lines, whose scratch counts no more
-abbrev pub IsSetPut : Option ℕ → WriteState → Bool → (out out' : List ℕ) → LinePut → Type 0
-IsSetPut none z store out out' r = (r .ok ≡ true) × (r .at ≡ record { 0 = length (z .bits) }) × (out' ≡ putIf store out 0 (z .bits))
-IsSetPut (some j) z store out out' r = (r .ok ≡ false) × (r .wrong ≡ j) × (store ≡ false → out' ≡ out)
+abbrev pub IsSetPut : Option ℕ → WriteState → Bool → (out out' : List ℕ) → Put → Type 0
+IsSetPut none z store out out' r = (r ≡ At (record { 0 = length (z .bits) })) × (out' ≡ putIf store out 0 (z .bits))
+IsSetPut (some j) z store out out' r = (r ≡ Wrong j) × (store ≡ false → out' ≡ out)
 
-pub record SetWritten (z : WriteState) (store : Bool) (out out' : List ℕ) (r : LinePut) : Type 0 where
+pub record SetWritten (z : WriteState) (store : Bool) (out out' : List ℕ) (r : Put) : Type 0 where
   pub are : IsSetPut (z .wrong) z store out out' r
 
 -- ---- the answer
-
--- the lowest index, from i on, of a sample above M
-unfoldable pub firstAbove : ℕ → ℕ → List ℕ → Option ℕ
-firstAbove M i [] = none
-firstAbove M i (v ∷ t) = cond (leb v M) (firstAbove M (suc i) t) (some i)
 
 -- refusal 13, or the length of the tight block
 abbrev pub lengthAnswer : ℕ → ℕ → Written
@@ -85,28 +78,14 @@ writtenOut (Refused x) block out = out
 
 -- ---- a call
 
--- how it begins: refusals 1 and 2, then 8, 9 and 10
-abbrev pub withSet : FujiHeader → ℕ → ℕ → ℕ → Beginning
-withSet h count samples records =
-    cond (h .lossless)
-    (cond (eqb count (setSize (widthOf (h .xtrans)) (h .lines))) (withScratch h samples records) (refused WrongCount))
-    (refused Lossy)
+-- what a call leaves that writes the set t under this header
+pub record SetWriting (t : List ℕ) (h : FujiHeader) (before after : Outputs) (answer : Written) : Type 0 where
+  pub answered : answer ≡ writtenAnswer (formOf h) (h .lines) t (length (before .out))
+  pub output : after .out ≡ writtenOut answer (tightBlock (formOf h) (h .lines) t) (before .out)
+  pub lines : after .lines ≡ clearedLines (h .xtrans) (before .lines)
+  pub records : after .records ≡ clearedRecords (before .records)
 
-abbrev pub withParsed : Parsed → ℕ → ℕ → ℕ → Beginning
-withParsed (Parsing.Refused x) count samples records = refused x
-withParsed (Parsing.Header h) count samples records = withSet h count samples records
-
-unfoldable pub writingBegins : List ℕ → ℕ → ℕ → ℕ → Beginning
-writingBegins d count samples records = withParsed (parseOf d) count samples records
-
--- what it leaves: its answer, the output, and scratch, of which the used part is cleared once the set was looked at
-abbrev pub LeftWritten : List ℕ → Beginning → (out lines : List ℕ) → List Record → (out' lines' : List ℕ) → List Record → Written → Type 0
-LeftWritten t (refused x) out lines rs out' lines' rs' answer =
-    (answer ≡ Refused x) × (out' ≡ out) × (lines' ≡ lines) × (rs' ≡ rs)
--- (no call begins with nothing to do)
-LeftWritten t nothing out lines rs out' lines' rs' answer = (out' ≡ out) × (lines' ≡ lines) × (rs' ≡ rs)
-LeftWritten t (reading h) out lines rs out' lines' rs' answer =
-    let W = widthOf (h .xtrans) in
-    (answer ≡ writtenAnswer (formOf h) (h .lines) t (length out))
-    × (out' ≡ writtenOut (writtenAnswer (formOf h) (h .lines) t (length out)) (tightBlock (formOf h) (h .lines) t) out)
-    × (lines' ≡ zeroLines W ++ drop (18 * (W + 2)) lines) × (rs' ≡ clearRecords ++ drop 336 rs)
+-- what a call leaves, by how it begins
+abbrev pub LeftWritten : List ℕ → Parsed → (before after : Outputs) → Written → Type 0
+LeftWritten t (Parsing.Refused x) before after answer = (answer ≡ Refused x) × (after ≡ before)
+LeftWritten t (Parsing.Header h) before after answer = SetWriting t h before after answer

@@ -1,5 +1,5 @@
 -- The tight block of a set of colour lines: line after line, by the rules of reading, from the set's own samples. Assumes nothing.
-use mathlib.Core.Bool.{Bool, cond}
+use mathlib.Core.Bool.{Bool}
 use mathlib.Core.List.{List, []}
 use mathlib.Core.Option.{Option, none}
 use mathlib.Core.Path.{_≡_}
@@ -10,11 +10,11 @@ use Rattle.statistics.specs.declared.Record.{Record}
 use Rattle.quantiser.specs.Quantisers.{largest}
 use Rattle.pass.specs.Steps.{planOf}
 use Rattle.pass.specs.declared.Plan.{Plan}
-use Rattle.lines.specs.ColourLines.{zeroLines, guarded, turned}
 use Rattle.map.specs.Places.{widthOf}
 use Rattle.writing.specs.Sets.{setSize}
 use Rattle.writing.specs.Writings.{Writing, writePass}
-use Rattle.block.specs.Records.{startRecords, restartedMain, isRestarted, setOf, putSet}
+use Rattle.block.specs.Records.{setOf, putSet}
+use Rattle.block.specs.Between.{linesAtStart, recordsAtStart, linesBefore, recordsBefore, linesEntered}
 use Rattle.block.specs.declared.Form.{Form}
 
 -- what writing a block goes on: the colour lines, the records, the bits so far, and the first interpolated sample that is not its prediction
@@ -33,7 +33,7 @@ repeats f (suc n) r = f n (repeats f n r)
 abbrev pub enterWriting : Form → Plan → WriteState → Writing
 enterWriting F P r =
     record {
-      lines = guarded (widthOf (F .xtrans)) (P .second) (guarded (widthOf (F .xtrans)) (P .first) (r .lines));
+      lines = linesEntered F P (r .lines);
       set = setOf (P .set) (r .records);
       bits = r .bits;
       wrong = r .wrong;
@@ -53,8 +53,8 @@ writePassAt F t n i r =
 abbrev pub beforeWriting : Form → ℕ → WriteState → WriteState
 beforeWriting F n r =
     record {
-      lines = turned (widthOf (F .xtrans)) (r .lines);
-      records = cond (isRestarted [] n) (restartedMain (F .bits) 0 (r .records)) (r .records);
+      lines = linesBefore F (r .lines);
+      records = recordsBefore F [] n (r .records);
       bits = r .bits;
       wrong = r .wrong;
     }
@@ -65,7 +65,7 @@ writeLine F t n r = repeats (writePassAt F t n) 6 (beforeWriting F n r)
 
 -- a block starts with lines of 0, start records, and no bits
 unfoldable pub startWriting : Form → WriteState
-startWriting F = record { lines = zeroLines (widthOf (F .xtrans)); records = startRecords (F .bits) 0; bits = []; wrong = none }
+startWriting F = record { lines = linesAtStart F; records = recordsAtStart F []; bits = []; wrong = none }
 
 -- the state after n lines
 unfoldable pub writeLines : Form → List ℕ → ℕ → WriteState

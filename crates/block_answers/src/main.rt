@@ -119,10 +119,10 @@ fn image_agrees(image: &[u16; 13824], want: &[u8; 36864], s: Sizes, colour: u8) 
 
 // All lines were read, or the first truncated one is the one after those that the original read.
 fn answer_agrees(r: Walked, s: Sizes) -> bool {
-    if r.ok {
-        return s.read == s.lines;
+    match r {
+        Walked::Read(_, _) => s.read == s.lines,
+        Walked::Truncated(line) => (s.read < s.lines) & (line == s.read),
     }
-    (s.read < s.lines) & (r.line == s.read)
 }
 
 fn agrees(block: &[u8; 40000], bases: &[u8; 3], want: &[u8; 36864], s: Sizes, colour: u8) -> bool

@@ -38,7 +38,6 @@ fn is_needed(k: u32, limit: u32, zeros: u64, value: u32) -> bool
     false
 }
 
-// twin: Coded::Truncated
 // The next code of a pump, however long its zero run is and however near the end it stands.
 fn next_code<'s, 'a>(p: &'s mut BitPumpMsb<'a>, k: u32, limit: u32, raw: u32) -> Coded
     requires { ⌜ (length (now (now p .«data»)) < 2 ^ 32) × ((k ≤ 15) × ((limit < 64) × (raw ≤ 16))) ⌝ }

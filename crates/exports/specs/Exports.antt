@@ -3,6 +3,7 @@ use mathlib.Core.Bool.{Bool, cond}
 use mathlib.Core.List.{List, [], _∷_}
 use Prim.Native.Nat.{ℕ}
 use lib.ListN.{replicate}
+use Rattle.stream.specs.Refusals.{refusalWords, noRefusal}
 use Rattle.stream.specs.declared.FujiHeader.{FujiHeader}
 use Rattle.stream.specs.declared.Parsed.{Parsed}
 use Rattle.stream.specs.declared.Parsed.the-variants as Parsing
@@ -10,7 +11,6 @@ use Rattle.stream.specs.declared.Ranged.{Ranged}
 use Rattle.stream.specs.declared.Ranged.the-variants as Range
 use Rattle.stream.specs.declared.Width.{Width}
 use Rattle.stream.specs.declared.Width.the-variants as Columns
-use Rattle.block.specs.Words.{noRefusal, refusalWords}
 
 abbrev pub flag : Bool → ℕ
 flag b = cond b 1 0

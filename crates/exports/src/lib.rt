@@ -45,7 +45,7 @@ fn parsed_refusal(p: Parsed) -> [usize; 4]
 {
     match p {
         Parsed::Header(_) => [0; 4],
-        Parsed::Refused(r) => block::refusal_words(r),
+        Parsed::Refused(r) => stream::refusal_words(r),
     }
 }
 
@@ -63,7 +63,7 @@ fn ranged_refusal(r: Ranged) -> [usize; 4]
 {
     match r {
         Ranged::At(_, _) => [0; 4],
-        Ranged::Refused(x) => block::refusal_words(x),
+        Ranged::Refused(x) => stream::refusal_words(x),
     }
 }
 
@@ -81,7 +81,7 @@ fn width_refusal(c: Width) -> [usize; 4]
 {
     match c {
         Width::Columns(_) => [0; 4],
-        Width::Refused(r) => block::refusal_words(r),
+        Width::Refused(r) => stream::refusal_words(r),
     }
 }
 

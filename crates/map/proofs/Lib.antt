@@ -3,4 +3,3 @@ pub mod TableLaws
 pub mod PlaceLaws
 pub mod RowLaws
 pub mod PartLaws
-pub mod LineLaws

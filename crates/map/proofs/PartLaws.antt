@@ -10,8 +10,8 @@ use lib.Arith.{digits-div, digits-mod}
 use lib.Dec.{leb, ltb}
 use lib.ListN.{length, getD}
 use Rattle.numbers.proofs.OrderLaws.{split}
-use Rattle.map.specs.Places.{sampleIndex, isEmitted, emittedSample, RowEmitted, Emitted, Fits}
-use Rattle.map.specs.Rows.{inRows, RowsPut}
+use Rattle.map.specs.Places.{sampleIndex, inRows, emittedSample, RowEmitted, Fits}
+use Rattle.map.specs.Rows.{RowsPut}
 use Rattle.map.specs.declared.Part.{Part}
 use Rattle.map.proofs.RowLaws.{inside, outside}
 
@@ -82,6 +82,17 @@ moved a low high low' high' i h l k = record { first = l; last = k; there = h .t
 -- no entry of these rows is of the part
 pub put-none : (sample : ℕ → ℕ) (a : Part) (low high : ℕ) (image : List ℕ) → ((i : ℕ) → InRows a low high i → ⊥) → RowsPut sample a low high image image
 put-none sample a low high image n = record { kept = refl; entries = λ i. rw (not-in a low high i (n i)) }
+
+-- the same samples, named otherwise
+pub put-same : (f g : ℕ → ℕ) (a : Part) (low high : ℕ) (x y : List ℕ) → ((i : ℕ) → InRows a low high i → f i ≡ g i) → RowsPut f a low high x y → RowsPut g a low high x y
+put-same f g a low high x y s p =
+    record {
+      kept = p .kept;
+      entries =
+          λ i. p .entries i ∙ by-test (inRows a low high i)
+          (λ e. rw e (s i (in-rows a low high i e)))
+          (λ e. rw e);
+    }
 
 -- rows up to mid, and from mid on
 module _ (sample : ℕ → ℕ) (a : Part) (low mid high : ℕ) (x y z : List ℕ) (hl : low ≤ mid) (hh : mid ≤ high) (p : RowsPut sample a low mid x y) (q : RowsPut sample a mid high y z) where
@@ -168,10 +179,3 @@ module _ (xtrans : Bool) (W : ℕ) (tile lines : List ℕ) (a : Part) (n r : ℕ
       no : (i : ℕ) → (InRows a row (row + 1) i → ⊥)
           → cond (leb at i && ltb i (at + (a .right - a .left))) (getD lines (sampleIndex xtrans W tile r (a .left + (i - at))) 0) (getD x i 0) ≡ getD x i 0
       no i g = rw (outside at (a .right - a .left) i (λ l u. g (entry-row a row i (f .inside) h k l u)))
-
--- ---- lines
-
-pub put-emitted : (xtrans : Bool) (W : ℕ) (tile lines : List ℕ) (a : Part) (n : ℕ) (x y : List ℕ) → RowsPut (emittedSample xtrans W tile lines a) a (6 * n) (6 * n + 6) x y
-    → Emitted xtrans W tile lines a n x y
-unfolding isEmitted inRows
-put-emitted xtrans W tile lines a n x y p = record { kept = p .kept; entries = p .entries }

@@ -38,29 +38,38 @@ sampleIndex xtrans W tile r p = colourLine (tileAt tile r p) r * (W + 2) + 1 + p
 -- ---- the part of an image that a block fills: columns left to right of the block go to columns `start` onward of rows that are `stride` samples
 -- long, and the rows top to bottom of the whole picture are there
 
--- whether the image's entry i is one of line n's rows, and of the part
-unfoldable pub isEmitted : Part → ℕ → ℕ → Bool
-isEmitted a n i =
-    let row = a .top + i / a .stride in
-    let column = i % a .stride in
-    leb (6 * n) row && ltb row (6 * n + 6) && ltb row (a .bottom) && leb (a .start) column && ltb column (a .start + (a .right - a .left))
+-- the row of the whole picture, and the column of the image, that the image's entry i shows
+abbrev pub pictureRow : Part → ℕ → ℕ
+pictureRow a i = a .top + i / a .stride
 
--- the sample that stands there
+abbrev pub imageColumn : Part → ℕ → ℕ
+imageColumn a i = i % a .stride
+
+-- whether entry i is of the part, and in one of the rows from `low` up to, and without, `high`
+unfoldable pub inRows : Part → ℕ → ℕ → ℕ → Bool
+inRows a low high i =
+    let row = pictureRow a i in
+    let column = imageColumn a i in
+    leb low row && ltb row high && ltb row (a .bottom) && leb (a .start) column && ltb column (a .start + (a .right - a .left))
+
+-- the sample that is there, by the colour lines of its line
 unfoldable pub emittedSample : Bool → ℕ → List ℕ → List ℕ → Part → ℕ → ℕ
 emittedSample xtrans W tile lines a i =
-    let row = a .top + i / a .stride in
-    let column = i % a .stride in
-    getD lines (sampleIndex xtrans W tile (row % 6) (a .left + (column - a .start))) 0
+    getD lines (sampleIndex xtrans W tile (pictureRow a i % 6) (a .left + (imageColumn a i - a .start))) 0
 
--- the image after one row was put into it, at the entries from `at` on: columns left to right of row r of a line
-pub record RowEmitted (xtrans : Bool) (W : ℕ) (tile lines : List ℕ) (r left right at : ℕ) (before after : List ℕ) : Type 0 where
+-- an image that is changed exactly where the test holds: there it has the new samples, and elsewhere what it had
+pub record Changed (test : ℕ → Bool) (sample : ℕ → ℕ) (before after : List ℕ) : Type 0 where
   pub kept : length after ≡ length before
-  pub entries : (i : ℕ) → getD after i 0 ≡ cond (leb at i && ltb i (at + (right - left))) (getD lines (sampleIndex xtrans W tile r (left + (i - at))) 0) (getD before i 0)
+  pub entries : (i : ℕ) → getD after i 0 ≡ cond (test i) (sample i) (getD before i 0)
 
--- the image after line n was put into it: each entry is the line's sample, or what it was
-pub record Emitted (xtrans : Bool) (W : ℕ) (tile lines : List ℕ) (a : Part) (n : ℕ) (before after : List ℕ) : Type 0 where
-  pub kept : length after ≡ length before
-  pub entries : (i : ℕ) → getD after i 0 ≡ cond (isEmitted a n i) (emittedSample xtrans W tile lines a i) (getD before i 0)
+-- by the entries from `at` on: columns left to right of row r of a line
+abbrev pub RowEmitted : Bool → ℕ → (tile lines : List ℕ) → (r left right at : ℕ) → (before after : List ℕ) → Type 0
+RowEmitted xtrans W tile lines r left right at before after =
+    Changed (λ i. leb at i && ltb i (at + (right - left))) (λ i. getD lines (sampleIndex xtrans W tile r (left + (i - at))) 0) before after
+
+-- by the rows of line n
+abbrev pub Emitted : Bool → ℕ → (tile lines : List ℕ) → Part → ℕ → (before after : List ℕ) → Type 0
+Emitted xtrans W tile lines a n before after = Changed (inRows a (6 * n) (6 * n + 6)) (emittedSample xtrans W tile lines a) before after
 
 -- a part that an image has room for: an empty one, or one whose rows are all there
 pub record Fits (a : Part) (image : List ℕ) : Type 0 where

@@ -1,11 +1,10 @@
 -- What the parts of emitting a line say of the image. Assumes nothing.
-use mathlib.Core.Bool.{Bool, cond, _&&_}
+use mathlib.Core.Bool.{Bool}
 use mathlib.Core.List.{List}
 use mathlib.Core.Path.{_≡_}
-use Prim.Native.Nat.{ℕ, _+_, _-_, _*_, _/_, _%_, _≤_, _<_}
-use lib.Dec.{leb, ltb}
+use Prim.Native.Nat.{ℕ, _+_, _*_, _%_, _≤_, _<_}
 use lib.ListN.{length, getD, set}
-use Rattle.map.specs.Places.{placeIn, colourLine}
+use Rattle.map.specs.Places.{placeIn, colourLine, inRows, Changed}
 use Rattle.map.specs.declared.Part.{Part}
 
 -- where the colour line of each column of the tile begins, in row r, its guard passed
@@ -24,14 +23,6 @@ sampleBy lines starts xtrans q = getD lines (getD starts (q % 6) 0 + placeIn xtr
 abbrev pub threePut : (ℕ → ℕ) → ℕ → ℕ → List ℕ → List ℕ
 threePut f i p image = set (set (set image i (f p)) (i + 1) (f (p + 1))) (i + 2) (f (p + 2))
 
--- whether the image's entry i is of the part, and in one of the rows from `low` up to, and without, `high` of the whole picture
-unfoldable pub inRows : Part → ℕ → ℕ → ℕ → Bool
-inRows a low high i =
-    let row = a .top + i / a .stride in
-    let column = i % a .stride in
-    leb low row && ltb row high && ltb row (a .bottom) && leb (a .start) column && ltb column (a .start + (a .right - a .left))
-
--- the image after these rows were put into it: each of their entries is the new sample, and the others are what they were
-pub record RowsPut (sample : ℕ → ℕ) (a : Part) (low high : ℕ) (before after : List ℕ) : Type 0 where
-  pub kept : length after ≡ length before
-  pub entries : (i : ℕ) → getD after i 0 ≡ cond (inRows a low high i) (sample i) (getD before i 0)
+-- by these rows
+abbrev pub RowsPut : (ℕ → ℕ) → Part → (low high : ℕ) → (before after : List ℕ) → Type 0
+RowsPut sample a low high before after = Changed (inRows a low high) sample before after

@@ -5,6 +5,13 @@ ghost use lib.ListN.{length, set};
 ghost use Rattle.map.specs.Places.{widthOf, ArePlaces, placeIn, colourLine, emittedSample, RowEmitted, Emitted, Fits};
 ghost use Rattle.map.specs.Rows.{AreStarts, InLines, sampleBy, threePut, RowsPut};
 
+// The samples of a colour line.
+pub fn width(xtrans: bool) -> usize
+    ensures { λ r. ⌜ r ≡ widthOf xtrans ⌝ }
+{
+    if xtrans { 512 } else { 384 }
+}
+
 // The places of the 768 columns of an X-Trans block in their colour lines.
 const XTRANS_PLACES: [u16; 768] = [
     0,

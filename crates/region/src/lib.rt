@@ -94,7 +94,7 @@ fn is_outside(h: FujiHeader, r: Rect, image_length: usize) -> bool
 }
 
 // The blocks and lines of a region that is not empty.
-fn span_of(r: Rect) -> Span
+pub fn span_of(r: Rect) -> Span
     requires { ⌜ (1 ≤ r .width) × (1 ≤ r .height) ⌝ }
     ensures { λ s. ⌜ s ≡ spanOf r ⌝ }
 {

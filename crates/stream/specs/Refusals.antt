@@ -1,40 +1,55 @@
 -- The refusals: the number of each, and the values that it names. Assumes nothing.
 use Prim.Native.Nat.{ℕ}
 use mathlib.Core.List.{List, [], _∷_}
+use mathlib.Core.Option.{Option, none, some}
 use Rattle.stream.specs.declared.Refusal.{Refusal}
 use Rattle.stream.specs.declared.Refusal.the-variants.{ShortHeader, BadHeader, ShortSizes, ShortBases, NoBlock, WrongSize, OutsideImage, Lossy, WrongCount, ShortScratch, AboveLargest, NotPredicted, ShortOutput, Truncated, NotTight}
 
-abbrev pub numberOf : Refusal → ℕ
-numberOf ShortHeader = 1
-numberOf BadHeader = 2
-numberOf ShortSizes = 3
-numberOf (ShortBases block) = 4
-numberOf NoBlock = 5
-numberOf WrongSize = 6
-numberOf OutsideImage = 7
-numberOf Lossy = 8
-numberOf WrongCount = 9
-numberOf ShortScratch = 10
-numberOf (AboveLargest index) = 11
-numberOf (NotPredicted index) = 12
-numberOf ShortOutput = 13
-numberOf (Truncated block line) = 14
-numberOf (NotTight line) = 15
+-- what a refusal says: its number, and the block, the line and the index that it names
+pub record Meaning : Type 0 where
+  pub number : ℕ
+  pub block : Option ℕ
+  pub line : Option ℕ
+  pub index : Option ℕ
 
--- the values that a refusal names: a block, an index of a sample, a block and its line, or a line
-abbrev pub valuesOf : Refusal → List ℕ
-valuesOf ShortHeader = []
-valuesOf BadHeader = []
-valuesOf ShortSizes = []
-valuesOf (ShortBases block) = block ∷ []
-valuesOf NoBlock = []
-valuesOf WrongSize = []
-valuesOf OutsideImage = []
-valuesOf Lossy = []
-valuesOf WrongCount = []
-valuesOf ShortScratch = []
-valuesOf (AboveLargest index) = index ∷ []
-valuesOf (NotPredicted index) = index ∷ []
-valuesOf ShortOutput = []
-valuesOf (Truncated block line) = block ∷ line ∷ []
-valuesOf (NotTight line) = line ∷ []
+abbrev naming : ℕ → Option ℕ → Option ℕ → Option ℕ → Meaning
+naming n b l i = record { number = n; block = b; line = l; index = i }
+
+-- each refusal, in the order of the checks
+abbrev pub meaningOf : Refusal → Meaning
+meaningOf ShortHeader = naming 1 none none none
+meaningOf BadHeader = naming 2 none none none
+meaningOf ShortSizes = naming 3 none none none
+meaningOf (ShortBases block) = naming 4 (some block) none none
+meaningOf NoBlock = naming 5 none none none
+meaningOf WrongSize = naming 6 none none none
+meaningOf OutsideImage = naming 7 none none none
+meaningOf Lossy = naming 8 none none none
+meaningOf WrongCount = naming 9 none none none
+meaningOf ShortScratch = naming 10 none none none
+meaningOf (AboveLargest index) = naming 11 none none (some index)
+meaningOf (NotPredicted index) = naming 12 none none (some index)
+meaningOf ShortOutput = naming 13 none none none
+meaningOf (Truncated block line) = naming 14 (some block) (some line) none
+meaningOf (NotTight line) = naming 15 none (some line) none
+
+abbrev pub numberOf : Refusal → ℕ
+numberOf r = (meaningOf r) .number
+
+-- ---- for C
+
+-- a value that is not named is 0
+abbrev pub orZero : Option ℕ → ℕ
+orZero none = 0
+orZero (some n) = n
+
+-- number, block, line, index
+abbrev pub wordsOf : Meaning → List ℕ
+wordsOf m = m .number ∷ orZero (m .block) ∷ orZero (m .line) ∷ orZero (m .index) ∷ []
+
+abbrev pub refusalWords : Refusal → List ℕ
+refusalWords r = wordsOf (meaningOf r)
+
+-- all 0 where nothing is refused
+abbrev pub noRefusal : List ℕ
+noRefusal = 0 ∷ 0 ∷ 0 ∷ 0 ∷ []

@@ -2,11 +2,12 @@
 ghost use mathlib.Core.Path.{_≡_};
 ghost use Prim.Native.Nat.{_+_, _*_, _^_, _≤_, _<_};
 ghost use lib.ListN.{length};
+ghost use Rattle.stream.specs.Refusals.{refusalWords};
 ghost use Rattle.stream.specs.Headers.{byteAt, be16, headerOf, within, kindRules, sizeRules, countRules, parseOf, Ruled, widthAnswer};
 ghost use Rattle.stream.specs.Streams.{padded, sizeOf, rowLength, rowStart, firstShort, openIn, openOf, Opened, sizesBefore, blockStart, cut, rangeIn, rangeOf, rowIn, rowOf, partOf, Short, Inside};
 use bits::ByteOffset;
 
-// Why a call is refused. specs/Refusals.antt gives each case its number.
+// Why a call is refused. specs/Refusals.antt gives each case its number, and the values that it names.
 pub enum Refusal {
     ShortHeader,
     BadHeader,
@@ -23,6 +24,29 @@ pub enum Refusal {
     ShortOutput,
     Truncated(usize, usize),
     NotTight(usize),
+}
+
+// A refusal for C: its number, and the block, the line and the index that it names, 0 where it names none.
+pub fn refusal_words(r: Refusal) -> [usize; 4]
+    ensures { λ w. ⌜ w ≡ refusalWords r ⌝ }
+{
+    match r {
+        Refusal::ShortHeader => [1, 0, 0, 0],
+        Refusal::BadHeader => [2, 0, 0, 0],
+        Refusal::ShortSizes => [3, 0, 0, 0],
+        Refusal::ShortBases(b) => [4, b, 0, 0],
+        Refusal::NoBlock => [5, 0, 0, 0],
+        Refusal::WrongSize => [6, 0, 0, 0],
+        Refusal::OutsideImage => [7, 0, 0, 0],
+        Refusal::Lossy => [8, 0, 0, 0],
+        Refusal::WrongCount => [9, 0, 0, 0],
+        Refusal::ShortScratch => [10, 0, 0, 0],
+        Refusal::AboveLargest(i) => [11, 0, 0, i],
+        Refusal::NotPredicted(i) => [12, 0, 0, i],
+        Refusal::ShortOutput => [13, 0, 0, 0],
+        Refusal::Truncated(b, l) => [14, b, l, 0],
+        Refusal::NotTight(l) => [15, 0, l, 0],
+    }
 }
 
 pub struct FujiHeader {

@@ -6,7 +6,7 @@ use Prim.Native.Nat.{_+_, _-_, _*_, _≤_}
 use native.Mathlib.Omega.{arith}
 use Rattle.map.specs.Places.{emittedSample}
 use Rattle.map.specs.Rows.{RowsPut}
-use Rattle.map.proofs.PartLaws.{put-none, put-join, put-emitted, fits-kept}
+use Rattle.map.proofs.PartLaws.{put-none, put-join, fits-kept}
 use Rattle.map.proofs.emit_line.Statement.{statement}
 use Rattle.map.proofs.emit_line.Tie as tie
 
@@ -39,7 +39,7 @@ loop-again c =
 returns : tie.Need-returns Inv-loop μ-loop
 returns c =
     let e : c .before .loop .r ≡ 6 = omega arith in
-    put-emitted _ _ _ _ _ _ _ _ (rw e at (c .before .loop .inv .1))
+    rw e at (c .before .loop .inv .1)
 
 pub emit-line-spec : {M : Type 1} → statement M
 emit-line-spec =

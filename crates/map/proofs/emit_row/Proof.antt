@@ -82,8 +82,9 @@ loop-again-2 c =
 returns : tie.Need-returns Inv-loop μ-loop
 returns c =
     let l = c .before .loop in
-    let e : l .p ≡ c .before .before .before .before .before .args .right = omega arith in
-    row-emitted _ _ _ _ _ _ _ _ _ _ _ (c .before .before .starts-of .ensures) (rw e at (l .inv .2))
+    let a = c .before .before .before .before .before .args in
+    let e : l .p ≡ a .right = omega arith in
+    row-emitted (a .xtrans) _ _ (a .lines .now) _ _ _ _ _ _ _ (c .before .before .starts-of .ensures) (rw e at (l .inv .2))
 
 pub emit-row-spec : {M : Type 1} → statement M
 emit-row-spec =

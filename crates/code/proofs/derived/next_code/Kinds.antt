@@ -28,18 +28,18 @@ abbrev pub r : Kinds.RK 2
 r = Kinds.rWhere (List._∷_ record { long = 1; short = 0; long-ok = tt; short-ok = tt } List.[]) (Value.rVal record {
   ty = Declared.row Coded.the-type;
   one = Path'.refl;
-  val = Laws'.val Coded.the-type
-      Laws.the-laws;
+  val = Laws'.val Coded.the-type Laws.the-laws;
   tells = Laws'.tells Coded.the-type Laws.the-laws;
-  still = Laws'.still Coded.the-type Laws.the-copy Exit.yes;
+  still = Laws'.still Coded.the-type Laws.the-copy
+      Exit.yes;
   row = Rows.whole (Declared.row Coded.the-type);
   rd = λ x. x;
   mk = λ x. x;
-}
-    λ M 𝓤 H A W. record {
-      copies = Laws'.copy Coded.the-type Laws.the-copy 𝓤 H A W;
-      lawful = Laws'.lawful Coded.the-type Laws.the-laws 𝓤 H A W tt;
-      makes = Laws'.makes Coded.the-type Laws.the-plain 𝓤 H A;
-      in-mem = Local.mem-whole 𝓤 H A W (Declared.row Coded.the-type);
-      of-mem = Local.whole-mem 𝓤 H A W (Declared.row Coded.the-type);
-    })
+} λ M 𝓤 H A W. record {
+  copies = Laws'.copy Coded.the-type Laws.the-copy 𝓤 H A W;
+  lawful = Laws'.lawful Coded.the-type Laws.the-laws 𝓤 H A W tt;
+  makes = Laws'.makes Coded.the-type Laws.the-plain 𝓤 H A;
+  in-mem =
+      Local.mem-whole 𝓤 H A W (Declared.row Coded.the-type);
+  of-mem = Local.whole-mem 𝓤 H A W (Declared.row Coded.the-type);
+})

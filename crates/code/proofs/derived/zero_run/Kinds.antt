@@ -27,19 +27,18 @@ abbrev pub r : Kinds.RK 2
 r = Kinds.rWhere (List._∷_ record { long = 1; short = 0; long-ok = tt; short-ok = tt } List.[]) (Value.rVal record {
   ty = Declared.row ZeroRun.the-type;
   one = Path'.refl;
-  val = Laws'.val
-      ZeroRun.the-type Laws.the-laws;
+  val = Laws'.val ZeroRun.the-type Laws.the-laws;
   tells = Laws'.tells ZeroRun.the-type Laws.the-laws;
-  still = Laws'.still ZeroRun.the-type Laws.the-copy Exit.yes;
+  still = Laws'.still ZeroRun.the-type
+      Laws.the-copy Exit.yes;
   row = Rows.whole (Declared.row ZeroRun.the-type);
-  rd =
-      λ x. x;
+  rd = λ x. x;
   mk = λ x. x;
 } λ M 𝓤 H A W. record {
   copies = Laws'.copy ZeroRun.the-type Laws.the-copy 𝓤 H A W;
   lawful = Laws'.lawful ZeroRun.the-type Laws.the-laws 𝓤 H A W tt;
-  makes = Laws'.makes
-      ZeroRun.the-type Laws.the-plain 𝓤 H A;
-  in-mem = Local.mem-whole 𝓤 H A W (Declared.row ZeroRun.the-type);
+  makes = Laws'.makes ZeroRun.the-type Laws.the-plain 𝓤 H A;
+  in-mem =
+      Local.mem-whole 𝓤 H A W (Declared.row ZeroRun.the-type);
   of-mem = Local.whole-mem 𝓤 H A W (Declared.row ZeroRun.the-type);
 })

@@ -27,20 +27,17 @@ abbrev pub r : Kinds.RK 2
 r = Kinds.rWhere (List._∷_ record { long = 1; short = 0; long-ok = tt; short-ok = tt } List.[]) (Value.rVal record {
   ty = Declared.row BitPosition.the-type;
   one = Path'.refl;
-  val = Laws'.val
-      BitPosition.the-type Laws.the-laws;
+  val = Laws'.val BitPosition.the-type Laws.the-laws;
   tells = Laws'.tells BitPosition.the-type Laws.the-laws;
-  still = Laws'.still BitPosition.the-type Laws.the-copy Exit.yes;
-  row = Rows.whole (Declared.row
-      BitPosition.the-type);
+  still = Laws'.still
+      BitPosition.the-type Laws.the-copy Exit.yes;
+  row = Rows.whole (Declared.row BitPosition.the-type);
   rd = λ x. x;
   mk = λ x. x;
 } λ M 𝓤 H A W. record {
   copies = Laws'.copy BitPosition.the-type Laws.the-copy 𝓤 H A W;
-  lawful = Laws'.lawful BitPosition.the-type Laws.the-laws 𝓤 H A
-      W;
+  lawful = Laws'.lawful BitPosition.the-type Laws.the-laws 𝓤 H A W;
   makes = Laws'.makes BitPosition.the-type Laws.the-plain 𝓤 H A;
   in-mem = Local.mem-whole 𝓤 H A W (Declared.row BitPosition.the-type);
-  of-mem = Local.whole-mem 𝓤 H A W (Declared.row
-      BitPosition.the-type);
+  of-mem = Local.whole-mem 𝓤 H A W (Declared.row BitPosition.the-type);
 })

@@ -27,18 +27,18 @@ abbrev pub r : Kinds.RK 2
 r = Kinds.rWhere (List._∷_ record { long = 1; short = 0; long-ok = tt; short-ok = tt } List.[]) (Value.rVal record {
   ty = Declared.row ByteOffset.the-type;
   one = Path'.refl;
-  val = Laws'.val
-      ByteOffset.the-type Laws.the-laws;
+  val = Laws'.val ByteOffset.the-type Laws.the-laws;
   tells = Laws'.tells ByteOffset.the-type Laws.the-laws;
-  still = Laws'.still ByteOffset.the-type Laws.the-copy Exit.yes;
-  row = Rows.whole (Declared.row
-      ByteOffset.the-type);
+  still = Laws'.still
+      ByteOffset.the-type Laws.the-copy Exit.yes;
+  row = Rows.whole (Declared.row ByteOffset.the-type);
   rd = λ x. x;
   mk = λ x. x;
 } λ M 𝓤 H A W. record {
   copies = Laws'.copy ByteOffset.the-type Laws.the-copy 𝓤 H A W;
   lawful = Laws'.lawful ByteOffset.the-type Laws.the-laws 𝓤 H A W;
   makes = Laws'.makes ByteOffset.the-type Laws.the-plain 𝓤 H A;
-  in-mem = Local.mem-whole 𝓤 H A W (Declared.row ByteOffset.the-type);
+  in-mem =
+      Local.mem-whole 𝓤 H A W (Declared.row ByteOffset.the-type);
   of-mem = Local.whole-mem 𝓤 H A W (Declared.row ByteOffset.the-type);
 })

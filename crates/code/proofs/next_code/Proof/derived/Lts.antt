@@ -79,6 +79,14 @@ use prog.Wp
 use types.Kit
 use types.Run
 
+abbrev pub y0 : Syntax.Ty
+y0 = Syntax.tyStruct (List._∷_ 98 (List._∷_ 105 (List._∷_ 116 (List._∷_ 115 (List._∷_ 58 (List._∷_ 58 (List._∷_ 66 (List._∷_ 105 (List._∷_ 116 (List._∷_ 80 (List._∷_ 111 (List._∷_ 115 (List._∷_ 105
+    (List._∷_ 116 (List._∷_ 105 (List._∷_ 111 (List._∷_ 110 List.[]))))))))))))))))) (Syntax.tcons (Syntax.tyInt Syntax.w64) Syntax.tnil)
+
+abbrev pub y1 : Syntax.Ty
+y1 = Syntax.tyStruct (List._∷_ 99 (List._∷_ 111 (List._∷_ 100 (List._∷_ 101 (List._∷_ 58 (List._∷_ 58 (List._∷_ 67 (List._∷_ 111 (List._∷_ 100 (List._∷_ 101 List.[])))))))))) (Syntax.tcons
+    (Syntax.tyInt Syntax.w64) (Syntax.tcons (Syntax.tyInt Syntax.w32) (Syntax.tcons Syntax.tyBool (Syntax.tcons y0 Syntax.tnil))))
+
 abbrev pub ps : List.List (Kinds.PK 2)
 ps = List._∷_ (MutRefTo.pMutTo (Held.slot 1 tt) (Syntax.wrote (Held.behind (Syntax.named 1))) (λ κs. Path'.refl) Held.Value (AtSlots.one-type 2 Held.Value) 0 tt) (List._∷_ (Num.pNum Syntax.w32)
     (List._∷_ (Num.pNum Syntax.w32) (List._∷_ (Num.pNum Syntax.w32) List.[])))
@@ -87,40 +95,29 @@ abbrev pub r : Kinds.RK 2
 r = Kinds.rWhere (List._∷_ record { long = 1; short = 0; long-ok = tt; short-ok = tt } List.[]) (Value.rVal record {
   ty = Declared.row Coded.the-type;
   one = Path'.refl;
-  val = Laws'4.val Coded.the-type
-      Laws'3.the-laws;
+  val = Laws'4.val Coded.the-type Laws'3.the-laws;
   tells = Laws'4.tells Coded.the-type Laws'3.the-laws;
-  still = Laws'4.still Coded.the-type Laws'3.the-copy Exit.yes;
+  still = Laws'4.still Coded.the-type
+      Laws'3.the-copy Exit.yes;
   row = Rows.whole (Declared.row Coded.the-type);
   rd = λ x. x;
-  mk = λ
-      x. x;
+  mk = λ x. x;
 } λ M 𝓤 H A W. record {
   copies = Laws'4.copy Coded.the-type Laws'3.the-copy 𝓤 H A W;
   lawful = Laws'4.lawful Coded.the-type Laws'3.the-laws 𝓤 H A W tt;
-  makes = Laws'4.makes Coded.the-type
-      Laws'3.the-plain 𝓤 H A;
-  in-mem = Local.mem-whole 𝓤 H A W (Declared.row Coded.the-type);
+  makes = Laws'4.makes Coded.the-type Laws'3.the-plain 𝓤 H A;
+  in-mem =
+      Local.mem-whole 𝓤 H A W (Declared.row Coded.the-type);
   of-mem = Local.whole-mem 𝓤 H A W (Declared.row Coded.the-type);
 })
 
 abbrev pub xs : List.List Syntax.Ty
 xs = List._∷_ (Syntax.tyEnum (List._∷_ 98 (List._∷_ 105 (List._∷_ 116 (List._∷_ 115 (List._∷_ 58 (List._∷_ 58 (List._∷_ 90 (List._∷_ 101 (List._∷_ 114 (List._∷_ 111 (List._∷_ 82 (List._∷_ 117
     (List._∷_ 110 List.[]))))))))))))) (Syntax.ttcons (Syntax.tcons (Syntax.tyInt Syntax.w64) Syntax.tnil) (Syntax.ttcons Syntax.tnil Syntax.ttnil))) (List._∷_ (Syntax.tyInt Syntax.w64) (List._∷_
-    (Syntax.tyInt Syntax.w32) (List._∷_ (Syntax.tyStruct (List._∷_ 98 (List._∷_ 105 (List._∷_ 116 (List._∷_ 115 (List._∷_ 58 (List._∷_ 58 (List._∷_ 66 (List._∷_ 105 (List._∷_ 116 (List._∷_ 80 (List._∷_
-    111 (List._∷_ 115 (List._∷_ 105 (List._∷_ 116 (List._∷_ 105 (List._∷_ 111 (List._∷_ 110 List.[]))))))))))))))))) (Syntax.tcons (Syntax.tyInt Syntax.w64) Syntax.tnil)) (List._∷_ (Syntax.tyInt
-    Syntax.w32) (List._∷_ (Syntax.tyStruct (List._∷_ 98 (List._∷_ 105 (List._∷_ 116 (List._∷_ 115 (List._∷_ 58 (List._∷_ 58 (List._∷_ 66 (List._∷_ 105 (List._∷_ 116 (List._∷_ 80 (List._∷_ 111 (List._∷_
-    115 (List._∷_ 105 (List._∷_ 116 (List._∷_ 105 (List._∷_ 111 (List._∷_ 110 List.[]))))))))))))))))) (Syntax.tcons (Syntax.tyInt Syntax.w64) Syntax.tnil)) (List._∷_ (Syntax.tyRef Syntax.erased
-    Syntax.mut (Held.behind Syntax.erased)) (List._∷_ (Syntax.tyInt Syntax.w64) (List._∷_ Syntax.tyBool (List._∷_ (Syntax.tyRef Syntax.erased Syntax.mut (Held.behind Syntax.erased)) (List._∷_
-    (Syntax.tyRef Syntax.erased Syntax.imm (Held.behind Syntax.erased)) (List._∷_ (Syntax.tyInt Syntax.w32) (List._∷_ (Syntax.tyInt Syntax.w32) (List._∷_ (Syntax.tyInt Syntax.w32) (List._∷_
-    (Syntax.tyStruct (List._∷_ 99 (List._∷_ 111 (List._∷_ 100 (List._∷_ 101 (List._∷_ 58 (List._∷_ 58 (List._∷_ 67 (List._∷_ 111 (List._∷_ 100 (List._∷_ 101 List.[])))))))))) (Syntax.tcons (Syntax.tyInt
-    Syntax.w64) (Syntax.tcons (Syntax.tyInt Syntax.w32) (Syntax.tcons Syntax.tyBool (Syntax.tcons (Syntax.tyStruct (List._∷_ 98 (List._∷_ 105 (List._∷_ 116 (List._∷_ 115 (List._∷_ 58 (List._∷_ 58
-    (List._∷_ 66 (List._∷_ 105 (List._∷_ 116 (List._∷_ 80 (List._∷_ 111 (List._∷_ 115 (List._∷_ 105 (List._∷_ 116 (List._∷_ 105 (List._∷_ 111 (List._∷_ 110 List.[]))))))))))))))))) (Syntax.tcons
-    (Syntax.tyInt Syntax.w64) Syntax.tnil)) Syntax.tnil))))) (List._∷_ (Syntax.tyInt Syntax.w32) (List._∷_ (Syntax.tyRef Syntax.erased Syntax.mut (Held.behind Syntax.erased)) (List._∷_ (Syntax.tyRef
-    Syntax.erased Syntax.imm (Held.behind Syntax.erased)) (List._∷_ (Syntax.tyStruct (List._∷_ 99 (List._∷_ 111 (List._∷_ 100 (List._∷_ 101 (List._∷_ 58 (List._∷_ 58 (List._∷_ 67 (List._∷_ 111 (List._∷_
-    100 (List._∷_ 101 List.[])))))))))) (Syntax.tcons (Syntax.tyInt Syntax.w64) (Syntax.tcons (Syntax.tyInt Syntax.w32) (Syntax.tcons Syntax.tyBool (Syntax.tcons (Syntax.tyStruct (List._∷_ 98 (List._∷_
-    105 (List._∷_ 116 (List._∷_ 115 (List._∷_ 58 (List._∷_ 58 (List._∷_ 66 (List._∷_ 105 (List._∷_ 116 (List._∷_ 80 (List._∷_ 111 (List._∷_ 115 (List._∷_ 105 (List._∷_ 116 (List._∷_ 105 (List._∷_ 111
-    (List._∷_ 110 List.[]))))))))))))))))) (Syntax.tcons (Syntax.tyInt Syntax.w64) Syntax.tnil)) Syntax.tnil))))) List.[]))))))))))))))))))
+    (Syntax.tyInt Syntax.w32) (List._∷_ y0 (List._∷_ (Syntax.tyInt Syntax.w32) (List._∷_ y0 (List._∷_ (Syntax.tyRef Syntax.erased Syntax.mut (Held.behind Syntax.erased)) (List._∷_ (Syntax.tyInt
+    Syntax.w64) (List._∷_ Syntax.tyBool (List._∷_ (Syntax.tyRef Syntax.erased Syntax.mut (Held.behind Syntax.erased)) (List._∷_ (Syntax.tyRef Syntax.erased Syntax.imm (Held.behind Syntax.erased))
+    (List._∷_ (Syntax.tyInt Syntax.w32) (List._∷_ (Syntax.tyInt Syntax.w32) (List._∷_ (Syntax.tyInt Syntax.w32) (List._∷_ y1 (List._∷_ (Syntax.tyInt Syntax.w32) (List._∷_ (Syntax.tyRef Syntax.erased
+    Syntax.mut (Held.behind Syntax.erased)) (List._∷_ (Syntax.tyRef Syntax.erased Syntax.imm (Held.behind Syntax.erased)) (List._∷_ y1 List.[]))))))))))))))))))
 
 abbrev pub m : Nat.ℕ
 m = 10
@@ -132,19 +129,19 @@ abbrev pub r·0 : Kinds.RK 2
 r·0 = Kinds.rWhere (List._∷_ record { long = 1; short = 0; long-ok = tt; short-ok = tt } List.[]) (Value.rVal record {
   ty = Declared.row ZeroRun.the-type;
   one = Path'.refl;
-  val = Laws'4.val
-      ZeroRun.the-type Laws'.the-laws;
+  val = Laws'4.val ZeroRun.the-type Laws'.the-laws;
   tells = Laws'4.tells ZeroRun.the-type Laws'.the-laws;
-  still = Laws'4.still ZeroRun.the-type Laws'.the-copy Exit.yes;
+  still = Laws'4.still ZeroRun.the-type
+      Laws'.the-copy Exit.yes;
   row = Rows.whole (Declared.row ZeroRun.the-type);
   rd = λ x. x;
   mk = λ x. x;
 } λ M 𝓤 H A W. record {
   copies = Laws'4.copy ZeroRun.the-type Laws'.the-copy 𝓤 H A W;
   lawful = Laws'4.lawful ZeroRun.the-type Laws'.the-laws 𝓤 H A W tt;
-  makes = Laws'4.makes
-      ZeroRun.the-type Laws'.the-plain 𝓤 H A;
-  in-mem = Local.mem-whole 𝓤 H A W (Declared.row ZeroRun.the-type);
+  makes = Laws'4.makes ZeroRun.the-type Laws'.the-plain 𝓤 H A;
+  in-mem =
+      Local.mem-whole 𝓤 H A W (Declared.row ZeroRun.the-type);
   of-mem = Local.whole-mem 𝓤 H A W (Declared.row ZeroRun.the-type);
 })
 
@@ -162,22 +159,19 @@ abbrev pub r·2 : Kinds.RK 2
 r·2 = Kinds.rWhere (List._∷_ record { long = 1; short = 0; long-ok = tt; short-ok = tt } List.[]) (Value.rVal record {
   ty = Declared'.row BitPosition.the-type;
   one = Path'.refl;
-  val = Laws'5.val
-      BitPosition.the-type Laws.the-laws;
+  val = Laws'5.val BitPosition.the-type Laws.the-laws;
   tells = Laws'5.tells BitPosition.the-type Laws.the-laws;
-  still = Laws'5.still BitPosition.the-type Laws.the-copy Exit.yes;
-  row = Rows.whole (Declared'.row
-      BitPosition.the-type);
+  still = Laws'5.still
+      BitPosition.the-type Laws.the-copy Exit.yes;
+  row = Rows.whole (Declared'.row BitPosition.the-type);
   rd = λ x. x;
   mk = λ x. x;
 } λ M 𝓤 H A W. record {
   copies = Laws'5.copy BitPosition.the-type Laws.the-copy 𝓤 H A W;
-  lawful = Laws'5.lawful BitPosition.the-type Laws.the-laws 𝓤 H
-      A W;
+  lawful = Laws'5.lawful BitPosition.the-type Laws.the-laws 𝓤 H A W;
   makes = Laws'5.makes BitPosition.the-type Laws.the-plain 𝓤 H A;
   in-mem = Local.mem-whole 𝓤 H A W (Declared'.row BitPosition.the-type);
-  of-mem = Local.whole-mem 𝓤 H A W (Declared'.row
-      BitPosition.the-type);
+  of-mem = Local.whole-mem 𝓤 H A W (Declared'.row BitPosition.the-type);
 })
 
 abbrev pub ps·3 : List.List (Kinds.PK 0)
@@ -361,1936 +355,415 @@ body = b52
 abbrev pub Claims : Type 1
 Claims = Kinds.In 2 ps·0 × Kinds.Out 2 ps·0 r·0 × Kinds.In 2 ps·1 × Kinds.Out 2 ps·1 r·1 × Kinds.In 2 ps·2 × Kinds.Out 2 ps·2 r·2 × Kinds.In 0 ps·3 × Kinds.Out 0 ps·3 r·3
 
-abbrev pub t0 : List.List Row.Entry
-t0 = List._∷_ (
+abbrev pub e0 : Row.Entry
+e0 = (
   0,
   Rows.any-gone (Syntax.tyEnum (List._∷_ 99 (List._∷_ 111 (List._∷_ 100 (List._∷_ 101 (List._∷_ 58 (List._∷_ 58 (List._∷_ 67 (List._∷_ 111 (List._∷_ 100 (List._∷_ 101 (List._∷_ 100
-      List.[]))))))))))) (Syntax.ttcons (Syntax.tcons (Syntax.tyStruct (List._∷_ 99 (List._∷_ 111 (List._∷_ 100 (List._∷_ 101 (List._∷_ 58 (List._∷_ 58 (List._∷_ 67 (List._∷_ 111 (List._∷_ 100 (List._∷_ 101
-      List.[])))))))))) (Syntax.tcons (Syntax.tyInt Syntax.w64) (Syntax.tcons (Syntax.tyInt Syntax.w32) (Syntax.tcons Syntax.tyBool (Syntax.tcons (Syntax.tyStruct (List._∷_ 98 (List._∷_ 105 (List._∷_ 116
-      (List._∷_ 115 (List._∷_ 58 (List._∷_ 58 (List._∷_ 66 (List._∷_ 105 (List._∷_ 116 (List._∷_ 80 (List._∷_ 111 (List._∷_ 115 (List._∷_ 105 (List._∷_ 116 (List._∷_ 105 (List._∷_ 111 (List._∷_ 110
-      List.[]))))))))))))))))) (Syntax.tcons (Syntax.tyInt Syntax.w64) Syntax.tnil)) Syntax.tnil))))) Syntax.tnil) (Syntax.ttcons Syntax.tnil Syntax.ttnil))),
-) (List._∷_ (
-  1,
-  Rows.mref (Held.type
-      (Syntax.named 1) List.[]) (Syntax.tyRef (Syntax.named 0) Syntax.mut (Held.behind (Syntax.named 1))) 0,
-) (List._∷_ (2, Rows.sc-here (Row.sInt Syntax.w32)) (List._∷_ (
-  3,
-  Rows.sc-here (Row.sInt
-      Syntax.w32),
-) (List._∷_ (4, Rows.sc-here (Row.sInt Syntax.w32)) (List._∷_ (
+      List.[]))))))))))) (Syntax.ttcons (Syntax.tcons y1 Syntax.tnil) (Syntax.ttcons Syntax.tnil Syntax.ttnil))),
+)
+
+abbrev pub e1 : Row.Entry
+e1 = (0, Rows.whole (Declared.row Coded.the-type))
+
+abbrev pub e2 : Row.Entry
+e2 = (1, Reshare.mref-owedS (Held.type (Syntax.named 1) List.[]) (Syntax.tyRef (Syntax.named 0) Syntax.mut (Held.behind (Syntax.named 1))) 0 4 Row.off)
+
+abbrev pub e3 : Row.Entry
+e3 = (1, Reshare.mref-owedS (Held.type (Syntax.named 1) List.[]) (Syntax.tyRef (Syntax.named 0) Syntax.mut (Held.behind (Syntax.named 1))) 0 6 Row.off)
+
+abbrev pub e4 : Row.Entry
+e4 = (1, Rows.mref (Held.type (Syntax.named 1) List.[]) (Syntax.tyRef (Syntax.named 0) Syntax.mut (Held.behind (Syntax.named 1))) 0)
+
+abbrev pub e5 : Row.Entry
+e5 = (1, Rows.mref-owed (Held.type (Syntax.named 1) List.[]) (Syntax.tyRef (Syntax.named 0) Syntax.mut (Held.behind (Syntax.named 1))) 0 2 Row.off)
+
+abbrev pub e6 : Row.Entry
+e6 = (1, Rows.mref-owed (Held.type (Syntax.named 1) List.[]) (Syntax.tyRef (Syntax.named 0) Syntax.mut (Held.behind (Syntax.named 1))) 0 3 Row.off)
+
+abbrev pub e7 : Row.Entry
+e7 = (10, Rows.any-gone y0)
+
+abbrev pub e8 : Row.Entry
+e8 = (10, Rows.whole (Declared'.row BitPosition.the-type))
+
+abbrev pub e9 : Row.Entry
+e9 = (11, AtSlots.mleftAt 2 (λ κc. Held.type (Syntax.named 1) (κc .1 .0)) Held.Value (λ κc v. v) (List._∷_ 7 (List._∷_ 1 List.[])) (Syntax.tyRef Syntax.erased Syntax.mut (Held.behind Syntax.erased)))
+
+abbrev pub e10 : Row.Entry
+e10 =
+    (11, AtSlots.mrefAt 2 (λ κc. Held.type (Syntax.named 1) (κc .1 .0)) Held.Value (λ κc v. v) (List._∷_ 7 (List._∷_ 1 List.[])) (Syntax.tyRef Syntax.erased Syntax.mut (Held.behind Syntax.erased)) 7)
+
+abbrev pub e11 : Row.Entry
+e11 = (11, Rows.any-gone (Syntax.tyRef Syntax.erased Syntax.mut (Held.behind Syntax.erased)))
+
+abbrev pub e12 : Row.Entry
+e12 = (12, Rows.any-gone (Syntax.tyInt Syntax.w64))
+
+abbrev pub e13 : Row.Entry
+e13 = (12, Rows.sc-here (Row.sInt Syntax.w64))
+
+abbrev pub e14 : Row.Entry
+e14 = (13, Rows.any-gone Syntax.tyBool)
+
+abbrev pub e15 : Row.Entry
+e15 = (13, Rows.sc-here Row.sBool)
+
+abbrev pub e16 : Row.Entry
+e16 = (14, AtSlots.mleftAt 2 (λ κc. Held.type (Syntax.named 1) (κc .1 .0)) Held.Value (λ κc v. v) (List._∷_ 8 (List._∷_ 1 List.[])) (Syntax.tyRef Syntax.erased Syntax.mut (Held.behind Syntax.erased)))
+
+abbrev pub e17 : Row.Entry
+e17 =
+    (14, AtSlots.mrefAt 2 (λ κc. Held.type (Syntax.named 1) (κc .1 .0)) Held.Value (λ κc v. v) (List._∷_ 8 (List._∷_ 1 List.[])) (Syntax.tyRef Syntax.erased Syntax.mut (Held.behind Syntax.erased)) 8)
+
+abbrev pub e18 : Row.Entry
+e18 = (14, Rows.any-gone (Syntax.tyRef Syntax.erased Syntax.mut (Held.behind Syntax.erased)))
+
+abbrev pub e19 : Row.Entry
+e19 =
+    (15, AtSlots.srefAt 2 (λ κc. Held.type (Syntax.named 1) (κc .1 .0)) Held.Value (λ κc v. v) (List._∷_ 9 (List._∷_ 1 List.[])) (Syntax.tyRef Syntax.erased Syntax.imm (Held.behind Syntax.erased)) 9)
+
+abbrev pub e20 : Row.Entry
+e20 = (15, Rows.any-gone (Syntax.tyRef Syntax.erased Syntax.imm (Held.behind Syntax.erased)))
+
+abbrev pub e21 : Row.Entry
+e21 = (15, Rows.sref (Held.type (Syntax.named 1) List.[]) (Syntax.tyRef Syntax.erased Syntax.imm (Held.behind Syntax.erased)) 9)
+
+abbrev pub e22 : Row.Entry
+e22 = (16, Rows.any-gone (Syntax.tyInt Syntax.w32))
+
+abbrev pub e23 : Row.Entry
+e23 = (16, Rows.sc-here (Row.sInt Syntax.w32))
+
+abbrev pub e24 : Row.Entry
+e24 = (17, Rows.any-gone (Syntax.tyInt Syntax.w32))
+
+abbrev pub e25 : Row.Entry
+e25 = (17, Rows.sc-here (Row.sInt Syntax.w32))
+
+abbrev pub e26 : Row.Entry
+e26 = (18, Rows.any-gone (Syntax.tyInt Syntax.w32))
+
+abbrev pub e27 : Row.Entry
+e27 = (18, Rows.sc-here (Row.sInt Syntax.w32))
+
+abbrev pub e28 : Row.Entry
+e28 = (19, Rows.any-gone y1)
+
+abbrev pub e29 : Row.Entry
+e29 = (19, Rows.whole (Declared'.row (Apart.apartT Code.the-type)))
+
+abbrev pub e30 : Row.Entry
+e30 = (2, Rows.any-gone (Syntax.tyInt Syntax.w32))
+
+abbrev pub e31 : Row.Entry
+e31 = (2, Rows.sc-here (Row.sInt Syntax.w32))
+
+abbrev pub e32 : Row.Entry
+e32 = (20, Rows.any-gone (Syntax.tyInt Syntax.w32))
+
+abbrev pub e33 : Row.Entry
+e33 = (20, Rows.sc-here (Row.sInt Syntax.w32))
+
+abbrev pub e34 : Row.Entry
+e34 =
+    (21, AtSlots.mleftAt 2 (λ κc. Held.type (Syntax.named 1) (κc .1 .0)) Held.Value (λ κc v. v) (List._∷_ 10 (List._∷_ 1 List.[])) (Syntax.tyRef Syntax.erased Syntax.mut (Held.behind Syntax.erased)))
+
+abbrev pub e35 : Row.Entry
+e35 =
+    (21, AtSlots.mrefAt 2 (λ κc. Held.type (Syntax.named 1) (κc .1 .0)) Held.Value (λ κc v. v) (List._∷_ 10 (List._∷_ 1 List.[])) (Syntax.tyRef Syntax.erased Syntax.mut (Held.behind Syntax.erased)) 10)
+
+abbrev pub e36 : Row.Entry
+e36 = (21, Rows.any-gone (Syntax.tyRef Syntax.erased Syntax.mut (Held.behind Syntax.erased)))
+
+abbrev pub e37 : Row.Entry
+e37 =
+    (22, AtSlots.srefAt 2 (λ κc. Held.type (Syntax.named 1) (κc .1 .0)) Held.Value (λ κc v. v) (List._∷_ 11 (List._∷_ 1 List.[])) (Syntax.tyRef Syntax.erased Syntax.imm (Held.behind Syntax.erased)) 11)
+
+abbrev pub e38 : Row.Entry
+e38 = (22, Rows.any-gone (Syntax.tyRef Syntax.erased Syntax.imm (Held.behind Syntax.erased)))
+
+abbrev pub e39 : Row.Entry
+e39 = (23, Rows.any-gone y1)
+
+abbrev pub e40 : Row.Entry
+e40 = (3, Rows.any-gone (Syntax.tyInt Syntax.w32))
+
+abbrev pub e41 : Row.Entry
+e41 = (3, Rows.sc-here (Row.sInt Syntax.w32))
+
+abbrev pub e42 : Row.Entry
+e42 = (4, Rows.any-gone (Syntax.tyInt Syntax.w32))
+
+abbrev pub e43 : Row.Entry
+e43 = (4, Rows.sc-here (Row.sInt Syntax.w32))
+
+abbrev pub e44 : Row.Entry
+e44 = (
   5,
-  Rows.any-gone (Syntax.tyEnum (List._∷_ 98 (List._∷_ 105 (List._∷_ 116 (List._∷_ 115 (List._∷_ 58 (List._∷_ 58 (List._∷_
-      90 (List._∷_ 101 (List._∷_ 114 (List._∷_ 111 (List._∷_ 82 (List._∷_ 117 (List._∷_ 110 List.[]))))))))))))) (Syntax.ttcons (Syntax.tcons (Syntax.tyInt Syntax.w64) Syntax.tnil) (Syntax.ttcons
-      Syntax.tnil Syntax.ttnil))),
-) (List._∷_ (6, Rows.any-gone (Syntax.tyInt Syntax.w64)) (List._∷_ (7, Rows.any-gone (Syntax.tyInt Syntax.w32)) (List._∷_ (
-  8,
-  Rows.any-gone (Syntax.tyStruct (List._∷_
-      98 (List._∷_ 105 (List._∷_ 116 (List._∷_ 115 (List._∷_ 58 (List._∷_ 58 (List._∷_ 66 (List._∷_ 105 (List._∷_ 116 (List._∷_ 80 (List._∷_ 111 (List._∷_ 115 (List._∷_ 105 (List._∷_ 116 (List._∷_ 105
-      (List._∷_ 111 (List._∷_ 110 List.[]))))))))))))))))) (Syntax.tcons (Syntax.tyInt Syntax.w64) Syntax.tnil)),
-) (List._∷_ (9, Rows.any-gone (Syntax.tyInt Syntax.w32)) (List._∷_ (
-  10,
-  Rows.any-gone
-      (Syntax.tyStruct (List._∷_ 98 (List._∷_ 105 (List._∷_ 116 (List._∷_ 115 (List._∷_ 58 (List._∷_ 58 (List._∷_ 66 (List._∷_ 105 (List._∷_ 116 (List._∷_ 80 (List._∷_ 111 (List._∷_ 115 (List._∷_ 105
-      (List._∷_ 116 (List._∷_ 105 (List._∷_ 111 (List._∷_ 110 List.[]))))))))))))))))) (Syntax.tcons (Syntax.tyInt Syntax.w64) Syntax.tnil)),
-) (List._∷_ (
-  11,
-  Rows.any-gone (Syntax.tyRef Syntax.erased
-      Syntax.mut (Held.behind Syntax.erased)),
-) (List._∷_ (12, Rows.any-gone (Syntax.tyInt Syntax.w64)) (List._∷_ (13, Rows.any-gone Syntax.tyBool) (List._∷_ (
-  14,
-  Rows.any-gone (Syntax.tyRef
-      Syntax.erased Syntax.mut (Held.behind Syntax.erased)),
-) (List._∷_ (15, Rows.any-gone (Syntax.tyRef Syntax.erased Syntax.imm (Held.behind Syntax.erased))) List.[])))))))))))))))
+  Rows.any-gone (Syntax.tyEnum (List._∷_ 98 (List._∷_ 105 (List._∷_ 116 (List._∷_ 115 (List._∷_ 58 (List._∷_ 58 (List._∷_ 90 (List._∷_ 101 (List._∷_ 114 (List._∷_ 111 (List._∷_ 82 (List._∷_ 117
+      (List._∷_ 110 List.[]))))))))))))) (Syntax.ttcons (Syntax.tcons (Syntax.tyInt Syntax.w64) Syntax.tnil) (Syntax.ttcons Syntax.tnil Syntax.ttnil))),
+)
+
+abbrev pub e45 : Row.Entry
+e45 = (5, Rows.whole (Declared.row ZeroRun.the-type))
+
+abbrev pub e46 : Row.Entry
+e46 = (5, Rows.whole (Known.Known ZeroRun.enum 0))
+
+abbrev pub e47 : Row.Entry
+e47 = (6, Rows.any-gone (Syntax.tyInt Syntax.w64))
+
+abbrev pub e48 : Row.Entry
+e48 = (6, Rows.sc-here (Row.sInt Syntax.w64))
+
+abbrev pub e49 : Row.Entry
+e49 = (7, Rows.any-gone (Syntax.tyInt Syntax.w32))
+
+abbrev pub e50 : Row.Entry
+e50 = (7, Rows.sc-here (Row.sInt Syntax.w32))
+
+abbrev pub e51 : Row.Entry
+e51 = (8, Rows.any-gone y0)
+
+abbrev pub e52 : Row.Entry
+e52 = (8, Rows.whole (Declared'.row BitPosition.the-type))
+
+abbrev pub e53 : Row.Entry
+e53 = (9, Rows.any-gone (Syntax.tyInt Syntax.w32))
+
+abbrev pub e54 : Row.Entry
+e54 = (9, Rows.sc-here (Row.sInt Syntax.w32))
+
+abbrev pub t0 : List.List Row.Entry
+t0 = List._∷_ e0 (List._∷_ e4 (List._∷_ e31 (List._∷_ e41 (List._∷_ e43 (List._∷_ e44 (List._∷_ e47 (List._∷_ e49 (List._∷_ e51 (List._∷_ e53 (List._∷_ e7 (List._∷_ e11 (List._∷_ e12 (List._∷_ e14
+    (List._∷_ e18 (List._∷_ e20 List.[])))))))))))))))
 
 abbrev pub t1 : List.List Row.Entry
-t1 = List._∷_ (16, Rows.any-gone (Syntax.tyInt Syntax.w32)) (List._∷_ (17, Rows.any-gone (Syntax.tyInt Syntax.w32)) (List._∷_ (18, Rows.any-gone (Syntax.tyInt Syntax.w32)) (List._∷_ (
-  19,
-  Rows.any-gone (Syntax.tyStruct (List._∷_ 99 (List._∷_ 111 (List._∷_ 100 (List._∷_ 101 (List._∷_ 58 (List._∷_ 58 (List._∷_ 67 (List._∷_ 111 (List._∷_ 100 (List._∷_ 101 List.[])))))))))) (Syntax.tcons
-      (Syntax.tyInt Syntax.w64) (Syntax.tcons (Syntax.tyInt Syntax.w32) (Syntax.tcons Syntax.tyBool (Syntax.tcons (Syntax.tyStruct (List._∷_ 98 (List._∷_ 105 (List._∷_ 116 (List._∷_ 115 (List._∷_ 58
-      (List._∷_ 58 (List._∷_ 66 (List._∷_ 105 (List._∷_ 116 (List._∷_ 80 (List._∷_ 111 (List._∷_ 115 (List._∷_ 105 (List._∷_ 116 (List._∷_ 105 (List._∷_ 111 (List._∷_ 110 List.[])))))))))))))))))
-      (Syntax.tcons (Syntax.tyInt Syntax.w64) Syntax.tnil)) Syntax.tnil))))),
-) (List._∷_ (20, Rows.any-gone (Syntax.tyInt Syntax.w32)) (List._∷_ (
-  21,
-  Rows.any-gone (Syntax.tyRef Syntax.erased Syntax.mut
-      (Held.behind Syntax.erased)),
-) (List._∷_ (22, Rows.any-gone (Syntax.tyRef Syntax.erased Syntax.imm (Held.behind Syntax.erased))) (List._∷_ (
-  23,
-  Rows.any-gone (Syntax.tyStruct (List._∷_ 99
-      (List._∷_ 111 (List._∷_ 100 (List._∷_ 101 (List._∷_ 58 (List._∷_ 58 (List._∷_ 67 (List._∷_ 111 (List._∷_ 100 (List._∷_ 101 List.[])))))))))) (Syntax.tcons (Syntax.tyInt Syntax.w64) (Syntax.tcons
-      (Syntax.tyInt Syntax.w32) (Syntax.tcons Syntax.tyBool (Syntax.tcons (Syntax.tyStruct (List._∷_ 98 (List._∷_ 105 (List._∷_ 116 (List._∷_ 115 (List._∷_ 58 (List._∷_ 58 (List._∷_ 66 (List._∷_ 105
-      (List._∷_ 116 (List._∷_ 80 (List._∷_ 111 (List._∷_ 115 (List._∷_ 105 (List._∷_ 116 (List._∷_ 105 (List._∷_ 111 (List._∷_ 110 List.[]))))))))))))))))) (Syntax.tcons (Syntax.tyInt Syntax.w64)
-      Syntax.tnil)) Syntax.tnil))))),
-) List.[])))))))
+t1 = List._∷_ e22 (List._∷_ e24 (List._∷_ e26 (List._∷_ e28 (List._∷_ e32 (List._∷_ e36 (List._∷_ e38 (List._∷_ e39 List.[])))))))
 
 abbrev pub t2 : List.List Row.Entry
-t2 = List._∷_ (0, Rows.whole (Declared.row Coded.the-type)) (List._∷_ (1, Rows.mref (Held.type (Syntax.named 1) List.[]) (Syntax.tyRef (Syntax.named 0) Syntax.mut (Held.behind (Syntax.named 1))) 0)
-    (List._∷_ (2, Rows.any-gone (Syntax.tyInt Syntax.w32)) (List._∷_ (3, Rows.any-gone (Syntax.tyInt Syntax.w32)) (List._∷_ (4, Rows.any-gone (Syntax.tyInt Syntax.w32)) (List._∷_ (
-      5,
-      Rows.any-gone
-          (Syntax.tyEnum (List._∷_ 98 (List._∷_ 105 (List._∷_ 116 (List._∷_ 115 (List._∷_ 58 (List._∷_ 58 (List._∷_ 90 (List._∷_ 101 (List._∷_ 114 (List._∷_ 111 (List._∷_ 82 (List._∷_ 117 (List._∷_ 110
-          List.[]))))))))))))) (Syntax.ttcons (Syntax.tcons (Syntax.tyInt Syntax.w64) Syntax.tnil) (Syntax.ttcons Syntax.tnil Syntax.ttnil))),
-    ) (List._∷_ (6, Rows.any-gone (Syntax.tyInt Syntax.w64)) (List._∷_
-    (7, Rows.any-gone (Syntax.tyInt Syntax.w32)) (List._∷_ (
-      8,
-      Rows.any-gone (Syntax.tyStruct (List._∷_ 98 (List._∷_ 105 (List._∷_ 116 (List._∷_ 115 (List._∷_ 58 (List._∷_ 58 (List._∷_ 66 (List._∷_
-          105 (List._∷_ 116 (List._∷_ 80 (List._∷_ 111 (List._∷_ 115 (List._∷_ 105 (List._∷_ 116 (List._∷_ 105 (List._∷_ 111 (List._∷_ 110 List.[]))))))))))))))))) (Syntax.tcons (Syntax.tyInt Syntax.w64)
-          Syntax.tnil)),
-    ) (List._∷_ (9, Rows.any-gone (Syntax.tyInt Syntax.w32)) (List._∷_ (
-      10,
-      Rows.any-gone (Syntax.tyStruct (List._∷_ 98 (List._∷_ 105 (List._∷_ 116 (List._∷_ 115 (List._∷_ 58 (List._∷_ 58
-          (List._∷_ 66 (List._∷_ 105 (List._∷_ 116 (List._∷_ 80 (List._∷_ 111 (List._∷_ 115 (List._∷_ 105 (List._∷_ 116 (List._∷_ 105 (List._∷_ 111 (List._∷_ 110 List.[]))))))))))))))))) (Syntax.tcons
-          (Syntax.tyInt Syntax.w64) Syntax.tnil)),
-    ) (List._∷_ (11, Rows.any-gone (Syntax.tyRef Syntax.erased Syntax.mut (Held.behind Syntax.erased))) (List._∷_ (12, Rows.any-gone (Syntax.tyInt Syntax.w64))
-    (List._∷_ (13, Rows.any-gone Syntax.tyBool) (List._∷_ (14, Rows.any-gone (Syntax.tyRef Syntax.erased Syntax.mut (Held.behind Syntax.erased))) (List._∷_ (
-      15,
-      Rows.any-gone (Syntax.tyRef
-          Syntax.erased Syntax.imm (Held.behind Syntax.erased)),
-    ) List.[])))))))))))))))
+t2 = List._∷_ e1 (List._∷_ e4 (List._∷_ e30 (List._∷_ e40 (List._∷_ e42 (List._∷_ e44 (List._∷_ e47 (List._∷_ e49 (List._∷_ e51 (List._∷_ e53 (List._∷_ e7 (List._∷_ e11 (List._∷_ e12 (List._∷_ e14
+    (List._∷_ e18 (List._∷_ e20 List.[])))))))))))))))
 
 abbrev pub t3 : List.List Row.Entry
-t3 = List._∷_ (
-  0,
-  Rows.any-gone (Syntax.tyEnum (List._∷_ 99 (List._∷_ 111 (List._∷_ 100 (List._∷_ 101 (List._∷_ 58 (List._∷_ 58 (List._∷_ 67 (List._∷_ 111 (List._∷_ 100 (List._∷_ 101 (List._∷_ 100
-      List.[]))))))))))) (Syntax.ttcons (Syntax.tcons (Syntax.tyStruct (List._∷_ 99 (List._∷_ 111 (List._∷_ 100 (List._∷_ 101 (List._∷_ 58 (List._∷_ 58 (List._∷_ 67 (List._∷_ 111 (List._∷_ 100 (List._∷_ 101
-      List.[])))))))))) (Syntax.tcons (Syntax.tyInt Syntax.w64) (Syntax.tcons (Syntax.tyInt Syntax.w32) (Syntax.tcons Syntax.tyBool (Syntax.tcons (Syntax.tyStruct (List._∷_ 98 (List._∷_ 105 (List._∷_ 116
-      (List._∷_ 115 (List._∷_ 58 (List._∷_ 58 (List._∷_ 66 (List._∷_ 105 (List._∷_ 116 (List._∷_ 80 (List._∷_ 111 (List._∷_ 115 (List._∷_ 105 (List._∷_ 116 (List._∷_ 105 (List._∷_ 111 (List._∷_ 110
-      List.[]))))))))))))))))) (Syntax.tcons (Syntax.tyInt Syntax.w64) Syntax.tnil)) Syntax.tnil))))) Syntax.tnil) (Syntax.ttcons Syntax.tnil Syntax.ttnil))),
-) (List._∷_ (
-  1,
-  Rows.mref-owed (Held.type
-      (Syntax.named 1) List.[]) (Syntax.tyRef (Syntax.named 0) Syntax.mut (Held.behind (Syntax.named 1))) 0 2 Row.off,
-) (List._∷_ (2, Rows.sc-here (Row.sInt Syntax.w32)) (List._∷_ (
-  3,
-  Rows.sc-here
-      (Row.sInt Syntax.w32),
-) (List._∷_ (4, Rows.sc-here (Row.sInt Syntax.w32)) (List._∷_ (
-  5,
-  Rows.any-gone (Syntax.tyEnum (List._∷_ 98 (List._∷_ 105 (List._∷_ 116 (List._∷_ 115 (List._∷_ 58 (List._∷_ 58
-      (List._∷_ 90 (List._∷_ 101 (List._∷_ 114 (List._∷_ 111 (List._∷_ 82 (List._∷_ 117 (List._∷_ 110 List.[]))))))))))))) (Syntax.ttcons (Syntax.tcons (Syntax.tyInt Syntax.w64) Syntax.tnil) (Syntax.ttcons
-      Syntax.tnil Syntax.ttnil))),
-) (List._∷_ (6, Rows.any-gone (Syntax.tyInt Syntax.w64)) (List._∷_ (7, Rows.any-gone (Syntax.tyInt Syntax.w32)) (List._∷_ (
-  8,
-  Rows.any-gone (Syntax.tyStruct (List._∷_
-      98 (List._∷_ 105 (List._∷_ 116 (List._∷_ 115 (List._∷_ 58 (List._∷_ 58 (List._∷_ 66 (List._∷_ 105 (List._∷_ 116 (List._∷_ 80 (List._∷_ 111 (List._∷_ 115 (List._∷_ 105 (List._∷_ 116 (List._∷_ 105
-      (List._∷_ 111 (List._∷_ 110 List.[]))))))))))))))))) (Syntax.tcons (Syntax.tyInt Syntax.w64) Syntax.tnil)),
-) (List._∷_ (9, Rows.any-gone (Syntax.tyInt Syntax.w32)) (List._∷_ (
-  10,
-  Rows.any-gone
-      (Syntax.tyStruct (List._∷_ 98 (List._∷_ 105 (List._∷_ 116 (List._∷_ 115 (List._∷_ 58 (List._∷_ 58 (List._∷_ 66 (List._∷_ 105 (List._∷_ 116 (List._∷_ 80 (List._∷_ 111 (List._∷_ 115 (List._∷_ 105
-      (List._∷_ 116 (List._∷_ 105 (List._∷_ 111 (List._∷_ 110 List.[]))))))))))))))))) (Syntax.tcons (Syntax.tyInt Syntax.w64) Syntax.tnil)),
-) (List._∷_ (
-  11,
-  Rows.mref (Held.type (Syntax.named 1) List.[])
-      (Syntax.tyRef Syntax.erased Syntax.mut (Held.behind Syntax.erased)) 2,
-) (List._∷_ (12, Rows.any-gone (Syntax.tyInt Syntax.w64)) (List._∷_ (13, Rows.any-gone Syntax.tyBool) (List._∷_ (
-  14,
-  Rows.any-gone (Syntax.tyRef Syntax.erased Syntax.mut (Held.behind Syntax.erased)),
-) (List._∷_ (15, Rows.any-gone (Syntax.tyRef Syntax.erased Syntax.imm (Held.behind Syntax.erased)))
+t3 = List._∷_ e0 (List._∷_ e5 (List._∷_ e31 (List._∷_ e41 (List._∷_ e43 (List._∷_ e44 (List._∷_ e47 (List._∷_ e49 (List._∷_ e51 (List._∷_ e53 (List._∷_ e7 (List._∷_
+    (11, Rows.mref (Held.type (Syntax.named 1) List.[]) (Syntax.tyRef Syntax.erased Syntax.mut (Held.behind Syntax.erased)) 2) (List._∷_ e12 (List._∷_ e14 (List._∷_ e18 (List._∷_ e20
     List.[])))))))))))))))
 
 abbrev pub t4 : List.List Row.Entry
-t4 = List._∷_ (
-  0,
-  Rows.any-gone (Syntax.tyEnum (List._∷_ 99 (List._∷_ 111 (List._∷_ 100 (List._∷_ 101 (List._∷_ 58 (List._∷_ 58 (List._∷_ 67 (List._∷_ 111 (List._∷_ 100 (List._∷_ 101 (List._∷_ 100
-      List.[]))))))))))) (Syntax.ttcons (Syntax.tcons (Syntax.tyStruct (List._∷_ 99 (List._∷_ 111 (List._∷_ 100 (List._∷_ 101 (List._∷_ 58 (List._∷_ 58 (List._∷_ 67 (List._∷_ 111 (List._∷_ 100 (List._∷_ 101
-      List.[])))))))))) (Syntax.tcons (Syntax.tyInt Syntax.w64) (Syntax.tcons (Syntax.tyInt Syntax.w32) (Syntax.tcons Syntax.tyBool (Syntax.tcons (Syntax.tyStruct (List._∷_ 98 (List._∷_ 105 (List._∷_ 116
-      (List._∷_ 115 (List._∷_ 58 (List._∷_ 58 (List._∷_ 66 (List._∷_ 105 (List._∷_ 116 (List._∷_ 80 (List._∷_ 111 (List._∷_ 115 (List._∷_ 105 (List._∷_ 116 (List._∷_ 105 (List._∷_ 111 (List._∷_ 110
-      List.[]))))))))))))))))) (Syntax.tcons (Syntax.tyInt Syntax.w64) Syntax.tnil)) Syntax.tnil))))) Syntax.tnil) (Syntax.ttcons Syntax.tnil Syntax.ttnil))),
-) (List._∷_ (
-  1,
-  Rows.mref-owed (Held.type
-      (Syntax.named 1) List.[]) (Syntax.tyRef (Syntax.named 0) Syntax.mut (Held.behind (Syntax.named 1))) 0 2 Row.off,
-) (List._∷_ (2, Rows.sc-here (Row.sInt Syntax.w32)) (List._∷_ (
-  3,
-  Rows.sc-here
-      (Row.sInt Syntax.w32),
-) (List._∷_ (4, Rows.sc-here (Row.sInt Syntax.w32)) (List._∷_ (
-  5,
-  Rows.any-gone (Syntax.tyEnum (List._∷_ 98 (List._∷_ 105 (List._∷_ 116 (List._∷_ 115 (List._∷_ 58 (List._∷_ 58
-      (List._∷_ 90 (List._∷_ 101 (List._∷_ 114 (List._∷_ 111 (List._∷_ 82 (List._∷_ 117 (List._∷_ 110 List.[]))))))))))))) (Syntax.ttcons (Syntax.tcons (Syntax.tyInt Syntax.w64) Syntax.tnil) (Syntax.ttcons
-      Syntax.tnil Syntax.ttnil))),
-) (List._∷_ (6, Rows.any-gone (Syntax.tyInt Syntax.w64)) (List._∷_ (7, Rows.any-gone (Syntax.tyInt Syntax.w32)) (List._∷_ (
-  8,
-  Rows.any-gone (Syntax.tyStruct (List._∷_
-      98 (List._∷_ 105 (List._∷_ 116 (List._∷_ 115 (List._∷_ 58 (List._∷_ 58 (List._∷_ 66 (List._∷_ 105 (List._∷_ 116 (List._∷_ 80 (List._∷_ 111 (List._∷_ 115 (List._∷_ 105 (List._∷_ 116 (List._∷_ 105
-      (List._∷_ 111 (List._∷_ 110 List.[]))))))))))))))))) (Syntax.tcons (Syntax.tyInt Syntax.w64) Syntax.tnil)),
-) (List._∷_ (9, Rows.any-gone (Syntax.tyInt Syntax.w32)) (List._∷_ (
-  10,
-  Rows.any-gone
-      (Syntax.tyStruct (List._∷_ 98 (List._∷_ 105 (List._∷_ 116 (List._∷_ 115 (List._∷_ 58 (List._∷_ 58 (List._∷_ 66 (List._∷_ 105 (List._∷_ 116 (List._∷_ 80 (List._∷_ 111 (List._∷_ 115 (List._∷_ 105
-      (List._∷_ 116 (List._∷_ 105 (List._∷_ 111 (List._∷_ 110 List.[]))))))))))))))))) (Syntax.tcons (Syntax.tyInt Syntax.w64) Syntax.tnil)),
-) (List._∷_ (
-  11,
-  Rows.mref (Held.type (Syntax.named 1) List.[])
-      (Syntax.tyRef Syntax.erased Syntax.mut (Held.behind Syntax.erased)) 7,
-) (List._∷_ (12, Rows.any-gone (Syntax.tyInt Syntax.w64)) (List._∷_ (13, Rows.any-gone Syntax.tyBool) (List._∷_ (
-  14,
-  Rows.any-gone (Syntax.tyRef Syntax.erased Syntax.mut (Held.behind Syntax.erased)),
-) (List._∷_ (15, Rows.any-gone (Syntax.tyRef Syntax.erased Syntax.imm (Held.behind Syntax.erased)))
+t4 = List._∷_ e0 (List._∷_ e5 (List._∷_ e31 (List._∷_ e41 (List._∷_ e43 (List._∷_ e44 (List._∷_ e47 (List._∷_ e49 (List._∷_ e51 (List._∷_ e53 (List._∷_ e7 (List._∷_
+    (11, Rows.mref (Held.type (Syntax.named 1) List.[]) (Syntax.tyRef Syntax.erased Syntax.mut (Held.behind Syntax.erased)) 7) (List._∷_ e12 (List._∷_ e14 (List._∷_ e18 (List._∷_ e20
     List.[])))))))))))))))
 
 abbrev pub t5 : List.List Row.Entry
-t5 = List._∷_ (
-  0,
-  Rows.any-gone (Syntax.tyEnum (List._∷_ 99 (List._∷_ 111 (List._∷_ 100 (List._∷_ 101 (List._∷_ 58 (List._∷_ 58 (List._∷_ 67 (List._∷_ 111 (List._∷_ 100 (List._∷_ 101 (List._∷_ 100
-      List.[]))))))))))) (Syntax.ttcons (Syntax.tcons (Syntax.tyStruct (List._∷_ 99 (List._∷_ 111 (List._∷_ 100 (List._∷_ 101 (List._∷_ 58 (List._∷_ 58 (List._∷_ 67 (List._∷_ 111 (List._∷_ 100 (List._∷_ 101
-      List.[])))))))))) (Syntax.tcons (Syntax.tyInt Syntax.w64) (Syntax.tcons (Syntax.tyInt Syntax.w32) (Syntax.tcons Syntax.tyBool (Syntax.tcons (Syntax.tyStruct (List._∷_ 98 (List._∷_ 105 (List._∷_ 116
-      (List._∷_ 115 (List._∷_ 58 (List._∷_ 58 (List._∷_ 66 (List._∷_ 105 (List._∷_ 116 (List._∷_ 80 (List._∷_ 111 (List._∷_ 115 (List._∷_ 105 (List._∷_ 116 (List._∷_ 105 (List._∷_ 111 (List._∷_ 110
-      List.[]))))))))))))))))) (Syntax.tcons (Syntax.tyInt Syntax.w64) Syntax.tnil)) Syntax.tnil))))) Syntax.tnil) (Syntax.ttcons Syntax.tnil Syntax.ttnil))),
-) (List._∷_ (
-  1,
-  Rows.mref-owed (Held.type
-      (Syntax.named 1) List.[]) (Syntax.tyRef (Syntax.named 0) Syntax.mut (Held.behind (Syntax.named 1))) 0 2 Row.off,
-) (List._∷_ (2, Rows.sc-here (Row.sInt Syntax.w32)) (List._∷_ (
-  3,
-  Rows.sc-here
-      (Row.sInt Syntax.w32),
-) (List._∷_ (4, Rows.sc-here (Row.sInt Syntax.w32)) (List._∷_ (
-  5,
-  Rows.any-gone (Syntax.tyEnum (List._∷_ 98 (List._∷_ 105 (List._∷_ 116 (List._∷_ 115 (List._∷_ 58 (List._∷_ 58
-      (List._∷_ 90 (List._∷_ 101 (List._∷_ 114 (List._∷_ 111 (List._∷_ 82 (List._∷_ 117 (List._∷_ 110 List.[]))))))))))))) (Syntax.ttcons (Syntax.tcons (Syntax.tyInt Syntax.w64) Syntax.tnil) (Syntax.ttcons
-      Syntax.tnil Syntax.ttnil))),
-) (List._∷_ (6, Rows.any-gone (Syntax.tyInt Syntax.w64)) (List._∷_ (7, Rows.any-gone (Syntax.tyInt Syntax.w32)) (List._∷_ (
-  8,
-  Rows.any-gone (Syntax.tyStruct (List._∷_
-      98 (List._∷_ 105 (List._∷_ 116 (List._∷_ 115 (List._∷_ 58 (List._∷_ 58 (List._∷_ 66 (List._∷_ 105 (List._∷_ 116 (List._∷_ 80 (List._∷_ 111 (List._∷_ 115 (List._∷_ 105 (List._∷_ 116 (List._∷_ 105
-      (List._∷_ 111 (List._∷_ 110 List.[]))))))))))))))))) (Syntax.tcons (Syntax.tyInt Syntax.w64) Syntax.tnil)),
-) (List._∷_ (9, Rows.any-gone (Syntax.tyInt Syntax.w32)) (List._∷_ (
-  10,
-  Rows.any-gone
-      (Syntax.tyStruct (List._∷_ 98 (List._∷_ 105 (List._∷_ 116 (List._∷_ 115 (List._∷_ 58 (List._∷_ 58 (List._∷_ 66 (List._∷_ 105 (List._∷_ 116 (List._∷_ 80 (List._∷_ 111 (List._∷_ 115 (List._∷_ 105
-      (List._∷_ 116 (List._∷_ 105 (List._∷_ 111 (List._∷_ 110 List.[]))))))))))))))))) (Syntax.tcons (Syntax.tyInt Syntax.w64) Syntax.tnil)),
-) (List._∷_ (
-  11,
-  AtSlots.mrefAt 2 (λ κc. Held.type
-      (Syntax.named 1) (κc .1 .0)) Held.Value (λ κc v. v) (List._∷_ 7 (List._∷_ 1 List.[])) (Syntax.tyRef Syntax.erased Syntax.mut (Held.behind Syntax.erased)) 7,
-) (List._∷_ (
-  12,
-  Rows.any-gone
-      (Syntax.tyInt Syntax.w64),
-) (List._∷_ (13, Rows.any-gone Syntax.tyBool) (List._∷_ (14, Rows.any-gone (Syntax.tyRef Syntax.erased Syntax.mut (Held.behind Syntax.erased))) (List._∷_ (
-  15,
-  Rows.any-gone (Syntax.tyRef Syntax.erased Syntax.imm (Held.behind Syntax.erased)),
-) List.[])))))))))))))))
+t5 = List._∷_ e0 (List._∷_ e5 (List._∷_ e31 (List._∷_ e41 (List._∷_ e43 (List._∷_ e44 (List._∷_ e47 (List._∷_ e49 (List._∷_ e51 (List._∷_ e53 (List._∷_ e7 (List._∷_ e10 (List._∷_ e12 (List._∷_ e14
+    (List._∷_ e18 (List._∷_ e20 List.[])))))))))))))))
 
 abbrev pub t6 : List.List Row.Entry
-t6 = List._∷_ (
-  0,
-  Rows.any-gone (Syntax.tyEnum (List._∷_ 99 (List._∷_ 111 (List._∷_ 100 (List._∷_ 101 (List._∷_ 58 (List._∷_ 58 (List._∷_ 67 (List._∷_ 111 (List._∷_ 100 (List._∷_ 101 (List._∷_ 100
-      List.[]))))))))))) (Syntax.ttcons (Syntax.tcons (Syntax.tyStruct (List._∷_ 99 (List._∷_ 111 (List._∷_ 100 (List._∷_ 101 (List._∷_ 58 (List._∷_ 58 (List._∷_ 67 (List._∷_ 111 (List._∷_ 100 (List._∷_ 101
-      List.[])))))))))) (Syntax.tcons (Syntax.tyInt Syntax.w64) (Syntax.tcons (Syntax.tyInt Syntax.w32) (Syntax.tcons Syntax.tyBool (Syntax.tcons (Syntax.tyStruct (List._∷_ 98 (List._∷_ 105 (List._∷_ 116
-      (List._∷_ 115 (List._∷_ 58 (List._∷_ 58 (List._∷_ 66 (List._∷_ 105 (List._∷_ 116 (List._∷_ 80 (List._∷_ 111 (List._∷_ 115 (List._∷_ 105 (List._∷_ 116 (List._∷_ 105 (List._∷_ 111 (List._∷_ 110
-      List.[]))))))))))))))))) (Syntax.tcons (Syntax.tyInt Syntax.w64) Syntax.tnil)) Syntax.tnil))))) Syntax.tnil) (Syntax.ttcons Syntax.tnil Syntax.ttnil))),
-) (List._∷_ (
-  1,
-  Rows.mref-owed (Held.type
-      (Syntax.named 1) List.[]) (Syntax.tyRef (Syntax.named 0) Syntax.mut (Held.behind (Syntax.named 1))) 0 2 Row.off,
-) (List._∷_ (2, Rows.sc-here (Row.sInt Syntax.w32)) (List._∷_ (
-  3,
-  Rows.sc-here
-      (Row.sInt Syntax.w32),
-) (List._∷_ (4, Rows.sc-here (Row.sInt Syntax.w32)) (List._∷_ (5, Rows.whole (Declared.row ZeroRun.the-type)) (List._∷_ (6, Rows.any-gone (Syntax.tyInt Syntax.w64)) (List._∷_
-    (7, Rows.any-gone (Syntax.tyInt Syntax.w32)) (List._∷_ (
-      8,
-      Rows.any-gone (Syntax.tyStruct (List._∷_ 98 (List._∷_ 105 (List._∷_ 116 (List._∷_ 115 (List._∷_ 58 (List._∷_ 58 (List._∷_ 66 (List._∷_
-          105 (List._∷_ 116 (List._∷_ 80 (List._∷_ 111 (List._∷_ 115 (List._∷_ 105 (List._∷_ 116 (List._∷_ 105 (List._∷_ 111 (List._∷_ 110 List.[]))))))))))))))))) (Syntax.tcons (Syntax.tyInt Syntax.w64)
-          Syntax.tnil)),
-    ) (List._∷_ (9, Rows.any-gone (Syntax.tyInt Syntax.w32)) (List._∷_ (
-      10,
-      Rows.any-gone (Syntax.tyStruct (List._∷_ 98 (List._∷_ 105 (List._∷_ 116 (List._∷_ 115 (List._∷_ 58 (List._∷_ 58
-          (List._∷_ 66 (List._∷_ 105 (List._∷_ 116 (List._∷_ 80 (List._∷_ 111 (List._∷_ 115 (List._∷_ 105 (List._∷_ 116 (List._∷_ 105 (List._∷_ 111 (List._∷_ 110 List.[]))))))))))))))))) (Syntax.tcons
-          (Syntax.tyInt Syntax.w64) Syntax.tnil)),
-    ) (List._∷_ (
-      11,
-      AtSlots.mleftAt 2 (λ κc. Held.type (Syntax.named 1) (κc .1 .0)) Held.Value (λ κc v. v) (List._∷_ 7 (List._∷_ 1 List.[])) (Syntax.tyRef
-          Syntax.erased Syntax.mut (Held.behind Syntax.erased)),
-    ) (List._∷_ (12, Rows.any-gone (Syntax.tyInt Syntax.w64)) (List._∷_ (13, Rows.any-gone Syntax.tyBool) (List._∷_ (
-      14,
-      Rows.any-gone
-          (Syntax.tyRef Syntax.erased Syntax.mut (Held.behind Syntax.erased)),
-    ) (List._∷_ (15, Rows.any-gone (Syntax.tyRef Syntax.erased Syntax.imm (Held.behind Syntax.erased))) List.[])))))))))))))))
+t6 = List._∷_ e0 (List._∷_ e5 (List._∷_ e31 (List._∷_ e41 (List._∷_ e43 (List._∷_ e45 (List._∷_ e47 (List._∷_ e49 (List._∷_ e51 (List._∷_ e53 (List._∷_ e7 (List._∷_ e9 (List._∷_ e12 (List._∷_ e14
+    (List._∷_ e18 (List._∷_ e20 List.[])))))))))))))))
 
 abbrev pub t7 : List.List Row.Entry
-t7 = List._∷_ (
-  0,
-  Rows.any-gone (Syntax.tyEnum (List._∷_ 99 (List._∷_ 111 (List._∷_ 100 (List._∷_ 101 (List._∷_ 58 (List._∷_ 58 (List._∷_ 67 (List._∷_ 111 (List._∷_ 100 (List._∷_ 101 (List._∷_ 100
-      List.[]))))))))))) (Syntax.ttcons (Syntax.tcons (Syntax.tyStruct (List._∷_ 99 (List._∷_ 111 (List._∷_ 100 (List._∷_ 101 (List._∷_ 58 (List._∷_ 58 (List._∷_ 67 (List._∷_ 111 (List._∷_ 100 (List._∷_ 101
-      List.[])))))))))) (Syntax.tcons (Syntax.tyInt Syntax.w64) (Syntax.tcons (Syntax.tyInt Syntax.w32) (Syntax.tcons Syntax.tyBool (Syntax.tcons (Syntax.tyStruct (List._∷_ 98 (List._∷_ 105 (List._∷_ 116
-      (List._∷_ 115 (List._∷_ 58 (List._∷_ 58 (List._∷_ 66 (List._∷_ 105 (List._∷_ 116 (List._∷_ 80 (List._∷_ 111 (List._∷_ 115 (List._∷_ 105 (List._∷_ 116 (List._∷_ 105 (List._∷_ 111 (List._∷_ 110
-      List.[]))))))))))))))))) (Syntax.tcons (Syntax.tyInt Syntax.w64) Syntax.tnil)) Syntax.tnil))))) Syntax.tnil) (Syntax.ttcons Syntax.tnil Syntax.ttnil))),
-) (List._∷_ (
-  1,
-  Rows.mref (Held.type
-      (Syntax.named 1) List.[]) (Syntax.tyRef (Syntax.named 0) Syntax.mut (Held.behind (Syntax.named 1))) 0,
-) (List._∷_ (2, Rows.sc-here (Row.sInt Syntax.w32)) (List._∷_ (
-  3,
-  Rows.sc-here (Row.sInt
-      Syntax.w32),
-) (List._∷_ (4, Rows.sc-here (Row.sInt Syntax.w32)) (List._∷_ (
-  5,
-  Rows.any-gone (Syntax.tyEnum (List._∷_ 98 (List._∷_ 105 (List._∷_ 116 (List._∷_ 115 (List._∷_ 58 (List._∷_ 58 (List._∷_
-      90 (List._∷_ 101 (List._∷_ 114 (List._∷_ 111 (List._∷_ 82 (List._∷_ 117 (List._∷_ 110 List.[]))))))))))))) (Syntax.ttcons (Syntax.tcons (Syntax.tyInt Syntax.w64) Syntax.tnil) (Syntax.ttcons
-      Syntax.tnil Syntax.ttnil))),
-) (List._∷_ (6, Rows.sc-here (Row.sInt Syntax.w64)) (List._∷_ (7, Rows.any-gone (Syntax.tyInt Syntax.w32)) (List._∷_ (
-  8,
-  Rows.any-gone (Syntax.tyStruct (List._∷_ 98
-      (List._∷_ 105 (List._∷_ 116 (List._∷_ 115 (List._∷_ 58 (List._∷_ 58 (List._∷_ 66 (List._∷_ 105 (List._∷_ 116 (List._∷_ 80 (List._∷_ 111 (List._∷_ 115 (List._∷_ 105 (List._∷_ 116 (List._∷_ 105
-      (List._∷_ 111 (List._∷_ 110 List.[]))))))))))))))))) (Syntax.tcons (Syntax.tyInt Syntax.w64) Syntax.tnil)),
-) (List._∷_ (9, Rows.any-gone (Syntax.tyInt Syntax.w32)) (List._∷_ (
-  10,
-  Rows.any-gone
-      (Syntax.tyStruct (List._∷_ 98 (List._∷_ 105 (List._∷_ 116 (List._∷_ 115 (List._∷_ 58 (List._∷_ 58 (List._∷_ 66 (List._∷_ 105 (List._∷_ 116 (List._∷_ 80 (List._∷_ 111 (List._∷_ 115 (List._∷_ 105
-      (List._∷_ 116 (List._∷_ 105 (List._∷_ 111 (List._∷_ 110 List.[]))))))))))))))))) (Syntax.tcons (Syntax.tyInt Syntax.w64) Syntax.tnil)),
-) (List._∷_ (
-  11,
-  Rows.any-gone (Syntax.tyRef Syntax.erased
-      Syntax.mut (Held.behind Syntax.erased)),
-) (List._∷_ (12, Rows.any-gone (Syntax.tyInt Syntax.w64)) (List._∷_ (13, Rows.any-gone Syntax.tyBool) (List._∷_ (
-  14,
-  Rows.any-gone (Syntax.tyRef
-      Syntax.erased Syntax.mut (Held.behind Syntax.erased)),
-) (List._∷_ (15, Rows.any-gone (Syntax.tyRef Syntax.erased Syntax.imm (Held.behind Syntax.erased))) List.[])))))))))))))))
+t7 = List._∷_ e0 (List._∷_ e4 (List._∷_ e31 (List._∷_ e41 (List._∷_ e43 (List._∷_ e44 (List._∷_ e48 (List._∷_ e49 (List._∷_ e51 (List._∷_ e53 (List._∷_ e7 (List._∷_ e11 (List._∷_ e12 (List._∷_ e14
+    (List._∷_ e18 (List._∷_ e20 List.[])))))))))))))))
 
 abbrev pub t8 : List.List Row.Entry
-t8 = List._∷_ (
-  0,
-  Rows.any-gone (Syntax.tyEnum (List._∷_ 99 (List._∷_ 111 (List._∷_ 100 (List._∷_ 101 (List._∷_ 58 (List._∷_ 58 (List._∷_ 67 (List._∷_ 111 (List._∷_ 100 (List._∷_ 101 (List._∷_ 100
-      List.[]))))))))))) (Syntax.ttcons (Syntax.tcons (Syntax.tyStruct (List._∷_ 99 (List._∷_ 111 (List._∷_ 100 (List._∷_ 101 (List._∷_ 58 (List._∷_ 58 (List._∷_ 67 (List._∷_ 111 (List._∷_ 100 (List._∷_ 101
-      List.[])))))))))) (Syntax.tcons (Syntax.tyInt Syntax.w64) (Syntax.tcons (Syntax.tyInt Syntax.w32) (Syntax.tcons Syntax.tyBool (Syntax.tcons (Syntax.tyStruct (List._∷_ 98 (List._∷_ 105 (List._∷_ 116
-      (List._∷_ 115 (List._∷_ 58 (List._∷_ 58 (List._∷_ 66 (List._∷_ 105 (List._∷_ 116 (List._∷_ 80 (List._∷_ 111 (List._∷_ 115 (List._∷_ 105 (List._∷_ 116 (List._∷_ 105 (List._∷_ 111 (List._∷_ 110
-      List.[]))))))))))))))))) (Syntax.tcons (Syntax.tyInt Syntax.w64) Syntax.tnil)) Syntax.tnil))))) Syntax.tnil) (Syntax.ttcons Syntax.tnil Syntax.ttnil))),
-) (List._∷_ (
-  1,
-  Rows.mref (Held.type
-      (Syntax.named 1) List.[]) (Syntax.tyRef (Syntax.named 0) Syntax.mut (Held.behind (Syntax.named 1))) 0,
-) (List._∷_ (2, Rows.sc-here (Row.sInt Syntax.w32)) (List._∷_ (
-  3,
-  Rows.sc-here (Row.sInt
-      Syntax.w32),
-) (List._∷_ (4, Rows.sc-here (Row.sInt Syntax.w32)) (List._∷_ (5, Rows.whole (Declared.row ZeroRun.the-type)) (List._∷_ (6, Rows.any-gone (Syntax.tyInt Syntax.w64)) (List._∷_ (
-  7,
-  Rows.any-gone (Syntax.tyInt Syntax.w32),
-) (List._∷_ (
-  8,
-  Rows.any-gone (Syntax.tyStruct (List._∷_ 98 (List._∷_ 105 (List._∷_ 116 (List._∷_ 115 (List._∷_ 58 (List._∷_ 58 (List._∷_ 66 (List._∷_ 105
-      (List._∷_ 116 (List._∷_ 80 (List._∷_ 111 (List._∷_ 115 (List._∷_ 105 (List._∷_ 116 (List._∷_ 105 (List._∷_ 111 (List._∷_ 110 List.[]))))))))))))))))) (Syntax.tcons (Syntax.tyInt Syntax.w64)
-      Syntax.tnil)),
-) (List._∷_ (9, Rows.any-gone (Syntax.tyInt Syntax.w32)) (List._∷_ (
-  10,
-  Rows.any-gone (Syntax.tyStruct (List._∷_ 98 (List._∷_ 105 (List._∷_ 116 (List._∷_ 115 (List._∷_ 58 (List._∷_ 58
-      (List._∷_ 66 (List._∷_ 105 (List._∷_ 116 (List._∷_ 80 (List._∷_ 111 (List._∷_ 115 (List._∷_ 105 (List._∷_ 116 (List._∷_ 105 (List._∷_ 111 (List._∷_ 110 List.[]))))))))))))))))) (Syntax.tcons
-      (Syntax.tyInt Syntax.w64) Syntax.tnil)),
-) (List._∷_ (11, Rows.any-gone (Syntax.tyRef Syntax.erased Syntax.mut (Held.behind Syntax.erased))) (List._∷_ (12, Rows.any-gone (Syntax.tyInt Syntax.w64))
-    (List._∷_ (13, Rows.any-gone Syntax.tyBool) (List._∷_ (14, Rows.any-gone (Syntax.tyRef Syntax.erased Syntax.mut (Held.behind Syntax.erased))) (List._∷_ (
-      15,
-      Rows.any-gone (Syntax.tyRef
-          Syntax.erased Syntax.imm (Held.behind Syntax.erased)),
-    ) List.[])))))))))))))))
+t8 = List._∷_ e0 (List._∷_ e4 (List._∷_ e31 (List._∷_ e41 (List._∷_ e43 (List._∷_ e45 (List._∷_ e47 (List._∷_ e49 (List._∷_ e51 (List._∷_ e53 (List._∷_ e7 (List._∷_ e11 (List._∷_ e12 (List._∷_ e14
+    (List._∷_ e18 (List._∷_ e20 List.[])))))))))))))))
 
 abbrev pub t9 : List.List Row.Entry
-t9 = List._∷_ (
-  0,
-  Rows.any-gone (Syntax.tyEnum (List._∷_ 99 (List._∷_ 111 (List._∷_ 100 (List._∷_ 101 (List._∷_ 58 (List._∷_ 58 (List._∷_ 67 (List._∷_ 111 (List._∷_ 100 (List._∷_ 101 (List._∷_ 100
-      List.[]))))))))))) (Syntax.ttcons (Syntax.tcons (Syntax.tyStruct (List._∷_ 99 (List._∷_ 111 (List._∷_ 100 (List._∷_ 101 (List._∷_ 58 (List._∷_ 58 (List._∷_ 67 (List._∷_ 111 (List._∷_ 100 (List._∷_ 101
-      List.[])))))))))) (Syntax.tcons (Syntax.tyInt Syntax.w64) (Syntax.tcons (Syntax.tyInt Syntax.w32) (Syntax.tcons Syntax.tyBool (Syntax.tcons (Syntax.tyStruct (List._∷_ 98 (List._∷_ 105 (List._∷_ 116
-      (List._∷_ 115 (List._∷_ 58 (List._∷_ 58 (List._∷_ 66 (List._∷_ 105 (List._∷_ 116 (List._∷_ 80 (List._∷_ 111 (List._∷_ 115 (List._∷_ 105 (List._∷_ 116 (List._∷_ 105 (List._∷_ 111 (List._∷_ 110
-      List.[]))))))))))))))))) (Syntax.tcons (Syntax.tyInt Syntax.w64) Syntax.tnil)) Syntax.tnil))))) Syntax.tnil) (Syntax.ttcons Syntax.tnil Syntax.ttnil))),
-) (List._∷_ (
-  1,
-  Rows.mref (Held.type
-      (Syntax.named 1) List.[]) (Syntax.tyRef (Syntax.named 0) Syntax.mut (Held.behind (Syntax.named 1))) 0,
-) (List._∷_ (2, Rows.sc-here (Row.sInt Syntax.w32)) (List._∷_ (
-  3,
-  Rows.sc-here (Row.sInt
-      Syntax.w32),
-) (List._∷_ (4, Rows.sc-here (Row.sInt Syntax.w32)) (List._∷_ (5, Rows.whole (Known.Known ZeroRun.enum 0)) (List._∷_ (6, Rows.any-gone (Syntax.tyInt Syntax.w64)) (List._∷_ (
-  7,
-  Rows.any-gone (Syntax.tyInt Syntax.w32),
-) (List._∷_ (
-  8,
-  Rows.any-gone (Syntax.tyStruct (List._∷_ 98 (List._∷_ 105 (List._∷_ 116 (List._∷_ 115 (List._∷_ 58 (List._∷_ 58 (List._∷_ 66 (List._∷_ 105
-      (List._∷_ 116 (List._∷_ 80 (List._∷_ 111 (List._∷_ 115 (List._∷_ 105 (List._∷_ 116 (List._∷_ 105 (List._∷_ 111 (List._∷_ 110 List.[]))))))))))))))))) (Syntax.tcons (Syntax.tyInt Syntax.w64)
-      Syntax.tnil)),
-) (List._∷_ (9, Rows.any-gone (Syntax.tyInt Syntax.w32)) (List._∷_ (
-  10,
-  Rows.any-gone (Syntax.tyStruct (List._∷_ 98 (List._∷_ 105 (List._∷_ 116 (List._∷_ 115 (List._∷_ 58 (List._∷_ 58
-      (List._∷_ 66 (List._∷_ 105 (List._∷_ 116 (List._∷_ 80 (List._∷_ 111 (List._∷_ 115 (List._∷_ 105 (List._∷_ 116 (List._∷_ 105 (List._∷_ 111 (List._∷_ 110 List.[]))))))))))))))))) (Syntax.tcons
-      (Syntax.tyInt Syntax.w64) Syntax.tnil)),
-) (List._∷_ (11, Rows.any-gone (Syntax.tyRef Syntax.erased Syntax.mut (Held.behind Syntax.erased))) (List._∷_ (12, Rows.any-gone (Syntax.tyInt Syntax.w64))
-    (List._∷_ (13, Rows.any-gone Syntax.tyBool) (List._∷_ (14, Rows.any-gone (Syntax.tyRef Syntax.erased Syntax.mut (Held.behind Syntax.erased))) (List._∷_ (
-      15,
-      Rows.any-gone (Syntax.tyRef
-          Syntax.erased Syntax.imm (Held.behind Syntax.erased)),
-    ) List.[])))))))))))))))
+t9 = List._∷_ e0 (List._∷_ e4 (List._∷_ e31 (List._∷_ e41 (List._∷_ e43 (List._∷_ e46 (List._∷_ e47 (List._∷_ e49 (List._∷_ e51 (List._∷_ e53 (List._∷_ e7 (List._∷_ e11 (List._∷_ e12 (List._∷_ e14
+    (List._∷_ e18 (List._∷_ e20 List.[])))))))))))))))
 
 abbrev pub t10 : List.List Row.Entry
-t10 = List._∷_ (
-  0,
-  Rows.any-gone (Syntax.tyEnum (List._∷_ 99 (List._∷_ 111 (List._∷_ 100 (List._∷_ 101 (List._∷_ 58 (List._∷_ 58 (List._∷_ 67 (List._∷_ 111 (List._∷_ 100 (List._∷_ 101 (List._∷_ 100
-      List.[]))))))))))) (Syntax.ttcons (Syntax.tcons (Syntax.tyStruct (List._∷_ 99 (List._∷_ 111 (List._∷_ 100 (List._∷_ 101 (List._∷_ 58 (List._∷_ 58 (List._∷_ 67 (List._∷_ 111 (List._∷_ 100 (List._∷_ 101
-      List.[])))))))))) (Syntax.tcons (Syntax.tyInt Syntax.w64) (Syntax.tcons (Syntax.tyInt Syntax.w32) (Syntax.tcons Syntax.tyBool (Syntax.tcons (Syntax.tyStruct (List._∷_ 98 (List._∷_ 105 (List._∷_ 116
-      (List._∷_ 115 (List._∷_ 58 (List._∷_ 58 (List._∷_ 66 (List._∷_ 105 (List._∷_ 116 (List._∷_ 80 (List._∷_ 111 (List._∷_ 115 (List._∷_ 105 (List._∷_ 116 (List._∷_ 105 (List._∷_ 111 (List._∷_ 110
-      List.[]))))))))))))))))) (Syntax.tcons (Syntax.tyInt Syntax.w64) Syntax.tnil)) Syntax.tnil))))) Syntax.tnil) (Syntax.ttcons Syntax.tnil Syntax.ttnil))),
-) (List._∷_ (
-  1,
-  Rows.mref (Held.type
-      (Syntax.named 1) List.[]) (Syntax.tyRef (Syntax.named 0) Syntax.mut (Held.behind (Syntax.named 1))) 0,
-) (List._∷_ (2, Rows.sc-here (Row.sInt Syntax.w32)) (List._∷_ (
-  3,
-  Rows.sc-here (Row.sInt
-      Syntax.w32),
-) (List._∷_ (4, Rows.sc-here (Row.sInt Syntax.w32)) (List._∷_ (5, Rows.whole (Known.Known ZeroRun.enum 0)) (List._∷_ (6, Rows.sc-here (Row.sInt Syntax.w64)) (List._∷_ (
-  7,
-  Rows.any-gone (Syntax.tyInt Syntax.w32),
-) (List._∷_ (
-  8,
-  Rows.any-gone (Syntax.tyStruct (List._∷_ 98 (List._∷_ 105 (List._∷_ 116 (List._∷_ 115 (List._∷_ 58 (List._∷_ 58 (List._∷_ 66 (List._∷_ 105
-      (List._∷_ 116 (List._∷_ 80 (List._∷_ 111 (List._∷_ 115 (List._∷_ 105 (List._∷_ 116 (List._∷_ 105 (List._∷_ 111 (List._∷_ 110 List.[]))))))))))))))))) (Syntax.tcons (Syntax.tyInt Syntax.w64)
-      Syntax.tnil)),
-) (List._∷_ (9, Rows.any-gone (Syntax.tyInt Syntax.w32)) (List._∷_ (
-  10,
-  Rows.any-gone (Syntax.tyStruct (List._∷_ 98 (List._∷_ 105 (List._∷_ 116 (List._∷_ 115 (List._∷_ 58 (List._∷_ 58
-      (List._∷_ 66 (List._∷_ 105 (List._∷_ 116 (List._∷_ 80 (List._∷_ 111 (List._∷_ 115 (List._∷_ 105 (List._∷_ 116 (List._∷_ 105 (List._∷_ 111 (List._∷_ 110 List.[]))))))))))))))))) (Syntax.tcons
-      (Syntax.tyInt Syntax.w64) Syntax.tnil)),
-) (List._∷_ (11, Rows.any-gone (Syntax.tyRef Syntax.erased Syntax.mut (Held.behind Syntax.erased))) (List._∷_ (12, Rows.any-gone (Syntax.tyInt Syntax.w64))
-    (List._∷_ (13, Rows.any-gone Syntax.tyBool) (List._∷_ (14, Rows.any-gone (Syntax.tyRef Syntax.erased Syntax.mut (Held.behind Syntax.erased))) (List._∷_ (
-      15,
-      Rows.any-gone (Syntax.tyRef
-          Syntax.erased Syntax.imm (Held.behind Syntax.erased)),
-    ) List.[])))))))))))))))
+t10 = List._∷_ e0 (List._∷_ e4 (List._∷_ e31 (List._∷_ e41 (List._∷_ e43 (List._∷_ e46 (List._∷_ e48 (List._∷_ e49 (List._∷_ e51 (List._∷_ e53 (List._∷_ e7 (List._∷_ e11 (List._∷_ e12 (List._∷_ e14
+    (List._∷_ e18 (List._∷_ e20 List.[])))))))))))))))
 
 abbrev pub t11 : List.List Row.Entry
-t11 = List._∷_ (0, Rows.whole (Declared.row Coded.the-type)) (List._∷_ (
-  1,
-  Rows.mref (Held.type (Syntax.named 1) List.[]) (Syntax.tyRef (Syntax.named 0) Syntax.mut (Held.behind (Syntax.named 1))) 0,
-) (List._∷_ (2, Rows.sc-here (Row.sInt Syntax.w32)) (List._∷_ (3, Rows.sc-here (Row.sInt Syntax.w32)) (List._∷_ (4, Rows.sc-here (Row.sInt Syntax.w32)) (List._∷_ (
-  5,
-  Rows.any-gone (Syntax.tyEnum
-      (List._∷_ 98 (List._∷_ 105 (List._∷_ 116 (List._∷_ 115 (List._∷_ 58 (List._∷_ 58 (List._∷_ 90 (List._∷_ 101 (List._∷_ 114 (List._∷_ 111 (List._∷_ 82 (List._∷_ 117 (List._∷_ 110 List.[])))))))))))))
-      (Syntax.ttcons (Syntax.tcons (Syntax.tyInt Syntax.w64) Syntax.tnil) (Syntax.ttcons Syntax.tnil Syntax.ttnil))),
-) (List._∷_ (6, Rows.any-gone (Syntax.tyInt Syntax.w64)) (List._∷_ (
-  7,
-  Rows.any-gone
-      (Syntax.tyInt Syntax.w32),
-) (List._∷_ (
-  8,
-  Rows.any-gone (Syntax.tyStruct (List._∷_ 98 (List._∷_ 105 (List._∷_ 116 (List._∷_ 115 (List._∷_ 58 (List._∷_ 58 (List._∷_ 66 (List._∷_ 105 (List._∷_ 116
-      (List._∷_ 80 (List._∷_ 111 (List._∷_ 115 (List._∷_ 105 (List._∷_ 116 (List._∷_ 105 (List._∷_ 111 (List._∷_ 110 List.[]))))))))))))))))) (Syntax.tcons (Syntax.tyInt Syntax.w64) Syntax.tnil)),
-)
-    (List._∷_ (9, Rows.any-gone (Syntax.tyInt Syntax.w32)) (List._∷_ (
-      10,
-      Rows.any-gone (Syntax.tyStruct (List._∷_ 98 (List._∷_ 105 (List._∷_ 116 (List._∷_ 115 (List._∷_ 58 (List._∷_ 58 (List._∷_ 66
-          (List._∷_ 105 (List._∷_ 116 (List._∷_ 80 (List._∷_ 111 (List._∷_ 115 (List._∷_ 105 (List._∷_ 116 (List._∷_ 105 (List._∷_ 111 (List._∷_ 110 List.[]))))))))))))))))) (Syntax.tcons (Syntax.tyInt
-          Syntax.w64) Syntax.tnil)),
-    ) (List._∷_ (11, Rows.any-gone (Syntax.tyRef Syntax.erased Syntax.mut (Held.behind Syntax.erased))) (List._∷_ (12, Rows.any-gone (Syntax.tyInt Syntax.w64)) (List._∷_ (
-      13,
-      Rows.any-gone Syntax.tyBool,
-    ) (List._∷_ (14, Rows.any-gone (Syntax.tyRef Syntax.erased Syntax.mut (Held.behind Syntax.erased))) (List._∷_ (
-      15,
-      Rows.any-gone (Syntax.tyRef Syntax.erased
-          Syntax.imm (Held.behind Syntax.erased)),
-    ) List.[])))))))))))))))
+t11 = List._∷_ e1 (List._∷_ e4 (List._∷_ e31 (List._∷_ e41 (List._∷_ e43 (List._∷_ e44 (List._∷_ e47 (List._∷_ e49 (List._∷_ e51 (List._∷_ e53 (List._∷_ e7 (List._∷_ e11 (List._∷_ e12 (List._∷_ e14
+    (List._∷_ e18 (List._∷_ e20 List.[])))))))))))))))
 
 abbrev pub t12 : List.List Row.Entry
-t12 = List._∷_ (0, Rows.whole (Declared.row Coded.the-type)) (List._∷_ (
-  1,
-  Rows.mref (Held.type (Syntax.named 1) List.[]) (Syntax.tyRef (Syntax.named 0) Syntax.mut (Held.behind (Syntax.named 1))) 0,
-) (List._∷_ (2, Rows.any-gone (Syntax.tyInt Syntax.w32)) (List._∷_ (3, Rows.sc-here (Row.sInt Syntax.w32)) (List._∷_ (4, Rows.sc-here (Row.sInt Syntax.w32)) (List._∷_ (
-  5,
-  Rows.any-gone
-      (Syntax.tyEnum (List._∷_ 98 (List._∷_ 105 (List._∷_ 116 (List._∷_ 115 (List._∷_ 58 (List._∷_ 58 (List._∷_ 90 (List._∷_ 101 (List._∷_ 114 (List._∷_ 111 (List._∷_ 82 (List._∷_ 117 (List._∷_ 110
-      List.[]))))))))))))) (Syntax.ttcons (Syntax.tcons (Syntax.tyInt Syntax.w64) Syntax.tnil) (Syntax.ttcons Syntax.tnil Syntax.ttnil))),
-) (List._∷_ (6, Rows.any-gone (Syntax.tyInt Syntax.w64)) (List._∷_
-    (7, Rows.any-gone (Syntax.tyInt Syntax.w32)) (List._∷_ (
-      8,
-      Rows.any-gone (Syntax.tyStruct (List._∷_ 98 (List._∷_ 105 (List._∷_ 116 (List._∷_ 115 (List._∷_ 58 (List._∷_ 58 (List._∷_ 66 (List._∷_
-          105 (List._∷_ 116 (List._∷_ 80 (List._∷_ 111 (List._∷_ 115 (List._∷_ 105 (List._∷_ 116 (List._∷_ 105 (List._∷_ 111 (List._∷_ 110 List.[]))))))))))))))))) (Syntax.tcons (Syntax.tyInt Syntax.w64)
-          Syntax.tnil)),
-    ) (List._∷_ (9, Rows.any-gone (Syntax.tyInt Syntax.w32)) (List._∷_ (
-      10,
-      Rows.any-gone (Syntax.tyStruct (List._∷_ 98 (List._∷_ 105 (List._∷_ 116 (List._∷_ 115 (List._∷_ 58 (List._∷_ 58
-          (List._∷_ 66 (List._∷_ 105 (List._∷_ 116 (List._∷_ 80 (List._∷_ 111 (List._∷_ 115 (List._∷_ 105 (List._∷_ 116 (List._∷_ 105 (List._∷_ 111 (List._∷_ 110 List.[]))))))))))))))))) (Syntax.tcons
-          (Syntax.tyInt Syntax.w64) Syntax.tnil)),
-    ) (List._∷_ (11, Rows.any-gone (Syntax.tyRef Syntax.erased Syntax.mut (Held.behind Syntax.erased))) (List._∷_ (12, Rows.any-gone (Syntax.tyInt Syntax.w64))
-    (List._∷_ (13, Rows.any-gone Syntax.tyBool) (List._∷_ (14, Rows.any-gone (Syntax.tyRef Syntax.erased Syntax.mut (Held.behind Syntax.erased))) (List._∷_ (
-      15,
-      Rows.any-gone (Syntax.tyRef
-          Syntax.erased Syntax.imm (Held.behind Syntax.erased)),
-    ) List.[])))))))))))))))
+t12 = List._∷_ e1 (List._∷_ e4 (List._∷_ e30 (List._∷_ e41 (List._∷_ e43 (List._∷_ e44 (List._∷_ e47 (List._∷_ e49 (List._∷_ e51 (List._∷_ e53 (List._∷_ e7 (List._∷_ e11 (List._∷_ e12 (List._∷_ e14
+    (List._∷_ e18 (List._∷_ e20 List.[])))))))))))))))
 
 abbrev pub t13 : List.List Row.Entry
-t13 = List._∷_ (0, Rows.whole (Declared.row Coded.the-type)) (List._∷_ (
-  1,
-  Rows.mref (Held.type (Syntax.named 1) List.[]) (Syntax.tyRef (Syntax.named 0) Syntax.mut (Held.behind (Syntax.named 1))) 0,
-) (List._∷_ (2, Rows.any-gone (Syntax.tyInt Syntax.w32)) (List._∷_ (3, Rows.any-gone (Syntax.tyInt Syntax.w32)) (List._∷_ (4, Rows.sc-here (Row.sInt Syntax.w32)) (List._∷_ (
-  5,
-  Rows.any-gone
-      (Syntax.tyEnum (List._∷_ 98 (List._∷_ 105 (List._∷_ 116 (List._∷_ 115 (List._∷_ 58 (List._∷_ 58 (List._∷_ 90 (List._∷_ 101 (List._∷_ 114 (List._∷_ 111 (List._∷_ 82 (List._∷_ 117 (List._∷_ 110
-      List.[]))))))))))))) (Syntax.ttcons (Syntax.tcons (Syntax.tyInt Syntax.w64) Syntax.tnil) (Syntax.ttcons Syntax.tnil Syntax.ttnil))),
-) (List._∷_ (6, Rows.any-gone (Syntax.tyInt Syntax.w64)) (List._∷_
-    (7, Rows.any-gone (Syntax.tyInt Syntax.w32)) (List._∷_ (
-      8,
-      Rows.any-gone (Syntax.tyStruct (List._∷_ 98 (List._∷_ 105 (List._∷_ 116 (List._∷_ 115 (List._∷_ 58 (List._∷_ 58 (List._∷_ 66 (List._∷_
-          105 (List._∷_ 116 (List._∷_ 80 (List._∷_ 111 (List._∷_ 115 (List._∷_ 105 (List._∷_ 116 (List._∷_ 105 (List._∷_ 111 (List._∷_ 110 List.[]))))))))))))))))) (Syntax.tcons (Syntax.tyInt Syntax.w64)
-          Syntax.tnil)),
-    ) (List._∷_ (9, Rows.any-gone (Syntax.tyInt Syntax.w32)) (List._∷_ (
-      10,
-      Rows.any-gone (Syntax.tyStruct (List._∷_ 98 (List._∷_ 105 (List._∷_ 116 (List._∷_ 115 (List._∷_ 58 (List._∷_ 58
-          (List._∷_ 66 (List._∷_ 105 (List._∷_ 116 (List._∷_ 80 (List._∷_ 111 (List._∷_ 115 (List._∷_ 105 (List._∷_ 116 (List._∷_ 105 (List._∷_ 111 (List._∷_ 110 List.[]))))))))))))))))) (Syntax.tcons
-          (Syntax.tyInt Syntax.w64) Syntax.tnil)),
-    ) (List._∷_ (11, Rows.any-gone (Syntax.tyRef Syntax.erased Syntax.mut (Held.behind Syntax.erased))) (List._∷_ (12, Rows.any-gone (Syntax.tyInt Syntax.w64))
-    (List._∷_ (13, Rows.any-gone Syntax.tyBool) (List._∷_ (14, Rows.any-gone (Syntax.tyRef Syntax.erased Syntax.mut (Held.behind Syntax.erased))) (List._∷_ (
-      15,
-      Rows.any-gone (Syntax.tyRef
-          Syntax.erased Syntax.imm (Held.behind Syntax.erased)),
-    ) List.[])))))))))))))))
+t13 = List._∷_ e1 (List._∷_ e4 (List._∷_ e30 (List._∷_ e40 (List._∷_ e43 (List._∷_ e44 (List._∷_ e47 (List._∷_ e49 (List._∷_ e51 (List._∷_ e53 (List._∷_ e7 (List._∷_ e11 (List._∷_ e12 (List._∷_ e14
+    (List._∷_ e18 (List._∷_ e20 List.[])))))))))))))))
 
 abbrev pub t14 : List.List Row.Entry
-t14 = List._∷_ (
-  0,
-  Rows.any-gone (Syntax.tyEnum (List._∷_ 99 (List._∷_ 111 (List._∷_ 100 (List._∷_ 101 (List._∷_ 58 (List._∷_ 58 (List._∷_ 67 (List._∷_ 111 (List._∷_ 100 (List._∷_ 101 (List._∷_ 100
-      List.[]))))))))))) (Syntax.ttcons (Syntax.tcons (Syntax.tyStruct (List._∷_ 99 (List._∷_ 111 (List._∷_ 100 (List._∷_ 101 (List._∷_ 58 (List._∷_ 58 (List._∷_ 67 (List._∷_ 111 (List._∷_ 100 (List._∷_ 101
-      List.[])))))))))) (Syntax.tcons (Syntax.tyInt Syntax.w64) (Syntax.tcons (Syntax.tyInt Syntax.w32) (Syntax.tcons Syntax.tyBool (Syntax.tcons (Syntax.tyStruct (List._∷_ 98 (List._∷_ 105 (List._∷_ 116
-      (List._∷_ 115 (List._∷_ 58 (List._∷_ 58 (List._∷_ 66 (List._∷_ 105 (List._∷_ 116 (List._∷_ 80 (List._∷_ 111 (List._∷_ 115 (List._∷_ 105 (List._∷_ 116 (List._∷_ 105 (List._∷_ 111 (List._∷_ 110
-      List.[]))))))))))))))))) (Syntax.tcons (Syntax.tyInt Syntax.w64) Syntax.tnil)) Syntax.tnil))))) Syntax.tnil) (Syntax.ttcons Syntax.tnil Syntax.ttnil))),
-) (List._∷_ (
-  1,
-  Rows.mref (Held.type
-      (Syntax.named 1) List.[]) (Syntax.tyRef (Syntax.named 0) Syntax.mut (Held.behind (Syntax.named 1))) 0,
-) (List._∷_ (2, Rows.sc-here (Row.sInt Syntax.w32)) (List._∷_ (
-  3,
-  Rows.sc-here (Row.sInt
-      Syntax.w32),
-) (List._∷_ (4, Rows.sc-here (Row.sInt Syntax.w32)) (List._∷_ (
-  5,
-  Rows.any-gone (Syntax.tyEnum (List._∷_ 98 (List._∷_ 105 (List._∷_ 116 (List._∷_ 115 (List._∷_ 58 (List._∷_ 58 (List._∷_
-      90 (List._∷_ 101 (List._∷_ 114 (List._∷_ 111 (List._∷_ 82 (List._∷_ 117 (List._∷_ 110 List.[]))))))))))))) (Syntax.ttcons (Syntax.tcons (Syntax.tyInt Syntax.w64) Syntax.tnil) (Syntax.ttcons
-      Syntax.tnil Syntax.ttnil))),
-) (List._∷_ (6, Rows.sc-here (Row.sInt Syntax.w64)) (List._∷_ (7, Rows.any-gone (Syntax.tyInt Syntax.w32)) (List._∷_ (
-  8,
-  Rows.any-gone (Syntax.tyStruct (List._∷_ 98
-      (List._∷_ 105 (List._∷_ 116 (List._∷_ 115 (List._∷_ 58 (List._∷_ 58 (List._∷_ 66 (List._∷_ 105 (List._∷_ 116 (List._∷_ 80 (List._∷_ 111 (List._∷_ 115 (List._∷_ 105 (List._∷_ 116 (List._∷_ 105
-      (List._∷_ 111 (List._∷_ 110 List.[]))))))))))))))))) (Syntax.tcons (Syntax.tyInt Syntax.w64) Syntax.tnil)),
-) (List._∷_ (9, Rows.any-gone (Syntax.tyInt Syntax.w32)) (List._∷_ (
-  10,
-  Rows.any-gone
-      (Syntax.tyStruct (List._∷_ 98 (List._∷_ 105 (List._∷_ 116 (List._∷_ 115 (List._∷_ 58 (List._∷_ 58 (List._∷_ 66 (List._∷_ 105 (List._∷_ 116 (List._∷_ 80 (List._∷_ 111 (List._∷_ 115 (List._∷_ 105
-      (List._∷_ 116 (List._∷_ 105 (List._∷_ 111 (List._∷_ 110 List.[]))))))))))))))))) (Syntax.tcons (Syntax.tyInt Syntax.w64) Syntax.tnil)),
-) (List._∷_ (
-  11,
-  Rows.any-gone (Syntax.tyRef Syntax.erased
-      Syntax.mut (Held.behind Syntax.erased)),
-) (List._∷_ (12, Rows.sc-here (Row.sInt Syntax.w64)) (List._∷_ (13, Rows.any-gone Syntax.tyBool) (List._∷_ (
-  14,
-  Rows.any-gone (Syntax.tyRef Syntax.erased
-      Syntax.mut (Held.behind Syntax.erased)),
-) (List._∷_ (15, Rows.any-gone (Syntax.tyRef Syntax.erased Syntax.imm (Held.behind Syntax.erased))) List.[])))))))))))))))
+t14 = List._∷_ e0 (List._∷_ e4 (List._∷_ e31 (List._∷_ e41 (List._∷_ e43 (List._∷_ e44 (List._∷_ e48 (List._∷_ e49 (List._∷_ e51 (List._∷_ e53 (List._∷_ e7 (List._∷_ e11 (List._∷_ e13 (List._∷_ e14
+    (List._∷_ e18 (List._∷_ e20 List.[])))))))))))))))
 
 abbrev pub t15 : List.List Row.Entry
-t15 = List._∷_ (
-  0,
-  Rows.any-gone (Syntax.tyEnum (List._∷_ 99 (List._∷_ 111 (List._∷_ 100 (List._∷_ 101 (List._∷_ 58 (List._∷_ 58 (List._∷_ 67 (List._∷_ 111 (List._∷_ 100 (List._∷_ 101 (List._∷_ 100
-      List.[]))))))))))) (Syntax.ttcons (Syntax.tcons (Syntax.tyStruct (List._∷_ 99 (List._∷_ 111 (List._∷_ 100 (List._∷_ 101 (List._∷_ 58 (List._∷_ 58 (List._∷_ 67 (List._∷_ 111 (List._∷_ 100 (List._∷_ 101
-      List.[])))))))))) (Syntax.tcons (Syntax.tyInt Syntax.w64) (Syntax.tcons (Syntax.tyInt Syntax.w32) (Syntax.tcons Syntax.tyBool (Syntax.tcons (Syntax.tyStruct (List._∷_ 98 (List._∷_ 105 (List._∷_ 116
-      (List._∷_ 115 (List._∷_ 58 (List._∷_ 58 (List._∷_ 66 (List._∷_ 105 (List._∷_ 116 (List._∷_ 80 (List._∷_ 111 (List._∷_ 115 (List._∷_ 105 (List._∷_ 116 (List._∷_ 105 (List._∷_ 111 (List._∷_ 110
-      List.[]))))))))))))))))) (Syntax.tcons (Syntax.tyInt Syntax.w64) Syntax.tnil)) Syntax.tnil))))) Syntax.tnil) (Syntax.ttcons Syntax.tnil Syntax.ttnil))),
-) (List._∷_ (
-  1,
-  Rows.mref (Held.type
-      (Syntax.named 1) List.[]) (Syntax.tyRef (Syntax.named 0) Syntax.mut (Held.behind (Syntax.named 1))) 0,
-) (List._∷_ (2, Rows.sc-here (Row.sInt Syntax.w32)) (List._∷_ (
-  3,
-  Rows.sc-here (Row.sInt
-      Syntax.w32),
-) (List._∷_ (4, Rows.sc-here (Row.sInt Syntax.w32)) (List._∷_ (
-  5,
-  Rows.any-gone (Syntax.tyEnum (List._∷_ 98 (List._∷_ 105 (List._∷_ 116 (List._∷_ 115 (List._∷_ 58 (List._∷_ 58 (List._∷_
-      90 (List._∷_ 101 (List._∷_ 114 (List._∷_ 111 (List._∷_ 82 (List._∷_ 117 (List._∷_ 110 List.[]))))))))))))) (Syntax.ttcons (Syntax.tcons (Syntax.tyInt Syntax.w64) Syntax.tnil) (Syntax.ttcons
-      Syntax.tnil Syntax.ttnil))),
-) (List._∷_ (6, Rows.sc-here (Row.sInt Syntax.w64)) (List._∷_ (7, Rows.any-gone (Syntax.tyInt Syntax.w32)) (List._∷_ (
-  8,
-  Rows.any-gone (Syntax.tyStruct (List._∷_ 98
-      (List._∷_ 105 (List._∷_ 116 (List._∷_ 115 (List._∷_ 58 (List._∷_ 58 (List._∷_ 66 (List._∷_ 105 (List._∷_ 116 (List._∷_ 80 (List._∷_ 111 (List._∷_ 115 (List._∷_ 105 (List._∷_ 116 (List._∷_ 105
-      (List._∷_ 111 (List._∷_ 110 List.[]))))))))))))))))) (Syntax.tcons (Syntax.tyInt Syntax.w64) Syntax.tnil)),
-) (List._∷_ (9, Rows.any-gone (Syntax.tyInt Syntax.w32)) (List._∷_ (
-  10,
-  Rows.any-gone
-      (Syntax.tyStruct (List._∷_ 98 (List._∷_ 105 (List._∷_ 116 (List._∷_ 115 (List._∷_ 58 (List._∷_ 58 (List._∷_ 66 (List._∷_ 105 (List._∷_ 116 (List._∷_ 80 (List._∷_ 111 (List._∷_ 115 (List._∷_ 105
-      (List._∷_ 116 (List._∷_ 105 (List._∷_ 111 (List._∷_ 110 List.[]))))))))))))))))) (Syntax.tcons (Syntax.tyInt Syntax.w64) Syntax.tnil)),
-) (List._∷_ (
-  11,
-  Rows.any-gone (Syntax.tyRef Syntax.erased
-      Syntax.mut (Held.behind Syntax.erased)),
-) (List._∷_ (12, Rows.sc-here (Row.sInt Syntax.w64)) (List._∷_ (13, Rows.sc-here Row.sBool) (List._∷_ (
-  14,
-  Rows.any-gone (Syntax.tyRef Syntax.erased
-      Syntax.mut (Held.behind Syntax.erased)),
-) (List._∷_ (15, Rows.any-gone (Syntax.tyRef Syntax.erased Syntax.imm (Held.behind Syntax.erased))) List.[])))))))))))))))
+t15 = List._∷_ e0 (List._∷_ e4 (List._∷_ e31 (List._∷_ e41 (List._∷_ e43 (List._∷_ e44 (List._∷_ e48 (List._∷_ e49 (List._∷_ e51 (List._∷_ e53 (List._∷_ e7 (List._∷_ e11 (List._∷_ e13 (List._∷_ e15
+    (List._∷_ e18 (List._∷_ e20 List.[])))))))))))))))
 
 abbrev pub t16 : List.List Row.Entry
-t16 = List._∷_ (
-  0,
-  Rows.any-gone (Syntax.tyEnum (List._∷_ 99 (List._∷_ 111 (List._∷_ 100 (List._∷_ 101 (List._∷_ 58 (List._∷_ 58 (List._∷_ 67 (List._∷_ 111 (List._∷_ 100 (List._∷_ 101 (List._∷_ 100
-      List.[]))))))))))) (Syntax.ttcons (Syntax.tcons (Syntax.tyStruct (List._∷_ 99 (List._∷_ 111 (List._∷_ 100 (List._∷_ 101 (List._∷_ 58 (List._∷_ 58 (List._∷_ 67 (List._∷_ 111 (List._∷_ 100 (List._∷_ 101
-      List.[])))))))))) (Syntax.tcons (Syntax.tyInt Syntax.w64) (Syntax.tcons (Syntax.tyInt Syntax.w32) (Syntax.tcons Syntax.tyBool (Syntax.tcons (Syntax.tyStruct (List._∷_ 98 (List._∷_ 105 (List._∷_ 116
-      (List._∷_ 115 (List._∷_ 58 (List._∷_ 58 (List._∷_ 66 (List._∷_ 105 (List._∷_ 116 (List._∷_ 80 (List._∷_ 111 (List._∷_ 115 (List._∷_ 105 (List._∷_ 116 (List._∷_ 105 (List._∷_ 111 (List._∷_ 110
-      List.[]))))))))))))))))) (Syntax.tcons (Syntax.tyInt Syntax.w64) Syntax.tnil)) Syntax.tnil))))) Syntax.tnil) (Syntax.ttcons Syntax.tnil Syntax.ttnil))),
-) (List._∷_ (
-  1,
-  Rows.mref (Held.type
-      (Syntax.named 1) List.[]) (Syntax.tyRef (Syntax.named 0) Syntax.mut (Held.behind (Syntax.named 1))) 0,
-) (List._∷_ (2, Rows.sc-here (Row.sInt Syntax.w32)) (List._∷_ (
-  3,
-  Rows.sc-here (Row.sInt
-      Syntax.w32),
-) (List._∷_ (4, Rows.sc-here (Row.sInt Syntax.w32)) (List._∷_ (
-  5,
-  Rows.any-gone (Syntax.tyEnum (List._∷_ 98 (List._∷_ 105 (List._∷_ 116 (List._∷_ 115 (List._∷_ 58 (List._∷_ 58 (List._∷_
-      90 (List._∷_ 101 (List._∷_ 114 (List._∷_ 111 (List._∷_ 82 (List._∷_ 117 (List._∷_ 110 List.[]))))))))))))) (Syntax.ttcons (Syntax.tcons (Syntax.tyInt Syntax.w64) Syntax.tnil) (Syntax.ttcons
-      Syntax.tnil Syntax.ttnil))),
-) (List._∷_ (6, Rows.sc-here (Row.sInt Syntax.w64)) (List._∷_ (7, Rows.any-gone (Syntax.tyInt Syntax.w32)) (List._∷_ (
-  8,
-  Rows.any-gone (Syntax.tyStruct (List._∷_ 98
-      (List._∷_ 105 (List._∷_ 116 (List._∷_ 115 (List._∷_ 58 (List._∷_ 58 (List._∷_ 66 (List._∷_ 105 (List._∷_ 116 (List._∷_ 80 (List._∷_ 111 (List._∷_ 115 (List._∷_ 105 (List._∷_ 116 (List._∷_ 105
-      (List._∷_ 111 (List._∷_ 110 List.[]))))))))))))))))) (Syntax.tcons (Syntax.tyInt Syntax.w64) Syntax.tnil)),
-) (List._∷_ (9, Rows.any-gone (Syntax.tyInt Syntax.w32)) (List._∷_ (
-  10,
-  Rows.any-gone
-      (Syntax.tyStruct (List._∷_ 98 (List._∷_ 105 (List._∷_ 116 (List._∷_ 115 (List._∷_ 58 (List._∷_ 58 (List._∷_ 66 (List._∷_ 105 (List._∷_ 116 (List._∷_ 80 (List._∷_ 111 (List._∷_ 115 (List._∷_ 105
-      (List._∷_ 116 (List._∷_ 105 (List._∷_ 111 (List._∷_ 110 List.[]))))))))))))))))) (Syntax.tcons (Syntax.tyInt Syntax.w64) Syntax.tnil)),
-) (List._∷_ (
-  11,
-  Rows.any-gone (Syntax.tyRef Syntax.erased
-      Syntax.mut (Held.behind Syntax.erased)),
-) (List._∷_ (12, Rows.any-gone (Syntax.tyInt Syntax.w64)) (List._∷_ (13, Rows.sc-here Row.sBool) (List._∷_ (
-  14,
-  Rows.any-gone (Syntax.tyRef Syntax.erased
-      Syntax.mut (Held.behind Syntax.erased)),
-) (List._∷_ (15, Rows.any-gone (Syntax.tyRef Syntax.erased Syntax.imm (Held.behind Syntax.erased))) List.[])))))))))))))))
+t16 = List._∷_ e0 (List._∷_ e4 (List._∷_ e31 (List._∷_ e41 (List._∷_ e43 (List._∷_ e44 (List._∷_ e48 (List._∷_ e49 (List._∷_ e51 (List._∷_ e53 (List._∷_ e7 (List._∷_ e11 (List._∷_ e12 (List._∷_ e15
+    (List._∷_ e18 (List._∷_ e20 List.[])))))))))))))))
 
 abbrev pub t17 : List.List Row.Entry
-t17 = List._∷_ (
-  0,
-  Rows.any-gone (Syntax.tyEnum (List._∷_ 99 (List._∷_ 111 (List._∷_ 100 (List._∷_ 101 (List._∷_ 58 (List._∷_ 58 (List._∷_ 67 (List._∷_ 111 (List._∷_ 100 (List._∷_ 101 (List._∷_ 100
-      List.[]))))))))))) (Syntax.ttcons (Syntax.tcons (Syntax.tyStruct (List._∷_ 99 (List._∷_ 111 (List._∷_ 100 (List._∷_ 101 (List._∷_ 58 (List._∷_ 58 (List._∷_ 67 (List._∷_ 111 (List._∷_ 100 (List._∷_ 101
-      List.[])))))))))) (Syntax.tcons (Syntax.tyInt Syntax.w64) (Syntax.tcons (Syntax.tyInt Syntax.w32) (Syntax.tcons Syntax.tyBool (Syntax.tcons (Syntax.tyStruct (List._∷_ 98 (List._∷_ 105 (List._∷_ 116
-      (List._∷_ 115 (List._∷_ 58 (List._∷_ 58 (List._∷_ 66 (List._∷_ 105 (List._∷_ 116 (List._∷_ 80 (List._∷_ 111 (List._∷_ 115 (List._∷_ 105 (List._∷_ 116 (List._∷_ 105 (List._∷_ 111 (List._∷_ 110
-      List.[]))))))))))))))))) (Syntax.tcons (Syntax.tyInt Syntax.w64) Syntax.tnil)) Syntax.tnil))))) Syntax.tnil) (Syntax.ttcons Syntax.tnil Syntax.ttnil))),
-) (List._∷_ (
-  1,
-  Rows.mref-owed (Held.type
-      (Syntax.named 1) List.[]) (Syntax.tyRef (Syntax.named 0) Syntax.mut (Held.behind (Syntax.named 1))) 0 3 Row.off,
-) (List._∷_ (2, Rows.sc-here (Row.sInt Syntax.w32)) (List._∷_ (
-  3,
-  Rows.sc-here
-      (Row.sInt Syntax.w32),
-) (List._∷_ (4, Rows.sc-here (Row.sInt Syntax.w32)) (List._∷_ (
-  5,
-  Rows.any-gone (Syntax.tyEnum (List._∷_ 98 (List._∷_ 105 (List._∷_ 116 (List._∷_ 115 (List._∷_ 58 (List._∷_ 58
-      (List._∷_ 90 (List._∷_ 101 (List._∷_ 114 (List._∷_ 111 (List._∷_ 82 (List._∷_ 117 (List._∷_ 110 List.[]))))))))))))) (Syntax.ttcons (Syntax.tcons (Syntax.tyInt Syntax.w64) Syntax.tnil) (Syntax.ttcons
-      Syntax.tnil Syntax.ttnil))),
-) (List._∷_ (6, Rows.sc-here (Row.sInt Syntax.w64)) (List._∷_ (7, Rows.any-gone (Syntax.tyInt Syntax.w32)) (List._∷_ (
-  8,
-  Rows.any-gone (Syntax.tyStruct (List._∷_ 98
-      (List._∷_ 105 (List._∷_ 116 (List._∷_ 115 (List._∷_ 58 (List._∷_ 58 (List._∷_ 66 (List._∷_ 105 (List._∷_ 116 (List._∷_ 80 (List._∷_ 111 (List._∷_ 115 (List._∷_ 105 (List._∷_ 116 (List._∷_ 105
-      (List._∷_ 111 (List._∷_ 110 List.[]))))))))))))))))) (Syntax.tcons (Syntax.tyInt Syntax.w64) Syntax.tnil)),
-) (List._∷_ (9, Rows.any-gone (Syntax.tyInt Syntax.w32)) (List._∷_ (
-  10,
-  Rows.any-gone
-      (Syntax.tyStruct (List._∷_ 98 (List._∷_ 105 (List._∷_ 116 (List._∷_ 115 (List._∷_ 58 (List._∷_ 58 (List._∷_ 66 (List._∷_ 105 (List._∷_ 116 (List._∷_ 80 (List._∷_ 111 (List._∷_ 115 (List._∷_ 105
-      (List._∷_ 116 (List._∷_ 105 (List._∷_ 111 (List._∷_ 110 List.[]))))))))))))))))) (Syntax.tcons (Syntax.tyInt Syntax.w64) Syntax.tnil)),
-) (List._∷_ (
-  11,
-  Rows.any-gone (Syntax.tyRef Syntax.erased
-      Syntax.mut (Held.behind Syntax.erased)),
-) (List._∷_ (12, Rows.any-gone (Syntax.tyInt Syntax.w64)) (List._∷_ (13, Rows.any-gone Syntax.tyBool) (List._∷_ (
-  14,
-  Rows.mref (Held.type (Syntax.named 1)
-      List.[]) (Syntax.tyRef Syntax.erased Syntax.mut (Held.behind Syntax.erased)) 3,
-) (List._∷_ (15, Rows.any-gone (Syntax.tyRef Syntax.erased Syntax.imm (Held.behind Syntax.erased)))
-    List.[])))))))))))))))
+t17 = List._∷_ e0 (List._∷_ e6 (List._∷_ e31 (List._∷_ e41 (List._∷_ e43 (List._∷_ e44 (List._∷_ e48 (List._∷_ e49 (List._∷_ e51 (List._∷_ e53 (List._∷_ e7 (List._∷_ e11 (List._∷_ e12 (List._∷_ e14
+    (List._∷_ (14, Rows.mref (Held.type (Syntax.named 1) List.[]) (Syntax.tyRef Syntax.erased Syntax.mut (Held.behind Syntax.erased)) 3) (List._∷_ e20 List.[])))))))))))))))
 
 abbrev pub t18 : List.List Row.Entry
-t18 = List._∷_ (
-  0,
-  Rows.any-gone (Syntax.tyEnum (List._∷_ 99 (List._∷_ 111 (List._∷_ 100 (List._∷_ 101 (List._∷_ 58 (List._∷_ 58 (List._∷_ 67 (List._∷_ 111 (List._∷_ 100 (List._∷_ 101 (List._∷_ 100
-      List.[]))))))))))) (Syntax.ttcons (Syntax.tcons (Syntax.tyStruct (List._∷_ 99 (List._∷_ 111 (List._∷_ 100 (List._∷_ 101 (List._∷_ 58 (List._∷_ 58 (List._∷_ 67 (List._∷_ 111 (List._∷_ 100 (List._∷_ 101
-      List.[])))))))))) (Syntax.tcons (Syntax.tyInt Syntax.w64) (Syntax.tcons (Syntax.tyInt Syntax.w32) (Syntax.tcons Syntax.tyBool (Syntax.tcons (Syntax.tyStruct (List._∷_ 98 (List._∷_ 105 (List._∷_ 116
-      (List._∷_ 115 (List._∷_ 58 (List._∷_ 58 (List._∷_ 66 (List._∷_ 105 (List._∷_ 116 (List._∷_ 80 (List._∷_ 111 (List._∷_ 115 (List._∷_ 105 (List._∷_ 116 (List._∷_ 105 (List._∷_ 111 (List._∷_ 110
-      List.[]))))))))))))))))) (Syntax.tcons (Syntax.tyInt Syntax.w64) Syntax.tnil)) Syntax.tnil))))) Syntax.tnil) (Syntax.ttcons Syntax.tnil Syntax.ttnil))),
-) (List._∷_ (
-  1,
-  Rows.mref-owed (Held.type
-      (Syntax.named 1) List.[]) (Syntax.tyRef (Syntax.named 0) Syntax.mut (Held.behind (Syntax.named 1))) 0 3 Row.off,
-) (List._∷_ (2, Rows.sc-here (Row.sInt Syntax.w32)) (List._∷_ (
-  3,
-  Rows.sc-here
-      (Row.sInt Syntax.w32),
-) (List._∷_ (4, Rows.sc-here (Row.sInt Syntax.w32)) (List._∷_ (
-  5,
-  Rows.any-gone (Syntax.tyEnum (List._∷_ 98 (List._∷_ 105 (List._∷_ 116 (List._∷_ 115 (List._∷_ 58 (List._∷_ 58
-      (List._∷_ 90 (List._∷_ 101 (List._∷_ 114 (List._∷_ 111 (List._∷_ 82 (List._∷_ 117 (List._∷_ 110 List.[]))))))))))))) (Syntax.ttcons (Syntax.tcons (Syntax.tyInt Syntax.w64) Syntax.tnil) (Syntax.ttcons
-      Syntax.tnil Syntax.ttnil))),
-) (List._∷_ (6, Rows.sc-here (Row.sInt Syntax.w64)) (List._∷_ (7, Rows.any-gone (Syntax.tyInt Syntax.w32)) (List._∷_ (
-  8,
-  Rows.any-gone (Syntax.tyStruct (List._∷_ 98
-      (List._∷_ 105 (List._∷_ 116 (List._∷_ 115 (List._∷_ 58 (List._∷_ 58 (List._∷_ 66 (List._∷_ 105 (List._∷_ 116 (List._∷_ 80 (List._∷_ 111 (List._∷_ 115 (List._∷_ 105 (List._∷_ 116 (List._∷_ 105
-      (List._∷_ 111 (List._∷_ 110 List.[]))))))))))))))))) (Syntax.tcons (Syntax.tyInt Syntax.w64) Syntax.tnil)),
-) (List._∷_ (9, Rows.any-gone (Syntax.tyInt Syntax.w32)) (List._∷_ (
-  10,
-  Rows.any-gone
-      (Syntax.tyStruct (List._∷_ 98 (List._∷_ 105 (List._∷_ 116 (List._∷_ 115 (List._∷_ 58 (List._∷_ 58 (List._∷_ 66 (List._∷_ 105 (List._∷_ 116 (List._∷_ 80 (List._∷_ 111 (List._∷_ 115 (List._∷_ 105
-      (List._∷_ 116 (List._∷_ 105 (List._∷_ 111 (List._∷_ 110 List.[]))))))))))))))))) (Syntax.tcons (Syntax.tyInt Syntax.w64) Syntax.tnil)),
-) (List._∷_ (
-  11,
-  Rows.any-gone (Syntax.tyRef Syntax.erased
-      Syntax.mut (Held.behind Syntax.erased)),
-) (List._∷_ (12, Rows.any-gone (Syntax.tyInt Syntax.w64)) (List._∷_ (13, Rows.any-gone Syntax.tyBool) (List._∷_ (
-  14,
-  Rows.mref (Held.type (Syntax.named 1)
-      List.[]) (Syntax.tyRef Syntax.erased Syntax.mut (Held.behind Syntax.erased)) 8,
-) (List._∷_ (15, Rows.any-gone (Syntax.tyRef Syntax.erased Syntax.imm (Held.behind Syntax.erased)))
-    List.[])))))))))))))))
+t18 = List._∷_ e0 (List._∷_ e6 (List._∷_ e31 (List._∷_ e41 (List._∷_ e43 (List._∷_ e44 (List._∷_ e48 (List._∷_ e49 (List._∷_ e51 (List._∷_ e53 (List._∷_ e7 (List._∷_ e11 (List._∷_ e12 (List._∷_ e14
+    (List._∷_ (14, Rows.mref (Held.type (Syntax.named 1) List.[]) (Syntax.tyRef Syntax.erased Syntax.mut (Held.behind Syntax.erased)) 8) (List._∷_ e20 List.[])))))))))))))))
 
 abbrev pub t19 : List.List Row.Entry
-t19 = List._∷_ (
-  0,
-  Rows.any-gone (Syntax.tyEnum (List._∷_ 99 (List._∷_ 111 (List._∷_ 100 (List._∷_ 101 (List._∷_ 58 (List._∷_ 58 (List._∷_ 67 (List._∷_ 111 (List._∷_ 100 (List._∷_ 101 (List._∷_ 100
-      List.[]))))))))))) (Syntax.ttcons (Syntax.tcons (Syntax.tyStruct (List._∷_ 99 (List._∷_ 111 (List._∷_ 100 (List._∷_ 101 (List._∷_ 58 (List._∷_ 58 (List._∷_ 67 (List._∷_ 111 (List._∷_ 100 (List._∷_ 101
-      List.[])))))))))) (Syntax.tcons (Syntax.tyInt Syntax.w64) (Syntax.tcons (Syntax.tyInt Syntax.w32) (Syntax.tcons Syntax.tyBool (Syntax.tcons (Syntax.tyStruct (List._∷_ 98 (List._∷_ 105 (List._∷_ 116
-      (List._∷_ 115 (List._∷_ 58 (List._∷_ 58 (List._∷_ 66 (List._∷_ 105 (List._∷_ 116 (List._∷_ 80 (List._∷_ 111 (List._∷_ 115 (List._∷_ 105 (List._∷_ 116 (List._∷_ 105 (List._∷_ 111 (List._∷_ 110
-      List.[]))))))))))))))))) (Syntax.tcons (Syntax.tyInt Syntax.w64) Syntax.tnil)) Syntax.tnil))))) Syntax.tnil) (Syntax.ttcons Syntax.tnil Syntax.ttnil))),
-) (List._∷_ (
-  1,
-  Rows.mref-owed (Held.type
-      (Syntax.named 1) List.[]) (Syntax.tyRef (Syntax.named 0) Syntax.mut (Held.behind (Syntax.named 1))) 0 3 Row.off,
-) (List._∷_ (2, Rows.sc-here (Row.sInt Syntax.w32)) (List._∷_ (
-  3,
-  Rows.sc-here
-      (Row.sInt Syntax.w32),
-) (List._∷_ (4, Rows.sc-here (Row.sInt Syntax.w32)) (List._∷_ (
-  5,
-  Rows.any-gone (Syntax.tyEnum (List._∷_ 98 (List._∷_ 105 (List._∷_ 116 (List._∷_ 115 (List._∷_ 58 (List._∷_ 58
-      (List._∷_ 90 (List._∷_ 101 (List._∷_ 114 (List._∷_ 111 (List._∷_ 82 (List._∷_ 117 (List._∷_ 110 List.[]))))))))))))) (Syntax.ttcons (Syntax.tcons (Syntax.tyInt Syntax.w64) Syntax.tnil) (Syntax.ttcons
-      Syntax.tnil Syntax.ttnil))),
-) (List._∷_ (6, Rows.sc-here (Row.sInt Syntax.w64)) (List._∷_ (7, Rows.any-gone (Syntax.tyInt Syntax.w32)) (List._∷_ (
-  8,
-  Rows.any-gone (Syntax.tyStruct (List._∷_ 98
-      (List._∷_ 105 (List._∷_ 116 (List._∷_ 115 (List._∷_ 58 (List._∷_ 58 (List._∷_ 66 (List._∷_ 105 (List._∷_ 116 (List._∷_ 80 (List._∷_ 111 (List._∷_ 115 (List._∷_ 105 (List._∷_ 116 (List._∷_ 105
-      (List._∷_ 111 (List._∷_ 110 List.[]))))))))))))))))) (Syntax.tcons (Syntax.tyInt Syntax.w64) Syntax.tnil)),
-) (List._∷_ (9, Rows.any-gone (Syntax.tyInt Syntax.w32)) (List._∷_ (
-  10,
-  Rows.any-gone
-      (Syntax.tyStruct (List._∷_ 98 (List._∷_ 105 (List._∷_ 116 (List._∷_ 115 (List._∷_ 58 (List._∷_ 58 (List._∷_ 66 (List._∷_ 105 (List._∷_ 116 (List._∷_ 80 (List._∷_ 111 (List._∷_ 115 (List._∷_ 105
-      (List._∷_ 116 (List._∷_ 105 (List._∷_ 111 (List._∷_ 110 List.[]))))))))))))))))) (Syntax.tcons (Syntax.tyInt Syntax.w64) Syntax.tnil)),
-) (List._∷_ (
-  11,
-  Rows.any-gone (Syntax.tyRef Syntax.erased
-      Syntax.mut (Held.behind Syntax.erased)),
-) (List._∷_ (12, Rows.any-gone (Syntax.tyInt Syntax.w64)) (List._∷_ (13, Rows.any-gone Syntax.tyBool) (List._∷_ (
-  14,
-  AtSlots.mrefAt 2 (λ κc. Held.type
-      (Syntax.named 1) (κc .1 .0)) Held.Value (λ κc v. v) (List._∷_ 8 (List._∷_ 1 List.[])) (Syntax.tyRef Syntax.erased Syntax.mut (Held.behind Syntax.erased)) 8,
-) (List._∷_ (
-  15,
-  Rows.any-gone
-      (Syntax.tyRef Syntax.erased Syntax.imm (Held.behind Syntax.erased)),
-) List.[])))))))))))))))
+t19 = List._∷_ e0 (List._∷_ e6 (List._∷_ e31 (List._∷_ e41 (List._∷_ e43 (List._∷_ e44 (List._∷_ e48 (List._∷_ e49 (List._∷_ e51 (List._∷_ e53 (List._∷_ e7 (List._∷_ e11 (List._∷_ e12 (List._∷_ e14
+    (List._∷_ e17 (List._∷_ e20 List.[])))))))))))))))
 
 abbrev pub t20 : List.List Row.Entry
-t20 = List._∷_ (
-  0,
-  Rows.any-gone (Syntax.tyEnum (List._∷_ 99 (List._∷_ 111 (List._∷_ 100 (List._∷_ 101 (List._∷_ 58 (List._∷_ 58 (List._∷_ 67 (List._∷_ 111 (List._∷_ 100 (List._∷_ 101 (List._∷_ 100
-      List.[]))))))))))) (Syntax.ttcons (Syntax.tcons (Syntax.tyStruct (List._∷_ 99 (List._∷_ 111 (List._∷_ 100 (List._∷_ 101 (List._∷_ 58 (List._∷_ 58 (List._∷_ 67 (List._∷_ 111 (List._∷_ 100 (List._∷_ 101
-      List.[])))))))))) (Syntax.tcons (Syntax.tyInt Syntax.w64) (Syntax.tcons (Syntax.tyInt Syntax.w32) (Syntax.tcons Syntax.tyBool (Syntax.tcons (Syntax.tyStruct (List._∷_ 98 (List._∷_ 105 (List._∷_ 116
-      (List._∷_ 115 (List._∷_ 58 (List._∷_ 58 (List._∷_ 66 (List._∷_ 105 (List._∷_ 116 (List._∷_ 80 (List._∷_ 111 (List._∷_ 115 (List._∷_ 105 (List._∷_ 116 (List._∷_ 105 (List._∷_ 111 (List._∷_ 110
-      List.[]))))))))))))))))) (Syntax.tcons (Syntax.tyInt Syntax.w64) Syntax.tnil)) Syntax.tnil))))) Syntax.tnil) (Syntax.ttcons Syntax.tnil Syntax.ttnil))),
-) (List._∷_ (
-  1,
-  Rows.mref-owed (Held.type
-      (Syntax.named 1) List.[]) (Syntax.tyRef (Syntax.named 0) Syntax.mut (Held.behind (Syntax.named 1))) 0 3 Row.off,
-) (List._∷_ (2, Rows.sc-here (Row.sInt Syntax.w32)) (List._∷_ (
-  3,
-  Rows.sc-here
-      (Row.sInt Syntax.w32),
-) (List._∷_ (4, Rows.sc-here (Row.sInt Syntax.w32)) (List._∷_ (
-  5,
-  Rows.any-gone (Syntax.tyEnum (List._∷_ 98 (List._∷_ 105 (List._∷_ 116 (List._∷_ 115 (List._∷_ 58 (List._∷_ 58
-      (List._∷_ 90 (List._∷_ 101 (List._∷_ 114 (List._∷_ 111 (List._∷_ 82 (List._∷_ 117 (List._∷_ 110 List.[]))))))))))))) (Syntax.ttcons (Syntax.tcons (Syntax.tyInt Syntax.w64) Syntax.tnil) (Syntax.ttcons
-      Syntax.tnil Syntax.ttnil))),
-) (List._∷_ (6, Rows.sc-here (Row.sInt Syntax.w64)) (List._∷_ (7, Rows.sc-here (Row.sInt Syntax.w32)) (List._∷_ (
-  8,
-  Rows.any-gone (Syntax.tyStruct (List._∷_ 98
-      (List._∷_ 105 (List._∷_ 116 (List._∷_ 115 (List._∷_ 58 (List._∷_ 58 (List._∷_ 66 (List._∷_ 105 (List._∷_ 116 (List._∷_ 80 (List._∷_ 111 (List._∷_ 115 (List._∷_ 105 (List._∷_ 116 (List._∷_ 105
-      (List._∷_ 111 (List._∷_ 110 List.[]))))))))))))))))) (Syntax.tcons (Syntax.tyInt Syntax.w64) Syntax.tnil)),
-) (List._∷_ (9, Rows.any-gone (Syntax.tyInt Syntax.w32)) (List._∷_ (
-  10,
-  Rows.any-gone
-      (Syntax.tyStruct (List._∷_ 98 (List._∷_ 105 (List._∷_ 116 (List._∷_ 115 (List._∷_ 58 (List._∷_ 58 (List._∷_ 66 (List._∷_ 105 (List._∷_ 116 (List._∷_ 80 (List._∷_ 111 (List._∷_ 115 (List._∷_ 105
-      (List._∷_ 116 (List._∷_ 105 (List._∷_ 111 (List._∷_ 110 List.[]))))))))))))))))) (Syntax.tcons (Syntax.tyInt Syntax.w64) Syntax.tnil)),
-) (List._∷_ (
-  11,
-  Rows.any-gone (Syntax.tyRef Syntax.erased
-      Syntax.mut (Held.behind Syntax.erased)),
-) (List._∷_ (12, Rows.any-gone (Syntax.tyInt Syntax.w64)) (List._∷_ (13, Rows.any-gone Syntax.tyBool) (List._∷_ (
-  14,
-  AtSlots.mleftAt 2 (λ κc. Held.type
-      (Syntax.named 1) (κc .1 .0)) Held.Value (λ κc v. v) (List._∷_ 8 (List._∷_ 1 List.[])) (Syntax.tyRef Syntax.erased Syntax.mut (Held.behind Syntax.erased)),
-) (List._∷_ (
-  15,
-  Rows.any-gone (Syntax.tyRef
-      Syntax.erased Syntax.imm (Held.behind Syntax.erased)),
-) List.[])))))))))))))))
+t20 = List._∷_ e0 (List._∷_ e6 (List._∷_ e31 (List._∷_ e41 (List._∷_ e43 (List._∷_ e44 (List._∷_ e48 (List._∷_ e50 (List._∷_ e51 (List._∷_ e53 (List._∷_ e7 (List._∷_ e11 (List._∷_ e12 (List._∷_ e14
+    (List._∷_ e16 (List._∷_ e20 List.[])))))))))))))))
 
 abbrev pub t21 : List.List Row.Entry
-t21 = List._∷_ (
-  0,
-  Rows.any-gone (Syntax.tyEnum (List._∷_ 99 (List._∷_ 111 (List._∷_ 100 (List._∷_ 101 (List._∷_ 58 (List._∷_ 58 (List._∷_ 67 (List._∷_ 111 (List._∷_ 100 (List._∷_ 101 (List._∷_ 100
-      List.[]))))))))))) (Syntax.ttcons (Syntax.tcons (Syntax.tyStruct (List._∷_ 99 (List._∷_ 111 (List._∷_ 100 (List._∷_ 101 (List._∷_ 58 (List._∷_ 58 (List._∷_ 67 (List._∷_ 111 (List._∷_ 100 (List._∷_ 101
-      List.[])))))))))) (Syntax.tcons (Syntax.tyInt Syntax.w64) (Syntax.tcons (Syntax.tyInt Syntax.w32) (Syntax.tcons Syntax.tyBool (Syntax.tcons (Syntax.tyStruct (List._∷_ 98 (List._∷_ 105 (List._∷_ 116
-      (List._∷_ 115 (List._∷_ 58 (List._∷_ 58 (List._∷_ 66 (List._∷_ 105 (List._∷_ 116 (List._∷_ 80 (List._∷_ 111 (List._∷_ 115 (List._∷_ 105 (List._∷_ 116 (List._∷_ 105 (List._∷_ 111 (List._∷_ 110
-      List.[]))))))))))))))))) (Syntax.tcons (Syntax.tyInt Syntax.w64) Syntax.tnil)) Syntax.tnil))))) Syntax.tnil) (Syntax.ttcons Syntax.tnil Syntax.ttnil))),
-) (List._∷_ (
-  1,
-  Rows.mref (Held.type
-      (Syntax.named 1) List.[]) (Syntax.tyRef (Syntax.named 0) Syntax.mut (Held.behind (Syntax.named 1))) 0,
-) (List._∷_ (2, Rows.sc-here (Row.sInt Syntax.w32)) (List._∷_ (
-  3,
-  Rows.sc-here (Row.sInt
-      Syntax.w32),
-) (List._∷_ (4, Rows.sc-here (Row.sInt Syntax.w32)) (List._∷_ (
-  5,
-  Rows.any-gone (Syntax.tyEnum (List._∷_ 98 (List._∷_ 105 (List._∷_ 116 (List._∷_ 115 (List._∷_ 58 (List._∷_ 58 (List._∷_
-      90 (List._∷_ 101 (List._∷_ 114 (List._∷_ 111 (List._∷_ 82 (List._∷_ 117 (List._∷_ 110 List.[]))))))))))))) (Syntax.ttcons (Syntax.tcons (Syntax.tyInt Syntax.w64) Syntax.tnil) (Syntax.ttcons
-      Syntax.tnil Syntax.ttnil))),
-) (List._∷_ (6, Rows.sc-here (Row.sInt Syntax.w64)) (List._∷_ (7, Rows.sc-here (Row.sInt Syntax.w32)) (List._∷_ (
-  8,
-  Rows.any-gone (Syntax.tyStruct (List._∷_ 98
-      (List._∷_ 105 (List._∷_ 116 (List._∷_ 115 (List._∷_ 58 (List._∷_ 58 (List._∷_ 66 (List._∷_ 105 (List._∷_ 116 (List._∷_ 80 (List._∷_ 111 (List._∷_ 115 (List._∷_ 105 (List._∷_ 116 (List._∷_ 105
-      (List._∷_ 111 (List._∷_ 110 List.[]))))))))))))))))) (Syntax.tcons (Syntax.tyInt Syntax.w64) Syntax.tnil)),
-) (List._∷_ (9, Rows.any-gone (Syntax.tyInt Syntax.w32)) (List._∷_ (
-  10,
-  Rows.any-gone
-      (Syntax.tyStruct (List._∷_ 98 (List._∷_ 105 (List._∷_ 116 (List._∷_ 115 (List._∷_ 58 (List._∷_ 58 (List._∷_ 66 (List._∷_ 105 (List._∷_ 116 (List._∷_ 80 (List._∷_ 111 (List._∷_ 115 (List._∷_ 105
-      (List._∷_ 116 (List._∷_ 105 (List._∷_ 111 (List._∷_ 110 List.[]))))))))))))))))) (Syntax.tcons (Syntax.tyInt Syntax.w64) Syntax.tnil)),
-) (List._∷_ (
-  11,
-  Rows.any-gone (Syntax.tyRef Syntax.erased
-      Syntax.mut (Held.behind Syntax.erased)),
-) (List._∷_ (12, Rows.any-gone (Syntax.tyInt Syntax.w64)) (List._∷_ (13, Rows.any-gone Syntax.tyBool) (List._∷_ (
-  14,
-  Rows.any-gone (Syntax.tyRef
-      Syntax.erased Syntax.mut (Held.behind Syntax.erased)),
-) (List._∷_ (15, Rows.any-gone (Syntax.tyRef Syntax.erased Syntax.imm (Held.behind Syntax.erased))) List.[])))))))))))))))
+t21 = List._∷_ e0 (List._∷_ e4 (List._∷_ e31 (List._∷_ e41 (List._∷_ e43 (List._∷_ e44 (List._∷_ e48 (List._∷_ e50 (List._∷_ e51 (List._∷_ e53 (List._∷_ e7 (List._∷_ e11 (List._∷_ e12 (List._∷_ e14
+    (List._∷_ e18 (List._∷_ e20 List.[])))))))))))))))
 
 abbrev pub t22 : List.List Row.Entry
-t22 = List._∷_ (
-  0,
-  Rows.any-gone (Syntax.tyEnum (List._∷_ 99 (List._∷_ 111 (List._∷_ 100 (List._∷_ 101 (List._∷_ 58 (List._∷_ 58 (List._∷_ 67 (List._∷_ 111 (List._∷_ 100 (List._∷_ 101 (List._∷_ 100
-      List.[]))))))))))) (Syntax.ttcons (Syntax.tcons (Syntax.tyStruct (List._∷_ 99 (List._∷_ 111 (List._∷_ 100 (List._∷_ 101 (List._∷_ 58 (List._∷_ 58 (List._∷_ 67 (List._∷_ 111 (List._∷_ 100 (List._∷_ 101
-      List.[])))))))))) (Syntax.tcons (Syntax.tyInt Syntax.w64) (Syntax.tcons (Syntax.tyInt Syntax.w32) (Syntax.tcons Syntax.tyBool (Syntax.tcons (Syntax.tyStruct (List._∷_ 98 (List._∷_ 105 (List._∷_ 116
-      (List._∷_ 115 (List._∷_ 58 (List._∷_ 58 (List._∷_ 66 (List._∷_ 105 (List._∷_ 116 (List._∷_ 80 (List._∷_ 111 (List._∷_ 115 (List._∷_ 105 (List._∷_ 116 (List._∷_ 105 (List._∷_ 111 (List._∷_ 110
-      List.[]))))))))))))))))) (Syntax.tcons (Syntax.tyInt Syntax.w64) Syntax.tnil)) Syntax.tnil))))) Syntax.tnil) (Syntax.ttcons Syntax.tnil Syntax.ttnil))),
-) (List._∷_ (
-  1,
-  Reshare.mref-owedS (Held.type
-      (Syntax.named 1) List.[]) (Syntax.tyRef (Syntax.named 0) Syntax.mut (Held.behind (Syntax.named 1))) 0 4 Row.off,
-) (List._∷_ (2, Rows.sc-here (Row.sInt Syntax.w32)) (List._∷_ (
-  3,
-  Rows.sc-here
-      (Row.sInt Syntax.w32),
-) (List._∷_ (4, Rows.sc-here (Row.sInt Syntax.w32)) (List._∷_ (
-  5,
-  Rows.any-gone (Syntax.tyEnum (List._∷_ 98 (List._∷_ 105 (List._∷_ 116 (List._∷_ 115 (List._∷_ 58 (List._∷_ 58
-      (List._∷_ 90 (List._∷_ 101 (List._∷_ 114 (List._∷_ 111 (List._∷_ 82 (List._∷_ 117 (List._∷_ 110 List.[]))))))))))))) (Syntax.ttcons (Syntax.tcons (Syntax.tyInt Syntax.w64) Syntax.tnil) (Syntax.ttcons
-      Syntax.tnil Syntax.ttnil))),
-) (List._∷_ (6, Rows.sc-here (Row.sInt Syntax.w64)) (List._∷_ (7, Rows.sc-here (Row.sInt Syntax.w32)) (List._∷_ (
-  8,
-  Rows.any-gone (Syntax.tyStruct (List._∷_ 98
-      (List._∷_ 105 (List._∷_ 116 (List._∷_ 115 (List._∷_ 58 (List._∷_ 58 (List._∷_ 66 (List._∷_ 105 (List._∷_ 116 (List._∷_ 80 (List._∷_ 111 (List._∷_ 115 (List._∷_ 105 (List._∷_ 116 (List._∷_ 105
-      (List._∷_ 111 (List._∷_ 110 List.[]))))))))))))))))) (Syntax.tcons (Syntax.tyInt Syntax.w64) Syntax.tnil)),
-) (List._∷_ (9, Rows.any-gone (Syntax.tyInt Syntax.w32)) (List._∷_ (
-  10,
-  Rows.any-gone
-      (Syntax.tyStruct (List._∷_ 98 (List._∷_ 105 (List._∷_ 116 (List._∷_ 115 (List._∷_ 58 (List._∷_ 58 (List._∷_ 66 (List._∷_ 105 (List._∷_ 116 (List._∷_ 80 (List._∷_ 111 (List._∷_ 115 (List._∷_ 105
-      (List._∷_ 116 (List._∷_ 105 (List._∷_ 111 (List._∷_ 110 List.[]))))))))))))))))) (Syntax.tcons (Syntax.tyInt Syntax.w64) Syntax.tnil)),
-) (List._∷_ (
-  11,
-  Rows.any-gone (Syntax.tyRef Syntax.erased
-      Syntax.mut (Held.behind Syntax.erased)),
-) (List._∷_ (12, Rows.any-gone (Syntax.tyInt Syntax.w64)) (List._∷_ (13, Rows.any-gone Syntax.tyBool) (List._∷_ (
-  14,
-  Rows.any-gone (Syntax.tyRef
-      Syntax.erased Syntax.mut (Held.behind Syntax.erased)),
-) (List._∷_ (15, Rows.sref (Held.type (Syntax.named 1) List.[]) (Syntax.tyRef Syntax.erased Syntax.imm (Held.behind Syntax.erased)) 4)
-    List.[])))))))))))))))
+t22 = List._∷_ e0 (List._∷_ e2 (List._∷_ e31 (List._∷_ e41 (List._∷_ e43 (List._∷_ e44 (List._∷_ e48 (List._∷_ e50 (List._∷_ e51 (List._∷_ e53 (List._∷_ e7 (List._∷_ e11 (List._∷_ e12 (List._∷_ e14
+    (List._∷_ e18 (List._∷_ (15, Rows.sref (Held.type (Syntax.named 1) List.[]) (Syntax.tyRef Syntax.erased Syntax.imm (Held.behind Syntax.erased)) 4) List.[])))))))))))))))
 
 abbrev pub t23 : List.List Row.Entry
-t23 = List._∷_ (
-  0,
-  Rows.any-gone (Syntax.tyEnum (List._∷_ 99 (List._∷_ 111 (List._∷_ 100 (List._∷_ 101 (List._∷_ 58 (List._∷_ 58 (List._∷_ 67 (List._∷_ 111 (List._∷_ 100 (List._∷_ 101 (List._∷_ 100
-      List.[]))))))))))) (Syntax.ttcons (Syntax.tcons (Syntax.tyStruct (List._∷_ 99 (List._∷_ 111 (List._∷_ 100 (List._∷_ 101 (List._∷_ 58 (List._∷_ 58 (List._∷_ 67 (List._∷_ 111 (List._∷_ 100 (List._∷_ 101
-      List.[])))))))))) (Syntax.tcons (Syntax.tyInt Syntax.w64) (Syntax.tcons (Syntax.tyInt Syntax.w32) (Syntax.tcons Syntax.tyBool (Syntax.tcons (Syntax.tyStruct (List._∷_ 98 (List._∷_ 105 (List._∷_ 116
-      (List._∷_ 115 (List._∷_ 58 (List._∷_ 58 (List._∷_ 66 (List._∷_ 105 (List._∷_ 116 (List._∷_ 80 (List._∷_ 111 (List._∷_ 115 (List._∷_ 105 (List._∷_ 116 (List._∷_ 105 (List._∷_ 111 (List._∷_ 110
-      List.[]))))))))))))))))) (Syntax.tcons (Syntax.tyInt Syntax.w64) Syntax.tnil)) Syntax.tnil))))) Syntax.tnil) (Syntax.ttcons Syntax.tnil Syntax.ttnil))),
-) (List._∷_ (
-  1,
-  Reshare.mref-owedS (Held.type
-      (Syntax.named 1) List.[]) (Syntax.tyRef (Syntax.named 0) Syntax.mut (Held.behind (Syntax.named 1))) 0 4 Row.off,
-) (List._∷_ (2, Rows.sc-here (Row.sInt Syntax.w32)) (List._∷_ (
-  3,
-  Rows.sc-here
-      (Row.sInt Syntax.w32),
-) (List._∷_ (4, Rows.sc-here (Row.sInt Syntax.w32)) (List._∷_ (
-  5,
-  Rows.any-gone (Syntax.tyEnum (List._∷_ 98 (List._∷_ 105 (List._∷_ 116 (List._∷_ 115 (List._∷_ 58 (List._∷_ 58
-      (List._∷_ 90 (List._∷_ 101 (List._∷_ 114 (List._∷_ 111 (List._∷_ 82 (List._∷_ 117 (List._∷_ 110 List.[]))))))))))))) (Syntax.ttcons (Syntax.tcons (Syntax.tyInt Syntax.w64) Syntax.tnil) (Syntax.ttcons
-      Syntax.tnil Syntax.ttnil))),
-) (List._∷_ (6, Rows.sc-here (Row.sInt Syntax.w64)) (List._∷_ (7, Rows.sc-here (Row.sInt Syntax.w32)) (List._∷_ (
-  8,
-  Rows.any-gone (Syntax.tyStruct (List._∷_ 98
-      (List._∷_ 105 (List._∷_ 116 (List._∷_ 115 (List._∷_ 58 (List._∷_ 58 (List._∷_ 66 (List._∷_ 105 (List._∷_ 116 (List._∷_ 80 (List._∷_ 111 (List._∷_ 115 (List._∷_ 105 (List._∷_ 116 (List._∷_ 105
-      (List._∷_ 111 (List._∷_ 110 List.[]))))))))))))))))) (Syntax.tcons (Syntax.tyInt Syntax.w64) Syntax.tnil)),
-) (List._∷_ (9, Rows.any-gone (Syntax.tyInt Syntax.w32)) (List._∷_ (
-  10,
-  Rows.any-gone
-      (Syntax.tyStruct (List._∷_ 98 (List._∷_ 105 (List._∷_ 116 (List._∷_ 115 (List._∷_ 58 (List._∷_ 58 (List._∷_ 66 (List._∷_ 105 (List._∷_ 116 (List._∷_ 80 (List._∷_ 111 (List._∷_ 115 (List._∷_ 105
-      (List._∷_ 116 (List._∷_ 105 (List._∷_ 111 (List._∷_ 110 List.[]))))))))))))))))) (Syntax.tcons (Syntax.tyInt Syntax.w64) Syntax.tnil)),
-) (List._∷_ (
-  11,
-  Rows.any-gone (Syntax.tyRef Syntax.erased
-      Syntax.mut (Held.behind Syntax.erased)),
-) (List._∷_ (12, Rows.any-gone (Syntax.tyInt Syntax.w64)) (List._∷_ (13, Rows.any-gone Syntax.tyBool) (List._∷_ (
-  14,
-  Rows.any-gone (Syntax.tyRef
-      Syntax.erased Syntax.mut (Held.behind Syntax.erased)),
-) (List._∷_ (15, Rows.sref (Held.type (Syntax.named 1) List.[]) (Syntax.tyRef Syntax.erased Syntax.imm (Held.behind Syntax.erased)) 9)
-    List.[])))))))))))))))
+t23 = List._∷_ e0 (List._∷_ e2 (List._∷_ e31 (List._∷_ e41 (List._∷_ e43 (List._∷_ e44 (List._∷_ e48 (List._∷_ e50 (List._∷_ e51 (List._∷_ e53 (List._∷_ e7 (List._∷_ e11 (List._∷_ e12 (List._∷_ e14
+    (List._∷_ e18 (List._∷_ e21 List.[])))))))))))))))
 
 abbrev pub t24 : List.List Row.Entry
-t24 = List._∷_ (
-  0,
-  Rows.any-gone (Syntax.tyEnum (List._∷_ 99 (List._∷_ 111 (List._∷_ 100 (List._∷_ 101 (List._∷_ 58 (List._∷_ 58 (List._∷_ 67 (List._∷_ 111 (List._∷_ 100 (List._∷_ 101 (List._∷_ 100
-      List.[]))))))))))) (Syntax.ttcons (Syntax.tcons (Syntax.tyStruct (List._∷_ 99 (List._∷_ 111 (List._∷_ 100 (List._∷_ 101 (List._∷_ 58 (List._∷_ 58 (List._∷_ 67 (List._∷_ 111 (List._∷_ 100 (List._∷_ 101
-      List.[])))))))))) (Syntax.tcons (Syntax.tyInt Syntax.w64) (Syntax.tcons (Syntax.tyInt Syntax.w32) (Syntax.tcons Syntax.tyBool (Syntax.tcons (Syntax.tyStruct (List._∷_ 98 (List._∷_ 105 (List._∷_ 116
-      (List._∷_ 115 (List._∷_ 58 (List._∷_ 58 (List._∷_ 66 (List._∷_ 105 (List._∷_ 116 (List._∷_ 80 (List._∷_ 111 (List._∷_ 115 (List._∷_ 105 (List._∷_ 116 (List._∷_ 105 (List._∷_ 111 (List._∷_ 110
-      List.[]))))))))))))))))) (Syntax.tcons (Syntax.tyInt Syntax.w64) Syntax.tnil)) Syntax.tnil))))) Syntax.tnil) (Syntax.ttcons Syntax.tnil Syntax.ttnil))),
-) (List._∷_ (
-  1,
-  Reshare.mref-owedS (Held.type
-      (Syntax.named 1) List.[]) (Syntax.tyRef (Syntax.named 0) Syntax.mut (Held.behind (Syntax.named 1))) 0 4 Row.off,
-) (List._∷_ (2, Rows.sc-here (Row.sInt Syntax.w32)) (List._∷_ (
-  3,
-  Rows.sc-here
-      (Row.sInt Syntax.w32),
-) (List._∷_ (4, Rows.sc-here (Row.sInt Syntax.w32)) (List._∷_ (
-  5,
-  Rows.any-gone (Syntax.tyEnum (List._∷_ 98 (List._∷_ 105 (List._∷_ 116 (List._∷_ 115 (List._∷_ 58 (List._∷_ 58
-      (List._∷_ 90 (List._∷_ 101 (List._∷_ 114 (List._∷_ 111 (List._∷_ 82 (List._∷_ 117 (List._∷_ 110 List.[]))))))))))))) (Syntax.ttcons (Syntax.tcons (Syntax.tyInt Syntax.w64) Syntax.tnil) (Syntax.ttcons
-      Syntax.tnil Syntax.ttnil))),
-) (List._∷_ (6, Rows.sc-here (Row.sInt Syntax.w64)) (List._∷_ (7, Rows.sc-here (Row.sInt Syntax.w32)) (List._∷_ (
-  8,
-  Rows.any-gone (Syntax.tyStruct (List._∷_ 98
-      (List._∷_ 105 (List._∷_ 116 (List._∷_ 115 (List._∷_ 58 (List._∷_ 58 (List._∷_ 66 (List._∷_ 105 (List._∷_ 116 (List._∷_ 80 (List._∷_ 111 (List._∷_ 115 (List._∷_ 105 (List._∷_ 116 (List._∷_ 105
-      (List._∷_ 111 (List._∷_ 110 List.[]))))))))))))))))) (Syntax.tcons (Syntax.tyInt Syntax.w64) Syntax.tnil)),
-) (List._∷_ (9, Rows.any-gone (Syntax.tyInt Syntax.w32)) (List._∷_ (
-  10,
-  Rows.any-gone
-      (Syntax.tyStruct (List._∷_ 98 (List._∷_ 105 (List._∷_ 116 (List._∷_ 115 (List._∷_ 58 (List._∷_ 58 (List._∷_ 66 (List._∷_ 105 (List._∷_ 116 (List._∷_ 80 (List._∷_ 111 (List._∷_ 115 (List._∷_ 105
-      (List._∷_ 116 (List._∷_ 105 (List._∷_ 111 (List._∷_ 110 List.[]))))))))))))))))) (Syntax.tcons (Syntax.tyInt Syntax.w64) Syntax.tnil)),
-) (List._∷_ (
-  11,
-  Rows.any-gone (Syntax.tyRef Syntax.erased
-      Syntax.mut (Held.behind Syntax.erased)),
-) (List._∷_ (12, Rows.any-gone (Syntax.tyInt Syntax.w64)) (List._∷_ (13, Rows.any-gone Syntax.tyBool) (List._∷_ (
-  14,
-  Rows.any-gone (Syntax.tyRef
-      Syntax.erased Syntax.mut (Held.behind Syntax.erased)),
-) (List._∷_ (
-  15,
-  AtSlots.srefAt 2 (λ κc. Held.type (Syntax.named 1) (κc .1 .0)) Held.Value (λ κc v. v) (List._∷_ 9 (List._∷_ 1 List.[]))
-      (Syntax.tyRef Syntax.erased Syntax.imm (Held.behind Syntax.erased)) 9,
-) List.[])))))))))))))))
+t24 = List._∷_ e0 (List._∷_ e2 (List._∷_ e31 (List._∷_ e41 (List._∷_ e43 (List._∷_ e44 (List._∷_ e48 (List._∷_ e50 (List._∷_ e51 (List._∷_ e53 (List._∷_ e7 (List._∷_ e11 (List._∷_ e12 (List._∷_ e14
+    (List._∷_ e18 (List._∷_ e19 List.[])))))))))))))))
 
 abbrev pub t25 : List.List Row.Entry
-t25 = List._∷_ (
-  0,
-  Rows.any-gone (Syntax.tyEnum (List._∷_ 99 (List._∷_ 111 (List._∷_ 100 (List._∷_ 101 (List._∷_ 58 (List._∷_ 58 (List._∷_ 67 (List._∷_ 111 (List._∷_ 100 (List._∷_ 101 (List._∷_ 100
-      List.[]))))))))))) (Syntax.ttcons (Syntax.tcons (Syntax.tyStruct (List._∷_ 99 (List._∷_ 111 (List._∷_ 100 (List._∷_ 101 (List._∷_ 58 (List._∷_ 58 (List._∷_ 67 (List._∷_ 111 (List._∷_ 100 (List._∷_ 101
-      List.[])))))))))) (Syntax.tcons (Syntax.tyInt Syntax.w64) (Syntax.tcons (Syntax.tyInt Syntax.w32) (Syntax.tcons Syntax.tyBool (Syntax.tcons (Syntax.tyStruct (List._∷_ 98 (List._∷_ 105 (List._∷_ 116
-      (List._∷_ 115 (List._∷_ 58 (List._∷_ 58 (List._∷_ 66 (List._∷_ 105 (List._∷_ 116 (List._∷_ 80 (List._∷_ 111 (List._∷_ 115 (List._∷_ 105 (List._∷_ 116 (List._∷_ 105 (List._∷_ 111 (List._∷_ 110
-      List.[]))))))))))))))))) (Syntax.tcons (Syntax.tyInt Syntax.w64) Syntax.tnil)) Syntax.tnil))))) Syntax.tnil) (Syntax.ttcons Syntax.tnil Syntax.ttnil))),
-) (List._∷_ (
-  1,
-  Reshare.mref-owedS (Held.type
-      (Syntax.named 1) List.[]) (Syntax.tyRef (Syntax.named 0) Syntax.mut (Held.behind (Syntax.named 1))) 0 4 Row.off,
-) (List._∷_ (2, Rows.sc-here (Row.sInt Syntax.w32)) (List._∷_ (
-  3,
-  Rows.sc-here
-      (Row.sInt Syntax.w32),
-) (List._∷_ (4, Rows.sc-here (Row.sInt Syntax.w32)) (List._∷_ (
-  5,
-  Rows.any-gone (Syntax.tyEnum (List._∷_ 98 (List._∷_ 105 (List._∷_ 116 (List._∷_ 115 (List._∷_ 58 (List._∷_ 58
-      (List._∷_ 90 (List._∷_ 101 (List._∷_ 114 (List._∷_ 111 (List._∷_ 82 (List._∷_ 117 (List._∷_ 110 List.[]))))))))))))) (Syntax.ttcons (Syntax.tcons (Syntax.tyInt Syntax.w64) Syntax.tnil) (Syntax.ttcons
-      Syntax.tnil Syntax.ttnil))),
-) (List._∷_ (6, Rows.sc-here (Row.sInt Syntax.w64)) (List._∷_ (7, Rows.sc-here (Row.sInt Syntax.w32)) (List._∷_ (8, Rows.whole (Declared'.row BitPosition.the-type))
-    (List._∷_ (9, Rows.any-gone (Syntax.tyInt Syntax.w32)) (List._∷_ (
-      10,
-      Rows.any-gone (Syntax.tyStruct (List._∷_ 98 (List._∷_ 105 (List._∷_ 116 (List._∷_ 115 (List._∷_ 58 (List._∷_ 58 (List._∷_ 66
-          (List._∷_ 105 (List._∷_ 116 (List._∷_ 80 (List._∷_ 111 (List._∷_ 115 (List._∷_ 105 (List._∷_ 116 (List._∷_ 105 (List._∷_ 111 (List._∷_ 110 List.[]))))))))))))))))) (Syntax.tcons (Syntax.tyInt
-          Syntax.w64) Syntax.tnil)),
-    ) (List._∷_ (11, Rows.any-gone (Syntax.tyRef Syntax.erased Syntax.mut (Held.behind Syntax.erased))) (List._∷_ (12, Rows.any-gone (Syntax.tyInt Syntax.w64)) (List._∷_ (
-      13,
-      Rows.any-gone Syntax.tyBool,
-    ) (List._∷_ (14, Rows.any-gone (Syntax.tyRef Syntax.erased Syntax.mut (Held.behind Syntax.erased))) (List._∷_ (
-      15,
-      AtSlots.srefAt 2 (λ κc. Held.type (Syntax.named
-          1) (κc .1 .0)) Held.Value (λ κc v. v) (List._∷_ 9 (List._∷_ 1 List.[])) (Syntax.tyRef Syntax.erased Syntax.imm (Held.behind Syntax.erased)) 9,
-    ) List.[])))))))))))))))
+t25 = List._∷_ e0 (List._∷_ e2 (List._∷_ e31 (List._∷_ e41 (List._∷_ e43 (List._∷_ e44 (List._∷_ e48 (List._∷_ e50 (List._∷_ e52 (List._∷_ e53 (List._∷_ e7 (List._∷_ e11 (List._∷_ e12 (List._∷_ e14
+    (List._∷_ e18 (List._∷_ e19 List.[])))))))))))))))
 
 abbrev pub t26 : List.List Row.Entry
-t26 = List._∷_ (
-  0,
-  Rows.any-gone (Syntax.tyEnum (List._∷_ 99 (List._∷_ 111 (List._∷_ 100 (List._∷_ 101 (List._∷_ 58 (List._∷_ 58 (List._∷_ 67 (List._∷_ 111 (List._∷_ 100 (List._∷_ 101 (List._∷_ 100
-      List.[]))))))))))) (Syntax.ttcons (Syntax.tcons (Syntax.tyStruct (List._∷_ 99 (List._∷_ 111 (List._∷_ 100 (List._∷_ 101 (List._∷_ 58 (List._∷_ 58 (List._∷_ 67 (List._∷_ 111 (List._∷_ 100 (List._∷_ 101
-      List.[])))))))))) (Syntax.tcons (Syntax.tyInt Syntax.w64) (Syntax.tcons (Syntax.tyInt Syntax.w32) (Syntax.tcons Syntax.tyBool (Syntax.tcons (Syntax.tyStruct (List._∷_ 98 (List._∷_ 105 (List._∷_ 116
-      (List._∷_ 115 (List._∷_ 58 (List._∷_ 58 (List._∷_ 66 (List._∷_ 105 (List._∷_ 116 (List._∷_ 80 (List._∷_ 111 (List._∷_ 115 (List._∷_ 105 (List._∷_ 116 (List._∷_ 105 (List._∷_ 111 (List._∷_ 110
-      List.[]))))))))))))))))) (Syntax.tcons (Syntax.tyInt Syntax.w64) Syntax.tnil)) Syntax.tnil))))) Syntax.tnil) (Syntax.ttcons Syntax.tnil Syntax.ttnil))),
-) (List._∷_ (
-  1,
-  Reshare.mref-owedS (Held.type
-      (Syntax.named 1) List.[]) (Syntax.tyRef (Syntax.named 0) Syntax.mut (Held.behind (Syntax.named 1))) 0 4 Row.off,
-) (List._∷_ (2, Rows.sc-here (Row.sInt Syntax.w32)) (List._∷_ (
-  3,
-  Rows.sc-here
-      (Row.sInt Syntax.w32),
-) (List._∷_ (4, Rows.sc-here (Row.sInt Syntax.w32)) (List._∷_ (
-  5,
-  Rows.any-gone (Syntax.tyEnum (List._∷_ 98 (List._∷_ 105 (List._∷_ 116 (List._∷_ 115 (List._∷_ 58 (List._∷_ 58
-      (List._∷_ 90 (List._∷_ 101 (List._∷_ 114 (List._∷_ 111 (List._∷_ 82 (List._∷_ 117 (List._∷_ 110 List.[]))))))))))))) (Syntax.ttcons (Syntax.tcons (Syntax.tyInt Syntax.w64) Syntax.tnil) (Syntax.ttcons
-      Syntax.tnil Syntax.ttnil))),
-) (List._∷_ (6, Rows.sc-here (Row.sInt Syntax.w64)) (List._∷_ (7, Rows.sc-here (Row.sInt Syntax.w32)) (List._∷_ (8, Rows.whole (Declared'.row BitPosition.the-type))
-    (List._∷_ (9, Rows.any-gone (Syntax.tyInt Syntax.w32)) (List._∷_ (
-      10,
-      Rows.any-gone (Syntax.tyStruct (List._∷_ 98 (List._∷_ 105 (List._∷_ 116 (List._∷_ 115 (List._∷_ 58 (List._∷_ 58 (List._∷_ 66
-          (List._∷_ 105 (List._∷_ 116 (List._∷_ 80 (List._∷_ 111 (List._∷_ 115 (List._∷_ 105 (List._∷_ 116 (List._∷_ 105 (List._∷_ 111 (List._∷_ 110 List.[]))))))))))))))))) (Syntax.tcons (Syntax.tyInt
-          Syntax.w64) Syntax.tnil)),
-    ) (List._∷_ (11, Rows.any-gone (Syntax.tyRef Syntax.erased Syntax.mut (Held.behind Syntax.erased))) (List._∷_ (12, Rows.any-gone (Syntax.tyInt Syntax.w64)) (List._∷_ (
-      13,
-      Rows.any-gone Syntax.tyBool,
-    ) (List._∷_ (14, Rows.any-gone (Syntax.tyRef Syntax.erased Syntax.mut (Held.behind Syntax.erased))) (List._∷_ (
-      15,
-      Rows.sref (Held.type (Syntax.named 1) List.[])
-          (Syntax.tyRef Syntax.erased Syntax.imm (Held.behind Syntax.erased)) 9,
-    ) List.[])))))))))))))))
+t26 = List._∷_ e0 (List._∷_ e2 (List._∷_ e31 (List._∷_ e41 (List._∷_ e43 (List._∷_ e44 (List._∷_ e48 (List._∷_ e50 (List._∷_ e52 (List._∷_ e53 (List._∷_ e7 (List._∷_ e11 (List._∷_ e12 (List._∷_ e14
+    (List._∷_ e18 (List._∷_ e21 List.[])))))))))))))))
 
 abbrev pub t27 : List.List Row.Entry
-t27 = List._∷_ (
-  0,
-  Rows.any-gone (Syntax.tyEnum (List._∷_ 99 (List._∷_ 111 (List._∷_ 100 (List._∷_ 101 (List._∷_ 58 (List._∷_ 58 (List._∷_ 67 (List._∷_ 111 (List._∷_ 100 (List._∷_ 101 (List._∷_ 100
-      List.[]))))))))))) (Syntax.ttcons (Syntax.tcons (Syntax.tyStruct (List._∷_ 99 (List._∷_ 111 (List._∷_ 100 (List._∷_ 101 (List._∷_ 58 (List._∷_ 58 (List._∷_ 67 (List._∷_ 111 (List._∷_ 100 (List._∷_ 101
-      List.[])))))))))) (Syntax.tcons (Syntax.tyInt Syntax.w64) (Syntax.tcons (Syntax.tyInt Syntax.w32) (Syntax.tcons Syntax.tyBool (Syntax.tcons (Syntax.tyStruct (List._∷_ 98 (List._∷_ 105 (List._∷_ 116
-      (List._∷_ 115 (List._∷_ 58 (List._∷_ 58 (List._∷_ 66 (List._∷_ 105 (List._∷_ 116 (List._∷_ 80 (List._∷_ 111 (List._∷_ 115 (List._∷_ 105 (List._∷_ 116 (List._∷_ 105 (List._∷_ 111 (List._∷_ 110
-      List.[]))))))))))))))))) (Syntax.tcons (Syntax.tyInt Syntax.w64) Syntax.tnil)) Syntax.tnil))))) Syntax.tnil) (Syntax.ttcons Syntax.tnil Syntax.ttnil))),
-) (List._∷_ (
-  1,
-  Reshare.mref-owedS (Held.type
-      (Syntax.named 1) List.[]) (Syntax.tyRef (Syntax.named 0) Syntax.mut (Held.behind (Syntax.named 1))) 0 4 Row.off,
-) (List._∷_ (2, Rows.sc-here (Row.sInt Syntax.w32)) (List._∷_ (
-  3,
-  Rows.sc-here
-      (Row.sInt Syntax.w32),
-) (List._∷_ (4, Rows.sc-here (Row.sInt Syntax.w32)) (List._∷_ (
-  5,
-  Rows.any-gone (Syntax.tyEnum (List._∷_ 98 (List._∷_ 105 (List._∷_ 116 (List._∷_ 115 (List._∷_ 58 (List._∷_ 58
-      (List._∷_ 90 (List._∷_ 101 (List._∷_ 114 (List._∷_ 111 (List._∷_ 82 (List._∷_ 117 (List._∷_ 110 List.[]))))))))))))) (Syntax.ttcons (Syntax.tcons (Syntax.tyInt Syntax.w64) Syntax.tnil) (Syntax.ttcons
-      Syntax.tnil Syntax.ttnil))),
-) (List._∷_ (6, Rows.sc-here (Row.sInt Syntax.w64)) (List._∷_ (7, Rows.sc-here (Row.sInt Syntax.w32)) (List._∷_ (8, Rows.whole (Declared'.row BitPosition.the-type))
-    (List._∷_ (9, Rows.any-gone (Syntax.tyInt Syntax.w32)) (List._∷_ (
-      10,
-      Rows.any-gone (Syntax.tyStruct (List._∷_ 98 (List._∷_ 105 (List._∷_ 116 (List._∷_ 115 (List._∷_ 58 (List._∷_ 58 (List._∷_ 66
-          (List._∷_ 105 (List._∷_ 116 (List._∷_ 80 (List._∷_ 111 (List._∷_ 115 (List._∷_ 105 (List._∷_ 116 (List._∷_ 105 (List._∷_ 111 (List._∷_ 110 List.[]))))))))))))))))) (Syntax.tcons (Syntax.tyInt
-          Syntax.w64) Syntax.tnil)),
-    ) (List._∷_ (11, Rows.any-gone (Syntax.tyRef Syntax.erased Syntax.mut (Held.behind Syntax.erased))) (List._∷_ (12, Rows.any-gone (Syntax.tyInt Syntax.w64)) (List._∷_ (
-      13,
-      Rows.any-gone Syntax.tyBool,
-    ) (List._∷_ (14, Rows.any-gone (Syntax.tyRef Syntax.erased Syntax.mut (Held.behind Syntax.erased))) (List._∷_ (
-      15,
-      Rows.any-gone (Syntax.tyRef Syntax.erased
-          Syntax.imm (Held.behind Syntax.erased)),
-    ) List.[])))))))))))))))
+t27 = List._∷_ e0 (List._∷_ e2 (List._∷_ e31 (List._∷_ e41 (List._∷_ e43 (List._∷_ e44 (List._∷_ e48 (List._∷_ e50 (List._∷_ e52 (List._∷_ e53 (List._∷_ e7 (List._∷_ e11 (List._∷_ e12 (List._∷_ e14
+    (List._∷_ e18 (List._∷_ e20 List.[])))))))))))))))
 
 abbrev pub t28 : List.List Row.Entry
-t28 = List._∷_ (
-  0,
-  Rows.any-gone (Syntax.tyEnum (List._∷_ 99 (List._∷_ 111 (List._∷_ 100 (List._∷_ 101 (List._∷_ 58 (List._∷_ 58 (List._∷_ 67 (List._∷_ 111 (List._∷_ 100 (List._∷_ 101 (List._∷_ 100
-      List.[]))))))))))) (Syntax.ttcons (Syntax.tcons (Syntax.tyStruct (List._∷_ 99 (List._∷_ 111 (List._∷_ 100 (List._∷_ 101 (List._∷_ 58 (List._∷_ 58 (List._∷_ 67 (List._∷_ 111 (List._∷_ 100 (List._∷_ 101
-      List.[])))))))))) (Syntax.tcons (Syntax.tyInt Syntax.w64) (Syntax.tcons (Syntax.tyInt Syntax.w32) (Syntax.tcons Syntax.tyBool (Syntax.tcons (Syntax.tyStruct (List._∷_ 98 (List._∷_ 105 (List._∷_ 116
-      (List._∷_ 115 (List._∷_ 58 (List._∷_ 58 (List._∷_ 66 (List._∷_ 105 (List._∷_ 116 (List._∷_ 80 (List._∷_ 111 (List._∷_ 115 (List._∷_ 105 (List._∷_ 116 (List._∷_ 105 (List._∷_ 111 (List._∷_ 110
-      List.[]))))))))))))))))) (Syntax.tcons (Syntax.tyInt Syntax.w64) Syntax.tnil)) Syntax.tnil))))) Syntax.tnil) (Syntax.ttcons Syntax.tnil Syntax.ttnil))),
-) (List._∷_ (
-  1,
-  Rows.mref (Held.type
-      (Syntax.named 1) List.[]) (Syntax.tyRef (Syntax.named 0) Syntax.mut (Held.behind (Syntax.named 1))) 0,
-) (List._∷_ (2, Rows.sc-here (Row.sInt Syntax.w32)) (List._∷_ (
-  3,
-  Rows.sc-here (Row.sInt
-      Syntax.w32),
-) (List._∷_ (4, Rows.sc-here (Row.sInt Syntax.w32)) (List._∷_ (
-  5,
-  Rows.any-gone (Syntax.tyEnum (List._∷_ 98 (List._∷_ 105 (List._∷_ 116 (List._∷_ 115 (List._∷_ 58 (List._∷_ 58 (List._∷_
-      90 (List._∷_ 101 (List._∷_ 114 (List._∷_ 111 (List._∷_ 82 (List._∷_ 117 (List._∷_ 110 List.[]))))))))))))) (Syntax.ttcons (Syntax.tcons (Syntax.tyInt Syntax.w64) Syntax.tnil) (Syntax.ttcons
-      Syntax.tnil Syntax.ttnil))),
-) (List._∷_ (6, Rows.sc-here (Row.sInt Syntax.w64)) (List._∷_ (7, Rows.sc-here (Row.sInt Syntax.w32)) (List._∷_ (8, Rows.whole (Declared'.row BitPosition.the-type))
-    (List._∷_ (9, Rows.any-gone (Syntax.tyInt Syntax.w32)) (List._∷_ (
-      10,
-      Rows.any-gone (Syntax.tyStruct (List._∷_ 98 (List._∷_ 105 (List._∷_ 116 (List._∷_ 115 (List._∷_ 58 (List._∷_ 58 (List._∷_ 66
-          (List._∷_ 105 (List._∷_ 116 (List._∷_ 80 (List._∷_ 111 (List._∷_ 115 (List._∷_ 105 (List._∷_ 116 (List._∷_ 105 (List._∷_ 111 (List._∷_ 110 List.[]))))))))))))))))) (Syntax.tcons (Syntax.tyInt
-          Syntax.w64) Syntax.tnil)),
-    ) (List._∷_ (11, Rows.any-gone (Syntax.tyRef Syntax.erased Syntax.mut (Held.behind Syntax.erased))) (List._∷_ (12, Rows.any-gone (Syntax.tyInt Syntax.w64)) (List._∷_ (
-      13,
-      Rows.any-gone Syntax.tyBool,
-    ) (List._∷_ (14, Rows.any-gone (Syntax.tyRef Syntax.erased Syntax.mut (Held.behind Syntax.erased))) (List._∷_ (
-      15,
-      Rows.any-gone (Syntax.tyRef Syntax.erased
-          Syntax.imm (Held.behind Syntax.erased)),
-    ) List.[])))))))))))))))
+t28 = List._∷_ e0 (List._∷_ e4 (List._∷_ e31 (List._∷_ e41 (List._∷_ e43 (List._∷_ e44 (List._∷_ e48 (List._∷_ e50 (List._∷_ e52 (List._∷_ e53 (List._∷_ e7 (List._∷_ e11 (List._∷_ e12 (List._∷_ e14
+    (List._∷_ e18 (List._∷_ e20 List.[])))))))))))))))
 
 abbrev pub t29 : List.List Row.Entry
-t29 = List._∷_ (16, Rows.sc-here (Row.sInt Syntax.w32)) (List._∷_ (17, Rows.any-gone (Syntax.tyInt Syntax.w32)) (List._∷_ (18, Rows.any-gone (Syntax.tyInt Syntax.w32)) (List._∷_ (
-  19,
-  Rows.any-gone
-      (Syntax.tyStruct (List._∷_ 99 (List._∷_ 111 (List._∷_ 100 (List._∷_ 101 (List._∷_ 58 (List._∷_ 58 (List._∷_ 67 (List._∷_ 111 (List._∷_ 100 (List._∷_ 101 List.[])))))))))) (Syntax.tcons (Syntax.tyInt
-      Syntax.w64) (Syntax.tcons (Syntax.tyInt Syntax.w32) (Syntax.tcons Syntax.tyBool (Syntax.tcons (Syntax.tyStruct (List._∷_ 98 (List._∷_ 105 (List._∷_ 116 (List._∷_ 115 (List._∷_ 58 (List._∷_ 58
-      (List._∷_ 66 (List._∷_ 105 (List._∷_ 116 (List._∷_ 80 (List._∷_ 111 (List._∷_ 115 (List._∷_ 105 (List._∷_ 116 (List._∷_ 105 (List._∷_ 111 (List._∷_ 110 List.[]))))))))))))))))) (Syntax.tcons
-      (Syntax.tyInt Syntax.w64) Syntax.tnil)) Syntax.tnil))))),
-) (List._∷_ (20, Rows.any-gone (Syntax.tyInt Syntax.w32)) (List._∷_ (
-  21,
-  Rows.any-gone (Syntax.tyRef Syntax.erased Syntax.mut (Held.behind
-      Syntax.erased)),
-) (List._∷_ (22, Rows.any-gone (Syntax.tyRef Syntax.erased Syntax.imm (Held.behind Syntax.erased))) (List._∷_ (
-  23,
-  Rows.any-gone (Syntax.tyStruct (List._∷_ 99 (List._∷_ 111
-      (List._∷_ 100 (List._∷_ 101 (List._∷_ 58 (List._∷_ 58 (List._∷_ 67 (List._∷_ 111 (List._∷_ 100 (List._∷_ 101 List.[])))))))))) (Syntax.tcons (Syntax.tyInt Syntax.w64) (Syntax.tcons (Syntax.tyInt
-      Syntax.w32) (Syntax.tcons Syntax.tyBool (Syntax.tcons (Syntax.tyStruct (List._∷_ 98 (List._∷_ 105 (List._∷_ 116 (List._∷_ 115 (List._∷_ 58 (List._∷_ 58 (List._∷_ 66 (List._∷_ 105 (List._∷_ 116
-      (List._∷_ 80 (List._∷_ 111 (List._∷_ 115 (List._∷_ 105 (List._∷_ 116 (List._∷_ 105 (List._∷_ 111 (List._∷_ 110 List.[]))))))))))))))))) (Syntax.tcons (Syntax.tyInt Syntax.w64) Syntax.tnil))
-      Syntax.tnil))))),
-) List.[])))))))
+t29 = List._∷_ e23 (List._∷_ e24 (List._∷_ e26 (List._∷_ e28 (List._∷_ e32 (List._∷_ e36 (List._∷_ e38 (List._∷_ e39 List.[])))))))
 
 abbrev pub t30 : List.List Row.Entry
-t30 = List._∷_ (16, Rows.sc-here (Row.sInt Syntax.w32)) (List._∷_ (17, Rows.sc-here (Row.sInt Syntax.w32)) (List._∷_ (18, Rows.any-gone (Syntax.tyInt Syntax.w32)) (List._∷_ (
-  19,
-  Rows.any-gone
-      (Syntax.tyStruct (List._∷_ 99 (List._∷_ 111 (List._∷_ 100 (List._∷_ 101 (List._∷_ 58 (List._∷_ 58 (List._∷_ 67 (List._∷_ 111 (List._∷_ 100 (List._∷_ 101 List.[])))))))))) (Syntax.tcons (Syntax.tyInt
-      Syntax.w64) (Syntax.tcons (Syntax.tyInt Syntax.w32) (Syntax.tcons Syntax.tyBool (Syntax.tcons (Syntax.tyStruct (List._∷_ 98 (List._∷_ 105 (List._∷_ 116 (List._∷_ 115 (List._∷_ 58 (List._∷_ 58
-      (List._∷_ 66 (List._∷_ 105 (List._∷_ 116 (List._∷_ 80 (List._∷_ 111 (List._∷_ 115 (List._∷_ 105 (List._∷_ 116 (List._∷_ 105 (List._∷_ 111 (List._∷_ 110 List.[]))))))))))))))))) (Syntax.tcons
-      (Syntax.tyInt Syntax.w64) Syntax.tnil)) Syntax.tnil))))),
-) (List._∷_ (20, Rows.any-gone (Syntax.tyInt Syntax.w32)) (List._∷_ (
-  21,
-  Rows.any-gone (Syntax.tyRef Syntax.erased Syntax.mut (Held.behind
-      Syntax.erased)),
-) (List._∷_ (22, Rows.any-gone (Syntax.tyRef Syntax.erased Syntax.imm (Held.behind Syntax.erased))) (List._∷_ (
-  23,
-  Rows.any-gone (Syntax.tyStruct (List._∷_ 99 (List._∷_ 111
-      (List._∷_ 100 (List._∷_ 101 (List._∷_ 58 (List._∷_ 58 (List._∷_ 67 (List._∷_ 111 (List._∷_ 100 (List._∷_ 101 List.[])))))))))) (Syntax.tcons (Syntax.tyInt Syntax.w64) (Syntax.tcons (Syntax.tyInt
-      Syntax.w32) (Syntax.tcons Syntax.tyBool (Syntax.tcons (Syntax.tyStruct (List._∷_ 98 (List._∷_ 105 (List._∷_ 116 (List._∷_ 115 (List._∷_ 58 (List._∷_ 58 (List._∷_ 66 (List._∷_ 105 (List._∷_ 116
-      (List._∷_ 80 (List._∷_ 111 (List._∷_ 115 (List._∷_ 105 (List._∷_ 116 (List._∷_ 105 (List._∷_ 111 (List._∷_ 110 List.[]))))))))))))))))) (Syntax.tcons (Syntax.tyInt Syntax.w64) Syntax.tnil))
-      Syntax.tnil))))),
-) List.[])))))))
+t30 = List._∷_ e23 (List._∷_ e25 (List._∷_ e26 (List._∷_ e28 (List._∷_ e32 (List._∷_ e36 (List._∷_ e38 (List._∷_ e39 List.[])))))))
 
 abbrev pub t31 : List.List Row.Entry
-t31 = List._∷_ (16, Rows.any-gone (Syntax.tyInt Syntax.w32)) (List._∷_ (17, Rows.sc-here (Row.sInt Syntax.w32)) (List._∷_ (18, Rows.any-gone (Syntax.tyInt Syntax.w32)) (List._∷_ (
-  19,
-  Rows.any-gone
-      (Syntax.tyStruct (List._∷_ 99 (List._∷_ 111 (List._∷_ 100 (List._∷_ 101 (List._∷_ 58 (List._∷_ 58 (List._∷_ 67 (List._∷_ 111 (List._∷_ 100 (List._∷_ 101 List.[])))))))))) (Syntax.tcons (Syntax.tyInt
-      Syntax.w64) (Syntax.tcons (Syntax.tyInt Syntax.w32) (Syntax.tcons Syntax.tyBool (Syntax.tcons (Syntax.tyStruct (List._∷_ 98 (List._∷_ 105 (List._∷_ 116 (List._∷_ 115 (List._∷_ 58 (List._∷_ 58
-      (List._∷_ 66 (List._∷_ 105 (List._∷_ 116 (List._∷_ 80 (List._∷_ 111 (List._∷_ 115 (List._∷_ 105 (List._∷_ 116 (List._∷_ 105 (List._∷_ 111 (List._∷_ 110 List.[]))))))))))))))))) (Syntax.tcons
-      (Syntax.tyInt Syntax.w64) Syntax.tnil)) Syntax.tnil))))),
-) (List._∷_ (20, Rows.any-gone (Syntax.tyInt Syntax.w32)) (List._∷_ (
-  21,
-  Rows.any-gone (Syntax.tyRef Syntax.erased Syntax.mut (Held.behind
-      Syntax.erased)),
-) (List._∷_ (22, Rows.any-gone (Syntax.tyRef Syntax.erased Syntax.imm (Held.behind Syntax.erased))) (List._∷_ (
-  23,
-  Rows.any-gone (Syntax.tyStruct (List._∷_ 99 (List._∷_ 111
-      (List._∷_ 100 (List._∷_ 101 (List._∷_ 58 (List._∷_ 58 (List._∷_ 67 (List._∷_ 111 (List._∷_ 100 (List._∷_ 101 List.[])))))))))) (Syntax.tcons (Syntax.tyInt Syntax.w64) (Syntax.tcons (Syntax.tyInt
-      Syntax.w32) (Syntax.tcons Syntax.tyBool (Syntax.tcons (Syntax.tyStruct (List._∷_ 98 (List._∷_ 105 (List._∷_ 116 (List._∷_ 115 (List._∷_ 58 (List._∷_ 58 (List._∷_ 66 (List._∷_ 105 (List._∷_ 116
-      (List._∷_ 80 (List._∷_ 111 (List._∷_ 115 (List._∷_ 105 (List._∷_ 116 (List._∷_ 105 (List._∷_ 111 (List._∷_ 110 List.[]))))))))))))))))) (Syntax.tcons (Syntax.tyInt Syntax.w64) Syntax.tnil))
-      Syntax.tnil))))),
-) List.[])))))))
+t31 = List._∷_ e22 (List._∷_ e25 (List._∷_ e26 (List._∷_ e28 (List._∷_ e32 (List._∷_ e36 (List._∷_ e38 (List._∷_ e39 List.[])))))))
 
 abbrev pub t32 : List.List Row.Entry
-t32 = List._∷_ (16, Rows.any-gone (Syntax.tyInt Syntax.w32)) (List._∷_ (17, Rows.sc-here (Row.sInt Syntax.w32)) (List._∷_ (18, Rows.sc-here (Row.sInt Syntax.w32)) (List._∷_ (
-  19,
-  Rows.any-gone
-      (Syntax.tyStruct (List._∷_ 99 (List._∷_ 111 (List._∷_ 100 (List._∷_ 101 (List._∷_ 58 (List._∷_ 58 (List._∷_ 67 (List._∷_ 111 (List._∷_ 100 (List._∷_ 101 List.[])))))))))) (Syntax.tcons (Syntax.tyInt
-      Syntax.w64) (Syntax.tcons (Syntax.tyInt Syntax.w32) (Syntax.tcons Syntax.tyBool (Syntax.tcons (Syntax.tyStruct (List._∷_ 98 (List._∷_ 105 (List._∷_ 116 (List._∷_ 115 (List._∷_ 58 (List._∷_ 58
-      (List._∷_ 66 (List._∷_ 105 (List._∷_ 116 (List._∷_ 80 (List._∷_ 111 (List._∷_ 115 (List._∷_ 105 (List._∷_ 116 (List._∷_ 105 (List._∷_ 111 (List._∷_ 110 List.[]))))))))))))))))) (Syntax.tcons
-      (Syntax.tyInt Syntax.w64) Syntax.tnil)) Syntax.tnil))))),
-) (List._∷_ (20, Rows.any-gone (Syntax.tyInt Syntax.w32)) (List._∷_ (
-  21,
-  Rows.any-gone (Syntax.tyRef Syntax.erased Syntax.mut (Held.behind
-      Syntax.erased)),
-) (List._∷_ (22, Rows.any-gone (Syntax.tyRef Syntax.erased Syntax.imm (Held.behind Syntax.erased))) (List._∷_ (
-  23,
-  Rows.any-gone (Syntax.tyStruct (List._∷_ 99 (List._∷_ 111
-      (List._∷_ 100 (List._∷_ 101 (List._∷_ 58 (List._∷_ 58 (List._∷_ 67 (List._∷_ 111 (List._∷_ 100 (List._∷_ 101 List.[])))))))))) (Syntax.tcons (Syntax.tyInt Syntax.w64) (Syntax.tcons (Syntax.tyInt
-      Syntax.w32) (Syntax.tcons Syntax.tyBool (Syntax.tcons (Syntax.tyStruct (List._∷_ 98 (List._∷_ 105 (List._∷_ 116 (List._∷_ 115 (List._∷_ 58 (List._∷_ 58 (List._∷_ 66 (List._∷_ 105 (List._∷_ 116
-      (List._∷_ 80 (List._∷_ 111 (List._∷_ 115 (List._∷_ 105 (List._∷_ 116 (List._∷_ 105 (List._∷_ 111 (List._∷_ 110 List.[]))))))))))))))))) (Syntax.tcons (Syntax.tyInt Syntax.w64) Syntax.tnil))
-      Syntax.tnil))))),
-) List.[])))))))
+t32 = List._∷_ e22 (List._∷_ e25 (List._∷_ e27 (List._∷_ e28 (List._∷_ e32 (List._∷_ e36 (List._∷_ e38 (List._∷_ e39 List.[])))))))
 
 abbrev pub t33 : List.List Row.Entry
-t33 = List._∷_ (16, Rows.any-gone (Syntax.tyInt Syntax.w32)) (List._∷_ (17, Rows.any-gone (Syntax.tyInt Syntax.w32)) (List._∷_ (18, Rows.sc-here (Row.sInt Syntax.w32)) (List._∷_ (
-  19,
-  Rows.any-gone
-      (Syntax.tyStruct (List._∷_ 99 (List._∷_ 111 (List._∷_ 100 (List._∷_ 101 (List._∷_ 58 (List._∷_ 58 (List._∷_ 67 (List._∷_ 111 (List._∷_ 100 (List._∷_ 101 List.[])))))))))) (Syntax.tcons (Syntax.tyInt
-      Syntax.w64) (Syntax.tcons (Syntax.tyInt Syntax.w32) (Syntax.tcons Syntax.tyBool (Syntax.tcons (Syntax.tyStruct (List._∷_ 98 (List._∷_ 105 (List._∷_ 116 (List._∷_ 115 (List._∷_ 58 (List._∷_ 58
-      (List._∷_ 66 (List._∷_ 105 (List._∷_ 116 (List._∷_ 80 (List._∷_ 111 (List._∷_ 115 (List._∷_ 105 (List._∷_ 116 (List._∷_ 105 (List._∷_ 111 (List._∷_ 110 List.[]))))))))))))))))) (Syntax.tcons
-      (Syntax.tyInt Syntax.w64) Syntax.tnil)) Syntax.tnil))))),
-) (List._∷_ (20, Rows.any-gone (Syntax.tyInt Syntax.w32)) (List._∷_ (
-  21,
-  Rows.any-gone (Syntax.tyRef Syntax.erased Syntax.mut (Held.behind
-      Syntax.erased)),
-) (List._∷_ (22, Rows.any-gone (Syntax.tyRef Syntax.erased Syntax.imm (Held.behind Syntax.erased))) (List._∷_ (
-  23,
-  Rows.any-gone (Syntax.tyStruct (List._∷_ 99 (List._∷_ 111
-      (List._∷_ 100 (List._∷_ 101 (List._∷_ 58 (List._∷_ 58 (List._∷_ 67 (List._∷_ 111 (List._∷_ 100 (List._∷_ 101 List.[])))))))))) (Syntax.tcons (Syntax.tyInt Syntax.w64) (Syntax.tcons (Syntax.tyInt
-      Syntax.w32) (Syntax.tcons Syntax.tyBool (Syntax.tcons (Syntax.tyStruct (List._∷_ 98 (List._∷_ 105 (List._∷_ 116 (List._∷_ 115 (List._∷_ 58 (List._∷_ 58 (List._∷_ 66 (List._∷_ 105 (List._∷_ 116
-      (List._∷_ 80 (List._∷_ 111 (List._∷_ 115 (List._∷_ 105 (List._∷_ 116 (List._∷_ 105 (List._∷_ 111 (List._∷_ 110 List.[]))))))))))))))))) (Syntax.tcons (Syntax.tyInt Syntax.w64) Syntax.tnil))
-      Syntax.tnil))))),
-) List.[])))))))
+t33 = List._∷_ e22 (List._∷_ e24 (List._∷_ e27 (List._∷_ e28 (List._∷_ e32 (List._∷_ e36 (List._∷_ e38 (List._∷_ e39 List.[])))))))
 
 abbrev pub t34 : List.List Row.Entry
-t34 = List._∷_ (16, Rows.any-gone (Syntax.tyInt Syntax.w32)) (List._∷_ (17, Rows.any-gone (Syntax.tyInt Syntax.w32)) (List._∷_ (18, Rows.sc-here (Row.sInt Syntax.w32)) (List._∷_ (
-  19,
-  Rows.whole
-      (Declared'.row (Apart.apartT Code.the-type)),
-) (List._∷_ (20, Rows.any-gone (Syntax.tyInt Syntax.w32)) (List._∷_ (
-  21,
-  Rows.any-gone (Syntax.tyRef Syntax.erased Syntax.mut (Held.behind
-      Syntax.erased)),
-) (List._∷_ (22, Rows.any-gone (Syntax.tyRef Syntax.erased Syntax.imm (Held.behind Syntax.erased))) (List._∷_ (
-  23,
-  Rows.any-gone (Syntax.tyStruct (List._∷_ 99 (List._∷_ 111
-      (List._∷_ 100 (List._∷_ 101 (List._∷_ 58 (List._∷_ 58 (List._∷_ 67 (List._∷_ 111 (List._∷_ 100 (List._∷_ 101 List.[])))))))))) (Syntax.tcons (Syntax.tyInt Syntax.w64) (Syntax.tcons (Syntax.tyInt
-      Syntax.w32) (Syntax.tcons Syntax.tyBool (Syntax.tcons (Syntax.tyStruct (List._∷_ 98 (List._∷_ 105 (List._∷_ 116 (List._∷_ 115 (List._∷_ 58 (List._∷_ 58 (List._∷_ 66 (List._∷_ 105 (List._∷_ 116
-      (List._∷_ 80 (List._∷_ 111 (List._∷_ 115 (List._∷_ 105 (List._∷_ 116 (List._∷_ 105 (List._∷_ 111 (List._∷_ 110 List.[]))))))))))))))))) (Syntax.tcons (Syntax.tyInt Syntax.w64) Syntax.tnil))
-      Syntax.tnil))))),
-) List.[])))))))
+t34 = List._∷_ e22 (List._∷_ e24 (List._∷_ e27 (List._∷_ e29 (List._∷_ e32 (List._∷_ e36 (List._∷_ e38 (List._∷_ e39 List.[])))))))
 
 abbrev pub t35 : List.List Row.Entry
-t35 = List._∷_ (16, Rows.any-gone (Syntax.tyInt Syntax.w32)) (List._∷_ (17, Rows.any-gone (Syntax.tyInt Syntax.w32)) (List._∷_ (18, Rows.any-gone (Syntax.tyInt Syntax.w32)) (List._∷_ (
-  19,
-  Rows.whole (Declared'.row (Apart.apartT Code.the-type)),
-) (List._∷_ (20, Rows.any-gone (Syntax.tyInt Syntax.w32)) (List._∷_ (
-  21,
-  Rows.any-gone (Syntax.tyRef Syntax.erased Syntax.mut (Held.behind
-      Syntax.erased)),
-) (List._∷_ (22, Rows.any-gone (Syntax.tyRef Syntax.erased Syntax.imm (Held.behind Syntax.erased))) (List._∷_ (
-  23,
-  Rows.any-gone (Syntax.tyStruct (List._∷_ 99 (List._∷_ 111
-      (List._∷_ 100 (List._∷_ 101 (List._∷_ 58 (List._∷_ 58 (List._∷_ 67 (List._∷_ 111 (List._∷_ 100 (List._∷_ 101 List.[])))))))))) (Syntax.tcons (Syntax.tyInt Syntax.w64) (Syntax.tcons (Syntax.tyInt
-      Syntax.w32) (Syntax.tcons Syntax.tyBool (Syntax.tcons (Syntax.tyStruct (List._∷_ 98 (List._∷_ 105 (List._∷_ 116 (List._∷_ 115 (List._∷_ 58 (List._∷_ 58 (List._∷_ 66 (List._∷_ 105 (List._∷_ 116
-      (List._∷_ 80 (List._∷_ 111 (List._∷_ 115 (List._∷_ 105 (List._∷_ 116 (List._∷_ 105 (List._∷_ 111 (List._∷_ 110 List.[]))))))))))))))))) (Syntax.tcons (Syntax.tyInt Syntax.w64) Syntax.tnil))
-      Syntax.tnil))))),
-) List.[])))))))
+t35 = List._∷_ e22 (List._∷_ e24 (List._∷_ e26 (List._∷_ e29 (List._∷_ e32 (List._∷_ e36 (List._∷_ e38 (List._∷_ e39 List.[])))))))
 
 abbrev pub t36 : List.List Row.Entry
-t36 = List._∷_ (16, Rows.any-gone (Syntax.tyInt Syntax.w32)) (List._∷_ (17, Rows.any-gone (Syntax.tyInt Syntax.w32)) (List._∷_ (18, Rows.any-gone (Syntax.tyInt Syntax.w32)) (List._∷_ (
-  19,
-  Rows.whole (Declared'.row Code.the-type),
-) (List._∷_ (20, Rows.any-gone (Syntax.tyInt Syntax.w32)) (List._∷_ (21, Rows.any-gone (Syntax.tyRef Syntax.erased Syntax.mut (Held.behind Syntax.erased)))
-    (List._∷_ (22, Rows.any-gone (Syntax.tyRef Syntax.erased Syntax.imm (Held.behind Syntax.erased))) (List._∷_ (
-      23,
-      Rows.any-gone (Syntax.tyStruct (List._∷_ 99 (List._∷_ 111 (List._∷_ 100 (List._∷_
-          101 (List._∷_ 58 (List._∷_ 58 (List._∷_ 67 (List._∷_ 111 (List._∷_ 100 (List._∷_ 101 List.[])))))))))) (Syntax.tcons (Syntax.tyInt Syntax.w64) (Syntax.tcons (Syntax.tyInt Syntax.w32) (Syntax.tcons
-          Syntax.tyBool (Syntax.tcons (Syntax.tyStruct (List._∷_ 98 (List._∷_ 105 (List._∷_ 116 (List._∷_ 115 (List._∷_ 58 (List._∷_ 58 (List._∷_ 66 (List._∷_ 105 (List._∷_ 116 (List._∷_ 80 (List._∷_ 111
-          (List._∷_ 115 (List._∷_ 105 (List._∷_ 116 (List._∷_ 105 (List._∷_ 111 (List._∷_ 110 List.[]))))))))))))))))) (Syntax.tcons (Syntax.tyInt Syntax.w64) Syntax.tnil)) Syntax.tnil))))),
-    ) List.[])))))))
+t36 = List._∷_ e22 (List._∷_ e24 (List._∷_ e26 (List._∷_ (19, Rows.whole (Declared'.row Code.the-type)) (List._∷_ e32 (List._∷_ e36 (List._∷_ e38 (List._∷_ e39 List.[])))))))
 
 abbrev pub t37 : List.List Row.Entry
-t37 = List._∷_ (0, Rows.whole (Declared.row Coded.the-type)) (List._∷_ (
-  1,
-  Rows.mref (Held.type (Syntax.named 1) List.[]) (Syntax.tyRef (Syntax.named 0) Syntax.mut (Held.behind (Syntax.named 1))) 0,
-) (List._∷_ (2, Rows.sc-here (Row.sInt Syntax.w32)) (List._∷_ (3, Rows.sc-here (Row.sInt Syntax.w32)) (List._∷_ (4, Rows.sc-here (Row.sInt Syntax.w32)) (List._∷_ (
-  5,
-  Rows.any-gone (Syntax.tyEnum
-      (List._∷_ 98 (List._∷_ 105 (List._∷_ 116 (List._∷_ 115 (List._∷_ 58 (List._∷_ 58 (List._∷_ 90 (List._∷_ 101 (List._∷_ 114 (List._∷_ 111 (List._∷_ 82 (List._∷_ 117 (List._∷_ 110 List.[])))))))))))))
-      (Syntax.ttcons (Syntax.tcons (Syntax.tyInt Syntax.w64) Syntax.tnil) (Syntax.ttcons Syntax.tnil Syntax.ttnil))),
-) (List._∷_ (6, Rows.sc-here (Row.sInt Syntax.w64)) (List._∷_ (
-  7,
-  Rows.sc-here
-      (Row.sInt Syntax.w32),
-) (List._∷_ (
-  8,
-  Rows.any-gone (Syntax.tyStruct (List._∷_ 98 (List._∷_ 105 (List._∷_ 116 (List._∷_ 115 (List._∷_ 58 (List._∷_ 58 (List._∷_ 66 (List._∷_ 105 (List._∷_ 116
-      (List._∷_ 80 (List._∷_ 111 (List._∷_ 115 (List._∷_ 105 (List._∷_ 116 (List._∷_ 105 (List._∷_ 111 (List._∷_ 110 List.[]))))))))))))))))) (Syntax.tcons (Syntax.tyInt Syntax.w64) Syntax.tnil)),
-)
-    (List._∷_ (9, Rows.any-gone (Syntax.tyInt Syntax.w32)) (List._∷_ (
-      10,
-      Rows.any-gone (Syntax.tyStruct (List._∷_ 98 (List._∷_ 105 (List._∷_ 116 (List._∷_ 115 (List._∷_ 58 (List._∷_ 58 (List._∷_ 66
-          (List._∷_ 105 (List._∷_ 116 (List._∷_ 80 (List._∷_ 111 (List._∷_ 115 (List._∷_ 105 (List._∷_ 116 (List._∷_ 105 (List._∷_ 111 (List._∷_ 110 List.[]))))))))))))))))) (Syntax.tcons (Syntax.tyInt
-          Syntax.w64) Syntax.tnil)),
-    ) (List._∷_ (11, Rows.any-gone (Syntax.tyRef Syntax.erased Syntax.mut (Held.behind Syntax.erased))) (List._∷_ (12, Rows.any-gone (Syntax.tyInt Syntax.w64)) (List._∷_ (
-      13,
-      Rows.any-gone Syntax.tyBool,
-    ) (List._∷_ (14, Rows.any-gone (Syntax.tyRef Syntax.erased Syntax.mut (Held.behind Syntax.erased))) (List._∷_ (
-      15,
-      Rows.any-gone (Syntax.tyRef Syntax.erased
-          Syntax.imm (Held.behind Syntax.erased)),
-    ) List.[])))))))))))))))
+t37 = List._∷_ e1 (List._∷_ e4 (List._∷_ e31 (List._∷_ e41 (List._∷_ e43 (List._∷_ e44 (List._∷_ e48 (List._∷_ e50 (List._∷_ e51 (List._∷_ e53 (List._∷_ e7 (List._∷_ e11 (List._∷_ e12 (List._∷_ e14
+    (List._∷_ e18 (List._∷_ e20 List.[])))))))))))))))
 
 abbrev pub t38 : List.List Row.Entry
-t38 = List._∷_ (0, Rows.whole (Declared.row Coded.the-type)) (List._∷_ (
-  1,
-  Rows.mref (Held.type (Syntax.named 1) List.[]) (Syntax.tyRef (Syntax.named 0) Syntax.mut (Held.behind (Syntax.named 1))) 0,
-) (List._∷_ (2, Rows.any-gone (Syntax.tyInt Syntax.w32)) (List._∷_ (3, Rows.sc-here (Row.sInt Syntax.w32)) (List._∷_ (4, Rows.sc-here (Row.sInt Syntax.w32)) (List._∷_ (
-  5,
-  Rows.any-gone
-      (Syntax.tyEnum (List._∷_ 98 (List._∷_ 105 (List._∷_ 116 (List._∷_ 115 (List._∷_ 58 (List._∷_ 58 (List._∷_ 90 (List._∷_ 101 (List._∷_ 114 (List._∷_ 111 (List._∷_ 82 (List._∷_ 117 (List._∷_ 110
-      List.[]))))))))))))) (Syntax.ttcons (Syntax.tcons (Syntax.tyInt Syntax.w64) Syntax.tnil) (Syntax.ttcons Syntax.tnil Syntax.ttnil))),
-) (List._∷_ (6, Rows.sc-here (Row.sInt Syntax.w64)) (List._∷_ (
-  7,
-  Rows.sc-here (Row.sInt Syntax.w32),
-) (List._∷_ (
-  8,
-  Rows.any-gone (Syntax.tyStruct (List._∷_ 98 (List._∷_ 105 (List._∷_ 116 (List._∷_ 115 (List._∷_ 58 (List._∷_ 58 (List._∷_ 66 (List._∷_ 105
-      (List._∷_ 116 (List._∷_ 80 (List._∷_ 111 (List._∷_ 115 (List._∷_ 105 (List._∷_ 116 (List._∷_ 105 (List._∷_ 111 (List._∷_ 110 List.[]))))))))))))))))) (Syntax.tcons (Syntax.tyInt Syntax.w64)
-      Syntax.tnil)),
-) (List._∷_ (9, Rows.any-gone (Syntax.tyInt Syntax.w32)) (List._∷_ (
-  10,
-  Rows.any-gone (Syntax.tyStruct (List._∷_ 98 (List._∷_ 105 (List._∷_ 116 (List._∷_ 115 (List._∷_ 58 (List._∷_ 58
-      (List._∷_ 66 (List._∷_ 105 (List._∷_ 116 (List._∷_ 80 (List._∷_ 111 (List._∷_ 115 (List._∷_ 105 (List._∷_ 116 (List._∷_ 105 (List._∷_ 111 (List._∷_ 110 List.[]))))))))))))))))) (Syntax.tcons
-      (Syntax.tyInt Syntax.w64) Syntax.tnil)),
-) (List._∷_ (11, Rows.any-gone (Syntax.tyRef Syntax.erased Syntax.mut (Held.behind Syntax.erased))) (List._∷_ (12, Rows.any-gone (Syntax.tyInt Syntax.w64))
-    (List._∷_ (13, Rows.any-gone Syntax.tyBool) (List._∷_ (14, Rows.any-gone (Syntax.tyRef Syntax.erased Syntax.mut (Held.behind Syntax.erased))) (List._∷_ (
-      15,
-      Rows.any-gone (Syntax.tyRef
-          Syntax.erased Syntax.imm (Held.behind Syntax.erased)),
-    ) List.[])))))))))))))))
+t38 = List._∷_ e1 (List._∷_ e4 (List._∷_ e30 (List._∷_ e41 (List._∷_ e43 (List._∷_ e44 (List._∷_ e48 (List._∷_ e50 (List._∷_ e51 (List._∷_ e53 (List._∷_ e7 (List._∷_ e11 (List._∷_ e12 (List._∷_ e14
+    (List._∷_ e18 (List._∷_ e20 List.[])))))))))))))))
 
 abbrev pub t39 : List.List Row.Entry
-t39 = List._∷_ (0, Rows.whole (Declared.row Coded.the-type)) (List._∷_ (
-  1,
-  Rows.mref (Held.type (Syntax.named 1) List.[]) (Syntax.tyRef (Syntax.named 0) Syntax.mut (Held.behind (Syntax.named 1))) 0,
-) (List._∷_ (2, Rows.any-gone (Syntax.tyInt Syntax.w32)) (List._∷_ (3, Rows.any-gone (Syntax.tyInt Syntax.w32)) (List._∷_ (4, Rows.sc-here (Row.sInt Syntax.w32)) (List._∷_ (
-  5,
-  Rows.any-gone
-      (Syntax.tyEnum (List._∷_ 98 (List._∷_ 105 (List._∷_ 116 (List._∷_ 115 (List._∷_ 58 (List._∷_ 58 (List._∷_ 90 (List._∷_ 101 (List._∷_ 114 (List._∷_ 111 (List._∷_ 82 (List._∷_ 117 (List._∷_ 110
-      List.[]))))))))))))) (Syntax.ttcons (Syntax.tcons (Syntax.tyInt Syntax.w64) Syntax.tnil) (Syntax.ttcons Syntax.tnil Syntax.ttnil))),
-) (List._∷_ (6, Rows.sc-here (Row.sInt Syntax.w64)) (List._∷_ (
-  7,
-  Rows.sc-here (Row.sInt Syntax.w32),
-) (List._∷_ (
-  8,
-  Rows.any-gone (Syntax.tyStruct (List._∷_ 98 (List._∷_ 105 (List._∷_ 116 (List._∷_ 115 (List._∷_ 58 (List._∷_ 58 (List._∷_ 66 (List._∷_ 105
-      (List._∷_ 116 (List._∷_ 80 (List._∷_ 111 (List._∷_ 115 (List._∷_ 105 (List._∷_ 116 (List._∷_ 105 (List._∷_ 111 (List._∷_ 110 List.[]))))))))))))))))) (Syntax.tcons (Syntax.tyInt Syntax.w64)
-      Syntax.tnil)),
-) (List._∷_ (9, Rows.any-gone (Syntax.tyInt Syntax.w32)) (List._∷_ (
-  10,
-  Rows.any-gone (Syntax.tyStruct (List._∷_ 98 (List._∷_ 105 (List._∷_ 116 (List._∷_ 115 (List._∷_ 58 (List._∷_ 58
-      (List._∷_ 66 (List._∷_ 105 (List._∷_ 116 (List._∷_ 80 (List._∷_ 111 (List._∷_ 115 (List._∷_ 105 (List._∷_ 116 (List._∷_ 105 (List._∷_ 111 (List._∷_ 110 List.[]))))))))))))))))) (Syntax.tcons
-      (Syntax.tyInt Syntax.w64) Syntax.tnil)),
-) (List._∷_ (11, Rows.any-gone (Syntax.tyRef Syntax.erased Syntax.mut (Held.behind Syntax.erased))) (List._∷_ (12, Rows.any-gone (Syntax.tyInt Syntax.w64))
-    (List._∷_ (13, Rows.any-gone Syntax.tyBool) (List._∷_ (14, Rows.any-gone (Syntax.tyRef Syntax.erased Syntax.mut (Held.behind Syntax.erased))) (List._∷_ (
-      15,
-      Rows.any-gone (Syntax.tyRef
-          Syntax.erased Syntax.imm (Held.behind Syntax.erased)),
-    ) List.[])))))))))))))))
+t39 = List._∷_ e1 (List._∷_ e4 (List._∷_ e30 (List._∷_ e40 (List._∷_ e43 (List._∷_ e44 (List._∷_ e48 (List._∷_ e50 (List._∷_ e51 (List._∷_ e53 (List._∷_ e7 (List._∷_ e11 (List._∷_ e12 (List._∷_ e14
+    (List._∷_ e18 (List._∷_ e20 List.[])))))))))))))))
 
 abbrev pub t40 : List.List Row.Entry
-t40 = List._∷_ (0, Rows.whole (Declared.row Coded.the-type)) (List._∷_ (
-  1,
-  Rows.mref (Held.type (Syntax.named 1) List.[]) (Syntax.tyRef (Syntax.named 0) Syntax.mut (Held.behind (Syntax.named 1))) 0,
-) (List._∷_ (2, Rows.any-gone (Syntax.tyInt Syntax.w32)) (List._∷_ (3, Rows.any-gone (Syntax.tyInt Syntax.w32)) (List._∷_ (4, Rows.any-gone (Syntax.tyInt Syntax.w32)) (List._∷_ (
-  5,
-  Rows.any-gone
-      (Syntax.tyEnum (List._∷_ 98 (List._∷_ 105 (List._∷_ 116 (List._∷_ 115 (List._∷_ 58 (List._∷_ 58 (List._∷_ 90 (List._∷_ 101 (List._∷_ 114 (List._∷_ 111 (List._∷_ 82 (List._∷_ 117 (List._∷_ 110
-      List.[]))))))))))))) (Syntax.ttcons (Syntax.tcons (Syntax.tyInt Syntax.w64) Syntax.tnil) (Syntax.ttcons Syntax.tnil Syntax.ttnil))),
-) (List._∷_ (6, Rows.sc-here (Row.sInt Syntax.w64)) (List._∷_ (
-  7,
-  Rows.sc-here (Row.sInt Syntax.w32),
-) (List._∷_ (
-  8,
-  Rows.any-gone (Syntax.tyStruct (List._∷_ 98 (List._∷_ 105 (List._∷_ 116 (List._∷_ 115 (List._∷_ 58 (List._∷_ 58 (List._∷_ 66 (List._∷_ 105
-      (List._∷_ 116 (List._∷_ 80 (List._∷_ 111 (List._∷_ 115 (List._∷_ 105 (List._∷_ 116 (List._∷_ 105 (List._∷_ 111 (List._∷_ 110 List.[]))))))))))))))))) (Syntax.tcons (Syntax.tyInt Syntax.w64)
-      Syntax.tnil)),
-) (List._∷_ (9, Rows.any-gone (Syntax.tyInt Syntax.w32)) (List._∷_ (
-  10,
-  Rows.any-gone (Syntax.tyStruct (List._∷_ 98 (List._∷_ 105 (List._∷_ 116 (List._∷_ 115 (List._∷_ 58 (List._∷_ 58
-      (List._∷_ 66 (List._∷_ 105 (List._∷_ 116 (List._∷_ 80 (List._∷_ 111 (List._∷_ 115 (List._∷_ 105 (List._∷_ 116 (List._∷_ 105 (List._∷_ 111 (List._∷_ 110 List.[]))))))))))))))))) (Syntax.tcons
-      (Syntax.tyInt Syntax.w64) Syntax.tnil)),
-) (List._∷_ (11, Rows.any-gone (Syntax.tyRef Syntax.erased Syntax.mut (Held.behind Syntax.erased))) (List._∷_ (12, Rows.any-gone (Syntax.tyInt Syntax.w64))
-    (List._∷_ (13, Rows.any-gone Syntax.tyBool) (List._∷_ (14, Rows.any-gone (Syntax.tyRef Syntax.erased Syntax.mut (Held.behind Syntax.erased))) (List._∷_ (
-      15,
-      Rows.any-gone (Syntax.tyRef
-          Syntax.erased Syntax.imm (Held.behind Syntax.erased)),
-    ) List.[])))))))))))))))
+t40 = List._∷_ e1 (List._∷_ e4 (List._∷_ e30 (List._∷_ e40 (List._∷_ e42 (List._∷_ e44 (List._∷_ e48 (List._∷_ e50 (List._∷_ e51 (List._∷_ e53 (List._∷_ e7 (List._∷_ e11 (List._∷_ e12 (List._∷_ e14
+    (List._∷_ e18 (List._∷_ e20 List.[])))))))))))))))
 
 abbrev pub t41 : List.List Row.Entry
-t41 = List._∷_ (0, Rows.whole (Declared.row Coded.the-type)) (List._∷_ (
-  1,
-  Rows.mref (Held.type (Syntax.named 1) List.[]) (Syntax.tyRef (Syntax.named 0) Syntax.mut (Held.behind (Syntax.named 1))) 0,
-) (List._∷_ (2, Rows.any-gone (Syntax.tyInt Syntax.w32)) (List._∷_ (3, Rows.any-gone (Syntax.tyInt Syntax.w32)) (List._∷_ (4, Rows.any-gone (Syntax.tyInt Syntax.w32)) (List._∷_ (
-  5,
-  Rows.any-gone
-      (Syntax.tyEnum (List._∷_ 98 (List._∷_ 105 (List._∷_ 116 (List._∷_ 115 (List._∷_ 58 (List._∷_ 58 (List._∷_ 90 (List._∷_ 101 (List._∷_ 114 (List._∷_ 111 (List._∷_ 82 (List._∷_ 117 (List._∷_ 110
-      List.[]))))))))))))) (Syntax.ttcons (Syntax.tcons (Syntax.tyInt Syntax.w64) Syntax.tnil) (Syntax.ttcons Syntax.tnil Syntax.ttnil))),
-) (List._∷_ (6, Rows.any-gone (Syntax.tyInt Syntax.w64)) (List._∷_
-    (7, Rows.sc-here (Row.sInt Syntax.w32)) (List._∷_ (
-      8,
-      Rows.any-gone (Syntax.tyStruct (List._∷_ 98 (List._∷_ 105 (List._∷_ 116 (List._∷_ 115 (List._∷_ 58 (List._∷_ 58 (List._∷_ 66 (List._∷_ 105
-          (List._∷_ 116 (List._∷_ 80 (List._∷_ 111 (List._∷_ 115 (List._∷_ 105 (List._∷_ 116 (List._∷_ 105 (List._∷_ 111 (List._∷_ 110 List.[]))))))))))))))))) (Syntax.tcons (Syntax.tyInt Syntax.w64)
-          Syntax.tnil)),
-    ) (List._∷_ (9, Rows.any-gone (Syntax.tyInt Syntax.w32)) (List._∷_ (
-      10,
-      Rows.any-gone (Syntax.tyStruct (List._∷_ 98 (List._∷_ 105 (List._∷_ 116 (List._∷_ 115 (List._∷_ 58 (List._∷_ 58
-          (List._∷_ 66 (List._∷_ 105 (List._∷_ 116 (List._∷_ 80 (List._∷_ 111 (List._∷_ 115 (List._∷_ 105 (List._∷_ 116 (List._∷_ 105 (List._∷_ 111 (List._∷_ 110 List.[]))))))))))))))))) (Syntax.tcons
-          (Syntax.tyInt Syntax.w64) Syntax.tnil)),
-    ) (List._∷_ (11, Rows.any-gone (Syntax.tyRef Syntax.erased Syntax.mut (Held.behind Syntax.erased))) (List._∷_ (12, Rows.any-gone (Syntax.tyInt Syntax.w64))
-    (List._∷_ (13, Rows.any-gone Syntax.tyBool) (List._∷_ (14, Rows.any-gone (Syntax.tyRef Syntax.erased Syntax.mut (Held.behind Syntax.erased))) (List._∷_ (
-      15,
-      Rows.any-gone (Syntax.tyRef
-          Syntax.erased Syntax.imm (Held.behind Syntax.erased)),
-    ) List.[])))))))))))))))
+t41 = List._∷_ e1 (List._∷_ e4 (List._∷_ e30 (List._∷_ e40 (List._∷_ e42 (List._∷_ e44 (List._∷_ e47 (List._∷_ e50 (List._∷_ e51 (List._∷_ e53 (List._∷_ e7 (List._∷_ e11 (List._∷_ e12 (List._∷_ e14
+    (List._∷_ e18 (List._∷_ e20 List.[])))))))))))))))
 
 abbrev pub t42 : List.List Row.Entry
-t42 = List._∷_ (
-  0,
-  Rows.any-gone (Syntax.tyEnum (List._∷_ 99 (List._∷_ 111 (List._∷_ 100 (List._∷_ 101 (List._∷_ 58 (List._∷_ 58 (List._∷_ 67 (List._∷_ 111 (List._∷_ 100 (List._∷_ 101 (List._∷_ 100
-      List.[]))))))))))) (Syntax.ttcons (Syntax.tcons (Syntax.tyStruct (List._∷_ 99 (List._∷_ 111 (List._∷_ 100 (List._∷_ 101 (List._∷_ 58 (List._∷_ 58 (List._∷_ 67 (List._∷_ 111 (List._∷_ 100 (List._∷_ 101
-      List.[])))))))))) (Syntax.tcons (Syntax.tyInt Syntax.w64) (Syntax.tcons (Syntax.tyInt Syntax.w32) (Syntax.tcons Syntax.tyBool (Syntax.tcons (Syntax.tyStruct (List._∷_ 98 (List._∷_ 105 (List._∷_ 116
-      (List._∷_ 115 (List._∷_ 58 (List._∷_ 58 (List._∷_ 66 (List._∷_ 105 (List._∷_ 116 (List._∷_ 80 (List._∷_ 111 (List._∷_ 115 (List._∷_ 105 (List._∷_ 116 (List._∷_ 105 (List._∷_ 111 (List._∷_ 110
-      List.[]))))))))))))))))) (Syntax.tcons (Syntax.tyInt Syntax.w64) Syntax.tnil)) Syntax.tnil))))) Syntax.tnil) (Syntax.ttcons Syntax.tnil Syntax.ttnil))),
-) (List._∷_ (
-  1,
-  Rows.mref-owed (Held.type
-      (Syntax.named 1) List.[]) (Syntax.tyRef (Syntax.named 0) Syntax.mut (Held.behind (Syntax.named 1))) 0 5 Row.off,
-) (List._∷_ (2, Rows.sc-here (Row.sInt Syntax.w32)) (List._∷_ (
-  3,
-  Rows.sc-here
-      (Row.sInt Syntax.w32),
-) (List._∷_ (4, Rows.sc-here (Row.sInt Syntax.w32)) (List._∷_ (
-  5,
-  Rows.any-gone (Syntax.tyEnum (List._∷_ 98 (List._∷_ 105 (List._∷_ 116 (List._∷_ 115 (List._∷_ 58 (List._∷_ 58
-      (List._∷_ 90 (List._∷_ 101 (List._∷_ 114 (List._∷_ 111 (List._∷_ 82 (List._∷_ 117 (List._∷_ 110 List.[]))))))))))))) (Syntax.ttcons (Syntax.tcons (Syntax.tyInt Syntax.w64) Syntax.tnil) (Syntax.ttcons
-      Syntax.tnil Syntax.ttnil))),
-) (List._∷_ (6, Rows.sc-here (Row.sInt Syntax.w64)) (List._∷_ (7, Rows.any-gone (Syntax.tyInt Syntax.w32)) (List._∷_ (
-  8,
-  Rows.any-gone (Syntax.tyStruct (List._∷_ 98
-      (List._∷_ 105 (List._∷_ 116 (List._∷_ 115 (List._∷_ 58 (List._∷_ 58 (List._∷_ 66 (List._∷_ 105 (List._∷_ 116 (List._∷_ 80 (List._∷_ 111 (List._∷_ 115 (List._∷_ 105 (List._∷_ 116 (List._∷_ 105
-      (List._∷_ 111 (List._∷_ 110 List.[]))))))))))))))))) (Syntax.tcons (Syntax.tyInt Syntax.w64) Syntax.tnil)),
-) (List._∷_ (9, Rows.any-gone (Syntax.tyInt Syntax.w32)) (List._∷_ (
-  10,
-  Rows.any-gone
-      (Syntax.tyStruct (List._∷_ 98 (List._∷_ 105 (List._∷_ 116 (List._∷_ 115 (List._∷_ 58 (List._∷_ 58 (List._∷_ 66 (List._∷_ 105 (List._∷_ 116 (List._∷_ 80 (List._∷_ 111 (List._∷_ 115 (List._∷_ 105
-      (List._∷_ 116 (List._∷_ 105 (List._∷_ 111 (List._∷_ 110 List.[]))))))))))))))))) (Syntax.tcons (Syntax.tyInt Syntax.w64) Syntax.tnil)),
-) (List._∷_ (
-  11,
-  Rows.any-gone (Syntax.tyRef Syntax.erased
-      Syntax.mut (Held.behind Syntax.erased)),
-) (List._∷_ (12, Rows.any-gone (Syntax.tyInt Syntax.w64)) (List._∷_ (13, Rows.any-gone Syntax.tyBool) (List._∷_ (
-  14,
-  Rows.any-gone (Syntax.tyRef
-      Syntax.erased Syntax.mut (Held.behind Syntax.erased)),
-) (List._∷_ (15, Rows.any-gone (Syntax.tyRef Syntax.erased Syntax.imm (Held.behind Syntax.erased))) List.[])))))))))))))))
+t42 = List._∷_ e0 (List._∷_ (1, Rows.mref-owed (Held.type (Syntax.named 1) List.[]) (Syntax.tyRef (Syntax.named 0) Syntax.mut (Held.behind (Syntax.named 1))) 0 5 Row.off) (List._∷_ e31 (List._∷_ e41
+    (List._∷_ e43 (List._∷_ e44 (List._∷_ e48 (List._∷_ e49 (List._∷_ e51 (List._∷_ e53 (List._∷_ e7 (List._∷_ e11 (List._∷_ e12 (List._∷_ e14 (List._∷_ e18 (List._∷_ e20 List.[])))))))))))))))
 
 abbrev pub t43 : List.List Row.Entry
-t43 = List._∷_ (16, Rows.any-gone (Syntax.tyInt Syntax.w32)) (List._∷_ (17, Rows.any-gone (Syntax.tyInt Syntax.w32)) (List._∷_ (18, Rows.any-gone (Syntax.tyInt Syntax.w32)) (List._∷_ (
-  19,
-  Rows.any-gone (Syntax.tyStruct (List._∷_ 99 (List._∷_ 111 (List._∷_ 100 (List._∷_ 101 (List._∷_ 58 (List._∷_ 58 (List._∷_ 67 (List._∷_ 111 (List._∷_ 100 (List._∷_ 101 List.[])))))))))) (Syntax.tcons
-      (Syntax.tyInt Syntax.w64) (Syntax.tcons (Syntax.tyInt Syntax.w32) (Syntax.tcons Syntax.tyBool (Syntax.tcons (Syntax.tyStruct (List._∷_ 98 (List._∷_ 105 (List._∷_ 116 (List._∷_ 115 (List._∷_ 58
-      (List._∷_ 58 (List._∷_ 66 (List._∷_ 105 (List._∷_ 116 (List._∷_ 80 (List._∷_ 111 (List._∷_ 115 (List._∷_ 105 (List._∷_ 116 (List._∷_ 105 (List._∷_ 111 (List._∷_ 110 List.[])))))))))))))))))
-      (Syntax.tcons (Syntax.tyInt Syntax.w64) Syntax.tnil)) Syntax.tnil))))),
-) (List._∷_ (20, Rows.any-gone (Syntax.tyInt Syntax.w32)) (List._∷_ (
-  21,
-  Rows.mref (Held.type (Syntax.named 1) List.[])
-      (Syntax.tyRef Syntax.erased Syntax.mut (Held.behind Syntax.erased)) 5,
-) (List._∷_ (22, Rows.any-gone (Syntax.tyRef Syntax.erased Syntax.imm (Held.behind Syntax.erased))) (List._∷_ (
-  23,
-  Rows.any-gone (Syntax.tyStruct (List._∷_ 99 (List._∷_ 111 (List._∷_ 100 (List._∷_ 101 (List._∷_ 58 (List._∷_ 58 (List._∷_ 67 (List._∷_ 111 (List._∷_ 100 (List._∷_ 101 List.[])))))))))) (Syntax.tcons
-      (Syntax.tyInt Syntax.w64) (Syntax.tcons (Syntax.tyInt Syntax.w32) (Syntax.tcons Syntax.tyBool (Syntax.tcons (Syntax.tyStruct (List._∷_ 98 (List._∷_ 105 (List._∷_ 116 (List._∷_ 115 (List._∷_ 58
-      (List._∷_ 58 (List._∷_ 66 (List._∷_ 105 (List._∷_ 116 (List._∷_ 80 (List._∷_ 111 (List._∷_ 115 (List._∷_ 105 (List._∷_ 116 (List._∷_ 105 (List._∷_ 111 (List._∷_ 110 List.[])))))))))))))))))
-      (Syntax.tcons (Syntax.tyInt Syntax.w64) Syntax.tnil)) Syntax.tnil))))),
-) List.[])))))))
+t43 = List._∷_ e22 (List._∷_ e24 (List._∷_ e26 (List._∷_ e28 (List._∷_ e32 (List._∷_
+    (21, Rows.mref (Held.type (Syntax.named 1) List.[]) (Syntax.tyRef Syntax.erased Syntax.mut (Held.behind Syntax.erased)) 5) (List._∷_ e38 (List._∷_ e39 List.[])))))))
 
 abbrev pub t44 : List.List Row.Entry
-t44 = List._∷_ (16, Rows.any-gone (Syntax.tyInt Syntax.w32)) (List._∷_ (17, Rows.any-gone (Syntax.tyInt Syntax.w32)) (List._∷_ (18, Rows.any-gone (Syntax.tyInt Syntax.w32)) (List._∷_ (
-  19,
-  Rows.any-gone (Syntax.tyStruct (List._∷_ 99 (List._∷_ 111 (List._∷_ 100 (List._∷_ 101 (List._∷_ 58 (List._∷_ 58 (List._∷_ 67 (List._∷_ 111 (List._∷_ 100 (List._∷_ 101 List.[])))))))))) (Syntax.tcons
-      (Syntax.tyInt Syntax.w64) (Syntax.tcons (Syntax.tyInt Syntax.w32) (Syntax.tcons Syntax.tyBool (Syntax.tcons (Syntax.tyStruct (List._∷_ 98 (List._∷_ 105 (List._∷_ 116 (List._∷_ 115 (List._∷_ 58
-      (List._∷_ 58 (List._∷_ 66 (List._∷_ 105 (List._∷_ 116 (List._∷_ 80 (List._∷_ 111 (List._∷_ 115 (List._∷_ 105 (List._∷_ 116 (List._∷_ 105 (List._∷_ 111 (List._∷_ 110 List.[])))))))))))))))))
-      (Syntax.tcons (Syntax.tyInt Syntax.w64) Syntax.tnil)) Syntax.tnil))))),
-) (List._∷_ (20, Rows.any-gone (Syntax.tyInt Syntax.w32)) (List._∷_ (
-  21,
-  Rows.mref (Held.type (Syntax.named 1) List.[])
-      (Syntax.tyRef Syntax.erased Syntax.mut (Held.behind Syntax.erased)) 10,
-) (List._∷_ (22, Rows.any-gone (Syntax.tyRef Syntax.erased Syntax.imm (Held.behind Syntax.erased))) (List._∷_ (
-  23,
-  Rows.any-gone (Syntax.tyStruct (List._∷_ 99 (List._∷_ 111 (List._∷_ 100 (List._∷_ 101 (List._∷_ 58 (List._∷_ 58 (List._∷_ 67 (List._∷_ 111 (List._∷_ 100 (List._∷_ 101 List.[])))))))))) (Syntax.tcons
-      (Syntax.tyInt Syntax.w64) (Syntax.tcons (Syntax.tyInt Syntax.w32) (Syntax.tcons Syntax.tyBool (Syntax.tcons (Syntax.tyStruct (List._∷_ 98 (List._∷_ 105 (List._∷_ 116 (List._∷_ 115 (List._∷_ 58
-      (List._∷_ 58 (List._∷_ 66 (List._∷_ 105 (List._∷_ 116 (List._∷_ 80 (List._∷_ 111 (List._∷_ 115 (List._∷_ 105 (List._∷_ 116 (List._∷_ 105 (List._∷_ 111 (List._∷_ 110 List.[])))))))))))))))))
-      (Syntax.tcons (Syntax.tyInt Syntax.w64) Syntax.tnil)) Syntax.tnil))))),
-) List.[])))))))
+t44 = List._∷_ e22 (List._∷_ e24 (List._∷_ e26 (List._∷_ e28 (List._∷_ e32 (List._∷_
+    (21, Rows.mref (Held.type (Syntax.named 1) List.[]) (Syntax.tyRef Syntax.erased Syntax.mut (Held.behind Syntax.erased)) 10) (List._∷_ e38 (List._∷_ e39 List.[])))))))
 
 abbrev pub t45 : List.List Row.Entry
-t45 = List._∷_ (16, Rows.any-gone (Syntax.tyInt Syntax.w32)) (List._∷_ (17, Rows.any-gone (Syntax.tyInt Syntax.w32)) (List._∷_ (18, Rows.any-gone (Syntax.tyInt Syntax.w32)) (List._∷_ (
-  19,
-  Rows.any-gone (Syntax.tyStruct (List._∷_ 99 (List._∷_ 111 (List._∷_ 100 (List._∷_ 101 (List._∷_ 58 (List._∷_ 58 (List._∷_ 67 (List._∷_ 111 (List._∷_ 100 (List._∷_ 101 List.[])))))))))) (Syntax.tcons
-      (Syntax.tyInt Syntax.w64) (Syntax.tcons (Syntax.tyInt Syntax.w32) (Syntax.tcons Syntax.tyBool (Syntax.tcons (Syntax.tyStruct (List._∷_ 98 (List._∷_ 105 (List._∷_ 116 (List._∷_ 115 (List._∷_ 58
-      (List._∷_ 58 (List._∷_ 66 (List._∷_ 105 (List._∷_ 116 (List._∷_ 80 (List._∷_ 111 (List._∷_ 115 (List._∷_ 105 (List._∷_ 116 (List._∷_ 105 (List._∷_ 111 (List._∷_ 110 List.[])))))))))))))))))
-      (Syntax.tcons (Syntax.tyInt Syntax.w64) Syntax.tnil)) Syntax.tnil))))),
-) (List._∷_ (20, Rows.any-gone (Syntax.tyInt Syntax.w32)) (List._∷_ (
-  21,
-  AtSlots.mrefAt 2 (λ κc. Held.type (Syntax.named 1) (κc
-      .1 .0)) Held.Value (λ κc v. v) (List._∷_ 10 (List._∷_ 1 List.[])) (Syntax.tyRef Syntax.erased Syntax.mut (Held.behind Syntax.erased)) 10,
-) (List._∷_ (
-  22,
-  Rows.any-gone (Syntax.tyRef Syntax.erased
-      Syntax.imm (Held.behind Syntax.erased)),
-) (List._∷_ (
-  23,
-  Rows.any-gone (Syntax.tyStruct (List._∷_ 99 (List._∷_ 111 (List._∷_ 100 (List._∷_ 101 (List._∷_ 58 (List._∷_ 58 (List._∷_ 67 (List._∷_ 111
-      (List._∷_ 100 (List._∷_ 101 List.[])))))))))) (Syntax.tcons (Syntax.tyInt Syntax.w64) (Syntax.tcons (Syntax.tyInt Syntax.w32) (Syntax.tcons Syntax.tyBool (Syntax.tcons (Syntax.tyStruct (List._∷_ 98
-      (List._∷_ 105 (List._∷_ 116 (List._∷_ 115 (List._∷_ 58 (List._∷_ 58 (List._∷_ 66 (List._∷_ 105 (List._∷_ 116 (List._∷_ 80 (List._∷_ 111 (List._∷_ 115 (List._∷_ 105 (List._∷_ 116 (List._∷_ 105
-      (List._∷_ 111 (List._∷_ 110 List.[]))))))))))))))))) (Syntax.tcons (Syntax.tyInt Syntax.w64) Syntax.tnil)) Syntax.tnil))))),
-) List.[])))))))
+t45 = List._∷_ e22 (List._∷_ e24 (List._∷_ e26 (List._∷_ e28 (List._∷_ e32 (List._∷_ e35 (List._∷_ e38 (List._∷_ e39 List.[])))))))
 
 abbrev pub t46 : List.List Row.Entry
-t46 = List._∷_ (16, Rows.any-gone (Syntax.tyInt Syntax.w32)) (List._∷_ (17, Rows.any-gone (Syntax.tyInt Syntax.w32)) (List._∷_ (18, Rows.any-gone (Syntax.tyInt Syntax.w32)) (List._∷_ (
-  19,
-  Rows.any-gone (Syntax.tyStruct (List._∷_ 99 (List._∷_ 111 (List._∷_ 100 (List._∷_ 101 (List._∷_ 58 (List._∷_ 58 (List._∷_ 67 (List._∷_ 111 (List._∷_ 100 (List._∷_ 101 List.[])))))))))) (Syntax.tcons
-      (Syntax.tyInt Syntax.w64) (Syntax.tcons (Syntax.tyInt Syntax.w32) (Syntax.tcons Syntax.tyBool (Syntax.tcons (Syntax.tyStruct (List._∷_ 98 (List._∷_ 105 (List._∷_ 116 (List._∷_ 115 (List._∷_ 58
-      (List._∷_ 58 (List._∷_ 66 (List._∷_ 105 (List._∷_ 116 (List._∷_ 80 (List._∷_ 111 (List._∷_ 115 (List._∷_ 105 (List._∷_ 116 (List._∷_ 105 (List._∷_ 111 (List._∷_ 110 List.[])))))))))))))))))
-      (Syntax.tcons (Syntax.tyInt Syntax.w64) Syntax.tnil)) Syntax.tnil))))),
-) (List._∷_ (20, Rows.sc-here (Row.sInt Syntax.w32)) (List._∷_ (
-  21,
-  AtSlots.mleftAt 2 (λ κc. Held.type (Syntax.named 1) (κc .1
-      .0)) Held.Value (λ κc v. v) (List._∷_ 10 (List._∷_ 1 List.[])) (Syntax.tyRef Syntax.erased Syntax.mut (Held.behind Syntax.erased)),
-) (List._∷_ (
-  22,
-  Rows.any-gone (Syntax.tyRef Syntax.erased
-      Syntax.imm (Held.behind Syntax.erased)),
-) (List._∷_ (
-  23,
-  Rows.any-gone (Syntax.tyStruct (List._∷_ 99 (List._∷_ 111 (List._∷_ 100 (List._∷_ 101 (List._∷_ 58 (List._∷_ 58 (List._∷_ 67 (List._∷_ 111
-      (List._∷_ 100 (List._∷_ 101 List.[])))))))))) (Syntax.tcons (Syntax.tyInt Syntax.w64) (Syntax.tcons (Syntax.tyInt Syntax.w32) (Syntax.tcons Syntax.tyBool (Syntax.tcons (Syntax.tyStruct (List._∷_ 98
-      (List._∷_ 105 (List._∷_ 116 (List._∷_ 115 (List._∷_ 58 (List._∷_ 58 (List._∷_ 66 (List._∷_ 105 (List._∷_ 116 (List._∷_ 80 (List._∷_ 111 (List._∷_ 115 (List._∷_ 105 (List._∷_ 116 (List._∷_ 105
-      (List._∷_ 111 (List._∷_ 110 List.[]))))))))))))))))) (Syntax.tcons (Syntax.tyInt Syntax.w64) Syntax.tnil)) Syntax.tnil))))),
-) List.[])))))))
+t46 = List._∷_ e22 (List._∷_ e24 (List._∷_ e26 (List._∷_ e28 (List._∷_ e33 (List._∷_ e34 (List._∷_ e38 (List._∷_ e39 List.[])))))))
 
 abbrev pub t47 : List.List Row.Entry
-t47 = List._∷_ (16, Rows.any-gone (Syntax.tyInt Syntax.w32)) (List._∷_ (17, Rows.any-gone (Syntax.tyInt Syntax.w32)) (List._∷_ (18, Rows.any-gone (Syntax.tyInt Syntax.w32)) (List._∷_ (
-  19,
-  Rows.any-gone (Syntax.tyStruct (List._∷_ 99 (List._∷_ 111 (List._∷_ 100 (List._∷_ 101 (List._∷_ 58 (List._∷_ 58 (List._∷_ 67 (List._∷_ 111 (List._∷_ 100 (List._∷_ 101 List.[])))))))))) (Syntax.tcons
-      (Syntax.tyInt Syntax.w64) (Syntax.tcons (Syntax.tyInt Syntax.w32) (Syntax.tcons Syntax.tyBool (Syntax.tcons (Syntax.tyStruct (List._∷_ 98 (List._∷_ 105 (List._∷_ 116 (List._∷_ 115 (List._∷_ 58
-      (List._∷_ 58 (List._∷_ 66 (List._∷_ 105 (List._∷_ 116 (List._∷_ 80 (List._∷_ 111 (List._∷_ 115 (List._∷_ 105 (List._∷_ 116 (List._∷_ 105 (List._∷_ 111 (List._∷_ 110 List.[])))))))))))))))))
-      (Syntax.tcons (Syntax.tyInt Syntax.w64) Syntax.tnil)) Syntax.tnil))))),
-) (List._∷_ (20, Rows.sc-here (Row.sInt Syntax.w32)) (List._∷_ (
-  21,
-  Rows.any-gone (Syntax.tyRef Syntax.erased Syntax.mut
-      (Held.behind Syntax.erased)),
-) (List._∷_ (22, Rows.any-gone (Syntax.tyRef Syntax.erased Syntax.imm (Held.behind Syntax.erased))) (List._∷_ (
-  23,
-  Rows.any-gone (Syntax.tyStruct (List._∷_ 99
-      (List._∷_ 111 (List._∷_ 100 (List._∷_ 101 (List._∷_ 58 (List._∷_ 58 (List._∷_ 67 (List._∷_ 111 (List._∷_ 100 (List._∷_ 101 List.[])))))))))) (Syntax.tcons (Syntax.tyInt Syntax.w64) (Syntax.tcons
-      (Syntax.tyInt Syntax.w32) (Syntax.tcons Syntax.tyBool (Syntax.tcons (Syntax.tyStruct (List._∷_ 98 (List._∷_ 105 (List._∷_ 116 (List._∷_ 115 (List._∷_ 58 (List._∷_ 58 (List._∷_ 66 (List._∷_ 105
-      (List._∷_ 116 (List._∷_ 80 (List._∷_ 111 (List._∷_ 115 (List._∷_ 105 (List._∷_ 116 (List._∷_ 105 (List._∷_ 111 (List._∷_ 110 List.[]))))))))))))))))) (Syntax.tcons (Syntax.tyInt Syntax.w64)
-      Syntax.tnil)) Syntax.tnil))))),
-) List.[])))))))
+t47 = List._∷_ e22 (List._∷_ e24 (List._∷_ e26 (List._∷_ e28 (List._∷_ e33 (List._∷_ e36 (List._∷_ e38 (List._∷_ e39 List.[])))))))
 
 abbrev pub t48 : List.List Row.Entry
-t48 = List._∷_ (
-  0,
-  Rows.any-gone (Syntax.tyEnum (List._∷_ 99 (List._∷_ 111 (List._∷_ 100 (List._∷_ 101 (List._∷_ 58 (List._∷_ 58 (List._∷_ 67 (List._∷_ 111 (List._∷_ 100 (List._∷_ 101 (List._∷_ 100
-      List.[]))))))))))) (Syntax.ttcons (Syntax.tcons (Syntax.tyStruct (List._∷_ 99 (List._∷_ 111 (List._∷_ 100 (List._∷_ 101 (List._∷_ 58 (List._∷_ 58 (List._∷_ 67 (List._∷_ 111 (List._∷_ 100 (List._∷_ 101
-      List.[])))))))))) (Syntax.tcons (Syntax.tyInt Syntax.w64) (Syntax.tcons (Syntax.tyInt Syntax.w32) (Syntax.tcons Syntax.tyBool (Syntax.tcons (Syntax.tyStruct (List._∷_ 98 (List._∷_ 105 (List._∷_ 116
-      (List._∷_ 115 (List._∷_ 58 (List._∷_ 58 (List._∷_ 66 (List._∷_ 105 (List._∷_ 116 (List._∷_ 80 (List._∷_ 111 (List._∷_ 115 (List._∷_ 105 (List._∷_ 116 (List._∷_ 105 (List._∷_ 111 (List._∷_ 110
-      List.[]))))))))))))))))) (Syntax.tcons (Syntax.tyInt Syntax.w64) Syntax.tnil)) Syntax.tnil))))) Syntax.tnil) (Syntax.ttcons Syntax.tnil Syntax.ttnil))),
-) (List._∷_ (
-  1,
-  Rows.mref (Held.type
-      (Syntax.named 1) List.[]) (Syntax.tyRef (Syntax.named 0) Syntax.mut (Held.behind (Syntax.named 1))) 0,
-) (List._∷_ (2, Rows.sc-here (Row.sInt Syntax.w32)) (List._∷_ (
-  3,
-  Rows.sc-here (Row.sInt
-      Syntax.w32),
-) (List._∷_ (4, Rows.sc-here (Row.sInt Syntax.w32)) (List._∷_ (
-  5,
-  Rows.any-gone (Syntax.tyEnum (List._∷_ 98 (List._∷_ 105 (List._∷_ 116 (List._∷_ 115 (List._∷_ 58 (List._∷_ 58 (List._∷_
-      90 (List._∷_ 101 (List._∷_ 114 (List._∷_ 111 (List._∷_ 82 (List._∷_ 117 (List._∷_ 110 List.[]))))))))))))) (Syntax.ttcons (Syntax.tcons (Syntax.tyInt Syntax.w64) Syntax.tnil) (Syntax.ttcons
-      Syntax.tnil Syntax.ttnil))),
-) (List._∷_ (6, Rows.sc-here (Row.sInt Syntax.w64)) (List._∷_ (7, Rows.any-gone (Syntax.tyInt Syntax.w32)) (List._∷_ (
-  8,
-  Rows.any-gone (Syntax.tyStruct (List._∷_ 98
-      (List._∷_ 105 (List._∷_ 116 (List._∷_ 115 (List._∷_ 58 (List._∷_ 58 (List._∷_ 66 (List._∷_ 105 (List._∷_ 116 (List._∷_ 80 (List._∷_ 111 (List._∷_ 115 (List._∷_ 105 (List._∷_ 116 (List._∷_ 105
-      (List._∷_ 111 (List._∷_ 110 List.[]))))))))))))))))) (Syntax.tcons (Syntax.tyInt Syntax.w64) Syntax.tnil)),
-) (List._∷_ (9, Rows.sc-here (Row.sInt Syntax.w32)) (List._∷_ (
-  10,
-  Rows.any-gone
-      (Syntax.tyStruct (List._∷_ 98 (List._∷_ 105 (List._∷_ 116 (List._∷_ 115 (List._∷_ 58 (List._∷_ 58 (List._∷_ 66 (List._∷_ 105 (List._∷_ 116 (List._∷_ 80 (List._∷_ 111 (List._∷_ 115 (List._∷_ 105
-      (List._∷_ 116 (List._∷_ 105 (List._∷_ 111 (List._∷_ 110 List.[]))))))))))))))))) (Syntax.tcons (Syntax.tyInt Syntax.w64) Syntax.tnil)),
-) (List._∷_ (
-  11,
-  Rows.any-gone (Syntax.tyRef Syntax.erased
-      Syntax.mut (Held.behind Syntax.erased)),
-) (List._∷_ (12, Rows.any-gone (Syntax.tyInt Syntax.w64)) (List._∷_ (13, Rows.any-gone Syntax.tyBool) (List._∷_ (
-  14,
-  Rows.any-gone (Syntax.tyRef
-      Syntax.erased Syntax.mut (Held.behind Syntax.erased)),
-) (List._∷_ (15, Rows.any-gone (Syntax.tyRef Syntax.erased Syntax.imm (Held.behind Syntax.erased))) List.[])))))))))))))))
+t48 = List._∷_ e0 (List._∷_ e4 (List._∷_ e31 (List._∷_ e41 (List._∷_ e43 (List._∷_ e44 (List._∷_ e48 (List._∷_ e49 (List._∷_ e51 (List._∷_ e54 (List._∷_ e7 (List._∷_ e11 (List._∷_ e12 (List._∷_ e14
+    (List._∷_ e18 (List._∷_ e20 List.[])))))))))))))))
 
 abbrev pub t49 : List.List Row.Entry
-t49 = List._∷_ (
-  0,
-  Rows.any-gone (Syntax.tyEnum (List._∷_ 99 (List._∷_ 111 (List._∷_ 100 (List._∷_ 101 (List._∷_ 58 (List._∷_ 58 (List._∷_ 67 (List._∷_ 111 (List._∷_ 100 (List._∷_ 101 (List._∷_ 100
-      List.[]))))))))))) (Syntax.ttcons (Syntax.tcons (Syntax.tyStruct (List._∷_ 99 (List._∷_ 111 (List._∷_ 100 (List._∷_ 101 (List._∷_ 58 (List._∷_ 58 (List._∷_ 67 (List._∷_ 111 (List._∷_ 100 (List._∷_ 101
-      List.[])))))))))) (Syntax.tcons (Syntax.tyInt Syntax.w64) (Syntax.tcons (Syntax.tyInt Syntax.w32) (Syntax.tcons Syntax.tyBool (Syntax.tcons (Syntax.tyStruct (List._∷_ 98 (List._∷_ 105 (List._∷_ 116
-      (List._∷_ 115 (List._∷_ 58 (List._∷_ 58 (List._∷_ 66 (List._∷_ 105 (List._∷_ 116 (List._∷_ 80 (List._∷_ 111 (List._∷_ 115 (List._∷_ 105 (List._∷_ 116 (List._∷_ 105 (List._∷_ 111 (List._∷_ 110
-      List.[]))))))))))))))))) (Syntax.tcons (Syntax.tyInt Syntax.w64) Syntax.tnil)) Syntax.tnil))))) Syntax.tnil) (Syntax.ttcons Syntax.tnil Syntax.ttnil))),
-) (List._∷_ (
-  1,
-  Reshare.mref-owedS (Held.type
-      (Syntax.named 1) List.[]) (Syntax.tyRef (Syntax.named 0) Syntax.mut (Held.behind (Syntax.named 1))) 0 6 Row.off,
-) (List._∷_ (2, Rows.sc-here (Row.sInt Syntax.w32)) (List._∷_ (
-  3,
-  Rows.sc-here
-      (Row.sInt Syntax.w32),
-) (List._∷_ (4, Rows.sc-here (Row.sInt Syntax.w32)) (List._∷_ (
-  5,
-  Rows.any-gone (Syntax.tyEnum (List._∷_ 98 (List._∷_ 105 (List._∷_ 116 (List._∷_ 115 (List._∷_ 58 (List._∷_ 58
-      (List._∷_ 90 (List._∷_ 101 (List._∷_ 114 (List._∷_ 111 (List._∷_ 82 (List._∷_ 117 (List._∷_ 110 List.[]))))))))))))) (Syntax.ttcons (Syntax.tcons (Syntax.tyInt Syntax.w64) Syntax.tnil) (Syntax.ttcons
-      Syntax.tnil Syntax.ttnil))),
-) (List._∷_ (6, Rows.sc-here (Row.sInt Syntax.w64)) (List._∷_ (7, Rows.any-gone (Syntax.tyInt Syntax.w32)) (List._∷_ (
-  8,
-  Rows.any-gone (Syntax.tyStruct (List._∷_ 98
-      (List._∷_ 105 (List._∷_ 116 (List._∷_ 115 (List._∷_ 58 (List._∷_ 58 (List._∷_ 66 (List._∷_ 105 (List._∷_ 116 (List._∷_ 80 (List._∷_ 111 (List._∷_ 115 (List._∷_ 105 (List._∷_ 116 (List._∷_ 105
-      (List._∷_ 111 (List._∷_ 110 List.[]))))))))))))))))) (Syntax.tcons (Syntax.tyInt Syntax.w64) Syntax.tnil)),
-) (List._∷_ (9, Rows.sc-here (Row.sInt Syntax.w32)) (List._∷_ (
-  10,
-  Rows.any-gone
-      (Syntax.tyStruct (List._∷_ 98 (List._∷_ 105 (List._∷_ 116 (List._∷_ 115 (List._∷_ 58 (List._∷_ 58 (List._∷_ 66 (List._∷_ 105 (List._∷_ 116 (List._∷_ 80 (List._∷_ 111 (List._∷_ 115 (List._∷_ 105
-      (List._∷_ 116 (List._∷_ 105 (List._∷_ 111 (List._∷_ 110 List.[]))))))))))))))))) (Syntax.tcons (Syntax.tyInt Syntax.w64) Syntax.tnil)),
-) (List._∷_ (
-  11,
-  Rows.any-gone (Syntax.tyRef Syntax.erased
-      Syntax.mut (Held.behind Syntax.erased)),
-) (List._∷_ (12, Rows.any-gone (Syntax.tyInt Syntax.w64)) (List._∷_ (13, Rows.any-gone Syntax.tyBool) (List._∷_ (
-  14,
-  Rows.any-gone (Syntax.tyRef
-      Syntax.erased Syntax.mut (Held.behind Syntax.erased)),
-) (List._∷_ (15, Rows.any-gone (Syntax.tyRef Syntax.erased Syntax.imm (Held.behind Syntax.erased))) List.[])))))))))))))))
+t49 = List._∷_ e0 (List._∷_ e3 (List._∷_ e31 (List._∷_ e41 (List._∷_ e43 (List._∷_ e44 (List._∷_ e48 (List._∷_ e49 (List._∷_ e51 (List._∷_ e54 (List._∷_ e7 (List._∷_ e11 (List._∷_ e12 (List._∷_ e14
+    (List._∷_ e18 (List._∷_ e20 List.[])))))))))))))))
 
 abbrev pub t50 : List.List Row.Entry
-t50 = List._∷_ (16, Rows.any-gone (Syntax.tyInt Syntax.w32)) (List._∷_ (17, Rows.any-gone (Syntax.tyInt Syntax.w32)) (List._∷_ (18, Rows.any-gone (Syntax.tyInt Syntax.w32)) (List._∷_ (
-  19,
-  Rows.any-gone (Syntax.tyStruct (List._∷_ 99 (List._∷_ 111 (List._∷_ 100 (List._∷_ 101 (List._∷_ 58 (List._∷_ 58 (List._∷_ 67 (List._∷_ 111 (List._∷_ 100 (List._∷_ 101 List.[])))))))))) (Syntax.tcons
-      (Syntax.tyInt Syntax.w64) (Syntax.tcons (Syntax.tyInt Syntax.w32) (Syntax.tcons Syntax.tyBool (Syntax.tcons (Syntax.tyStruct (List._∷_ 98 (List._∷_ 105 (List._∷_ 116 (List._∷_ 115 (List._∷_ 58
-      (List._∷_ 58 (List._∷_ 66 (List._∷_ 105 (List._∷_ 116 (List._∷_ 80 (List._∷_ 111 (List._∷_ 115 (List._∷_ 105 (List._∷_ 116 (List._∷_ 105 (List._∷_ 111 (List._∷_ 110 List.[])))))))))))))))))
-      (Syntax.tcons (Syntax.tyInt Syntax.w64) Syntax.tnil)) Syntax.tnil))))),
-) (List._∷_ (20, Rows.any-gone (Syntax.tyInt Syntax.w32)) (List._∷_ (
-  21,
-  Rows.any-gone (Syntax.tyRef Syntax.erased Syntax.mut
-      (Held.behind Syntax.erased)),
-) (List._∷_ (22, Rows.sref (Held.type (Syntax.named 1) List.[]) (Syntax.tyRef Syntax.erased Syntax.imm (Held.behind Syntax.erased)) 6) (List._∷_ (
-  23,
-  Rows.any-gone
-      (Syntax.tyStruct (List._∷_ 99 (List._∷_ 111 (List._∷_ 100 (List._∷_ 101 (List._∷_ 58 (List._∷_ 58 (List._∷_ 67 (List._∷_ 111 (List._∷_ 100 (List._∷_ 101 List.[])))))))))) (Syntax.tcons (Syntax.tyInt
-      Syntax.w64) (Syntax.tcons (Syntax.tyInt Syntax.w32) (Syntax.tcons Syntax.tyBool (Syntax.tcons (Syntax.tyStruct (List._∷_ 98 (List._∷_ 105 (List._∷_ 116 (List._∷_ 115 (List._∷_ 58 (List._∷_ 58
-      (List._∷_ 66 (List._∷_ 105 (List._∷_ 116 (List._∷_ 80 (List._∷_ 111 (List._∷_ 115 (List._∷_ 105 (List._∷_ 116 (List._∷_ 105 (List._∷_ 111 (List._∷_ 110 List.[]))))))))))))))))) (Syntax.tcons
-      (Syntax.tyInt Syntax.w64) Syntax.tnil)) Syntax.tnil))))),
-) List.[])))))))
+t50 = List._∷_ e22 (List._∷_ e24 (List._∷_ e26 (List._∷_ e28 (List._∷_ e32 (List._∷_ e36 (List._∷_
+    (22, Rows.sref (Held.type (Syntax.named 1) List.[]) (Syntax.tyRef Syntax.erased Syntax.imm (Held.behind Syntax.erased)) 6) (List._∷_ e39 List.[])))))))
 
 abbrev pub t51 : List.List Row.Entry
-t51 = List._∷_ (16, Rows.any-gone (Syntax.tyInt Syntax.w32)) (List._∷_ (17, Rows.any-gone (Syntax.tyInt Syntax.w32)) (List._∷_ (18, Rows.any-gone (Syntax.tyInt Syntax.w32)) (List._∷_ (
-  19,
-  Rows.any-gone (Syntax.tyStruct (List._∷_ 99 (List._∷_ 111 (List._∷_ 100 (List._∷_ 101 (List._∷_ 58 (List._∷_ 58 (List._∷_ 67 (List._∷_ 111 (List._∷_ 100 (List._∷_ 101 List.[])))))))))) (Syntax.tcons
-      (Syntax.tyInt Syntax.w64) (Syntax.tcons (Syntax.tyInt Syntax.w32) (Syntax.tcons Syntax.tyBool (Syntax.tcons (Syntax.tyStruct (List._∷_ 98 (List._∷_ 105 (List._∷_ 116 (List._∷_ 115 (List._∷_ 58
-      (List._∷_ 58 (List._∷_ 66 (List._∷_ 105 (List._∷_ 116 (List._∷_ 80 (List._∷_ 111 (List._∷_ 115 (List._∷_ 105 (List._∷_ 116 (List._∷_ 105 (List._∷_ 111 (List._∷_ 110 List.[])))))))))))))))))
-      (Syntax.tcons (Syntax.tyInt Syntax.w64) Syntax.tnil)) Syntax.tnil))))),
-) (List._∷_ (20, Rows.any-gone (Syntax.tyInt Syntax.w32)) (List._∷_ (
-  21,
-  Rows.any-gone (Syntax.tyRef Syntax.erased Syntax.mut
-      (Held.behind Syntax.erased)),
-) (List._∷_ (22, Rows.sref (Held.type (Syntax.named 1) List.[]) (Syntax.tyRef Syntax.erased Syntax.imm (Held.behind Syntax.erased)) 11) (List._∷_ (
-  23,
-  Rows.any-gone
-      (Syntax.tyStruct (List._∷_ 99 (List._∷_ 111 (List._∷_ 100 (List._∷_ 101 (List._∷_ 58 (List._∷_ 58 (List._∷_ 67 (List._∷_ 111 (List._∷_ 100 (List._∷_ 101 List.[])))))))))) (Syntax.tcons (Syntax.tyInt
-      Syntax.w64) (Syntax.tcons (Syntax.tyInt Syntax.w32) (Syntax.tcons Syntax.tyBool (Syntax.tcons (Syntax.tyStruct (List._∷_ 98 (List._∷_ 105 (List._∷_ 116 (List._∷_ 115 (List._∷_ 58 (List._∷_ 58
-      (List._∷_ 66 (List._∷_ 105 (List._∷_ 116 (List._∷_ 80 (List._∷_ 111 (List._∷_ 115 (List._∷_ 105 (List._∷_ 116 (List._∷_ 105 (List._∷_ 111 (List._∷_ 110 List.[]))))))))))))))))) (Syntax.tcons
-      (Syntax.tyInt Syntax.w64) Syntax.tnil)) Syntax.tnil))))),
-) List.[])))))))
+t51 = List._∷_ e22 (List._∷_ e24 (List._∷_ e26 (List._∷_ e28 (List._∷_ e32 (List._∷_ e36 (List._∷_
+    (22, Rows.sref (Held.type (Syntax.named 1) List.[]) (Syntax.tyRef Syntax.erased Syntax.imm (Held.behind Syntax.erased)) 11) (List._∷_ e39 List.[])))))))
 
 abbrev pub t52 : List.List Row.Entry
-t52 = List._∷_ (16, Rows.any-gone (Syntax.tyInt Syntax.w32)) (List._∷_ (17, Rows.any-gone (Syntax.tyInt Syntax.w32)) (List._∷_ (18, Rows.any-gone (Syntax.tyInt Syntax.w32)) (List._∷_ (
-  19,
-  Rows.any-gone (Syntax.tyStruct (List._∷_ 99 (List._∷_ 111 (List._∷_ 100 (List._∷_ 101 (List._∷_ 58 (List._∷_ 58 (List._∷_ 67 (List._∷_ 111 (List._∷_ 100 (List._∷_ 101 List.[])))))))))) (Syntax.tcons
-      (Syntax.tyInt Syntax.w64) (Syntax.tcons (Syntax.tyInt Syntax.w32) (Syntax.tcons Syntax.tyBool (Syntax.tcons (Syntax.tyStruct (List._∷_ 98 (List._∷_ 105 (List._∷_ 116 (List._∷_ 115 (List._∷_ 58
-      (List._∷_ 58 (List._∷_ 66 (List._∷_ 105 (List._∷_ 116 (List._∷_ 80 (List._∷_ 111 (List._∷_ 115 (List._∷_ 105 (List._∷_ 116 (List._∷_ 105 (List._∷_ 111 (List._∷_ 110 List.[])))))))))))))))))
-      (Syntax.tcons (Syntax.tyInt Syntax.w64) Syntax.tnil)) Syntax.tnil))))),
-) (List._∷_ (20, Rows.any-gone (Syntax.tyInt Syntax.w32)) (List._∷_ (
-  21,
-  Rows.any-gone (Syntax.tyRef Syntax.erased Syntax.mut
-      (Held.behind Syntax.erased)),
-) (List._∷_ (
-  22,
-  AtSlots.srefAt 2 (λ κc. Held.type (Syntax.named 1) (κc .1 .0)) Held.Value (λ κc v. v) (List._∷_ 11 (List._∷_ 1 List.[])) (Syntax.tyRef Syntax.erased
-      Syntax.imm (Held.behind Syntax.erased)) 11,
-) (List._∷_ (
-  23,
-  Rows.any-gone (Syntax.tyStruct (List._∷_ 99 (List._∷_ 111 (List._∷_ 100 (List._∷_ 101 (List._∷_ 58 (List._∷_ 58 (List._∷_ 67 (List._∷_ 111
-      (List._∷_ 100 (List._∷_ 101 List.[])))))))))) (Syntax.tcons (Syntax.tyInt Syntax.w64) (Syntax.tcons (Syntax.tyInt Syntax.w32) (Syntax.tcons Syntax.tyBool (Syntax.tcons (Syntax.tyStruct (List._∷_ 98
-      (List._∷_ 105 (List._∷_ 116 (List._∷_ 115 (List._∷_ 58 (List._∷_ 58 (List._∷_ 66 (List._∷_ 105 (List._∷_ 116 (List._∷_ 80 (List._∷_ 111 (List._∷_ 115 (List._∷_ 105 (List._∷_ 116 (List._∷_ 105
-      (List._∷_ 111 (List._∷_ 110 List.[]))))))))))))))))) (Syntax.tcons (Syntax.tyInt Syntax.w64) Syntax.tnil)) Syntax.tnil))))),
-) List.[])))))))
+t52 = List._∷_ e22 (List._∷_ e24 (List._∷_ e26 (List._∷_ e28 (List._∷_ e32 (List._∷_ e36 (List._∷_ e37 (List._∷_ e39 List.[])))))))
 
 abbrev pub t53 : List.List Row.Entry
-t53 = List._∷_ (
-  0,
-  Rows.any-gone (Syntax.tyEnum (List._∷_ 99 (List._∷_ 111 (List._∷_ 100 (List._∷_ 101 (List._∷_ 58 (List._∷_ 58 (List._∷_ 67 (List._∷_ 111 (List._∷_ 100 (List._∷_ 101 (List._∷_ 100
-      List.[]))))))))))) (Syntax.ttcons (Syntax.tcons (Syntax.tyStruct (List._∷_ 99 (List._∷_ 111 (List._∷_ 100 (List._∷_ 101 (List._∷_ 58 (List._∷_ 58 (List._∷_ 67 (List._∷_ 111 (List._∷_ 100 (List._∷_ 101
-      List.[])))))))))) (Syntax.tcons (Syntax.tyInt Syntax.w64) (Syntax.tcons (Syntax.tyInt Syntax.w32) (Syntax.tcons Syntax.tyBool (Syntax.tcons (Syntax.tyStruct (List._∷_ 98 (List._∷_ 105 (List._∷_ 116
-      (List._∷_ 115 (List._∷_ 58 (List._∷_ 58 (List._∷_ 66 (List._∷_ 105 (List._∷_ 116 (List._∷_ 80 (List._∷_ 111 (List._∷_ 115 (List._∷_ 105 (List._∷_ 116 (List._∷_ 105 (List._∷_ 111 (List._∷_ 110
-      List.[]))))))))))))))))) (Syntax.tcons (Syntax.tyInt Syntax.w64) Syntax.tnil)) Syntax.tnil))))) Syntax.tnil) (Syntax.ttcons Syntax.tnil Syntax.ttnil))),
-) (List._∷_ (
-  1,
-  Reshare.mref-owedS (Held.type
-      (Syntax.named 1) List.[]) (Syntax.tyRef (Syntax.named 0) Syntax.mut (Held.behind (Syntax.named 1))) 0 6 Row.off,
-) (List._∷_ (2, Rows.sc-here (Row.sInt Syntax.w32)) (List._∷_ (
-  3,
-  Rows.sc-here
-      (Row.sInt Syntax.w32),
-) (List._∷_ (4, Rows.sc-here (Row.sInt Syntax.w32)) (List._∷_ (
-  5,
-  Rows.any-gone (Syntax.tyEnum (List._∷_ 98 (List._∷_ 105 (List._∷_ 116 (List._∷_ 115 (List._∷_ 58 (List._∷_ 58
-      (List._∷_ 90 (List._∷_ 101 (List._∷_ 114 (List._∷_ 111 (List._∷_ 82 (List._∷_ 117 (List._∷_ 110 List.[]))))))))))))) (Syntax.ttcons (Syntax.tcons (Syntax.tyInt Syntax.w64) Syntax.tnil) (Syntax.ttcons
-      Syntax.tnil Syntax.ttnil))),
-) (List._∷_ (6, Rows.sc-here (Row.sInt Syntax.w64)) (List._∷_ (7, Rows.any-gone (Syntax.tyInt Syntax.w32)) (List._∷_ (
-  8,
-  Rows.any-gone (Syntax.tyStruct (List._∷_ 98
-      (List._∷_ 105 (List._∷_ 116 (List._∷_ 115 (List._∷_ 58 (List._∷_ 58 (List._∷_ 66 (List._∷_ 105 (List._∷_ 116 (List._∷_ 80 (List._∷_ 111 (List._∷_ 115 (List._∷_ 105 (List._∷_ 116 (List._∷_ 105
-      (List._∷_ 111 (List._∷_ 110 List.[]))))))))))))))))) (Syntax.tcons (Syntax.tyInt Syntax.w64) Syntax.tnil)),
-) (List._∷_ (9, Rows.sc-here (Row.sInt Syntax.w32)) (List._∷_ (
-  10,
-  Rows.whole
-      (Declared'.row BitPosition.the-type),
-) (List._∷_ (11, Rows.any-gone (Syntax.tyRef Syntax.erased Syntax.mut (Held.behind Syntax.erased))) (List._∷_ (12, Rows.any-gone (Syntax.tyInt Syntax.w64))
-    (List._∷_ (13, Rows.any-gone Syntax.tyBool) (List._∷_ (14, Rows.any-gone (Syntax.tyRef Syntax.erased Syntax.mut (Held.behind Syntax.erased))) (List._∷_ (
-      15,
-      Rows.any-gone (Syntax.tyRef
-          Syntax.erased Syntax.imm (Held.behind Syntax.erased)),
-    ) List.[])))))))))))))))
+t53 = List._∷_ e0 (List._∷_ e3 (List._∷_ e31 (List._∷_ e41 (List._∷_ e43 (List._∷_ e44 (List._∷_ e48 (List._∷_ e49 (List._∷_ e51 (List._∷_ e54 (List._∷_ e8 (List._∷_ e11 (List._∷_ e12 (List._∷_ e14
+    (List._∷_ e18 (List._∷_ e20 List.[])))))))))))))))
 
 abbrev pub t54 : List.List Row.Entry
-t54 = List._∷_ (
-  0,
-  Rows.any-gone (Syntax.tyEnum (List._∷_ 99 (List._∷_ 111 (List._∷_ 100 (List._∷_ 101 (List._∷_ 58 (List._∷_ 58 (List._∷_ 67 (List._∷_ 111 (List._∷_ 100 (List._∷_ 101 (List._∷_ 100
-      List.[]))))))))))) (Syntax.ttcons (Syntax.tcons (Syntax.tyStruct (List._∷_ 99 (List._∷_ 111 (List._∷_ 100 (List._∷_ 101 (List._∷_ 58 (List._∷_ 58 (List._∷_ 67 (List._∷_ 111 (List._∷_ 100 (List._∷_ 101
-      List.[])))))))))) (Syntax.tcons (Syntax.tyInt Syntax.w64) (Syntax.tcons (Syntax.tyInt Syntax.w32) (Syntax.tcons Syntax.tyBool (Syntax.tcons (Syntax.tyStruct (List._∷_ 98 (List._∷_ 105 (List._∷_ 116
-      (List._∷_ 115 (List._∷_ 58 (List._∷_ 58 (List._∷_ 66 (List._∷_ 105 (List._∷_ 116 (List._∷_ 80 (List._∷_ 111 (List._∷_ 115 (List._∷_ 105 (List._∷_ 116 (List._∷_ 105 (List._∷_ 111 (List._∷_ 110
-      List.[]))))))))))))))))) (Syntax.tcons (Syntax.tyInt Syntax.w64) Syntax.tnil)) Syntax.tnil))))) Syntax.tnil) (Syntax.ttcons Syntax.tnil Syntax.ttnil))),
-) (List._∷_ (
-  1,
-  Rows.mref (Held.type
-      (Syntax.named 1) List.[]) (Syntax.tyRef (Syntax.named 0) Syntax.mut (Held.behind (Syntax.named 1))) 0,
-) (List._∷_ (2, Rows.sc-here (Row.sInt Syntax.w32)) (List._∷_ (
-  3,
-  Rows.sc-here (Row.sInt
-      Syntax.w32),
-) (List._∷_ (4, Rows.sc-here (Row.sInt Syntax.w32)) (List._∷_ (
-  5,
-  Rows.any-gone (Syntax.tyEnum (List._∷_ 98 (List._∷_ 105 (List._∷_ 116 (List._∷_ 115 (List._∷_ 58 (List._∷_ 58 (List._∷_
-      90 (List._∷_ 101 (List._∷_ 114 (List._∷_ 111 (List._∷_ 82 (List._∷_ 117 (List._∷_ 110 List.[]))))))))))))) (Syntax.ttcons (Syntax.tcons (Syntax.tyInt Syntax.w64) Syntax.tnil) (Syntax.ttcons
-      Syntax.tnil Syntax.ttnil))),
-) (List._∷_ (6, Rows.sc-here (Row.sInt Syntax.w64)) (List._∷_ (7, Rows.any-gone (Syntax.tyInt Syntax.w32)) (List._∷_ (
-  8,
-  Rows.any-gone (Syntax.tyStruct (List._∷_ 98
-      (List._∷_ 105 (List._∷_ 116 (List._∷_ 115 (List._∷_ 58 (List._∷_ 58 (List._∷_ 66 (List._∷_ 105 (List._∷_ 116 (List._∷_ 80 (List._∷_ 111 (List._∷_ 115 (List._∷_ 105 (List._∷_ 116 (List._∷_ 105
-      (List._∷_ 111 (List._∷_ 110 List.[]))))))))))))))))) (Syntax.tcons (Syntax.tyInt Syntax.w64) Syntax.tnil)),
-) (List._∷_ (9, Rows.sc-here (Row.sInt Syntax.w32)) (List._∷_ (
-  10,
-  Rows.whole
-      (Declared'.row BitPosition.the-type),
-) (List._∷_ (11, Rows.any-gone (Syntax.tyRef Syntax.erased Syntax.mut (Held.behind Syntax.erased))) (List._∷_ (12, Rows.any-gone (Syntax.tyInt Syntax.w64))
-    (List._∷_ (13, Rows.any-gone Syntax.tyBool) (List._∷_ (14, Rows.any-gone (Syntax.tyRef Syntax.erased Syntax.mut (Held.behind Syntax.erased))) (List._∷_ (
-      15,
-      Rows.any-gone (Syntax.tyRef
-          Syntax.erased Syntax.imm (Held.behind Syntax.erased)),
-    ) List.[])))))))))))))))
+t54 = List._∷_ e0 (List._∷_ e4 (List._∷_ e31 (List._∷_ e41 (List._∷_ e43 (List._∷_ e44 (List._∷_ e48 (List._∷_ e49 (List._∷_ e51 (List._∷_ e54 (List._∷_ e8 (List._∷_ e11 (List._∷_ e12 (List._∷_ e14
+    (List._∷_ e18 (List._∷_ e20 List.[])))))))))))))))
 
 abbrev pub t55 : List.List Row.Entry
-t55 = List._∷_ (
-  0,
-  Rows.any-gone (Syntax.tyEnum (List._∷_ 99 (List._∷_ 111 (List._∷_ 100 (List._∷_ 101 (List._∷_ 58 (List._∷_ 58 (List._∷_ 67 (List._∷_ 111 (List._∷_ 100 (List._∷_ 101 (List._∷_ 100
-      List.[]))))))))))) (Syntax.ttcons (Syntax.tcons (Syntax.tyStruct (List._∷_ 99 (List._∷_ 111 (List._∷_ 100 (List._∷_ 101 (List._∷_ 58 (List._∷_ 58 (List._∷_ 67 (List._∷_ 111 (List._∷_ 100 (List._∷_ 101
-      List.[])))))))))) (Syntax.tcons (Syntax.tyInt Syntax.w64) (Syntax.tcons (Syntax.tyInt Syntax.w32) (Syntax.tcons Syntax.tyBool (Syntax.tcons (Syntax.tyStruct (List._∷_ 98 (List._∷_ 105 (List._∷_ 116
-      (List._∷_ 115 (List._∷_ 58 (List._∷_ 58 (List._∷_ 66 (List._∷_ 105 (List._∷_ 116 (List._∷_ 80 (List._∷_ 111 (List._∷_ 115 (List._∷_ 105 (List._∷_ 116 (List._∷_ 105 (List._∷_ 111 (List._∷_ 110
-      List.[]))))))))))))))))) (Syntax.tcons (Syntax.tyInt Syntax.w64) Syntax.tnil)) Syntax.tnil))))) Syntax.tnil) (Syntax.ttcons Syntax.tnil Syntax.ttnil))),
-) (List._∷_ (
-  1,
-  Rows.mref (Held.type
-      (Syntax.named 1) List.[]) (Syntax.tyRef (Syntax.named 0) Syntax.mut (Held.behind (Syntax.named 1))) 0,
-) (List._∷_ (2, Rows.sc-here (Row.sInt Syntax.w32)) (List._∷_ (
-  3,
-  Rows.sc-here (Row.sInt
-      Syntax.w32),
-) (List._∷_ (4, Rows.sc-here (Row.sInt Syntax.w32)) (List._∷_ (
-  5,
-  Rows.any-gone (Syntax.tyEnum (List._∷_ 98 (List._∷_ 105 (List._∷_ 116 (List._∷_ 115 (List._∷_ 58 (List._∷_ 58 (List._∷_
-      90 (List._∷_ 101 (List._∷_ 114 (List._∷_ 111 (List._∷_ 82 (List._∷_ 117 (List._∷_ 110 List.[]))))))))))))) (Syntax.ttcons (Syntax.tcons (Syntax.tyInt Syntax.w64) Syntax.tnil) (Syntax.ttcons
-      Syntax.tnil Syntax.ttnil))),
-) (List._∷_ (6, Rows.sc-here (Row.sInt Syntax.w64)) (List._∷_ (7, Rows.any-gone (Syntax.tyInt Syntax.w32)) (List._∷_ (
-  8,
-  Rows.any-gone (Syntax.tyStruct (List._∷_ 98
-      (List._∷_ 105 (List._∷_ 116 (List._∷_ 115 (List._∷_ 58 (List._∷_ 58 (List._∷_ 66 (List._∷_ 105 (List._∷_ 116 (List._∷_ 80 (List._∷_ 111 (List._∷_ 115 (List._∷_ 105 (List._∷_ 116 (List._∷_ 105
-      (List._∷_ 111 (List._∷_ 110 List.[]))))))))))))))))) (Syntax.tcons (Syntax.tyInt Syntax.w64) Syntax.tnil)),
-) (List._∷_ (9, Rows.sc-here (Row.sInt Syntax.w32)) (List._∷_ (
-  10,
-  Rows.whole
-      (Declared'.row BitPosition.the-type),
-) (List._∷_ (11, Rows.any-gone (Syntax.tyRef Syntax.erased Syntax.mut (Held.behind Syntax.erased))) (List._∷_ (12, Rows.any-gone (Syntax.tyInt Syntax.w64))
-    (List._∷_ (13, Rows.sc-here Row.sBool) (List._∷_ (14, Rows.any-gone (Syntax.tyRef Syntax.erased Syntax.mut (Held.behind Syntax.erased))) (List._∷_ (
-      15,
-      Rows.any-gone (Syntax.tyRef Syntax.erased
-          Syntax.imm (Held.behind Syntax.erased)),
-    ) List.[])))))))))))))))
+t55 = List._∷_ e0 (List._∷_ e4 (List._∷_ e31 (List._∷_ e41 (List._∷_ e43 (List._∷_ e44 (List._∷_ e48 (List._∷_ e49 (List._∷_ e51 (List._∷_ e54 (List._∷_ e8 (List._∷_ e11 (List._∷_ e12 (List._∷_ e15
+    (List._∷_ e18 (List._∷_ e20 List.[])))))))))))))))
 
 abbrev pub t56 : List.List Row.Entry
-t56 = List._∷_ (16, Rows.any-gone (Syntax.tyInt Syntax.w32)) (List._∷_ (17, Rows.any-gone (Syntax.tyInt Syntax.w32)) (List._∷_ (18, Rows.any-gone (Syntax.tyInt Syntax.w32)) (List._∷_ (
-  19,
-  Rows.any-gone (Syntax.tyStruct (List._∷_ 99 (List._∷_ 111 (List._∷_ 100 (List._∷_ 101 (List._∷_ 58 (List._∷_ 58 (List._∷_ 67 (List._∷_ 111 (List._∷_ 100 (List._∷_ 101 List.[])))))))))) (Syntax.tcons
-      (Syntax.tyInt Syntax.w64) (Syntax.tcons (Syntax.tyInt Syntax.w32) (Syntax.tcons Syntax.tyBool (Syntax.tcons (Syntax.tyStruct (List._∷_ 98 (List._∷_ 105 (List._∷_ 116 (List._∷_ 115 (List._∷_ 58
-      (List._∷_ 58 (List._∷_ 66 (List._∷_ 105 (List._∷_ 116 (List._∷_ 80 (List._∷_ 111 (List._∷_ 115 (List._∷_ 105 (List._∷_ 116 (List._∷_ 105 (List._∷_ 111 (List._∷_ 110 List.[])))))))))))))))))
-      (Syntax.tcons (Syntax.tyInt Syntax.w64) Syntax.tnil)) Syntax.tnil))))),
-) (List._∷_ (20, Rows.any-gone (Syntax.tyInt Syntax.w32)) (List._∷_ (
-  21,
-  Rows.any-gone (Syntax.tyRef Syntax.erased Syntax.mut
-      (Held.behind Syntax.erased)),
-) (List._∷_ (22, Rows.any-gone (Syntax.tyRef Syntax.erased Syntax.imm (Held.behind Syntax.erased))) (List._∷_ (
-  23,
-  Rows.whole (Declared'.row (Apart.apartT
-      Code.the-type)),
-) List.[])))))))
+t56 = List._∷_ e22 (List._∷_ e24 (List._∷_ e26 (List._∷_ e28 (List._∷_ e32 (List._∷_ e36 (List._∷_ e38 (List._∷_ (23, Rows.whole (Declared'.row (Apart.apartT Code.the-type))) List.[])))))))
 
 abbrev pub t57 : List.List Row.Entry
-t57 = List._∷_ (
-  0,
-  Rows.any-gone (Syntax.tyEnum (List._∷_ 99 (List._∷_ 111 (List._∷_ 100 (List._∷_ 101 (List._∷_ 58 (List._∷_ 58 (List._∷_ 67 (List._∷_ 111 (List._∷_ 100 (List._∷_ 101 (List._∷_ 100
-      List.[]))))))))))) (Syntax.ttcons (Syntax.tcons (Syntax.tyStruct (List._∷_ 99 (List._∷_ 111 (List._∷_ 100 (List._∷_ 101 (List._∷_ 58 (List._∷_ 58 (List._∷_ 67 (List._∷_ 111 (List._∷_ 100 (List._∷_ 101
-      List.[])))))))))) (Syntax.tcons (Syntax.tyInt Syntax.w64) (Syntax.tcons (Syntax.tyInt Syntax.w32) (Syntax.tcons Syntax.tyBool (Syntax.tcons (Syntax.tyStruct (List._∷_ 98 (List._∷_ 105 (List._∷_ 116
-      (List._∷_ 115 (List._∷_ 58 (List._∷_ 58 (List._∷_ 66 (List._∷_ 105 (List._∷_ 116 (List._∷_ 80 (List._∷_ 111 (List._∷_ 115 (List._∷_ 105 (List._∷_ 116 (List._∷_ 105 (List._∷_ 111 (List._∷_ 110
-      List.[]))))))))))))))))) (Syntax.tcons (Syntax.tyInt Syntax.w64) Syntax.tnil)) Syntax.tnil))))) Syntax.tnil) (Syntax.ttcons Syntax.tnil Syntax.ttnil))),
-) (List._∷_ (
-  1,
-  Rows.mref (Held.type
-      (Syntax.named 1) List.[]) (Syntax.tyRef (Syntax.named 0) Syntax.mut (Held.behind (Syntax.named 1))) 0,
-) (List._∷_ (2, Rows.sc-here (Row.sInt Syntax.w32)) (List._∷_ (
-  3,
-  Rows.sc-here (Row.sInt
-      Syntax.w32),
-) (List._∷_ (4, Rows.sc-here (Row.sInt Syntax.w32)) (List._∷_ (
-  5,
-  Rows.any-gone (Syntax.tyEnum (List._∷_ 98 (List._∷_ 105 (List._∷_ 116 (List._∷_ 115 (List._∷_ 58 (List._∷_ 58 (List._∷_
-      90 (List._∷_ 101 (List._∷_ 114 (List._∷_ 111 (List._∷_ 82 (List._∷_ 117 (List._∷_ 110 List.[]))))))))))))) (Syntax.ttcons (Syntax.tcons (Syntax.tyInt Syntax.w64) Syntax.tnil) (Syntax.ttcons
-      Syntax.tnil Syntax.ttnil))),
-) (List._∷_ (6, Rows.sc-here (Row.sInt Syntax.w64)) (List._∷_ (7, Rows.any-gone (Syntax.tyInt Syntax.w32)) (List._∷_ (
-  8,
-  Rows.any-gone (Syntax.tyStruct (List._∷_ 98
-      (List._∷_ 105 (List._∷_ 116 (List._∷_ 115 (List._∷_ 58 (List._∷_ 58 (List._∷_ 66 (List._∷_ 105 (List._∷_ 116 (List._∷_ 80 (List._∷_ 111 (List._∷_ 115 (List._∷_ 105 (List._∷_ 116 (List._∷_ 105
-      (List._∷_ 111 (List._∷_ 110 List.[]))))))))))))))))) (Syntax.tcons (Syntax.tyInt Syntax.w64) Syntax.tnil)),
-) (List._∷_ (9, Rows.sc-here (Row.sInt Syntax.w32)) (List._∷_ (
-  10,
-  Rows.any-gone
-      (Syntax.tyStruct (List._∷_ 98 (List._∷_ 105 (List._∷_ 116 (List._∷_ 115 (List._∷_ 58 (List._∷_ 58 (List._∷_ 66 (List._∷_ 105 (List._∷_ 116 (List._∷_ 80 (List._∷_ 111 (List._∷_ 115 (List._∷_ 105
-      (List._∷_ 116 (List._∷_ 105 (List._∷_ 111 (List._∷_ 110 List.[]))))))))))))))))) (Syntax.tcons (Syntax.tyInt Syntax.w64) Syntax.tnil)),
-) (List._∷_ (
-  11,
-  Rows.any-gone (Syntax.tyRef Syntax.erased
-      Syntax.mut (Held.behind Syntax.erased)),
-) (List._∷_ (12, Rows.any-gone (Syntax.tyInt Syntax.w64)) (List._∷_ (13, Rows.sc-here Row.sBool) (List._∷_ (
-  14,
-  Rows.any-gone (Syntax.tyRef Syntax.erased
-      Syntax.mut (Held.behind Syntax.erased)),
-) (List._∷_ (15, Rows.any-gone (Syntax.tyRef Syntax.erased Syntax.imm (Held.behind Syntax.erased))) List.[])))))))))))))))
+t57 = List._∷_ e0 (List._∷_ e4 (List._∷_ e31 (List._∷_ e41 (List._∷_ e43 (List._∷_ e44 (List._∷_ e48 (List._∷_ e49 (List._∷_ e51 (List._∷_ e54 (List._∷_ e7 (List._∷_ e11 (List._∷_ e12 (List._∷_ e15
+    (List._∷_ e18 (List._∷_ e20 List.[])))))))))))))))
 
 abbrev pub t58 : List.List Row.Entry
-t58 = List._∷_ (16, Rows.any-gone (Syntax.tyInt Syntax.w32)) (List._∷_ (17, Rows.any-gone (Syntax.tyInt Syntax.w32)) (List._∷_ (18, Rows.any-gone (Syntax.tyInt Syntax.w32)) (List._∷_ (
-  19,
-  Rows.any-gone (Syntax.tyStruct (List._∷_ 99 (List._∷_ 111 (List._∷_ 100 (List._∷_ 101 (List._∷_ 58 (List._∷_ 58 (List._∷_ 67 (List._∷_ 111 (List._∷_ 100 (List._∷_ 101 List.[])))))))))) (Syntax.tcons
-      (Syntax.tyInt Syntax.w64) (Syntax.tcons (Syntax.tyInt Syntax.w32) (Syntax.tcons Syntax.tyBool (Syntax.tcons (Syntax.tyStruct (List._∷_ 98 (List._∷_ 105 (List._∷_ 116 (List._∷_ 115 (List._∷_ 58
-      (List._∷_ 58 (List._∷_ 66 (List._∷_ 105 (List._∷_ 116 (List._∷_ 80 (List._∷_ 111 (List._∷_ 115 (List._∷_ 105 (List._∷_ 116 (List._∷_ 105 (List._∷_ 111 (List._∷_ 110 List.[])))))))))))))))))
-      (Syntax.tcons (Syntax.tyInt Syntax.w64) Syntax.tnil)) Syntax.tnil))))),
-) (List._∷_ (20, Rows.any-gone (Syntax.tyInt Syntax.w32)) (List._∷_ (
-  21,
-  Rows.any-gone (Syntax.tyRef Syntax.erased Syntax.mut
-      (Held.behind Syntax.erased)),
-) (List._∷_ (22, Rows.any-gone (Syntax.tyRef Syntax.erased Syntax.imm (Held.behind Syntax.erased))) (List._∷_ (23, Rows.whole (Declared'.row Code.the-type))
-    List.[])))))))
+t58 = List._∷_ e22 (List._∷_ e24 (List._∷_ e26 (List._∷_ e28 (List._∷_ e32 (List._∷_ e36 (List._∷_ e38 (List._∷_ (23, Rows.whole (Declared'.row Code.the-type)) List.[])))))))
 
 abbrev pub t59 : List.List Row.Entry
-t59 = List._∷_ (0, Rows.whole (Declared.row Coded.the-type)) (List._∷_ (
-  1,
-  Rows.mref (Held.type (Syntax.named 1) List.[]) (Syntax.tyRef (Syntax.named 0) Syntax.mut (Held.behind (Syntax.named 1))) 0,
-) (List._∷_ (2, Rows.sc-here (Row.sInt Syntax.w32)) (List._∷_ (3, Rows.sc-here (Row.sInt Syntax.w32)) (List._∷_ (4, Rows.sc-here (Row.sInt Syntax.w32)) (List._∷_ (
-  5,
-  Rows.any-gone (Syntax.tyEnum
-      (List._∷_ 98 (List._∷_ 105 (List._∷_ 116 (List._∷_ 115 (List._∷_ 58 (List._∷_ 58 (List._∷_ 90 (List._∷_ 101 (List._∷_ 114 (List._∷_ 111 (List._∷_ 82 (List._∷_ 117 (List._∷_ 110 List.[])))))))))))))
-      (Syntax.ttcons (Syntax.tcons (Syntax.tyInt Syntax.w64) Syntax.tnil) (Syntax.ttcons Syntax.tnil Syntax.ttnil))),
-) (List._∷_ (6, Rows.sc-here (Row.sInt Syntax.w64)) (List._∷_ (
-  7,
-  Rows.any-gone
-      (Syntax.tyInt Syntax.w32),
-) (List._∷_ (
-  8,
-  Rows.any-gone (Syntax.tyStruct (List._∷_ 98 (List._∷_ 105 (List._∷_ 116 (List._∷_ 115 (List._∷_ 58 (List._∷_ 58 (List._∷_ 66 (List._∷_ 105 (List._∷_ 116
-      (List._∷_ 80 (List._∷_ 111 (List._∷_ 115 (List._∷_ 105 (List._∷_ 116 (List._∷_ 105 (List._∷_ 111 (List._∷_ 110 List.[]))))))))))))))))) (Syntax.tcons (Syntax.tyInt Syntax.w64) Syntax.tnil)),
-)
-    (List._∷_ (9, Rows.sc-here (Row.sInt Syntax.w32)) (List._∷_ (
-      10,
-      Rows.any-gone (Syntax.tyStruct (List._∷_ 98 (List._∷_ 105 (List._∷_ 116 (List._∷_ 115 (List._∷_ 58 (List._∷_ 58 (List._∷_ 66 (List._∷_
-          105 (List._∷_ 116 (List._∷_ 80 (List._∷_ 111 (List._∷_ 115 (List._∷_ 105 (List._∷_ 116 (List._∷_ 105 (List._∷_ 111 (List._∷_ 110 List.[]))))))))))))))))) (Syntax.tcons (Syntax.tyInt Syntax.w64)
-          Syntax.tnil)),
-    ) (List._∷_ (11, Rows.any-gone (Syntax.tyRef Syntax.erased Syntax.mut (Held.behind Syntax.erased))) (List._∷_ (12, Rows.any-gone (Syntax.tyInt Syntax.w64)) (List._∷_ (
-      13,
-      Rows.any-gone Syntax.tyBool,
-    ) (List._∷_ (14, Rows.any-gone (Syntax.tyRef Syntax.erased Syntax.mut (Held.behind Syntax.erased))) (List._∷_ (
-      15,
-      Rows.any-gone (Syntax.tyRef Syntax.erased Syntax.imm
-          (Held.behind Syntax.erased)),
-    ) List.[])))))))))))))))
+t59 = List._∷_ e1 (List._∷_ e4 (List._∷_ e31 (List._∷_ e41 (List._∷_ e43 (List._∷_ e44 (List._∷_ e48 (List._∷_ e49 (List._∷_ e51 (List._∷_ e54 (List._∷_ e7 (List._∷_ e11 (List._∷_ e12 (List._∷_ e14
+    (List._∷_ e18 (List._∷_ e20 List.[])))))))))))))))
 
 abbrev pub t60 : List.List Row.Entry
-t60 = List._∷_ (0, Rows.whole (Declared.row Coded.the-type)) (List._∷_ (
-  1,
-  Rows.mref (Held.type (Syntax.named 1) List.[]) (Syntax.tyRef (Syntax.named 0) Syntax.mut (Held.behind (Syntax.named 1))) 0,
-) (List._∷_ (2, Rows.sc-here (Row.sInt Syntax.w32)) (List._∷_ (3, Rows.sc-here (Row.sInt Syntax.w32)) (List._∷_ (4, Rows.sc-here (Row.sInt Syntax.w32)) (List._∷_ (
-  5,
-  Rows.any-gone (Syntax.tyEnum
-      (List._∷_ 98 (List._∷_ 105 (List._∷_ 116 (List._∷_ 115 (List._∷_ 58 (List._∷_ 58 (List._∷_ 90 (List._∷_ 101 (List._∷_ 114 (List._∷_ 111 (List._∷_ 82 (List._∷_ 117 (List._∷_ 110 List.[])))))))))))))
-      (Syntax.ttcons (Syntax.tcons (Syntax.tyInt Syntax.w64) Syntax.tnil) (Syntax.ttcons Syntax.tnil Syntax.ttnil))),
-) (List._∷_ (6, Rows.any-gone (Syntax.tyInt Syntax.w64)) (List._∷_ (
-  7,
-  Rows.any-gone
-      (Syntax.tyInt Syntax.w32),
-) (List._∷_ (
-  8,
-  Rows.any-gone (Syntax.tyStruct (List._∷_ 98 (List._∷_ 105 (List._∷_ 116 (List._∷_ 115 (List._∷_ 58 (List._∷_ 58 (List._∷_ 66 (List._∷_ 105 (List._∷_ 116
-      (List._∷_ 80 (List._∷_ 111 (List._∷_ 115 (List._∷_ 105 (List._∷_ 116 (List._∷_ 105 (List._∷_ 111 (List._∷_ 110 List.[]))))))))))))))))) (Syntax.tcons (Syntax.tyInt Syntax.w64) Syntax.tnil)),
-)
-    (List._∷_ (9, Rows.sc-here (Row.sInt Syntax.w32)) (List._∷_ (
-      10,
-      Rows.any-gone (Syntax.tyStruct (List._∷_ 98 (List._∷_ 105 (List._∷_ 116 (List._∷_ 115 (List._∷_ 58 (List._∷_ 58 (List._∷_ 66 (List._∷_
-          105 (List._∷_ 116 (List._∷_ 80 (List._∷_ 111 (List._∷_ 115 (List._∷_ 105 (List._∷_ 116 (List._∷_ 105 (List._∷_ 111 (List._∷_ 110 List.[]))))))))))))))))) (Syntax.tcons (Syntax.tyInt Syntax.w64)
-          Syntax.tnil)),
-    ) (List._∷_ (11, Rows.any-gone (Syntax.tyRef Syntax.erased Syntax.mut (Held.behind Syntax.erased))) (List._∷_ (12, Rows.any-gone (Syntax.tyInt Syntax.w64)) (List._∷_ (
-      13,
-      Rows.any-gone Syntax.tyBool,
-    ) (List._∷_ (14, Rows.any-gone (Syntax.tyRef Syntax.erased Syntax.mut (Held.behind Syntax.erased))) (List._∷_ (
-      15,
-      Rows.any-gone (Syntax.tyRef Syntax.erased Syntax.imm
-          (Held.behind Syntax.erased)),
-    ) List.[])))))))))))))))
+t60 = List._∷_ e1 (List._∷_ e4 (List._∷_ e31 (List._∷_ e41 (List._∷_ e43 (List._∷_ e44 (List._∷_ e47 (List._∷_ e49 (List._∷_ e51 (List._∷_ e54 (List._∷_ e7 (List._∷_ e11 (List._∷_ e12 (List._∷_ e14
+    (List._∷_ e18 (List._∷_ e20 List.[])))))))))))))))
 
 abbrev pub T0 : Row.Cx
 T0 = record { locals = List._++_ t0 t1; slots = List.[] }
@@ -2548,16 +1021,10 @@ module _ (claims· : Claims) where
       (Held.behind Syntax.erased)) 7) λ x. record { ptr = x .ptr; name = x .name; now = x .now }
 
   abbrev s7 : Typed.Both T8 T9
-  s7 = Call.callB ps·0 r·0 (claims· .0) (claims· .1) T8 (
-    record {
-      pos = 11;
-      ty = Syntax.tyRef Syntax.erased Syntax.mut (Held.behind Syntax.erased);
-      βs = List._∷_ 7 (List._∷_ 1 List.[]);
-      ref = λ x. x;
-    },
-    tt,
-  ) 5 (List._∷_ 7 (List._∷_ 1 List.[])) (Syntax.tyEnum (List._∷_ 98 (List._∷_ 105 (List._∷_ 116 (List._∷_ 115 (List._∷_ 58 (List._∷_ 58 (List._∷_ 90 (List._∷_ 101 (List._∷_ 114 (List._∷_ 111
-      (List._∷_ 82 (List._∷_ 117 (List._∷_ 110 List.[]))))))))))))) (Syntax.ttcons (Syntax.tcons (Syntax.tyInt Syntax.w64) Syntax.tnil) (Syntax.ttcons Syntax.tnil Syntax.ttnil)))
+  s7 = Call.callB ps·0 r·0 (claims· .0) (claims· .1) T8
+      (record { pos = 11; ty = Syntax.tyRef Syntax.erased Syntax.mut (Held.behind Syntax.erased); βs = List._∷_ 7 (List._∷_ 1 List.[]); ref = λ x. x }, tt) 5 (List._∷_ 7 (List._∷_ 1 List.[]))
+      (Syntax.tyEnum (List._∷_ 98 (List._∷_ 105 (List._∷_ 116 (List._∷_ 115 (List._∷_ 58 (List._∷_ 58 (List._∷_ 90 (List._∷_ 101 (List._∷_ 114 (List._∷_ 111 (List._∷_ 82 (List._∷_ 117 (List._∷_ 110
+      List.[]))))))))))))) (Syntax.ttcons (Syntax.tcons (Syntax.tyInt Syntax.w64) Syntax.tnil) (Syntax.ttcons Syntax.tnil Syntax.ttnil)))
 
   abbrev s13 : Typed.Asks T9 T16
   s13 = Reborrow.k-back-mref T9 11 1 0 (Held.type (Syntax.named 1) List.[]) (Syntax.tyRef (Syntax.named 0) Syntax.mut (Held.behind (Syntax.named 1))) (Syntax.tyRef Syntax.erased Syntax.mut
@@ -2622,16 +1089,9 @@ module _ (claims· : Claims) where
       (Held.behind Syntax.erased)) 8) λ x. record { ptr = x .ptr; name = x .name; now = x .now }
 
   abbrev s36 : Typed.Both T39 T40
-  s36 = Call.callB ps·1 r·1 (claims· .2) (claims· .3) T39 (
-    record {
-      pos = 14;
-      ty = Syntax.tyRef Syntax.erased Syntax.mut (Held.behind Syntax.erased);
-      βs = List._∷_ 8 (List._∷_ 1 List.[]);
-      ref = λ x.
-          x;
-    },
-    (Num.vAt 2 λ x. x, tt),
-  ) 7 (List._∷_ 8 (List._∷_ 1 List.[])) (Syntax.tyInt Syntax.w32)
+  s36 = Call.callB ps·1 r·1 (claims· .2) (claims· .3) T39
+      (record { pos = 14; ty = Syntax.tyRef Syntax.erased Syntax.mut (Held.behind Syntax.erased); βs = List._∷_ 8 (List._∷_ 1 List.[]); ref = λ x. x }, (Num.vAt 2 λ x. x, tt)) 7 (List._∷_ 8 (List._∷_ 1
+      List.[])) (Syntax.tyInt Syntax.w32)
 
   abbrev s42 : Typed.Asks T40 T46
   s42 = Reborrow.k-back-mref T40 14 1 0 (Held.type (Syntax.named 1) List.[]) (Syntax.tyRef (Syntax.named 0) Syntax.mut (Held.behind (Syntax.named 1))) (Syntax.tyRef Syntax.erased Syntax.mut
@@ -2649,25 +1109,12 @@ module _ (claims· : Claims) where
       (Held.behind Syntax.erased)) 9) λ x. record { ptr = x .ptr; name = x .name; now = x .now }
 
   abbrev s51 : Typed.Both T54 T55
-  s51 = Call.callB ps·2 r·2 (claims· .4) (claims· .5) T54 (
-    record {
-      pos = 15;
-      ty = Syntax.tyRef Syntax.erased Syntax.imm (Held.behind Syntax.erased);
-      βs = List._∷_ 9 (List._∷_ 1 List.[]);
-      ref = λ x.
-          x;
-    },
-    tt,
-  ) 8 (List._∷_ 9 (List._∷_ 1 List.[])) (Syntax.tyStruct (List._∷_ 98 (List._∷_ 105 (List._∷_ 116 (List._∷_ 115 (List._∷_ 58 (List._∷_ 58 (List._∷_ 66 (List._∷_ 105 (List._∷_ 116 (List._∷_
-      80 (List._∷_ 111 (List._∷_ 115 (List._∷_ 105 (List._∷_ 116 (List._∷_ 105 (List._∷_ 111 (List._∷_ 110 List.[]))))))))))))))))) (Syntax.tcons (Syntax.tyInt Syntax.w64) Syntax.tnil))
+  s51 = Call.callB ps·2 r·2 (claims· .4) (claims· .5) T54
+      (record { pos = 15; ty = Syntax.tyRef Syntax.erased Syntax.imm (Held.behind Syntax.erased); βs = List._∷_ 9 (List._∷_ 1 List.[]); ref = λ x. x }, tt) 8 (List._∷_ 9 (List._∷_ 1 List.[])) y0
 
   abbrev s52 : Typed.Mo T55 → Typed.Mo T56
-  s52 = AtSlots.n-as-by T55 15 (Rows.sref (Held.type (Syntax.named 1) List.[]) (Syntax.tyRef Syntax.erased Syntax.imm (Held.behind Syntax.erased)) 9) λ x. record {
-    ptr = x .ptr;
-    name = x .name;
-    now =
-        x .now;
-  }
+  s52 = AtSlots.n-as-by T55 15 (Rows.sref (Held.type (Syntax.named 1) List.[]) (Syntax.tyRef Syntax.erased Syntax.imm (Held.behind Syntax.erased)) 9) λ x. record
+      { ptr = x .ptr; name = x .name; now = x .now }
 
   abbrev s53 : Typed.Mo T56 → Typed.Mo T57
   s53 = Scalar.n-room T56 15 (Syntax.tyRef Syntax.erased Syntax.imm (Held.behind Syntax.erased))
@@ -2694,23 +1141,11 @@ module _ (claims· : Claims) where
   s65 = Scalar.n-room T68 17 (Syntax.tyInt Syntax.w32)
 
   abbrev s66 : Typed.Mo T69 → Typed.Mo T70
-  s66 = Make'.n-struct-make (Apart.apartT Code.the-type) T69 19 λ m. (
-    m .1 .1 .1 .1 .1 .1 .0,
-    (
-      m .1 .1 .1 .1 .1 .1 .1 .1 .1 .1 .1 .1 .1 .1 .1 .1 .1 .1 .0,
-      (
-        Bool'.true,
-        (
-          m .1 .1 .1 .1 .1 .1 .1 .1 .0,
-          tt,
-        ),
-      ),
-    ),
-  )
+  s66 = Make'.n-struct-make (Apart.apartT Code.the-type) T69 19 λ m.
+      (m .1 .1 .1 .1 .1 .1 .0, (m .1 .1 .1 .1 .1 .1 .1 .1 .1 .1 .1 .1 .1 .1 .1 .1 .1 .1 .0, (Bool'.true, (m .1 .1 .1 .1 .1 .1 .1 .1 .0, tt))))
 
   abbrev s67 : Typed.Mo T70 → Typed.Mo T71
-  s67 = Scalar.n-room T70 8 (Syntax.tyStruct (List._∷_ 98 (List._∷_ 105 (List._∷_ 116 (List._∷_ 115 (List._∷_ 58 (List._∷_ 58 (List._∷_ 66 (List._∷_ 105 (List._∷_ 116 (List._∷_ 80 (List._∷_ 111
-      (List._∷_ 115 (List._∷_ 105 (List._∷_ 116 (List._∷_ 105 (List._∷_ 111 (List._∷_ 110 List.[]))))))))))))))))) (Syntax.tcons (Syntax.tyInt Syntax.w64) Syntax.tnil))
+  s67 = Scalar.n-room T70 8 y0
 
   abbrev s68 : Typed.Mo T71 → Typed.Mo T72
   s68 = Scalar.n-room T71 18 (Syntax.tyInt Syntax.w32)
@@ -2722,10 +1157,7 @@ module _ (claims· : Claims) where
   s70 = Make.n-enum-make Coded.the-type T73 0 λ m. Coded.enum .make (Logic.inl (m .1 .1 .1 .1 .1 .1 .1 .1 .1 .1 .1 .1 .1 .1 .1 .1 .1 .1 .1 .0, tt))
 
   abbrev s71 : Typed.Mo T74 → Typed.Mo T75
-  s71 = Scalar.n-room T74 19 (Syntax.tyStruct (List._∷_ 99 (List._∷_ 111 (List._∷_ 100 (List._∷_ 101 (List._∷_ 58 (List._∷_ 58 (List._∷_ 67 (List._∷_ 111 (List._∷_ 100 (List._∷_ 101 List.[]))))))))))
-      (Syntax.tcons (Syntax.tyInt Syntax.w64) (Syntax.tcons (Syntax.tyInt Syntax.w32) (Syntax.tcons Syntax.tyBool (Syntax.tcons (Syntax.tyStruct (List._∷_ 98 (List._∷_ 105 (List._∷_ 116 (List._∷_ 115
-      (List._∷_ 58 (List._∷_ 58 (List._∷_ 66 (List._∷_ 105 (List._∷_ 116 (List._∷_ 80 (List._∷_ 111 (List._∷_ 115 (List._∷_ 105 (List._∷_ 116 (List._∷_ 105 (List._∷_ 111 (List._∷_ 110
-      List.[]))))))))))))))))) (Syntax.tcons (Syntax.tyInt Syntax.w64) Syntax.tnil)) Syntax.tnil)))))
+  s71 = Scalar.n-room T74 19 y1
 
   abbrev s72 : Typed.Mo T75 → Typed.Mo T76
   s72 = Scalar.n-room T75 2 (Syntax.tyInt Syntax.w32)
@@ -2757,16 +1189,9 @@ module _ (claims· : Claims) where
       (Held.behind Syntax.erased)) 10) λ x. record { ptr = x .ptr; name = x .name; now = x .now }
 
   abbrev s85 : Typed.Both T88 T89
-  s85 = Call.callB ps·1 r·1 (claims· .2) (claims· .3) T88 (
-    record {
-      pos = 21;
-      ty = Syntax.tyRef Syntax.erased Syntax.mut (Held.behind Syntax.erased);
-      βs = List._∷_ 10 (List._∷_ 1 List.[]);
-      ref = λ x.
-          x;
-    },
-    (Num.vAt 4 λ x. x, tt),
-  ) 20 (List._∷_ 10 (List._∷_ 1 List.[])) (Syntax.tyInt Syntax.w32)
+  s85 = Call.callB ps·1 r·1 (claims· .2) (claims· .3) T88
+      (record { pos = 21; ty = Syntax.tyRef Syntax.erased Syntax.mut (Held.behind Syntax.erased); βs = List._∷_ 10 (List._∷_ 1 List.[]); ref = λ x. x }, (Num.vAt 4 λ x. x, tt)) 20 (List._∷_ 10 (List._∷_
+      1 List.[])) (Syntax.tyInt Syntax.w32)
 
   abbrev s91 : Typed.Asks T89 T95
   s91 = Reborrow.k-back-mref T89 21 1 0 (Held.type (Syntax.named 1) List.[]) (Syntax.tyRef (Syntax.named 0) Syntax.mut (Held.behind (Syntax.named 1))) (Syntax.tyRef Syntax.erased Syntax.mut
@@ -2791,25 +1216,12 @@ module _ (claims· : Claims) where
       (Held.behind Syntax.erased)) 11) λ x. record { ptr = x .ptr; name = x .name; now = x .now }
 
   abbrev s102 : Typed.Both T105 T106
-  s102 = Call.callB ps·2 r·2 (claims· .4) (claims· .5) T105 (
-    record {
-      pos = 22;
-      ty = Syntax.tyRef Syntax.erased Syntax.imm (Held.behind Syntax.erased);
-      βs = List._∷_ 11 (List._∷_ 1 List.[]);
-      ref = λ
-          x. x;
-    },
-    tt,
-  ) 10 (List._∷_ 11 (List._∷_ 1 List.[])) (Syntax.tyStruct (List._∷_ 98 (List._∷_ 105 (List._∷_ 116 (List._∷_ 115 (List._∷_ 58 (List._∷_ 58 (List._∷_ 66 (List._∷_ 105 (List._∷_ 116
-      (List._∷_ 80 (List._∷_ 111 (List._∷_ 115 (List._∷_ 105 (List._∷_ 116 (List._∷_ 105 (List._∷_ 111 (List._∷_ 110 List.[]))))))))))))))))) (Syntax.tcons (Syntax.tyInt Syntax.w64) Syntax.tnil))
+  s102 = Call.callB ps·2 r·2 (claims· .4) (claims· .5) T105
+      (record { pos = 22; ty = Syntax.tyRef Syntax.erased Syntax.imm (Held.behind Syntax.erased); βs = List._∷_ 11 (List._∷_ 1 List.[]); ref = λ x. x }, tt) 10 (List._∷_ 11 (List._∷_ 1 List.[])) y0
 
   abbrev s103 : Typed.Mo T106 → Typed.Mo T107
-  s103 = AtSlots.n-as-by T106 22 (Rows.sref (Held.type (Syntax.named 1) List.[]) (Syntax.tyRef Syntax.erased Syntax.imm (Held.behind Syntax.erased)) 11) λ x. record {
-    ptr = x .ptr;
-    name = x .name;
-    now
-        = x .now;
-  }
+  s103 = AtSlots.n-as-by T106 22 (Rows.sref (Held.type (Syntax.named 1) List.[]) (Syntax.tyRef Syntax.erased Syntax.imm (Held.behind Syntax.erased)) 11) λ x. record
+      { ptr = x .ptr; name = x .name; now = x .now }
 
   abbrev s104 : Typed.Mo T107 → Typed.Mo T108
   s104 = Scalar.n-room T107 22 (Syntax.tyRef Syntax.erased Syntax.imm (Held.behind Syntax.erased))
@@ -2821,24 +1233,11 @@ module _ (claims· : Claims) where
   s112 = Call.callB ps·3 r·3 (claims· .6) (claims· .7) T114 (Num.vAt 2 λ x. x, (Num.vAt 3 λ x. x, (Num.vAt 6 λ x. x, (Num.vAt 9 λ x. x, tt)))) 13 List.[] Syntax.tyBool
 
   abbrev s113 : Typed.Mo T116 → Typed.Mo T117
-  s113 = Make'.n-struct-make (Apart.apartT Code.the-type) T116 23 λ m. (
-    m .1 .1 .1 .1 .1 .1 .0,
-    (
-      m .1 .1 .1 .1 .1 .1 .1 .1 .1 .0,
-      (
-        m .1 .1 .1 .1 .1 .1 .1 .1 .1 .1 .1 .1 .1 .0,
-        (
-          m .1 .1 .1 .1 .1 .1
-              .1 .1 .1 .1 .0,
-          tt,
-        ),
-      ),
-    ),
-  )
+  s113 = Make'.n-struct-make (Apart.apartT Code.the-type) T116 23 λ m.
+      (m .1 .1 .1 .1 .1 .1 .0, (m .1 .1 .1 .1 .1 .1 .1 .1 .1 .0, (m .1 .1 .1 .1 .1 .1 .1 .1 .1 .1 .1 .1 .1 .0, (m .1 .1 .1 .1 .1 .1 .1 .1 .1 .1 .0, tt))))
 
   abbrev s114 : Typed.Mo T117 → Typed.Mo T118
-  s114 = Scalar.n-room T117 10 (Syntax.tyStruct (List._∷_ 98 (List._∷_ 105 (List._∷_ 116 (List._∷_ 115 (List._∷_ 58 (List._∷_ 58 (List._∷_ 66 (List._∷_ 105 (List._∷_ 116 (List._∷_ 80 (List._∷_ 111
-      (List._∷_ 115 (List._∷_ 105 (List._∷_ 116 (List._∷_ 105 (List._∷_ 111 (List._∷_ 110 List.[]))))))))))))))))) (Syntax.tcons (Syntax.tyInt Syntax.w64) Syntax.tnil))
+  s114 = Scalar.n-room T117 10 y0
 
   abbrev s115 : Typed.Mo T118 → Typed.Mo T119
   s115 = Scalar.n-room T118 13 Syntax.tyBool
@@ -2856,10 +1255,7 @@ module _ (claims· : Claims) where
   s119 = Scalar.n-room T122 9 (Syntax.tyInt Syntax.w32)
 
   abbrev s120 : Typed.Mo T123 → Typed.Mo T124
-  s120 = Scalar.n-room T123 23 (Syntax.tyStruct (List._∷_ 99 (List._∷_ 111 (List._∷_ 100 (List._∷_ 101 (List._∷_ 58 (List._∷_ 58 (List._∷_ 67 (List._∷_ 111 (List._∷_ 100 (List._∷_ 101
-      List.[])))))))))) (Syntax.tcons (Syntax.tyInt Syntax.w64) (Syntax.tcons (Syntax.tyInt Syntax.w32) (Syntax.tcons Syntax.tyBool (Syntax.tcons (Syntax.tyStruct (List._∷_ 98 (List._∷_ 105 (List._∷_ 116
-      (List._∷_ 115 (List._∷_ 58 (List._∷_ 58 (List._∷_ 66 (List._∷_ 105 (List._∷_ 116 (List._∷_ 80 (List._∷_ 111 (List._∷_ 115 (List._∷_ 105 (List._∷_ 116 (List._∷_ 105 (List._∷_ 111 (List._∷_ 110
-      List.[]))))))))))))))))) (Syntax.tcons (Syntax.tyInt Syntax.w64) Syntax.tnil)) Syntax.tnil)))))
+  s120 = Scalar.n-room T123 23 y1
 
   abbrev s121 : Typed.Mo T124 → Typed.Mo T125
   s121 = Scalar.n-room T124 2 (Syntax.tyInt Syntax.w32)
@@ -3282,2630 +1678,1155 @@ module _ (claims· : Claims) where
 
       module _ (κs : Lifetimes.Lfts 2) (qs : Lifetimes.Shares 2) where
         abbrev g0 : (at : Nat.ℕ → Nat.ℕ) → List.List Row.Entry
-        g0 = λ at. List._∷_ (
-          0,
-          Rows.any-gone (Syntax.tyEnum (List._∷_ 99 (List._∷_ 111 (List._∷_ 100 (List._∷_ 101 (List._∷_ 58 (List._∷_ 58 (List._∷_ 67 (List._∷_ 111 (List._∷_ 100 (List._∷_ 101
-              (List._∷_ 100 List.[]))))))))))) (Syntax.ttcons (Syntax.tcons (Syntax.tyStruct (List._∷_ 99 (List._∷_ 111 (List._∷_ 100 (List._∷_ 101 (List._∷_ 58 (List._∷_ 58 (List._∷_ 67 (List._∷_ 111
-              (List._∷_ 100 (List._∷_ 101 List.[])))))))))) (Syntax.tcons (Syntax.tyInt Syntax.w64) (Syntax.tcons (Syntax.tyInt Syntax.w32) (Syntax.tcons Syntax.tyBool (Syntax.tcons (Syntax.tyStruct
-              (List._∷_ 98 (List._∷_ 105 (List._∷_ 116 (List._∷_ 115 (List._∷_ 58 (List._∷_ 58 (List._∷_ 66 (List._∷_ 105 (List._∷_ 116 (List._∷_ 80 (List._∷_ 111 (List._∷_ 115 (List._∷_ 105 (List._∷_ 116
-              (List._∷_ 105 (List._∷_ 111 (List._∷_ 110 List.[]))))))))))))))))) (Syntax.tcons (Syntax.tyInt Syntax.w64) Syntax.tnil)) Syntax.tnil))))) Syntax.tnil) (Syntax.ttcons Syntax.tnil
-              Syntax.ttnil))),
-        ) (List._∷_ (1, Rows.mref (Held.type (Syntax.named 1) (κs .1 .0)) (Syntax.tyRef (Syntax.named 0) Syntax.mut (Held.behind (Syntax.named 1))) 0) (List._∷_ (
-          2,
-          Rows.sc-here
-              (Row.sInt Syntax.w32),
-        ) (List._∷_ (3, Rows.sc-here (Row.sInt Syntax.w32)) (List._∷_ (4, Rows.sc-here (Row.sInt Syntax.w32)) (List._∷_ (
-          5,
-          Rows.any-gone (Syntax.tyEnum (List._∷_ 98 (List._∷_
-              105 (List._∷_ 116 (List._∷_ 115 (List._∷_ 58 (List._∷_ 58 (List._∷_ 90 (List._∷_ 101 (List._∷_ 114 (List._∷_ 111 (List._∷_ 82 (List._∷_ 117 (List._∷_ 110 List.[]))))))))))))) (Syntax.ttcons
-              (Syntax.tcons (Syntax.tyInt Syntax.w64) Syntax.tnil) (Syntax.ttcons Syntax.tnil Syntax.ttnil))),
-        ) (List._∷_ (6, Rows.any-gone (Syntax.tyInt Syntax.w64)) (List._∷_ (
-          7,
-          Rows.any-gone
-              (Syntax.tyInt Syntax.w32),
-        ) (List._∷_ (
-          8,
-          Rows.any-gone (Syntax.tyStruct (List._∷_ 98 (List._∷_ 105 (List._∷_ 116 (List._∷_ 115 (List._∷_ 58 (List._∷_ 58 (List._∷_ 66 (List._∷_ 105 (List._∷_
-              116 (List._∷_ 80 (List._∷_ 111 (List._∷_ 115 (List._∷_ 105 (List._∷_ 116 (List._∷_ 105 (List._∷_ 111 (List._∷_ 110 List.[]))))))))))))))))) (Syntax.tcons (Syntax.tyInt Syntax.w64)
-              Syntax.tnil)),
-        ) (List._∷_ (9, Rows.any-gone (Syntax.tyInt Syntax.w32)) (List._∷_ (
-          10,
-          Rows.any-gone (Syntax.tyStruct (List._∷_ 98 (List._∷_ 105 (List._∷_ 116 (List._∷_ 115 (List._∷_ 58
-              (List._∷_ 58 (List._∷_ 66 (List._∷_ 105 (List._∷_ 116 (List._∷_ 80 (List._∷_ 111 (List._∷_ 115 (List._∷_ 105 (List._∷_ 116 (List._∷_ 105 (List._∷_ 111 (List._∷_ 110 List.[])))))))))))))))))
-              (Syntax.tcons (Syntax.tyInt Syntax.w64) Syntax.tnil)),
-        ) (List._∷_ (11, Rows.any-gone (Syntax.tyRef Syntax.erased Syntax.mut (Held.behind Syntax.erased))) (List._∷_ (
-          12,
-          Rows.any-gone
-              (Syntax.tyInt Syntax.w64),
-        ) (List._∷_ (13, Rows.any-gone Syntax.tyBool) (List._∷_ (14, Rows.any-gone (Syntax.tyRef Syntax.erased Syntax.mut (Held.behind Syntax.erased))) (List._∷_ (
-          15,
-          Rows.any-gone (Syntax.tyRef Syntax.erased Syntax.imm (Held.behind Syntax.erased)),
-        ) List.[])))))))))))))))
+        g0 = λ at. List._∷_ e0 (List._∷_ (1, Rows.mref (Held.type (Syntax.named 1) (κs .1 .0)) (Syntax.tyRef (Syntax.named 0) Syntax.mut (Held.behind (Syntax.named 1))) 0) (List._∷_ e31 (List._∷_ e41
+            (List._∷_ e43 (List._∷_ e44 (List._∷_ e47 (List._∷_ e49 (List._∷_ e51 (List._∷_ e53 (List._∷_ e7 (List._∷_ e11 (List._∷_ e12 (List._∷_ e14 (List._∷_ e18 (List._∷_ e20 List.[])))))))))))))))
 
         abbrev g2 : (at : Nat.ℕ → Nat.ℕ) → List.List Row.Entry
-        g2 = λ at. List._∷_ (0, Rows.whole (Declared.row Coded.the-type)) (List._∷_ (
-          1,
-          Rows.mref (Held.type (Syntax.named 1) (κs .1 .0)) (Syntax.tyRef (Syntax.named 0) Syntax.mut (Held.behind
-              (Syntax.named 1))) 0,
-        ) (List._∷_ (2, Rows.any-gone (Syntax.tyInt Syntax.w32)) (List._∷_ (3, Rows.any-gone (Syntax.tyInt Syntax.w32)) (List._∷_ (4, Rows.any-gone (Syntax.tyInt Syntax.w32))
-            (List._∷_ (
-              5,
-              Rows.any-gone (Syntax.tyEnum (List._∷_ 98 (List._∷_ 105 (List._∷_ 116 (List._∷_ 115 (List._∷_ 58 (List._∷_ 58 (List._∷_ 90 (List._∷_ 101 (List._∷_ 114 (List._∷_ 111 (List._∷_ 82
-                  (List._∷_ 117 (List._∷_ 110 List.[]))))))))))))) (Syntax.ttcons (Syntax.tcons (Syntax.tyInt Syntax.w64) Syntax.tnil) (Syntax.ttcons Syntax.tnil Syntax.ttnil))),
-            ) (List._∷_ (
-              6,
-              Rows.any-gone
-                  (Syntax.tyInt Syntax.w64),
-            ) (List._∷_ (7, Rows.any-gone (Syntax.tyInt Syntax.w32)) (List._∷_ (
-              8,
-              Rows.any-gone (Syntax.tyStruct (List._∷_ 98 (List._∷_ 105 (List._∷_ 116 (List._∷_ 115
-                  (List._∷_ 58 (List._∷_ 58 (List._∷_ 66 (List._∷_ 105 (List._∷_ 116 (List._∷_ 80 (List._∷_ 111 (List._∷_ 115 (List._∷_ 105 (List._∷_ 116 (List._∷_ 105 (List._∷_ 111 (List._∷_ 110
-                  List.[]))))))))))))))))) (Syntax.tcons (Syntax.tyInt Syntax.w64) Syntax.tnil)),
-            ) (List._∷_ (9, Rows.any-gone (Syntax.tyInt Syntax.w32)) (List._∷_ (
-              10,
-              Rows.any-gone (Syntax.tyStruct
-                  (List._∷_ 98 (List._∷_ 105 (List._∷_ 116 (List._∷_ 115 (List._∷_ 58 (List._∷_ 58 (List._∷_ 66 (List._∷_ 105 (List._∷_ 116 (List._∷_ 80 (List._∷_ 111 (List._∷_ 115 (List._∷_ 105 (List._∷_ 116
-                  (List._∷_ 105 (List._∷_ 111 (List._∷_ 110 List.[]))))))))))))))))) (Syntax.tcons (Syntax.tyInt Syntax.w64) Syntax.tnil)),
-            ) (List._∷_ (
-              11,
-              Rows.any-gone (Syntax.tyRef Syntax.erased Syntax.mut
-                  (Held.behind Syntax.erased)),
-            ) (List._∷_ (12, Rows.any-gone (Syntax.tyInt Syntax.w64)) (List._∷_ (13, Rows.any-gone Syntax.tyBool) (List._∷_ (
-              14,
-              Rows.any-gone (Syntax.tyRef Syntax.erased
-                  Syntax.mut (Held.behind Syntax.erased)),
-            ) (List._∷_ (15, Rows.any-gone (Syntax.tyRef Syntax.erased Syntax.imm (Held.behind Syntax.erased))) List.[])))))))))))))))
+        g2 = λ at. List._∷_ e1 (List._∷_ (1, Rows.mref (Held.type (Syntax.named 1) (κs .1 .0)) (Syntax.tyRef (Syntax.named 0) Syntax.mut (Held.behind (Syntax.named 1))) 0) (List._∷_ e30 (List._∷_ e40
+            (List._∷_ e42 (List._∷_ e44 (List._∷_ e47 (List._∷_ e49 (List._∷_ e51 (List._∷_ e53 (List._∷_ e7 (List._∷_ e11 (List._∷_ e12 (List._∷_ e14 (List._∷_ e18 (List._∷_ e20 List.[])))))))))))))))
 
         abbrev g3 : (at : Nat.ℕ → Nat.ℕ) → List.List Row.Entry
-        g3 = λ at. List._∷_ (
-          0,
-          Rows.any-gone (Syntax.tyEnum (List._∷_ 99 (List._∷_ 111 (List._∷_ 100 (List._∷_ 101 (List._∷_ 58 (List._∷_ 58 (List._∷_ 67 (List._∷_ 111 (List._∷_ 100 (List._∷_ 101
-              (List._∷_ 100 List.[]))))))))))) (Syntax.ttcons (Syntax.tcons (Syntax.tyStruct (List._∷_ 99 (List._∷_ 111 (List._∷_ 100 (List._∷_ 101 (List._∷_ 58 (List._∷_ 58 (List._∷_ 67 (List._∷_ 111
-              (List._∷_ 100 (List._∷_ 101 List.[])))))))))) (Syntax.tcons (Syntax.tyInt Syntax.w64) (Syntax.tcons (Syntax.tyInt Syntax.w32) (Syntax.tcons Syntax.tyBool (Syntax.tcons (Syntax.tyStruct
-              (List._∷_ 98 (List._∷_ 105 (List._∷_ 116 (List._∷_ 115 (List._∷_ 58 (List._∷_ 58 (List._∷_ 66 (List._∷_ 105 (List._∷_ 116 (List._∷_ 80 (List._∷_ 111 (List._∷_ 115 (List._∷_ 105 (List._∷_ 116
-              (List._∷_ 105 (List._∷_ 111 (List._∷_ 110 List.[]))))))))))))))))) (Syntax.tcons (Syntax.tyInt Syntax.w64) Syntax.tnil)) Syntax.tnil))))) Syntax.tnil) (Syntax.ttcons Syntax.tnil
-              Syntax.ttnil))),
-        ) (List._∷_ (
-          1,
-          Rows.mref-owed (Held.type (Syntax.named 1) (κs .1 .0)) (Syntax.tyRef (Syntax.named 0) Syntax.mut (Held.behind (Syntax.named 1))) 0 2 (Row.lease (κs .0) (qs
-              .0)),
-        ) (List._∷_ (2, Rows.sc-here (Row.sInt Syntax.w32)) (List._∷_ (3, Rows.sc-here (Row.sInt Syntax.w32)) (List._∷_ (4, Rows.sc-here (Row.sInt Syntax.w32)) (List._∷_ (
-          5,
-          Rows.any-gone
-              (Syntax.tyEnum (List._∷_ 98 (List._∷_ 105 (List._∷_ 116 (List._∷_ 115 (List._∷_ 58 (List._∷_ 58 (List._∷_ 90 (List._∷_ 101 (List._∷_ 114 (List._∷_ 111 (List._∷_ 82 (List._∷_ 117 (List._∷_ 110
-              List.[]))))))))))))) (Syntax.ttcons (Syntax.tcons (Syntax.tyInt Syntax.w64) Syntax.tnil) (Syntax.ttcons Syntax.tnil Syntax.ttnil))),
-        ) (List._∷_ (6, Rows.any-gone (Syntax.tyInt Syntax.w64))
-            (List._∷_ (7, Rows.any-gone (Syntax.tyInt Syntax.w32)) (List._∷_ (
-              8,
-              Rows.any-gone (Syntax.tyStruct (List._∷_ 98 (List._∷_ 105 (List._∷_ 116 (List._∷_ 115 (List._∷_ 58 (List._∷_ 58
-                  (List._∷_ 66 (List._∷_ 105 (List._∷_ 116 (List._∷_ 80 (List._∷_ 111 (List._∷_ 115 (List._∷_ 105 (List._∷_ 116 (List._∷_ 105 (List._∷_ 111 (List._∷_ 110 List.[]))))))))))))))))) (Syntax.tcons
-                  (Syntax.tyInt Syntax.w64) Syntax.tnil)),
-            ) (List._∷_ (9, Rows.any-gone (Syntax.tyInt Syntax.w32)) (List._∷_ (
-              10,
-              Rows.any-gone (Syntax.tyStruct (List._∷_ 98 (List._∷_ 105 (List._∷_ 116
-                  (List._∷_ 115 (List._∷_ 58 (List._∷_ 58 (List._∷_ 66 (List._∷_ 105 (List._∷_ 116 (List._∷_ 80 (List._∷_ 111 (List._∷_ 115 (List._∷_ 105 (List._∷_ 116 (List._∷_ 105 (List._∷_ 111 (List._∷_ 110
-                  List.[]))))))))))))))))) (Syntax.tcons (Syntax.tyInt Syntax.w64) Syntax.tnil)),
-            ) (List._∷_ (
-              11,
-              Rows.mref (Held.type (Syntax.named 1) (κs .1 .0)) (Syntax.tyRef Syntax.erased Syntax.mut
-                  (Held.behind Syntax.erased)) 2,
-            ) (List._∷_ (12, Rows.any-gone (Syntax.tyInt Syntax.w64)) (List._∷_ (13, Rows.any-gone Syntax.tyBool) (List._∷_ (
-              14,
-              Rows.any-gone (Syntax.tyRef
-                  Syntax.erased Syntax.mut (Held.behind Syntax.erased)),
-            ) (List._∷_ (15, Rows.any-gone (Syntax.tyRef Syntax.erased Syntax.imm (Held.behind Syntax.erased))) List.[])))))))))))))))
+        g3 = λ at. List._∷_ e0 (List._∷_
+            (1, Rows.mref-owed (Held.type (Syntax.named 1) (κs .1 .0)) (Syntax.tyRef (Syntax.named 0) Syntax.mut (Held.behind (Syntax.named 1))) 0 2 (Row.lease (κs .0) (qs .0))) (List._∷_ e31 (List._∷_
+            e41 (List._∷_ e43 (List._∷_ e44 (List._∷_ e47 (List._∷_ e49 (List._∷_ e51 (List._∷_ e53 (List._∷_ e7 (List._∷_
+            (11, Rows.mref (Held.type (Syntax.named 1) (κs .1 .0)) (Syntax.tyRef Syntax.erased Syntax.mut (Held.behind Syntax.erased)) 2) (List._∷_ e12 (List._∷_ e14 (List._∷_ e18 (List._∷_ e20
+            List.[])))))))))))))))
 
         abbrev g4 : (at : Nat.ℕ → Nat.ℕ) → List.List Row.Entry
-        g4 = λ at. List._∷_ (
-          0,
-          Rows.any-gone (Syntax.tyEnum (List._∷_ 99 (List._∷_ 111 (List._∷_ 100 (List._∷_ 101 (List._∷_ 58 (List._∷_ 58 (List._∷_ 67 (List._∷_ 111 (List._∷_ 100 (List._∷_ 101
-              (List._∷_ 100 List.[]))))))))))) (Syntax.ttcons (Syntax.tcons (Syntax.tyStruct (List._∷_ 99 (List._∷_ 111 (List._∷_ 100 (List._∷_ 101 (List._∷_ 58 (List._∷_ 58 (List._∷_ 67 (List._∷_ 111
-              (List._∷_ 100 (List._∷_ 101 List.[])))))))))) (Syntax.tcons (Syntax.tyInt Syntax.w64) (Syntax.tcons (Syntax.tyInt Syntax.w32) (Syntax.tcons Syntax.tyBool (Syntax.tcons (Syntax.tyStruct
-              (List._∷_ 98 (List._∷_ 105 (List._∷_ 116 (List._∷_ 115 (List._∷_ 58 (List._∷_ 58 (List._∷_ 66 (List._∷_ 105 (List._∷_ 116 (List._∷_ 80 (List._∷_ 111 (List._∷_ 115 (List._∷_ 105 (List._∷_ 116
-              (List._∷_ 105 (List._∷_ 111 (List._∷_ 110 List.[]))))))))))))))))) (Syntax.tcons (Syntax.tyInt Syntax.w64) Syntax.tnil)) Syntax.tnil))))) Syntax.tnil) (Syntax.ttcons Syntax.tnil
-              Syntax.ttnil))),
-        ) (List._∷_ (
-          1,
-          Rows.mref-owed (Held.type (Syntax.named 1) (κs .1 .0)) (Syntax.tyRef (Syntax.named 0) Syntax.mut (Held.behind (Syntax.named 1))) 0 2 (Row.lease (κs .0) (qs
-              .0)),
-        ) (List._∷_ (2, Rows.sc-here (Row.sInt Syntax.w32)) (List._∷_ (3, Rows.sc-here (Row.sInt Syntax.w32)) (List._∷_ (4, Rows.sc-here (Row.sInt Syntax.w32)) (List._∷_ (
-          5,
-          Rows.any-gone
-              (Syntax.tyEnum (List._∷_ 98 (List._∷_ 105 (List._∷_ 116 (List._∷_ 115 (List._∷_ 58 (List._∷_ 58 (List._∷_ 90 (List._∷_ 101 (List._∷_ 114 (List._∷_ 111 (List._∷_ 82 (List._∷_ 117 (List._∷_ 110
-              List.[]))))))))))))) (Syntax.ttcons (Syntax.tcons (Syntax.tyInt Syntax.w64) Syntax.tnil) (Syntax.ttcons Syntax.tnil Syntax.ttnil))),
-        ) (List._∷_ (6, Rows.any-gone (Syntax.tyInt Syntax.w64))
-            (List._∷_ (7, Rows.any-gone (Syntax.tyInt Syntax.w32)) (List._∷_ (
-              8,
-              Rows.any-gone (Syntax.tyStruct (List._∷_ 98 (List._∷_ 105 (List._∷_ 116 (List._∷_ 115 (List._∷_ 58 (List._∷_ 58
-                  (List._∷_ 66 (List._∷_ 105 (List._∷_ 116 (List._∷_ 80 (List._∷_ 111 (List._∷_ 115 (List._∷_ 105 (List._∷_ 116 (List._∷_ 105 (List._∷_ 111 (List._∷_ 110 List.[]))))))))))))))))) (Syntax.tcons
-                  (Syntax.tyInt Syntax.w64) Syntax.tnil)),
-            ) (List._∷_ (9, Rows.any-gone (Syntax.tyInt Syntax.w32)) (List._∷_ (
-              10,
-              Rows.any-gone (Syntax.tyStruct (List._∷_ 98 (List._∷_ 105 (List._∷_ 116
-                  (List._∷_ 115 (List._∷_ 58 (List._∷_ 58 (List._∷_ 66 (List._∷_ 105 (List._∷_ 116 (List._∷_ 80 (List._∷_ 111 (List._∷_ 115 (List._∷_ 105 (List._∷_ 116 (List._∷_ 105 (List._∷_ 111 (List._∷_ 110
-                  List.[]))))))))))))))))) (Syntax.tcons (Syntax.tyInt Syntax.w64) Syntax.tnil)),
-            ) (List._∷_ (
-              11,
-              Rows.mref (Held.type (Syntax.named 1) (κs .1 .0)) (Syntax.tyRef Syntax.erased Syntax.mut
-                  (Held.behind Syntax.erased)) 7,
-            ) (List._∷_ (12, Rows.any-gone (Syntax.tyInt Syntax.w64)) (List._∷_ (13, Rows.any-gone Syntax.tyBool) (List._∷_ (
-              14,
-              Rows.any-gone (Syntax.tyRef
-                  Syntax.erased Syntax.mut (Held.behind Syntax.erased)),
-            ) (List._∷_ (15, Rows.any-gone (Syntax.tyRef Syntax.erased Syntax.imm (Held.behind Syntax.erased))) List.[])))))))))))))))
+        g4 = λ at. List._∷_ e0 (List._∷_
+            (1, Rows.mref-owed (Held.type (Syntax.named 1) (κs .1 .0)) (Syntax.tyRef (Syntax.named 0) Syntax.mut (Held.behind (Syntax.named 1))) 0 2 (Row.lease (κs .0) (qs .0))) (List._∷_ e31 (List._∷_
+            e41 (List._∷_ e43 (List._∷_ e44 (List._∷_ e47 (List._∷_ e49 (List._∷_ e51 (List._∷_ e53 (List._∷_ e7 (List._∷_
+            (11, Rows.mref (Held.type (Syntax.named 1) (κs .1 .0)) (Syntax.tyRef Syntax.erased Syntax.mut (Held.behind Syntax.erased)) 7) (List._∷_ e12 (List._∷_ e14 (List._∷_ e18 (List._∷_ e20
+            List.[])))))))))))))))
 
         abbrev g5 : (at : Nat.ℕ → Nat.ℕ) → List.List Row.Entry
-        g5 = λ at. List._∷_ (
-          0,
-          Rows.any-gone (Syntax.tyEnum (List._∷_ 99 (List._∷_ 111 (List._∷_ 100 (List._∷_ 101 (List._∷_ 58 (List._∷_ 58 (List._∷_ 67 (List._∷_ 111 (List._∷_ 100 (List._∷_ 101
-              (List._∷_ 100 List.[]))))))))))) (Syntax.ttcons (Syntax.tcons (Syntax.tyStruct (List._∷_ 99 (List._∷_ 111 (List._∷_ 100 (List._∷_ 101 (List._∷_ 58 (List._∷_ 58 (List._∷_ 67 (List._∷_ 111
-              (List._∷_ 100 (List._∷_ 101 List.[])))))))))) (Syntax.tcons (Syntax.tyInt Syntax.w64) (Syntax.tcons (Syntax.tyInt Syntax.w32) (Syntax.tcons Syntax.tyBool (Syntax.tcons (Syntax.tyStruct
-              (List._∷_ 98 (List._∷_ 105 (List._∷_ 116 (List._∷_ 115 (List._∷_ 58 (List._∷_ 58 (List._∷_ 66 (List._∷_ 105 (List._∷_ 116 (List._∷_ 80 (List._∷_ 111 (List._∷_ 115 (List._∷_ 105 (List._∷_ 116
-              (List._∷_ 105 (List._∷_ 111 (List._∷_ 110 List.[]))))))))))))))))) (Syntax.tcons (Syntax.tyInt Syntax.w64) Syntax.tnil)) Syntax.tnil))))) Syntax.tnil) (Syntax.ttcons Syntax.tnil
-              Syntax.ttnil))),
-        ) (List._∷_ (
-          1,
-          Rows.mref-owed (Held.type (Syntax.named 1) (κs .1 .0)) (Syntax.tyRef (Syntax.named 0) Syntax.mut (Held.behind (Syntax.named 1))) 0 2 (Row.lease (κs .0) (qs
-              .0)),
-        ) (List._∷_ (2, Rows.sc-here (Row.sInt Syntax.w32)) (List._∷_ (3, Rows.sc-here (Row.sInt Syntax.w32)) (List._∷_ (4, Rows.sc-here (Row.sInt Syntax.w32)) (List._∷_ (
-          5,
-          Rows.any-gone
-              (Syntax.tyEnum (List._∷_ 98 (List._∷_ 105 (List._∷_ 116 (List._∷_ 115 (List._∷_ 58 (List._∷_ 58 (List._∷_ 90 (List._∷_ 101 (List._∷_ 114 (List._∷_ 111 (List._∷_ 82 (List._∷_ 117 (List._∷_ 110
-              List.[]))))))))))))) (Syntax.ttcons (Syntax.tcons (Syntax.tyInt Syntax.w64) Syntax.tnil) (Syntax.ttcons Syntax.tnil Syntax.ttnil))),
-        ) (List._∷_ (6, Rows.any-gone (Syntax.tyInt Syntax.w64))
-            (List._∷_ (7, Rows.any-gone (Syntax.tyInt Syntax.w32)) (List._∷_ (
-              8,
-              Rows.any-gone (Syntax.tyStruct (List._∷_ 98 (List._∷_ 105 (List._∷_ 116 (List._∷_ 115 (List._∷_ 58 (List._∷_ 58
-                  (List._∷_ 66 (List._∷_ 105 (List._∷_ 116 (List._∷_ 80 (List._∷_ 111 (List._∷_ 115 (List._∷_ 105 (List._∷_ 116 (List._∷_ 105 (List._∷_ 111 (List._∷_ 110 List.[]))))))))))))))))) (Syntax.tcons
-                  (Syntax.tyInt Syntax.w64) Syntax.tnil)),
-            ) (List._∷_ (9, Rows.any-gone (Syntax.tyInt Syntax.w32)) (List._∷_ (
-              10,
-              Rows.any-gone (Syntax.tyStruct (List._∷_ 98 (List._∷_ 105 (List._∷_ 116
-                  (List._∷_ 115 (List._∷_ 58 (List._∷_ 58 (List._∷_ 66 (List._∷_ 105 (List._∷_ 116 (List._∷_ 80 (List._∷_ 111 (List._∷_ 115 (List._∷_ 105 (List._∷_ 116 (List._∷_ 105 (List._∷_ 111 (List._∷_ 110
-                  List.[]))))))))))))))))) (Syntax.tcons (Syntax.tyInt Syntax.w64) Syntax.tnil)),
-            ) (List._∷_ (
-              11,
-              AtSlots.mrefAt 2 (λ κc. Held.type (Syntax.named 1) (κc .1 .0)) Held.Value (λ κc v. v)
-                  (List._∷_ 7 (List._∷_ 1 List.[])) (Syntax.tyRef Syntax.erased Syntax.mut (Held.behind Syntax.erased)) 7,
-            ) (List._∷_ (12, Rows.any-gone (Syntax.tyInt Syntax.w64)) (List._∷_ (
-              13,
-              Rows.any-gone
-                  Syntax.tyBool,
-            ) (List._∷_ (14, Rows.any-gone (Syntax.tyRef Syntax.erased Syntax.mut (Held.behind Syntax.erased))) (List._∷_ (
-              15,
-              Rows.any-gone (Syntax.tyRef Syntax.erased Syntax.imm
-                  (Held.behind Syntax.erased)),
-            ) List.[])))))))))))))))
+        g5 = λ at. List._∷_ e0 (List._∷_
+            (1, Rows.mref-owed (Held.type (Syntax.named 1) (κs .1 .0)) (Syntax.tyRef (Syntax.named 0) Syntax.mut (Held.behind (Syntax.named 1))) 0 2 (Row.lease (κs .0) (qs .0))) (List._∷_ e31 (List._∷_
+            e41 (List._∷_ e43 (List._∷_ e44 (List._∷_ e47 (List._∷_ e49 (List._∷_ e51 (List._∷_ e53 (List._∷_ e7 (List._∷_ e10 (List._∷_ e12 (List._∷_ e14 (List._∷_ e18 (List._∷_ e20
+            List.[])))))))))))))))
 
         abbrev g6 : (at : Nat.ℕ → Nat.ℕ) → List.List Row.Entry
-        g6 = λ at. List._∷_ (
-          0,
-          Rows.any-gone (Syntax.tyEnum (List._∷_ 99 (List._∷_ 111 (List._∷_ 100 (List._∷_ 101 (List._∷_ 58 (List._∷_ 58 (List._∷_ 67 (List._∷_ 111 (List._∷_ 100 (List._∷_ 101
-              (List._∷_ 100 List.[]))))))))))) (Syntax.ttcons (Syntax.tcons (Syntax.tyStruct (List._∷_ 99 (List._∷_ 111 (List._∷_ 100 (List._∷_ 101 (List._∷_ 58 (List._∷_ 58 (List._∷_ 67 (List._∷_ 111
-              (List._∷_ 100 (List._∷_ 101 List.[])))))))))) (Syntax.tcons (Syntax.tyInt Syntax.w64) (Syntax.tcons (Syntax.tyInt Syntax.w32) (Syntax.tcons Syntax.tyBool (Syntax.tcons (Syntax.tyStruct
-              (List._∷_ 98 (List._∷_ 105 (List._∷_ 116 (List._∷_ 115 (List._∷_ 58 (List._∷_ 58 (List._∷_ 66 (List._∷_ 105 (List._∷_ 116 (List._∷_ 80 (List._∷_ 111 (List._∷_ 115 (List._∷_ 105 (List._∷_ 116
-              (List._∷_ 105 (List._∷_ 111 (List._∷_ 110 List.[]))))))))))))))))) (Syntax.tcons (Syntax.tyInt Syntax.w64) Syntax.tnil)) Syntax.tnil))))) Syntax.tnil) (Syntax.ttcons Syntax.tnil
-              Syntax.ttnil))),
-        ) (List._∷_ (
-          1,
-          Rows.mref-owed (Held.type (Syntax.named 1) (κs .1 .0)) (Syntax.tyRef (Syntax.named 0) Syntax.mut (Held.behind (Syntax.named 1))) 0 2 (Row.lease (κs .0) (qs
-              .0)),
-        ) (List._∷_ (2, Rows.sc-here (Row.sInt Syntax.w32)) (List._∷_ (3, Rows.sc-here (Row.sInt Syntax.w32)) (List._∷_ (4, Rows.sc-here (Row.sInt Syntax.w32)) (List._∷_ (
-          5,
-          Rows.whole
-              (Declared.row ZeroRun.the-type),
-        ) (List._∷_ (6, Rows.any-gone (Syntax.tyInt Syntax.w64)) (List._∷_ (7, Rows.any-gone (Syntax.tyInt Syntax.w32)) (List._∷_ (
-          8,
-          Rows.any-gone
-              (Syntax.tyStruct (List._∷_ 98 (List._∷_ 105 (List._∷_ 116 (List._∷_ 115 (List._∷_ 58 (List._∷_ 58 (List._∷_ 66 (List._∷_ 105 (List._∷_ 116 (List._∷_ 80 (List._∷_ 111 (List._∷_ 115 (List._∷_
-              105 (List._∷_ 116 (List._∷_ 105 (List._∷_ 111 (List._∷_ 110 List.[]))))))))))))))))) (Syntax.tcons (Syntax.tyInt Syntax.w64) Syntax.tnil)),
-        ) (List._∷_ (
-          9,
-          Rows.any-gone (Syntax.tyInt
-              Syntax.w32),
-        ) (List._∷_ (
-          10,
-          Rows.any-gone (Syntax.tyStruct (List._∷_ 98 (List._∷_ 105 (List._∷_ 116 (List._∷_ 115 (List._∷_ 58 (List._∷_ 58 (List._∷_ 66 (List._∷_ 105 (List._∷_ 116 (List._∷_
-              80 (List._∷_ 111 (List._∷_ 115 (List._∷_ 105 (List._∷_ 116 (List._∷_ 105 (List._∷_ 111 (List._∷_ 110 List.[]))))))))))))))))) (Syntax.tcons (Syntax.tyInt Syntax.w64) Syntax.tnil)),
-        ) (List._∷_ (
-          11,
-          AtSlots.mleftAt 2 (λ κc. Held.type (Syntax.named 1) (κc .1 .0)) Held.Value (λ κc v. v) (List._∷_ 7 (List._∷_ 1 List.[])) (Syntax.tyRef Syntax.erased Syntax.mut (Held.behind
-              Syntax.erased)),
-        ) (List._∷_ (12, Rows.any-gone (Syntax.tyInt Syntax.w64)) (List._∷_ (13, Rows.any-gone Syntax.tyBool) (List._∷_ (
-          14,
-          Rows.any-gone (Syntax.tyRef Syntax.erased Syntax.mut
-              (Held.behind Syntax.erased)),
-        ) (List._∷_ (15, Rows.any-gone (Syntax.tyRef Syntax.erased Syntax.imm (Held.behind Syntax.erased))) List.[])))))))))))))))
+        g6 = λ at. List._∷_ e0 (List._∷_
+            (1, Rows.mref-owed (Held.type (Syntax.named 1) (κs .1 .0)) (Syntax.tyRef (Syntax.named 0) Syntax.mut (Held.behind (Syntax.named 1))) 0 2 (Row.lease (κs .0) (qs .0))) (List._∷_ e31 (List._∷_
+            e41 (List._∷_ e43 (List._∷_ e45 (List._∷_ e47 (List._∷_ e49 (List._∷_ e51 (List._∷_ e53 (List._∷_ e7 (List._∷_ e9 (List._∷_ e12 (List._∷_ e14 (List._∷_ e18 (List._∷_ e20 List.[])))))))))))))))
 
         abbrev g7 : (at : Nat.ℕ → Nat.ℕ) → List.List Row.Entry
-        g7 = λ at. List._∷_ (
-          0,
-          Rows.any-gone (Syntax.tyEnum (List._∷_ 99 (List._∷_ 111 (List._∷_ 100 (List._∷_ 101 (List._∷_ 58 (List._∷_ 58 (List._∷_ 67 (List._∷_ 111 (List._∷_ 100 (List._∷_ 101
-              (List._∷_ 100 List.[]))))))))))) (Syntax.ttcons (Syntax.tcons (Syntax.tyStruct (List._∷_ 99 (List._∷_ 111 (List._∷_ 100 (List._∷_ 101 (List._∷_ 58 (List._∷_ 58 (List._∷_ 67 (List._∷_ 111
-              (List._∷_ 100 (List._∷_ 101 List.[])))))))))) (Syntax.tcons (Syntax.tyInt Syntax.w64) (Syntax.tcons (Syntax.tyInt Syntax.w32) (Syntax.tcons Syntax.tyBool (Syntax.tcons (Syntax.tyStruct
-              (List._∷_ 98 (List._∷_ 105 (List._∷_ 116 (List._∷_ 115 (List._∷_ 58 (List._∷_ 58 (List._∷_ 66 (List._∷_ 105 (List._∷_ 116 (List._∷_ 80 (List._∷_ 111 (List._∷_ 115 (List._∷_ 105 (List._∷_ 116
-              (List._∷_ 105 (List._∷_ 111 (List._∷_ 110 List.[]))))))))))))))))) (Syntax.tcons (Syntax.tyInt Syntax.w64) Syntax.tnil)) Syntax.tnil))))) Syntax.tnil) (Syntax.ttcons Syntax.tnil
-              Syntax.ttnil))),
-        ) (List._∷_ (1, Rows.mref (Held.type (Syntax.named 1) (κs .1 .0)) (Syntax.tyRef (Syntax.named 0) Syntax.mut (Held.behind (Syntax.named 1))) 0) (List._∷_ (
-          2,
-          Rows.sc-here
-              (Row.sInt Syntax.w32),
-        ) (List._∷_ (3, Rows.sc-here (Row.sInt Syntax.w32)) (List._∷_ (4, Rows.sc-here (Row.sInt Syntax.w32)) (List._∷_ (
-          5,
-          Rows.any-gone (Syntax.tyEnum (List._∷_ 98 (List._∷_
-              105 (List._∷_ 116 (List._∷_ 115 (List._∷_ 58 (List._∷_ 58 (List._∷_ 90 (List._∷_ 101 (List._∷_ 114 (List._∷_ 111 (List._∷_ 82 (List._∷_ 117 (List._∷_ 110 List.[]))))))))))))) (Syntax.ttcons
-              (Syntax.tcons (Syntax.tyInt Syntax.w64) Syntax.tnil) (Syntax.ttcons Syntax.tnil Syntax.ttnil))),
-        ) (List._∷_ (6, Rows.sc-here (Row.sInt Syntax.w64)) (List._∷_ (
-          7,
-          Rows.any-gone (Syntax.tyInt
-              Syntax.w32),
-        ) (List._∷_ (
-          8,
-          Rows.any-gone (Syntax.tyStruct (List._∷_ 98 (List._∷_ 105 (List._∷_ 116 (List._∷_ 115 (List._∷_ 58 (List._∷_ 58 (List._∷_ 66 (List._∷_ 105 (List._∷_ 116 (List._∷_
-              80 (List._∷_ 111 (List._∷_ 115 (List._∷_ 105 (List._∷_ 116 (List._∷_ 105 (List._∷_ 111 (List._∷_ 110 List.[]))))))))))))))))) (Syntax.tcons (Syntax.tyInt Syntax.w64) Syntax.tnil)),
-        ) (List._∷_
-            (9, Rows.any-gone (Syntax.tyInt Syntax.w32)) (List._∷_ (
-              10,
-              Rows.any-gone (Syntax.tyStruct (List._∷_ 98 (List._∷_ 105 (List._∷_ 116 (List._∷_ 115 (List._∷_ 58 (List._∷_ 58 (List._∷_ 66
-                  (List._∷_ 105 (List._∷_ 116 (List._∷_ 80 (List._∷_ 111 (List._∷_ 115 (List._∷_ 105 (List._∷_ 116 (List._∷_ 105 (List._∷_ 111 (List._∷_ 110 List.[]))))))))))))))))) (Syntax.tcons (Syntax.tyInt
-                  Syntax.w64) Syntax.tnil)),
-            ) (List._∷_ (11, Rows.any-gone (Syntax.tyRef Syntax.erased Syntax.mut (Held.behind Syntax.erased))) (List._∷_ (12, Rows.any-gone (Syntax.tyInt Syntax.w64))
-            (List._∷_ (13, Rows.any-gone Syntax.tyBool) (List._∷_ (14, Rows.any-gone (Syntax.tyRef Syntax.erased Syntax.mut (Held.behind Syntax.erased))) (List._∷_ (
-              15,
-              Rows.any-gone (Syntax.tyRef
-                  Syntax.erased Syntax.imm (Held.behind Syntax.erased)),
-            ) List.[])))))))))))))))
+        g7 = λ at. List._∷_ e0 (List._∷_ (1, Rows.mref (Held.type (Syntax.named 1) (κs .1 .0)) (Syntax.tyRef (Syntax.named 0) Syntax.mut (Held.behind (Syntax.named 1))) 0) (List._∷_ e31 (List._∷_ e41
+            (List._∷_ e43 (List._∷_ e44 (List._∷_ e48 (List._∷_ e49 (List._∷_ e51 (List._∷_ e53 (List._∷_ e7 (List._∷_ e11 (List._∷_ e12 (List._∷_ e14 (List._∷_ e18 (List._∷_ e20 List.[])))))))))))))))
 
         abbrev g8 : (at : Nat.ℕ → Nat.ℕ) → List.List Row.Entry
-        g8 = λ at. List._∷_ (
-          0,
-          Rows.any-gone (Syntax.tyEnum (List._∷_ 99 (List._∷_ 111 (List._∷_ 100 (List._∷_ 101 (List._∷_ 58 (List._∷_ 58 (List._∷_ 67 (List._∷_ 111 (List._∷_ 100 (List._∷_ 101
-              (List._∷_ 100 List.[]))))))))))) (Syntax.ttcons (Syntax.tcons (Syntax.tyStruct (List._∷_ 99 (List._∷_ 111 (List._∷_ 100 (List._∷_ 101 (List._∷_ 58 (List._∷_ 58 (List._∷_ 67 (List._∷_ 111
-              (List._∷_ 100 (List._∷_ 101 List.[])))))))))) (Syntax.tcons (Syntax.tyInt Syntax.w64) (Syntax.tcons (Syntax.tyInt Syntax.w32) (Syntax.tcons Syntax.tyBool (Syntax.tcons (Syntax.tyStruct
-              (List._∷_ 98 (List._∷_ 105 (List._∷_ 116 (List._∷_ 115 (List._∷_ 58 (List._∷_ 58 (List._∷_ 66 (List._∷_ 105 (List._∷_ 116 (List._∷_ 80 (List._∷_ 111 (List._∷_ 115 (List._∷_ 105 (List._∷_ 116
-              (List._∷_ 105 (List._∷_ 111 (List._∷_ 110 List.[]))))))))))))))))) (Syntax.tcons (Syntax.tyInt Syntax.w64) Syntax.tnil)) Syntax.tnil))))) Syntax.tnil) (Syntax.ttcons Syntax.tnil
-              Syntax.ttnil))),
-        ) (List._∷_ (1, Rows.mref (Held.type (Syntax.named 1) (κs .1 .0)) (Syntax.tyRef (Syntax.named 0) Syntax.mut (Held.behind (Syntax.named 1))) 0) (List._∷_ (
-          2,
-          Rows.sc-here
-              (Row.sInt Syntax.w32),
-        ) (List._∷_ (3, Rows.sc-here (Row.sInt Syntax.w32)) (List._∷_ (4, Rows.sc-here (Row.sInt Syntax.w32)) (List._∷_ (5, Rows.whole (Declared.row ZeroRun.the-type))
-            (List._∷_ (6, Rows.any-gone (Syntax.tyInt Syntax.w64)) (List._∷_ (7, Rows.any-gone (Syntax.tyInt Syntax.w32)) (List._∷_ (
-              8,
-              Rows.any-gone (Syntax.tyStruct (List._∷_ 98 (List._∷_ 105
-                  (List._∷_ 116 (List._∷_ 115 (List._∷_ 58 (List._∷_ 58 (List._∷_ 66 (List._∷_ 105 (List._∷_ 116 (List._∷_ 80 (List._∷_ 111 (List._∷_ 115 (List._∷_ 105 (List._∷_ 116 (List._∷_ 105 (List._∷_ 111
-                  (List._∷_ 110 List.[]))))))))))))))))) (Syntax.tcons (Syntax.tyInt Syntax.w64) Syntax.tnil)),
-            ) (List._∷_ (9, Rows.any-gone (Syntax.tyInt Syntax.w32)) (List._∷_ (
-              10,
-              Rows.any-gone
-                  (Syntax.tyStruct (List._∷_ 98 (List._∷_ 105 (List._∷_ 116 (List._∷_ 115 (List._∷_ 58 (List._∷_ 58 (List._∷_ 66 (List._∷_ 105 (List._∷_ 116 (List._∷_ 80 (List._∷_ 111 (List._∷_ 115 (List._∷_
-                  105 (List._∷_ 116 (List._∷_ 105 (List._∷_ 111 (List._∷_ 110 List.[]))))))))))))))))) (Syntax.tcons (Syntax.tyInt Syntax.w64) Syntax.tnil)),
-            ) (List._∷_ (
-              11,
-              Rows.any-gone (Syntax.tyRef
-                  Syntax.erased Syntax.mut (Held.behind Syntax.erased)),
-            ) (List._∷_ (12, Rows.any-gone (Syntax.tyInt Syntax.w64)) (List._∷_ (13, Rows.any-gone Syntax.tyBool) (List._∷_ (
-              14,
-              Rows.any-gone
-                  (Syntax.tyRef Syntax.erased Syntax.mut (Held.behind Syntax.erased)),
-            ) (List._∷_ (15, Rows.any-gone (Syntax.tyRef Syntax.erased Syntax.imm (Held.behind Syntax.erased)))
-            List.[])))))))))))))))
+        g8 = λ at. List._∷_ e0 (List._∷_ (1, Rows.mref (Held.type (Syntax.named 1) (κs .1 .0)) (Syntax.tyRef (Syntax.named 0) Syntax.mut (Held.behind (Syntax.named 1))) 0) (List._∷_ e31 (List._∷_ e41
+            (List._∷_ e43 (List._∷_ e45 (List._∷_ e47 (List._∷_ e49 (List._∷_ e51 (List._∷_ e53 (List._∷_ e7 (List._∷_ e11 (List._∷_ e12 (List._∷_ e14 (List._∷_ e18 (List._∷_ e20 List.[])))))))))))))))
 
         abbrev g9 : (at : Nat.ℕ → Nat.ℕ) → List.List Row.Entry
-        g9 = λ at. List._∷_ (
-          0,
-          Rows.any-gone (Syntax.tyEnum (List._∷_ 99 (List._∷_ 111 (List._∷_ 100 (List._∷_ 101 (List._∷_ 58 (List._∷_ 58 (List._∷_ 67 (List._∷_ 111 (List._∷_ 100 (List._∷_ 101
-              (List._∷_ 100 List.[]))))))))))) (Syntax.ttcons (Syntax.tcons (Syntax.tyStruct (List._∷_ 99 (List._∷_ 111 (List._∷_ 100 (List._∷_ 101 (List._∷_ 58 (List._∷_ 58 (List._∷_ 67 (List._∷_ 111
-              (List._∷_ 100 (List._∷_ 101 List.[])))))))))) (Syntax.tcons (Syntax.tyInt Syntax.w64) (Syntax.tcons (Syntax.tyInt Syntax.w32) (Syntax.tcons Syntax.tyBool (Syntax.tcons (Syntax.tyStruct
-              (List._∷_ 98 (List._∷_ 105 (List._∷_ 116 (List._∷_ 115 (List._∷_ 58 (List._∷_ 58 (List._∷_ 66 (List._∷_ 105 (List._∷_ 116 (List._∷_ 80 (List._∷_ 111 (List._∷_ 115 (List._∷_ 105 (List._∷_ 116
-              (List._∷_ 105 (List._∷_ 111 (List._∷_ 110 List.[]))))))))))))))))) (Syntax.tcons (Syntax.tyInt Syntax.w64) Syntax.tnil)) Syntax.tnil))))) Syntax.tnil) (Syntax.ttcons Syntax.tnil
-              Syntax.ttnil))),
-        ) (List._∷_ (1, Rows.mref (Held.type (Syntax.named 1) (κs .1 .0)) (Syntax.tyRef (Syntax.named 0) Syntax.mut (Held.behind (Syntax.named 1))) 0) (List._∷_ (
-          2,
-          Rows.sc-here
-              (Row.sInt Syntax.w32),
-        ) (List._∷_ (3, Rows.sc-here (Row.sInt Syntax.w32)) (List._∷_ (4, Rows.sc-here (Row.sInt Syntax.w32)) (List._∷_ (5, Rows.whole (Known.Known ZeroRun.enum 0))
-            (List._∷_ (6, Rows.any-gone (Syntax.tyInt Syntax.w64)) (List._∷_ (7, Rows.any-gone (Syntax.tyInt Syntax.w32)) (List._∷_ (
-              8,
-              Rows.any-gone (Syntax.tyStruct (List._∷_ 98 (List._∷_ 105
-                  (List._∷_ 116 (List._∷_ 115 (List._∷_ 58 (List._∷_ 58 (List._∷_ 66 (List._∷_ 105 (List._∷_ 116 (List._∷_ 80 (List._∷_ 111 (List._∷_ 115 (List._∷_ 105 (List._∷_ 116 (List._∷_ 105 (List._∷_ 111
-                  (List._∷_ 110 List.[]))))))))))))))))) (Syntax.tcons (Syntax.tyInt Syntax.w64) Syntax.tnil)),
-            ) (List._∷_ (9, Rows.any-gone (Syntax.tyInt Syntax.w32)) (List._∷_ (
-              10,
-              Rows.any-gone
-                  (Syntax.tyStruct (List._∷_ 98 (List._∷_ 105 (List._∷_ 116 (List._∷_ 115 (List._∷_ 58 (List._∷_ 58 (List._∷_ 66 (List._∷_ 105 (List._∷_ 116 (List._∷_ 80 (List._∷_ 111 (List._∷_ 115 (List._∷_
-                  105 (List._∷_ 116 (List._∷_ 105 (List._∷_ 111 (List._∷_ 110 List.[]))))))))))))))))) (Syntax.tcons (Syntax.tyInt Syntax.w64) Syntax.tnil)),
-            ) (List._∷_ (
-              11,
-              Rows.any-gone (Syntax.tyRef
-                  Syntax.erased Syntax.mut (Held.behind Syntax.erased)),
-            ) (List._∷_ (12, Rows.any-gone (Syntax.tyInt Syntax.w64)) (List._∷_ (13, Rows.any-gone Syntax.tyBool) (List._∷_ (
-              14,
-              Rows.any-gone
-                  (Syntax.tyRef Syntax.erased Syntax.mut (Held.behind Syntax.erased)),
-            ) (List._∷_ (15, Rows.any-gone (Syntax.tyRef Syntax.erased Syntax.imm (Held.behind Syntax.erased)))
-            List.[])))))))))))))))
+        g9 = λ at. List._∷_ e0 (List._∷_ (1, Rows.mref (Held.type (Syntax.named 1) (κs .1 .0)) (Syntax.tyRef (Syntax.named 0) Syntax.mut (Held.behind (Syntax.named 1))) 0) (List._∷_ e31 (List._∷_ e41
+            (List._∷_ e43 (List._∷_ e46 (List._∷_ e47 (List._∷_ e49 (List._∷_ e51 (List._∷_ e53 (List._∷_ e7 (List._∷_ e11 (List._∷_ e12 (List._∷_ e14 (List._∷_ e18 (List._∷_ e20 List.[])))))))))))))))
 
         abbrev g10 : (at : Nat.ℕ → Nat.ℕ) → List.List Row.Entry
-        g10 = λ at. List._∷_ (
-          0,
-          Rows.any-gone (Syntax.tyEnum (List._∷_ 99 (List._∷_ 111 (List._∷_ 100 (List._∷_ 101 (List._∷_ 58 (List._∷_ 58 (List._∷_ 67 (List._∷_ 111 (List._∷_ 100 (List._∷_ 101
-              (List._∷_ 100 List.[]))))))))))) (Syntax.ttcons (Syntax.tcons (Syntax.tyStruct (List._∷_ 99 (List._∷_ 111 (List._∷_ 100 (List._∷_ 101 (List._∷_ 58 (List._∷_ 58 (List._∷_ 67 (List._∷_ 111
-              (List._∷_ 100 (List._∷_ 101 List.[])))))))))) (Syntax.tcons (Syntax.tyInt Syntax.w64) (Syntax.tcons (Syntax.tyInt Syntax.w32) (Syntax.tcons Syntax.tyBool (Syntax.tcons (Syntax.tyStruct
-              (List._∷_ 98 (List._∷_ 105 (List._∷_ 116 (List._∷_ 115 (List._∷_ 58 (List._∷_ 58 (List._∷_ 66 (List._∷_ 105 (List._∷_ 116 (List._∷_ 80 (List._∷_ 111 (List._∷_ 115 (List._∷_ 105 (List._∷_ 116
-              (List._∷_ 105 (List._∷_ 111 (List._∷_ 110 List.[]))))))))))))))))) (Syntax.tcons (Syntax.tyInt Syntax.w64) Syntax.tnil)) Syntax.tnil))))) Syntax.tnil) (Syntax.ttcons Syntax.tnil
-              Syntax.ttnil))),
-        ) (List._∷_ (1, Rows.mref (Held.type (Syntax.named 1) (κs .1 .0)) (Syntax.tyRef (Syntax.named 0) Syntax.mut (Held.behind (Syntax.named 1))) 0) (List._∷_ (
-          2,
-          Rows.sc-here
-              (Row.sInt Syntax.w32),
-        ) (List._∷_ (3, Rows.sc-here (Row.sInt Syntax.w32)) (List._∷_ (4, Rows.sc-here (Row.sInt Syntax.w32)) (List._∷_ (5, Rows.whole (Known.Known ZeroRun.enum 0))
-            (List._∷_ (6, Rows.sc-here (Row.sInt Syntax.w64)) (List._∷_ (7, Rows.any-gone (Syntax.tyInt Syntax.w32)) (List._∷_ (
-              8,
-              Rows.any-gone (Syntax.tyStruct (List._∷_ 98 (List._∷_ 105 (List._∷_
-                  116 (List._∷_ 115 (List._∷_ 58 (List._∷_ 58 (List._∷_ 66 (List._∷_ 105 (List._∷_ 116 (List._∷_ 80 (List._∷_ 111 (List._∷_ 115 (List._∷_ 105 (List._∷_ 116 (List._∷_ 105 (List._∷_ 111 (List._∷_
-                  110 List.[]))))))))))))))))) (Syntax.tcons (Syntax.tyInt Syntax.w64) Syntax.tnil)),
-            ) (List._∷_ (9, Rows.any-gone (Syntax.tyInt Syntax.w32)) (List._∷_ (
-              10,
-              Rows.any-gone (Syntax.tyStruct
-                  (List._∷_ 98 (List._∷_ 105 (List._∷_ 116 (List._∷_ 115 (List._∷_ 58 (List._∷_ 58 (List._∷_ 66 (List._∷_ 105 (List._∷_ 116 (List._∷_ 80 (List._∷_ 111 (List._∷_ 115 (List._∷_ 105 (List._∷_ 116
-                  (List._∷_ 105 (List._∷_ 111 (List._∷_ 110 List.[]))))))))))))))))) (Syntax.tcons (Syntax.tyInt Syntax.w64) Syntax.tnil)),
-            ) (List._∷_ (
-              11,
-              Rows.any-gone (Syntax.tyRef Syntax.erased Syntax.mut
-                  (Held.behind Syntax.erased)),
-            ) (List._∷_ (12, Rows.any-gone (Syntax.tyInt Syntax.w64)) (List._∷_ (13, Rows.any-gone Syntax.tyBool) (List._∷_ (
-              14,
-              Rows.any-gone (Syntax.tyRef Syntax.erased
-                  Syntax.mut (Held.behind Syntax.erased)),
-            ) (List._∷_ (15, Rows.any-gone (Syntax.tyRef Syntax.erased Syntax.imm (Held.behind Syntax.erased))) List.[])))))))))))))))
+        g10 = λ at. List._∷_ e0 (List._∷_ (1, Rows.mref (Held.type (Syntax.named 1) (κs .1 .0)) (Syntax.tyRef (Syntax.named 0) Syntax.mut (Held.behind (Syntax.named 1))) 0) (List._∷_ e31 (List._∷_ e41
+            (List._∷_ e43 (List._∷_ e46 (List._∷_ e48 (List._∷_ e49 (List._∷_ e51 (List._∷_ e53 (List._∷_ e7 (List._∷_ e11 (List._∷_ e12 (List._∷_ e14 (List._∷_ e18 (List._∷_ e20 List.[])))))))))))))))
 
         abbrev g11 : (at : Nat.ℕ → Nat.ℕ) → List.List Row.Entry
-        g11 = λ at. List._∷_ (0, Rows.whole (Declared.row Coded.the-type)) (List._∷_ (
-          1,
-          Rows.mref (Held.type (Syntax.named 1) (κs .1 .0)) (Syntax.tyRef (Syntax.named 0) Syntax.mut (Held.behind
-              (Syntax.named 1))) 0,
-        ) (List._∷_ (2, Rows.sc-here (Row.sInt Syntax.w32)) (List._∷_ (3, Rows.sc-here (Row.sInt Syntax.w32)) (List._∷_ (4, Rows.sc-here (Row.sInt Syntax.w32)) (List._∷_ (
-          5,
-          Rows.any-gone (Syntax.tyEnum (List._∷_ 98 (List._∷_ 105 (List._∷_ 116 (List._∷_ 115 (List._∷_ 58 (List._∷_ 58 (List._∷_ 90 (List._∷_ 101 (List._∷_ 114 (List._∷_ 111 (List._∷_ 82 (List._∷_ 117
-              (List._∷_ 110 List.[]))))))))))))) (Syntax.ttcons (Syntax.tcons (Syntax.tyInt Syntax.w64) Syntax.tnil) (Syntax.ttcons Syntax.tnil Syntax.ttnil))),
-        ) (List._∷_ (
-          6,
-          Rows.any-gone (Syntax.tyInt
-              Syntax.w64),
-        ) (List._∷_ (7, Rows.any-gone (Syntax.tyInt Syntax.w32)) (List._∷_ (
-          8,
-          Rows.any-gone (Syntax.tyStruct (List._∷_ 98 (List._∷_ 105 (List._∷_ 116 (List._∷_ 115 (List._∷_ 58
-              (List._∷_ 58 (List._∷_ 66 (List._∷_ 105 (List._∷_ 116 (List._∷_ 80 (List._∷_ 111 (List._∷_ 115 (List._∷_ 105 (List._∷_ 116 (List._∷_ 105 (List._∷_ 111 (List._∷_ 110 List.[])))))))))))))))))
-              (Syntax.tcons (Syntax.tyInt Syntax.w64) Syntax.tnil)),
-        ) (List._∷_ (9, Rows.any-gone (Syntax.tyInt Syntax.w32)) (List._∷_ (
-          10,
-          Rows.any-gone (Syntax.tyStruct (List._∷_ 98 (List._∷_ 105
-              (List._∷_ 116 (List._∷_ 115 (List._∷_ 58 (List._∷_ 58 (List._∷_ 66 (List._∷_ 105 (List._∷_ 116 (List._∷_ 80 (List._∷_ 111 (List._∷_ 115 (List._∷_ 105 (List._∷_ 116 (List._∷_ 105 (List._∷_ 111
-              (List._∷_ 110 List.[]))))))))))))))))) (Syntax.tcons (Syntax.tyInt Syntax.w64) Syntax.tnil)),
-        ) (List._∷_ (
-          11,
-          Rows.any-gone (Syntax.tyRef Syntax.erased Syntax.mut (Held.behind
-              Syntax.erased)),
-        ) (List._∷_ (12, Rows.any-gone (Syntax.tyInt Syntax.w64)) (List._∷_ (13, Rows.any-gone Syntax.tyBool) (List._∷_ (
-          14,
-          Rows.any-gone (Syntax.tyRef Syntax.erased Syntax.mut
-              (Held.behind Syntax.erased)),
-        ) (List._∷_ (15, Rows.any-gone (Syntax.tyRef Syntax.erased Syntax.imm (Held.behind Syntax.erased))) List.[])))))))))))))))
+        g11 = λ at. List._∷_ e1 (List._∷_ (1, Rows.mref (Held.type (Syntax.named 1) (κs .1 .0)) (Syntax.tyRef (Syntax.named 0) Syntax.mut (Held.behind (Syntax.named 1))) 0) (List._∷_ e31 (List._∷_ e41
+            (List._∷_ e43 (List._∷_ e44 (List._∷_ e47 (List._∷_ e49 (List._∷_ e51 (List._∷_ e53 (List._∷_ e7 (List._∷_ e11 (List._∷_ e12 (List._∷_ e14 (List._∷_ e18 (List._∷_ e20 List.[])))))))))))))))
 
         abbrev g12 : (at : Nat.ℕ → Nat.ℕ) → List.List Row.Entry
-        g12 = λ at. List._∷_ (0, Rows.whole (Declared.row Coded.the-type)) (List._∷_ (
-          1,
-          Rows.mref (Held.type (Syntax.named 1) (κs .1 .0)) (Syntax.tyRef (Syntax.named 0) Syntax.mut (Held.behind
-              (Syntax.named 1))) 0,
-        ) (List._∷_ (2, Rows.any-gone (Syntax.tyInt Syntax.w32)) (List._∷_ (3, Rows.sc-here (Row.sInt Syntax.w32)) (List._∷_ (4, Rows.sc-here (Row.sInt Syntax.w32)) (List._∷_ (
-          5,
-          Rows.any-gone (Syntax.tyEnum (List._∷_ 98 (List._∷_ 105 (List._∷_ 116 (List._∷_ 115 (List._∷_ 58 (List._∷_ 58 (List._∷_ 90 (List._∷_ 101 (List._∷_ 114 (List._∷_ 111 (List._∷_ 82 (List._∷_
-              117 (List._∷_ 110 List.[]))))))))))))) (Syntax.ttcons (Syntax.tcons (Syntax.tyInt Syntax.w64) Syntax.tnil) (Syntax.ttcons Syntax.tnil Syntax.ttnil))),
-        ) (List._∷_ (
-          6,
-          Rows.any-gone
-              (Syntax.tyInt Syntax.w64),
-        ) (List._∷_ (7, Rows.any-gone (Syntax.tyInt Syntax.w32)) (List._∷_ (
-          8,
-          Rows.any-gone (Syntax.tyStruct (List._∷_ 98 (List._∷_ 105 (List._∷_ 116 (List._∷_ 115
-              (List._∷_ 58 (List._∷_ 58 (List._∷_ 66 (List._∷_ 105 (List._∷_ 116 (List._∷_ 80 (List._∷_ 111 (List._∷_ 115 (List._∷_ 105 (List._∷_ 116 (List._∷_ 105 (List._∷_ 111 (List._∷_ 110
-              List.[]))))))))))))))))) (Syntax.tcons (Syntax.tyInt Syntax.w64) Syntax.tnil)),
-        ) (List._∷_ (9, Rows.any-gone (Syntax.tyInt Syntax.w32)) (List._∷_ (
-          10,
-          Rows.any-gone (Syntax.tyStruct
-              (List._∷_ 98 (List._∷_ 105 (List._∷_ 116 (List._∷_ 115 (List._∷_ 58 (List._∷_ 58 (List._∷_ 66 (List._∷_ 105 (List._∷_ 116 (List._∷_ 80 (List._∷_ 111 (List._∷_ 115 (List._∷_ 105 (List._∷_ 116
-              (List._∷_ 105 (List._∷_ 111 (List._∷_ 110 List.[]))))))))))))))))) (Syntax.tcons (Syntax.tyInt Syntax.w64) Syntax.tnil)),
-        ) (List._∷_ (
-          11,
-          Rows.any-gone (Syntax.tyRef Syntax.erased Syntax.mut
-              (Held.behind Syntax.erased)),
-        ) (List._∷_ (12, Rows.any-gone (Syntax.tyInt Syntax.w64)) (List._∷_ (13, Rows.any-gone Syntax.tyBool) (List._∷_ (
-          14,
-          Rows.any-gone (Syntax.tyRef Syntax.erased
-              Syntax.mut (Held.behind Syntax.erased)),
-        ) (List._∷_ (15, Rows.any-gone (Syntax.tyRef Syntax.erased Syntax.imm (Held.behind Syntax.erased))) List.[])))))))))))))))
+        g12 = λ at. List._∷_ e1 (List._∷_ (1, Rows.mref (Held.type (Syntax.named 1) (κs .1 .0)) (Syntax.tyRef (Syntax.named 0) Syntax.mut (Held.behind (Syntax.named 1))) 0) (List._∷_ e30 (List._∷_ e41
+            (List._∷_ e43 (List._∷_ e44 (List._∷_ e47 (List._∷_ e49 (List._∷_ e51 (List._∷_ e53 (List._∷_ e7 (List._∷_ e11 (List._∷_ e12 (List._∷_ e14 (List._∷_ e18 (List._∷_ e20 List.[])))))))))))))))
 
         abbrev g13 : (at : Nat.ℕ → Nat.ℕ) → List.List Row.Entry
-        g13 = λ at. List._∷_ (0, Rows.whole (Declared.row Coded.the-type)) (List._∷_ (
-          1,
-          Rows.mref (Held.type (Syntax.named 1) (κs .1 .0)) (Syntax.tyRef (Syntax.named 0) Syntax.mut (Held.behind
-              (Syntax.named 1))) 0,
-        ) (List._∷_ (2, Rows.any-gone (Syntax.tyInt Syntax.w32)) (List._∷_ (3, Rows.any-gone (Syntax.tyInt Syntax.w32)) (List._∷_ (4, Rows.sc-here (Row.sInt Syntax.w32))
-            (List._∷_ (
-              5,
-              Rows.any-gone (Syntax.tyEnum (List._∷_ 98 (List._∷_ 105 (List._∷_ 116 (List._∷_ 115 (List._∷_ 58 (List._∷_ 58 (List._∷_ 90 (List._∷_ 101 (List._∷_ 114 (List._∷_ 111 (List._∷_ 82
-                  (List._∷_ 117 (List._∷_ 110 List.[]))))))))))))) (Syntax.ttcons (Syntax.tcons (Syntax.tyInt Syntax.w64) Syntax.tnil) (Syntax.ttcons Syntax.tnil Syntax.ttnil))),
-            ) (List._∷_ (
-              6,
-              Rows.any-gone
-                  (Syntax.tyInt Syntax.w64),
-            ) (List._∷_ (7, Rows.any-gone (Syntax.tyInt Syntax.w32)) (List._∷_ (
-              8,
-              Rows.any-gone (Syntax.tyStruct (List._∷_ 98 (List._∷_ 105 (List._∷_ 116 (List._∷_ 115
-                  (List._∷_ 58 (List._∷_ 58 (List._∷_ 66 (List._∷_ 105 (List._∷_ 116 (List._∷_ 80 (List._∷_ 111 (List._∷_ 115 (List._∷_ 105 (List._∷_ 116 (List._∷_ 105 (List._∷_ 111 (List._∷_ 110
-                  List.[]))))))))))))))))) (Syntax.tcons (Syntax.tyInt Syntax.w64) Syntax.tnil)),
-            ) (List._∷_ (9, Rows.any-gone (Syntax.tyInt Syntax.w32)) (List._∷_ (
-              10,
-              Rows.any-gone (Syntax.tyStruct
-                  (List._∷_ 98 (List._∷_ 105 (List._∷_ 116 (List._∷_ 115 (List._∷_ 58 (List._∷_ 58 (List._∷_ 66 (List._∷_ 105 (List._∷_ 116 (List._∷_ 80 (List._∷_ 111 (List._∷_ 115 (List._∷_ 105 (List._∷_ 116
-                  (List._∷_ 105 (List._∷_ 111 (List._∷_ 110 List.[]))))))))))))))))) (Syntax.tcons (Syntax.tyInt Syntax.w64) Syntax.tnil)),
-            ) (List._∷_ (
-              11,
-              Rows.any-gone (Syntax.tyRef Syntax.erased Syntax.mut
-                  (Held.behind Syntax.erased)),
-            ) (List._∷_ (12, Rows.any-gone (Syntax.tyInt Syntax.w64)) (List._∷_ (13, Rows.any-gone Syntax.tyBool) (List._∷_ (
-              14,
-              Rows.any-gone (Syntax.tyRef Syntax.erased
-                  Syntax.mut (Held.behind Syntax.erased)),
-            ) (List._∷_ (15, Rows.any-gone (Syntax.tyRef Syntax.erased Syntax.imm (Held.behind Syntax.erased))) List.[])))))))))))))))
+        g13 = λ at. List._∷_ e1 (List._∷_ (1, Rows.mref (Held.type (Syntax.named 1) (κs .1 .0)) (Syntax.tyRef (Syntax.named 0) Syntax.mut (Held.behind (Syntax.named 1))) 0) (List._∷_ e30 (List._∷_ e40
+            (List._∷_ e43 (List._∷_ e44 (List._∷_ e47 (List._∷_ e49 (List._∷_ e51 (List._∷_ e53 (List._∷_ e7 (List._∷_ e11 (List._∷_ e12 (List._∷_ e14 (List._∷_ e18 (List._∷_ e20 List.[])))))))))))))))
 
         abbrev g14 : (at : Nat.ℕ → Nat.ℕ) → List.List Row.Entry
-        g14 = λ at. List._∷_ (
-          0,
-          Rows.any-gone (Syntax.tyEnum (List._∷_ 99 (List._∷_ 111 (List._∷_ 100 (List._∷_ 101 (List._∷_ 58 (List._∷_ 58 (List._∷_ 67 (List._∷_ 111 (List._∷_ 100 (List._∷_ 101
-              (List._∷_ 100 List.[]))))))))))) (Syntax.ttcons (Syntax.tcons (Syntax.tyStruct (List._∷_ 99 (List._∷_ 111 (List._∷_ 100 (List._∷_ 101 (List._∷_ 58 (List._∷_ 58 (List._∷_ 67 (List._∷_ 111
-              (List._∷_ 100 (List._∷_ 101 List.[])))))))))) (Syntax.tcons (Syntax.tyInt Syntax.w64) (Syntax.tcons (Syntax.tyInt Syntax.w32) (Syntax.tcons Syntax.tyBool (Syntax.tcons (Syntax.tyStruct
-              (List._∷_ 98 (List._∷_ 105 (List._∷_ 116 (List._∷_ 115 (List._∷_ 58 (List._∷_ 58 (List._∷_ 66 (List._∷_ 105 (List._∷_ 116 (List._∷_ 80 (List._∷_ 111 (List._∷_ 115 (List._∷_ 105 (List._∷_ 116
-              (List._∷_ 105 (List._∷_ 111 (List._∷_ 110 List.[]))))))))))))))))) (Syntax.tcons (Syntax.tyInt Syntax.w64) Syntax.tnil)) Syntax.tnil))))) Syntax.tnil) (Syntax.ttcons Syntax.tnil
-              Syntax.ttnil))),
-        ) (List._∷_ (1, Rows.mref (Held.type (Syntax.named 1) (κs .1 .0)) (Syntax.tyRef (Syntax.named 0) Syntax.mut (Held.behind (Syntax.named 1))) 0) (List._∷_ (
-          2,
-          Rows.sc-here
-              (Row.sInt Syntax.w32),
-        ) (List._∷_ (3, Rows.sc-here (Row.sInt Syntax.w32)) (List._∷_ (4, Rows.sc-here (Row.sInt Syntax.w32)) (List._∷_ (
-          5,
-          Rows.any-gone (Syntax.tyEnum (List._∷_ 98 (List._∷_
-              105 (List._∷_ 116 (List._∷_ 115 (List._∷_ 58 (List._∷_ 58 (List._∷_ 90 (List._∷_ 101 (List._∷_ 114 (List._∷_ 111 (List._∷_ 82 (List._∷_ 117 (List._∷_ 110 List.[]))))))))))))) (Syntax.ttcons
-              (Syntax.tcons (Syntax.tyInt Syntax.w64) Syntax.tnil) (Syntax.ttcons Syntax.tnil Syntax.ttnil))),
-        ) (List._∷_ (6, Rows.sc-here (Row.sInt Syntax.w64)) (List._∷_ (
-          7,
-          Rows.any-gone (Syntax.tyInt
-              Syntax.w32),
-        ) (List._∷_ (
-          8,
-          Rows.any-gone (Syntax.tyStruct (List._∷_ 98 (List._∷_ 105 (List._∷_ 116 (List._∷_ 115 (List._∷_ 58 (List._∷_ 58 (List._∷_ 66 (List._∷_ 105 (List._∷_ 116 (List._∷_
-              80 (List._∷_ 111 (List._∷_ 115 (List._∷_ 105 (List._∷_ 116 (List._∷_ 105 (List._∷_ 111 (List._∷_ 110 List.[]))))))))))))))))) (Syntax.tcons (Syntax.tyInt Syntax.w64) Syntax.tnil)),
-        ) (List._∷_
-            (9, Rows.any-gone (Syntax.tyInt Syntax.w32)) (List._∷_ (
-              10,
-              Rows.any-gone (Syntax.tyStruct (List._∷_ 98 (List._∷_ 105 (List._∷_ 116 (List._∷_ 115 (List._∷_ 58 (List._∷_ 58 (List._∷_ 66
-                  (List._∷_ 105 (List._∷_ 116 (List._∷_ 80 (List._∷_ 111 (List._∷_ 115 (List._∷_ 105 (List._∷_ 116 (List._∷_ 105 (List._∷_ 111 (List._∷_ 110 List.[]))))))))))))))))) (Syntax.tcons (Syntax.tyInt
-                  Syntax.w64) Syntax.tnil)),
-            ) (List._∷_ (11, Rows.any-gone (Syntax.tyRef Syntax.erased Syntax.mut (Held.behind Syntax.erased))) (List._∷_ (12, Rows.sc-here (Row.sInt Syntax.w64)) (List._∷_ (
-              13,
-              Rows.any-gone Syntax.tyBool,
-            ) (List._∷_ (14, Rows.any-gone (Syntax.tyRef Syntax.erased Syntax.mut (Held.behind Syntax.erased))) (List._∷_ (
-              15,
-              Rows.any-gone (Syntax.tyRef
-                  Syntax.erased Syntax.imm (Held.behind Syntax.erased)),
-            ) List.[])))))))))))))))
+        g14 = λ at. List._∷_ e0 (List._∷_ (1, Rows.mref (Held.type (Syntax.named 1) (κs .1 .0)) (Syntax.tyRef (Syntax.named 0) Syntax.mut (Held.behind (Syntax.named 1))) 0) (List._∷_ e31 (List._∷_ e41
+            (List._∷_ e43 (List._∷_ e44 (List._∷_ e48 (List._∷_ e49 (List._∷_ e51 (List._∷_ e53 (List._∷_ e7 (List._∷_ e11 (List._∷_ e13 (List._∷_ e14 (List._∷_ e18 (List._∷_ e20 List.[])))))))))))))))
 
         abbrev g15 : (at : Nat.ℕ → Nat.ℕ) → List.List Row.Entry
-        g15 = λ at. List._∷_ (
-          0,
-          Rows.any-gone (Syntax.tyEnum (List._∷_ 99 (List._∷_ 111 (List._∷_ 100 (List._∷_ 101 (List._∷_ 58 (List._∷_ 58 (List._∷_ 67 (List._∷_ 111 (List._∷_ 100 (List._∷_ 101
-              (List._∷_ 100 List.[]))))))))))) (Syntax.ttcons (Syntax.tcons (Syntax.tyStruct (List._∷_ 99 (List._∷_ 111 (List._∷_ 100 (List._∷_ 101 (List._∷_ 58 (List._∷_ 58 (List._∷_ 67 (List._∷_ 111
-              (List._∷_ 100 (List._∷_ 101 List.[])))))))))) (Syntax.tcons (Syntax.tyInt Syntax.w64) (Syntax.tcons (Syntax.tyInt Syntax.w32) (Syntax.tcons Syntax.tyBool (Syntax.tcons (Syntax.tyStruct
-              (List._∷_ 98 (List._∷_ 105 (List._∷_ 116 (List._∷_ 115 (List._∷_ 58 (List._∷_ 58 (List._∷_ 66 (List._∷_ 105 (List._∷_ 116 (List._∷_ 80 (List._∷_ 111 (List._∷_ 115 (List._∷_ 105 (List._∷_ 116
-              (List._∷_ 105 (List._∷_ 111 (List._∷_ 110 List.[]))))))))))))))))) (Syntax.tcons (Syntax.tyInt Syntax.w64) Syntax.tnil)) Syntax.tnil))))) Syntax.tnil) (Syntax.ttcons Syntax.tnil
-              Syntax.ttnil))),
-        ) (List._∷_ (1, Rows.mref (Held.type (Syntax.named 1) (κs .1 .0)) (Syntax.tyRef (Syntax.named 0) Syntax.mut (Held.behind (Syntax.named 1))) 0) (List._∷_ (
-          2,
-          Rows.sc-here
-              (Row.sInt Syntax.w32),
-        ) (List._∷_ (3, Rows.sc-here (Row.sInt Syntax.w32)) (List._∷_ (4, Rows.sc-here (Row.sInt Syntax.w32)) (List._∷_ (
-          5,
-          Rows.any-gone (Syntax.tyEnum (List._∷_ 98 (List._∷_
-              105 (List._∷_ 116 (List._∷_ 115 (List._∷_ 58 (List._∷_ 58 (List._∷_ 90 (List._∷_ 101 (List._∷_ 114 (List._∷_ 111 (List._∷_ 82 (List._∷_ 117 (List._∷_ 110 List.[]))))))))))))) (Syntax.ttcons
-              (Syntax.tcons (Syntax.tyInt Syntax.w64) Syntax.tnil) (Syntax.ttcons Syntax.tnil Syntax.ttnil))),
-        ) (List._∷_ (6, Rows.sc-here (Row.sInt Syntax.w64)) (List._∷_ (
-          7,
-          Rows.any-gone (Syntax.tyInt
-              Syntax.w32),
-        ) (List._∷_ (
-          8,
-          Rows.any-gone (Syntax.tyStruct (List._∷_ 98 (List._∷_ 105 (List._∷_ 116 (List._∷_ 115 (List._∷_ 58 (List._∷_ 58 (List._∷_ 66 (List._∷_ 105 (List._∷_ 116 (List._∷_
-              80 (List._∷_ 111 (List._∷_ 115 (List._∷_ 105 (List._∷_ 116 (List._∷_ 105 (List._∷_ 111 (List._∷_ 110 List.[]))))))))))))))))) (Syntax.tcons (Syntax.tyInt Syntax.w64) Syntax.tnil)),
-        ) (List._∷_
-            (9, Rows.any-gone (Syntax.tyInt Syntax.w32)) (List._∷_ (
-              10,
-              Rows.any-gone (Syntax.tyStruct (List._∷_ 98 (List._∷_ 105 (List._∷_ 116 (List._∷_ 115 (List._∷_ 58 (List._∷_ 58 (List._∷_ 66
-                  (List._∷_ 105 (List._∷_ 116 (List._∷_ 80 (List._∷_ 111 (List._∷_ 115 (List._∷_ 105 (List._∷_ 116 (List._∷_ 105 (List._∷_ 111 (List._∷_ 110 List.[]))))))))))))))))) (Syntax.tcons (Syntax.tyInt
-                  Syntax.w64) Syntax.tnil)),
-            ) (List._∷_ (11, Rows.any-gone (Syntax.tyRef Syntax.erased Syntax.mut (Held.behind Syntax.erased))) (List._∷_ (12, Rows.sc-here (Row.sInt Syntax.w64)) (List._∷_ (
-              13,
-              Rows.sc-here Row.sBool,
-            ) (List._∷_ (14, Rows.any-gone (Syntax.tyRef Syntax.erased Syntax.mut (Held.behind Syntax.erased))) (List._∷_ (
-              15,
-              Rows.any-gone (Syntax.tyRef Syntax.erased
-                  Syntax.imm (Held.behind Syntax.erased)),
-            ) List.[])))))))))))))))
+        g15 = λ at. List._∷_ e0 (List._∷_ (1, Rows.mref (Held.type (Syntax.named 1) (κs .1 .0)) (Syntax.tyRef (Syntax.named 0) Syntax.mut (Held.behind (Syntax.named 1))) 0) (List._∷_ e31 (List._∷_ e41
+            (List._∷_ e43 (List._∷_ e44 (List._∷_ e48 (List._∷_ e49 (List._∷_ e51 (List._∷_ e53 (List._∷_ e7 (List._∷_ e11 (List._∷_ e13 (List._∷_ e15 (List._∷_ e18 (List._∷_ e20 List.[])))))))))))))))
 
         abbrev g16 : (at : Nat.ℕ → Nat.ℕ) → List.List Row.Entry
-        g16 = λ at. List._∷_ (
-          0,
-          Rows.any-gone (Syntax.tyEnum (List._∷_ 99 (List._∷_ 111 (List._∷_ 100 (List._∷_ 101 (List._∷_ 58 (List._∷_ 58 (List._∷_ 67 (List._∷_ 111 (List._∷_ 100 (List._∷_ 101
-              (List._∷_ 100 List.[]))))))))))) (Syntax.ttcons (Syntax.tcons (Syntax.tyStruct (List._∷_ 99 (List._∷_ 111 (List._∷_ 100 (List._∷_ 101 (List._∷_ 58 (List._∷_ 58 (List._∷_ 67 (List._∷_ 111
-              (List._∷_ 100 (List._∷_ 101 List.[])))))))))) (Syntax.tcons (Syntax.tyInt Syntax.w64) (Syntax.tcons (Syntax.tyInt Syntax.w32) (Syntax.tcons Syntax.tyBool (Syntax.tcons (Syntax.tyStruct
-              (List._∷_ 98 (List._∷_ 105 (List._∷_ 116 (List._∷_ 115 (List._∷_ 58 (List._∷_ 58 (List._∷_ 66 (List._∷_ 105 (List._∷_ 116 (List._∷_ 80 (List._∷_ 111 (List._∷_ 115 (List._∷_ 105 (List._∷_ 116
-              (List._∷_ 105 (List._∷_ 111 (List._∷_ 110 List.[]))))))))))))))))) (Syntax.tcons (Syntax.tyInt Syntax.w64) Syntax.tnil)) Syntax.tnil))))) Syntax.tnil) (Syntax.ttcons Syntax.tnil
-              Syntax.ttnil))),
-        ) (List._∷_ (1, Rows.mref (Held.type (Syntax.named 1) (κs .1 .0)) (Syntax.tyRef (Syntax.named 0) Syntax.mut (Held.behind (Syntax.named 1))) 0) (List._∷_ (
-          2,
-          Rows.sc-here
-              (Row.sInt Syntax.w32),
-        ) (List._∷_ (3, Rows.sc-here (Row.sInt Syntax.w32)) (List._∷_ (4, Rows.sc-here (Row.sInt Syntax.w32)) (List._∷_ (
-          5,
-          Rows.any-gone (Syntax.tyEnum (List._∷_ 98 (List._∷_
-              105 (List._∷_ 116 (List._∷_ 115 (List._∷_ 58 (List._∷_ 58 (List._∷_ 90 (List._∷_ 101 (List._∷_ 114 (List._∷_ 111 (List._∷_ 82 (List._∷_ 117 (List._∷_ 110 List.[]))))))))))))) (Syntax.ttcons
-              (Syntax.tcons (Syntax.tyInt Syntax.w64) Syntax.tnil) (Syntax.ttcons Syntax.tnil Syntax.ttnil))),
-        ) (List._∷_ (6, Rows.sc-here (Row.sInt Syntax.w64)) (List._∷_ (
-          7,
-          Rows.any-gone (Syntax.tyInt
-              Syntax.w32),
-        ) (List._∷_ (
-          8,
-          Rows.any-gone (Syntax.tyStruct (List._∷_ 98 (List._∷_ 105 (List._∷_ 116 (List._∷_ 115 (List._∷_ 58 (List._∷_ 58 (List._∷_ 66 (List._∷_ 105 (List._∷_ 116 (List._∷_
-              80 (List._∷_ 111 (List._∷_ 115 (List._∷_ 105 (List._∷_ 116 (List._∷_ 105 (List._∷_ 111 (List._∷_ 110 List.[]))))))))))))))))) (Syntax.tcons (Syntax.tyInt Syntax.w64) Syntax.tnil)),
-        ) (List._∷_
-            (9, Rows.any-gone (Syntax.tyInt Syntax.w32)) (List._∷_ (
-              10,
-              Rows.any-gone (Syntax.tyStruct (List._∷_ 98 (List._∷_ 105 (List._∷_ 116 (List._∷_ 115 (List._∷_ 58 (List._∷_ 58 (List._∷_ 66
-                  (List._∷_ 105 (List._∷_ 116 (List._∷_ 80 (List._∷_ 111 (List._∷_ 115 (List._∷_ 105 (List._∷_ 116 (List._∷_ 105 (List._∷_ 111 (List._∷_ 110 List.[]))))))))))))))))) (Syntax.tcons (Syntax.tyInt
-                  Syntax.w64) Syntax.tnil)),
-            ) (List._∷_ (11, Rows.any-gone (Syntax.tyRef Syntax.erased Syntax.mut (Held.behind Syntax.erased))) (List._∷_ (12, Rows.any-gone (Syntax.tyInt Syntax.w64))
-            (List._∷_ (13, Rows.sc-here Row.sBool) (List._∷_ (14, Rows.any-gone (Syntax.tyRef Syntax.erased Syntax.mut (Held.behind Syntax.erased))) (List._∷_ (
-              15,
-              Rows.any-gone (Syntax.tyRef
-                  Syntax.erased Syntax.imm (Held.behind Syntax.erased)),
-            ) List.[])))))))))))))))
+        g16 = λ at. List._∷_ e0 (List._∷_ (1, Rows.mref (Held.type (Syntax.named 1) (κs .1 .0)) (Syntax.tyRef (Syntax.named 0) Syntax.mut (Held.behind (Syntax.named 1))) 0) (List._∷_ e31 (List._∷_ e41
+            (List._∷_ e43 (List._∷_ e44 (List._∷_ e48 (List._∷_ e49 (List._∷_ e51 (List._∷_ e53 (List._∷_ e7 (List._∷_ e11 (List._∷_ e12 (List._∷_ e15 (List._∷_ e18 (List._∷_ e20 List.[])))))))))))))))
 
         abbrev g17 : (at : Nat.ℕ → Nat.ℕ) → List.List Row.Entry
-        g17 = λ at. List._∷_ (
-          0,
-          Rows.any-gone (Syntax.tyEnum (List._∷_ 99 (List._∷_ 111 (List._∷_ 100 (List._∷_ 101 (List._∷_ 58 (List._∷_ 58 (List._∷_ 67 (List._∷_ 111 (List._∷_ 100 (List._∷_ 101
-              (List._∷_ 100 List.[]))))))))))) (Syntax.ttcons (Syntax.tcons (Syntax.tyStruct (List._∷_ 99 (List._∷_ 111 (List._∷_ 100 (List._∷_ 101 (List._∷_ 58 (List._∷_ 58 (List._∷_ 67 (List._∷_ 111
-              (List._∷_ 100 (List._∷_ 101 List.[])))))))))) (Syntax.tcons (Syntax.tyInt Syntax.w64) (Syntax.tcons (Syntax.tyInt Syntax.w32) (Syntax.tcons Syntax.tyBool (Syntax.tcons (Syntax.tyStruct
-              (List._∷_ 98 (List._∷_ 105 (List._∷_ 116 (List._∷_ 115 (List._∷_ 58 (List._∷_ 58 (List._∷_ 66 (List._∷_ 105 (List._∷_ 116 (List._∷_ 80 (List._∷_ 111 (List._∷_ 115 (List._∷_ 105 (List._∷_ 116
-              (List._∷_ 105 (List._∷_ 111 (List._∷_ 110 List.[]))))))))))))))))) (Syntax.tcons (Syntax.tyInt Syntax.w64) Syntax.tnil)) Syntax.tnil))))) Syntax.tnil) (Syntax.ttcons Syntax.tnil
-              Syntax.ttnil))),
-        ) (List._∷_ (
-          1,
-          Rows.mref-owed (Held.type (Syntax.named 1) (κs .1 .0)) (Syntax.tyRef (Syntax.named 0) Syntax.mut (Held.behind (Syntax.named 1))) 0 3 (Row.lease (κs .0) (qs
-              .0)),
-        ) (List._∷_ (2, Rows.sc-here (Row.sInt Syntax.w32)) (List._∷_ (3, Rows.sc-here (Row.sInt Syntax.w32)) (List._∷_ (4, Rows.sc-here (Row.sInt Syntax.w32)) (List._∷_ (
-          5,
-          Rows.any-gone
-              (Syntax.tyEnum (List._∷_ 98 (List._∷_ 105 (List._∷_ 116 (List._∷_ 115 (List._∷_ 58 (List._∷_ 58 (List._∷_ 90 (List._∷_ 101 (List._∷_ 114 (List._∷_ 111 (List._∷_ 82 (List._∷_ 117 (List._∷_ 110
-              List.[]))))))))))))) (Syntax.ttcons (Syntax.tcons (Syntax.tyInt Syntax.w64) Syntax.tnil) (Syntax.ttcons Syntax.tnil Syntax.ttnil))),
-        ) (List._∷_ (6, Rows.sc-here (Row.sInt Syntax.w64))
-            (List._∷_ (7, Rows.any-gone (Syntax.tyInt Syntax.w32)) (List._∷_ (
-              8,
-              Rows.any-gone (Syntax.tyStruct (List._∷_ 98 (List._∷_ 105 (List._∷_ 116 (List._∷_ 115 (List._∷_ 58 (List._∷_ 58
-                  (List._∷_ 66 (List._∷_ 105 (List._∷_ 116 (List._∷_ 80 (List._∷_ 111 (List._∷_ 115 (List._∷_ 105 (List._∷_ 116 (List._∷_ 105 (List._∷_ 111 (List._∷_ 110 List.[]))))))))))))))))) (Syntax.tcons
-                  (Syntax.tyInt Syntax.w64) Syntax.tnil)),
-            ) (List._∷_ (9, Rows.any-gone (Syntax.tyInt Syntax.w32)) (List._∷_ (
-              10,
-              Rows.any-gone (Syntax.tyStruct (List._∷_ 98 (List._∷_ 105 (List._∷_ 116
-                  (List._∷_ 115 (List._∷_ 58 (List._∷_ 58 (List._∷_ 66 (List._∷_ 105 (List._∷_ 116 (List._∷_ 80 (List._∷_ 111 (List._∷_ 115 (List._∷_ 105 (List._∷_ 116 (List._∷_ 105 (List._∷_ 111 (List._∷_ 110
-                  List.[]))))))))))))))))) (Syntax.tcons (Syntax.tyInt Syntax.w64) Syntax.tnil)),
-            ) (List._∷_ (11, Rows.any-gone (Syntax.tyRef Syntax.erased Syntax.mut (Held.behind Syntax.erased))) (List._∷_
-            (12, Rows.any-gone (Syntax.tyInt Syntax.w64)) (List._∷_ (13, Rows.any-gone Syntax.tyBool) (List._∷_ (
-              14,
-              Rows.mref (Held.type (Syntax.named 1) (κs .1 .0)) (Syntax.tyRef Syntax.erased
-                  Syntax.mut (Held.behind Syntax.erased)) 3,
-            ) (List._∷_ (15, Rows.any-gone (Syntax.tyRef Syntax.erased Syntax.imm (Held.behind Syntax.erased))) List.[])))))))))))))))
+        g17 = λ at. List._∷_ e0 (List._∷_
+            (1, Rows.mref-owed (Held.type (Syntax.named 1) (κs .1 .0)) (Syntax.tyRef (Syntax.named 0) Syntax.mut (Held.behind (Syntax.named 1))) 0 3 (Row.lease (κs .0) (qs .0))) (List._∷_ e31 (List._∷_
+            e41 (List._∷_ e43 (List._∷_ e44 (List._∷_ e48 (List._∷_ e49 (List._∷_ e51 (List._∷_ e53 (List._∷_ e7 (List._∷_ e11 (List._∷_ e12 (List._∷_ e14 (List._∷_
+            (14, Rows.mref (Held.type (Syntax.named 1) (κs .1 .0)) (Syntax.tyRef Syntax.erased Syntax.mut (Held.behind Syntax.erased)) 3) (List._∷_ e20 List.[])))))))))))))))
 
         abbrev g18 : (at : Nat.ℕ → Nat.ℕ) → List.List Row.Entry
-        g18 = λ at. List._∷_ (
-          0,
-          Rows.any-gone (Syntax.tyEnum (List._∷_ 99 (List._∷_ 111 (List._∷_ 100 (List._∷_ 101 (List._∷_ 58 (List._∷_ 58 (List._∷_ 67 (List._∷_ 111 (List._∷_ 100 (List._∷_ 101
-              (List._∷_ 100 List.[]))))))))))) (Syntax.ttcons (Syntax.tcons (Syntax.tyStruct (List._∷_ 99 (List._∷_ 111 (List._∷_ 100 (List._∷_ 101 (List._∷_ 58 (List._∷_ 58 (List._∷_ 67 (List._∷_ 111
-              (List._∷_ 100 (List._∷_ 101 List.[])))))))))) (Syntax.tcons (Syntax.tyInt Syntax.w64) (Syntax.tcons (Syntax.tyInt Syntax.w32) (Syntax.tcons Syntax.tyBool (Syntax.tcons (Syntax.tyStruct
-              (List._∷_ 98 (List._∷_ 105 (List._∷_ 116 (List._∷_ 115 (List._∷_ 58 (List._∷_ 58 (List._∷_ 66 (List._∷_ 105 (List._∷_ 116 (List._∷_ 80 (List._∷_ 111 (List._∷_ 115 (List._∷_ 105 (List._∷_ 116
-              (List._∷_ 105 (List._∷_ 111 (List._∷_ 110 List.[]))))))))))))))))) (Syntax.tcons (Syntax.tyInt Syntax.w64) Syntax.tnil)) Syntax.tnil))))) Syntax.tnil) (Syntax.ttcons Syntax.tnil
-              Syntax.ttnil))),
-        ) (List._∷_ (
-          1,
-          Rows.mref-owed (Held.type (Syntax.named 1) (κs .1 .0)) (Syntax.tyRef (Syntax.named 0) Syntax.mut (Held.behind (Syntax.named 1))) 0 3 (Row.lease (κs .0) (qs
-              .0)),
-        ) (List._∷_ (2, Rows.sc-here (Row.sInt Syntax.w32)) (List._∷_ (3, Rows.sc-here (Row.sInt Syntax.w32)) (List._∷_ (4, Rows.sc-here (Row.sInt Syntax.w32)) (List._∷_ (
-          5,
-          Rows.any-gone
-              (Syntax.tyEnum (List._∷_ 98 (List._∷_ 105 (List._∷_ 116 (List._∷_ 115 (List._∷_ 58 (List._∷_ 58 (List._∷_ 90 (List._∷_ 101 (List._∷_ 114 (List._∷_ 111 (List._∷_ 82 (List._∷_ 117 (List._∷_ 110
-              List.[]))))))))))))) (Syntax.ttcons (Syntax.tcons (Syntax.tyInt Syntax.w64) Syntax.tnil) (Syntax.ttcons Syntax.tnil Syntax.ttnil))),
-        ) (List._∷_ (6, Rows.sc-here (Row.sInt Syntax.w64))
-            (List._∷_ (7, Rows.any-gone (Syntax.tyInt Syntax.w32)) (List._∷_ (
-              8,
-              Rows.any-gone (Syntax.tyStruct (List._∷_ 98 (List._∷_ 105 (List._∷_ 116 (List._∷_ 115 (List._∷_ 58 (List._∷_ 58
-                  (List._∷_ 66 (List._∷_ 105 (List._∷_ 116 (List._∷_ 80 (List._∷_ 111 (List._∷_ 115 (List._∷_ 105 (List._∷_ 116 (List._∷_ 105 (List._∷_ 111 (List._∷_ 110 List.[]))))))))))))))))) (Syntax.tcons
-                  (Syntax.tyInt Syntax.w64) Syntax.tnil)),
-            ) (List._∷_ (9, Rows.any-gone (Syntax.tyInt Syntax.w32)) (List._∷_ (
-              10,
-              Rows.any-gone (Syntax.tyStruct (List._∷_ 98 (List._∷_ 105 (List._∷_ 116
-                  (List._∷_ 115 (List._∷_ 58 (List._∷_ 58 (List._∷_ 66 (List._∷_ 105 (List._∷_ 116 (List._∷_ 80 (List._∷_ 111 (List._∷_ 115 (List._∷_ 105 (List._∷_ 116 (List._∷_ 105 (List._∷_ 111 (List._∷_ 110
-                  List.[]))))))))))))))))) (Syntax.tcons (Syntax.tyInt Syntax.w64) Syntax.tnil)),
-            ) (List._∷_ (11, Rows.any-gone (Syntax.tyRef Syntax.erased Syntax.mut (Held.behind Syntax.erased))) (List._∷_
-            (12, Rows.any-gone (Syntax.tyInt Syntax.w64)) (List._∷_ (13, Rows.any-gone Syntax.tyBool) (List._∷_ (
-              14,
-              Rows.mref (Held.type (Syntax.named 1) (κs .1 .0)) (Syntax.tyRef Syntax.erased
-                  Syntax.mut (Held.behind Syntax.erased)) 8,
-            ) (List._∷_ (15, Rows.any-gone (Syntax.tyRef Syntax.erased Syntax.imm (Held.behind Syntax.erased))) List.[])))))))))))))))
+        g18 = λ at. List._∷_ e0 (List._∷_
+            (1, Rows.mref-owed (Held.type (Syntax.named 1) (κs .1 .0)) (Syntax.tyRef (Syntax.named 0) Syntax.mut (Held.behind (Syntax.named 1))) 0 3 (Row.lease (κs .0) (qs .0))) (List._∷_ e31 (List._∷_
+            e41 (List._∷_ e43 (List._∷_ e44 (List._∷_ e48 (List._∷_ e49 (List._∷_ e51 (List._∷_ e53 (List._∷_ e7 (List._∷_ e11 (List._∷_ e12 (List._∷_ e14 (List._∷_
+            (14, Rows.mref (Held.type (Syntax.named 1) (κs .1 .0)) (Syntax.tyRef Syntax.erased Syntax.mut (Held.behind Syntax.erased)) 8) (List._∷_ e20 List.[])))))))))))))))
 
         abbrev g19 : (at : Nat.ℕ → Nat.ℕ) → List.List Row.Entry
-        g19 = λ at. List._∷_ (
-          0,
-          Rows.any-gone (Syntax.tyEnum (List._∷_ 99 (List._∷_ 111 (List._∷_ 100 (List._∷_ 101 (List._∷_ 58 (List._∷_ 58 (List._∷_ 67 (List._∷_ 111 (List._∷_ 100 (List._∷_ 101
-              (List._∷_ 100 List.[]))))))))))) (Syntax.ttcons (Syntax.tcons (Syntax.tyStruct (List._∷_ 99 (List._∷_ 111 (List._∷_ 100 (List._∷_ 101 (List._∷_ 58 (List._∷_ 58 (List._∷_ 67 (List._∷_ 111
-              (List._∷_ 100 (List._∷_ 101 List.[])))))))))) (Syntax.tcons (Syntax.tyInt Syntax.w64) (Syntax.tcons (Syntax.tyInt Syntax.w32) (Syntax.tcons Syntax.tyBool (Syntax.tcons (Syntax.tyStruct
-              (List._∷_ 98 (List._∷_ 105 (List._∷_ 116 (List._∷_ 115 (List._∷_ 58 (List._∷_ 58 (List._∷_ 66 (List._∷_ 105 (List._∷_ 116 (List._∷_ 80 (List._∷_ 111 (List._∷_ 115 (List._∷_ 105 (List._∷_ 116
-              (List._∷_ 105 (List._∷_ 111 (List._∷_ 110 List.[]))))))))))))))))) (Syntax.tcons (Syntax.tyInt Syntax.w64) Syntax.tnil)) Syntax.tnil))))) Syntax.tnil) (Syntax.ttcons Syntax.tnil
-              Syntax.ttnil))),
-        ) (List._∷_ (
-          1,
-          Rows.mref-owed (Held.type (Syntax.named 1) (κs .1 .0)) (Syntax.tyRef (Syntax.named 0) Syntax.mut (Held.behind (Syntax.named 1))) 0 3 (Row.lease (κs .0) (qs
-              .0)),
-        ) (List._∷_ (2, Rows.sc-here (Row.sInt Syntax.w32)) (List._∷_ (3, Rows.sc-here (Row.sInt Syntax.w32)) (List._∷_ (4, Rows.sc-here (Row.sInt Syntax.w32)) (List._∷_ (
-          5,
-          Rows.any-gone
-              (Syntax.tyEnum (List._∷_ 98 (List._∷_ 105 (List._∷_ 116 (List._∷_ 115 (List._∷_ 58 (List._∷_ 58 (List._∷_ 90 (List._∷_ 101 (List._∷_ 114 (List._∷_ 111 (List._∷_ 82 (List._∷_ 117 (List._∷_ 110
-              List.[]))))))))))))) (Syntax.ttcons (Syntax.tcons (Syntax.tyInt Syntax.w64) Syntax.tnil) (Syntax.ttcons Syntax.tnil Syntax.ttnil))),
-        ) (List._∷_ (6, Rows.sc-here (Row.sInt Syntax.w64))
-            (List._∷_ (7, Rows.any-gone (Syntax.tyInt Syntax.w32)) (List._∷_ (
-              8,
-              Rows.any-gone (Syntax.tyStruct (List._∷_ 98 (List._∷_ 105 (List._∷_ 116 (List._∷_ 115 (List._∷_ 58 (List._∷_ 58
-                  (List._∷_ 66 (List._∷_ 105 (List._∷_ 116 (List._∷_ 80 (List._∷_ 111 (List._∷_ 115 (List._∷_ 105 (List._∷_ 116 (List._∷_ 105 (List._∷_ 111 (List._∷_ 110 List.[]))))))))))))))))) (Syntax.tcons
-                  (Syntax.tyInt Syntax.w64) Syntax.tnil)),
-            ) (List._∷_ (9, Rows.any-gone (Syntax.tyInt Syntax.w32)) (List._∷_ (
-              10,
-              Rows.any-gone (Syntax.tyStruct (List._∷_ 98 (List._∷_ 105 (List._∷_ 116
-                  (List._∷_ 115 (List._∷_ 58 (List._∷_ 58 (List._∷_ 66 (List._∷_ 105 (List._∷_ 116 (List._∷_ 80 (List._∷_ 111 (List._∷_ 115 (List._∷_ 105 (List._∷_ 116 (List._∷_ 105 (List._∷_ 111 (List._∷_ 110
-                  List.[]))))))))))))))))) (Syntax.tcons (Syntax.tyInt Syntax.w64) Syntax.tnil)),
-            ) (List._∷_ (11, Rows.any-gone (Syntax.tyRef Syntax.erased Syntax.mut (Held.behind Syntax.erased))) (List._∷_
-            (12, Rows.any-gone (Syntax.tyInt Syntax.w64)) (List._∷_ (13, Rows.any-gone Syntax.tyBool) (List._∷_ (
-              14,
-              AtSlots.mrefAt 2 (λ κc. Held.type (Syntax.named 1) (κc .1 .0)) Held.Value (λ κc v.
-                  v) (List._∷_ 8 (List._∷_ 1 List.[])) (Syntax.tyRef Syntax.erased Syntax.mut (Held.behind Syntax.erased)) 8,
-            ) (List._∷_ (
-              15,
-              Rows.any-gone (Syntax.tyRef Syntax.erased Syntax.imm (Held.behind
-                  Syntax.erased)),
-            ) List.[])))))))))))))))
+        g19 = λ at. List._∷_ e0 (List._∷_
+            (1, Rows.mref-owed (Held.type (Syntax.named 1) (κs .1 .0)) (Syntax.tyRef (Syntax.named 0) Syntax.mut (Held.behind (Syntax.named 1))) 0 3 (Row.lease (κs .0) (qs .0))) (List._∷_ e31 (List._∷_
+            e41 (List._∷_ e43 (List._∷_ e44 (List._∷_ e48 (List._∷_ e49 (List._∷_ e51 (List._∷_ e53 (List._∷_ e7 (List._∷_ e11 (List._∷_ e12 (List._∷_ e14 (List._∷_ e17 (List._∷_ e20
+            List.[])))))))))))))))
 
         abbrev g20 : (at : Nat.ℕ → Nat.ℕ) → List.List Row.Entry
-        g20 = λ at. List._∷_ (
-          0,
-          Rows.any-gone (Syntax.tyEnum (List._∷_ 99 (List._∷_ 111 (List._∷_ 100 (List._∷_ 101 (List._∷_ 58 (List._∷_ 58 (List._∷_ 67 (List._∷_ 111 (List._∷_ 100 (List._∷_ 101
-              (List._∷_ 100 List.[]))))))))))) (Syntax.ttcons (Syntax.tcons (Syntax.tyStruct (List._∷_ 99 (List._∷_ 111 (List._∷_ 100 (List._∷_ 101 (List._∷_ 58 (List._∷_ 58 (List._∷_ 67 (List._∷_ 111
-              (List._∷_ 100 (List._∷_ 101 List.[])))))))))) (Syntax.tcons (Syntax.tyInt Syntax.w64) (Syntax.tcons (Syntax.tyInt Syntax.w32) (Syntax.tcons Syntax.tyBool (Syntax.tcons (Syntax.tyStruct
-              (List._∷_ 98 (List._∷_ 105 (List._∷_ 116 (List._∷_ 115 (List._∷_ 58 (List._∷_ 58 (List._∷_ 66 (List._∷_ 105 (List._∷_ 116 (List._∷_ 80 (List._∷_ 111 (List._∷_ 115 (List._∷_ 105 (List._∷_ 116
-              (List._∷_ 105 (List._∷_ 111 (List._∷_ 110 List.[]))))))))))))))))) (Syntax.tcons (Syntax.tyInt Syntax.w64) Syntax.tnil)) Syntax.tnil))))) Syntax.tnil) (Syntax.ttcons Syntax.tnil
-              Syntax.ttnil))),
-        ) (List._∷_ (
-          1,
-          Rows.mref-owed (Held.type (Syntax.named 1) (κs .1 .0)) (Syntax.tyRef (Syntax.named 0) Syntax.mut (Held.behind (Syntax.named 1))) 0 3 (Row.lease (κs .0) (qs
-              .0)),
-        ) (List._∷_ (2, Rows.sc-here (Row.sInt Syntax.w32)) (List._∷_ (3, Rows.sc-here (Row.sInt Syntax.w32)) (List._∷_ (4, Rows.sc-here (Row.sInt Syntax.w32)) (List._∷_ (
-          5,
-          Rows.any-gone
-              (Syntax.tyEnum (List._∷_ 98 (List._∷_ 105 (List._∷_ 116 (List._∷_ 115 (List._∷_ 58 (List._∷_ 58 (List._∷_ 90 (List._∷_ 101 (List._∷_ 114 (List._∷_ 111 (List._∷_ 82 (List._∷_ 117 (List._∷_ 110
-              List.[]))))))))))))) (Syntax.ttcons (Syntax.tcons (Syntax.tyInt Syntax.w64) Syntax.tnil) (Syntax.ttcons Syntax.tnil Syntax.ttnil))),
-        ) (List._∷_ (6, Rows.sc-here (Row.sInt Syntax.w64))
-            (List._∷_ (7, Rows.sc-here (Row.sInt Syntax.w32)) (List._∷_ (
-              8,
-              Rows.any-gone (Syntax.tyStruct (List._∷_ 98 (List._∷_ 105 (List._∷_ 116 (List._∷_ 115 (List._∷_ 58 (List._∷_ 58 (List._∷_ 66
-                  (List._∷_ 105 (List._∷_ 116 (List._∷_ 80 (List._∷_ 111 (List._∷_ 115 (List._∷_ 105 (List._∷_ 116 (List._∷_ 105 (List._∷_ 111 (List._∷_ 110 List.[]))))))))))))))))) (Syntax.tcons (Syntax.tyInt
-                  Syntax.w64) Syntax.tnil)),
-            ) (List._∷_ (9, Rows.any-gone (Syntax.tyInt Syntax.w32)) (List._∷_ (
-              10,
-              Rows.any-gone (Syntax.tyStruct (List._∷_ 98 (List._∷_ 105 (List._∷_ 116 (List._∷_ 115
-                  (List._∷_ 58 (List._∷_ 58 (List._∷_ 66 (List._∷_ 105 (List._∷_ 116 (List._∷_ 80 (List._∷_ 111 (List._∷_ 115 (List._∷_ 105 (List._∷_ 116 (List._∷_ 105 (List._∷_ 111 (List._∷_ 110
-                  List.[]))))))))))))))))) (Syntax.tcons (Syntax.tyInt Syntax.w64) Syntax.tnil)),
-            ) (List._∷_ (11, Rows.any-gone (Syntax.tyRef Syntax.erased Syntax.mut (Held.behind Syntax.erased))) (List._∷_
-            (12, Rows.any-gone (Syntax.tyInt Syntax.w64)) (List._∷_ (13, Rows.any-gone Syntax.tyBool) (List._∷_ (
-              14,
-              AtSlots.mleftAt 2 (λ κc. Held.type (Syntax.named 1) (κc .1 .0)) Held.Value (λ κc v.
-                  v) (List._∷_ 8 (List._∷_ 1 List.[])) (Syntax.tyRef Syntax.erased Syntax.mut (Held.behind Syntax.erased)),
-            ) (List._∷_ (
-              15,
-              Rows.any-gone (Syntax.tyRef Syntax.erased Syntax.imm (Held.behind
-                  Syntax.erased)),
-            ) List.[])))))))))))))))
+        g20 = λ at. List._∷_ e0 (List._∷_
+            (1, Rows.mref-owed (Held.type (Syntax.named 1) (κs .1 .0)) (Syntax.tyRef (Syntax.named 0) Syntax.mut (Held.behind (Syntax.named 1))) 0 3 (Row.lease (κs .0) (qs .0))) (List._∷_ e31 (List._∷_
+            e41 (List._∷_ e43 (List._∷_ e44 (List._∷_ e48 (List._∷_ e50 (List._∷_ e51 (List._∷_ e53 (List._∷_ e7 (List._∷_ e11 (List._∷_ e12 (List._∷_ e14 (List._∷_ e16 (List._∷_ e20
+            List.[])))))))))))))))
 
         abbrev g21 : (at : Nat.ℕ → Nat.ℕ) → List.List Row.Entry
-        g21 = λ at. List._∷_ (
-          0,
-          Rows.any-gone (Syntax.tyEnum (List._∷_ 99 (List._∷_ 111 (List._∷_ 100 (List._∷_ 101 (List._∷_ 58 (List._∷_ 58 (List._∷_ 67 (List._∷_ 111 (List._∷_ 100 (List._∷_ 101
-              (List._∷_ 100 List.[]))))))))))) (Syntax.ttcons (Syntax.tcons (Syntax.tyStruct (List._∷_ 99 (List._∷_ 111 (List._∷_ 100 (List._∷_ 101 (List._∷_ 58 (List._∷_ 58 (List._∷_ 67 (List._∷_ 111
-              (List._∷_ 100 (List._∷_ 101 List.[])))))))))) (Syntax.tcons (Syntax.tyInt Syntax.w64) (Syntax.tcons (Syntax.tyInt Syntax.w32) (Syntax.tcons Syntax.tyBool (Syntax.tcons (Syntax.tyStruct
-              (List._∷_ 98 (List._∷_ 105 (List._∷_ 116 (List._∷_ 115 (List._∷_ 58 (List._∷_ 58 (List._∷_ 66 (List._∷_ 105 (List._∷_ 116 (List._∷_ 80 (List._∷_ 111 (List._∷_ 115 (List._∷_ 105 (List._∷_ 116
-              (List._∷_ 105 (List._∷_ 111 (List._∷_ 110 List.[]))))))))))))))))) (Syntax.tcons (Syntax.tyInt Syntax.w64) Syntax.tnil)) Syntax.tnil))))) Syntax.tnil) (Syntax.ttcons Syntax.tnil
-              Syntax.ttnil))),
-        ) (List._∷_ (1, Rows.mref (Held.type (Syntax.named 1) (κs .1 .0)) (Syntax.tyRef (Syntax.named 0) Syntax.mut (Held.behind (Syntax.named 1))) 0) (List._∷_ (
-          2,
-          Rows.sc-here
-              (Row.sInt Syntax.w32),
-        ) (List._∷_ (3, Rows.sc-here (Row.sInt Syntax.w32)) (List._∷_ (4, Rows.sc-here (Row.sInt Syntax.w32)) (List._∷_ (
-          5,
-          Rows.any-gone (Syntax.tyEnum (List._∷_ 98 (List._∷_
-              105 (List._∷_ 116 (List._∷_ 115 (List._∷_ 58 (List._∷_ 58 (List._∷_ 90 (List._∷_ 101 (List._∷_ 114 (List._∷_ 111 (List._∷_ 82 (List._∷_ 117 (List._∷_ 110 List.[]))))))))))))) (Syntax.ttcons
-              (Syntax.tcons (Syntax.tyInt Syntax.w64) Syntax.tnil) (Syntax.ttcons Syntax.tnil Syntax.ttnil))),
-        ) (List._∷_ (6, Rows.sc-here (Row.sInt Syntax.w64)) (List._∷_ (
-          7,
-          Rows.sc-here (Row.sInt
-              Syntax.w32),
-        ) (List._∷_ (
-          8,
-          Rows.any-gone (Syntax.tyStruct (List._∷_ 98 (List._∷_ 105 (List._∷_ 116 (List._∷_ 115 (List._∷_ 58 (List._∷_ 58 (List._∷_ 66 (List._∷_ 105 (List._∷_ 116 (List._∷_
-              80 (List._∷_ 111 (List._∷_ 115 (List._∷_ 105 (List._∷_ 116 (List._∷_ 105 (List._∷_ 111 (List._∷_ 110 List.[]))))))))))))))))) (Syntax.tcons (Syntax.tyInt Syntax.w64) Syntax.tnil)),
-        ) (List._∷_
-            (9, Rows.any-gone (Syntax.tyInt Syntax.w32)) (List._∷_ (
-              10,
-              Rows.any-gone (Syntax.tyStruct (List._∷_ 98 (List._∷_ 105 (List._∷_ 116 (List._∷_ 115 (List._∷_ 58 (List._∷_ 58 (List._∷_ 66
-                  (List._∷_ 105 (List._∷_ 116 (List._∷_ 80 (List._∷_ 111 (List._∷_ 115 (List._∷_ 105 (List._∷_ 116 (List._∷_ 105 (List._∷_ 111 (List._∷_ 110 List.[]))))))))))))))))) (Syntax.tcons (Syntax.tyInt
-                  Syntax.w64) Syntax.tnil)),
-            ) (List._∷_ (11, Rows.any-gone (Syntax.tyRef Syntax.erased Syntax.mut (Held.behind Syntax.erased))) (List._∷_ (12, Rows.any-gone (Syntax.tyInt Syntax.w64))
-            (List._∷_ (13, Rows.any-gone Syntax.tyBool) (List._∷_ (14, Rows.any-gone (Syntax.tyRef Syntax.erased Syntax.mut (Held.behind Syntax.erased))) (List._∷_ (
-              15,
-              Rows.any-gone (Syntax.tyRef
-                  Syntax.erased Syntax.imm (Held.behind Syntax.erased)),
-            ) List.[])))))))))))))))
+        g21 = λ at. List._∷_ e0 (List._∷_ (1, Rows.mref (Held.type (Syntax.named 1) (κs .1 .0)) (Syntax.tyRef (Syntax.named 0) Syntax.mut (Held.behind (Syntax.named 1))) 0) (List._∷_ e31 (List._∷_ e41
+            (List._∷_ e43 (List._∷_ e44 (List._∷_ e48 (List._∷_ e50 (List._∷_ e51 (List._∷_ e53 (List._∷_ e7 (List._∷_ e11 (List._∷_ e12 (List._∷_ e14 (List._∷_ e18 (List._∷_ e20 List.[])))))))))))))))
 
         abbrev g22 : (at : Nat.ℕ → Nat.ℕ) → List.List Row.Entry
-        g22 = λ at. List._∷_ (
-          0,
-          Rows.any-gone (Syntax.tyEnum (List._∷_ 99 (List._∷_ 111 (List._∷_ 100 (List._∷_ 101 (List._∷_ 58 (List._∷_ 58 (List._∷_ 67 (List._∷_ 111 (List._∷_ 100 (List._∷_ 101
-              (List._∷_ 100 List.[]))))))))))) (Syntax.ttcons (Syntax.tcons (Syntax.tyStruct (List._∷_ 99 (List._∷_ 111 (List._∷_ 100 (List._∷_ 101 (List._∷_ 58 (List._∷_ 58 (List._∷_ 67 (List._∷_ 111
-              (List._∷_ 100 (List._∷_ 101 List.[])))))))))) (Syntax.tcons (Syntax.tyInt Syntax.w64) (Syntax.tcons (Syntax.tyInt Syntax.w32) (Syntax.tcons Syntax.tyBool (Syntax.tcons (Syntax.tyStruct
-              (List._∷_ 98 (List._∷_ 105 (List._∷_ 116 (List._∷_ 115 (List._∷_ 58 (List._∷_ 58 (List._∷_ 66 (List._∷_ 105 (List._∷_ 116 (List._∷_ 80 (List._∷_ 111 (List._∷_ 115 (List._∷_ 105 (List._∷_ 116
-              (List._∷_ 105 (List._∷_ 111 (List._∷_ 110 List.[]))))))))))))))))) (Syntax.tcons (Syntax.tyInt Syntax.w64) Syntax.tnil)) Syntax.tnil))))) Syntax.tnil) (Syntax.ttcons Syntax.tnil
-              Syntax.ttnil))),
-        ) (List._∷_ (
-          1,
-          Reshare.mref-owedS (Held.type (Syntax.named 1) (κs .1 .0)) (Syntax.tyRef (Syntax.named 0) Syntax.mut (Held.behind (Syntax.named 1))) 0 4 (Row.lease (κs .0)
-              (qs .0)),
-        ) (List._∷_ (2, Rows.sc-here (Row.sInt Syntax.w32)) (List._∷_ (3, Rows.sc-here (Row.sInt Syntax.w32)) (List._∷_ (4, Rows.sc-here (Row.sInt Syntax.w32)) (List._∷_ (
-          5,
-          Rows.any-gone (Syntax.tyEnum (List._∷_ 98 (List._∷_ 105 (List._∷_ 116 (List._∷_ 115 (List._∷_ 58 (List._∷_ 58 (List._∷_ 90 (List._∷_ 101 (List._∷_ 114 (List._∷_ 111 (List._∷_ 82 (List._∷_ 117
-              (List._∷_ 110 List.[]))))))))))))) (Syntax.ttcons (Syntax.tcons (Syntax.tyInt Syntax.w64) Syntax.tnil) (Syntax.ttcons Syntax.tnil Syntax.ttnil))),
-        ) (List._∷_ (
-          6,
-          Rows.sc-here (Row.sInt
-              Syntax.w64),
-        ) (List._∷_ (7, Rows.sc-here (Row.sInt Syntax.w32)) (List._∷_ (
-          8,
-          Rows.any-gone (Syntax.tyStruct (List._∷_ 98 (List._∷_ 105 (List._∷_ 116 (List._∷_ 115 (List._∷_ 58 (List._∷_ 58
-              (List._∷_ 66 (List._∷_ 105 (List._∷_ 116 (List._∷_ 80 (List._∷_ 111 (List._∷_ 115 (List._∷_ 105 (List._∷_ 116 (List._∷_ 105 (List._∷_ 111 (List._∷_ 110 List.[]))))))))))))))))) (Syntax.tcons
-              (Syntax.tyInt Syntax.w64) Syntax.tnil)),
-        ) (List._∷_ (9, Rows.any-gone (Syntax.tyInt Syntax.w32)) (List._∷_ (
-          10,
-          Rows.any-gone (Syntax.tyStruct (List._∷_ 98 (List._∷_ 105 (List._∷_ 116
-              (List._∷_ 115 (List._∷_ 58 (List._∷_ 58 (List._∷_ 66 (List._∷_ 105 (List._∷_ 116 (List._∷_ 80 (List._∷_ 111 (List._∷_ 115 (List._∷_ 105 (List._∷_ 116 (List._∷_ 105 (List._∷_ 111 (List._∷_ 110
-              List.[]))))))))))))))))) (Syntax.tcons (Syntax.tyInt Syntax.w64) Syntax.tnil)),
-        ) (List._∷_ (11, Rows.any-gone (Syntax.tyRef Syntax.erased Syntax.mut (Held.behind Syntax.erased))) (List._∷_
-            (12, Rows.any-gone (Syntax.tyInt Syntax.w64)) (List._∷_ (13, Rows.any-gone Syntax.tyBool) (List._∷_ (
-              14,
-              Rows.any-gone (Syntax.tyRef Syntax.erased Syntax.mut (Held.behind Syntax.erased)),
-            ) (List._∷_ (15, Rows.sref (Held.type (Syntax.named 1) (κs .1 .0)) (Syntax.tyRef Syntax.erased Syntax.imm (Held.behind Syntax.erased)) 4) List.[])))))))))))))))
+        g22 = λ at. List._∷_ e0 (List._∷_
+            (1, Reshare.mref-owedS (Held.type (Syntax.named 1) (κs .1 .0)) (Syntax.tyRef (Syntax.named 0) Syntax.mut (Held.behind (Syntax.named 1))) 0 4 (Row.lease (κs .0) (qs .0))) (List._∷_ e31
+            (List._∷_ e41 (List._∷_ e43 (List._∷_ e44 (List._∷_ e48 (List._∷_ e50 (List._∷_ e51 (List._∷_ e53 (List._∷_ e7 (List._∷_ e11 (List._∷_ e12 (List._∷_ e14 (List._∷_ e18 (List._∷_
+            (15, Rows.sref (Held.type (Syntax.named 1) (κs .1 .0)) (Syntax.tyRef Syntax.erased Syntax.imm (Held.behind Syntax.erased)) 4) List.[])))))))))))))))
 
         abbrev g23 : (at : Nat.ℕ → Nat.ℕ) → List.List Row.Entry
-        g23 = λ at. List._∷_ (
-          0,
-          Rows.any-gone (Syntax.tyEnum (List._∷_ 99 (List._∷_ 111 (List._∷_ 100 (List._∷_ 101 (List._∷_ 58 (List._∷_ 58 (List._∷_ 67 (List._∷_ 111 (List._∷_ 100 (List._∷_ 101
-              (List._∷_ 100 List.[]))))))))))) (Syntax.ttcons (Syntax.tcons (Syntax.tyStruct (List._∷_ 99 (List._∷_ 111 (List._∷_ 100 (List._∷_ 101 (List._∷_ 58 (List._∷_ 58 (List._∷_ 67 (List._∷_ 111
-              (List._∷_ 100 (List._∷_ 101 List.[])))))))))) (Syntax.tcons (Syntax.tyInt Syntax.w64) (Syntax.tcons (Syntax.tyInt Syntax.w32) (Syntax.tcons Syntax.tyBool (Syntax.tcons (Syntax.tyStruct
-              (List._∷_ 98 (List._∷_ 105 (List._∷_ 116 (List._∷_ 115 (List._∷_ 58 (List._∷_ 58 (List._∷_ 66 (List._∷_ 105 (List._∷_ 116 (List._∷_ 80 (List._∷_ 111 (List._∷_ 115 (List._∷_ 105 (List._∷_ 116
-              (List._∷_ 105 (List._∷_ 111 (List._∷_ 110 List.[]))))))))))))))))) (Syntax.tcons (Syntax.tyInt Syntax.w64) Syntax.tnil)) Syntax.tnil))))) Syntax.tnil) (Syntax.ttcons Syntax.tnil
-              Syntax.ttnil))),
-        ) (List._∷_ (
-          1,
-          Reshare.mref-owedS (Held.type (Syntax.named 1) (κs .1 .0)) (Syntax.tyRef (Syntax.named 0) Syntax.mut (Held.behind (Syntax.named 1))) 0 4 (Row.lease (κs .0)
-              (qs .0)),
-        ) (List._∷_ (2, Rows.sc-here (Row.sInt Syntax.w32)) (List._∷_ (3, Rows.sc-here (Row.sInt Syntax.w32)) (List._∷_ (4, Rows.sc-here (Row.sInt Syntax.w32)) (List._∷_ (
-          5,
-          Rows.any-gone (Syntax.tyEnum (List._∷_ 98 (List._∷_ 105 (List._∷_ 116 (List._∷_ 115 (List._∷_ 58 (List._∷_ 58 (List._∷_ 90 (List._∷_ 101 (List._∷_ 114 (List._∷_ 111 (List._∷_ 82 (List._∷_ 117
-              (List._∷_ 110 List.[]))))))))))))) (Syntax.ttcons (Syntax.tcons (Syntax.tyInt Syntax.w64) Syntax.tnil) (Syntax.ttcons Syntax.tnil Syntax.ttnil))),
-        ) (List._∷_ (
-          6,
-          Rows.sc-here (Row.sInt
-              Syntax.w64),
-        ) (List._∷_ (7, Rows.sc-here (Row.sInt Syntax.w32)) (List._∷_ (
-          8,
-          Rows.any-gone (Syntax.tyStruct (List._∷_ 98 (List._∷_ 105 (List._∷_ 116 (List._∷_ 115 (List._∷_ 58 (List._∷_ 58
-              (List._∷_ 66 (List._∷_ 105 (List._∷_ 116 (List._∷_ 80 (List._∷_ 111 (List._∷_ 115 (List._∷_ 105 (List._∷_ 116 (List._∷_ 105 (List._∷_ 111 (List._∷_ 110 List.[]))))))))))))))))) (Syntax.tcons
-              (Syntax.tyInt Syntax.w64) Syntax.tnil)),
-        ) (List._∷_ (9, Rows.any-gone (Syntax.tyInt Syntax.w32)) (List._∷_ (
-          10,
-          Rows.any-gone (Syntax.tyStruct (List._∷_ 98 (List._∷_ 105 (List._∷_ 116
-              (List._∷_ 115 (List._∷_ 58 (List._∷_ 58 (List._∷_ 66 (List._∷_ 105 (List._∷_ 116 (List._∷_ 80 (List._∷_ 111 (List._∷_ 115 (List._∷_ 105 (List._∷_ 116 (List._∷_ 105 (List._∷_ 111 (List._∷_ 110
-              List.[]))))))))))))))))) (Syntax.tcons (Syntax.tyInt Syntax.w64) Syntax.tnil)),
-        ) (List._∷_ (11, Rows.any-gone (Syntax.tyRef Syntax.erased Syntax.mut (Held.behind Syntax.erased))) (List._∷_
-            (12, Rows.any-gone (Syntax.tyInt Syntax.w64)) (List._∷_ (13, Rows.any-gone Syntax.tyBool) (List._∷_ (
-              14,
-              Rows.any-gone (Syntax.tyRef Syntax.erased Syntax.mut (Held.behind Syntax.erased)),
-            ) (List._∷_ (15, Rows.sref (Held.type (Syntax.named 1) (κs .1 .0)) (Syntax.tyRef Syntax.erased Syntax.imm (Held.behind Syntax.erased)) 9) List.[])))))))))))))))
+        g23 = λ at. List._∷_ e0 (List._∷_
+            (1, Reshare.mref-owedS (Held.type (Syntax.named 1) (κs .1 .0)) (Syntax.tyRef (Syntax.named 0) Syntax.mut (Held.behind (Syntax.named 1))) 0 4 (Row.lease (κs .0) (qs .0))) (List._∷_ e31
+            (List._∷_ e41 (List._∷_ e43 (List._∷_ e44 (List._∷_ e48 (List._∷_ e50 (List._∷_ e51 (List._∷_ e53 (List._∷_ e7 (List._∷_ e11 (List._∷_ e12 (List._∷_ e14 (List._∷_ e18 (List._∷_
+            (15, Rows.sref (Held.type (Syntax.named 1) (κs .1 .0)) (Syntax.tyRef Syntax.erased Syntax.imm (Held.behind Syntax.erased)) 9) List.[])))))))))))))))
 
         abbrev g24 : (at : Nat.ℕ → Nat.ℕ) → List.List Row.Entry
-        g24 = λ at. List._∷_ (
-          0,
-          Rows.any-gone (Syntax.tyEnum (List._∷_ 99 (List._∷_ 111 (List._∷_ 100 (List._∷_ 101 (List._∷_ 58 (List._∷_ 58 (List._∷_ 67 (List._∷_ 111 (List._∷_ 100 (List._∷_ 101
-              (List._∷_ 100 List.[]))))))))))) (Syntax.ttcons (Syntax.tcons (Syntax.tyStruct (List._∷_ 99 (List._∷_ 111 (List._∷_ 100 (List._∷_ 101 (List._∷_ 58 (List._∷_ 58 (List._∷_ 67 (List._∷_ 111
-              (List._∷_ 100 (List._∷_ 101 List.[])))))))))) (Syntax.tcons (Syntax.tyInt Syntax.w64) (Syntax.tcons (Syntax.tyInt Syntax.w32) (Syntax.tcons Syntax.tyBool (Syntax.tcons (Syntax.tyStruct
-              (List._∷_ 98 (List._∷_ 105 (List._∷_ 116 (List._∷_ 115 (List._∷_ 58 (List._∷_ 58 (List._∷_ 66 (List._∷_ 105 (List._∷_ 116 (List._∷_ 80 (List._∷_ 111 (List._∷_ 115 (List._∷_ 105 (List._∷_ 116
-              (List._∷_ 105 (List._∷_ 111 (List._∷_ 110 List.[]))))))))))))))))) (Syntax.tcons (Syntax.tyInt Syntax.w64) Syntax.tnil)) Syntax.tnil))))) Syntax.tnil) (Syntax.ttcons Syntax.tnil
-              Syntax.ttnil))),
-        ) (List._∷_ (
-          1,
-          Reshare.mref-owedS (Held.type (Syntax.named 1) (κs .1 .0)) (Syntax.tyRef (Syntax.named 0) Syntax.mut (Held.behind (Syntax.named 1))) 0 4 (Row.lease (κs .0)
-              (qs .0)),
-        ) (List._∷_ (2, Rows.sc-here (Row.sInt Syntax.w32)) (List._∷_ (3, Rows.sc-here (Row.sInt Syntax.w32)) (List._∷_ (4, Rows.sc-here (Row.sInt Syntax.w32)) (List._∷_ (
-          5,
-          Rows.any-gone (Syntax.tyEnum (List._∷_ 98 (List._∷_ 105 (List._∷_ 116 (List._∷_ 115 (List._∷_ 58 (List._∷_ 58 (List._∷_ 90 (List._∷_ 101 (List._∷_ 114 (List._∷_ 111 (List._∷_ 82 (List._∷_ 117
-              (List._∷_ 110 List.[]))))))))))))) (Syntax.ttcons (Syntax.tcons (Syntax.tyInt Syntax.w64) Syntax.tnil) (Syntax.ttcons Syntax.tnil Syntax.ttnil))),
-        ) (List._∷_ (
-          6,
-          Rows.sc-here (Row.sInt
-              Syntax.w64),
-        ) (List._∷_ (7, Rows.sc-here (Row.sInt Syntax.w32)) (List._∷_ (
-          8,
-          Rows.any-gone (Syntax.tyStruct (List._∷_ 98 (List._∷_ 105 (List._∷_ 116 (List._∷_ 115 (List._∷_ 58 (List._∷_ 58
-              (List._∷_ 66 (List._∷_ 105 (List._∷_ 116 (List._∷_ 80 (List._∷_ 111 (List._∷_ 115 (List._∷_ 105 (List._∷_ 116 (List._∷_ 105 (List._∷_ 111 (List._∷_ 110 List.[]))))))))))))))))) (Syntax.tcons
-              (Syntax.tyInt Syntax.w64) Syntax.tnil)),
-        ) (List._∷_ (9, Rows.any-gone (Syntax.tyInt Syntax.w32)) (List._∷_ (
-          10,
-          Rows.any-gone (Syntax.tyStruct (List._∷_ 98 (List._∷_ 105 (List._∷_ 116
-              (List._∷_ 115 (List._∷_ 58 (List._∷_ 58 (List._∷_ 66 (List._∷_ 105 (List._∷_ 116 (List._∷_ 80 (List._∷_ 111 (List._∷_ 115 (List._∷_ 105 (List._∷_ 116 (List._∷_ 105 (List._∷_ 111 (List._∷_ 110
-              List.[]))))))))))))))))) (Syntax.tcons (Syntax.tyInt Syntax.w64) Syntax.tnil)),
-        ) (List._∷_ (11, Rows.any-gone (Syntax.tyRef Syntax.erased Syntax.mut (Held.behind Syntax.erased))) (List._∷_
-            (12, Rows.any-gone (Syntax.tyInt Syntax.w64)) (List._∷_ (13, Rows.any-gone Syntax.tyBool) (List._∷_ (
-              14,
-              Rows.any-gone (Syntax.tyRef Syntax.erased Syntax.mut (Held.behind Syntax.erased)),
-            ) (List._∷_ (
-              15,
-              AtSlots.srefAt 2 (λ κc. Held.type (Syntax.named 1) (κc .1 .0)) Held.Value (λ κc v. v) (List._∷_ 9 (List._∷_ 1 List.[])) (Syntax.tyRef Syntax.erased Syntax.imm (Held.behind
-                  Syntax.erased)) 9,
-            ) List.[])))))))))))))))
+        g24 = λ at. List._∷_ e0 (List._∷_
+            (1, Reshare.mref-owedS (Held.type (Syntax.named 1) (κs .1 .0)) (Syntax.tyRef (Syntax.named 0) Syntax.mut (Held.behind (Syntax.named 1))) 0 4 (Row.lease (κs .0) (qs .0))) (List._∷_ e31
+            (List._∷_ e41 (List._∷_ e43 (List._∷_ e44 (List._∷_ e48 (List._∷_ e50 (List._∷_ e51 (List._∷_ e53 (List._∷_ e7 (List._∷_ e11 (List._∷_ e12 (List._∷_ e14 (List._∷_ e18 (List._∷_ e19
+            List.[])))))))))))))))
 
         abbrev g25 : (at : Nat.ℕ → Nat.ℕ) → List.List Row.Entry
-        g25 = λ at. List._∷_ (
-          0,
-          Rows.any-gone (Syntax.tyEnum (List._∷_ 99 (List._∷_ 111 (List._∷_ 100 (List._∷_ 101 (List._∷_ 58 (List._∷_ 58 (List._∷_ 67 (List._∷_ 111 (List._∷_ 100 (List._∷_ 101
-              (List._∷_ 100 List.[]))))))))))) (Syntax.ttcons (Syntax.tcons (Syntax.tyStruct (List._∷_ 99 (List._∷_ 111 (List._∷_ 100 (List._∷_ 101 (List._∷_ 58 (List._∷_ 58 (List._∷_ 67 (List._∷_ 111
-              (List._∷_ 100 (List._∷_ 101 List.[])))))))))) (Syntax.tcons (Syntax.tyInt Syntax.w64) (Syntax.tcons (Syntax.tyInt Syntax.w32) (Syntax.tcons Syntax.tyBool (Syntax.tcons (Syntax.tyStruct
-              (List._∷_ 98 (List._∷_ 105 (List._∷_ 116 (List._∷_ 115 (List._∷_ 58 (List._∷_ 58 (List._∷_ 66 (List._∷_ 105 (List._∷_ 116 (List._∷_ 80 (List._∷_ 111 (List._∷_ 115 (List._∷_ 105 (List._∷_ 116
-              (List._∷_ 105 (List._∷_ 111 (List._∷_ 110 List.[]))))))))))))))))) (Syntax.tcons (Syntax.tyInt Syntax.w64) Syntax.tnil)) Syntax.tnil))))) Syntax.tnil) (Syntax.ttcons Syntax.tnil
-              Syntax.ttnil))),
-        ) (List._∷_ (
-          1,
-          Reshare.mref-owedS (Held.type (Syntax.named 1) (κs .1 .0)) (Syntax.tyRef (Syntax.named 0) Syntax.mut (Held.behind (Syntax.named 1))) 0 4 (Row.lease (κs .0)
-              (qs .0)),
-        ) (List._∷_ (2, Rows.sc-here (Row.sInt Syntax.w32)) (List._∷_ (3, Rows.sc-here (Row.sInt Syntax.w32)) (List._∷_ (4, Rows.sc-here (Row.sInt Syntax.w32)) (List._∷_ (
-          5,
-          Rows.any-gone (Syntax.tyEnum (List._∷_ 98 (List._∷_ 105 (List._∷_ 116 (List._∷_ 115 (List._∷_ 58 (List._∷_ 58 (List._∷_ 90 (List._∷_ 101 (List._∷_ 114 (List._∷_ 111 (List._∷_ 82 (List._∷_ 117
-              (List._∷_ 110 List.[]))))))))))))) (Syntax.ttcons (Syntax.tcons (Syntax.tyInt Syntax.w64) Syntax.tnil) (Syntax.ttcons Syntax.tnil Syntax.ttnil))),
-        ) (List._∷_ (
-          6,
-          Rows.sc-here (Row.sInt
-              Syntax.w64),
-        ) (List._∷_ (7, Rows.sc-here (Row.sInt Syntax.w32)) (List._∷_ (8, Rows.whole (Declared'.row BitPosition.the-type)) (List._∷_ (9, Rows.any-gone (Syntax.tyInt Syntax.w32))
-            (List._∷_ (
-              10,
-              Rows.any-gone (Syntax.tyStruct (List._∷_ 98 (List._∷_ 105 (List._∷_ 116 (List._∷_ 115 (List._∷_ 58 (List._∷_ 58 (List._∷_ 66 (List._∷_ 105 (List._∷_ 116 (List._∷_ 80 (List._∷_
-                  111 (List._∷_ 115 (List._∷_ 105 (List._∷_ 116 (List._∷_ 105 (List._∷_ 111 (List._∷_ 110 List.[]))))))))))))))))) (Syntax.tcons (Syntax.tyInt Syntax.w64) Syntax.tnil)),
-            ) (List._∷_ (
-              11,
-              Rows.any-gone (Syntax.tyRef Syntax.erased Syntax.mut (Held.behind Syntax.erased)),
-            ) (List._∷_ (12, Rows.any-gone (Syntax.tyInt Syntax.w64)) (List._∷_ (13, Rows.any-gone Syntax.tyBool)
-            (List._∷_ (14, Rows.any-gone (Syntax.tyRef Syntax.erased Syntax.mut (Held.behind Syntax.erased))) (List._∷_ (
-              15,
-              AtSlots.srefAt 2 (λ κc. Held.type (Syntax.named 1) (κc .1 .0)) Held.Value
-                  (λ κc v. v) (List._∷_ 9 (List._∷_ 1 List.[])) (Syntax.tyRef Syntax.erased Syntax.imm (Held.behind Syntax.erased)) 9,
-            ) List.[])))))))))))))))
+        g25 = λ at. List._∷_ e0 (List._∷_
+            (1, Reshare.mref-owedS (Held.type (Syntax.named 1) (κs .1 .0)) (Syntax.tyRef (Syntax.named 0) Syntax.mut (Held.behind (Syntax.named 1))) 0 4 (Row.lease (κs .0) (qs .0))) (List._∷_ e31
+            (List._∷_ e41 (List._∷_ e43 (List._∷_ e44 (List._∷_ e48 (List._∷_ e50 (List._∷_ e52 (List._∷_ e53 (List._∷_ e7 (List._∷_ e11 (List._∷_ e12 (List._∷_ e14 (List._∷_ e18 (List._∷_ e19
+            List.[])))))))))))))))
 
         abbrev g26 : (at : Nat.ℕ → Nat.ℕ) → List.List Row.Entry
-        g26 = λ at. List._∷_ (
-          0,
-          Rows.any-gone (Syntax.tyEnum (List._∷_ 99 (List._∷_ 111 (List._∷_ 100 (List._∷_ 101 (List._∷_ 58 (List._∷_ 58 (List._∷_ 67 (List._∷_ 111 (List._∷_ 100 (List._∷_ 101
-              (List._∷_ 100 List.[]))))))))))) (Syntax.ttcons (Syntax.tcons (Syntax.tyStruct (List._∷_ 99 (List._∷_ 111 (List._∷_ 100 (List._∷_ 101 (List._∷_ 58 (List._∷_ 58 (List._∷_ 67 (List._∷_ 111
-              (List._∷_ 100 (List._∷_ 101 List.[])))))))))) (Syntax.tcons (Syntax.tyInt Syntax.w64) (Syntax.tcons (Syntax.tyInt Syntax.w32) (Syntax.tcons Syntax.tyBool (Syntax.tcons (Syntax.tyStruct
-              (List._∷_ 98 (List._∷_ 105 (List._∷_ 116 (List._∷_ 115 (List._∷_ 58 (List._∷_ 58 (List._∷_ 66 (List._∷_ 105 (List._∷_ 116 (List._∷_ 80 (List._∷_ 111 (List._∷_ 115 (List._∷_ 105 (List._∷_ 116
-              (List._∷_ 105 (List._∷_ 111 (List._∷_ 110 List.[]))))))))))))))))) (Syntax.tcons (Syntax.tyInt Syntax.w64) Syntax.tnil)) Syntax.tnil))))) Syntax.tnil) (Syntax.ttcons Syntax.tnil
-              Syntax.ttnil))),
-        ) (List._∷_ (
-          1,
-          Reshare.mref-owedS (Held.type (Syntax.named 1) (κs .1 .0)) (Syntax.tyRef (Syntax.named 0) Syntax.mut (Held.behind (Syntax.named 1))) 0 4 (Row.lease (κs .0)
-              (qs .0)),
-        ) (List._∷_ (2, Rows.sc-here (Row.sInt Syntax.w32)) (List._∷_ (3, Rows.sc-here (Row.sInt Syntax.w32)) (List._∷_ (4, Rows.sc-here (Row.sInt Syntax.w32)) (List._∷_ (
-          5,
-          Rows.any-gone (Syntax.tyEnum (List._∷_ 98 (List._∷_ 105 (List._∷_ 116 (List._∷_ 115 (List._∷_ 58 (List._∷_ 58 (List._∷_ 90 (List._∷_ 101 (List._∷_ 114 (List._∷_ 111 (List._∷_ 82 (List._∷_ 117
-              (List._∷_ 110 List.[]))))))))))))) (Syntax.ttcons (Syntax.tcons (Syntax.tyInt Syntax.w64) Syntax.tnil) (Syntax.ttcons Syntax.tnil Syntax.ttnil))),
-        ) (List._∷_ (
-          6,
-          Rows.sc-here (Row.sInt
-              Syntax.w64),
-        ) (List._∷_ (7, Rows.sc-here (Row.sInt Syntax.w32)) (List._∷_ (8, Rows.whole (Declared'.row BitPosition.the-type)) (List._∷_ (9, Rows.any-gone (Syntax.tyInt Syntax.w32))
-            (List._∷_ (
-              10,
-              Rows.any-gone (Syntax.tyStruct (List._∷_ 98 (List._∷_ 105 (List._∷_ 116 (List._∷_ 115 (List._∷_ 58 (List._∷_ 58 (List._∷_ 66 (List._∷_ 105 (List._∷_ 116 (List._∷_ 80 (List._∷_
-                  111 (List._∷_ 115 (List._∷_ 105 (List._∷_ 116 (List._∷_ 105 (List._∷_ 111 (List._∷_ 110 List.[]))))))))))))))))) (Syntax.tcons (Syntax.tyInt Syntax.w64) Syntax.tnil)),
-            ) (List._∷_ (
-              11,
-              Rows.any-gone (Syntax.tyRef Syntax.erased Syntax.mut (Held.behind Syntax.erased)),
-            ) (List._∷_ (12, Rows.any-gone (Syntax.tyInt Syntax.w64)) (List._∷_ (13, Rows.any-gone Syntax.tyBool)
-            (List._∷_ (14, Rows.any-gone (Syntax.tyRef Syntax.erased Syntax.mut (Held.behind Syntax.erased))) (List._∷_ (
-              15,
-              Rows.sref (Held.type (Syntax.named 1) (κs .1 .0)) (Syntax.tyRef
-                  Syntax.erased Syntax.imm (Held.behind Syntax.erased)) 9,
-            ) List.[])))))))))))))))
+        g26 = λ at. List._∷_ e0 (List._∷_
+            (1, Reshare.mref-owedS (Held.type (Syntax.named 1) (κs .1 .0)) (Syntax.tyRef (Syntax.named 0) Syntax.mut (Held.behind (Syntax.named 1))) 0 4 (Row.lease (κs .0) (qs .0))) (List._∷_ e31
+            (List._∷_ e41 (List._∷_ e43 (List._∷_ e44 (List._∷_ e48 (List._∷_ e50 (List._∷_ e52 (List._∷_ e53 (List._∷_ e7 (List._∷_ e11 (List._∷_ e12 (List._∷_ e14 (List._∷_ e18 (List._∷_
+            (15, Rows.sref (Held.type (Syntax.named 1) (κs .1 .0)) (Syntax.tyRef Syntax.erased Syntax.imm (Held.behind Syntax.erased)) 9) List.[])))))))))))))))
 
         abbrev g27 : (at : Nat.ℕ → Nat.ℕ) → List.List Row.Entry
-        g27 = λ at. List._∷_ (
-          0,
-          Rows.any-gone (Syntax.tyEnum (List._∷_ 99 (List._∷_ 111 (List._∷_ 100 (List._∷_ 101 (List._∷_ 58 (List._∷_ 58 (List._∷_ 67 (List._∷_ 111 (List._∷_ 100 (List._∷_ 101
-              (List._∷_ 100 List.[]))))))))))) (Syntax.ttcons (Syntax.tcons (Syntax.tyStruct (List._∷_ 99 (List._∷_ 111 (List._∷_ 100 (List._∷_ 101 (List._∷_ 58 (List._∷_ 58 (List._∷_ 67 (List._∷_ 111
-              (List._∷_ 100 (List._∷_ 101 List.[])))))))))) (Syntax.tcons (Syntax.tyInt Syntax.w64) (Syntax.tcons (Syntax.tyInt Syntax.w32) (Syntax.tcons Syntax.tyBool (Syntax.tcons (Syntax.tyStruct
-              (List._∷_ 98 (List._∷_ 105 (List._∷_ 116 (List._∷_ 115 (List._∷_ 58 (List._∷_ 58 (List._∷_ 66 (List._∷_ 105 (List._∷_ 116 (List._∷_ 80 (List._∷_ 111 (List._∷_ 115 (List._∷_ 105 (List._∷_ 116
-              (List._∷_ 105 (List._∷_ 111 (List._∷_ 110 List.[]))))))))))))))))) (Syntax.tcons (Syntax.tyInt Syntax.w64) Syntax.tnil)) Syntax.tnil))))) Syntax.tnil) (Syntax.ttcons Syntax.tnil
-              Syntax.ttnil))),
-        ) (List._∷_ (
-          1,
-          Reshare.mref-owedS (Held.type (Syntax.named 1) (κs .1 .0)) (Syntax.tyRef (Syntax.named 0) Syntax.mut (Held.behind (Syntax.named 1))) 0 4 (Row.lease (κs .0)
-              (qs .0)),
-        ) (List._∷_ (2, Rows.sc-here (Row.sInt Syntax.w32)) (List._∷_ (3, Rows.sc-here (Row.sInt Syntax.w32)) (List._∷_ (4, Rows.sc-here (Row.sInt Syntax.w32)) (List._∷_ (
-          5,
-          Rows.any-gone (Syntax.tyEnum (List._∷_ 98 (List._∷_ 105 (List._∷_ 116 (List._∷_ 115 (List._∷_ 58 (List._∷_ 58 (List._∷_ 90 (List._∷_ 101 (List._∷_ 114 (List._∷_ 111 (List._∷_ 82 (List._∷_ 117
-              (List._∷_ 110 List.[]))))))))))))) (Syntax.ttcons (Syntax.tcons (Syntax.tyInt Syntax.w64) Syntax.tnil) (Syntax.ttcons Syntax.tnil Syntax.ttnil))),
-        ) (List._∷_ (
-          6,
-          Rows.sc-here (Row.sInt
-              Syntax.w64),
-        ) (List._∷_ (7, Rows.sc-here (Row.sInt Syntax.w32)) (List._∷_ (8, Rows.whole (Declared'.row BitPosition.the-type)) (List._∷_ (9, Rows.any-gone (Syntax.tyInt Syntax.w32))
-            (List._∷_ (
-              10,
-              Rows.any-gone (Syntax.tyStruct (List._∷_ 98 (List._∷_ 105 (List._∷_ 116 (List._∷_ 115 (List._∷_ 58 (List._∷_ 58 (List._∷_ 66 (List._∷_ 105 (List._∷_ 116 (List._∷_ 80 (List._∷_
-                  111 (List._∷_ 115 (List._∷_ 105 (List._∷_ 116 (List._∷_ 105 (List._∷_ 111 (List._∷_ 110 List.[]))))))))))))))))) (Syntax.tcons (Syntax.tyInt Syntax.w64) Syntax.tnil)),
-            ) (List._∷_ (
-              11,
-              Rows.any-gone (Syntax.tyRef Syntax.erased Syntax.mut (Held.behind Syntax.erased)),
-            ) (List._∷_ (12, Rows.any-gone (Syntax.tyInt Syntax.w64)) (List._∷_ (13, Rows.any-gone Syntax.tyBool)
-            (List._∷_ (14, Rows.any-gone (Syntax.tyRef Syntax.erased Syntax.mut (Held.behind Syntax.erased))) (List._∷_ (
-              15,
-              Rows.any-gone (Syntax.tyRef Syntax.erased Syntax.imm (Held.behind
-                  Syntax.erased)),
-            ) List.[])))))))))))))))
+        g27 = λ at. List._∷_ e0 (List._∷_
+            (1, Reshare.mref-owedS (Held.type (Syntax.named 1) (κs .1 .0)) (Syntax.tyRef (Syntax.named 0) Syntax.mut (Held.behind (Syntax.named 1))) 0 4 (Row.lease (κs .0) (qs .0))) (List._∷_ e31
+            (List._∷_ e41 (List._∷_ e43 (List._∷_ e44 (List._∷_ e48 (List._∷_ e50 (List._∷_ e52 (List._∷_ e53 (List._∷_ e7 (List._∷_ e11 (List._∷_ e12 (List._∷_ e14 (List._∷_ e18 (List._∷_ e20
+            List.[])))))))))))))))
 
         abbrev g28 : (at : Nat.ℕ → Nat.ℕ) → List.List Row.Entry
-        g28 = λ at. List._∷_ (
-          0,
-          Rows.any-gone (Syntax.tyEnum (List._∷_ 99 (List._∷_ 111 (List._∷_ 100 (List._∷_ 101 (List._∷_ 58 (List._∷_ 58 (List._∷_ 67 (List._∷_ 111 (List._∷_ 100 (List._∷_ 101
-              (List._∷_ 100 List.[]))))))))))) (Syntax.ttcons (Syntax.tcons (Syntax.tyStruct (List._∷_ 99 (List._∷_ 111 (List._∷_ 100 (List._∷_ 101 (List._∷_ 58 (List._∷_ 58 (List._∷_ 67 (List._∷_ 111
-              (List._∷_ 100 (List._∷_ 101 List.[])))))))))) (Syntax.tcons (Syntax.tyInt Syntax.w64) (Syntax.tcons (Syntax.tyInt Syntax.w32) (Syntax.tcons Syntax.tyBool (Syntax.tcons (Syntax.tyStruct
-              (List._∷_ 98 (List._∷_ 105 (List._∷_ 116 (List._∷_ 115 (List._∷_ 58 (List._∷_ 58 (List._∷_ 66 (List._∷_ 105 (List._∷_ 116 (List._∷_ 80 (List._∷_ 111 (List._∷_ 115 (List._∷_ 105 (List._∷_ 116
-              (List._∷_ 105 (List._∷_ 111 (List._∷_ 110 List.[]))))))))))))))))) (Syntax.tcons (Syntax.tyInt Syntax.w64) Syntax.tnil)) Syntax.tnil))))) Syntax.tnil) (Syntax.ttcons Syntax.tnil
-              Syntax.ttnil))),
-        ) (List._∷_ (1, Rows.mref (Held.type (Syntax.named 1) (κs .1 .0)) (Syntax.tyRef (Syntax.named 0) Syntax.mut (Held.behind (Syntax.named 1))) 0) (List._∷_ (
-          2,
-          Rows.sc-here
-              (Row.sInt Syntax.w32),
-        ) (List._∷_ (3, Rows.sc-here (Row.sInt Syntax.w32)) (List._∷_ (4, Rows.sc-here (Row.sInt Syntax.w32)) (List._∷_ (
-          5,
-          Rows.any-gone (Syntax.tyEnum (List._∷_ 98 (List._∷_
-              105 (List._∷_ 116 (List._∷_ 115 (List._∷_ 58 (List._∷_ 58 (List._∷_ 90 (List._∷_ 101 (List._∷_ 114 (List._∷_ 111 (List._∷_ 82 (List._∷_ 117 (List._∷_ 110 List.[]))))))))))))) (Syntax.ttcons
-              (Syntax.tcons (Syntax.tyInt Syntax.w64) Syntax.tnil) (Syntax.ttcons Syntax.tnil Syntax.ttnil))),
-        ) (List._∷_ (6, Rows.sc-here (Row.sInt Syntax.w64)) (List._∷_ (
-          7,
-          Rows.sc-here (Row.sInt
-              Syntax.w32),
-        ) (List._∷_ (8, Rows.whole (Declared'.row BitPosition.the-type)) (List._∷_ (9, Rows.any-gone (Syntax.tyInt Syntax.w32)) (List._∷_ (
-          10,
-          Rows.any-gone (Syntax.tyStruct (List._∷_
-              98 (List._∷_ 105 (List._∷_ 116 (List._∷_ 115 (List._∷_ 58 (List._∷_ 58 (List._∷_ 66 (List._∷_ 105 (List._∷_ 116 (List._∷_ 80 (List._∷_ 111 (List._∷_ 115 (List._∷_ 105 (List._∷_ 116 (List._∷_
-              105 (List._∷_ 111 (List._∷_ 110 List.[]))))))))))))))))) (Syntax.tcons (Syntax.tyInt Syntax.w64) Syntax.tnil)),
-        ) (List._∷_ (
-          11,
-          Rows.any-gone (Syntax.tyRef Syntax.erased Syntax.mut
-              (Held.behind Syntax.erased)),
-        ) (List._∷_ (12, Rows.any-gone (Syntax.tyInt Syntax.w64)) (List._∷_ (13, Rows.any-gone Syntax.tyBool) (List._∷_ (
-          14,
-          Rows.any-gone (Syntax.tyRef Syntax.erased
-              Syntax.mut (Held.behind Syntax.erased)),
-        ) (List._∷_ (15, Rows.any-gone (Syntax.tyRef Syntax.erased Syntax.imm (Held.behind Syntax.erased))) List.[])))))))))))))))
+        g28 = λ at. List._∷_ e0 (List._∷_ (1, Rows.mref (Held.type (Syntax.named 1) (κs .1 .0)) (Syntax.tyRef (Syntax.named 0) Syntax.mut (Held.behind (Syntax.named 1))) 0) (List._∷_ e31 (List._∷_ e41
+            (List._∷_ e43 (List._∷_ e44 (List._∷_ e48 (List._∷_ e50 (List._∷_ e52 (List._∷_ e53 (List._∷_ e7 (List._∷_ e11 (List._∷_ e12 (List._∷_ e14 (List._∷_ e18 (List._∷_ e20 List.[])))))))))))))))
 
         abbrev g37 : (at : Nat.ℕ → Nat.ℕ) → List.List Row.Entry
-        g37 = λ at. List._∷_ (0, Rows.whole (Declared.row Coded.the-type)) (List._∷_ (
-          1,
-          Rows.mref (Held.type (Syntax.named 1) (κs .1 .0)) (Syntax.tyRef (Syntax.named 0) Syntax.mut (Held.behind
-              (Syntax.named 1))) 0,
-        ) (List._∷_ (2, Rows.sc-here (Row.sInt Syntax.w32)) (List._∷_ (3, Rows.sc-here (Row.sInt Syntax.w32)) (List._∷_ (4, Rows.sc-here (Row.sInt Syntax.w32)) (List._∷_ (
-          5,
-          Rows.any-gone (Syntax.tyEnum (List._∷_ 98 (List._∷_ 105 (List._∷_ 116 (List._∷_ 115 (List._∷_ 58 (List._∷_ 58 (List._∷_ 90 (List._∷_ 101 (List._∷_ 114 (List._∷_ 111 (List._∷_ 82 (List._∷_ 117
-              (List._∷_ 110 List.[]))))))))))))) (Syntax.ttcons (Syntax.tcons (Syntax.tyInt Syntax.w64) Syntax.tnil) (Syntax.ttcons Syntax.tnil Syntax.ttnil))),
-        ) (List._∷_ (
-          6,
-          Rows.sc-here (Row.sInt
-              Syntax.w64),
-        ) (List._∷_ (7, Rows.sc-here (Row.sInt Syntax.w32)) (List._∷_ (
-          8,
-          Rows.any-gone (Syntax.tyStruct (List._∷_ 98 (List._∷_ 105 (List._∷_ 116 (List._∷_ 115 (List._∷_ 58 (List._∷_ 58
-              (List._∷_ 66 (List._∷_ 105 (List._∷_ 116 (List._∷_ 80 (List._∷_ 111 (List._∷_ 115 (List._∷_ 105 (List._∷_ 116 (List._∷_ 105 (List._∷_ 111 (List._∷_ 110 List.[]))))))))))))))))) (Syntax.tcons
-              (Syntax.tyInt Syntax.w64) Syntax.tnil)),
-        ) (List._∷_ (9, Rows.any-gone (Syntax.tyInt Syntax.w32)) (List._∷_ (
-          10,
-          Rows.any-gone (Syntax.tyStruct (List._∷_ 98 (List._∷_ 105 (List._∷_ 116
-              (List._∷_ 115 (List._∷_ 58 (List._∷_ 58 (List._∷_ 66 (List._∷_ 105 (List._∷_ 116 (List._∷_ 80 (List._∷_ 111 (List._∷_ 115 (List._∷_ 105 (List._∷_ 116 (List._∷_ 105 (List._∷_ 111 (List._∷_ 110
-              List.[]))))))))))))))))) (Syntax.tcons (Syntax.tyInt Syntax.w64) Syntax.tnil)),
-        ) (List._∷_ (11, Rows.any-gone (Syntax.tyRef Syntax.erased Syntax.mut (Held.behind Syntax.erased))) (List._∷_
-            (12, Rows.any-gone (Syntax.tyInt Syntax.w64)) (List._∷_ (13, Rows.any-gone Syntax.tyBool) (List._∷_ (
-              14,
-              Rows.any-gone (Syntax.tyRef Syntax.erased Syntax.mut (Held.behind Syntax.erased)),
-            ) (List._∷_ (15, Rows.any-gone (Syntax.tyRef Syntax.erased Syntax.imm (Held.behind Syntax.erased))) List.[])))))))))))))))
+        g37 = λ at. List._∷_ e1 (List._∷_ (1, Rows.mref (Held.type (Syntax.named 1) (κs .1 .0)) (Syntax.tyRef (Syntax.named 0) Syntax.mut (Held.behind (Syntax.named 1))) 0) (List._∷_ e31 (List._∷_ e41
+            (List._∷_ e43 (List._∷_ e44 (List._∷_ e48 (List._∷_ e50 (List._∷_ e51 (List._∷_ e53 (List._∷_ e7 (List._∷_ e11 (List._∷_ e12 (List._∷_ e14 (List._∷_ e18 (List._∷_ e20 List.[])))))))))))))))
 
         abbrev g38 : (at : Nat.ℕ → Nat.ℕ) → List.List Row.Entry
-        g38 = λ at. List._∷_ (0, Rows.whole (Declared.row Coded.the-type)) (List._∷_ (
-          1,
-          Rows.mref (Held.type (Syntax.named 1) (κs .1 .0)) (Syntax.tyRef (Syntax.named 0) Syntax.mut (Held.behind
-              (Syntax.named 1))) 0,
-        ) (List._∷_ (2, Rows.any-gone (Syntax.tyInt Syntax.w32)) (List._∷_ (3, Rows.sc-here (Row.sInt Syntax.w32)) (List._∷_ (4, Rows.sc-here (Row.sInt Syntax.w32)) (List._∷_ (
-          5,
-          Rows.any-gone (Syntax.tyEnum (List._∷_ 98 (List._∷_ 105 (List._∷_ 116 (List._∷_ 115 (List._∷_ 58 (List._∷_ 58 (List._∷_ 90 (List._∷_ 101 (List._∷_ 114 (List._∷_ 111 (List._∷_ 82 (List._∷_
-              117 (List._∷_ 110 List.[]))))))))))))) (Syntax.ttcons (Syntax.tcons (Syntax.tyInt Syntax.w64) Syntax.tnil) (Syntax.ttcons Syntax.tnil Syntax.ttnil))),
-        ) (List._∷_ (
-          6,
-          Rows.sc-here (Row.sInt
-              Syntax.w64),
-        ) (List._∷_ (7, Rows.sc-here (Row.sInt Syntax.w32)) (List._∷_ (
-          8,
-          Rows.any-gone (Syntax.tyStruct (List._∷_ 98 (List._∷_ 105 (List._∷_ 116 (List._∷_ 115 (List._∷_ 58 (List._∷_ 58
-              (List._∷_ 66 (List._∷_ 105 (List._∷_ 116 (List._∷_ 80 (List._∷_ 111 (List._∷_ 115 (List._∷_ 105 (List._∷_ 116 (List._∷_ 105 (List._∷_ 111 (List._∷_ 110 List.[]))))))))))))))))) (Syntax.tcons
-              (Syntax.tyInt Syntax.w64) Syntax.tnil)),
-        ) (List._∷_ (9, Rows.any-gone (Syntax.tyInt Syntax.w32)) (List._∷_ (
-          10,
-          Rows.any-gone (Syntax.tyStruct (List._∷_ 98 (List._∷_ 105 (List._∷_ 116
-              (List._∷_ 115 (List._∷_ 58 (List._∷_ 58 (List._∷_ 66 (List._∷_ 105 (List._∷_ 116 (List._∷_ 80 (List._∷_ 111 (List._∷_ 115 (List._∷_ 105 (List._∷_ 116 (List._∷_ 105 (List._∷_ 111 (List._∷_ 110
-              List.[]))))))))))))))))) (Syntax.tcons (Syntax.tyInt Syntax.w64) Syntax.tnil)),
-        ) (List._∷_ (11, Rows.any-gone (Syntax.tyRef Syntax.erased Syntax.mut (Held.behind Syntax.erased))) (List._∷_
-            (12, Rows.any-gone (Syntax.tyInt Syntax.w64)) (List._∷_ (13, Rows.any-gone Syntax.tyBool) (List._∷_ (
-              14,
-              Rows.any-gone (Syntax.tyRef Syntax.erased Syntax.mut (Held.behind Syntax.erased)),
-            ) (List._∷_ (15, Rows.any-gone (Syntax.tyRef Syntax.erased Syntax.imm (Held.behind Syntax.erased))) List.[])))))))))))))))
+        g38 = λ at. List._∷_ e1 (List._∷_ (1, Rows.mref (Held.type (Syntax.named 1) (κs .1 .0)) (Syntax.tyRef (Syntax.named 0) Syntax.mut (Held.behind (Syntax.named 1))) 0) (List._∷_ e30 (List._∷_ e41
+            (List._∷_ e43 (List._∷_ e44 (List._∷_ e48 (List._∷_ e50 (List._∷_ e51 (List._∷_ e53 (List._∷_ e7 (List._∷_ e11 (List._∷_ e12 (List._∷_ e14 (List._∷_ e18 (List._∷_ e20 List.[])))))))))))))))
 
         abbrev g39 : (at : Nat.ℕ → Nat.ℕ) → List.List Row.Entry
-        g39 = λ at. List._∷_ (0, Rows.whole (Declared.row Coded.the-type)) (List._∷_ (
-          1,
-          Rows.mref (Held.type (Syntax.named 1) (κs .1 .0)) (Syntax.tyRef (Syntax.named 0) Syntax.mut (Held.behind
-              (Syntax.named 1))) 0,
-        ) (List._∷_ (2, Rows.any-gone (Syntax.tyInt Syntax.w32)) (List._∷_ (3, Rows.any-gone (Syntax.tyInt Syntax.w32)) (List._∷_ (4, Rows.sc-here (Row.sInt Syntax.w32))
-            (List._∷_ (
-              5,
-              Rows.any-gone (Syntax.tyEnum (List._∷_ 98 (List._∷_ 105 (List._∷_ 116 (List._∷_ 115 (List._∷_ 58 (List._∷_ 58 (List._∷_ 90 (List._∷_ 101 (List._∷_ 114 (List._∷_ 111 (List._∷_ 82
-                  (List._∷_ 117 (List._∷_ 110 List.[]))))))))))))) (Syntax.ttcons (Syntax.tcons (Syntax.tyInt Syntax.w64) Syntax.tnil) (Syntax.ttcons Syntax.tnil Syntax.ttnil))),
-            ) (List._∷_ (
-              6,
-              Rows.sc-here
-                  (Row.sInt Syntax.w64),
-            ) (List._∷_ (7, Rows.sc-here (Row.sInt Syntax.w32)) (List._∷_ (
-              8,
-              Rows.any-gone (Syntax.tyStruct (List._∷_ 98 (List._∷_ 105 (List._∷_ 116 (List._∷_ 115 (List._∷_ 58
-                  (List._∷_ 58 (List._∷_ 66 (List._∷_ 105 (List._∷_ 116 (List._∷_ 80 (List._∷_ 111 (List._∷_ 115 (List._∷_ 105 (List._∷_ 116 (List._∷_ 105 (List._∷_ 111 (List._∷_ 110 List.[])))))))))))))))))
-                  (Syntax.tcons (Syntax.tyInt Syntax.w64) Syntax.tnil)),
-            ) (List._∷_ (9, Rows.any-gone (Syntax.tyInt Syntax.w32)) (List._∷_ (
-              10,
-              Rows.any-gone (Syntax.tyStruct (List._∷_ 98 (List._∷_ 105
-                  (List._∷_ 116 (List._∷_ 115 (List._∷_ 58 (List._∷_ 58 (List._∷_ 66 (List._∷_ 105 (List._∷_ 116 (List._∷_ 80 (List._∷_ 111 (List._∷_ 115 (List._∷_ 105 (List._∷_ 116 (List._∷_ 105 (List._∷_ 111
-                  (List._∷_ 110 List.[]))))))))))))))))) (Syntax.tcons (Syntax.tyInt Syntax.w64) Syntax.tnil)),
-            ) (List._∷_ (
-              11,
-              Rows.any-gone (Syntax.tyRef Syntax.erased Syntax.mut (Held.behind
-                  Syntax.erased)),
-            ) (List._∷_ (12, Rows.any-gone (Syntax.tyInt Syntax.w64)) (List._∷_ (13, Rows.any-gone Syntax.tyBool) (List._∷_ (
-              14,
-              Rows.any-gone (Syntax.tyRef Syntax.erased Syntax.mut
-                  (Held.behind Syntax.erased)),
-            ) (List._∷_ (15, Rows.any-gone (Syntax.tyRef Syntax.erased Syntax.imm (Held.behind Syntax.erased))) List.[])))))))))))))))
+        g39 = λ at. List._∷_ e1 (List._∷_ (1, Rows.mref (Held.type (Syntax.named 1) (κs .1 .0)) (Syntax.tyRef (Syntax.named 0) Syntax.mut (Held.behind (Syntax.named 1))) 0) (List._∷_ e30 (List._∷_ e40
+            (List._∷_ e43 (List._∷_ e44 (List._∷_ e48 (List._∷_ e50 (List._∷_ e51 (List._∷_ e53 (List._∷_ e7 (List._∷_ e11 (List._∷_ e12 (List._∷_ e14 (List._∷_ e18 (List._∷_ e20 List.[])))))))))))))))
 
         abbrev g40 : (at : Nat.ℕ → Nat.ℕ) → List.List Row.Entry
-        g40 = λ at. List._∷_ (0, Rows.whole (Declared.row Coded.the-type)) (List._∷_ (
-          1,
-          Rows.mref (Held.type (Syntax.named 1) (κs .1 .0)) (Syntax.tyRef (Syntax.named 0) Syntax.mut (Held.behind
-              (Syntax.named 1))) 0,
-        ) (List._∷_ (2, Rows.any-gone (Syntax.tyInt Syntax.w32)) (List._∷_ (3, Rows.any-gone (Syntax.tyInt Syntax.w32)) (List._∷_ (4, Rows.any-gone (Syntax.tyInt Syntax.w32))
-            (List._∷_ (
-              5,
-              Rows.any-gone (Syntax.tyEnum (List._∷_ 98 (List._∷_ 105 (List._∷_ 116 (List._∷_ 115 (List._∷_ 58 (List._∷_ 58 (List._∷_ 90 (List._∷_ 101 (List._∷_ 114 (List._∷_ 111 (List._∷_ 82
-                  (List._∷_ 117 (List._∷_ 110 List.[]))))))))))))) (Syntax.ttcons (Syntax.tcons (Syntax.tyInt Syntax.w64) Syntax.tnil) (Syntax.ttcons Syntax.tnil Syntax.ttnil))),
-            ) (List._∷_ (
-              6,
-              Rows.sc-here
-                  (Row.sInt Syntax.w64),
-            ) (List._∷_ (7, Rows.sc-here (Row.sInt Syntax.w32)) (List._∷_ (
-              8,
-              Rows.any-gone (Syntax.tyStruct (List._∷_ 98 (List._∷_ 105 (List._∷_ 116 (List._∷_ 115 (List._∷_ 58
-                  (List._∷_ 58 (List._∷_ 66 (List._∷_ 105 (List._∷_ 116 (List._∷_ 80 (List._∷_ 111 (List._∷_ 115 (List._∷_ 105 (List._∷_ 116 (List._∷_ 105 (List._∷_ 111 (List._∷_ 110 List.[])))))))))))))))))
-                  (Syntax.tcons (Syntax.tyInt Syntax.w64) Syntax.tnil)),
-            ) (List._∷_ (9, Rows.any-gone (Syntax.tyInt Syntax.w32)) (List._∷_ (
-              10,
-              Rows.any-gone (Syntax.tyStruct (List._∷_ 98 (List._∷_ 105
-                  (List._∷_ 116 (List._∷_ 115 (List._∷_ 58 (List._∷_ 58 (List._∷_ 66 (List._∷_ 105 (List._∷_ 116 (List._∷_ 80 (List._∷_ 111 (List._∷_ 115 (List._∷_ 105 (List._∷_ 116 (List._∷_ 105 (List._∷_ 111
-                  (List._∷_ 110 List.[]))))))))))))))))) (Syntax.tcons (Syntax.tyInt Syntax.w64) Syntax.tnil)),
-            ) (List._∷_ (
-              11,
-              Rows.any-gone (Syntax.tyRef Syntax.erased Syntax.mut (Held.behind
-                  Syntax.erased)),
-            ) (List._∷_ (12, Rows.any-gone (Syntax.tyInt Syntax.w64)) (List._∷_ (13, Rows.any-gone Syntax.tyBool) (List._∷_ (
-              14,
-              Rows.any-gone (Syntax.tyRef Syntax.erased Syntax.mut
-                  (Held.behind Syntax.erased)),
-            ) (List._∷_ (15, Rows.any-gone (Syntax.tyRef Syntax.erased Syntax.imm (Held.behind Syntax.erased))) List.[])))))))))))))))
+        g40 = λ at. List._∷_ e1 (List._∷_ (1, Rows.mref (Held.type (Syntax.named 1) (κs .1 .0)) (Syntax.tyRef (Syntax.named 0) Syntax.mut (Held.behind (Syntax.named 1))) 0) (List._∷_ e30 (List._∷_ e40
+            (List._∷_ e42 (List._∷_ e44 (List._∷_ e48 (List._∷_ e50 (List._∷_ e51 (List._∷_ e53 (List._∷_ e7 (List._∷_ e11 (List._∷_ e12 (List._∷_ e14 (List._∷_ e18 (List._∷_ e20 List.[])))))))))))))))
 
         abbrev g41 : (at : Nat.ℕ → Nat.ℕ) → List.List Row.Entry
-        g41 = λ at. List._∷_ (0, Rows.whole (Declared.row Coded.the-type)) (List._∷_ (
-          1,
-          Rows.mref (Held.type (Syntax.named 1) (κs .1 .0)) (Syntax.tyRef (Syntax.named 0) Syntax.mut (Held.behind
-              (Syntax.named 1))) 0,
-        ) (List._∷_ (2, Rows.any-gone (Syntax.tyInt Syntax.w32)) (List._∷_ (3, Rows.any-gone (Syntax.tyInt Syntax.w32)) (List._∷_ (4, Rows.any-gone (Syntax.tyInt Syntax.w32))
-            (List._∷_ (
-              5,
-              Rows.any-gone (Syntax.tyEnum (List._∷_ 98 (List._∷_ 105 (List._∷_ 116 (List._∷_ 115 (List._∷_ 58 (List._∷_ 58 (List._∷_ 90 (List._∷_ 101 (List._∷_ 114 (List._∷_ 111 (List._∷_ 82
-                  (List._∷_ 117 (List._∷_ 110 List.[]))))))))))))) (Syntax.ttcons (Syntax.tcons (Syntax.tyInt Syntax.w64) Syntax.tnil) (Syntax.ttcons Syntax.tnil Syntax.ttnil))),
-            ) (List._∷_ (
-              6,
-              Rows.any-gone
-                  (Syntax.tyInt Syntax.w64),
-            ) (List._∷_ (7, Rows.sc-here (Row.sInt Syntax.w32)) (List._∷_ (
-              8,
-              Rows.any-gone (Syntax.tyStruct (List._∷_ 98 (List._∷_ 105 (List._∷_ 116 (List._∷_ 115 (List._∷_
-                  58 (List._∷_ 58 (List._∷_ 66 (List._∷_ 105 (List._∷_ 116 (List._∷_ 80 (List._∷_ 111 (List._∷_ 115 (List._∷_ 105 (List._∷_ 116 (List._∷_ 105 (List._∷_ 111 (List._∷_ 110 List.[])))))))))))))))))
-                  (Syntax.tcons (Syntax.tyInt Syntax.w64) Syntax.tnil)),
-            ) (List._∷_ (9, Rows.any-gone (Syntax.tyInt Syntax.w32)) (List._∷_ (
-              10,
-              Rows.any-gone (Syntax.tyStruct (List._∷_ 98 (List._∷_ 105
-                  (List._∷_ 116 (List._∷_ 115 (List._∷_ 58 (List._∷_ 58 (List._∷_ 66 (List._∷_ 105 (List._∷_ 116 (List._∷_ 80 (List._∷_ 111 (List._∷_ 115 (List._∷_ 105 (List._∷_ 116 (List._∷_ 105 (List._∷_ 111
-                  (List._∷_ 110 List.[]))))))))))))))))) (Syntax.tcons (Syntax.tyInt Syntax.w64) Syntax.tnil)),
-            ) (List._∷_ (
-              11,
-              Rows.any-gone (Syntax.tyRef Syntax.erased Syntax.mut (Held.behind
-                  Syntax.erased)),
-            ) (List._∷_ (12, Rows.any-gone (Syntax.tyInt Syntax.w64)) (List._∷_ (13, Rows.any-gone Syntax.tyBool) (List._∷_ (
-              14,
-              Rows.any-gone (Syntax.tyRef Syntax.erased Syntax.mut
-                  (Held.behind Syntax.erased)),
-            ) (List._∷_ (15, Rows.any-gone (Syntax.tyRef Syntax.erased Syntax.imm (Held.behind Syntax.erased))) List.[])))))))))))))))
+        g41 = λ at. List._∷_ e1 (List._∷_ (1, Rows.mref (Held.type (Syntax.named 1) (κs .1 .0)) (Syntax.tyRef (Syntax.named 0) Syntax.mut (Held.behind (Syntax.named 1))) 0) (List._∷_ e30 (List._∷_ e40
+            (List._∷_ e42 (List._∷_ e44 (List._∷_ e47 (List._∷_ e50 (List._∷_ e51 (List._∷_ e53 (List._∷_ e7 (List._∷_ e11 (List._∷_ e12 (List._∷_ e14 (List._∷_ e18 (List._∷_ e20 List.[])))))))))))))))
 
         abbrev g42 : (at : Nat.ℕ → Nat.ℕ) → List.List Row.Entry
-        g42 = λ at. List._∷_ (
-          0,
-          Rows.any-gone (Syntax.tyEnum (List._∷_ 99 (List._∷_ 111 (List._∷_ 100 (List._∷_ 101 (List._∷_ 58 (List._∷_ 58 (List._∷_ 67 (List._∷_ 111 (List._∷_ 100 (List._∷_ 101
-              (List._∷_ 100 List.[]))))))))))) (Syntax.ttcons (Syntax.tcons (Syntax.tyStruct (List._∷_ 99 (List._∷_ 111 (List._∷_ 100 (List._∷_ 101 (List._∷_ 58 (List._∷_ 58 (List._∷_ 67 (List._∷_ 111
-              (List._∷_ 100 (List._∷_ 101 List.[])))))))))) (Syntax.tcons (Syntax.tyInt Syntax.w64) (Syntax.tcons (Syntax.tyInt Syntax.w32) (Syntax.tcons Syntax.tyBool (Syntax.tcons (Syntax.tyStruct
-              (List._∷_ 98 (List._∷_ 105 (List._∷_ 116 (List._∷_ 115 (List._∷_ 58 (List._∷_ 58 (List._∷_ 66 (List._∷_ 105 (List._∷_ 116 (List._∷_ 80 (List._∷_ 111 (List._∷_ 115 (List._∷_ 105 (List._∷_ 116
-              (List._∷_ 105 (List._∷_ 111 (List._∷_ 110 List.[]))))))))))))))))) (Syntax.tcons (Syntax.tyInt Syntax.w64) Syntax.tnil)) Syntax.tnil))))) Syntax.tnil) (Syntax.ttcons Syntax.tnil
-              Syntax.ttnil))),
-        ) (List._∷_ (
-          1,
-          Rows.mref-owed (Held.type (Syntax.named 1) (κs .1 .0)) (Syntax.tyRef (Syntax.named 0) Syntax.mut (Held.behind (Syntax.named 1))) 0 5 (Row.lease (κs .0) (qs
-              .0)),
-        ) (List._∷_ (2, Rows.sc-here (Row.sInt Syntax.w32)) (List._∷_ (3, Rows.sc-here (Row.sInt Syntax.w32)) (List._∷_ (4, Rows.sc-here (Row.sInt Syntax.w32)) (List._∷_ (
-          5,
-          Rows.any-gone
-              (Syntax.tyEnum (List._∷_ 98 (List._∷_ 105 (List._∷_ 116 (List._∷_ 115 (List._∷_ 58 (List._∷_ 58 (List._∷_ 90 (List._∷_ 101 (List._∷_ 114 (List._∷_ 111 (List._∷_ 82 (List._∷_ 117 (List._∷_ 110
-              List.[]))))))))))))) (Syntax.ttcons (Syntax.tcons (Syntax.tyInt Syntax.w64) Syntax.tnil) (Syntax.ttcons Syntax.tnil Syntax.ttnil))),
-        ) (List._∷_ (6, Rows.sc-here (Row.sInt Syntax.w64))
-            (List._∷_ (7, Rows.any-gone (Syntax.tyInt Syntax.w32)) (List._∷_ (
-              8,
-              Rows.any-gone (Syntax.tyStruct (List._∷_ 98 (List._∷_ 105 (List._∷_ 116 (List._∷_ 115 (List._∷_ 58 (List._∷_ 58
-                  (List._∷_ 66 (List._∷_ 105 (List._∷_ 116 (List._∷_ 80 (List._∷_ 111 (List._∷_ 115 (List._∷_ 105 (List._∷_ 116 (List._∷_ 105 (List._∷_ 111 (List._∷_ 110 List.[]))))))))))))))))) (Syntax.tcons
-                  (Syntax.tyInt Syntax.w64) Syntax.tnil)),
-            ) (List._∷_ (9, Rows.any-gone (Syntax.tyInt Syntax.w32)) (List._∷_ (
-              10,
-              Rows.any-gone (Syntax.tyStruct (List._∷_ 98 (List._∷_ 105 (List._∷_ 116
-                  (List._∷_ 115 (List._∷_ 58 (List._∷_ 58 (List._∷_ 66 (List._∷_ 105 (List._∷_ 116 (List._∷_ 80 (List._∷_ 111 (List._∷_ 115 (List._∷_ 105 (List._∷_ 116 (List._∷_ 105 (List._∷_ 111 (List._∷_ 110
-                  List.[]))))))))))))))))) (Syntax.tcons (Syntax.tyInt Syntax.w64) Syntax.tnil)),
-            ) (List._∷_ (11, Rows.any-gone (Syntax.tyRef Syntax.erased Syntax.mut (Held.behind Syntax.erased))) (List._∷_
-            (12, Rows.any-gone (Syntax.tyInt Syntax.w64)) (List._∷_ (13, Rows.any-gone Syntax.tyBool) (List._∷_ (
-              14,
-              Rows.any-gone (Syntax.tyRef Syntax.erased Syntax.mut (Held.behind Syntax.erased)),
-            ) (List._∷_ (15, Rows.any-gone (Syntax.tyRef Syntax.erased Syntax.imm (Held.behind Syntax.erased))) List.[])))))))))))))))
+        g42 = λ at. List._∷_ e0 (List._∷_
+            (1, Rows.mref-owed (Held.type (Syntax.named 1) (κs .1 .0)) (Syntax.tyRef (Syntax.named 0) Syntax.mut (Held.behind (Syntax.named 1))) 0 5 (Row.lease (κs .0) (qs .0))) (List._∷_ e31 (List._∷_
+            e41 (List._∷_ e43 (List._∷_ e44 (List._∷_ e48 (List._∷_ e49 (List._∷_ e51 (List._∷_ e53 (List._∷_ e7 (List._∷_ e11 (List._∷_ e12 (List._∷_ e14 (List._∷_ e18 (List._∷_ e20
+            List.[])))))))))))))))
 
         abbrev g43 : (at : Nat.ℕ → Nat.ℕ) → List.List Row.Entry
-        g43 = λ at. List._∷_ (16, Rows.any-gone (Syntax.tyInt Syntax.w32)) (List._∷_ (17, Rows.any-gone (Syntax.tyInt Syntax.w32)) (List._∷_ (18, Rows.any-gone (Syntax.tyInt Syntax.w32)) (List._∷_ (
-          19,
-          Rows.any-gone (Syntax.tyStruct (List._∷_ 99 (List._∷_ 111 (List._∷_ 100 (List._∷_ 101 (List._∷_ 58 (List._∷_ 58 (List._∷_ 67 (List._∷_ 111 (List._∷_ 100 (List._∷_ 101 List.[]))))))))))
-              (Syntax.tcons (Syntax.tyInt Syntax.w64) (Syntax.tcons (Syntax.tyInt Syntax.w32) (Syntax.tcons Syntax.tyBool (Syntax.tcons (Syntax.tyStruct (List._∷_ 98 (List._∷_ 105 (List._∷_ 116 (List._∷_
-              115 (List._∷_ 58 (List._∷_ 58 (List._∷_ 66 (List._∷_ 105 (List._∷_ 116 (List._∷_ 80 (List._∷_ 111 (List._∷_ 115 (List._∷_ 105 (List._∷_ 116 (List._∷_ 105 (List._∷_ 111 (List._∷_ 110
-              List.[]))))))))))))))))) (Syntax.tcons (Syntax.tyInt Syntax.w64) Syntax.tnil)) Syntax.tnil))))),
-        ) (List._∷_ (20, Rows.any-gone (Syntax.tyInt Syntax.w32)) (List._∷_ (
-          21,
-          Rows.mref (Held.type
-              (Syntax.named 1) (κs .1 .0)) (Syntax.tyRef Syntax.erased Syntax.mut (Held.behind Syntax.erased)) 5,
-        ) (List._∷_ (
-          22,
-          Rows.any-gone (Syntax.tyRef Syntax.erased Syntax.imm (Held.behind
-              Syntax.erased)),
-        ) (List._∷_ (
-          23,
-          Rows.any-gone (Syntax.tyStruct (List._∷_ 99 (List._∷_ 111 (List._∷_ 100 (List._∷_ 101 (List._∷_ 58 (List._∷_ 58 (List._∷_ 67 (List._∷_ 111 (List._∷_ 100
-              (List._∷_ 101 List.[])))))))))) (Syntax.tcons (Syntax.tyInt Syntax.w64) (Syntax.tcons (Syntax.tyInt Syntax.w32) (Syntax.tcons Syntax.tyBool (Syntax.tcons (Syntax.tyStruct (List._∷_ 98
-              (List._∷_ 105 (List._∷_ 116 (List._∷_ 115 (List._∷_ 58 (List._∷_ 58 (List._∷_ 66 (List._∷_ 105 (List._∷_ 116 (List._∷_ 80 (List._∷_ 111 (List._∷_ 115 (List._∷_ 105 (List._∷_ 116 (List._∷_ 105
-              (List._∷_ 111 (List._∷_ 110 List.[]))))))))))))))))) (Syntax.tcons (Syntax.tyInt Syntax.w64) Syntax.tnil)) Syntax.tnil))))),
-        ) List.[])))))))
+        g43 = λ at. List._∷_ e22 (List._∷_ e24 (List._∷_ e26 (List._∷_ e28 (List._∷_ e32 (List._∷_
+            (21, Rows.mref (Held.type (Syntax.named 1) (κs .1 .0)) (Syntax.tyRef Syntax.erased Syntax.mut (Held.behind Syntax.erased)) 5) (List._∷_ e38 (List._∷_ e39 List.[])))))))
 
         abbrev g44 : (at : Nat.ℕ → Nat.ℕ) → List.List Row.Entry
-        g44 = λ at. List._∷_ (16, Rows.any-gone (Syntax.tyInt Syntax.w32)) (List._∷_ (17, Rows.any-gone (Syntax.tyInt Syntax.w32)) (List._∷_ (18, Rows.any-gone (Syntax.tyInt Syntax.w32)) (List._∷_ (
-          19,
-          Rows.any-gone (Syntax.tyStruct (List._∷_ 99 (List._∷_ 111 (List._∷_ 100 (List._∷_ 101 (List._∷_ 58 (List._∷_ 58 (List._∷_ 67 (List._∷_ 111 (List._∷_ 100 (List._∷_ 101 List.[]))))))))))
-              (Syntax.tcons (Syntax.tyInt Syntax.w64) (Syntax.tcons (Syntax.tyInt Syntax.w32) (Syntax.tcons Syntax.tyBool (Syntax.tcons (Syntax.tyStruct (List._∷_ 98 (List._∷_ 105 (List._∷_ 116 (List._∷_
-              115 (List._∷_ 58 (List._∷_ 58 (List._∷_ 66 (List._∷_ 105 (List._∷_ 116 (List._∷_ 80 (List._∷_ 111 (List._∷_ 115 (List._∷_ 105 (List._∷_ 116 (List._∷_ 105 (List._∷_ 111 (List._∷_ 110
-              List.[]))))))))))))))))) (Syntax.tcons (Syntax.tyInt Syntax.w64) Syntax.tnil)) Syntax.tnil))))),
-        ) (List._∷_ (20, Rows.any-gone (Syntax.tyInt Syntax.w32)) (List._∷_ (
-          21,
-          Rows.mref (Held.type
-              (Syntax.named 1) (κs .1 .0)) (Syntax.tyRef Syntax.erased Syntax.mut (Held.behind Syntax.erased)) 10,
-        ) (List._∷_ (
-          22,
-          Rows.any-gone (Syntax.tyRef Syntax.erased Syntax.imm (Held.behind
-              Syntax.erased)),
-        ) (List._∷_ (
-          23,
-          Rows.any-gone (Syntax.tyStruct (List._∷_ 99 (List._∷_ 111 (List._∷_ 100 (List._∷_ 101 (List._∷_ 58 (List._∷_ 58 (List._∷_ 67 (List._∷_ 111 (List._∷_ 100
-              (List._∷_ 101 List.[])))))))))) (Syntax.tcons (Syntax.tyInt Syntax.w64) (Syntax.tcons (Syntax.tyInt Syntax.w32) (Syntax.tcons Syntax.tyBool (Syntax.tcons (Syntax.tyStruct (List._∷_ 98
-              (List._∷_ 105 (List._∷_ 116 (List._∷_ 115 (List._∷_ 58 (List._∷_ 58 (List._∷_ 66 (List._∷_ 105 (List._∷_ 116 (List._∷_ 80 (List._∷_ 111 (List._∷_ 115 (List._∷_ 105 (List._∷_ 116 (List._∷_ 105
-              (List._∷_ 111 (List._∷_ 110 List.[]))))))))))))))))) (Syntax.tcons (Syntax.tyInt Syntax.w64) Syntax.tnil)) Syntax.tnil))))),
-        ) List.[])))))))
+        g44 = λ at. List._∷_ e22 (List._∷_ e24 (List._∷_ e26 (List._∷_ e28 (List._∷_ e32 (List._∷_
+            (21, Rows.mref (Held.type (Syntax.named 1) (κs .1 .0)) (Syntax.tyRef Syntax.erased Syntax.mut (Held.behind Syntax.erased)) 10) (List._∷_ e38 (List._∷_ e39 List.[])))))))
 
         abbrev g45 : (at : Nat.ℕ → Nat.ℕ) → List.List Row.Entry
-        g45 = λ at. List._∷_ (16, Rows.any-gone (Syntax.tyInt Syntax.w32)) (List._∷_ (17, Rows.any-gone (Syntax.tyInt Syntax.w32)) (List._∷_ (18, Rows.any-gone (Syntax.tyInt Syntax.w32)) (List._∷_ (
-          19,
-          Rows.any-gone (Syntax.tyStruct (List._∷_ 99 (List._∷_ 111 (List._∷_ 100 (List._∷_ 101 (List._∷_ 58 (List._∷_ 58 (List._∷_ 67 (List._∷_ 111 (List._∷_ 100 (List._∷_ 101 List.[]))))))))))
-              (Syntax.tcons (Syntax.tyInt Syntax.w64) (Syntax.tcons (Syntax.tyInt Syntax.w32) (Syntax.tcons Syntax.tyBool (Syntax.tcons (Syntax.tyStruct (List._∷_ 98 (List._∷_ 105 (List._∷_ 116 (List._∷_
-              115 (List._∷_ 58 (List._∷_ 58 (List._∷_ 66 (List._∷_ 105 (List._∷_ 116 (List._∷_ 80 (List._∷_ 111 (List._∷_ 115 (List._∷_ 105 (List._∷_ 116 (List._∷_ 105 (List._∷_ 111 (List._∷_ 110
-              List.[]))))))))))))))))) (Syntax.tcons (Syntax.tyInt Syntax.w64) Syntax.tnil)) Syntax.tnil))))),
-        ) (List._∷_ (20, Rows.any-gone (Syntax.tyInt Syntax.w32)) (List._∷_ (
-          21,
-          AtSlots.mrefAt 2 (λ
-              κc. Held.type (Syntax.named 1) (κc .1 .0)) Held.Value (λ κc v. v) (List._∷_ 10 (List._∷_ 1 List.[])) (Syntax.tyRef Syntax.erased Syntax.mut (Held.behind Syntax.erased)) 10,
-        ) (List._∷_ (
-          22,
-          Rows.any-gone (Syntax.tyRef Syntax.erased Syntax.imm (Held.behind Syntax.erased)),
-        ) (List._∷_ (
-          23,
-          Rows.any-gone (Syntax.tyStruct (List._∷_ 99 (List._∷_ 111 (List._∷_ 100 (List._∷_ 101
-              (List._∷_ 58 (List._∷_ 58 (List._∷_ 67 (List._∷_ 111 (List._∷_ 100 (List._∷_ 101 List.[])))))))))) (Syntax.tcons (Syntax.tyInt Syntax.w64) (Syntax.tcons (Syntax.tyInt Syntax.w32) (Syntax.tcons
-              Syntax.tyBool (Syntax.tcons (Syntax.tyStruct (List._∷_ 98 (List._∷_ 105 (List._∷_ 116 (List._∷_ 115 (List._∷_ 58 (List._∷_ 58 (List._∷_ 66 (List._∷_ 105 (List._∷_ 116 (List._∷_ 80 (List._∷_
-              111 (List._∷_ 115 (List._∷_ 105 (List._∷_ 116 (List._∷_ 105 (List._∷_ 111 (List._∷_ 110 List.[]))))))))))))))))) (Syntax.tcons (Syntax.tyInt Syntax.w64) Syntax.tnil)) Syntax.tnil))))),
-        )
-            List.[])))))))
+        g45 = λ at. List._∷_ e22 (List._∷_ e24 (List._∷_ e26 (List._∷_ e28 (List._∷_ e32 (List._∷_ e35 (List._∷_ e38 (List._∷_ e39 List.[])))))))
 
         abbrev g46 : (at : Nat.ℕ → Nat.ℕ) → List.List Row.Entry
-        g46 = λ at. List._∷_ (16, Rows.any-gone (Syntax.tyInt Syntax.w32)) (List._∷_ (17, Rows.any-gone (Syntax.tyInt Syntax.w32)) (List._∷_ (18, Rows.any-gone (Syntax.tyInt Syntax.w32)) (List._∷_ (
-          19,
-          Rows.any-gone (Syntax.tyStruct (List._∷_ 99 (List._∷_ 111 (List._∷_ 100 (List._∷_ 101 (List._∷_ 58 (List._∷_ 58 (List._∷_ 67 (List._∷_ 111 (List._∷_ 100 (List._∷_ 101 List.[]))))))))))
-              (Syntax.tcons (Syntax.tyInt Syntax.w64) (Syntax.tcons (Syntax.tyInt Syntax.w32) (Syntax.tcons Syntax.tyBool (Syntax.tcons (Syntax.tyStruct (List._∷_ 98 (List._∷_ 105 (List._∷_ 116 (List._∷_
-              115 (List._∷_ 58 (List._∷_ 58 (List._∷_ 66 (List._∷_ 105 (List._∷_ 116 (List._∷_ 80 (List._∷_ 111 (List._∷_ 115 (List._∷_ 105 (List._∷_ 116 (List._∷_ 105 (List._∷_ 111 (List._∷_ 110
-              List.[]))))))))))))))))) (Syntax.tcons (Syntax.tyInt Syntax.w64) Syntax.tnil)) Syntax.tnil))))),
-        ) (List._∷_ (20, Rows.sc-here (Row.sInt Syntax.w32)) (List._∷_ (
-          21,
-          AtSlots.mleftAt 2 (λ κc.
-              Held.type (Syntax.named 1) (κc .1 .0)) Held.Value (λ κc v. v) (List._∷_ 10 (List._∷_ 1 List.[])) (Syntax.tyRef Syntax.erased Syntax.mut (Held.behind Syntax.erased)),
-        ) (List._∷_ (
-          22,
-          Rows.any-gone (Syntax.tyRef Syntax.erased Syntax.imm (Held.behind Syntax.erased)),
-        ) (List._∷_ (
-          23,
-          Rows.any-gone (Syntax.tyStruct (List._∷_ 99 (List._∷_ 111 (List._∷_ 100 (List._∷_ 101
-              (List._∷_ 58 (List._∷_ 58 (List._∷_ 67 (List._∷_ 111 (List._∷_ 100 (List._∷_ 101 List.[])))))))))) (Syntax.tcons (Syntax.tyInt Syntax.w64) (Syntax.tcons (Syntax.tyInt Syntax.w32) (Syntax.tcons
-              Syntax.tyBool (Syntax.tcons (Syntax.tyStruct (List._∷_ 98 (List._∷_ 105 (List._∷_ 116 (List._∷_ 115 (List._∷_ 58 (List._∷_ 58 (List._∷_ 66 (List._∷_ 105 (List._∷_ 116 (List._∷_ 80 (List._∷_
-              111 (List._∷_ 115 (List._∷_ 105 (List._∷_ 116 (List._∷_ 105 (List._∷_ 111 (List._∷_ 110 List.[]))))))))))))))))) (Syntax.tcons (Syntax.tyInt Syntax.w64) Syntax.tnil)) Syntax.tnil))))),
-        )
-            List.[])))))))
+        g46 = λ at. List._∷_ e22 (List._∷_ e24 (List._∷_ e26 (List._∷_ e28 (List._∷_ e33 (List._∷_ e34 (List._∷_ e38 (List._∷_ e39 List.[])))))))
 
         abbrev g48 : (at : Nat.ℕ → Nat.ℕ) → List.List Row.Entry
-        g48 = λ at. List._∷_ (
-          0,
-          Rows.any-gone (Syntax.tyEnum (List._∷_ 99 (List._∷_ 111 (List._∷_ 100 (List._∷_ 101 (List._∷_ 58 (List._∷_ 58 (List._∷_ 67 (List._∷_ 111 (List._∷_ 100 (List._∷_ 101
-              (List._∷_ 100 List.[]))))))))))) (Syntax.ttcons (Syntax.tcons (Syntax.tyStruct (List._∷_ 99 (List._∷_ 111 (List._∷_ 100 (List._∷_ 101 (List._∷_ 58 (List._∷_ 58 (List._∷_ 67 (List._∷_ 111
-              (List._∷_ 100 (List._∷_ 101 List.[])))))))))) (Syntax.tcons (Syntax.tyInt Syntax.w64) (Syntax.tcons (Syntax.tyInt Syntax.w32) (Syntax.tcons Syntax.tyBool (Syntax.tcons (Syntax.tyStruct
-              (List._∷_ 98 (List._∷_ 105 (List._∷_ 116 (List._∷_ 115 (List._∷_ 58 (List._∷_ 58 (List._∷_ 66 (List._∷_ 105 (List._∷_ 116 (List._∷_ 80 (List._∷_ 111 (List._∷_ 115 (List._∷_ 105 (List._∷_ 116
-              (List._∷_ 105 (List._∷_ 111 (List._∷_ 110 List.[]))))))))))))))))) (Syntax.tcons (Syntax.tyInt Syntax.w64) Syntax.tnil)) Syntax.tnil))))) Syntax.tnil) (Syntax.ttcons Syntax.tnil
-              Syntax.ttnil))),
-        ) (List._∷_ (1, Rows.mref (Held.type (Syntax.named 1) (κs .1 .0)) (Syntax.tyRef (Syntax.named 0) Syntax.mut (Held.behind (Syntax.named 1))) 0) (List._∷_ (
-          2,
-          Rows.sc-here
-              (Row.sInt Syntax.w32),
-        ) (List._∷_ (3, Rows.sc-here (Row.sInt Syntax.w32)) (List._∷_ (4, Rows.sc-here (Row.sInt Syntax.w32)) (List._∷_ (
-          5,
-          Rows.any-gone (Syntax.tyEnum (List._∷_ 98 (List._∷_
-              105 (List._∷_ 116 (List._∷_ 115 (List._∷_ 58 (List._∷_ 58 (List._∷_ 90 (List._∷_ 101 (List._∷_ 114 (List._∷_ 111 (List._∷_ 82 (List._∷_ 117 (List._∷_ 110 List.[]))))))))))))) (Syntax.ttcons
-              (Syntax.tcons (Syntax.tyInt Syntax.w64) Syntax.tnil) (Syntax.ttcons Syntax.tnil Syntax.ttnil))),
-        ) (List._∷_ (6, Rows.sc-here (Row.sInt Syntax.w64)) (List._∷_ (
-          7,
-          Rows.any-gone (Syntax.tyInt
-              Syntax.w32),
-        ) (List._∷_ (
-          8,
-          Rows.any-gone (Syntax.tyStruct (List._∷_ 98 (List._∷_ 105 (List._∷_ 116 (List._∷_ 115 (List._∷_ 58 (List._∷_ 58 (List._∷_ 66 (List._∷_ 105 (List._∷_ 116 (List._∷_
-              80 (List._∷_ 111 (List._∷_ 115 (List._∷_ 105 (List._∷_ 116 (List._∷_ 105 (List._∷_ 111 (List._∷_ 110 List.[]))))))))))))))))) (Syntax.tcons (Syntax.tyInt Syntax.w64) Syntax.tnil)),
-        ) (List._∷_
-            (9, Rows.sc-here (Row.sInt Syntax.w32)) (List._∷_ (
-              10,
-              Rows.any-gone (Syntax.tyStruct (List._∷_ 98 (List._∷_ 105 (List._∷_ 116 (List._∷_ 115 (List._∷_ 58 (List._∷_ 58 (List._∷_ 66 (List._∷_
-                  105 (List._∷_ 116 (List._∷_ 80 (List._∷_ 111 (List._∷_ 115 (List._∷_ 105 (List._∷_ 116 (List._∷_ 105 (List._∷_ 111 (List._∷_ 110 List.[]))))))))))))))))) (Syntax.tcons (Syntax.tyInt
-                  Syntax.w64) Syntax.tnil)),
-            ) (List._∷_ (11, Rows.any-gone (Syntax.tyRef Syntax.erased Syntax.mut (Held.behind Syntax.erased))) (List._∷_ (12, Rows.any-gone (Syntax.tyInt Syntax.w64))
-            (List._∷_ (13, Rows.any-gone Syntax.tyBool) (List._∷_ (14, Rows.any-gone (Syntax.tyRef Syntax.erased Syntax.mut (Held.behind Syntax.erased))) (List._∷_ (
-              15,
-              Rows.any-gone (Syntax.tyRef
-                  Syntax.erased Syntax.imm (Held.behind Syntax.erased)),
-            ) List.[])))))))))))))))
+        g48 = λ at. List._∷_ e0 (List._∷_ (1, Rows.mref (Held.type (Syntax.named 1) (κs .1 .0)) (Syntax.tyRef (Syntax.named 0) Syntax.mut (Held.behind (Syntax.named 1))) 0) (List._∷_ e31 (List._∷_ e41
+            (List._∷_ e43 (List._∷_ e44 (List._∷_ e48 (List._∷_ e49 (List._∷_ e51 (List._∷_ e54 (List._∷_ e7 (List._∷_ e11 (List._∷_ e12 (List._∷_ e14 (List._∷_ e18 (List._∷_ e20 List.[])))))))))))))))
 
         abbrev g49 : (at : Nat.ℕ → Nat.ℕ) → List.List Row.Entry
-        g49 = λ at. List._∷_ (
-          0,
-          Rows.any-gone (Syntax.tyEnum (List._∷_ 99 (List._∷_ 111 (List._∷_ 100 (List._∷_ 101 (List._∷_ 58 (List._∷_ 58 (List._∷_ 67 (List._∷_ 111 (List._∷_ 100 (List._∷_ 101
-              (List._∷_ 100 List.[]))))))))))) (Syntax.ttcons (Syntax.tcons (Syntax.tyStruct (List._∷_ 99 (List._∷_ 111 (List._∷_ 100 (List._∷_ 101 (List._∷_ 58 (List._∷_ 58 (List._∷_ 67 (List._∷_ 111
-              (List._∷_ 100 (List._∷_ 101 List.[])))))))))) (Syntax.tcons (Syntax.tyInt Syntax.w64) (Syntax.tcons (Syntax.tyInt Syntax.w32) (Syntax.tcons Syntax.tyBool (Syntax.tcons (Syntax.tyStruct
-              (List._∷_ 98 (List._∷_ 105 (List._∷_ 116 (List._∷_ 115 (List._∷_ 58 (List._∷_ 58 (List._∷_ 66 (List._∷_ 105 (List._∷_ 116 (List._∷_ 80 (List._∷_ 111 (List._∷_ 115 (List._∷_ 105 (List._∷_ 116
-              (List._∷_ 105 (List._∷_ 111 (List._∷_ 110 List.[]))))))))))))))))) (Syntax.tcons (Syntax.tyInt Syntax.w64) Syntax.tnil)) Syntax.tnil))))) Syntax.tnil) (Syntax.ttcons Syntax.tnil
-              Syntax.ttnil))),
-        ) (List._∷_ (
-          1,
-          Reshare.mref-owedS (Held.type (Syntax.named 1) (κs .1 .0)) (Syntax.tyRef (Syntax.named 0) Syntax.mut (Held.behind (Syntax.named 1))) 0 6 (Row.lease (κs .0)
-              (qs .0)),
-        ) (List._∷_ (2, Rows.sc-here (Row.sInt Syntax.w32)) (List._∷_ (3, Rows.sc-here (Row.sInt Syntax.w32)) (List._∷_ (4, Rows.sc-here (Row.sInt Syntax.w32)) (List._∷_ (
-          5,
-          Rows.any-gone (Syntax.tyEnum (List._∷_ 98 (List._∷_ 105 (List._∷_ 116 (List._∷_ 115 (List._∷_ 58 (List._∷_ 58 (List._∷_ 90 (List._∷_ 101 (List._∷_ 114 (List._∷_ 111 (List._∷_ 82 (List._∷_ 117
-              (List._∷_ 110 List.[]))))))))))))) (Syntax.ttcons (Syntax.tcons (Syntax.tyInt Syntax.w64) Syntax.tnil) (Syntax.ttcons Syntax.tnil Syntax.ttnil))),
-        ) (List._∷_ (
-          6,
-          Rows.sc-here (Row.sInt
-              Syntax.w64),
-        ) (List._∷_ (7, Rows.any-gone (Syntax.tyInt Syntax.w32)) (List._∷_ (
-          8,
-          Rows.any-gone (Syntax.tyStruct (List._∷_ 98 (List._∷_ 105 (List._∷_ 116 (List._∷_ 115 (List._∷_ 58
-              (List._∷_ 58 (List._∷_ 66 (List._∷_ 105 (List._∷_ 116 (List._∷_ 80 (List._∷_ 111 (List._∷_ 115 (List._∷_ 105 (List._∷_ 116 (List._∷_ 105 (List._∷_ 111 (List._∷_ 110 List.[])))))))))))))))))
-              (Syntax.tcons (Syntax.tyInt Syntax.w64) Syntax.tnil)),
-        ) (List._∷_ (9, Rows.sc-here (Row.sInt Syntax.w32)) (List._∷_ (
-          10,
-          Rows.any-gone (Syntax.tyStruct (List._∷_ 98 (List._∷_ 105 (List._∷_
-              116 (List._∷_ 115 (List._∷_ 58 (List._∷_ 58 (List._∷_ 66 (List._∷_ 105 (List._∷_ 116 (List._∷_ 80 (List._∷_ 111 (List._∷_ 115 (List._∷_ 105 (List._∷_ 116 (List._∷_ 105 (List._∷_ 111 (List._∷_
-              110 List.[]))))))))))))))))) (Syntax.tcons (Syntax.tyInt Syntax.w64) Syntax.tnil)),
-        ) (List._∷_ (11, Rows.any-gone (Syntax.tyRef Syntax.erased Syntax.mut (Held.behind Syntax.erased)))
-            (List._∷_ (12, Rows.any-gone (Syntax.tyInt Syntax.w64)) (List._∷_ (13, Rows.any-gone Syntax.tyBool) (List._∷_ (
-              14,
-              Rows.any-gone (Syntax.tyRef Syntax.erased Syntax.mut (Held.behind
-                  Syntax.erased)),
-            ) (List._∷_ (15, Rows.any-gone (Syntax.tyRef Syntax.erased Syntax.imm (Held.behind Syntax.erased))) List.[])))))))))))))))
+        g49 = λ at. List._∷_ e0 (List._∷_
+            (1, Reshare.mref-owedS (Held.type (Syntax.named 1) (κs .1 .0)) (Syntax.tyRef (Syntax.named 0) Syntax.mut (Held.behind (Syntax.named 1))) 0 6 (Row.lease (κs .0) (qs .0))) (List._∷_ e31
+            (List._∷_ e41 (List._∷_ e43 (List._∷_ e44 (List._∷_ e48 (List._∷_ e49 (List._∷_ e51 (List._∷_ e54 (List._∷_ e7 (List._∷_ e11 (List._∷_ e12 (List._∷_ e14 (List._∷_ e18 (List._∷_ e20
+            List.[])))))))))))))))
 
         abbrev g50 : (at : Nat.ℕ → Nat.ℕ) → List.List Row.Entry
-        g50 = λ at. List._∷_ (16, Rows.any-gone (Syntax.tyInt Syntax.w32)) (List._∷_ (17, Rows.any-gone (Syntax.tyInt Syntax.w32)) (List._∷_ (18, Rows.any-gone (Syntax.tyInt Syntax.w32)) (List._∷_ (
-          19,
-          Rows.any-gone (Syntax.tyStruct (List._∷_ 99 (List._∷_ 111 (List._∷_ 100 (List._∷_ 101 (List._∷_ 58 (List._∷_ 58 (List._∷_ 67 (List._∷_ 111 (List._∷_ 100 (List._∷_ 101 List.[]))))))))))
-              (Syntax.tcons (Syntax.tyInt Syntax.w64) (Syntax.tcons (Syntax.tyInt Syntax.w32) (Syntax.tcons Syntax.tyBool (Syntax.tcons (Syntax.tyStruct (List._∷_ 98 (List._∷_ 105 (List._∷_ 116 (List._∷_
-              115 (List._∷_ 58 (List._∷_ 58 (List._∷_ 66 (List._∷_ 105 (List._∷_ 116 (List._∷_ 80 (List._∷_ 111 (List._∷_ 115 (List._∷_ 105 (List._∷_ 116 (List._∷_ 105 (List._∷_ 111 (List._∷_ 110
-              List.[]))))))))))))))))) (Syntax.tcons (Syntax.tyInt Syntax.w64) Syntax.tnil)) Syntax.tnil))))),
-        ) (List._∷_ (20, Rows.any-gone (Syntax.tyInt Syntax.w32)) (List._∷_ (
-          21,
-          Rows.any-gone
-              (Syntax.tyRef Syntax.erased Syntax.mut (Held.behind Syntax.erased)),
-        ) (List._∷_ (
-          22,
-          Rows.sref (Held.type (Syntax.named 1) (κs .1 .0)) (Syntax.tyRef Syntax.erased Syntax.imm (Held.behind
-              Syntax.erased)) 6,
-        ) (List._∷_ (
-          23,
-          Rows.any-gone (Syntax.tyStruct (List._∷_ 99 (List._∷_ 111 (List._∷_ 100 (List._∷_ 101 (List._∷_ 58 (List._∷_ 58 (List._∷_ 67 (List._∷_ 111 (List._∷_ 100
-              (List._∷_ 101 List.[])))))))))) (Syntax.tcons (Syntax.tyInt Syntax.w64) (Syntax.tcons (Syntax.tyInt Syntax.w32) (Syntax.tcons Syntax.tyBool (Syntax.tcons (Syntax.tyStruct (List._∷_ 98
-              (List._∷_ 105 (List._∷_ 116 (List._∷_ 115 (List._∷_ 58 (List._∷_ 58 (List._∷_ 66 (List._∷_ 105 (List._∷_ 116 (List._∷_ 80 (List._∷_ 111 (List._∷_ 115 (List._∷_ 105 (List._∷_ 116 (List._∷_ 105
-              (List._∷_ 111 (List._∷_ 110 List.[]))))))))))))))))) (Syntax.tcons (Syntax.tyInt Syntax.w64) Syntax.tnil)) Syntax.tnil))))),
-        ) List.[])))))))
+        g50 = λ at. List._∷_ e22 (List._∷_ e24 (List._∷_ e26 (List._∷_ e28 (List._∷_ e32 (List._∷_ e36 (List._∷_
+            (22, Rows.sref (Held.type (Syntax.named 1) (κs .1 .0)) (Syntax.tyRef Syntax.erased Syntax.imm (Held.behind Syntax.erased)) 6) (List._∷_ e39 List.[])))))))
 
         abbrev g51 : (at : Nat.ℕ → Nat.ℕ) → List.List Row.Entry
-        g51 = λ at. List._∷_ (16, Rows.any-gone (Syntax.tyInt Syntax.w32)) (List._∷_ (17, Rows.any-gone (Syntax.tyInt Syntax.w32)) (List._∷_ (18, Rows.any-gone (Syntax.tyInt Syntax.w32)) (List._∷_ (
-          19,
-          Rows.any-gone (Syntax.tyStruct (List._∷_ 99 (List._∷_ 111 (List._∷_ 100 (List._∷_ 101 (List._∷_ 58 (List._∷_ 58 (List._∷_ 67 (List._∷_ 111 (List._∷_ 100 (List._∷_ 101 List.[]))))))))))
-              (Syntax.tcons (Syntax.tyInt Syntax.w64) (Syntax.tcons (Syntax.tyInt Syntax.w32) (Syntax.tcons Syntax.tyBool (Syntax.tcons (Syntax.tyStruct (List._∷_ 98 (List._∷_ 105 (List._∷_ 116 (List._∷_
-              115 (List._∷_ 58 (List._∷_ 58 (List._∷_ 66 (List._∷_ 105 (List._∷_ 116 (List._∷_ 80 (List._∷_ 111 (List._∷_ 115 (List._∷_ 105 (List._∷_ 116 (List._∷_ 105 (List._∷_ 111 (List._∷_ 110
-              List.[]))))))))))))))))) (Syntax.tcons (Syntax.tyInt Syntax.w64) Syntax.tnil)) Syntax.tnil))))),
-        ) (List._∷_ (20, Rows.any-gone (Syntax.tyInt Syntax.w32)) (List._∷_ (
-          21,
-          Rows.any-gone
-              (Syntax.tyRef Syntax.erased Syntax.mut (Held.behind Syntax.erased)),
-        ) (List._∷_ (
-          22,
-          Rows.sref (Held.type (Syntax.named 1) (κs .1 .0)) (Syntax.tyRef Syntax.erased Syntax.imm (Held.behind
-              Syntax.erased)) 11,
-        ) (List._∷_ (
-          23,
-          Rows.any-gone (Syntax.tyStruct (List._∷_ 99 (List._∷_ 111 (List._∷_ 100 (List._∷_ 101 (List._∷_ 58 (List._∷_ 58 (List._∷_ 67 (List._∷_ 111 (List._∷_ 100
-              (List._∷_ 101 List.[])))))))))) (Syntax.tcons (Syntax.tyInt Syntax.w64) (Syntax.tcons (Syntax.tyInt Syntax.w32) (Syntax.tcons Syntax.tyBool (Syntax.tcons (Syntax.tyStruct (List._∷_ 98
-              (List._∷_ 105 (List._∷_ 116 (List._∷_ 115 (List._∷_ 58 (List._∷_ 58 (List._∷_ 66 (List._∷_ 105 (List._∷_ 116 (List._∷_ 80 (List._∷_ 111 (List._∷_ 115 (List._∷_ 105 (List._∷_ 116 (List._∷_ 105
-              (List._∷_ 111 (List._∷_ 110 List.[]))))))))))))))))) (Syntax.tcons (Syntax.tyInt Syntax.w64) Syntax.tnil)) Syntax.tnil))))),
-        ) List.[])))))))
+        g51 = λ at. List._∷_ e22 (List._∷_ e24 (List._∷_ e26 (List._∷_ e28 (List._∷_ e32 (List._∷_ e36 (List._∷_
+            (22, Rows.sref (Held.type (Syntax.named 1) (κs .1 .0)) (Syntax.tyRef Syntax.erased Syntax.imm (Held.behind Syntax.erased)) 11) (List._∷_ e39 List.[])))))))
 
         abbrev g52 : (at : Nat.ℕ → Nat.ℕ) → List.List Row.Entry
-        g52 = λ at. List._∷_ (16, Rows.any-gone (Syntax.tyInt Syntax.w32)) (List._∷_ (17, Rows.any-gone (Syntax.tyInt Syntax.w32)) (List._∷_ (18, Rows.any-gone (Syntax.tyInt Syntax.w32)) (List._∷_ (
-          19,
-          Rows.any-gone (Syntax.tyStruct (List._∷_ 99 (List._∷_ 111 (List._∷_ 100 (List._∷_ 101 (List._∷_ 58 (List._∷_ 58 (List._∷_ 67 (List._∷_ 111 (List._∷_ 100 (List._∷_ 101 List.[]))))))))))
-              (Syntax.tcons (Syntax.tyInt Syntax.w64) (Syntax.tcons (Syntax.tyInt Syntax.w32) (Syntax.tcons Syntax.tyBool (Syntax.tcons (Syntax.tyStruct (List._∷_ 98 (List._∷_ 105 (List._∷_ 116 (List._∷_
-              115 (List._∷_ 58 (List._∷_ 58 (List._∷_ 66 (List._∷_ 105 (List._∷_ 116 (List._∷_ 80 (List._∷_ 111 (List._∷_ 115 (List._∷_ 105 (List._∷_ 116 (List._∷_ 105 (List._∷_ 111 (List._∷_ 110
-              List.[]))))))))))))))))) (Syntax.tcons (Syntax.tyInt Syntax.w64) Syntax.tnil)) Syntax.tnil))))),
-        ) (List._∷_ (20, Rows.any-gone (Syntax.tyInt Syntax.w32)) (List._∷_ (
-          21,
-          Rows.any-gone
-              (Syntax.tyRef Syntax.erased Syntax.mut (Held.behind Syntax.erased)),
-        ) (List._∷_ (
-          22,
-          AtSlots.srefAt 2 (λ κc. Held.type (Syntax.named 1) (κc .1 .0)) Held.Value (λ κc v. v) (List._∷_ 11
-              (List._∷_ 1 List.[])) (Syntax.tyRef Syntax.erased Syntax.imm (Held.behind Syntax.erased)) 11,
-        ) (List._∷_ (
-          23,
-          Rows.any-gone (Syntax.tyStruct (List._∷_ 99 (List._∷_ 111 (List._∷_ 100
-              (List._∷_ 101 (List._∷_ 58 (List._∷_ 58 (List._∷_ 67 (List._∷_ 111 (List._∷_ 100 (List._∷_ 101 List.[])))))))))) (Syntax.tcons (Syntax.tyInt Syntax.w64) (Syntax.tcons (Syntax.tyInt Syntax.w32)
-              (Syntax.tcons Syntax.tyBool (Syntax.tcons (Syntax.tyStruct (List._∷_ 98 (List._∷_ 105 (List._∷_ 116 (List._∷_ 115 (List._∷_ 58 (List._∷_ 58 (List._∷_ 66 (List._∷_ 105 (List._∷_ 116 (List._∷_
-              80 (List._∷_ 111 (List._∷_ 115 (List._∷_ 105 (List._∷_ 116 (List._∷_ 105 (List._∷_ 111 (List._∷_ 110 List.[]))))))))))))))))) (Syntax.tcons (Syntax.tyInt Syntax.w64) Syntax.tnil))
-              Syntax.tnil))))),
-        ) List.[])))))))
+        g52 = λ at. List._∷_ e22 (List._∷_ e24 (List._∷_ e26 (List._∷_ e28 (List._∷_ e32 (List._∷_ e36 (List._∷_ e37 (List._∷_ e39 List.[])))))))
 
         abbrev g53 : (at : Nat.ℕ → Nat.ℕ) → List.List Row.Entry
-        g53 = λ at. List._∷_ (
-          0,
-          Rows.any-gone (Syntax.tyEnum (List._∷_ 99 (List._∷_ 111 (List._∷_ 100 (List._∷_ 101 (List._∷_ 58 (List._∷_ 58 (List._∷_ 67 (List._∷_ 111 (List._∷_ 100 (List._∷_ 101
-              (List._∷_ 100 List.[]))))))))))) (Syntax.ttcons (Syntax.tcons (Syntax.tyStruct (List._∷_ 99 (List._∷_ 111 (List._∷_ 100 (List._∷_ 101 (List._∷_ 58 (List._∷_ 58 (List._∷_ 67 (List._∷_ 111
-              (List._∷_ 100 (List._∷_ 101 List.[])))))))))) (Syntax.tcons (Syntax.tyInt Syntax.w64) (Syntax.tcons (Syntax.tyInt Syntax.w32) (Syntax.tcons Syntax.tyBool (Syntax.tcons (Syntax.tyStruct
-              (List._∷_ 98 (List._∷_ 105 (List._∷_ 116 (List._∷_ 115 (List._∷_ 58 (List._∷_ 58 (List._∷_ 66 (List._∷_ 105 (List._∷_ 116 (List._∷_ 80 (List._∷_ 111 (List._∷_ 115 (List._∷_ 105 (List._∷_ 116
-              (List._∷_ 105 (List._∷_ 111 (List._∷_ 110 List.[]))))))))))))))))) (Syntax.tcons (Syntax.tyInt Syntax.w64) Syntax.tnil)) Syntax.tnil))))) Syntax.tnil) (Syntax.ttcons Syntax.tnil
-              Syntax.ttnil))),
-        ) (List._∷_ (
-          1,
-          Reshare.mref-owedS (Held.type (Syntax.named 1) (κs .1 .0)) (Syntax.tyRef (Syntax.named 0) Syntax.mut (Held.behind (Syntax.named 1))) 0 6 (Row.lease (κs .0)
-              (qs .0)),
-        ) (List._∷_ (2, Rows.sc-here (Row.sInt Syntax.w32)) (List._∷_ (3, Rows.sc-here (Row.sInt Syntax.w32)) (List._∷_ (4, Rows.sc-here (Row.sInt Syntax.w32)) (List._∷_ (
-          5,
-          Rows.any-gone (Syntax.tyEnum (List._∷_ 98 (List._∷_ 105 (List._∷_ 116 (List._∷_ 115 (List._∷_ 58 (List._∷_ 58 (List._∷_ 90 (List._∷_ 101 (List._∷_ 114 (List._∷_ 111 (List._∷_ 82 (List._∷_ 117
-              (List._∷_ 110 List.[]))))))))))))) (Syntax.ttcons (Syntax.tcons (Syntax.tyInt Syntax.w64) Syntax.tnil) (Syntax.ttcons Syntax.tnil Syntax.ttnil))),
-        ) (List._∷_ (
-          6,
-          Rows.sc-here (Row.sInt
-              Syntax.w64),
-        ) (List._∷_ (7, Rows.any-gone (Syntax.tyInt Syntax.w32)) (List._∷_ (
-          8,
-          Rows.any-gone (Syntax.tyStruct (List._∷_ 98 (List._∷_ 105 (List._∷_ 116 (List._∷_ 115 (List._∷_ 58
-              (List._∷_ 58 (List._∷_ 66 (List._∷_ 105 (List._∷_ 116 (List._∷_ 80 (List._∷_ 111 (List._∷_ 115 (List._∷_ 105 (List._∷_ 116 (List._∷_ 105 (List._∷_ 111 (List._∷_ 110 List.[])))))))))))))))))
-              (Syntax.tcons (Syntax.tyInt Syntax.w64) Syntax.tnil)),
-        ) (List._∷_ (9, Rows.sc-here (Row.sInt Syntax.w32)) (List._∷_ (10, Rows.whole (Declared'.row BitPosition.the-type)) (List._∷_ (
-          11,
-          Rows.any-gone (Syntax.tyRef Syntax.erased Syntax.mut (Held.behind Syntax.erased)),
-        ) (List._∷_ (12, Rows.any-gone (Syntax.tyInt Syntax.w64)) (List._∷_ (13, Rows.any-gone Syntax.tyBool)
-            (List._∷_ (14, Rows.any-gone (Syntax.tyRef Syntax.erased Syntax.mut (Held.behind Syntax.erased))) (List._∷_ (
-              15,
-              Rows.any-gone (Syntax.tyRef Syntax.erased Syntax.imm (Held.behind
-                  Syntax.erased)),
-            ) List.[])))))))))))))))
+        g53 = λ at. List._∷_ e0 (List._∷_
+            (1, Reshare.mref-owedS (Held.type (Syntax.named 1) (κs .1 .0)) (Syntax.tyRef (Syntax.named 0) Syntax.mut (Held.behind (Syntax.named 1))) 0 6 (Row.lease (κs .0) (qs .0))) (List._∷_ e31
+            (List._∷_ e41 (List._∷_ e43 (List._∷_ e44 (List._∷_ e48 (List._∷_ e49 (List._∷_ e51 (List._∷_ e54 (List._∷_ e8 (List._∷_ e11 (List._∷_ e12 (List._∷_ e14 (List._∷_ e18 (List._∷_ e20
+            List.[])))))))))))))))
 
         abbrev g54 : (at : Nat.ℕ → Nat.ℕ) → List.List Row.Entry
-        g54 = λ at. List._∷_ (
-          0,
-          Rows.any-gone (Syntax.tyEnum (List._∷_ 99 (List._∷_ 111 (List._∷_ 100 (List._∷_ 101 (List._∷_ 58 (List._∷_ 58 (List._∷_ 67 (List._∷_ 111 (List._∷_ 100 (List._∷_ 101
-              (List._∷_ 100 List.[]))))))))))) (Syntax.ttcons (Syntax.tcons (Syntax.tyStruct (List._∷_ 99 (List._∷_ 111 (List._∷_ 100 (List._∷_ 101 (List._∷_ 58 (List._∷_ 58 (List._∷_ 67 (List._∷_ 111
-              (List._∷_ 100 (List._∷_ 101 List.[])))))))))) (Syntax.tcons (Syntax.tyInt Syntax.w64) (Syntax.tcons (Syntax.tyInt Syntax.w32) (Syntax.tcons Syntax.tyBool (Syntax.tcons (Syntax.tyStruct
-              (List._∷_ 98 (List._∷_ 105 (List._∷_ 116 (List._∷_ 115 (List._∷_ 58 (List._∷_ 58 (List._∷_ 66 (List._∷_ 105 (List._∷_ 116 (List._∷_ 80 (List._∷_ 111 (List._∷_ 115 (List._∷_ 105 (List._∷_ 116
-              (List._∷_ 105 (List._∷_ 111 (List._∷_ 110 List.[]))))))))))))))))) (Syntax.tcons (Syntax.tyInt Syntax.w64) Syntax.tnil)) Syntax.tnil))))) Syntax.tnil) (Syntax.ttcons Syntax.tnil
-              Syntax.ttnil))),
-        ) (List._∷_ (1, Rows.mref (Held.type (Syntax.named 1) (κs .1 .0)) (Syntax.tyRef (Syntax.named 0) Syntax.mut (Held.behind (Syntax.named 1))) 0) (List._∷_ (
-          2,
-          Rows.sc-here
-              (Row.sInt Syntax.w32),
-        ) (List._∷_ (3, Rows.sc-here (Row.sInt Syntax.w32)) (List._∷_ (4, Rows.sc-here (Row.sInt Syntax.w32)) (List._∷_ (
-          5,
-          Rows.any-gone (Syntax.tyEnum (List._∷_ 98 (List._∷_
-              105 (List._∷_ 116 (List._∷_ 115 (List._∷_ 58 (List._∷_ 58 (List._∷_ 90 (List._∷_ 101 (List._∷_ 114 (List._∷_ 111 (List._∷_ 82 (List._∷_ 117 (List._∷_ 110 List.[]))))))))))))) (Syntax.ttcons
-              (Syntax.tcons (Syntax.tyInt Syntax.w64) Syntax.tnil) (Syntax.ttcons Syntax.tnil Syntax.ttnil))),
-        ) (List._∷_ (6, Rows.sc-here (Row.sInt Syntax.w64)) (List._∷_ (
-          7,
-          Rows.any-gone (Syntax.tyInt
-              Syntax.w32),
-        ) (List._∷_ (
-          8,
-          Rows.any-gone (Syntax.tyStruct (List._∷_ 98 (List._∷_ 105 (List._∷_ 116 (List._∷_ 115 (List._∷_ 58 (List._∷_ 58 (List._∷_ 66 (List._∷_ 105 (List._∷_ 116 (List._∷_
-              80 (List._∷_ 111 (List._∷_ 115 (List._∷_ 105 (List._∷_ 116 (List._∷_ 105 (List._∷_ 111 (List._∷_ 110 List.[]))))))))))))))))) (Syntax.tcons (Syntax.tyInt Syntax.w64) Syntax.tnil)),
-        ) (List._∷_
-            (9, Rows.sc-here (Row.sInt Syntax.w32)) (List._∷_ (10, Rows.whole (Declared'.row BitPosition.the-type)) (List._∷_ (
-              11,
-              Rows.any-gone (Syntax.tyRef Syntax.erased Syntax.mut (Held.behind
-                  Syntax.erased)),
-            ) (List._∷_ (12, Rows.any-gone (Syntax.tyInt Syntax.w64)) (List._∷_ (13, Rows.any-gone Syntax.tyBool) (List._∷_ (
-              14,
-              Rows.any-gone (Syntax.tyRef Syntax.erased Syntax.mut
-                  (Held.behind Syntax.erased)),
-            ) (List._∷_ (15, Rows.any-gone (Syntax.tyRef Syntax.erased Syntax.imm (Held.behind Syntax.erased))) List.[])))))))))))))))
+        g54 = λ at. List._∷_ e0 (List._∷_ (1, Rows.mref (Held.type (Syntax.named 1) (κs .1 .0)) (Syntax.tyRef (Syntax.named 0) Syntax.mut (Held.behind (Syntax.named 1))) 0) (List._∷_ e31 (List._∷_ e41
+            (List._∷_ e43 (List._∷_ e44 (List._∷_ e48 (List._∷_ e49 (List._∷_ e51 (List._∷_ e54 (List._∷_ e8 (List._∷_ e11 (List._∷_ e12 (List._∷_ e14 (List._∷_ e18 (List._∷_ e20 List.[])))))))))))))))
 
         abbrev g55 : (at : Nat.ℕ → Nat.ℕ) → List.List Row.Entry
-        g55 = λ at. List._∷_ (
-          0,
-          Rows.any-gone (Syntax.tyEnum (List._∷_ 99 (List._∷_ 111 (List._∷_ 100 (List._∷_ 101 (List._∷_ 58 (List._∷_ 58 (List._∷_ 67 (List._∷_ 111 (List._∷_ 100 (List._∷_ 101
-              (List._∷_ 100 List.[]))))))))))) (Syntax.ttcons (Syntax.tcons (Syntax.tyStruct (List._∷_ 99 (List._∷_ 111 (List._∷_ 100 (List._∷_ 101 (List._∷_ 58 (List._∷_ 58 (List._∷_ 67 (List._∷_ 111
-              (List._∷_ 100 (List._∷_ 101 List.[])))))))))) (Syntax.tcons (Syntax.tyInt Syntax.w64) (Syntax.tcons (Syntax.tyInt Syntax.w32) (Syntax.tcons Syntax.tyBool (Syntax.tcons (Syntax.tyStruct
-              (List._∷_ 98 (List._∷_ 105 (List._∷_ 116 (List._∷_ 115 (List._∷_ 58 (List._∷_ 58 (List._∷_ 66 (List._∷_ 105 (List._∷_ 116 (List._∷_ 80 (List._∷_ 111 (List._∷_ 115 (List._∷_ 105 (List._∷_ 116
-              (List._∷_ 105 (List._∷_ 111 (List._∷_ 110 List.[]))))))))))))))))) (Syntax.tcons (Syntax.tyInt Syntax.w64) Syntax.tnil)) Syntax.tnil))))) Syntax.tnil) (Syntax.ttcons Syntax.tnil
-              Syntax.ttnil))),
-        ) (List._∷_ (1, Rows.mref (Held.type (Syntax.named 1) (κs .1 .0)) (Syntax.tyRef (Syntax.named 0) Syntax.mut (Held.behind (Syntax.named 1))) 0) (List._∷_ (
-          2,
-          Rows.sc-here
-              (Row.sInt Syntax.w32),
-        ) (List._∷_ (3, Rows.sc-here (Row.sInt Syntax.w32)) (List._∷_ (4, Rows.sc-here (Row.sInt Syntax.w32)) (List._∷_ (
-          5,
-          Rows.any-gone (Syntax.tyEnum (List._∷_ 98 (List._∷_
-              105 (List._∷_ 116 (List._∷_ 115 (List._∷_ 58 (List._∷_ 58 (List._∷_ 90 (List._∷_ 101 (List._∷_ 114 (List._∷_ 111 (List._∷_ 82 (List._∷_ 117 (List._∷_ 110 List.[]))))))))))))) (Syntax.ttcons
-              (Syntax.tcons (Syntax.tyInt Syntax.w64) Syntax.tnil) (Syntax.ttcons Syntax.tnil Syntax.ttnil))),
-        ) (List._∷_ (6, Rows.sc-here (Row.sInt Syntax.w64)) (List._∷_ (
-          7,
-          Rows.any-gone (Syntax.tyInt
-              Syntax.w32),
-        ) (List._∷_ (
-          8,
-          Rows.any-gone (Syntax.tyStruct (List._∷_ 98 (List._∷_ 105 (List._∷_ 116 (List._∷_ 115 (List._∷_ 58 (List._∷_ 58 (List._∷_ 66 (List._∷_ 105 (List._∷_ 116 (List._∷_
-              80 (List._∷_ 111 (List._∷_ 115 (List._∷_ 105 (List._∷_ 116 (List._∷_ 105 (List._∷_ 111 (List._∷_ 110 List.[]))))))))))))))))) (Syntax.tcons (Syntax.tyInt Syntax.w64) Syntax.tnil)),
-        ) (List._∷_
-            (9, Rows.sc-here (Row.sInt Syntax.w32)) (List._∷_ (10, Rows.whole (Declared'.row BitPosition.the-type)) (List._∷_ (
-              11,
-              Rows.any-gone (Syntax.tyRef Syntax.erased Syntax.mut (Held.behind
-                  Syntax.erased)),
-            ) (List._∷_ (12, Rows.any-gone (Syntax.tyInt Syntax.w64)) (List._∷_ (13, Rows.sc-here Row.sBool) (List._∷_ (
-              14,
-              Rows.any-gone (Syntax.tyRef Syntax.erased Syntax.mut
-                  (Held.behind Syntax.erased)),
-            ) (List._∷_ (15, Rows.any-gone (Syntax.tyRef Syntax.erased Syntax.imm (Held.behind Syntax.erased))) List.[])))))))))))))))
+        g55 = λ at. List._∷_ e0 (List._∷_ (1, Rows.mref (Held.type (Syntax.named 1) (κs .1 .0)) (Syntax.tyRef (Syntax.named 0) Syntax.mut (Held.behind (Syntax.named 1))) 0) (List._∷_ e31 (List._∷_ e41
+            (List._∷_ e43 (List._∷_ e44 (List._∷_ e48 (List._∷_ e49 (List._∷_ e51 (List._∷_ e54 (List._∷_ e8 (List._∷_ e11 (List._∷_ e12 (List._∷_ e15 (List._∷_ e18 (List._∷_ e20 List.[])))))))))))))))
 
         abbrev g57 : (at : Nat.ℕ → Nat.ℕ) → List.List Row.Entry
-        g57 = λ at. List._∷_ (
-          0,
-          Rows.any-gone (Syntax.tyEnum (List._∷_ 99 (List._∷_ 111 (List._∷_ 100 (List._∷_ 101 (List._∷_ 58 (List._∷_ 58 (List._∷_ 67 (List._∷_ 111 (List._∷_ 100 (List._∷_ 101
-              (List._∷_ 100 List.[]))))))))))) (Syntax.ttcons (Syntax.tcons (Syntax.tyStruct (List._∷_ 99 (List._∷_ 111 (List._∷_ 100 (List._∷_ 101 (List._∷_ 58 (List._∷_ 58 (List._∷_ 67 (List._∷_ 111
-              (List._∷_ 100 (List._∷_ 101 List.[])))))))))) (Syntax.tcons (Syntax.tyInt Syntax.w64) (Syntax.tcons (Syntax.tyInt Syntax.w32) (Syntax.tcons Syntax.tyBool (Syntax.tcons (Syntax.tyStruct
-              (List._∷_ 98 (List._∷_ 105 (List._∷_ 116 (List._∷_ 115 (List._∷_ 58 (List._∷_ 58 (List._∷_ 66 (List._∷_ 105 (List._∷_ 116 (List._∷_ 80 (List._∷_ 111 (List._∷_ 115 (List._∷_ 105 (List._∷_ 116
-              (List._∷_ 105 (List._∷_ 111 (List._∷_ 110 List.[]))))))))))))))))) (Syntax.tcons (Syntax.tyInt Syntax.w64) Syntax.tnil)) Syntax.tnil))))) Syntax.tnil) (Syntax.ttcons Syntax.tnil
-              Syntax.ttnil))),
-        ) (List._∷_ (1, Rows.mref (Held.type (Syntax.named 1) (κs .1 .0)) (Syntax.tyRef (Syntax.named 0) Syntax.mut (Held.behind (Syntax.named 1))) 0) (List._∷_ (
-          2,
-          Rows.sc-here
-              (Row.sInt Syntax.w32),
-        ) (List._∷_ (3, Rows.sc-here (Row.sInt Syntax.w32)) (List._∷_ (4, Rows.sc-here (Row.sInt Syntax.w32)) (List._∷_ (
-          5,
-          Rows.any-gone (Syntax.tyEnum (List._∷_ 98 (List._∷_
-              105 (List._∷_ 116 (List._∷_ 115 (List._∷_ 58 (List._∷_ 58 (List._∷_ 90 (List._∷_ 101 (List._∷_ 114 (List._∷_ 111 (List._∷_ 82 (List._∷_ 117 (List._∷_ 110 List.[]))))))))))))) (Syntax.ttcons
-              (Syntax.tcons (Syntax.tyInt Syntax.w64) Syntax.tnil) (Syntax.ttcons Syntax.tnil Syntax.ttnil))),
-        ) (List._∷_ (6, Rows.sc-here (Row.sInt Syntax.w64)) (List._∷_ (
-          7,
-          Rows.any-gone (Syntax.tyInt
-              Syntax.w32),
-        ) (List._∷_ (
-          8,
-          Rows.any-gone (Syntax.tyStruct (List._∷_ 98 (List._∷_ 105 (List._∷_ 116 (List._∷_ 115 (List._∷_ 58 (List._∷_ 58 (List._∷_ 66 (List._∷_ 105 (List._∷_ 116 (List._∷_
-              80 (List._∷_ 111 (List._∷_ 115 (List._∷_ 105 (List._∷_ 116 (List._∷_ 105 (List._∷_ 111 (List._∷_ 110 List.[]))))))))))))))))) (Syntax.tcons (Syntax.tyInt Syntax.w64) Syntax.tnil)),
-        ) (List._∷_
-            (9, Rows.sc-here (Row.sInt Syntax.w32)) (List._∷_ (
-              10,
-              Rows.any-gone (Syntax.tyStruct (List._∷_ 98 (List._∷_ 105 (List._∷_ 116 (List._∷_ 115 (List._∷_ 58 (List._∷_ 58 (List._∷_ 66 (List._∷_
-                  105 (List._∷_ 116 (List._∷_ 80 (List._∷_ 111 (List._∷_ 115 (List._∷_ 105 (List._∷_ 116 (List._∷_ 105 (List._∷_ 111 (List._∷_ 110 List.[]))))))))))))))))) (Syntax.tcons (Syntax.tyInt
-                  Syntax.w64) Syntax.tnil)),
-            ) (List._∷_ (11, Rows.any-gone (Syntax.tyRef Syntax.erased Syntax.mut (Held.behind Syntax.erased))) (List._∷_ (12, Rows.any-gone (Syntax.tyInt Syntax.w64))
-            (List._∷_ (13, Rows.sc-here Row.sBool) (List._∷_ (14, Rows.any-gone (Syntax.tyRef Syntax.erased Syntax.mut (Held.behind Syntax.erased))) (List._∷_ (
-              15,
-              Rows.any-gone (Syntax.tyRef
-                  Syntax.erased Syntax.imm (Held.behind Syntax.erased)),
-            ) List.[])))))))))))))))
+        g57 = λ at. List._∷_ e0 (List._∷_ (1, Rows.mref (Held.type (Syntax.named 1) (κs .1 .0)) (Syntax.tyRef (Syntax.named 0) Syntax.mut (Held.behind (Syntax.named 1))) 0) (List._∷_ e31 (List._∷_ e41
+            (List._∷_ e43 (List._∷_ e44 (List._∷_ e48 (List._∷_ e49 (List._∷_ e51 (List._∷_ e54 (List._∷_ e7 (List._∷_ e11 (List._∷_ e12 (List._∷_ e15 (List._∷_ e18 (List._∷_ e20 List.[])))))))))))))))
 
         abbrev g59 : (at : Nat.ℕ → Nat.ℕ) → List.List Row.Entry
-        g59 = λ at. List._∷_ (0, Rows.whole (Declared.row Coded.the-type)) (List._∷_ (
-          1,
-          Rows.mref (Held.type (Syntax.named 1) (κs .1 .0)) (Syntax.tyRef (Syntax.named 0) Syntax.mut (Held.behind
-              (Syntax.named 1))) 0,
-        ) (List._∷_ (2, Rows.sc-here (Row.sInt Syntax.w32)) (List._∷_ (3, Rows.sc-here (Row.sInt Syntax.w32)) (List._∷_ (4, Rows.sc-here (Row.sInt Syntax.w32)) (List._∷_ (
-          5,
-          Rows.any-gone (Syntax.tyEnum (List._∷_ 98 (List._∷_ 105 (List._∷_ 116 (List._∷_ 115 (List._∷_ 58 (List._∷_ 58 (List._∷_ 90 (List._∷_ 101 (List._∷_ 114 (List._∷_ 111 (List._∷_ 82 (List._∷_ 117
-              (List._∷_ 110 List.[]))))))))))))) (Syntax.ttcons (Syntax.tcons (Syntax.tyInt Syntax.w64) Syntax.tnil) (Syntax.ttcons Syntax.tnil Syntax.ttnil))),
-        ) (List._∷_ (
-          6,
-          Rows.sc-here (Row.sInt
-              Syntax.w64),
-        ) (List._∷_ (7, Rows.any-gone (Syntax.tyInt Syntax.w32)) (List._∷_ (
-          8,
-          Rows.any-gone (Syntax.tyStruct (List._∷_ 98 (List._∷_ 105 (List._∷_ 116 (List._∷_ 115 (List._∷_ 58
-              (List._∷_ 58 (List._∷_ 66 (List._∷_ 105 (List._∷_ 116 (List._∷_ 80 (List._∷_ 111 (List._∷_ 115 (List._∷_ 105 (List._∷_ 116 (List._∷_ 105 (List._∷_ 111 (List._∷_ 110 List.[])))))))))))))))))
-              (Syntax.tcons (Syntax.tyInt Syntax.w64) Syntax.tnil)),
-        ) (List._∷_ (9, Rows.sc-here (Row.sInt Syntax.w32)) (List._∷_ (
-          10,
-          Rows.any-gone (Syntax.tyStruct (List._∷_ 98 (List._∷_ 105 (List._∷_
-              116 (List._∷_ 115 (List._∷_ 58 (List._∷_ 58 (List._∷_ 66 (List._∷_ 105 (List._∷_ 116 (List._∷_ 80 (List._∷_ 111 (List._∷_ 115 (List._∷_ 105 (List._∷_ 116 (List._∷_ 105 (List._∷_ 111 (List._∷_
-              110 List.[]))))))))))))))))) (Syntax.tcons (Syntax.tyInt Syntax.w64) Syntax.tnil)),
-        ) (List._∷_ (11, Rows.any-gone (Syntax.tyRef Syntax.erased Syntax.mut (Held.behind Syntax.erased)))
-            (List._∷_ (12, Rows.any-gone (Syntax.tyInt Syntax.w64)) (List._∷_ (13, Rows.any-gone Syntax.tyBool) (List._∷_ (
-              14,
-              Rows.any-gone (Syntax.tyRef Syntax.erased Syntax.mut (Held.behind
-                  Syntax.erased)),
-            ) (List._∷_ (15, Rows.any-gone (Syntax.tyRef Syntax.erased Syntax.imm (Held.behind Syntax.erased))) List.[])))))))))))))))
+        g59 = λ at. List._∷_ e1 (List._∷_ (1, Rows.mref (Held.type (Syntax.named 1) (κs .1 .0)) (Syntax.tyRef (Syntax.named 0) Syntax.mut (Held.behind (Syntax.named 1))) 0) (List._∷_ e31 (List._∷_ e41
+            (List._∷_ e43 (List._∷_ e44 (List._∷_ e48 (List._∷_ e49 (List._∷_ e51 (List._∷_ e54 (List._∷_ e7 (List._∷_ e11 (List._∷_ e12 (List._∷_ e14 (List._∷_ e18 (List._∷_ e20 List.[])))))))))))))))
 
         abbrev g60 : (at : Nat.ℕ → Nat.ℕ) → List.List Row.Entry
-        g60 = λ at. List._∷_ (0, Rows.whole (Declared.row Coded.the-type)) (List._∷_ (
-          1,
-          Rows.mref (Held.type (Syntax.named 1) (κs .1 .0)) (Syntax.tyRef (Syntax.named 0) Syntax.mut (Held.behind
-              (Syntax.named 1))) 0,
-        ) (List._∷_ (2, Rows.sc-here (Row.sInt Syntax.w32)) (List._∷_ (3, Rows.sc-here (Row.sInt Syntax.w32)) (List._∷_ (4, Rows.sc-here (Row.sInt Syntax.w32)) (List._∷_ (
-          5,
-          Rows.any-gone (Syntax.tyEnum (List._∷_ 98 (List._∷_ 105 (List._∷_ 116 (List._∷_ 115 (List._∷_ 58 (List._∷_ 58 (List._∷_ 90 (List._∷_ 101 (List._∷_ 114 (List._∷_ 111 (List._∷_ 82 (List._∷_ 117
-              (List._∷_ 110 List.[]))))))))))))) (Syntax.ttcons (Syntax.tcons (Syntax.tyInt Syntax.w64) Syntax.tnil) (Syntax.ttcons Syntax.tnil Syntax.ttnil))),
-        ) (List._∷_ (
-          6,
-          Rows.any-gone (Syntax.tyInt
-              Syntax.w64),
-        ) (List._∷_ (7, Rows.any-gone (Syntax.tyInt Syntax.w32)) (List._∷_ (
-          8,
-          Rows.any-gone (Syntax.tyStruct (List._∷_ 98 (List._∷_ 105 (List._∷_ 116 (List._∷_ 115 (List._∷_ 58
-              (List._∷_ 58 (List._∷_ 66 (List._∷_ 105 (List._∷_ 116 (List._∷_ 80 (List._∷_ 111 (List._∷_ 115 (List._∷_ 105 (List._∷_ 116 (List._∷_ 105 (List._∷_ 111 (List._∷_ 110 List.[])))))))))))))))))
-              (Syntax.tcons (Syntax.tyInt Syntax.w64) Syntax.tnil)),
-        ) (List._∷_ (9, Rows.sc-here (Row.sInt Syntax.w32)) (List._∷_ (
-          10,
-          Rows.any-gone (Syntax.tyStruct (List._∷_ 98 (List._∷_ 105 (List._∷_
-              116 (List._∷_ 115 (List._∷_ 58 (List._∷_ 58 (List._∷_ 66 (List._∷_ 105 (List._∷_ 116 (List._∷_ 80 (List._∷_ 111 (List._∷_ 115 (List._∷_ 105 (List._∷_ 116 (List._∷_ 105 (List._∷_ 111 (List._∷_
-              110 List.[]))))))))))))))))) (Syntax.tcons (Syntax.tyInt Syntax.w64) Syntax.tnil)),
-        ) (List._∷_ (11, Rows.any-gone (Syntax.tyRef Syntax.erased Syntax.mut (Held.behind Syntax.erased)))
-            (List._∷_ (12, Rows.any-gone (Syntax.tyInt Syntax.w64)) (List._∷_ (13, Rows.any-gone Syntax.tyBool) (List._∷_ (
-              14,
-              Rows.any-gone (Syntax.tyRef Syntax.erased Syntax.mut (Held.behind
-                  Syntax.erased)),
-            ) (List._∷_ (15, Rows.any-gone (Syntax.tyRef Syntax.erased Syntax.imm (Held.behind Syntax.erased))) List.[])))))))))))))))
+        g60 = λ at. List._∷_ e1 (List._∷_ (1, Rows.mref (Held.type (Syntax.named 1) (κs .1 .0)) (Syntax.tyRef (Syntax.named 0) Syntax.mut (Held.behind (Syntax.named 1))) 0) (List._∷_ e31 (List._∷_ e41
+            (List._∷_ e43 (List._∷_ e44 (List._∷_ e47 (List._∷_ e49 (List._∷_ e51 (List._∷_ e54 (List._∷_ e7 (List._∷_ e11 (List._∷_ e12 (List._∷_ e14 (List._∷_ e18 (List._∷_ e20 List.[])))))))))))))))
 
         abbrev G0 : (at : Nat.ℕ → Nat.ℕ) → Row.Cx
         G0 = λ at. record {
           locals = List._++_ (g0 at) t1;
-          slots = List._∷_ (Row.lease (κs .0) (qs .0)) (List._∷_ (Row.lease (κs .1 .0) (qs .1 .0)) (List._∷_ Row.off (List._∷_ Row.off (List._∷_
-              Row.off (List._∷_ Row.off (List._∷_ Row.off (List._∷_ Row.off (List._∷_ Row.off (List._∷_ Row.off (List._∷_ Row.off (List._∷_ Row.off List.[])))))))))));
+          slots = List._∷_ (Row.lease (κs .0) (qs .0)) (List._∷_ (Row.lease (κs .1 .0) (qs .1 .0)) (List._∷_ Row.off (List._∷_ Row.off (List._∷_ Row.off (List._∷_
+              Row.off (List._∷_ Row.off (List._∷_ Row.off (List._∷_ Row.off (List._∷_ Row.off (List._∷_ Row.off (List._∷_ Row.off List.[])))))))))));
         }
 
         abbrev G1 : (at : Nat.ℕ → Nat.ℕ) → Row.Cx
         G1 = λ at. record {
           locals = List._++_ (g2 at) t1;
-          slots = List._∷_ (Row.lease (κs .0) (qs .0)) (List._∷_ (Row.lease (κs .1 .0) (qs .1 .0)) (List._∷_ Row.off (List._∷_ Row.off (List._∷_
-              Row.off (List._∷_ Row.off (List._∷_ Row.off (List._∷_ Row.off (List._∷_ Row.off (List._∷_ Row.off (List._∷_ Row.off (List._∷_ Row.off List.[])))))))))));
+          slots = List._∷_ (Row.lease (κs .0) (qs .0)) (List._∷_ (Row.lease (κs .1 .0) (qs .1 .0)) (List._∷_ Row.off (List._∷_ Row.off (List._∷_ Row.off (List._∷_
+              Row.off (List._∷_ Row.off (List._∷_ Row.off (List._∷_ Row.off (List._∷_ Row.off (List._∷_ Row.off (List._∷_ Row.off List.[])))))))))));
         }
 
         abbrev G2 : (at : Nat.ℕ → Nat.ℕ) → Row.Cx
         G2 = λ at. record {
           locals = List._++_ (g0 at) t1;
-          slots = List._∷_ (Row.lease (κs .0) (qs .0)) (List._∷_ (Row.lease (κs .1 .0) (qs .1 .0)) (List._∷_ Row.alive (List._∷_ Row.off (List._∷_
-              Row.off (List._∷_ Row.off (List._∷_ Row.off (List._∷_ Row.off (List._∷_ Row.off (List._∷_ Row.off (List._∷_ Row.off (List._∷_ Row.off List.[])))))))))));
+          slots = List._∷_ (Row.lease (κs .0) (qs .0)) (List._∷_ (Row.lease (κs .1 .0) (qs .1 .0)) (List._∷_ Row.alive (List._∷_ Row.off (List._∷_ Row.off (List._∷_
+              Row.off (List._∷_ Row.off (List._∷_ Row.off (List._∷_ Row.off (List._∷_ Row.off (List._∷_ Row.off (List._∷_ Row.off List.[])))))))))));
         }
 
         abbrev G3 : (at : Nat.ℕ → Nat.ℕ) → Row.Cx
         G3 = λ at. record {
           locals = List._++_ (g3 at) t1;
-          slots = List._∷_ Row.off (List._∷_ (Row.lease (κs .1 .0) (qs .1 .0)) (List._∷_ Row.alive (List._∷_ Row.off (List._∷_ Row.off (List._∷_
-              Row.off (List._∷_ Row.off (List._∷_ Row.off (List._∷_ Row.off (List._∷_ Row.off (List._∷_ Row.off (List._∷_ Row.off List.[])))))))))));
+          slots = List._∷_ Row.off (List._∷_ (Row.lease (κs .1 .0) (qs .1 .0)) (List._∷_ Row.alive (List._∷_ Row.off (List._∷_ Row.off (List._∷_ Row.off (List._∷_
+              Row.off (List._∷_ Row.off (List._∷_ Row.off (List._∷_ Row.off (List._∷_ Row.off (List._∷_ Row.off List.[])))))))))));
         }
 
         abbrev G4 : (at : Nat.ℕ → Nat.ℕ) → Row.Cx
         G4 = λ at. record {
           locals = List._++_ (g3 at) t1;
-          slots = List._∷_ Row.off (List._∷_ (Row.leaseT (κs .1 .0) (qs .1 .0) List.[]) (List._∷_ Row.alive (List._∷_ Row.off (List._∷_ Row.off
-              (List._∷_ Row.off (List._∷_ Row.off (List._∷_ Row.off (List._∷_ Row.off (List._∷_ Row.off (List._∷_ Row.off (List._∷_ Row.off List.[])))))))))));
+          slots = List._∷_ Row.off (List._∷_ (Row.leaseT (κs .1 .0) (qs .1 .0) List.[]) (List._∷_ Row.alive (List._∷_ Row.off (List._∷_ Row.off (List._∷_ Row.off
+              (List._∷_ Row.off (List._∷_ Row.off (List._∷_ Row.off (List._∷_ Row.off (List._∷_ Row.off (List._∷_ Row.off List.[])))))))))));
         }
 
         abbrev G5 : (at : Nat.ℕ → Nat.ℕ) → Row.Cx
         G5 = λ at. record {
           locals = List._++_ (g3 at) t1;
-          slots = List._∷_ Row.off (List._∷_ (Row.leaseT (κs .1 .0) (qs .1 .0) List.[]) (List._∷_ (Row.lease (List._∷_ (at 0) List.[])
-              TreeShare.fullShare) (List._∷_ Row.off (List._∷_ Row.off (List._∷_ Row.off (List._∷_ Row.off (List._∷_ Row.off (List._∷_ Row.off (List._∷_ Row.off (List._∷_ Row.off (List._∷_ Row.off
-              List.[])))))))))));
+          slots = List._∷_ Row.off (List._∷_ (Row.leaseT (κs .1 .0) (qs .1 .0) List.[]) (List._∷_ (Row.lease (List._∷_ (at 0) List.[]) TreeShare.fullShare) (List._∷_
+              Row.off (List._∷_ Row.off (List._∷_ Row.off (List._∷_ Row.off (List._∷_ Row.off (List._∷_ Row.off (List._∷_ Row.off (List._∷_ Row.off (List._∷_ Row.off List.[])))))))))));
         }
 
         abbrev G6 : (at : Nat.ℕ → Nat.ℕ) → Row.Cx
         G6 = λ at. record {
           locals = List._++_ (g3 at) t1;
-          slots = List._∷_ Row.off (List._∷_ (Row.leaseT (κs .1 .0) (qs .1 .0) (List._∷_ Bool'.false List.[])) (List._∷_ (Row.carved (List._∷_ (at 0)
-              List.[]) (TreeShare.PosShare·right (qs .1 .0))) (List._∷_ Row.off (List._∷_ Row.off (List._∷_ Row.off (List._∷_ Row.off (List._∷_ (Row.lease (List._++_ (κs .1 .0) (List._∷_ (at 0) List.[]))
+          slots = List._∷_ Row.off (List._∷_ (Row.leaseT (κs .1 .0) (qs .1 .0) (List._∷_ Bool'.false List.[])) (List._∷_ (Row.carved (List._∷_ (at 0) List.[])
+              (TreeShare.PosShare·right (qs .1 .0))) (List._∷_ Row.off (List._∷_ Row.off (List._∷_ Row.off (List._∷_ Row.off (List._∷_ (Row.lease (List._++_ (κs .1 .0) (List._∷_ (at 0) List.[]))
               (TreeShare.PosShare·right (qs .1 .0))) (List._∷_ Row.off (List._∷_ Row.off (List._∷_ Row.off (List._∷_ Row.off List.[])))))))))));
         }
 
         abbrev G7 : (at : Nat.ℕ → Nat.ℕ) → Row.Cx
         G7 = λ at. record {
           locals = List._++_ (g4 at) t1;
-          slots = List._∷_ Row.off (List._∷_ (Row.leaseT (κs .1 .0) (qs .1 .0) (List._∷_ Bool'.false List.[])) (List._∷_ (Row.carved (List._∷_ (at 0)
-              List.[]) (TreeShare.PosShare·right (qs .1 .0))) (List._∷_ Row.off (List._∷_ Row.off (List._∷_ Row.off (List._∷_ Row.off (List._∷_ (Row.lease (List._++_ (κs .1 .0) (List._∷_ (at 0) List.[]))
+          slots = List._∷_ Row.off (List._∷_ (Row.leaseT (κs .1 .0) (qs .1 .0) (List._∷_ Bool'.false List.[])) (List._∷_ (Row.carved (List._∷_ (at 0) List.[])
+              (TreeShare.PosShare·right (qs .1 .0))) (List._∷_ Row.off (List._∷_ Row.off (List._∷_ Row.off (List._∷_ Row.off (List._∷_ (Row.lease (List._++_ (κs .1 .0) (List._∷_ (at 0) List.[]))
               (TreeShare.PosShare·right (qs .1 .0))) (List._∷_ Row.off (List._∷_ Row.off (List._∷_ Row.off (List._∷_ Row.off List.[])))))))))));
         }
 
         abbrev G8 : (at : Nat.ℕ → Nat.ℕ) → Row.Cx
         G8 = λ at. record {
           locals = List._++_ (g5 at) t1;
-          slots = List._∷_ Row.off (List._∷_ (Row.leaseT (κs .1 .0) (qs .1 .0) (List._∷_ Bool'.false List.[])) (List._∷_ (Row.carved (List._∷_ (at 0)
-              List.[]) (TreeShare.PosShare·right (qs .1 .0))) (List._∷_ Row.off (List._∷_ Row.off (List._∷_ Row.off (List._∷_ Row.off (List._∷_ (Row.lease (List._++_ (κs .1 .0) (List._∷_ (at 0) List.[]))
+          slots = List._∷_ Row.off (List._∷_ (Row.leaseT (κs .1 .0) (qs .1 .0) (List._∷_ Bool'.false List.[])) (List._∷_ (Row.carved (List._∷_ (at 0) List.[])
+              (TreeShare.PosShare·right (qs .1 .0))) (List._∷_ Row.off (List._∷_ Row.off (List._∷_ Row.off (List._∷_ Row.off (List._∷_ (Row.lease (List._++_ (κs .1 .0) (List._∷_ (at 0) List.[]))
               (TreeShare.PosShare·right (qs .1 .0))) (List._∷_ Row.off (List._∷_ Row.off (List._∷_ Row.off (List._∷_ Row.off List.[])))))))))));
         }
 
         abbrev G9 : (at : Nat.ℕ → Nat.ℕ) → Row.Cx
         G9 = λ at. record {
           locals = List._++_ (g6 at) t1;
-          slots = List._∷_ Row.off (List._∷_ (Row.leaseT (κs .1 .0) (qs .1 .0) (List._∷_ Bool'.false List.[])) (List._∷_ (Row.carved (List._∷_ (at 0)
-              List.[]) (TreeShare.PosShare·right (qs .1 .0))) (List._∷_ Row.off (List._∷_ Row.off (List._∷_ Row.off (List._∷_ Row.off (List._∷_ (Row.lease (List._++_ (κs .1 .0) (List._∷_ (at 0) List.[]))
+          slots = List._∷_ Row.off (List._∷_ (Row.leaseT (κs .1 .0) (qs .1 .0) (List._∷_ Bool'.false List.[])) (List._∷_ (Row.carved (List._∷_ (at 0) List.[])
+              (TreeShare.PosShare·right (qs .1 .0))) (List._∷_ Row.off (List._∷_ Row.off (List._∷_ Row.off (List._∷_ Row.off (List._∷_ (Row.lease (List._++_ (κs .1 .0) (List._∷_ (at 0) List.[]))
               (TreeShare.PosShare·right (qs .1 .0))) (List._∷_ Row.off (List._∷_ Row.off (List._∷_ Row.off (List._∷_ Row.off List.[])))))))))));
         }
 
         abbrev G10 : (at : Nat.ℕ → Nat.ℕ) → Row.Cx
         G10 = λ at. record {
           locals = List._++_ (g7 at) t1;
-          slots = List._∷_ (Row.lease (κs .0) (qs .0)) (List._∷_ (Row.lease (κs .1 .0) (qs .1 .0)) (List._∷_ Row.off (List._∷_ Row.off (List._∷_
-              Row.off (List._∷_ Row.off (List._∷_ Row.off (List._∷_ Row.off (List._∷_ Row.off (List._∷_ Row.off (List._∷_ Row.off (List._∷_ Row.off List.[])))))))))));
+          slots = List._∷_ (Row.lease (κs .0) (qs .0)) (List._∷_ (Row.lease (κs .1 .0) (qs .1 .0)) (List._∷_ Row.off (List._∷_ Row.off (List._∷_ Row.off (List._∷_
+              Row.off (List._∷_ Row.off (List._∷_ Row.off (List._∷_ Row.off (List._∷_ Row.off (List._∷_ Row.off (List._∷_ Row.off List.[])))))))))));
         }
 
         abbrev G11 : (at : Nat.ℕ → Nat.ℕ) → Row.Cx
         G11 = λ at. record {
           locals = List._++_ (g6 at) t1;
-          slots = List._∷_ Row.off (List._∷_ (Row.leaseT (κs .1 .0) (qs .1 .0) (List._∷_ Bool'.true List.[])) (List._∷_ (Row.lease (List._∷_ (at 0)
-              List.[]) TreeShare.fullShare) (List._∷_ Row.off (List._∷_ Row.off (List._∷_ Row.off (List._∷_ Row.off (List._∷_ Row.off (List._∷_ Row.off (List._∷_ Row.off (List._∷_ Row.off (List._∷_ Row.off
+          slots = List._∷_ Row.off (List._∷_ (Row.leaseT (κs .1 .0) (qs .1 .0) (List._∷_ Bool'.true List.[])) (List._∷_ (Row.lease (List._∷_ (at 0) List.[])
+              TreeShare.fullShare) (List._∷_ Row.off (List._∷_ Row.off (List._∷_ Row.off (List._∷_ Row.off (List._∷_ Row.off (List._∷_ Row.off (List._∷_ Row.off (List._∷_ Row.off (List._∷_ Row.off
               List.[])))))))))));
         }
 
         abbrev G12 : (at : Nat.ℕ → Nat.ℕ) → Row.Cx
         G12 = λ at. record {
           locals = List._++_ (g6 at) t1;
-          slots = List._∷_ Row.off (List._∷_ (Row.leaseT (κs .1 .0) (qs .1 .0) List.[]) (List._∷_ (Row.lease (List._∷_ (at 0) List.[])
-              TreeShare.fullShare) (List._∷_ Row.off (List._∷_ Row.off (List._∷_ Row.off (List._∷_ Row.off (List._∷_ Row.off (List._∷_ Row.off (List._∷_ Row.off (List._∷_ Row.off (List._∷_ Row.off
-              List.[])))))))))));
+          slots = List._∷_ Row.off (List._∷_ (Row.leaseT (κs .1 .0) (qs .1 .0) List.[]) (List._∷_ (Row.lease (List._∷_ (at 0) List.[]) TreeShare.fullShare) (List._∷_
+              Row.off (List._∷_ Row.off (List._∷_ Row.off (List._∷_ Row.off (List._∷_ Row.off (List._∷_ Row.off (List._∷_ Row.off (List._∷_ Row.off (List._∷_ Row.off List.[])))))))))));
         }
 
         abbrev G13 : (at : Nat.ℕ → Nat.ℕ) → Row.Cx
         G13 = λ at. record {
           locals = List._++_ (g6 at) t1;
-          slots = List._∷_ Row.off (List._∷_ (Row.lease (κs .1 .0) (qs .1 .0)) (List._∷_ (Row.lease (List._∷_ (at 0) List.[]) TreeShare.fullShare)
-              (List._∷_ Row.off (List._∷_ Row.off (List._∷_ Row.off (List._∷_ Row.off (List._∷_ Row.off (List._∷_ Row.off (List._∷_ Row.off (List._∷_ Row.off (List._∷_ Row.off List.[])))))))))));
+          slots = List._∷_ Row.off (List._∷_ (Row.lease (κs .1 .0) (qs .1 .0)) (List._∷_ (Row.lease (List._∷_ (at 0) List.[]) TreeShare.fullShare) (List._∷_ Row.off
+              (List._∷_ Row.off (List._∷_ Row.off (List._∷_ Row.off (List._∷_ Row.off (List._∷_ Row.off (List._∷_ Row.off (List._∷_ Row.off (List._∷_ Row.off List.[])))))))))));
         }
 
         abbrev G14 : (at : Nat.ℕ → Nat.ℕ) → Row.Cx
         G14 = λ at. record {
           locals = List._++_ (g6 at) t1;
-          slots = List._∷_ Row.off (List._∷_ (Row.lease (κs .1 .0) (qs .1 .0)) (List._∷_ Row.alive (List._∷_ Row.off (List._∷_ Row.off (List._∷_
-              Row.off (List._∷_ Row.off (List._∷_ Row.off (List._∷_ Row.off (List._∷_ Row.off (List._∷_ Row.off (List._∷_ Row.off List.[])))))))))));
+          slots = List._∷_ Row.off (List._∷_ (Row.lease (κs .1 .0) (qs .1 .0)) (List._∷_ Row.alive (List._∷_ Row.off (List._∷_ Row.off (List._∷_ Row.off (List._∷_
+              Row.off (List._∷_ Row.off (List._∷_ Row.off (List._∷_ Row.off (List._∷_ Row.off (List._∷_ Row.off List.[])))))))))));
         }
 
         abbrev G15 : (at : Nat.ℕ → Nat.ℕ) → Row.Cx
         G15 = λ at. record {
           locals = List._++_ (g6 at) t1;
-          slots = List._∷_ Row.off (List._∷_ (Row.lease (κs .1 .0) (qs .1 .0)) (List._∷_ Row.dead (List._∷_ Row.off (List._∷_ Row.off (List._∷_
-              Row.off (List._∷_ Row.off (List._∷_ Row.off (List._∷_ Row.off (List._∷_ Row.off (List._∷_ Row.off (List._∷_ Row.off List.[])))))))))));
+          slots = List._∷_ Row.off (List._∷_ (Row.lease (κs .1 .0) (qs .1 .0)) (List._∷_ Row.dead (List._∷_ Row.off (List._∷_ Row.off (List._∷_ Row.off (List._∷_ Row.off
+              (List._∷_ Row.off (List._∷_ Row.off (List._∷_ Row.off (List._∷_ Row.off (List._∷_ Row.off List.[])))))))))));
         }
 
         abbrev G16 : (at : Nat.ℕ → Nat.ℕ) → Row.Cx
         G16 = λ at. record {
           locals = List._++_ (g8 at) t1;
-          slots = List._∷_ (Row.lease (κs .0) (qs .0)) (List._∷_ (Row.lease (κs .1 .0) (qs .1 .0)) (List._∷_ Row.dead (List._∷_ Row.off (List._∷_
-              Row.off (List._∷_ Row.off (List._∷_ Row.off (List._∷_ Row.off (List._∷_ Row.off (List._∷_ Row.off (List._∷_ Row.off (List._∷_ Row.off List.[])))))))))));
+          slots = List._∷_ (Row.lease (κs .0) (qs .0)) (List._∷_ (Row.lease (κs .1 .0) (qs .1 .0)) (List._∷_ Row.dead (List._∷_ Row.off (List._∷_ Row.off (List._∷_
+              Row.off (List._∷_ Row.off (List._∷_ Row.off (List._∷_ Row.off (List._∷_ Row.off (List._∷_ Row.off (List._∷_ Row.off List.[])))))))))));
         }
 
         abbrev G17 : (at : Nat.ℕ → Nat.ℕ) → Row.Cx
         G17 = λ at. record {
           locals = List._++_ (g8 at) t1;
-          slots = List._∷_ (Row.lease (κs .0) (qs .0)) (List._∷_ (Row.lease (κs .1 .0) (qs .1 .0)) (List._∷_ Row.off (List._∷_ Row.off (List._∷_
-              Row.off (List._∷_ Row.off (List._∷_ Row.off (List._∷_ Row.off (List._∷_ Row.off (List._∷_ Row.off (List._∷_ Row.off (List._∷_ Row.off List.[])))))))))));
+          slots = List._∷_ (Row.lease (κs .0) (qs .0)) (List._∷_ (Row.lease (κs .1 .0) (qs .1 .0)) (List._∷_ Row.off (List._∷_ Row.off (List._∷_ Row.off (List._∷_
+              Row.off (List._∷_ Row.off (List._∷_ Row.off (List._∷_ Row.off (List._∷_ Row.off (List._∷_ Row.off (List._∷_ Row.off List.[])))))))))));
         }
 
         abbrev G18 : (at : Nat.ℕ → Nat.ℕ) → Row.Cx
         G18 = λ at. record {
           locals = List._++_ (g9 at) t1;
-          slots = List._∷_ (Row.lease (κs .0) (qs .0)) (List._∷_ (Row.lease (κs .1 .0) (qs .1 .0)) (List._∷_ Row.off (List._∷_ Row.off (List._∷_
-              Row.off (List._∷_ Row.off (List._∷_ Row.off (List._∷_ Row.off (List._∷_ Row.off (List._∷_ Row.off (List._∷_ Row.off (List._∷_ Row.off List.[])))))))))));
+          slots = List._∷_ (Row.lease (κs .0) (qs .0)) (List._∷_ (Row.lease (κs .1 .0) (qs .1 .0)) (List._∷_ Row.off (List._∷_ Row.off (List._∷_ Row.off (List._∷_
+              Row.off (List._∷_ Row.off (List._∷_ Row.off (List._∷_ Row.off (List._∷_ Row.off (List._∷_ Row.off (List._∷_ Row.off List.[])))))))))));
         }
 
         abbrev G19 : (at : Nat.ℕ → Nat.ℕ) → Row.Cx
         G19 = λ at. record {
           locals = List._++_ (g9 at) t1;
-          slots = List._∷_ (Row.lease (κs .0) (qs .0)) (List._∷_ (Row.lease (κs .1 .0) (qs .1 .0)) (List._∷_ Row.off (List._∷_ Row.off (List._∷_
-              Row.off (List._∷_ Row.off (List._∷_ Row.off (List._∷_ Row.off (List._∷_ Row.off (List._∷_ Row.off (List._∷_ Row.off (List._∷_ Row.off List.[])))))))))));
+          slots = List._∷_ (Row.lease (κs .0) (qs .0)) (List._∷_ (Row.lease (κs .1 .0) (qs .1 .0)) (List._∷_ Row.off (List._∷_ Row.off (List._∷_ Row.off (List._∷_
+              Row.off (List._∷_ Row.off (List._∷_ Row.off (List._∷_ Row.off (List._∷_ Row.off (List._∷_ Row.off (List._∷_ Row.off List.[])))))))))));
         }
 
         abbrev G20 : (at : Nat.ℕ → Nat.ℕ) → Row.Cx
         G20 = λ at. record {
           locals = List._++_ (g10 at) t1;
-          slots = List._∷_ (Row.lease (κs .0) (qs .0)) (List._∷_ (Row.lease (κs .1 .0) (qs .1 .0)) (List._∷_ Row.off (List._∷_ Row.off (List._∷_
-              Row.off (List._∷_ Row.off (List._∷_ Row.off (List._∷_ Row.off (List._∷_ Row.off (List._∷_ Row.off (List._∷_ Row.off (List._∷_ Row.off List.[])))))))))));
+          slots = List._∷_ (Row.lease (κs .0) (qs .0)) (List._∷_ (Row.lease (κs .1 .0) (qs .1 .0)) (List._∷_ Row.off (List._∷_ Row.off (List._∷_ Row.off (List._∷_
+              Row.off (List._∷_ Row.off (List._∷_ Row.off (List._∷_ Row.off (List._∷_ Row.off (List._∷_ Row.off (List._∷_ Row.off List.[])))))))))));
         }
 
         abbrev G21 : (at : Nat.ℕ → Nat.ℕ) → Row.Cx
         G21 = λ at. record {
           locals = List._++_ (g7 at) t1;
-          slots = List._∷_ (Row.lease (κs .0) (qs .0)) (List._∷_ (Row.lease (κs .1 .0) (qs .1 .0)) (List._∷_ Row.off (List._∷_ Row.off (List._∷_
-              Row.off (List._∷_ Row.off (List._∷_ Row.off (List._∷_ Row.off (List._∷_ Row.off (List._∷_ Row.off (List._∷_ Row.off (List._∷_ Row.off List.[])))))))))));
+          slots = List._∷_ (Row.lease (κs .0) (qs .0)) (List._∷_ (Row.lease (κs .1 .0) (qs .1 .0)) (List._∷_ Row.off (List._∷_ Row.off (List._∷_ Row.off (List._∷_
+              Row.off (List._∷_ Row.off (List._∷_ Row.off (List._∷_ Row.off (List._∷_ Row.off (List._∷_ Row.off (List._∷_ Row.off List.[])))))))))));
         }
 
         abbrev G22 : (at : Nat.ℕ → Nat.ℕ) → Row.Cx
         G22 = λ at. record {
           locals = List._++_ (g8 at) t1;
-          slots = List._∷_ (Row.lease (κs .0) (qs .0)) (List._∷_ (Row.lease (κs .1 .0) (qs .1 .0)) (List._∷_ Row.off (List._∷_ Row.off (List._∷_
-              Row.off (List._∷_ Row.off (List._∷_ Row.off (List._∷_ Row.off (List._∷_ Row.off (List._∷_ Row.off (List._∷_ Row.off (List._∷_ Row.off List.[])))))))))));
+          slots = List._∷_ (Row.lease (κs .0) (qs .0)) (List._∷_ (Row.lease (κs .1 .0) (qs .1 .0)) (List._∷_ Row.off (List._∷_ Row.off (List._∷_ Row.off (List._∷_
+              Row.off (List._∷_ Row.off (List._∷_ Row.off (List._∷_ Row.off (List._∷_ Row.off (List._∷_ Row.off (List._∷_ Row.off List.[])))))))))));
         }
 
         abbrev G23 : (at : Nat.ℕ → Nat.ℕ) → Row.Cx
         G23 = λ at. record {
           locals = List._++_ (g0 at) t1;
-          slots = List._∷_ (Row.lease (κs .0) (qs .0)) (List._∷_ (Row.lease (κs .1 .0) (qs .1 .0)) (List._∷_ Row.off (List._∷_ Row.off (List._∷_
-              Row.off (List._∷_ Row.off (List._∷_ Row.off (List._∷_ Row.off (List._∷_ Row.off (List._∷_ Row.off (List._∷_ Row.off (List._∷_ Row.off List.[])))))))))));
+          slots = List._∷_ (Row.lease (κs .0) (qs .0)) (List._∷_ (Row.lease (κs .1 .0) (qs .1 .0)) (List._∷_ Row.off (List._∷_ Row.off (List._∷_ Row.off (List._∷_
+              Row.off (List._∷_ Row.off (List._∷_ Row.off (List._∷_ Row.off (List._∷_ Row.off (List._∷_ Row.off (List._∷_ Row.off List.[])))))))))));
         }
 
         abbrev G24 : (at : Nat.ℕ → Nat.ℕ) → Row.Cx
         G24 = λ at. record {
           locals = List._++_ (g11 at) t1;
-          slots = List._∷_ (Row.lease (κs .0) (qs .0)) (List._∷_ (Row.lease (κs .1 .0) (qs .1 .0)) (List._∷_ Row.off (List._∷_ Row.off (List._∷_
-              Row.off (List._∷_ Row.off (List._∷_ Row.off (List._∷_ Row.off (List._∷_ Row.off (List._∷_ Row.off (List._∷_ Row.off (List._∷_ Row.off List.[])))))))))));
+          slots = List._∷_ (Row.lease (κs .0) (qs .0)) (List._∷_ (Row.lease (κs .1 .0) (qs .1 .0)) (List._∷_ Row.off (List._∷_ Row.off (List._∷_ Row.off (List._∷_
+              Row.off (List._∷_ Row.off (List._∷_ Row.off (List._∷_ Row.off (List._∷_ Row.off (List._∷_ Row.off (List._∷_ Row.off List.[])))))))))));
         }
 
         abbrev G25 : (at : Nat.ℕ → Nat.ℕ) → Row.Cx
         G25 = λ at. record {
           locals = List._++_ (g12 at) t1;
-          slots = List._∷_ (Row.lease (κs .0) (qs .0)) (List._∷_ (Row.lease (κs .1 .0) (qs .1 .0)) (List._∷_ Row.off (List._∷_ Row.off (List._∷_
-              Row.off (List._∷_ Row.off (List._∷_ Row.off (List._∷_ Row.off (List._∷_ Row.off (List._∷_ Row.off (List._∷_ Row.off (List._∷_ Row.off List.[])))))))))));
+          slots = List._∷_ (Row.lease (κs .0) (qs .0)) (List._∷_ (Row.lease (κs .1 .0) (qs .1 .0)) (List._∷_ Row.off (List._∷_ Row.off (List._∷_ Row.off (List._∷_
+              Row.off (List._∷_ Row.off (List._∷_ Row.off (List._∷_ Row.off (List._∷_ Row.off (List._∷_ Row.off (List._∷_ Row.off List.[])))))))))));
         }
 
         abbrev G26 : (at : Nat.ℕ → Nat.ℕ) → Row.Cx
         G26 = λ at. record {
           locals = List._++_ (g13 at) t1;
-          slots = List._∷_ (Row.lease (κs .0) (qs .0)) (List._∷_ (Row.lease (κs .1 .0) (qs .1 .0)) (List._∷_ Row.off (List._∷_ Row.off (List._∷_
-              Row.off (List._∷_ Row.off (List._∷_ Row.off (List._∷_ Row.off (List._∷_ Row.off (List._∷_ Row.off (List._∷_ Row.off (List._∷_ Row.off List.[])))))))))));
+          slots = List._∷_ (Row.lease (κs .0) (qs .0)) (List._∷_ (Row.lease (κs .1 .0) (qs .1 .0)) (List._∷_ Row.off (List._∷_ Row.off (List._∷_ Row.off (List._∷_
+              Row.off (List._∷_ Row.off (List._∷_ Row.off (List._∷_ Row.off (List._∷_ Row.off (List._∷_ Row.off (List._∷_ Row.off List.[])))))))))));
         }
 
         abbrev G27 : (at : Nat.ℕ → Nat.ℕ) → Row.Cx
         G27 = λ at. record {
           locals = List._++_ (g2 at) t1;
-          slots = List._∷_ (Row.lease (κs .0) (qs .0)) (List._∷_ (Row.lease (κs .1 .0) (qs .1 .0)) (List._∷_ Row.off (List._∷_ Row.off (List._∷_
-              Row.off (List._∷_ Row.off (List._∷_ Row.off (List._∷_ Row.off (List._∷_ Row.off (List._∷_ Row.off (List._∷_ Row.off (List._∷_ Row.off List.[])))))))))));
+          slots = List._∷_ (Row.lease (κs .0) (qs .0)) (List._∷_ (Row.lease (κs .1 .0) (qs .1 .0)) (List._∷_ Row.off (List._∷_ Row.off (List._∷_ Row.off (List._∷_
+              Row.off (List._∷_ Row.off (List._∷_ Row.off (List._∷_ Row.off (List._∷_ Row.off (List._∷_ Row.off (List._∷_ Row.off List.[])))))))))));
         }
 
         abbrev G28 : (at : Nat.ℕ → Nat.ℕ) → Row.Cx
         G28 = λ at. record {
           locals = List._++_ (g14 at) t1;
-          slots = List._∷_ (Row.lease (κs .0) (qs .0)) (List._∷_ (Row.lease (κs .1 .0) (qs .1 .0)) (List._∷_ Row.off (List._∷_ Row.off (List._∷_
-              Row.off (List._∷_ Row.off (List._∷_ Row.off (List._∷_ Row.off (List._∷_ Row.off (List._∷_ Row.off (List._∷_ Row.off (List._∷_ Row.off List.[])))))))))));
+          slots = List._∷_ (Row.lease (κs .0) (qs .0)) (List._∷_ (Row.lease (κs .1 .0) (qs .1 .0)) (List._∷_ Row.off (List._∷_ Row.off (List._∷_ Row.off (List._∷_
+              Row.off (List._∷_ Row.off (List._∷_ Row.off (List._∷_ Row.off (List._∷_ Row.off (List._∷_ Row.off (List._∷_ Row.off List.[])))))))))));
         }
 
         abbrev G29 : (at : Nat.ℕ → Nat.ℕ) → Row.Cx
         G29 = λ at. record {
           locals = List._++_ (g15 at) t1;
-          slots = List._∷_ (Row.lease (κs .0) (qs .0)) (List._∷_ (Row.lease (κs .1 .0) (qs .1 .0)) (List._∷_ Row.off (List._∷_ Row.off (List._∷_
-              Row.off (List._∷_ Row.off (List._∷_ Row.off (List._∷_ Row.off (List._∷_ Row.off (List._∷_ Row.off (List._∷_ Row.off (List._∷_ Row.off List.[])))))))))));
+          slots = List._∷_ (Row.lease (κs .0) (qs .0)) (List._∷_ (Row.lease (κs .1 .0) (qs .1 .0)) (List._∷_ Row.off (List._∷_ Row.off (List._∷_ Row.off (List._∷_
+              Row.off (List._∷_ Row.off (List._∷_ Row.off (List._∷_ Row.off (List._∷_ Row.off (List._∷_ Row.off (List._∷_ Row.off List.[])))))))))));
         }
 
         abbrev G30 : (at : Nat.ℕ → Nat.ℕ) → Row.Cx
         G30 = λ at. record {
           locals = List._++_ (g7 at) t1;
-          slots = List._∷_ (Row.lease (κs .0) (qs .0)) (List._∷_ (Row.lease (κs .1 .0) (qs .1 .0)) (List._∷_ Row.off (List._∷_ Row.off (List._∷_
-              Row.off (List._∷_ Row.off (List._∷_ Row.off (List._∷_ Row.off (List._∷_ Row.off (List._∷_ Row.off (List._∷_ Row.off (List._∷_ Row.off List.[])))))))))));
+          slots = List._∷_ (Row.lease (κs .0) (qs .0)) (List._∷_ (Row.lease (κs .1 .0) (qs .1 .0)) (List._∷_ Row.off (List._∷_ Row.off (List._∷_ Row.off (List._∷_
+              Row.off (List._∷_ Row.off (List._∷_ Row.off (List._∷_ Row.off (List._∷_ Row.off (List._∷_ Row.off (List._∷_ Row.off List.[])))))))))));
         }
 
         abbrev G31 : (at : Nat.ℕ → Nat.ℕ) → Row.Cx
         G31 = λ at. record {
           locals = List._++_ (g16 at) t1;
-          slots = List._∷_ (Row.lease (κs .0) (qs .0)) (List._∷_ (Row.lease (κs .1 .0) (qs .1 .0)) (List._∷_ Row.off (List._∷_ Row.off (List._∷_
-              Row.off (List._∷_ Row.off (List._∷_ Row.off (List._∷_ Row.off (List._∷_ Row.off (List._∷_ Row.off (List._∷_ Row.off (List._∷_ Row.off List.[])))))))))));
+          slots = List._∷_ (Row.lease (κs .0) (qs .0)) (List._∷_ (Row.lease (κs .1 .0) (qs .1 .0)) (List._∷_ Row.off (List._∷_ Row.off (List._∷_ Row.off (List._∷_
+              Row.off (List._∷_ Row.off (List._∷_ Row.off (List._∷_ Row.off (List._∷_ Row.off (List._∷_ Row.off (List._∷_ Row.off List.[])))))))))));
         }
 
         abbrev G32 : (at : Nat.ℕ → Nat.ℕ) → Row.Cx
         G32 = λ at. record {
           locals = List._++_ (g7 at) t1;
-          slots = List._∷_ (Row.lease (κs .0) (qs .0)) (List._∷_ (Row.lease (κs .1 .0) (qs .1 .0)) (List._∷_ Row.off (List._∷_ Row.off (List._∷_
-              Row.off (List._∷_ Row.off (List._∷_ Row.off (List._∷_ Row.off (List._∷_ Row.off (List._∷_ Row.off (List._∷_ Row.off (List._∷_ Row.off List.[])))))))))));
+          slots = List._∷_ (Row.lease (κs .0) (qs .0)) (List._∷_ (Row.lease (κs .1 .0) (qs .1 .0)) (List._∷_ Row.off (List._∷_ Row.off (List._∷_ Row.off (List._∷_
+              Row.off (List._∷_ Row.off (List._∷_ Row.off (List._∷_ Row.off (List._∷_ Row.off (List._∷_ Row.off (List._∷_ Row.off List.[])))))))))));
         }
 
         abbrev G33 : (at : Nat.ℕ → Nat.ℕ) → Row.Cx
         G33 = λ at. record {
           locals = List._++_ (g7 at) t1;
-          slots = List._∷_ (Row.lease (κs .0) (qs .0)) (List._∷_ (Row.lease (κs .1 .0) (qs .1 .0)) (List._∷_ Row.off (List._∷_ Row.alive (List._∷_
-              Row.off (List._∷_ Row.off (List._∷_ Row.off (List._∷_ Row.off (List._∷_ Row.off (List._∷_ Row.off (List._∷_ Row.off (List._∷_ Row.off List.[])))))))))));
+          slots = List._∷_ (Row.lease (κs .0) (qs .0)) (List._∷_ (Row.lease (κs .1 .0) (qs .1 .0)) (List._∷_ Row.off (List._∷_ Row.alive (List._∷_ Row.off (List._∷_
+              Row.off (List._∷_ Row.off (List._∷_ Row.off (List._∷_ Row.off (List._∷_ Row.off (List._∷_ Row.off (List._∷_ Row.off List.[])))))))))));
         }
 
         abbrev G34 : (at : Nat.ℕ → Nat.ℕ) → Row.Cx
         G34 = λ at. record {
           locals = List._++_ (g17 at) t1;
-          slots = List._∷_ Row.off (List._∷_ (Row.lease (κs .1 .0) (qs .1 .0)) (List._∷_ Row.off (List._∷_ Row.alive (List._∷_ Row.off (List._∷_
-              Row.off (List._∷_ Row.off (List._∷_ Row.off (List._∷_ Row.off (List._∷_ Row.off (List._∷_ Row.off (List._∷_ Row.off List.[])))))))))));
+          slots = List._∷_ Row.off (List._∷_ (Row.lease (κs .1 .0) (qs .1 .0)) (List._∷_ Row.off (List._∷_ Row.alive (List._∷_ Row.off (List._∷_ Row.off (List._∷_
+              Row.off (List._∷_ Row.off (List._∷_ Row.off (List._∷_ Row.off (List._∷_ Row.off (List._∷_ Row.off List.[])))))))))));
         }
 
         abbrev G35 : (at : Nat.ℕ → Nat.ℕ) → Row.Cx
         G35 = λ at. record {
           locals = List._++_ (g17 at) t1;
-          slots = List._∷_ Row.off (List._∷_ (Row.leaseT (κs .1 .0) (qs .1 .0) List.[]) (List._∷_ Row.off (List._∷_ Row.alive (List._∷_ Row.off
-              (List._∷_ Row.off (List._∷_ Row.off (List._∷_ Row.off (List._∷_ Row.off (List._∷_ Row.off (List._∷_ Row.off (List._∷_ Row.off List.[])))))))))));
+          slots = List._∷_ Row.off (List._∷_ (Row.leaseT (κs .1 .0) (qs .1 .0) List.[]) (List._∷_ Row.off (List._∷_ Row.alive (List._∷_ Row.off (List._∷_ Row.off
+              (List._∷_ Row.off (List._∷_ Row.off (List._∷_ Row.off (List._∷_ Row.off (List._∷_ Row.off (List._∷_ Row.off List.[])))))))))));
         }
 
         abbrev G36 : (at : Nat.ℕ → Nat.ℕ) → Row.Cx
         G36 = λ at. record {
           locals = List._++_ (g17 at) t1;
-          slots = List._∷_ Row.off (List._∷_ (Row.leaseT (κs .1 .0) (qs .1 .0) List.[]) (List._∷_ Row.off (List._∷_ (Row.lease (List._∷_ (at 1)
-              List.[]) TreeShare.fullShare) (List._∷_ Row.off (List._∷_ Row.off (List._∷_ Row.off (List._∷_ Row.off (List._∷_ Row.off (List._∷_ Row.off (List._∷_ Row.off (List._∷_ Row.off
-              List.[])))))))))));
+          slots = List._∷_ Row.off (List._∷_ (Row.leaseT (κs .1 .0) (qs .1 .0) List.[]) (List._∷_ Row.off (List._∷_ (Row.lease (List._∷_ (at 1) List.[])
+              TreeShare.fullShare) (List._∷_ Row.off (List._∷_ Row.off (List._∷_ Row.off (List._∷_ Row.off (List._∷_ Row.off (List._∷_ Row.off (List._∷_ Row.off (List._∷_ Row.off List.[])))))))))));
         }
 
         abbrev G37 : (at : Nat.ℕ → Nat.ℕ) → Row.Cx
         G37 = λ at. record {
           locals = List._++_ (g17 at) t1;
-          slots = List._∷_ Row.off (List._∷_ (Row.leaseT (κs .1 .0) (qs .1 .0) (List._∷_ Bool'.false List.[])) (List._∷_ Row.off (List._∷_
-              (Row.carved (List._∷_ (at 1) List.[]) (TreeShare.PosShare·right (qs .1 .0))) (List._∷_ Row.off (List._∷_ Row.off (List._∷_ Row.off (List._∷_ Row.off (List._∷_ (Row.lease (List._++_ (κs .1 .0)
-              (List._∷_ (at 1) List.[])) (TreeShare.PosShare·right (qs .1 .0))) (List._∷_ Row.off (List._∷_ Row.off (List._∷_ Row.off List.[])))))))))));
+          slots = List._∷_ Row.off (List._∷_ (Row.leaseT (κs .1 .0) (qs .1 .0) (List._∷_ Bool'.false List.[])) (List._∷_ Row.off (List._∷_ (Row.carved (List._∷_ (at 1)
+              List.[]) (TreeShare.PosShare·right (qs .1 .0))) (List._∷_ Row.off (List._∷_ Row.off (List._∷_ Row.off (List._∷_ Row.off (List._∷_ (Row.lease (List._++_ (κs .1 .0) (List._∷_ (at 1) List.[]))
+              (TreeShare.PosShare·right (qs .1 .0))) (List._∷_ Row.off (List._∷_ Row.off (List._∷_ Row.off List.[])))))))))));
         }
 
         abbrev G38 : (at : Nat.ℕ → Nat.ℕ) → Row.Cx
         G38 = λ at. record {
           locals = List._++_ (g18 at) t1;
-          slots = List._∷_ Row.off (List._∷_ (Row.leaseT (κs .1 .0) (qs .1 .0) (List._∷_ Bool'.false List.[])) (List._∷_ Row.off (List._∷_
-              (Row.carved (List._∷_ (at 1) List.[]) (TreeShare.PosShare·right (qs .1 .0))) (List._∷_ Row.off (List._∷_ Row.off (List._∷_ Row.off (List._∷_ Row.off (List._∷_ (Row.lease (List._++_ (κs .1 .0)
-              (List._∷_ (at 1) List.[])) (TreeShare.PosShare·right (qs .1 .0))) (List._∷_ Row.off (List._∷_ Row.off (List._∷_ Row.off List.[])))))))))));
+          slots = List._∷_ Row.off (List._∷_ (Row.leaseT (κs .1 .0) (qs .1 .0) (List._∷_ Bool'.false List.[])) (List._∷_ Row.off (List._∷_ (Row.carved (List._∷_ (at 1)
+              List.[]) (TreeShare.PosShare·right (qs .1 .0))) (List._∷_ Row.off (List._∷_ Row.off (List._∷_ Row.off (List._∷_ Row.off (List._∷_ (Row.lease (List._++_ (κs .1 .0) (List._∷_ (at 1) List.[]))
+              (TreeShare.PosShare·right (qs .1 .0))) (List._∷_ Row.off (List._∷_ Row.off (List._∷_ Row.off List.[])))))))))));
         }
 
         abbrev G39 : (at : Nat.ℕ → Nat.ℕ) → Row.Cx
         G39 = λ at. record {
           locals = List._++_ (g19 at) t1;
-          slots = List._∷_ Row.off (List._∷_ (Row.leaseT (κs .1 .0) (qs .1 .0) (List._∷_ Bool'.false List.[])) (List._∷_ Row.off (List._∷_
-              (Row.carved (List._∷_ (at 1) List.[]) (TreeShare.PosShare·right (qs .1 .0))) (List._∷_ Row.off (List._∷_ Row.off (List._∷_ Row.off (List._∷_ Row.off (List._∷_ (Row.lease (List._++_ (κs .1 .0)
-              (List._∷_ (at 1) List.[])) (TreeShare.PosShare·right (qs .1 .0))) (List._∷_ Row.off (List._∷_ Row.off (List._∷_ Row.off List.[])))))))))));
+          slots = List._∷_ Row.off (List._∷_ (Row.leaseT (κs .1 .0) (qs .1 .0) (List._∷_ Bool'.false List.[])) (List._∷_ Row.off (List._∷_ (Row.carved (List._∷_ (at 1)
+              List.[]) (TreeShare.PosShare·right (qs .1 .0))) (List._∷_ Row.off (List._∷_ Row.off (List._∷_ Row.off (List._∷_ Row.off (List._∷_ (Row.lease (List._++_ (κs .1 .0) (List._∷_ (at 1) List.[]))
+              (TreeShare.PosShare·right (qs .1 .0))) (List._∷_ Row.off (List._∷_ Row.off (List._∷_ Row.off List.[])))))))))));
         }
 
         abbrev G40 : (at : Nat.ℕ → Nat.ℕ) → Row.Cx
         G40 = λ at. record {
           locals = List._++_ (g20 at) t1;
-          slots = List._∷_ Row.off (List._∷_ (Row.leaseT (κs .1 .0) (qs .1 .0) (List._∷_ Bool'.false List.[])) (List._∷_ Row.off (List._∷_
-              (Row.carved (List._∷_ (at 1) List.[]) (TreeShare.PosShare·right (qs .1 .0))) (List._∷_ Row.off (List._∷_ Row.off (List._∷_ Row.off (List._∷_ Row.off (List._∷_ (Row.lease (List._++_ (κs .1 .0)
-              (List._∷_ (at 1) List.[])) (TreeShare.PosShare·right (qs .1 .0))) (List._∷_ Row.off (List._∷_ Row.off (List._∷_ Row.off List.[])))))))))));
+          slots = List._∷_ Row.off (List._∷_ (Row.leaseT (κs .1 .0) (qs .1 .0) (List._∷_ Bool'.false List.[])) (List._∷_ Row.off (List._∷_ (Row.carved (List._∷_ (at 1)
+              List.[]) (TreeShare.PosShare·right (qs .1 .0))) (List._∷_ Row.off (List._∷_ Row.off (List._∷_ Row.off (List._∷_ Row.off (List._∷_ (Row.lease (List._++_ (κs .1 .0) (List._∷_ (at 1) List.[]))
+              (TreeShare.PosShare·right (qs .1 .0))) (List._∷_ Row.off (List._∷_ Row.off (List._∷_ Row.off List.[])))))))))));
         }
 
         abbrev G41 : (at : Nat.ℕ → Nat.ℕ) → Row.Cx
         G41 = λ at. record {
           locals = List._++_ (g20 at) t1;
-          slots = List._∷_ Row.off (List._∷_ (Row.leaseT (κs .1 .0) (qs .1 .0) (List._∷_ Bool'.true List.[])) (List._∷_ Row.off (List._∷_ (Row.lease
-              (List._∷_ (at 1) List.[]) TreeShare.fullShare) (List._∷_ Row.off (List._∷_ Row.off (List._∷_ Row.off (List._∷_ Row.off (List._∷_ Row.off (List._∷_ Row.off (List._∷_ Row.off (List._∷_ Row.off
+          slots = List._∷_ Row.off (List._∷_ (Row.leaseT (κs .1 .0) (qs .1 .0) (List._∷_ Bool'.true List.[])) (List._∷_ Row.off (List._∷_ (Row.lease (List._∷_ (at 1)
+              List.[]) TreeShare.fullShare) (List._∷_ Row.off (List._∷_ Row.off (List._∷_ Row.off (List._∷_ Row.off (List._∷_ Row.off (List._∷_ Row.off (List._∷_ Row.off (List._∷_ Row.off
               List.[])))))))))));
         }
 
         abbrev G42 : (at : Nat.ℕ → Nat.ℕ) → Row.Cx
         G42 = λ at. record {
           locals = List._++_ (g20 at) t1;
-          slots = List._∷_ Row.off (List._∷_ (Row.leaseT (κs .1 .0) (qs .1 .0) List.[]) (List._∷_ Row.off (List._∷_ (Row.lease (List._∷_ (at 1)
-              List.[]) TreeShare.fullShare) (List._∷_ Row.off (List._∷_ Row.off (List._∷_ Row.off (List._∷_ Row.off (List._∷_ Row.off (List._∷_ Row.off (List._∷_ Row.off (List._∷_ Row.off
-              List.[])))))))))));
+          slots = List._∷_ Row.off (List._∷_ (Row.leaseT (κs .1 .0) (qs .1 .0) List.[]) (List._∷_ Row.off (List._∷_ (Row.lease (List._∷_ (at 1) List.[])
+              TreeShare.fullShare) (List._∷_ Row.off (List._∷_ Row.off (List._∷_ Row.off (List._∷_ Row.off (List._∷_ Row.off (List._∷_ Row.off (List._∷_ Row.off (List._∷_ Row.off List.[])))))))))));
         }
 
         abbrev G43 : (at : Nat.ℕ → Nat.ℕ) → Row.Cx
         G43 = λ at. record {
           locals = List._++_ (g20 at) t1;
-          slots = List._∷_ Row.off (List._∷_ (Row.lease (κs .1 .0) (qs .1 .0)) (List._∷_ Row.off (List._∷_ (Row.lease (List._∷_ (at 1) List.[])
-              TreeShare.fullShare) (List._∷_ Row.off (List._∷_ Row.off (List._∷_ Row.off (List._∷_ Row.off (List._∷_ Row.off (List._∷_ Row.off (List._∷_ Row.off (List._∷_ Row.off List.[])))))))))));
+          slots = List._∷_ Row.off (List._∷_ (Row.lease (κs .1 .0) (qs .1 .0)) (List._∷_ Row.off (List._∷_ (Row.lease (List._∷_ (at 1) List.[]) TreeShare.fullShare)
+              (List._∷_ Row.off (List._∷_ Row.off (List._∷_ Row.off (List._∷_ Row.off (List._∷_ Row.off (List._∷_ Row.off (List._∷_ Row.off (List._∷_ Row.off List.[])))))))))));
         }
 
         abbrev G44 : (at : Nat.ℕ → Nat.ℕ) → Row.Cx
         G44 = λ at. record {
           locals = List._++_ (g20 at) t1;
-          slots = List._∷_ Row.off (List._∷_ (Row.lease (κs .1 .0) (qs .1 .0)) (List._∷_ Row.off (List._∷_ Row.alive (List._∷_ Row.off (List._∷_
-              Row.off (List._∷_ Row.off (List._∷_ Row.off (List._∷_ Row.off (List._∷_ Row.off (List._∷_ Row.off (List._∷_ Row.off List.[])))))))))));
+          slots = List._∷_ Row.off (List._∷_ (Row.lease (κs .1 .0) (qs .1 .0)) (List._∷_ Row.off (List._∷_ Row.alive (List._∷_ Row.off (List._∷_ Row.off (List._∷_
+              Row.off (List._∷_ Row.off (List._∷_ Row.off (List._∷_ Row.off (List._∷_ Row.off (List._∷_ Row.off List.[])))))))))));
         }
 
         abbrev G45 : (at : Nat.ℕ → Nat.ℕ) → Row.Cx
         G45 = λ at. record {
           locals = List._++_ (g20 at) t1;
-          slots = List._∷_ Row.off (List._∷_ (Row.lease (κs .1 .0) (qs .1 .0)) (List._∷_ Row.off (List._∷_ Row.dead (List._∷_ Row.off (List._∷_
-              Row.off (List._∷_ Row.off (List._∷_ Row.off (List._∷_ Row.off (List._∷_ Row.off (List._∷_ Row.off (List._∷_ Row.off List.[])))))))))));
+          slots = List._∷_ Row.off (List._∷_ (Row.lease (κs .1 .0) (qs .1 .0)) (List._∷_ Row.off (List._∷_ Row.dead (List._∷_ Row.off (List._∷_ Row.off (List._∷_
+              Row.off (List._∷_ Row.off (List._∷_ Row.off (List._∷_ Row.off (List._∷_ Row.off (List._∷_ Row.off List.[])))))))))));
         }
 
         abbrev G46 : (at : Nat.ℕ → Nat.ℕ) → Row.Cx
         G46 = λ at. record {
           locals = List._++_ (g21 at) t1;
-          slots = List._∷_ (Row.lease (κs .0) (qs .0)) (List._∷_ (Row.lease (κs .1 .0) (qs .1 .0)) (List._∷_ Row.off (List._∷_ Row.dead (List._∷_
-              Row.off (List._∷_ Row.off (List._∷_ Row.off (List._∷_ Row.off (List._∷_ Row.off (List._∷_ Row.off (List._∷_ Row.off (List._∷_ Row.off List.[])))))))))));
+          slots = List._∷_ (Row.lease (κs .0) (qs .0)) (List._∷_ (Row.lease (κs .1 .0) (qs .1 .0)) (List._∷_ Row.off (List._∷_ Row.dead (List._∷_ Row.off (List._∷_
+              Row.off (List._∷_ Row.off (List._∷_ Row.off (List._∷_ Row.off (List._∷_ Row.off (List._∷_ Row.off (List._∷_ Row.off List.[])))))))))));
         }
 
         abbrev G47 : (at : Nat.ℕ → Nat.ℕ) → Row.Cx
         G47 = λ at. record {
           locals = List._++_ (g21 at) t1;
-          slots = List._∷_ (Row.lease (κs .0) (qs .0)) (List._∷_ (Row.lease (κs .1 .0) (qs .1 .0)) (List._∷_ Row.off (List._∷_ Row.off (List._∷_
-              Row.off (List._∷_ Row.off (List._∷_ Row.off (List._∷_ Row.off (List._∷_ Row.off (List._∷_ Row.off (List._∷_ Row.off (List._∷_ Row.off List.[])))))))))));
+          slots = List._∷_ (Row.lease (κs .0) (qs .0)) (List._∷_ (Row.lease (κs .1 .0) (qs .1 .0)) (List._∷_ Row.off (List._∷_ Row.off (List._∷_ Row.off (List._∷_
+              Row.off (List._∷_ Row.off (List._∷_ Row.off (List._∷_ Row.off (List._∷_ Row.off (List._∷_ Row.off (List._∷_ Row.off List.[])))))))))));
         }
 
         abbrev G48 : (at : Nat.ℕ → Nat.ℕ) → Row.Cx
         G48 = λ at. record {
           locals = List._++_ (g21 at) t1;
-          slots = List._∷_ (Row.lease (κs .0) (qs .0)) (List._∷_ (Row.lease (κs .1 .0) (qs .1 .0)) (List._∷_ Row.off (List._∷_ Row.off (List._∷_
-              Row.alive (List._∷_ Row.off (List._∷_ Row.off (List._∷_ Row.off (List._∷_ Row.off (List._∷_ Row.off (List._∷_ Row.off (List._∷_ Row.off List.[])))))))))));
+          slots = List._∷_ (Row.lease (κs .0) (qs .0)) (List._∷_ (Row.lease (κs .1 .0) (qs .1 .0)) (List._∷_ Row.off (List._∷_ Row.off (List._∷_ Row.alive (List._∷_
+              Row.off (List._∷_ Row.off (List._∷_ Row.off (List._∷_ Row.off (List._∷_ Row.off (List._∷_ Row.off (List._∷_ Row.off List.[])))))))))));
         }
 
         abbrev G49 : (at : Nat.ℕ → Nat.ℕ) → Row.Cx
         G49 = λ at. record {
           locals = List._++_ (g22 at) t1;
-          slots = List._∷_ Row.off (List._∷_ (Row.lease (κs .1 .0) (qs .1 .0)) (List._∷_ Row.off (List._∷_ Row.off (List._∷_ Row.alive (List._∷_
-              Row.off (List._∷_ Row.off (List._∷_ Row.off (List._∷_ Row.off (List._∷_ Row.off (List._∷_ Row.off (List._∷_ Row.off List.[])))))))))));
+          slots = List._∷_ Row.off (List._∷_ (Row.lease (κs .1 .0) (qs .1 .0)) (List._∷_ Row.off (List._∷_ Row.off (List._∷_ Row.alive (List._∷_ Row.off (List._∷_
+              Row.off (List._∷_ Row.off (List._∷_ Row.off (List._∷_ Row.off (List._∷_ Row.off (List._∷_ Row.off List.[])))))))))));
         }
 
         abbrev G50 : (at : Nat.ℕ → Nat.ℕ) → Row.Cx
         G50 = λ at. record {
           locals = List._++_ (g22 at) t1;
-          slots = List._∷_ Row.off (List._∷_ (Row.leaseT (κs .1 .0) (qs .1 .0) List.[]) (List._∷_ Row.off (List._∷_ Row.off (List._∷_ Row.alive
-              (List._∷_ Row.off (List._∷_ Row.off (List._∷_ Row.off (List._∷_ Row.off (List._∷_ Row.off (List._∷_ Row.off (List._∷_ Row.off List.[])))))))))));
+          slots = List._∷_ Row.off (List._∷_ (Row.leaseT (κs .1 .0) (qs .1 .0) List.[]) (List._∷_ Row.off (List._∷_ Row.off (List._∷_ Row.alive (List._∷_ Row.off
+              (List._∷_ Row.off (List._∷_ Row.off (List._∷_ Row.off (List._∷_ Row.off (List._∷_ Row.off (List._∷_ Row.off List.[])))))))))));
         }
 
         abbrev G51 : (at : Nat.ℕ → Nat.ℕ) → Row.Cx
         G51 = λ at. record {
           locals = List._++_ (g22 at) t1;
-          slots = List._∷_ Row.off (List._∷_ (Row.leaseT (κs .1 .0) (qs .1 .0) List.[]) (List._∷_ Row.off (List._∷_ Row.off (List._∷_ (Row.lease
-              (List._∷_ (at 2) List.[]) TreeShare.fullShare) (List._∷_ Row.off (List._∷_ Row.off (List._∷_ Row.off (List._∷_ Row.off (List._∷_ Row.off (List._∷_ Row.off (List._∷_ Row.off List.[])))))))))));
+          slots = List._∷_ Row.off (List._∷_ (Row.leaseT (κs .1 .0) (qs .1 .0) List.[]) (List._∷_ Row.off (List._∷_ Row.off (List._∷_ (Row.lease (List._∷_ (at 2)
+              List.[]) TreeShare.fullShare) (List._∷_ Row.off (List._∷_ Row.off (List._∷_ Row.off (List._∷_ Row.off (List._∷_ Row.off (List._∷_ Row.off (List._∷_ Row.off List.[])))))))))));
         }
 
         abbrev G52 : (at : Nat.ℕ → Nat.ℕ) → Row.Cx
         G52 = λ at. record {
           locals = List._++_ (g22 at) t1;
-          slots = List._∷_ Row.off (List._∷_ (Row.leaseT (κs .1 .0) (qs .1 .0) (List._∷_ Bool'.false List.[])) (List._∷_ Row.off (List._∷_ Row.off
-              (List._∷_ (Row.carved (List._∷_ (at 2) List.[]) (TreeShare.PosShare·right (qs .1 .0))) (List._∷_ Row.off (List._∷_ Row.off (List._∷_ Row.off (List._∷_ Row.off (List._∷_ (Row.lease (List._++_
-              (κs .1 .0) (List._∷_ (at 2) List.[])) (TreeShare.PosShare·right (qs .1 .0))) (List._∷_ Row.off (List._∷_ Row.off List.[])))))))))));
+          slots = List._∷_ Row.off (List._∷_ (Row.leaseT (κs .1 .0) (qs .1 .0) (List._∷_ Bool'.false List.[])) (List._∷_ Row.off (List._∷_ Row.off (List._∷_ (Row.carved
+              (List._∷_ (at 2) List.[]) (TreeShare.PosShare·right (qs .1 .0))) (List._∷_ Row.off (List._∷_ Row.off (List._∷_ Row.off (List._∷_ Row.off (List._∷_ (Row.lease (List._++_ (κs .1 .0) (List._∷_
+              (at 2) List.[])) (TreeShare.PosShare·right (qs .1 .0))) (List._∷_ Row.off (List._∷_ Row.off List.[])))))))))));
         }
 
         abbrev G53 : (at : Nat.ℕ → Nat.ℕ) → Row.Cx
         G53 = λ at. record {
           locals = List._++_ (g23 at) t1;
-          slots = List._∷_ Row.off (List._∷_ (Row.leaseT (κs .1 .0) (qs .1 .0) (List._∷_ Bool'.false List.[])) (List._∷_ Row.off (List._∷_ Row.off
-              (List._∷_ (Row.carved (List._∷_ (at 2) List.[]) (TreeShare.PosShare·right (qs .1 .0))) (List._∷_ Row.off (List._∷_ Row.off (List._∷_ Row.off (List._∷_ Row.off (List._∷_ (Row.lease (List._++_
-              (κs .1 .0) (List._∷_ (at 2) List.[])) (TreeShare.PosShare·right (qs .1 .0))) (List._∷_ Row.off (List._∷_ Row.off List.[])))))))))));
+          slots = List._∷_ Row.off (List._∷_ (Row.leaseT (κs .1 .0) (qs .1 .0) (List._∷_ Bool'.false List.[])) (List._∷_ Row.off (List._∷_ Row.off (List._∷_ (Row.carved
+              (List._∷_ (at 2) List.[]) (TreeShare.PosShare·right (qs .1 .0))) (List._∷_ Row.off (List._∷_ Row.off (List._∷_ Row.off (List._∷_ Row.off (List._∷_ (Row.lease (List._++_ (κs .1 .0) (List._∷_
+              (at 2) List.[])) (TreeShare.PosShare·right (qs .1 .0))) (List._∷_ Row.off (List._∷_ Row.off List.[])))))))))));
         }
 
         abbrev G54 : (at : Nat.ℕ → Nat.ℕ) → Row.Cx
         G54 = λ at. record {
           locals = List._++_ (g24 at) t1;
-          slots = List._∷_ Row.off (List._∷_ (Row.leaseT (κs .1 .0) (qs .1 .0) (List._∷_ Bool'.false List.[])) (List._∷_ Row.off (List._∷_ Row.off
-              (List._∷_ (Row.carved (List._∷_ (at 2) List.[]) (TreeShare.PosShare·right (qs .1 .0))) (List._∷_ Row.off (List._∷_ Row.off (List._∷_ Row.off (List._∷_ Row.off (List._∷_ (Row.lease (List._++_
-              (κs .1 .0) (List._∷_ (at 2) List.[])) (TreeShare.PosShare·right (qs .1 .0))) (List._∷_ Row.off (List._∷_ Row.off List.[])))))))))));
+          slots = List._∷_ Row.off (List._∷_ (Row.leaseT (κs .1 .0) (qs .1 .0) (List._∷_ Bool'.false List.[])) (List._∷_ Row.off (List._∷_ Row.off (List._∷_ (Row.carved
+              (List._∷_ (at 2) List.[]) (TreeShare.PosShare·right (qs .1 .0))) (List._∷_ Row.off (List._∷_ Row.off (List._∷_ Row.off (List._∷_ Row.off (List._∷_ (Row.lease (List._++_ (κs .1 .0) (List._∷_
+              (at 2) List.[])) (TreeShare.PosShare·right (qs .1 .0))) (List._∷_ Row.off (List._∷_ Row.off List.[])))))))))));
         }
 
         abbrev G55 : (at : Nat.ℕ → Nat.ℕ) → Row.Cx
         G55 = λ at. record {
           locals = List._++_ (g25 at) t1;
-          slots = List._∷_ Row.off (List._∷_ (Row.leaseT (κs .1 .0) (qs .1 .0) (List._∷_ Bool'.false List.[])) (List._∷_ Row.off (List._∷_ Row.off
-              (List._∷_ (Row.carved (List._∷_ (at 2) List.[]) (TreeShare.PosShare·right (qs .1 .0))) (List._∷_ Row.off (List._∷_ Row.off (List._∷_ Row.off (List._∷_ Row.off (List._∷_ (Row.lease (List._++_
-              (κs .1 .0) (List._∷_ (at 2) List.[])) (TreeShare.PosShare·right (qs .1 .0))) (List._∷_ Row.off (List._∷_ Row.off List.[])))))))))));
+          slots = List._∷_ Row.off (List._∷_ (Row.leaseT (κs .1 .0) (qs .1 .0) (List._∷_ Bool'.false List.[])) (List._∷_ Row.off (List._∷_ Row.off (List._∷_ (Row.carved
+              (List._∷_ (at 2) List.[]) (TreeShare.PosShare·right (qs .1 .0))) (List._∷_ Row.off (List._∷_ Row.off (List._∷_ Row.off (List._∷_ Row.off (List._∷_ (Row.lease (List._++_ (κs .1 .0) (List._∷_
+              (at 2) List.[])) (TreeShare.PosShare·right (qs .1 .0))) (List._∷_ Row.off (List._∷_ Row.off List.[])))))))))));
         }
 
         abbrev G56 : (at : Nat.ℕ → Nat.ℕ) → Row.Cx
         G56 = λ at. record {
           locals = List._++_ (g26 at) t1;
-          slots = List._∷_ Row.off (List._∷_ (Row.leaseT (κs .1 .0) (qs .1 .0) (List._∷_ Bool'.false List.[])) (List._∷_ Row.off (List._∷_ Row.off
-              (List._∷_ (Row.carved (List._∷_ (at 2) List.[]) (TreeShare.PosShare·right (qs .1 .0))) (List._∷_ Row.off (List._∷_ Row.off (List._∷_ Row.off (List._∷_ Row.off (List._∷_ (Row.lease (List._++_
-              (κs .1 .0) (List._∷_ (at 2) List.[])) (TreeShare.PosShare·right (qs .1 .0))) (List._∷_ Row.off (List._∷_ Row.off List.[])))))))))));
+          slots = List._∷_ Row.off (List._∷_ (Row.leaseT (κs .1 .0) (qs .1 .0) (List._∷_ Bool'.false List.[])) (List._∷_ Row.off (List._∷_ Row.off (List._∷_ (Row.carved
+              (List._∷_ (at 2) List.[]) (TreeShare.PosShare·right (qs .1 .0))) (List._∷_ Row.off (List._∷_ Row.off (List._∷_ Row.off (List._∷_ Row.off (List._∷_ (Row.lease (List._++_ (κs .1 .0) (List._∷_
+              (at 2) List.[])) (TreeShare.PosShare·right (qs .1 .0))) (List._∷_ Row.off (List._∷_ Row.off List.[])))))))))));
         }
 
         abbrev G57 : (at : Nat.ℕ → Nat.ℕ) → Row.Cx
         G57 = λ at. record {
           locals = List._++_ (g27 at) t1;
-          slots = List._∷_ Row.off (List._∷_ (Row.leaseT (κs .1 .0) (qs .1 .0) (List._∷_ Bool'.false List.[])) (List._∷_ Row.off (List._∷_ Row.off
-              (List._∷_ (Row.carved (List._∷_ (at 2) List.[]) (TreeShare.PosShare·right (qs .1 .0))) (List._∷_ Row.off (List._∷_ Row.off (List._∷_ Row.off (List._∷_ Row.off (List._∷_ (Row.lease (List._++_
-              (κs .1 .0) (List._∷_ (at 2) List.[])) (TreeShare.PosShare·right (qs .1 .0))) (List._∷_ Row.off (List._∷_ Row.off List.[])))))))))));
+          slots = List._∷_ Row.off (List._∷_ (Row.leaseT (κs .1 .0) (qs .1 .0) (List._∷_ Bool'.false List.[])) (List._∷_ Row.off (List._∷_ Row.off (List._∷_ (Row.carved
+              (List._∷_ (at 2) List.[]) (TreeShare.PosShare·right (qs .1 .0))) (List._∷_ Row.off (List._∷_ Row.off (List._∷_ Row.off (List._∷_ Row.off (List._∷_ (Row.lease (List._++_ (κs .1 .0) (List._∷_
+              (at 2) List.[])) (TreeShare.PosShare·right (qs .1 .0))) (List._∷_ Row.off (List._∷_ Row.off List.[])))))))))));
         }
 
         abbrev G58 : (at : Nat.ℕ → Nat.ℕ) → Row.Cx
         G58 = λ at. record {
           locals = List._++_ (g27 at) t1;
-          slots = List._∷_ Row.off (List._∷_ (Row.leaseT (κs .1 .0) (qs .1 .0) (List._∷_ Bool'.true List.[])) (List._∷_ Row.off (List._∷_ Row.off
-              (List._∷_ (Row.lease (List._∷_ (at 2) List.[]) TreeShare.fullShare) (List._∷_ Row.off (List._∷_ Row.off (List._∷_ Row.off (List._∷_ Row.off (List._∷_ Row.off (List._∷_ Row.off (List._∷_
-              Row.off List.[])))))))))));
+          slots = List._∷_ Row.off (List._∷_ (Row.leaseT (κs .1 .0) (qs .1 .0) (List._∷_ Bool'.true List.[])) (List._∷_ Row.off (List._∷_ Row.off (List._∷_ (Row.lease
+              (List._∷_ (at 2) List.[]) TreeShare.fullShare) (List._∷_ Row.off (List._∷_ Row.off (List._∷_ Row.off (List._∷_ Row.off (List._∷_ Row.off (List._∷_ Row.off (List._∷_ Row.off List.[])))))))))));
         }
 
         abbrev G59 : (at : Nat.ℕ → Nat.ℕ) → Row.Cx
         G59 = λ at. record {
           locals = List._++_ (g27 at) t1;
-          slots = List._∷_ Row.off (List._∷_ (Row.leaseT (κs .1 .0) (qs .1 .0) List.[]) (List._∷_ Row.off (List._∷_ Row.off (List._∷_ (Row.lease
-              (List._∷_ (at 2) List.[]) TreeShare.fullShare) (List._∷_ Row.off (List._∷_ Row.off (List._∷_ Row.off (List._∷_ Row.off (List._∷_ Row.off (List._∷_ Row.off (List._∷_ Row.off List.[])))))))))));
+          slots = List._∷_ Row.off (List._∷_ (Row.leaseT (κs .1 .0) (qs .1 .0) List.[]) (List._∷_ Row.off (List._∷_ Row.off (List._∷_ (Row.lease (List._∷_ (at 2)
+              List.[]) TreeShare.fullShare) (List._∷_ Row.off (List._∷_ Row.off (List._∷_ Row.off (List._∷_ Row.off (List._∷_ Row.off (List._∷_ Row.off (List._∷_ Row.off List.[])))))))))));
         }
 
         abbrev G60 : (at : Nat.ℕ → Nat.ℕ) → Row.Cx
         G60 = λ at. record {
           locals = List._++_ (g27 at) t1;
-          slots = List._∷_ Row.off (List._∷_ (Row.lease (κs .1 .0) (qs .1 .0)) (List._∷_ Row.off (List._∷_ Row.off (List._∷_ (Row.lease (List._∷_ (at
-              2) List.[]) TreeShare.fullShare) (List._∷_ Row.off (List._∷_ Row.off (List._∷_ Row.off (List._∷_ Row.off (List._∷_ Row.off (List._∷_ Row.off (List._∷_ Row.off List.[])))))))))));
+          slots = List._∷_ Row.off (List._∷_ (Row.lease (κs .1 .0) (qs .1 .0)) (List._∷_ Row.off (List._∷_ Row.off (List._∷_ (Row.lease (List._∷_ (at 2) List.[])
+              TreeShare.fullShare) (List._∷_ Row.off (List._∷_ Row.off (List._∷_ Row.off (List._∷_ Row.off (List._∷_ Row.off (List._∷_ Row.off (List._∷_ Row.off List.[])))))))))));
         }
 
         abbrev G61 : (at : Nat.ℕ → Nat.ℕ) → Row.Cx
         G61 = λ at. record {
           locals = List._++_ (g27 at) t1;
-          slots = List._∷_ Row.off (List._∷_ (Row.lease (κs .1 .0) (qs .1 .0)) (List._∷_ Row.off (List._∷_ Row.off (List._∷_ Row.alive (List._∷_
-              Row.off (List._∷_ Row.off (List._∷_ Row.off (List._∷_ Row.off (List._∷_ Row.off (List._∷_ Row.off (List._∷_ Row.off List.[])))))))))));
+          slots = List._∷_ Row.off (List._∷_ (Row.lease (κs .1 .0) (qs .1 .0)) (List._∷_ Row.off (List._∷_ Row.off (List._∷_ Row.alive (List._∷_ Row.off (List._∷_
+              Row.off (List._∷_ Row.off (List._∷_ Row.off (List._∷_ Row.off (List._∷_ Row.off (List._∷_ Row.off List.[])))))))))));
         }
 
         abbrev G62 : (at : Nat.ℕ → Nat.ℕ) → Row.Cx
         G62 = λ at. record {
           locals = List._++_ (g27 at) t1;
-          slots = List._∷_ Row.off (List._∷_ (Row.lease (κs .1 .0) (qs .1 .0)) (List._∷_ Row.off (List._∷_ Row.off (List._∷_ Row.dead (List._∷_
-              Row.off (List._∷_ Row.off (List._∷_ Row.off (List._∷_ Row.off (List._∷_ Row.off (List._∷_ Row.off (List._∷_ Row.off List.[])))))))))));
+          slots = List._∷_ Row.off (List._∷_ (Row.lease (κs .1 .0) (qs .1 .0)) (List._∷_ Row.off (List._∷_ Row.off (List._∷_ Row.dead (List._∷_ Row.off (List._∷_
+              Row.off (List._∷_ Row.off (List._∷_ Row.off (List._∷_ Row.off (List._∷_ Row.off (List._∷_ Row.off List.[])))))))))));
         }
 
         abbrev G63 : (at : Nat.ℕ → Nat.ℕ) → Row.Cx
         G63 = λ at. record {
           locals = List._++_ (g28 at) t1;
-          slots = List._∷_ (Row.lease (κs .0) (qs .0)) (List._∷_ (Row.lease (κs .1 .0) (qs .1 .0)) (List._∷_ Row.off (List._∷_ Row.off (List._∷_
-              Row.dead (List._∷_ Row.off (List._∷_ Row.off (List._∷_ Row.off (List._∷_ Row.off (List._∷_ Row.off (List._∷_ Row.off (List._∷_ Row.off List.[])))))))))));
+          slots = List._∷_ (Row.lease (κs .0) (qs .0)) (List._∷_ (Row.lease (κs .1 .0) (qs .1 .0)) (List._∷_ Row.off (List._∷_ Row.off (List._∷_ Row.dead (List._∷_
+              Row.off (List._∷_ Row.off (List._∷_ Row.off (List._∷_ Row.off (List._∷_ Row.off (List._∷_ Row.off (List._∷_ Row.off List.[])))))))))));
         }
 
         abbrev G64 : (at : Nat.ℕ → Nat.ℕ) → Row.Cx
         G64 = λ at. record {
           locals = List._++_ (g28 at) t1;
-          slots = List._∷_ (Row.lease (κs .0) (qs .0)) (List._∷_ (Row.lease (κs .1 .0) (qs .1 .0)) (List._∷_ Row.off (List._∷_ Row.off (List._∷_
-              Row.off (List._∷_ Row.off (List._∷_ Row.off (List._∷_ Row.off (List._∷_ Row.off (List._∷_ Row.off (List._∷_ Row.off (List._∷_ Row.off List.[])))))))))));
+          slots = List._∷_ (Row.lease (κs .0) (qs .0)) (List._∷_ (Row.lease (κs .1 .0) (qs .1 .0)) (List._∷_ Row.off (List._∷_ Row.off (List._∷_ Row.off (List._∷_
+              Row.off (List._∷_ Row.off (List._∷_ Row.off (List._∷_ Row.off (List._∷_ Row.off (List._∷_ Row.off (List._∷_ Row.off List.[])))))))))));
         }
 
         abbrev G65 : (at : Nat.ℕ → Nat.ℕ) → Row.Cx
         G65 = λ at. record {
           locals = List._++_ (g28 at) t29;
-          slots = List._∷_ (Row.lease (κs .0) (qs .0)) (List._∷_ (Row.lease (κs .1 .0) (qs .1 .0)) (List._∷_ Row.off (List._∷_ Row.off (List._∷_
-              Row.off (List._∷_ Row.off (List._∷_ Row.off (List._∷_ Row.off (List._∷_ Row.off (List._∷_ Row.off (List._∷_ Row.off (List._∷_ Row.off List.[])))))))))));
+          slots = List._∷_ (Row.lease (κs .0) (qs .0)) (List._∷_ (Row.lease (κs .1 .0) (qs .1 .0)) (List._∷_ Row.off (List._∷_ Row.off (List._∷_ Row.off (List._∷_
+              Row.off (List._∷_ Row.off (List._∷_ Row.off (List._∷_ Row.off (List._∷_ Row.off (List._∷_ Row.off (List._∷_ Row.off List.[])))))))))));
         }
 
         abbrev G66 : (at : Nat.ℕ → Nat.ℕ) → Row.Cx
         G66 = λ at. record {
           locals = List._++_ (g28 at) t30;
-          slots = List._∷_ (Row.lease (κs .0) (qs .0)) (List._∷_ (Row.lease (κs .1 .0) (qs .1 .0)) (List._∷_ Row.off (List._∷_ Row.off (List._∷_
-              Row.off (List._∷_ Row.off (List._∷_ Row.off (List._∷_ Row.off (List._∷_ Row.off (List._∷_ Row.off (List._∷_ Row.off (List._∷_ Row.off List.[])))))))))));
+          slots = List._∷_ (Row.lease (κs .0) (qs .0)) (List._∷_ (Row.lease (κs .1 .0) (qs .1 .0)) (List._∷_ Row.off (List._∷_ Row.off (List._∷_ Row.off (List._∷_
+              Row.off (List._∷_ Row.off (List._∷_ Row.off (List._∷_ Row.off (List._∷_ Row.off (List._∷_ Row.off (List._∷_ Row.off List.[])))))))))));
         }
 
         abbrev G67 : (at : Nat.ℕ → Nat.ℕ) → Row.Cx
         G67 = λ at. record {
           locals = List._++_ (g28 at) t31;
-          slots = List._∷_ (Row.lease (κs .0) (qs .0)) (List._∷_ (Row.lease (κs .1 .0) (qs .1 .0)) (List._∷_ Row.off (List._∷_ Row.off (List._∷_
-              Row.off (List._∷_ Row.off (List._∷_ Row.off (List._∷_ Row.off (List._∷_ Row.off (List._∷_ Row.off (List._∷_ Row.off (List._∷_ Row.off List.[])))))))))));
+          slots = List._∷_ (Row.lease (κs .0) (qs .0)) (List._∷_ (Row.lease (κs .1 .0) (qs .1 .0)) (List._∷_ Row.off (List._∷_ Row.off (List._∷_ Row.off (List._∷_
+              Row.off (List._∷_ Row.off (List._∷_ Row.off (List._∷_ Row.off (List._∷_ Row.off (List._∷_ Row.off (List._∷_ Row.off List.[])))))))))));
         }
 
         abbrev G68 : (at : Nat.ℕ → Nat.ℕ) → Row.Cx
         G68 = λ at. record {
           locals = List._++_ (g28 at) t32;
-          slots = List._∷_ (Row.lease (κs .0) (qs .0)) (List._∷_ (Row.lease (κs .1 .0) (qs .1 .0)) (List._∷_ Row.off (List._∷_ Row.off (List._∷_
-              Row.off (List._∷_ Row.off (List._∷_ Row.off (List._∷_ Row.off (List._∷_ Row.off (List._∷_ Row.off (List._∷_ Row.off (List._∷_ Row.off List.[])))))))))));
+          slots = List._∷_ (Row.lease (κs .0) (qs .0)) (List._∷_ (Row.lease (κs .1 .0) (qs .1 .0)) (List._∷_ Row.off (List._∷_ Row.off (List._∷_ Row.off (List._∷_
+              Row.off (List._∷_ Row.off (List._∷_ Row.off (List._∷_ Row.off (List._∷_ Row.off (List._∷_ Row.off (List._∷_ Row.off List.[])))))))))));
         }
 
         abbrev G69 : (at : Nat.ℕ → Nat.ℕ) → Row.Cx
         G69 = λ at. record {
           locals = List._++_ (g28 at) t33;
-          slots = List._∷_ (Row.lease (κs .0) (qs .0)) (List._∷_ (Row.lease (κs .1 .0) (qs .1 .0)) (List._∷_ Row.off (List._∷_ Row.off (List._∷_
-              Row.off (List._∷_ Row.off (List._∷_ Row.off (List._∷_ Row.off (List._∷_ Row.off (List._∷_ Row.off (List._∷_ Row.off (List._∷_ Row.off List.[])))))))))));
+          slots = List._∷_ (Row.lease (κs .0) (qs .0)) (List._∷_ (Row.lease (κs .1 .0) (qs .1 .0)) (List._∷_ Row.off (List._∷_ Row.off (List._∷_ Row.off (List._∷_
+              Row.off (List._∷_ Row.off (List._∷_ Row.off (List._∷_ Row.off (List._∷_ Row.off (List._∷_ Row.off (List._∷_ Row.off List.[])))))))))));
         }
 
         abbrev G70 : (at : Nat.ℕ → Nat.ℕ) → Row.Cx
         G70 = λ at. record {
           locals = List._++_ (g28 at) t34;
-          slots = List._∷_ (Row.lease (κs .0) (qs .0)) (List._∷_ (Row.lease (κs .1 .0) (qs .1 .0)) (List._∷_ Row.off (List._∷_ Row.off (List._∷_
-              Row.off (List._∷_ Row.off (List._∷_ Row.off (List._∷_ Row.off (List._∷_ Row.off (List._∷_ Row.off (List._∷_ Row.off (List._∷_ Row.off List.[])))))))))));
+          slots = List._∷_ (Row.lease (κs .0) (qs .0)) (List._∷_ (Row.lease (κs .1 .0) (qs .1 .0)) (List._∷_ Row.off (List._∷_ Row.off (List._∷_ Row.off (List._∷_
+              Row.off (List._∷_ Row.off (List._∷_ Row.off (List._∷_ Row.off (List._∷_ Row.off (List._∷_ Row.off (List._∷_ Row.off List.[])))))))))));
         }
 
         abbrev G71 : (at : Nat.ℕ → Nat.ℕ) → Row.Cx
         G71 = λ at. record {
           locals = List._++_ (g21 at) t34;
-          slots = List._∷_ (Row.lease (κs .0) (qs .0)) (List._∷_ (Row.lease (κs .1 .0) (qs .1 .0)) (List._∷_ Row.off (List._∷_ Row.off (List._∷_
-              Row.off (List._∷_ Row.off (List._∷_ Row.off (List._∷_ Row.off (List._∷_ Row.off (List._∷_ Row.off (List._∷_ Row.off (List._∷_ Row.off List.[])))))))))));
+          slots = List._∷_ (Row.lease (κs .0) (qs .0)) (List._∷_ (Row.lease (κs .1 .0) (qs .1 .0)) (List._∷_ Row.off (List._∷_ Row.off (List._∷_ Row.off (List._∷_
+              Row.off (List._∷_ Row.off (List._∷_ Row.off (List._∷_ Row.off (List._∷_ Row.off (List._∷_ Row.off (List._∷_ Row.off List.[])))))))))));
         }
 
         abbrev G72 : (at : Nat.ℕ → Nat.ℕ) → Row.Cx
         G72 = λ at. record {
           locals = List._++_ (g21 at) t35;
-          slots = List._∷_ (Row.lease (κs .0) (qs .0)) (List._∷_ (Row.lease (κs .1 .0) (qs .1 .0)) (List._∷_ Row.off (List._∷_ Row.off (List._∷_
-              Row.off (List._∷_ Row.off (List._∷_ Row.off (List._∷_ Row.off (List._∷_ Row.off (List._∷_ Row.off (List._∷_ Row.off (List._∷_ Row.off List.[])))))))))));
+          slots = List._∷_ (Row.lease (κs .0) (qs .0)) (List._∷_ (Row.lease (κs .1 .0) (qs .1 .0)) (List._∷_ Row.off (List._∷_ Row.off (List._∷_ Row.off (List._∷_
+              Row.off (List._∷_ Row.off (List._∷_ Row.off (List._∷_ Row.off (List._∷_ Row.off (List._∷_ Row.off (List._∷_ Row.off List.[])))))))))));
         }
 
         abbrev G73 : (at : Nat.ℕ → Nat.ℕ) → Row.Cx
         G73 = λ at. record {
           locals = List._++_ (g21 at) t36;
-          slots = List._∷_ (Row.lease (κs .0) (qs .0)) (List._∷_ (Row.lease (κs .1 .0) (qs .1 .0)) (List._∷_ Row.off (List._∷_ Row.off (List._∷_
-              Row.off (List._∷_ Row.off (List._∷_ Row.off (List._∷_ Row.off (List._∷_ Row.off (List._∷_ Row.off (List._∷_ Row.off (List._∷_ Row.off List.[])))))))))));
+          slots = List._∷_ (Row.lease (κs .0) (qs .0)) (List._∷_ (Row.lease (κs .1 .0) (qs .1 .0)) (List._∷_ Row.off (List._∷_ Row.off (List._∷_ Row.off (List._∷_
+              Row.off (List._∷_ Row.off (List._∷_ Row.off (List._∷_ Row.off (List._∷_ Row.off (List._∷_ Row.off (List._∷_ Row.off List.[])))))))))));
         }
 
         abbrev G74 : (at : Nat.ℕ → Nat.ℕ) → Row.Cx
         G74 = λ at. record {
           locals = List._++_ (g37 at) t36;
-          slots = List._∷_ (Row.lease (κs .0) (qs .0)) (List._∷_ (Row.lease (κs .1 .0) (qs .1 .0)) (List._∷_ Row.off (List._∷_ Row.off (List._∷_
-              Row.off (List._∷_ Row.off (List._∷_ Row.off (List._∷_ Row.off (List._∷_ Row.off (List._∷_ Row.off (List._∷_ Row.off (List._∷_ Row.off List.[])))))))))));
+          slots = List._∷_ (Row.lease (κs .0) (qs .0)) (List._∷_ (Row.lease (κs .1 .0) (qs .1 .0)) (List._∷_ Row.off (List._∷_ Row.off (List._∷_ Row.off (List._∷_
+              Row.off (List._∷_ Row.off (List._∷_ Row.off (List._∷_ Row.off (List._∷_ Row.off (List._∷_ Row.off (List._∷_ Row.off List.[])))))))))));
         }
 
         abbrev G75 : (at : Nat.ℕ → Nat.ℕ) → Row.Cx
         G75 = λ at. record {
           locals = List._++_ (g37 at) t1;
-          slots = List._∷_ (Row.lease (κs .0) (qs .0)) (List._∷_ (Row.lease (κs .1 .0) (qs .1 .0)) (List._∷_ Row.off (List._∷_ Row.off (List._∷_
-              Row.off (List._∷_ Row.off (List._∷_ Row.off (List._∷_ Row.off (List._∷_ Row.off (List._∷_ Row.off (List._∷_ Row.off (List._∷_ Row.off List.[])))))))))));
+          slots = List._∷_ (Row.lease (κs .0) (qs .0)) (List._∷_ (Row.lease (κs .1 .0) (qs .1 .0)) (List._∷_ Row.off (List._∷_ Row.off (List._∷_ Row.off (List._∷_
+              Row.off (List._∷_ Row.off (List._∷_ Row.off (List._∷_ Row.off (List._∷_ Row.off (List._∷_ Row.off (List._∷_ Row.off List.[])))))))))));
         }
 
         abbrev G76 : (at : Nat.ℕ → Nat.ℕ) → Row.Cx
         G76 = λ at. record {
           locals = List._++_ (g38 at) t1;
-          slots = List._∷_ (Row.lease (κs .0) (qs .0)) (List._∷_ (Row.lease (κs .1 .0) (qs .1 .0)) (List._∷_ Row.off (List._∷_ Row.off (List._∷_
-              Row.off (List._∷_ Row.off (List._∷_ Row.off (List._∷_ Row.off (List._∷_ Row.off (List._∷_ Row.off (List._∷_ Row.off (List._∷_ Row.off List.[])))))))))));
+          slots = List._∷_ (Row.lease (κs .0) (qs .0)) (List._∷_ (Row.lease (κs .1 .0) (qs .1 .0)) (List._∷_ Row.off (List._∷_ Row.off (List._∷_ Row.off (List._∷_
+              Row.off (List._∷_ Row.off (List._∷_ Row.off (List._∷_ Row.off (List._∷_ Row.off (List._∷_ Row.off (List._∷_ Row.off List.[])))))))))));
         }
 
         abbrev G77 : (at : Nat.ℕ → Nat.ℕ) → Row.Cx
         G77 = λ at. record {
           locals = List._++_ (g39 at) t1;
-          slots = List._∷_ (Row.lease (κs .0) (qs .0)) (List._∷_ (Row.lease (κs .1 .0) (qs .1 .0)) (List._∷_ Row.off (List._∷_ Row.off (List._∷_
-              Row.off (List._∷_ Row.off (List._∷_ Row.off (List._∷_ Row.off (List._∷_ Row.off (List._∷_ Row.off (List._∷_ Row.off (List._∷_ Row.off List.[])))))))))));
+          slots = List._∷_ (Row.lease (κs .0) (qs .0)) (List._∷_ (Row.lease (κs .1 .0) (qs .1 .0)) (List._∷_ Row.off (List._∷_ Row.off (List._∷_ Row.off (List._∷_
+              Row.off (List._∷_ Row.off (List._∷_ Row.off (List._∷_ Row.off (List._∷_ Row.off (List._∷_ Row.off (List._∷_ Row.off List.[])))))))))));
         }
 
         abbrev G78 : (at : Nat.ℕ → Nat.ℕ) → Row.Cx
         G78 = λ at. record {
           locals = List._++_ (g40 at) t1;
-          slots = List._∷_ (Row.lease (κs .0) (qs .0)) (List._∷_ (Row.lease (κs .1 .0) (qs .1 .0)) (List._∷_ Row.off (List._∷_ Row.off (List._∷_
-              Row.off (List._∷_ Row.off (List._∷_ Row.off (List._∷_ Row.off (List._∷_ Row.off (List._∷_ Row.off (List._∷_ Row.off (List._∷_ Row.off List.[])))))))))));
+          slots = List._∷_ (Row.lease (κs .0) (qs .0)) (List._∷_ (Row.lease (κs .1 .0) (qs .1 .0)) (List._∷_ Row.off (List._∷_ Row.off (List._∷_ Row.off (List._∷_
+              Row.off (List._∷_ Row.off (List._∷_ Row.off (List._∷_ Row.off (List._∷_ Row.off (List._∷_ Row.off (List._∷_ Row.off List.[])))))))))));
         }
 
         abbrev G79 : (at : Nat.ℕ → Nat.ℕ) → Row.Cx
         G79 = λ at. record {
           locals = List._++_ (g41 at) t1;
-          slots = List._∷_ (Row.lease (κs .0) (qs .0)) (List._∷_ (Row.lease (κs .1 .0) (qs .1 .0)) (List._∷_ Row.off (List._∷_ Row.off (List._∷_
-              Row.off (List._∷_ Row.off (List._∷_ Row.off (List._∷_ Row.off (List._∷_ Row.off (List._∷_ Row.off (List._∷_ Row.off (List._∷_ Row.off List.[])))))))))));
+          slots = List._∷_ (Row.lease (κs .0) (qs .0)) (List._∷_ (Row.lease (κs .1 .0) (qs .1 .0)) (List._∷_ Row.off (List._∷_ Row.off (List._∷_ Row.off (List._∷_
+              Row.off (List._∷_ Row.off (List._∷_ Row.off (List._∷_ Row.off (List._∷_ Row.off (List._∷_ Row.off (List._∷_ Row.off List.[])))))))))));
         }
 
         abbrev G80 : (at : Nat.ℕ → Nat.ℕ) → Row.Cx
         G80 = λ at. record {
           locals = List._++_ (g2 at) t1;
-          slots = List._∷_ (Row.lease (κs .0) (qs .0)) (List._∷_ (Row.lease (κs .1 .0) (qs .1 .0)) (List._∷_ Row.off (List._∷_ Row.off (List._∷_
-              Row.off (List._∷_ Row.off (List._∷_ Row.off (List._∷_ Row.off (List._∷_ Row.off (List._∷_ Row.off (List._∷_ Row.off (List._∷_ Row.off List.[])))))))))));
+          slots = List._∷_ (Row.lease (κs .0) (qs .0)) (List._∷_ (Row.lease (κs .1 .0) (qs .1 .0)) (List._∷_ Row.off (List._∷_ Row.off (List._∷_ Row.off (List._∷_
+              Row.off (List._∷_ Row.off (List._∷_ Row.off (List._∷_ Row.off (List._∷_ Row.off (List._∷_ Row.off (List._∷_ Row.off List.[])))))))))));
         }
 
         abbrev G81 : (at : Nat.ℕ → Nat.ℕ) → Row.Cx
         G81 = λ at. record {
           locals = List._++_ (g7 at) t1;
-          slots = List._∷_ (Row.lease (κs .0) (qs .0)) (List._∷_ (Row.lease (κs .1 .0) (qs .1 .0)) (List._∷_ Row.off (List._∷_ Row.off (List._∷_
-              Row.off (List._∷_ Row.off (List._∷_ Row.off (List._∷_ Row.off (List._∷_ Row.off (List._∷_ Row.off (List._∷_ Row.off (List._∷_ Row.off List.[])))))))))));
+          slots = List._∷_ (Row.lease (κs .0) (qs .0)) (List._∷_ (Row.lease (κs .1 .0) (qs .1 .0)) (List._∷_ Row.off (List._∷_ Row.off (List._∷_ Row.off (List._∷_
+              Row.off (List._∷_ Row.off (List._∷_ Row.off (List._∷_ Row.off (List._∷_ Row.off (List._∷_ Row.off (List._∷_ Row.off List.[])))))))))));
         }
 
         abbrev G82 : (at : Nat.ℕ → Nat.ℕ) → Row.Cx
         G82 = λ at. record {
           locals = List._++_ (g7 at) t1;
-          slots = List._∷_ (Row.lease (κs .0) (qs .0)) (List._∷_ (Row.lease (κs .1 .0) (qs .1 .0)) (List._∷_ Row.off (List._∷_ Row.off (List._∷_
-              Row.off (List._∷_ Row.alive (List._∷_ Row.off (List._∷_ Row.off (List._∷_ Row.off (List._∷_ Row.off (List._∷_ Row.off (List._∷_ Row.off List.[])))))))))));
+          slots = List._∷_ (Row.lease (κs .0) (qs .0)) (List._∷_ (Row.lease (κs .1 .0) (qs .1 .0)) (List._∷_ Row.off (List._∷_ Row.off (List._∷_ Row.off (List._∷_
+              Row.alive (List._∷_ Row.off (List._∷_ Row.off (List._∷_ Row.off (List._∷_ Row.off (List._∷_ Row.off (List._∷_ Row.off List.[])))))))))));
         }
 
         abbrev G83 : (at : Nat.ℕ → Nat.ℕ) → Row.Cx
         G83 = λ at. record {
           locals = List._++_ (g42 at) (g43 at);
-          slots = List._∷_ Row.off (List._∷_ (Row.lease (κs .1 .0) (qs .1 .0)) (List._∷_ Row.off (List._∷_ Row.off (List._∷_ Row.off (List._∷_
-              Row.alive (List._∷_ Row.off (List._∷_ Row.off (List._∷_ Row.off (List._∷_ Row.off (List._∷_ Row.off (List._∷_ Row.off List.[])))))))))));
+          slots = List._∷_ Row.off (List._∷_ (Row.lease (κs .1 .0) (qs .1 .0)) (List._∷_ Row.off (List._∷_ Row.off (List._∷_ Row.off (List._∷_ Row.alive (List._∷_
+              Row.off (List._∷_ Row.off (List._∷_ Row.off (List._∷_ Row.off (List._∷_ Row.off (List._∷_ Row.off List.[])))))))))));
         }
 
         abbrev G84 : (at : Nat.ℕ → Nat.ℕ) → Row.Cx
         G84 = λ at. record {
           locals = List._++_ (g42 at) (g43 at);
-          slots = List._∷_ Row.off (List._∷_ (Row.leaseT (κs .1 .0) (qs .1 .0) List.[]) (List._∷_ Row.off (List._∷_ Row.off (List._∷_ Row.off
-              (List._∷_ Row.alive (List._∷_ Row.off (List._∷_ Row.off (List._∷_ Row.off (List._∷_ Row.off (List._∷_ Row.off (List._∷_ Row.off List.[])))))))))));
+          slots = List._∷_ Row.off (List._∷_ (Row.leaseT (κs .1 .0) (qs .1 .0) List.[]) (List._∷_ Row.off (List._∷_ Row.off (List._∷_ Row.off (List._∷_ Row.alive
+              (List._∷_ Row.off (List._∷_ Row.off (List._∷_ Row.off (List._∷_ Row.off (List._∷_ Row.off (List._∷_ Row.off List.[])))))))))));
         }
 
         abbrev G85 : (at : Nat.ℕ → Nat.ℕ) → Row.Cx
         G85 = λ at. record {
           locals = List._++_ (g42 at) (g43 at);
-          slots = List._∷_ Row.off (List._∷_ (Row.leaseT (κs .1 .0) (qs .1 .0) List.[]) (List._∷_ Row.off (List._∷_ Row.off (List._∷_ Row.off
-              (List._∷_ (Row.lease (List._∷_ (at 1) List.[]) TreeShare.fullShare) (List._∷_ Row.off (List._∷_ Row.off (List._∷_ Row.off (List._∷_ Row.off (List._∷_ Row.off (List._∷_ Row.off
-              List.[])))))))))));
+          slots = List._∷_ Row.off (List._∷_ (Row.leaseT (κs .1 .0) (qs .1 .0) List.[]) (List._∷_ Row.off (List._∷_ Row.off (List._∷_ Row.off (List._∷_ (Row.lease
+              (List._∷_ (at 1) List.[]) TreeShare.fullShare) (List._∷_ Row.off (List._∷_ Row.off (List._∷_ Row.off (List._∷_ Row.off (List._∷_ Row.off (List._∷_ Row.off List.[])))))))))));
         }
 
         abbrev G86 : (at : Nat.ℕ → Nat.ℕ) → Row.Cx
         G86 = λ at. record {
           locals = List._++_ (g42 at) (g43 at);
-          slots = List._∷_ Row.off (List._∷_ (Row.leaseT (κs .1 .0) (qs .1 .0) (List._∷_ Bool'.false List.[])) (List._∷_ Row.off (List._∷_
-              Row.off (List._∷_ Row.off (List._∷_ (Row.carved (List._∷_ (at 1) List.[]) (TreeShare.PosShare·right (qs .1 .0))) (List._∷_ Row.off (List._∷_ Row.off (List._∷_ Row.off (List._∷_ Row.off
-              (List._∷_ (Row.lease (List._++_ (κs .1 .0) (List._∷_ (at 1) List.[])) (TreeShare.PosShare·right (qs .1 .0))) (List._∷_ Row.off List.[])))))))))));
+          slots = List._∷_ Row.off (List._∷_ (Row.leaseT (κs .1 .0) (qs .1 .0) (List._∷_ Bool'.false List.[])) (List._∷_ Row.off (List._∷_ Row.off (List._∷_
+              Row.off (List._∷_ (Row.carved (List._∷_ (at 1) List.[]) (TreeShare.PosShare·right (qs .1 .0))) (List._∷_ Row.off (List._∷_ Row.off (List._∷_ Row.off (List._∷_ Row.off (List._∷_ (Row.lease
+              (List._++_ (κs .1 .0) (List._∷_ (at 1) List.[])) (TreeShare.PosShare·right (qs .1 .0))) (List._∷_ Row.off List.[])))))))))));
         }
 
         abbrev G87 : (at : Nat.ℕ → Nat.ℕ) → Row.Cx
         G87 = λ at. record {
           locals = List._++_ (g42 at) (g44 at);
-          slots = List._∷_ Row.off (List._∷_ (Row.leaseT (κs .1 .0) (qs .1 .0) (List._∷_ Bool'.false List.[])) (List._∷_ Row.off (List._∷_
-              Row.off (List._∷_ Row.off (List._∷_ (Row.carved (List._∷_ (at 1) List.[]) (TreeShare.PosShare·right (qs .1 .0))) (List._∷_ Row.off (List._∷_ Row.off (List._∷_ Row.off (List._∷_ Row.off
-              (List._∷_ (Row.lease (List._++_ (κs .1 .0) (List._∷_ (at 1) List.[])) (TreeShare.PosShare·right (qs .1 .0))) (List._∷_ Row.off List.[])))))))))));
+          slots = List._∷_ Row.off (List._∷_ (Row.leaseT (κs .1 .0) (qs .1 .0) (List._∷_ Bool'.false List.[])) (List._∷_ Row.off (List._∷_ Row.off (List._∷_
+              Row.off (List._∷_ (Row.carved (List._∷_ (at 1) List.[]) (TreeShare.PosShare·right (qs .1 .0))) (List._∷_ Row.off (List._∷_ Row.off (List._∷_ Row.off (List._∷_ Row.off (List._∷_ (Row.lease
+              (List._++_ (κs .1 .0) (List._∷_ (at 1) List.[])) (TreeShare.PosShare·right (qs .1 .0))) (List._∷_ Row.off List.[])))))))))));
         }
 
         abbrev G88 : (at : Nat.ℕ → Nat.ℕ) → Row.Cx
         G88 = λ at. record {
           locals = List._++_ (g42 at) (g45 at);
-          slots = List._∷_ Row.off (List._∷_ (Row.leaseT (κs .1 .0) (qs .1 .0) (List._∷_ Bool'.false List.[])) (List._∷_ Row.off (List._∷_
-              Row.off (List._∷_ Row.off (List._∷_ (Row.carved (List._∷_ (at 1) List.[]) (TreeShare.PosShare·right (qs .1 .0))) (List._∷_ Row.off (List._∷_ Row.off (List._∷_ Row.off (List._∷_ Row.off
-              (List._∷_ (Row.lease (List._++_ (κs .1 .0) (List._∷_ (at 1) List.[])) (TreeShare.PosShare·right (qs .1 .0))) (List._∷_ Row.off List.[])))))))))));
+          slots = List._∷_ Row.off (List._∷_ (Row.leaseT (κs .1 .0) (qs .1 .0) (List._∷_ Bool'.false List.[])) (List._∷_ Row.off (List._∷_ Row.off (List._∷_
+              Row.off (List._∷_ (Row.carved (List._∷_ (at 1) List.[]) (TreeShare.PosShare·right (qs .1 .0))) (List._∷_ Row.off (List._∷_ Row.off (List._∷_ Row.off (List._∷_ Row.off (List._∷_ (Row.lease
+              (List._++_ (κs .1 .0) (List._∷_ (at 1) List.[])) (TreeShare.PosShare·right (qs .1 .0))) (List._∷_ Row.off List.[])))))))))));
         }
 
         abbrev G89 : (at : Nat.ℕ → Nat.ℕ) → Row.Cx
         G89 = λ at. record {
           locals = List._++_ (g42 at) (g46 at);
-          slots = List._∷_ Row.off (List._∷_ (Row.leaseT (κs .1 .0) (qs .1 .0) (List._∷_ Bool'.false List.[])) (List._∷_ Row.off (List._∷_
-              Row.off (List._∷_ Row.off (List._∷_ (Row.carved (List._∷_ (at 1) List.[]) (TreeShare.PosShare·right (qs .1 .0))) (List._∷_ Row.off (List._∷_ Row.off (List._∷_ Row.off (List._∷_ Row.off
-              (List._∷_ (Row.lease (List._++_ (κs .1 .0) (List._∷_ (at 1) List.[])) (TreeShare.PosShare·right (qs .1 .0))) (List._∷_ Row.off List.[])))))))))));
+          slots = List._∷_ Row.off (List._∷_ (Row.leaseT (κs .1 .0) (qs .1 .0) (List._∷_ Bool'.false List.[])) (List._∷_ Row.off (List._∷_ Row.off (List._∷_
+              Row.off (List._∷_ (Row.carved (List._∷_ (at 1) List.[]) (TreeShare.PosShare·right (qs .1 .0))) (List._∷_ Row.off (List._∷_ Row.off (List._∷_ Row.off (List._∷_ Row.off (List._∷_ (Row.lease
+              (List._++_ (κs .1 .0) (List._∷_ (at 1) List.[])) (TreeShare.PosShare·right (qs .1 .0))) (List._∷_ Row.off List.[])))))))))));
         }
 
         abbrev G90 : (at : Nat.ℕ → Nat.ℕ) → Row.Cx
         G90 = λ at. record {
           locals = List._++_ (g42 at) (g46 at);
-          slots = List._∷_ Row.off (List._∷_ (Row.leaseT (κs .1 .0) (qs .1 .0) (List._∷_ Bool'.true List.[])) (List._∷_ Row.off (List._∷_
-              Row.off (List._∷_ Row.off (List._∷_ (Row.lease (List._∷_ (at 1) List.[]) TreeShare.fullShare) (List._∷_ Row.off (List._∷_ Row.off (List._∷_ Row.off (List._∷_ Row.off (List._∷_ Row.off
-              (List._∷_ Row.off List.[])))))))))));
+          slots = List._∷_ Row.off (List._∷_ (Row.leaseT (κs .1 .0) (qs .1 .0) (List._∷_ Bool'.true List.[])) (List._∷_ Row.off (List._∷_ Row.off (List._∷_
+              Row.off (List._∷_ (Row.lease (List._∷_ (at 1) List.[]) TreeShare.fullShare) (List._∷_ Row.off (List._∷_ Row.off (List._∷_ Row.off (List._∷_ Row.off (List._∷_ Row.off (List._∷_ Row.off
+              List.[])))))))))));
         }
 
         abbrev G91 : (at : Nat.ℕ → Nat.ℕ) → Row.Cx
         G91 = λ at. record {
           locals = List._++_ (g42 at) (g46 at);
-          slots = List._∷_ Row.off (List._∷_ (Row.leaseT (κs .1 .0) (qs .1 .0) List.[]) (List._∷_ Row.off (List._∷_ Row.off (List._∷_ Row.off
-              (List._∷_ (Row.lease (List._∷_ (at 1) List.[]) TreeShare.fullShare) (List._∷_ Row.off (List._∷_ Row.off (List._∷_ Row.off (List._∷_ Row.off (List._∷_ Row.off (List._∷_ Row.off
-              List.[])))))))))));
+          slots = List._∷_ Row.off (List._∷_ (Row.leaseT (κs .1 .0) (qs .1 .0) List.[]) (List._∷_ Row.off (List._∷_ Row.off (List._∷_ Row.off (List._∷_ (Row.lease
+              (List._∷_ (at 1) List.[]) TreeShare.fullShare) (List._∷_ Row.off (List._∷_ Row.off (List._∷_ Row.off (List._∷_ Row.off (List._∷_ Row.off (List._∷_ Row.off List.[])))))))))));
         }
 
         abbrev G92 : (at : Nat.ℕ → Nat.ℕ) → Row.Cx
         G92 = λ at. record {
           locals = List._++_ (g42 at) (g46 at);
-          slots = List._∷_ Row.off (List._∷_ (Row.lease (κs .1 .0) (qs .1 .0)) (List._∷_ Row.off (List._∷_ Row.off (List._∷_ Row.off (List._∷_
-              (Row.lease (List._∷_ (at 1) List.[]) TreeShare.fullShare) (List._∷_ Row.off (List._∷_ Row.off (List._∷_ Row.off (List._∷_ Row.off (List._∷_ Row.off (List._∷_ Row.off List.[])))))))))));
+          slots = List._∷_ Row.off (List._∷_ (Row.lease (κs .1 .0) (qs .1 .0)) (List._∷_ Row.off (List._∷_ Row.off (List._∷_ Row.off (List._∷_ (Row.lease
+              (List._∷_ (at 1) List.[]) TreeShare.fullShare) (List._∷_ Row.off (List._∷_ Row.off (List._∷_ Row.off (List._∷_ Row.off (List._∷_ Row.off (List._∷_ Row.off List.[])))))))))));
         }
 
         abbrev G93 : (at : Nat.ℕ → Nat.ℕ) → Row.Cx
         G93 = λ at. record {
           locals = List._++_ (g42 at) (g46 at);
-          slots = List._∷_ Row.off (List._∷_ (Row.lease (κs .1 .0) (qs .1 .0)) (List._∷_ Row.off (List._∷_ Row.off (List._∷_ Row.off (List._∷_
-              Row.alive (List._∷_ Row.off (List._∷_ Row.off (List._∷_ Row.off (List._∷_ Row.off (List._∷_ Row.off (List._∷_ Row.off List.[])))))))))));
+          slots = List._∷_ Row.off (List._∷_ (Row.lease (κs .1 .0) (qs .1 .0)) (List._∷_ Row.off (List._∷_ Row.off (List._∷_ Row.off (List._∷_ Row.alive (List._∷_
+              Row.off (List._∷_ Row.off (List._∷_ Row.off (List._∷_ Row.off (List._∷_ Row.off (List._∷_ Row.off List.[])))))))))));
         }
 
         abbrev G94 : (at : Nat.ℕ → Nat.ℕ) → Row.Cx
         G94 = λ at. record {
           locals = List._++_ (g42 at) (g46 at);
-          slots = List._∷_ Row.off (List._∷_ (Row.lease (κs .1 .0) (qs .1 .0)) (List._∷_ Row.off (List._∷_ Row.off (List._∷_ Row.off (List._∷_
-              Row.dead (List._∷_ Row.off (List._∷_ Row.off (List._∷_ Row.off (List._∷_ Row.off (List._∷_ Row.off (List._∷_ Row.off List.[])))))))))));
+          slots = List._∷_ Row.off (List._∷_ (Row.lease (κs .1 .0) (qs .1 .0)) (List._∷_ Row.off (List._∷_ Row.off (List._∷_ Row.off (List._∷_ Row.dead (List._∷_
+              Row.off (List._∷_ Row.off (List._∷_ Row.off (List._∷_ Row.off (List._∷_ Row.off (List._∷_ Row.off List.[])))))))))));
         }
 
         abbrev G95 : (at : Nat.ℕ → Nat.ℕ) → Row.Cx
         G95 = λ at. record {
           locals = List._++_ (g7 at) t47;
-          slots = List._∷_ (Row.lease (κs .0) (qs .0)) (List._∷_ (Row.lease (κs .1 .0) (qs .1 .0)) (List._∷_ Row.off (List._∷_ Row.off (List._∷_
-              Row.off (List._∷_ Row.dead (List._∷_ Row.off (List._∷_ Row.off (List._∷_ Row.off (List._∷_ Row.off (List._∷_ Row.off (List._∷_ Row.off List.[])))))))))));
+          slots = List._∷_ (Row.lease (κs .0) (qs .0)) (List._∷_ (Row.lease (κs .1 .0) (qs .1 .0)) (List._∷_ Row.off (List._∷_ Row.off (List._∷_ Row.off (List._∷_
+              Row.dead (List._∷_ Row.off (List._∷_ Row.off (List._∷_ Row.off (List._∷_ Row.off (List._∷_ Row.off (List._∷_ Row.off List.[])))))))))));
         }
 
         abbrev G96 : (at : Nat.ℕ → Nat.ℕ) → Row.Cx
         G96 = λ at. record {
           locals = List._++_ (g7 at) t47;
-          slots = List._∷_ (Row.lease (κs .0) (qs .0)) (List._∷_ (Row.lease (κs .1 .0) (qs .1 .0)) (List._∷_ Row.off (List._∷_ Row.off (List._∷_
-              Row.off (List._∷_ Row.off (List._∷_ Row.off (List._∷_ Row.off (List._∷_ Row.off (List._∷_ Row.off (List._∷_ Row.off (List._∷_ Row.off List.[])))))))))));
+          slots = List._∷_ (Row.lease (κs .0) (qs .0)) (List._∷_ (Row.lease (κs .1 .0) (qs .1 .0)) (List._∷_ Row.off (List._∷_ Row.off (List._∷_ Row.off (List._∷_
+              Row.off (List._∷_ Row.off (List._∷_ Row.off (List._∷_ Row.off (List._∷_ Row.off (List._∷_ Row.off (List._∷_ Row.off List.[])))))))))));
         }
 
         abbrev G97 : (at : Nat.ℕ → Nat.ℕ) → Row.Cx
         G97 = λ at. record {
           locals = List._++_ (g48 at) t47;
-          slots = List._∷_ (Row.lease (κs .0) (qs .0)) (List._∷_ (Row.lease (κs .1 .0) (qs .1 .0)) (List._∷_ Row.off (List._∷_ Row.off (List._∷_
-              Row.off (List._∷_ Row.off (List._∷_ Row.off (List._∷_ Row.off (List._∷_ Row.off (List._∷_ Row.off (List._∷_ Row.off (List._∷_ Row.off List.[])))))))))));
+          slots = List._∷_ (Row.lease (κs .0) (qs .0)) (List._∷_ (Row.lease (κs .1 .0) (qs .1 .0)) (List._∷_ Row.off (List._∷_ Row.off (List._∷_ Row.off (List._∷_
+              Row.off (List._∷_ Row.off (List._∷_ Row.off (List._∷_ Row.off (List._∷_ Row.off (List._∷_ Row.off (List._∷_ Row.off List.[])))))))))));
         }
 
         abbrev G98 : (at : Nat.ℕ → Nat.ℕ) → Row.Cx
         G98 = λ at. record {
           locals = List._++_ (g48 at) t1;
-          slots = List._∷_ (Row.lease (κs .0) (qs .0)) (List._∷_ (Row.lease (κs .1 .0) (qs .1 .0)) (List._∷_ Row.off (List._∷_ Row.off (List._∷_
-              Row.off (List._∷_ Row.off (List._∷_ Row.off (List._∷_ Row.off (List._∷_ Row.off (List._∷_ Row.off (List._∷_ Row.off (List._∷_ Row.off List.[])))))))))));
+          slots = List._∷_ (Row.lease (κs .0) (qs .0)) (List._∷_ (Row.lease (κs .1 .0) (qs .1 .0)) (List._∷_ Row.off (List._∷_ Row.off (List._∷_ Row.off (List._∷_
+              Row.off (List._∷_ Row.off (List._∷_ Row.off (List._∷_ Row.off (List._∷_ Row.off (List._∷_ Row.off (List._∷_ Row.off List.[])))))))))));
         }
 
         abbrev G99 : (at : Nat.ℕ → Nat.ℕ) → Row.Cx
         G99 = λ at. record {
           locals = List._++_ (g48 at) t1;
-          slots = List._∷_ (Row.lease (κs .0) (qs .0)) (List._∷_ (Row.lease (κs .1 .0) (qs .1 .0)) (List._∷_ Row.off (List._∷_ Row.off (List._∷_
-              Row.off (List._∷_ Row.off (List._∷_ Row.alive (List._∷_ Row.off (List._∷_ Row.off (List._∷_ Row.off (List._∷_ Row.off (List._∷_ Row.off List.[])))))))))));
+          slots = List._∷_ (Row.lease (κs .0) (qs .0)) (List._∷_ (Row.lease (κs .1 .0) (qs .1 .0)) (List._∷_ Row.off (List._∷_ Row.off (List._∷_ Row.off (List._∷_
+              Row.off (List._∷_ Row.alive (List._∷_ Row.off (List._∷_ Row.off (List._∷_ Row.off (List._∷_ Row.off (List._∷_ Row.off List.[])))))))))));
         }
 
         abbrev G100 : (at : Nat.ℕ → Nat.ℕ) → Row.Cx
         G100 = λ at. record {
           locals = List._++_ (g49 at) (g50 at);
-          slots = List._∷_ Row.off (List._∷_ (Row.lease (κs .1 .0) (qs .1 .0)) (List._∷_ Row.off (List._∷_ Row.off (List._∷_ Row.off (List._∷_
-              Row.off (List._∷_ Row.alive (List._∷_ Row.off (List._∷_ Row.off (List._∷_ Row.off (List._∷_ Row.off (List._∷_ Row.off List.[])))))))))));
+          slots = List._∷_ Row.off (List._∷_ (Row.lease (κs .1 .0) (qs .1 .0)) (List._∷_ Row.off (List._∷_ Row.off (List._∷_ Row.off (List._∷_ Row.off (List._∷_
+              Row.alive (List._∷_ Row.off (List._∷_ Row.off (List._∷_ Row.off (List._∷_ Row.off (List._∷_ Row.off List.[])))))))))));
         }
 
         abbrev G101 : (at : Nat.ℕ → Nat.ℕ) → Row.Cx
         G101 = λ at. record {
           locals = List._++_ (g49 at) (g50 at);
-          slots = List._∷_ Row.off (List._∷_ (Row.leaseT (κs .1 .0) (qs .1 .0) List.[]) (List._∷_ Row.off (List._∷_ Row.off (List._∷_ Row.off
-              (List._∷_ Row.off (List._∷_ Row.alive (List._∷_ Row.off (List._∷_ Row.off (List._∷_ Row.off (List._∷_ Row.off (List._∷_ Row.off List.[])))))))))));
+          slots = List._∷_ Row.off (List._∷_ (Row.leaseT (κs .1 .0) (qs .1 .0) List.[]) (List._∷_ Row.off (List._∷_ Row.off (List._∷_ Row.off (List._∷_ Row.off
+              (List._∷_ Row.alive (List._∷_ Row.off (List._∷_ Row.off (List._∷_ Row.off (List._∷_ Row.off (List._∷_ Row.off List.[])))))))))));
         }
 
         abbrev G102 : (at : Nat.ℕ → Nat.ℕ) → Row.Cx
         G102 = λ at. record {
           locals = List._++_ (g49 at) (g50 at);
-          slots = List._∷_ Row.off (List._∷_ (Row.leaseT (κs .1 .0) (qs .1 .0) List.[]) (List._∷_ Row.off (List._∷_ Row.off (List._∷_ Row.off
-              (List._∷_ Row.off (List._∷_ (Row.lease (List._∷_ (at 2) List.[]) TreeShare.fullShare) (List._∷_ Row.off (List._∷_ Row.off (List._∷_ Row.off (List._∷_ Row.off (List._∷_ Row.off
-              List.[])))))))))));
+          slots = List._∷_ Row.off (List._∷_ (Row.leaseT (κs .1 .0) (qs .1 .0) List.[]) (List._∷_ Row.off (List._∷_ Row.off (List._∷_ Row.off (List._∷_ Row.off
+              (List._∷_ (Row.lease (List._∷_ (at 2) List.[]) TreeShare.fullShare) (List._∷_ Row.off (List._∷_ Row.off (List._∷_ Row.off (List._∷_ Row.off (List._∷_ Row.off List.[])))))))))));
         }
 
         abbrev G103 : (at : Nat.ℕ → Nat.ℕ) → Row.Cx
         G103 = λ at. record {
           locals = List._++_ (g49 at) (g50 at);
-          slots = List._∷_ Row.off (List._∷_ (Row.leaseT (κs .1 .0) (qs .1 .0) (List._∷_ Bool'.false List.[])) (List._∷_ Row.off (List._∷_
-              Row.off (List._∷_ Row.off (List._∷_ Row.off (List._∷_ (Row.carved (List._∷_ (at 2) List.[]) (TreeShare.PosShare·right (qs .1 .0))) (List._∷_ Row.off (List._∷_ Row.off (List._∷_ Row.off
-              (List._∷_ Row.off (List._∷_ (Row.lease (List._++_ (κs .1 .0) (List._∷_ (at 2) List.[])) (TreeShare.PosShare·right (qs .1 .0))) List.[])))))))))));
+          slots = List._∷_ Row.off (List._∷_ (Row.leaseT (κs .1 .0) (qs .1 .0) (List._∷_ Bool'.false List.[])) (List._∷_ Row.off (List._∷_ Row.off (List._∷_
+              Row.off (List._∷_ Row.off (List._∷_ (Row.carved (List._∷_ (at 2) List.[]) (TreeShare.PosShare·right (qs .1 .0))) (List._∷_ Row.off (List._∷_ Row.off (List._∷_ Row.off (List._∷_ Row.off
+              (List._∷_ (Row.lease (List._++_ (κs .1 .0) (List._∷_ (at 2) List.[])) (TreeShare.PosShare·right (qs .1 .0))) List.[])))))))))));
         }
 
         abbrev G104 : (at : Nat.ℕ → Nat.ℕ) → Row.Cx
         G104 = λ at. record {
           locals = List._++_ (g49 at) (g51 at);
-          slots = List._∷_ Row.off (List._∷_ (Row.leaseT (κs .1 .0) (qs .1 .0) (List._∷_ Bool'.false List.[])) (List._∷_ Row.off (List._∷_
-              Row.off (List._∷_ Row.off (List._∷_ Row.off (List._∷_ (Row.carved (List._∷_ (at 2) List.[]) (TreeShare.PosShare·right (qs .1 .0))) (List._∷_ Row.off (List._∷_ Row.off (List._∷_ Row.off
-              (List._∷_ Row.off (List._∷_ (Row.lease (List._++_ (κs .1 .0) (List._∷_ (at 2) List.[])) (TreeShare.PosShare·right (qs .1 .0))) List.[])))))))))));
+          slots = List._∷_ Row.off (List._∷_ (Row.leaseT (κs .1 .0) (qs .1 .0) (List._∷_ Bool'.false List.[])) (List._∷_ Row.off (List._∷_ Row.off (List._∷_
+              Row.off (List._∷_ Row.off (List._∷_ (Row.carved (List._∷_ (at 2) List.[]) (TreeShare.PosShare·right (qs .1 .0))) (List._∷_ Row.off (List._∷_ Row.off (List._∷_ Row.off (List._∷_ Row.off
+              (List._∷_ (Row.lease (List._++_ (κs .1 .0) (List._∷_ (at 2) List.[])) (TreeShare.PosShare·right (qs .1 .0))) List.[])))))))))));
         }
 
         abbrev G105 : (at : Nat.ℕ → Nat.ℕ) → Row.Cx
         G105 = λ at. record {
           locals = List._++_ (g49 at) (g52 at);
-          slots = List._∷_ Row.off (List._∷_ (Row.leaseT (κs .1 .0) (qs .1 .0) (List._∷_ Bool'.false List.[])) (List._∷_ Row.off (List._∷_
-              Row.off (List._∷_ Row.off (List._∷_ Row.off (List._∷_ (Row.carved (List._∷_ (at 2) List.[]) (TreeShare.PosShare·right (qs .1 .0))) (List._∷_ Row.off (List._∷_ Row.off (List._∷_ Row.off
-              (List._∷_ Row.off (List._∷_ (Row.lease (List._++_ (κs .1 .0) (List._∷_ (at 2) List.[])) (TreeShare.PosShare·right (qs .1 .0))) List.[])))))))))));
+          slots = List._∷_ Row.off (List._∷_ (Row.leaseT (κs .1 .0) (qs .1 .0) (List._∷_ Bool'.false List.[])) (List._∷_ Row.off (List._∷_ Row.off (List._∷_
+              Row.off (List._∷_ Row.off (List._∷_ (Row.carved (List._∷_ (at 2) List.[]) (TreeShare.PosShare·right (qs .1 .0))) (List._∷_ Row.off (List._∷_ Row.off (List._∷_ Row.off (List._∷_ Row.off
+              (List._∷_ (Row.lease (List._++_ (κs .1 .0) (List._∷_ (at 2) List.[])) (TreeShare.PosShare·right (qs .1 .0))) List.[])))))))))));
         }
 
         abbrev G106 : (at : Nat.ℕ → Nat.ℕ) → Row.Cx
         G106 = λ at. record {
           locals = List._++_ (g53 at) (g52 at);
-          slots = List._∷_ Row.off (List._∷_ (Row.leaseT (κs .1 .0) (qs .1 .0) (List._∷_ Bool'.false List.[])) (List._∷_ Row.off (List._∷_
-              Row.off (List._∷_ Row.off (List._∷_ Row.off (List._∷_ (Row.carved (List._∷_ (at 2) List.[]) (TreeShare.PosShare·right (qs .1 .0))) (List._∷_ Row.off (List._∷_ Row.off (List._∷_ Row.off
-              (List._∷_ Row.off (List._∷_ (Row.lease (List._++_ (κs .1 .0) (List._∷_ (at 2) List.[])) (TreeShare.PosShare·right (qs .1 .0))) List.[])))))))))));
+          slots = List._∷_ Row.off (List._∷_ (Row.leaseT (κs .1 .0) (qs .1 .0) (List._∷_ Bool'.false List.[])) (List._∷_ Row.off (List._∷_ Row.off (List._∷_
+              Row.off (List._∷_ Row.off (List._∷_ (Row.carved (List._∷_ (at 2) List.[]) (TreeShare.PosShare·right (qs .1 .0))) (List._∷_ Row.off (List._∷_ Row.off (List._∷_ Row.off (List._∷_ Row.off
+              (List._∷_ (Row.lease (List._++_ (κs .1 .0) (List._∷_ (at 2) List.[])) (TreeShare.PosShare·right (qs .1 .0))) List.[])))))))))));
         }
 
         abbrev G107 : (at : Nat.ℕ → Nat.ℕ) → Row.Cx
         G107 = λ at. record {
           locals = List._++_ (g53 at) (g51 at);
-          slots = List._∷_ Row.off (List._∷_ (Row.leaseT (κs .1 .0) (qs .1 .0) (List._∷_ Bool'.false List.[])) (List._∷_ Row.off (List._∷_
-              Row.off (List._∷_ Row.off (List._∷_ Row.off (List._∷_ (Row.carved (List._∷_ (at 2) List.[]) (TreeShare.PosShare·right (qs .1 .0))) (List._∷_ Row.off (List._∷_ Row.off (List._∷_ Row.off
-              (List._∷_ Row.off (List._∷_ (Row.lease (List._++_ (κs .1 .0) (List._∷_ (at 2) List.[])) (TreeShare.PosShare·right (qs .1 .0))) List.[])))))))))));
+          slots = List._∷_ Row.off (List._∷_ (Row.leaseT (κs .1 .0) (qs .1 .0) (List._∷_ Bool'.false List.[])) (List._∷_ Row.off (List._∷_ Row.off (List._∷_
+              Row.off (List._∷_ Row.off (List._∷_ (Row.carved (List._∷_ (at 2) List.[]) (TreeShare.PosShare·right (qs .1 .0))) (List._∷_ Row.off (List._∷_ Row.off (List._∷_ Row.off (List._∷_ Row.off
+              (List._∷_ (Row.lease (List._++_ (κs .1 .0) (List._∷_ (at 2) List.[])) (TreeShare.PosShare·right (qs .1 .0))) List.[])))))))))));
         }
 
         abbrev G108 : (at : Nat.ℕ → Nat.ℕ) → Row.Cx
         G108 = λ at. record {
           locals = List._++_ (g53 at) t1;
-          slots = List._∷_ Row.off (List._∷_ (Row.leaseT (κs .1 .0) (qs .1 .0) (List._∷_ Bool'.false List.[])) (List._∷_ Row.off (List._∷_ Row.off
-              (List._∷_ Row.off (List._∷_ Row.off (List._∷_ (Row.carved (List._∷_ (at 2) List.[]) (TreeShare.PosShare·right (qs .1 .0))) (List._∷_ Row.off (List._∷_ Row.off (List._∷_ Row.off (List._∷_
-              Row.off (List._∷_ (Row.lease (List._++_ (κs .1 .0) (List._∷_ (at 2) List.[])) (TreeShare.PosShare·right (qs .1 .0))) List.[])))))))))));
+          slots = List._∷_ Row.off (List._∷_ (Row.leaseT (κs .1 .0) (qs .1 .0) (List._∷_ Bool'.false List.[])) (List._∷_ Row.off (List._∷_ Row.off (List._∷_ Row.off
+              (List._∷_ Row.off (List._∷_ (Row.carved (List._∷_ (at 2) List.[]) (TreeShare.PosShare·right (qs .1 .0))) (List._∷_ Row.off (List._∷_ Row.off (List._∷_ Row.off (List._∷_ Row.off (List._∷_
+              (Row.lease (List._++_ (κs .1 .0) (List._∷_ (at 2) List.[])) (TreeShare.PosShare·right (qs .1 .0))) List.[])))))))))));
         }
 
         abbrev G109 : (at : Nat.ℕ → Nat.ℕ) → Row.Cx
         G109 = λ at. record {
           locals = List._++_ (g53 at) t1;
-          slots = List._∷_ Row.off (List._∷_ (Row.leaseT (κs .1 .0) (qs .1 .0) (List._∷_ Bool'.true List.[])) (List._∷_ Row.off (List._∷_ Row.off
-              (List._∷_ Row.off (List._∷_ Row.off (List._∷_ (Row.lease (List._∷_ (at 2) List.[]) TreeShare.fullShare) (List._∷_ Row.off (List._∷_ Row.off (List._∷_ Row.off (List._∷_ Row.off (List._∷_
-              Row.off List.[])))))))))));
+          slots = List._∷_ Row.off (List._∷_ (Row.leaseT (κs .1 .0) (qs .1 .0) (List._∷_ Bool'.true List.[])) (List._∷_ Row.off (List._∷_ Row.off (List._∷_ Row.off
+              (List._∷_ Row.off (List._∷_ (Row.lease (List._∷_ (at 2) List.[]) TreeShare.fullShare) (List._∷_ Row.off (List._∷_ Row.off (List._∷_ Row.off (List._∷_ Row.off (List._∷_ Row.off
+              List.[])))))))))));
         }
 
         abbrev G110 : (at : Nat.ℕ → Nat.ℕ) → Row.Cx
         G110 = λ at. record {
           locals = List._++_ (g53 at) t1;
-          slots = List._∷_ Row.off (List._∷_ (Row.leaseT (κs .1 .0) (qs .1 .0) List.[]) (List._∷_ Row.off (List._∷_ Row.off (List._∷_ Row.off
-              (List._∷_ Row.off (List._∷_ (Row.lease (List._∷_ (at 2) List.[]) TreeShare.fullShare) (List._∷_ Row.off (List._∷_ Row.off (List._∷_ Row.off (List._∷_ Row.off (List._∷_ Row.off
-              List.[])))))))))));
+          slots = List._∷_ Row.off (List._∷_ (Row.leaseT (κs .1 .0) (qs .1 .0) List.[]) (List._∷_ Row.off (List._∷_ Row.off (List._∷_ Row.off (List._∷_ Row.off
+              (List._∷_ (Row.lease (List._∷_ (at 2) List.[]) TreeShare.fullShare) (List._∷_ Row.off (List._∷_ Row.off (List._∷_ Row.off (List._∷_ Row.off (List._∷_ Row.off List.[])))))))))));
         }
 
         abbrev G111 : (at : Nat.ℕ → Nat.ℕ) → Row.Cx
         G111 = λ at. record {
           locals = List._++_ (g53 at) t1;
-          slots = List._∷_ Row.off (List._∷_ (Row.lease (κs .1 .0) (qs .1 .0)) (List._∷_ Row.off (List._∷_ Row.off (List._∷_ Row.off (List._∷_
-              Row.off (List._∷_ (Row.lease (List._∷_ (at 2) List.[]) TreeShare.fullShare) (List._∷_ Row.off (List._∷_ Row.off (List._∷_ Row.off (List._∷_ Row.off (List._∷_ Row.off List.[])))))))))));
+          slots = List._∷_ Row.off (List._∷_ (Row.lease (κs .1 .0) (qs .1 .0)) (List._∷_ Row.off (List._∷_ Row.off (List._∷_ Row.off (List._∷_ Row.off (List._∷_
+              (Row.lease (List._∷_ (at 2) List.[]) TreeShare.fullShare) (List._∷_ Row.off (List._∷_ Row.off (List._∷_ Row.off (List._∷_ Row.off (List._∷_ Row.off List.[])))))))))));
         }
 
         abbrev G112 : (at : Nat.ℕ → Nat.ℕ) → Row.Cx
         G112 = λ at. record {
           locals = List._++_ (g53 at) t1;
-          slots = List._∷_ Row.off (List._∷_ (Row.lease (κs .1 .0) (qs .1 .0)) (List._∷_ Row.off (List._∷_ Row.off (List._∷_ Row.off (List._∷_
-              Row.off (List._∷_ Row.alive (List._∷_ Row.off (List._∷_ Row.off (List._∷_ Row.off (List._∷_ Row.off (List._∷_ Row.off List.[])))))))))));
+          slots = List._∷_ Row.off (List._∷_ (Row.lease (κs .1 .0) (qs .1 .0)) (List._∷_ Row.off (List._∷_ Row.off (List._∷_ Row.off (List._∷_ Row.off (List._∷_
+              Row.alive (List._∷_ Row.off (List._∷_ Row.off (List._∷_ Row.off (List._∷_ Row.off (List._∷_ Row.off List.[])))))))))));
         }
 
         abbrev G113 : (at : Nat.ℕ → Nat.ℕ) → Row.Cx
         G113 = λ at. record {
           locals = List._++_ (g53 at) t1;
-          slots = List._∷_ Row.off (List._∷_ (Row.lease (κs .1 .0) (qs .1 .0)) (List._∷_ Row.off (List._∷_ Row.off (List._∷_ Row.off (List._∷_
-              Row.off (List._∷_ Row.dead (List._∷_ Row.off (List._∷_ Row.off (List._∷_ Row.off (List._∷_ Row.off (List._∷_ Row.off List.[])))))))))));
+          slots = List._∷_ Row.off (List._∷_ (Row.lease (κs .1 .0) (qs .1 .0)) (List._∷_ Row.off (List._∷_ Row.off (List._∷_ Row.off (List._∷_ Row.off (List._∷_
+              Row.dead (List._∷_ Row.off (List._∷_ Row.off (List._∷_ Row.off (List._∷_ Row.off (List._∷_ Row.off List.[])))))))))));
         }
 
         abbrev G114 : (at : Nat.ℕ → Nat.ℕ) → Row.Cx
         G114 = λ at. record {
           locals = List._++_ (g54 at) t1;
-          slots = List._∷_ (Row.lease (κs .0) (qs .0)) (List._∷_ (Row.lease (κs .1 .0) (qs .1 .0)) (List._∷_ Row.off (List._∷_ Row.off (List._∷_
-              Row.off (List._∷_ Row.off (List._∷_ Row.dead (List._∷_ Row.off (List._∷_ Row.off (List._∷_ Row.off (List._∷_ Row.off (List._∷_ Row.off List.[])))))))))));
+          slots = List._∷_ (Row.lease (κs .0) (qs .0)) (List._∷_ (Row.lease (κs .1 .0) (qs .1 .0)) (List._∷_ Row.off (List._∷_ Row.off (List._∷_ Row.off (List._∷_
+              Row.off (List._∷_ Row.dead (List._∷_ Row.off (List._∷_ Row.off (List._∷_ Row.off (List._∷_ Row.off (List._∷_ Row.off List.[])))))))))));
         }
 
         abbrev G115 : (at : Nat.ℕ → Nat.ℕ) → Row.Cx
         G115 = λ at. record {
           locals = List._++_ (g54 at) t1;
-          slots = List._∷_ (Row.lease (κs .0) (qs .0)) (List._∷_ (Row.lease (κs .1 .0) (qs .1 .0)) (List._∷_ Row.off (List._∷_ Row.off (List._∷_
-              Row.off (List._∷_ Row.off (List._∷_ Row.off (List._∷_ Row.off (List._∷_ Row.off (List._∷_ Row.off (List._∷_ Row.off (List._∷_ Row.off List.[])))))))))));
+          slots = List._∷_ (Row.lease (κs .0) (qs .0)) (List._∷_ (Row.lease (κs .1 .0) (qs .1 .0)) (List._∷_ Row.off (List._∷_ Row.off (List._∷_ Row.off (List._∷_
+              Row.off (List._∷_ Row.off (List._∷_ Row.off (List._∷_ Row.off (List._∷_ Row.off (List._∷_ Row.off (List._∷_ Row.off List.[])))))))))));
         }
 
         abbrev G116 : (at : Nat.ℕ → Nat.ℕ) → Row.Cx
         G116 = λ at. record {
           locals = List._++_ (g55 at) t1;
-          slots = List._∷_ (Row.lease (κs .0) (qs .0)) (List._∷_ (Row.lease (κs .1 .0) (qs .1 .0)) (List._∷_ Row.off (List._∷_ Row.off (List._∷_
-              Row.off (List._∷_ Row.off (List._∷_ Row.off (List._∷_ Row.off (List._∷_ Row.off (List._∷_ Row.off (List._∷_ Row.off (List._∷_ Row.off List.[])))))))))));
+          slots = List._∷_ (Row.lease (κs .0) (qs .0)) (List._∷_ (Row.lease (κs .1 .0) (qs .1 .0)) (List._∷_ Row.off (List._∷_ Row.off (List._∷_ Row.off (List._∷_
+              Row.off (List._∷_ Row.off (List._∷_ Row.off (List._∷_ Row.off (List._∷_ Row.off (List._∷_ Row.off (List._∷_ Row.off List.[])))))))))));
         }
 
         abbrev G117 : (at : Nat.ℕ → Nat.ℕ) → Row.Cx
         G117 = λ at. record {
           locals = List._++_ (g55 at) t56;
-          slots = List._∷_ (Row.lease (κs .0) (qs .0)) (List._∷_ (Row.lease (κs .1 .0) (qs .1 .0)) (List._∷_ Row.off (List._∷_ Row.off (List._∷_
-              Row.off (List._∷_ Row.off (List._∷_ Row.off (List._∷_ Row.off (List._∷_ Row.off (List._∷_ Row.off (List._∷_ Row.off (List._∷_ Row.off List.[])))))))))));
+          slots = List._∷_ (Row.lease (κs .0) (qs .0)) (List._∷_ (Row.lease (κs .1 .0) (qs .1 .0)) (List._∷_ Row.off (List._∷_ Row.off (List._∷_ Row.off (List._∷_
+              Row.off (List._∷_ Row.off (List._∷_ Row.off (List._∷_ Row.off (List._∷_ Row.off (List._∷_ Row.off (List._∷_ Row.off List.[])))))))))));
         }
 
         abbrev G118 : (at : Nat.ℕ → Nat.ℕ) → Row.Cx
         G118 = λ at. record {
           locals = List._++_ (g57 at) t56;
-          slots = List._∷_ (Row.lease (κs .0) (qs .0)) (List._∷_ (Row.lease (κs .1 .0) (qs .1 .0)) (List._∷_ Row.off (List._∷_ Row.off (List._∷_
-              Row.off (List._∷_ Row.off (List._∷_ Row.off (List._∷_ Row.off (List._∷_ Row.off (List._∷_ Row.off (List._∷_ Row.off (List._∷_ Row.off List.[])))))))))));
+          slots = List._∷_ (Row.lease (κs .0) (qs .0)) (List._∷_ (Row.lease (κs .1 .0) (qs .1 .0)) (List._∷_ Row.off (List._∷_ Row.off (List._∷_ Row.off (List._∷_
+              Row.off (List._∷_ Row.off (List._∷_ Row.off (List._∷_ Row.off (List._∷_ Row.off (List._∷_ Row.off (List._∷_ Row.off List.[])))))))))));
         }
 
         abbrev G119 : (at : Nat.ℕ → Nat.ℕ) → Row.Cx
         G119 = λ at. record {
           locals = List._++_ (g48 at) t56;
-          slots = List._∷_ (Row.lease (κs .0) (qs .0)) (List._∷_ (Row.lease (κs .1 .0) (qs .1 .0)) (List._∷_ Row.off (List._∷_ Row.off (List._∷_
-              Row.off (List._∷_ Row.off (List._∷_ Row.off (List._∷_ Row.off (List._∷_ Row.off (List._∷_ Row.off (List._∷_ Row.off (List._∷_ Row.off List.[])))))))))));
+          slots = List._∷_ (Row.lease (κs .0) (qs .0)) (List._∷_ (Row.lease (κs .1 .0) (qs .1 .0)) (List._∷_ Row.off (List._∷_ Row.off (List._∷_ Row.off (List._∷_
+              Row.off (List._∷_ Row.off (List._∷_ Row.off (List._∷_ Row.off (List._∷_ Row.off (List._∷_ Row.off (List._∷_ Row.off List.[])))))))))));
         }
 
         abbrev G120 : (at : Nat.ℕ → Nat.ℕ) → Row.Cx
         G120 = λ at. record {
           locals = List._++_ (g48 at) t58;
-          slots = List._∷_ (Row.lease (κs .0) (qs .0)) (List._∷_ (Row.lease (κs .1 .0) (qs .1 .0)) (List._∷_ Row.off (List._∷_ Row.off (List._∷_
-              Row.off (List._∷_ Row.off (List._∷_ Row.off (List._∷_ Row.off (List._∷_ Row.off (List._∷_ Row.off (List._∷_ Row.off (List._∷_ Row.off List.[])))))))))));
+          slots = List._∷_ (Row.lease (κs .0) (qs .0)) (List._∷_ (Row.lease (κs .1 .0) (qs .1 .0)) (List._∷_ Row.off (List._∷_ Row.off (List._∷_ Row.off (List._∷_
+              Row.off (List._∷_ Row.off (List._∷_ Row.off (List._∷_ Row.off (List._∷_ Row.off (List._∷_ Row.off (List._∷_ Row.off List.[])))))))))));
         }
 
         abbrev G121 : (at : Nat.ℕ → Nat.ℕ) → Row.Cx
         G121 = λ at. record {
           locals = List._++_ (g59 at) t58;
-          slots = List._∷_ (Row.lease (κs .0) (qs .0)) (List._∷_ (Row.lease (κs .1 .0) (qs .1 .0)) (List._∷_ Row.off (List._∷_ Row.off (List._∷_
-              Row.off (List._∷_ Row.off (List._∷_ Row.off (List._∷_ Row.off (List._∷_ Row.off (List._∷_ Row.off (List._∷_ Row.off (List._∷_ Row.off List.[])))))))))));
+          slots = List._∷_ (Row.lease (κs .0) (qs .0)) (List._∷_ (Row.lease (κs .1 .0) (qs .1 .0)) (List._∷_ Row.off (List._∷_ Row.off (List._∷_ Row.off (List._∷_
+              Row.off (List._∷_ Row.off (List._∷_ Row.off (List._∷_ Row.off (List._∷_ Row.off (List._∷_ Row.off (List._∷_ Row.off List.[])))))))))));
         }
 
         abbrev G122 : (at : Nat.ℕ → Nat.ℕ) → Row.Cx
         G122 = λ at. record {
           locals = List._++_ (g60 at) t58;
-          slots = List._∷_ (Row.lease (κs .0) (qs .0)) (List._∷_ (Row.lease (κs .1 .0) (qs .1 .0)) (List._∷_ Row.off (List._∷_ Row.off (List._∷_
-              Row.off (List._∷_ Row.off (List._∷_ Row.off (List._∷_ Row.off (List._∷_ Row.off (List._∷_ Row.off (List._∷_ Row.off (List._∷_ Row.off List.[])))))))))));
+          slots = List._∷_ (Row.lease (κs .0) (qs .0)) (List._∷_ (Row.lease (κs .1 .0) (qs .1 .0)) (List._∷_ Row.off (List._∷_ Row.off (List._∷_ Row.off (List._∷_
+              Row.off (List._∷_ Row.off (List._∷_ Row.off (List._∷_ Row.off (List._∷_ Row.off (List._∷_ Row.off (List._∷_ Row.off List.[])))))))))));
         }
 
         abbrev G123 : (at : Nat.ℕ → Nat.ℕ) → Row.Cx
         G123 = λ at. record {
           locals = List._++_ (g11 at) t58;
-          slots = List._∷_ (Row.lease (κs .0) (qs .0)) (List._∷_ (Row.lease (κs .1 .0) (qs .1 .0)) (List._∷_ Row.off (List._∷_ Row.off (List._∷_
-              Row.off (List._∷_ Row.off (List._∷_ Row.off (List._∷_ Row.off (List._∷_ Row.off (List._∷_ Row.off (List._∷_ Row.off (List._∷_ Row.off List.[])))))))))));
+          slots = List._∷_ (Row.lease (κs .0) (qs .0)) (List._∷_ (Row.lease (κs .1 .0) (qs .1 .0)) (List._∷_ Row.off (List._∷_ Row.off (List._∷_ Row.off (List._∷_
+              Row.off (List._∷_ Row.off (List._∷_ Row.off (List._∷_ Row.off (List._∷_ Row.off (List._∷_ Row.off (List._∷_ Row.off List.[])))))))))));
         }
 
         abbrev G124 : (at : Nat.ℕ → Nat.ℕ) → Row.Cx
         G124 = λ at. record {
           locals = List._++_ (g11 at) t1;
-          slots = List._∷_ (Row.lease (κs .0) (qs .0)) (List._∷_ (Row.lease (κs .1 .0) (qs .1 .0)) (List._∷_ Row.off (List._∷_ Row.off (List._∷_
-              Row.off (List._∷_ Row.off (List._∷_ Row.off (List._∷_ Row.off (List._∷_ Row.off (List._∷_ Row.off (List._∷_ Row.off (List._∷_ Row.off List.[])))))))))));
+          slots = List._∷_ (Row.lease (κs .0) (qs .0)) (List._∷_ (Row.lease (κs .1 .0) (qs .1 .0)) (List._∷_ Row.off (List._∷_ Row.off (List._∷_ Row.off (List._∷_
+              Row.off (List._∷_ Row.off (List._∷_ Row.off (List._∷_ Row.off (List._∷_ Row.off (List._∷_ Row.off (List._∷_ Row.off List.[])))))))))));
         }
 
         abbrev G125 : (at : Nat.ℕ → Nat.ℕ) → Row.Cx
         G125 = λ at. record {
           locals = List._++_ (g12 at) t1;
-          slots = List._∷_ (Row.lease (κs .0) (qs .0)) (List._∷_ (Row.lease (κs .1 .0) (qs .1 .0)) (List._∷_ Row.off (List._∷_ Row.off (List._∷_
-              Row.off (List._∷_ Row.off (List._∷_ Row.off (List._∷_ Row.off (List._∷_ Row.off (List._∷_ Row.off (List._∷_ Row.off (List._∷_ Row.off List.[])))))))))));
+          slots = List._∷_ (Row.lease (κs .0) (qs .0)) (List._∷_ (Row.lease (κs .1 .0) (qs .1 .0)) (List._∷_ Row.off (List._∷_ Row.off (List._∷_ Row.off (List._∷_
+              Row.off (List._∷_ Row.off (List._∷_ Row.off (List._∷_ Row.off (List._∷_ Row.off (List._∷_ Row.off (List._∷_ Row.off List.[])))))))))));
         }
 
         abbrev G126 : (at : Nat.ℕ → Nat.ℕ) → Row.Cx
         G126 = λ at. record {
           locals = List._++_ (g13 at) t1;
-          slots = List._∷_ (Row.lease (κs .0) (qs .0)) (List._∷_ (Row.lease (κs .1 .0) (qs .1 .0)) (List._∷_ Row.off (List._∷_ Row.off (List._∷_
-              Row.off (List._∷_ Row.off (List._∷_ Row.off (List._∷_ Row.off (List._∷_ Row.off (List._∷_ Row.off (List._∷_ Row.off (List._∷_ Row.off List.[])))))))))));
+          slots = List._∷_ (Row.lease (κs .0) (qs .0)) (List._∷_ (Row.lease (κs .1 .0) (qs .1 .0)) (List._∷_ Row.off (List._∷_ Row.off (List._∷_ Row.off (List._∷_
+              Row.off (List._∷_ Row.off (List._∷_ Row.off (List._∷_ Row.off (List._∷_ Row.off (List._∷_ Row.off (List._∷_ Row.off List.[])))))))))));
         }
 
         abbrev G127 : (at : Nat.ℕ → Nat.ℕ) → Row.Cx
         G127 = λ at. record {
           locals = List._++_ (g2 at) t1;
-          slots = List._∷_ (Row.lease (κs .0) (qs .0)) (List._∷_ (Row.lease (κs .1 .0) (qs .1 .0)) (List._∷_ Row.off (List._∷_ Row.off (List._∷_
-              Row.off (List._∷_ Row.off (List._∷_ Row.off (List._∷_ Row.off (List._∷_ Row.off (List._∷_ Row.off (List._∷_ Row.off (List._∷_ Row.off List.[])))))))))));
+          slots = List._∷_ (Row.lease (κs .0) (qs .0)) (List._∷_ (Row.lease (κs .1 .0) (qs .1 .0)) (List._∷_ Row.off (List._∷_ Row.off (List._∷_ Row.off (List._∷_
+              Row.off (List._∷_ Row.off (List._∷_ Row.off (List._∷_ Row.off (List._∷_ Row.off (List._∷_ Row.off (List._∷_ Row.off List.[])))))))))));
         }
 
         abbrev Δ0 : (at : Nat.ℕ → Nat.ℕ) → Typed.Outs
@@ -5926,15 +2847,14 @@ module _ (claims· : Claims) where
           d0 = λ at. Typed.s-typed 𝓤 H A W 𝓣 E (G19 at) b2 (Δ1 at) (λ Ψ. Typed.pass T19 T20 s17 (Typed.pass T20 T21 s18 Ψ)) tt (Typed.g-post 𝓤 H A W 𝓣 E (G19 at) (G20 at) (G21 at) b2 (Typed.pass T19
               T20 s17) (Typed.pass T20 T21 s18) (Scalar.t-use 𝓤 H A W E 𝓣 (G19 at) (Scalar.oFld 5 (List._∷_ (Syntax.variant 0) (List._∷_ (Syntax.field 1) List.[])) (Syntax.tyInt Syntax.w64) 8 λ v.
               Laws'.the-laws .0 .0 .val (v .0)) 6 (Rows.sc-here (Row.sInt Syntax.w64)) (Syntax.tyInt Syntax.w64) (Row.valS (Row.sInt Syntax.w64)) (Row.sInt Syntax.w64 .of) (
-                Match.reads-payload 𝓤 H A W
-                    ZeroRun.enum Laws'.the-laws 0 Path'.refl Path'.refl (λ v. Val.vcons (Laws'.the-laws .0 .0 .val (v .0)) Val.vnil) (λ v. Path'.refl) 0 (Syntax.tyInt Syntax.w64) 8 Path'.refl,
+                Match.reads-payload 𝓤 H A W ZeroRun.enum Laws'.the-laws 0 Path'.refl Path'.refl (λ v. Val.vcons (Laws'.the-laws .0 .0 .val (v .0)) Val.vnil) (λ v. Path'.refl) 0 (Syntax.tyInt Syntax.w64) 8
+                    Path'.refl,
                 Path'.refl,
-              )
-              (Reads'.room-gone 𝓤 H A (Syntax.tyInt Syntax.w64)) (Scalar.holds-sc 𝓤 H A W (Row.sInt Syntax.w64)) Path'.refl (λ u. Path'.refl) λ u. tt) (Scalar.g-room 𝓤 H A W E (G20 at) 5 (Syntax.tyEnum
-              (List._∷_ 98 (List._∷_ 105 (List._∷_ 116 (List._∷_ 115 (List._∷_ 58 (List._∷_ 58 (List._∷_ 90 (List._∷_ 101 (List._∷_ 114 (List._∷_ 111 (List._∷_ 82 (List._∷_ 117 (List._∷_ 110
-              List.[]))))))))))))) (Syntax.ttcons (Syntax.tcons (Syntax.tyInt Syntax.w64) Syntax.tnil) (Syntax.ttcons Syntax.tnil Syntax.ttnil))) (Local.room-whole 𝓤 H A W (Known.Known ZeroRun.enum 0)
-              (Syntax.tyEnum (List._∷_ 98 (List._∷_ 105 (List._∷_ 116 (List._∷_ 115 (List._∷_ 58 (List._∷_ 58 (List._∷_ 90 (List._∷_ 101 (List._∷_ 114 (List._∷_ 111 (List._∷_ 82 (List._∷_ 117 (List._∷_
-              110 List.[]))))))))))))) (Syntax.ttcons (Syntax.tcons (Syntax.tyInt Syntax.w64) Syntax.tnil) (Syntax.ttcons Syntax.tnil Syntax.ttnil))) Path'.refl)))
+              ) (Reads'.room-gone 𝓤 H A (Syntax.tyInt Syntax.w64)) (Scalar.holds-sc 𝓤 H A W (Row.sInt Syntax.w64)) Path'.refl (λ u. Path'.refl) λ u. tt) (Scalar.g-room 𝓤 H A W E (G20
+              at) 5 (Syntax.tyEnum (List._∷_ 98 (List._∷_ 105 (List._∷_ 116 (List._∷_ 115 (List._∷_ 58 (List._∷_ 58 (List._∷_ 90 (List._∷_ 101 (List._∷_ 114 (List._∷_ 111 (List._∷_ 82 (List._∷_ 117
+              (List._∷_ 110 List.[]))))))))))))) (Syntax.ttcons (Syntax.tcons (Syntax.tyInt Syntax.w64) Syntax.tnil) (Syntax.ttcons Syntax.tnil Syntax.ttnil))) (Local.room-whole 𝓤 H A W (Known.Known
+              ZeroRun.enum 0) (Syntax.tyEnum (List._∷_ 98 (List._∷_ 105 (List._∷_ 116 (List._∷_ 115 (List._∷_ 58 (List._∷_ 58 (List._∷_ 90 (List._∷_ 101 (List._∷_ 114 (List._∷_ 111 (List._∷_ 82 (List._∷_
+              117 (List._∷_ 110 List.[]))))))))))))) (Syntax.ttcons (Syntax.tcons (Syntax.tyInt Syntax.w64) Syntax.tnil) (Syntax.ttcons Syntax.tnil Syntax.ttnil))) Path'.refl)))
 
           d1 : (at : Nat.ℕ → Nat.ℕ) → Typed.Typed 𝓤 H A 𝓣 E (G18 at) b2 (Δ1 at) at1
           d1 = λ at. Typed.g-pre 𝓤 H A W 𝓣 E (G18 at) (G19 at) b2 (Δ1 at) (Typed.give s16) at0 (Known.g-known-told 𝓤 H A W E ZeroRun.enum 0 (G18 at) 5 Laws'.the-laws (λ x. x) (Reads'.as-is 𝓤 H A
@@ -5962,12 +2882,9 @@ module _ (claims· : Claims) where
           d7 : (at : Nat.ℕ → Nat.ℕ) → Typed.Typed 𝓤 H A 𝓣 E (G23 at) b5 (Δ1 at) at7
           d7 = λ at. Typed.s-seq 𝓤 H A W 𝓣 E (G23 at) (G24 at) b3 b4 (Δ1 at) (Typed.pass T23 T24 s21) at6 (Make.t-enum-make-wt 𝓤 H A W E 𝓣 Coded.the-type Laws'3.the-laws Laws'3.the-plain tt (G23 at) 0
               (List._∷_ (Scalar.oInt Syntax.w8 1) List.[]) (λ m. Coded.enum .make (Logic.inr (Logic.inl tt))) (Reads'.room-gone 𝓤 H A (Syntax.tyEnum (List._∷_ 99 (List._∷_ 111 (List._∷_ 100 (List._∷_ 101
-              (List._∷_ 58 (List._∷_ 58 (List._∷_ 67 (List._∷_ 111 (List._∷_ 100 (List._∷_ 101 (List._∷_ 100 List.[]))))))))))) (Syntax.ttcons (Syntax.tcons (Syntax.tyStruct (List._∷_ 99 (List._∷_ 111
-              (List._∷_ 100 (List._∷_ 101 (List._∷_ 58 (List._∷_ 58 (List._∷_ 67 (List._∷_ 111 (List._∷_ 100 (List._∷_ 101 List.[])))))))))) (Syntax.tcons (Syntax.tyInt Syntax.w64) (Syntax.tcons
-              (Syntax.tyInt Syntax.w32) (Syntax.tcons Syntax.tyBool (Syntax.tcons (Syntax.tyStruct (List._∷_ 98 (List._∷_ 105 (List._∷_ 116 (List._∷_ 115 (List._∷_ 58 (List._∷_ 58 (List._∷_ 66 (List._∷_
-              105 (List._∷_ 116 (List._∷_ 80 (List._∷_ 111 (List._∷_ 115 (List._∷_ 105 (List._∷_ 116 (List._∷_ 105 (List._∷_ 111 (List._∷_ 110 List.[]))))))))))))))))) (Syntax.tcons (Syntax.tyInt
-              Syntax.w64) Syntax.tnil)) Syntax.tnil))))) Syntax.tnil) (Syntax.ttcons Syntax.tnil Syntax.ttnil)))) (tt, tt) Path'.refl (λ m wa. Make.made-val Coded.the-type Laws'3.the-laws List.[]
-              (Coded.enum .make (Logic.inr (Logic.inl tt))) tt (wa .1)) λ m wa. Make.made-is Coded.the-type Laws'3.the-laws List.[] (Coded.enum .make (Logic.inr (Logic.inl tt))) tt (wa .1)) (d6 at)
+              (List._∷_ 58 (List._∷_ 58 (List._∷_ 67 (List._∷_ 111 (List._∷_ 100 (List._∷_ 101 (List._∷_ 100 List.[]))))))))))) (Syntax.ttcons (Syntax.tcons y1 Syntax.tnil) (Syntax.ttcons Syntax.tnil
+              Syntax.ttnil)))) (tt, tt) Path'.refl (λ m wa. Make.made-val Coded.the-type Laws'3.the-laws List.[] (Coded.enum .make (Logic.inr (Logic.inl tt))) tt (wa .1)) λ m wa. Make.made-is
+              Coded.the-type Laws'3.the-laws List.[] (Coded.enum .make (Logic.inr (Logic.inl tt))) tt (wa .1)) (d6 at)
 
           d8 : (at : Nat.ℕ → Nat.ℕ) → Typed.Typed 𝓤 H A 𝓣 E (G22 at) b5 (Δ1 at) at8
           d8 = λ at. Typed.g-pre 𝓤 H A W 𝓣 E (G22 at) (G23 at) b5 (Δ1 at) (Typed.pass T22 T23 s20) at7 (Scalar.g-room 𝓤 H A W E (G22 at) 5 (Syntax.tyEnum (List._∷_ 98 (List._∷_ 105 (List._∷_ 116
@@ -5982,11 +2899,9 @@ module _ (claims· : Claims) where
           d10 : (at : Nat.ℕ → Nat.ℕ) → Typed.Typed 𝓤 H A 𝓣 E (G17 at) b6 (Δ1 at) at10
           d10 = λ at. Switch.t-switch-on 𝓤 H A W E 𝓣 (G17 at) (Scalar.oFld 5 (List._∷_ (Syntax.variant 0) (List._∷_ (Syntax.field 0) List.[])) (Syntax.tyInt Syntax.w8) 0 λ x. Val.vint Syntax.w8
               (Declared.tagOf ZeroRun.the-type x)) Syntax.w8 (λ u. Declared.tagOf ZeroRun.the-type (u .1 .1 .1 .1 .1 .0)) (Syntax.arm (List._∷_ 0 List.[]) b2 (Syntax.arm (List._∷_ 1 List.[]) b5
-              Syntax.noDefault)) (Δ1 at) (at2, (at9, tt)) (
-                Match.reads-tag 𝓤 H A W ZeroRun.the-type Laws'.the-laws (Rows.whole (Declared.row ZeroRun.the-type)) 0 (λ x. x) (Whole.reads-enum 𝓤 H A W
-                    ZeroRun.the-type Laws'.the-laws),
-                Path'.refl,
-              ) (λ u. Path'.refl) (d2 at, (d9 at, tt))
+              Syntax.noDefault)) (Δ1 at) (at2, (at9, tt))
+              (Match.reads-tag 𝓤 H A W ZeroRun.the-type Laws'.the-laws (Rows.whole (Declared.row ZeroRun.the-type)) 0 (λ x. x) (Whole.reads-enum 𝓤 H A W ZeroRun.the-type Laws'.the-laws), Path'.refl) (λ u.
+              Path'.refl) (d2 at, (d9 at, tt))
 
           d11 : (at : Nat.ℕ → Nat.ℕ) → Typed.Typed 𝓤 H A 𝓣 E (G16 at) b6 (Δ1 at) at11
           d11 = λ at. Typed.g-pre 𝓤 H A W 𝓣 E (G16 at) (G17 at) b6 (Δ1 at) (λ Ψ. Ψ) at10 (Lifetime.g-forget 𝓤 H A W E (G16 at) 2 Row.dead Path'.refl) (d10 at)
@@ -6039,62 +2954,25 @@ module _ (claims· : Claims) where
               (Row.sInt Syntax.w32))) (d22 at)
 
           d24 : (at : Nat.ℕ → Nat.ℕ) → Typed.Typed 𝓤 H A 𝓣 E (G74 at) b18 (Δ2 at) at24
-          d24 = λ at. Typed.g-pre 𝓤 H A W 𝓣 E (G74 at) (G75 at) b18 (Δ2 at) (Typed.pass T74 T75 s71) at23 (Scalar.g-room 𝓤 H A W E (G74 at) 19 (Syntax.tyStruct (List._∷_ 99 (List._∷_ 111 (List._∷_ 100
-              (List._∷_ 101 (List._∷_ 58 (List._∷_ 58 (List._∷_ 67 (List._∷_ 111 (List._∷_ 100 (List._∷_ 101 List.[])))))))))) (Syntax.tcons (Syntax.tyInt Syntax.w64) (Syntax.tcons (Syntax.tyInt
-              Syntax.w32) (Syntax.tcons Syntax.tyBool (Syntax.tcons (Syntax.tyStruct (List._∷_ 98 (List._∷_ 105 (List._∷_ 116 (List._∷_ 115 (List._∷_ 58 (List._∷_ 58 (List._∷_ 66 (List._∷_ 105 (List._∷_
-              116 (List._∷_ 80 (List._∷_ 111 (List._∷_ 115 (List._∷_ 105 (List._∷_ 116 (List._∷_ 105 (List._∷_ 111 (List._∷_ 110 List.[]))))))))))))))))) (Syntax.tcons (Syntax.tyInt Syntax.w64)
-              Syntax.tnil)) Syntax.tnil))))) (Local.room-whole 𝓤 H A W (Declared'.row Code.the-type) (Syntax.tyStruct (List._∷_ 99 (List._∷_ 111 (List._∷_ 100 (List._∷_ 101 (List._∷_ 58 (List._∷_ 58
-              (List._∷_ 67 (List._∷_ 111 (List._∷_ 100 (List._∷_ 101 List.[])))))))))) (Syntax.tcons (Syntax.tyInt Syntax.w64) (Syntax.tcons (Syntax.tyInt Syntax.w32) (Syntax.tcons Syntax.tyBool
-              (Syntax.tcons (Syntax.tyStruct (List._∷_ 98 (List._∷_ 105 (List._∷_ 116 (List._∷_ 115 (List._∷_ 58 (List._∷_ 58 (List._∷_ 66 (List._∷_ 105 (List._∷_ 116 (List._∷_ 80 (List._∷_ 111 (List._∷_
-              115 (List._∷_ 105 (List._∷_ 116 (List._∷_ 105 (List._∷_ 111 (List._∷_ 110 List.[]))))))))))))))))) (Syntax.tcons (Syntax.tyInt Syntax.w64) Syntax.tnil)) Syntax.tnil))))) Path'.refl)) (d23
-              at)
+          d24 = λ at. Typed.g-pre 𝓤 H A W 𝓣 E (G74 at) (G75 at) b18 (Δ2 at) (Typed.pass T74 T75 s71) at23 (Scalar.g-room 𝓤 H A W E (G74 at) 19 y1 (Local.room-whole 𝓤 H A W (Declared'.row
+              Code.the-type) y1 Path'.refl)) (d23 at)
 
           d25 : (at : Nat.ℕ → Nat.ℕ) → Typed.Typed 𝓤 H A 𝓣 E (G73 at) b19 (Δ2 at) at25
           d25 = λ at. Typed.s-seq 𝓤 H A W 𝓣 E (G73 at) (G74 at) b17 b18 (Δ2 at) (Typed.pass T73 T74 s70) at24 (Make.t-enum-make-wt 𝓤 H A W E 𝓣 Coded.the-type Laws'3.the-laws Laws'3.the-plain tt (G73
-              at) 0 (List._∷_ (Scalar.oInt Syntax.w8 0) (List._∷_ (Scalar.oAt 19 (Syntax.tyStruct (List._∷_ 99 (List._∷_ 111 (List._∷_ 100 (List._∷_ 101 (List._∷_ 58 (List._∷_ 58 (List._∷_ 67 (List._∷_
-              111 (List._∷_ 100 (List._∷_ 101 List.[])))))))))) (Syntax.tcons (Syntax.tyInt Syntax.w64) (Syntax.tcons (Syntax.tyInt Syntax.w32) (Syntax.tcons Syntax.tyBool (Syntax.tcons (Syntax.tyStruct
-              (List._∷_ 98 (List._∷_ 105 (List._∷_ 116 (List._∷_ 115 (List._∷_ 58 (List._∷_ 58 (List._∷_ 66 (List._∷_ 105 (List._∷_ 116 (List._∷_ 80 (List._∷_ 111 (List._∷_ 115 (List._∷_ 105 (List._∷_ 116
-              (List._∷_ 105 (List._∷_ 111 (List._∷_ 110 List.[]))))))))))))))))) (Syntax.tcons (Syntax.tyInt Syntax.w64) Syntax.tnil)) Syntax.tnil))))) (Laws'5.val Code.the-type Laws''.the-laws))
-              List.[])) (λ m. Coded.enum .make (Logic.inl (m .1 .1 .1 .1 .1 .1 .1 .1 .1 .1 .1 .1 .1 .1 .1 .1 .1 .1 .1 .0, tt))) (Reads'.room-gone 𝓤 H A (Syntax.tyEnum (List._∷_ 99 (List._∷_ 111
-              (List._∷_ 100 (List._∷_ 101 (List._∷_ 58 (List._∷_ 58 (List._∷_ 67 (List._∷_ 111 (List._∷_ 100 (List._∷_ 101 (List._∷_ 100 List.[]))))))))))) (Syntax.ttcons (Syntax.tcons (Syntax.tyStruct
-              (List._∷_ 99 (List._∷_ 111 (List._∷_ 100 (List._∷_ 101 (List._∷_ 58 (List._∷_ 58 (List._∷_ 67 (List._∷_ 111 (List._∷_ 100 (List._∷_ 101 List.[])))))))))) (Syntax.tcons (Syntax.tyInt
-              Syntax.w64) (Syntax.tcons (Syntax.tyInt Syntax.w32) (Syntax.tcons Syntax.tyBool (Syntax.tcons (Syntax.tyStruct (List._∷_ 98 (List._∷_ 105 (List._∷_ 116 (List._∷_ 115 (List._∷_ 58 (List._∷_
-              58 (List._∷_ 66 (List._∷_ 105 (List._∷_ 116 (List._∷_ 80 (List._∷_ 111 (List._∷_ 115 (List._∷_ 105 (List._∷_ 116 (List._∷_ 105 (List._∷_ 111 (List._∷_ 110 List.[])))))))))))))))))
-              (Syntax.tcons (Syntax.tyInt Syntax.w64) Syntax.tnil)) Syntax.tnil))))) Syntax.tnil) (Syntax.ttcons Syntax.tnil Syntax.ttnil)))) (
+              at) 0 (List._∷_ (Scalar.oInt Syntax.w8 0) (List._∷_ (Scalar.oAt 19 y1 (Laws'5.val Code.the-type Laws''.the-laws)) List.[])) (λ m. Coded.enum .make (Logic.inl
+              (m .1 .1 .1 .1 .1 .1 .1 .1 .1 .1 .1 .1 .1 .1 .1 .1 .1 .1 .1 .0, tt))) (Reads'.room-gone 𝓤 H A (Syntax.tyEnum (List._∷_ 99 (List._∷_ 111 (List._∷_ 100 (List._∷_ 101 (List._∷_ 58 (List._∷_ 58
+              (List._∷_ 67 (List._∷_ 111 (List._∷_ 100 (List._∷_ 101 (List._∷_ 100 List.[]))))))))))) (Syntax.ttcons (Syntax.tcons y1 Syntax.tnil) (Syntax.ttcons Syntax.tnil Syntax.ttnil))))
+              (tt, ((Reads.reads-struct 𝓤 H A W Code.the-type Laws''.the-laws, Path'.refl), tt)) Path'.refl (λ m wa. Make.made-val Coded.the-type Laws'3.the-laws (List._∷_ (Laws'5.val Code.the-type
+              Laws''.the-laws (m .1 .1 .1 .1 .1 .1 .1 .1 .1 .1 .1 .1 .1 .1 .1 .1 .1 .1 .1 .0)) List.[]) (Coded.enum .make (Logic.inl (m .1 .1 .1 .1 .1 .1 .1 .1 .1 .1 .1 .1 .1 .1 .1 .1 .1 .1 .1 .0, tt))) (
+                Signed.made-wt Code.the-field Laws''.the-field-laws (Make'.struct-wt Code.the-type Laws''.the-laws
+                    (Make'.u64-wt, (Make'.u32-wt, (Make'.bool-wt, (Make'.struct-wt BitPosition.the-type Laws.the-laws (Make'.u64-wt, tt), tt))))) (Code.the-type .to (m .1 .1 .1 .1 .1 .1 .1 .1 .1 .1 .1 .1 .1 .1
+                    .1 .1 .1 .1 .1 .0)),
                 tt,
-                (
-                  (
-                    Reads.reads-struct 𝓤 H A W Code.the-type
-                        Laws''.the-laws,
-                    Path'.refl,
-                  ),
-                  tt,
-                ),
-              ) Path'.refl (λ m wa. Make.made-val Coded.the-type Laws'3.the-laws (List._∷_ (Laws'5.val Code.the-type Laws''.the-laws (m .1 .1 .1 .1 .1 .1 .1 .1 .1 .1 .1 .1
-              .1 .1 .1 .1 .1 .1 .1 .0)) List.[]) (Coded.enum .make (Logic.inl (m .1 .1 .1 .1 .1 .1 .1 .1 .1 .1 .1 .1 .1 .1 .1 .1 .1 .1 .1 .0, tt))) (
-                Signed.made-wt Code.the-field Laws''.the-field-laws
-                    (Make'.struct-wt Code.the-type Laws''.the-laws (Make'.u64-wt, (Make'.u32-wt, (Make'.bool-wt, (Make'.struct-wt BitPosition.the-type Laws.the-laws (Make'.u64-wt, tt), tt)))))
-                    (Code.the-type .to (m .1 .1 .1 .1 .1 .1 .1 .1 .1 .1 .1 .1 .1 .1 .1 .1 .1 .1 .1 .0)),
-                tt,
-              ) (wa .1)) λ m wa. Make.made-is Coded.the-type Laws'3.the-laws (List._∷_ (Laws'5.val Code.the-type
-              Laws''.the-laws (m .1 .1 .1 .1 .1 .1 .1 .1 .1 .1 .1 .1 .1 .1 .1 .1 .1 .1 .1 .0)) List.[]) (Coded.enum .make (Logic.inl (
-                m .1 .1 .1 .1 .1 .1 .1 .1 .1 .1 .1 .1 .1 .1 .1 .1 .1 .1 .1 .0,
-                tt,
-              ))) (
-                Signed.made-wt Code.the-field Laws''.the-field-laws (Make'.struct-wt Code.the-type Laws''.the-laws (
-                  Make'.u64-wt,
-                  (
-                    Make'.u32-wt,
-                    (
-                      Make'.bool-wt,
-                      (
-                        Make'.struct-wt
-                            BitPosition.the-type Laws.the-laws (Make'.u64-wt, tt),
-                        tt,
-                      ),
-                    ),
-                  ),
-                )) (Code.the-type .to (m .1 .1 .1 .1 .1 .1 .1 .1 .1 .1 .1 .1 .1 .1 .1 .1 .1 .1 .1 .0)),
+              ) (wa .1)) λ m wa. Make.made-is Coded.the-type Laws'3.the-laws (List._∷_ (Laws'5.val Code.the-type Laws''.the-laws (m .1 .1 .1 .1 .1 .1 .1 .1 .1 .1 .1 .1 .1 .1 .1 .1
+              .1 .1 .1 .0)) List.[]) (Coded.enum .make (Logic.inl (m .1 .1 .1 .1 .1 .1 .1 .1 .1 .1 .1 .1 .1 .1 .1 .1 .1 .1 .1 .0, tt))) (
+                Signed.made-wt Code.the-field Laws''.the-field-laws (Make'.struct-wt Code.the-type Laws''.the-laws
+                    (Make'.u64-wt, (Make'.u32-wt, (Make'.bool-wt, (Make'.struct-wt BitPosition.the-type Laws.the-laws (Make'.u64-wt, tt), tt))))) (Code.the-type .to (m .1 .1 .1 .1 .1 .1 .1 .1 .1 .1 .1 .1 .1 .1
+                    .1 .1 .1 .1 .1 .0)),
                 tt,
               ) (wa .1)) (d24 at)
 
@@ -6108,73 +2986,19 @@ module _ (claims· : Claims) where
               (Row.sInt Syntax.w32))) (d26 at)
 
           d28 : (at : Nat.ℕ → Nat.ℕ) → Typed.Typed 𝓤 H A 𝓣 E (G70 at) b19 (Δ2 at) at28
-          d28 = λ at. Typed.g-pre 𝓤 H A W 𝓣 E (G70 at) (G71 at) b19 (Δ2 at) (Typed.pass T70 T71 s67) at27 (Scalar.g-room 𝓤 H A W E (G70 at) 8 (Syntax.tyStruct (List._∷_ 98 (List._∷_ 105 (List._∷_ 116
-              (List._∷_ 115 (List._∷_ 58 (List._∷_ 58 (List._∷_ 66 (List._∷_ 105 (List._∷_ 116 (List._∷_ 80 (List._∷_ 111 (List._∷_ 115 (List._∷_ 105 (List._∷_ 116 (List._∷_ 105 (List._∷_ 111 (List._∷_
-              110 List.[]))))))))))))))))) (Syntax.tcons (Syntax.tyInt Syntax.w64) Syntax.tnil)) (Local.room-whole 𝓤 H A W (Declared'.row BitPosition.the-type) (Syntax.tyStruct (List._∷_ 98 (List._∷_ 105
-              (List._∷_ 116 (List._∷_ 115 (List._∷_ 58 (List._∷_ 58 (List._∷_ 66 (List._∷_ 105 (List._∷_ 116 (List._∷_ 80 (List._∷_ 111 (List._∷_ 115 (List._∷_ 105 (List._∷_ 116 (List._∷_ 105 (List._∷_
-              111 (List._∷_ 110 List.[]))))))))))))))))) (Syntax.tcons (Syntax.tyInt Syntax.w64) Syntax.tnil)) Path'.refl)) (d27 at)
+          d28 = λ at. Typed.g-pre 𝓤 H A W 𝓣 E (G70 at) (G71 at) b19 (Δ2 at) (Typed.pass T70 T71 s67) at27 (Scalar.g-room 𝓤 H A W E (G70 at) 8 y0 (Local.room-whole 𝓤 H A W (Declared'.row
+              BitPosition.the-type) y0 Path'.refl)) (d27 at)
 
           d29 : (at : Nat.ℕ → Nat.ℕ) → Typed.Typed 𝓤 H A 𝓣 E (G69 at) b20 (Δ2 at) at29
           d29 = λ at. Typed.s-seq 𝓤 H A W 𝓣 E (G69 at) (G70 at) b16 b19 (Δ2 at) (Typed.pass T69 T70 s66) at28 (Make'.t-struct-make 𝓤 H A W E 𝓣 (Apart.apartT Code.the-type) Laws''.the-laws
               Laws''.the-plain (G69 at) 19 (List._∷_ (Scalar.oAt 6 (Syntax.tyInt Syntax.w64) (Row.valS (Row.sInt Syntax.w64))) (List._∷_ (Scalar.oAt 18 (Syntax.tyInt Syntax.w32) (Row.valS (Row.sInt
-              Syntax.w32))) (List._∷_ (Scalar.oBool Bool'.true) (List._∷_ (Scalar.oAt 8 (Syntax.tyStruct (List._∷_ 98 (List._∷_ 105 (List._∷_ 116 (List._∷_ 115 (List._∷_ 58 (List._∷_ 58 (List._∷_ 66
-              (List._∷_ 105 (List._∷_ 116 (List._∷_ 80 (List._∷_ 111 (List._∷_ 115 (List._∷_ 105 (List._∷_ 116 (List._∷_ 105 (List._∷_ 111 (List._∷_ 110 List.[]))))))))))))))))) (Syntax.tcons
-              (Syntax.tyInt Syntax.w64) Syntax.tnil)) (Laws'5.val BitPosition.the-type Laws.the-laws)) List.[])))) (λ m. (
-                m .1 .1 .1 .1 .1 .1 .0,
-                (
-                  m .1 .1 .1 .1 .1 .1 .1 .1 .1 .1 .1 .1 .1 .1 .1 .1 .1 .1
-                      .0,
-                  (Bool'.true, (m .1 .1 .1 .1 .1 .1 .1 .1 .0, tt)),
-                ),
-              )) (Reads'.room-gone 𝓤 H A (Syntax.tyStruct (List._∷_ 99 (List._∷_ 111 (List._∷_ 100 (List._∷_ 101 (List._∷_ 58 (List._∷_ 58
-              (List._∷_ 67 (List._∷_ 111 (List._∷_ 100 (List._∷_ 101 List.[])))))))))) (Syntax.tcons (Syntax.tyInt Syntax.w64) (Syntax.tcons (Syntax.tyInt Syntax.w32) (Syntax.tcons Syntax.tyBool
-              (Syntax.tcons (Syntax.tyStruct (List._∷_ 98 (List._∷_ 105 (List._∷_ 116 (List._∷_ 115 (List._∷_ 58 (List._∷_ 58 (List._∷_ 66 (List._∷_ 105 (List._∷_ 116 (List._∷_ 80 (List._∷_ 111 (List._∷_
-              115 (List._∷_ 105 (List._∷_ 116 (List._∷_ 105 (List._∷_ 111 (List._∷_ 110 List.[]))))))))))))))))) (Syntax.tcons (Syntax.tyInt Syntax.w64) Syntax.tnil)) Syntax.tnil)))))) (
-                (
-                  Scalar.reads-sc
-                      𝓤 H A W (Row.sInt Syntax.w64),
-                  Path'.refl,
-                ),
-                (
-                  (Scalar.reads-sc 𝓤 H A W (Row.sInt Syntax.w32), Path'.refl),
-                  (
-                    tt,
-                    (
-                      (
-                        Reads.reads-struct 𝓤 H A W BitPosition.the-type Laws.the-laws,
-                        Path'.refl,
-                      ),
-                      tt,
-                    ),
-                  ),
-                ),
-              ) Path'.refl (λ u. Path'.refl) λ m. Make'.is-wt (Apart.apartT Code.the-type) Laws''.the-laws (
-                Make'.u64-wt,
-                (
-                  Make'.u32-wt,
-                  (
-                    Make'.bool-wt,
-                    (
-                      Make'.struct-wt
-                          BitPosition.the-type Laws.the-laws (Make'.u64-wt, tt),
-                      tt,
-                    ),
-                  ),
-                ),
-              ) (
-                m .1 .1 .1 .1 .1 .1 .0,
-                (
-                  m .1 .1 .1 .1 .1 .1 .1 .1 .1 .1 .1 .1 .1 .1 .1 .1 .1 .1 .0,
-                  (
-                    Bool'.true,
-                    (
-                      m .1 .1 .1 .1 .1 .1
-                          .1 .1 .0,
-                      tt,
-                    ),
-                  ),
-                ),
-              )) (d28 at)
+              Syntax.w32))) (List._∷_ (Scalar.oBool Bool'.true) (List._∷_ (Scalar.oAt 8 y0 (Laws'5.val BitPosition.the-type Laws.the-laws)) List.[])))) (λ m.
+              (m .1 .1 .1 .1 .1 .1 .0, (m .1 .1 .1 .1 .1 .1 .1 .1 .1 .1 .1 .1 .1 .1 .1 .1 .1 .1 .0, (Bool'.true, (m .1 .1 .1 .1 .1 .1 .1 .1 .0, tt))))) (Reads'.room-gone 𝓤 H A y1) (
+                (Scalar.reads-sc 𝓤 H A W (Row.sInt Syntax.w64), Path'.refl),
+                ((Scalar.reads-sc 𝓤 H A W (Row.sInt Syntax.w32), Path'.refl), (tt, ((Reads.reads-struct 𝓤 H A W BitPosition.the-type Laws.the-laws, Path'.refl), tt))),
+              ) Path'.refl (λ u. Path'.refl) λ m.
+              Make'.is-wt (Apart.apartT Code.the-type) Laws''.the-laws (Make'.u64-wt, (Make'.u32-wt, (Make'.bool-wt, (Make'.struct-wt BitPosition.the-type Laws.the-laws (Make'.u64-wt, tt), tt))))
+              (m .1 .1 .1 .1 .1 .1 .0, (m .1 .1 .1 .1 .1 .1 .1 .1 .1 .1 .1 .1 .1 .1 .1 .1 .1 .1 .0, (Bool'.true, (m .1 .1 .1 .1 .1 .1 .1 .1 .0, tt))))) (d28 at)
 
           d30 : (at : Nat.ℕ → Nat.ℕ) → Typed.Typed 𝓤 H A 𝓣 E (G68 at) b20 (Δ2 at) at30
           d30 = λ at. Typed.g-pre 𝓤 H A W 𝓣 E (G68 at) (G69 at) b20 (Δ2 at) (Typed.pass T68 T69 s65) at29 (Scalar.g-room 𝓤 H A W E (G68 at) 17 (Syntax.tyInt Syntax.w32) (Scalar.room-sc 𝓤 H A W
@@ -6240,51 +3064,39 @@ module _ (claims· : Claims) where
 
           d44 : (at : Nat.ℕ → Nat.ℕ) → Typed.Typed 𝓤 H A 𝓣 E (G54 at) b24 (Δ2 at) at44
           d44 = λ at. Typed.s-seq 𝓤 H A W 𝓣 E (G54 at) (G55 at) b12 b23 (Δ2 at) (Typed.both s51) at43 (Plain.t-call-plain-by 𝓤 H A W 𝓣 2 ps·2 r·2 (claims· .4) (claims· .5)
-              "bits::BitPumpMsb::bit_position" (known .2) E (λ pos β. β) (G54 at) (
-                record {
-                  pos = 15;
-                  ty = Syntax.tyRef Syntax.erased Syntax.imm (Held.behind Syntax.erased);
-                  βs = List._∷_ 9 (List._∷_ 1
-                      List.[]);
-                  ref = λ x. x;
-                },
-                tt,
-              ) 8 (List._∷_ 9 (List._∷_ 1 List.[])) (Call.sub-id 𝓤 H A W (G54 at .slots)) (
-                ShrRefTo.spares-sref-at 𝓤 H A W 2 (λ κc. Held.type (Syntax.named 1) (κc .1 .0))
-                    Held.Value (λ κc v. v) (List._∷_ 9 (List._∷_ 1 List.[])) (Syntax.tyRef Syntax.erased Syntax.imm (Held.behind Syntax.erased)) 9,
-                AtSlots.reads-sref-at 𝓤 H A W 2 (λ κc. Held.type (Syntax.named
-                    1) (κc .1 .0)) Held.Value (λ κc v. v) (List._∷_ 9 (List._∷_ 1 List.[])) (Syntax.tyRef Syntax.erased Syntax.imm (Held.behind Syntax.erased)) 9,
+              "bits::BitPumpMsb::bit_position" (known .2) E (λ pos β. β) (G54 at)
+              (record { pos = 15; ty = Syntax.tyRef Syntax.erased Syntax.imm (Held.behind Syntax.erased); βs = List._∷_ 9 (List._∷_ 1 List.[]); ref = λ x. x }, tt) 8 (List._∷_ 9 (List._∷_ 1 List.[]))
+              (Call.sub-id 𝓤 H A W (G54 at .slots)) (
+                ShrRefTo.spares-sref-at 𝓤 H A W 2 (λ κc. Held.type (Syntax.named 1) (κc .1 .0)) Held.Value (λ κc v. v) (List._∷_ 9 (List._∷_ 1 List.[])) (Syntax.tyRef Syntax.erased Syntax.imm (Held.behind
+                    Syntax.erased)) 9,
+                AtSlots.reads-sref-at 𝓤 H A W 2 (λ κc. Held.type (Syntax.named 1) (κc .1 .0)) Held.Value (λ κc v. v) (List._∷_ 9 (List._∷_ 1 List.[])) (Syntax.tyRef Syntax.erased
+                    Syntax.imm (Held.behind Syntax.erased)) 9,
                 Path'.refl,
                 Path'.refl,
                 tt,
-              ) (Reads'.room-gone
-              𝓤 H A (Syntax.tyStruct (List._∷_ 98 (List._∷_ 105 (List._∷_ 116 (List._∷_ 115 (List._∷_ 58 (List._∷_ 58 (List._∷_ 66 (List._∷_ 105 (List._∷_ 116 (List._∷_ 80 (List._∷_ 111 (List._∷_ 115
-              (List._∷_ 105 (List._∷_ 116 (List._∷_ 105 (List._∷_ 111 (List._∷_ 110 List.[]))))))))))))))))) (Syntax.tcons (Syntax.tyInt Syntax.w64) Syntax.tnil))) (tt, (tt, tt)) (Shorter.told-bounds 𝓤 H
-              A W 2 (G54 at .slots) (List._∷_ 9 (List._∷_ 1 List.[])) (Kinds.osR r·2) (Way.told-and 𝓤 H A W (G54 at .slots) (Shorter.Below 1 9) (λ ρ. Unit) (MeetSlot.told-part 𝓤 H A W (G54 at .slots) 1 9
-              0 (MeetSlot.level 1 (κs .1 .0) (qs .1 .0) (List._∷_ Bool'.false List.[])) (List._∷_ (MeetSlot.carve 4 (at 2)) List.[]) (Call.pin-level 𝓤 H A W 1 (G54 at .slots) (κs .1 .0) (qs .1 .0)
-              (List._∷_ Bool'.false List.[]) Path'.refl) (Call.pin-lease 𝓤 H A W 9 (G54 at .slots) (List._++_ (κs .1 .0) (List._∷_ (at 2) List.[])) (TreeShare.PosShare·right (qs .1 .0)) Path'.refl))
-              (Own.told-none 𝓤 H A (G54 at .slots)))) Path'.refl λ κs′ x v i. Result.res-typed 𝓤 H A W 2 κs′ (Value.rVal record {
+              ) (Reads'.room-gone 𝓤 H A y0) (tt, (tt, tt)) (Shorter.told-bounds 𝓤 H A W 2 (G54 at .slots) (List._∷_ 9 (List._∷_ 1
+              List.[])) (Kinds.osR r·2) (Way.told-and 𝓤 H A W (G54 at .slots) (Shorter.Below 1 9) (λ ρ. Unit) (MeetSlot.told-part 𝓤 H A W (G54 at .slots) 1 9 0 (MeetSlot.level 1 (κs .1 .0) (qs .1 .0)
+              (List._∷_ Bool'.false List.[])) (List._∷_ (MeetSlot.carve 4 (at 2)) List.[]) (Call.pin-level 𝓤 H A W 1 (G54 at .slots) (κs .1 .0) (qs .1 .0) (List._∷_ Bool'.false List.[]) Path'.refl)
+              (Call.pin-lease 𝓤 H A W 9 (G54 at .slots) (List._++_ (κs .1 .0) (List._∷_ (at 2) List.[])) (TreeShare.PosShare·right (qs .1 .0)) Path'.refl)) (Own.told-none 𝓤 H A (G54 at .slots))))
+              Path'.refl λ κs′ x v i. Result.res-typed 𝓤 H A W 2 κs′ (Value.rVal record {
                 ty = Declared'.row BitPosition.the-type;
                 one = Path'.refl;
-                val =
-                    Laws'5.val BitPosition.the-type Laws.the-laws;
+                val = Laws'5.val BitPosition.the-type Laws.the-laws;
                 tells = Laws'5.tells BitPosition.the-type Laws.the-laws;
-                still = Laws'5.still BitPosition.the-type Laws.the-copy Exit.yes;
-                row = Rows.whole
-                    (Declared'.row BitPosition.the-type);
+                still =
+                    Laws'5.still BitPosition.the-type Laws.the-copy Exit.yes;
+                row = Rows.whole (Declared'.row BitPosition.the-type);
                 rd = λ x. x;
                 mk = λ x. x;
               } λ M 𝓤 H A W. record {
                 copies = Laws'5.copy BitPosition.the-type Laws.the-copy 𝓤 H A W;
-                lawful = Laws'5.lawful
-                    BitPosition.the-type Laws.the-laws 𝓤 H A W;
-                makes = Laws'5.makes BitPosition.the-type Laws.the-plain 𝓤 H A;
+                lawful = Laws'5.lawful BitPosition.the-type Laws.the-laws 𝓤 H A W;
+                makes = Laws'5.makes BitPosition.the-type Laws.the-plain
+                    𝓤 H A;
                 in-mem = Local.mem-whole 𝓤 H A W (Declared'.row BitPosition.the-type);
-                of-mem =
-                    Local.whole-mem 𝓤 H A W (Declared'.row BitPosition.the-type);
-              }) x v i (List._∷_ 9 (List._∷_ 1 List.[])) (Syntax.tyStruct (List._∷_ 98 (List._∷_ 105 (List._∷_ 116 (List._∷_ 115 (List._∷_ 58
-              (List._∷_ 58 (List._∷_ 66 (List._∷_ 105 (List._∷_ 116 (List._∷_ 80 (List._∷_ 111 (List._∷_ 115 (List._∷_ 105 (List._∷_ 116 (List._∷_ 105 (List._∷_ 111 (List._∷_ 110 List.[])))))))))))))))))
-              (Syntax.tcons (Syntax.tyInt Syntax.w64) Syntax.tnil)) Path'.refl) (d43 at)
+                of-mem = Local.whole-mem 𝓤 H A W (Declared'.row BitPosition.the-type);
+              }) x v i (List._∷_ 9 (List._∷_ 1
+              List.[])) y0 Path'.refl) (d43 at)
 
           d45 : (at : Nat.ℕ → Nat.ℕ) → Typed.Typed 𝓤 H A 𝓣 E (G53 at) b24 (Δ2 at) at45
           d45 = λ at. Typed.g-pre 𝓤 H A W 𝓣 E (G53 at) (G54 at) b24 (Δ2 at) (Typed.pass T53 T54 s50) at44 (AtSlots.g-as-by 𝓤 H A W E (λ ρ. Path'._≡_ (Row.lft ρ 1) (κs .1 .0)) (G53 at) 15
@@ -6302,46 +3114,8 @@ module _ (claims· : Claims) where
 
           d47 : (at : Nat.ℕ → Nat.ℕ) → Typed.Typed 𝓤 H A 𝓣 E (G51 at) b24 (Δ2 at) at47
           d47 = λ at. Typed.g-pre 𝓤 H A W 𝓣 E (G51 at) (G52 at) b24 (Δ2 at) (λ Ψ. Ψ) at46 (MeetSlot.g-meet 𝓤 H A W E (G51 at) 9 (TreeShare.PosShare·right (qs .1 .0)) (MeetSlot.level 1 (κs .1 .0) (qs
-              .1 .0) List.[]) (List._∷_ (MeetSlot.carve 4 (at 2)) List.[]) ((Path'.refl, Path'.refl), (Path'.refl, tt)) (
-                tt,
-                (
-                  (tt, tt),
-                  (
-                    tt,
-                    (
-                      tt,
-                      (
-                        tt,
-                        (
-                          tt,
-                          (
-                            tt,
-                            (
-                              tt,
-                              (
-                                tt,
-                                (
-                                  tt,
-                                  (
-                                    tt,
-                                    (
-                                      tt,
-                                      (
-                                        tt,
-                                        (tt, (tt, (tt, (tt, (tt, (tt, (tt, (tt, (tt, (tt, (tt, tt))))))))))),
-                                      ),
-                                    ),
-                                  ),
-                                ),
-                              ),
-                            ),
-                          ),
-                        ),
-                      ),
-                    ),
-                  ),
-                ),
-              )) (d46 at)
+              .1 .0) List.[]) (List._∷_ (MeetSlot.carve 4 (at 2)) List.[]) ((Path'.refl, Path'.refl), (Path'.refl, tt))
+              (tt, ((tt, tt), (tt, (tt, (tt, (tt, (tt, (tt, (tt, (tt, (tt, (tt, (tt, (tt, (tt, (tt, (tt, (tt, (tt, (tt, (tt, (tt, (tt, (tt, tt))))))))))))))))))))))))) (d46 at)
 
           d48 : (at : Nat.ℕ → Nat.ℕ) → Typed.Typed 𝓤 H A 𝓣 E (G50 at) b24 (Δ2 at) at48
           d48 = λ at. LifetimeAt.t-pin-one 𝓤 H A W E 𝓣 (G50 at) 4 Row.alive b24 (Δ2 at) at47 Path'.refl tt λ a. d47 (LifetimeAt.bound at 2 a)
@@ -6356,43 +3130,8 @@ module _ (claims· : Claims) where
               (Syntax.tyRef Syntax.erased Syntax.imm (Held.behind Syntax.erased))) Path'.refl tt Path'.refl Path'.refl λ b o. tt) (d49 at)
 
           d51 : (at : Nat.ℕ → Nat.ℕ) → Typed.Typed 𝓤 H A 𝓣 E (G47 at) b25 (Δ2 at) at51
-          d51 = λ at. Typed.g-pre 𝓤 H A W 𝓣 E (G47 at) (G48 at) b25 (Δ2 at) (λ Ψ. Ψ) at50 (Lifetime.g-begin 𝓤 H A W E (G47 at) 4 (
-            tt,
-            (
-              tt,
-              (
-                tt,
-                (
-                  tt,
-                  (
-                    tt,
-                    (
-                      tt,
-                      (
-                        tt,
-                        (
-                          tt,
-                          (
-                            tt,
-                            (
-                              tt,
-                              (
-                                tt,
-                                (
-                                  tt,
-                                  (tt, (tt, (tt, (tt, (tt, (tt, (tt, (tt, (tt, (tt, (tt, (tt, tt)))))))))))),
-                                ),
-                              ),
-                            ),
-                          ),
-                        ),
-                      ),
-                    ),
-                  ),
-                ),
-              ),
-            ),
-          )) (d50 at)
+          d51 = λ at. Typed.g-pre 𝓤 H A W 𝓣 E (G47 at) (G48 at) b25 (Δ2 at) (λ Ψ. Ψ) at50 (Lifetime.g-begin 𝓤 H A W E (G47 at) 4
+              (tt, (tt, (tt, (tt, (tt, (tt, (tt, (tt, (tt, (tt, (tt, (tt, (tt, (tt, (tt, (tt, (tt, (tt, (tt, (tt, (tt, (tt, (tt, (tt, tt))))))))))))))))))))))))) (d50 at)
 
           d52 : (at : Nat.ℕ → Nat.ℕ) → Typed.Typed 𝓤 H A 𝓣 E (G46 at) b25 (Δ2 at) at52
           d52 = λ at. Typed.g-pre 𝓤 H A W 𝓣 E (G46 at) (G47 at) b25 (Δ2 at) (λ Ψ. Ψ) at51 (Lifetime.g-forget 𝓤 H A W E (G46 at) 3 Row.dead Path'.refl) (d51 at)
@@ -6423,22 +3162,22 @@ module _ (claims· : Claims) where
 
           d59 : (at : Nat.ℕ → Nat.ℕ) → Typed.Typed 𝓤 H A 𝓣 E (G39 at) b26 (Δ2 at) at59
           d59 = λ at. Typed.s-seq 𝓤 H A W 𝓣 E (G39 at) (G40 at) b10 b25 (Δ2 at) (Typed.both s36) at58 (Plain.t-call-plain-by 𝓤 H A W 𝓣 2 ps·1 r·1 (claims· .2) (claims· .3) "bits::BitPumpMsb::get"
-              (known .1) E (λ pos β. β) (G39 at) (
-                record { pos = 14; ty = Syntax.tyRef Syntax.erased Syntax.mut (Held.behind Syntax.erased); βs = List._∷_ 8 (List._∷_ 1 List.[]); ref = λ x. x },
-                (Num.vAt 2 λ x. x, tt),
-              ) 7 (List._∷_ 8 (List._∷_ 1 List.[])) (Call.sub-id 𝓤 H A W (G39 at .slots)) (
-                Reads'.as-is 𝓤 H A (AtSlots.mrefAt 2 (λ κc. Held.type (Syntax.named 1) (κc .1 .0))
-                    Held.Value (λ κc v. v) (List._∷_ 8 (List._∷_ 1 List.[])) (Syntax.tyRef Syntax.erased Syntax.mut (Held.behind Syntax.erased)) 8),
-                AtSlots.reads-mref-at 𝓤 H A W 2 (λ κc. Held.type
-                    (Syntax.named 1) (κc .1 .0)) Held.Value (λ κc v. v) (List._∷_ 8 (List._∷_ 1 List.[])) (Syntax.tyRef Syntax.erased Syntax.mut (Held.behind Syntax.erased)) 8,
+              (known .1) E (λ pos β. β) (G39 at)
+              (record { pos = 14; ty = Syntax.tyRef Syntax.erased Syntax.mut (Held.behind Syntax.erased); βs = List._∷_ 8 (List._∷_ 1 List.[]); ref = λ x. x }, (Num.vAt 2 λ x. x, tt)) 7 (List._∷_ 8
+              (List._∷_ 1 List.[])) (Call.sub-id 𝓤 H A W (G39 at .slots)) (
+                Reads'.as-is 𝓤 H A (AtSlots.mrefAt 2 (λ κc. Held.type (Syntax.named 1) (κc .1 .0)) Held.Value (λ κc v. v) (List._∷_ 8 (List._∷_ 1 List.[])) (Syntax.tyRef Syntax.erased Syntax.mut
+                    (Held.behind Syntax.erased)) 8),
+                AtSlots.reads-mref-at 𝓤 H A W 2 (λ κc. Held.type (Syntax.named 1) (κc .1 .0)) Held.Value (λ κc v. v) (List._∷_ 8 (List._∷_ 1 List.[])) (Syntax.tyRef
+                    Syntax.erased Syntax.mut (Held.behind Syntax.erased)) 8,
                 Path'.refl,
                 Path'.refl,
                 ((Scalar.reads-sc 𝓤 H A W (Row.sInt Syntax.w32), Path'.refl), tt),
-              ) (Reads'.room-gone 𝓤 H A (Syntax.tyInt Syntax.w32)) (tt, (tt, tt)) (Shorter.told-bounds 𝓤 H A W 2 (G39 at .slots)
-              (List._∷_ 8 (List._∷_ 1 List.[])) (Kinds.osR r·1) (Way.told-and 𝓤 H A W (G39 at .slots) (Shorter.Below 1 8) (λ ρ. Unit) (MeetSlot.told-part 𝓤 H A W (G39 at .slots) 1 8 0 (MeetSlot.level 1
-              (κs .1 .0) (qs .1 .0) (List._∷_ Bool'.false List.[])) (List._∷_ (MeetSlot.carve 3 (at 1)) List.[]) (Call.pin-level 𝓤 H A W 1 (G39 at .slots) (κs .1 .0) (qs .1 .0) (List._∷_ Bool'.false
-              List.[]) Path'.refl) (Call.pin-lease 𝓤 H A W 8 (G39 at .slots) (List._++_ (κs .1 .0) (List._∷_ (at 1) List.[])) (TreeShare.PosShare·right (qs .1 .0)) Path'.refl)) (Own.told-none 𝓤 H A (G39
-              at .slots)))) Path'.refl λ κs′ x v i. Result.res-typed 𝓤 H A W 2 κs′ (Num.rNum Syntax.w32) x v i (List._∷_ 8 (List._∷_ 1 List.[])) (Syntax.tyInt Syntax.w32) Path'.refl) (d58 at)
+              ) (Reads'.room-gone 𝓤 H A (Syntax.tyInt
+              Syntax.w32)) (tt, (tt, tt)) (Shorter.told-bounds 𝓤 H A W 2 (G39 at .slots) (List._∷_ 8 (List._∷_ 1 List.[])) (Kinds.osR r·1) (Way.told-and 𝓤 H A W (G39 at .slots) (Shorter.Below 1 8) (λ ρ.
+              Unit) (MeetSlot.told-part 𝓤 H A W (G39 at .slots) 1 8 0 (MeetSlot.level 1 (κs .1 .0) (qs .1 .0) (List._∷_ Bool'.false List.[])) (List._∷_ (MeetSlot.carve 3 (at 1)) List.[]) (Call.pin-level 𝓤
+              H A W 1 (G39 at .slots) (κs .1 .0) (qs .1 .0) (List._∷_ Bool'.false List.[]) Path'.refl) (Call.pin-lease 𝓤 H A W 8 (G39 at .slots) (List._++_ (κs .1 .0) (List._∷_ (at 1) List.[]))
+              (TreeShare.PosShare·right (qs .1 .0)) Path'.refl)) (Own.told-none 𝓤 H A (G39 at .slots)))) Path'.refl λ κs′ x v i. Result.res-typed 𝓤 H A W 2 κs′ (Num.rNum Syntax.w32) x v i (List._∷_ 8
+              (List._∷_ 1 List.[])) (Syntax.tyInt Syntax.w32) Path'.refl) (d58 at)
 
           d60 : (at : Nat.ℕ → Nat.ℕ) → Typed.Typed 𝓤 H A 𝓣 E (G38 at) b26 (Δ2 at) at60
           d60 = λ at. Typed.g-pre 𝓤 H A W 𝓣 E (G38 at) (G39 at) b26 (Δ2 at) (Typed.pass T38 T39 s35) at59 (AtSlots.g-as-by 𝓤 H A W E (λ ρ. Path'._≡_ (Row.lft ρ 1) (κs .1 .0)) (G38 at) 14
@@ -6456,46 +3195,8 @@ module _ (claims· : Claims) where
 
           d62 : (at : Nat.ℕ → Nat.ℕ) → Typed.Typed 𝓤 H A 𝓣 E (G36 at) b26 (Δ2 at) at62
           d62 = λ at. Typed.g-pre 𝓤 H A W 𝓣 E (G36 at) (G37 at) b26 (Δ2 at) (λ Ψ. Ψ) at61 (MeetSlot.g-meet 𝓤 H A W E (G36 at) 8 (TreeShare.PosShare·right (qs .1 .0)) (MeetSlot.level 1 (κs .1 .0) (qs
-              .1 .0) List.[]) (List._∷_ (MeetSlot.carve 3 (at 1)) List.[]) ((Path'.refl, Path'.refl), (Path'.refl, tt)) (
-                tt,
-                (
-                  (tt, tt),
-                  (
-                    tt,
-                    (
-                      tt,
-                      (
-                        tt,
-                        (
-                          tt,
-                          (
-                            tt,
-                            (
-                              tt,
-                              (
-                                tt,
-                                (
-                                  tt,
-                                  (
-                                    tt,
-                                    (
-                                      tt,
-                                      (
-                                        tt,
-                                        (tt, (tt, (tt, (tt, (tt, (tt, (tt, (tt, (tt, (tt, (tt, tt))))))))))),
-                                      ),
-                                    ),
-                                  ),
-                                ),
-                              ),
-                            ),
-                          ),
-                        ),
-                      ),
-                    ),
-                  ),
-                ),
-              )) (d61 at)
+              .1 .0) List.[]) (List._∷_ (MeetSlot.carve 3 (at 1)) List.[]) ((Path'.refl, Path'.refl), (Path'.refl, tt))
+              (tt, ((tt, tt), (tt, (tt, (tt, (tt, (tt, (tt, (tt, (tt, (tt, (tt, (tt, (tt, (tt, (tt, (tt, (tt, (tt, (tt, (tt, (tt, (tt, (tt, tt))))))))))))))))))))))))) (d61 at)
 
           d63 : (at : Nat.ℕ → Nat.ℕ) → Typed.Typed 𝓤 H A 𝓣 E (G35 at) b26 (Δ2 at) at63
           d63 = λ at. LifetimeAt.t-pin-one 𝓤 H A W E 𝓣 (G35 at) 3 Row.alive b26 (Δ2 at) at62 Path'.refl tt λ a. d62 (LifetimeAt.bound at 1 a)
@@ -6510,43 +3211,8 @@ module _ (claims· : Claims) where
               (Syntax.tyRef Syntax.erased Syntax.mut (Held.behind Syntax.erased))) Path'.refl tt Path'.refl Path'.refl λ b o. tt) (d64 at)
 
           d66 : (at : Nat.ℕ → Nat.ℕ) → Typed.Typed 𝓤 H A 𝓣 E (G32 at) b27 (Δ2 at) at66
-          d66 = λ at. Typed.g-pre 𝓤 H A W 𝓣 E (G32 at) (G33 at) b27 (Δ2 at) (λ Ψ. Ψ) at65 (Lifetime.g-begin 𝓤 H A W E (G32 at) 3 (
-            tt,
-            (
-              tt,
-              (
-                tt,
-                (
-                  tt,
-                  (
-                    tt,
-                    (
-                      tt,
-                      (
-                        tt,
-                        (
-                          tt,
-                          (
-                            tt,
-                            (
-                              tt,
-                              (
-                                tt,
-                                (
-                                  tt,
-                                  (tt, (tt, (tt, (tt, (tt, (tt, (tt, (tt, (tt, (tt, (tt, (tt, tt)))))))))))),
-                                ),
-                              ),
-                            ),
-                          ),
-                        ),
-                      ),
-                    ),
-                  ),
-                ),
-              ),
-            ),
-          )) (d65 at)
+          d66 = λ at. Typed.g-pre 𝓤 H A W 𝓣 E (G32 at) (G33 at) b27 (Δ2 at) (λ Ψ. Ψ) at65 (Lifetime.g-begin 𝓤 H A W E (G32 at) 3
+              (tt, (tt, (tt, (tt, (tt, (tt, (tt, (tt, (tt, (tt, (tt, (tt, (tt, (tt, (tt, (tt, (tt, (tt, (tt, (tt, (tt, (tt, (tt, (tt, tt))))))))))))))))))))))))) (d65 at)
 
           d67 : (at : Nat.ℕ → Nat.ℕ) → Typed.Typed 𝓤 H A 𝓣 E (G31 at) b27 (Δ2 at) at67
           d67 = λ at. Typed.g-pre 𝓤 H A W 𝓣 E (G31 at) (G32 at) b27 (Δ2 at) (Typed.pass T31 T32 s28) at66 (Scalar.g-room 𝓤 H A W E (G31 at) 13 Syntax.tyBool (Scalar.room-sc 𝓤 H A W Row.sBool)) (d66
@@ -6582,15 +3248,8 @@ module _ (claims· : Claims) where
               (Row.sInt Syntax.w32))) (d74 at)
 
           d76 : (at : Nat.ℕ → Nat.ℕ) → Typed.Typed 𝓤 H A 𝓣 E (G123 at) b38 (Δ0 at) at76
-          d76 = λ at. Typed.g-pre 𝓤 H A W 𝓣 E (G123 at) (G124 at) b38 (Δ0 at) (Typed.pass T123 T124 s120) at75 (Scalar.g-room 𝓤 H A W E (G123 at) 23 (Syntax.tyStruct (List._∷_ 99 (List._∷_ 111
-              (List._∷_ 100 (List._∷_ 101 (List._∷_ 58 (List._∷_ 58 (List._∷_ 67 (List._∷_ 111 (List._∷_ 100 (List._∷_ 101 List.[])))))))))) (Syntax.tcons (Syntax.tyInt Syntax.w64) (Syntax.tcons
-              (Syntax.tyInt Syntax.w32) (Syntax.tcons Syntax.tyBool (Syntax.tcons (Syntax.tyStruct (List._∷_ 98 (List._∷_ 105 (List._∷_ 116 (List._∷_ 115 (List._∷_ 58 (List._∷_ 58 (List._∷_ 66 (List._∷_
-              105 (List._∷_ 116 (List._∷_ 80 (List._∷_ 111 (List._∷_ 115 (List._∷_ 105 (List._∷_ 116 (List._∷_ 105 (List._∷_ 111 (List._∷_ 110 List.[]))))))))))))))))) (Syntax.tcons (Syntax.tyInt
-              Syntax.w64) Syntax.tnil)) Syntax.tnil))))) (Local.room-whole 𝓤 H A W (Declared'.row Code.the-type) (Syntax.tyStruct (List._∷_ 99 (List._∷_ 111 (List._∷_ 100 (List._∷_ 101 (List._∷_ 58
-              (List._∷_ 58 (List._∷_ 67 (List._∷_ 111 (List._∷_ 100 (List._∷_ 101 List.[])))))))))) (Syntax.tcons (Syntax.tyInt Syntax.w64) (Syntax.tcons (Syntax.tyInt Syntax.w32) (Syntax.tcons
-              Syntax.tyBool (Syntax.tcons (Syntax.tyStruct (List._∷_ 98 (List._∷_ 105 (List._∷_ 116 (List._∷_ 115 (List._∷_ 58 (List._∷_ 58 (List._∷_ 66 (List._∷_ 105 (List._∷_ 116 (List._∷_ 80 (List._∷_
-              111 (List._∷_ 115 (List._∷_ 105 (List._∷_ 116 (List._∷_ 105 (List._∷_ 111 (List._∷_ 110 List.[]))))))))))))))))) (Syntax.tcons (Syntax.tyInt Syntax.w64) Syntax.tnil)) Syntax.tnil)))))
-              Path'.refl)) (d75 at)
+          d76 = λ at. Typed.g-pre 𝓤 H A W 𝓣 E (G123 at) (G124 at) b38 (Δ0 at) (Typed.pass T123 T124 s120) at75 (Scalar.g-room 𝓤 H A W E (G123 at) 23 y1 (Local.room-whole 𝓤 H A W (Declared'.row
+              Code.the-type) y1 Path'.refl)) (d75 at)
 
           d77 : (at : Nat.ℕ → Nat.ℕ) → Typed.Typed 𝓤 H A 𝓣 E (G122 at) b38 (Δ0 at) at77
           d77 = λ at. Typed.g-pre 𝓤 H A W 𝓣 E (G122 at) (G123 at) b38 (Δ0 at) (Typed.pass T122 T123 s119) at76 (Scalar.g-room 𝓤 H A W E (G122 at) 9 (Syntax.tyInt Syntax.w32) (Scalar.room-sc 𝓤 H A W
@@ -6602,48 +3261,21 @@ module _ (claims· : Claims) where
 
           d79 : (at : Nat.ℕ → Nat.ℕ) → Typed.Typed 𝓤 H A 𝓣 E (G120 at) b39 (Δ0 at) at79
           d79 = λ at. Typed.s-seq 𝓤 H A W 𝓣 E (G120 at) (G121 at) b37 b38 (Δ0 at) (Typed.pass T120 T121 s117) at78 (Make.t-enum-make-wt 𝓤 H A W E 𝓣 Coded.the-type Laws'3.the-laws Laws'3.the-plain tt
-              (G120 at) 0 (List._∷_ (Scalar.oInt Syntax.w8 0) (List._∷_ (Scalar.oAt 23 (Syntax.tyStruct (List._∷_ 99 (List._∷_ 111 (List._∷_ 100 (List._∷_ 101 (List._∷_ 58 (List._∷_ 58 (List._∷_ 67
-              (List._∷_ 111 (List._∷_ 100 (List._∷_ 101 List.[])))))))))) (Syntax.tcons (Syntax.tyInt Syntax.w64) (Syntax.tcons (Syntax.tyInt Syntax.w32) (Syntax.tcons Syntax.tyBool (Syntax.tcons
-              (Syntax.tyStruct (List._∷_ 98 (List._∷_ 105 (List._∷_ 116 (List._∷_ 115 (List._∷_ 58 (List._∷_ 58 (List._∷_ 66 (List._∷_ 105 (List._∷_ 116 (List._∷_ 80 (List._∷_ 111 (List._∷_ 115 (List._∷_
-              105 (List._∷_ 116 (List._∷_ 105 (List._∷_ 111 (List._∷_ 110 List.[]))))))))))))))))) (Syntax.tcons (Syntax.tyInt Syntax.w64) Syntax.tnil)) Syntax.tnil))))) (Laws'5.val Code.the-type
-              Laws''.the-laws)) List.[])) (λ m. Coded.enum .make (Logic.inl (m .1 .1 .1 .1 .1 .1 .1 .1 .1 .1 .1 .1 .1 .1 .1 .1 .1 .1 .1 .1 .1 .1 .1 .0, tt))) (Reads'.room-gone 𝓤 H A (Syntax.tyEnum
-              (List._∷_ 99 (List._∷_ 111 (List._∷_ 100 (List._∷_ 101 (List._∷_ 58 (List._∷_ 58 (List._∷_ 67 (List._∷_ 111 (List._∷_ 100 (List._∷_ 101 (List._∷_ 100 List.[]))))))))))) (Syntax.ttcons
-              (Syntax.tcons (Syntax.tyStruct (List._∷_ 99 (List._∷_ 111 (List._∷_ 100 (List._∷_ 101 (List._∷_ 58 (List._∷_ 58 (List._∷_ 67 (List._∷_ 111 (List._∷_ 100 (List._∷_ 101 List.[]))))))))))
-              (Syntax.tcons (Syntax.tyInt Syntax.w64) (Syntax.tcons (Syntax.tyInt Syntax.w32) (Syntax.tcons Syntax.tyBool (Syntax.tcons (Syntax.tyStruct (List._∷_ 98 (List._∷_ 105 (List._∷_ 116 (List._∷_
-              115 (List._∷_ 58 (List._∷_ 58 (List._∷_ 66 (List._∷_ 105 (List._∷_ 116 (List._∷_ 80 (List._∷_ 111 (List._∷_ 115 (List._∷_ 105 (List._∷_ 116 (List._∷_ 105 (List._∷_ 111 (List._∷_ 110
-              List.[]))))))))))))))))) (Syntax.tcons (Syntax.tyInt Syntax.w64) Syntax.tnil)) Syntax.tnil))))) Syntax.tnil) (Syntax.ttcons Syntax.tnil Syntax.ttnil)))) (
+              (G120 at) 0 (List._∷_ (Scalar.oInt Syntax.w8 0) (List._∷_ (Scalar.oAt 23 y1 (Laws'5.val Code.the-type Laws''.the-laws)) List.[])) (λ m. Coded.enum .make (Logic.inl
+              (m .1 .1 .1 .1 .1 .1 .1 .1 .1 .1 .1 .1 .1 .1 .1 .1 .1 .1 .1 .1 .1 .1 .1 .0, tt))) (Reads'.room-gone 𝓤 H A (Syntax.tyEnum (List._∷_ 99 (List._∷_ 111 (List._∷_ 100 (List._∷_ 101 (List._∷_ 58
+              (List._∷_ 58 (List._∷_ 67 (List._∷_ 111 (List._∷_ 100 (List._∷_ 101 (List._∷_ 100 List.[]))))))))))) (Syntax.ttcons (Syntax.tcons y1 Syntax.tnil) (Syntax.ttcons Syntax.tnil Syntax.ttnil))))
+              (tt, ((Reads.reads-struct 𝓤 H A W Code.the-type Laws''.the-laws, Path'.refl), tt)) Path'.refl (λ m wa. Make.made-val Coded.the-type Laws'3.the-laws (List._∷_ (Laws'5.val Code.the-type
+              Laws''.the-laws (m .1 .1 .1 .1 .1 .1 .1 .1 .1 .1 .1 .1 .1 .1 .1 .1 .1 .1 .1 .1 .1 .1 .1 .0)) List.[]) (Coded.enum .make (Logic.inl
+              (m .1 .1 .1 .1 .1 .1 .1 .1 .1 .1 .1 .1 .1 .1 .1 .1 .1 .1 .1 .1 .1 .1 .1 .0, tt))) (
+                Signed.made-wt Code.the-field Laws''.the-field-laws (Make'.struct-wt Code.the-type Laws''.the-laws
+                    (Make'.u64-wt, (Make'.u32-wt, (Make'.bool-wt, (Make'.struct-wt BitPosition.the-type Laws.the-laws (Make'.u64-wt, tt), tt))))) (Code.the-type .to (m .1 .1 .1 .1 .1 .1 .1 .1 .1 .1 .1 .1 .1 .1
+                    .1 .1 .1 .1 .1 .1 .1 .1 .1 .0)),
                 tt,
-                (
-                  (
-                    Reads.reads-struct 𝓤 H A W
-                        Code.the-type Laws''.the-laws,
-                    Path'.refl,
-                  ),
-                  tt,
-                ),
-              ) Path'.refl (λ m wa. Make.made-val Coded.the-type Laws'3.the-laws (List._∷_ (Laws'5.val Code.the-type Laws''.the-laws (m .1 .1 .1 .1 .1 .1 .1
-              .1 .1 .1 .1 .1 .1 .1 .1 .1 .1 .1 .1 .1 .1 .1 .1 .0)) List.[]) (Coded.enum .make (Logic.inl (m .1 .1 .1 .1 .1 .1 .1 .1 .1 .1 .1 .1 .1 .1 .1 .1 .1 .1 .1 .1 .1 .1 .1 .0, tt))) (
-                Signed.made-wt Code.the-field Laws''.the-field-laws (Make'.struct-wt Code.the-type Laws''.the-laws (
-                  Make'.u64-wt,
-                  (
-                    Make'.u32-wt,
-                    (
-                      Make'.bool-wt,
-                      (
-                        Make'.struct-wt BitPosition.the-type
-                            Laws.the-laws (Make'.u64-wt, tt),
-                        tt,
-                      ),
-                    ),
-                  ),
-                )) (Code.the-type .to (m .1 .1 .1 .1 .1 .1 .1 .1 .1 .1 .1 .1 .1 .1 .1 .1 .1 .1 .1 .1 .1 .1 .1 .0)),
-                tt,
-              ) (wa .1)) λ m wa. Make.made-is
-              Coded.the-type Laws'3.the-laws (List._∷_ (Laws'5.val Code.the-type Laws''.the-laws (m .1 .1 .1 .1 .1 .1 .1 .1 .1 .1 .1 .1 .1 .1 .1 .1 .1 .1 .1 .1 .1 .1 .1 .0)) List.[]) (Coded.enum .make
-              (Logic.inl (m .1 .1 .1 .1 .1 .1 .1 .1 .1 .1 .1 .1 .1 .1 .1 .1 .1 .1 .1 .1 .1 .1 .1 .0, tt))) (
-                Signed.made-wt Code.the-field Laws''.the-field-laws (Make'.struct-wt Code.the-type
-                    Laws''.the-laws (Make'.u64-wt, (Make'.u32-wt, (Make'.bool-wt, (Make'.struct-wt BitPosition.the-type Laws.the-laws (Make'.u64-wt, tt), tt))))) (Code.the-type .to (m .1 .1 .1 .1 .1
-                    .1 .1 .1 .1 .1 .1 .1 .1 .1 .1 .1 .1 .1 .1 .1 .1 .1 .1 .0)),
+              ) (wa .1)) λ m wa. Make.made-is Coded.the-type Laws'3.the-laws (List._∷_ (Laws'5.val Code.the-type Laws''.the-laws (m .1 .1 .1 .1 .1 .1 .1 .1 .1 .1 .1 .1
+              .1 .1 .1 .1 .1 .1 .1 .1 .1 .1 .1 .0)) List.[]) (Coded.enum .make (Logic.inl (m .1 .1 .1 .1 .1 .1 .1 .1 .1 .1 .1 .1 .1 .1 .1 .1 .1 .1 .1 .1 .1 .1 .1 .0, tt))) (
+                Signed.made-wt Code.the-field Laws''.the-field-laws (Make'.struct-wt Code.the-type Laws''.the-laws
+                    (Make'.u64-wt, (Make'.u32-wt, (Make'.bool-wt, (Make'.struct-wt BitPosition.the-type Laws.the-laws (Make'.u64-wt, tt), tt))))) (Code.the-type .to (m .1 .1 .1 .1 .1 .1 .1 .1 .1 .1 .1 .1 .1 .1
+                    .1 .1 .1 .1 .1 .1 .1 .1 .1 .0)),
                 tt,
               ) (wa .1)) (d78 at)
 
@@ -6657,76 +3289,33 @@ module _ (claims· : Claims) where
               (d80 at)
 
           d82 : (at : Nat.ℕ → Nat.ℕ) → Typed.Typed 𝓤 H A 𝓣 E (G117 at) b39 (Δ0 at) at82
-          d82 = λ at. Typed.g-pre 𝓤 H A W 𝓣 E (G117 at) (G118 at) b39 (Δ0 at) (Typed.pass T117 T118 s114) at81 (Scalar.g-room 𝓤 H A W E (G117 at) 10 (Syntax.tyStruct (List._∷_ 98 (List._∷_ 105
-              (List._∷_ 116 (List._∷_ 115 (List._∷_ 58 (List._∷_ 58 (List._∷_ 66 (List._∷_ 105 (List._∷_ 116 (List._∷_ 80 (List._∷_ 111 (List._∷_ 115 (List._∷_ 105 (List._∷_ 116 (List._∷_ 105 (List._∷_
-              111 (List._∷_ 110 List.[]))))))))))))))))) (Syntax.tcons (Syntax.tyInt Syntax.w64) Syntax.tnil)) (Local.room-whole 𝓤 H A W (Declared'.row BitPosition.the-type) (Syntax.tyStruct (List._∷_ 98
-              (List._∷_ 105 (List._∷_ 116 (List._∷_ 115 (List._∷_ 58 (List._∷_ 58 (List._∷_ 66 (List._∷_ 105 (List._∷_ 116 (List._∷_ 80 (List._∷_ 111 (List._∷_ 115 (List._∷_ 105 (List._∷_ 116 (List._∷_
-              105 (List._∷_ 111 (List._∷_ 110 List.[]))))))))))))))))) (Syntax.tcons (Syntax.tyInt Syntax.w64) Syntax.tnil)) Path'.refl)) (d81 at)
+          d82 = λ at. Typed.g-pre 𝓤 H A W 𝓣 E (G117 at) (G118 at) b39 (Δ0 at) (Typed.pass T117 T118 s114) at81 (Scalar.g-room 𝓤 H A W E (G117 at) 10 y0 (Local.room-whole 𝓤 H A W (Declared'.row
+              BitPosition.the-type) y0 Path'.refl)) (d81 at)
 
           d83 : (at : Nat.ℕ → Nat.ℕ) → Typed.Typed 𝓤 H A 𝓣 E (G116 at) b40 (Δ0 at) at83
           d83 = λ at. Typed.s-seq 𝓤 H A W 𝓣 E (G116 at) (G117 at) b36 b39 (Δ0 at) (Typed.pass T116 T117 s113) at82 (Make'.t-struct-make 𝓤 H A W E 𝓣 (Apart.apartT Code.the-type) Laws''.the-laws
               Laws''.the-plain (G116 at) 23 (List._∷_ (Scalar.oAt 6 (Syntax.tyInt Syntax.w64) (Row.valS (Row.sInt Syntax.w64))) (List._∷_ (Scalar.oAt 9 (Syntax.tyInt Syntax.w32) (Row.valS (Row.sInt
-              Syntax.w32))) (List._∷_ (Scalar.oAt 13 Syntax.tyBool (Row.valS Row.sBool)) (List._∷_ (Scalar.oAt 10 (Syntax.tyStruct (List._∷_ 98 (List._∷_ 105 (List._∷_ 116 (List._∷_ 115 (List._∷_ 58
-              (List._∷_ 58 (List._∷_ 66 (List._∷_ 105 (List._∷_ 116 (List._∷_ 80 (List._∷_ 111 (List._∷_ 115 (List._∷_ 105 (List._∷_ 116 (List._∷_ 105 (List._∷_ 111 (List._∷_ 110 List.[])))))))))))))))))
-              (Syntax.tcons (Syntax.tyInt Syntax.w64) Syntax.tnil)) (Laws'5.val BitPosition.the-type Laws.the-laws)) List.[])))) (λ m. (
-                m .1 .1 .1 .1 .1 .1 .0,
-                (
-                  m .1 .1 .1 .1 .1 .1 .1 .1 .1 .0,
-                  (
-                    m .1
-                        .1 .1 .1 .1 .1 .1 .1 .1 .1 .1 .1 .1 .0,
-                    (m .1 .1 .1 .1 .1 .1 .1 .1 .1 .1 .0, tt),
-                  ),
-                ),
-              )) (Reads'.room-gone 𝓤 H A (Syntax.tyStruct (List._∷_ 99 (List._∷_ 111 (List._∷_ 100 (List._∷_ 101
-              (List._∷_ 58 (List._∷_ 58 (List._∷_ 67 (List._∷_ 111 (List._∷_ 100 (List._∷_ 101 List.[])))))))))) (Syntax.tcons (Syntax.tyInt Syntax.w64) (Syntax.tcons (Syntax.tyInt Syntax.w32)
-              (Syntax.tcons Syntax.tyBool (Syntax.tcons (Syntax.tyStruct (List._∷_ 98 (List._∷_ 105 (List._∷_ 116 (List._∷_ 115 (List._∷_ 58 (List._∷_ 58 (List._∷_ 66 (List._∷_ 105 (List._∷_ 116 (List._∷_
-              80 (List._∷_ 111 (List._∷_ 115 (List._∷_ 105 (List._∷_ 116 (List._∷_ 105 (List._∷_ 111 (List._∷_ 110 List.[]))))))))))))))))) (Syntax.tcons (Syntax.tyInt Syntax.w64) Syntax.tnil))
-              Syntax.tnil)))))) (
+              Syntax.w32))) (List._∷_ (Scalar.oAt 13 Syntax.tyBool (Row.valS Row.sBool)) (List._∷_ (Scalar.oAt 10 y0 (Laws'5.val BitPosition.the-type Laws.the-laws)) List.[])))) (λ m.
+              (m .1 .1 .1 .1 .1 .1 .0, (m .1 .1 .1 .1 .1 .1 .1 .1 .1 .0, (m .1 .1 .1 .1 .1 .1 .1 .1 .1 .1 .1 .1 .1 .0, (m .1 .1 .1 .1 .1 .1 .1 .1 .1 .1 .0, tt))))) (Reads'.room-gone 𝓤 H A y1) (
                 (Scalar.reads-sc 𝓤 H A W (Row.sInt Syntax.w64), Path'.refl),
                 (
                   (Scalar.reads-sc 𝓤 H A W (Row.sInt Syntax.w32), Path'.refl),
-                  (
-                    (
-                      Scalar.reads-sc 𝓤 H A W Row.sBool,
-                      Path'.refl,
-                    ),
-                    ((Reads.reads-struct 𝓤 H A W BitPosition.the-type Laws.the-laws, Path'.refl), tt),
-                  ),
+                  ((Scalar.reads-sc 𝓤 H A W Row.sBool, Path'.refl), ((Reads.reads-struct 𝓤 H A W BitPosition.the-type Laws.the-laws, Path'.refl), tt)),
                 ),
-              ) Path'.refl (λ u. Path'.refl) λ m. Make'.is-wt (Apart.apartT Code.the-type)
-              Laws''.the-laws (Make'.u64-wt, (Make'.u32-wt, (Make'.bool-wt, (Make'.struct-wt BitPosition.the-type Laws.the-laws (Make'.u64-wt, tt), tt)))) (
-                m .1 .1 .1 .1 .1 .1 .0,
-                (
-                  m .1 .1 .1
-                      .1 .1 .1 .1 .1 .1 .0,
-                  (m .1 .1 .1 .1 .1 .1 .1 .1 .1 .1 .1 .1 .1 .0, (m .1 .1 .1 .1 .1 .1 .1 .1 .1 .1 .0, tt)),
-                ),
-              )) (d82 at)
+              ) Path'.refl (λ u. Path'.refl) λ m. Make'.is-wt
+              (Apart.apartT Code.the-type) Laws''.the-laws (Make'.u64-wt, (Make'.u32-wt, (Make'.bool-wt, (Make'.struct-wt BitPosition.the-type Laws.the-laws (Make'.u64-wt, tt), tt))))
+              (m .1 .1 .1 .1 .1 .1 .0, (m .1 .1 .1 .1 .1 .1 .1 .1 .1 .0, (m .1 .1 .1 .1 .1 .1 .1 .1 .1 .1 .1 .1 .1 .0, (m .1 .1 .1 .1 .1 .1 .1 .1 .1 .1 .0, tt))))) (d82 at)
 
           d84 : (at : Nat.ℕ → Nat.ℕ) → Typed.Typed 𝓤 H A 𝓣 E (G115 at) b41 (Δ0 at) at84
           d84 = λ at. Typed.s-seq 𝓤 H A W 𝓣 E (G115 at) (G116 at) b35 b40 (Δ0 at) (Typed.both s112) at83 (Plain.t-call-plain 𝓤 H A W 𝓣 0 ps·3 r·3 (claims· .6) (claims· .7) "code::is_needed" (known .3)
               E (λ pos β. β) (G115 at) (Num.vAt 2 λ x. x, (Num.vAt 3 λ x. x, (Num.vAt 6 λ x. x, (Num.vAt 9 λ x. x, tt)))) 13 List.[] (Call.sub-id 𝓤 H A W (G115 at .slots)) (
-                (
-                  Scalar.reads-sc 𝓤 H A W
-                      (Row.sInt Syntax.w32),
-                  Path'.refl,
-                ),
+                (Scalar.reads-sc 𝓤 H A W (Row.sInt Syntax.w32), Path'.refl),
                 (
                   (Scalar.reads-sc 𝓤 H A W (Row.sInt Syntax.w32), Path'.refl),
-                  (
-                    (Scalar.reads-sc 𝓤 H A W (Row.sInt Syntax.w64), Path'.refl),
-                    (
-                      (
-                        Scalar.reads-sc 𝓤 H A W
-                            (Row.sInt Syntax.w32),
-                        Path'.refl,
-                      ),
-                      tt,
-                    ),
-                  ),
+                  ((Scalar.reads-sc 𝓤 H A W (Row.sInt Syntax.w64), Path'.refl), ((Scalar.reads-sc 𝓤 H A W (Row.sInt Syntax.w32), Path'.refl), tt)),
                 ),
-              ) (Reads'.room-gone 𝓤 H A Syntax.tyBool) tt Path'.refl) (d83 at)
+              ) (Reads'.room-gone 𝓤 H A Syntax.tyBool) tt Path'.refl) (d83
+              at)
 
           d85 : (at : Nat.ℕ → Nat.ℕ) → Typed.Typed 𝓤 H A 𝓣 E (G114 at) b41 (Δ0 at) at85
           d85 = λ at. Typed.g-pre 𝓤 H A W 𝓣 E (G114 at) (G115 at) b41 (Δ0 at) (λ Ψ. Ψ) at84 (Lifetime.g-forget 𝓤 H A W E (G114 at) 6 Row.dead Path'.refl) (d84 at)
@@ -6766,51 +3355,39 @@ module _ (claims· : Claims) where
 
           d94 : (at : Nat.ℕ → Nat.ℕ) → Typed.Typed 𝓤 H A 𝓣 E (G105 at) b42 (Δ0 at) at94
           d94 = λ at. Typed.s-seq 𝓤 H A W 𝓣 E (G105 at) (G106 at) b34 b41 (Δ0 at) (Typed.both s102) at93 (Plain.t-call-plain-by 𝓤 H A W 𝓣 2 ps·2 r·2 (claims· .4) (claims· .5)
-              "bits::BitPumpMsb::bit_position" (known .2) E (λ pos β. β) (G105 at) (
-                record {
-                  pos = 22;
-                  ty = Syntax.tyRef Syntax.erased Syntax.imm (Held.behind Syntax.erased);
-                  βs = List._∷_ 11 (List._∷_ 1
-                      List.[]);
-                  ref = λ x. x;
-                },
-                tt,
-              ) 10 (List._∷_ 11 (List._∷_ 1 List.[])) (Call.sub-id 𝓤 H A W (G105 at .slots)) (
-                ShrRefTo.spares-sref-at 𝓤 H A W 2 (λ κc. Held.type (Syntax.named 1) (κc .1
-                    .0)) Held.Value (λ κc v. v) (List._∷_ 11 (List._∷_ 1 List.[])) (Syntax.tyRef Syntax.erased Syntax.imm (Held.behind Syntax.erased)) 11,
-                AtSlots.reads-sref-at 𝓤 H A W 2 (λ κc. Held.type
-                    (Syntax.named 1) (κc .1 .0)) Held.Value (λ κc v. v) (List._∷_ 11 (List._∷_ 1 List.[])) (Syntax.tyRef Syntax.erased Syntax.imm (Held.behind Syntax.erased)) 11,
+              "bits::BitPumpMsb::bit_position" (known .2) E (λ pos β. β) (G105 at)
+              (record { pos = 22; ty = Syntax.tyRef Syntax.erased Syntax.imm (Held.behind Syntax.erased); βs = List._∷_ 11 (List._∷_ 1 List.[]); ref = λ x. x }, tt) 10 (List._∷_ 11 (List._∷_ 1 List.[]))
+              (Call.sub-id 𝓤 H A W (G105 at .slots)) (
+                ShrRefTo.spares-sref-at 𝓤 H A W 2 (λ κc. Held.type (Syntax.named 1) (κc .1 .0)) Held.Value (λ κc v. v) (List._∷_ 11 (List._∷_ 1 List.[])) (Syntax.tyRef Syntax.erased Syntax.imm (Held.behind
+                    Syntax.erased)) 11,
+                AtSlots.reads-sref-at 𝓤 H A W 2 (λ κc. Held.type (Syntax.named 1) (κc .1 .0)) Held.Value (λ κc v. v) (List._∷_ 11 (List._∷_ 1 List.[])) (Syntax.tyRef Syntax.erased
+                    Syntax.imm (Held.behind Syntax.erased)) 11,
                 Path'.refl,
                 Path'.refl,
                 tt,
-              )
-              (Reads'.room-gone 𝓤 H A (Syntax.tyStruct (List._∷_ 98 (List._∷_ 105 (List._∷_ 116 (List._∷_ 115 (List._∷_ 58 (List._∷_ 58 (List._∷_ 66 (List._∷_ 105 (List._∷_ 116 (List._∷_ 80 (List._∷_ 111
-              (List._∷_ 115 (List._∷_ 105 (List._∷_ 116 (List._∷_ 105 (List._∷_ 111 (List._∷_ 110 List.[]))))))))))))))))) (Syntax.tcons (Syntax.tyInt Syntax.w64) Syntax.tnil))) (tt, (tt, tt))
-              (Shorter.told-bounds 𝓤 H A W 2 (G105 at .slots) (List._∷_ 11 (List._∷_ 1 List.[])) (Kinds.osR r·2) (Way.told-and 𝓤 H A W (G105 at .slots) (Shorter.Below 1 11) (λ ρ. Unit) (MeetSlot.told-part
-              𝓤 H A W (G105 at .slots) 1 11 0 (MeetSlot.level 1 (κs .1 .0) (qs .1 .0) (List._∷_ Bool'.false List.[])) (List._∷_ (MeetSlot.carve 6 (at 2)) List.[]) (Call.pin-level 𝓤 H A W 1 (G105 at
-              .slots) (κs .1 .0) (qs .1 .0) (List._∷_ Bool'.false List.[]) Path'.refl) (Call.pin-lease 𝓤 H A W 11 (G105 at .slots) (List._++_ (κs .1 .0) (List._∷_ (at 2) List.[]))
-              (TreeShare.PosShare·right (qs .1 .0)) Path'.refl)) (Own.told-none 𝓤 H A (G105 at .slots)))) Path'.refl λ κs′ x v i. Result.res-typed 𝓤 H A W 2 κs′ (Value.rVal record {
-                ty = Declared'.row
-                    BitPosition.the-type;
+              ) (Reads'.room-gone 𝓤 H A y0) (tt, (tt, tt)) (Shorter.told-bounds 𝓤 H A W 2 (G105 at .slots) (List._∷_ 11 (List._∷_ 1
+              List.[])) (Kinds.osR r·2) (Way.told-and 𝓤 H A W (G105 at .slots) (Shorter.Below 1 11) (λ ρ. Unit) (MeetSlot.told-part 𝓤 H A W (G105 at .slots) 1 11 0 (MeetSlot.level 1 (κs .1 .0) (qs .1 .0)
+              (List._∷_ Bool'.false List.[])) (List._∷_ (MeetSlot.carve 6 (at 2)) List.[]) (Call.pin-level 𝓤 H A W 1 (G105 at .slots) (κs .1 .0) (qs .1 .0) (List._∷_ Bool'.false List.[]) Path'.refl)
+              (Call.pin-lease 𝓤 H A W 11 (G105 at .slots) (List._++_ (κs .1 .0) (List._∷_ (at 2) List.[])) (TreeShare.PosShare·right (qs .1 .0)) Path'.refl)) (Own.told-none 𝓤 H A (G105 at .slots))))
+              Path'.refl λ κs′ x v i. Result.res-typed 𝓤 H A W 2 κs′ (Value.rVal record {
+                ty = Declared'.row BitPosition.the-type;
                 one = Path'.refl;
                 val = Laws'5.val BitPosition.the-type Laws.the-laws;
                 tells = Laws'5.tells BitPosition.the-type Laws.the-laws;
-                still = Laws'5.still
-                    BitPosition.the-type Laws.the-copy Exit.yes;
+                still =
+                    Laws'5.still BitPosition.the-type Laws.the-copy Exit.yes;
                 row = Rows.whole (Declared'.row BitPosition.the-type);
                 rd = λ x. x;
                 mk = λ x. x;
               } λ M 𝓤 H A W. record {
-                copies = Laws'5.copy
-                    BitPosition.the-type Laws.the-copy 𝓤 H A W;
+                copies = Laws'5.copy BitPosition.the-type Laws.the-copy 𝓤 H A W;
                 lawful = Laws'5.lawful BitPosition.the-type Laws.the-laws 𝓤 H A W;
-                makes = Laws'5.makes BitPosition.the-type Laws.the-plain 𝓤 H A;
-                in-mem =
-                    Local.mem-whole 𝓤 H A W (Declared'.row BitPosition.the-type);
+                makes = Laws'5.makes BitPosition.the-type Laws.the-plain
+                    𝓤 H A;
+                in-mem = Local.mem-whole 𝓤 H A W (Declared'.row BitPosition.the-type);
                 of-mem = Local.whole-mem 𝓤 H A W (Declared'.row BitPosition.the-type);
-              }) x v i (List._∷_ 11 (List._∷_ 1 List.[]))
-              (Syntax.tyStruct (List._∷_ 98 (List._∷_ 105 (List._∷_ 116 (List._∷_ 115 (List._∷_ 58 (List._∷_ 58 (List._∷_ 66 (List._∷_ 105 (List._∷_ 116 (List._∷_ 80 (List._∷_ 111 (List._∷_ 115 (List._∷_
-              105 (List._∷_ 116 (List._∷_ 105 (List._∷_ 111 (List._∷_ 110 List.[]))))))))))))))))) (Syntax.tcons (Syntax.tyInt Syntax.w64) Syntax.tnil)) Path'.refl) (d93 at)
+              }) x v i (List._∷_ 11 (List._∷_ 1
+              List.[])) y0 Path'.refl) (d93 at)
 
           d95 : (at : Nat.ℕ → Nat.ℕ) → Typed.Typed 𝓤 H A 𝓣 E (G104 at) b42 (Δ0 at) at95
           d95 = λ at. Typed.g-pre 𝓤 H A W 𝓣 E (G104 at) (G105 at) b42 (Δ0 at) (Typed.pass T104 T105 s101) at94 (AtSlots.g-as-by 𝓤 H A W E (λ ρ. Path'._≡_ (Row.lft ρ 1) (κs .1 .0)) (G104 at) 22
@@ -6828,46 +3405,8 @@ module _ (claims· : Claims) where
 
           d97 : (at : Nat.ℕ → Nat.ℕ) → Typed.Typed 𝓤 H A 𝓣 E (G102 at) b42 (Δ0 at) at97
           d97 = λ at. Typed.g-pre 𝓤 H A W 𝓣 E (G102 at) (G103 at) b42 (Δ0 at) (λ Ψ. Ψ) at96 (MeetSlot.g-meet 𝓤 H A W E (G102 at) 11 (TreeShare.PosShare·right (qs .1 .0)) (MeetSlot.level 1 (κs .1 .0)
-              (qs .1 .0) List.[]) (List._∷_ (MeetSlot.carve 6 (at 2)) List.[]) ((Path'.refl, Path'.refl), (Path'.refl, tt)) (
-                tt,
-                (
-                  (tt, tt),
-                  (
-                    tt,
-                    (
-                      tt,
-                      (
-                        tt,
-                        (
-                          tt,
-                          (
-                            tt,
-                            (
-                              tt,
-                              (
-                                tt,
-                                (
-                                  tt,
-                                  (
-                                    tt,
-                                    (
-                                      tt,
-                                      (
-                                        tt,
-                                        (tt, (tt, (tt, (tt, (tt, (tt, (tt, (tt, (tt, (tt, (tt, tt))))))))))),
-                                      ),
-                                    ),
-                                  ),
-                                ),
-                              ),
-                            ),
-                          ),
-                        ),
-                      ),
-                    ),
-                  ),
-                ),
-              )) (d96 at)
+              (qs .1 .0) List.[]) (List._∷_ (MeetSlot.carve 6 (at 2)) List.[]) ((Path'.refl, Path'.refl), (Path'.refl, tt))
+              (tt, ((tt, tt), (tt, (tt, (tt, (tt, (tt, (tt, (tt, (tt, (tt, (tt, (tt, (tt, (tt, (tt, (tt, (tt, (tt, (tt, (tt, (tt, (tt, (tt, tt))))))))))))))))))))))))) (d96 at)
 
           d98 : (at : Nat.ℕ → Nat.ℕ) → Typed.Typed 𝓤 H A 𝓣 E (G101 at) b42 (Δ0 at) at98
           d98 = λ at. LifetimeAt.t-pin-one 𝓤 H A W E 𝓣 (G101 at) 6 Row.alive b42 (Δ0 at) at97 Path'.refl tt λ a. d97 (LifetimeAt.bound at 2 a)
@@ -6882,43 +3421,8 @@ module _ (claims· : Claims) where
               (Syntax.tyRef Syntax.erased Syntax.imm (Held.behind Syntax.erased))) Path'.refl tt Path'.refl Path'.refl λ b o. tt) (d99 at)
 
           d101 : (at : Nat.ℕ → Nat.ℕ) → Typed.Typed 𝓤 H A 𝓣 E (G98 at) b43 (Δ0 at) at101
-          d101 = λ at. Typed.g-pre 𝓤 H A W 𝓣 E (G98 at) (G99 at) b43 (Δ0 at) (λ Ψ. Ψ) at100 (Lifetime.g-begin 𝓤 H A W E (G98 at) 6 (
-            tt,
-            (
-              tt,
-              (
-                tt,
-                (
-                  tt,
-                  (
-                    tt,
-                    (
-                      tt,
-                      (
-                        tt,
-                        (
-                          tt,
-                          (
-                            tt,
-                            (
-                              tt,
-                              (
-                                tt,
-                                (
-                                  tt,
-                                  (tt, (tt, (tt, (tt, (tt, (tt, (tt, (tt, (tt, (tt, (tt, (tt, tt)))))))))))),
-                                ),
-                              ),
-                            ),
-                          ),
-                        ),
-                      ),
-                    ),
-                  ),
-                ),
-              ),
-            ),
-          )) (d100 at)
+          d101 = λ at. Typed.g-pre 𝓤 H A W 𝓣 E (G98 at) (G99 at) b43 (Δ0 at) (λ Ψ. Ψ) at100 (Lifetime.g-begin 𝓤 H A W E (G98 at) 6
+              (tt, (tt, (tt, (tt, (tt, (tt, (tt, (tt, (tt, (tt, (tt, (tt, (tt, (tt, (tt, (tt, (tt, (tt, (tt, (tt, (tt, (tt, (tt, (tt, tt))))))))))))))))))))))))) (d100 at)
 
           d102 : (at : Nat.ℕ → Nat.ℕ) → Typed.Typed 𝓤 H A 𝓣 E (G97 at) b43 (Δ0 at) at102
           d102 = λ at. Typed.g-pre 𝓤 H A W 𝓣 E (G97 at) (G98 at) b43 (Δ0 at) (Typed.pass T97 T98 s94) at101 (Scalar.g-room 𝓤 H A W E (G97 at) 20 (Syntax.tyInt Syntax.w32) (Scalar.room-sc 𝓤 H A W
@@ -6959,22 +3463,22 @@ module _ (claims· : Claims) where
 
           d111 : (at : Nat.ℕ → Nat.ℕ) → Typed.Typed 𝓤 H A 𝓣 E (G88 at) b45 (Δ0 at) at111
           d111 = λ at. Typed.s-seq 𝓤 H A W 𝓣 E (G88 at) (G89 at) b31 b44 (Δ0 at) (Typed.both s85) at110 (Plain.t-call-plain-by 𝓤 H A W 𝓣 2 ps·1 r·1 (claims· .2) (claims· .3) "bits::BitPumpMsb::get"
-              (known .1) E (λ pos β. β) (G88 at) (
-                record { pos = 21; ty = Syntax.tyRef Syntax.erased Syntax.mut (Held.behind Syntax.erased); βs = List._∷_ 10 (List._∷_ 1 List.[]); ref = λ x. x },
-                (Num.vAt 4 λ x. x, tt),
-              ) 20 (List._∷_ 10 (List._∷_ 1 List.[])) (Call.sub-id 𝓤 H A W (G88 at .slots)) (
-                Reads'.as-is 𝓤 H A (AtSlots.mrefAt 2 (λ κc. Held.type (Syntax.named 1) (κc .1 .0))
-                    Held.Value (λ κc v. v) (List._∷_ 10 (List._∷_ 1 List.[])) (Syntax.tyRef Syntax.erased Syntax.mut (Held.behind Syntax.erased)) 10),
-                AtSlots.reads-mref-at 𝓤 H A W 2 (λ κc. Held.type
-                    (Syntax.named 1) (κc .1 .0)) Held.Value (λ κc v. v) (List._∷_ 10 (List._∷_ 1 List.[])) (Syntax.tyRef Syntax.erased Syntax.mut (Held.behind Syntax.erased)) 10,
+              (known .1) E (λ pos β. β) (G88 at)
+              (record { pos = 21; ty = Syntax.tyRef Syntax.erased Syntax.mut (Held.behind Syntax.erased); βs = List._∷_ 10 (List._∷_ 1 List.[]); ref = λ x. x }, (Num.vAt 4 λ x. x, tt)) 20 (List._∷_ 10
+              (List._∷_ 1 List.[])) (Call.sub-id 𝓤 H A W (G88 at .slots)) (
+                Reads'.as-is 𝓤 H A (AtSlots.mrefAt 2 (λ κc. Held.type (Syntax.named 1) (κc .1 .0)) Held.Value (λ κc v. v) (List._∷_ 10 (List._∷_ 1 List.[])) (Syntax.tyRef Syntax.erased Syntax.mut
+                    (Held.behind Syntax.erased)) 10),
+                AtSlots.reads-mref-at 𝓤 H A W 2 (λ κc. Held.type (Syntax.named 1) (κc .1 .0)) Held.Value (λ κc v. v) (List._∷_ 10 (List._∷_ 1 List.[])) (Syntax.tyRef
+                    Syntax.erased Syntax.mut (Held.behind Syntax.erased)) 10,
                 Path'.refl,
                 Path'.refl,
                 ((Scalar.reads-sc 𝓤 H A W (Row.sInt Syntax.w32), Path'.refl), tt),
-              ) (Reads'.room-gone 𝓤 H A (Syntax.tyInt Syntax.w32)) (tt, (tt, tt)) (Shorter.told-bounds 𝓤 H A W 2 (G88 at .slots)
-              (List._∷_ 10 (List._∷_ 1 List.[])) (Kinds.osR r·1) (Way.told-and 𝓤 H A W (G88 at .slots) (Shorter.Below 1 10) (λ ρ. Unit) (MeetSlot.told-part 𝓤 H A W (G88 at .slots) 1 10 0 (MeetSlot.level 1
-              (κs .1 .0) (qs .1 .0) (List._∷_ Bool'.false List.[])) (List._∷_ (MeetSlot.carve 5 (at 1)) List.[]) (Call.pin-level 𝓤 H A W 1 (G88 at .slots) (κs .1 .0) (qs .1 .0) (List._∷_ Bool'.false
-              List.[]) Path'.refl) (Call.pin-lease 𝓤 H A W 10 (G88 at .slots) (List._++_ (κs .1 .0) (List._∷_ (at 1) List.[])) (TreeShare.PosShare·right (qs .1 .0)) Path'.refl)) (Own.told-none 𝓤 H A (G88
-              at .slots)))) Path'.refl λ κs′ x v i. Result.res-typed 𝓤 H A W 2 κs′ (Num.rNum Syntax.w32) x v i (List._∷_ 10 (List._∷_ 1 List.[])) (Syntax.tyInt Syntax.w32) Path'.refl) (d110 at)
+              ) (Reads'.room-gone 𝓤 H A (Syntax.tyInt
+              Syntax.w32)) (tt, (tt, tt)) (Shorter.told-bounds 𝓤 H A W 2 (G88 at .slots) (List._∷_ 10 (List._∷_ 1 List.[])) (Kinds.osR r·1) (Way.told-and 𝓤 H A W (G88 at .slots) (Shorter.Below 1 10) (λ ρ.
+              Unit) (MeetSlot.told-part 𝓤 H A W (G88 at .slots) 1 10 0 (MeetSlot.level 1 (κs .1 .0) (qs .1 .0) (List._∷_ Bool'.false List.[])) (List._∷_ (MeetSlot.carve 5 (at 1)) List.[]) (Call.pin-level
+              𝓤 H A W 1 (G88 at .slots) (κs .1 .0) (qs .1 .0) (List._∷_ Bool'.false List.[]) Path'.refl) (Call.pin-lease 𝓤 H A W 10 (G88 at .slots) (List._++_ (κs .1 .0) (List._∷_ (at 1) List.[]))
+              (TreeShare.PosShare·right (qs .1 .0)) Path'.refl)) (Own.told-none 𝓤 H A (G88 at .slots)))) Path'.refl λ κs′ x v i. Result.res-typed 𝓤 H A W 2 κs′ (Num.rNum Syntax.w32) x v i (List._∷_ 10
+              (List._∷_ 1 List.[])) (Syntax.tyInt Syntax.w32) Path'.refl) (d110 at)
 
           d112 : (at : Nat.ℕ → Nat.ℕ) → Typed.Typed 𝓤 H A 𝓣 E (G87 at) b45 (Δ0 at) at112
           d112 = λ at. Typed.g-pre 𝓤 H A W 𝓣 E (G87 at) (G88 at) b45 (Δ0 at) (Typed.pass T87 T88 s84) at111 (AtSlots.g-as-by 𝓤 H A W E (λ ρ. Path'._≡_ (Row.lft ρ 1) (κs .1 .0)) (G87 at) 21
@@ -6992,46 +3496,8 @@ module _ (claims· : Claims) where
 
           d114 : (at : Nat.ℕ → Nat.ℕ) → Typed.Typed 𝓤 H A 𝓣 E (G85 at) b45 (Δ0 at) at114
           d114 = λ at. Typed.g-pre 𝓤 H A W 𝓣 E (G85 at) (G86 at) b45 (Δ0 at) (λ Ψ. Ψ) at113 (MeetSlot.g-meet 𝓤 H A W E (G85 at) 10 (TreeShare.PosShare·right (qs .1 .0)) (MeetSlot.level 1 (κs .1 .0)
-              (qs .1 .0) List.[]) (List._∷_ (MeetSlot.carve 5 (at 1)) List.[]) ((Path'.refl, Path'.refl), (Path'.refl, tt)) (
-                tt,
-                (
-                  (tt, tt),
-                  (
-                    tt,
-                    (
-                      tt,
-                      (
-                        tt,
-                        (
-                          tt,
-                          (
-                            tt,
-                            (
-                              tt,
-                              (
-                                tt,
-                                (
-                                  tt,
-                                  (
-                                    tt,
-                                    (
-                                      tt,
-                                      (
-                                        tt,
-                                        (tt, (tt, (tt, (tt, (tt, (tt, (tt, (tt, (tt, (tt, (tt, tt))))))))))),
-                                      ),
-                                    ),
-                                  ),
-                                ),
-                              ),
-                            ),
-                          ),
-                        ),
-                      ),
-                    ),
-                  ),
-                ),
-              )) (d113 at)
+              (qs .1 .0) List.[]) (List._∷_ (MeetSlot.carve 5 (at 1)) List.[]) ((Path'.refl, Path'.refl), (Path'.refl, tt))
+              (tt, ((tt, tt), (tt, (tt, (tt, (tt, (tt, (tt, (tt, (tt, (tt, (tt, (tt, (tt, (tt, (tt, (tt, (tt, (tt, (tt, (tt, (tt, (tt, (tt, tt))))))))))))))))))))))))) (d113 at)
 
           d115 : (at : Nat.ℕ → Nat.ℕ) → Typed.Typed 𝓤 H A 𝓣 E (G84 at) b45 (Δ0 at) at115
           d115 = λ at. LifetimeAt.t-pin-one 𝓤 H A W E 𝓣 (G84 at) 5 Row.alive b45 (Δ0 at) at114 Path'.refl tt λ a. d114 (LifetimeAt.bound at 1 a)
@@ -7046,43 +3512,8 @@ module _ (claims· : Claims) where
               (Syntax.tyRef Syntax.erased Syntax.mut (Held.behind Syntax.erased))) Path'.refl tt Path'.refl Path'.refl λ b o. tt) (d116 at)
 
           d118 : (at : Nat.ℕ → Nat.ℕ) → Typed.Typed 𝓤 H A 𝓣 E (G30 at) b46 (Δ0 at) at118
-          d118 = λ at. Typed.g-pre 𝓤 H A W 𝓣 E (G30 at) (G82 at) b46 (Δ0 at) (λ Ψ. Ψ) at117 (Lifetime.g-begin 𝓤 H A W E (G30 at) 5 (
-            tt,
-            (
-              tt,
-              (
-                tt,
-                (
-                  tt,
-                  (
-                    tt,
-                    (
-                      tt,
-                      (
-                        tt,
-                        (
-                          tt,
-                          (
-                            tt,
-                            (
-                              tt,
-                              (
-                                tt,
-                                (
-                                  tt,
-                                  (tt, (tt, (tt, (tt, (tt, (tt, (tt, (tt, (tt, (tt, (tt, (tt, tt)))))))))))),
-                                ),
-                              ),
-                            ),
-                          ),
-                        ),
-                      ),
-                    ),
-                  ),
-                ),
-              ),
-            ),
-          )) (d117 at)
+          d118 = λ at. Typed.g-pre 𝓤 H A W 𝓣 E (G30 at) (G82 at) b46 (Δ0 at) (λ Ψ. Ψ) at117 (Lifetime.g-begin 𝓤 H A W E (G30 at) 5
+              (tt, (tt, (tt, (tt, (tt, (tt, (tt, (tt, (tt, (tt, (tt, (tt, (tt, (tt, (tt, (tt, (tt, (tt, (tt, (tt, (tt, (tt, (tt, (tt, tt))))))))))))))))))))))))) (d117 at)
 
           d119 : (at : Nat.ℕ → Nat.ℕ) → Typed.Typed 𝓤 H A 𝓣 E (G29 at) b47 (Δ0 at) at119
           d119 = λ at. Typed.t-seq 𝓤 H A W 𝓣 E (G29 at) (G30 at) b29 b46 (Δ0 at) at71 at118 (d71 at) (d118 at)
@@ -7106,48 +3537,44 @@ module _ (claims· : Claims) where
           d123 = λ at. Typed.s-seq 𝓤 H A W 𝓣 E (G8 at) (G9 at) b1 b50 (Δ0 at) (Typed.both s7) at122 (Plain.t-call-plain-by 𝓤 H A W 𝓣 2 ps·0 r·0 (claims· .0) (claims· .1) "bits::BitPumpMsb::zero_run"
               (known .0) E (λ pos β. β) (G8 at) (record { pos = 11; ty = Syntax.tyRef Syntax.erased Syntax.mut (Held.behind Syntax.erased); βs = List._∷_ 7 (List._∷_ 1 List.[]); ref = λ x. x }, tt) 5
               (List._∷_ 7 (List._∷_ 1 List.[])) (Call.sub-id 𝓤 H A W (G8 at .slots)) (
-                Reads'.as-is 𝓤 H A (AtSlots.mrefAt 2 (λ κc. Held.type (Syntax.named 1) (κc .1 .0)) Held.Value (λ κc v. v) (List._∷_ 7
-                    (List._∷_ 1 List.[])) (Syntax.tyRef Syntax.erased Syntax.mut (Held.behind Syntax.erased)) 7),
-                AtSlots.reads-mref-at 𝓤 H A W 2 (λ κc. Held.type (Syntax.named 1) (κc .1 .0)) Held.Value (λ κc
-                    v. v) (List._∷_ 7 (List._∷_ 1 List.[])) (Syntax.tyRef Syntax.erased Syntax.mut (Held.behind Syntax.erased)) 7,
+                Reads'.as-is 𝓤 H A (AtSlots.mrefAt 2 (λ κc. Held.type (Syntax.named 1) (κc .1 .0)) Held.Value (λ κc v. v) (List._∷_ 7 (List._∷_ 1 List.[])) (Syntax.tyRef Syntax.erased Syntax.mut
+                    (Held.behind Syntax.erased)) 7),
+                AtSlots.reads-mref-at 𝓤 H A W 2 (λ κc. Held.type (Syntax.named 1) (κc .1 .0)) Held.Value (λ κc v. v) (List._∷_ 7 (List._∷_ 1 List.[])) (Syntax.tyRef
+                    Syntax.erased Syntax.mut (Held.behind Syntax.erased)) 7,
                 Path'.refl,
                 Path'.refl,
                 tt,
-              ) (Reads'.room-gone 𝓤 H A (Syntax.tyEnum (List._∷_
-              98 (List._∷_ 105 (List._∷_ 116 (List._∷_ 115 (List._∷_ 58 (List._∷_ 58 (List._∷_ 90 (List._∷_ 101 (List._∷_ 114 (List._∷_ 111 (List._∷_ 82 (List._∷_ 117 (List._∷_ 110 List.[])))))))))))))
-              (Syntax.ttcons (Syntax.tcons (Syntax.tyInt Syntax.w64) Syntax.tnil) (Syntax.ttcons Syntax.tnil Syntax.ttnil)))) (tt, (tt, tt)) (Shorter.told-bounds 𝓤 H A W 2 (G8 at .slots) (List._∷_ 7
-              (List._∷_ 1 List.[])) (Kinds.osR r·0) (Way.told-and 𝓤 H A W (G8 at .slots) (Shorter.Below 1 7) (λ ρ. Unit) (MeetSlot.told-part 𝓤 H A W (G8 at .slots) 1 7 0 (MeetSlot.level 1 (κs .1 .0) (qs
-              .1 .0) (List._∷_ Bool'.false List.[])) (List._∷_ (MeetSlot.carve 2 (at 0)) List.[]) (Call.pin-level 𝓤 H A W 1 (G8 at .slots) (κs .1 .0) (qs .1 .0) (List._∷_ Bool'.false List.[]) Path'.refl)
-              (Call.pin-lease 𝓤 H A W 7 (G8 at .slots) (List._++_ (κs .1 .0) (List._∷_ (at 0) List.[])) (TreeShare.PosShare·right (qs .1 .0)) Path'.refl)) (Own.told-none 𝓤 H A (G8 at .slots)))) Path'.refl
-              λ κs′ x v i. Result.res-typed 𝓤 H A W 2 κs′ (Value.rVal record {
+              ) (Reads'.room-gone 𝓤 H A (Syntax.tyEnum (List._∷_ 98 (List._∷_ 105 (List._∷_ 116 (List._∷_ 115 (List._∷_
+              58 (List._∷_ 58 (List._∷_ 90 (List._∷_ 101 (List._∷_ 114 (List._∷_ 111 (List._∷_ 82 (List._∷_ 117 (List._∷_ 110 List.[]))))))))))))) (Syntax.ttcons (Syntax.tcons (Syntax.tyInt Syntax.w64)
+              Syntax.tnil) (Syntax.ttcons Syntax.tnil Syntax.ttnil)))) (tt, (tt, tt)) (Shorter.told-bounds 𝓤 H A W 2 (G8 at .slots) (List._∷_ 7 (List._∷_ 1 List.[])) (Kinds.osR r·0) (Way.told-and 𝓤 H A W
+              (G8 at .slots) (Shorter.Below 1 7) (λ ρ. Unit) (MeetSlot.told-part 𝓤 H A W (G8 at .slots) 1 7 0 (MeetSlot.level 1 (κs .1 .0) (qs .1 .0) (List._∷_ Bool'.false List.[])) (List._∷_
+              (MeetSlot.carve 2 (at 0)) List.[]) (Call.pin-level 𝓤 H A W 1 (G8 at .slots) (κs .1 .0) (qs .1 .0) (List._∷_ Bool'.false List.[]) Path'.refl) (Call.pin-lease 𝓤 H A W 7 (G8 at .slots)
+              (List._++_ (κs .1 .0) (List._∷_ (at 0) List.[])) (TreeShare.PosShare·right (qs .1 .0)) Path'.refl)) (Own.told-none 𝓤 H A (G8 at .slots)))) Path'.refl λ κs′ x v i. Result.res-typed 𝓤 H A W 2
+              κs′ (Value.rVal record {
                 ty = Declared.row ZeroRun.the-type;
                 one = Path'.refl;
                 val = Laws'4.val ZeroRun.the-type Laws'.the-laws;
-                tells = Laws'4.tells
-                    ZeroRun.the-type Laws'.the-laws;
-                still = Laws'4.still ZeroRun.the-type Laws'.the-copy Exit.yes;
+                tells = Laws'4.tells ZeroRun.the-type Laws'.the-laws;
+                still = Laws'4.still
+                    ZeroRun.the-type Laws'.the-copy Exit.yes;
                 row = Rows.whole (Declared.row ZeroRun.the-type);
                 rd = λ x. x;
                 mk = λ x. x;
-              } λ M 𝓤 H A W.
-              record {
+              } λ M 𝓤 H A W. record {
                 copies = Laws'4.copy ZeroRun.the-type Laws'.the-copy 𝓤 H A W;
                 lawful = Laws'4.lawful ZeroRun.the-type Laws'.the-laws 𝓤 H A W tt;
-                makes = Laws'4.makes ZeroRun.the-type
-                    Laws'.the-plain 𝓤 H A;
+                makes = Laws'4.makes ZeroRun.the-type Laws'.the-plain 𝓤 H
+                    A;
                 in-mem = Local.mem-whole 𝓤 H A W (Declared.row ZeroRun.the-type);
                 of-mem = Local.whole-mem 𝓤 H A W (Declared.row ZeroRun.the-type);
-              }) x v i (List._∷_ 7 (List._∷_ 1
-              List.[])) (Syntax.tyEnum (List._∷_ 98 (List._∷_ 105 (List._∷_ 116 (List._∷_ 115 (List._∷_ 58 (List._∷_ 58 (List._∷_ 90 (List._∷_ 101 (List._∷_ 114 (List._∷_ 111 (List._∷_ 82 (List._∷_ 117
-              (List._∷_ 110 List.[]))))))))))))) (Syntax.ttcons (Syntax.tcons (Syntax.tyInt Syntax.w64) Syntax.tnil) (Syntax.ttcons Syntax.tnil Syntax.ttnil))) Path'.refl) (d122 at)
+              }) x v i (List._∷_ 7 (List._∷_ 1 List.[]))
+              (Syntax.tyEnum (List._∷_ 98 (List._∷_ 105 (List._∷_ 116 (List._∷_ 115 (List._∷_ 58 (List._∷_ 58 (List._∷_ 90 (List._∷_ 101 (List._∷_ 114 (List._∷_ 111 (List._∷_ 82 (List._∷_ 117 (List._∷_
+              110 List.[]))))))))))))) (Syntax.ttcons (Syntax.tcons (Syntax.tyInt Syntax.w64) Syntax.tnil) (Syntax.ttcons Syntax.tnil Syntax.ttnil))) Path'.refl) (d122 at)
 
           d124 : (at : Nat.ℕ → Nat.ℕ) → Typed.Typed 𝓤 H A 𝓣 E (G7 at) b51 (Δ0 at) at124
           d124 = λ at. Typed.g-pre 𝓤 H A W 𝓣 E (G7 at) (G8 at) b51 (Δ0 at) (Typed.pass T7 T8 s6) at123 (AtSlots.g-as-by 𝓤 H A W E (λ ρ. Path'._≡_ (Row.lft ρ 1) (κs .1 .0)) (G7 at) 11 (AtSlots.mrefAt 2
-              (λ κc. Held.type (Syntax.named 1) (κc .1 .0)) Held.Value (λ κc v. v) (List._∷_ 7 (List._∷_ 1 List.[])) (Syntax.tyRef Syntax.erased Syntax.mut (Held.behind Syntax.erased)) 7) (λ x. record {
-                ptr = x .ptr;
-                name = x .name;
-                now = x .now;
-              }) (Call.pin-level 𝓤 H A W 1 (G7 at .slots) (κs .1 .0) (qs .1 .0) (List._∷_ Bool'.false List.[]) Path'.refl) (AtSlots.to-slots 𝓤 H A 2 Fml.Lft (λ
+              (λ κc. Held.type (Syntax.named 1) (κc .1 .0)) Held.Value (λ κc v. v) (List._∷_ 7 (List._∷_ 1 List.[])) (Syntax.tyRef Syntax.erased Syntax.mut (Held.behind Syntax.erased)) 7) (λ x. record
+              { ptr = x .ptr; name = x .name; now = x .now }) (Call.pin-level 𝓤 H A W 1 (G7 at .slots) (κs .1 .0) (qs .1 .0) (List._∷_ Bool'.false List.[]) Path'.refl) (AtSlots.to-slots 𝓤 H A 2 Fml.Lft (λ
               κc. κc .1 .0) (λ c. Held.type (Syntax.named 1) c) Held.Value (λ c v. v) (List._∷_ 7 (List._∷_ 1 List.[])) (κs .1 .0) (Syntax.tyRef Syntax.erased Syntax.mut (Held.behind Syntax.erased)) 7 (λ
               v. v) λ v. Path'.refl)) (d123 at)
 
@@ -7160,49 +3587,8 @@ module _ (claims· : Claims) where
 
           d126 : (at : Nat.ℕ → Nat.ℕ) → Typed.Typed 𝓤 H A 𝓣 E (G5 at) b51 (Δ0 at) at126
           d126 = λ at. Typed.g-pre 𝓤 H A W 𝓣 E (G5 at) (G6 at) b51 (Δ0 at) (λ Ψ. Ψ) at125 (MeetSlot.g-meet 𝓤 H A W E (G5 at) 7 (TreeShare.PosShare·right (qs .1 .0)) (MeetSlot.level 1 (κs .1 .0) (qs .1
-              .0) List.[]) (List._∷_ (MeetSlot.carve 2 (at 0)) List.[]) ((Path'.refl, Path'.refl), (Path'.refl, tt)) (
-                tt,
-                (
-                  (tt, tt),
-                  (
-                    tt,
-                    (
-                      tt,
-                      (
-                        tt,
-                        (
-                          tt,
-                          (
-                            tt,
-                            (
-                              tt,
-                              (
-                                tt,
-                                (
-                                  tt,
-                                  (
-                                    tt,
-                                    (
-                                      tt,
-                                      (
-                                        tt,
-                                        (
-                                          tt,
-                                          (tt, (tt, (tt, (tt, (tt, (tt, (tt, (tt, (tt, (tt, tt)))))))))),
-                                        ),
-                                      ),
-                                    ),
-                                  ),
-                                ),
-                              ),
-                            ),
-                          ),
-                        ),
-                      ),
-                    ),
-                  ),
-                ),
-              )) (d125 at)
+              .0) List.[]) (List._∷_ (MeetSlot.carve 2 (at 0)) List.[]) ((Path'.refl, Path'.refl), (Path'.refl, tt))
+              (tt, ((tt, tt), (tt, (tt, (tt, (tt, (tt, (tt, (tt, (tt, (tt, (tt, (tt, (tt, (tt, (tt, (tt, (tt, (tt, (tt, (tt, (tt, (tt, (tt, tt))))))))))))))))))))))))) (d125 at)
 
           d127 : (at : Nat.ℕ → Nat.ℕ) → Typed.Typed 𝓤 H A 𝓣 E (G4 at) b51 (Δ0 at) at127
           d127 = λ at. LifetimeAt.t-pin-one 𝓤 H A W E 𝓣 (G4 at) 2 Row.alive b51 (Δ0 at) at126 Path'.refl tt λ a. d126 (LifetimeAt.bound at 0 a)
@@ -7217,43 +3603,8 @@ module _ (claims· : Claims) where
               (Syntax.tyRef Syntax.erased Syntax.mut (Held.behind Syntax.erased))) Path'.refl tt Path'.refl Path'.refl λ b o. tt) (d128 at)
 
           d130 : (at : Nat.ℕ → Nat.ℕ) → Typed.Typed 𝓤 H A 𝓣 E (G0 at) b52 (Δ0 at) at130
-          d130 = λ at. Typed.g-pre 𝓤 H A W 𝓣 E (G0 at) (G2 at) b52 (Δ0 at) (λ Ψ. Ψ) at129 (Lifetime.g-begin 𝓤 H A W E (G0 at) 2 (
-            tt,
-            (
-              tt,
-              (
-                tt,
-                (
-                  tt,
-                  (
-                    tt,
-                    (
-                      tt,
-                      (
-                        tt,
-                        (
-                          tt,
-                          (
-                            tt,
-                            (
-                              tt,
-                              (
-                                tt,
-                                (
-                                  tt,
-                                  (tt, (tt, (tt, (tt, (tt, (tt, (tt, (tt, (tt, (tt, (tt, (tt, tt)))))))))))),
-                                ),
-                              ),
-                            ),
-                          ),
-                        ),
-                      ),
-                    ),
-                  ),
-                ),
-              ),
-            ),
-          )) (d129 at)
+          d130 = λ at. Typed.g-pre 𝓤 H A W 𝓣 E (G0 at) (G2 at) b52 (Δ0 at) (λ Ψ. Ψ) at129 (Lifetime.g-begin 𝓤 H A W E (G0 at) 2
+              (tt, (tt, (tt, (tt, (tt, (tt, (tt, (tt, (tt, (tt, (tt, (tt, (tt, (tt, (tt, (tt, (tt, (tt, (tt, (tt, (tt, (tt, (tt, (tt, tt))))))))))))))))))))))))) (d129 at)
 
           pub typed : Typed.Typed 𝓤 H A 𝓣 E (Function.Γin 2 ps r xs m κs qs) b52 (Function.Δret 2 ps r xs m κs qs) Φ
           typed = d130 λ k. 0
@@ -7281,8 +3632,8 @@ module _ (claims· : Claims) where
       W0 = λ κs args. (
         λ u. ⊥,
         tt,
-        λ u. Enter.Fixs κs 1 ps xs (dens κs args) (u .1) × Post· κs (dens κs args) (Function.resV r κs (u .0)) (Clauses.atExit (Kinds.endedOf 2 ps r) κs (dens κs args)
-            (Enter.lastsP κs 1 ps xs (dens κs args) (u .1))),
+        λ u. Enter.Fixs κs 1 ps xs (dens κs args) (u .1) × Post· κs (dens κs args) (Function.resV r κs (u .0)) (Clauses.atExit (Kinds.endedOf 2 ps r) κs (dens κs args) (Enter.lastsP κs 1 ps
+            xs (dens κs args) (u .1))),
       )
 
       pub record Start : Type 0 where
@@ -7317,31 +3668,18 @@ module _ (claims· : Claims) where
 
       module _ (before· : After-zero-run-arg) where
         abbrev pub After-zero-run·own : Type 0
-        After-zero-run·own = Called.Called ps·0 r·0 (claims· .1) T8 (
-          record {
-            pos = 11;
-            ty = Syntax.tyRef Syntax.erased Syntax.mut (Held.behind Syntax.erased);
-            βs = List._∷_ 7 (List._∷_ 1 List.[]);
-            ref = λ x. x;
-          },
-          tt,
-        ) (m3 (before· .before) (before· .zero-run-arg .given))
+        After-zero-run·own = Called.Called ps·0 r·0 (claims· .1) T8
+            (record { pos = 11; ty = Syntax.tyRef Syntax.erased Syntax.mut (Held.behind Syntax.erased); βs = List._∷_ 7 (List._∷_ 1 List.[]); ref = λ x. x }, tt) (m3 (before· .before) (before·
+            .zero-run-arg .given))
 
       pub record After-zero-run : Type 0 where
         pub before : After-zero-run-arg
         pub zero-run : After-zero-run·own before
 
       abbrev pub After-zero-run·gave : (c : After-zero-run) → s7 .gives (m3 (c .before .before) (c .before .zero-run-arg .given))
-      After-zero-run·gave = λ c. Called.given ps·0 r·0 (claims· .1) T8 (
-        record {
-          pos = 11;
-          ty = Syntax.tyRef Syntax.erased Syntax.mut (Held.behind Syntax.erased);
-          βs = List._∷_ 7 (List._∷_ 1
-              List.[]);
-          ref = λ x. x;
-        },
-        tt,
-      ) (m3 (c .before .before) (c .before .zero-run-arg .given)) (c .zero-run)
+      After-zero-run·gave = λ c. Called.given ps·0 r·0 (claims· .1) T8
+          (record { pos = 11; ty = Syntax.tyRef Syntax.erased Syntax.mut (Held.behind Syntax.erased); βs = List._∷_ 7 (List._∷_ 1 List.[]); ref = λ x. x }, tt) (m3 (c .before .before) (c .before
+          .zero-run-arg .given)) (c .zero-run)
 
       abbrev W1 : (before : After-zero-run-arg) → (given : s7 .gives (m3 (before .before) (before .zero-run-arg .given))) → Typed.Want O1
       W1 = λ before given. Typed.wantNext T10 O0 (at121 (W0 (before .before .κs) (before .before .args))) (W0 (before .before .κs) (before .before .args))
@@ -7480,31 +3818,18 @@ module _ (claims· : Claims) where
 
       module _ (before· : After-get-arg) where
         abbrev pub After-get·own : Type 0
-        After-get·own = Called.Called ps·1 r·1 (claims· .3) T39 (
-          record {
-            pos = 14;
-            ty = Syntax.tyRef Syntax.erased Syntax.mut (Held.behind Syntax.erased);
-            βs = List._∷_ 8 (List._∷_ 1 List.[]);
-            ref =
-                λ x. x;
-          },
-          (Num.vAt 2 λ x. x, tt),
-        ) (m22 (before· .before) (before· .get-arg .given))
+        After-get·own = Called.Called ps·1 r·1 (claims· .3) T39
+            (record { pos = 14; ty = Syntax.tyRef Syntax.erased Syntax.mut (Held.behind Syntax.erased); βs = List._∷_ 8 (List._∷_ 1 List.[]); ref = λ x. x }, (Num.vAt 2 λ x. x, tt)) (m22 (before·
+            .before) (before· .get-arg .given))
 
       pub record After-get : Type 0 where
         pub before : After-get-arg
         pub get : After-get·own before
 
       abbrev pub After-get·gave : (c : After-get) → s36 .gives (m22 (c .before .before) (c .before .get-arg .given))
-      After-get·gave = λ c. Called.given ps·1 r·1 (claims· .3) T39 (
-        record {
-          pos = 14;
-          ty = Syntax.tyRef Syntax.erased Syntax.mut (Held.behind Syntax.erased);
-          βs = List._∷_ 8 (List._∷_ 1 List.[]);
-          ref = λ x. x;
-        },
-        (Num.vAt 2 λ x. x, tt),
-      ) (m22 (c .before .before) (c .before .get-arg .given)) (c .get)
+      After-get·gave = λ c. Called.given ps·1 r·1 (claims· .3) T39
+          (record { pos = 14; ty = Syntax.tyRef Syntax.erased Syntax.mut (Held.behind Syntax.erased); βs = List._∷_ 8 (List._∷_ 1 List.[]); ref = λ x. x }, (Num.vAt 2 λ x. x, tt)) (m22 (c .before
+          .before) (c .before .get-arg .given)) (c .get)
 
       abbrev pub m24 : (before : After-get-arg) → (given : s36 .gives (m22 (before .before) (before .get-arg .given))) → Typed.Mo T46
       m24 = λ before given. s42 .next (m23 before given)
@@ -7534,32 +3859,18 @@ module _ (claims· : Claims) where
 
       module _ (before· : After-bit-position-arg) where
         abbrev pub After-bit-position·own : Type 0
-        After-bit-position·own = Called.Called ps·2 r·2 (claims· .5) T54 (
-          record {
-            pos = 15;
-            ty = Syntax.tyRef Syntax.erased Syntax.imm (Held.behind Syntax.erased);
-            βs = List._∷_ 9 (List._∷_ 1
-                List.[]);
-            ref = λ x. x;
-          },
-          tt,
-        ) (m27 (before· .before) (before· .bit-position-arg .given))
+        After-bit-position·own = Called.Called ps·2 r·2 (claims· .5) T54
+            (record { pos = 15; ty = Syntax.tyRef Syntax.erased Syntax.imm (Held.behind Syntax.erased); βs = List._∷_ 9 (List._∷_ 1 List.[]); ref = λ x. x }, tt) (m27 (before· .before) (before·
+            .bit-position-arg .given))
 
       pub record After-bit-position : Type 0 where
         pub before : After-bit-position-arg
         pub bit-position : After-bit-position·own before
 
       abbrev pub After-bit-position·gave : (c : After-bit-position) → s51 .gives (m27 (c .before .before) (c .before .bit-position-arg .given))
-      After-bit-position·gave = λ c. Called.given ps·2 r·2 (claims· .5) T54 (
-        record {
-          pos = 15;
-          ty = Syntax.tyRef Syntax.erased Syntax.imm (Held.behind Syntax.erased);
-          βs = List._∷_ 9 (List._∷_ 1
-              List.[]);
-          ref = λ x. x;
-        },
-        tt,
-      ) (m27 (c .before .before) (c .before .bit-position-arg .given)) (c .bit-position)
+      After-bit-position·gave = λ c. Called.given ps·2 r·2 (claims· .5) T54
+          (record { pos = 15; ty = Syntax.tyRef Syntax.erased Syntax.imm (Held.behind Syntax.erased); βs = List._∷_ 9 (List._∷_ 1 List.[]); ref = λ x. x }, tt) (m27 (c .before .before) (c .before
+          .bit-position-arg .given)) (c .bit-position)
 
       abbrev pub m29 : (before : After-bit-position-arg) → (given : s51 .gives (m27 (before .before) (before .bit-position-arg .given))) → Typed.Mo T56
       m29 = λ before given. s52 (m28 before given)
@@ -7671,31 +3982,18 @@ module _ (claims· : Claims) where
 
       module _ (before· : After-get-arg2) where
         abbrev pub After-get2·own : Type 0
-        After-get2·own = Called.Called ps·1 r·1 (claims· .3) T88 (
-          record {
-            pos = 21;
-            ty = Syntax.tyRef Syntax.erased Syntax.mut (Held.behind Syntax.erased);
-            βs = List._∷_ 10 (List._∷_ 1 List.[]);
-            ref
-                = λ x. x;
-          },
-          (Num.vAt 4 λ x. x, tt),
-        ) (m51 (before· .before) (before· .get-arg2 .given))
+        After-get2·own = Called.Called ps·1 r·1 (claims· .3) T88
+            (record { pos = 21; ty = Syntax.tyRef Syntax.erased Syntax.mut (Held.behind Syntax.erased); βs = List._∷_ 10 (List._∷_ 1 List.[]); ref = λ x. x }, (Num.vAt 4 λ x. x, tt)) (m51 (before·
+            .before) (before· .get-arg2 .given))
 
       pub record After-get2 : Type 0 where
         pub before : After-get-arg2
         pub get2 : After-get2·own before
 
       abbrev pub After-get2·gave : (c : After-get2) → s85 .gives (m51 (c .before .before) (c .before .get-arg2 .given))
-      After-get2·gave = λ c. Called.given ps·1 r·1 (claims· .3) T88 (
-        record {
-          pos = 21;
-          ty = Syntax.tyRef Syntax.erased Syntax.mut (Held.behind Syntax.erased);
-          βs = List._∷_ 10 (List._∷_ 1 List.[]);
-          ref = λ x. x;
-        },
-        (Num.vAt 4 λ x. x, tt),
-      ) (m51 (c .before .before) (c .before .get-arg2 .given)) (c .get2)
+      After-get2·gave = λ c. Called.given ps·1 r·1 (claims· .3) T88
+          (record { pos = 21; ty = Syntax.tyRef Syntax.erased Syntax.mut (Held.behind Syntax.erased); βs = List._∷_ 10 (List._∷_ 1 List.[]); ref = λ x. x }, (Num.vAt 4 λ x. x, tt)) (m51 (c .before
+          .before) (c .before .get-arg2 .given)) (c .get2)
 
       abbrev pub m53 : (before : After-get-arg2) → (given : s85 .gives (m51 (before .before) (before .get-arg2 .given))) → Typed.Mo T95
       m53 = λ before given. s91 .next (m52 before given)
@@ -7734,32 +4032,18 @@ module _ (claims· : Claims) where
 
       module _ (before· : After-bit-position-arg2) where
         abbrev pub After-bit-position2·own : Type 0
-        After-bit-position2·own = Called.Called ps·2 r·2 (claims· .5) T105 (
-          record {
-            pos = 22;
-            ty = Syntax.tyRef Syntax.erased Syntax.imm (Held.behind Syntax.erased);
-            βs = List._∷_ 11 (List._∷_ 1
-                List.[]);
-            ref = λ x. x;
-          },
-          tt,
-        ) (m58 (before· .before) (before· .bit-position-arg2 .given))
+        After-bit-position2·own = Called.Called ps·2 r·2 (claims· .5) T105
+            (record { pos = 22; ty = Syntax.tyRef Syntax.erased Syntax.imm (Held.behind Syntax.erased); βs = List._∷_ 11 (List._∷_ 1 List.[]); ref = λ x. x }, tt) (m58 (before· .before) (before·
+            .bit-position-arg2 .given))
 
       pub record After-bit-position2 : Type 0 where
         pub before : After-bit-position-arg2
         pub bit-position2 : After-bit-position2·own before
 
       abbrev pub After-bit-position2·gave : (c : After-bit-position2) → s102 .gives (m58 (c .before .before) (c .before .bit-position-arg2 .given))
-      After-bit-position2·gave = λ c. Called.given ps·2 r·2 (claims· .5) T105 (
-        record {
-          pos = 22;
-          ty = Syntax.tyRef Syntax.erased Syntax.imm (Held.behind Syntax.erased);
-          βs = List._∷_ 11 (List._∷_ 1
-              List.[]);
-          ref = λ x. x;
-        },
-        tt,
-      ) (m58 (c .before .before) (c .before .bit-position-arg2 .given)) (c .bit-position2)
+      After-bit-position2·gave = λ c. Called.given ps·2 r·2 (claims· .5) T105
+          (record { pos = 22; ty = Syntax.tyRef Syntax.erased Syntax.imm (Held.behind Syntax.erased); βs = List._∷_ 11 (List._∷_ 1 List.[]); ref = λ x. x }, tt) (m58 (c .before .before) (c .before
+          .bit-position-arg2 .given)) (c .bit-position2)
 
       abbrev pub m60 : (before : After-bit-position-arg2) → (given : s102 .gives (m58 (before .before) (before .bit-position-arg2 .given))) → Typed.Mo T107
       m60 = λ before given. s103 (m59 before given)
@@ -7844,7 +4128,8 @@ module _ (claims· : Claims) where
           is-needed-requires record { before = c .before; bit-position2 = c .bit-position2 },
           λ g. lay10 record {
             before = record { before = c .before; bit-position2 = c .bit-position2 };
-            is-needed = Called.called ps·3 r·3 (claims· .7) T114 (Num.vAt 2 λ x. x, (Num.vAt 3 λ x. x, (Num.vAt 6 λ x. x, (Num.vAt 9 λ x. x, tt)))) (m62 (c .before) (After-bit-position2·gave c)) g;
+            is-needed = Called.called ps·3 r·3 (claims· .7) T114
+                (Num.vAt 2 λ x. x, (Num.vAt 3 λ x. x, (Num.vAt 6 λ x. x, (Num.vAt 9 λ x. x, tt)))) (m62 (c .before) (After-bit-position2·gave c)) g;
           },
         )
 
@@ -7855,22 +4140,12 @@ module _ (claims· : Claims) where
           (
             add-value record { before = c .before; get2 = c .get2 },
             λ g. (
-              bit-position-requires-2 record {
-                before = record { before = c .before; get2 = c .get2 };
-                bit-position-arg2 = record { given = g };
-              },
+              bit-position-requires-2 record { before = record { before = c .before; get2 = c .get2 }; bit-position-arg2 = record { given = g } },
               λ g'. lay9 record {
                 before = record { before = record { before = c .before; get2 = c .get2 }; bit-position-arg2 = record { given = g } };
-                bit-position2 = Called.called ps·2 r·2 (claims· .5) T105 (
-                  record {
-                    pos = 22;
-                    ty = Syntax.tyRef Syntax.erased Syntax.imm (Held.behind Syntax.erased);
-                    βs = List._∷_ 11 (List._∷_ 1 List.[]);
-                    ref
-                        = λ x. x;
-                  },
-                  tt,
-                ) (m58 record { before = c .before; get2 = c .get2 } g) g';
+                bit-position2 = Called.called ps·2 r·2 (claims· .5) T105
+                    (record { pos = 22; ty = Syntax.tyRef Syntax.erased Syntax.imm (Held.behind Syntax.erased); βs = List._∷_ 11 (List._∷_ 1 List.[]); ref = λ x. x }, tt) (m58 record
+                    { before = c .before; get2 = c .get2 } g) g';
               },
             ),
           ),
@@ -7880,23 +4155,10 @@ module _ (claims· : Claims) where
         lay7 = λ c. λ g. (
           get-requires-2 record { before = record { before = c .before; if1 = c .if1 }; get-arg2 = record { given = g } },
           λ g'. lay8 record {
-            before = record {
-              before = record {
-                before = c .before;
-                if1 = c .if1;
-              };
-              get-arg2 = record { given = g };
-            };
-            get2 = Called.called ps·1 r·1 (claims· .3) T88 (
-              record {
-                pos = 21;
-                ty = Syntax.tyRef Syntax.erased Syntax.mut
-                    (Held.behind Syntax.erased);
-                βs = List._∷_ 10 (List._∷_ 1 List.[]);
-                ref = λ x. x;
-              },
-              (Num.vAt 4 λ x. x, tt),
-            ) (m51 record { before = c .before; if1 = c .if1 } g) g';
+            before = record { before = record { before = c .before; if1 = c .if1 }; get-arg2 = record { given = g } };
+            get2 = Called.called ps·1 r·1 (claims· .3) T88
+                (record { pos = 21; ty = Syntax.tyRef Syntax.erased Syntax.mut (Held.behind Syntax.erased); βs = List._∷_ 10 (List._∷_ 1 List.[]); ref = λ x. x }, (Num.vAt 4 λ x. x, tt)) (m51 record
+                { before = c .before; if1 = c .if1 } g) g';
           },
         )
 
@@ -7909,14 +4171,7 @@ module _ (claims· : Claims) where
           cast-t16 record { before = c .before; bit-position = c .bit-position },
           (
             shl-t17 record { before = c .before; bit-position = c .bit-position },
-            (
-              add-t18 record {
-                before = c
-                    .before;
-                bit-position = c .bit-position;
-              },
-              ((Path'.refl, (tt, (tt, (tt, tt)))), returns-2 record { before = c .before; bit-position = c .bit-position }),
-            ),
+            (add-t18 record { before = c .before; bit-position = c .bit-position }, ((Path'.refl, (tt, (tt, (tt, tt)))), returns-2 record { before = c .before; bit-position = c .bit-position })),
           ),
         )
 
@@ -7926,18 +4181,10 @@ module _ (claims· : Claims) where
           λ g. (
             bit-position-requires record { before = record { before = c .before; get = c .get }; bit-position-arg = record { given = g } },
             λ g'. lay5 record {
-              before =
-                  record { before = record { before = c .before; get = c .get }; bit-position-arg = record { given = g } };
-              bit-position = Called.called ps·2 r·2 (claims· .5) T54 (
-                record {
-                  pos = 15;
-                  ty =
-                      Syntax.tyRef Syntax.erased Syntax.imm (Held.behind Syntax.erased);
-                  βs = List._∷_ 9 (List._∷_ 1 List.[]);
-                  ref = λ x. x;
-                },
-                tt,
-              ) (m27 record { before = c .before; get = c .get } g) g';
+              before = record { before = record { before = c .before; get = c .get }; bit-position-arg = record { given = g } };
+              bit-position = Called.called ps·2 r·2 (claims· .5) T54
+                  (record { pos = 15; ty = Syntax.tyRef Syntax.erased Syntax.imm (Held.behind Syntax.erased); βs = List._∷_ 9 (List._∷_ 1 List.[]); ref = λ x. x }, tt) (m27 record
+                  { before = c .before; get = c .get } g) g';
             },
           ),
         )
@@ -7946,24 +4193,10 @@ module _ (claims· : Claims) where
         lay3 = λ c. λ g. (
           get-requires record { before = record { before = c .before; if1 = c .if1 }; get-arg = record { given = g } },
           λ g'. lay4 record {
-            before = record {
-              before = record {
-                before
-                    = c .before;
-                if1 = c .if1;
-              };
-              get-arg = record { given = g };
-            };
-            get = Called.called ps·1 r·1 (claims· .3) T39 (
-              record {
-                pos = 14;
-                ty = Syntax.tyRef Syntax.erased Syntax.mut (Held.behind
-                    Syntax.erased);
-                βs = List._∷_ 8 (List._∷_ 1 List.[]);
-                ref = λ x. x;
-              },
-              (Num.vAt 2 λ x. x, tt),
-            ) (m22 record { before = c .before; if1 = c .if1 } g) g';
+            before = record { before = record { before = c .before; if1 = c .if1 }; get-arg = record { given = g } };
+            get = Called.called ps·1 r·1 (claims· .3) T39
+                (record { pos = 14; ty = Syntax.tyRef Syntax.erased Syntax.mut (Held.behind Syntax.erased); βs = List._∷_ 8 (List._∷_ 1 List.[]); ref = λ x. x }, (Num.vAt 2 λ x. x, tt)) (m22 record
+                { before = c .before; if1 = c .if1 } g) g';
           },
         )
 
@@ -7974,22 +4207,14 @@ module _ (claims· : Claims) where
             tt,
             (
               λ taken. lay3 record {
-                before = record {
-                  before = c .before;
-                  known-told = c
-                      .known-told;
-                };
-                if1 = record {
-                  taken = Tests.ltb-true (Row.get 6 (T28 .locals) (m16 (c .before) (c .known-told .given))) (Row.get 12 (T28 .locals) (m16 (c .before) (c .known-told .given)))
-                      taken;
-                };
+                before = record { before = c .before; known-told = c .known-told };
+                if1 = record
+                    { taken = Tests.ltb-true (Row.get 6 (T28 .locals) (m16 (c .before) (c .known-told .given))) (Row.get 12 (T28 .locals) (m16 (c .before) (c .known-told .given))) taken };
               },
               λ left. lay6 record {
                 before = record { before = c .before; known-told = c .known-told };
-                if1 = record {
-                  left = Tests.ltb-false (Row.get 6 (T28 .locals) (m16 (c .before) (c
-                      .known-told .given))) (Row.get 12 (T28 .locals) (m16 (c .before) (c .known-told .given))) left;
-                };
+                if1 = record
+                    { left = Tests.ltb-false (Row.get 6 (T28 .locals) (m16 (c .before) (c .known-told .given))) (Row.get 12 (T28 .locals) (m16 (c .before) (c .known-told .given))) left };
               },
             ),
           ),
@@ -8002,9 +4227,10 @@ module _ (claims· : Claims) where
             λ k. (
               enum-known-run record { before = record { before = c .before; zero-run = c .zero-run }; match = record { keys1 = k } },
               λ g. λ g'. lay2 record {
-                before =
-                    record { before = record { before = record { before = c .before; zero-run = c .zero-run }; match = record { keys1 = k } }; run = record { given = g } };
-                known-told = record { given = g' };
+                before = record { before = record { before = record { before = c .before; zero-run = c .zero-run }; match = record { keys1 = k } }; run = record { given = g } };
+                known-told = record {
+                  given = g';
+                };
               },
             ),
             (
@@ -8012,14 +4238,12 @@ module _ (claims· : Claims) where
                 enum-told record { before = record { before = c .before; zero-run = c .zero-run }; match = record { keys2 = k } },
                 λ g. (
                   (Path'.refl, (tt, (tt, (tt, tt)))),
-                  returns record {
-                    before = record { before = record { before = c .before; zero-run = c .zero-run }; match = record { keys2 = k } };
-                    enum-told = record { given = g };
-                  },
+                  returns record
+                      { before = record { before = record { before = c .before; zero-run = c .zero-run }; match = record { keys2 = k } }; enum-told = record { given = g } },
                 ),
               ),
-              Match.each-below 2 (λ j. (Unit {0}
-                  × (Run.OneOf (List._∷_ 0 List.[]) j → ⊥)) × (Run.OneOf (List._∷_ 1 List.[]) j → ⊥) → ⊥) (λ n. n .1 Path'.refl, (λ n. n .0 .1 Path'.refl, tt)) (Declared.tagOf ZeroRun.the-type (Row.get 5 (T16
+              Match.each-below 2 (λ j. (Unit {0} ×
+                  (Run.OneOf (List._∷_ 0 List.[]) j → ⊥)) × (Run.OneOf (List._∷_ 1 List.[]) j → ⊥) → ⊥) (λ n. n .1 Path'.refl, (λ n. n .0 .1 Path'.refl, tt)) (Declared.tagOf ZeroRun.the-type (Row.get 5 (T16
                   .locals) (m5 (c .before) (After-zero-run·gave c)))) (Match.tag-small ZeroRun.the-type (Row.get 5 (T16 .locals) (m5 (c .before) (After-zero-run·gave c)))),
             ),
           ),
@@ -8030,16 +4254,8 @@ module _ (claims· : Claims) where
           zero-run-requires record { before = c; zero-run-arg = record { given = g } },
           λ g'. lay1 record {
             before = record { before = c; zero-run-arg = record { given = g } };
-            zero-run = Called.called ps·0 r·0 (claims· .1) T8 (
-              record {
-                pos = 11;
-                ty = Syntax.tyRef Syntax.erased Syntax.mut (Held.behind Syntax.erased);
-                βs = List._∷_ 7 (List._∷_ 1 List.[]);
-                ref = λ x.
-                    x;
-              },
-              tt,
-            ) (m3 c g) g';
+            zero-run = Called.called ps·0 r·0 (claims· .1) T8
+                (record { pos = 11; ty = Syntax.tyRef Syntax.erased Syntax.mut (Held.behind Syntax.erased); βs = List._∷_ 7 (List._∷_ 1 List.[]); ref = λ x. x }, tt) (m3 c g) g';
           },
         )
 
@@ -8050,14 +4266,8 @@ module _ (claims· : Claims) where
             κs = κs;
             args = record { p = a .0; k = a .1 .0; limit = a .1 .1 .0; raw = a .1 .1 .1 .0 };
             good = good;
-            fits = record {
-              k = record {
-                fits = good .1 .0
-                    .1;
-              };
-              limit = record { fits = good .1 .1 .0 .1 };
-              raw = record { fits = good .1 .1 .1 .0 .1 };
-            };
+            fits = record
+                { k = record { fits = good .1 .0 .1 }; limit = record { fits = good .1 .1 .0 .1 }; raw = record { fits = good .1 .1 .1 .0 .1 } };
             pre = pre;
           }
 

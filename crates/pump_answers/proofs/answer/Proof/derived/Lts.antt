@@ -173,438 +173,178 @@ body = b21
 abbrev pub Claims : Type 1
 Claims = Kinds.In 2 ps·0 × Kinds.Out 2 ps·0 r·0 × Kinds.In 2 ps·1 × Kinds.Out 2 ps·1 r·1 × Kinds.In 2 ps·2 × Kinds.Out 2 ps·2 r·2 × Kinds.In 2 ps·3 × Kinds.Out 2 ps·3 r·3
 
+abbrev pub e0 : Row.Entry
+e0 = (0, Rows.any-gone (Syntax.tyInt Syntax.w32))
+
+abbrev pub e1 : Row.Entry
+e1 = (0, Rows.sc-here (Row.sInt Syntax.w32))
+
+abbrev pub e2 : Row.Entry
+e2 = (1, Reshare.mref-owedS (Held.type (Syntax.named 1) List.[]) (Syntax.tyRef (Syntax.named 0) Syntax.mut (Held.behind (Syntax.named 1))) 0 2 Row.off)
+
+abbrev pub e3 : Row.Entry
+e3 = (1, Rows.mref (Held.type (Syntax.named 1) List.[]) (Syntax.tyRef (Syntax.named 0) Syntax.mut (Held.behind (Syntax.named 1))) 0)
+
+abbrev pub e4 : Row.Entry
+e4 = (1, Rows.mref-owed (Held.type (Syntax.named 1) List.[]) (Syntax.tyRef (Syntax.named 0) Syntax.mut (Held.behind (Syntax.named 1))) 0 3 Row.off)
+
+abbrev pub e5 : Row.Entry
+e5 = (1, Rows.mref-owed (Held.type (Syntax.named 1) List.[]) (Syntax.tyRef (Syntax.named 0) Syntax.mut (Held.behind (Syntax.named 1))) 0 4 Row.off)
+
+abbrev pub e6 : Row.Entry
+e6 = (1, Rows.mref-owed (Held.type (Syntax.named 1) List.[]) (Syntax.tyRef (Syntax.named 0) Syntax.mut (Held.behind (Syntax.named 1))) 0 5 Row.off)
+
+abbrev pub e7 : Row.Entry
+e7 = (10, AtSlots.mleftAt 2 (λ κc. Held.type (Syntax.named 1) (κc .1 .0)) Held.Value (λ κc v. v) (List._∷_ 9 (List._∷_ 1 List.[])) (Syntax.tyRef Syntax.erased Syntax.mut (Held.behind Syntax.erased)))
+
+abbrev pub e8 : Row.Entry
+e8 = (10, AtSlots.mrefAt 2 (λ κc. Held.type (Syntax.named 1) (κc .1 .0)) Held.Value (λ κc v. v) (List._∷_ 9 (List._∷_ 1 List.[])) (Syntax.tyRef Syntax.erased Syntax.mut (Held.behind Syntax.erased)) 9)
+
+abbrev pub e9 : Row.Entry
+e9 = (10, Rows.any-gone (Syntax.tyRef Syntax.erased Syntax.mut (Held.behind Syntax.erased)))
+
+abbrev pub e10 : Row.Entry
+e10 = (2, Rows.any-gone (Syntax.tyInt Syntax.w32))
+
+abbrev pub e11 : Row.Entry
+e11 = (2, Rows.sc-here (Row.sInt Syntax.w32))
+
+abbrev pub e12 : Row.Entry
+e12 = (3, Rows.any-gone (Syntax.tyInt Syntax.w32))
+
+abbrev pub e13 : Row.Entry
+e13 = (3, Rows.sc-here (Row.sInt Syntax.w32))
+
+abbrev pub e14 : Row.Entry
+e14 = (4, Rows.any-gone (Syntax.tyInt Syntax.w32))
+
+abbrev pub e15 : Row.Entry
+e15 = (4, Rows.sc-here (Row.sInt Syntax.w32))
+
+abbrev pub e16 : Row.Entry
+e16 = (5, AtSlots.srefAt 2 (λ κc. Held.type (Syntax.named 1) (κc .1 .0)) Held.Value (λ κc v. v) (List._∷_ 6 (List._∷_ 1 List.[])) (Syntax.tyRef Syntax.erased Syntax.imm (Held.behind Syntax.erased)) 6)
+
+abbrev pub e17 : Row.Entry
+e17 = (5, Rows.any-gone (Syntax.tyRef Syntax.erased Syntax.imm (Held.behind Syntax.erased)))
+
+abbrev pub e18 : Row.Entry
+e18 = (5, Rows.sref (Held.type (Syntax.named 1) List.[]) (Syntax.tyRef Syntax.erased Syntax.imm (Held.behind Syntax.erased)) 6)
+
+abbrev pub e19 : Row.Entry
+e19 = (6, AtSlots.mleftAt 2 (λ κc. Held.type (Syntax.named 1) (κc .1 .0)) Held.Value (λ κc v. v) (List._∷_ 7 (List._∷_ 1 List.[])) (Syntax.tyRef Syntax.erased Syntax.mut (Held.behind Syntax.erased)))
+
+abbrev pub e20 : Row.Entry
+e20 = (6, AtSlots.mrefAt 2 (λ κc. Held.type (Syntax.named 1) (κc .1 .0)) Held.Value (λ κc v. v) (List._∷_ 7 (List._∷_ 1 List.[])) (Syntax.tyRef Syntax.erased Syntax.mut (Held.behind Syntax.erased)) 7)
+
+abbrev pub e21 : Row.Entry
+e21 = (6, Rows.any-gone (Syntax.tyRef Syntax.erased Syntax.mut (Held.behind Syntax.erased)))
+
+abbrev pub e22 : Row.Entry
+e22 = (7, Rows.any-gone Syntax.tyUnit)
+
+abbrev pub e23 : Row.Entry
+e23 = (7, Rows.sc-here Row.sUnit)
+
+abbrev pub e24 : Row.Entry
+e24 = (8, AtSlots.mleftAt 2 (λ κc. Held.type (Syntax.named 1) (κc .1 .0)) Held.Value (λ κc v. v) (List._∷_ 8 (List._∷_ 1 List.[])) (Syntax.tyRef Syntax.erased Syntax.mut (Held.behind Syntax.erased)))
+
+abbrev pub e25 : Row.Entry
+e25 = (8, AtSlots.mrefAt 2 (λ κc. Held.type (Syntax.named 1) (κc .1 .0)) Held.Value (λ κc v. v) (List._∷_ 8 (List._∷_ 1 List.[])) (Syntax.tyRef Syntax.erased Syntax.mut (Held.behind Syntax.erased)) 8)
+
+abbrev pub e26 : Row.Entry
+e26 = (8, Rows.any-gone (Syntax.tyRef Syntax.erased Syntax.mut (Held.behind Syntax.erased)))
+
+abbrev pub e27 : Row.Entry
+e27 = (9, Rows.any-gone Syntax.tyUnit)
+
+abbrev pub e28 : Row.Entry
+e28 = (9, Rows.sc-here Row.sUnit)
+
 abbrev pub t0 : List.List Row.Entry
-t0 = List._∷_ (0, Rows.any-gone (Syntax.tyInt Syntax.w32)) (List._∷_ (1, Rows.mref (Held.type (Syntax.named 1) List.[]) (Syntax.tyRef (Syntax.named 0) Syntax.mut (Held.behind (Syntax.named 1))) 0)
-    (List._∷_ (2, Rows.sc-here (Row.sInt Syntax.w32)) (List._∷_ (3, Rows.sc-here (Row.sInt Syntax.w32)) (List._∷_ (4, Rows.any-gone (Syntax.tyInt Syntax.w32)) (List._∷_ (
-      5,
-      Rows.any-gone (Syntax.tyRef
-          Syntax.erased Syntax.imm (Held.behind Syntax.erased)),
-    ) (List._∷_ (6, Rows.any-gone (Syntax.tyRef Syntax.erased Syntax.mut (Held.behind Syntax.erased))) (List._∷_ (7, Rows.any-gone Syntax.tyUnit)
-    (List._∷_ (8, Rows.any-gone (Syntax.tyRef Syntax.erased Syntax.mut (Held.behind Syntax.erased))) (List._∷_ (9, Rows.any-gone Syntax.tyUnit) (List._∷_ (
-      10,
-      Rows.any-gone (Syntax.tyRef Syntax.erased
-          Syntax.mut (Held.behind Syntax.erased)),
-    ) List.[]))))))))))
+t0 = List._∷_ e0 (List._∷_ e3 (List._∷_ e11 (List._∷_ e13 (List._∷_ e14 (List._∷_ e17 (List._∷_ e21 (List._∷_ e22 (List._∷_ e26 (List._∷_ e27 (List._∷_ e9 List.[]))))))))))
 
 abbrev pub t1 : List.List Row.Entry
-t1 = List._∷_ (0, Rows.sc-here (Row.sInt Syntax.w32)) (List._∷_ (1, Rows.mref (Held.type (Syntax.named 1) List.[]) (Syntax.tyRef (Syntax.named 0) Syntax.mut (Held.behind (Syntax.named 1))) 0)
-    (List._∷_ (2, Rows.any-gone (Syntax.tyInt Syntax.w32)) (List._∷_ (3, Rows.any-gone (Syntax.tyInt Syntax.w32)) (List._∷_ (4, Rows.any-gone (Syntax.tyInt Syntax.w32)) (List._∷_ (
-      5,
-      Rows.any-gone
-          (Syntax.tyRef Syntax.erased Syntax.imm (Held.behind Syntax.erased)),
-    ) (List._∷_ (6, Rows.any-gone (Syntax.tyRef Syntax.erased Syntax.mut (Held.behind Syntax.erased))) (List._∷_ (
-      7,
-      Rows.any-gone
-          Syntax.tyUnit,
-    ) (List._∷_ (8, Rows.any-gone (Syntax.tyRef Syntax.erased Syntax.mut (Held.behind Syntax.erased))) (List._∷_ (9, Rows.any-gone Syntax.tyUnit) (List._∷_ (
-      10,
-      Rows.any-gone
-          (Syntax.tyRef Syntax.erased Syntax.mut (Held.behind Syntax.erased)),
-    ) List.[]))))))))))
+t1 = List._∷_ e1 (List._∷_ e3 (List._∷_ e10 (List._∷_ e12 (List._∷_ e14 (List._∷_ e17 (List._∷_ e21 (List._∷_ e22 (List._∷_ e26 (List._∷_ e27 (List._∷_ e9 List.[]))))))))))
 
 abbrev pub t2 : List.List Row.Entry
-t2 = List._∷_ (0, Rows.any-gone (Syntax.tyInt Syntax.w32)) (List._∷_ (1, Rows.mref (Held.type (Syntax.named 1) List.[]) (Syntax.tyRef (Syntax.named 0) Syntax.mut (Held.behind (Syntax.named 1))) 0)
-    (List._∷_ (2, Rows.sc-here (Row.sInt Syntax.w32)) (List._∷_ (3, Rows.sc-here (Row.sInt Syntax.w32)) (List._∷_ (4, Rows.sc-here (Row.sInt Syntax.w32)) (List._∷_ (
-      5,
-      Rows.any-gone (Syntax.tyRef
-          Syntax.erased Syntax.imm (Held.behind Syntax.erased)),
-    ) (List._∷_ (6, Rows.any-gone (Syntax.tyRef Syntax.erased Syntax.mut (Held.behind Syntax.erased))) (List._∷_ (7, Rows.any-gone Syntax.tyUnit)
-    (List._∷_ (8, Rows.any-gone (Syntax.tyRef Syntax.erased Syntax.mut (Held.behind Syntax.erased))) (List._∷_ (9, Rows.any-gone Syntax.tyUnit) (List._∷_ (
-      10,
-      Rows.any-gone (Syntax.tyRef Syntax.erased
-          Syntax.mut (Held.behind Syntax.erased)),
-    ) List.[]))))))))))
+t2 = List._∷_ e0 (List._∷_ e3 (List._∷_ e11 (List._∷_ e13 (List._∷_ e15 (List._∷_ e17 (List._∷_ e21 (List._∷_ e22 (List._∷_ e26 (List._∷_ e27 (List._∷_ e9 List.[]))))))))))
 
 abbrev pub t3 : List.List Row.Entry
-t3 = List._∷_ (0, Rows.any-gone (Syntax.tyInt Syntax.w32)) (List._∷_ (
-  1,
-  Reshare.mref-owedS (Held.type (Syntax.named 1) List.[]) (Syntax.tyRef (Syntax.named 0) Syntax.mut (Held.behind (Syntax.named
-      1))) 0 2 Row.off,
-) (List._∷_ (2, Rows.sc-here (Row.sInt Syntax.w32)) (List._∷_ (3, Rows.sc-here (Row.sInt Syntax.w32)) (List._∷_ (4, Rows.any-gone (Syntax.tyInt Syntax.w32)) (List._∷_ (
-  5,
-  Rows.sref (Held.type (Syntax.named 1) List.[]) (Syntax.tyRef Syntax.erased Syntax.imm (Held.behind Syntax.erased)) 2,
-) (List._∷_ (
-  6,
-  Rows.any-gone (Syntax.tyRef Syntax.erased Syntax.mut (Held.behind
-      Syntax.erased)),
-) (List._∷_ (7, Rows.any-gone Syntax.tyUnit) (List._∷_ (8, Rows.any-gone (Syntax.tyRef Syntax.erased Syntax.mut (Held.behind Syntax.erased))) (List._∷_ (
-  9,
-  Rows.any-gone
-      Syntax.tyUnit,
-) (List._∷_ (10, Rows.any-gone (Syntax.tyRef Syntax.erased Syntax.mut (Held.behind Syntax.erased))) List.[]))))))))))
+t3 = List._∷_ e0 (List._∷_ e2 (List._∷_ e11 (List._∷_ e13 (List._∷_ e14 (List._∷_
+    (5, Rows.sref (Held.type (Syntax.named 1) List.[]) (Syntax.tyRef Syntax.erased Syntax.imm (Held.behind Syntax.erased)) 2) (List._∷_ e21 (List._∷_ e22 (List._∷_ e26 (List._∷_ e27 (List._∷_ e9
+    List.[]))))))))))
 
 abbrev pub t4 : List.List Row.Entry
-t4 = List._∷_ (0, Rows.any-gone (Syntax.tyInt Syntax.w32)) (List._∷_ (
-  1,
-  Reshare.mref-owedS (Held.type (Syntax.named 1) List.[]) (Syntax.tyRef (Syntax.named 0) Syntax.mut (Held.behind (Syntax.named
-      1))) 0 2 Row.off,
-) (List._∷_ (2, Rows.sc-here (Row.sInt Syntax.w32)) (List._∷_ (3, Rows.sc-here (Row.sInt Syntax.w32)) (List._∷_ (4, Rows.any-gone (Syntax.tyInt Syntax.w32)) (List._∷_ (
-  5,
-  Rows.sref (Held.type (Syntax.named 1) List.[]) (Syntax.tyRef Syntax.erased Syntax.imm (Held.behind Syntax.erased)) 6,
-) (List._∷_ (
-  6,
-  Rows.any-gone (Syntax.tyRef Syntax.erased Syntax.mut (Held.behind
-      Syntax.erased)),
-) (List._∷_ (7, Rows.any-gone Syntax.tyUnit) (List._∷_ (8, Rows.any-gone (Syntax.tyRef Syntax.erased Syntax.mut (Held.behind Syntax.erased))) (List._∷_ (
-  9,
-  Rows.any-gone
-      Syntax.tyUnit,
-) (List._∷_ (10, Rows.any-gone (Syntax.tyRef Syntax.erased Syntax.mut (Held.behind Syntax.erased))) List.[]))))))))))
+t4 = List._∷_ e0 (List._∷_ e2 (List._∷_ e11 (List._∷_ e13 (List._∷_ e14 (List._∷_ e18 (List._∷_ e21 (List._∷_ e22 (List._∷_ e26 (List._∷_ e27 (List._∷_ e9 List.[]))))))))))
 
 abbrev pub t5 : List.List Row.Entry
-t5 = List._∷_ (0, Rows.any-gone (Syntax.tyInt Syntax.w32)) (List._∷_ (
-  1,
-  Reshare.mref-owedS (Held.type (Syntax.named 1) List.[]) (Syntax.tyRef (Syntax.named 0) Syntax.mut (Held.behind (Syntax.named
-      1))) 0 2 Row.off,
-) (List._∷_ (2, Rows.sc-here (Row.sInt Syntax.w32)) (List._∷_ (3, Rows.sc-here (Row.sInt Syntax.w32)) (List._∷_ (4, Rows.any-gone (Syntax.tyInt Syntax.w32)) (List._∷_ (
-  5,
-  AtSlots.srefAt 2 (λ κc. Held.type (Syntax.named 1) (κc .1 .0)) Held.Value (λ κc v. v) (List._∷_ 6 (List._∷_ 1 List.[])) (Syntax.tyRef Syntax.erased Syntax.imm (Held.behind Syntax.erased)) 6,
-)
-    (List._∷_ (6, Rows.any-gone (Syntax.tyRef Syntax.erased Syntax.mut (Held.behind Syntax.erased))) (List._∷_ (7, Rows.any-gone Syntax.tyUnit) (List._∷_ (
-      8,
-      Rows.any-gone (Syntax.tyRef Syntax.erased
-          Syntax.mut (Held.behind Syntax.erased)),
-    ) (List._∷_ (9, Rows.any-gone Syntax.tyUnit) (List._∷_ (10, Rows.any-gone (Syntax.tyRef Syntax.erased Syntax.mut (Held.behind Syntax.erased)))
-    List.[]))))))))))
+t5 = List._∷_ e0 (List._∷_ e2 (List._∷_ e11 (List._∷_ e13 (List._∷_ e14 (List._∷_ e16 (List._∷_ e21 (List._∷_ e22 (List._∷_ e26 (List._∷_ e27 (List._∷_ e9 List.[]))))))))))
 
 abbrev pub t6 : List.List Row.Entry
-t6 = List._∷_ (0, Rows.any-gone (Syntax.tyInt Syntax.w32)) (List._∷_ (
-  1,
-  Reshare.mref-owedS (Held.type (Syntax.named 1) List.[]) (Syntax.tyRef (Syntax.named 0) Syntax.mut (Held.behind (Syntax.named
-      1))) 0 2 Row.off,
-) (List._∷_ (2, Rows.sc-here (Row.sInt Syntax.w32)) (List._∷_ (3, Rows.sc-here (Row.sInt Syntax.w32)) (List._∷_ (4, Rows.sc-here (Row.sInt Syntax.w32)) (List._∷_ (
-  5,
-  AtSlots.srefAt 2 (λ κc. Held.type (Syntax.named 1) (κc .1 .0)) Held.Value (λ κc v. v) (List._∷_ 6 (List._∷_ 1 List.[])) (Syntax.tyRef Syntax.erased Syntax.imm (Held.behind Syntax.erased)) 6,
-)
-    (List._∷_ (6, Rows.any-gone (Syntax.tyRef Syntax.erased Syntax.mut (Held.behind Syntax.erased))) (List._∷_ (7, Rows.any-gone Syntax.tyUnit) (List._∷_ (
-      8,
-      Rows.any-gone (Syntax.tyRef Syntax.erased
-          Syntax.mut (Held.behind Syntax.erased)),
-    ) (List._∷_ (9, Rows.any-gone Syntax.tyUnit) (List._∷_ (10, Rows.any-gone (Syntax.tyRef Syntax.erased Syntax.mut (Held.behind Syntax.erased)))
-    List.[]))))))))))
+t6 = List._∷_ e0 (List._∷_ e2 (List._∷_ e11 (List._∷_ e13 (List._∷_ e15 (List._∷_ e16 (List._∷_ e21 (List._∷_ e22 (List._∷_ e26 (List._∷_ e27 (List._∷_ e9 List.[]))))))))))
 
 abbrev pub t7 : List.List Row.Entry
-t7 = List._∷_ (0, Rows.any-gone (Syntax.tyInt Syntax.w32)) (List._∷_ (
-  1,
-  Reshare.mref-owedS (Held.type (Syntax.named 1) List.[]) (Syntax.tyRef (Syntax.named 0) Syntax.mut (Held.behind (Syntax.named
-      1))) 0 2 Row.off,
-) (List._∷_ (2, Rows.sc-here (Row.sInt Syntax.w32)) (List._∷_ (3, Rows.sc-here (Row.sInt Syntax.w32)) (List._∷_ (4, Rows.sc-here (Row.sInt Syntax.w32)) (List._∷_ (
-  5,
-  Rows.sref
-      (Held.type (Syntax.named 1) List.[]) (Syntax.tyRef Syntax.erased Syntax.imm (Held.behind Syntax.erased)) 6,
-) (List._∷_ (
-  6,
-  Rows.any-gone (Syntax.tyRef Syntax.erased Syntax.mut (Held.behind
-      Syntax.erased)),
-) (List._∷_ (7, Rows.any-gone Syntax.tyUnit) (List._∷_ (8, Rows.any-gone (Syntax.tyRef Syntax.erased Syntax.mut (Held.behind Syntax.erased))) (List._∷_ (
-  9,
-  Rows.any-gone
-      Syntax.tyUnit,
-) (List._∷_ (10, Rows.any-gone (Syntax.tyRef Syntax.erased Syntax.mut (Held.behind Syntax.erased))) List.[]))))))))))
+t7 = List._∷_ e0 (List._∷_ e2 (List._∷_ e11 (List._∷_ e13 (List._∷_ e15 (List._∷_ e18 (List._∷_ e21 (List._∷_ e22 (List._∷_ e26 (List._∷_ e27 (List._∷_ e9 List.[]))))))))))
 
 abbrev pub t8 : List.List Row.Entry
-t8 = List._∷_ (0, Rows.any-gone (Syntax.tyInt Syntax.w32)) (List._∷_ (
-  1,
-  Reshare.mref-owedS (Held.type (Syntax.named 1) List.[]) (Syntax.tyRef (Syntax.named 0) Syntax.mut (Held.behind (Syntax.named
-      1))) 0 2 Row.off,
-) (List._∷_ (2, Rows.sc-here (Row.sInt Syntax.w32)) (List._∷_ (3, Rows.sc-here (Row.sInt Syntax.w32)) (List._∷_ (4, Rows.sc-here (Row.sInt Syntax.w32)) (List._∷_ (
-  5,
-  Rows.any-gone (Syntax.tyRef Syntax.erased Syntax.imm (Held.behind Syntax.erased)),
-) (List._∷_ (6, Rows.any-gone (Syntax.tyRef Syntax.erased Syntax.mut (Held.behind Syntax.erased))) (List._∷_ (
-  7,
-  Rows.any-gone Syntax.tyUnit,
-) (List._∷_ (8, Rows.any-gone (Syntax.tyRef Syntax.erased Syntax.mut (Held.behind Syntax.erased))) (List._∷_ (9, Rows.any-gone Syntax.tyUnit) (List._∷_ (
-  10,
-  Rows.any-gone (Syntax.tyRef Syntax.erased Syntax.mut (Held.behind Syntax.erased)),
-) List.[]))))))))))
+t8 = List._∷_ e0 (List._∷_ e2 (List._∷_ e11 (List._∷_ e13 (List._∷_ e15 (List._∷_ e17 (List._∷_ e21 (List._∷_ e22 (List._∷_ e26 (List._∷_ e27 (List._∷_ e9 List.[]))))))))))
 
 abbrev pub t9 : List.List Row.Entry
-t9 = List._∷_ (0, Rows.any-gone (Syntax.tyInt Syntax.w32)) (List._∷_ (
-  1,
-  Rows.mref-owed (Held.type (Syntax.named 1) List.[]) (Syntax.tyRef (Syntax.named 0) Syntax.mut (Held.behind (Syntax.named 1)))
-      0 3 Row.off,
-) (List._∷_ (2, Rows.sc-here (Row.sInt Syntax.w32)) (List._∷_ (3, Rows.sc-here (Row.sInt Syntax.w32)) (List._∷_ (4, Rows.any-gone (Syntax.tyInt Syntax.w32)) (List._∷_ (
-  5,
-  Rows.any-gone (Syntax.tyRef Syntax.erased Syntax.imm (Held.behind Syntax.erased)),
-) (List._∷_ (
-  6,
-  Rows.mref (Held.type (Syntax.named 1) List.[]) (Syntax.tyRef Syntax.erased Syntax.mut (Held.behind
-      Syntax.erased)) 3,
-) (List._∷_ (7, Rows.any-gone Syntax.tyUnit) (List._∷_ (8, Rows.any-gone (Syntax.tyRef Syntax.erased Syntax.mut (Held.behind Syntax.erased))) (List._∷_ (
-  9,
-  Rows.any-gone
-      Syntax.tyUnit,
-) (List._∷_ (10, Rows.any-gone (Syntax.tyRef Syntax.erased Syntax.mut (Held.behind Syntax.erased))) List.[]))))))))))
+t9 = List._∷_ e0 (List._∷_ e4 (List._∷_ e11 (List._∷_ e13 (List._∷_ e14 (List._∷_ e17 (List._∷_
+    (6, Rows.mref (Held.type (Syntax.named 1) List.[]) (Syntax.tyRef Syntax.erased Syntax.mut (Held.behind Syntax.erased)) 3) (List._∷_ e22 (List._∷_ e26 (List._∷_ e27 (List._∷_ e9 List.[]))))))))))
 
 abbrev pub t10 : List.List Row.Entry
-t10 = List._∷_ (0, Rows.any-gone (Syntax.tyInt Syntax.w32)) (List._∷_ (
-  1,
-  Rows.mref-owed (Held.type (Syntax.named 1) List.[]) (Syntax.tyRef (Syntax.named 0) Syntax.mut (Held.behind (Syntax.named 1)))
-      0 3 Row.off,
-) (List._∷_ (2, Rows.sc-here (Row.sInt Syntax.w32)) (List._∷_ (3, Rows.sc-here (Row.sInt Syntax.w32)) (List._∷_ (4, Rows.any-gone (Syntax.tyInt Syntax.w32)) (List._∷_ (
-  5,
-  Rows.any-gone (Syntax.tyRef Syntax.erased Syntax.imm (Held.behind Syntax.erased)),
-) (List._∷_ (
-  6,
-  Rows.mref (Held.type (Syntax.named 1) List.[]) (Syntax.tyRef Syntax.erased Syntax.mut (Held.behind
-      Syntax.erased)) 7,
-) (List._∷_ (7, Rows.any-gone Syntax.tyUnit) (List._∷_ (8, Rows.any-gone (Syntax.tyRef Syntax.erased Syntax.mut (Held.behind Syntax.erased))) (List._∷_ (
-  9,
-  Rows.any-gone
-      Syntax.tyUnit,
-) (List._∷_ (10, Rows.any-gone (Syntax.tyRef Syntax.erased Syntax.mut (Held.behind Syntax.erased))) List.[]))))))))))
+t10 = List._∷_ e0 (List._∷_ e4 (List._∷_ e11 (List._∷_ e13 (List._∷_ e14 (List._∷_ e17 (List._∷_
+    (6, Rows.mref (Held.type (Syntax.named 1) List.[]) (Syntax.tyRef Syntax.erased Syntax.mut (Held.behind Syntax.erased)) 7) (List._∷_ e22 (List._∷_ e26 (List._∷_ e27 (List._∷_ e9 List.[]))))))))))
 
 abbrev pub t11 : List.List Row.Entry
-t11 = List._∷_ (0, Rows.any-gone (Syntax.tyInt Syntax.w32)) (List._∷_ (
-  1,
-  Rows.mref-owed (Held.type (Syntax.named 1) List.[]) (Syntax.tyRef (Syntax.named 0) Syntax.mut (Held.behind (Syntax.named 1)))
-      0 3 Row.off,
-) (List._∷_ (2, Rows.sc-here (Row.sInt Syntax.w32)) (List._∷_ (3, Rows.sc-here (Row.sInt Syntax.w32)) (List._∷_ (4, Rows.any-gone (Syntax.tyInt Syntax.w32)) (List._∷_ (
-  5,
-  Rows.any-gone (Syntax.tyRef Syntax.erased Syntax.imm (Held.behind Syntax.erased)),
-) (List._∷_ (
-  6,
-  AtSlots.mrefAt 2 (λ κc. Held.type (Syntax.named 1) (κc .1 .0)) Held.Value (λ κc v. v) (List._∷_ 7
-      (List._∷_ 1 List.[])) (Syntax.tyRef Syntax.erased Syntax.mut (Held.behind Syntax.erased)) 7,
-) (List._∷_ (7, Rows.any-gone Syntax.tyUnit) (List._∷_ (
-  8,
-  Rows.any-gone (Syntax.tyRef Syntax.erased
-      Syntax.mut (Held.behind Syntax.erased)),
-) (List._∷_ (9, Rows.any-gone Syntax.tyUnit) (List._∷_ (10, Rows.any-gone (Syntax.tyRef Syntax.erased Syntax.mut (Held.behind Syntax.erased)))
-    List.[]))))))))))
+t11 = List._∷_ e0 (List._∷_ e4 (List._∷_ e11 (List._∷_ e13 (List._∷_ e14 (List._∷_ e17 (List._∷_ e20 (List._∷_ e22 (List._∷_ e26 (List._∷_ e27 (List._∷_ e9 List.[]))))))))))
 
 abbrev pub t12 : List.List Row.Entry
-t12 = List._∷_ (0, Rows.any-gone (Syntax.tyInt Syntax.w32)) (List._∷_ (
-  1,
-  Rows.mref-owed (Held.type (Syntax.named 1) List.[]) (Syntax.tyRef (Syntax.named 0) Syntax.mut (Held.behind (Syntax.named 1)))
-      0 3 Row.off,
-) (List._∷_ (2, Rows.sc-here (Row.sInt Syntax.w32)) (List._∷_ (3, Rows.sc-here (Row.sInt Syntax.w32)) (List._∷_ (4, Rows.sc-here (Row.sInt Syntax.w32)) (List._∷_ (
-  5,
-  Rows.any-gone
-      (Syntax.tyRef Syntax.erased Syntax.imm (Held.behind Syntax.erased)),
-) (List._∷_ (
-  6,
-  AtSlots.mleftAt 2 (λ κc. Held.type (Syntax.named 1) (κc .1 .0)) Held.Value (λ κc v. v) (List._∷_ 7 (List._∷_ 1
-      List.[])) (Syntax.tyRef Syntax.erased Syntax.mut (Held.behind Syntax.erased)),
-) (List._∷_ (7, Rows.any-gone Syntax.tyUnit) (List._∷_ (
-  8,
-  Rows.any-gone (Syntax.tyRef Syntax.erased Syntax.mut
-      (Held.behind Syntax.erased)),
-) (List._∷_ (9, Rows.any-gone Syntax.tyUnit) (List._∷_ (10, Rows.any-gone (Syntax.tyRef Syntax.erased Syntax.mut (Held.behind Syntax.erased))) List.[]))))))))))
+t12 = List._∷_ e0 (List._∷_ e4 (List._∷_ e11 (List._∷_ e13 (List._∷_ e15 (List._∷_ e17 (List._∷_ e19 (List._∷_ e22 (List._∷_ e26 (List._∷_ e27 (List._∷_ e9 List.[]))))))))))
 
 abbrev pub t13 : List.List Row.Entry
-t13 = List._∷_ (0, Rows.any-gone (Syntax.tyInt Syntax.w32)) (List._∷_ (
-  1,
-  Rows.mref-owed (Held.type (Syntax.named 1) List.[]) (Syntax.tyRef (Syntax.named 0) Syntax.mut (Held.behind (Syntax.named 1)))
-      0 4 Row.off,
-) (List._∷_ (2, Rows.sc-here (Row.sInt Syntax.w32)) (List._∷_ (3, Rows.sc-here (Row.sInt Syntax.w32)) (List._∷_ (4, Rows.any-gone (Syntax.tyInt Syntax.w32)) (List._∷_ (
-  5,
-  Rows.any-gone (Syntax.tyRef Syntax.erased Syntax.imm (Held.behind Syntax.erased)),
-) (List._∷_ (6, Rows.any-gone (Syntax.tyRef Syntax.erased Syntax.mut (Held.behind Syntax.erased))) (List._∷_ (
-  7,
-  Rows.any-gone Syntax.tyUnit,
-) (List._∷_ (8, Rows.mref (Held.type (Syntax.named 1) List.[]) (Syntax.tyRef Syntax.erased Syntax.mut (Held.behind Syntax.erased)) 4) (List._∷_ (
-  9,
-  Rows.any-gone
-      Syntax.tyUnit,
-) (List._∷_ (10, Rows.any-gone (Syntax.tyRef Syntax.erased Syntax.mut (Held.behind Syntax.erased))) List.[]))))))))))
+t13 = List._∷_ e0 (List._∷_ e5 (List._∷_ e11 (List._∷_ e13 (List._∷_ e14 (List._∷_ e17 (List._∷_ e21 (List._∷_ e22 (List._∷_
+    (8, Rows.mref (Held.type (Syntax.named 1) List.[]) (Syntax.tyRef Syntax.erased Syntax.mut (Held.behind Syntax.erased)) 4) (List._∷_ e27 (List._∷_ e9 List.[]))))))))))
 
 abbrev pub t14 : List.List Row.Entry
-t14 = List._∷_ (0, Rows.any-gone (Syntax.tyInt Syntax.w32)) (List._∷_ (
-  1,
-  Rows.mref-owed (Held.type (Syntax.named 1) List.[]) (Syntax.tyRef (Syntax.named 0) Syntax.mut (Held.behind (Syntax.named 1)))
-      0 4 Row.off,
-) (List._∷_ (2, Rows.sc-here (Row.sInt Syntax.w32)) (List._∷_ (3, Rows.sc-here (Row.sInt Syntax.w32)) (List._∷_ (4, Rows.any-gone (Syntax.tyInt Syntax.w32)) (List._∷_ (
-  5,
-  Rows.any-gone (Syntax.tyRef Syntax.erased Syntax.imm (Held.behind Syntax.erased)),
-) (List._∷_ (6, Rows.any-gone (Syntax.tyRef Syntax.erased Syntax.mut (Held.behind Syntax.erased))) (List._∷_ (
-  7,
-  Rows.any-gone Syntax.tyUnit,
-) (List._∷_ (8, Rows.mref (Held.type (Syntax.named 1) List.[]) (Syntax.tyRef Syntax.erased Syntax.mut (Held.behind Syntax.erased)) 8) (List._∷_ (
-  9,
-  Rows.any-gone
-      Syntax.tyUnit,
-) (List._∷_ (10, Rows.any-gone (Syntax.tyRef Syntax.erased Syntax.mut (Held.behind Syntax.erased))) List.[]))))))))))
+t14 = List._∷_ e0 (List._∷_ e5 (List._∷_ e11 (List._∷_ e13 (List._∷_ e14 (List._∷_ e17 (List._∷_ e21 (List._∷_ e22 (List._∷_
+    (8, Rows.mref (Held.type (Syntax.named 1) List.[]) (Syntax.tyRef Syntax.erased Syntax.mut (Held.behind Syntax.erased)) 8) (List._∷_ e27 (List._∷_ e9 List.[]))))))))))
 
 abbrev pub t15 : List.List Row.Entry
-t15 = List._∷_ (0, Rows.any-gone (Syntax.tyInt Syntax.w32)) (List._∷_ (
-  1,
-  Rows.mref-owed (Held.type (Syntax.named 1) List.[]) (Syntax.tyRef (Syntax.named 0) Syntax.mut (Held.behind (Syntax.named 1)))
-      0 4 Row.off,
-) (List._∷_ (2, Rows.sc-here (Row.sInt Syntax.w32)) (List._∷_ (3, Rows.sc-here (Row.sInt Syntax.w32)) (List._∷_ (4, Rows.any-gone (Syntax.tyInt Syntax.w32)) (List._∷_ (
-  5,
-  Rows.any-gone (Syntax.tyRef Syntax.erased Syntax.imm (Held.behind Syntax.erased)),
-) (List._∷_ (6, Rows.any-gone (Syntax.tyRef Syntax.erased Syntax.mut (Held.behind Syntax.erased))) (List._∷_ (
-  7,
-  Rows.any-gone Syntax.tyUnit,
-) (List._∷_ (
-  8,
-  AtSlots.mrefAt 2 (λ κc. Held.type (Syntax.named 1) (κc .1 .0)) Held.Value (λ κc v. v) (List._∷_ 8 (List._∷_ 1 List.[])) (Syntax.tyRef Syntax.erased
-      Syntax.mut (Held.behind Syntax.erased)) 8,
-) (List._∷_ (9, Rows.any-gone Syntax.tyUnit) (List._∷_ (10, Rows.any-gone (Syntax.tyRef Syntax.erased Syntax.mut (Held.behind Syntax.erased)))
-    List.[]))))))))))
+t15 = List._∷_ e0 (List._∷_ e5 (List._∷_ e11 (List._∷_ e13 (List._∷_ e14 (List._∷_ e17 (List._∷_ e21 (List._∷_ e22 (List._∷_ e25 (List._∷_ e27 (List._∷_ e9 List.[]))))))))))
 
 abbrev pub t16 : List.List Row.Entry
-t16 = List._∷_ (0, Rows.any-gone (Syntax.tyInt Syntax.w32)) (List._∷_ (
-  1,
-  Rows.mref-owed (Held.type (Syntax.named 1) List.[]) (Syntax.tyRef (Syntax.named 0) Syntax.mut (Held.behind (Syntax.named 1)))
-      0 4 Row.off,
-) (List._∷_ (2, Rows.sc-here (Row.sInt Syntax.w32)) (List._∷_ (3, Rows.sc-here (Row.sInt Syntax.w32)) (List._∷_ (4, Rows.any-gone (Syntax.tyInt Syntax.w32)) (List._∷_ (
-  5,
-  Rows.any-gone (Syntax.tyRef Syntax.erased Syntax.imm (Held.behind Syntax.erased)),
-) (List._∷_ (6, Rows.any-gone (Syntax.tyRef Syntax.erased Syntax.mut (Held.behind Syntax.erased))) (List._∷_ (
-  7,
-  Rows.sc-here Row.sUnit,
-) (List._∷_ (
-  8,
-  AtSlots.mleftAt 2 (λ κc. Held.type (Syntax.named 1) (κc .1 .0)) Held.Value (λ κc v. v) (List._∷_ 8 (List._∷_ 1 List.[])) (Syntax.tyRef Syntax.erased Syntax.mut
-      (Held.behind Syntax.erased)),
-) (List._∷_ (9, Rows.any-gone Syntax.tyUnit) (List._∷_ (10, Rows.any-gone (Syntax.tyRef Syntax.erased Syntax.mut (Held.behind Syntax.erased))) List.[]))))))))))
+t16 = List._∷_ e0 (List._∷_ e5 (List._∷_ e11 (List._∷_ e13 (List._∷_ e14 (List._∷_ e17 (List._∷_ e21 (List._∷_ e23 (List._∷_ e24 (List._∷_ e27 (List._∷_ e9 List.[]))))))))))
 
 abbrev pub t17 : List.List Row.Entry
-t17 = List._∷_ (0, Rows.any-gone (Syntax.tyInt Syntax.w32)) (List._∷_ (
-  1,
-  Rows.mref-owed (Held.type (Syntax.named 1) List.[]) (Syntax.tyRef (Syntax.named 0) Syntax.mut (Held.behind (Syntax.named 1)))
-      0 4 Row.off,
-) (List._∷_ (2, Rows.sc-here (Row.sInt Syntax.w32)) (List._∷_ (3, Rows.sc-here (Row.sInt Syntax.w32)) (List._∷_ (4, Rows.any-gone (Syntax.tyInt Syntax.w32)) (List._∷_ (
-  5,
-  Rows.any-gone (Syntax.tyRef Syntax.erased Syntax.imm (Held.behind Syntax.erased)),
-) (List._∷_ (6, Rows.any-gone (Syntax.tyRef Syntax.erased Syntax.mut (Held.behind Syntax.erased))) (List._∷_ (
-  7,
-  Rows.any-gone Syntax.tyUnit,
-) (List._∷_ (
-  8,
-  AtSlots.mleftAt 2 (λ κc. Held.type (Syntax.named 1) (κc .1 .0)) Held.Value (λ κc v. v) (List._∷_ 8 (List._∷_ 1 List.[])) (Syntax.tyRef Syntax.erased
-      Syntax.mut (Held.behind Syntax.erased)),
-) (List._∷_ (9, Rows.any-gone Syntax.tyUnit) (List._∷_ (10, Rows.any-gone (Syntax.tyRef Syntax.erased Syntax.mut (Held.behind Syntax.erased)))
-    List.[]))))))))))
+t17 = List._∷_ e0 (List._∷_ e5 (List._∷_ e11 (List._∷_ e13 (List._∷_ e14 (List._∷_ e17 (List._∷_ e21 (List._∷_ e22 (List._∷_ e24 (List._∷_ e27 (List._∷_ e9 List.[]))))))))))
 
 abbrev pub t18 : List.List Row.Entry
-t18 = List._∷_ (0, Rows.any-gone (Syntax.tyInt Syntax.w32)) (List._∷_ (
-  1,
-  Rows.mref-owed (Held.type (Syntax.named 1) List.[]) (Syntax.tyRef (Syntax.named 0) Syntax.mut (Held.behind (Syntax.named 1)))
-      0 5 Row.off,
-) (List._∷_ (2, Rows.sc-here (Row.sInt Syntax.w32)) (List._∷_ (3, Rows.sc-here (Row.sInt Syntax.w32)) (List._∷_ (4, Rows.any-gone (Syntax.tyInt Syntax.w32)) (List._∷_ (
-  5,
-  Rows.any-gone (Syntax.tyRef Syntax.erased Syntax.imm (Held.behind Syntax.erased)),
-) (List._∷_ (6, Rows.any-gone (Syntax.tyRef Syntax.erased Syntax.mut (Held.behind Syntax.erased))) (List._∷_ (
-  7,
-  Rows.any-gone Syntax.tyUnit,
-) (List._∷_ (8, Rows.any-gone (Syntax.tyRef Syntax.erased Syntax.mut (Held.behind Syntax.erased))) (List._∷_ (9, Rows.any-gone Syntax.tyUnit) (List._∷_ (
-  10,
-  Rows.mref
-      (Held.type (Syntax.named 1) List.[]) (Syntax.tyRef Syntax.erased Syntax.mut (Held.behind Syntax.erased)) 5,
-) List.[]))))))))))
+t18 = List._∷_ e0 (List._∷_ e6 (List._∷_ e11 (List._∷_ e13 (List._∷_ e14 (List._∷_ e17 (List._∷_ e21 (List._∷_ e22 (List._∷_ e26 (List._∷_ e27 (List._∷_
+    (10, Rows.mref (Held.type (Syntax.named 1) List.[]) (Syntax.tyRef Syntax.erased Syntax.mut (Held.behind Syntax.erased)) 5) List.[]))))))))))
 
 abbrev pub t19 : List.List Row.Entry
-t19 = List._∷_ (0, Rows.any-gone (Syntax.tyInt Syntax.w32)) (List._∷_ (
-  1,
-  Rows.mref-owed (Held.type (Syntax.named 1) List.[]) (Syntax.tyRef (Syntax.named 0) Syntax.mut (Held.behind (Syntax.named 1)))
-      0 5 Row.off,
-) (List._∷_ (2, Rows.sc-here (Row.sInt Syntax.w32)) (List._∷_ (3, Rows.sc-here (Row.sInt Syntax.w32)) (List._∷_ (4, Rows.any-gone (Syntax.tyInt Syntax.w32)) (List._∷_ (
-  5,
-  Rows.any-gone (Syntax.tyRef Syntax.erased Syntax.imm (Held.behind Syntax.erased)),
-) (List._∷_ (6, Rows.any-gone (Syntax.tyRef Syntax.erased Syntax.mut (Held.behind Syntax.erased))) (List._∷_ (
-  7,
-  Rows.any-gone Syntax.tyUnit,
-) (List._∷_ (8, Rows.any-gone (Syntax.tyRef Syntax.erased Syntax.mut (Held.behind Syntax.erased))) (List._∷_ (9, Rows.any-gone Syntax.tyUnit) (List._∷_ (
-  10,
-  Rows.mref
-      (Held.type (Syntax.named 1) List.[]) (Syntax.tyRef Syntax.erased Syntax.mut (Held.behind Syntax.erased)) 9,
-) List.[]))))))))))
+t19 = List._∷_ e0 (List._∷_ e6 (List._∷_ e11 (List._∷_ e13 (List._∷_ e14 (List._∷_ e17 (List._∷_ e21 (List._∷_ e22 (List._∷_ e26 (List._∷_ e27 (List._∷_
+    (10, Rows.mref (Held.type (Syntax.named 1) List.[]) (Syntax.tyRef Syntax.erased Syntax.mut (Held.behind Syntax.erased)) 9) List.[]))))))))))
 
 abbrev pub t20 : List.List Row.Entry
-t20 = List._∷_ (0, Rows.any-gone (Syntax.tyInt Syntax.w32)) (List._∷_ (
-  1,
-  Rows.mref-owed (Held.type (Syntax.named 1) List.[]) (Syntax.tyRef (Syntax.named 0) Syntax.mut (Held.behind (Syntax.named 1)))
-      0 5 Row.off,
-) (List._∷_ (2, Rows.sc-here (Row.sInt Syntax.w32)) (List._∷_ (3, Rows.sc-here (Row.sInt Syntax.w32)) (List._∷_ (4, Rows.any-gone (Syntax.tyInt Syntax.w32)) (List._∷_ (
-  5,
-  Rows.any-gone (Syntax.tyRef Syntax.erased Syntax.imm (Held.behind Syntax.erased)),
-) (List._∷_ (6, Rows.any-gone (Syntax.tyRef Syntax.erased Syntax.mut (Held.behind Syntax.erased))) (List._∷_ (
-  7,
-  Rows.any-gone Syntax.tyUnit,
-) (List._∷_ (8, Rows.any-gone (Syntax.tyRef Syntax.erased Syntax.mut (Held.behind Syntax.erased))) (List._∷_ (9, Rows.any-gone Syntax.tyUnit) (List._∷_ (
-  10,
-  AtSlots.mrefAt 2 (λ κc. Held.type (Syntax.named 1) (κc .1 .0)) Held.Value (λ κc v. v) (List._∷_ 9 (List._∷_ 1 List.[])) (Syntax.tyRef Syntax.erased Syntax.mut (Held.behind Syntax.erased)) 9,
-)
-    List.[]))))))))))
+t20 = List._∷_ e0 (List._∷_ e6 (List._∷_ e11 (List._∷_ e13 (List._∷_ e14 (List._∷_ e17 (List._∷_ e21 (List._∷_ e22 (List._∷_ e26 (List._∷_ e27 (List._∷_ e8 List.[]))))))))))
 
 abbrev pub t21 : List.List Row.Entry
-t21 = List._∷_ (0, Rows.any-gone (Syntax.tyInt Syntax.w32)) (List._∷_ (
-  1,
-  Rows.mref-owed (Held.type (Syntax.named 1) List.[]) (Syntax.tyRef (Syntax.named 0) Syntax.mut (Held.behind (Syntax.named 1)))
-      0 5 Row.off,
-) (List._∷_ (2, Rows.sc-here (Row.sInt Syntax.w32)) (List._∷_ (3, Rows.sc-here (Row.sInt Syntax.w32)) (List._∷_ (4, Rows.any-gone (Syntax.tyInt Syntax.w32)) (List._∷_ (
-  5,
-  Rows.any-gone (Syntax.tyRef Syntax.erased Syntax.imm (Held.behind Syntax.erased)),
-) (List._∷_ (6, Rows.any-gone (Syntax.tyRef Syntax.erased Syntax.mut (Held.behind Syntax.erased))) (List._∷_ (
-  7,
-  Rows.any-gone Syntax.tyUnit,
-) (List._∷_ (8, Rows.any-gone (Syntax.tyRef Syntax.erased Syntax.mut (Held.behind Syntax.erased))) (List._∷_ (9, Rows.sc-here Row.sUnit) (List._∷_ (
-  10,
-  AtSlots.mleftAt 2
-      (λ κc. Held.type (Syntax.named 1) (κc .1 .0)) Held.Value (λ κc v. v) (List._∷_ 9 (List._∷_ 1 List.[])) (Syntax.tyRef Syntax.erased Syntax.mut (Held.behind Syntax.erased)),
-) List.[]))))))))))
+t21 = List._∷_ e0 (List._∷_ e6 (List._∷_ e11 (List._∷_ e13 (List._∷_ e14 (List._∷_ e17 (List._∷_ e21 (List._∷_ e22 (List._∷_ e26 (List._∷_ e28 (List._∷_ e7 List.[]))))))))))
 
 abbrev pub t22 : List.List Row.Entry
-t22 = List._∷_ (0, Rows.any-gone (Syntax.tyInt Syntax.w32)) (List._∷_ (
-  1,
-  Rows.mref-owed (Held.type (Syntax.named 1) List.[]) (Syntax.tyRef (Syntax.named 0) Syntax.mut (Held.behind (Syntax.named 1)))
-      0 5 Row.off,
-) (List._∷_ (2, Rows.sc-here (Row.sInt Syntax.w32)) (List._∷_ (3, Rows.sc-here (Row.sInt Syntax.w32)) (List._∷_ (4, Rows.any-gone (Syntax.tyInt Syntax.w32)) (List._∷_ (
-  5,
-  Rows.any-gone (Syntax.tyRef Syntax.erased Syntax.imm (Held.behind Syntax.erased)),
-) (List._∷_ (6, Rows.any-gone (Syntax.tyRef Syntax.erased Syntax.mut (Held.behind Syntax.erased))) (List._∷_ (
-  7,
-  Rows.any-gone Syntax.tyUnit,
-) (List._∷_ (8, Rows.any-gone (Syntax.tyRef Syntax.erased Syntax.mut (Held.behind Syntax.erased))) (List._∷_ (9, Rows.any-gone Syntax.tyUnit) (List._∷_ (
-  10,
-  AtSlots.mleftAt 2 (λ κc. Held.type (Syntax.named 1) (κc .1 .0)) Held.Value (λ κc v. v) (List._∷_ 9 (List._∷_ 1 List.[])) (Syntax.tyRef Syntax.erased Syntax.mut (Held.behind Syntax.erased)),
-)
-    List.[]))))))))))
+t22 = List._∷_ e0 (List._∷_ e6 (List._∷_ e11 (List._∷_ e13 (List._∷_ e14 (List._∷_ e17 (List._∷_ e21 (List._∷_ e22 (List._∷_ e26 (List._∷_ e27 (List._∷_ e7 List.[]))))))))))
 
 abbrev pub t23 : List.List Row.Entry
-t23 = List._∷_ (0, Rows.sc-here (Row.sInt Syntax.w32)) (List._∷_ (1, Rows.mref (Held.type (Syntax.named 1) List.[]) (Syntax.tyRef (Syntax.named 0) Syntax.mut (Held.behind (Syntax.named 1))) 0)
-    (List._∷_ (2, Rows.sc-here (Row.sInt Syntax.w32)) (List._∷_ (3, Rows.sc-here (Row.sInt Syntax.w32)) (List._∷_ (4, Rows.sc-here (Row.sInt Syntax.w32)) (List._∷_ (
-      5,
-      Rows.any-gone (Syntax.tyRef
-          Syntax.erased Syntax.imm (Held.behind Syntax.erased)),
-    ) (List._∷_ (6, Rows.any-gone (Syntax.tyRef Syntax.erased Syntax.mut (Held.behind Syntax.erased))) (List._∷_ (7, Rows.any-gone Syntax.tyUnit)
-    (List._∷_ (8, Rows.any-gone (Syntax.tyRef Syntax.erased Syntax.mut (Held.behind Syntax.erased))) (List._∷_ (9, Rows.any-gone Syntax.tyUnit) (List._∷_ (
-      10,
-      Rows.any-gone (Syntax.tyRef Syntax.erased
-          Syntax.mut (Held.behind Syntax.erased)),
-    ) List.[]))))))))))
+t23 = List._∷_ e1 (List._∷_ e3 (List._∷_ e11 (List._∷_ e13 (List._∷_ e15 (List._∷_ e17 (List._∷_ e21 (List._∷_ e22 (List._∷_ e26 (List._∷_ e27 (List._∷_ e9 List.[]))))))))))
 
 abbrev pub t24 : List.List Row.Entry
-t24 = List._∷_ (0, Rows.sc-here (Row.sInt Syntax.w32)) (List._∷_ (1, Rows.mref (Held.type (Syntax.named 1) List.[]) (Syntax.tyRef (Syntax.named 0) Syntax.mut (Held.behind (Syntax.named 1))) 0)
-    (List._∷_ (2, Rows.sc-here (Row.sInt Syntax.w32)) (List._∷_ (3, Rows.sc-here (Row.sInt Syntax.w32)) (List._∷_ (4, Rows.any-gone (Syntax.tyInt Syntax.w32)) (List._∷_ (
-      5,
-      Rows.any-gone (Syntax.tyRef
-          Syntax.erased Syntax.imm (Held.behind Syntax.erased)),
-    ) (List._∷_ (6, Rows.any-gone (Syntax.tyRef Syntax.erased Syntax.mut (Held.behind Syntax.erased))) (List._∷_ (7, Rows.any-gone Syntax.tyUnit)
-    (List._∷_ (8, Rows.any-gone (Syntax.tyRef Syntax.erased Syntax.mut (Held.behind Syntax.erased))) (List._∷_ (9, Rows.any-gone Syntax.tyUnit) (List._∷_ (
-      10,
-      Rows.any-gone (Syntax.tyRef Syntax.erased
-          Syntax.mut (Held.behind Syntax.erased)),
-    ) List.[]))))))))))
+t24 = List._∷_ e1 (List._∷_ e3 (List._∷_ e11 (List._∷_ e13 (List._∷_ e14 (List._∷_ e17 (List._∷_ e21 (List._∷_ e22 (List._∷_ e26 (List._∷_ e27 (List._∷_ e9 List.[]))))))))))
 
 abbrev pub t25 : List.List Row.Entry
-t25 = List._∷_ (0, Rows.sc-here (Row.sInt Syntax.w32)) (List._∷_ (1, Rows.mref (Held.type (Syntax.named 1) List.[]) (Syntax.tyRef (Syntax.named 0) Syntax.mut (Held.behind (Syntax.named 1))) 0)
-    (List._∷_ (2, Rows.any-gone (Syntax.tyInt Syntax.w32)) (List._∷_ (3, Rows.sc-here (Row.sInt Syntax.w32)) (List._∷_ (4, Rows.any-gone (Syntax.tyInt Syntax.w32)) (List._∷_ (
-      5,
-      Rows.any-gone
-          (Syntax.tyRef Syntax.erased Syntax.imm (Held.behind Syntax.erased)),
-    ) (List._∷_ (6, Rows.any-gone (Syntax.tyRef Syntax.erased Syntax.mut (Held.behind Syntax.erased))) (List._∷_ (
-      7,
-      Rows.any-gone
-          Syntax.tyUnit,
-    ) (List._∷_ (8, Rows.any-gone (Syntax.tyRef Syntax.erased Syntax.mut (Held.behind Syntax.erased))) (List._∷_ (9, Rows.any-gone Syntax.tyUnit) (List._∷_ (
-      10,
-      Rows.any-gone
-          (Syntax.tyRef Syntax.erased Syntax.mut (Held.behind Syntax.erased)),
-    ) List.[]))))))))))
+t25 = List._∷_ e1 (List._∷_ e3 (List._∷_ e10 (List._∷_ e13 (List._∷_ e14 (List._∷_ e17 (List._∷_ e21 (List._∷_ e22 (List._∷_ e26 (List._∷_ e27 (List._∷_ e9 List.[]))))))))))
 
 abbrev pub T0 : Row.Cx
 T0 = record { locals = t0; slots = List.[] }
@@ -727,23 +467,13 @@ module _ (claims· : Claims) where
       Syntax.erased)) 6) λ x. record { ptr = x .ptr; name = x .name; now = x .now }
 
   abbrev s7 : Typed.Both T9 T10
-  s7 = Call.callB ps·0 r·0 (claims· .0) (claims· .1) T9 (
-    record {
-      pos = 5;
-      ty = Syntax.tyRef Syntax.erased Syntax.imm (Held.behind Syntax.erased);
-      βs = List._∷_ 6 (List._∷_ 1 List.[]);
-      ref = λ x. x;
-    },
-    (Num.vAt 3 λ x. x, tt),
-  ) 4 (List._∷_ 6 (List._∷_ 1 List.[])) (Syntax.tyInt Syntax.w32)
+  s7 = Call.callB ps·0 r·0 (claims· .0) (claims· .1) T9
+      (record { pos = 5; ty = Syntax.tyRef Syntax.erased Syntax.imm (Held.behind Syntax.erased); βs = List._∷_ 6 (List._∷_ 1 List.[]); ref = λ x. x }, (Num.vAt 3 λ x. x, tt)) 4 (List._∷_ 6 (List._∷_ 1
+      List.[])) (Syntax.tyInt Syntax.w32)
 
   abbrev s8 : Typed.Mo T10 → Typed.Mo T11
-  s8 = AtSlots.n-as-by T10 5 (Rows.sref (Held.type (Syntax.named 1) List.[]) (Syntax.tyRef Syntax.erased Syntax.imm (Held.behind Syntax.erased)) 6) λ x. record {
-    ptr = x .ptr;
-    name = x .name;
-    now = x
-        .now;
-  }
+  s8 = AtSlots.n-as-by T10 5 (Rows.sref (Held.type (Syntax.named 1) List.[]) (Syntax.tyRef Syntax.erased Syntax.imm (Held.behind Syntax.erased)) 6) λ x. record
+      { ptr = x .ptr; name = x .name; now = x .now }
 
   abbrev s9 : Typed.Mo T11 → Typed.Mo T12
   s9 = Scalar.n-room T11 5 (Syntax.tyRef Syntax.erased Syntax.imm (Held.behind Syntax.erased))
@@ -763,16 +493,9 @@ module _ (claims· : Claims) where
       (Held.behind Syntax.erased)) 7) λ x. record { ptr = x .ptr; name = x .name; now = x .now }
 
   abbrev s24 : Typed.Both T26 T27
-  s24 = Call.callB ps·1 r·1 (claims· .2) (claims· .3) T26 (
-    record {
-      pos = 6;
-      ty = Syntax.tyRef Syntax.erased Syntax.mut (Held.behind Syntax.erased);
-      βs = List._∷_ 7 (List._∷_ 1 List.[]);
-      ref = λ x.
-          x;
-    },
-    (Num.vAt 3 λ x. x, tt),
-  ) 4 (List._∷_ 7 (List._∷_ 1 List.[])) (Syntax.tyInt Syntax.w32)
+  s24 = Call.callB ps·1 r·1 (claims· .2) (claims· .3) T26
+      (record { pos = 6; ty = Syntax.tyRef Syntax.erased Syntax.mut (Held.behind Syntax.erased); βs = List._∷_ 7 (List._∷_ 1 List.[]); ref = λ x. x }, (Num.vAt 3 λ x. x, tt)) 4 (List._∷_ 7 (List._∷_ 1
+      List.[])) (Syntax.tyInt Syntax.w32)
 
   abbrev s30 : Typed.Asks T27 T33
   s30 = Reborrow.k-back-mref T27 6 1 0 (Held.type (Syntax.named 1) List.[]) (Syntax.tyRef (Syntax.named 0) Syntax.mut (Held.behind (Syntax.named 1))) (Syntax.tyRef Syntax.erased Syntax.mut
@@ -790,16 +513,9 @@ module _ (claims· : Claims) where
       (Held.behind Syntax.erased)) 8) λ x. record { ptr = x .ptr; name = x .name; now = x .now }
 
   abbrev s39 : Typed.Both T41 T42
-  s39 = Call.callB ps·2 r·2 (claims· .4) (claims· .5) T41 (
-    record {
-      pos = 8;
-      ty = Syntax.tyRef Syntax.erased Syntax.mut (Held.behind Syntax.erased);
-      βs = List._∷_ 8 (List._∷_ 1 List.[]);
-      ref = λ x.
-          x;
-    },
-    (Num.vAt 3 λ x. x, tt),
-  ) 7 (List._∷_ 8 (List._∷_ 1 List.[])) Syntax.tyUnit
+  s39 = Call.callB ps·2 r·2 (claims· .4) (claims· .5) T41
+      (record { pos = 8; ty = Syntax.tyRef Syntax.erased Syntax.mut (Held.behind Syntax.erased); βs = List._∷_ 8 (List._∷_ 1 List.[]); ref = λ x. x }, (Num.vAt 3 λ x. x, tt)) 7 (List._∷_ 8 (List._∷_ 1
+      List.[])) Syntax.tyUnit
 
   abbrev s40 : Typed.Mo T42 → Typed.Mo T43
   s40 = Scalar.n-room T42 7 Syntax.tyUnit
@@ -823,16 +539,9 @@ module _ (claims· : Claims) where
       (Held.behind Syntax.erased)) 9) λ x. record { ptr = x .ptr; name = x .name; now = x .now }
 
   abbrev s56 : Typed.Both T58 T59
-  s56 = Call.callB ps·3 r·3 (claims· .6) (claims· .7) T58 (
-    record {
-      pos = 10;
-      ty = Syntax.tyRef Syntax.erased Syntax.mut (Held.behind Syntax.erased);
-      βs = List._∷_ 9 (List._∷_ 1 List.[]);
-      ref = λ x.
-          x;
-    },
-    tt,
-  ) 9 (List._∷_ 9 (List._∷_ 1 List.[])) Syntax.tyUnit
+  s56 = Call.callB ps·3 r·3 (claims· .6) (claims· .7) T58
+      (record { pos = 10; ty = Syntax.tyRef Syntax.erased Syntax.mut (Held.behind Syntax.erased); βs = List._∷_ 9 (List._∷_ 1 List.[]); ref = λ x. x }, tt) 9 (List._∷_ 9 (List._∷_ 1 List.[]))
+      Syntax.tyUnit
 
   abbrev s57 : Typed.Mo T59 → Typed.Mo T60
   s57 = Scalar.n-room T59 9 Syntax.tyUnit
@@ -1053,1013 +762,674 @@ module _ (claims· : Claims) where
 
       module _ (κs : Lifetimes.Lfts 2) (qs : Lifetimes.Shares 2) where
         abbrev g0 : (at : Nat.ℕ → Nat.ℕ) → List.List Row.Entry
-        g0 = λ at. List._∷_ (0, Rows.any-gone (Syntax.tyInt Syntax.w32)) (List._∷_ (
-          1,
-          Rows.mref (Held.type (Syntax.named 1) (κs .1 .0)) (Syntax.tyRef (Syntax.named 0) Syntax.mut (Held.behind
-              (Syntax.named 1))) 0,
-        ) (List._∷_ (2, Rows.sc-here (Row.sInt Syntax.w32)) (List._∷_ (3, Rows.sc-here (Row.sInt Syntax.w32)) (List._∷_ (4, Rows.any-gone (Syntax.tyInt Syntax.w32)) (List._∷_
-            (5, Rows.any-gone (Syntax.tyRef Syntax.erased Syntax.imm (Held.behind Syntax.erased))) (List._∷_ (6, Rows.any-gone (Syntax.tyRef Syntax.erased Syntax.mut (Held.behind Syntax.erased)))
-            (List._∷_ (7, Rows.any-gone Syntax.tyUnit) (List._∷_ (8, Rows.any-gone (Syntax.tyRef Syntax.erased Syntax.mut (Held.behind Syntax.erased))) (List._∷_ (9, Rows.any-gone Syntax.tyUnit)
-            (List._∷_ (10, Rows.any-gone (Syntax.tyRef Syntax.erased Syntax.mut (Held.behind Syntax.erased))) List.[]))))))))))
+        g0 = λ at. List._∷_ e0 (List._∷_ (1, Rows.mref (Held.type (Syntax.named 1) (κs .1 .0)) (Syntax.tyRef (Syntax.named 0) Syntax.mut (Held.behind (Syntax.named 1))) 0) (List._∷_ e11 (List._∷_ e13
+            (List._∷_ e14 (List._∷_ e17 (List._∷_ e21 (List._∷_ e22 (List._∷_ e26 (List._∷_ e27 (List._∷_ e9 List.[]))))))))))
 
         abbrev g1 : (at : Nat.ℕ → Nat.ℕ) → List.List Row.Entry
-        g1 = λ at. List._∷_ (0, Rows.sc-here (Row.sInt Syntax.w32)) (List._∷_ (
-          1,
-          Rows.mref (Held.type (Syntax.named 1) (κs .1 .0)) (Syntax.tyRef (Syntax.named 0) Syntax.mut (Held.behind
-              (Syntax.named 1))) 0,
-        ) (List._∷_ (2, Rows.any-gone (Syntax.tyInt Syntax.w32)) (List._∷_ (3, Rows.any-gone (Syntax.tyInt Syntax.w32)) (List._∷_ (4, Rows.any-gone (Syntax.tyInt Syntax.w32))
-            (List._∷_ (5, Rows.any-gone (Syntax.tyRef Syntax.erased Syntax.imm (Held.behind Syntax.erased))) (List._∷_ (
-              6,
-              Rows.any-gone (Syntax.tyRef Syntax.erased Syntax.mut (Held.behind
-                  Syntax.erased)),
-            ) (List._∷_ (7, Rows.any-gone Syntax.tyUnit) (List._∷_ (8, Rows.any-gone (Syntax.tyRef Syntax.erased Syntax.mut (Held.behind Syntax.erased))) (List._∷_ (
-              9,
-              Rows.any-gone
-                  Syntax.tyUnit,
-            ) (List._∷_ (10, Rows.any-gone (Syntax.tyRef Syntax.erased Syntax.mut (Held.behind Syntax.erased))) List.[]))))))))))
+        g1 = λ at. List._∷_ e1 (List._∷_ (1, Rows.mref (Held.type (Syntax.named 1) (κs .1 .0)) (Syntax.tyRef (Syntax.named 0) Syntax.mut (Held.behind (Syntax.named 1))) 0) (List._∷_ e10 (List._∷_ e12
+            (List._∷_ e14 (List._∷_ e17 (List._∷_ e21 (List._∷_ e22 (List._∷_ e26 (List._∷_ e27 (List._∷_ e9 List.[]))))))))))
 
         abbrev g2 : (at : Nat.ℕ → Nat.ℕ) → List.List Row.Entry
-        g2 = λ at. List._∷_ (0, Rows.any-gone (Syntax.tyInt Syntax.w32)) (List._∷_ (
-          1,
-          Rows.mref (Held.type (Syntax.named 1) (κs .1 .0)) (Syntax.tyRef (Syntax.named 0) Syntax.mut (Held.behind
-              (Syntax.named 1))) 0,
-        ) (List._∷_ (2, Rows.sc-here (Row.sInt Syntax.w32)) (List._∷_ (3, Rows.sc-here (Row.sInt Syntax.w32)) (List._∷_ (4, Rows.sc-here (Row.sInt Syntax.w32)) (List._∷_ (
-          5,
-          Rows.any-gone (Syntax.tyRef Syntax.erased Syntax.imm (Held.behind Syntax.erased)),
-        ) (List._∷_ (6, Rows.any-gone (Syntax.tyRef Syntax.erased Syntax.mut (Held.behind Syntax.erased)))
-            (List._∷_ (7, Rows.any-gone Syntax.tyUnit) (List._∷_ (8, Rows.any-gone (Syntax.tyRef Syntax.erased Syntax.mut (Held.behind Syntax.erased))) (List._∷_ (9, Rows.any-gone Syntax.tyUnit)
-            (List._∷_ (10, Rows.any-gone (Syntax.tyRef Syntax.erased Syntax.mut (Held.behind Syntax.erased))) List.[]))))))))))
+        g2 = λ at. List._∷_ e0 (List._∷_ (1, Rows.mref (Held.type (Syntax.named 1) (κs .1 .0)) (Syntax.tyRef (Syntax.named 0) Syntax.mut (Held.behind (Syntax.named 1))) 0) (List._∷_ e11 (List._∷_ e13
+            (List._∷_ e15 (List._∷_ e17 (List._∷_ e21 (List._∷_ e22 (List._∷_ e26 (List._∷_ e27 (List._∷_ e9 List.[]))))))))))
 
         abbrev g3 : (at : Nat.ℕ → Nat.ℕ) → List.List Row.Entry
-        g3 = λ at. List._∷_ (0, Rows.any-gone (Syntax.tyInt Syntax.w32)) (List._∷_ (
-          1,
-          Reshare.mref-owedS (Held.type (Syntax.named 1) (κs .1 .0)) (Syntax.tyRef (Syntax.named 0) Syntax.mut
-              (Held.behind (Syntax.named 1))) 0 2 (Row.lease (κs .0) (qs .0)),
-        ) (List._∷_ (2, Rows.sc-here (Row.sInt Syntax.w32)) (List._∷_ (3, Rows.sc-here (Row.sInt Syntax.w32)) (List._∷_ (
-          4,
-          Rows.any-gone (Syntax.tyInt Syntax.w32),
-        ) (List._∷_ (5, Rows.sref (Held.type (Syntax.named 1) (κs .1 .0)) (Syntax.tyRef Syntax.erased Syntax.imm (Held.behind Syntax.erased)) 2) (List._∷_ (
-          6,
-          Rows.any-gone (Syntax.tyRef Syntax.erased Syntax.mut (Held.behind Syntax.erased)),
-        ) (List._∷_ (7, Rows.any-gone Syntax.tyUnit) (List._∷_ (
-          8,
-          Rows.any-gone (Syntax.tyRef Syntax.erased
-              Syntax.mut (Held.behind Syntax.erased)),
-        ) (List._∷_ (9, Rows.any-gone Syntax.tyUnit) (List._∷_ (10, Rows.any-gone (Syntax.tyRef Syntax.erased Syntax.mut (Held.behind Syntax.erased)))
-            List.[]))))))))))
+        g3 = λ at. List._∷_ e0 (List._∷_
+            (1, Reshare.mref-owedS (Held.type (Syntax.named 1) (κs .1 .0)) (Syntax.tyRef (Syntax.named 0) Syntax.mut (Held.behind (Syntax.named 1))) 0 2 (Row.lease (κs .0) (qs .0))) (List._∷_ e11
+            (List._∷_ e13 (List._∷_ e14 (List._∷_ (5, Rows.sref (Held.type (Syntax.named 1) (κs .1 .0)) (Syntax.tyRef Syntax.erased Syntax.imm (Held.behind Syntax.erased)) 2) (List._∷_ e21 (List._∷_ e22
+            (List._∷_ e26 (List._∷_ e27 (List._∷_ e9 List.[]))))))))))
 
         abbrev g4 : (at : Nat.ℕ → Nat.ℕ) → List.List Row.Entry
-        g4 = λ at. List._∷_ (0, Rows.any-gone (Syntax.tyInt Syntax.w32)) (List._∷_ (
-          1,
-          Reshare.mref-owedS (Held.type (Syntax.named 1) (κs .1 .0)) (Syntax.tyRef (Syntax.named 0) Syntax.mut
-              (Held.behind (Syntax.named 1))) 0 2 (Row.lease (κs .0) (qs .0)),
-        ) (List._∷_ (2, Rows.sc-here (Row.sInt Syntax.w32)) (List._∷_ (3, Rows.sc-here (Row.sInt Syntax.w32)) (List._∷_ (
-          4,
-          Rows.any-gone (Syntax.tyInt Syntax.w32),
-        ) (List._∷_ (5, Rows.sref (Held.type (Syntax.named 1) (κs .1 .0)) (Syntax.tyRef Syntax.erased Syntax.imm (Held.behind Syntax.erased)) 6) (List._∷_ (
-          6,
-          Rows.any-gone (Syntax.tyRef Syntax.erased Syntax.mut (Held.behind Syntax.erased)),
-        ) (List._∷_ (7, Rows.any-gone Syntax.tyUnit) (List._∷_ (
-          8,
-          Rows.any-gone (Syntax.tyRef Syntax.erased
-              Syntax.mut (Held.behind Syntax.erased)),
-        ) (List._∷_ (9, Rows.any-gone Syntax.tyUnit) (List._∷_ (10, Rows.any-gone (Syntax.tyRef Syntax.erased Syntax.mut (Held.behind Syntax.erased)))
-            List.[]))))))))))
+        g4 = λ at. List._∷_ e0 (List._∷_
+            (1, Reshare.mref-owedS (Held.type (Syntax.named 1) (κs .1 .0)) (Syntax.tyRef (Syntax.named 0) Syntax.mut (Held.behind (Syntax.named 1))) 0 2 (Row.lease (κs .0) (qs .0))) (List._∷_ e11
+            (List._∷_ e13 (List._∷_ e14 (List._∷_ (5, Rows.sref (Held.type (Syntax.named 1) (κs .1 .0)) (Syntax.tyRef Syntax.erased Syntax.imm (Held.behind Syntax.erased)) 6) (List._∷_ e21 (List._∷_ e22
+            (List._∷_ e26 (List._∷_ e27 (List._∷_ e9 List.[]))))))))))
 
         abbrev g5 : (at : Nat.ℕ → Nat.ℕ) → List.List Row.Entry
-        g5 = λ at. List._∷_ (0, Rows.any-gone (Syntax.tyInt Syntax.w32)) (List._∷_ (
-          1,
-          Reshare.mref-owedS (Held.type (Syntax.named 1) (κs .1 .0)) (Syntax.tyRef (Syntax.named 0) Syntax.mut
-              (Held.behind (Syntax.named 1))) 0 2 (Row.lease (κs .0) (qs .0)),
-        ) (List._∷_ (2, Rows.sc-here (Row.sInt Syntax.w32)) (List._∷_ (3, Rows.sc-here (Row.sInt Syntax.w32)) (List._∷_ (
-          4,
-          Rows.any-gone (Syntax.tyInt Syntax.w32),
-        ) (List._∷_ (
-          5,
-          AtSlots.srefAt 2 (λ κc. Held.type (Syntax.named 1) (κc .1 .0)) Held.Value (λ κc v. v) (List._∷_ 6 (List._∷_ 1 List.[])) (Syntax.tyRef
-              Syntax.erased Syntax.imm (Held.behind Syntax.erased)) 6,
-        ) (List._∷_ (6, Rows.any-gone (Syntax.tyRef Syntax.erased Syntax.mut (Held.behind Syntax.erased))) (List._∷_ (
-          7,
-          Rows.any-gone
-              Syntax.tyUnit,
-        ) (List._∷_ (8, Rows.any-gone (Syntax.tyRef Syntax.erased Syntax.mut (Held.behind Syntax.erased))) (List._∷_ (9, Rows.any-gone Syntax.tyUnit) (List._∷_ (
-          10,
-          Rows.any-gone
-              (Syntax.tyRef Syntax.erased Syntax.mut (Held.behind Syntax.erased)),
-        ) List.[]))))))))))
+        g5 = λ at. List._∷_ e0 (List._∷_
+            (1, Reshare.mref-owedS (Held.type (Syntax.named 1) (κs .1 .0)) (Syntax.tyRef (Syntax.named 0) Syntax.mut (Held.behind (Syntax.named 1))) 0 2 (Row.lease (κs .0) (qs .0))) (List._∷_ e11
+            (List._∷_ e13 (List._∷_ e14 (List._∷_ e16 (List._∷_ e21 (List._∷_ e22 (List._∷_ e26 (List._∷_ e27 (List._∷_ e9 List.[]))))))))))
 
         abbrev g6 : (at : Nat.ℕ → Nat.ℕ) → List.List Row.Entry
-        g6 = λ at. List._∷_ (0, Rows.any-gone (Syntax.tyInt Syntax.w32)) (List._∷_ (
-          1,
-          Reshare.mref-owedS (Held.type (Syntax.named 1) (κs .1 .0)) (Syntax.tyRef (Syntax.named 0) Syntax.mut
-              (Held.behind (Syntax.named 1))) 0 2 (Row.lease (κs .0) (qs .0)),
-        ) (List._∷_ (2, Rows.sc-here (Row.sInt Syntax.w32)) (List._∷_ (3, Rows.sc-here (Row.sInt Syntax.w32)) (List._∷_ (
-          4,
-          Rows.sc-here (Row.sInt Syntax.w32),
-        ) (List._∷_ (
-          5,
-          AtSlots.srefAt 2 (λ κc. Held.type (Syntax.named 1) (κc .1 .0)) Held.Value (λ κc v. v) (List._∷_ 6 (List._∷_ 1 List.[])) (Syntax.tyRef
-              Syntax.erased Syntax.imm (Held.behind Syntax.erased)) 6,
-        ) (List._∷_ (6, Rows.any-gone (Syntax.tyRef Syntax.erased Syntax.mut (Held.behind Syntax.erased))) (List._∷_ (
-          7,
-          Rows.any-gone
-              Syntax.tyUnit,
-        ) (List._∷_ (8, Rows.any-gone (Syntax.tyRef Syntax.erased Syntax.mut (Held.behind Syntax.erased))) (List._∷_ (9, Rows.any-gone Syntax.tyUnit) (List._∷_ (
-          10,
-          Rows.any-gone
-              (Syntax.tyRef Syntax.erased Syntax.mut (Held.behind Syntax.erased)),
-        ) List.[]))))))))))
+        g6 = λ at. List._∷_ e0 (List._∷_
+            (1, Reshare.mref-owedS (Held.type (Syntax.named 1) (κs .1 .0)) (Syntax.tyRef (Syntax.named 0) Syntax.mut (Held.behind (Syntax.named 1))) 0 2 (Row.lease (κs .0) (qs .0))) (List._∷_ e11
+            (List._∷_ e13 (List._∷_ e15 (List._∷_ e16 (List._∷_ e21 (List._∷_ e22 (List._∷_ e26 (List._∷_ e27 (List._∷_ e9 List.[]))))))))))
 
         abbrev g7 : (at : Nat.ℕ → Nat.ℕ) → List.List Row.Entry
-        g7 = λ at. List._∷_ (0, Rows.any-gone (Syntax.tyInt Syntax.w32)) (List._∷_ (
-          1,
-          Reshare.mref-owedS (Held.type (Syntax.named 1) (κs .1 .0)) (Syntax.tyRef (Syntax.named 0) Syntax.mut
-              (Held.behind (Syntax.named 1))) 0 2 (Row.lease (κs .0) (qs .0)),
-        ) (List._∷_ (2, Rows.sc-here (Row.sInt Syntax.w32)) (List._∷_ (3, Rows.sc-here (Row.sInt Syntax.w32)) (List._∷_ (
-          4,
-          Rows.sc-here (Row.sInt Syntax.w32),
-        ) (List._∷_ (5, Rows.sref (Held.type (Syntax.named 1) (κs .1 .0)) (Syntax.tyRef Syntax.erased Syntax.imm (Held.behind Syntax.erased)) 6) (List._∷_ (
-          6,
-          Rows.any-gone (Syntax.tyRef Syntax.erased Syntax.mut (Held.behind Syntax.erased)),
-        ) (List._∷_ (7, Rows.any-gone Syntax.tyUnit) (List._∷_ (
-          8,
-          Rows.any-gone (Syntax.tyRef Syntax.erased
-              Syntax.mut (Held.behind Syntax.erased)),
-        ) (List._∷_ (9, Rows.any-gone Syntax.tyUnit) (List._∷_ (10, Rows.any-gone (Syntax.tyRef Syntax.erased Syntax.mut (Held.behind Syntax.erased)))
-            List.[]))))))))))
+        g7 = λ at. List._∷_ e0 (List._∷_
+            (1, Reshare.mref-owedS (Held.type (Syntax.named 1) (κs .1 .0)) (Syntax.tyRef (Syntax.named 0) Syntax.mut (Held.behind (Syntax.named 1))) 0 2 (Row.lease (κs .0) (qs .0))) (List._∷_ e11
+            (List._∷_ e13 (List._∷_ e15 (List._∷_ (5, Rows.sref (Held.type (Syntax.named 1) (κs .1 .0)) (Syntax.tyRef Syntax.erased Syntax.imm (Held.behind Syntax.erased)) 6) (List._∷_ e21 (List._∷_ e22
+            (List._∷_ e26 (List._∷_ e27 (List._∷_ e9 List.[]))))))))))
 
         abbrev g8 : (at : Nat.ℕ → Nat.ℕ) → List.List Row.Entry
-        g8 = λ at. List._∷_ (0, Rows.any-gone (Syntax.tyInt Syntax.w32)) (List._∷_ (
-          1,
-          Reshare.mref-owedS (Held.type (Syntax.named 1) (κs .1 .0)) (Syntax.tyRef (Syntax.named 0) Syntax.mut
-              (Held.behind (Syntax.named 1))) 0 2 (Row.lease (κs .0) (qs .0)),
-        ) (List._∷_ (2, Rows.sc-here (Row.sInt Syntax.w32)) (List._∷_ (3, Rows.sc-here (Row.sInt Syntax.w32)) (List._∷_ (
-          4,
-          Rows.sc-here (Row.sInt Syntax.w32),
-        ) (List._∷_ (5, Rows.any-gone (Syntax.tyRef Syntax.erased Syntax.imm (Held.behind Syntax.erased))) (List._∷_ (
-          6,
-          Rows.any-gone (Syntax.tyRef Syntax.erased
-              Syntax.mut (Held.behind Syntax.erased)),
-        ) (List._∷_ (7, Rows.any-gone Syntax.tyUnit) (List._∷_ (8, Rows.any-gone (Syntax.tyRef Syntax.erased Syntax.mut (Held.behind Syntax.erased)))
-            (List._∷_ (9, Rows.any-gone Syntax.tyUnit) (List._∷_ (10, Rows.any-gone (Syntax.tyRef Syntax.erased Syntax.mut (Held.behind Syntax.erased))) List.[]))))))))))
+        g8 = λ at. List._∷_ e0 (List._∷_
+            (1, Reshare.mref-owedS (Held.type (Syntax.named 1) (κs .1 .0)) (Syntax.tyRef (Syntax.named 0) Syntax.mut (Held.behind (Syntax.named 1))) 0 2 (Row.lease (κs .0) (qs .0))) (List._∷_ e11
+            (List._∷_ e13 (List._∷_ e15 (List._∷_ e17 (List._∷_ e21 (List._∷_ e22 (List._∷_ e26 (List._∷_ e27 (List._∷_ e9 List.[]))))))))))
 
         abbrev g9 : (at : Nat.ℕ → Nat.ℕ) → List.List Row.Entry
-        g9 = λ at. List._∷_ (0, Rows.any-gone (Syntax.tyInt Syntax.w32)) (List._∷_ (
-          1,
-          Rows.mref-owed (Held.type (Syntax.named 1) (κs .1 .0)) (Syntax.tyRef (Syntax.named 0) Syntax.mut (Held.behind
-              (Syntax.named 1))) 0 3 (Row.lease (κs .0) (qs .0)),
-        ) (List._∷_ (2, Rows.sc-here (Row.sInt Syntax.w32)) (List._∷_ (3, Rows.sc-here (Row.sInt Syntax.w32)) (List._∷_ (
-          4,
-          Rows.any-gone
-              (Syntax.tyInt Syntax.w32),
-        ) (List._∷_ (5, Rows.any-gone (Syntax.tyRef Syntax.erased Syntax.imm (Held.behind Syntax.erased))) (List._∷_ (
-          6,
-          Rows.mref (Held.type (Syntax.named 1) (κs .1 .0))
-              (Syntax.tyRef Syntax.erased Syntax.mut (Held.behind Syntax.erased)) 3,
-        ) (List._∷_ (7, Rows.any-gone Syntax.tyUnit) (List._∷_ (
-          8,
-          Rows.any-gone (Syntax.tyRef Syntax.erased Syntax.mut
-              (Held.behind Syntax.erased)),
-        ) (List._∷_ (9, Rows.any-gone Syntax.tyUnit) (List._∷_ (10, Rows.any-gone (Syntax.tyRef Syntax.erased Syntax.mut (Held.behind Syntax.erased)))
-            List.[]))))))))))
+        g9 = λ at. List._∷_ e0 (List._∷_
+            (1, Rows.mref-owed (Held.type (Syntax.named 1) (κs .1 .0)) (Syntax.tyRef (Syntax.named 0) Syntax.mut (Held.behind (Syntax.named 1))) 0 3 (Row.lease (κs .0) (qs .0))) (List._∷_ e11 (List._∷_
+            e13 (List._∷_ e14 (List._∷_ e17 (List._∷_ (6, Rows.mref (Held.type (Syntax.named 1) (κs .1 .0)) (Syntax.tyRef Syntax.erased Syntax.mut (Held.behind Syntax.erased)) 3) (List._∷_ e22 (List._∷_
+            e26 (List._∷_ e27 (List._∷_ e9 List.[]))))))))))
 
         abbrev g10 : (at : Nat.ℕ → Nat.ℕ) → List.List Row.Entry
-        g10 = λ at. List._∷_ (0, Rows.any-gone (Syntax.tyInt Syntax.w32)) (List._∷_ (
-          1,
-          Rows.mref-owed (Held.type (Syntax.named 1) (κs .1 .0)) (Syntax.tyRef (Syntax.named 0) Syntax.mut (Held.behind
-              (Syntax.named 1))) 0 3 (Row.lease (κs .0) (qs .0)),
-        ) (List._∷_ (2, Rows.sc-here (Row.sInt Syntax.w32)) (List._∷_ (3, Rows.sc-here (Row.sInt Syntax.w32)) (List._∷_ (
-          4,
-          Rows.any-gone
-              (Syntax.tyInt Syntax.w32),
-        ) (List._∷_ (5, Rows.any-gone (Syntax.tyRef Syntax.erased Syntax.imm (Held.behind Syntax.erased))) (List._∷_ (
-          6,
-          Rows.mref (Held.type (Syntax.named 1) (κs .1 .0))
-              (Syntax.tyRef Syntax.erased Syntax.mut (Held.behind Syntax.erased)) 7,
-        ) (List._∷_ (7, Rows.any-gone Syntax.tyUnit) (List._∷_ (
-          8,
-          Rows.any-gone (Syntax.tyRef Syntax.erased Syntax.mut
-              (Held.behind Syntax.erased)),
-        ) (List._∷_ (9, Rows.any-gone Syntax.tyUnit) (List._∷_ (10, Rows.any-gone (Syntax.tyRef Syntax.erased Syntax.mut (Held.behind Syntax.erased)))
-            List.[]))))))))))
+        g10 = λ at. List._∷_ e0 (List._∷_
+            (1, Rows.mref-owed (Held.type (Syntax.named 1) (κs .1 .0)) (Syntax.tyRef (Syntax.named 0) Syntax.mut (Held.behind (Syntax.named 1))) 0 3 (Row.lease (κs .0) (qs .0))) (List._∷_ e11 (List._∷_
+            e13 (List._∷_ e14 (List._∷_ e17 (List._∷_ (6, Rows.mref (Held.type (Syntax.named 1) (κs .1 .0)) (Syntax.tyRef Syntax.erased Syntax.mut (Held.behind Syntax.erased)) 7) (List._∷_ e22 (List._∷_
+            e26 (List._∷_ e27 (List._∷_ e9 List.[]))))))))))
 
         abbrev g11 : (at : Nat.ℕ → Nat.ℕ) → List.List Row.Entry
-        g11 = λ at. List._∷_ (0, Rows.any-gone (Syntax.tyInt Syntax.w32)) (List._∷_ (
-          1,
-          Rows.mref-owed (Held.type (Syntax.named 1) (κs .1 .0)) (Syntax.tyRef (Syntax.named 0) Syntax.mut (Held.behind
-              (Syntax.named 1))) 0 3 (Row.lease (κs .0) (qs .0)),
-        ) (List._∷_ (2, Rows.sc-here (Row.sInt Syntax.w32)) (List._∷_ (3, Rows.sc-here (Row.sInt Syntax.w32)) (List._∷_ (
-          4,
-          Rows.any-gone
-              (Syntax.tyInt Syntax.w32),
-        ) (List._∷_ (5, Rows.any-gone (Syntax.tyRef Syntax.erased Syntax.imm (Held.behind Syntax.erased))) (List._∷_ (
-          6,
-          AtSlots.mrefAt 2 (λ κc. Held.type (Syntax.named 1)
-              (κc .1 .0)) Held.Value (λ κc v. v) (List._∷_ 7 (List._∷_ 1 List.[])) (Syntax.tyRef Syntax.erased Syntax.mut (Held.behind Syntax.erased)) 7,
-        ) (List._∷_ (7, Rows.any-gone Syntax.tyUnit)
-            (List._∷_ (8, Rows.any-gone (Syntax.tyRef Syntax.erased Syntax.mut (Held.behind Syntax.erased))) (List._∷_ (9, Rows.any-gone Syntax.tyUnit) (List._∷_ (
-              10,
-              Rows.any-gone (Syntax.tyRef
-                  Syntax.erased Syntax.mut (Held.behind Syntax.erased)),
-            ) List.[]))))))))))
+        g11 = λ at. List._∷_ e0 (List._∷_
+            (1, Rows.mref-owed (Held.type (Syntax.named 1) (κs .1 .0)) (Syntax.tyRef (Syntax.named 0) Syntax.mut (Held.behind (Syntax.named 1))) 0 3 (Row.lease (κs .0) (qs .0))) (List._∷_ e11 (List._∷_
+            e13 (List._∷_ e14 (List._∷_ e17 (List._∷_ e20 (List._∷_ e22 (List._∷_ e26 (List._∷_ e27 (List._∷_ e9 List.[]))))))))))
 
         abbrev g12 : (at : Nat.ℕ → Nat.ℕ) → List.List Row.Entry
-        g12 = λ at. List._∷_ (0, Rows.any-gone (Syntax.tyInt Syntax.w32)) (List._∷_ (
-          1,
-          Rows.mref-owed (Held.type (Syntax.named 1) (κs .1 .0)) (Syntax.tyRef (Syntax.named 0) Syntax.mut (Held.behind
-              (Syntax.named 1))) 0 3 (Row.lease (κs .0) (qs .0)),
-        ) (List._∷_ (2, Rows.sc-here (Row.sInt Syntax.w32)) (List._∷_ (3, Rows.sc-here (Row.sInt Syntax.w32)) (List._∷_ (
-          4,
-          Rows.sc-here
-              (Row.sInt Syntax.w32),
-        ) (List._∷_ (5, Rows.any-gone (Syntax.tyRef Syntax.erased Syntax.imm (Held.behind Syntax.erased))) (List._∷_ (
-          6,
-          AtSlots.mleftAt 2 (λ κc. Held.type (Syntax.named 1)
-              (κc .1 .0)) Held.Value (λ κc v. v) (List._∷_ 7 (List._∷_ 1 List.[])) (Syntax.tyRef Syntax.erased Syntax.mut (Held.behind Syntax.erased)),
-        ) (List._∷_ (7, Rows.any-gone Syntax.tyUnit) (List._∷_
-            (8, Rows.any-gone (Syntax.tyRef Syntax.erased Syntax.mut (Held.behind Syntax.erased))) (List._∷_ (9, Rows.any-gone Syntax.tyUnit) (List._∷_ (
-              10,
-              Rows.any-gone (Syntax.tyRef Syntax.erased
-                  Syntax.mut (Held.behind Syntax.erased)),
-            ) List.[]))))))))))
+        g12 = λ at. List._∷_ e0 (List._∷_
+            (1, Rows.mref-owed (Held.type (Syntax.named 1) (κs .1 .0)) (Syntax.tyRef (Syntax.named 0) Syntax.mut (Held.behind (Syntax.named 1))) 0 3 (Row.lease (κs .0) (qs .0))) (List._∷_ e11 (List._∷_
+            e13 (List._∷_ e15 (List._∷_ e17 (List._∷_ e19 (List._∷_ e22 (List._∷_ e26 (List._∷_ e27 (List._∷_ e9 List.[]))))))))))
 
         abbrev g13 : (at : Nat.ℕ → Nat.ℕ) → List.List Row.Entry
-        g13 = λ at. List._∷_ (0, Rows.any-gone (Syntax.tyInt Syntax.w32)) (List._∷_ (
-          1,
-          Rows.mref-owed (Held.type (Syntax.named 1) (κs .1 .0)) (Syntax.tyRef (Syntax.named 0) Syntax.mut (Held.behind
-              (Syntax.named 1))) 0 4 (Row.lease (κs .0) (qs .0)),
-        ) (List._∷_ (2, Rows.sc-here (Row.sInt Syntax.w32)) (List._∷_ (3, Rows.sc-here (Row.sInt Syntax.w32)) (List._∷_ (
-          4,
-          Rows.any-gone
-              (Syntax.tyInt Syntax.w32),
-        ) (List._∷_ (5, Rows.any-gone (Syntax.tyRef Syntax.erased Syntax.imm (Held.behind Syntax.erased))) (List._∷_ (
-          6,
-          Rows.any-gone (Syntax.tyRef Syntax.erased
-              Syntax.mut (Held.behind Syntax.erased)),
-        ) (List._∷_ (7, Rows.any-gone Syntax.tyUnit) (List._∷_ (
-          8,
-          Rows.mref (Held.type (Syntax.named 1) (κs .1 .0)) (Syntax.tyRef Syntax.erased Syntax.mut
-              (Held.behind Syntax.erased)) 4,
-        ) (List._∷_ (9, Rows.any-gone Syntax.tyUnit) (List._∷_ (10, Rows.any-gone (Syntax.tyRef Syntax.erased Syntax.mut (Held.behind Syntax.erased)))
-            List.[]))))))))))
+        g13 = λ at. List._∷_ e0 (List._∷_
+            (1, Rows.mref-owed (Held.type (Syntax.named 1) (κs .1 .0)) (Syntax.tyRef (Syntax.named 0) Syntax.mut (Held.behind (Syntax.named 1))) 0 4 (Row.lease (κs .0) (qs .0))) (List._∷_ e11 (List._∷_
+            e13 (List._∷_ e14 (List._∷_ e17 (List._∷_ e21 (List._∷_ e22 (List._∷_
+            (8, Rows.mref (Held.type (Syntax.named 1) (κs .1 .0)) (Syntax.tyRef Syntax.erased Syntax.mut (Held.behind Syntax.erased)) 4) (List._∷_ e27 (List._∷_ e9 List.[]))))))))))
 
         abbrev g14 : (at : Nat.ℕ → Nat.ℕ) → List.List Row.Entry
-        g14 = λ at. List._∷_ (0, Rows.any-gone (Syntax.tyInt Syntax.w32)) (List._∷_ (
-          1,
-          Rows.mref-owed (Held.type (Syntax.named 1) (κs .1 .0)) (Syntax.tyRef (Syntax.named 0) Syntax.mut (Held.behind
-              (Syntax.named 1))) 0 4 (Row.lease (κs .0) (qs .0)),
-        ) (List._∷_ (2, Rows.sc-here (Row.sInt Syntax.w32)) (List._∷_ (3, Rows.sc-here (Row.sInt Syntax.w32)) (List._∷_ (
-          4,
-          Rows.any-gone
-              (Syntax.tyInt Syntax.w32),
-        ) (List._∷_ (5, Rows.any-gone (Syntax.tyRef Syntax.erased Syntax.imm (Held.behind Syntax.erased))) (List._∷_ (
-          6,
-          Rows.any-gone (Syntax.tyRef Syntax.erased
-              Syntax.mut (Held.behind Syntax.erased)),
-        ) (List._∷_ (7, Rows.any-gone Syntax.tyUnit) (List._∷_ (
-          8,
-          Rows.mref (Held.type (Syntax.named 1) (κs .1 .0)) (Syntax.tyRef Syntax.erased Syntax.mut
-              (Held.behind Syntax.erased)) 8,
-        ) (List._∷_ (9, Rows.any-gone Syntax.tyUnit) (List._∷_ (10, Rows.any-gone (Syntax.tyRef Syntax.erased Syntax.mut (Held.behind Syntax.erased)))
-            List.[]))))))))))
+        g14 = λ at. List._∷_ e0 (List._∷_
+            (1, Rows.mref-owed (Held.type (Syntax.named 1) (κs .1 .0)) (Syntax.tyRef (Syntax.named 0) Syntax.mut (Held.behind (Syntax.named 1))) 0 4 (Row.lease (κs .0) (qs .0))) (List._∷_ e11 (List._∷_
+            e13 (List._∷_ e14 (List._∷_ e17 (List._∷_ e21 (List._∷_ e22 (List._∷_
+            (8, Rows.mref (Held.type (Syntax.named 1) (κs .1 .0)) (Syntax.tyRef Syntax.erased Syntax.mut (Held.behind Syntax.erased)) 8) (List._∷_ e27 (List._∷_ e9 List.[]))))))))))
 
         abbrev g15 : (at : Nat.ℕ → Nat.ℕ) → List.List Row.Entry
-        g15 = λ at. List._∷_ (0, Rows.any-gone (Syntax.tyInt Syntax.w32)) (List._∷_ (
-          1,
-          Rows.mref-owed (Held.type (Syntax.named 1) (κs .1 .0)) (Syntax.tyRef (Syntax.named 0) Syntax.mut (Held.behind
-              (Syntax.named 1))) 0 4 (Row.lease (κs .0) (qs .0)),
-        ) (List._∷_ (2, Rows.sc-here (Row.sInt Syntax.w32)) (List._∷_ (3, Rows.sc-here (Row.sInt Syntax.w32)) (List._∷_ (
-          4,
-          Rows.any-gone
-              (Syntax.tyInt Syntax.w32),
-        ) (List._∷_ (5, Rows.any-gone (Syntax.tyRef Syntax.erased Syntax.imm (Held.behind Syntax.erased))) (List._∷_ (
-          6,
-          Rows.any-gone (Syntax.tyRef Syntax.erased
-              Syntax.mut (Held.behind Syntax.erased)),
-        ) (List._∷_ (7, Rows.any-gone Syntax.tyUnit) (List._∷_ (
-          8,
-          AtSlots.mrefAt 2 (λ κc. Held.type (Syntax.named 1) (κc .1 .0)) Held.Value (λ κc v. v)
-              (List._∷_ 8 (List._∷_ 1 List.[])) (Syntax.tyRef Syntax.erased Syntax.mut (Held.behind Syntax.erased)) 8,
-        ) (List._∷_ (9, Rows.any-gone Syntax.tyUnit) (List._∷_ (
-          10,
-          Rows.any-gone
-              (Syntax.tyRef Syntax.erased Syntax.mut (Held.behind Syntax.erased)),
-        ) List.[]))))))))))
+        g15 = λ at. List._∷_ e0 (List._∷_
+            (1, Rows.mref-owed (Held.type (Syntax.named 1) (κs .1 .0)) (Syntax.tyRef (Syntax.named 0) Syntax.mut (Held.behind (Syntax.named 1))) 0 4 (Row.lease (κs .0) (qs .0))) (List._∷_ e11 (List._∷_
+            e13 (List._∷_ e14 (List._∷_ e17 (List._∷_ e21 (List._∷_ e22 (List._∷_ e25 (List._∷_ e27 (List._∷_ e9 List.[]))))))))))
 
         abbrev g16 : (at : Nat.ℕ → Nat.ℕ) → List.List Row.Entry
-        g16 = λ at. List._∷_ (0, Rows.any-gone (Syntax.tyInt Syntax.w32)) (List._∷_ (
-          1,
-          Rows.mref-owed (Held.type (Syntax.named 1) (κs .1 .0)) (Syntax.tyRef (Syntax.named 0) Syntax.mut (Held.behind
-              (Syntax.named 1))) 0 4 (Row.lease (κs .0) (qs .0)),
-        ) (List._∷_ (2, Rows.sc-here (Row.sInt Syntax.w32)) (List._∷_ (3, Rows.sc-here (Row.sInt Syntax.w32)) (List._∷_ (
-          4,
-          Rows.any-gone
-              (Syntax.tyInt Syntax.w32),
-        ) (List._∷_ (5, Rows.any-gone (Syntax.tyRef Syntax.erased Syntax.imm (Held.behind Syntax.erased))) (List._∷_ (
-          6,
-          Rows.any-gone (Syntax.tyRef Syntax.erased
-              Syntax.mut (Held.behind Syntax.erased)),
-        ) (List._∷_ (7, Rows.sc-here Row.sUnit) (List._∷_ (
-          8,
-          AtSlots.mleftAt 2 (λ κc. Held.type (Syntax.named 1) (κc .1 .0)) Held.Value (λ κc v. v) (List._∷_
-              8 (List._∷_ 1 List.[])) (Syntax.tyRef Syntax.erased Syntax.mut (Held.behind Syntax.erased)),
-        ) (List._∷_ (9, Rows.any-gone Syntax.tyUnit) (List._∷_ (
-          10,
-          Rows.any-gone (Syntax.tyRef
-              Syntax.erased Syntax.mut (Held.behind Syntax.erased)),
-        ) List.[]))))))))))
+        g16 = λ at. List._∷_ e0 (List._∷_
+            (1, Rows.mref-owed (Held.type (Syntax.named 1) (κs .1 .0)) (Syntax.tyRef (Syntax.named 0) Syntax.mut (Held.behind (Syntax.named 1))) 0 4 (Row.lease (κs .0) (qs .0))) (List._∷_ e11 (List._∷_
+            e13 (List._∷_ e14 (List._∷_ e17 (List._∷_ e21 (List._∷_ e23 (List._∷_ e24 (List._∷_ e27 (List._∷_ e9 List.[]))))))))))
 
         abbrev g17 : (at : Nat.ℕ → Nat.ℕ) → List.List Row.Entry
-        g17 = λ at. List._∷_ (0, Rows.any-gone (Syntax.tyInt Syntax.w32)) (List._∷_ (
-          1,
-          Rows.mref-owed (Held.type (Syntax.named 1) (κs .1 .0)) (Syntax.tyRef (Syntax.named 0) Syntax.mut (Held.behind
-              (Syntax.named 1))) 0 4 (Row.lease (κs .0) (qs .0)),
-        ) (List._∷_ (2, Rows.sc-here (Row.sInt Syntax.w32)) (List._∷_ (3, Rows.sc-here (Row.sInt Syntax.w32)) (List._∷_ (
-          4,
-          Rows.any-gone
-              (Syntax.tyInt Syntax.w32),
-        ) (List._∷_ (5, Rows.any-gone (Syntax.tyRef Syntax.erased Syntax.imm (Held.behind Syntax.erased))) (List._∷_ (
-          6,
-          Rows.any-gone (Syntax.tyRef Syntax.erased
-              Syntax.mut (Held.behind Syntax.erased)),
-        ) (List._∷_ (7, Rows.any-gone Syntax.tyUnit) (List._∷_ (
-          8,
-          AtSlots.mleftAt 2 (λ κc. Held.type (Syntax.named 1) (κc .1 .0)) Held.Value (λ κc v. v)
-              (List._∷_ 8 (List._∷_ 1 List.[])) (Syntax.tyRef Syntax.erased Syntax.mut (Held.behind Syntax.erased)),
-        ) (List._∷_ (9, Rows.any-gone Syntax.tyUnit) (List._∷_ (
-          10,
-          Rows.any-gone (Syntax.tyRef
-              Syntax.erased Syntax.mut (Held.behind Syntax.erased)),
-        ) List.[]))))))))))
+        g17 = λ at. List._∷_ e0 (List._∷_
+            (1, Rows.mref-owed (Held.type (Syntax.named 1) (κs .1 .0)) (Syntax.tyRef (Syntax.named 0) Syntax.mut (Held.behind (Syntax.named 1))) 0 4 (Row.lease (κs .0) (qs .0))) (List._∷_ e11 (List._∷_
+            e13 (List._∷_ e14 (List._∷_ e17 (List._∷_ e21 (List._∷_ e22 (List._∷_ e24 (List._∷_ e27 (List._∷_ e9 List.[]))))))))))
 
         abbrev g18 : (at : Nat.ℕ → Nat.ℕ) → List.List Row.Entry
-        g18 = λ at. List._∷_ (0, Rows.any-gone (Syntax.tyInt Syntax.w32)) (List._∷_ (
-          1,
-          Rows.mref-owed (Held.type (Syntax.named 1) (κs .1 .0)) (Syntax.tyRef (Syntax.named 0) Syntax.mut (Held.behind
-              (Syntax.named 1))) 0 5 (Row.lease (κs .0) (qs .0)),
-        ) (List._∷_ (2, Rows.sc-here (Row.sInt Syntax.w32)) (List._∷_ (3, Rows.sc-here (Row.sInt Syntax.w32)) (List._∷_ (
-          4,
-          Rows.any-gone
-              (Syntax.tyInt Syntax.w32),
-        ) (List._∷_ (5, Rows.any-gone (Syntax.tyRef Syntax.erased Syntax.imm (Held.behind Syntax.erased))) (List._∷_ (
-          6,
-          Rows.any-gone (Syntax.tyRef Syntax.erased
-              Syntax.mut (Held.behind Syntax.erased)),
-        ) (List._∷_ (7, Rows.any-gone Syntax.tyUnit) (List._∷_ (8, Rows.any-gone (Syntax.tyRef Syntax.erased Syntax.mut (Held.behind Syntax.erased)))
-            (List._∷_ (9, Rows.any-gone Syntax.tyUnit) (List._∷_ (10, Rows.mref (Held.type (Syntax.named 1) (κs .1 .0)) (Syntax.tyRef Syntax.erased Syntax.mut (Held.behind Syntax.erased)) 5)
-            List.[]))))))))))
+        g18 = λ at. List._∷_ e0 (List._∷_
+            (1, Rows.mref-owed (Held.type (Syntax.named 1) (κs .1 .0)) (Syntax.tyRef (Syntax.named 0) Syntax.mut (Held.behind (Syntax.named 1))) 0 5 (Row.lease (κs .0) (qs .0))) (List._∷_ e11 (List._∷_
+            e13 (List._∷_ e14 (List._∷_ e17 (List._∷_ e21 (List._∷_ e22 (List._∷_ e26 (List._∷_ e27 (List._∷_
+            (10, Rows.mref (Held.type (Syntax.named 1) (κs .1 .0)) (Syntax.tyRef Syntax.erased Syntax.mut (Held.behind Syntax.erased)) 5) List.[]))))))))))
 
         abbrev g19 : (at : Nat.ℕ → Nat.ℕ) → List.List Row.Entry
-        g19 = λ at. List._∷_ (0, Rows.any-gone (Syntax.tyInt Syntax.w32)) (List._∷_ (
-          1,
-          Rows.mref-owed (Held.type (Syntax.named 1) (κs .1 .0)) (Syntax.tyRef (Syntax.named 0) Syntax.mut (Held.behind
-              (Syntax.named 1))) 0 5 (Row.lease (κs .0) (qs .0)),
-        ) (List._∷_ (2, Rows.sc-here (Row.sInt Syntax.w32)) (List._∷_ (3, Rows.sc-here (Row.sInt Syntax.w32)) (List._∷_ (
-          4,
-          Rows.any-gone
-              (Syntax.tyInt Syntax.w32),
-        ) (List._∷_ (5, Rows.any-gone (Syntax.tyRef Syntax.erased Syntax.imm (Held.behind Syntax.erased))) (List._∷_ (
-          6,
-          Rows.any-gone (Syntax.tyRef Syntax.erased
-              Syntax.mut (Held.behind Syntax.erased)),
-        ) (List._∷_ (7, Rows.any-gone Syntax.tyUnit) (List._∷_ (8, Rows.any-gone (Syntax.tyRef Syntax.erased Syntax.mut (Held.behind Syntax.erased)))
-            (List._∷_ (9, Rows.any-gone Syntax.tyUnit) (List._∷_ (10, Rows.mref (Held.type (Syntax.named 1) (κs .1 .0)) (Syntax.tyRef Syntax.erased Syntax.mut (Held.behind Syntax.erased)) 9)
-            List.[]))))))))))
+        g19 = λ at. List._∷_ e0 (List._∷_
+            (1, Rows.mref-owed (Held.type (Syntax.named 1) (κs .1 .0)) (Syntax.tyRef (Syntax.named 0) Syntax.mut (Held.behind (Syntax.named 1))) 0 5 (Row.lease (κs .0) (qs .0))) (List._∷_ e11 (List._∷_
+            e13 (List._∷_ e14 (List._∷_ e17 (List._∷_ e21 (List._∷_ e22 (List._∷_ e26 (List._∷_ e27 (List._∷_
+            (10, Rows.mref (Held.type (Syntax.named 1) (κs .1 .0)) (Syntax.tyRef Syntax.erased Syntax.mut (Held.behind Syntax.erased)) 9) List.[]))))))))))
 
         abbrev g20 : (at : Nat.ℕ → Nat.ℕ) → List.List Row.Entry
-        g20 = λ at. List._∷_ (0, Rows.any-gone (Syntax.tyInt Syntax.w32)) (List._∷_ (
-          1,
-          Rows.mref-owed (Held.type (Syntax.named 1) (κs .1 .0)) (Syntax.tyRef (Syntax.named 0) Syntax.mut (Held.behind
-              (Syntax.named 1))) 0 5 (Row.lease (κs .0) (qs .0)),
-        ) (List._∷_ (2, Rows.sc-here (Row.sInt Syntax.w32)) (List._∷_ (3, Rows.sc-here (Row.sInt Syntax.w32)) (List._∷_ (
-          4,
-          Rows.any-gone
-              (Syntax.tyInt Syntax.w32),
-        ) (List._∷_ (5, Rows.any-gone (Syntax.tyRef Syntax.erased Syntax.imm (Held.behind Syntax.erased))) (List._∷_ (
-          6,
-          Rows.any-gone (Syntax.tyRef Syntax.erased
-              Syntax.mut (Held.behind Syntax.erased)),
-        ) (List._∷_ (7, Rows.any-gone Syntax.tyUnit) (List._∷_ (8, Rows.any-gone (Syntax.tyRef Syntax.erased Syntax.mut (Held.behind Syntax.erased)))
-            (List._∷_ (9, Rows.any-gone Syntax.tyUnit) (List._∷_ (
-              10,
-              AtSlots.mrefAt 2 (λ κc. Held.type (Syntax.named 1) (κc .1 .0)) Held.Value (λ κc v. v) (List._∷_ 9 (List._∷_ 1 List.[])) (Syntax.tyRef
-                  Syntax.erased Syntax.mut (Held.behind Syntax.erased)) 9,
-            ) List.[]))))))))))
+        g20 = λ at. List._∷_ e0 (List._∷_
+            (1, Rows.mref-owed (Held.type (Syntax.named 1) (κs .1 .0)) (Syntax.tyRef (Syntax.named 0) Syntax.mut (Held.behind (Syntax.named 1))) 0 5 (Row.lease (κs .0) (qs .0))) (List._∷_ e11 (List._∷_
+            e13 (List._∷_ e14 (List._∷_ e17 (List._∷_ e21 (List._∷_ e22 (List._∷_ e26 (List._∷_ e27 (List._∷_ e8 List.[]))))))))))
 
         abbrev g21 : (at : Nat.ℕ → Nat.ℕ) → List.List Row.Entry
-        g21 = λ at. List._∷_ (0, Rows.any-gone (Syntax.tyInt Syntax.w32)) (List._∷_ (
-          1,
-          Rows.mref-owed (Held.type (Syntax.named 1) (κs .1 .0)) (Syntax.tyRef (Syntax.named 0) Syntax.mut (Held.behind
-              (Syntax.named 1))) 0 5 (Row.lease (κs .0) (qs .0)),
-        ) (List._∷_ (2, Rows.sc-here (Row.sInt Syntax.w32)) (List._∷_ (3, Rows.sc-here (Row.sInt Syntax.w32)) (List._∷_ (
-          4,
-          Rows.any-gone
-              (Syntax.tyInt Syntax.w32),
-        ) (List._∷_ (5, Rows.any-gone (Syntax.tyRef Syntax.erased Syntax.imm (Held.behind Syntax.erased))) (List._∷_ (
-          6,
-          Rows.any-gone (Syntax.tyRef Syntax.erased
-              Syntax.mut (Held.behind Syntax.erased)),
-        ) (List._∷_ (7, Rows.any-gone Syntax.tyUnit) (List._∷_ (8, Rows.any-gone (Syntax.tyRef Syntax.erased Syntax.mut (Held.behind Syntax.erased)))
-            (List._∷_ (9, Rows.sc-here Row.sUnit) (List._∷_ (
-              10,
-              AtSlots.mleftAt 2 (λ κc. Held.type (Syntax.named 1) (κc .1 .0)) Held.Value (λ κc v. v) (List._∷_ 9 (List._∷_ 1 List.[])) (Syntax.tyRef
-                  Syntax.erased Syntax.mut (Held.behind Syntax.erased)),
-            ) List.[]))))))))))
+        g21 = λ at. List._∷_ e0 (List._∷_
+            (1, Rows.mref-owed (Held.type (Syntax.named 1) (κs .1 .0)) (Syntax.tyRef (Syntax.named 0) Syntax.mut (Held.behind (Syntax.named 1))) 0 5 (Row.lease (κs .0) (qs .0))) (List._∷_ e11 (List._∷_
+            e13 (List._∷_ e14 (List._∷_ e17 (List._∷_ e21 (List._∷_ e22 (List._∷_ e26 (List._∷_ e28 (List._∷_ e7 List.[]))))))))))
 
         abbrev g22 : (at : Nat.ℕ → Nat.ℕ) → List.List Row.Entry
-        g22 = λ at. List._∷_ (0, Rows.any-gone (Syntax.tyInt Syntax.w32)) (List._∷_ (
-          1,
-          Rows.mref-owed (Held.type (Syntax.named 1) (κs .1 .0)) (Syntax.tyRef (Syntax.named 0) Syntax.mut (Held.behind
-              (Syntax.named 1))) 0 5 (Row.lease (κs .0) (qs .0)),
-        ) (List._∷_ (2, Rows.sc-here (Row.sInt Syntax.w32)) (List._∷_ (3, Rows.sc-here (Row.sInt Syntax.w32)) (List._∷_ (
-          4,
-          Rows.any-gone
-              (Syntax.tyInt Syntax.w32),
-        ) (List._∷_ (5, Rows.any-gone (Syntax.tyRef Syntax.erased Syntax.imm (Held.behind Syntax.erased))) (List._∷_ (
-          6,
-          Rows.any-gone (Syntax.tyRef Syntax.erased
-              Syntax.mut (Held.behind Syntax.erased)),
-        ) (List._∷_ (7, Rows.any-gone Syntax.tyUnit) (List._∷_ (8, Rows.any-gone (Syntax.tyRef Syntax.erased Syntax.mut (Held.behind Syntax.erased)))
-            (List._∷_ (9, Rows.any-gone Syntax.tyUnit) (List._∷_ (
-              10,
-              AtSlots.mleftAt 2 (λ κc. Held.type (Syntax.named 1) (κc .1 .0)) Held.Value (λ κc v. v) (List._∷_ 9 (List._∷_ 1 List.[]))
-                  (Syntax.tyRef Syntax.erased Syntax.mut (Held.behind Syntax.erased)),
-            ) List.[]))))))))))
+        g22 = λ at. List._∷_ e0 (List._∷_
+            (1, Rows.mref-owed (Held.type (Syntax.named 1) (κs .1 .0)) (Syntax.tyRef (Syntax.named 0) Syntax.mut (Held.behind (Syntax.named 1))) 0 5 (Row.lease (κs .0) (qs .0))) (List._∷_ e11 (List._∷_
+            e13 (List._∷_ e14 (List._∷_ e17 (List._∷_ e21 (List._∷_ e22 (List._∷_ e26 (List._∷_ e27 (List._∷_ e7 List.[]))))))))))
 
         abbrev g23 : (at : Nat.ℕ → Nat.ℕ) → List.List Row.Entry
-        g23 = λ at. List._∷_ (0, Rows.sc-here (Row.sInt Syntax.w32)) (List._∷_ (
-          1,
-          Rows.mref (Held.type (Syntax.named 1) (κs .1 .0)) (Syntax.tyRef (Syntax.named 0) Syntax.mut (Held.behind
-              (Syntax.named 1))) 0,
-        ) (List._∷_ (2, Rows.sc-here (Row.sInt Syntax.w32)) (List._∷_ (3, Rows.sc-here (Row.sInt Syntax.w32)) (List._∷_ (4, Rows.sc-here (Row.sInt Syntax.w32)) (List._∷_ (
-          5,
-          Rows.any-gone (Syntax.tyRef Syntax.erased Syntax.imm (Held.behind Syntax.erased)),
-        ) (List._∷_ (6, Rows.any-gone (Syntax.tyRef Syntax.erased Syntax.mut (Held.behind Syntax.erased)))
-            (List._∷_ (7, Rows.any-gone Syntax.tyUnit) (List._∷_ (8, Rows.any-gone (Syntax.tyRef Syntax.erased Syntax.mut (Held.behind Syntax.erased))) (List._∷_ (9, Rows.any-gone Syntax.tyUnit)
-            (List._∷_ (10, Rows.any-gone (Syntax.tyRef Syntax.erased Syntax.mut (Held.behind Syntax.erased))) List.[]))))))))))
+        g23 = λ at. List._∷_ e1 (List._∷_ (1, Rows.mref (Held.type (Syntax.named 1) (κs .1 .0)) (Syntax.tyRef (Syntax.named 0) Syntax.mut (Held.behind (Syntax.named 1))) 0) (List._∷_ e11 (List._∷_ e13
+            (List._∷_ e15 (List._∷_ e17 (List._∷_ e21 (List._∷_ e22 (List._∷_ e26 (List._∷_ e27 (List._∷_ e9 List.[]))))))))))
 
         abbrev g24 : (at : Nat.ℕ → Nat.ℕ) → List.List Row.Entry
-        g24 = λ at. List._∷_ (0, Rows.sc-here (Row.sInt Syntax.w32)) (List._∷_ (
-          1,
-          Rows.mref (Held.type (Syntax.named 1) (κs .1 .0)) (Syntax.tyRef (Syntax.named 0) Syntax.mut (Held.behind
-              (Syntax.named 1))) 0,
-        ) (List._∷_ (2, Rows.sc-here (Row.sInt Syntax.w32)) (List._∷_ (3, Rows.sc-here (Row.sInt Syntax.w32)) (List._∷_ (4, Rows.any-gone (Syntax.tyInt Syntax.w32)) (List._∷_
-            (5, Rows.any-gone (Syntax.tyRef Syntax.erased Syntax.imm (Held.behind Syntax.erased))) (List._∷_ (6, Rows.any-gone (Syntax.tyRef Syntax.erased Syntax.mut (Held.behind Syntax.erased)))
-            (List._∷_ (7, Rows.any-gone Syntax.tyUnit) (List._∷_ (8, Rows.any-gone (Syntax.tyRef Syntax.erased Syntax.mut (Held.behind Syntax.erased))) (List._∷_ (9, Rows.any-gone Syntax.tyUnit)
-            (List._∷_ (10, Rows.any-gone (Syntax.tyRef Syntax.erased Syntax.mut (Held.behind Syntax.erased))) List.[]))))))))))
+        g24 = λ at. List._∷_ e1 (List._∷_ (1, Rows.mref (Held.type (Syntax.named 1) (κs .1 .0)) (Syntax.tyRef (Syntax.named 0) Syntax.mut (Held.behind (Syntax.named 1))) 0) (List._∷_ e11 (List._∷_ e13
+            (List._∷_ e14 (List._∷_ e17 (List._∷_ e21 (List._∷_ e22 (List._∷_ e26 (List._∷_ e27 (List._∷_ e9 List.[]))))))))))
 
         abbrev g25 : (at : Nat.ℕ → Nat.ℕ) → List.List Row.Entry
-        g25 = λ at. List._∷_ (0, Rows.sc-here (Row.sInt Syntax.w32)) (List._∷_ (
-          1,
-          Rows.mref (Held.type (Syntax.named 1) (κs .1 .0)) (Syntax.tyRef (Syntax.named 0) Syntax.mut (Held.behind
-              (Syntax.named 1))) 0,
-        ) (List._∷_ (2, Rows.any-gone (Syntax.tyInt Syntax.w32)) (List._∷_ (3, Rows.sc-here (Row.sInt Syntax.w32)) (List._∷_ (4, Rows.any-gone (Syntax.tyInt Syntax.w32))
-            (List._∷_ (5, Rows.any-gone (Syntax.tyRef Syntax.erased Syntax.imm (Held.behind Syntax.erased))) (List._∷_ (
-              6,
-              Rows.any-gone (Syntax.tyRef Syntax.erased Syntax.mut (Held.behind
-                  Syntax.erased)),
-            ) (List._∷_ (7, Rows.any-gone Syntax.tyUnit) (List._∷_ (8, Rows.any-gone (Syntax.tyRef Syntax.erased Syntax.mut (Held.behind Syntax.erased))) (List._∷_ (
-              9,
-              Rows.any-gone
-                  Syntax.tyUnit,
-            ) (List._∷_ (10, Rows.any-gone (Syntax.tyRef Syntax.erased Syntax.mut (Held.behind Syntax.erased))) List.[]))))))))))
+        g25 = λ at. List._∷_ e1 (List._∷_ (1, Rows.mref (Held.type (Syntax.named 1) (κs .1 .0)) (Syntax.tyRef (Syntax.named 0) Syntax.mut (Held.behind (Syntax.named 1))) 0) (List._∷_ e10 (List._∷_ e13
+            (List._∷_ e14 (List._∷_ e17 (List._∷_ e21 (List._∷_ e22 (List._∷_ e26 (List._∷_ e27 (List._∷_ e9 List.[]))))))))))
 
         abbrev G0 : (at : Nat.ℕ → Nat.ℕ) → Row.Cx
         G0 = λ at. record {
           locals = g0 at;
-          slots = List._∷_ (Row.lease (κs .0) (qs .0)) (List._∷_ (Row.lease (κs .1 .0) (qs .1 .0)) (List._∷_ Row.off (List._∷_ Row.off (List._∷_ Row.off (List._∷_
-              Row.off (List._∷_ Row.off (List._∷_ Row.off (List._∷_ Row.off (List._∷_ Row.off List.[])))))))));
+          slots = List._∷_ (Row.lease (κs .0) (qs .0)) (List._∷_ (Row.lease (κs .1 .0) (qs .1 .0)) (List._∷_ Row.off (List._∷_ Row.off (List._∷_ Row.off (List._∷_ Row.off (List._∷_
+              Row.off (List._∷_ Row.off (List._∷_ Row.off (List._∷_ Row.off List.[])))))))));
         }
 
         abbrev G1 : (at : Nat.ℕ → Nat.ℕ) → Row.Cx
         G1 = λ at. record {
           locals = g1 at;
-          slots = List._∷_ (Row.lease (κs .0) (qs .0)) (List._∷_ (Row.lease (κs .1 .0) (qs .1 .0)) (List._∷_ Row.off (List._∷_ Row.off (List._∷_ Row.off (List._∷_
-              Row.off (List._∷_ Row.off (List._∷_ Row.off (List._∷_ Row.off (List._∷_ Row.off List.[])))))))));
+          slots = List._∷_ (Row.lease (κs .0) (qs .0)) (List._∷_ (Row.lease (κs .1 .0) (qs .1 .0)) (List._∷_ Row.off (List._∷_ Row.off (List._∷_ Row.off (List._∷_ Row.off (List._∷_
+              Row.off (List._∷_ Row.off (List._∷_ Row.off (List._∷_ Row.off List.[])))))))));
         }
 
         abbrev G2 : (at : Nat.ℕ → Nat.ℕ) → Row.Cx
         G2 = λ at. record {
           locals = g2 at;
-          slots = List._∷_ (Row.lease (κs .0) (qs .0)) (List._∷_ (Row.lease (κs .1 .0) (qs .1 .0)) (List._∷_ Row.off (List._∷_ Row.off (List._∷_ Row.off (List._∷_
-              Row.off (List._∷_ Row.off (List._∷_ Row.off (List._∷_ Row.off (List._∷_ Row.off List.[])))))))));
+          slots = List._∷_ (Row.lease (κs .0) (qs .0)) (List._∷_ (Row.lease (κs .1 .0) (qs .1 .0)) (List._∷_ Row.off (List._∷_ Row.off (List._∷_ Row.off (List._∷_ Row.off (List._∷_
+              Row.off (List._∷_ Row.off (List._∷_ Row.off (List._∷_ Row.off List.[])))))))));
         }
 
         abbrev G3 : (at : Nat.ℕ → Nat.ℕ) → Row.Cx
         G3 = λ at. record {
           locals = g0 at;
-          slots = List._∷_ (Row.lease (κs .0) (qs .0)) (List._∷_ (Row.lease (κs .1 .0) (qs .1 .0)) (List._∷_ Row.alive (List._∷_ Row.off (List._∷_ Row.off (List._∷_
-              Row.off (List._∷_ Row.off (List._∷_ Row.off (List._∷_ Row.off (List._∷_ Row.off List.[])))))))));
+          slots = List._∷_ (Row.lease (κs .0) (qs .0)) (List._∷_ (Row.lease (κs .1 .0) (qs .1 .0)) (List._∷_ Row.alive (List._∷_ Row.off (List._∷_ Row.off (List._∷_ Row.off (List._∷_
+              Row.off (List._∷_ Row.off (List._∷_ Row.off (List._∷_ Row.off List.[])))))))));
         }
 
         abbrev G4 : (at : Nat.ℕ → Nat.ℕ) → Row.Cx
         G4 = λ at. record {
           locals = g3 at;
-          slots = List._∷_ Row.off (List._∷_ (Row.lease (κs .1 .0) (qs .1 .0)) (List._∷_ Row.alive (List._∷_ Row.off (List._∷_ Row.off (List._∷_ Row.off (List._∷_
-              Row.off (List._∷_ Row.off (List._∷_ Row.off (List._∷_ Row.off List.[])))))))));
+          slots = List._∷_ Row.off (List._∷_ (Row.lease (κs .1 .0) (qs .1 .0)) (List._∷_ Row.alive (List._∷_ Row.off (List._∷_ Row.off (List._∷_ Row.off (List._∷_ Row.off (List._∷_
+              Row.off (List._∷_ Row.off (List._∷_ Row.off List.[])))))))));
         }
 
         abbrev G5 : (at : Nat.ℕ → Nat.ℕ) → Row.Cx
         G5 = λ at. record {
           locals = g3 at;
-          slots = List._∷_ Row.off (List._∷_ (Row.leaseT (κs .1 .0) (qs .1 .0) List.[]) (List._∷_ Row.alive (List._∷_ Row.off (List._∷_ Row.off (List._∷_ Row.off
-              (List._∷_ Row.off (List._∷_ Row.off (List._∷_ Row.off (List._∷_ Row.off List.[])))))))));
+          slots = List._∷_ Row.off (List._∷_ (Row.leaseT (κs .1 .0) (qs .1 .0) List.[]) (List._∷_ Row.alive (List._∷_ Row.off (List._∷_ Row.off (List._∷_ Row.off (List._∷_ Row.off
+              (List._∷_ Row.off (List._∷_ Row.off (List._∷_ Row.off List.[])))))))));
         }
 
         abbrev G6 : (at : Nat.ℕ → Nat.ℕ) → Row.Cx
         G6 = λ at. record {
           locals = g3 at;
-          slots = List._∷_ Row.off (List._∷_ (Row.leaseT (κs .1 .0) (qs .1 .0) List.[]) (List._∷_ (Row.lease (List._∷_ (at 0) List.[]) TreeShare.fullShare) (List._∷_
-              Row.off (List._∷_ Row.off (List._∷_ Row.off (List._∷_ Row.off (List._∷_ Row.off (List._∷_ Row.off (List._∷_ Row.off List.[])))))))));
+          slots = List._∷_ Row.off (List._∷_ (Row.leaseT (κs .1 .0) (qs .1 .0) List.[]) (List._∷_ (Row.lease (List._∷_ (at 0) List.[]) TreeShare.fullShare) (List._∷_ Row.off (List._∷_
+              Row.off (List._∷_ Row.off (List._∷_ Row.off (List._∷_ Row.off (List._∷_ Row.off (List._∷_ Row.off List.[])))))))));
         }
 
         abbrev G7 : (at : Nat.ℕ → Nat.ℕ) → Row.Cx
         G7 = λ at. record {
           locals = g3 at;
-          slots = List._∷_ Row.off (List._∷_ (Row.leaseT (κs .1 .0) (qs .1 .0) (List._∷_ Bool.false List.[])) (List._∷_ (Row.carved (List._∷_ (at 0) List.[])
-              (TreeShare.PosShare·right (qs .1 .0))) (List._∷_ Row.off (List._∷_ Row.off (List._∷_ Row.off (List._∷_ (Row.lease (List._++_ (κs .1 .0) (List._∷_ (at 0) List.[])) (TreeShare.PosShare·right (qs
-              .1 .0))) (List._∷_ Row.off (List._∷_ Row.off (List._∷_ Row.off List.[])))))))));
+          slots = List._∷_ Row.off (List._∷_ (Row.leaseT (κs .1 .0) (qs .1 .0) (List._∷_ Bool.false List.[])) (List._∷_ (Row.carved (List._∷_ (at 0) List.[]) (TreeShare.PosShare·right
+              (qs .1 .0))) (List._∷_ Row.off (List._∷_ Row.off (List._∷_ Row.off (List._∷_ (Row.lease (List._++_ (κs .1 .0) (List._∷_ (at 0) List.[])) (TreeShare.PosShare·right (qs .1 .0))) (List._∷_
+              Row.off (List._∷_ Row.off (List._∷_ Row.off List.[])))))))));
         }
 
         abbrev G8 : (at : Nat.ℕ → Nat.ℕ) → Row.Cx
         G8 = λ at. record {
           locals = g4 at;
-          slots = List._∷_ Row.off (List._∷_ (Row.leaseT (κs .1 .0) (qs .1 .0) (List._∷_ Bool.false List.[])) (List._∷_ (Row.carved (List._∷_ (at 0) List.[])
-              (TreeShare.PosShare·right (qs .1 .0))) (List._∷_ Row.off (List._∷_ Row.off (List._∷_ Row.off (List._∷_ (Row.lease (List._++_ (κs .1 .0) (List._∷_ (at 0) List.[])) (TreeShare.PosShare·right (qs
-              .1 .0))) (List._∷_ Row.off (List._∷_ Row.off (List._∷_ Row.off List.[])))))))));
+          slots = List._∷_ Row.off (List._∷_ (Row.leaseT (κs .1 .0) (qs .1 .0) (List._∷_ Bool.false List.[])) (List._∷_ (Row.carved (List._∷_ (at 0) List.[]) (TreeShare.PosShare·right
+              (qs .1 .0))) (List._∷_ Row.off (List._∷_ Row.off (List._∷_ Row.off (List._∷_ (Row.lease (List._++_ (κs .1 .0) (List._∷_ (at 0) List.[])) (TreeShare.PosShare·right (qs .1 .0))) (List._∷_
+              Row.off (List._∷_ Row.off (List._∷_ Row.off List.[])))))))));
         }
 
         abbrev G9 : (at : Nat.ℕ → Nat.ℕ) → Row.Cx
         G9 = λ at. record {
           locals = g5 at;
-          slots = List._∷_ Row.off (List._∷_ (Row.leaseT (κs .1 .0) (qs .1 .0) (List._∷_ Bool.false List.[])) (List._∷_ (Row.carved (List._∷_ (at 0) List.[])
-              (TreeShare.PosShare·right (qs .1 .0))) (List._∷_ Row.off (List._∷_ Row.off (List._∷_ Row.off (List._∷_ (Row.lease (List._++_ (κs .1 .0) (List._∷_ (at 0) List.[])) (TreeShare.PosShare·right (qs
-              .1 .0))) (List._∷_ Row.off (List._∷_ Row.off (List._∷_ Row.off List.[])))))))));
+          slots = List._∷_ Row.off (List._∷_ (Row.leaseT (κs .1 .0) (qs .1 .0) (List._∷_ Bool.false List.[])) (List._∷_ (Row.carved (List._∷_ (at 0) List.[]) (TreeShare.PosShare·right
+              (qs .1 .0))) (List._∷_ Row.off (List._∷_ Row.off (List._∷_ Row.off (List._∷_ (Row.lease (List._++_ (κs .1 .0) (List._∷_ (at 0) List.[])) (TreeShare.PosShare·right (qs .1 .0))) (List._∷_
+              Row.off (List._∷_ Row.off (List._∷_ Row.off List.[])))))))));
         }
 
         abbrev G10 : (at : Nat.ℕ → Nat.ℕ) → Row.Cx
         G10 = λ at. record {
           locals = g6 at;
-          slots = List._∷_ Row.off (List._∷_ (Row.leaseT (κs .1 .0) (qs .1 .0) (List._∷_ Bool.false List.[])) (List._∷_ (Row.carved (List._∷_ (at 0) List.[])
-              (TreeShare.PosShare·right (qs .1 .0))) (List._∷_ Row.off (List._∷_ Row.off (List._∷_ Row.off (List._∷_ (Row.lease (List._++_ (κs .1 .0) (List._∷_ (at 0) List.[])) (TreeShare.PosShare·right (qs
-              .1 .0))) (List._∷_ Row.off (List._∷_ Row.off (List._∷_ Row.off List.[])))))))));
+          slots = List._∷_ Row.off (List._∷_ (Row.leaseT (κs .1 .0) (qs .1 .0) (List._∷_ Bool.false List.[])) (List._∷_ (Row.carved (List._∷_ (at 0) List.[]) (TreeShare.PosShare·right
+              (qs .1 .0))) (List._∷_ Row.off (List._∷_ Row.off (List._∷_ Row.off (List._∷_ (Row.lease (List._++_ (κs .1 .0) (List._∷_ (at 0) List.[])) (TreeShare.PosShare·right (qs .1 .0))) (List._∷_
+              Row.off (List._∷_ Row.off (List._∷_ Row.off List.[])))))))));
         }
 
         abbrev G11 : (at : Nat.ℕ → Nat.ℕ) → Row.Cx
         G11 = λ at. record {
           locals = g7 at;
-          slots = List._∷_ Row.off (List._∷_ (Row.leaseT (κs .1 .0) (qs .1 .0) (List._∷_ Bool.false List.[])) (List._∷_ (Row.carved (List._∷_ (at 0) List.[])
-              (TreeShare.PosShare·right (qs .1 .0))) (List._∷_ Row.off (List._∷_ Row.off (List._∷_ Row.off (List._∷_ (Row.lease (List._++_ (κs .1 .0) (List._∷_ (at 0) List.[])) (TreeShare.PosShare·right (qs
-              .1 .0))) (List._∷_ Row.off (List._∷_ Row.off (List._∷_ Row.off List.[])))))))));
+          slots = List._∷_ Row.off (List._∷_ (Row.leaseT (κs .1 .0) (qs .1 .0) (List._∷_ Bool.false List.[])) (List._∷_ (Row.carved (List._∷_ (at 0) List.[]) (TreeShare.PosShare·right
+              (qs .1 .0))) (List._∷_ Row.off (List._∷_ Row.off (List._∷_ Row.off (List._∷_ (Row.lease (List._++_ (κs .1 .0) (List._∷_ (at 0) List.[])) (TreeShare.PosShare·right (qs .1 .0))) (List._∷_
+              Row.off (List._∷_ Row.off (List._∷_ Row.off List.[])))))))));
         }
 
         abbrev G12 : (at : Nat.ℕ → Nat.ℕ) → Row.Cx
         G12 = λ at. record {
           locals = g8 at;
-          slots = List._∷_ Row.off (List._∷_ (Row.leaseT (κs .1 .0) (qs .1 .0) (List._∷_ Bool.false List.[])) (List._∷_ (Row.carved (List._∷_ (at 0) List.[])
-              (TreeShare.PosShare·right (qs .1 .0))) (List._∷_ Row.off (List._∷_ Row.off (List._∷_ Row.off (List._∷_ (Row.lease (List._++_ (κs .1 .0) (List._∷_ (at 0) List.[])) (TreeShare.PosShare·right (qs
-              .1 .0))) (List._∷_ Row.off (List._∷_ Row.off (List._∷_ Row.off List.[])))))))));
+          slots = List._∷_ Row.off (List._∷_ (Row.leaseT (κs .1 .0) (qs .1 .0) (List._∷_ Bool.false List.[])) (List._∷_ (Row.carved (List._∷_ (at 0) List.[]) (TreeShare.PosShare·right
+              (qs .1 .0))) (List._∷_ Row.off (List._∷_ Row.off (List._∷_ Row.off (List._∷_ (Row.lease (List._++_ (κs .1 .0) (List._∷_ (at 0) List.[])) (TreeShare.PosShare·right (qs .1 .0))) (List._∷_
+              Row.off (List._∷_ Row.off (List._∷_ Row.off List.[])))))))));
         }
 
         abbrev G13 : (at : Nat.ℕ → Nat.ℕ) → Row.Cx
         G13 = λ at. record {
           locals = g8 at;
-          slots = List._∷_ Row.off (List._∷_ (Row.leaseT (κs .1 .0) (qs .1 .0) (List._∷_ Bool.true List.[])) (List._∷_ (Row.lease (List._∷_ (at 0) List.[])
-              TreeShare.fullShare) (List._∷_ Row.off (List._∷_ Row.off (List._∷_ Row.off (List._∷_ Row.off (List._∷_ Row.off (List._∷_ Row.off (List._∷_ Row.off List.[])))))))));
+          slots = List._∷_ Row.off (List._∷_ (Row.leaseT (κs .1 .0) (qs .1 .0) (List._∷_ Bool.true List.[])) (List._∷_ (Row.lease (List._∷_ (at 0) List.[]) TreeShare.fullShare)
+              (List._∷_ Row.off (List._∷_ Row.off (List._∷_ Row.off (List._∷_ Row.off (List._∷_ Row.off (List._∷_ Row.off (List._∷_ Row.off List.[])))))))));
         }
 
         abbrev G14 : (at : Nat.ℕ → Nat.ℕ) → Row.Cx
         G14 = λ at. record {
           locals = g8 at;
-          slots = List._∷_ Row.off (List._∷_ (Row.leaseT (κs .1 .0) (qs .1 .0) List.[]) (List._∷_ (Row.lease (List._∷_ (at 0) List.[]) TreeShare.fullShare) (List._∷_
-              Row.off (List._∷_ Row.off (List._∷_ Row.off (List._∷_ Row.off (List._∷_ Row.off (List._∷_ Row.off (List._∷_ Row.off List.[])))))))));
+          slots = List._∷_ Row.off (List._∷_ (Row.leaseT (κs .1 .0) (qs .1 .0) List.[]) (List._∷_ (Row.lease (List._∷_ (at 0) List.[]) TreeShare.fullShare) (List._∷_ Row.off (List._∷_
+              Row.off (List._∷_ Row.off (List._∷_ Row.off (List._∷_ Row.off (List._∷_ Row.off (List._∷_ Row.off List.[])))))))));
         }
 
         abbrev G15 : (at : Nat.ℕ → Nat.ℕ) → Row.Cx
         G15 = λ at. record {
           locals = g8 at;
-          slots = List._∷_ Row.off (List._∷_ (Row.lease (κs .1 .0) (qs .1 .0)) (List._∷_ (Row.lease (List._∷_ (at 0) List.[]) TreeShare.fullShare) (List._∷_ Row.off
-              (List._∷_ Row.off (List._∷_ Row.off (List._∷_ Row.off (List._∷_ Row.off (List._∷_ Row.off (List._∷_ Row.off List.[])))))))));
+          slots = List._∷_ Row.off (List._∷_ (Row.lease (κs .1 .0) (qs .1 .0)) (List._∷_ (Row.lease (List._∷_ (at 0) List.[]) TreeShare.fullShare) (List._∷_ Row.off (List._∷_ Row.off
+              (List._∷_ Row.off (List._∷_ Row.off (List._∷_ Row.off (List._∷_ Row.off (List._∷_ Row.off List.[])))))))));
         }
 
         abbrev G16 : (at : Nat.ℕ → Nat.ℕ) → Row.Cx
         G16 = λ at. record {
           locals = g8 at;
-          slots = List._∷_ Row.off (List._∷_ (Row.lease (κs .1 .0) (qs .1 .0)) (List._∷_ Row.alive (List._∷_ Row.off (List._∷_ Row.off (List._∷_ Row.off (List._∷_
-              Row.off (List._∷_ Row.off (List._∷_ Row.off (List._∷_ Row.off List.[])))))))));
+          slots = List._∷_ Row.off (List._∷_ (Row.lease (κs .1 .0) (qs .1 .0)) (List._∷_ Row.alive (List._∷_ Row.off (List._∷_ Row.off (List._∷_ Row.off (List._∷_ Row.off (List._∷_
+              Row.off (List._∷_ Row.off (List._∷_ Row.off List.[])))))))));
         }
 
         abbrev G17 : (at : Nat.ℕ → Nat.ℕ) → Row.Cx
         G17 = λ at. record {
           locals = g8 at;
-          slots = List._∷_ Row.off (List._∷_ (Row.lease (κs .1 .0) (qs .1 .0)) (List._∷_ Row.dead (List._∷_ Row.off (List._∷_ Row.off (List._∷_ Row.off (List._∷_
-              Row.off (List._∷_ Row.off (List._∷_ Row.off (List._∷_ Row.off List.[])))))))));
+          slots = List._∷_ Row.off (List._∷_ (Row.lease (κs .1 .0) (qs .1 .0)) (List._∷_ Row.dead (List._∷_ Row.off (List._∷_ Row.off (List._∷_ Row.off (List._∷_ Row.off (List._∷_
+              Row.off (List._∷_ Row.off (List._∷_ Row.off List.[])))))))));
         }
 
         abbrev G18 : (at : Nat.ℕ → Nat.ℕ) → Row.Cx
         G18 = λ at. record {
           locals = g2 at;
-          slots = List._∷_ (Row.lease (κs .0) (qs .0)) (List._∷_ (Row.lease (κs .1 .0) (qs .1 .0)) (List._∷_ Row.dead (List._∷_ Row.off (List._∷_ Row.off (List._∷_
-              Row.off (List._∷_ Row.off (List._∷_ Row.off (List._∷_ Row.off (List._∷_ Row.off List.[])))))))));
+          slots = List._∷_ (Row.lease (κs .0) (qs .0)) (List._∷_ (Row.lease (κs .1 .0) (qs .1 .0)) (List._∷_ Row.dead (List._∷_ Row.off (List._∷_ Row.off (List._∷_ Row.off (List._∷_
+              Row.off (List._∷_ Row.off (List._∷_ Row.off (List._∷_ Row.off List.[])))))))));
         }
 
         abbrev G19 : (at : Nat.ℕ → Nat.ℕ) → Row.Cx
         G19 = λ at. record {
           locals = g2 at;
-          slots = List._∷_ (Row.lease (κs .0) (qs .0)) (List._∷_ (Row.lease (κs .1 .0) (qs .1 .0)) (List._∷_ Row.off (List._∷_ Row.off (List._∷_ Row.off (List._∷_
-              Row.off (List._∷_ Row.off (List._∷_ Row.off (List._∷_ Row.off (List._∷_ Row.off List.[])))))))));
+          slots = List._∷_ (Row.lease (κs .0) (qs .0)) (List._∷_ (Row.lease (κs .1 .0) (qs .1 .0)) (List._∷_ Row.off (List._∷_ Row.off (List._∷_ Row.off (List._∷_ Row.off (List._∷_
+              Row.off (List._∷_ Row.off (List._∷_ Row.off (List._∷_ Row.off List.[])))))))));
         }
 
         abbrev G20 : (at : Nat.ℕ → Nat.ℕ) → Row.Cx
         G20 = λ at. record {
           locals = g0 at;
-          slots = List._∷_ (Row.lease (κs .0) (qs .0)) (List._∷_ (Row.lease (κs .1 .0) (qs .1 .0)) (List._∷_ Row.off (List._∷_ Row.alive (List._∷_ Row.off (List._∷_
-              Row.off (List._∷_ Row.off (List._∷_ Row.off (List._∷_ Row.off (List._∷_ Row.off List.[])))))))));
+          slots = List._∷_ (Row.lease (κs .0) (qs .0)) (List._∷_ (Row.lease (κs .1 .0) (qs .1 .0)) (List._∷_ Row.off (List._∷_ Row.alive (List._∷_ Row.off (List._∷_ Row.off (List._∷_
+              Row.off (List._∷_ Row.off (List._∷_ Row.off (List._∷_ Row.off List.[])))))))));
         }
 
         abbrev G21 : (at : Nat.ℕ → Nat.ℕ) → Row.Cx
         G21 = λ at. record {
           locals = g9 at;
-          slots = List._∷_ Row.off (List._∷_ (Row.lease (κs .1 .0) (qs .1 .0)) (List._∷_ Row.off (List._∷_ Row.alive (List._∷_ Row.off (List._∷_ Row.off (List._∷_
-              Row.off (List._∷_ Row.off (List._∷_ Row.off (List._∷_ Row.off List.[])))))))));
+          slots = List._∷_ Row.off (List._∷_ (Row.lease (κs .1 .0) (qs .1 .0)) (List._∷_ Row.off (List._∷_ Row.alive (List._∷_ Row.off (List._∷_ Row.off (List._∷_ Row.off (List._∷_
+              Row.off (List._∷_ Row.off (List._∷_ Row.off List.[])))))))));
         }
 
         abbrev G22 : (at : Nat.ℕ → Nat.ℕ) → Row.Cx
         G22 = λ at. record {
           locals = g9 at;
-          slots = List._∷_ Row.off (List._∷_ (Row.leaseT (κs .1 .0) (qs .1 .0) List.[]) (List._∷_ Row.off (List._∷_ Row.alive (List._∷_ Row.off (List._∷_ Row.off
-              (List._∷_ Row.off (List._∷_ Row.off (List._∷_ Row.off (List._∷_ Row.off List.[])))))))));
+          slots = List._∷_ Row.off (List._∷_ (Row.leaseT (κs .1 .0) (qs .1 .0) List.[]) (List._∷_ Row.off (List._∷_ Row.alive (List._∷_ Row.off (List._∷_ Row.off (List._∷_ Row.off
+              (List._∷_ Row.off (List._∷_ Row.off (List._∷_ Row.off List.[])))))))));
         }
 
         abbrev G23 : (at : Nat.ℕ → Nat.ℕ) → Row.Cx
         G23 = λ at. record {
           locals = g9 at;
-          slots = List._∷_ Row.off (List._∷_ (Row.leaseT (κs .1 .0) (qs .1 .0) List.[]) (List._∷_ Row.off (List._∷_ (Row.lease (List._∷_ (at 0) List.[])
-              TreeShare.fullShare) (List._∷_ Row.off (List._∷_ Row.off (List._∷_ Row.off (List._∷_ Row.off (List._∷_ Row.off (List._∷_ Row.off List.[])))))))));
+          slots = List._∷_ Row.off (List._∷_ (Row.leaseT (κs .1 .0) (qs .1 .0) List.[]) (List._∷_ Row.off (List._∷_ (Row.lease (List._∷_ (at 0) List.[]) TreeShare.fullShare) (List._∷_
+              Row.off (List._∷_ Row.off (List._∷_ Row.off (List._∷_ Row.off (List._∷_ Row.off (List._∷_ Row.off List.[])))))))));
         }
 
         abbrev G24 : (at : Nat.ℕ → Nat.ℕ) → Row.Cx
         G24 = λ at. record {
           locals = g9 at;
-          slots = List._∷_ Row.off (List._∷_ (Row.leaseT (κs .1 .0) (qs .1 .0) (List._∷_ Bool.false List.[])) (List._∷_ Row.off (List._∷_ (Row.carved (List._∷_ (at
-              0) List.[]) (TreeShare.PosShare·right (qs .1 .0))) (List._∷_ Row.off (List._∷_ Row.off (List._∷_ Row.off (List._∷_ (Row.lease (List._++_ (κs .1 .0) (List._∷_ (at 0) List.[]))
-              (TreeShare.PosShare·right (qs .1 .0))) (List._∷_ Row.off (List._∷_ Row.off List.[])))))))));
+          slots = List._∷_ Row.off (List._∷_ (Row.leaseT (κs .1 .0) (qs .1 .0) (List._∷_ Bool.false List.[])) (List._∷_ Row.off (List._∷_ (Row.carved (List._∷_ (at 0) List.[])
+              (TreeShare.PosShare·right (qs .1 .0))) (List._∷_ Row.off (List._∷_ Row.off (List._∷_ Row.off (List._∷_ (Row.lease (List._++_ (κs .1 .0) (List._∷_ (at 0) List.[])) (TreeShare.PosShare·right (qs
+              .1 .0))) (List._∷_ Row.off (List._∷_ Row.off List.[])))))))));
         }
 
         abbrev G25 : (at : Nat.ℕ → Nat.ℕ) → Row.Cx
         G25 = λ at. record {
           locals = g10 at;
-          slots = List._∷_ Row.off (List._∷_ (Row.leaseT (κs .1 .0) (qs .1 .0) (List._∷_ Bool.false List.[])) (List._∷_ Row.off (List._∷_ (Row.carved (List._∷_ (at
-              0) List.[]) (TreeShare.PosShare·right (qs .1 .0))) (List._∷_ Row.off (List._∷_ Row.off (List._∷_ Row.off (List._∷_ (Row.lease (List._++_ (κs .1 .0) (List._∷_ (at 0) List.[]))
-              (TreeShare.PosShare·right (qs .1 .0))) (List._∷_ Row.off (List._∷_ Row.off List.[])))))))));
+          slots = List._∷_ Row.off (List._∷_ (Row.leaseT (κs .1 .0) (qs .1 .0) (List._∷_ Bool.false List.[])) (List._∷_ Row.off (List._∷_ (Row.carved (List._∷_ (at 0) List.[])
+              (TreeShare.PosShare·right (qs .1 .0))) (List._∷_ Row.off (List._∷_ Row.off (List._∷_ Row.off (List._∷_ (Row.lease (List._++_ (κs .1 .0) (List._∷_ (at 0) List.[])) (TreeShare.PosShare·right (qs
+              .1 .0))) (List._∷_ Row.off (List._∷_ Row.off List.[])))))))));
         }
 
         abbrev G26 : (at : Nat.ℕ → Nat.ℕ) → Row.Cx
         G26 = λ at. record {
           locals = g11 at;
-          slots = List._∷_ Row.off (List._∷_ (Row.leaseT (κs .1 .0) (qs .1 .0) (List._∷_ Bool.false List.[])) (List._∷_ Row.off (List._∷_ (Row.carved (List._∷_ (at
-              0) List.[]) (TreeShare.PosShare·right (qs .1 .0))) (List._∷_ Row.off (List._∷_ Row.off (List._∷_ Row.off (List._∷_ (Row.lease (List._++_ (κs .1 .0) (List._∷_ (at 0) List.[]))
-              (TreeShare.PosShare·right (qs .1 .0))) (List._∷_ Row.off (List._∷_ Row.off List.[])))))))));
+          slots = List._∷_ Row.off (List._∷_ (Row.leaseT (κs .1 .0) (qs .1 .0) (List._∷_ Bool.false List.[])) (List._∷_ Row.off (List._∷_ (Row.carved (List._∷_ (at 0) List.[])
+              (TreeShare.PosShare·right (qs .1 .0))) (List._∷_ Row.off (List._∷_ Row.off (List._∷_ Row.off (List._∷_ (Row.lease (List._++_ (κs .1 .0) (List._∷_ (at 0) List.[])) (TreeShare.PosShare·right (qs
+              .1 .0))) (List._∷_ Row.off (List._∷_ Row.off List.[])))))))));
         }
 
         abbrev G27 : (at : Nat.ℕ → Nat.ℕ) → Row.Cx
         G27 = λ at. record {
           locals = g12 at;
-          slots = List._∷_ Row.off (List._∷_ (Row.leaseT (κs .1 .0) (qs .1 .0) (List._∷_ Bool.false List.[])) (List._∷_ Row.off (List._∷_ (Row.carved (List._∷_ (at
-              0) List.[]) (TreeShare.PosShare·right (qs .1 .0))) (List._∷_ Row.off (List._∷_ Row.off (List._∷_ Row.off (List._∷_ (Row.lease (List._++_ (κs .1 .0) (List._∷_ (at 0) List.[]))
-              (TreeShare.PosShare·right (qs .1 .0))) (List._∷_ Row.off (List._∷_ Row.off List.[])))))))));
+          slots = List._∷_ Row.off (List._∷_ (Row.leaseT (κs .1 .0) (qs .1 .0) (List._∷_ Bool.false List.[])) (List._∷_ Row.off (List._∷_ (Row.carved (List._∷_ (at 0) List.[])
+              (TreeShare.PosShare·right (qs .1 .0))) (List._∷_ Row.off (List._∷_ Row.off (List._∷_ Row.off (List._∷_ (Row.lease (List._++_ (κs .1 .0) (List._∷_ (at 0) List.[])) (TreeShare.PosShare·right (qs
+              .1 .0))) (List._∷_ Row.off (List._∷_ Row.off List.[])))))))));
         }
 
         abbrev G28 : (at : Nat.ℕ → Nat.ℕ) → Row.Cx
         G28 = λ at. record {
           locals = g12 at;
-          slots = List._∷_ Row.off (List._∷_ (Row.leaseT (κs .1 .0) (qs .1 .0) (List._∷_ Bool.true List.[])) (List._∷_ Row.off (List._∷_ (Row.lease (List._∷_ (at 0)
-              List.[]) TreeShare.fullShare) (List._∷_ Row.off (List._∷_ Row.off (List._∷_ Row.off (List._∷_ Row.off (List._∷_ Row.off (List._∷_ Row.off List.[])))))))));
+          slots = List._∷_ Row.off (List._∷_ (Row.leaseT (κs .1 .0) (qs .1 .0) (List._∷_ Bool.true List.[])) (List._∷_ Row.off (List._∷_ (Row.lease (List._∷_ (at 0) List.[])
+              TreeShare.fullShare) (List._∷_ Row.off (List._∷_ Row.off (List._∷_ Row.off (List._∷_ Row.off (List._∷_ Row.off (List._∷_ Row.off List.[])))))))));
         }
 
         abbrev G29 : (at : Nat.ℕ → Nat.ℕ) → Row.Cx
         G29 = λ at. record {
           locals = g12 at;
-          slots = List._∷_ Row.off (List._∷_ (Row.leaseT (κs .1 .0) (qs .1 .0) List.[]) (List._∷_ Row.off (List._∷_ (Row.lease (List._∷_ (at 0) List.[])
-              TreeShare.fullShare) (List._∷_ Row.off (List._∷_ Row.off (List._∷_ Row.off (List._∷_ Row.off (List._∷_ Row.off (List._∷_ Row.off List.[])))))))));
+          slots = List._∷_ Row.off (List._∷_ (Row.leaseT (κs .1 .0) (qs .1 .0) List.[]) (List._∷_ Row.off (List._∷_ (Row.lease (List._∷_ (at 0) List.[]) TreeShare.fullShare) (List._∷_
+              Row.off (List._∷_ Row.off (List._∷_ Row.off (List._∷_ Row.off (List._∷_ Row.off (List._∷_ Row.off List.[])))))))));
         }
 
         abbrev G30 : (at : Nat.ℕ → Nat.ℕ) → Row.Cx
         G30 = λ at. record {
           locals = g12 at;
-          slots = List._∷_ Row.off (List._∷_ (Row.lease (κs .1 .0) (qs .1 .0)) (List._∷_ Row.off (List._∷_ (Row.lease (List._∷_ (at 0) List.[]) TreeShare.fullShare)
-              (List._∷_ Row.off (List._∷_ Row.off (List._∷_ Row.off (List._∷_ Row.off (List._∷_ Row.off (List._∷_ Row.off List.[])))))))));
+          slots = List._∷_ Row.off (List._∷_ (Row.lease (κs .1 .0) (qs .1 .0)) (List._∷_ Row.off (List._∷_ (Row.lease (List._∷_ (at 0) List.[]) TreeShare.fullShare) (List._∷_ Row.off
+              (List._∷_ Row.off (List._∷_ Row.off (List._∷_ Row.off (List._∷_ Row.off (List._∷_ Row.off List.[])))))))));
         }
 
         abbrev G31 : (at : Nat.ℕ → Nat.ℕ) → Row.Cx
         G31 = λ at. record {
           locals = g12 at;
-          slots = List._∷_ Row.off (List._∷_ (Row.lease (κs .1 .0) (qs .1 .0)) (List._∷_ Row.off (List._∷_ Row.alive (List._∷_ Row.off (List._∷_ Row.off (List._∷_
-              Row.off (List._∷_ Row.off (List._∷_ Row.off (List._∷_ Row.off List.[])))))))));
+          slots = List._∷_ Row.off (List._∷_ (Row.lease (κs .1 .0) (qs .1 .0)) (List._∷_ Row.off (List._∷_ Row.alive (List._∷_ Row.off (List._∷_ Row.off (List._∷_ Row.off (List._∷_
+              Row.off (List._∷_ Row.off (List._∷_ Row.off List.[])))))))));
         }
 
         abbrev G32 : (at : Nat.ℕ → Nat.ℕ) → Row.Cx
         G32 = λ at. record {
           locals = g12 at;
-          slots = List._∷_ Row.off (List._∷_ (Row.lease (κs .1 .0) (qs .1 .0)) (List._∷_ Row.off (List._∷_ Row.dead (List._∷_ Row.off (List._∷_ Row.off (List._∷_
-              Row.off (List._∷_ Row.off (List._∷_ Row.off (List._∷_ Row.off List.[])))))))));
+          slots = List._∷_ Row.off (List._∷_ (Row.lease (κs .1 .0) (qs .1 .0)) (List._∷_ Row.off (List._∷_ Row.dead (List._∷_ Row.off (List._∷_ Row.off (List._∷_ Row.off (List._∷_
+              Row.off (List._∷_ Row.off (List._∷_ Row.off List.[])))))))));
         }
 
         abbrev G33 : (at : Nat.ℕ → Nat.ℕ) → Row.Cx
         G33 = λ at. record {
           locals = g2 at;
-          slots = List._∷_ (Row.lease (κs .0) (qs .0)) (List._∷_ (Row.lease (κs .1 .0) (qs .1 .0)) (List._∷_ Row.off (List._∷_ Row.dead (List._∷_ Row.off (List._∷_
-              Row.off (List._∷_ Row.off (List._∷_ Row.off (List._∷_ Row.off (List._∷_ Row.off List.[])))))))));
+          slots = List._∷_ (Row.lease (κs .0) (qs .0)) (List._∷_ (Row.lease (κs .1 .0) (qs .1 .0)) (List._∷_ Row.off (List._∷_ Row.dead (List._∷_ Row.off (List._∷_ Row.off (List._∷_
+              Row.off (List._∷_ Row.off (List._∷_ Row.off (List._∷_ Row.off List.[])))))))));
         }
 
         abbrev G34 : (at : Nat.ℕ → Nat.ℕ) → Row.Cx
         G34 = λ at. record {
           locals = g2 at;
-          slots = List._∷_ (Row.lease (κs .0) (qs .0)) (List._∷_ (Row.lease (κs .1 .0) (qs .1 .0)) (List._∷_ Row.off (List._∷_ Row.off (List._∷_ Row.off (List._∷_
-              Row.off (List._∷_ Row.off (List._∷_ Row.off (List._∷_ Row.off (List._∷_ Row.off List.[])))))))));
+          slots = List._∷_ (Row.lease (κs .0) (qs .0)) (List._∷_ (Row.lease (κs .1 .0) (qs .1 .0)) (List._∷_ Row.off (List._∷_ Row.off (List._∷_ Row.off (List._∷_ Row.off (List._∷_
+              Row.off (List._∷_ Row.off (List._∷_ Row.off (List._∷_ Row.off List.[])))))))));
         }
 
         abbrev G35 : (at : Nat.ℕ → Nat.ℕ) → Row.Cx
         G35 = λ at. record {
           locals = g0 at;
-          slots = List._∷_ (Row.lease (κs .0) (qs .0)) (List._∷_ (Row.lease (κs .1 .0) (qs .1 .0)) (List._∷_ Row.off (List._∷_ Row.off (List._∷_ Row.alive (List._∷_
-              Row.off (List._∷_ Row.off (List._∷_ Row.off (List._∷_ Row.off (List._∷_ Row.off List.[])))))))));
+          slots = List._∷_ (Row.lease (κs .0) (qs .0)) (List._∷_ (Row.lease (κs .1 .0) (qs .1 .0)) (List._∷_ Row.off (List._∷_ Row.off (List._∷_ Row.alive (List._∷_ Row.off (List._∷_
+              Row.off (List._∷_ Row.off (List._∷_ Row.off (List._∷_ Row.off List.[])))))))));
         }
 
         abbrev G36 : (at : Nat.ℕ → Nat.ℕ) → Row.Cx
         G36 = λ at. record {
           locals = g13 at;
-          slots = List._∷_ Row.off (List._∷_ (Row.lease (κs .1 .0) (qs .1 .0)) (List._∷_ Row.off (List._∷_ Row.off (List._∷_ Row.alive (List._∷_ Row.off (List._∷_
-              Row.off (List._∷_ Row.off (List._∷_ Row.off (List._∷_ Row.off List.[])))))))));
+          slots = List._∷_ Row.off (List._∷_ (Row.lease (κs .1 .0) (qs .1 .0)) (List._∷_ Row.off (List._∷_ Row.off (List._∷_ Row.alive (List._∷_ Row.off (List._∷_ Row.off (List._∷_
+              Row.off (List._∷_ Row.off (List._∷_ Row.off List.[])))))))));
         }
 
         abbrev G37 : (at : Nat.ℕ → Nat.ℕ) → Row.Cx
         G37 = λ at. record {
           locals = g13 at;
-          slots = List._∷_ Row.off (List._∷_ (Row.leaseT (κs .1 .0) (qs .1 .0) List.[]) (List._∷_ Row.off (List._∷_ Row.off (List._∷_ Row.alive (List._∷_ Row.off
-              (List._∷_ Row.off (List._∷_ Row.off (List._∷_ Row.off (List._∷_ Row.off List.[])))))))));
+          slots = List._∷_ Row.off (List._∷_ (Row.leaseT (κs .1 .0) (qs .1 .0) List.[]) (List._∷_ Row.off (List._∷_ Row.off (List._∷_ Row.alive (List._∷_ Row.off (List._∷_ Row.off
+              (List._∷_ Row.off (List._∷_ Row.off (List._∷_ Row.off List.[])))))))));
         }
 
         abbrev G38 : (at : Nat.ℕ → Nat.ℕ) → Row.Cx
         G38 = λ at. record {
           locals = g13 at;
-          slots = List._∷_ Row.off (List._∷_ (Row.leaseT (κs .1 .0) (qs .1 .0) List.[]) (List._∷_ Row.off (List._∷_ Row.off (List._∷_ (Row.lease (List._∷_ (at 0)
-              List.[]) TreeShare.fullShare) (List._∷_ Row.off (List._∷_ Row.off (List._∷_ Row.off (List._∷_ Row.off (List._∷_ Row.off List.[])))))))));
+          slots = List._∷_ Row.off (List._∷_ (Row.leaseT (κs .1 .0) (qs .1 .0) List.[]) (List._∷_ Row.off (List._∷_ Row.off (List._∷_ (Row.lease (List._∷_ (at 0) List.[])
+              TreeShare.fullShare) (List._∷_ Row.off (List._∷_ Row.off (List._∷_ Row.off (List._∷_ Row.off (List._∷_ Row.off List.[])))))))));
         }
 
         abbrev G39 : (at : Nat.ℕ → Nat.ℕ) → Row.Cx
         G39 = λ at. record {
           locals = g13 at;
-          slots = List._∷_ Row.off (List._∷_ (Row.leaseT (κs .1 .0) (qs .1 .0) (List._∷_ Bool.false List.[])) (List._∷_ Row.off (List._∷_ Row.off (List._∷_
-              (Row.carved (List._∷_ (at 0) List.[]) (TreeShare.PosShare·right (qs .1 .0))) (List._∷_ Row.off (List._∷_ Row.off (List._∷_ Row.off (List._∷_ (Row.lease (List._++_ (κs .1 .0) (List._∷_ (at 0)
-              List.[])) (TreeShare.PosShare·right (qs .1 .0))) (List._∷_ Row.off List.[])))))))));
+          slots = List._∷_ Row.off (List._∷_ (Row.leaseT (κs .1 .0) (qs .1 .0) (List._∷_ Bool.false List.[])) (List._∷_ Row.off (List._∷_ Row.off (List._∷_ (Row.carved (List._∷_ (at
+              0) List.[]) (TreeShare.PosShare·right (qs .1 .0))) (List._∷_ Row.off (List._∷_ Row.off (List._∷_ Row.off (List._∷_ (Row.lease (List._++_ (κs .1 .0) (List._∷_ (at 0) List.[]))
+              (TreeShare.PosShare·right (qs .1 .0))) (List._∷_ Row.off List.[])))))))));
         }
 
         abbrev G40 : (at : Nat.ℕ → Nat.ℕ) → Row.Cx
         G40 = λ at. record {
           locals = g14 at;
-          slots = List._∷_ Row.off (List._∷_ (Row.leaseT (κs .1 .0) (qs .1 .0) (List._∷_ Bool.false List.[])) (List._∷_ Row.off (List._∷_ Row.off (List._∷_
-              (Row.carved (List._∷_ (at 0) List.[]) (TreeShare.PosShare·right (qs .1 .0))) (List._∷_ Row.off (List._∷_ Row.off (List._∷_ Row.off (List._∷_ (Row.lease (List._++_ (κs .1 .0) (List._∷_ (at 0)
-              List.[])) (TreeShare.PosShare·right (qs .1 .0))) (List._∷_ Row.off List.[])))))))));
+          slots = List._∷_ Row.off (List._∷_ (Row.leaseT (κs .1 .0) (qs .1 .0) (List._∷_ Bool.false List.[])) (List._∷_ Row.off (List._∷_ Row.off (List._∷_ (Row.carved (List._∷_ (at
+              0) List.[]) (TreeShare.PosShare·right (qs .1 .0))) (List._∷_ Row.off (List._∷_ Row.off (List._∷_ Row.off (List._∷_ (Row.lease (List._++_ (κs .1 .0) (List._∷_ (at 0) List.[]))
+              (TreeShare.PosShare·right (qs .1 .0))) (List._∷_ Row.off List.[])))))))));
         }
 
         abbrev G41 : (at : Nat.ℕ → Nat.ℕ) → Row.Cx
         G41 = λ at. record {
           locals = g15 at;
-          slots = List._∷_ Row.off (List._∷_ (Row.leaseT (κs .1 .0) (qs .1 .0) (List._∷_ Bool.false List.[])) (List._∷_ Row.off (List._∷_ Row.off (List._∷_
-              (Row.carved (List._∷_ (at 0) List.[]) (TreeShare.PosShare·right (qs .1 .0))) (List._∷_ Row.off (List._∷_ Row.off (List._∷_ Row.off (List._∷_ (Row.lease (List._++_ (κs .1 .0) (List._∷_ (at 0)
-              List.[])) (TreeShare.PosShare·right (qs .1 .0))) (List._∷_ Row.off List.[])))))))));
+          slots = List._∷_ Row.off (List._∷_ (Row.leaseT (κs .1 .0) (qs .1 .0) (List._∷_ Bool.false List.[])) (List._∷_ Row.off (List._∷_ Row.off (List._∷_ (Row.carved (List._∷_ (at
+              0) List.[]) (TreeShare.PosShare·right (qs .1 .0))) (List._∷_ Row.off (List._∷_ Row.off (List._∷_ Row.off (List._∷_ (Row.lease (List._++_ (κs .1 .0) (List._∷_ (at 0) List.[]))
+              (TreeShare.PosShare·right (qs .1 .0))) (List._∷_ Row.off List.[])))))))));
         }
 
         abbrev G42 : (at : Nat.ℕ → Nat.ℕ) → Row.Cx
         G42 = λ at. record {
           locals = g16 at;
-          slots = List._∷_ Row.off (List._∷_ (Row.leaseT (κs .1 .0) (qs .1 .0) (List._∷_ Bool.false List.[])) (List._∷_ Row.off (List._∷_ Row.off (List._∷_
-              (Row.carved (List._∷_ (at 0) List.[]) (TreeShare.PosShare·right (qs .1 .0))) (List._∷_ Row.off (List._∷_ Row.off (List._∷_ Row.off (List._∷_ (Row.lease (List._++_ (κs .1 .0) (List._∷_ (at 0)
-              List.[])) (TreeShare.PosShare·right (qs .1 .0))) (List._∷_ Row.off List.[])))))))));
+          slots = List._∷_ Row.off (List._∷_ (Row.leaseT (κs .1 .0) (qs .1 .0) (List._∷_ Bool.false List.[])) (List._∷_ Row.off (List._∷_ Row.off (List._∷_ (Row.carved (List._∷_ (at
+              0) List.[]) (TreeShare.PosShare·right (qs .1 .0))) (List._∷_ Row.off (List._∷_ Row.off (List._∷_ Row.off (List._∷_ (Row.lease (List._++_ (κs .1 .0) (List._∷_ (at 0) List.[]))
+              (TreeShare.PosShare·right (qs .1 .0))) (List._∷_ Row.off List.[])))))))));
         }
 
         abbrev G43 : (at : Nat.ℕ → Nat.ℕ) → Row.Cx
         G43 = λ at. record {
           locals = g17 at;
-          slots = List._∷_ Row.off (List._∷_ (Row.leaseT (κs .1 .0) (qs .1 .0) (List._∷_ Bool.false List.[])) (List._∷_ Row.off (List._∷_ Row.off (List._∷_
-              (Row.carved (List._∷_ (at 0) List.[]) (TreeShare.PosShare·right (qs .1 .0))) (List._∷_ Row.off (List._∷_ Row.off (List._∷_ Row.off (List._∷_ (Row.lease (List._++_ (κs .1 .0) (List._∷_ (at 0)
-              List.[])) (TreeShare.PosShare·right (qs .1 .0))) (List._∷_ Row.off List.[])))))))));
+          slots = List._∷_ Row.off (List._∷_ (Row.leaseT (κs .1 .0) (qs .1 .0) (List._∷_ Bool.false List.[])) (List._∷_ Row.off (List._∷_ Row.off (List._∷_ (Row.carved (List._∷_ (at
+              0) List.[]) (TreeShare.PosShare·right (qs .1 .0))) (List._∷_ Row.off (List._∷_ Row.off (List._∷_ Row.off (List._∷_ (Row.lease (List._++_ (κs .1 .0) (List._∷_ (at 0) List.[]))
+              (TreeShare.PosShare·right (qs .1 .0))) (List._∷_ Row.off List.[])))))))));
         }
 
         abbrev G44 : (at : Nat.ℕ → Nat.ℕ) → Row.Cx
         G44 = λ at. record {
           locals = g17 at;
-          slots = List._∷_ Row.off (List._∷_ (Row.leaseT (κs .1 .0) (qs .1 .0) (List._∷_ Bool.true List.[])) (List._∷_ Row.off (List._∷_ Row.off (List._∷_
-              (Row.lease (List._∷_ (at 0) List.[]) TreeShare.fullShare) (List._∷_ Row.off (List._∷_ Row.off (List._∷_ Row.off (List._∷_ Row.off (List._∷_ Row.off List.[])))))))));
+          slots = List._∷_ Row.off (List._∷_ (Row.leaseT (κs .1 .0) (qs .1 .0) (List._∷_ Bool.true List.[])) (List._∷_ Row.off (List._∷_ Row.off (List._∷_ (Row.lease (List._∷_ (at 0)
+              List.[]) TreeShare.fullShare) (List._∷_ Row.off (List._∷_ Row.off (List._∷_ Row.off (List._∷_ Row.off (List._∷_ Row.off List.[])))))))));
         }
 
         abbrev G45 : (at : Nat.ℕ → Nat.ℕ) → Row.Cx
         G45 = λ at. record {
           locals = g17 at;
-          slots = List._∷_ Row.off (List._∷_ (Row.leaseT (κs .1 .0) (qs .1 .0) List.[]) (List._∷_ Row.off (List._∷_ Row.off (List._∷_ (Row.lease (List._∷_ (at 0)
-              List.[]) TreeShare.fullShare) (List._∷_ Row.off (List._∷_ Row.off (List._∷_ Row.off (List._∷_ Row.off (List._∷_ Row.off List.[])))))))));
+          slots = List._∷_ Row.off (List._∷_ (Row.leaseT (κs .1 .0) (qs .1 .0) List.[]) (List._∷_ Row.off (List._∷_ Row.off (List._∷_ (Row.lease (List._∷_ (at 0) List.[])
+              TreeShare.fullShare) (List._∷_ Row.off (List._∷_ Row.off (List._∷_ Row.off (List._∷_ Row.off (List._∷_ Row.off List.[])))))))));
         }
 
         abbrev G46 : (at : Nat.ℕ → Nat.ℕ) → Row.Cx
         G46 = λ at. record {
           locals = g17 at;
-          slots = List._∷_ Row.off (List._∷_ (Row.lease (κs .1 .0) (qs .1 .0)) (List._∷_ Row.off (List._∷_ Row.off (List._∷_ (Row.lease (List._∷_ (at 0) List.[])
-              TreeShare.fullShare) (List._∷_ Row.off (List._∷_ Row.off (List._∷_ Row.off (List._∷_ Row.off (List._∷_ Row.off List.[])))))))));
+          slots = List._∷_ Row.off (List._∷_ (Row.lease (κs .1 .0) (qs .1 .0)) (List._∷_ Row.off (List._∷_ Row.off (List._∷_ (Row.lease (List._∷_ (at 0) List.[]) TreeShare.fullShare)
+              (List._∷_ Row.off (List._∷_ Row.off (List._∷_ Row.off (List._∷_ Row.off (List._∷_ Row.off List.[])))))))));
         }
 
         abbrev G47 : (at : Nat.ℕ → Nat.ℕ) → Row.Cx
         G47 = λ at. record {
           locals = g17 at;
-          slots = List._∷_ Row.off (List._∷_ (Row.lease (κs .1 .0) (qs .1 .0)) (List._∷_ Row.off (List._∷_ Row.off (List._∷_ Row.alive (List._∷_ Row.off (List._∷_
-              Row.off (List._∷_ Row.off (List._∷_ Row.off (List._∷_ Row.off List.[])))))))));
+          slots = List._∷_ Row.off (List._∷_ (Row.lease (κs .1 .0) (qs .1 .0)) (List._∷_ Row.off (List._∷_ Row.off (List._∷_ Row.alive (List._∷_ Row.off (List._∷_ Row.off (List._∷_
+              Row.off (List._∷_ Row.off (List._∷_ Row.off List.[])))))))));
         }
 
         abbrev G48 : (at : Nat.ℕ → Nat.ℕ) → Row.Cx
         G48 = λ at. record {
           locals = g17 at;
-          slots = List._∷_ Row.off (List._∷_ (Row.lease (κs .1 .0) (qs .1 .0)) (List._∷_ Row.off (List._∷_ Row.off (List._∷_ Row.dead (List._∷_ Row.off (List._∷_
-              Row.off (List._∷_ Row.off (List._∷_ Row.off (List._∷_ Row.off List.[])))))))));
+          slots = List._∷_ Row.off (List._∷_ (Row.lease (κs .1 .0) (qs .1 .0)) (List._∷_ Row.off (List._∷_ Row.off (List._∷_ Row.dead (List._∷_ Row.off (List._∷_ Row.off (List._∷_
+              Row.off (List._∷_ Row.off (List._∷_ Row.off List.[])))))))));
         }
 
         abbrev G49 : (at : Nat.ℕ → Nat.ℕ) → Row.Cx
         G49 = λ at. record {
           locals = g0 at;
-          slots = List._∷_ (Row.lease (κs .0) (qs .0)) (List._∷_ (Row.lease (κs .1 .0) (qs .1 .0)) (List._∷_ Row.off (List._∷_ Row.off (List._∷_ Row.dead (List._∷_
-              Row.off (List._∷_ Row.off (List._∷_ Row.off (List._∷_ Row.off (List._∷_ Row.off List.[])))))))));
+          slots = List._∷_ (Row.lease (κs .0) (qs .0)) (List._∷_ (Row.lease (κs .1 .0) (qs .1 .0)) (List._∷_ Row.off (List._∷_ Row.off (List._∷_ Row.dead (List._∷_ Row.off (List._∷_
+              Row.off (List._∷_ Row.off (List._∷_ Row.off (List._∷_ Row.off List.[])))))))));
         }
 
         abbrev G50 : (at : Nat.ℕ → Nat.ℕ) → Row.Cx
         G50 = λ at. record {
           locals = g0 at;
-          slots = List._∷_ (Row.lease (κs .0) (qs .0)) (List._∷_ (Row.lease (κs .1 .0) (qs .1 .0)) (List._∷_ Row.off (List._∷_ Row.off (List._∷_ Row.off (List._∷_
-              Row.off (List._∷_ Row.off (List._∷_ Row.off (List._∷_ Row.off (List._∷_ Row.off List.[])))))))));
+          slots = List._∷_ (Row.lease (κs .0) (qs .0)) (List._∷_ (Row.lease (κs .1 .0) (qs .1 .0)) (List._∷_ Row.off (List._∷_ Row.off (List._∷_ Row.off (List._∷_ Row.off (List._∷_
+              Row.off (List._∷_ Row.off (List._∷_ Row.off (List._∷_ Row.off List.[])))))))));
         }
 
         abbrev G51 : (at : Nat.ℕ → Nat.ℕ) → Row.Cx
         G51 = λ at. record {
           locals = g2 at;
-          slots = List._∷_ (Row.lease (κs .0) (qs .0)) (List._∷_ (Row.lease (κs .1 .0) (qs .1 .0)) (List._∷_ Row.off (List._∷_ Row.off (List._∷_ Row.off (List._∷_
-              Row.off (List._∷_ Row.off (List._∷_ Row.off (List._∷_ Row.off (List._∷_ Row.off List.[])))))))));
+          slots = List._∷_ (Row.lease (κs .0) (qs .0)) (List._∷_ (Row.lease (κs .1 .0) (qs .1 .0)) (List._∷_ Row.off (List._∷_ Row.off (List._∷_ Row.off (List._∷_ Row.off (List._∷_
+              Row.off (List._∷_ Row.off (List._∷_ Row.off (List._∷_ Row.off List.[])))))))));
         }
 
         abbrev G52 : (at : Nat.ℕ → Nat.ℕ) → Row.Cx
         G52 = λ at. record {
           locals = g0 at;
-          slots = List._∷_ (Row.lease (κs .0) (qs .0)) (List._∷_ (Row.lease (κs .1 .0) (qs .1 .0)) (List._∷_ Row.off (List._∷_ Row.off (List._∷_ Row.off (List._∷_
-              Row.alive (List._∷_ Row.off (List._∷_ Row.off (List._∷_ Row.off (List._∷_ Row.off List.[])))))))));
+          slots = List._∷_ (Row.lease (κs .0) (qs .0)) (List._∷_ (Row.lease (κs .1 .0) (qs .1 .0)) (List._∷_ Row.off (List._∷_ Row.off (List._∷_ Row.off (List._∷_ Row.alive (List._∷_
+              Row.off (List._∷_ Row.off (List._∷_ Row.off (List._∷_ Row.off List.[])))))))));
         }
 
         abbrev G53 : (at : Nat.ℕ → Nat.ℕ) → Row.Cx
         G53 = λ at. record {
           locals = g18 at;
-          slots = List._∷_ Row.off (List._∷_ (Row.lease (κs .1 .0) (qs .1 .0)) (List._∷_ Row.off (List._∷_ Row.off (List._∷_ Row.off (List._∷_ Row.alive (List._∷_
-              Row.off (List._∷_ Row.off (List._∷_ Row.off (List._∷_ Row.off List.[])))))))));
+          slots = List._∷_ Row.off (List._∷_ (Row.lease (κs .1 .0) (qs .1 .0)) (List._∷_ Row.off (List._∷_ Row.off (List._∷_ Row.off (List._∷_ Row.alive (List._∷_ Row.off (List._∷_
+              Row.off (List._∷_ Row.off (List._∷_ Row.off List.[])))))))));
         }
 
         abbrev G54 : (at : Nat.ℕ → Nat.ℕ) → Row.Cx
         G54 = λ at. record {
           locals = g18 at;
-          slots = List._∷_ Row.off (List._∷_ (Row.leaseT (κs .1 .0) (qs .1 .0) List.[]) (List._∷_ Row.off (List._∷_ Row.off (List._∷_ Row.off (List._∷_ Row.alive
-              (List._∷_ Row.off (List._∷_ Row.off (List._∷_ Row.off (List._∷_ Row.off List.[])))))))));
+          slots = List._∷_ Row.off (List._∷_ (Row.leaseT (κs .1 .0) (qs .1 .0) List.[]) (List._∷_ Row.off (List._∷_ Row.off (List._∷_ Row.off (List._∷_ Row.alive (List._∷_ Row.off
+              (List._∷_ Row.off (List._∷_ Row.off (List._∷_ Row.off List.[])))))))));
         }
 
         abbrev G55 : (at : Nat.ℕ → Nat.ℕ) → Row.Cx
         G55 = λ at. record {
           locals = g18 at;
-          slots = List._∷_ Row.off (List._∷_ (Row.leaseT (κs .1 .0) (qs .1 .0) List.[]) (List._∷_ Row.off (List._∷_ Row.off (List._∷_ Row.off (List._∷_ (Row.lease
-              (List._∷_ (at 0) List.[]) TreeShare.fullShare) (List._∷_ Row.off (List._∷_ Row.off (List._∷_ Row.off (List._∷_ Row.off List.[])))))))));
+          slots = List._∷_ Row.off (List._∷_ (Row.leaseT (κs .1 .0) (qs .1 .0) List.[]) (List._∷_ Row.off (List._∷_ Row.off (List._∷_ Row.off (List._∷_ (Row.lease (List._∷_ (at 0)
+              List.[]) TreeShare.fullShare) (List._∷_ Row.off (List._∷_ Row.off (List._∷_ Row.off (List._∷_ Row.off List.[])))))))));
         }
 
         abbrev G56 : (at : Nat.ℕ → Nat.ℕ) → Row.Cx
         G56 = λ at. record {
           locals = g18 at;
-          slots = List._∷_ Row.off (List._∷_ (Row.leaseT (κs .1 .0) (qs .1 .0) (List._∷_ Bool.false List.[])) (List._∷_ Row.off (List._∷_ Row.off (List._∷_ Row.off
-              (List._∷_ (Row.carved (List._∷_ (at 0) List.[]) (TreeShare.PosShare·right (qs .1 .0))) (List._∷_ Row.off (List._∷_ Row.off (List._∷_ Row.off (List._∷_ (Row.lease (List._++_ (κs .1 .0)
-              (List._∷_ (at 0) List.[])) (TreeShare.PosShare·right (qs .1 .0))) List.[])))))))));
+          slots = List._∷_ Row.off (List._∷_ (Row.leaseT (κs .1 .0) (qs .1 .0) (List._∷_ Bool.false List.[])) (List._∷_ Row.off (List._∷_ Row.off (List._∷_ Row.off (List._∷_
+              (Row.carved (List._∷_ (at 0) List.[]) (TreeShare.PosShare·right (qs .1 .0))) (List._∷_ Row.off (List._∷_ Row.off (List._∷_ Row.off (List._∷_ (Row.lease (List._++_ (κs .1 .0) (List._∷_ (at 0)
+              List.[])) (TreeShare.PosShare·right (qs .1 .0))) List.[])))))))));
         }
 
         abbrev G57 : (at : Nat.ℕ → Nat.ℕ) → Row.Cx
         G57 = λ at. record {
           locals = g19 at;
-          slots = List._∷_ Row.off (List._∷_ (Row.leaseT (κs .1 .0) (qs .1 .0) (List._∷_ Bool.false List.[])) (List._∷_ Row.off (List._∷_ Row.off (List._∷_ Row.off
-              (List._∷_ (Row.carved (List._∷_ (at 0) List.[]) (TreeShare.PosShare·right (qs .1 .0))) (List._∷_ Row.off (List._∷_ Row.off (List._∷_ Row.off (List._∷_ (Row.lease (List._++_ (κs .1 .0)
-              (List._∷_ (at 0) List.[])) (TreeShare.PosShare·right (qs .1 .0))) List.[])))))))));
+          slots = List._∷_ Row.off (List._∷_ (Row.leaseT (κs .1 .0) (qs .1 .0) (List._∷_ Bool.false List.[])) (List._∷_ Row.off (List._∷_ Row.off (List._∷_ Row.off (List._∷_
+              (Row.carved (List._∷_ (at 0) List.[]) (TreeShare.PosShare·right (qs .1 .0))) (List._∷_ Row.off (List._∷_ Row.off (List._∷_ Row.off (List._∷_ (Row.lease (List._++_ (κs .1 .0) (List._∷_ (at 0)
+              List.[])) (TreeShare.PosShare·right (qs .1 .0))) List.[])))))))));
         }
 
         abbrev G58 : (at : Nat.ℕ → Nat.ℕ) → Row.Cx
         G58 = λ at. record {
           locals = g20 at;
-          slots = List._∷_ Row.off (List._∷_ (Row.leaseT (κs .1 .0) (qs .1 .0) (List._∷_ Bool.false List.[])) (List._∷_ Row.off (List._∷_ Row.off (List._∷_ Row.off
-              (List._∷_ (Row.carved (List._∷_ (at 0) List.[]) (TreeShare.PosShare·right (qs .1 .0))) (List._∷_ Row.off (List._∷_ Row.off (List._∷_ Row.off (List._∷_ (Row.lease (List._++_ (κs .1 .0)
-              (List._∷_ (at 0) List.[])) (TreeShare.PosShare·right (qs .1 .0))) List.[])))))))));
+          slots = List._∷_ Row.off (List._∷_ (Row.leaseT (κs .1 .0) (qs .1 .0) (List._∷_ Bool.false List.[])) (List._∷_ Row.off (List._∷_ Row.off (List._∷_ Row.off (List._∷_
+              (Row.carved (List._∷_ (at 0) List.[]) (TreeShare.PosShare·right (qs .1 .0))) (List._∷_ Row.off (List._∷_ Row.off (List._∷_ Row.off (List._∷_ (Row.lease (List._++_ (κs .1 .0) (List._∷_ (at 0)
+              List.[])) (TreeShare.PosShare·right (qs .1 .0))) List.[])))))))));
         }
 
         abbrev G59 : (at : Nat.ℕ → Nat.ℕ) → Row.Cx
         G59 = λ at. record {
           locals = g21 at;
-          slots = List._∷_ Row.off (List._∷_ (Row.leaseT (κs .1 .0) (qs .1 .0) (List._∷_ Bool.false List.[])) (List._∷_ Row.off (List._∷_ Row.off (List._∷_ Row.off
-              (List._∷_ (Row.carved (List._∷_ (at 0) List.[]) (TreeShare.PosShare·right (qs .1 .0))) (List._∷_ Row.off (List._∷_ Row.off (List._∷_ Row.off (List._∷_ (Row.lease (List._++_ (κs .1 .0)
-              (List._∷_ (at 0) List.[])) (TreeShare.PosShare·right (qs .1 .0))) List.[])))))))));
+          slots = List._∷_ Row.off (List._∷_ (Row.leaseT (κs .1 .0) (qs .1 .0) (List._∷_ Bool.false List.[])) (List._∷_ Row.off (List._∷_ Row.off (List._∷_ Row.off (List._∷_
+              (Row.carved (List._∷_ (at 0) List.[]) (TreeShare.PosShare·right (qs .1 .0))) (List._∷_ Row.off (List._∷_ Row.off (List._∷_ Row.off (List._∷_ (Row.lease (List._++_ (κs .1 .0) (List._∷_ (at 0)
+              List.[])) (TreeShare.PosShare·right (qs .1 .0))) List.[])))))))));
         }
 
         abbrev G60 : (at : Nat.ℕ → Nat.ℕ) → Row.Cx
         G60 = λ at. record {
           locals = g22 at;
-          slots = List._∷_ Row.off (List._∷_ (Row.leaseT (κs .1 .0) (qs .1 .0) (List._∷_ Bool.false List.[])) (List._∷_ Row.off (List._∷_ Row.off (List._∷_ Row.off
-              (List._∷_ (Row.carved (List._∷_ (at 0) List.[]) (TreeShare.PosShare·right (qs .1 .0))) (List._∷_ Row.off (List._∷_ Row.off (List._∷_ Row.off (List._∷_ (Row.lease (List._++_ (κs .1 .0)
-              (List._∷_ (at 0) List.[])) (TreeShare.PosShare·right (qs .1 .0))) List.[])))))))));
+          slots = List._∷_ Row.off (List._∷_ (Row.leaseT (κs .1 .0) (qs .1 .0) (List._∷_ Bool.false List.[])) (List._∷_ Row.off (List._∷_ Row.off (List._∷_ Row.off (List._∷_
+              (Row.carved (List._∷_ (at 0) List.[]) (TreeShare.PosShare·right (qs .1 .0))) (List._∷_ Row.off (List._∷_ Row.off (List._∷_ Row.off (List._∷_ (Row.lease (List._++_ (κs .1 .0) (List._∷_ (at 0)
+              List.[])) (TreeShare.PosShare·right (qs .1 .0))) List.[])))))))));
         }
 
         abbrev G61 : (at : Nat.ℕ → Nat.ℕ) → Row.Cx
         G61 = λ at. record {
           locals = g22 at;
-          slots = List._∷_ Row.off (List._∷_ (Row.leaseT (κs .1 .0) (qs .1 .0) (List._∷_ Bool.true List.[])) (List._∷_ Row.off (List._∷_ Row.off (List._∷_ Row.off
-              (List._∷_ (Row.lease (List._∷_ (at 0) List.[]) TreeShare.fullShare) (List._∷_ Row.off (List._∷_ Row.off (List._∷_ Row.off (List._∷_ Row.off List.[])))))))));
+          slots = List._∷_ Row.off (List._∷_ (Row.leaseT (κs .1 .0) (qs .1 .0) (List._∷_ Bool.true List.[])) (List._∷_ Row.off (List._∷_ Row.off (List._∷_ Row.off (List._∷_ (Row.lease
+              (List._∷_ (at 0) List.[]) TreeShare.fullShare) (List._∷_ Row.off (List._∷_ Row.off (List._∷_ Row.off (List._∷_ Row.off List.[])))))))));
         }
 
         abbrev G62 : (at : Nat.ℕ → Nat.ℕ) → Row.Cx
         G62 = λ at. record {
           locals = g22 at;
-          slots = List._∷_ Row.off (List._∷_ (Row.leaseT (κs .1 .0) (qs .1 .0) List.[]) (List._∷_ Row.off (List._∷_ Row.off (List._∷_ Row.off (List._∷_ (Row.lease
-              (List._∷_ (at 0) List.[]) TreeShare.fullShare) (List._∷_ Row.off (List._∷_ Row.off (List._∷_ Row.off (List._∷_ Row.off List.[])))))))));
+          slots = List._∷_ Row.off (List._∷_ (Row.leaseT (κs .1 .0) (qs .1 .0) List.[]) (List._∷_ Row.off (List._∷_ Row.off (List._∷_ Row.off (List._∷_ (Row.lease (List._∷_ (at 0)
+              List.[]) TreeShare.fullShare) (List._∷_ Row.off (List._∷_ Row.off (List._∷_ Row.off (List._∷_ Row.off List.[])))))))));
         }
 
         abbrev G63 : (at : Nat.ℕ → Nat.ℕ) → Row.Cx
         G63 = λ at. record {
           locals = g22 at;
-          slots = List._∷_ Row.off (List._∷_ (Row.lease (κs .1 .0) (qs .1 .0)) (List._∷_ Row.off (List._∷_ Row.off (List._∷_ Row.off (List._∷_ (Row.lease (List._∷_
-              (at 0) List.[]) TreeShare.fullShare) (List._∷_ Row.off (List._∷_ Row.off (List._∷_ Row.off (List._∷_ Row.off List.[])))))))));
+          slots = List._∷_ Row.off (List._∷_ (Row.lease (κs .1 .0) (qs .1 .0)) (List._∷_ Row.off (List._∷_ Row.off (List._∷_ Row.off (List._∷_ (Row.lease (List._∷_ (at 0) List.[])
+              TreeShare.fullShare) (List._∷_ Row.off (List._∷_ Row.off (List._∷_ Row.off (List._∷_ Row.off List.[])))))))));
         }
 
         abbrev G64 : (at : Nat.ℕ → Nat.ℕ) → Row.Cx
         G64 = λ at. record {
           locals = g22 at;
-          slots = List._∷_ Row.off (List._∷_ (Row.lease (κs .1 .0) (qs .1 .0)) (List._∷_ Row.off (List._∷_ Row.off (List._∷_ Row.off (List._∷_ Row.alive (List._∷_
-              Row.off (List._∷_ Row.off (List._∷_ Row.off (List._∷_ Row.off List.[])))))))));
+          slots = List._∷_ Row.off (List._∷_ (Row.lease (κs .1 .0) (qs .1 .0)) (List._∷_ Row.off (List._∷_ Row.off (List._∷_ Row.off (List._∷_ Row.alive (List._∷_ Row.off (List._∷_
+              Row.off (List._∷_ Row.off (List._∷_ Row.off List.[])))))))));
         }
 
         abbrev G65 : (at : Nat.ℕ → Nat.ℕ) → Row.Cx
         G65 = λ at. record {
           locals = g22 at;
-          slots = List._∷_ Row.off (List._∷_ (Row.lease (κs .1 .0) (qs .1 .0)) (List._∷_ Row.off (List._∷_ Row.off (List._∷_ Row.off (List._∷_ Row.dead (List._∷_
-              Row.off (List._∷_ Row.off (List._∷_ Row.off (List._∷_ Row.off List.[])))))))));
+          slots = List._∷_ Row.off (List._∷_ (Row.lease (κs .1 .0) (qs .1 .0)) (List._∷_ Row.off (List._∷_ Row.off (List._∷_ Row.off (List._∷_ Row.dead (List._∷_ Row.off (List._∷_
+              Row.off (List._∷_ Row.off (List._∷_ Row.off List.[])))))))));
         }
 
         abbrev G66 : (at : Nat.ℕ → Nat.ℕ) → Row.Cx
         G66 = λ at. record {
           locals = g0 at;
-          slots = List._∷_ (Row.lease (κs .0) (qs .0)) (List._∷_ (Row.lease (κs .1 .0) (qs .1 .0)) (List._∷_ Row.off (List._∷_ Row.off (List._∷_ Row.off (List._∷_
-              Row.dead (List._∷_ Row.off (List._∷_ Row.off (List._∷_ Row.off (List._∷_ Row.off List.[])))))))));
+          slots = List._∷_ (Row.lease (κs .0) (qs .0)) (List._∷_ (Row.lease (κs .1 .0) (qs .1 .0)) (List._∷_ Row.off (List._∷_ Row.off (List._∷_ Row.off (List._∷_ Row.dead (List._∷_
+              Row.off (List._∷_ Row.off (List._∷_ Row.off (List._∷_ Row.off List.[])))))))));
         }
 
         abbrev G67 : (at : Nat.ℕ → Nat.ℕ) → Row.Cx
         G67 = λ at. record {
           locals = g0 at;
-          slots = List._∷_ (Row.lease (κs .0) (qs .0)) (List._∷_ (Row.lease (κs .1 .0) (qs .1 .0)) (List._∷_ Row.off (List._∷_ Row.off (List._∷_ Row.off (List._∷_
-              Row.off (List._∷_ Row.off (List._∷_ Row.off (List._∷_ Row.off (List._∷_ Row.off List.[])))))))));
+          slots = List._∷_ (Row.lease (κs .0) (qs .0)) (List._∷_ (Row.lease (κs .1 .0) (qs .1 .0)) (List._∷_ Row.off (List._∷_ Row.off (List._∷_ Row.off (List._∷_ Row.off (List._∷_
+              Row.off (List._∷_ Row.off (List._∷_ Row.off (List._∷_ Row.off List.[])))))))));
         }
 
         abbrev G68 : (at : Nat.ℕ → Nat.ℕ) → Row.Cx
         G68 = λ at. record {
           locals = g2 at;
-          slots = List._∷_ (Row.lease (κs .0) (qs .0)) (List._∷_ (Row.lease (κs .1 .0) (qs .1 .0)) (List._∷_ Row.off (List._∷_ Row.off (List._∷_ Row.off (List._∷_
-              Row.off (List._∷_ Row.off (List._∷_ Row.off (List._∷_ Row.off (List._∷_ Row.off List.[])))))))));
+          slots = List._∷_ (Row.lease (κs .0) (qs .0)) (List._∷_ (Row.lease (κs .1 .0) (qs .1 .0)) (List._∷_ Row.off (List._∷_ Row.off (List._∷_ Row.off (List._∷_ Row.off (List._∷_
+              Row.off (List._∷_ Row.off (List._∷_ Row.off (List._∷_ Row.off List.[])))))))));
         }
 
         abbrev G69 : (at : Nat.ℕ → Nat.ℕ) → Row.Cx
         G69 = λ at. record {
           locals = g2 at;
-          slots = List._∷_ (Row.lease (κs .0) (qs .0)) (List._∷_ (Row.lease (κs .1 .0) (qs .1 .0)) (List._∷_ Row.off (List._∷_ Row.off (List._∷_ Row.off (List._∷_
-              Row.off (List._∷_ Row.off (List._∷_ Row.off (List._∷_ Row.off (List._∷_ Row.off List.[])))))))));
+          slots = List._∷_ (Row.lease (κs .0) (qs .0)) (List._∷_ (Row.lease (κs .1 .0) (qs .1 .0)) (List._∷_ Row.off (List._∷_ Row.off (List._∷_ Row.off (List._∷_ Row.off (List._∷_
+              Row.off (List._∷_ Row.off (List._∷_ Row.off (List._∷_ Row.off List.[])))))))));
         }
 
         abbrev G70 : (at : Nat.ℕ → Nat.ℕ) → Row.Cx
         G70 = λ at. record {
           locals = g23 at;
-          slots = List._∷_ (Row.lease (κs .0) (qs .0)) (List._∷_ (Row.lease (κs .1 .0) (qs .1 .0)) (List._∷_ Row.off (List._∷_ Row.off (List._∷_ Row.off (List._∷_
-              Row.off (List._∷_ Row.off (List._∷_ Row.off (List._∷_ Row.off (List._∷_ Row.off List.[])))))))));
+          slots = List._∷_ (Row.lease (κs .0) (qs .0)) (List._∷_ (Row.lease (κs .1 .0) (qs .1 .0)) (List._∷_ Row.off (List._∷_ Row.off (List._∷_ Row.off (List._∷_ Row.off (List._∷_
+              Row.off (List._∷_ Row.off (List._∷_ Row.off (List._∷_ Row.off List.[])))))))));
         }
 
         abbrev G71 : (at : Nat.ℕ → Nat.ℕ) → Row.Cx
         G71 = λ at. record {
           locals = g24 at;
-          slots = List._∷_ (Row.lease (κs .0) (qs .0)) (List._∷_ (Row.lease (κs .1 .0) (qs .1 .0)) (List._∷_ Row.off (List._∷_ Row.off (List._∷_ Row.off (List._∷_
-              Row.off (List._∷_ Row.off (List._∷_ Row.off (List._∷_ Row.off (List._∷_ Row.off List.[])))))))));
+          slots = List._∷_ (Row.lease (κs .0) (qs .0)) (List._∷_ (Row.lease (κs .1 .0) (qs .1 .0)) (List._∷_ Row.off (List._∷_ Row.off (List._∷_ Row.off (List._∷_ Row.off (List._∷_
+              Row.off (List._∷_ Row.off (List._∷_ Row.off (List._∷_ Row.off List.[])))))))));
         }
 
         abbrev G72 : (at : Nat.ℕ → Nat.ℕ) → Row.Cx
         G72 = λ at. record {
           locals = g25 at;
-          slots = List._∷_ (Row.lease (κs .0) (qs .0)) (List._∷_ (Row.lease (κs .1 .0) (qs .1 .0)) (List._∷_ Row.off (List._∷_ Row.off (List._∷_ Row.off (List._∷_
-              Row.off (List._∷_ Row.off (List._∷_ Row.off (List._∷_ Row.off (List._∷_ Row.off List.[])))))))));
+          slots = List._∷_ (Row.lease (κs .0) (qs .0)) (List._∷_ (Row.lease (κs .1 .0) (qs .1 .0)) (List._∷_ Row.off (List._∷_ Row.off (List._∷_ Row.off (List._∷_ Row.off (List._∷_
+              Row.off (List._∷_ Row.off (List._∷_ Row.off (List._∷_ Row.off List.[])))))))));
         }
 
         abbrev G73 : (at : Nat.ℕ → Nat.ℕ) → Row.Cx
         G73 = λ at. record {
           locals = g1 at;
-          slots = List._∷_ (Row.lease (κs .0) (qs .0)) (List._∷_ (Row.lease (κs .1 .0) (qs .1 .0)) (List._∷_ Row.off (List._∷_ Row.off (List._∷_ Row.off (List._∷_
-              Row.off (List._∷_ Row.off (List._∷_ Row.off (List._∷_ Row.off (List._∷_ Row.off List.[])))))))));
+          slots = List._∷_ (Row.lease (κs .0) (qs .0)) (List._∷_ (Row.lease (κs .1 .0) (qs .1 .0)) (List._∷_ Row.off (List._∷_ Row.off (List._∷_ Row.off (List._∷_ Row.off (List._∷_
+              Row.off (List._∷_ Row.off (List._∷_ Row.off (List._∷_ Row.off List.[])))))))));
         }
 
         abbrev Δ0 : (at : Nat.ℕ → Nat.ℕ) → Typed.Outs
@@ -2081,50 +1451,39 @@ module _ (claims· : Claims) where
               A W 𝓣 E (G9 at) (G14 at) (G15 at) b1 (λ Ψ. Typed.both s7 (Typed.pass T10 T11 s8 (Typed.pass T11 T12 s9 Ψ))) (λ Ψ. Ψ) (Typed.g-post 𝓤 H A W 𝓣 E (G9 at) (G13 at) (G14 at) b1 (λ Ψ. Typed.both
               s7 (Typed.pass T10 T11 s8 (Typed.pass T11 T12 s9 Ψ))) (λ Ψ. Ψ) (Typed.g-post 𝓤 H A W 𝓣 E (G9 at) (G12 at) (G13 at) b1 (λ Ψ. Typed.both s7 (Typed.pass T10 T11 s8 (Typed.pass T11 T12 s9 Ψ)))
               (λ Ψ. Ψ) (Typed.g-post 𝓤 H A W 𝓣 E (G9 at) (G11 at) (G12 at) b1 (λ Ψ. Typed.both s7 (Typed.pass T10 T11 s8 Ψ)) (Typed.pass T11 T12 s9) (Typed.g-post 𝓤 H A W 𝓣 E (G9 at) (G10 at) (G11 at) b1
-              (Typed.both s7) (Typed.pass T10 T11 s8) (Plain.t-call-plain-by 𝓤 H A W 𝓣 2 ps·0 r·0 (claims· .0) (claims· .1) "bits::BitPumpMsb::peek" (known .0) E (λ pos β. β) (G9 at) (
-                record {
-                  pos = 5;
-                  ty = Syntax.tyRef Syntax.erased Syntax.imm (Held.behind Syntax.erased);
-                  βs = List._∷_ 6 (List._∷_ 1 List.[]);
-                  ref = λ x. x;
-                },
-                (Num.vAt 3 λ x. x, tt),
-              ) 4 (List._∷_ 6 (List._∷_ 1 List.[]))
-              (Call.sub-id 𝓤 H A W (G9 at .slots)) (
-                ShrRefTo.spares-sref-at 𝓤 H A W 2 (λ κc. Held.type (Syntax.named 1) (κc .1 .0)) Held.Value (λ κc v. v) (List._∷_ 6 (List._∷_ 1 List.[])) (Syntax.tyRef
-                    Syntax.erased Syntax.imm (Held.behind Syntax.erased)) 6,
-                AtSlots.reads-sref-at 𝓤 H A W 2 (λ κc. Held.type (Syntax.named 1) (κc .1 .0)) Held.Value (λ κc v. v) (List._∷_ 6 (List._∷_ 1
-                    List.[])) (Syntax.tyRef Syntax.erased Syntax.imm (Held.behind Syntax.erased)) 6,
+              (Typed.both s7) (Typed.pass T10 T11 s8) (Plain.t-call-plain-by 𝓤 H A W 𝓣 2 ps·0 r·0 (claims· .0) (claims· .1) "bits::BitPumpMsb::peek" (known .0) E (λ pos β. β) (G9 at)
+              (record { pos = 5; ty = Syntax.tyRef Syntax.erased Syntax.imm (Held.behind Syntax.erased); βs = List._∷_ 6 (List._∷_ 1 List.[]); ref = λ x. x }, (Num.vAt 3 λ x. x, tt)) 4 (List._∷_ 6
+              (List._∷_ 1 List.[])) (Call.sub-id 𝓤 H A W (G9 at .slots)) (
+                ShrRefTo.spares-sref-at 𝓤 H A W 2 (λ κc. Held.type (Syntax.named 1) (κc .1 .0)) Held.Value (λ κc v. v) (List._∷_ 6 (List._∷_ 1 List.[])) (Syntax.tyRef Syntax.erased Syntax.imm (Held.behind
+                    Syntax.erased)) 6,
+                AtSlots.reads-sref-at 𝓤 H A W 2 (λ κc. Held.type (Syntax.named 1) (κc .1 .0)) Held.Value (λ κc v. v) (List._∷_ 6 (List._∷_ 1 List.[])) (Syntax.tyRef Syntax.erased
+                    Syntax.imm (Held.behind Syntax.erased)) 6,
                 Path'.refl,
                 Path'.refl,
                 ((Scalar.reads-sc 𝓤 H A W (Row.sInt Syntax.w32), Path'.refl), tt),
-              ) (Reads.room-gone
-              𝓤 H A (Syntax.tyInt Syntax.w32)) (tt, (tt, tt)) (Shorter.told-bounds 𝓤 H A W 2 (G9 at .slots) (List._∷_ 6 (List._∷_ 1 List.[])) (Kinds.osR r·0) (Way.told-and 𝓤 H A W (G9 at .slots)
-              (Shorter.Below 1 6) (λ ρ. Unit) (MeetSlot.told-part 𝓤 H A W (G9 at .slots) 1 6 0 (MeetSlot.level 1 (κs .1 .0) (qs .1 .0) (List._∷_ Bool.false List.[])) (List._∷_ (MeetSlot.carve 2 (at 0))
-              List.[]) (Call.pin-level 𝓤 H A W 1 (G9 at .slots) (κs .1 .0) (qs .1 .0) (List._∷_ Bool.false List.[]) Path'.refl) (Call.pin-lease 𝓤 H A W 6 (G9 at .slots) (List._++_ (κs .1 .0) (List._∷_ (at
-              0) List.[])) (TreeShare.PosShare·right (qs .1 .0)) Path'.refl)) (Own.told-none 𝓤 H A (G9 at .slots)))) Path'.refl λ κs′ x v i. Result.res-typed 𝓤 H A W 2 κs′ (Num.rNum Syntax.w32) x v i
-              (List._∷_ 6 (List._∷_ 1 List.[])) (Syntax.tyInt Syntax.w32) Path'.refl) (AtSlots.g-as-by 𝓤 H A W E (λ ρ. Path'._≡_ (Row.lft ρ 1) (κs .1 .0)) (G10 at) 5 (Rows.sref (Held.type (Syntax.named 1)
-              (κs .1 .0)) (Syntax.tyRef Syntax.erased Syntax.imm (Held.behind Syntax.erased)) 6) (λ x. record { ptr = x .ptr; name = x .name; now = x .now }) (Call.pin-level 𝓤 H A W 1 (G10 at .slots) (κs
-              .1 .0) (qs .1 .0) (List._∷_ Bool.false List.[]) Path'.refl) (AtSlots.of-slots-shr 𝓤 H A 2 Fml.Lft (λ κc. κc .1 .0) (λ c. Held.type (Syntax.named 1) c) Held.Value (λ c v. v) (List._∷_ 6
-              (List._∷_ 1 List.[])) (κs .1 .0) (Syntax.tyRef Syntax.erased Syntax.imm (Held.behind Syntax.erased)) 6))) (Local.g-drop-sref 𝓤 H A W E (G11 at) 5 6 (Held.type (Syntax.named 1) (κs .1 .0))
-              (Syntax.tyRef Syntax.erased Syntax.imm (Held.behind Syntax.erased)) (λ x. x) (Reads.as-is 𝓤 H A (Rows.sref (Held.type (Syntax.named 1) (κs .1 .0)) (Syntax.tyRef Syntax.erased Syntax.imm
-              (Held.behind Syntax.erased)) 6)))) (MeetSlot.g-unmeet 𝓤 H A W E (G12 at) 6 (TreeShare.PosShare·right (qs .1 .0)) (MeetSlot.to-level 1 0 (κs .1 .0) (qs .1 .0) (List._∷_ Bool.false List.[]))
-              (List._∷_ (MeetSlot.to-whole 2 (at 0)) List.[]) Path'.refl ((Path'.refl, (Path'.refl, Path'.refl)), (Path'.refl, tt)))) (Open.g-tok-trim 𝓤 H A W E (G13 at) 1 (Row.leaseT (κs .1 .0) (qs .1
-              .0) (List._∷_ Bool.true List.[])) Path'.refl tt)) (Open.g-tok-close 𝓤 H A W E (G14 at) 1 (Row.lease (κs .1 .0) (qs .1 .0)) Path'.refl tt)) (LifetimeAt.g-unpin-by 𝓤 H A W E (G15 at) 2 (at 0)
+              ) (Reads.room-gone 𝓤 H A (Syntax.tyInt Syntax.w32))
+              (tt, (tt, tt)) (Shorter.told-bounds 𝓤 H A W 2 (G9 at .slots) (List._∷_ 6 (List._∷_ 1 List.[])) (Kinds.osR r·0) (Way.told-and 𝓤 H A W (G9 at .slots) (Shorter.Below 1 6) (λ ρ. Unit)
+              (MeetSlot.told-part 𝓤 H A W (G9 at .slots) 1 6 0 (MeetSlot.level 1 (κs .1 .0) (qs .1 .0) (List._∷_ Bool.false List.[])) (List._∷_ (MeetSlot.carve 2 (at 0)) List.[]) (Call.pin-level 𝓤 H A W 1
+              (G9 at .slots) (κs .1 .0) (qs .1 .0) (List._∷_ Bool.false List.[]) Path'.refl) (Call.pin-lease 𝓤 H A W 6 (G9 at .slots) (List._++_ (κs .1 .0) (List._∷_ (at 0) List.[]))
+              (TreeShare.PosShare·right (qs .1 .0)) Path'.refl)) (Own.told-none 𝓤 H A (G9 at .slots)))) Path'.refl λ κs′ x v i. Result.res-typed 𝓤 H A W 2 κs′ (Num.rNum Syntax.w32) x v i (List._∷_ 6
+              (List._∷_ 1 List.[])) (Syntax.tyInt Syntax.w32) Path'.refl) (AtSlots.g-as-by 𝓤 H A W E (λ ρ. Path'._≡_ (Row.lft ρ 1) (κs .1 .0)) (G10 at) 5 (Rows.sref (Held.type (Syntax.named 1) (κs .1 .0))
+              (Syntax.tyRef Syntax.erased Syntax.imm (Held.behind Syntax.erased)) 6) (λ x. record { ptr = x .ptr; name = x .name; now = x .now }) (Call.pin-level 𝓤 H A W 1 (G10 at .slots) (κs .1 .0) (qs
+              .1 .0) (List._∷_ Bool.false List.[]) Path'.refl) (AtSlots.of-slots-shr 𝓤 H A 2 Fml.Lft (λ κc. κc .1 .0) (λ c. Held.type (Syntax.named 1) c) Held.Value (λ c v. v) (List._∷_ 6 (List._∷_ 1
+              List.[])) (κs .1 .0) (Syntax.tyRef Syntax.erased Syntax.imm (Held.behind Syntax.erased)) 6))) (Local.g-drop-sref 𝓤 H A W E (G11 at) 5 6 (Held.type (Syntax.named 1) (κs .1 .0)) (Syntax.tyRef
+              Syntax.erased Syntax.imm (Held.behind Syntax.erased)) (λ x. x) (Reads.as-is 𝓤 H A (Rows.sref (Held.type (Syntax.named 1) (κs .1 .0)) (Syntax.tyRef Syntax.erased Syntax.imm (Held.behind
+              Syntax.erased)) 6)))) (MeetSlot.g-unmeet 𝓤 H A W E (G12 at) 6 (TreeShare.PosShare·right (qs .1 .0)) (MeetSlot.to-level 1 0 (κs .1 .0) (qs .1 .0) (List._∷_ Bool.false List.[])) (List._∷_
+              (MeetSlot.to-whole 2 (at 0)) List.[]) Path'.refl ((Path'.refl, (Path'.refl, Path'.refl)), (Path'.refl, tt)))) (Open.g-tok-trim 𝓤 H A W E (G13 at) 1 (Row.leaseT (κs .1 .0) (qs .1 .0)
+              (List._∷_ Bool.true List.[])) Path'.refl tt)) (Open.g-tok-close 𝓤 H A W E (G14 at) 1 (Row.lease (κs .1 .0) (qs .1 .0)) Path'.refl tt)) (LifetimeAt.g-unpin-by 𝓤 H A W E (G15 at) 2 (at 0)
               Row.alive Path'.refl tt)) (Lifetime.g-end 𝓤 H A W E (G16 at) 2 Path'.refl)) (Reshare.g-back-mref-shr 𝓤 H A W E (G17 at) 1 0 2 (Held.type (Syntax.named 1) (κs .1 .0)) (Syntax.tyRef
               (Syntax.named 0) Syntax.mut (Held.behind (Syntax.named 1))) (Row.lease (κs .0) (qs .0)) (λ x. x) (Reads.as-is 𝓤 H A (Reshare.mref-owedS (Held.type (Syntax.named 1) (κs .1 .0)) (Syntax.tyRef
               (Syntax.named 0) Syntax.mut (Held.behind (Syntax.named 1))) 0 2 (Row.lease (κs .0) (qs .0)))) Path'.refl Path'.refl)) (Lifetime.g-forget 𝓤 H A W E (G18 at) 2 Row.dead Path'.refl))
 
           d1 : (at : Nat.ℕ → Nat.ℕ) → Typed.Typed 𝓤 H A 𝓣 E (G8 at) b1 (Δ1 at) at1
           d1 = λ at. Typed.g-pre 𝓤 H A W 𝓣 E (G8 at) (G9 at) b1 (Δ1 at) (Typed.pass T8 T9 s6) at0 (AtSlots.g-as-by 𝓤 H A W E (λ ρ. Path'._≡_ (Row.lft ρ 1) (κs .1 .0)) (G8 at) 5 (AtSlots.srefAt 2 (λ
-              κc. Held.type (Syntax.named 1) (κc .1 .0)) Held.Value (λ κc v. v) (List._∷_ 6 (List._∷_ 1 List.[])) (Syntax.tyRef Syntax.erased Syntax.imm (Held.behind Syntax.erased)) 6) (λ x. record {
-                ptr
-                    = x .ptr;
-                name = x .name;
-                now = x .now;
-              }) (Call.pin-level 𝓤 H A W 1 (G8 at .slots) (κs .1 .0) (qs .1 .0) (List._∷_ Bool.false List.[]) Path'.refl) (AtSlots.to-slots-shr 𝓤 H A 2 Fml.Lft (λ
-              κc. κc .1 .0) (λ c. Held.type (Syntax.named 1) c) Held.Value (λ c v. v) (List._∷_ 6 (List._∷_ 1 List.[])) (κs .1 .0) (Syntax.tyRef Syntax.erased Syntax.imm (Held.behind Syntax.erased)) 6 (λ
-              v. v) λ v. Path'.refl)) (d0 at)
+              κc. Held.type (Syntax.named 1) (κc .1 .0)) Held.Value (λ κc v. v) (List._∷_ 6 (List._∷_ 1 List.[])) (Syntax.tyRef Syntax.erased Syntax.imm (Held.behind Syntax.erased)) 6) (λ x. record
+              { ptr = x .ptr; name = x .name; now = x .now }) (Call.pin-level 𝓤 H A W 1 (G8 at .slots) (κs .1 .0) (qs .1 .0) (List._∷_ Bool.false List.[]) Path'.refl) (AtSlots.to-slots-shr 𝓤 H A 2 Fml.Lft
+              (λ κc. κc .1 .0) (λ c. Held.type (Syntax.named 1) c) Held.Value (λ c v. v) (List._∷_ 6 (List._∷_ 1 List.[])) (κs .1 .0) (Syntax.tyRef Syntax.erased Syntax.imm (Held.behind Syntax.erased)) 6
+              (λ v. v) λ v. Path'.refl)) (d0 at)
 
           d2 : (at : Nat.ℕ → Nat.ℕ) → Typed.Typed 𝓤 H A 𝓣 E (G7 at) b1 (Δ1 at) at2
           d2 = λ at. Typed.g-pre 𝓤 H A W 𝓣 E (G7 at) (G8 at) b1 (Δ1 at) (Typed.pass T4 T8 s5) at1 (AtSlots.g-as-by 𝓤 H A W E (Shorter.Below 2 6) (G7 at) 5 (Rows.sref (Held.type (Syntax.named 1) (κs .1
@@ -2150,25 +1509,16 @@ module _ (claims· : Claims) where
               Syntax.erased Syntax.imm (Held.behind Syntax.erased))) Path'.refl tt Path'.refl Path'.refl λ b o. tt) (d5 at)
 
           d7 : (at : Nat.ℕ → Nat.ℕ) → Typed.Typed 𝓤 H A 𝓣 E (G0 at) b2 (Δ1 at) at7
-          d7 = λ at. Typed.g-pre 𝓤 H A W 𝓣 E (G0 at) (G3 at) b2 (Δ1 at) (λ Ψ. Ψ) at6 (Lifetime.g-begin 𝓤 H A W E (G0 at) 2 (tt, (tt, (tt, (tt, (tt, (tt, (tt, (tt, (tt, (tt, (tt, tt)))))))))))) (d6
-              at)
+          d7 = λ at. Typed.g-pre 𝓤 H A W 𝓣 E (G0 at) (G3 at) b2 (Δ1 at) (λ Ψ. Ψ) at6 (Lifetime.g-begin 𝓤 H A W E (G0 at) 2 (tt, (tt, (tt, (tt, (tt, (tt, (tt, (tt, (tt, (tt, (tt, tt)))))))))))) (d6 at)
 
           d8 : (at : Nat.ℕ → Nat.ℕ) → Typed.Typed 𝓤 H A 𝓣 E (G26 at) b4 (Δ1 at) at8
           d8 = λ at. Typed.s-typed 𝓤 H A W 𝓣 E (G26 at) b4 (Δ1 at) (λ Ψ. Typed.both s24 (Typed.ask s30 Ψ)) tt (Typed.g-post 𝓤 H A W 𝓣 E (G26 at) (G33 at) (G34 at) b4 (λ Ψ. Typed.both s24 (Typed.ask
               s30 Ψ)) (λ Ψ. Ψ) (Typed.g-post 𝓤 H A W 𝓣 E (G26 at) (G32 at) (G33 at) b4 (λ Ψ. Typed.both s24 Ψ) (Typed.ask s30) (Typed.g-post 𝓤 H A W 𝓣 E (G26 at) (G31 at) (G32 at) b4 (λ Ψ. Typed.both s24
               Ψ) (λ Ψ. Ψ) (Typed.g-post 𝓤 H A W 𝓣 E (G26 at) (G30 at) (G31 at) b4 (λ Ψ. Typed.both s24 Ψ) (λ Ψ. Ψ) (Typed.g-post 𝓤 H A W 𝓣 E (G26 at) (G29 at) (G30 at) b4 (λ Ψ. Typed.both s24 Ψ) (λ Ψ. Ψ)
               (Typed.g-post 𝓤 H A W 𝓣 E (G26 at) (G28 at) (G29 at) b4 (λ Ψ. Typed.both s24 Ψ) (λ Ψ. Ψ) (Typed.g-post 𝓤 H A W 𝓣 E (G26 at) (G27 at) (G28 at) b4 (Typed.both s24) (λ Ψ. Ψ)
-              (Plain.t-call-plain-by 𝓤 H A W 𝓣 2 ps·1 r·1 (claims· .2) (claims· .3) "bits::BitPumpMsb::get" (known .1) E (λ pos β. β) (G26 at) (
-                record {
-                  pos = 6;
-                  ty = Syntax.tyRef Syntax.erased
-                      Syntax.mut (Held.behind Syntax.erased);
-                  βs = List._∷_ 7 (List._∷_ 1 List.[]);
-                  ref = λ x. x;
-                },
-                (Num.vAt 3 λ x. x, tt),
-              ) 4 (List._∷_ 7 (List._∷_ 1 List.[])) (Call.sub-id 𝓤 H A W (G26 at
-              .slots)) (
+              (Plain.t-call-plain-by 𝓤 H A W 𝓣 2 ps·1 r·1 (claims· .2) (claims· .3) "bits::BitPumpMsb::get" (known .1) E (λ pos β. β) (G26 at)
+              (record { pos = 6; ty = Syntax.tyRef Syntax.erased Syntax.mut (Held.behind Syntax.erased); βs = List._∷_ 7 (List._∷_ 1 List.[]); ref = λ x. x }, (Num.vAt 3 λ x. x, tt)) 4 (List._∷_ 7
+              (List._∷_ 1 List.[])) (Call.sub-id 𝓤 H A W (G26 at .slots)) (
                 Reads.as-is 𝓤 H A (AtSlots.mrefAt 2 (λ κc. Held.type (Syntax.named 1) (κc .1 .0)) Held.Value (λ κc v. v) (List._∷_ 7 (List._∷_ 1 List.[])) (Syntax.tyRef Syntax.erased Syntax.mut
                     (Held.behind Syntax.erased)) 7),
                 AtSlots.reads-mref-at 𝓤 H A W 2 (λ κc. Held.type (Syntax.named 1) (κc .1 .0)) Held.Value (λ κc v. v) (List._∷_ 7 (List._∷_ 1 List.[])) (Syntax.tyRef
@@ -2192,11 +1542,8 @@ module _ (claims· : Claims) where
 
           d9 : (at : Nat.ℕ → Nat.ℕ) → Typed.Typed 𝓤 H A 𝓣 E (G25 at) b4 (Δ1 at) at9
           d9 = λ at. Typed.g-pre 𝓤 H A W 𝓣 E (G25 at) (G26 at) b4 (Δ1 at) (Typed.pass T25 T26 s23) at8 (AtSlots.g-as-by 𝓤 H A W E (λ ρ. Path'._≡_ (Row.lft ρ 1) (κs .1 .0)) (G25 at) 6 (AtSlots.mrefAt 2
-              (λ κc. Held.type (Syntax.named 1) (κc .1 .0)) Held.Value (λ κc v. v) (List._∷_ 7 (List._∷_ 1 List.[])) (Syntax.tyRef Syntax.erased Syntax.mut (Held.behind Syntax.erased)) 7) (λ x. record {
-                ptr = x .ptr;
-                name = x .name;
-                now = x .now;
-              }) (Call.pin-level 𝓤 H A W 1 (G25 at .slots) (κs .1 .0) (qs .1 .0) (List._∷_ Bool.false List.[]) Path'.refl) (AtSlots.to-slots 𝓤 H A 2 Fml.Lft (λ
+              (λ κc. Held.type (Syntax.named 1) (κc .1 .0)) Held.Value (λ κc v. v) (List._∷_ 7 (List._∷_ 1 List.[])) (Syntax.tyRef Syntax.erased Syntax.mut (Held.behind Syntax.erased)) 7) (λ x. record
+              { ptr = x .ptr; name = x .name; now = x .now }) (Call.pin-level 𝓤 H A W 1 (G25 at .slots) (κs .1 .0) (qs .1 .0) (List._∷_ Bool.false List.[]) Path'.refl) (AtSlots.to-slots 𝓤 H A 2 Fml.Lft (λ
               κc. κc .1 .0) (λ c. Held.type (Syntax.named 1) c) Held.Value (λ c v. v) (List._∷_ 7 (List._∷_ 1 List.[])) (κs .1 .0) (Syntax.tyRef Syntax.erased Syntax.mut (Held.behind Syntax.erased)) 7 (λ
               v. v) λ v. Path'.refl)) (d8 at)
 
@@ -2224,8 +1571,8 @@ module _ (claims· : Claims) where
               (Syntax.tyRef Syntax.erased Syntax.mut (Held.behind Syntax.erased))) Path'.refl tt Path'.refl Path'.refl λ b o. tt) (d13 at)
 
           d15 : (at : Nat.ℕ → Nat.ℕ) → Typed.Typed 𝓤 H A 𝓣 E (G0 at) b5 (Δ1 at) at15
-          d15 = λ at. Typed.g-pre 𝓤 H A W 𝓣 E (G0 at) (G20 at) b5 (Δ1 at) (λ Ψ. Ψ) at14 (Lifetime.g-begin 𝓤 H A W E (G0 at) 3 (tt, (tt, (tt, (tt, (tt, (tt, (tt, (tt, (tt, (tt, (tt, tt))))))))))))
-              (d14 at)
+          d15 = λ at. Typed.g-pre 𝓤 H A W 𝓣 E (G0 at) (G20 at) b5 (Δ1 at) (λ Ψ. Ψ) at14 (Lifetime.g-begin 𝓤 H A W E (G0 at) 3 (tt, (tt, (tt, (tt, (tt, (tt, (tt, (tt, (tt, (tt, (tt, tt)))))))))))) (d14
+              at)
 
           d16 : (at : Nat.ℕ → Nat.ℕ) → Typed.Typed 𝓤 H A 𝓣 E (G50 at) b8 (Δ1 at) at16
           d16 = λ at. Typed.s-typed 𝓤 H A W 𝓣 E (G50 at) b8 (Δ1 at) (Typed.pass T49 T51 s48) tt (Scalar.t-use 𝓤 H A W E 𝓣 (G50 at) (Scalar.oInt Syntax.w32 0) 4 (Rows.sc-here (Row.sInt Syntax.w32))
@@ -2264,41 +1611,27 @@ module _ (claims· : Claims) where
 
           d25 : (at : Nat.ℕ → Nat.ℕ) → Typed.Typed 𝓤 H A 𝓣 E (G41 at) b9 (Δ1 at) at25
           d25 = λ at. Typed.s-seq 𝓤 H A W 𝓣 E (G41 at) (G42 at) b7 b8 (Δ1 at) (Typed.both s39) at24 (Plain.t-call-plain-by 𝓤 H A W 𝓣 2 ps·2 r·2 (claims· .4) (claims· .5) "bits::BitPumpMsb::skip"
-              (known .2) E (λ pos β. β) (G41 at) (
-                record { pos = 8; ty = Syntax.tyRef Syntax.erased Syntax.mut (Held.behind Syntax.erased); βs = List._∷_ 8 (List._∷_ 1 List.[]); ref = λ x. x },
-                (
-                  Num.vAt
-                      3 λ x. x,
-                  tt,
-                ),
-              ) 7 (List._∷_ 8 (List._∷_ 1 List.[])) (Call.sub-id 𝓤 H A W (G41 at .slots)) (
-                Reads.as-is 𝓤 H A (AtSlots.mrefAt 2 (λ κc. Held.type (Syntax.named 1) (κc .1 .0)) Held.Value (λ
-                    κc v. v) (List._∷_ 8 (List._∷_ 1 List.[])) (Syntax.tyRef Syntax.erased Syntax.mut (Held.behind Syntax.erased)) 8),
-                AtSlots.reads-mref-at 𝓤 H A W 2 (λ κc. Held.type (Syntax.named 1) (κc .1
-                    .0)) Held.Value (λ κc v. v) (List._∷_ 8 (List._∷_ 1 List.[])) (Syntax.tyRef Syntax.erased Syntax.mut (Held.behind Syntax.erased)) 8,
+              (known .2) E (λ pos β. β) (G41 at)
+              (record { pos = 8; ty = Syntax.tyRef Syntax.erased Syntax.mut (Held.behind Syntax.erased); βs = List._∷_ 8 (List._∷_ 1 List.[]); ref = λ x. x }, (Num.vAt 3 λ x. x, tt)) 7 (List._∷_ 8
+              (List._∷_ 1 List.[])) (Call.sub-id 𝓤 H A W (G41 at .slots)) (
+                Reads.as-is 𝓤 H A (AtSlots.mrefAt 2 (λ κc. Held.type (Syntax.named 1) (κc .1 .0)) Held.Value (λ κc v. v) (List._∷_ 8 (List._∷_ 1 List.[])) (Syntax.tyRef Syntax.erased Syntax.mut
+                    (Held.behind Syntax.erased)) 8),
+                AtSlots.reads-mref-at 𝓤 H A W 2 (λ κc. Held.type (Syntax.named 1) (κc .1 .0)) Held.Value (λ κc v. v) (List._∷_ 8 (List._∷_ 1 List.[])) (Syntax.tyRef
+                    Syntax.erased Syntax.mut (Held.behind Syntax.erased)) 8,
                 Path'.refl,
                 Path'.refl,
-                (
-                  (
-                    Scalar.reads-sc 𝓤 H A W
-                        (Row.sInt Syntax.w32),
-                    Path'.refl,
-                  ),
-                  tt,
-                ),
-              ) (Reads.room-gone 𝓤 H A Syntax.tyUnit) (tt, (tt, tt)) (Shorter.told-bounds 𝓤 H A W 2 (G41 at .slots) (List._∷_ 8 (List._∷_ 1 List.[])) (Kinds.osR
-              r·2) (Way.told-and 𝓤 H A W (G41 at .slots) (Shorter.Below 1 8) (λ ρ. Unit) (MeetSlot.told-part 𝓤 H A W (G41 at .slots) 1 8 0 (MeetSlot.level 1 (κs .1 .0) (qs .1 .0) (List._∷_ Bool.false
-              List.[])) (List._∷_ (MeetSlot.carve 4 (at 0)) List.[]) (Call.pin-level 𝓤 H A W 1 (G41 at .slots) (κs .1 .0) (qs .1 .0) (List._∷_ Bool.false List.[]) Path'.refl) (Call.pin-lease 𝓤 H A W 8
-              (G41 at .slots) (List._++_ (κs .1 .0) (List._∷_ (at 0) List.[])) (TreeShare.PosShare·right (qs .1 .0)) Path'.refl)) (Own.told-none 𝓤 H A (G41 at .slots)))) Path'.refl λ κs′ x v i.
-              Result.res-typed 𝓤 H A W 2 κs′ Unit'.rUnit x v i (List._∷_ 8 (List._∷_ 1 List.[])) Syntax.tyUnit Path'.refl) (d24 at)
+                ((Scalar.reads-sc 𝓤 H A W (Row.sInt Syntax.w32), Path'.refl), tt),
+              ) (Reads.room-gone 𝓤 H A Syntax.tyUnit)
+              (tt, (tt, tt)) (Shorter.told-bounds 𝓤 H A W 2 (G41 at .slots) (List._∷_ 8 (List._∷_ 1 List.[])) (Kinds.osR r·2) (Way.told-and 𝓤 H A W (G41 at .slots) (Shorter.Below 1 8) (λ ρ. Unit)
+              (MeetSlot.told-part 𝓤 H A W (G41 at .slots) 1 8 0 (MeetSlot.level 1 (κs .1 .0) (qs .1 .0) (List._∷_ Bool.false List.[])) (List._∷_ (MeetSlot.carve 4 (at 0)) List.[]) (Call.pin-level 𝓤 H A W
+              1 (G41 at .slots) (κs .1 .0) (qs .1 .0) (List._∷_ Bool.false List.[]) Path'.refl) (Call.pin-lease 𝓤 H A W 8 (G41 at .slots) (List._++_ (κs .1 .0) (List._∷_ (at 0) List.[]))
+              (TreeShare.PosShare·right (qs .1 .0)) Path'.refl)) (Own.told-none 𝓤 H A (G41 at .slots)))) Path'.refl λ κs′ x v i. Result.res-typed 𝓤 H A W 2 κs′ Unit'.rUnit x v i (List._∷_ 8 (List._∷_ 1
+              List.[])) Syntax.tyUnit Path'.refl) (d24 at)
 
           d26 : (at : Nat.ℕ → Nat.ℕ) → Typed.Typed 𝓤 H A 𝓣 E (G40 at) b9 (Δ1 at) at26
           d26 = λ at. Typed.g-pre 𝓤 H A W 𝓣 E (G40 at) (G41 at) b9 (Δ1 at) (Typed.pass T40 T41 s38) at25 (AtSlots.g-as-by 𝓤 H A W E (λ ρ. Path'._≡_ (Row.lft ρ 1) (κs .1 .0)) (G40 at) 8 (AtSlots.mrefAt
-              2 (λ κc. Held.type (Syntax.named 1) (κc .1 .0)) Held.Value (λ κc v. v) (List._∷_ 8 (List._∷_ 1 List.[])) (Syntax.tyRef Syntax.erased Syntax.mut (Held.behind Syntax.erased)) 8) (λ x. record {
-                ptr = x .ptr;
-                name = x .name;
-                now = x .now;
-              }) (Call.pin-level 𝓤 H A W 1 (G40 at .slots) (κs .1 .0) (qs .1 .0) (List._∷_ Bool.false List.[]) Path'.refl) (AtSlots.to-slots 𝓤 H A 2 Fml.Lft (λ
+              2 (λ κc. Held.type (Syntax.named 1) (κc .1 .0)) Held.Value (λ κc v. v) (List._∷_ 8 (List._∷_ 1 List.[])) (Syntax.tyRef Syntax.erased Syntax.mut (Held.behind Syntax.erased)) 8) (λ x. record
+              { ptr = x .ptr; name = x .name; now = x .now }) (Call.pin-level 𝓤 H A W 1 (G40 at .slots) (κs .1 .0) (qs .1 .0) (List._∷_ Bool.false List.[]) Path'.refl) (AtSlots.to-slots 𝓤 H A 2 Fml.Lft (λ
               κc. κc .1 .0) (λ c. Held.type (Syntax.named 1) c) Held.Value (λ c v. v) (List._∷_ 8 (List._∷_ 1 List.[])) (κs .1 .0) (Syntax.tyRef Syntax.erased Syntax.mut (Held.behind Syntax.erased)) 8 (λ
               v. v) λ v. Path'.refl)) (d25 at)
 
@@ -2366,29 +1699,21 @@ module _ (claims· : Claims) where
 
           d42 : (at : Nat.ℕ → Nat.ℕ) → Typed.Typed 𝓤 H A 𝓣 E (G58 at) b14 (Δ1 at) at42
           d42 = λ at. Typed.s-seq 𝓤 H A W 𝓣 E (G58 at) (G59 at) b12 b13 (Δ1 at) (Typed.both s56) at41 (Plain.t-call-plain-by 𝓤 H A W 𝓣 2 ps·3 r·3 (claims· .6) (claims· .7)
-              "bits::BitPumpMsb::align_byte" (known .3) E (λ pos β. β) (G58 at) (
-                record {
-                  pos = 10;
-                  ty = Syntax.tyRef Syntax.erased Syntax.mut (Held.behind Syntax.erased);
-                  βs = List._∷_ 9 (List._∷_ 1
-                      List.[]);
-                  ref = λ x. x;
-                },
-                tt,
-              ) 9 (List._∷_ 9 (List._∷_ 1 List.[])) (Call.sub-id 𝓤 H A W (G58 at .slots)) (
-                Reads.as-is 𝓤 H A (AtSlots.mrefAt 2 (λ κc. Held.type (Syntax.named 1) (κc .1 .0))
-                    Held.Value (λ κc v. v) (List._∷_ 9 (List._∷_ 1 List.[])) (Syntax.tyRef Syntax.erased Syntax.mut (Held.behind Syntax.erased)) 9),
-                AtSlots.reads-mref-at 𝓤 H A W 2 (λ κc. Held.type
-                    (Syntax.named 1) (κc .1 .0)) Held.Value (λ κc v. v) (List._∷_ 9 (List._∷_ 1 List.[])) (Syntax.tyRef Syntax.erased Syntax.mut (Held.behind Syntax.erased)) 9,
+              "bits::BitPumpMsb::align_byte" (known .3) E (λ pos β. β) (G58 at)
+              (record { pos = 10; ty = Syntax.tyRef Syntax.erased Syntax.mut (Held.behind Syntax.erased); βs = List._∷_ 9 (List._∷_ 1 List.[]); ref = λ x. x }, tt) 9 (List._∷_ 9 (List._∷_ 1 List.[]))
+              (Call.sub-id 𝓤 H A W (G58 at .slots)) (
+                Reads.as-is 𝓤 H A (AtSlots.mrefAt 2 (λ κc. Held.type (Syntax.named 1) (κc .1 .0)) Held.Value (λ κc v. v) (List._∷_ 9 (List._∷_ 1 List.[])) (Syntax.tyRef Syntax.erased Syntax.mut
+                    (Held.behind Syntax.erased)) 9),
+                AtSlots.reads-mref-at 𝓤 H A W 2 (λ κc. Held.type (Syntax.named 1) (κc .1 .0)) Held.Value (λ κc v. v) (List._∷_ 9 (List._∷_ 1 List.[])) (Syntax.tyRef
+                    Syntax.erased Syntax.mut (Held.behind Syntax.erased)) 9,
                 Path'.refl,
                 Path'.refl,
                 tt,
-              )
-              (Reads.room-gone 𝓤 H A Syntax.tyUnit) (tt, (tt, tt)) (Shorter.told-bounds 𝓤 H A W 2 (G58 at .slots) (List._∷_ 9 (List._∷_ 1 List.[])) (Kinds.osR r·3) (Way.told-and 𝓤 H A W (G58 at .slots)
-              (Shorter.Below 1 9) (λ ρ. Unit) (MeetSlot.told-part 𝓤 H A W (G58 at .slots) 1 9 0 (MeetSlot.level 1 (κs .1 .0) (qs .1 .0) (List._∷_ Bool.false List.[])) (List._∷_ (MeetSlot.carve 5 (at 0))
-              List.[]) (Call.pin-level 𝓤 H A W 1 (G58 at .slots) (κs .1 .0) (qs .1 .0) (List._∷_ Bool.false List.[]) Path'.refl) (Call.pin-lease 𝓤 H A W 9 (G58 at .slots) (List._++_ (κs .1 .0) (List._∷_
-              (at 0) List.[])) (TreeShare.PosShare·right (qs .1 .0)) Path'.refl)) (Own.told-none 𝓤 H A (G58 at .slots)))) Path'.refl λ κs′ x v i. Result.res-typed 𝓤 H A W 2 κs′ Unit'.rUnit x v i (List._∷_
-              9 (List._∷_ 1 List.[])) Syntax.tyUnit Path'.refl) (d41 at)
+              ) (Reads.room-gone 𝓤 H A Syntax.tyUnit) (tt, (tt, tt)) (Shorter.told-bounds 𝓤 H A W 2 (G58 at .slots)
+              (List._∷_ 9 (List._∷_ 1 List.[])) (Kinds.osR r·3) (Way.told-and 𝓤 H A W (G58 at .slots) (Shorter.Below 1 9) (λ ρ. Unit) (MeetSlot.told-part 𝓤 H A W (G58 at .slots) 1 9 0 (MeetSlot.level 1
+              (κs .1 .0) (qs .1 .0) (List._∷_ Bool.false List.[])) (List._∷_ (MeetSlot.carve 5 (at 0)) List.[]) (Call.pin-level 𝓤 H A W 1 (G58 at .slots) (κs .1 .0) (qs .1 .0) (List._∷_ Bool.false
+              List.[]) Path'.refl) (Call.pin-lease 𝓤 H A W 9 (G58 at .slots) (List._++_ (κs .1 .0) (List._∷_ (at 0) List.[])) (TreeShare.PosShare·right (qs .1 .0)) Path'.refl)) (Own.told-none 𝓤 H A (G58
+              at .slots)))) Path'.refl λ κs′ x v i. Result.res-typed 𝓤 H A W 2 κs′ Unit'.rUnit x v i (List._∷_ 9 (List._∷_ 1 List.[])) Syntax.tyUnit Path'.refl) (d41 at)
 
           d43 : (at : Nat.ℕ → Nat.ℕ) → Typed.Typed 𝓤 H A 𝓣 E (G57 at) b14 (Δ1 at) at43
           d43 = λ at. Typed.g-pre 𝓤 H A W 𝓣 E (G57 at) (G58 at) b14 (Δ1 at) (Typed.pass T57 T58 s55) at42 (AtSlots.g-as-by 𝓤 H A W E (λ ρ. Path'._≡_ (Row.lft ρ 1) (κs .1 .0)) (G57 at) 10
@@ -2406,8 +1731,7 @@ module _ (claims· : Claims) where
 
           d45 : (at : Nat.ℕ → Nat.ℕ) → Typed.Typed 𝓤 H A 𝓣 E (G55 at) b14 (Δ1 at) at45
           d45 = λ at. Typed.g-pre 𝓤 H A W 𝓣 E (G55 at) (G56 at) b14 (Δ1 at) (λ Ψ. Ψ) at44 (MeetSlot.g-meet 𝓤 H A W E (G55 at) 9 (TreeShare.PosShare·right (qs .1 .0)) (MeetSlot.level 1 (κs .1 .0) (qs
-              .1 .0) List.[]) (List._∷_ (MeetSlot.carve 5 (at 0)) List.[]) ((Path'.refl, Path'.refl), (Path'.refl, tt)) (tt, ((tt, tt), (tt, (tt, (tt, (tt, (tt, (tt, (tt, (tt, (tt, tt)))))))))))) (d44
-              at)
+              .1 .0) List.[]) (List._∷_ (MeetSlot.carve 5 (at 0)) List.[]) ((Path'.refl, Path'.refl), (Path'.refl, tt)) (tt, ((tt, tt), (tt, (tt, (tt, (tt, (tt, (tt, (tt, (tt, (tt, tt)))))))))))) (d44 at)
 
           d46 : (at : Nat.ℕ → Nat.ℕ) → Typed.Typed 𝓤 H A 𝓣 E (G54 at) b14 (Δ1 at) at46
           d46 = λ at. LifetimeAt.t-pin-one 𝓤 H A W E 𝓣 (G54 at) 5 Row.alive b14 (Δ1 at) at45 Path'.refl tt λ a. d45 (LifetimeAt.bound at 0 a)
@@ -2432,19 +1756,8 @@ module _ (claims· : Claims) where
 
           d51 : (at : Nat.ℕ → Nat.ℕ) → Typed.Typed 𝓤 H A 𝓣 E (G0 at) b17 (Δ1 at) at51
           d51 = λ at. Switch.t-switch 𝓤 H A W E 𝓣 (G0 at) 2 Syntax.w32 (λ x. x) (Syntax.arm (List._∷_ 1 List.[]) b2 (Syntax.arm (List._∷_ 2 List.[]) b5 (Syntax.arm (List._∷_ 3 List.[]) b10 (Syntax.arm
-              (List._∷_ 4 List.[]) b15 (Syntax.default b16))))) (Δ1 at) (at7, (at15, (at32, (at49, at50)))) (Scalar.reads-sc 𝓤 H A W (Row.sInt Syntax.w32)) Path'.refl (
-                d7 at,
-                (
-                  d15 at,
-                  (
-                    d32 at,
-                    (
-                      d49 at,
-                      d50 at,
-                    ),
-                  ),
-                ),
-              )
+              (List._∷_ 4 List.[]) b15 (Syntax.default b16))))) (Δ1 at) (at7, (at15, (at32, (at49, at50)))) (Scalar.reads-sc 𝓤 H A W (Row.sInt Syntax.w32)) Path'.refl
+              (d7 at, (d15 at, (d32 at, (d49 at, d50 at))))
 
           d52 : (at : Nat.ℕ → Nat.ℕ) → Typed.Typed 𝓤 H A 𝓣 E (G73 at) b19 (Δ0 at) at52
           d52 = λ at. Typed.t-return 𝓤 H A W 𝓣 E (Δ0 at) tt
@@ -2463,11 +1776,9 @@ module _ (claims· : Claims) where
 
           d56 : (at : Nat.ℕ → Nat.ℕ) → Typed.Typed 𝓤 H A 𝓣 E (G2 at) b20 (Δ0 at) at56
           d56 = λ at. Typed.s-seq 𝓤 H A W 𝓣 E (G2 at) (G70 at) b18 b19 (Δ0 at) (Typed.pass T2 T70 s67) at55 (Scalar.t-use 𝓤 H A W E 𝓣 (G2 at) (Scalar.oAt 4 (Syntax.tyInt Syntax.w32) (Row.valS
-              (Row.sInt Syntax.w32))) 0 (Rows.sc-here (Row.sInt Syntax.w32)) (Syntax.tyInt Syntax.w32) (Row.valS (Row.sInt Syntax.w32)) (Row.sInt Syntax.w32 .of) (
-                Scalar.reads-sc 𝓤 H A W (Row.sInt
-                    Syntax.w32),
-                Path'.refl,
-              ) (Reads.room-gone 𝓤 H A (Syntax.tyInt Syntax.w32)) (Scalar.holds-sc 𝓤 H A W (Row.sInt Syntax.w32)) Path'.refl (λ u. Path'.refl) λ u. tt) (d55 at)
+              (Row.sInt Syntax.w32))) 0 (Rows.sc-here (Row.sInt Syntax.w32)) (Syntax.tyInt Syntax.w32) (Row.valS (Row.sInt Syntax.w32)) (Row.sInt Syntax.w32 .of)
+              (Scalar.reads-sc 𝓤 H A W (Row.sInt Syntax.w32), Path'.refl) (Reads.room-gone 𝓤 H A (Syntax.tyInt Syntax.w32)) (Scalar.holds-sc 𝓤 H A W (Row.sInt Syntax.w32)) Path'.refl (λ u. Path'.refl) λ
+              u. tt) (d55 at)
 
           d57 : (at : Nat.ℕ → Nat.ℕ) → Typed.Typed 𝓤 H A 𝓣 E (G0 at) b21 (Δ0 at) at57
           d57 = λ at. Typed.t-seq 𝓤 H A W 𝓣 E (G0 at) (G2 at) b17 b20 (Δ0 at) at51 at56 (d51 at) (d56 at)
@@ -2496,8 +1807,8 @@ module _ (claims· : Claims) where
       W0 = λ κs args. (
         λ u. ⊥,
         tt,
-        λ u. Enter.Fixs κs 1 ps xs (dens κs args) (u .1) × Post· κs (dens κs args) (Function.resV r κs (u .0)) (Clauses.atExit (Kinds.endedOf 2 ps r) κs (dens κs args)
-            (Enter.lastsP κs 1 ps xs (dens κs args) (u .1))),
+        λ u. Enter.Fixs κs 1 ps xs (dens κs args) (u .1) × Post· κs (dens κs args) (Function.resV r κs (u .0)) (Clauses.atExit (Kinds.endedOf 2 ps r) κs (dens κs args) (Enter.lastsP κs 1 ps
+            xs (dens κs args) (u .1))),
       )
 
       pub record Start : Type 0 where
@@ -2552,32 +1863,18 @@ module _ (claims· : Claims) where
 
       module _ (before· : After-peek-arg) where
         abbrev pub After-peek·own : Type 0
-        After-peek·own = Called.Called ps·0 r·0 (claims· .1) T9 (
-          record {
-            pos = 5;
-            ty = Syntax.tyRef Syntax.erased Syntax.imm (Held.behind Syntax.erased);
-            βs = List._∷_ 6 (List._∷_ 1 List.[]);
-            ref =
-                λ x. x;
-          },
-          (Num.vAt 3 λ x. x, tt),
-        ) (m3 (before· .before) (before· .peek-arg .given))
+        After-peek·own = Called.Called ps·0 r·0 (claims· .1) T9
+            (record { pos = 5; ty = Syntax.tyRef Syntax.erased Syntax.imm (Held.behind Syntax.erased); βs = List._∷_ 6 (List._∷_ 1 List.[]); ref = λ x. x }, (Num.vAt 3 λ x. x, tt)) (m3 (before· .before)
+            (before· .peek-arg .given))
 
       pub record After-peek : Type 0 where
         pub before : After-peek-arg
         pub peek : After-peek·own before
 
       abbrev pub After-peek·gave : (c : After-peek) → s7 .gives (m3 (c .before .before) (c .before .peek-arg .given))
-      After-peek·gave = λ c. Called.given ps·0 r·0 (claims· .1) T9 (
-        record {
-          pos = 5;
-          ty = Syntax.tyRef Syntax.erased Syntax.imm (Held.behind Syntax.erased);
-          βs = List._∷_ 6 (List._∷_ 1 List.[]);
-          ref
-              = λ x. x;
-        },
-        (Num.vAt 3 λ x. x, tt),
-      ) (m3 (c .before .before) (c .before .peek-arg .given)) (c .peek)
+      After-peek·gave = λ c. Called.given ps·0 r·0 (claims· .1) T9
+          (record { pos = 5; ty = Syntax.tyRef Syntax.erased Syntax.imm (Held.behind Syntax.erased); βs = List._∷_ 6 (List._∷_ 1 List.[]); ref = λ x. x }, (Num.vAt 3 λ x. x, tt)) (m3 (c .before .before)
+          (c .before .peek-arg .given)) (c .peek)
 
       module _ (before· : Start) where
         pub record At-match-keys2·own : Type 0 where
@@ -2615,32 +1912,18 @@ module _ (claims· : Claims) where
 
       module _ (before· : After-get-arg) where
         abbrev pub After-get·own : Type 0
-        After-get·own = Called.Called ps·1 r·1 (claims· .3) T26 (
-          record {
-            pos = 6;
-            ty = Syntax.tyRef Syntax.erased Syntax.mut (Held.behind Syntax.erased);
-            βs = List._∷_ 7 (List._∷_ 1 List.[]);
-            ref =
-                λ x. x;
-          },
-          (Num.vAt 3 λ x. x, tt),
-        ) (m10 (before· .before) (before· .get-arg .given))
+        After-get·own = Called.Called ps·1 r·1 (claims· .3) T26
+            (record { pos = 6; ty = Syntax.tyRef Syntax.erased Syntax.mut (Held.behind Syntax.erased); βs = List._∷_ 7 (List._∷_ 1 List.[]); ref = λ x. x }, (Num.vAt 3 λ x. x, tt)) (m10 (before· .before)
+            (before· .get-arg .given))
 
       pub record After-get : Type 0 where
         pub before : After-get-arg
         pub get : After-get·own before
 
       abbrev pub After-get·gave : (c : After-get) → s24 .gives (m10 (c .before .before) (c .before .get-arg .given))
-      After-get·gave = λ c. Called.given ps·1 r·1 (claims· .3) T26 (
-        record {
-          pos = 6;
-          ty = Syntax.tyRef Syntax.erased Syntax.mut (Held.behind Syntax.erased);
-          βs = List._∷_ 7 (List._∷_ 1 List.[]);
-          ref
-              = λ x. x;
-        },
-        (Num.vAt 3 λ x. x, tt),
-      ) (m10 (c .before .before) (c .before .get-arg .given)) (c .get)
+      After-get·gave = λ c. Called.given ps·1 r·1 (claims· .3) T26
+          (record { pos = 6; ty = Syntax.tyRef Syntax.erased Syntax.mut (Held.behind Syntax.erased); βs = List._∷_ 7 (List._∷_ 1 List.[]); ref = λ x. x }, (Num.vAt 3 λ x. x, tt)) (m10 (c .before .before)
+          (c .before .get-arg .given)) (c .get)
 
       module _ (before· : Start) where
         pub record At-match-keys3·own : Type 0 where
@@ -2675,31 +1958,18 @@ module _ (claims· : Claims) where
 
       module _ (before· : After-skip-arg) where
         abbrev pub After-skip·own : Type 0
-        After-skip·own = Called.Called ps·2 r·2 (claims· .5) T41 (
-          record {
-            pos = 8;
-            ty = Syntax.tyRef Syntax.erased Syntax.mut (Held.behind Syntax.erased);
-            βs = List._∷_ 8 (List._∷_ 1 List.[]);
-            ref =
-                λ x. x;
-          },
-          (Num.vAt 3 λ x. x, tt),
-        ) (m15 (before· .before) (before· .skip-arg .given))
+        After-skip·own = Called.Called ps·2 r·2 (claims· .5) T41
+            (record { pos = 8; ty = Syntax.tyRef Syntax.erased Syntax.mut (Held.behind Syntax.erased); βs = List._∷_ 8 (List._∷_ 1 List.[]); ref = λ x. x }, (Num.vAt 3 λ x. x, tt)) (m15 (before· .before)
+            (before· .skip-arg .given))
 
       pub record After-skip : Type 0 where
         pub before : After-skip-arg
         pub skip : After-skip·own before
 
       abbrev pub After-skip·gave : (c : After-skip) → s39 .gives (m15 (c .before .before) (c .before .skip-arg .given))
-      After-skip·gave = λ c. Called.given ps·2 r·2 (claims· .5) T41 (
-        record {
-          pos = 8;
-          ty = Syntax.tyRef Syntax.erased Syntax.mut (Held.behind Syntax.erased);
-          βs = List._∷_ 8 (List._∷_ 1 List.[]);
-          ref = λ x. x;
-        },
-        (Num.vAt 3 λ x. x, tt),
-      ) (m15 (c .before .before) (c .before .skip-arg .given)) (c .skip)
+      After-skip·gave = λ c. Called.given ps·2 r·2 (claims· .5) T41
+          (record { pos = 8; ty = Syntax.tyRef Syntax.erased Syntax.mut (Held.behind Syntax.erased); βs = List._∷_ 8 (List._∷_ 1 List.[]); ref = λ x. x }, (Num.vAt 3 λ x. x, tt)) (m15 (c .before .before)
+          (c .before .skip-arg .given)) (c .skip)
 
       abbrev pub m17 : (before : After-skip-arg) → (given : s39 .gives (m15 (before .before) (before .skip-arg .given))) → Typed.Mo T43
       m17 = λ before given. s40 (m16 before given)
@@ -2743,32 +2013,18 @@ module _ (claims· : Claims) where
 
       module _ (before· : After-align-byte-arg) where
         abbrev pub After-align-byte·own : Type 0
-        After-align-byte·own = Called.Called ps·3 r·3 (claims· .7) T58 (
-          record {
-            pos = 10;
-            ty = Syntax.tyRef Syntax.erased Syntax.mut (Held.behind Syntax.erased);
-            βs = List._∷_ 9 (List._∷_ 1
-                List.[]);
-            ref = λ x. x;
-          },
-          tt,
-        ) (m22 (before· .before) (before· .align-byte-arg .given))
+        After-align-byte·own = Called.Called ps·3 r·3 (claims· .7) T58
+            (record { pos = 10; ty = Syntax.tyRef Syntax.erased Syntax.mut (Held.behind Syntax.erased); βs = List._∷_ 9 (List._∷_ 1 List.[]); ref = λ x. x }, tt) (m22 (before· .before) (before·
+            .align-byte-arg .given))
 
       pub record After-align-byte : Type 0 where
         pub before : After-align-byte-arg
         pub align-byte : After-align-byte·own before
 
       abbrev pub After-align-byte·gave : (c : After-align-byte) → s56 .gives (m22 (c .before .before) (c .before .align-byte-arg .given))
-      After-align-byte·gave = λ c. Called.given ps·3 r·3 (claims· .7) T58 (
-        record {
-          pos = 10;
-          ty = Syntax.tyRef Syntax.erased Syntax.mut (Held.behind Syntax.erased);
-          βs = List._∷_ 9 (List._∷_ 1
-              List.[]);
-          ref = λ x. x;
-        },
-        tt,
-      ) (m22 (c .before .before) (c .before .align-byte-arg .given)) (c .align-byte)
+      After-align-byte·gave = λ c. Called.given ps·3 r·3 (claims· .7) T58
+          (record { pos = 10; ty = Syntax.tyRef Syntax.erased Syntax.mut (Held.behind Syntax.erased); βs = List._∷_ 9 (List._∷_ 1 List.[]); ref = λ x. x }, tt) (m22 (c .before .before) (c .before
+          .align-byte-arg .given)) (c .align-byte)
 
       abbrev pub m24 : (before : After-align-byte-arg) → (given : s56 .gives (m22 (before .before) (before .align-byte-arg .given))) → Typed.Mo T60
       m24 = λ before given. s57 (m23 before given)
@@ -2904,21 +2160,10 @@ module _ (claims· : Claims) where
           λ k. λ g. (
             peek-requires record { before = record { before = c; match = record { keys1 = k } }; peek-arg = record { given = g } },
             λ g'. lay3 record {
-              before = record {
-                before
-                    = record { before = c; match = record { keys1 = k } };
-                peek-arg = record { given = g };
-              };
-              peek = Called.called ps·0 r·0 (claims· .1) T9 (
-                record {
-                  pos = 5;
-                  ty = Syntax.tyRef Syntax.erased
-                      Syntax.imm (Held.behind Syntax.erased);
-                  βs = List._∷_ 6 (List._∷_ 1 List.[]);
-                  ref = λ x. x;
-                },
-                (Num.vAt 3 λ x. x, tt),
-              ) (m3 record { before = c; match = record { keys1 = k } } g) g';
+              before = record { before = record { before = c; match = record { keys1 = k } }; peek-arg = record { given = g } };
+              peek = Called.called ps·0 r·0 (claims· .1) T9
+                  (record { pos = 5; ty = Syntax.tyRef Syntax.erased Syntax.imm (Held.behind Syntax.erased); βs = List._∷_ 6 (List._∷_ 1 List.[]); ref = λ x. x }, (Num.vAt 3 λ x. x, tt)) (m3 record
+                  { before = c; match = record { keys1 = k } } g) g';
             },
           ),
           (
@@ -2927,21 +2172,10 @@ module _ (claims· : Claims) where
               λ g''. (
                 Path'.refl,
                 lay4 record {
-                  before = record {
-                    before =
-                        record { before = c; match = record { keys2 = k } };
-                    get-arg = record { given = g };
-                  };
-                  get = Called.called ps·1 r·1 (claims· .3) T26 (
-                    record {
-                      pos = 6;
-                      ty = Syntax.tyRef Syntax.erased
-                          Syntax.mut (Held.behind Syntax.erased);
-                      βs = List._∷_ 7 (List._∷_ 1 List.[]);
-                      ref = λ x. x;
-                    },
-                    (Num.vAt 3 λ x. x, tt),
-                  ) (m10 record { before = c; match = record { keys2 = k } } g) g'';
+                  before = record { before = record { before = c; match = record { keys2 = k } }; get-arg = record { given = g } };
+                  get = Called.called ps·1 r·1 (claims· .3) T26
+                      (record { pos = 6; ty = Syntax.tyRef Syntax.erased Syntax.mut (Held.behind Syntax.erased); βs = List._∷_ 7 (List._∷_ 1 List.[]); ref = λ x. x }, (Num.vAt 3 λ x. x, tt)) (m10 record
+                      { before = c; match = record { keys2 = k } } g) g'';
                 },
               ),
             ),
@@ -2949,50 +2183,23 @@ module _ (claims· : Claims) where
               λ k. λ g. (
                 skip-requires record { before = record { before = c; match = record { keys3 = k } }; skip-arg = record { given = g } },
                 λ g'3. lay1 record {
-                  before = record {
-                    before = record
-                        { before = c; match = record { keys3 = k } };
-                    skip-arg = record { given = g };
-                  };
-                  skip = Called.called ps·2 r·2 (claims· .5) T41 (
-                    record {
-                      pos = 8;
-                      ty = Syntax.tyRef Syntax.erased Syntax.mut
-                          (Held.behind Syntax.erased);
-                      βs = List._∷_ 8 (List._∷_ 1 List.[]);
-                      ref = λ x. x;
-                    },
-                    (Num.vAt 3 λ x. x, tt),
-                  ) (m15 record { before = c; match = record { keys3 = k } } g) g'3;
+                  before = record { before = record { before = c; match = record { keys3 = k } }; skip-arg = record { given = g } };
+                  skip = Called.called ps·2 r·2 (claims· .5) T41
+                      (record { pos = 8; ty = Syntax.tyRef Syntax.erased Syntax.mut (Held.behind Syntax.erased); βs = List._∷_ 8 (List._∷_ 1 List.[]); ref = λ x. x }, (Num.vAt 3 λ x. x, tt)) (m15 record
+                      { before = c; match = record { keys3 = k } } g) g'3;
                 },
               ),
               (
                 λ k. λ g. (
                   align-byte-requires record { before = record { before = c; match = record { keys4 = k } }; align-byte-arg = record { given = g } },
                   λ g'4. lay2 record {
-                    before = record {
-                      before = record {
-                        before = c;
-                        match = record { keys4 = k };
-                      };
-                      align-byte-arg = record { given = g };
-                    };
-                    align-byte = Called.called ps·3 r·3 (claims· .7) T58 (
-                      record {
-                        pos = 10;
-                        ty = Syntax.tyRef Syntax.erased
-                            Syntax.mut (Held.behind Syntax.erased);
-                        βs = List._∷_ 9 (List._∷_ 1 List.[]);
-                        ref = λ x. x;
-                      },
-                      tt,
-                    ) (m22 record { before = c; match = record { keys4 = k } } g) g'4;
+                    before = record { before = record { before = c; match = record { keys4 = k } }; align-byte-arg = record { given = g } };
+                    align-byte = Called.called ps·3 r·3 (claims· .7) T58
+                        (record { pos = 10; ty = Syntax.tyRef Syntax.erased Syntax.mut (Held.behind Syntax.erased); βs = List._∷_ 9 (List._∷_ 1 List.[]); ref = λ x. x }, tt) (m22 record
+                        { before = c; match = record { keys4 = k } } g) g'4;
                   },
                 ),
-                λ k. lay7 record {
-                  before = c;
-                  match = record { rest = k };
-                },
+                λ k. lay7 record { before = c; match = record { rest = k } },
               ),
             ),
           ),
@@ -3005,13 +2212,9 @@ module _ (claims· : Claims) where
             κs = κs;
             args = record { p = a .0; kind = a .1 .0; n = a .1 .1 .0 };
             good = good;
-            fits = record {
-              kind = record { fits = good .1 .0 .1 };
-              n = record {
-                fits = good .1 .1 .0 .1;
-              };
-            };
-            pre = pre;
+            fits = record { kind = record { fits = good .1 .0 .1 }; n = record { fits = good .1 .1 .0 .1 } };
+            pre =
+                pre;
           }
 
         module _ {M : Type 1} (𝓤 : URA.URA M) (H : Wp.Heap 𝓤) (A : Atoms.Atoms 𝓤) (W : Kit.Given 𝓤 H A) (𝓣 : Wp.Tables 𝓤 H) (known0 : Plain.Known 𝓤 H A W 𝓣 2 ps·0 r·0 (claims· .0) (claims· .1)

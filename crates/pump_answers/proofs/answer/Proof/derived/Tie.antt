@@ -73,8 +73,7 @@ abbrev pub Need-skip-requires : Type 0
 Need-skip-requires = Lts.Need-skip-requires (Reads'3.Asked, Reads'3.Learnt, Reads''.Asked, Reads''.Learnt, Reads'4.Asked, Reads'4.Learnt, Reads.Asked, Reads.Learnt) Reads'.Pre Reads'.Post
 
 abbrev pub Need-align-byte-requires : Type 0
-Need-align-byte-requires = Lts.Need-align-byte-requires (Reads'3.Asked, Reads'3.Learnt, Reads''.Asked, Reads''.Learnt, Reads'4.Asked, Reads'4.Learnt, Reads.Asked, Reads.Learnt) Reads'.Pre
-    Reads'.Post
+Need-align-byte-requires = Lts.Need-align-byte-requires (Reads'3.Asked, Reads'3.Learnt, Reads''.Asked, Reads''.Learnt, Reads'4.Asked, Reads'4.Learnt, Reads.Asked, Reads.Learnt) Reads'.Pre Reads'.Post
 
 abbrev pub Need-returns : Type 0
 Need-returns = Lts.Need-returns (Reads'3.Asked, Reads'3.Learnt, Reads''.Asked, Reads''.Learnt, Reads'4.Asked, Reads'4.Learnt, Reads.Asked, Reads.Learnt) Reads'.Pre Reads'.Post
@@ -93,46 +92,18 @@ Need-returns-5 = Lts.Need-returns-5 (Reads'3.Asked, Reads'3.Learnt, Reads''.Aske
 
 module _ {M : Type 1} where
   pub spec : (answer : Need-peek-requires) → (answer : Need-get-requires) → (answer : Need-skip-requires) → (answer : Need-align-byte-requires) → (answer : Need-returns) → (answer : Need-returns-2) →
-      (answer : Need-returns-3) → (answer : Need-returns-4) → (answer : Need-returns-5) → Lts.Closed (
-        Reads'3.Asked,
-        Reads'3.Learnt,
-        Reads''.Asked,
-        Reads''.Learnt,
-        Reads'4.Asked,
-        Reads'4.Learnt,
-        Reads.Asked,
-        Reads.Learnt,
-      ) Reads'.Pre Reads'.Post M
-  spec = λ answer answer' answer'' answer'3 answer'4 answer'5 answer'6 answer'7 answer'8. Lts.spec (
-    Reads'3.Asked,
-    Reads'3.Learnt,
-    Reads''.Asked,
-    Reads''.Learnt,
-    Reads'4.Asked,
-    Reads'4.Learnt,
-    Reads.Asked,
-    Reads.Learnt,
-  ) Reads'.Pre Reads'.Post answer answer' answer'' answer'3 answer'4 answer'5 answer'6 answer'7 answer'8
+      (answer : Need-returns-3) → (answer : Need-returns-4) → (answer : Need-returns-5) → Lts.Closed
+      (Reads'3.Asked, Reads'3.Learnt, Reads''.Asked, Reads''.Learnt, Reads'4.Asked, Reads'4.Learnt, Reads.Asked, Reads.Learnt) Reads'.Pre Reads'.Post M
+  spec = λ answer answer' answer'' answer'3 answer'4 answer'5 answer'6 answer'7 answer'8. Lts.spec
+      (Reads'3.Asked, Reads'3.Learnt, Reads''.Asked, Reads''.Learnt, Reads'4.Asked, Reads'4.Learnt, Reads.Asked, Reads.Learnt) Reads'.Pre Reads'.Post answer answer' answer'' answer'3 answer'4 answer'5
+      answer'6 answer'7 answer'8
 
   pub close : Lts.Closed (Reads'3.Asked, Reads'3.Learnt, Reads''.Asked, Reads''.Learnt, Reads'4.Asked, Reads'4.Learnt, Reads.Asked, Reads.Learnt) Reads'.Pre Reads'.Post M → Statement.statement M
   unfolding Code.routine Running.tablesOf
-  close = λ closed 𝓤 H 𝓜 𝓖 𝓡. Written.close 2 Kinds.ps Kinds.r Reads'.Ghost Reads'.requires Reads'.ensures Reads'.pre-read Reads'.Pinned Reads'.Owned Reads'.post-read record {
-    M = M;
-    𝓤 = 𝓤;
-    H = H;
-    𝓜 =
-        𝓜;
-    𝓖 = 𝓖;
-    𝓡 = 𝓡;
-  } Code.env Key.name Code.function (Code.unfolded 𝓤 H 𝓜 𝓡) (λ κs a g. tt) (λ κs. Reads'.owns κs record { M = M; 𝓤 = 𝓤; H = H; 𝓜 = 𝓜; 𝓖 = 𝓖; 𝓡 = 𝓡 }) (Reads'.passes record {
-    M = M;
-    𝓤 =
-        𝓤;
-    H = H;
-    𝓜 = 𝓜;
-    𝓖 = 𝓖;
-    𝓡 = 𝓡;
-  }) λ g. closed 𝓤 H (𝓖 .A) (Running.givenOf 𝓤 H 𝓜 𝓖) (Run.Over 𝓤 H 𝓜 𝓖 𝓡 Code.env) (Reads'3.known record { M = M; 𝓤 = 𝓤; H = H; 𝓜 = 𝓜; 𝓖 = 𝓖; 𝓡 = 𝓡 } Code.env
-      Symbol''.name Symbol''.routine Code.calls-bits·BitPumpMsb·peek (Met''.met 𝓤 H 𝓜 𝓖 𝓡)) (Reads''.known record { M = M; 𝓤 = 𝓤; H = H; 𝓜 = 𝓜; 𝓖 = 𝓖; 𝓡 = 𝓡 } Code.env Symbol'.name Symbol'.routine
-      Code.calls-bits·BitPumpMsb·get (Met'.met 𝓤 H 𝓜 𝓖 𝓡)) (Reads'4.known record { M = M; 𝓤 = 𝓤; H = H; 𝓜 = 𝓜; 𝓖 = 𝓖; 𝓡 = 𝓡 } Code.env Symbol'3.name Symbol'3.routine Code.calls-bits·BitPumpMsb·skip
-      (Met'3.met 𝓤 H 𝓜 𝓖 𝓡)) (Reads.known record { M = M; 𝓤 = 𝓤; H = H; 𝓜 = 𝓜; 𝓖 = 𝓖; 𝓡 = 𝓡 } Code.env Symbol.name Symbol.routine Code.calls-bits·BitPumpMsb·align-byte (Met.met 𝓤 H 𝓜 𝓖 𝓡))
+  close = λ closed 𝓤 H 𝓜 𝓖 𝓡. Written.close 2 Kinds.ps Kinds.r Reads'.Ghost Reads'.requires Reads'.ensures Reads'.pre-read Reads'.Pinned Reads'.Owned Reads'.post-read record
+      { M = M; 𝓤 = 𝓤; H = H; 𝓜 = 𝓜; 𝓖 = 𝓖; 𝓡 = 𝓡 } Code.env Key.name Code.function (Code.unfolded 𝓤 H 𝓜 𝓡) (λ κs a g. tt) (λ κs. Reads'.owns κs record { M = M; 𝓤 = 𝓤; H = H; 𝓜 = 𝓜; 𝓖 = 𝓖; 𝓡 = 𝓡 })
+      (Reads'.passes record { M = M; 𝓤 = 𝓤; H = H; 𝓜 = 𝓜; 𝓖 = 𝓖; 𝓡 = 𝓡 }) λ g. closed 𝓤 H (𝓖 .A) (Running.givenOf 𝓤 H 𝓜 𝓖) (Run.Over 𝓤 H 𝓜 𝓖 𝓡 Code.env) (Reads'3.known record
+      { M = M; 𝓤 = 𝓤; H = H; 𝓜 = 𝓜; 𝓖 = 𝓖; 𝓡 = 𝓡 } Code.env Symbol''.name Symbol''.routine Code.calls-bits·BitPumpMsb·peek (Met''.met 𝓤 H 𝓜 𝓖 𝓡)) (Reads''.known record
+      { M = M; 𝓤 = 𝓤; H = H; 𝓜 = 𝓜; 𝓖 = 𝓖; 𝓡 = 𝓡 } Code.env Symbol'.name Symbol'.routine Code.calls-bits·BitPumpMsb·get (Met'.met 𝓤 H 𝓜 𝓖 𝓡)) (Reads'4.known record
+      { M = M; 𝓤 = 𝓤; H = H; 𝓜 = 𝓜; 𝓖 = 𝓖; 𝓡 = 𝓡 } Code.env Symbol'3.name Symbol'3.routine Code.calls-bits·BitPumpMsb·skip (Met'3.met 𝓤 H 𝓜 𝓖 𝓡)) (Reads.known record
+      { M = M; 𝓤 = 𝓤; H = H; 𝓜 = 𝓜; 𝓖 = 𝓖; 𝓡 = 𝓡 } Code.env Symbol.name Symbol.routine Code.calls-bits·BitPumpMsb·align-byte (Met.met 𝓤 H 𝓜 𝓖 𝓡))

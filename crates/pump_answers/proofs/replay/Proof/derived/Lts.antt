@@ -69,6 +69,19 @@ use mir.Syntax
 use prog.Wp
 use types.Kit
 
+abbrev pub y0 : Syntax.Ty
+y0 = Syntax.tyStruct (List._∷_ 112 (List._∷_ 117 (List._∷_ 109 (List._∷_ 112 (List._∷_ 95 (List._∷_ 97 (List._∷_ 110 (List._∷_ 115 (List._∷_ 119 (List._∷_ 101 (List._∷_ 114 (List._∷_ 115 (List._∷_ 58
+    (List._∷_ 58 (List._∷_ 67 (List._∷_ 97 (List._∷_ 108 (List._∷_ 108 List.[])))))))))))))))))) (Syntax.tcons (Syntax.tyInt Syntax.w32) (Syntax.tcons (Syntax.tyInt Syntax.w32) (Syntax.tcons (Syntax.tyInt
+    Syntax.w32) (Syntax.tcons (Syntax.tyInt Syntax.w32) (Syntax.tcons (Syntax.tyInt Syntax.w32) Syntax.tnil)))))
+
+abbrev pub y1 : Syntax.Ty
+y1 = Syntax.tyStruct (List._∷_ 98 (List._∷_ 105 (List._∷_ 116 (List._∷_ 115 (List._∷_ 58 (List._∷_ 58 (List._∷_ 66 (List._∷_ 105 (List._∷_ 116 (List._∷_ 80 (List._∷_ 111 (List._∷_ 115 (List._∷_ 105
+    (List._∷_ 116 (List._∷_ 105 (List._∷_ 111 (List._∷_ 110 List.[]))))))))))))))))) (Syntax.tcons (Syntax.tyInt Syntax.w64) Syntax.tnil)
+
+abbrev pub y2 : Syntax.Ty
+y2 = Syntax.tyStruct (List._∷_ 98 (List._∷_ 105 (List._∷_ 116 (List._∷_ 115 (List._∷_ 58 (List._∷_ 58 (List._∷_ 66 (List._∷_ 121 (List._∷_ 116 (List._∷_ 101 (List._∷_ 79 (List._∷_ 102 (List._∷_ 102
+    (List._∷_ 115 (List._∷_ 101 (List._∷_ 116 List.[])))))))))))))))) (Syntax.tcons (Syntax.tyInt Syntax.w64) Syntax.tnil)
+
 abbrev pub ps : List.List (Kinds.PK 2)
 ps = List._∷_ (MutRefTo.pMutTo (Held.slot 1 tt) (Syntax.wrote (Held.behind (Syntax.named 1))) (λ κs. Path'.refl) Held.Value (AtSlots.one-type 2 Held.Value) 0 tt) (List._∷_ (ShrSlice.pShrS
     (Referent.rtF (Referent.fInt Syntax.w8)) 1 tt) List.[])
@@ -77,15 +90,9 @@ abbrev pub r : Kinds.RK 2
 r = Kinds.rWhere (List._∷_ record { long = 1; short = 0; long-ok = tt; short-ok = tt } List.[]) (Num.rNum Syntax.w64)
 
 abbrev pub xs : List.List Syntax.Ty
-xs = List._∷_ (Syntax.tyInt Syntax.w64) (List._∷_ (Syntax.tyInt Syntax.w64) (List._∷_ (Syntax.tyStruct (List._∷_ 112 (List._∷_ 117 (List._∷_ 109 (List._∷_ 112 (List._∷_ 95 (List._∷_ 97 (List._∷_ 110
-    (List._∷_ 115 (List._∷_ 119 (List._∷_ 101 (List._∷_ 114 (List._∷_ 115 (List._∷_ 58 (List._∷_ 58 (List._∷_ 67 (List._∷_ 97 (List._∷_ 108 (List._∷_ 108 List.[])))))))))))))))))) (Syntax.tcons
-    (Syntax.tyInt Syntax.w32) (Syntax.tcons (Syntax.tyInt Syntax.w32) (Syntax.tcons (Syntax.tyInt Syntax.w32) (Syntax.tcons (Syntax.tyInt Syntax.w32) (Syntax.tcons (Syntax.tyInt Syntax.w32)
-    Syntax.tnil)))))) (List._∷_ (Syntax.tyInt Syntax.w32) (List._∷_ (Syntax.tyStruct (List._∷_ 98 (List._∷_ 105 (List._∷_ 116 (List._∷_ 115 (List._∷_ 58 (List._∷_ 58 (List._∷_ 66 (List._∷_ 105 (List._∷_
-    116 (List._∷_ 80 (List._∷_ 111 (List._∷_ 115 (List._∷_ 105 (List._∷_ 116 (List._∷_ 105 (List._∷_ 111 (List._∷_ 110 List.[]))))))))))))))))) (Syntax.tcons (Syntax.tyInt Syntax.w64) Syntax.tnil))
-    (List._∷_ (Syntax.tyStruct (List._∷_ 98 (List._∷_ 105 (List._∷_ 116 (List._∷_ 115 (List._∷_ 58 (List._∷_ 58 (List._∷_ 66 (List._∷_ 121 (List._∷_ 116 (List._∷_ 101 (List._∷_ 79 (List._∷_ 102 (List._∷_
-    102 (List._∷_ 115 (List._∷_ 101 (List._∷_ 116 List.[])))))))))))))))) (Syntax.tcons (Syntax.tyInt Syntax.w64) Syntax.tnil)) (List._∷_ Syntax.tyBool (List._∷_ (Syntax.tyRef Syntax.erased Syntax.mut
-    (Held.behind Syntax.erased)) (List._∷_ (Syntax.tyRef Syntax.erased Syntax.imm (Held.behind Syntax.erased)) (List._∷_ (Syntax.tyRef Syntax.erased Syntax.imm (Held.behind Syntax.erased))
-    List.[])))))))))
+xs = List._∷_ (Syntax.tyInt Syntax.w64) (List._∷_ (Syntax.tyInt Syntax.w64) (List._∷_ y0 (List._∷_ (Syntax.tyInt Syntax.w32) (List._∷_ y1 (List._∷_ y2 (List._∷_ Syntax.tyBool (List._∷_ (Syntax.tyRef
+    Syntax.erased Syntax.mut (Held.behind Syntax.erased)) (List._∷_ (Syntax.tyRef Syntax.erased Syntax.imm (Held.behind Syntax.erased)) (List._∷_ (Syntax.tyRef Syntax.erased Syntax.imm (Held.behind
+    Syntax.erased)) List.[])))))))))
 
 abbrev pub m : Nat.ℕ
 m = 6
@@ -99,8 +106,8 @@ r·0 = Value.rVal record {
   one = Path'.refl;
   val = Laws'3.val Call.the-type Laws''.the-laws;
   tells = Laws'3.tells Call.the-type Laws''.the-laws;
-  still = Laws'3.still
-      Call.the-type Laws''.the-copy Exit.yes;
+  still = Laws'3.still Call.the-type
+      Laws''.the-copy Exit.yes;
   row = Rows.whole (Declared.row Call.the-type);
   rd = λ x. x;
   mk = λ x. x;
@@ -108,9 +115,9 @@ r·0 = Value.rVal record {
   copies = Laws'3.copy Call.the-type Laws''.the-copy 𝓤 H A W;
   lawful = Laws'3.lawful Call.the-type Laws''.the-laws 𝓤 H A W;
   makes = Laws'3.makes Call.the-type Laws''.the-plain 𝓤 H A;
-  in-mem = Local.mem-whole 𝓤 H A W (Declared.row Call.the-type);
-  of-mem =
-      Local.whole-mem 𝓤 H A W (Declared.row Call.the-type);
+  in-mem =
+      Local.mem-whole 𝓤 H A W (Declared.row Call.the-type);
+  of-mem = Local.whole-mem 𝓤 H A W (Declared.row Call.the-type);
 }
 
 abbrev pub ps·1 : List.List (Kinds.PK 2)
@@ -127,22 +134,19 @@ abbrev pub r·2 : Kinds.RK 2
 r·2 = Kinds.rWhere (List._∷_ record { long = 1; short = 0; long-ok = tt; short-ok = tt } List.[]) (Value.rVal record {
   ty = Declared.row BitPosition.the-type;
   one = Path'.refl;
-  val = Laws'3.val
-      BitPosition.the-type Laws.the-laws;
+  val = Laws'3.val BitPosition.the-type Laws.the-laws;
   tells = Laws'3.tells BitPosition.the-type Laws.the-laws;
-  still = Laws'3.still BitPosition.the-type Laws.the-copy Exit.yes;
-  row = Rows.whole (Declared.row
-      BitPosition.the-type);
+  still = Laws'3.still
+      BitPosition.the-type Laws.the-copy Exit.yes;
+  row = Rows.whole (Declared.row BitPosition.the-type);
   rd = λ x. x;
   mk = λ x. x;
 } λ M 𝓤 H A W. record {
   copies = Laws'3.copy BitPosition.the-type Laws.the-copy 𝓤 H A W;
-  lawful = Laws'3.lawful BitPosition.the-type Laws.the-laws 𝓤 H
-      A W;
+  lawful = Laws'3.lawful BitPosition.the-type Laws.the-laws 𝓤 H A W;
   makes = Laws'3.makes BitPosition.the-type Laws.the-plain 𝓤 H A;
   in-mem = Local.mem-whole 𝓤 H A W (Declared.row BitPosition.the-type);
-  of-mem = Local.whole-mem 𝓤 H A W (Declared.row
-      BitPosition.the-type);
+  of-mem = Local.whole-mem 𝓤 H A W (Declared.row BitPosition.the-type);
 })
 
 abbrev pub ps·3 : List.List (Kinds.PK 2)
@@ -152,22 +156,19 @@ abbrev pub r·3 : Kinds.RK 2
 r·3 = Kinds.rWhere (List._∷_ record { long = 1; short = 0; long-ok = tt; short-ok = tt } List.[]) (Value.rVal record {
   ty = Declared.row ByteOffset.the-type;
   one = Path'.refl;
-  val = Laws'3.val
-      ByteOffset.the-type Laws'.the-laws;
+  val = Laws'3.val ByteOffset.the-type Laws'.the-laws;
   tells = Laws'3.tells ByteOffset.the-type Laws'.the-laws;
-  still = Laws'3.still ByteOffset.the-type Laws'.the-copy Exit.yes;
-  row = Rows.whole (Declared.row
-      ByteOffset.the-type);
+  still = Laws'3.still
+      ByteOffset.the-type Laws'.the-copy Exit.yes;
+  row = Rows.whole (Declared.row ByteOffset.the-type);
   rd = λ x. x;
   mk = λ x. x;
 } λ M 𝓤 H A W. record {
   copies = Laws'3.copy ByteOffset.the-type Laws'.the-copy 𝓤 H A W;
-  lawful = Laws'3.lawful ByteOffset.the-type Laws'.the-laws 𝓤 H A
-      W;
+  lawful = Laws'3.lawful ByteOffset.the-type Laws'.the-laws 𝓤 H A W;
   makes = Laws'3.makes ByteOffset.the-type Laws'.the-plain 𝓤 H A;
   in-mem = Local.mem-whole 𝓤 H A W (Declared.row ByteOffset.the-type);
-  of-mem = Local.whole-mem 𝓤 H A W (Declared.row
-      ByteOffset.the-type);
+  of-mem = Local.whole-mem 𝓤 H A W (Declared.row ByteOffset.the-type);
 })
 
 abbrev pub ps·4 : List.List (Kinds.PK 0)
@@ -176,57 +177,51 @@ ps·4 = List._∷_ (Value.pVal record {
   one = Path'.refl;
   val = Laws'3.val Call.the-type Laws''.the-laws;
   tells = Laws'3.tells Call.the-type Laws''.the-laws;
-  still =
-      Laws'3.still Call.the-type Laws''.the-copy Exit.yes;
+  still = Laws'3.still Call.the-type
+      Laws''.the-copy Exit.yes;
   row = Rows.whole (Declared.row Call.the-type);
   rd = λ x. x;
   mk = λ x. x;
 } λ M 𝓤 H A W. record {
-  copies = Laws'3.copy Call.the-type Laws''.the-copy
-      𝓤 H A W;
+  copies = Laws'3.copy Call.the-type Laws''.the-copy 𝓤 H A W;
   lawful = Laws'3.lawful Call.the-type Laws''.the-laws 𝓤 H A W;
   makes = Laws'3.makes Call.the-type Laws''.the-plain 𝓤 H A;
-  in-mem = Local.mem-whole 𝓤 H A W (Declared.row Call.the-type);
-  of-mem
-      = Local.whole-mem 𝓤 H A W (Declared.row Call.the-type);
+  in-mem =
+      Local.mem-whole 𝓤 H A W (Declared.row Call.the-type);
+  of-mem = Local.whole-mem 𝓤 H A W (Declared.row Call.the-type);
 }) (List._∷_ (Num.pNum Syntax.w32) (List._∷_ (Value.pVal record {
   ty = Declared.row BitPosition.the-type;
   one = Path'.refl;
-  val = Laws'3.val
-      BitPosition.the-type Laws.the-laws;
+  val = Laws'3.val BitPosition.the-type Laws.the-laws;
   tells = Laws'3.tells BitPosition.the-type Laws.the-laws;
-  still = Laws'3.still BitPosition.the-type Laws.the-copy Exit.yes;
-  row = Rows.whole (Declared.row
-      BitPosition.the-type);
+  still = Laws'3.still
+      BitPosition.the-type Laws.the-copy Exit.yes;
+  row = Rows.whole (Declared.row BitPosition.the-type);
   rd = λ x. x;
   mk = λ x. x;
 } λ M 𝓤 H A W. record {
   copies = Laws'3.copy BitPosition.the-type Laws.the-copy 𝓤 H A W;
-  lawful = Laws'3.lawful BitPosition.the-type Laws.the-laws 𝓤 H
-      A W;
+  lawful = Laws'3.lawful BitPosition.the-type Laws.the-laws 𝓤 H A W;
   makes = Laws'3.makes BitPosition.the-type Laws.the-plain 𝓤 H A;
   in-mem = Local.mem-whole 𝓤 H A W (Declared.row BitPosition.the-type);
-  of-mem = Local.whole-mem 𝓤 H A W (Declared.row
-      BitPosition.the-type);
+  of-mem = Local.whole-mem 𝓤 H A W (Declared.row BitPosition.the-type);
 }) (List._∷_ (Value.pVal record {
   ty = Declared.row ByteOffset.the-type;
   one = Path'.refl;
   val = Laws'3.val ByteOffset.the-type Laws'.the-laws;
-  tells = Laws'3.tells
-      ByteOffset.the-type Laws'.the-laws;
-  still = Laws'3.still ByteOffset.the-type Laws'.the-copy Exit.yes;
+  tells = Laws'3.tells ByteOffset.the-type Laws'.the-laws;
+  still = Laws'3.still
+      ByteOffset.the-type Laws'.the-copy Exit.yes;
   row = Rows.whole (Declared.row ByteOffset.the-type);
   rd = λ x. x;
   mk = λ x. x;
-} λ M 𝓤 H A W.
-    record {
-      copies = Laws'3.copy ByteOffset.the-type Laws'.the-copy 𝓤 H A W;
-      lawful = Laws'3.lawful ByteOffset.the-type Laws'.the-laws 𝓤 H A W;
-      makes = Laws'3.makes ByteOffset.the-type Laws'.the-plain 𝓤
-          H A;
-      in-mem = Local.mem-whole 𝓤 H A W (Declared.row ByteOffset.the-type);
-      of-mem = Local.whole-mem 𝓤 H A W (Declared.row ByteOffset.the-type);
-    }) List.[])))
+} λ M 𝓤 H A W. record {
+  copies = Laws'3.copy ByteOffset.the-type Laws'.the-copy 𝓤 H A W;
+  lawful = Laws'3.lawful ByteOffset.the-type Laws'.the-laws 𝓤 H A W;
+  makes = Laws'3.makes ByteOffset.the-type Laws'.the-plain 𝓤 H A;
+  in-mem = Local.mem-whole 𝓤 H A W (Declared.row ByteOffset.the-type);
+  of-mem = Local.whole-mem 𝓤 H A W (Declared.row ByteOffset.the-type);
+}) List.[])))
 
 abbrev pub r·4 : Kinds.RK 0
 r·4 = Bool.rBool
@@ -355,812 +350,224 @@ abbrev pub Claims : Type 1
 Claims = Kinds.In 1 ps·0 × Kinds.Out 1 ps·0 r·0 × Kinds.In 2 ps·1 × Kinds.Out 2 ps·1 r·1 × Kinds.In 2 ps·2 × Kinds.Out 2 ps·2 r·2 × Kinds.In 2 ps·3 × Kinds.Out 2 ps·3 r·3 × Kinds.In 0 ps·4 × Kinds.Out
     0 ps·4 r·4 × Kinds.In 0 ps·5 × Kinds.Out 0 ps·5 r·5
 
+abbrev pub e0 : Row.Entry
+e0 = (0, Rows.any-gone (Syntax.tyInt Syntax.w64))
+
+abbrev pub e1 : Row.Entry
+e1 = (0, Rows.sc-here (Row.sInt Syntax.w64))
+
+abbrev pub e2 : Row.Entry
+e2 = (1, Reshare.mref-owedS (Held.type (Syntax.named 1) List.[]) (Syntax.tyRef (Syntax.named 0) Syntax.mut (Held.behind (Syntax.named 1))) 0 3 Row.off)
+
+abbrev pub e3 : Row.Entry
+e3 = (1, Reshare.mref-owedS (Held.type (Syntax.named 1) List.[]) (Syntax.tyRef (Syntax.named 0) Syntax.mut (Held.behind (Syntax.named 1))) 0 4 Row.off)
+
+abbrev pub e4 : Row.Entry
+e4 = (1, Rows.mref (Held.type (Syntax.named 1) List.[]) (Syntax.tyRef (Syntax.named 0) Syntax.mut (Held.behind (Syntax.named 1))) 0)
+
+abbrev pub e5 : Row.Entry
+e5 = (1, Rows.mref-owed (Held.type (Syntax.named 1) List.[]) (Syntax.tyRef (Syntax.named 0) Syntax.mut (Held.behind (Syntax.named 1))) 0 2 Row.off)
+
+abbrev pub e6 : Row.Entry
+e6 = (10, AtSlots.mleftAt 2 (λ κc. Held.type (Syntax.named 1) (κc .1 .0)) Held.Value (λ κc v. v) (List._∷_ 5 (List._∷_ 1 List.[])) (Syntax.tyRef Syntax.erased Syntax.mut (Held.behind Syntax.erased)))
+
+abbrev pub e7 : Row.Entry
+e7 = (10, AtSlots.mrefAt 2 (λ κc. Held.type (Syntax.named 1) (κc .1 .0)) Held.Value (λ κc v. v) (List._∷_ 5 (List._∷_ 1 List.[])) (Syntax.tyRef Syntax.erased Syntax.mut (Held.behind Syntax.erased)) 5)
+
+abbrev pub e8 : Row.Entry
+e8 = (10, Rows.any-gone (Syntax.tyRef Syntax.erased Syntax.mut (Held.behind Syntax.erased)))
+
+abbrev pub e9 : Row.Entry
+e9 = (11, AtSlots.srefAt 2 (λ κc. Held.type (Syntax.named 1) (κc .1 .0)) Held.Value (λ κc v. v) (List._∷_ 6 (List._∷_ 1 List.[])) (Syntax.tyRef Syntax.erased Syntax.imm (Held.behind Syntax.erased)) 6)
+
+abbrev pub e10 : Row.Entry
+e10 = (11, Rows.any-gone (Syntax.tyRef Syntax.erased Syntax.imm (Held.behind Syntax.erased)))
+
+abbrev pub e11 : Row.Entry
+e11 = (11, Rows.sref (Held.type (Syntax.named 1) List.[]) (Syntax.tyRef Syntax.erased Syntax.imm (Held.behind Syntax.erased)) 6)
+
+abbrev pub e12 : Row.Entry
+e12 =
+    (12, AtSlots.srefAt 2 (λ κc. Held.type (Syntax.named 1) (κc .1 .0)) Held.Value (λ κc v. v) (List._∷_ 7 (List._∷_ 1 List.[])) (Syntax.tyRef Syntax.erased Syntax.imm (Held.behind Syntax.erased)) 7)
+
+abbrev pub e13 : Row.Entry
+e13 = (12, Rows.any-gone (Syntax.tyRef Syntax.erased Syntax.imm (Held.behind Syntax.erased)))
+
+abbrev pub e14 : Row.Entry
+e14 = (12, Rows.sref (Held.type (Syntax.named 1) List.[]) (Syntax.tyRef Syntax.erased Syntax.imm (Held.behind Syntax.erased)) 7)
+
+abbrev pub e15 : Row.Entry
+e15 = (2, Rows.sslice (Referent.rtF (Referent.fInt Syntax.w8)) (Syntax.tyRef (Syntax.named 1) Syntax.imm (Syntax.tyInt Syntax.w8)) 1)
+
+abbrev pub e16 : Row.Entry
+e16 = (3, Rows.any-gone (Syntax.tyInt Syntax.w64))
+
+abbrev pub e17 : Row.Entry
+e17 = (3, Rows.sc-here (Row.sInt Syntax.w64))
+
+abbrev pub e18 : Row.Entry
+e18 = (4, Rows.any-gone (Syntax.tyInt Syntax.w64))
+
+abbrev pub e19 : Row.Entry
+e19 = (4, Rows.sc-here (Row.sInt Syntax.w64))
+
+abbrev pub e20 : Row.Entry
+e20 = (5, Rows.any-gone y0)
+
+abbrev pub e21 : Row.Entry
+e21 = (5, Rows.whole (Declared.row Call.the-type))
+
+abbrev pub e22 : Row.Entry
+e22 = (6, Rows.any-gone (Syntax.tyInt Syntax.w32))
+
+abbrev pub e23 : Row.Entry
+e23 = (6, Rows.sc-here (Row.sInt Syntax.w32))
+
+abbrev pub e24 : Row.Entry
+e24 = (7, Rows.any-gone y1)
+
+abbrev pub e25 : Row.Entry
+e25 = (7, Rows.whole (Declared.row BitPosition.the-type))
+
+abbrev pub e26 : Row.Entry
+e26 = (8, Rows.any-gone y2)
+
+abbrev pub e27 : Row.Entry
+e27 = (8, Rows.whole (Declared.row ByteOffset.the-type))
+
+abbrev pub e28 : Row.Entry
+e28 = (9, Rows.any-gone Syntax.tyBool)
+
+abbrev pub e29 : Row.Entry
+e29 = (9, Rows.sc-here Row.sBool)
+
 abbrev pub t0 : List.List Row.Entry
-t0 = List._∷_ (0, Rows.any-gone (Syntax.tyInt Syntax.w64)) (List._∷_ (1, Rows.mref (Held.type (Syntax.named 1) List.[]) (Syntax.tyRef (Syntax.named 0) Syntax.mut (Held.behind (Syntax.named 1))) 0)
-    (List._∷_ (2, Rows.sslice (Referent.rtF (Referent.fInt Syntax.w8)) (Syntax.tyRef (Syntax.named 1) Syntax.imm (Syntax.tyInt Syntax.w8)) 1) (List._∷_ (3, Rows.any-gone (Syntax.tyInt Syntax.w64))
-    (List._∷_ (4, Rows.any-gone (Syntax.tyInt Syntax.w64)) (List._∷_ (
-      5,
-      Rows.any-gone (Syntax.tyStruct (List._∷_ 112 (List._∷_ 117 (List._∷_ 109 (List._∷_ 112 (List._∷_ 95 (List._∷_ 97 (List._∷_ 110
-          (List._∷_ 115 (List._∷_ 119 (List._∷_ 101 (List._∷_ 114 (List._∷_ 115 (List._∷_ 58 (List._∷_ 58 (List._∷_ 67 (List._∷_ 97 (List._∷_ 108 (List._∷_ 108 List.[])))))))))))))))))) (Syntax.tcons
-          (Syntax.tyInt Syntax.w32) (Syntax.tcons (Syntax.tyInt Syntax.w32) (Syntax.tcons (Syntax.tyInt Syntax.w32) (Syntax.tcons (Syntax.tyInt Syntax.w32) (Syntax.tcons (Syntax.tyInt Syntax.w32)
-          Syntax.tnil)))))),
-    ) (List._∷_ (6, Rows.any-gone (Syntax.tyInt Syntax.w32)) (List._∷_ (
-      7,
-      Rows.any-gone (Syntax.tyStruct (List._∷_ 98 (List._∷_ 105 (List._∷_ 116 (List._∷_ 115 (List._∷_ 58 (List._∷_
-          58 (List._∷_ 66 (List._∷_ 105 (List._∷_ 116 (List._∷_ 80 (List._∷_ 111 (List._∷_ 115 (List._∷_ 105 (List._∷_ 116 (List._∷_ 105 (List._∷_ 111 (List._∷_ 110 List.[]))))))))))))))))) (Syntax.tcons
-          (Syntax.tyInt Syntax.w64) Syntax.tnil)),
-    ) (List._∷_ (
-      8,
-      Rows.any-gone (Syntax.tyStruct (List._∷_ 98 (List._∷_ 105 (List._∷_ 116 (List._∷_ 115 (List._∷_ 58 (List._∷_ 58 (List._∷_ 66 (List._∷_ 121
-          (List._∷_ 116 (List._∷_ 101 (List._∷_ 79 (List._∷_ 102 (List._∷_ 102 (List._∷_ 115 (List._∷_ 101 (List._∷_ 116 List.[])))))))))))))))) (Syntax.tcons (Syntax.tyInt Syntax.w64) Syntax.tnil)),
-    )
-    (List._∷_ (9, Rows.any-gone Syntax.tyBool) (List._∷_ (10, Rows.any-gone (Syntax.tyRef Syntax.erased Syntax.mut (Held.behind Syntax.erased))) (List._∷_ (
-      11,
-      Rows.any-gone (Syntax.tyRef
-          Syntax.erased Syntax.imm (Held.behind Syntax.erased)),
-    ) (List._∷_ (12, Rows.any-gone (Syntax.tyRef Syntax.erased Syntax.imm (Held.behind Syntax.erased))) List.[]))))))))))))
+t0 = List._∷_ e0 (List._∷_ e4 (List._∷_ e15 (List._∷_ e16 (List._∷_ e18 (List._∷_ e20 (List._∷_ e22 (List._∷_ e24 (List._∷_ e26 (List._∷_ e28 (List._∷_ e8 (List._∷_ e10 (List._∷_ e13
+    List.[]))))))))))))
 
 abbrev pub t1 : List.List Row.Entry
-t1 = List._∷_ (0, Rows.sc-here (Row.sInt Syntax.w64)) (List._∷_ (1, Rows.mref (Held.type (Syntax.named 1) List.[]) (Syntax.tyRef (Syntax.named 0) Syntax.mut (Held.behind (Syntax.named 1))) 0)
-    (List._∷_ (2, Rows.sslice (Referent.rtF (Referent.fInt Syntax.w8)) (Syntax.tyRef (Syntax.named 1) Syntax.imm (Syntax.tyInt Syntax.w8)) 1) (List._∷_ (3, Rows.any-gone (Syntax.tyInt Syntax.w64))
-    (List._∷_ (4, Rows.any-gone (Syntax.tyInt Syntax.w64)) (List._∷_ (
-      5,
-      Rows.any-gone (Syntax.tyStruct (List._∷_ 112 (List._∷_ 117 (List._∷_ 109 (List._∷_ 112 (List._∷_ 95 (List._∷_ 97 (List._∷_ 110
-          (List._∷_ 115 (List._∷_ 119 (List._∷_ 101 (List._∷_ 114 (List._∷_ 115 (List._∷_ 58 (List._∷_ 58 (List._∷_ 67 (List._∷_ 97 (List._∷_ 108 (List._∷_ 108 List.[])))))))))))))))))) (Syntax.tcons
-          (Syntax.tyInt Syntax.w32) (Syntax.tcons (Syntax.tyInt Syntax.w32) (Syntax.tcons (Syntax.tyInt Syntax.w32) (Syntax.tcons (Syntax.tyInt Syntax.w32) (Syntax.tcons (Syntax.tyInt Syntax.w32)
-          Syntax.tnil)))))),
-    ) (List._∷_ (6, Rows.any-gone (Syntax.tyInt Syntax.w32)) (List._∷_ (
-      7,
-      Rows.any-gone (Syntax.tyStruct (List._∷_ 98 (List._∷_ 105 (List._∷_ 116 (List._∷_ 115 (List._∷_ 58 (List._∷_
-          58 (List._∷_ 66 (List._∷_ 105 (List._∷_ 116 (List._∷_ 80 (List._∷_ 111 (List._∷_ 115 (List._∷_ 105 (List._∷_ 116 (List._∷_ 105 (List._∷_ 111 (List._∷_ 110 List.[]))))))))))))))))) (Syntax.tcons
-          (Syntax.tyInt Syntax.w64) Syntax.tnil)),
-    ) (List._∷_ (
-      8,
-      Rows.any-gone (Syntax.tyStruct (List._∷_ 98 (List._∷_ 105 (List._∷_ 116 (List._∷_ 115 (List._∷_ 58 (List._∷_ 58 (List._∷_ 66 (List._∷_ 121
-          (List._∷_ 116 (List._∷_ 101 (List._∷_ 79 (List._∷_ 102 (List._∷_ 102 (List._∷_ 115 (List._∷_ 101 (List._∷_ 116 List.[])))))))))))))))) (Syntax.tcons (Syntax.tyInt Syntax.w64) Syntax.tnil)),
-    )
-    (List._∷_ (9, Rows.any-gone Syntax.tyBool) (List._∷_ (10, Rows.any-gone (Syntax.tyRef Syntax.erased Syntax.mut (Held.behind Syntax.erased))) (List._∷_ (
-      11,
-      Rows.any-gone (Syntax.tyRef
-          Syntax.erased Syntax.imm (Held.behind Syntax.erased)),
-    ) (List._∷_ (12, Rows.any-gone (Syntax.tyRef Syntax.erased Syntax.imm (Held.behind Syntax.erased))) List.[]))))))))))))
+t1 = List._∷_ e1 (List._∷_ e4 (List._∷_ e15 (List._∷_ e16 (List._∷_ e18 (List._∷_ e20 (List._∷_ e22 (List._∷_ e24 (List._∷_ e26 (List._∷_ e28 (List._∷_ e8 (List._∷_ e10 (List._∷_ e13
+    List.[]))))))))))))
 
 abbrev pub t2 : List.List Row.Entry
-t2 = List._∷_ (0, Rows.any-gone (Syntax.tyInt Syntax.w64)) (List._∷_ (1, Rows.mref (Held.type (Syntax.named 1) List.[]) (Syntax.tyRef (Syntax.named 0) Syntax.mut (Held.behind (Syntax.named 1))) 0)
-    (List._∷_ (2, Rows.sslice (Referent.rtF (Referent.fInt Syntax.w8)) (Syntax.tyRef (Syntax.named 1) Syntax.imm (Syntax.tyInt Syntax.w8)) 1) (List._∷_ (3, Rows.sc-here (Row.sInt Syntax.w64)) (List._∷_
-    (4, Rows.any-gone (Syntax.tyInt Syntax.w64)) (List._∷_ (
-      5,
-      Rows.any-gone (Syntax.tyStruct (List._∷_ 112 (List._∷_ 117 (List._∷_ 109 (List._∷_ 112 (List._∷_ 95 (List._∷_ 97 (List._∷_ 110 (List._∷_
-          115 (List._∷_ 119 (List._∷_ 101 (List._∷_ 114 (List._∷_ 115 (List._∷_ 58 (List._∷_ 58 (List._∷_ 67 (List._∷_ 97 (List._∷_ 108 (List._∷_ 108 List.[])))))))))))))))))) (Syntax.tcons (Syntax.tyInt
-          Syntax.w32) (Syntax.tcons (Syntax.tyInt Syntax.w32) (Syntax.tcons (Syntax.tyInt Syntax.w32) (Syntax.tcons (Syntax.tyInt Syntax.w32) (Syntax.tcons (Syntax.tyInt Syntax.w32) Syntax.tnil)))))),
-    )
-    (List._∷_ (6, Rows.any-gone (Syntax.tyInt Syntax.w32)) (List._∷_ (
-      7,
-      Rows.any-gone (Syntax.tyStruct (List._∷_ 98 (List._∷_ 105 (List._∷_ 116 (List._∷_ 115 (List._∷_ 58 (List._∷_ 58 (List._∷_ 66
-          (List._∷_ 105 (List._∷_ 116 (List._∷_ 80 (List._∷_ 111 (List._∷_ 115 (List._∷_ 105 (List._∷_ 116 (List._∷_ 105 (List._∷_ 111 (List._∷_ 110 List.[]))))))))))))))))) (Syntax.tcons (Syntax.tyInt
-          Syntax.w64) Syntax.tnil)),
-    ) (List._∷_ (
-      8,
-      Rows.any-gone (Syntax.tyStruct (List._∷_ 98 (List._∷_ 105 (List._∷_ 116 (List._∷_ 115 (List._∷_ 58 (List._∷_ 58 (List._∷_ 66 (List._∷_ 121 (List._∷_ 116
-          (List._∷_ 101 (List._∷_ 79 (List._∷_ 102 (List._∷_ 102 (List._∷_ 115 (List._∷_ 101 (List._∷_ 116 List.[])))))))))))))))) (Syntax.tcons (Syntax.tyInt Syntax.w64) Syntax.tnil)),
-    ) (List._∷_ (
-      9,
-      Rows.any-gone Syntax.tyBool,
-    ) (List._∷_ (10, Rows.any-gone (Syntax.tyRef Syntax.erased Syntax.mut (Held.behind Syntax.erased))) (List._∷_ (
-      11,
-      Rows.any-gone (Syntax.tyRef Syntax.erased Syntax.imm
-          (Held.behind Syntax.erased)),
-    ) (List._∷_ (12, Rows.any-gone (Syntax.tyRef Syntax.erased Syntax.imm (Held.behind Syntax.erased))) List.[]))))))))))))
+t2 = List._∷_ e0 (List._∷_ e4 (List._∷_ e15 (List._∷_ e17 (List._∷_ e18 (List._∷_ e20 (List._∷_ e22 (List._∷_ e24 (List._∷_ e26 (List._∷_ e28 (List._∷_ e8 (List._∷_ e10 (List._∷_ e13
+    List.[]))))))))))))
 
 abbrev pub t3 : List.List Row.Entry
-t3 = List._∷_ (0, Rows.any-gone (Syntax.tyInt Syntax.w64)) (List._∷_ (1, Rows.mref (Held.type (Syntax.named 1) List.[]) (Syntax.tyRef (Syntax.named 0) Syntax.mut (Held.behind (Syntax.named 1))) 0)
-    (List._∷_ (2, Rows.sslice (Referent.rtF (Referent.fInt Syntax.w8)) (Syntax.tyRef (Syntax.named 1) Syntax.imm (Syntax.tyInt Syntax.w8)) 1) (List._∷_ (3, Rows.sc-here (Row.sInt Syntax.w64)) (List._∷_
-    (4, Rows.sc-here (Row.sInt Syntax.w64)) (List._∷_ (
-      5,
-      Rows.any-gone (Syntax.tyStruct (List._∷_ 112 (List._∷_ 117 (List._∷_ 109 (List._∷_ 112 (List._∷_ 95 (List._∷_ 97 (List._∷_ 110 (List._∷_ 115
-          (List._∷_ 119 (List._∷_ 101 (List._∷_ 114 (List._∷_ 115 (List._∷_ 58 (List._∷_ 58 (List._∷_ 67 (List._∷_ 97 (List._∷_ 108 (List._∷_ 108 List.[])))))))))))))))))) (Syntax.tcons (Syntax.tyInt
-          Syntax.w32) (Syntax.tcons (Syntax.tyInt Syntax.w32) (Syntax.tcons (Syntax.tyInt Syntax.w32) (Syntax.tcons (Syntax.tyInt Syntax.w32) (Syntax.tcons (Syntax.tyInt Syntax.w32) Syntax.tnil)))))),
-    )
-    (List._∷_ (6, Rows.any-gone (Syntax.tyInt Syntax.w32)) (List._∷_ (
-      7,
-      Rows.any-gone (Syntax.tyStruct (List._∷_ 98 (List._∷_ 105 (List._∷_ 116 (List._∷_ 115 (List._∷_ 58 (List._∷_ 58 (List._∷_ 66
-          (List._∷_ 105 (List._∷_ 116 (List._∷_ 80 (List._∷_ 111 (List._∷_ 115 (List._∷_ 105 (List._∷_ 116 (List._∷_ 105 (List._∷_ 111 (List._∷_ 110 List.[]))))))))))))))))) (Syntax.tcons (Syntax.tyInt
-          Syntax.w64) Syntax.tnil)),
-    ) (List._∷_ (
-      8,
-      Rows.any-gone (Syntax.tyStruct (List._∷_ 98 (List._∷_ 105 (List._∷_ 116 (List._∷_ 115 (List._∷_ 58 (List._∷_ 58 (List._∷_ 66 (List._∷_ 121 (List._∷_ 116
-          (List._∷_ 101 (List._∷_ 79 (List._∷_ 102 (List._∷_ 102 (List._∷_ 115 (List._∷_ 101 (List._∷_ 116 List.[])))))))))))))))) (Syntax.tcons (Syntax.tyInt Syntax.w64) Syntax.tnil)),
-    ) (List._∷_ (
-      9,
-      Rows.any-gone Syntax.tyBool,
-    ) (List._∷_ (10, Rows.any-gone (Syntax.tyRef Syntax.erased Syntax.mut (Held.behind Syntax.erased))) (List._∷_ (
-      11,
-      Rows.any-gone (Syntax.tyRef Syntax.erased Syntax.imm
-          (Held.behind Syntax.erased)),
-    ) (List._∷_ (12, Rows.any-gone (Syntax.tyRef Syntax.erased Syntax.imm (Held.behind Syntax.erased))) List.[]))))))))))))
+t3 = List._∷_ e0 (List._∷_ e4 (List._∷_ e15 (List._∷_ e17 (List._∷_ e19 (List._∷_ e20 (List._∷_ e22 (List._∷_ e24 (List._∷_ e26 (List._∷_ e28 (List._∷_ e8 (List._∷_ e10 (List._∷_ e13
+    List.[]))))))))))))
 
 abbrev pub t4 : List.List Row.Entry
-t4 = List._∷_ (0, Rows.any-gone (Syntax.tyInt Syntax.w64)) (List._∷_ (1, Rows.mref (Held.type (Syntax.named 1) List.[]) (Syntax.tyRef (Syntax.named 0) Syntax.mut (Held.behind (Syntax.named 1))) 0)
-    (List._∷_ (2, Rows.sslice (Referent.rtF (Referent.fInt Syntax.w8)) (Syntax.tyRef (Syntax.named 1) Syntax.imm (Syntax.tyInt Syntax.w8)) 1) (List._∷_ (3, Rows.sc-here (Row.sInt Syntax.w64)) (List._∷_
-    (4, Rows.sc-here (Row.sInt Syntax.w64)) (List._∷_ (
-      5,
-      Rows.any-gone (Syntax.tyStruct (List._∷_ 112 (List._∷_ 117 (List._∷_ 109 (List._∷_ 112 (List._∷_ 95 (List._∷_ 97 (List._∷_ 110 (List._∷_ 115
-          (List._∷_ 119 (List._∷_ 101 (List._∷_ 114 (List._∷_ 115 (List._∷_ 58 (List._∷_ 58 (List._∷_ 67 (List._∷_ 97 (List._∷_ 108 (List._∷_ 108 List.[])))))))))))))))))) (Syntax.tcons (Syntax.tyInt
-          Syntax.w32) (Syntax.tcons (Syntax.tyInt Syntax.w32) (Syntax.tcons (Syntax.tyInt Syntax.w32) (Syntax.tcons (Syntax.tyInt Syntax.w32) (Syntax.tcons (Syntax.tyInt Syntax.w32) Syntax.tnil)))))),
-    )
-    (List._∷_ (6, Rows.any-gone (Syntax.tyInt Syntax.w32)) (List._∷_ (
-      7,
-      Rows.any-gone (Syntax.tyStruct (List._∷_ 98 (List._∷_ 105 (List._∷_ 116 (List._∷_ 115 (List._∷_ 58 (List._∷_ 58 (List._∷_ 66
-          (List._∷_ 105 (List._∷_ 116 (List._∷_ 80 (List._∷_ 111 (List._∷_ 115 (List._∷_ 105 (List._∷_ 116 (List._∷_ 105 (List._∷_ 111 (List._∷_ 110 List.[]))))))))))))))))) (Syntax.tcons (Syntax.tyInt
-          Syntax.w64) Syntax.tnil)),
-    ) (List._∷_ (
-      8,
-      Rows.any-gone (Syntax.tyStruct (List._∷_ 98 (List._∷_ 105 (List._∷_ 116 (List._∷_ 115 (List._∷_ 58 (List._∷_ 58 (List._∷_ 66 (List._∷_ 121 (List._∷_ 116
-          (List._∷_ 101 (List._∷_ 79 (List._∷_ 102 (List._∷_ 102 (List._∷_ 115 (List._∷_ 101 (List._∷_ 116 List.[])))))))))))))))) (Syntax.tcons (Syntax.tyInt Syntax.w64) Syntax.tnil)),
-    ) (List._∷_ (
-      9,
-      Rows.sc-here Row.sBool,
-    ) (List._∷_ (10, Rows.any-gone (Syntax.tyRef Syntax.erased Syntax.mut (Held.behind Syntax.erased))) (List._∷_ (
-      11,
-      Rows.any-gone (Syntax.tyRef Syntax.erased Syntax.imm
-          (Held.behind Syntax.erased)),
-    ) (List._∷_ (12, Rows.any-gone (Syntax.tyRef Syntax.erased Syntax.imm (Held.behind Syntax.erased))) List.[]))))))))))))
+t4 = List._∷_ e0 (List._∷_ e4 (List._∷_ e15 (List._∷_ e17 (List._∷_ e19 (List._∷_ e20 (List._∷_ e22 (List._∷_ e24 (List._∷_ e26 (List._∷_ e29 (List._∷_ e8 (List._∷_ e10 (List._∷_ e13
+    List.[]))))))))))))
 
 abbrev pub t5 : List.List Row.Entry
-t5 = List._∷_ (0, Rows.any-gone (Syntax.tyInt Syntax.w64)) (List._∷_ (1, Rows.mref (Held.type (Syntax.named 1) List.[]) (Syntax.tyRef (Syntax.named 0) Syntax.mut (Held.behind (Syntax.named 1))) 0)
-    (List._∷_ (2, Rows.sslice (Referent.rtF (Referent.fInt Syntax.w8)) (Syntax.tyRef (Syntax.named 1) Syntax.imm (Syntax.tyInt Syntax.w8)) 1) (List._∷_ (3, Rows.sc-here (Row.sInt Syntax.w64)) (List._∷_
-    (4, Rows.sc-here (Row.sInt Syntax.w64)) (List._∷_ (5, Rows.whole (Declared.row Call.the-type)) (List._∷_ (6, Rows.any-gone (Syntax.tyInt Syntax.w32)) (List._∷_ (
-      7,
-      Rows.any-gone
-          (Syntax.tyStruct (List._∷_ 98 (List._∷_ 105 (List._∷_ 116 (List._∷_ 115 (List._∷_ 58 (List._∷_ 58 (List._∷_ 66 (List._∷_ 105 (List._∷_ 116 (List._∷_ 80 (List._∷_ 111 (List._∷_ 115 (List._∷_ 105
-          (List._∷_ 116 (List._∷_ 105 (List._∷_ 111 (List._∷_ 110 List.[]))))))))))))))))) (Syntax.tcons (Syntax.tyInt Syntax.w64) Syntax.tnil)),
-    ) (List._∷_ (
-      8,
-      Rows.any-gone (Syntax.tyStruct (List._∷_ 98
-          (List._∷_ 105 (List._∷_ 116 (List._∷_ 115 (List._∷_ 58 (List._∷_ 58 (List._∷_ 66 (List._∷_ 121 (List._∷_ 116 (List._∷_ 101 (List._∷_ 79 (List._∷_ 102 (List._∷_ 102 (List._∷_ 115 (List._∷_ 101
-          (List._∷_ 116 List.[])))))))))))))))) (Syntax.tcons (Syntax.tyInt Syntax.w64) Syntax.tnil)),
-    ) (List._∷_ (9, Rows.any-gone Syntax.tyBool) (List._∷_ (
-      10,
-      Rows.any-gone (Syntax.tyRef Syntax.erased
-          Syntax.mut (Held.behind Syntax.erased)),
-    ) (List._∷_ (11, Rows.any-gone (Syntax.tyRef Syntax.erased Syntax.imm (Held.behind Syntax.erased))) (List._∷_ (
-      12,
-      Rows.any-gone (Syntax.tyRef
-          Syntax.erased Syntax.imm (Held.behind Syntax.erased)),
-    ) List.[]))))))))))))
+t5 = List._∷_ e0 (List._∷_ e4 (List._∷_ e15 (List._∷_ e17 (List._∷_ e19 (List._∷_ e21 (List._∷_ e22 (List._∷_ e24 (List._∷_ e26 (List._∷_ e28 (List._∷_ e8 (List._∷_ e10 (List._∷_ e13
+    List.[]))))))))))))
 
 abbrev pub t6 : List.List Row.Entry
-t6 = List._∷_ (0, Rows.any-gone (Syntax.tyInt Syntax.w64)) (List._∷_ (
-  1,
-  Rows.mref-owed (Held.type (Syntax.named 1) List.[]) (Syntax.tyRef (Syntax.named 0) Syntax.mut (Held.behind (Syntax.named 1)))
-      0 2 Row.off,
-) (List._∷_ (2, Rows.sslice (Referent.rtF (Referent.fInt Syntax.w8)) (Syntax.tyRef (Syntax.named 1) Syntax.imm (Syntax.tyInt Syntax.w8)) 1) (List._∷_ (
-  3,
-  Rows.sc-here (Row.sInt
-      Syntax.w64),
-) (List._∷_ (4, Rows.sc-here (Row.sInt Syntax.w64)) (List._∷_ (5, Rows.whole (Declared.row Call.the-type)) (List._∷_ (6, Rows.any-gone (Syntax.tyInt Syntax.w32)) (List._∷_ (
-  7,
-  Rows.any-gone (Syntax.tyStruct (List._∷_ 98 (List._∷_ 105 (List._∷_ 116 (List._∷_ 115 (List._∷_ 58 (List._∷_ 58 (List._∷_ 66 (List._∷_ 105 (List._∷_ 116 (List._∷_ 80 (List._∷_ 111 (List._∷_ 115
-      (List._∷_ 105 (List._∷_ 116 (List._∷_ 105 (List._∷_ 111 (List._∷_ 110 List.[]))))))))))))))))) (Syntax.tcons (Syntax.tyInt Syntax.w64) Syntax.tnil)),
-) (List._∷_ (
-  8,
-  Rows.any-gone (Syntax.tyStruct
-      (List._∷_ 98 (List._∷_ 105 (List._∷_ 116 (List._∷_ 115 (List._∷_ 58 (List._∷_ 58 (List._∷_ 66 (List._∷_ 121 (List._∷_ 116 (List._∷_ 101 (List._∷_ 79 (List._∷_ 102 (List._∷_ 102 (List._∷_ 115 (List._∷_
-      101 (List._∷_ 116 List.[])))))))))))))))) (Syntax.tcons (Syntax.tyInt Syntax.w64) Syntax.tnil)),
-) (List._∷_ (9, Rows.any-gone Syntax.tyBool) (List._∷_ (
-  10,
-  Rows.mref (Held.type (Syntax.named 1)
-      List.[]) (Syntax.tyRef Syntax.erased Syntax.mut (Held.behind Syntax.erased)) 2,
-) (List._∷_ (11, Rows.any-gone (Syntax.tyRef Syntax.erased Syntax.imm (Held.behind Syntax.erased))) (List._∷_ (
-  12,
-  Rows.any-gone (Syntax.tyRef Syntax.erased Syntax.imm (Held.behind Syntax.erased)),
-) List.[]))))))))))))
+t6 = List._∷_ e0 (List._∷_ e5 (List._∷_ e15 (List._∷_ e17 (List._∷_ e19 (List._∷_ e21 (List._∷_ e22 (List._∷_ e24 (List._∷_ e26 (List._∷_ e28 (List._∷_
+    (10, Rows.mref (Held.type (Syntax.named 1) List.[]) (Syntax.tyRef Syntax.erased Syntax.mut (Held.behind Syntax.erased)) 2) (List._∷_ e10 (List._∷_ e13 List.[]))))))))))))
 
 abbrev pub t7 : List.List Row.Entry
-t7 = List._∷_ (0, Rows.any-gone (Syntax.tyInt Syntax.w64)) (List._∷_ (
-  1,
-  Rows.mref-owed (Held.type (Syntax.named 1) List.[]) (Syntax.tyRef (Syntax.named 0) Syntax.mut (Held.behind (Syntax.named 1)))
-      0 2 Row.off,
-) (List._∷_ (2, Rows.sslice (Referent.rtF (Referent.fInt Syntax.w8)) (Syntax.tyRef (Syntax.named 1) Syntax.imm (Syntax.tyInt Syntax.w8)) 1) (List._∷_ (
-  3,
-  Rows.sc-here (Row.sInt
-      Syntax.w64),
-) (List._∷_ (4, Rows.sc-here (Row.sInt Syntax.w64)) (List._∷_ (5, Rows.whole (Declared.row Call.the-type)) (List._∷_ (6, Rows.any-gone (Syntax.tyInt Syntax.w32)) (List._∷_ (
-  7,
-  Rows.any-gone (Syntax.tyStruct (List._∷_ 98 (List._∷_ 105 (List._∷_ 116 (List._∷_ 115 (List._∷_ 58 (List._∷_ 58 (List._∷_ 66 (List._∷_ 105 (List._∷_ 116 (List._∷_ 80 (List._∷_ 111 (List._∷_ 115
-      (List._∷_ 105 (List._∷_ 116 (List._∷_ 105 (List._∷_ 111 (List._∷_ 110 List.[]))))))))))))))))) (Syntax.tcons (Syntax.tyInt Syntax.w64) Syntax.tnil)),
-) (List._∷_ (
-  8,
-  Rows.any-gone (Syntax.tyStruct
-      (List._∷_ 98 (List._∷_ 105 (List._∷_ 116 (List._∷_ 115 (List._∷_ 58 (List._∷_ 58 (List._∷_ 66 (List._∷_ 121 (List._∷_ 116 (List._∷_ 101 (List._∷_ 79 (List._∷_ 102 (List._∷_ 102 (List._∷_ 115 (List._∷_
-      101 (List._∷_ 116 List.[])))))))))))))))) (Syntax.tcons (Syntax.tyInt Syntax.w64) Syntax.tnil)),
-) (List._∷_ (9, Rows.any-gone Syntax.tyBool) (List._∷_ (
-  10,
-  Rows.mref (Held.type (Syntax.named 1)
-      List.[]) (Syntax.tyRef Syntax.erased Syntax.mut (Held.behind Syntax.erased)) 5,
-) (List._∷_ (11, Rows.any-gone (Syntax.tyRef Syntax.erased Syntax.imm (Held.behind Syntax.erased))) (List._∷_ (
-  12,
-  Rows.any-gone (Syntax.tyRef Syntax.erased Syntax.imm (Held.behind Syntax.erased)),
-) List.[]))))))))))))
+t7 = List._∷_ e0 (List._∷_ e5 (List._∷_ e15 (List._∷_ e17 (List._∷_ e19 (List._∷_ e21 (List._∷_ e22 (List._∷_ e24 (List._∷_ e26 (List._∷_ e28 (List._∷_
+    (10, Rows.mref (Held.type (Syntax.named 1) List.[]) (Syntax.tyRef Syntax.erased Syntax.mut (Held.behind Syntax.erased)) 5) (List._∷_ e10 (List._∷_ e13 List.[]))))))))))))
 
 abbrev pub t8 : List.List Row.Entry
-t8 = List._∷_ (0, Rows.any-gone (Syntax.tyInt Syntax.w64)) (List._∷_ (
-  1,
-  Rows.mref-owed (Held.type (Syntax.named 1) List.[]) (Syntax.tyRef (Syntax.named 0) Syntax.mut (Held.behind (Syntax.named 1)))
-      0 2 Row.off,
-) (List._∷_ (2, Rows.sslice (Referent.rtF (Referent.fInt Syntax.w8)) (Syntax.tyRef (Syntax.named 1) Syntax.imm (Syntax.tyInt Syntax.w8)) 1) (List._∷_ (
-  3,
-  Rows.sc-here (Row.sInt
-      Syntax.w64),
-) (List._∷_ (4, Rows.sc-here (Row.sInt Syntax.w64)) (List._∷_ (5, Rows.whole (Declared.row Call.the-type)) (List._∷_ (6, Rows.any-gone (Syntax.tyInt Syntax.w32)) (List._∷_ (
-  7,
-  Rows.any-gone (Syntax.tyStruct (List._∷_ 98 (List._∷_ 105 (List._∷_ 116 (List._∷_ 115 (List._∷_ 58 (List._∷_ 58 (List._∷_ 66 (List._∷_ 105 (List._∷_ 116 (List._∷_ 80 (List._∷_ 111 (List._∷_ 115
-      (List._∷_ 105 (List._∷_ 116 (List._∷_ 105 (List._∷_ 111 (List._∷_ 110 List.[]))))))))))))))))) (Syntax.tcons (Syntax.tyInt Syntax.w64) Syntax.tnil)),
-) (List._∷_ (
-  8,
-  Rows.any-gone (Syntax.tyStruct
-      (List._∷_ 98 (List._∷_ 105 (List._∷_ 116 (List._∷_ 115 (List._∷_ 58 (List._∷_ 58 (List._∷_ 66 (List._∷_ 121 (List._∷_ 116 (List._∷_ 101 (List._∷_ 79 (List._∷_ 102 (List._∷_ 102 (List._∷_ 115 (List._∷_
-      101 (List._∷_ 116 List.[])))))))))))))))) (Syntax.tcons (Syntax.tyInt Syntax.w64) Syntax.tnil)),
-) (List._∷_ (9, Rows.any-gone Syntax.tyBool) (List._∷_ (
-  10,
-  AtSlots.mrefAt 2 (λ κc. Held.type
-      (Syntax.named 1) (κc .1 .0)) Held.Value (λ κc v. v) (List._∷_ 5 (List._∷_ 1 List.[])) (Syntax.tyRef Syntax.erased Syntax.mut (Held.behind Syntax.erased)) 5,
-) (List._∷_ (
-  11,
-  Rows.any-gone
-      (Syntax.tyRef Syntax.erased Syntax.imm (Held.behind Syntax.erased)),
-) (List._∷_ (12, Rows.any-gone (Syntax.tyRef Syntax.erased Syntax.imm (Held.behind Syntax.erased))) List.[]))))))))))))
+t8 = List._∷_ e0 (List._∷_ e5 (List._∷_ e15 (List._∷_ e17 (List._∷_ e19 (List._∷_ e21 (List._∷_ e22 (List._∷_ e24 (List._∷_ e26 (List._∷_ e28 (List._∷_ e7 (List._∷_ e10 (List._∷_ e13
+    List.[]))))))))))))
 
 abbrev pub t9 : List.List Row.Entry
-t9 = List._∷_ (0, Rows.any-gone (Syntax.tyInt Syntax.w64)) (List._∷_ (
-  1,
-  Rows.mref-owed (Held.type (Syntax.named 1) List.[]) (Syntax.tyRef (Syntax.named 0) Syntax.mut (Held.behind (Syntax.named 1)))
-      0 2 Row.off,
-) (List._∷_ (2, Rows.sslice (Referent.rtF (Referent.fInt Syntax.w8)) (Syntax.tyRef (Syntax.named 1) Syntax.imm (Syntax.tyInt Syntax.w8)) 1) (List._∷_ (
-  3,
-  Rows.sc-here (Row.sInt
-      Syntax.w64),
-) (List._∷_ (4, Rows.sc-here (Row.sInt Syntax.w64)) (List._∷_ (5, Rows.whole (Declared.row Call.the-type)) (List._∷_ (6, Rows.sc-here (Row.sInt Syntax.w32)) (List._∷_ (
-  7,
-  Rows.any-gone (Syntax.tyStruct (List._∷_ 98 (List._∷_ 105 (List._∷_ 116 (List._∷_ 115 (List._∷_ 58 (List._∷_ 58 (List._∷_ 66 (List._∷_ 105 (List._∷_ 116 (List._∷_ 80 (List._∷_ 111 (List._∷_ 115
-      (List._∷_ 105 (List._∷_ 116 (List._∷_ 105 (List._∷_ 111 (List._∷_ 110 List.[]))))))))))))))))) (Syntax.tcons (Syntax.tyInt Syntax.w64) Syntax.tnil)),
-) (List._∷_ (
-  8,
-  Rows.any-gone (Syntax.tyStruct
-      (List._∷_ 98 (List._∷_ 105 (List._∷_ 116 (List._∷_ 115 (List._∷_ 58 (List._∷_ 58 (List._∷_ 66 (List._∷_ 121 (List._∷_ 116 (List._∷_ 101 (List._∷_ 79 (List._∷_ 102 (List._∷_ 102 (List._∷_ 115 (List._∷_
-      101 (List._∷_ 116 List.[])))))))))))))))) (Syntax.tcons (Syntax.tyInt Syntax.w64) Syntax.tnil)),
-) (List._∷_ (9, Rows.any-gone Syntax.tyBool) (List._∷_ (
-  10,
-  AtSlots.mleftAt 2 (λ κc. Held.type
-      (Syntax.named 1) (κc .1 .0)) Held.Value (λ κc v. v) (List._∷_ 5 (List._∷_ 1 List.[])) (Syntax.tyRef Syntax.erased Syntax.mut (Held.behind Syntax.erased)),
-) (List._∷_ (
-  11,
-  Rows.any-gone (Syntax.tyRef
-      Syntax.erased Syntax.imm (Held.behind Syntax.erased)),
-) (List._∷_ (12, Rows.any-gone (Syntax.tyRef Syntax.erased Syntax.imm (Held.behind Syntax.erased))) List.[]))))))))))))
+t9 = List._∷_ e0 (List._∷_ e5 (List._∷_ e15 (List._∷_ e17 (List._∷_ e19 (List._∷_ e21 (List._∷_ e23 (List._∷_ e24 (List._∷_ e26 (List._∷_ e28 (List._∷_ e6 (List._∷_ e10 (List._∷_ e13
+    List.[]))))))))))))
 
 abbrev pub t10 : List.List Row.Entry
-t10 = List._∷_ (0, Rows.any-gone (Syntax.tyInt Syntax.w64)) (List._∷_ (1, Rows.mref (Held.type (Syntax.named 1) List.[]) (Syntax.tyRef (Syntax.named 0) Syntax.mut (Held.behind (Syntax.named 1))) 0)
-    (List._∷_ (2, Rows.sslice (Referent.rtF (Referent.fInt Syntax.w8)) (Syntax.tyRef (Syntax.named 1) Syntax.imm (Syntax.tyInt Syntax.w8)) 1) (List._∷_ (3, Rows.sc-here (Row.sInt Syntax.w64)) (List._∷_
-    (4, Rows.sc-here (Row.sInt Syntax.w64)) (List._∷_ (5, Rows.whole (Declared.row Call.the-type)) (List._∷_ (6, Rows.sc-here (Row.sInt Syntax.w32)) (List._∷_ (
-      7,
-      Rows.any-gone (Syntax.tyStruct
-          (List._∷_ 98 (List._∷_ 105 (List._∷_ 116 (List._∷_ 115 (List._∷_ 58 (List._∷_ 58 (List._∷_ 66 (List._∷_ 105 (List._∷_ 116 (List._∷_ 80 (List._∷_ 111 (List._∷_ 115 (List._∷_ 105 (List._∷_ 116 (List._∷_
-          105 (List._∷_ 111 (List._∷_ 110 List.[]))))))))))))))))) (Syntax.tcons (Syntax.tyInt Syntax.w64) Syntax.tnil)),
-    ) (List._∷_ (
-      8,
-      Rows.any-gone (Syntax.tyStruct (List._∷_ 98 (List._∷_ 105 (List._∷_ 116
-          (List._∷_ 115 (List._∷_ 58 (List._∷_ 58 (List._∷_ 66 (List._∷_ 121 (List._∷_ 116 (List._∷_ 101 (List._∷_ 79 (List._∷_ 102 (List._∷_ 102 (List._∷_ 115 (List._∷_ 101 (List._∷_ 116
-          List.[])))))))))))))))) (Syntax.tcons (Syntax.tyInt Syntax.w64) Syntax.tnil)),
-    ) (List._∷_ (9, Rows.any-gone Syntax.tyBool) (List._∷_ (
-      10,
-      Rows.any-gone (Syntax.tyRef Syntax.erased Syntax.mut
-          (Held.behind Syntax.erased)),
-    ) (List._∷_ (11, Rows.any-gone (Syntax.tyRef Syntax.erased Syntax.imm (Held.behind Syntax.erased))) (List._∷_ (
-      12,
-      Rows.any-gone (Syntax.tyRef Syntax.erased
-          Syntax.imm (Held.behind Syntax.erased)),
-    ) List.[]))))))))))))
+t10 = List._∷_ e0 (List._∷_ e4 (List._∷_ e15 (List._∷_ e17 (List._∷_ e19 (List._∷_ e21 (List._∷_ e23 (List._∷_ e24 (List._∷_ e26 (List._∷_ e28 (List._∷_ e8 (List._∷_ e10 (List._∷_ e13
+    List.[]))))))))))))
 
 abbrev pub t11 : List.List Row.Entry
-t11 = List._∷_ (0, Rows.any-gone (Syntax.tyInt Syntax.w64)) (List._∷_ (
-  1,
-  Reshare.mref-owedS (Held.type (Syntax.named 1) List.[]) (Syntax.tyRef (Syntax.named 0) Syntax.mut (Held.behind (Syntax.named
-      1))) 0 3 Row.off,
-) (List._∷_ (2, Rows.sslice (Referent.rtF (Referent.fInt Syntax.w8)) (Syntax.tyRef (Syntax.named 1) Syntax.imm (Syntax.tyInt Syntax.w8)) 1) (List._∷_ (
-  3,
-  Rows.sc-here (Row.sInt
-      Syntax.w64),
-) (List._∷_ (4, Rows.sc-here (Row.sInt Syntax.w64)) (List._∷_ (5, Rows.whole (Declared.row Call.the-type)) (List._∷_ (6, Rows.sc-here (Row.sInt Syntax.w32)) (List._∷_ (
-  7,
-  Rows.any-gone (Syntax.tyStruct (List._∷_ 98 (List._∷_ 105 (List._∷_ 116 (List._∷_ 115 (List._∷_ 58 (List._∷_ 58 (List._∷_ 66 (List._∷_ 105 (List._∷_ 116 (List._∷_ 80 (List._∷_ 111 (List._∷_ 115
-      (List._∷_ 105 (List._∷_ 116 (List._∷_ 105 (List._∷_ 111 (List._∷_ 110 List.[]))))))))))))))))) (Syntax.tcons (Syntax.tyInt Syntax.w64) Syntax.tnil)),
-) (List._∷_ (
-  8,
-  Rows.any-gone (Syntax.tyStruct
-      (List._∷_ 98 (List._∷_ 105 (List._∷_ 116 (List._∷_ 115 (List._∷_ 58 (List._∷_ 58 (List._∷_ 66 (List._∷_ 121 (List._∷_ 116 (List._∷_ 101 (List._∷_ 79 (List._∷_ 102 (List._∷_ 102 (List._∷_ 115 (List._∷_
-      101 (List._∷_ 116 List.[])))))))))))))))) (Syntax.tcons (Syntax.tyInt Syntax.w64) Syntax.tnil)),
-) (List._∷_ (9, Rows.any-gone Syntax.tyBool) (List._∷_ (
-  10,
-  Rows.any-gone (Syntax.tyRef Syntax.erased
-      Syntax.mut (Held.behind Syntax.erased)),
-) (List._∷_ (11, Rows.sref (Held.type (Syntax.named 1) List.[]) (Syntax.tyRef Syntax.erased Syntax.imm (Held.behind Syntax.erased)) 3) (List._∷_ (
-  12,
-  Rows.any-gone (Syntax.tyRef Syntax.erased Syntax.imm (Held.behind Syntax.erased)),
-) List.[]))))))))))))
+t11 = List._∷_ e0 (List._∷_ e2 (List._∷_ e15 (List._∷_ e17 (List._∷_ e19 (List._∷_ e21 (List._∷_ e23 (List._∷_ e24 (List._∷_ e26 (List._∷_ e28 (List._∷_ e8 (List._∷_
+    (11, Rows.sref (Held.type (Syntax.named 1) List.[]) (Syntax.tyRef Syntax.erased Syntax.imm (Held.behind Syntax.erased)) 3) (List._∷_ e13 List.[]))))))))))))
 
 abbrev pub t12 : List.List Row.Entry
-t12 = List._∷_ (0, Rows.any-gone (Syntax.tyInt Syntax.w64)) (List._∷_ (
-  1,
-  Reshare.mref-owedS (Held.type (Syntax.named 1) List.[]) (Syntax.tyRef (Syntax.named 0) Syntax.mut (Held.behind (Syntax.named
-      1))) 0 3 Row.off,
-) (List._∷_ (2, Rows.sslice (Referent.rtF (Referent.fInt Syntax.w8)) (Syntax.tyRef (Syntax.named 1) Syntax.imm (Syntax.tyInt Syntax.w8)) 1) (List._∷_ (
-  3,
-  Rows.sc-here (Row.sInt
-      Syntax.w64),
-) (List._∷_ (4, Rows.sc-here (Row.sInt Syntax.w64)) (List._∷_ (5, Rows.whole (Declared.row Call.the-type)) (List._∷_ (6, Rows.sc-here (Row.sInt Syntax.w32)) (List._∷_ (
-  7,
-  Rows.any-gone (Syntax.tyStruct (List._∷_ 98 (List._∷_ 105 (List._∷_ 116 (List._∷_ 115 (List._∷_ 58 (List._∷_ 58 (List._∷_ 66 (List._∷_ 105 (List._∷_ 116 (List._∷_ 80 (List._∷_ 111 (List._∷_ 115
-      (List._∷_ 105 (List._∷_ 116 (List._∷_ 105 (List._∷_ 111 (List._∷_ 110 List.[]))))))))))))))))) (Syntax.tcons (Syntax.tyInt Syntax.w64) Syntax.tnil)),
-) (List._∷_ (
-  8,
-  Rows.any-gone (Syntax.tyStruct
-      (List._∷_ 98 (List._∷_ 105 (List._∷_ 116 (List._∷_ 115 (List._∷_ 58 (List._∷_ 58 (List._∷_ 66 (List._∷_ 121 (List._∷_ 116 (List._∷_ 101 (List._∷_ 79 (List._∷_ 102 (List._∷_ 102 (List._∷_ 115 (List._∷_
-      101 (List._∷_ 116 List.[])))))))))))))))) (Syntax.tcons (Syntax.tyInt Syntax.w64) Syntax.tnil)),
-) (List._∷_ (9, Rows.any-gone Syntax.tyBool) (List._∷_ (
-  10,
-  Rows.any-gone (Syntax.tyRef Syntax.erased
-      Syntax.mut (Held.behind Syntax.erased)),
-) (List._∷_ (11, Rows.sref (Held.type (Syntax.named 1) List.[]) (Syntax.tyRef Syntax.erased Syntax.imm (Held.behind Syntax.erased)) 6) (List._∷_ (
-  12,
-  Rows.any-gone (Syntax.tyRef Syntax.erased Syntax.imm (Held.behind Syntax.erased)),
-) List.[]))))))))))))
+t12 = List._∷_ e0 (List._∷_ e2 (List._∷_ e15 (List._∷_ e17 (List._∷_ e19 (List._∷_ e21 (List._∷_ e23 (List._∷_ e24 (List._∷_ e26 (List._∷_ e28 (List._∷_ e8 (List._∷_ e11 (List._∷_ e13
+    List.[]))))))))))))
 
 abbrev pub t13 : List.List Row.Entry
-t13 = List._∷_ (0, Rows.any-gone (Syntax.tyInt Syntax.w64)) (List._∷_ (
-  1,
-  Reshare.mref-owedS (Held.type (Syntax.named 1) List.[]) (Syntax.tyRef (Syntax.named 0) Syntax.mut (Held.behind (Syntax.named
-      1))) 0 3 Row.off,
-) (List._∷_ (2, Rows.sslice (Referent.rtF (Referent.fInt Syntax.w8)) (Syntax.tyRef (Syntax.named 1) Syntax.imm (Syntax.tyInt Syntax.w8)) 1) (List._∷_ (
-  3,
-  Rows.sc-here (Row.sInt
-      Syntax.w64),
-) (List._∷_ (4, Rows.sc-here (Row.sInt Syntax.w64)) (List._∷_ (5, Rows.whole (Declared.row Call.the-type)) (List._∷_ (6, Rows.sc-here (Row.sInt Syntax.w32)) (List._∷_ (
-  7,
-  Rows.any-gone (Syntax.tyStruct (List._∷_ 98 (List._∷_ 105 (List._∷_ 116 (List._∷_ 115 (List._∷_ 58 (List._∷_ 58 (List._∷_ 66 (List._∷_ 105 (List._∷_ 116 (List._∷_ 80 (List._∷_ 111 (List._∷_ 115
-      (List._∷_ 105 (List._∷_ 116 (List._∷_ 105 (List._∷_ 111 (List._∷_ 110 List.[]))))))))))))))))) (Syntax.tcons (Syntax.tyInt Syntax.w64) Syntax.tnil)),
-) (List._∷_ (
-  8,
-  Rows.any-gone (Syntax.tyStruct
-      (List._∷_ 98 (List._∷_ 105 (List._∷_ 116 (List._∷_ 115 (List._∷_ 58 (List._∷_ 58 (List._∷_ 66 (List._∷_ 121 (List._∷_ 116 (List._∷_ 101 (List._∷_ 79 (List._∷_ 102 (List._∷_ 102 (List._∷_ 115 (List._∷_
-      101 (List._∷_ 116 List.[])))))))))))))))) (Syntax.tcons (Syntax.tyInt Syntax.w64) Syntax.tnil)),
-) (List._∷_ (9, Rows.any-gone Syntax.tyBool) (List._∷_ (
-  10,
-  Rows.any-gone (Syntax.tyRef Syntax.erased
-      Syntax.mut (Held.behind Syntax.erased)),
-) (List._∷_ (
-  11,
-  AtSlots.srefAt 2 (λ κc. Held.type (Syntax.named 1) (κc .1 .0)) Held.Value (λ κc v. v) (List._∷_ 6 (List._∷_ 1 List.[])) (Syntax.tyRef
-      Syntax.erased Syntax.imm (Held.behind Syntax.erased)) 6,
-) (List._∷_ (12, Rows.any-gone (Syntax.tyRef Syntax.erased Syntax.imm (Held.behind Syntax.erased))) List.[]))))))))))))
+t13 = List._∷_ e0 (List._∷_ e2 (List._∷_ e15 (List._∷_ e17 (List._∷_ e19 (List._∷_ e21 (List._∷_ e23 (List._∷_ e24 (List._∷_ e26 (List._∷_ e28 (List._∷_ e8 (List._∷_ e9 (List._∷_ e13
+    List.[]))))))))))))
 
 abbrev pub t14 : List.List Row.Entry
-t14 = List._∷_ (0, Rows.any-gone (Syntax.tyInt Syntax.w64)) (List._∷_ (
-  1,
-  Reshare.mref-owedS (Held.type (Syntax.named 1) List.[]) (Syntax.tyRef (Syntax.named 0) Syntax.mut (Held.behind (Syntax.named
-      1))) 0 3 Row.off,
-) (List._∷_ (2, Rows.sslice (Referent.rtF (Referent.fInt Syntax.w8)) (Syntax.tyRef (Syntax.named 1) Syntax.imm (Syntax.tyInt Syntax.w8)) 1) (List._∷_ (
-  3,
-  Rows.sc-here (Row.sInt
-      Syntax.w64),
-) (List._∷_ (4, Rows.sc-here (Row.sInt Syntax.w64)) (List._∷_ (5, Rows.whole (Declared.row Call.the-type)) (List._∷_ (6, Rows.sc-here (Row.sInt Syntax.w32)) (List._∷_ (
-  7,
-  Rows.whole
-      (Declared.row BitPosition.the-type),
-) (List._∷_ (
-  8,
-  Rows.any-gone (Syntax.tyStruct (List._∷_ 98 (List._∷_ 105 (List._∷_ 116 (List._∷_ 115 (List._∷_ 58 (List._∷_ 58 (List._∷_ 66 (List._∷_ 121 (List._∷_
-      116 (List._∷_ 101 (List._∷_ 79 (List._∷_ 102 (List._∷_ 102 (List._∷_ 115 (List._∷_ 101 (List._∷_ 116 List.[])))))))))))))))) (Syntax.tcons (Syntax.tyInt Syntax.w64) Syntax.tnil)),
-) (List._∷_ (
-  9,
-  Rows.any-gone Syntax.tyBool,
-) (List._∷_ (10, Rows.any-gone (Syntax.tyRef Syntax.erased Syntax.mut (Held.behind Syntax.erased))) (List._∷_ (
-  11,
-  AtSlots.srefAt 2 (λ κc. Held.type (Syntax.named 1) (κc
-      .1 .0)) Held.Value (λ κc v. v) (List._∷_ 6 (List._∷_ 1 List.[])) (Syntax.tyRef Syntax.erased Syntax.imm (Held.behind Syntax.erased)) 6,
-) (List._∷_ (
-  12,
-  Rows.any-gone (Syntax.tyRef Syntax.erased
-      Syntax.imm (Held.behind Syntax.erased)),
-) List.[]))))))))))))
+t14 = List._∷_ e0 (List._∷_ e2 (List._∷_ e15 (List._∷_ e17 (List._∷_ e19 (List._∷_ e21 (List._∷_ e23 (List._∷_ e25 (List._∷_ e26 (List._∷_ e28 (List._∷_ e8 (List._∷_ e9 (List._∷_ e13
+    List.[]))))))))))))
 
 abbrev pub t15 : List.List Row.Entry
-t15 = List._∷_ (0, Rows.any-gone (Syntax.tyInt Syntax.w64)) (List._∷_ (
-  1,
-  Reshare.mref-owedS (Held.type (Syntax.named 1) List.[]) (Syntax.tyRef (Syntax.named 0) Syntax.mut (Held.behind (Syntax.named
-      1))) 0 3 Row.off,
-) (List._∷_ (2, Rows.sslice (Referent.rtF (Referent.fInt Syntax.w8)) (Syntax.tyRef (Syntax.named 1) Syntax.imm (Syntax.tyInt Syntax.w8)) 1) (List._∷_ (
-  3,
-  Rows.sc-here (Row.sInt
-      Syntax.w64),
-) (List._∷_ (4, Rows.sc-here (Row.sInt Syntax.w64)) (List._∷_ (5, Rows.whole (Declared.row Call.the-type)) (List._∷_ (6, Rows.sc-here (Row.sInt Syntax.w32)) (List._∷_ (
-  7,
-  Rows.whole
-      (Declared.row BitPosition.the-type),
-) (List._∷_ (
-  8,
-  Rows.any-gone (Syntax.tyStruct (List._∷_ 98 (List._∷_ 105 (List._∷_ 116 (List._∷_ 115 (List._∷_ 58 (List._∷_ 58 (List._∷_ 66 (List._∷_ 121 (List._∷_
-      116 (List._∷_ 101 (List._∷_ 79 (List._∷_ 102 (List._∷_ 102 (List._∷_ 115 (List._∷_ 101 (List._∷_ 116 List.[])))))))))))))))) (Syntax.tcons (Syntax.tyInt Syntax.w64) Syntax.tnil)),
-) (List._∷_ (
-  9,
-  Rows.any-gone Syntax.tyBool,
-) (List._∷_ (10, Rows.any-gone (Syntax.tyRef Syntax.erased Syntax.mut (Held.behind Syntax.erased))) (List._∷_ (
-  11,
-  Rows.sref (Held.type (Syntax.named 1) List.[])
-      (Syntax.tyRef Syntax.erased Syntax.imm (Held.behind Syntax.erased)) 6,
-) (List._∷_ (12, Rows.any-gone (Syntax.tyRef Syntax.erased Syntax.imm (Held.behind Syntax.erased))) List.[]))))))))))))
+t15 = List._∷_ e0 (List._∷_ e2 (List._∷_ e15 (List._∷_ e17 (List._∷_ e19 (List._∷_ e21 (List._∷_ e23 (List._∷_ e25 (List._∷_ e26 (List._∷_ e28 (List._∷_ e8 (List._∷_ e11 (List._∷_ e13
+    List.[]))))))))))))
 
 abbrev pub t16 : List.List Row.Entry
-t16 = List._∷_ (0, Rows.any-gone (Syntax.tyInt Syntax.w64)) (List._∷_ (
-  1,
-  Reshare.mref-owedS (Held.type (Syntax.named 1) List.[]) (Syntax.tyRef (Syntax.named 0) Syntax.mut (Held.behind (Syntax.named
-      1))) 0 3 Row.off,
-) (List._∷_ (2, Rows.sslice (Referent.rtF (Referent.fInt Syntax.w8)) (Syntax.tyRef (Syntax.named 1) Syntax.imm (Syntax.tyInt Syntax.w8)) 1) (List._∷_ (
-  3,
-  Rows.sc-here (Row.sInt
-      Syntax.w64),
-) (List._∷_ (4, Rows.sc-here (Row.sInt Syntax.w64)) (List._∷_ (5, Rows.whole (Declared.row Call.the-type)) (List._∷_ (6, Rows.sc-here (Row.sInt Syntax.w32)) (List._∷_ (
-  7,
-  Rows.whole
-      (Declared.row BitPosition.the-type),
-) (List._∷_ (
-  8,
-  Rows.any-gone (Syntax.tyStruct (List._∷_ 98 (List._∷_ 105 (List._∷_ 116 (List._∷_ 115 (List._∷_ 58 (List._∷_ 58 (List._∷_ 66 (List._∷_ 121 (List._∷_
-      116 (List._∷_ 101 (List._∷_ 79 (List._∷_ 102 (List._∷_ 102 (List._∷_ 115 (List._∷_ 101 (List._∷_ 116 List.[])))))))))))))))) (Syntax.tcons (Syntax.tyInt Syntax.w64) Syntax.tnil)),
-) (List._∷_ (
-  9,
-  Rows.any-gone Syntax.tyBool,
-) (List._∷_ (10, Rows.any-gone (Syntax.tyRef Syntax.erased Syntax.mut (Held.behind Syntax.erased))) (List._∷_ (
-  11,
-  Rows.any-gone (Syntax.tyRef Syntax.erased Syntax.imm
-      (Held.behind Syntax.erased)),
-) (List._∷_ (12, Rows.any-gone (Syntax.tyRef Syntax.erased Syntax.imm (Held.behind Syntax.erased))) List.[]))))))))))))
+t16 = List._∷_ e0 (List._∷_ e2 (List._∷_ e15 (List._∷_ e17 (List._∷_ e19 (List._∷_ e21 (List._∷_ e23 (List._∷_ e25 (List._∷_ e26 (List._∷_ e28 (List._∷_ e8 (List._∷_ e10 (List._∷_ e13
+    List.[]))))))))))))
 
 abbrev pub t17 : List.List Row.Entry
-t17 = List._∷_ (0, Rows.any-gone (Syntax.tyInt Syntax.w64)) (List._∷_ (1, Rows.mref (Held.type (Syntax.named 1) List.[]) (Syntax.tyRef (Syntax.named 0) Syntax.mut (Held.behind (Syntax.named 1))) 0)
-    (List._∷_ (2, Rows.sslice (Referent.rtF (Referent.fInt Syntax.w8)) (Syntax.tyRef (Syntax.named 1) Syntax.imm (Syntax.tyInt Syntax.w8)) 1) (List._∷_ (3, Rows.sc-here (Row.sInt Syntax.w64)) (List._∷_
-    (4, Rows.sc-here (Row.sInt Syntax.w64)) (List._∷_ (5, Rows.whole (Declared.row Call.the-type)) (List._∷_ (6, Rows.sc-here (Row.sInt Syntax.w32)) (List._∷_ (
-      7,
-      Rows.whole (Declared.row
-          BitPosition.the-type),
-    ) (List._∷_ (
-      8,
-      Rows.any-gone (Syntax.tyStruct (List._∷_ 98 (List._∷_ 105 (List._∷_ 116 (List._∷_ 115 (List._∷_ 58 (List._∷_ 58 (List._∷_ 66 (List._∷_ 121 (List._∷_ 116 (List._∷_
-          101 (List._∷_ 79 (List._∷_ 102 (List._∷_ 102 (List._∷_ 115 (List._∷_ 101 (List._∷_ 116 List.[])))))))))))))))) (Syntax.tcons (Syntax.tyInt Syntax.w64) Syntax.tnil)),
-    ) (List._∷_ (
-      9,
-      Rows.any-gone
-          Syntax.tyBool,
-    ) (List._∷_ (10, Rows.any-gone (Syntax.tyRef Syntax.erased Syntax.mut (Held.behind Syntax.erased))) (List._∷_ (
-      11,
-      Rows.any-gone (Syntax.tyRef Syntax.erased Syntax.imm (Held.behind
-          Syntax.erased)),
-    ) (List._∷_ (12, Rows.any-gone (Syntax.tyRef Syntax.erased Syntax.imm (Held.behind Syntax.erased))) List.[]))))))))))))
+t17 = List._∷_ e0 (List._∷_ e4 (List._∷_ e15 (List._∷_ e17 (List._∷_ e19 (List._∷_ e21 (List._∷_ e23 (List._∷_ e25 (List._∷_ e26 (List._∷_ e28 (List._∷_ e8 (List._∷_ e10 (List._∷_ e13
+    List.[]))))))))))))
 
 abbrev pub t18 : List.List Row.Entry
-t18 = List._∷_ (0, Rows.any-gone (Syntax.tyInt Syntax.w64)) (List._∷_ (
-  1,
-  Reshare.mref-owedS (Held.type (Syntax.named 1) List.[]) (Syntax.tyRef (Syntax.named 0) Syntax.mut (Held.behind (Syntax.named
-      1))) 0 4 Row.off,
-) (List._∷_ (2, Rows.sslice (Referent.rtF (Referent.fInt Syntax.w8)) (Syntax.tyRef (Syntax.named 1) Syntax.imm (Syntax.tyInt Syntax.w8)) 1) (List._∷_ (
-  3,
-  Rows.sc-here (Row.sInt
-      Syntax.w64),
-) (List._∷_ (4, Rows.sc-here (Row.sInt Syntax.w64)) (List._∷_ (5, Rows.whole (Declared.row Call.the-type)) (List._∷_ (6, Rows.sc-here (Row.sInt Syntax.w32)) (List._∷_ (
-  7,
-  Rows.whole
-      (Declared.row BitPosition.the-type),
-) (List._∷_ (
-  8,
-  Rows.any-gone (Syntax.tyStruct (List._∷_ 98 (List._∷_ 105 (List._∷_ 116 (List._∷_ 115 (List._∷_ 58 (List._∷_ 58 (List._∷_ 66 (List._∷_ 121 (List._∷_
-      116 (List._∷_ 101 (List._∷_ 79 (List._∷_ 102 (List._∷_ 102 (List._∷_ 115 (List._∷_ 101 (List._∷_ 116 List.[])))))))))))))))) (Syntax.tcons (Syntax.tyInt Syntax.w64) Syntax.tnil)),
-) (List._∷_ (
-  9,
-  Rows.any-gone Syntax.tyBool,
-) (List._∷_ (10, Rows.any-gone (Syntax.tyRef Syntax.erased Syntax.mut (Held.behind Syntax.erased))) (List._∷_ (
-  11,
-  Rows.any-gone (Syntax.tyRef Syntax.erased Syntax.imm
-      (Held.behind Syntax.erased)),
-) (List._∷_ (12, Rows.sref (Held.type (Syntax.named 1) List.[]) (Syntax.tyRef Syntax.erased Syntax.imm (Held.behind Syntax.erased)) 4) List.[]))))))))))))
+t18 = List._∷_ e0 (List._∷_ e3 (List._∷_ e15 (List._∷_ e17 (List._∷_ e19 (List._∷_ e21 (List._∷_ e23 (List._∷_ e25 (List._∷_ e26 (List._∷_ e28 (List._∷_ e8 (List._∷_ e10 (List._∷_
+    (12, Rows.sref (Held.type (Syntax.named 1) List.[]) (Syntax.tyRef Syntax.erased Syntax.imm (Held.behind Syntax.erased)) 4) List.[]))))))))))))
 
 abbrev pub t19 : List.List Row.Entry
-t19 = List._∷_ (0, Rows.any-gone (Syntax.tyInt Syntax.w64)) (List._∷_ (
-  1,
-  Reshare.mref-owedS (Held.type (Syntax.named 1) List.[]) (Syntax.tyRef (Syntax.named 0) Syntax.mut (Held.behind (Syntax.named
-      1))) 0 4 Row.off,
-) (List._∷_ (2, Rows.sslice (Referent.rtF (Referent.fInt Syntax.w8)) (Syntax.tyRef (Syntax.named 1) Syntax.imm (Syntax.tyInt Syntax.w8)) 1) (List._∷_ (
-  3,
-  Rows.sc-here (Row.sInt
-      Syntax.w64),
-) (List._∷_ (4, Rows.sc-here (Row.sInt Syntax.w64)) (List._∷_ (5, Rows.whole (Declared.row Call.the-type)) (List._∷_ (6, Rows.sc-here (Row.sInt Syntax.w32)) (List._∷_ (
-  7,
-  Rows.whole
-      (Declared.row BitPosition.the-type),
-) (List._∷_ (
-  8,
-  Rows.any-gone (Syntax.tyStruct (List._∷_ 98 (List._∷_ 105 (List._∷_ 116 (List._∷_ 115 (List._∷_ 58 (List._∷_ 58 (List._∷_ 66 (List._∷_ 121 (List._∷_
-      116 (List._∷_ 101 (List._∷_ 79 (List._∷_ 102 (List._∷_ 102 (List._∷_ 115 (List._∷_ 101 (List._∷_ 116 List.[])))))))))))))))) (Syntax.tcons (Syntax.tyInt Syntax.w64) Syntax.tnil)),
-) (List._∷_ (
-  9,
-  Rows.any-gone Syntax.tyBool,
-) (List._∷_ (10, Rows.any-gone (Syntax.tyRef Syntax.erased Syntax.mut (Held.behind Syntax.erased))) (List._∷_ (
-  11,
-  Rows.any-gone (Syntax.tyRef Syntax.erased Syntax.imm
-      (Held.behind Syntax.erased)),
-) (List._∷_ (12, Rows.sref (Held.type (Syntax.named 1) List.[]) (Syntax.tyRef Syntax.erased Syntax.imm (Held.behind Syntax.erased)) 7) List.[]))))))))))))
+t19 = List._∷_ e0 (List._∷_ e3 (List._∷_ e15 (List._∷_ e17 (List._∷_ e19 (List._∷_ e21 (List._∷_ e23 (List._∷_ e25 (List._∷_ e26 (List._∷_ e28 (List._∷_ e8 (List._∷_ e10 (List._∷_ e14
+    List.[]))))))))))))
 
 abbrev pub t20 : List.List Row.Entry
-t20 = List._∷_ (0, Rows.any-gone (Syntax.tyInt Syntax.w64)) (List._∷_ (
-  1,
-  Reshare.mref-owedS (Held.type (Syntax.named 1) List.[]) (Syntax.tyRef (Syntax.named 0) Syntax.mut (Held.behind (Syntax.named
-      1))) 0 4 Row.off,
-) (List._∷_ (2, Rows.sslice (Referent.rtF (Referent.fInt Syntax.w8)) (Syntax.tyRef (Syntax.named 1) Syntax.imm (Syntax.tyInt Syntax.w8)) 1) (List._∷_ (
-  3,
-  Rows.sc-here (Row.sInt
-      Syntax.w64),
-) (List._∷_ (4, Rows.sc-here (Row.sInt Syntax.w64)) (List._∷_ (5, Rows.whole (Declared.row Call.the-type)) (List._∷_ (6, Rows.sc-here (Row.sInt Syntax.w32)) (List._∷_ (
-  7,
-  Rows.whole
-      (Declared.row BitPosition.the-type),
-) (List._∷_ (
-  8,
-  Rows.any-gone (Syntax.tyStruct (List._∷_ 98 (List._∷_ 105 (List._∷_ 116 (List._∷_ 115 (List._∷_ 58 (List._∷_ 58 (List._∷_ 66 (List._∷_ 121 (List._∷_
-      116 (List._∷_ 101 (List._∷_ 79 (List._∷_ 102 (List._∷_ 102 (List._∷_ 115 (List._∷_ 101 (List._∷_ 116 List.[])))))))))))))))) (Syntax.tcons (Syntax.tyInt Syntax.w64) Syntax.tnil)),
-) (List._∷_ (
-  9,
-  Rows.any-gone Syntax.tyBool,
-) (List._∷_ (10, Rows.any-gone (Syntax.tyRef Syntax.erased Syntax.mut (Held.behind Syntax.erased))) (List._∷_ (
-  11,
-  Rows.any-gone (Syntax.tyRef Syntax.erased Syntax.imm
-      (Held.behind Syntax.erased)),
-) (List._∷_ (
-  12,
-  AtSlots.srefAt 2 (λ κc. Held.type (Syntax.named 1) (κc .1 .0)) Held.Value (λ κc v. v) (List._∷_ 7 (List._∷_ 1 List.[])) (Syntax.tyRef Syntax.erased
-      Syntax.imm (Held.behind Syntax.erased)) 7,
-) List.[]))))))))))))
+t20 = List._∷_ e0 (List._∷_ e3 (List._∷_ e15 (List._∷_ e17 (List._∷_ e19 (List._∷_ e21 (List._∷_ e23 (List._∷_ e25 (List._∷_ e26 (List._∷_ e28 (List._∷_ e8 (List._∷_ e10 (List._∷_ e12
+    List.[]))))))))))))
 
 abbrev pub t21 : List.List Row.Entry
-t21 = List._∷_ (0, Rows.any-gone (Syntax.tyInt Syntax.w64)) (List._∷_ (
-  1,
-  Reshare.mref-owedS (Held.type (Syntax.named 1) List.[]) (Syntax.tyRef (Syntax.named 0) Syntax.mut (Held.behind (Syntax.named
-      1))) 0 4 Row.off,
-) (List._∷_ (2, Rows.sslice (Referent.rtF (Referent.fInt Syntax.w8)) (Syntax.tyRef (Syntax.named 1) Syntax.imm (Syntax.tyInt Syntax.w8)) 1) (List._∷_ (
-  3,
-  Rows.sc-here (Row.sInt
-      Syntax.w64),
-) (List._∷_ (4, Rows.sc-here (Row.sInt Syntax.w64)) (List._∷_ (5, Rows.whole (Declared.row Call.the-type)) (List._∷_ (6, Rows.sc-here (Row.sInt Syntax.w32)) (List._∷_ (
-  7,
-  Rows.whole
-      (Declared.row BitPosition.the-type),
-) (List._∷_ (8, Rows.whole (Declared.row ByteOffset.the-type)) (List._∷_ (9, Rows.any-gone Syntax.tyBool) (List._∷_ (
-  10,
-  Rows.any-gone (Syntax.tyRef
-      Syntax.erased Syntax.mut (Held.behind Syntax.erased)),
-) (List._∷_ (11, Rows.any-gone (Syntax.tyRef Syntax.erased Syntax.imm (Held.behind Syntax.erased))) (List._∷_ (
-  12,
-  AtSlots.srefAt 2 (λ κc.
-      Held.type (Syntax.named 1) (κc .1 .0)) Held.Value (λ κc v. v) (List._∷_ 7 (List._∷_ 1 List.[])) (Syntax.tyRef Syntax.erased Syntax.imm (Held.behind Syntax.erased)) 7,
-) List.[]))))))))))))
+t21 = List._∷_ e0 (List._∷_ e3 (List._∷_ e15 (List._∷_ e17 (List._∷_ e19 (List._∷_ e21 (List._∷_ e23 (List._∷_ e25 (List._∷_ e27 (List._∷_ e28 (List._∷_ e8 (List._∷_ e10 (List._∷_ e12
+    List.[]))))))))))))
 
 abbrev pub t22 : List.List Row.Entry
-t22 = List._∷_ (0, Rows.any-gone (Syntax.tyInt Syntax.w64)) (List._∷_ (
-  1,
-  Reshare.mref-owedS (Held.type (Syntax.named 1) List.[]) (Syntax.tyRef (Syntax.named 0) Syntax.mut (Held.behind (Syntax.named
-      1))) 0 4 Row.off,
-) (List._∷_ (2, Rows.sslice (Referent.rtF (Referent.fInt Syntax.w8)) (Syntax.tyRef (Syntax.named 1) Syntax.imm (Syntax.tyInt Syntax.w8)) 1) (List._∷_ (
-  3,
-  Rows.sc-here (Row.sInt
-      Syntax.w64),
-) (List._∷_ (4, Rows.sc-here (Row.sInt Syntax.w64)) (List._∷_ (5, Rows.whole (Declared.row Call.the-type)) (List._∷_ (6, Rows.sc-here (Row.sInt Syntax.w32)) (List._∷_ (
-  7,
-  Rows.whole
-      (Declared.row BitPosition.the-type),
-) (List._∷_ (8, Rows.whole (Declared.row ByteOffset.the-type)) (List._∷_ (9, Rows.any-gone Syntax.tyBool) (List._∷_ (
-  10,
-  Rows.any-gone (Syntax.tyRef
-      Syntax.erased Syntax.mut (Held.behind Syntax.erased)),
-) (List._∷_ (11, Rows.any-gone (Syntax.tyRef Syntax.erased Syntax.imm (Held.behind Syntax.erased))) (List._∷_ (
-  12,
-  Rows.sref (Held.type
-      (Syntax.named 1) List.[]) (Syntax.tyRef Syntax.erased Syntax.imm (Held.behind Syntax.erased)) 7,
-) List.[]))))))))))))
+t22 = List._∷_ e0 (List._∷_ e3 (List._∷_ e15 (List._∷_ e17 (List._∷_ e19 (List._∷_ e21 (List._∷_ e23 (List._∷_ e25 (List._∷_ e27 (List._∷_ e28 (List._∷_ e8 (List._∷_ e10 (List._∷_ e14
+    List.[]))))))))))))
 
 abbrev pub t23 : List.List Row.Entry
-t23 = List._∷_ (0, Rows.any-gone (Syntax.tyInt Syntax.w64)) (List._∷_ (
-  1,
-  Reshare.mref-owedS (Held.type (Syntax.named 1) List.[]) (Syntax.tyRef (Syntax.named 0) Syntax.mut (Held.behind (Syntax.named
-      1))) 0 4 Row.off,
-) (List._∷_ (2, Rows.sslice (Referent.rtF (Referent.fInt Syntax.w8)) (Syntax.tyRef (Syntax.named 1) Syntax.imm (Syntax.tyInt Syntax.w8)) 1) (List._∷_ (
-  3,
-  Rows.sc-here (Row.sInt
-      Syntax.w64),
-) (List._∷_ (4, Rows.sc-here (Row.sInt Syntax.w64)) (List._∷_ (5, Rows.whole (Declared.row Call.the-type)) (List._∷_ (6, Rows.sc-here (Row.sInt Syntax.w32)) (List._∷_ (
-  7,
-  Rows.whole
-      (Declared.row BitPosition.the-type),
-) (List._∷_ (8, Rows.whole (Declared.row ByteOffset.the-type)) (List._∷_ (9, Rows.any-gone Syntax.tyBool) (List._∷_ (
-  10,
-  Rows.any-gone (Syntax.tyRef
-      Syntax.erased Syntax.mut (Held.behind Syntax.erased)),
-) (List._∷_ (11, Rows.any-gone (Syntax.tyRef Syntax.erased Syntax.imm (Held.behind Syntax.erased))) (List._∷_ (
-  12,
-  Rows.any-gone
-      (Syntax.tyRef Syntax.erased Syntax.imm (Held.behind Syntax.erased)),
-) List.[]))))))))))))
+t23 = List._∷_ e0 (List._∷_ e3 (List._∷_ e15 (List._∷_ e17 (List._∷_ e19 (List._∷_ e21 (List._∷_ e23 (List._∷_ e25 (List._∷_ e27 (List._∷_ e28 (List._∷_ e8 (List._∷_ e10 (List._∷_ e13
+    List.[]))))))))))))
 
 abbrev pub t24 : List.List Row.Entry
-t24 = List._∷_ (0, Rows.any-gone (Syntax.tyInt Syntax.w64)) (List._∷_ (1, Rows.mref (Held.type (Syntax.named 1) List.[]) (Syntax.tyRef (Syntax.named 0) Syntax.mut (Held.behind (Syntax.named 1))) 0)
-    (List._∷_ (2, Rows.sslice (Referent.rtF (Referent.fInt Syntax.w8)) (Syntax.tyRef (Syntax.named 1) Syntax.imm (Syntax.tyInt Syntax.w8)) 1) (List._∷_ (3, Rows.sc-here (Row.sInt Syntax.w64)) (List._∷_
-    (4, Rows.sc-here (Row.sInt Syntax.w64)) (List._∷_ (5, Rows.whole (Declared.row Call.the-type)) (List._∷_ (6, Rows.sc-here (Row.sInt Syntax.w32)) (List._∷_ (
-      7,
-      Rows.whole (Declared.row
-          BitPosition.the-type),
-    ) (List._∷_ (8, Rows.whole (Declared.row ByteOffset.the-type)) (List._∷_ (9, Rows.any-gone Syntax.tyBool) (List._∷_ (
-      10,
-      Rows.any-gone (Syntax.tyRef Syntax.erased Syntax.mut
-          (Held.behind Syntax.erased)),
-    ) (List._∷_ (11, Rows.any-gone (Syntax.tyRef Syntax.erased Syntax.imm (Held.behind Syntax.erased))) (List._∷_ (
-      12,
-      Rows.any-gone (Syntax.tyRef Syntax.erased
-          Syntax.imm (Held.behind Syntax.erased)),
-    ) List.[]))))))))))))
+t24 = List._∷_ e0 (List._∷_ e4 (List._∷_ e15 (List._∷_ e17 (List._∷_ e19 (List._∷_ e21 (List._∷_ e23 (List._∷_ e25 (List._∷_ e27 (List._∷_ e28 (List._∷_ e8 (List._∷_ e10 (List._∷_ e13
+    List.[]))))))))))))
 
 abbrev pub t25 : List.List Row.Entry
-t25 = List._∷_ (0, Rows.any-gone (Syntax.tyInt Syntax.w64)) (List._∷_ (1, Rows.mref (Held.type (Syntax.named 1) List.[]) (Syntax.tyRef (Syntax.named 0) Syntax.mut (Held.behind (Syntax.named 1))) 0)
-    (List._∷_ (2, Rows.sslice (Referent.rtF (Referent.fInt Syntax.w8)) (Syntax.tyRef (Syntax.named 1) Syntax.imm (Syntax.tyInt Syntax.w8)) 1) (List._∷_ (3, Rows.sc-here (Row.sInt Syntax.w64)) (List._∷_
-    (4, Rows.sc-here (Row.sInt Syntax.w64)) (List._∷_ (5, Rows.whole (Declared.row Call.the-type)) (List._∷_ (6, Rows.sc-here (Row.sInt Syntax.w32)) (List._∷_ (
-      7,
-      Rows.whole (Declared.row
-          BitPosition.the-type),
-    ) (List._∷_ (8, Rows.whole (Declared.row ByteOffset.the-type)) (List._∷_ (9, Rows.sc-here Row.sBool) (List._∷_ (
-      10,
-      Rows.any-gone (Syntax.tyRef Syntax.erased Syntax.mut
-          (Held.behind Syntax.erased)),
-    ) (List._∷_ (11, Rows.any-gone (Syntax.tyRef Syntax.erased Syntax.imm (Held.behind Syntax.erased))) (List._∷_ (
-      12,
-      Rows.any-gone (Syntax.tyRef Syntax.erased
-          Syntax.imm (Held.behind Syntax.erased)),
-    ) List.[]))))))))))))
+t25 = List._∷_ e0 (List._∷_ e4 (List._∷_ e15 (List._∷_ e17 (List._∷_ e19 (List._∷_ e21 (List._∷_ e23 (List._∷_ e25 (List._∷_ e27 (List._∷_ e29 (List._∷_ e8 (List._∷_ e10 (List._∷_ e13
+    List.[]))))))))))))
 
 abbrev pub t26 : List.List Row.Entry
-t26 = List._∷_ (0, Rows.any-gone (Syntax.tyInt Syntax.w64)) (List._∷_ (1, Rows.mref (Held.type (Syntax.named 1) List.[]) (Syntax.tyRef (Syntax.named 0) Syntax.mut (Held.behind (Syntax.named 1))) 0)
-    (List._∷_ (2, Rows.sslice (Referent.rtF (Referent.fInt Syntax.w8)) (Syntax.tyRef (Syntax.named 1) Syntax.imm (Syntax.tyInt Syntax.w8)) 1) (List._∷_ (3, Rows.sc-here (Row.sInt Syntax.w64)) (List._∷_
-    (4, Rows.sc-here (Row.sInt Syntax.w64)) (List._∷_ (
-      5,
-      Rows.any-gone (Syntax.tyStruct (List._∷_ 112 (List._∷_ 117 (List._∷_ 109 (List._∷_ 112 (List._∷_ 95 (List._∷_ 97 (List._∷_ 110 (List._∷_ 115
-          (List._∷_ 119 (List._∷_ 101 (List._∷_ 114 (List._∷_ 115 (List._∷_ 58 (List._∷_ 58 (List._∷_ 67 (List._∷_ 97 (List._∷_ 108 (List._∷_ 108 List.[])))))))))))))))))) (Syntax.tcons (Syntax.tyInt
-          Syntax.w32) (Syntax.tcons (Syntax.tyInt Syntax.w32) (Syntax.tcons (Syntax.tyInt Syntax.w32) (Syntax.tcons (Syntax.tyInt Syntax.w32) (Syntax.tcons (Syntax.tyInt Syntax.w32) Syntax.tnil)))))),
-    )
-    (List._∷_ (6, Rows.sc-here (Row.sInt Syntax.w32)) (List._∷_ (7, Rows.whole (Declared.row BitPosition.the-type)) (List._∷_ (8, Rows.whole (Declared.row ByteOffset.the-type)) (List._∷_ (
-      9,
-      Rows.sc-here Row.sBool,
-    ) (List._∷_ (10, Rows.any-gone (Syntax.tyRef Syntax.erased Syntax.mut (Held.behind Syntax.erased))) (List._∷_ (
-      11,
-      Rows.any-gone (Syntax.tyRef Syntax.erased Syntax.imm
-          (Held.behind Syntax.erased)),
-    ) (List._∷_ (12, Rows.any-gone (Syntax.tyRef Syntax.erased Syntax.imm (Held.behind Syntax.erased))) List.[]))))))))))))
+t26 = List._∷_ e0 (List._∷_ e4 (List._∷_ e15 (List._∷_ e17 (List._∷_ e19 (List._∷_ e20 (List._∷_ e23 (List._∷_ e25 (List._∷_ e27 (List._∷_ e29 (List._∷_ e8 (List._∷_ e10 (List._∷_ e13
+    List.[]))))))))))))
 
 abbrev pub t27 : List.List Row.Entry
-t27 = List._∷_ (0, Rows.any-gone (Syntax.tyInt Syntax.w64)) (List._∷_ (1, Rows.mref (Held.type (Syntax.named 1) List.[]) (Syntax.tyRef (Syntax.named 0) Syntax.mut (Held.behind (Syntax.named 1))) 0)
-    (List._∷_ (2, Rows.sslice (Referent.rtF (Referent.fInt Syntax.w8)) (Syntax.tyRef (Syntax.named 1) Syntax.imm (Syntax.tyInt Syntax.w8)) 1) (List._∷_ (3, Rows.sc-here (Row.sInt Syntax.w64)) (List._∷_
-    (4, Rows.sc-here (Row.sInt Syntax.w64)) (List._∷_ (
-      5,
-      Rows.any-gone (Syntax.tyStruct (List._∷_ 112 (List._∷_ 117 (List._∷_ 109 (List._∷_ 112 (List._∷_ 95 (List._∷_ 97 (List._∷_ 110 (List._∷_ 115
-          (List._∷_ 119 (List._∷_ 101 (List._∷_ 114 (List._∷_ 115 (List._∷_ 58 (List._∷_ 58 (List._∷_ 67 (List._∷_ 97 (List._∷_ 108 (List._∷_ 108 List.[])))))))))))))))))) (Syntax.tcons (Syntax.tyInt
-          Syntax.w32) (Syntax.tcons (Syntax.tyInt Syntax.w32) (Syntax.tcons (Syntax.tyInt Syntax.w32) (Syntax.tcons (Syntax.tyInt Syntax.w32) (Syntax.tcons (Syntax.tyInt Syntax.w32) Syntax.tnil)))))),
-    )
-    (List._∷_ (6, Rows.sc-here (Row.sInt Syntax.w32)) (List._∷_ (
-      7,
-      Rows.any-gone (Syntax.tyStruct (List._∷_ 98 (List._∷_ 105 (List._∷_ 116 (List._∷_ 115 (List._∷_ 58 (List._∷_ 58 (List._∷_ 66 (List._∷_
-          105 (List._∷_ 116 (List._∷_ 80 (List._∷_ 111 (List._∷_ 115 (List._∷_ 105 (List._∷_ 116 (List._∷_ 105 (List._∷_ 111 (List._∷_ 110 List.[]))))))))))))))))) (Syntax.tcons (Syntax.tyInt Syntax.w64)
-          Syntax.tnil)),
-    ) (List._∷_ (8, Rows.whole (Declared.row ByteOffset.the-type)) (List._∷_ (9, Rows.sc-here Row.sBool) (List._∷_ (
-      10,
-      Rows.any-gone (Syntax.tyRef Syntax.erased Syntax.mut (Held.behind
-          Syntax.erased)),
-    ) (List._∷_ (11, Rows.any-gone (Syntax.tyRef Syntax.erased Syntax.imm (Held.behind Syntax.erased))) (List._∷_ (
-      12,
-      Rows.any-gone (Syntax.tyRef Syntax.erased Syntax.imm
-          (Held.behind Syntax.erased)),
-    ) List.[]))))))))))))
+t27 = List._∷_ e0 (List._∷_ e4 (List._∷_ e15 (List._∷_ e17 (List._∷_ e19 (List._∷_ e20 (List._∷_ e23 (List._∷_ e24 (List._∷_ e27 (List._∷_ e29 (List._∷_ e8 (List._∷_ e10 (List._∷_ e13
+    List.[]))))))))))))
 
 abbrev pub t28 : List.List Row.Entry
-t28 = List._∷_ (0, Rows.any-gone (Syntax.tyInt Syntax.w64)) (List._∷_ (1, Rows.mref (Held.type (Syntax.named 1) List.[]) (Syntax.tyRef (Syntax.named 0) Syntax.mut (Held.behind (Syntax.named 1))) 0)
-    (List._∷_ (2, Rows.sslice (Referent.rtF (Referent.fInt Syntax.w8)) (Syntax.tyRef (Syntax.named 1) Syntax.imm (Syntax.tyInt Syntax.w8)) 1) (List._∷_ (3, Rows.sc-here (Row.sInt Syntax.w64)) (List._∷_
-    (4, Rows.sc-here (Row.sInt Syntax.w64)) (List._∷_ (
-      5,
-      Rows.any-gone (Syntax.tyStruct (List._∷_ 112 (List._∷_ 117 (List._∷_ 109 (List._∷_ 112 (List._∷_ 95 (List._∷_ 97 (List._∷_ 110 (List._∷_ 115
-          (List._∷_ 119 (List._∷_ 101 (List._∷_ 114 (List._∷_ 115 (List._∷_ 58 (List._∷_ 58 (List._∷_ 67 (List._∷_ 97 (List._∷_ 108 (List._∷_ 108 List.[])))))))))))))))))) (Syntax.tcons (Syntax.tyInt
-          Syntax.w32) (Syntax.tcons (Syntax.tyInt Syntax.w32) (Syntax.tcons (Syntax.tyInt Syntax.w32) (Syntax.tcons (Syntax.tyInt Syntax.w32) (Syntax.tcons (Syntax.tyInt Syntax.w32) Syntax.tnil)))))),
-    )
-    (List._∷_ (6, Rows.sc-here (Row.sInt Syntax.w32)) (List._∷_ (
-      7,
-      Rows.any-gone (Syntax.tyStruct (List._∷_ 98 (List._∷_ 105 (List._∷_ 116 (List._∷_ 115 (List._∷_ 58 (List._∷_ 58 (List._∷_ 66 (List._∷_
-          105 (List._∷_ 116 (List._∷_ 80 (List._∷_ 111 (List._∷_ 115 (List._∷_ 105 (List._∷_ 116 (List._∷_ 105 (List._∷_ 111 (List._∷_ 110 List.[]))))))))))))))))) (Syntax.tcons (Syntax.tyInt Syntax.w64)
-          Syntax.tnil)),
-    ) (List._∷_ (
-      8,
-      Rows.any-gone (Syntax.tyStruct (List._∷_ 98 (List._∷_ 105 (List._∷_ 116 (List._∷_ 115 (List._∷_ 58 (List._∷_ 58 (List._∷_ 66 (List._∷_ 121 (List._∷_ 116 (List._∷_ 101
-          (List._∷_ 79 (List._∷_ 102 (List._∷_ 102 (List._∷_ 115 (List._∷_ 101 (List._∷_ 116 List.[])))))))))))))))) (Syntax.tcons (Syntax.tyInt Syntax.w64) Syntax.tnil)),
-    ) (List._∷_ (
-      9,
-      Rows.sc-here
-          Row.sBool,
-    ) (List._∷_ (10, Rows.any-gone (Syntax.tyRef Syntax.erased Syntax.mut (Held.behind Syntax.erased))) (List._∷_ (
-      11,
-      Rows.any-gone (Syntax.tyRef Syntax.erased Syntax.imm (Held.behind
-          Syntax.erased)),
-    ) (List._∷_ (12, Rows.any-gone (Syntax.tyRef Syntax.erased Syntax.imm (Held.behind Syntax.erased))) List.[]))))))))))))
+t28 = List._∷_ e0 (List._∷_ e4 (List._∷_ e15 (List._∷_ e17 (List._∷_ e19 (List._∷_ e20 (List._∷_ e23 (List._∷_ e24 (List._∷_ e26 (List._∷_ e29 (List._∷_ e8 (List._∷_ e10 (List._∷_ e13
+    List.[]))))))))))))
 
 abbrev pub t29 : List.List Row.Entry
-t29 = List._∷_ (0, Rows.any-gone (Syntax.tyInt Syntax.w64)) (List._∷_ (1, Rows.mref (Held.type (Syntax.named 1) List.[]) (Syntax.tyRef (Syntax.named 0) Syntax.mut (Held.behind (Syntax.named 1))) 0)
-    (List._∷_ (2, Rows.sslice (Referent.rtF (Referent.fInt Syntax.w8)) (Syntax.tyRef (Syntax.named 1) Syntax.imm (Syntax.tyInt Syntax.w8)) 1) (List._∷_ (3, Rows.sc-here (Row.sInt Syntax.w64)) (List._∷_
-    (4, Rows.sc-here (Row.sInt Syntax.w64)) (List._∷_ (
-      5,
-      Rows.any-gone (Syntax.tyStruct (List._∷_ 112 (List._∷_ 117 (List._∷_ 109 (List._∷_ 112 (List._∷_ 95 (List._∷_ 97 (List._∷_ 110 (List._∷_ 115
-          (List._∷_ 119 (List._∷_ 101 (List._∷_ 114 (List._∷_ 115 (List._∷_ 58 (List._∷_ 58 (List._∷_ 67 (List._∷_ 97 (List._∷_ 108 (List._∷_ 108 List.[])))))))))))))))))) (Syntax.tcons (Syntax.tyInt
-          Syntax.w32) (Syntax.tcons (Syntax.tyInt Syntax.w32) (Syntax.tcons (Syntax.tyInt Syntax.w32) (Syntax.tcons (Syntax.tyInt Syntax.w32) (Syntax.tcons (Syntax.tyInt Syntax.w32) Syntax.tnil)))))),
-    )
-    (List._∷_ (6, Rows.sc-here (Row.sInt Syntax.w32)) (List._∷_ (
-      7,
-      Rows.any-gone (Syntax.tyStruct (List._∷_ 98 (List._∷_ 105 (List._∷_ 116 (List._∷_ 115 (List._∷_ 58 (List._∷_ 58 (List._∷_ 66 (List._∷_
-          105 (List._∷_ 116 (List._∷_ 80 (List._∷_ 111 (List._∷_ 115 (List._∷_ 105 (List._∷_ 116 (List._∷_ 105 (List._∷_ 111 (List._∷_ 110 List.[]))))))))))))))))) (Syntax.tcons (Syntax.tyInt Syntax.w64)
-          Syntax.tnil)),
-    ) (List._∷_ (
-      8,
-      Rows.any-gone (Syntax.tyStruct (List._∷_ 98 (List._∷_ 105 (List._∷_ 116 (List._∷_ 115 (List._∷_ 58 (List._∷_ 58 (List._∷_ 66 (List._∷_ 121 (List._∷_ 116 (List._∷_ 101
-          (List._∷_ 79 (List._∷_ 102 (List._∷_ 102 (List._∷_ 115 (List._∷_ 101 (List._∷_ 116 List.[])))))))))))))))) (Syntax.tcons (Syntax.tyInt Syntax.w64) Syntax.tnil)),
-    ) (List._∷_ (
-      9,
-      Rows.any-gone
-          Syntax.tyBool,
-    ) (List._∷_ (10, Rows.any-gone (Syntax.tyRef Syntax.erased Syntax.mut (Held.behind Syntax.erased))) (List._∷_ (
-      11,
-      Rows.any-gone (Syntax.tyRef Syntax.erased Syntax.imm (Held.behind
-          Syntax.erased)),
-    ) (List._∷_ (12, Rows.any-gone (Syntax.tyRef Syntax.erased Syntax.imm (Held.behind Syntax.erased))) List.[]))))))))))))
+t29 = List._∷_ e0 (List._∷_ e4 (List._∷_ e15 (List._∷_ e17 (List._∷_ e19 (List._∷_ e20 (List._∷_ e23 (List._∷_ e24 (List._∷_ e26 (List._∷_ e28 (List._∷_ e8 (List._∷_ e10 (List._∷_ e13
+    List.[]))))))))))))
 
 abbrev pub t30 : List.List Row.Entry
-t30 = List._∷_ (0, Rows.sc-here (Row.sInt Syntax.w64)) (List._∷_ (1, Rows.mref (Held.type (Syntax.named 1) List.[]) (Syntax.tyRef (Syntax.named 0) Syntax.mut (Held.behind (Syntax.named 1))) 0)
-    (List._∷_ (2, Rows.sslice (Referent.rtF (Referent.fInt Syntax.w8)) (Syntax.tyRef (Syntax.named 1) Syntax.imm (Syntax.tyInt Syntax.w8)) 1) (List._∷_ (3, Rows.sc-here (Row.sInt Syntax.w64)) (List._∷_
-    (4, Rows.sc-here (Row.sInt Syntax.w64)) (List._∷_ (
-      5,
-      Rows.any-gone (Syntax.tyStruct (List._∷_ 112 (List._∷_ 117 (List._∷_ 109 (List._∷_ 112 (List._∷_ 95 (List._∷_ 97 (List._∷_ 110 (List._∷_ 115
-          (List._∷_ 119 (List._∷_ 101 (List._∷_ 114 (List._∷_ 115 (List._∷_ 58 (List._∷_ 58 (List._∷_ 67 (List._∷_ 97 (List._∷_ 108 (List._∷_ 108 List.[])))))))))))))))))) (Syntax.tcons (Syntax.tyInt
-          Syntax.w32) (Syntax.tcons (Syntax.tyInt Syntax.w32) (Syntax.tcons (Syntax.tyInt Syntax.w32) (Syntax.tcons (Syntax.tyInt Syntax.w32) (Syntax.tcons (Syntax.tyInt Syntax.w32) Syntax.tnil)))))),
-    )
-    (List._∷_ (6, Rows.any-gone (Syntax.tyInt Syntax.w32)) (List._∷_ (
-      7,
-      Rows.any-gone (Syntax.tyStruct (List._∷_ 98 (List._∷_ 105 (List._∷_ 116 (List._∷_ 115 (List._∷_ 58 (List._∷_ 58 (List._∷_ 66
-          (List._∷_ 105 (List._∷_ 116 (List._∷_ 80 (List._∷_ 111 (List._∷_ 115 (List._∷_ 105 (List._∷_ 116 (List._∷_ 105 (List._∷_ 111 (List._∷_ 110 List.[]))))))))))))))))) (Syntax.tcons (Syntax.tyInt
-          Syntax.w64) Syntax.tnil)),
-    ) (List._∷_ (
-      8,
-      Rows.any-gone (Syntax.tyStruct (List._∷_ 98 (List._∷_ 105 (List._∷_ 116 (List._∷_ 115 (List._∷_ 58 (List._∷_ 58 (List._∷_ 66 (List._∷_ 121 (List._∷_ 116
-          (List._∷_ 101 (List._∷_ 79 (List._∷_ 102 (List._∷_ 102 (List._∷_ 115 (List._∷_ 101 (List._∷_ 116 List.[])))))))))))))))) (Syntax.tcons (Syntax.tyInt Syntax.w64) Syntax.tnil)),
-    ) (List._∷_ (
-      9,
-      Rows.any-gone Syntax.tyBool,
-    ) (List._∷_ (10, Rows.any-gone (Syntax.tyRef Syntax.erased Syntax.mut (Held.behind Syntax.erased))) (List._∷_ (
-      11,
-      Rows.any-gone (Syntax.tyRef Syntax.erased Syntax.imm
-          (Held.behind Syntax.erased)),
-    ) (List._∷_ (12, Rows.any-gone (Syntax.tyRef Syntax.erased Syntax.imm (Held.behind Syntax.erased))) List.[]))))))))))))
+t30 = List._∷_ e1 (List._∷_ e4 (List._∷_ e15 (List._∷_ e17 (List._∷_ e19 (List._∷_ e20 (List._∷_ e22 (List._∷_ e24 (List._∷_ e26 (List._∷_ e28 (List._∷_ e8 (List._∷_ e10 (List._∷_ e13
+    List.[]))))))))))))
 
 abbrev pub t31 : List.List Row.Entry
-t31 = List._∷_ (0, Rows.sc-here (Row.sInt Syntax.w64)) (List._∷_ (1, Rows.mref (Held.type (Syntax.named 1) List.[]) (Syntax.tyRef (Syntax.named 0) Syntax.mut (Held.behind (Syntax.named 1))) 0)
-    (List._∷_ (2, Rows.sslice (Referent.rtF (Referent.fInt Syntax.w8)) (Syntax.tyRef (Syntax.named 1) Syntax.imm (Syntax.tyInt Syntax.w8)) 1) (List._∷_ (3, Rows.any-gone (Syntax.tyInt Syntax.w64))
-    (List._∷_ (4, Rows.sc-here (Row.sInt Syntax.w64)) (List._∷_ (
-      5,
-      Rows.any-gone (Syntax.tyStruct (List._∷_ 112 (List._∷_ 117 (List._∷_ 109 (List._∷_ 112 (List._∷_ 95 (List._∷_ 97 (List._∷_ 110
-          (List._∷_ 115 (List._∷_ 119 (List._∷_ 101 (List._∷_ 114 (List._∷_ 115 (List._∷_ 58 (List._∷_ 58 (List._∷_ 67 (List._∷_ 97 (List._∷_ 108 (List._∷_ 108 List.[])))))))))))))))))) (Syntax.tcons
-          (Syntax.tyInt Syntax.w32) (Syntax.tcons (Syntax.tyInt Syntax.w32) (Syntax.tcons (Syntax.tyInt Syntax.w32) (Syntax.tcons (Syntax.tyInt Syntax.w32) (Syntax.tcons (Syntax.tyInt Syntax.w32)
-          Syntax.tnil)))))),
-    ) (List._∷_ (6, Rows.any-gone (Syntax.tyInt Syntax.w32)) (List._∷_ (
-      7,
-      Rows.any-gone (Syntax.tyStruct (List._∷_ 98 (List._∷_ 105 (List._∷_ 116 (List._∷_ 115 (List._∷_ 58 (List._∷_
-          58 (List._∷_ 66 (List._∷_ 105 (List._∷_ 116 (List._∷_ 80 (List._∷_ 111 (List._∷_ 115 (List._∷_ 105 (List._∷_ 116 (List._∷_ 105 (List._∷_ 111 (List._∷_ 110 List.[]))))))))))))))))) (Syntax.tcons
-          (Syntax.tyInt Syntax.w64) Syntax.tnil)),
-    ) (List._∷_ (
-      8,
-      Rows.any-gone (Syntax.tyStruct (List._∷_ 98 (List._∷_ 105 (List._∷_ 116 (List._∷_ 115 (List._∷_ 58 (List._∷_ 58 (List._∷_ 66 (List._∷_ 121
-          (List._∷_ 116 (List._∷_ 101 (List._∷_ 79 (List._∷_ 102 (List._∷_ 102 (List._∷_ 115 (List._∷_ 101 (List._∷_ 116 List.[])))))))))))))))) (Syntax.tcons (Syntax.tyInt Syntax.w64) Syntax.tnil)),
-    )
-    (List._∷_ (9, Rows.any-gone Syntax.tyBool) (List._∷_ (10, Rows.any-gone (Syntax.tyRef Syntax.erased Syntax.mut (Held.behind Syntax.erased))) (List._∷_ (
-      11,
-      Rows.any-gone (Syntax.tyRef
-          Syntax.erased Syntax.imm (Held.behind Syntax.erased)),
-    ) (List._∷_ (12, Rows.any-gone (Syntax.tyRef Syntax.erased Syntax.imm (Held.behind Syntax.erased))) List.[]))))))))))))
+t31 = List._∷_ e1 (List._∷_ e4 (List._∷_ e15 (List._∷_ e16 (List._∷_ e19 (List._∷_ e20 (List._∷_ e22 (List._∷_ e24 (List._∷_ e26 (List._∷_ e28 (List._∷_ e8 (List._∷_ e10 (List._∷_ e13
+    List.[]))))))))))))
 
 abbrev pub T0 : Row.Cx
 T0 = record { locals = t0; slots = List.[] }
@@ -1328,10 +735,8 @@ module _ (claims· : Claims) where
   s5 = Scalar.n-room T6 9 Syntax.tyBool
 
   abbrev s6 : Typed.Both T7 T10
-  s6 = Call'.callB ps·0 r·0 (claims· .0) (claims· .1) T7 (record { pos = 2; ty = Syntax.tyRef (Syntax.named 1) Syntax.imm (Syntax.tyInt Syntax.w8); ref = λ x. x }, (Num.vAt 4 λ x. x, tt)) 5
-      (List._∷_ 1 List.[]) (Syntax.tyStruct (List._∷_ 112 (List._∷_ 117 (List._∷_ 109 (List._∷_ 112 (List._∷_ 95 (List._∷_ 97 (List._∷_ 110 (List._∷_ 115 (List._∷_ 119 (List._∷_ 101 (List._∷_ 114
-      (List._∷_ 115 (List._∷_ 58 (List._∷_ 58 (List._∷_ 67 (List._∷_ 97 (List._∷_ 108 (List._∷_ 108 List.[])))))))))))))))))) (Syntax.tcons (Syntax.tyInt Syntax.w32) (Syntax.tcons (Syntax.tyInt
-      Syntax.w32) (Syntax.tcons (Syntax.tyInt Syntax.w32) (Syntax.tcons (Syntax.tyInt Syntax.w32) (Syntax.tcons (Syntax.tyInt Syntax.w32) Syntax.tnil))))))
+  s6 = Call'.callB ps·0 r·0 (claims· .0) (claims· .1) T7 (record { pos = 2; ty = Syntax.tyRef (Syntax.named 1) Syntax.imm (Syntax.tyInt Syntax.w8); ref = λ x. x }, (Num.vAt 4 λ x. x, tt)) 5 (List._∷_
+      1 List.[]) y0
 
   abbrev s8 : Typed.Gives T10 T12
   s8 = Reborrow.k-mref-relend T10 1 10 0 2 (Held.type (Syntax.named 1) List.[]) (Syntax.tyRef (Syntax.named 0) Syntax.mut (Held.behind (Syntax.named 1))) (Syntax.tyRef Syntax.erased Syntax.mut
@@ -1346,16 +751,10 @@ module _ (claims· : Claims) where
 
   abbrev s14 : Typed.Both T17 T18
   s14 = Call'.callB ps·1 r·1 (claims· .2) (claims· .3) T17 (
-    record {
-      pos = 10;
-      ty = Syntax.tyRef Syntax.erased Syntax.mut (Held.behind Syntax.erased);
-      βs = List._∷_ 5 (List._∷_ 1 List.[]);
-      ref = λ x.
-          x;
-    },
+    record { pos = 10; ty = Syntax.tyRef Syntax.erased Syntax.mut (Held.behind Syntax.erased); βs = List._∷_ 5 (List._∷_ 1 List.[]); ref = λ x. x },
     (Num.vFld 5 (List._∷_ (Syntax.field 0) List.[]) 0 λ x. Call.struct .as-values x .0, (Num.vFld 5 (List._∷_ (Syntax.field 1) List.[]) 4 λ x. Call.struct .as-values x .1 .0, tt)),
-  ) 6
-      (List._∷_ 5 (List._∷_ 1 List.[])) (Syntax.tyInt Syntax.w32)
+  ) 6 (List._∷_ 5
+      (List._∷_ 1 List.[])) (Syntax.tyInt Syntax.w32)
 
   abbrev s20 : Typed.Asks T18 T24
   s20 = Reborrow.k-back-mref T18 10 1 0 (Held.type (Syntax.named 1) List.[]) (Syntax.tyRef (Syntax.named 0) Syntax.mut (Held.behind (Syntax.named 1))) (Syntax.tyRef Syntax.erased Syntax.mut
@@ -1373,25 +772,12 @@ module _ (claims· : Claims) where
       (Held.behind Syntax.erased)) 6) λ x. record { ptr = x .ptr; name = x .name; now = x .now }
 
   abbrev s29 : Typed.Both T32 T33
-  s29 = Call'.callB ps·2 r·2 (claims· .4) (claims· .5) T32 (
-    record {
-      pos = 11;
-      ty = Syntax.tyRef Syntax.erased Syntax.imm (Held.behind Syntax.erased);
-      βs = List._∷_ 6 (List._∷_ 1 List.[]);
-      ref = λ x.
-          x;
-    },
-    tt,
-  ) 7 (List._∷_ 6 (List._∷_ 1 List.[])) (Syntax.tyStruct (List._∷_ 98 (List._∷_ 105 (List._∷_ 116 (List._∷_ 115 (List._∷_ 58 (List._∷_ 58 (List._∷_ 66 (List._∷_ 105 (List._∷_ 116 (List._∷_
-      80 (List._∷_ 111 (List._∷_ 115 (List._∷_ 105 (List._∷_ 116 (List._∷_ 105 (List._∷_ 111 (List._∷_ 110 List.[]))))))))))))))))) (Syntax.tcons (Syntax.tyInt Syntax.w64) Syntax.tnil))
+  s29 = Call'.callB ps·2 r·2 (claims· .4) (claims· .5) T32
+      (record { pos = 11; ty = Syntax.tyRef Syntax.erased Syntax.imm (Held.behind Syntax.erased); βs = List._∷_ 6 (List._∷_ 1 List.[]); ref = λ x. x }, tt) 7 (List._∷_ 6 (List._∷_ 1 List.[])) y1
 
   abbrev s30 : Typed.Mo T33 → Typed.Mo T34
-  s30 = AtSlots.n-as-by T33 11 (Rows.sref (Held.type (Syntax.named 1) List.[]) (Syntax.tyRef Syntax.erased Syntax.imm (Held.behind Syntax.erased)) 6) λ x. record {
-    ptr = x .ptr;
-    name = x .name;
-    now =
-        x .now;
-  }
+  s30 = AtSlots.n-as-by T33 11 (Rows.sref (Held.type (Syntax.named 1) List.[]) (Syntax.tyRef Syntax.erased Syntax.imm (Held.behind Syntax.erased)) 6) λ x. record
+      { ptr = x .ptr; name = x .name; now = x .now }
 
   abbrev s31 : Typed.Mo T34 → Typed.Mo T35
   s31 = Scalar.n-room T34 11 (Syntax.tyRef Syntax.erased Syntax.imm (Held.behind Syntax.erased))
@@ -1411,25 +797,12 @@ module _ (claims· : Claims) where
       (Held.behind Syntax.erased)) 7) λ x. record { ptr = x .ptr; name = x .name; now = x .now }
 
   abbrev s46 : Typed.Both T49 T50
-  s46 = Call'.callB ps·3 r·3 (claims· .6) (claims· .7) T49 (
-    record {
-      pos = 12;
-      ty = Syntax.tyRef Syntax.erased Syntax.imm (Held.behind Syntax.erased);
-      βs = List._∷_ 7 (List._∷_ 1 List.[]);
-      ref = λ x.
-          x;
-    },
-    tt,
-  ) 8 (List._∷_ 7 (List._∷_ 1 List.[])) (Syntax.tyStruct (List._∷_ 98 (List._∷_ 105 (List._∷_ 116 (List._∷_ 115 (List._∷_ 58 (List._∷_ 58 (List._∷_ 66 (List._∷_ 121 (List._∷_ 116 (List._∷_
-      101 (List._∷_ 79 (List._∷_ 102 (List._∷_ 102 (List._∷_ 115 (List._∷_ 101 (List._∷_ 116 List.[])))))))))))))))) (Syntax.tcons (Syntax.tyInt Syntax.w64) Syntax.tnil))
+  s46 = Call'.callB ps·3 r·3 (claims· .6) (claims· .7) T49
+      (record { pos = 12; ty = Syntax.tyRef Syntax.erased Syntax.imm (Held.behind Syntax.erased); βs = List._∷_ 7 (List._∷_ 1 List.[]); ref = λ x. x }, tt) 8 (List._∷_ 7 (List._∷_ 1 List.[])) y2
 
   abbrev s47 : Typed.Mo T50 → Typed.Mo T51
-  s47 = AtSlots.n-as-by T50 12 (Rows.sref (Held.type (Syntax.named 1) List.[]) (Syntax.tyRef Syntax.erased Syntax.imm (Held.behind Syntax.erased)) 7) λ x. record {
-    ptr = x .ptr;
-    name = x .name;
-    now =
-        x .now;
-  }
+  s47 = AtSlots.n-as-by T50 12 (Rows.sref (Held.type (Syntax.named 1) List.[]) (Syntax.tyRef Syntax.erased Syntax.imm (Held.behind Syntax.erased)) 7) λ x. record
+      { ptr = x .ptr; name = x .name; now = x .now }
 
   abbrev s48 : Typed.Mo T51 → Typed.Mo T52
   s48 = Scalar.n-room T51 12 (Syntax.tyRef Syntax.erased Syntax.imm (Held.behind Syntax.erased))
@@ -1438,37 +811,18 @@ module _ (claims· : Claims) where
   s54 = Reshare.n-back-mref-shr T52 1 0 (Held.type (Syntax.named 1) List.[]) (Syntax.tyRef (Syntax.named 0) Syntax.mut (Held.behind (Syntax.named 1))) List.[] λ x. x
 
   abbrev s56 : Typed.Both T58 T60
-  s56 = Call'.callB ps·4 r·4 (claims· .8) (claims· .9) T58 (
-    record { pos = 5; st = List.[]; d = 0; at = λ x. x },
-    (
-      Num.vAt 6 λ x. x,
-      (
-        record { pos = 7; st = List.[]; d = 0; at = λ x. x },
-        (
-          record {
-            pos = 8;
-            st = List.[];
-            d = 0;
-            at = λ x. x;
-          },
-          tt,
-        ),
-      ),
-    ),
-  ) 9 List.[] Syntax.tyBool
+  s56 = Call'.callB ps·4 r·4 (claims· .8) (claims· .9) T58
+      (record { pos = 5; st = List.[]; d = 0; at = λ x. x }, (Num.vAt 6 λ x. x, (record { pos = 7; st = List.[]; d = 0; at = λ x. x }, (record { pos = 8; st = List.[]; d = 0; at = λ x. x }, tt)))) 9
+      List.[] Syntax.tyBool
 
   abbrev s57 : Typed.Mo T60 → Typed.Mo T61
-  s57 = Scalar.n-room T60 5 (Syntax.tyStruct (List._∷_ 112 (List._∷_ 117 (List._∷_ 109 (List._∷_ 112 (List._∷_ 95 (List._∷_ 97 (List._∷_ 110 (List._∷_ 115 (List._∷_ 119 (List._∷_ 101 (List._∷_ 114
-      (List._∷_ 115 (List._∷_ 58 (List._∷_ 58 (List._∷_ 67 (List._∷_ 97 (List._∷_ 108 (List._∷_ 108 List.[])))))))))))))))))) (Syntax.tcons (Syntax.tyInt Syntax.w32) (Syntax.tcons (Syntax.tyInt
-      Syntax.w32) (Syntax.tcons (Syntax.tyInt Syntax.w32) (Syntax.tcons (Syntax.tyInt Syntax.w32) (Syntax.tcons (Syntax.tyInt Syntax.w32) Syntax.tnil))))))
+  s57 = Scalar.n-room T60 5 y0
 
   abbrev s58 : Typed.Mo T61 → Typed.Mo T62
-  s58 = Scalar.n-room T61 7 (Syntax.tyStruct (List._∷_ 98 (List._∷_ 105 (List._∷_ 116 (List._∷_ 115 (List._∷_ 58 (List._∷_ 58 (List._∷_ 66 (List._∷_ 105 (List._∷_ 116 (List._∷_ 80 (List._∷_ 111
-      (List._∷_ 115 (List._∷_ 105 (List._∷_ 116 (List._∷_ 105 (List._∷_ 111 (List._∷_ 110 List.[]))))))))))))))))) (Syntax.tcons (Syntax.tyInt Syntax.w64) Syntax.tnil))
+  s58 = Scalar.n-room T61 7 y1
 
   abbrev s59 : Typed.Mo T62 → Typed.Mo T63
-  s59 = Scalar.n-room T62 8 (Syntax.tyStruct (List._∷_ 98 (List._∷_ 105 (List._∷_ 116 (List._∷_ 115 (List._∷_ 58 (List._∷_ 58 (List._∷_ 66 (List._∷_ 121 (List._∷_ 116 (List._∷_ 101 (List._∷_ 79
-      (List._∷_ 102 (List._∷_ 102 (List._∷_ 115 (List._∷_ 101 (List._∷_ 116 List.[])))))))))))))))) (Syntax.tcons (Syntax.tyInt Syntax.w64) Syntax.tnil))
+  s59 = Scalar.n-room T62 8 y2
 
   abbrev s60 : Typed.Both T63 T64
   s60 = Call'.callB ps·5 r·5 (claims· .10) (claims· .11) T63 (Num.vAt 3 λ x. x, (Bool.bAt 9 λ x. x, tt)) 3 List.[] (Syntax.tyInt Syntax.w64)
@@ -1493,16 +847,9 @@ module _ (claims· : Claims) where
   s66 = Scalar.n-room T69 4 (Syntax.tyInt Syntax.w64)
 
   abbrev put0 : Held.type (Syntax.named 1) List.[] .Denot × Rows.sc-here (Row.sInt Syntax.w64) .Mod × Rows.sc-here (Row.sInt Syntax.w64) .Mod → Typed.Mo T4 → Typed.Mo T4
-  put0 = λ vs u. Row.set 4 (4, Rows.sc-here (Row.sInt Syntax.w64)) (vs .2) (T4 .locals) (Row.set 3 (3, Rows.sc-here (Row.sInt Syntax.w64)) (vs .1) (T4 .locals) (Row.set 1 (
-    1,
-    Rows.mref (Held.type
-        (Syntax.named 1) List.[]) (Syntax.tyRef (Syntax.named 0) Syntax.mut (Held.behind (Syntax.named 1))) 0,
-  ) record {
-    ptr = Row.get 1 (T4 .locals) u .ptr;
-    name = Row.get 1 (T4 .locals) u .name;
-    now = vs
-        .0;
-  } (T4 .locals) u))
+  put0 = λ vs u. Row.set 4 (4, Rows.sc-here (Row.sInt Syntax.w64)) (vs .2) (T4 .locals) (Row.set 3 (3, Rows.sc-here (Row.sInt Syntax.w64)) (vs .1) (T4 .locals) (Row.set 1
+      (1, Rows.mref (Held.type (Syntax.named 1) List.[]) (Syntax.tyRef (Syntax.named 0) Syntax.mut (Held.behind (Syntax.named 1))) 0) record
+      { ptr = Row.get 1 (T4 .locals) u .ptr; name = Row.get 1 (T4 .locals) u .name; now = vs .0 } (T4 .locals) u))
 
   module _ (Pre· : (κs : Lifetimes.Lfts 2) → Kinds.Dens κs ps → Type 0) (Post· : (κs : Lifetimes.Lfts 2) → (a : Kinds.Dens κs ps) → Kinds.Plain 2 ps r κs) where
     module _ (M : Type 1) where
@@ -1748,1445 +1095,668 @@ module _ (claims· : Claims) where
 
       module _ (κs : Lifetimes.Lfts 2) (qs : Lifetimes.Shares 2) where
         abbrev g0 : (at : Nat.ℕ → Nat.ℕ) → List.List Row.Entry
-        g0 = λ at. List._∷_ (0, Rows.any-gone (Syntax.tyInt Syntax.w64)) (List._∷_ (
-          1,
-          Rows.mref (Held.type (Syntax.named 1) (κs .1 .0)) (Syntax.tyRef (Syntax.named 0) Syntax.mut (Held.behind
-              (Syntax.named 1))) 0,
-        ) (List._∷_ (2, Rows.sslice (Referent.rtF (Referent.fInt Syntax.w8)) (Syntax.tyRef (Syntax.named 1) Syntax.imm (Syntax.tyInt Syntax.w8)) 1) (List._∷_ (
-          3,
-          Rows.any-gone
-              (Syntax.tyInt Syntax.w64),
-        ) (List._∷_ (4, Rows.any-gone (Syntax.tyInt Syntax.w64)) (List._∷_ (
-          5,
-          Rows.any-gone (Syntax.tyStruct (List._∷_ 112 (List._∷_ 117 (List._∷_ 109 (List._∷_ 112
-              (List._∷_ 95 (List._∷_ 97 (List._∷_ 110 (List._∷_ 115 (List._∷_ 119 (List._∷_ 101 (List._∷_ 114 (List._∷_ 115 (List._∷_ 58 (List._∷_ 58 (List._∷_ 67 (List._∷_ 97 (List._∷_ 108 (List._∷_ 108
-              List.[])))))))))))))))))) (Syntax.tcons (Syntax.tyInt Syntax.w32) (Syntax.tcons (Syntax.tyInt Syntax.w32) (Syntax.tcons (Syntax.tyInt Syntax.w32) (Syntax.tcons (Syntax.tyInt Syntax.w32)
-              (Syntax.tcons (Syntax.tyInt Syntax.w32) Syntax.tnil)))))),
-        ) (List._∷_ (6, Rows.any-gone (Syntax.tyInt Syntax.w32)) (List._∷_ (
-          7,
-          Rows.any-gone (Syntax.tyStruct (List._∷_ 98 (List._∷_ 105
-              (List._∷_ 116 (List._∷_ 115 (List._∷_ 58 (List._∷_ 58 (List._∷_ 66 (List._∷_ 105 (List._∷_ 116 (List._∷_ 80 (List._∷_ 111 (List._∷_ 115 (List._∷_ 105 (List._∷_ 116 (List._∷_ 105 (List._∷_ 111
-              (List._∷_ 110 List.[]))))))))))))))))) (Syntax.tcons (Syntax.tyInt Syntax.w64) Syntax.tnil)),
-        ) (List._∷_ (
-          8,
-          Rows.any-gone (Syntax.tyStruct (List._∷_ 98 (List._∷_ 105 (List._∷_ 116 (List._∷_
-              115 (List._∷_ 58 (List._∷_ 58 (List._∷_ 66 (List._∷_ 121 (List._∷_ 116 (List._∷_ 101 (List._∷_ 79 (List._∷_ 102 (List._∷_ 102 (List._∷_ 115 (List._∷_ 101 (List._∷_ 116 List.[]))))))))))))))))
-              (Syntax.tcons (Syntax.tyInt Syntax.w64) Syntax.tnil)),
-        ) (List._∷_ (9, Rows.any-gone Syntax.tyBool) (List._∷_ (
-          10,
-          Rows.any-gone (Syntax.tyRef Syntax.erased Syntax.mut (Held.behind
-              Syntax.erased)),
-        ) (List._∷_ (11, Rows.any-gone (Syntax.tyRef Syntax.erased Syntax.imm (Held.behind Syntax.erased))) (List._∷_ (
-          12,
-          Rows.any-gone (Syntax.tyRef Syntax.erased Syntax.imm
-              (Held.behind Syntax.erased)),
-        ) List.[]))))))))))))
+        g0 = λ at. List._∷_ e0 (List._∷_ (1, Rows.mref (Held.type (Syntax.named 1) (κs .1 .0)) (Syntax.tyRef (Syntax.named 0) Syntax.mut (Held.behind (Syntax.named 1))) 0) (List._∷_ e15 (List._∷_ e16
+            (List._∷_ e18 (List._∷_ e20 (List._∷_ e22 (List._∷_ e24 (List._∷_ e26 (List._∷_ e28 (List._∷_ e8 (List._∷_ e10 (List._∷_ e13 List.[]))))))))))))
 
         abbrev g1 : (at : Nat.ℕ → Nat.ℕ) → List.List Row.Entry
-        g1 = λ at. List._∷_ (0, Rows.sc-here (Row.sInt Syntax.w64)) (List._∷_ (
-          1,
-          Rows.mref (Held.type (Syntax.named 1) (κs .1 .0)) (Syntax.tyRef (Syntax.named 0) Syntax.mut (Held.behind
-              (Syntax.named 1))) 0,
-        ) (List._∷_ (2, Rows.sslice (Referent.rtF (Referent.fInt Syntax.w8)) (Syntax.tyRef (Syntax.named 1) Syntax.imm (Syntax.tyInt Syntax.w8)) 1) (List._∷_ (
-          3,
-          Rows.any-gone
-              (Syntax.tyInt Syntax.w64),
-        ) (List._∷_ (4, Rows.any-gone (Syntax.tyInt Syntax.w64)) (List._∷_ (
-          5,
-          Rows.any-gone (Syntax.tyStruct (List._∷_ 112 (List._∷_ 117 (List._∷_ 109 (List._∷_ 112
-              (List._∷_ 95 (List._∷_ 97 (List._∷_ 110 (List._∷_ 115 (List._∷_ 119 (List._∷_ 101 (List._∷_ 114 (List._∷_ 115 (List._∷_ 58 (List._∷_ 58 (List._∷_ 67 (List._∷_ 97 (List._∷_ 108 (List._∷_ 108
-              List.[])))))))))))))))))) (Syntax.tcons (Syntax.tyInt Syntax.w32) (Syntax.tcons (Syntax.tyInt Syntax.w32) (Syntax.tcons (Syntax.tyInt Syntax.w32) (Syntax.tcons (Syntax.tyInt Syntax.w32)
-              (Syntax.tcons (Syntax.tyInt Syntax.w32) Syntax.tnil)))))),
-        ) (List._∷_ (6, Rows.any-gone (Syntax.tyInt Syntax.w32)) (List._∷_ (
-          7,
-          Rows.any-gone (Syntax.tyStruct (List._∷_ 98 (List._∷_ 105
-              (List._∷_ 116 (List._∷_ 115 (List._∷_ 58 (List._∷_ 58 (List._∷_ 66 (List._∷_ 105 (List._∷_ 116 (List._∷_ 80 (List._∷_ 111 (List._∷_ 115 (List._∷_ 105 (List._∷_ 116 (List._∷_ 105 (List._∷_ 111
-              (List._∷_ 110 List.[]))))))))))))))))) (Syntax.tcons (Syntax.tyInt Syntax.w64) Syntax.tnil)),
-        ) (List._∷_ (
-          8,
-          Rows.any-gone (Syntax.tyStruct (List._∷_ 98 (List._∷_ 105 (List._∷_ 116 (List._∷_
-              115 (List._∷_ 58 (List._∷_ 58 (List._∷_ 66 (List._∷_ 121 (List._∷_ 116 (List._∷_ 101 (List._∷_ 79 (List._∷_ 102 (List._∷_ 102 (List._∷_ 115 (List._∷_ 101 (List._∷_ 116 List.[]))))))))))))))))
-              (Syntax.tcons (Syntax.tyInt Syntax.w64) Syntax.tnil)),
-        ) (List._∷_ (9, Rows.any-gone Syntax.tyBool) (List._∷_ (
-          10,
-          Rows.any-gone (Syntax.tyRef Syntax.erased Syntax.mut (Held.behind
-              Syntax.erased)),
-        ) (List._∷_ (11, Rows.any-gone (Syntax.tyRef Syntax.erased Syntax.imm (Held.behind Syntax.erased))) (List._∷_ (
-          12,
-          Rows.any-gone (Syntax.tyRef Syntax.erased Syntax.imm
-              (Held.behind Syntax.erased)),
-        ) List.[]))))))))))))
+        g1 = λ at. List._∷_ e1 (List._∷_ (1, Rows.mref (Held.type (Syntax.named 1) (κs .1 .0)) (Syntax.tyRef (Syntax.named 0) Syntax.mut (Held.behind (Syntax.named 1))) 0) (List._∷_ e15 (List._∷_ e16
+            (List._∷_ e18 (List._∷_ e20 (List._∷_ e22 (List._∷_ e24 (List._∷_ e26 (List._∷_ e28 (List._∷_ e8 (List._∷_ e10 (List._∷_ e13 List.[]))))))))))))
 
         abbrev g2 : (at : Nat.ℕ → Nat.ℕ) → List.List Row.Entry
-        g2 = λ at. List._∷_ (0, Rows.any-gone (Syntax.tyInt Syntax.w64)) (List._∷_ (
-          1,
-          Rows.mref (Held.type (Syntax.named 1) (κs .1 .0)) (Syntax.tyRef (Syntax.named 0) Syntax.mut (Held.behind
-              (Syntax.named 1))) 0,
-        ) (List._∷_ (2, Rows.sslice (Referent.rtF (Referent.fInt Syntax.w8)) (Syntax.tyRef (Syntax.named 1) Syntax.imm (Syntax.tyInt Syntax.w8)) 1) (List._∷_ (
-          3,
-          Rows.sc-here
-              (Row.sInt Syntax.w64),
-        ) (List._∷_ (4, Rows.any-gone (Syntax.tyInt Syntax.w64)) (List._∷_ (
-          5,
-          Rows.any-gone (Syntax.tyStruct (List._∷_ 112 (List._∷_ 117 (List._∷_ 109 (List._∷_ 112 (List._∷_
-              95 (List._∷_ 97 (List._∷_ 110 (List._∷_ 115 (List._∷_ 119 (List._∷_ 101 (List._∷_ 114 (List._∷_ 115 (List._∷_ 58 (List._∷_ 58 (List._∷_ 67 (List._∷_ 97 (List._∷_ 108 (List._∷_ 108
-              List.[])))))))))))))))))) (Syntax.tcons (Syntax.tyInt Syntax.w32) (Syntax.tcons (Syntax.tyInt Syntax.w32) (Syntax.tcons (Syntax.tyInt Syntax.w32) (Syntax.tcons (Syntax.tyInt Syntax.w32)
-              (Syntax.tcons (Syntax.tyInt Syntax.w32) Syntax.tnil)))))),
-        ) (List._∷_ (6, Rows.any-gone (Syntax.tyInt Syntax.w32)) (List._∷_ (
-          7,
-          Rows.any-gone (Syntax.tyStruct (List._∷_ 98 (List._∷_ 105
-              (List._∷_ 116 (List._∷_ 115 (List._∷_ 58 (List._∷_ 58 (List._∷_ 66 (List._∷_ 105 (List._∷_ 116 (List._∷_ 80 (List._∷_ 111 (List._∷_ 115 (List._∷_ 105 (List._∷_ 116 (List._∷_ 105 (List._∷_ 111
-              (List._∷_ 110 List.[]))))))))))))))))) (Syntax.tcons (Syntax.tyInt Syntax.w64) Syntax.tnil)),
-        ) (List._∷_ (
-          8,
-          Rows.any-gone (Syntax.tyStruct (List._∷_ 98 (List._∷_ 105 (List._∷_ 116 (List._∷_
-              115 (List._∷_ 58 (List._∷_ 58 (List._∷_ 66 (List._∷_ 121 (List._∷_ 116 (List._∷_ 101 (List._∷_ 79 (List._∷_ 102 (List._∷_ 102 (List._∷_ 115 (List._∷_ 101 (List._∷_ 116 List.[]))))))))))))))))
-              (Syntax.tcons (Syntax.tyInt Syntax.w64) Syntax.tnil)),
-        ) (List._∷_ (9, Rows.any-gone Syntax.tyBool) (List._∷_ (
-          10,
-          Rows.any-gone (Syntax.tyRef Syntax.erased Syntax.mut (Held.behind
-              Syntax.erased)),
-        ) (List._∷_ (11, Rows.any-gone (Syntax.tyRef Syntax.erased Syntax.imm (Held.behind Syntax.erased))) (List._∷_ (
-          12,
-          Rows.any-gone (Syntax.tyRef Syntax.erased Syntax.imm
-              (Held.behind Syntax.erased)),
-        ) List.[]))))))))))))
+        g2 = λ at. List._∷_ e0 (List._∷_ (1, Rows.mref (Held.type (Syntax.named 1) (κs .1 .0)) (Syntax.tyRef (Syntax.named 0) Syntax.mut (Held.behind (Syntax.named 1))) 0) (List._∷_ e15 (List._∷_ e17
+            (List._∷_ e18 (List._∷_ e20 (List._∷_ e22 (List._∷_ e24 (List._∷_ e26 (List._∷_ e28 (List._∷_ e8 (List._∷_ e10 (List._∷_ e13 List.[]))))))))))))
 
         abbrev g3 : (at : Nat.ℕ → Nat.ℕ) → List.List Row.Entry
-        g3 = λ at. List._∷_ (0, Rows.any-gone (Syntax.tyInt Syntax.w64)) (List._∷_ (
-          1,
-          Rows.mref (Held.type (Syntax.named 1) (κs .1 .0)) (Syntax.tyRef (Syntax.named 0) Syntax.mut (Held.behind
-              (Syntax.named 1))) 0,
-        ) (List._∷_ (2, Rows.sslice (Referent.rtF (Referent.fInt Syntax.w8)) (Syntax.tyRef (Syntax.named 1) Syntax.imm (Syntax.tyInt Syntax.w8)) 1) (List._∷_ (
-          3,
-          Rows.sc-here
-              (Row.sInt Syntax.w64),
-        ) (List._∷_ (4, Rows.sc-here (Row.sInt Syntax.w64)) (List._∷_ (
-          5,
-          Rows.any-gone (Syntax.tyStruct (List._∷_ 112 (List._∷_ 117 (List._∷_ 109 (List._∷_ 112 (List._∷_ 95
-              (List._∷_ 97 (List._∷_ 110 (List._∷_ 115 (List._∷_ 119 (List._∷_ 101 (List._∷_ 114 (List._∷_ 115 (List._∷_ 58 (List._∷_ 58 (List._∷_ 67 (List._∷_ 97 (List._∷_ 108 (List._∷_ 108
-              List.[])))))))))))))))))) (Syntax.tcons (Syntax.tyInt Syntax.w32) (Syntax.tcons (Syntax.tyInt Syntax.w32) (Syntax.tcons (Syntax.tyInt Syntax.w32) (Syntax.tcons (Syntax.tyInt Syntax.w32)
-              (Syntax.tcons (Syntax.tyInt Syntax.w32) Syntax.tnil)))))),
-        ) (List._∷_ (6, Rows.any-gone (Syntax.tyInt Syntax.w32)) (List._∷_ (
-          7,
-          Rows.any-gone (Syntax.tyStruct (List._∷_ 98 (List._∷_ 105
-              (List._∷_ 116 (List._∷_ 115 (List._∷_ 58 (List._∷_ 58 (List._∷_ 66 (List._∷_ 105 (List._∷_ 116 (List._∷_ 80 (List._∷_ 111 (List._∷_ 115 (List._∷_ 105 (List._∷_ 116 (List._∷_ 105 (List._∷_ 111
-              (List._∷_ 110 List.[]))))))))))))))))) (Syntax.tcons (Syntax.tyInt Syntax.w64) Syntax.tnil)),
-        ) (List._∷_ (
-          8,
-          Rows.any-gone (Syntax.tyStruct (List._∷_ 98 (List._∷_ 105 (List._∷_ 116 (List._∷_
-              115 (List._∷_ 58 (List._∷_ 58 (List._∷_ 66 (List._∷_ 121 (List._∷_ 116 (List._∷_ 101 (List._∷_ 79 (List._∷_ 102 (List._∷_ 102 (List._∷_ 115 (List._∷_ 101 (List._∷_ 116 List.[]))))))))))))))))
-              (Syntax.tcons (Syntax.tyInt Syntax.w64) Syntax.tnil)),
-        ) (List._∷_ (9, Rows.any-gone Syntax.tyBool) (List._∷_ (
-          10,
-          Rows.any-gone (Syntax.tyRef Syntax.erased Syntax.mut (Held.behind
-              Syntax.erased)),
-        ) (List._∷_ (11, Rows.any-gone (Syntax.tyRef Syntax.erased Syntax.imm (Held.behind Syntax.erased))) (List._∷_ (
-          12,
-          Rows.any-gone (Syntax.tyRef Syntax.erased Syntax.imm
-              (Held.behind Syntax.erased)),
-        ) List.[]))))))))))))
+        g3 = λ at. List._∷_ e0 (List._∷_ (1, Rows.mref (Held.type (Syntax.named 1) (κs .1 .0)) (Syntax.tyRef (Syntax.named 0) Syntax.mut (Held.behind (Syntax.named 1))) 0) (List._∷_ e15 (List._∷_ e17
+            (List._∷_ e19 (List._∷_ e20 (List._∷_ e22 (List._∷_ e24 (List._∷_ e26 (List._∷_ e28 (List._∷_ e8 (List._∷_ e10 (List._∷_ e13 List.[]))))))))))))
 
         abbrev g4 : (at : Nat.ℕ → Nat.ℕ) → List.List Row.Entry
-        g4 = λ at. List._∷_ (0, Rows.any-gone (Syntax.tyInt Syntax.w64)) (List._∷_ (
-          1,
-          Rows.mref (Held.type (Syntax.named 1) (κs .1 .0)) (Syntax.tyRef (Syntax.named 0) Syntax.mut (Held.behind
-              (Syntax.named 1))) 0,
-        ) (List._∷_ (2, Rows.sslice (Referent.rtF (Referent.fInt Syntax.w8)) (Syntax.tyRef (Syntax.named 1) Syntax.imm (Syntax.tyInt Syntax.w8)) 1) (List._∷_ (
-          3,
-          Rows.sc-here
-              (Row.sInt Syntax.w64),
-        ) (List._∷_ (4, Rows.sc-here (Row.sInt Syntax.w64)) (List._∷_ (
-          5,
-          Rows.any-gone (Syntax.tyStruct (List._∷_ 112 (List._∷_ 117 (List._∷_ 109 (List._∷_ 112 (List._∷_ 95
-              (List._∷_ 97 (List._∷_ 110 (List._∷_ 115 (List._∷_ 119 (List._∷_ 101 (List._∷_ 114 (List._∷_ 115 (List._∷_ 58 (List._∷_ 58 (List._∷_ 67 (List._∷_ 97 (List._∷_ 108 (List._∷_ 108
-              List.[])))))))))))))))))) (Syntax.tcons (Syntax.tyInt Syntax.w32) (Syntax.tcons (Syntax.tyInt Syntax.w32) (Syntax.tcons (Syntax.tyInt Syntax.w32) (Syntax.tcons (Syntax.tyInt Syntax.w32)
-              (Syntax.tcons (Syntax.tyInt Syntax.w32) Syntax.tnil)))))),
-        ) (List._∷_ (6, Rows.any-gone (Syntax.tyInt Syntax.w32)) (List._∷_ (
-          7,
-          Rows.any-gone (Syntax.tyStruct (List._∷_ 98 (List._∷_ 105
-              (List._∷_ 116 (List._∷_ 115 (List._∷_ 58 (List._∷_ 58 (List._∷_ 66 (List._∷_ 105 (List._∷_ 116 (List._∷_ 80 (List._∷_ 111 (List._∷_ 115 (List._∷_ 105 (List._∷_ 116 (List._∷_ 105 (List._∷_ 111
-              (List._∷_ 110 List.[]))))))))))))))))) (Syntax.tcons (Syntax.tyInt Syntax.w64) Syntax.tnil)),
-        ) (List._∷_ (
-          8,
-          Rows.any-gone (Syntax.tyStruct (List._∷_ 98 (List._∷_ 105 (List._∷_ 116 (List._∷_
-              115 (List._∷_ 58 (List._∷_ 58 (List._∷_ 66 (List._∷_ 121 (List._∷_ 116 (List._∷_ 101 (List._∷_ 79 (List._∷_ 102 (List._∷_ 102 (List._∷_ 115 (List._∷_ 101 (List._∷_ 116 List.[]))))))))))))))))
-              (Syntax.tcons (Syntax.tyInt Syntax.w64) Syntax.tnil)),
-        ) (List._∷_ (9, Rows.sc-here Row.sBool) (List._∷_ (
-          10,
-          Rows.any-gone (Syntax.tyRef Syntax.erased Syntax.mut (Held.behind
-              Syntax.erased)),
-        ) (List._∷_ (11, Rows.any-gone (Syntax.tyRef Syntax.erased Syntax.imm (Held.behind Syntax.erased))) (List._∷_ (
-          12,
-          Rows.any-gone (Syntax.tyRef Syntax.erased Syntax.imm
-              (Held.behind Syntax.erased)),
-        ) List.[]))))))))))))
+        g4 = λ at. List._∷_ e0 (List._∷_ (1, Rows.mref (Held.type (Syntax.named 1) (κs .1 .0)) (Syntax.tyRef (Syntax.named 0) Syntax.mut (Held.behind (Syntax.named 1))) 0) (List._∷_ e15 (List._∷_ e17
+            (List._∷_ e19 (List._∷_ e20 (List._∷_ e22 (List._∷_ e24 (List._∷_ e26 (List._∷_ e29 (List._∷_ e8 (List._∷_ e10 (List._∷_ e13 List.[]))))))))))))
 
         abbrev g5 : (at : Nat.ℕ → Nat.ℕ) → List.List Row.Entry
-        g5 = λ at. List._∷_ (0, Rows.any-gone (Syntax.tyInt Syntax.w64)) (List._∷_ (
-          1,
-          Rows.mref (Held.type (Syntax.named 1) (κs .1 .0)) (Syntax.tyRef (Syntax.named 0) Syntax.mut (Held.behind
-              (Syntax.named 1))) 0,
-        ) (List._∷_ (2, Rows.sslice (Referent.rtF (Referent.fInt Syntax.w8)) (Syntax.tyRef (Syntax.named 1) Syntax.imm (Syntax.tyInt Syntax.w8)) 1) (List._∷_ (
-          3,
-          Rows.sc-here
-              (Row.sInt Syntax.w64),
-        ) (List._∷_ (4, Rows.sc-here (Row.sInt Syntax.w64)) (List._∷_ (5, Rows.whole (Declared.row Call.the-type)) (List._∷_ (6, Rows.any-gone (Syntax.tyInt Syntax.w32))
-            (List._∷_ (
-              7,
-              Rows.any-gone (Syntax.tyStruct (List._∷_ 98 (List._∷_ 105 (List._∷_ 116 (List._∷_ 115 (List._∷_ 58 (List._∷_ 58 (List._∷_ 66 (List._∷_ 105 (List._∷_ 116 (List._∷_ 80 (List._∷_
-                  111 (List._∷_ 115 (List._∷_ 105 (List._∷_ 116 (List._∷_ 105 (List._∷_ 111 (List._∷_ 110 List.[]))))))))))))))))) (Syntax.tcons (Syntax.tyInt Syntax.w64) Syntax.tnil)),
-            ) (List._∷_ (
-              8,
-              Rows.any-gone (Syntax.tyStruct (List._∷_ 98 (List._∷_ 105 (List._∷_ 116 (List._∷_ 115 (List._∷_ 58 (List._∷_ 58 (List._∷_ 66 (List._∷_ 121 (List._∷_ 116 (List._∷_ 101 (List._∷_ 79 (List._∷_
-                  102 (List._∷_ 102 (List._∷_ 115 (List._∷_ 101 (List._∷_ 116 List.[])))))))))))))))) (Syntax.tcons (Syntax.tyInt Syntax.w64) Syntax.tnil)),
-            ) (List._∷_ (9, Rows.any-gone Syntax.tyBool)
-            (List._∷_ (10, Rows.any-gone (Syntax.tyRef Syntax.erased Syntax.mut (Held.behind Syntax.erased))) (List._∷_ (
-              11,
-              Rows.any-gone (Syntax.tyRef Syntax.erased Syntax.imm (Held.behind
-                  Syntax.erased)),
-            ) (List._∷_ (12, Rows.any-gone (Syntax.tyRef Syntax.erased Syntax.imm (Held.behind Syntax.erased))) List.[]))))))))))))
+        g5 = λ at. List._∷_ e0 (List._∷_ (1, Rows.mref (Held.type (Syntax.named 1) (κs .1 .0)) (Syntax.tyRef (Syntax.named 0) Syntax.mut (Held.behind (Syntax.named 1))) 0) (List._∷_ e15 (List._∷_ e17
+            (List._∷_ e19 (List._∷_ e21 (List._∷_ e22 (List._∷_ e24 (List._∷_ e26 (List._∷_ e28 (List._∷_ e8 (List._∷_ e10 (List._∷_ e13 List.[]))))))))))))
 
         abbrev g6 : (at : Nat.ℕ → Nat.ℕ) → List.List Row.Entry
-        g6 = λ at. List._∷_ (0, Rows.any-gone (Syntax.tyInt Syntax.w64)) (List._∷_ (
-          1,
-          Rows.mref-owed (Held.type (Syntax.named 1) (κs .1 .0)) (Syntax.tyRef (Syntax.named 0) Syntax.mut (Held.behind
-              (Syntax.named 1))) 0 2 (Row.lease (κs .0) (qs .0)),
-        ) (List._∷_ (
-          2,
-          Rows.sslice (Referent.rtF (Referent.fInt Syntax.w8)) (Syntax.tyRef (Syntax.named 1) Syntax.imm (Syntax.tyInt Syntax.w8)) 1,
-        ) (List._∷_ (3, Rows.sc-here (Row.sInt Syntax.w64)) (List._∷_ (4, Rows.sc-here (Row.sInt Syntax.w64)) (List._∷_ (5, Rows.whole (Declared.row Call.the-type)) (List._∷_ (
-          6,
-          Rows.any-gone
-              (Syntax.tyInt Syntax.w32),
-        ) (List._∷_ (
-          7,
-          Rows.any-gone (Syntax.tyStruct (List._∷_ 98 (List._∷_ 105 (List._∷_ 116 (List._∷_ 115 (List._∷_ 58 (List._∷_ 58 (List._∷_ 66 (List._∷_ 105 (List._∷_
-              116 (List._∷_ 80 (List._∷_ 111 (List._∷_ 115 (List._∷_ 105 (List._∷_ 116 (List._∷_ 105 (List._∷_ 111 (List._∷_ 110 List.[]))))))))))))))))) (Syntax.tcons (Syntax.tyInt Syntax.w64)
-              Syntax.tnil)),
-        ) (List._∷_ (
-          8,
-          Rows.any-gone (Syntax.tyStruct (List._∷_ 98 (List._∷_ 105 (List._∷_ 116 (List._∷_ 115 (List._∷_ 58 (List._∷_ 58 (List._∷_ 66 (List._∷_ 121 (List._∷_ 116
-              (List._∷_ 101 (List._∷_ 79 (List._∷_ 102 (List._∷_ 102 (List._∷_ 115 (List._∷_ 101 (List._∷_ 116 List.[])))))))))))))))) (Syntax.tcons (Syntax.tyInt Syntax.w64) Syntax.tnil)),
-        ) (List._∷_ (
-          9,
-          Rows.any-gone Syntax.tyBool,
-        ) (List._∷_ (10, Rows.mref (Held.type (Syntax.named 1) (κs .1 .0)) (Syntax.tyRef Syntax.erased Syntax.mut (Held.behind Syntax.erased)) 2) (List._∷_ (
-          11,
-          Rows.any-gone (Syntax.tyRef Syntax.erased Syntax.imm (Held.behind Syntax.erased)),
-        ) (List._∷_ (12, Rows.any-gone (Syntax.tyRef Syntax.erased Syntax.imm (Held.behind Syntax.erased)))
-            List.[]))))))))))))
+        g6 = λ at. List._∷_ e0 (List._∷_
+            (1, Rows.mref-owed (Held.type (Syntax.named 1) (κs .1 .0)) (Syntax.tyRef (Syntax.named 0) Syntax.mut (Held.behind (Syntax.named 1))) 0 2 (Row.lease (κs .0) (qs .0))) (List._∷_ e15 (List._∷_
+            e17 (List._∷_ e19 (List._∷_ e21 (List._∷_ e22 (List._∷_ e24 (List._∷_ e26 (List._∷_ e28 (List._∷_
+            (10, Rows.mref (Held.type (Syntax.named 1) (κs .1 .0)) (Syntax.tyRef Syntax.erased Syntax.mut (Held.behind Syntax.erased)) 2) (List._∷_ e10 (List._∷_ e13 List.[]))))))))))))
 
         abbrev g7 : (at : Nat.ℕ → Nat.ℕ) → List.List Row.Entry
-        g7 = λ at. List._∷_ (0, Rows.any-gone (Syntax.tyInt Syntax.w64)) (List._∷_ (
-          1,
-          Rows.mref-owed (Held.type (Syntax.named 1) (κs .1 .0)) (Syntax.tyRef (Syntax.named 0) Syntax.mut (Held.behind
-              (Syntax.named 1))) 0 2 (Row.lease (κs .0) (qs .0)),
-        ) (List._∷_ (
-          2,
-          Rows.sslice (Referent.rtF (Referent.fInt Syntax.w8)) (Syntax.tyRef (Syntax.named 1) Syntax.imm (Syntax.tyInt Syntax.w8)) 1,
-        ) (List._∷_ (3, Rows.sc-here (Row.sInt Syntax.w64)) (List._∷_ (4, Rows.sc-here (Row.sInt Syntax.w64)) (List._∷_ (5, Rows.whole (Declared.row Call.the-type)) (List._∷_ (
-          6,
-          Rows.any-gone
-              (Syntax.tyInt Syntax.w32),
-        ) (List._∷_ (
-          7,
-          Rows.any-gone (Syntax.tyStruct (List._∷_ 98 (List._∷_ 105 (List._∷_ 116 (List._∷_ 115 (List._∷_ 58 (List._∷_ 58 (List._∷_ 66 (List._∷_ 105 (List._∷_
-              116 (List._∷_ 80 (List._∷_ 111 (List._∷_ 115 (List._∷_ 105 (List._∷_ 116 (List._∷_ 105 (List._∷_ 111 (List._∷_ 110 List.[]))))))))))))))))) (Syntax.tcons (Syntax.tyInt Syntax.w64)
-              Syntax.tnil)),
-        ) (List._∷_ (
-          8,
-          Rows.any-gone (Syntax.tyStruct (List._∷_ 98 (List._∷_ 105 (List._∷_ 116 (List._∷_ 115 (List._∷_ 58 (List._∷_ 58 (List._∷_ 66 (List._∷_ 121 (List._∷_ 116
-              (List._∷_ 101 (List._∷_ 79 (List._∷_ 102 (List._∷_ 102 (List._∷_ 115 (List._∷_ 101 (List._∷_ 116 List.[])))))))))))))))) (Syntax.tcons (Syntax.tyInt Syntax.w64) Syntax.tnil)),
-        ) (List._∷_ (
-          9,
-          Rows.any-gone Syntax.tyBool,
-        ) (List._∷_ (10, Rows.mref (Held.type (Syntax.named 1) (κs .1 .0)) (Syntax.tyRef Syntax.erased Syntax.mut (Held.behind Syntax.erased)) 5) (List._∷_ (
-          11,
-          Rows.any-gone (Syntax.tyRef Syntax.erased Syntax.imm (Held.behind Syntax.erased)),
-        ) (List._∷_ (12, Rows.any-gone (Syntax.tyRef Syntax.erased Syntax.imm (Held.behind Syntax.erased)))
-            List.[]))))))))))))
+        g7 = λ at. List._∷_ e0 (List._∷_
+            (1, Rows.mref-owed (Held.type (Syntax.named 1) (κs .1 .0)) (Syntax.tyRef (Syntax.named 0) Syntax.mut (Held.behind (Syntax.named 1))) 0 2 (Row.lease (κs .0) (qs .0))) (List._∷_ e15 (List._∷_
+            e17 (List._∷_ e19 (List._∷_ e21 (List._∷_ e22 (List._∷_ e24 (List._∷_ e26 (List._∷_ e28 (List._∷_
+            (10, Rows.mref (Held.type (Syntax.named 1) (κs .1 .0)) (Syntax.tyRef Syntax.erased Syntax.mut (Held.behind Syntax.erased)) 5) (List._∷_ e10 (List._∷_ e13 List.[]))))))))))))
 
         abbrev g8 : (at : Nat.ℕ → Nat.ℕ) → List.List Row.Entry
-        g8 = λ at. List._∷_ (0, Rows.any-gone (Syntax.tyInt Syntax.w64)) (List._∷_ (
-          1,
-          Rows.mref-owed (Held.type (Syntax.named 1) (κs .1 .0)) (Syntax.tyRef (Syntax.named 0) Syntax.mut (Held.behind
-              (Syntax.named 1))) 0 2 (Row.lease (κs .0) (qs .0)),
-        ) (List._∷_ (
-          2,
-          Rows.sslice (Referent.rtF (Referent.fInt Syntax.w8)) (Syntax.tyRef (Syntax.named 1) Syntax.imm (Syntax.tyInt Syntax.w8)) 1,
-        ) (List._∷_ (3, Rows.sc-here (Row.sInt Syntax.w64)) (List._∷_ (4, Rows.sc-here (Row.sInt Syntax.w64)) (List._∷_ (5, Rows.whole (Declared.row Call.the-type)) (List._∷_ (
-          6,
-          Rows.any-gone
-              (Syntax.tyInt Syntax.w32),
-        ) (List._∷_ (
-          7,
-          Rows.any-gone (Syntax.tyStruct (List._∷_ 98 (List._∷_ 105 (List._∷_ 116 (List._∷_ 115 (List._∷_ 58 (List._∷_ 58 (List._∷_ 66 (List._∷_ 105 (List._∷_
-              116 (List._∷_ 80 (List._∷_ 111 (List._∷_ 115 (List._∷_ 105 (List._∷_ 116 (List._∷_ 105 (List._∷_ 111 (List._∷_ 110 List.[]))))))))))))))))) (Syntax.tcons (Syntax.tyInt Syntax.w64)
-              Syntax.tnil)),
-        ) (List._∷_ (
-          8,
-          Rows.any-gone (Syntax.tyStruct (List._∷_ 98 (List._∷_ 105 (List._∷_ 116 (List._∷_ 115 (List._∷_ 58 (List._∷_ 58 (List._∷_ 66 (List._∷_ 121 (List._∷_ 116
-              (List._∷_ 101 (List._∷_ 79 (List._∷_ 102 (List._∷_ 102 (List._∷_ 115 (List._∷_ 101 (List._∷_ 116 List.[])))))))))))))))) (Syntax.tcons (Syntax.tyInt Syntax.w64) Syntax.tnil)),
-        ) (List._∷_ (
-          9,
-          Rows.any-gone Syntax.tyBool,
-        ) (List._∷_ (
-          10,
-          AtSlots.mrefAt 2 (λ κc. Held.type (Syntax.named 1) (κc .1 .0)) Held.Value (λ κc v. v) (List._∷_ 5 (List._∷_ 1 List.[])) (Syntax.tyRef Syntax.erased
-              Syntax.mut (Held.behind Syntax.erased)) 5,
-        ) (List._∷_ (11, Rows.any-gone (Syntax.tyRef Syntax.erased Syntax.imm (Held.behind Syntax.erased))) (List._∷_ (
-          12,
-          Rows.any-gone (Syntax.tyRef
-              Syntax.erased Syntax.imm (Held.behind Syntax.erased)),
-        ) List.[]))))))))))))
+        g8 = λ at. List._∷_ e0 (List._∷_
+            (1, Rows.mref-owed (Held.type (Syntax.named 1) (κs .1 .0)) (Syntax.tyRef (Syntax.named 0) Syntax.mut (Held.behind (Syntax.named 1))) 0 2 (Row.lease (κs .0) (qs .0))) (List._∷_ e15 (List._∷_
+            e17 (List._∷_ e19 (List._∷_ e21 (List._∷_ e22 (List._∷_ e24 (List._∷_ e26 (List._∷_ e28 (List._∷_ e7 (List._∷_ e10 (List._∷_ e13 List.[]))))))))))))
 
         abbrev g9 : (at : Nat.ℕ → Nat.ℕ) → List.List Row.Entry
-        g9 = λ at. List._∷_ (0, Rows.any-gone (Syntax.tyInt Syntax.w64)) (List._∷_ (
-          1,
-          Rows.mref-owed (Held.type (Syntax.named 1) (κs .1 .0)) (Syntax.tyRef (Syntax.named 0) Syntax.mut (Held.behind
-              (Syntax.named 1))) 0 2 (Row.lease (κs .0) (qs .0)),
-        ) (List._∷_ (
-          2,
-          Rows.sslice (Referent.rtF (Referent.fInt Syntax.w8)) (Syntax.tyRef (Syntax.named 1) Syntax.imm (Syntax.tyInt Syntax.w8)) 1,
-        ) (List._∷_ (3, Rows.sc-here (Row.sInt Syntax.w64)) (List._∷_ (4, Rows.sc-here (Row.sInt Syntax.w64)) (List._∷_ (5, Rows.whole (Declared.row Call.the-type)) (List._∷_ (
-          6,
-          Rows.sc-here
-              (Row.sInt Syntax.w32),
-        ) (List._∷_ (
-          7,
-          Rows.any-gone (Syntax.tyStruct (List._∷_ 98 (List._∷_ 105 (List._∷_ 116 (List._∷_ 115 (List._∷_ 58 (List._∷_ 58 (List._∷_ 66 (List._∷_ 105 (List._∷_ 116
-              (List._∷_ 80 (List._∷_ 111 (List._∷_ 115 (List._∷_ 105 (List._∷_ 116 (List._∷_ 105 (List._∷_ 111 (List._∷_ 110 List.[]))))))))))))))))) (Syntax.tcons (Syntax.tyInt Syntax.w64) Syntax.tnil)),
-        )
-            (List._∷_ (
-              8,
-              Rows.any-gone (Syntax.tyStruct (List._∷_ 98 (List._∷_ 105 (List._∷_ 116 (List._∷_ 115 (List._∷_ 58 (List._∷_ 58 (List._∷_ 66 (List._∷_ 121 (List._∷_ 116 (List._∷_ 101 (List._∷_
-                  79 (List._∷_ 102 (List._∷_ 102 (List._∷_ 115 (List._∷_ 101 (List._∷_ 116 List.[])))))))))))))))) (Syntax.tcons (Syntax.tyInt Syntax.w64) Syntax.tnil)),
-            ) (List._∷_ (
-              9,
-              Rows.any-gone
-                  Syntax.tyBool,
-            ) (List._∷_ (
-              10,
-              AtSlots.mleftAt 2 (λ κc. Held.type (Syntax.named 1) (κc .1 .0)) Held.Value (λ κc v. v) (List._∷_ 5 (List._∷_ 1 List.[])) (Syntax.tyRef Syntax.erased Syntax.mut
-                  (Held.behind Syntax.erased)),
-            ) (List._∷_ (11, Rows.any-gone (Syntax.tyRef Syntax.erased Syntax.imm (Held.behind Syntax.erased))) (List._∷_ (
-              12,
-              Rows.any-gone (Syntax.tyRef Syntax.erased
-                  Syntax.imm (Held.behind Syntax.erased)),
-            ) List.[]))))))))))))
+        g9 = λ at. List._∷_ e0 (List._∷_
+            (1, Rows.mref-owed (Held.type (Syntax.named 1) (κs .1 .0)) (Syntax.tyRef (Syntax.named 0) Syntax.mut (Held.behind (Syntax.named 1))) 0 2 (Row.lease (κs .0) (qs .0))) (List._∷_ e15 (List._∷_
+            e17 (List._∷_ e19 (List._∷_ e21 (List._∷_ e23 (List._∷_ e24 (List._∷_ e26 (List._∷_ e28 (List._∷_ e6 (List._∷_ e10 (List._∷_ e13 List.[]))))))))))))
 
         abbrev g10 : (at : Nat.ℕ → Nat.ℕ) → List.List Row.Entry
-        g10 = λ at. List._∷_ (0, Rows.any-gone (Syntax.tyInt Syntax.w64)) (List._∷_ (
-          1,
-          Rows.mref (Held.type (Syntax.named 1) (κs .1 .0)) (Syntax.tyRef (Syntax.named 0) Syntax.mut (Held.behind
-              (Syntax.named 1))) 0,
-        ) (List._∷_ (2, Rows.sslice (Referent.rtF (Referent.fInt Syntax.w8)) (Syntax.tyRef (Syntax.named 1) Syntax.imm (Syntax.tyInt Syntax.w8)) 1) (List._∷_ (
-          3,
-          Rows.sc-here
-              (Row.sInt Syntax.w64),
-        ) (List._∷_ (4, Rows.sc-here (Row.sInt Syntax.w64)) (List._∷_ (5, Rows.whole (Declared.row Call.the-type)) (List._∷_ (6, Rows.sc-here (Row.sInt Syntax.w32))
-            (List._∷_ (
-              7,
-              Rows.any-gone (Syntax.tyStruct (List._∷_ 98 (List._∷_ 105 (List._∷_ 116 (List._∷_ 115 (List._∷_ 58 (List._∷_ 58 (List._∷_ 66 (List._∷_ 105 (List._∷_ 116 (List._∷_ 80 (List._∷_
-                  111 (List._∷_ 115 (List._∷_ 105 (List._∷_ 116 (List._∷_ 105 (List._∷_ 111 (List._∷_ 110 List.[]))))))))))))))))) (Syntax.tcons (Syntax.tyInt Syntax.w64) Syntax.tnil)),
-            ) (List._∷_ (
-              8,
-              Rows.any-gone (Syntax.tyStruct (List._∷_ 98 (List._∷_ 105 (List._∷_ 116 (List._∷_ 115 (List._∷_ 58 (List._∷_ 58 (List._∷_ 66 (List._∷_ 121 (List._∷_ 116 (List._∷_ 101 (List._∷_ 79 (List._∷_
-                  102 (List._∷_ 102 (List._∷_ 115 (List._∷_ 101 (List._∷_ 116 List.[])))))))))))))))) (Syntax.tcons (Syntax.tyInt Syntax.w64) Syntax.tnil)),
-            ) (List._∷_ (9, Rows.any-gone Syntax.tyBool)
-            (List._∷_ (10, Rows.any-gone (Syntax.tyRef Syntax.erased Syntax.mut (Held.behind Syntax.erased))) (List._∷_ (
-              11,
-              Rows.any-gone (Syntax.tyRef Syntax.erased Syntax.imm (Held.behind
-                  Syntax.erased)),
-            ) (List._∷_ (12, Rows.any-gone (Syntax.tyRef Syntax.erased Syntax.imm (Held.behind Syntax.erased))) List.[]))))))))))))
+        g10 = λ at. List._∷_ e0 (List._∷_ (1, Rows.mref (Held.type (Syntax.named 1) (κs .1 .0)) (Syntax.tyRef (Syntax.named 0) Syntax.mut (Held.behind (Syntax.named 1))) 0) (List._∷_ e15 (List._∷_ e17
+            (List._∷_ e19 (List._∷_ e21 (List._∷_ e23 (List._∷_ e24 (List._∷_ e26 (List._∷_ e28 (List._∷_ e8 (List._∷_ e10 (List._∷_ e13 List.[]))))))))))))
 
         abbrev g11 : (at : Nat.ℕ → Nat.ℕ) → List.List Row.Entry
-        g11 = λ at. List._∷_ (0, Rows.any-gone (Syntax.tyInt Syntax.w64)) (List._∷_ (
-          1,
-          Reshare.mref-owedS (Held.type (Syntax.named 1) (κs .1 .0)) (Syntax.tyRef (Syntax.named 0) Syntax.mut
-              (Held.behind (Syntax.named 1))) 0 3 (Row.lease (κs .0) (qs .0)),
-        ) (List._∷_ (
-          2,
-          Rows.sslice (Referent.rtF (Referent.fInt Syntax.w8)) (Syntax.tyRef (Syntax.named 1) Syntax.imm (Syntax.tyInt
-              Syntax.w8)) 1,
-        ) (List._∷_ (3, Rows.sc-here (Row.sInt Syntax.w64)) (List._∷_ (4, Rows.sc-here (Row.sInt Syntax.w64)) (List._∷_ (5, Rows.whole (Declared.row Call.the-type)) (List._∷_ (
-          6,
-          Rows.sc-here (Row.sInt Syntax.w32),
-        ) (List._∷_ (
-          7,
-          Rows.any-gone (Syntax.tyStruct (List._∷_ 98 (List._∷_ 105 (List._∷_ 116 (List._∷_ 115 (List._∷_ 58 (List._∷_ 58 (List._∷_ 66 (List._∷_ 105
-              (List._∷_ 116 (List._∷_ 80 (List._∷_ 111 (List._∷_ 115 (List._∷_ 105 (List._∷_ 116 (List._∷_ 105 (List._∷_ 111 (List._∷_ 110 List.[]))))))))))))))))) (Syntax.tcons (Syntax.tyInt Syntax.w64)
-              Syntax.tnil)),
-        ) (List._∷_ (
-          8,
-          Rows.any-gone (Syntax.tyStruct (List._∷_ 98 (List._∷_ 105 (List._∷_ 116 (List._∷_ 115 (List._∷_ 58 (List._∷_ 58 (List._∷_ 66 (List._∷_ 121 (List._∷_ 116
-              (List._∷_ 101 (List._∷_ 79 (List._∷_ 102 (List._∷_ 102 (List._∷_ 115 (List._∷_ 101 (List._∷_ 116 List.[])))))))))))))))) (Syntax.tcons (Syntax.tyInt Syntax.w64) Syntax.tnil)),
-        ) (List._∷_ (
-          9,
-          Rows.any-gone Syntax.tyBool,
-        ) (List._∷_ (10, Rows.any-gone (Syntax.tyRef Syntax.erased Syntax.mut (Held.behind Syntax.erased))) (List._∷_ (
-          11,
-          Rows.sref (Held.type (Syntax.named 1) (κs .1
-              .0)) (Syntax.tyRef Syntax.erased Syntax.imm (Held.behind Syntax.erased)) 3,
-        ) (List._∷_ (12, Rows.any-gone (Syntax.tyRef Syntax.erased Syntax.imm (Held.behind Syntax.erased)))
-            List.[]))))))))))))
+        g11 = λ at. List._∷_ e0 (List._∷_
+            (1, Reshare.mref-owedS (Held.type (Syntax.named 1) (κs .1 .0)) (Syntax.tyRef (Syntax.named 0) Syntax.mut (Held.behind (Syntax.named 1))) 0 3 (Row.lease (κs .0) (qs .0))) (List._∷_ e15
+            (List._∷_ e17 (List._∷_ e19 (List._∷_ e21 (List._∷_ e23 (List._∷_ e24 (List._∷_ e26 (List._∷_ e28 (List._∷_ e8 (List._∷_
+            (11, Rows.sref (Held.type (Syntax.named 1) (κs .1 .0)) (Syntax.tyRef Syntax.erased Syntax.imm (Held.behind Syntax.erased)) 3) (List._∷_ e13 List.[]))))))))))))
 
         abbrev g12 : (at : Nat.ℕ → Nat.ℕ) → List.List Row.Entry
-        g12 = λ at. List._∷_ (0, Rows.any-gone (Syntax.tyInt Syntax.w64)) (List._∷_ (
-          1,
-          Reshare.mref-owedS (Held.type (Syntax.named 1) (κs .1 .0)) (Syntax.tyRef (Syntax.named 0) Syntax.mut
-              (Held.behind (Syntax.named 1))) 0 3 (Row.lease (κs .0) (qs .0)),
-        ) (List._∷_ (
-          2,
-          Rows.sslice (Referent.rtF (Referent.fInt Syntax.w8)) (Syntax.tyRef (Syntax.named 1) Syntax.imm (Syntax.tyInt
-              Syntax.w8)) 1,
-        ) (List._∷_ (3, Rows.sc-here (Row.sInt Syntax.w64)) (List._∷_ (4, Rows.sc-here (Row.sInt Syntax.w64)) (List._∷_ (5, Rows.whole (Declared.row Call.the-type)) (List._∷_ (
-          6,
-          Rows.sc-here (Row.sInt Syntax.w32),
-        ) (List._∷_ (
-          7,
-          Rows.any-gone (Syntax.tyStruct (List._∷_ 98 (List._∷_ 105 (List._∷_ 116 (List._∷_ 115 (List._∷_ 58 (List._∷_ 58 (List._∷_ 66 (List._∷_ 105
-              (List._∷_ 116 (List._∷_ 80 (List._∷_ 111 (List._∷_ 115 (List._∷_ 105 (List._∷_ 116 (List._∷_ 105 (List._∷_ 111 (List._∷_ 110 List.[]))))))))))))))))) (Syntax.tcons (Syntax.tyInt Syntax.w64)
-              Syntax.tnil)),
-        ) (List._∷_ (
-          8,
-          Rows.any-gone (Syntax.tyStruct (List._∷_ 98 (List._∷_ 105 (List._∷_ 116 (List._∷_ 115 (List._∷_ 58 (List._∷_ 58 (List._∷_ 66 (List._∷_ 121 (List._∷_ 116
-              (List._∷_ 101 (List._∷_ 79 (List._∷_ 102 (List._∷_ 102 (List._∷_ 115 (List._∷_ 101 (List._∷_ 116 List.[])))))))))))))))) (Syntax.tcons (Syntax.tyInt Syntax.w64) Syntax.tnil)),
-        ) (List._∷_ (
-          9,
-          Rows.any-gone Syntax.tyBool,
-        ) (List._∷_ (10, Rows.any-gone (Syntax.tyRef Syntax.erased Syntax.mut (Held.behind Syntax.erased))) (List._∷_ (
-          11,
-          Rows.sref (Held.type (Syntax.named 1) (κs .1
-              .0)) (Syntax.tyRef Syntax.erased Syntax.imm (Held.behind Syntax.erased)) 6,
-        ) (List._∷_ (12, Rows.any-gone (Syntax.tyRef Syntax.erased Syntax.imm (Held.behind Syntax.erased)))
-            List.[]))))))))))))
+        g12 = λ at. List._∷_ e0 (List._∷_
+            (1, Reshare.mref-owedS (Held.type (Syntax.named 1) (κs .1 .0)) (Syntax.tyRef (Syntax.named 0) Syntax.mut (Held.behind (Syntax.named 1))) 0 3 (Row.lease (κs .0) (qs .0))) (List._∷_ e15
+            (List._∷_ e17 (List._∷_ e19 (List._∷_ e21 (List._∷_ e23 (List._∷_ e24 (List._∷_ e26 (List._∷_ e28 (List._∷_ e8 (List._∷_
+            (11, Rows.sref (Held.type (Syntax.named 1) (κs .1 .0)) (Syntax.tyRef Syntax.erased Syntax.imm (Held.behind Syntax.erased)) 6) (List._∷_ e13 List.[]))))))))))))
 
         abbrev g13 : (at : Nat.ℕ → Nat.ℕ) → List.List Row.Entry
-        g13 = λ at. List._∷_ (0, Rows.any-gone (Syntax.tyInt Syntax.w64)) (List._∷_ (
-          1,
-          Reshare.mref-owedS (Held.type (Syntax.named 1) (κs .1 .0)) (Syntax.tyRef (Syntax.named 0) Syntax.mut
-              (Held.behind (Syntax.named 1))) 0 3 (Row.lease (κs .0) (qs .0)),
-        ) (List._∷_ (
-          2,
-          Rows.sslice (Referent.rtF (Referent.fInt Syntax.w8)) (Syntax.tyRef (Syntax.named 1) Syntax.imm (Syntax.tyInt
-              Syntax.w8)) 1,
-        ) (List._∷_ (3, Rows.sc-here (Row.sInt Syntax.w64)) (List._∷_ (4, Rows.sc-here (Row.sInt Syntax.w64)) (List._∷_ (5, Rows.whole (Declared.row Call.the-type)) (List._∷_ (
-          6,
-          Rows.sc-here (Row.sInt Syntax.w32),
-        ) (List._∷_ (
-          7,
-          Rows.any-gone (Syntax.tyStruct (List._∷_ 98 (List._∷_ 105 (List._∷_ 116 (List._∷_ 115 (List._∷_ 58 (List._∷_ 58 (List._∷_ 66 (List._∷_ 105
-              (List._∷_ 116 (List._∷_ 80 (List._∷_ 111 (List._∷_ 115 (List._∷_ 105 (List._∷_ 116 (List._∷_ 105 (List._∷_ 111 (List._∷_ 110 List.[]))))))))))))))))) (Syntax.tcons (Syntax.tyInt Syntax.w64)
-              Syntax.tnil)),
-        ) (List._∷_ (
-          8,
-          Rows.any-gone (Syntax.tyStruct (List._∷_ 98 (List._∷_ 105 (List._∷_ 116 (List._∷_ 115 (List._∷_ 58 (List._∷_ 58 (List._∷_ 66 (List._∷_ 121 (List._∷_ 116
-              (List._∷_ 101 (List._∷_ 79 (List._∷_ 102 (List._∷_ 102 (List._∷_ 115 (List._∷_ 101 (List._∷_ 116 List.[])))))))))))))))) (Syntax.tcons (Syntax.tyInt Syntax.w64) Syntax.tnil)),
-        ) (List._∷_ (
-          9,
-          Rows.any-gone Syntax.tyBool,
-        ) (List._∷_ (10, Rows.any-gone (Syntax.tyRef Syntax.erased Syntax.mut (Held.behind Syntax.erased))) (List._∷_ (
-          11,
-          AtSlots.srefAt 2 (λ κc. Held.type
-              (Syntax.named 1) (κc .1 .0)) Held.Value (λ κc v. v) (List._∷_ 6 (List._∷_ 1 List.[])) (Syntax.tyRef Syntax.erased Syntax.imm (Held.behind Syntax.erased)) 6,
-        ) (List._∷_ (
-          12,
-          Rows.any-gone
-              (Syntax.tyRef Syntax.erased Syntax.imm (Held.behind Syntax.erased)),
-        ) List.[]))))))))))))
+        g13 = λ at. List._∷_ e0 (List._∷_
+            (1, Reshare.mref-owedS (Held.type (Syntax.named 1) (κs .1 .0)) (Syntax.tyRef (Syntax.named 0) Syntax.mut (Held.behind (Syntax.named 1))) 0 3 (Row.lease (κs .0) (qs .0))) (List._∷_ e15
+            (List._∷_ e17 (List._∷_ e19 (List._∷_ e21 (List._∷_ e23 (List._∷_ e24 (List._∷_ e26 (List._∷_ e28 (List._∷_ e8 (List._∷_ e9 (List._∷_ e13 List.[]))))))))))))
 
         abbrev g14 : (at : Nat.ℕ → Nat.ℕ) → List.List Row.Entry
-        g14 = λ at. List._∷_ (0, Rows.any-gone (Syntax.tyInt Syntax.w64)) (List._∷_ (
-          1,
-          Reshare.mref-owedS (Held.type (Syntax.named 1) (κs .1 .0)) (Syntax.tyRef (Syntax.named 0) Syntax.mut
-              (Held.behind (Syntax.named 1))) 0 3 (Row.lease (κs .0) (qs .0)),
-        ) (List._∷_ (
-          2,
-          Rows.sslice (Referent.rtF (Referent.fInt Syntax.w8)) (Syntax.tyRef (Syntax.named 1) Syntax.imm (Syntax.tyInt
-              Syntax.w8)) 1,
-        ) (List._∷_ (3, Rows.sc-here (Row.sInt Syntax.w64)) (List._∷_ (4, Rows.sc-here (Row.sInt Syntax.w64)) (List._∷_ (5, Rows.whole (Declared.row Call.the-type)) (List._∷_ (
-          6,
-          Rows.sc-here (Row.sInt Syntax.w32),
-        ) (List._∷_ (7, Rows.whole (Declared.row BitPosition.the-type)) (List._∷_ (
-          8,
-          Rows.any-gone (Syntax.tyStruct (List._∷_ 98 (List._∷_ 105 (List._∷_ 116
-              (List._∷_ 115 (List._∷_ 58 (List._∷_ 58 (List._∷_ 66 (List._∷_ 121 (List._∷_ 116 (List._∷_ 101 (List._∷_ 79 (List._∷_ 102 (List._∷_ 102 (List._∷_ 115 (List._∷_ 101 (List._∷_ 116
-              List.[])))))))))))))))) (Syntax.tcons (Syntax.tyInt Syntax.w64) Syntax.tnil)),
-        ) (List._∷_ (9, Rows.any-gone Syntax.tyBool) (List._∷_ (
-          10,
-          Rows.any-gone (Syntax.tyRef Syntax.erased Syntax.mut
-              (Held.behind Syntax.erased)),
-        ) (List._∷_ (
-          11,
-          AtSlots.srefAt 2 (λ κc. Held.type (Syntax.named 1) (κc .1 .0)) Held.Value (λ κc v. v) (List._∷_ 6 (List._∷_ 1 List.[])) (Syntax.tyRef
-              Syntax.erased Syntax.imm (Held.behind Syntax.erased)) 6,
-        ) (List._∷_ (12, Rows.any-gone (Syntax.tyRef Syntax.erased Syntax.imm (Held.behind Syntax.erased))) List.[]))))))))))))
+        g14 = λ at. List._∷_ e0 (List._∷_
+            (1, Reshare.mref-owedS (Held.type (Syntax.named 1) (κs .1 .0)) (Syntax.tyRef (Syntax.named 0) Syntax.mut (Held.behind (Syntax.named 1))) 0 3 (Row.lease (κs .0) (qs .0))) (List._∷_ e15
+            (List._∷_ e17 (List._∷_ e19 (List._∷_ e21 (List._∷_ e23 (List._∷_ e25 (List._∷_ e26 (List._∷_ e28 (List._∷_ e8 (List._∷_ e9 (List._∷_ e13 List.[]))))))))))))
 
         abbrev g15 : (at : Nat.ℕ → Nat.ℕ) → List.List Row.Entry
-        g15 = λ at. List._∷_ (0, Rows.any-gone (Syntax.tyInt Syntax.w64)) (List._∷_ (
-          1,
-          Reshare.mref-owedS (Held.type (Syntax.named 1) (κs .1 .0)) (Syntax.tyRef (Syntax.named 0) Syntax.mut
-              (Held.behind (Syntax.named 1))) 0 3 (Row.lease (κs .0) (qs .0)),
-        ) (List._∷_ (
-          2,
-          Rows.sslice (Referent.rtF (Referent.fInt Syntax.w8)) (Syntax.tyRef (Syntax.named 1) Syntax.imm (Syntax.tyInt
-              Syntax.w8)) 1,
-        ) (List._∷_ (3, Rows.sc-here (Row.sInt Syntax.w64)) (List._∷_ (4, Rows.sc-here (Row.sInt Syntax.w64)) (List._∷_ (5, Rows.whole (Declared.row Call.the-type)) (List._∷_ (
-          6,
-          Rows.sc-here (Row.sInt Syntax.w32),
-        ) (List._∷_ (7, Rows.whole (Declared.row BitPosition.the-type)) (List._∷_ (
-          8,
-          Rows.any-gone (Syntax.tyStruct (List._∷_ 98 (List._∷_ 105 (List._∷_ 116
-              (List._∷_ 115 (List._∷_ 58 (List._∷_ 58 (List._∷_ 66 (List._∷_ 121 (List._∷_ 116 (List._∷_ 101 (List._∷_ 79 (List._∷_ 102 (List._∷_ 102 (List._∷_ 115 (List._∷_ 101 (List._∷_ 116
-              List.[])))))))))))))))) (Syntax.tcons (Syntax.tyInt Syntax.w64) Syntax.tnil)),
-        ) (List._∷_ (9, Rows.any-gone Syntax.tyBool) (List._∷_ (
-          10,
-          Rows.any-gone (Syntax.tyRef Syntax.erased Syntax.mut
-              (Held.behind Syntax.erased)),
-        ) (List._∷_ (11, Rows.sref (Held.type (Syntax.named 1) (κs .1 .0)) (Syntax.tyRef Syntax.erased Syntax.imm (Held.behind Syntax.erased)) 6) (List._∷_ (
-          12,
-          Rows.any-gone (Syntax.tyRef Syntax.erased Syntax.imm (Held.behind Syntax.erased)),
-        ) List.[]))))))))))))
+        g15 = λ at. List._∷_ e0 (List._∷_
+            (1, Reshare.mref-owedS (Held.type (Syntax.named 1) (κs .1 .0)) (Syntax.tyRef (Syntax.named 0) Syntax.mut (Held.behind (Syntax.named 1))) 0 3 (Row.lease (κs .0) (qs .0))) (List._∷_ e15
+            (List._∷_ e17 (List._∷_ e19 (List._∷_ e21 (List._∷_ e23 (List._∷_ e25 (List._∷_ e26 (List._∷_ e28 (List._∷_ e8 (List._∷_
+            (11, Rows.sref (Held.type (Syntax.named 1) (κs .1 .0)) (Syntax.tyRef Syntax.erased Syntax.imm (Held.behind Syntax.erased)) 6) (List._∷_ e13 List.[]))))))))))))
 
         abbrev g16 : (at : Nat.ℕ → Nat.ℕ) → List.List Row.Entry
-        g16 = λ at. List._∷_ (0, Rows.any-gone (Syntax.tyInt Syntax.w64)) (List._∷_ (
-          1,
-          Reshare.mref-owedS (Held.type (Syntax.named 1) (κs .1 .0)) (Syntax.tyRef (Syntax.named 0) Syntax.mut
-              (Held.behind (Syntax.named 1))) 0 3 (Row.lease (κs .0) (qs .0)),
-        ) (List._∷_ (
-          2,
-          Rows.sslice (Referent.rtF (Referent.fInt Syntax.w8)) (Syntax.tyRef (Syntax.named 1) Syntax.imm (Syntax.tyInt
-              Syntax.w8)) 1,
-        ) (List._∷_ (3, Rows.sc-here (Row.sInt Syntax.w64)) (List._∷_ (4, Rows.sc-here (Row.sInt Syntax.w64)) (List._∷_ (5, Rows.whole (Declared.row Call.the-type)) (List._∷_ (
-          6,
-          Rows.sc-here (Row.sInt Syntax.w32),
-        ) (List._∷_ (7, Rows.whole (Declared.row BitPosition.the-type)) (List._∷_ (
-          8,
-          Rows.any-gone (Syntax.tyStruct (List._∷_ 98 (List._∷_ 105 (List._∷_ 116
-              (List._∷_ 115 (List._∷_ 58 (List._∷_ 58 (List._∷_ 66 (List._∷_ 121 (List._∷_ 116 (List._∷_ 101 (List._∷_ 79 (List._∷_ 102 (List._∷_ 102 (List._∷_ 115 (List._∷_ 101 (List._∷_ 116
-              List.[])))))))))))))))) (Syntax.tcons (Syntax.tyInt Syntax.w64) Syntax.tnil)),
-        ) (List._∷_ (9, Rows.any-gone Syntax.tyBool) (List._∷_ (
-          10,
-          Rows.any-gone (Syntax.tyRef Syntax.erased Syntax.mut
-              (Held.behind Syntax.erased)),
-        ) (List._∷_ (11, Rows.any-gone (Syntax.tyRef Syntax.erased Syntax.imm (Held.behind Syntax.erased))) (List._∷_ (
-          12,
-          Rows.any-gone (Syntax.tyRef Syntax.erased
-              Syntax.imm (Held.behind Syntax.erased)),
-        ) List.[]))))))))))))
+        g16 = λ at. List._∷_ e0 (List._∷_
+            (1, Reshare.mref-owedS (Held.type (Syntax.named 1) (κs .1 .0)) (Syntax.tyRef (Syntax.named 0) Syntax.mut (Held.behind (Syntax.named 1))) 0 3 (Row.lease (κs .0) (qs .0))) (List._∷_ e15
+            (List._∷_ e17 (List._∷_ e19 (List._∷_ e21 (List._∷_ e23 (List._∷_ e25 (List._∷_ e26 (List._∷_ e28 (List._∷_ e8 (List._∷_ e10 (List._∷_ e13 List.[]))))))))))))
 
         abbrev g17 : (at : Nat.ℕ → Nat.ℕ) → List.List Row.Entry
-        g17 = λ at. List._∷_ (0, Rows.any-gone (Syntax.tyInt Syntax.w64)) (List._∷_ (
-          1,
-          Rows.mref (Held.type (Syntax.named 1) (κs .1 .0)) (Syntax.tyRef (Syntax.named 0) Syntax.mut (Held.behind
-              (Syntax.named 1))) 0,
-        ) (List._∷_ (2, Rows.sslice (Referent.rtF (Referent.fInt Syntax.w8)) (Syntax.tyRef (Syntax.named 1) Syntax.imm (Syntax.tyInt Syntax.w8)) 1) (List._∷_ (
-          3,
-          Rows.sc-here
-              (Row.sInt Syntax.w64),
-        ) (List._∷_ (4, Rows.sc-here (Row.sInt Syntax.w64)) (List._∷_ (5, Rows.whole (Declared.row Call.the-type)) (List._∷_ (6, Rows.sc-here (Row.sInt Syntax.w32))
-            (List._∷_ (7, Rows.whole (Declared.row BitPosition.the-type)) (List._∷_ (
-              8,
-              Rows.any-gone (Syntax.tyStruct (List._∷_ 98 (List._∷_ 105 (List._∷_ 116 (List._∷_ 115 (List._∷_ 58 (List._∷_ 58
-                  (List._∷_ 66 (List._∷_ 121 (List._∷_ 116 (List._∷_ 101 (List._∷_ 79 (List._∷_ 102 (List._∷_ 102 (List._∷_ 115 (List._∷_ 101 (List._∷_ 116 List.[])))))))))))))))) (Syntax.tcons (Syntax.tyInt
-                  Syntax.w64) Syntax.tnil)),
-            ) (List._∷_ (9, Rows.any-gone Syntax.tyBool) (List._∷_ (10, Rows.any-gone (Syntax.tyRef Syntax.erased Syntax.mut (Held.behind Syntax.erased))) (List._∷_ (
-              11,
-              Rows.any-gone (Syntax.tyRef Syntax.erased Syntax.imm (Held.behind Syntax.erased)),
-            ) (List._∷_ (12, Rows.any-gone (Syntax.tyRef Syntax.erased Syntax.imm (Held.behind Syntax.erased)))
-            List.[]))))))))))))
+        g17 = λ at. List._∷_ e0 (List._∷_ (1, Rows.mref (Held.type (Syntax.named 1) (κs .1 .0)) (Syntax.tyRef (Syntax.named 0) Syntax.mut (Held.behind (Syntax.named 1))) 0) (List._∷_ e15 (List._∷_ e17
+            (List._∷_ e19 (List._∷_ e21 (List._∷_ e23 (List._∷_ e25 (List._∷_ e26 (List._∷_ e28 (List._∷_ e8 (List._∷_ e10 (List._∷_ e13 List.[]))))))))))))
 
         abbrev g18 : (at : Nat.ℕ → Nat.ℕ) → List.List Row.Entry
-        g18 = λ at. List._∷_ (0, Rows.any-gone (Syntax.tyInt Syntax.w64)) (List._∷_ (
-          1,
-          Reshare.mref-owedS (Held.type (Syntax.named 1) (κs .1 .0)) (Syntax.tyRef (Syntax.named 0) Syntax.mut
-              (Held.behind (Syntax.named 1))) 0 4 (Row.lease (κs .0) (qs .0)),
-        ) (List._∷_ (
-          2,
-          Rows.sslice (Referent.rtF (Referent.fInt Syntax.w8)) (Syntax.tyRef (Syntax.named 1) Syntax.imm (Syntax.tyInt
-              Syntax.w8)) 1,
-        ) (List._∷_ (3, Rows.sc-here (Row.sInt Syntax.w64)) (List._∷_ (4, Rows.sc-here (Row.sInt Syntax.w64)) (List._∷_ (5, Rows.whole (Declared.row Call.the-type)) (List._∷_ (
-          6,
-          Rows.sc-here (Row.sInt Syntax.w32),
-        ) (List._∷_ (7, Rows.whole (Declared.row BitPosition.the-type)) (List._∷_ (
-          8,
-          Rows.any-gone (Syntax.tyStruct (List._∷_ 98 (List._∷_ 105 (List._∷_ 116
-              (List._∷_ 115 (List._∷_ 58 (List._∷_ 58 (List._∷_ 66 (List._∷_ 121 (List._∷_ 116 (List._∷_ 101 (List._∷_ 79 (List._∷_ 102 (List._∷_ 102 (List._∷_ 115 (List._∷_ 101 (List._∷_ 116
-              List.[])))))))))))))))) (Syntax.tcons (Syntax.tyInt Syntax.w64) Syntax.tnil)),
-        ) (List._∷_ (9, Rows.any-gone Syntax.tyBool) (List._∷_ (
-          10,
-          Rows.any-gone (Syntax.tyRef Syntax.erased Syntax.mut
-              (Held.behind Syntax.erased)),
-        ) (List._∷_ (11, Rows.any-gone (Syntax.tyRef Syntax.erased Syntax.imm (Held.behind Syntax.erased))) (List._∷_ (
-          12,
-          Rows.sref (Held.type (Syntax.named 1) (κs
-              .1 .0)) (Syntax.tyRef Syntax.erased Syntax.imm (Held.behind Syntax.erased)) 4,
-        ) List.[]))))))))))))
+        g18 = λ at. List._∷_ e0 (List._∷_
+            (1, Reshare.mref-owedS (Held.type (Syntax.named 1) (κs .1 .0)) (Syntax.tyRef (Syntax.named 0) Syntax.mut (Held.behind (Syntax.named 1))) 0 4 (Row.lease (κs .0) (qs .0))) (List._∷_ e15
+            (List._∷_ e17 (List._∷_ e19 (List._∷_ e21 (List._∷_ e23 (List._∷_ e25 (List._∷_ e26 (List._∷_ e28 (List._∷_ e8 (List._∷_ e10 (List._∷_
+            (12, Rows.sref (Held.type (Syntax.named 1) (κs .1 .0)) (Syntax.tyRef Syntax.erased Syntax.imm (Held.behind Syntax.erased)) 4) List.[]))))))))))))
 
         abbrev g19 : (at : Nat.ℕ → Nat.ℕ) → List.List Row.Entry
-        g19 = λ at. List._∷_ (0, Rows.any-gone (Syntax.tyInt Syntax.w64)) (List._∷_ (
-          1,
-          Reshare.mref-owedS (Held.type (Syntax.named 1) (κs .1 .0)) (Syntax.tyRef (Syntax.named 0) Syntax.mut
-              (Held.behind (Syntax.named 1))) 0 4 (Row.lease (κs .0) (qs .0)),
-        ) (List._∷_ (
-          2,
-          Rows.sslice (Referent.rtF (Referent.fInt Syntax.w8)) (Syntax.tyRef (Syntax.named 1) Syntax.imm (Syntax.tyInt
-              Syntax.w8)) 1,
-        ) (List._∷_ (3, Rows.sc-here (Row.sInt Syntax.w64)) (List._∷_ (4, Rows.sc-here (Row.sInt Syntax.w64)) (List._∷_ (5, Rows.whole (Declared.row Call.the-type)) (List._∷_ (
-          6,
-          Rows.sc-here (Row.sInt Syntax.w32),
-        ) (List._∷_ (7, Rows.whole (Declared.row BitPosition.the-type)) (List._∷_ (
-          8,
-          Rows.any-gone (Syntax.tyStruct (List._∷_ 98 (List._∷_ 105 (List._∷_ 116
-              (List._∷_ 115 (List._∷_ 58 (List._∷_ 58 (List._∷_ 66 (List._∷_ 121 (List._∷_ 116 (List._∷_ 101 (List._∷_ 79 (List._∷_ 102 (List._∷_ 102 (List._∷_ 115 (List._∷_ 101 (List._∷_ 116
-              List.[])))))))))))))))) (Syntax.tcons (Syntax.tyInt Syntax.w64) Syntax.tnil)),
-        ) (List._∷_ (9, Rows.any-gone Syntax.tyBool) (List._∷_ (
-          10,
-          Rows.any-gone (Syntax.tyRef Syntax.erased Syntax.mut
-              (Held.behind Syntax.erased)),
-        ) (List._∷_ (11, Rows.any-gone (Syntax.tyRef Syntax.erased Syntax.imm (Held.behind Syntax.erased))) (List._∷_ (
-          12,
-          Rows.sref (Held.type (Syntax.named 1) (κs
-              .1 .0)) (Syntax.tyRef Syntax.erased Syntax.imm (Held.behind Syntax.erased)) 7,
-        ) List.[]))))))))))))
+        g19 = λ at. List._∷_ e0 (List._∷_
+            (1, Reshare.mref-owedS (Held.type (Syntax.named 1) (κs .1 .0)) (Syntax.tyRef (Syntax.named 0) Syntax.mut (Held.behind (Syntax.named 1))) 0 4 (Row.lease (κs .0) (qs .0))) (List._∷_ e15
+            (List._∷_ e17 (List._∷_ e19 (List._∷_ e21 (List._∷_ e23 (List._∷_ e25 (List._∷_ e26 (List._∷_ e28 (List._∷_ e8 (List._∷_ e10 (List._∷_
+            (12, Rows.sref (Held.type (Syntax.named 1) (κs .1 .0)) (Syntax.tyRef Syntax.erased Syntax.imm (Held.behind Syntax.erased)) 7) List.[]))))))))))))
 
         abbrev g20 : (at : Nat.ℕ → Nat.ℕ) → List.List Row.Entry
-        g20 = λ at. List._∷_ (0, Rows.any-gone (Syntax.tyInt Syntax.w64)) (List._∷_ (
-          1,
-          Reshare.mref-owedS (Held.type (Syntax.named 1) (κs .1 .0)) (Syntax.tyRef (Syntax.named 0) Syntax.mut
-              (Held.behind (Syntax.named 1))) 0 4 (Row.lease (κs .0) (qs .0)),
-        ) (List._∷_ (
-          2,
-          Rows.sslice (Referent.rtF (Referent.fInt Syntax.w8)) (Syntax.tyRef (Syntax.named 1) Syntax.imm (Syntax.tyInt
-              Syntax.w8)) 1,
-        ) (List._∷_ (3, Rows.sc-here (Row.sInt Syntax.w64)) (List._∷_ (4, Rows.sc-here (Row.sInt Syntax.w64)) (List._∷_ (5, Rows.whole (Declared.row Call.the-type)) (List._∷_ (
-          6,
-          Rows.sc-here (Row.sInt Syntax.w32),
-        ) (List._∷_ (7, Rows.whole (Declared.row BitPosition.the-type)) (List._∷_ (
-          8,
-          Rows.any-gone (Syntax.tyStruct (List._∷_ 98 (List._∷_ 105 (List._∷_ 116
-              (List._∷_ 115 (List._∷_ 58 (List._∷_ 58 (List._∷_ 66 (List._∷_ 121 (List._∷_ 116 (List._∷_ 101 (List._∷_ 79 (List._∷_ 102 (List._∷_ 102 (List._∷_ 115 (List._∷_ 101 (List._∷_ 116
-              List.[])))))))))))))))) (Syntax.tcons (Syntax.tyInt Syntax.w64) Syntax.tnil)),
-        ) (List._∷_ (9, Rows.any-gone Syntax.tyBool) (List._∷_ (
-          10,
-          Rows.any-gone (Syntax.tyRef Syntax.erased Syntax.mut
-              (Held.behind Syntax.erased)),
-        ) (List._∷_ (11, Rows.any-gone (Syntax.tyRef Syntax.erased Syntax.imm (Held.behind Syntax.erased))) (List._∷_ (
-          12,
-          AtSlots.srefAt 2 (λ κc. Held.type
-              (Syntax.named 1) (κc .1 .0)) Held.Value (λ κc v. v) (List._∷_ 7 (List._∷_ 1 List.[])) (Syntax.tyRef Syntax.erased Syntax.imm (Held.behind Syntax.erased)) 7,
-        ) List.[]))))))))))))
+        g20 = λ at. List._∷_ e0 (List._∷_
+            (1, Reshare.mref-owedS (Held.type (Syntax.named 1) (κs .1 .0)) (Syntax.tyRef (Syntax.named 0) Syntax.mut (Held.behind (Syntax.named 1))) 0 4 (Row.lease (κs .0) (qs .0))) (List._∷_ e15
+            (List._∷_ e17 (List._∷_ e19 (List._∷_ e21 (List._∷_ e23 (List._∷_ e25 (List._∷_ e26 (List._∷_ e28 (List._∷_ e8 (List._∷_ e10 (List._∷_ e12 List.[]))))))))))))
 
         abbrev g21 : (at : Nat.ℕ → Nat.ℕ) → List.List Row.Entry
-        g21 = λ at. List._∷_ (0, Rows.any-gone (Syntax.tyInt Syntax.w64)) (List._∷_ (
-          1,
-          Reshare.mref-owedS (Held.type (Syntax.named 1) (κs .1 .0)) (Syntax.tyRef (Syntax.named 0) Syntax.mut
-              (Held.behind (Syntax.named 1))) 0 4 (Row.lease (κs .0) (qs .0)),
-        ) (List._∷_ (
-          2,
-          Rows.sslice (Referent.rtF (Referent.fInt Syntax.w8)) (Syntax.tyRef (Syntax.named 1) Syntax.imm (Syntax.tyInt
-              Syntax.w8)) 1,
-        ) (List._∷_ (3, Rows.sc-here (Row.sInt Syntax.w64)) (List._∷_ (4, Rows.sc-here (Row.sInt Syntax.w64)) (List._∷_ (5, Rows.whole (Declared.row Call.the-type)) (List._∷_ (
-          6,
-          Rows.sc-here (Row.sInt Syntax.w32),
-        ) (List._∷_ (7, Rows.whole (Declared.row BitPosition.the-type)) (List._∷_ (8, Rows.whole (Declared.row ByteOffset.the-type)) (List._∷_ (
-          9,
-          Rows.any-gone
-              Syntax.tyBool,
-        ) (List._∷_ (10, Rows.any-gone (Syntax.tyRef Syntax.erased Syntax.mut (Held.behind Syntax.erased))) (List._∷_ (
-          11,
-          Rows.any-gone (Syntax.tyRef Syntax.erased Syntax.imm
-              (Held.behind Syntax.erased)),
-        ) (List._∷_ (
-          12,
-          AtSlots.srefAt 2 (λ κc. Held.type (Syntax.named 1) (κc .1 .0)) Held.Value (λ κc v. v) (List._∷_ 7 (List._∷_ 1 List.[])) (Syntax.tyRef
-              Syntax.erased Syntax.imm (Held.behind Syntax.erased)) 7,
-        ) List.[]))))))))))))
+        g21 = λ at. List._∷_ e0 (List._∷_
+            (1, Reshare.mref-owedS (Held.type (Syntax.named 1) (κs .1 .0)) (Syntax.tyRef (Syntax.named 0) Syntax.mut (Held.behind (Syntax.named 1))) 0 4 (Row.lease (κs .0) (qs .0))) (List._∷_ e15
+            (List._∷_ e17 (List._∷_ e19 (List._∷_ e21 (List._∷_ e23 (List._∷_ e25 (List._∷_ e27 (List._∷_ e28 (List._∷_ e8 (List._∷_ e10 (List._∷_ e12 List.[]))))))))))))
 
         abbrev g22 : (at : Nat.ℕ → Nat.ℕ) → List.List Row.Entry
-        g22 = λ at. List._∷_ (0, Rows.any-gone (Syntax.tyInt Syntax.w64)) (List._∷_ (
-          1,
-          Reshare.mref-owedS (Held.type (Syntax.named 1) (κs .1 .0)) (Syntax.tyRef (Syntax.named 0) Syntax.mut
-              (Held.behind (Syntax.named 1))) 0 4 (Row.lease (κs .0) (qs .0)),
-        ) (List._∷_ (
-          2,
-          Rows.sslice (Referent.rtF (Referent.fInt Syntax.w8)) (Syntax.tyRef (Syntax.named 1) Syntax.imm (Syntax.tyInt
-              Syntax.w8)) 1,
-        ) (List._∷_ (3, Rows.sc-here (Row.sInt Syntax.w64)) (List._∷_ (4, Rows.sc-here (Row.sInt Syntax.w64)) (List._∷_ (5, Rows.whole (Declared.row Call.the-type)) (List._∷_ (
-          6,
-          Rows.sc-here (Row.sInt Syntax.w32),
-        ) (List._∷_ (7, Rows.whole (Declared.row BitPosition.the-type)) (List._∷_ (8, Rows.whole (Declared.row ByteOffset.the-type)) (List._∷_ (
-          9,
-          Rows.any-gone
-              Syntax.tyBool,
-        ) (List._∷_ (10, Rows.any-gone (Syntax.tyRef Syntax.erased Syntax.mut (Held.behind Syntax.erased))) (List._∷_ (
-          11,
-          Rows.any-gone (Syntax.tyRef Syntax.erased Syntax.imm
-              (Held.behind Syntax.erased)),
-        ) (List._∷_ (12, Rows.sref (Held.type (Syntax.named 1) (κs .1 .0)) (Syntax.tyRef Syntax.erased Syntax.imm (Held.behind Syntax.erased)) 7) List.[]))))))))))))
+        g22 = λ at. List._∷_ e0 (List._∷_
+            (1, Reshare.mref-owedS (Held.type (Syntax.named 1) (κs .1 .0)) (Syntax.tyRef (Syntax.named 0) Syntax.mut (Held.behind (Syntax.named 1))) 0 4 (Row.lease (κs .0) (qs .0))) (List._∷_ e15
+            (List._∷_ e17 (List._∷_ e19 (List._∷_ e21 (List._∷_ e23 (List._∷_ e25 (List._∷_ e27 (List._∷_ e28 (List._∷_ e8 (List._∷_ e10 (List._∷_
+            (12, Rows.sref (Held.type (Syntax.named 1) (κs .1 .0)) (Syntax.tyRef Syntax.erased Syntax.imm (Held.behind Syntax.erased)) 7) List.[]))))))))))))
 
         abbrev g23 : (at : Nat.ℕ → Nat.ℕ) → List.List Row.Entry
-        g23 = λ at. List._∷_ (0, Rows.any-gone (Syntax.tyInt Syntax.w64)) (List._∷_ (
-          1,
-          Reshare.mref-owedS (Held.type (Syntax.named 1) (κs .1 .0)) (Syntax.tyRef (Syntax.named 0) Syntax.mut
-              (Held.behind (Syntax.named 1))) 0 4 (Row.lease (κs .0) (qs .0)),
-        ) (List._∷_ (
-          2,
-          Rows.sslice (Referent.rtF (Referent.fInt Syntax.w8)) (Syntax.tyRef (Syntax.named 1) Syntax.imm (Syntax.tyInt
-              Syntax.w8)) 1,
-        ) (List._∷_ (3, Rows.sc-here (Row.sInt Syntax.w64)) (List._∷_ (4, Rows.sc-here (Row.sInt Syntax.w64)) (List._∷_ (5, Rows.whole (Declared.row Call.the-type)) (List._∷_ (
-          6,
-          Rows.sc-here (Row.sInt Syntax.w32),
-        ) (List._∷_ (7, Rows.whole (Declared.row BitPosition.the-type)) (List._∷_ (8, Rows.whole (Declared.row ByteOffset.the-type)) (List._∷_ (
-          9,
-          Rows.any-gone
-              Syntax.tyBool,
-        ) (List._∷_ (10, Rows.any-gone (Syntax.tyRef Syntax.erased Syntax.mut (Held.behind Syntax.erased))) (List._∷_ (
-          11,
-          Rows.any-gone (Syntax.tyRef Syntax.erased Syntax.imm
-              (Held.behind Syntax.erased)),
-        ) (List._∷_ (12, Rows.any-gone (Syntax.tyRef Syntax.erased Syntax.imm (Held.behind Syntax.erased))) List.[]))))))))))))
+        g23 = λ at. List._∷_ e0 (List._∷_
+            (1, Reshare.mref-owedS (Held.type (Syntax.named 1) (κs .1 .0)) (Syntax.tyRef (Syntax.named 0) Syntax.mut (Held.behind (Syntax.named 1))) 0 4 (Row.lease (κs .0) (qs .0))) (List._∷_ e15
+            (List._∷_ e17 (List._∷_ e19 (List._∷_ e21 (List._∷_ e23 (List._∷_ e25 (List._∷_ e27 (List._∷_ e28 (List._∷_ e8 (List._∷_ e10 (List._∷_ e13 List.[]))))))))))))
 
         abbrev g24 : (at : Nat.ℕ → Nat.ℕ) → List.List Row.Entry
-        g24 = λ at. List._∷_ (0, Rows.any-gone (Syntax.tyInt Syntax.w64)) (List._∷_ (
-          1,
-          Rows.mref (Held.type (Syntax.named 1) (κs .1 .0)) (Syntax.tyRef (Syntax.named 0) Syntax.mut (Held.behind
-              (Syntax.named 1))) 0,
-        ) (List._∷_ (2, Rows.sslice (Referent.rtF (Referent.fInt Syntax.w8)) (Syntax.tyRef (Syntax.named 1) Syntax.imm (Syntax.tyInt Syntax.w8)) 1) (List._∷_ (
-          3,
-          Rows.sc-here
-              (Row.sInt Syntax.w64),
-        ) (List._∷_ (4, Rows.sc-here (Row.sInt Syntax.w64)) (List._∷_ (5, Rows.whole (Declared.row Call.the-type)) (List._∷_ (6, Rows.sc-here (Row.sInt Syntax.w32))
-            (List._∷_ (7, Rows.whole (Declared.row BitPosition.the-type)) (List._∷_ (8, Rows.whole (Declared.row ByteOffset.the-type)) (List._∷_ (9, Rows.any-gone Syntax.tyBool) (List._∷_ (
-              10,
-              Rows.any-gone (Syntax.tyRef Syntax.erased Syntax.mut (Held.behind Syntax.erased)),
-            ) (List._∷_ (11, Rows.any-gone (Syntax.tyRef Syntax.erased Syntax.imm (Held.behind Syntax.erased)))
-            (List._∷_ (12, Rows.any-gone (Syntax.tyRef Syntax.erased Syntax.imm (Held.behind Syntax.erased))) List.[]))))))))))))
+        g24 = λ at. List._∷_ e0 (List._∷_ (1, Rows.mref (Held.type (Syntax.named 1) (κs .1 .0)) (Syntax.tyRef (Syntax.named 0) Syntax.mut (Held.behind (Syntax.named 1))) 0) (List._∷_ e15 (List._∷_ e17
+            (List._∷_ e19 (List._∷_ e21 (List._∷_ e23 (List._∷_ e25 (List._∷_ e27 (List._∷_ e28 (List._∷_ e8 (List._∷_ e10 (List._∷_ e13 List.[]))))))))))))
 
         abbrev g25 : (at : Nat.ℕ → Nat.ℕ) → List.List Row.Entry
-        g25 = λ at. List._∷_ (0, Rows.any-gone (Syntax.tyInt Syntax.w64)) (List._∷_ (
-          1,
-          Rows.mref (Held.type (Syntax.named 1) (κs .1 .0)) (Syntax.tyRef (Syntax.named 0) Syntax.mut (Held.behind
-              (Syntax.named 1))) 0,
-        ) (List._∷_ (2, Rows.sslice (Referent.rtF (Referent.fInt Syntax.w8)) (Syntax.tyRef (Syntax.named 1) Syntax.imm (Syntax.tyInt Syntax.w8)) 1) (List._∷_ (
-          3,
-          Rows.sc-here
-              (Row.sInt Syntax.w64),
-        ) (List._∷_ (4, Rows.sc-here (Row.sInt Syntax.w64)) (List._∷_ (5, Rows.whole (Declared.row Call.the-type)) (List._∷_ (6, Rows.sc-here (Row.sInt Syntax.w32))
-            (List._∷_ (7, Rows.whole (Declared.row BitPosition.the-type)) (List._∷_ (8, Rows.whole (Declared.row ByteOffset.the-type)) (List._∷_ (9, Rows.sc-here Row.sBool) (List._∷_ (
-              10,
-              Rows.any-gone (Syntax.tyRef Syntax.erased Syntax.mut (Held.behind Syntax.erased)),
-            ) (List._∷_ (11, Rows.any-gone (Syntax.tyRef Syntax.erased Syntax.imm (Held.behind Syntax.erased)))
-            (List._∷_ (12, Rows.any-gone (Syntax.tyRef Syntax.erased Syntax.imm (Held.behind Syntax.erased))) List.[]))))))))))))
+        g25 = λ at. List._∷_ e0 (List._∷_ (1, Rows.mref (Held.type (Syntax.named 1) (κs .1 .0)) (Syntax.tyRef (Syntax.named 0) Syntax.mut (Held.behind (Syntax.named 1))) 0) (List._∷_ e15 (List._∷_ e17
+            (List._∷_ e19 (List._∷_ e21 (List._∷_ e23 (List._∷_ e25 (List._∷_ e27 (List._∷_ e29 (List._∷_ e8 (List._∷_ e10 (List._∷_ e13 List.[]))))))))))))
 
         abbrev g26 : (at : Nat.ℕ → Nat.ℕ) → List.List Row.Entry
-        g26 = λ at. List._∷_ (0, Rows.any-gone (Syntax.tyInt Syntax.w64)) (List._∷_ (
-          1,
-          Rows.mref (Held.type (Syntax.named 1) (κs .1 .0)) (Syntax.tyRef (Syntax.named 0) Syntax.mut (Held.behind
-              (Syntax.named 1))) 0,
-        ) (List._∷_ (2, Rows.sslice (Referent.rtF (Referent.fInt Syntax.w8)) (Syntax.tyRef (Syntax.named 1) Syntax.imm (Syntax.tyInt Syntax.w8)) 1) (List._∷_ (
-          3,
-          Rows.sc-here
-              (Row.sInt Syntax.w64),
-        ) (List._∷_ (4, Rows.sc-here (Row.sInt Syntax.w64)) (List._∷_ (
-          5,
-          Rows.any-gone (Syntax.tyStruct (List._∷_ 112 (List._∷_ 117 (List._∷_ 109 (List._∷_ 112 (List._∷_ 95
-              (List._∷_ 97 (List._∷_ 110 (List._∷_ 115 (List._∷_ 119 (List._∷_ 101 (List._∷_ 114 (List._∷_ 115 (List._∷_ 58 (List._∷_ 58 (List._∷_ 67 (List._∷_ 97 (List._∷_ 108 (List._∷_ 108
-              List.[])))))))))))))))))) (Syntax.tcons (Syntax.tyInt Syntax.w32) (Syntax.tcons (Syntax.tyInt Syntax.w32) (Syntax.tcons (Syntax.tyInt Syntax.w32) (Syntax.tcons (Syntax.tyInt Syntax.w32)
-              (Syntax.tcons (Syntax.tyInt Syntax.w32) Syntax.tnil)))))),
-        ) (List._∷_ (6, Rows.sc-here (Row.sInt Syntax.w32)) (List._∷_ (7, Rows.whole (Declared.row BitPosition.the-type)) (List._∷_ (
-          8,
-          Rows.whole (Declared.row ByteOffset.the-type),
-        ) (List._∷_ (9, Rows.sc-here Row.sBool) (List._∷_ (10, Rows.any-gone (Syntax.tyRef Syntax.erased Syntax.mut (Held.behind Syntax.erased)))
-            (List._∷_ (11, Rows.any-gone (Syntax.tyRef Syntax.erased Syntax.imm (Held.behind Syntax.erased))) (List._∷_ (
-              12,
-              Rows.any-gone (Syntax.tyRef Syntax.erased Syntax.imm (Held.behind
-                  Syntax.erased)),
-            ) List.[]))))))))))))
+        g26 = λ at. List._∷_ e0 (List._∷_ (1, Rows.mref (Held.type (Syntax.named 1) (κs .1 .0)) (Syntax.tyRef (Syntax.named 0) Syntax.mut (Held.behind (Syntax.named 1))) 0) (List._∷_ e15 (List._∷_ e17
+            (List._∷_ e19 (List._∷_ e20 (List._∷_ e23 (List._∷_ e25 (List._∷_ e27 (List._∷_ e29 (List._∷_ e8 (List._∷_ e10 (List._∷_ e13 List.[]))))))))))))
 
         abbrev g27 : (at : Nat.ℕ → Nat.ℕ) → List.List Row.Entry
-        g27 = λ at. List._∷_ (0, Rows.any-gone (Syntax.tyInt Syntax.w64)) (List._∷_ (
-          1,
-          Rows.mref (Held.type (Syntax.named 1) (κs .1 .0)) (Syntax.tyRef (Syntax.named 0) Syntax.mut (Held.behind
-              (Syntax.named 1))) 0,
-        ) (List._∷_ (2, Rows.sslice (Referent.rtF (Referent.fInt Syntax.w8)) (Syntax.tyRef (Syntax.named 1) Syntax.imm (Syntax.tyInt Syntax.w8)) 1) (List._∷_ (
-          3,
-          Rows.sc-here
-              (Row.sInt Syntax.w64),
-        ) (List._∷_ (4, Rows.sc-here (Row.sInt Syntax.w64)) (List._∷_ (
-          5,
-          Rows.any-gone (Syntax.tyStruct (List._∷_ 112 (List._∷_ 117 (List._∷_ 109 (List._∷_ 112 (List._∷_ 95
-              (List._∷_ 97 (List._∷_ 110 (List._∷_ 115 (List._∷_ 119 (List._∷_ 101 (List._∷_ 114 (List._∷_ 115 (List._∷_ 58 (List._∷_ 58 (List._∷_ 67 (List._∷_ 97 (List._∷_ 108 (List._∷_ 108
-              List.[])))))))))))))))))) (Syntax.tcons (Syntax.tyInt Syntax.w32) (Syntax.tcons (Syntax.tyInt Syntax.w32) (Syntax.tcons (Syntax.tyInt Syntax.w32) (Syntax.tcons (Syntax.tyInt Syntax.w32)
-              (Syntax.tcons (Syntax.tyInt Syntax.w32) Syntax.tnil)))))),
-        ) (List._∷_ (6, Rows.sc-here (Row.sInt Syntax.w32)) (List._∷_ (
-          7,
-          Rows.any-gone (Syntax.tyStruct (List._∷_ 98 (List._∷_ 105
-              (List._∷_ 116 (List._∷_ 115 (List._∷_ 58 (List._∷_ 58 (List._∷_ 66 (List._∷_ 105 (List._∷_ 116 (List._∷_ 80 (List._∷_ 111 (List._∷_ 115 (List._∷_ 105 (List._∷_ 116 (List._∷_ 105 (List._∷_ 111
-              (List._∷_ 110 List.[]))))))))))))))))) (Syntax.tcons (Syntax.tyInt Syntax.w64) Syntax.tnil)),
-        ) (List._∷_ (8, Rows.whole (Declared.row ByteOffset.the-type)) (List._∷_ (
-          9,
-          Rows.sc-here
-              Row.sBool,
-        ) (List._∷_ (10, Rows.any-gone (Syntax.tyRef Syntax.erased Syntax.mut (Held.behind Syntax.erased))) (List._∷_ (
-          11,
-          Rows.any-gone (Syntax.tyRef Syntax.erased Syntax.imm
-              (Held.behind Syntax.erased)),
-        ) (List._∷_ (12, Rows.any-gone (Syntax.tyRef Syntax.erased Syntax.imm (Held.behind Syntax.erased))) List.[]))))))))))))
+        g27 = λ at. List._∷_ e0 (List._∷_ (1, Rows.mref (Held.type (Syntax.named 1) (κs .1 .0)) (Syntax.tyRef (Syntax.named 0) Syntax.mut (Held.behind (Syntax.named 1))) 0) (List._∷_ e15 (List._∷_ e17
+            (List._∷_ e19 (List._∷_ e20 (List._∷_ e23 (List._∷_ e24 (List._∷_ e27 (List._∷_ e29 (List._∷_ e8 (List._∷_ e10 (List._∷_ e13 List.[]))))))))))))
 
         abbrev g28 : (at : Nat.ℕ → Nat.ℕ) → List.List Row.Entry
-        g28 = λ at. List._∷_ (0, Rows.any-gone (Syntax.tyInt Syntax.w64)) (List._∷_ (
-          1,
-          Rows.mref (Held.type (Syntax.named 1) (κs .1 .0)) (Syntax.tyRef (Syntax.named 0) Syntax.mut (Held.behind
-              (Syntax.named 1))) 0,
-        ) (List._∷_ (2, Rows.sslice (Referent.rtF (Referent.fInt Syntax.w8)) (Syntax.tyRef (Syntax.named 1) Syntax.imm (Syntax.tyInt Syntax.w8)) 1) (List._∷_ (
-          3,
-          Rows.sc-here
-              (Row.sInt Syntax.w64),
-        ) (List._∷_ (4, Rows.sc-here (Row.sInt Syntax.w64)) (List._∷_ (
-          5,
-          Rows.any-gone (Syntax.tyStruct (List._∷_ 112 (List._∷_ 117 (List._∷_ 109 (List._∷_ 112 (List._∷_ 95
-              (List._∷_ 97 (List._∷_ 110 (List._∷_ 115 (List._∷_ 119 (List._∷_ 101 (List._∷_ 114 (List._∷_ 115 (List._∷_ 58 (List._∷_ 58 (List._∷_ 67 (List._∷_ 97 (List._∷_ 108 (List._∷_ 108
-              List.[])))))))))))))))))) (Syntax.tcons (Syntax.tyInt Syntax.w32) (Syntax.tcons (Syntax.tyInt Syntax.w32) (Syntax.tcons (Syntax.tyInt Syntax.w32) (Syntax.tcons (Syntax.tyInt Syntax.w32)
-              (Syntax.tcons (Syntax.tyInt Syntax.w32) Syntax.tnil)))))),
-        ) (List._∷_ (6, Rows.sc-here (Row.sInt Syntax.w32)) (List._∷_ (
-          7,
-          Rows.any-gone (Syntax.tyStruct (List._∷_ 98 (List._∷_ 105
-              (List._∷_ 116 (List._∷_ 115 (List._∷_ 58 (List._∷_ 58 (List._∷_ 66 (List._∷_ 105 (List._∷_ 116 (List._∷_ 80 (List._∷_ 111 (List._∷_ 115 (List._∷_ 105 (List._∷_ 116 (List._∷_ 105 (List._∷_ 111
-              (List._∷_ 110 List.[]))))))))))))))))) (Syntax.tcons (Syntax.tyInt Syntax.w64) Syntax.tnil)),
-        ) (List._∷_ (
-          8,
-          Rows.any-gone (Syntax.tyStruct (List._∷_ 98 (List._∷_ 105 (List._∷_ 116 (List._∷_
-              115 (List._∷_ 58 (List._∷_ 58 (List._∷_ 66 (List._∷_ 121 (List._∷_ 116 (List._∷_ 101 (List._∷_ 79 (List._∷_ 102 (List._∷_ 102 (List._∷_ 115 (List._∷_ 101 (List._∷_ 116 List.[]))))))))))))))))
-              (Syntax.tcons (Syntax.tyInt Syntax.w64) Syntax.tnil)),
-        ) (List._∷_ (9, Rows.sc-here Row.sBool) (List._∷_ (
-          10,
-          Rows.any-gone (Syntax.tyRef Syntax.erased Syntax.mut (Held.behind
-              Syntax.erased)),
-        ) (List._∷_ (11, Rows.any-gone (Syntax.tyRef Syntax.erased Syntax.imm (Held.behind Syntax.erased))) (List._∷_ (
-          12,
-          Rows.any-gone (Syntax.tyRef Syntax.erased Syntax.imm
-              (Held.behind Syntax.erased)),
-        ) List.[]))))))))))))
+        g28 = λ at. List._∷_ e0 (List._∷_ (1, Rows.mref (Held.type (Syntax.named 1) (κs .1 .0)) (Syntax.tyRef (Syntax.named 0) Syntax.mut (Held.behind (Syntax.named 1))) 0) (List._∷_ e15 (List._∷_ e17
+            (List._∷_ e19 (List._∷_ e20 (List._∷_ e23 (List._∷_ e24 (List._∷_ e26 (List._∷_ e29 (List._∷_ e8 (List._∷_ e10 (List._∷_ e13 List.[]))))))))))))
 
         abbrev g29 : (at : Nat.ℕ → Nat.ℕ) → List.List Row.Entry
-        g29 = λ at. List._∷_ (0, Rows.any-gone (Syntax.tyInt Syntax.w64)) (List._∷_ (
-          1,
-          Rows.mref (Held.type (Syntax.named 1) (κs .1 .0)) (Syntax.tyRef (Syntax.named 0) Syntax.mut (Held.behind
-              (Syntax.named 1))) 0,
-        ) (List._∷_ (2, Rows.sslice (Referent.rtF (Referent.fInt Syntax.w8)) (Syntax.tyRef (Syntax.named 1) Syntax.imm (Syntax.tyInt Syntax.w8)) 1) (List._∷_ (
-          3,
-          Rows.sc-here
-              (Row.sInt Syntax.w64),
-        ) (List._∷_ (4, Rows.sc-here (Row.sInt Syntax.w64)) (List._∷_ (
-          5,
-          Rows.any-gone (Syntax.tyStruct (List._∷_ 112 (List._∷_ 117 (List._∷_ 109 (List._∷_ 112 (List._∷_ 95
-              (List._∷_ 97 (List._∷_ 110 (List._∷_ 115 (List._∷_ 119 (List._∷_ 101 (List._∷_ 114 (List._∷_ 115 (List._∷_ 58 (List._∷_ 58 (List._∷_ 67 (List._∷_ 97 (List._∷_ 108 (List._∷_ 108
-              List.[])))))))))))))))))) (Syntax.tcons (Syntax.tyInt Syntax.w32) (Syntax.tcons (Syntax.tyInt Syntax.w32) (Syntax.tcons (Syntax.tyInt Syntax.w32) (Syntax.tcons (Syntax.tyInt Syntax.w32)
-              (Syntax.tcons (Syntax.tyInt Syntax.w32) Syntax.tnil)))))),
-        ) (List._∷_ (6, Rows.sc-here (Row.sInt Syntax.w32)) (List._∷_ (
-          7,
-          Rows.any-gone (Syntax.tyStruct (List._∷_ 98 (List._∷_ 105
-              (List._∷_ 116 (List._∷_ 115 (List._∷_ 58 (List._∷_ 58 (List._∷_ 66 (List._∷_ 105 (List._∷_ 116 (List._∷_ 80 (List._∷_ 111 (List._∷_ 115 (List._∷_ 105 (List._∷_ 116 (List._∷_ 105 (List._∷_ 111
-              (List._∷_ 110 List.[]))))))))))))))))) (Syntax.tcons (Syntax.tyInt Syntax.w64) Syntax.tnil)),
-        ) (List._∷_ (
-          8,
-          Rows.any-gone (Syntax.tyStruct (List._∷_ 98 (List._∷_ 105 (List._∷_ 116 (List._∷_
-              115 (List._∷_ 58 (List._∷_ 58 (List._∷_ 66 (List._∷_ 121 (List._∷_ 116 (List._∷_ 101 (List._∷_ 79 (List._∷_ 102 (List._∷_ 102 (List._∷_ 115 (List._∷_ 101 (List._∷_ 116 List.[]))))))))))))))))
-              (Syntax.tcons (Syntax.tyInt Syntax.w64) Syntax.tnil)),
-        ) (List._∷_ (9, Rows.any-gone Syntax.tyBool) (List._∷_ (
-          10,
-          Rows.any-gone (Syntax.tyRef Syntax.erased Syntax.mut (Held.behind
-              Syntax.erased)),
-        ) (List._∷_ (11, Rows.any-gone (Syntax.tyRef Syntax.erased Syntax.imm (Held.behind Syntax.erased))) (List._∷_ (
-          12,
-          Rows.any-gone (Syntax.tyRef Syntax.erased Syntax.imm
-              (Held.behind Syntax.erased)),
-        ) List.[]))))))))))))
+        g29 = λ at. List._∷_ e0 (List._∷_ (1, Rows.mref (Held.type (Syntax.named 1) (κs .1 .0)) (Syntax.tyRef (Syntax.named 0) Syntax.mut (Held.behind (Syntax.named 1))) 0) (List._∷_ e15 (List._∷_ e17
+            (List._∷_ e19 (List._∷_ e20 (List._∷_ e23 (List._∷_ e24 (List._∷_ e26 (List._∷_ e28 (List._∷_ e8 (List._∷_ e10 (List._∷_ e13 List.[]))))))))))))
 
         abbrev g30 : (at : Nat.ℕ → Nat.ℕ) → List.List Row.Entry
-        g30 = λ at. List._∷_ (0, Rows.sc-here (Row.sInt Syntax.w64)) (List._∷_ (
-          1,
-          Rows.mref (Held.type (Syntax.named 1) (κs .1 .0)) (Syntax.tyRef (Syntax.named 0) Syntax.mut (Held.behind
-              (Syntax.named 1))) 0,
-        ) (List._∷_ (2, Rows.sslice (Referent.rtF (Referent.fInt Syntax.w8)) (Syntax.tyRef (Syntax.named 1) Syntax.imm (Syntax.tyInt Syntax.w8)) 1) (List._∷_ (
-          3,
-          Rows.sc-here
-              (Row.sInt Syntax.w64),
-        ) (List._∷_ (4, Rows.sc-here (Row.sInt Syntax.w64)) (List._∷_ (
-          5,
-          Rows.any-gone (Syntax.tyStruct (List._∷_ 112 (List._∷_ 117 (List._∷_ 109 (List._∷_ 112 (List._∷_ 95
-              (List._∷_ 97 (List._∷_ 110 (List._∷_ 115 (List._∷_ 119 (List._∷_ 101 (List._∷_ 114 (List._∷_ 115 (List._∷_ 58 (List._∷_ 58 (List._∷_ 67 (List._∷_ 97 (List._∷_ 108 (List._∷_ 108
-              List.[])))))))))))))))))) (Syntax.tcons (Syntax.tyInt Syntax.w32) (Syntax.tcons (Syntax.tyInt Syntax.w32) (Syntax.tcons (Syntax.tyInt Syntax.w32) (Syntax.tcons (Syntax.tyInt Syntax.w32)
-              (Syntax.tcons (Syntax.tyInt Syntax.w32) Syntax.tnil)))))),
-        ) (List._∷_ (6, Rows.any-gone (Syntax.tyInt Syntax.w32)) (List._∷_ (
-          7,
-          Rows.any-gone (Syntax.tyStruct (List._∷_ 98 (List._∷_ 105
-              (List._∷_ 116 (List._∷_ 115 (List._∷_ 58 (List._∷_ 58 (List._∷_ 66 (List._∷_ 105 (List._∷_ 116 (List._∷_ 80 (List._∷_ 111 (List._∷_ 115 (List._∷_ 105 (List._∷_ 116 (List._∷_ 105 (List._∷_ 111
-              (List._∷_ 110 List.[]))))))))))))))))) (Syntax.tcons (Syntax.tyInt Syntax.w64) Syntax.tnil)),
-        ) (List._∷_ (
-          8,
-          Rows.any-gone (Syntax.tyStruct (List._∷_ 98 (List._∷_ 105 (List._∷_ 116 (List._∷_
-              115 (List._∷_ 58 (List._∷_ 58 (List._∷_ 66 (List._∷_ 121 (List._∷_ 116 (List._∷_ 101 (List._∷_ 79 (List._∷_ 102 (List._∷_ 102 (List._∷_ 115 (List._∷_ 101 (List._∷_ 116 List.[]))))))))))))))))
-              (Syntax.tcons (Syntax.tyInt Syntax.w64) Syntax.tnil)),
-        ) (List._∷_ (9, Rows.any-gone Syntax.tyBool) (List._∷_ (
-          10,
-          Rows.any-gone (Syntax.tyRef Syntax.erased Syntax.mut (Held.behind
-              Syntax.erased)),
-        ) (List._∷_ (11, Rows.any-gone (Syntax.tyRef Syntax.erased Syntax.imm (Held.behind Syntax.erased))) (List._∷_ (
-          12,
-          Rows.any-gone (Syntax.tyRef Syntax.erased Syntax.imm
-              (Held.behind Syntax.erased)),
-        ) List.[]))))))))))))
+        g30 = λ at. List._∷_ e1 (List._∷_ (1, Rows.mref (Held.type (Syntax.named 1) (κs .1 .0)) (Syntax.tyRef (Syntax.named 0) Syntax.mut (Held.behind (Syntax.named 1))) 0) (List._∷_ e15 (List._∷_ e17
+            (List._∷_ e19 (List._∷_ e20 (List._∷_ e22 (List._∷_ e24 (List._∷_ e26 (List._∷_ e28 (List._∷_ e8 (List._∷_ e10 (List._∷_ e13 List.[]))))))))))))
 
         abbrev g31 : (at : Nat.ℕ → Nat.ℕ) → List.List Row.Entry
-        g31 = λ at. List._∷_ (0, Rows.sc-here (Row.sInt Syntax.w64)) (List._∷_ (
-          1,
-          Rows.mref (Held.type (Syntax.named 1) (κs .1 .0)) (Syntax.tyRef (Syntax.named 0) Syntax.mut (Held.behind
-              (Syntax.named 1))) 0,
-        ) (List._∷_ (2, Rows.sslice (Referent.rtF (Referent.fInt Syntax.w8)) (Syntax.tyRef (Syntax.named 1) Syntax.imm (Syntax.tyInt Syntax.w8)) 1) (List._∷_ (
-          3,
-          Rows.any-gone
-              (Syntax.tyInt Syntax.w64),
-        ) (List._∷_ (4, Rows.sc-here (Row.sInt Syntax.w64)) (List._∷_ (
-          5,
-          Rows.any-gone (Syntax.tyStruct (List._∷_ 112 (List._∷_ 117 (List._∷_ 109 (List._∷_ 112 (List._∷_
-              95 (List._∷_ 97 (List._∷_ 110 (List._∷_ 115 (List._∷_ 119 (List._∷_ 101 (List._∷_ 114 (List._∷_ 115 (List._∷_ 58 (List._∷_ 58 (List._∷_ 67 (List._∷_ 97 (List._∷_ 108 (List._∷_ 108
-              List.[])))))))))))))))))) (Syntax.tcons (Syntax.tyInt Syntax.w32) (Syntax.tcons (Syntax.tyInt Syntax.w32) (Syntax.tcons (Syntax.tyInt Syntax.w32) (Syntax.tcons (Syntax.tyInt Syntax.w32)
-              (Syntax.tcons (Syntax.tyInt Syntax.w32) Syntax.tnil)))))),
-        ) (List._∷_ (6, Rows.any-gone (Syntax.tyInt Syntax.w32)) (List._∷_ (
-          7,
-          Rows.any-gone (Syntax.tyStruct (List._∷_ 98 (List._∷_ 105
-              (List._∷_ 116 (List._∷_ 115 (List._∷_ 58 (List._∷_ 58 (List._∷_ 66 (List._∷_ 105 (List._∷_ 116 (List._∷_ 80 (List._∷_ 111 (List._∷_ 115 (List._∷_ 105 (List._∷_ 116 (List._∷_ 105 (List._∷_ 111
-              (List._∷_ 110 List.[]))))))))))))))))) (Syntax.tcons (Syntax.tyInt Syntax.w64) Syntax.tnil)),
-        ) (List._∷_ (
-          8,
-          Rows.any-gone (Syntax.tyStruct (List._∷_ 98 (List._∷_ 105 (List._∷_ 116 (List._∷_
-              115 (List._∷_ 58 (List._∷_ 58 (List._∷_ 66 (List._∷_ 121 (List._∷_ 116 (List._∷_ 101 (List._∷_ 79 (List._∷_ 102 (List._∷_ 102 (List._∷_ 115 (List._∷_ 101 (List._∷_ 116 List.[]))))))))))))))))
-              (Syntax.tcons (Syntax.tyInt Syntax.w64) Syntax.tnil)),
-        ) (List._∷_ (9, Rows.any-gone Syntax.tyBool) (List._∷_ (
-          10,
-          Rows.any-gone (Syntax.tyRef Syntax.erased Syntax.mut (Held.behind
-              Syntax.erased)),
-        ) (List._∷_ (11, Rows.any-gone (Syntax.tyRef Syntax.erased Syntax.imm (Held.behind Syntax.erased))) (List._∷_ (
-          12,
-          Rows.any-gone (Syntax.tyRef Syntax.erased Syntax.imm
-              (Held.behind Syntax.erased)),
-        ) List.[]))))))))))))
+        g31 = λ at. List._∷_ e1 (List._∷_ (1, Rows.mref (Held.type (Syntax.named 1) (κs .1 .0)) (Syntax.tyRef (Syntax.named 0) Syntax.mut (Held.behind (Syntax.named 1))) 0) (List._∷_ e15 (List._∷_ e16
+            (List._∷_ e19 (List._∷_ e20 (List._∷_ e22 (List._∷_ e24 (List._∷_ e26 (List._∷_ e28 (List._∷_ e8 (List._∷_ e10 (List._∷_ e13 List.[]))))))))))))
 
         abbrev G0 : (at : Nat.ℕ → Nat.ℕ) → Row.Cx
         G0 = λ at. record {
           locals = g0 at;
-          slots = List._∷_ (Row.lease (κs .0) (qs .0)) (List._∷_ (Row.lease (κs .1 .0) (qs .1 .0)) (List._∷_ Row.off (List._∷_ Row.off (List._∷_ Row.off (List._∷_
-              Row.off (List._∷_ Row.off (List._∷_ Row.off List.[])))))));
+          slots = List._∷_ (Row.lease (κs .0) (qs .0)) (List._∷_ (Row.lease (κs .1 .0) (qs .1 .0)) (List._∷_ Row.off (List._∷_ Row.off (List._∷_ Row.off (List._∷_ Row.off (List._∷_
+              Row.off (List._∷_ Row.off List.[])))))));
         }
 
         abbrev G1 : (at : Nat.ℕ → Nat.ℕ) → Row.Cx
         G1 = λ at. record {
           locals = g1 at;
-          slots = List._∷_ (Row.lease (κs .0) (qs .0)) (List._∷_ (Row.lease (κs .1 .0) (qs .1 .0)) (List._∷_ Row.off (List._∷_ Row.off (List._∷_ Row.off (List._∷_
-              Row.off (List._∷_ Row.off (List._∷_ Row.off List.[])))))));
+          slots = List._∷_ (Row.lease (κs .0) (qs .0)) (List._∷_ (Row.lease (κs .1 .0) (qs .1 .0)) (List._∷_ Row.off (List._∷_ Row.off (List._∷_ Row.off (List._∷_ Row.off (List._∷_
+              Row.off (List._∷_ Row.off List.[])))))));
         }
 
         abbrev G2 : (at : Nat.ℕ → Nat.ℕ) → Row.Cx
         G2 = λ at. record {
           locals = g0 at;
-          slots = List._∷_ (Row.lease (κs .0) (qs .0)) (List._∷_ (Row.lease (κs .1 .0) (qs .1 .0)) (List._∷_ Row.off (List._∷_ Row.off (List._∷_ Row.off (List._∷_
-              Row.off (List._∷_ Row.off (List._∷_ Row.off List.[])))))));
+          slots = List._∷_ (Row.lease (κs .0) (qs .0)) (List._∷_ (Row.lease (κs .1 .0) (qs .1 .0)) (List._∷_ Row.off (List._∷_ Row.off (List._∷_ Row.off (List._∷_ Row.off (List._∷_
+              Row.off (List._∷_ Row.off List.[])))))));
         }
 
         abbrev G3 : (at : Nat.ℕ → Nat.ℕ) → Row.Cx
         G3 = λ at. record {
           locals = g2 at;
-          slots = List._∷_ (Row.lease (κs .0) (qs .0)) (List._∷_ (Row.lease (κs .1 .0) (qs .1 .0)) (List._∷_ Row.off (List._∷_ Row.off (List._∷_ Row.off (List._∷_
-              Row.off (List._∷_ Row.off (List._∷_ Row.off List.[])))))));
+          slots = List._∷_ (Row.lease (κs .0) (qs .0)) (List._∷_ (Row.lease (κs .1 .0) (qs .1 .0)) (List._∷_ Row.off (List._∷_ Row.off (List._∷_ Row.off (List._∷_ Row.off (List._∷_
+              Row.off (List._∷_ Row.off List.[])))))));
         }
 
         abbrev G4 : (at : Nat.ℕ → Nat.ℕ) → Row.Cx
         G4 = λ at. record {
           locals = g3 at;
-          slots = List._∷_ (Row.lease (κs .0) (qs .0)) (List._∷_ (Row.lease (κs .1 .0) (qs .1 .0)) (List._∷_ Row.off (List._∷_ Row.off (List._∷_ Row.off (List._∷_
-              Row.off (List._∷_ Row.off (List._∷_ Row.off List.[])))))));
+          slots = List._∷_ (Row.lease (κs .0) (qs .0)) (List._∷_ (Row.lease (κs .1 .0) (qs .1 .0)) (List._∷_ Row.off (List._∷_ Row.off (List._∷_ Row.off (List._∷_ Row.off (List._∷_
+              Row.off (List._∷_ Row.off List.[])))))));
         }
 
         abbrev G5 : (at : Nat.ℕ → Nat.ℕ) → Row.Cx
         G5 = λ at. record {
           locals = g3 at;
-          slots = List._∷_ (Row.lease (κs .0) (qs .0)) (List._∷_ (Row.lease (κs .1 .0) (qs .1 .0)) (List._∷_ Row.off (List._∷_ Row.off (List._∷_ Row.off (List._∷_
-              Row.off (List._∷_ Row.off (List._∷_ Row.off List.[])))))));
+          slots = List._∷_ (Row.lease (κs .0) (qs .0)) (List._∷_ (Row.lease (κs .1 .0) (qs .1 .0)) (List._∷_ Row.off (List._∷_ Row.off (List._∷_ Row.off (List._∷_ Row.off (List._∷_
+              Row.off (List._∷_ Row.off List.[])))))));
         }
 
         abbrev G6 : (at : Nat.ℕ → Nat.ℕ) → Row.Cx
         G6 = λ at. record {
           locals = g4 at;
-          slots = List._∷_ (Row.lease (κs .0) (qs .0)) (List._∷_ (Row.lease (κs .1 .0) (qs .1 .0)) (List._∷_ Row.off (List._∷_ Row.off (List._∷_ Row.off (List._∷_
-              Row.off (List._∷_ Row.off (List._∷_ Row.off List.[])))))));
+          slots = List._∷_ (Row.lease (κs .0) (qs .0)) (List._∷_ (Row.lease (κs .1 .0) (qs .1 .0)) (List._∷_ Row.off (List._∷_ Row.off (List._∷_ Row.off (List._∷_ Row.off (List._∷_
+              Row.off (List._∷_ Row.off List.[])))))));
         }
 
         abbrev G7 : (at : Nat.ℕ → Nat.ℕ) → Row.Cx
         G7 = λ at. record {
           locals = g3 at;
-          slots = List._∷_ (Row.lease (κs .0) (qs .0)) (List._∷_ (Row.lease (κs .1 .0) (qs .1 .0)) (List._∷_ Row.off (List._∷_ Row.off (List._∷_ Row.off (List._∷_
-              Row.off (List._∷_ Row.off (List._∷_ Row.off List.[])))))));
+          slots = List._∷_ (Row.lease (κs .0) (qs .0)) (List._∷_ (Row.lease (κs .1 .0) (qs .1 .0)) (List._∷_ Row.off (List._∷_ Row.off (List._∷_ Row.off (List._∷_ Row.off (List._∷_
+              Row.off (List._∷_ Row.off List.[])))))));
         }
 
         abbrev G8 : (at : Nat.ℕ → Nat.ℕ) → Row.Cx
         G8 = λ at. record {
           locals = g3 at;
-          slots = List._∷_ (Row.lease (κs .0) (qs .0)) (List._∷_ (Row.lease (κs .1 .0) (qs .1 .0)) (List._∷_ Row.off (List._∷_ Row.off (List._∷_ Row.off (List._∷_
-              Row.off (List._∷_ Row.off (List._∷_ Row.off List.[])))))));
+          slots = List._∷_ (Row.lease (κs .0) (qs .0)) (List._∷_ (Row.lease (κs .1 .0) (qs .1 .0)) (List._∷_ Row.off (List._∷_ Row.off (List._∷_ Row.off (List._∷_ Row.off (List._∷_
+              Row.off (List._∷_ Row.off List.[])))))));
         }
 
         abbrev G9 : (at : Nat.ℕ → Nat.ℕ) → Row.Cx
         G9 = λ at. record {
           locals = g3 at;
-          slots = List._∷_ (Row.lease (κs .0) (qs .0)) (List._∷_ (Row.lease (κs .1 .0) (qs .1 .0)) (List._∷_ Row.off (List._∷_ Row.off (List._∷_ Row.off (List._∷_
-              Row.off (List._∷_ Row.off (List._∷_ Row.off List.[])))))));
+          slots = List._∷_ (Row.lease (κs .0) (qs .0)) (List._∷_ (Row.lease (κs .1 .0) (qs .1 .0)) (List._∷_ Row.off (List._∷_ Row.off (List._∷_ Row.off (List._∷_ Row.off (List._∷_
+              Row.off (List._∷_ Row.off List.[])))))));
         }
 
         abbrev G10 : (at : Nat.ℕ → Nat.ℕ) → Row.Cx
         G10 = λ at. record {
           locals = g5 at;
-          slots = List._∷_ (Row.lease (κs .0) (qs .0)) (List._∷_ (Row.lease (κs .1 .0) (qs .1 .0)) (List._∷_ Row.off (List._∷_ Row.off (List._∷_ Row.off (List._∷_
-              Row.off (List._∷_ Row.off (List._∷_ Row.off List.[])))))));
+          slots = List._∷_ (Row.lease (κs .0) (qs .0)) (List._∷_ (Row.lease (κs .1 .0) (qs .1 .0)) (List._∷_ Row.off (List._∷_ Row.off (List._∷_ Row.off (List._∷_ Row.off (List._∷_
+              Row.off (List._∷_ Row.off List.[])))))));
         }
 
         abbrev G11 : (at : Nat.ℕ → Nat.ℕ) → Row.Cx
         G11 = λ at. record {
           locals = g5 at;
-          slots = List._∷_ (Row.lease (κs .0) (qs .0)) (List._∷_ (Row.lease (κs .1 .0) (qs .1 .0)) (List._∷_ Row.alive (List._∷_ Row.off (List._∷_ Row.off (List._∷_
-              Row.off (List._∷_ Row.off (List._∷_ Row.off List.[])))))));
+          slots = List._∷_ (Row.lease (κs .0) (qs .0)) (List._∷_ (Row.lease (κs .1 .0) (qs .1 .0)) (List._∷_ Row.alive (List._∷_ Row.off (List._∷_ Row.off (List._∷_ Row.off (List._∷_
+              Row.off (List._∷_ Row.off List.[])))))));
         }
 
         abbrev G12 : (at : Nat.ℕ → Nat.ℕ) → Row.Cx
         G12 = λ at. record {
           locals = g6 at;
-          slots = List._∷_ Row.off (List._∷_ (Row.lease (κs .1 .0) (qs .1 .0)) (List._∷_ Row.alive (List._∷_ Row.off (List._∷_ Row.off (List._∷_ Row.off (List._∷_
-              Row.off (List._∷_ Row.off List.[])))))));
+          slots = List._∷_ Row.off (List._∷_ (Row.lease (κs .1 .0) (qs .1 .0)) (List._∷_ Row.alive (List._∷_ Row.off (List._∷_ Row.off (List._∷_ Row.off (List._∷_ Row.off (List._∷_
+              Row.off List.[])))))));
         }
 
         abbrev G13 : (at : Nat.ℕ → Nat.ℕ) → Row.Cx
         G13 = λ at. record {
           locals = g6 at;
-          slots = List._∷_ Row.off (List._∷_ (Row.leaseT (κs .1 .0) (qs .1 .0) List.[]) (List._∷_ Row.alive (List._∷_ Row.off (List._∷_ Row.off (List._∷_ Row.off
-              (List._∷_ Row.off (List._∷_ Row.off List.[])))))));
+          slots = List._∷_ Row.off (List._∷_ (Row.leaseT (κs .1 .0) (qs .1 .0) List.[]) (List._∷_ Row.alive (List._∷_ Row.off (List._∷_ Row.off (List._∷_ Row.off (List._∷_ Row.off
+              (List._∷_ Row.off List.[])))))));
         }
 
         abbrev G14 : (at : Nat.ℕ → Nat.ℕ) → Row.Cx
         G14 = λ at. record {
           locals = g6 at;
-          slots = List._∷_ Row.off (List._∷_ (Row.leaseT (κs .1 .0) (qs .1 .0) List.[]) (List._∷_ (Row.lease (List._∷_ (at 0) List.[]) TreeShare.fullShare) (List._∷_
-              Row.off (List._∷_ Row.off (List._∷_ Row.off (List._∷_ Row.off (List._∷_ Row.off List.[])))))));
+          slots = List._∷_ Row.off (List._∷_ (Row.leaseT (κs .1 .0) (qs .1 .0) List.[]) (List._∷_ (Row.lease (List._∷_ (at 0) List.[]) TreeShare.fullShare) (List._∷_ Row.off (List._∷_
+              Row.off (List._∷_ Row.off (List._∷_ Row.off (List._∷_ Row.off List.[])))))));
         }
 
         abbrev G15 : (at : Nat.ℕ → Nat.ℕ) → Row.Cx
         G15 = λ at. record {
           locals = g6 at;
-          slots = List._∷_ Row.off (List._∷_ (Row.leaseT (κs .1 .0) (qs .1 .0) (List._∷_ Bool'.false List.[])) (List._∷_ (Row.carved (List._∷_ (at 0) List.[])
-              (TreeShare.PosShare·right (qs .1 .0))) (List._∷_ Row.off (List._∷_ Row.off (List._∷_ (Row.lease (List._++_ (κs .1 .0) (List._∷_ (at 0) List.[])) (TreeShare.PosShare·right (qs .1 .0)))
-              (List._∷_ Row.off (List._∷_ Row.off List.[])))))));
+          slots = List._∷_ Row.off (List._∷_ (Row.leaseT (κs .1 .0) (qs .1 .0) (List._∷_ Bool'.false List.[])) (List._∷_ (Row.carved (List._∷_ (at 0) List.[]) (TreeShare.PosShare·right
+              (qs .1 .0))) (List._∷_ Row.off (List._∷_ Row.off (List._∷_ (Row.lease (List._++_ (κs .1 .0) (List._∷_ (at 0) List.[])) (TreeShare.PosShare·right (qs .1 .0))) (List._∷_ Row.off (List._∷_
+              Row.off List.[])))))));
         }
 
         abbrev G16 : (at : Nat.ℕ → Nat.ℕ) → Row.Cx
         G16 = λ at. record {
           locals = g7 at;
-          slots = List._∷_ Row.off (List._∷_ (Row.leaseT (κs .1 .0) (qs .1 .0) (List._∷_ Bool'.false List.[])) (List._∷_ (Row.carved (List._∷_ (at 0) List.[])
-              (TreeShare.PosShare·right (qs .1 .0))) (List._∷_ Row.off (List._∷_ Row.off (List._∷_ (Row.lease (List._++_ (κs .1 .0) (List._∷_ (at 0) List.[])) (TreeShare.PosShare·right (qs .1 .0)))
-              (List._∷_ Row.off (List._∷_ Row.off List.[])))))));
+          slots = List._∷_ Row.off (List._∷_ (Row.leaseT (κs .1 .0) (qs .1 .0) (List._∷_ Bool'.false List.[])) (List._∷_ (Row.carved (List._∷_ (at 0) List.[]) (TreeShare.PosShare·right
+              (qs .1 .0))) (List._∷_ Row.off (List._∷_ Row.off (List._∷_ (Row.lease (List._++_ (κs .1 .0) (List._∷_ (at 0) List.[])) (TreeShare.PosShare·right (qs .1 .0))) (List._∷_ Row.off (List._∷_
+              Row.off List.[])))))));
         }
 
         abbrev G17 : (at : Nat.ℕ → Nat.ℕ) → Row.Cx
         G17 = λ at. record {
           locals = g8 at;
-          slots = List._∷_ Row.off (List._∷_ (Row.leaseT (κs .1 .0) (qs .1 .0) (List._∷_ Bool'.false List.[])) (List._∷_ (Row.carved (List._∷_ (at 0) List.[])
-              (TreeShare.PosShare·right (qs .1 .0))) (List._∷_ Row.off (List._∷_ Row.off (List._∷_ (Row.lease (List._++_ (κs .1 .0) (List._∷_ (at 0) List.[])) (TreeShare.PosShare·right (qs .1 .0)))
-              (List._∷_ Row.off (List._∷_ Row.off List.[])))))));
+          slots = List._∷_ Row.off (List._∷_ (Row.leaseT (κs .1 .0) (qs .1 .0) (List._∷_ Bool'.false List.[])) (List._∷_ (Row.carved (List._∷_ (at 0) List.[]) (TreeShare.PosShare·right
+              (qs .1 .0))) (List._∷_ Row.off (List._∷_ Row.off (List._∷_ (Row.lease (List._++_ (κs .1 .0) (List._∷_ (at 0) List.[])) (TreeShare.PosShare·right (qs .1 .0))) (List._∷_ Row.off (List._∷_
+              Row.off List.[])))))));
         }
 
         abbrev G18 : (at : Nat.ℕ → Nat.ℕ) → Row.Cx
         G18 = λ at. record {
           locals = g9 at;
-          slots = List._∷_ Row.off (List._∷_ (Row.leaseT (κs .1 .0) (qs .1 .0) (List._∷_ Bool'.false List.[])) (List._∷_ (Row.carved (List._∷_ (at 0) List.[])
-              (TreeShare.PosShare·right (qs .1 .0))) (List._∷_ Row.off (List._∷_ Row.off (List._∷_ (Row.lease (List._++_ (κs .1 .0) (List._∷_ (at 0) List.[])) (TreeShare.PosShare·right (qs .1 .0)))
-              (List._∷_ Row.off (List._∷_ Row.off List.[])))))));
+          slots = List._∷_ Row.off (List._∷_ (Row.leaseT (κs .1 .0) (qs .1 .0) (List._∷_ Bool'.false List.[])) (List._∷_ (Row.carved (List._∷_ (at 0) List.[]) (TreeShare.PosShare·right
+              (qs .1 .0))) (List._∷_ Row.off (List._∷_ Row.off (List._∷_ (Row.lease (List._++_ (κs .1 .0) (List._∷_ (at 0) List.[])) (TreeShare.PosShare·right (qs .1 .0))) (List._∷_ Row.off (List._∷_
+              Row.off List.[])))))));
         }
 
         abbrev G19 : (at : Nat.ℕ → Nat.ℕ) → Row.Cx
         G19 = λ at. record {
           locals = g9 at;
-          slots = List._∷_ Row.off (List._∷_ (Row.leaseT (κs .1 .0) (qs .1 .0) (List._∷_ Bool'.true List.[])) (List._∷_ (Row.lease (List._∷_ (at 0) List.[])
-              TreeShare.fullShare) (List._∷_ Row.off (List._∷_ Row.off (List._∷_ Row.off (List._∷_ Row.off (List._∷_ Row.off List.[])))))));
+          slots = List._∷_ Row.off (List._∷_ (Row.leaseT (κs .1 .0) (qs .1 .0) (List._∷_ Bool'.true List.[])) (List._∷_ (Row.lease (List._∷_ (at 0) List.[]) TreeShare.fullShare)
+              (List._∷_ Row.off (List._∷_ Row.off (List._∷_ Row.off (List._∷_ Row.off (List._∷_ Row.off List.[])))))));
         }
 
         abbrev G20 : (at : Nat.ℕ → Nat.ℕ) → Row.Cx
         G20 = λ at. record {
           locals = g9 at;
-          slots = List._∷_ Row.off (List._∷_ (Row.leaseT (κs .1 .0) (qs .1 .0) List.[]) (List._∷_ (Row.lease (List._∷_ (at 0) List.[]) TreeShare.fullShare) (List._∷_
-              Row.off (List._∷_ Row.off (List._∷_ Row.off (List._∷_ Row.off (List._∷_ Row.off List.[])))))));
+          slots = List._∷_ Row.off (List._∷_ (Row.leaseT (κs .1 .0) (qs .1 .0) List.[]) (List._∷_ (Row.lease (List._∷_ (at 0) List.[]) TreeShare.fullShare) (List._∷_ Row.off (List._∷_
+              Row.off (List._∷_ Row.off (List._∷_ Row.off (List._∷_ Row.off List.[])))))));
         }
 
         abbrev G21 : (at : Nat.ℕ → Nat.ℕ) → Row.Cx
         G21 = λ at. record {
           locals = g9 at;
-          slots = List._∷_ Row.off (List._∷_ (Row.lease (κs .1 .0) (qs .1 .0)) (List._∷_ (Row.lease (List._∷_ (at 0) List.[]) TreeShare.fullShare) (List._∷_ Row.off
-              (List._∷_ Row.off (List._∷_ Row.off (List._∷_ Row.off (List._∷_ Row.off List.[])))))));
+          slots = List._∷_ Row.off (List._∷_ (Row.lease (κs .1 .0) (qs .1 .0)) (List._∷_ (Row.lease (List._∷_ (at 0) List.[]) TreeShare.fullShare) (List._∷_ Row.off (List._∷_ Row.off
+              (List._∷_ Row.off (List._∷_ Row.off (List._∷_ Row.off List.[])))))));
         }
 
         abbrev G22 : (at : Nat.ℕ → Nat.ℕ) → Row.Cx
         G22 = λ at. record {
           locals = g9 at;
-          slots = List._∷_ Row.off (List._∷_ (Row.lease (κs .1 .0) (qs .1 .0)) (List._∷_ Row.alive (List._∷_ Row.off (List._∷_ Row.off (List._∷_ Row.off (List._∷_
-              Row.off (List._∷_ Row.off List.[])))))));
+          slots = List._∷_ Row.off (List._∷_ (Row.lease (κs .1 .0) (qs .1 .0)) (List._∷_ Row.alive (List._∷_ Row.off (List._∷_ Row.off (List._∷_ Row.off (List._∷_ Row.off (List._∷_
+              Row.off List.[])))))));
         }
 
         abbrev G23 : (at : Nat.ℕ → Nat.ℕ) → Row.Cx
         G23 = λ at. record {
           locals = g9 at;
-          slots = List._∷_ Row.off (List._∷_ (Row.lease (κs .1 .0) (qs .1 .0)) (List._∷_ Row.dead (List._∷_ Row.off (List._∷_ Row.off (List._∷_ Row.off (List._∷_
-              Row.off (List._∷_ Row.off List.[])))))));
+          slots = List._∷_ Row.off (List._∷_ (Row.lease (κs .1 .0) (qs .1 .0)) (List._∷_ Row.dead (List._∷_ Row.off (List._∷_ Row.off (List._∷_ Row.off (List._∷_ Row.off (List._∷_
+              Row.off List.[])))))));
         }
 
         abbrev G24 : (at : Nat.ℕ → Nat.ℕ) → Row.Cx
         G24 = λ at. record {
           locals = g10 at;
-          slots = List._∷_ (Row.lease (κs .0) (qs .0)) (List._∷_ (Row.lease (κs .1 .0) (qs .1 .0)) (List._∷_ Row.dead (List._∷_ Row.off (List._∷_ Row.off (List._∷_
-              Row.off (List._∷_ Row.off (List._∷_ Row.off List.[])))))));
+          slots = List._∷_ (Row.lease (κs .0) (qs .0)) (List._∷_ (Row.lease (κs .1 .0) (qs .1 .0)) (List._∷_ Row.dead (List._∷_ Row.off (List._∷_ Row.off (List._∷_ Row.off (List._∷_
+              Row.off (List._∷_ Row.off List.[])))))));
         }
 
         abbrev G25 : (at : Nat.ℕ → Nat.ℕ) → Row.Cx
         G25 = λ at. record {
           locals = g10 at;
-          slots = List._∷_ (Row.lease (κs .0) (qs .0)) (List._∷_ (Row.lease (κs .1 .0) (qs .1 .0)) (List._∷_ Row.off (List._∷_ Row.off (List._∷_ Row.off (List._∷_
-              Row.off (List._∷_ Row.off (List._∷_ Row.off List.[])))))));
+          slots = List._∷_ (Row.lease (κs .0) (qs .0)) (List._∷_ (Row.lease (κs .1 .0) (qs .1 .0)) (List._∷_ Row.off (List._∷_ Row.off (List._∷_ Row.off (List._∷_ Row.off (List._∷_
+              Row.off (List._∷_ Row.off List.[])))))));
         }
 
         abbrev G26 : (at : Nat.ℕ → Nat.ℕ) → Row.Cx
         G26 = λ at. record {
           locals = g10 at;
-          slots = List._∷_ (Row.lease (κs .0) (qs .0)) (List._∷_ (Row.lease (κs .1 .0) (qs .1 .0)) (List._∷_ Row.off (List._∷_ Row.alive (List._∷_ Row.off (List._∷_
-              Row.off (List._∷_ Row.off (List._∷_ Row.off List.[])))))));
+          slots = List._∷_ (Row.lease (κs .0) (qs .0)) (List._∷_ (Row.lease (κs .1 .0) (qs .1 .0)) (List._∷_ Row.off (List._∷_ Row.alive (List._∷_ Row.off (List._∷_ Row.off (List._∷_
+              Row.off (List._∷_ Row.off List.[])))))));
         }
 
         abbrev G27 : (at : Nat.ℕ → Nat.ℕ) → Row.Cx
         G27 = λ at. record {
           locals = g11 at;
-          slots = List._∷_ Row.off (List._∷_ (Row.lease (κs .1 .0) (qs .1 .0)) (List._∷_ Row.off (List._∷_ Row.alive (List._∷_ Row.off (List._∷_ Row.off (List._∷_
-              Row.off (List._∷_ Row.off List.[])))))));
+          slots = List._∷_ Row.off (List._∷_ (Row.lease (κs .1 .0) (qs .1 .0)) (List._∷_ Row.off (List._∷_ Row.alive (List._∷_ Row.off (List._∷_ Row.off (List._∷_ Row.off (List._∷_
+              Row.off List.[])))))));
         }
 
         abbrev G28 : (at : Nat.ℕ → Nat.ℕ) → Row.Cx
         G28 = λ at. record {
           locals = g11 at;
-          slots = List._∷_ Row.off (List._∷_ (Row.leaseT (κs .1 .0) (qs .1 .0) List.[]) (List._∷_ Row.off (List._∷_ Row.alive (List._∷_ Row.off (List._∷_ Row.off
-              (List._∷_ Row.off (List._∷_ Row.off List.[])))))));
+          slots = List._∷_ Row.off (List._∷_ (Row.leaseT (κs .1 .0) (qs .1 .0) List.[]) (List._∷_ Row.off (List._∷_ Row.alive (List._∷_ Row.off (List._∷_ Row.off (List._∷_ Row.off
+              (List._∷_ Row.off List.[])))))));
         }
 
         abbrev G29 : (at : Nat.ℕ → Nat.ℕ) → Row.Cx
         G29 = λ at. record {
           locals = g11 at;
-          slots = List._∷_ Row.off (List._∷_ (Row.leaseT (κs .1 .0) (qs .1 .0) List.[]) (List._∷_ Row.off (List._∷_ (Row.lease (List._∷_ (at 1) List.[])
-              TreeShare.fullShare) (List._∷_ Row.off (List._∷_ Row.off (List._∷_ Row.off (List._∷_ Row.off List.[])))))));
+          slots = List._∷_ Row.off (List._∷_ (Row.leaseT (κs .1 .0) (qs .1 .0) List.[]) (List._∷_ Row.off (List._∷_ (Row.lease (List._∷_ (at 1) List.[]) TreeShare.fullShare) (List._∷_
+              Row.off (List._∷_ Row.off (List._∷_ Row.off (List._∷_ Row.off List.[])))))));
         }
 
         abbrev G30 : (at : Nat.ℕ → Nat.ℕ) → Row.Cx
         G30 = λ at. record {
           locals = g11 at;
-          slots = List._∷_ Row.off (List._∷_ (Row.leaseT (κs .1 .0) (qs .1 .0) (List._∷_ Bool'.false List.[])) (List._∷_ Row.off (List._∷_ (Row.carved (List._∷_ (at
-              1) List.[]) (TreeShare.PosShare·right (qs .1 .0))) (List._∷_ Row.off (List._∷_ Row.off (List._∷_ (Row.lease (List._++_ (κs .1 .0) (List._∷_ (at 1) List.[])) (TreeShare.PosShare·right (qs .1
-              .0))) (List._∷_ Row.off List.[])))))));
+          slots = List._∷_ Row.off (List._∷_ (Row.leaseT (κs .1 .0) (qs .1 .0) (List._∷_ Bool'.false List.[])) (List._∷_ Row.off (List._∷_ (Row.carved (List._∷_ (at 1) List.[])
+              (TreeShare.PosShare·right (qs .1 .0))) (List._∷_ Row.off (List._∷_ Row.off (List._∷_ (Row.lease (List._++_ (κs .1 .0) (List._∷_ (at 1) List.[])) (TreeShare.PosShare·right (qs .1 .0)))
+              (List._∷_ Row.off List.[])))))));
         }
 
         abbrev G31 : (at : Nat.ℕ → Nat.ℕ) → Row.Cx
         G31 = λ at. record {
           locals = g12 at;
-          slots = List._∷_ Row.off (List._∷_ (Row.leaseT (κs .1 .0) (qs .1 .0) (List._∷_ Bool'.false List.[])) (List._∷_ Row.off (List._∷_ (Row.carved (List._∷_ (at
-              1) List.[]) (TreeShare.PosShare·right (qs .1 .0))) (List._∷_ Row.off (List._∷_ Row.off (List._∷_ (Row.lease (List._++_ (κs .1 .0) (List._∷_ (at 1) List.[])) (TreeShare.PosShare·right (qs .1
-              .0))) (List._∷_ Row.off List.[])))))));
+          slots = List._∷_ Row.off (List._∷_ (Row.leaseT (κs .1 .0) (qs .1 .0) (List._∷_ Bool'.false List.[])) (List._∷_ Row.off (List._∷_ (Row.carved (List._∷_ (at 1) List.[])
+              (TreeShare.PosShare·right (qs .1 .0))) (List._∷_ Row.off (List._∷_ Row.off (List._∷_ (Row.lease (List._++_ (κs .1 .0) (List._∷_ (at 1) List.[])) (TreeShare.PosShare·right (qs .1 .0)))
+              (List._∷_ Row.off List.[])))))));
         }
 
         abbrev G32 : (at : Nat.ℕ → Nat.ℕ) → Row.Cx
         G32 = λ at. record {
           locals = g13 at;
-          slots = List._∷_ Row.off (List._∷_ (Row.leaseT (κs .1 .0) (qs .1 .0) (List._∷_ Bool'.false List.[])) (List._∷_ Row.off (List._∷_ (Row.carved (List._∷_ (at
-              1) List.[]) (TreeShare.PosShare·right (qs .1 .0))) (List._∷_ Row.off (List._∷_ Row.off (List._∷_ (Row.lease (List._++_ (κs .1 .0) (List._∷_ (at 1) List.[])) (TreeShare.PosShare·right (qs .1
-              .0))) (List._∷_ Row.off List.[])))))));
+          slots = List._∷_ Row.off (List._∷_ (Row.leaseT (κs .1 .0) (qs .1 .0) (List._∷_ Bool'.false List.[])) (List._∷_ Row.off (List._∷_ (Row.carved (List._∷_ (at 1) List.[])
+              (TreeShare.PosShare·right (qs .1 .0))) (List._∷_ Row.off (List._∷_ Row.off (List._∷_ (Row.lease (List._++_ (κs .1 .0) (List._∷_ (at 1) List.[])) (TreeShare.PosShare·right (qs .1 .0)))
+              (List._∷_ Row.off List.[])))))));
         }
 
         abbrev G33 : (at : Nat.ℕ → Nat.ℕ) → Row.Cx
         G33 = λ at. record {
           locals = g14 at;
-          slots = List._∷_ Row.off (List._∷_ (Row.leaseT (κs .1 .0) (qs .1 .0) (List._∷_ Bool'.false List.[])) (List._∷_ Row.off (List._∷_ (Row.carved (List._∷_ (at
-              1) List.[]) (TreeShare.PosShare·right (qs .1 .0))) (List._∷_ Row.off (List._∷_ Row.off (List._∷_ (Row.lease (List._++_ (κs .1 .0) (List._∷_ (at 1) List.[])) (TreeShare.PosShare·right (qs .1
-              .0))) (List._∷_ Row.off List.[])))))));
+          slots = List._∷_ Row.off (List._∷_ (Row.leaseT (κs .1 .0) (qs .1 .0) (List._∷_ Bool'.false List.[])) (List._∷_ Row.off (List._∷_ (Row.carved (List._∷_ (at 1) List.[])
+              (TreeShare.PosShare·right (qs .1 .0))) (List._∷_ Row.off (List._∷_ Row.off (List._∷_ (Row.lease (List._++_ (κs .1 .0) (List._∷_ (at 1) List.[])) (TreeShare.PosShare·right (qs .1 .0)))
+              (List._∷_ Row.off List.[])))))));
         }
 
         abbrev G34 : (at : Nat.ℕ → Nat.ℕ) → Row.Cx
         G34 = λ at. record {
           locals = g15 at;
-          slots = List._∷_ Row.off (List._∷_ (Row.leaseT (κs .1 .0) (qs .1 .0) (List._∷_ Bool'.false List.[])) (List._∷_ Row.off (List._∷_ (Row.carved (List._∷_ (at
-              1) List.[]) (TreeShare.PosShare·right (qs .1 .0))) (List._∷_ Row.off (List._∷_ Row.off (List._∷_ (Row.lease (List._++_ (κs .1 .0) (List._∷_ (at 1) List.[])) (TreeShare.PosShare·right (qs .1
-              .0))) (List._∷_ Row.off List.[])))))));
+          slots = List._∷_ Row.off (List._∷_ (Row.leaseT (κs .1 .0) (qs .1 .0) (List._∷_ Bool'.false List.[])) (List._∷_ Row.off (List._∷_ (Row.carved (List._∷_ (at 1) List.[])
+              (TreeShare.PosShare·right (qs .1 .0))) (List._∷_ Row.off (List._∷_ Row.off (List._∷_ (Row.lease (List._++_ (κs .1 .0) (List._∷_ (at 1) List.[])) (TreeShare.PosShare·right (qs .1 .0)))
+              (List._∷_ Row.off List.[])))))));
         }
 
         abbrev G35 : (at : Nat.ℕ → Nat.ℕ) → Row.Cx
         G35 = λ at. record {
           locals = g16 at;
-          slots = List._∷_ Row.off (List._∷_ (Row.leaseT (κs .1 .0) (qs .1 .0) (List._∷_ Bool'.false List.[])) (List._∷_ Row.off (List._∷_ (Row.carved (List._∷_ (at
-              1) List.[]) (TreeShare.PosShare·right (qs .1 .0))) (List._∷_ Row.off (List._∷_ Row.off (List._∷_ (Row.lease (List._++_ (κs .1 .0) (List._∷_ (at 1) List.[])) (TreeShare.PosShare·right (qs .1
-              .0))) (List._∷_ Row.off List.[])))))));
+          slots = List._∷_ Row.off (List._∷_ (Row.leaseT (κs .1 .0) (qs .1 .0) (List._∷_ Bool'.false List.[])) (List._∷_ Row.off (List._∷_ (Row.carved (List._∷_ (at 1) List.[])
+              (TreeShare.PosShare·right (qs .1 .0))) (List._∷_ Row.off (List._∷_ Row.off (List._∷_ (Row.lease (List._++_ (κs .1 .0) (List._∷_ (at 1) List.[])) (TreeShare.PosShare·right (qs .1 .0)))
+              (List._∷_ Row.off List.[])))))));
         }
 
         abbrev G36 : (at : Nat.ℕ → Nat.ℕ) → Row.Cx
         G36 = λ at. record {
           locals = g16 at;
-          slots = List._∷_ Row.off (List._∷_ (Row.leaseT (κs .1 .0) (qs .1 .0) (List._∷_ Bool'.true List.[])) (List._∷_ Row.off (List._∷_ (Row.lease (List._∷_ (at
-              1) List.[]) TreeShare.fullShare) (List._∷_ Row.off (List._∷_ Row.off (List._∷_ Row.off (List._∷_ Row.off List.[])))))));
+          slots = List._∷_ Row.off (List._∷_ (Row.leaseT (κs .1 .0) (qs .1 .0) (List._∷_ Bool'.true List.[])) (List._∷_ Row.off (List._∷_ (Row.lease (List._∷_ (at 1) List.[])
+              TreeShare.fullShare) (List._∷_ Row.off (List._∷_ Row.off (List._∷_ Row.off (List._∷_ Row.off List.[])))))));
         }
 
         abbrev G37 : (at : Nat.ℕ → Nat.ℕ) → Row.Cx
         G37 = λ at. record {
           locals = g16 at;
-          slots = List._∷_ Row.off (List._∷_ (Row.leaseT (κs .1 .0) (qs .1 .0) List.[]) (List._∷_ Row.off (List._∷_ (Row.lease (List._∷_ (at 1) List.[])
-              TreeShare.fullShare) (List._∷_ Row.off (List._∷_ Row.off (List._∷_ Row.off (List._∷_ Row.off List.[])))))));
+          slots = List._∷_ Row.off (List._∷_ (Row.leaseT (κs .1 .0) (qs .1 .0) List.[]) (List._∷_ Row.off (List._∷_ (Row.lease (List._∷_ (at 1) List.[]) TreeShare.fullShare) (List._∷_
+              Row.off (List._∷_ Row.off (List._∷_ Row.off (List._∷_ Row.off List.[])))))));
         }
 
         abbrev G38 : (at : Nat.ℕ → Nat.ℕ) → Row.Cx
         G38 = λ at. record {
           locals = g16 at;
-          slots = List._∷_ Row.off (List._∷_ (Row.lease (κs .1 .0) (qs .1 .0)) (List._∷_ Row.off (List._∷_ (Row.lease (List._∷_ (at 1) List.[]) TreeShare.fullShare)
-              (List._∷_ Row.off (List._∷_ Row.off (List._∷_ Row.off (List._∷_ Row.off List.[])))))));
+          slots = List._∷_ Row.off (List._∷_ (Row.lease (κs .1 .0) (qs .1 .0)) (List._∷_ Row.off (List._∷_ (Row.lease (List._∷_ (at 1) List.[]) TreeShare.fullShare) (List._∷_ Row.off
+              (List._∷_ Row.off (List._∷_ Row.off (List._∷_ Row.off List.[])))))));
         }
 
         abbrev G39 : (at : Nat.ℕ → Nat.ℕ) → Row.Cx
         G39 = λ at. record {
           locals = g16 at;
-          slots = List._∷_ Row.off (List._∷_ (Row.lease (κs .1 .0) (qs .1 .0)) (List._∷_ Row.off (List._∷_ Row.alive (List._∷_ Row.off (List._∷_ Row.off (List._∷_
-              Row.off (List._∷_ Row.off List.[])))))));
+          slots = List._∷_ Row.off (List._∷_ (Row.lease (κs .1 .0) (qs .1 .0)) (List._∷_ Row.off (List._∷_ Row.alive (List._∷_ Row.off (List._∷_ Row.off (List._∷_ Row.off (List._∷_
+              Row.off List.[])))))));
         }
 
         abbrev G40 : (at : Nat.ℕ → Nat.ℕ) → Row.Cx
         G40 = λ at. record {
           locals = g16 at;
-          slots = List._∷_ Row.off (List._∷_ (Row.lease (κs .1 .0) (qs .1 .0)) (List._∷_ Row.off (List._∷_ Row.dead (List._∷_ Row.off (List._∷_ Row.off (List._∷_
-              Row.off (List._∷_ Row.off List.[])))))));
+          slots = List._∷_ Row.off (List._∷_ (Row.lease (κs .1 .0) (qs .1 .0)) (List._∷_ Row.off (List._∷_ Row.dead (List._∷_ Row.off (List._∷_ Row.off (List._∷_ Row.off (List._∷_
+              Row.off List.[])))))));
         }
 
         abbrev G41 : (at : Nat.ℕ → Nat.ℕ) → Row.Cx
         G41 = λ at. record {
           locals = g17 at;
-          slots = List._∷_ (Row.lease (κs .0) (qs .0)) (List._∷_ (Row.lease (κs .1 .0) (qs .1 .0)) (List._∷_ Row.off (List._∷_ Row.dead (List._∷_ Row.off (List._∷_
-              Row.off (List._∷_ Row.off (List._∷_ Row.off List.[])))))));
+          slots = List._∷_ (Row.lease (κs .0) (qs .0)) (List._∷_ (Row.lease (κs .1 .0) (qs .1 .0)) (List._∷_ Row.off (List._∷_ Row.dead (List._∷_ Row.off (List._∷_ Row.off (List._∷_
+              Row.off (List._∷_ Row.off List.[])))))));
         }
 
         abbrev G42 : (at : Nat.ℕ → Nat.ℕ) → Row.Cx
         G42 = λ at. record {
           locals = g17 at;
-          slots = List._∷_ (Row.lease (κs .0) (qs .0)) (List._∷_ (Row.lease (κs .1 .0) (qs .1 .0)) (List._∷_ Row.off (List._∷_ Row.off (List._∷_ Row.off (List._∷_
-              Row.off (List._∷_ Row.off (List._∷_ Row.off List.[])))))));
+          slots = List._∷_ (Row.lease (κs .0) (qs .0)) (List._∷_ (Row.lease (κs .1 .0) (qs .1 .0)) (List._∷_ Row.off (List._∷_ Row.off (List._∷_ Row.off (List._∷_ Row.off (List._∷_
+              Row.off (List._∷_ Row.off List.[])))))));
         }
 
         abbrev G43 : (at : Nat.ℕ → Nat.ℕ) → Row.Cx
         G43 = λ at. record {
           locals = g17 at;
-          slots = List._∷_ (Row.lease (κs .0) (qs .0)) (List._∷_ (Row.lease (κs .1 .0) (qs .1 .0)) (List._∷_ Row.off (List._∷_ Row.off (List._∷_ Row.alive (List._∷_
-              Row.off (List._∷_ Row.off (List._∷_ Row.off List.[])))))));
+          slots = List._∷_ (Row.lease (κs .0) (qs .0)) (List._∷_ (Row.lease (κs .1 .0) (qs .1 .0)) (List._∷_ Row.off (List._∷_ Row.off (List._∷_ Row.alive (List._∷_ Row.off (List._∷_
+              Row.off (List._∷_ Row.off List.[])))))));
         }
 
         abbrev G44 : (at : Nat.ℕ → Nat.ℕ) → Row.Cx
         G44 = λ at. record {
           locals = g18 at;
-          slots = List._∷_ Row.off (List._∷_ (Row.lease (κs .1 .0) (qs .1 .0)) (List._∷_ Row.off (List._∷_ Row.off (List._∷_ Row.alive (List._∷_ Row.off (List._∷_
-              Row.off (List._∷_ Row.off List.[])))))));
+          slots = List._∷_ Row.off (List._∷_ (Row.lease (κs .1 .0) (qs .1 .0)) (List._∷_ Row.off (List._∷_ Row.off (List._∷_ Row.alive (List._∷_ Row.off (List._∷_ Row.off (List._∷_
+              Row.off List.[])))))));
         }
 
         abbrev G45 : (at : Nat.ℕ → Nat.ℕ) → Row.Cx
         G45 = λ at. record {
           locals = g18 at;
-          slots = List._∷_ Row.off (List._∷_ (Row.leaseT (κs .1 .0) (qs .1 .0) List.[]) (List._∷_ Row.off (List._∷_ Row.off (List._∷_ Row.alive (List._∷_ Row.off
-              (List._∷_ Row.off (List._∷_ Row.off List.[])))))));
+          slots = List._∷_ Row.off (List._∷_ (Row.leaseT (κs .1 .0) (qs .1 .0) List.[]) (List._∷_ Row.off (List._∷_ Row.off (List._∷_ Row.alive (List._∷_ Row.off (List._∷_ Row.off
+              (List._∷_ Row.off List.[])))))));
         }
 
         abbrev G46 : (at : Nat.ℕ → Nat.ℕ) → Row.Cx
         G46 = λ at. record {
           locals = g18 at;
-          slots = List._∷_ Row.off (List._∷_ (Row.leaseT (κs .1 .0) (qs .1 .0) List.[]) (List._∷_ Row.off (List._∷_ Row.off (List._∷_ (Row.lease (List._∷_ (at 2)
-              List.[]) TreeShare.fullShare) (List._∷_ Row.off (List._∷_ Row.off (List._∷_ Row.off List.[])))))));
+          slots = List._∷_ Row.off (List._∷_ (Row.leaseT (κs .1 .0) (qs .1 .0) List.[]) (List._∷_ Row.off (List._∷_ Row.off (List._∷_ (Row.lease (List._∷_ (at 2) List.[])
+              TreeShare.fullShare) (List._∷_ Row.off (List._∷_ Row.off (List._∷_ Row.off List.[])))))));
         }
 
         abbrev G47 : (at : Nat.ℕ → Nat.ℕ) → Row.Cx
         G47 = λ at. record {
           locals = g18 at;
-          slots = List._∷_ Row.off (List._∷_ (Row.leaseT (κs .1 .0) (qs .1 .0) (List._∷_ Bool'.false List.[])) (List._∷_ Row.off (List._∷_ Row.off (List._∷_
-              (Row.carved (List._∷_ (at 2) List.[]) (TreeShare.PosShare·right (qs .1 .0))) (List._∷_ Row.off (List._∷_ Row.off (List._∷_ (Row.lease (List._++_ (κs .1 .0) (List._∷_ (at 2) List.[]))
-              (TreeShare.PosShare·right (qs .1 .0))) List.[])))))));
+          slots = List._∷_ Row.off (List._∷_ (Row.leaseT (κs .1 .0) (qs .1 .0) (List._∷_ Bool'.false List.[])) (List._∷_ Row.off (List._∷_ Row.off (List._∷_ (Row.carved (List._∷_ (at
+              2) List.[]) (TreeShare.PosShare·right (qs .1 .0))) (List._∷_ Row.off (List._∷_ Row.off (List._∷_ (Row.lease (List._++_ (κs .1 .0) (List._∷_ (at 2) List.[])) (TreeShare.PosShare·right (qs .1
+              .0))) List.[])))))));
         }
 
         abbrev G48 : (at : Nat.ℕ → Nat.ℕ) → Row.Cx
         G48 = λ at. record {
           locals = g19 at;
-          slots = List._∷_ Row.off (List._∷_ (Row.leaseT (κs .1 .0) (qs .1 .0) (List._∷_ Bool'.false List.[])) (List._∷_ Row.off (List._∷_ Row.off (List._∷_
-              (Row.carved (List._∷_ (at 2) List.[]) (TreeShare.PosShare·right (qs .1 .0))) (List._∷_ Row.off (List._∷_ Row.off (List._∷_ (Row.lease (List._++_ (κs .1 .0) (List._∷_ (at 2) List.[]))
-              (TreeShare.PosShare·right (qs .1 .0))) List.[])))))));
+          slots = List._∷_ Row.off (List._∷_ (Row.leaseT (κs .1 .0) (qs .1 .0) (List._∷_ Bool'.false List.[])) (List._∷_ Row.off (List._∷_ Row.off (List._∷_ (Row.carved (List._∷_ (at
+              2) List.[]) (TreeShare.PosShare·right (qs .1 .0))) (List._∷_ Row.off (List._∷_ Row.off (List._∷_ (Row.lease (List._++_ (κs .1 .0) (List._∷_ (at 2) List.[])) (TreeShare.PosShare·right (qs .1
+              .0))) List.[])))))));
         }
 
         abbrev G49 : (at : Nat.ℕ → Nat.ℕ) → Row.Cx
         G49 = λ at. record {
           locals = g20 at;
-          slots = List._∷_ Row.off (List._∷_ (Row.leaseT (κs .1 .0) (qs .1 .0) (List._∷_ Bool'.false List.[])) (List._∷_ Row.off (List._∷_ Row.off (List._∷_
-              (Row.carved (List._∷_ (at 2) List.[]) (TreeShare.PosShare·right (qs .1 .0))) (List._∷_ Row.off (List._∷_ Row.off (List._∷_ (Row.lease (List._++_ (κs .1 .0) (List._∷_ (at 2) List.[]))
-              (TreeShare.PosShare·right (qs .1 .0))) List.[])))))));
+          slots = List._∷_ Row.off (List._∷_ (Row.leaseT (κs .1 .0) (qs .1 .0) (List._∷_ Bool'.false List.[])) (List._∷_ Row.off (List._∷_ Row.off (List._∷_ (Row.carved (List._∷_ (at
+              2) List.[]) (TreeShare.PosShare·right (qs .1 .0))) (List._∷_ Row.off (List._∷_ Row.off (List._∷_ (Row.lease (List._++_ (κs .1 .0) (List._∷_ (at 2) List.[])) (TreeShare.PosShare·right (qs .1
+              .0))) List.[])))))));
         }
 
         abbrev G50 : (at : Nat.ℕ → Nat.ℕ) → Row.Cx
         G50 = λ at. record {
           locals = g21 at;
-          slots = List._∷_ Row.off (List._∷_ (Row.leaseT (κs .1 .0) (qs .1 .0) (List._∷_ Bool'.false List.[])) (List._∷_ Row.off (List._∷_ Row.off (List._∷_
-              (Row.carved (List._∷_ (at 2) List.[]) (TreeShare.PosShare·right (qs .1 .0))) (List._∷_ Row.off (List._∷_ Row.off (List._∷_ (Row.lease (List._++_ (κs .1 .0) (List._∷_ (at 2) List.[]))
-              (TreeShare.PosShare·right (qs .1 .0))) List.[])))))));
+          slots = List._∷_ Row.off (List._∷_ (Row.leaseT (κs .1 .0) (qs .1 .0) (List._∷_ Bool'.false List.[])) (List._∷_ Row.off (List._∷_ Row.off (List._∷_ (Row.carved (List._∷_ (at
+              2) List.[]) (TreeShare.PosShare·right (qs .1 .0))) (List._∷_ Row.off (List._∷_ Row.off (List._∷_ (Row.lease (List._++_ (κs .1 .0) (List._∷_ (at 2) List.[])) (TreeShare.PosShare·right (qs .1
+              .0))) List.[])))))));
         }
 
         abbrev G51 : (at : Nat.ℕ → Nat.ℕ) → Row.Cx
         G51 = λ at. record {
           locals = g22 at;
-          slots = List._∷_ Row.off (List._∷_ (Row.leaseT (κs .1 .0) (qs .1 .0) (List._∷_ Bool'.false List.[])) (List._∷_ Row.off (List._∷_ Row.off (List._∷_
-              (Row.carved (List._∷_ (at 2) List.[]) (TreeShare.PosShare·right (qs .1 .0))) (List._∷_ Row.off (List._∷_ Row.off (List._∷_ (Row.lease (List._++_ (κs .1 .0) (List._∷_ (at 2) List.[]))
-              (TreeShare.PosShare·right (qs .1 .0))) List.[])))))));
+          slots = List._∷_ Row.off (List._∷_ (Row.leaseT (κs .1 .0) (qs .1 .0) (List._∷_ Bool'.false List.[])) (List._∷_ Row.off (List._∷_ Row.off (List._∷_ (Row.carved (List._∷_ (at
+              2) List.[]) (TreeShare.PosShare·right (qs .1 .0))) (List._∷_ Row.off (List._∷_ Row.off (List._∷_ (Row.lease (List._++_ (κs .1 .0) (List._∷_ (at 2) List.[])) (TreeShare.PosShare·right (qs .1
+              .0))) List.[])))))));
         }
 
         abbrev G52 : (at : Nat.ℕ → Nat.ℕ) → Row.Cx
         G52 = λ at. record {
           locals = g23 at;
-          slots = List._∷_ Row.off (List._∷_ (Row.leaseT (κs .1 .0) (qs .1 .0) (List._∷_ Bool'.false List.[])) (List._∷_ Row.off (List._∷_ Row.off (List._∷_
-              (Row.carved (List._∷_ (at 2) List.[]) (TreeShare.PosShare·right (qs .1 .0))) (List._∷_ Row.off (List._∷_ Row.off (List._∷_ (Row.lease (List._++_ (κs .1 .0) (List._∷_ (at 2) List.[]))
-              (TreeShare.PosShare·right (qs .1 .0))) List.[])))))));
+          slots = List._∷_ Row.off (List._∷_ (Row.leaseT (κs .1 .0) (qs .1 .0) (List._∷_ Bool'.false List.[])) (List._∷_ Row.off (List._∷_ Row.off (List._∷_ (Row.carved (List._∷_ (at
+              2) List.[]) (TreeShare.PosShare·right (qs .1 .0))) (List._∷_ Row.off (List._∷_ Row.off (List._∷_ (Row.lease (List._++_ (κs .1 .0) (List._∷_ (at 2) List.[])) (TreeShare.PosShare·right (qs .1
+              .0))) List.[])))))));
         }
 
         abbrev G53 : (at : Nat.ℕ → Nat.ℕ) → Row.Cx
         G53 = λ at. record {
           locals = g23 at;
-          slots = List._∷_ Row.off (List._∷_ (Row.leaseT (κs .1 .0) (qs .1 .0) (List._∷_ Bool'.true List.[])) (List._∷_ Row.off (List._∷_ Row.off (List._∷_
-              (Row.lease (List._∷_ (at 2) List.[]) TreeShare.fullShare) (List._∷_ Row.off (List._∷_ Row.off (List._∷_ Row.off List.[])))))));
+          slots = List._∷_ Row.off (List._∷_ (Row.leaseT (κs .1 .0) (qs .1 .0) (List._∷_ Bool'.true List.[])) (List._∷_ Row.off (List._∷_ Row.off (List._∷_ (Row.lease (List._∷_ (at 2)
+              List.[]) TreeShare.fullShare) (List._∷_ Row.off (List._∷_ Row.off (List._∷_ Row.off List.[])))))));
         }
 
         abbrev G54 : (at : Nat.ℕ → Nat.ℕ) → Row.Cx
         G54 = λ at. record {
           locals = g23 at;
-          slots = List._∷_ Row.off (List._∷_ (Row.leaseT (κs .1 .0) (qs .1 .0) List.[]) (List._∷_ Row.off (List._∷_ Row.off (List._∷_ (Row.lease (List._∷_ (at 2)
-              List.[]) TreeShare.fullShare) (List._∷_ Row.off (List._∷_ Row.off (List._∷_ Row.off List.[])))))));
+          slots = List._∷_ Row.off (List._∷_ (Row.leaseT (κs .1 .0) (qs .1 .0) List.[]) (List._∷_ Row.off (List._∷_ Row.off (List._∷_ (Row.lease (List._∷_ (at 2) List.[])
+              TreeShare.fullShare) (List._∷_ Row.off (List._∷_ Row.off (List._∷_ Row.off List.[])))))));
         }
 
         abbrev G55 : (at : Nat.ℕ → Nat.ℕ) → Row.Cx
         G55 = λ at. record {
           locals = g23 at;
-          slots = List._∷_ Row.off (List._∷_ (Row.lease (κs .1 .0) (qs .1 .0)) (List._∷_ Row.off (List._∷_ Row.off (List._∷_ (Row.lease (List._∷_ (at 2) List.[])
-              TreeShare.fullShare) (List._∷_ Row.off (List._∷_ Row.off (List._∷_ Row.off List.[])))))));
+          slots = List._∷_ Row.off (List._∷_ (Row.lease (κs .1 .0) (qs .1 .0)) (List._∷_ Row.off (List._∷_ Row.off (List._∷_ (Row.lease (List._∷_ (at 2) List.[]) TreeShare.fullShare)
+              (List._∷_ Row.off (List._∷_ Row.off (List._∷_ Row.off List.[])))))));
         }
 
         abbrev G56 : (at : Nat.ℕ → Nat.ℕ) → Row.Cx
         G56 = λ at. record {
           locals = g23 at;
-          slots = List._∷_ Row.off (List._∷_ (Row.lease (κs .1 .0) (qs .1 .0)) (List._∷_ Row.off (List._∷_ Row.off (List._∷_ Row.alive (List._∷_ Row.off (List._∷_
-              Row.off (List._∷_ Row.off List.[])))))));
+          slots = List._∷_ Row.off (List._∷_ (Row.lease (κs .1 .0) (qs .1 .0)) (List._∷_ Row.off (List._∷_ Row.off (List._∷_ Row.alive (List._∷_ Row.off (List._∷_ Row.off (List._∷_
+              Row.off List.[])))))));
         }
 
         abbrev G57 : (at : Nat.ℕ → Nat.ℕ) → Row.Cx
         G57 = λ at. record {
           locals = g23 at;
-          slots = List._∷_ Row.off (List._∷_ (Row.lease (κs .1 .0) (qs .1 .0)) (List._∷_ Row.off (List._∷_ Row.off (List._∷_ Row.dead (List._∷_ Row.off (List._∷_
-              Row.off (List._∷_ Row.off List.[])))))));
+          slots = List._∷_ Row.off (List._∷_ (Row.lease (κs .1 .0) (qs .1 .0)) (List._∷_ Row.off (List._∷_ Row.off (List._∷_ Row.dead (List._∷_ Row.off (List._∷_ Row.off (List._∷_
+              Row.off List.[])))))));
         }
 
         abbrev G58 : (at : Nat.ℕ → Nat.ℕ) → Row.Cx
         G58 = λ at. record {
           locals = g24 at;
-          slots = List._∷_ (Row.lease (κs .0) (qs .0)) (List._∷_ (Row.lease (κs .1 .0) (qs .1 .0)) (List._∷_ Row.off (List._∷_ Row.off (List._∷_ Row.dead (List._∷_
-              Row.off (List._∷_ Row.off (List._∷_ Row.off List.[])))))));
+          slots = List._∷_ (Row.lease (κs .0) (qs .0)) (List._∷_ (Row.lease (κs .1 .0) (qs .1 .0)) (List._∷_ Row.off (List._∷_ Row.off (List._∷_ Row.dead (List._∷_ Row.off (List._∷_
+              Row.off (List._∷_ Row.off List.[])))))));
         }
 
         abbrev G59 : (at : Nat.ℕ → Nat.ℕ) → Row.Cx
         G59 = λ at. record {
           locals = g24 at;
-          slots = List._∷_ (Row.lease (κs .0) (qs .0)) (List._∷_ (Row.lease (κs .1 .0) (qs .1 .0)) (List._∷_ Row.off (List._∷_ Row.off (List._∷_ Row.off (List._∷_
-              Row.off (List._∷_ Row.off (List._∷_ Row.off List.[])))))));
+          slots = List._∷_ (Row.lease (κs .0) (qs .0)) (List._∷_ (Row.lease (κs .1 .0) (qs .1 .0)) (List._∷_ Row.off (List._∷_ Row.off (List._∷_ Row.off (List._∷_ Row.off (List._∷_
+              Row.off (List._∷_ Row.off List.[])))))));
         }
 
         abbrev G60 : (at : Nat.ℕ → Nat.ℕ) → Row.Cx
         G60 = λ at. record {
           locals = g25 at;
-          slots = List._∷_ (Row.lease (κs .0) (qs .0)) (List._∷_ (Row.lease (κs .1 .0) (qs .1 .0)) (List._∷_ Row.off (List._∷_ Row.off (List._∷_ Row.off (List._∷_
-              Row.off (List._∷_ Row.off (List._∷_ Row.off List.[])))))));
+          slots = List._∷_ (Row.lease (κs .0) (qs .0)) (List._∷_ (Row.lease (κs .1 .0) (qs .1 .0)) (List._∷_ Row.off (List._∷_ Row.off (List._∷_ Row.off (List._∷_ Row.off (List._∷_
+              Row.off (List._∷_ Row.off List.[])))))));
         }
 
         abbrev G61 : (at : Nat.ℕ → Nat.ℕ) → Row.Cx
         G61 = λ at. record {
           locals = g26 at;
-          slots = List._∷_ (Row.lease (κs .0) (qs .0)) (List._∷_ (Row.lease (κs .1 .0) (qs .1 .0)) (List._∷_ Row.off (List._∷_ Row.off (List._∷_ Row.off (List._∷_
-              Row.off (List._∷_ Row.off (List._∷_ Row.off List.[])))))));
+          slots = List._∷_ (Row.lease (κs .0) (qs .0)) (List._∷_ (Row.lease (κs .1 .0) (qs .1 .0)) (List._∷_ Row.off (List._∷_ Row.off (List._∷_ Row.off (List._∷_ Row.off (List._∷_
+              Row.off (List._∷_ Row.off List.[])))))));
         }
 
         abbrev G62 : (at : Nat.ℕ → Nat.ℕ) → Row.Cx
         G62 = λ at. record {
           locals = g27 at;
-          slots = List._∷_ (Row.lease (κs .0) (qs .0)) (List._∷_ (Row.lease (κs .1 .0) (qs .1 .0)) (List._∷_ Row.off (List._∷_ Row.off (List._∷_ Row.off (List._∷_
-              Row.off (List._∷_ Row.off (List._∷_ Row.off List.[])))))));
+          slots = List._∷_ (Row.lease (κs .0) (qs .0)) (List._∷_ (Row.lease (κs .1 .0) (qs .1 .0)) (List._∷_ Row.off (List._∷_ Row.off (List._∷_ Row.off (List._∷_ Row.off (List._∷_
+              Row.off (List._∷_ Row.off List.[])))))));
         }
 
         abbrev G63 : (at : Nat.ℕ → Nat.ℕ) → Row.Cx
         G63 = λ at. record {
           locals = g28 at;
-          slots = List._∷_ (Row.lease (κs .0) (qs .0)) (List._∷_ (Row.lease (κs .1 .0) (qs .1 .0)) (List._∷_ Row.off (List._∷_ Row.off (List._∷_ Row.off (List._∷_
-              Row.off (List._∷_ Row.off (List._∷_ Row.off List.[])))))));
+          slots = List._∷_ (Row.lease (κs .0) (qs .0)) (List._∷_ (Row.lease (κs .1 .0) (qs .1 .0)) (List._∷_ Row.off (List._∷_ Row.off (List._∷_ Row.off (List._∷_ Row.off (List._∷_
+              Row.off (List._∷_ Row.off List.[])))))));
         }
 
         abbrev G64 : (at : Nat.ℕ → Nat.ℕ) → Row.Cx
         G64 = λ at. record {
           locals = g28 at;
-          slots = List._∷_ (Row.lease (κs .0) (qs .0)) (List._∷_ (Row.lease (κs .1 .0) (qs .1 .0)) (List._∷_ Row.off (List._∷_ Row.off (List._∷_ Row.off (List._∷_
-              Row.off (List._∷_ Row.off (List._∷_ Row.off List.[])))))));
+          slots = List._∷_ (Row.lease (κs .0) (qs .0)) (List._∷_ (Row.lease (κs .1 .0) (qs .1 .0)) (List._∷_ Row.off (List._∷_ Row.off (List._∷_ Row.off (List._∷_ Row.off (List._∷_
+              Row.off (List._∷_ Row.off List.[])))))));
         }
 
         abbrev G65 : (at : Nat.ℕ → Nat.ℕ) → Row.Cx
         G65 = λ at. record {
           locals = g29 at;
-          slots = List._∷_ (Row.lease (κs .0) (qs .0)) (List._∷_ (Row.lease (κs .1 .0) (qs .1 .0)) (List._∷_ Row.off (List._∷_ Row.off (List._∷_ Row.off (List._∷_
-              Row.off (List._∷_ Row.off (List._∷_ Row.off List.[])))))));
+          slots = List._∷_ (Row.lease (κs .0) (qs .0)) (List._∷_ (Row.lease (κs .1 .0) (qs .1 .0)) (List._∷_ Row.off (List._∷_ Row.off (List._∷_ Row.off (List._∷_ Row.off (List._∷_
+              Row.off (List._∷_ Row.off List.[])))))));
         }
 
         abbrev G66 : (at : Nat.ℕ → Nat.ℕ) → Row.Cx
         G66 = λ at. record {
           locals = g29 at;
-          slots = List._∷_ (Row.lease (κs .0) (qs .0)) (List._∷_ (Row.lease (κs .1 .0) (qs .1 .0)) (List._∷_ Row.off (List._∷_ Row.off (List._∷_ Row.off (List._∷_
-              Row.off (List._∷_ Row.off (List._∷_ Row.off List.[])))))));
+          slots = List._∷_ (Row.lease (κs .0) (qs .0)) (List._∷_ (Row.lease (κs .1 .0) (qs .1 .0)) (List._∷_ Row.off (List._∷_ Row.off (List._∷_ Row.off (List._∷_ Row.off (List._∷_
+              Row.off (List._∷_ Row.off List.[])))))));
         }
 
         abbrev G67 : (at : Nat.ℕ → Nat.ℕ) → Row.Cx
         G67 = λ at. record {
           locals = g3 at;
-          slots = List._∷_ (Row.lease (κs .0) (qs .0)) (List._∷_ (Row.lease (κs .1 .0) (qs .1 .0)) (List._∷_ Row.off (List._∷_ Row.off (List._∷_ Row.off (List._∷_
-              Row.off (List._∷_ Row.off (List._∷_ Row.off List.[])))))));
+          slots = List._∷_ (Row.lease (κs .0) (qs .0)) (List._∷_ (Row.lease (κs .1 .0) (qs .1 .0)) (List._∷_ Row.off (List._∷_ Row.off (List._∷_ Row.off (List._∷_ Row.off (List._∷_
+              Row.off (List._∷_ Row.off List.[])))))));
         }
 
         abbrev G68 : (at : Nat.ℕ → Nat.ℕ) → Row.Cx
         G68 = λ at. record {
           locals = g30 at;
-          slots = List._∷_ (Row.lease (κs .0) (qs .0)) (List._∷_ (Row.lease (κs .1 .0) (qs .1 .0)) (List._∷_ Row.off (List._∷_ Row.off (List._∷_ Row.off (List._∷_
-              Row.off (List._∷_ Row.off (List._∷_ Row.off List.[])))))));
+          slots = List._∷_ (Row.lease (κs .0) (qs .0)) (List._∷_ (Row.lease (κs .1 .0) (qs .1 .0)) (List._∷_ Row.off (List._∷_ Row.off (List._∷_ Row.off (List._∷_ Row.off (List._∷_
+              Row.off (List._∷_ Row.off List.[])))))));
         }
 
         abbrev G69 : (at : Nat.ℕ → Nat.ℕ) → Row.Cx
         G69 = λ at. record {
           locals = g31 at;
-          slots = List._∷_ (Row.lease (κs .0) (qs .0)) (List._∷_ (Row.lease (κs .1 .0) (qs .1 .0)) (List._∷_ Row.off (List._∷_ Row.off (List._∷_ Row.off (List._∷_
-              Row.off (List._∷_ Row.off (List._∷_ Row.off List.[])))))));
+          slots = List._∷_ (Row.lease (κs .0) (qs .0)) (List._∷_ (Row.lease (κs .1 .0) (qs .1 .0)) (List._∷_ Row.off (List._∷_ Row.off (List._∷_ Row.off (List._∷_ Row.off (List._∷_
+              Row.off (List._∷_ Row.off List.[])))))));
         }
 
         abbrev G70 : (at : Nat.ℕ → Nat.ℕ) → Row.Cx
         G70 = λ at. record {
           locals = g1 at;
-          slots = List._∷_ (Row.lease (κs .0) (qs .0)) (List._∷_ (Row.lease (κs .1 .0) (qs .1 .0)) (List._∷_ Row.off (List._∷_ Row.off (List._∷_ Row.off (List._∷_
-              Row.off (List._∷_ Row.off (List._∷_ Row.off List.[])))))));
+          slots = List._∷_ (Row.lease (κs .0) (qs .0)) (List._∷_ (Row.lease (κs .1 .0) (qs .1 .0)) (List._∷_ Row.off (List._∷_ Row.off (List._∷_ Row.off (List._∷_ Row.off (List._∷_
+              Row.off (List._∷_ Row.off List.[])))))));
         }
 
         abbrev Δ0 : (at : Nat.ℕ → Nat.ℕ) → Typed.Outs
@@ -3236,68 +1806,38 @@ module _ (claims· : Claims) where
 
           d7 : (at : Nat.ℕ → Nat.ℕ) → Typed.Typed 𝓤 H A 𝓣 E (G63 at) b16 (Δ3 at) at7
           d7 = λ at. Typed.s-seq 𝓤 H A W 𝓣 E (G63 at) (G64 at) b14 b15 (Δ3 at) (Typed.both s60) at6 (Plain.t-call-plain 𝓤 H A W 𝓣 0 ps·5 r·5 (claims· .10) (claims· .11) "pump_answers::counted" (known
-              .5) E (λ pos β. β) (G63 at) (Num.vAt 3 λ x. x, (Bool.bAt 9 λ x. x, tt)) 3 List.[] (Call'.sub-id 𝓤 H A W (G63 at .slots)) (
-                (Scalar.reads-sc 𝓤 H A W (Row.sInt Syntax.w64), Path'.refl),
-                ((Scalar.reads-sc 𝓤 H A W Row.sBool, Path'.refl), tt),
-              ) (Scalar.room-sc 𝓤 H A W (Row.sInt Syntax.w64)) tt Path'.refl) (d6 at)
+              .5) E (λ pos β. β) (G63 at) (Num.vAt 3 λ x. x, (Bool.bAt 9 λ x. x, tt)) 3 List.[] (Call'.sub-id 𝓤 H A W (G63 at .slots))
+              ((Scalar.reads-sc 𝓤 H A W (Row.sInt Syntax.w64), Path'.refl), ((Scalar.reads-sc 𝓤 H A W Row.sBool, Path'.refl), tt)) (Scalar.room-sc 𝓤 H A W (Row.sInt Syntax.w64)) tt Path'.refl) (d6 at)
 
           d8 : (at : Nat.ℕ → Nat.ℕ) → Typed.Typed 𝓤 H A 𝓣 E (G62 at) b16 (Δ3 at) at8
-          d8 = λ at. Typed.g-pre 𝓤 H A W 𝓣 E (G62 at) (G63 at) b16 (Δ3 at) (Typed.pass T62 T63 s59) at7 (Scalar.g-room 𝓤 H A W E (G62 at) 8 (Syntax.tyStruct (List._∷_ 98 (List._∷_ 105 (List._∷_ 116
-              (List._∷_ 115 (List._∷_ 58 (List._∷_ 58 (List._∷_ 66 (List._∷_ 121 (List._∷_ 116 (List._∷_ 101 (List._∷_ 79 (List._∷_ 102 (List._∷_ 102 (List._∷_ 115 (List._∷_ 101 (List._∷_ 116
-              List.[])))))))))))))))) (Syntax.tcons (Syntax.tyInt Syntax.w64) Syntax.tnil)) (Local.room-whole 𝓤 H A W (Declared.row ByteOffset.the-type) (Syntax.tyStruct (List._∷_ 98 (List._∷_ 105
-              (List._∷_ 116 (List._∷_ 115 (List._∷_ 58 (List._∷_ 58 (List._∷_ 66 (List._∷_ 121 (List._∷_ 116 (List._∷_ 101 (List._∷_ 79 (List._∷_ 102 (List._∷_ 102 (List._∷_ 115 (List._∷_ 101 (List._∷_
-              116 List.[])))))))))))))))) (Syntax.tcons (Syntax.tyInt Syntax.w64) Syntax.tnil)) Path'.refl)) (d7 at)
+          d8 = λ at. Typed.g-pre 𝓤 H A W 𝓣 E (G62 at) (G63 at) b16 (Δ3 at) (Typed.pass T62 T63 s59) at7 (Scalar.g-room 𝓤 H A W E (G62 at) 8 y2 (Local.room-whole 𝓤 H A W (Declared.row
+              ByteOffset.the-type) y2 Path'.refl)) (d7 at)
 
           d9 : (at : Nat.ℕ → Nat.ℕ) → Typed.Typed 𝓤 H A 𝓣 E (G61 at) b16 (Δ3 at) at9
-          d9 = λ at. Typed.g-pre 𝓤 H A W 𝓣 E (G61 at) (G62 at) b16 (Δ3 at) (Typed.pass T61 T62 s58) at8 (Scalar.g-room 𝓤 H A W E (G61 at) 7 (Syntax.tyStruct (List._∷_ 98 (List._∷_ 105 (List._∷_ 116
-              (List._∷_ 115 (List._∷_ 58 (List._∷_ 58 (List._∷_ 66 (List._∷_ 105 (List._∷_ 116 (List._∷_ 80 (List._∷_ 111 (List._∷_ 115 (List._∷_ 105 (List._∷_ 116 (List._∷_ 105 (List._∷_ 111 (List._∷_
-              110 List.[]))))))))))))))))) (Syntax.tcons (Syntax.tyInt Syntax.w64) Syntax.tnil)) (Local.room-whole 𝓤 H A W (Declared.row BitPosition.the-type) (Syntax.tyStruct (List._∷_ 98 (List._∷_ 105
-              (List._∷_ 116 (List._∷_ 115 (List._∷_ 58 (List._∷_ 58 (List._∷_ 66 (List._∷_ 105 (List._∷_ 116 (List._∷_ 80 (List._∷_ 111 (List._∷_ 115 (List._∷_ 105 (List._∷_ 116 (List._∷_ 105 (List._∷_
-              111 (List._∷_ 110 List.[]))))))))))))))))) (Syntax.tcons (Syntax.tyInt Syntax.w64) Syntax.tnil)) Path'.refl)) (d8 at)
+          d9 = λ at. Typed.g-pre 𝓤 H A W 𝓣 E (G61 at) (G62 at) b16 (Δ3 at) (Typed.pass T61 T62 s58) at8 (Scalar.g-room 𝓤 H A W E (G61 at) 7 y1 (Local.room-whole 𝓤 H A W (Declared.row
+              BitPosition.the-type) y1 Path'.refl)) (d8 at)
 
           d10 : (at : Nat.ℕ → Nat.ℕ) → Typed.Typed 𝓤 H A 𝓣 E (G60 at) b16 (Δ3 at) at10
-          d10 = λ at. Typed.g-pre 𝓤 H A W 𝓣 E (G60 at) (G61 at) b16 (Δ3 at) (Typed.pass T60 T61 s57) at9 (Scalar.g-room 𝓤 H A W E (G60 at) 5 (Syntax.tyStruct (List._∷_ 112 (List._∷_ 117 (List._∷_ 109
-              (List._∷_ 112 (List._∷_ 95 (List._∷_ 97 (List._∷_ 110 (List._∷_ 115 (List._∷_ 119 (List._∷_ 101 (List._∷_ 114 (List._∷_ 115 (List._∷_ 58 (List._∷_ 58 (List._∷_ 67 (List._∷_ 97 (List._∷_ 108
-              (List._∷_ 108 List.[])))))))))))))))))) (Syntax.tcons (Syntax.tyInt Syntax.w32) (Syntax.tcons (Syntax.tyInt Syntax.w32) (Syntax.tcons (Syntax.tyInt Syntax.w32) (Syntax.tcons (Syntax.tyInt
-              Syntax.w32) (Syntax.tcons (Syntax.tyInt Syntax.w32) Syntax.tnil)))))) (Local.room-whole 𝓤 H A W (Declared.row Call.the-type) (Syntax.tyStruct (List._∷_ 112 (List._∷_ 117 (List._∷_ 109
-              (List._∷_ 112 (List._∷_ 95 (List._∷_ 97 (List._∷_ 110 (List._∷_ 115 (List._∷_ 119 (List._∷_ 101 (List._∷_ 114 (List._∷_ 115 (List._∷_ 58 (List._∷_ 58 (List._∷_ 67 (List._∷_ 97 (List._∷_ 108
-              (List._∷_ 108 List.[])))))))))))))))))) (Syntax.tcons (Syntax.tyInt Syntax.w32) (Syntax.tcons (Syntax.tyInt Syntax.w32) (Syntax.tcons (Syntax.tyInt Syntax.w32) (Syntax.tcons (Syntax.tyInt
-              Syntax.w32) (Syntax.tcons (Syntax.tyInt Syntax.w32) Syntax.tnil)))))) Path'.refl)) (d9 at)
+          d10 = λ at. Typed.g-pre 𝓤 H A W 𝓣 E (G60 at) (G61 at) b16 (Δ3 at) (Typed.pass T60 T61 s57) at9 (Scalar.g-room 𝓤 H A W E (G60 at) 5 y0 (Local.room-whole 𝓤 H A W (Declared.row Call.the-type)
+              y0 Path'.refl)) (d9 at)
 
           d11 : (at : Nat.ℕ → Nat.ℕ) → Typed.Typed 𝓤 H A 𝓣 E (G59 at) b17 (Δ3 at) at11
           d11 = λ at. Typed.s-seq 𝓤 H A W 𝓣 E (G59 at) (G60 at) b13 b16 (Δ3 at) (Typed.both s56) at10 (Plain.t-call-plain 𝓤 H A W 𝓣 0 ps·4 r·4 (claims· .8) (claims· .9) "pump_answers::agrees" (known
-              .4) E (λ pos β. β) (G59 at) (
-                record { pos = 5; st = List.[]; d = 0; at = λ x. x },
+              .4) E (λ pos β. β) (G59 at)
+              (record { pos = 5; st = List.[]; d = 0; at = λ x. x }, (Num.vAt 6 λ x. x, (record { pos = 7; st = List.[]; d = 0; at = λ x. x }, (record { pos = 8; st = List.[]; d = 0; at = λ x. x }, tt))))
+              9 List.[] (Call'.sub-id 𝓤 H A W (G59 at .slots)) (
                 (
-                  Num.vAt 6 λ x. x,
-                  (
-                    record { pos = 7; st = List.[]; d = 0; at = λ x. x },
-                    (
-                      record {
-                        pos = 8;
-                        st =
-                            List.[];
-                        d = 0;
-                        at = λ x. x;
-                      },
-                      tt,
-                    ),
-                  ),
-                ),
-              ) 9 List.[] (Call'.sub-id 𝓤 H A W (G59 at .slots)) (
-                (
-                  Yields.yields-copy 𝓤 H A W (λ ρ. Unit) (Declared.row Call.the-type) Path'.refl
-                      (Copies.cStruct Call.the-type Laws''.the-laws Laws''.the-copy .copy 𝓤 H A W) (Rows.whole (Declared.row Call.the-type)) (λ x. x) (λ x. x) (λ ρ told. Local.mem-whole 𝓤 H A W (Declared.row
-                      Call.the-type) ρ) λ ρ told. Local.whole-mem 𝓤 H A W (Declared.row Call.the-type) ρ,
+                  Yields.yields-copy 𝓤 H A W (λ ρ. Unit) (Declared.row Call.the-type) Path'.refl (Copies.cStruct Call.the-type Laws''.the-laws Laws''.the-copy .copy 𝓤 H A W) (Rows.whole (Declared.row
+                      Call.the-type)) (λ x. x) (λ x. x) (λ ρ told. Local.mem-whole 𝓤 H A W (Declared.row Call.the-type) ρ) λ ρ told. Local.whole-mem 𝓤 H A W (Declared.row Call.the-type) ρ,
                   Path'.refl,
                 ),
                 (
                   (Scalar.reads-sc 𝓤 H A W (Row.sInt Syntax.w32), Path'.refl),
                   (
                     (
-                      Yields.yields-copy 𝓤 H A
-                          W (λ ρ. Unit) (Declared.row BitPosition.the-type) Path'.refl (Copies.cStruct BitPosition.the-type Laws.the-laws Laws.the-copy .copy 𝓤 H A W) (Rows.whole (Declared.row BitPosition.the-type))
-                          (λ x. x) (λ x. x) (λ ρ told. Local.mem-whole 𝓤 H A W (Declared.row BitPosition.the-type) ρ) λ ρ told. Local.whole-mem 𝓤 H A W (Declared.row BitPosition.the-type) ρ,
+                      Yields.yields-copy 𝓤 H A W (λ ρ. Unit) (Declared.row BitPosition.the-type) Path'.refl (Copies.cStruct BitPosition.the-type Laws.the-laws Laws.the-copy .copy 𝓤 H A W) (Rows.whole
+                          (Declared.row BitPosition.the-type)) (λ x. x) (λ x. x) (λ ρ told. Local.mem-whole 𝓤 H A W (Declared.row BitPosition.the-type) ρ) λ ρ told. Local.whole-mem 𝓤 H A W (Declared.row
+                          BitPosition.the-type) ρ,
                       Path'.refl,
                     ),
                     (
@@ -3351,51 +1891,39 @@ module _ (claims· : Claims) where
 
           d21 : (at : Nat.ℕ → Nat.ℕ) → Typed.Typed 𝓤 H A 𝓣 E (G49 at) b18 (Δ3 at) at21
           d21 = λ at. Typed.s-seq 𝓤 H A W 𝓣 E (G49 at) (G50 at) b12 b17 (Δ3 at) (Typed.both s46) at20 (Plain.t-call-plain-by 𝓤 H A W 𝓣 2 ps·3 r·3 (claims· .6) (claims· .7)
-              "bits::BitPumpMsb::byte_position" (known .3) E (λ pos β. β) (G49 at) (
-                record {
-                  pos = 12;
-                  ty = Syntax.tyRef Syntax.erased Syntax.imm (Held.behind Syntax.erased);
-                  βs = List._∷_ 7 (List._∷_ 1
-                      List.[]);
-                  ref = λ x. x;
-                },
-                tt,
-              ) 8 (List._∷_ 7 (List._∷_ 1 List.[])) (Call'.sub-id 𝓤 H A W (G49 at .slots)) (
-                ShrRefTo.spares-sref-at 𝓤 H A W 2 (λ κc. Held.type (Syntax.named 1) (κc .1 .0))
-                    Held.Value (λ κc v. v) (List._∷_ 7 (List._∷_ 1 List.[])) (Syntax.tyRef Syntax.erased Syntax.imm (Held.behind Syntax.erased)) 7,
-                AtSlots.reads-sref-at 𝓤 H A W 2 (λ κc. Held.type (Syntax.named
-                    1) (κc .1 .0)) Held.Value (λ κc v. v) (List._∷_ 7 (List._∷_ 1 List.[])) (Syntax.tyRef Syntax.erased Syntax.imm (Held.behind Syntax.erased)) 7,
+              "bits::BitPumpMsb::byte_position" (known .3) E (λ pos β. β) (G49 at)
+              (record { pos = 12; ty = Syntax.tyRef Syntax.erased Syntax.imm (Held.behind Syntax.erased); βs = List._∷_ 7 (List._∷_ 1 List.[]); ref = λ x. x }, tt) 8 (List._∷_ 7 (List._∷_ 1 List.[]))
+              (Call'.sub-id 𝓤 H A W (G49 at .slots)) (
+                ShrRefTo.spares-sref-at 𝓤 H A W 2 (λ κc. Held.type (Syntax.named 1) (κc .1 .0)) Held.Value (λ κc v. v) (List._∷_ 7 (List._∷_ 1 List.[])) (Syntax.tyRef Syntax.erased Syntax.imm (Held.behind
+                    Syntax.erased)) 7,
+                AtSlots.reads-sref-at 𝓤 H A W 2 (λ κc. Held.type (Syntax.named 1) (κc .1 .0)) Held.Value (λ κc v. v) (List._∷_ 7 (List._∷_ 1 List.[])) (Syntax.tyRef Syntax.erased
+                    Syntax.imm (Held.behind Syntax.erased)) 7,
                 Path'.refl,
                 Path'.refl,
                 tt,
-              ) (Reads'.room-gone
-              𝓤 H A (Syntax.tyStruct (List._∷_ 98 (List._∷_ 105 (List._∷_ 116 (List._∷_ 115 (List._∷_ 58 (List._∷_ 58 (List._∷_ 66 (List._∷_ 121 (List._∷_ 116 (List._∷_ 101 (List._∷_ 79 (List._∷_ 102
-              (List._∷_ 102 (List._∷_ 115 (List._∷_ 101 (List._∷_ 116 List.[])))))))))))))))) (Syntax.tcons (Syntax.tyInt Syntax.w64) Syntax.tnil))) (tt, (tt, tt)) (Shorter.told-bounds 𝓤 H A W 2 (G49 at
-              .slots) (List._∷_ 7 (List._∷_ 1 List.[])) (Kinds.osR r·3) (Way.told-and 𝓤 H A W (G49 at .slots) (Shorter.Below 1 7) (λ ρ. Unit) (MeetSlot.told-part 𝓤 H A W (G49 at .slots) 1 7 0
-              (MeetSlot.level 1 (κs .1 .0) (qs .1 .0) (List._∷_ Bool'.false List.[])) (List._∷_ (MeetSlot.carve 4 (at 2)) List.[]) (Call'.pin-level 𝓤 H A W 1 (G49 at .slots) (κs .1 .0) (qs .1 .0)
-              (List._∷_ Bool'.false List.[]) Path'.refl) (Call'.pin-lease 𝓤 H A W 7 (G49 at .slots) (List._++_ (κs .1 .0) (List._∷_ (at 2) List.[])) (TreeShare.PosShare·right (qs .1 .0)) Path'.refl))
-              (Own.told-none 𝓤 H A (G49 at .slots)))) Path'.refl λ κs′ x v i. Result.res-typed 𝓤 H A W 2 κs′ (Value.rVal record {
+              ) (Reads'.room-gone 𝓤 H A y2) (tt, (tt, tt)) (Shorter.told-bounds 𝓤 H A W 2 (G49 at .slots) (List._∷_ 7 (List._∷_ 1
+              List.[])) (Kinds.osR r·3) (Way.told-and 𝓤 H A W (G49 at .slots) (Shorter.Below 1 7) (λ ρ. Unit) (MeetSlot.told-part 𝓤 H A W (G49 at .slots) 1 7 0 (MeetSlot.level 1 (κs .1 .0) (qs .1 .0)
+              (List._∷_ Bool'.false List.[])) (List._∷_ (MeetSlot.carve 4 (at 2)) List.[]) (Call'.pin-level 𝓤 H A W 1 (G49 at .slots) (κs .1 .0) (qs .1 .0) (List._∷_ Bool'.false List.[]) Path'.refl)
+              (Call'.pin-lease 𝓤 H A W 7 (G49 at .slots) (List._++_ (κs .1 .0) (List._∷_ (at 2) List.[])) (TreeShare.PosShare·right (qs .1 .0)) Path'.refl)) (Own.told-none 𝓤 H A (G49 at .slots))))
+              Path'.refl λ κs′ x v i. Result.res-typed 𝓤 H A W 2 κs′ (Value.rVal record {
                 ty = Declared.row ByteOffset.the-type;
                 one = Path'.refl;
-                val = Laws'3.val
-                    ByteOffset.the-type Laws'.the-laws;
+                val = Laws'3.val ByteOffset.the-type Laws'.the-laws;
                 tells = Laws'3.tells ByteOffset.the-type Laws'.the-laws;
-                still = Laws'3.still ByteOffset.the-type Laws'.the-copy Exit.yes;
-                row = Rows.whole (Declared.row
-                    ByteOffset.the-type);
+                still = Laws'3.still
+                    ByteOffset.the-type Laws'.the-copy Exit.yes;
+                row = Rows.whole (Declared.row ByteOffset.the-type);
                 rd = λ x. x;
                 mk = λ x. x;
               } λ M 𝓤 H A W. record {
                 copies = Laws'3.copy ByteOffset.the-type Laws'.the-copy 𝓤 H A W;
-                lawful = Laws'3.lawful ByteOffset.the-type
-                    Laws'.the-laws 𝓤 H A W;
-                makes = Laws'3.makes ByteOffset.the-type Laws'.the-plain 𝓤 H A;
+                lawful = Laws'3.lawful ByteOffset.the-type Laws'.the-laws 𝓤 H A W;
+                makes = Laws'3.makes ByteOffset.the-type Laws'.the-plain
+                    𝓤 H A;
                 in-mem = Local.mem-whole 𝓤 H A W (Declared.row ByteOffset.the-type);
-                of-mem = Local.whole-mem 𝓤 H A W
-                    (Declared.row ByteOffset.the-type);
-              }) x v i (List._∷_ 7 (List._∷_ 1 List.[])) (Syntax.tyStruct (List._∷_ 98 (List._∷_ 105 (List._∷_ 116 (List._∷_ 115 (List._∷_ 58 (List._∷_ 58 (List._∷_ 66
-              (List._∷_ 121 (List._∷_ 116 (List._∷_ 101 (List._∷_ 79 (List._∷_ 102 (List._∷_ 102 (List._∷_ 115 (List._∷_ 101 (List._∷_ 116 List.[])))))))))))))))) (Syntax.tcons (Syntax.tyInt Syntax.w64)
-              Syntax.tnil)) Path'.refl) (d20 at)
+                of-mem = Local.whole-mem 𝓤 H A W (Declared.row ByteOffset.the-type);
+              }) x v i (List._∷_ 7 (List._∷_ 1 List.[])) y2
+              Path'.refl) (d20 at)
 
           d22 : (at : Nat.ℕ → Nat.ℕ) → Typed.Typed 𝓤 H A 𝓣 E (G48 at) b18 (Δ3 at) at22
           d22 = λ at. Typed.g-pre 𝓤 H A W 𝓣 E (G48 at) (G49 at) b18 (Δ3 at) (Typed.pass T48 T49 s45) at21 (AtSlots.g-as-by 𝓤 H A W E (λ ρ. Path'._≡_ (Row.lft ρ 1) (κs .1 .0)) (G48 at) 12
@@ -3413,46 +1941,8 @@ module _ (claims· : Claims) where
 
           d24 : (at : Nat.ℕ → Nat.ℕ) → Typed.Typed 𝓤 H A 𝓣 E (G46 at) b18 (Δ3 at) at24
           d24 = λ at. Typed.g-pre 𝓤 H A W 𝓣 E (G46 at) (G47 at) b18 (Δ3 at) (λ Ψ. Ψ) at23 (MeetSlot.g-meet 𝓤 H A W E (G46 at) 7 (TreeShare.PosShare·right (qs .1 .0)) (MeetSlot.level 1 (κs .1 .0) (qs
-              .1 .0) List.[]) (List._∷_ (MeetSlot.carve 4 (at 2)) List.[]) ((Path'.refl, Path'.refl), (Path'.refl, tt)) (
-                tt,
-                (
-                  (tt, tt),
-                  (
-                    tt,
-                    (
-                      tt,
-                      (
-                        tt,
-                        (
-                          tt,
-                          (
-                            tt,
-                            (
-                              tt,
-                              (
-                                tt,
-                                (
-                                  tt,
-                                  (
-                                    tt,
-                                    (
-                                      tt,
-                                      (
-                                        tt,
-                                        tt,
-                                      ),
-                                    ),
-                                  ),
-                                ),
-                              ),
-                            ),
-                          ),
-                        ),
-                      ),
-                    ),
-                  ),
-                ),
-              )) (d23 at)
+              .1 .0) List.[]) (List._∷_ (MeetSlot.carve 4 (at 2)) List.[]) ((Path'.refl, Path'.refl), (Path'.refl, tt))
+              (tt, ((tt, tt), (tt, (tt, (tt, (tt, (tt, (tt, (tt, (tt, (tt, (tt, (tt, tt)))))))))))))) (d23 at)
 
           d25 : (at : Nat.ℕ → Nat.ℕ) → Typed.Typed 𝓤 H A 𝓣 E (G45 at) b18 (Δ3 at) at25
           d25 = λ at. LifetimeAt.t-pin-one 𝓤 H A W E 𝓣 (G45 at) 4 Row.alive b18 (Δ3 at) at24 Path'.refl tt λ a. d24 (LifetimeAt.bound at 2 a)
@@ -3467,46 +1957,8 @@ module _ (claims· : Claims) where
               (Syntax.tyRef Syntax.erased Syntax.imm (Held.behind Syntax.erased))) Path'.refl tt Path'.refl Path'.refl λ b o. tt) (d26 at)
 
           d28 : (at : Nat.ℕ → Nat.ℕ) → Typed.Typed 𝓤 H A 𝓣 E (G42 at) b19 (Δ3 at) at28
-          d28 = λ at. Typed.g-pre 𝓤 H A W 𝓣 E (G42 at) (G43 at) b19 (Δ3 at) (λ Ψ. Ψ) at27 (Lifetime.g-begin 𝓤 H A W E (G42 at) 4 (
-            tt,
-            (
-              tt,
-              (
-                tt,
-                (
-                  tt,
-                  (
-                    tt,
-                    (
-                      tt,
-                      (
-                        tt,
-                        (
-                          tt,
-                          (
-                            tt,
-                            (
-                              tt,
-                              (
-                                tt,
-                                (
-                                  tt,
-                                  (
-                                    tt,
-                                    tt,
-                                  ),
-                                ),
-                              ),
-                            ),
-                          ),
-                        ),
-                      ),
-                    ),
-                  ),
-                ),
-              ),
-            ),
-          )) (d27 at)
+          d28 = λ at. Typed.g-pre 𝓤 H A W 𝓣 E (G42 at) (G43 at) b19 (Δ3 at) (λ Ψ. Ψ) at27 (Lifetime.g-begin 𝓤 H A W E (G42 at) 4
+              (tt, (tt, (tt, (tt, (tt, (tt, (tt, (tt, (tt, (tt, (tt, (tt, (tt, tt)))))))))))))) (d27 at)
 
           d29 : (at : Nat.ℕ → Nat.ℕ) → Typed.Typed 𝓤 H A 𝓣 E (G41 at) b19 (Δ3 at) at29
           d29 = λ at. Typed.g-pre 𝓤 H A W 𝓣 E (G41 at) (G42 at) b19 (Δ3 at) (λ Ψ. Ψ) at28 (Lifetime.g-forget 𝓤 H A W E (G41 at) 3 Row.dead Path'.refl) (d28 at)
@@ -3546,51 +1998,39 @@ module _ (claims· : Claims) where
 
           d38 : (at : Nat.ℕ → Nat.ℕ) → Typed.Typed 𝓤 H A 𝓣 E (G32 at) b20 (Δ3 at) at38
           d38 = λ at. Typed.s-seq 𝓤 H A W 𝓣 E (G32 at) (G33 at) b10 b19 (Δ3 at) (Typed.both s29) at37 (Plain.t-call-plain-by 𝓤 H A W 𝓣 2 ps·2 r·2 (claims· .4) (claims· .5)
-              "bits::BitPumpMsb::bit_position" (known .2) E (λ pos β. β) (G32 at) (
-                record {
-                  pos = 11;
-                  ty = Syntax.tyRef Syntax.erased Syntax.imm (Held.behind Syntax.erased);
-                  βs = List._∷_ 6 (List._∷_ 1
-                      List.[]);
-                  ref = λ x. x;
-                },
-                tt,
-              ) 7 (List._∷_ 6 (List._∷_ 1 List.[])) (Call'.sub-id 𝓤 H A W (G32 at .slots)) (
-                ShrRefTo.spares-sref-at 𝓤 H A W 2 (λ κc. Held.type (Syntax.named 1) (κc .1 .0))
-                    Held.Value (λ κc v. v) (List._∷_ 6 (List._∷_ 1 List.[])) (Syntax.tyRef Syntax.erased Syntax.imm (Held.behind Syntax.erased)) 6,
-                AtSlots.reads-sref-at 𝓤 H A W 2 (λ κc. Held.type (Syntax.named
-                    1) (κc .1 .0)) Held.Value (λ κc v. v) (List._∷_ 6 (List._∷_ 1 List.[])) (Syntax.tyRef Syntax.erased Syntax.imm (Held.behind Syntax.erased)) 6,
+              "bits::BitPumpMsb::bit_position" (known .2) E (λ pos β. β) (G32 at)
+              (record { pos = 11; ty = Syntax.tyRef Syntax.erased Syntax.imm (Held.behind Syntax.erased); βs = List._∷_ 6 (List._∷_ 1 List.[]); ref = λ x. x }, tt) 7 (List._∷_ 6 (List._∷_ 1 List.[]))
+              (Call'.sub-id 𝓤 H A W (G32 at .slots)) (
+                ShrRefTo.spares-sref-at 𝓤 H A W 2 (λ κc. Held.type (Syntax.named 1) (κc .1 .0)) Held.Value (λ κc v. v) (List._∷_ 6 (List._∷_ 1 List.[])) (Syntax.tyRef Syntax.erased Syntax.imm (Held.behind
+                    Syntax.erased)) 6,
+                AtSlots.reads-sref-at 𝓤 H A W 2 (λ κc. Held.type (Syntax.named 1) (κc .1 .0)) Held.Value (λ κc v. v) (List._∷_ 6 (List._∷_ 1 List.[])) (Syntax.tyRef Syntax.erased
+                    Syntax.imm (Held.behind Syntax.erased)) 6,
                 Path'.refl,
                 Path'.refl,
                 tt,
-              ) (Reads'.room-gone
-              𝓤 H A (Syntax.tyStruct (List._∷_ 98 (List._∷_ 105 (List._∷_ 116 (List._∷_ 115 (List._∷_ 58 (List._∷_ 58 (List._∷_ 66 (List._∷_ 105 (List._∷_ 116 (List._∷_ 80 (List._∷_ 111 (List._∷_ 115
-              (List._∷_ 105 (List._∷_ 116 (List._∷_ 105 (List._∷_ 111 (List._∷_ 110 List.[]))))))))))))))))) (Syntax.tcons (Syntax.tyInt Syntax.w64) Syntax.tnil))) (tt, (tt, tt)) (Shorter.told-bounds 𝓤 H
-              A W 2 (G32 at .slots) (List._∷_ 6 (List._∷_ 1 List.[])) (Kinds.osR r·2) (Way.told-and 𝓤 H A W (G32 at .slots) (Shorter.Below 1 6) (λ ρ. Unit) (MeetSlot.told-part 𝓤 H A W (G32 at .slots) 1 6
-              0 (MeetSlot.level 1 (κs .1 .0) (qs .1 .0) (List._∷_ Bool'.false List.[])) (List._∷_ (MeetSlot.carve 3 (at 1)) List.[]) (Call'.pin-level 𝓤 H A W 1 (G32 at .slots) (κs .1 .0) (qs .1 .0)
-              (List._∷_ Bool'.false List.[]) Path'.refl) (Call'.pin-lease 𝓤 H A W 6 (G32 at .slots) (List._++_ (κs .1 .0) (List._∷_ (at 1) List.[])) (TreeShare.PosShare·right (qs .1 .0)) Path'.refl))
-              (Own.told-none 𝓤 H A (G32 at .slots)))) Path'.refl λ κs′ x v i. Result.res-typed 𝓤 H A W 2 κs′ (Value.rVal record {
+              ) (Reads'.room-gone 𝓤 H A y1) (tt, (tt, tt)) (Shorter.told-bounds 𝓤 H A W 2 (G32 at .slots) (List._∷_ 6 (List._∷_ 1
+              List.[])) (Kinds.osR r·2) (Way.told-and 𝓤 H A W (G32 at .slots) (Shorter.Below 1 6) (λ ρ. Unit) (MeetSlot.told-part 𝓤 H A W (G32 at .slots) 1 6 0 (MeetSlot.level 1 (κs .1 .0) (qs .1 .0)
+              (List._∷_ Bool'.false List.[])) (List._∷_ (MeetSlot.carve 3 (at 1)) List.[]) (Call'.pin-level 𝓤 H A W 1 (G32 at .slots) (κs .1 .0) (qs .1 .0) (List._∷_ Bool'.false List.[]) Path'.refl)
+              (Call'.pin-lease 𝓤 H A W 6 (G32 at .slots) (List._++_ (κs .1 .0) (List._∷_ (at 1) List.[])) (TreeShare.PosShare·right (qs .1 .0)) Path'.refl)) (Own.told-none 𝓤 H A (G32 at .slots))))
+              Path'.refl λ κs′ x v i. Result.res-typed 𝓤 H A W 2 κs′ (Value.rVal record {
                 ty = Declared.row BitPosition.the-type;
                 one = Path'.refl;
-                val = Laws'3.val
-                    BitPosition.the-type Laws.the-laws;
+                val = Laws'3.val BitPosition.the-type Laws.the-laws;
                 tells = Laws'3.tells BitPosition.the-type Laws.the-laws;
-                still = Laws'3.still BitPosition.the-type Laws.the-copy Exit.yes;
-                row = Rows.whole (Declared.row
-                    BitPosition.the-type);
+                still = Laws'3.still
+                    BitPosition.the-type Laws.the-copy Exit.yes;
+                row = Rows.whole (Declared.row BitPosition.the-type);
                 rd = λ x. x;
                 mk = λ x. x;
               } λ M 𝓤 H A W. record {
                 copies = Laws'3.copy BitPosition.the-type Laws.the-copy 𝓤 H A W;
-                lawful = Laws'3.lawful BitPosition.the-type
-                    Laws.the-laws 𝓤 H A W;
-                makes = Laws'3.makes BitPosition.the-type Laws.the-plain 𝓤 H A;
+                lawful = Laws'3.lawful BitPosition.the-type Laws.the-laws 𝓤 H A W;
+                makes = Laws'3.makes BitPosition.the-type Laws.the-plain
+                    𝓤 H A;
                 in-mem = Local.mem-whole 𝓤 H A W (Declared.row BitPosition.the-type);
-                of-mem = Local.whole-mem 𝓤 H A W
-                    (Declared.row BitPosition.the-type);
-              }) x v i (List._∷_ 6 (List._∷_ 1 List.[])) (Syntax.tyStruct (List._∷_ 98 (List._∷_ 105 (List._∷_ 116 (List._∷_ 115 (List._∷_ 58 (List._∷_ 58 (List._∷_ 66
-              (List._∷_ 105 (List._∷_ 116 (List._∷_ 80 (List._∷_ 111 (List._∷_ 115 (List._∷_ 105 (List._∷_ 116 (List._∷_ 105 (List._∷_ 111 (List._∷_ 110 List.[]))))))))))))))))) (Syntax.tcons
-              (Syntax.tyInt Syntax.w64) Syntax.tnil)) Path'.refl) (d37 at)
+                of-mem = Local.whole-mem 𝓤 H A W (Declared.row BitPosition.the-type);
+              }) x v i (List._∷_ 6 (List._∷_ 1 List.[]))
+              y1 Path'.refl) (d37 at)
 
           d39 : (at : Nat.ℕ → Nat.ℕ) → Typed.Typed 𝓤 H A 𝓣 E (G31 at) b20 (Δ3 at) at39
           d39 = λ at. Typed.g-pre 𝓤 H A W 𝓣 E (G31 at) (G32 at) b20 (Δ3 at) (Typed.pass T31 T32 s28) at38 (AtSlots.g-as-by 𝓤 H A W E (λ ρ. Path'._≡_ (Row.lft ρ 1) (κs .1 .0)) (G31 at) 11
@@ -3608,46 +2048,8 @@ module _ (claims· : Claims) where
 
           d41 : (at : Nat.ℕ → Nat.ℕ) → Typed.Typed 𝓤 H A 𝓣 E (G29 at) b20 (Δ3 at) at41
           d41 = λ at. Typed.g-pre 𝓤 H A W 𝓣 E (G29 at) (G30 at) b20 (Δ3 at) (λ Ψ. Ψ) at40 (MeetSlot.g-meet 𝓤 H A W E (G29 at) 6 (TreeShare.PosShare·right (qs .1 .0)) (MeetSlot.level 1 (κs .1 .0) (qs
-              .1 .0) List.[]) (List._∷_ (MeetSlot.carve 3 (at 1)) List.[]) ((Path'.refl, Path'.refl), (Path'.refl, tt)) (
-                tt,
-                (
-                  (tt, tt),
-                  (
-                    tt,
-                    (
-                      tt,
-                      (
-                        tt,
-                        (
-                          tt,
-                          (
-                            tt,
-                            (
-                              tt,
-                              (
-                                tt,
-                                (
-                                  tt,
-                                  (
-                                    tt,
-                                    (
-                                      tt,
-                                      (
-                                        tt,
-                                        tt,
-                                      ),
-                                    ),
-                                  ),
-                                ),
-                              ),
-                            ),
-                          ),
-                        ),
-                      ),
-                    ),
-                  ),
-                ),
-              )) (d40 at)
+              .1 .0) List.[]) (List._∷_ (MeetSlot.carve 3 (at 1)) List.[]) ((Path'.refl, Path'.refl), (Path'.refl, tt))
+              (tt, ((tt, tt), (tt, (tt, (tt, (tt, (tt, (tt, (tt, (tt, (tt, (tt, (tt, tt)))))))))))))) (d40 at)
 
           d42 : (at : Nat.ℕ → Nat.ℕ) → Typed.Typed 𝓤 H A 𝓣 E (G28 at) b20 (Δ3 at) at42
           d42 = λ at. LifetimeAt.t-pin-one 𝓤 H A W E 𝓣 (G28 at) 3 Row.alive b20 (Δ3 at) at41 Path'.refl tt λ a. d41 (LifetimeAt.bound at 1 a)
@@ -3662,46 +2064,8 @@ module _ (claims· : Claims) where
               (Syntax.tyRef Syntax.erased Syntax.imm (Held.behind Syntax.erased))) Path'.refl tt Path'.refl Path'.refl λ b o. tt) (d43 at)
 
           d45 : (at : Nat.ℕ → Nat.ℕ) → Typed.Typed 𝓤 H A 𝓣 E (G25 at) b21 (Δ3 at) at45
-          d45 = λ at. Typed.g-pre 𝓤 H A W 𝓣 E (G25 at) (G26 at) b21 (Δ3 at) (λ Ψ. Ψ) at44 (Lifetime.g-begin 𝓤 H A W E (G25 at) 3 (
-            tt,
-            (
-              tt,
-              (
-                tt,
-                (
-                  tt,
-                  (
-                    tt,
-                    (
-                      tt,
-                      (
-                        tt,
-                        (
-                          tt,
-                          (
-                            tt,
-                            (
-                              tt,
-                              (
-                                tt,
-                                (
-                                  tt,
-                                  (
-                                    tt,
-                                    tt,
-                                  ),
-                                ),
-                              ),
-                            ),
-                          ),
-                        ),
-                      ),
-                    ),
-                  ),
-                ),
-              ),
-            ),
-          )) (d44 at)
+          d45 = λ at. Typed.g-pre 𝓤 H A W 𝓣 E (G25 at) (G26 at) b21 (Δ3 at) (λ Ψ. Ψ) at44 (Lifetime.g-begin 𝓤 H A W E (G25 at) 3
+              (tt, (tt, (tt, (tt, (tt, (tt, (tt, (tt, (tt, (tt, (tt, (tt, (tt, tt)))))))))))))) (d44 at)
 
           d46 : (at : Nat.ℕ → Nat.ℕ) → Typed.Typed 𝓤 H A 𝓣 E (G24 at) b21 (Δ3 at) at46
           d46 = λ at. Typed.g-pre 𝓤 H A W 𝓣 E (G24 at) (G25 at) b21 (Δ3 at) (λ Ψ. Ψ) at45 (Lifetime.g-forget 𝓤 H A W E (G24 at) 2 Row.dead Path'.refl) (d45 at)
@@ -3734,33 +2098,25 @@ module _ (claims· : Claims) where
           d53 = λ at. Typed.s-seq 𝓤 H A W 𝓣 E (G17 at) (G18 at) b8 b21 (Δ3 at) (Typed.both s14) at52 (Plain.t-call-plain-by 𝓤 H A W 𝓣 2 ps·1 r·1 (claims· .2) (claims· .3) "pump_answers::answer" (known
               .1) E (λ pos β. β) (G17 at) (
                 record { pos = 10; ty = Syntax.tyRef Syntax.erased Syntax.mut (Held.behind Syntax.erased); βs = List._∷_ 5 (List._∷_ 1 List.[]); ref = λ x. x },
-                (
-                  Num.vFld 5
-                      (List._∷_ (Syntax.field 0) List.[]) 0 λ x. Call.struct .as-values x .0,
-                  (Num.vFld 5 (List._∷_ (Syntax.field 1) List.[]) 4 λ x. Call.struct .as-values x .1 .0, tt),
-                ),
+                (Num.vFld 5 (List._∷_ (Syntax.field 0) List.[]) 0 λ x. Call.struct .as-values x .0, (Num.vFld 5 (List._∷_ (Syntax.field 1) List.[]) 4 λ x. Call.struct .as-values x .1 .0, tt)),
               ) 6 (List._∷_ 5
               (List._∷_ 1 List.[])) (Call'.sub-id 𝓤 H A W (G17 at .slots)) (
-                Reads'.as-is 𝓤 H A (AtSlots.mrefAt 2 (λ κc. Held.type (Syntax.named 1) (κc .1 .0)) Held.Value (λ κc v. v) (List._∷_ 5 (List._∷_
-                    1 List.[])) (Syntax.tyRef Syntax.erased Syntax.mut (Held.behind Syntax.erased)) 5),
-                AtSlots.reads-mref-at 𝓤 H A W 2 (λ κc. Held.type (Syntax.named 1) (κc .1 .0)) Held.Value (λ κc v. v)
-                    (List._∷_ 5 (List._∷_ 1 List.[])) (Syntax.tyRef Syntax.erased Syntax.mut (Held.behind Syntax.erased)) 5,
+                Reads'.as-is 𝓤 H A (AtSlots.mrefAt 2 (λ κc. Held.type (Syntax.named 1) (κc .1 .0)) Held.Value (λ κc v. v) (List._∷_ 5 (List._∷_ 1 List.[])) (Syntax.tyRef Syntax.erased Syntax.mut
+                    (Held.behind Syntax.erased)) 5),
+                AtSlots.reads-mref-at 𝓤 H A W 2 (λ κc. Held.type (Syntax.named 1) (κc .1 .0)) Held.Value (λ κc v. v) (List._∷_ 5 (List._∷_ 1 List.[])) (Syntax.tyRef
+                    Syntax.erased Syntax.mut (Held.behind Syntax.erased)) 5,
                 Path'.refl,
                 Path'.refl,
                 (
-                  (
-                    Reads.reads-field 𝓤 H A W Call.the-type Laws''.the-laws 0
-                        (Syntax.tyInt Syntax.w32) 0 Path'.refl,
-                    Path'.refl,
-                  ),
+                  (Reads.reads-field 𝓤 H A W Call.the-type Laws''.the-laws 0 (Syntax.tyInt Syntax.w32) 0 Path'.refl, Path'.refl),
                   ((Reads.reads-field 𝓤 H A W Call.the-type Laws''.the-laws 1 (Syntax.tyInt Syntax.w32) 4 Path'.refl, Path'.refl), tt),
                 ),
-              )
-              (Reads'.room-gone 𝓤 H A (Syntax.tyInt Syntax.w32)) (tt, (tt, tt)) (Shorter.told-bounds 𝓤 H A W 2 (G17 at .slots) (List._∷_ 5 (List._∷_ 1 List.[])) (Kinds.osR r·1) (Way.told-and 𝓤 H A W (G17
-              at .slots) (Shorter.Below 1 5) (λ ρ. Unit) (MeetSlot.told-part 𝓤 H A W (G17 at .slots) 1 5 0 (MeetSlot.level 1 (κs .1 .0) (qs .1 .0) (List._∷_ Bool'.false List.[])) (List._∷_ (MeetSlot.carve
-              2 (at 0)) List.[]) (Call'.pin-level 𝓤 H A W 1 (G17 at .slots) (κs .1 .0) (qs .1 .0) (List._∷_ Bool'.false List.[]) Path'.refl) (Call'.pin-lease 𝓤 H A W 5 (G17 at .slots) (List._++_ (κs .1
-              .0) (List._∷_ (at 0) List.[])) (TreeShare.PosShare·right (qs .1 .0)) Path'.refl)) (Own.told-none 𝓤 H A (G17 at .slots)))) Path'.refl λ κs′ x v i. Result.res-typed 𝓤 H A W 2 κs′ (Num.rNum
-              Syntax.w32) x v i (List._∷_ 5 (List._∷_ 1 List.[])) (Syntax.tyInt Syntax.w32) Path'.refl) (d52 at)
+              ) (Reads'.room-gone 𝓤 H A (Syntax.tyInt Syntax.w32)) (tt, (tt, tt))
+              (Shorter.told-bounds 𝓤 H A W 2 (G17 at .slots) (List._∷_ 5 (List._∷_ 1 List.[])) (Kinds.osR r·1) (Way.told-and 𝓤 H A W (G17 at .slots) (Shorter.Below 1 5) (λ ρ. Unit) (MeetSlot.told-part 𝓤 H
+              A W (G17 at .slots) 1 5 0 (MeetSlot.level 1 (κs .1 .0) (qs .1 .0) (List._∷_ Bool'.false List.[])) (List._∷_ (MeetSlot.carve 2 (at 0)) List.[]) (Call'.pin-level 𝓤 H A W 1 (G17 at .slots) (κs
+              .1 .0) (qs .1 .0) (List._∷_ Bool'.false List.[]) Path'.refl) (Call'.pin-lease 𝓤 H A W 5 (G17 at .slots) (List._++_ (κs .1 .0) (List._∷_ (at 0) List.[])) (TreeShare.PosShare·right (qs .1 .0))
+              Path'.refl)) (Own.told-none 𝓤 H A (G17 at .slots)))) Path'.refl λ κs′ x v i. Result.res-typed 𝓤 H A W 2 κs′ (Num.rNum Syntax.w32) x v i (List._∷_ 5 (List._∷_ 1 List.[])) (Syntax.tyInt
+              Syntax.w32) Path'.refl) (d52 at)
 
           d54 : (at : Nat.ℕ → Nat.ℕ) → Typed.Typed 𝓤 H A 𝓣 E (G16 at) b22 (Δ3 at) at54
           d54 = λ at. Typed.g-pre 𝓤 H A W 𝓣 E (G16 at) (G17 at) b22 (Δ3 at) (Typed.pass T16 T17 s13) at53 (AtSlots.g-as-by 𝓤 H A W E (λ ρ. Path'._≡_ (Row.lft ρ 1) (κs .1 .0)) (G16 at) 10
@@ -3778,46 +2134,8 @@ module _ (claims· : Claims) where
 
           d56 : (at : Nat.ℕ → Nat.ℕ) → Typed.Typed 𝓤 H A 𝓣 E (G14 at) b22 (Δ3 at) at56
           d56 = λ at. Typed.g-pre 𝓤 H A W 𝓣 E (G14 at) (G15 at) b22 (Δ3 at) (λ Ψ. Ψ) at55 (MeetSlot.g-meet 𝓤 H A W E (G14 at) 5 (TreeShare.PosShare·right (qs .1 .0)) (MeetSlot.level 1 (κs .1 .0) (qs
-              .1 .0) List.[]) (List._∷_ (MeetSlot.carve 2 (at 0)) List.[]) ((Path'.refl, Path'.refl), (Path'.refl, tt)) (
-                tt,
-                (
-                  (tt, tt),
-                  (
-                    tt,
-                    (
-                      tt,
-                      (
-                        tt,
-                        (
-                          tt,
-                          (
-                            tt,
-                            (
-                              tt,
-                              (
-                                tt,
-                                (
-                                  tt,
-                                  (
-                                    tt,
-                                    (
-                                      tt,
-                                      (
-                                        tt,
-                                        tt,
-                                      ),
-                                    ),
-                                  ),
-                                ),
-                              ),
-                            ),
-                          ),
-                        ),
-                      ),
-                    ),
-                  ),
-                ),
-              )) (d55 at)
+              .1 .0) List.[]) (List._∷_ (MeetSlot.carve 2 (at 0)) List.[]) ((Path'.refl, Path'.refl), (Path'.refl, tt))
+              (tt, ((tt, tt), (tt, (tt, (tt, (tt, (tt, (tt, (tt, (tt, (tt, (tt, (tt, tt)))))))))))))) (d55 at)
 
           d57 : (at : Nat.ℕ → Nat.ℕ) → Typed.Typed 𝓤 H A 𝓣 E (G13 at) b22 (Δ3 at) at57
           d57 = λ at. LifetimeAt.t-pin-one 𝓤 H A W E 𝓣 (G13 at) 2 Row.alive b22 (Δ3 at) at56 Path'.refl tt λ a. d56 (LifetimeAt.bound at 0 a)
@@ -3832,76 +2150,28 @@ module _ (claims· : Claims) where
               (Syntax.tyRef Syntax.erased Syntax.mut (Held.behind Syntax.erased))) Path'.refl tt Path'.refl Path'.refl λ b o. tt) (d58 at)
 
           d60 : (at : Nat.ℕ → Nat.ℕ) → Typed.Typed 𝓤 H A 𝓣 E (G10 at) b23 (Δ3 at) at60
-          d60 = λ at. Typed.g-pre 𝓤 H A W 𝓣 E (G10 at) (G11 at) b23 (Δ3 at) (λ Ψ. Ψ) at59 (Lifetime.g-begin 𝓤 H A W E (G10 at) 2 (
-            tt,
-            (
-              tt,
-              (
-                tt,
-                (
-                  tt,
-                  (
-                    tt,
-                    (
-                      tt,
-                      (
-                        tt,
-                        (
-                          tt,
-                          (
-                            tt,
-                            (
-                              tt,
-                              (
-                                tt,
-                                (
-                                  tt,
-                                  (
-                                    tt,
-                                    tt,
-                                  ),
-                                ),
-                              ),
-                            ),
-                          ),
-                        ),
-                      ),
-                    ),
-                  ),
-                ),
-              ),
-            ),
-          )) (d59 at)
+          d60 = λ at. Typed.g-pre 𝓤 H A W 𝓣 E (G10 at) (G11 at) b23 (Δ3 at) (λ Ψ. Ψ) at59 (Lifetime.g-begin 𝓤 H A W E (G10 at) 2
+              (tt, (tt, (tt, (tt, (tt, (tt, (tt, (tt, (tt, (tt, (tt, (tt, (tt, tt)))))))))))))) (d59 at)
 
           d61 : (at : Nat.ℕ → Nat.ℕ) → Typed.Typed 𝓤 H A 𝓣 E (G7 at) b24 (Δ3 at) at61
           d61 = λ at. Typed.s-seq 𝓤 H A W 𝓣 E (G7 at) (G10 at) b6 b23 (Δ3 at) (Typed.both s6) at60 (Plain.t-call-plain 𝓤 H A W 𝓣 1 ps·0 r·0 (claims· .0) (claims· .1) "pump_answers::call_at" (known .0)
               E (λ pos β. β) (G7 at) (record { pos = 2; ty = Syntax.tyRef (Syntax.named 1) Syntax.imm (Syntax.tyInt Syntax.w8); ref = λ x. x }, (Num.vAt 4 λ x. x, tt)) 5 (List._∷_ 1 List.[])
               (Call'.sub-id 𝓤 H A W (G7 at .slots)) (
                 ShrSlice.spares-sslice 𝓤 H A W (Referent.rtF (Referent.fInt Syntax.w8)) (Syntax.tyRef (Syntax.named 1) Syntax.imm (Syntax.tyInt Syntax.w8)) 1,
-                Shared.reads-sslice 𝓤 H A W (Referent.rtF (Referent.fInt Syntax.w8)) (Syntax.tyRef (Syntax.named 1) Syntax.imm (Syntax.tyInt Syntax.w8)) 1,
+                Shared.reads-sslice 𝓤 H A W (Referent.rtF
+                    (Referent.fInt Syntax.w8)) (Syntax.tyRef (Syntax.named 1) Syntax.imm (Syntax.tyInt Syntax.w8)) 1,
                 Path'.refl,
-                (
-                  (
-                    Scalar.reads-sc 𝓤 H A W (Row.sInt
-                        Syntax.w64),
-                    Path'.refl,
-                  ),
-                  tt,
-                ),
-              ) (Reads'.room-gone 𝓤 H A (Syntax.tyStruct (List._∷_ 112 (List._∷_ 117 (List._∷_ 109 (List._∷_ 112 (List._∷_ 95 (List._∷_ 97 (List._∷_ 110 (List._∷_ 115
-              (List._∷_ 119 (List._∷_ 101 (List._∷_ 114 (List._∷_ 115 (List._∷_ 58 (List._∷_ 58 (List._∷_ 67 (List._∷_ 97 (List._∷_ 108 (List._∷_ 108 List.[])))))))))))))))))) (Syntax.tcons (Syntax.tyInt
-              Syntax.w32) (Syntax.tcons (Syntax.tyInt Syntax.w32) (Syntax.tcons (Syntax.tyInt Syntax.w32) (Syntax.tcons (Syntax.tyInt Syntax.w32) (Syntax.tcons (Syntax.tyInt Syntax.w32) Syntax.tnil)))))))
-              (tt, tt) Path'.refl) (d60 at)
+                ((Scalar.reads-sc 𝓤 H A W (Row.sInt Syntax.w64), Path'.refl), tt),
+              )
+              (Reads'.room-gone 𝓤 H A y0) (tt, tt) Path'.refl) (d60 at)
 
           d62 : (at : Nat.ℕ → Nat.ℕ) → Typed.Typed 𝓤 H A 𝓣 E (G6 at) b25 (Δ3 at) at62
           d62 = λ at. Typed.t-seq 𝓤 H A W 𝓣 E (G6 at) (G7 at) b5 b24 (Δ3 at) at4 at61 (d4 at) (d61 at)
 
           d63 : (at : Nat.ℕ → Nat.ℕ) → Typed.Typed 𝓤 H A 𝓣 E (G4 at) b26 (Δ3 at) at63
           d63 = λ at. Typed.s-seq 𝓤 H A W 𝓣 E (G4 at) (G6 at) b2 b25 (Δ3 at) (Typed.ask s3) at62 (Scalar.t-op2 𝓤 H A W E 𝓣 (G4 at) (Syntax.lt Syntax.unsigned) (Scalar.oAt 4 (Syntax.tyInt Syntax.w64)
-              (Row.valS (Row.sInt Syntax.w64))) (Scalar.oInt Syntax.w64 24) 9 (Rows.sc-here Row.sBool) Syntax.tyBool (Row.valS Row.sBool) (Row.sBool .of) (
-                Scalar.reads-sc 𝓤 H A W (Row.sInt Syntax.w64),
-                Path'.refl,
-              ) tt (Reads'.room-gone 𝓤 H A Syntax.tyBool) (Scalar.holds-sc 𝓤 H A W Row.sBool) Path'.refl (λ u. Path'.refl) λ u. tt) (d62 at)
+              (Row.valS (Row.sInt Syntax.w64))) (Scalar.oInt Syntax.w64 24) 9 (Rows.sc-here Row.sBool) Syntax.tyBool (Row.valS Row.sBool) (Row.sBool .of)
+              (Scalar.reads-sc 𝓤 H A W (Row.sInt Syntax.w64), Path'.refl) tt (Reads'.room-gone 𝓤 H A Syntax.tyBool) (Scalar.holds-sc 𝓤 H A W Row.sBool) Path'.refl (λ u. Path'.refl) λ u. tt) (d62 at)
 
           d64 : (at : Nat.ℕ → Nat.ℕ) → Typed.Typed 𝓤 H A 𝓣 E (G4 at) b27 (Δ2 at) at64
           d64 = λ at. Typed.t-loop-by 𝓤 H A W 𝓣 E (G4 at) b26 (Δ2 at) put0 (λ u vs. Inv·0 (Row.get 1 (T4 .locals) u .now) (Row.get 2 (T4 .locals) u .now) (Row.get 3 (T4 .locals) u) (Row.get 4 (T4
@@ -3924,11 +2194,9 @@ module _ (claims· : Claims) where
 
           d69 : (at : Nat.ℕ → Nat.ℕ) → Typed.Typed 𝓤 H A 𝓣 E (G5 at) b31 (Δ0 at) at69
           d69 = λ at. Typed.s-seq 𝓤 H A W 𝓣 E (G5 at) (G68 at) b29 b30 (Δ0 at) (Typed.pass T5 T68 s64) at68 (Scalar.t-use 𝓤 H A W E 𝓣 (G5 at) (Scalar.oAt 3 (Syntax.tyInt Syntax.w64) (Row.valS
-              (Row.sInt Syntax.w64))) 0 (Rows.sc-here (Row.sInt Syntax.w64)) (Syntax.tyInt Syntax.w64) (Row.valS (Row.sInt Syntax.w64)) (Row.sInt Syntax.w64 .of) (
-                Scalar.reads-sc 𝓤 H A W (Row.sInt
-                    Syntax.w64),
-                Path'.refl,
-              ) (Reads'.room-gone 𝓤 H A (Syntax.tyInt Syntax.w64)) (Scalar.holds-sc 𝓤 H A W (Row.sInt Syntax.w64)) Path'.refl (λ u. Path'.refl) λ u. tt) (d68 at)
+              (Row.sInt Syntax.w64))) 0 (Rows.sc-here (Row.sInt Syntax.w64)) (Syntax.tyInt Syntax.w64) (Row.valS (Row.sInt Syntax.w64)) (Row.sInt Syntax.w64 .of)
+              (Scalar.reads-sc 𝓤 H A W (Row.sInt Syntax.w64), Path'.refl) (Reads'.room-gone 𝓤 H A (Syntax.tyInt Syntax.w64)) (Scalar.holds-sc 𝓤 H A W (Row.sInt Syntax.w64)) Path'.refl (λ u. Path'.refl) λ
+              u. tt) (d68 at)
 
           d70 : (at : Nat.ℕ → Nat.ℕ) → Typed.Typed 𝓤 H A 𝓣 E (G4 at) b32 (Δ0 at) at70
           d70 = λ at. Typed.t-seq 𝓤 H A W 𝓣 E (G4 at) (G5 at) b28 b31 (Δ0 at) at65 at69 (d65 at) (d69 at)
@@ -3966,8 +2234,8 @@ module _ (claims· : Claims) where
       W0 = λ κs args. (
         λ u. ⊥,
         tt,
-        λ u. Enter.Fixs κs 1 ps xs (dens κs args) (u .1) × Post· κs (dens κs args) (Function.resV r κs (u .0)) (Clauses.atExit (Kinds.endedOf 2 ps r) κs (dens κs args)
-            (Enter.lastsP κs 1 ps xs (dens κs args) (u .1))),
+        λ u. Enter.Fixs κs 1 ps xs (dens κs args) (u .1) × Post· κs (dens κs args) (Function.resV r κs (u .0)) (Clauses.atExit (Kinds.endedOf 2 ps r) κs (dens κs args) (Enter.lastsP κs 1 ps
+            xs (dens κs args) (u .1))),
       )
 
       pub record Start : Type 0 where
@@ -4007,24 +2275,15 @@ module _ (claims· : Claims) where
 
       abbrev pub m4 : (before : After-shared-slice-known) → (p : Held.type (Syntax.named 1) List.[] .Denot) → (differ : Rows.sc-here (Row.sInt Syntax.w64) .Mod) → (i : Rows.sc-here (Row.sInt
           Syntax.w64) .Mod) → Typed.Mo T4
-      m4 = λ before p differ i. Row.set 4 (4, Rows.sc-here (Row.sInt Syntax.w64)) i (Row.setRow 3 (3, Rows.sc-here (Row.sInt Syntax.w64)) (Row.setRow 1 (
-        1,
-        Rows.mref (Held.type (Syntax.named 1)
-            List.[]) (Syntax.tyRef (Syntax.named 0) Syntax.mut (Held.behind (Syntax.named 1))) 0,
-      ) (T4 .locals))) (Row.set 3 (3, Rows.sc-here (Row.sInt Syntax.w64)) differ (Row.setRow 1 (
-        1,
-        Rows.mref
-            (Held.type (Syntax.named 1) List.[]) (Syntax.tyRef (Syntax.named 0) Syntax.mut (Held.behind (Syntax.named 1))) 0,
-      ) (T4 .locals)) (Row.set 1 (
-        1,
-        Rows.mref (Held.type (Syntax.named 1) List.[])
-            (Syntax.tyRef (Syntax.named 0) Syntax.mut (Held.behind (Syntax.named 1))) 0,
-      ) record {
-        ptr = Row.get 1 (T4 .locals) (m3 (before .before) (before .shared-slice-known .given)) .ptr;
-        name =
-            Row.get 1 (T4 .locals) (m3 (before .before) (before .shared-slice-known .given)) .name;
-        now = p;
-      } (T4 .locals) (m3 (before .before) (before .shared-slice-known .given))))
+      m4 = λ before p differ i. Row.set 4 (4, Rows.sc-here (Row.sInt Syntax.w64)) i (Row.setRow 3 (3, Rows.sc-here (Row.sInt Syntax.w64)) (Row.setRow 1
+          (1, Rows.mref (Held.type (Syntax.named 1) List.[]) (Syntax.tyRef (Syntax.named 0) Syntax.mut (Held.behind (Syntax.named 1))) 0) (T4 .locals))) (Row.set 3 (3, Rows.sc-here (Row.sInt Syntax.w64))
+          differ (Row.setRow 1 (1, Rows.mref (Held.type (Syntax.named 1) List.[]) (Syntax.tyRef (Syntax.named 0) Syntax.mut (Held.behind (Syntax.named 1))) 0) (T4 .locals)) (Row.set 1
+          (1, Rows.mref (Held.type (Syntax.named 1) List.[]) (Syntax.tyRef (Syntax.named 0) Syntax.mut (Held.behind (Syntax.named 1))) 0) record {
+            ptr = Row.get 1 (T4 .locals) (m3 (before .before) (before .shared-slice-known .given)) .ptr;
+            name = Row.get 1 (T4 .locals) (m3 (before .before) (before .shared-slice-known .given)) .name;
+            now
+                = p;
+          } (T4 .locals) (m3 (before .before) (before .shared-slice-known .given))))
 
       abbrev W3 : (before : After-shared-slice-known) → (p : Held.type (Syntax.named 1) List.[] .Denot) → (differ : Rows.sc-here (Row.sInt Syntax.w64) .Mod) → (i : Rows.sc-here (Row.sInt Syntax.w64)
           .Mod) → Typed.Want O3
@@ -4082,23 +2341,16 @@ module _ (claims· : Claims) where
 
       module _ (before· : In-loop) where
         abbrev pub After-call-at·own : Type 0
-        After-call-at·own = Called.Called ps·0 r·0 (claims· .1) T7 (
-          record { pos = 2; ty = Syntax.tyRef (Syntax.named 1) Syntax.imm (Syntax.tyInt Syntax.w8); ref = λ x. x },
-          (Num.vAt 4 λ x. x, tt),
-        ) (m6 (before· .before))
+        After-call-at·own = Called.Called ps·0 r·0 (claims· .1) T7 (record { pos = 2; ty = Syntax.tyRef (Syntax.named 1) Syntax.imm (Syntax.tyInt Syntax.w8); ref = λ x. x }, (Num.vAt 4 λ x. x, tt))
+            (m6 (before· .before))
 
       pub record After-call-at : Type 0 where
         pub before : In-loop
         pub call-at : After-call-at·own before
 
       abbrev pub After-call-at·gave : (c : After-call-at) → s6 .gives (m6 (c .before .before))
-      After-call-at·gave = λ c. Called.given ps·0 r·0 (claims· .1) T7 (
-        record { pos = 2; ty = Syntax.tyRef (Syntax.named 1) Syntax.imm (Syntax.tyInt Syntax.w8); ref = λ x. x },
-        (
-          Num.vAt 4 λ x. x,
-          tt,
-        ),
-      ) (m6 (c .before .before)) (c .call-at)
+      After-call-at·gave = λ c. Called.given ps·0 r·0 (claims· .1) T7
+          (record { pos = 2; ty = Syntax.tyRef (Syntax.named 1) Syntax.imm (Syntax.tyInt Syntax.w8); ref = λ x. x }, (Num.vAt 4 λ x. x, tt)) (m6 (c .before .before)) (c .call-at)
 
       abbrev pub m9 : (before : After-call-at) → (given : s8 .gives (m8 (before .before) (After-call-at·gave before))) → Typed.Mo T12
       m9 = λ before given. s8 .next (m8 (before .before) (After-call-at·gave before)) given
@@ -4126,20 +2378,10 @@ module _ (claims· : Claims) where
       module _ (before· : After-answer-arg) where
         abbrev pub After-answer·own : Type 0
         After-answer·own = Called.Called ps·1 r·1 (claims· .3) T17 (
-          record {
-            pos = 10;
-            ty = Syntax.tyRef Syntax.erased Syntax.mut (Held.behind Syntax.erased);
-            βs = List._∷_ 5 (List._∷_ 1 List.[]);
-            ref = λ x. x;
-          },
-          (
-            Num.vFld 5 (List._∷_ (Syntax.field 0) List.[]) 0 λ x. Call.struct .as-values x .0,
-            (
-              Num.vFld 5 (List._∷_ (Syntax.field 1) List.[]) 4 λ x. Call.struct .as-values x .1 .0,
-              tt,
-            ),
-          ),
-        ) (m11 (before· .before) (before· .answer-arg .given))
+          record { pos = 10; ty = Syntax.tyRef Syntax.erased Syntax.mut (Held.behind Syntax.erased); βs = List._∷_ 5 (List._∷_ 1 List.[]); ref = λ x. x },
+          (Num.vFld 5 (List._∷_ (Syntax.field 0) List.[]) 0 λ x. Call.struct .as-values x .0, (Num.vFld 5 (List._∷_ (Syntax.field 1) List.[]) 4 λ x. Call.struct .as-values x .1 .0, tt)),
+        ) (m11 (before·
+            .before) (before· .answer-arg .given))
 
       pub record After-answer : Type 0 where
         pub before : After-answer-arg
@@ -4147,20 +2389,10 @@ module _ (claims· : Claims) where
 
       abbrev pub After-answer·gave : (c : After-answer) → s14 .gives (m11 (c .before .before) (c .before .answer-arg .given))
       After-answer·gave = λ c. Called.given ps·1 r·1 (claims· .3) T17 (
-        record {
-          pos = 10;
-          ty = Syntax.tyRef Syntax.erased Syntax.mut (Held.behind Syntax.erased);
-          βs = List._∷_ 5 (List._∷_ 1 List.[]);
-          ref = λ x. x;
-        },
-        (
-          Num.vFld 5 (List._∷_ (Syntax.field 0) List.[]) 0 λ x. Call.struct .as-values x .0,
-          (
-            Num.vFld 5 (List._∷_ (Syntax.field 1) List.[]) 4 λ x. Call.struct .as-values x .1 .0,
-            tt,
-          ),
-        ),
-      ) (m11 (c .before .before) (c .before .answer-arg .given)) (c .answer)
+        record { pos = 10; ty = Syntax.tyRef Syntax.erased Syntax.mut (Held.behind Syntax.erased); βs = List._∷_ 5 (List._∷_ 1 List.[]); ref = λ x. x },
+        (Num.vFld 5 (List._∷_ (Syntax.field 0) List.[]) 0 λ x. Call.struct .as-values x .0, (Num.vFld 5 (List._∷_ (Syntax.field 1) List.[]) 4 λ x. Call.struct .as-values x .1 .0, tt)),
+      ) (m11 (c .before
+          .before) (c .before .answer-arg .given)) (c .answer)
 
       abbrev pub m13 : (before : After-answer-arg) → (given : s14 .gives (m11 (before .before) (before .answer-arg .given))) → Typed.Mo T24
       m13 = λ before given. s20 .next (m12 before given)
@@ -4190,32 +2422,18 @@ module _ (claims· : Claims) where
 
       module _ (before· : After-bit-position-arg) where
         abbrev pub After-bit-position·own : Type 0
-        After-bit-position·own = Called.Called ps·2 r·2 (claims· .5) T32 (
-          record {
-            pos = 11;
-            ty = Syntax.tyRef Syntax.erased Syntax.imm (Held.behind Syntax.erased);
-            βs = List._∷_ 6 (List._∷_ 1
-                List.[]);
-            ref = λ x. x;
-          },
-          tt,
-        ) (m16 (before· .before) (before· .bit-position-arg .given))
+        After-bit-position·own = Called.Called ps·2 r·2 (claims· .5) T32
+            (record { pos = 11; ty = Syntax.tyRef Syntax.erased Syntax.imm (Held.behind Syntax.erased); βs = List._∷_ 6 (List._∷_ 1 List.[]); ref = λ x. x }, tt) (m16 (before· .before) (before·
+            .bit-position-arg .given))
 
       pub record After-bit-position : Type 0 where
         pub before : After-bit-position-arg
         pub bit-position : After-bit-position·own before
 
       abbrev pub After-bit-position·gave : (c : After-bit-position) → s29 .gives (m16 (c .before .before) (c .before .bit-position-arg .given))
-      After-bit-position·gave = λ c. Called.given ps·2 r·2 (claims· .5) T32 (
-        record {
-          pos = 11;
-          ty = Syntax.tyRef Syntax.erased Syntax.imm (Held.behind Syntax.erased);
-          βs = List._∷_ 6 (List._∷_ 1
-              List.[]);
-          ref = λ x. x;
-        },
-        tt,
-      ) (m16 (c .before .before) (c .before .bit-position-arg .given)) (c .bit-position)
+      After-bit-position·gave = λ c. Called.given ps·2 r·2 (claims· .5) T32
+          (record { pos = 11; ty = Syntax.tyRef Syntax.erased Syntax.imm (Held.behind Syntax.erased); βs = List._∷_ 6 (List._∷_ 1 List.[]); ref = λ x. x }, tt) (m16 (c .before .before) (c .before
+          .bit-position-arg .given)) (c .bit-position)
 
       abbrev pub m18 : (before : After-bit-position-arg) → (given : s29 .gives (m16 (before .before) (before .bit-position-arg .given))) → Typed.Mo T34
       m18 = λ before given. s30 (m17 before given)
@@ -4251,32 +2469,18 @@ module _ (claims· : Claims) where
 
       module _ (before· : After-byte-position-arg) where
         abbrev pub After-byte-position·own : Type 0
-        After-byte-position·own = Called.Called ps·3 r·3 (claims· .7) T49 (
-          record {
-            pos = 12;
-            ty = Syntax.tyRef Syntax.erased Syntax.imm (Held.behind Syntax.erased);
-            βs = List._∷_ 7 (List._∷_ 1
-                List.[]);
-            ref = λ x. x;
-          },
-          tt,
-        ) (m23 (before· .before) (before· .byte-position-arg .given))
+        After-byte-position·own = Called.Called ps·3 r·3 (claims· .7) T49
+            (record { pos = 12; ty = Syntax.tyRef Syntax.erased Syntax.imm (Held.behind Syntax.erased); βs = List._∷_ 7 (List._∷_ 1 List.[]); ref = λ x. x }, tt) (m23 (before· .before) (before·
+            .byte-position-arg .given))
 
       pub record After-byte-position : Type 0 where
         pub before : After-byte-position-arg
         pub byte-position : After-byte-position·own before
 
       abbrev pub After-byte-position·gave : (c : After-byte-position) → s46 .gives (m23 (c .before .before) (c .before .byte-position-arg .given))
-      After-byte-position·gave = λ c. Called.given ps·3 r·3 (claims· .7) T49 (
-        record {
-          pos = 12;
-          ty = Syntax.tyRef Syntax.erased Syntax.imm (Held.behind Syntax.erased);
-          βs = List._∷_ 7 (List._∷_ 1
-              List.[]);
-          ref = λ x. x;
-        },
-        tt,
-      ) (m23 (c .before .before) (c .before .byte-position-arg .given)) (c .byte-position)
+      After-byte-position·gave = λ c. Called.given ps·3 r·3 (claims· .7) T49
+          (record { pos = 12; ty = Syntax.tyRef Syntax.erased Syntax.imm (Held.behind Syntax.erased); βs = List._∷_ 7 (List._∷_ 1 List.[]); ref = λ x. x }, tt) (m23 (c .before .before) (c .before
+          .byte-position-arg .given)) (c .byte-position)
 
       abbrev pub m25 : (before : After-byte-position-arg) → (given : s46 .gives (m23 (before .before) (before .byte-position-arg .given))) → Typed.Mo T51
       m25 = λ before given. s47 (m24 before given)
@@ -4295,37 +2499,18 @@ module _ (claims· : Claims) where
 
       module _ (before· : After-byte-position) where
         abbrev pub After-agrees·own : Type 0
-        After-agrees·own = Called.Called ps·4 r·4 (claims· .9) T58 (
-          record { pos = 5; st = List.[]; d = 0; at = λ x. x },
-          (
-            Num.vAt 6 λ x. x,
-            (
-              record { pos = 7; st = List.[]; d = 0; at = λ x. x },
-              (record { pos = 8; st = List.[]; d = 0; at = λ x. x }, tt),
-            ),
-          ),
-        ) (m27 (before· .before) (After-byte-position·gave before·))
+        After-agrees·own = Called.Called ps·4 r·4 (claims· .9) T58
+            (record { pos = 5; st = List.[]; d = 0; at = λ x. x }, (Num.vAt 6 λ x. x, (record { pos = 7; st = List.[]; d = 0; at = λ x. x }, (record { pos = 8; st = List.[]; d = 0; at = λ x. x }, tt))))
+            (m27 (before· .before) (After-byte-position·gave before·))
 
       pub record After-agrees : Type 0 where
         pub before : After-byte-position
         pub agrees : After-agrees·own before
 
       abbrev pub After-agrees·gave : (c : After-agrees) → s56 .gives (m27 (c .before .before) (After-byte-position·gave (c .before)))
-      After-agrees·gave = λ c. Called.given ps·4 r·4 (claims· .9) T58 (
-        record { pos = 5; st = List.[]; d = 0; at = λ x. x },
-        (
-          Num.vAt 6 λ x. x,
-          (
-            record {
-              pos = 7;
-              st = List.[];
-              d = 0;
-              at = λ x. x;
-            },
-            (record { pos = 8; st = List.[]; d = 0; at = λ x. x }, tt),
-          ),
-        ),
-      ) (m27 (c .before .before) (After-byte-position·gave (c .before))) (c .agrees)
+      After-agrees·gave = λ c. Called.given ps·4 r·4 (claims· .9) T58
+          (record { pos = 5; st = List.[]; d = 0; at = λ x. x }, (Num.vAt 6 λ x. x, (record { pos = 7; st = List.[]; d = 0; at = λ x. x }, (record { pos = 8; st = List.[]; d = 0; at = λ x. x }, tt))))
+          (m27 (c .before .before) (After-byte-position·gave (c .before))) (c .agrees)
 
       abbrev pub m29 : (before : After-byte-position) → (given : s56 .gives (m27 (before .before) (After-byte-position·gave before))) → Typed.Mo T61
       m29 = λ before given. s57 (m28 before given)
@@ -4416,35 +2601,31 @@ module _ (claims· : Claims) where
         lay9 = λ c. (
           add-i record { before = c .before; counted = c .counted },
           (
-            μ·0 (Row.get 1 (T4 .locals) (m3 (c .before .before .before .before .before .before .before .before .before .before
-                .before .before) (c .before .before .before .before .before .before .before .before .before .before .before .shared-slice-known .given)) .now) (Row.get 2 (T4 .locals) (m3 (c .before .before
-                .before .before .before .before .before .before .before .before .before .before) (c .before .before .before .before .before .before .before .before .before .before .before .shared-slice-known
-                .given)) .now) (Row.get 3 (T4 .locals) (m3 (c .before .before .before .before .before .before .before .before .before .before .before .before) (c .before .before .before .before .before
-                .before .before .before .before .before .before .shared-slice-known .given))) (Row.get 4 (T4 .locals) (m3 (c .before .before .before .before .before .before .before .before .before .before
-                .before .before) (c .before .before .before .before .before .before .before .before .before .before .before .shared-slice-known .given))) (Row.get 1 (T4 .locals) (m35 (c .before)
-                (After-counted·gave c)) .now) (Row.get 3 (T4 .locals) (m35 (c .before) (After-counted·gave c))) (Row.get 4 (T4 .locals) (m35 (c .before) (After-counted·gave c))),
-            loop-less record {
-              before = c
-                  .before;
-              counted = c .counted;
-            },
+            μ·0 (Row.get 1 (T4 .locals) (m3 (c .before .before .before .before .before .before .before .before .before .before .before .before) (c .before .before .before .before .before .before .before
+                .before .before .before .before .shared-slice-known .given)) .now) (Row.get 2 (T4 .locals) (m3 (c .before .before .before .before .before .before .before .before .before .before .before
+                .before) (c .before .before .before .before .before .before .before .before .before .before .before .shared-slice-known .given)) .now) (Row.get 3 (T4 .locals) (m3 (c .before .before .before
+                .before .before .before .before .before .before .before .before .before) (c .before .before .before .before .before .before .before .before .before .before .before .shared-slice-known
+                .given))) (Row.get 4 (T4 .locals) (m3 (c .before .before .before .before .before .before .before .before .before .before .before .before) (c .before .before .before .before .before .before
+                .before .before .before .before .before .shared-slice-known .given))) (Row.get 1 (T4 .locals) (m35 (c .before) (After-counted·gave c)) .now) (Row.get 3 (T4 .locals) (m35 (c .before)
+                (After-counted·gave c))) (Row.get 4 (T4 .locals) (m35 (c .before) (After-counted·gave c))),
+            loop-less record { before = c .before; counted = c .counted },
             (
               (
                 Row.get 1 (T4 .locals) (m35 (c .before) (After-counted·gave c)) .now,
                 Row.get 3 (T4 .locals) (m35 (c .before) (After-counted·gave c)),
-                Row.get 4 (T4
-                    .locals) (m35 (c .before) (After-counted·gave c)),
+                Row.get 4 (T4 .locals) (m35 (c .before)
+                    (After-counted·gave c)),
               ),
               Path'.refl {a = m35 (c .before) (After-counted·gave c)},
               loop-again record { before = c .before; counted = c .counted },
-              Path'.refl {a =
-                  μ·0 (Row.get 1 (T4 .locals) (m3 (c .before .before .before .before .before .before .before .before .before .before .before .before) (c .before .before .before .before .before .before .before
-                  .before .before .before .before .shared-slice-known .given)) .now) (Row.get 2 (T4 .locals) (m3 (c .before .before .before .before .before .before .before .before .before .before .before
-                  .before) (c .before .before .before .before .before .before .before .before .before .before .before .shared-slice-known .given)) .now) (Row.get 3 (T4 .locals) (m3 (c .before .before .before
-                  .before .before .before .before .before .before .before .before .before) (c .before .before .before .before .before .before .before .before .before .before .before .shared-slice-known
-                  .given))) (Row.get 4 (T4 .locals) (m3 (c .before .before .before .before .before .before .before .before .before .before .before .before) (c .before .before .before .before .before .before
-                  .before .before .before .before .before .shared-slice-known .given))) (Row.get 1 (T4 .locals) (m35 (c .before) (After-counted·gave c)) .now) (Row.get 3 (T4 .locals) (m35 (c .before)
-                  (After-counted·gave c))) (Row.get 4 (T4 .locals) (m35 (c .before) (After-counted·gave c)))},
+              Path'.refl {a = μ·0 (Row.get 1 (T4 .locals)
+                  (m3 (c .before .before .before .before .before .before .before .before .before .before .before .before) (c .before .before .before .before .before .before .before .before .before .before
+                  .before .shared-slice-known .given)) .now) (Row.get 2 (T4 .locals) (m3 (c .before .before .before .before .before .before .before .before .before .before .before .before) (c .before .before
+                  .before .before .before .before .before .before .before .before .before .shared-slice-known .given)) .now) (Row.get 3 (T4 .locals) (m3 (c .before .before .before .before .before .before
+                  .before .before .before .before .before .before) (c .before .before .before .before .before .before .before .before .before .before .before .shared-slice-known .given))) (Row.get 4 (T4
+                  .locals) (m3 (c .before .before .before .before .before .before .before .before .before .before .before .before) (c .before .before .before .before .before .before .before .before .before
+                  .before .before .shared-slice-known .given))) (Row.get 1 (T4 .locals) (m35 (c .before) (After-counted·gave c)) .now) (Row.get 3 (T4 .locals) (m35 (c .before) (After-counted·gave c))) (Row.get
+                  4 (T4 .locals) (m35 (c .before) (After-counted·gave c)))},
             ),
           ),
         )
@@ -4456,8 +2637,8 @@ module _ (claims· : Claims) where
           counted-requires record { before = c .before; agrees = c .agrees },
           λ g. lay9 record {
             before = record { before = c .before; agrees = c .agrees };
-            counted = Called.called ps·5
-                r·5 (claims· .11) T63 (Num.vAt 3 λ x. x, (Bool.bAt 9 λ x. x, tt)) (m31 (c .before) (After-agrees·gave c)) g;
+            counted = Called.called ps·5 r·5 (claims· .11) T63 (Num.vAt 3 λ x. x, (Bool.bAt 9 λ x. x, tt)) (m31 (c .before) (After-agrees·gave
+                c)) g;
           },
         )
 
@@ -4468,24 +2649,9 @@ module _ (claims· : Claims) where
           agrees-requires record { before = c .before; byte-position = c .byte-position },
           λ g. lay8 record {
             before = record { before = c .before; byte-position = c .byte-position };
-            agrees = Called.called ps·4 r·4 (claims· .9) T58 (
-              record { pos = 5; st = List.[]; d = 0; at = λ x. x },
-              (
-                Num.vAt 6 λ x. x,
-                (
-                  record { pos = 7; st = List.[]; d = 0; at = λ x. x },
-                  (
-                    record {
-                      pos = 8;
-                      st = List.[];
-                      d = 0;
-                      at = λ x. x;
-                    },
-                    tt,
-                  ),
-                ),
-              ),
-            ) (m27 (c .before) (After-byte-position·gave c)) g;
+            agrees = Called.called ps·4 r·4 (claims· .9) T58
+                (record { pos = 5; st = List.[]; d = 0; at = λ x. x }, (Num.vAt 6 λ x. x, (record { pos = 7; st = List.[]; d = 0; at = λ x. x }, (record { pos = 8; st = List.[]; d = 0; at = λ x. x }, tt))))
+                (m27 (c .before) (After-byte-position·gave c)) g;
           },
         )
 
@@ -4495,13 +2661,9 @@ module _ (claims· : Claims) where
           byte-position-requires record { before = record { before = c .before; bit-position = c .bit-position }; byte-position-arg = record { given = g } },
           λ g'. lay7 record {
             before = record { before = record { before = c .before; bit-position = c .bit-position }; byte-position-arg = record { given = g } };
-            byte-position = Called.called ps·3 r·3 (claims· .7) T49 (
-              record { pos = 12; ty = Syntax.tyRef Syntax.erased Syntax.imm (Held.behind Syntax.erased); βs = List._∷_ 7 (List._∷_ 1 List.[]); ref = λ x. x },
-              tt,
-            ) (m23 record {
-              before = c .before;
-              bit-position = c .bit-position;
-            } g) g';
+            byte-position = Called.called ps·3 r·3 (claims· .7) T49
+                (record { pos = 12; ty = Syntax.tyRef Syntax.erased Syntax.imm (Held.behind Syntax.erased); βs = List._∷_ 7 (List._∷_ 1 List.[]); ref = λ x. x }, tt) (m23 record
+                { before = c .before; bit-position = c .bit-position } g) g';
           },
         )
 
@@ -4513,19 +2675,9 @@ module _ (claims· : Claims) where
             bit-position-requires record { before = record { before = c .before; answer = c .answer }; bit-position-arg = record { given = g } },
             λ g'. lay6 record {
               before = record { before = record { before = c .before; answer = c .answer }; bit-position-arg = record { given = g } };
-              bit-position = Called.called ps·2 r·2 (claims· .5) T32 (
-                record {
-                  pos
-                      = 11;
-                  ty = Syntax.tyRef Syntax.erased Syntax.imm (Held.behind Syntax.erased);
-                  βs = List._∷_ 6 (List._∷_ 1 List.[]);
-                  ref = λ x. x;
-                },
-                tt,
-              ) (m16 record {
-                before = c .before;
-                answer = c .answer;
-              } g) g';
+              bit-position = Called.called ps·2 r·2 (claims· .5) T32
+                  (record { pos = 11; ty = Syntax.tyRef Syntax.erased Syntax.imm (Held.behind Syntax.erased); βs = List._∷_ 6 (List._∷_ 1 List.[]); ref = λ x. x }, tt) (m16 record
+                  { before = c .before; answer = c .answer } g) g';
             },
           ),
         )
@@ -4535,28 +2687,12 @@ module _ (claims· : Claims) where
         lay4 = λ c. λ g. (
           answer-requires record { before = record { before = c .before; call-at = c .call-at }; answer-arg = record { given = g } },
           λ g'. lay5 record {
-            before = record {
-              before =
-                  record { before = c .before; call-at = c .call-at };
-              answer-arg = record { given = g };
-            };
+            before = record { before = record { before = c .before; call-at = c .call-at }; answer-arg = record { given = g } };
             answer = Called.called ps·1 r·1 (claims· .3) T17 (
-              record {
-                pos = 10;
-                ty = Syntax.tyRef Syntax.erased
-                    Syntax.mut (Held.behind Syntax.erased);
-                βs = List._∷_ 5 (List._∷_ 1 List.[]);
-                ref = λ x. x;
-              },
-              (
-                Num.vFld 5 (List._∷_ (Syntax.field 0) List.[]) 0 λ x. Call.struct .as-values x .0,
-                (
-                  Num.vFld 5
-                      (List._∷_ (Syntax.field 1) List.[]) 4 λ x. Call.struct .as-values x .1 .0,
-                  tt,
-                ),
-              ),
-            ) (m11 record { before = c .before; call-at = c .call-at } g) g';
+              record { pos = 10; ty = Syntax.tyRef Syntax.erased Syntax.mut (Held.behind Syntax.erased); βs = List._∷_ 5 (List._∷_ 1 List.[]); ref = λ x. x },
+              (Num.vFld 5 (List._∷_ (Syntax.field 0) List.[]) 0 λ x. Call.struct .as-values x .0, (Num.vFld 5 (List._∷_ (Syntax.field 1) List.[]) 4 λ x. Call.struct .as-values x .1 .0, tt)),
+            ) (m11 record
+                { before = c .before; call-at = c .call-at } g) g';
           },
         )
 
@@ -4565,9 +2701,8 @@ module _ (claims· : Claims) where
           call-at-requires record { before = c .before; loop-test = c .loop-test },
           λ g. lay4 record {
             before = record { before = c .before; loop-test = c .loop-test };
-            call-at =
-                Called.called ps·0 r·0 (claims· .1) T7 (record { pos = 2; ty = Syntax.tyRef (Syntax.named 1) Syntax.imm (Syntax.tyInt Syntax.w8); ref = λ x. x }, (Num.vAt 4 λ x. x, tt)) (m6 (c .before))
-                g;
+            call-at = Called.called ps·0 r·0 (claims· .1) T7
+                (record { pos = 2; ty = Syntax.tyRef (Syntax.named 1) Syntax.imm (Syntax.tyInt Syntax.w8); ref = λ x. x }, (Num.vAt 4 λ x. x, tt)) (m6 (c .before)) g;
           },
         )
 
@@ -4584,44 +2719,21 @@ module _ (claims· : Claims) where
           (
             (Row.get 1 (T4 .locals) (m3 c g) .now, Row.get 3 (T4 .locals) (m3 c g), Row.get 4 (T4 .locals) (m3 c g)),
             Path'.refl {a = m3 c g},
-            loop-holds record {
-              before = c;
-              shared-slice-known = record { given = g };
-            },
+            loop-holds record
+                { before = c; shared-slice-known = record { given = g } },
           ),
           λ vs inv. (
             tt,
             (
               λ taken. lay1 record {
-                before = record {
-                  before = record { before = c; shared-slice-known = record { given = g } };
-                  loop =
-                      record { p = vs .0; differ = vs .1; i = vs .2; inv = inv };
-                };
-                loop-test = record {
-                  taken = Tests.ltb-true (Row.get 4 (T4 .locals) (m4 record {
-                    before = c;
-                    shared-slice-known = record {
-                      given
-                          = g;
-                    };
-                  } (vs .0) (vs .1) (vs .2))) 24 taken;
-                };
+                before = record { before = record { before = c; shared-slice-known = record { given = g } }; loop = record { p = vs .0; differ = vs .1; i = vs .2; inv = inv } };
+                loop-test = record
+                    { taken = Tests.ltb-true (Row.get 4 (T4 .locals) (m4 record { before = c; shared-slice-known = record { given = g } } (vs .0) (vs .1) (vs .2))) 24 taken };
               },
               λ left. lay2 record {
-                before = record {
-                  before = record { before = c; shared-slice-known = record { given = g } };
-                  loop = record {
-                    p = vs .0;
-                    differ = vs .1;
-                    i = vs .2;
-                    inv = inv;
-                  };
-                };
-                loop-test = record {
-                  left = Tests.ltb-false (Row.get 4 (T4 .locals) (m4 record { before = c; shared-slice-known = record { given = g } } (vs .0) (vs
-                      .1) (vs .2))) 24 left;
-                };
+                before = record { before = record { before = c; shared-slice-known = record { given = g } }; loop = record { p = vs .0; differ = vs .1; i = vs .2; inv = inv } };
+                loop-test = record
+                    { left = Tests.ltb-false (Row.get 4 (T4 .locals) (m4 record { before = c; shared-slice-known = record { given = g } } (vs .0) (vs .1) (vs .2))) 24 left };
               },
             ),
           ),

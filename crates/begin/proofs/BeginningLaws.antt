@@ -1,0 +1,87 @@
+-- How a call begins, step by step, and what holds of one that goes on. Assumes nothing.
+use borrow.Author.Tests.{le-ltb, lt-ltb, eq-eqb, ne-eqb}
+use mathlib.Core.Bool.{Bool, true, false, cond}
+use mathlib.Core.List.{List}
+use mathlib.Core.Logic.{_≢_}
+use mathlib.Core.Path.{_≡_, sym, ap, _∙_}
+use Prim.Native.Nat.{ℕ, _≤_, _<_}
+use lib.Dec.{lit≤, eqb}
+use Rattle.map.specs.Places.{widthOf}
+use Rattle.stream.specs.Headers.{parseOf}
+use Rattle.stream.specs.Streams.{openOf}
+use Rattle.stream.specs.declared.FujiHeader.{FujiHeader}
+use Rattle.stream.specs.declared.Parsed.{Parsed}
+use Rattle.stream.specs.declared.Parsed.the-variants as Parsing
+use Rattle.stream.specs.declared.Refusal.the-variants.{NoBlock, WrongSize, Lossy, WrongCount, ShortScratch}
+use Rattle.region.specs.Regions.{checkedOf}
+use Rattle.region.specs.declared.Rect.{Rect}
+use Rattle.writing.specs.Sets.{setSize}
+use Rattle.begin.specs.Beginnings.{isShortScratch, withScratch, withRegion, withStream, regionBegins, wholeOf, isWhole, withSize, withPicture, imageBegins}
+use Rattle.begin.specs.Beginnings.{withBlock, withOpened, tightBegins, withSet, withParsed, writingBegins}
+use Rattle.begin.specs.declared.Beginning.the-variants.{Refused}
+
+-- the width is at most 512
+pub narrow : (xtrans : Bool) (w : ℕ) → w ≡ widthOf xtrans → w ≤ 512
+narrow true w e = rw e (lit≤ tt)
+narrow false w e = rw e (lit≤ tt)
+
+-- ---- a call begins as the stream opens, or as the header parses
+
+module _ (d : List ℕ) (p : Parsed) (e : openOf d ≡ p) where
+  pub region-is : (r : Rect) (n a b : ℕ) → withStream p r n a b ≡ regionBegins d r n a b
+  unfolding regionBegins
+  region-is r n a b = rw e
+
+  pub image-is : (w h n a b : ℕ) → withPicture p w h n a b ≡ imageBegins d w h n a b
+  unfolding imageBegins
+  image-is w h n a b = rw e
+
+  pub tight-is : (k a b : ℕ) → withOpened p k a b ≡ tightBegins d k a b
+  unfolding tightBegins
+  tight-is k a b = rw e
+
+pub writing-is : (d : List ℕ) (p : Parsed) → parseOf d ≡ p → (n a b : ℕ) → withParsed p n a b ≡ writingBegins d n a b
+unfolding writingBegins
+writing-is d p e n a b = rw e
+
+-- ---- the steps
+
+module _ (h : FujiHeader) (a b : ℕ) where
+  pub scratch-short : isShortScratch (h .xtrans) a b ≡ true → Parsing.Refused ShortScratch ≡ withScratch h a b
+  scratch-short e = rw e
+
+  pub scratch-fits : isShortScratch (h .xtrans) a b ≡ false → Parsing.Header h ≡ withScratch h a b
+  scratch-fits e = rw e
+
+  pub no-block : (k : ℕ) → h .blocks ≤ k → Parsing.Refused NoBlock ≡ withBlock h k a b
+  no-block k s = rw (le-ltb k (h .blocks) s)
+
+  pub lossy-block : (k : ℕ) → k < h .blocks → h .lossless ≡ false → Parsing.Refused Lossy ≡ withBlock h k a b
+  lossy-block k s e = rw (lt-ltb k (h .blocks) s, e)
+
+  pub a-block : (k : ℕ) → k < h .blocks → h .lossless ≡ true → withScratch h a b ≡ withBlock h k a b
+  a-block k s e =
+      let inner = cond (h .lossless) (withScratch h a b) (Parsing.Refused Lossy) in
+      sym (ap (λ (x : Bool). cond x inner (Parsing.Refused NoBlock)) (lt-ltb k (h .blocks) s) ∙ ap (λ (x : Bool). cond x (withScratch h a b) (Parsing.Refused Lossy)) e)
+
+  pub lossy-set : (n : ℕ) → h .lossless ≡ false → Parsing.Refused Lossy ≡ withSet h n a b
+  lossy-set n e = rw e
+
+  -- the set of a lossless stream, which has the right size or not
+  set-size-is : (n : ℕ) (y : Bool) → h .lossless ≡ true → eqb n (setSize (widthOf (h .xtrans)) (h .lines)) ≡ y
+      → cond y (withScratch h a b) (Parsing.Refused WrongCount) ≡ withSet h n a b
+  set-size-is n y e f =
+      let inner = cond (eqb n (setSize (widthOf (h .xtrans)) (h .lines))) (withScratch h a b) (Parsing.Refused WrongCount) in
+      sym (ap (λ (x : Bool). cond x inner (Parsing.Refused Lossy)) e ∙ ap (λ (x : Bool). cond x (withScratch h a b) (Parsing.Refused WrongCount)) f)
+
+  pub wrong-set : (n s : ℕ) → h .lossless ≡ true → s ≡ setSize (widthOf (h .xtrans)) (h .lines) → n ≢ s → Parsing.Refused WrongCount ≡ withSet h n a b
+  wrong-set n s e es f = set-size-is n false e (rw (← es) (ne-eqb n s f))
+
+  pub a-set : (n s : ℕ) → h .lossless ≡ true → s ≡ setSize (widthOf (h .xtrans)) (h .lines) → n ≡ s → withScratch h a b ≡ withSet h n a b
+  a-set n s e es f = set-size-is n true e (rw (← es) (eq-eqb n s f))
+
+  pub whole-picture : (w k n : ℕ) → isWhole h w k ≡ true → withRegion h (checkedOf h (wholeOf w k) n) a b ≡ withSize h w k n a b
+  whole-picture w k n e = sym (ap (λ (x : Bool). cond x (withRegion h (checkedOf h (wholeOf w k) n) a b) (Refused WrongSize)) e)
+
+  pub wrong-size : (w k n : ℕ) → isWhole h w k ≡ false → Refused WrongSize ≡ withSize h w k n a b
+  wrong-size w k n e = sym (ap (λ (x : Bool). cond x (withRegion h (checkedOf h (wholeOf w k) n) a b) (Refused WrongSize)) e)

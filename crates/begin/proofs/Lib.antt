@@ -1,0 +1,3 @@
+pub mod BeginningLaws
+pub mod CallLaws
+pub mod SampleLaws

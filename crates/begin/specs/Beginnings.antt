@@ -1,0 +1,118 @@
+-- How a call begins: a refusal, nothing to do, or a header to go by. A call that is refused touches no buffer. Refusals come in the order of their
+-- numbers. Assumes nothing.
+use mathlib.Core.Bool.{Bool, cond, _&&_, _||_}
+use mathlib.Core.List.{List, [], _∷_}
+use mathlib.Core.Option.{Option, none, some}
+use Prim.Native.Nat.{ℕ, suc, _+_, _*_}
+use lib.Dec.{leb, ltb, eqb}
+use Rattle.map.specs.Places.{widthOf}
+use Rattle.stream.specs.Headers.{parseOf}
+use Rattle.stream.specs.Streams.{openOf}
+use Rattle.stream.specs.declared.FujiHeader.{FujiHeader}
+use Rattle.stream.specs.declared.Parsed.{Parsed}
+use Rattle.stream.specs.declared.Parsed.the-variants as Parsing
+use Rattle.stream.specs.declared.Refusal.the-variants.{NoBlock, WrongSize, Lossy, WrongCount, ShortScratch}
+use Rattle.region.specs.Regions.{checkedOf}
+use Rattle.region.specs.declared.Rect.{Rect}
+use Rattle.region.specs.declared.Checked.{Checked}
+use Rattle.region.specs.declared.Checked.the-variants as Check
+use Rattle.writing.specs.Sets.{setSize}
+use Rattle.begin.specs.declared.Beginning.{Beginning}
+use Rattle.begin.specs.declared.Beginning.the-variants.{Refused, Nothing, Reading}
+
+-- ---- scratch
+
+-- 18 colour lines of W samples, each with a guard on both sides
+abbrev pub samplesNeeded : Bool → ℕ
+samplesNeeded xtrans = 18 * (widthOf xtrans + 2)
+
+abbrev pub recordsNeeded : ℕ
+recordsNeeded = 336
+
+-- with so many samples and records lent
+abbrev pub isShortScratch : Bool → ℕ → ℕ → Bool
+isShortScratch xtrans samples records = ltb samples (samplesNeeded xtrans) || ltb records recordsNeeded
+
+-- refusal 10, or the header
+abbrev pub withScratch : FujiHeader → ℕ → ℕ → Parsed
+withScratch h samples records = cond (isShortScratch (h .xtrans) samples records) (Parsing.Refused ShortScratch) (Parsing.Header h)
+
+-- ---- decoding a region
+
+abbrev pub begun : Parsed → Beginning
+begun (Parsing.Refused x) = Refused x
+begun (Parsing.Header h) = Reading h
+
+-- refusal 7 and the empty region, then refusal 10
+abbrev pub withRegion : FujiHeader → Checked → ℕ → ℕ → Beginning
+withRegion h (Check.Refused x) samples records = Refused x
+withRegion h Check.Empty samples records = Nothing
+withRegion h (Check.Touched s) samples records = begun (withScratch h samples records)
+
+-- after refusals 1 to 4
+abbrev pub withStream : Parsed → Rect → ℕ → ℕ → ℕ → Beginning
+withStream (Parsing.Refused x) r image samples records = Refused x
+withStream (Parsing.Header h) r image samples records = withRegion h (checkedOf h r image) samples records
+
+unfoldable pub regionBegins : List ℕ → Rect → ℕ → ℕ → ℕ → Beginning
+regionBegins d r image samples records = withStream (openOf d) r image samples records
+
+-- ---- decoding the whole picture
+
+abbrev pub wholeOf : ℕ → ℕ → Rect
+wholeOf width height = record { x = 0; y = 0; width = width; height = height }
+
+abbrev pub isWhole : FujiHeader → ℕ → ℕ → Bool
+isWhole h width height = eqb width (h .width) && eqb height (h .height)
+
+-- refusal 6, where the size that is named is not the header's, then those of the region
+abbrev pub withSize : FujiHeader → ℕ → ℕ → ℕ → ℕ → ℕ → Beginning
+withSize h width height image samples records =
+    cond (isWhole h width height) (withRegion h (checkedOf h (wholeOf width height) image) samples records) (Refused WrongSize)
+
+-- after refusals 1 to 4
+abbrev pub withPicture : Parsed → ℕ → ℕ → ℕ → ℕ → ℕ → Beginning
+withPicture (Parsing.Refused x) width height image samples records = Refused x
+withPicture (Parsing.Header h) width height image samples records = withSize h width height image samples records
+
+unfoldable pub imageBegins : List ℕ → ℕ → ℕ → ℕ → ℕ → ℕ → Beginning
+imageBegins d width height image samples records = withPicture (openOf d) width height image samples records
+
+-- ---- the tight reading of block b
+
+-- refusals 5, 8 and 10
+abbrev pub withBlock : FujiHeader → ℕ → ℕ → ℕ → Parsed
+withBlock h b samples records =
+    cond (ltb b (h .blocks))
+    (cond (h .lossless) (withScratch h samples records) (Parsing.Refused Lossy))
+    (Parsing.Refused NoBlock)
+
+-- after refusals 1 to 4
+abbrev pub withOpened : Parsed → ℕ → ℕ → ℕ → Parsed
+withOpened (Parsing.Refused x) b samples records = Parsing.Refused x
+withOpened (Parsing.Header h) b samples records = withBlock h b samples records
+
+unfoldable pub tightBegins : List ℕ → ℕ → ℕ → ℕ → Parsed
+tightBegins d b samples records = withOpened (openOf d) b samples records
+
+-- ---- the writer, for a set of so many samples
+
+-- refusals 8, 9 and 10
+abbrev pub withSet : FujiHeader → ℕ → ℕ → ℕ → Parsed
+withSet h count samples records =
+    cond (h .lossless)
+    (cond (eqb count (setSize (widthOf (h .xtrans)) (h .lines))) (withScratch h samples records) (Parsing.Refused WrongCount))
+    (Parsing.Refused Lossy)
+
+-- after refusals 1 and 2
+abbrev pub withParsed : Parsed → ℕ → ℕ → ℕ → Parsed
+withParsed (Parsing.Refused x) count samples records = Parsing.Refused x
+withParsed (Parsing.Header h) count samples records = withSet h count samples records
+
+unfoldable pub writingBegins : List ℕ → ℕ → ℕ → ℕ → Parsed
+writingBegins d count samples records = withParsed (parseOf d) count samples records
+
+-- the lowest index, from i on, of a sample above M
+unfoldable pub firstAbove : ℕ → ℕ → List ℕ → Option ℕ
+firstAbove M i [] = none
+firstAbove M i (v ∷ t) = cond (leb v M) (firstAbove M (suc i) t) (some i)

@@ -1,0 +1,221 @@
+// How a call begins: judged from the stream and from the sizes of what is lent, before a buffer is touched.
+ghost use mathlib.Core.Path.{_≡_};
+ghost use mathlib.Core.Bool.{cond};
+ghost use mathlib.Core.Option.{none, some};
+ghost use Prim.Native.Nat.{_≤_};
+ghost use lib.Dec.{ltb};
+ghost use lib.ListN.{length};
+ghost use Rattle.region.specs.Regions.{checkedOf};
+ghost use Rattle.writing.specs.Sets.{setSize};
+ghost use Rattle.map.specs.Places.{widthOf};
+ghost use Rattle.begin.specs.Beginnings.{samplesNeeded, isShortScratch, withScratch, begun, withRegion, regionBegins, wholeOf, isWhole, withSize, imageBegins};
+ghost use Rattle.begin.specs.Beginnings.{withBlock, tightBegins, withSet, writingBegins, firstAbove};
+use region::Checked;
+use region::Rect;
+use stream::FujiHeader;
+use stream::Parsed;
+use stream::Refusal;
+
+// How decoding begins: a refusal, nothing to do, or a stream with this header is read. The tight reading and the writer always have something to
+// do: they begin with a refusal or a header, as `Parsed` has them.
+pub enum Beginning {
+    Refused(Refusal),
+    Nothing,
+    Reading(FujiHeader),
+}
+
+// The samples of the scratch that a call uses.
+pub fn samples_needed(xtrans: bool) -> usize
+    ensures { λ r. ⌜ (r ≡ samplesNeeded xtrans) × (r ≤ 9252) ⌝ }
+{
+    18 * (map::width(xtrans) + 2)
+}
+
+fn is_short_scratch(xtrans: bool, samples: usize, records: usize) -> bool
+    ensures { λ r. ⌜ r ≡ isShortScratch xtrans samples records ⌝ }
+{
+    (samples < samples_needed(xtrans)) | (records < 336)
+}
+
+// Refusal 10, which comes last.
+fn with_scratch(h: FujiHeader, samples: usize, records: usize) -> Parsed
+    ensures { λ r. ⌜ r ≡ withScratch h samples records ⌝ }
+{
+    if is_short_scratch(h.xtrans, samples, records) {
+        return Parsed::Refused(Refusal::ShortScratch);
+    }
+    Parsed::Header(h)
+}
+
+// ---- decoding
+
+fn begun(p: Parsed) -> Beginning
+    ensures { λ r. ⌜ r ≡ begun p ⌝ }
+{
+    match p {
+        Parsed::Refused(x) => Beginning::Refused(x),
+        Parsed::Header(h) => Beginning::Reading(h),
+    }
+}
+
+fn region_in(h: FujiHeader, r: Rect, image: usize, samples: usize, records: usize) -> Beginning
+    ensures { λ a. ⌜ a ≡ withRegion h (checkedOf h r image) samples records ⌝ }
+{
+    let checked = region::check(h, r, image);
+    match checked {
+        Checked::Refused(x) => Beginning::Refused(x),
+        Checked::Empty => Beginning::Nothing,
+        Checked::Touched(_) => begun(with_scratch(h, samples, records)),
+    }
+}
+
+// A region of the stream d, with an image of so many samples, and scratch of so many samples and records.
+pub fn region_begins(d: &[u8], r: Rect, image: usize, samples: usize, records: usize) -> Beginning
+    ensures { λ a. ⌜ a ≡ regionBegins (now (d .entry)) r image samples records ⌝ }
+{
+    let opened = stream::open(d);
+    match opened {
+        Parsed::Refused(x) => Beginning::Refused(x),
+        Parsed::Header(h) => region_in(h, r, image, samples, records),
+    }
+}
+
+// The whole picture as a region.
+pub fn whole(width: usize, height: usize) -> Rect
+    ensures { λ r. ⌜ r ≡ wholeOf width height ⌝ }
+{
+    Rect {
+        x: 0,
+        y: 0,
+        width,
+        height,
+    }
+}
+
+fn is_whole(h: FujiHeader, width: usize, height: usize) -> bool
+    ensures { λ r. ⌜ r ≡ isWhole h width height ⌝ }
+{
+    (width == h.width as usize) & (height == h.height as usize)
+}
+
+fn image_in(
+    h: FujiHeader,
+    width: usize,
+    height: usize,
+    image: usize,
+    samples: usize,
+    records: usize,
+) -> Beginning
+    ensures { λ a. ⌜ a ≡ withSize h width height image samples records ⌝ }
+{
+    if is_whole(h, width, height) {
+        return region_in(h, whole(width, height), image, samples, records);
+    }
+    Beginning::Refused(Refusal::WrongSize)
+}
+
+// The whole picture of the stream d, whose size the caller names.
+pub fn image_begins(
+    d: &[u8],
+    width: usize,
+    height: usize,
+    image: usize,
+    samples: usize,
+    records: usize,
+) -> Beginning
+    ensures { λ a. ⌜ a ≡ imageBegins (now (d .entry)) width height image samples records ⌝ }
+{
+    let opened = stream::open(d);
+    match opened {
+        Parsed::Refused(x) => Beginning::Refused(x),
+        Parsed::Header(h) => image_in(h, width, height, image, samples, records),
+    }
+}
+
+// ---- the tight reading
+
+fn tight_in(h: FujiHeader, b: usize, samples: usize, records: usize) -> Parsed
+    ensures { λ a. ⌜ a ≡ withBlock h b samples records ⌝ }
+{
+    let blocks = h.blocks as usize;
+    let lossless = h.lossless;
+    if blocks <= b {
+        return Parsed::Refused(Refusal::NoBlock);
+    }
+    if !lossless {
+        return Parsed::Refused(Refusal::Lossy);
+    }
+    with_scratch(h, samples, records)
+}
+
+// The tight reading of block b of the stream d.
+pub fn tight_begins(d: &[u8], b: usize, samples: usize, records: usize) -> Parsed
+    ensures { λ a. ⌜ a ≡ tightBegins (now (d .entry)) b samples records ⌝ }
+{
+    let opened = stream::open(d);
+    match opened {
+        Parsed::Refused(x) => Parsed::Refused(x),
+        Parsed::Header(h) => tight_in(h, b, samples, records),
+    }
+}
+
+// ---- the writer
+
+// How many samples a set has under this header.
+fn set_size(h: FujiHeader) -> usize
+    ensures { λ r. ⌜ r ≡ setSize (widthOf (h .xtrans)) (h .lines) ⌝ }
+{
+    let lines = h.lines as usize;
+    lines * (12 * map::width(h.xtrans))
+}
+
+fn writing_in(h: FujiHeader, count: usize, samples: usize, records: usize) -> Parsed
+    ensures { λ a. ⌜ a ≡ withSet h count samples records ⌝ }
+{
+    let lossless = h.lossless;
+    if !lossless {
+        return Parsed::Refused(Refusal::Lossy);
+    }
+    if count != set_size(h) {
+        return Parsed::Refused(Refusal::WrongCount);
+    }
+    with_scratch(h, samples, records)
+}
+
+// The writer, for a set of so many samples. Of the header the first 16 bytes count.
+pub fn writing_begins(header: &[u8], count: usize, samples: usize, records: usize) -> Parsed
+    ensures { λ a. ⌜ a ≡ writingBegins (now (header .entry)) count samples records ⌝ }
+{
+    let parsed = FujiHeader::parse(header);
+    match parsed {
+        Parsed::Refused(x) => Parsed::Refused(x),
+        Parsed::Header(h) => writing_in(h, count, samples, records),
+    }
+}
+
+fn widened(x: u16) -> u32
+    ensures { λ r. ⌜ r ≡ x ⌝ }
+{
+    x as u32
+}
+
+// Refusal 11: the lowest index of a sample above m, or the length where there is none.
+pub fn first_above(samples: &[u16], m: u32) -> usize
+    ensures { λ r. ⌜ firstAbove m 0 (now (samples .entry)) ≡ cond (ltb r (length (now (samples .entry)))) (some r) none ⌝ }
+{
+    let mut i: usize = 0;
+    while i < samples.len() {
+        if m < widened(samples[i]) {
+            return i;
+        }
+        i = i + 1;
+    }
+    i
+}
+
+// Refusal 13, for a block of so many bytes.
+pub fn is_short(room: usize, needed: usize) -> bool
+    ensures { λ r. ⌜ r ≡ ltb room needed ⌝ }
+{
+    room < needed
+}

@@ -1,0 +1,83 @@
+-- What a call leaves, by how it begins; the form of its header; and scratch of which the first part is lent. Assumes nothing.
+use borrow.Rule.Slice.PartMut.{putMid}
+use mathlib.Core.Bool.{Bool}
+use mathlib.Core.List.{List}
+use mathlib.Core.Path.{_≡_, refl}
+use Prim.Native.Nat.{ℕ, _-_}
+use native.Mathlib.Nat.{sub-zero}
+use Rattle.statistics.specs.declared.Record.{Record}
+use Rattle.lines.specs.ColourLines.{zeroLines}
+use Rattle.map.specs.Places.{widthOf}
+use Rattle.pass.specs.Readings.{Depth}
+use Rattle.stream.specs.Headers.{Ruled}
+use Rattle.stream.specs.declared.FujiHeader.{FujiHeader}
+use Rattle.stream.specs.declared.Parsed.{Parsed}
+use Rattle.stream.specs.declared.Parsed.the-variants as Parsing
+use Rattle.stream.specs.declared.Refusal.{Refusal}
+use Rattle.region.specs.declared.Rect.{Rect}
+use Rattle.begin.specs.Beginnings.{samplesNeeded}
+use Rattle.begin.specs.declared.Beginning.{Beginning}
+use Rattle.begin.specs.declared.Beginning.the-variants as Begin
+use Rattle.block.specs.Images.{formOf, Decoding, Left}
+use Rattle.block.specs.Lent.{Buffers, Scratch, Outputs, ScratchOf, clearedLines, clearedRecords}
+use Rattle.block.specs.Records.{clearRecords}
+use Rattle.block.specs.TightReadings.{TightReading, LeftTight}
+use Rattle.block.specs.WrittenAnswers.{SetWriting, LeftWritten}
+use Rattle.block.specs.declared.Decoded.{Decoded}
+use Rattle.block.specs.declared.Decoded.the-variants.{Done, Refused}
+use Rattle.block.specs.declared.Form.{Form}
+use Rattle.block.specs.declared.Written.{Written}
+use Rattle.block.specs.declared.Written.the-variants as Write
+
+-- ---- by how a call begins
+
+module _ (d : List ℕ) (r : Rect) (tile : List ℕ) (before : Buffers) (begins : Beginning) where
+  pub left-refused : (x : Refusal) → begins ≡ Begin.Refused x → Left d r tile begins before before (Refused x)
+  left-refused x e = rw e (refl, refl)
+
+  pub left-nothing : begins ≡ Begin.Nothing → Left d r tile begins before before Done
+  left-nothing e = rw e (refl, refl)
+
+  pub left-reading : (h : FujiHeader) → begins ≡ Begin.Reading h → (after : Buffers) (a : Decoded) → Decoding d h r tile before after a
+      → Left d r tile begins before after a
+  left-reading h e after a l = rw e l
+
+module _ (d : List ℕ) (b : ℕ) (before : Scratch) (begins : Parsed) where
+  pub tight-refused : (x : Refusal) → begins ≡ Parsing.Refused x → LeftTight d b begins before before (Refused x)
+  tight-refused x e = rw e (refl, refl)
+
+  pub tight-reading : (h : FujiHeader) → begins ≡ Parsing.Header h → (after : Scratch) (a : Decoded) → TightReading d b h before after a
+      → LeftTight d b begins before after a
+  tight-reading h e after a l = rw e l
+
+module _ (t : List ℕ) (before : Outputs) (begins : Parsed) where
+  pub written-refused : (x : Refusal) → begins ≡ Parsing.Refused x → LeftWritten t begins before before (Write.Refused x)
+  written-refused x e = rw e (refl, refl)
+
+  pub written-set : (h : FujiHeader) → begins ≡ Parsing.Header h → (after : Outputs) (a : Written) → SetWriting t h before after a
+      → LeftWritten t begins before after a
+  written-set h e after a l = rw e l
+
+-- ---- the form of a header
+
+module _ (F : Form) (h : FujiHeader) (e : F ≡ formOf h) where
+  pub form-scratch : (lines : List ℕ) (records : List Record) → ScratchOf (h .xtrans) lines records → ScratchOf (F .xtrans) lines records
+  form-scratch lines records s = rw e s
+
+  pub form-samples : (n : ℕ) → n ≡ samplesNeeded (h .xtrans) → n ≡ samplesNeeded (F .xtrans)
+  form-samples n s = rw e s
+
+  pub form-depth : Ruled h → Depth (F .bits)
+  form-depth k = rw e (k .bits-low, k .bits-high)
+
+  pub form-zero : (lines : List ℕ) → lines ≡ zeroLines (widthOf (F .xtrans)) → lines ≡ zeroLines (widthOf (h .xtrans))
+  form-zero lines z = rw e at z
+
+-- ---- the lent part goes back, with what follows it as it was
+
+pub lines-back : (xtrans : Bool) (n : ℕ) (lines part : List ℕ) → n ≡ samplesNeeded xtrans → part ≡ zeroLines (widthOf xtrans)
+    → putMid 0 (n - 0) lines part ≡ clearedLines xtrans lines
+lines-back xtrans n lines part e p = rw (p, sub-zero n, e) refl
+
+pub records-back : (records part : List Record) → part ≡ clearRecords → putMid 0 (336 - 0) records part ≡ clearedRecords records
+records-back records part p = rw p refl

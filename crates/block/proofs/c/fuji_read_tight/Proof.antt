@@ -1,0 +1,14 @@
+-- `block::c::fuji_read_tight` meets its contract. Assumes nothing.
+mod derived
+use borrow.Author.Needs.{needs}
+use Rattle.block.proofs.c.fuji_read_tight.Statement.{statement}
+use Rattle.block.proofs.c.fuji_read_tight.Proof.derived.Tie as tie
+
+returns : tie.Need-returns
+returns c =
+    let k = c .before .before .before .before in
+    record { answer = k .read-tight .result; left = k .read-tight .ensures; told = c .answer-words .ensures }
+
+pub fuji-read-tight-spec : {M : Type 1} → statement M
+fuji-read-tight-spec =
+    tie.close (tie.spec (λ c κs. search needs) (λ c κs. search needs) (λ c. search needs) (λ c. search needs) returns)

@@ -1,0 +1,4 @@
+pub mod line
+pub mod read_lines
+pub mod walk
+pub mod walk_alone

@@ -1,0 +1,187 @@
+-- `block::reading::line` meets its contract: i passes have been read. Assumes nothing.
+mod derived
+use borrow.Author.Needs.{needs}
+use borrow.Author.Tests.{not-true, not-false}
+use mathlib.Core.Option.{some}
+use mathlib.Core.Path.{_≡_, refl, sym, ap, _∙_}
+use Prim.Native.Nat.{_+_, _-_, _*_, _%_, _≤_}
+use native.Mathlib.Omega.{arith}
+use lib.ListN.{length}
+use Rattle.map.specs.Places.{widthOf}
+use Rattle.pass.specs.Readings.{recordsOf}
+use Rattle.block.specs.Blocks.{AllInRange, runs, passAt}
+use Rattle.block.specs.Records.{putSet}
+use Rattle.block.proofs.LineLaws.{planned, width-in-range, pass-read, pass-cut, line-past, line-read}
+use Rattle.block.proofs.RangeLaws.{set-in-range, put-in-range}
+use Rattle.block.proofs.RunLaws.{runs-none}
+use Rattle.block.proofs.reading.line.Statement.{statement}
+use Rattle.block.proofs.reading.line.Proof.derived.Tie as tie
+
+abbrev Inv-loop : tie.InvT-loop
+Inv-loop block tight-before lines₀ rs₀ qs bits xtrans w at₀ tight₀ i₀ lines rs at tight i =
+    (i ≤ 6) × ((w ≡ widthOf xtrans) × (8 ≤ w) × (w ≤ 512) × (w % 2 ≡ 0)) × (length lines ≡ 18 * (w + 2)) × (length rs ≡ 336) × AllInRange rs
+    × (runs (passAt (record { bits = bits; xtrans = xtrans }) (qs .base) block) i (record { lines = lines₀; records = rs₀; at = at₀; tight = tight₀ })
+    ≡ some (record { lines = lines; records = rs; at = at; tight = tight }))
+
+abbrev μ-loop : tie.MeasureT-loop
+μ-loop block tight-before lines₀ rs₀ qs bits xtrans w at₀ tight₀ i₀ lines rs at tight i = 6 - i
+
+-- places before a place
+abbrev start : tie.At-loop Inv-loop μ-loop → tie.Start Inv-loop μ-loop
+start l = l .before .before .before .before
+
+abbrev first : tie.After-set-guards2 Inv-loop μ-loop → tie.After-set-guards Inv-loop μ-loop
+first g = g .before .before .before .before
+
+abbrev second : tie.After-load-set Inv-loop μ-loop → tie.After-set-guards2 Inv-loop μ-loop
+second s = s .before .before .before .before
+
+abbrev plan-of : tie.After-load-set Inv-loop μ-loop → tie.After-plan-at Inv-loop μ-loop
+plan-of s = first (second s) .before .before
+
+abbrev loaded : tie.After-pass Inv-loop μ-loop → tie.After-load-set Inv-loop μ-loop
+loaded d = d .before .before .before
+
+abbrev passed : tie.After-at Inv-loop μ-loop → tie.After-pass Inv-loop μ-loop
+passed c = c .before .before .before .before .before .before .before .before
+
+loop-holds : tie.Need-loop-holds Inv-loop μ-loop
+loop-holds c =
+    let a = c .before .before .before in
+    let w = width-in-range (a .args .form .xtrans) _ (c .width .ensures) in
+    (search needs, (c .width .ensures, w .0, w .1, w .2), rw (c .width .ensures) (a .pre .0 .1 .0), a .pre .0 .1 .1, a .pre .1 .1, runs-none _ _)
+
+set-guards-requires : tie.Need-set-guards-requires Inv-loop μ-loop
+set-guards-requires c κs =
+    let p = c .before in
+    let l = p .before .before .loop in
+    let r = planned _ (l .i) _ (omega arith) (p .plan-at .ensures) in
+    (l .inv .1 .2, (omega arith, (r .0 .1, omega arith)))
+
+set-guards-requires-2 : tie.Need-set-guards-requires-2 Inv-loop μ-loop
+set-guards-requires-2 c κs =
+    let g = c .before .before .before in
+    let p = g .before .before in
+    let l = p .before .before .loop in
+    let r = planned _ (l .i) _ (omega arith) (p .plan-at .ensures) in
+    (l .inv .1 .2, (omega arith, (r .0 .3, omega (arith, g .set-guards .kept, l .inv .2))))
+
+load-set-requires : tie.Need-load-set-requires Inv-loop μ-loop
+load-set-requires c κs =
+    let p = first (c .before .before .before) .before .before in
+    let l = p .before .before .loop in
+    (l .inv .3, planned _ (l .i) _ (omega arith) (p .plan-at .ensures) .1)
+
+pass-requires : tie.Need-pass-requires Inv-loop μ-loop
+pass-requires c κs =
+    let s = c .before .before in
+    let p = plan-of s in
+    let l = p .before .before .loop in
+    let a = start (p .before .before) .pre in
+    let r = planned _ (l .i) _ (omega arith) (p .plan-at .ensures) in
+    let w = l .inv .1 in (
+      (a .0 .0, (w .1, (w .2, w .3))),
+      (
+        (omega (arith, second s .set-guards2 .kept, first (second s) .set-guards .kept, l .inv .2), r .0),
+        (a .1 .0, rw (s .load-set .ensures .0) (set-in-range _ _ (r .1) (l .inv .4))),
+      ),
+    )
+
+same-length : tie.Need-same-length Inv-loop μ-loop
+same-length c =
+    let d = c .before .before .before in
+    let s = loaded d in
+    let l = plan-of s .before .before in
+    omega
+    (arith, d .pass .kept, second s .set-guards2 .kept, first (second s) .set-guards .kept, l .loop .inv .2, l .before .width .ensures, start l .pre)
+
+same-length-2 : tie.Need-same-length-2 Inv-loop μ-loop
+same-length-2 c =
+    let s = loaded (c .before .before .before) in
+    let l = plan-of s .before .before in
+    omega (arith, s .load-set .kept, l .loop .inv .3, start l .pre .0 .1 .1)
+
+returns : tie.Need-returns Inv-loop μ-loop
+returns c =
+    let d = c .before .before .before in
+    let s = loaded d in
+    let p = plan-of s in
+    let l = p .before .before .loop in (
+      rw (pass-cut _ _ _ _ _ _ _ _ _ _ _ _ _ _ (l .inv .5) (l .inv .1 .0) (p .plan-at .ensures) (first (second s) .set-guards .ensures)
+          (second s .set-guards2 .ensures) (s .load-set .ensures .0) _ (d .pass .result) (d .pass .ensures .0) (p .before .loop-test .taken)
+          (not-true _ (c .if1 .taken))) refl,
+      rw (s .load-set .ensures .1) (l .inv .4),
+    )
+
+store-set-requires : tie.Need-store-set-requires Inv-loop μ-loop
+store-set-requires c κs =
+    let s = loaded (c .before .before .before .before .before) in
+    let p = plan-of s in
+    let l = p .before .before .loop in
+    (rw (s .load-set .ensures .1) (l .inv .3), planned _ (l .i) _ (omega arith) (p .plan-at .ensures) .1)
+
+add-i : tie.Need-add-i Inv-loop μ-loop
+add-i c = omega (arith, plan-of (loaded (passed c)) .before .loop-test .taken)
+
+loop-less : tie.Need-loop-less Inv-loop μ-loop
+loop-less c = omega (arith, plan-of (loaded (passed c)) .before .loop-test .taken)
+
+loop-again : tie.Need-loop-again Inv-loop μ-loop
+loop-again c =
+    let d = passed c in
+    let s = loaded d in
+    let p = plan-of s in
+    let l = p .before .before .loop in
+    let t = c .before .before .store-set in
+    let r = planned _ (l .i) _ (omega arith) (p .plan-at .ensures) in
+    let e = t .ensures ∙ ap (putSet (p .plan-at .result .set) (recordsOf (d .pass .result .set))) (s .load-set .ensures .1) in (
+      omega (arith, p .before .loop-test .taken),
+      l .inv .1,
+      omega (arith, d .pass .kept, second s .set-guards2 .kept, first (second s) .set-guards .kept, l .inv .2),
+      omega (arith, t .kept, s .load-set .kept, l .inv .3),
+      rw e (put-in-range _ _ _ (r .1) (l .inv .3) (d .pass .ensures .1) (l .inv .4)),
+      rw e
+          (pass-read _ _ _ _ _ _ _ _ _ _ _ _ _ _ (l .inv .5) (l .inv .1 .0) (p .plan-at .ensures) (first (second s) .set-guards .ensures)
+          (second s .set-guards2 .ensures) (s .load-set .ensures .0) _ (d .pass .result) (d .pass .ensures .0)
+          (not-false _ (c .before .before .before .before .before .if1 .left))),
+    )
+
+returns-2 : tie.Need-returns-2 Inv-loop μ-loop
+returns-2 c =
+    let l = c .before .before .before .loop in
+    let past = sym (c .before .is-past .ensures) ∙ c .if2 .taken in
+    (rw (line-past _ _ _ (l .i) _ _ (omega arith) (l .inv .0) (l .inv .5) past) refl, l .inv .4)
+
+returns-3 : tie.Need-returns-3 Inv-loop μ-loop
+returns-3 c =
+    let l = c .before .before .before .loop in
+    let past = sym (c .before .is-past .ensures) ∙ c .if2 .left in
+    (rw (line-read _ _ _ (l .i) _ _ (omega arith) (l .inv .0) (l .inv .5) past) (refl, refl, refl), l .inv .4)
+
+pub line-spec : {M : Type 1} → statement M
+line-spec =
+    tie.close
+    (tie.spec
+    Inv-loop
+    μ-loop
+    (λ c. search needs)
+    loop-holds
+    (λ c. search needs)
+    set-guards-requires
+    set-guards-requires-2
+    load-set-requires
+    pass-requires
+    same-length
+    same-length-2
+    returns
+    store-set-requires
+    add-i
+    loop-less
+    loop-again
+    (λ c. search needs)
+    (λ c. search needs)
+    (λ c. search needs)
+    returns-2
+    (λ c. search needs)
+    (λ c. search needs)
+    returns-3)

@@ -1,0 +1,202 @@
+-- `block::reading::read_lines` meets its contract: n lines have been read, and the image shows them. Assumes nothing.
+mod derived
+use borrow.Author.Needs.{needs}
+use mathlib.Core.Option.{some}
+use mathlib.Core.Path.{_≡_, refl, ap, _∙_}
+use Prim.Native.Nat.{_+_, _-_, _*_, _≤_}
+use native.Mathlib.Omega.{arith}
+use lib.ListN.{length}
+use Rattle.map.specs.Places.{widthOf, Fits}
+use Rattle.map.proofs.PartLaws.{fits-kept}
+use Rattle.map.proofs.PlaceLaws.{width-le}
+use Rattle.block.specs.Blocks.{AllInRange, readLines, linesOf, tightLines, Shown}
+use Rattle.block.proofs.RangeLaws.{all-started, all-kept}
+use Rattle.block.proofs.BlockLaws.{base-known, block-starts, line-more, line-cut, tight-none, tight-more, read-all, cut-at}
+use Rattle.block.proofs.ImageLaws.{shown-none, shown-more}
+use Rattle.block.proofs.reading.read_lines.Statement.{statement}
+use Rattle.block.proofs.reading.read_lines.Proof.derived.Tie as tie
+
+abbrev Inv-loop : tie.InvT-loop
+Inv-loop block bases lines₀ rs₀ image₀ form places tile part count bits xtrans w at₀ tight₀ tight-lines₀ n₀ lines rs image at tight tight-lines n =
+    (n ≤ count) × ((w ≡ widthOf (form .xtrans)) × (w ≤ 512)) × (length lines ≡ 18 * (w + 2)) × (length rs ≡ 336) × AllInRange rs
+    × ((tight-lines ≡ tightLines form bases block n) × (tight-lines ≤ n))
+    × (Fits part image × Shown form bases block tile part n image₀ image)
+    × (readLines form bases block n ≡ some (record { lines = lines; records = rs; at = at; tight = tight }))
+
+abbrev μ-loop : tie.MeasureT-loop
+μ-loop block bases lines₀ rs₀ image₀ form places tile part count bits xtrans w at₀ tight₀ tight-lines₀ n₀ lines rs image at tight tight-lines n = count - n
+
+-- places before a place
+abbrev start : tie.At-loop Inv-loop μ-loop → tie.Start Inv-loop μ-loop
+start l = l .before .before .before .before .before .before .before .before .before .before .before .before .before .before
+
+abbrev based : tie.After-restart Inv-loop μ-loop → tie.After-base-of2 Inv-loop μ-loop
+based r = r .before .before .before
+
+abbrev turned : tie.After-restart Inv-loop μ-loop → tie.After-turn Inv-loop μ-loop
+turned r = based r .before .before .before
+
+abbrev restarted : tie.After-line Inv-loop μ-loop → tie.After-restart Inv-loop μ-loop
+restarted d = d .before .before .before .before .before
+
+abbrev looped : tie.After-restart Inv-loop μ-loop → tie.At-loop Inv-loop μ-loop
+looped r = turned r .before .before .before
+
+abbrev lined : tie.After-slice-known6 Inv-loop μ-loop → tie.After-line Inv-loop μ-loop
+lined c = c .before .before .before .before .before .before .before .before .before .before .before .before
+
+abbrev cut : tie.After-enum-told Inv-loop μ-loop → tie.After-line Inv-loop μ-loop
+cut c = c .before .before .before .before .before
+
+loop-holds : tie.Need-loop-holds Inv-loop μ-loop
+loop-holds c =
+    let s = c .before .start-records in
+    let k = c .before .before .before .before .before .before in
+    let w = k .before .before in
+    let a = w .before .before .before .before .before in (
+      search needs,
+      (w .width .ensures, rw (w .width .ensures) (width-le (a .args .form .xtrans))),
+      omega (arith, k .clear .kept, a .pre .0, w .width .ensures),
+      omega (arith, s .kept, a .pre .0),
+      rw (s .ensures) (all-started _ _ (a .pre .1 .0 .0 .1)),
+      (tight-none _ _ _, search needs),
+      (a .pre .1 .1 .1, shown-none _ _ _ _ _ _),
+      block-starts _ _ _ _ _ (k .clear .ensures ∙ rw (a .pre .0 .1 .0)) (s .ensures ∙ rw (c .before .before .base-of .ensures .0)),
+    )
+
+quantisers-of-requires : tie.Need-quantisers-of-requires Inv-loop μ-loop
+quantisers-of-requires c κs =
+    let r = c .before .before .before in
+    (start (looped r) .pre .1 .0 .0, based r .base-of2 .ensures .1)
+
+line-requires : tie.Need-line-requires Inv-loop μ-loop
+line-requires c κs =
+    let r = c .before .before .before .before in
+    let b = based r .base-of2 in
+    let l = looped r .loop in
+    let a = start (looped r) .pre in
+    let Q = base-known _ _ _ (c .quantisers-of .ensures) in (
+      (a .0 .0, (omega (arith, turned r .turn .kept, l .inv .1 .0, l .inv .2), omega (arith, r .restart .kept, l .inv .3))),
+      (
+        (a .1 .0 .0, (omega (arith, Q .0, b .ensures .1), Q .1)),
+        all-kept (r .before .is-restarted .result) _ (b .result) (l .rs) _ (a .1 .0 .0 .1) (r .restart .ensures) (l .inv .4),
+      ),
+    )
+
+same-length : tie.Need-same-length Inv-loop μ-loop
+same-length c =
+    let d = cut c in
+    let r = restarted d in
+    let l = looped r in
+    omega (arith, d .line .kept, turned r .turn .kept, l .loop .inv .1 .0, l .loop .inv .2, start l .pre .0)
+
+same-length-2 : tie.Need-same-length-2 Inv-loop μ-loop
+same-length-2 c =
+    let d = cut c in
+    let r = restarted d in
+    let l = looped r in
+    omega (arith, d .line .kept, r .restart .kept, l .loop .inv .3, start l .pre .0)
+
+same-length-3 : tie.Need-same-length-3 Inv-loop μ-loop
+same-length-3 c = looped (restarted (cut c)) .loop .inv .6 .1 .kept
+
+returns : tie.Need-returns Inv-loop μ-loop
+returns c =
+    let d = cut c in
+    let r = restarted d in
+    let l = looped r .loop in (
+      cut-at _ _ _ _ _ _ (turned r .before .before .loop-test .taken) (l .inv .7)
+          (line-cut _ _ _ _ _ _ _ _ _ _ _ _ _ _ (l .inv .7) (l .inv .1 .0) (based r .base-of2 .ensures .0) (r .before .is-restarted .ensures)
+          (d .before .quantisers-of .ensures) (turned r .turn .ensures) (r .restart .ensures) _ _ (d .line .result) (d .line .ensures .0)
+          (c .enum-told .given .1)),
+      l .inv .6 .1,
+    )
+
+tight-count-requires : tie.Need-tight-count-requires Inv-loop μ-loop
+tight-count-requires c κs =
+    let r = restarted (c .before .before .before .before .before .before) in
+    (looped r .loop .inv .5 .1, omega (arith, turned r .before .before .loop-test .taken, start (looped r) .pre .1 .0 .1))
+
+emit-line-requires : tie.Need-emit-line-requires Inv-loop μ-loop
+emit-line-requires c κs =
+    let d = c .before .before .before .before .before .before .before .before .before in
+    let r = restarted d in
+    let l = looped r .loop in
+    let a = start (looped r) .pre in (
+      (omega (arith, turned r .before .before .loop-test .taken, a .1 .0 .1), (l .inv .1 .0, omega (arith, d .line .kept, turned r .turn .kept, l .inv .2))),
+      (a .1 .1 .0, l .inv .6 .0),
+    )
+
+add-n : tie.Need-add-n Inv-loop μ-loop
+add-n c =
+    let r = restarted (lined c) in
+    omega (arith, turned r .before .before .loop-test .taken, start (looped r) .pre .1 .0 .1)
+
+loop-less : tie.Need-loop-less Inv-loop μ-loop
+loop-less c = omega (arith, turned (restarted (lined c)) .before .before .loop-test .taken)
+
+loop-again : tie.Need-loop-again Inv-loop μ-loop
+loop-again c =
+    let e = c .before .before .emit-line in
+    let k = c .before .before .before .before .before .tight-count in
+    let d = lined c in
+    let r = restarted d in
+    let l = looped r .loop in
+    let more =
+    line-more _ _ _ _ _ _ _ _ _ _ _ _ _ _ (l .inv .7) (l .inv .1 .0) (based r .base-of2 .ensures .0) (r .before .is-restarted .ensures)
+    (d .before .quantisers-of .ensures) (turned r .turn .ensures) (r .restart .ensures) _ _ (d .line .result) (d .line .ensures .0) _ _
+    (c .before .before .before .before .before .before .before .got .given .1) in (
+      omega (arith, turned r .before .before .loop-test .taken),
+      l .inv .1,
+      omega (arith, d .line .kept, turned r .turn .kept, l .inv .2),
+      omega (arith, d .line .kept, r .restart .kept, l .inv .3),
+      d .line .ensures .1,
+      (tight-more _ _ _ _ _ _ _ (l .inv .5 .0) more (k .ensures .0), k .ensures .1),
+      (
+        fits-kept _ _ _ (e .ensures .kept) (l .inv .6 .0),
+        shown-more _ _ _ _ _ _ _ _ _ _ _ (l .inv .1 .0) (ap linesOf more) (l .inv .6 .1) (e .ensures),
+      ),
+      more,
+    )
+
+same-length-6 : tie.Need-same-length-6 Inv-loop μ-loop
+same-length-6 c = c .before .loop .inv .6 .1 .kept
+
+returns-2 : tie.Need-returns-2 Inv-loop μ-loop
+returns-2 c =
+    let l = c .before .loop in
+    let e : l .n ≡ start (c .before) .args .count = omega arith in
+    (read-all _ _ _ (l .n) _ _ _ e (l .inv .7) (l .inv .5 .0), rw e at (l .inv .6 .1))
+
+pub read-lines-spec : {M : Type 1} → statement M
+read-lines-spec =
+    tie.close
+    (tie.spec
+    Inv-loop
+    μ-loop
+    (λ c. search needs)
+    (λ c. search needs)
+    (λ c. search needs)
+    (λ c. search needs)
+    loop-holds
+    (λ c. search needs)
+    (λ c. search needs)
+    (λ c. search needs)
+    (λ c. search needs)
+    quantisers-of-requires
+    line-requires
+    (λ c. search needs)
+    (λ c. search needs)
+    same-length
+    same-length-2
+    same-length-3
+    returns
+    tight-count-requires
+    emit-line-requires
+    add-n
+    loop-less
+    loop-again
+    (λ c. search needs)
+    (λ c. search needs)
+    same-length-6
+    returns-2)

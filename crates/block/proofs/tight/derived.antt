@@ -1,0 +1,2 @@
+pub mod read_tight
+pub mod read_tight_block

@@ -1,0 +1,70 @@
+-- `block::read_tight` meets its contract, by the two ways in which a call begins. Assumes nothing.
+mod derived
+use borrow.Author.Needs.{needs}
+use mathlib.Core.Path.{sym, _∙_}
+use Rattle.begin.proofs.CallLaws.{tight-reads}
+use Rattle.block.specs.Lent.{Scratch}
+use Rattle.block.proofs.LeftLaws.{tight-refused, tight-reading, lines-back, records-back}
+use Rattle.block.proofs.tight.read_tight.Statement.{statement}
+use Rattle.block.proofs.tight.read_tight.Proof.derived.Tie as tie
+
+abbrev lent : tie.Start → Scratch
+lent s = record { lines = s .args .lines .now; records = s .args .rs .now }
+
+returns : tie.Need-returns
+returns c =
+    let k = c .before .before .before in
+    let s = k .before .before .before in
+    tight-refused (s .args .d .now) (s .args .b) (lent s) _ _ (sym (k .tight-begins .ensures) ∙ c .before .begins .given .1)
+
+part-end : tie.Need-part-read-tight-block-end
+part-end c =
+    let m = c .before .before in
+    let k = tight-reads _ _ _ _ _ (sym (m .before .before .tight-begins .ensures) ∙ m .begins2 .given .1) in
+    search (needs, k .fits .for-lines)
+
+part-end-2 : tie.Need-part-read-tight-block-end-2
+part-end-2 c =
+    let m = c .before .before .before in
+    let k = tight-reads _ _ _ _ _ (sym (m .before .before .tight-begins .ensures) ∙ m .begins2 .given .1) in
+    search (needs, k .fits .for-records)
+
+read-tight-block-requires : tie.Need-read-tight-block-requires
+read-tight-block-requires c κs =
+    let m = c .before .before .before .before in
+    let k = tight-reads _ _ _ _ _ (sym (m .before .before .tight-begins .ensures) ∙ m .begins2 .given .1) in
+    ((k .opens, k .lossless), (search needs, search needs))
+
+returns-2 : tie.Need-returns-2
+returns-2 c =
+    let x = c .before .before .before in
+    let n = x .before .before .before in
+    let m = n .before .before in
+    let s = m .before .before .before .before .before in
+    let h = m .begins2 .given .0 .0 in
+    tight-reading (s .args .d .now) (s .args .b) (lent s) _ h (sym (m .before .before .tight-begins .ensures) ∙ m .begins2 .given .1) _ _
+    (record {
+      answered = x .read-tight-block .ensures .0;
+      lines = lines-back (h .xtrans) (n .samples-needed .result) (s .args .lines .now) _ (n .samples-needed .ensures .0) (x .read-tight-block .ensures .1 .0);
+      records = records-back (s .args .rs .now) _ (x .read-tight-block .ensures .1 .1);
+    })
+
+pub read-tight-spec : {M : Type 1} → statement M
+read-tight-spec =
+    tie.close
+    (tie.spec
+    (λ c κs. search needs)
+    (λ c. search needs)
+    (λ c. search needs)
+    (λ c κs. search needs)
+    (λ c. search needs)
+    (λ c. search needs)
+    part-end
+    (λ c. search needs)
+    (λ c. search needs)
+    part-end-2
+    read-tight-block-requires
+    returns
+    (λ c. search needs)
+    (λ c. search needs)
+    returns-2)

@@ -1,0 +1,67 @@
+-- `block::writer::write_set` meets its contract: all samples are looked at before the set is measured. Assumes nothing.
+mod derived
+use borrow.Author.Needs.{needs}
+use mathlib.Core.Path.{refl, ap, _∙_}
+use Prim.Native.Nat.{ℕ}
+use lib.ListN.{replicate}
+use Rattle.block.proofs.AnswerLaws.{set-above, set-within, set-answer}
+use Rattle.block.proofs.writer.write_set.Statement.{statement}
+use Rattle.block.proofs.writer.write_set.Proof.derived.Tie as tie
+
+abbrev start : tie.After-first-above → tie.Start
+start f = f .before .before .before .before .before
+
+returns : tie.Need-returns
+returns c =
+    let k = c .before .before .before .before .before in
+    let t = k .before .before in
+    let f = t .before in
+    let a = start f in (
+      (set-above (a .args .form) (a .args .count) (a .args .samples .now) _ _ _ (f .before .largest .ensures .0) (f .first-above .ensures) (t .if1 .taken), refl),
+      (k .clear .ensures ∙ ap (λ (n : ℕ). replicate n 0) (a .pre .1 .1 .0), c .before .clear-records .ensures),
+    )
+
+write-measured-requires : tie.Need-write-measured-requires
+write-measured-requires c κs =
+    let s = c .before .before .before in
+    let f = s .before in
+    let a = start f in (
+      (
+        a .pre .0 .0,
+        (
+          a .pre .0 .1,
+          set-within (a .args .form) (a .args .count) (a .args .samples .now) 0 _ _ (f .before .largest .ensures .0) (f .first-above .ensures) (s .if1 .left),
+        ),
+      ),
+      a .pre .1,
+    )
+
+returns-2 : tie.Need-returns-2
+returns-2 c =
+    let v = c .before .before .before .before .before in
+    let s = v .before .before .before .before in
+    let f = s .before in
+    let a = start f in (
+      (
+        set-answer (a .args .form) (a .args .count) (a .args .samples .now) _ _ _ (f .before .largest .ensures .0) (f .first-above .ensures) (s .if1 .left) _ (v .write-measured .ensures .0 .0),
+        v .write-measured .ensures .0 .1,
+      ),
+      v .write-measured .ensures .1,
+    )
+
+pub write-set-spec : {M : Type 1} → statement M
+write-set-spec =
+    tie.close
+    (tie.spec
+    (λ c. search needs)
+    (λ c. search needs)
+    (λ c. search needs)
+    (λ c. search needs)
+    (λ c. search needs)
+    (λ c. search needs)
+    returns
+    write-measured-requires
+    (λ c. search needs)
+    (λ c. search needs)
+    (λ c. search needs)
+    returns-2)

@@ -1,0 +1,142 @@
+// For C: answers as numbers, and the entries.
+ghost use mathlib.Core.Path.{_≡_};
+ghost use lib.ListN.{length};
+ghost use Rattle.region.specs.declared.Rect.{Rect};
+ghost use Rattle.begin.specs.Beginnings.{regionBegins, wholeOf, imageBegins};
+ghost use Rattle.block.specs.Lent.{Buffers, Scratch, Outputs};
+ghost use Rattle.block.specs.Words.{answerWords, Told, ToldTight, writtenWords, writtenRefusal, ToldWritten};
+use crate::Decoded;
+use crate::Written;
+use crate::decoding::decode;
+use crate::decoding::decode_region;
+use crate::tight::read_tight;
+use crate::writer::write_block;
+use region::Rect;
+use statistics::Record;
+
+pub fn answer_words(a: Decoded) -> [usize; 4]
+    ensures { λ w. ⌜ w ≡ answerWords a ⌝ }
+{
+    match a {
+        Decoded::Done => [0; 4],
+        Decoded::Refused(r) => stream::refusal_words(r),
+    }
+}
+
+// `decode_region` for C.
+#[no_mangle]
+pub extern "C" fn fuji_decode_region(
+    d: &[u8],
+    x: usize,
+    y: usize,
+    width: usize,
+    height: usize,
+    tile: &[u8; 36],
+    image: &mut [u16],
+    lines: &mut [u16],
+    rs: &mut [Record],
+    refusal: &mut [usize; 4],
+)
+    ensures { λ _.
+        let r : Rect = record { x = x; y = y; width = width; height = height } in
+        let before : Buffers = record { image = now (image .entry); lines = now (lines .entry); records = now (rs .entry) } in
+        let after : Buffers = record { image = now (image .exit); lines = now (lines .exit); records = now (rs .exit) } in
+        let begins = regionBegins (now (d .entry)) r (length (before .image)) (length (before .lines)) (length (before .records)) in
+        ⌜ Told (now (d .entry)) r (now (tile .entry)) begins before after (now (refusal .exit)) ⌝ }
+{
+    let r = Rect {
+        x,
+        y,
+        width,
+        height,
+    };
+    let t = *tile;
+    let a = decode_region(d, r, t, image, lines, rs);
+    let w = answer_words(a);
+    *refusal = w;
+}
+
+// `decode` for C.
+#[no_mangle]
+pub extern "C" fn fuji_decode(
+    d: &[u8],
+    width: usize,
+    height: usize,
+    tile: &[u8; 36],
+    image: &mut [u16],
+    lines: &mut [u16],
+    rs: &mut [Record],
+    refusal: &mut [usize; 4],
+)
+    ensures { λ _.
+        let before : Buffers = record { image = now (image .entry); lines = now (lines .entry); records = now (rs .entry) } in
+        let after : Buffers = record { image = now (image .exit); lines = now (lines .exit); records = now (rs .exit) } in
+        let begins = imageBegins (now (d .entry)) width height (length (before .image)) (length (before .lines)) (length (before .records)) in
+        ⌜ Told (now (d .entry)) (wholeOf width height) (now (tile .entry)) begins before after (now (refusal .exit)) ⌝ }
+{
+    let t = *tile;
+    let a = decode(d, width, height, t, image, lines, rs);
+    let w = answer_words(a);
+    *refusal = w;
+}
+
+// `read_tight` for C.
+#[no_mangle]
+pub extern "C" fn fuji_read_tight(
+    d: &[u8],
+    b: usize,
+    lines: &mut [u16],
+    rs: &mut [Record],
+    refusal: &mut [usize; 4],
+)
+    ensures { λ _.
+        let before : Scratch = record { lines = now (lines .entry); records = now (rs .entry) } in
+        let after : Scratch = record { lines = now (lines .exit); records = now (rs .exit) } in
+        ⌜ ToldTight (now (d .entry)) b before after (now (refusal .exit)) ⌝ }
+{
+    let a = read_tight(d, b, lines, rs);
+    let w = answer_words(a);
+    *refusal = w;
+}
+
+// The length of a block that was written, 0 where it is refused.
+fn written_words(a: Written) -> [usize; 1]
+    ensures { λ w. ⌜ w ≡ writtenWords a ⌝ }
+{
+    match a {
+        Written::Length(n) => [n],
+        Written::Refused(r) => [0],
+    }
+}
+
+fn written_refusal(a: Written) -> [usize; 4]
+    ensures { λ w. ⌜ w ≡ writtenRefusal a ⌝ }
+{
+    match a {
+        Written::Length(n) => [0; 4],
+        Written::Refused(r) => stream::refusal_words(r),
+    }
+}
+
+// `write_block` for C.
+#[no_mangle]
+pub extern "C" fn fuji_write_block(
+    header: &[u8],
+    samples: &[u16],
+    out: &mut [u8],
+    lines: &mut [u16],
+    rs: &mut [Record],
+    size: &mut [usize; 1],
+    refusal: &mut [usize; 4],
+)
+    ensures { λ _.
+        let before : Outputs = record { out = now (out .entry); lines = now (lines .entry); records = now (rs .entry) } in
+        let after : Outputs = record { out = now (out .exit); lines = now (lines .exit); records = now (rs .exit) } in
+        ⌜ ToldWritten (now (header .entry)) (now (samples .entry)) before after (now (size .exit)) (now (refusal .exit)) ⌝ }
+{
+    let a = write_block(header, samples, out, lines, rs);
+    let n = written_words(a);
+    let w = written_refusal(a);
+    *size = n;
+    *refusal = w;
+}

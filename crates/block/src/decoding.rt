@@ -1,0 +1,148 @@
+// Decoding: a region, or the whole picture, block by block.
+ghost use mathlib.Core.Path.{_≡_};
+ghost use Prim.Native.Nat.{_+_, _-_};
+ghost use lib.ListN.{length};
+ghost use Rattle.lines.specs.ColourLines.{zeroLines};
+ghost use Rattle.map.specs.Places.{widthOf};
+ghost use Rattle.block.specs.Records.{clearRecords};
+ghost use Rattle.block.specs.Images.{Pictured, orElse, walkedAnswer, answerOf, Left, LeftImage};
+ghost use Rattle.block.specs.Lent.{Buffers, ScratchOf};
+ghost use Rattle.stream.specs.Streams.{openOf};
+ghost use Rattle.stream.specs.declared.Parsed.the-variants.{Header};
+ghost use Rattle.region.specs.Regions.{firstBlock, lastBlock, Accepted};
+ghost use Rattle.begin.specs.Beginnings.{regionBegins, wholeOf, imageBegins};
+use crate::Decoded;
+use crate::Walked;
+use crate::form_of;
+use crate::reading::walk;
+use crate::records::cleared;
+use begin::Beginning;
+use map::width;
+use region::Rect;
+use statistics::Record;
+use stream::FujiHeader;
+use stream::Refusal;
+
+// The answer after block b: that of the blocks before it, if one of them failed.
+fn judged(before: Decoded, b: usize, got: Walked) -> Decoded
+    ensures { λ r. ⌜ r ≡ orElse before (walkedAnswer b got) ⌝ }
+{
+    match before {
+        Decoded::Refused(r) => Decoded::Refused(r),
+        Decoded::Done => match got {
+            Walked::Read(_, _) => Decoded::Done,
+            Walked::Truncated(n) => Decoded::Refused(Refusal::Truncated(b, n)),
+        },
+    }
+}
+
+// The blocks that the region touches, each put into the image. All are tried.
+fn decode_blocks(
+    d: &[u8],
+    h: FujiHeader,
+    r: Rect,
+    tile: [u8; 36],
+    image: &mut [u16],
+    lines: &mut [u16],
+    rs: &mut [Record],
+) -> Decoded
+    requires { ⌜ (openOf (now d) ≡ Header h) × Accepted h r (length (now image)) ⌝ }
+    requires { ⌜ ScratchOf (h .xtrans) (now lines) (now rs) ⌝ }
+    ensures { λ a.
+        ⌜ (a ≡ answerOf (now (d .entry)) h r (lastBlock r + 1 - firstBlock r))
+        × Pictured (now (d .entry)) h r tile (lastBlock r + 1) (now (image .entry)) (now (image .exit)) ⌝ }
+    ensures { λ _. ⌜ (now (lines .exit) ≡ zeroLines (widthOf (h .xtrans))) × (now (rs .exit) ≡ clearRecords) ⌝ }
+{
+    let span = region::span_of(r);
+    let count = span.lines;
+    let end = span.last + 1;
+    let places = map::xtrans_places();
+    let mut answer = Decoded::Done;
+    let mut b = span.first;
+    while b < end {
+        let form = form_of(h);
+        let block = stream::block_bytes(d, b);
+        let bases = stream::base_row(d, b);
+        let part = region::part(r, b);
+        let got = walk(
+            block,
+            bases,
+            lines,
+            rs,
+            image,
+            form,
+            &places,
+            tile,
+            part,
+            count,
+        );
+        answer = judged(answer, b, got);
+        b = b + 1;
+    }
+    answer
+}
+
+// Decodes a region of the stream d into an image that holds the region alone, row after row. Of the lent scratch only the first part is used.
+pub fn decode_region(
+    d: &[u8],
+    r: Rect,
+    tile: [u8; 36],
+    image: &mut [u16],
+    lines: &mut [u16],
+    rs: &mut [Record],
+) -> Decoded
+    ensures { λ a.
+        let before : Buffers = record { image = now (image .entry); lines = now (lines .entry); records = now (rs .entry) } in
+        let after : Buffers = record { image = now (image .exit); lines = now (lines .exit); records = now (rs .exit) } in
+        let begins = regionBegins (now (d .entry)) r (length (before .image)) (length (before .lines)) (length (before .records)) in
+        ⌜ Left (now (d .entry)) r tile begins before after a ⌝ }
+{
+    let begins = begin::region_begins(d, r, image.len(), lines.len(), rs.len());
+    match begins {
+        Beginning::Refused(x) => Decoded::Refused(x),
+        Beginning::Nothing => Decoded::Done,
+        Beginning::Reading(h) => {
+            let used = begin::samples_needed(h.xtrans);
+            decode_blocks(d, h, r, tile, image, &mut lines[0..used], &mut rs[0..336])
+        }
+    }
+}
+
+// Decodes the whole picture of the stream d, whose size the caller names.
+pub fn decode(
+    d: &[u8],
+    width: usize,
+    height: usize,
+    tile: [u8; 36],
+    image: &mut [u16],
+    lines: &mut [u16],
+    rs: &mut [Record],
+) -> Decoded
+    ensures { λ a.
+        let before : Buffers = record { image = now (image .entry); lines = now (lines .entry); records = now (rs .entry) } in
+        let after : Buffers = record { image = now (image .exit); lines = now (lines .exit); records = now (rs .exit) } in
+        let begins = imageBegins (now (d .entry)) width height (length (before .image)) (length (before .lines)) (length (before .records)) in
+        ⌜ Left (now (d .entry)) (wholeOf width height) tile begins before after a ⌝ }
+{
+    let begins = begin::image_begins(d, width, height, image.len(), lines.len(), rs.len());
+    match begins {
+        Beginning::Refused(x) => Decoded::Refused(x),
+        Beginning::Nothing => Decoded::Done,
+        Beginning::Reading(h) => {
+            let r = begin::whole(width, height);
+            let used = begin::samples_needed(h.xtrans);
+            decode_blocks(d, h, r, tile, image, &mut lines[0..used], &mut rs[0..336])
+        }
+    }
+}
+
+// `decode_region` with scratch of its own, for whoever has none to lend.
+pub fn decode_region_alone(d: &[u8], r: Rect, tile: [u8; 36], image: &mut [u16]) -> Decoded
+    ensures { λ a.
+        let begins = regionBegins (now (d .entry)) r (length (now (image .entry))) 9252 336 in
+        ⌜ LeftImage (now (d .entry)) r tile begins (now (image .entry)) (now (image .exit)) a ⌝ }
+{
+    let mut lines = [0u16; 9252];
+    let mut rs = [cleared(); 336];
+    decode_region(d, r, tile, image, &mut lines, &mut rs)
+}

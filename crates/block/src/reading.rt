@@ -1,0 +1,241 @@
+// Reading a block: six passes make a line, and lines make a block.
+ghost use mathlib.Core.Path.{_≡_};
+ghost use mathlib.Core.Bool.{cond, _&&_};
+ghost use Prim.Native.Nat.{_+_, _*_, _^_, _≤_, _<_};
+ghost use lib.Dec.{eqb};
+ghost use lib.ListN.{length};
+ghost use Rattle.lines.specs.ColourLines.{zeroLines};
+ghost use Rattle.map.specs.Places.{widthOf, ArePlaces, Fits};
+ghost use Rattle.pass.specs.Readings.{quantisersOf, Depth};
+ghost use Rattle.block.specs.Records.{baseOf, isRestarted, clearRecords};
+ghost use Rattle.block.specs.Blocks.{AllInRange, LineRead, Shown, shownLines, IsWalked};
+use crate::Form;
+use crate::Lined;
+use crate::Walked;
+use crate::records::clear_records;
+use crate::records::cleared;
+use crate::records::load_set;
+use crate::records::restart;
+use crate::records::start_records;
+use crate::records::store_set;
+use bits::BitPosition;
+use bits::is_past;
+use map::Part;
+use map::width;
+use pass::Quantisers;
+use quantiser::Quantiser;
+use statistics::Record;
+
+fn wide(x: u8) -> u32
+    ensures { λ r. ⌜ (r ≡ x) × (r < 256) ⌝ }
+{
+    x as u32
+}
+
+// The base of line n; a lossless block has none, and base 0 in each line.
+fn base_of(bases: &[u8], n: usize) -> u32
+    ensures { λ r. ⌜ (r ≡ baseOf (now (bases .entry)) n) × (r < 256) ⌝ }
+{
+    if n < bases.len() {
+        return wide(bases[n]);
+    }
+    0
+}
+
+fn is_restarted(bases: &[u8], n: usize) -> bool
+    ensures { λ r. ⌜ r ≡ isRestarted (now (bases .entry)) n ⌝ }
+{
+    if n == 0 {
+        return true;
+    }
+    base_of(bases, n) != base_of(bases, n - 1)
+}
+
+fn quantisers_of(bits: u32, base: u32) -> Quantisers
+    requires { ⌜ Depth bits × (base < 256) ⌝ }
+    ensures { λ r. ⌜ r ≡ quantisersOf bits base ⌝ }
+{
+    let m = Quantiser::main(bits, base);
+    let a = Quantiser::flat(bits, 1);
+    let b = Quantiser::flat(bits, 2);
+    let c = Quantiser::flat(bits, 3);
+    Quantisers {
+        base,
+        totals: [m.total, a.total, b.total, c.total],
+        raws: [m.raw, a.raw, b.raw, c.raw],
+        limits: [m.limit, a.limit, b.limit, c.limit],
+    }
+}
+
+// How many lines have only tight codes, after line n.
+fn tight_count(m: usize, n: usize, tight: bool) -> usize
+    requires { ⌜ (m ≤ n) × (n < 2 ^ 16) ⌝ }
+    ensures { λ r. ⌜ (r ≡ cond (eqb m n && tight) (n + 1) m) × (r ≤ n + 1) ⌝ }
+{
+    if tight {
+        if m == n {
+            return n + 1;
+        }
+    }
+    m
+}
+
+// One line: six passes, each on the records of its set.
+fn line(
+    block: &[u8],
+    from: BitPosition,
+    tight_before: bool,
+    lines: &mut [u16],
+    rs: &mut [Record],
+    form: Form,
+    qs: Quantisers,
+) -> Lined
+    requires { ⌜ (length (now block) < 2 ^ 32) × ((length (now lines) ≡ 18 * (widthOf (form .xtrans) + 2)) × (length (now rs) ≡ 336)) ⌝ }
+    requires { ⌜ Depth (form .bits) × ((qs .base < 256) × (qs ≡ quantisersOf (form .bits) (qs .base))) ⌝ }
+    requires { ⌜ AllInRange (now rs) ⌝ }
+    ensures { λ r. ⌜ LineRead form qs (now (block .entry)) from «tight_before» (now (lines .entry)) (now (rs .entry)) (now (lines .exit)) (now (rs .exit)) r ⌝ }
+    ensures { λ _. ⌜ AllInRange (now (rs .exit)) ⌝ }
+{
+    let bits = form.bits;
+    let xtrans = form.xtrans;
+    let w = width(xtrans);
+    let mut at = from;
+    let mut tight = tight_before;
+    let mut i: usize = 0;
+    while i < 6 {
+        let p = pass::plan_at(i, xtrans);
+        lines::set_guards(lines, w, p.first);
+        lines::set_guards(lines, w, p.second);
+        let set = load_set(rs, p.set);
+        let done = pass::pass(block, at, tight, lines, set, w, p, qs, bits);
+        let ok = done.ok;
+        if !ok {
+            return Lined::Truncated;
+        }
+        let new = done.set;
+        store_set(rs, p.set, new);
+        at = done.at;
+        tight = done.tight;
+        i = i + 1;
+    }
+    if is_past(block, at) {
+        return Lined::Truncated;
+    }
+    Lined::Read(at, tight)
+}
+
+// The first `count` lines of a block, each put into the image as soon as it is read. Scratch is left as it is then.
+fn read_lines(
+    block: &[u8],
+    bases: &[u8],
+    lines: &mut [u16],
+    rs: &mut [Record],
+    image: &mut [u16],
+    form: Form,
+    places: &[u16; 768],
+    tile: [u8; 36],
+    part: Part,
+    count: usize,
+) -> Walked
+    requires { ⌜ (length (now block) < 2 ^ 32) × ((length (now lines) ≡ 18 * (widthOf (form .xtrans) + 2)) × (length (now rs) ≡ 336)) ⌝ }
+    requires { ⌜ Depth (form .bits) × (count < 2 ^ 16) ⌝ }
+    requires { ⌜ ArePlaces (now places) × Fits part (now image) ⌝ }
+    ensures { λ r. ⌜ IsWalked form (now (bases .entry)) (now (block .entry)) count r ⌝ }
+    ensures { λ r. ⌜ Shown form (now (bases .entry)) (now (block .entry)) tile part (shownLines r count) (now (image .entry)) (now (image .exit)) ⌝ }
+{
+    let bits = form.bits;
+    let xtrans = form.xtrans;
+    let w = width(xtrans);
+    lines::clear(lines);
+    start_records(rs, bits, base_of(bases, 0));
+    let mut at = BitPosition(0);
+    let mut tight = true;
+    let mut tight_lines: usize = 0;
+    let mut n: usize = 0;
+    while n < count {
+        lines::turn(lines, w);
+        let base = base_of(bases, n);
+        restart(rs, bits, base, is_restarted(bases, n));
+        let got = line(block, at, tight, lines, rs, form, quantisers_of(bits, base));
+        let Lined::Read(after, all_tight) = got else {
+            return Walked::Truncated(n);
+        };
+        at = after;
+        tight = all_tight;
+        tight_lines = tight_count(tight_lines, n, tight);
+        map::emit_line(lines, image, w, xtrans, places, tile, part, n);
+        n = n + 1;
+    }
+    Walked::Read(at, tight_lines)
+}
+
+// A walk over the first `count` lines of a block: the one reading that decoding and the tight reading share. Lines that are read go to the
+// part of the image; whoever wants none gives an empty part. Scratch is cleared afterwards, whatever it held before.
+pub(crate) fn walk(
+    block: &[u8],
+    bases: &[u8],
+    lines: &mut [u16],
+    rs: &mut [Record],
+    image: &mut [u16],
+    form: Form,
+    places: &[u16; 768],
+    tile: [u8; 36],
+    part: Part,
+    count: usize,
+) -> Walked
+    requires { ⌜ (length (now block) < 2 ^ 32) × ((length (now lines) ≡ 18 * (widthOf (form .xtrans) + 2)) × (length (now rs) ≡ 336)) ⌝ }
+    requires { ⌜ Depth (form .bits) × (count < 2 ^ 16) ⌝ }
+    requires { ⌜ ArePlaces (now places) × Fits part (now image) ⌝ }
+    ensures { λ r. ⌜ IsWalked form (now (bases .entry)) (now (block .entry)) count r ⌝ }
+    ensures { λ r. ⌜ Shown form (now (bases .entry)) (now (block .entry)) tile part (shownLines r count) (now (image .entry)) (now (image .exit)) ⌝ }
+    ensures { λ _. ⌜ (now (lines .exit) ≡ zeroLines (widthOf (form .xtrans))) × (now (rs .exit) ≡ clearRecords) ⌝ }
+{
+    let walked = read_lines(
+        block,
+        bases,
+        lines,
+        rs,
+        image,
+        form,
+        places,
+        tile,
+        part,
+        count,
+    );
+    lines::clear(lines);
+    clear_records(rs);
+    walked
+}
+
+// A walk with scratch of its own, for whoever has none to lend.
+pub fn walk_alone(
+    block: &[u8],
+    bases: &[u8],
+    image: &mut [u16],
+    form: Form,
+    tile: [u8; 36],
+    part: Part,
+    count: usize,
+) -> Walked
+    requires { ⌜ (length (now block) < 2 ^ 32) × (Depth (form .bits) × (count < 2 ^ 16)) ⌝ }
+    requires { ⌜ Fits part (now image) ⌝ }
+    ensures { λ r. ⌜ IsWalked form (now (bases .entry)) (now (block .entry)) count r ⌝ }
+    ensures { λ r. ⌜ Shown form (now (bases .entry)) (now (block .entry)) tile part (shownLines r count) (now (image .entry)) (now (image .exit)) ⌝ }
+{
+    let places = map::xtrans_places();
+    let mut lines = [0u16; 9252];
+    let mut rs = [cleared(); 336];
+    let used = 18 * (width(form.xtrans) + 2);
+    walk(
+        block,
+        bases,
+        &mut lines[0..used],
+        &mut rs,
+        image,
+        form,
+        &places,
+        tile,
+        part,
+        count,
+    )
+}

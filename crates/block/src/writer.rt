@@ -1,0 +1,242 @@
+// The writer: a set of colour lines becomes the tight block.
+ghost use mathlib.Core.Path.{_≡_};
+ghost use Prim.Native.Nat.{_+_, _*_, _^_, _≤_, _<_};
+ghost use lib.ListN.{length};
+ghost use Rattle.lines.specs.ColourLines.{zeroLines};
+ghost use Rattle.map.specs.Places.{widthOf};
+ghost use Rattle.pass.specs.Readings.{Depth};
+ghost use Rattle.quantiser.specs.Quantisers.{largest};
+ghost use Rattle.bits.specs.BitLists.{bytesFor};
+ghost use Rattle.writing.specs.Sets.{lineSize, setSize};
+ghost use Rattle.writing.specs.Puts.{Room, Within};
+ghost use Rattle.block.specs.Records.{clearRecords};
+ghost use Rattle.block.specs.Blocks.{AllInRange};
+ghost use Rattle.begin.specs.Beginnings.{writingBegins};
+ghost use Rattle.block.specs.Lent.{Outputs};
+ghost use Rattle.block.specs.WrittenBlocks.{writeLines, tightBlock};
+ghost use Rattle.block.specs.WrittenAnswers.{passesFrom, LineWritten, SetWritten, measuredAnswer, writtenAnswer, writtenOut, LeftWritten};
+use crate::Form;
+use crate::Written;
+use crate::form_of;
+use crate::records::clear_records;
+use crate::records::load_set;
+use crate::records::restart;
+use crate::records::start_records;
+use crate::records::store_set;
+use crate::tight::line_count;
+use begin::first_above;
+use begin::is_short;
+use bits::BitPosition;
+use map::width;
+use quantiser::Quantiser;
+use statistics::Record;
+use stream::Parsed;
+use stream::Refusal;
+use writing::Put;
+
+// The bytes of a block that has bits up to this position.
+fn bytes_for(at: BitPosition) -> usize
+    ensures { λ r. ⌜ r ≡ bytesFor (at .0) ⌝ }
+{
+    let end = at.bytes();
+    end.0
+}
+
+// Line n: six passes, each on the records of its set.
+fn write_line(
+    samples: &[u16],
+    n: usize,
+    out: &mut [u8],
+    store: bool,
+    from: BitPosition,
+    lines: &mut [u16],
+    rs: &mut [Record],
+    form: Form,
+) -> Put
+    requires { ⌜ (n < 2 ^ 16) × (((n + 1) * lineSize (widthOf (form .xtrans)) ≤ length (now samples)) × Within (largest (form .bits)) (now samples)) ⌝ }
+    requires { ⌜ Depth (form .bits) × ((length (now lines) ≡ 18 * (widthOf (form .xtrans) + 2)) × (length (now rs) ≡ 336)) ⌝ }
+    requires { ⌜ Within (largest (form .bits)) (now lines) × AllInRange (now rs) ⌝ }
+    requires { ⌜ (from .0 < 2 ^ 58) × Room store (now out) (from .0) ((passesFrom form (now samples) n 6 (now lines) (now rs)) .bits) ⌝ }
+    ensures { λ r. ⌜ LineWritten (passesFrom form (now (samples .entry)) n 6 (now (lines .entry)) (now (rs .entry))) (from .0) store (now (out .entry)) (now (lines .exit)) (now (rs .exit)) (now (out .exit)) r ⌝ }
+    ensures { λ _. ⌜ AllInRange (now (rs .exit)) ⌝ }
+{
+    let bits = form.bits;
+    let xtrans = form.xtrans;
+    let w = width(xtrans);
+    let q = Quantiser::main(bits, 0);
+    let limit = q.limit;
+    let raw = q.raw;
+    let mut at = from;
+    let mut i: usize = 0;
+    while i < 6 {
+        let p = pass::plan_at(i, xtrans);
+        lines::set_guards(lines, w, p.first);
+        lines::set_guards(lines, w, p.second);
+        let set = load_set(rs, p.set);
+        let done = writing::write_pass(
+            samples,
+            n,
+            out,
+            store,
+            at,
+            lines,
+            set,
+            w,
+            p,
+            bits,
+            limit,
+            raw,
+        );
+        let ok = done.ok;
+        if !ok {
+            return Put::Wrong(done.wrong);
+        }
+        let new = done.set;
+        store_set(rs, p.set, new);
+        at = done.at;
+        i = i + 1;
+    }
+    Put::At(at)
+}
+
+// All lines of a set. Scratch is left as it is then.
+fn write_lines(
+    samples: &[u16],
+    out: &mut [u8],
+    store: bool,
+    lines: &mut [u16],
+    rs: &mut [Record],
+    form: Form,
+    count: usize,
+) -> Put
+    requires { ⌜ (count < 2 ^ 16) × ((length (now samples) ≡ setSize (widthOf (form .xtrans)) count) × Within (largest (form .bits)) (now samples)) ⌝ }
+    requires { ⌜ Depth (form .bits) × ((length (now lines) ≡ 18 * (widthOf (form .xtrans) + 2)) × (length (now rs) ≡ 336)) ⌝ }
+    requires { ⌜ Room store (now out) 0 ((writeLines form (now samples) count) .bits) ⌝ }
+    ensures { λ r. ⌜ SetWritten (writeLines form (now (samples .entry)) count) store (now (out .entry)) (now (out .exit)) r ⌝ }
+{
+    let bits = form.bits;
+    let w = width(form.xtrans);
+    lines::clear(lines);
+    start_records(rs, bits, 0);
+    let mut at = BitPosition(0);
+    let mut n: usize = 0;
+    while n < count {
+        lines::turn(lines, w);
+        restart(rs, bits, 0, n == 0);
+        let got = write_line(samples, n, out, store, at, lines, rs, form);
+        let Put::At(after) = got else {
+            return got;
+        };
+        at = after;
+        n = n + 1;
+    }
+    Put::At(at)
+}
+
+// A walk over a set: its bits are counted, or stored too. Scratch is cleared afterwards, whatever it held before.
+fn write_walk(
+    samples: &[u16],
+    out: &mut [u8],
+    store: bool,
+    lines: &mut [u16],
+    rs: &mut [Record],
+    form: Form,
+    count: usize,
+) -> Put
+    requires { ⌜ (count < 2 ^ 16) × ((length (now samples) ≡ setSize (widthOf (form .xtrans)) count) × Within (largest (form .bits)) (now samples)) ⌝ }
+    requires { ⌜ Depth (form .bits) × ((length (now lines) ≡ 18 * (widthOf (form .xtrans) + 2)) × (length (now rs) ≡ 336)) ⌝ }
+    requires { ⌜ Room store (now out) 0 ((writeLines form (now samples) count) .bits) ⌝ }
+    ensures { λ r. ⌜ SetWritten (writeLines form (now (samples .entry)) count) store (now (out .entry)) (now (out .exit)) r ⌝ }
+    ensures { λ _. ⌜ (now (lines .exit) ≡ zeroLines (widthOf (form .xtrans))) × (now (rs .exit) ≡ clearRecords) ⌝ }
+{
+    let done = write_lines(samples, out, store, lines, rs, form, count);
+    lines::clear(lines);
+    clear_records(rs);
+    done
+}
+
+// A set whose samples are all in range: it is measured first, and stored only when it can be.
+fn write_measured(
+    samples: &[u16],
+    out: &mut [u8],
+    lines: &mut [u16],
+    rs: &mut [Record],
+    form: Form,
+    count: usize,
+) -> Written
+    requires { ⌜ (count < 2 ^ 16) × ((length (now samples) ≡ setSize (widthOf (form .xtrans)) count) × Within (largest (form .bits)) (now samples)) ⌝ }
+    requires { ⌜ Depth (form .bits) × ((length (now lines) ≡ 18 * (widthOf (form .xtrans) + 2)) × (length (now rs) ≡ 336)) ⌝ }
+    ensures { λ r. ⌜ (r ≡ measuredAnswer form count (now (samples .entry)) (length (now (out .entry)))) × (now (out .exit) ≡ writtenOut r (tightBlock form count (now (samples .entry))) (now (out .entry))) ⌝ }
+    ensures { λ _. ⌜ (now (lines .exit) ≡ zeroLines (widthOf (form .xtrans))) × (now (rs .exit) ≡ clearRecords) ⌝ }
+{
+    let measured = write_walk(samples, out, false, lines, rs, form, count);
+    match measured {
+        Put::Wrong(j) => Written::Refused(Refusal::NotPredicted(j)),
+        Put::At(end) => {
+            let needed = bytes_for(end);
+            if is_short(out.len(), needed) {
+                return Written::Refused(Refusal::ShortOutput);
+            }
+            write_walk(samples, out, true, lines, rs, form, count);
+            Written::Length(needed)
+        }
+    }
+}
+
+// A set of the right size. Samples are looked at first, all of them.
+fn write_set(
+    samples: &[u16],
+    out: &mut [u8],
+    lines: &mut [u16],
+    rs: &mut [Record],
+    form: Form,
+    count: usize,
+) -> Written
+    requires { ⌜ (count < 2 ^ 16) × (length (now samples) ≡ setSize (widthOf (form .xtrans)) count) ⌝ }
+    requires { ⌜ Depth (form .bits) × ((length (now lines) ≡ 18 * (widthOf (form .xtrans) + 2)) × (length (now rs) ≡ 336)) ⌝ }
+    ensures { λ r. ⌜ (r ≡ writtenAnswer form count (now (samples .entry)) (length (now (out .entry)))) × (now (out .exit) ≡ writtenOut r (tightBlock form count (now (samples .entry))) (now (out .entry))) ⌝ }
+    ensures { λ _. ⌜ (now (lines .exit) ≡ zeroLines (widthOf (form .xtrans))) × (now (rs .exit) ≡ clearRecords) ⌝ }
+{
+    let m = quantiser::largest(form.bits);
+    let i = first_above(samples, m);
+    if i < samples.len() {
+        lines::clear(lines);
+        clear_records(rs);
+        return Written::Refused(Refusal::AboveLargest(i));
+    }
+    write_measured(samples, out, lines, rs, form, count)
+}
+
+// The writer: the tight block of a set of colour lines goes to the start of the output, and the answer is its length. Of the header the first
+// 16 bytes count, and of the lent scratch only the first part is used. A refused call leaves the output as it was.
+pub fn write_block(
+    header: &[u8],
+    samples: &[u16],
+    out: &mut [u8],
+    lines: &mut [u16],
+    rs: &mut [Record],
+) -> Written
+    ensures { λ a.
+        let t = now (samples .entry) in
+        let before : Outputs = record { out = now (out .entry); lines = now (lines .entry); records = now (rs .entry) } in
+        let after : Outputs = record { out = now (out .exit); lines = now (lines .exit); records = now (rs .exit) } in
+        ⌜ LeftWritten t (writingBegins (now (header .entry)) (length t) (length (before .lines)) (length (before .records))) before after a ⌝ }
+{
+    let begins = begin::writing_begins(header, samples.len(), lines.len(), rs.len());
+    match begins {
+        Parsed::Refused(x) => Written::Refused(x),
+        Parsed::Header(h) => {
+            let used = begin::samples_needed(h.xtrans);
+            let form = form_of(h);
+            let count = line_count(h);
+            write_set(
+                samples,
+                out,
+                &mut lines[0..used],
+                &mut rs[0..336],
+                form,
+                count,
+            )
+        }
+    }
+}
