@@ -19,16 +19,20 @@ use Rattle.region.specs.declared.Rect.{Rect}
 use Rattle.region.proofs.RegionLaws.{block-inside, block-order, lines-inside}
 use Rattle.writing.specs.Sets.{setSize}
 use Rattle.block.specs.Blocks.{State, lineAt, startState, readLines}
-use Rattle.block.specs.Images.{formOf, bytesOf, linesRead, readIn, answerOf}
+use Rattle.begin.specs.declared.Beginning.the-variants.{Reading}
+use Rattle.begin.proofs.CallLaws.{region-reads}
+use Rattle.block.specs.Images.{formOf, bytesOf, linesRead, readIn, answerOf, Decoding, Left}
+use Rattle.block.specs.Lent.{Buffers}
 use Rattle.block.specs.TightBlocks.{Tight}
 use Rattle.block.specs.WrittenBlocks.{writeLines, tightBlock}
+use Rattle.block.specs.declared.Decoded.{Decoded}
 use Rattle.block.specs.declared.Decoded.the-variants.{Done}
 use Rattle.block.specs.declared.Form.{Form}
 use Rattle.block.proofs.DecodeLaws.{all-read}
 use Rattle.block.proofs.RunLaws.{runs-stay}
 use Rattle.block.proofs.WalkLaws.{lines-short}
 use Rattle.demand.specs.Demand.{Bytes}
-use Rattle.demand.specs.AcceptedStreams.{SomethingAccepted}
+use Rattle.demand.specs.AcceptedStreams.{regionOf, SomethingAccepted}
 use Rattle.demand.proofs.DemandHolds.{demand-of-headers, no-bases}
 use Rattle.demand.proofs.PredictedBlocks.{fits-is}
 use Rattle.demand.proofs.ZerosFit.{zeros-fit}
@@ -103,6 +107,13 @@ module _ (d : List ℕ) (h : FujiHeader) (bytes : Bytes d) (e : parseOf d ≡ He
           rw (no-bases stream h stream-opens lossless b, there b low)
           (fewer-read F block (h .lines) (lineCount r) (W .1 .end) (W .1 .read) (lines-inside h r n ok))
 
+  called : (r : Rect) (tile : List ℕ) (before after : Buffers) (answer : Decoded) → regionOf stream r before ≡ Reading h
+      → Left stream r tile (regionOf stream r before) before after answer → answer ≡ Done
+  called r tile before after answer begins L =
+      let ok = region-reads stream r (length (before .image)) (length (before .lines)) (length (before .records)) h begins .region in
+      let D : Decoding stream h r tile before after answer = rw begins at L in
+      D .answered ∙ decoded r (length (before .image)) ok (lastBlock r + 1 - firstBlock r) (omega (arith, block-order h r (length (before .image)) ok))
+
 pub something-accepted : SomethingAccepted
 something-accepted d h bytes e lossless =
     record {
@@ -110,5 +121,5 @@ something-accepted d h bytes e lossless =
       bytes = are-bytes d h bytes e lossless;
       opens = stream-opens d h bytes e lossless;
       tight = λ b l. rw (there d h bytes e lossless b l) (W d h bytes e lossless .1);
-      decoded = λ r n ok. decoded d h bytes e lossless r n ok (lastBlock r + 1 - firstBlock r) (omega (arith, block-order h r n ok));
+      decoded = λ r tile before after answer e' L. called d h bytes e lossless r tile before after answer e' L;
     }

@@ -11,16 +11,14 @@ use Rattle.stream.specs.Headers.{parseOf}
 use Rattle.stream.specs.Streams.{openOf}
 use Rattle.stream.specs.declared.FujiHeader.{FujiHeader}
 use Rattle.stream.specs.declared.Parsed.the-variants.{Header}
-use Rattle.statistics.specs.declared.Record.{Record}
 use Rattle.writing.specs.Sets.{setSize, lineOfRank, indexIn}
 use Rattle.block.specs.Blocks.{readLines, linesOf}
 use Rattle.block.specs.Images.{formOf, basesOf}
 use Rattle.block.specs.TightBlocks.{Tight, setRead, tightAnswer}
 use Rattle.block.specs.WrittenBlocks.{tightBlock}
-use Rattle.block.specs.WrittenAnswers.{writtenAnswer, writtenOut, writingBegins, LeftWritten}
+use Rattle.block.specs.WrittenAnswers.{writtenAnswer, writtenOut}
 use Rattle.block.specs.declared.Decoded.the-variants.{Done}
 use Rattle.block.specs.declared.Form.{Form}
-use Rattle.block.specs.declared.Written.{Written}
 use Rattle.block.specs.declared.Written.the-variants.{Length}
 use Rattle.demand.specs.PredictedSets.{PredictedSet}
 
@@ -81,18 +79,3 @@ pub record DemandOfWriter (F : Form) (lines : ℕ) : Type 0 where
 
 abbrev pub DemandOfWriters : Type 0
 DemandOfWriters = (d : List ℕ) (h : FujiHeader) → parseOf d ≡ Header h → h .lossless ≡ true → DemandOfWriter (formOf h) (h .lines)
-
--- ---- a call of the writer: `LeftWritten` with `writingBegins` is what `write_block` promises of its answer, its output and its scratch
-
--- output and scratch are long enough for a block
-abbrev pub LongEnough : FujiHeader → (block out lines : List ℕ) → List Record → Type 0
-LongEnough h block out lines rs = (length block ≤ length out) × (18 * (widthOf (h .xtrans) + 2) ≤ length lines) × (336 ≤ length rs)
-
--- for a set that is read from the tight block b, whatever output and scratch held before: b goes to the start of the output and its length is
--- answered exactly when output and scratch are long enough
-abbrev pub DemandOfCalls : Type 0
-DemandOfCalls =
-    (d : List ℕ) (h : FujiHeader) → parseOf d ≡ Header h → h .lossless ≡ true → (t : List ℕ) (b : TightBlockOf (formOf h) (h .lines) t)
-    → (out lines : List ℕ) (rs : List Record) (out' lines' : List ℕ) (rs' : List Record) (answer : Written)
-    → LeftWritten t (writingBegins d (length t) (length lines) (length rs)) out lines rs out' lines' rs' answer
-    → ((answer ≡ Length (length (b .block))) × (out' ≡ b .block ++ drop (length (b .block)) out)) ↔ LongEnough h (b .block) out lines rs
