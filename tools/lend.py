@@ -26,7 +26,7 @@ SIZE = os.environ.get("SIZE", "2")
 ARR, WORK = f"[u32; {SIZE}]", "target/lend"
 # A function: comments, head with its clauses, body. The layout is that of `rt fmt`.
 ITEM = re.compile(r"(?:^//[^\n]*\n)*^(?P<head>(?:#\[no_mangle\]\n)?(?:pub(?:\(crate\))? )?(?:extern \"C\" )?fn (?P<name>\w+)[^{]*?(?:\n    (?:requires|ensures)[^\n]*(?:\n        [^\n]*)*)*)\s*\{\n(?P<body>.*?)\n\}\n", re.S | re.M)
-METHOD = re.compile(r"^    pub fn (?P<name>\w+)\(&(?P<mut>mut )?self(?P<args>[^)]*)\)(?P<rest>[^\n]*(?:\n        (?:requires|ensures)[^\n]*)*)\n    \{", re.M)
+METHOD = re.compile(r"^    pub fn (?P<name>\w+)\(&(?P<mut>mut )?self(?P<args>[^)]*)\)(?P<rest>[^\n]*(?:\n        (?:requires|ensures)[^\n]*(?:\n            [^\n]*)*)*)\n    \{", re.M)
 
 def read(path):
     with open(path) as f:
@@ -187,7 +187,8 @@ def below(c):
     for x in need:
         if x != c.name:
             shutil.copytree(f"crates/{x}", f"{d}/crates/{x}")
-    shutil.copytree("target", f"{d}/target", ignore=lambda p, n: [x for x in n if p == "target" and x in ("lend", "inc", "log")])
+    for x in ("rlib", "stamp"):
+        shutil.copytree(f"target/{x}", f"{d}/target/{x}")
     return d
 
 def generate(c, d, twin, files, bare=""):

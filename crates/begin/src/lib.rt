@@ -193,19 +193,13 @@ pub fn writing_begins(header: &[u8], count: usize, samples: usize, records: usiz
     }
 }
 
-fn widened(x: u16) -> u32
-    ensures { λ r. ⌜ r ≡ x ⌝ }
-{
-    x as u32
-}
-
 // Refusal 11: the lowest index of a sample above m, or the length where there is none.
 pub fn first_above(samples: &[u16], m: u32) -> usize
     ensures { λ r. ⌜ firstAbove m 0 (now (samples .entry)) ≡ cond (ltb r (length (now (samples .entry)))) (some r) none ⌝ }
 {
     let mut i: usize = 0;
     while i < samples.len() {
-        if m < widened(samples[i]) {
+        if m < numbers::u16_to_u32(samples[i]) {
             return i;
         }
         i = i + 1;

@@ -19,7 +19,8 @@ use Rattle.quantiser.specs.Quantisers.{largest}
 use Rattle.stream.specs.declared.Refusal.the-variants.{AboveLargest, NotPredicted, ShortOutput}
 use Rattle.map.specs.Places.{widthOf}
 use Rattle.writing.specs.Sets.{setSize}
-use Rattle.writing.specs.Puts.{putBits, Room, Within}
+use Rattle.output.specs.Output.{putBits}
+use Rattle.writing.specs.Puts.{Room, Within}
 use Rattle.begin.specs.Beginnings.{firstAbove}
 use Rattle.writing.specs.declared.Put.{Put}
 use Rattle.writing.specs.declared.Put.the-variants.{At, Wrong}

@@ -20,9 +20,10 @@ use Rattle.code.specs.declared.Code.{Code}
 use Rattle.code.specs.declared.Coded.{Coded}
 use Rattle.code.specs.declared.Coded.the-variants.{Read, Truncated}
 use Rattle.code.proofs.CodeLaws.{code-cases}
-use Rattle.pass.specs.Steps.{Step, planOf, passSteps}
-use Rattle.pass.specs.Readings.{usedQuantiser, noRecord, Reading, interpolate, take-code, taken, readStep, andThen, reads, readPass, stepPlace, stepContext, stepLook, stepSlot, stepCode}
-use Rattle.pass.specs.declared.Plan.{Plan}
+use Rattle.steps.specs.Steps.{Step, planOf, passSteps}
+use Rattle.steps.specs.Contexts.{usedQuantiser, noRecord, stepPlace, stepContext, stepLook, stepSlot}
+use Rattle.pass.specs.Readings.{Reading, interpolate, takeCode, taken, readStep, andThen, reads, readPass, stepCode}
+use Rattle.steps.specs.declared.Plan.{Plan}
 use Rattle.map.specs.Places.{widthOf}
 use Rattle.block.specs.Records.{baseOf}
 use Rattle.block.specs.Blocks.{State, runs, enter, leave, passAt, endLine, readLine, beforeLine, lineAt, startState, readLines, tightLines}
@@ -105,10 +106,10 @@ examples = (refl, refl, refl, refl, refl)
 module _ (bits q W : ℕ) (s : List ℕ) where
   -- the k of a step's code, and its quantiser
   abbrev pub stepK : Step → Reading → ℕ
-  stepK x r = kOf (getD (r .set) (stepSlot q W x r) noRecord)
+  stepK x r = kOf (getD (r .set) (stepSlot q W x (r .lines)) noRecord)
 
   abbrev pub stepQuantiser : Step → Reading → Quantiser
-  stepQuantiser x r = usedQuantiser bits q ((stepLook q W x r) .choice)
+  stepQuantiser x r = usedQuantiser bits q ((stepLook q W x (r .lines)) .choice)
 
   step-stays : (x : Step) (r z : Reading) → readStep bits q W s x r ≡ some z → z .tight ≡ stays (stepReason bits q W s x r) (r .tight)
   unfolding readStep stepReason
@@ -118,15 +119,15 @@ module _ (bits q W : ℕ) (s : List ℕ) where
       M = largest bits
 
       go : (b : Bool) (g : Coded) → stepCode bits q W s x r ≡ g
-          → cond b (taken bits q (stepPlace W x) (stepSlot q W x r) (stepContext W x r) (stepLook q W x r) r g) (some (interpolate (stepPlace W x) (stepContext W x r) r)) ≡ some z
+          → cond b (taken bits q (stepPlace W x) (stepSlot q W x (r .lines)) (stepContext W x (r .lines)) (stepLook q W x (r .lines)) r g) (some (interpolate (stepPlace W x) (stepContext W x (r .lines)) r)) ≡ some z
           → z .tight ≡ stays (cond b (codedReason M (stepK x r) ((stepQuantiser x r) .limit) g) none) (r .tight)
       go true Truncated eg f = let no : _≡_ {A = ℕ} 0 1 = cc in absurd (omega arith)
       go true (Read d) eg f =
-          let y : Reading = take-code bits q (stepPlace W x) (stepSlot q W x r) (stepContext W x r) (stepLook q W x r) d r in
+          let y : Reading = takeCode bits q (stepPlace W x) (stepSlot q W x (r .lines)) (stepContext W x (r .lines)) (stepLook q W x (r .lines)) d r in
           ap (λ (w : Reading). w .tight) (sym (Option·some-injective y z f))
           ∙ code-stays M s (r .at .0) (stepK x r) ((stepQuantiser x r) .limit) ((stepQuantiser x r) .raw) d (r .tight) eg
       go false g eg f =
-          let y : Reading = interpolate (stepPlace W x) (stepContext W x r) r in
+          let y : Reading = interpolate (stepPlace W x) (stepContext W x (r .lines)) r in
           ap (λ (w : Reading). w .tight) (sym (Option·some-injective y z f))
 
   module _ (n i : ℕ) where

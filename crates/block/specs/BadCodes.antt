@@ -11,8 +11,9 @@ use Rattle.quantiser.specs.Quantisers.{largest}
 use Rattle.code.specs.declared.Code.{Code}
 use Rattle.code.specs.declared.Coded.{Coded}
 use Rattle.code.specs.declared.Coded.the-variants.{Read, Truncated}
-use Rattle.pass.specs.Steps.{Step, planOf, passSteps}
-use Rattle.pass.specs.Readings.{usedQuantiser, noRecord, Reading, readStep, andThen, stepLook, stepSlot, stepCode}
+use Rattle.steps.specs.Steps.{Step, planOf, passSteps}
+use Rattle.steps.specs.Contexts.{usedQuantiser, noRecord, stepLook, stepSlot}
+use Rattle.pass.specs.Readings.{Reading, readStep, andThen, stepCode}
 use Rattle.map.specs.Places.{widthOf}
 use Rattle.block.specs.Records.{baseOf}
 use Rattle.block.specs.Blocks.{State, runs, enter, passAt, beforeLine, lineAt, startState}
@@ -44,8 +45,8 @@ codedReason M k limit Truncated = none
 -- the reason of a step's code, which is the one that `readStep` takes; none if the step has no code
 unfoldable pub stepReason : ℕ → ℕ → ℕ → List ℕ → Step → Reading → Option Reason
 stepReason bits q W s x r =
-    let k = kOf (getD (r .set) (stepSlot q W x r) noRecord) in
-    let limit = (usedQuantiser bits q ((stepLook q W x r) .choice)) .limit in
+    let k = kOf (getD (r .set) (stepSlot q W x (r .lines)) noRecord) in
+    let limit = (usedQuantiser bits q ((stepLook q W x (r .lines)) .choice)) .limit in
     cond (x .coded) (codedReason (largest bits) k limit (stepCode bits q W s x r)) none
 
 -- a bad code: its line of six rows, its pass, 0 to 5, its step, which has the colour line and the position, its first bit, and the reason

@@ -11,7 +11,7 @@ use lib.Seq.{drop-at, ext-getD, length-take-le}
 use Rattle.bits.specs.BitLists.{bitsOf, bytesFor, bytesOf}
 use Rattle.bits.proofs.ListLaws.{length-bits}
 use Rattle.bits.proofs.PackLaws.{length-bytesOf, bytes-bytesOf, bits-bytesOf, bytesOf-bits}
-use Rattle.pass.specs.Readings.{Depth}
+use Rattle.steps.specs.Values.{Depth}
 use Rattle.map.specs.Places.{widthOf}
 use Rattle.stream.proofs.HeaderLaws.{ruled}
 use Rattle.stream.proofs.StreamLaws.{row-lossless}

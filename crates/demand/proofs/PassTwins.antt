@@ -7,18 +7,19 @@ use Prim.Native.Nat.{ℕ, _+_, _-_, _*_, _%_, _≤_, _<_}
 use native.Mathlib.Omega.{arith}
 use lib.ListN.{getD, set}
 use Rattle.quantiser.specs.Quantisers.{largest}
-use Rattle.pass.specs.Readings.{Reading, readPass, PlanInRange}
-use Rattle.pass.specs.Steps.{planOf}
-use Rattle.pass.specs.declared.Plan.{Plan}
+use Rattle.steps.specs.Values.{PlanInRange}
+use Rattle.pass.specs.Readings.{Reading, readPass}
+use Rattle.steps.specs.Steps.{planOf}
+use Rattle.steps.specs.declared.Plan.{Plan}
 use Rattle.pass.proofs.RangeLaws.{Kept, pass-keeps}
-use Rattle.pass.proofs.ScheduleLaws.{plan-in-range}
+use Rattle.steps.proofs.ScheduleLaws.{plan-in-range}
 use Rattle.lines.specs.ColourLines.{guarded}
 use Rattle.lines.proofs.LineLaws.{length-guarded}
 use Rattle.lines.proofs.MoveLaws.{samples-stay}
 use Rattle.map.specs.Places.{widthOf}
 use Rattle.writing.proofs.LosslessLaws.{Lossless}
-use Rattle.writing.proofs.PassTwins.{Holds, pass-leaves, pass-forward, pass-backward}
-use Rattle.writing.proofs.Twins.{Sound}
+use Rattle.read_back.proofs.PassBack.{Holds, pass-leaves, pass-forward, pass-backward}
+use Rattle.read_back.proofs.Together.{Sound}
 use Rattle.block.specs.Blocks.{State, enter, leave, passAt}
 use Rattle.block.specs.Records.{putSet}
 use Rattle.block.specs.WrittenBlocks.{leaveWriting, writePassAt}

@@ -7,7 +7,7 @@ use Prim.Native.Nat.{ℕ, zero, suc, _+_, _*_, _<_}
 use native.Mathlib.Omega.{arith}
 use lib.Dec.{lit<}
 use lib.ListN.{getD}
-use Rattle.pass.specs.Steps.{plans, noPlan, planOf}
+use Rattle.steps.specs.Steps.{plans, noPlan, planOf}
 use Rattle.writing.specs.Sets.{lineOfRank}
 
 -- Bayer and X-Trans have the same lines

@@ -8,16 +8,16 @@ use Prim.Native.Nat.{ℕ, zero, suc, _+_, _-_, _*_, _%_, _≤_, _<_}
 use native.Mathlib.Omega.{arith}
 use lib.ListN.{length, getD, length-replicate}
 use Rattle.numbers.proofs.OrderLaws.{split}
-use Rattle.pass.specs.Steps.{planOf, passSteps}
-use Rattle.pass.specs.Readings.{contextAt}
-use Rattle.pass.specs.declared.Plan.{Plan}
+use Rattle.steps.specs.Steps.{planOf, passSteps}
+use Rattle.steps.specs.Contexts.{contextAt}
+use Rattle.steps.specs.declared.Plan.{Plan}
 use Rattle.lines.specs.ColourLines.{zeroLines, turned}
 use Rattle.lines.proofs.LineLaws.{length-turned}
 use Rattle.lines.proofs.MoveLaws.{turned-at}
 use Rattle.map.specs.Places.{widthOf}
 use Rattle.writing.specs.Sets.{indexIn}
 use Rattle.writing.specs.Writings.{writePass}
-use Rattle.writing.proofs.OrderLaws.{pass-all, all-pass}
+use Rattle.read_back.proofs.OrderLaws.{pass-all, all-pass}
 use Rattle.block.specs.WrittenBlocks.{WriteState, repeats, enterWriting, writePassAt, beforeWriting, writeLine, startWriting, writeLines, FitSet}
 use Rattle.block.specs.declared.Form.{Form}
 use Rattle.block.proofs.LineLaws.{width-in-range}

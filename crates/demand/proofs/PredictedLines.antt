@@ -10,15 +10,15 @@ use lib.Dec.{eqb}
 use lib.ListN.{length, getD}
 use borrow.Author.Tests.{eq-eqb, ne-eqb}
 use Rattle.numbers.proofs.OrderLaws.{split}
-use Rattle.pass.specs.Steps.{planOf, passSteps}
-use Rattle.pass.specs.Readings.{contextAt}
-use Rattle.pass.specs.declared.Plan.{Plan}
+use Rattle.steps.specs.Steps.{planOf, passSteps}
+use Rattle.steps.specs.Contexts.{contextAt}
+use Rattle.steps.specs.declared.Plan.{Plan}
 use Rattle.lines.specs.ColourLines.{guarded}
 use Rattle.lines.proofs.LineLaws.{length-guarded}
 use Rattle.lines.proofs.MoveLaws.{place-is, samples-stay, guard-leaves, left-guard}
 use Rattle.writing.specs.Sets.{indexIn}
 use Rattle.writing.specs.Writings.{Writing, writes}
-use Rattle.writing.proofs.OrderLaws.{pass-all, all-pass, pass-apart}
+use Rattle.read_back.proofs.OrderLaws.{pass-all, all-pass, pass-apart}
 use Rattle.demand.specs.PredictedSets.{sampleAt, predictionIn}
 use Rattle.demand.proofs.PlanLaws.{two-lines}
 use Rattle.demand.proofs.PredictedSteps.{place, even-sees, writes-leave, writes-length, writes-stand}

@@ -11,10 +11,10 @@ use lib.ListN.{getD}
 use borrow.Author.Tests.{eq-eqb, ne-eqb, le-ltb, lt-ltb, le-leb, lt-leb, leb-true, ltb-true, eqb-true}
 use Rattle.numbers.proofs.BoolLaws.{both}
 use Rattle.numbers.proofs.OrderLaws.{split}
-use Rattle.pass.specs.Steps.{plans, noPlan, planOf, interpolated, Step, evenSteps, oddSteps, turnSteps, passSteps}
-use Rattle.pass.specs.declared.Plan.{Plan}
-use Rattle.writing.proofs.ListTwins.{All}
-use Rattle.writing.proofs.OrderLaws.{all-append, all-upto, pass-all}
+use Rattle.steps.specs.Steps.{plans, noPlan, planOf, interpolated, Step, evenSteps, oddSteps, turnSteps, passSteps}
+use Rattle.steps.specs.declared.Plan.{Plan}
+use Rattle.read_back.proofs.ListBack.{All}
+use Rattle.read_back.proofs.OrderLaws.{all-append, all-upto, pass-all}
 use Rattle.lines.proofs.MoveLaws.{place-is}
 use Rattle.demand.specs.PredictedSets.{isBefore, isInterpolated}
 use Rattle.demand.proofs.PlanLaws.{firstLine, secondLine, lines-are, each-pass}

@@ -10,11 +10,11 @@ use native.Mathlib.Omega.{arith}
 use lib.ListN.{length, getD, set, length-set}
 use lib.Seq.{getD-set-other, getD-set-same}
 use borrow.Author.Tests.{eq-eqb, eqb-true}
-use Rattle.pass.specs.Steps.{Step}
-use Rattle.pass.specs.Readings.{evenAt, contextAt}
+use Rattle.steps.specs.Steps.{Step}
+use Rattle.steps.specs.Contexts.{evenAt, contextAt}
 use Rattle.prediction.specs.Predictions.{evenPrediction, evenContext}
 use Rattle.writing.specs.Writings.{Writing, orSecond, writeStep, writes}
-use Rattle.writing.proofs.ListTwins.{All, cell, Apart}
+use Rattle.read_back.proofs.ListBack.{All, cell, Apart}
 use Rattle.writing.proofs.WriteLaws.{contextIn, wanted, write-coded, write-interpolated}
 
 -- ---- one step

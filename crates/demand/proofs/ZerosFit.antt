@@ -8,11 +8,11 @@ use native.Mathlib.Omega.{arith}
 use lib.ListN.{getD, set, replicate, length-replicate}
 use borrow.Author.Tests.{eq-eqb}
 use Rattle.quantiser.specs.Quantisers.{largest}
-use Rattle.pass.specs.Steps.{Step, planOf, passSteps}
-use Rattle.pass.specs.Readings.{stepPlace}
-use Rattle.pass.specs.declared.Plan.{Plan}
-use Rattle.pass.proofs.RangeLaws.{AllLe, context-le}
-use Rattle.pass.proofs.ZipLaws.{set-keeps}
+use Rattle.steps.specs.Steps.{Step, planOf, passSteps}
+use Rattle.steps.specs.Contexts.{stepPlace}
+use Rattle.steps.specs.declared.Plan.{Plan}
+use Rattle.steps.proofs.ContextLaws.{AllLe, context-le}
+use Rattle.steps.proofs.ZipLaws.{set-keeps}
 use Rattle.map.specs.Places.{widthOf}
 use Rattle.lines.specs.ColourLines.{guarded}
 use Rattle.writing.specs.Sets.{setSize, indexIn}

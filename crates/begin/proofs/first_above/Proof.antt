@@ -20,7 +20,7 @@ returns c =
     let l = c .before .before .before .before in
     let a = l .before .before .args in
     above-found (a .m) (a .samples .now) (l .loop .i) (l .loop .inv .1) (c .before .before .before .loop-test .taken)
-    (omega (arith, c .if1 .taken, c .before .widened .ensures))
+    (omega (arith, c .if1 .taken, c .before .u16-to-u32 .ensures .0))
 
 loop-again : tie.Need-loop-again Inv-loop μ-loop
 loop-again c =
@@ -28,7 +28,7 @@ loop-again c =
     let a = l .before .before .args in
     let t = c .before .before .before .loop-test .taken in (
       omega (arith, t),
-      above-next (a .m) (a .samples .now) (l .loop .i) (l .loop .inv .1) t (omega (arith, c .if1 .left, c .before .widened .ensures)),
+      above-next (a .m) (a .samples .now) (l .loop .i) (l .loop .inv .1) t (omega (arith, c .if1 .left, c .before .u16-to-u32 .ensures .0)),
     )
 
 returns-2 : tie.Need-returns-2 Inv-loop μ-loop

@@ -57,11 +57,23 @@ After-slice-known4 = Lts.After-slice-known4 (Reads'3.Asked, Reads'3.Learnt, Read
 abbrev pub After-rs : Type 0
 After-rs = Lts.After-rs (Reads'3.Asked, Reads'3.Learnt, Reads'.Asked, Reads'.Learnt, Reads.Asked, Reads.Learnt) Reads''.Pre Reads''.Post
 
-abbrev pub Then1 : Type 0
-Then1 = Lts.Then1 (Reads'3.Asked, Reads'3.Learnt, Reads'.Asked, Reads'.Learnt, Reads.Asked, Reads.Learnt) Reads''.Pre Reads''.Post
+abbrev pub At-match-keys1 : Type 0
+At-match-keys1 = Lts.At-match-keys1 (Reads'3.Asked, Reads'3.Learnt, Reads'.Asked, Reads'.Learnt, Reads.Asked, Reads.Learnt) Reads''.Pre Reads''.Post
 
-abbrev pub Else1 : Type 0
-Else1 = Lts.Else1 (Reads'3.Asked, Reads'3.Learnt, Reads'.Asked, Reads'.Learnt, Reads.Asked, Reads.Learnt) Reads''.Pre Reads''.Post
+abbrev pub After-measured : Type 0
+After-measured = Lts.After-measured (Reads'3.Asked, Reads'3.Learnt, Reads'.Asked, Reads'.Learnt, Reads.Asked, Reads.Learnt) Reads''.Pre Reads''.Post
+
+abbrev pub After-known-told : Type 0
+After-known-told = Lts.After-known-told (Reads'3.Asked, Reads'3.Learnt, Reads'.Asked, Reads'.Learnt, Reads.Asked, Reads.Learnt) Reads''.Pre Reads''.Post
+
+abbrev pub At-match-keys2 : Type 0
+At-match-keys2 = Lts.At-match-keys2 (Reads'3.Asked, Reads'3.Learnt, Reads'.Asked, Reads'.Learnt, Reads.Asked, Reads.Learnt) Reads''.Pre Reads''.Post
+
+abbrev pub After-measured2 : Type 0
+After-measured2 = Lts.After-measured2 (Reads'3.Asked, Reads'3.Learnt, Reads'.Asked, Reads'.Learnt, Reads.Asked, Reads.Learnt) Reads''.Pre Reads''.Post
+
+abbrev pub After-known-told2 : Type 0
+After-known-told2 = Lts.After-known-told2 (Reads'3.Asked, Reads'3.Learnt, Reads'.Asked, Reads'.Learnt, Reads.Asked, Reads.Learnt) Reads''.Pre Reads''.Post
 
 abbrev pub After-bytes-for : Type 0
 After-bytes-for = Lts.After-bytes-for (Reads'3.Asked, Reads'3.Learnt, Reads'.Asked, Reads'.Learnt, Reads.Asked, Reads.Learnt) Reads''.Pre Reads''.Post
@@ -69,11 +81,11 @@ After-bytes-for = Lts.After-bytes-for (Reads'3.Asked, Reads'3.Learnt, Reads'.Ask
 abbrev pub After-is-short : Type 0
 After-is-short = Lts.After-is-short (Reads'3.Asked, Reads'3.Learnt, Reads'.Asked, Reads'.Learnt, Reads.Asked, Reads.Learnt) Reads''.Pre Reads''.Post
 
-abbrev pub Then2 : Type 0
-Then2 = Lts.Then2 (Reads'3.Asked, Reads'3.Learnt, Reads'.Asked, Reads'.Learnt, Reads.Asked, Reads.Learnt) Reads''.Pre Reads''.Post
+abbrev pub Then1 : Type 0
+Then1 = Lts.Then1 (Reads'3.Asked, Reads'3.Learnt, Reads'.Asked, Reads'.Learnt, Reads.Asked, Reads.Learnt) Reads''.Pre Reads''.Post
 
-abbrev pub Else2 : Type 0
-Else2 = Lts.Else2 (Reads'3.Asked, Reads'3.Learnt, Reads'.Asked, Reads'.Learnt, Reads.Asked, Reads.Learnt) Reads''.Pre Reads''.Post
+abbrev pub Else1 : Type 0
+Else1 = Lts.Else1 (Reads'3.Asked, Reads'3.Learnt, Reads'.Asked, Reads'.Learnt, Reads.Asked, Reads.Learnt) Reads''.Pre Reads''.Post
 
 abbrev pub After-write-walk-arg4 : Type 0
 After-write-walk-arg4 = Lts.After-write-walk-arg4 (Reads'3.Asked, Reads'3.Learnt, Reads'.Asked, Reads'.Learnt, Reads.Asked, Reads.Learnt) Reads''.Pre Reads''.Post
@@ -105,6 +117,18 @@ After-rs2 = Lts.After-rs2 (Reads'3.Asked, Reads'3.Learnt, Reads'.Asked, Reads'.L
 abbrev pub Need-write-walk-requires : Type 0
 Need-write-walk-requires = Lts.Need-write-walk-requires (Reads'3.Asked, Reads'3.Learnt, Reads'.Asked, Reads'.Learnt, Reads.Asked, Reads.Learnt) Reads''.Pre Reads''.Post
 
+abbrev pub Need-enum-known-measured : Type 0
+Need-enum-known-measured = Lts.Need-enum-known-measured (Reads'3.Asked, Reads'3.Learnt, Reads'.Asked, Reads'.Learnt, Reads.Asked, Reads.Learnt) Reads''.Pre Reads''.Post
+
+abbrev pub Need-enum-known-measured-2 : Type 0
+Need-enum-known-measured-2 = Lts.Need-enum-known-measured-2 (Reads'3.Asked, Reads'3.Learnt, Reads'.Asked, Reads'.Learnt, Reads.Asked, Reads.Learnt) Reads''.Pre Reads''.Post
+
+abbrev pub Need-bytes-for-requires : Type 0
+Need-bytes-for-requires = Lts.Need-bytes-for-requires (Reads'3.Asked, Reads'3.Learnt, Reads'.Asked, Reads'.Learnt, Reads.Asked, Reads.Learnt) Reads''.Pre Reads''.Post
+
+abbrev pub Need-is-short-requires : Type 0
+Need-is-short-requires = Lts.Need-is-short-requires (Reads'3.Asked, Reads'3.Learnt, Reads'.Asked, Reads'.Learnt, Reads.Asked, Reads.Learnt) Reads''.Pre Reads''.Post
+
 abbrev pub Need-same-length : Type 0
 Need-same-length = Lts.Need-same-length (Reads'3.Asked, Reads'3.Learnt, Reads'.Asked, Reads'.Learnt, Reads.Asked, Reads.Learnt) Reads''.Pre Reads''.Post
 
@@ -117,11 +141,8 @@ Need-same-length-3 = Lts.Need-same-length-3 (Reads'3.Asked, Reads'3.Learnt, Read
 abbrev pub Need-returns : Type 0
 Need-returns = Lts.Need-returns (Reads'3.Asked, Reads'3.Learnt, Reads'.Asked, Reads'.Learnt, Reads.Asked, Reads.Learnt) Reads''.Pre Reads''.Post
 
-abbrev pub Need-bytes-for-requires : Type 0
-Need-bytes-for-requires = Lts.Need-bytes-for-requires (Reads'3.Asked, Reads'3.Learnt, Reads'.Asked, Reads'.Learnt, Reads.Asked, Reads.Learnt) Reads''.Pre Reads''.Post
-
-abbrev pub Need-is-short-requires : Type 0
-Need-is-short-requires = Lts.Need-is-short-requires (Reads'3.Asked, Reads'3.Learnt, Reads'.Asked, Reads'.Learnt, Reads.Asked, Reads.Learnt) Reads''.Pre Reads''.Post
+abbrev pub Need-write-walk-requires-2 : Type 0
+Need-write-walk-requires-2 = Lts.Need-write-walk-requires-2 (Reads'3.Asked, Reads'3.Learnt, Reads'.Asked, Reads'.Learnt, Reads.Asked, Reads.Learnt) Reads''.Pre Reads''.Post
 
 abbrev pub Need-same-length-4 : Type 0
 Need-same-length-4 = Lts.Need-same-length-4 (Reads'3.Asked, Reads'3.Learnt, Reads'.Asked, Reads'.Learnt, Reads.Asked, Reads.Learnt) Reads''.Pre Reads''.Post
@@ -134,9 +155,6 @@ Need-same-length-6 = Lts.Need-same-length-6 (Reads'3.Asked, Reads'3.Learnt, Read
 
 abbrev pub Need-returns-2 : Type 0
 Need-returns-2 = Lts.Need-returns-2 (Reads'3.Asked, Reads'3.Learnt, Reads'.Asked, Reads'.Learnt, Reads.Asked, Reads.Learnt) Reads''.Pre Reads''.Post
-
-abbrev pub Need-write-walk-requires-2 : Type 0
-Need-write-walk-requires-2 = Lts.Need-write-walk-requires-2 (Reads'3.Asked, Reads'3.Learnt, Reads'.Asked, Reads'.Learnt, Reads.Asked, Reads.Learnt) Reads''.Pre Reads''.Post
 
 abbrev pub Need-same-length-7 : Type 0
 Need-same-length-7 = Lts.Need-same-length-7 (Reads'3.Asked, Reads'3.Learnt, Reads'.Asked, Reads'.Learnt, Reads.Asked, Reads.Learnt) Reads''.Pre Reads''.Post
@@ -151,13 +169,13 @@ abbrev pub Need-returns-3 : Type 0
 Need-returns-3 = Lts.Need-returns-3 (Reads'3.Asked, Reads'3.Learnt, Reads'.Asked, Reads'.Learnt, Reads.Asked, Reads.Learnt) Reads''.Pre Reads''.Post
 
 module _ {M : Type 1} where
-  pub spec : (answer : Need-write-walk-requires) → (answer : Need-same-length) → (answer : Need-same-length-2) → (answer : Need-same-length-3) → (answer : Need-returns) → (answer :
-      Need-bytes-for-requires) → (answer : Need-is-short-requires) → (answer : Need-same-length-4) → (answer : Need-same-length-5) → (answer : Need-same-length-6) → (answer : Need-returns-2) → (answer :
-      Need-write-walk-requires-2) → (answer : Need-same-length-7) → (answer : Need-same-length-8) → (answer : Need-same-length-9) → (answer : Need-returns-3) → Lts.Closed
-      (Reads'3.Asked, Reads'3.Learnt, Reads'.Asked, Reads'.Learnt, Reads.Asked, Reads.Learnt) Reads''.Pre Reads''.Post M
-  spec = λ answer answer' answer'' answer'3 answer'4 answer'5 answer'6 answer'7 answer'8 answer'9 answer'10 answer'11 answer'12 answer'13 answer'14 answer'15. Lts.spec
+  pub spec : (answer : Need-write-walk-requires) → (answer : Need-enum-known-measured) → (answer : Need-enum-known-measured-2) → (answer : Need-bytes-for-requires) → (answer : Need-is-short-requires)
+      → (answer : Need-same-length) → (answer : Need-same-length-2) → (answer : Need-same-length-3) → (answer : Need-returns) → (answer : Need-write-walk-requires-2) → (answer : Need-same-length-4) →
+      (answer : Need-same-length-5) → (answer : Need-same-length-6) → (answer : Need-returns-2) → (answer : Need-same-length-7) → (answer : Need-same-length-8) → (answer : Need-same-length-9) → (answer :
+      Need-returns-3) → Lts.Closed (Reads'3.Asked, Reads'3.Learnt, Reads'.Asked, Reads'.Learnt, Reads.Asked, Reads.Learnt) Reads''.Pre Reads''.Post M
+  spec = λ answer answer' answer'' answer'3 answer'4 answer'5 answer'6 answer'7 answer'8 answer'9 answer'10 answer'11 answer'12 answer'13 answer'14 answer'15 answer'16 answer'17. Lts.spec
       (Reads'3.Asked, Reads'3.Learnt, Reads'.Asked, Reads'.Learnt, Reads.Asked, Reads.Learnt) Reads''.Pre Reads''.Post answer answer' answer'' answer'3 answer'4 answer'5 answer'6 answer'7 answer'8
-      answer'9 answer'10 answer'11 answer'12 answer'13 answer'14 answer'15
+      answer'9 answer'10 answer'11 answer'12 answer'13 answer'14 answer'15 answer'16 answer'17
 
   pub close : Lts.Closed (Reads'3.Asked, Reads'3.Learnt, Reads'.Asked, Reads'.Learnt, Reads.Asked, Reads.Learnt) Reads''.Pre Reads''.Post M → Statement.statement M
   unfolding Code.routine Running.tablesOf
