@@ -11,11 +11,11 @@ use lib.ListN.{length, getD, set, length-set}
 use lib.Seq.{getD-set-other, getD-set-same}
 use borrow.Author.Tests.{eq-eqb, eqb-true}
 use Rattle.steps.specs.Steps.{Step}
-use Rattle.steps.specs.Contexts.{evenAt, contextAt}
+use Rattle.steps.specs.Contexts.{evenAt, contextAt, stepContext}
 use Rattle.prediction.specs.Predictions.{evenPrediction, evenContext}
 use Rattle.writing.specs.Writings.{Writing, orSecond, writeStep, writes}
 use Rattle.read_back.proofs.ListBack.{All, cell, Apart}
-use Rattle.writing.proofs.WriteLaws.{contextIn, wanted, write-coded, write-interpolated}
+use Rattle.writing.proofs.WriteLaws.{wanted, write-coded, write-interpolated}
 
 -- ---- one step
 
@@ -30,7 +30,7 @@ module _ (bits W : ℕ) (t : List ℕ) (n : ℕ) (x : Step) (r : Writing) where
 
   -- an interpolated sample is its prediction
   abbrev pub Right : List ℕ → Type 0
-  Right lines = x .coded ≡ false → wanted W t n x ≡ (contextIn W x lines) .prediction
+  Right lines = x .coded ≡ false → wanted W t n x ≡ (stepContext W x lines) .prediction
 
   pub step-wrong : (writeStep bits W t n x r) .wrong ≡ none ↔ (r .wrong ≡ none) × Right (r .lines)
   step-wrong = go (x .coded) refl
@@ -50,7 +50,7 @@ module _ (bits W : ℕ) (t : List ℕ) (n : ℕ) (x : Step) (r : Writing) where
       )
       go false e = rw (write-interpolated bits W t n x r e) (
         λ w. let s = second (r .wrong) _ w in (s .0, λ f. eqb-true _ _ (test (wanted W t n x) _ _ (s .1))),
-        λ w. rw (w .0, eq-eqb (wanted W t n x) ((contextIn W x (r .lines)) .prediction) (w .1 e)),
+        λ w. rw (w .0, eq-eqb (wanted W t n x) ((stepContext W x (r .lines)) .prediction) (w .1 e)),
       )
 
 -- ---- steps one after the other
@@ -118,7 +118,7 @@ module _ (W A B : ℕ) where
     pub above : x .coded ≡ false → (2 ≤ x .line) × (x .line - 1 ≢ A) × (x .line - 1 ≢ B) × (x .line - 2 ≢ A) × (x .line - 2 ≢ B) × (x .position % 2 ≡ 0)
 
   same-prediction : (before lines : List ℕ) (x : Step) → InPass x → x .coded ≡ false → Agree before lines
-      → (contextIn W x lines) .prediction ≡ (contextIn W x before) .prediction
+      → (stepContext W x lines) .prediction ≡ (stepContext W x before) .prediction
   same-prediction before lines x p c g =
       let a = p .above c in
       let in2 : x .position + 2 < W + 2 = omega (arith, p .inside) in
@@ -132,7 +132,7 @@ module _ (W A B : ℕ) where
 
   module _ (bits : ℕ) (t : List ℕ) (n : ℕ) (before : List ℕ) where
     abbrev pub AllRight : List Step → Type 0
-    AllRight l = All (λ x. x .coded ≡ false → wanted W t n x ≡ (contextIn W x before) .prediction) l
+    AllRight l = All (λ x. x .coded ≡ false → wanted W t n x ≡ (stepContext W x before) .prediction) l
 
     agree-next : (x : Step) (r : Writing) → InPass x → Agree before (r .lines) → Agree before ((writeStep bits W t n x r) .lines)
     agree-next x r p g m d a b h =

@@ -9,7 +9,7 @@ use lib.ListN.{getD, set, replicate, length-replicate}
 use borrow.Author.Tests.{eq-eqb}
 use Rattle.quantiser.specs.Quantisers.{largest}
 use Rattle.steps.specs.Steps.{Step, planOf, passSteps}
-use Rattle.steps.specs.Contexts.{stepPlace}
+use Rattle.steps.specs.Contexts.{stepPlace, stepContext}
 use Rattle.steps.specs.declared.Plan.{Plan}
 use Rattle.steps.proofs.ContextLaws.{AllLe, context-le}
 use Rattle.steps.proofs.ZipLaws.{set-keeps}
@@ -17,7 +17,7 @@ use Rattle.map.specs.Places.{widthOf}
 use Rattle.lines.specs.ColourLines.{guarded}
 use Rattle.writing.specs.Sets.{setSize, indexIn}
 use Rattle.writing.specs.Writings.{Writing, writeStep, writes, writePass}
-use Rattle.writing.proofs.WriteLaws.{contextIn, wanted, write-coded, write-interpolated}
+use Rattle.writing.proofs.WriteLaws.{wanted, write-coded, write-interpolated}
 use Rattle.block.specs.WrittenBlocks.{WriteState, repeats, enterWriting, writePassAt, beforeWriting, writeLine, startWriting, writeLines, FitSet}
 use Rattle.block.specs.declared.Form.{Form}
 use Rattle.block.proofs.SampleLaws.{zeros-le, guarded-le, turned-le}
@@ -35,12 +35,12 @@ module _ (F : Form) (t : List ℕ) (none-above : (j : ℕ) → getD t j 0 ≤ 0)
       put : AllLe 0 (set (r .lines) (stepPlace W x + 1) (wanted W t n x))
       put j = set-keeps (λ (m : ℕ). m ≤ 0) (r .lines) 0 (stepPlace W x + 1) (wanted W t n x) j (h .0 j) (none-above (indexIn W n (x .line) (x .position)))
 
-      is : wanted W t n x ≡ (contextIn W x (r .lines)) .prediction
+      is : wanted W t n x ≡ (stepContext W x (r .lines)) .prediction
       is = omega (arith, none-above (indexIn W n (x .line) (x .position)), context-le 0 (r .lines) (W + 2) (stepPlace W x) (x .position) (h .0))
 
       go : (b : Bool) → x .coded ≡ b → Inv ((writeStep (F .bits) W t n x r) .lines) ((writeStep (F .bits) W t n x r) .wrong)
       go true e = rw (write-coded (F .bits) W t n x r e) (put, h .1)
-      go false e = rw (write-interpolated (F .bits) W t n x r e) (put, rw (h .1, eq-eqb (wanted W t n x) ((contextIn W x (r .lines)) .prediction) is))
+      go false e = rw (write-interpolated (F .bits) W t n x r e) (put, rw (h .1, eq-eqb (wanted W t n x) ((stepContext W x (r .lines)) .prediction) is))
 
   steps-inv : (n : ℕ) (l : List Step) (r : Writing) → Inv (r .lines) (r .wrong) → Inv ((writes (F .bits) W t n l r) .lines) ((writes (F .bits) W t n l r) .wrong)
   unfolding writes

@@ -3,7 +3,7 @@ use Prim.Native.Nat.{ℕ, _≤_}
 use lib.Dec.{lit≤}
 use Rattle.stream.specs.Refusals.{numberOf}
 use Rattle.stream.specs.declared.Refusal.{Refusal}
-use Rattle.stream.specs.declared.Refusal.the-variants.{ShortHeader, BadHeader, ShortSizes, ShortBases, NoBlock, WrongSize, OutsideImage, Lossy, WrongCount, ShortScratch, AboveLargest, NotPredicted, ShortOutput, Truncated, NotTight}
+use Rattle.stream.specs.declared.Refusal.the-variants.{ShortHeader, BadHeader, ShortSizes, ShortBases, NoBlock, WrongSize, OutsideImage, Lossy, WrongCount, ShortScratch, AboveLargest, NotPredicted, ShortOutput, Truncated, NotTight, Lossless, WrongBases, BadRecord, HeldTwice, NotHeld, OutsideSheet}
 
 -- no refusal has the number 0
 pub number-low : (r : Refusal) → 1 ≤ numberOf r
@@ -22,3 +22,9 @@ number-low (NotPredicted i) = lit≤ tt
 number-low ShortOutput = lit≤ tt
 number-low (Truncated b l) = lit≤ tt
 number-low (NotTight l) = lit≤ tt
+number-low Lossless = lit≤ tt
+number-low WrongBases = lit≤ tt
+number-low (BadRecord i) = lit≤ tt
+number-low (HeldTwice l) = lit≤ tt
+number-low (NotHeld l) = lit≤ tt
+number-low OutsideSheet = lit≤ tt
