@@ -59,8 +59,11 @@ module _ (M : ℕ) (s : List ℕ) (p k limit raw z : ℕ) (t : Bool) where
   short-stays h =
       let v : ℕ = z * 2 ^ k + bitsAt s (p + z + 1) k in
       split v M
-      (λ l. rw (le-leb v M l, le-ltb M v l, le-ltb limit z (omega arith), lt-leb limit z h) (and-true t))
+      (λ l. rw (le-leb v M l, le-ltb M v l, lt-leb limit z h, le-ltb limit z (omega arith)) (and-true t))
       (λ l. rw (lt-leb v M l, lt-ltb M v l) (and-false t))
+
+  loose : (b : Bool) → t && (b && false) ≡ false
+  loose b = rw (and-false b) (and-false t)
 
   long-stays : limit ≤ z → t && isTight M (longCode s p k limit raw z) ≡ stays (reasonOf M k limit (longCode s p k limit raw z)) t
   unfolding isTight reasonOf
@@ -68,12 +71,12 @@ module _ (M : ℕ) (s : List ℕ) (p k limit raw z : ℕ) (t : Bool) where
       let v : ℕ = bitsAt s (p + z + 1) raw + 1 in
       split v M
       (λ l. rw (le-leb v M l, le-ltb M v l)
-      (split z limit
-      (λ e. rw (le-ltb limit z e, le-leb limit z h, eq-eqb z limit (omega arith))
       (split limit (v / 2 ^ k)
-      (λ f. rw (le-leb limit (v / 2 ^ k) f, le-ltb (v / 2 ^ k) limit f) (and-true t))
-      (λ f. rw (lt-leb limit (v / 2 ^ k) f, lt-ltb (v / 2 ^ k) limit f) (and-false t))))
+      (λ f. rw (le-leb limit (v / 2 ^ k) f, le-ltb (v / 2 ^ k) limit f, le-leb limit z h)
+      (split z limit
+      (λ e. rw (le-ltb limit z e, eq-eqb z limit (omega arith)) (and-true t))
       (λ e. rw (lt-ltb limit z e, ne-eqb z limit (λ q. omega arith)) (and-false t))))
+      (λ f. rw (lt-leb limit (v / 2 ^ k) f, lt-ltb (v / 2 ^ k) limit f, le-leb limit z h) (loose (eqb z limit)))))
       (λ l. rw (lt-leb v M l, lt-ltb M v l) (and-false t))
 
 -- a code that was read has a reason exactly if it is not tight
@@ -88,14 +91,15 @@ code-stays M s p k limit raw c t e =
     Stays : Code → Type 0
     Stays c = t && isTight M c ≡ stays (reasonOf M k limit c) t
 
--- worked examples, at 14 bits, lossless, with k 8: a one and eight ones; 41 zeros, a one and 14 zeros; a zero more; 41 zeros, a one and 14 ones
+-- worked examples, at 14 bits, lossless, with k 8: a one and eight ones; 41 zeros, a one and 14 zeros; a zero more; a zero more, with
+-- five ones and nine zeros after the one; 41 zeros, a one and 14 ones
 abbrev reasonAt : List ℕ → Option Reason
 reasonAt s = codedReason 16383 8 41 (codeAt s 0 8 41 14)
 
 pub examples : (reasonAt (0xFF ∷ 0x80 ∷ []) ≡ none) × (reasonAt (0 ∷ 0 ∷ 0 ∷ 0 ∷ 0 ∷ 0x40 ∷ 0 ∷ []) ≡ some short-fits)
-    × (reasonAt (0 ∷ 0 ∷ 0 ∷ 0 ∷ 0 ∷ 0x20 ∷ 0 ∷ []) ≡ some too-many-zeros) × (reasonAt (0 ∷ 0 ∷ 0 ∷ 0 ∷ 0 ∷ 0x7F ∷ 0xFF ∷ []) ≡ some too-large)
+    × (reasonAt (0 ∷ 0 ∷ 0 ∷ 0 ∷ 0 ∷ 0x20 ∷ 0 ∷ []) ≡ some short-fits) × (reasonAt (0 ∷ 0 ∷ 0 ∷ 0 ∷ 0 ∷ 0x3F ∷ 0 ∷ []) ≡ some too-many-zeros) × (reasonAt (0 ∷ 0 ∷ 0 ∷ 0 ∷ 0 ∷ 0x7F ∷ 0xFF ∷ []) ≡ some too-large)
 unfolding bitAt bitsAt zeros zeroRun codeAt reasonOf
-examples = (refl, refl, refl, refl)
+examples = (refl, refl, refl, refl, refl)
 
 -- ---- the steps of a pass
 

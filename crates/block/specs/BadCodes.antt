@@ -21,19 +21,19 @@ use Rattle.block.specs.declared.Form.{Form}
 
 -- ---- one code
 
--- why a code is bad: it is 2^bits or more; it has more zeros than the limit; it is long where the short form fits
+-- why a code is bad: it is 2^bits or more; it is long where the short form fits; it has more zeros than the limit
 pub data Reason : Type 0 where
   too-large : Reason
-  too-many-zeros : Reason
   short-fits : Reason
+  too-many-zeros : Reason
 
 -- the reason of a code that was read; none if it is tight. Where two apply, the one that stands first above is given. A code is long when its zeros
 -- reach the limit, and the short form fits if ⌊code/2^k⌋ is below the limit
 unfoldable pub reasonOf : ℕ → ℕ → ℕ → Code → Option Reason
 reasonOf M k limit c =
     cond (ltb M (c .value)) (some too-large)
-    (cond (ltb limit (c .zeros)) (some too-many-zeros)
-    (cond (leb limit (c .zeros) && ltb (c .value / 2 ^ k) limit) (some short-fits) none))
+    (cond (leb limit (c .zeros) && ltb (c .value / 2 ^ k) limit) (some short-fits)
+    (cond (ltb limit (c .zeros)) (some too-many-zeros) none))
 
 -- a code that is cut off is not called bad
 abbrev pub codedReason : ℕ → ℕ → ℕ → Coded → Option Reason

@@ -17,7 +17,7 @@ use Rattle.read_back.proofs.ListBack.{All, cell, Apart}
 -- ---- lists of steps
 
 module _ (Q : Step → Type 0) where
-  all-append : (k l : List Step) → All Q k → All Q l → All Q (k ++ l)
+  pub all-append : (k l : List Step) → All Q k → All Q l → All Q (k ++ l)
   all-append [] l a b = b
   all-append (x ∷ k) l a b = (a .0, all-append k l (a .1) b)
 
@@ -29,7 +29,7 @@ module _ (Q : Step → Type 0) where
   all-right [] l a = a
   all-right (x ∷ k) l a = all-right k l (a .1)
 
-  all-upto : (f : ℕ → List Step) (n : ℕ) → ((i : ℕ) → i < n → All Q (f i)) → All Q (upto f n)
+  pub all-upto : (f : ℕ → List Step) (n : ℕ) → ((i : ℕ) → i < n → All Q (f i)) → All Q (upto f n)
   unfolding upto
   all-upto f zero a = tt
   all-upto f (suc n) a = all-append (upto f n) (f n) (all-upto f n (λ i h. a i (omega arith))) (a n (omega arith))
