@@ -9,11 +9,11 @@ use native.Mathlib.Nat.{zero-add}
 use native.Mathlib.Numerals.{add-one}
 use native.Mathlib.Omega.{arith}
 use lib.Dec.{ltb}
-use lib.ListN.{length, getD, drop, drop-of-length-le}
-use lib.Seq.{drop-cons}
+use lib.ListN.{length, getD, drop, replicate, length-replicate, drop-of-length-le}
+use lib.Seq.{drop-cons, paste, take-at, take-all, drop-append-add, drop-drop}
 use Rattle.bits.specs.declared.BitPosition.{BitPosition}
-use Rattle.bits.specs.BitLists.{packed, bytesFor, bytesOf}
-use Rattle.bits.proofs.PackLaws.{length-packed}
+use Rattle.bits.specs.BitLists.{packed, bytesFor, blockBytes, filled, bytesOf}
+use Rattle.bits.proofs.PackLaws.{length-packed, packed-more}
 use Rattle.numbers.proofs.OrderLaws.{split}
 use Rattle.quantiser.specs.Quantisers.{largest}
 use Rattle.stream.specs.declared.Refusal.the-variants.{AboveLargest, NotPredicted, ShortOutput}
@@ -58,15 +58,34 @@ none-within m i (v ∷ t) e = split (suc m) v (λ h. high h) (λ h. low h (none-
 
 -- ---- the block
 
-block-length : (F : Form) (count : ℕ) (t : List ℕ) → length (tightBlock F count t) ≡ bytesFor (length ((writeLines F t count) .bits))
+block-length : (F : Form) (count : ℕ) (t : List ℕ) → length (tightBlock F count t) ≡ blockBytes (length ((writeLines F t count) .bits))
 unfolding tightBlock bytesOf
 block-length F count t = length-packed _ _
 
 -- bits that are put at the start: their bytes, and what follows these
-put-all : (out : List ℕ) (l : List Bool) → putBits out 0 l ≡ bytesOf l ++ drop (bytesFor (length l)) out
-unfolding putBits bytesOf packed
+put-all : (out : List ℕ) (l : List Bool) → putBits out 0 l ≡ packed (bytesFor (length l)) l ++ drop (bytesFor (length l)) out
+unfolding putBits packed
 put-all out [] = refl
 put-all out (b ∷ l) = rw zero-add
+
+-- and with the filling: the block of these bits, and what follows it
+fill-all : (out : List ℕ) (l : List Bool) → blockBytes (length l) ≤ length out → filled (length l) (putBits out 0 l) ≡ bytesOf l ++ drop (blockBytes (length l)) out
+unfolding bytesOf
+fill-all out l h =
+    let n : ℕ = length l in
+    let a : ℕ = bytesFor n in
+    let k : ℕ = blockBytes n - bytesFor n in
+    let P : List ℕ = packed a l in
+    let ak : a + k ≡ blockBytes n = omega arith in
+    let long : length P ≡ a = length-packed a l in
+    ap (λ (s : List ℕ). paste s a (replicate k 0) k) (put-all out l)
+    ∙ rw (take-at P (drop a out) a long, take-all k (replicate k 0) (omega (arith, fill-length k)), tail P k a long) (rw (← ak, packed-more a k l (omega arith)))
+  where
+    fill-length : (k : ℕ) → length (replicate {A = ℕ} k 0) ≡ k
+    fill-length k = length-replicate k 0
+
+    tail : (P : List ℕ) (k a : ℕ) → length P ≡ a → drop (a + k) (P ++ drop a out) ≡ drop (a + k) out
+    tail P k a long = (rw long at (drop-append-add P (drop a out) k)) ∙ drop-drop k a out
 
 -- ---- what the walks say
 
@@ -101,7 +120,7 @@ module _ (F : Form) (count : ℕ) (t out : List ℕ) where
           record { right = e; position = ap (λ (a : BitPosition). a .0) q; kept = p .1 }
       go (some j) e p = clash end j (sym is ∙ p .0)
 
-  module _ (out₁ : List ℕ) (end : BitPosition) (k : Measured out₁ end) (n : ℕ) (en : n ≡ bytesFor (end .0)) where
+  module _ (out₁ : List ℕ) (end : BitPosition) (k : Measured out₁ end) (n : ℕ) (en : n ≡ blockBytes (end .0)) where
     needed : n ≡ length (tightBlock F count t)
     needed = en ∙ rw (k .position) (sym (block-length F count t))
 
@@ -119,14 +138,20 @@ module _ (F : Form) (count : ℕ) (t out : List ℕ) where
     measured-room b eb h e = omega (arith, long-enough b eb h, block-length F count t, ap length (k .kept))
 
     pub measured-stored : (b : Bool) → b ≡ ltb (length out₁) n → b ≡ false → (out₂ : List ℕ) (r₂ : Put) → SetWritten (writeLines F t count) true out₁ out₂ r₂
-        → (Length n ≡ measuredAnswer F count t (length out)) × (out₂ ≡ tightBlock F count t ++ drop n out)
+        → (out₃ : List ℕ) → out₃ ≡ filled (end .0) out₂ → (Length n ≡ measuredAnswer F count t (length out)) × (out₃ ≡ tightBlock F count t ++ drop n out)
     unfolding measuredAnswer tightBlock
-    measured-stored b eb h out₂ r₂ s =
+    measured-stored b eb h out₂ r₂ s out₃ e =
+        let l : List Bool = (writeLines F t count) .bits in
         let p : IsSetPut none (writeLines F t count) true out₁ out₂ r₂ = rw (k .right) at (s .are) in
-        let f : bytesFor (length ((writeLines F t count) .bits)) ≡ n = sym (en ∙ rw (k .position)) in (
+        let f : blockBytes (length l) ≡ n = sym (en ∙ rw (k .position)) in
+        let room : blockBytes (length l) ≤ length out₁ = omega (arith, long-enough b eb h, block-length F count t, ap length (k .kept)) in (
           rw (k .right, le-ltb (length out) (length (tightBlock F count t)) (long-enough b eb h), needed),
-          p .1 ∙ (put-all out₁ ((writeLines F t count) .bits) ∙ rw (k .kept, f)),
+          e ∙ rw (k .position, p .1) (fill-all out₁ l room ∙ rw (k .kept, f)),
         )
+
+    -- there is room for the filling too
+    pub filling-room : (b : Bool) → b ≡ ltb (length out₁) n → b ≡ false → (m : ℕ) → m ≡ length out₁ → blockBytes (end .0) ≤ m
+    filling-room b eb h m em = let e : ltb (length out₁) n ≡ false = sym eb ∙ h in omega (arith, ltb-false (length out₁) n e)
 
 -- ---- the answer for any set
 
