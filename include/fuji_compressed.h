@@ -54,10 +54,22 @@ void fuji_read_tight(const uint8_t *stream, size_t stream_length, size_t block, 
                      fuji_record *records, size_t records_length, size_t refusal[4]);
 
 /* Writes the tight block of a set of colour lines to the start of the output: for each line of six rows red 2 to 4, green 7 to 12 and blue 15 to 17,
- * with 384 samples each (X-Trans: 512). Its length is handed back, and 0 where it is refused; then the output is as it was. */
+ * with 384 samples each (X-Trans: 512). Its length is handed back, a multiple of 16 bytes of which the last are filled with zero bits, and 0 where it is
+ * refused; then the output is as it was. */
 void fuji_write_block(const uint8_t *header, size_t header_length, const uint16_t *samples, size_t samples_length, uint8_t *out,
                       size_t out_length, uint16_t *scratch, size_t scratch_length, fuji_record *records, size_t records_length,
                       size_t length[1], size_t refusal[4]);
+
+/* The full sheet of short codes: every bit string of at most `length` bits (1 to 16) that is one tight lossless code for a depth of 12, 14 or 16 and
+ * a k of 0 to 15, as 65536 * (its bits) + its value, by length and then by value. The count is that of the whole sheet, at most 32,768, and 0 where it
+ * is refused (24). A list that is shorter than the sheet is left as it was, and so is the rest of a longer one. */
+void fuji_short_codes(uint32_t depth, uint32_t k, uint32_t length, uint32_t *list, size_t list_length, size_t count[1], size_t refusal[4]);
+
+/* The base bytes of a lossy header's lines, as a plan says: text with one record a line, which is first line, last line and base, in decimal with 1 to 5 digits
+ * each, parted by tabs and ended by a newline. Every line lies in exactly one record. There are as many bytes as lines, and byte n becomes the base of the record that
+ * holds line n. Refusals 1, 2, 16, 17, 18 (the record's number, from 1 on, is the index), 19 and 20 (the line is named); each leaves the bytes as they were. */
+void fuji_plan_bases(const uint8_t *header, size_t header_length, const uint8_t *plan, size_t plan_length, uint8_t *bases, size_t bases_length,
+                     size_t refusal[4]);
 
 #ifdef __cplusplus
 }

@@ -26,7 +26,7 @@ SIZE = os.environ.get("SIZE", "2")
 ARR, WORK = f"[u32; {SIZE}]", "target/lend"
 # A function: comments, head with its clauses, body. The layout is that of `rt fmt`.
 ITEM = re.compile(r"(?:^//[^\n]*\n)*^(?P<head>(?:#\[no_mangle\]\n)?(?:pub(?:\(crate\))? )?(?:extern \"C\" )?fn (?P<name>\w+)[^{]*?(?:\n    (?:requires|ensures)[^\n]*(?:\n        [^\n]*)*)*)\s*\{\n(?P<body>.*?)\n\}\n", re.S | re.M)
-METHOD = re.compile(r"^    pub fn (?P<name>\w+)\(&(?P<mut>mut )?self(?P<args>[^)]*)\)(?P<rest>[^\n]*(?:\n        (?:requires|ensures)[^\n]*)*)\n    \{", re.M)
+METHOD = re.compile(r"^    pub fn (?P<name>\w+)\(&(?P<mut>mut )?self(?P<args>[^)]*)\)(?P<rest>[^\n]*(?:\n        (?:requires|ensures)[^\n]*(?:\n            [^\n]*)*)*)\n    \{", re.M)
 
 def read(path):
     with open(path) as f:
@@ -172,13 +172,13 @@ def twin_carry(c):
         files[module] = trivial(text)
     return files
 
-def generate(c, twin, files, bare=""):
-    """Lets Rattle write what it derives for a twin; the answer is the folder that has it. Each function has a hole for a proof, but not `bare`."""
-    d = f"{WORK}/{c.name}-{twin}"
+def below(c):
+    """A folder in which the twins of a crate are checked: the crates that it depends on, and what is proved of them."""
+    d = f"{WORK}/{c.name}"
     shutil.rmtree(d, ignore_errors=True)
     lines = {l.split(":")[0].strip(): l for l in read("crates.txt").splitlines() if ":" in l}
     need, todo = [], [c.name]
-    while todo:                                                # the crate and what it depends on
+    while todo:
         x = todo.pop()
         if x in lines and x not in need:
             need.append(x)
@@ -187,18 +187,26 @@ def generate(c, twin, files, bare=""):
     for x in need:
         if x != c.name:
             shutil.copytree(f"crates/{x}", f"{d}/crates/{x}")
-    shutil.copytree("target", f"{d}/target", ignore=lambda p, n: [x for x in n if p == "target" and x in ("lend", "inc", "log")])
+    for x in ("rlib", "stamp"):
+        shutil.copytree(f"target/{x}", f"{d}/target/{x}")
+    return d
+
+def generate(c, d, twin, files, bare=""):
+    """Lets Rattle write what it derives for a twin; the answer is the folder that has it. Each function has a hole for a proof, but not `bare`."""
+    own = f"{d}/crates/{c.name}"
+    for x in (own, f"{d}/gen", f"{d}/target/inc"):
+        shutil.rmtree(x, ignore_errors=True)
     for m, text in files.items():
-        put(f"{d}/crates/{c.name}/src/{m or c.root}.rt", text)
+        put(f"{own}/src/{m or c.root}.rt", text)
     for f in [i["name"] for text in files.values() for i in ITEM.finditer(text) if i["name"] != bare]:
         name = f.replace("_", "-") + "-spec"
-        put(f"{d}/crates/{c.name}/proofs/{c.below(f, '/')}/Proof.antt", f"use {c.path(f)}.Statement.{{statement}}\npub {name} : {{M : Type 1}} → statement M\n{name} = ?\n")
+        put(f"{own}/proofs/{c.below(f, '/')}/Proof.antt", f"use {c.path(f)}.Statement.{{statement}}\npub {name} : {{M : Type 1}} → statement M\n{name} = ?\n")
     r = subprocess.run(["rt", "dev", c.name, "--generated", "gen"], cwd=d, capture_output=True, text=True)
-    put(f"{d}.log", r.stdout + r.stderr)
-    for g in (f"{d}/gen", f"{d}/crates/{c.name}/gen"):
+    put(f"{WORK}/{c.name}-{twin}.log", r.stdout + r.stderr)
+    for g in (f"{d}/gen", f"{own}/gen"):
         if os.path.isdir(g):
             return f"{g}/Rattle.{c.name}.proofs/proofs"
-    sys.exit(f"{c.name}: nothing was generated for its twin: see {d}.log")
+    sys.exit(f"{c.name}: nothing was generated for its twin: see {WORK}/{c.name}-{twin}.log")
 
 # ---- the struct in the array's place
 # The printer gives a module an alias where two modules' last names clash: a pattern names a module by its whole path in
@@ -285,7 +293,7 @@ def place(c, root, f, to):
     for m in ("Lts", "Tie"):
         made = f"{root}/{c.below(f, '/')}/{m}.antt"
         if not os.path.exists(made):
-            sys.exit(f"{f}: Rattle has no derivation of its twin: {root.split('/gen/')[0]}.log says why")
+            sys.exit(f"{f}: Rattle has no derivation of its twin: {WORK}/{c.name}-{c.kinds[f]}.log says why")
         put(f"{to}/{c.below(f, '/')}/Proof/derived/{m}.antt", moved(c, read(made)))
     put(f"{to}/{c.below(f, '/')}/Proof/derived.antt", "pub mod Lts\npub mod Tie")
 
@@ -297,25 +305,20 @@ def declare(c, to):
             put(f"{d}.antt", "\n".join(f"pub mod {x}" for x in sorted(os.listdir(d)) if not x.endswith(".antt")))
 
 def make(c, to, only=()):
-    wanted = lambda kind: [f for f in c.of(kind) if not only or f in only]
-    if wanted("touch"):
-        root = generate(c, "touch", twin_small(c, c.of("touch")))
-        for f in wanted("touch"):
-            place(c, root, f, to)
-    if wanted("carry"):
-        root = generate(c, "carry", twin_carry(c))
-        for f in wanted("carry") + [f for f in c.far if os.path.isdir(f"{root}/{f}")]:
-            place(c, root, f, to)
-    if wanted("own"):
-        root = generate(c, "own", twin_small(c, c.of("own")))
-        for f in wanted("own"):
-            place(c, root, f, to)
+    d = below(c)
+    for kind in ("touch", "carry", "own"):
+        wanted = [f for f in c.of(kind) if not only or f in only]
+        if wanted:
+            root = generate(c, d, kind, twin_carry(c) if kind == "carry" else twin_small(c, c.of(kind)))
+            for f in wanted + [f for f in c.far if os.path.isdir(f"{root}/{f}")]:
+                place(c, root, f, to)
     declare(c, to)
+    shutil.rmtree(f"{d}/target")
 
 def skeleton(c, f):
     """A first proof of a function: its needs. The names of an invariant's arguments are as the check of the twin prints them."""
     twin = twin_carry(c) if c.kinds[f] == "carry" else twin_small(c, c.of(c.kinds[f]))
-    root = generate(c, "skeleton", twin, f)
+    root = generate(c, below(c), "skeleton", twin, f)
     tie = read(f"{root}/{c.below(f, '/')}/Tie.antt")
     names = dict(re.findall(r"^\s+Inv-(\S+) (.*) = \?$", read(f"{WORK}/{c.name}-skeleton.log"), flags=re.M))
     needs, loops = re.findall(r"abbrev pub Need-(\S+)", tie), re.findall(r"abbrev pub InvT-(\S+)", tie)

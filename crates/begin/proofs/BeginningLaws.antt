@@ -1,30 +1,24 @@
 -- How a call begins, step by step, and what holds of one that goes on. Assumes nothing.
-use borrow.Author.Tests.{le-ltb, lt-ltb, ltb-false, ltb-true, eq-eqb, ne-eqb, eqb-true}
-use mathlib.Core.Bool.{Bool, true, false, cond, _||_}
+use borrow.Author.Tests.{le-ltb, lt-ltb, eq-eqb, ne-eqb}
+use mathlib.Core.Bool.{Bool, true, false, cond}
 use mathlib.Core.List.{List}
 use mathlib.Core.Logic.{_≢_}
-use mathlib.Core.Path.{_≡_, refl, sym, ap, _∙_}
-use Prim.Native.Nat.{ℕ, _+_, _*_, _≤_, _<_}
-use native.Mathlib.Omega.{arith}
-use lib.Dec.{lit≤, ltb, eqb}
+use mathlib.Core.Path.{_≡_, sym, ap, _∙_}
+use Prim.Native.Nat.{ℕ, _≤_, _<_}
+use lib.Dec.{lit≤, eqb}
 use Rattle.map.specs.Places.{widthOf}
-use Rattle.stream.specs.Headers.{parseOf, Ruled}
+use Rattle.stream.specs.Headers.{parseOf}
 use Rattle.stream.specs.Streams.{openOf}
 use Rattle.stream.specs.declared.FujiHeader.{FujiHeader}
 use Rattle.stream.specs.declared.Parsed.{Parsed}
 use Rattle.stream.specs.declared.Parsed.the-variants as Parsing
 use Rattle.stream.specs.declared.Refusal.the-variants.{NoBlock, WrongSize, Lossy, WrongCount, ShortScratch}
-use Rattle.stream.proofs.HeaderLaws.{ruled}
-use Rattle.stream.proofs.StreamLaws.{opened}
-use Rattle.region.specs.Regions.{checkedOf, Accepted}
+use Rattle.region.specs.Regions.{checkedOf}
 use Rattle.region.specs.declared.Rect.{Rect}
-use Rattle.region.specs.declared.Checked.{Checked}
-use Rattle.region.specs.declared.Checked.the-variants as Check
-use Rattle.region.proofs.CheckLaws.{accepted}
 use Rattle.writing.specs.Sets.{setSize}
-use Rattle.begin.specs.Beginnings.{samplesNeeded, recordsNeeded, isShort, withScratch, begun, withRegion, withStream, regionBegins, wholeOf, isWhole, withSize, withPicture, imageBegins, withBlock, withOpened, tightBegins, withSet, withParsed, writingBegins}
-use Rattle.begin.specs.declared.Beginning.{Beginning}
-use Rattle.begin.specs.declared.Beginning.the-variants.{Refused, Nothing, Reading}
+use Rattle.begin.specs.Beginnings.{isShortScratch, withScratch, withRegion, withStream, regionBegins, wholeOf, isWhole, withSize, withPicture, imageBegins}
+use Rattle.begin.specs.Beginnings.{withBlock, withOpened, tightBegins, withSet, withParsed, writingBegins}
+use Rattle.begin.specs.declared.Beginning.the-variants.{Refused}
 
 -- the width is at most 512
 pub narrow : (xtrans : Bool) (w : ℕ) → w ≡ widthOf xtrans → w ≤ 512
@@ -53,10 +47,10 @@ writing-is d p e n a b = rw e
 -- ---- the steps
 
 module _ (h : FujiHeader) (a b : ℕ) where
-  pub scratch-short : isShort (h .xtrans) a b ≡ true → Parsing.Refused ShortScratch ≡ withScratch h a b
+  pub scratch-short : isShortScratch (h .xtrans) a b ≡ true → Parsing.Refused ShortScratch ≡ withScratch h a b
   scratch-short e = rw e
 
-  pub scratch-fits : isShort (h .xtrans) a b ≡ false → Parsing.Header h ≡ withScratch h a b
+  pub scratch-fits : isShortScratch (h .xtrans) a b ≡ false → Parsing.Header h ≡ withScratch h a b
   scratch-fits e = rw e
 
   pub no-block : (k : ℕ) → h .blocks ≤ k → Parsing.Refused NoBlock ≡ withBlock h k a b
@@ -66,8 +60,9 @@ module _ (h : FujiHeader) (a b : ℕ) where
   lossy-block k s e = rw (lt-ltb k (h .blocks) s, e)
 
   pub a-block : (k : ℕ) → k < h .blocks → h .lossless ≡ true → withScratch h a b ≡ withBlock h k a b
-  a-block k s e = sym (ap (λ (x : Bool). cond x (cond (h .lossless) (withScratch h a b) (Parsing.Refused Lossy)) (Parsing.Refused NoBlock)) (lt-ltb k (h .blocks) s)
-      ∙ ap (λ (x : Bool). cond x (withScratch h a b) (Parsing.Refused Lossy)) e)
+  a-block k s e =
+      let inner = cond (h .lossless) (withScratch h a b) (Parsing.Refused Lossy) in
+      sym (ap (λ (x : Bool). cond x inner (Parsing.Refused NoBlock)) (lt-ltb k (h .blocks) s) ∙ ap (λ (x : Bool). cond x (withScratch h a b) (Parsing.Refused Lossy)) e)
 
   pub lossy-set : (n : ℕ) → h .lossless ≡ false → Parsing.Refused Lossy ≡ withSet h n a b
   lossy-set n e = rw e
@@ -76,8 +71,8 @@ module _ (h : FujiHeader) (a b : ℕ) where
   set-size-is : (n : ℕ) (y : Bool) → h .lossless ≡ true → eqb n (setSize (widthOf (h .xtrans)) (h .lines)) ≡ y
       → cond y (withScratch h a b) (Parsing.Refused WrongCount) ≡ withSet h n a b
   set-size-is n y e f =
-      sym (ap (λ (x : Bool). cond x (cond (eqb n (setSize (widthOf (h .xtrans)) (h .lines))) (withScratch h a b) (Parsing.Refused WrongCount)) (Parsing.Refused Lossy)) e
-      ∙ ap (λ (x : Bool). cond x (withScratch h a b) (Parsing.Refused WrongCount)) f)
+      let inner = cond (eqb n (setSize (widthOf (h .xtrans)) (h .lines))) (withScratch h a b) (Parsing.Refused WrongCount) in
+      sym (ap (λ (x : Bool). cond x inner (Parsing.Refused Lossy)) e ∙ ap (λ (x : Bool). cond x (withScratch h a b) (Parsing.Refused WrongCount)) f)
 
   pub wrong-set : (n s : ℕ) → h .lossless ≡ true → s ≡ setSize (widthOf (h .xtrans)) (h .lines) → n ≢ s → Parsing.Refused WrongCount ≡ withSet h n a b
   wrong-set n s e es f = set-size-is n false e (rw (← es) (ne-eqb n s f))

@@ -2,8 +2,8 @@
 use borrow.Author.Tests.{ltb-false, ltb-true, eqb-true}
 use mathlib.Core.Bool.{Bool, true, false, cond, _||_}
 use mathlib.Core.List.{List}
-use mathlib.Core.Path.{_≡_, refl, sym, ap, _∙_, subst}
-use Prim.Native.Nat.{ℕ, _+_, _*_, _≤_, _<_}
+use mathlib.Core.Path.{_≡_, refl, ap, _∙_, subst}
+use Prim.Native.Nat.{ℕ, _≤_, _<_}
 use native.Mathlib.Omega.{arith}
 use lib.Dec.{ltb, eqb}
 use Rattle.map.specs.Places.{widthOf}
@@ -22,116 +22,119 @@ use Rattle.region.specs.declared.Checked.{Checked}
 use Rattle.region.specs.declared.Checked.the-variants as Check
 use Rattle.region.proofs.CheckLaws.{accepted}
 use Rattle.writing.specs.Sets.{setSize}
-use Rattle.begin.specs.Beginnings.{samplesNeeded, recordsNeeded, withScratch, begun, withRegion, withStream, regionBegins, wholeOf, isWhole, withSize, withPicture, imageBegins, withBlock, withOpened, tightBegins, withSet, withParsed, writingBegins}
-use Rattle.begin.specs.declared.Beginning.{Beginning}
-use Rattle.begin.specs.declared.Beginning.the-variants.{Refused, Nothing, Reading}
+use Rattle.begin.specs.Beginnings.{samplesNeeded, recordsNeeded, withScratch, begun, withRegion, withStream, regionBegins, wholeOf, isWhole, withPicture}
+use Rattle.begin.specs.Beginnings.{imageBegins, withOpened, tightBegins, withParsed, writingBegins}
+use Rattle.begin.specs.declared.Beginning.the-variants.{Refused, Reading}
 
 -- ---- scratch is long enough
 
-pub record Fits (h : FujiHeader) (samples records : ℕ) : Type 0 where
-  pub lines : samplesNeeded (h .xtrans) ≤ samples
-  pub records-fit : recordsNeeded ≤ records
+pub record ScratchFits (h : FujiHeader) (samples records : ℕ) : Type 0 where
+  pub for-lines : samplesNeeded (h .xtrans) ≤ samples
+  pub for-records : recordsNeeded ≤ records
 
 clash : {X : Type 0} (x : Refusal) (h : FujiHeader) → Parsing.Refused x ≡ Parsing.Header h → X
 clash x h e = absurd (let no : _≡_ {A = ℕ} 0 1 = cc in omega arith)
 
-scratch-fits : (g h : FujiHeader) (a b : ℕ) → withScratch g a b ≡ Parsing.Header h → (g ≡ h) × Fits g a b
+scratch-fits : (g h : FujiHeader) (a b : ℕ) → withScratch g a b ≡ Parsing.Header h → (g ≡ h) × ScratchFits g a b
 scratch-fits g h a b = go (ltb a (samplesNeeded (g .xtrans))) (ltb b recordsNeeded) refl refl
   where
     go : (s t : Bool) → ltb a (samplesNeeded (g .xtrans)) ≡ s → ltb b recordsNeeded ≡ t
-        → cond (s || t) (Parsing.Refused ShortScratch) (Parsing.Header g) ≡ Parsing.Header h → (g ≡ h) × Fits g a b
+        → cond (s || t) (Parsing.Refused ShortScratch) (Parsing.Header g) ≡ Parsing.Header h → (g ≡ h) × ScratchFits g a b
     go true t p q e = clash ShortScratch h e
     go false true p q e = clash ShortScratch h e
-    go false false p q e = (cc, record { lines = ltb-false a (samplesNeeded (g .xtrans)) p; records-fit = ltb-false b recordsNeeded q })
+    go false false p q e = (cc, record { for-lines = ltb-false a (samplesNeeded (g .xtrans)) p; for-records = ltb-false b recordsNeeded q })
 
 -- ---- decoding
 
-pub record RegionRead (d : List ℕ) (r : Rect) (image samples records : ℕ) (h : FujiHeader) : Type 0 where
+pub record RegionAccepted (d : List ℕ) (r : Rect) (image samples records : ℕ) (h : FujiHeader) : Type 0 where
   pub opens : openOf d ≡ Parsing.Header h
   pub region : Accepted h r image
-  pub fits : Fits h samples records
+  pub fits : ScratchFits h samples records
 
 module _ (d : List ℕ) (r : Rect) (n a b : ℕ) (h : FujiHeader) where
-  begun-reads : (g : FujiHeader) (p : Parsed) → withScratch g a b ≡ p → begun p ≡ Reading h → (g ≡ h) × Fits g a b
+  begun-reads : (g : FujiHeader) (p : Parsed) → withScratch g a b ≡ p → begun p ≡ Reading h → (g ≡ h) × ScratchFits g a b
   begun-reads g (Parsing.Refused x) e f = absurd (let no : _≡_ {A = ℕ} 0 1 = cc in omega arith)
   begun-reads g (Parsing.Header k) e f = let i : k ≡ h = cc in scratch-fits g h a b (e ∙ ap Parsing.Header i)
 
-  checked-reads : (g : FujiHeader) → openOf d ≡ Parsing.Header g → (k : Checked) → checkedOf g r n ≡ k → withRegion g k a b ≡ Reading h → RegionRead d r n a b h
+  checked-reads : (g : FujiHeader) → openOf d ≡ Parsing.Header g → (k : Checked) → checkedOf g r n ≡ k → withRegion g k a b ≡ Reading h
+      → RegionAccepted d r n a b h
   checked-reads g o (Check.Refused x) c e = absurd (let no : _≡_ {A = ℕ} 0 1 = cc in omega arith)
   checked-reads g o Check.Empty c e = absurd (let no : _≡_ {A = ℕ} 0 1 = cc in omega arith)
   checked-reads g o (Check.Touched s) c e =
       let f = begun-reads g (withScratch g a b) refl e in
-      subst (λ (x : FujiHeader). RegionRead d r n a b x) (f .0) (record { opens = o; region = accepted g r n s (opened d g o .ruled) c .0; fits = f .1 })
+      subst (λ (x : FujiHeader). RegionAccepted d r n a b x) (f .0)
+      (record { opens = o; region = accepted g r n s (opened d g o .ruled) c .0; fits = f .1 })
 
-  pub region-reads : regionBegins d r n a b ≡ Reading h → RegionRead d r n a b h
+  pub region-reads : regionBegins d r n a b ≡ Reading h → RegionAccepted d r n a b h
   unfolding regionBegins
   region-reads = from (openOf d) refl
     where
-      from : (p : Parsed) → openOf d ≡ p → withStream p r n a b ≡ Reading h → RegionRead d r n a b h
+      from : (p : Parsed) → openOf d ≡ p → withStream p r n a b ≡ Reading h → RegionAccepted d r n a b h
       from (Parsing.Refused x) o e = absurd (let no : _≡_ {A = ℕ} 0 1 = cc in omega arith)
       from (Parsing.Header g) o e = checked-reads g o (checkedOf g r n) refl e
 
-pub image-reads : (d : List ℕ) (w k n a b : ℕ) (h : FujiHeader) → imageBegins d w k n a b ≡ Reading h → RegionRead d (wholeOf w k) n a b h
+pub image-reads : (d : List ℕ) (w k n a b : ℕ) (h : FujiHeader) → imageBegins d w k n a b ≡ Reading h → RegionAccepted d (wholeOf w k) n a b h
 unfolding imageBegins
 image-reads d w k n a b h = from (openOf d) refl
   where
     sized : (g : FujiHeader) → openOf d ≡ Parsing.Header g → (s : Bool)
-        → cond s (withRegion g (checkedOf g (wholeOf w k) n) a b) (Refused WrongSize) ≡ Reading h → RegionRead d (wholeOf w k) n a b h
+        → cond s (withRegion g (checkedOf g (wholeOf w k) n) a b) (Refused WrongSize) ≡ Reading h → RegionAccepted d (wholeOf w k) n a b h
     sized g o true e = checked-reads d (wholeOf w k) n a b h g o (checkedOf g (wholeOf w k) n) refl e
     sized g o false e = absurd (let no : _≡_ {A = ℕ} 0 1 = cc in omega arith)
 
-    from : (p : Parsed) → openOf d ≡ p → withPicture p w k n a b ≡ Reading h → RegionRead d (wholeOf w k) n a b h
+    from : (p : Parsed) → openOf d ≡ p → withPicture p w k n a b ≡ Reading h → RegionAccepted d (wholeOf w k) n a b h
     from (Parsing.Refused x) o e = absurd (let no : _≡_ {A = ℕ} 0 1 = cc in omega arith)
     from (Parsing.Header g) o e = sized g o (isWhole g w k) e
 
 -- ---- the tight reading
 
-pub record TightRead (d : List ℕ) (b samples records : ℕ) (h : FujiHeader) : Type 0 where
+pub record BlockAccepted (d : List ℕ) (b samples records : ℕ) (h : FujiHeader) : Type 0 where
   pub opens : openOf d ≡ Parsing.Header h
   pub lossless : h .lossless ≡ true
   pub block : b < h .blocks
-  pub fits : Fits h samples records
+  pub fits : ScratchFits h samples records
 
 module _ (d : List ℕ) (k a b : ℕ) (h : FujiHeader) where
   block-reads : (g : FujiHeader) → openOf d ≡ Parsing.Header g → (s t : Bool) → ltb k (g .blocks) ≡ s → g .lossless ≡ t
-      → cond s (cond t (withScratch g a b) (Parsing.Refused Lossy)) (Parsing.Refused NoBlock) ≡ Parsing.Header h → TightRead d k a b h
+      → cond s (cond t (withScratch g a b) (Parsing.Refused Lossy)) (Parsing.Refused NoBlock) ≡ Parsing.Header h → BlockAccepted d k a b h
   block-reads g o false t p q e = clash NoBlock h e
   block-reads g o true false p q e = clash Lossy h e
   block-reads g o true true p q e =
       let f = scratch-fits g h a b e in
-      subst (λ (x : FujiHeader). TightRead d k a b x) (f .0) (record { opens = o; lossless = q; block = ltb-true k (g .blocks) p; fits = f .1 })
+      subst (λ (x : FujiHeader). BlockAccepted d k a b x) (f .0)
+      (record { opens = o; lossless = q; block = ltb-true k (g .blocks) p; fits = f .1 })
 
-  pub tight-reads : tightBegins d k a b ≡ Parsing.Header h → TightRead d k a b h
+  pub tight-reads : tightBegins d k a b ≡ Parsing.Header h → BlockAccepted d k a b h
   unfolding tightBegins
   tight-reads = from (openOf d) refl
     where
-      from : (p : Parsed) → openOf d ≡ p → withOpened p k a b ≡ Parsing.Header h → TightRead d k a b h
+      from : (p : Parsed) → openOf d ≡ p → withOpened p k a b ≡ Parsing.Header h → BlockAccepted d k a b h
       from (Parsing.Refused x) o e = clash x h e
       from (Parsing.Header g) o e = block-reads g o (ltb k (g .blocks)) (g .lossless) refl refl e
 
 -- ---- the writer
 
-pub record SetWritten (d : List ℕ) (count samples records : ℕ) (h : FujiHeader) : Type 0 where
+pub record SetAccepted (d : List ℕ) (count samples records : ℕ) (h : FujiHeader) : Type 0 where
   pub parses : parseOf d ≡ Parsing.Header h
   pub is-ruled : Ruled h
   pub lossless : h .lossless ≡ true
   pub size : count ≡ setSize (widthOf (h .xtrans)) (h .lines)
-  pub fits : Fits h samples records
+  pub fits : ScratchFits h samples records
 
 module _ (d : List ℕ) (n a b : ℕ) (h : FujiHeader) where
   set-writes : (g : FujiHeader) → parseOf d ≡ Parsing.Header g → (s t : Bool) → g .lossless ≡ s → eqb n (setSize (widthOf (g .xtrans)) (g .lines)) ≡ t
-      → cond s (cond t (withScratch g a b) (Parsing.Refused WrongCount)) (Parsing.Refused Lossy) ≡ Parsing.Header h → SetWritten d n a b h
+      → cond s (cond t (withScratch g a b) (Parsing.Refused WrongCount)) (Parsing.Refused Lossy) ≡ Parsing.Header h → SetAccepted d n a b h
   set-writes g o false t p q e = clash Lossy h e
   set-writes g o true false p q e = clash WrongCount h e
   set-writes g o true true p q e =
       let f = scratch-fits g h a b e in
-      subst (λ (x : FujiHeader). SetWritten d n a b x) (f .0)
+      subst (λ (x : FujiHeader). SetAccepted d n a b x) (f .0)
       (record { parses = o; is-ruled = ruled d g o; lossless = p; size = eqb-true n (setSize (widthOf (g .xtrans)) (g .lines)) q; fits = f .1 })
 
-  pub writing-goes : writingBegins d n a b ≡ Parsing.Header h → SetWritten d n a b h
+  pub writing-goes : writingBegins d n a b ≡ Parsing.Header h → SetAccepted d n a b h
   unfolding writingBegins
   writing-goes = from (parseOf d) refl
     where
-      from : (p : Parsed) → parseOf d ≡ p → withParsed p n a b ≡ Parsing.Header h → SetWritten d n a b h
+      from : (p : Parsed) → parseOf d ≡ p → withParsed p n a b ≡ Parsing.Header h → SetAccepted d n a b h
       from (Parsing.Refused x) o e = clash x h e
       from (Parsing.Header g) o e = set-writes g o (g .lossless) (eqb n (setSize (widthOf (g .xtrans)) (g .lines))) refl refl e

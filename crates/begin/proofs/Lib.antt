@@ -1,2 +1,3 @@
 pub mod BeginningLaws
 pub mod CallLaws
+pub mod SampleLaws

@@ -1,9 +1,10 @@
 -- How a call begins: a refusal, nothing to do, or a header to go by. A call that is refused touches no buffer. Refusals come in the order of their
 -- numbers. Assumes nothing.
 use mathlib.Core.Bool.{Bool, cond, _&&_, _||_}
-use mathlib.Core.List.{List}
-use Prim.Native.Nat.{ℕ, _+_, _*_}
-use lib.Dec.{ltb, eqb}
+use mathlib.Core.List.{List, [], _∷_}
+use mathlib.Core.Option.{Option, none, some}
+use Prim.Native.Nat.{ℕ, suc, _+_, _*_}
+use lib.Dec.{leb, ltb, eqb}
 use Rattle.map.specs.Places.{widthOf}
 use Rattle.stream.specs.Headers.{parseOf}
 use Rattle.stream.specs.Streams.{openOf}
@@ -29,12 +30,12 @@ abbrev pub recordsNeeded : ℕ
 recordsNeeded = 336
 
 -- with so many samples and records lent
-abbrev pub isShort : Bool → ℕ → ℕ → Bool
-isShort xtrans samples records = ltb samples (samplesNeeded xtrans) || ltb records recordsNeeded
+abbrev pub isShortScratch : Bool → ℕ → ℕ → Bool
+isShortScratch xtrans samples records = ltb samples (samplesNeeded xtrans) || ltb records recordsNeeded
 
 -- refusal 10, or the header
 abbrev pub withScratch : FujiHeader → ℕ → ℕ → Parsed
-withScratch h samples records = cond (isShort (h .xtrans) samples records) (Parsing.Refused ShortScratch) (Parsing.Header h)
+withScratch h samples records = cond (isShortScratch (h .xtrans) samples records) (Parsing.Refused ShortScratch) (Parsing.Header h)
 
 -- ---- decoding a region
 
@@ -110,3 +111,8 @@ withParsed (Parsing.Header h) count samples records = withSet h count samples re
 
 unfoldable pub writingBegins : List ℕ → ℕ → ℕ → ℕ → Parsed
 writingBegins d count samples records = withParsed (parseOf d) count samples records
+
+-- the lowest index, from i on, of a sample above M
+unfoldable pub firstAbove : ℕ → ℕ → List ℕ → Option ℕ
+firstAbove M i [] = none
+firstAbove M i (v ∷ t) = cond (leb v M) (firstAbove M (suc i) t) (some i)

@@ -1,13 +1,15 @@
 // How a call begins: judged from the stream and from the sizes of what is lent, before a buffer is touched.
 ghost use mathlib.Core.Path.{_≡_};
+ghost use mathlib.Core.Bool.{cond};
+ghost use mathlib.Core.Option.{none, some};
 ghost use Prim.Native.Nat.{_≤_};
-ghost use Rattle.stream.specs.Headers.{parseOf};
-ghost use Rattle.stream.specs.Streams.{openOf};
+ghost use lib.Dec.{ltb};
+ghost use lib.ListN.{length};
 ghost use Rattle.region.specs.Regions.{checkedOf};
 ghost use Rattle.writing.specs.Sets.{setSize};
 ghost use Rattle.map.specs.Places.{widthOf};
-ghost use Rattle.begin.specs.Beginnings.{samplesNeeded, isShort, withScratch, begun, withRegion, regionBegins, wholeOf, isWhole, withSize, imageBegins};
-ghost use Rattle.begin.specs.Beginnings.{withBlock, tightBegins, withSet, writingBegins};
+ghost use Rattle.begin.specs.Beginnings.{samplesNeeded, isShortScratch, withScratch, begun, withRegion, regionBegins, wholeOf, isWhole, withSize, imageBegins};
+ghost use Rattle.begin.specs.Beginnings.{withBlock, tightBegins, withSet, writingBegins, firstAbove};
 use region::Checked;
 use region::Rect;
 use stream::FujiHeader;
@@ -29,8 +31,8 @@ pub fn samples_needed(xtrans: bool) -> usize
     18 * (map::width(xtrans) + 2)
 }
 
-fn is_short(xtrans: bool, samples: usize, records: usize) -> bool
-    ensures { λ r. ⌜ r ≡ isShort xtrans samples records ⌝ }
+fn is_short_scratch(xtrans: bool, samples: usize, records: usize) -> bool
+    ensures { λ r. ⌜ r ≡ isShortScratch xtrans samples records ⌝ }
 {
     (samples < samples_needed(xtrans)) | (records < 336)
 }
@@ -39,7 +41,7 @@ fn is_short(xtrans: bool, samples: usize, records: usize) -> bool
 fn with_scratch(h: FujiHeader, samples: usize, records: usize) -> Parsed
     ensures { λ r. ⌜ r ≡ withScratch h samples records ⌝ }
 {
-    if is_short(h.xtrans, samples, records) {
+    if is_short_scratch(h.xtrans, samples, records) {
         return Parsed::Refused(Refusal::ShortScratch);
     }
     Parsed::Header(h)
@@ -189,4 +191,25 @@ pub fn writing_begins(header: &[u8], count: usize, samples: usize, records: usiz
         Parsed::Refused(x) => Parsed::Refused(x),
         Parsed::Header(h) => writing_in(h, count, samples, records),
     }
+}
+
+// Refusal 11: the lowest index of a sample above m, or the length where there is none.
+pub fn first_above(samples: &[u16], m: u32) -> usize
+    ensures { λ r. ⌜ firstAbove m 0 (now (samples .entry)) ≡ cond (ltb r (length (now (samples .entry)))) (some r) none ⌝ }
+{
+    let mut i: usize = 0;
+    while i < samples.len() {
+        if m < numbers::u16_to_u32(samples[i]) {
+            return i;
+        }
+        i = i + 1;
+    }
+    i
+}
+
+// Refusal 13, for a block of so many bytes.
+pub fn is_short(room: usize, needed: usize) -> bool
+    ensures { λ r. ⌜ r ≡ ltb room needed ⌝ }
+{
+    room < needed
 }

@@ -1,10 +1,12 @@
 // The bits of a block: most significant first, zeros after the end. There is no cache: eight bytes are loaded where the position stands.
 ghost use mathlib.Core.Path.{_≡_};
 ghost use Prim.Native.Nat.{_+_, _*_, _/_, _^_, _≤_, _<_, min};
+ghost use lib.Dec.{ltb};
 ghost use lib.ListN.{length, getD};
 ghost use Rattle.bits.specs.Bits.{bitsAt, wordAt, zeroRun, afterRun, be32};
 ghost use Rattle.bits.specs.BitLists.{blockBytes, isTail, filled};
 ghost use Rattle.bits.specs.Pump.{ahead, aligned, nextBits, nextWord, movedTo};
+use numbers::u8_to_u64;
 
 // A place in a block, counted in bits from its start.
 pub struct BitPosition(pub u64);
@@ -59,17 +61,11 @@ impl BitPosition {
     }
 }
 
-fn wide(x: u8) -> u64
-    ensures { λ r. ⌜ (r ≡ x) × (r < 256) ⌝ }
-{
-    x as u64
-}
-
 // The byte at i, 0 past the end.
 fn byte_at(s: &[u8], i: usize) -> u64
     ensures { λ r. ⌜ (r ≡ getD (now (s .entry)) i 0) × (r < 256) ⌝ }
 {
-    if i < s.len() { wide(s[i]) } else { 0 }
+    if i < s.len() { u8_to_u64(s[i]) } else { 0 }
 }
 
 // The four bytes from i on. Sums of products, four bytes at a time: LLVM makes one load and one byte swap of two such groups.
@@ -77,7 +73,10 @@ pub fn load32(s: &[u8], i: usize) -> u64
     requires { ⌜ i + 4 ≤ length (now s) ⌝ }
     ensures { λ r. ⌜ (r ≡ be32 (now (s .entry)) i) × (r < 2 ^ 32) ⌝ }
 {
-    wide(s[i]) * 0x100_0000 + wide(s[i + 1]) * 0x1_0000 + wide(s[i + 2]) * 0x100 + wide(s[i + 3])
+    u8_to_u64(s[i]) * 0x100_0000
+        + u8_to_u64(s[i + 1]) * 0x1_0000
+        + u8_to_u64(s[i + 2]) * 0x100
+        + u8_to_u64(s[i + 3])
 }
 
 // The eight bytes from i on.
@@ -138,6 +137,15 @@ pub fn peek_at(s: &[u8], at: BitPosition, n: u32) -> u32
     let m = counted(n);
     let w = window(s, at.byte());
     (((w << (at.0 % 8)) >> 32) >> (32 - m)) as u32
+}
+
+// Whether more bits are consumed than the block has, and seven.
+pub fn is_past(block: &[u8], at: BitPosition) -> bool
+    requires { ⌜ length (now block) < 2 ^ 32 ⌝ }
+    ensures { λ r. ⌜ r ≡ ltb (8 * length (now (block .entry)) + 7) (at .0) ⌝ }
+{
+    let end = 8 * (block.len() as u64) + 7;
+    end < at.0
 }
 
 // Whether a tight block may end at this position: its length is the bits rounded up to a multiple of 16 bytes, and no one bit is left.
@@ -255,7 +263,9 @@ impl<'a> BitPumpMsb<'a> {
 
     // The next n bits, and moves on past them. A count above 32 is taken as 32.
     pub fn get(&mut self, n: u32) -> u32
-        ensures { λ r. ⌜ (r ≡ nextBits (now (self .entry)) n) × (now (self .exit) ≡ movedTo (now (self .entry)) (ahead (now (self .entry) .at .0) (min n 32))) ⌝ }
+        ensures { λ r.
+            ⌜ (r ≡ nextBits (now (self .entry)) n)
+            × (now (self .exit) ≡ movedTo (now (self .entry)) (ahead (now (self .entry) .at .0) (min n 32))) ⌝ }
     {
         let at = self.at;
         let v = peek_at(self.data, at, n);
@@ -266,7 +276,9 @@ impl<'a> BitPumpMsb<'a> {
     // The zeros up to the next one bit, and moves on past that bit. Where none is left it stays.
     pub fn zero_run(&mut self) -> ZeroRun
         requires { ⌜ length (now (now self .«data»)) < 2 ^ 58 ⌝ }
-        ensures { λ r. ⌜ (r ≡ zeroRun (now (now (self .entry) .«data»)) (now (self .entry) .at .0)) × (now (self .exit) ≡ movedTo (now (self .entry)) (afterRun (now (self .entry) .at .0) r)) ⌝ }
+        ensures { λ r.
+            ⌜ (r ≡ zeroRun (now (now (self .entry) .«data»)) (now (self .entry) .at .0))
+            × (now (self .exit) ≡ movedTo (now (self .entry)) (afterRun (now (self .entry) .at .0) r)) ⌝ }
     {
         let at = self.at;
         let run = zero_run(self.data, at);

@@ -19,29 +19,18 @@ use Rattle.quantiser.specs.Quantisers.{largest}
 use Rattle.stream.specs.declared.Refusal.the-variants.{AboveLargest, NotPredicted, ShortOutput}
 use Rattle.map.specs.Places.{widthOf}
 use Rattle.writing.specs.Sets.{setSize}
-use Rattle.writing.specs.Puts.{putBits, Room, Within}
+use Rattle.output.specs.Output.{putBits}
+use Rattle.writing.specs.Puts.{Room, Within}
+use Rattle.begin.specs.Beginnings.{firstAbove}
 use Rattle.writing.specs.declared.Put.{Put}
 use Rattle.writing.specs.declared.Put.the-variants.{At, Wrong}
 use Rattle.block.specs.WrittenBlocks.{writeLines, tightBlock, FitSet}
-use Rattle.block.specs.WrittenAnswers.{IsSetPut, SetWritten, firstAbove, predictedAnswer, rangeAnswer, measuredAnswer, writtenAnswer}
+use Rattle.block.specs.WrittenAnswers.{IsSetPut, SetWritten, predictedAnswer, rangeAnswer, measuredAnswer, writtenAnswer}
 use Rattle.block.specs.declared.Form.{Form}
 use Rattle.block.specs.declared.Written.{Written}
 use Rattle.block.specs.declared.Written.the-variants.{Length, Refused}
 
--- ---- the first sample above M
-
-module _ (m : ℕ) (t : List ℕ) (i : ℕ) (so-far : firstAbove m 0 t ≡ firstAbove m i (drop i t)) where
-  pub above-next : i < length t → getD t i 0 ≤ m → firstAbove m 0 t ≡ firstAbove m (i + 1) (drop (i + 1) t)
-  unfolding firstAbove
-  above-next h le = so-far ∙ rw (drop-cons t i 0 h, le-leb (getD t i 0) m le, add-one)
-
-  pub above-found : i < length t → m < getD t i 0 → firstAbove m 0 t ≡ cond (ltb i (length t)) (some i) none
-  unfolding firstAbove
-  above-found h lt = so-far ∙ rw (drop-cons t i 0 h, lt-leb (getD t i 0) m lt, lt-ltb i (length t) h)
-
-  pub above-none : length t ≤ i → firstAbove m 0 t ≡ cond (ltb i (length t)) (some i) none
-  unfolding firstAbove
-  above-none h = so-far ∙ rw (drop-of-length-le t h, le-ltb i (length t) h)
+-- ---- samples within M
 
 -- where there is none all are within M
 none-within : (m i : ℕ) (t : List ℕ) → firstAbove m i t ≡ none → Within m t

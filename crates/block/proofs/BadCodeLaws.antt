@@ -20,9 +20,10 @@ use Rattle.code.specs.declared.Code.{Code}
 use Rattle.code.specs.declared.Coded.{Coded}
 use Rattle.code.specs.declared.Coded.the-variants.{Read, Truncated}
 use Rattle.code.proofs.CodeLaws.{code-cases}
-use Rattle.pass.specs.Steps.{Step, planOf, passSteps}
-use Rattle.pass.specs.Readings.{usedQuantiser, noRecord, Reading, interpolate, take-code, taken, readStep, andThen, reads, readPass, stepPlace, stepContext, stepLook, stepSlot, stepCode}
-use Rattle.pass.specs.declared.Plan.{Plan}
+use Rattle.steps.specs.Steps.{Step, planOf, passSteps}
+use Rattle.steps.specs.Contexts.{usedQuantiser, noRecord, stepPlace, stepContext, stepLook, stepSlot}
+use Rattle.pass.specs.Readings.{Reading, interpolate, takeCode, taken, readStep, andThen, reads, readPass, stepCode}
+use Rattle.steps.specs.declared.Plan.{Plan}
 use Rattle.map.specs.Places.{widthOf}
 use Rattle.block.specs.Records.{baseOf}
 use Rattle.block.specs.Blocks.{State, runs, enter, leave, passAt, endLine, readLine, beforeLine, lineAt, startState, readLines, tightLines}
@@ -58,8 +59,11 @@ module _ (M : ℕ) (s : List ℕ) (p k limit raw z : ℕ) (t : Bool) where
   short-stays h =
       let v : ℕ = z * 2 ^ k + bitsAt s (p + z + 1) k in
       split v M
-      (λ l. rw (le-leb v M l, le-ltb M v l, le-ltb limit z (omega arith), lt-leb limit z h) (and-true t))
+      (λ l. rw (le-leb v M l, le-ltb M v l, lt-leb limit z h, le-ltb limit z (omega arith)) (and-true t))
       (λ l. rw (lt-leb v M l, lt-ltb M v l) (and-false t))
+
+  loose : (b : Bool) → t && (b && false) ≡ false
+  loose b = rw (and-false b) (and-false t)
 
   long-stays : limit ≤ z → t && isTight M (longCode s p k limit raw z) ≡ stays (reasonOf M k limit (longCode s p k limit raw z)) t
   unfolding isTight reasonOf
@@ -67,12 +71,12 @@ module _ (M : ℕ) (s : List ℕ) (p k limit raw z : ℕ) (t : Bool) where
       let v : ℕ = bitsAt s (p + z + 1) raw + 1 in
       split v M
       (λ l. rw (le-leb v M l, le-ltb M v l)
-      (split z limit
-      (λ e. rw (le-ltb limit z e, le-leb limit z h, eq-eqb z limit (omega arith))
       (split limit (v / 2 ^ k)
-      (λ f. rw (le-leb limit (v / 2 ^ k) f, le-ltb (v / 2 ^ k) limit f) (and-true t))
-      (λ f. rw (lt-leb limit (v / 2 ^ k) f, lt-ltb (v / 2 ^ k) limit f) (and-false t))))
+      (λ f. rw (le-leb limit (v / 2 ^ k) f, le-ltb (v / 2 ^ k) limit f, le-leb limit z h)
+      (split z limit
+      (λ e. rw (le-ltb limit z e, eq-eqb z limit (omega arith)) (and-true t))
       (λ e. rw (lt-ltb limit z e, ne-eqb z limit (λ q. omega arith)) (and-false t))))
+      (λ f. rw (lt-leb limit (v / 2 ^ k) f, lt-ltb (v / 2 ^ k) limit f, le-leb limit z h) (loose (eqb z limit)))))
       (λ l. rw (lt-leb v M l, lt-ltb M v l) (and-false t))
 
 -- a code that was read has a reason exactly if it is not tight
@@ -87,24 +91,25 @@ code-stays M s p k limit raw c t e =
     Stays : Code → Type 0
     Stays c = t && isTight M c ≡ stays (reasonOf M k limit c) t
 
--- worked examples, at 14 bits, lossless, with k 8: a one and eight ones; 41 zeros, a one and 14 zeros; a zero more; 41 zeros, a one and 14 ones
+-- worked examples, at 14 bits, lossless, with k 8: a one and eight ones; 41 zeros, a one and 14 zeros; a zero more; a zero more, with
+-- five ones and nine zeros after the one; 41 zeros, a one and 14 ones
 abbrev reasonAt : List ℕ → Option Reason
 reasonAt s = codedReason 16383 8 41 (codeAt s 0 8 41 14)
 
 pub examples : (reasonAt (0xFF ∷ 0x80 ∷ []) ≡ none) × (reasonAt (0 ∷ 0 ∷ 0 ∷ 0 ∷ 0 ∷ 0x40 ∷ 0 ∷ []) ≡ some short-fits)
-    × (reasonAt (0 ∷ 0 ∷ 0 ∷ 0 ∷ 0 ∷ 0x20 ∷ 0 ∷ []) ≡ some too-many-zeros) × (reasonAt (0 ∷ 0 ∷ 0 ∷ 0 ∷ 0 ∷ 0x7F ∷ 0xFF ∷ []) ≡ some too-large)
+    × (reasonAt (0 ∷ 0 ∷ 0 ∷ 0 ∷ 0 ∷ 0x20 ∷ 0 ∷ []) ≡ some short-fits) × (reasonAt (0 ∷ 0 ∷ 0 ∷ 0 ∷ 0 ∷ 0x3F ∷ 0 ∷ []) ≡ some too-many-zeros) × (reasonAt (0 ∷ 0 ∷ 0 ∷ 0 ∷ 0 ∷ 0x7F ∷ 0xFF ∷ []) ≡ some too-large)
 unfolding bitAt bitsAt zeros zeroRun codeAt reasonOf
-examples = (refl, refl, refl, refl)
+examples = (refl, refl, refl, refl, refl)
 
 -- ---- the steps of a pass
 
 module _ (bits q W : ℕ) (s : List ℕ) where
   -- the k of a step's code, and its quantiser
   abbrev pub stepK : Step → Reading → ℕ
-  stepK x r = kOf (getD (r .set) (stepSlot q W x r) noRecord)
+  stepK x r = kOf (getD (r .set) (stepSlot q W x (r .lines)) noRecord)
 
   abbrev pub stepQuantiser : Step → Reading → Quantiser
-  stepQuantiser x r = usedQuantiser bits q ((stepLook q W x r) .choice)
+  stepQuantiser x r = usedQuantiser bits q ((stepLook q W x (r .lines)) .choice)
 
   step-stays : (x : Step) (r z : Reading) → readStep bits q W s x r ≡ some z → z .tight ≡ stays (stepReason bits q W s x r) (r .tight)
   unfolding readStep stepReason
@@ -114,15 +119,15 @@ module _ (bits q W : ℕ) (s : List ℕ) where
       M = largest bits
 
       go : (b : Bool) (g : Coded) → stepCode bits q W s x r ≡ g
-          → cond b (taken bits q (stepPlace W x) (stepSlot q W x r) (stepContext W x r) (stepLook q W x r) r g) (some (interpolate (stepPlace W x) (stepContext W x r) r)) ≡ some z
+          → cond b (taken bits q (stepPlace W x) (stepSlot q W x (r .lines)) (stepContext W x (r .lines)) (stepLook q W x (r .lines)) r g) (some (interpolate (stepPlace W x) (stepContext W x (r .lines)) r)) ≡ some z
           → z .tight ≡ stays (cond b (codedReason M (stepK x r) ((stepQuantiser x r) .limit) g) none) (r .tight)
       go true Truncated eg f = let no : _≡_ {A = ℕ} 0 1 = cc in absurd (omega arith)
       go true (Read d) eg f =
-          let y : Reading = take-code bits q (stepPlace W x) (stepSlot q W x r) (stepContext W x r) (stepLook q W x r) d r in
+          let y : Reading = takeCode bits q (stepPlace W x) (stepSlot q W x (r .lines)) (stepContext W x (r .lines)) (stepLook q W x (r .lines)) d r in
           ap (λ (w : Reading). w .tight) (sym (Option·some-injective y z f))
           ∙ code-stays M s (r .at .0) (stepK x r) ((stepQuantiser x r) .limit) ((stepQuantiser x r) .raw) d (r .tight) eg
       go false g eg f =
-          let y : Reading = interpolate (stepPlace W x) (stepContext W x r) r in
+          let y : Reading = interpolate (stepPlace W x) (stepContext W x (r .lines)) r in
           ap (λ (w : Reading). w .tight) (sym (Option·some-injective y z f))
 
   module _ (n i : ℕ) where

@@ -11,8 +11,8 @@ use Rattle.bits.specs.declared.BitPosition.{BitPosition}
 use Rattle.statistics.specs.declared.Record.{Record}
 use Rattle.lines.specs.ColourLines.{zeroLines, turned}
 use Rattle.map.specs.Places.{widthOf}
-use Rattle.pass.specs.Readings.{quantisersOf}
-use Rattle.pass.specs.declared.Quantisers.{Quantisers}
+use Rattle.steps.specs.Values.{quantisersOf}
+use Rattle.steps.specs.declared.Quantisers.{Quantisers}
 use Rattle.block.specs.Blocks.{State, readLine, lineAt, beforeLine, startState, readLines, tightLines, IsLined, LineRead, ReadAll, CutAt}
 use Rattle.block.specs.Records.{startRecords, restartedMain, baseOf, isRestarted}
 use Rattle.block.specs.declared.Form.{Form}

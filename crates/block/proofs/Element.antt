@@ -31,7 +31,7 @@ use borrow.Table.Row
 use borrow.Table.Rows
 use borrow.Table.Copies
 use Rattle.statistics.specs.declared.Record as S
-use Rattle.pass.specs.Readings.{noRecord}
+use Rattle.steps.specs.Contexts.{noRecord}
 use Rattle.statistics.proofs.Record
 use Rattle.statistics.proofs.Record.Laws
 

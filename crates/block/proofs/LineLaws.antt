@@ -12,12 +12,14 @@ use Rattle.bits.specs.declared.BitPosition.{BitPosition}
 use Rattle.statistics.specs.declared.Record.{Record}
 use Rattle.lines.specs.ColourLines.{guarded}
 use Rattle.map.specs.Places.{widthOf}
-use Rattle.pass.specs.Readings.{Reading, readPass, andThen, recordsOf, PlanInRange, IsPassed}
-use Rattle.pass.specs.Steps.{planOf}
+use Rattle.steps.specs.Values.{recordsOf, PlanInRange}
+use Rattle.pass.specs.Readings.{Reading, readPass, andThen}
+use Rattle.pass.specs.Pairs.{IsPassed}
+use Rattle.steps.specs.Steps.{planOf}
 use Rattle.pass.specs.declared.Passed.{Passed}
-use Rattle.pass.specs.declared.Plan.{Plan}
-use Rattle.pass.specs.declared.Set.{Set}
-use Rattle.pass.proofs.ScheduleLaws.{plan-in-range}
+use Rattle.steps.specs.declared.Plan.{Plan}
+use Rattle.steps.specs.declared.Set.{Set}
+use Rattle.steps.proofs.ScheduleLaws.{plan-in-range}
 use Rattle.block.specs.Blocks.{State, runs, enter, leave, passAt, readLine}
 use Rattle.block.specs.Records.{setOf, putSet}
 use Rattle.block.specs.declared.Form.{Form}
@@ -36,12 +38,12 @@ width-in-range false w e = rw e (lit≤ tt, lit≤ tt, refl)
 
 passed-none : (o : Option Reading) (lines : List ℕ) (r : Passed) → IsPassed o lines r → r .ok ≡ false → o ≡ none
 passed-none none lines r p e = refl
-passed-none (some z) lines r p e = absurd (false≢true (sym e ∙ p .0))
+passed-none (some z) lines r p e = absurd (false≢true (sym e ∙ p .ok))
 
 passed-some : (o : Option Reading) (lines : List ℕ) (r : Passed) → IsPassed o lines r → r .ok ≡ true
     → o ≡ some (record { lines = lines; set = recordsOf (r .set); at = r .at; tight = r .tight })
 passed-some none lines r p e = absurd (false≢true (sym p ∙ e))
-passed-some (some z) lines r p e = rw (p .1, p .2, p .3, p .4)
+passed-some (some z) lines r p e = rw (p .lines, p .records, p .at, p .tight)
 
 -- ---- one turn of the loop over the passes
 

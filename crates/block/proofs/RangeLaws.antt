@@ -14,8 +14,9 @@ use Rattle.statistics.specs.declared.Record.{Record}
 use Rattle.statistics.proofs.RecordLaws.{start-in-range}
 use Rattle.quantiser.specs.Quantisers.{quantiserOf, startSum}
 use Rattle.quantiser.proofs.QuantiserLaws.{total-le}
-use Rattle.pass.specs.Readings.{noRecord, SetInRange}
-use Rattle.pass.proofs.ZipLaws.{set-keeps}
+use Rattle.steps.specs.Contexts.{noRecord}
+use Rattle.steps.specs.Values.{SetInRange}
+use Rattle.steps.proofs.ZipLaws.{set-keeps}
 use Rattle.block.specs.Records.{startRecord, startRecords, restartedMain, setOf, putSet}
 use Rattle.block.specs.Blocks.{AllInRange}
 use Rattle.block.proofs.TableLaws.{table-getD}

@@ -12,10 +12,11 @@ use Rattle.quantiser.specs.Quantisers.{largest}
 use Rattle.lines.specs.ColourLines.{leftGuard, guarded, moved, turned}
 use Rattle.map.specs.Places.{widthOf}
 use Rattle.pass.specs.Readings.{Reading, readPass}
-use Rattle.pass.specs.Steps.{planOf}
-use Rattle.pass.specs.declared.Plan.{Plan}
-use Rattle.pass.proofs.RangeLaws.{AllLe, pass-keeps}
-use Rattle.pass.proofs.ZipLaws.{set-keeps}
+use Rattle.steps.specs.Steps.{planOf}
+use Rattle.steps.specs.declared.Plan.{Plan}
+use Rattle.steps.proofs.ContextLaws.{AllLe}
+use Rattle.pass.proofs.RangeLaws.{pass-keeps}
+use Rattle.steps.proofs.ZipLaws.{set-keeps}
 use Rattle.block.specs.Blocks.{State, runs, enter, leave, passAt, endLine, readLine, beforeLine, lineAt, startState, readLines}
 use Rattle.block.specs.Records.{baseOf}
 use Rattle.block.specs.declared.Form.{Form}

@@ -7,8 +7,9 @@ use native.Mathlib.Omega.{arith}
 use lib.ListN.{length, getD, set, take, drop, length-drop}
 use lib.Seq.{take-all, take-suc, take-suc-set, getD-drop, getD-take, paste, paste-suc}
 use Rattle.statistics.specs.declared.Record.{Record}
-use Rattle.pass.specs.Readings.{zipRecords, noRecord}
-use Rattle.pass.proofs.ZipLaws.{zip-length, zip-getD, zip-set}
+use Rattle.steps.specs.Contexts.{noRecord}
+use Rattle.steps.specs.Values.{zipRecords}
+use Rattle.steps.proofs.ZipLaws.{zip-length, zip-getD, zip-set}
 use Rattle.block.specs.Records.{setOf, putSet}
 
 -- ---- a set that is taken out, record by record

@@ -15,10 +15,10 @@ use Rattle.quantiser.specs.Quantisers.{largest}
 use Rattle.lines.specs.ColourLines.{zeroLines, guarded, turned}
 use Rattle.map.specs.Places.{widthOf}
 use Rattle.map.proofs.PlaceLaws.{width-le}
-use Rattle.pass.specs.Readings.{recordsOf}
-use Rattle.pass.specs.Steps.{planOf}
-use Rattle.pass.specs.declared.Plan.{Plan}
-use Rattle.pass.specs.declared.Set.{Set}
+use Rattle.steps.specs.Values.{recordsOf}
+use Rattle.steps.specs.Steps.{planOf}
+use Rattle.steps.specs.declared.Plan.{Plan}
+use Rattle.steps.specs.declared.Set.{Set}
 use Rattle.writing.specs.Sets.{lineSize, setSize}
 use Rattle.writing.specs.Puts.{putIf, Room, Within, IsPassPut}
 use Rattle.writing.specs.Writings.{Writing, writePass}
@@ -26,7 +26,7 @@ use Rattle.writing.specs.declared.PassPut.{PassPut}
 use Rattle.writing.specs.declared.Put.{Put}
 use Rattle.writing.specs.declared.Put.the-variants.{At, Wrong}
 use Rattle.writing.proofs.PassLaws.{pass-within, pass-wrong, pass-short}
-use Rattle.writing.proofs.PutLaws.{put-none, put-more}
+use Rattle.output.proofs.PutLaws.{put-none, put-more}
 use Rattle.block.specs.Records.{startRecords, restartedMain, isRestarted, setOf, putSet}
 use Rattle.block.specs.WrittenBlocks.{WriteState, repeats, enterWriting, writePassAt, beforeWriting, writeLine, startWriting, writeLines}
 use Rattle.block.specs.WrittenAnswers.{passesFrom, IsLinePut, LineWritten, SetWritten}
@@ -254,8 +254,8 @@ module _ (F : Form) (t : List ℕ) (n : ℕ) (lines₀ : List ℕ) (rs₀ : List
         where
           go : (o : Option ℕ) → IsPassPut o own (at .0) store out₁ lines' out' d
               → IsLinePut o part (at .0) store out₁ lines' (putSet (P .set) (recordsOf (d .set)) rs) out' (cond (d .ok) (At (d .at)) (Wrong (d .wrong)))
-          go none p = (rw (p .0, p .3), p .1, rw (p .2) refl, p .4)
-          go (some j) p = (rw (p .0, p .1), p .2)
+          go none p = (rw (p .ok, p .at), p .lines, rw (p .records) refl, p .output)
+          go (some j) p = (rw (p .ok, p .index), p .output)
 
       told-right : d .ok ≡ true → told ≡ At (d .at)
       unfolding told

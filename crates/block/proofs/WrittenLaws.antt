@@ -5,8 +5,8 @@ use mathlib.Core.Option.{none}
 use mathlib.Core.Path.{_≡_, refl, ap}
 use Prim.Native.Nat.{ℕ, zero, suc}
 use Rattle.map.specs.Places.{widthOf}
-use Rattle.pass.specs.Steps.{planOf, passSteps}
-use Rattle.pass.specs.declared.Plan.{Plan}
+use Rattle.steps.specs.Steps.{planOf, passSteps}
+use Rattle.steps.specs.declared.Plan.{Plan}
 use Rattle.writing.specs.Writings.{writePass}
 use Rattle.writing.proofs.WriteLaws.{pass-after, writes-right}
 use Rattle.block.specs.WrittenBlocks.{WriteState, repeats, enterWriting, leaveWriting, writePassAt, beforeWriting, writeLine, writeLines}

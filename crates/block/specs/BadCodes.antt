@@ -11,8 +11,9 @@ use Rattle.quantiser.specs.Quantisers.{largest}
 use Rattle.code.specs.declared.Code.{Code}
 use Rattle.code.specs.declared.Coded.{Coded}
 use Rattle.code.specs.declared.Coded.the-variants.{Read, Truncated}
-use Rattle.pass.specs.Steps.{Step, planOf, passSteps}
-use Rattle.pass.specs.Readings.{usedQuantiser, noRecord, Reading, readStep, andThen, stepLook, stepSlot, stepCode}
+use Rattle.steps.specs.Steps.{Step, planOf, passSteps}
+use Rattle.steps.specs.Contexts.{usedQuantiser, noRecord, stepLook, stepSlot}
+use Rattle.pass.specs.Readings.{Reading, readStep, andThen, stepCode}
 use Rattle.map.specs.Places.{widthOf}
 use Rattle.block.specs.Records.{baseOf}
 use Rattle.block.specs.Blocks.{State, runs, enter, passAt, beforeLine, lineAt, startState}
@@ -20,19 +21,19 @@ use Rattle.block.specs.declared.Form.{Form}
 
 -- ---- one code
 
--- why a code is bad: it is 2^bits or more; it has more zeros than the limit; it is long where the short form fits
+-- why a code is bad: it is 2^bits or more; it is long where the short form fits; it has more zeros than the limit
 pub data Reason : Type 0 where
   too-large : Reason
-  too-many-zeros : Reason
   short-fits : Reason
+  too-many-zeros : Reason
 
 -- the reason of a code that was read; none if it is tight. Where two apply, the one that stands first above is given. A code is long when its zeros
 -- reach the limit, and the short form fits if ⌊code/2^k⌋ is below the limit
 unfoldable pub reasonOf : ℕ → ℕ → ℕ → Code → Option Reason
 reasonOf M k limit c =
     cond (ltb M (c .value)) (some too-large)
-    (cond (ltb limit (c .zeros)) (some too-many-zeros)
-    (cond (leb limit (c .zeros) && ltb (c .value / 2 ^ k) limit) (some short-fits) none))
+    (cond (leb limit (c .zeros) && ltb (c .value / 2 ^ k) limit) (some short-fits)
+    (cond (ltb limit (c .zeros)) (some too-many-zeros) none))
 
 -- a code that is cut off is not called bad
 abbrev pub codedReason : ℕ → ℕ → ℕ → Coded → Option Reason
@@ -44,8 +45,8 @@ codedReason M k limit Truncated = none
 -- the reason of a step's code, which is the one that `readStep` takes; none if the step has no code
 unfoldable pub stepReason : ℕ → ℕ → ℕ → List ℕ → Step → Reading → Option Reason
 stepReason bits q W s x r =
-    let k = kOf (getD (r .set) (stepSlot q W x r) noRecord) in
-    let limit = (usedQuantiser bits q ((stepLook q W x r) .choice)) .limit in
+    let k = kOf (getD (r .set) (stepSlot q W x (r .lines)) noRecord) in
+    let limit = (usedQuantiser bits q ((stepLook q W x (r .lines)) .choice)) .limit in
     cond (x .coded) (codedReason (largest bits) k limit (stepCode bits q W s x r)) none
 
 -- a bad code: its line of six rows, its pass, 0 to 5, its step, which has the colour line and the position, its first bit, and the reason

@@ -9,10 +9,11 @@ use lib.ListN.{length, getD}
 use Rattle.bits.specs.declared.BitPosition.{BitPosition}
 use Rattle.statistics.specs.Statistics.{InRange}
 use Rattle.statistics.specs.declared.Record.{Record}
-use Rattle.pass.specs.Steps.{planOf}
-use Rattle.pass.specs.Readings.{Reading, readPass, andThen, noRecord}
-use Rattle.pass.specs.declared.Plan.{Plan}
-use Rattle.pass.specs.declared.Quantisers.{Quantisers}
+use Rattle.steps.specs.Steps.{planOf}
+use Rattle.pass.specs.Readings.{Reading, readPass, andThen}
+use Rattle.steps.specs.Contexts.{noRecord}
+use Rattle.steps.specs.declared.Plan.{Plan}
+use Rattle.steps.specs.declared.Quantisers.{Quantisers}
 use Rattle.map.specs.Places.{widthOf, pictureRow, inRows, emittedSample, Changed}
 use Rattle.map.specs.declared.Part.{Part}
 use Rattle.block.specs.Records.{baseOf, setOf, putSet}

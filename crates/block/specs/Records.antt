@@ -8,7 +8,7 @@ use lib.ListN.{getD, take, drop, replicate}
 use lib.Seq.{paste}
 use Rattle.statistics.specs.declared.Record.{Record}
 use Rattle.quantiser.specs.Quantisers.{startSum}
-use Rattle.pass.specs.Readings.{usedQuantiser, noRecord}
+use Rattle.steps.specs.Contexts.{usedQuantiser, noRecord}
 
 -- f 0, f 1, .. up to f (n − 1)
 unfoldable pub table : {A : Type 0} → (ℕ → A) → ℕ → List A

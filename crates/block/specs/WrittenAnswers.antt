@@ -1,10 +1,10 @@
 -- What a call of the writer answers and leaves. Assumes nothing.
 use mathlib.Core.Bool.{Bool, true, false, cond}
-use mathlib.Core.List.{List, [], _∷_, _++_}
+use mathlib.Core.List.{List, [], _++_}
 use mathlib.Core.Option.{Option, none, some}
 use mathlib.Core.Path.{_≡_}
-use Prim.Native.Nat.{ℕ, suc, _+_}
-use lib.Dec.{leb, ltb}
+use Prim.Native.Nat.{ℕ, _+_}
+use lib.Dec.{ltb}
 use lib.ListN.{length, drop}
 use Rattle.statistics.specs.declared.Record.{Record}
 use Rattle.quantiser.specs.Quantisers.{largest}
@@ -13,6 +13,7 @@ use Rattle.stream.specs.declared.Parsed.{Parsed}
 use Rattle.stream.specs.declared.Parsed.the-variants as Parsing
 use Rattle.stream.specs.declared.Refusal.the-variants.{AboveLargest, NotPredicted, ShortOutput}
 use Rattle.writing.specs.Puts.{putIf}
+use Rattle.begin.specs.Beginnings.{firstAbove}
 use Rattle.writing.specs.declared.Put.{Put}
 use Rattle.writing.specs.declared.Put.the-variants.{At, Wrong}
 use Rattle.block.specs.Images.{formOf}
@@ -47,11 +48,6 @@ pub record SetWritten (z : WriteState) (store : Bool) (out out' : List ℕ) (r :
   pub are : IsSetPut (z .wrong) z store out out' r
 
 -- ---- the answer
-
--- the lowest index, from i on, of a sample above M
-unfoldable pub firstAbove : ℕ → ℕ → List ℕ → Option ℕ
-firstAbove M i [] = none
-firstAbove M i (v ∷ t) = cond (leb v M) (firstAbove M (suc i) t) (some i)
 
 -- refusal 13, or the length of the tight block
 abbrev pub lengthAnswer : ℕ → ℕ → Written

@@ -8,8 +8,8 @@ use lib.ListN.{length, getD}
 use Rattle.bits.specs.BitLists.{bytesOf}
 use Rattle.statistics.specs.declared.Record.{Record}
 use Rattle.quantiser.specs.Quantisers.{largest}
-use Rattle.pass.specs.Steps.{planOf}
-use Rattle.pass.specs.declared.Plan.{Plan}
+use Rattle.steps.specs.Steps.{planOf}
+use Rattle.steps.specs.declared.Plan.{Plan}
 use Rattle.map.specs.Places.{widthOf}
 use Rattle.writing.specs.Sets.{setSize}
 use Rattle.writing.specs.Writings.{Writing, writePass}

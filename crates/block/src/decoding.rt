@@ -48,7 +48,9 @@ fn decode_blocks(
 ) -> Decoded
     requires { ⌜ (openOf (now d) ≡ Header h) × Accepted h r (length (now image)) ⌝ }
     requires { ⌜ ScratchOf (h .xtrans) (now lines) (now rs) ⌝ }
-    ensures { λ a. ⌜ (a ≡ answerOf (now (d .entry)) h r (lastBlock r + 1 - firstBlock r)) × Pictured (now (d .entry)) h r tile (lastBlock r + 1) (now (image .entry)) (now (image .exit)) ⌝ }
+    ensures { λ a.
+        ⌜ (a ≡ answerOf (now (d .entry)) h r (lastBlock r + 1 - firstBlock r))
+        × Pictured (now (d .entry)) h r tile (lastBlock r + 1) (now (image .entry)) (now (image .exit)) ⌝ }
     ensures { λ _. ⌜ (now (lines .exit) ≡ zeroLines (widthOf (h .xtrans))) × (now (rs .exit) ≡ clearRecords) ⌝ }
 {
     let span = region::span_of(r);
@@ -136,7 +138,9 @@ pub fn decode(
 
 // `decode_region` with scratch of its own, for whoever has none to lend.
 pub fn decode_region_alone(d: &[u8], r: Rect, tile: [u8; 36], image: &mut [u16]) -> Decoded
-    ensures { λ a. ⌜ LeftImage (now (d .entry)) r tile (regionBegins (now (d .entry)) r (length (now (image .entry))) 9252 336) (now (image .entry)) (now (image .exit)) a ⌝ }
+    ensures { λ a.
+        let begins = regionBegins (now (d .entry)) r (length (now (image .entry))) 9252 336 in
+        ⌜ LeftImage (now (d .entry)) r tile begins (now (image .entry)) (now (image .exit)) a ⌝ }
 {
     let mut lines = [0u16; 9252];
     let mut rs = [cleared(); 336];

@@ -1,12 +1,13 @@
 // Reading a block: six passes make a line, and lines make a block.
 ghost use mathlib.Core.Path.{_≡_};
 ghost use mathlib.Core.Bool.{cond, _&&_};
-ghost use Prim.Native.Nat.{_+_, _*_, _^_, _≤_, _<_};
-ghost use lib.Dec.{ltb, eqb};
+ghost use Prim.Native.Nat.{_+_, _^_, _≤_, _<_};
+ghost use lib.Dec.{eqb};
 ghost use lib.ListN.{length};
 ghost use Rattle.lines.specs.ColourLines.{zeroLines};
 ghost use Rattle.map.specs.Places.{widthOf, ArePlaces, Fits};
-ghost use Rattle.pass.specs.Readings.{quantisersOf, Depth};
+ghost use Rattle.steps.specs.Values.{quantisersOf, Depth};
+ghost use Rattle.block.specs.Lent.{ScratchOf};
 ghost use Rattle.block.specs.Records.{baseOf, isRestarted, clearRecords};
 ghost use Rattle.block.specs.Blocks.{AllInRange, LineRead, Shown, shownLines, IsWalked};
 use crate::Form;
@@ -19,24 +20,19 @@ use crate::records::restart;
 use crate::records::start_records;
 use crate::records::store_set;
 use bits::BitPosition;
+use bits::is_past;
 use map::Part;
 use map::width;
-use pass::Quantisers;
 use quantiser::Quantiser;
 use statistics::Record;
-
-fn wide(x: u8) -> u32
-    ensures { λ r. ⌜ (r ≡ x) × (r < 256) ⌝ }
-{
-    x as u32
-}
+use steps::Quantisers;
 
 // The base of line n; a lossless block has none, and base 0 in each line.
 fn base_of(bases: &[u8], n: usize) -> u32
     ensures { λ r. ⌜ (r ≡ baseOf (now (bases .entry)) n) × (r < 256) ⌝ }
 {
     if n < bases.len() {
-        return wide(bases[n]);
+        return numbers::u8_to_u32(bases[n]);
     }
     0
 }
@@ -66,15 +62,6 @@ fn quantisers_of(bits: u32, base: u32) -> Quantisers
     }
 }
 
-// Whether more bits are consumed than the block has, and seven.
-fn is_past(block: &[u8], at: BitPosition) -> bool
-    requires { ⌜ length (now block) < 2 ^ 32 ⌝ }
-    ensures { λ r. ⌜ r ≡ ltb (8 * length (now (block .entry)) + 7) (at .0) ⌝ }
-{
-    let end = 8 * (block.len() as u64) + 7;
-    end < at.0
-}
-
 // How many lines have only tight codes, after line n.
 fn tight_count(m: usize, n: usize, tight: bool) -> usize
     requires { ⌜ (m ≤ n) × (n < 2 ^ 16) ⌝ }
@@ -98,7 +85,7 @@ fn line(
     form: Form,
     qs: Quantisers,
 ) -> Lined
-    requires { ⌜ (length (now block) < 2 ^ 32) × ((length (now lines) ≡ 18 * (widthOf (form .xtrans) + 2)) × (length (now rs) ≡ 336)) ⌝ }
+    requires { ⌜ (length (now block) < 2 ^ 32) × ScratchOf (form .xtrans) (now lines) (now rs) ⌝ }
     requires { ⌜ Depth (form .bits) × ((qs .base < 256) × (qs ≡ quantisersOf (form .bits) (qs .base))) ⌝ }
     requires { ⌜ AllInRange (now rs) ⌝ }
     ensures { λ r. ⌜ LineRead form qs (now (block .entry)) from «tight_before» (now (lines .entry)) (now (rs .entry)) (now (lines .exit)) (now (rs .exit)) r ⌝ }
@@ -111,7 +98,7 @@ fn line(
     let mut tight = tight_before;
     let mut i: usize = 0;
     while i < 6 {
-        let p = pass::plan_at(i, xtrans);
+        let p = steps::plan_at(i, xtrans);
         lines::set_guards(lines, w, p.first);
         lines::set_guards(lines, w, p.second);
         let set = load_set(rs, p.set);
@@ -145,7 +132,7 @@ fn read_lines(
     part: Part,
     count: usize,
 ) -> Walked
-    requires { ⌜ (length (now block) < 2 ^ 32) × ((length (now lines) ≡ 18 * (widthOf (form .xtrans) + 2)) × (length (now rs) ≡ 336)) ⌝ }
+    requires { ⌜ (length (now block) < 2 ^ 32) × ScratchOf (form .xtrans) (now lines) (now rs) ⌝ }
     requires { ⌜ Depth (form .bits) × (count < 2 ^ 16) ⌝ }
     requires { ⌜ ArePlaces (now places) × Fits part (now image) ⌝ }
     ensures { λ r. ⌜ IsWalked form (now (bases .entry)) (now (block .entry)) count r ⌝ }
@@ -191,7 +178,7 @@ pub(crate) fn walk(
     part: Part,
     count: usize,
 ) -> Walked
-    requires { ⌜ (length (now block) < 2 ^ 32) × ((length (now lines) ≡ 18 * (widthOf (form .xtrans) + 2)) × (length (now rs) ≡ 336)) ⌝ }
+    requires { ⌜ (length (now block) < 2 ^ 32) × ScratchOf (form .xtrans) (now lines) (now rs) ⌝ }
     requires { ⌜ Depth (form .bits) × (count < 2 ^ 16) ⌝ }
     requires { ⌜ ArePlaces (now places) × Fits part (now image) ⌝ }
     ensures { λ r. ⌜ IsWalked form (now (bases .entry)) (now (block .entry)) count r ⌝ }
@@ -233,7 +220,7 @@ pub fn walk_alone(
     let places = map::xtrans_places();
     let mut lines = [0u16; 9252];
     let mut rs = [cleared(); 336];
-    let used = 18 * (width(form.xtrans) + 2);
+    let used = begin::samples_needed(form.xtrans);
     walk(
         block,
         bases,

@@ -5,11 +5,12 @@ ghost use mathlib.Core.Bool.{cond};
 ghost use Prim.Native.Nat.{_%_, _<_};
 ghost use lib.Dec.{ltb};
 ghost use lib.ListN.{length, getD, set};
-ghost use Rattle.pass.specs.Readings.{noRecord, recordsOf, Depth};
+ghost use Rattle.steps.specs.Contexts.{noRecord};
+ghost use Rattle.steps.specs.Values.{recordsOf, Depth};
 ghost use Rattle.block.specs.Records.{startRecord, startRecords, restartedMain, setOf, putSet, clearRecords};
-use pass::Set;
 use quantiser::Quantiser;
 use statistics::Record;
+use steps::Set;
 
 // What record j starts with.
 fn start_record(bits: u32, base: u32, j: usize) -> Record

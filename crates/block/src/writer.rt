@@ -1,13 +1,10 @@
 // The writer: a set of colour lines becomes the tight block.
 ghost use mathlib.Core.Path.{_≡_};
-ghost use mathlib.Core.Bool.{cond};
-ghost use mathlib.Core.Option.{none, some};
 ghost use Prim.Native.Nat.{_+_, _*_, _^_, _≤_, _<_};
-ghost use lib.Dec.{ltb};
 ghost use lib.ListN.{length};
 ghost use Rattle.lines.specs.ColourLines.{zeroLines};
 ghost use Rattle.map.specs.Places.{widthOf};
-ghost use Rattle.pass.specs.Readings.{Depth};
+ghost use Rattle.steps.specs.Values.{Depth};
 ghost use Rattle.quantiser.specs.Quantisers.{largest};
 ghost use Rattle.bits.specs.BitLists.{blockBytes};
 ghost use Rattle.writing.specs.Sets.{lineSize, setSize};
@@ -15,9 +12,9 @@ ghost use Rattle.writing.specs.Puts.{Room, Within};
 ghost use Rattle.block.specs.Records.{clearRecords};
 ghost use Rattle.block.specs.Blocks.{AllInRange};
 ghost use Rattle.begin.specs.Beginnings.{writingBegins};
-ghost use Rattle.block.specs.Lent.{Outputs};
+ghost use Rattle.block.specs.Lent.{Outputs, ScratchOf};
 ghost use Rattle.block.specs.WrittenBlocks.{writeLines, tightBlock};
-ghost use Rattle.block.specs.WrittenAnswers.{passesFrom, LineWritten, SetWritten, firstAbove, measuredAnswer, writtenAnswer, writtenOut, LeftWritten};
+ghost use Rattle.block.specs.WrittenAnswers.{passesFrom, LineWritten, SetWritten, measuredAnswer, writtenAnswer, writtenOut, LeftWritten};
 use crate::Form;
 use crate::Written;
 use crate::form_of;
@@ -27,34 +24,14 @@ use crate::records::restart;
 use crate::records::start_records;
 use crate::records::store_set;
 use crate::tight::line_count;
+use begin::first_above;
+use begin::is_short;
 use bits::BitPosition;
 use map::width;
-use quantiser::Quantiser;
 use statistics::Record;
-use stream::FujiHeader;
 use stream::Parsed;
 use stream::Refusal;
 use writing::Put;
-
-fn widened(x: u16) -> u32
-    ensures { λ r. ⌜ r ≡ x ⌝ }
-{
-    x as u32
-}
-
-// The lowest index of a sample above m, or the length.
-fn first_above(samples: &[u16], m: u32) -> usize
-    ensures { λ r. ⌜ firstAbove m 0 (now (samples .entry)) ≡ cond (ltb r (length (now (samples .entry)))) (some r) none ⌝ }
-{
-    let mut i: usize = 0;
-    while i < samples.len() {
-        if m < widened(samples[i]) {
-            return i;
-        }
-        i = i + 1;
-    }
-    i
-}
 
 // The bytes of a tight block that has bits up to this position.
 fn block_length(at: BitPosition) -> usize
@@ -62,12 +39,6 @@ fn block_length(at: BitPosition) -> usize
 {
     let end = at.block_bytes();
     end.0
-}
-
-fn is_short(room: usize, needed: usize) -> bool
-    ensures { λ r. ⌜ r ≡ ltb room needed ⌝ }
-{
-    room < needed
 }
 
 // Line n: six passes, each on the records of its set.
@@ -82,39 +53,25 @@ fn write_line(
     form: Form,
 ) -> Put
     requires { ⌜ (n < 2 ^ 16) × (((n + 1) * lineSize (widthOf (form .xtrans)) ≤ length (now samples)) × Within (largest (form .bits)) (now samples)) ⌝ }
-    requires { ⌜ Depth (form .bits) × ((length (now lines) ≡ 18 * (widthOf (form .xtrans) + 2)) × (length (now rs) ≡ 336)) ⌝ }
+    requires { ⌜ Depth (form .bits) × ScratchOf (form .xtrans) (now lines) (now rs) ⌝ }
     requires { ⌜ Within (largest (form .bits)) (now lines) × AllInRange (now rs) ⌝ }
     requires { ⌜ (from .0 < 2 ^ 58) × Room store (now out) (from .0) ((passesFrom form (now samples) n 6 (now lines) (now rs)) .bits) ⌝ }
-    ensures { λ r. ⌜ LineWritten (passesFrom form (now (samples .entry)) n 6 (now (lines .entry)) (now (rs .entry))) (from .0) store (now (out .entry)) (now (lines .exit)) (now (rs .exit)) (now (out .exit)) r ⌝ }
+    ensures { λ r.
+        let written = passesFrom form (now (samples .entry)) n 6 (now (lines .entry)) (now (rs .entry)) in
+        ⌜ LineWritten written (from .0) store (now (out .entry)) (now (lines .exit)) (now (rs .exit)) (now (out .exit)) r ⌝ }
     ensures { λ _. ⌜ AllInRange (now (rs .exit)) ⌝ }
 {
     let bits = form.bits;
     let xtrans = form.xtrans;
     let w = width(xtrans);
-    let q = Quantiser::main(bits, 0);
-    let limit = q.limit;
-    let raw = q.raw;
     let mut at = from;
     let mut i: usize = 0;
     while i < 6 {
-        let p = pass::plan_at(i, xtrans);
+        let p = steps::plan_at(i, xtrans);
         lines::set_guards(lines, w, p.first);
         lines::set_guards(lines, w, p.second);
         let set = load_set(rs, p.set);
-        let done = writing::write_pass(
-            samples,
-            n,
-            out,
-            store,
-            at,
-            lines,
-            set,
-            w,
-            p,
-            bits,
-            limit,
-            raw,
-        );
+        let done = writing::write_pass(samples, n, out, store, at, lines, set, w, p, bits);
         let ok = done.ok;
         if !ok {
             return Put::Wrong(done.wrong);
@@ -138,7 +95,7 @@ fn write_lines(
     count: usize,
 ) -> Put
     requires { ⌜ (count < 2 ^ 16) × ((length (now samples) ≡ setSize (widthOf (form .xtrans)) count) × Within (largest (form .bits)) (now samples)) ⌝ }
-    requires { ⌜ Depth (form .bits) × ((length (now lines) ≡ 18 * (widthOf (form .xtrans) + 2)) × (length (now rs) ≡ 336)) ⌝ }
+    requires { ⌜ Depth (form .bits) × ScratchOf (form .xtrans) (now lines) (now rs) ⌝ }
     requires { ⌜ Room store (now out) 0 ((writeLines form (now samples) count) .bits) ⌝ }
     ensures { λ r. ⌜ SetWritten (writeLines form (now (samples .entry)) count) store (now (out .entry)) (now (out .exit)) r ⌝ }
 {
@@ -172,7 +129,7 @@ fn write_walk(
     count: usize,
 ) -> Put
     requires { ⌜ (count < 2 ^ 16) × ((length (now samples) ≡ setSize (widthOf (form .xtrans)) count) × Within (largest (form .bits)) (now samples)) ⌝ }
-    requires { ⌜ Depth (form .bits) × ((length (now lines) ≡ 18 * (widthOf (form .xtrans) + 2)) × (length (now rs) ≡ 336)) ⌝ }
+    requires { ⌜ Depth (form .bits) × ScratchOf (form .xtrans) (now lines) (now rs) ⌝ }
     requires { ⌜ Room store (now out) 0 ((writeLines form (now samples) count) .bits) ⌝ }
     ensures { λ r. ⌜ SetWritten (writeLines form (now (samples .entry)) count) store (now (out .entry)) (now (out .exit)) r ⌝ }
     ensures { λ _. ⌜ (now (lines .exit) ≡ zeroLines (widthOf (form .xtrans))) × (now (rs .exit) ≡ clearRecords) ⌝ }
@@ -193,8 +150,10 @@ fn write_measured(
     count: usize,
 ) -> Written
     requires { ⌜ (count < 2 ^ 16) × ((length (now samples) ≡ setSize (widthOf (form .xtrans)) count) × Within (largest (form .bits)) (now samples)) ⌝ }
-    requires { ⌜ Depth (form .bits) × ((length (now lines) ≡ 18 * (widthOf (form .xtrans) + 2)) × (length (now rs) ≡ 336)) ⌝ }
-    ensures { λ r. ⌜ (r ≡ measuredAnswer form count (now (samples .entry)) (length (now (out .entry)))) × (now (out .exit) ≡ writtenOut r (tightBlock form count (now (samples .entry))) (now (out .entry))) ⌝ }
+    requires { ⌜ Depth (form .bits) × ScratchOf (form .xtrans) (now lines) (now rs) ⌝ }
+    ensures { λ r.
+        ⌜ (r ≡ measuredAnswer form count (now (samples .entry)) (length (now (out .entry))))
+        × (now (out .exit) ≡ writtenOut r (tightBlock form count (now (samples .entry))) (now (out .entry))) ⌝ }
     ensures { λ _. ⌜ (now (lines .exit) ≡ zeroLines (widthOf (form .xtrans))) × (now (rs .exit) ≡ clearRecords) ⌝ }
 {
     let measured = write_walk(samples, out, false, lines, rs, form, count);
@@ -222,8 +181,10 @@ fn write_set(
     count: usize,
 ) -> Written
     requires { ⌜ (count < 2 ^ 16) × (length (now samples) ≡ setSize (widthOf (form .xtrans)) count) ⌝ }
-    requires { ⌜ Depth (form .bits) × ((length (now lines) ≡ 18 * (widthOf (form .xtrans) + 2)) × (length (now rs) ≡ 336)) ⌝ }
-    ensures { λ r. ⌜ (r ≡ writtenAnswer form count (now (samples .entry)) (length (now (out .entry)))) × (now (out .exit) ≡ writtenOut r (tightBlock form count (now (samples .entry))) (now (out .entry))) ⌝ }
+    requires { ⌜ Depth (form .bits) × ScratchOf (form .xtrans) (now lines) (now rs) ⌝ }
+    ensures { λ r.
+        ⌜ (r ≡ writtenAnswer form count (now (samples .entry)) (length (now (out .entry))))
+        × (now (out .exit) ≡ writtenOut r (tightBlock form count (now (samples .entry))) (now (out .entry))) ⌝ }
     ensures { λ _. ⌜ (now (lines .exit) ≡ zeroLines (widthOf (form .xtrans))) × (now (rs .exit) ≡ clearRecords) ⌝ }
 {
     let m = quantiser::largest(form.bits);

@@ -1,11 +1,13 @@
 // Reads blocks whose colour lines the original Rust gave, and counts how many readings were compared and how many differ. The blocks are in
 // blocks.bin; rust/record-blocks writes them, and its README.md has their layout. Each block is read with three tiles of one value, which
 // show its red, its green and its blue colour lines. A record whose numbers are out of range differs.
-ghost use Prim.Native.Nat.{_*_, _^_, _≤_, _<_};
+ghost use Prim.Native.Nat.{_*_, _≤_, _<_};
 ghost use lib.ListN.{length};
+use answers::Tally;
+use answers::half;
+use answers::word;
 use block::Form;
 use block::Walked;
-use libc::STDOUT_FILENO;
 use map::Part;
 
 // What a record says of itself: the bytes of its base row and of its block, its lines, and how many of them the original read.
@@ -18,39 +20,15 @@ struct Sizes {
     read: usize,
 }
 
-struct Tally {
-    whole: u64,
-    cut: u64,
-    differ: u64,
-    // No record is left.
-    done: bool,
-}
-
-fn wide(x: u8) -> u32
-    ensures { λ r. ⌜ r < 256 ⌝ }
-{
-    x as u32
-}
-
-fn word_of(sample: u16) -> u32 {
-    sample as u32
-}
-
-// The word that begins at byte i.
-fn word(r: &[u8; 24], i: usize) -> u32
-    requires { ⌜ i ≤ 20 ⌝ }
-{
-    wide(r[i]) * 0x100_0000 + wide(r[i + 1]) * 0x1_0000 + wide(r[i + 2]) * 0x100 + wide(r[i + 3])
-}
-
 fn sizes_of(r: &[u8; 24]) -> Sizes {
+    let s = &r[..];
     Sizes {
-        bits: word(r, 0),
-        xtrans: word(r, 4) == 1,
-        lines: word(r, 8) as usize,
-        bases: word(r, 12) as usize,
-        block: word(r, 16) as usize,
-        read: word(r, 20) as usize,
+        bits: word(s, 0),
+        xtrans: word(s, 4) == 1,
+        lines: word(s, 8) as usize,
+        bases: word(s, 12) as usize,
+        block: word(s, 16) as usize,
+        read: word(s, 20) as usize,
     }
 }
 
@@ -100,7 +78,7 @@ fn wanted(want: &[u8; 36864], s: Sizes, colour: u8, y: usize, x: usize) -> u32
     }
     let k = 12 * (y / 6) + recorded_line(colour, y % 6);
     let i = line_bytes(s.xtrans, k) + 2 * place(s.xtrans, x);
-    wide(want[i]) * 0x100 + wide(want[i + 1])
+    half(&want[..], i)
 }
 
 // Whether the image shows what the original gave, in every row and column.
@@ -109,7 +87,7 @@ fn image_agrees(image: &[u16; 13824], want: &[u8; 36864], s: Sizes, colour: u8) 
 {
     let mut i: usize = 0;
     while i < 13824 {
-        if word_of(image[i]) != wanted(want, s, colour, i / 768, i % 768) {
+        if numbers::u16_to_u32(image[i]) != wanted(want, s, colour, i / 768, i % 768) {
             return false;
         }
         i += 1;
@@ -214,44 +192,24 @@ fn compare_sound(fd: i32, s: Sizes) -> u64 {
     compare_rest(fd, s)
 }
 
-fn counted(t: Tally, number: u64, is_whole: bool, differ: u64) -> Tally {
-    let mut next = t;
-    if is_whole {
-        next.whole = std::num::wrapping_add_u64(next.whole, 3);
-    } else {
-        next.cut = std::num::wrapping_add_u64(next.cut, 3);
-    }
-    if differ != 0 {
-        io::write_all(STDOUT_FILENO, b"differs: record ");
-        io::print_decimal(STDOUT_FILENO, number);
-        io::write_all(STDOUT_FILENO, b"\n");
-    }
-    next.differ = std::num::wrapping_add_u64(next.differ, differ);
-    next
-}
-
-// Reads a record and compares it.
+// Reads a record and compares it: whole blocks are of kind 0, truncated ones of kind 1.
 fn compare_one(fd: i32, t: Tally, number: u64) -> Tally {
     let mut r = [0u8; 24];
     let length = io::read_full(fd, &mut r);
     if length == 0 {
-        let mut last = t;
-        last.done = true;
-        return last;
+        return answers::ended(t);
     }
     let s = sizes_of(&r);
     let differ = compare_sound(fd, s);
-    counted(t, number, s.read == s.lines, differ)
+    if s.read == s.lines {
+        return answers::counted(t, number, 0, 3, differ);
+    }
+    answers::counted(t, number, 1, 3, differ)
 }
 
-// Nothing says that a file ends, so that the records are counted.
+// Nothing says that a file ends, so the records are counted. There are no closures, so each program has this loop of its own.
 fn compare_all(fd: i32) -> Tally {
-    let mut t = Tally {
-        whole: 0,
-        cut: 0,
-        differ: 0,
-        done: false,
-    };
+    let mut t = answers::start();
     let mut number: u64 = 0;
     while number < 1000 {
         t = compare_one(fd, t, number);
@@ -263,21 +221,13 @@ fn compare_all(fd: i32) -> Tally {
     t
 }
 
-fn print(n: u64, what: &[u8]) {
-    io::print_decimal(STDOUT_FILENO, n);
-    io::write_all(STDOUT_FILENO, what);
-}
-
 fn main() {
-    let path = b"blocks.bin";
-    let fd = os::open_read(path);
+    let fd = answers::open(b"blocks.bin");
     if fd < 0 {
-        os::fail(path);
         return;
     }
     let t = compare_all(fd);
     libc::close(fd);
-    print(t.whole, b" readings of whole blocks, ");
-    print(t.cut, b" of truncated ones, ");
-    print(t.differ, b" differ\n");
+    answers::print(b"readings of whole blocks", t, 0);
+    answers::print(b"readings of truncated blocks", t, 1);
 }

@@ -25,7 +25,7 @@ use Rattle.code.proofs.CodeLaws.{code-cases, code-short, code-long}
 
 -- the two forms, and their lengths
 module _ (k limit raw c : ℕ) where
-  bits-short : c / 2 ^ k < limit → codeBits k limit raw c ≡ runThen (c / 2 ^ k) k (c % 2 ^ k)
+  pub bits-short : c / 2 ^ k < limit → codeBits k limit raw c ≡ runThen (c / 2 ^ k) k (c % 2 ^ k)
   unfolding codeBits
   bits-short h = rw (lt-ltb (c / 2 ^ k) limit h)
 

@@ -11,7 +11,7 @@ use lib.Seq.{drop-at, ext-getD, length-take-le}
 use Rattle.bits.specs.BitLists.{bitsOf, blockBytes, bytesOf}
 use Rattle.bits.proofs.ListLaws.{length-bits}
 use Rattle.bits.proofs.PackLaws.{length-bytesOf, bytes-bytesOf, bits-bytesOf, bytesOf-bits}
-use Rattle.pass.specs.Readings.{Depth}
+use Rattle.steps.specs.Values.{Depth}
 use Rattle.map.specs.Places.{widthOf}
 use Rattle.stream.proofs.HeaderLaws.{ruled}
 use Rattle.stream.proofs.StreamLaws.{row-lossless}
@@ -26,6 +26,7 @@ use Rattle.block.specs.declared.Form.{Form}
 use Rattle.block.proofs.LineLaws.{width-in-range}
 use Rattle.demand.specs.Demand.{Bytes, TightBlockOf, Demand, DemandOfHeaders, NoBases}
 use Rattle.demand.proofs.AnswerLaws.{done-tight, tight-done}
+use Rattle.demand.proofs.PredictedBlocks.{fits-is}
 use Rattle.demand.proofs.BlockLaws.{set-size, set-at, set-shown, set-le, Tail, tail-was, tail-is}
 use Rattle.demand.proofs.BlockTwins.{Shows, lines-forward, lines-backward}
 use Rattle.demand.proofs.RunTwins.{writeStateOf, CleanState, StoredState}
@@ -127,9 +128,9 @@ pub demand : (F : Form) (lines : ℕ) → Depth (F .bits) → Demand F lines
 demand F lines depth =
     record {
       same = same;
-      sets = λ t. (from-set t, λ (a : TightBlockOf F lines t). subst (FitSet F lines) (a .reads) (fits F Q lines (a .block) (a .tight)));
+      sets = λ t. (λ p. from-set t (fits-is F lines t .1 p), λ (a : TightBlockOf F lines t). fits-is F lines t .0 (subst (FitSet F lines) (a .reads) (fits F Q lines (a .block) (a .tight))));
       one = λ t a b. same (a .block) (b .block) (a .bytes) (b .bytes) (a .tight) (b .tight) .1 (a .reads ∙ sym (b .reads));
-      written = λ t f. (written-bytes F Q lines t f, written-tight F Q lines t f, written-set F Q lines t f);
+      written = λ t p. let f = fits-is F lines t .1 p in (written-bytes F Q lines t f, written-tight F Q lines t f, written-set F Q lines t f);
       accepted = λ b s. (done-tight F s b lines, tight-done F s b lines);
       shown = set-shown F lines;
     }

@@ -8,3 +8,11 @@ pub mod BlockLaws
 pub mod AnswerLaws
 pub mod DemandHolds
 pub mod WriterHolds
+pub mod CallsHold
+pub mod ZerosFit
+pub mod PredictedSteps
+pub mod PredictedPasses
+pub mod PredictedLines
+pub mod PredictedBlocks
+pub mod StreamOfBlocks
+pub mod SomethingHolds

@@ -10,11 +10,11 @@ use lib.ListN.{length, getD}
 use borrow.Author.Tests.{le-leb}
 use Rattle.quantiser.specs.Quantisers.{largest}
 use Rattle.pass.specs.Readings.{andThen}
-use Rattle.pass.specs.Steps.{planOf}
+use Rattle.steps.specs.Steps.{planOf}
 use Rattle.lines.proofs.LineLaws.{length-turned}
 use Rattle.map.specs.Places.{widthOf}
 use Rattle.writing.specs.Sets.{lineOfRank}
-use Rattle.writing.proofs.PassTwins.{Holds}
+use Rattle.read_back.proofs.PassBack.{Holds}
 use Rattle.writing.proofs.LosslessLaws.{Lossless}
 use Rattle.block.specs.Blocks.{State, runs, passAt, endLine, readLine, beforeLine, lineAt}
 use Rattle.block.specs.WrittenBlocks.{writePassAt, writeLine}

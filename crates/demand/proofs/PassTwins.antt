@@ -2,24 +2,24 @@
 use mathlib.Core.List.{List}
 use mathlib.Core.Logic.{_≢_}
 use mathlib.Core.Option.{Option, none, some}
-use mathlib.Core.Path.{_≡_, refl, sym, ap, _∙_}
+use mathlib.Core.Path.{_≡_, refl, ap, _∙_}
 use Prim.Native.Nat.{ℕ, _+_, _-_, _*_, _%_, _≤_, _<_}
 use native.Mathlib.Omega.{arith}
-use lib.Arith.{digits-mod}
 use lib.ListN.{getD, set}
-use lib.Seq.{getD-set-other}
 use Rattle.quantiser.specs.Quantisers.{largest}
-use Rattle.pass.specs.Readings.{Reading, readPass, PlanInRange}
-use Rattle.pass.specs.Steps.{planOf}
-use Rattle.pass.specs.declared.Plan.{Plan}
+use Rattle.steps.specs.Values.{PlanInRange}
+use Rattle.pass.specs.Readings.{Reading, readPass}
+use Rattle.steps.specs.Steps.{planOf}
+use Rattle.steps.specs.declared.Plan.{Plan}
 use Rattle.pass.proofs.RangeLaws.{Kept, pass-keeps}
-use Rattle.pass.proofs.ScheduleLaws.{plan-in-range}
-use Rattle.lines.specs.ColourLines.{leftGuard, guarded}
+use Rattle.steps.proofs.ScheduleLaws.{plan-in-range}
+use Rattle.lines.specs.ColourLines.{guarded}
 use Rattle.lines.proofs.LineLaws.{length-guarded}
+use Rattle.lines.proofs.MoveLaws.{samples-stay}
 use Rattle.map.specs.Places.{widthOf}
 use Rattle.writing.proofs.LosslessLaws.{Lossless}
-use Rattle.writing.proofs.PassTwins.{Holds, pass-leaves, pass-forward, pass-backward}
-use Rattle.writing.proofs.Twins.{Sound}
+use Rattle.read_back.proofs.PassBack.{Holds, pass-leaves, pass-forward, pass-backward}
+use Rattle.read_back.proofs.Together.{Sound}
 use Rattle.block.specs.Blocks.{State, enter, leave, passAt}
 use Rattle.block.specs.Records.{putSet}
 use Rattle.block.specs.WrittenBlocks.{leaveWriting, writePassAt}
@@ -33,22 +33,6 @@ abbrev pub SoundState : Form → State → Type 0
 SoundState F r = Sound (F .bits) (widthOf (F .xtrans)) (r .lines)
 
 -- ---- guards
-
--- no guard is a sample's place
-module _ (W l p m d : ℕ) (h : p < W) where
-  not-guard : d < W + 2 → d ≢ p + 1 → l * (W + 2) + p + 1 ≢ m * (W + 2) + d
-  not-guard k ne e =
-      let f : l * (W + 2) + (p + 1) ≡ m * (W + 2) + d = omega arith in
-      let a : p + 1 < W + 2 = omega arith in
-      ne (sym (digits-mod m k) ∙ ap (λ (z : ℕ). z % (W + 2)) (sym f) ∙ digits-mod l a)
-
-pub guard-leaves : (W l p m : ℕ) (lines : List ℕ) → p < W → getD (guarded W m lines) (l * (W + 2) + p + 1) 0 ≡ getD lines (l * (W + 2) + p + 1) 0
-unfolding guarded
-guard-leaves W l p m lines h =
-    getD-set-other (leftGuard W m lines) (m * (W + 2) + (W + 1)) (l * (W + 2) + p + 1) (getD (leftGuard W m lines) ((m - 1) * (W + 2) + W) 0) 0
-    (not-guard W l p m (W + 1) h (omega arith) (λ e. omega arith))
-    ∙ getD-set-other lines (m * (W + 2)) (l * (W + 2) + p + 1) (getD lines ((m - 1) * (W + 2) + 1) 0) 0
-    (λ e. not-guard W l p m 0 h (omega arith) (λ f. omega arith) (omega arith))
 
 guard-sound : (bits W m : ℕ) (lines : List ℕ) → Sound bits W lines → Sound bits W (guarded W m lines)
 guard-sound bits W m lines ok =
@@ -109,8 +93,8 @@ module _ (F : Form) (Q : Lossless (F .bits)) (s : List ℕ) (i : ℕ) (r : State
       let f = pass-was z e in
       rw (← f .2)
       (pass-leaves (F .bits) W s P entered (f .0) l p even h (ne .0) (ne .1) (f .1)
-      ∙ guard-leaves W l p (P .second) (guarded W (P .first) (r .lines)) h
-      ∙ guard-leaves W l p (P .first) (r .lines) h)
+      ∙ samples-stay W l p (P .second) (guarded W (P .first) (r .lines)) h
+      ∙ samples-stay W l p (P .first) (r .lines) h)
 
   -- ---- both ways, with the samples of line n of the set t
 

@@ -7,23 +7,23 @@ use Prim.Native.Nat.{ℕ, zero, suc, _+_, _*_, _<_}
 use native.Mathlib.Omega.{arith}
 use lib.Dec.{lit<}
 use lib.ListN.{getD}
-use Rattle.pass.specs.Steps.{plans, noPlan, planOf}
+use Rattle.steps.specs.Steps.{plans, noPlan, planOf}
 use Rattle.writing.specs.Sets.{lineOfRank}
 
 -- Bayer and X-Trans have the same lines
-abbrev firstLine : ℕ → ℕ
+abbrev pub firstLine : ℕ → ℕ
 firstLine i = (getD plans i noPlan) .first
 
-abbrev secondLine : ℕ → ℕ
+abbrev pub secondLine : ℕ → ℕ
 secondLine i = (getD plans i noPlan) .second
 
-lines-are : (xtrans : Bool) (i : ℕ) → ((planOf xtrans i) .first ≡ firstLine i) × ((planOf xtrans i) .second ≡ secondLine i)
+pub lines-are : (xtrans : Bool) (i : ℕ) → ((planOf xtrans i) .first ≡ firstLine i) × ((planOf xtrans i) .second ≡ secondLine i)
 unfolding planOf
 lines-are true i = (refl, refl)
 lines-are false i = (refl, refl)
 
 -- what holds of the six passes
-each-pass : (Q : ℕ → Type 0) → Q 0 × Q 1 × Q 2 × Q 3 × Q 4 × Q 5 → (i : ℕ) → i < 6 → Q i
+pub each-pass : (Q : ℕ → Type 0) → Q 0 × Q 1 × Q 2 × Q 3 × Q 4 × Q 5 → (i : ℕ) → i < 6 → Q i
 each-pass Q a zero h = a .0
 each-pass Q a (suc zero) h = a .1
 each-pass Q a (suc (suc zero)) h = a .2

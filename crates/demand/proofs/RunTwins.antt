@@ -8,7 +8,7 @@ use native.Mathlib.Omega.{arith}
 use lib.ListN.{take}
 use Rattle.bits.specs.BitLists.{bitsOf}
 use Rattle.numbers.proofs.OrderLaws.{split}
-use Rattle.writing.proofs.Twins.{Clean, Stored, stored-cut, Together, Back, together-then, back-then}
+use Rattle.read_back.proofs.Together.{Clean, Stored, stored-cut, Together, Back, together-then, back-then}
 use Rattle.block.specs.Blocks.{State, runs}
 use Rattle.block.specs.WrittenBlocks.{WriteState, repeats}
 use Rattle.block.proofs.RunLaws.{runs-last, runs-keep}

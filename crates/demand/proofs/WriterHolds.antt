@@ -1,8 +1,8 @@
 -- The writer, held against the demand. Assumes nothing.
-use mathlib.Core.List.{List, _++_}
-use mathlib.Core.Path.{_≡_, refl, sym, ap, _∙_}
+use mathlib.Core.List.{List}
+use mathlib.Core.Path.{_≡_, ap}
 use Prim.Native.Nat.{ℕ, _≤_}
-use lib.ListN.{length, drop}
+use lib.ListN.{length}
 use Rattle.map.specs.Places.{widthOf}
 use Rattle.writing.specs.Sets.{setSize}
 use Rattle.block.specs.Images.{formOf}
@@ -12,14 +12,15 @@ use Rattle.block.specs.declared.Form.{Form}
 use Rattle.block.specs.declared.Written.{Written}
 use Rattle.block.specs.declared.Written.the-variants.{Length}
 use Rattle.block.proofs.AnswerLaws.{written-fits, fits-written}
-use Rattle.demand.specs.Demand.{Demand, TightBlockOf, WrittenWhole, DemandOfWriter, DemandOfWriters}
+use Rattle.demand.specs.Demand.{Demand, TightBlockOf, WrittenWhole, DemandOfWriters}
 use Rattle.demand.proofs.DemandHolds.{demand-of-headers}
+use Rattle.demand.proofs.PredictedBlocks.{fits-is}
 
 module _ (F : Form) (lines : ℕ) (D : Demand F lines) where
   -- the tight block of a set that fits, as one from which the set is read
   its-block : (t : List ℕ) → FitSet F lines t → TightBlockOf F lines t
   its-block t f =
-      let w = D .written t f in
+      let w = D .written t (fits-is F lines t .0 f) in
       record { block = tightBlock F lines t; bytes = w .0; tight = w .1; reads = w .2 }
 
   whole : (t out : List ℕ) (n : ℕ) → length t ≡ setSize (widthOf (F .xtrans)) lines → writtenAnswer F lines t (length out) ≡ Length n → WrittenWhole F lines t out n
@@ -38,7 +39,7 @@ module _ (F : Form) (lines : ℕ) (D : Demand F lines) where
   answered : (t out : List ℕ) (b : TightBlockOf F lines t) → length (b .block) ≤ length out → writtenAnswer F lines t (length out) ≡ Length (length (b .block))
   unfolding its-block
   answered t out b room =
-      let f : FitSet F lines t = D .sets t .1 b in
+      let f : FitSet F lines t = fits-is F lines t .1 (D .sets t .1 b) in
       let e : b .block ≡ tightBlock F lines t = D .one t b (its-block t f) in
       rw e (fits-written F lines t (length out) f (rw e at room))
 

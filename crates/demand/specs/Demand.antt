@@ -15,11 +15,12 @@ use Rattle.writing.specs.Sets.{setSize, lineOfRank, indexIn}
 use Rattle.block.specs.Blocks.{readLines, linesOf}
 use Rattle.block.specs.Images.{formOf, basesOf}
 use Rattle.block.specs.TightBlocks.{Tight, setRead, tightAnswer}
-use Rattle.block.specs.WrittenBlocks.{tightBlock, FitSet}
+use Rattle.block.specs.WrittenBlocks.{tightBlock}
 use Rattle.block.specs.WrittenAnswers.{writtenAnswer, writtenOut}
 use Rattle.block.specs.declared.Decoded.the-variants.{Done}
 use Rattle.block.specs.declared.Form.{Form}
 use Rattle.block.specs.declared.Written.the-variants.{Length}
+use Rattle.demand.specs.PredictedSets.{PredictedSet}
 
 -- bytes are numbers below 256
 abbrev pub Bytes : List ℕ → Type 0
@@ -35,12 +36,12 @@ pub record TightBlockOf (F : Form) (lines : ℕ) (t : List ℕ) : Type 0 where
 pub record Demand (F : Form) (lines : ℕ) : Type 0 where
   -- two tight blocks are equal exactly when their sets are
   pub same : (a b : List ℕ) → Bytes a → Bytes b → Tight F lines a → Tight F lines b → (a ≡ b) ↔ (setRead F lines a ≡ setRead F lines b)
-  -- a set is read from a tight block exactly when it fits
-  pub sets : (t : List ℕ) → FitSet F lines t ↔ TightBlockOf F lines t
+  -- a set is read from a tight block exactly when its samples are in 0..M and each interpolated position has its prediction
+  pub sets : (t : List ℕ) → PredictedSet F lines t ↔ TightBlockOf F lines t
   -- and then from one tight block alone
   pub one : (t : List ℕ) (a b : TightBlockOf F lines t) → a .block ≡ b .block
-  -- the tight block of a set that fits consists of bytes, is tight, and reads back as that set
-  pub written : (t : List ℕ) → FitSet F lines t
+  -- the tight block of such a set consists of bytes, is tight, and reads back as that set
+  pub written : (t : List ℕ) → PredictedSet F lines t
       → Bytes (tightBlock F lines t) × Tight F lines (tightBlock F lines t) × (setRead F lines (tightBlock F lines t) ≡ t)
   -- the tight reading of block b accepts exactly the tight blocks
   pub accepted : (b : ℕ) (s : List ℕ) → (tightAnswer F b lines s ≡ Done) ↔ Tight F lines s

@@ -1,8 +1,9 @@
 -- What the exported functions answer: what was asked for, all 0 where it is refused, and a refusal's words, all 0 where there is none. Assumes nothing.
-use mathlib.Core.Bool.{Bool, cond}
 use mathlib.Core.List.{List, [], _∷_}
+use mathlib.Core.Path.{_≡_}
 use Prim.Native.Nat.{ℕ}
-use lib.ListN.{replicate}
+use lib.ListN.{length, replicate}
+use Rattle.numbers.specs.Numbers.{flag}
 use Rattle.stream.specs.Refusals.{refusalWords, noRefusal}
 use Rattle.stream.specs.declared.FujiHeader.{FujiHeader}
 use Rattle.stream.specs.declared.Parsed.{Parsed}
@@ -11,9 +12,12 @@ use Rattle.stream.specs.declared.Ranged.{Ranged}
 use Rattle.stream.specs.declared.Ranged.the-variants as Range
 use Rattle.stream.specs.declared.Width.{Width}
 use Rattle.stream.specs.declared.Width.the-variants as Columns
-
-abbrev pub flag : Bool → ℕ
-flag b = cond b 1 0
+use Rattle.short_codes.specs.Sheets.{listedAnswer, ListAfter}
+use Rattle.short_codes.specs.declared.Listed.{Listed}
+use Rattle.short_codes.specs.declared.Listed.the-variants as Sheet
+use Rattle.plan.specs.Plans.{plannedAnswer, BasesAfter}
+use Rattle.plan.specs.declared.Planned.{Planned}
+use Rattle.plan.specs.declared.Planned.the-variants as Plan
 
 abbrev pub headerWords : FujiHeader → List ℕ
 headerWords h =
@@ -43,3 +47,28 @@ widthWords (Columns.Refused r) = replicate 1 0
 abbrev pub widthRefusal : Width → List ℕ
 widthRefusal (Columns.Columns n) = noRefusal
 widthRefusal (Columns.Refused r) = refusalWords r
+
+-- the count of a sheet
+abbrev pub listedWords : Listed → List ℕ
+listedWords (Sheet.Count n) = n ∷ []
+listedWords (Sheet.Refused r) = replicate 1 0
+
+abbrev pub listedRefusal : Listed → List ℕ
+listedRefusal (Sheet.Count n) = noRefusal
+listedRefusal (Sheet.Refused r) = refusalWords r
+
+-- what a call for a sheet leaves
+pub record ToldSheet (depth k n : ℕ) (list list' count words : List ℕ) : Type 0 where
+  pub count-is : count ≡ listedWords (listedAnswer depth k n)
+  pub told : words ≡ listedRefusal (listedAnswer depth k n)
+  pub left : ListAfter depth k n list list'
+
+-- the answer for a plan
+abbrev pub plannedRefusal : Planned → List ℕ
+plannedRefusal Plan.Done = noRefusal
+plannedRefusal (Plan.Refused r) = refusalWords r
+
+-- what a call for a plan leaves
+pub record ToldPlan (header plan bases bases' words : List ℕ) : Type 0 where
+  pub told : words ≡ plannedRefusal (plannedAnswer header plan (length bases))
+  pub left : BasesAfter plan bases bases' (plannedAnswer header plan (length bases))

@@ -1,26 +1,23 @@
-// The functions about streams that C and Rust link to: the header, and where blocks and base rows lie. Each hands back a refusal's four words, all 0
-// where nothing is refused, and what was asked for, all 0 where it is refused. Those that decode stand in `block`.
+// Functions that C and Rust link to: the header, where blocks and base rows lie, the sheet of short codes, and plans of bases. Each hands back a
+// refusal's four words, all 0 where nothing is refused, and what was asked for, all 0 where it is refused. Those that decode stand in `block`.
 ghost use mathlib.Core.Path.{_≡_};
 ghost use Rattle.stream.specs.Headers.{parseOf, widthAnswer};
 ghost use Rattle.stream.specs.Streams.{openOf, rangeOf, rowOf};
-ghost use Rattle.exports.specs.Exports.{flag, headerWords, parsedWords, parsedRefusal, rangedWords, rangedRefusal, widthWords, widthRefusal};
+ghost use Rattle.exports.specs.Exports.{headerWords, parsedWords, parsedRefusal, rangedWords, rangedRefusal, widthWords, widthRefusal};
+ghost use Rattle.exports.specs.Exports.{listedWords, listedRefusal, ToldSheet, plannedRefusal, ToldPlan};
+use plan::Planned;
+use short_codes::Listed;
 use stream::FujiHeader;
 use stream::Parsed;
 use stream::Ranged;
 use stream::Width;
 
-fn flag(b: bool) -> usize
-    ensures { λ r. ⌜ r ≡ flag b ⌝ }
-{
-    if b { 1 } else { 0 }
-}
-
 fn header_words(h: FujiHeader) -> [usize; 9]
     ensures { λ w. ⌜ w ≡ headerWords h ⌝ }
 {
     [
-        flag(h.lossless),
-        flag(h.xtrans),
+        numbers::flag_usize(h.lossless),
+        numbers::flag_usize(h.xtrans),
         h.bits as usize,
         h.height as usize,
         h.rounded_width as usize,
@@ -117,7 +114,9 @@ pub extern "C" fn fuji_block_width(
     width: &mut [usize; 1],
     refusal: &mut [usize; 4],
 )
-    ensures { λ _. ⌜ (now (width .exit) ≡ widthWords (widthAnswer (parseOf (now (d .entry))) i)) × (now (refusal .exit) ≡ widthRefusal (widthAnswer (parseOf (now (d .entry))) i)) ⌝ }
+    ensures { λ _.
+        let answer = widthAnswer (parseOf (now (d .entry))) i in
+        ⌜ (now (width .exit) ≡ widthWords answer) × (now (refusal .exit) ≡ widthRefusal answer) ⌝ }
 {
     let x = stream::block_width(d, i);
     let w = width_words(x);
@@ -157,5 +156,66 @@ pub extern "C" fn fuji_base_row_range(
     let w = ranged_words(x);
     *range = w;
     let r = ranged_refusal(x);
+    *refusal = r;
+}
+
+fn listed_words(a: Listed) -> [usize; 1]
+    ensures { λ w. ⌜ w ≡ listedWords a ⌝ }
+{
+    match a {
+        Listed::Count(n) => [n],
+        Listed::Refused(_) => [0; 1],
+    }
+}
+
+fn listed_refusal(a: Listed) -> [usize; 4]
+    ensures { λ w. ⌜ w ≡ listedRefusal a ⌝ }
+{
+    match a {
+        Listed::Count(_) => [0; 4],
+        Listed::Refused(r) => stream::refusal_words(r),
+    }
+}
+
+// The sheet of short codes. The count is that of the sheet; a list that is shorter is left as it was.
+#[no_mangle]
+pub extern "C" fn fuji_short_codes(
+    depth: u32,
+    k: u32,
+    longest: u32,
+    list: &mut [u32],
+    count: &mut [usize; 1],
+    refusal: &mut [usize; 4],
+)
+    ensures { λ _. ⌜ ToldSheet depth k longest (now (list .entry)) (now (list .exit)) (now (count .exit)) (now (refusal .exit)) ⌝ }
+{
+    let x = short_codes::short_codes(depth, k, longest, list);
+    let w = listed_words(x);
+    *count = w;
+    let r = listed_refusal(x);
+    *refusal = r;
+}
+
+fn planned_refusal(a: Planned) -> [usize; 4]
+    ensures { λ w. ⌜ w ≡ plannedRefusal a ⌝ }
+{
+    match a {
+        Planned::Done => [0; 4],
+        Planned::Refused(r) => stream::refusal_words(r),
+    }
+}
+
+// The bases of a lossy header's lines, as a plan says.
+#[no_mangle]
+pub extern "C" fn fuji_plan_bases(
+    header: &[u8],
+    plan: &[u8],
+    bases: &mut [u8],
+    refusal: &mut [usize; 4],
+)
+    ensures { λ _. ⌜ ToldPlan (now (header .entry)) (now (plan .entry)) (now (bases .entry)) (now (bases .exit)) (now (refusal .exit)) ⌝ }
+{
+    let x = plan::plan_bases(header, plan, bases);
+    let r = planned_refusal(x);
     *refusal = r;
 }

@@ -5,41 +5,21 @@ ghost use Prim.Native.Nat.{_*_, _^_, _≤_, _<_};
 ghost use lib.ListN.{length};
 ghost use Rattle.prediction.specs.Predictions.{Ranges as ContextRanges};
 ghost use Rattle.quantiser.specs.Quantisers.{Ranges as QuantiserRanges};
+use answers::Tally;
+use answers::word;
 use bits::BitPosition;
 use code::Coded;
-use libc::STDOUT_FILENO;
 use numbers::Signed;
 use prediction::Context;
 use quantiser::Quantiser;
 use statistics::Record;
-
-// For each kind, 1 to 6, how many records were compared and how many differ; at 0 those of no kind.
-struct Tally {
-    compared: [u64; 7],
-    differ: [u64; 7],
-    // No record is left.
-    done: bool,
-}
-
-fn wide(x: u8) -> u32
-    ensures { λ r. ⌜ r < 256 ⌝ }
-{
-    x as u32
-}
-
-// The word that begins at byte i.
-fn word(r: &[u8; 80], i: usize) -> u32
-    requires { ⌜ i ≤ 76 ⌝ }
-{
-    wide(r[i]) * 0x100_0000 + wide(r[i + 1]) * 0x1_0000 + wide(r[i + 2]) * 0x100 + wide(r[i + 3])
-}
 
 // The twelve words that a record begins with.
 fn words(r: &[u8; 80]) -> [u32; 12] {
     let mut w = [0u32; 12];
     let mut i = 0;
     while i < 12 {
-        w[i] = word(r, 4 * i);
+        w[i] = word(&r[..], 4 * i);
         i += 1;
     }
     w
@@ -327,7 +307,7 @@ fn agrees(kind: u32, r: &[u8; 80]) -> bool {
 fn kind_of(r: &[u8; 80], length: usize) -> u32
     ensures { λ k. ⌜ k ≤ 6 ⌝ }
 {
-    let kind = word(r, 0);
+    let kind = word(&r[..], 0);
     if length < 80 {
         return 0;
     }
@@ -337,45 +317,21 @@ fn kind_of(r: &[u8; 80], length: usize) -> u32
     kind
 }
 
-// The tally with one record more. The number of the first record of a kind that differs is printed.
-fn counted(t: Tally, number: u64, kind: u32, is_same: bool) -> Tally
-    requires { ⌜ kind ≤ 6 ⌝ }
-{
-    let i = kind as usize;
-    let mut next = t;
-    next.compared[i] = std::num::wrapping_add_u64(next.compared[i], 1);
-    if is_same {
-        return next;
-    }
-    if next.differ[i] == 0 {
-        io::write_all(STDOUT_FILENO, b"differs: record ");
-        io::print_decimal(STDOUT_FILENO, number);
-        io::write_all(STDOUT_FILENO, b"\n");
-    }
-    next.differ[i] = std::num::wrapping_add_u64(next.differ[i], 1);
-    next
-}
-
 // Reads a record and compares it.
 fn compare_one(fd: i32, t: Tally, number: u64) -> Tally {
     let mut r = [0u8; 80];
     let length = io::read_full(fd, &mut r);
     if length == 0 {
-        let mut last = t;
-        last.done = true;
-        return last;
+        return answers::ended(t);
     }
     let kind = kind_of(&r, length);
-    counted(t, number, kind, agrees(kind, &r))
+    let differ = if agrees(kind, &r) { 0 } else { 1 };
+    answers::counted(t, number, kind as usize, 1, differ)
 }
 
-// Nothing says that a file ends, so that the records are counted.
+// Nothing says that a file ends, so the records are counted. There are no closures, so each program has this loop of its own.
 fn compare_all(fd: i32) -> Tally {
-    let mut t = Tally {
-        compared: [0; 7],
-        differ: [0; 7],
-        done: false,
-    };
+    let mut t = answers::start();
     let mut number: u64 = 0;
     while number < 20000 {
         t = compare_one(fd, t, number);
@@ -387,31 +343,18 @@ fn compare_all(fd: i32) -> Tally {
     t
 }
 
-fn print(name: &[u8], t: Tally, i: usize)
-    requires { ⌜ i ≤ 6 ⌝ }
-{
-    io::write_all(STDOUT_FILENO, name);
-    io::write_all(STDOUT_FILENO, b": ");
-    io::print_decimal(STDOUT_FILENO, t.compared[i]);
-    io::write_all(STDOUT_FILENO, b" compared, ");
-    io::print_decimal(STDOUT_FILENO, t.differ[i]);
-    io::write_all(STDOUT_FILENO, b" differ\n");
-}
-
 fn main() {
-    let path = b"answers.bin";
-    let fd = os::open_read(path);
+    let fd = answers::open(b"answers.bin");
     if fd < 0 {
-        os::fail(path);
         return;
     }
     let t = compare_all(fd);
     libc::close(fd);
-    print(b"k", t, 1);
-    print(b"level", t, 2);
-    print(b"quantiser", t, 3);
-    print(b"even", t, 4);
-    print(b"odd", t, 5);
-    print(b"code", t, 6);
-    print(b"no kind", t, 0);
+    answers::print(b"k", t, 1);
+    answers::print(b"level", t, 2);
+    answers::print(b"quantiser", t, 3);
+    answers::print(b"even", t, 4);
+    answers::print(b"odd", t, 5);
+    answers::print(b"code", t, 6);
+    answers::print(b"no kind", t, 0);
 }

@@ -1,2 +1,3 @@
 -- Laws about the colour lines.
 pub mod LineLaws
+pub mod MoveLaws

@@ -1,6 +1,6 @@
 -- Lines that are moved one sample at a time, and lengths. Assumes nothing.
 use mathlib.Core.List.{List}
-use mathlib.Core.Path.{_≡_, refl, sym, ap, _∙_}
+use mathlib.Core.Path.{_≡_, sym, ap, _∙_}
 use Prim.Native.Nat.{ℕ, suc, _+_, _-_, _*_, _≤_, _<_}
 use native.Mathlib.Nat.{mul-le-mul-right}
 use native.Mathlib.Numerals.{add-one}
@@ -10,7 +10,7 @@ use lib.Seq.{paste, paste-suc, drop-paste, length-paste, getD-drop}
 use Rattle.lines.specs.ColourLines.{guarded, moved, turned}
 
 -- what lies behind a copy is as it was
-after-paste : (d s : List ℕ) (t n i : ℕ) → t ≤ length d → n ≤ length s → t + n ≤ i → getD (paste d t s n) i 0 ≡ getD d i 0
+pub after-paste : (d s : List ℕ) (t n i : ℕ) → t ≤ length d → n ≤ length s → t + n ≤ i → getD (paste d t s n) i 0 ≡ getD d i 0
 after-paste d s t n i ht hn h =
     let e : i ≡ (t + n) + (i - (t + n)) = omega arith in
     rw e
@@ -36,7 +36,7 @@ length-copy d from to n j apart inside h =
 pub apart : (W from to : ℕ) → to < from → to * (W + 2) + (W + 2) ≤ from * (W + 2)
 apart W from to h = let m : suc to * (W + 2) ≤ from * (W + 2) = mul-le-mul-right (W + 2) h in omega arith
 
-line-inside : (W l : ℕ) → l ≤ 17 → l * (W + 2) + (W + 2) ≤ 18 * (W + 2)
+pub line-inside : (W l : ℕ) → l ≤ 17 → l * (W + 2) + (W + 2) ≤ 18 * (W + 2)
 line-inside W l h = let m : suc l * (W + 2) ≤ 18 * (W + 2) = mul-le-mul-right (W + 2) (omega arith) in omega arith
 
 -- guards and moves keep the length

@@ -802,18 +802,12 @@ pub fn xtrans_places() -> [u16; 768]
     XTRANS_PLACES
 }
 
-fn wide(x: u16) -> usize
-    ensures { λ r. ⌜ r ≡ x ⌝ }
-{
-    x as usize
-}
-
 fn place_in(xtrans: bool, places: &[u16; 768], p: usize) -> usize
     requires { ⌜ (p < 768) × ArePlaces (now places) ⌝ }
     ensures { λ r. ⌜ r ≡ placeIn xtrans p ⌝ }
 {
     if xtrans {
-        return wide(places[p]);
+        return numbers::u16_to_usize(places[p]);
     }
     p / 2
 }
@@ -894,7 +888,9 @@ fn emit_sample(
 )
     requires { ⌜ (w ≡ widthOf xtrans) × ((18 * (w + 2) ≤ length (now lines)) × ArePlaces (now places)) ⌝ }
     requires { ⌜ (column ≡ p % 6) × ((p < 768) × ((i < length (now image)) × InLines w (now starts))) ⌝ }
-    ensures { λ _. ⌜ (now (image .exit) ≡ set (now (image .entry)) i (sampleBy (now (lines .entry)) (now (starts .entry)) xtrans p)) × (length (now (image .exit)) ≡ length (now (image .entry))) ⌝ }
+    ensures { λ _.
+        ⌜ (now (image .exit) ≡ set (now (image .entry)) i (sampleBy (now (lines .entry)) (now (starts .entry)) xtrans p))
+        × (length (now (image .exit)) ≡ length (now (image .entry))) ⌝ }
 {
     image[i] = sample_at(lines, w, xtrans, places, starts, column, p);
 }
@@ -913,7 +909,9 @@ fn emit_three(
 )
     requires { ⌜ (w ≡ widthOf xtrans) × ((18 * (w + 2) ≤ length (now lines)) × ArePlaces (now places)) ⌝ }
     requires { ⌜ (column ≡ p % 6) × ((column + 3 ≤ 6) × ((p + 3 ≤ 768) × ((i + 3 ≤ length (now image)) × InLines w (now starts)))) ⌝ }
-    ensures { λ _. ⌜ (now (image .exit) ≡ threePut (sampleBy (now (lines .entry)) (now (starts .entry)) xtrans) i p (now (image .entry))) × (length (now (image .exit)) ≡ length (now (image .entry))) ⌝ }
+    ensures { λ _.
+        ⌜ (now (image .exit) ≡ threePut (sampleBy (now (lines .entry)) (now (starts .entry)) xtrans) i p (now (image .entry)))
+        × (length (now (image .exit)) ≡ length (now (image .entry))) ⌝ }
 {
     emit_sample(lines, image, i, w, xtrans, places, starts, column, p);
     emit_sample(
@@ -989,7 +987,9 @@ fn emit_part_row(
 )
     requires { ⌜ (n < 2 ^ 16) × ((r < 6) × ((w ≡ widthOf xtrans) × (18 * (w + 2) ≤ length (now lines)))) ⌝ }
     requires { ⌜ ArePlaces (now places) × Fits part (now image) ⌝ }
-    ensures { λ _. ⌜ RowsPut (emittedSample xtrans w tile (now (lines .entry)) part) part (6 * n + r) (6 * n + r + 1) (now (image .entry)) (now (image .exit)) ⌝ }
+    ensures { λ _.
+        ⌜ RowsPut (emittedSample xtrans w tile (now (lines .entry)) part) part (6 * n + r) (6 * n + r + 1) (now (image .entry))
+        (now (image .exit)) ⌝ }
 {
     let top = part.top;
     let bottom = part.bottom;

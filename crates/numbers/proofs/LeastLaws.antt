@@ -60,3 +60,9 @@ least-is f test k m low high before holds =
   where
     clash : (t : Bool) → t ≡ true → t ≡ false → ⊥
     clash t e g = let no : _≡_ {A = ℕ} 0 1 = cc in omega arith
+
+-- searches by tests that say the same
+pub least-same : (f : ℕ) (test test' : ℕ → Bool) (k : ℕ) → ((n : ℕ) → test n ≡ test' n) → leastFrom f test k ≡ leastFrom f test' k
+unfolding leastFrom
+least-same zero test test' k e = refl
+least-same (suc f) test test' k e = rw (e k, least-same f test test' (suc k) e)

@@ -2,3 +2,4 @@
 pub mod OrderLaws
 pub mod LeastLaws
 pub mod BoolLaws
+pub mod FillLaws

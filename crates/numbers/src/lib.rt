@@ -1,7 +1,7 @@
 // Small functions on unsigned numbers that the other crates share.
 ghost use mathlib.Core.Path.{_≡_};
 ghost use mathlib.Core.Bool.{cond, xor};
-ghost use Prim.Native.Nat.{_-_, _≤_, min, max};
+ghost use Prim.Native.Nat.{_-_, _^_, _≤_, _<_, min, max};
 ghost use Rattle.numbers.specs.Numbers.{distance, minus, flag};
 
 // A number as its sign and its size.
@@ -39,8 +39,20 @@ pub fn smaller(a: u32, b: u32) -> u32
     if a < b { a } else { b }
 }
 
+pub fn smaller_usize(a: usize, b: usize) -> usize
+    ensures { λ r. ⌜ r ≡ min a b ⌝ }
+{
+    if a < b { a } else { b }
+}
+
 // a - b, or 0 where b is more.
 pub fn saturating_sub(a: u32, b: u32) -> u32
+    ensures { λ r. ⌜ r ≡ a - b ⌝ }
+{
+    if a < b { 0 } else { a - b }
+}
+
+pub fn saturating_sub_usize(a: usize, b: usize) -> usize
     ensures { λ r. ⌜ r ≡ a - b ⌝ }
 {
     if a < b { 0 } else { a - b }
@@ -51,6 +63,45 @@ pub fn flag(b: bool) -> u32
     ensures { λ r. ⌜ (r ≡ flag b) × (r ≤ 1) ⌝ }
 {
     b as u32
+}
+
+pub fn flag_usize(b: bool) -> usize
+    ensures { λ r. ⌜ r ≡ flag b ⌝ }
+{
+    if b { 1 } else { 0 }
+}
+
+// 2^k
+pub fn power(k: u32) -> u64
+    requires { ⌜ k ≤ 16 ⌝ }
+    ensures { λ r. ⌜ (r ≡ 2 ^ k) × ((1 ≤ r) × (r ≤ 2 ^ 16)) ⌝ }
+{
+    1u64 << k
+}
+
+// Bytes and samples as larger numbers. As functions they tell their callers the range too.
+pub fn u8_to_u32(x: u8) -> u32
+    ensures { λ r. ⌜ (r ≡ x) × (r < 256) ⌝ }
+{
+    x as u32
+}
+
+pub fn u8_to_u64(x: u8) -> u64
+    ensures { λ r. ⌜ (r ≡ x) × (r < 256) ⌝ }
+{
+    x as u64
+}
+
+pub fn u16_to_u32(x: u16) -> u32
+    ensures { λ r. ⌜ (r ≡ x) × (r < 2 ^ 16) ⌝ }
+{
+    x as u32
+}
+
+pub fn u16_to_usize(x: u16) -> usize
+    ensures { λ r. ⌜ r ≡ x ⌝ }
+{
+    x as usize
 }
 
 // One of two numbers that are both at hand: LLVM makes a conditional move of it and no branch.

@@ -1,8 +1,4 @@
--- Laws about the definitions of a pass.
-pub mod LookLaws
-pub mod TableLaws
-pub mod ZipLaws
+-- Laws about reading a pass.
 pub mod StepLaws
 pub mod SiteLaws
-pub mod ScheduleLaws
 pub mod RangeLaws

@@ -2,45 +2,31 @@
 use mathlib.Core.Bool.{Bool, true, false, cond}
 use mathlib.Core.List.{List, [], _∷_}
 use mathlib.Core.Option.{Option, none, some}
-use mathlib.Core.Path.{_≡_, refl, sym, ap, _∙_}
-use Prim.Native.Nat.{ℕ, _+_, _-_, _*_, _%_, _≤_, _<_}
+use mathlib.Core.Path.{_≡_, refl, _∙_}
+use Prim.Native.Nat.{ℕ, _+_, _≤_, _<_}
 use native.Mathlib.Omega.{arith}
-use lib.Dec.{eqb}
 use lib.ListN.{length, getD, set, length-set}
 use Rattle.statistics.specs.Statistics.{kOf, updated, InRange}
 use Rattle.statistics.specs.declared.Record.{Record}
 use Rattle.statistics.proofs.RecordLaws.{k-least, updated-in-range}
 use Rattle.quantiser.specs.Quantisers.{largest}
-use Rattle.prediction.specs.Predictions.{evenContext, oddContext}
 use Rattle.prediction.specs.declared.Context.{Context}
-use Rattle.prediction.proofs.PredictionLaws.{even-le, odd-le}
-use Rattle.code.specs.Codes.{codeAt, Bounds}
+use Rattle.code.specs.Codes.{Bounds}
 use Rattle.code.specs.Samples.{residualOf}
 use Rattle.code.specs.declared.Code.{Code}
 use Rattle.code.specs.declared.Coded.{Coded}
 use Rattle.code.specs.declared.Coded.the-variants.{Read, Truncated}
 use Rattle.code.proofs.CodeLaws.{code-bounds}
 use Rattle.code.proofs.SampleLaws.{residual-size, sample-le}
-use Rattle.pass.specs.Steps.{Step, passSteps}
-use Rattle.pass.specs.Readings.{evenAt, oddAt, contextAt, usedBase, usedWeight, usedQuantiser, lookOf, slotOf, Reading, noRecord, interpolate, taken, codeOf, readStep, andThen, reads, readPass, SetInRange}
-use Rattle.pass.specs.declared.Plan.{Plan}
-use Rattle.pass.specs.declared.Look.{Look}
-use Rattle.pass.proofs.LookLaws.{place-lt}
-use Rattle.pass.proofs.TableLaws.{numbers-le}
-use Rattle.pass.proofs.ZipLaws.{set-keeps}
-
--- no entry of a list is above m
-abbrev pub AllLe : ℕ → List ℕ → Type 0
-AllLe m l = (j : ℕ) → getD l j 0 ≤ m
-
--- predictions lie among the samples
-pub context-le : (m : ℕ) (lines : List ℕ) (S i p : ℕ) → AllLe m lines → (contextAt lines S i p) .prediction ≤ m
-unfolding contextAt evenAt oddAt evenContext oddContext
-context-le m lines S i p h = go (eqb (p % 2) 0)
-  where
-    go : (b : Bool) → (cond b (evenAt lines S i) (oddAt lines S i)) .prediction ≤ m
-    go true = even-le m _ _ _ _ (h (i + 1 - 2 * S)) (h (i - S)) (h (i + 1 - S)) (h (i + 2 - S))
-    go false = odd-le m _ _ _ (getD lines (i - S) 0) (getD lines (i + 2 - S) 0) (h i) (h (i + 2)) (h (i + 1 - S))
+use Rattle.steps.specs.Steps.{Step, passSteps}
+use Rattle.steps.specs.Contexts.{usedBase, usedWeight, usedQuantiser, noRecord, stepPlace, stepContext, stepLook, stepSlot}
+use Rattle.steps.specs.Values.{SetInRange}
+use Rattle.steps.specs.declared.Look.{Look}
+use Rattle.steps.specs.declared.Plan.{Plan}
+use Rattle.steps.proofs.ContextLaws.{AllLe, context-le, stored-le, slot-lt}
+use Rattle.steps.proofs.TableLaws.{numbers-le}
+use Rattle.steps.proofs.ZipLaws.{set-keeps}
+use Rattle.pass.specs.Readings.{Reading, interpolate, taken, codeOf, readStep, andThen, reads, readPass}
 
 -- what a reading keeps
 pub record Kept (bits : ℕ) (r z : Reading) : Type 0 where
@@ -54,13 +40,6 @@ same bits r y z e k = let f : y ≡ z = cc in rw f at k
 
 none-some : {X : Type 0} (z : Reading) → none ≡ some z → X
 none-some z e = let no : _≡_ {A = ℕ} 0 1 = cc in absurd (omega arith)
-
--- a sample within 0..M is put into the lines
-stored-le : (m : ℕ) (l : List ℕ) (i v : ℕ) → v ≤ m → AllLe m l → AllLe m (set l i v)
-stored-le m l i v h k j = set-keeps (λ (n : ℕ). n ≤ m) l 0 i v j (k j) h
-
-slot-lt : (p place : ℕ) → place < 56 → slotOf p place < 112
-slot-lt p place h = omega arith
 
 -- the record of a code is updated
 updated-ranges : (bits q : ℕ) (s : List ℕ) (slot : ℕ) (h : Look) (r : Reading) (d : Code) → bits ≤ 16 → slot < 112 → codeOf bits q s slot h r ≡ Read d → SetInRange (r .set)
@@ -77,16 +56,16 @@ module _ (bits q W : ℕ) (s : List ℕ) (depth : bits ≤ 16) where
   step-keeps x r z e = go (x .coded) (codeOf bits q s slot h r) refl e
     where
       i : ℕ
-      i = x .line * (W + 2) + x .position
+      i = stepPlace W x
 
       c : Context
-      c = contextAt (r .lines) (W + 2) i (x .position)
+      c = stepContext W x (r .lines)
 
       h : Look
-      h = lookOf q c
+      h = stepLook q W x (r .lines)
 
       slot : ℕ
-      slot = slotOf (x .position) (h .place)
+      slot = stepSlot q W x (r .lines)
 
       go : (b : Bool) (g : Coded) → codeOf bits q s slot h r ≡ g → cond b (taken bits q i slot c h r g) (some (interpolate i c r)) ≡ some z → Kept bits r z
       go true Truncated eg f = none-some z f
@@ -95,7 +74,7 @@ module _ (bits q W : ℕ) (s : List ℕ) (depth : bits ≤ 16) where
             samples = stored-le (largest bits) (r .lines) (i + 1) _ (sample-le (largest bits) (h .base) _ (h .negative) (c .prediction) (d .value));
             lines = length-set (r .lines) (i + 1) _;
             records = length-set (r .set) slot _;
-            ranges = updated-ranges bits q s slot h r d depth (slot-lt (x .position) (h .place) (place-lt q c)) eg;
+            ranges = updated-ranges bits q s slot h r d depth (slot-lt (x .position) q c) eg;
           })
       go false g eg f =
           same bits r _ z f (record {

@@ -1,24 +1,25 @@
 -- Readings step by step: what a step gives, a list of steps that is put together, and the turns of a pass. Assumes nothing.
-use mathlib.Core.Bool.{true, false, cond}
+use mathlib.Core.Bool.{true, false}
 use mathlib.Core.List.{List, [], _∷_, _++_}
 use mathlib.Core.Option.{Option, none, some}
 use mathlib.Core.Path.{_≡_, refl, _∙_}
-use Prim.Native.Nat.{ℕ, zero, suc, _+_, _-_, _*_, _/_, _%_, _≤_, _<_}
+use Prim.Native.Nat.{ℕ, zero, suc, _+_, _-_, _/_, _%_, _≤_, _<_}
 use native.Mathlib.Nat.{add-zero, add-suc}
 use native.Mathlib.Omega.{arith}
-use lib.Dec.{ltb, leb}
 use borrow.Author.Tests.{lt-ltb, le-ltb, le-leb, lt-leb}
 use Rattle.code.specs.declared.Code.{Code}
 use Rattle.code.specs.declared.Coded.the-variants.{Read, Truncated}
-use Rattle.pass.specs.Steps.{Step, evenSteps, oddSteps, turnSteps, upto, passSteps}
-use Rattle.pass.specs.Readings.{Reading, interpolate, take-code, stepPlace, stepContext, stepLook, stepSlot, stepCode, readStep, andThen, reads, readPass}
-use Rattle.pass.specs.declared.Plan.{Plan}
+use Rattle.steps.specs.Steps.{Step, evenSteps, oddSteps, evenPart, oddPart, turnSteps, upto, passSteps}
+use Rattle.steps.specs.Contexts.{stepPlace, stepContext, stepLook, stepSlot}
+use Rattle.steps.specs.declared.Plan.{Plan}
+use Rattle.steps.proofs.TurnLaws.{turn-is}
+use Rattle.pass.specs.Readings.{Reading, interpolate, takeCode, stepCode, readStep, andThen, reads, readPass}
 
 -- ---- one step
 
 module _ (bits q W : ℕ) (s : List ℕ) (x : Step) (r : Reading) where
   -- the three ways in which a step goes
-  pub step-interpolated : x .coded ≡ false → readStep bits q W s x r ≡ some (interpolate (stepPlace W x) (stepContext W x r) r)
+  pub step-interpolated : x .coded ≡ false → readStep bits q W s x r ≡ some (interpolate (stepPlace W x) (stepContext W x (r .lines)) r)
   unfolding readStep
   step-interpolated e = rw e
 
@@ -27,7 +28,7 @@ module _ (bits q W : ℕ) (s : List ℕ) (x : Step) (r : Reading) where
   step-cut-off e f = rw (e, f)
 
   pub step-read : (c : Code) → x .coded ≡ true → stepCode bits q W s x r ≡ Read c
-      → readStep bits q W s x r ≡ some (take-code bits q (stepPlace W x) (stepSlot q W x r) (stepContext W x r) (stepLook q W x r) c r)
+      → readStep bits q W s x r ≡ some (takeCode bits q (stepPlace W x) (stepSlot q W x (r .lines)) (stepContext W x (r .lines)) (stepLook q W x (r .lines)) c r)
   unfolding readStep
   step-read c e f = rw (e, f)
 
@@ -84,17 +85,6 @@ module _ {bits q W : ℕ} {s : List ℕ} {r : Reading} where
   stays f t (suc m) h = rw add-suc (longer f (t + m) (stays f t m h))
 
 -- ---- the turns of a pass
-
--- the steps of a turn at the even position p
-abbrev pub evenPart : ℕ → Plan → ℕ → List Step
-evenPart W P p = cond (ltb p W) (evenSteps P p) []
-
-abbrev pub oddPart : Plan → ℕ → List Step
-oddPart P p = cond (leb 8 p) (oddSteps P (p - 7)) []
-
-pub turn-is : (W : ℕ) (P : Plan) (p : ℕ) → p % 2 ≡ 0 → evenPart W P p ++ oddPart P p ≡ turnSteps W P (p / 2)
-unfolding turnSteps
-turn-is W P p h = let e : 2 * (p / 2) ≡ p = omega arith in rw e
 
 module _ {bits q W : ℕ} {s : List ℕ} (P : Plan) (p : ℕ) where
   -- a part is read where p is in it, and else nothing is read

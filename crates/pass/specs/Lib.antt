@@ -1,3 +1,3 @@
--- The definitions of a pass.
-pub mod Steps
+-- The definitions of reading a pass.
 pub mod Readings
+pub mod Pairs

@@ -3,10 +3,11 @@
 // their layout.
 ghost use Prim.Native.Nat.{_+_, _≤_, _<_};
 ghost use lib.ListN.{length};
+use answers::Tally;
+use answers::word;
 use bits::BitPosition;
 use bits::BitPumpMsb;
 use bits::ByteOffset;
-use libc::STDOUT_FILENO;
 
 // A call of a pump: 1 peek, 2 get, 3 skip, 4 align_byte. What it answered, and the positions after it.
 struct Call {
@@ -15,30 +16,6 @@ struct Call {
     value: u32,
     bits: u32,
     bytes: u32,
-}
-
-// How many calls were compared and how many differ.
-struct Tally {
-    compared: u64,
-    differ: u64,
-    // No record is left.
-    done: bool,
-}
-
-fn wide(x: u8) -> u32
-    ensures { λ r. ⌜ r < 256 ⌝ }
-{
-    x as u32
-}
-
-// The word that begins at byte i.
-fn word(s: &[u8], i: usize) -> u32
-    requires { ⌜ (i < 1000) × (i < length (now s)) ⌝ }
-{
-    if s.len() < i + 4 {
-        return 0;
-    }
-    wide(s[i]) * 0x100_0000 + wide(s[i + 1]) * 0x1_0000 + wide(s[i + 2]) * 0x100 + wide(s[i + 3])
 }
 
 // Call i of a sequence.
@@ -124,30 +101,22 @@ fn compared(r: &[u8; 528]) -> u64 {
 }
 
 // Reads a record and compares it. A record that is cut off differs.
-fn compare_one(fd: i32, t: Tally) -> Tally {
+fn compare_one(fd: i32, t: Tally, number: u64) -> Tally {
     let mut r = [0u8; 528];
     let size = io::read_full(fd, &mut r);
-    let mut next = t;
     if size == 0 {
-        next.done = true;
-        return next;
+        return answers::ended(t);
     }
     let differ = if size < 528 { 24 } else { compared(&r) };
-    next.compared = std::num::wrapping_add_u64(next.compared, 24);
-    next.differ = std::num::wrapping_add_u64(next.differ, differ);
-    next
+    answers::counted(t, number, 0, 24, differ)
 }
 
-// Nothing says that a file ends, so that the records are counted.
+// Nothing says that a file ends, so the records are counted. There are no closures, so each program has this loop of its own.
 fn compare_all(fd: i32) -> Tally {
-    let mut t = Tally {
-        compared: 0,
-        differ: 0,
-        done: false,
-    };
+    let mut t = answers::start();
     let mut number: u64 = 0;
     while number < 20000 {
-        t = compare_one(fd, t);
+        t = compare_one(fd, t, number);
         if t.done {
             return t;
         }
@@ -157,17 +126,11 @@ fn compare_all(fd: i32) -> Tally {
 }
 
 fn main() {
-    let path = b"answers.bin";
-    let fd = os::open_read(path);
+    let fd = answers::open(b"answers.bin");
     if fd < 0 {
-        os::fail(path);
         return;
     }
     let t = compare_all(fd);
     libc::close(fd);
-    io::write_all(STDOUT_FILENO, b"calls: ");
-    io::print_decimal(STDOUT_FILENO, t.compared);
-    io::write_all(STDOUT_FILENO, b" compared, ");
-    io::print_decimal(STDOUT_FILENO, t.differ);
-    io::write_all(STDOUT_FILENO, b" differ\n");
+    answers::print(b"calls", t, 0);
 }

@@ -1,8 +1,10 @@
 // Regions of the picture: which are refused, which blocks and lines the others need, and where a block's samples go.
 ghost use mathlib.Core.Path.{_≡_};
-ghost use Prim.Native.Nat.{_-_, _^_, _≤_, _<_, min};
+ghost use Prim.Native.Nat.{_^_, _≤_, _<_};
 ghost use Rattle.region.specs.Regions.{saturated, rightOf, bottomOf, isOutside, isEmpty, spanOf, checkedOf, partIn};
 use map::Part;
+use numbers::saturating_sub_usize;
+use numbers::smaller_usize;
 use stream::FujiHeader;
 use stream::Refusal;
 
@@ -38,19 +40,6 @@ fn saturating_add(a: usize, b: usize) -> usize
         return LARGEST;
     }
     a + b
-}
-
-// a - b, or 0 where b is more.
-fn saturating_sub(a: usize, b: usize) -> usize
-    ensures { λ r. ⌜ r ≡ a - b ⌝ }
-{
-    if a < b { 0 } else { a - b }
-}
-
-fn smaller(a: usize, b: usize) -> usize
-    ensures { λ r. ⌜ r ≡ min a b ⌝ }
-{
-    if a < b { a } else { b }
 }
 
 impl Rect {
@@ -128,9 +117,9 @@ pub fn part(r: Rect, b: usize) -> Part
     let x = r.x;
     let first = 768 * b;
     Part {
-        left: saturating_sub(x, first),
-        right: smaller(saturating_sub(r.right(), first), 768),
-        start: saturating_sub(first, x),
+        left: saturating_sub_usize(x, first),
+        right: smaller_usize(saturating_sub_usize(r.right(), first), 768),
+        start: saturating_sub_usize(first, x),
         stride: r.width,
         top: r.y,
         bottom: r.bottom(),

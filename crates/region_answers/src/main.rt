@@ -1,8 +1,10 @@
 // Decodes regions of streams whose blocks the original Rust read, and counts how many calls were compared and how many differ. The records
 // are in regions.bin; tools/make-regions.py writes them, and has their layout. A record whose numbers are out of range differs.
-ghost use Prim.Native.Nat.{_*_, _^_, _≤_, _<_};
+ghost use Prim.Native.Nat.{_*_, _≤_, _<_};
+use answers::Tally;
+use answers::half;
+use answers::word;
 use block::Decoded;
-use libc::STDOUT_FILENO;
 use region::Rect;
 use stream::Refusal;
 
@@ -15,54 +17,31 @@ struct Sizes {
     line: usize,
 }
 
-struct Tally {
-    done: u64,
-    refused: u64,
-    differ: u64,
-    // No record is left.
-    end: bool,
-}
-
-fn wide(x: u8) -> u32
-    ensures { λ r. ⌜ r < 256 ⌝ }
-{
-    x as u32
-}
-
-fn word_of(sample: u16) -> u32 {
-    sample as u32
-}
-
-// The word that begins at byte i.
-fn word(r: &[u8; 88], i: usize) -> u32
-    requires { ⌜ i ≤ 84 ⌝ }
-{
-    wide(r[i]) * 0x100_0000 + wide(r[i + 1]) * 0x1_0000 + wide(r[i + 2]) * 0x100 + wide(r[i + 3])
-}
-
 // The number of 64 bits that begins at byte i.
-fn long(r: &[u8; 88], i: usize) -> usize
+fn long(s: &[u8], i: usize) -> usize
     requires { ⌜ i ≤ 80 ⌝ }
 {
-    (word(r, i) as usize) * 0x1_0000_0000 + (word(r, i + 4) as usize)
+    (word(s, i) as usize) * 0x1_0000_0000 + (word(s, i + 4) as usize)
 }
 
 fn rect_of(r: &[u8; 88]) -> Rect {
+    let s = &r[..];
     Rect {
-        x: long(r, 4),
-        y: long(r, 12),
-        width: long(r, 20),
-        height: long(r, 28),
+        x: long(s, 4),
+        y: long(s, 12),
+        width: long(s, 20),
+        height: long(s, 28),
     }
 }
 
 fn sizes_of(r: &[u8; 88]) -> Sizes {
+    let s = &r[..];
     Sizes {
-        stream: word(r, 0) as usize,
-        image: word(r, 36) as usize,
-        number: word(r, 40),
-        block: word(r, 44) as usize,
-        line: word(r, 48) as usize,
+        stream: word(s, 0) as usize,
+        image: word(s, 36) as usize,
+        number: word(s, 40),
+        block: word(s, 44) as usize,
+        line: word(s, 48) as usize,
     }
 }
 
@@ -94,9 +73,7 @@ fn image_agrees(image: &[u16; 28000], want: &[u8; 56000], n: usize) -> bool
 {
     let mut i: usize = 0;
     while i < n {
-        let high = wide(want[2 * i]);
-        let low = wide(want[2 * i + 1]);
-        if word_of(image[i]) != high * 0x100 + low {
+        if numbers::u16_to_u32(image[i]) != half(&want[..], 2 * i) {
             return false;
         }
         i += 1;
@@ -144,49 +121,32 @@ fn compare_rest(fd: i32, s: Sizes, r: Rect, tile: [u8; 36]) -> bool {
     agrees(&bytes, &want, s, r, tile)
 }
 
-fn counted(t: Tally, number: u64, refusal: u32, is_same: bool) -> Tally {
-    let mut next = t;
-    if refusal == 0 {
-        next.done = std::num::wrapping_add_u64(next.done, 1);
-    } else {
-        next.refused = std::num::wrapping_add_u64(next.refused, 1);
-    }
-    if is_same {
-        return next;
-    }
-    io::write_all(STDOUT_FILENO, b"differs: record ");
-    io::print_decimal(STDOUT_FILENO, number);
-    io::write_all(STDOUT_FILENO, b"\n");
-    next.differ = std::num::wrapping_add_u64(next.differ, 1);
-    next
-}
-
-// Reads a record and compares it.
+// Reads a record and compares it: accepted calls are of kind 0, refused ones of kind 1.
 fn compare_one(fd: i32, t: Tally, number: u64) -> Tally {
     let mut r = [0u8; 88];
     let length = io::read_full(fd, &mut r);
     if length == 0 {
-        let mut last = t;
-        last.end = true;
-        return last;
+        return answers::ended(t);
     }
     let s = sizes_of(&r);
-    let is_same = compare_rest(fd, s, rect_of(&r), tile_of(&r));
-    counted(t, number, s.number, is_same)
+    let differ = if compare_rest(fd, s, rect_of(&r), tile_of(&r)) {
+        0
+    } else {
+        1
+    };
+    if s.number == 0 {
+        return answers::counted(t, number, 0, 1, differ);
+    }
+    answers::counted(t, number, 1, 1, differ)
 }
 
-// Nothing says that a file ends, so that the records are counted.
+// Nothing says that a file ends, so the records are counted. There are no closures, so each program has this loop of its own.
 fn compare_all(fd: i32) -> Tally {
-    let mut t = Tally {
-        done: 0,
-        refused: 0,
-        differ: 0,
-        end: false,
-    };
+    let mut t = answers::start();
     let mut number: u64 = 0;
     while number < 1000 {
         t = compare_one(fd, t, number);
-        if t.end {
+        if t.done {
             return t;
         }
         number += 1;
@@ -194,21 +154,13 @@ fn compare_all(fd: i32) -> Tally {
     t
 }
 
-fn print(n: u64, what: &[u8]) {
-    io::print_decimal(STDOUT_FILENO, n);
-    io::write_all(STDOUT_FILENO, what);
-}
-
 fn main() {
-    let path = b"regions.bin";
-    let fd = os::open_read(path);
+    let fd = answers::open(b"regions.bin");
     if fd < 0 {
-        os::fail(path);
         return;
     }
     let t = compare_all(fd);
     libc::close(fd);
-    print(t.done, b" regions decoded, ");
-    print(t.refused, b" refused, ");
-    print(t.differ, b" differ\n");
+    answers::print(b"regions decoded", t, 0);
+    answers::print(b"regions refused", t, 1);
 }

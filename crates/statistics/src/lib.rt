@@ -19,20 +19,23 @@ fn is_enough(sum: u32, n: u32, k: u32) -> bool
     sum <= n << k
 }
 
-// How many of the numbers from k to 14 are too small: k is tried, and then it calls itself on k + 1. Where the search ends cannot be foretold, so
-// that only every third number may end it; the numbers between are counted without a branch.
+// How many of the numbers from k to 14 are too small. Where the search ends cannot be foretold, so only every third number may end it; the numbers
+// between are counted without a branch.
 fn too_small_from(sum: u32, n: u32, k: u32) -> u32
     requires { ⌜ (k ≤ 15) × ((1 ≤ n) × (n ≤ 64)) ⌝ }
     ensures { λ r. ⌜ (r + k ≡ leastFrom (15 - k) (enough sum n) k) × (r + k ≤ 15) ⌝ }
 {
-    if k == 15 {
-        return 0;
+    let mut count: u32 = 0;
+    let mut j = k;
+    while j < 15 {
+        let enough = is_enough(sum, n, j);
+        if enough & (j % 3 == 0) {
+            return count;
+        }
+        count += numbers::flag(!enough);
+        j += 1;
     }
-    let enough = is_enough(sum, n, k);
-    if enough & (k % 3 == 0) {
-        return 0;
-    }
-    numbers::flag(!enough) + too_small_from(sum, n, k + 1)
+    count
 }
 
 impl Record {

@@ -61,10 +61,10 @@ is-within a b x e =
     (leb-true a x (t .0), leb-true x b (t .1))
 
 -- 12, 14 or 16
-abbrev Depth : ℕ → Type 0
+abbrev pub Depth : ℕ → Type 0
 Depth n = (12 ≤ n) × (n ≤ 16) × (n % 2 ≡ 0)
 
-depth : (n : ℕ) → (eqb n 12 || eqb n 14 || eqb n 16) ≡ true → Depth n
+pub depth : (n : ℕ) → (eqb n 12 || eqb n 14 || eqb n 16) ≡ true → Depth n
 depth n e =
     either (eqb n 12 || eqb n 14) (eqb n 16) e
     (λ f. either (eqb n 12) (eqb n 14) f (λ g. is 12 (eqb-true n 12 g) (lit≤ tt, lit≤ tt, refl)) (λ g. is 14 (eqb-true n 14 g) (lit≤ tt, lit≤ tt, refl)))

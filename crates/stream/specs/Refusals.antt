@@ -3,7 +3,7 @@ use Prim.Native.Nat.{ℕ}
 use mathlib.Core.List.{List, [], _∷_}
 use mathlib.Core.Option.{Option, none, some}
 use Rattle.stream.specs.declared.Refusal.{Refusal}
-use Rattle.stream.specs.declared.Refusal.the-variants.{ShortHeader, BadHeader, ShortSizes, ShortBases, NoBlock, WrongSize, OutsideImage, Lossy, WrongCount, ShortScratch, AboveLargest, NotPredicted, ShortOutput, Truncated, NotTight}
+use Rattle.stream.specs.declared.Refusal.the-variants.{ShortHeader, BadHeader, ShortSizes, ShortBases, NoBlock, WrongSize, OutsideImage, Lossy, WrongCount, ShortScratch, AboveLargest, NotPredicted, ShortOutput, Truncated, NotTight, Lossless, WrongBases, BadRecord, HeldTwice, NotHeld, OutsideSheet}
 
 -- what a refusal says: its number, and the block, the line and the index that it names
 pub record Meaning : Type 0 where
@@ -32,6 +32,12 @@ meaningOf (NotPredicted index) = naming 12 none none (some index)
 meaningOf ShortOutput = naming 13 none none none
 meaningOf (Truncated block line) = naming 14 (some block) (some line) none
 meaningOf (NotTight line) = naming 15 none (some line) none
+meaningOf Lossless = naming 16 none none none
+meaningOf WrongBases = naming 17 none none none
+meaningOf (BadRecord index) = naming 18 none none (some index)
+meaningOf (HeldTwice line) = naming 19 none (some line) none
+meaningOf (NotHeld line) = naming 20 none (some line) none
+meaningOf OutsideSheet = naming 24 none none none
 
 abbrev pub numberOf : Refusal → ℕ
 numberOf r = (meaningOf r) .number

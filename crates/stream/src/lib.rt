@@ -24,6 +24,12 @@ pub enum Refusal {
     ShortOutput,
     Truncated(usize, usize),
     NotTight(usize),
+    Lossless,
+    WrongBases,
+    BadRecord(usize),
+    HeldTwice(usize),
+    NotHeld(usize),
+    OutsideSheet,
 }
 
 // A refusal for C: its number, and the block, the line and the index that it names, 0 where it names none.
@@ -46,6 +52,12 @@ pub fn refusal_words(r: Refusal) -> [usize; 4]
         Refusal::ShortOutput => [13, 0, 0, 0],
         Refusal::Truncated(b, l) => [14, b, l, 0],
         Refusal::NotTight(l) => [15, 0, l, 0],
+        Refusal::Lossless => [16, 0, 0, 0],
+        Refusal::WrongBases => [17, 0, 0, 0],
+        Refusal::BadRecord(i) => [18, 0, 0, i],
+        Refusal::HeldTwice(l) => [19, 0, l, 0],
+        Refusal::NotHeld(l) => [20, 0, l, 0],
+        Refusal::OutsideSheet => [24, 0, 0, 0],
     }
 }
 
@@ -79,17 +91,11 @@ pub enum Ranged {
     Refused(Refusal),
 }
 
-fn wide(x: u8) -> u32
-    ensures { λ r. ⌜ (r ≡ x) × (r < 256) ⌝ }
-{
-    x as u32
-}
-
 fn byte(d: &[u8], i: usize) -> u32
     requires { ⌜ i < length (now d) ⌝ }
     ensures { λ r. ⌜ (r ≡ byteAt (now (d .entry)) i) × (r < 256) ⌝ }
 {
-    wide(d[i])
+    numbers::u8_to_u32(d[i])
 }
 
 // The two bytes at i.

@@ -1,14 +1,8 @@
--- Laws about writing, and how it goes with reading.
+-- Laws about writing.
 pub mod SetLaws
 pub mod WriteLaws
 pub mod LosslessLaws
-pub mod Twins
-pub mod StepTwins
-pub mod ListTwins
-pub mod OrderLaws
-pub mod PassTwins
-pub mod PutLaws
-pub mod WordLaws
+pub mod CodePuts
 pub mod StepPuts
 pub mod SitePuts
 pub mod TurnPuts

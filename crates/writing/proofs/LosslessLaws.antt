@@ -7,7 +7,7 @@ use lib.Pow.{pow-pos, pow-mono}
 use borrow.Author.Tests.{le-leb, lt-leb}
 use Rattle.numbers.proofs.LeastLaws.{least-is}
 use Rattle.quantiser.specs.Quantisers.{largest, totalOf, rawOf, quantiserOf}
-use Rattle.pass.specs.Readings.{usedQuantiser}
+use Rattle.steps.specs.Contexts.{usedQuantiser}
 
 -- total is M + 1, and the codes of all samples fit the long form
 pub record Lossless (bits : ℕ) : Type 0 where

@@ -5,12 +5,12 @@ use mathlib.Core.Path.{_≡_}
 use Prim.Native.Nat.{ℕ, _+_, _/_, _^_, _≤_}
 use native.Mathlib.Omega.{arith}
 use lib.ListN.{length}
-use Rattle.pass.specs.Steps.{passSteps}
-use Rattle.pass.specs.declared.Plan.{Plan}
+use Rattle.steps.specs.Steps.{passSteps}
+use Rattle.steps.specs.declared.Plan.{Plan}
 use Rattle.writing.specs.Puts.{Within}
 use Rattle.writing.specs.Writings.{Writing, writePass}
 use Rattle.writing.proofs.StepPuts.{writes-within, writes-wrong, writes-short}
-use Rattle.writing.proofs.TurnPuts.{turns-le}
+use Rattle.steps.proofs.TurnLaws.{turns-le}
 
 module _ (bits W : ℕ) (t : List ℕ) (n : ℕ) (P : Plan) (r : Writing) where
   -- samples up to M

@@ -13,11 +13,12 @@ use Rattle.quantiser.specs.Quantisers.{largest}
 use Rattle.prediction.specs.declared.Context.{Context}
 use Rattle.code.specs.Samples.{residualOf}
 use Rattle.code.specs.Tight.{codeFor, codeBits}
-use Rattle.pass.specs.Steps.{Step, stepAt}
-use Rattle.pass.specs.Readings.{usedQuantiser, lookOf, slotOf, noRecord, zipRecords, SetInRange, Depth}
-use Rattle.pass.specs.declared.Look.{Look}
-use Rattle.pass.proofs.LookLaws.{look-lossless}
-use Rattle.writing.specs.Puts.{putIf, Room, Within, bitsOfSample, setOfSample, StepsRoom, StepsPut}
+use Rattle.steps.specs.Steps.{Step, stepAt}
+use Rattle.steps.specs.Contexts.{lookOf, slotOf, noRecord}
+use Rattle.steps.specs.Values.{zipRecords, SetInRange}
+use Rattle.steps.specs.declared.Look.{Look}
+use Rattle.steps.proofs.LookLaws.{look-lossless}
+use Rattle.writing.specs.Puts.{IsMain, putIf, Room, Within, bitsOfSample, setOfSample, StepsRoom, StepsPut}
 use Rattle.writing.specs.declared.Put.{Put}
 use Rattle.writing.specs.declared.Put.the-variants.{At, Wrong}
 use Rattle.writing.proofs.LosslessLaws.{code-numbers}
@@ -30,7 +31,7 @@ main x = ap (λ (h : Look). h .choice) (look-lossless x)
 -- ---- what steps find, and what is known after one of them
 
 pub record Ready (bits limit raw W : ℕ) (t : List ℕ) (n : ℕ) (l : List Step) (store : Bool) (from : BitPosition) (lines sums ns out : List ℕ) : Type 0 where
-  pub numbers : Depth bits × ((limit ≡ (usedQuantiser bits 0 0) .limit) × (raw ≡ (usedQuantiser bits 0 0) .raw))
+  pub numbers : IsMain bits limit raw
   pub wanted : Within (largest bits) t
   pub held : Within (largest bits) lines
   pub records : SetInRange (zipRecords sums ns)
@@ -70,7 +71,7 @@ module _ {bits limit raw W : ℕ} {t : List ℕ} {n : ℕ} {y z : Step} {store :
           wanted = r .wanted;
           held = within-after (d .put) refl (largest bits) (r .wanted) (r .held);
           records = d .records;
-          low = omega (arith, r .low, position-after (d .put) refl (r .numbers .0 .1));
+          low = omega (arith, r .low, position-after (d .put) refl (r .numbers .depth .1));
           room = room-after (d .put) refl (z ∷ []) (d .same) (r .room);
         }
 
@@ -107,20 +108,20 @@ module _ {bits limit raw W : ℕ} {t : List ℕ} {n line p : ℕ} {coded store :
   -- ---- with a code, by the record at this place of the set
 
   module _ {m slot code : ℕ} (em : (m ≡ largest bits) × (m < 2 ^ 16))
-      (ec : (slot ≡ slotOf p ((lookOf 0 x) .place)) × ((slot < 112) × ((code ≡ codeFor m ((lookOf 0 x) .negative) (x .prediction) v) × (code ≤ m)))) where
+      (ec : ((slot ≡ slotOf p ((lookOf 0 x) .place)) × (slot < 112)) × ((code ≡ codeFor m ((lookOf 0 x) .negative) (x .prediction) v) × (code ≤ m))) where
     -- what `record_at` asks
     pub site-record : (slot < 112) × SetInRange (zipRecords sums ns)
-    site-record = (ec .1 .0, s .ready .records)
+    site-record = (ec .0 .1, s .ready .records)
 
     module _ {old : Record} (eo : (old ≡ getD (zipRecords sums ns) slot noRecord) × InRange old) where
       -- what `update_at` asks
-      pub site-update : ((code < 2 ^ 16) × ((slot < 112) × InRange old)) × SetInRange (zipRecords sums ns)
-      site-update = ((omega (arith, em .1, ec .1 .1 .1), (ec .1 .0, eo .1)), s .ready .records)
+      pub site-update : ((code < 63 * 2 ^ 15) × ((slot < 112) × InRange old)) × SetInRange (zipRecords sums ns)
+      site-update = ((omega (arith, em .1, ec .1 .1), (ec .0 .1, eo .1)), s .ready .records)
 
       module _ (ct : coded ≡ true) {k : ℕ} (ek : (k ≡ kOf old) × (k ≤ 15)) where
         bits-are : codeBits k limit raw code ≡ bitsOfSample bits p (getD t j 0) x (zipRecords sums ns)
         unfolding bitsOfSample
-        bits-are = rw (ek .0, eo .0, ec .0, ec .1 .1 .0, em .0, ev, s .ready .numbers .1 .0, s .ready .numbers .1 .1, main x)
+        bits-are = rw (ek .0, eo .0, ec .0 .0, ec .1 .0, em .0, ev, s .ready .numbers .limit-is, s .ready .numbers .raw-is, main x)
 
         -- what `put_code` asks
         pub site-room : ((k ≤ 15) × ((1 ≤ limit) × ((limit ≤ 47) × ((raw ≤ 16) × ((code < 2 ^ 16) × (code ≤ 2 ^ raw))))))
@@ -128,15 +129,15 @@ module _ {bits limit raw W : ℕ} {t : List ℕ} {n line p : ℕ} {coded store :
         site-room =
             let r = s .ready in
             let d = r .numbers in
-            let q = code-numbers bits (d .0 .0) (d .0 .1) in
-            let c : code ≤ largest bits = rw (em .0) at (ec .1 .1 .1) in (
-              (ek .1, (rw (d .1 .0) (q .0), (rw (d .1 .0) (q .1), (rw (d .1 .1) (q .2), (site-update .0 .0, rw (d .1 .1) (omega (arith, c, q .3))))))),
+            let q = code-numbers bits (d .depth .0) (d .depth .1) in
+            let c : code ≤ largest bits = rw (em .0) at (ec .1 .1) in (
+              (ek .1, (rw (d .limit-is) (q .0), (rw (d .limit-is) (q .1), (rw (d .raw-is) (q .2), (omega (arith, em .1, ec .1 .1), rw (d .raw-is) (omega (arith, c, q .3))))))),
               (omega (arith, r .low), rw bits-are (sample-room (s .sample) bits store coded (from .0) sums ns out ct (r .room))),
             )
 
         set-is : set (zipRecords sums ns) slot (updated old ((residualOf code) .size)) ≡ setOfSample bits p (getD t j 0) x (zipRecords sums ns)
         unfolding setOfSample
-        set-is = rw (eo .0, ec .0, ec .1 .1 .0, em .0, ev)
+        set-is = rw (eo .0, ec .0 .0, ec .1 .0, em .0, ev)
 
         pub site-done : {after : BitPosition} {out' sums' ns' : List ℕ}
             → (after .0 ≡ from .0 + length (codeBits k limit raw code)) × (out' ≡ putIf store out (from .0) (codeBits k limit raw code)) → length out' ≡ length out

@@ -6,9 +6,9 @@ use mathlib.Core.Option.{Option, none, some}
 use mathlib.Core.Path.{_≡_, refl, sym, ap, _∙_}
 use Prim.Native.Nat.{ℕ, _+_, _-_, _*_, _/_, _^_, _≤_, _<_}
 use native.Mathlib.Omega.{arith}
-use lib.Dec.{eqb, ltb, leb}
+use lib.Dec.{eqb}
 use lib.ListN.{length, getD, set, length-append}
-use borrow.Author.Tests.{eq-eqb, ne-eqb, lt-ltb, le-leb}
+use borrow.Author.Tests.{eq-eqb, ne-eqb, lt-ltb, le-ltb, lt-leb, le-leb}
 use Rattle.bits.specs.declared.BitPosition.{BitPosition}
 use Rattle.bits.specs.BitLists.{bytesFor}
 use Rattle.statistics.specs.Statistics.{kOf}
@@ -18,20 +18,21 @@ use Rattle.code.specs.Tight.{codeLength}
 use Rattle.code.proofs.TightLaws.{length-codeBits, short-length, long-length}
 use Rattle.numbers.proofs.OrderLaws.{split}
 use Rattle.prediction.specs.declared.Context.{Context}
-use Rattle.pass.specs.Steps.{Step, stepAt, evenSteps, oddSteps}
-use Rattle.pass.specs.Readings.{contextAt, lookOf, slotOf, noRecord, usedBase, usedWeight, zipRecords, stepPlace}
-use Rattle.pass.specs.declared.Look.{Look}
-use Rattle.pass.specs.declared.Plan.{Plan}
-use Rattle.pass.proofs.RangeLaws.{context-le}
-use Rattle.pass.proofs.TableLaws.{numbers-le}
-use Rattle.pass.proofs.ZipLaws.{set-keeps}
+use Rattle.steps.specs.Steps.{Step, stepAt, evenSteps, oddSteps, evenPart, oddPart}
+use Rattle.steps.specs.Contexts.{contextAt, lookOf, slotOf, noRecord, usedBase, usedWeight, stepPlace, stepContext}
+use Rattle.steps.specs.Values.{zipRecords}
+use Rattle.steps.specs.declared.Look.{Look}
+use Rattle.steps.specs.declared.Plan.{Plan}
+use Rattle.steps.proofs.ContextLaws.{context-le}
+use Rattle.steps.proofs.TableLaws.{numbers-le}
+use Rattle.steps.proofs.ZipLaws.{set-keeps}
 use Rattle.writing.specs.Sets.{indexIn}
 use Rattle.writing.specs.Writings.{Writing, orSecond, writeStep, writes}
 use Rattle.writing.specs.Puts.{putIf, Room, Within, bitsOfSample, setOfSample, startOf, StepsRoom, IsPut, StepsPut}
 use Rattle.writing.specs.declared.Put.{Put}
 use Rattle.writing.specs.declared.Put.the-variants.{At, Wrong}
-use Rattle.writing.proofs.WriteLaws.{contextIn, wanted, write-coded, write-interpolated, after, writes-append, writes-after, writes-add}
-use Rattle.writing.proofs.PutLaws.{put-none, put-more}
+use Rattle.writing.proofs.WriteLaws.{wanted, write-coded, write-interpolated, after, writes-append, writes-after, writes-add}
+use Rattle.output.proofs.PutLaws.{put-none, put-more}
 
 -- ---- one step
 
@@ -40,8 +41,8 @@ module _ (bits W : ℕ) (t : List ℕ) (n : ℕ) (x : Step) (r : Writing) where
       → writes bits W t n (x ∷ []) r
       ≡ record {
         lines = set (r .lines) (stepPlace W x + 1) (wanted W t n x);
-        set = setOfSample bits (x .position) (wanted W t n x) (contextIn W x (r .lines)) (r .set);
-        bits = r .bits ++ bitsOfSample bits (x .position) (wanted W t n x) (contextIn W x (r .lines)) (r .set);
+        set = setOfSample bits (x .position) (wanted W t n x) (stepContext W x (r .lines)) (r .set);
+        bits = r .bits ++ bitsOfSample bits (x .position) (wanted W t n x) (stepContext W x (r .lines)) (r .set);
         wrong = r .wrong;
       }
   unfolding writes writeStep bitsOfSample setOfSample
@@ -53,7 +54,7 @@ module _ (bits W : ℕ) (t : List ℕ) (n : ℕ) (x : Step) (r : Writing) where
         lines = set (r .lines) (stepPlace W x + 1) (wanted W t n x);
         set = r .set;
         bits = r .bits;
-        wrong = orSecond (r .wrong) (cond (eqb (wanted W t n x) ((contextIn W x (r .lines)) .prediction)) none (some (indexIn W n (x .line) (x .position))));
+        wrong = orSecond (r .wrong) (cond (eqb (wanted W t n x) ((stepContext W x (r .lines)) .prediction)) none (some (indexIn W n (x .line) (x .position))));
       }
   unfolding writes writeStep
   step-interpolated e = rw e
@@ -251,7 +252,7 @@ module _ (bits W : ℕ) (t : List ℕ) (n : ℕ) (depth : bits ≤ 16) where
   step-short x r = go (x .coded) refl
     where
       go : (b : Bool) → x .coded ≡ b → length ((writes bits W t n (x ∷ []) r) .bits) ≤ length (r .bits) + 80
-      go true e = rw (step-coded bits W t n x r e, length-append) (omega (arith, sample-short (x .position) (wanted W t n x) (contextIn W x (r .lines)) (r .set)))
+      go true e = rw (step-coded bits W t n x r e, length-append) (omega (arith, sample-short (x .position) (wanted W t n x) (stepContext W x (r .lines)) (r .set)))
       go false e = rw (step-interpolated bits W t n x r e) (omega arith)
 
   pub writes-short : (l : List Step) (r : Writing) → length ((writes bits W t n l r) .bits) ≤ length (r .bits) + 80 * length l
@@ -301,15 +302,19 @@ pub same-steps : {bits W : ℕ} {t : List ℕ} {n : ℕ} {k l : List Step} {stor
 same-steps e g = rw e at g
 
 -- no step is due
-pub none-due : (bits W : ℕ) (t : List ℕ) (n : ℕ) (b : Bool) (l : List Step) (store : Bool) (from : BitPosition) (lines sums ns out : List ℕ) → b ≡ false
-    → StepsPut bits W t n (cond b l []) store (from .0) lines sums ns out lines sums ns out (At from)
-none-due bits W t n b l store from lines sums ns out e = rw e (no-puts bits W t n store from lines sums ns out)
+pub no-even : (bits W : ℕ) (t : List ℕ) (n : ℕ) (P : Plan) (p : ℕ) (store : Bool) (from : BitPosition) (lines sums ns out : List ℕ) → W ≤ p
+    → StepsPut bits W t n (evenPart W P p) store (from .0) lines sums ns out lines sums ns out (At from)
+no-even bits W t n P p store from lines sums ns out h = rw (le-ltb p W h) (no-puts bits W t n store from lines sums ns out)
+
+pub no-odd : (bits W : ℕ) (t : List ℕ) (n : ℕ) (P : Plan) (p : ℕ) (store : Bool) (from : BitPosition) (lines sums ns out : List ℕ) → p < 8
+    → StepsPut bits W t n (oddPart P p) store (from .0) lines sums ns out lines sums ns out (At from)
+no-odd bits W t n P p store from lines sums ns out h = rw (lt-leb 8 p h) (no-puts bits W t n store from lines sums ns out)
 
 module _ (P : Plan) (W p : ℕ) where
-  pub even-due : p < W → evenSteps P p ≡ cond (ltb p W) (evenSteps P p) []
+  pub even-due : p < W → evenSteps P p ≡ evenPart W P p
   even-due h = rw (lt-ltb p W h)
 
-  pub odd-due : 8 ≤ p → oddSteps P (p - 7) ≡ cond (leb 8 p) (oddSteps P (p - 7)) []
+  pub odd-due : 8 ≤ p → oddSteps P (p - 7) ≡ oddPart P p
   odd-due h = rw (le-leb 8 p h)
 
 -- and the same answer

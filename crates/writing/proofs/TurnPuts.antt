@@ -1,17 +1,16 @@
 -- The turns of a pass that puts its bits, and what the pass hands back. Assumes nothing.
-use mathlib.Core.Bool.{Bool, true, false, cond}
-use mathlib.Core.List.{List, [], _++_, append-assoc}
+use mathlib.Core.Bool.{Bool, true, false}
+use mathlib.Core.List.{List, _++_, append-assoc}
 use mathlib.Core.Option.{Option, none, some}
 use mathlib.Core.Path.{_≡_, refl, ap, _∙_}
 use Prim.Native.Nat.{ℕ, zero, suc, _+_, _-_, _*_, _/_, _%_, _≤_, _<_}
 use native.Mathlib.Nat.{add-zero, add-suc}
 use native.Mathlib.Omega.{arith}
-use lib.Dec.{ltb, leb}
 use lib.ListN.{length, length-append}
 use Rattle.bits.specs.declared.BitPosition.{BitPosition}
-use Rattle.pass.specs.Steps.{Step, evenSteps, oddSteps, turnSteps, upto, passSteps}
-use Rattle.pass.specs.declared.Plan.{Plan}
-use Rattle.pass.proofs.StepLaws.{evenPart, oddPart, turn-is}
+use Rattle.steps.specs.Steps.{Step, evenPart, oddPart, turnSteps, upto, passSteps}
+use Rattle.steps.specs.declared.Plan.{Plan}
+use Rattle.steps.proofs.TurnLaws.{turn-is, evens-le, turns-le}
 use Rattle.writing.specs.Writings.{Writing, writes, writePass}
 use Rattle.writing.specs.Puts.{Room, startOf, StepsRoom, IsPut, StepsPut, wrongAt, IsPassPut}
 use Rattle.writing.specs.declared.Put.{Put}
@@ -38,25 +37,11 @@ module _ (W : ℕ) (P : Plan) (p : ℕ) where
   unfolding passSteps
   all-turns h e = let n : p / 2 ≡ W / 2 + 4 = omega arith in rw n
 
--- a turn has at most four steps
-part-le : (b : Bool) (l : List Step) → length l ≤ 2 → length (cond b l []) ≤ 2
-part-le true l h = h
-part-le false l h = omega arith
-
-turn-le : (W : ℕ) (P : Plan) (t : ℕ) → length (turnSteps W P t) ≤ 4
-unfolding turnSteps
-turn-le W P t = rw length-append (omega (arith, part-le (ltb (2 * t) W) (evenSteps P (2 * t)) (omega arith), part-le (leb 8 (2 * t)) (oddSteps P (2 * t - 7)) (omega arith)))
-
-pub turns-le : (W : ℕ) (P : Plan) (t : ℕ) → length (upto (turnSteps W P) t) ≤ 4 * t
-unfolding upto
-turns-le W P zero = omega arith
-turns-le W P (suc t) = rw length-append (omega (arith, turns-le W P t, turn-le W P t))
-
 pub before-le : (W : ℕ) (P : Plan) (p : ℕ) → length (before W P p) ≤ 2 * p
 before-le W P p = omega (arith, turns-le W P (p / 2))
 
-pub evens-le : (W : ℕ) (P : Plan) (p : ℕ) → length (before W P p ++ evenPart W P p) ≤ 2 * p + 2
-evens-le W P p = rw length-append (omega (arith, before-le W P p, part-le (ltb p W) (evenSteps P p) (omega arith)))
+pub before-evens-le : (W : ℕ) (P : Plan) (p : ℕ) → length (before W P p ++ evenPart W P p) ≤ 2 * p + 2
+before-evens-le W P p = rw length-append (omega (arith, before-le W P p, evens-le W P p))
 
 -- ---- room for the turns so far, and a turn that is wrong
 
@@ -99,13 +84,13 @@ right : (o : Option ℕ) (z : Writing) (store : Bool) (from : ℕ) (out lines' s
     → IsPassPut o z from store out lines' out' (record { ok = true; wrong = 0; at = at; set = record { sums = sums'; ns = ns' } })
 right none z store from out lines' sums' ns' out' at g =
     let e : at ≡ record { 0 = from + length (z .bits) } = cc in
-    (refl, g .1, g .2, e, g .3)
+    record { ok = refl; lines = g .1; records = g .2; at = e; output = g .3 }
 right (some j) z store from out lines' sums' ns' out' at g = let no : _≡_ {A = ℕ} 0 1 = cc in absurd (omega arith)
 
 mistaken : (o : Option ℕ) (z : Writing) (store : Bool) (from : ℕ) (out lines' sums' ns' out' : List ℕ) (r : Put) (j : ℕ) (q : PassPut) → IsPut o z from store out lines' sums' ns' out' r
     → r ≡ Wrong j → q .ok ≡ false → q .wrong ≡ wrongAt r → IsPassPut o z from store out lines' out' q
 mistaken none z store from out lines' sums' ns' out' r j q g e f w = let no : _≡_ {A = ℕ} 0 1 = cc in absurd (omega arith)
-mistaken (some i) z store from out lines' sums' ns' out' r j q g e f w = (f, w ∙ ap (λ (x : Put). wrongAt x) (g .0), g .1)
+mistaken (some i) z store from out lines' sums' ns' out' r j q g e f w = record { ok = f; index = w ∙ ap (λ (x : Put). wrongAt x) (g .0); output = g .1 }
 
 module _ {bits W : ℕ} {t : List ℕ} {n : ℕ} (P : Plan) {store : Bool} {from : ℕ} {lines sums ns out lines' sums' ns' out' : List ℕ} {r : Put}
     (g : StepsPut bits W t n (passSteps W P) store from lines sums ns out lines' sums' ns' out' r) where

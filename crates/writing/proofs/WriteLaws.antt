@@ -6,38 +6,28 @@ use mathlib.Core.Path.{_≡_, refl}
 use Prim.Native.Nat.{ℕ, _+_}
 use lib.ListN.{getD}
 use Rattle.prediction.specs.declared.Context.{Context}
-use Rattle.pass.specs.Readings.{contextAt, lookOf, slotOf, stepPlace}
-use Rattle.pass.specs.Steps.{Step, passSteps}
-use Rattle.pass.specs.declared.Look.{Look}
-use Rattle.pass.specs.declared.Plan.{Plan}
+use Rattle.steps.specs.Contexts.{stepPlace, stepContext, stepLook, stepSlot}
+use Rattle.steps.specs.Steps.{Step, passSteps}
+use Rattle.steps.specs.declared.Plan.{Plan}
 use Rattle.writing.specs.Sets.{indexIn}
-use Rattle.writing.specs.Writings.{Writing, orSecond, pass-over, put-code, writeStep, writes, writePass}
+use Rattle.writing.specs.Writings.{Writing, orSecond, passOver, putCode, writeStep, writes, writePass}
 
 -- ---- one step
 
--- the context of a step's sample, what its coding goes by, its record's place, and the sample itself
-abbrev pub contextIn : ℕ → Step → List ℕ → Context
-contextIn W x lines = contextAt lines (W + 2) (stepPlace W x) (x .position)
-
-abbrev pub lookIn : ℕ → Step → List ℕ → Look
-lookIn W x lines = lookOf 0 (contextIn W x lines)
-
-abbrev pub slotIn : ℕ → Step → List ℕ → ℕ
-slotIn W x lines = slotOf (x .position) ((lookIn W x lines) .place)
-
+-- the sample of a step
 abbrev pub wanted : ℕ → List ℕ → ℕ → Step → ℕ
 wanted W t n x = getD t (indexIn W n (x .line) (x .position)) 0
 
 module _ (bits W : ℕ) (t : List ℕ) (n : ℕ) (x : Step) (r : Writing) where
   pub write-coded : x .coded ≡ true
       → writeStep bits W t n x r
-      ≡ put-code bits (stepPlace W x) (slotIn W x (r .lines)) (wanted W t n x) (contextIn W x (r .lines)) (lookIn W x (r .lines)) r
+      ≡ putCode bits (stepPlace W x) (stepSlot 0 W x (r .lines)) (wanted W t n x) (stepContext W x (r .lines)) (stepLook 0 W x (r .lines)) r
   unfolding writeStep
   write-coded e = rw e
 
   pub write-interpolated : x .coded ≡ false
       → writeStep bits W t n x r
-      ≡ pass-over (stepPlace W x) (indexIn W n (x .line) (x .position)) (wanted W t n x) (contextIn W x (r .lines)) r
+      ≡ passOver (stepPlace W x) (indexIn W n (x .line) (x .position)) (wanted W t n x) (stepContext W x (r .lines)) r
   unfolding writeStep
   write-interpolated e = rw e
 
@@ -57,13 +47,13 @@ module _ (bits W : ℕ) (t : List ℕ) (n : ℕ) (l : List Bool) where
   step-after x r = go (x .coded)
     where
       c : Context
-      c = contextIn W x (r .lines)
+      c = stepContext W x (r .lines)
 
       put : Writing → Writing
-      put y = put-code bits (stepPlace W x) (slotIn W x (r .lines)) (wanted W t n x) c (lookOf 0 c) y
+      put y = putCode bits (stepPlace W x) (stepSlot 0 W x (r .lines)) (wanted W t n x) c (stepLook 0 W x (r .lines)) y
 
       pass : Writing → Writing
-      pass y = pass-over (stepPlace W x) (indexIn W n (x .line) (x .position)) (wanted W t n x) c y
+      pass y = passOver (stepPlace W x) (indexIn W n (x .line) (x .position)) (wanted W t n x) c y
 
       go : (b : Bool) → cond b (put (after l r)) (pass (after l r)) ≡ after l (cond b (put r) (pass r))
       go true = rw (append-assoc l (r .bits) _)

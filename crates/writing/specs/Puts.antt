@@ -1,20 +1,28 @@
 -- What the functions of writing do to the output, and what they hand back. Assumes nothing.
 use mathlib.Core.Bool.{Bool, true, false, cond}
-use mathlib.Core.List.{List, [], _∷_, _++_}
+use mathlib.Core.List.{List, []}
 use mathlib.Core.Option.{Option, none, some}
 use mathlib.Core.Path.{_≡_}
-use Prim.Native.Nat.{ℕ, _+_, _-_, _/_, _%_, _^_, _≤_}
+use Prim.Native.Nat.{ℕ, _+_, _-_, _*_, _/_, _%_, _^_, _≤_, _<_}
 use lib.Dec.{ltb}
-use lib.ListN.{length, getD, set, take, drop}
-use Rattle.bits.specs.BitLists.{bitsOf, packed, bytesFor}
+use lib.ListN.{length, getD, set}
+use Rattle.bits.specs.BitLists.{bytesFor}
+use Rattle.bits.specs.declared.BitPosition.{BitPosition}
 use Rattle.statistics.specs.Statistics.{kOf, updated}
 use Rattle.statistics.specs.declared.Record.{Record}
+use Rattle.quantiser.specs.Quantisers.{largest}
 use Rattle.prediction.specs.declared.Context.{Context}
 use Rattle.code.specs.Samples.{residualOf}
 use Rattle.code.specs.Tight.{codeBits}
-use Rattle.pass.specs.Steps.{Step}
-use Rattle.pass.specs.Readings.{usedQuantiser, lookOf, slotOf, noRecord, zipRecords, recordsOf}
-use Rattle.writing.specs.Writings.{Writing, wantedCode, writes}
+use Rattle.output.specs.Output.{putBits}
+use Rattle.steps.specs.Steps.{Step}
+use Rattle.steps.specs.Contexts.{usedQuantiser, lookOf, slotOf, noRecord}
+use Rattle.steps.specs.Values.{zipRecords, recordsOf, SetInRange, Depth, PlanInRange}
+use Rattle.steps.specs.declared.Plan.{Plan}
+use Rattle.steps.specs.declared.Set.{Set}
+use Rattle.steps.specs.declared.Spot.{Spot}
+use Rattle.writing.specs.Sets.{lineSize}
+use Rattle.writing.specs.Writings.{Writing, wantedCode, writes, writePass}
 use Rattle.writing.specs.declared.Put.{Put}
 use Rattle.writing.specs.declared.Put.the-variants.{At, Wrong}
 use Rattle.writing.specs.declared.PassPut.{PassPut}
@@ -23,15 +31,7 @@ use Rattle.writing.specs.declared.PassPut.{PassPut}
 unfoldable pub codeNumber : ℕ → ℕ → ℕ → ℕ → ℕ
 codeNumber k limit raw code = cond (ltb (code / 2 ^ k) limit) (2 ^ k + code % 2 ^ k) (2 ^ raw + (code - 1))
 
--- the output after these bits were put into it from bit `at` on: what stood before them stays, the rest of their last byte is 0, and the bytes after
--- that one are what they were
-unfoldable pub putBits : List ℕ → ℕ → List Bool → List ℕ
-putBits out at [] = out
-putBits out at (b ∷ l) =
-    let n = bytesFor (at + length (b ∷ l)) in
-    packed n (take at (bitsOf out) ++ b ∷ l) ++ drop n out
-
--- only where they are to be stored; else they are counted alone
+-- bits are put into the output only where they are to be stored; else they are counted alone
 abbrev pub putIf : Bool → List ℕ → ℕ → List Bool → List ℕ
 putIf store out at l = cond store (putBits out at l) out
 
@@ -68,6 +68,26 @@ startOf lines sums ns = record { lines = lines; set = zipRecords sums ns; bits =
 abbrev pub StepsRoom : ℕ → ℕ → List ℕ → ℕ → List Step → Bool → ℕ → (lines sums ns out : List ℕ) → Type 0
 StepsRoom bits W t n l store from lines sums ns out = Room store out from ((writes bits W t n l (startOf lines sums ns)) .bits)
 
+-- the numbers of a lossless block's quantiser
+pub record IsMain (bits limit raw : ℕ) : Type 0 where
+  pub depth : Depth bits
+  pub limit-is : limit ≡ (usedQuantiser bits 0 0) .limit
+  pub raw-is : raw ≡ (usedQuantiser bits 0 0) .raw
+
+-- what some steps at a position ask for
+pub record StepsAsk (spot : Spot) (limit raw : ℕ) (t : List ℕ) (n : ℕ) (l : List Step) (store : Bool) (from : BitPosition) (lines sums ns out : List ℕ) : Type 0 where
+  pub width : spot .w ≤ 512
+  pub plan : PlanInRange (spot .plan)
+  pub numbers : IsMain (spot .bits) limit raw
+  pub line : n < 2 ^ 16
+  pub samples : (n + 1) * lineSize (spot .w) ≤ length t
+  pub wanted : Within (largest (spot .bits)) t
+  pub long : 18 * (spot .w + 2) ≤ length lines
+  pub held : Within (largest (spot .bits)) lines
+  pub records : SetInRange (zipRecords sums ns)
+  pub low : from .0 + 80 < 2 ^ 60
+  pub room : StepsRoom (spot .bits) (spot .w) t n l store (from .0) lines sums ns out
+
 -- what some steps hand back, whose writing from no bits on is z: the position after their bits, or the first interpolated sample that is not its
 -- prediction; then the lines and the set are left free, and so is the output where it is stored
 abbrev pub IsPut : Option ℕ → Writing → ℕ → Bool → (out lines' sums' ns' out' : List ℕ) → Put → Type 0
@@ -83,8 +103,45 @@ abbrev pub wrongAt : Put → ℕ
 wrongAt (At p) = 0
 wrongAt (Wrong j) = j
 
--- and what a pass hands back
+-- ---- a pass
+
+-- what it starts with
+abbrev pub begun : List ℕ → Set → Writing
+begun lines s = record { lines = lines; set = recordsOf s; bits = []; wrong = none }
+
+pub record PassAsks (bits W : ℕ) (P : Plan) (t : List ℕ) (n : ℕ) (store : Bool) (from : BitPosition) (lines : List ℕ) (s : Set) (out : List ℕ) : Type 0 where
+  pub low : 8 ≤ W
+  pub high : W ≤ 512
+  pub even : W % 2 ≡ 0
+  pub plan : PlanInRange P
+  pub depth : Depth bits
+  pub line : n < 2 ^ 16
+  pub samples : (n + 1) * lineSize W ≤ length t
+  pub wanted : Within (largest bits) t
+  pub long : 18 * (W + 2) ≤ length lines
+  pub held : Within (largest bits) lines
+  pub records : SetInRange (recordsOf s)
+  pub position : from .0 < 2 ^ 59
+  pub room : Room store out (from .0) ((writePass bits W t n P (begun lines s)) .bits)
+
+-- where every interpolated sample is its prediction, by the writing z
+pub record IsWritten (z : Writing) (from : ℕ) (store : Bool) (out lines' out' : List ℕ) (r : PassPut) : Type 0 where
+  pub ok : r .ok ≡ true
+  pub lines : lines' ≡ z .lines
+  pub records : recordsOf (r .set) ≡ z .set
+  pub at : r .at ≡ record { 0 = from + length (z .bits) }
+  pub output : out' ≡ putIf store out from (z .bits)
+
+-- where the sample at index j is the first that is not. Then the position, the lines and the set are left free, and so is the output where it is stored
+pub record IsWrong (j : ℕ) (store : Bool) (out out' : List ℕ) (r : PassPut) : Type 0 where
+  pub ok : r .ok ≡ false
+  pub index : r .wrong ≡ j
+  pub output : store ≡ false → out' ≡ out
+
 abbrev pub IsPassPut : Option ℕ → Writing → ℕ → Bool → (out lines' out' : List ℕ) → PassPut → Type 0
-IsPassPut none z from store out lines' out' r =
-    (r .ok ≡ true) × (lines' ≡ z .lines) × (recordsOf (r .set) ≡ z .set) × (r .at ≡ record { 0 = from + length (z .bits) }) × (out' ≡ putIf store out from (z .bits))
-IsPassPut (some j) z from store out lines' out' r = (r .ok ≡ false) × (r .wrong ≡ j) × (store ≡ false → out' ≡ out)
+IsPassPut none z from store out lines' out' r = IsWritten z from store out lines' out' r
+IsPassPut (some j) z from store out lines' out' r = IsWrong j store out out' r
+
+pub record PassGives (z : Writing) (store : Bool) (from : BitPosition) (out lines' out' : List ℕ) (r : PassPut) : Type 0 where
+  pub answer : IsPassPut (z .wrong) z (from .0) store out lines' out' r
+  pub records : SetInRange (recordsOf (r .set))

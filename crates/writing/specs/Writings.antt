@@ -3,7 +3,7 @@
 use mathlib.Core.Bool.{Bool, cond}
 use mathlib.Core.List.{List, [], _∷_, _++_}
 use mathlib.Core.Option.{Option, none, some}
-use Prim.Native.Nat.{ℕ, _+_, _*_}
+use Prim.Native.Nat.{ℕ, _+_}
 use lib.Dec.{eqb}
 use lib.ListN.{getD, set}
 use Rattle.statistics.specs.Statistics.{kOf, updated}
@@ -12,10 +12,10 @@ use Rattle.quantiser.specs.Quantisers.{largest}
 use Rattle.prediction.specs.declared.Context.{Context}
 use Rattle.code.specs.Samples.{residualOf}
 use Rattle.code.specs.Tight.{codeFor, codeBits}
-use Rattle.pass.specs.Steps.{Step, passSteps}
-use Rattle.pass.specs.Readings.{contextAt, lookOf, slotOf, usedQuantiser, noRecord}
-use Rattle.pass.specs.declared.Plan.{Plan}
-use Rattle.pass.specs.declared.Look.{Look}
+use Rattle.steps.specs.Steps.{Step, passSteps}
+use Rattle.steps.specs.Contexts.{usedQuantiser, noRecord, stepPlace, stepContext, stepLook, stepSlot}
+use Rattle.steps.specs.declared.Plan.{Plan}
+use Rattle.steps.specs.declared.Look.{Look}
 use Rattle.writing.specs.Sets.{indexIn}
 
 -- what a pass writes and changes: the colour lines, the records of its set, the bits so far, and the index of the first interpolated sample, in
@@ -32,8 +32,8 @@ orSecond none b = b
 orSecond (some a) b = some a
 
 -- an interpolated sample v, at index j of the set, has no code
-abbrev pub pass-over : ℕ → ℕ → ℕ → Context → Writing → Writing
-pass-over i j v x r =
+abbrev pub passOver : ℕ → ℕ → ℕ → Context → Writing → Writing
+passOver i j v x r =
     record {
       lines = set (r .lines) (i + 1) v;
       set = r .set;
@@ -46,8 +46,8 @@ abbrev pub wantedCode : ℕ → ℕ → Context → Look → ℕ
 wantedCode bits v x h = codeFor (largest bits) (h .negative) (x .prediction) v
 
 -- a sample with a code: its tight bits are added
-abbrev pub put-code : ℕ → ℕ → ℕ → ℕ → Context → Look → Writing → Writing
-put-code bits i slot v x h r =
+abbrev pub putCode : ℕ → ℕ → ℕ → ℕ → Context → Look → Writing → Writing
+putCode bits i slot v x h r =
     let Q = usedQuantiser bits 0 (h .choice) in
     let old = getD (r .set) slot noRecord in
     let code = wantedCode bits v x h in
@@ -61,12 +61,12 @@ put-code bits i slot v x h r =
 -- one step of line n, with the samples of the set t
 unfoldable pub writeStep : ℕ → ℕ → List ℕ → ℕ → Step → Writing → Writing
 writeStep bits W t n x r =
-    let i = x .line * (W + 2) + x .position in
-    let c = contextAt (r .lines) (W + 2) i (x .position) in
-    let h = lookOf 0 c in
+    let i = stepPlace W x in
+    let c = stepContext W x (r .lines) in
+    let h = stepLook 0 W x (r .lines) in
     let j = indexIn W n (x .line) (x .position) in
     let v = getD t j 0 in
-    cond (x .coded) (put-code bits i (slotOf (x .position) (h .place)) v c h r) (pass-over i j v c r)
+    cond (x .coded) (putCode bits i (stepSlot 0 W x (r .lines)) v c h r) (passOver i j v c r)
 
 -- the steps of a list, one after the other
 unfoldable pub writes : ℕ → ℕ → List ℕ → ℕ → List Step → Writing → Writing

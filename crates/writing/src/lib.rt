@@ -1,27 +1,22 @@
 // Writing one pass over two colour lines, lossless: the samples are those of a set, and their tight codes are counted or stored.
 ghost use mathlib.Core.Path.{_≡_};
-ghost use mathlib.Core.Bool.{true, false, cond, not};
-ghost use mathlib.Core.List.{[], _++_};
-ghost use mathlib.Core.Option.{none};
-ghost use Prim.Native.Nat.{_+_, _-_, _*_, _/_, _%_, _^_, _≤_, _<_};
-ghost use lib.Dec.{ltb, leb};
-ghost use lib.ListN.{length, take, drop, getD, set};
-ghost use Rattle.bits.specs.BitLists.{binary, packed, bytesFor};
-ghost use Rattle.statistics.specs.Statistics.{InRange, updated};
-ghost use Rattle.quantiser.specs.Quantisers.{largest};
+ghost use Prim.Native.Nat.{_+_, _*_, _^_, _≤_, _<_};
+ghost use lib.ListN.{length};
 ghost use Rattle.prediction.specs.Predictions.{Ranges};
-ghost use Rattle.code.specs.Samples.{residualOf};
 ghost use Rattle.code.specs.Tight.{stepsUp, residualUp, codeOfResidual, codeFor, codeBits, codeLength};
-ghost use Rattle.pass.specs.Steps.{interpolated, evenSteps, oddSteps};
-ghost use Rattle.pass.specs.Readings.{contextAt, usedQuantiser, zipRecords, recordsOf, SetInRange, PlanInRange, Depth, lookOf, slotOf, noRecord};
+ghost use Rattle.steps.specs.Steps.{evenPart, oddPart};
+ghost use Rattle.steps.specs.Contexts.{lookOf, slotOf};
+ghost use Rattle.steps.specs.Values.{zipRecords, SetInRange};
 ghost use Rattle.writing.specs.Sets.{rankOf, indexIn, lineSize};
 ghost use Rattle.writing.specs.Writings.{writePass};
-ghost use Rattle.writing.specs.Puts.{codeNumber, putBits, putIf, Room, Within, StepsRoom, StepsPut, wrongAt, IsPassPut};
+ghost use Rattle.writing.specs.Puts.{codeNumber, putIf, Room, StepsAsk, StepsPut, wrongAt, begun, PassAsks, PassGives};
 use bits::BitPosition;
-use pass::Plan;
-use pass::Set;
+use numbers::u16_to_u32;
 use prediction::Context;
-use statistics::Record;
+use quantiser::Quantiser;
+use steps::Plan;
+use steps::Set;
+use steps::Spot;
 
 // The position after some samples, or the index in the set of an interpolated one that is not its prediction.
 pub enum Put {
@@ -35,25 +30,6 @@ pub struct PassPut {
     pub wrong: usize,
     pub at: BitPosition,
     pub set: Set,
-}
-
-fn wide(x: u16) -> u32
-    ensures { λ r. ⌜ (r ≡ x) × (r < 2 ^ 16) ⌝ }
-{
-    x as u32
-}
-
-fn byte(x: u8) -> u32
-    ensures { λ r. ⌜ (r ≡ x) × (r < 256) ⌝ }
-{
-    x as u32
-}
-
-fn power(k: u32) -> u64
-    requires { ⌜ k ≤ 16 ⌝ }
-    ensures { λ r. ⌜ (r ≡ 2 ^ k) × ((1 ≤ r) × (r ≤ 2 ^ 16)) ⌝ }
-{
-    1u64 << k
 }
 
 // The index of the wrong sample, 0 where there is none.
@@ -118,83 +94,9 @@ fn code_number(k: u32, limit: u32, raw: u32, code: u32) -> u64
     ensures { λ r. ⌜ (r ≡ codeNumber k limit raw code) × (r < 2 ^ 32) ⌝ }
 {
     if code >> k < limit {
-        return power(k) + (code as u64) % power(k);
+        return numbers::power(k) + (code as u64) % numbers::power(k);
     }
-    power(raw) + (code as u64) - 1
-}
-
-// ---- the output
-
-// The next t of the last `left` bits of a number.
-fn next_bits(value: u64, left: u32, t: u32) -> u32
-    requires { ⌜ (1 ≤ t) × ((t ≤ 8) × ((t ≤ left) × (left ≤ 64))) ⌝ }
-    ensures { λ r. ⌜ (r ≡ value / 2 ^ (left - t) % 2 ^ t) × (r < 2 ^ t) ⌝ }
-{
-    ((value >> (left - t)) % power(t)) as u32
-}
-
-// A byte of which the first `used` bits stay, t bits follow, and the rest is 0.
-fn filled(old: u8, used: u32, t: u32, part: u32) -> u8
-    requires { ⌜ (used < 8) × ((used + t ≤ 8) × (part < 2 ^ t)) ⌝ }
-    ensures { λ r. ⌜ r ≡ old / 2 ^ (8 - used) * 2 ^ (8 - used) + part * 2 ^ (8 - used - t) ⌝ }
-{
-    let kept = (byte(old) >> (8 - used)) << (8 - used);
-    (kept + (part << (8 - used - t))) as u8
-}
-
-// The last n bits of a number go to the output from bit `at` on, byte after byte. What follows them in their last byte is 0.
-fn put_by_bytes(out: &mut [u8], at: BitPosition, n: u32, value: u64)
-    requires { ⌜ (n ≤ 64) × ((at .0 < 2 ^ 60) × (bytesFor (at .0 + n) ≤ length (now out))) ⌝ }
-    ensures { λ _. ⌜ now (out .exit) ≡ putBits (now (out .entry)) (at .0) (binary n value) ⌝ }
-{
-    let mut left = n;
-    let mut p = at.0;
-    while left > 0 {
-        let used = (p % 8) as u32;
-        let t = numbers::smaller(8 - used, left);
-        let i = (p / 8) as usize;
-        out[i] = filled(out[i], used, t, next_bits(value, left, t));
-        p += t as u64;
-        left -= t;
-    }
-}
-
-// Four bytes as a number: the first `used` bits stay, the last n bits of the value follow, then zeros to the end of a byte, and the bytes after
-// that one stay. The value goes to the top of its word and down again, so that its other bits are left out.
-fn merged(old: u64, used: u32, n: u32, value: u64) -> u64
-    requires { ⌜ (old < 2 ^ 32) × ((used < 8) × ((1 ≤ n) × (used + n ≤ 24))) ⌝ }
-    ensures { λ r. ⌜ (r ≡ old / 2 ^ (32 - used) * 2 ^ (32 - used) + value % 2 ^ n * 2 ^ (32 - used - n) + old % 2 ^ (32 - 8 * bytesFor (used + n))) × (r < 2 ^ 32) ⌝ }
-{
-    let kept = (old >> (32 - used)) << (32 - used);
-    let new = (value << (64 - n)) >> (32 + used);
-    let low = old % (1u64 << (32 - 8 * ((used + n + 7) / 8)));
-    kept + new + low
-}
-
-// A number as the four bytes from i on. Four stores in a row: LLVM makes one byte swap and one store of them.
-fn store32(out: &mut [u8], i: usize, w: u64)
-    requires { ⌜ (i + 4 ≤ length (now out)) × (w < 2 ^ 32) ⌝ }
-    ensures { λ _. ⌜ now (out .exit) ≡ take i (now (out .entry)) ++ packed 4 (binary 32 w) ++ drop (i + 4) (now (out .entry)) ⌝ }
-{
-    out[i] = (w >> 24) as u8;
-    out[i + 1] = ((w >> 16) % 256) as u8;
-    out[i + 2] = ((w >> 8) % 256) as u8;
-    out[i + 3] = (w % 256) as u8;
-}
-
-// The last n bits of a number go to the output from bit `at` on. What follows them in their last byte is 0. Where they end within three bytes,
-// four are changed at once: how often the loop turns cannot be foretold, and that takes longer.
-fn put_bits(out: &mut [u8], at: BitPosition, n: u32, value: u64)
-    requires { ⌜ (1 ≤ n) × ((n ≤ 64) × ((at .0 < 2 ^ 60) × (bytesFor (at .0 + n) ≤ length (now out)))) ⌝ }
-    ensures { λ _. ⌜ now (out .exit) ≡ putBits (now (out .entry)) (at .0) (binary n value) ⌝ }
-{
-    let used = (at.0 % 8) as u32;
-    let i = (at.0 / 8) as usize;
-    if (used + n <= 24) & (i + 4 <= out.len()) {
-        store32(out, i, merged(bits::load32(out, i), used, n, value));
-        return;
-    }
-    put_by_bytes(out, at, n, value)
+    numbers::power(raw) + (code as u64) - 1
 }
 
 // The tight code, stored or only counted, and the position after it.
@@ -209,12 +111,13 @@ fn put_code(
 ) -> BitPosition
     requires { ⌜ (k ≤ 15) × ((1 ≤ limit) × ((limit ≤ 47) × ((raw ≤ 16) × ((code < 2 ^ 16) × (code ≤ 2 ^ raw))))) ⌝ }
     requires { ⌜ (at .0 < 2 ^ 60) × Room store (now out) (at .0) (codeBits k limit raw code) ⌝ }
-    ensures { λ r. ⌜ (r .0 ≡ at .0 + length (codeBits k limit raw code)) × (now (out .exit) ≡ putIf store (now (out .entry)) (at .0) (codeBits k limit raw code)) ⌝ }
+    ensures { λ r. ⌜ r .0 ≡ at .0 + length (codeBits k limit raw code) ⌝ }
+    ensures { λ _. ⌜ now (out .exit) ≡ putIf store (now (out .entry)) (at .0) (codeBits k limit raw code) ⌝ }
 {
     let n = code_length(k, limit, raw, code);
     let after = BitPosition(at.0 + n as u64);
     if store {
-        put_bits(out, at, n, code_number(k, limit, raw, code));
+        output::put_bits(out, at, n, code_number(k, limit, raw, code));
         return after;
     }
     after
@@ -243,17 +146,6 @@ fn index_in(w: usize, n: usize, line: usize, p: usize) -> usize
     n * (12 * w) + rank_of(line) * w + p
 }
 
-// Once this is taken into the loop of a pass, where the parity of p is known, the test is gone.
-fn context_at(lines: &[u16], s: usize, i: usize, p: usize) -> Context
-    requires { ⌜ (s ≤ 514) × ((2 * s ≤ i) × (i + 2 < length (now lines))) ⌝ }
-    ensures { λ r. ⌜ (r ≡ contextAt (now (lines .entry)) s i p) × Ranges r ⌝ }
-{
-    if p % 2 == 0 {
-        return pass::even_context(lines, s, i);
-    }
-    pass::odd_context(lines, s, i)
-}
-
 // How a sample with a code is put: the place of its record in the set, and its code.
 struct Coding {
     slot: usize,
@@ -264,34 +156,14 @@ struct Coding {
 fn coded_as(m: u32, p: usize, x: Context, v: u32) -> Coding
     requires { ⌜ (m < 2 ^ 16) × ((x .prediction ≤ m) × (v ≤ m)) ⌝ }
     requires { ⌜ Ranges x ⌝ }
-    ensures { λ r. ⌜ (r .slot ≡ slotOf p ((lookOf 0 x) .place)) × ((r .slot < 112) × ((r .code ≡ codeFor m ((lookOf 0 x) .negative) (x .prediction) v) × (r .code ≤ m))) ⌝ }
+    ensures { λ r. ⌜ (r .slot ≡ slotOf p ((lookOf 0 x) .place)) × (r .slot < 112) ⌝ }
+    ensures { λ r. ⌜ (r .code ≡ codeFor m ((lookOf 0 x) .negative) (x .prediction) v) × (r .code ≤ m) ⌝ }
 {
-    let h = pass::look_of(0, x);
+    let h = steps::look_of(0, x);
     Coding {
-        slot: h.place + 56 * (p % 2),
+        slot: steps::slot_of(p, h.place),
         code: code_for(m, h.negative, x.prediction, v),
     }
-}
-
-fn record_at(sums: &[u32; 112], ns: &[u32; 112], slot: usize) -> Record
-    requires { ⌜ (slot < 112) × SetInRange (zipRecords (now sums) (now ns)) ⌝ }
-    ensures { λ r. ⌜ (r ≡ getD (zipRecords (now (sums .entry)) (now (ns .entry))) slot noRecord) × InRange r ⌝ }
-{
-    Record {
-        sum: sums[slot],
-        n: ns[slot],
-    }
-}
-
-// The record that was there is updated by its code.
-fn update_at(sums: &mut [u32; 112], ns: &mut [u32; 112], slot: usize, old: Record, code: u32)
-    requires { ⌜ (code < 2 ^ 16) × ((slot < 112) × InRange old) ⌝ }
-    requires { ⌜ SetInRange (zipRecords (now sums) (now ns)) ⌝ }
-    ensures { λ _. ⌜ (zipRecords (now (sums .exit)) (now (ns .exit)) ≡ set (zipRecords (now (sums .entry)) (now (ns .entry))) slot (updated old ((residualOf code) .size))) × SetInRange (zipRecords (now (sums .exit)) (now (ns .exit))) ⌝ }
-{
-    let new = old.update(code::residual_size(code));
-    sums[slot] = new.sum;
-    ns[slot] = new.n;
 }
 
 // The two samples at the even position p, where it is one of the line. As in reading, the leaves are called here, and this from one place only: so
@@ -305,50 +177,49 @@ fn write_even(
     lines: &mut [u16],
     sums: &mut [u32; 112],
     ns: &mut [u32; 112],
-    w: usize,
-    plan: Plan,
-    p: usize,
-    bits: u32,
+    spot: Spot,
     limit: u32,
     raw: u32,
 ) -> Put
-    requires { ⌜ (w ≤ 512) × PlanInRange plan ⌝ }
-    requires { ⌜ Depth bits × ((limit ≡ (usedQuantiser bits 0 0) .limit) × (raw ≡ (usedQuantiser bits 0 0) .raw)) ⌝ }
-    requires { ⌜ (n < 2 ^ 16) × (((n + 1) * lineSize w ≤ length (now samples)) × Within (largest bits) (now samples)) ⌝ }
-    requires { ⌜ (18 * (w + 2) ≤ length (now lines)) × (Within (largest bits) (now lines) × SetInRange (zipRecords (now sums) (now ns))) ⌝ }
-    requires { ⌜ (from .0 + 80 < 2 ^ 60) × StepsRoom bits w (now samples) n (cond (ltb p w) (evenSteps plan p) []) store (from .0) (now lines) (now sums) (now ns) (now out) ⌝ }
-    ensures { λ r. ⌜ StepsPut bits w (now (samples .entry)) n (cond (ltb p w) (evenSteps plan p) []) store (from .0) (now (lines .entry)) (now (sums .entry)) (now (ns .entry)) (now (out .entry)) (now (lines .exit)) (now (sums .exit)) (now (ns .exit)) (now (out .exit)) r × SetInRange (zipRecords (now (sums .exit)) (now (ns .exit))) ⌝ }
+    requires { ⌜ StepsAsk spot limit raw (now samples) n (evenPart (spot .w) (spot .plan) (spot .p)) store from
+        (now lines) (now sums) (now ns) (now out) ⌝ }
+    ensures { λ r. ⌜ StepsPut (spot .bits) (spot .w) (now (samples .entry)) n (evenPart (spot .w) (spot .plan) (spot .p)) store (from .0)
+        (now (lines .entry)) (now (sums .entry)) (now (ns .entry)) (now (out .entry))
+        (now (lines .exit)) (now (sums .exit)) (now (ns .exit)) (now (out .exit)) r ⌝ }
+    ensures { λ _. ⌜ SetInRange (zipRecords (now (sums .exit)) (now (ns .exit))) ⌝ }
 {
+    let w = spot.w;
+    let p = spot.p;
     if p >= w {
         return Put::At(from);
     }
-    let m = quantiser::largest(bits);
-    let s = w + 2;
+    let plan = spot.plan;
+    let m = quantiser::largest(spot.bits);
     let mut at = from;
-    let i = pass::left_of(w, plan.first, p);
+    let i = steps::left_of(w, plan.first, p);
     let j = index_in(w, n, plan.first, p);
-    let x = context_at(lines, s, i, p);
+    let x = steps::context_at(lines, w + 2, i, p);
     let v = samples[j];
     lines[i + 1] = v;
-    if pass::has_code(plan.first_rule, p) {
-        let c = coded_as(m, p, x, wide(v));
-        let old = record_at(sums, ns, c.slot);
+    if steps::has_code(plan.first_rule, p) {
+        let c = coded_as(m, p, x, u16_to_u32(v));
+        let old = steps::record_at(sums, ns, c.slot);
         at = put_code(out, store, at, old.k(), limit, raw, c.code);
-        update_at(sums, ns, c.slot, old, c.code);
-    } else if wide(v) != x.prediction {
+        steps::update_at(sums, ns, c.slot, old, c.code);
+    } else if u16_to_u32(v) != x.prediction {
         return Put::Wrong(j);
     }
-    let i = pass::left_of(w, plan.second, p);
+    let i = steps::left_of(w, plan.second, p);
     let j = index_in(w, n, plan.second, p);
-    let x = context_at(lines, s, i, p);
+    let x = steps::context_at(lines, w + 2, i, p);
     let v = samples[j];
     lines[i + 1] = v;
-    if pass::has_code(plan.second_rule, p) {
-        let c = coded_as(m, p, x, wide(v));
-        let old = record_at(sums, ns, c.slot);
+    if steps::has_code(plan.second_rule, p) {
+        let c = coded_as(m, p, x, u16_to_u32(v));
+        let old = steps::record_at(sums, ns, c.slot);
         at = put_code(out, store, at, old.k(), limit, raw, c.code);
-        update_at(sums, ns, c.slot, old, c.code);
-    } else if wide(v) != x.prediction {
+        steps::update_at(sums, ns, c.slot, old, c.code);
+    } else if u16_to_u32(v) != x.prediction {
         return Put::Wrong(j);
     }
     Put::At(at)
@@ -364,44 +235,44 @@ fn write_odd(
     lines: &mut [u16],
     sums: &mut [u32; 112],
     ns: &mut [u32; 112],
-    w: usize,
-    plan: Plan,
-    p: usize,
-    bits: u32,
+    spot: Spot,
     limit: u32,
     raw: u32,
 ) -> Put
-    requires { ⌜ (w ≤ 512) × ((p < w + 7) × PlanInRange plan) ⌝ }
-    requires { ⌜ Depth bits × ((limit ≡ (usedQuantiser bits 0 0) .limit) × (raw ≡ (usedQuantiser bits 0 0) .raw)) ⌝ }
-    requires { ⌜ (n < 2 ^ 16) × (((n + 1) * lineSize w ≤ length (now samples)) × Within (largest bits) (now samples)) ⌝ }
-    requires { ⌜ (18 * (w + 2) ≤ length (now lines)) × (Within (largest bits) (now lines) × SetInRange (zipRecords (now sums) (now ns))) ⌝ }
-    requires { ⌜ (from .0 + 80 < 2 ^ 60) × StepsRoom bits w (now samples) n (cond (leb 8 p) (oddSteps plan (p - 7)) []) store (from .0) (now lines) (now sums) (now ns) (now out) ⌝ }
-    ensures { λ r. ⌜ StepsPut bits w (now (samples .entry)) n (cond (leb 8 p) (oddSteps plan (p - 7)) []) store (from .0) (now (lines .entry)) (now (sums .entry)) (now (ns .entry)) (now (out .entry)) (now (lines .exit)) (now (sums .exit)) (now (ns .exit)) (now (out .exit)) r × SetInRange (zipRecords (now (sums .exit)) (now (ns .exit))) ⌝ }
+    requires { ⌜ StepsAsk spot limit raw (now samples) n (oddPart (spot .plan) (spot .p)) store from
+        (now lines) (now sums) (now ns) (now out) ⌝ }
+    requires { ⌜ spot .p < spot .w + 7 ⌝ }
+    ensures { λ r. ⌜ StepsPut (spot .bits) (spot .w) (now (samples .entry)) n (oddPart (spot .plan) (spot .p)) store (from .0)
+        (now (lines .entry)) (now (sums .entry)) (now (ns .entry)) (now (out .entry))
+        (now (lines .exit)) (now (sums .exit)) (now (ns .exit)) (now (out .exit)) r ⌝ }
+    ensures { λ _. ⌜ SetInRange (zipRecords (now (sums .exit)) (now (ns .exit))) ⌝ }
 {
+    let w = spot.w;
+    let p = spot.p;
     if p < 8 {
         return Put::At(from);
     }
-    let m = quantiser::largest(bits);
-    let s = w + 2;
     let q = p - 7;
-    let i = pass::left_of(w, plan.first, q);
+    let plan = spot.plan;
+    let m = quantiser::largest(spot.bits);
+    let i = steps::left_of(w, plan.first, q);
     let j = index_in(w, n, plan.first, q);
-    let x = context_at(lines, s, i, q);
+    let x = steps::context_at(lines, w + 2, i, q);
     let v = samples[j];
     lines[i + 1] = v;
-    let c = coded_as(m, q, x, wide(v));
-    let old = record_at(sums, ns, c.slot);
+    let c = coded_as(m, q, x, u16_to_u32(v));
+    let old = steps::record_at(sums, ns, c.slot);
     let at = put_code(out, store, from, old.k(), limit, raw, c.code);
-    update_at(sums, ns, c.slot, old, c.code);
-    let i = pass::left_of(w, plan.second, q);
+    steps::update_at(sums, ns, c.slot, old, c.code);
+    let i = steps::left_of(w, plan.second, q);
     let j = index_in(w, n, plan.second, q);
-    let x = context_at(lines, s, i, q);
+    let x = steps::context_at(lines, w + 2, i, q);
     let v = samples[j];
     lines[i + 1] = v;
-    let c = coded_as(m, q, x, wide(v));
-    let old = record_at(sums, ns, c.slot);
+    let c = coded_as(m, q, x, u16_to_u32(v));
+    let old = steps::record_at(sums, ns, c.slot);
     let after = put_code(out, store, at, old.k(), limit, raw, c.code);
-    update_at(sums, ns, c.slot, old, c.code);
+    steps::update_at(sums, ns, c.slot, old, c.code);
     Put::At(after)
 }
 
@@ -417,16 +288,14 @@ pub fn write_pass(
     w: usize,
     plan: Plan,
     bits: u32,
-    limit: u32,
-    raw: u32,
 ) -> PassPut
-    requires { ⌜ ((8 ≤ w) × ((w ≤ 512) × (w % 2 ≡ 0))) × PlanInRange plan ⌝ }
-    requires { ⌜ Depth bits × ((limit ≡ (usedQuantiser bits 0 0) .limit) × (raw ≡ (usedQuantiser bits 0 0) .raw)) ⌝ }
-    requires { ⌜ (n < 2 ^ 16) × (((n + 1) * lineSize w ≤ length (now samples)) × Within (largest bits) (now samples)) ⌝ }
-    requires { ⌜ (18 * (w + 2) ≤ length (now lines)) × (Within (largest bits) (now lines) × SetInRange (recordsOf set)) ⌝ }
-    requires { ⌜ (from .0 < 2 ^ 59) × Room store (now out) (from .0) ((writePass bits w (now samples) n plan (record { lines = now lines; set = recordsOf set; bits = []; wrong = none })) .bits) ⌝ }
-    ensures { λ r. ⌜ IsPassPut ((writePass bits w (now (samples .entry)) n plan (record { lines = now (lines .entry); set = recordsOf set; bits = []; wrong = none })) .wrong) (writePass bits w (now (samples .entry)) n plan (record { lines = now (lines .entry); set = recordsOf set; bits = []; wrong = none })) (from .0) store (now (out .entry)) (now (lines .exit)) (now (out .exit)) r × SetInRange (recordsOf (r .set)) ⌝ }
+    requires { ⌜ PassAsks bits w plan (now samples) n store from (now lines) set (now out) ⌝ }
+    ensures { λ r. ⌜ PassGives (writePass bits w (now (samples .entry)) n plan (begun (now (lines .entry)) set)) store from
+        (now (out .entry)) (now (lines .exit)) (now (out .exit)) r ⌝ }
 {
+    let q = Quantiser::main(bits, 0);
+    let limit = q.limit;
+    let raw = q.raw;
     let mut sums = set.sums;
     let mut ns = set.ns;
     let mut at = from;
@@ -441,10 +310,7 @@ pub fn write_pass(
             lines,
             &mut sums,
             &mut ns,
-            w,
-            plan,
-            p,
-            bits,
+            Spot { w, bits, plan, p },
             limit,
             raw,
         );
@@ -465,10 +331,7 @@ pub fn write_pass(
             lines,
             &mut sums,
             &mut ns,
-            w,
-            plan,
-            p,
-            bits,
+            Spot { w, bits, plan, p },
             limit,
             raw,
         );

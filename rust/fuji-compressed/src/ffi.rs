@@ -61,4 +61,22 @@ unsafe extern "C" {
         length: *mut [usize; 1],
         refusal: *mut [usize; 4],
     );
+    pub fn fuji_short_codes(
+        depth: u32,
+        k: u32,
+        length: u32,
+        list: *mut u32,
+        list_length: usize,
+        count: *mut [usize; 1],
+        refusal: *mut [usize; 4],
+    );
+    pub fn fuji_plan_bases(
+        header: *const u8,
+        header_length: usize,
+        plan: *const u8,
+        plan_length: usize,
+        bases: *mut u8,
+        bases_length: usize,
+        refusal: *mut [usize; 4],
+    );
 }

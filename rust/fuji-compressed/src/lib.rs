@@ -284,6 +284,39 @@ pub fn write_block_with(scratch: &mut Scratch, header: &[u8], samples: &[u16], o
     Refusal::answer(refusal).map(|()| length[0])
 }
 
+/// The full sheet of short codes: every bit string of at most `length` bits that is one tight lossless code for that depth and k, as
+/// 65,536·(its bits) + its value, by length and then by value. Entry number c is the string of code c. Gives how many there are; a list that is
+/// shorter than that is left as it was, and a longer one from there on. No sheet has more than 32,768 strings. Refusal 24.
+///
+/// ```
+/// let mut list = [0; 4];
+/// assert_eq!(fuji_compressed::short_codes(12, 0, 3, &mut list), Ok(3));
+/// assert_eq!(list, [65_537, 131_073, 196_609, 0]);
+/// ```
+pub fn short_codes(depth: u32, k: u32, length: u32, list: &mut [u32]) -> Result<usize> {
+    let (mut count, mut refusal) = ([0; 1], [0; 4]);
+    unsafe { ffi::fuji_short_codes(depth, k, length, list.as_mut_ptr(), list.len(), &mut count, &mut refusal) };
+    Refusal::answer(refusal).map(|()| count[0])
+}
+
+/// The base bytes of a lossy header's lines, as a plan says. The plan is text, one record a line: first line, last line, base, in decimal, parted by tabs, each of
+/// 1 to 5 digits. Every line lies in exactly one record, in any order; byte n becomes the base of the record that holds line n. `bases` has as many bytes as there are
+/// lines. Of the header the first 16 bytes count. Refusals 1, 2, 16, 17, 18 (its `index` is the record's number, from 1 on), 19 and 20; each leaves `bases` as it was.
+///
+/// ```
+/// let header = [0x49, 0x53, 0, 0, 14, 0, 12, 3, 0, 3, 0, 3, 0, 1, 0, 2];
+/// let mut bases = [0; 2];
+/// fuji_compressed::plan_bases(&header, b"1\t1\t40\n0\t0\t3\n", &mut bases).unwrap();
+/// assert_eq!(bases, [3, 40]);
+/// ```
+pub fn plan_bases(header: &[u8], plan: &[u8], bases: &mut [u8]) -> Result<()> {
+    let mut refusal = [0; 4];
+    unsafe {
+        ffi::fuji_plan_bases(header.as_ptr(), header.len(), plan.as_ptr(), plan.len(), bases.as_mut_ptr(), bases.len(), &mut refusal)
+    };
+    Refusal::answer(refusal)
+}
+
 type RangeOf = unsafe extern "C" fn(*const u8, usize, usize, *mut [usize; 2], *mut [usize; 4]);
 
 fn flat(tile: &ColorTile) -> *const [u8; 36] {

@@ -10,25 +10,6 @@ pub struct Refusal {
     pub index: usize,
 }
 
-/// By number, from 1 on.
-const WORDS: [&str; 15] = [
-    "fewer than 16 bytes of header",
-    "a header rule is broken",
-    "the block sizes are cut short",
-    "a lossy base row is not whole",
-    "there is no such block",
-    "the size is not the picture's",
-    "the region passes the picture's edge, or the image is too short for it",
-    "the stream is lossy",
-    "the number of samples is not the block's",
-    "the scratch is too short",
-    "a sample is above the largest",
-    "an interpolated sample is not its prediction",
-    "the output is too short",
-    "a line is truncated",
-    "the block is not tight",
-];
-
 impl Refusal {
     /// What the library handed back: all 0 if nothing is refused.
     pub(crate) fn answer(words: [usize; 4]) -> Result<(), Refusal> {
@@ -39,7 +20,30 @@ impl Refusal {
     }
 
     pub fn words(&self) -> &'static str {
-        WORDS.get((self.number as usize).wrapping_sub(1)).unwrap_or(&"refused")
+        match self.number {
+            1 => "fewer than 16 bytes of header",
+            2 => "a header rule is broken",
+            3 => "the block sizes are cut short",
+            4 => "a lossy base row is not whole",
+            5 => "there is no such block",
+            6 => "the size is not the picture's",
+            7 => "the region passes the picture's edge, or the image is too short for it",
+            8 => "the stream is lossy",
+            9 => "the number of samples is not the block's",
+            10 => "the scratch is too short",
+            11 => "a sample is above the largest",
+            12 => "an interpolated sample is not its prediction",
+            13 => "the output is too short",
+            14 => "a line is truncated",
+            15 => "the block is not tight",
+            16 => "the header is lossless",
+            17 => "the number of base bytes is not that of the lines",
+            18 => "the plan's record is malformed, runs backwards, passes the last line or has a base above 255",
+            19 => "two records of the plan hold it",
+            20 => "no record of the plan holds it",
+            24 => "the depth is not 12, 14 or 16, k is above 15, or the length is not 1 to 16",
+            _ => "refused",
+        }
     }
 }
 
@@ -50,7 +54,8 @@ impl fmt::Display for Refusal {
             4 => write!(f, "block {}: ", self.block)?,
             11 | 12 => write!(f, "sample {}: ", self.index)?,
             14 => write!(f, "block {}, line {}: ", self.block, self.line)?,
-            15 => write!(f, "line {}: ", self.line)?,
+            15 | 19 | 20 => write!(f, "line {}: ", self.line)?,
+            18 => write!(f, "record {}: ", self.index)?,
             _ => {}
         }
         f.write_str(self.words())

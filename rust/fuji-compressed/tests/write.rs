@@ -159,6 +159,25 @@ fn interpolated_samples_that_are_not_their_prediction() {
     assert!(seen > 20);
 }
 
+/// Of two wrong samples the first in coding order is named, whichever index is lower.
+#[test]
+fn the_first_wrong_sample_in_coding_order() {
+    let w = Written::new(14, true, 2, 1);
+    let at = |n: usize, line: usize, p: usize| (12 * n + FILLED.iter().position(|&l| l == line).unwrap()) * 512 + p;
+    // Line 15 is read in the second pass, line 3 in the third; line 16 in the fourth, line 4 in the fifth. In the last pass position 0 of line 17 comes
+    // before position 2 of line 12. A line of six rows is read before the next one.
+    let pairs = [((0, 15, 6), (0, 3, 4)), ((0, 17, 0), (0, 12, 2)), ((0, 17, 508), (1, 2, 0)), ((1, 16, 2), (1, 4, 2))];
+    for ((n, line, p), (later_n, later_line, later_p)) in pairs {
+        let (first, later) = (at(n, line, p), at(later_n, later_line, later_p));
+        let mut set = w.set.clone();
+        set[first] ^= 1;
+        set[later] ^= 1;
+        let mut out = vec![0xA5; w.block.len() + 9];
+        assert_eq!(write_block(&w.header.bytes(), &set, &mut out), refused(12, first));
+        assert!(out.iter().all(|&b| b == 0xA5));
+    }
+}
+
 #[test]
 fn refusals_before_the_set_is_looked_at() {
     let w = Written::new(14, false, 1, 0);

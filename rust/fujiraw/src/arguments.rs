@@ -8,11 +8,20 @@ pub const USAGE: &str = "\
 usage: fujiraw info STREAM...
        fujiraw check STREAM...
        fujiraw write HEADER SAMPLES OUT
+       fujiraw codes DEPTH K LENGTH
+       fujiraw plan HEADER PLAN OUT
        fujiraw decode STREAM OUT [OPTION...]
        fujiraw decode STREAM... FOLDER [OPTION...]
 
-info shows the header of each stream, and where its blocks lie. check says of each block whether it is tight. write writes the tight block of a set of colour lines: HEADER is a
-stream or its first 16 bytes, SAMPLES has 16 bits each, little-endian, for each line red 2 to 4, green 7 to 12, blue 15 to 17. decode writes its picture to OUT, or those of several streams to a folder that is there.
+info      the header of each stream, and where its blocks lie
+check     says of each block whether it is tight
+write     writes the tight block of a set of colour lines: HEADER is a stream or its first 16 bytes, SAMPLES has 16 bits each,
+          little-endian, for each line red 2 to 4, green 7 to 12, blue 15 to 17
+codes     lists every bit string of at most LENGTH bits (1 to 16) that is one tight lossless code for a DEPTH of 12, 14 or 16 and
+          a K of 0 to 15: its bits, how many they are, their value and the code, parted by tabs
+plan      writes the base bytes of a lossy header's lines: PLAN is text, one record a line, which is first line, last line and
+          base, parted by tabs; every line lies in exactly one record
+decode    writes a stream's picture to OUT, or those of several to a folder that is there
 
   --region X,Y,W,H    only the W columns from X on, and the H rows from Y on
   --tile DIGITS       the colours of the sensor, six rows of six: 0 red, 1 green, 2 blue (else RGGB or the usual X-Trans)
@@ -26,6 +35,8 @@ pub enum Call {
     Info(Vec<PathBuf>),
     Check(Vec<PathBuf>),
     Write([PathBuf; 3]),
+    Codes([u32; 3]),
+    Plan([PathBuf; 3]),
     Decode(Decode),
 }
 
@@ -68,7 +79,9 @@ pub fn read(words: Vec<OsString>) -> Result<Call, String> {
         Some("help") => Ok(Call::Help),
         Some("info") => streams(words, "info").map(Call::Info),
         Some("check") => streams(words, "check").map(Call::Check),
-        Some("write") => three(words).map(Call::Write),
+        Some("write") => three(words, "write needs a header, samples and an output").map(Call::Write),
+        Some("plan") => three(words, "plan needs a header, a plan and an output").map(Call::Plan),
+        Some("codes") => numbers(words).map(Call::Codes),
         Some("decode") => decode(words).map(Call::Decode),
         _ => Err(format!("there is no command {}", command.to_string_lossy())),
     }
@@ -107,12 +120,23 @@ fn streams(words: Words, command: &str) -> Result<Vec<PathBuf>, String> {
     Ok(words.plain.into_iter().map(PathBuf::from).collect())
 }
 
-fn three(words: Words) -> Result<[PathBuf; 3], String> {
+/// The three files of a command that takes nothing else; its first word is its name.
+fn three(words: Words, needs: &str) -> Result<[PathBuf; 3], String> {
     if let Some((name, _)) = words.options.first() {
-        return Err(format!("write takes no {name}"));
+        return Err(format!("{} takes no {name}", needs.split(' ').next().unwrap_or_default()));
     }
     let files: Vec<PathBuf> = words.plain.into_iter().map(PathBuf::from).collect();
-    files.try_into().map_err(|_| "write needs a header, samples and an output".to_string())
+    files.try_into().map_err(|_| needs.to_string())
+}
+
+/// The depth, k and length of a sheet; whether there is such a sheet is the library's to say.
+fn numbers(words: Words) -> Result<[u32; 3], String> {
+    if let Some((name, _)) = words.options.first() {
+        return Err(format!("codes takes no {name}"));
+    }
+    let read: Vec<u32> = words.plain.iter().filter_map(|w| w.to_str()?.parse().ok()).collect();
+    let three = read.try_into().ok().filter(|_| words.plain.len() == 3);
+    three.ok_or("codes needs three numbers: a depth, a k and a length".to_string())
 }
 
 fn decode(words: Words) -> Result<Decode, String> {

@@ -1,5 +1,6 @@
-//! Shows, checks, writes and decodes Fuji compressed raw streams. Status 0: all was done; 1: something was refused or failed; 2: wrong usage.
+//! Shows, checks, writes and decodes Fuji compressed raw streams, lists short codes, and reads plans of bases. Status 0: all was done; 1: something was refused or failed; 2: wrong usage.
 mod arguments;
+mod codes;
 mod output;
 mod stream;
 
@@ -15,8 +16,16 @@ fn main() -> ExitCode {
         Ok(Call::Info(streams)) => run(&streams, show),
         Ok(Call::Check(streams)) => run(&streams, check),
         Ok(Call::Write([header, samples, out])) => {
-            run(&[samples], |samples| output::write(samples, &out, &stream::write(&header, samples)?))
+            run(&[samples], |samples| output::write(&[&header, samples], &out, &stream::write(&header, samples)?))
         }
+        Ok(Call::Plan([header, plan, out])) => run(&[plan], |plan| output::write(&[&header, plan], &out, &stream::plan(&header, plan)?)),
+        Ok(Call::Codes([depth, k, length])) => match codes::sheet(depth, k, length) {
+            Ok(text) => print(&text),
+            Err(why) => {
+                eprintln!("{why}");
+                ExitCode::FAILURE
+            }
+        },
         Ok(Call::Decode(call)) => decode(&call),
         Err(wrong) => {
             eprintln!("fujiraw: {wrong}\n{USAGE}");
@@ -52,7 +61,7 @@ fn decode(call: &Decode) -> ExitCode {
     run(&call.streams, |file| {
         let out = call.output_of(file);
         let picture = stream::decode(file, call.region, call.tile.as_ref())?;
-        output::write(file, &out, &call.format.bytes(&picture))
+        output::write(&[file], &out, &call.format.bytes(&picture))
     })
 }
 

@@ -39,15 +39,16 @@ impl Format {
 }
 
 /// Writes beside the file first, and gives that one its name once it is whole. What is no file, as a pipe, is written to as it stands.
-pub fn write(stream: &Path, out: &Path, bytes: &[u8]) -> Result<(), String> {
+/// A file that is read for it is not written over.
+pub fn write(read: &[&Path], out: &Path, bytes: &[u8]) -> Result<(), String> {
     let failed = |e: std::io::Error| format!("cannot write {}: {}", out.display(), plain(&e));
     // A link is followed.
     let target = fs::canonicalize(out).unwrap_or(out.to_path_buf());
     match fs::metadata(&target) {
         Ok(there) if there.is_dir() => return Err(format!("cannot write {}: it is a folder", out.display())),
         Ok(there) if !there.is_file() => return fs::write(&target, bytes).map_err(failed),
-        Ok(_) if fs::canonicalize(stream).is_ok_and(|s| s == target) => {
-            return Err(format!("cannot write {}: it is the stream itself", out.display()));
+        Ok(_) if read.iter().any(|file| fs::canonicalize(file).is_ok_and(|f| f == target)) => {
+            return Err(format!("cannot write {}: it is read for this", out.display()));
         }
         Ok(there) if there.permissions().readonly() => return Err(format!("cannot write {}: it is read-only", out.display())),
         _ => {}

@@ -1,5 +1,5 @@
 //! Streams read from files.
-use fuji_compressed::{ColorTile, FujiCompressed, FujiHeader, Rect, Scratch, write_block};
+use fuji_compressed::{ColorTile, FujiCompressed, FujiHeader, Rect, Scratch, plan_bases, write_block};
 use std::fmt::Write;
 use std::path::Path;
 
@@ -75,6 +75,16 @@ pub fn write(header: &Path, samples: &Path) -> Result<Vec<u8>, String> {
     let length = write_block(&header, &set, &mut block).map_err(|e| e.to_string())?;
     block.truncate(length);
     Ok(block)
+}
+
+/// The base bytes of a plan, one for each line of the header.
+pub fn plan(header: &Path, plan: &Path) -> Result<Vec<u8>, String> {
+    let header = load(header)?;
+    let plan = load(plan)?;
+    let lines = FujiHeader::parse(&header).map_err(|e| e.to_string())?.lines;
+    let mut bases = vec![0; lines as usize];
+    plan_bases(&header, &plan, &mut bases).map_err(|e| e.to_string())?;
+    Ok(bases)
 }
 
 pub fn decode(file: &Path, region: Option<Rect>, tile: Option<&ColorTile>) -> Result<Picture, String> {

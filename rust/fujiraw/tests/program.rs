@@ -159,7 +159,7 @@ fn files_that_cannot_be_used() {
     f.fails("info folder", "cannot read folder: is a directory");
     f.fails("decode folder out", "cannot read folder: is a directory");
     f.fails("decode a.fcs none/out", "cannot write none/out: no such file or directory");
-    f.fails("decode a.fcs a.fcs", "cannot write a.fcs: it is the stream itself");
+    f.fails("decode a.fcs a.fcs", "cannot write a.fcs: it is read for this");
     f.fails("decode a.fcs /dev/full", "cannot write /dev/full: no space left on device");
     assert!(Path::new("/dev/full").exists());
     assert_eq!(f.get("a.fcs"), stream());
@@ -250,4 +250,58 @@ fn write_makes_the_block_of_a_set() {
     f.fails("write header half out", "half has half a sample at its end");
     f.fails("write few samples out", "refusal 2: a header rule is broken");
     f.is_wrong("write header samples", "write needs a header, samples and an output");
+}
+
+#[test]
+fn codes_lists_a_sheet() {
+    let f = Folder::new("codes");
+    assert_eq!(f.works("codes 12 0 3"), "1\t1\t1\t0\n01\t2\t1\t1\n001\t3\t1\t2\n");
+    assert_eq!(f.works("codes 16 1 3"), "10\t2\t2\t0\n11\t2\t3\t1\n010\t3\t2\t2\n011\t3\t3\t3\n");
+    assert_eq!(f.works("codes 14 8 8"), "");
+    let long = f.works("codes 16 15 16");
+    assert_eq!(long.lines().count(), 32_768);
+    assert_eq!(long.lines().last(), Some("1111111111111111\t16\t65535\t32767"));
+    let refused = "refusal 24: the depth is not 12, 14 or 16, k is above 15, or the length is not 1 to 16";
+    for wrong in ["codes 13 0 1", "codes 12 16 16", "codes 12 0 0", "codes 12 0 17"] {
+        f.fails(wrong, refused);
+    }
+    for wrong in ["codes", "codes 12 0", "codes 12 0 3 1", "codes 12 x 3", "codes 12 -1 3", "codes 12 0 4294967296"] {
+        f.is_wrong(wrong, "codes needs three numbers: a depth, a k and a length");
+    }
+    f.is_wrong("codes 12 0 3 --format raw", "codes takes no --format");
+}
+
+#[test]
+fn plan_writes_the_bases() {
+    let f = Folder::new("plan");
+    let samples = Path::new(env!("CARGO_MANIFEST_DIR")).join("../../samples");
+    f.works(&format!("plan {} {} bases", samples.join("xtrans.fcs").display(), samples.join("plan.txt").display()));
+    assert_eq!(f.get("bases"), [vec![6; 4], vec![1; 8], vec![6; 12]].concat());
+    // lossy, 14 bits, one block, three lines
+    let mut header = [0x49, 0x53, 0, 0, 14, 0, 18, 3, 0, 3, 0, 3, 0, 1, 0, 3];
+    f.put("header", &header);
+    f.put("fine", b"2\t2\t7\n0\t1\t255\n");
+    f.works("plan header fine out");
+    assert_eq!(f.get("out"), [255, 255, 7]);
+    f.put("bad", b"0\t2\t7\n0\t2\n");
+    f.put("twice", b"0\t2\t7\n1\t1\t7\n");
+    f.put("none", b"0\t1\t7\n");
+    f.put("empty", b"");
+    let bad = "the plan's record is malformed, runs backwards, passes the last line or has a base above 255";
+    f.fails("plan header bad out2", &format!("refusal 18: record 2: {bad}"));
+    f.fails("plan header twice out2", "refusal 19: line 1: two records of the plan hold it");
+    f.fails("plan header none out2", "refusal 20: line 2: no record of the plan holds it");
+    f.fails("plan header empty out2", "refusal 20: line 0: no record of the plan holds it");
+    f.fails("plan empty fine out2", "refusal 1: fewer than 16 bytes of header");
+    f.fails("plan header missing out2", "cannot read missing: no such file or directory");
+    f.fails("plan header fine fine", "cannot write fine: it is read for this");
+    f.fails("plan header fine header", "cannot write header: it is read for this");
+    header[2] = 1;
+    f.put("lossless", &header);
+    f.fails("plan lossless bad out2", "refusal 16: the header is lossless");
+    // A refused plan leaves the old bytes.
+    f.fails("plan header none out", "refusal 20: line 2: no record of the plan holds it");
+    assert_eq!(f.get("out"), [255, 255, 7]);
+    f.is_wrong("plan header fine", "plan needs a header, a plan and an output");
+    f.is_wrong("plan header fine out --format raw", "plan takes no --format");
 }

@@ -17,10 +17,14 @@ returns : tie.Need-returns
 returns c =
     let t = c .before .before in
     let a = t .before .before .args in
-    c .region-in .ensures ∙ (at (a .h) _ _ (a .image) (a .samples) (a .records) (c .before .whole .ensures) ∙ whole-picture (a .h) (a .samples) (a .records) (a .width) (a .height) (a .image) (sym (t .before .is-whole .ensures) ∙ t .if1 .taken))
+    let w = sym (t .before .is-whole .ensures) ∙ t .if1 .taken in
+    c .region-in .ensures
+    ∙ (at (a .h) _ _ (a .image) (a .samples) (a .records) (c .before .whole .ensures) ∙ whole-picture (a .h) (a .samples) (a .records) (a .width) (a .height) (a .image) w)
 
 returns-2 : tie.Need-returns-2
-returns-2 c = let a = c .before .before .args in wrong-size (a .h) (a .samples) (a .records) (a .width) (a .height) (a .image) (sym (c .before .is-whole .ensures) ∙ c .if1 .left)
+returns-2 c =
+    let a = c .before .before .args in
+    wrong-size (a .h) (a .samples) (a .records) (a .width) (a .height) (a .image) (sym (c .before .is-whole .ensures) ∙ c .if1 .left)
 
 pub image-in-spec : {M : Type 1} → statement M
 image-in-spec = tie.close (tie.spec (λ c κs. search needs) (λ c κs. search needs) (λ c κs. search needs) returns returns-2)

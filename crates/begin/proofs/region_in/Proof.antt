@@ -21,7 +21,8 @@ returns-3 : tie.Need-returns-3
 returns-3 c =
     let s = c .before .before in
     let a = s .before .before .before .args in
-    c .begun .ensures ∙ (ap begun (c .before .with-scratch .ensures) ∙ checked-is (a .h) (a .samples) (a .records) _ _ (sym (s .before .before .check .ensures) ∙ s .enum-told2 .given .1))
+    let k = sym (s .before .before .check .ensures) ∙ s .enum-told2 .given .1 in
+    c .begun .ensures ∙ (ap begun (c .before .with-scratch .ensures) ∙ checked-is (a .h) (a .samples) (a .records) _ _ k)
 
 pub region-in-spec : {M : Type 1} → statement M
 region-in-spec =

@@ -17,7 +17,8 @@ returns-2 c =
 returns-3 : tie.Need-returns-3
 returns-3 c =
     let a = c .before .before .before .before .args in
-    c .with-scratch .ensures ∙ a-set (a .h) (a .samples) (a .records) (a .count) _ (not-false _ (c .before .before .before .if1 .left)) (c .before .before .set-size .ensures) (c .before .if2 .left)
+    let l = not-false _ (c .before .before .before .if1 .left) in
+    c .with-scratch .ensures ∙ a-set (a .h) (a .samples) (a .records) (a .count) _ l (c .before .before .set-size .ensures) (c .before .if2 .left)
 
 pub writing-in-spec : {M : Type 1} → statement M
 writing-in-spec = tie.close (tie.spec returns (λ c κs. search needs) returns-2 (λ c κs. search needs) returns-3)

@@ -5,11 +5,11 @@ use lib.ListN.{List·getD-eq-default}
 use Rattle.bits.proofs.byte_at.Statement.{statement}
 use Rattle.bits.proofs.byte_at.Tie as tie
 
-shared-slice-read-wide : tie.Need-shared-slice-read-wide
-shared-slice-read-wide c = search needs
+shared-slice-read-u8-to-u64 : tie.Need-shared-slice-read-u8-to-u64
+shared-slice-read-u8-to-u64 c = search needs
 
-wide-requires : tie.Need-wide-requires
-wide-requires c κs = search needs
+u8-to-u64-requires : tie.Need-u8-to-u64-requires
+u8-to-u64-requires c κs = search needs
 
 returns : tie.Need-returns
 returns c = search needs
@@ -18,4 +18,4 @@ returns-2 : tie.Need-returns-2
 returns-2 c = (sym (List·getD-eq-default (c .before .before .args .s .now) 0 (c .if1 .left)), search needs)
 
 pub byte-at-spec : {M : Type 1} → statement M
-byte-at-spec = tie.close (tie.spec shared-slice-read-wide wide-requires returns returns-2)
+byte-at-spec = tie.close (tie.spec shared-slice-read-u8-to-u64 u8-to-u64-requires returns returns-2)

@@ -6,7 +6,7 @@ use Rattle.map.proofs.place_in.Tie as tie
 
 returns : tie.Need-returns
 unfolding placeIn
-returns c = simp (c .wide .ensures, c .before .before .if1 .taken) (c .before .before .before .pre .1 _ (c .before .before .before .pre .0))
+returns c = simp (c .u16-to-usize .ensures, c .before .before .if1 .taken) (c .before .before .before .pre .1 _ (c .before .before .before .pre .0))
 
 returns-2 : tie.Need-returns-2
 unfolding placeIn

@@ -4,77 +4,108 @@ use mathlib.Core.Bool.{not}
 use mathlib.Core.Logic.{⊎-elim}
 use mathlib.Core.Option.{some}
 use mathlib.Core.Path.{_≡_, sym, _∙_}
-use Prim.Native.Nat.{_+_, _^_, _<_}
+use Prim.Native.Nat.{ℕ, _+_, _^_, _≤_, _<_}
 use native.Mathlib.Omega.{arith}
 use lib.ListN.{length, length-set}
-use Rattle.pass.specs.Steps.{interpolated, stepAt}
-use Rattle.pass.specs.Readings.{Reading, zipRecords, SetInRange}
+use Rattle.steps.specs.Steps.{interpolated, stepAt}
+use Rattle.steps.specs.Values.{SetInRange}
+use Rattle.pass.specs.Readings.{Reading}
+use Rattle.pass.specs.Pairs.{held}
 use Rattle.pass.proofs.StepLaws.{StepGives, two-steps, first-none}
-use Rattle.pass.proofs.SiteLaws.{held, Placed, placed-even, site-interpolated, Site, site-even, site-n, site-record, site-reader, site-total, site-stored, site-cut-off, site-read, met, step-met, ranges-met, length-met, pair-cut-off, pair-at}
+use Rattle.pass.proofs.SiteLaws.{placeOf, Placed, site-interpolated, Site, site-reader, site-total, site-cut-off, site-read, met, step-met, ranges-met, length-met, pair-cut-off, pair-at}
 use Rattle.pass.proofs.even_pair.Statement.{statement}
 use Rattle.pass.proofs.even_pair.Tie as tie
 
 -- ---- the first sample
 
+abbrev begin : tie.After-has-code → tie.After-largest
+begin c = c .before .before .before .before .before .before
+
 abbrev entry : tie.After-has-code → tie.Start
-entry c = c .before .before .before .before .before .before .before
+entry c = begin c .before .before .before
 
 placed : (c : tie.After-has-code) → let a = entry c .args in
-    Placed (a .w) (a .plan .first) (a .p) (a .lines .now) (c .before .before .before .left-of .result) (c .before .even-context .result)
-placed c = placed-even (entry c .pre .0 .1 .1 .1) (c .before .before .before .left-of .ensures .0) (c .before .even-context .ensures .0)
+    Placed (a .spot .w) (a .spot .plan .first) (a .spot .p) (a .lines .now) (c .before .before .before .left-of .result) (c .before .context-at .result)
+placed c = record { place = c .before .before .before .left-of .ensures .0; context = c .before .context-at .ensures .0 }
 
 -- it goes inside of the lines
 room : (c : tie.After-has-code) → (c .before .before .before .left-of .result + 1 < length (entry c .args .lines .now)) × (c .before .before .before .left-of .result + 1 < 2 ^ 14)
 room c =
     let p = entry c .pre in
     let i = c .before .before .before .left-of .ensures .1 .1 in
-    (omega (arith, i, p .1 .0 .0), omega (arith, i, p .0 .1 .0))
+    (omega (arith, i, p .room), omega (arith, i, p .width))
 
-abbrev asked : tie.After-look-of → tie.After-has-code
-asked c = c .before .before
+abbrev looked : tie.After-record-at → tie.After-look-of
+looked c = c .before .before .before .before
 
-first : (c : tie.After-look-of) → let t = asked c in let a = entry t .args in
-    Site (a .bits) (a .base) (a .w) (a .plan .first) (a .p) (a .lines .now) (a .sums .now) (a .ns .now) (a .totals .now) (a .raws .now) (a .limits .now)
-    (t .before .before .before .left-of .result) (t .before .even-context .result) (c .look-of .result) (c .look-of .result .place)
+abbrev asked : tie.After-record-at → tie.After-has-code
+asked c = looked c .before .before
+
+first : (c : tie.After-record-at) → let t = asked c in let a = entry t .args in
+    Site (a .spot .bits) (a .base) (a .spot .w) (a .spot .plan .first) (a .spot .p) (a .block .now) (a .lines .now) (a .sums .now) (a .ns .now) (a .totals .now) (a .raws .now) (a .limits .now)
+    (t .before .before .before .left-of .result) (t .before .context-at .result) (looked c .look-of .result) (c .before .before .before .slot-of .result) (c .record-at .result)
 first c =
     let p = entry (asked c) .pre in
-    site-even (p .0 .1 .1 .1) (placed (asked c)) (c .look-of .ensures) (p .1 .1 .1) (p .1 .1 .0)
+    let h = looked c .look-of .ensures in
+    record {
+      placed = placed (asked c);
+      look = h .0;
+      four = h .1 .0;
+      slot = c .before .before .before .slot-of .ensures .0;
+      record-is = c .record-at .ensures .0;
+      depth = p .depth .1;
+      quantisers = p .quantisers;
+    }
 
 read-code-requires : tie.Need-read-code-requires
 read-code-requires c κs =
-    let h = c .before .before .before .before .before in
-    (entry (asked h) .pre .0 .0, (c .before .before .k .ensures .1, site-reader (first h)))
+    let r = c .before .before .before in
+    (entry (asked r) .pre .bytes, (c .before .before .k .ensures .1, site-reader (first r)))
 
-abbrev looked : tie.After-read-code → tie.After-look-of
-looked c = c .before .before .before .before .before .before
+-- the record that a code was read by
+abbrev kept : tie.After-read-code → tie.After-record-at
+kept c = c .before .before .before .before
 
 returns : tie.Need-returns
 returns c =
     let r = c .before .before in
-    let h = looked r in
-    let coded = sym (asked h .has-code .ensures) ∙ h .before .if1 .taken in
-    let cut = site-cut-off (first h) coded (r .before .before .before .k .ensures .0) (r .read-code .ensures .0) (c .enum-told .given .1) in
-    (pair-cut-off _ _ _ (first-none cut), entry (asked h) .pre .1 .1 .1)
+    let o = kept r in
+    let coded = sym (asked o .has-code .ensures) ∙ looked o .before .if1 .taken in
+    let cut = site-cut-off (first o) coded (r .before .before .before .k .ensures .0) (r .read-code .ensures .0) (c .enum-told .given .1) in
+    record { answer = pair-cut-off _ _ _ (first-none cut); records = entry (asked o) .pre .records }
 
-settle-requires : tie.Need-settle-requires
-settle-requires c κs =
+sample-of-requires : tie.Need-sample-of-requires
+sample-of-requires c κs =
     let r = c .before .before .before .before in
-    let h = looked r in
-    let t = asked h in
-    let b = rw (c .before .before .got .given .1) at (r .read-code .ensures .1) in (
-      (t .before .before .before .before .largest .ensures .1, (h .look-of .ensures .1 .1 .0, (site-total (first h), (t .before .even-context .ensures .1 .prediction, b .0)))),
-      site-record (first h),
-    )
+    let o = kept r in
+    let t = asked o in
+    let b = rw (c .before .before .got .given .1) at (r .read-code .ensures .1) in
+    (begin t .largest .ensures .1, (looked o .look-of .ensures .1 .1 .0, (site-total (first o), (t .before .context-at .ensures .1 .prediction, b .0))))
+
+-- a sample fits 16 bits
+small : (r : tie.After-read-code) {v : ℕ} → v ≤ begin (asked (kept r)) .largest .result → v < 2 ^ 16
+small r h = omega (arith, begin (asked (kept r)) .largest .ensures .1)
+
+update-at-requires : tie.Need-update-at-requires
+update-at-requires c κs =
+    let g = c .before .before .before .before .before in
+    let r = g .before .before in
+    let o = kept r in
+    let b = rw (g .got .given .1) at (r .read-code .ensures .1) in
+    ((b .0, (o .before .before .before .slot-of .ensures .1, o .record-at .ensures .1)), entry (asked o) .pre .records)
+
+abbrev taken-1 : tie.After-sample-of → tie.After-record-at
+taken-1 c = kept (c .before .before .before .before .before)
 
 -- ---- where the two ways to it meet
 
 abbrev middle : tie.Joined1 → Reading
-middle c = held (c .if1 .lines) (c .if1 .sums) (c .if1 .ns) (c .if1 .at) (c .if1 .tight)
+middle c = held (c .if1 .lines) (c .if1 .sums) (c .if1 .ns) (placeOf (c .if1 .at) (c .if1 .tight))
 
 record Met (c : tie.Joined1) : Type 0 where
   read : let a = entry (c .before) .args in
-      StepGives (a .bits) (a .base) (a .w) (a .block .now) (stepAt (a .plan .first) (a .p) (not (interpolated (a .plan .«first_rule») (a .p))))
-      (held (a .lines .now) (a .sums .now) (a .ns .now) (a .from) (a .tight-before)) (some (middle c))
+      StepGives (a .spot .bits) (a .base) (a .spot .w) (a .block .now) (stepAt (a .spot .plan .first) (a .spot .p) (not (interpolated (a .spot .plan .«first_rule») (a .spot .p))))
+      (held (a .lines .now) (a .sums .now) (a .ns .now) (a .from)) (some (middle c))
   in-range : SetInRange (middle c .set)
   same : length (middle c .lines) ≡ length (entry (c .before) .args .lines .now)
 
@@ -82,125 +113,154 @@ one : (c : tie.Joined1) → Met c
 one c =
     let t = c .before in
     let coded = sym (t .has-code .ensures) in
-    let largest = t .before .before .before .before .largest .ensures .0 in
+    let largest = begin t .largest .ensures .0 in
     ⊎-elim
     (λ w.
-    let f = first (record { before = record { before = t; if1 = w .0 }; look-of = w .1 }) in
-    let m = met (w .15) (w .16) (w .17) (w .18) (w .19) in
-    let new = w .12 .ensures in
+    let h : tie.After-look-of = record { before = record { before = t; if1 = w .0 }; look-of = w .1 } in
+    let f = first (record { before = record { before = record { before = record { before = h; slot-of = w .2 }; record-at-arg = w .3 }; record-at-arg2 = w .4 }; record-at = w .5 }) in
+    let m = met (w .20) (w .21) (w .22) (w .23) (w .24) in
+    let new = w .17 .ensures in
     record {
-      read = step-met m (site-read f (coded ∙ w .0 .taken) (w .4 .ensures .0) (w .7 .ensures .0) (w .9 .given .1) largest (new .0) (new .1 .0) (w .14 .ensures));
-      in-range = ranges-met m (site-stored f (new .1 .1));
+      read = step-met m (site-read f (coded ∙ w .0 .taken) (w .6 .ensures .0) (w .9 .ensures .0) (w .11 .given .1) largest (w .14 .ensures .0) (new .0) (w .19 .ensures));
+      in-range = ranges-met m (new .1);
       same = length-met m ∙ simp length-set;
     })
     (λ w.
     let m = met (w .2) (w .3) (w .4) (w .5) (w .6) in
     record {
       read = step-met m (site-interpolated (placed t) (coded ∙ w .0 .left));
-      in-range = ranges-met m (entry t .pre .1 .1 .1);
+      in-range = ranges-met m (entry t .pre .records);
       same = length-met m ∙ simp length-set;
     })
     (c .if1 .came)
 
 -- ---- the second sample
 
-even-context-requires-2 : tie.Need-even-context-requires-2
-even-context-requires-2 c κs =
+context-at-requires-2 : tie.Need-context-at-requires-2
+context-at-requires-2 c κs =
     let m = c .before .before in
     let p = entry (m .before) .pre in
     let i = c .before .left-of2 .ensures .1 in
-    (omega (arith, p .0 .1 .0), (i .0, omega (arith, i .1, p .1 .0 .0, one m .same)))
+    (omega (arith, p .width), (i .0, omega (arith, i .1, p .room, one m .same)))
 
 abbrev joined : tie.After-has-code2 → tie.Joined1
 joined c = c .before .before .before .before
 
 placed-2 : (c : tie.After-has-code2) → let a = entry (joined c .before) .args in
-    Placed (a .w) (a .plan .second) (a .p) (joined c .if1 .lines) (c .before .before .before .left-of2 .result) (c .before .even-context2 .result)
-placed-2 c = placed-even (entry (joined c .before) .pre .0 .1 .1 .1) (c .before .before .before .left-of2 .ensures .0) (c .before .even-context2 .ensures .0)
+    Placed (a .spot .w) (a .spot .plan .second) (a .spot .p) (joined c .if1 .lines) (c .before .before .before .left-of2 .result) (c .before .context-at2 .result)
+placed-2 c = record { place = c .before .before .before .left-of2 .ensures .0; context = c .before .context-at2 .ensures .0 }
 
 room-2 : (c : tie.After-has-code2) → (c .before .before .before .left-of2 .result + 1 < length (joined c .if1 .lines)) × (c .before .before .before .left-of2 .result + 1 < 2 ^ 14)
 room-2 c =
     let p = entry (joined c .before) .pre in
     let i = c .before .before .before .left-of2 .ensures .1 .1 in
-    (omega (arith, i, p .1 .0 .0, one (joined c) .same), omega (arith, i, p .0 .1 .0))
+    (omega (arith, i, p .room, one (joined c) .same), omega (arith, i, p .width))
 
 look-of-requires-2 : tie.Need-look-of-requires-2
-look-of-requires-2 c κs = (entry (joined (c .before) .before) .pre .1 .1 .0 .1 .0, c .before .before .even-context2 .ensures .1)
+look-of-requires-2 c κs = (entry (joined (c .before) .before) .pre .base, c .before .before .context-at2 .ensures .1)
 
-abbrev asked-2 : tie.After-look-of2 → tie.After-has-code2
-asked-2 c = c .before .before
+abbrev looked-2 : tie.After-record-at2 → tie.After-look-of2
+looked-2 c = c .before .before .before .before
 
-abbrev begun : tie.After-look-of2 → tie.Joined1
+abbrev asked-2 : tie.After-record-at2 → tie.After-has-code2
+asked-2 c = looked-2 c .before .before
+
+abbrev begun : tie.After-record-at2 → tie.Joined1
 begun c = joined (asked-2 c)
 
-second : (c : tie.After-look-of2) → let t = asked-2 c in let j = begun c .if1 in let a = entry (begun c .before) .args in
-    Site (a .bits) (a .base) (a .w) (a .plan .second) (a .p) (j .lines) (j .sums) (j .ns) (a .totals .now) (a .raws .now) (a .limits .now)
-    (t .before .before .before .left-of2 .result) (t .before .even-context2 .result) (c .look-of2 .result) (c .look-of2 .result .place)
+record-at-requires-2 : tie.Need-record-at-requires-2
+record-at-requires-2 c κs =
+    let s = c .before .before in
+    (s .slot-of2 .ensures .1, one (joined (s .before .before .before)) .in-range)
+
+second : (c : tie.After-record-at2) → let t = asked-2 c in let j = begun c .if1 in let a = entry (begun c .before) .args in
+    Site (a .spot .bits) (a .base) (a .spot .w) (a .spot .plan .second) (a .spot .p) (a .block .now) (j .lines) (j .sums) (j .ns) (a .totals .now) (a .raws .now) (a .limits .now)
+    (t .before .before .before .left-of2 .result) (t .before .context-at2 .result) (looked-2 c .look-of2 .result) (c .before .before .before .slot-of2 .result) (c .record-at2 .result)
 second c =
     let p = entry (begun c .before) .pre in
-    site-even (p .0 .1 .1 .1) (placed-2 (asked-2 c)) (c .look-of2 .ensures) (one (begun c) .in-range) (p .1 .1 .0)
+    let h = looked-2 c .look-of2 .ensures in
+    record {
+      placed = placed-2 (asked-2 c);
+      look = h .0;
+      four = h .1 .0;
+      slot = c .before .before .before .slot-of2 .ensures .0;
+      record-is = c .record-at2 .ensures .0;
+      depth = p .depth .1;
+      quantisers = p .quantisers;
+    }
 
 read-code-requires-2 : tie.Need-read-code-requires-2
 read-code-requires-2 c κs =
-    let h = c .before .before .before .before .before in
-    (entry (begun h .before) .pre .0 .0, (c .before .before .k2 .ensures .1, site-reader (second h)))
+    let r = c .before .before .before in
+    (entry (begun r .before) .pre .bytes, (c .before .before .k2 .ensures .1, site-reader (second r)))
 
-abbrev looked-2 : tie.After-read-code2 → tie.After-look-of2
-looked-2 c = c .before .before .before .before .before .before
+abbrev kept-2 : tie.After-read-code2 → tie.After-record-at2
+kept-2 c = c .before .before .before .before
 
 returns-2 : tie.Need-returns-2
 returns-2 c =
     let r = c .before .before in
-    let h = looked-2 r in
-    let m = one (begun h) in
-    let coded = sym (asked-2 h .has-code2 .ensures) ∙ h .before .if2 .taken in
-    let cut = site-cut-off (second h) coded (r .before .before .before .k2 .ensures .0) (r .read-code2 .ensures .0) (c .enum-told2 .given .1) in
-    (pair-cut-off _ _ _ (two-steps (m .read) cut), m .in-range)
+    let o = kept-2 r in
+    let m = one (begun o) in
+    let coded = sym (asked-2 o .has-code2 .ensures) ∙ looked-2 o .before .if2 .taken in
+    let cut = site-cut-off (second o) coded (r .before .before .before .k2 .ensures .0) (r .read-code2 .ensures .0) (c .enum-told2 .given .1) in
+    record { answer = pair-cut-off _ _ _ (two-steps (m .read) cut); records = m .in-range }
 
-settle-requires-2 : tie.Need-settle-requires-2
-settle-requires-2 c κs =
+sample-of-requires-2 : tie.Need-sample-of-requires-2
+sample-of-requires-2 c κs =
     let r = c .before .before .before .before in
-    let h = looked-2 r in
-    let x = asked-2 h .before .even-context2 .ensures .1 in
-    let b = rw (c .before .before .got2 .given .1) at (r .read-code2 .ensures .1) in (
-      (begun h .before .before .before .before .before .largest .ensures .1, (h .look-of2 .ensures .1 .1 .0, (site-total (second h), (x .prediction, b .0)))),
-      site-record (second h),
-    )
+    let o = kept-2 r in
+    let b = rw (c .before .before .got2 .given .1) at (r .read-code2 .ensures .1) in
+    (begin (begun o .before) .largest .ensures .1, (looked-2 o .look-of2 .ensures .1 .1 .0, (site-total (second o), (asked-2 o .before .context-at2 .ensures .1 .prediction, b .0))))
+
+small-2 : (r : tie.After-read-code2) {v : ℕ} → v ≤ begin (begun (kept-2 r) .before) .largest .result → v < 2 ^ 16
+small-2 r h = omega (arith, begin (begun (kept-2 r) .before) .largest .ensures .1)
+
+update-at-requires-2 : tie.Need-update-at-requires-2
+update-at-requires-2 c κs =
+    let g = c .before .before .before .before .before in
+    let r = g .before .before in
+    let o = kept-2 r in
+    let b = rw (g .got2 .given .1) at (r .read-code2 .ensures .1) in
+    ((b .0, (o .before .before .before .slot-of2 .ensures .1, o .record-at2 .ensures .1)), one (begun o) .in-range)
+
+abbrev taken-2 : tie.After-sample-of2 → tie.After-record-at2
+taken-2 c = kept-2 (c .before .before .before .before .before)
 
 returns-3 : tie.Need-returns-3
 returns-3 c =
-    let r = c .before .before .before .before .before .before .before in
-    let h = looked-2 r in
-    let coded = sym (asked-2 h .has-code2 .ensures) ∙ h .before .if2 .taken in
-    let new = c .before .before .settle2 .ensures in (
-      pair-at _ _ _
-          (two-steps (one (begun h) .read)
-          (site-read (second h) coded (r .before .before .before .k2 .ensures .0) (r .read-code2 .ensures .0)
-          (c .before .before .before .before .before .got2 .given .1) (begun h .before .before .before .before .before .largest .ensures .0) (new .0) (new .1 .0) (c .is-tight2 .ensures))),
-      site-stored (second h) (new .1 .1),
-    )
+    let g = c .before .before .before .before .before .before .before .before in
+    let r = g .before .before in
+    let o = kept-2 r in
+    let coded = sym (asked-2 o .has-code2 .ensures) ∙ looked-2 o .before .if2 .taken in
+    let new = c .before .before .update-at2 .ensures in
+    record {
+      answer = pair-at _ _ _
+          (two-steps (one (begun o) .read)
+          (site-read (second o) coded (r .before .before .before .k2 .ensures .0) (r .read-code2 .ensures .0) (g .got2 .given .1) (begin (begun o .before) .largest .ensures .0)
+          (c .before .before .before .before .before .sample-of2 .ensures .0) (new .0) (c .is-tight2 .ensures)));
+      records = new .1;
+    }
 
 returns-4 : tie.Need-returns-4
 returns-4 c =
     let t = c .before .before in
     let m = one (joined t) in
-    (pair-at _ _ _ (two-steps (m .read) (site-interpolated (placed-2 t) (sym (t .has-code2 .ensures) ∙ c .before .if2 .left))), m .in-range)
+    record { answer = pair-at _ _ _ (two-steps (m .read) (site-interpolated (placed-2 t) (sym (t .has-code2 .ensures) ∙ c .before .if2 .left))); records = m .in-range }
 
 pub even-pair-spec : {M : Type 1} → statement M
 even-pair-spec =
     tie.close
     (tie.spec
     (λ c κs. search needs)
+    (λ c κs. search needs)
     (λ c. search needs)
     (λ c κs. search needs)
     (λ c κs. search needs)
     (λ c κs. search needs)
     (λ c κs. search needs)
-    (λ c. search needs)
-    (λ c. search needs)
-    (λ c. search needs)
-    (λ c. search needs)
-    (λ c κs. site-n (first (c .before .before)))
+    (λ c κs. search needs)
+    (λ c κs. search needs)
     (λ c. search needs)
     (λ c. search needs)
     (λ c. search needs)
@@ -212,28 +272,25 @@ even-pair-spec =
     returns
     (λ c. search needs)
     (λ c. search needs)
-    settle-requires
-    (λ c. search (needs, room (asked (looked (c .before .before .before .before .before)))))
-    (λ c. search (needs, room (asked (looked (c .before .before .before .before .before)))))
-    (λ c. room (asked (looked (c .before .before .before .before .before))) .0)
-    (λ c. search needs)
-    (λ c. search needs)
-    (λ c. search needs)
-    (λ c. search needs)
+    sample-of-requires
+    (λ c. search (needs, small (c .before .before .before .before .before) (c .sample-of .ensures .1)))
+    (λ c. search (needs, room (asked (taken-1 c))))
+    (λ c. search (needs, room (asked (taken-1 c))))
+    (λ c. room (asked (taken-1 c)) .0)
+    update-at-requires
     (λ c κs. search needs)
     (λ c. search needs)
     (λ c. search needs)
     (λ c. search needs)
     (λ c. search needs)
     (λ c κs. search needs)
-    even-context-requires-2
+    (λ c. search needs)
+    context-at-requires-2
     (λ c κs. search needs)
     look-of-requires-2
-    (λ c. search needs)
-    (λ c. search needs)
-    (λ c. search needs)
-    (λ c. search needs)
-    (λ c κs. site-n (second (c .before .before)))
+    (λ c κs. search needs)
+    record-at-requires-2
+    (λ c κs. search needs)
     (λ c. search needs)
     (λ c. search needs)
     (λ c. search needs)
@@ -241,24 +298,22 @@ even-pair-spec =
     read-code-requires-2
     (λ c. search needs)
     (λ c. search needs)
-    (λ c. one (begun (looked-2 (c .before .before))) .same)
+    (λ c. one (begun (kept-2 (c .before .before))) .same)
     returns-2
     (λ c. search needs)
     (λ c. search needs)
-    settle-requires-2
-    (λ c. search (needs, room-2 (asked-2 (looked-2 (c .before .before .before .before .before)))))
-    (λ c. search (needs, room-2 (asked-2 (looked-2 (c .before .before .before .before .before)))))
-    (λ c. room-2 (asked-2 (looked-2 (c .before .before .before .before .before))) .0)
-    (λ c. search needs)
-    (λ c. search needs)
-    (λ c. search needs)
-    (λ c. search needs)
+    sample-of-requires-2
+    (λ c. search (needs, small-2 (c .before .before .before .before .before) (c .sample-of2 .ensures .1)))
+    (λ c. search (needs, room-2 (asked-2 (taken-2 c))))
+    (λ c. search (needs, room-2 (asked-2 (taken-2 c))))
+    (λ c. room-2 (asked-2 (taken-2 c)) .0)
+    update-at-requires-2
     (λ c κs. search needs)
     (λ c. search needs)
     (λ c. search (needs, room-2 (c .before .before)))
     (λ c. search (needs, room-2 (c .before .before)))
     (λ c. room-2 (c .before .before) .0)
-    (λ c. simp length-set (one (begun (looked-2 (c .before .before .before .before .before .before .before))) .same))
+    (λ c. simp length-set (one (begun (kept-2 (c .before .before .before .before .before .before .before .before .before .before))) .same))
     returns-3
     (λ c. simp length-set (one (joined (c .before .before)) .same))
     returns-4)

@@ -4,184 +4,227 @@ use mathlib.Core.Bool.{true, _&&_}
 use mathlib.Core.List.{List}
 use mathlib.Core.Option.{some}
 use mathlib.Core.Path.{refl}
-use Prim.Native.Nat.{ℕ, _+_, _^_, _<_}
+use Prim.Native.Nat.{ℕ, _+_, _^_, _≤_, _<_}
 use native.Mathlib.Omega.{arith}
 use lib.ListN.{length, set, length-set}
-use Rattle.pass.specs.Steps.{stepAt}
-use Rattle.pass.specs.Readings.{Reading, zipRecords, SetInRange}
+use Rattle.steps.specs.Steps.{stepAt}
+use Rattle.steps.specs.Values.{SetInRange}
+use Rattle.pass.specs.Readings.{Reading}
+use Rattle.pass.specs.Pairs.{held}
 use Rattle.pass.proofs.StepLaws.{StepGives, two-steps, first-none}
-use Rattle.pass.proofs.SiteLaws.{held, placed-odd, Site, site-odd, site-n, site-record, site-reader, site-total, site-stored, site-cut-off, site-read, pair-cut-off, pair-at}
+use Rattle.pass.proofs.SiteLaws.{placeOf, Site, site-reader, site-total, site-cut-off, site-read, pair-cut-off, pair-at}
 use Rattle.pass.proofs.odd_pair.Statement.{statement}
 use Rattle.pass.proofs.odd_pair.Tie as tie
 
 -- ---- the first sample
 
-abbrev entry : tie.After-look-of → tie.Start
-entry c = c .before .before .before .before .before .before .before
+abbrev looked : tie.After-record-at → tie.After-look-of
+looked c = c .before .before .before .before
 
-first : (c : tie.After-look-of) → let a = entry c .args in
-    Site (a .bits) (a .base) (a .w) (a .plan .first) (a .p) (a .lines .now) (a .sums .now) (a .ns .now) (a .totals .now) (a .raws .now) (a .limits .now)
-    (c .before .before .before .left-of .result) (c .before .odd-context .result) (c .look-of .result) (c .look-of .result .place + 56)
+abbrev there : tie.After-look-of → tie.After-left-of
+there c = c .before .before .before
+
+abbrev begin : tie.After-look-of → tie.After-largest
+begin c = there c .before .before
+
+abbrev entry : tie.After-look-of → tie.Start
+entry c = begin c .before .before .before
+
+first : (c : tie.After-record-at) → let h = looked c in let a = entry h .args in
+    Site (a .spot .bits) (a .base) (a .spot .w) (a .spot .plan .first) (a .spot .p) (a .block .now) (a .lines .now) (a .sums .now) (a .ns .now) (a .totals .now) (a .raws .now) (a .limits .now)
+    (there h .left-of .result) (h .before .context-at .result) (h .look-of .result) (c .before .before .before .slot-of .result) (c .record-at .result)
 first c =
-    let p = entry c .pre in
-    let odd = p .0 .1 .1 .1 in
-    site-odd odd (placed-odd odd (c .before .before .before .left-of .ensures .0) (c .before .odd-context .ensures .0)) (c .look-of .ensures) (p .1 .1 .1) (p .1 .1 .0)
+    let h = looked c in
+    let p = entry h .pre in
+    record {
+      placed = record { place = there h .left-of .ensures .0; context = h .before .context-at .ensures .0 };
+      look = h .look-of .ensures .0;
+      four = h .look-of .ensures .1 .0;
+      slot = c .before .before .before .slot-of .ensures .0;
+      record-is = c .record-at .ensures .0;
+      depth = p .depth .1;
+      quantisers = p .quantisers;
+    }
 
 -- it goes inside of the lines
-room : (c : tie.After-look-of)
-    → (c .before .before .before .left-of .result + 1 < length (entry c .args .lines .now)) × (c .before .before .before .left-of .result + 1 < 2 ^ 14) × (c .look-of .result .place + 56 < 112)
+room : (c : tie.After-look-of) → (there c .left-of .result + 1 < length (entry c .args .lines .now)) × (there c .left-of .result + 1 < 2 ^ 14)
 room c =
     let p = entry c .pre in
-    let i = c .before .before .before .left-of .ensures .1 .1 in
-    (omega (arith, i, p .1 .0 .0), omega (arith, i, p .0 .1 .0), first c .small)
+    let i = there c .left-of .ensures .1 .1 in
+    (omega (arith, i, p .room), omega (arith, i, p .width))
 
 read-code-requires : tie.Need-read-code-requires
 read-code-requires c κs =
-    let h = c .before .before .before .before .before .before in
-    (entry h .pre .0 .0, (c .before .before .k .ensures .1, site-reader (first h)))
+    let r = c .before .before .before in
+    (entry (looked r) .pre .bytes, (c .before .before .k .ensures .1, site-reader (first r)))
 
-abbrev looked : tie.After-read-code → tie.After-look-of
-looked c = c .before .before .before .before .before .before .before
+-- the record that a code was read by
+abbrev kept : tie.After-read-code → tie.After-record-at
+kept c = c .before .before .before .before
 
 returns : tie.Need-returns
 returns c =
     let r = c .before .before in
-    let cut = site-cut-off (first (looked r)) refl (r .before .before .before .k .ensures .0) (r .read-code .ensures .0) (c .enum-told .given .1) in
-    (pair-cut-off _ _ _ (first-none cut), entry (looked r) .pre .1 .1 .1)
+    let cut = site-cut-off (first (kept r)) refl (r .before .before .before .k .ensures .0) (r .read-code .ensures .0) (c .enum-told .given .1) in
+    record { answer = pair-cut-off _ _ _ (first-none cut); records = entry (looked (kept r)) .pre .records }
 
-settle-requires : tie.Need-settle-requires
-settle-requires c κs =
+sample-of-requires : tie.Need-sample-of-requires
+sample-of-requires c κs =
     let r = c .before .before .before .before in
-    let h = looked r in
-    let b = rw (c .before .before .got .given .1) at (r .read-code .ensures .1) in (
-      (h .before .before .before .before .largest .ensures .1, (h .look-of .ensures .1 .1 .0, (site-total (first h), (h .before .odd-context .ensures .1 .prediction, b .0)))),
-      site-record (first h),
-    )
+    let h = looked (kept r) in
+    let b = rw (c .before .before .got .given .1) at (r .read-code .ensures .1) in
+    (begin h .largest .ensures .1, (h .look-of .ensures .1 .1 .0, (site-total (first (kept r)), (h .before .context-at .ensures .1 .prediction, b .0))))
+
+-- a sample fits 16 bits
+small : (r : tie.After-read-code) {v : ℕ} → v ≤ begin (looked (kept r)) .largest .result → v < 2 ^ 16
+small r h = omega (arith, begin (looked (kept r)) .largest .ensures .1)
+
+update-at-requires : tie.Need-update-at-requires
+update-at-requires c κs =
+    let g = c .before .before .before .before .before in
+    let r = g .before .before in
+    let o = kept r in
+    let b = rw (g .got .given .1) at (r .read-code .ensures .1) in
+    ((b .0, (o .before .before .before .slot-of .ensures .1, o .record-at .ensures .1)), entry (looked o) .pre .records)
 
 -- ---- what is held after it
 
-abbrev got : tie.After-is-tight → tie.After-read-code
-got c = c .before .before .before .before .before .before
+abbrev got : tie.After-is-tight → tie.After-got
+got c = c .before .before .before .before .before .before .before
+
+abbrev origin : tie.After-is-tight → tie.After-look-of
+origin c = looked (kept (got c .before .before))
 
 abbrev lines₁ : tie.After-is-tight → List ℕ
-lines₁ c =
-    let h = looked (got c) in
-    set (entry h .args .lines .now) (h .before .before .before .left-of .result + 1) (c .before .settle .result .value)
-
-abbrev sums₁ : tie.After-is-tight → List ℕ
-sums₁ c =
-    let h = looked (got c) in
-    set (entry h .args .sums .now) (h .look-of .result .place + 56) (c .before .settle .result .record .sum)
-
-abbrev ns₁ : tie.After-is-tight → List ℕ
-ns₁ c =
-    let h = looked (got c) in
-    set (entry h .args .ns .now) (h .look-of .result .place + 56) (c .before .settle .result .record .n)
+lines₁ c = set (entry (origin c) .args .lines .now) (there (origin c) .left-of .result + 1) (c .before .before .before .before .sample-of .result)
 
 abbrev middle : tie.After-is-tight → Reading
 middle c =
-    held (lines₁ c) (sums₁ c) (ns₁ c) (c .before .before .before .before .got .given .0 .0 .after) (entry (looked (got c)) .args .tight-before && c .is-tight .result)
+    held (lines₁ c) (c .before .update-at .last .0) (c .before .update-at .last .1 .0)
+    (placeOf (got c .got .given .0 .0 .after) (entry (origin c) .args .from .tight && c .is-tight .result))
 
-first-read : (c : tie.After-is-tight) → let a = entry (looked (got c)) .args in
-    StepGives (a .bits) (a .base) (a .w) (a .block .now) (stepAt (a .plan .first) (a .p) true)
-    (held (a .lines .now) (a .sums .now) (a .ns .now) (a .from) (a .tight-before)) (some (middle c))
+first-read : (c : tie.After-is-tight) → let a = entry (origin c) .args in
+    StepGives (a .spot .bits) (a .base) (a .spot .w) (a .block .now) (stepAt (a .spot .plan .first) (a .spot .p) true)
+    (held (a .lines .now) (a .sums .now) (a .ns .now) (a .from)) (some (middle c))
 first-read c =
-    let r = got c in
-    let new = c .before .settle .ensures in
-    site-read (first (looked r)) refl (r .before .before .before .k .ensures .0) (r .read-code .ensures .0)
-    (c .before .before .before .before .got .given .1) (looked r .before .before .before .before .largest .ensures .0) (new .0) (new .1 .0) (c .is-tight .ensures)
+    let r = got c .before .before in
+    site-read (first (kept r)) refl (r .before .before .before .k .ensures .0) (r .read-code .ensures .0) (got c .got .given .1) (begin (origin c) .largest .ensures .0)
+    (c .before .before .before .before .sample-of .ensures .0) (c .before .update-at .ensures .0) (c .is-tight .ensures)
 
 in-range : (c : tie.After-is-tight) → SetInRange (middle c .set)
-in-range c = site-stored (first (looked (got c))) (c .before .settle .ensures .1 .1)
+in-range c = c .before .update-at .ensures .1
 
 -- ---- the second sample
 
 left-of-requires-2 : tie.Need-left-of-requires-2
 left-of-requires-2 c κs =
-    let p = entry (looked (got (c .before))) .pre in
-    (p .0 .1 .0, (p .0 .1 .1 .0, (p .1 .0 .1 .2, p .1 .0 .1 .3)))
+    let p = entry (origin (c .before .before)) .pre in
+    (p .width, (p .inside, (p .plan .second-low, p .plan .second-high)))
 
-odd-context-requires-2 : tie.Need-odd-context-requires-2
-odd-context-requires-2 c κs =
-    let p = entry (looked (got (c .before .before .before))) .pre in
+context-at-requires-2 : tie.Need-context-at-requires-2
+context-at-requires-2 c κs =
+    let p = entry (origin (c .before .before .before .before)) .pre in
     let i = c .before .left-of2 .ensures .1 in
-    (omega (arith, p .0 .1 .0), (i .0, simp length-set (omega (arith, i .1, p .1 .0 .0))))
+    (omega (arith, p .width), (i .0, simp length-set (omega (arith, i .1, p .room))))
 
 look-of-requires-2 : tie.Need-look-of-requires-2
-look-of-requires-2 c κs = (entry (looked (got (c .before .before .before .before))) .pre .1 .1 .0 .1 .0, c .odd-context2 .ensures .1)
+look-of-requires-2 c κs = (entry (origin (c .before .before .before .before .before)) .pre .base, c .context-at2 .ensures .1)
+
+abbrev looked-2 : tie.After-record-at2 → tie.After-look-of2
+looked-2 c = c .before .before .before .before
+
+abbrev there-2 : tie.After-look-of2 → tie.After-left-of2
+there-2 c = c .before .before .before
 
 abbrev one : tie.After-look-of2 → tie.After-is-tight
-one c = c .before .before .before .before .before
+one c = there-2 c .before .before .before
 
 abbrev begun : tie.After-look-of2 → tie.After-look-of
-begun c = looked (got (one c))
+begun c = origin (one c)
 
-second : (c : tie.After-look-of2) → let a = entry (begun c) .args in
-    Site (a .bits) (a .base) (a .w) (a .plan .second) (a .p) (lines₁ (one c)) (sums₁ (one c)) (ns₁ (one c)) (a .totals .now) (a .raws .now) (a .limits .now)
-    (c .before .before .before .left-of2 .result) (c .before .odd-context2 .result) (c .look-of2 .result) (c .look-of2 .result .place + 56)
+second : (c : tie.After-record-at2) → let h = looked-2 c in let a = entry (begun h) .args in let z = one h .before .update-at .last in
+    Site (a .spot .bits) (a .base) (a .spot .w) (a .spot .plan .second) (a .spot .p) (a .block .now) (lines₁ (one h)) (z .0) (z .1 .0) (a .totals .now) (a .raws .now) (a .limits .now)
+    (there-2 h .left-of2 .result) (h .before .context-at2 .result) (h .look-of2 .result) (c .before .before .before .slot-of2 .result) (c .record-at2 .result)
 second c =
-    let p = entry (begun c) .pre in
-    let odd = p .0 .1 .1 .1 in
-    site-odd odd (placed-odd odd (c .before .before .before .left-of2 .ensures .0) (c .before .odd-context2 .ensures .0)) (c .look-of2 .ensures) (in-range (one c)) (p .1 .1 .0)
+    let h = looked-2 c in
+    let p = entry (begun h) .pre in
+    record {
+      placed = record { place = there-2 h .left-of2 .ensures .0; context = h .before .context-at2 .ensures .0 };
+      look = h .look-of2 .ensures .0;
+      four = h .look-of2 .ensures .1 .0;
+      slot = c .before .before .before .slot-of2 .ensures .0;
+      record-is = c .record-at2 .ensures .0;
+      depth = p .depth .1;
+      quantisers = p .quantisers;
+    }
 
-room-2 : (c : tie.After-look-of2)
-    → (c .before .before .before .left-of2 .result + 1 < length (lines₁ (one c))) × (c .before .before .before .left-of2 .result + 1 < 2 ^ 14) × (c .look-of2 .result .place + 56 < 112)
+room-2 : (c : tie.After-look-of2) → (there-2 c .left-of2 .result + 1 < length (lines₁ (one c))) × (there-2 c .left-of2 .result + 1 < 2 ^ 14)
 room-2 c =
     let p = entry (begun c) .pre in
-    let i = c .before .before .before .left-of2 .ensures .1 .1 in
-    (simp length-set (omega (arith, i, p .1 .0 .0)), omega (arith, i, p .0 .1 .0), second c .small)
+    let i = there-2 c .left-of2 .ensures .1 .1 in
+    (simp length-set (omega (arith, i, p .room)), omega (arith, i, p .width))
 
 read-code-requires-2 : tie.Need-read-code-requires-2
 read-code-requires-2 c κs =
-    let h = c .before .before .before .before .before .before in
-    (entry (begun h) .pre .0 .0, (c .before .before .k2 .ensures .1, site-reader (second h)))
+    let r = c .before .before .before in
+    (entry (begun (looked-2 r)) .pre .bytes, (c .before .before .k2 .ensures .1, site-reader (second r)))
 
-abbrev looked-2 : tie.After-read-code2 → tie.After-look-of2
-looked-2 c = c .before .before .before .before .before .before .before
+abbrev kept-2 : tie.After-read-code2 → tie.After-record-at2
+kept-2 c = c .before .before .before .before
 
 returns-2 : tie.Need-returns-2
 returns-2 c =
     let r = c .before .before in
-    let h = looked-2 r in
-    let cut = site-cut-off (second h) refl (r .before .before .before .k2 .ensures .0) (r .read-code2 .ensures .0) (c .enum-told2 .given .1) in
-    (pair-cut-off _ _ _ (two-steps (first-read (one h)) cut), in-range (one h))
+    let o = kept-2 r in
+    let i = one (looked-2 o) in
+    let cut = site-cut-off (second o) refl (r .before .before .before .k2 .ensures .0) (r .read-code2 .ensures .0) (c .enum-told2 .given .1) in
+    record { answer = pair-cut-off _ _ _ (two-steps (first-read i) cut); records = in-range i }
 
-settle-requires-2 : tie.Need-settle-requires-2
-settle-requires-2 c κs =
+sample-of-requires-2 : tie.Need-sample-of-requires-2
+sample-of-requires-2 c κs =
     let r = c .before .before .before .before in
-    let h = looked-2 r in
-    let b = rw (c .before .before .got2 .given .1) at (r .read-code2 .ensures .1) in (
-      (begun h .before .before .before .before .largest .ensures .1, (h .look-of2 .ensures .1 .1 .0, (site-total (second h), (h .before .odd-context2 .ensures .1 .prediction, b .0)))),
-      site-record (second h),
-    )
+    let h = looked-2 (kept-2 r) in
+    let b = rw (c .before .before .got2 .given .1) at (r .read-code2 .ensures .1) in
+    (begin (begun h) .largest .ensures .1, (h .look-of2 .ensures .1 .1 .0, (site-total (second (kept-2 r)), (h .before .context-at2 .ensures .1 .prediction, b .0))))
+
+small-2 : (r : tie.After-read-code2) {v : ℕ} → v ≤ begin (begun (looked-2 (kept-2 r))) .largest .result → v < 2 ^ 16
+small-2 r h = omega (arith, begin (begun (looked-2 (kept-2 r))) .largest .ensures .1)
+
+update-at-requires-2 : tie.Need-update-at-requires-2
+update-at-requires-2 c κs =
+    let g = c .before .before .before .before .before in
+    let r = g .before .before in
+    let o = kept-2 r in
+    let b = rw (g .got2 .given .1) at (r .read-code2 .ensures .1) in
+    ((b .0, (o .before .before .before .slot-of2 .ensures .1, o .record-at2 .ensures .1)), in-range (one (looked-2 o)))
 
 returns-3 : tie.Need-returns-3
 returns-3 c =
-    let r = c .before .before .before .before .before .before .before in
-    let h = looked-2 r in
-    let new = c .before .before .settle2 .ensures in (
-      pair-at _ _ _
+    let g = c .before .before .before .before .before .before .before .before in
+    let r = g .before .before in
+    let o = kept-2 r in
+    let h = looked-2 o in
+    let new = c .before .before .update-at2 .ensures in
+    record {
+      answer = pair-at _ _ _
           (two-steps (first-read (one h))
-          (site-read (second h) refl (r .before .before .before .k2 .ensures .0) (r .read-code2 .ensures .0)
-          (c .before .before .before .before .before .got2 .given .1) (begun h .before .before .before .before .largest .ensures .0) (new .0) (new .1 .0) (c .is-tight2 .ensures))),
-      site-stored (second h) (new .1 .1),
-    )
+          (site-read (second o) refl (r .before .before .before .k2 .ensures .0) (r .read-code2 .ensures .0) (g .got2 .given .1) (begin (begun h) .largest .ensures .0)
+          (c .before .before .before .before .before .sample-of2 .ensures .0) (new .0) (c .is-tight2 .ensures)));
+      records = new .1;
+    }
 
 pub odd-pair-spec : {M : Type 1} → statement M
 odd-pair-spec =
     tie.close
     (tie.spec
     (λ c κs. search needs)
+    (λ c κs. search needs)
     (λ c. search needs)
     (λ c κs. search needs)
     (λ c κs. search needs)
     (λ c κs. search needs)
-    (λ c. search needs)
-    (λ c. search needs)
-    (λ c. search needs)
-    (λ c. search needs)
-    (λ c. search needs)
-    (λ c κs. site-n (first (c .before .before .before)))
+    (λ c κs. search needs)
+    (λ c κs. search needs)
     (λ c. search needs)
     (λ c. search needs)
     (λ c. search needs)
@@ -193,24 +236,20 @@ odd-pair-spec =
     returns
     (λ c. search needs)
     (λ c. search needs)
-    settle-requires
-    (λ c. search (needs, room (looked (c .before .before .before .before .before))))
-    (λ c. search (needs, room (looked (c .before .before .before .before .before))))
-    (λ c. room (looked (c .before .before .before .before .before)) .0)
-    (λ c. search (needs, room (looked (c .before .before .before .before .before))))
-    (λ c. room (looked (c .before .before .before .before .before)) .2)
-    (λ c. search (needs, room (looked (c .before .before .before .before .before))))
-    (λ c. room (looked (c .before .before .before .before .before)) .2)
+    sample-of-requires
+    (λ c. search (needs, small (c .before .before .before .before .before) (c .sample-of .ensures .1)))
+    (λ c. search (needs, room (looked (kept (c .before .before .before .before .before)))))
+    (λ c. search (needs, room (looked (kept (c .before .before .before .before .before)))))
+    (λ c. room (looked (kept (c .before .before .before .before .before))) .0)
+    update-at-requires
     (λ c κs. search needs)
     left-of-requires-2
-    odd-context-requires-2
+    (λ c. search needs)
+    context-at-requires-2
     look-of-requires-2
-    (λ c. search needs)
-    (λ c. search needs)
-    (λ c. search needs)
-    (λ c. search needs)
-    (λ c. search needs)
-    (λ c κs. site-n (second (c .before .before .before)))
+    (λ c κs. search needs)
+    (λ c κs. search needs)
+    (λ c κs. search needs)
     (λ c. search needs)
     (λ c. search needs)
     (λ c. search needs)
@@ -222,14 +261,12 @@ odd-pair-spec =
     returns-2
     (λ c. search needs)
     (λ c. search needs)
-    settle-requires-2
-    (λ c. search (needs, room-2 (looked-2 (c .before .before .before .before .before))))
-    (λ c. search (needs, room-2 (looked-2 (c .before .before .before .before .before))))
-    (λ c. room-2 (looked-2 (c .before .before .before .before .before)) .0)
-    (λ c. search (needs, room-2 (looked-2 (c .before .before .before .before .before))))
-    (λ c. room-2 (looked-2 (c .before .before .before .before .before)) .2)
-    (λ c. search (needs, room-2 (looked-2 (c .before .before .before .before .before))))
-    (λ c. room-2 (looked-2 (c .before .before .before .before .before)) .2)
+    sample-of-requires-2
+    (λ c. search (needs, small-2 (c .before .before .before .before .before) (c .sample-of2 .ensures .1)))
+    (λ c. search (needs, room-2 (looked-2 (kept-2 (c .before .before .before .before .before)))))
+    (λ c. search (needs, room-2 (looked-2 (kept-2 (c .before .before .before .before .before)))))
+    (λ c. room-2 (looked-2 (kept-2 (c .before .before .before .before .before))) .0)
+    update-at-requires-2
     (λ c κs. search needs)
     (λ c. search needs)
     returns-3)

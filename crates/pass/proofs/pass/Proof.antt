@@ -1,33 +1,41 @@
 -- `pass::pass` meets its contract: after each turn the steps of the turns so far are read. Assumes nothing.
 use borrow.Author.Needs.{needs}
+use mathlib.Core.List.{List}
 use mathlib.Core.Logic.{⊎-elim}
 use mathlib.Core.Option.{some}
 use mathlib.Core.Path.{_≡_, refl, _∙_}
-use Prim.Native.Nat.{_+_, _-_, _/_, _%_, _≤_}
+use Prim.Native.Nat.{ℕ, _+_, _-_, _/_, _%_, _≤_}
 use native.Mathlib.Omega.{arith}
 use lib.ListN.{length}
-use Rattle.pass.specs.Steps.{turnSteps, upto}
-use Rattle.pass.specs.Readings.{Reading, zipRecords, SetInRange}
-use Rattle.pass.proofs.TableLaws.{are-quantisers}
-use Rattle.pass.proofs.StepLaws.{StepsGive, no-steps, evenPart, evens-here, evens-over, odds-here, odds-not-yet, turn-more, evens-cut-off, odds-cut-off, all-read}
-use Rattle.pass.proofs.SiteLaws.{held, met, steps-met, ranges-met, length-met, pair-was-cut-off, pair-was-at, passed-cut-off, passed}
+use Rattle.steps.specs.Steps.{evenPart, turnSteps, upto}
+use Rattle.steps.specs.Values.{SetInRange}
+use Rattle.steps.specs.declared.Plan.{Plan}
+use Rattle.steps.proofs.TableLaws.{are-quantisers}
+use Rattle.pass.specs.Readings.{Reading}
+use Rattle.pass.specs.Pairs.{held}
+use Rattle.pass.proofs.StepLaws.{StepsGive, no-steps, evens-here, evens-over, odds-here, odds-not-yet, turn-more, evens-cut-off, odds-cut-off, all-read}
+use Rattle.pass.proofs.SiteLaws.{placeOf, met, steps-met, ranges-met, length-met, pair-was-cut-off, pair-was-at, passed-cut-off, passed}
 use Rattle.pass.proofs.pass.Statement.{statement}
 use Rattle.pass.proofs.pass.Tie as tie
 
+-- what is known before each turn: from r₀ on the turns before position p have been read, up to r
+record Turns (bits q W : ℕ) (s : List ℕ) (P : Plan) (p : ℕ) (r₀ r : Reading) : Type 0 where
+  even : p % 2 ≡ 0
+  last : p ≤ W + 8
+  same : length (r .lines) ≡ length (r₀ .lines)
+  records : SetInRange (r .set)
+  read : StepsGive bits q W s (upto (turnSteps W P) (p / 2)) r₀ (some r)
+
 abbrev Inv-loop : tie.InvT-loop
 Inv-loop block tight-before lines₀ w plan bits sums₀ ns₀ totals raws limits base at₀ tight₀ p₀ lines sums ns at tight p =
-    (p % 2 ≡ 0)
-    × (p ≤ w + 8)
-    × (length lines ≡ length lines₀)
-    × SetInRange (zipRecords sums ns)
-    × StepsGive bits base w block (upto (turnSteps w plan) (p / 2)) (held lines₀ sums₀ ns₀ at₀ tight₀) (some (held lines sums ns at tight))
+    Turns bits base w block plan p (held lines₀ sums₀ ns₀ (placeOf at₀ tight₀)) (held lines sums ns (placeOf at tight))
 
 abbrev μ-loop : tie.MeasureT-loop
 μ-loop block tight-before lines₀ w plan bits sums₀ ns₀ totals raws limits base at₀ tight₀ p₀ lines sums ns at tight p = w + 8 - p
 
 loop-holds : tie.Need-loop-holds Inv-loop μ-loop
 unfolding upto
-loop-holds c = (refl, omega arith, refl, c .before .before .before .before .before .before .before .pre .1 .1 .1, no-steps)
+loop-holds c = record { even = refl; last = omega arith; same = refl; records = c .before .before .before .before .before .before .before .pre .records; read = no-steps }
 
 abbrev entry : tie.In-loop Inv-loop μ-loop → tie.Start Inv-loop μ-loop
 entry c = c .before .before .before .before .before .before .before .before .before
@@ -36,33 +44,41 @@ entry c = c .before .before .before .before .before .before .before .before .bef
 
 even-pair-requires : tie.Need-even-pair-requires Inv-loop μ-loop
 even-pair-requires c κs =
-    let p = entry (c .before .before .before .before .before .before .before) .pre in
-    let l = c .before .before .before .before .before .before .before .before .loop .inv in
-    let d = p .1 .1 .0 in (
-      (p .0 .0, (p .0 .1 .1 .0, (c .before .before .before .before .before .before .if1 .taken, l .0))),
-      ((omega (arith, p .1 .0 .0, l .2), p .1 .0 .1), ((d .0, (d .1 .0, are-quantisers _ _ (d .1 .1))), l .3)),
-    )
+    let t = c .before .before .before .before .before .before in
+    let p = entry (t .before) .pre in
+    let l = t .before .before .loop .inv in
+    record {
+      bytes = p .bytes;
+      width = p .high;
+      inside = t .if1 .taken;
+      room = omega (arith, p .room, l .same);
+      plan = p .plan;
+      depth = p .depth;
+      base = p .base;
+      quantisers = are-quantisers _ _ (p .quantisers);
+      records = l .records;
+    }
 
 returns : tie.Need-returns Inv-loop μ-loop
 returns c =
-    let s = entry (c .before .before .before .before .before .before .before .before .before .before .before .before) in
-    let l = c .before .before .before .before .before .before .before .before .before .before .before .before .before .loop .inv in
-    let e = c .before .before .before .before .even-pair .ensures in (
-      passed-cut-off _ _ _
-          (evens-cut-off (s .args .plan) _ (l .4) (l .0) (s .pre .0 .1 .1 .1) (c .before .before .before .before .before .before .before .before .before .before .before .if1 .taken)
-          (pair-was-cut-off _ _ _ _ _ _ _ _ _ (e .0) (c .enum-told .given .1)))
-          refl,
-      e .1,
-    )
+    let e = c .before .before .before .before in
+    let t = e .before .before .before .before .before .before .before in
+    let s = entry (t .before) in
+    let l = t .before .before .loop .inv in
+    let cut = pair-was-cut-off _ _ _ _ _ _ _ _ _ (e .even-pair .ensures .answer) (c .enum-told .given .1) in
+    record {
+      answer = passed-cut-off _ _ _ (evens-cut-off (s .args .plan) _ (l .read) (l .even) (s .pre .even) (t .if1 .taken) cut) refl;
+      records = e .even-pair .ensures .records;
+    }
 
 -- ---- where the two ways past it meet
 
 abbrev middle : tie.Joined1 Inv-loop μ-loop → Reading
-middle c = held (c .if1 .lines) (c .if1 .sums) (c .if1 .ns) (c .if1 .at) (c .if1 .tight)
+middle c = held (c .if1 .lines) (c .if1 .sums) (c .if1 .ns) (placeOf (c .if1 .at) (c .if1 .tight))
 
 record Met (c : tie.Joined1 Inv-loop μ-loop) : Type 0 where
   read : let a = entry (c .before) .args in let l = c .before .before .loop in
-      StepsGive (a .bits) (a .qs .base) (a .w) (a .block .now) (evenPart (a .w) (a .plan) (l .p)) (held (l .lines) (l .sums) (l .ns) (l .at) (l .tight)) (some (middle c))
+      StepsGive (a .bits) (a .qs .base) (a .w) (a .block .now) (evenPart (a .w) (a .plan) (l .p)) (held (l .lines) (l .sums) (l .ns) (placeOf (l .at) (l .tight))) (some (middle c))
   in-range : SetInRange (middle c .set)
   same : length (middle c .lines) ≡ length (entry (c .before) .args .lines .now)
 
@@ -72,18 +88,18 @@ evens c =
     let l = c .before .before .loop .inv in
     ⊎-elim
     (λ w.
-    let m = met (w .13) (w .14) (w .15) (w .16) (w .17) in
+    let m = met (w .14) (w .15) (w .16) (w .17) (w .18) in
     record {
-      read = steps-met m (evens-here P _ (w .0 .taken) (pair-was-at _ _ _ _ _ _ _ _ _ (w .7 .ensures .0) (w .11 .given .1)));
-      in-range = ranges-met m (w .7 .ensures .1);
-      same = length-met m ∙ (w .7 .kept .1 .1 .1 .0 ∙ l .2);
+      read = steps-met m (evens-here P _ (w .0 .taken) (pair-was-at _ _ _ _ _ _ _ _ _ (w .7 .ensures .answer) (w .11 .given .1)));
+      in-range = ranges-met m (w .7 .ensures .records);
+      same = length-met m ∙ (w .7 .kept .1 .1 .0 ∙ l .same);
     })
     (λ w.
     let m = met (w .1) (w .2) (w .3) (w .4) (w .5) in
     record {
       read = steps-met m (evens-over P _ (w .0 .left));
-      in-range = ranges-met m (l .3);
-      same = length-met m ∙ l .2;
+      in-range = ranges-met m (l .records);
+      same = length-met m ∙ l .same;
     })
     (c .if1 .came)
 
@@ -91,57 +107,73 @@ evens c =
 
 odd-pair-requires : tie.Need-odd-pair-requires Inv-loop μ-loop
 odd-pair-requires c κs =
-    let j = c .before .before .before .before .before .before .before in
+    let t = c .before .before .before .before .before .before in
+    let j = t .before in
     let p = entry (j .before) .pre in
-    let even = j .before .before .loop .inv .0 in
-    let from = c .before .before .before .before .before .before .if2 .taken in
-    let d = p .1 .1 .0 in (
-      (p .0 .0, (p .0 .1 .1 .0, (omega (arith, j .before .loop-test .taken, from, p .0 .1 .1 .1, even), omega (arith, from, even)))),
-      ((omega (arith, p .1 .0 .0, evens j .same), p .1 .0 .1), ((d .0, (d .1 .0, are-quantisers _ _ (d .1 .1))), evens j .in-range)),
-    )
+    let even = j .before .before .loop .inv .even in
+    record {
+      bytes = p .bytes;
+      width = p .high;
+      inside = omega (arith, j .before .loop-test .taken, t .if2 .taken, p .even, even);
+      room = omega (arith, p .room, evens j .same);
+      plan = p .plan;
+      depth = p .depth;
+      base = p .base;
+      quantisers = are-quantisers _ _ (p .quantisers);
+      records = evens j .in-range;
+    }
 
 returns-2 : tie.Need-returns-2 Inv-loop μ-loop
 returns-2 c =
-    let j = c .before .before .before .before .before .before .before .before .before .before .before .before in
+    let o = c .before .before .before .before in
+    let t = o .before .before .before .before .before .before .before in
+    let j = t .before in
     let s = entry (j .before) in
     let l = j .before .before .loop .inv in
-    let e = c .before .before .before .before .odd-pair .ensures in (
-      passed-cut-off _ _ _
-          (odds-cut-off (s .args .plan) _ (l .4) (l .0) (s .pre .0 .1 .1 .1) (j .before .loop-test .taken) (c .before .before .before .before .before .before .before .before .before .before .before .if2 .taken) (evens j .read)
-          (pair-was-cut-off _ _ _ _ _ _ _ _ _ (e .0) (c .enum-told2 .given .1)))
-          refl,
-      e .1,
-    )
+    let cut = pair-was-cut-off _ _ _ _ _ _ _ _ _ (o .odd-pair .ensures .answer) (c .enum-told2 .given .1) in
+    record {
+      answer = passed-cut-off _ _ _ (odds-cut-off (s .args .plan) _ (l .read) (l .even) (s .pre .even) (j .before .loop-test .taken) (t .if2 .taken) (evens j .read) cut) refl;
+      records = o .odd-pair .ensures .records;
+    }
 
 -- ---- the turn's end
 
 loop-again : tie.Need-loop-again Inv-loop μ-loop
 loop-again c =
     let s = entry (c .before .before) in
+    let P = s .args .plan in
     let l = c .before .before .before .loop .inv in
     let test = c .before .before .loop-test .taken in
     let e = evens (c .before) in
     ⊎-elim
-    (λ w. let m = met (w .13) (w .14) (w .15) (w .16) (w .17) in (
-      omega (arith, l .0),
-      omega (arith, l .0, test, s .pre .0 .1 .1 .1),
-      length-met m ∙ (w .7 .kept .1 .1 .1 .0 ∙ e .same),
-      ranges-met m (w .7 .ensures .1),
-      turn-more (s .args .plan) _ (l .4) (l .0) (e .read) (steps-met m (odds-here (s .args .plan) _ (w .0 .taken) (pair-was-at _ _ _ _ _ _ _ _ _ (w .7 .ensures .0) (w .11 .given .1)))),
-    ))
-    (λ w. let m = met (w .1) (w .2) (w .3) (w .4) (w .5) in (
-      omega (arith, l .0),
-      omega (arith, l .0, test, s .pre .0 .1 .1 .1),
-      length-met m ∙ e .same,
-      ranges-met m (e .in-range),
-      turn-more (s .args .plan) _ (l .4) (l .0) (e .read) (steps-met m (odds-not-yet (s .args .plan) _ (w .0 .left))),
-    ))
+    (λ w.
+    let m = met (w .14) (w .15) (w .16) (w .17) (w .18) in
+    let odds = odds-here P _ (w .0 .taken) (pair-was-at _ _ _ _ _ _ _ _ _ (w .7 .ensures .answer) (w .11 .given .1)) in
+    record {
+      even = omega (arith, l .even);
+      last = omega (arith, l .even, test, s .pre .even);
+      same = length-met m ∙ (w .7 .kept .1 .1 .0 ∙ e .same);
+      records = ranges-met m (w .7 .ensures .records);
+      read = turn-more P _ (l .read) (l .even) (e .read) (steps-met m odds);
+    })
+    (λ w.
+    let m = met (w .1) (w .2) (w .3) (w .4) (w .5) in
+    record {
+      even = omega (arith, l .even);
+      last = omega (arith, l .even, test, s .pre .even);
+      same = length-met m ∙ e .same;
+      records = ranges-met m (e .in-range);
+      read = turn-more P _ (l .read) (l .even) (e .read) (steps-met m (odds-not-yet P _ (w .0 .left)));
+    })
     (c .if2 .came)
 
 returns-3 : tie.Need-returns-3 Inv-loop μ-loop
 returns-3 c =
     let l = c .before .loop .inv in
-    (passed _ _ _ _ _ (all-read _ _ (l .4) (l .0) (omega (arith, l .1, c .loop-test .left))), l .3)
+    record {
+      answer = passed _ _ _ _ _ (all-read _ _ (l .read) (l .even) (omega (arith, l .last, c .loop-test .left)));
+      records = l .records;
+    }
 
 pub pass-spec : {M : Type 1} → statement M
 pass-spec =
@@ -154,16 +186,16 @@ pass-spec =
     even-pair-requires
     (λ c. search needs)
     (λ c. search needs)
-    (λ c. c .before .before .before .before .even-pair .kept .1 .1 .1 .0 ∙ c .before .before .before .before .before .before .before .before .before .before .before .before .before .loop .inv .2)
+    (λ c. let e = c .before .before .before .before in e .even-pair .kept .1 .1 .0 ∙ e .before .before .before .before .before .before .before .before .before .loop .inv .same)
     returns
     (λ c. search needs)
     odd-pair-requires
     (λ c. search needs)
     (λ c. search needs)
-    (λ c. c .before .before .before .before .odd-pair .kept .1 .1 .1 .0 ∙ evens (c .before .before .before .before .before .before .before .before .before .before .before .before) .same)
+    (λ c. let o = c .before .before .before .before in o .odd-pair .kept .1 .1 .0 ∙ evens (o .before .before .before .before .before .before .before .before) .same)
     returns-2
     (λ c. search needs)
     (λ c. search needs)
     loop-again
-    (λ c. c .before .loop .inv .2)
+    (λ c. c .before .loop .inv .same)
     returns-3)

@@ -9,7 +9,7 @@ unfolding partIn
 returns c =
     let m = c .before .before in
     let s = m .before in
-    rw (c .bottom .ensures, c .before .saturating-sub3 .ensures, m .smaller .ensures, s .saturating-sub2 .ensures, s .before .right .ensures, s .before .before .saturating-sub .ensures)
+    rw (c .bottom .ensures, c .before .saturating-sub-usize3 .ensures, m .smaller-usize .ensures, s .saturating-sub-usize2 .ensures, s .before .right .ensures, s .before .before .saturating-sub-usize .ensures)
 
 pub part-spec : {M : Type 1} → statement M
 part-spec =

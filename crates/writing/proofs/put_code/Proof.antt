@@ -1,6 +1,6 @@
 -- `writing::put_code` meets its contract: a tight code is the digits of one number. Assumes nothing.
 use borrow.Author.Needs.{needs}
-use Rattle.writing.proofs.PutLaws.{digits-room, code-after, code-stored, code-counted}
+use Rattle.writing.proofs.CodePuts.{digits-room, code-after, code-stored, code-counted}
 use Rattle.writing.proofs.put_code.Statement.{statement}
 use Rattle.writing.proofs.put_code.Tie as tie
 

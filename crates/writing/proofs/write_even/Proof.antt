@@ -1,6 +1,5 @@
 -- `writing::write_even` meets its contract: two samples, each interpolated or by the answers of the leaves. Assumes nothing.
 use borrow.Author.Needs.{needs}
-use borrow.Author.Tests.{le-ltb}
 use mathlib.Core.Bool.{Bool, not}
 use mathlib.Core.List.{List, [], _∷_}
 use mathlib.Core.Logic.{⊎-elim}
@@ -8,8 +7,8 @@ use mathlib.Core.Path.{refl, sym, _∙_}
 use Prim.Native.Nat.{ℕ, _+_, _^_, _<_}
 use native.Mathlib.Omega.{arith}
 use lib.ListN.{length, getD, set, length-set}
-use Rattle.pass.specs.Steps.{Step, stepAt, interpolated, evenSteps}
-use Rattle.writing.proofs.StepPuts.{same-room, same-steps, none-due, even-due, ends}
+use Rattle.steps.specs.Steps.{Step, stepAt, interpolated, evenSteps}
+use Rattle.writing.proofs.StepPuts.{same-room, same-steps, no-even, even-due, ends}
 use Rattle.writing.proofs.SitePuts.{Ready, Done, met, first-ready, second-ready, two-puts, Site, site-code, site-right, site-wrong, site-record, site-update, site-room, site-done}
 use Rattle.writing.proofs.write_even.Statement.{statement}
 use Rattle.writing.proofs.write_even.Tie as tie
@@ -18,7 +17,7 @@ returns : tie.Need-returns
 returns c =
     let s = c .before .before .before .before in
     let a = s .args in
-    (none-due (a .bits) (a .w) (a .samples .now) (a .n) _ (evenSteps (a .plan) (a .p)) (a .store) (a .from) (a .lines .now) (a .sums .now) (a .ns .now) (a .out .now) (le-ltb _ _ (c .if1 .taken)), s .pre .1 .1 .1 .0 .1 .1)
+    (no-even (a .spot .bits) (a .spot .w) (a .samples .now) (a .n) (a .spot .plan) (a .spot .p) (a .store) (a .from) (a .lines .now) (a .sums .now) (a .ns .now) (a .out .now) (c .if1 .taken), s .pre .records)
 
 -- ---- the first sample
 
@@ -26,34 +25,34 @@ abbrev entry : tie.Else1 → tie.Start
 entry c = c .before .before .before .before
 
 abbrev first-coded : tie.Else1 → Bool
-first-coded c = not (interpolated (entry c .args .plan .«first_rule») (entry c .args .p))
+first-coded c = not (interpolated (entry c .args .spot .plan .«first_rule») (entry c .args .spot .p))
 
 abbrev second-coded : tie.Else1 → Bool
-second-coded c = not (interpolated (entry c .args .plan .«second_rule») (entry c .args .p))
+second-coded c = not (interpolated (entry c .args .spot .plan .«second_rule») (entry c .args .spot .p))
 
 abbrev second-step : tie.Else1 → Step
-second-step c = stepAt (entry c .args .plan .second) (entry c .args .p) (second-coded c)
+second-step c = stepAt (entry c .args .spot .plan .second) (entry c .args .spot .p) (second-coded c)
 
 two : (c : tie.Else1) → let a = entry c .args in
-    Ready (a .bits) (a .limit) (a .raw) (a .w) (a .samples .now) (a .n) (evenSteps (a .plan) (a .p)) (a .store) (a .from) (a .lines .now) (a .sums .now) (a .ns .now) (a .out .now)
+    Ready (a .spot .bits) (a .limit) (a .raw) (a .spot .w) (a .samples .now) (a .n) (evenSteps (a .spot .plan) (a .spot .p)) (a .store) (a .from) (a .lines .now) (a .sums .now) (a .ns .now) (a .out .now)
 two c =
     let a = entry c .args in
     let p = entry c .pre in
-    let r = p .1 .1 .1 in
     record {
-      numbers = p .1 .0;
-      wanted = p .1 .1 .0 .1 .1;
-      held = r .0 .1 .0;
-      records = r .0 .1 .1;
-      low = omega (arith, r .1 .0);
-      room = same-room (a .bits) (a .w) (a .samples .now) (a .n) _ _ (a .store) (a .from .0) (a .lines .now) (a .sums .now) (a .ns .now) (a .out .now) (even-due (a .plan) (a .w) (a .p) (c .if1 .left)) (r .1 .1);
+      numbers = p .numbers;
+      wanted = p .wanted;
+      held = p .held;
+      records = p .records;
+      low = omega (arith, p .low);
+      room = same-room (a .spot .bits) (a .spot .w) (a .samples .now) (a .n) _ _ (a .store) (a .from .0) (a .lines .now) (a .sums .now) (a .ns .now) (a .out .now)
+          (even-due (a .spot .plan) (a .spot .w) (a .spot .p) (c .if1 .left)) (p .room);
     }
 
 abbrev begun : tie.After-context-at → tie.Else1
-begun c = c .before .before .before .before .before
+begun c = c .before .before .before .before .before .before
 
 site : (c : tie.After-context-at) → let a = entry (begun c) .args in
-    Site (a .bits) (a .limit) (a .raw) (a .w) (a .samples .now) (a .n) (a .plan .first) (a .p) (first-coded (begun c)) (a .store) (a .from) (a .lines .now) (a .sums .now) (a .ns .now) (a .out .now)
+    Site (a .spot .bits) (a .limit) (a .raw) (a .spot .w) (a .samples .now) (a .n) (a .spot .plan .first) (a .spot .p) (first-coded (begun c)) (a .store) (a .from) (a .lines .now) (a .sums .now) (a .ns .now) (a .out .now)
     (c .before .before .before .left-of .result) (c .before .before .index-in .result) (c .context-at .result)
 site c =
     record {
@@ -61,19 +60,19 @@ site c =
       sample = record { place = c .before .before .before .left-of .ensures .0; index = c .before .before .index-in .ensures .0; context = c .context-at .ensures .0 };
     }
 
-abbrev placed : tie.After-wide → tie.After-context-at
+abbrev placed : tie.After-u16-to-u32 → tie.After-context-at
 placed c = c .before .before .before .before
 
 coded-as-requires : tie.Need-coded-as-requires
 coded-as-requires c κs =
     let x = placed c in
-    (site-code (site x) (c .wide .ensures .0) (x .before .before .before .before .largest .ensures), x .context-at .ensures .1)
+    (site-code (site x) (c .u16-to-u32 .ensures .0) (x .before .before .before .before .largest .ensures), x .context-at .ensures .1)
 
 record-at-requires : tie.Need-record-at-requires
 record-at-requires c κs =
     let d = c .before .before in
     let x = placed (d .before) in
-    site-record (site x) (d .before .wide .ensures .0) (x .before .before .before .before .largest .ensures) (d .coded-as .ensures)
+    site-record (site x) (d .before .u16-to-u32 .ensures .0) (x .before .before .before .before .largest .ensures) (d .coded-as .ensures)
 
 abbrev coded : tie.After-k → tie.After-coded-as
 coded c = c .before .before .before .before .before
@@ -83,7 +82,7 @@ put-code-requires c κs =
     let d = coded c in
     let h = d .before .before in
     let x = placed (d .before) in
-    site-room (site x) (d .before .wide .ensures .0) (x .before .before .before .before .largest .ensures) (d .coded-as .ensures) (c .before .before .record-at .ensures)
+    site-room (site x) (d .before .u16-to-u32 .ensures .0) (x .before .before .before .before .largest .ensures) (d .coded-as .ensures) (c .before .before .record-at .ensures)
     (sym (h .before .has-code .ensures) ∙ h .if2 .taken) (c .k .ensures)
 
 update-at-requires : tie.Need-update-at-requires
@@ -91,7 +90,7 @@ update-at-requires c κs =
     let k = c .before .before .before .before .before in
     let d = coded k in
     let x = placed (d .before) in
-    site-update (site x) (d .before .wide .ensures .0) (x .before .before .before .before .largest .ensures) (d .coded-as .ensures) (k .before .before .record-at .ensures)
+    site-update (site x) (d .before .u16-to-u32 .ensures .0) (x .before .before .before .before .largest .ensures) (d .coded-as .ensures) (k .before .before .record-at .ensures)
 
 returns-2 : tie.Need-returns-2
 returns-2 c =
@@ -99,8 +98,8 @@ returns-2 c =
     let x = h .before .before in
     let e = begun x in
     let a = entry e .args in
-    let wrong = site-wrong (site x) (c .before .before .wide2 .ensures .0) (sym (h .has-code .ensures) ∙ c .before .before .before .if2 .left) (c .if3 .taken) in
-    (same-steps (even-due (a .plan) (a .w) (a .p) (e .if1 .left)) (ends wrong (second-step e ∷ []) refl), two e .records)
+    let wrong = site-wrong (site x) (c .before .before .u16-to-u322 .ensures .0) (sym (h .has-code .ensures) ∙ c .before .before .before .if2 .left) (c .if3 .taken) in
+    (same-steps (even-due (a .spot .plan) (a .spot .w) (a .spot .p) (e .if1 .left)) (ends wrong (second-step e ∷ []) refl), two e .records)
 
 -- ---- where the two ways to it meet
 
@@ -116,7 +115,7 @@ lines₁ c =
     set (start c .args .lines .now) (x .before .before .before .left-of .result + 1) (getD (start c .args .samples .now) (x .before .before .index-in .result) 0)
 
 done : (c : tie.Joined2) → let a = start c .args in
-    Done (a .bits) (a .w) (a .samples .now) (a .n) (stepAt (a .plan .first) (a .p) (first-coded (begun (there c)))) (a .store) (a .from) (a .lines .now) (a .sums .now) (a .ns .now) (a .out .now)
+    Done (a .spot .bits) (a .spot .w) (a .samples .now) (a .n) (stepAt (a .spot .plan .first) (a .spot .p) (first-coded (begun (there c)))) (a .store) (a .from) (a .lines .now) (a .sums .now) (a .ns .now) (a .out .now)
     (lines₁ c) (c .if2 .sums) (c .if2 .ns) (c .if2 .out) (c .if2 .at)
 done c =
     let x = there c in
@@ -135,7 +134,7 @@ abbrev one : tie.After-context-at2 → tie.Joined2
 one c = c .before .before .before .before
 
 site-2 : (c : tie.After-context-at2) → let d = one c in let a = start d .args in
-    Site (a .bits) (a .limit) (a .raw) (a .w) (a .samples .now) (a .n) (a .plan .second) (a .p) (second-coded (begun (there d))) (a .store) (d .if2 .at) (lines₁ d) (d .if2 .sums) (d .if2 .ns) (d .if2 .out)
+    Site (a .spot .bits) (a .limit) (a .raw) (a .spot .w) (a .samples .now) (a .n) (a .spot .plan .second) (a .spot .p) (second-coded (begun (there d))) (a .store) (d .if2 .at) (lines₁ d) (d .if2 .sums) (d .if2 .ns) (d .if2 .out)
     (c .before .before .before .left-of2 .result) (c .before .before .index-in2 .result) (c .context-at2 .result)
 site-2 c =
     record {
@@ -149,20 +148,20 @@ inside : (c : tie.After-index-in2) → let d = c .before .before in let i = c .b
 inside c =
     let p = start (c .before .before) .pre in
     let i = c .before .left-of2 .ensures .1 .1 in
-    (simp length-set (omega (arith, i, p .1 .1 .1 .0 .0)), omega (arith, i, p .0 .0), omega (arith, c .index-in2 .ensures .1, p .1 .1 .0 .1 .0))
+    (simp length-set (omega (arith, i, p .long)), omega (arith, i, p .width), omega (arith, c .index-in2 .ensures .1, p .samples))
 
 index-in-requires-2 : tie.Need-index-in-requires-2
 index-in-requires-2 c κs =
     let d = c .before in
     let p = start d .pre in
-    (p .0 .0, (begun (there d) .if1 .left, (p .1 .1 .0 .0, (p .0 .1 .2, p .0 .1 .3))))
+    (p .width, (begun (there d) .if1 .left, (p .line, (p .plan .second-low, p .plan .second-high))))
 
 context-at-requires-2 : tie.Need-context-at-requires-2
 context-at-requires-2 c κs =
     let i = inside (c .before) in
-    (omega (arith, start (c .before .before .before) .pre .0 .0), (c .before .before .left-of2 .ensures .1 .0, i .0))
+    (omega (arith, start (c .before .before .before) .pre .width), (c .before .before .left-of2 .ensures .1 .0, i .0))
 
-abbrev placed-2 : tie.After-wide3 → tie.After-context-at2
+abbrev placed-2 : tie.After-u16-to-u323 → tie.After-context-at2
 placed-2 c = c .before .before .before .before
 
 abbrev largest-2 : tie.After-context-at2 → tie.After-largest
@@ -171,13 +170,13 @@ largest-2 c = there (one c) .before .before .before .before
 coded-as-requires-2 : tie.Need-coded-as-requires-2
 coded-as-requires-2 c κs =
     let x = placed-2 c in
-    (site-code (site-2 x) (c .wide3 .ensures .0) (largest-2 x .largest .ensures), x .context-at2 .ensures .1)
+    (site-code (site-2 x) (c .u16-to-u323 .ensures .0) (largest-2 x .largest .ensures), x .context-at2 .ensures .1)
 
 record-at-requires-2 : tie.Need-record-at-requires-2
 record-at-requires-2 c κs =
     let d = c .before .before in
     let x = placed-2 (d .before) in
-    site-record (site-2 x) (d .before .wide3 .ensures .0) (largest-2 x .largest .ensures) (d .coded-as2 .ensures)
+    site-record (site-2 x) (d .before .u16-to-u323 .ensures .0) (largest-2 x .largest .ensures) (d .coded-as2 .ensures)
 
 abbrev coded-2 : tie.After-k2 → tie.After-coded-as2
 coded-2 c = c .before .before .before .before .before
@@ -187,7 +186,7 @@ put-code-requires-2 c κs =
     let d = coded-2 c in
     let h = d .before .before in
     let x = placed-2 (d .before) in
-    site-room (site-2 x) (d .before .wide3 .ensures .0) (largest-2 x .largest .ensures) (d .coded-as2 .ensures) (c .before .before .record-at2 .ensures)
+    site-room (site-2 x) (d .before .u16-to-u323 .ensures .0) (largest-2 x .largest .ensures) (d .coded-as2 .ensures) (c .before .before .record-at2 .ensures)
     (sym (h .before .has-code2 .ensures) ∙ h .if4 .taken) (c .k2 .ensures)
 
 update-at-requires-2 : tie.Need-update-at-requires-2
@@ -195,7 +194,7 @@ update-at-requires-2 c κs =
     let k = c .before .before .before .before .before in
     let d = coded-2 k in
     let x = placed-2 (d .before) in
-    site-update (site-2 x) (d .before .wide3 .ensures .0) (largest-2 x .largest .ensures) (d .coded-as2 .ensures) (k .before .before .record-at2 .ensures)
+    site-update (site-2 x) (d .before .u16-to-u323 .ensures .0) (largest-2 x .largest .ensures) (d .coded-as2 .ensures) (k .before .before .record-at2 .ensures)
 
 returns-3 : tie.Need-returns-3
 returns-3 c =
@@ -203,8 +202,8 @@ returns-3 c =
     let x = h .before .before in
     let d = one x in
     let a = start d .args in
-    let wrong = site-wrong (site-2 x) (c .before .before .wide4 .ensures .0) (sym (h .has-code2 .ensures) ∙ c .before .before .before .if4 .left) (c .if5 .taken) in
-    (same-steps (even-due (a .plan) (a .w) (a .p) (begun (there d) .if1 .left)) (two-puts (two (begun (there d))) (done d) wrong), done d .records)
+    let wrong = site-wrong (site-2 x) (c .before .before .u16-to-u324 .ensures .0) (sym (h .has-code2 .ensures) ∙ c .before .before .before .if4 .left) (c .if5 .taken) in
+    (same-steps (even-due (a .spot .plan) (a .spot .w) (a .spot .p) (begun (there d) .if1 .left)) (two-puts (two (begun (there d))) (done d) wrong), done d .records)
 
 returns-4 : tie.Need-returns-4
 returns-4 c =
@@ -216,9 +215,9 @@ returns-4 c =
     let a = start o .args in
     let put = c .before .before .before .before .before .put-code2 in
     let e =
-    site-done (site-2 x) (d .before .wide3 .ensures .0) (largest-2 x .largest .ensures) (d .coded-as2 .ensures) (k .before .before .record-at2 .ensures)
+    site-done (site-2 x) (d .before .u16-to-u323 .ensures .0) (largest-2 x .largest .ensures) (d .coded-as2 .ensures) (k .before .before .record-at2 .ensures)
     (sym (h .before .has-code2 .ensures) ∙ h .if4 .taken) (k .k2 .ensures) (put .ensures) (put .kept .0) (c .update-at2 .ensures) in
-    (same-steps (even-due (a .plan) (a .w) (a .p) (begun (there o) .if1 .left)) (two-puts (two (begun (there o))) (done o) (e .put)), e .records)
+    (same-steps (even-due (a .spot .plan) (a .spot .w) (a .spot .p) (begun (there o) .if1 .left)) (two-puts (two (begun (there o))) (done o) (e .put)), e .records)
 
 returns-5 : tie.Need-returns-5
 returns-5 c =
@@ -226,8 +225,8 @@ returns-5 c =
     let x = h .before .before in
     let d = one x in
     let a = start d .args in
-    let e = site-right (site-2 x) (c .before .before .wide4 .ensures .0) (sym (h .has-code2 .ensures) ∙ c .before .before .before .if4 .left) (c .if5 .left) in
-    (same-steps (even-due (a .plan) (a .w) (a .p) (begun (there d) .if1 .left)) (two-puts (two (begun (there d))) (done d) (e .put)), e .records)
+    let e = site-right (site-2 x) (c .before .before .u16-to-u324 .ensures .0) (sym (h .has-code2 .ensures) ∙ c .before .before .before .if4 .left) (c .if5 .left) in
+    (same-steps (even-due (a .spot .plan) (a .spot .w) (a .spot .p) (begun (there d) .if1 .left)) (two-puts (two (begun (there d))) (done d) (e .put)), e .records)
 
 pub write-even-spec : {M : Type 1} → statement M
 write-even-spec =
@@ -235,9 +234,9 @@ write-even-spec =
     (tie.spec
     returns
     (λ c κs. search needs)
+    (λ c κs. search needs)
+    (λ c κs. search needs)
     (λ c. search needs)
-    (λ c κs. search needs)
-    (λ c κs. search needs)
     (λ c κs. search needs)
     (λ c. search needs)
     (λ c. search needs)
@@ -256,6 +255,7 @@ write-even-spec =
     returns-2
     (λ c κs. search needs)
     index-in-requires-2
+    (λ c. search needs)
     context-at-requires-2
     (λ c. search (needs, inside (c .before .before), start (one c) .good))
     (λ c. inside (c .before .before .before) .2)

@@ -1,14 +1,13 @@
 -- `writing::write_odd` meets its contract: two samples, each by the answers of the leaves. Assumes nothing.
 use borrow.Author.Needs.{needs}
-use borrow.Author.Tests.{lt-leb}
 use mathlib.Core.Bool.{true}
 use mathlib.Core.List.{List}
 use mathlib.Core.Path.{refl, _∙_}
 use Prim.Native.Nat.{ℕ, _+_, _-_, _^_, _≤_, _<_}
 use native.Mathlib.Omega.{arith}
 use lib.ListN.{length, getD, set, length-set}
-use Rattle.pass.specs.Steps.{stepAt, oddSteps}
-use Rattle.writing.proofs.StepPuts.{same-room, same-steps, none-due, odd-due}
+use Rattle.steps.specs.Steps.{stepAt, oddSteps}
+use Rattle.writing.proofs.StepPuts.{same-room, same-steps, no-odd, odd-due}
 use Rattle.writing.proofs.SitePuts.{Ready, Done, first-ready, second-ready, two-puts, Site, site-code, site-record, site-update, site-room, site-done}
 use Rattle.writing.proofs.write_odd.Statement.{statement}
 use Rattle.writing.proofs.write_odd.Tie as tie
@@ -17,7 +16,7 @@ returns : tie.Need-returns
 returns c =
     let s = c .before .before .before .before in
     let a = s .args in
-    (none-due (a .bits) (a .w) (a .samples .now) (a .n) _ (oddSteps (a .plan) (a .p - 7)) (a .store) (a .from) (a .lines .now) (a .sums .now) (a .ns .now) (a .out .now) (lt-leb _ _ (c .if1 .taken)), s .pre .1 .1 .1 .0 .1 .1)
+    (no-odd (a .spot .bits) (a .spot .w) (a .samples .now) (a .n) (a .spot .plan) (a .spot .p) (a .store) (a .from) (a .lines .now) (a .sums .now) (a .ns .now) (a .out .now) (c .if1 .taken), s .pre .0 .records)
 
 -- ---- the first sample
 
@@ -25,25 +24,25 @@ abbrev entry : tie.Else1 → tie.Start
 entry c = c .before .before .before .before
 
 two : (c : tie.Else1) → let a = entry c .args in
-    Ready (a .bits) (a .limit) (a .raw) (a .w) (a .samples .now) (a .n) (oddSteps (a .plan) (a .p - 7)) (a .store) (a .from) (a .lines .now) (a .sums .now) (a .ns .now) (a .out .now)
+    Ready (a .spot .bits) (a .limit) (a .raw) (a .spot .w) (a .samples .now) (a .n) (oddSteps (a .spot .plan) (a .spot .p - 7)) (a .store) (a .from) (a .lines .now) (a .sums .now) (a .ns .now) (a .out .now)
 two c =
     let a = entry c .args in
-    let p = entry c .pre in
-    let r = p .1 .1 .1 in
+    let p = entry c .pre .0 in
     record {
-      numbers = p .1 .0;
-      wanted = p .1 .1 .0 .1 .1;
-      held = r .0 .1 .0;
-      records = r .0 .1 .1;
-      low = omega (arith, r .1 .0);
-      room = same-room (a .bits) (a .w) (a .samples .now) (a .n) _ _ (a .store) (a .from .0) (a .lines .now) (a .sums .now) (a .ns .now) (a .out .now) (odd-due (a .plan) (a .w) (a .p) (c .if1 .left)) (r .1 .1);
+      numbers = p .numbers;
+      wanted = p .wanted;
+      held = p .held;
+      records = p .records;
+      low = omega (arith, p .low);
+      room = same-room (a .spot .bits) (a .spot .w) (a .samples .now) (a .n) _ _ (a .store) (a .from .0) (a .lines .now) (a .sums .now) (a .ns .now) (a .out .now)
+          (odd-due (a .spot .plan) (a .spot .w) (a .spot .p) (c .if1 .left)) (p .room);
     }
 
 abbrev begun : tie.After-context-at → tie.Else1
-begun c = c .before .before .before .before .before
+begun c = c .before .before .before .before .before .before
 
 site : (c : tie.After-context-at) → let a = entry (begun c) .args in
-    Site (a .bits) (a .limit) (a .raw) (a .w) (a .samples .now) (a .n) (a .plan .first) (a .p - 7) true (a .store) (a .from) (a .lines .now) (a .sums .now) (a .ns .now) (a .out .now)
+    Site (a .spot .bits) (a .limit) (a .raw) (a .spot .w) (a .samples .now) (a .n) (a .spot .plan .first) (a .spot .p - 7) true (a .store) (a .from) (a .lines .now) (a .sums .now) (a .ns .now) (a .out .now)
     (c .before .before .before .left-of .result) (c .before .before .index-in .result) (c .context-at .result)
 site c =
     record {
@@ -51,19 +50,19 @@ site c =
       sample = record { place = c .before .before .before .left-of .ensures .0; index = c .before .before .index-in .ensures .0; context = c .context-at .ensures .0 };
     }
 
-abbrev placed : tie.After-wide → tie.After-context-at
+abbrev placed : tie.After-u16-to-u32 → tie.After-context-at
 placed c = c .before .before
 
 coded-as-requires : tie.Need-coded-as-requires
 coded-as-requires c κs =
     let x = placed c in
-    (site-code (site x) (c .wide .ensures .0) (x .before .before .before .before .largest .ensures), x .context-at .ensures .1)
+    (site-code (site x) (c .u16-to-u32 .ensures .0) (x .before .before .before .before .largest .ensures), x .context-at .ensures .1)
 
 record-at-requires : tie.Need-record-at-requires
 record-at-requires c κs =
     let d = c .before .before in
     let x = placed (d .before) in
-    site-record (site x) (d .before .wide .ensures .0) (x .before .before .before .before .largest .ensures) (d .coded-as .ensures)
+    site-record (site x) (d .before .u16-to-u32 .ensures .0) (x .before .before .before .before .largest .ensures) (d .coded-as .ensures)
 
 abbrev coded : tie.After-k → tie.After-coded-as
 coded c = c .before .before .before .before .before
@@ -72,14 +71,14 @@ put-code-requires : tie.Need-put-code-requires
 put-code-requires c κs =
     let d = coded c in
     let x = placed (d .before) in
-    site-room (site x) (d .before .wide .ensures .0) (x .before .before .before .before .largest .ensures) (d .coded-as .ensures) (c .before .before .record-at .ensures) refl (c .k .ensures)
+    site-room (site x) (d .before .u16-to-u32 .ensures .0) (x .before .before .before .before .largest .ensures) (d .coded-as .ensures) (c .before .before .record-at .ensures) refl (c .k .ensures)
 
 update-at-requires : tie.Need-update-at-requires
 update-at-requires c κs =
     let k = c .before .before .before .before .before in
     let d = coded k in
     let x = placed (d .before) in
-    site-update (site x) (d .before .wide .ensures .0) (x .before .before .before .before .largest .ensures) (d .coded-as .ensures) (k .before .before .record-at .ensures)
+    site-update (site x) (d .before .u16-to-u32 .ensures .0) (x .before .before .before .before .largest .ensures) (d .coded-as .ensures) (k .before .before .record-at .ensures)
 
 -- ---- what is held after it
 
@@ -99,28 +98,28 @@ lines₁ c =
     set (a .lines .now) (x .before .before .before .left-of .result + 1) (getD (a .samples .now) (x .before .before .index-in .result) 0)
 
 done : (c : tie.After-update-at) → let a = start c .args in let put = c .before .before .before .before .before .put-code in let new = c .update-at .last in
-    Done (a .bits) (a .w) (a .samples .now) (a .n) (stepAt (a .plan .first) (a .p - 7) true) (a .store) (a .from) (a .lines .now) (a .sums .now) (a .ns .now) (a .out .now)
+    Done (a .spot .bits) (a .spot .w) (a .samples .now) (a .n) (stepAt (a .spot .plan .first) (a .spot .p - 7) true) (a .store) (a .from) (a .lines .now) (a .sums .now) (a .ns .now) (a .out .now)
     (lines₁ c) (new .0) (new .1 .0) (put .last .0) (put .result)
 done c =
     let k = counted c in
     let d = coded k in
     let x = placed (d .before) in
     let put = c .before .before .before .before .before .put-code in
-    site-done (site x) (d .before .wide .ensures .0) (x .before .before .before .before .largest .ensures) (d .coded-as .ensures) (k .before .before .record-at .ensures) refl (k .k .ensures)
+    site-done (site x) (d .before .u16-to-u32 .ensures .0) (x .before .before .before .before .largest .ensures) (d .coded-as .ensures) (k .before .before .record-at .ensures) refl (k .k .ensures)
     (put .ensures) (put .kept .0) (c .update-at .ensures)
 
 -- ---- the second sample
 
-line-in : (c : tie.After-update-at) → let a = start c .args in (a .w ≤ 512) × ((a .p - 7 < a .w) × ((2 ≤ a .plan .second) × (a .plan .second ≤ 17)))
+line-in : (c : tie.After-update-at) → let a = start c .args .spot in (a .w ≤ 512) × ((a .p - 7 < a .w) × ((2 ≤ a .plan .second) × (a .plan .second ≤ 17)))
 line-in c =
-    let p = start c .pre .0 in
-    (p .0, (omega (arith, p .1 .0, begun (there c) .if1 .left), (p .1 .1 .2, p .1 .1 .3)))
+    let p = start c .pre in
+    (p .0 .width, (omega (arith, p .1, begun (there c) .if1 .left), (p .0 .plan .second-low, p .0 .plan .second-high)))
 
 abbrev one : tie.After-context-at2 → tie.After-update-at
 one c = c .before .before .before .before
 
 site-2 : (c : tie.After-context-at2) → let d = one c in let a = start d .args in let put = d .before .before .before .before .before .put-code in let new = d .update-at .last in
-    Site (a .bits) (a .limit) (a .raw) (a .w) (a .samples .now) (a .n) (a .plan .second) (a .p - 7) true (a .store) (put .result) (lines₁ d) (new .0) (new .1 .0) (put .last .0)
+    Site (a .spot .bits) (a .limit) (a .raw) (a .spot .w) (a .samples .now) (a .n) (a .spot .plan .second) (a .spot .p - 7) true (a .store) (put .result) (lines₁ d) (new .0) (new .1 .0) (put .last .0)
     (c .before .before .before .left-of2 .result) (c .before .before .index-in2 .result) (c .context-at2 .result)
 site-2 c =
     record {
@@ -132,9 +131,9 @@ site-2 c =
 inside : (c : tie.After-index-in2) → let d = c .before .before in let i = c .before .left-of2 .result in let j = c .index-in2 .result in
     (i + 2 < length (lines₁ d)) × (i + 2 < 2 ^ 14) × (j < length (start d .args .samples .now))
 inside c =
-    let p = start (c .before .before) .pre in
+    let p = start (c .before .before) .pre .0 in
     let i = c .before .left-of2 .ensures .1 .1 in
-    (simp length-set (omega (arith, i, p .1 .1 .1 .0 .0)), omega (arith, i, p .0 .0), omega (arith, c .index-in2 .ensures .1, p .1 .1 .0 .1 .0))
+    (simp length-set (omega (arith, i, p .long)), omega (arith, i, p .width), omega (arith, c .index-in2 .ensures .1, p .samples))
 
 left-of-requires-2 : tie.Need-left-of-requires-2
 left-of-requires-2 c κs = line-in c
@@ -142,14 +141,14 @@ left-of-requires-2 c κs = line-in c
 index-in-requires-2 : tie.Need-index-in-requires-2
 index-in-requires-2 c κs =
     let l = line-in (c .before) in
-    (l .0, (l .1 .0, (start (c .before) .pre .1 .1 .0 .0, l .1 .1)))
+    (l .0, (l .1 .0, (start (c .before) .pre .0 .line, l .1 .1)))
 
 context-at-requires-2 : tie.Need-context-at-requires-2
 context-at-requires-2 c κs =
     let i = inside (c .before) in
     (omega (arith, line-in (c .before .before .before) .0), (c .before .before .left-of2 .ensures .1 .0, i .0))
 
-abbrev placed-2 : tie.After-wide2 → tie.After-context-at2
+abbrev placed-2 : tie.After-u16-to-u322 → tie.After-context-at2
 placed-2 c = c .before .before
 
 abbrev largest-2 : tie.After-context-at2 → tie.After-largest
@@ -158,13 +157,13 @@ largest-2 c = there (one c) .before .before .before .before
 coded-as-requires-2 : tie.Need-coded-as-requires-2
 coded-as-requires-2 c κs =
     let x = placed-2 c in
-    (site-code (site-2 x) (c .wide2 .ensures .0) (largest-2 x .largest .ensures), x .context-at2 .ensures .1)
+    (site-code (site-2 x) (c .u16-to-u322 .ensures .0) (largest-2 x .largest .ensures), x .context-at2 .ensures .1)
 
 record-at-requires-2 : tie.Need-record-at-requires-2
 record-at-requires-2 c κs =
     let d = c .before .before in
     let x = placed-2 (d .before) in
-    site-record (site-2 x) (d .before .wide2 .ensures .0) (largest-2 x .largest .ensures) (d .coded-as2 .ensures)
+    site-record (site-2 x) (d .before .u16-to-u322 .ensures .0) (largest-2 x .largest .ensures) (d .coded-as2 .ensures)
 
 abbrev coded-2 : tie.After-k2 → tie.After-coded-as2
 coded-2 c = c .before .before .before .before .before
@@ -173,14 +172,14 @@ put-code-requires-2 : tie.Need-put-code-requires-2
 put-code-requires-2 c κs =
     let d = coded-2 c in
     let x = placed-2 (d .before) in
-    site-room (site-2 x) (d .before .wide2 .ensures .0) (largest-2 x .largest .ensures) (d .coded-as2 .ensures) (c .before .before .record-at2 .ensures) refl (c .k2 .ensures)
+    site-room (site-2 x) (d .before .u16-to-u322 .ensures .0) (largest-2 x .largest .ensures) (d .coded-as2 .ensures) (c .before .before .record-at2 .ensures) refl (c .k2 .ensures)
 
 update-at-requires-2 : tie.Need-update-at-requires-2
 update-at-requires-2 c κs =
     let k = c .before .before .before .before .before in
     let d = coded-2 k in
     let x = placed-2 (d .before) in
-    site-update (site-2 x) (d .before .wide2 .ensures .0) (largest-2 x .largest .ensures) (d .coded-as2 .ensures) (k .before .before .record-at2 .ensures)
+    site-update (site-2 x) (d .before .u16-to-u322 .ensures .0) (largest-2 x .largest .ensures) (d .coded-as2 .ensures) (k .before .before .record-at2 .ensures)
 
 returns-2 : tie.Need-returns-2
 returns-2 c =
@@ -191,20 +190,20 @@ returns-2 c =
     let a = start o .args in
     let put = c .before .before .before .before .before .put-code2 in
     let e =
-    site-done (site-2 x) (d .before .wide2 .ensures .0) (largest-2 x .largest .ensures) (d .coded-as2 .ensures) (k .before .before .record-at2 .ensures) refl (k .k2 .ensures)
+    site-done (site-2 x) (d .before .u16-to-u322 .ensures .0) (largest-2 x .largest .ensures) (d .coded-as2 .ensures) (k .before .before .record-at2 .ensures) refl (k .k2 .ensures)
     (put .ensures) (put .kept .0) (c .update-at2 .ensures) in
-    (same-steps (odd-due (a .plan) (a .w) (a .p) (begun (there o) .if1 .left)) (two-puts (two (begun (there o))) (done o) (e .put)), e .records)
+    (same-steps (odd-due (a .spot .plan) (a .spot .w) (a .spot .p) (begun (there o) .if1 .left)) (two-puts (two (begun (there o))) (done o) (e .put)), e .records)
 
 pub write-odd-spec : {M : Type 1} → statement M
 write-odd-spec =
     tie.close
     (tie.spec
     returns
-    (λ c κs. search needs)
-    (λ c. search needs)
     (λ c. search needs)
     (λ c κs. search needs)
     (λ c κs. search needs)
+    (λ c κs. search needs)
+    (λ c. search needs)
     (λ c κs. search needs)
     (λ c. search needs)
     (λ c. search needs)
@@ -219,6 +218,7 @@ write-odd-spec =
     update-at-requires
     left-of-requires-2
     index-in-requires-2
+    (λ c. search needs)
     context-at-requires-2
     (λ c. search (needs, inside (c .before .before), start (one c) .good))
     (λ c. inside (c .before .before .before) .2)

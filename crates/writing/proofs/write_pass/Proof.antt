@@ -1,38 +1,58 @@
 -- `writing::write_pass` meets its contract: after each turn the steps of the turns so far have put their bits. Assumes nothing.
 use borrow.Author.Needs.{needs}
-use mathlib.Core.List.{_++_}
-use mathlib.Core.Path.{_≡_, refl, _∙_}
-use Prim.Native.Nat.{_+_, _-_, _/_, _%_, _≤_}
+use mathlib.Core.Bool.{Bool}
+use mathlib.Core.List.{List, _++_}
+use mathlib.Core.Path.{_≡_, refl, ap, _∙_}
+use Prim.Native.Nat.{ℕ, _+_, _-_, _/_, _%_, _≤_}
 use native.Mathlib.Omega.{arith}
 use lib.ListN.{length}
-use Rattle.pass.specs.Steps.{turnSteps, upto}
-use Rattle.pass.specs.Readings.{zipRecords, SetInRange}
-use Rattle.pass.proofs.StepLaws.{evenPart, oddPart}
-use Rattle.writing.specs.Puts.{StepsPut, StepsRoom}
+use Rattle.bits.specs.declared.BitPosition.{BitPosition}
+use Rattle.steps.specs.Steps.{evenPart, oddPart, turnSteps, upto}
+use Rattle.steps.specs.Values.{zipRecords, SetInRange}
+use Rattle.steps.specs.declared.Plan.{Plan}
+use Rattle.quantiser.specs.declared.Quantiser.{Quantiser}
+use Rattle.writing.specs.Puts.{IsMain, StepsPut, StepsRoom}
 use Rattle.writing.specs.declared.Put.the-variants.{At}
 use Rattle.writing.proofs.StepPuts.{no-puts, ends, room-after, goes-on, within-after, position-after, same-steps, answered}
-use Rattle.writing.proofs.TurnPuts.{before, turn-more, all-turns, before-le, evens-le, room-turn, room-evens, turn-wrong, pass-right, pass-wrong}
+use Rattle.writing.proofs.TurnPuts.{before, turn-more, all-turns, before-le, before-evens-le, room-turn, room-evens, turn-wrong, pass-right, pass-wrong}
 use Rattle.writing.proofs.write_pass.Statement.{statement}
 use Rattle.writing.proofs.write_pass.Tie as tie
 
+-- what is known before each turn: the turns before position p have put their bits
+record Turns (bits W : ℕ) (t : List ℕ) (n : ℕ) (P : Plan) (store : Bool) (from : BitPosition) (lines₀ sums₀ ns₀ out₀ lines sums ns out : List ℕ) (at : BitPosition) (p limit raw : ℕ) : Type 0 where
+  numbers : IsMain bits limit raw
+  even : p % 2 ≡ 0
+  last : p ≤ W + 8
+  same-lines : length lines ≡ length lines₀
+  same-output : length out ≡ length out₀
+  records : SetInRange (zipRecords sums ns)
+  put : StepsPut bits W t n (upto (turnSteps W P) (p / 2)) store (from .0) lines₀ sums₀ ns₀ out₀ lines sums ns out (At at)
+
 abbrev Inv-loop : tie.InvT-loop
 Inv-loop samples n out₀ store lines₀ w plan bits limit raw sums₀ ns₀ at₀ p₀ out lines sums ns at p =
-    (p % 2 ≡ 0)
-    × (p ≤ w + 8)
-    × (length lines ≡ length lines₀)
-    × (length out ≡ length out₀)
-    × SetInRange (zipRecords sums ns)
-    × StepsPut bits w samples n (upto (turnSteps w plan) (p / 2)) store (at₀ .0) lines₀ sums₀ ns₀ out₀ lines sums ns out (At at)
+    Turns bits w samples n plan store at₀ lines₀ sums₀ ns₀ out₀ lines sums ns out at p limit raw
 
 abbrev μ-loop : tie.MeasureT-loop
 μ-loop samples n out₀ store lines₀ w plan bits limit raw sums₀ ns₀ at₀ p₀ out lines sums ns at p = w + 8 - p
 
 abbrev entry : tie.At-loop Inv-loop μ-loop → tie.Start Inv-loop μ-loop
-entry c = c .before .before .before .before .before .before
+entry c = c .before .before .before .before .before .before .before
 
 loop-holds : tie.Need-loop-holds Inv-loop μ-loop
 unfolding upto
-loop-holds c = (refl, omega arith, refl, refl, c .before .before .before .before .before .pre .1 .1 .1 .0 .1 .1, no-puts _ _ _ _ _ _ _ _ _ _)
+loop-holds c =
+    let m = c .before .before in
+    let main = m .main .ensures .0 in
+    let s = m .before .before .before .before in
+    record {
+      numbers = record { depth = s .pre .depth; limit-is = ap (λ (q : Quantiser). q .limit) main; raw-is = ap (λ (q : Quantiser). q .raw) main };
+      even = refl;
+      last = omega arith;
+      same-lines = refl;
+      same-output = refl;
+      records = s .pre .records;
+      put = no-puts _ _ _ _ _ _ _ _ _ _;
+    }
 
 -- ---- the even position
 
@@ -43,7 +63,7 @@ room c =
     let s = entry (c .before) in
     let a = s .args in
     room-turn (a .bits) (a .w) (a .samples .now) (a .n) (a .plan) (a .store) (a .from .0) (a .lines .now) (a .set .sums) (a .set .ns) (a .out .now) (c .before .loop .p)
-    (c .before .loop .inv .0) (s .pre .0 .0 .1 .1) (c .loop-test .taken) (s .pre .1 .1 .1 .1 .1)
+    (c .before .loop .inv .even) (s .pre .even) (c .loop-test .taken) (s .pre .room)
 
 room-even : (c : tie.In-loop Inv-loop μ-loop) → let a = entry (c .before) .args in let p = c .before .loop .p in
     StepsRoom (a .bits) (a .w) (a .samples .now) (a .n) (before (a .w) (a .plan) p ++ evenPart (a .w) (a .plan) p) (a .store) (a .from .0) (a .lines .now) (a .set .sums) (a .set .ns) (a .out .now)
@@ -51,7 +71,7 @@ room-even c =
     let s = entry (c .before) in
     let a = s .args in
     room-evens (a .bits) (a .w) (a .samples .now) (a .n) (a .plan) (a .store) (a .from .0) (a .lines .now) (a .set .sums) (a .set .ns) (a .out .now) (c .before .loop .p)
-    (c .before .loop .inv .0) (s .pre .0 .0 .1 .1) (c .loop-test .taken) (s .pre .1 .1 .1 .1 .1)
+    (c .before .loop .inv .even) (s .pre .even) (c .loop-test .taken) (s .pre .room)
 
 write-even-requires : tie.Need-write-even-requires Inv-loop μ-loop
 write-even-requires c κs =
@@ -60,23 +80,19 @@ write-even-requires c κs =
     let s = entry (l .before) in
     let a = s .args in
     let p = s .pre in
-    let r = p .1 .1 .1 in
-    let lt = l .loop-test .taken in (
-      (p .0 .0 .1 .0, p .0 .1),
-      (
-        p .1 .0,
-        (
-          p .1 .1 .0,
-          (
-            (omega (arith, r .0 .0, v .2), (within-after (v .5) refl _ (p .1 .1 .0 .1 .1) (r .0 .1 .0), v .4)),
-            (
-              omega (arith, r .1 .0, position-after (v .5) refl (p .1 .0 .0 .1), before-le (a .w) (a .plan) (l .before .loop .p), lt, p .0 .0 .1 .0),
-              room-after (v .5) refl (evenPart (a .w) (a .plan) (l .before .loop .p)) (v .3) (room-even l),
-            ),
-          ),
-        ),
-      ),
-    )
+    record {
+      width = p .high;
+      plan = p .plan;
+      numbers = v .numbers;
+      line = p .line;
+      samples = p .samples;
+      wanted = p .wanted;
+      long = omega (arith, p .long, v .same-lines);
+      held = within-after (v .put) refl _ (p .wanted) (p .held);
+      records = v .records;
+      low = omega (arith, p .position, position-after (v .put) refl (p .depth .1), before-le (a .w) (a .plan) (l .before .loop .p), l .loop-test .taken, p .high);
+      room = room-after (v .put) refl (evenPart (a .w) (a .plan) (l .before .loop .p)) (v .same-output) (room-even l);
+    }
 
 abbrev turn : tie.After-write-even Inv-loop μ-loop → tie.In-loop Inv-loop μ-loop
 turn c = c .before .before .before .before .before
@@ -88,7 +104,7 @@ evens : (c : tie.After-write-even Inv-loop μ-loop) → let a = entry (turn c .b
 evens c =
     let l = turn c in
     let a = entry (l .before) .args in
-    goes-on (l .before .loop .inv .5) refl (evenPart (a .w) (a .plan) (l .before .loop .p)) (room-even l) (c .write-even .ensures .0)
+    goes-on (l .before .loop .inv .put) refl (evenPart (a .w) (a .plan) (l .before .loop .p)) (room-even l) (c .write-even .ensures .0)
 
 returns : tie.Need-returns Inv-loop μ-loop
 returns c =
@@ -96,13 +112,14 @@ returns c =
     let l = turn e in
     let s = entry (l .before) in
     let a = s .args in
-    let w = c .before .enum-told .given .1 in (
-      pass-wrong (a .plan)
+    let w = c .before .enum-told .given .1 in
+    record {
+      answer = pass-wrong (a .plan)
           (turn-wrong (a .bits) (a .w) (a .samples .now) (a .n) (a .plan) (a .store) (a .from .0) (a .lines .now) (a .set .sums) (a .set .ns) (a .out .now) (l .before .loop .p)
-          (l .before .loop .inv .0) (s .pre .0 .0 .1 .1) (l .loop-test .taken) _ _ _ _ _ _ w (ends (evens e) (oddPart (a .plan) (l .before .loop .p)) w))
-          _ w refl (c .wrong-at .ensures),
-      e .write-even .ensures .1,
-    )
+          (l .before .loop .inv .even) (s .pre .even) (l .loop-test .taken) _ _ _ _ _ _ w (ends (evens e) (oddPart (a .plan) (l .before .loop .p)) w))
+          _ w refl (c .wrong-at .ensures);
+      records = e .write-even .ensures .1;
+    }
 
 -- ---- the odd position
 
@@ -118,24 +135,23 @@ write-odd-requires c κs =
     let s = entry (l .before) in
     let a = s .args in
     let p = s .pre in
-    let r = p .1 .1 .1 in
     let lt = l .loop-test .taken in
     let at = k .before .evens .given .1 in
     let kept = e .write-even .kept in (
-      (p .0 .0 .1 .0, (omega (arith, lt, v .0, p .0 .0 .1 .1), p .0 .1)),
-      (
-        p .1 .0,
-        (
-          p .1 .1 .0,
-          (
-            (omega (arith, r .0 .0, v .2, kept .1 .1 .1 .1 .1 .0), (within-after (evens e) at _ (p .1 .1 .0 .1 .1) (r .0 .1 .0), e .write-even .ensures .1)),
-            (
-              omega (arith, r .1 .0, position-after (evens e) at (p .1 .0 .0 .1), evens-le (a .w) (a .plan) (l .before .loop .p), lt, p .0 .0 .1 .0),
-              room-after (evens e) at (oddPart (a .plan) (l .before .loop .p)) (kept .1 .1 .0 ∙ v .3) (room l),
-            ),
-          ),
-        ),
-      ),
+      record {
+        width = p .high;
+        plan = p .plan;
+        numbers = v .numbers;
+        line = p .line;
+        samples = p .samples;
+        wanted = p .wanted;
+        long = omega (arith, p .long, v .same-lines, kept .1 .1 .1 .1 .1 .0);
+        held = within-after (evens e) at _ (p .wanted) (p .held);
+        records = e .write-even .ensures .1;
+        low = omega (arith, p .position, position-after (evens e) at (p .depth .1), before-evens-le (a .w) (a .plan) (l .before .loop .p), lt, p .high);
+        room = room-after (evens e) at (oddPart (a .plan) (l .before .loop .p)) (kept .1 .1 .0 ∙ v .same-output) (room l);
+      },
+      omega (arith, lt, v .even, p .even),
     )
 
 abbrev known : tie.After-write-odd Inv-loop μ-loop → tie.After-known-told Inv-loop μ-loop
@@ -156,13 +172,14 @@ returns-2 c =
     let l = turn (first (known o)) in
     let s = entry (l .before) in
     let a = s .args in
-    let w = c .before .enum-told2 .given .1 in (
-      pass-wrong (a .plan)
+    let w = c .before .enum-told2 .given .1 in
+    record {
+      answer = pass-wrong (a .plan)
           (turn-wrong (a .bits) (a .w) (a .samples .now) (a .n) (a .plan) (a .store) (a .from .0) (a .lines .now) (a .set .sums) (a .set .ns) (a .out .now) (l .before .loop .p)
-          (l .before .loop .inv .0) (s .pre .0 .0 .1 .1) (l .loop-test .taken) _ _ _ _ _ _ w (odds o))
-          _ w refl (c .wrong-at2 .ensures),
-      o .write-odd .ensures .1,
-    )
+          (l .before .loop .inv .even) (s .pre .even) (l .loop-test .taken) _ _ _ _ _ _ w (odds o))
+          _ w refl (c .wrong-at2 .ensures);
+      records = o .write-odd .ensures .1;
+    }
 
 -- ---- the turn's end
 
@@ -172,7 +189,7 @@ lengths-1 : (c : tie.After-write-even Inv-loop μ-loop) → let a = entry (turn 
 lengths-1 c =
     let v = turn c .before .loop .inv in
     let kept = c .write-even .kept in
-    (kept .1 .1 .0 ∙ v .3, kept .1 .1 .1 .1 .1 .0 ∙ v .2)
+    (kept .1 .1 .0 ∙ v .same-output, kept .1 .1 .1 .1 .1 .0 ∙ v .same-lines)
 
 lengths-2 : (c : tie.After-write-odd Inv-loop μ-loop) → let a = entry (turn (first (known c)) .before) .args in let z = c .write-odd .last in
     (length (z .1 .1 .0) ≡ length (a .out .now)) × (length (z .1 .1 .1 .1 .1 .0) ≡ length (a .lines .now))
@@ -191,21 +208,26 @@ loop-again c =
     let v = l .before .loop .inv in
     let s = entry (l .before) in
     let a = s .args in
-    let k = lengths-2 o in (
-      omega (arith, v .0),
-      omega (arith, v .0, l .loop-test .taken, s .pre .0 .0 .1 .1),
-      k .1,
-      k .0,
-      o .write-odd .ensures .1,
-      same-steps (turn-more (a .w) (a .plan) (l .before .loop .p) (v .0)) (answered (c .before .odds .given .1) (odds o)),
-    )
+    let k = lengths-2 o in
+    record {
+      numbers = v .numbers;
+      even = omega (arith, v .even);
+      last = omega (arith, v .even, l .loop-test .taken, s .pre .even);
+      same-lines = k .1;
+      same-output = k .0;
+      records = o .write-odd .ensures .1;
+      put = same-steps (turn-more (a .w) (a .plan) (l .before .loop .p) (v .even)) (answered (c .before .odds .given .1) (odds o));
+    }
 
 returns-3 : tie.Need-returns-3 Inv-loop μ-loop
 returns-3 c =
     let l = c .before .loop .inv in
     let s = entry (c .before) in
     let a = s .args in
-    (pass-right (a .plan) (same-steps (all-turns (a .w) (a .plan) (c .before .loop .p) (s .pre .0 .0 .1 .1) (omega (arith, l .0, l .1, c .loop-test .left))) (l .5)) refl, l .4)
+    record {
+      answer = pass-right (a .plan) (same-steps (all-turns (a .w) (a .plan) (c .before .loop .p) (s .pre .even) (omega (arith, l .even, l .last, c .loop-test .left))) (l .put)) refl;
+      records = l .records;
+    }
 
 pub write-pass-spec : {M : Type 1} → statement M
 write-pass-spec =
@@ -213,6 +235,7 @@ write-pass-spec =
     (tie.spec
     Inv-loop
     μ-loop
+    (λ c κs. search needs)
     loop-holds
     (λ c. search needs)
     write-even-requires
@@ -229,9 +252,9 @@ write-pass-spec =
     (λ c. lengths-2 (c .before .before .before .before .before .before .before) .0)
     (λ c. lengths-2 (c .before .before .before .before .before .before .before) .1)
     returns-2
-    (λ c. let l = turn (first (known (second c))) in omega (arith, l .loop-test .taken, entry (l .before) .pre .0 .0 .1 .0))
+    (λ c. let l = turn (first (known (second c))) in omega (arith, l .loop-test .taken, entry (l .before) .pre .high))
     (λ c. omega (arith, turn (first (known (second c))) .loop-test .taken))
     loop-again
-    (λ c. c .before .loop .inv .3)
-    (λ c. c .before .loop .inv .2)
+    (λ c. c .before .loop .inv .same-output)
+    (λ c. c .before .loop .inv .same-lines)
     returns-3)

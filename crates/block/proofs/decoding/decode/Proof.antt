@@ -23,25 +23,27 @@ returns : tie.Need-returns
 returns c =
     let k = c .before .before .before in
     let s = k .before .before .before .before in
-    left-refused (s .args .d .now) (wholeOf (s .args .width) (s .args .height)) (s .args .tile) (lent s) _ _ (sym (k .image-begins .ensures) ∙ c .before .begins .given .1)
+    left-refused (s .args .d .now) (wholeOf (s .args .width) (s .args .height)) (s .args .tile) (lent s) _ _
+    (sym (k .image-begins .ensures) ∙ c .before .begins .given .1)
 
 returns-2 : tie.Need-returns-2
 returns-2 c =
     let k = c .before .before in
     let s = k .before .before .before .before in
-    left-nothing (s .args .d .now) (wholeOf (s .args .width) (s .args .height)) (s .args .tile) (lent s) _ (sym (k .image-begins .ensures) ∙ c .enum-told .given .1)
+    left-nothing (s .args .d .now) (wholeOf (s .args .width) (s .args .height)) (s .args .tile) (lent s) _
+    (sym (k .image-begins .ensures) ∙ c .enum-told .given .1)
 
 part-end : tie.Need-part-decode-blocks-end
 part-end c =
     let m = c .before .before .before .before in
     let k = image-reads _ _ _ _ _ _ _ (sym (m .before .before .image-begins .ensures) ∙ m .begins2 .given .1) in
-    search (needs, k .fits .lines)
+    search (needs, k .fits .for-lines)
 
 part-end-2 : tie.Need-part-decode-blocks-end-2
 part-end-2 c =
     let m = c .before .before .before .before .before in
     let k = image-reads _ _ _ _ _ _ _ (sym (m .before .before .image-begins .ensures) ∙ m .begins2 .given .1) in
-    search (needs, k .fits .records-fit)
+    search (needs, k .fits .for-records)
 
 -- the region is the whole picture
 at-whole : (h : FujiHeader) (r q : Rect) (n : ℕ) → r ≡ q → Accepted h q n → Accepted h r n
@@ -67,12 +69,13 @@ returns-3 c =
     let m = w .before .before in
     let s = m .before .before .before .before .before .before in
     let p = answer-whole (s .args .d .now) _ _ _ (s .args .tile) _ _ _ (w .whole .ensures) (x .decode-blocks .ensures .0) in
-    left-reading (s .args .d .now) (wholeOf (s .args .width) (s .args .height)) (s .args .tile) (lent s) _ _
+    let h = m .begins2 .given .0 .0 in
+    left-reading (s .args .d .now) (wholeOf (s .args .width) (s .args .height)) (s .args .tile) (lent s) _ h
     (sym (m .before .before .image-begins .ensures) ∙ m .begins2 .given .1) _ _
     (record {
       answered = p .0;
       pictured = p .1;
-      lines = lines-back (m .begins2 .given .0 .0 .xtrans) (n .samples-needed .result) (s .args .lines .now) _ (n .samples-needed .ensures .0) (x .decode-blocks .ensures .1 .0);
+      lines = lines-back (h .xtrans) (n .samples-needed .result) (s .args .lines .now) _ (n .samples-needed .ensures .0) (x .decode-blocks .ensures .1 .0);
       records = records-back (s .args .rs .now) _ (x .decode-blocks .ensures .1 .1);
     })
 

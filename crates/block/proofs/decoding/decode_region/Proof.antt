@@ -27,13 +27,13 @@ part-end : tie.Need-part-decode-blocks-end
 part-end c =
     let m = c .before .before .before in
     let k = region-reads _ _ _ _ _ _ (sym (m .before .before .region-begins .ensures) ∙ m .begins2 .given .1) in
-    search (needs, k .fits .lines)
+    search (needs, k .fits .for-lines)
 
 part-end-2 : tie.Need-part-decode-blocks-end-2
 part-end-2 c =
     let m = c .before .before .before .before in
     let k = region-reads _ _ _ _ _ _ (sym (m .before .before .region-begins .ensures) ∙ m .begins2 .given .1) in
-    search (needs, k .fits .records-fit)
+    search (needs, k .fits .for-records)
 
 decode-blocks-requires : tie.Need-decode-blocks-requires
 decode-blocks-requires c κs =
@@ -47,11 +47,12 @@ returns-3 c =
     let n = x .before .before .before .before in
     let m = n .before .before in
     let s = m .before .before .before .before .before .before in
-    left-reading (s .args .d .now) (s .args .r) (s .args .tile) (lent s) _ _ (sym (m .before .before .region-begins .ensures) ∙ m .begins2 .given .1) _ _
+    let h = m .begins2 .given .0 .0 in
+    left-reading (s .args .d .now) (s .args .r) (s .args .tile) (lent s) _ h (sym (m .before .before .region-begins .ensures) ∙ m .begins2 .given .1) _ _
     (record {
       answered = x .decode-blocks .ensures .0 .0;
       pictured = x .decode-blocks .ensures .0 .1;
-      lines = lines-back (m .begins2 .given .0 .0 .xtrans) (n .samples-needed .result) (s .args .lines .now) _ (n .samples-needed .ensures .0) (x .decode-blocks .ensures .1 .0);
+      lines = lines-back (h .xtrans) (n .samples-needed .result) (s .args .lines .now) _ (n .samples-needed .ensures .0) (x .decode-blocks .ensures .1 .0);
       records = records-back (s .args .rs .now) _ (x .decode-blocks .ensures .1 .1);
     })
 

@@ -8,7 +8,7 @@ use Prim.Native.Nat.{_+_, _-_, _*_, _%_, _≤_}
 use native.Mathlib.Omega.{arith}
 use lib.ListN.{length}
 use Rattle.map.specs.Places.{widthOf}
-use Rattle.pass.specs.Readings.{recordsOf}
+use Rattle.steps.specs.Values.{recordsOf}
 use Rattle.block.specs.Blocks.{AllInRange, runs, passAt}
 use Rattle.block.specs.Records.{putSet}
 use Rattle.block.proofs.LineLaws.{planned, width-in-range, pass-read, pass-cut, line-past, line-read}
@@ -56,7 +56,7 @@ set-guards-requires c κs =
     let p = c .before in
     let l = p .before .before .loop in
     let r = planned _ (l .i) _ (omega arith) (p .plan-at .ensures) in
-    (l .inv .1 .2, (omega arith, (r .0 .1, omega arith)))
+    (l .inv .1 .2, (omega arith, (r .0 .first-high, omega arith)))
 
 set-guards-requires-2 : tie.Need-set-guards-requires-2 Inv-loop μ-loop
 set-guards-requires-2 c κs =
@@ -64,7 +64,7 @@ set-guards-requires-2 c κs =
     let p = g .before .before in
     let l = p .before .before .loop in
     let r = planned _ (l .i) _ (omega arith) (p .plan-at .ensures) in
-    (l .inv .1 .2, (omega arith, (r .0 .3, omega (arith, g .set-guards .kept, l .inv .2))))
+    (l .inv .1 .2, (omega arith, (r .0 .second-high, omega (arith, g .set-guards .kept, l .inv .2))))
 
 load-set-requires : tie.Need-load-set-requires Inv-loop μ-loop
 load-set-requires c κs =
@@ -79,13 +79,19 @@ pass-requires c κs =
     let l = p .before .before .loop in
     let a = start (p .before .before) .pre in
     let r = planned _ (l .i) _ (omega arith) (p .plan-at .ensures) in
-    let w = l .inv .1 in (
-      (a .0 .0, (w .1, (w .2, w .3))),
-      (
-        (omega (arith, second s .set-guards2 .kept, first (second s) .set-guards .kept, l .inv .2), r .0),
-        (a .1 .0, rw (s .load-set .ensures .0) (set-in-range _ _ (r .1) (l .inv .4))),
-      ),
-    )
+    let w = l .inv .1 in
+    record {
+      bytes = a .0 .0;
+      low = w .1;
+      high = w .2;
+      even = w .3;
+      room = omega (arith, second s .set-guards2 .kept, first (second s) .set-guards .kept, l .inv .2);
+      plan = r .0;
+      depth = a .1 .0 .0;
+      base = a .1 .0 .1 .0;
+      quantisers = a .1 .0 .1 .1;
+      records = rw (s .load-set .ensures .0) (set-in-range _ _ (r .1) (l .inv .4));
+    }
 
 same-length : tie.Need-same-length Inv-loop μ-loop
 same-length c =
@@ -108,7 +114,7 @@ returns c =
     let p = plan-of s in
     let l = p .before .before .loop in (
       rw (pass-cut _ _ _ _ _ _ _ _ _ _ _ _ _ _ (l .inv .5) (l .inv .1 .0) (p .plan-at .ensures) (first (second s) .set-guards .ensures)
-          (second s .set-guards2 .ensures) (s .load-set .ensures .0) _ (d .pass .result) (d .pass .ensures .0) (p .before .loop-test .taken)
+          (second s .set-guards2 .ensures) (s .load-set .ensures .0) _ (d .pass .result) (d .pass .ensures .answer) (p .before .loop-test .taken)
           (not-true _ (c .if1 .taken))) refl,
       rw (s .load-set .ensures .1) (l .inv .4),
     )
@@ -139,10 +145,10 @@ loop-again c =
       l .inv .1,
       omega (arith, d .pass .kept, second s .set-guards2 .kept, first (second s) .set-guards .kept, l .inv .2),
       omega (arith, t .kept, s .load-set .kept, l .inv .3),
-      rw e (put-in-range _ _ _ (r .1) (l .inv .3) (d .pass .ensures .1) (l .inv .4)),
+      rw e (put-in-range _ _ _ (r .1) (l .inv .3) (d .pass .ensures .records) (l .inv .4)),
       rw e
           (pass-read _ _ _ _ _ _ _ _ _ _ _ _ _ _ (l .inv .5) (l .inv .1 .0) (p .plan-at .ensures) (first (second s) .set-guards .ensures)
-          (second s .set-guards2 .ensures) (s .load-set .ensures .0) _ (d .pass .result) (d .pass .ensures .0)
+          (second s .set-guards2 .ensures) (s .load-set .ensures .0) _ (d .pass .result) (d .pass .ensures .answer)
           (not-false _ (c .before .before .before .before .before .if1 .left))),
     )
 

@@ -5,8 +5,8 @@ use mathlib.Core.Path.{_≡_}
 use Prim.Native.Nat.{ℕ}
 use Rattle.quantiser.specs.Quantisers.{mainOf, flatOf}
 use Rattle.quantiser.specs.declared.Quantiser.{Quantiser}
-use Rattle.pass.specs.Readings.{quantisersOf}
-use Rattle.pass.specs.declared.Quantisers.{Quantisers}
+use Rattle.steps.specs.Values.{quantisersOf}
+use Rattle.steps.specs.declared.Quantisers.{Quantisers}
 use Rattle.block.proofs.reading.quantisers_of.Statement.{statement}
 use Rattle.block.proofs.reading.quantisers_of.Tie as tie
 

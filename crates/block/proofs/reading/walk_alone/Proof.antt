@@ -1,24 +1,12 @@
 -- `block::walk_alone` meets its contract: its own scratch is long enough. Assumes nothing.
 mod derived
 use borrow.Author.Needs.{needs}
-use Prim.Native.Nat.{_≤_}
 use native.Mathlib.Omega.{arith}
-use Rattle.block.proofs.LineLaws.{width-in-range}
 use Rattle.block.proofs.reading.walk_alone.Statement.{statement}
 use Rattle.block.proofs.reading.walk_alone.Proof.derived.Tie as tie
 
--- the width is at most 512
-small : (c : tie.After-width) → c .width .result ≤ 512
-small c = width-in-range (c .before .before .before .before .before .before .args .form .xtrans) _ (c .width .ensures) .1
-
-add-used : tie.Need-add-used
-add-used c = search (needs, small c)
-
-mul-used : tie.Need-mul-used
-mul-used c = search (needs, small c)
-
 part-lines-end : tie.Need-part-lines-end
-part-lines-end c = omega (arith, small c)
+part-lines-end c = omega (arith, c .samples-needed .ensures .1)
 
 walk-requires : tie.Need-walk-requires
 walk-requires c κs =
@@ -36,8 +24,6 @@ walk-alone-spec =
     (λ c. search needs)
     (λ c. search needs)
     (λ c. search needs)
-    add-used
-    mul-used
     (λ c. search needs)
     (λ c. search needs)
     part-lines-end

@@ -5,7 +5,7 @@ use mathlib.Core.Path.{_≡_, refl, _∙_}
 use Prim.Native.Nat.{_-_, _*_, _≤_}
 use native.Mathlib.Omega.{arith}
 use lib.ListN.{length, take, drop, length-set}
-use Rattle.pass.specs.Readings.{zipRecords}
+use Rattle.steps.specs.Values.{zipRecords}
 use Rattle.block.proofs.SetLaws.{load-more, load-done}
 use Rattle.block.proofs.records.load_set.Statement.{statement}
 use Rattle.block.proofs.records.load_set.Proof.derived.Tie as tie

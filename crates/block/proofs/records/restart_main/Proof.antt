@@ -9,7 +9,7 @@ use native.Mathlib.Omega.{arith}
 use lib.Dec.{ltb}
 use lib.ListN.{length, getD, set, take, drop}
 use Rattle.statistics.specs.declared.Record.{Record}
-use Rattle.pass.specs.Readings.{noRecord}
+use Rattle.steps.specs.Contexts.{noRecord}
 use Rattle.block.specs.Records.{table, startRecord, restartedMain}
 use Rattle.block.proofs.TableLaws.{fill-more, fill-done, still, still-more}
 use Rattle.block.proofs.records.restart_main.Statement.{statement}

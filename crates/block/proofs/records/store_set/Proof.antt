@@ -6,7 +6,7 @@ use Prim.Native.Nat.{_-_, _*_, _≤_}
 use native.Mathlib.Omega.{arith}
 use lib.ListN.{length}
 use lib.Seq.{paste, paste-zero}
-use Rattle.pass.specs.Readings.{zipRecords, recordsOf}
+use Rattle.steps.specs.Values.{zipRecords, recordsOf}
 use Rattle.block.proofs.SetLaws.{store-more, store-done}
 use Rattle.block.proofs.records.store_set.Statement.{statement}
 use Rattle.block.proofs.records.store_set.Proof.derived.Tie as tie

@@ -21,13 +21,13 @@ part-end : tie.Need-part-read-tight-block-end
 part-end c =
     let m = c .before .before in
     let k = tight-reads _ _ _ _ _ (sym (m .before .before .tight-begins .ensures) ∙ m .begins2 .given .1) in
-    search (needs, k .fits .lines)
+    search (needs, k .fits .for-lines)
 
 part-end-2 : tie.Need-part-read-tight-block-end-2
 part-end-2 c =
     let m = c .before .before .before in
     let k = tight-reads _ _ _ _ _ (sym (m .before .before .tight-begins .ensures) ∙ m .begins2 .given .1) in
-    search (needs, k .fits .records-fit)
+    search (needs, k .fits .for-records)
 
 read-tight-block-requires : tie.Need-read-tight-block-requires
 read-tight-block-requires c κs =
@@ -41,10 +41,11 @@ returns-2 c =
     let n = x .before .before .before in
     let m = n .before .before in
     let s = m .before .before .before .before .before in
-    tight-reading (s .args .d .now) (s .args .b) (lent s) _ _ (sym (m .before .before .tight-begins .ensures) ∙ m .begins2 .given .1) _ _
+    let h = m .begins2 .given .0 .0 in
+    tight-reading (s .args .d .now) (s .args .b) (lent s) _ h (sym (m .before .before .tight-begins .ensures) ∙ m .begins2 .given .1) _ _
     (record {
       answered = x .read-tight-block .ensures .0;
-      lines = lines-back (m .begins2 .given .0 .0 .xtrans) (n .samples-needed .result) (s .args .lines .now) _ (n .samples-needed .ensures .0) (x .read-tight-block .ensures .1 .0);
+      lines = lines-back (h .xtrans) (n .samples-needed .result) (s .args .lines .now) _ (n .samples-needed .ensures .0) (x .read-tight-block .ensures .1 .0);
       records = records-back (s .args .rs .now) _ (x .read-tight-block .ensures .1 .1);
     })
 

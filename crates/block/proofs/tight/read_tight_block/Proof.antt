@@ -28,7 +28,10 @@ walk-requires c κs =
     let s = f .before .before .before in
     let k = opened (s .args .d .now) (s .args .h) (s .pre .0 .0) .ruled in (
       (p .before .before .block-bytes .ensures .1, form-scratch _ (s .args .h) (f .form-of .ensures) (s .args .lines .now) (s .args .rs .now) (s .pre .1)),
-      ((form-depth _ (s .args .h) (f .form-of .ensures) k, omega (arith, k .lines-high, n .line-count .ensures)), (p .xtrans-places .ensures, c .no-part .ensures)),
+      (
+        (form-depth _ (s .args .h) (f .form-of .ensures) k, omega (arith, k .lines-high, n .line-count .ensures)),
+        (p .xtrans-places .ensures, c .no-part .ensures),
+      ),
     )
 
 without-bases : (d : List ℕ) (h : FujiHeader) (b n : ℕ) (F : Form) (bases s : List ℕ) (w : Walked) → openOf d ≡ Header h → h .lossless ≡ true → bases ≡ basesOf d b
@@ -43,10 +46,16 @@ tight-answer-requires c κs =
     let n = y .before in
     let f = n .before in
     let s = f .before .before .before in
-    (y .block-bytes .ensures .1, without-bases (s .args .d .now) (s .args .h) (s .args .b) (n .line-count .result) (f .form-of .result) (q .base-row .result .now) (y .block-bytes .result .now) (w .walk .result) (s .pre .0 .0) (s .pre .0 .1) (q .base-row .ensures) (w .walk .ensures .0))
+    let b = s .args .b in
+    let F = f .form-of .result in
+    let o = s .pre .0 in (
+      y .block-bytes .ensures .1,
+      without-bases (s .args .d .now) (s .args .h) b (n .line-count .result) F (q .base-row .result .now) (y .block-bytes .result .now) (w .walk .result)
+          (o .0) (o .1) (q .base-row .ensures) (w .walk .ensures .0),
+    )
 
-answered : (d : List ℕ) (h : FujiHeader) (b n : ℕ) (F : Form) (s : List ℕ) (a : Decoded) → F ≡ formOf h → s ≡ bytesOf d b → n ≡ h .lines → a ≡ tightAnswer F b n s
-    → a ≡ tightAnswer (formOf h) b (h .lines) (bytesOf d b)
+answered : (d : List ℕ) (h : FujiHeader) (b n : ℕ) (F : Form) (s : List ℕ) (a : Decoded) → F ≡ formOf h → s ≡ bytesOf d b → n ≡ h .lines
+    → a ≡ tightAnswer F b n s → a ≡ tightAnswer (formOf h) b (h .lines) (bytesOf d b)
 answered d h b n F s a ef es en e = rw (ef, es, en) at e
 
 returns : tie.Need-returns

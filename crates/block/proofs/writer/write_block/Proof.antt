@@ -33,13 +33,13 @@ part-end : tie.Need-part-write-set-end
 part-end c =
     let m = c .before .before .before .before .before in
     let k = writing-goes _ _ _ _ _ (sym (m .before .before .writing-begins .ensures) ∙ m .begins2 .given .1) in
-    search (needs, k .fits .lines)
+    search (needs, k .fits .for-lines)
 
 part-end-2 : tie.Need-part-write-set-end-2
 part-end-2 c =
     let m = c .before .before .before .before .before .before in
     let k = writing-goes _ _ _ _ _ (sym (m .before .before .writing-begins .ensures) ∙ m .begins2 .given .1) in
-    search (needs, k .fits .records-fit)
+    search (needs, k .fits .for-records)
 
 sized : (F : Form) (h : FujiHeader) (n : ℕ) (t : List ℕ) → F ≡ formOf h → n ≡ h .lines → length t ≡ setSize (widthOf (h .xtrans)) (h .lines)
     → length t ≡ setSize (widthOf (F .xtrans)) n
@@ -51,9 +51,10 @@ write-set-requires c κs =
     let f = n .before in
     let m = f .before .before .before in
     let s = m .before .before .before .before .before .before .before in
+    let h = m .begins2 .given .0 .0 in
     let k = writing-goes _ _ _ _ _ (sym (m .before .before .writing-begins .ensures) ∙ m .begins2 .given .1) in (
-      (omega (arith, n .line-count .ensures, k .is-ruled .lines-high), sized _ (m .begins2 .given .0 .0) _ (s .args .samples .now) (f .form-of .ensures) (n .line-count .ensures) (k .size)),
-      (form-depth _ (m .begins2 .given .0 .0) (f .form-of .ensures) (k .is-ruled), (form-samples _ (m .begins2 .given .0 .0) (f .form-of .ensures) _ (search needs), search needs)),
+      (omega (arith, n .line-count .ensures, k .is-ruled .lines-high), sized _ h _ (s .args .samples .now) (f .form-of .ensures) (n .line-count .ensures) (k .size)),
+      (form-depth _ h (f .form-of .ensures) (k .is-ruled), (form-samples _ h (f .form-of .ensures) _ (search needs), search needs)),
     )
 
 -- what the set answers, under the header
@@ -70,12 +71,13 @@ returns-2 c =
     let u = f .before in
     let m = u .before .before in
     let s = m .before .before .before .before .before .before .before in
-    let p = answered _ (m .begins2 .given .0 .0) _ (s .args .samples .now) (s .args .out .now) _ _ (f .form-of .ensures) (n .line-count .ensures) (x .write-set .ensures .0) in
+    let h = m .begins2 .given .0 .0 in
+    let p = answered _ h _ (s .args .samples .now) (s .args .out .now) _ _ (f .form-of .ensures) (n .line-count .ensures) (x .write-set .ensures .0) in
     written-set (s .args .samples .now) (lent s) _ _ (sym (m .before .before .writing-begins .ensures) ∙ m .begins2 .given .1) _ _
     (record {
       answered = p .0;
       output = p .1;
-      lines = lines-back (m .begins2 .given .0 .0 .xtrans) (u .samples-needed .result) (s .args .lines .now) _ (u .samples-needed .ensures .0) (form-zero _ (m .begins2 .given .0 .0) (f .form-of .ensures) _ (x .write-set .ensures .1 .0));
+      lines = lines-back (h .xtrans) (u .samples-needed .result) (s .args .lines .now) _ (u .samples-needed .ensures .0) (form-zero _ h (f .form-of .ensures) _ (x .write-set .ensures .1 .0));
       records = records-back (s .args .rs .now) _ (x .write-set .ensures .1 .1);
     })
 

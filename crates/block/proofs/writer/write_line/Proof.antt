@@ -6,9 +6,8 @@ use mathlib.Core.Path.{_≡_, refl, ap, _∙_}
 use Prim.Native.Nat.{_+_, _-_, _*_, _%_, _≤_}
 use native.Mathlib.Omega.{arith}
 use lib.ListN.{length}
-use Rattle.quantiser.specs.declared.Quantiser.{Quantiser}
 use Rattle.map.specs.Places.{widthOf}
-use Rattle.pass.specs.Readings.{usedQuantiser, recordsOf}
+use Rattle.steps.specs.Values.{recordsOf}
 use Rattle.block.specs.Blocks.{AllInRange}
 use Rattle.block.specs.Records.{putSet}
 use Rattle.block.specs.WrittenAnswers.{passesFrom}
@@ -19,17 +18,17 @@ use Rattle.block.proofs.writer.write_line.Statement.{statement}
 use Rattle.block.proofs.writer.write_line.Proof.derived.Tie as tie
 
 abbrev Inv-loop : tie.InvT-loop
-Inv-loop samples n out₀ store lines₀ rs₀ bits xtrans w limit raw at₀ i₀ out lines rs at i =
+Inv-loop samples n out₀ store lines₀ rs₀ bits xtrans w at₀ i₀ out lines rs at i =
     (i ≤ 6) × ((w ≡ widthOf xtrans) × (8 ≤ w) × (w ≤ 512) × (w % 2 ≡ 0)) × (length lines ≡ 18 * (w + 2)) × (length rs ≡ 336) × AllInRange rs
-    × (length out ≡ length out₀) × ((limit ≡ (usedQuantiser bits 0 0) .limit) × (raw ≡ (usedQuantiser bits 0 0) .raw))
+    × (length out ≡ length out₀)
     × Sofar (passesFrom (record { bits = bits; xtrans = xtrans }) samples n i lines₀ rs₀) (at₀ .0) store out₀ lines rs out at
 
 abbrev μ-loop : tie.MeasureT-loop
-μ-loop samples n out₀ store lines₀ rs₀ bits xtrans w limit raw at₀ i₀ out lines rs at i = 6 - i
+μ-loop samples n out₀ store lines₀ rs₀ bits xtrans w at₀ i₀ out lines rs at i = 6 - i
 
 -- places before a place
 abbrev start : tie.At-loop Inv-loop μ-loop → tie.Start Inv-loop μ-loop
-start l = l .before .before .before .before .before .before
+start l = l .before .before .before .before .before
 
 abbrev first : tie.After-set-guards2 Inv-loop μ-loop → tie.After-set-guards Inv-loop μ-loop
 first g = g .before .before .before .before
@@ -48,16 +47,14 @@ passed c = c .before .before .before .before .before .before .before .before .be
 
 loop-holds : tie.Need-loop-holds Inv-loop μ-loop
 loop-holds c =
-    let d = c .before in
-    let a = d .before .before .before .before in
-    let w = width-in-range (a .args .form .xtrans) _ (d .width .ensures) in (
+    let a = c .before .before .before .before in
+    let w = width-in-range (a .args .form .xtrans) _ (c .width .ensures) in (
       search needs,
-      (d .width .ensures, w .0, w .1, w .2),
-      rw (d .width .ensures) (a .pre .1 .0 .1 .0),
+      (c .width .ensures, w .0, w .1, w .2),
+      rw (c .width .ensures) (a .pre .1 .0 .1 .0),
       a .pre .1 .0 .1 .1,
       a .pre .1 .1 .0 .1,
       refl,
-      (ap (λ (q : Quantiser). q .limit) (c .main .ensures .0), ap (λ (q : Quantiser). q .raw) (c .main .ensures .0)),
       passes-start _ _ _ _ _ _ _ _,
     )
 
@@ -66,7 +63,7 @@ set-guards-requires c κs =
     let p = c .before in
     let l = p .before .before .loop in
     let r = planned _ (l .i) _ (omega arith) (p .plan-at .ensures) in
-    (l .inv .1 .2, (omega arith, (r .0 .1, omega arith)))
+    (l .inv .1 .2, (omega arith, (r .0 .first-high, omega arith)))
 
 set-guards-requires-2 : tie.Need-set-guards-requires-2 Inv-loop μ-loop
 set-guards-requires-2 c κs =
@@ -74,7 +71,7 @@ set-guards-requires-2 c κs =
     let p = g .before .before in
     let l = p .before .before .loop in
     let r = planned _ (l .i) _ (omega arith) (p .plan-at .ensures) in
-    (l .inv .1 .2, (omega arith, (r .0 .3, omega (arith, g .set-guards .kept, l .inv .2))))
+    (l .inv .1 .2, (omega arith, (r .0 .second-high, omega (arith, g .set-guards .kept, l .inv .2))))
 
 load-set-requires : tie.Need-load-set-requires Inv-loop μ-loop
 load-set-requires c κs =
@@ -92,30 +89,24 @@ write-pass-requires c κs =
     let g₁ = first (second s) .set-guards .ensures in
     let g₂ = second s .set-guards2 .ensures in
     let t = p .before .loop-test .taken in
-    let w = l .inv .1 in (
-      ((w .1, (w .2, w .3)), r .0),
-      (
-        (a .pre .1 .0 .0, (l .inv .6 .0, l .inv .6 .1)),
-        (
-          (a .pre .0 .0, (rw (w .0) (a .pre .0 .1 .0), a .pre .0 .1 .1)),
-          (
-            (
-              omega (arith, second s .set-guards2 .kept, first (second s) .set-guards .kept, l .inv .2),
-              (
-                pass-samples _ _ _ _ _ (l .i) _ _ t _ _ _ _ _ _ _ _ _ _ (l .inv .7) (l .inv .5) (a .pre .1 .1 .1 .1) (w .0) (p .plan-at .ensures) g₁ g₂ (s .load-set .ensures .0)
-                    (a .pre .0 .1 .1) (a .pre .1 .1 .0 .0),
-                rw (s .load-set .ensures .0) (set-in-range _ _ (r .1) (l .inv .4)),
-              ),
-            ),
-            (
-              pass-position _ _ _ _ _ (l .i) _ _ t _ _ _ _ _ _ _ _ _ _ (l .inv .7) (l .inv .5) (a .pre .1 .1 .1 .1) (w .0) (p .plan-at .ensures) g₁ g₂ (s .load-set .ensures .0)
-                  (a .pre .1 .0 .0 .1) (a .pre .1 .1 .1 .0),
-              pass-room _ _ _ _ _ (l .i) _ _ t _ _ _ _ _ _ _ _ _ _ (l .inv .7) (l .inv .5) (a .pre .1 .1 .1 .1) (w .0) (p .plan-at .ensures) g₁ g₂ (s .load-set .ensures .0),
-            ),
-          ),
-        ),
-      ),
-    )
+    let w = l .inv .1 in
+    record {
+      low = w .1;
+      high = w .2;
+      even = w .3;
+      plan = r .0;
+      depth = a .pre .1 .0 .0;
+      line = a .pre .0 .0;
+      samples = rw (w .0) (a .pre .0 .1 .0);
+      wanted = a .pre .0 .1 .1;
+      long = omega (arith, second s .set-guards2 .kept, first (second s) .set-guards .kept, l .inv .2);
+      held = pass-samples _ _ _ _ _ (l .i) _ _ t _ _ _ _ _ _ _ _ _ _ (l .inv .6) (l .inv .5) (a .pre .1 .1 .1 .1) (w .0) (p .plan-at .ensures) g₁ g₂ (s .load-set .ensures .0)
+          (a .pre .0 .1 .1) (a .pre .1 .1 .0 .0);
+      records = rw (s .load-set .ensures .0) (set-in-range _ _ (r .1) (l .inv .4));
+      position = pass-position _ _ _ _ _ (l .i) _ _ t _ _ _ _ _ _ _ _ _ _ (l .inv .6) (l .inv .5) (a .pre .1 .1 .1 .1) (w .0) (p .plan-at .ensures) g₁ g₂ (s .load-set .ensures .0)
+          (a .pre .1 .0 .0 .1) (a .pre .1 .1 .1 .0);
+      room = pass-room _ _ _ _ _ (l .i) _ _ t _ _ _ _ _ _ _ _ _ _ (l .inv .6) (l .inv .5) (a .pre .1 .1 .1 .1) (w .0) (p .plan-at .ensures) g₁ g₂ (s .load-set .ensures .0);
+    }
 
 same-length : tie.Need-same-length Inv-loop μ-loop
 same-length c =
@@ -144,8 +135,8 @@ returns c =
     let p = plan-of s in
     let l = p .before .before .loop in
     let a = start (p .before .before) in (
-      pass-failed _ _ _ _ _ (l .i) _ _ (p .before .loop-test .taken) _ _ _ _ _ _ _ _ _ _ (l .inv .7) (l .inv .5) (a .pre .1 .1 .1 .1) (l .inv .1 .0) (p .plan-at .ensures)
-          (first (second s) .set-guards .ensures) (second s .set-guards2 .ensures) (s .load-set .ensures .0) _ _ (d .write-pass .result) (d .write-pass .ensures .0) _
+      pass-failed _ _ _ _ _ (l .i) _ _ (p .before .loop-test .taken) _ _ _ _ _ _ _ _ _ _ (l .inv .6) (l .inv .5) (a .pre .1 .1 .1 .1) (l .inv .1 .0) (p .plan-at .ensures)
+          (first (second s) .set-guards .ensures) (second s .set-guards2 .ensures) (s .load-set .ensures .0) _ _ (d .write-pass .result) (d .write-pass .ensures .answer) _
           (not-true _ (c .if1 .taken)),
       rw (s .load-set .ensures .1) (l .inv .4),
     )
@@ -177,19 +168,18 @@ loop-again c =
       l .inv .1,
       omega (arith, d .write-pass .kept, second s .set-guards2 .kept, first (second s) .set-guards .kept, l .inv .2),
       omega (arith, t .kept, s .load-set .kept, l .inv .3),
-      rw e (put-in-range _ _ _ (r .1) (l .inv .3) (d .write-pass .ensures .1) (l .inv .4)),
+      rw e (put-in-range _ _ _ (r .1) (l .inv .3) (d .write-pass .ensures .records) (l .inv .4)),
       omega (arith, d .write-pass .kept, l .inv .5),
-      l .inv .6,
       rw e
-          (pass-more _ _ _ _ _ (l .i) _ _ (p .before .loop-test .taken) _ _ _ _ _ _ _ _ _ _ (l .inv .7) (l .inv .5) (a .pre .1 .1 .1 .1) (l .inv .1 .0) (p .plan-at .ensures)
-          (first (second s) .set-guards .ensures) (second s .set-guards2 .ensures) (s .load-set .ensures .0) _ _ (d .write-pass .result) (d .write-pass .ensures .0)
+          (pass-more _ _ _ _ _ (l .i) _ _ (p .before .loop-test .taken) _ _ _ _ _ _ _ _ _ _ (l .inv .6) (l .inv .5) (a .pre .1 .1 .1 .1) (l .inv .1 .0) (p .plan-at .ensures)
+          (first (second s) .set-guards .ensures) (second s .set-guards2 .ensures) (s .load-set .ensures .0) _ _ (d .write-pass .result) (d .write-pass .ensures .answer)
           (not-false _ (c .before .before .before .before .before .if1 .left))),
     )
 
 returns-2 : tie.Need-returns-2 Inv-loop μ-loop
 returns-2 c =
     let l = c .before .loop in
-    (passes-done _ _ _ _ _ (l .i) _ _ _ _ _ _ _ (omega arith) (l .inv .7), l .inv .4)
+    (passes-done _ _ _ _ _ (l .i) _ _ _ _ _ _ _ (omega arith) (l .inv .6), l .inv .4)
 
 pub write-line-spec : {M : Type 1} → statement M
 write-line-spec =
@@ -197,7 +187,6 @@ write-line-spec =
     (tie.spec
     Inv-loop
     μ-loop
-    (λ c. search needs)
     (λ c. search needs)
     loop-holds
     (λ c. search needs)

@@ -32,7 +32,7 @@ returns : tie.Need-returns
 returns c =
     let e = c .before in
     let k = measured e in (
-      (measured-short _ _ _ _ _ _ k _ (e .before .bytes-for .ensures) _ (e .is-short .ensures) (c .if1 .taken), k .kept),
+      (measured-short _ _ _ _ _ _ k _ (e .before .block-length .ensures) _ (e .is-short .ensures) (c .if1 .taken), k .kept),
       walked (right e) .write-walk .ensures .1,
     )
 
@@ -45,7 +45,7 @@ write-walk-requires-2 c κs =
       a .0,
       (
         (a .1 .0, (omega (arith, w .write-walk .kept, a .1 .1 .0), omega (arith, w .write-walk .kept, a .1 .1 .1))),
-        measured-room _ _ _ _ _ _ (measured e) _ (e .before .bytes-for .ensures) _ (e .is-short .ensures) (x .if1 .left),
+        measured-room _ _ _ _ _ _ (measured e) _ (e .before .block-length .ensures) _ (e .is-short .ensures) (x .if1 .left),
       ),
     )
 
@@ -54,7 +54,7 @@ returns-3 c =
     let v = c .before .before .before .before .before in
     let x = v .before .before .before .before in
     let e = x .before in (
-      measured-stored _ _ _ _ _ _ (measured e) _ (e .before .bytes-for .ensures) _ (e .is-short .ensures) (x .if1 .left) _ _ (v .write-walk2 .ensures .0),
+      measured-stored _ _ _ _ _ _ (measured e) _ (e .before .block-length .ensures) _ (e .is-short .ensures) (x .if1 .left) _ _ (v .write-walk2 .ensures .0),
       v .write-walk2 .ensures .1,
     )
 

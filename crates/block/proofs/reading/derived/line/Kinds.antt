@@ -6,8 +6,8 @@ use Rattle.block.proofs.Form
 use Rattle.block.proofs.Form.Laws as Laws'
 use Rattle.block.proofs.Lined
 use Rattle.block.proofs.Lined.Laws as Laws''
-use Rattle.pass.proofs.Quantisers
-use Rattle.pass.proofs.Quantisers.Laws as Laws'3
+use Rattle.steps.proofs.Quantisers
+use Rattle.steps.proofs.Quantisers.Laws as Laws'3
 use borrow.Fn.Kinds
 use borrow.Kind.MutSlice
 use borrow.Kind.ShrSlice

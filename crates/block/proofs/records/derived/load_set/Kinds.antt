@@ -1,7 +1,7 @@
 -- Written by tools/lend.py from Rattle's derivation of the twin of `block`; not edited by hand. Assumes nothing.
 use Rattle.block.proofs.Element
-use Rattle.pass.proofs.Set
-use Rattle.pass.proofs.Set.Laws
+use Rattle.steps.proofs.Set
+use Rattle.steps.proofs.Set.Laws
 use borrow.Fn.Kinds
 use borrow.Kind.MutSlice
 use borrow.Kind.Value

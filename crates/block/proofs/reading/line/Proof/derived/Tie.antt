@@ -1,7 +1,7 @@
 -- Written by tools/lend.py from Rattle's derivation of the twin of `block`; not edited by hand. Assumes nothing.
-use Rattle.block.proofs.reading.is_past.Met
-use Rattle.block.proofs.reading.is_past.Reads
-use Rattle.block.proofs.reading.is_past.Symbol
+use Rattle.bits.proofs.is_past.Met
+use Rattle.bits.proofs.is_past.Reads
+use Rattle.bits.proofs.is_past.Symbol
 use Rattle.block.proofs.reading.line.Code
 use Rattle.block.proofs.reading.line.Key
 use Rattle.block.proofs.reading.derived.line.Kinds
@@ -23,9 +23,9 @@ use Rattle.map.proofs.width.Symbol as Symbol'4
 use Rattle.pass.proofs.pass.Met as Met'5
 use Rattle.pass.proofs.pass.Reads as Reads'6
 use Rattle.pass.proofs.pass.Symbol as Symbol'5
-use Rattle.pass.proofs.plan_at.Met as Met'6
-use Rattle.pass.proofs.plan_at.Reads as Reads'7
-use Rattle.pass.proofs.plan_at.Symbol as Symbol'6
+use Rattle.steps.proofs.plan_at.Met as Met'6
+use Rattle.steps.proofs.plan_at.Reads as Reads'7
+use Rattle.steps.proofs.plan_at.Symbol as Symbol'6
 use borrow.Fn.Run
 use borrow.Fn.Written
 use contract.Running
@@ -1069,8 +1069,8 @@ module _ {M : Type 1} where
       { M = M; 𝓤 = 𝓤; H = H; 𝓜 = 𝓜; 𝓖 = 𝓖; 𝓡 = 𝓡 } Code.env Key.name Code.function (Code.unfolded 𝓤 H 𝓜 𝓡) (λ κs a g. tt) (λ κs. Reads'.owns κs record { M = M; 𝓤 = 𝓤; H = H; 𝓜 = 𝓜; 𝓖 = 𝓖; 𝓡 = 𝓡 })
       (Reads'.passes record { M = M; 𝓤 = 𝓤; H = H; 𝓜 = 𝓜; 𝓖 = 𝓖; 𝓡 = 𝓡 }) λ g. closed 𝓤 H (𝓖 .A) (Running.givenOf 𝓤 H 𝓜 𝓖) (Run.Over 𝓤 H 𝓜 𝓖 𝓡 Code.env) (Reads'5.known record
       { M = M; 𝓤 = 𝓤; H = H; 𝓜 = 𝓜; 𝓖 = 𝓖; 𝓡 = 𝓡 } Code.env Symbol'4.name Symbol'4.routine Code.calls-map·width (Met'4.met 𝓤 H 𝓜 𝓖 𝓡)) (Reads'7.known record { M = M; 𝓤 = 𝓤; H = H; 𝓜 = 𝓜; 𝓖 = 𝓖; 𝓡 = 𝓡 }
-      Code.env Symbol'6.name Symbol'6.routine Code.calls-pass·plan-at (Met'6.met 𝓤 H 𝓜 𝓖 𝓡)) (Reads'4.known record { M = M; 𝓤 = 𝓤; H = H; 𝓜 = 𝓜; 𝓖 = 𝓖; 𝓡 = 𝓡 } Code.env Symbol'3.name Symbol'3.routine
+      Code.env Symbol'6.name Symbol'6.routine Code.calls-steps·plan-at (Met'6.met 𝓤 H 𝓜 𝓖 𝓡)) (Reads'4.known record { M = M; 𝓤 = 𝓤; H = H; 𝓜 = 𝓜; 𝓖 = 𝓖; 𝓡 = 𝓡 } Code.env Symbol'3.name Symbol'3.routine
       Code.calls-lines·set-guards (Met'3.met 𝓤 H 𝓜 𝓖 𝓡)) (Reads''.known record { M = M; 𝓤 = 𝓤; H = H; 𝓜 = 𝓜; 𝓖 = 𝓖; 𝓡 = 𝓡 } Code.env Symbol'.name Symbol'.routine Code.calls-block·records·load-set
       (Met'.met 𝓤 H 𝓜 𝓖 𝓡)) (Reads'6.known record { M = M; 𝓤 = 𝓤; H = H; 𝓜 = 𝓜; 𝓖 = 𝓖; 𝓡 = 𝓡 } Code.env Symbol'5.name Symbol'5.routine Code.calls-pass·pass (Met'5.met 𝓤 H 𝓜 𝓖 𝓡)) (Reads'3.known record
       { M = M; 𝓤 = 𝓤; H = H; 𝓜 = 𝓜; 𝓖 = 𝓖; 𝓡 = 𝓡 } Code.env Symbol''.name Symbol''.routine Code.calls-block·records·store-set (Met''.met 𝓤 H 𝓜 𝓖 𝓡)) (Reads.known record
-      { M = M; 𝓤 = 𝓤; H = H; 𝓜 = 𝓜; 𝓖 = 𝓖; 𝓡 = 𝓡 } Code.env Symbol.name Symbol.routine Code.calls-block·reading·is-past (Met.met 𝓤 H 𝓜 𝓖 𝓡))
+      { M = M; 𝓤 = 𝓤; H = H; 𝓜 = 𝓜; 𝓖 = 𝓖; 𝓡 = 𝓡 } Code.env Symbol.name Symbol.routine Code.calls-bits·is-past (Met.met 𝓤 H 𝓜 𝓖 𝓡))

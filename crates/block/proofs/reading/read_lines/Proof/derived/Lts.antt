@@ -11,8 +11,8 @@ use Rattle.block.proofs.Walked
 use Rattle.block.proofs.Walked.Laws as Laws'3
 use Rattle.map.proofs.Part
 use Rattle.map.proofs.Part.Laws as Laws'4
-use Rattle.pass.proofs.Quantisers
-use Rattle.pass.proofs.Quantisers.Laws as Laws'5
+use Rattle.steps.proofs.Quantisers
+use Rattle.steps.proofs.Quantisers.Laws as Laws'5
 use borrow.Author.Called
 use borrow.Author.Tests
 use borrow.Enum.Known
@@ -90,9 +90,9 @@ y0 = Syntax.tyStruct (List._∷_ 109 (List._∷_ 97 (List._∷_ 112 (List._∷_ 
     Syntax.tnil))))))
 
 abbrev pub y1 : Syntax.Ty
-y1 = Syntax.tyStruct (List._∷_ 112 (List._∷_ 97 (List._∷_ 115 (List._∷_ 115 (List._∷_ 58 (List._∷_ 58 (List._∷_ 81 (List._∷_ 117 (List._∷_ 97 (List._∷_ 110 (List._∷_ 116 (List._∷_ 105 (List._∷_ 115
-    (List._∷_ 101 (List._∷_ 114 (List._∷_ 115 List.[])))))))))))))))) (Syntax.tcons (Syntax.tyInt Syntax.w32) (Syntax.tcons (Syntax.tyArray (Syntax.tyInt Syntax.w32) 4) (Syntax.tcons (Syntax.tyArray
-    (Syntax.tyInt Syntax.w32) 4) (Syntax.tcons (Syntax.tyArray (Syntax.tyInt Syntax.w32) 4) Syntax.tnil))))
+y1 = Syntax.tyStruct (List._∷_ 115 (List._∷_ 116 (List._∷_ 101 (List._∷_ 112 (List._∷_ 115 (List._∷_ 58 (List._∷_ 58 (List._∷_ 81 (List._∷_ 117 (List._∷_ 97 (List._∷_ 110 (List._∷_ 116 (List._∷_ 105
+    (List._∷_ 115 (List._∷_ 101 (List._∷_ 114 (List._∷_ 115 List.[]))))))))))))))))) (Syntax.tcons (Syntax.tyInt Syntax.w32) (Syntax.tcons (Syntax.tyArray (Syntax.tyInt Syntax.w32) 4) (Syntax.tcons
+    (Syntax.tyArray (Syntax.tyInt Syntax.w32) 4) (Syntax.tcons (Syntax.tyArray (Syntax.tyInt Syntax.w32) 4) Syntax.tnil))))
 
 abbrev pub y2 : Syntax.Ty
 y2 = Syntax.tyStruct (List._∷_ 38 (List._∷_ 91 (List._∷_ 93 List.[]))) (Syntax.tcons (Syntax.tyRef Syntax.erased Syntax.imm (Syntax.tyInt Syntax.w16)) (Syntax.tcons (Syntax.tyInt Syntax.w64)

@@ -152,9 +152,9 @@ r = Value.rVal record {
 
 abbrev pub xs : List.List Syntax.Ty
 xs = List._∷_ (Syntax.tyArray (Syntax.tyInt Syntax.w16) 768) (List._∷_ (Syntax.tyArray (Syntax.tyInt Syntax.w16) 9252) (List._∷_ (Syntax.tyArray (Element.held) 336) (List._∷_ (Syntax.tyInt Syntax.w64)
-    (List._∷_ (Syntax.tyArray (Syntax.tyInt Syntax.w16) 768) (List._∷_ (Element.held) (List._∷_ (Syntax.tyInt Syntax.w64) (List._∷_ (Syntax.tyInt Syntax.w64) (List._∷_ Syntax.tyPtr (List._∷_ Syntax.tyPtr
-    (List._∷_ (Syntax.tyRef Syntax.erased Syntax.mut (Syntax.tyInt Syntax.w16)) (List._∷_ y1 (List._∷_ (Syntax.tyRef Syntax.erased Syntax.mut (Syntax.tyArray Element.behind 336)) (List._∷_ y2 (List._∷_
-    (Syntax.tyRef Syntax.erased Syntax.mut (Syntax.tyInt Syntax.w16)) (List._∷_ y1 (List._∷_ (Syntax.tyRef Syntax.erased Syntax.imm (Syntax.tyArray (Syntax.tyInt Syntax.w16) 768)) List.[]))))))))))))))))
+    (List._∷_ (Syntax.tyArray (Syntax.tyInt Syntax.w16) 768) (List._∷_ (Element.held) (List._∷_ Syntax.tyPtr (List._∷_ Syntax.tyPtr (List._∷_ (Syntax.tyInt Syntax.w64) (List._∷_ (Syntax.tyRef
+    Syntax.erased Syntax.mut (Syntax.tyInt Syntax.w16)) (List._∷_ y1 (List._∷_ (Syntax.tyRef Syntax.erased Syntax.mut (Syntax.tyArray Element.behind 336)) (List._∷_ y2 (List._∷_ (Syntax.tyRef
+    Syntax.erased Syntax.mut (Syntax.tyInt Syntax.w16)) (List._∷_ y1 (List._∷_ (Syntax.tyRef Syntax.erased Syntax.imm (Syntax.tyArray (Syntax.tyInt Syntax.w16) 768)) List.[])))))))))))))))
 
 abbrev pub m : Nat.ℕ
 m = 4
@@ -240,7 +240,7 @@ abbrev pub hs : List.List Syntax.Home
 hs = List._∷_ Syntax.valueLocal (List._∷_ Syntax.valueLocal (List._∷_ Syntax.valueLocal (List._∷_ Syntax.valueLocal (List._∷_ Syntax.valueLocal (List._∷_ Syntax.valueLocal (List._∷_ Syntax.valueLocal
     (List._∷_ Syntax.valueLocal (List._∷_ Syntax.memorySlot (List._∷_ Syntax.memorySlot (List._∷_ Syntax.memorySlot (List._∷_ Syntax.valueLocal (List._∷_ Syntax.valueLocal (List._∷_ Syntax.valueLocal
     (List._∷_ Syntax.valueLocal (List._∷_ Syntax.valueLocal (List._∷_ Syntax.valueLocal (List._∷_ Syntax.valueLocal (List._∷_ Syntax.valueLocal (List._∷_ Syntax.valueLocal (List._∷_ Syntax.valueLocal
-    (List._∷_ Syntax.valueLocal (List._∷_ Syntax.valueLocal (List._∷_ Syntax.valueLocal (List._∷_ Syntax.valueLocal List.[]))))))))))))))))))))))))
+    (List._∷_ Syntax.valueLocal (List._∷_ Syntax.valueLocal (List._∷_ Syntax.valueLocal List.[])))))))))))))))))))))))
 
 abbrev b0 : Syntax.Body
 b0 = Syntax.call "map::xtrans_places" List.[] (Syntax.place 12 List.[])
@@ -258,112 +258,100 @@ abbrev b4 : Syntax.Body
 b4 = Syntax.assign (Syntax.place 10 List.[]) (Syntax.repeat (Syntax.copy (Syntax.place 13 List.[])) 336)
 
 abbrev b5 : Syntax.Body
-b5 = Syntax.call "map::width" (List._∷_ (Syntax.copy (Syntax.place 4 (List._∷_ (Syntax.field 1) List.[]))) List.[]) (Syntax.place 14 List.[])
+b5 = Syntax.call "begin::samples_needed" (List._∷_ (Syntax.copy (Syntax.place 4 (List._∷_ (Syntax.field 1) List.[]))) List.[]) (Syntax.place 11 List.[])
 
 abbrev b6 : Syntax.Body
-b6 = Syntax.assign (Syntax.place 15 List.[]) (Syntax.op2 (Syntax.add Syntax.unsigned) (Syntax.copy (Syntax.place 14 List.[])) (Syntax.int Syntax.w64 2))
+b6 = Syntax.assign (Syntax.place 14 List.[]) (Syntax.addrOf (Syntax.place 9 List.[]))
 
 abbrev b7 : Syntax.Body
-b7 = Syntax.assign (Syntax.place 11 List.[]) (Syntax.op2 (Syntax.mul Syntax.unsigned) (Syntax.int Syntax.w64 18) (Syntax.copy (Syntax.place 15 List.[])))
+b7 = Syntax.assign (Syntax.place 15 List.[]) (Syntax.op2 Syntax.offset (Syntax.copy (Syntax.place 14 List.[])) (Syntax.int Syntax.w64 0))
 
 abbrev b8 : Syntax.Body
-b8 = Syntax.assign (Syntax.place 16 List.[]) (Syntax.addrOf (Syntax.place 9 List.[]))
+b8 = Syntax.assign (Syntax.place 16 List.[]) (Syntax.op2 (Syntax.sub Syntax.unsigned) (Syntax.copy (Syntax.place 11 List.[])) (Syntax.int Syntax.w64 0))
 
 abbrev b9 : Syntax.Body
-b9 = Syntax.assign (Syntax.place 17 List.[]) (Syntax.op2 Syntax.offset (Syntax.copy (Syntax.place 16 List.[])) (Syntax.int Syntax.w64 0))
+b9 = Syntax.assign (Syntax.place 17 List.[]) (Syntax.addrOf (Syntax.place 15 (List._∷_ (Syntax.deref (Syntax.tyInt Syntax.w16)) List.[])))
 
 abbrev b10 : Syntax.Body
-b10 = Syntax.assign (Syntax.place 14 List.[]) (Syntax.op2 (Syntax.sub Syntax.unsigned) (Syntax.copy (Syntax.place 11 List.[])) (Syntax.int Syntax.w64 0))
+b10 = Syntax.assign (Syntax.place 18 List.[]) (Syntax.aggregate (List._∷_ (Syntax.copy (Syntax.place 17 List.[])) (List._∷_ (Syntax.copy (Syntax.place 16 List.[])) List.[])))
 
 abbrev b11 : Syntax.Body
-b11 = Syntax.assign (Syntax.place 18 List.[]) (Syntax.addrOf (Syntax.place 17 (List._∷_ (Syntax.deref (Syntax.tyInt Syntax.w16)) List.[])))
+b11 = Syntax.assign (Syntax.place 19 List.[]) (Syntax.addrOf (Syntax.place 10 List.[]))
 
 abbrev b12 : Syntax.Body
-b12 = Syntax.assign (Syntax.place 19 List.[]) (Syntax.aggregate (List._∷_ (Syntax.copy (Syntax.place 18 List.[])) (List._∷_ (Syntax.copy (Syntax.place 14 List.[])) List.[])))
+b12 = Syntax.assign (Syntax.place 20 List.[]) (Syntax.aggregate (List._∷_ (Syntax.copy (Syntax.place 19 List.[])) (List._∷_ (Syntax.int Syntax.w64 336) List.[])))
 
 abbrev b13 : Syntax.Body
-b13 = Syntax.assign (Syntax.place 20 List.[]) (Syntax.addrOf (Syntax.place 10 List.[]))
+b13 = Syntax.assign (Syntax.place 21 List.[]) (Syntax.addrOf (Syntax.place 3 (List._∷_ (Syntax.field 0) (List._∷_ (Syntax.deref (Syntax.tyInt Syntax.w16)) List.[]))))
 
 abbrev b14 : Syntax.Body
-b14 = Syntax.assign (Syntax.place 21 List.[]) (Syntax.aggregate (List._∷_ (Syntax.copy (Syntax.place 20 List.[])) (List._∷_ (Syntax.int Syntax.w64 336) List.[])))
-
-abbrev b15 : Syntax.Body
-b15 = Syntax.assign (Syntax.place 22 List.[]) (Syntax.addrOf (Syntax.place 3 (List._∷_ (Syntax.field 0) (List._∷_ (Syntax.deref (Syntax.tyInt Syntax.w16)) List.[]))))
-
-abbrev b16 : Syntax.Body
-b16 = Syntax.assign (Syntax.place 23 List.[]) (Syntax.aggregate (List._∷_ (Syntax.copy (Syntax.place 22 List.[])) (List._∷_ (Syntax.copy (Syntax.place 3 (List._∷_ (Syntax.field 1) List.[])))
+b14 = Syntax.assign (Syntax.place 22 List.[]) (Syntax.aggregate (List._∷_ (Syntax.copy (Syntax.place 21 List.[])) (List._∷_ (Syntax.copy (Syntax.place 3 (List._∷_ (Syntax.field 1) List.[])))
     List.[])))
 
-abbrev b17 : Syntax.Body
-b17 = Syntax.assign (Syntax.place 24 List.[]) (Syntax.addrOf (Syntax.place 8 List.[]))
+abbrev b15 : Syntax.Body
+b15 = Syntax.assign (Syntax.place 23 List.[]) (Syntax.addrOf (Syntax.place 8 List.[]))
 
-abbrev b18 : Syntax.Body
-b18 = Syntax.call "block::reading::walk" (List._∷_ (Syntax.copy (Syntax.place 1 List.[])) (List._∷_ (Syntax.copy (Syntax.place 2 List.[])) (List._∷_ (Syntax.copy (Syntax.place 19 List.[])) (List._∷_
-    (Syntax.copy (Syntax.place 21 List.[])) (List._∷_ (Syntax.copy (Syntax.place 23 List.[])) (List._∷_ (Syntax.copy (Syntax.place 4 List.[])) (List._∷_ (Syntax.copy (Syntax.place 24 List.[])) (List._∷_
+abbrev b16 : Syntax.Body
+b16 = Syntax.call "block::reading::walk" (List._∷_ (Syntax.copy (Syntax.place 1 List.[])) (List._∷_ (Syntax.copy (Syntax.place 2 List.[])) (List._∷_ (Syntax.copy (Syntax.place 18 List.[])) (List._∷_
+    (Syntax.copy (Syntax.place 20 List.[])) (List._∷_ (Syntax.copy (Syntax.place 22 List.[])) (List._∷_ (Syntax.copy (Syntax.place 4 List.[])) (List._∷_ (Syntax.copy (Syntax.place 23 List.[])) (List._∷_
     (Syntax.copy (Syntax.place 5 List.[])) (List._∷_ (Syntax.copy (Syntax.place 6 List.[])) (List._∷_ (Syntax.copy (Syntax.place 7 List.[])) List.[])))))))))) (Syntax.place 0 List.[])
 
+abbrev b17 : Syntax.Body
+b17 = Syntax.return
+
+abbrev b18 : Syntax.Body
+b18 = Syntax.seq b16 b17
+
 abbrev b19 : Syntax.Body
-b19 = Syntax.return
+b19 = Syntax.seq b15 b18
 
 abbrev b20 : Syntax.Body
-b20 = Syntax.seq b18 b19
+b20 = Syntax.seq b14 b19
 
 abbrev b21 : Syntax.Body
-b21 = Syntax.seq b17 b20
+b21 = Syntax.seq b13 b20
 
 abbrev b22 : Syntax.Body
-b22 = Syntax.seq b16 b21
+b22 = Syntax.seq b12 b21
 
 abbrev b23 : Syntax.Body
-b23 = Syntax.seq b15 b22
+b23 = Syntax.seq b11 b22
 
 abbrev b24 : Syntax.Body
-b24 = Syntax.seq b14 b23
+b24 = Syntax.seq b10 b23
 
 abbrev b25 : Syntax.Body
-b25 = Syntax.seq b13 b24
+b25 = Syntax.seq b9 b24
 
 abbrev b26 : Syntax.Body
-b26 = Syntax.seq b12 b25
+b26 = Syntax.seq b8 b25
 
 abbrev b27 : Syntax.Body
-b27 = Syntax.seq b11 b26
+b27 = Syntax.seq b7 b26
 
 abbrev b28 : Syntax.Body
-b28 = Syntax.seq b10 b27
+b28 = Syntax.seq b6 b27
 
 abbrev b29 : Syntax.Body
-b29 = Syntax.seq b9 b28
+b29 = Syntax.seq b5 b28
 
 abbrev b30 : Syntax.Body
-b30 = Syntax.seq b8 b29
+b30 = Syntax.seq b4 b29
 
 abbrev b31 : Syntax.Body
-b31 = Syntax.seq b7 b30
+b31 = Syntax.seq b3 b30
 
 abbrev b32 : Syntax.Body
-b32 = Syntax.seq b6 b31
+b32 = Syntax.seq b2 b31
 
 abbrev b33 : Syntax.Body
-b33 = Syntax.seq b5 b32
+b33 = Syntax.seq b1 b32
 
 abbrev b34 : Syntax.Body
-b34 = Syntax.seq b4 b33
-
-abbrev b35 : Syntax.Body
-b35 = Syntax.seq b3 b34
-
-abbrev b36 : Syntax.Body
-b36 = Syntax.seq b2 b35
-
-abbrev b37 : Syntax.Body
-b37 = Syntax.seq b1 b36
-
-abbrev b38 : Syntax.Body
-b38 = Syntax.seq b0 b37
+b34 = Syntax.seq b0 b33
 
 abbrev pub body : Syntax.Body
-body = b38
+body = b34
 
 abbrev pub Claims : Type 1
 Claims = Kinds.In 0 ps·0 × Kinds.Out 0 ps·0 r·0 × Kinds.In 0 ps·1 × Kinds.Out 0 ps·1 r·1 × Kinds.In 0 ps·2 × Kinds.Out 0 ps·2 r·2 × Kinds.In 6 ps·3 × Kinds.Out 6 ps·3 r·3
@@ -410,306 +398,284 @@ abbrev pub e11 : Row.Entry
 e11 = (13, Rows'.any-gone (Element.held))
 
 abbrev pub e12 : Row.Entry
-e12 = (14, Rows'.any-gone (Syntax.tyInt Syntax.w64))
+e12 = (14, Rows'.any-gone Syntax.tyPtr)
 
 abbrev pub e13 : Row.Entry
-e13 = (14, Rows'.sc-here (Row.sInt Syntax.w64))
+e13 = (14, Rows'.sc-here Row.sPtr)
 
 abbrev pub e14 : Row.Entry
-e14 = (15, Rows'.any-gone (Syntax.tyInt Syntax.w64))
+e14 = (15, Rows'.any-gone Syntax.tyPtr)
 
 abbrev pub e15 : Row.Entry
-e15 = (15, Rows'.sc-here (Row.sInt Syntax.w64))
+e15 = (15, Rows'.sc-here Row.sPtr)
 
 abbrev pub e16 : Row.Entry
-e16 = (16, Rows'.any-gone Syntax.tyPtr)
+e16 = (16, Rows'.any-gone (Syntax.tyInt Syntax.w64))
 
 abbrev pub e17 : Row.Entry
-e17 = (16, Rows'.sc-here Row.sPtr)
+e17 = (16, Rows'.sc-here (Row.sInt Syntax.w64))
 
 abbrev pub e18 : Row.Entry
-e18 = (17, Rows'.any-gone Syntax.tyPtr)
+e18 = (17, Rows'.any-gone (Syntax.tyRef Syntax.erased Syntax.mut (Syntax.tyInt Syntax.w16)))
 
 abbrev pub e19 : Row.Entry
-e19 = (17, Rows'.sc-here Row.sPtr)
+e19 = (18, Mut.msleft (Referent.rtF (Referent.fInt Syntax.w16)) (Syntax.tyRef Syntax.erased Syntax.mut (Syntax.tyInt Syntax.w16)))
 
 abbrev pub e20 : Row.Entry
-e20 = (18, Relend.msptr (Referent.rtF (Referent.fInt Syntax.w16)) (Syntax.tyRef Syntax.erased Syntax.mut (Syntax.tyInt Syntax.w16)) 3)
+e20 = (18, Mut.mslice (Referent.rtF (Referent.fInt Syntax.w16)) (Syntax.tyRef Syntax.erased Syntax.mut (Syntax.tyInt Syntax.w16)) 3)
 
 abbrev pub e21 : Row.Entry
-e21 = (18, Rows'.any-gone (Syntax.tyRef Syntax.erased Syntax.mut (Syntax.tyInt Syntax.w16)))
+e21 = (18, Rows'.any-gone y1)
 
 abbrev pub e22 : Row.Entry
-e22 = (19, Mut.msleft (Referent.rtF (Referent.fInt Syntax.w16)) (Syntax.tyRef Syntax.erased Syntax.mut (Syntax.tyInt Syntax.w16)))
+e22 = (19, Rows'.any-gone (Syntax.tyRef Syntax.erased Syntax.mut (Syntax.tyArray Element.behind 336)))
 
 abbrev pub e23 : Row.Entry
-e23 = (19, Mut.mslice (Referent.rtF (Referent.fInt Syntax.w16)) (Syntax.tyRef Syntax.erased Syntax.mut (Syntax.tyInt Syntax.w16)) 3)
+e23 = (2, Rows'.sslice (Referent.rtF (Referent.fInt Syntax.w8)) (Syntax.tyRef (Syntax.named 1) Syntax.imm (Syntax.tyInt Syntax.w8)) 1)
 
 abbrev pub e24 : Row.Entry
-e24 = (19, Rows'.any-gone y1)
+e24 = (20, Mut.msleft (Element.type) (Syntax.tyRef Syntax.erased Syntax.mut Element.behind))
 
 abbrev pub e25 : Row.Entry
-e25 = (2, Rows'.sslice (Referent.rtF (Referent.fInt Syntax.w8)) (Syntax.tyRef (Syntax.named 1) Syntax.imm (Syntax.tyInt Syntax.w8)) 1)
+e25 = (20, Mut.mslice (Element.type) (Syntax.tyRef Syntax.erased Syntax.mut Element.behind) 4)
 
 abbrev pub e26 : Row.Entry
-e26 = (20, Rows'.any-gone (Syntax.tyRef Syntax.erased Syntax.mut (Syntax.tyArray Element.behind 336)))
+e26 = (20, Rows'.any-gone y2)
 
 abbrev pub e27 : Row.Entry
-e27 = (21, Mut.msleft (Element.type) (Syntax.tyRef Syntax.erased Syntax.mut Element.behind))
+e27 = (21, Rows'.any-gone (Syntax.tyRef Syntax.erased Syntax.mut (Syntax.tyInt Syntax.w16)))
 
 abbrev pub e28 : Row.Entry
-e28 = (21, Mut.mslice (Element.type) (Syntax.tyRef Syntax.erased Syntax.mut Element.behind) 4)
+e28 = (22, Mut.msleft (Referent.rtF (Referent.fInt Syntax.w16)) (Syntax.tyRef Syntax.erased Syntax.mut (Syntax.tyInt Syntax.w16)))
 
 abbrev pub e29 : Row.Entry
-e29 = (21, Rows'.any-gone y2)
+e29 = (22, Mut.mslice (Referent.rtF (Referent.fInt Syntax.w16)) (Syntax.tyRef Syntax.erased Syntax.mut (Syntax.tyInt Syntax.w16)) 5)
 
 abbrev pub e30 : Row.Entry
-e30 = (22, Rows'.any-gone (Syntax.tyRef Syntax.erased Syntax.mut (Syntax.tyInt Syntax.w16)))
+e30 = (22, Rows'.any-gone y1)
 
 abbrev pub e31 : Row.Entry
-e31 = (23, Mut.msleft (Referent.rtF (Referent.fInt Syntax.w16)) (Syntax.tyRef Syntax.erased Syntax.mut (Syntax.tyInt Syntax.w16)))
+e31 = (23, Rows'.any-gone (Syntax.tyRef Syntax.erased Syntax.imm (Syntax.tyArray (Syntax.tyInt Syntax.w16) 768)))
 
 abbrev pub e32 : Row.Entry
-e32 = (23, Mut.mslice (Referent.rtF (Referent.fInt Syntax.w16)) (Syntax.tyRef Syntax.erased Syntax.mut (Syntax.tyInt Syntax.w16)) 5)
+e32 = (23, Rows'.sref (Array'.Array (Referent.rtF (Referent.fInt Syntax.w16)) 768) (Syntax.tyRef Syntax.erased Syntax.imm (Syntax.tyArray (Syntax.tyInt Syntax.w16) 768)) 6)
 
 abbrev pub e33 : Row.Entry
-e33 = (23, Rows'.any-gone y1)
+e33 = (3, Mut.mslice (Referent.rtF (Referent.fInt Syntax.w16)) (Syntax.tyRef (Syntax.named 2) Syntax.mut (Syntax.tyInt Syntax.w16)) 2)
 
 abbrev pub e34 : Row.Entry
-e34 = (24, Rows'.any-gone (Syntax.tyRef Syntax.erased Syntax.imm (Syntax.tyArray (Syntax.tyInt Syntax.w16) 768)))
+e34 = (3, Relend.mslice-owed (Referent.rtF (Referent.fInt Syntax.w16)) (Syntax.tyRef (Syntax.named 2) Syntax.mut (Syntax.tyInt Syntax.w16)) 2 5 Row.off)
 
 abbrev pub e35 : Row.Entry
-e35 = (24, Rows'.sref (Array'.Array (Referent.rtF (Referent.fInt Syntax.w16)) 768) (Syntax.tyRef Syntax.erased Syntax.imm (Syntax.tyArray (Syntax.tyInt Syntax.w16) 768)) 6)
+e35 = (4, Rows'.any-gone y4)
 
 abbrev pub e36 : Row.Entry
-e36 = (3, Mut.mslice (Referent.rtF (Referent.fInt Syntax.w16)) (Syntax.tyRef (Syntax.named 2) Syntax.mut (Syntax.tyInt Syntax.w16)) 2)
+e36 = (4, Rows'.whole (Declared'.row Form.the-type))
 
 abbrev pub e37 : Row.Entry
-e37 = (3, Relend.mslice-owed (Referent.rtF (Referent.fInt Syntax.w16)) (Syntax.tyRef (Syntax.named 2) Syntax.mut (Syntax.tyInt Syntax.w16)) 2 5 Row.off)
+e37 = (5, Rows'.any-gone (Syntax.tyArray (Syntax.tyInt Syntax.w8) 36))
 
 abbrev pub e38 : Row.Entry
-e38 = (4, Rows'.any-gone y4)
+e38 = (5, Rows.arrF (Referent.rtF (Referent.fInt Syntax.w8)) 36 0)
 
 abbrev pub e39 : Row.Entry
-e39 = (4, Rows'.whole (Declared'.row Form.the-type))
+e39 = (6, Rows'.any-gone y0)
 
 abbrev pub e40 : Row.Entry
-e40 = (5, Rows'.any-gone (Syntax.tyArray (Syntax.tyInt Syntax.w8) 36))
+e40 = (6, Rows'.whole (Declared'.row Part.the-type))
 
 abbrev pub e41 : Row.Entry
-e41 = (5, Rows.arrF (Referent.rtF (Referent.fInt Syntax.w8)) 36 0)
+e41 = (7, Rows'.sc-here (Row.sInt Syntax.w64))
 
 abbrev pub e42 : Row.Entry
-e42 = (6, Rows'.any-gone y0)
+e42 = (8, Rows'.any-gone (Syntax.tyArray (Syntax.tyInt Syntax.w16) 768))
 
 abbrev pub e43 : Row.Entry
-e43 = (6, Rows'.whole (Declared'.row Part.the-type))
+e43 = (8, Rows'.sc-shr (Rows.arrF (Referent.rtF (Referent.fInt Syntax.w16)) 768 0) (Array'.Array (Referent.rtF (Referent.fInt Syntax.w16)) 768) (λ x. x) 6)
 
 abbrev pub e44 : Row.Entry
-e44 = (7, Rows'.sc-here (Row.sInt Syntax.w64))
+e44 = (8, Rows.arrF (Referent.rtF (Referent.fInt Syntax.w16)) 768 0)
 
 abbrev pub e45 : Row.Entry
-e45 = (8, Rows'.any-gone (Syntax.tyArray (Syntax.tyInt Syntax.w16) 768))
+e45 = (9, Rows'.any-gone (Syntax.tyArray (Syntax.tyInt Syntax.w16) 9252))
 
 abbrev pub e46 : Row.Entry
-e46 = (8, Rows'.sc-shr (Rows.arrF (Referent.rtF (Referent.fInt Syntax.w16)) 768 0) (Array'.Array (Referent.rtF (Referent.fInt Syntax.w16)) 768) (λ x. x) 6)
+e46 = (9, Rows.arr-owedM (Referent.rtF (Referent.fInt Syntax.w16)) 9252 3)
 
 abbrev pub e47 : Row.Entry
-e47 = (8, Rows.arrF (Referent.rtF (Referent.fInt Syntax.w16)) 768 0)
-
-abbrev pub e48 : Row.Entry
-e48 = (9, Rows'.any-gone (Syntax.tyArray (Syntax.tyInt Syntax.w16) 9252))
-
-abbrev pub e49 : Row.Entry
-e49 = (9, Rows.arr-owedM (Referent.rtF (Referent.fInt Syntax.w16)) 9252 3)
-
-abbrev pub e50 : Row.Entry
-e50 = (9, Rows.arrF (Referent.rtF (Referent.fInt Syntax.w16)) 9252 0)
+e47 = (9, Rows.arrF (Referent.rtF (Referent.fInt Syntax.w16)) 9252 0)
 
 abbrev pub t0 : List.List Row.Entry
-t0 = List._∷_ e0 (List._∷_ e2 (List._∷_ e25 (List._∷_ e36 (List._∷_ e39 (List._∷_ e41 (List._∷_ e43 (List._∷_ e44 (List._∷_ e45 (List._∷_ e48 (List._∷_ e3 (List._∷_ e6 (List._∷_ e8 (List._∷_ e11
+t0 = List._∷_ e0 (List._∷_ e2 (List._∷_ e23 (List._∷_ e33 (List._∷_ e36 (List._∷_ e38 (List._∷_ e40 (List._∷_ e41 (List._∷_ e42 (List._∷_ e45 (List._∷_ e3 (List._∷_ e6 (List._∷_ e8 (List._∷_ e11
     (List._∷_ e12 (List._∷_ e14 List.[])))))))))))))))
 
 abbrev pub t1 : List.List Row.Entry
-t1 = List._∷_ e16 (List._∷_ e18 (List._∷_ e21 (List._∷_ e24 (List._∷_ e26 (List._∷_ e29 (List._∷_ e30 (List._∷_ e33 (List._∷_ e34 List.[]))))))))
+t1 = List._∷_ e16 (List._∷_ e18 (List._∷_ e21 (List._∷_ e22 (List._∷_ e26 (List._∷_ e27 (List._∷_ e30 (List._∷_ e31 List.[])))))))
 
 abbrev pub t2 : List.List Row.Entry
-t2 = List._∷_ e1 (List._∷_ e2 (List._∷_ e25 (List._∷_ e36 (List._∷_ e38 (List._∷_ e40 (List._∷_ e42 (List._∷_ (7, Rows'.any-gone (Syntax.tyInt Syntax.w64)) (List._∷_ e45 (List._∷_ e48 (List._∷_ e3
+t2 = List._∷_ e1 (List._∷_ e2 (List._∷_ e23 (List._∷_ e33 (List._∷_ e35 (List._∷_ e37 (List._∷_ e39 (List._∷_ (7, Rows'.any-gone (Syntax.tyInt Syntax.w64)) (List._∷_ e42 (List._∷_ e45 (List._∷_ e3
     (List._∷_ e6 (List._∷_ e8 (List._∷_ e11 (List._∷_ e12 (List._∷_ e14 List.[])))))))))))))))
 
 abbrev pub t3 : List.List Row.Entry
-t3 = List._∷_ e0 (List._∷_ e2 (List._∷_ e25 (List._∷_ e36 (List._∷_ e39 (List._∷_ e41 (List._∷_ e43 (List._∷_ e44 (List._∷_ e45 (List._∷_ e48 (List._∷_ e3 (List._∷_ e6 (List._∷_ e9 (List._∷_ e11
+t3 = List._∷_ e0 (List._∷_ e2 (List._∷_ e23 (List._∷_ e33 (List._∷_ e36 (List._∷_ e38 (List._∷_ e40 (List._∷_ e41 (List._∷_ e42 (List._∷_ e45 (List._∷_ e3 (List._∷_ e6 (List._∷_ e9 (List._∷_ e11
     (List._∷_ e12 (List._∷_ e14 List.[])))))))))))))))
 
 abbrev pub t4 : List.List Row.Entry
-t4 = List._∷_ e0 (List._∷_ e2 (List._∷_ e25 (List._∷_ e36 (List._∷_ e39 (List._∷_ e41 (List._∷_ e43 (List._∷_ e44 (List._∷_ e47 (List._∷_ e48 (List._∷_ e3 (List._∷_ e6 (List._∷_ e9 (List._∷_ e11
+t4 = List._∷_ e0 (List._∷_ e2 (List._∷_ e23 (List._∷_ e33 (List._∷_ e36 (List._∷_ e38 (List._∷_ e40 (List._∷_ e41 (List._∷_ e44 (List._∷_ e45 (List._∷_ e3 (List._∷_ e6 (List._∷_ e9 (List._∷_ e11
     (List._∷_ e12 (List._∷_ e14 List.[])))))))))))))))
 
 abbrev pub t5 : List.List Row.Entry
-t5 = List._∷_ e0 (List._∷_ e2 (List._∷_ e25 (List._∷_ e36 (List._∷_ e39 (List._∷_ e41 (List._∷_ e43 (List._∷_ e44 (List._∷_ e47 (List._∷_ e48 (List._∷_ e3 (List._∷_ e6 (List._∷_ e8 (List._∷_ e11
+t5 = List._∷_ e0 (List._∷_ e2 (List._∷_ e23 (List._∷_ e33 (List._∷_ e36 (List._∷_ e38 (List._∷_ e40 (List._∷_ e41 (List._∷_ e44 (List._∷_ e45 (List._∷_ e3 (List._∷_ e6 (List._∷_ e8 (List._∷_ e11
     (List._∷_ e12 (List._∷_ e14 List.[])))))))))))))))
 
 abbrev pub t6 : List.List Row.Entry
-t6 = List._∷_ e0 (List._∷_ e2 (List._∷_ e25 (List._∷_ e36 (List._∷_ e39 (List._∷_ e41 (List._∷_ e43 (List._∷_ e44 (List._∷_ e47 (List._∷_
+t6 = List._∷_ e0 (List._∷_ e2 (List._∷_ e23 (List._∷_ e33 (List._∷_ e36 (List._∷_ e38 (List._∷_ e40 (List._∷_ e41 (List._∷_ e44 (List._∷_
     (9, Rows'.whole (Array'.Array (Referent.rtF (Referent.fInt Syntax.w16)) 9252)) (List._∷_ e3 (List._∷_ e6 (List._∷_ e8 (List._∷_ e11 (List._∷_ e12 (List._∷_ e14 List.[])))))))))))))))
 
 abbrev pub t7 : List.List Row.Entry
-t7 = List._∷_ e0 (List._∷_ e2 (List._∷_ e25 (List._∷_ e36 (List._∷_ e39 (List._∷_ e41 (List._∷_ e43 (List._∷_ e44 (List._∷_ e47 (List._∷_ e50 (List._∷_ e3 (List._∷_ e6 (List._∷_ e8 (List._∷_ e11
+t7 = List._∷_ e0 (List._∷_ e2 (List._∷_ e23 (List._∷_ e33 (List._∷_ e36 (List._∷_ e38 (List._∷_ e40 (List._∷_ e41 (List._∷_ e44 (List._∷_ e47 (List._∷_ e3 (List._∷_ e6 (List._∷_ e8 (List._∷_ e11
     (List._∷_ e12 (List._∷_ e14 List.[])))))))))))))))
 
 abbrev pub t8 : List.List Row.Entry
-t8 = List._∷_ e0 (List._∷_ e2 (List._∷_ e25 (List._∷_ e36 (List._∷_ e39 (List._∷_ e41 (List._∷_ e43 (List._∷_ e44 (List._∷_ e47 (List._∷_ e50 (List._∷_ e3 (List._∷_ e6 (List._∷_ e8 (List._∷_ e10
+t8 = List._∷_ e0 (List._∷_ e2 (List._∷_ e23 (List._∷_ e33 (List._∷_ e36 (List._∷_ e38 (List._∷_ e40 (List._∷_ e41 (List._∷_ e44 (List._∷_ e47 (List._∷_ e3 (List._∷_ e6 (List._∷_ e8 (List._∷_ e10
     (List._∷_ e12 (List._∷_ e14 List.[])))))))))))))))
 
 abbrev pub t9 : List.List Row.Entry
-t9 = List._∷_ e0 (List._∷_ e2 (List._∷_ e25 (List._∷_ e36 (List._∷_ e39 (List._∷_ e41 (List._∷_ e43 (List._∷_ e44 (List._∷_ e47 (List._∷_ e50 (List._∷_
+t9 = List._∷_ e0 (List._∷_ e2 (List._∷_ e23 (List._∷_ e33 (List._∷_ e36 (List._∷_ e38 (List._∷_ e40 (List._∷_ e41 (List._∷_ e44 (List._∷_ e47 (List._∷_
     (10, Rows'.whole (Array'.Array (Element.type) 336)) (List._∷_ e6 (List._∷_ e8 (List._∷_ e10 (List._∷_ e12 (List._∷_ e14 List.[])))))))))))))))
 
 abbrev pub t10 : List.List Row.Entry
-t10 = List._∷_ e0 (List._∷_ e2 (List._∷_ e25 (List._∷_ e36 (List._∷_ e39 (List._∷_ e41 (List._∷_ e43 (List._∷_ e44 (List._∷_ e47 (List._∷_ e50 (List._∷_ e5 (List._∷_ e6 (List._∷_ e8 (List._∷_ e10
+t10 = List._∷_ e0 (List._∷_ e2 (List._∷_ e23 (List._∷_ e33 (List._∷_ e36 (List._∷_ e38 (List._∷_ e40 (List._∷_ e41 (List._∷_ e44 (List._∷_ e47 (List._∷_ e5 (List._∷_ e6 (List._∷_ e8 (List._∷_ e10
     (List._∷_ e12 (List._∷_ e14 List.[])))))))))))))))
 
 abbrev pub t11 : List.List Row.Entry
-t11 = List._∷_ e0 (List._∷_ e2 (List._∷_ e25 (List._∷_ e36 (List._∷_ e39 (List._∷_ e41 (List._∷_ e43 (List._∷_ e44 (List._∷_ e47 (List._∷_ e50 (List._∷_ e5 (List._∷_ e6 (List._∷_ e8 (List._∷_ e11
+t11 = List._∷_ e0 (List._∷_ e2 (List._∷_ e23 (List._∷_ e33 (List._∷_ e36 (List._∷_ e38 (List._∷_ e40 (List._∷_ e41 (List._∷_ e44 (List._∷_ e47 (List._∷_ e5 (List._∷_ e6 (List._∷_ e8 (List._∷_ e11
     (List._∷_ e12 (List._∷_ e14 List.[])))))))))))))))
 
 abbrev pub t12 : List.List Row.Entry
-t12 = List._∷_ e0 (List._∷_ e2 (List._∷_ e25 (List._∷_ e36 (List._∷_ e39 (List._∷_ e41 (List._∷_ e43 (List._∷_ e44 (List._∷_ e47 (List._∷_ e50 (List._∷_ e5 (List._∷_ e6 (List._∷_ e8 (List._∷_ e11
-    (List._∷_ e13 (List._∷_ e14 List.[])))))))))))))))
+t12 = List._∷_ e0 (List._∷_ e2 (List._∷_ e23 (List._∷_ e33 (List._∷_ e36 (List._∷_ e38 (List._∷_ e40 (List._∷_ e41 (List._∷_ e44 (List._∷_ e47 (List._∷_ e5 (List._∷_ e7 (List._∷_ e8 (List._∷_ e11
+    (List._∷_ e12 (List._∷_ e14 List.[])))))))))))))))
 
 abbrev pub t13 : List.List Row.Entry
-t13 = List._∷_ e0 (List._∷_ e2 (List._∷_ e25 (List._∷_ e36 (List._∷_ e39 (List._∷_ e41 (List._∷_ e43 (List._∷_ e44 (List._∷_ e47 (List._∷_ e50 (List._∷_ e5 (List._∷_ e6 (List._∷_ e8 (List._∷_ e11
-    (List._∷_ e13 (List._∷_ e15 List.[])))))))))))))))
+t13 = List._∷_ e0 (List._∷_ e2 (List._∷_ e23 (List._∷_ e33 (List._∷_ e36 (List._∷_ e38 (List._∷_ e40 (List._∷_ e41 (List._∷_ e44 (List._∷_ e47 (List._∷_ e5 (List._∷_ e7 (List._∷_ e8 (List._∷_ e11
+    (List._∷_ e13 (List._∷_ e14 List.[])))))))))))))))
 
 abbrev pub t14 : List.List Row.Entry
-t14 = List._∷_ e0 (List._∷_ e2 (List._∷_ e25 (List._∷_ e36 (List._∷_ e39 (List._∷_ e41 (List._∷_ e43 (List._∷_ e44 (List._∷_ e47 (List._∷_ e50 (List._∷_ e5 (List._∷_ e6 (List._∷_ e8 (List._∷_ e11
-    (List._∷_ e12 (List._∷_ e15 List.[])))))))))))))))
+t14 = List._∷_ e0 (List._∷_ e2 (List._∷_ e23 (List._∷_ e33 (List._∷_ e36 (List._∷_ e38 (List._∷_ e40 (List._∷_ e41 (List._∷_ e44 (List._∷_ e47 (List._∷_ e5 (List._∷_ e7 (List._∷_ e8 (List._∷_ e11
+    (List._∷_ e13 (List._∷_ e15 List.[])))))))))))))))
 
 abbrev pub t15 : List.List Row.Entry
-t15 = List._∷_ e0 (List._∷_ e2 (List._∷_ e25 (List._∷_ e36 (List._∷_ e39 (List._∷_ e41 (List._∷_ e43 (List._∷_ e44 (List._∷_ e47 (List._∷_ e50 (List._∷_ e5 (List._∷_ e7 (List._∷_ e8 (List._∷_ e11
+t15 = List._∷_ e0 (List._∷_ e2 (List._∷_ e23 (List._∷_ e33 (List._∷_ e36 (List._∷_ e38 (List._∷_ e40 (List._∷_ e41 (List._∷_ e44 (List._∷_ e47 (List._∷_ e5 (List._∷_ e7 (List._∷_ e8 (List._∷_ e11
     (List._∷_ e12 (List._∷_ e15 List.[])))))))))))))))
 
 abbrev pub t16 : List.List Row.Entry
-t16 = List._∷_ e0 (List._∷_ e2 (List._∷_ e25 (List._∷_ e36 (List._∷_ e39 (List._∷_ e41 (List._∷_ e43 (List._∷_ e44 (List._∷_ e47 (List._∷_ e50 (List._∷_ e5 (List._∷_ e7 (List._∷_ e8 (List._∷_ e11
-    (List._∷_ e12 (List._∷_ e14 List.[])))))))))))))))
+t16 = List._∷_ e17 (List._∷_ e18 (List._∷_ e21 (List._∷_ e22 (List._∷_ e26 (List._∷_ e27 (List._∷_ e30 (List._∷_ e31 List.[])))))))
 
 abbrev pub t17 : List.List Row.Entry
-t17 = List._∷_ e17 (List._∷_ e18 (List._∷_ e21 (List._∷_ e24 (List._∷_ e26 (List._∷_ e29 (List._∷_ e30 (List._∷_ e33 (List._∷_ e34 List.[]))))))))
+t17 = List._∷_ e0 (List._∷_ e2 (List._∷_ e23 (List._∷_ e33 (List._∷_ e36 (List._∷_ e38 (List._∷_ e40 (List._∷_ e41 (List._∷_ e44 (List._∷_ e46 (List._∷_ e5 (List._∷_ e7 (List._∷_ e8 (List._∷_ e11
+    (List._∷_ e12 (List._∷_ e15 List.[])))))))))))))))
 
 abbrev pub t18 : List.List Row.Entry
-t18 = List._∷_ e17 (List._∷_ e19 (List._∷_ e21 (List._∷_ e24 (List._∷_ e26 (List._∷_ e29 (List._∷_ e30 (List._∷_ e33 (List._∷_ e34 List.[]))))))))
+t18 = List._∷_ e17 (List._∷_ (17, Relend.msptr (Referent.rtF (Referent.fInt Syntax.w16)) (Syntax.tyRef Syntax.erased Syntax.mut (Syntax.tyInt Syntax.w16)) 3) (List._∷_ e21 (List._∷_ e22 (List._∷_ e26
+    (List._∷_ e27 (List._∷_ e30 (List._∷_ e31 List.[])))))))
 
 abbrev pub t19 : List.List Row.Entry
-t19 = List._∷_ e16 (List._∷_ e19 (List._∷_ e21 (List._∷_ e24 (List._∷_ e26 (List._∷_ e29 (List._∷_ e30 (List._∷_ e33 (List._∷_ e34 List.[]))))))))
+t19 = List._∷_ e0 (List._∷_ e2 (List._∷_ e23 (List._∷_ e33 (List._∷_ e36 (List._∷_ e38 (List._∷_ e40 (List._∷_ e41 (List._∷_ e44 (List._∷_ e46 (List._∷_ e5 (List._∷_ e7 (List._∷_ e8 (List._∷_ e11
+    (List._∷_ e12 (List._∷_ e14 List.[])))))))))))))))
 
 abbrev pub t20 : List.List Row.Entry
-t20 = List._∷_ e0 (List._∷_ e2 (List._∷_ e25 (List._∷_ e36 (List._∷_ e39 (List._∷_ e41 (List._∷_ e43 (List._∷_ e44 (List._∷_ e47 (List._∷_ e50 (List._∷_ e5 (List._∷_ e7 (List._∷_ e8 (List._∷_ e11
-    (List._∷_ e13 (List._∷_ e14 List.[])))))))))))))))
+t20 = List._∷_ e17 (List._∷_ e18 (List._∷_ e20 (List._∷_ e22 (List._∷_ e26 (List._∷_ e27 (List._∷_ e30 (List._∷_ e31 List.[])))))))
 
 abbrev pub t21 : List.List Row.Entry
-t21 = List._∷_ e0 (List._∷_ e2 (List._∷_ e25 (List._∷_ e36 (List._∷_ e39 (List._∷_ e41 (List._∷_ e43 (List._∷_ e44 (List._∷_ e47 (List._∷_ e49 (List._∷_ e5 (List._∷_ e7 (List._∷_ e8 (List._∷_ e11
-    (List._∷_ e13 (List._∷_ e14 List.[])))))))))))))))
+t21 = List._∷_ e16 (List._∷_ e18 (List._∷_ e20 (List._∷_ e22 (List._∷_ e26 (List._∷_ e27 (List._∷_ e30 (List._∷_ e31 List.[])))))))
 
 abbrev pub t22 : List.List Row.Entry
-t22 = List._∷_ e16 (List._∷_ e19 (List._∷_ e20 (List._∷_ e24 (List._∷_ e26 (List._∷_ e29 (List._∷_ e30 (List._∷_ e33 (List._∷_ e34 List.[]))))))))
+t22 = List._∷_ e0 (List._∷_ e2 (List._∷_ e23 (List._∷_ e33 (List._∷_ e36 (List._∷_ e38 (List._∷_ e40 (List._∷_ e41 (List._∷_ e44 (List._∷_ e46 (List._∷_ e4 (List._∷_ e7 (List._∷_ e8 (List._∷_ e11
+    (List._∷_ e12 (List._∷_ e14 List.[])))))))))))))))
 
 abbrev pub t23 : List.List Row.Entry
-t23 = List._∷_ e16 (List._∷_ e18 (List._∷_ e20 (List._∷_ e24 (List._∷_ e26 (List._∷_ e29 (List._∷_ e30 (List._∷_ e33 (List._∷_ e34 List.[]))))))))
+t23 = List._∷_ e16 (List._∷_ e18 (List._∷_ e20 (List._∷_ (19, Relend.msptr (Element.type) (Syntax.tyRef Syntax.erased Syntax.mut (Syntax.tyArray Element.behind 336)) 4) (List._∷_ e26 (List._∷_ e27
+    (List._∷_ e30 (List._∷_ e31 List.[])))))))
 
 abbrev pub t24 : List.List Row.Entry
-t24 = List._∷_ e16 (List._∷_ e18 (List._∷_ e21 (List._∷_ e23 (List._∷_ e26 (List._∷_ e29 (List._∷_ e30 (List._∷_ e33 (List._∷_ e34 List.[]))))))))
+t24 = List._∷_ e16 (List._∷_ e18 (List._∷_ e20 (List._∷_ e22 (List._∷_ e25 (List._∷_ e27 (List._∷_ e30 (List._∷_ e31 List.[])))))))
 
 abbrev pub t25 : List.List Row.Entry
-t25 = List._∷_ e0 (List._∷_ e2 (List._∷_ e25 (List._∷_ e36 (List._∷_ e39 (List._∷_ e41 (List._∷_ e43 (List._∷_ e44 (List._∷_ e47 (List._∷_ e49 (List._∷_ e5 (List._∷_ e7 (List._∷_ e8 (List._∷_ e11
+t25 = List._∷_ e0 (List._∷_ e2 (List._∷_ e23 (List._∷_ e34 (List._∷_ e36 (List._∷_ e38 (List._∷_ e40 (List._∷_ e41 (List._∷_ e44 (List._∷_ e46 (List._∷_ e4 (List._∷_ e7 (List._∷_ e8 (List._∷_ e11
     (List._∷_ e12 (List._∷_ e14 List.[])))))))))))))))
 
 abbrev pub t26 : List.List Row.Entry
-t26 = List._∷_ e0 (List._∷_ e2 (List._∷_ e25 (List._∷_ e36 (List._∷_ e39 (List._∷_ e41 (List._∷_ e43 (List._∷_ e44 (List._∷_ e47 (List._∷_ e49 (List._∷_ e4 (List._∷_ e7 (List._∷_ e8 (List._∷_ e11
-    (List._∷_ e12 (List._∷_ e14 List.[])))))))))))))))
+t26 = List._∷_ e16 (List._∷_ e18 (List._∷_ e20 (List._∷_ e22 (List._∷_ e25 (List._∷_
+    (21, Relend.msptr (Referent.rtF (Referent.fInt Syntax.w16)) (Syntax.tyRef Syntax.erased Syntax.mut (Syntax.tyInt Syntax.w16)) 5) (List._∷_ e30 (List._∷_ e31 List.[])))))))
 
 abbrev pub t27 : List.List Row.Entry
-t27 = List._∷_ e16 (List._∷_ e18 (List._∷_ e21 (List._∷_ e23 (List._∷_ (20, Relend.msptr (Element.type) (Syntax.tyRef Syntax.erased Syntax.mut (Syntax.tyArray Element.behind 336)) 4) (List._∷_ e29
-    (List._∷_ e30 (List._∷_ e33 (List._∷_ e34 List.[]))))))))
+t27 = List._∷_ e16 (List._∷_ e18 (List._∷_ e20 (List._∷_ e22 (List._∷_ e25 (List._∷_ e27 (List._∷_ e29 (List._∷_ e31 List.[])))))))
 
 abbrev pub t28 : List.List Row.Entry
-t28 = List._∷_ e16 (List._∷_ e18 (List._∷_ e21 (List._∷_ e23 (List._∷_ e26 (List._∷_ e28 (List._∷_ e30 (List._∷_ e33 (List._∷_ e34 List.[]))))))))
+t28 = List._∷_ e0 (List._∷_ e2 (List._∷_ e23 (List._∷_ e34 (List._∷_ e36 (List._∷_ e38 (List._∷_ e40 (List._∷_ e41 (List._∷_ e43 (List._∷_ e46 (List._∷_ e4 (List._∷_ e7 (List._∷_ e8 (List._∷_ e11
+    (List._∷_ e12 (List._∷_ e14 List.[])))))))))))))))
 
 abbrev pub t29 : List.List Row.Entry
-t29 = List._∷_ e0 (List._∷_ e2 (List._∷_ e25 (List._∷_ e37 (List._∷_ e39 (List._∷_ e41 (List._∷_ e43 (List._∷_ e44 (List._∷_ e47 (List._∷_ e49 (List._∷_ e4 (List._∷_ e7 (List._∷_ e8 (List._∷_ e11
-    (List._∷_ e12 (List._∷_ e14 List.[])))))))))))))))
+t29 = List._∷_ e16 (List._∷_ e18 (List._∷_ e20 (List._∷_ e22 (List._∷_ e25 (List._∷_ e27 (List._∷_ e29 (List._∷_ e32 List.[])))))))
 
 abbrev pub t30 : List.List Row.Entry
-t30 = List._∷_ e16 (List._∷_ e18 (List._∷_ e21 (List._∷_ e23 (List._∷_ e26 (List._∷_ e28 (List._∷_
-    (22, Relend.msptr (Referent.rtF (Referent.fInt Syntax.w16)) (Syntax.tyRef Syntax.erased Syntax.mut (Syntax.tyInt Syntax.w16)) 5) (List._∷_ e33 (List._∷_ e34 List.[]))))))))
-
-abbrev pub t31 : List.List Row.Entry
-t31 = List._∷_ e16 (List._∷_ e18 (List._∷_ e21 (List._∷_ e23 (List._∷_ e26 (List._∷_ e28 (List._∷_ e30 (List._∷_ e32 (List._∷_ e34 List.[]))))))))
-
-abbrev pub t32 : List.List Row.Entry
-t32 = List._∷_ e0 (List._∷_ e2 (List._∷_ e25 (List._∷_ e37 (List._∷_ e39 (List._∷_ e41 (List._∷_ e43 (List._∷_ e44 (List._∷_ e46 (List._∷_ e49 (List._∷_ e4 (List._∷_ e7 (List._∷_ e8 (List._∷_ e11
+t30 = List._∷_ e1 (List._∷_ e2 (List._∷_ e23 (List._∷_ e34 (List._∷_ e36 (List._∷_ e38 (List._∷_ e40 (List._∷_ e41 (List._∷_ e43 (List._∷_ e46 (List._∷_ e4 (List._∷_ e7 (List._∷_ e8 (List._∷_ e11
     (List._∷_ e12 (List._∷_ e14 List.[])))))))))))))))
 
+abbrev pub t31 : List.List Row.Entry
+t31 = List._∷_ e16 (List._∷_ e18 (List._∷_ e19 (List._∷_ e22 (List._∷_ e24 (List._∷_ e27 (List._∷_ e28 (List._∷_ e32 List.[])))))))
+
+abbrev pub t32 : List.List Row.Entry
+t32 = List._∷_ e16 (List._∷_ e18 (List._∷_ e19 (List._∷_ e22 (List._∷_ e24 (List._∷_ e27 (List._∷_ e28 (List._∷_ e31 List.[])))))))
+
 abbrev pub t33 : List.List Row.Entry
-t33 = List._∷_ e16 (List._∷_ e18 (List._∷_ e21 (List._∷_ e23 (List._∷_ e26 (List._∷_ e28 (List._∷_ e30 (List._∷_ e32 (List._∷_ e35 List.[]))))))))
+t33 = List._∷_ e1 (List._∷_ e2 (List._∷_ e23 (List._∷_ e34 (List._∷_ e35 (List._∷_ e38 (List._∷_ e40 (List._∷_ e41 (List._∷_ e43 (List._∷_ e46 (List._∷_ e4 (List._∷_ e7 (List._∷_ e8 (List._∷_ e11
+    (List._∷_ e12 (List._∷_ e14 List.[])))))))))))))))
 
 abbrev pub t34 : List.List Row.Entry
-t34 = List._∷_ e1 (List._∷_ e2 (List._∷_ e25 (List._∷_ e37 (List._∷_ e39 (List._∷_ e41 (List._∷_ e43 (List._∷_ e44 (List._∷_ e46 (List._∷_ e49 (List._∷_ e4 (List._∷_ e7 (List._∷_ e8 (List._∷_ e11
+t34 = List._∷_ e1 (List._∷_ e2 (List._∷_ e23 (List._∷_ e34 (List._∷_ e35 (List._∷_ e37 (List._∷_ e40 (List._∷_ e41 (List._∷_ e43 (List._∷_ e46 (List._∷_ e4 (List._∷_ e7 (List._∷_ e8 (List._∷_ e11
     (List._∷_ e12 (List._∷_ e14 List.[])))))))))))))))
 
 abbrev pub t35 : List.List Row.Entry
-t35 = List._∷_ e16 (List._∷_ e18 (List._∷_ e21 (List._∷_ e22 (List._∷_ e26 (List._∷_ e27 (List._∷_ e30 (List._∷_ e31 (List._∷_ e35 List.[]))))))))
+t35 = List._∷_ e1 (List._∷_ e2 (List._∷_ e23 (List._∷_ e34 (List._∷_ e35 (List._∷_ e37 (List._∷_ e39 (List._∷_ e41 (List._∷_ e43 (List._∷_ e46 (List._∷_ e4 (List._∷_ e7 (List._∷_ e8 (List._∷_ e11
+    (List._∷_ e12 (List._∷_ e14 List.[])))))))))))))))
 
 abbrev pub t36 : List.List Row.Entry
-t36 = List._∷_ e16 (List._∷_ e18 (List._∷_ e21 (List._∷_ e22 (List._∷_ e26 (List._∷_ e27 (List._∷_ e30 (List._∷_ e31 (List._∷_ e34 List.[]))))))))
+t36 = List._∷_ e1 (List._∷_ e2 (List._∷_ e23 (List._∷_ e34 (List._∷_ e35 (List._∷_ e37 (List._∷_ e39 (List._∷_ e41 (List._∷_ e43 (List._∷_ e46 (List._∷_ e4 (List._∷_ e6 (List._∷_ e8 (List._∷_ e11
+    (List._∷_ e12 (List._∷_ e14 List.[])))))))))))))))
 
 abbrev pub t37 : List.List Row.Entry
-t37 = List._∷_ e1 (List._∷_ e2 (List._∷_ e25 (List._∷_ e37 (List._∷_ e38 (List._∷_ e41 (List._∷_ e43 (List._∷_ e44 (List._∷_ e46 (List._∷_ e49 (List._∷_ e4 (List._∷_ e7 (List._∷_ e8 (List._∷_ e11
+t37 = List._∷_ e1 (List._∷_ e2 (List._∷_ e23 (List._∷_ e34 (List._∷_ e35 (List._∷_ e37 (List._∷_ e39 (List._∷_ e41 (List._∷_ e43 (List._∷_ e47 (List._∷_ e4 (List._∷_ e6 (List._∷_ e8 (List._∷_ e11
     (List._∷_ e12 (List._∷_ e14 List.[])))))))))))))))
 
 abbrev pub t38 : List.List Row.Entry
-t38 = List._∷_ e1 (List._∷_ e2 (List._∷_ e25 (List._∷_ e37 (List._∷_ e38 (List._∷_ e40 (List._∷_ e43 (List._∷_ e44 (List._∷_ e46 (List._∷_ e49 (List._∷_ e4 (List._∷_ e7 (List._∷_ e8 (List._∷_ e11
-    (List._∷_ e12 (List._∷_ e14 List.[])))))))))))))))
+t38 = List._∷_ e16 (List._∷_ e18 (List._∷_ e21 (List._∷_ e22 (List._∷_ e24 (List._∷_ e27 (List._∷_ e28 (List._∷_ e31 List.[])))))))
 
 abbrev pub t39 : List.List Row.Entry
-t39 = List._∷_ e1 (List._∷_ e2 (List._∷_ e25 (List._∷_ e37 (List._∷_ e38 (List._∷_ e40 (List._∷_ e42 (List._∷_ e44 (List._∷_ e46 (List._∷_ e49 (List._∷_ e4 (List._∷_ e7 (List._∷_ e8 (List._∷_ e11
+t39 = List._∷_ e1 (List._∷_ e2 (List._∷_ e23 (List._∷_ e34 (List._∷_ e35 (List._∷_ e37 (List._∷_ e39 (List._∷_ e41 (List._∷_ e43 (List._∷_ e45 (List._∷_ e4 (List._∷_ e6 (List._∷_ e8 (List._∷_ e11
     (List._∷_ e12 (List._∷_ e14 List.[])))))))))))))))
 
 abbrev pub t40 : List.List Row.Entry
-t40 = List._∷_ e1 (List._∷_ e2 (List._∷_ e25 (List._∷_ e37 (List._∷_ e38 (List._∷_ e40 (List._∷_ e42 (List._∷_ e44 (List._∷_ e46 (List._∷_ e49 (List._∷_ e4 (List._∷_ e6 (List._∷_ e8 (List._∷_ e11
+t40 = List._∷_ e1 (List._∷_ e2 (List._∷_ e23 (List._∷_ e34 (List._∷_ e35 (List._∷_ e37 (List._∷_ e39 (List._∷_ e41 (List._∷_ e43 (List._∷_ e45 (List._∷_ e5 (List._∷_ e6 (List._∷_ e8 (List._∷_ e11
     (List._∷_ e12 (List._∷_ e14 List.[])))))))))))))))
 
 abbrev pub t41 : List.List Row.Entry
-t41 = List._∷_ e1 (List._∷_ e2 (List._∷_ e25 (List._∷_ e37 (List._∷_ e38 (List._∷_ e40 (List._∷_ e42 (List._∷_ e44 (List._∷_ e46 (List._∷_ e50 (List._∷_ e4 (List._∷_ e6 (List._∷_ e8 (List._∷_ e11
-    (List._∷_ e12 (List._∷_ e14 List.[])))))))))))))))
+t41 = List._∷_ e16 (List._∷_ e18 (List._∷_ e21 (List._∷_ e22 (List._∷_ e26 (List._∷_ e27 (List._∷_ e28 (List._∷_ e31 List.[])))))))
 
 abbrev pub t42 : List.List Row.Entry
-t42 = List._∷_ e16 (List._∷_ e18 (List._∷_ e21 (List._∷_ e24 (List._∷_ e26 (List._∷_ e27 (List._∷_ e30 (List._∷_ e31 (List._∷_ e34 List.[]))))))))
+t42 = List._∷_ e1 (List._∷_ e2 (List._∷_ e23 (List._∷_ e34 (List._∷_ e35 (List._∷_ e37 (List._∷_ e39 (List._∷_ e41 (List._∷_ e43 (List._∷_ e45 (List._∷_ e3 (List._∷_ e6 (List._∷_ e8 (List._∷_ e11
+    (List._∷_ e12 (List._∷_ e14 List.[])))))))))))))))
 
 abbrev pub t43 : List.List Row.Entry
-t43 = List._∷_ e1 (List._∷_ e2 (List._∷_ e25 (List._∷_ e37 (List._∷_ e38 (List._∷_ e40 (List._∷_ e42 (List._∷_ e44 (List._∷_ e46 (List._∷_ e48 (List._∷_ e4 (List._∷_ e6 (List._∷_ e8 (List._∷_ e11
+t43 = List._∷_ e1 (List._∷_ e2 (List._∷_ e23 (List._∷_ e33 (List._∷_ e35 (List._∷_ e37 (List._∷_ e39 (List._∷_ e41 (List._∷_ e43 (List._∷_ e45 (List._∷_ e3 (List._∷_ e6 (List._∷_ e8 (List._∷_ e11
     (List._∷_ e12 (List._∷_ e14 List.[])))))))))))))))
 
 abbrev pub t44 : List.List Row.Entry
-t44 = List._∷_ e1 (List._∷_ e2 (List._∷_ e25 (List._∷_ e37 (List._∷_ e38 (List._∷_ e40 (List._∷_ e42 (List._∷_ e44 (List._∷_ e46 (List._∷_ e48 (List._∷_ e5 (List._∷_ e6 (List._∷_ e8 (List._∷_ e11
+t44 = List._∷_ e1 (List._∷_ e2 (List._∷_ e23 (List._∷_ e33 (List._∷_ e35 (List._∷_ e37 (List._∷_ e39 (List._∷_ e41 (List._∷_ e44 (List._∷_ e45 (List._∷_ e3 (List._∷_ e6 (List._∷_ e8 (List._∷_ e11
     (List._∷_ e12 (List._∷_ e14 List.[])))))))))))))))
 
 abbrev pub t45 : List.List Row.Entry
-t45 = List._∷_ e16 (List._∷_ e18 (List._∷_ e21 (List._∷_ e24 (List._∷_ e26 (List._∷_ e29 (List._∷_ e30 (List._∷_ e31 (List._∷_ e34 List.[]))))))))
-
-abbrev pub t46 : List.List Row.Entry
-t46 = List._∷_ e1 (List._∷_ e2 (List._∷_ e25 (List._∷_ e37 (List._∷_ e38 (List._∷_ e40 (List._∷_ e42 (List._∷_ e44 (List._∷_ e46 (List._∷_ e48 (List._∷_ e3 (List._∷_ e6 (List._∷_ e8 (List._∷_ e11
-    (List._∷_ e12 (List._∷_ e14 List.[])))))))))))))))
-
-abbrev pub t47 : List.List Row.Entry
-t47 = List._∷_ e1 (List._∷_ e2 (List._∷_ e25 (List._∷_ e36 (List._∷_ e38 (List._∷_ e40 (List._∷_ e42 (List._∷_ e44 (List._∷_ e46 (List._∷_ e48 (List._∷_ e3 (List._∷_ e6 (List._∷_ e8 (List._∷_ e11
-    (List._∷_ e12 (List._∷_ e14 List.[])))))))))))))))
-
-abbrev pub t48 : List.List Row.Entry
-t48 = List._∷_ e1 (List._∷_ e2 (List._∷_ e25 (List._∷_ e36 (List._∷_ e38 (List._∷_ e40 (List._∷_ e42 (List._∷_ e44 (List._∷_ e47 (List._∷_ e48 (List._∷_ e3 (List._∷_ e6 (List._∷_ e8 (List._∷_ e11
-    (List._∷_ e12 (List._∷_ e14 List.[])))))))))))))))
-
-abbrev pub t49 : List.List Row.Entry
-t49 = List._∷_ e1 (List._∷_ e2 (List._∷_ e25 (List._∷_ e36 (List._∷_ e38 (List._∷_ e40 (List._∷_ e42 (List._∷_ e44 (List._∷_ e45 (List._∷_ e48 (List._∷_ e3 (List._∷_ e6 (List._∷_ e8 (List._∷_ e11
+t45 = List._∷_ e1 (List._∷_ e2 (List._∷_ e23 (List._∷_ e33 (List._∷_ e35 (List._∷_ e37 (List._∷_ e39 (List._∷_ e41 (List._∷_ e42 (List._∷_ e45 (List._∷_ e3 (List._∷_ e6 (List._∷_ e8 (List._∷_ e11
     (List._∷_ e12 (List._∷_ e14 List.[])))))))))))))))
 
 abbrev pub T0 : Row.Cx
@@ -767,91 +733,79 @@ abbrev pub T17 : Row.Cx
 T17 = record { locals = List._++_ t15 t1; slots = List.[] }
 
 abbrev pub T18 : Row.Cx
-T18 = record { locals = List._++_ t16 t1; slots = List.[] }
-
-abbrev pub T19 : Row.Cx
-T19 = record { locals = List._++_ t16 t17; slots = List.[] }
+T18 = record { locals = List._++_ t15 t16; slots = List.[] }
 
 abbrev pub T20 : Row.Cx
-T20 = record { locals = List._++_ t16 t18; slots = List.[] }
+T20 = record { locals = List._++_ t17 t18; slots = List.[] }
 
 abbrev pub T21 : Row.Cx
-T21 = record { locals = List._++_ t16 t19; slots = List.[] }
+T21 = record { locals = List._++_ t19 t18; slots = List.[] }
 
 abbrev pub T22 : Row.Cx
-T22 = record { locals = List._++_ t20 t19; slots = List.[] }
+T22 = record { locals = List._++_ t19 t20; slots = List.[] }
 
-abbrev pub T24 : Row.Cx
-T24 = record { locals = List._++_ t21 t22; slots = List.[] }
+abbrev pub T23 : Row.Cx
+T23 = record { locals = List._++_ t19 t21; slots = List.[] }
 
 abbrev pub T25 : Row.Cx
-T25 = record { locals = List._++_ t21 t23; slots = List.[] }
+T25 = record { locals = List._++_ t22 t23; slots = List.[] }
 
 abbrev pub T26 : Row.Cx
-T26 = record { locals = List._++_ t21 t24; slots = List.[] }
+T26 = record { locals = List._++_ t22 t24; slots = List.[] }
 
-abbrev pub T27 : Row.Cx
-T27 = record { locals = List._++_ t25 t24; slots = List.[] }
+abbrev pub T28 : Row.Cx
+T28 = record { locals = List._++_ t25 t26; slots = List.[] }
 
 abbrev pub T29 : Row.Cx
-T29 = record { locals = List._++_ t26 t27; slots = List.[] }
+T29 = record { locals = List._++_ t25 t27; slots = List.[] }
 
-abbrev pub T30 : Row.Cx
-T30 = record { locals = List._++_ t26 t28; slots = List.[] }
+abbrev pub T31 : Row.Cx
+T31 = record { locals = List._++_ t28 t29; slots = List.[] }
 
 abbrev pub T32 : Row.Cx
-T32 = record { locals = List._++_ t29 t30; slots = List.[] }
+T32 = record { locals = List._++_ t30 t31; slots = List.[] }
 
 abbrev pub T33 : Row.Cx
-T33 = record { locals = List._++_ t29 t31; slots = List.[] }
+T33 = record { locals = List._++_ t30 t32; slots = List.[] }
+
+abbrev pub T34 : Row.Cx
+T34 = record { locals = List._++_ t33 t32; slots = List.[] }
 
 abbrev pub T35 : Row.Cx
-T35 = record { locals = List._++_ t32 t33; slots = List.[] }
+T35 = record { locals = List._++_ t34 t32; slots = List.[] }
 
 abbrev pub T36 : Row.Cx
-T36 = record { locals = List._++_ t34 t35; slots = List.[] }
+T36 = record { locals = List._++_ t35 t32; slots = List.[] }
 
 abbrev pub T37 : Row.Cx
-T37 = record { locals = List._++_ t34 t36; slots = List.[] }
-
-abbrev pub T38 : Row.Cx
-T38 = record { locals = List._++_ t37 t36; slots = List.[] }
+T37 = record { locals = List._++_ t36 t32; slots = List.[] }
 
 abbrev pub T39 : Row.Cx
-T39 = record { locals = List._++_ t38 t36; slots = List.[] }
-
-abbrev pub T40 : Row.Cx
-T40 = record { locals = List._++_ t39 t36; slots = List.[] }
+T39 = record { locals = List._++_ t37 t38; slots = List.[] }
 
 abbrev pub T41 : Row.Cx
-T41 = record { locals = List._++_ t40 t36; slots = List.[] }
+T41 = record { locals = List._++_ t39 t38; slots = List.[] }
 
 abbrev pub T43 : Row.Cx
-T43 = record { locals = List._++_ t41 t42; slots = List.[] }
+T43 = record { locals = List._++_ t40 t41; slots = List.[] }
 
 abbrev pub T45 : Row.Cx
-T45 = record { locals = List._++_ t43 t42; slots = List.[] }
+T45 = record { locals = List._++_ t42 t41; slots = List.[] }
 
 abbrev pub T47 : Row.Cx
-T47 = record { locals = List._++_ t44 t45; slots = List.[] }
+T47 = record { locals = List._++_ t43 t1; slots = List.[] }
 
-abbrev pub T49 : Row.Cx
-T49 = record { locals = List._++_ t46 t45; slots = List.[] }
+abbrev pub T48 : Row.Cx
+T48 = record { locals = List._++_ t43 t1; slots = List.[] }
 
 abbrev pub T51 : Row.Cx
-T51 = record { locals = List._++_ t47 t1; slots = List.[] }
+T51 = record { locals = List._++_ t44 t1; slots = List.[] }
 
-abbrev pub T52 : Row.Cx
-T52 = record { locals = List._++_ t47 t1; slots = List.[] }
+abbrev pub T53 : Row.Cx
+T53 = record { locals = List._++_ t45 t1; slots = List.[] }
 
-abbrev pub T55 : Row.Cx
-T55 = record { locals = List._++_ t48 t1; slots = List.[] }
-
-abbrev pub T57 : Row.Cx
-T57 = record { locals = List._++_ t49 t1; slots = List.[] }
-
-abbrev pub T58 : Row.Cx
-T58 = record { locals = List._++_ t2 t1; slots = List.[] }
+abbrev pub T54 : Row.Cx
+T54 = record { locals = List._++_ t2 t1; slots = List.[] }
 
 abbrev pub O0 : Typed.Outs
 O0 = record { next = Option.none; exits = List.[]; returns = Option.some T1 }
@@ -895,83 +849,69 @@ module _ (claims· : Claims) where
   s11 = λ bs. Scalar.n-room T12 13 (Element.held)
 
   abbrev s12 : (bs : List.List Nat.ℕ) → Typed.Both T13 T14
-  s12 = λ bs. Call.callB ps·2 r·2 (claims· .4) (claims· .5) T13 (Bool.bFld 4 (List._∷_ (Syntax.field 1) List.[]) 4 λ x. Form.struct .as-values x .1 .0, tt) 14 List.[] (Syntax.tyInt Syntax.w64)
+  s12 = λ bs. Call.callB ps·2 r·2 (claims· .4) (claims· .5) T13 (Bool.bFld 4 (List._∷_ (Syntax.field 1) List.[]) 4 λ x. Form.struct .as-values x .1 .0, tt) 11 List.[] (Syntax.tyInt Syntax.w64)
 
-  abbrev s13 : (bs : List.List Nat.ℕ) → Typed.Asks T14 T15
-  s13 = λ bs. Scalar.k-op2 T14 (Syntax.add Syntax.unsigned) (Scalar.oAt 14 (Syntax.tyInt Syntax.w64) (Row.valS (Row.sInt Syntax.w64))) (Scalar.oInt Syntax.w64 2) 15 (Rows'.sc-here (Row.sInt
+  abbrev s13 : (bs : List.List Nat.ℕ) → Typed.Mo T14 → Typed.Mo T15
+  s13 = λ bs. Init.n-addr T14 (Row.hd 0 (Row.tl (Row.tl (Row.tl (Row.tl (Row.tl (Row.tl (Row.tl (Row.tl (Row.tl bs)))))))))) 14
+
+  abbrev s14 : (bs : List.List Nat.ℕ) → Typed.Asks T15 T16
+  s14 = λ bs. Scalar.k-op2 T15 Syntax.offset (Scalar.oAt 14 Syntax.tyPtr (Row.valS Row.sPtr)) (Scalar.oInt Syntax.w64 0) 15 (Rows'.sc-here Row.sPtr) (Row.sPtr .of)
+
+  abbrev s15 : (bs : List.List Nat.ℕ) → Typed.Mo T16 → Typed.Mo T17
+  s15 = λ bs. Scalar.n-room T16 14 Syntax.tyPtr
+
+  abbrev s16 : (bs : List.List Nat.ℕ) → Typed.Asks T17 T18
+  s16 = λ bs. Scalar.k-op2 T17 (Syntax.sub Syntax.unsigned) (Scalar.oAt 11 (Syntax.tyInt Syntax.w64) (Row.valS (Row.sInt Syntax.w64))) (Scalar.oInt Syntax.w64 0) 16 (Rows'.sc-here (Row.sInt
       Syntax.w64)) (Row.sInt Syntax.w64 .of)
 
-  abbrev s14 : (bs : List.List Nat.ℕ) → Typed.Mo T15 → Typed.Mo T16
-  s14 = λ bs. Scalar.n-room T15 14 (Syntax.tyInt Syntax.w64)
-
-  abbrev s15 : (bs : List.List Nat.ℕ) → Typed.Asks T16 T17
-  s15 = λ bs. Scalar.k-op2 T16 (Syntax.mul Syntax.unsigned) (Scalar.oInt Syntax.w64 18) (Scalar.oAt 15 (Syntax.tyInt Syntax.w64) (Row.valS (Row.sInt Syntax.w64))) 11 (Rows'.sc-here (Row.sInt
-      Syntax.w64)) (Row.sInt Syntax.w64 .of)
-
-  abbrev s16 : (bs : List.List Nat.ℕ) → Typed.Mo T17 → Typed.Mo T18
-  s16 = λ bs. Scalar.n-room T17 15 (Syntax.tyInt Syntax.w64)
-
-  abbrev s17 : (bs : List.List Nat.ℕ) → Typed.Mo T18 → Typed.Mo T19
-  s17 = λ bs. Init.n-addr T18 (Row.hd 0 (Row.tl (Row.tl (Row.tl (Row.tl (Row.tl (Row.tl (Row.tl (Row.tl (Row.tl bs)))))))))) 16
-
-  abbrev s18 : (bs : List.List Nat.ℕ) → Typed.Asks T19 T20
-  s18 = λ bs. Scalar.k-op2 T19 Syntax.offset (Scalar.oAt 16 Syntax.tyPtr (Row.valS Row.sPtr)) (Scalar.oInt Syntax.w64 0) 17 (Rows'.sc-here Row.sPtr) (Row.sPtr .of)
-
-  abbrev s19 : (bs : List.List Nat.ℕ) → Typed.Mo T20 → Typed.Mo T21
-  s19 = λ bs. Scalar.n-room T20 16 Syntax.tyPtr
-
-  abbrev s20 : (bs : List.List Nat.ℕ) → Typed.Asks T21 T22
-  s20 = λ bs. Scalar.k-op2 T21 (Syntax.sub Syntax.unsigned) (Scalar.oAt 11 (Syntax.tyInt Syntax.w64) (Row.valS (Row.sInt Syntax.w64))) (Scalar.oInt Syntax.w64 0) 14 (Rows'.sc-here (Row.sInt
-      Syntax.w64)) (Row.sInt Syntax.w64 .of)
-
-  abbrev s22 : (bs : List.List Nat.ℕ) → Typed.Both T22 T24
-  s22 = λ bs. PartMut.k-arr-borrowᵐ (Referent.rtF (Referent.fInt Syntax.w16)) T22 (Row.hd 0 (Row.tl (Row.tl (Row.tl (Row.tl (Row.tl (Row.tl (Row.tl (Row.tl (Row.tl bs)))))))))) 9 17 18 9252 3
+  abbrev s18 : (bs : List.List Nat.ℕ) → Typed.Both T18 T20
+  s18 = λ bs. PartMut.k-arr-borrowᵐ (Referent.rtF (Referent.fInt Syntax.w16)) T18 (Row.hd 0 (Row.tl (Row.tl (Row.tl (Row.tl (Row.tl (Row.tl (Row.tl (Row.tl (Row.tl bs)))))))))) 9 15 17 9252 3
       (Syntax.tyRef Syntax.erased Syntax.mut (Syntax.tyInt Syntax.w16)) (Shared.bySize 2) (λ x. x) (λ x. x) (λ u. 0) λ u. u .1 .1 .1 .1 .1 .1 .1 .1 .1 .1 .1 .0
 
-  abbrev s23 : (bs : List.List Nat.ℕ) → Typed.Mo T24 → Typed.Mo T25
-  s23 = λ bs. Scalar.n-room T24 17 Syntax.tyPtr
+  abbrev s19 : (bs : List.List Nat.ℕ) → Typed.Mo T20 → Typed.Mo T21
+  s19 = λ bs. Scalar.n-room T20 15 Syntax.tyPtr
 
-  abbrev s24 : (bs : List.List Nat.ℕ) → Typed.Asks T25 T26
-  s24 = λ bs. Relend.k-sl-aggregate (Referent.rtF (Referent.fInt Syntax.w16)) (Relend.asMut (Referent.rtF (Referent.fInt Syntax.w16))) T25 18 19 3 (Syntax.tyRef Syntax.erased Syntax.mut (Syntax.tyInt
-      Syntax.w16)) (Syntax.tyRef Syntax.erased Syntax.mut (Syntax.tyInt Syntax.w16)) (λ x. x) (Scalar.oAt 14 (Syntax.tyInt Syntax.w64) (Row.valS (Row.sInt Syntax.w64)))
+  abbrev s20 : (bs : List.List Nat.ℕ) → Typed.Asks T21 T22
+  s20 = λ bs. Relend.k-sl-aggregate (Referent.rtF (Referent.fInt Syntax.w16)) (Relend.asMut (Referent.rtF (Referent.fInt Syntax.w16))) T21 17 18 3 (Syntax.tyRef Syntax.erased Syntax.mut (Syntax.tyInt
+      Syntax.w16)) (Syntax.tyRef Syntax.erased Syntax.mut (Syntax.tyInt Syntax.w16)) (λ x. x) (Scalar.oAt 16 (Syntax.tyInt Syntax.w64) (Row.valS (Row.sInt Syntax.w64)))
 
-  abbrev s25 : (bs : List.List Nat.ℕ) → Typed.Mo T26 → Typed.Mo T27
-  s25 = λ bs. Scalar.n-room T26 14 (Syntax.tyInt Syntax.w64)
+  abbrev s21 : (bs : List.List Nat.ℕ) → Typed.Mo T22 → Typed.Mo T23
+  s21 = λ bs. Scalar.n-room T22 16 (Syntax.tyInt Syntax.w64)
 
-  abbrev s27 : (bs : List.List Nat.ℕ) → Typed.Gives T27 T29
-  s27 = λ bs. Borrow.k-arr-borrow (Element.type) T27 (Row.hd 0 (Row.tl (Row.tl (Row.tl (Row.tl (Row.tl (Row.tl (Row.tl (Row.tl (Row.tl (Row.tl bs))))))))))) 10 20 336 4 (Syntax.tyRef Syntax.erased
+  abbrev s23 : (bs : List.List Nat.ℕ) → Typed.Gives T23 T25
+  s23 = λ bs. Borrow.k-arr-borrow (Element.type) T23 (Row.hd 0 (Row.tl (Row.tl (Row.tl (Row.tl (Row.tl (Row.tl (Row.tl (Row.tl (Row.tl (Row.tl bs))))))))))) 10 19 336 4 (Syntax.tyRef Syntax.erased
       Syntax.mut (Syntax.tyArray Element.behind 336)) λ x. x
 
-  abbrev s28 : (bs : List.List Nat.ℕ) → Typed.Asks T29 T30
-  s28 = λ bs. Relend.k-sl-aggregate (Element.type) (Relend.asMut (Element.type)) T29 20 21 4 (Syntax.tyRef Syntax.erased Syntax.mut (Syntax.tyArray Element.behind 336)) (Syntax.tyRef Syntax.erased
+  abbrev s24 : (bs : List.List Nat.ℕ) → Typed.Asks T25 T26
+  s24 = λ bs. Relend.k-sl-aggregate (Element.type) (Relend.asMut (Element.type)) T25 19 20 4 (Syntax.tyRef Syntax.erased Syntax.mut (Syntax.tyArray Element.behind 336)) (Syntax.tyRef Syntax.erased
       Syntax.mut Element.behind) (λ x. x) (Scalar.oInt Syntax.w64 336)
 
-  abbrev s30 : (bs : List.List Nat.ℕ) → Typed.Gives T30 T32
-  s30 = λ bs. Relend.k-sl-relend (Referent.rtF (Referent.fInt Syntax.w16)) T30 3 22 2 5 (Syntax.tyRef (Syntax.named 2) Syntax.mut (Syntax.tyInt Syntax.w16)) (Syntax.tyRef Syntax.erased Syntax.mut
+  abbrev s26 : (bs : List.List Nat.ℕ) → Typed.Gives T26 T28
+  s26 = λ bs. Relend.k-sl-relend (Referent.rtF (Referent.fInt Syntax.w16)) T26 3 21 2 5 (Syntax.tyRef (Syntax.named 2) Syntax.mut (Syntax.tyInt Syntax.w16)) (Syntax.tyRef Syntax.erased Syntax.mut
       (Syntax.tyInt Syntax.w16)) Row.off λ x. x
 
-  abbrev s31 : (bs : List.List Nat.ℕ) → Typed.Asks T32 T33
-  s31 = λ bs. Relend.k-sl-aggregate (Referent.rtF (Referent.fInt Syntax.w16)) (Relend.asMut (Referent.rtF (Referent.fInt Syntax.w16))) T32 22 23 5 (Syntax.tyRef Syntax.erased Syntax.mut (Syntax.tyInt
+  abbrev s27 : (bs : List.List Nat.ℕ) → Typed.Asks T28 T29
+  s27 = λ bs. Relend.k-sl-aggregate (Referent.rtF (Referent.fInt Syntax.w16)) (Relend.asMut (Referent.rtF (Referent.fInt Syntax.w16))) T28 21 22 5 (Syntax.tyRef Syntax.erased Syntax.mut (Syntax.tyInt
       Syntax.w16)) (Syntax.tyRef Syntax.erased Syntax.mut (Syntax.tyInt Syntax.w16)) (λ x. x) (Scalar.oFld 3 (List._∷_ (Syntax.field 1) List.[]) (Syntax.tyInt Syntax.w64) 8 λ v. Shared.lenV (v .0))
 
-  abbrev s33 : (bs : List.List Nat.ℕ) → Typed.Gives T33 T35
-  s33 = λ bs. Local.k-sc-share T33 8 24 6 (Array'.Array (Referent.rtF (Referent.fInt Syntax.w16)) 768) (Syntax.tyRef Syntax.erased Syntax.imm (Syntax.tyArray (Syntax.tyInt Syntax.w16) 768)) λ x. x
+  abbrev s29 : (bs : List.List Nat.ℕ) → Typed.Gives T29 T31
+  s29 = λ bs. Local.k-sc-share T29 8 23 6 (Array'.Array (Referent.rtF (Referent.fInt Syntax.w16)) 768) (Syntax.tyRef Syntax.erased Syntax.imm (Syntax.tyArray (Syntax.tyInt Syntax.w16) 768)) λ x. x
 
-  abbrev s34 : (bs : List.List Nat.ℕ) → Typed.Both T35 T36
-  s34 = λ bs. Call.callB ps·3 r·3 (claims· .6) (claims· .7) T35 (
+  abbrev s30 : (bs : List.List Nat.ℕ) → Typed.Both T31 T32
+  s30 = λ bs. Call.callB ps·3 r·3 (claims· .6) (claims· .7) T31 (
     record { pos = 1; ty = Syntax.tyRef (Syntax.named 0) Syntax.imm (Syntax.tyInt Syntax.w8); ref = λ x. x },
     (
       record { pos = 2; ty = Syntax.tyRef (Syntax.named 1) Syntax.imm (Syntax.tyInt Syntax.w8); ref = λ x. x },
       (
-        record { pos = 19; ty = Syntax.tyRef Syntax.erased Syntax.mut (Syntax.tyInt Syntax.w16); ref = λ x. x },
+        record { pos = 18; ty = Syntax.tyRef Syntax.erased Syntax.mut (Syntax.tyInt Syntax.w16); ref = λ x. x },
         (
-          record { pos = 21; ty = Syntax.tyRef Syntax.erased Syntax.mut Element.behind; ref = λ x. x },
+          record { pos = 20; ty = Syntax.tyRef Syntax.erased Syntax.mut Element.behind; ref = λ x. x },
           (
-            record { pos = 23; ty = Syntax.tyRef Syntax.erased Syntax.mut (Syntax.tyInt Syntax.w16); ref = λ x. x },
+            record { pos = 22; ty = Syntax.tyRef Syntax.erased Syntax.mut (Syntax.tyInt Syntax.w16); ref = λ x. x },
             (
               record { pos = 4; st = List.[]; d = 0; at = λ x. x },
               (
-                record { pos = 24; ty = Syntax.tyRef Syntax.erased Syntax.imm (Syntax.tyArray (Syntax.tyInt Syntax.w16) 768); ref = λ x. x },
+                record { pos = 23; ty = Syntax.tyRef Syntax.erased Syntax.imm (Syntax.tyArray (Syntax.tyInt Syntax.w16) 768); ref = λ x. x },
                 (record { pos = 5; st = List.[]; d = 0; at = λ x. x }, (record { pos = 6; st = List.[]; d = 0; at = λ x. x }, (Num.vAt 7 λ x. x, tt))),
               ),
             ),
@@ -984,295 +924,283 @@ module _ (claims· : Claims) where
       107 (List._∷_ 101 (List._∷_ 100 List.[]))))))))))))) (Syntax.ttcons (Syntax.tcons y3 (Syntax.tcons (Syntax.tyInt Syntax.w64) Syntax.tnil)) (Syntax.ttcons (Syntax.tcons (Syntax.tyInt Syntax.w64)
       Syntax.tnil) Syntax.ttnil)))
 
+  abbrev s31 : (bs : List.List Nat.ℕ) → Typed.Mo T32 → Typed.Mo T33
+  s31 = λ bs. Scalar.n-room T32 23 (Syntax.tyRef Syntax.erased Syntax.imm (Syntax.tyArray (Syntax.tyInt Syntax.w16) 768))
+
+  abbrev s32 : (bs : List.List Nat.ℕ) → Typed.Mo T33 → Typed.Mo T34
+  s32 = λ bs. Scalar.n-room T33 4 y4
+
+  abbrev s33 : (bs : List.List Nat.ℕ) → Typed.Mo T34 → Typed.Mo T35
+  s33 = λ bs. Scalar.n-room T34 5 (Syntax.tyArray (Syntax.tyInt Syntax.w8) 36)
+
+  abbrev s34 : (bs : List.List Nat.ℕ) → Typed.Mo T35 → Typed.Mo T36
+  s34 = λ bs. Scalar.n-room T35 6 y0
+
   abbrev s35 : (bs : List.List Nat.ℕ) → Typed.Mo T36 → Typed.Mo T37
-  s35 = λ bs. Scalar.n-room T36 24 (Syntax.tyRef Syntax.erased Syntax.imm (Syntax.tyArray (Syntax.tyInt Syntax.w16) 768))
+  s35 = λ bs. Scalar.n-room T36 11 (Syntax.tyInt Syntax.w64)
 
-  abbrev s36 : (bs : List.List Nat.ℕ) → Typed.Mo T37 → Typed.Mo T38
-  s36 = λ bs. Scalar.n-room T37 4 y4
+  abbrev s37 : (bs : List.List Nat.ℕ) → Typed.Both T37 T39
+  s37 = λ bs. PartMut.k-back-arrᵐ (Referent.rtF (Referent.fInt Syntax.w16)) T37 18 9 3 9252 (Syntax.tyRef Syntax.erased Syntax.mut (Syntax.tyInt Syntax.w16)) (λ x. x) λ x. x
 
-  abbrev s37 : (bs : List.List Nat.ℕ) → Typed.Mo T38 → Typed.Mo T39
-  s37 = λ bs. Scalar.n-room T38 5 (Syntax.tyArray (Syntax.tyInt Syntax.w8) 36)
-
-  abbrev s38 : (bs : List.List Nat.ℕ) → Typed.Mo T39 → Typed.Mo T40
-  s38 = λ bs. Scalar.n-room T39 6 y0
-
-  abbrev s39 : (bs : List.List Nat.ℕ) → Typed.Mo T40 → Typed.Mo T41
-  s39 = λ bs. Scalar.n-room T40 11 (Syntax.tyInt Syntax.w64)
+  abbrev s39 : (bs : List.List Nat.ℕ) → Typed.Mo T39 → Typed.Mo T41
+  s39 = λ bs. Scalar.n-room T39 9 (Syntax.tyArray (Syntax.tyInt Syntax.w16) 9252)
 
   abbrev s41 : (bs : List.List Nat.ℕ) → Typed.Both T41 T43
-  s41 = λ bs. PartMut.k-back-arrᵐ (Referent.rtF (Referent.fInt Syntax.w16)) T41 19 9 3 9252 (Syntax.tyRef Syntax.erased Syntax.mut (Syntax.tyInt Syntax.w16)) (λ x. x) λ x. x
+  s41 = λ bs. Borrow.k-back-arr (Element.type) T41 20 10 4 336 (Syntax.tyRef Syntax.erased Syntax.mut Element.behind) (λ x. x) λ x. x
 
   abbrev s43 : (bs : List.List Nat.ℕ) → Typed.Mo T43 → Typed.Mo T45
-  s43 = λ bs. Scalar.n-room T43 9 (Syntax.tyArray (Syntax.tyInt Syntax.w16) 9252)
+  s43 = λ bs. Scalar.n-room T43 10 (Syntax.tyArray (Element.held) 336)
 
   abbrev s45 : (bs : List.List Nat.ℕ) → Typed.Both T45 T47
-  s45 = λ bs. Borrow.k-back-arr (Element.type) T45 21 10 4 336 (Syntax.tyRef Syntax.erased Syntax.mut Element.behind) (λ x. x) λ x. x
-
-  abbrev s47 : (bs : List.List Nat.ℕ) → Typed.Mo T47 → Typed.Mo T49
-  s47 = λ bs. Scalar.n-room T47 10 (Syntax.tyArray (Element.held) 336)
-
-  abbrev s49 : (bs : List.List Nat.ℕ) → Typed.Both T49 T51
-  s49 = λ bs. Relend.k-back-sl (Referent.rtF (Referent.fInt Syntax.w16)) T49 23 3 2 5 (Syntax.tyRef (Syntax.named 2) Syntax.mut (Syntax.tyInt Syntax.w16)) (Syntax.tyRef Syntax.erased Syntax.mut
+  s45 = λ bs. Relend.k-back-sl (Referent.rtF (Referent.fInt Syntax.w16)) T45 22 3 2 5 (Syntax.tyRef (Syntax.named 2) Syntax.mut (Syntax.tyInt Syntax.w16)) (Syntax.tyRef Syntax.erased Syntax.mut
       (Syntax.tyInt Syntax.w16)) Row.off (λ x. x) λ x. x
 
-  abbrev s50 : (bs : List.List Nat.ℕ) → Typed.Gives T51 T52
-  s50 = λ bs. Know.k-sl-known (Referent.fInt Syntax.w16) T51 3 2 (Syntax.tyRef (Syntax.named 2) Syntax.mut (Syntax.tyInt Syntax.w16)) Row.off 0 λ x. x
+  abbrev s46 : (bs : List.List Nat.ℕ) → Typed.Gives T47 T48
+  s46 = λ bs. Know.k-sl-known (Referent.fInt Syntax.w16) T47 3 2 (Syntax.tyRef (Syntax.named 2) Syntax.mut (Syntax.tyInt Syntax.w16)) Row.off 0 λ x. x
 
-  abbrev s53 : (bs : List.List Nat.ℕ) → Typed.Mo T52 → Typed.Mo T55
-  s53 = λ bs. Local.n-back-shr T52 8 6 (Rows.arrF (Referent.rtF (Referent.fInt Syntax.w16)) 768 0) λ x. x
+  abbrev s49 : (bs : List.List Nat.ℕ) → Typed.Mo T48 → Typed.Mo T51
+  s49 = λ bs. Local.n-back-shr T48 8 6 (Rows.arrF (Referent.rtF (Referent.fInt Syntax.w16)) 768 0) λ x. x
 
-  abbrev s55 : (bs : List.List Nat.ℕ) → Typed.Mo T55 → Typed.Mo T57
-  s55 = λ bs. Scalar.n-room T55 8 (Syntax.tyArray (Syntax.tyInt Syntax.w16) 768)
+  abbrev s51 : (bs : List.List Nat.ℕ) → Typed.Mo T51 → Typed.Mo T53
+  s51 = λ bs. Scalar.n-room T51 8 (Syntax.tyArray (Syntax.tyInt Syntax.w16) 768)
 
-  abbrev s56 : (bs : List.List Nat.ℕ) → Typed.Mo T57 → Typed.Mo T58
-  s56 = λ bs. Scalar.n-room T57 7 (Syntax.tyInt Syntax.w64)
+  abbrev s52 : (bs : List.List Nat.ℕ) → Typed.Mo T53 → Typed.Mo T54
+  s52 = λ bs. Scalar.n-room T53 7 (Syntax.tyInt Syntax.w64)
 
   module _ (Pre· : (κs : Lifetimes.Lfts 3) → Kinds.Dens κs ps → Type 0) (Post· : (κs : Lifetimes.Lfts 3) → (a : Kinds.Dens κs ps) → Kinds.Plain 3 ps r κs) where
     module _ (M : Type 1) where
       abbrev pub Closed : Type 2
       Closed = (𝓤 : URA.URA M) (H : Wp.Heap 𝓤) (A : Atoms.Atoms 𝓤) (W : Kit.Given 𝓤 H A) (𝓣 : Wp.Tables 𝓤 H) (known0 : Plain.Known 𝓤 H A W 𝓣 0 ps·0 r·0 (claims· .0) (claims· .1) "map::xtrans_places")
-          (known1 : Plain.Known 𝓤 H A W 𝓣 0 ps·1 r·1 (claims· .2) (claims· .3) "block::records::cleared") (known2 : Plain.Known 𝓤 H A W 𝓣 0 ps·2 r·2 (claims· .4) (claims· .5) "map::width") (known3 :
-          Plain.Known 𝓤 H A W 𝓣 6 ps·3 r·3 (claims· .6) (claims· .7) "block::reading::walk") → Statement.Triple 𝓤 (Wp.WpFn 𝓤 H (𝓣 .C) (𝓣 .Λ) (Function.fnOf 3 ps r xs m hs body)) (Function.plainOf 𝓤 H A 3
-          ps r Pre· Post·)
+          (known1 : Plain.Known 𝓤 H A W 𝓣 0 ps·1 r·1 (claims· .2) (claims· .3) "block::records::cleared") (known2 : Plain.Known 𝓤 H A W 𝓣 0 ps·2 r·2 (claims· .4) (claims· .5) "begin::samples_needed")
+          (known3 : Plain.Known 𝓤 H A W 𝓣 6 ps·3 r·3 (claims· .6) (claims· .7) "block::reading::walk") → Statement.Triple 𝓤 (Wp.WpFn 𝓤 H (𝓣 .C) (𝓣 .Λ) (Function.fnOf 3 ps r xs m hs body))
+          (Function.plainOf 𝓤 H A 3 ps r Pre· Post·)
 
     module _ where
-      abbrev at0 : (bs : List.List Nat.ℕ) → Typed.TF T58 O0
+      abbrev at0 : (bs : List.List Nat.ℕ) → Typed.TF T54 O0
       at0 = λ bs. Typed.atRet O0
 
-      abbrev at1 : (bs : List.List Nat.ℕ) → Typed.TF T57 O0
-      at1 = λ bs. λ Ψ. Typed.pass T57 T58 (s56 bs) (at0 bs Ψ)
+      abbrev at1 : (bs : List.List Nat.ℕ) → Typed.TF T53 O0
+      at1 = λ bs. λ Ψ. Typed.pass T53 T54 (s52 bs) (at0 bs Ψ)
 
-      abbrev at2 : (bs : List.List Nat.ℕ) → Typed.TF T55 O0
-      at2 = λ bs. λ Ψ. Typed.pass T55 T57 (s55 bs) (at1 bs Ψ)
+      abbrev at2 : (bs : List.List Nat.ℕ) → Typed.TF T51 O0
+      at2 = λ bs. λ Ψ. Typed.pass T51 T53 (s51 bs) (at1 bs Ψ)
 
-      abbrev at3 : (bs : List.List Nat.ℕ) → Typed.TF T55 O0
+      abbrev at3 : (bs : List.List Nat.ℕ) → Typed.TF T51 O0
       at3 = λ bs. λ Ψ. at2 bs Ψ
 
-      abbrev at4 : (bs : List.List Nat.ℕ) → Typed.TF T52 O0
-      at4 = λ bs. λ Ψ. Typed.pass T52 T55 (s53 bs) (at3 bs Ψ)
+      abbrev at4 : (bs : List.List Nat.ℕ) → Typed.TF T48 O0
+      at4 = λ bs. λ Ψ. Typed.pass T48 T51 (s49 bs) (at3 bs Ψ)
 
-      abbrev at5 : (bs : List.List Nat.ℕ) → Typed.TF T52 O0
+      abbrev at5 : (bs : List.List Nat.ℕ) → Typed.TF T48 O0
       at5 = λ bs. λ Ψ. at4 bs Ψ
 
-      abbrev at6 : (bs : List.List Nat.ℕ) → Typed.TF T52 O0
+      abbrev at6 : (bs : List.List Nat.ℕ) → Typed.TF T48 O0
       at6 = λ bs. λ Ψ. at5 bs Ψ
 
-      abbrev at7 : (bs : List.List Nat.ℕ) → Typed.TF T51 O0
-      at7 = λ bs. λ Ψ. Typed.give (s50 bs) (at6 bs Ψ)
+      abbrev at7 : (bs : List.List Nat.ℕ) → Typed.TF T47 O0
+      at7 = λ bs. λ Ψ. Typed.give (s46 bs) (at6 bs Ψ)
 
-      abbrev at8 : (bs : List.List Nat.ℕ) → Typed.TF T49 O0
-      at8 = λ bs. λ Ψ. Typed.both (s49 bs) (at7 bs Ψ)
+      abbrev at8 : (bs : List.List Nat.ℕ) → Typed.TF T45 O0
+      at8 = λ bs. λ Ψ. Typed.both (s45 bs) (at7 bs Ψ)
 
-      abbrev at9 : (bs : List.List Nat.ℕ) → Typed.TF T49 O0
+      abbrev at9 : (bs : List.List Nat.ℕ) → Typed.TF T45 O0
       at9 = λ bs. λ Ψ. at8 bs Ψ
 
-      abbrev at10 : (bs : List.List Nat.ℕ) → Typed.TF T47 O0
-      at10 = λ bs. λ Ψ. Typed.pass T47 T49 (s47 bs) (at9 bs Ψ)
+      abbrev at10 : (bs : List.List Nat.ℕ) → Typed.TF T43 O0
+      at10 = λ bs. λ Ψ. Typed.pass T43 T45 (s43 bs) (at9 bs Ψ)
 
-      abbrev at11 : (bs : List.List Nat.ℕ) → Typed.TF T47 O0
+      abbrev at11 : (bs : List.List Nat.ℕ) → Typed.TF T43 O0
       at11 = λ bs. λ Ψ. at10 bs Ψ
 
-      abbrev at12 : (bs : List.List Nat.ℕ) → Typed.TF T45 O0
-      at12 = λ bs. λ Ψ. Typed.both (s45 bs) (at11 bs Ψ)
+      abbrev at12 : (bs : List.List Nat.ℕ) → Typed.TF T41 O0
+      at12 = λ bs. λ Ψ. Typed.both (s41 bs) (at11 bs Ψ)
 
-      abbrev at13 : (bs : List.List Nat.ℕ) → Typed.TF T45 O0
+      abbrev at13 : (bs : List.List Nat.ℕ) → Typed.TF T41 O0
       at13 = λ bs. λ Ψ. at12 bs Ψ
 
-      abbrev at14 : (bs : List.List Nat.ℕ) → Typed.TF T43 O0
-      at14 = λ bs. λ Ψ. Typed.pass T43 T45 (s43 bs) (at13 bs Ψ)
+      abbrev at14 : (bs : List.List Nat.ℕ) → Typed.TF T39 O0
+      at14 = λ bs. λ Ψ. Typed.pass T39 T41 (s39 bs) (at13 bs Ψ)
 
-      abbrev at15 : (bs : List.List Nat.ℕ) → Typed.TF T43 O0
+      abbrev at15 : (bs : List.List Nat.ℕ) → Typed.TF T39 O0
       at15 = λ bs. λ Ψ. at14 bs Ψ
 
-      abbrev at16 : (bs : List.List Nat.ℕ) → Typed.TF T41 O0
-      at16 = λ bs. λ Ψ. Typed.both (s41 bs) (at15 bs Ψ)
+      abbrev at16 : (bs : List.List Nat.ℕ) → Typed.TF T37 O0
+      at16 = λ bs. λ Ψ. Typed.both (s37 bs) (at15 bs Ψ)
 
-      abbrev at17 : (bs : List.List Nat.ℕ) → Typed.TF T41 O0
+      abbrev at17 : (bs : List.List Nat.ℕ) → Typed.TF T37 O0
       at17 = λ bs. λ Ψ. at16 bs Ψ
 
-      abbrev at18 : (bs : List.List Nat.ℕ) → Typed.TF T40 O0
-      at18 = λ bs. λ Ψ. Typed.pass T40 T41 (s39 bs) (at17 bs Ψ)
+      abbrev at18 : (bs : List.List Nat.ℕ) → Typed.TF T36 O0
+      at18 = λ bs. λ Ψ. Typed.pass T36 T37 (s35 bs) (at17 bs Ψ)
 
-      abbrev at19 : (bs : List.List Nat.ℕ) → Typed.TF T39 O0
-      at19 = λ bs. λ Ψ. Typed.pass T39 T40 (s38 bs) (at18 bs Ψ)
+      abbrev at19 : (bs : List.List Nat.ℕ) → Typed.TF T35 O0
+      at19 = λ bs. λ Ψ. Typed.pass T35 T36 (s34 bs) (at18 bs Ψ)
 
-      abbrev at20 : (bs : List.List Nat.ℕ) → Typed.TF T38 O0
-      at20 = λ bs. λ Ψ. Typed.pass T38 T39 (s37 bs) (at19 bs Ψ)
+      abbrev at20 : (bs : List.List Nat.ℕ) → Typed.TF T34 O0
+      at20 = λ bs. λ Ψ. Typed.pass T34 T35 (s33 bs) (at19 bs Ψ)
 
-      abbrev at21 : (bs : List.List Nat.ℕ) → Typed.TF T37 O0
-      at21 = λ bs. λ Ψ. Typed.pass T37 T38 (s36 bs) (at20 bs Ψ)
+      abbrev at21 : (bs : List.List Nat.ℕ) → Typed.TF T33 O0
+      at21 = λ bs. λ Ψ. Typed.pass T33 T34 (s32 bs) (at20 bs Ψ)
 
-      abbrev at22 : (bs : List.List Nat.ℕ) → Typed.TF T36 O0
-      at22 = λ bs. λ Ψ. Typed.pass T36 T37 (s35 bs) (at21 bs Ψ)
+      abbrev at22 : (bs : List.List Nat.ℕ) → Typed.TF T32 O0
+      at22 = λ bs. λ Ψ. Typed.pass T32 T33 (s31 bs) (at21 bs Ψ)
 
-      abbrev at23 : (bs : List.List Nat.ℕ) → Typed.TF T35 O0
-      at23 = λ bs. λ Ψ. Typed.both (s34 bs) (at22 bs Ψ)
+      abbrev at23 : (bs : List.List Nat.ℕ) → Typed.TF T31 O0
+      at23 = λ bs. λ Ψ. Typed.both (s30 bs) (at22 bs Ψ)
 
-      abbrev at24 : (bs : List.List Nat.ℕ) → Typed.TF T33 O0
-      at24 = λ bs. λ Ψ. Typed.give (s33 bs) (at23 bs Ψ)
+      abbrev at24 : (bs : List.List Nat.ℕ) → Typed.TF T29 O0
+      at24 = λ bs. λ Ψ. Typed.give (s29 bs) (at23 bs Ψ)
 
-      abbrev at25 : (bs : List.List Nat.ℕ) → Typed.TF T33 O0
+      abbrev at25 : (bs : List.List Nat.ℕ) → Typed.TF T29 O0
       at25 = λ bs. λ Ψ. at24 bs Ψ
 
-      abbrev at26 : (bs : List.List Nat.ℕ) → Typed.TF T32 O0
-      at26 = λ bs. λ Ψ. Typed.ask (s31 bs) (at25 bs Ψ)
+      abbrev at26 : (bs : List.List Nat.ℕ) → Typed.TF T28 O0
+      at26 = λ bs. λ Ψ. Typed.ask (s27 bs) (at25 bs Ψ)
 
-      abbrev at27 : (bs : List.List Nat.ℕ) → Typed.TF T30 O0
-      at27 = λ bs. λ Ψ. Typed.give (s30 bs) (at26 bs Ψ)
+      abbrev at27 : (bs : List.List Nat.ℕ) → Typed.TF T26 O0
+      at27 = λ bs. λ Ψ. Typed.give (s26 bs) (at26 bs Ψ)
 
-      abbrev at28 : (bs : List.List Nat.ℕ) → Typed.TF T30 O0
+      abbrev at28 : (bs : List.List Nat.ℕ) → Typed.TF T26 O0
       at28 = λ bs. λ Ψ. at27 bs Ψ
 
-      abbrev at29 : (bs : List.List Nat.ℕ) → Typed.TF T29 O0
-      at29 = λ bs. λ Ψ. Typed.ask (s28 bs) (at28 bs Ψ)
+      abbrev at29 : (bs : List.List Nat.ℕ) → Typed.TF T25 O0
+      at29 = λ bs. λ Ψ. Typed.ask (s24 bs) (at28 bs Ψ)
 
-      abbrev at30 : (bs : List.List Nat.ℕ) → Typed.TF T27 O0
-      at30 = λ bs. λ Ψ. Typed.give (s27 bs) (at29 bs Ψ)
+      abbrev at30 : (bs : List.List Nat.ℕ) → Typed.TF T23 O0
+      at30 = λ bs. λ Ψ. Typed.give (s23 bs) (at29 bs Ψ)
 
-      abbrev at31 : (bs : List.List Nat.ℕ) → Typed.TF T27 O0
+      abbrev at31 : (bs : List.List Nat.ℕ) → Typed.TF T23 O0
       at31 = λ bs. λ Ψ. at30 bs Ψ
 
-      abbrev at32 : (bs : List.List Nat.ℕ) → Typed.TF T26 O0
-      at32 = λ bs. λ Ψ. Typed.pass T26 T27 (s25 bs) (at31 bs Ψ)
+      abbrev at32 : (bs : List.List Nat.ℕ) → Typed.TF T22 O0
+      at32 = λ bs. λ Ψ. Typed.pass T22 T23 (s21 bs) (at31 bs Ψ)
 
-      abbrev at33 : (bs : List.List Nat.ℕ) → Typed.TF T25 O0
-      at33 = λ bs. λ Ψ. Typed.ask (s24 bs) (at32 bs Ψ)
+      abbrev at33 : (bs : List.List Nat.ℕ) → Typed.TF T21 O0
+      at33 = λ bs. λ Ψ. Typed.ask (s20 bs) (at32 bs Ψ)
 
-      abbrev at34 : (bs : List.List Nat.ℕ) → Typed.TF T24 O0
-      at34 = λ bs. λ Ψ. Typed.pass T24 T25 (s23 bs) (at33 bs Ψ)
+      abbrev at34 : (bs : List.List Nat.ℕ) → Typed.TF T20 O0
+      at34 = λ bs. λ Ψ. Typed.pass T20 T21 (s19 bs) (at33 bs Ψ)
 
-      abbrev at35 : (bs : List.List Nat.ℕ) → Typed.TF T22 O0
-      at35 = λ bs. λ Ψ. Typed.both (s22 bs) (at34 bs Ψ)
+      abbrev at35 : (bs : List.List Nat.ℕ) → Typed.TF T18 O0
+      at35 = λ bs. λ Ψ. Typed.both (s18 bs) (at34 bs Ψ)
 
-      abbrev at36 : (bs : List.List Nat.ℕ) → Typed.TF T22 O0
+      abbrev at36 : (bs : List.List Nat.ℕ) → Typed.TF T18 O0
       at36 = λ bs. λ Ψ. at35 bs Ψ
 
-      abbrev at37 : (bs : List.List Nat.ℕ) → Typed.TF T21 O0
-      at37 = λ bs. λ Ψ. Typed.ask (s20 bs) (at36 bs Ψ)
+      abbrev at37 : (bs : List.List Nat.ℕ) → Typed.TF T17 O0
+      at37 = λ bs. λ Ψ. Typed.ask (s16 bs) (at36 bs Ψ)
 
-      abbrev at38 : (bs : List.List Nat.ℕ) → Typed.TF T20 O0
-      at38 = λ bs. λ Ψ. Typed.pass T20 T21 (s19 bs) (at37 bs Ψ)
+      abbrev at38 : (bs : List.List Nat.ℕ) → Typed.TF T16 O0
+      at38 = λ bs. λ Ψ. Typed.pass T16 T17 (s15 bs) (at37 bs Ψ)
 
-      abbrev at39 : (bs : List.List Nat.ℕ) → Typed.TF T19 O0
-      at39 = λ bs. λ Ψ. Typed.ask (s18 bs) (at38 bs Ψ)
+      abbrev at39 : (bs : List.List Nat.ℕ) → Typed.TF T15 O0
+      at39 = λ bs. λ Ψ. Typed.ask (s14 bs) (at38 bs Ψ)
 
-      abbrev at40 : (bs : List.List Nat.ℕ) → Typed.TF T18 O0
-      at40 = λ bs. λ Ψ. Typed.pass T18 T19 (s17 bs) (at39 bs Ψ)
+      abbrev at40 : (bs : List.List Nat.ℕ) → Typed.TF T14 O0
+      at40 = λ bs. λ Ψ. Typed.pass T14 T15 (s13 bs) (at39 bs Ψ)
 
-      abbrev at41 : (bs : List.List Nat.ℕ) → Typed.TF T17 O0
-      at41 = λ bs. λ Ψ. Typed.pass T17 T18 (s16 bs) (at40 bs Ψ)
+      abbrev at41 : (bs : List.List Nat.ℕ) → Typed.TF T13 O0
+      at41 = λ bs. λ Ψ. Typed.both (s12 bs) (at40 bs Ψ)
 
-      abbrev at42 : (bs : List.List Nat.ℕ) → Typed.TF T16 O0
-      at42 = λ bs. λ Ψ. Typed.ask (s15 bs) (at41 bs Ψ)
+      abbrev at42 : (bs : List.List Nat.ℕ) → Typed.TF T12 O0
+      at42 = λ bs. λ Ψ. Typed.pass T12 T13 (s11 bs) (at41 bs Ψ)
 
-      abbrev at43 : (bs : List.List Nat.ℕ) → Typed.TF T15 O0
-      at43 = λ bs. λ Ψ. Typed.pass T15 T16 (s14 bs) (at42 bs Ψ)
+      abbrev at43 : (bs : List.List Nat.ℕ) → Typed.TF T11 O0
+      at43 = λ bs. λ Ψ. Typed.pass T11 T12 (s10 bs) (at42 bs Ψ)
 
-      abbrev at44 : (bs : List.List Nat.ℕ) → Typed.TF T14 O0
-      at44 = λ bs. λ Ψ. Typed.ask (s13 bs) (at43 bs Ψ)
+      abbrev at44 : (bs : List.List Nat.ℕ) → Typed.TF T10 O0
+      at44 = λ bs. λ Ψ. Typed.pass T10 T11 (s9 bs) (at43 bs Ψ)
 
-      abbrev at45 : (bs : List.List Nat.ℕ) → Typed.TF T13 O0
-      at45 = λ bs. λ Ψ. Typed.both (s12 bs) (at44 bs Ψ)
+      abbrev at45 : (bs : List.List Nat.ℕ) → Typed.TF T9 O0
+      at45 = λ bs. λ Ψ. Typed.both (s8 bs) (at44 bs Ψ)
 
-      abbrev at46 : (bs : List.List Nat.ℕ) → Typed.TF T12 O0
-      at46 = λ bs. λ Ψ. Typed.pass T12 T13 (s11 bs) (at45 bs Ψ)
+      abbrev at46 : (bs : List.List Nat.ℕ) → Typed.TF T8 O0
+      at46 = λ bs. λ Ψ. Typed.pass T8 T9 (s7 bs) (at45 bs Ψ)
 
-      abbrev at47 : (bs : List.List Nat.ℕ) → Typed.TF T11 O0
-      at47 = λ bs. λ Ψ. Typed.pass T11 T12 (s10 bs) (at46 bs Ψ)
+      abbrev at47 : (bs : List.List Nat.ℕ) → Typed.TF T7 O0
+      at47 = λ bs. λ Ψ. Typed.pass T7 T8 (s6 bs) (at46 bs Ψ)
 
-      abbrev at48 : (bs : List.List Nat.ℕ) → Typed.TF T10 O0
-      at48 = λ bs. λ Ψ. Typed.pass T10 T11 (s9 bs) (at47 bs Ψ)
+      abbrev at48 : (bs : List.List Nat.ℕ) → Typed.TF T6 O0
+      at48 = λ bs. λ Ψ. Typed.pass T6 T7 (s5 bs) (at47 bs Ψ)
 
-      abbrev at49 : (bs : List.List Nat.ℕ) → Typed.TF T9 O0
-      at49 = λ bs. λ Ψ. Typed.both (s8 bs) (at48 bs Ψ)
+      abbrev at49 : (bs : List.List Nat.ℕ) → Typed.TF T5 O0
+      at49 = λ bs. λ Ψ. Typed.pass T5 T6 (s4 bs) (at48 bs Ψ)
 
-      abbrev at50 : (bs : List.List Nat.ℕ) → Typed.TF T8 O0
-      at50 = λ bs. λ Ψ. Typed.pass T8 T9 (s7 bs) (at49 bs Ψ)
+      abbrev at50 : (bs : List.List Nat.ℕ) → Typed.TF T4 O0
+      at50 = λ bs. λ Ψ. Typed.both (s3 bs) (at49 bs Ψ)
 
-      abbrev at51 : (bs : List.List Nat.ℕ) → Typed.TF T7 O0
-      at51 = λ bs. λ Ψ. Typed.pass T7 T8 (s6 bs) (at50 bs Ψ)
+      abbrev at51 : (bs : List.List Nat.ℕ) → Typed.TF T3 O0
+      at51 = λ bs. λ Ψ. Typed.give (s2 bs) (at50 bs Ψ)
 
-      abbrev at52 : (bs : List.List Nat.ℕ) → Typed.TF T6 O0
-      at52 = λ bs. λ Ψ. Typed.pass T6 T7 (s5 bs) (at51 bs Ψ)
+      abbrev at52 : (bs : List.List Nat.ℕ) → Typed.TF T2 O0
+      at52 = λ bs. λ Ψ. Typed.give (s1 bs) (at51 bs Ψ)
 
-      abbrev at53 : (bs : List.List Nat.ℕ) → Typed.TF T5 O0
-      at53 = λ bs. λ Ψ. Typed.pass T5 T6 (s4 bs) (at52 bs Ψ)
-
-      abbrev at54 : (bs : List.List Nat.ℕ) → Typed.TF T4 O0
-      at54 = λ bs. λ Ψ. Typed.both (s3 bs) (at53 bs Ψ)
-
-      abbrev at55 : (bs : List.List Nat.ℕ) → Typed.TF T3 O0
-      at55 = λ bs. λ Ψ. Typed.give (s2 bs) (at54 bs Ψ)
-
-      abbrev at56 : (bs : List.List Nat.ℕ) → Typed.TF T2 O0
-      at56 = λ bs. λ Ψ. Typed.give (s1 bs) (at55 bs Ψ)
-
-      abbrev at57 : (bs : List.List Nat.ℕ) → Typed.TF T0 O0
-      at57 = λ bs. λ Ψ. Typed.give (s0 bs) (at56 bs Ψ)
+      abbrev at53 : (bs : List.List Nat.ℕ) → Typed.TF T0 O0
+      at53 = λ bs. λ Ψ. Typed.give (s0 bs) (at52 bs Ψ)
 
       abbrev pub Φ : (bs : List.List Nat.ℕ) → Typed.TF T0 O0
-      Φ = λ bs. at57 bs
+      Φ = λ bs. at53 bs
 
       module _ {M : Type 1} (𝓤 : URA.URA M) (H : Wp.Heap 𝓤) (A : Atoms.Atoms 𝓤) (W : Kit.Given 𝓤 H A) (𝓣 : Wp.Tables 𝓤 H) where
         abbrev Knowns : Type 1
         Knowns = Plain.Known 𝓤 H A W 𝓣 0 ps·0 r·0 (claims· .0) (claims· .1) "map::xtrans_places" × Plain.Known 𝓤 H A W 𝓣 0 ps·1 r·1 (claims· .2) (claims· .3) "block::records::cleared" × Plain.Known 𝓤
-            H A W 𝓣 0 ps·2 r·2 (claims· .4) (claims· .5) "map::width" × Plain.Known 𝓤 H A W 𝓣 6 ps·3 r·3 (claims· .6) (claims· .7) "block::reading::walk"
+            H A W 𝓣 0 ps·2 r·2 (claims· .4) (claims· .5) "begin::samples_needed" × Plain.Known 𝓤 H A W 𝓣 6 ps·3 r·3 (claims· .6) (claims· .7) "block::reading::walk"
 
       module _ (κs : Lifetimes.Lfts 3) (qs : Lifetimes.Shares 3) where
-        abbrev g29 : List.List Row.Entry
-        g29 = List._∷_ e0 (List._∷_ e2 (List._∷_ e25 (List._∷_
-            (3, Relend.mslice-owed (Referent.rtF (Referent.fInt Syntax.w16)) (Syntax.tyRef (Syntax.named 2) Syntax.mut (Syntax.tyInt Syntax.w16)) 2 5 (Row.lease (κs .1 .1 .0) (qs .1 .1 .0))) (List._∷_ e39
-            (List._∷_ e41 (List._∷_ e43 (List._∷_ e44 (List._∷_ e47 (List._∷_ e49 (List._∷_ e4 (List._∷_ e7 (List._∷_ e8 (List._∷_ e11 (List._∷_ e12 (List._∷_ e14 List.[])))))))))))))))
+        abbrev g25 : List.List Row.Entry
+        g25 = List._∷_ e0 (List._∷_ e2 (List._∷_ e23 (List._∷_
+            (3, Relend.mslice-owed (Referent.rtF (Referent.fInt Syntax.w16)) (Syntax.tyRef (Syntax.named 2) Syntax.mut (Syntax.tyInt Syntax.w16)) 2 5 (Row.lease (κs .1 .1 .0) (qs .1 .1 .0))) (List._∷_ e36
+            (List._∷_ e38 (List._∷_ e40 (List._∷_ e41 (List._∷_ e44 (List._∷_ e46 (List._∷_ e4 (List._∷_ e7 (List._∷_ e8 (List._∷_ e11 (List._∷_ e12 (List._∷_ e14 List.[])))))))))))))))
 
-        abbrev g32 : List.List Row.Entry
-        g32 = List._∷_ e0 (List._∷_ e2 (List._∷_ e25 (List._∷_
-            (3, Relend.mslice-owed (Referent.rtF (Referent.fInt Syntax.w16)) (Syntax.tyRef (Syntax.named 2) Syntax.mut (Syntax.tyInt Syntax.w16)) 2 5 (Row.lease (κs .1 .1 .0) (qs .1 .1 .0))) (List._∷_ e39
-            (List._∷_ e41 (List._∷_ e43 (List._∷_ e44 (List._∷_ e46 (List._∷_ e49 (List._∷_ e4 (List._∷_ e7 (List._∷_ e8 (List._∷_ e11 (List._∷_ e12 (List._∷_ e14 List.[])))))))))))))))
+        abbrev g28 : List.List Row.Entry
+        g28 = List._∷_ e0 (List._∷_ e2 (List._∷_ e23 (List._∷_
+            (3, Relend.mslice-owed (Referent.rtF (Referent.fInt Syntax.w16)) (Syntax.tyRef (Syntax.named 2) Syntax.mut (Syntax.tyInt Syntax.w16)) 2 5 (Row.lease (κs .1 .1 .0) (qs .1 .1 .0))) (List._∷_ e36
+            (List._∷_ e38 (List._∷_ e40 (List._∷_ e41 (List._∷_ e43 (List._∷_ e46 (List._∷_ e4 (List._∷_ e7 (List._∷_ e8 (List._∷_ e11 (List._∷_ e12 (List._∷_ e14 List.[])))))))))))))))
+
+        abbrev g30 : List.List Row.Entry
+        g30 = List._∷_ e1 (List._∷_ e2 (List._∷_ e23 (List._∷_
+            (3, Relend.mslice-owed (Referent.rtF (Referent.fInt Syntax.w16)) (Syntax.tyRef (Syntax.named 2) Syntax.mut (Syntax.tyInt Syntax.w16)) 2 5 (Row.lease (κs .1 .1 .0) (qs .1 .1 .0))) (List._∷_ e36
+            (List._∷_ e38 (List._∷_ e40 (List._∷_ e41 (List._∷_ e43 (List._∷_ e46 (List._∷_ e4 (List._∷_ e7 (List._∷_ e8 (List._∷_ e11 (List._∷_ e12 (List._∷_ e14 List.[])))))))))))))))
+
+        abbrev g33 : List.List Row.Entry
+        g33 = List._∷_ e1 (List._∷_ e2 (List._∷_ e23 (List._∷_
+            (3, Relend.mslice-owed (Referent.rtF (Referent.fInt Syntax.w16)) (Syntax.tyRef (Syntax.named 2) Syntax.mut (Syntax.tyInt Syntax.w16)) 2 5 (Row.lease (κs .1 .1 .0) (qs .1 .1 .0))) (List._∷_ e35
+            (List._∷_ e38 (List._∷_ e40 (List._∷_ e41 (List._∷_ e43 (List._∷_ e46 (List._∷_ e4 (List._∷_ e7 (List._∷_ e8 (List._∷_ e11 (List._∷_ e12 (List._∷_ e14 List.[])))))))))))))))
 
         abbrev g34 : List.List Row.Entry
-        g34 = List._∷_ e1 (List._∷_ e2 (List._∷_ e25 (List._∷_
-            (3, Relend.mslice-owed (Referent.rtF (Referent.fInt Syntax.w16)) (Syntax.tyRef (Syntax.named 2) Syntax.mut (Syntax.tyInt Syntax.w16)) 2 5 (Row.lease (κs .1 .1 .0) (qs .1 .1 .0))) (List._∷_ e39
-            (List._∷_ e41 (List._∷_ e43 (List._∷_ e44 (List._∷_ e46 (List._∷_ e49 (List._∷_ e4 (List._∷_ e7 (List._∷_ e8 (List._∷_ e11 (List._∷_ e12 (List._∷_ e14 List.[])))))))))))))))
+        g34 = List._∷_ e1 (List._∷_ e2 (List._∷_ e23 (List._∷_
+            (3, Relend.mslice-owed (Referent.rtF (Referent.fInt Syntax.w16)) (Syntax.tyRef (Syntax.named 2) Syntax.mut (Syntax.tyInt Syntax.w16)) 2 5 (Row.lease (κs .1 .1 .0) (qs .1 .1 .0))) (List._∷_ e35
+            (List._∷_ e37 (List._∷_ e40 (List._∷_ e41 (List._∷_ e43 (List._∷_ e46 (List._∷_ e4 (List._∷_ e7 (List._∷_ e8 (List._∷_ e11 (List._∷_ e12 (List._∷_ e14 List.[])))))))))))))))
+
+        abbrev g35 : List.List Row.Entry
+        g35 = List._∷_ e1 (List._∷_ e2 (List._∷_ e23 (List._∷_
+            (3, Relend.mslice-owed (Referent.rtF (Referent.fInt Syntax.w16)) (Syntax.tyRef (Syntax.named 2) Syntax.mut (Syntax.tyInt Syntax.w16)) 2 5 (Row.lease (κs .1 .1 .0) (qs .1 .1 .0))) (List._∷_ e35
+            (List._∷_ e37 (List._∷_ e39 (List._∷_ e41 (List._∷_ e43 (List._∷_ e46 (List._∷_ e4 (List._∷_ e7 (List._∷_ e8 (List._∷_ e11 (List._∷_ e12 (List._∷_ e14 List.[])))))))))))))))
+
+        abbrev g36 : List.List Row.Entry
+        g36 = List._∷_ e1 (List._∷_ e2 (List._∷_ e23 (List._∷_
+            (3, Relend.mslice-owed (Referent.rtF (Referent.fInt Syntax.w16)) (Syntax.tyRef (Syntax.named 2) Syntax.mut (Syntax.tyInt Syntax.w16)) 2 5 (Row.lease (κs .1 .1 .0) (qs .1 .1 .0))) (List._∷_ e35
+            (List._∷_ e37 (List._∷_ e39 (List._∷_ e41 (List._∷_ e43 (List._∷_ e46 (List._∷_ e4 (List._∷_ e6 (List._∷_ e8 (List._∷_ e11 (List._∷_ e12 (List._∷_ e14 List.[])))))))))))))))
 
         abbrev g37 : List.List Row.Entry
-        g37 = List._∷_ e1 (List._∷_ e2 (List._∷_ e25 (List._∷_
-            (3, Relend.mslice-owed (Referent.rtF (Referent.fInt Syntax.w16)) (Syntax.tyRef (Syntax.named 2) Syntax.mut (Syntax.tyInt Syntax.w16)) 2 5 (Row.lease (κs .1 .1 .0) (qs .1 .1 .0))) (List._∷_ e38
-            (List._∷_ e41 (List._∷_ e43 (List._∷_ e44 (List._∷_ e46 (List._∷_ e49 (List._∷_ e4 (List._∷_ e7 (List._∷_ e8 (List._∷_ e11 (List._∷_ e12 (List._∷_ e14 List.[])))))))))))))))
-
-        abbrev g38 : List.List Row.Entry
-        g38 = List._∷_ e1 (List._∷_ e2 (List._∷_ e25 (List._∷_
-            (3, Relend.mslice-owed (Referent.rtF (Referent.fInt Syntax.w16)) (Syntax.tyRef (Syntax.named 2) Syntax.mut (Syntax.tyInt Syntax.w16)) 2 5 (Row.lease (κs .1 .1 .0) (qs .1 .1 .0))) (List._∷_ e38
-            (List._∷_ e40 (List._∷_ e43 (List._∷_ e44 (List._∷_ e46 (List._∷_ e49 (List._∷_ e4 (List._∷_ e7 (List._∷_ e8 (List._∷_ e11 (List._∷_ e12 (List._∷_ e14 List.[])))))))))))))))
+        g37 = List._∷_ e1 (List._∷_ e2 (List._∷_ e23 (List._∷_
+            (3, Relend.mslice-owed (Referent.rtF (Referent.fInt Syntax.w16)) (Syntax.tyRef (Syntax.named 2) Syntax.mut (Syntax.tyInt Syntax.w16)) 2 5 (Row.lease (κs .1 .1 .0) (qs .1 .1 .0))) (List._∷_ e35
+            (List._∷_ e37 (List._∷_ e39 (List._∷_ e41 (List._∷_ e43 (List._∷_ e47 (List._∷_ e4 (List._∷_ e6 (List._∷_ e8 (List._∷_ e11 (List._∷_ e12 (List._∷_ e14 List.[])))))))))))))))
 
         abbrev g39 : List.List Row.Entry
-        g39 = List._∷_ e1 (List._∷_ e2 (List._∷_ e25 (List._∷_
-            (3, Relend.mslice-owed (Referent.rtF (Referent.fInt Syntax.w16)) (Syntax.tyRef (Syntax.named 2) Syntax.mut (Syntax.tyInt Syntax.w16)) 2 5 (Row.lease (κs .1 .1 .0) (qs .1 .1 .0))) (List._∷_ e38
-            (List._∷_ e40 (List._∷_ e42 (List._∷_ e44 (List._∷_ e46 (List._∷_ e49 (List._∷_ e4 (List._∷_ e7 (List._∷_ e8 (List._∷_ e11 (List._∷_ e12 (List._∷_ e14 List.[])))))))))))))))
+        g39 = List._∷_ e1 (List._∷_ e2 (List._∷_ e23 (List._∷_
+            (3, Relend.mslice-owed (Referent.rtF (Referent.fInt Syntax.w16)) (Syntax.tyRef (Syntax.named 2) Syntax.mut (Syntax.tyInt Syntax.w16)) 2 5 (Row.lease (κs .1 .1 .0) (qs .1 .1 .0))) (List._∷_ e35
+            (List._∷_ e37 (List._∷_ e39 (List._∷_ e41 (List._∷_ e43 (List._∷_ e45 (List._∷_ e4 (List._∷_ e6 (List._∷_ e8 (List._∷_ e11 (List._∷_ e12 (List._∷_ e14 List.[])))))))))))))))
 
         abbrev g40 : List.List Row.Entry
-        g40 = List._∷_ e1 (List._∷_ e2 (List._∷_ e25 (List._∷_
-            (3, Relend.mslice-owed (Referent.rtF (Referent.fInt Syntax.w16)) (Syntax.tyRef (Syntax.named 2) Syntax.mut (Syntax.tyInt Syntax.w16)) 2 5 (Row.lease (κs .1 .1 .0) (qs .1 .1 .0))) (List._∷_ e38
-            (List._∷_ e40 (List._∷_ e42 (List._∷_ e44 (List._∷_ e46 (List._∷_ e49 (List._∷_ e4 (List._∷_ e6 (List._∷_ e8 (List._∷_ e11 (List._∷_ e12 (List._∷_ e14 List.[])))))))))))))))
+        g40 = List._∷_ e1 (List._∷_ e2 (List._∷_ e23 (List._∷_
+            (3, Relend.mslice-owed (Referent.rtF (Referent.fInt Syntax.w16)) (Syntax.tyRef (Syntax.named 2) Syntax.mut (Syntax.tyInt Syntax.w16)) 2 5 (Row.lease (κs .1 .1 .0) (qs .1 .1 .0))) (List._∷_ e35
+            (List._∷_ e37 (List._∷_ e39 (List._∷_ e41 (List._∷_ e43 (List._∷_ e45 (List._∷_ e5 (List._∷_ e6 (List._∷_ e8 (List._∷_ e11 (List._∷_ e12 (List._∷_ e14 List.[])))))))))))))))
 
-        abbrev g41 : List.List Row.Entry
-        g41 = List._∷_ e1 (List._∷_ e2 (List._∷_ e25 (List._∷_
-            (3, Relend.mslice-owed (Referent.rtF (Referent.fInt Syntax.w16)) (Syntax.tyRef (Syntax.named 2) Syntax.mut (Syntax.tyInt Syntax.w16)) 2 5 (Row.lease (κs .1 .1 .0) (qs .1 .1 .0))) (List._∷_ e38
-            (List._∷_ e40 (List._∷_ e42 (List._∷_ e44 (List._∷_ e46 (List._∷_ e50 (List._∷_ e4 (List._∷_ e6 (List._∷_ e8 (List._∷_ e11 (List._∷_ e12 (List._∷_ e14 List.[])))))))))))))))
-
-        abbrev g43 : List.List Row.Entry
-        g43 = List._∷_ e1 (List._∷_ e2 (List._∷_ e25 (List._∷_
-            (3, Relend.mslice-owed (Referent.rtF (Referent.fInt Syntax.w16)) (Syntax.tyRef (Syntax.named 2) Syntax.mut (Syntax.tyInt Syntax.w16)) 2 5 (Row.lease (κs .1 .1 .0) (qs .1 .1 .0))) (List._∷_ e38
-            (List._∷_ e40 (List._∷_ e42 (List._∷_ e44 (List._∷_ e46 (List._∷_ e48 (List._∷_ e4 (List._∷_ e6 (List._∷_ e8 (List._∷_ e11 (List._∷_ e12 (List._∷_ e14 List.[])))))))))))))))
-
-        abbrev g44 : List.List Row.Entry
-        g44 = List._∷_ e1 (List._∷_ e2 (List._∷_ e25 (List._∷_
-            (3, Relend.mslice-owed (Referent.rtF (Referent.fInt Syntax.w16)) (Syntax.tyRef (Syntax.named 2) Syntax.mut (Syntax.tyInt Syntax.w16)) 2 5 (Row.lease (κs .1 .1 .0) (qs .1 .1 .0))) (List._∷_ e38
-            (List._∷_ e40 (List._∷_ e42 (List._∷_ e44 (List._∷_ e46 (List._∷_ e48 (List._∷_ e5 (List._∷_ e6 (List._∷_ e8 (List._∷_ e11 (List._∷_ e12 (List._∷_ e14 List.[])))))))))))))))
-
-        abbrev g46 : List.List Row.Entry
-        g46 = List._∷_ e1 (List._∷_ e2 (List._∷_ e25 (List._∷_
-            (3, Relend.mslice-owed (Referent.rtF (Referent.fInt Syntax.w16)) (Syntax.tyRef (Syntax.named 2) Syntax.mut (Syntax.tyInt Syntax.w16)) 2 5 (Row.lease (κs .1 .1 .0) (qs .1 .1 .0))) (List._∷_ e38
-            (List._∷_ e40 (List._∷_ e42 (List._∷_ e44 (List._∷_ e46 (List._∷_ e48 (List._∷_ e3 (List._∷_ e6 (List._∷_ e8 (List._∷_ e11 (List._∷_ e12 (List._∷_ e14 List.[])))))))))))))))
+        abbrev g42 : List.List Row.Entry
+        g42 = List._∷_ e1 (List._∷_ e2 (List._∷_ e23 (List._∷_
+            (3, Relend.mslice-owed (Referent.rtF (Referent.fInt Syntax.w16)) (Syntax.tyRef (Syntax.named 2) Syntax.mut (Syntax.tyInt Syntax.w16)) 2 5 (Row.lease (κs .1 .1 .0) (qs .1 .1 .0))) (List._∷_ e35
+            (List._∷_ e37 (List._∷_ e39 (List._∷_ e41 (List._∷_ e43 (List._∷_ e45 (List._∷_ e3 (List._∷_ e6 (List._∷_ e8 (List._∷_ e11 (List._∷_ e12 (List._∷_ e14 List.[])))))))))))))))
 
         abbrev G0 : Row.Cx
         G0 = record {
@@ -1402,286 +1330,258 @@ module _ (claims· : Claims) where
 
         abbrev G18 : Row.Cx
         G18 = record {
-          locals = List._++_ t16 t1;
+          locals = List._++_ t15 t16;
           slots = List._∷_ (Row.lease (κs .0) (qs .0)) (List._∷_ (Row.lease (κs .1 .0) (qs .1 .0)) (List._∷_ (Row.lease (κs .1 .1 .0) (qs .1 .1 .0)) (List._∷_ Row.off
               (List._∷_ Row.off (List._∷_ Row.off (List._∷_ Row.off List.[]))))));
         }
 
         abbrev G19 : Row.Cx
         G19 = record {
-          locals = List._++_ t16 t17;
-          slots = List._∷_ (Row.lease (κs .0) (qs .0)) (List._∷_ (Row.lease (κs .1 .0) (qs .1 .0)) (List._∷_ (Row.lease (κs .1 .1 .0) (qs .1 .1 .0)) (List._∷_ Row.off
+          locals = List._++_ t15 t16;
+          slots = List._∷_ (Row.lease (κs .0) (qs .0)) (List._∷_ (Row.lease (κs .1 .0) (qs .1 .0)) (List._∷_ (Row.lease (κs .1 .1 .0) (qs .1 .1 .0)) (List._∷_ Row.alive
               (List._∷_ Row.off (List._∷_ Row.off (List._∷_ Row.off List.[]))))));
         }
 
         abbrev G20 : Row.Cx
         G20 = record {
-          locals = List._++_ t16 t18;
-          slots = List._∷_ (Row.lease (κs .0) (qs .0)) (List._∷_ (Row.lease (κs .1 .0) (qs .1 .0)) (List._∷_ (Row.lease (κs .1 .1 .0) (qs .1 .1 .0)) (List._∷_ Row.off
+          locals = List._++_ t17 t18;
+          slots = List._∷_ (Row.lease (κs .0) (qs .0)) (List._∷_ (Row.lease (κs .1 .0) (qs .1 .0)) (List._∷_ (Row.lease (κs .1 .1 .0) (qs .1 .1 .0)) (List._∷_ Row.alive
               (List._∷_ Row.off (List._∷_ Row.off (List._∷_ Row.off List.[]))))));
         }
 
         abbrev G21 : Row.Cx
         G21 = record {
-          locals = List._++_ t16 t19;
-          slots = List._∷_ (Row.lease (κs .0) (qs .0)) (List._∷_ (Row.lease (κs .1 .0) (qs .1 .0)) (List._∷_ (Row.lease (κs .1 .1 .0) (qs .1 .1 .0)) (List._∷_ Row.off
+          locals = List._++_ t19 t18;
+          slots = List._∷_ (Row.lease (κs .0) (qs .0)) (List._∷_ (Row.lease (κs .1 .0) (qs .1 .0)) (List._∷_ (Row.lease (κs .1 .1 .0) (qs .1 .1 .0)) (List._∷_ Row.alive
               (List._∷_ Row.off (List._∷_ Row.off (List._∷_ Row.off List.[]))))));
         }
 
         abbrev G22 : Row.Cx
         G22 = record {
-          locals = List._++_ t20 t19;
-          slots = List._∷_ (Row.lease (κs .0) (qs .0)) (List._∷_ (Row.lease (κs .1 .0) (qs .1 .0)) (List._∷_ (Row.lease (κs .1 .1 .0) (qs .1 .1 .0)) (List._∷_ Row.off
+          locals = List._++_ t19 t20;
+          slots = List._∷_ (Row.lease (κs .0) (qs .0)) (List._∷_ (Row.lease (κs .1 .0) (qs .1 .0)) (List._∷_ (Row.lease (κs .1 .1 .0) (qs .1 .1 .0)) (List._∷_ Row.alive
               (List._∷_ Row.off (List._∷_ Row.off (List._∷_ Row.off List.[]))))));
         }
 
         abbrev G23 : Row.Cx
         G23 = record {
-          locals = List._++_ t20 t19;
+          locals = List._++_ t19 t21;
           slots = List._∷_ (Row.lease (κs .0) (qs .0)) (List._∷_ (Row.lease (κs .1 .0) (qs .1 .0)) (List._∷_ (Row.lease (κs .1 .1 .0) (qs .1 .1 .0)) (List._∷_ Row.alive
               (List._∷_ Row.off (List._∷_ Row.off (List._∷_ Row.off List.[]))))));
         }
 
         abbrev G24 : Row.Cx
         G24 = record {
-          locals = List._++_ t21 t22;
+          locals = List._++_ t19 t21;
           slots = List._∷_ (Row.lease (κs .0) (qs .0)) (List._∷_ (Row.lease (κs .1 .0) (qs .1 .0)) (List._∷_ (Row.lease (κs .1 .1 .0) (qs .1 .1 .0)) (List._∷_ Row.alive
-              (List._∷_ Row.off (List._∷_ Row.off (List._∷_ Row.off List.[]))))));
+              (List._∷_ Row.alive (List._∷_ Row.off (List._∷_ Row.off List.[]))))));
         }
 
         abbrev G25 : Row.Cx
         G25 = record {
-          locals = List._++_ t21 t23;
+          locals = List._++_ t22 t23;
           slots = List._∷_ (Row.lease (κs .0) (qs .0)) (List._∷_ (Row.lease (κs .1 .0) (qs .1 .0)) (List._∷_ (Row.lease (κs .1 .1 .0) (qs .1 .1 .0)) (List._∷_ Row.alive
-              (List._∷_ Row.off (List._∷_ Row.off (List._∷_ Row.off List.[]))))));
+              (List._∷_ Row.alive (List._∷_ Row.off (List._∷_ Row.off List.[]))))));
         }
 
         abbrev G26 : Row.Cx
         G26 = record {
-          locals = List._++_ t21 t24;
+          locals = List._++_ t22 t24;
           slots = List._∷_ (Row.lease (κs .0) (qs .0)) (List._∷_ (Row.lease (κs .1 .0) (qs .1 .0)) (List._∷_ (Row.lease (κs .1 .1 .0) (qs .1 .1 .0)) (List._∷_ Row.alive
-              (List._∷_ Row.off (List._∷_ Row.off (List._∷_ Row.off List.[]))))));
+              (List._∷_ Row.alive (List._∷_ Row.off (List._∷_ Row.off List.[]))))));
         }
 
         abbrev G27 : Row.Cx
         G27 = record {
-          locals = List._++_ t25 t24;
-          slots = List._∷_ (Row.lease (κs .0) (qs .0)) (List._∷_ (Row.lease (κs .1 .0) (qs .1 .0)) (List._∷_ (Row.lease (κs .1 .1 .0) (qs .1 .1 .0)) (List._∷_ Row.alive
-              (List._∷_ Row.off (List._∷_ Row.off (List._∷_ Row.off List.[]))))));
-        }
-
-        abbrev G28 : Row.Cx
-        G28 = record {
-          locals = List._++_ t25 t24;
-          slots = List._∷_ (Row.lease (κs .0) (qs .0)) (List._∷_ (Row.lease (κs .1 .0) (qs .1 .0)) (List._∷_ (Row.lease (κs .1 .1 .0) (qs .1 .1 .0)) (List._∷_ Row.alive
-              (List._∷_ Row.alive (List._∷_ Row.off (List._∷_ Row.off List.[]))))));
-        }
-
-        abbrev G29 : Row.Cx
-        G29 = record {
-          locals = List._++_ t26 t27;
-          slots = List._∷_ (Row.lease (κs .0) (qs .0)) (List._∷_ (Row.lease (κs .1 .0) (qs .1 .0)) (List._∷_ (Row.lease (κs .1 .1 .0) (qs .1 .1 .0)) (List._∷_ Row.alive
-              (List._∷_ Row.alive (List._∷_ Row.off (List._∷_ Row.off List.[]))))));
-        }
-
-        abbrev G30 : Row.Cx
-        G30 = record {
-          locals = List._++_ t26 t28;
-          slots = List._∷_ (Row.lease (κs .0) (qs .0)) (List._∷_ (Row.lease (κs .1 .0) (qs .1 .0)) (List._∷_ (Row.lease (κs .1 .1 .0) (qs .1 .1 .0)) (List._∷_ Row.alive
-              (List._∷_ Row.alive (List._∷_ Row.off (List._∷_ Row.off List.[]))))));
-        }
-
-        abbrev G31 : Row.Cx
-        G31 = record {
-          locals = List._++_ t26 t28;
+          locals = List._++_ t22 t24;
           slots = List._∷_ (Row.lease (κs .0) (qs .0)) (List._∷_ (Row.lease (κs .1 .0) (qs .1 .0)) (List._∷_ (Row.lease (κs .1 .1 .0) (qs .1 .1 .0)) (List._∷_ Row.alive
               (List._∷_ Row.alive (List._∷_ Row.alive (List._∷_ Row.off List.[]))))));
         }
 
-        abbrev G32 : Row.Cx
-        G32 = record {
-          locals = List._++_ g29 t30;
+        abbrev G28 : Row.Cx
+        G28 = record {
+          locals = List._++_ g25 t26;
           slots = List._∷_ (Row.lease (κs .0) (qs .0)) (List._∷_ (Row.lease (κs .1 .0) (qs .1 .0)) (List._∷_ Row.off (List._∷_ Row.alive (List._∷_ Row.alive (List._∷_
               Row.alive (List._∷_ Row.off List.[]))))));
+        }
+
+        abbrev G29 : Row.Cx
+        G29 = record {
+          locals = List._++_ g25 t27;
+          slots = List._∷_ (Row.lease (κs .0) (qs .0)) (List._∷_ (Row.lease (κs .1 .0) (qs .1 .0)) (List._∷_ Row.off (List._∷_ Row.alive (List._∷_ Row.alive (List._∷_
+              Row.alive (List._∷_ Row.off List.[]))))));
+        }
+
+        abbrev G30 : Row.Cx
+        G30 = record {
+          locals = List._++_ g25 t27;
+          slots = List._∷_ (Row.lease (κs .0) (qs .0)) (List._∷_ (Row.lease (κs .1 .0) (qs .1 .0)) (List._∷_ Row.off (List._∷_ Row.alive (List._∷_ Row.alive (List._∷_
+              Row.alive (List._∷_ Row.alive List.[]))))));
+        }
+
+        abbrev G31 : Row.Cx
+        G31 = record {
+          locals = List._++_ g28 t29;
+          slots = List._∷_ (Row.lease (κs .0) (qs .0)) (List._∷_ (Row.lease (κs .1 .0) (qs .1 .0)) (List._∷_ Row.off (List._∷_ Row.alive (List._∷_ Row.alive (List._∷_
+              Row.alive (List._∷_ Row.alive List.[]))))));
+        }
+
+        abbrev G32 : Row.Cx
+        G32 = record {
+          locals = List._++_ g30 t31;
+          slots = List._∷_ (Row.lease (κs .0) (qs .0)) (List._∷_ (Row.lease (κs .1 .0) (qs .1 .0)) (List._∷_ Row.off (List._∷_ Row.alive (List._∷_ Row.alive (List._∷_
+              Row.alive (List._∷_ Row.alive List.[]))))));
         }
 
         abbrev G33 : Row.Cx
         G33 = record {
-          locals = List._++_ g29 t31;
+          locals = List._++_ g30 t32;
           slots = List._∷_ (Row.lease (κs .0) (qs .0)) (List._∷_ (Row.lease (κs .1 .0) (qs .1 .0)) (List._∷_ Row.off (List._∷_ Row.alive (List._∷_ Row.alive (List._∷_
-              Row.alive (List._∷_ Row.off List.[]))))));
+              Row.alive (List._∷_ Row.alive List.[]))))));
         }
 
         abbrev G34 : Row.Cx
         G34 = record {
-          locals = List._++_ g29 t31;
+          locals = List._++_ g33 t32;
           slots = List._∷_ (Row.lease (κs .0) (qs .0)) (List._∷_ (Row.lease (κs .1 .0) (qs .1 .0)) (List._∷_ Row.off (List._∷_ Row.alive (List._∷_ Row.alive (List._∷_
               Row.alive (List._∷_ Row.alive List.[]))))));
         }
 
         abbrev G35 : Row.Cx
         G35 = record {
-          locals = List._++_ g32 t33;
+          locals = List._++_ g34 t32;
           slots = List._∷_ (Row.lease (κs .0) (qs .0)) (List._∷_ (Row.lease (κs .1 .0) (qs .1 .0)) (List._∷_ Row.off (List._∷_ Row.alive (List._∷_ Row.alive (List._∷_
               Row.alive (List._∷_ Row.alive List.[]))))));
         }
 
         abbrev G36 : Row.Cx
         G36 = record {
-          locals = List._++_ g34 t35;
+          locals = List._++_ g35 t32;
           slots = List._∷_ (Row.lease (κs .0) (qs .0)) (List._∷_ (Row.lease (κs .1 .0) (qs .1 .0)) (List._∷_ Row.off (List._∷_ Row.alive (List._∷_ Row.alive (List._∷_
               Row.alive (List._∷_ Row.alive List.[]))))));
         }
 
         abbrev G37 : Row.Cx
         G37 = record {
-          locals = List._++_ g34 t36;
+          locals = List._++_ g36 t32;
           slots = List._∷_ (Row.lease (κs .0) (qs .0)) (List._∷_ (Row.lease (κs .1 .0) (qs .1 .0)) (List._∷_ Row.off (List._∷_ Row.alive (List._∷_ Row.alive (List._∷_
               Row.alive (List._∷_ Row.alive List.[]))))));
         }
 
         abbrev G38 : Row.Cx
         G38 = record {
-          locals = List._++_ g37 t36;
-          slots = List._∷_ (Row.lease (κs .0) (qs .0)) (List._∷_ (Row.lease (κs .1 .0) (qs .1 .0)) (List._∷_ Row.off (List._∷_ Row.alive (List._∷_ Row.alive (List._∷_
+          locals = List._++_ g36 t32;
+          slots = List._∷_ (Row.lease (κs .0) (qs .0)) (List._∷_ (Row.lease (κs .1 .0) (qs .1 .0)) (List._∷_ Row.off (List._∷_ Row.dead (List._∷_ Row.alive (List._∷_
               Row.alive (List._∷_ Row.alive List.[]))))));
         }
 
         abbrev G39 : Row.Cx
         G39 = record {
-          locals = List._++_ g38 t36;
-          slots = List._∷_ (Row.lease (κs .0) (qs .0)) (List._∷_ (Row.lease (κs .1 .0) (qs .1 .0)) (List._∷_ Row.off (List._∷_ Row.alive (List._∷_ Row.alive (List._∷_
+          locals = List._++_ g37 t38;
+          slots = List._∷_ (Row.lease (κs .0) (qs .0)) (List._∷_ (Row.lease (κs .1 .0) (qs .1 .0)) (List._∷_ Row.off (List._∷_ Row.dead (List._∷_ Row.alive (List._∷_
               Row.alive (List._∷_ Row.alive List.[]))))));
         }
 
         abbrev G40 : Row.Cx
         G40 = record {
-          locals = List._++_ g39 t36;
-          slots = List._∷_ (Row.lease (κs .0) (qs .0)) (List._∷_ (Row.lease (κs .1 .0) (qs .1 .0)) (List._∷_ Row.off (List._∷_ Row.alive (List._∷_ Row.alive (List._∷_
+          locals = List._++_ g37 t38;
+          slots = List._∷_ (Row.lease (κs .0) (qs .0)) (List._∷_ (Row.lease (κs .1 .0) (qs .1 .0)) (List._∷_ Row.off (List._∷_ Row.off (List._∷_ Row.alive (List._∷_
               Row.alive (List._∷_ Row.alive List.[]))))));
         }
 
         abbrev G41 : Row.Cx
         G41 = record {
-          locals = List._++_ g40 t36;
-          slots = List._∷_ (Row.lease (κs .0) (qs .0)) (List._∷_ (Row.lease (κs .1 .0) (qs .1 .0)) (List._∷_ Row.off (List._∷_ Row.alive (List._∷_ Row.alive (List._∷_
+          locals = List._++_ g39 t38;
+          slots = List._∷_ (Row.lease (κs .0) (qs .0)) (List._∷_ (Row.lease (κs .1 .0) (qs .1 .0)) (List._∷_ Row.off (List._∷_ Row.off (List._∷_ Row.alive (List._∷_
               Row.alive (List._∷_ Row.alive List.[]))))));
         }
 
         abbrev G42 : Row.Cx
         G42 = record {
-          locals = List._++_ g40 t36;
-          slots = List._∷_ (Row.lease (κs .0) (qs .0)) (List._∷_ (Row.lease (κs .1 .0) (qs .1 .0)) (List._∷_ Row.off (List._∷_ Row.dead (List._∷_ Row.alive (List._∷_
+          locals = List._++_ g39 t38;
+          slots = List._∷_ (Row.lease (κs .0) (qs .0)) (List._∷_ (Row.lease (κs .1 .0) (qs .1 .0)) (List._∷_ Row.off (List._∷_ Row.off (List._∷_ Row.dead (List._∷_
               Row.alive (List._∷_ Row.alive List.[]))))));
         }
 
         abbrev G43 : Row.Cx
         G43 = record {
-          locals = List._++_ g41 t42;
-          slots = List._∷_ (Row.lease (κs .0) (qs .0)) (List._∷_ (Row.lease (κs .1 .0) (qs .1 .0)) (List._∷_ Row.off (List._∷_ Row.dead (List._∷_ Row.alive (List._∷_
+          locals = List._++_ g40 t41;
+          slots = List._∷_ (Row.lease (κs .0) (qs .0)) (List._∷_ (Row.lease (κs .1 .0) (qs .1 .0)) (List._∷_ Row.off (List._∷_ Row.off (List._∷_ Row.dead (List._∷_
               Row.alive (List._∷_ Row.alive List.[]))))));
         }
 
         abbrev G44 : Row.Cx
         G44 = record {
-          locals = List._++_ g41 t42;
-          slots = List._∷_ (Row.lease (κs .0) (qs .0)) (List._∷_ (Row.lease (κs .1 .0) (qs .1 .0)) (List._∷_ Row.off (List._∷_ Row.off (List._∷_ Row.alive (List._∷_
-              Row.alive (List._∷_ Row.alive List.[]))))));
+          locals = List._++_ g40 t41;
+          slots = List._∷_ (Row.lease (κs .0) (qs .0)) (List._∷_ (Row.lease (κs .1 .0) (qs .1 .0)) (List._∷_ Row.off (List._∷_ Row.off (List._∷_ Row.off (List._∷_ Row.alive
+              (List._∷_ Row.alive List.[]))))));
         }
 
         abbrev G45 : Row.Cx
         G45 = record {
-          locals = List._++_ g43 t42;
-          slots = List._∷_ (Row.lease (κs .0) (qs .0)) (List._∷_ (Row.lease (κs .1 .0) (qs .1 .0)) (List._∷_ Row.off (List._∷_ Row.off (List._∷_ Row.alive (List._∷_
-              Row.alive (List._∷_ Row.alive List.[]))))));
+          locals = List._++_ g42 t41;
+          slots = List._∷_ (Row.lease (κs .0) (qs .0)) (List._∷_ (Row.lease (κs .1 .0) (qs .1 .0)) (List._∷_ Row.off (List._∷_ Row.off (List._∷_ Row.off (List._∷_ Row.alive
+              (List._∷_ Row.alive List.[]))))));
         }
 
         abbrev G46 : Row.Cx
         G46 = record {
-          locals = List._++_ g43 t42;
-          slots = List._∷_ (Row.lease (κs .0) (qs .0)) (List._∷_ (Row.lease (κs .1 .0) (qs .1 .0)) (List._∷_ Row.off (List._∷_ Row.off (List._∷_ Row.dead (List._∷_
-              Row.alive (List._∷_ Row.alive List.[]))))));
-        }
-
-        abbrev G47 : Row.Cx
-        G47 = record {
-          locals = List._++_ g44 t45;
-          slots = List._∷_ (Row.lease (κs .0) (qs .0)) (List._∷_ (Row.lease (κs .1 .0) (qs .1 .0)) (List._∷_ Row.off (List._∷_ Row.off (List._∷_ Row.dead (List._∷_
-              Row.alive (List._∷_ Row.alive List.[]))))));
-        }
-
-        abbrev G48 : Row.Cx
-        G48 = record {
-          locals = List._++_ g44 t45;
-          slots = List._∷_ (Row.lease (κs .0) (qs .0)) (List._∷_ (Row.lease (κs .1 .0) (qs .1 .0)) (List._∷_ Row.off (List._∷_ Row.off (List._∷_ Row.off (List._∷_ Row.alive
-              (List._∷_ Row.alive List.[]))))));
-        }
-
-        abbrev G49 : Row.Cx
-        G49 = record {
-          locals = List._++_ g46 t45;
-          slots = List._∷_ (Row.lease (κs .0) (qs .0)) (List._∷_ (Row.lease (κs .1 .0) (qs .1 .0)) (List._∷_ Row.off (List._∷_ Row.off (List._∷_ Row.off (List._∷_ Row.alive
-              (List._∷_ Row.alive List.[]))))));
-        }
-
-        abbrev G50 : Row.Cx
-        G50 = record {
-          locals = List._++_ g46 t45;
+          locals = List._++_ g42 t41;
           slots = List._∷_ (Row.lease (κs .0) (qs .0)) (List._∷_ (Row.lease (κs .1 .0) (qs .1 .0)) (List._∷_ Row.off (List._∷_ Row.off (List._∷_ Row.off (List._∷_ Row.dead
               (List._∷_ Row.alive List.[]))))));
         }
 
-        abbrev G51 : Row.Cx
-        G51 = record {
-          locals = List._++_ t47 t1;
+        abbrev G47 : Row.Cx
+        G47 = record {
+          locals = List._++_ t43 t1;
           slots = List._∷_ (Row.lease (κs .0) (qs .0)) (List._∷_ (Row.lease (κs .1 .0) (qs .1 .0)) (List._∷_ (Row.lease (κs .1 .1 .0) (qs .1 .1 .0)) (List._∷_ Row.off
               (List._∷_ Row.off (List._∷_ Row.dead (List._∷_ Row.alive List.[]))))));
         }
 
-        abbrev G52 : Row.Cx
-        G52 = record {
-          locals = List._++_ t47 t1;
+        abbrev G48 : Row.Cx
+        G48 = record {
+          locals = List._++_ t43 t1;
           slots = List._∷_ (Row.lease (κs .0) (qs .0)) (List._∷_ (Row.lease (κs .1 .0) (qs .1 .0)) (List._∷_ (Row.lease (κs .1 .1 .0) (qs .1 .1 .0)) (List._∷_ Row.off
               (List._∷_ Row.off (List._∷_ Row.dead (List._∷_ Row.alive List.[]))))));
         }
 
-        abbrev G53 : Row.Cx
-        G53 = record {
-          locals = List._++_ t47 t1;
+        abbrev G49 : Row.Cx
+        G49 = record {
+          locals = List._++_ t43 t1;
           slots = List._∷_ (Row.lease (κs .0) (qs .0)) (List._∷_ (Row.lease (κs .1 .0) (qs .1 .0)) (List._∷_ (Row.lease (κs .1 .1 .0) (qs .1 .1 .0)) (List._∷_ Row.off
               (List._∷_ Row.off (List._∷_ Row.off (List._∷_ Row.alive List.[]))))));
         }
 
+        abbrev G50 : Row.Cx
+        G50 = record {
+          locals = List._++_ t43 t1;
+          slots = List._∷_ (Row.lease (κs .0) (qs .0)) (List._∷_ (Row.lease (κs .1 .0) (qs .1 .0)) (List._∷_ (Row.lease (κs .1 .1 .0) (qs .1 .1 .0)) (List._∷_ Row.off
+              (List._∷_ Row.off (List._∷_ Row.off (List._∷_ Row.dead List.[]))))));
+        }
+
+        abbrev G51 : Row.Cx
+        G51 = record {
+          locals = List._++_ t44 t1;
+          slots = List._∷_ (Row.lease (κs .0) (qs .0)) (List._∷_ (Row.lease (κs .1 .0) (qs .1 .0)) (List._∷_ (Row.lease (κs .1 .1 .0) (qs .1 .1 .0)) (List._∷_ Row.off
+              (List._∷_ Row.off (List._∷_ Row.off (List._∷_ Row.dead List.[]))))));
+        }
+
+        abbrev G52 : Row.Cx
+        G52 = record {
+          locals = List._++_ t44 t1;
+          slots = List._∷_ (Row.lease (κs .0) (qs .0)) (List._∷_ (Row.lease (κs .1 .0) (qs .1 .0)) (List._∷_ (Row.lease (κs .1 .1 .0) (qs .1 .1 .0)) (List._∷_ Row.off
+              (List._∷_ Row.off (List._∷_ Row.off (List._∷_ Row.off List.[]))))));
+        }
+
+        abbrev G53 : Row.Cx
+        G53 = record {
+          locals = List._++_ t45 t1;
+          slots = List._∷_ (Row.lease (κs .0) (qs .0)) (List._∷_ (Row.lease (κs .1 .0) (qs .1 .0)) (List._∷_ (Row.lease (κs .1 .1 .0) (qs .1 .1 .0)) (List._∷_ Row.off
+              (List._∷_ Row.off (List._∷_ Row.off (List._∷_ Row.off List.[]))))));
+        }
+
         abbrev G54 : Row.Cx
         G54 = record {
-          locals = List._++_ t47 t1;
-          slots = List._∷_ (Row.lease (κs .0) (qs .0)) (List._∷_ (Row.lease (κs .1 .0) (qs .1 .0)) (List._∷_ (Row.lease (κs .1 .1 .0) (qs .1 .1 .0)) (List._∷_ Row.off
-              (List._∷_ Row.off (List._∷_ Row.off (List._∷_ Row.dead List.[]))))));
-        }
-
-        abbrev G55 : Row.Cx
-        G55 = record {
-          locals = List._++_ t48 t1;
-          slots = List._∷_ (Row.lease (κs .0) (qs .0)) (List._∷_ (Row.lease (κs .1 .0) (qs .1 .0)) (List._∷_ (Row.lease (κs .1 .1 .0) (qs .1 .1 .0)) (List._∷_ Row.off
-              (List._∷_ Row.off (List._∷_ Row.off (List._∷_ Row.dead List.[]))))));
-        }
-
-        abbrev G56 : Row.Cx
-        G56 = record {
-          locals = List._++_ t48 t1;
-          slots = List._∷_ (Row.lease (κs .0) (qs .0)) (List._∷_ (Row.lease (κs .1 .0) (qs .1 .0)) (List._∷_ (Row.lease (κs .1 .1 .0) (qs .1 .1 .0)) (List._∷_ Row.off
-              (List._∷_ Row.off (List._∷_ Row.off (List._∷_ Row.off List.[]))))));
-        }
-
-        abbrev G57 : Row.Cx
-        G57 = record {
-          locals = List._++_ t49 t1;
-          slots = List._∷_ (Row.lease (κs .0) (qs .0)) (List._∷_ (Row.lease (κs .1 .0) (qs .1 .0)) (List._∷_ (Row.lease (κs .1 .1 .0) (qs .1 .1 .0)) (List._∷_ Row.off
-              (List._∷_ Row.off (List._∷_ Row.off (List._∷_ Row.off List.[]))))));
-        }
-
-        abbrev G58 : Row.Cx
-        G58 = record {
           locals = List._++_ t2 t1;
           slots = List._∷_ (Row.lease (κs .0) (qs .0)) (List._∷_ (Row.lease (κs .1 .0) (qs .1 .0)) (List._∷_ (Row.lease (κs .1 .1 .0) (qs .1 .1 .0)) (List._∷_ Row.off
               (List._∷_ Row.off (List._∷_ Row.off (List._∷_ Row.off List.[]))))));
@@ -1695,112 +1595,112 @@ module _ (claims· : Claims) where
           abbrev E : Wp.Env 𝓤 H
           E = Frame.EnvOf 𝓤 H (List._∷_ (Kinds.tyR r) (Enter.tysP ps xs)) bs
 
-          d0 : Typed.Typed 𝓤 H A 𝓣 E G58 b19 Δ0 (at0 bs)
+          d0 : Typed.Typed 𝓤 H A 𝓣 E G54 b17 Δ0 (at0 bs)
           d0 = Typed.t-return 𝓤 H A W 𝓣 E Δ0 tt
 
-          d1 : Typed.Typed 𝓤 H A 𝓣 E G57 b19 Δ0 (at1 bs)
-          d1 = Typed.g-pre 𝓤 H A W 𝓣 E G57 G58 b19 Δ0 (Typed.pass T57 T58 (s56 bs)) (at0 bs) (Scalar.g-room 𝓤 H A W E G57 7 (Syntax.tyInt Syntax.w64) (Scalar.room-sc 𝓤 H A W (Row.sInt Syntax.w64))) d0
+          d1 : Typed.Typed 𝓤 H A 𝓣 E G53 b17 Δ0 (at1 bs)
+          d1 = Typed.g-pre 𝓤 H A W 𝓣 E G53 G54 b17 Δ0 (Typed.pass T53 T54 (s52 bs)) (at0 bs) (Scalar.g-room 𝓤 H A W E G53 7 (Syntax.tyInt Syntax.w64) (Scalar.room-sc 𝓤 H A W (Row.sInt Syntax.w64))) d0
 
-          d2 : Typed.Typed 𝓤 H A 𝓣 E G56 b19 Δ0 (at2 bs)
-          d2 = Typed.g-pre 𝓤 H A W 𝓣 E G56 G57 b19 Δ0 (Typed.pass T55 T57 (s55 bs)) (at1 bs) (Scalar.g-room 𝓤 H A W E G56 8 (Syntax.tyArray (Syntax.tyInt Syntax.w16) 768) (Init.room-arr 𝓤 H A W
+          d2 : Typed.Typed 𝓤 H A 𝓣 E G52 b17 Δ0 (at2 bs)
+          d2 = Typed.g-pre 𝓤 H A W 𝓣 E G52 G53 b17 Δ0 (Typed.pass T51 T53 (s51 bs)) (at1 bs) (Scalar.g-room 𝓤 H A W E G52 8 (Syntax.tyArray (Syntax.tyInt Syntax.w16) 768) (Init.room-arr 𝓤 H A W
               (Referent.rtF (Referent.fInt Syntax.w16)) 768 0 768 Path'.refl)) d1
 
-          d3 : Typed.Typed 𝓤 H A 𝓣 E G55 b19 Δ0 (at3 bs)
-          d3 = Typed.g-pre 𝓤 H A W 𝓣 E G55 G56 b19 Δ0 (λ Ψ. Ψ) (at2 bs) (Lifetime.g-forget 𝓤 H A W E G55 6 Row.dead Path'.refl) d2
+          d3 : Typed.Typed 𝓤 H A 𝓣 E G51 b17 Δ0 (at3 bs)
+          d3 = Typed.g-pre 𝓤 H A W 𝓣 E G51 G52 b17 Δ0 (λ Ψ. Ψ) (at2 bs) (Lifetime.g-forget 𝓤 H A W E G51 6 Row.dead Path'.refl) d2
 
-          d4 : Typed.Typed 𝓤 H A 𝓣 E G54 b19 Δ0 (at4 bs)
-          d4 = Typed.g-pre 𝓤 H A W 𝓣 E G54 G55 b19 Δ0 (Typed.pass T52 T55 (s53 bs)) (at3 bs) (Local.g-back-shr 𝓤 H A W E G54 8 6 (Rows.arrF (Referent.rtF (Referent.fInt Syntax.w16)) 768 0)
+          d4 : Typed.Typed 𝓤 H A 𝓣 E G50 b17 Δ0 (at4 bs)
+          d4 = Typed.g-pre 𝓤 H A W 𝓣 E G50 G51 b17 Δ0 (Typed.pass T48 T51 (s49 bs)) (at3 bs) (Local.g-back-shr 𝓤 H A W E G50 8 6 (Rows.arrF (Referent.rtF (Referent.fInt Syntax.w16)) 768 0)
               (Array'.Array (Referent.rtF (Referent.fInt Syntax.w16)) 768) (λ x. x) (λ x. x) (Reads'.as-is 𝓤 H A (Rows'.sc-shr (Rows.arrF (Referent.rtF (Referent.fInt Syntax.w16)) 768 0) (Array'.Array
               (Referent.rtF (Referent.fInt Syntax.w16)) 768) (λ x. x) 6)) (Local.home-of 𝓤 H A (Rows.arrF (Referent.rtF (Referent.fInt Syntax.w16)) 768 0) (Array'.Array (Referent.rtF (Referent.fInt
               Syntax.w16)) 768) (λ x. x) (λ x. x) (Whole.arr-mem 𝓤 H A W (Referent.rtF (Referent.fInt Syntax.w16)) 768 tt) λ x k. Path'.refl) Path'.refl) d3
 
-          d5 : Typed.Typed 𝓤 H A 𝓣 E G53 b19 Δ0 (at5 bs)
-          d5 = Typed.g-pre 𝓤 H A W 𝓣 E G53 G54 b19 Δ0 (λ Ψ. Ψ) (at4 bs) (Lifetime.g-end 𝓤 H A W E G53 6 Path'.refl) d4
+          d5 : Typed.Typed 𝓤 H A 𝓣 E G49 b17 Δ0 (at5 bs)
+          d5 = Typed.g-pre 𝓤 H A W 𝓣 E G49 G50 b17 Δ0 (λ Ψ. Ψ) (at4 bs) (Lifetime.g-end 𝓤 H A W E G49 6 Path'.refl) d4
 
-          d6 : Typed.Typed 𝓤 H A 𝓣 E G52 b19 Δ0 (at6 bs)
-          d6 = Typed.g-pre 𝓤 H A W 𝓣 E G52 G53 b19 Δ0 (λ Ψ. Ψ) (at5 bs) (Lifetime.g-forget 𝓤 H A W E G52 5 Row.dead Path'.refl) d5
+          d6 : Typed.Typed 𝓤 H A 𝓣 E G48 b17 Δ0 (at6 bs)
+          d6 = Typed.g-pre 𝓤 H A W 𝓣 E G48 G49 b17 Δ0 (λ Ψ. Ψ) (at5 bs) (Lifetime.g-forget 𝓤 H A W E G48 5 Row.dead Path'.refl) d5
 
-          d7 : Typed.Typed 𝓤 H A 𝓣 E G51 b19 Δ0 (at7 bs)
-          d7 = Typed.g-pre 𝓤 H A W 𝓣 E G51 G52 b19 Δ0 (Typed.give (s50 bs)) (at6 bs) (Know.g-sl-known 𝓤 H A W (Referent.fInt Syntax.w16) E G51 3 2 (Syntax.tyRef (Syntax.named 2) Syntax.mut
+          d7 : Typed.Typed 𝓤 H A 𝓣 E G47 b17 Δ0 (at7 bs)
+          d7 = Typed.g-pre 𝓤 H A W 𝓣 E G47 G48 b17 Δ0 (Typed.give (s46 bs)) (at6 bs) (Know.g-sl-known 𝓤 H A W (Referent.fInt Syntax.w16) E G47 3 2 (Syntax.tyRef (Syntax.named 2) Syntax.mut
               (Syntax.tyInt Syntax.w16)) (Row.lease (κs .1 .1 .0) (qs .1 .1 .0)) 0 (λ x. x) record { fits = Dec'.lit< tt } (Reads'.as-is 𝓤 H A (Mut.mslice (Referent.rtF (Referent.fInt Syntax.w16))
               (Syntax.tyRef (Syntax.named 2) Syntax.mut (Syntax.tyInt Syntax.w16)) 2)) Path'.refl tt) d6
 
-          d8 : Typed.Typed 𝓤 H A 𝓣 E G50 b19 Δ0 (at8 bs)
-          d8 = Typed.g-pre 𝓤 H A W 𝓣 E G50 G51 b19 Δ0 (Typed.both (s49 bs)) (at7 bs) (Relend.g-back-sl 𝓤 H A W E (Referent.rtF (Referent.fInt Syntax.w16)) G50 23 3 2 5 (Syntax.tyRef (Syntax.named 2)
+          d8 : Typed.Typed 𝓤 H A 𝓣 E G46 b17 Δ0 (at8 bs)
+          d8 = Typed.g-pre 𝓤 H A W 𝓣 E G46 G47 b17 Δ0 (Typed.both (s45 bs)) (at7 bs) (Relend.g-back-sl 𝓤 H A W E (Referent.rtF (Referent.fInt Syntax.w16)) G46 22 3 2 5 (Syntax.tyRef (Syntax.named 2)
               Syntax.mut (Syntax.tyInt Syntax.w16)) (Syntax.tyRef Syntax.erased Syntax.mut (Syntax.tyInt Syntax.w16)) (Row.lease (κs .1 .1 .0) (qs .1 .1 .0)) (λ x. x) (λ x. x) (Reads'.as-is 𝓤 H A
               (Mut.msleft (Referent.rtF (Referent.fInt Syntax.w16)) (Syntax.tyRef Syntax.erased Syntax.mut (Syntax.tyInt Syntax.w16)))) (Reads'.as-is 𝓤 H A (Relend.mslice-owed (Referent.rtF (Referent.fInt
               Syntax.w16)) (Syntax.tyRef (Syntax.named 2) Syntax.mut (Syntax.tyInt Syntax.w16)) 2 5 (Row.lease (κs .1 .1 .0) (qs .1 .1 .0)))) Path'.refl Path'.refl) d7
 
-          d9 : Typed.Typed 𝓤 H A 𝓣 E G49 b19 Δ0 (at9 bs)
-          d9 = Typed.g-pre 𝓤 H A W 𝓣 E G49 G50 b19 Δ0 (λ Ψ. Ψ) (at8 bs) (Lifetime.g-end 𝓤 H A W E G49 5 Path'.refl) d8
+          d9 : Typed.Typed 𝓤 H A 𝓣 E G45 b17 Δ0 (at9 bs)
+          d9 = Typed.g-pre 𝓤 H A W 𝓣 E G45 G46 b17 Δ0 (λ Ψ. Ψ) (at8 bs) (Lifetime.g-end 𝓤 H A W E G45 5 Path'.refl) d8
 
-          d10 : Typed.Typed 𝓤 H A 𝓣 E G48 b19 Δ0 (at10 bs)
-          d10 = Typed.g-pre 𝓤 H A W 𝓣 E G48 G49 b19 Δ0 (Typed.pass T47 T49 (s47 bs)) (at9 bs) (Scalar.g-room 𝓤 H A W E G48 10 (Syntax.tyArray (Element.held) 336) (Init.room-arr 𝓤 H A W (Element.type)
+          d10 : Typed.Typed 𝓤 H A 𝓣 E G44 b17 Δ0 (at10 bs)
+          d10 = Typed.g-pre 𝓤 H A W 𝓣 E G44 G45 b17 Δ0 (Typed.pass T43 T45 (s43 bs)) (at9 bs) (Scalar.g-room 𝓤 H A W E G44 10 (Syntax.tyArray (Element.held) 336) (Init.room-arr 𝓤 H A W (Element.type)
               336 0 336 Path'.refl)) d9
 
-          d11 : Typed.Typed 𝓤 H A 𝓣 E G47 b19 Δ0 (at11 bs)
-          d11 = Typed.g-pre 𝓤 H A W 𝓣 E G47 G48 b19 Δ0 (λ Ψ. Ψ) (at10 bs) (Lifetime.g-forget 𝓤 H A W E G47 4 Row.dead Path'.refl) d10
+          d11 : Typed.Typed 𝓤 H A 𝓣 E G43 b17 Δ0 (at11 bs)
+          d11 = Typed.g-pre 𝓤 H A W 𝓣 E G43 G44 b17 Δ0 (λ Ψ. Ψ) (at10 bs) (Lifetime.g-forget 𝓤 H A W E G43 4 Row.dead Path'.refl) d10
 
-          d12 : Typed.Typed 𝓤 H A 𝓣 E G46 b19 Δ0 (at12 bs)
-          d12 = Typed.g-pre 𝓤 H A W 𝓣 E G46 G47 b19 Δ0 (Typed.both (s45 bs)) (at11 bs) (Borrow.g-back-arr 𝓤 H A W E (Element.type) G46 21 10 4 336 (Syntax.tyRef Syntax.erased Syntax.mut
+          d12 : Typed.Typed 𝓤 H A 𝓣 E G42 b17 Δ0 (at12 bs)
+          d12 = Typed.g-pre 𝓤 H A W 𝓣 E G42 G43 b17 Δ0 (Typed.both (s41 bs)) (at11 bs) (Borrow.g-back-arr 𝓤 H A W E (Element.type) G42 20 10 4 336 (Syntax.tyRef Syntax.erased Syntax.mut
               Element.behind) (λ x. x) (λ x. x) (Reads'.as-is 𝓤 H A (Mut.msleft (Element.type) (Syntax.tyRef Syntax.erased Syntax.mut Element.behind))) (Reads'.as-is 𝓤 H A (Rows.arr-owed (Element.type)
               336 4)) Path'.refl) d11
 
-          d13 : Typed.Typed 𝓤 H A 𝓣 E G45 b19 Δ0 (at13 bs)
-          d13 = Typed.g-pre 𝓤 H A W 𝓣 E G45 G46 b19 Δ0 (λ Ψ. Ψ) (at12 bs) (Lifetime.g-end 𝓤 H A W E G45 4 Path'.refl) d12
+          d13 : Typed.Typed 𝓤 H A 𝓣 E G41 b17 Δ0 (at13 bs)
+          d13 = Typed.g-pre 𝓤 H A W 𝓣 E G41 G42 b17 Δ0 (λ Ψ. Ψ) (at12 bs) (Lifetime.g-end 𝓤 H A W E G41 4 Path'.refl) d12
 
-          d14 : Typed.Typed 𝓤 H A 𝓣 E G44 b19 Δ0 (at14 bs)
-          d14 = Typed.g-pre 𝓤 H A W 𝓣 E G44 G45 b19 Δ0 (Typed.pass T43 T45 (s43 bs)) (at13 bs) (Scalar.g-room 𝓤 H A W E G44 9 (Syntax.tyArray (Syntax.tyInt Syntax.w16) 9252) (Init.room-arr 𝓤 H A W
+          d14 : Typed.Typed 𝓤 H A 𝓣 E G40 b17 Δ0 (at14 bs)
+          d14 = Typed.g-pre 𝓤 H A W 𝓣 E G40 G41 b17 Δ0 (Typed.pass T39 T41 (s39 bs)) (at13 bs) (Scalar.g-room 𝓤 H A W E G40 9 (Syntax.tyArray (Syntax.tyInt Syntax.w16) 9252) (Init.room-arr 𝓤 H A W
               (Referent.rtF (Referent.fInt Syntax.w16)) 9252 0 9252 Path'.refl)) d13
 
-          d15 : Typed.Typed 𝓤 H A 𝓣 E G43 b19 Δ0 (at15 bs)
-          d15 = Typed.g-pre 𝓤 H A W 𝓣 E G43 G44 b19 Δ0 (λ Ψ. Ψ) (at14 bs) (Lifetime.g-forget 𝓤 H A W E G43 3 Row.dead Path'.refl) d14
+          d15 : Typed.Typed 𝓤 H A 𝓣 E G39 b17 Δ0 (at15 bs)
+          d15 = Typed.g-pre 𝓤 H A W 𝓣 E G39 G40 b17 Δ0 (λ Ψ. Ψ) (at14 bs) (Lifetime.g-forget 𝓤 H A W E G39 3 Row.dead Path'.refl) d14
 
-          d16 : Typed.Typed 𝓤 H A 𝓣 E G42 b19 Δ0 (at16 bs)
-          d16 = Typed.g-pre 𝓤 H A W 𝓣 E G42 G43 b19 Δ0 (Typed.both (s41 bs)) (at15 bs) (PartMut.g-back-arrᵐ 𝓤 H A W E (Referent.rtF (Referent.fInt Syntax.w16)) G42 19 9 3 9252 (Syntax.tyRef
+          d16 : Typed.Typed 𝓤 H A 𝓣 E G38 b17 Δ0 (at16 bs)
+          d16 = Typed.g-pre 𝓤 H A W 𝓣 E G38 G39 b17 Δ0 (Typed.both (s37 bs)) (at15 bs) (PartMut.g-back-arrᵐ 𝓤 H A W E (Referent.rtF (Referent.fInt Syntax.w16)) G38 18 9 3 9252 (Syntax.tyRef
               Syntax.erased Syntax.mut (Syntax.tyInt Syntax.w16)) (λ x. x) (λ x. x) (Reads'.as-is 𝓤 H A (Mut.msleft (Referent.rtF (Referent.fInt Syntax.w16)) (Syntax.tyRef Syntax.erased Syntax.mut
               (Syntax.tyInt Syntax.w16)))) (Reads'.as-is 𝓤 H A (Rows.arr-owedM (Referent.rtF (Referent.fInt Syntax.w16)) 9252 3)) Path'.refl) d15
 
-          d17 : Typed.Typed 𝓤 H A 𝓣 E G41 b19 Δ0 (at17 bs)
-          d17 = Typed.g-pre 𝓤 H A W 𝓣 E G41 G42 b19 Δ0 (λ Ψ. Ψ) (at16 bs) (Lifetime.g-end 𝓤 H A W E G41 3 Path'.refl) d16
+          d17 : Typed.Typed 𝓤 H A 𝓣 E G37 b17 Δ0 (at17 bs)
+          d17 = Typed.g-pre 𝓤 H A W 𝓣 E G37 G38 b17 Δ0 (λ Ψ. Ψ) (at16 bs) (Lifetime.g-end 𝓤 H A W E G37 3 Path'.refl) d16
 
-          d18 : Typed.Typed 𝓤 H A 𝓣 E G40 b19 Δ0 (at18 bs)
-          d18 = Typed.g-pre 𝓤 H A W 𝓣 E G40 G41 b19 Δ0 (Typed.pass T40 T41 (s39 bs)) (at17 bs) (Scalar.g-room 𝓤 H A W E G40 11 (Syntax.tyInt Syntax.w64) (Scalar.room-sc 𝓤 H A W (Row.sInt Syntax.w64)))
+          d18 : Typed.Typed 𝓤 H A 𝓣 E G36 b17 Δ0 (at18 bs)
+          d18 = Typed.g-pre 𝓤 H A W 𝓣 E G36 G37 b17 Δ0 (Typed.pass T36 T37 (s35 bs)) (at17 bs) (Scalar.g-room 𝓤 H A W E G36 11 (Syntax.tyInt Syntax.w64) (Scalar.room-sc 𝓤 H A W (Row.sInt Syntax.w64)))
               d17
 
-          d19 : Typed.Typed 𝓤 H A 𝓣 E G39 b19 Δ0 (at19 bs)
-          d19 = Typed.g-pre 𝓤 H A W 𝓣 E G39 G40 b19 Δ0 (Typed.pass T39 T40 (s38 bs)) (at18 bs) (Scalar.g-room 𝓤 H A W E G39 6 y0 (Local.room-whole 𝓤 H A W (Declared'.row Part.the-type) y0 Path'.refl))
+          d19 : Typed.Typed 𝓤 H A 𝓣 E G35 b17 Δ0 (at19 bs)
+          d19 = Typed.g-pre 𝓤 H A W 𝓣 E G35 G36 b17 Δ0 (Typed.pass T35 T36 (s34 bs)) (at18 bs) (Scalar.g-room 𝓤 H A W E G35 6 y0 (Local.room-whole 𝓤 H A W (Declared'.row Part.the-type) y0 Path'.refl))
               d18
 
-          d20 : Typed.Typed 𝓤 H A 𝓣 E G38 b19 Δ0 (at20 bs)
-          d20 = Typed.g-pre 𝓤 H A W 𝓣 E G38 G39 b19 Δ0 (Typed.pass T38 T39 (s37 bs)) (at19 bs) (Scalar.g-room 𝓤 H A W E G38 5 (Syntax.tyArray (Syntax.tyInt Syntax.w8) 36) (Init.room-arr 𝓤 H A W
+          d20 : Typed.Typed 𝓤 H A 𝓣 E G34 b17 Δ0 (at20 bs)
+          d20 = Typed.g-pre 𝓤 H A W 𝓣 E G34 G35 b17 Δ0 (Typed.pass T34 T35 (s33 bs)) (at19 bs) (Scalar.g-room 𝓤 H A W E G34 5 (Syntax.tyArray (Syntax.tyInt Syntax.w8) 36) (Init.room-arr 𝓤 H A W
               (Referent.rtF (Referent.fInt Syntax.w8)) 36 0 36 Path'.refl)) d19
 
-          d21 : Typed.Typed 𝓤 H A 𝓣 E G37 b19 Δ0 (at21 bs)
-          d21 = Typed.g-pre 𝓤 H A W 𝓣 E G37 G38 b19 Δ0 (Typed.pass T37 T38 (s36 bs)) (at20 bs) (Scalar.g-room 𝓤 H A W E G37 4 y4 (Local.room-whole 𝓤 H A W (Declared'.row Form.the-type) y4 Path'.refl))
+          d21 : Typed.Typed 𝓤 H A 𝓣 E G33 b17 Δ0 (at21 bs)
+          d21 = Typed.g-pre 𝓤 H A W 𝓣 E G33 G34 b17 Δ0 (Typed.pass T33 T34 (s32 bs)) (at20 bs) (Scalar.g-room 𝓤 H A W E G33 4 y4 (Local.room-whole 𝓤 H A W (Declared'.row Form.the-type) y4 Path'.refl))
               d20
 
-          d22 : Typed.Typed 𝓤 H A 𝓣 E G36 b19 Δ0 (at22 bs)
-          d22 = Typed.g-pre 𝓤 H A W 𝓣 E G36 G37 b19 Δ0 (Typed.pass T36 T37 (s35 bs)) (at21 bs) (Local.g-drop-sref 𝓤 H A W E G36 24 6 (Array'.Array (Referent.rtF (Referent.fInt Syntax.w16)) 768)
+          d22 : Typed.Typed 𝓤 H A 𝓣 E G32 b17 Δ0 (at22 bs)
+          d22 = Typed.g-pre 𝓤 H A W 𝓣 E G32 G33 b17 Δ0 (Typed.pass T32 T33 (s31 bs)) (at21 bs) (Local.g-drop-sref 𝓤 H A W E G32 23 6 (Array'.Array (Referent.rtF (Referent.fInt Syntax.w16)) 768)
               (Syntax.tyRef Syntax.erased Syntax.imm (Syntax.tyArray (Syntax.tyInt Syntax.w16) 768)) (λ x. x) (Reads'.as-is 𝓤 H A (Rows'.sref (Array'.Array (Referent.rtF (Referent.fInt Syntax.w16)) 768)
               (Syntax.tyRef Syntax.erased Syntax.imm (Syntax.tyArray (Syntax.tyInt Syntax.w16) 768)) 6))) d21
 
-          d23 : Typed.Typed 𝓤 H A 𝓣 E G35 b20 Δ0 (at23 bs)
-          d23 = Typed.s-seq 𝓤 H A W 𝓣 E G35 G36 b18 b19 Δ0 (Typed.both (s34 bs)) (at22 bs) (Plain.t-call-plain 𝓤 H A W 𝓣 6 ps·3 r·3 (claims· .6) (claims· .7) "block::reading::walk" (known .3) E (λ pos
-              β. β) G35 (
+          d23 : Typed.Typed 𝓤 H A 𝓣 E G31 b18 Δ0 (at23 bs)
+          d23 = Typed.s-seq 𝓤 H A W 𝓣 E G31 G32 b16 b17 Δ0 (Typed.both (s30 bs)) (at22 bs) (Plain.t-call-plain 𝓤 H A W 𝓣 6 ps·3 r·3 (claims· .6) (claims· .7) "block::reading::walk" (known .3) E (λ pos
+              β. β) G31 (
                 record { pos = 1; ty = Syntax.tyRef (Syntax.named 0) Syntax.imm (Syntax.tyInt Syntax.w8); ref = λ x. x },
                 (
                   record { pos = 2; ty = Syntax.tyRef (Syntax.named 1) Syntax.imm (Syntax.tyInt Syntax.w8); ref = λ x. x },
                   (
-                    record { pos = 19; ty = Syntax.tyRef Syntax.erased Syntax.mut (Syntax.tyInt Syntax.w16); ref = λ x. x },
+                    record { pos = 18; ty = Syntax.tyRef Syntax.erased Syntax.mut (Syntax.tyInt Syntax.w16); ref = λ x. x },
                     (
-                      record { pos = 21; ty = Syntax.tyRef Syntax.erased Syntax.mut Element.behind; ref = λ x. x },
+                      record { pos = 20; ty = Syntax.tyRef Syntax.erased Syntax.mut Element.behind; ref = λ x. x },
                       (
-                        record { pos = 23; ty = Syntax.tyRef Syntax.erased Syntax.mut (Syntax.tyInt Syntax.w16); ref = λ x. x },
+                        record { pos = 22; ty = Syntax.tyRef Syntax.erased Syntax.mut (Syntax.tyInt Syntax.w16); ref = λ x. x },
                         (
                           record { pos = 4; st = List.[]; d = 0; at = λ x. x },
                           (
-                            record { pos = 24; ty = Syntax.tyRef Syntax.erased Syntax.imm (Syntax.tyArray (Syntax.tyInt Syntax.w16) 768); ref = λ x. x },
+                            record { pos = 23; ty = Syntax.tyRef Syntax.erased Syntax.imm (Syntax.tyArray (Syntax.tyInt Syntax.w16) 768); ref = λ x. x },
                             (record { pos = 5; st = List.[]; d = 0; at = λ x. x }, (record { pos = 6; st = List.[]; d = 0; at = λ x. x }, (Num.vAt 7 λ x. x, tt))),
                           ),
                         ),
@@ -1809,7 +1709,7 @@ module _ (claims· : Claims) where
                   ),
                 ),
               ) 0 (List._∷_ 0 (List._∷_ 1 (List._∷_ 3 (List._∷_
-              4 (List._∷_ 5 (List._∷_ 6 List.[])))))) (Call.sub-id 𝓤 H A W (G35 .slots)) (
+              4 (List._∷_ 5 (List._∷_ 6 List.[])))))) (Call.sub-id 𝓤 H A W (G31 .slots)) (
                 ShrSlice.spares-sslice 𝓤 H A W (Referent.rtF (Referent.fInt Syntax.w8)) (Syntax.tyRef (Syntax.named 0) Syntax.imm (Syntax.tyInt Syntax.w8)) 0,
                 Shared.reads-sslice 𝓤 H A W (Referent.rtF
                     (Referent.fInt Syntax.w8)) (Syntax.tyRef (Syntax.named 0) Syntax.imm (Syntax.tyInt Syntax.w8)) 0,
@@ -1865,18 +1765,18 @@ module _ (claims· : Claims) where
               (List._∷_ 58 (List._∷_ 58 (List._∷_ 87 (List._∷_ 97 (List._∷_ 108 (List._∷_ 107 (List._∷_ 101 (List._∷_ 100 List.[]))))))))))))) (Syntax.ttcons (Syntax.tcons y3 (Syntax.tcons (Syntax.tyInt
               Syntax.w64) Syntax.tnil)) (Syntax.ttcons (Syntax.tcons (Syntax.tyInt Syntax.w64) Syntax.tnil) Syntax.ttnil)))) (tt, (tt, (tt, (tt, (tt, (tt, tt)))))) Path'.refl) d22
 
-          d24 : Typed.Typed 𝓤 H A 𝓣 E G34 b21 Δ0 (at24 bs)
-          d24 = Typed.s-seq 𝓤 H A W 𝓣 E G34 G35 b17 b20 Δ0 (Typed.give (s33 bs)) (at23 bs) (Local.t-sc-share 𝓤 H A W E 𝓣 G34 8 24 6 (Array'.Array (Referent.rtF (Referent.fInt Syntax.w16)) 768)
+          d24 : Typed.Typed 𝓤 H A 𝓣 E G30 b19 Δ0 (at24 bs)
+          d24 = Typed.s-seq 𝓤 H A W 𝓣 E G30 G31 b15 b18 Δ0 (Typed.give (s29 bs)) (at23 bs) (Local.t-sc-share 𝓤 H A W E 𝓣 G30 8 23 6 (Array'.Array (Referent.rtF (Referent.fInt Syntax.w16)) 768)
               (Syntax.tyRef Syntax.erased Syntax.imm (Syntax.tyArray (Syntax.tyInt Syntax.w16) 768)) (λ x. x) (Whole.mem-arr 𝓤 H A W (Referent.rtF (Referent.fInt Syntax.w16)) 768) (Reads'.room-gone 𝓤 H A
               (Syntax.tyRef Syntax.erased Syntax.imm (Syntax.tyArray (Syntax.tyInt Syntax.w16) 768))) Path'.refl λ b o. tt) d23
 
-          d25 : Typed.Typed 𝓤 H A 𝓣 E G33 b21 Δ0 (at25 bs)
-          d25 = Typed.g-pre 𝓤 H A W 𝓣 E G33 G34 b21 Δ0 (λ Ψ. Ψ) (at24 bs) (Lifetime.g-begin 𝓤 H A W E G33 6
-              (tt, (tt, (tt, ((tt, tt), (tt, (tt, (tt, (tt, (tt, (tt, (tt, (tt, (tt, (tt, (tt, (tt, (tt, (tt, (tt, (tt, (tt, (tt, (tt, (tt, (tt, tt)))))))))))))))))))))))))) d24
+          d25 : Typed.Typed 𝓤 H A 𝓣 E G29 b19 Δ0 (at25 bs)
+          d25 = Typed.g-pre 𝓤 H A W 𝓣 E G29 G30 b19 Δ0 (λ Ψ. Ψ) (at24 bs) (Lifetime.g-begin 𝓤 H A W E G29 6
+              (tt, (tt, (tt, ((tt, tt), (tt, (tt, (tt, (tt, (tt, (tt, (tt, (tt, (tt, (tt, (tt, (tt, (tt, (tt, (tt, (tt, (tt, (tt, (tt, (tt, tt))))))))))))))))))))))))) d24
 
-          d26 : Typed.Typed 𝓤 H A 𝓣 E G32 b22 Δ0 (at26 bs)
-          d26 = Typed.s-seq 𝓤 H A W 𝓣 E G32 G33 b16 b21 Δ0 (Typed.ask (s31 bs)) (at25 bs) (Relend.t-sl-aggregate 𝓤 H A W E (Referent.rtF (Referent.fInt Syntax.w16)) 𝓣 (Relend.asMut (Referent.rtF
-              (Referent.fInt Syntax.w16))) G32 22 23 5 (Syntax.tyRef Syntax.erased Syntax.mut (Syntax.tyInt Syntax.w16)) (Syntax.tyRef Syntax.erased Syntax.mut (Syntax.tyInt Syntax.w16)) (λ x. x)
+          d26 : Typed.Typed 𝓤 H A 𝓣 E G28 b20 Δ0 (at26 bs)
+          d26 = Typed.s-seq 𝓤 H A W 𝓣 E G28 G29 b14 b19 Δ0 (Typed.ask (s27 bs)) (at25 bs) (Relend.t-sl-aggregate 𝓤 H A W E (Referent.rtF (Referent.fInt Syntax.w16)) 𝓣 (Relend.asMut (Referent.rtF
+              (Referent.fInt Syntax.w16))) G28 21 22 5 (Syntax.tyRef Syntax.erased Syntax.mut (Syntax.tyInt Syntax.w16)) (Syntax.tyRef Syntax.erased Syntax.mut (Syntax.tyInt Syntax.w16)) (λ x. x)
               (Scalar.oFld 3 (List._∷_ (Syntax.field 1) List.[]) (Syntax.tyInt Syntax.w64) 8 λ v. Shared.lenV (v .0)) (Reads'.as-is 𝓤 H A (Relend.msptr (Referent.rtF (Referent.fInt Syntax.w16))
               (Syntax.tyRef Syntax.erased Syntax.mut (Syntax.tyInt Syntax.w16)) 5)) (Reads'.room-gone 𝓤 H A y1) (
                 Relend.reads-owed-len 𝓤 H A W (Referent.rtF (Referent.fInt Syntax.w16)) (Syntax.tyRef (Syntax.named 2) Syntax.mut (Syntax.tyInt Syntax.w16)) 2 5 (Row.lease (κs .1 .1 .0) (qs .1 .1 .0)) 8
@@ -1884,157 +1784,137 @@ module _ (claims· : Claims) where
                 Path'.refl,
               ) Path'.refl Path'.refl λ b o k. tt) d25
 
-          d27 : Typed.Typed 𝓤 H A 𝓣 E G31 b23 Δ0 (at27 bs)
-          d27 = Typed.s-seq 𝓤 H A W 𝓣 E G31 G32 b15 b22 Δ0 (Typed.give (s30 bs)) (at26 bs) (Relend.t-sl-relend 𝓤 H A W E (Referent.rtF (Referent.fInt Syntax.w16)) 𝓣 G31 3 22 2 5 (Syntax.tyRef
+          d27 : Typed.Typed 𝓤 H A 𝓣 E G27 b21 Δ0 (at27 bs)
+          d27 = Typed.s-seq 𝓤 H A W 𝓣 E G27 G28 b13 b20 Δ0 (Typed.give (s26 bs)) (at26 bs) (Relend.t-sl-relend 𝓤 H A W E (Referent.rtF (Referent.fInt Syntax.w16)) 𝓣 G27 3 21 2 5 (Syntax.tyRef
               (Syntax.named 2) Syntax.mut (Syntax.tyInt Syntax.w16)) (Syntax.tyRef Syntax.erased Syntax.mut (Syntax.tyInt Syntax.w16)) (Row.lease (κs .1 .1 .0) (qs .1 .1 .0)) 0 (λ x. x) (Reads'.as-is 𝓤 H
               A (Mut.mslice (Referent.rtF (Referent.fInt Syntax.w16)) (Syntax.tyRef (Syntax.named 2) Syntax.mut (Syntax.tyInt Syntax.w16)) 2)) (Reads'.room-gone 𝓤 H A (Syntax.tyRef Syntax.erased
               Syntax.mut (Syntax.tyInt Syntax.w16))) Path'.refl tt Path'.refl Path'.refl Path'.refl λ b o. tt) d26
 
-          d28 : Typed.Typed 𝓤 H A 𝓣 E G30 b23 Δ0 (at28 bs)
-          d28 = Typed.g-pre 𝓤 H A W 𝓣 E G30 G31 b23 Δ0 (λ Ψ. Ψ) (at27 bs) (Lifetime.g-begin 𝓤 H A W E G30 5
-              (tt, (tt, (tt, (tt, (tt, (tt, (tt, (tt, (tt, (tt, (tt, (tt, (tt, (tt, (tt, (tt, (tt, (tt, (tt, (tt, (tt, (tt, (tt, (tt, (tt, tt)))))))))))))))))))))))))) d27
+          d28 : Typed.Typed 𝓤 H A 𝓣 E G26 b21 Δ0 (at28 bs)
+          d28 = Typed.g-pre 𝓤 H A W 𝓣 E G26 G27 b21 Δ0 (λ Ψ. Ψ) (at27 bs) (Lifetime.g-begin 𝓤 H A W E G26 5
+              (tt, (tt, (tt, (tt, (tt, (tt, (tt, (tt, (tt, (tt, (tt, (tt, (tt, (tt, (tt, (tt, (tt, (tt, (tt, (tt, (tt, (tt, (tt, (tt, tt))))))))))))))))))))))))) d27
 
-          d29 : Typed.Typed 𝓤 H A 𝓣 E G29 b24 Δ0 (at29 bs)
-          d29 = Typed.s-seq 𝓤 H A W 𝓣 E G29 G30 b14 b23 Δ0 (Typed.ask (s28 bs)) (at28 bs) (Relend.t-sl-aggregate 𝓤 H A W E (Element.type) 𝓣 (Relend.asMut (Element.type)) G29 20 21 4 (Syntax.tyRef
+          d29 : Typed.Typed 𝓤 H A 𝓣 E G25 b22 Δ0 (at29 bs)
+          d29 = Typed.s-seq 𝓤 H A W 𝓣 E G25 G26 b12 b21 Δ0 (Typed.ask (s24 bs)) (at28 bs) (Relend.t-sl-aggregate 𝓤 H A W E (Element.type) 𝓣 (Relend.asMut (Element.type)) G25 19 20 4 (Syntax.tyRef
               Syntax.erased Syntax.mut (Syntax.tyArray Element.behind 336)) (Syntax.tyRef Syntax.erased Syntax.mut Element.behind) (λ x. x) (Scalar.oInt Syntax.w64 336) (Reads'.as-is 𝓤 H A (Relend.msptr
               (Element.type) (Syntax.tyRef Syntax.erased Syntax.mut (Syntax.tyArray Element.behind 336)) 4)) (Reads'.room-gone 𝓤 H A y2) tt Path'.refl Path'.refl λ b o k. tt) d28
 
-          d30 : Typed.Typed 𝓤 H A 𝓣 E G28 b25 Δ0 (at30 bs)
-          d30 = Typed.s-seq 𝓤 H A W 𝓣 E G28 G29 b13 b24 Δ0 (Typed.give (s27 bs)) (at29 bs) (Borrow.t-arr-borrow 𝓤 H A W E 𝓣 (Element.type) G28 10 20 336 4 (Syntax.tyRef Syntax.erased Syntax.mut
+          d30 : Typed.Typed 𝓤 H A 𝓣 E G24 b23 Δ0 (at30 bs)
+          d30 = Typed.s-seq 𝓤 H A W 𝓣 E G24 G25 b11 b22 Δ0 (Typed.give (s23 bs)) (at29 bs) (Borrow.t-arr-borrow 𝓤 H A W E 𝓣 (Element.type) G24 10 19 336 4 (Syntax.tyRef Syntax.erased Syntax.mut
               (Syntax.tyArray Element.behind 336)) (λ x. x) (Reads'.as-is 𝓤 H A (Rows.arrF (Element.type) 336 0)) (Reads'.room-gone 𝓤 H A (Syntax.tyRef Syntax.erased Syntax.mut (Syntax.tyArray
               Element.behind 336))) Path'.refl (λ b o. tt) (Dec'.lit< tt, Dec'.lit< tt)) d29
 
-          d31 : Typed.Typed 𝓤 H A 𝓣 E G27 b25 Δ0 (at31 bs)
-          d31 = Typed.g-pre 𝓤 H A W 𝓣 E G27 G28 b25 Δ0 (λ Ψ. Ψ) (at30 bs) (Lifetime.g-begin 𝓤 H A W E G27 4
-              (tt, (tt, (tt, (tt, (tt, (tt, (tt, (tt, (tt, (tt, (tt, (tt, (tt, (tt, (tt, (tt, (tt, (tt, (tt, (tt, (tt, (tt, (tt, (tt, (tt, tt)))))))))))))))))))))))))) d30
+          d31 : Typed.Typed 𝓤 H A 𝓣 E G23 b23 Δ0 (at31 bs)
+          d31 = Typed.g-pre 𝓤 H A W 𝓣 E G23 G24 b23 Δ0 (λ Ψ. Ψ) (at30 bs) (Lifetime.g-begin 𝓤 H A W E G23 4
+              (tt, (tt, (tt, (tt, (tt, (tt, (tt, (tt, (tt, (tt, (tt, (tt, (tt, (tt, (tt, (tt, (tt, (tt, (tt, (tt, (tt, (tt, (tt, (tt, tt))))))))))))))))))))))))) d30
 
-          d32 : Typed.Typed 𝓤 H A 𝓣 E G26 b25 Δ0 (at32 bs)
-          d32 = Typed.g-pre 𝓤 H A W 𝓣 E G26 G27 b25 Δ0 (Typed.pass T26 T27 (s25 bs)) (at31 bs) (Scalar.g-room 𝓤 H A W E G26 14 (Syntax.tyInt Syntax.w64) (Scalar.room-sc 𝓤 H A W (Row.sInt Syntax.w64)))
+          d32 : Typed.Typed 𝓤 H A 𝓣 E G22 b23 Δ0 (at32 bs)
+          d32 = Typed.g-pre 𝓤 H A W 𝓣 E G22 G23 b23 Δ0 (Typed.pass T22 T23 (s21 bs)) (at31 bs) (Scalar.g-room 𝓤 H A W E G22 16 (Syntax.tyInt Syntax.w64) (Scalar.room-sc 𝓤 H A W (Row.sInt Syntax.w64)))
               d31
 
-          d33 : Typed.Typed 𝓤 H A 𝓣 E G25 b26 Δ0 (at33 bs)
-          d33 = Typed.s-seq 𝓤 H A W 𝓣 E G25 G26 b12 b25 Δ0 (Typed.ask (s24 bs)) (at32 bs) (Relend.t-sl-aggregate 𝓤 H A W E (Referent.rtF (Referent.fInt Syntax.w16)) 𝓣 (Relend.asMut (Referent.rtF
-              (Referent.fInt Syntax.w16))) G25 18 19 3 (Syntax.tyRef Syntax.erased Syntax.mut (Syntax.tyInt Syntax.w16)) (Syntax.tyRef Syntax.erased Syntax.mut (Syntax.tyInt Syntax.w16)) (λ x. x)
-              (Scalar.oAt 14 (Syntax.tyInt Syntax.w64) (Row.valS (Row.sInt Syntax.w64))) (Reads'.as-is 𝓤 H A (Relend.msptr (Referent.rtF (Referent.fInt Syntax.w16)) (Syntax.tyRef Syntax.erased Syntax.mut
+          d33 : Typed.Typed 𝓤 H A 𝓣 E G21 b24 Δ0 (at33 bs)
+          d33 = Typed.s-seq 𝓤 H A W 𝓣 E G21 G22 b10 b23 Δ0 (Typed.ask (s20 bs)) (at32 bs) (Relend.t-sl-aggregate 𝓤 H A W E (Referent.rtF (Referent.fInt Syntax.w16)) 𝓣 (Relend.asMut (Referent.rtF
+              (Referent.fInt Syntax.w16))) G21 17 18 3 (Syntax.tyRef Syntax.erased Syntax.mut (Syntax.tyInt Syntax.w16)) (Syntax.tyRef Syntax.erased Syntax.mut (Syntax.tyInt Syntax.w16)) (λ x. x)
+              (Scalar.oAt 16 (Syntax.tyInt Syntax.w64) (Row.valS (Row.sInt Syntax.w64))) (Reads'.as-is 𝓤 H A (Relend.msptr (Referent.rtF (Referent.fInt Syntax.w16)) (Syntax.tyRef Syntax.erased Syntax.mut
               (Syntax.tyInt Syntax.w16)) 3)) (Reads'.room-gone 𝓤 H A y1) (Scalar.reads-sc 𝓤 H A W (Row.sInt Syntax.w64), Path'.refl) Path'.refl Path'.refl λ b o k. tt) d32
 
-          d34 : Typed.Typed 𝓤 H A 𝓣 E G24 b26 Δ0 (at34 bs)
-          d34 = Typed.g-pre 𝓤 H A W 𝓣 E G24 G25 b26 Δ0 (Typed.pass T24 T25 (s23 bs)) (at33 bs) (Scalar.g-room 𝓤 H A W E G24 17 Syntax.tyPtr (Scalar.room-sc 𝓤 H A W Row.sPtr)) d33
+          d34 : Typed.Typed 𝓤 H A 𝓣 E G20 b24 Δ0 (at34 bs)
+          d34 = Typed.g-pre 𝓤 H A W 𝓣 E G20 G21 b24 Δ0 (Typed.pass T20 T21 (s19 bs)) (at33 bs) (Scalar.g-room 𝓤 H A W E G20 15 Syntax.tyPtr (Scalar.room-sc 𝓤 H A W Row.sPtr)) d33
 
-          d35 : Typed.Typed 𝓤 H A 𝓣 E G23 b27 Δ0 (at35 bs)
-          d35 = Typed.s-seq 𝓤 H A W 𝓣 E G23 G24 b11 b26 Δ0 (Typed.both (s22 bs)) (at34 bs) (PartMut.t-arr-borrowᵐ 𝓤 H A W E 𝓣 (Referent.rtF (Referent.fInt Syntax.w16)) G23 9 17 18 9252 3 (Syntax.tyInt
+          d35 : Typed.Typed 𝓤 H A 𝓣 E G19 b25 Δ0 (at35 bs)
+          d35 = Typed.s-seq 𝓤 H A W 𝓣 E G19 G20 b9 b24 Δ0 (Typed.both (s18 bs)) (at34 bs) (PartMut.t-arr-borrowᵐ 𝓤 H A W E 𝓣 (Referent.rtF (Referent.fInt Syntax.w16)) G19 9 15 17 9252 3 (Syntax.tyInt
               Syntax.w16) (Syntax.tyRef Syntax.erased Syntax.mut (Syntax.tyInt Syntax.w16)) (Shared.bySize 2) (λ x. x) (λ x. x) (λ u. 0) (λ u. u .1 .1 .1 .1 .1 .1 .1 .1 .1 .1 .1 .0) (λ i o.
               Elements.at-mul o 2 i) (Reads'.as-is 𝓤 H A (Rows.arrF (Referent.rtF (Referent.fInt Syntax.w16)) 9252 0)) (Reads'.as-is 𝓤 H A (Rows'.sc-here Row.sPtr)) (Reads'.room-gone 𝓤 H A (Syntax.tyRef
               Syntax.erased Syntax.mut (Syntax.tyInt Syntax.w16))) Path'.refl Path'.refl (λ b o. tt) (Dec'.lit< tt, Dec'.lit< tt)) d34
 
-          d36 : Typed.Typed 𝓤 H A 𝓣 E G22 b27 Δ0 (at36 bs)
-          d36 = Typed.g-pre 𝓤 H A W 𝓣 E G22 G23 b27 Δ0 (λ Ψ. Ψ) (at35 bs) (Lifetime.g-begin 𝓤 H A W E G22 3
-              (tt, (tt, (tt, (tt, (tt, (tt, (tt, (tt, (tt, (tt, (tt, (tt, (tt, (tt, (tt, (tt, (tt, (tt, (tt, (tt, (tt, (tt, (tt, (tt, (tt, tt)))))))))))))))))))))))))) d35
+          d36 : Typed.Typed 𝓤 H A 𝓣 E G18 b25 Δ0 (at36 bs)
+          d36 = Typed.g-pre 𝓤 H A W 𝓣 E G18 G19 b25 Δ0 (λ Ψ. Ψ) (at35 bs) (Lifetime.g-begin 𝓤 H A W E G18 3
+              (tt, (tt, (tt, (tt, (tt, (tt, (tt, (tt, (tt, (tt, (tt, (tt, (tt, (tt, (tt, (tt, (tt, (tt, (tt, (tt, (tt, (tt, (tt, (tt, tt))))))))))))))))))))))))) d35
 
-          d37 : Typed.Typed 𝓤 H A 𝓣 E G21 b28 Δ0 (at37 bs)
-          d37 = Typed.s-seq 𝓤 H A W 𝓣 E G21 G22 b10 b27 Δ0 (Typed.ask (s20 bs)) (at36 bs) (Scalar.t-op2 𝓤 H A W E 𝓣 G21 (Syntax.sub Syntax.unsigned) (Scalar.oAt 11 (Syntax.tyInt Syntax.w64) (Row.valS
-              (Row.sInt Syntax.w64))) (Scalar.oInt Syntax.w64 0) 14 (Rows'.sc-here (Row.sInt Syntax.w64)) (Syntax.tyInt Syntax.w64) (Row.valS (Row.sInt Syntax.w64)) (Row.sInt Syntax.w64 .of)
+          d37 : Typed.Typed 𝓤 H A 𝓣 E G17 b26 Δ0 (at37 bs)
+          d37 = Typed.s-seq 𝓤 H A W 𝓣 E G17 G18 b8 b25 Δ0 (Typed.ask (s16 bs)) (at36 bs) (Scalar.t-op2 𝓤 H A W E 𝓣 G17 (Syntax.sub Syntax.unsigned) (Scalar.oAt 11 (Syntax.tyInt Syntax.w64) (Row.valS
+              (Row.sInt Syntax.w64))) (Scalar.oInt Syntax.w64 0) 16 (Rows'.sc-here (Row.sInt Syntax.w64)) (Syntax.tyInt Syntax.w64) (Row.valS (Row.sInt Syntax.w64)) (Row.sInt Syntax.w64 .of)
               (Scalar.reads-sc 𝓤 H A W (Row.sInt Syntax.w64), Path'.refl) tt (Reads'.room-gone 𝓤 H A (Syntax.tyInt Syntax.w64)) (Scalar.holds-sc 𝓤 H A W (Row.sInt Syntax.w64)) Path'.refl (λ u. Path'.refl)
               λ u. tt) d36
 
-          d38 : Typed.Typed 𝓤 H A 𝓣 E G20 b28 Δ0 (at38 bs)
-          d38 = Typed.g-pre 𝓤 H A W 𝓣 E G20 G21 b28 Δ0 (Typed.pass T20 T21 (s19 bs)) (at37 bs) (Scalar.g-room 𝓤 H A W E G20 16 Syntax.tyPtr (Scalar.room-sc 𝓤 H A W Row.sPtr)) d37
+          d38 : Typed.Typed 𝓤 H A 𝓣 E G16 b26 Δ0 (at38 bs)
+          d38 = Typed.g-pre 𝓤 H A W 𝓣 E G16 G17 b26 Δ0 (Typed.pass T16 T17 (s15 bs)) (at37 bs) (Scalar.g-room 𝓤 H A W E G16 14 Syntax.tyPtr (Scalar.room-sc 𝓤 H A W Row.sPtr)) d37
 
-          d39 : Typed.Typed 𝓤 H A 𝓣 E G19 b29 Δ0 (at39 bs)
-          d39 = Typed.s-seq 𝓤 H A W 𝓣 E G19 G20 b9 b28 Δ0 (Typed.ask (s18 bs)) (at38 bs) (Scalar.t-op2 𝓤 H A W E 𝓣 G19 Syntax.offset (Scalar.oAt 16 Syntax.tyPtr (Row.valS Row.sPtr)) (Scalar.oInt
-              Syntax.w64 0) 17 (Rows'.sc-here Row.sPtr) Syntax.tyPtr (Row.valS Row.sPtr) (Row.sPtr .of) (Scalar.reads-sc 𝓤 H A W Row.sPtr, Path'.refl) tt (Reads'.room-gone 𝓤 H A Syntax.tyPtr)
+          d39 : Typed.Typed 𝓤 H A 𝓣 E G15 b27 Δ0 (at39 bs)
+          d39 = Typed.s-seq 𝓤 H A W 𝓣 E G15 G16 b7 b26 Δ0 (Typed.ask (s14 bs)) (at38 bs) (Scalar.t-op2 𝓤 H A W E 𝓣 G15 Syntax.offset (Scalar.oAt 14 Syntax.tyPtr (Row.valS Row.sPtr)) (Scalar.oInt
+              Syntax.w64 0) 15 (Rows'.sc-here Row.sPtr) Syntax.tyPtr (Row.valS Row.sPtr) (Row.sPtr .of) (Scalar.reads-sc 𝓤 H A W Row.sPtr, Path'.refl) tt (Reads'.room-gone 𝓤 H A Syntax.tyPtr)
               (Scalar.holds-sc 𝓤 H A W Row.sPtr) Path'.refl (λ u. Path'.refl) λ u. tt) d38
 
-          d40 : Typed.Typed 𝓤 H A 𝓣 E G18 b30 Δ0 (at40 bs)
-          d40 = Typed.s-seq 𝓤 H A W 𝓣 E G18 G19 b8 b29 Δ0 (Typed.pass T18 T19 (s17 bs)) (at39 bs) (Init.t-addr 𝓤 H A W E 𝓣 G18 16 9 (Reads'.room-gone 𝓤 H A Syntax.tyPtr) Path'.refl) d39
+          d40 : Typed.Typed 𝓤 H A 𝓣 E G14 b28 Δ0 (at40 bs)
+          d40 = Typed.s-seq 𝓤 H A W 𝓣 E G14 G15 b6 b27 Δ0 (Typed.pass T14 T15 (s13 bs)) (at39 bs) (Init.t-addr 𝓤 H A W E 𝓣 G14 14 9 (Reads'.room-gone 𝓤 H A Syntax.tyPtr) Path'.refl) d39
 
-          d41 : Typed.Typed 𝓤 H A 𝓣 E G17 b30 Δ0 (at41 bs)
-          d41 = Typed.g-pre 𝓤 H A W 𝓣 E G17 G18 b30 Δ0 (Typed.pass T17 T18 (s16 bs)) (at40 bs) (Scalar.g-room 𝓤 H A W E G17 15 (Syntax.tyInt Syntax.w64) (Scalar.room-sc 𝓤 H A W (Row.sInt Syntax.w64)))
-              d40
+          d41 : Typed.Typed 𝓤 H A 𝓣 E G13 b29 Δ0 (at41 bs)
+          d41 = Typed.s-seq 𝓤 H A W 𝓣 E G13 G14 b5 b28 Δ0 (Typed.both (s12 bs)) (at40 bs) (Plain.t-call-plain 𝓤 H A W 𝓣 0 ps·2 r·2 (claims· .4) (claims· .5) "begin::samples_needed" (known .2) E (λ pos
+              β. β) G13 (Bool.bFld 4 (List._∷_ (Syntax.field 1) List.[]) 4 λ x. Form.struct .as-values x .1 .0, tt) 11 List.[] (Call.sub-id 𝓤 H A W (G13 .slots))
+              ((Reads.reads-field 𝓤 H A W Form.the-type Laws.the-laws 1 Syntax.tyBool 4 Path'.refl, Path'.refl), tt) (Reads'.room-gone 𝓤 H A (Syntax.tyInt Syntax.w64)) tt Path'.refl) d40
 
-          d42 : Typed.Typed 𝓤 H A 𝓣 E G16 b31 Δ0 (at42 bs)
-          d42 = Typed.s-seq 𝓤 H A W 𝓣 E G16 G17 b7 b30 Δ0 (Typed.ask (s15 bs)) (at41 bs) (Scalar.t-op2 𝓤 H A W E 𝓣 G16 (Syntax.mul Syntax.unsigned) (Scalar.oInt Syntax.w64 18) (Scalar.oAt 15
-              (Syntax.tyInt Syntax.w64) (Row.valS (Row.sInt Syntax.w64))) 11 (Rows'.sc-here (Row.sInt Syntax.w64)) (Syntax.tyInt Syntax.w64) (Row.valS (Row.sInt Syntax.w64)) (Row.sInt Syntax.w64 .of) tt
-              (Scalar.reads-sc 𝓤 H A W (Row.sInt Syntax.w64), Path'.refl) (Reads'.room-gone 𝓤 H A (Syntax.tyInt Syntax.w64)) (Scalar.holds-sc 𝓤 H A W (Row.sInt Syntax.w64)) Path'.refl (λ u. Path'.refl) λ
-              u. tt) d41
+          d42 : Typed.Typed 𝓤 H A 𝓣 E G12 b29 Δ0 (at42 bs)
+          d42 = Typed.g-pre 𝓤 H A W 𝓣 E G12 G13 b29 Δ0 (Typed.pass T12 T13 (s11 bs)) (at41 bs) (Scalar.g-room 𝓤 H A W E G12 13 (Element.held) (Element.room 𝓤 H A W)) d41
 
-          d43 : Typed.Typed 𝓤 H A 𝓣 E G15 b31 Δ0 (at43 bs)
-          d43 = Typed.g-pre 𝓤 H A W 𝓣 E G15 G16 b31 Δ0 (Typed.pass T15 T16 (s14 bs)) (at42 bs) (Scalar.g-room 𝓤 H A W E G15 14 (Syntax.tyInt Syntax.w64) (Scalar.room-sc 𝓤 H A W (Row.sInt Syntax.w64)))
-              d42
+          d43 : Typed.Typed 𝓤 H A 𝓣 E G11 b29 Δ0 (at43 bs)
+          d43 = Typed.g-pre 𝓤 H A W 𝓣 E G11 G12 b29 Δ0 (Typed.pass T11 T12 (s10 bs)) (at42 bs) (AtSlots.g-as-by 𝓤 H A W E (λ ρ. Unit) G11 10 (Rows.arrF (Element.type) 336 0) (λ x. x) (Own.told-none 𝓤
+              H A (G11 .slots)) λ ρ told. Repeat.whole-arr 𝓤 H A W (Element.type) 336 tt ρ) d42
 
-          d44 : Typed.Typed 𝓤 H A 𝓣 E G14 b32 Δ0 (at44 bs)
-          d44 = Typed.s-seq 𝓤 H A W 𝓣 E G14 G15 b6 b31 Δ0 (Typed.ask (s13 bs)) (at43 bs) (Scalar.t-op2 𝓤 H A W E 𝓣 G14 (Syntax.add Syntax.unsigned) (Scalar.oAt 14 (Syntax.tyInt Syntax.w64) (Row.valS
-              (Row.sInt Syntax.w64))) (Scalar.oInt Syntax.w64 2) 15 (Rows'.sc-here (Row.sInt Syntax.w64)) (Syntax.tyInt Syntax.w64) (Row.valS (Row.sInt Syntax.w64)) (Row.sInt Syntax.w64 .of)
-              (Scalar.reads-sc 𝓤 H A W (Row.sInt Syntax.w64), Path'.refl) tt (Reads'.room-gone 𝓤 H A (Syntax.tyInt Syntax.w64)) (Scalar.holds-sc 𝓤 H A W (Row.sInt Syntax.w64)) Path'.refl (λ u. Path'.refl)
-              λ u. tt) d43
-
-          d45 : Typed.Typed 𝓤 H A 𝓣 E G13 b33 Δ0 (at45 bs)
-          d45 = Typed.s-seq 𝓤 H A W 𝓣 E G13 G14 b5 b32 Δ0 (Typed.both (s12 bs)) (at44 bs) (Plain.t-call-plain 𝓤 H A W 𝓣 0 ps·2 r·2 (claims· .4) (claims· .5) "map::width" (known .2) E (λ pos β. β) G13
-              (Bool.bFld 4 (List._∷_ (Syntax.field 1) List.[]) 4 λ x. Form.struct .as-values x .1 .0, tt) 14 List.[] (Call.sub-id 𝓤 H A W (G13 .slots))
-              ((Reads.reads-field 𝓤 H A W Form.the-type Laws.the-laws 1 Syntax.tyBool 4 Path'.refl, Path'.refl), tt) (Reads'.room-gone 𝓤 H A (Syntax.tyInt Syntax.w64)) tt Path'.refl) d44
-
-          d46 : Typed.Typed 𝓤 H A 𝓣 E G12 b33 Δ0 (at46 bs)
-          d46 = Typed.g-pre 𝓤 H A W 𝓣 E G12 G13 b33 Δ0 (Typed.pass T12 T13 (s11 bs)) (at45 bs) (Scalar.g-room 𝓤 H A W E G12 13 (Element.held) (Element.room 𝓤 H A W)) d45
-
-          d47 : Typed.Typed 𝓤 H A 𝓣 E G11 b33 Δ0 (at47 bs)
-          d47 = Typed.g-pre 𝓤 H A W 𝓣 E G11 G12 b33 Δ0 (Typed.pass T11 T12 (s10 bs)) (at46 bs) (AtSlots.g-as-by 𝓤 H A W E (λ ρ. Unit) G11 10 (Rows.arrF (Element.type) 336 0) (λ x. x) (Own.told-none 𝓤
-              H A (G11 .slots)) λ ρ told. Repeat.whole-arr 𝓤 H A W (Element.type) 336 tt ρ) d46
-
-          d48 : Typed.Typed 𝓤 H A 𝓣 E G10 b34 Δ0 (at48 bs)
-          d48 = Typed.s-seq 𝓤 H A W 𝓣 E G10 G11 b4 b33 Δ0 (Typed.pass T10 T11 (s9 bs)) (at47 bs) (Repeat.t-repeat-by 𝓤 H A W E 𝓣 (Element.type) (Element.lawful 𝓤 H A W) (Element.copies .copy 𝓤 H A W)
+          d44 : Typed.Typed 𝓤 H A 𝓣 E G10 b30 Δ0 (at44 bs)
+          d44 = Typed.s-seq 𝓤 H A W 𝓣 E G10 G11 b4 b29 Δ0 (Typed.pass T10 T11 (s9 bs)) (at43 bs) (Repeat.t-repeat-by 𝓤 H A W E 𝓣 (Element.type) (Element.lawful 𝓤 H A W) (Element.copies .copy 𝓤 H A W)
               336 G10 10 (Scalar.oAt 13 (Element.held) λ x. Steps.only (Element.copies .vals x)) (λ m. m .1 .1 .1 .1 .1 .1 .1 .1 .1 .1 .1 .1 .1 .0) (λ ρ. Unit) (Reads'.room-gone 𝓤 H A (Syntax.tyArray
               (Element.held) 336)) (Element.reads 𝓤 H A W, Path'.refl) Path'.refl (Own.told-none 𝓤 H A (G10 .slots)) λ ρ m pf wa. Gives.elem-local 𝓤 H A W E ρ (Element.type) (λ x. Steps.only
               (Element.copies .vals x)) (Element.copies .tells) (Row.out 10 (G10 .locals)) m (λ ρ. Unit) pf 13 (Element.held) (λ x. x) (Yields.yields-copy 𝓤 H A W (λ ρ. Unit) (Element.type) Path'.refl
-              (Element.copies .copy 𝓤 H A W) (Element.row) (λ x. x) (λ x. x) (λ ρ told. Element.in-mem 𝓤 H A W ρ) λ ρ told. Element.of-mem 𝓤 H A W ρ)) d47
+              (Element.copies .copy 𝓤 H A W) (Element.row) (λ x. x) (λ x. x) (λ ρ told. Element.in-mem 𝓤 H A W ρ) λ ρ told. Element.of-mem 𝓤 H A W ρ)) d43
 
-          d49 : Typed.Typed 𝓤 H A 𝓣 E G9 b35 Δ0 (at49 bs)
-          d49 = Typed.s-seq 𝓤 H A W 𝓣 E G9 G10 b3 b34 Δ0 (Typed.both (s8 bs)) (at48 bs) (Plain.t-call-plain 𝓤 H A W 𝓣 0 ps·1 r·1 (claims· .2) (claims· .3) "block::records::cleared" (known .1) E (λ pos
-              β. β) G9 tt 13 List.[] (Call.sub-id 𝓤 H A W (G9 .slots)) tt (Reads'.room-gone 𝓤 H A (Element.held)) tt Path'.refl) d48
+          d45 : Typed.Typed 𝓤 H A 𝓣 E G9 b31 Δ0 (at45 bs)
+          d45 = Typed.s-seq 𝓤 H A W 𝓣 E G9 G10 b3 b30 Δ0 (Typed.both (s8 bs)) (at44 bs) (Plain.t-call-plain 𝓤 H A W 𝓣 0 ps·1 r·1 (claims· .2) (claims· .3) "block::records::cleared" (known .1) E (λ pos
+              β. β) G9 tt 13 List.[] (Call.sub-id 𝓤 H A W (G9 .slots)) tt (Reads'.room-gone 𝓤 H A (Element.held)) tt Path'.refl) d44
 
-          d50 : Typed.Typed 𝓤 H A 𝓣 E G8 b35 Δ0 (at50 bs)
-          d50 = Typed.g-pre 𝓤 H A W 𝓣 E G8 G9 b35 Δ0 (Typed.pass T8 T9 (s7 bs)) (at49 bs) (AtSlots.g-as-by 𝓤 H A W E (λ ρ. Unit) G8 9 (Rows.arrF (Referent.rtF (Referent.fInt Syntax.w16)) 9252 0) (λ x.
-              x) (Own.told-none 𝓤 H A (G8 .slots)) λ ρ told. Repeat.whole-arr 𝓤 H A W (Referent.rtF (Referent.fInt Syntax.w16)) 9252 tt ρ) d49
+          d46 : Typed.Typed 𝓤 H A 𝓣 E G8 b31 Δ0 (at46 bs)
+          d46 = Typed.g-pre 𝓤 H A W 𝓣 E G8 G9 b31 Δ0 (Typed.pass T8 T9 (s7 bs)) (at45 bs) (AtSlots.g-as-by 𝓤 H A W E (λ ρ. Unit) G8 9 (Rows.arrF (Referent.rtF (Referent.fInt Syntax.w16)) 9252 0) (λ x.
+              x) (Own.told-none 𝓤 H A (G8 .slots)) λ ρ told. Repeat.whole-arr 𝓤 H A W (Referent.rtF (Referent.fInt Syntax.w16)) 9252 tt ρ) d45
 
-          d51 : Typed.Typed 𝓤 H A 𝓣 E G7 b36 Δ0 (at51 bs)
-          d51 = Typed.s-seq 𝓤 H A W 𝓣 E G7 G8 b2 b35 Δ0 (Typed.pass T7 T8 (s6 bs)) (at50 bs) (Repeat.t-repeat 𝓤 H A W E 𝓣 (Referent.rtF (Referent.fInt Syntax.w16)) (Plain'.uint-lawful 𝓤 H A W
+          d47 : Typed.Typed 𝓤 H A 𝓣 E G7 b32 Δ0 (at47 bs)
+          d47 = Typed.s-seq 𝓤 H A W 𝓣 E G7 G8 b2 b31 Δ0 (Typed.pass T7 T8 (s6 bs)) (at46 bs) (Repeat.t-repeat 𝓤 H A W E 𝓣 (Referent.rtF (Referent.fInt Syntax.w16)) (Plain'.uint-lawful 𝓤 H A W
               Syntax.w16) (Copies.cRf (Referent.fInt Syntax.w16) .copy 𝓤 H A W) (Plain'.uint-makes 𝓤 H A W Syntax.w16) 9252 G7 9 (Scalar.oInt Syntax.w16 0) (λ m. 0) (Reads'.room-gone 𝓤 H A (Syntax.tyArray
-              (Syntax.tyInt Syntax.w16) 9252)) tt Path'.refl λ m wa. (Path'.refl, Dec'.lit< tt)) d50
+              (Syntax.tyInt Syntax.w16) 9252)) tt Path'.refl λ m wa. (Path'.refl, Dec'.lit< tt)) d46
 
-          d52 : Typed.Typed 𝓤 H A 𝓣 E G6 b36 Δ0 (at52 bs)
-          d52 = Typed.g-pre 𝓤 H A W 𝓣 E G6 G7 b36 Δ0 (Typed.pass T6 T7 (s5 bs)) (at51 bs) (Scalar.g-room 𝓤 H A W E G6 12 (Syntax.tyArray (Syntax.tyInt Syntax.w16) 768) (Init.room-arr 𝓤 H A W
-              (Referent.rtF (Referent.fInt Syntax.w16)) 768 0 768 Path'.refl)) d51
+          d48 : Typed.Typed 𝓤 H A 𝓣 E G6 b32 Δ0 (at48 bs)
+          d48 = Typed.g-pre 𝓤 H A W 𝓣 E G6 G7 b32 Δ0 (Typed.pass T6 T7 (s5 bs)) (at47 bs) (Scalar.g-room 𝓤 H A W E G6 12 (Syntax.tyArray (Syntax.tyInt Syntax.w16) 768) (Init.room-arr 𝓤 H A W
+              (Referent.rtF (Referent.fInt Syntax.w16)) 768 0 768 Path'.refl)) d47
 
-          d53 : Typed.Typed 𝓤 H A 𝓣 E G5 b37 Δ0 (at53 bs)
-          d53 = Typed.s-seq 𝓤 H A W 𝓣 E G5 G6 b1 b36 Δ0 (Typed.pass T5 T6 (s4 bs)) (at52 bs) (LocalCopy.t-val-copy 𝓤 H A W E 𝓣 (λ ρ. Unit) G5 12 8 (Array'.Array (Referent.rtF (Referent.fInt
+          d49 : Typed.Typed 𝓤 H A 𝓣 E G5 b33 Δ0 (at49 bs)
+          d49 = Typed.s-seq 𝓤 H A W 𝓣 E G5 G6 b1 b32 Δ0 (Typed.pass T5 T6 (s4 bs)) (at48 bs) (LocalCopy.t-val-copy 𝓤 H A W E 𝓣 (λ ρ. Unit) G5 12 8 (Array'.Array (Referent.rtF (Referent.fInt
               Syntax.w16)) 768) (Syntax.tyArray (Syntax.tyInt Syntax.w16) 768) (Syntax.tyArray (Syntax.tyInt Syntax.w16) 768) (Rows.arrF (Referent.rtF (Referent.fInt Syntax.w16)) 768 0) (Rows.arrF
               (Referent.rtF (Referent.fInt Syntax.w16)) 768 0) (λ x. x) (λ x. x) (λ x. x) Path'.refl (Own.told-none 𝓤 H A (G5 .slots)) (Yields.yields-copy 𝓤 H A W (λ ρ. Unit) (Array'.Array (Referent.rtF
               (Referent.fInt Syntax.w16)) 768) Path'.refl (Copies.cArr (Referent.rtF (Referent.fInt Syntax.w16)) (Copies.cRf (Referent.fInt Syntax.w16)) 768 .copy 𝓤 H A W) (Rows.arrF (Referent.rtF
               (Referent.fInt Syntax.w16)) 768 0) (λ x. x) (λ x. x) (λ ρ told. Whole.mem-arr 𝓤 H A W (Referent.rtF (Referent.fInt Syntax.w16)) 768 ρ) λ ρ told. Whole.arr-mem 𝓤 H A W (Referent.rtF
               (Referent.fInt Syntax.w16)) 768 tt ρ) (Reads'.room-gone 𝓤 H A (Syntax.tyArray (Syntax.tyInt Syntax.w16) 768)) (Yields.makes-mem 𝓤 H A W (λ ρ. Unit) (Array'.Array (Referent.rtF (Referent.fInt
               Syntax.w16)) 768) Path'.refl (Rows.arrF (Referent.rtF (Referent.fInt Syntax.w16)) 768 0) (λ x. x) λ ρ told. Whole.arr-mem 𝓤 H A W (Referent.rtF (Referent.fInt Syntax.w16)) 768 tt ρ)
-              Path'.refl Path'.refl) d52
+              Path'.refl Path'.refl) d48
 
-          d54 : Typed.Typed 𝓤 H A 𝓣 E G4 b38 Δ0 (at54 bs)
-          d54 = Typed.s-seq 𝓤 H A W 𝓣 E G4 G5 b0 b37 Δ0 (Typed.both (s3 bs)) (at53 bs) (Plain.t-call-plain 𝓤 H A W 𝓣 0 ps·0 r·0 (claims· .0) (claims· .1) "map::xtrans_places" (known .0) E (λ pos β. β)
-              G4 tt 12 List.[] (Call.sub-id 𝓤 H A W (G4 .slots)) tt (Reads'.room-gone 𝓤 H A (Syntax.tyArray (Syntax.tyInt Syntax.w16) 768)) tt Path'.refl) d53
+          d50 : Typed.Typed 𝓤 H A 𝓣 E G4 b34 Δ0 (at50 bs)
+          d50 = Typed.s-seq 𝓤 H A W 𝓣 E G4 G5 b0 b33 Δ0 (Typed.both (s3 bs)) (at49 bs) (Plain.t-call-plain 𝓤 H A W 𝓣 0 ps·0 r·0 (claims· .0) (claims· .1) "map::xtrans_places" (known .0) E (λ pos β. β)
+              G4 tt 12 List.[] (Call.sub-id 𝓤 H A W (G4 .slots)) tt (Reads'.room-gone 𝓤 H A (Syntax.tyArray (Syntax.tyInt Syntax.w16) 768)) tt Path'.refl) d49
 
-          d55 : Typed.Typed 𝓤 H A 𝓣 E G3 b38 Δ0 (at55 bs)
-          d55 = Typed.g-pre 𝓤 H A W 𝓣 E G3 G4 b38 Δ0 (Typed.give (s2 bs)) (at54 bs) (Know.g-sl-known 𝓤 H A W (Referent.fInt Syntax.w16) E G3 3 2 (Syntax.tyRef (Syntax.named 2) Syntax.mut (Syntax.tyInt
+          d51 : Typed.Typed 𝓤 H A 𝓣 E G3 b34 Δ0 (at51 bs)
+          d51 = Typed.g-pre 𝓤 H A W 𝓣 E G3 G4 b34 Δ0 (Typed.give (s2 bs)) (at50 bs) (Know.g-sl-known 𝓤 H A W (Referent.fInt Syntax.w16) E G3 3 2 (Syntax.tyRef (Syntax.named 2) Syntax.mut (Syntax.tyInt
               Syntax.w16)) (Row.lease (κs .1 .1 .0) (qs .1 .1 .0)) 0 (λ x. x) record { fits = Dec'.lit< tt } (Reads'.as-is 𝓤 H A (Mut.mslice (Referent.rtF (Referent.fInt Syntax.w16)) (Syntax.tyRef
-              (Syntax.named 2) Syntax.mut (Syntax.tyInt Syntax.w16)) 2)) Path'.refl tt) d54
+              (Syntax.named 2) Syntax.mut (Syntax.tyInt Syntax.w16)) 2)) Path'.refl tt) d50
 
-          d56 : Typed.Typed 𝓤 H A 𝓣 E G2 b38 Δ0 (at56 bs)
-          d56 = Typed.g-pre 𝓤 H A W 𝓣 E G2 G3 b38 Δ0 (Typed.give (s1 bs)) (at55 bs) (Know.g-shs-known 𝓤 H A W (Referent.fInt Syntax.w8) E G2 2 1 (Syntax.tyRef (Syntax.named 1) Syntax.imm (Syntax.tyInt
+          d52 : Typed.Typed 𝓤 H A 𝓣 E G2 b34 Δ0 (at52 bs)
+          d52 = Typed.g-pre 𝓤 H A W 𝓣 E G2 G3 b34 Δ0 (Typed.give (s1 bs)) (at51 bs) (Know.g-shs-known 𝓤 H A W (Referent.fInt Syntax.w8) E G2 2 1 (Syntax.tyRef (Syntax.named 1) Syntax.imm (Syntax.tyInt
               Syntax.w8)) (Row.lease (κs .1 .0) (qs .1 .0)) 0 (λ x. x) record { fits = Dec'.lit< tt } (Reads'.as-is 𝓤 H A (Rows'.sslice (Referent.rtF (Referent.fInt Syntax.w8)) (Syntax.tyRef (Syntax.named
-              1) Syntax.imm (Syntax.tyInt Syntax.w8)) 1)) Path'.refl tt) d55
+              1) Syntax.imm (Syntax.tyInt Syntax.w8)) 1)) Path'.refl tt) d51
 
-          d57 : Typed.Typed 𝓤 H A 𝓣 E G0 b38 Δ0 (at57 bs)
-          d57 = Typed.g-pre 𝓤 H A W 𝓣 E G0 G2 b38 Δ0 (Typed.give (s0 bs)) (at56 bs) (Know.g-shs-known 𝓤 H A W (Referent.fInt Syntax.w8) E G0 1 0 (Syntax.tyRef (Syntax.named 0) Syntax.imm (Syntax.tyInt
+          d53 : Typed.Typed 𝓤 H A 𝓣 E G0 b34 Δ0 (at53 bs)
+          d53 = Typed.g-pre 𝓤 H A W 𝓣 E G0 G2 b34 Δ0 (Typed.give (s0 bs)) (at52 bs) (Know.g-shs-known 𝓤 H A W (Referent.fInt Syntax.w8) E G0 1 0 (Syntax.tyRef (Syntax.named 0) Syntax.imm (Syntax.tyInt
               Syntax.w8)) (Row.lease (κs .0) (qs .0)) 0 (λ x. x) record { fits = Dec'.lit< tt } (Reads'.as-is 𝓤 H A (Rows'.sslice (Referent.rtF (Referent.fInt Syntax.w8)) (Syntax.tyRef (Syntax.named 0)
-              Syntax.imm (Syntax.tyInt Syntax.w8)) 0)) Path'.refl tt) d56
+              Syntax.imm (Syntax.tyInt Syntax.w8)) 0)) Path'.refl tt) d52
 
-          pub typed : Typed.Typed 𝓤 H A 𝓣 E (Function.Γin 3 ps r xs m κs qs) b38 (Function.Δret 3 ps r xs m κs qs) (Φ bs)
-          typed = d57
+          pub typed : Typed.Typed 𝓤 H A 𝓣 E (Function.Γin 3 ps r xs m κs qs) b34 (Function.Δret 3 ps r xs m κs qs) (Φ bs)
+          typed = d53
 
       module _ (κs : Lifetimes.Lfts 3) where
         pub record Args : Type 0 where
@@ -2194,155 +2074,142 @@ module _ (claims· : Claims) where
       abbrev pub m12 : (before : After-xtrans-places) → (given : s8 (before .before .before .before .before .blocks) .gives (m8 (before .before) (After-xtrans-places·gave before))) → Typed.Mo T13
       m12 = λ before given. s11 (before .before .before .before .before .blocks) (m11 before given)
 
-      abbrev pub Need-width-requires : Type 0
-      Need-width-requires = (c : After-cleared) → s12 (c .before .before .before .before .before .blocks) .asks (m12 (c .before) (After-cleared·gave c))
+      abbrev pub Need-samples-needed-requires : Type 0
+      Need-samples-needed-requires = (c : After-cleared) → s12 (c .before .before .before .before .before .blocks) .asks (m12 (c .before) (After-cleared·gave c))
 
       abbrev pub m13 : (before : After-cleared) → (given : s12 (before .before .before .before .before .before .blocks) .gives (m12 (before .before) (After-cleared·gave before))) → Typed.Mo T14
       m13 = λ before given. s12 (before .before .before .before .before .before .blocks) .next (m12 (before .before) (After-cleared·gave before)) given
 
       module _ (before· : After-cleared) where
-        abbrev pub After-width·own : Type 0
-        After-width·own = Called.Called ps·2 r·2 (claims· .5) T13 (Bool.bFld 4 (List._∷_ (Syntax.field 1) List.[]) 4 λ x. Form.struct .as-values x .1 .0, tt) (m12 (before· .before) (After-cleared·gave
-            before·))
+        abbrev pub After-samples-needed·own : Type 0
+        After-samples-needed·own = Called.Called ps·2 r·2 (claims· .5) T13 (Bool.bFld 4 (List._∷_ (Syntax.field 1) List.[]) 4 λ x. Form.struct .as-values x .1 .0, tt) (m12 (before· .before)
+            (After-cleared·gave before·))
 
-      pub record After-width : Type 0 where
+      pub record After-samples-needed : Type 0 where
         pub before : After-cleared
-        pub width : After-width·own before
+        pub samples-needed : After-samples-needed·own before
 
-      abbrev pub After-width·gave : (c : After-width) → s12 (c .before .before .before .before .before .before .blocks) .gives (m12 (c .before .before) (After-cleared·gave (c .before)))
-      After-width·gave = λ c. Called.given ps·2 r·2 (claims· .5) T13 (Bool.bFld 4 (List._∷_ (Syntax.field 1) List.[]) 4 λ x. Form.struct .as-values x .1 .0, tt) (m12 (c .before .before)
-          (After-cleared·gave (c .before))) (c .width)
-
-      abbrev pub Need-add-used : Type 0
-      Need-add-used = (c : After-width) → s13 (c .before .before .before .before .before .before .blocks) .asks (m13 (c .before) (After-width·gave c))
+      abbrev pub After-samples-needed·gave : (c : After-samples-needed) → s12 (c .before .before .before .before .before .before .blocks) .gives (m12 (c .before .before) (After-cleared·gave (c
+          .before)))
+      After-samples-needed·gave = λ c. Called.given ps·2 r·2 (claims· .5) T13 (Bool.bFld 4 (List._∷_ (Syntax.field 1) List.[]) 4 λ x. Form.struct .as-values x .1 .0, tt) (m12 (c .before .before)
+          (After-cleared·gave (c .before))) (c .samples-needed)
 
       abbrev pub m14 : (before : After-cleared) → (given : s12 (before .before .before .before .before .before .blocks) .gives (m12 (before .before) (After-cleared·gave before))) → Typed.Mo T15
-      m14 = λ before given. s13 (before .before .before .before .before .before .blocks) .next (m13 before given)
+      m14 = λ before given. s13 (before .before .before .before .before .before .blocks) (m13 before given)
 
       abbrev pub m15 : (before : After-cleared) → (given : s12 (before .before .before .before .before .before .blocks) .gives (m12 (before .before) (After-cleared·gave before))) → Typed.Mo T16
-      m15 = λ before given. s14 (before .before .before .before .before .before .blocks) (m14 before given)
-
-      abbrev pub Need-mul-used : Type 0
-      Need-mul-used = (c : After-width) → s15 (c .before .before .before .before .before .before .blocks) .asks (m15 (c .before) (After-width·gave c))
+      m15 = λ before given. s14 (before .before .before .before .before .before .blocks) .next (m14 before given)
 
       abbrev pub m16 : (before : After-cleared) → (given : s12 (before .before .before .before .before .before .blocks) .gives (m12 (before .before) (After-cleared·gave before))) → Typed.Mo T17
-      m16 = λ before given. s15 (before .before .before .before .before .before .blocks) .next (m15 before given)
-
-      abbrev pub m17 : (before : After-cleared) → (given : s12 (before .before .before .before .before .before .blocks) .gives (m12 (before .before) (After-cleared·gave before))) → Typed.Mo T18
-      m17 = λ before given. s16 (before .before .before .before .before .before .blocks) (m16 before given)
-
-      abbrev pub m18 : (before : After-cleared) → (given : s12 (before .before .before .before .before .before .blocks) .gives (m12 (before .before) (After-cleared·gave before))) → Typed.Mo T19
-      m18 = λ before given. s17 (before .before .before .before .before .before .blocks) (m17 before given)
-
-      abbrev pub m19 : (before : After-cleared) → (given : s12 (before .before .before .before .before .before .blocks) .gives (m12 (before .before) (After-cleared·gave before))) → Typed.Mo T20
-      m19 = λ before given. s18 (before .before .before .before .before .before .blocks) .next (m18 before given)
-
-      abbrev pub m20 : (before : After-cleared) → (given : s12 (before .before .before .before .before .before .blocks) .gives (m12 (before .before) (After-cleared·gave before))) → Typed.Mo T21
-      m20 = λ before given. s19 (before .before .before .before .before .before .blocks) (m19 before given)
+      m16 = λ before given. s15 (before .before .before .before .before .before .blocks) (m15 before given)
 
       abbrev pub Need-sub-walk : Type 0
-      Need-sub-walk = (c : After-width) → s20 (c .before .before .before .before .before .before .blocks) .asks (m20 (c .before) (After-width·gave c))
+      Need-sub-walk = (c : After-samples-needed) → s16 (c .before .before .before .before .before .before .blocks) .asks (m16 (c .before) (After-samples-needed·gave c))
 
-      abbrev pub m21 : (before : After-cleared) → (given : s12 (before .before .before .before .before .before .blocks) .gives (m12 (before .before) (After-cleared·gave before))) → Typed.Mo T22
-      m21 = λ before given. s20 (before .before .before .before .before .before .blocks) .next (m20 before given)
+      abbrev pub m17 : (before : After-cleared) → (given : s12 (before .before .before .before .before .before .blocks) .gives (m12 (before .before) (After-cleared·gave before))) → Typed.Mo T18
+      m17 = λ before given. s16 (before .before .before .before .before .before .blocks) .next (m16 before given)
 
       abbrev pub Need-part-lines-start : Type 0
-      Need-part-lines-start = (c : After-width) → PartAt.PartFrom T22 (λ u. 0) (λ u. u .1 .1 .1 .1 .1 .1 .1 .1 .1 .1 .1 .0) (m21 (c .before) (After-width·gave c))
+      Need-part-lines-start = (c : After-samples-needed) → PartAt.PartFrom T18 (λ u. 0) (λ u. u .1 .1 .1 .1 .1 .1 .1 .1 .1 .1 .1 .0) (m17 (c .before) (After-samples-needed·gave c))
 
       abbrev pub Need-part-lines-end : Type 0
-      Need-part-lines-end = (c : After-width) → PartAt.PartTo T22 9 17 (λ x. record { ptr = (0, 0); name = 0; now = x }) (λ u. u .1 .1 .1 .1 .1 .1 .1 .1 .1 .1 .1 .0) (m21 (c .before)
-          (After-width·gave c))
+      Need-part-lines-end = (c : After-samples-needed) → PartAt.PartTo T18 9 15 (λ x. record { ptr = (0, 0); name = 0; now = x }) (λ u. u .1 .1 .1 .1 .1 .1 .1 .1 .1 .1 .1 .0) (m17 (c .before)
+          (After-samples-needed·gave c))
 
-      abbrev pub m22 : (before : After-width) → (given : s22 (before .before .before .before .before .before .before .blocks) .gives (m21 (before .before) (After-width·gave before))) → Typed.Mo T24
-      m22 = λ before given. s22 (before .before .before .before .before .before .before .blocks) .next (m21 (before .before) (After-width·gave before)) given
+      abbrev pub m18 : (before : After-samples-needed) → (given : s18 (before .before .before .before .before .before .before .blocks) .gives (m17 (before .before) (After-samples-needed·gave before)))
+          → Typed.Mo T20
+      m18 = λ before given. s18 (before .before .before .before .before .before .before .blocks) .next (m17 (before .before) (After-samples-needed·gave before)) given
 
-      abbrev pub m23 : (before : After-width) → (given : s22 (before .before .before .before .before .before .before .blocks) .gives (m21 (before .before) (After-width·gave before))) → Typed.Mo T25
-      m23 = λ before given. s23 (before .before .before .before .before .before .before .blocks) (m22 before given)
+      abbrev pub m19 : (before : After-samples-needed) → (given : s18 (before .before .before .before .before .before .before .blocks) .gives (m17 (before .before) (After-samples-needed·gave before)))
+          → Typed.Mo T21
+      m19 = λ before given. s19 (before .before .before .before .before .before .before .blocks) (m18 before given)
 
-      abbrev pub m24 : (before : After-width) → (given : s22 (before .before .before .before .before .before .before .blocks) .gives (m21 (before .before) (After-width·gave before))) → Typed.Mo T26
-      m24 = λ before given. s24 (before .before .before .before .before .before .before .blocks) .next (m23 before given)
+      abbrev pub m20 : (before : After-samples-needed) → (given : s18 (before .before .before .before .before .before .before .blocks) .gives (m17 (before .before) (After-samples-needed·gave before)))
+          → Typed.Mo T22
+      m20 = λ before given. s20 (before .before .before .before .before .before .before .blocks) .next (m19 before given)
 
-      abbrev pub m25 : (before : After-width) → (given : s22 (before .before .before .before .before .before .before .blocks) .gives (m21 (before .before) (After-width·gave before))) → Typed.Mo T27
-      m25 = λ before given. s25 (before .before .before .before .before .before .before .blocks) (m24 before given)
+      abbrev pub m21 : (before : After-samples-needed) → (given : s18 (before .before .before .before .before .before .before .blocks) .gives (m17 (before .before) (After-samples-needed·gave before)))
+          → Typed.Mo T23
+      m21 = λ before given. s21 (before .before .before .before .before .before .before .blocks) (m20 before given)
 
-      module _ (before· : After-width) where
+      module _ (before· : After-samples-needed) where
         pub record After-lines·own : Type 0 where
-          pub given : s22 (before· .before .before .before .before .before .before .blocks) .gives (m21 (before· .before) (After-width·gave before·))
+          pub given : s18 (before· .before .before .before .before .before .before .blocks) .gives (m17 (before· .before) (After-samples-needed·gave before·))
 
       pub record After-lines : Type 0 where
-        pub before : After-width
+        pub before : After-samples-needed
         pub lines : After-lines·own before
 
-      abbrev pub m26 : (before : After-lines) → (given : s27 (before .before .before .before .before .before .before .before .blocks) .gives (m25 (before .before) (before .lines .given))) → Typed.Mo
-          T29
-      m26 = λ before given. s27 (before .before .before .before .before .before .before .before .blocks) .next (m25 (before .before) (before .lines .given)) given
+      abbrev pub m22 : (before : After-lines) → (given : s23 (before .before .before .before .before .before .before .before .blocks) .gives (m21 (before .before) (before .lines .given))) → Typed.Mo
+          T25
+      m22 = λ before given. s23 (before .before .before .before .before .before .before .before .blocks) .next (m21 (before .before) (before .lines .given)) given
 
       module _ (before· : After-lines) where
         pub record After-rs·own : Type 0 where
-          pub given : s27 (before· .before .before .before .before .before .before .before .blocks) .gives (m25 (before· .before) (before· .lines .given))
+          pub given : s23 (before· .before .before .before .before .before .before .before .blocks) .gives (m21 (before· .before) (before· .lines .given))
 
       pub record After-rs : Type 0 where
         pub before : After-lines
         pub rs : After-rs·own before
 
       abbrev pub Need-slice-aggregate-walk : Type 0
-      Need-slice-aggregate-walk = (c : After-rs) → Relend.CountIs T29 20 21 (λ x. x) (λ u. 336) (m26 (c .before) (c .rs .given))
+      Need-slice-aggregate-walk = (c : After-rs) → Relend.CountIs T25 19 20 (λ x. x) (λ u. 336) (m22 (c .before) (c .rs .given))
 
-      abbrev pub m27 : (before : After-lines) → (given : s27 (before .before .before .before .before .before .before .before .blocks) .gives (m25 (before .before) (before .lines .given))) → Typed.Mo
-          T30
-      m27 = λ before given. s28 (before .before .before .before .before .before .before .before .blocks) .next (m26 before given)
+      abbrev pub m23 : (before : After-lines) → (given : s23 (before .before .before .before .before .before .before .before .blocks) .gives (m21 (before .before) (before .lines .given))) → Typed.Mo
+          T26
+      m23 = λ before given. s24 (before .before .before .before .before .before .before .before .blocks) .next (m22 before given)
 
-      abbrev pub m28 : (before : After-rs) → (given : s30 (before .before .before .before .before .before .before .before .before .blocks) .gives (m27 (before .before) (before .rs .given))) → Typed.Mo
-          T32
-      m28 = λ before given. s30 (before .before .before .before .before .before .before .before .before .blocks) .next (m27 (before .before) (before .rs .given)) given
+      abbrev pub m24 : (before : After-rs) → (given : s26 (before .before .before .before .before .before .before .before .before .blocks) .gives (m23 (before .before) (before .rs .given))) → Typed.Mo
+          T28
+      m24 = λ before given. s26 (before .before .before .before .before .before .before .before .before .blocks) .next (m23 (before .before) (before .rs .given)) given
 
-      abbrev pub m29 : (before : After-rs) → (given : s30 (before .before .before .before .before .before .before .before .before .blocks) .gives (m27 (before .before) (before .rs .given))) → Typed.Mo
-          T33
-      m29 = λ before given. s31 (before .before .before .before .before .before .before .before .before .blocks) .next (m28 before given)
+      abbrev pub m25 : (before : After-rs) → (given : s26 (before .before .before .before .before .before .before .before .before .blocks) .gives (m23 (before .before) (before .rs .given))) → Typed.Mo
+          T29
+      m25 = λ before given. s27 (before .before .before .before .before .before .before .before .before .blocks) .next (m24 before given)
 
       module _ (before· : After-rs) where
         pub record After-walk-arg·own : Type 0 where
-          pub given : s30 (before· .before .before .before .before .before .before .before .before .blocks) .gives (m27 (before· .before) (before· .rs .given))
+          pub given : s26 (before· .before .before .before .before .before .before .before .before .blocks) .gives (m23 (before· .before) (before· .rs .given))
 
       pub record After-walk-arg : Type 0 where
         pub before : After-rs
         pub walk-arg : After-walk-arg·own before
 
-      abbrev pub m30 : (before : After-walk-arg) → (given : s33 (before .before .before .before .before .before .before .before .before .before .blocks) .gives (m29 (before .before) (before .walk-arg
-          .given))) → Typed.Mo T35
-      m30 = λ before given. s33 (before .before .before .before .before .before .before .before .before .before .blocks) .next (m29 (before .before) (before .walk-arg .given)) given
+      abbrev pub m26 : (before : After-walk-arg) → (given : s29 (before .before .before .before .before .before .before .before .before .before .blocks) .gives (m25 (before .before) (before .walk-arg
+          .given))) → Typed.Mo T31
+      m26 = λ before given. s29 (before .before .before .before .before .before .before .before .before .before .blocks) .next (m25 (before .before) (before .walk-arg .given)) given
 
       module _ (before· : After-walk-arg) where
         pub record After-places·own : Type 0 where
-          pub given : s33 (before· .before .before .before .before .before .before .before .before .before .blocks) .gives (m29 (before· .before) (before· .walk-arg .given))
+          pub given : s29 (before· .before .before .before .before .before .before .before .before .before .blocks) .gives (m25 (before· .before) (before· .walk-arg .given))
 
       pub record After-places : Type 0 where
         pub before : After-walk-arg
         pub places : After-places·own before
 
       abbrev pub Need-walk-requires : Type 0
-      Need-walk-requires = (c : After-places) → s34 (c .before .before .before .before .before .before .before .before .before .before .blocks) .asks (m30 (c .before) (c .places .given))
+      Need-walk-requires = (c : After-places) → s30 (c .before .before .before .before .before .before .before .before .before .before .blocks) .asks (m26 (c .before) (c .places .given))
 
-      abbrev pub m31 : (before : After-places) → (given : s34 (before .before .before .before .before .before .before .before .before .before .before .blocks) .gives (m30 (before .before) (before
-          .places .given))) → Typed.Mo T36
-      m31 = λ before given. s34 (before .before .before .before .before .before .before .before .before .before .before .blocks) .next (m30 (before .before) (before .places .given)) given
+      abbrev pub m27 : (before : After-places) → (given : s30 (before .before .before .before .before .before .before .before .before .before .before .blocks) .gives (m26 (before .before) (before
+          .places .given))) → Typed.Mo T32
+      m27 = λ before given. s30 (before .before .before .before .before .before .before .before .before .before .before .blocks) .next (m26 (before .before) (before .places .given)) given
 
       module _ (before· : After-places) where
         abbrev pub After-walk·own : Type 0
-        After-walk·own = Called.Called ps·3 r·3 (claims· .7) T35 (
+        After-walk·own = Called.Called ps·3 r·3 (claims· .7) T31 (
           record { pos = 1; ty = Syntax.tyRef (Syntax.named 0) Syntax.imm (Syntax.tyInt Syntax.w8); ref = λ x. x },
           (
             record { pos = 2; ty = Syntax.tyRef (Syntax.named 1) Syntax.imm (Syntax.tyInt Syntax.w8); ref = λ x. x },
             (
-              record { pos = 19; ty = Syntax.tyRef Syntax.erased Syntax.mut (Syntax.tyInt Syntax.w16); ref = λ x. x },
+              record { pos = 18; ty = Syntax.tyRef Syntax.erased Syntax.mut (Syntax.tyInt Syntax.w16); ref = λ x. x },
               (
-                record { pos = 21; ty = Syntax.tyRef Syntax.erased Syntax.mut Element.behind; ref = λ x. x },
+                record { pos = 20; ty = Syntax.tyRef Syntax.erased Syntax.mut Element.behind; ref = λ x. x },
                 (
-                  record { pos = 23; ty = Syntax.tyRef Syntax.erased Syntax.mut (Syntax.tyInt Syntax.w16); ref = λ x. x },
+                  record { pos = 22; ty = Syntax.tyRef Syntax.erased Syntax.mut (Syntax.tyInt Syntax.w16); ref = λ x. x },
                   (
                     record { pos = 4; st = List.[]; d = 0; at = λ x. x },
                     (
-                      record { pos = 24; ty = Syntax.tyRef Syntax.erased Syntax.imm (Syntax.tyArray (Syntax.tyInt Syntax.w16) 768); ref = λ x. x },
+                      record { pos = 23; ty = Syntax.tyRef Syntax.erased Syntax.imm (Syntax.tyArray (Syntax.tyInt Syntax.w16) 768); ref = λ x. x },
                       (record { pos = 5; st = List.[]; d = 0; at = λ x. x }, (record { pos = 6; st = List.[]; d = 0; at = λ x. x }, (Num.vAt 7 λ x. x, tt))),
                     ),
                   ),
@@ -2350,28 +2217,28 @@ module _ (claims· : Claims) where
               ),
             ),
           ),
-        ) (m30 (before· .before) (before· .places .given))
+        ) (m26 (before· .before) (before· .places .given))
 
       pub record After-walk : Type 0 where
         pub before : After-places
         pub walk : After-walk·own before
 
-      abbrev pub After-walk·gave : (c : After-walk) → s34 (c .before .before .before .before .before .before .before .before .before .before .before .blocks) .gives (m30 (c .before .before) (c .before
+      abbrev pub After-walk·gave : (c : After-walk) → s30 (c .before .before .before .before .before .before .before .before .before .before .before .blocks) .gives (m26 (c .before .before) (c .before
           .places .given))
-      After-walk·gave = λ c. Called.given ps·3 r·3 (claims· .7) T35 (
+      After-walk·gave = λ c. Called.given ps·3 r·3 (claims· .7) T31 (
         record { pos = 1; ty = Syntax.tyRef (Syntax.named 0) Syntax.imm (Syntax.tyInt Syntax.w8); ref = λ x. x },
         (
           record { pos = 2; ty = Syntax.tyRef (Syntax.named 1) Syntax.imm (Syntax.tyInt Syntax.w8); ref = λ x. x },
           (
-            record { pos = 19; ty = Syntax.tyRef Syntax.erased Syntax.mut (Syntax.tyInt Syntax.w16); ref = λ x. x },
+            record { pos = 18; ty = Syntax.tyRef Syntax.erased Syntax.mut (Syntax.tyInt Syntax.w16); ref = λ x. x },
             (
-              record { pos = 21; ty = Syntax.tyRef Syntax.erased Syntax.mut Element.behind; ref = λ x. x },
+              record { pos = 20; ty = Syntax.tyRef Syntax.erased Syntax.mut Element.behind; ref = λ x. x },
               (
-                record { pos = 23; ty = Syntax.tyRef Syntax.erased Syntax.mut (Syntax.tyInt Syntax.w16); ref = λ x. x },
+                record { pos = 22; ty = Syntax.tyRef Syntax.erased Syntax.mut (Syntax.tyInt Syntax.w16); ref = λ x. x },
                 (
                   record { pos = 4; st = List.[]; d = 0; at = λ x. x },
                   (
-                    record { pos = 24; ty = Syntax.tyRef Syntax.erased Syntax.imm (Syntax.tyArray (Syntax.tyInt Syntax.w16) 768); ref = λ x. x },
+                    record { pos = 23; ty = Syntax.tyRef Syntax.erased Syntax.imm (Syntax.tyArray (Syntax.tyInt Syntax.w16) 768); ref = λ x. x },
                     (record { pos = 5; st = List.[]; d = 0; at = λ x. x }, (record { pos = 6; st = List.[]; d = 0; at = λ x. x }, (Num.vAt 7 λ x. x, tt))),
                   ),
                 ),
@@ -2379,95 +2246,95 @@ module _ (claims· : Claims) where
             ),
           ),
         ),
-      ) (m30 (c .before .before) (c .before .places .given))
+      ) (m26 (c .before .before) (c .before .places .given))
           (c .walk)
 
-      abbrev pub m32 : (before : After-places) → (given : s34 (before .before .before .before .before .before .before .before .before .before .before .blocks) .gives (m30 (before .before) (before
+      abbrev pub m28 : (before : After-places) → (given : s30 (before .before .before .before .before .before .before .before .before .before .before .blocks) .gives (m26 (before .before) (before
+          .places .given))) → Typed.Mo T33
+      m28 = λ before given. s31 (before .before .before .before .before .before .before .before .before .before .before .blocks) (m27 before given)
+
+      abbrev pub m29 : (before : After-places) → (given : s30 (before .before .before .before .before .before .before .before .before .before .before .blocks) .gives (m26 (before .before) (before
+          .places .given))) → Typed.Mo T34
+      m29 = λ before given. s32 (before .before .before .before .before .before .before .before .before .before .before .blocks) (m28 before given)
+
+      abbrev pub m30 : (before : After-places) → (given : s30 (before .before .before .before .before .before .before .before .before .before .before .blocks) .gives (m26 (before .before) (before
+          .places .given))) → Typed.Mo T35
+      m30 = λ before given. s33 (before .before .before .before .before .before .before .before .before .before .before .blocks) (m29 before given)
+
+      abbrev pub m31 : (before : After-places) → (given : s30 (before .before .before .before .before .before .before .before .before .before .before .blocks) .gives (m26 (before .before) (before
+          .places .given))) → Typed.Mo T36
+      m31 = λ before given. s34 (before .before .before .before .before .before .before .before .before .before .before .blocks) (m30 before given)
+
+      abbrev pub m32 : (before : After-places) → (given : s30 (before .before .before .before .before .before .before .before .before .before .before .blocks) .gives (m26 (before .before) (before
           .places .given))) → Typed.Mo T37
       m32 = λ before given. s35 (before .before .before .before .before .before .before .before .before .before .before .blocks) (m31 before given)
 
-      abbrev pub m33 : (before : After-places) → (given : s34 (before .before .before .before .before .before .before .before .before .before .before .blocks) .gives (m30 (before .before) (before
-          .places .given))) → Typed.Mo T38
-      m33 = λ before given. s36 (before .before .before .before .before .before .before .before .before .before .before .blocks) (m32 before given)
+      abbrev pub m33 : (before : After-walk) → (given : s37 (before .before .before .before .before .before .before .before .before .before .before .before .blocks) .gives (m32 (before .before)
+          (After-walk·gave before))) → Typed.Mo T39
+      m33 = λ before given. s37 (before .before .before .before .before .before .before .before .before .before .before .before .blocks) .next (m32 (before .before) (After-walk·gave before)) given
 
-      abbrev pub m34 : (before : After-places) → (given : s34 (before .before .before .before .before .before .before .before .before .before .before .blocks) .gives (m30 (before .before) (before
-          .places .given))) → Typed.Mo T39
-      m34 = λ before given. s37 (before .before .before .before .before .before .before .before .before .before .before .blocks) (m33 before given)
-
-      abbrev pub m35 : (before : After-places) → (given : s34 (before .before .before .before .before .before .before .before .before .before .before .blocks) .gives (m30 (before .before) (before
-          .places .given))) → Typed.Mo T40
-      m35 = λ before given. s38 (before .before .before .before .before .before .before .before .before .before .before .blocks) (m34 before given)
-
-      abbrev pub m36 : (before : After-places) → (given : s34 (before .before .before .before .before .before .before .before .before .before .before .blocks) .gives (m30 (before .before) (before
-          .places .given))) → Typed.Mo T41
-      m36 = λ before given. s39 (before .before .before .before .before .before .before .before .before .before .before .blocks) (m35 before given)
-
-      abbrev pub m37 : (before : After-walk) → (given : s41 (before .before .before .before .before .before .before .before .before .before .before .before .blocks) .gives (m36 (before .before)
-          (After-walk·gave before))) → Typed.Mo T43
-      m37 = λ before given. s41 (before .before .before .before .before .before .before .before .before .before .before .before .blocks) .next (m36 (before .before) (After-walk·gave before)) given
-
-      abbrev pub m38 : (before : After-walk) → (given : s41 (before .before .before .before .before .before .before .before .before .before .before .before .blocks) .gives (m36 (before .before)
-          (After-walk·gave before))) → Typed.Mo T45
-      m38 = λ before given. s43 (before .before .before .before .before .before .before .before .before .before .before .before .blocks) (m37 before given)
+      abbrev pub m34 : (before : After-walk) → (given : s37 (before .before .before .before .before .before .before .before .before .before .before .before .blocks) .gives (m32 (before .before)
+          (After-walk·gave before))) → Typed.Mo T41
+      m34 = λ before given. s39 (before .before .before .before .before .before .before .before .before .before .before .before .blocks) (m33 before given)
 
       module _ (before· : After-walk) where
         pub record After-lines2·own : Type 0 where
-          pub given : s41 (before· .before .before .before .before .before .before .before .before .before .before .before .blocks) .gives (m36 (before· .before) (After-walk·gave before·))
+          pub given : s37 (before· .before .before .before .before .before .before .before .before .before .before .before .blocks) .gives (m32 (before· .before) (After-walk·gave before·))
 
       pub record After-lines2 : Type 0 where
         pub before : After-walk
         pub lines2 : After-lines2·own before
 
-      abbrev pub m39 : (before : After-lines2) → (given : s45 (before .before .before .before .before .before .before .before .before .before .before .before .before .blocks) .gives (m38 (before
-          .before) (before .lines2 .given))) → Typed.Mo T47
-      m39 = λ before given. s45 (before .before .before .before .before .before .before .before .before .before .before .before .before .blocks) .next (m38 (before .before) (before .lines2 .given))
+      abbrev pub m35 : (before : After-lines2) → (given : s41 (before .before .before .before .before .before .before .before .before .before .before .before .before .blocks) .gives (m34 (before
+          .before) (before .lines2 .given))) → Typed.Mo T43
+      m35 = λ before given. s41 (before .before .before .before .before .before .before .before .before .before .before .before .before .blocks) .next (m34 (before .before) (before .lines2 .given))
           given
 
-      abbrev pub m40 : (before : After-lines2) → (given : s45 (before .before .before .before .before .before .before .before .before .before .before .before .before .blocks) .gives (m38 (before
-          .before) (before .lines2 .given))) → Typed.Mo T49
-      m40 = λ before given. s47 (before .before .before .before .before .before .before .before .before .before .before .before .before .blocks) (m39 before given)
+      abbrev pub m36 : (before : After-lines2) → (given : s41 (before .before .before .before .before .before .before .before .before .before .before .before .before .blocks) .gives (m34 (before
+          .before) (before .lines2 .given))) → Typed.Mo T45
+      m36 = λ before given. s43 (before .before .before .before .before .before .before .before .before .before .before .before .before .blocks) (m35 before given)
 
       module _ (before· : After-lines2) where
         pub record After-rs2·own : Type 0 where
-          pub given : s45 (before· .before .before .before .before .before .before .before .before .before .before .before .before .blocks) .gives (m38 (before· .before) (before· .lines2 .given))
+          pub given : s41 (before· .before .before .before .before .before .before .before .before .before .before .before .before .blocks) .gives (m34 (before· .before) (before· .lines2 .given))
 
       pub record After-rs2 : Type 0 where
         pub before : After-lines2
         pub rs2 : After-rs2·own before
 
-      abbrev pub m41 : (before : After-rs2) → (given : s49 (before .before .before .before .before .before .before .before .before .before .before .before .before .before .blocks) .gives (m40 (before
-          .before) (before .rs2 .given))) → Typed.Mo T51
-      m41 = λ before given. s49 (before .before .before .before .before .before .before .before .before .before .before .before .before .before .blocks) .next (m40 (before .before) (before .rs2
+      abbrev pub m37 : (before : After-rs2) → (given : s45 (before .before .before .before .before .before .before .before .before .before .before .before .before .before .blocks) .gives (m36 (before
+          .before) (before .rs2 .given))) → Typed.Mo T47
+      m37 = λ before given. s45 (before .before .before .before .before .before .before .before .before .before .before .before .before .before .blocks) .next (m36 (before .before) (before .rs2
           .given)) given
 
       module _ (before· : After-rs2) where
         pub record After-image·own : Type 0 where
-          pub given : s49 (before· .before .before .before .before .before .before .before .before .before .before .before .before .before .blocks) .gives (m40 (before· .before) (before· .rs2 .given))
+          pub given : s45 (before· .before .before .before .before .before .before .before .before .before .before .before .before .before .blocks) .gives (m36 (before· .before) (before· .rs2 .given))
 
       pub record After-image : Type 0 where
         pub before : After-rs2
         pub image : After-image·own before
 
-      abbrev pub m42 : (before : After-image) → (given : s50 (before .before .before .before .before .before .before .before .before .before .before .before .before .before .before .blocks) .gives
-          (m41 (before .before) (before .image .given))) → Typed.Mo T52
-      m42 = λ before given. s50 (before .before .before .before .before .before .before .before .before .before .before .before .before .before .before .blocks) .next (m41 (before .before) (before
+      abbrev pub m38 : (before : After-image) → (given : s46 (before .before .before .before .before .before .before .before .before .before .before .before .before .before .before .blocks) .gives
+          (m37 (before .before) (before .image .given))) → Typed.Mo T48
+      m38 = λ before given. s46 (before .before .before .before .before .before .before .before .before .before .before .before .before .before .before .blocks) .next (m37 (before .before) (before
           .image .given)) given
 
-      abbrev pub m43 : (before : After-image) → (given : s50 (before .before .before .before .before .before .before .before .before .before .before .before .before .before .before .blocks) .gives
-          (m41 (before .before) (before .image .given))) → Typed.Mo T55
-      m43 = λ before given. s53 (before .before .before .before .before .before .before .before .before .before .before .before .before .before .before .blocks) (m42 before given)
+      abbrev pub m39 : (before : After-image) → (given : s46 (before .before .before .before .before .before .before .before .before .before .before .before .before .before .before .blocks) .gives
+          (m37 (before .before) (before .image .given))) → Typed.Mo T51
+      m39 = λ before given. s49 (before .before .before .before .before .before .before .before .before .before .before .before .before .before .before .blocks) (m38 before given)
 
-      abbrev pub m44 : (before : After-image) → (given : s50 (before .before .before .before .before .before .before .before .before .before .before .before .before .before .before .blocks) .gives
-          (m41 (before .before) (before .image .given))) → Typed.Mo T57
-      m44 = λ before given. s55 (before .before .before .before .before .before .before .before .before .before .before .before .before .before .before .blocks) (m43 before given)
+      abbrev pub m40 : (before : After-image) → (given : s46 (before .before .before .before .before .before .before .before .before .before .before .before .before .before .before .blocks) .gives
+          (m37 (before .before) (before .image .given))) → Typed.Mo T53
+      m40 = λ before given. s51 (before .before .before .before .before .before .before .before .before .before .before .before .before .before .before .blocks) (m39 before given)
 
-      abbrev pub m45 : (before : After-image) → (given : s50 (before .before .before .before .before .before .before .before .before .before .before .before .before .before .before .blocks) .gives
-          (m41 (before .before) (before .image .given))) → Typed.Mo T58
-      m45 = λ before given. s56 (before .before .before .before .before .before .before .before .before .before .before .before .before .before .before .blocks) (m44 before given)
+      abbrev pub m41 : (before : After-image) → (given : s46 (before .before .before .before .before .before .before .before .before .before .before .before .before .before .before .blocks) .gives
+          (m37 (before .before) (before .image .given))) → Typed.Mo T54
+      m41 = λ before given. s52 (before .before .before .before .before .before .before .before .before .before .before .before .before .before .before .blocks) (m40 before given)
 
       module _ (before· : After-image) where
         pub record After-slice-known2·own : Type 0 where
-          pub given : s50 (before· .before .before .before .before .before .before .before .before .before .before .before .before .before .before .blocks) .gives (m41 (before· .before) (before·
+          pub given : s46 (before· .before .before .before .before .before .before .before .before .before .before .before .before .before .before .blocks) .gives (m37 (before· .before) (before·
               .image .given))
 
       pub record After-slice-known2 : Type 0 where
@@ -2475,7 +2342,7 @@ module _ (claims· : Claims) where
         pub slice-known2 : After-slice-known2·own before
 
       abbrev pub Need-same-length : Type 0
-      Need-same-length = (c : After-slice-known2) → MutSlice.SameLen (Row.get 3 (T58 .locals) (m45 (c .before) (c .slice-known2 .given))) (dens (c .before .before .before .before .before .before
+      Need-same-length = (c : After-slice-known2) → MutSlice.SameLen (Row.get 3 (T54 .locals) (m41 (c .before) (c .slice-known2 .given))) (dens (c .before .before .before .before .before .before
           .before .before .before .before .before .before .before .before .before .κs) (c .before .before .before .before .before .before .before .before .before .before .before .before .before .before
           .before .args) .1 .1 .0)
 
@@ -2483,18 +2350,18 @@ module _ (claims· : Claims) where
       Need-returns = (c : After-slice-known2) → Post· (c .before .before .before .before .before .before .before .before .before .before .before .before .before .before .before .κs) (dens (c .before
           .before .before .before .before .before .before .before .before .before .before .before .before .before .before .κs) (c .before .before .before .before .before .before .before .before .before
           .before .before .before .before .before .before .args)) (Function.resV r (c .before .before .before .before .before .before .before .before .before .before .before .before .before .before
-          .before .κs) (m45 (c .before) (c .slice-known2 .given) .0)) (Clauses.atExit (Kinds.endedOf 3 ps r) (c .before .before .before .before .before .before .before .before .before .before .before
+          .before .κs) (m41 (c .before) (c .slice-known2 .given) .0)) (Clauses.atExit (Kinds.endedOf 3 ps r) (c .before .before .before .before .before .before .before .before .before .before .before
           .before .before .before .before .κs) (dens (c .before .before .before .before .before .before .before .before .before .before .before .before .before .before .before .κs) (c .before .before
           .before .before .before .before .before .before .before .before .before .before .before .before .before .args)) (Enter.lastsP (c .before .before .before .before .before .before .before .before
           .before .before .before .before .before .before .before .κs) 1 ps xs (dens (c .before .before .before .before .before .before .before .before .before .before .before .before .before .before
-          .before .κs) (c .before .before .before .before .before .before .before .before .before .before .before .before .before .before .before .args)) (m45 (c .before) (c .slice-known2 .given) .1)))
+          .before .κs) (c .before .before .before .before .before .before .before .before .before .before .before .before .before .before .before .args)) (m41 (c .before) (c .slice-known2 .given) .1)))
 
-      module _ (xtrans-places-requires : Need-xtrans-places-requires) (cleared-requires : Need-cleared-requires) (width-requires : Need-width-requires) (add-used : Need-add-used) (mul-used :
-          Need-mul-used) (sub-walk : Need-sub-walk) (part-lines-start : Need-part-lines-start) (part-lines-end : Need-part-lines-end) (slice-aggregate-walk : Need-slice-aggregate-walk) (walk-requires :
-          Need-walk-requires) (same-length : Need-same-length) (returns : Need-returns) where
+      module _ (xtrans-places-requires : Need-xtrans-places-requires) (cleared-requires : Need-cleared-requires) (samples-needed-requires : Need-samples-needed-requires) (sub-walk : Need-sub-walk)
+          (part-lines-start : Need-part-lines-start) (part-lines-end : Need-part-lines-end) (slice-aggregate-walk : Need-slice-aggregate-walk) (walk-requires : Need-walk-requires) (same-length :
+          Need-same-length) (returns : Need-returns) where
         lay4 : (c : After-walk) → at22 (c .before .before .before .before .before .before .before .before .before .before .before .blocks) (W0 (c .before .before .before .before .before .before
             .before .before .before .before .before .κs) (c .before .before .before .before .before .before .before .before .before .before .before .args) (c .before .before .before .before .before
-            .before .before .before .before .before .before .blocks)) (m31 (c .before) (After-walk·gave c))
+            .before .before .before .before .before .before .blocks)) (m27 (c .before) (After-walk·gave c))
         lay4 = λ c. (
           Path'.refl,
           λ g. (
@@ -2507,13 +2374,13 @@ module _ (claims· : Claims) where
                   (
                     Path'.refl,
                     (
-                      MutSlice.fix-len (Row.get 3 (T58 .locals) (m45 record {
+                      MutSlice.fix-len (Row.get 3 (T54 .locals) (m41 record {
                         before = record { before = record { before = record { before = c .before; walk = c .walk }; lines2 = record { given = g } }; rs2 = record { given = g' } };
                         image = record { given = g'' };
-                      } g'3) .ptr) (Row.get 3 (T58 .locals) (m45 record {
+                      } g'3) .ptr) (Row.get 3 (T54 .locals) (m41 record {
                         before = record { before = record { before = record { before = c .before; walk = c .walk }; lines2 = record { given = g } }; rs2 = record { given = g' } };
                         image = record { given = g'' };
-                      } g'3) .name) (Row.get 3 (T58 .locals) (m45 record {
+                      } g'3) .name) (Row.get 3 (T54 .locals) (m41 record {
                         before = record { before = record { before = record { before = c .before; walk = c .walk }; lines2 = record { given = g } }; rs2 = record { given = g' } };
                         image = record { given = g'' };
                       } g'3) .now) (dens (c .before .before .before .before .before .before .before .before .before .before .before .κs) (c .before .before .before .before .before .before .before .before .before
@@ -2540,59 +2407,60 @@ module _ (claims· : Claims) where
           ),
         )
 
-        lay3 : (c : After-width) → at44 (c .before .before .before .before .before .before .blocks) (W0 (c .before .before .before .before .before .before .κs) (c .before .before .before .before
-            .before .before .args) (c .before .before .before .before .before .before .blocks)) (m13 (c .before) (After-width·gave c))
+        lay3 : (c : After-samples-needed) → at40 (c .before .before .before .before .before .before .blocks) (W0 (c .before .before .before .before .before .before .κs) (c .before .before .before
+            .before .before .before .args) (c .before .before .before .before .before .before .blocks)) (m13 (c .before) (After-samples-needed·gave c))
         lay3 = λ c. (
-          add-used record { before = c .before; width = c .width },
+          tt,
           (
-            mul-used record { before = c .before; width = c .width },
+            sub-walk record { before = c .before; samples-needed = c .samples-needed },
             (
-              tt,
               (
-                sub-walk record { before = c .before; width = c .width },
-                (
-                  (Path'.refl, Path'.refl, part-lines-start record { before = c .before; width = c .width }, part-lines-end record { before = c .before; width = c .width }),
-                  λ g. (
-                    Relend.count-is T25 18 19 (λ x. x) (λ u. u .1 .1 .1 .1 .1 .1 .1 .1 .1 .1 .1 .1 .1 .1 .0) (m23 record { before = c .before; width = c .width } g) (g .1),
-                    λ g'. (
-                      Relend.count-is T29 20 21 (λ x. x) (λ u. 336) (m26 record { before = record { before = c .before; width = c .width }; lines = record { given = g } } g') (slice-aggregate-walk record
-                          { before = record { before = record { before = c .before; width = c .width }; lines = record { given = g } }; rs = record { given = g' } }),
-                      λ g''. (
+                Path'.refl,
+                Path'.refl,
+                part-lines-start record { before = c .before; samples-needed = c .samples-needed },
+                part-lines-end record
+                    { before = c .before; samples-needed = c .samples-needed },
+              ),
+              λ g. (
+                Relend.count-is T21 17 18 (λ x. x) (λ u. u .1 .1 .1 .1 .1 .1 .1 .1 .1 .1 .1 .1 .1 .1 .1 .1 .0) (m19 record { before = c .before; samples-needed = c .samples-needed } g) (g .1),
+                λ g'. (
+                  Relend.count-is T25 19 20 (λ x. x) (λ u. 336) (m22 record { before = record { before = c .before; samples-needed = c .samples-needed }; lines = record { given = g } } g')
+                      (slice-aggregate-walk record { before = record { before = record { before = c .before; samples-needed = c .samples-needed }; lines = record { given = g } }; rs = record { given = g' } }),
+                  λ
+                      g''. (
                         Path'.refl,
                         λ g'3. (
                           walk-requires record {
                             before = record {
-                              before = record { before = record { before = record { before = c .before; width = c .width }; lines = record { given = g } }; rs = record { given = g' } };
-                              walk-arg = record {
-                                given = g'';
-                              };
+                              before = record { before = record { before = record { before = c .before; samples-needed = c .samples-needed }; lines = record { given = g } }; rs = record { given = g' } };
+                              walk-arg =
+                                  record { given = g'' };
                             };
                             places = record { given = g'3 };
                           },
                           λ g'4. lay4 record {
                             before = record {
                               before = record {
-                                before = record { before = record { before = record { before = c .before; width = c .width }; lines = record { given = g } }; rs = record { given = g' } };
-                                walk-arg = record {
-                                  given = g'';
-                                };
+                                before = record { before = record { before = record { before = c .before; samples-needed = c .samples-needed }; lines = record { given = g } }; rs = record { given = g' } };
+                                walk-arg =
+                                    record { given = g'' };
                               };
                               places = record { given = g'3 };
                             };
-                            walk = Called.called ps·3 r·3 (claims· .7) T35 (
+                            walk = Called.called ps·3 r·3 (claims· .7) T31 (
                               record { pos = 1; ty = Syntax.tyRef (Syntax.named 0) Syntax.imm (Syntax.tyInt Syntax.w8); ref = λ x. x },
                               (
                                 record { pos = 2; ty = Syntax.tyRef (Syntax.named 1) Syntax.imm (Syntax.tyInt Syntax.w8); ref = λ x. x },
                                 (
-                                  record { pos = 19; ty = Syntax.tyRef Syntax.erased Syntax.mut (Syntax.tyInt Syntax.w16); ref = λ x. x },
+                                  record { pos = 18; ty = Syntax.tyRef Syntax.erased Syntax.mut (Syntax.tyInt Syntax.w16); ref = λ x. x },
                                   (
-                                    record { pos = 21; ty = Syntax.tyRef Syntax.erased Syntax.mut Element.behind; ref = λ x. x },
+                                    record { pos = 20; ty = Syntax.tyRef Syntax.erased Syntax.mut Element.behind; ref = λ x. x },
                                     (
-                                      record { pos = 23; ty = Syntax.tyRef Syntax.erased Syntax.mut (Syntax.tyInt Syntax.w16); ref = λ x. x },
+                                      record { pos = 22; ty = Syntax.tyRef Syntax.erased Syntax.mut (Syntax.tyInt Syntax.w16); ref = λ x. x },
                                       (
                                         record { pos = 4; st = List.[]; d = 0; at = λ x. x },
                                         (
-                                          record { pos = 24; ty = Syntax.tyRef Syntax.erased Syntax.imm (Syntax.tyArray (Syntax.tyInt Syntax.w16) 768); ref = λ x. x },
+                                          record { pos = 23; ty = Syntax.tyRef Syntax.erased Syntax.imm (Syntax.tyArray (Syntax.tyInt Syntax.w16) 768); ref = λ x. x },
                                           (record { pos = 5; st = List.[]; d = 0; at = λ x. x }, (record { pos = 6; st = List.[]; d = 0; at = λ x. x }, (Num.vAt 7 λ x. x, tt))),
                                         ),
                                       ),
@@ -2600,35 +2468,32 @@ module _ (claims· : Claims) where
                                   ),
                                 ),
                               ),
-                            ) (m30 record {
-                              before = record { before = record { before = record { before = c .before; width = c .width }; lines = record { given = g } }; rs = record { given = g' } };
-                              walk-arg = record {
-                                given = g'';
-                              };
+                            ) (m26 record {
+                              before = record { before = record { before = record { before = c .before; samples-needed = c .samples-needed }; lines = record { given = g } }; rs = record { given = g' } };
+                              walk-arg =
+                                  record { given = g'' };
                             } g'3) g'4;
                           },
                         ),
                       ),
-                    ),
-                  ),
                 ),
               ),
             ),
           ),
         )
 
-        lay2 : (c : After-cleared) → at48 (c .before .before .before .before .before .blocks) (W0 (c .before .before .before .before .before .κs) (c .before .before .before .before .before .args) (c
+        lay2 : (c : After-cleared) → at44 (c .before .before .before .before .before .blocks) (W0 (c .before .before .before .before .before .κs) (c .before .before .before .before .before .args) (c
             .before .before .before .before .before .blocks)) (m9 (c .before) (After-cleared·gave c))
         lay2 = λ c. (
-          width-requires record { before = c .before; cleared = c .cleared },
+          samples-needed-requires record { before = c .before; cleared = c .cleared },
           λ g. lay3 record {
             before = record { before = c .before; cleared = c .cleared };
-            width = Called.called ps·2 r·2 (claims· .5) T13
+            samples-needed = Called.called ps·2 r·2 (claims· .5) T13
                 (Bool.bFld 4 (List._∷_ (Syntax.field 1) List.[]) 4 λ x. Form.struct .as-values x .1 .0, tt) (m12 (c .before) (After-cleared·gave c)) g;
           },
         )
 
-        lay1 : (c : After-xtrans-places) → at53 (c .before .before .before .before .blocks) (W0 (c .before .before .before .before .κs) (c .before .before .before .before .args) (c .before .before
+        lay1 : (c : After-xtrans-places) → at49 (c .before .before .before .before .blocks) (W0 (c .before .before .before .before .κs) (c .before .before .before .before .args) (c .before .before
             .before .before .blocks)) (m4 (c .before) (After-xtrans-places·gave c))
         lay1 = λ c. (
           cleared-requires record { before = c .before; xtrans-places = c .xtrans-places },
@@ -2636,7 +2501,7 @@ module _ (claims· : Claims) where
               { before = record { before = c .before; xtrans-places = c .xtrans-places }; cleared = Called.called ps·1 r·1 (claims· .3) T9 tt (m8 (c .before) (After-xtrans-places·gave c)) g },
         )
 
-        pub laid : (c : Start) → at57 (c .blocks) (W0 (c .κs) (c .args) (c .blocks)) (m0 (c .κs) (c .args) (c .blocks))
+        pub laid : (c : Start) → at53 (c .blocks) (W0 (c .κs) (c .args) (c .blocks)) (m0 (c .κs) (c .args) (c .blocks))
         laid = λ c. λ g. λ g'. λ g''. (
           xtrans-places-requires record
               { before = record { before = record { before = c; shared-slice-known = record { given = g } }; shared-slice-known2 = record { given = g' } }; slice-known = record { given = g'' } },
@@ -2663,6 +2528,6 @@ module _ (claims· : Claims) where
 
         module _ {M : Type 1} (𝓤 : URA.URA M) (H : Wp.Heap 𝓤) (A : Atoms.Atoms 𝓤) (W : Kit.Given 𝓤 H A) (𝓣 : Wp.Tables 𝓤 H) (known0 : Plain.Known 𝓤 H A W 𝓣 0 ps·0 r·0 (claims· .0) (claims· .1)
             "map::xtrans_places") (known1 : Plain.Known 𝓤 H A W 𝓣 0 ps·1 r·1 (claims· .2) (claims· .3) "block::records::cleared") (known2 : Plain.Known 𝓤 H A W 𝓣 0 ps·2 r·2 (claims· .4) (claims· .5)
-            "map::width") (known3 : Plain.Known 𝓤 H A W 𝓣 6 ps·3 r·3 (claims· .6) (claims· .7) "block::reading::walk") where
+            "begin::samples_needed") (known3 : Plain.Known 𝓤 H A W 𝓣 6 ps·3 r·3 (claims· .6) (claims· .7) "block::reading::walk") where
           pub spec : Statement.Triple 𝓤 (Wp.WpFn 𝓤 H (𝓣 .C) (𝓣 .Λ) (Function.fnOf 3 ps r xs m hs body)) (Function.plainOf 𝓤 H A 3 ps r Pre· Post·)
           spec = Plain.t-fn-plain 𝓤 H A W 𝓣 3 ps r xs m hs body (λ κs qs bs. Φ bs) (λ κs qs bs bd. typed κs qs 𝓤 H A W 𝓣 (known0, known1, known2, known3) bs bd) Pre· Post· asked

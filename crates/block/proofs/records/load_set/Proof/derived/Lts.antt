@@ -1,10 +1,10 @@
 -- Written by tools/lend.py from Rattle's derivation of the twin of `block`; not edited by hand. Assumes nothing.
 use Rattle.block.proofs.Element
 use Prim.Native.Nat
-use Rattle.pass.proofs.Set
-use Rattle.pass.proofs.Set.Laws
 use Rattle.statistics.proofs.Record
-use Rattle.statistics.proofs.Record.Laws as Laws'
+use Rattle.statistics.proofs.Record.Laws
+use Rattle.steps.proofs.Set
+use Rattle.steps.proofs.Set.Laws as Laws'
 use borrow.Author.Called
 use borrow.Author.Tests
 use borrow.Fn.Any
@@ -67,8 +67,8 @@ use prog.Wp
 use types.Kit
 
 abbrev pub y0 : Syntax.Ty
-y0 = Syntax.tyStruct (List._∷_ 112 (List._∷_ 97 (List._∷_ 115 (List._∷_ 115 (List._∷_ 58 (List._∷_ 58 (List._∷_ 83 (List._∷_ 101 (List._∷_ 116 List.[]))))))))) (Syntax.tcons (Syntax.tyArray
-    (Syntax.tyInt Syntax.w32) 112) (Syntax.tcons (Syntax.tyArray (Syntax.tyInt Syntax.w32) 112) Syntax.tnil))
+y0 = Syntax.tyStruct (List._∷_ 115 (List._∷_ 116 (List._∷_ 101 (List._∷_ 112 (List._∷_ 115 (List._∷_ 58 (List._∷_ 58 (List._∷_ 83 (List._∷_ 101 (List._∷_ 116 List.[])))))))))) (Syntax.tcons
+    (Syntax.tyArray (Syntax.tyInt Syntax.w32) 112) (Syntax.tcons (Syntax.tyArray (Syntax.tyInt Syntax.w32) 112) Syntax.tnil))
 
 abbrev pub y1 : Syntax.Ty
 y1 = Syntax.tyStruct (List._∷_ 115 (List._∷_ 116 (List._∷_ 97 (List._∷_ 116 (List._∷_ 105 (List._∷_ 115 (List._∷_ 116 (List._∷_ 105 (List._∷_ 99 (List._∷_ 115 (List._∷_ 58 (List._∷_ 58 (List._∷_ 82
@@ -84,19 +84,19 @@ abbrev pub r : Kinds.RK 1
 r = Value.rVal record {
   ty = Declared.row Set.the-type;
   one = Path'.refl;
-  val = Laws''.val Set.the-type Laws.the-laws;
-  tells = Laws''.tells Set.the-type Laws.the-laws;
-  still = Laws''.still Set.the-type Laws.the-copy
+  val = Laws''.val Set.the-type Laws'.the-laws;
+  tells = Laws''.tells Set.the-type Laws'.the-laws;
+  still = Laws''.still Set.the-type Laws'.the-copy
       Exit.yes;
   row = Rows'.whole (Declared.row Set.the-type);
   rd = λ x. x;
   mk = λ x. x;
 } λ M 𝓤 H A W. record {
-  copies = Laws''.copy Set.the-type Laws.the-copy 𝓤 H A W;
-  lawful = Laws''.lawful Set.the-type Laws.the-laws 𝓤 H A W;
-  makes = Laws''.makes Set.the-type Laws.the-plain 𝓤 H A;
-  in-mem = Local.mem-whole 𝓤
-      H A W (Declared.row Set.the-type);
+  copies = Laws''.copy Set.the-type Laws'.the-copy 𝓤 H A W;
+  lawful = Laws''.lawful Set.the-type Laws'.the-laws 𝓤 H A W;
+  makes = Laws''.makes Set.the-type Laws'.the-plain 𝓤 H A;
+  in-mem =
+      Local.mem-whole 𝓤 H A W (Declared.row Set.the-type);
   of-mem = Local.whole-mem 𝓤 H A W (Declared.row Set.the-type);
 }
 
@@ -115,17 +115,17 @@ abbrev pub r·0 : Kinds.RK 1
 r·0 = Value.rVal record {
   ty = Declared.row Record.the-type;
   one = Path'.refl;
-  val = Laws''.val Record.the-type Laws'.the-laws;
-  tells = Laws''.tells Record.the-type Laws'.the-laws;
+  val = Laws''.val Record.the-type Laws.the-laws;
+  tells = Laws''.tells Record.the-type Laws.the-laws;
   still = Laws''.still Record.the-type
-      Laws'.the-copy Exit.yes;
+      Laws.the-copy Exit.yes;
   row = Rows'.whole (Declared.row Record.the-type);
   rd = λ x. x;
   mk = λ x. x;
 } λ M 𝓤 H A W. record {
-  copies = Laws''.copy Record.the-type Laws'.the-copy 𝓤 H A W;
-  lawful = Laws''.lawful Record.the-type Laws'.the-laws 𝓤 H A W;
-  makes = Laws''.makes Record.the-type Laws'.the-plain 𝓤 H A;
+  copies = Laws''.copy Record.the-type Laws.the-copy 𝓤 H A W;
+  lawful = Laws''.lawful Record.the-type Laws.the-laws 𝓤 H A W;
+  makes = Laws''.makes Record.the-type Laws.the-plain 𝓤 H A;
   in-mem =
       Local.mem-whole 𝓤 H A W (Declared.row Record.the-type);
   of-mem = Local.whole-mem 𝓤 H A W (Declared.row Record.the-type);
@@ -770,7 +770,7 @@ module _ (claims· : Claims) where
 
   abbrev s23 : (bs : List.List Nat.ℕ) → Typed.Asks T26 T27
   s23 = λ bs. Borrow.k-arr-write (Referent.fInt Syntax.w32) T26 (Init.scaled (Referent.rtF (Referent.fInt Syntax.w32)) .off) (Row.hd 0 (Row.tl (Row.tl (Row.tl bs)))) 3 13 112 0 (λ x. x) (λ x. x) (λ u.
-      u .1 .1 .1 .1 .1 .0) (Scalar.oFld 6 (List._∷_ (Syntax.field 0) List.[]) (Syntax.tyInt Syntax.w32) 0 (Reads.fieldV Record.the-type Laws'.the-laws 0))
+      u .1 .1 .1 .1 .1 .0) (Scalar.oFld 6 (List._∷_ (Syntax.field 0) List.[]) (Syntax.tyInt Syntax.w32) 0 (Reads.fieldV Record.the-type Laws.the-laws 0))
 
   abbrev s24 : (bs : List.List Nat.ℕ) → Typed.Mo T27 → Typed.Mo T28
   s24 = λ bs. Scalar.n-room T27 10 (Syntax.tyInt Syntax.w64)
@@ -794,7 +794,7 @@ module _ (claims· : Claims) where
 
   abbrev s30 : (bs : List.List Nat.ℕ) → Typed.Asks T33 T34
   s30 = λ bs. Borrow.k-arr-write (Referent.fInt Syntax.w32) T33 (Init.scaled (Referent.rtF (Referent.fInt Syntax.w32)) .off) (Row.hd 0 (Row.tl (Row.tl (Row.tl (Row.tl bs))))) 4 15 112 0 (λ x. x) (λ x.
-      x) (λ u. u .1 .1 .1 .1 .1 .0) (Scalar.oFld 6 (List._∷_ (Syntax.field 1) List.[]) (Syntax.tyInt Syntax.w32) 4 (Reads.fieldV Record.the-type Laws'.the-laws 1))
+      x) (λ u. u .1 .1 .1 .1 .1 .0) (Scalar.oFld 6 (List._∷_ (Syntax.field 1) List.[]) (Syntax.tyInt Syntax.w32) 4 (Reads.fieldV Record.the-type Laws.the-laws 1))
 
   abbrev s31 : (bs : List.List Nat.ℕ) → Typed.Mo T34 → Typed.Mo T35
   s31 = λ bs. Scalar.n-room T34 6 y1
@@ -1252,9 +1252,9 @@ module _ (claims· : Claims) where
 
           d9 : Typed.Typed 𝓤 H A 𝓣 E G33 b21 Δ3 (at9 bs)
           d9 = Typed.s-seq 𝓤 H A W 𝓣 E G33 G34 b19 b20 Δ3 (Typed.ask (s30 bs)) (at8 bs) (Borrow.t-arr-write 𝓤 H A W E 𝓣 (Referent.fInt Syntax.w32) (Init.scaled (Referent.rtF (Referent.fInt
-              Syntax.w32))) G33 4 15 112 0 (λ x. x) (λ x. x) (Scalar.oFld 6 (List._∷_ (Syntax.field 1) List.[]) (Syntax.tyInt Syntax.w32) 4 (Reads.fieldV Record.the-type Laws'.the-laws 1)) (λ u. u .1 .1
-              .1 .1 .1 .0) (Reads'.as-is 𝓤 H A (Rows.arrF (Referent.rtF (Referent.fInt Syntax.w32)) 112 0)) (Reads'.as-is 𝓤 H A (Rows'.sc-here Row.sPtr))
-              (Reads.reads-field 𝓤 H A W Record.the-type Laws'.the-laws 1 (Syntax.tyInt Syntax.w32) 4 Path'.refl, Path'.refl) Path'.refl λ u. Path'.refl) d8
+              Syntax.w32))) G33 4 15 112 0 (λ x. x) (λ x. x) (Scalar.oFld 6 (List._∷_ (Syntax.field 1) List.[]) (Syntax.tyInt Syntax.w32) 4 (Reads.fieldV Record.the-type Laws.the-laws 1)) (λ u. u .1 .1 .1
+              .1 .1 .0) (Reads'.as-is 𝓤 H A (Rows.arrF (Referent.rtF (Referent.fInt Syntax.w32)) 112 0)) (Reads'.as-is 𝓤 H A (Rows'.sc-here Row.sPtr))
+              (Reads.reads-field 𝓤 H A W Record.the-type Laws.the-laws 1 (Syntax.tyInt Syntax.w32) 4 Path'.refl, Path'.refl) Path'.refl λ u. Path'.refl) d8
 
           d10 : Typed.Typed 𝓤 H A 𝓣 E G32 b21 Δ3 (at10 bs)
           d10 = Typed.g-pre 𝓤 H A W 𝓣 E G32 G33 b21 Δ3 (Typed.pass T32 T33 (s29 bs)) (at9 bs) (Scalar.g-room 𝓤 H A W E G32 14 Syntax.tyPtr (Scalar.room-sc 𝓤 H A W Row.sPtr)) d9
@@ -1282,9 +1282,9 @@ module _ (claims· : Claims) where
 
           d16 : Typed.Typed 𝓤 H A 𝓣 E G26 b25 Δ3 (at16 bs)
           d16 = Typed.s-seq 𝓤 H A W 𝓣 E G26 G27 b15 b24 Δ3 (Typed.ask (s23 bs)) (at15 bs) (Borrow.t-arr-write 𝓤 H A W E 𝓣 (Referent.fInt Syntax.w32) (Init.scaled (Referent.rtF (Referent.fInt
-              Syntax.w32))) G26 3 13 112 0 (λ x. x) (λ x. x) (Scalar.oFld 6 (List._∷_ (Syntax.field 0) List.[]) (Syntax.tyInt Syntax.w32) 0 (Reads.fieldV Record.the-type Laws'.the-laws 0)) (λ u. u .1 .1
-              .1 .1 .1 .0) (Reads'.as-is 𝓤 H A (Rows.arrF (Referent.rtF (Referent.fInt Syntax.w32)) 112 0)) (Reads'.as-is 𝓤 H A (Rows'.sc-here Row.sPtr))
-              (Reads.reads-field 𝓤 H A W Record.the-type Laws'.the-laws 0 (Syntax.tyInt Syntax.w32) 0 Path'.refl, Path'.refl) Path'.refl λ u. Path'.refl) d15
+              Syntax.w32))) G26 3 13 112 0 (λ x. x) (λ x. x) (Scalar.oFld 6 (List._∷_ (Syntax.field 0) List.[]) (Syntax.tyInt Syntax.w32) 0 (Reads.fieldV Record.the-type Laws.the-laws 0)) (λ u. u .1 .1 .1
+              .1 .1 .0) (Reads'.as-is 𝓤 H A (Rows.arrF (Referent.rtF (Referent.fInt Syntax.w32)) 112 0)) (Reads'.as-is 𝓤 H A (Rows'.sc-here Row.sPtr))
+              (Reads.reads-field 𝓤 H A W Record.the-type Laws.the-laws 0 (Syntax.tyInt Syntax.w32) 0 Path'.refl, Path'.refl) Path'.refl λ u. Path'.refl) d15
 
           d17 : Typed.Typed 𝓤 H A 𝓣 E G25 b25 Δ3 (at17 bs)
           d17 = Typed.g-pre 𝓤 H A W 𝓣 E G25 G26 b25 Δ3 (Typed.pass T25 T26 (s22 bs)) (at16 bs) (Scalar.g-room 𝓤 H A W E G25 12 Syntax.tyPtr (Scalar.room-sc 𝓤 H A W Row.sPtr)) d16
@@ -1402,9 +1402,9 @@ module _ (claims· : Claims) where
 
           d42 : Typed.Typed 𝓤 H A 𝓣 E G42 b42 Δ0 (at42 bs)
           d42 = Typed.s-seq 𝓤 H A W 𝓣 E G42 G43 b40 b41 Δ0 (Typed.pass T42 T43 (s39 bs)) (at41 bs) (Make.t-make-told 𝓤 H A W E 𝓣 (Declared.row (Apart.apartT Set.the-type)) Path'.refl (Laws''.val
-              (Apart.apartT Set.the-type) Laws.the-laws) (Laws''.lawful (Apart.apartT Set.the-type) Laws.the-laws 𝓤 H A W) (Laws''.makes (Apart.apartT Set.the-type) Laws.the-plain 𝓤 H A) G42 0 (List._∷_
-              (Scalar.oAt 16 (Syntax.tyArray (Syntax.tyInt Syntax.w32) 112) λ xs. Array'.arrayVal (List.map (Laws''.u32-laws .val) xs)) (List._∷_ (Scalar.oAt 17 (Syntax.tyArray (Syntax.tyInt Syntax.w32)
-              112) λ xs. Array'.arrayVal (List.map (Laws''.u32-laws .val) xs)) List.[])) (λ m.
+              (Apart.apartT Set.the-type) Laws'.the-laws) (Laws''.lawful (Apart.apartT Set.the-type) Laws'.the-laws 𝓤 H A W) (Laws''.makes (Apart.apartT Set.the-type) Laws'.the-plain 𝓤 H A) G42 0
+              (List._∷_ (Scalar.oAt 16 (Syntax.tyArray (Syntax.tyInt Syntax.w32) 112) λ xs. Array'.arrayVal (List.map (Laws''.u32-laws .val) xs)) (List._∷_ (Scalar.oAt 17 (Syntax.tyArray (Syntax.tyInt
+              Syntax.w32) 112) λ xs. Array'.arrayVal (List.map (Laws''.u32-laws .val) xs)) List.[])) (λ m.
               (m .1 .1 .1 .1 .1 .1 .1 .1 .1 .1 .1 .1 .1 .1 .1 .1 .0, (m .1 .1 .1 .1 .1 .1 .1 .1 .1 .1 .1 .1 .1 .1 .1 .1 .1 .0, tt))) (λ m. Path'._≡_ (ListN.length (m .1 .1 .1 .1 .1 .1 .1 .1 .1 .1 .1 .1 .1
               .1 .1 .1 .0)) 112 × Path'._≡_ (ListN.length (m .1 .1 .1 .1 .1 .1 .1 .1 .1 .1 .1 .1 .1 .1 .1 .1 .1 .0)) 112) (Reads'.room-gone 𝓤 H A y0) (
                 (Array.arr-reads 𝓤 H A W (Array.eInt Syntax.w32) (Array.eInt-laws Syntax.w32) 112, Path'.refl),
@@ -1414,14 +1414,15 @@ module _ (claims· : Claims) where
               ρ (Row.out 0 (G42 .locals)) m 16 (Path'._≡_ (ListN.length (m .1 .1 .1 .1 .1 .1 .1 .1 .1 .1 .1 .1 .1 .1 .1 .1 .0)) 112) (Init.arr-len 𝓤 H A W E (Referent.rtF (Referent.fInt Syntax.w32)) ρ 16
               112 Nat.zero (m .1 .1 .1 .1 .1 .1 .1 .1 .1 .1 .1 .1 .1 .1 .1 .1 .0))) (Make.tells-row 𝓤 H A W E ρ (Row.out 0 (G42 .locals)) m 17 (Path'._≡_ (ListN.length (m .1 .1 .1 .1 .1 .1 .1 .1 .1 .1 .1
               .1 .1 .1 .1 .1 .1 .0)) 112) (Init.arr-len 𝓤 H A W E (Referent.rtF (Referent.fInt Syntax.w32)) ρ 17 112 Nat.zero (m .1 .1 .1 .1 .1 .1 .1 .1 .1 .1 .1 .1 .1 .1 .1 .1 .1 .0)))) (λ m q.
-              Signed.made-val (Apart.apartT Set.the-type) Laws.the-laws (List._∷_ (Array'.arrayVal (List.map (Laws''.u32-laws .val) (m .1 .1 .1 .1 .1 .1 .1 .1 .1 .1 .1 .1 .1 .1 .1 .1 .0))) (List._∷_
+              Signed.made-val (Apart.apartT Set.the-type) Laws'.the-laws (List._∷_ (Array'.arrayVal (List.map (Laws''.u32-laws .val) (m .1 .1 .1 .1 .1 .1 .1 .1 .1 .1 .1 .1 .1 .1 .1 .1 .0))) (List._∷_
               (Array'.arrayVal (List.map (Laws''.u32-laws .val) (m .1 .1 .1 .1 .1 .1 .1 .1 .1 .1 .1 .1 .1 .1 .1 .1 .1 .0))) List.[]))
               (m .1 .1 .1 .1 .1 .1 .1 .1 .1 .1 .1 .1 .1 .1 .1 .1 .0, (m .1 .1 .1 .1 .1 .1 .1 .1 .1 .1 .1 .1 .1 .1 .1 .1 .1 .0, tt)) (
                 Items.array-made Field.u32-field Laws''.u32-laws Make.u32-wt 112 (m .1 .1 .1 .1 .1 .1 .1 .1 .1 .1 .1 .1 .1 .1 .1 .1 .0) (q .0),
                 (Items.array-made Field.u32-field Laws''.u32-laws Make.u32-wt 112 (m .1 .1 .1 .1 .1 .1 .1 .1 .1 .1 .1 .1 .1 .1 .1 .1 .1 .0) (q .1), tt),
               )) λ m q. Signed.made-is (Apart.apartT Set.the-type)
-              Laws.the-laws (List._∷_ (Array'.arrayVal (List.map (Laws''.u32-laws .val) (m .1 .1 .1 .1 .1 .1 .1 .1 .1 .1 .1 .1 .1 .1 .1 .1 .0))) (List._∷_ (Array'.arrayVal (List.map (Laws''.u32-laws .val)
-              (m .1 .1 .1 .1 .1 .1 .1 .1 .1 .1 .1 .1 .1 .1 .1 .1 .1 .0))) List.[])) (m .1 .1 .1 .1 .1 .1 .1 .1 .1 .1 .1 .1 .1 .1 .1 .1 .0, (m .1 .1 .1 .1 .1 .1 .1 .1 .1 .1 .1 .1 .1 .1 .1 .1 .1 .0, tt)) (
+              Laws'.the-laws (List._∷_ (Array'.arrayVal (List.map (Laws''.u32-laws .val) (m .1 .1 .1 .1 .1 .1 .1 .1 .1 .1 .1 .1 .1 .1 .1 .1 .0))) (List._∷_ (Array'.arrayVal (List.map (Laws''.u32-laws
+              .val) (m .1 .1 .1 .1 .1 .1 .1 .1 .1 .1 .1 .1 .1 .1 .1 .1 .1 .0))) List.[]))
+              (m .1 .1 .1 .1 .1 .1 .1 .1 .1 .1 .1 .1 .1 .1 .1 .1 .0, (m .1 .1 .1 .1 .1 .1 .1 .1 .1 .1 .1 .1 .1 .1 .1 .1 .1 .0, tt)) (
                 Items.array-made Field.u32-field Laws''.u32-laws Make.u32-wt 112 (m .1 .1 .1 .1 .1 .1 .1 .1 .1 .1 .1 .1 .1 .1 .1 .1 .0) (q .0),
                 (Items.array-made Field.u32-field Laws''.u32-laws Make.u32-wt 112 (m .1 .1 .1 .1 .1 .1 .1 .1 .1 .1 .1 .1 .1 .1 .1 .1 .1 .0) (q .1), tt),
               )) d41

@@ -1,10 +1,10 @@
 -- Written by tools/lend.py from Rattle's derivation of the twin of `block`; not edited by hand. Assumes nothing.
 use Rattle.block.proofs.Element
 use Prim.Native.Nat
-use Rattle.pass.proofs.Set
-use Rattle.pass.proofs.Set.Laws
 use Rattle.statistics.proofs.Record
-use Rattle.statistics.proofs.Record.Laws as Laws'
+use Rattle.statistics.proofs.Record.Laws
+use Rattle.steps.proofs.Set
+use Rattle.steps.proofs.Set.Laws as Laws'
 use borrow.Author.Called
 use borrow.Author.Tests
 use borrow.Fn.Any
@@ -65,8 +65,8 @@ use prog.Wp
 use types.Kit
 
 abbrev pub y0 : Syntax.Ty
-y0 = Syntax.tyStruct (List._∷_ 112 (List._∷_ 97 (List._∷_ 115 (List._∷_ 115 (List._∷_ 58 (List._∷_ 58 (List._∷_ 83 (List._∷_ 101 (List._∷_ 116 List.[]))))))))) (Syntax.tcons (Syntax.tyArray
-    (Syntax.tyInt Syntax.w32) 112) (Syntax.tcons (Syntax.tyArray (Syntax.tyInt Syntax.w32) 112) Syntax.tnil))
+y0 = Syntax.tyStruct (List._∷_ 115 (List._∷_ 116 (List._∷_ 101 (List._∷_ 112 (List._∷_ 115 (List._∷_ 58 (List._∷_ 58 (List._∷_ 83 (List._∷_ 101 (List._∷_ 116 List.[])))))))))) (Syntax.tcons
+    (Syntax.tyArray (Syntax.tyInt Syntax.w32) 112) (Syntax.tcons (Syntax.tyArray (Syntax.tyInt Syntax.w32) 112) Syntax.tnil))
 
 abbrev pub y1 : Syntax.Ty
 y1 = Syntax.tyStruct (List._∷_ 115 (List._∷_ 116 (List._∷_ 97 (List._∷_ 116 (List._∷_ 105 (List._∷_ 115 (List._∷_ 116 (List._∷_ 105 (List._∷_ 99 (List._∷_ 115 (List._∷_ 58 (List._∷_ 58 (List._∷_ 82
@@ -79,19 +79,19 @@ abbrev pub ps : List.List (Kinds.PK 1)
 ps = List._∷_ (MutSlice.pMutS (Element.type) 0 tt) (List._∷_ (Num.pNum Syntax.w64) (List._∷_ (Value.pVal record {
   ty = Declared.row Set.the-type;
   one = Path'.refl;
-  val = Laws''.val Set.the-type Laws.the-laws;
-  tells = Laws''.tells Set.the-type Laws.the-laws;
-  still = Laws''.still Set.the-type Laws.the-copy
+  val = Laws''.val Set.the-type Laws'.the-laws;
+  tells = Laws''.tells Set.the-type Laws'.the-laws;
+  still = Laws''.still Set.the-type Laws'.the-copy
       Exit.yes;
   row = Rows'.whole (Declared.row Set.the-type);
   rd = λ x. x;
   mk = λ x. x;
 } λ M 𝓤 H A W. record {
-  copies = Laws''.copy Set.the-type Laws.the-copy 𝓤 H A W;
-  lawful = Laws''.lawful Set.the-type Laws.the-laws 𝓤 H A W;
-  makes = Laws''.makes Set.the-type Laws.the-plain 𝓤 H A;
-  in-mem = Local.mem-whole 𝓤
-      H A W (Declared.row Set.the-type);
+  copies = Laws''.copy Set.the-type Laws'.the-copy 𝓤 H A W;
+  lawful = Laws''.lawful Set.the-type Laws'.the-laws 𝓤 H A W;
+  makes = Laws''.makes Set.the-type Laws'.the-plain 𝓤 H A;
+  in-mem =
+      Local.mem-whole 𝓤 H A W (Declared.row Set.the-type);
   of-mem = Local.whole-mem 𝓤 H A W (Declared.row Set.the-type);
 }) List.[]))
 
@@ -110,17 +110,17 @@ abbrev pub ps·0 : List.List (Kinds.PK 1)
 ps·0 = List._∷_ (MutSlice.pMutS (Element.type) 0 tt) (List._∷_ (Num.pNum Syntax.w64) (List._∷_ (Value.pVal record {
   ty = Declared.row Record.the-type;
   one = Path'.refl;
-  val = Laws''.val Record.the-type Laws'.the-laws;
-  tells = Laws''.tells Record.the-type Laws'.the-laws;
+  val = Laws''.val Record.the-type Laws.the-laws;
+  tells = Laws''.tells Record.the-type Laws.the-laws;
   still = Laws''.still Record.the-type
-      Laws'.the-copy Exit.yes;
+      Laws.the-copy Exit.yes;
   row = Rows'.whole (Declared.row Record.the-type);
   rd = λ x. x;
   mk = λ x. x;
 } λ M 𝓤 H A W. record {
-  copies = Laws''.copy Record.the-type Laws'.the-copy 𝓤 H A W;
-  lawful = Laws''.lawful Record.the-type Laws'.the-laws 𝓤 H A W;
-  makes = Laws''.makes Record.the-type Laws'.the-plain 𝓤 H A;
+  copies = Laws''.copy Record.the-type Laws.the-copy 𝓤 H A W;
+  lawful = Laws''.lawful Record.the-type Laws.the-laws 𝓤 H A W;
+  makes = Laws''.makes Record.the-type Laws.the-plain 𝓤 H A;
   in-mem =
       Local.mem-whole 𝓤 H A W (Declared.row Record.the-type);
   of-mem = Local.whole-mem 𝓤 H A W (Declared.row Record.the-type);
@@ -1275,7 +1275,7 @@ module _ (claims· : Claims) where
                   (Scalar.reads-sc 𝓤 H A W (Row.sInt Syntax.w64), Path'.refl),
                   (
                     (
-                      Yields.yields-copy 𝓤 H A W (λ ρ. Unit) (Declared.row Record.the-type) Path'.refl (Copies.cStruct Record.the-type Laws'.the-laws Laws'.the-copy .copy 𝓤 H A W) (Rows'.whole (Declared.row
+                      Yields.yields-copy 𝓤 H A W (λ ρ. Unit) (Declared.row Record.the-type) Path'.refl (Copies.cStruct Record.the-type Laws.the-laws Laws.the-copy .copy 𝓤 H A W) (Rows'.whole (Declared.row
                           Record.the-type)) (λ x. x) (λ x. x) (λ ρ told. Local.mem-whole 𝓤 H A W (Declared.row Record.the-type) ρ) λ ρ told. Local.whole-mem 𝓤 H A W (Declared.row Record.the-type) ρ,
                       Path'.refl,
                     ),
@@ -1329,11 +1329,11 @@ module _ (claims· : Claims) where
               d22
 
           d24 : Typed.Typed 𝓤 H A 𝓣 E G26 b27 Δ3 (at24 bs)
-          d24 = Typed.s-seq 𝓤 H A W 𝓣 E G26 G27 b15 b26 Δ3 (Typed.pass T26 T27 (s23 bs)) (at23 bs) (Make.t-struct-make 𝓤 H A W E 𝓣 (Apart.apartT Record.the-type) Laws'.the-laws Laws'.the-plain G26 7
+          d24 = Typed.s-seq 𝓤 H A W 𝓣 E G26 G27 b15 b26 Δ3 (Typed.pass T26 T27 (s23 bs)) (at23 bs) (Make.t-struct-make 𝓤 H A W E 𝓣 (Apart.apartT Record.the-type) Laws.the-laws Laws.the-plain G26 7
               (List._∷_ (Scalar.oAt 12 (Syntax.tyInt Syntax.w32) (Row.valS (Row.sInt Syntax.w32))) (List._∷_ (Scalar.oAt 16 (Syntax.tyInt Syntax.w32) (Row.valS (Row.sInt Syntax.w32))) List.[])) (λ m.
               (m .1 .1 .1 .1 .1 .1 .1 .1 .1 .1 .1 .1 .0, (m .1 .1 .1 .1 .1 .1 .1 .1 .1 .1 .1 .1 .1 .1 .1 .1 .0, tt))) (Reads.room-gone 𝓤 H A y1)
               ((Scalar.reads-sc 𝓤 H A W (Row.sInt Syntax.w32), Path'.refl), ((Scalar.reads-sc 𝓤 H A W (Row.sInt Syntax.w32), Path'.refl), tt)) Path'.refl (λ u. Path'.refl) λ m. Make.is-wt (Apart.apartT
-              Record.the-type) Laws'.the-laws (Make.u32-wt, (Make.u32-wt, tt)) (m .1 .1 .1 .1 .1 .1 .1 .1 .1 .1 .1 .1 .0, (m .1 .1 .1 .1 .1 .1 .1 .1 .1 .1 .1 .1 .1 .1 .1 .1 .0, tt))) d23
+              Record.the-type) Laws.the-laws (Make.u32-wt, (Make.u32-wt, tt)) (m .1 .1 .1 .1 .1 .1 .1 .1 .1 .1 .1 .1 .0, (m .1 .1 .1 .1 .1 .1 .1 .1 .1 .1 .1 .1 .1 .1 .1 .1 .0, tt))) d23
 
           d25 : Typed.Typed 𝓤 H A 𝓣 E G25 b27 Δ3 (at25 bs)
           d25 = Typed.g-pre 𝓤 H A W 𝓣 E G25 G26 b27 Δ3 (Typed.pass T25 T26 (s22 bs)) (at24 bs) (Scalar.g-room 𝓤 H A W E G25 15 Syntax.tyPtr (Scalar.room-sc 𝓤 H A W Row.sPtr)) d24
@@ -1449,7 +1449,7 @@ module _ (claims· : Claims) where
               (Rows'.whole (Declared.row Set.the-type)) (λ x. x) (λ x. x) (u .1 .1 .1 .0) (Local.mem-whole 𝓤 H A W (Declared.row Set.the-type) ρ (u .1 .1 .1 .0) (Row.hd 0 (Row.tl (Row.tl (Row.tl bs)))))
               (Local.whole-mem 𝓤 H A W (Declared.row Set.the-type) ρ (u .1 .1 .1 .0) (Row.hd 0 (Row.tl (Row.tl (Row.tl bs))))))) Path'.refl λ q. Items.cut-array 𝓤 H A q (Declared.row Set.the-type)
               (Referent.rtF (Referent.fInt Syntax.w32)) 112 448 (u .1 .1 .1 .0) (u .1 .1 .1 .0) (At.getAt (Set.the-type .parts) 1 (Set.struct .as-values (u .1 .1 .1 .0))) (At.getAt (Set.the-type .parts) 1
-              (Set.struct .as-values (u .1 .1 .1 .0))) (Row.hd 0 (Row.tl (Row.tl (Row.tl bs))), 0) (Behind.look-at 𝓤 H A W q Set.the-type Laws.the-laws 1 448 Path'.refl Path'.refl
+              (Set.struct .as-values (u .1 .1 .1 .0))) (Row.hd 0 (Row.tl (Row.tl (Row.tl bs))), 0) (Behind.look-at 𝓤 H A W q Set.the-type Laws'.the-laws 1 448 Path'.refl Path'.refl
               (Row.hd 0 (Row.tl (Row.tl (Row.tl bs))), 0) (u .1 .1 .1 .0) (Set.struct .as-values (u .1 .1 .1 .0)) Path'.refl)) (Reads.room-gone 𝓤 H A (Syntax.tyArray (Syntax.tyInt Syntax.w32) 112))
               (Yields.makes-mem 𝓤 H A W (λ ρ. Unit) (Array.Array (Referent.rtF (Referent.fInt Syntax.w32)) 112) Path'.refl (Rows.arrF (Referent.rtF (Referent.fInt Syntax.w32)) 112 0) (λ x. x) λ ρ told.
               Whole.arr-mem 𝓤 H A W (Referent.rtF (Referent.fInt Syntax.w32)) 112 tt ρ) Path'.refl Path'.refl Path'.refl) d49
@@ -1466,7 +1466,7 @@ module _ (claims· : Claims) where
               (Rows'.whole (Declared.row Set.the-type)) (λ x. x) (λ x. x) (u .1 .1 .1 .0) (Local.mem-whole 𝓤 H A W (Declared.row Set.the-type) ρ (u .1 .1 .1 .0) (Row.hd 0 (Row.tl (Row.tl (Row.tl bs)))))
               (Local.whole-mem 𝓤 H A W (Declared.row Set.the-type) ρ (u .1 .1 .1 .0) (Row.hd 0 (Row.tl (Row.tl (Row.tl bs))))))) Path'.refl λ q. Items.cut-array 𝓤 H A q (Declared.row Set.the-type)
               (Referent.rtF (Referent.fInt Syntax.w32)) 112 0 (u .1 .1 .1 .0) (u .1 .1 .1 .0) (At.getAt (Set.the-type .parts) 0 (Set.struct .as-values (u .1 .1 .1 .0))) (At.getAt (Set.the-type .parts) 0
-              (Set.struct .as-values (u .1 .1 .1 .0))) (Row.hd 0 (Row.tl (Row.tl (Row.tl bs))), 0) (Behind.look-at 𝓤 H A W q Set.the-type Laws.the-laws 0 0 Path'.refl Path'.refl
+              (Set.struct .as-values (u .1 .1 .1 .0))) (Row.hd 0 (Row.tl (Row.tl (Row.tl bs))), 0) (Behind.look-at 𝓤 H A W q Set.the-type Laws'.the-laws 0 0 Path'.refl Path'.refl
               (Row.hd 0 (Row.tl (Row.tl (Row.tl bs))), 0) (u .1 .1 .1 .0) (Set.struct .as-values (u .1 .1 .1 .0)) Path'.refl)) (Reads.room-gone 𝓤 H A (Syntax.tyArray (Syntax.tyInt Syntax.w32) 112))
               (Yields.makes-mem 𝓤 H A W (λ ρ. Unit) (Array.Array (Referent.rtF (Referent.fInt Syntax.w32)) 112) Path'.refl (Rows.arrF (Referent.rtF (Referent.fInt Syntax.w32)) 112 0) (λ x. x) λ ρ told.
               Whole.arr-mem 𝓤 H A W (Referent.rtF (Referent.fInt Syntax.w32)) 112 tt ρ) Path'.refl Path'.refl Path'.refl) d50
@@ -1481,17 +1481,17 @@ module _ (claims· : Claims) where
           pub set : Kinds.Den {n = 1} κs (Value.pVal record {
             ty = Declared.row Set.the-type;
             one = Path'.refl;
-            val = Laws''.val Set.the-type Laws.the-laws;
-            tells = Laws''.tells Set.the-type Laws.the-laws;
+            val = Laws''.val Set.the-type Laws'.the-laws;
+            tells = Laws''.tells Set.the-type Laws'.the-laws;
             still = Laws''.still Set.the-type
-                Laws.the-copy Exit.yes;
+                Laws'.the-copy Exit.yes;
             row = Rows'.whole (Declared.row Set.the-type);
             rd = λ x. x;
             mk = λ x. x;
           } λ M 𝓤 H A W. record {
-            copies = Laws''.copy Set.the-type Laws.the-copy 𝓤 H A W;
-            lawful = Laws''.lawful Set.the-type Laws.the-laws 𝓤 H A W;
-            makes = Laws''.makes Set.the-type Laws.the-plain 𝓤 H A;
+            copies = Laws''.copy Set.the-type Laws'.the-copy 𝓤 H A W;
+            lawful = Laws''.lawful Set.the-type Laws'.the-laws 𝓤 H A W;
+            makes = Laws''.makes Set.the-type Laws'.the-plain 𝓤 H A;
             in-mem =
                 Local.mem-whole 𝓤 H A W (Declared.row Set.the-type);
             of-mem = Local.whole-mem 𝓤 H A W (Declared.row Set.the-type);

@@ -1,10 +1,10 @@
 -- Written by tools/lend.py from Rattle's derivation of the twin of `block`; not edited by hand. Assumes nothing.
-use Rattle.block.proofs.records.clear_records.Met
-use Rattle.block.proofs.records.derived.clear_records.Reads
-use Rattle.block.proofs.records.clear_records.Symbol
-use Rattle.block.proofs.writer.first_above.Met as Met'
-use Rattle.block.proofs.writer.first_above.Reads as Reads'
-use Rattle.block.proofs.writer.first_above.Symbol as Symbol'
+use Rattle.begin.proofs.first_above.Met
+use Rattle.begin.proofs.first_above.Reads
+use Rattle.begin.proofs.first_above.Symbol
+use Rattle.block.proofs.records.clear_records.Met as Met'
+use Rattle.block.proofs.records.derived.clear_records.Reads as Reads'
+use Rattle.block.proofs.records.clear_records.Symbol as Symbol'
 use Rattle.block.proofs.writer.write_measured.Met as Met''
 use Rattle.block.proofs.writer.derived.write_measured.Reads as Reads''
 use Rattle.block.proofs.writer.write_measured.Symbol as Symbol''
@@ -25,160 +25,160 @@ use borrow.Fn.Written
 use contract.Running
 
 abbrev pub Start : Type 0
-Start = Lts.Start (Reads'5.Asked, Reads'5.Learnt, Reads'.Asked, Reads'.Learnt, Reads'4.Asked, Reads'4.Learnt, Reads.Asked, Reads.Learnt, Reads''.Asked, Reads''.Learnt) Reads'3.Pre Reads'3.Post
+Start = Lts.Start (Reads'5.Asked, Reads'5.Learnt, Reads.Asked, Reads.Learnt, Reads'4.Asked, Reads'4.Learnt, Reads'.Asked, Reads'.Learnt, Reads''.Asked, Reads''.Learnt) Reads'3.Pre Reads'3.Post
 
 abbrev pub After-shared-slice-known : Type 0
 After-shared-slice-known = Lts.After-shared-slice-known
-    (Reads'5.Asked, Reads'5.Learnt, Reads'.Asked, Reads'.Learnt, Reads'4.Asked, Reads'4.Learnt, Reads.Asked, Reads.Learnt, Reads''.Asked, Reads''.Learnt) Reads'3.Pre Reads'3.Post
+    (Reads'5.Asked, Reads'5.Learnt, Reads.Asked, Reads.Learnt, Reads'4.Asked, Reads'4.Learnt, Reads'.Asked, Reads'.Learnt, Reads''.Asked, Reads''.Learnt) Reads'3.Pre Reads'3.Post
 
 abbrev pub After-slice-known : Type 0
-After-slice-known = Lts.After-slice-known (Reads'5.Asked, Reads'5.Learnt, Reads'.Asked, Reads'.Learnt, Reads'4.Asked, Reads'4.Learnt, Reads.Asked, Reads.Learnt, Reads''.Asked, Reads''.Learnt)
+After-slice-known = Lts.After-slice-known (Reads'5.Asked, Reads'5.Learnt, Reads.Asked, Reads.Learnt, Reads'4.Asked, Reads'4.Learnt, Reads'.Asked, Reads'.Learnt, Reads''.Asked, Reads''.Learnt)
     Reads'3.Pre Reads'3.Post
 
 abbrev pub After-slice-known2 : Type 0
-After-slice-known2 = Lts.After-slice-known2 (Reads'5.Asked, Reads'5.Learnt, Reads'.Asked, Reads'.Learnt, Reads'4.Asked, Reads'4.Learnt, Reads.Asked, Reads.Learnt, Reads''.Asked, Reads''.Learnt)
+After-slice-known2 = Lts.After-slice-known2 (Reads'5.Asked, Reads'5.Learnt, Reads.Asked, Reads.Learnt, Reads'4.Asked, Reads'4.Learnt, Reads'.Asked, Reads'.Learnt, Reads''.Asked, Reads''.Learnt)
     Reads'3.Pre Reads'3.Post
 
 abbrev pub After-largest : Type 0
-After-largest = Lts.After-largest (Reads'5.Asked, Reads'5.Learnt, Reads'.Asked, Reads'.Learnt, Reads'4.Asked, Reads'4.Learnt, Reads.Asked, Reads.Learnt, Reads''.Asked, Reads''.Learnt) Reads'3.Pre
+After-largest = Lts.After-largest (Reads'5.Asked, Reads'5.Learnt, Reads.Asked, Reads.Learnt, Reads'4.Asked, Reads'4.Learnt, Reads'.Asked, Reads'.Learnt, Reads''.Asked, Reads''.Learnt) Reads'3.Pre
     Reads'3.Post
 
 abbrev pub After-first-above : Type 0
-After-first-above = Lts.After-first-above (Reads'5.Asked, Reads'5.Learnt, Reads'.Asked, Reads'.Learnt, Reads'4.Asked, Reads'4.Learnt, Reads.Asked, Reads.Learnt, Reads''.Asked, Reads''.Learnt)
+After-first-above = Lts.After-first-above (Reads'5.Asked, Reads'5.Learnt, Reads.Asked, Reads.Learnt, Reads'4.Asked, Reads'4.Learnt, Reads'.Asked, Reads'.Learnt, Reads''.Asked, Reads''.Learnt)
     Reads'3.Pre Reads'3.Post
 
 abbrev pub Then1 : Type 0
-Then1 = Lts.Then1 (Reads'5.Asked, Reads'5.Learnt, Reads'.Asked, Reads'.Learnt, Reads'4.Asked, Reads'4.Learnt, Reads.Asked, Reads.Learnt, Reads''.Asked, Reads''.Learnt) Reads'3.Pre Reads'3.Post
+Then1 = Lts.Then1 (Reads'5.Asked, Reads'5.Learnt, Reads.Asked, Reads.Learnt, Reads'4.Asked, Reads'4.Learnt, Reads'.Asked, Reads'.Learnt, Reads''.Asked, Reads''.Learnt) Reads'3.Pre Reads'3.Post
 
 abbrev pub After-clear-arg : Type 0
-After-clear-arg = Lts.After-clear-arg (Reads'5.Asked, Reads'5.Learnt, Reads'.Asked, Reads'.Learnt, Reads'4.Asked, Reads'4.Learnt, Reads.Asked, Reads.Learnt, Reads''.Asked, Reads''.Learnt) Reads'3.Pre
+After-clear-arg = Lts.After-clear-arg (Reads'5.Asked, Reads'5.Learnt, Reads.Asked, Reads.Learnt, Reads'4.Asked, Reads'4.Learnt, Reads'.Asked, Reads'.Learnt, Reads''.Asked, Reads''.Learnt) Reads'3.Pre
     Reads'3.Post
 
 abbrev pub After-clear : Type 0
-After-clear = Lts.After-clear (Reads'5.Asked, Reads'5.Learnt, Reads'.Asked, Reads'.Learnt, Reads'4.Asked, Reads'4.Learnt, Reads.Asked, Reads.Learnt, Reads''.Asked, Reads''.Learnt) Reads'3.Pre
+After-clear = Lts.After-clear (Reads'5.Asked, Reads'5.Learnt, Reads.Asked, Reads.Learnt, Reads'4.Asked, Reads'4.Learnt, Reads'.Asked, Reads'.Learnt, Reads''.Asked, Reads''.Learnt) Reads'3.Pre
     Reads'3.Post
 
 abbrev pub After-lines : Type 0
-After-lines = Lts.After-lines (Reads'5.Asked, Reads'5.Learnt, Reads'.Asked, Reads'.Learnt, Reads'4.Asked, Reads'4.Learnt, Reads.Asked, Reads.Learnt, Reads''.Asked, Reads''.Learnt) Reads'3.Pre
+After-lines = Lts.After-lines (Reads'5.Asked, Reads'5.Learnt, Reads.Asked, Reads.Learnt, Reads'4.Asked, Reads'4.Learnt, Reads'.Asked, Reads'.Learnt, Reads''.Asked, Reads''.Learnt) Reads'3.Pre
     Reads'3.Post
 
 abbrev pub After-slice-known3 : Type 0
-After-slice-known3 = Lts.After-slice-known3 (Reads'5.Asked, Reads'5.Learnt, Reads'.Asked, Reads'.Learnt, Reads'4.Asked, Reads'4.Learnt, Reads.Asked, Reads.Learnt, Reads''.Asked, Reads''.Learnt)
+After-slice-known3 = Lts.After-slice-known3 (Reads'5.Asked, Reads'5.Learnt, Reads.Asked, Reads.Learnt, Reads'4.Asked, Reads'4.Learnt, Reads'.Asked, Reads'.Learnt, Reads''.Asked, Reads''.Learnt)
     Reads'3.Pre Reads'3.Post
 
 abbrev pub After-clear-records-arg : Type 0
 After-clear-records-arg = Lts.After-clear-records-arg
-    (Reads'5.Asked, Reads'5.Learnt, Reads'.Asked, Reads'.Learnt, Reads'4.Asked, Reads'4.Learnt, Reads.Asked, Reads.Learnt, Reads''.Asked, Reads''.Learnt) Reads'3.Pre Reads'3.Post
+    (Reads'5.Asked, Reads'5.Learnt, Reads.Asked, Reads.Learnt, Reads'4.Asked, Reads'4.Learnt, Reads'.Asked, Reads'.Learnt, Reads''.Asked, Reads''.Learnt) Reads'3.Pre Reads'3.Post
 
 abbrev pub After-clear-records : Type 0
-After-clear-records = Lts.After-clear-records (Reads'5.Asked, Reads'5.Learnt, Reads'.Asked, Reads'.Learnt, Reads'4.Asked, Reads'4.Learnt, Reads.Asked, Reads.Learnt, Reads''.Asked, Reads''.Learnt)
+After-clear-records = Lts.After-clear-records (Reads'5.Asked, Reads'5.Learnt, Reads.Asked, Reads.Learnt, Reads'4.Asked, Reads'4.Learnt, Reads'.Asked, Reads'.Learnt, Reads''.Asked, Reads''.Learnt)
     Reads'3.Pre Reads'3.Post
 
 abbrev pub After-rs : Type 0
-After-rs = Lts.After-rs (Reads'5.Asked, Reads'5.Learnt, Reads'.Asked, Reads'.Learnt, Reads'4.Asked, Reads'4.Learnt, Reads.Asked, Reads.Learnt, Reads''.Asked, Reads''.Learnt) Reads'3.Pre Reads'3.Post
+After-rs = Lts.After-rs (Reads'5.Asked, Reads'5.Learnt, Reads.Asked, Reads.Learnt, Reads'4.Asked, Reads'4.Learnt, Reads'.Asked, Reads'.Learnt, Reads''.Asked, Reads''.Learnt) Reads'3.Pre Reads'3.Post
 
 abbrev pub Else1 : Type 0
-Else1 = Lts.Else1 (Reads'5.Asked, Reads'5.Learnt, Reads'.Asked, Reads'.Learnt, Reads'4.Asked, Reads'4.Learnt, Reads.Asked, Reads.Learnt, Reads''.Asked, Reads''.Learnt) Reads'3.Pre Reads'3.Post
+Else1 = Lts.Else1 (Reads'5.Asked, Reads'5.Learnt, Reads.Asked, Reads.Learnt, Reads'4.Asked, Reads'4.Learnt, Reads'.Asked, Reads'.Learnt, Reads''.Asked, Reads''.Learnt) Reads'3.Pre Reads'3.Post
 
 abbrev pub After-write-measured-arg : Type 0
 After-write-measured-arg = Lts.After-write-measured-arg
-    (Reads'5.Asked, Reads'5.Learnt, Reads'.Asked, Reads'.Learnt, Reads'4.Asked, Reads'4.Learnt, Reads.Asked, Reads.Learnt, Reads''.Asked, Reads''.Learnt) Reads'3.Pre Reads'3.Post
+    (Reads'5.Asked, Reads'5.Learnt, Reads.Asked, Reads.Learnt, Reads'4.Asked, Reads'4.Learnt, Reads'.Asked, Reads'.Learnt, Reads''.Asked, Reads''.Learnt) Reads'3.Pre Reads'3.Post
 
 abbrev pub After-write-measured-arg2 : Type 0
 After-write-measured-arg2 = Lts.After-write-measured-arg2
-    (Reads'5.Asked, Reads'5.Learnt, Reads'.Asked, Reads'.Learnt, Reads'4.Asked, Reads'4.Learnt, Reads.Asked, Reads.Learnt, Reads''.Asked, Reads''.Learnt) Reads'3.Pre Reads'3.Post
+    (Reads'5.Asked, Reads'5.Learnt, Reads.Asked, Reads.Learnt, Reads'4.Asked, Reads'4.Learnt, Reads'.Asked, Reads'.Learnt, Reads''.Asked, Reads''.Learnt) Reads'3.Pre Reads'3.Post
 
 abbrev pub After-write-measured-arg3 : Type 0
 After-write-measured-arg3 = Lts.After-write-measured-arg3
-    (Reads'5.Asked, Reads'5.Learnt, Reads'.Asked, Reads'.Learnt, Reads'4.Asked, Reads'4.Learnt, Reads.Asked, Reads.Learnt, Reads''.Asked, Reads''.Learnt) Reads'3.Pre Reads'3.Post
+    (Reads'5.Asked, Reads'5.Learnt, Reads.Asked, Reads.Learnt, Reads'4.Asked, Reads'4.Learnt, Reads'.Asked, Reads'.Learnt, Reads''.Asked, Reads''.Learnt) Reads'3.Pre Reads'3.Post
 
 abbrev pub After-write-measured : Type 0
-After-write-measured = Lts.After-write-measured (Reads'5.Asked, Reads'5.Learnt, Reads'.Asked, Reads'.Learnt, Reads'4.Asked, Reads'4.Learnt, Reads.Asked, Reads.Learnt, Reads''.Asked, Reads''.Learnt)
+After-write-measured = Lts.After-write-measured (Reads'5.Asked, Reads'5.Learnt, Reads.Asked, Reads.Learnt, Reads'4.Asked, Reads'4.Learnt, Reads'.Asked, Reads'.Learnt, Reads''.Asked, Reads''.Learnt)
     Reads'3.Pre Reads'3.Post
 
 abbrev pub After-out : Type 0
-After-out = Lts.After-out (Reads'5.Asked, Reads'5.Learnt, Reads'.Asked, Reads'.Learnt, Reads'4.Asked, Reads'4.Learnt, Reads.Asked, Reads.Learnt, Reads''.Asked, Reads''.Learnt) Reads'3.Pre Reads'3.Post
+After-out = Lts.After-out (Reads'5.Asked, Reads'5.Learnt, Reads.Asked, Reads.Learnt, Reads'4.Asked, Reads'4.Learnt, Reads'.Asked, Reads'.Learnt, Reads''.Asked, Reads''.Learnt) Reads'3.Pre Reads'3.Post
 
 abbrev pub After-slice-known4 : Type 0
-After-slice-known4 = Lts.After-slice-known4 (Reads'5.Asked, Reads'5.Learnt, Reads'.Asked, Reads'.Learnt, Reads'4.Asked, Reads'4.Learnt, Reads.Asked, Reads.Learnt, Reads''.Asked, Reads''.Learnt)
+After-slice-known4 = Lts.After-slice-known4 (Reads'5.Asked, Reads'5.Learnt, Reads.Asked, Reads.Learnt, Reads'4.Asked, Reads'4.Learnt, Reads'.Asked, Reads'.Learnt, Reads''.Asked, Reads''.Learnt)
     Reads'3.Pre Reads'3.Post
 
 abbrev pub After-lines2 : Type 0
-After-lines2 = Lts.After-lines2 (Reads'5.Asked, Reads'5.Learnt, Reads'.Asked, Reads'.Learnt, Reads'4.Asked, Reads'4.Learnt, Reads.Asked, Reads.Learnt, Reads''.Asked, Reads''.Learnt) Reads'3.Pre
+After-lines2 = Lts.After-lines2 (Reads'5.Asked, Reads'5.Learnt, Reads.Asked, Reads.Learnt, Reads'4.Asked, Reads'4.Learnt, Reads'.Asked, Reads'.Learnt, Reads''.Asked, Reads''.Learnt) Reads'3.Pre
     Reads'3.Post
 
 abbrev pub After-slice-known5 : Type 0
-After-slice-known5 = Lts.After-slice-known5 (Reads'5.Asked, Reads'5.Learnt, Reads'.Asked, Reads'.Learnt, Reads'4.Asked, Reads'4.Learnt, Reads.Asked, Reads.Learnt, Reads''.Asked, Reads''.Learnt)
+After-slice-known5 = Lts.After-slice-known5 (Reads'5.Asked, Reads'5.Learnt, Reads.Asked, Reads.Learnt, Reads'4.Asked, Reads'4.Learnt, Reads'.Asked, Reads'.Learnt, Reads''.Asked, Reads''.Learnt)
     Reads'3.Pre Reads'3.Post
 
 abbrev pub After-rs2 : Type 0
-After-rs2 = Lts.After-rs2 (Reads'5.Asked, Reads'5.Learnt, Reads'.Asked, Reads'.Learnt, Reads'4.Asked, Reads'4.Learnt, Reads.Asked, Reads.Learnt, Reads''.Asked, Reads''.Learnt) Reads'3.Pre Reads'3.Post
+After-rs2 = Lts.After-rs2 (Reads'5.Asked, Reads'5.Learnt, Reads.Asked, Reads.Learnt, Reads'4.Asked, Reads'4.Learnt, Reads'.Asked, Reads'.Learnt, Reads''.Asked, Reads''.Learnt) Reads'3.Pre Reads'3.Post
 
 abbrev pub Need-largest-requires : Type 0
-Need-largest-requires = Lts.Need-largest-requires (Reads'5.Asked, Reads'5.Learnt, Reads'.Asked, Reads'.Learnt, Reads'4.Asked, Reads'4.Learnt, Reads.Asked, Reads.Learnt, Reads''.Asked, Reads''.Learnt)
+Need-largest-requires = Lts.Need-largest-requires (Reads'5.Asked, Reads'5.Learnt, Reads.Asked, Reads.Learnt, Reads'4.Asked, Reads'4.Learnt, Reads'.Asked, Reads'.Learnt, Reads''.Asked, Reads''.Learnt)
     Reads'3.Pre Reads'3.Post
 
 abbrev pub Need-first-above-requires : Type 0
 Need-first-above-requires = Lts.Need-first-above-requires
-    (Reads'5.Asked, Reads'5.Learnt, Reads'.Asked, Reads'.Learnt, Reads'4.Asked, Reads'4.Learnt, Reads.Asked, Reads.Learnt, Reads''.Asked, Reads''.Learnt) Reads'3.Pre Reads'3.Post
+    (Reads'5.Asked, Reads'5.Learnt, Reads.Asked, Reads.Learnt, Reads'4.Asked, Reads'4.Learnt, Reads'.Asked, Reads'.Learnt, Reads''.Asked, Reads''.Learnt) Reads'3.Pre Reads'3.Post
 
 abbrev pub Need-clear-requires : Type 0
-Need-clear-requires = Lts.Need-clear-requires (Reads'5.Asked, Reads'5.Learnt, Reads'.Asked, Reads'.Learnt, Reads'4.Asked, Reads'4.Learnt, Reads.Asked, Reads.Learnt, Reads''.Asked, Reads''.Learnt)
+Need-clear-requires = Lts.Need-clear-requires (Reads'5.Asked, Reads'5.Learnt, Reads.Asked, Reads.Learnt, Reads'4.Asked, Reads'4.Learnt, Reads'.Asked, Reads'.Learnt, Reads''.Asked, Reads''.Learnt)
     Reads'3.Pre Reads'3.Post
 
 abbrev pub Need-clear-records-requires : Type 0
 Need-clear-records-requires = Lts.Need-clear-records-requires
-    (Reads'5.Asked, Reads'5.Learnt, Reads'.Asked, Reads'.Learnt, Reads'4.Asked, Reads'4.Learnt, Reads.Asked, Reads.Learnt, Reads''.Asked, Reads''.Learnt) Reads'3.Pre Reads'3.Post
+    (Reads'5.Asked, Reads'5.Learnt, Reads.Asked, Reads.Learnt, Reads'4.Asked, Reads'4.Learnt, Reads'.Asked, Reads'.Learnt, Reads''.Asked, Reads''.Learnt) Reads'3.Pre Reads'3.Post
 
 abbrev pub Need-same-length : Type 0
-Need-same-length = Lts.Need-same-length (Reads'5.Asked, Reads'5.Learnt, Reads'.Asked, Reads'.Learnt, Reads'4.Asked, Reads'4.Learnt, Reads.Asked, Reads.Learnt, Reads''.Asked, Reads''.Learnt)
+Need-same-length = Lts.Need-same-length (Reads'5.Asked, Reads'5.Learnt, Reads.Asked, Reads.Learnt, Reads'4.Asked, Reads'4.Learnt, Reads'.Asked, Reads'.Learnt, Reads''.Asked, Reads''.Learnt)
     Reads'3.Pre Reads'3.Post
 
 abbrev pub Need-same-length-2 : Type 0
-Need-same-length-2 = Lts.Need-same-length-2 (Reads'5.Asked, Reads'5.Learnt, Reads'.Asked, Reads'.Learnt, Reads'4.Asked, Reads'4.Learnt, Reads.Asked, Reads.Learnt, Reads''.Asked, Reads''.Learnt)
+Need-same-length-2 = Lts.Need-same-length-2 (Reads'5.Asked, Reads'5.Learnt, Reads.Asked, Reads.Learnt, Reads'4.Asked, Reads'4.Learnt, Reads'.Asked, Reads'.Learnt, Reads''.Asked, Reads''.Learnt)
     Reads'3.Pre Reads'3.Post
 
 abbrev pub Need-returns : Type 0
-Need-returns = Lts.Need-returns (Reads'5.Asked, Reads'5.Learnt, Reads'.Asked, Reads'.Learnt, Reads'4.Asked, Reads'4.Learnt, Reads.Asked, Reads.Learnt, Reads''.Asked, Reads''.Learnt) Reads'3.Pre
+Need-returns = Lts.Need-returns (Reads'5.Asked, Reads'5.Learnt, Reads.Asked, Reads.Learnt, Reads'4.Asked, Reads'4.Learnt, Reads'.Asked, Reads'.Learnt, Reads''.Asked, Reads''.Learnt) Reads'3.Pre
     Reads'3.Post
 
 abbrev pub Need-write-measured-requires : Type 0
 Need-write-measured-requires = Lts.Need-write-measured-requires
-    (Reads'5.Asked, Reads'5.Learnt, Reads'.Asked, Reads'.Learnt, Reads'4.Asked, Reads'4.Learnt, Reads.Asked, Reads.Learnt, Reads''.Asked, Reads''.Learnt) Reads'3.Pre Reads'3.Post
+    (Reads'5.Asked, Reads'5.Learnt, Reads.Asked, Reads.Learnt, Reads'4.Asked, Reads'4.Learnt, Reads'.Asked, Reads'.Learnt, Reads''.Asked, Reads''.Learnt) Reads'3.Pre Reads'3.Post
 
 abbrev pub Need-same-length-3 : Type 0
-Need-same-length-3 = Lts.Need-same-length-3 (Reads'5.Asked, Reads'5.Learnt, Reads'.Asked, Reads'.Learnt, Reads'4.Asked, Reads'4.Learnt, Reads.Asked, Reads.Learnt, Reads''.Asked, Reads''.Learnt)
+Need-same-length-3 = Lts.Need-same-length-3 (Reads'5.Asked, Reads'5.Learnt, Reads.Asked, Reads.Learnt, Reads'4.Asked, Reads'4.Learnt, Reads'.Asked, Reads'.Learnt, Reads''.Asked, Reads''.Learnt)
     Reads'3.Pre Reads'3.Post
 
 abbrev pub Need-same-length-4 : Type 0
-Need-same-length-4 = Lts.Need-same-length-4 (Reads'5.Asked, Reads'5.Learnt, Reads'.Asked, Reads'.Learnt, Reads'4.Asked, Reads'4.Learnt, Reads.Asked, Reads.Learnt, Reads''.Asked, Reads''.Learnt)
+Need-same-length-4 = Lts.Need-same-length-4 (Reads'5.Asked, Reads'5.Learnt, Reads.Asked, Reads.Learnt, Reads'4.Asked, Reads'4.Learnt, Reads'.Asked, Reads'.Learnt, Reads''.Asked, Reads''.Learnt)
     Reads'3.Pre Reads'3.Post
 
 abbrev pub Need-same-length-5 : Type 0
-Need-same-length-5 = Lts.Need-same-length-5 (Reads'5.Asked, Reads'5.Learnt, Reads'.Asked, Reads'.Learnt, Reads'4.Asked, Reads'4.Learnt, Reads.Asked, Reads.Learnt, Reads''.Asked, Reads''.Learnt)
+Need-same-length-5 = Lts.Need-same-length-5 (Reads'5.Asked, Reads'5.Learnt, Reads.Asked, Reads.Learnt, Reads'4.Asked, Reads'4.Learnt, Reads'.Asked, Reads'.Learnt, Reads''.Asked, Reads''.Learnt)
     Reads'3.Pre Reads'3.Post
 
 abbrev pub Need-returns-2 : Type 0
-Need-returns-2 = Lts.Need-returns-2 (Reads'5.Asked, Reads'5.Learnt, Reads'.Asked, Reads'.Learnt, Reads'4.Asked, Reads'4.Learnt, Reads.Asked, Reads.Learnt, Reads''.Asked, Reads''.Learnt) Reads'3.Pre
+Need-returns-2 = Lts.Need-returns-2 (Reads'5.Asked, Reads'5.Learnt, Reads.Asked, Reads.Learnt, Reads'4.Asked, Reads'4.Learnt, Reads'.Asked, Reads'.Learnt, Reads''.Asked, Reads''.Learnt) Reads'3.Pre
     Reads'3.Post
 
 module _ {M : Type 1} where
   pub spec : (answer : Need-largest-requires) → (answer : Need-first-above-requires) → (answer : Need-clear-requires) → (answer : Need-clear-records-requires) → (answer : Need-same-length) → (answer :
       Need-same-length-2) → (answer : Need-returns) → (answer : Need-write-measured-requires) → (answer : Need-same-length-3) → (answer : Need-same-length-4) → (answer : Need-same-length-5) → (answer :
-      Need-returns-2) → Lts.Closed (Reads'5.Asked, Reads'5.Learnt, Reads'.Asked, Reads'.Learnt, Reads'4.Asked, Reads'4.Learnt, Reads.Asked, Reads.Learnt, Reads''.Asked, Reads''.Learnt) Reads'3.Pre
+      Need-returns-2) → Lts.Closed (Reads'5.Asked, Reads'5.Learnt, Reads.Asked, Reads.Learnt, Reads'4.Asked, Reads'4.Learnt, Reads'.Asked, Reads'.Learnt, Reads''.Asked, Reads''.Learnt) Reads'3.Pre
       Reads'3.Post M
   spec = λ answer answer' answer'' answer'3 answer'4 answer'5 answer'6 answer'7 answer'8 answer'9 answer'10 answer'11. Lts.spec
-      (Reads'5.Asked, Reads'5.Learnt, Reads'.Asked, Reads'.Learnt, Reads'4.Asked, Reads'4.Learnt, Reads.Asked, Reads.Learnt, Reads''.Asked, Reads''.Learnt) Reads'3.Pre Reads'3.Post answer answer' answer''
+      (Reads'5.Asked, Reads'5.Learnt, Reads.Asked, Reads.Learnt, Reads'4.Asked, Reads'4.Learnt, Reads'.Asked, Reads'.Learnt, Reads''.Asked, Reads''.Learnt) Reads'3.Pre Reads'3.Post answer answer' answer''
       answer'3 answer'4 answer'5 answer'6 answer'7 answer'8 answer'9 answer'10 answer'11
 
-  pub close : Lts.Closed (Reads'5.Asked, Reads'5.Learnt, Reads'.Asked, Reads'.Learnt, Reads'4.Asked, Reads'4.Learnt, Reads.Asked, Reads.Learnt, Reads''.Asked, Reads''.Learnt) Reads'3.Pre Reads'3.Post
+  pub close : Lts.Closed (Reads'5.Asked, Reads'5.Learnt, Reads.Asked, Reads.Learnt, Reads'4.Asked, Reads'4.Learnt, Reads'.Asked, Reads'.Learnt, Reads''.Asked, Reads''.Learnt) Reads'3.Pre Reads'3.Post
       M → Statement.statement M
   unfolding Code.routine Running.tablesOf
   close = λ closed 𝓤 H 𝓜 𝓖 𝓡. Written.close 4 Kinds.ps Kinds.r Reads'3.Ghost Reads'3.requires Reads'3.ensures Reads'3.pre-read Reads'3.Pinned Reads'3.Owned Reads'3.post-read record
       { M = M; 𝓤 = 𝓤; H = H; 𝓜 = 𝓜; 𝓖 = 𝓖; 𝓡 = 𝓡 } Code.env Key.name Code.function (Code.unfolded 𝓤 H 𝓜 𝓡) (λ κs a g. tt) (λ κs. Reads'3.owns κs record { M = M; 𝓤 = 𝓤; H = H; 𝓜 = 𝓜; 𝓖 = 𝓖; 𝓡 = 𝓡 })
       (Reads'3.passes record { M = M; 𝓤 = 𝓤; H = H; 𝓜 = 𝓜; 𝓖 = 𝓖; 𝓡 = 𝓡 }) λ g. closed 𝓤 H (𝓖 .A) (Running.givenOf 𝓤 H 𝓜 𝓖) (Run.Over 𝓤 H 𝓜 𝓖 𝓡 Code.env) (Reads'5.known record
-      { M = M; 𝓤 = 𝓤; H = H; 𝓜 = 𝓜; 𝓖 = 𝓖; 𝓡 = 𝓡 } Code.env Symbol'4.name Symbol'4.routine Code.calls-quantiser·largest (Met'4.met 𝓤 H 𝓜 𝓖 𝓡)) (Reads'.known record
-      { M = M; 𝓤 = 𝓤; H = H; 𝓜 = 𝓜; 𝓖 = 𝓖; 𝓡 = 𝓡 } Code.env Symbol'.name Symbol'.routine Code.calls-block·writer·first-above (Met'.met 𝓤 H 𝓜 𝓖 𝓡)) (Reads'4.known record
-      { M = M; 𝓤 = 𝓤; H = H; 𝓜 = 𝓜; 𝓖 = 𝓖; 𝓡 = 𝓡 } Code.env Symbol'3.name Symbol'3.routine Code.calls-lines·clear (Met'3.met 𝓤 H 𝓜 𝓖 𝓡)) (Reads.known record { M = M; 𝓤 = 𝓤; H = H; 𝓜 = 𝓜; 𝓖 = 𝓖; 𝓡 = 𝓡 }
-      Code.env Symbol.name Symbol.routine Code.calls-block·records·clear-records (Met.met 𝓤 H 𝓜 𝓖 𝓡)) (Reads''.known record { M = M; 𝓤 = 𝓤; H = H; 𝓜 = 𝓜; 𝓖 = 𝓖; 𝓡 = 𝓡 } Code.env Symbol''.name
-      Symbol''.routine Code.calls-block·writer·write-measured (Met''.met 𝓤 H 𝓜 𝓖 𝓡))
+      { M = M; 𝓤 = 𝓤; H = H; 𝓜 = 𝓜; 𝓖 = 𝓖; 𝓡 = 𝓡 } Code.env Symbol'4.name Symbol'4.routine Code.calls-quantiser·largest (Met'4.met 𝓤 H 𝓜 𝓖 𝓡)) (Reads.known record
+      { M = M; 𝓤 = 𝓤; H = H; 𝓜 = 𝓜; 𝓖 = 𝓖; 𝓡 = 𝓡 } Code.env Symbol.name Symbol.routine Code.calls-begin·first-above (Met.met 𝓤 H 𝓜 𝓖 𝓡)) (Reads'4.known record { M = M; 𝓤 = 𝓤; H = H; 𝓜 = 𝓜; 𝓖 = 𝓖; 𝓡 = 𝓡 }
+      Code.env Symbol'3.name Symbol'3.routine Code.calls-lines·clear (Met'3.met 𝓤 H 𝓜 𝓖 𝓡)) (Reads'.known record { M = M; 𝓤 = 𝓤; H = H; 𝓜 = 𝓜; 𝓖 = 𝓖; 𝓡 = 𝓡 } Code.env Symbol'.name Symbol'.routine
+      Code.calls-block·records·clear-records (Met'.met 𝓤 H 𝓜 𝓖 𝓡)) (Reads''.known record { M = M; 𝓤 = 𝓤; H = H; 𝓜 = 𝓜; 𝓖 = 𝓖; 𝓡 = 𝓡 } Code.env Symbol''.name Symbol''.routine
+      Code.calls-block·writer·write-measured (Met''.met 𝓤 H 𝓜 𝓖 𝓡))

@@ -1,0 +1,125 @@
+-- Every lossless header has a stream that is accepted: that of the set of zeros in each block. Assumes nothing.
+use mathlib.Core.Bool.{true}
+use mathlib.Core.List.{List, []}
+use mathlib.Core.Option.{Option, none, some}
+use mathlib.Core.Path.{_≡_, refl, sym, _∙_}
+use Prim.Native.Nat.{ℕ, zero, suc, _+_, _-_, _^_, _≤_, _<_}
+use native.Mathlib.Omega.{arith}
+use lib.ListN.{length, replicate}
+use borrow.Author.Tests.{le-ltb}
+use Rattle.bits.proofs.PackLaws.{length-bytesOf}
+use Rattle.map.specs.Places.{widthOf}
+use Rattle.stream.specs.Headers.{parseOf, Ruled}
+use Rattle.stream.specs.Streams.{openOf}
+use Rattle.stream.specs.declared.FujiHeader.{FujiHeader}
+use Rattle.stream.specs.declared.Parsed.the-variants.{Header}
+use Rattle.stream.proofs.HeaderLaws.{ruled}
+use Rattle.region.specs.Regions.{Accepted, firstBlock, lastBlock, linesOf as lineCount}
+use Rattle.region.specs.declared.Rect.{Rect}
+use Rattle.region.proofs.RegionLaws.{block-inside, block-order, lines-inside}
+use Rattle.writing.specs.Sets.{setSize}
+use Rattle.block.specs.Blocks.{State, lineAt, startState, readLines}
+use Rattle.begin.specs.declared.Beginning.the-variants.{Reading}
+use Rattle.begin.proofs.CallLaws.{region-reads}
+use Rattle.block.specs.Images.{formOf, bytesOf, linesRead, readIn, answerOf, Decoding, Left}
+use Rattle.block.specs.Lent.{Buffers}
+use Rattle.block.specs.TightBlocks.{Tight}
+use Rattle.block.specs.WrittenBlocks.{writeLines, tightBlock}
+use Rattle.block.specs.declared.Decoded.{Decoded}
+use Rattle.block.specs.declared.Decoded.the-variants.{Done}
+use Rattle.block.specs.declared.Form.{Form}
+use Rattle.block.proofs.DecodeLaws.{all-read}
+use Rattle.block.proofs.RunLaws.{runs-stay}
+use Rattle.block.proofs.WalkLaws.{lines-short}
+use Rattle.demand.specs.Demand.{Bytes}
+use Rattle.demand.specs.AcceptedStreams.{regionOf, SomethingAccepted}
+use Rattle.demand.proofs.DemandHolds.{demand-of-headers, no-bases}
+use Rattle.demand.proofs.PredictedBlocks.{fits-is}
+use Rattle.demand.proofs.ZerosFit.{zeros-fit}
+use Rattle.demand.proofs.StreamOfBlocks.{streamOf, stream-bytes, opens, block-there}
+
+-- where all lines are read, fewer are too
+fewer-read : (F : Form) (s : List ℕ) (n m : ℕ) (z : State) → readLines F [] s n ≡ some z → m ≤ n → linesRead F [] s m ≡ m
+unfolding readLines
+fewer-read F s n m z e h = go (readLines F [] s m) refl
+  where
+    go : (o : Option State) → readLines F [] s m ≡ o → linesRead F [] s m ≡ m
+    go (some y) f = all-read F [] s m y f
+    go none f =
+        let k : m + (n - m) ≡ n = omega arith in
+        let g : readLines F [] s n ≡ none = rw k at (runs-stay (lineAt F [] s) (startState F []) m (n - m) f) in
+        let c : some z ≡ none = sym e ∙ g in
+        let no : _≡_ {A = ℕ} 0 1 = cc in
+        absurd (omega arith)
+
+module _ (d : List ℕ) (h : FujiHeader) (bytes : Bytes d) (e : parseOf d ≡ Header h) (lossless : h .lossless ≡ true) where
+  abbrev F : Form
+  F = formOf h
+
+  abbrev zeros : List ℕ
+  zeros = replicate (setSize (widthOf (h .xtrans)) (h .lines)) 0
+
+  -- its tight block
+  block : List ℕ
+  block = tightBlock F (h .lines) zeros
+
+  R : Ruled h
+  R = ruled d h e
+
+  short : length block < 2 ^ 32
+  unfolding block tightBlock
+  short =
+      let l = lines-short F zeros (h .lines) (R .bits-high) in
+      omega (arith, length-bytesOf ((writeLines F zeros (h .lines)) .bits), l, R .lines-high)
+
+  W : Bytes block × Tight F (h .lines) block
+  unfolding block
+  W = let w = demand-of-headers d h e lossless .written zeros (fits-is F (h .lines) zeros .0 (zeros-fit F (h .lines))) in (w .0, w .1)
+
+  stream : List ℕ
+  stream = streamOf d h e lossless block short
+
+  stream-opens : openOf stream ≡ Header h
+  unfolding stream
+  stream-opens = opens d h e lossless block short
+
+  there : (b : ℕ) → b < h .blocks → bytesOf stream b ≡ block
+  unfolding stream
+  there = block-there d h e lossless block short
+
+  are-bytes : Bytes stream
+  unfolding stream
+  are-bytes = stream-bytes d h e lossless block short bytes (W .0)
+
+  decoded : (r : Rect) (n : ℕ) → Accepted h r n → (k : ℕ) → firstBlock r + k ≤ lastBlock r + 1 → answerOf stream h r k ≡ Done
+  unfolding answerOf
+  decoded r n ok zero l = refl
+  decoded r n ok (suc k) l = rw (decoded r n ok k (omega arith), read) (rw (le-ltb (lineCount r) (lineCount r) (omega arith)))
+    where
+      b : ℕ
+      b = firstBlock r + k
+
+      low : b < h .blocks
+      low = omega (arith, block-inside h r n ok)
+
+      read : readIn stream h r (firstBlock r + k) ≡ lineCount r
+      read =
+          rw (no-bases stream h stream-opens lossless b, there b low)
+          (fewer-read F block (h .lines) (lineCount r) (W .1 .end) (W .1 .read) (lines-inside h r n ok))
+
+  called : (r : Rect) (tile : List ℕ) (before after : Buffers) (answer : Decoded) → regionOf stream r before ≡ Reading h
+      → Left stream r tile (regionOf stream r before) before after answer → answer ≡ Done
+  called r tile before after answer begins L =
+      let ok = region-reads stream r (length (before .image)) (length (before .lines)) (length (before .records)) h begins .region in
+      let D : Decoding stream h r tile before after answer = rw begins at L in
+      D .answered ∙ decoded r (length (before .image)) ok (lastBlock r + 1 - firstBlock r) (omega (arith, block-order h r (length (before .image)) ok))
+
+pub something-accepted : SomethingAccepted
+something-accepted d h bytes e lossless =
+    record {
+      stream = stream d h bytes e lossless;
+      bytes = are-bytes d h bytes e lossless;
+      opens = stream-opens d h bytes e lossless;
+      tight = λ b l. rw (there d h bytes e lossless b l) (W d h bytes e lossless .1);
+      decoded = λ r tile before after answer e' L. called d h bytes e lossless r tile before after answer e' L;
+    }

@@ -1,0 +1,3 @@
+-- Laws about storing bits.
+pub mod PutLaws
+pub mod WordLaws

@@ -1,0 +1,2 @@
+-- The definition of storing bits.
+pub mod Output

@@ -1,0 +1,3 @@
+-- The definitions of the sheets of short codes.
+pub mod Sheets
+pub mod Whole

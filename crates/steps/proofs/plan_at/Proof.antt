@@ -1,0 +1,16 @@
+-- `steps::plan_at` meets its contract: the table is the list of the passes. Assumes nothing.
+use borrow.Author.Needs.{needs}
+use Rattle.steps.specs.Steps.{planOf}
+use Rattle.steps.proofs.plan_at.Statement.{statement}
+use Rattle.steps.proofs.plan_at.Tie as tie
+
+returns : tie.Need-returns
+unfolding planOf
+returns c = rw (c .if1 .taken)
+
+returns-2 : tie.Need-returns-2
+unfolding planOf
+returns-2 c = rw (c .if1 .left)
+
+pub plan-at-spec : {M : Type 1} → statement M
+plan-at-spec = tie.close (tie.spec (λ c. search needs) (λ c. search needs) returns returns-2)

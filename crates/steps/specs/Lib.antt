@@ -1,0 +1,4 @@
+-- The definitions that reading and writing share.
+pub mod Steps
+pub mod Contexts
+pub mod Values

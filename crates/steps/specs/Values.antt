@@ -1,0 +1,55 @@
+-- What the program's values stand for, and the ranges that its functions ask for. Assumes nothing.
+use mathlib.Core.List.{List, [], _∷_}
+use mathlib.Core.Path.{_≡_}
+use Prim.Native.Nat.{ℕ, _≤_, _<_}
+use lib.ListN.{getD}
+use Rattle.statistics.specs.Statistics.{InRange}
+use Rattle.statistics.specs.declared.Record.{Record}
+use Rattle.steps.specs.Contexts.{usedQuantiser, noRecord}
+use Rattle.steps.specs.declared.Plan.{Plan}
+use Rattle.steps.specs.declared.Set.{Set}
+use Rattle.steps.specs.declared.Quantisers.{Quantisers}
+
+-- the records of a set that is held as two lists
+unfoldable pub zipRecords : List ℕ → List ℕ → List Record
+zipRecords [] ns = []
+zipRecords (a ∷ sums) [] = []
+zipRecords (a ∷ sums) (b ∷ ns) = record { sum = a; n = b } ∷ zipRecords sums ns
+
+abbrev pub recordsOf : Set → List Record
+recordsOf t = zipRecords (t .sums) (t .ns)
+
+-- every record of a set is in range
+abbrev pub SetInRange : List Record → Type 0
+SetInRange l = (j : ℕ) → j < 112 → InRange (getD l j noRecord)
+
+-- the quantisers of a line with base q: the main one, then the flat ones
+unfoldable pub quantisersOf : ℕ → ℕ → Quantisers
+quantisersOf bits q =
+    let m = usedQuantiser bits q 0 in
+    let a = usedQuantiser bits q 1 in
+    let b = usedQuantiser bits q 2 in
+    let c = usedQuantiser bits q 3 in
+    record {
+      base = q;
+      totals = m .total ∷ a .total ∷ b .total ∷ c .total ∷ [];
+      raws = m .raw ∷ a .raw ∷ b .raw ∷ c .raw ∷ [];
+      limits = m .limit ∷ a .limit ∷ b .limit ∷ c .limit ∷ [];
+    }
+
+-- these are their arrays
+pub record AreQuantisers (bits q : ℕ) (totals raws limits : List ℕ) : Type 0 where
+  pub total : totals ≡ (quantisersOf bits q) .totals
+  pub raw : raws ≡ (quantisersOf bits q) .raws
+  pub limit : limits ≡ (quantisersOf bits q) .limits
+
+-- the depths of the format lie in this range
+abbrev pub Depth : ℕ → Type 0
+Depth bits = (12 ≤ bits) × (bits ≤ 16)
+
+-- each of a pass's lines has two lines of its colour above it
+pub record PlanInRange (P : Plan) : Type 0 where
+  pub first-low : 2 ≤ P .first
+  pub first-high : P .first ≤ 17
+  pub second-low : 2 ≤ P .second
+  pub second-high : P .second ≤ 17

@@ -1,0 +1,264 @@
+// What reading and writing a pass share: the six passes of a line, the context of a sample, what its coding goes by, and its record.
+ghost use mathlib.Core.Path.{_≡_};
+ghost use mathlib.Core.Bool.{not};
+ghost use Prim.Native.Nat.{_+_, _*_, _^_, _≤_, _<_};
+ghost use lib.ListN.{length, getD, set};
+ghost use Rattle.statistics.specs.Statistics.{updated, InRange};
+ghost use Rattle.prediction.specs.Predictions.{Ranges};
+ghost use Rattle.code.specs.Samples.{residualOf};
+ghost use Rattle.steps.specs.Steps.{interpolated, planOf};
+ghost use Rattle.steps.specs.Contexts.{evenAt, oddAt, contextAt, usedBase, usedWeight, placeOf, lookOf, slotOf, noRecord};
+ghost use Rattle.steps.specs.Values.{zipRecords, SetInRange};
+use numbers::u16_to_u32;
+use prediction::Context;
+use statistics::Record;
+
+// Which even positions p of a line are interpolated, and so have no code.
+const NONE: u32 = 0;
+
+const AT_0_MOD_4: u32 = 1;
+
+const AT_2_MOD_4: u32 = 2;
+
+const ALL: u32 = 3;
+
+// A pass: the numbers of its two colour lines, its statistics set, and the rule of each line.
+pub struct Plan {
+    pub first: usize,
+    pub second: usize,
+    pub set: usize,
+    pub first_rule: u32,
+    pub second_rule: u32,
+}
+
+const PASSES: [Plan; 6] = [
+    Plan {
+        first: 2,
+        second: 7,
+        set: 0,
+        first_rule: ALL,
+        second_rule: NONE,
+    },
+    Plan {
+        first: 8,
+        second: 15,
+        set: 1,
+        first_rule: NONE,
+        second_rule: ALL,
+    },
+    Plan {
+        first: 3,
+        second: 9,
+        set: 2,
+        first_rule: AT_0_MOD_4,
+        second_rule: ALL,
+    },
+    Plan {
+        first: 10,
+        second: 16,
+        set: 0,
+        first_rule: NONE,
+        second_rule: AT_2_MOD_4,
+    },
+    Plan {
+        first: 4,
+        second: 11,
+        set: 1,
+        first_rule: AT_2_MOD_4,
+        second_rule: NONE,
+    },
+    Plan {
+        first: 12,
+        second: 17,
+        set: 2,
+        first_rule: ALL,
+        second_rule: AT_0_MOD_4,
+    },
+];
+
+// The records of a set, 56 of even positions and then 56 of odd ones, as two arrays: so they can be lent to a function.
+pub struct Set {
+    pub sums: [u32; 112],
+    pub ns: [u32; 112],
+}
+
+// The quantisers of a line, the main one and then the three flat ones, as an array for each of their numbers.
+pub struct Quantisers {
+    pub base: u32,
+    pub totals: [u32; 4],
+    pub raws: [u32; 4],
+    pub limits: [u32; 4],
+}
+
+// What the coding of a sample goes by: the quantiser, its base, the gradient's sign, and the record's place.
+pub struct Look {
+    pub choice: usize,
+    pub base: u32,
+    pub negative: bool,
+    pub place: usize,
+}
+
+// The two samples at position p of a pass, in lines of w samples of that depth.
+pub struct Spot {
+    pub w: usize,
+    pub bits: u32,
+    pub plan: Plan,
+    pub p: usize,
+}
+
+// Pass i of a line.
+pub fn plan_at(i: usize, xtrans: bool) -> Plan
+    requires { ⌜ i < 6 ⌝ }
+    ensures { λ r. ⌜ r ≡ planOf xtrans i ⌝ }
+{
+    let p = PASSES[i];
+    if xtrans {
+        return p;
+    }
+    Plan {
+        first: p.first,
+        second: p.second,
+        set: p.set,
+        first_rule: NONE,
+        second_rule: NONE,
+    }
+}
+
+// The place before that of position p of a colour line, where its left neighbour stands.
+pub fn left_of(w: usize, line: usize, p: usize) -> usize
+    requires { ⌜ (w ≤ 512) × ((p < w) × ((2 ≤ line) × (line ≤ 17))) ⌝ }
+    ensures { λ r. ⌜ (r ≡ line * (w + 2) + p) × ((2 * (w + 2) ≤ r) × (r + 2 < 18 * (w + 2))) ⌝ }
+{
+    line * (w + 2) + p
+}
+
+// Whether an even position p has a code, by the rule of its line.
+pub fn has_code(rule: u32, p: usize) -> bool
+    ensures { λ r. ⌜ r ≡ not (interpolated rule p) ⌝ }
+{
+    match rule {
+        NONE => true,
+        AT_0_MOD_4 => p % 4 != 0,
+        AT_2_MOD_4 => p % 4 != 2,
+        _ => false,
+    }
+}
+
+// The context of the sample after place i, at an even and at an odd position, in lines that are s apart.
+fn even_context(lines: &[u16], s: usize, i: usize) -> Context
+    requires { ⌜ (s ≤ 514) × ((2 * s ≤ i) × (i + 2 < length (now lines))) ⌝ }
+    ensures { λ r. ⌜ (r ≡ evenAt (now (lines .entry)) s i) × Ranges r ⌝ }
+{
+    prediction::even(
+        u16_to_u32(lines[i + 1 - 2 * s]),
+        u16_to_u32(lines[i - s]),
+        u16_to_u32(lines[i + 1 - s]),
+        u16_to_u32(lines[i + 2 - s]),
+    )
+}
+
+fn odd_context(lines: &[u16], s: usize, i: usize) -> Context
+    requires { ⌜ (s ≤ 514) × ((2 * s ≤ i) × (i + 2 < length (now lines))) ⌝ }
+    ensures { λ r. ⌜ (r ≡ oddAt (now (lines .entry)) s i) × Ranges r ⌝ }
+{
+    prediction::odd(
+        u16_to_u32(lines[i]),
+        u16_to_u32(lines[i + 2]),
+        u16_to_u32(lines[i + 1 - s]),
+        u16_to_u32(lines[i - s]),
+        u16_to_u32(lines[i + 2 - s]),
+    )
+}
+
+// The same for position p. Once this is taken into the loop of a pass, where the parity of p is known, the test is gone.
+pub fn context_at(lines: &[u16], s: usize, i: usize, p: usize) -> Context
+    requires { ⌜ (s ≤ 514) × ((2 * s ≤ i) × (i + 2 < length (now lines))) ⌝ }
+    ensures { λ r. ⌜ (r ≡ contextAt (now (lines .entry)) s i p) × Ranges r ⌝ }
+{
+    if p % 2 == 0 {
+        return even_context(lines, s, i);
+    }
+    odd_context(lines, s, i)
+}
+
+fn used_base(choice: u32, base: u32) -> u32
+    requires { ⌜ (choice ≤ 3) × (base < 256) ⌝ }
+    ensures { λ r. ⌜ (r ≡ usedBase base choice) × (r < 256) ⌝ }
+{
+    if choice == 0 { base } else { choice - 1 }
+}
+
+fn used_weight(choice: u32) -> u32
+    ensures { λ r. ⌜ (r ≡ usedWeight choice) × (r ≤ 9) ⌝ }
+{
+    if choice == 0 { 9 } else { 3 }
+}
+
+fn place_of(choice: u32, size: u32) -> usize
+    requires { ⌜ (choice ≤ 3) × (size ≤ 40) ⌝ }
+    ensures { λ r. ⌜ r ≡ placeOf choice size ⌝ }
+{
+    if choice == 0 {
+        return size as usize;
+    }
+    (36 + 5 * choice + size) as usize
+}
+
+// What a sample's coding goes by. A lossless line, with base 0, comes first: its thresholds are constants there. In a lossy one the thresholds of the
+// line's base serve flat quantisers too, whose differences are small; so only the first threshold waits for the choice.
+pub fn look_of(base: u32, x: Context) -> Look
+    requires { ⌜ (base < 256) × Ranges x ⌝ }
+    ensures { λ r. ⌜ (r ≡ lookOf base x) × ((r .choice ≤ 3) × ((r .base < 256) × (r .place < 56))) ⌝ }
+{
+    if base == 0 {
+        let g = quantiser::gradient(0, 9, x.first, x.second);
+        return Look {
+            choice: 0,
+            base: 0,
+            negative: g.negative,
+            place: g.size as usize,
+        };
+    }
+    let choice = code::choice(base, x.flatness());
+    let used = used_base(choice, base);
+    let t = quantiser::thresholds_of(base).with_base(used);
+    let g = quantiser::gradient_by(t, used_weight(choice), x.first, x.second);
+    Look {
+        choice: choice as usize,
+        base: used,
+        negative: g.negative,
+        place: place_of(choice, g.size),
+    }
+}
+
+// Where the record of a sample at position p is in its set, if it is at that place among the 56 of its parity.
+pub fn slot_of(p: usize, place: usize) -> usize
+    requires { ⌜ place < 56 ⌝ }
+    ensures { λ r. ⌜ (r ≡ slotOf p place) × (r < 112) ⌝ }
+{
+    place + 56 * (p % 2)
+}
+
+// The record at a place of a set.
+pub fn record_at(sums: &[u32; 112], ns: &[u32; 112], slot: usize) -> Record
+    requires { ⌜ (slot < 112) × SetInRange (zipRecords (now sums) (now ns)) ⌝ }
+    ensures { λ r. ⌜ (r ≡ getD (zipRecords (now (sums .entry)) (now (ns .entry))) slot noRecord) × InRange r ⌝ }
+{
+    Record {
+        sum: sums[slot],
+        n: ns[slot],
+    }
+}
+
+// The record that was there is updated by its code.
+pub fn update_at(sums: &mut [u32; 112], ns: &mut [u32; 112], slot: usize, old: Record, code: u32)
+    requires { ⌜ (code < 63 * 2 ^ 15) × ((slot < 112) × InRange old) ⌝ }
+    requires { ⌜ SetInRange (zipRecords (now sums) (now ns)) ⌝ }
+    ensures { λ _. ⌜ zipRecords (now (sums .exit)) (now (ns .exit))
+        ≡ set (zipRecords (now (sums .entry)) (now (ns .entry))) slot (updated old ((residualOf code) .size)) ⌝ }
+    ensures { λ _. ⌜ SetInRange (zipRecords (now (sums .exit)) (now (ns .exit))) ⌝ }
+{
+    let new = old.update(code::residual_size(code));
+    sums[slot] = new.sum;
+    ns[slot] = new.n;
+}
