@@ -4,7 +4,7 @@ use mathlib.Core.Bool.{Bool, true, false, cond, false≢true}
 use mathlib.Core.List.{List, [], _∷_, _++_}
 use mathlib.Core.Option.{Option, none, some}
 use mathlib.Core.Path.{_≡_, refl, sym, ap, _∙_}
-use Prim.Native.Nat.{ℕ, zero, suc, _+_, _≤_, _<_}
+use Prim.Native.Nat.{ℕ, zero, suc, _+_, _-_, _≤_, _<_}
 use native.Mathlib.Nat.{zero-add}
 use native.Mathlib.Numerals.{add-one}
 use native.Mathlib.Omega.{arith}
@@ -57,24 +57,23 @@ unfolding putBits packed
 put-all out [] = refl
 put-all out (b ∷ l) = rw zero-add
 
--- and with the filling: the block of these bits, and what follows it
-fill-all : (out : List ℕ) (l : List Bool) → blockBytes (length l) ≤ length out → filled (length l) (putBits out 0 l) ≡ bytesOf l ++ drop (blockBytes (length l)) out
-unfolding bytesOf
-fill-all out l h =
-    let n : ℕ = length l in
-    let a : ℕ = bytesFor n in
-    let k : ℕ = blockBytes n - bytesFor n in
-    let P : List ℕ = packed a l in
-    let ak : a + k ≡ blockBytes n = omega arith in
-    let long : length P ≡ a = length-packed a l in
-    ap (λ (s : List ℕ). paste s a (replicate k 0) k) (put-all out l)
-    ∙ rw (take-at P (drop a out) a long, take-all k (replicate k 0) (omega (arith, fill-length k)), tail P k a long) (rw (← ak, packed-more a k l (omega arith)))
-  where
-    fill-length : (k : ℕ) → length (replicate {A = ℕ} k 0) ≡ k
-    fill-length k = length-replicate k 0
+-- zeros that are put behind them
+glue : (out P : List ℕ) (a k b : ℕ) → length P ≡ a → a + k ≡ b → paste (P ++ drop a out) a (replicate k 0) k ≡ P ++ replicate k 0 ++ drop b out
+glue out P a k b long e =
+    let zeros : length (replicate {A = ℕ} k 0) ≡ k = length-replicate k 0 in
+    let tail : drop (a + k) (P ++ drop a out) ≡ drop (a + k) out = (rw long at (drop-append-add P (drop a out) k)) ∙ drop-drop k a out in
+    rw (take-at P (drop a out) a long, take-all {A = ℕ} k (replicate k 0) (omega arith), tail, e)
 
-    tail : (P : List ℕ) (k a : ℕ) → length P ≡ a → drop (a + k) (P ++ drop a out) ≡ drop (a + k) out
-    tail P k a long = (rw long at (drop-append-add P (drop a out) k)) ∙ drop-drop k a out
+-- and with the filling: the block of these bits, and what follows it
+fill-all : (out : List ℕ) (l : List Bool) → filled (length l) (putBits out 0 l) ≡ bytesOf l ++ drop (blockBytes (length l)) out
+unfolding bytesOf
+fill-all out l =
+    let n : ℕ = length l in
+    let k : ℕ = blockBytes n - bytesFor n in
+    let e : bytesFor n + (blockBytes n - bytesFor n) ≡ blockBytes n = omega arith in
+    ap (λ (s : List ℕ). paste s (bytesFor n) (replicate k 0) k) (put-all out l)
+    ∙ glue out (packed (bytesFor n) l) (bytesFor n) k (blockBytes n) (length-packed (bytesFor n) l) e
+    ∙ ap (λ (s : List ℕ). s ++ drop (blockBytes n) out) (sym (packed-more (bytesFor n) k l (omega arith)) ∙ ap (λ (m : ℕ). packed m l) e)
 
 -- ---- what the walks say
 
@@ -132,15 +131,14 @@ module _ (F : Form) (count : ℕ) (t out : List ℕ) where
     measured-stored b eb h out₂ r₂ s out₃ e =
         let l : List Bool = (writeLines F t count) .bits in
         let p : IsSetPut none (writeLines F t count) true out₁ out₂ r₂ = rw (k .right) at (s .are) in
-        let f : blockBytes (length l) ≡ n = sym (en ∙ rw (k .position)) in
-        let room : blockBytes (length l) ≤ length out₁ = omega (arith, long-enough b eb h, block-length F count t, ap length (k .kept)) in (
+        let f : blockBytes (length l) ≡ n = sym (en ∙ rw (k .position)) in (
           rw (k .right, le-ltb (length out) (length (tightBlock F count t)) (long-enough b eb h), needed),
-          e ∙ rw (k .position, p .1) (fill-all out₁ l room ∙ rw (k .kept, f)),
+          e ∙ rw (k .position, p .1) (fill-all out₁ l ∙ rw (k .kept, f)),
         )
 
     -- there is room for the filling too
-    pub filling-room : (b : Bool) → b ≡ ltb (length out₁) n → b ≡ false → (m : ℕ) → m ≡ length out₁ → blockBytes (end .0) ≤ m
-    filling-room b eb h m em = let e : ltb (length out₁) n ≡ false = sym eb ∙ h in omega (arith, ltb-false (length out₁) n e)
+    pub filling-room : (b : Bool) → b ≡ ltb (length out₁) n → b ≡ false → blockBytes (end .0) ≤ length out₁
+    filling-room b eb h = let e : ltb (length out₁) n ≡ false = sym eb ∙ h in omega (arith, ltb-false (length out₁) n e)
 
 -- ---- the answer for any set
 

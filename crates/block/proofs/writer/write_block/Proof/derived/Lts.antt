@@ -126,22 +126,26 @@ xs = List._∷_ (Syntax.tyEnum (List._∷_ 115 (List._∷_ 116 (List._∷_ 114 (
     (Syntax.ttcons Syntax.tnil (Syntax.ttcons Syntax.tnil (Syntax.ttcons (Syntax.tcons (Syntax.tyInt Syntax.w64) Syntax.tnil) (Syntax.ttcons Syntax.tnil (Syntax.ttcons Syntax.tnil (Syntax.ttcons
     Syntax.tnil (Syntax.ttcons Syntax.tnil (Syntax.ttcons Syntax.tnil (Syntax.ttcons Syntax.tnil (Syntax.ttcons (Syntax.tcons (Syntax.tyInt Syntax.w64) Syntax.tnil) (Syntax.ttcons (Syntax.tcons
     (Syntax.tyInt Syntax.w64) Syntax.tnil) (Syntax.ttcons Syntax.tnil (Syntax.ttcons (Syntax.tcons (Syntax.tyInt Syntax.w64) (Syntax.tcons (Syntax.tyInt Syntax.w64) Syntax.tnil)) (Syntax.ttcons
-    (Syntax.tcons (Syntax.tyInt Syntax.w64) Syntax.tnil) (Syntax.ttcons Syntax.tnil Syntax.ttnil))))))))))))))))) Syntax.tnil) Syntax.ttnil))) (List._∷_ (Syntax.tyEnum (List._∷_ 115 (List._∷_ 116
-    (List._∷_ 114 (List._∷_ 101 (List._∷_ 97 (List._∷_ 109 (List._∷_ 58 (List._∷_ 58 (List._∷_ 82 (List._∷_ 101 (List._∷_ 102 (List._∷_ 117 (List._∷_ 115 (List._∷_ 97 (List._∷_ 108 List.[])))))))))))))))
-    (Syntax.ttcons Syntax.tnil (Syntax.ttcons Syntax.tnil (Syntax.ttcons Syntax.tnil (Syntax.ttcons (Syntax.tcons (Syntax.tyInt Syntax.w64) Syntax.tnil) (Syntax.ttcons Syntax.tnil (Syntax.ttcons
-    Syntax.tnil (Syntax.ttcons Syntax.tnil (Syntax.ttcons Syntax.tnil (Syntax.ttcons Syntax.tnil (Syntax.ttcons Syntax.tnil (Syntax.ttcons (Syntax.tcons (Syntax.tyInt Syntax.w64) Syntax.tnil)
-    (Syntax.ttcons (Syntax.tcons (Syntax.tyInt Syntax.w64) Syntax.tnil) (Syntax.ttcons Syntax.tnil (Syntax.ttcons (Syntax.tcons (Syntax.tyInt Syntax.w64) (Syntax.tcons (Syntax.tyInt Syntax.w64)
-    Syntax.tnil)) (Syntax.ttcons (Syntax.tcons (Syntax.tyInt Syntax.w64) Syntax.tnil) (Syntax.ttcons Syntax.tnil Syntax.ttnil))))))))))))))))) (List._∷_ y0 (List._∷_ (Syntax.tyInt Syntax.w64) (List._∷_ y4
-    (List._∷_ (Syntax.tyInt Syntax.w64) (List._∷_ (Syntax.tyInt Syntax.w64) (List._∷_ (Syntax.tyInt Syntax.w64) (List._∷_ (Syntax.tyInt Syntax.w64) (List._∷_ (Syntax.tyEnum (List._∷_ 98 (List._∷_ 108
-    (List._∷_ 111 (List._∷_ 99 (List._∷_ 107 (List._∷_ 58 (List._∷_ 58 (List._∷_ 87 (List._∷_ 114 (List._∷_ 105 (List._∷_ 116 (List._∷_ 116 (List._∷_ 101 (List._∷_ 110 List.[])))))))))))))) (Syntax.ttcons
-    (Syntax.tcons (Syntax.tyInt Syntax.w64) Syntax.tnil) (Syntax.ttcons (Syntax.tcons (Syntax.tyEnum (List._∷_ 115 (List._∷_ 116 (List._∷_ 114 (List._∷_ 101 (List._∷_ 97 (List._∷_ 109 (List._∷_ 58
-    (List._∷_ 58 (List._∷_ 82 (List._∷_ 101 (List._∷_ 102 (List._∷_ 117 (List._∷_ 115 (List._∷_ 97 (List._∷_ 108 List.[]))))))))))))))) (Syntax.ttcons Syntax.tnil (Syntax.ttcons Syntax.tnil (Syntax.ttcons
-    Syntax.tnil (Syntax.ttcons (Syntax.tcons (Syntax.tyInt Syntax.w64) Syntax.tnil) (Syntax.ttcons Syntax.tnil (Syntax.ttcons Syntax.tnil (Syntax.ttcons Syntax.tnil (Syntax.ttcons Syntax.tnil
-    (Syntax.ttcons Syntax.tnil (Syntax.ttcons Syntax.tnil (Syntax.ttcons (Syntax.tcons (Syntax.tyInt Syntax.w64) Syntax.tnil) (Syntax.ttcons (Syntax.tcons (Syntax.tyInt Syntax.w64) Syntax.tnil)
-    (Syntax.ttcons Syntax.tnil (Syntax.ttcons (Syntax.tcons (Syntax.tyInt Syntax.w64) (Syntax.tcons (Syntax.tyInt Syntax.w64) Syntax.tnil)) (Syntax.ttcons (Syntax.tcons (Syntax.tyInt Syntax.w64)
-    Syntax.tnil) (Syntax.ttcons Syntax.tnil Syntax.ttnil))))))))))))))))) Syntax.tnil) Syntax.ttnil))) (List._∷_ (Syntax.tyRef Syntax.erased Syntax.mut (Syntax.tyInt Syntax.w8)) (List._∷_ y2 (List._∷_
-    Syntax.tyPtr (List._∷_ (Syntax.tyInt Syntax.w64) (List._∷_ (Syntax.tyRef Syntax.erased Syntax.mut (Syntax.tyInt Syntax.w16)) (List._∷_ y1 (List._∷_ Syntax.tyPtr (List._∷_ (Syntax.tyInt Syntax.w64)
-    (List._∷_ (Syntax.tyRef Syntax.erased Syntax.mut Element.behind) (List._∷_ y3 List.[])))))))))))))))))))
+    (Syntax.tcons (Syntax.tyInt Syntax.w64) Syntax.tnil) (Syntax.ttcons Syntax.tnil (Syntax.ttcons Syntax.tnil (Syntax.ttcons (Syntax.tcons (Syntax.tyInt Syntax.w64) Syntax.tnil) (Syntax.ttcons
+    (Syntax.tcons (Syntax.tyInt Syntax.w64) Syntax.tnil) (Syntax.ttcons (Syntax.tcons (Syntax.tyInt Syntax.w64) Syntax.tnil) (Syntax.ttcons Syntax.tnil Syntax.ttnil)))))))))))))))))))))) Syntax.tnil)
+    Syntax.ttnil))) (List._∷_ (Syntax.tyEnum (List._∷_ 115 (List._∷_ 116 (List._∷_ 114 (List._∷_ 101 (List._∷_ 97 (List._∷_ 109 (List._∷_ 58 (List._∷_ 58 (List._∷_ 82 (List._∷_ 101 (List._∷_ 102 (List._∷_
+    117 (List._∷_ 115 (List._∷_ 97 (List._∷_ 108 List.[]))))))))))))))) (Syntax.ttcons Syntax.tnil (Syntax.ttcons Syntax.tnil (Syntax.ttcons Syntax.tnil (Syntax.ttcons (Syntax.tcons (Syntax.tyInt
+    Syntax.w64) Syntax.tnil) (Syntax.ttcons Syntax.tnil (Syntax.ttcons Syntax.tnil (Syntax.ttcons Syntax.tnil (Syntax.ttcons Syntax.tnil (Syntax.ttcons Syntax.tnil (Syntax.ttcons Syntax.tnil
+    (Syntax.ttcons (Syntax.tcons (Syntax.tyInt Syntax.w64) Syntax.tnil) (Syntax.ttcons (Syntax.tcons (Syntax.tyInt Syntax.w64) Syntax.tnil) (Syntax.ttcons Syntax.tnil (Syntax.ttcons (Syntax.tcons
+    (Syntax.tyInt Syntax.w64) (Syntax.tcons (Syntax.tyInt Syntax.w64) Syntax.tnil)) (Syntax.ttcons (Syntax.tcons (Syntax.tyInt Syntax.w64) Syntax.tnil) (Syntax.ttcons Syntax.tnil (Syntax.ttcons
+    Syntax.tnil (Syntax.ttcons (Syntax.tcons (Syntax.tyInt Syntax.w64) Syntax.tnil) (Syntax.ttcons (Syntax.tcons (Syntax.tyInt Syntax.w64) Syntax.tnil) (Syntax.ttcons (Syntax.tcons (Syntax.tyInt
+    Syntax.w64) Syntax.tnil) (Syntax.ttcons Syntax.tnil Syntax.ttnil)))))))))))))))))))))) (List._∷_ y0 (List._∷_ (Syntax.tyInt Syntax.w64) (List._∷_ y4 (List._∷_ (Syntax.tyInt Syntax.w64) (List._∷_
+    (Syntax.tyInt Syntax.w64) (List._∷_ (Syntax.tyInt Syntax.w64) (List._∷_ (Syntax.tyInt Syntax.w64) (List._∷_ (Syntax.tyEnum (List._∷_ 98 (List._∷_ 108 (List._∷_ 111 (List._∷_ 99 (List._∷_ 107 (List._∷_
+    58 (List._∷_ 58 (List._∷_ 87 (List._∷_ 114 (List._∷_ 105 (List._∷_ 116 (List._∷_ 116 (List._∷_ 101 (List._∷_ 110 List.[])))))))))))))) (Syntax.ttcons (Syntax.tcons (Syntax.tyInt Syntax.w64)
+    Syntax.tnil) (Syntax.ttcons (Syntax.tcons (Syntax.tyEnum (List._∷_ 115 (List._∷_ 116 (List._∷_ 114 (List._∷_ 101 (List._∷_ 97 (List._∷_ 109 (List._∷_ 58 (List._∷_ 58 (List._∷_ 82 (List._∷_ 101
+    (List._∷_ 102 (List._∷_ 117 (List._∷_ 115 (List._∷_ 97 (List._∷_ 108 List.[]))))))))))))))) (Syntax.ttcons Syntax.tnil (Syntax.ttcons Syntax.tnil (Syntax.ttcons Syntax.tnil (Syntax.ttcons
+    (Syntax.tcons (Syntax.tyInt Syntax.w64) Syntax.tnil) (Syntax.ttcons Syntax.tnil (Syntax.ttcons Syntax.tnil (Syntax.ttcons Syntax.tnil (Syntax.ttcons Syntax.tnil (Syntax.ttcons Syntax.tnil
+    (Syntax.ttcons Syntax.tnil (Syntax.ttcons (Syntax.tcons (Syntax.tyInt Syntax.w64) Syntax.tnil) (Syntax.ttcons (Syntax.tcons (Syntax.tyInt Syntax.w64) Syntax.tnil) (Syntax.ttcons Syntax.tnil
+    (Syntax.ttcons (Syntax.tcons (Syntax.tyInt Syntax.w64) (Syntax.tcons (Syntax.tyInt Syntax.w64) Syntax.tnil)) (Syntax.ttcons (Syntax.tcons (Syntax.tyInt Syntax.w64) Syntax.tnil) (Syntax.ttcons
+    Syntax.tnil (Syntax.ttcons Syntax.tnil (Syntax.ttcons (Syntax.tcons (Syntax.tyInt Syntax.w64) Syntax.tnil) (Syntax.ttcons (Syntax.tcons (Syntax.tyInt Syntax.w64) Syntax.tnil) (Syntax.ttcons
+    (Syntax.tcons (Syntax.tyInt Syntax.w64) Syntax.tnil) (Syntax.ttcons Syntax.tnil Syntax.ttnil)))))))))))))))))))))) Syntax.tnil) Syntax.ttnil))) (List._∷_ (Syntax.tyRef Syntax.erased Syntax.mut
+    (Syntax.tyInt Syntax.w8)) (List._∷_ y2 (List._∷_ Syntax.tyPtr (List._∷_ (Syntax.tyInt Syntax.w64) (List._∷_ (Syntax.tyRef Syntax.erased Syntax.mut (Syntax.tyInt Syntax.w16)) (List._∷_ y1 (List._∷_
+    Syntax.tyPtr (List._∷_ (Syntax.tyInt Syntax.w64) (List._∷_ (Syntax.tyRef Syntax.erased Syntax.mut Element.behind) (List._∷_ y3 List.[])))))))))))))))))))
 
 abbrev pub m : Nat.ℕ
 m = 3
@@ -438,7 +442,9 @@ e0 = (
       (Syntax.ttcons Syntax.tnil (Syntax.ttcons Syntax.tnil (Syntax.ttcons Syntax.tnil (Syntax.ttcons (Syntax.tcons (Syntax.tyInt Syntax.w64) Syntax.tnil) (Syntax.ttcons Syntax.tnil (Syntax.ttcons
       Syntax.tnil (Syntax.ttcons Syntax.tnil (Syntax.ttcons Syntax.tnil (Syntax.ttcons Syntax.tnil (Syntax.ttcons Syntax.tnil (Syntax.ttcons (Syntax.tcons (Syntax.tyInt Syntax.w64) Syntax.tnil)
       (Syntax.ttcons (Syntax.tcons (Syntax.tyInt Syntax.w64) Syntax.tnil) (Syntax.ttcons Syntax.tnil (Syntax.ttcons (Syntax.tcons (Syntax.tyInt Syntax.w64) (Syntax.tcons (Syntax.tyInt Syntax.w64)
-      Syntax.tnil)) (Syntax.ttcons (Syntax.tcons (Syntax.tyInt Syntax.w64) Syntax.tnil) (Syntax.ttcons Syntax.tnil Syntax.ttnil))))))))))))))))) Syntax.tnil) Syntax.ttnil))),
+      Syntax.tnil)) (Syntax.ttcons (Syntax.tcons (Syntax.tyInt Syntax.w64) Syntax.tnil) (Syntax.ttcons Syntax.tnil (Syntax.ttcons Syntax.tnil (Syntax.ttcons (Syntax.tcons (Syntax.tyInt Syntax.w64)
+      Syntax.tnil) (Syntax.ttcons (Syntax.tcons (Syntax.tyInt Syntax.w64) Syntax.tnil) (Syntax.ttcons (Syntax.tcons (Syntax.tyInt Syntax.w64) Syntax.tnil) (Syntax.ttcons Syntax.tnil
+      Syntax.ttnil)))))))))))))))))))))) Syntax.tnil) Syntax.ttnil))),
 )
 
 abbrev pub e1 : Row.Entry
@@ -486,7 +492,9 @@ e13 = (
       (Syntax.ttcons Syntax.tnil (Syntax.ttcons Syntax.tnil (Syntax.ttcons Syntax.tnil (Syntax.ttcons (Syntax.tcons (Syntax.tyInt Syntax.w64) Syntax.tnil) (Syntax.ttcons Syntax.tnil (Syntax.ttcons
       Syntax.tnil (Syntax.ttcons Syntax.tnil (Syntax.ttcons Syntax.tnil (Syntax.ttcons Syntax.tnil (Syntax.ttcons Syntax.tnil (Syntax.ttcons (Syntax.tcons (Syntax.tyInt Syntax.w64) Syntax.tnil)
       (Syntax.ttcons (Syntax.tcons (Syntax.tyInt Syntax.w64) Syntax.tnil) (Syntax.ttcons Syntax.tnil (Syntax.ttcons (Syntax.tcons (Syntax.tyInt Syntax.w64) (Syntax.tcons (Syntax.tyInt Syntax.w64)
-      Syntax.tnil)) (Syntax.ttcons (Syntax.tcons (Syntax.tyInt Syntax.w64) Syntax.tnil) (Syntax.ttcons Syntax.tnil Syntax.ttnil))))))))))))))))) Syntax.tnil) Syntax.ttnil))),
+      Syntax.tnil)) (Syntax.ttcons (Syntax.tcons (Syntax.tyInt Syntax.w64) Syntax.tnil) (Syntax.ttcons Syntax.tnil (Syntax.ttcons Syntax.tnil (Syntax.ttcons (Syntax.tcons (Syntax.tyInt Syntax.w64)
+      Syntax.tnil) (Syntax.ttcons (Syntax.tcons (Syntax.tyInt Syntax.w64) Syntax.tnil) (Syntax.ttcons (Syntax.tcons (Syntax.tyInt Syntax.w64) Syntax.tnil) (Syntax.ttcons Syntax.tnil
+      Syntax.ttnil)))))))))))))))))))))) Syntax.tnil) Syntax.ttnil))),
 )
 
 abbrev pub e14 : Row.Entry
@@ -585,7 +593,9 @@ e43 = (
       (Syntax.ttcons Syntax.tnil (Syntax.ttcons Syntax.tnil (Syntax.ttcons (Syntax.tcons (Syntax.tyInt Syntax.w64) Syntax.tnil) (Syntax.ttcons Syntax.tnil (Syntax.ttcons Syntax.tnil (Syntax.ttcons
       Syntax.tnil (Syntax.ttcons Syntax.tnil (Syntax.ttcons Syntax.tnil (Syntax.ttcons Syntax.tnil (Syntax.ttcons (Syntax.tcons (Syntax.tyInt Syntax.w64) Syntax.tnil) (Syntax.ttcons (Syntax.tcons
       (Syntax.tyInt Syntax.w64) Syntax.tnil) (Syntax.ttcons Syntax.tnil (Syntax.ttcons (Syntax.tcons (Syntax.tyInt Syntax.w64) (Syntax.tcons (Syntax.tyInt Syntax.w64) Syntax.tnil)) (Syntax.ttcons
-      (Syntax.tcons (Syntax.tyInt Syntax.w64) Syntax.tnil) (Syntax.ttcons Syntax.tnil Syntax.ttnil))))))))))))))))) Syntax.tnil) Syntax.ttnil))),
+      (Syntax.tcons (Syntax.tyInt Syntax.w64) Syntax.tnil) (Syntax.ttcons Syntax.tnil (Syntax.ttcons Syntax.tnil (Syntax.ttcons (Syntax.tcons (Syntax.tyInt Syntax.w64) Syntax.tnil) (Syntax.ttcons
+      (Syntax.tcons (Syntax.tyInt Syntax.w64) Syntax.tnil) (Syntax.ttcons (Syntax.tcons (Syntax.tyInt Syntax.w64) Syntax.tnil) (Syntax.ttcons Syntax.tnil Syntax.ttnil)))))))))))))))))))))) Syntax.tnil)
+      Syntax.ttnil))),
 )
 
 abbrev pub e44 : Row.Entry
@@ -604,7 +614,9 @@ e47 = (
       (List._∷_ 115 (List._∷_ 97 (List._∷_ 108 List.[]))))))))))))))) (Syntax.ttcons Syntax.tnil (Syntax.ttcons Syntax.tnil (Syntax.ttcons Syntax.tnil (Syntax.ttcons (Syntax.tcons (Syntax.tyInt Syntax.w64)
       Syntax.tnil) (Syntax.ttcons Syntax.tnil (Syntax.ttcons Syntax.tnil (Syntax.ttcons Syntax.tnil (Syntax.ttcons Syntax.tnil (Syntax.ttcons Syntax.tnil (Syntax.ttcons Syntax.tnil (Syntax.ttcons
       (Syntax.tcons (Syntax.tyInt Syntax.w64) Syntax.tnil) (Syntax.ttcons (Syntax.tcons (Syntax.tyInt Syntax.w64) Syntax.tnil) (Syntax.ttcons Syntax.tnil (Syntax.ttcons (Syntax.tcons (Syntax.tyInt
-      Syntax.w64) (Syntax.tcons (Syntax.tyInt Syntax.w64) Syntax.tnil)) (Syntax.ttcons (Syntax.tcons (Syntax.tyInt Syntax.w64) Syntax.tnil) (Syntax.ttcons Syntax.tnil Syntax.ttnil))))))))))))))))),
+      Syntax.w64) (Syntax.tcons (Syntax.tyInt Syntax.w64) Syntax.tnil)) (Syntax.ttcons (Syntax.tcons (Syntax.tyInt Syntax.w64) Syntax.tnil) (Syntax.ttcons Syntax.tnil (Syntax.ttcons Syntax.tnil
+      (Syntax.ttcons (Syntax.tcons (Syntax.tyInt Syntax.w64) Syntax.tnil) (Syntax.ttcons (Syntax.tcons (Syntax.tyInt Syntax.w64) Syntax.tnil) (Syntax.ttcons (Syntax.tcons (Syntax.tyInt Syntax.w64)
+      Syntax.tnil) (Syntax.ttcons Syntax.tnil Syntax.ttnil)))))))))))))))))))))),
 )
 
 abbrev pub e48 : Row.Entry
@@ -998,7 +1010,9 @@ module _ (claims· : Claims) where
       (Syntax.ttcons Syntax.tnil (Syntax.ttcons Syntax.tnil (Syntax.ttcons (Syntax.tcons (Syntax.tyInt Syntax.w64) Syntax.tnil) (Syntax.ttcons Syntax.tnil (Syntax.ttcons Syntax.tnil (Syntax.ttcons
       Syntax.tnil (Syntax.ttcons Syntax.tnil (Syntax.ttcons Syntax.tnil (Syntax.ttcons Syntax.tnil (Syntax.ttcons (Syntax.tcons (Syntax.tyInt Syntax.w64) Syntax.tnil) (Syntax.ttcons (Syntax.tcons
       (Syntax.tyInt Syntax.w64) Syntax.tnil) (Syntax.ttcons Syntax.tnil (Syntax.ttcons (Syntax.tcons (Syntax.tyInt Syntax.w64) (Syntax.tcons (Syntax.tyInt Syntax.w64) Syntax.tnil)) (Syntax.ttcons
-      (Syntax.tcons (Syntax.tyInt Syntax.w64) Syntax.tnil) (Syntax.ttcons Syntax.tnil Syntax.ttnil))))))))))))))))) Syntax.tnil) Syntax.ttnil)))
+      (Syntax.tcons (Syntax.tyInt Syntax.w64) Syntax.tnil) (Syntax.ttcons Syntax.tnil (Syntax.ttcons Syntax.tnil (Syntax.ttcons (Syntax.tcons (Syntax.tyInt Syntax.w64) Syntax.tnil) (Syntax.ttcons
+      (Syntax.tcons (Syntax.tyInt Syntax.w64) Syntax.tnil) (Syntax.ttcons (Syntax.tcons (Syntax.tyInt Syntax.w64) Syntax.tnil) (Syntax.ttcons Syntax.tnil Syntax.ttnil)))))))))))))))))))))) Syntax.tnil)
+      Syntax.ttnil)))
 
   abbrev s8 : Typed.Mo T9 → Typed.Mo T11
   s8 = Scalar.n-room T9 12 (Syntax.tyInt Syntax.w64)
@@ -1025,7 +1039,9 @@ module _ (claims· : Claims) where
       (Syntax.ttcons Syntax.tnil (Syntax.ttcons Syntax.tnil (Syntax.ttcons Syntax.tnil (Syntax.ttcons (Syntax.tcons (Syntax.tyInt Syntax.w64) Syntax.tnil) (Syntax.ttcons Syntax.tnil (Syntax.ttcons
       Syntax.tnil (Syntax.ttcons Syntax.tnil (Syntax.ttcons Syntax.tnil (Syntax.ttcons Syntax.tnil (Syntax.ttcons Syntax.tnil (Syntax.ttcons (Syntax.tcons (Syntax.tyInt Syntax.w64) Syntax.tnil)
       (Syntax.ttcons (Syntax.tcons (Syntax.tyInt Syntax.w64) Syntax.tnil) (Syntax.ttcons Syntax.tnil (Syntax.ttcons (Syntax.tcons (Syntax.tyInt Syntax.w64) (Syntax.tcons (Syntax.tyInt Syntax.w64)
-      Syntax.tnil)) (Syntax.ttcons (Syntax.tcons (Syntax.tyInt Syntax.w64) Syntax.tnil) (Syntax.ttcons Syntax.tnil Syntax.ttnil))))))))))))))))) Syntax.tnil) Syntax.ttnil)))
+      Syntax.tnil)) (Syntax.ttcons (Syntax.tcons (Syntax.tyInt Syntax.w64) Syntax.tnil) (Syntax.ttcons Syntax.tnil (Syntax.ttcons Syntax.tnil (Syntax.ttcons (Syntax.tcons (Syntax.tyInt Syntax.w64)
+      Syntax.tnil) (Syntax.ttcons (Syntax.tcons (Syntax.tyInt Syntax.w64) Syntax.tnil) (Syntax.ttcons (Syntax.tcons (Syntax.tyInt Syntax.w64) Syntax.tnil) (Syntax.ttcons Syntax.tnil
+      Syntax.ttnil)))))))))))))))))))))) Syntax.tnil) Syntax.ttnil)))
 
   abbrev s15 : Typed.Mo T17 → Typed.Mo T18
   s15 = Make.n-enum-make Written.the-type T17 15 λ m. Written.enum .make (Logic.inr (Logic.inl (m .1 .1 .1 .1 .1 .1 .1 .0, tt)))
@@ -1036,7 +1052,8 @@ module _ (claims· : Claims) where
       (Syntax.tyInt Syntax.w64) Syntax.tnil) (Syntax.ttcons Syntax.tnil (Syntax.ttcons Syntax.tnil (Syntax.ttcons Syntax.tnil (Syntax.ttcons Syntax.tnil (Syntax.ttcons Syntax.tnil (Syntax.ttcons
       Syntax.tnil (Syntax.ttcons (Syntax.tcons (Syntax.tyInt Syntax.w64) Syntax.tnil) (Syntax.ttcons (Syntax.tcons (Syntax.tyInt Syntax.w64) Syntax.tnil) (Syntax.ttcons Syntax.tnil (Syntax.ttcons
       (Syntax.tcons (Syntax.tyInt Syntax.w64) (Syntax.tcons (Syntax.tyInt Syntax.w64) Syntax.tnil)) (Syntax.ttcons (Syntax.tcons (Syntax.tyInt Syntax.w64) Syntax.tnil) (Syntax.ttcons Syntax.tnil
-      Syntax.ttnil)))))))))))))))))
+      (Syntax.ttcons Syntax.tnil (Syntax.ttcons (Syntax.tcons (Syntax.tyInt Syntax.w64) Syntax.tnil) (Syntax.ttcons (Syntax.tcons (Syntax.tyInt Syntax.w64) Syntax.tnil) (Syntax.ttcons (Syntax.tcons
+      (Syntax.tyInt Syntax.w64) Syntax.tnil) (Syntax.ttcons Syntax.tnil Syntax.ttnil))))))))))))))))))))))
 
   abbrev s17 : Typed.Both T13 T20
   s17 = Known.k-enum-known Parsed.enum 0 T13 6 λ x. x
@@ -1054,7 +1071,9 @@ module _ (claims· : Claims) where
       (Syntax.ttcons Syntax.tnil (Syntax.ttcons Syntax.tnil (Syntax.ttcons Syntax.tnil (Syntax.ttcons (Syntax.tcons (Syntax.tyInt Syntax.w64) Syntax.tnil) (Syntax.ttcons Syntax.tnil (Syntax.ttcons
       Syntax.tnil (Syntax.ttcons Syntax.tnil (Syntax.ttcons Syntax.tnil (Syntax.ttcons Syntax.tnil (Syntax.ttcons Syntax.tnil (Syntax.ttcons (Syntax.tcons (Syntax.tyInt Syntax.w64) Syntax.tnil)
       (Syntax.ttcons (Syntax.tcons (Syntax.tyInt Syntax.w64) Syntax.tnil) (Syntax.ttcons Syntax.tnil (Syntax.ttcons (Syntax.tcons (Syntax.tyInt Syntax.w64) (Syntax.tcons (Syntax.tyInt Syntax.w64)
-      Syntax.tnil)) (Syntax.ttcons (Syntax.tcons (Syntax.tyInt Syntax.w64) Syntax.tnil) (Syntax.ttcons Syntax.tnil Syntax.ttnil))))))))))))))))) Syntax.tnil) Syntax.ttnil)))
+      Syntax.tnil)) (Syntax.ttcons (Syntax.tcons (Syntax.tyInt Syntax.w64) Syntax.tnil) (Syntax.ttcons Syntax.tnil (Syntax.ttcons Syntax.tnil (Syntax.ttcons (Syntax.tcons (Syntax.tyInt Syntax.w64)
+      Syntax.tnil) (Syntax.ttcons (Syntax.tcons (Syntax.tyInt Syntax.w64) Syntax.tnil) (Syntax.ttcons (Syntax.tcons (Syntax.tyInt Syntax.w64) Syntax.tnil) (Syntax.ttcons Syntax.tnil
+      Syntax.ttnil)))))))))))))))))))))) Syntax.tnil) Syntax.ttnil)))
 
   abbrev s21 : Typed.Both T23 T24
   s21 = Call.callB ps·1 r·1 (claims· .2) (claims· .3) T23 (Bool.bFld 8 (List._∷_ (Syntax.field 1) List.[]) 1 λ x. FujiHeader.struct .as-values x .1 .0, tt) 9 List.[] (Syntax.tyInt Syntax.w64)
@@ -1136,8 +1155,9 @@ module _ (claims· : Claims) where
       (List._∷_ 108 List.[]))))))))))))))) (Syntax.ttcons Syntax.tnil (Syntax.ttcons Syntax.tnil (Syntax.ttcons Syntax.tnil (Syntax.ttcons (Syntax.tcons (Syntax.tyInt Syntax.w64) Syntax.tnil)
       (Syntax.ttcons Syntax.tnil (Syntax.ttcons Syntax.tnil (Syntax.ttcons Syntax.tnil (Syntax.ttcons Syntax.tnil (Syntax.ttcons Syntax.tnil (Syntax.ttcons Syntax.tnil (Syntax.ttcons (Syntax.tcons
       (Syntax.tyInt Syntax.w64) Syntax.tnil) (Syntax.ttcons (Syntax.tcons (Syntax.tyInt Syntax.w64) Syntax.tnil) (Syntax.ttcons Syntax.tnil (Syntax.ttcons (Syntax.tcons (Syntax.tyInt Syntax.w64)
-      (Syntax.tcons (Syntax.tyInt Syntax.w64) Syntax.tnil)) (Syntax.ttcons (Syntax.tcons (Syntax.tyInt Syntax.w64) Syntax.tnil) (Syntax.ttcons Syntax.tnil Syntax.ttnil))))))))))))))))) Syntax.tnil)
-      Syntax.ttnil)))
+      (Syntax.tcons (Syntax.tyInt Syntax.w64) Syntax.tnil)) (Syntax.ttcons (Syntax.tcons (Syntax.tyInt Syntax.w64) Syntax.tnil) (Syntax.ttcons Syntax.tnil (Syntax.ttcons Syntax.tnil (Syntax.ttcons
+      (Syntax.tcons (Syntax.tyInt Syntax.w64) Syntax.tnil) (Syntax.ttcons (Syntax.tcons (Syntax.tyInt Syntax.w64) Syntax.tnil) (Syntax.ttcons (Syntax.tcons (Syntax.tyInt Syntax.w64) Syntax.tnil)
+      (Syntax.ttcons Syntax.tnil Syntax.ttnil)))))))))))))))))))))) Syntax.tnil) Syntax.ttnil)))
 
   abbrev s43 : Typed.Mo T45 → Typed.Mo T46
   s43 = Scalar.n-room T45 9 (Syntax.tyInt Syntax.w64)
@@ -1175,7 +1195,9 @@ module _ (claims· : Claims) where
       List.[]))))))))))))))) (Syntax.ttcons Syntax.tnil (Syntax.ttcons Syntax.tnil (Syntax.ttcons Syntax.tnil (Syntax.ttcons (Syntax.tcons (Syntax.tyInt Syntax.w64) Syntax.tnil) (Syntax.ttcons Syntax.tnil
       (Syntax.ttcons Syntax.tnil (Syntax.ttcons Syntax.tnil (Syntax.ttcons Syntax.tnil (Syntax.ttcons Syntax.tnil (Syntax.ttcons Syntax.tnil (Syntax.ttcons (Syntax.tcons (Syntax.tyInt Syntax.w64)
       Syntax.tnil) (Syntax.ttcons (Syntax.tcons (Syntax.tyInt Syntax.w64) Syntax.tnil) (Syntax.ttcons Syntax.tnil (Syntax.ttcons (Syntax.tcons (Syntax.tyInt Syntax.w64) (Syntax.tcons (Syntax.tyInt
-      Syntax.w64) Syntax.tnil)) (Syntax.ttcons (Syntax.tcons (Syntax.tyInt Syntax.w64) Syntax.tnil) (Syntax.ttcons Syntax.tnil Syntax.ttnil))))))))))))))))) Syntax.tnil) Syntax.ttnil)))
+      Syntax.w64) Syntax.tnil)) (Syntax.ttcons (Syntax.tcons (Syntax.tyInt Syntax.w64) Syntax.tnil) (Syntax.ttcons Syntax.tnil (Syntax.ttcons Syntax.tnil (Syntax.ttcons (Syntax.tcons (Syntax.tyInt
+      Syntax.w64) Syntax.tnil) (Syntax.ttcons (Syntax.tcons (Syntax.tyInt Syntax.w64) Syntax.tnil) (Syntax.ttcons (Syntax.tcons (Syntax.tyInt Syntax.w64) Syntax.tnil) (Syntax.ttcons Syntax.tnil
+      Syntax.ttnil)))))))))))))))))))))) Syntax.tnil) Syntax.ttnil)))
 
   module _ (Pre· : (κs : Lifetimes.Lfts 5) → Kinds.Dens κs ps → Type 0) (Post· : (κs : Lifetimes.Lfts 5) → (a : Kinds.Dens κs ps) → Kinds.Plain 5 ps r κs) where
     module _ (M : Type 1) where
@@ -1847,20 +1869,53 @@ module _ (claims· : Claims) where
               List.[]))))))))))))))) (Syntax.ttcons Syntax.tnil (Syntax.ttcons Syntax.tnil (Syntax.ttcons Syntax.tnil (Syntax.ttcons (Syntax.tcons (Syntax.tyInt Syntax.w64) Syntax.tnil) (Syntax.ttcons
               Syntax.tnil (Syntax.ttcons Syntax.tnil (Syntax.ttcons Syntax.tnil (Syntax.ttcons Syntax.tnil (Syntax.ttcons Syntax.tnil (Syntax.ttcons Syntax.tnil (Syntax.ttcons (Syntax.tcons (Syntax.tyInt
               Syntax.w64) Syntax.tnil) (Syntax.ttcons (Syntax.tcons (Syntax.tyInt Syntax.w64) Syntax.tnil) (Syntax.ttcons Syntax.tnil (Syntax.ttcons (Syntax.tcons (Syntax.tyInt Syntax.w64) (Syntax.tcons
-              (Syntax.tyInt Syntax.w64) Syntax.tnil)) (Syntax.ttcons (Syntax.tcons (Syntax.tyInt Syntax.w64) Syntax.tnil) (Syntax.ttcons Syntax.tnil Syntax.ttnil))))))))))))))))) (Laws'5.val
-              Refusal.the-type Laws'4.the-laws)) List.[])) (λ m. Written.enum .make (Logic.inr (Logic.inl (m .1 .1 .1 .1 .1 .1 .1 .0, tt)))) (Reads'.room-gone 𝓤 H A (Syntax.tyEnum (List._∷_ 98 (List._∷_
-              108 (List._∷_ 111 (List._∷_ 99 (List._∷_ 107 (List._∷_ 58 (List._∷_ 58 (List._∷_ 87 (List._∷_ 114 (List._∷_ 105 (List._∷_ 116 (List._∷_ 116 (List._∷_ 101 (List._∷_ 110 List.[]))))))))))))))
-              (Syntax.ttcons (Syntax.tcons (Syntax.tyInt Syntax.w64) Syntax.tnil) (Syntax.ttcons (Syntax.tcons (Syntax.tyEnum (List._∷_ 115 (List._∷_ 116 (List._∷_ 114 (List._∷_ 101 (List._∷_ 97 (List._∷_
-              109 (List._∷_ 58 (List._∷_ 58 (List._∷_ 82 (List._∷_ 101 (List._∷_ 102 (List._∷_ 117 (List._∷_ 115 (List._∷_ 97 (List._∷_ 108 List.[]))))))))))))))) (Syntax.ttcons Syntax.tnil (Syntax.ttcons
-              Syntax.tnil (Syntax.ttcons Syntax.tnil (Syntax.ttcons (Syntax.tcons (Syntax.tyInt Syntax.w64) Syntax.tnil) (Syntax.ttcons Syntax.tnil (Syntax.ttcons Syntax.tnil (Syntax.ttcons Syntax.tnil
-              (Syntax.ttcons Syntax.tnil (Syntax.ttcons Syntax.tnil (Syntax.ttcons Syntax.tnil (Syntax.ttcons (Syntax.tcons (Syntax.tyInt Syntax.w64) Syntax.tnil) (Syntax.ttcons (Syntax.tcons
-              (Syntax.tyInt Syntax.w64) Syntax.tnil) (Syntax.ttcons Syntax.tnil (Syntax.ttcons (Syntax.tcons (Syntax.tyInt Syntax.w64) (Syntax.tcons (Syntax.tyInt Syntax.w64) Syntax.tnil)) (Syntax.ttcons
-              (Syntax.tcons (Syntax.tyInt Syntax.w64) Syntax.tnil) (Syntax.ttcons Syntax.tnil Syntax.ttnil))))))))))))))))) Syntax.tnil) Syntax.ttnil))))
-              (tt, ((Whole.reads-enum 𝓤 H A W Refusal.the-type Laws'4.the-laws, Path'.refl), tt)) Path'.refl (λ m wa. Make.made-val Written.the-type Laws'.the-laws (List._∷_ (Laws'5.val Refusal.the-type
-              Laws'4.the-laws (m .1 .1 .1 .1 .1 .1 .1 .0)) List.[]) (Written.enum .make (Logic.inr (Logic.inl (m .1 .1 .1 .1 .1 .1 .1 .0, tt)))) (
+              (Syntax.tyInt Syntax.w64) Syntax.tnil)) (Syntax.ttcons (Syntax.tcons (Syntax.tyInt Syntax.w64) Syntax.tnil) (Syntax.ttcons Syntax.tnil (Syntax.ttcons Syntax.tnil (Syntax.ttcons (Syntax.tcons
+              (Syntax.tyInt Syntax.w64) Syntax.tnil) (Syntax.ttcons (Syntax.tcons (Syntax.tyInt Syntax.w64) Syntax.tnil) (Syntax.ttcons (Syntax.tcons (Syntax.tyInt Syntax.w64) Syntax.tnil) (Syntax.ttcons
+              Syntax.tnil Syntax.ttnil)))))))))))))))))))))) (Laws'5.val Refusal.the-type Laws'4.the-laws)) List.[])) (λ m. Written.enum .make (Logic.inr (Logic.inl (m .1 .1 .1 .1 .1 .1 .1 .0, tt))))
+              (Reads'.room-gone 𝓤 H A (Syntax.tyEnum (List._∷_ 98 (List._∷_ 108 (List._∷_ 111 (List._∷_ 99 (List._∷_ 107 (List._∷_ 58 (List._∷_ 58 (List._∷_ 87 (List._∷_ 114 (List._∷_ 105 (List._∷_ 116
+              (List._∷_ 116 (List._∷_ 101 (List._∷_ 110 List.[])))))))))))))) (Syntax.ttcons (Syntax.tcons (Syntax.tyInt Syntax.w64) Syntax.tnil) (Syntax.ttcons (Syntax.tcons (Syntax.tyEnum (List._∷_ 115
+              (List._∷_ 116 (List._∷_ 114 (List._∷_ 101 (List._∷_ 97 (List._∷_ 109 (List._∷_ 58 (List._∷_ 58 (List._∷_ 82 (List._∷_ 101 (List._∷_ 102 (List._∷_ 117 (List._∷_ 115 (List._∷_ 97 (List._∷_ 108
+              List.[]))))))))))))))) (Syntax.ttcons Syntax.tnil (Syntax.ttcons Syntax.tnil (Syntax.ttcons Syntax.tnil (Syntax.ttcons (Syntax.tcons (Syntax.tyInt Syntax.w64) Syntax.tnil) (Syntax.ttcons
+              Syntax.tnil (Syntax.ttcons Syntax.tnil (Syntax.ttcons Syntax.tnil (Syntax.ttcons Syntax.tnil (Syntax.ttcons Syntax.tnil (Syntax.ttcons Syntax.tnil (Syntax.ttcons (Syntax.tcons (Syntax.tyInt
+              Syntax.w64) Syntax.tnil) (Syntax.ttcons (Syntax.tcons (Syntax.tyInt Syntax.w64) Syntax.tnil) (Syntax.ttcons Syntax.tnil (Syntax.ttcons (Syntax.tcons (Syntax.tyInt Syntax.w64) (Syntax.tcons
+              (Syntax.tyInt Syntax.w64) Syntax.tnil)) (Syntax.ttcons (Syntax.tcons (Syntax.tyInt Syntax.w64) Syntax.tnil) (Syntax.ttcons Syntax.tnil (Syntax.ttcons Syntax.tnil (Syntax.ttcons (Syntax.tcons
+              (Syntax.tyInt Syntax.w64) Syntax.tnil) (Syntax.ttcons (Syntax.tcons (Syntax.tyInt Syntax.w64) Syntax.tnil) (Syntax.ttcons (Syntax.tcons (Syntax.tyInt Syntax.w64) Syntax.tnil) (Syntax.ttcons
+              Syntax.tnil Syntax.ttnil)))))))))))))))))))))) Syntax.tnil) Syntax.ttnil)))) (tt, ((Whole.reads-enum 𝓤 H A W Refusal.the-type Laws'4.the-laws, Path'.refl), tt)) Path'.refl (λ m wa.
+              Make.made-val Written.the-type Laws'.the-laws (List._∷_ (Laws'5.val Refusal.the-type Laws'4.the-laws (m .1 .1 .1 .1 .1 .1 .1 .0)) List.[]) (Written.enum .make (Logic.inr (Logic.inl
+              (m .1 .1 .1 .1 .1 .1 .1 .0, tt)))) (
                 Signed.made-wt Refusal.the-field Laws'4.the-field-laws (Whole.enum-wt Refusal.the-type Laws'4.the-laws (
                   tt,
-                  (tt, (tt, ((Make'.u64-wt, tt), (tt, (tt, (tt, (tt, (tt, (tt, ((Make'.u64-wt, tt), ((Make'.u64-wt, tt), (tt, ((Make'.u64-wt, (Make'.u64-wt, tt)), ((Make'.u64-wt, tt), (tt, tt))))))))))))))),
+                  (
+                    tt,
+                    (
+                      tt,
+                      (
+                        (Make'.u64-wt, tt),
+                        (
+                          tt,
+                          (
+                            tt,
+                            (
+                              tt,
+                              (
+                                tt,
+                                (
+                                  tt,
+                                  (
+                                    tt,
+                                    (
+                                      (Make'.u64-wt, tt),
+                                      ((Make'.u64-wt, tt), (tt, ((Make'.u64-wt, (Make'.u64-wt, tt)), ((Make'.u64-wt, tt), (tt, (tt, ((Make'.u64-wt, tt), ((Make'.u64-wt, tt), ((Make'.u64-wt, tt), (tt, tt)))))))))),
+                                    ),
+                                  ),
+                                ),
+                              ),
+                            ),
+                          ),
+                        ),
+                      ),
+                    ),
+                  ),
                 ))
                     (Refusal.the-type .to (m .1 .1 .1 .1 .1 .1 .1 .0)),
                 tt,
@@ -1868,7 +1923,37 @@ module _ (claims· : Claims) where
               .1 .1 .0)) List.[]) (Written.enum .make (Logic.inr (Logic.inl (m .1 .1 .1 .1 .1 .1 .1 .0, tt)))) (
                 Signed.made-wt Refusal.the-field Laws'4.the-field-laws (Whole.enum-wt Refusal.the-type Laws'4.the-laws (
                   tt,
-                  (tt, (tt, ((Make'.u64-wt, tt), (tt, (tt, (tt, (tt, (tt, (tt, ((Make'.u64-wt, tt), ((Make'.u64-wt, tt), (tt, ((Make'.u64-wt, (Make'.u64-wt, tt)), ((Make'.u64-wt, tt), (tt, tt))))))))))))))),
+                  (
+                    tt,
+                    (
+                      tt,
+                      (
+                        (Make'.u64-wt, tt),
+                        (
+                          tt,
+                          (
+                            tt,
+                            (
+                              tt,
+                              (
+                                tt,
+                                (
+                                  tt,
+                                  (
+                                    tt,
+                                    (
+                                      (Make'.u64-wt, tt),
+                                      ((Make'.u64-wt, tt), (tt, ((Make'.u64-wt, (Make'.u64-wt, tt)), ((Make'.u64-wt, tt), (tt, (tt, ((Make'.u64-wt, tt), ((Make'.u64-wt, tt), ((Make'.u64-wt, tt), (tt, tt)))))))))),
+                                    ),
+                                  ),
+                                ),
+                              ),
+                            ),
+                          ),
+                        ),
+                      ),
+                    ),
+                  ),
                 ))
                     (Refusal.the-type .to (m .1 .1 .1 .1 .1 .1 .1 .0)),
                 tt,
@@ -1877,13 +1962,15 @@ module _ (claims· : Claims) where
               Syntax.tnil (Syntax.ttcons Syntax.tnil (Syntax.ttcons (Syntax.tcons (Syntax.tyInt Syntax.w64) Syntax.tnil) (Syntax.ttcons Syntax.tnil (Syntax.ttcons Syntax.tnil (Syntax.ttcons Syntax.tnil
               (Syntax.ttcons Syntax.tnil (Syntax.ttcons Syntax.tnil (Syntax.ttcons Syntax.tnil (Syntax.ttcons (Syntax.tcons (Syntax.tyInt Syntax.w64) Syntax.tnil) (Syntax.ttcons (Syntax.tcons
               (Syntax.tyInt Syntax.w64) Syntax.tnil) (Syntax.ttcons Syntax.tnil (Syntax.ttcons (Syntax.tcons (Syntax.tyInt Syntax.w64) (Syntax.tcons (Syntax.tyInt Syntax.w64) Syntax.tnil)) (Syntax.ttcons
-              (Syntax.tcons (Syntax.tyInt Syntax.w64) Syntax.tnil) (Syntax.ttcons Syntax.tnil Syntax.ttnil))))))))))))))))) (Local.room-whole 𝓤 H A W (Declared.row Refusal.the-type) (Syntax.tyEnum
-              (List._∷_ 115 (List._∷_ 116 (List._∷_ 114 (List._∷_ 101 (List._∷_ 97 (List._∷_ 109 (List._∷_ 58 (List._∷_ 58 (List._∷_ 82 (List._∷_ 101 (List._∷_ 102 (List._∷_ 117 (List._∷_ 115 (List._∷_ 97
-              (List._∷_ 108 List.[]))))))))))))))) (Syntax.ttcons Syntax.tnil (Syntax.ttcons Syntax.tnil (Syntax.ttcons Syntax.tnil (Syntax.ttcons (Syntax.tcons (Syntax.tyInt Syntax.w64) Syntax.tnil)
-              (Syntax.ttcons Syntax.tnil (Syntax.ttcons Syntax.tnil (Syntax.ttcons Syntax.tnil (Syntax.ttcons Syntax.tnil (Syntax.ttcons Syntax.tnil (Syntax.ttcons Syntax.tnil (Syntax.ttcons (Syntax.tcons
-              (Syntax.tyInt Syntax.w64) Syntax.tnil) (Syntax.ttcons (Syntax.tcons (Syntax.tyInt Syntax.w64) Syntax.tnil) (Syntax.ttcons Syntax.tnil (Syntax.ttcons (Syntax.tcons (Syntax.tyInt Syntax.w64)
-              (Syntax.tcons (Syntax.tyInt Syntax.w64) Syntax.tnil)) (Syntax.ttcons (Syntax.tcons (Syntax.tyInt Syntax.w64) Syntax.tnil) (Syntax.ttcons Syntax.tnil Syntax.ttnil)))))))))))))))))
-              Path'.refl)))
+              (Syntax.tcons (Syntax.tyInt Syntax.w64) Syntax.tnil) (Syntax.ttcons Syntax.tnil (Syntax.ttcons Syntax.tnil (Syntax.ttcons (Syntax.tcons (Syntax.tyInt Syntax.w64) Syntax.tnil) (Syntax.ttcons
+              (Syntax.tcons (Syntax.tyInt Syntax.w64) Syntax.tnil) (Syntax.ttcons (Syntax.tcons (Syntax.tyInt Syntax.w64) Syntax.tnil) (Syntax.ttcons Syntax.tnil Syntax.ttnil))))))))))))))))))))))
+              (Local.room-whole 𝓤 H A W (Declared.row Refusal.the-type) (Syntax.tyEnum (List._∷_ 115 (List._∷_ 116 (List._∷_ 114 (List._∷_ 101 (List._∷_ 97 (List._∷_ 109 (List._∷_ 58 (List._∷_ 58
+              (List._∷_ 82 (List._∷_ 101 (List._∷_ 102 (List._∷_ 117 (List._∷_ 115 (List._∷_ 97 (List._∷_ 108 List.[]))))))))))))))) (Syntax.ttcons Syntax.tnil (Syntax.ttcons Syntax.tnil (Syntax.ttcons
+              Syntax.tnil (Syntax.ttcons (Syntax.tcons (Syntax.tyInt Syntax.w64) Syntax.tnil) (Syntax.ttcons Syntax.tnil (Syntax.ttcons Syntax.tnil (Syntax.ttcons Syntax.tnil (Syntax.ttcons Syntax.tnil
+              (Syntax.ttcons Syntax.tnil (Syntax.ttcons Syntax.tnil (Syntax.ttcons (Syntax.tcons (Syntax.tyInt Syntax.w64) Syntax.tnil) (Syntax.ttcons (Syntax.tcons (Syntax.tyInt Syntax.w64) Syntax.tnil)
+              (Syntax.ttcons Syntax.tnil (Syntax.ttcons (Syntax.tcons (Syntax.tyInt Syntax.w64) (Syntax.tcons (Syntax.tyInt Syntax.w64) Syntax.tnil)) (Syntax.ttcons (Syntax.tcons (Syntax.tyInt Syntax.w64)
+              Syntax.tnil) (Syntax.ttcons Syntax.tnil (Syntax.ttcons Syntax.tnil (Syntax.ttcons (Syntax.tcons (Syntax.tyInt Syntax.w64) Syntax.tnil) (Syntax.ttcons (Syntax.tcons (Syntax.tyInt Syntax.w64)
+              Syntax.tnil) (Syntax.ttcons (Syntax.tcons (Syntax.tyInt Syntax.w64) Syntax.tnil) (Syntax.ttcons Syntax.tnil Syntax.ttnil)))))))))))))))))))))) Path'.refl)))
 
           d1 : Typed.Typed 𝓤 H A 𝓣 E G16 b5 Δ1 at1
           d1 = Typed.g-pre 𝓤 H A W 𝓣 E G16 G17 b5 Δ1 (Typed.pass T16 T17 s14) at0 (Scalar.g-room 𝓤 H A W E G16 6 (Syntax.tyEnum (List._∷_ 115 (List._∷_ 116 (List._∷_ 114 (List._∷_ 101 (List._∷_ 97
@@ -1893,14 +1980,17 @@ module _ (claims· : Claims) where
               (Syntax.tcons (Syntax.tyInt Syntax.w64) Syntax.tnil) (Syntax.ttcons Syntax.tnil (Syntax.ttcons Syntax.tnil (Syntax.ttcons Syntax.tnil (Syntax.ttcons Syntax.tnil (Syntax.ttcons Syntax.tnil
               (Syntax.ttcons Syntax.tnil (Syntax.ttcons (Syntax.tcons (Syntax.tyInt Syntax.w64) Syntax.tnil) (Syntax.ttcons (Syntax.tcons (Syntax.tyInt Syntax.w64) Syntax.tnil) (Syntax.ttcons Syntax.tnil
               (Syntax.ttcons (Syntax.tcons (Syntax.tyInt Syntax.w64) (Syntax.tcons (Syntax.tyInt Syntax.w64) Syntax.tnil)) (Syntax.ttcons (Syntax.tcons (Syntax.tyInt Syntax.w64) Syntax.tnil)
-              (Syntax.ttcons Syntax.tnil Syntax.ttnil))))))))))))))))) Syntax.tnil) Syntax.ttnil))) (Local.room-whole 𝓤 H A W (Known.Known Parsed.enum 1) (Syntax.tyEnum (List._∷_ 115 (List._∷_ 116
-              (List._∷_ 114 (List._∷_ 101 (List._∷_ 97 (List._∷_ 109 (List._∷_ 58 (List._∷_ 58 (List._∷_ 80 (List._∷_ 97 (List._∷_ 114 (List._∷_ 115 (List._∷_ 101 (List._∷_ 100 List.[]))))))))))))))
-              (Syntax.ttcons (Syntax.tcons y0 Syntax.tnil) (Syntax.ttcons (Syntax.tcons (Syntax.tyEnum (List._∷_ 115 (List._∷_ 116 (List._∷_ 114 (List._∷_ 101 (List._∷_ 97 (List._∷_ 109 (List._∷_ 58
-              (List._∷_ 58 (List._∷_ 82 (List._∷_ 101 (List._∷_ 102 (List._∷_ 117 (List._∷_ 115 (List._∷_ 97 (List._∷_ 108 List.[]))))))))))))))) (Syntax.ttcons Syntax.tnil (Syntax.ttcons Syntax.tnil
-              (Syntax.ttcons Syntax.tnil (Syntax.ttcons (Syntax.tcons (Syntax.tyInt Syntax.w64) Syntax.tnil) (Syntax.ttcons Syntax.tnil (Syntax.ttcons Syntax.tnil (Syntax.ttcons Syntax.tnil (Syntax.ttcons
-              Syntax.tnil (Syntax.ttcons Syntax.tnil (Syntax.ttcons Syntax.tnil (Syntax.ttcons (Syntax.tcons (Syntax.tyInt Syntax.w64) Syntax.tnil) (Syntax.ttcons (Syntax.tcons (Syntax.tyInt Syntax.w64)
-              Syntax.tnil) (Syntax.ttcons Syntax.tnil (Syntax.ttcons (Syntax.tcons (Syntax.tyInt Syntax.w64) (Syntax.tcons (Syntax.tyInt Syntax.w64) Syntax.tnil)) (Syntax.ttcons (Syntax.tcons
-              (Syntax.tyInt Syntax.w64) Syntax.tnil) (Syntax.ttcons Syntax.tnil Syntax.ttnil))))))))))))))))) Syntax.tnil) Syntax.ttnil))) Path'.refl)) d0
+              (Syntax.ttcons Syntax.tnil (Syntax.ttcons Syntax.tnil (Syntax.ttcons (Syntax.tcons (Syntax.tyInt Syntax.w64) Syntax.tnil) (Syntax.ttcons (Syntax.tcons (Syntax.tyInt Syntax.w64) Syntax.tnil)
+              (Syntax.ttcons (Syntax.tcons (Syntax.tyInt Syntax.w64) Syntax.tnil) (Syntax.ttcons Syntax.tnil Syntax.ttnil)))))))))))))))))))))) Syntax.tnil) Syntax.ttnil))) (Local.room-whole 𝓤 H A W
+              (Known.Known Parsed.enum 1) (Syntax.tyEnum (List._∷_ 115 (List._∷_ 116 (List._∷_ 114 (List._∷_ 101 (List._∷_ 97 (List._∷_ 109 (List._∷_ 58 (List._∷_ 58 (List._∷_ 80 (List._∷_ 97 (List._∷_
+              114 (List._∷_ 115 (List._∷_ 101 (List._∷_ 100 List.[])))))))))))))) (Syntax.ttcons (Syntax.tcons y0 Syntax.tnil) (Syntax.ttcons (Syntax.tcons (Syntax.tyEnum (List._∷_ 115 (List._∷_ 116
+              (List._∷_ 114 (List._∷_ 101 (List._∷_ 97 (List._∷_ 109 (List._∷_ 58 (List._∷_ 58 (List._∷_ 82 (List._∷_ 101 (List._∷_ 102 (List._∷_ 117 (List._∷_ 115 (List._∷_ 97 (List._∷_ 108
+              List.[]))))))))))))))) (Syntax.ttcons Syntax.tnil (Syntax.ttcons Syntax.tnil (Syntax.ttcons Syntax.tnil (Syntax.ttcons (Syntax.tcons (Syntax.tyInt Syntax.w64) Syntax.tnil) (Syntax.ttcons
+              Syntax.tnil (Syntax.ttcons Syntax.tnil (Syntax.ttcons Syntax.tnil (Syntax.ttcons Syntax.tnil (Syntax.ttcons Syntax.tnil (Syntax.ttcons Syntax.tnil (Syntax.ttcons (Syntax.tcons (Syntax.tyInt
+              Syntax.w64) Syntax.tnil) (Syntax.ttcons (Syntax.tcons (Syntax.tyInt Syntax.w64) Syntax.tnil) (Syntax.ttcons Syntax.tnil (Syntax.ttcons (Syntax.tcons (Syntax.tyInt Syntax.w64) (Syntax.tcons
+              (Syntax.tyInt Syntax.w64) Syntax.tnil)) (Syntax.ttcons (Syntax.tcons (Syntax.tyInt Syntax.w64) Syntax.tnil) (Syntax.ttcons Syntax.tnil (Syntax.ttcons Syntax.tnil (Syntax.ttcons (Syntax.tcons
+              (Syntax.tyInt Syntax.w64) Syntax.tnil) (Syntax.ttcons (Syntax.tcons (Syntax.tyInt Syntax.w64) Syntax.tnil) (Syntax.ttcons (Syntax.tcons (Syntax.tyInt Syntax.w64) Syntax.tnil) (Syntax.ttcons
+              Syntax.tnil Syntax.ttnil)))))))))))))))))))))) Syntax.tnil) Syntax.ttnil))) Path'.refl)) d0
 
           d2 : Typed.Typed 𝓤 H A 𝓣 E G15 b6 Δ1 at2
           d2 = Typed.s-seq 𝓤 H A W 𝓣 E G15 G16 b4 b5 Δ1 (Typed.pass T15 T16 s13) at1 (CopyOut.t-copy-told 𝓤 H A W E 𝓣 (Declared.row Refusal.the-type) Path'.refl (Laws'5.val Refusal.the-type
@@ -1910,24 +2000,28 @@ module _ (claims· : Claims) where
               (Syntax.tcons (Syntax.tyInt Syntax.w64) Syntax.tnil) (Syntax.ttcons Syntax.tnil (Syntax.ttcons Syntax.tnil (Syntax.ttcons Syntax.tnil (Syntax.ttcons Syntax.tnil (Syntax.ttcons Syntax.tnil
               (Syntax.ttcons Syntax.tnil (Syntax.ttcons (Syntax.tcons (Syntax.tyInt Syntax.w64) Syntax.tnil) (Syntax.ttcons (Syntax.tcons (Syntax.tyInt Syntax.w64) Syntax.tnil) (Syntax.ttcons Syntax.tnil
               (Syntax.ttcons (Syntax.tcons (Syntax.tyInt Syntax.w64) (Syntax.tcons (Syntax.tyInt Syntax.w64) Syntax.tnil)) (Syntax.ttcons (Syntax.tcons (Syntax.tyInt Syntax.w64) Syntax.tnil)
-              (Syntax.ttcons Syntax.tnil Syntax.ttnil))))))))))))))))) 8 λ v. Laws'5.val Refusal.the-type Laws'4.the-laws (v .0)) (λ m. m .1 .1 .1 .1 .1 .1 .0 .0) (λ m. Laws'5.Fields (Declared.variants
-              Parsed.the-type) (Laws'5.spellss (Parsed.enum .parts) Laws'3.the-laws) (Parsed.the-type .to (Known.at Parsed.enum 1 (m .1 .1 .1 .1 .1 .1 .0)))) (Reads'.room-gone 𝓤 H A (Syntax.tyEnum
-              (List._∷_ 115 (List._∷_ 116 (List._∷_ 114 (List._∷_ 101 (List._∷_ 97 (List._∷_ 109 (List._∷_ 58 (List._∷_ 58 (List._∷_ 82 (List._∷_ 101 (List._∷_ 102 (List._∷_ 117 (List._∷_ 115 (List._∷_ 97
-              (List._∷_ 108 List.[]))))))))))))))) (Syntax.ttcons Syntax.tnil (Syntax.ttcons Syntax.tnil (Syntax.ttcons Syntax.tnil (Syntax.ttcons (Syntax.tcons (Syntax.tyInt Syntax.w64) Syntax.tnil)
-              (Syntax.ttcons Syntax.tnil (Syntax.ttcons Syntax.tnil (Syntax.ttcons Syntax.tnil (Syntax.ttcons Syntax.tnil (Syntax.ttcons Syntax.tnil (Syntax.ttcons Syntax.tnil (Syntax.ttcons (Syntax.tcons
-              (Syntax.tyInt Syntax.w64) Syntax.tnil) (Syntax.ttcons (Syntax.tcons (Syntax.tyInt Syntax.w64) Syntax.tnil) (Syntax.ttcons Syntax.tnil (Syntax.ttcons (Syntax.tcons (Syntax.tyInt Syntax.w64)
-              (Syntax.tcons (Syntax.tyInt Syntax.w64) Syntax.tnil)) (Syntax.ttcons (Syntax.tcons (Syntax.tyInt Syntax.w64) Syntax.tnil) (Syntax.ttcons Syntax.tnil Syntax.ttnil)))))))))))))))))) (
+              (Syntax.ttcons Syntax.tnil (Syntax.ttcons Syntax.tnil (Syntax.ttcons (Syntax.tcons (Syntax.tyInt Syntax.w64) Syntax.tnil) (Syntax.ttcons (Syntax.tcons (Syntax.tyInt Syntax.w64) Syntax.tnil)
+              (Syntax.ttcons (Syntax.tcons (Syntax.tyInt Syntax.w64) Syntax.tnil) (Syntax.ttcons Syntax.tnil Syntax.ttnil)))))))))))))))))))))) 8 λ v. Laws'5.val Refusal.the-type Laws'4.the-laws (v .0))
+              (λ m. m .1 .1 .1 .1 .1 .1 .0 .0) (λ m. Laws'5.Fields (Declared.variants Parsed.the-type) (Laws'5.spellss (Parsed.enum .parts) Laws'3.the-laws) (Parsed.the-type .to (Known.at Parsed.enum 1 (m
+              .1 .1 .1 .1 .1 .1 .0)))) (Reads'.room-gone 𝓤 H A (Syntax.tyEnum (List._∷_ 115 (List._∷_ 116 (List._∷_ 114 (List._∷_ 101 (List._∷_ 97 (List._∷_ 109 (List._∷_ 58 (List._∷_ 58 (List._∷_ 82
+              (List._∷_ 101 (List._∷_ 102 (List._∷_ 117 (List._∷_ 115 (List._∷_ 97 (List._∷_ 108 List.[]))))))))))))))) (Syntax.ttcons Syntax.tnil (Syntax.ttcons Syntax.tnil (Syntax.ttcons Syntax.tnil
+              (Syntax.ttcons (Syntax.tcons (Syntax.tyInt Syntax.w64) Syntax.tnil) (Syntax.ttcons Syntax.tnil (Syntax.ttcons Syntax.tnil (Syntax.ttcons Syntax.tnil (Syntax.ttcons Syntax.tnil (Syntax.ttcons
+              Syntax.tnil (Syntax.ttcons Syntax.tnil (Syntax.ttcons (Syntax.tcons (Syntax.tyInt Syntax.w64) Syntax.tnil) (Syntax.ttcons (Syntax.tcons (Syntax.tyInt Syntax.w64) Syntax.tnil) (Syntax.ttcons
+              Syntax.tnil (Syntax.ttcons (Syntax.tcons (Syntax.tyInt Syntax.w64) (Syntax.tcons (Syntax.tyInt Syntax.w64) Syntax.tnil)) (Syntax.ttcons (Syntax.tcons (Syntax.tyInt Syntax.w64) Syntax.tnil)
+              (Syntax.ttcons Syntax.tnil (Syntax.ttcons Syntax.tnil (Syntax.ttcons (Syntax.tcons (Syntax.tyInt Syntax.w64) Syntax.tnil) (Syntax.ttcons (Syntax.tcons (Syntax.tyInt Syntax.w64) Syntax.tnil)
+              (Syntax.ttcons (Syntax.tcons (Syntax.tyInt Syntax.w64) Syntax.tnil) (Syntax.ttcons Syntax.tnil Syntax.ttnil))))))))))))))))))))))) (
                 Match.reads-payload 𝓤 H A W Parsed.enum Laws'3.the-laws 1 Path'.refl Path'.refl (λ v. Val.vcons (Laws'5.val Refusal.the-type Laws'4.the-laws (v .0)) Val.vnil) (λ v. Path'.refl) 0
                     (Syntax.tyEnum (List._∷_ 115 (List._∷_ 116 (List._∷_ 114 (List._∷_ 101 (List._∷_ 97 (List._∷_ 109 (List._∷_ 58 (List._∷_ 58 (List._∷_ 82 (List._∷_ 101 (List._∷_ 102 (List._∷_ 117 (List._∷_
                     115 (List._∷_ 97 (List._∷_ 108 List.[]))))))))))))))) (Syntax.ttcons Syntax.tnil (Syntax.ttcons Syntax.tnil (Syntax.ttcons Syntax.tnil (Syntax.ttcons (Syntax.tcons (Syntax.tyInt Syntax.w64)
                     Syntax.tnil) (Syntax.ttcons Syntax.tnil (Syntax.ttcons Syntax.tnil (Syntax.ttcons Syntax.tnil (Syntax.ttcons Syntax.tnil (Syntax.ttcons Syntax.tnil (Syntax.ttcons Syntax.tnil (Syntax.ttcons
                     (Syntax.tcons (Syntax.tyInt Syntax.w64) Syntax.tnil) (Syntax.ttcons (Syntax.tcons (Syntax.tyInt Syntax.w64) Syntax.tnil) (Syntax.ttcons Syntax.tnil (Syntax.ttcons (Syntax.tcons (Syntax.tyInt
-                    Syntax.w64) (Syntax.tcons (Syntax.tyInt Syntax.w64) Syntax.tnil)) (Syntax.ttcons (Syntax.tcons (Syntax.tyInt Syntax.w64) Syntax.tnil) (Syntax.ttcons Syntax.tnil Syntax.ttnil)))))))))))))))))
-                    8 Path'.refl,
+                    Syntax.w64) (Syntax.tcons (Syntax.tyInt Syntax.w64) Syntax.tnil)) (Syntax.ttcons (Syntax.tcons (Syntax.tyInt Syntax.w64) Syntax.tnil) (Syntax.ttcons Syntax.tnil (Syntax.ttcons Syntax.tnil
+                    (Syntax.ttcons (Syntax.tcons (Syntax.tyInt Syntax.w64) Syntax.tnil) (Syntax.ttcons (Syntax.tcons (Syntax.tyInt Syntax.w64) Syntax.tnil) (Syntax.ttcons (Syntax.tcons (Syntax.tyInt Syntax.w64)
+                    Syntax.tnil) (Syntax.ttcons Syntax.tnil Syntax.ttnil)))))))))))))))))))))) 8 Path'.refl,
                 Path'.refl,
-              ) Path'.refl (λ ρ m. Make'.tells-row 𝓤 H A W E ρ (Row.out 7 (G15 .locals)) m 6 (Laws'5.Fields (Declared.variants Parsed.the-type) (Laws'5.spellss (Parsed.enum .parts)
-              Laws'3.the-laws) (Parsed.the-type .to (Known.at Parsed.enum 1 (m .1 .1 .1 .1 .1 .1 .0)))) (Known.known-is 𝓤 H A W E Parsed.enum 1 Laws'3.the-laws ρ 6 (m .1 .1 .1 .1 .1 .1 .0))) (λ m k wa.
-              Path'.refl) λ m k wa. k .0) d1
+              ) Path'.refl (λ ρ m. Make'.tells-row 𝓤 H A W E ρ (Row.out 7 (G15 .locals)) m 6
+              (Laws'5.Fields (Declared.variants Parsed.the-type) (Laws'5.spellss (Parsed.enum .parts) Laws'3.the-laws) (Parsed.the-type .to (Known.at Parsed.enum 1 (m .1 .1 .1 .1 .1 .1 .0))))
+              (Known.known-is 𝓤 H A W E Parsed.enum 1 Laws'3.the-laws ρ 6 (m .1 .1 .1 .1 .1 .1 .0))) (λ m k wa. Path'.refl) λ m k wa. k .0) d1
 
           d3 : Typed.Typed 𝓤 H A 𝓣 E G14 b6 Δ1 at3
           d3 = Typed.g-pre 𝓤 H A W 𝓣 E G14 G15 b6 Δ1 (Typed.give s12) at2 (Known.g-known-told 𝓤 H A W E Parsed.enum 1 G14 6 Laws'3.the-laws (λ x. x) (Reads'.as-is 𝓤 H A (Rows.whole (Known.Known
@@ -2001,24 +2095,26 @@ module _ (claims· : Claims) where
               (Syntax.ttcons (Syntax.tcons (Syntax.tyInt Syntax.w64) Syntax.tnil) (Syntax.ttcons Syntax.tnil (Syntax.ttcons Syntax.tnil (Syntax.ttcons Syntax.tnil (Syntax.ttcons Syntax.tnil (Syntax.ttcons
               Syntax.tnil (Syntax.ttcons Syntax.tnil (Syntax.ttcons (Syntax.tcons (Syntax.tyInt Syntax.w64) Syntax.tnil) (Syntax.ttcons (Syntax.tcons (Syntax.tyInt Syntax.w64) Syntax.tnil) (Syntax.ttcons
               Syntax.tnil (Syntax.ttcons (Syntax.tcons (Syntax.tyInt Syntax.w64) (Syntax.tcons (Syntax.tyInt Syntax.w64) Syntax.tnil)) (Syntax.ttcons (Syntax.tcons (Syntax.tyInt Syntax.w64) Syntax.tnil)
-              (Syntax.ttcons Syntax.tnil Syntax.ttnil))))))))))))))))) Syntax.tnil) Syntax.ttnil)))) (tt, (tt, (tt, (tt, tt)))) Path'.refl) (Scalar.g-room 𝓤 H A W E G45 9 (Syntax.tyInt Syntax.w64)
-              (Scalar.room-sc 𝓤 H A W (Row.sInt Syntax.w64)))) (Scalar.g-room 𝓤 H A W E G46 10 y4 (Local.room-whole 𝓤 H A W (Declared'.row Form.the-type) y4 Path'.refl))) (Scalar.g-room 𝓤 H A W E G47 11
-              (Syntax.tyInt Syntax.w64) (Scalar.room-sc 𝓤 H A W (Row.sInt Syntax.w64)))) (Lifetime.g-end 𝓤 H A W E G48 5 Path'.refl)) (Relend.g-back-sl 𝓤 H A W E (Referent.rtF (Referent.fInt Syntax.w8))
-              G49 17 3 2 5 (Syntax.tyRef (Syntax.named 2) Syntax.mut (Syntax.tyInt Syntax.w8)) (Syntax.tyRef Syntax.erased Syntax.mut (Syntax.tyInt Syntax.w8)) (Row.lease (κs .1 .1 .0) (qs .1 .1 .0)) (λ
-              x. x) (λ x. x) (Reads'.as-is 𝓤 H A (Mut.msleft (Referent.rtF (Referent.fInt Syntax.w8)) (Syntax.tyRef Syntax.erased Syntax.mut (Syntax.tyInt Syntax.w8)))) (Reads'.as-is 𝓤 H A
-              (Relend.mslice-owed (Referent.rtF (Referent.fInt Syntax.w8)) (Syntax.tyRef (Syntax.named 2) Syntax.mut (Syntax.tyInt Syntax.w8)) 2 5 (Row.lease (κs .1 .1 .0) (qs .1 .1 .0)))) Path'.refl
-              Path'.refl)) (Know.g-sl-known 𝓤 H A W (Referent.fInt Syntax.w8) E G50 3 2 (Syntax.tyRef (Syntax.named 2) Syntax.mut (Syntax.tyInt Syntax.w8)) (Row.lease (κs .1 .1 .0) (qs .1 .1 .0)) 0 (λ x.
-              x) record { fits = Dec'.lit< tt } (Reads'.as-is 𝓤 H A (Mut.mslice (Referent.rtF (Referent.fInt Syntax.w8)) (Syntax.tyRef (Syntax.named 2) Syntax.mut (Syntax.tyInt Syntax.w8)) 2)) Path'.refl
-              tt)) (Lifetime.g-forget 𝓤 H A W E G51 5 Row.dead Path'.refl)) (Lifetime.g-end 𝓤 H A W E G52 6 Path'.refl)) (PartMut.g-back-slᵐ 𝓤 H A W E (Referent.rtF (Referent.fInt Syntax.w16)) G53 21 4 3
-              6 (Syntax.tyRef (Syntax.named 3) Syntax.mut (Syntax.tyInt Syntax.w16)) (Syntax.tyRef Syntax.erased Syntax.mut (Syntax.tyInt Syntax.w16)) (Row.lease (κs .1 .1 .1 .0) (qs .1 .1 .1 .0)) (λ x.
-              x) (λ x. x) (Reads'.as-is 𝓤 H A (Mut.msleft (Referent.rtF (Referent.fInt Syntax.w16)) (Syntax.tyRef Syntax.erased Syntax.mut (Syntax.tyInt Syntax.w16)))) (Reads'.as-is 𝓤 H A
-              (PartMut.mslice-owedM (Referent.rtF (Referent.fInt Syntax.w16)) (Syntax.tyRef (Syntax.named 3) Syntax.mut (Syntax.tyInt Syntax.w16)) 3 6 (Row.lease (κs .1 .1 .1 .0) (qs .1 .1 .1 .0))))
-              Path'.refl Path'.refl)) (Know.g-sl-known 𝓤 H A W (Referent.fInt Syntax.w16) E G54 4 3 (Syntax.tyRef (Syntax.named 3) Syntax.mut (Syntax.tyInt Syntax.w16)) (Row.lease (κs .1 .1 .1 .0) (qs .1
-              .1 .1 .0)) 0 (λ x. x) record { fits = Dec'.lit< tt } (Reads'.as-is 𝓤 H A (Mut.mslice (Referent.rtF (Referent.fInt Syntax.w16)) (Syntax.tyRef (Syntax.named 3) Syntax.mut (Syntax.tyInt
-              Syntax.w16)) 3)) Path'.refl tt)) (Lifetime.g-forget 𝓤 H A W E G55 6 Row.dead Path'.refl)) (Lifetime.g-end 𝓤 H A W E G56 7 Path'.refl)) (PartMut.g-back-slᵐ 𝓤 H A W E (Element.type) G57 25 5 4
-              7 (Syntax.tyRef (Syntax.named 4) Syntax.mut Element.behind) (Syntax.tyRef Syntax.erased Syntax.mut Element.behind) (Row.lease (κs .1 .1 .1 .1 .0) (qs .1 .1 .1 .1 .0)) (λ x. x) (λ x. x)
-              (Reads'.as-is 𝓤 H A (Mut.msleft (Element.type) (Syntax.tyRef Syntax.erased Syntax.mut Element.behind))) (Reads'.as-is 𝓤 H A (PartMut.mslice-owedM (Element.type) (Syntax.tyRef (Syntax.named
-              4) Syntax.mut Element.behind) 4 7 (Row.lease (κs .1 .1 .1 .1 .0) (qs .1 .1 .1 .1 .0)))) Path'.refl Path'.refl)) (Lifetime.g-forget 𝓤 H A W E G58 7 Row.dead Path'.refl))
+              (Syntax.ttcons Syntax.tnil (Syntax.ttcons Syntax.tnil (Syntax.ttcons (Syntax.tcons (Syntax.tyInt Syntax.w64) Syntax.tnil) (Syntax.ttcons (Syntax.tcons (Syntax.tyInt Syntax.w64) Syntax.tnil)
+              (Syntax.ttcons (Syntax.tcons (Syntax.tyInt Syntax.w64) Syntax.tnil) (Syntax.ttcons Syntax.tnil Syntax.ttnil)))))))))))))))))))))) Syntax.tnil) Syntax.ttnil)))) (tt, (tt, (tt, (tt, tt))))
+              Path'.refl) (Scalar.g-room 𝓤 H A W E G45 9 (Syntax.tyInt Syntax.w64) (Scalar.room-sc 𝓤 H A W (Row.sInt Syntax.w64)))) (Scalar.g-room 𝓤 H A W E G46 10 y4 (Local.room-whole 𝓤 H A W
+              (Declared'.row Form.the-type) y4 Path'.refl))) (Scalar.g-room 𝓤 H A W E G47 11 (Syntax.tyInt Syntax.w64) (Scalar.room-sc 𝓤 H A W (Row.sInt Syntax.w64)))) (Lifetime.g-end 𝓤 H A W E G48 5
+              Path'.refl)) (Relend.g-back-sl 𝓤 H A W E (Referent.rtF (Referent.fInt Syntax.w8)) G49 17 3 2 5 (Syntax.tyRef (Syntax.named 2) Syntax.mut (Syntax.tyInt Syntax.w8)) (Syntax.tyRef Syntax.erased
+              Syntax.mut (Syntax.tyInt Syntax.w8)) (Row.lease (κs .1 .1 .0) (qs .1 .1 .0)) (λ x. x) (λ x. x) (Reads'.as-is 𝓤 H A (Mut.msleft (Referent.rtF (Referent.fInt Syntax.w8)) (Syntax.tyRef
+              Syntax.erased Syntax.mut (Syntax.tyInt Syntax.w8)))) (Reads'.as-is 𝓤 H A (Relend.mslice-owed (Referent.rtF (Referent.fInt Syntax.w8)) (Syntax.tyRef (Syntax.named 2) Syntax.mut (Syntax.tyInt
+              Syntax.w8)) 2 5 (Row.lease (κs .1 .1 .0) (qs .1 .1 .0)))) Path'.refl Path'.refl)) (Know.g-sl-known 𝓤 H A W (Referent.fInt Syntax.w8) E G50 3 2 (Syntax.tyRef (Syntax.named 2) Syntax.mut
+              (Syntax.tyInt Syntax.w8)) (Row.lease (κs .1 .1 .0) (qs .1 .1 .0)) 0 (λ x. x) record { fits = Dec'.lit< tt } (Reads'.as-is 𝓤 H A (Mut.mslice (Referent.rtF (Referent.fInt Syntax.w8))
+              (Syntax.tyRef (Syntax.named 2) Syntax.mut (Syntax.tyInt Syntax.w8)) 2)) Path'.refl tt)) (Lifetime.g-forget 𝓤 H A W E G51 5 Row.dead Path'.refl)) (Lifetime.g-end 𝓤 H A W E G52 6 Path'.refl))
+              (PartMut.g-back-slᵐ 𝓤 H A W E (Referent.rtF (Referent.fInt Syntax.w16)) G53 21 4 3 6 (Syntax.tyRef (Syntax.named 3) Syntax.mut (Syntax.tyInt Syntax.w16)) (Syntax.tyRef Syntax.erased
+              Syntax.mut (Syntax.tyInt Syntax.w16)) (Row.lease (κs .1 .1 .1 .0) (qs .1 .1 .1 .0)) (λ x. x) (λ x. x) (Reads'.as-is 𝓤 H A (Mut.msleft (Referent.rtF (Referent.fInt Syntax.w16)) (Syntax.tyRef
+              Syntax.erased Syntax.mut (Syntax.tyInt Syntax.w16)))) (Reads'.as-is 𝓤 H A (PartMut.mslice-owedM (Referent.rtF (Referent.fInt Syntax.w16)) (Syntax.tyRef (Syntax.named 3) Syntax.mut
+              (Syntax.tyInt Syntax.w16)) 3 6 (Row.lease (κs .1 .1 .1 .0) (qs .1 .1 .1 .0)))) Path'.refl Path'.refl)) (Know.g-sl-known 𝓤 H A W (Referent.fInt Syntax.w16) E G54 4 3 (Syntax.tyRef
+              (Syntax.named 3) Syntax.mut (Syntax.tyInt Syntax.w16)) (Row.lease (κs .1 .1 .1 .0) (qs .1 .1 .1 .0)) 0 (λ x. x) record { fits = Dec'.lit< tt } (Reads'.as-is 𝓤 H A (Mut.mslice (Referent.rtF
+              (Referent.fInt Syntax.w16)) (Syntax.tyRef (Syntax.named 3) Syntax.mut (Syntax.tyInt Syntax.w16)) 3)) Path'.refl tt)) (Lifetime.g-forget 𝓤 H A W E G55 6 Row.dead Path'.refl)) (Lifetime.g-end
+              𝓤 H A W E G56 7 Path'.refl)) (PartMut.g-back-slᵐ 𝓤 H A W E (Element.type) G57 25 5 4 7 (Syntax.tyRef (Syntax.named 4) Syntax.mut Element.behind) (Syntax.tyRef Syntax.erased Syntax.mut
+              Element.behind) (Row.lease (κs .1 .1 .1 .1 .0) (qs .1 .1 .1 .1 .0)) (λ x. x) (λ x. x) (Reads'.as-is 𝓤 H A (Mut.msleft (Element.type) (Syntax.tyRef Syntax.erased Syntax.mut Element.behind)))
+              (Reads'.as-is 𝓤 H A (PartMut.mslice-owedM (Element.type) (Syntax.tyRef (Syntax.named 4) Syntax.mut Element.behind) 4 7 (Row.lease (κs .1 .1 .1 .1 .0) (qs .1 .1 .1 .1 .0)))) Path'.refl
+              Path'.refl)) (Lifetime.g-forget 𝓤 H A W E G58 7 Row.dead Path'.refl))
 
           d6 : Typed.Typed 𝓤 H A 𝓣 E G43 b21 Δ1 at6
           d6 = Typed.g-pre 𝓤 H A W 𝓣 E G43 G44 b21 Δ1 (Typed.pass T43 T44 s41) at5 (Scalar.g-room 𝓤 H A W E G43 23 (Syntax.tyInt Syntax.w64) (Scalar.room-sc 𝓤 H A W (Row.sInt Syntax.w64))) d5
@@ -2148,14 +2244,17 @@ module _ (claims· : Claims) where
               (Syntax.tcons (Syntax.tyInt Syntax.w64) Syntax.tnil) (Syntax.ttcons Syntax.tnil (Syntax.ttcons Syntax.tnil (Syntax.ttcons Syntax.tnil (Syntax.ttcons Syntax.tnil (Syntax.ttcons Syntax.tnil
               (Syntax.ttcons Syntax.tnil (Syntax.ttcons (Syntax.tcons (Syntax.tyInt Syntax.w64) Syntax.tnil) (Syntax.ttcons (Syntax.tcons (Syntax.tyInt Syntax.w64) Syntax.tnil) (Syntax.ttcons Syntax.tnil
               (Syntax.ttcons (Syntax.tcons (Syntax.tyInt Syntax.w64) (Syntax.tcons (Syntax.tyInt Syntax.w64) Syntax.tnil)) (Syntax.ttcons (Syntax.tcons (Syntax.tyInt Syntax.w64) Syntax.tnil)
-              (Syntax.ttcons Syntax.tnil Syntax.ttnil))))))))))))))))) Syntax.tnil) Syntax.ttnil))) (Local.room-whole 𝓤 H A W (Known.Known Parsed.enum 0) (Syntax.tyEnum (List._∷_ 115 (List._∷_ 116
-              (List._∷_ 114 (List._∷_ 101 (List._∷_ 97 (List._∷_ 109 (List._∷_ 58 (List._∷_ 58 (List._∷_ 80 (List._∷_ 97 (List._∷_ 114 (List._∷_ 115 (List._∷_ 101 (List._∷_ 100 List.[]))))))))))))))
-              (Syntax.ttcons (Syntax.tcons y0 Syntax.tnil) (Syntax.ttcons (Syntax.tcons (Syntax.tyEnum (List._∷_ 115 (List._∷_ 116 (List._∷_ 114 (List._∷_ 101 (List._∷_ 97 (List._∷_ 109 (List._∷_ 58
-              (List._∷_ 58 (List._∷_ 82 (List._∷_ 101 (List._∷_ 102 (List._∷_ 117 (List._∷_ 115 (List._∷_ 97 (List._∷_ 108 List.[]))))))))))))))) (Syntax.ttcons Syntax.tnil (Syntax.ttcons Syntax.tnil
-              (Syntax.ttcons Syntax.tnil (Syntax.ttcons (Syntax.tcons (Syntax.tyInt Syntax.w64) Syntax.tnil) (Syntax.ttcons Syntax.tnil (Syntax.ttcons Syntax.tnil (Syntax.ttcons Syntax.tnil (Syntax.ttcons
-              Syntax.tnil (Syntax.ttcons Syntax.tnil (Syntax.ttcons Syntax.tnil (Syntax.ttcons (Syntax.tcons (Syntax.tyInt Syntax.w64) Syntax.tnil) (Syntax.ttcons (Syntax.tcons (Syntax.tyInt Syntax.w64)
-              Syntax.tnil) (Syntax.ttcons Syntax.tnil (Syntax.ttcons (Syntax.tcons (Syntax.tyInt Syntax.w64) (Syntax.tcons (Syntax.tyInt Syntax.w64) Syntax.tnil)) (Syntax.ttcons (Syntax.tcons
-              (Syntax.tyInt Syntax.w64) Syntax.tnil) (Syntax.ttcons Syntax.tnil Syntax.ttnil))))))))))))))))) Syntax.tnil) Syntax.ttnil))) Path'.refl)) d26
+              (Syntax.ttcons Syntax.tnil (Syntax.ttcons Syntax.tnil (Syntax.ttcons (Syntax.tcons (Syntax.tyInt Syntax.w64) Syntax.tnil) (Syntax.ttcons (Syntax.tcons (Syntax.tyInt Syntax.w64) Syntax.tnil)
+              (Syntax.ttcons (Syntax.tcons (Syntax.tyInt Syntax.w64) Syntax.tnil) (Syntax.ttcons Syntax.tnil Syntax.ttnil)))))))))))))))))))))) Syntax.tnil) Syntax.ttnil))) (Local.room-whole 𝓤 H A W
+              (Known.Known Parsed.enum 0) (Syntax.tyEnum (List._∷_ 115 (List._∷_ 116 (List._∷_ 114 (List._∷_ 101 (List._∷_ 97 (List._∷_ 109 (List._∷_ 58 (List._∷_ 58 (List._∷_ 80 (List._∷_ 97 (List._∷_
+              114 (List._∷_ 115 (List._∷_ 101 (List._∷_ 100 List.[])))))))))))))) (Syntax.ttcons (Syntax.tcons y0 Syntax.tnil) (Syntax.ttcons (Syntax.tcons (Syntax.tyEnum (List._∷_ 115 (List._∷_ 116
+              (List._∷_ 114 (List._∷_ 101 (List._∷_ 97 (List._∷_ 109 (List._∷_ 58 (List._∷_ 58 (List._∷_ 82 (List._∷_ 101 (List._∷_ 102 (List._∷_ 117 (List._∷_ 115 (List._∷_ 97 (List._∷_ 108
+              List.[]))))))))))))))) (Syntax.ttcons Syntax.tnil (Syntax.ttcons Syntax.tnil (Syntax.ttcons Syntax.tnil (Syntax.ttcons (Syntax.tcons (Syntax.tyInt Syntax.w64) Syntax.tnil) (Syntax.ttcons
+              Syntax.tnil (Syntax.ttcons Syntax.tnil (Syntax.ttcons Syntax.tnil (Syntax.ttcons Syntax.tnil (Syntax.ttcons Syntax.tnil (Syntax.ttcons Syntax.tnil (Syntax.ttcons (Syntax.tcons (Syntax.tyInt
+              Syntax.w64) Syntax.tnil) (Syntax.ttcons (Syntax.tcons (Syntax.tyInt Syntax.w64) Syntax.tnil) (Syntax.ttcons Syntax.tnil (Syntax.ttcons (Syntax.tcons (Syntax.tyInt Syntax.w64) (Syntax.tcons
+              (Syntax.tyInt Syntax.w64) Syntax.tnil)) (Syntax.ttcons (Syntax.tcons (Syntax.tyInt Syntax.w64) Syntax.tnil) (Syntax.ttcons Syntax.tnil (Syntax.ttcons Syntax.tnil (Syntax.ttcons (Syntax.tcons
+              (Syntax.tyInt Syntax.w64) Syntax.tnil) (Syntax.ttcons (Syntax.tcons (Syntax.tyInt Syntax.w64) Syntax.tnil) (Syntax.ttcons (Syntax.tcons (Syntax.tyInt Syntax.w64) Syntax.tnil) (Syntax.ttcons
+              Syntax.tnil Syntax.ttnil)))))))))))))))))))))) Syntax.tnil) Syntax.ttnil))) Path'.refl)) d26
 
           d28 : Typed.Typed 𝓤 H A 𝓣 E G21 b35 Δ1 at28
           d28 = Typed.s-seq 𝓤 H A W 𝓣 E G21 G22 b7 b34 Δ1 (Typed.pass T21 T22 s19) at27 (CopyOut.t-copy-told 𝓤 H A W E 𝓣 (Declared'.row FujiHeader.the-type) Path'.refl (Laws'6.val FujiHeader.the-type
@@ -2204,14 +2303,17 @@ module _ (claims· : Claims) where
               (Syntax.ttcons (Syntax.tcons (Syntax.tyInt Syntax.w64) Syntax.tnil) (Syntax.ttcons Syntax.tnil (Syntax.ttcons Syntax.tnil (Syntax.ttcons Syntax.tnil (Syntax.ttcons Syntax.tnil (Syntax.ttcons
               Syntax.tnil (Syntax.ttcons Syntax.tnil (Syntax.ttcons (Syntax.tcons (Syntax.tyInt Syntax.w64) Syntax.tnil) (Syntax.ttcons (Syntax.tcons (Syntax.tyInt Syntax.w64) Syntax.tnil) (Syntax.ttcons
               Syntax.tnil (Syntax.ttcons (Syntax.tcons (Syntax.tyInt Syntax.w64) (Syntax.tcons (Syntax.tyInt Syntax.w64) Syntax.tnil)) (Syntax.ttcons (Syntax.tcons (Syntax.tyInt Syntax.w64) Syntax.tnil)
-              (Syntax.ttcons Syntax.tnil Syntax.ttnil))))))))))))))))) Syntax.tnil) Syntax.ttnil))) (Local.room-whole 𝓤 H A W (Declared.row Written.the-type) (Syntax.tyEnum (List._∷_ 98 (List._∷_ 108
-              (List._∷_ 111 (List._∷_ 99 (List._∷_ 107 (List._∷_ 58 (List._∷_ 58 (List._∷_ 87 (List._∷_ 114 (List._∷_ 105 (List._∷_ 116 (List._∷_ 116 (List._∷_ 101 (List._∷_ 110 List.[]))))))))))))))
-              (Syntax.ttcons (Syntax.tcons (Syntax.tyInt Syntax.w64) Syntax.tnil) (Syntax.ttcons (Syntax.tcons (Syntax.tyEnum (List._∷_ 115 (List._∷_ 116 (List._∷_ 114 (List._∷_ 101 (List._∷_ 97 (List._∷_
-              109 (List._∷_ 58 (List._∷_ 58 (List._∷_ 82 (List._∷_ 101 (List._∷_ 102 (List._∷_ 117 (List._∷_ 115 (List._∷_ 97 (List._∷_ 108 List.[]))))))))))))))) (Syntax.ttcons Syntax.tnil (Syntax.ttcons
-              Syntax.tnil (Syntax.ttcons Syntax.tnil (Syntax.ttcons (Syntax.tcons (Syntax.tyInt Syntax.w64) Syntax.tnil) (Syntax.ttcons Syntax.tnil (Syntax.ttcons Syntax.tnil (Syntax.ttcons Syntax.tnil
-              (Syntax.ttcons Syntax.tnil (Syntax.ttcons Syntax.tnil (Syntax.ttcons Syntax.tnil (Syntax.ttcons (Syntax.tcons (Syntax.tyInt Syntax.w64) Syntax.tnil) (Syntax.ttcons (Syntax.tcons
-              (Syntax.tyInt Syntax.w64) Syntax.tnil) (Syntax.ttcons Syntax.tnil (Syntax.ttcons (Syntax.tcons (Syntax.tyInt Syntax.w64) (Syntax.tcons (Syntax.tyInt Syntax.w64) Syntax.tnil)) (Syntax.ttcons
-              (Syntax.tcons (Syntax.tyInt Syntax.w64) Syntax.tnil) (Syntax.ttcons Syntax.tnil Syntax.ttnil))))))))))))))))) Syntax.tnil) Syntax.ttnil))) Path'.refl)) d35
+              (Syntax.ttcons Syntax.tnil (Syntax.ttcons Syntax.tnil (Syntax.ttcons (Syntax.tcons (Syntax.tyInt Syntax.w64) Syntax.tnil) (Syntax.ttcons (Syntax.tcons (Syntax.tyInt Syntax.w64) Syntax.tnil)
+              (Syntax.ttcons (Syntax.tcons (Syntax.tyInt Syntax.w64) Syntax.tnil) (Syntax.ttcons Syntax.tnil Syntax.ttnil)))))))))))))))))))))) Syntax.tnil) Syntax.ttnil))) (Local.room-whole 𝓤 H A W
+              (Declared.row Written.the-type) (Syntax.tyEnum (List._∷_ 98 (List._∷_ 108 (List._∷_ 111 (List._∷_ 99 (List._∷_ 107 (List._∷_ 58 (List._∷_ 58 (List._∷_ 87 (List._∷_ 114 (List._∷_ 105
+              (List._∷_ 116 (List._∷_ 116 (List._∷_ 101 (List._∷_ 110 List.[])))))))))))))) (Syntax.ttcons (Syntax.tcons (Syntax.tyInt Syntax.w64) Syntax.tnil) (Syntax.ttcons (Syntax.tcons (Syntax.tyEnum
+              (List._∷_ 115 (List._∷_ 116 (List._∷_ 114 (List._∷_ 101 (List._∷_ 97 (List._∷_ 109 (List._∷_ 58 (List._∷_ 58 (List._∷_ 82 (List._∷_ 101 (List._∷_ 102 (List._∷_ 117 (List._∷_ 115 (List._∷_ 97
+              (List._∷_ 108 List.[]))))))))))))))) (Syntax.ttcons Syntax.tnil (Syntax.ttcons Syntax.tnil (Syntax.ttcons Syntax.tnil (Syntax.ttcons (Syntax.tcons (Syntax.tyInt Syntax.w64) Syntax.tnil)
+              (Syntax.ttcons Syntax.tnil (Syntax.ttcons Syntax.tnil (Syntax.ttcons Syntax.tnil (Syntax.ttcons Syntax.tnil (Syntax.ttcons Syntax.tnil (Syntax.ttcons Syntax.tnil (Syntax.ttcons (Syntax.tcons
+              (Syntax.tyInt Syntax.w64) Syntax.tnil) (Syntax.ttcons (Syntax.tcons (Syntax.tyInt Syntax.w64) Syntax.tnil) (Syntax.ttcons Syntax.tnil (Syntax.ttcons (Syntax.tcons (Syntax.tyInt Syntax.w64)
+              (Syntax.tcons (Syntax.tyInt Syntax.w64) Syntax.tnil)) (Syntax.ttcons (Syntax.tcons (Syntax.tyInt Syntax.w64) Syntax.tnil) (Syntax.ttcons Syntax.tnil (Syntax.ttcons Syntax.tnil (Syntax.ttcons
+              (Syntax.tcons (Syntax.tyInt Syntax.w64) Syntax.tnil) (Syntax.ttcons (Syntax.tcons (Syntax.tyInt Syntax.w64) Syntax.tnil) (Syntax.ttcons (Syntax.tcons (Syntax.tyInt Syntax.w64) Syntax.tnil)
+              (Syntax.ttcons Syntax.tnil Syntax.ttnil)))))))))))))))))))))) Syntax.tnil) Syntax.ttnil))) Path'.refl)) d35
 
           d37 : Typed.Typed 𝓤 H A 𝓣 E G10 b39 Δ0 at37
           d37 = Typed.s-seq 𝓤 H A W 𝓣 E G10 G60 b37 b38 Δ0 (Typed.pass T10 T60 s57) at36 (LocalCopy.t-val-copy 𝓤 H A W E 𝓣 (λ ρ. Unit) G10 15 0 (Declared.row Written.the-type) (Syntax.tyEnum (List._∷_
@@ -2221,26 +2323,30 @@ module _ (claims· : Claims) where
               Syntax.tnil (Syntax.ttcons Syntax.tnil (Syntax.ttcons Syntax.tnil (Syntax.ttcons (Syntax.tcons (Syntax.tyInt Syntax.w64) Syntax.tnil) (Syntax.ttcons Syntax.tnil (Syntax.ttcons Syntax.tnil
               (Syntax.ttcons Syntax.tnil (Syntax.ttcons Syntax.tnil (Syntax.ttcons Syntax.tnil (Syntax.ttcons Syntax.tnil (Syntax.ttcons (Syntax.tcons (Syntax.tyInt Syntax.w64) Syntax.tnil) (Syntax.ttcons
               (Syntax.tcons (Syntax.tyInt Syntax.w64) Syntax.tnil) (Syntax.ttcons Syntax.tnil (Syntax.ttcons (Syntax.tcons (Syntax.tyInt Syntax.w64) (Syntax.tcons (Syntax.tyInt Syntax.w64) Syntax.tnil))
-              (Syntax.ttcons (Syntax.tcons (Syntax.tyInt Syntax.w64) Syntax.tnil) (Syntax.ttcons Syntax.tnil Syntax.ttnil))))))))))))))))) Syntax.tnil) Syntax.ttnil))) (Syntax.tyEnum (List._∷_ 98
-              (List._∷_ 108 (List._∷_ 111 (List._∷_ 99 (List._∷_ 107 (List._∷_ 58 (List._∷_ 58 (List._∷_ 87 (List._∷_ 114 (List._∷_ 105 (List._∷_ 116 (List._∷_ 116 (List._∷_ 101 (List._∷_ 110
-              List.[])))))))))))))) (Syntax.ttcons (Syntax.tcons (Syntax.tyInt Syntax.w64) Syntax.tnil) (Syntax.ttcons (Syntax.tcons (Syntax.tyEnum (List._∷_ 115 (List._∷_ 116 (List._∷_ 114 (List._∷_ 101
-              (List._∷_ 97 (List._∷_ 109 (List._∷_ 58 (List._∷_ 58 (List._∷_ 82 (List._∷_ 101 (List._∷_ 102 (List._∷_ 117 (List._∷_ 115 (List._∷_ 97 (List._∷_ 108 List.[]))))))))))))))) (Syntax.ttcons
-              Syntax.tnil (Syntax.ttcons Syntax.tnil (Syntax.ttcons Syntax.tnil (Syntax.ttcons (Syntax.tcons (Syntax.tyInt Syntax.w64) Syntax.tnil) (Syntax.ttcons Syntax.tnil (Syntax.ttcons Syntax.tnil
-              (Syntax.ttcons Syntax.tnil (Syntax.ttcons Syntax.tnil (Syntax.ttcons Syntax.tnil (Syntax.ttcons Syntax.tnil (Syntax.ttcons (Syntax.tcons (Syntax.tyInt Syntax.w64) Syntax.tnil) (Syntax.ttcons
-              (Syntax.tcons (Syntax.tyInt Syntax.w64) Syntax.tnil) (Syntax.ttcons Syntax.tnil (Syntax.ttcons (Syntax.tcons (Syntax.tyInt Syntax.w64) (Syntax.tcons (Syntax.tyInt Syntax.w64) Syntax.tnil))
-              (Syntax.ttcons (Syntax.tcons (Syntax.tyInt Syntax.w64) Syntax.tnil) (Syntax.ttcons Syntax.tnil Syntax.ttnil))))))))))))))))) Syntax.tnil) Syntax.ttnil))) (Rows.whole (Declared.row
-              Written.the-type)) (Rows.whole (Declared.row Written.the-type)) (λ x. x) (λ x. x) (λ x. x) Path'.refl (Own.told-none 𝓤 H A (G10 .slots)) (Yields.yields-copy 𝓤 H A W (λ ρ. Unit) (Declared.row
-              Written.the-type) Path'.refl (Copies.cEnum Written.the-type Laws'.the-laws Laws'.the-copy .copy 𝓤 H A W) (Rows.whole (Declared.row Written.the-type)) (λ x. x) (λ x. x) (λ ρ told.
-              Local.mem-whole 𝓤 H A W (Declared.row Written.the-type) ρ) λ ρ told. Local.whole-mem 𝓤 H A W (Declared.row Written.the-type) ρ) (Reads'.room-gone 𝓤 H A (Syntax.tyEnum (List._∷_ 98 (List._∷_
-              108 (List._∷_ 111 (List._∷_ 99 (List._∷_ 107 (List._∷_ 58 (List._∷_ 58 (List._∷_ 87 (List._∷_ 114 (List._∷_ 105 (List._∷_ 116 (List._∷_ 116 (List._∷_ 101 (List._∷_ 110 List.[]))))))))))))))
-              (Syntax.ttcons (Syntax.tcons (Syntax.tyInt Syntax.w64) Syntax.tnil) (Syntax.ttcons (Syntax.tcons (Syntax.tyEnum (List._∷_ 115 (List._∷_ 116 (List._∷_ 114 (List._∷_ 101 (List._∷_ 97 (List._∷_
-              109 (List._∷_ 58 (List._∷_ 58 (List._∷_ 82 (List._∷_ 101 (List._∷_ 102 (List._∷_ 117 (List._∷_ 115 (List._∷_ 97 (List._∷_ 108 List.[]))))))))))))))) (Syntax.ttcons Syntax.tnil (Syntax.ttcons
-              Syntax.tnil (Syntax.ttcons Syntax.tnil (Syntax.ttcons (Syntax.tcons (Syntax.tyInt Syntax.w64) Syntax.tnil) (Syntax.ttcons Syntax.tnil (Syntax.ttcons Syntax.tnil (Syntax.ttcons Syntax.tnil
-              (Syntax.ttcons Syntax.tnil (Syntax.ttcons Syntax.tnil (Syntax.ttcons Syntax.tnil (Syntax.ttcons (Syntax.tcons (Syntax.tyInt Syntax.w64) Syntax.tnil) (Syntax.ttcons (Syntax.tcons
-              (Syntax.tyInt Syntax.w64) Syntax.tnil) (Syntax.ttcons Syntax.tnil (Syntax.ttcons (Syntax.tcons (Syntax.tyInt Syntax.w64) (Syntax.tcons (Syntax.tyInt Syntax.w64) Syntax.tnil)) (Syntax.ttcons
-              (Syntax.tcons (Syntax.tyInt Syntax.w64) Syntax.tnil) (Syntax.ttcons Syntax.tnil Syntax.ttnil))))))))))))))))) Syntax.tnil) Syntax.ttnil)))) (Yields.makes-mem 𝓤 H A W (λ ρ. Unit)
-              (Declared.row Written.the-type) Path'.refl (Rows.whole (Declared.row Written.the-type)) (λ x. x) λ ρ told. Local.whole-mem 𝓤 H A W (Declared.row Written.the-type) ρ) Path'.refl Path'.refl)
-              d36
+              (Syntax.ttcons (Syntax.tcons (Syntax.tyInt Syntax.w64) Syntax.tnil) (Syntax.ttcons Syntax.tnil (Syntax.ttcons Syntax.tnil (Syntax.ttcons (Syntax.tcons (Syntax.tyInt Syntax.w64) Syntax.tnil)
+              (Syntax.ttcons (Syntax.tcons (Syntax.tyInt Syntax.w64) Syntax.tnil) (Syntax.ttcons (Syntax.tcons (Syntax.tyInt Syntax.w64) Syntax.tnil) (Syntax.ttcons Syntax.tnil
+              Syntax.ttnil)))))))))))))))))))))) Syntax.tnil) Syntax.ttnil))) (Syntax.tyEnum (List._∷_ 98 (List._∷_ 108 (List._∷_ 111 (List._∷_ 99 (List._∷_ 107 (List._∷_ 58 (List._∷_ 58 (List._∷_ 87
+              (List._∷_ 114 (List._∷_ 105 (List._∷_ 116 (List._∷_ 116 (List._∷_ 101 (List._∷_ 110 List.[])))))))))))))) (Syntax.ttcons (Syntax.tcons (Syntax.tyInt Syntax.w64) Syntax.tnil) (Syntax.ttcons
+              (Syntax.tcons (Syntax.tyEnum (List._∷_ 115 (List._∷_ 116 (List._∷_ 114 (List._∷_ 101 (List._∷_ 97 (List._∷_ 109 (List._∷_ 58 (List._∷_ 58 (List._∷_ 82 (List._∷_ 101 (List._∷_ 102 (List._∷_
+              117 (List._∷_ 115 (List._∷_ 97 (List._∷_ 108 List.[]))))))))))))))) (Syntax.ttcons Syntax.tnil (Syntax.ttcons Syntax.tnil (Syntax.ttcons Syntax.tnil (Syntax.ttcons (Syntax.tcons
+              (Syntax.tyInt Syntax.w64) Syntax.tnil) (Syntax.ttcons Syntax.tnil (Syntax.ttcons Syntax.tnil (Syntax.ttcons Syntax.tnil (Syntax.ttcons Syntax.tnil (Syntax.ttcons Syntax.tnil (Syntax.ttcons
+              Syntax.tnil (Syntax.ttcons (Syntax.tcons (Syntax.tyInt Syntax.w64) Syntax.tnil) (Syntax.ttcons (Syntax.tcons (Syntax.tyInt Syntax.w64) Syntax.tnil) (Syntax.ttcons Syntax.tnil (Syntax.ttcons
+              (Syntax.tcons (Syntax.tyInt Syntax.w64) (Syntax.tcons (Syntax.tyInt Syntax.w64) Syntax.tnil)) (Syntax.ttcons (Syntax.tcons (Syntax.tyInt Syntax.w64) Syntax.tnil) (Syntax.ttcons Syntax.tnil
+              (Syntax.ttcons Syntax.tnil (Syntax.ttcons (Syntax.tcons (Syntax.tyInt Syntax.w64) Syntax.tnil) (Syntax.ttcons (Syntax.tcons (Syntax.tyInt Syntax.w64) Syntax.tnil) (Syntax.ttcons
+              (Syntax.tcons (Syntax.tyInt Syntax.w64) Syntax.tnil) (Syntax.ttcons Syntax.tnil Syntax.ttnil)))))))))))))))))))))) Syntax.tnil) Syntax.ttnil))) (Rows.whole (Declared.row Written.the-type))
+              (Rows.whole (Declared.row Written.the-type)) (λ x. x) (λ x. x) (λ x. x) Path'.refl (Own.told-none 𝓤 H A (G10 .slots)) (Yields.yields-copy 𝓤 H A W (λ ρ. Unit) (Declared.row Written.the-type)
+              Path'.refl (Copies.cEnum Written.the-type Laws'.the-laws Laws'.the-copy .copy 𝓤 H A W) (Rows.whole (Declared.row Written.the-type)) (λ x. x) (λ x. x) (λ ρ told. Local.mem-whole 𝓤 H A W
+              (Declared.row Written.the-type) ρ) λ ρ told. Local.whole-mem 𝓤 H A W (Declared.row Written.the-type) ρ) (Reads'.room-gone 𝓤 H A (Syntax.tyEnum (List._∷_ 98 (List._∷_ 108 (List._∷_ 111
+              (List._∷_ 99 (List._∷_ 107 (List._∷_ 58 (List._∷_ 58 (List._∷_ 87 (List._∷_ 114 (List._∷_ 105 (List._∷_ 116 (List._∷_ 116 (List._∷_ 101 (List._∷_ 110 List.[])))))))))))))) (Syntax.ttcons
+              (Syntax.tcons (Syntax.tyInt Syntax.w64) Syntax.tnil) (Syntax.ttcons (Syntax.tcons (Syntax.tyEnum (List._∷_ 115 (List._∷_ 116 (List._∷_ 114 (List._∷_ 101 (List._∷_ 97 (List._∷_ 109 (List._∷_
+              58 (List._∷_ 58 (List._∷_ 82 (List._∷_ 101 (List._∷_ 102 (List._∷_ 117 (List._∷_ 115 (List._∷_ 97 (List._∷_ 108 List.[]))))))))))))))) (Syntax.ttcons Syntax.tnil (Syntax.ttcons Syntax.tnil
+              (Syntax.ttcons Syntax.tnil (Syntax.ttcons (Syntax.tcons (Syntax.tyInt Syntax.w64) Syntax.tnil) (Syntax.ttcons Syntax.tnil (Syntax.ttcons Syntax.tnil (Syntax.ttcons Syntax.tnil (Syntax.ttcons
+              Syntax.tnil (Syntax.ttcons Syntax.tnil (Syntax.ttcons Syntax.tnil (Syntax.ttcons (Syntax.tcons (Syntax.tyInt Syntax.w64) Syntax.tnil) (Syntax.ttcons (Syntax.tcons (Syntax.tyInt Syntax.w64)
+              Syntax.tnil) (Syntax.ttcons Syntax.tnil (Syntax.ttcons (Syntax.tcons (Syntax.tyInt Syntax.w64) (Syntax.tcons (Syntax.tyInt Syntax.w64) Syntax.tnil)) (Syntax.ttcons (Syntax.tcons
+              (Syntax.tyInt Syntax.w64) Syntax.tnil) (Syntax.ttcons Syntax.tnil (Syntax.ttcons Syntax.tnil (Syntax.ttcons (Syntax.tcons (Syntax.tyInt Syntax.w64) Syntax.tnil) (Syntax.ttcons (Syntax.tcons
+              (Syntax.tyInt Syntax.w64) Syntax.tnil) (Syntax.ttcons (Syntax.tcons (Syntax.tyInt Syntax.w64) Syntax.tnil) (Syntax.ttcons Syntax.tnil Syntax.ttnil)))))))))))))))))))))) Syntax.tnil)
+              Syntax.ttnil)))) (Yields.makes-mem 𝓤 H A W (λ ρ. Unit) (Declared.row Written.the-type) Path'.refl (Rows.whole (Declared.row Written.the-type)) (λ x. x) λ ρ told. Local.whole-mem 𝓤 H A W
+              (Declared.row Written.the-type) ρ) Path'.refl Path'.refl) d36
 
           d38 : Typed.Typed 𝓤 H A 𝓣 E G9 b40 Δ0 at38
           d38 = Typed.t-seq 𝓤 H A W 𝓣 E G9 G10 b36 b39 Δ0 at34 at37 d34 d37
@@ -2264,7 +2370,9 @@ module _ (claims· : Claims) where
               Syntax.tnil (Syntax.ttcons Syntax.tnil (Syntax.ttcons (Syntax.tcons (Syntax.tyInt Syntax.w64) Syntax.tnil) (Syntax.ttcons Syntax.tnil (Syntax.ttcons Syntax.tnil (Syntax.ttcons Syntax.tnil
               (Syntax.ttcons Syntax.tnil (Syntax.ttcons Syntax.tnil (Syntax.ttcons Syntax.tnil (Syntax.ttcons (Syntax.tcons (Syntax.tyInt Syntax.w64) Syntax.tnil) (Syntax.ttcons (Syntax.tcons
               (Syntax.tyInt Syntax.w64) Syntax.tnil) (Syntax.ttcons Syntax.tnil (Syntax.ttcons (Syntax.tcons (Syntax.tyInt Syntax.w64) (Syntax.tcons (Syntax.tyInt Syntax.w64) Syntax.tnil)) (Syntax.ttcons
-              (Syntax.tcons (Syntax.tyInt Syntax.w64) Syntax.tnil) (Syntax.ttcons Syntax.tnil Syntax.ttnil))))))))))))))))) Syntax.tnil) Syntax.ttnil)))) (tt, tt) Path'.refl) d38
+              (Syntax.tcons (Syntax.tyInt Syntax.w64) Syntax.tnil) (Syntax.ttcons Syntax.tnil (Syntax.ttcons Syntax.tnil (Syntax.ttcons (Syntax.tcons (Syntax.tyInt Syntax.w64) Syntax.tnil) (Syntax.ttcons
+              (Syntax.tcons (Syntax.tyInt Syntax.w64) Syntax.tnil) (Syntax.ttcons (Syntax.tcons (Syntax.tyInt Syntax.w64) Syntax.tnil) (Syntax.ttcons Syntax.tnil Syntax.ttnil))))))))))))))))))))))
+              Syntax.tnil) Syntax.ttnil)))) (tt, tt) Path'.refl) d38
 
           d40 : Typed.Typed 𝓤 H A 𝓣 E G7 b42 Δ0 at40
           d40 = Typed.s-seq 𝓤 H A W 𝓣 E G7 G8 b2 b41 Δ0 (Typed.pass T7 T8 s6) at39 (Scalar.t-use 𝓤 H A W E 𝓣 G7 (Scalar.oFld 5 (List._∷_ (Syntax.field 1) List.[]) (Syntax.tyInt Syntax.w64) 8
