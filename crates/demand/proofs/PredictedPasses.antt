@@ -51,7 +51,7 @@ interpolated-even xtrans l p e =
 
 same-rules : (xtrans : Bool) (i : ℕ) → i < 6 → SameRules xtrans (planOf xtrans i)
 unfolding planOf interpolated isInterpolated
-same-rules false i h = λ p e. by-four p e (λ f. rw f (refl, refl)) (λ f. rw f (refl, refl))
+same-rules false i h = λ p e. (refl, refl)
 same-rules true i h =
     each-pass (λ i. SameRules true (getD plans i noPlan)) (
       (λ p e. by-four p e (λ f. rw (f, e) (refl, refl)) (λ f. rw (f, e) (refl, refl))),
