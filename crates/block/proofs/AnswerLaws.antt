@@ -1,16 +1,15 @@
 -- The writer's answer: samples that are looked at first, the measured length, and the block at the start of the output. Assumes nothing.
 use borrow.Author.Tests.{lt-ltb, le-ltb, le-leb, lt-leb, ltb-false}
-use mathlib.Core.Bool.{Bool, true, false, cond, false≢true}
+use mathlib.Core.Bool.{Bool, true, false, cond}
 use mathlib.Core.List.{List, [], _∷_, _++_}
 use mathlib.Core.Option.{Option, none, some}
 use mathlib.Core.Path.{_≡_, refl, sym, ap, _∙_}
 use Prim.Native.Nat.{ℕ, zero, suc, _+_, _-_, _≤_, _<_}
 use native.Mathlib.Nat.{zero-add}
-use native.Mathlib.Numerals.{add-one}
 use native.Mathlib.Omega.{arith}
 use lib.Dec.{ltb}
-use lib.ListN.{length, getD, drop, replicate, length-replicate, drop-of-length-le}
-use lib.Seq.{drop-cons, paste, take-at, take-all, drop-append-add, drop-drop}
+use lib.ListN.{length, drop, replicate, length-replicate}
+use lib.Seq.{paste, take-at, take-all, drop-append-add, drop-drop}
 use Rattle.bits.specs.declared.BitPosition.{BitPosition}
 use Rattle.bits.specs.BitLists.{packed, bytesFor, blockBytes, filled, bytesOf}
 use Rattle.bits.proofs.PackLaws.{length-packed, packed-more}
