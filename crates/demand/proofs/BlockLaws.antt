@@ -60,7 +60,7 @@ module _ (F : Form) (lines : ℕ) (s : List ℕ) where
 
 -- ---- the tail
 
--- the length is the bits rounded up to bytes, and zeros follow the bits
+-- the length is the bits rounded up to a multiple of 16 bytes, and zeros follow the bits
 pub record Tail (s : List ℕ) (at : ℕ) : Type 0 where
   pub full : length s ≡ blockBytes at
   pub inside : at ≤ 8 * length s
