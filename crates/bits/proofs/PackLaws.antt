@@ -10,7 +10,7 @@ use lib.ListN.{length, getD, take, drop, replicate, length-drop, drop-of-length-
 use lib.Pow.{pow-pos, split, high, low}
 use lib.Seq.{drop-at, drop-nil, drop-drop, drop-append-le}
 use Rattle.bits.specs.Bits.{bitsAt}
-use Rattle.bits.specs.BitLists.{binary, bitsOf, numberOf, packed, bytesFor, bytesOf}
+use Rattle.bits.specs.BitLists.{binary, bitsOf, numberOf, packed, blockBytes, bytesOf}
 use Rattle.bits.proofs.ListLaws.{length-binary, length-bits, binary-zero, bits-next, bits-there}
 
 -- ---- the number of k bits
@@ -149,26 +149,40 @@ packed-app zero l r h = refl
 packed-app (suc n) l r h =
     rw (number-app 8 l r (omega arith), drop-append-le 8 l r (omega arith), packed-app n (drop 8 l) r (omega (arith, length-drop 8 l)))
 
--- ---- as many bytes as the bits need
+-- ---- the bytes of a tight block
+
+-- bytes after the bits are 0
+packed-nil : (k : ℕ) → packed k [] ≡ replicate k 0
+unfolding packed numberOf
+packed-nil zero = refl
+packed-nil (suc k) = ap (λ (s : List ℕ). 0 ∷ s) (packed-nil k)
+
+pub packed-more : (m k : ℕ) (l : List Bool) → length l ≤ 8 * m → packed (m + k) l ≡ packed m l ++ replicate k 0
+unfolding packed
+packed-more zero k [] h = rw zero-add (packed-nil k)
+packed-more zero k (b ∷ l) h = absurd (omega arith)
+packed-more (suc m) k l h =
+    let e : suc m + k ≡ suc (m + k) = omega arith in
+    rw e (ap (λ (s : List ℕ). numberOf 8 l ∷ s) (packed-more m k (drop 8 l) (omega (arith, length-drop 8 l))))
 
 -- they have room for the bits
-pub room : (n : ℕ) → n ≤ 8 * bytesFor n
+pub room : (n : ℕ) → n ≤ 8 * blockBytes n
 room n = omega arith
 
-pub length-bytesOf : (l : List Bool) → length (bytesOf l) ≡ bytesFor (length l)
+pub length-bytesOf : (l : List Bool) → length (bytesOf l) ≡ blockBytes (length l)
 unfolding bytesOf
-length-bytesOf l = length-packed (bytesFor (length l)) l
+length-bytesOf l = length-packed (blockBytes (length l)) l
 
 pub bytes-bytesOf : (l : List Bool) (i : ℕ) → getD (bytesOf l) i 0 < 256
 unfolding bytesOf
-bytes-bytesOf l i = bytes-packed (bytesFor (length l)) l i
+bytes-bytesOf l i = bytes-packed (blockBytes (length l)) l i
 
-pub bits-bytesOf : (l : List Bool) → bitsOf (bytesOf l) ≡ l ++ replicate (8 * bytesFor (length l) - length l) false
+pub bits-bytesOf : (l : List Bool) → bitsOf (bytesOf l) ≡ l ++ replicate (8 * blockBytes (length l) - length l) false
 unfolding bytesOf
-bits-bytesOf l = bits-packed (bytesFor (length l)) l (room (length l))
+bits-bytesOf l = bits-packed (blockBytes (length l)) l (room (length l))
 
 -- bytes whose bits are l and zeros, as many as l needs, are the bytes of l
-pub bytesOf-bits : (s : List ℕ) (l : List Bool) → ((i : ℕ) → getD s i 0 < 256) → length s ≡ bytesFor (length l)
+pub bytesOf-bits : (s : List ℕ) (l : List Bool) → ((i : ℕ) → getD s i 0 < 256) → length s ≡ blockBytes (length l)
     → bitsOf s ≡ l ++ replicate (8 * length s - length l) false → bytesOf l ≡ s
 bytesOf-bits s l h e b =
     let same : bitsOf (bytesOf l) ≡ bitsOf s = bits-bytesOf l ∙ (rw (← e) (sym b)) in

@@ -10,7 +10,7 @@ use lib.Count.{under, leadingZeros, leading-top}
 use lib.Dec.{ltb}
 use lib.ListN.{length}
 use lib.Pow.{pow-pos, pow-add, pow-mono, shl-lt}
-use borrow.Author.Tests.{lt-ltb, le-ltb, ltb-true}
+use borrow.Author.Tests.{lt-ltb, le-ltb, ltb-true, ltb-false}
 use Rattle.bits.specs.Bits.{bitAt, bitsAt, topBits, zeros, zeroRun}
 use Rattle.bits.specs.declared.ZeroRun.the-variants.{One, None}
 use Rattle.bits.proofs.BitLaws.{bitAt-lt, bitsAt-lt, bitsAt-split, bitsAt-none, bitsAt-one, bitsAt-first, bitAt-past}
@@ -174,3 +174,31 @@ run-then s p z k h =
     let one : bitsAt s p (z + 1) ≡ 1 = bitsAt-split s p z 1 ∙ rw (r .0, bitsAt-one, r .1) in
     let at : p + (z + 1) ≡ p + z + 1 = omega arith in
     bitsAt-split s p (z + 1) k ∙ rw (one, one-mul, at)
+
+-- no run: all bits up to the block's end are 0
+all-zeros : (s : List ℕ) (p n : ℕ) → n ≤ zeros s p n → bitsAt s p n ≡ 0
+unfolding zeros
+all-zeros s p zero h = bitsAt-none s p
+all-zeros s p (suc n) h = go (bitAt s p) refl (bitAt-lt s p) (λ k. all-zeros s (suc p) n k) h
+  where
+    go : (b : ℕ) → bitAt s p ≡ b → b < 2 → (n ≤ zeros s (suc p) n → bitsAt s (suc p) n ≡ 0) → suc n ≤ under b (zeros s (suc p) n) → bitsAt s p (suc n) ≡ 0
+    go zero e lt rest k = bitsAt-first s p n ∙ rw (e, rest (le-of-suc-le-suc k), zero-mul)
+    go (suc zero) e lt rest k = absurd (not-suc-le-zero k)
+    go (suc (suc b)) e lt rest k = absurd (omega arith)
+
+pub none-is : (s : List ℕ) (p : ℕ) → zeroRun s p ≡ None → bitsAt s p (8 * length s - p) ≡ 0
+unfolding zeroRun
+none-is s p e = go (ltb (zeros s p (8 * length s - p)) (8 * length s - p)) refl e
+  where
+    go : (t : Bool) → ltb (zeros s p (8 * length s - p)) (8 * length s - p) ≡ t → cond t (One (zeros s p (8 * length s - p))) None ≡ None → bitsAt s p (8 * length s - p) ≡ 0
+    go true f g = let no : _≡_ {A = ℕ} 0 1 = cc in absurd (omega arith)
+    go false f g = all-zeros s p (8 * length s - p) (ltb-false _ _ f)
+
+-- a run: they are not
+pub one-is : (s : List ℕ) (p z : ℕ) → zeroRun s p ≡ One z → bitsAt s p (8 * length s - p) ≡ 0 → ⊥
+one-is s p z e h =
+    let i = counted s p z e in
+    let n : ℕ = 8 * length s - p in
+    let f : n ≡ (z + 1) + (n - (z + 1)) = omega arith in
+    let b : bitsAt s p (z + 1) ≡ 0 = zero-split s p (z + 1) (n - (z + 1)) (rw (← f) h) .0 in
+    omega (arith, zero-split s p z 1 b .1, bitsAt-one s (p + z), run-is s p z e .1)

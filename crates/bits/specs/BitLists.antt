@@ -3,7 +3,8 @@ use mathlib.Core.Bool.{Bool, cond, _&&_}
 use mathlib.Core.List.{List, [], _∷_, _++_}
 use Prim.Native.Nat.{ℕ, zero, suc, _+_, _-_, _*_, _/_, _%_, _^_}
 use lib.Dec.{eqb}
-use lib.ListN.{length, drop}
+use lib.ListN.{length, drop, replicate}
+use lib.Seq.{paste}
 use Rattle.bits.specs.Bits.{bitsAt}
 
 -- the k binary digits of n, most significant first
@@ -27,13 +28,22 @@ unfoldable pub packed : ℕ → List Bool → List ℕ
 packed zero l = []
 packed (suc n) l = numberOf 8 l ∷ packed n (drop 8 l)
 
--- the bytes of bits: as many as they need, with zeros in the last one's spare bits
+-- the bytes that n bits touch, the last of them counted whole
 abbrev pub bytesFor : ℕ → ℕ
 bytesFor n = (n + 7) / 8
 
-unfoldable pub bytesOf : List Bool → List ℕ
-bytesOf l = packed (bytesFor (length l)) l
+-- the bytes of a tight block with n bits: the bits rounded up to a multiple of 16 bytes
+abbrev pub blockBytes : ℕ → ℕ
+blockBytes n = (n + 127) / 128 * 16
 
--- the tail of a tight block that is read up to a bit: the length is the bits rounded up to bytes, and spare bits are 0
+-- bytes in which those after the first n bits are 0, up to the length of a tight block with so many bits
+abbrev pub filled : ℕ → List ℕ → List ℕ
+filled n s = paste s (bytesFor n) (replicate (blockBytes n - bytesFor n) 0) (blockBytes n - bytesFor n)
+
+-- the block of bits, with zeros as filling
+unfoldable pub bytesOf : List Bool → List ℕ
+bytesOf l = packed (blockBytes (length l)) l
+
+-- the tail of a tight block that is read up to a bit: the length is the bits rounded up, and the filling is 0
 unfoldable pub isTail : List ℕ → ℕ → Bool
-isTail s at = eqb (length s) (bytesFor at) && eqb (bitsAt s at (8 * length s - at)) 0
+isTail s at = eqb (length s) (blockBytes at) && eqb (bitsAt s at (8 * length s - at)) 0

@@ -4,7 +4,7 @@ ghost use Prim.Native.Nat.{_+_, _*_, _/_, _^_, _≤_, _<_, min};
 ghost use lib.Dec.{ltb};
 ghost use lib.ListN.{length, getD};
 ghost use Rattle.bits.specs.Bits.{bitsAt, wordAt, zeroRun, afterRun, be32};
-ghost use Rattle.bits.specs.BitLists.{isTail};
+ghost use Rattle.bits.specs.BitLists.{blockBytes, isTail, filled};
 ghost use Rattle.bits.specs.Pump.{ahead, aligned, nextBits, nextWord, movedTo};
 use numbers::u8_to_u64;
 
@@ -33,6 +33,13 @@ impl BitPosition {
         ensures { λ r. ⌜ r .0 ≡ (self .0 + 7) / 8 ⌝ }
     {
         ByteOffset((self.0 / 8 + (self.0 % 8 + 7) / 8) as usize)
+    }
+
+    // The bytes of a tight block whose bits end here: a multiple of 16.
+    pub fn block_bytes(self) -> ByteOffset
+        ensures { λ r. ⌜ r .0 ≡ (self .0 + 127) / 128 * 16 ⌝ }
+    {
+        ByteOffset(((self.0 / 128 + (self.0 % 128 + 127) / 128) * 16) as usize)
     }
 
     // The position n bits on. Positions end at 2^64 - 1.
@@ -141,18 +148,35 @@ pub fn is_past(block: &[u8], at: BitPosition) -> bool
     end < at.0
 }
 
-// Whether a tight block may end at this position: there is no byte more than the bits need, and spare bits are 0.
+// Whether a tight block may end at this position: its length is the bits rounded up to a multiple of 16 bytes, and no one bit is left.
 pub fn is_tail(s: &[u8], at: BitPosition) -> bool
     requires { ⌜ length (now s) < 2 ^ 32 ⌝ }
     ensures { λ r. ⌜ r ≡ isTail (now (s .entry)) (at .0) ⌝ }
 {
-    let end = at.bytes();
-    let length = s.len();
-    if length != end.0 {
+    let end = at.block_bytes();
+    if s.len() != end.0 {
         return false;
     }
-    let spare = (8 * (length as u64) - at.0) as u32;
-    peek_at(s, at, spare) == 0
+    let run = zero_run(s, at);
+    match run {
+        ZeroRun::One(_) => false,
+        ZeroRun::None => true,
+    }
+}
+
+// The filling of a tight block whose bits end at this position: zeros from the next byte on.
+pub fn fill_tail(out: &mut [u8], at: BitPosition)
+    requires { ⌜ blockBytes (at .0) ≤ length (now out) ⌝ }
+    ensures { λ _. ⌜ now (out .exit) ≡ filled (at .0) (now (out .entry)) ⌝ }
+{
+    let from = at.bytes();
+    let end = at.block_bytes();
+    let last = end.0;
+    let mut i = from.0;
+    while i < last {
+        out[i] = 0;
+        i += 1;
+    }
 }
 
 // The position behind the next n bits, 32 at most.

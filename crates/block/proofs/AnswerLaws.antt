@@ -1,19 +1,18 @@
 -- The writer's answer: samples that are looked at first, the measured length, and the block at the start of the output. Assumes nothing.
 use borrow.Author.Tests.{lt-ltb, le-ltb, le-leb, lt-leb, ltb-false}
-use mathlib.Core.Bool.{Bool, true, false, cond, false≢true}
+use mathlib.Core.Bool.{Bool, true, false, cond}
 use mathlib.Core.List.{List, [], _∷_, _++_}
 use mathlib.Core.Option.{Option, none, some}
 use mathlib.Core.Path.{_≡_, refl, sym, ap, _∙_}
-use Prim.Native.Nat.{ℕ, zero, suc, _+_, _≤_, _<_}
+use Prim.Native.Nat.{ℕ, zero, suc, _+_, _-_, _≤_, _<_}
 use native.Mathlib.Nat.{zero-add}
-use native.Mathlib.Numerals.{add-one}
 use native.Mathlib.Omega.{arith}
 use lib.Dec.{ltb}
-use lib.ListN.{length, getD, drop, drop-of-length-le}
-use lib.Seq.{drop-cons}
+use lib.ListN.{length, drop, replicate, length-replicate}
+use lib.Seq.{paste, take-at, take-all, drop-append-add, drop-drop}
 use Rattle.bits.specs.declared.BitPosition.{BitPosition}
-use Rattle.bits.specs.BitLists.{packed, bytesFor, bytesOf}
-use Rattle.bits.proofs.PackLaws.{length-packed}
+use Rattle.bits.specs.BitLists.{packed, bytesFor, blockBytes, filled, bytesOf}
+use Rattle.bits.proofs.PackLaws.{length-packed, packed-more}
 use Rattle.numbers.proofs.OrderLaws.{split}
 use Rattle.quantiser.specs.Quantisers.{largest}
 use Rattle.stream.specs.declared.Refusal.the-variants.{AboveLargest, NotPredicted, ShortOutput}
@@ -47,15 +46,33 @@ none-within m i (v ∷ t) e = split (suc m) v (λ h. high h) (λ h. low h (none-
 
 -- ---- the block
 
-block-length : (F : Form) (count : ℕ) (t : List ℕ) → length (tightBlock F count t) ≡ bytesFor (length ((writeLines F t count) .bits))
+block-length : (F : Form) (count : ℕ) (t : List ℕ) → length (tightBlock F count t) ≡ blockBytes (length ((writeLines F t count) .bits))
 unfolding tightBlock bytesOf
 block-length F count t = length-packed _ _
 
 -- bits that are put at the start: their bytes, and what follows these
-put-all : (out : List ℕ) (l : List Bool) → putBits out 0 l ≡ bytesOf l ++ drop (bytesFor (length l)) out
-unfolding putBits bytesOf packed
+put-all : (out : List ℕ) (l : List Bool) → putBits out 0 l ≡ packed (bytesFor (length l)) l ++ drop (bytesFor (length l)) out
+unfolding putBits packed
 put-all out [] = refl
 put-all out (b ∷ l) = rw zero-add
+
+-- zeros that are put behind them
+glue : (out P : List ℕ) (a k b : ℕ) → length P ≡ a → a + k ≡ b → paste (P ++ drop a out) a (replicate k 0) k ≡ P ++ replicate k 0 ++ drop b out
+glue out P a k b long e =
+    let zeros : length (replicate {A = ℕ} k 0) ≡ k = length-replicate k 0 in
+    let tail : drop (a + k) (P ++ drop a out) ≡ drop (a + k) out = (rw long at (drop-append-add P (drop a out) k)) ∙ drop-drop k a out in
+    rw (take-at P (drop a out) a long, take-all {A = ℕ} k (replicate k 0) (omega arith), tail, e)
+
+-- and with the filling: the block of these bits, and what follows it
+fill-all : (out : List ℕ) (l : List Bool) → filled (length l) (putBits out 0 l) ≡ bytesOf l ++ drop (blockBytes (length l)) out
+unfolding bytesOf
+fill-all out l =
+    let n : ℕ = length l in
+    let k : ℕ = blockBytes n - bytesFor n in
+    let e : bytesFor n + (blockBytes n - bytesFor n) ≡ blockBytes n = omega arith in
+    ap (λ (s : List ℕ). paste s (bytesFor n) (replicate k 0) k) (put-all out l)
+    ∙ glue out (packed (bytesFor n) l) (bytesFor n) k (blockBytes n) (length-packed (bytesFor n) l) e
+    ∙ ap (λ (s : List ℕ). s ++ drop (blockBytes n) out) (sym (packed-more (bytesFor n) k l (omega arith)) ∙ ap (λ (m : ℕ). packed m l) e)
 
 -- ---- what the walks say
 
@@ -90,7 +107,7 @@ module _ (F : Form) (count : ℕ) (t out : List ℕ) where
           record { right = e; position = ap (λ (a : BitPosition). a .0) q; kept = p .1 }
       go (some j) e p = clash end j (sym is ∙ p .0)
 
-  module _ (out₁ : List ℕ) (end : BitPosition) (k : Measured out₁ end) (n : ℕ) (en : n ≡ bytesFor (end .0)) where
+  module _ (out₁ : List ℕ) (end : BitPosition) (k : Measured out₁ end) (n : ℕ) (en : n ≡ blockBytes (end .0)) where
     needed : n ≡ length (tightBlock F count t)
     needed = en ∙ rw (k .position) (sym (block-length F count t))
 
@@ -108,14 +125,19 @@ module _ (F : Form) (count : ℕ) (t out : List ℕ) where
     measured-room b eb h e = omega (arith, long-enough b eb h, block-length F count t, ap length (k .kept))
 
     pub measured-stored : (b : Bool) → b ≡ ltb (length out₁) n → b ≡ false → (out₂ : List ℕ) (r₂ : Put) → SetWritten (writeLines F t count) true out₁ out₂ r₂
-        → (Length n ≡ measuredAnswer F count t (length out)) × (out₂ ≡ tightBlock F count t ++ drop n out)
+        → (out₃ : List ℕ) → out₃ ≡ filled (end .0) out₂ → (Length n ≡ measuredAnswer F count t (length out)) × (out₃ ≡ tightBlock F count t ++ drop n out)
     unfolding measuredAnswer tightBlock
-    measured-stored b eb h out₂ r₂ s =
+    measured-stored b eb h out₂ r₂ s out₃ e =
+        let l : List Bool = (writeLines F t count) .bits in
         let p : IsSetPut none (writeLines F t count) true out₁ out₂ r₂ = rw (k .right) at (s .are) in
-        let f : bytesFor (length ((writeLines F t count) .bits)) ≡ n = sym (en ∙ rw (k .position)) in (
+        let f : blockBytes (length l) ≡ n = sym (en ∙ rw (k .position)) in (
           rw (k .right, le-ltb (length out) (length (tightBlock F count t)) (long-enough b eb h), needed),
-          p .1 ∙ (put-all out₁ ((writeLines F t count) .bits) ∙ rw (k .kept, f)),
+          e ∙ rw (k .position, p .1) (fill-all out₁ l ∙ rw (k .kept, f)),
         )
+
+    -- there is room for the filling too
+    pub filling-room : (b : Bool) → b ≡ ltb (length out₁) n → b ≡ false → blockBytes (end .0) ≤ length out₁
+    filling-room b eb h = let e : ltb (length out₁) n ≡ false = sym eb ∙ h in omega (arith, ltb-false (length out₁) n e)
 
 -- ---- the answer for any set
 

@@ -6,7 +6,7 @@ ghost use Rattle.lines.specs.ColourLines.{zeroLines};
 ghost use Rattle.map.specs.Places.{widthOf};
 ghost use Rattle.steps.specs.Values.{Depth};
 ghost use Rattle.quantiser.specs.Quantisers.{largest};
-ghost use Rattle.bits.specs.BitLists.{bytesFor};
+ghost use Rattle.bits.specs.BitLists.{blockBytes};
 ghost use Rattle.writing.specs.Sets.{lineSize, setSize};
 ghost use Rattle.writing.specs.Puts.{Room, Within};
 ghost use Rattle.block.specs.Records.{clearRecords};
@@ -33,11 +33,11 @@ use stream::Parsed;
 use stream::Refusal;
 use writing::Put;
 
-// The bytes of a block that has bits up to this position.
-fn bytes_for(at: BitPosition) -> usize
-    ensures { λ r. ⌜ r ≡ bytesFor (at .0) ⌝ }
+// The bytes of a tight block that has bits up to this position.
+fn block_length(at: BitPosition) -> usize
+    ensures { λ r. ⌜ r ≡ blockBytes (at .0) ⌝ }
 {
-    let end = at.bytes();
+    let end = at.block_bytes();
     end.0
 }
 
@@ -160,11 +160,12 @@ fn write_measured(
     match measured {
         Put::Wrong(j) => Written::Refused(Refusal::NotPredicted(j)),
         Put::At(end) => {
-            let needed = bytes_for(end);
+            let needed = block_length(end);
             if is_short(out.len(), needed) {
                 return Written::Refused(Refusal::ShortOutput);
             }
             write_walk(samples, out, true, lines, rs, form, count);
+            bits::fill_tail(out, end);
             Written::Length(needed)
         }
     }

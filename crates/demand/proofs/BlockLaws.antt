@@ -10,7 +10,7 @@ use lib.ListN.{length, getD, drop, replicate, List·getD-eq-default}
 use borrow.Author.Tests.{eq-eqb, eqb-true}
 use Rattle.numbers.proofs.OrderLaws.{split}
 use Rattle.bits.specs.Bits.{bitsAt}
-use Rattle.bits.specs.BitLists.{bitsOf, bytesFor, isTail}
+use Rattle.bits.specs.BitLists.{bitsOf, blockBytes, isTail}
 use Rattle.bits.proofs.PackLaws.{room, spare-zeros, zeros-spare}
 use Rattle.quantiser.specs.Quantisers.{largest}
 use Rattle.map.specs.Places.{widthOf}
@@ -60,21 +60,21 @@ module _ (F : Form) (lines : ℕ) (s : List ℕ) where
 
 -- ---- the tail
 
--- the length is the bits rounded up to bytes, and zeros follow the bits
+-- the length is the bits rounded up to a multiple of 16 bytes, and zeros follow the bits
 pub record Tail (s : List ℕ) (at : ℕ) : Type 0 where
-  pub full : length s ≡ bytesFor at
+  pub full : length s ≡ blockBytes at
   pub inside : at ≤ 8 * length s
   pub zeros : drop at (bitsOf s) ≡ replicate (8 * length s - at) false
 
 pub tail-was : (s : List ℕ) (at : ℕ) → isTail s at ≡ true → Tail s at
 unfolding isTail
 tail-was s at e =
-    let b = both (eqb (length s) (bytesFor at)) (eqb (bitsAt s at (8 * length s - at)) 0) e in
-    let full : length s ≡ bytesFor at = eqb-true (length s) (bytesFor at) (b .0) in
+    let b = both (eqb (length s) (blockBytes at)) (eqb (bitsAt s at (8 * length s - at)) 0) e in
+    let full : length s ≡ blockBytes at = eqb-true (length s) (blockBytes at) (b .0) in
     let inside : at ≤ 8 * length s = omega (arith, room at) in
     record { full = full; inside = inside; zeros = spare-zeros s at inside (eqb-true (bitsAt s at (8 * length s - at)) 0 (b .1)) }
 
 pub tail-is : (s : List ℕ) (at : ℕ) → Tail s at → isTail s at ≡ true
 unfolding isTail
 tail-is s at T =
-    rw (eq-eqb (length s) (bytesFor at) (T .full), eq-eqb (bitsAt s at (8 * length s - at)) 0 (zeros-spare s at (T .inside) (T .zeros)))
+    rw (eq-eqb (length s) (blockBytes at) (T .full), eq-eqb (bitsAt s at (8 * length s - at)) 0 (zeros-spare s at (T .inside) (T .zeros)))

@@ -1,17 +1,17 @@
 -- Calls of the writer, held against the demand. Assumes nothing.
 use mathlib.Core.Bool.{Bool, true, false, cond, _||_}
-use mathlib.Core.List.{List, [], _∷_, _++_}
+use mathlib.Core.List.{List, [], _∷_}
 use mathlib.Core.Logic.{_↔_}
 use mathlib.Core.Path.{_≡_, refl, sym, ap, _∙_}
 use Prim.Native.Nat.{ℕ, _≤_}
 use native.Mathlib.Omega.{arith}
 use lib.Dec.{ltb}
-use lib.ListN.{length, drop}
+use lib.ListN.{length}
 use borrow.Author.Tests.{eq-eqb, ltb-true, ltb-false}
 use Rattle.map.specs.Places.{widthOf}
 use Rattle.stream.specs.declared.FujiHeader.{FujiHeader}
 use Rattle.stream.specs.Headers.{parseOf}
-use Rattle.stream.specs.Refusals.{numberOf, refusalWords, noRefusal}
+use Rattle.stream.specs.Refusals.{numberOf, noRefusal}
 use Rattle.stream.specs.declared.Refusal.{Refusal}
 use Rattle.stream.specs.declared.Refusal.the-variants.{ShortScratch}
 use Rattle.stream.specs.declared.Parsed.the-variants as Parsing
@@ -20,7 +20,7 @@ use Rattle.begin.specs.Beginnings.{samplesNeeded, recordsNeeded, withScratch, w
 use Rattle.writing.specs.Sets.{setSize}
 use Rattle.block.specs.Images.{formOf}
 use Rattle.block.specs.Lent.{Outputs}
-use Rattle.block.specs.Words.{writtenWords, writtenRefusal, ToldWritten}
+use Rattle.block.specs.Words.{writtenWords, writtenRefusal}
 use Rattle.block.specs.WrittenAnswers.{LeftWritten, SetWriting, writtenOut}
 use Rattle.block.specs.WrittenBlocks.{tightBlock}
 use Rattle.block.specs.declared.Written.{Written}

@@ -8,7 +8,7 @@ use Prim.Native.Nat.{ℕ, _-_, _*_, _/_, _%_, _<_}
 use native.Mathlib.Omega.{arith}
 use lib.ListN.{length, getD, take, drop, replicate, take-append-drop}
 use lib.Seq.{drop-at, ext-getD, length-take-le}
-use Rattle.bits.specs.BitLists.{bitsOf, bytesFor, bytesOf}
+use Rattle.bits.specs.BitLists.{bitsOf, blockBytes, bytesOf}
 use Rattle.bits.proofs.ListLaws.{length-bits}
 use Rattle.bits.proofs.PackLaws.{length-bytesOf, bytes-bytesOf, bits-bytesOf, bytesOf-bits}
 use Rattle.steps.specs.Values.{Depth}
@@ -44,16 +44,16 @@ module _ (F : Form) (Q : Lossless (F .bits)) (lines : ℕ) where
     s : List ℕ
     s = tightBlock F lines t
 
-    s-bits : bitsOf s ≡ bits ++ replicate (8 * bytesFor (length bits) - length bits) false
+    s-bits : bitsOf s ≡ bits ++ replicate (8 * blockBytes (length bits) - length bits) false
     unfolding s tightBlock
     s-bits = bits-bytesOf bits
 
-    s-length : length s ≡ bytesFor (length bits)
+    s-length : length s ≡ blockBytes (length bits)
     unfolding s tightBlock
     s-length = length-bytesOf bits
 
-    rest : drop (length bits) (bitsOf s) ≡ replicate (8 * bytesFor (length bits) - length bits) false
-    rest = ap (drop (length bits)) s-bits ∙ drop-at bits (replicate (8 * bytesFor (length bits) - length bits) false) (length bits) refl
+    rest : drop (length bits) (bitsOf s) ≡ replicate (8 * blockBytes (length bits) - length bits) false
+    rest = ap (drop (length bits)) s-bits ∙ drop-at bits (replicate (8 * blockBytes (length bits) - length bits) false) (length bits) refl
 
     stored : StoredState s (writeLines F t lines)
     stored = record { starts = s-bits ∙ ap (λ (l : List Bool). bits ++ l) (sym rest); right = fit .predicted }

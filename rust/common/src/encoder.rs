@@ -209,8 +209,8 @@ impl Encoder<'_> {
     }
 }
 
-/// One block of `lines` lines, lossless if there are no bases. `want` gives the sample that is wanted of a line's colour line at a
-/// position; lossy blocks come near it.
+/// One block of `lines` lines, lossless if there are no bases, filled up to a multiple of 16 bytes. `want` gives the sample that is wanted
+/// of a line's colour line at a position; lossy blocks come near it.
 pub fn encode(bits: u32, xtrans: bool, bases: &[u8], lines: usize, want: &mut dyn FnMut(usize, usize, usize) -> u16) -> Vec<u8> {
     encode_spoilt(bits, xtrans, bases, lines, want, None).bytes
 }
@@ -220,6 +220,13 @@ pub struct Encoded {
     pub bytes: Vec<u8>,
     pub used: usize,
     pub spoilt: bool,
+}
+
+impl Encoded {
+    /// The bytes that have bits of codes, without those that are filling alone.
+    pub fn unfilled(&self) -> &[u8] {
+        &self.bytes[..self.used.div_ceil(8)]
+    }
 }
 
 /// The same, with a code that is not tight.
@@ -265,5 +272,7 @@ pub fn encode_spoilt(
             e.lines.copy_within(from * s..(from + 1) * s, to * s);
         }
     }
-    Encoded { bytes: e.out.bytes, used: e.out.used, spoilt: spoil.is_some() && e.spoil.is_none() }
+    let mut bytes = e.out.bytes;
+    bytes.resize(bytes.len().next_multiple_of(16), 0);
+    Encoded { bytes, used: e.out.used, spoilt: spoil.is_some() && e.spoil.is_none() }
 }

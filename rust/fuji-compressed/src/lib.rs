@@ -256,8 +256,8 @@ impl<'a> FujiCompressed<'a> {
 }
 
 /// Writes the tight block of a set of colour lines to the start of `out`, and gives its length: for each line of six rows red 2 to 4, green 7 to 12
-/// and blue 15 to 17, with 384 samples each (X-Trans: 512). Of the header the first 16 bytes count. Refusals 1, 2, 8, 9, 11, 12 and 13; each leaves
-/// `out` as it was.
+/// and blue 15 to 17, with 384 samples each (X-Trans: 512). The length is a multiple of 16: the last bytes are filled with zero bits. Of the header the
+/// first 16 bytes count. Refusals 1, 2, 8, 9, 11, 12 and 13; each leaves `out` as it was.
 pub fn write_block(header: &[u8], samples: &[u16], out: &mut [u8]) -> Result<usize> {
     write_block_with(&mut Scratch::new(), header, samples, out)
 }

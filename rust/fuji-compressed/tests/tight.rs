@@ -1,5 +1,5 @@
 //! The tight reading: tight blocks, each kind of bad code at the first, a middle and the last code, tails, truncation, scratch, refusals.
-use common::encoder::{How, Spoil, encode, encode_spoilt};
+use common::encoder::{Encoded, How, Spoil, encode, encode_spoilt};
 use common::pictures::scene;
 use common::random::Random;
 use common::stream::{Header, stream};
@@ -85,11 +85,12 @@ fn marked_case_i_in_a_block() {
 fn tails() {
     for (bits, xtrans) in FORMS {
         let good = block(bits, xtrans, 0, None);
+        assert_eq!(good.len() % 16, 0);
         let mut longer = good.clone();
-        longer.push(0);
-        assert_eq!(read(bits, xtrans, &longer), refused(15, 0, LINES));
-        longer.extend([0; 9]);
-        assert_eq!(read(bits, xtrans, &longer), refused(15, 0, LINES));
+        for more in [1, 15, 16, 32] {
+            longer.resize(good.len() + more, 0);
+            assert_eq!(read(bits, xtrans, &longer), refused(15, 0, LINES), "{more} bytes more");
+        }
         // a bad code is named before the tail
         let mut both = block(bits, xtrans, 2, Some(Spoil { from: 4608, how: How::Escape }));
         both.push(0);
@@ -97,38 +98,86 @@ fn tails() {
     }
 }
 
-/// Blocks of which 0 to 7 bits are spare, and which lack 1 to 7 bits that are 0 once their last byte is gone.
+fn one_line(bits: u8, want: &mut dyn FnMut(usize, usize, usize) -> u16) -> (Header, Encoded) {
+    (Header::new(true, false, bits, 768, 1), encode_spoilt(bits as u32, false, &[], 1, want, None))
+}
+
+fn ask(header: &Header, block: &[u8]) -> Result<(), Refusal> {
+    let d = stream(header, &[], &[block.to_vec()]);
+    FujiCompressed::new(&d).unwrap().read_tight(0)
+}
+
+/// A line of zeros at 14 bits has 6,660 bits: 833 bytes, and 848 with the filling.
 #[test]
-fn spare_bits_and_missing_bits() {
-    let (mut spare_seen, mut missing_seen) = ([false; 8], [false; 8]);
-    let header = Header::new(true, false, 12, 768, 1);
-    let ask = |block: &[u8]| {
-        let d = stream(&header, &[], &[block.to_vec()]);
-        FujiCompressed::new(&d).unwrap().read_tight(0)
-    };
+fn a_line_of_zeros() {
+    let (header, made) = one_line(14, &mut |_, _, _| 0);
+    assert_eq!((made.used, made.unfilled().len(), made.bytes.len()), (6660, 833, 848));
+    assert_eq!(ask(&header, &made.bytes), Ok(()));
+    for length in [833, 847, 864] {
+        let mut other = made.bytes.clone();
+        other.resize(length, 0);
+        assert_eq!(ask(&header, &other), refused(15, 0, 1), "{length} bytes");
+    }
+    for bit in [6660, 848 * 8 - 1] {
+        let mut set = made.bytes.clone();
+        set[bit / 8] |= 0x80 >> (bit % 8);
+        assert_eq!(ask(&header, &set), refused(15, 0, 1), "bit {bit}");
+    }
+}
+
+/// Blocks with 0 to 127 bits of filling: each bit of it set, and the whole left out. And blocks that lack 1 to 7 bits that are 0 once all
+/// bytes from there on are gone: those bits are read as zeros, so every code is as it was, and only the length is wrong.
+#[test]
+fn filling_and_missing_bits() {
+    let (mut filling_seen, mut missing_seen) = ([false; 128], [false; 8]);
     // noise, of which the last sample, in line 17 at position 383, takes one value after the other
-    for v in 0..4 * 4096 {
-        let mut random = Random::new(1 + v % 61);
+    for v in 0..16 * 4096 {
+        let mut random = Random::new(1 + v % 997);
         let mut want = |n, line, p| if (line, p) == (17, 383) { (v % 4096) as u16 } else { scene(2, 4095, n, line, p, &mut random) };
-        let made = encode_spoilt(12, false, &[], 1, &mut want, None);
-        let (bytes, spare) = (made.bytes, made.used.next_multiple_of(8) - made.used);
-        assert_eq!(ask(&bytes), Ok(()));
-        for i in 0..spare {
-            let mut set = bytes.clone();
-            *set.last_mut().unwrap() |= 1 << i;
-            assert_eq!(ask(&set), refused(15, 0, 1), "spare bit {i} of {spare}");
+        let (header, made) = one_line(12, &mut want);
+        let (end, filling) = (8 * made.bytes.len(), 8 * made.bytes.len() - made.used);
+        let whole = made.used / 8;
+        if !filling_seen[filling] {
+            filling_seen[filling] = true;
+            assert_eq!(ask(&header, &made.bytes), Ok(()));
+            for bit in made.used..end {
+                let mut set = made.bytes.clone();
+                set[bit / 8] |= 0x80 >> (bit % 8);
+                assert_eq!(ask(&header, &set), refused(15, 0, 1), "bit {bit} of {end}");
+            }
+            // what was tight before blocks were filled is tight only where nothing is missing
+            let unfilled = if filling < 8 { Ok(()) } else { refused(15, 0, 1) };
+            assert_eq!(ask(&header, made.unfilled()), unfilled, "{filling} bits of filling");
         }
-        spare_seen[spare] = true;
-        // the missing bits are read as zeros: where they are, every code is as it was, and only the length is wrong
-        if spare > 0 && bytes.last() == Some(&0) {
-            assert_eq!(ask(&bytes[..bytes.len() - 1]), refused(15, 0, 1), "{} bits are missing", 8 - spare);
-            missing_seen[8 - spare] = true;
+        if made.used % 8 != 0 && made.bytes[whole] == 0 && !missing_seen[made.used % 8] {
+            missing_seen[made.used % 8] = true;
+            assert_eq!(ask(&header, &made.bytes[..whole]), refused(15, 0, 1), "{} bits are missing", made.used % 8);
         }
-        if spare_seen == [true; 8] && missing_seen[1..] == [true; 7] {
+        if filling_seen == [true; 128] && missing_seen[1..] == [true; 7] {
             return;
         }
     }
-    panic!("not all numbers of bits were seen: {spare_seen:?} {missing_seen:?}");
+    panic!("not all numbers of bits were seen: {filling_seen:?} {missing_seen:?}");
+}
+
+/// The ordinary reading takes filled blocks and unfilled ones.
+#[test]
+fn the_ordinary_reading_takes_both() {
+    for (bits, xtrans) in FORMS {
+        let mut random = Random::new(3);
+        let mut want = |n, line, p| scene(1, largest(bits), n, line, p, &mut random);
+        let made = encode_spoilt(bits as u32, xtrans, &[], LINES, &mut want, None);
+        let pictures: Vec<Vec<u16>> = [made.unfilled(), &made.bytes]
+            .iter()
+            .map(|block| {
+                let d = stream_of(bits, xtrans, block.to_vec());
+                let mut image = vec![0; 768 * 6 * LINES];
+                assert_eq!(FujiCompressed::new(&d).unwrap().decode(&mut image, 768, 6 * LINES as u32, &ColorTile::default()), Ok(()));
+                image
+            })
+            .collect();
+        assert!(pictures[0] == pictures[1]);
+    }
 }
 
 #[test]

@@ -1,6 +1,7 @@
 //! The writer: it writes the block that the encoder for tests writes, whatever the buffers held; each refusal at its limit and together.
-use common::encoder::encode;
+use common::encoder::{encode, encode_spoilt};
 use common::random::Random;
+use common::sha256::digits;
 use common::stream::{Header, stream};
 use fuji_compressed::{ColorTile, FujiCompressed, Record, Refusal, Scratch, write_block, write_block_with};
 
@@ -107,6 +108,45 @@ fn what_is_written_is_the_tight_block() {
             let d = stream(&w.header, &[], &[w.block.clone()]);
             assert_eq!(FujiCompressed::new(&d).unwrap().read_tight(0), Ok(()));
         }
+    }
+}
+
+/// Sets whose blocks an independent model of the rules has made: samples by a linear congruential generator from a seed, or zeros; of each the
+/// bits of its codes, the block's length, and the first digits of the block's SHA-256.
+#[test]
+fn blocks_of_known_sets() {
+    let known: [(u8, bool, usize, Option<u32>, u32, usize, usize, &str); 8] = [
+        (12, false, 1, None, 1, 5328, 672, "c670d9742f396c16fcdc5f5f"),
+        (14, false, 1, None, 1, 6660, 848, "c59897c9e4a4c7785c901a34"),
+        (16, false, 1, None, 1, 8760, 1104, "c1ac0ce796e6d98f77115607"),
+        (12, true, 3, None, 1, 14544, 1824, "d53bb109ad354d3404cdd2d3"),
+        (14, false, 1, Some(1), 1 << 14, 68542, 8576, "6c09048552b47c8956293c77"),
+        (14, false, 2, Some(3), 64, 63190, 7904, "96ea613089696ba378e3719c"),
+        (16, true, 1, Some(1), 1 << 16, 77695, 9712, "7175319d246a50e5faff3225"),
+        (12, true, 2, Some(2), 1 << 12, 119237, 14912, "cb226d54d03fbff62abcdf3b"),
+    ];
+    for (bits, xtrans, lines, seed, below, used, length, digest) in known {
+        let width = if xtrans { 512 } else { 384 };
+        let mut x = seed.unwrap_or(0);
+        let samples: Vec<u16> = (0..12 * width * lines)
+            .map(|_| {
+                x = x.wrapping_mul(1_664_525).wrapping_add(1_013_904_223);
+                if seed.is_some() { ((x >> 8) % below) as u16 } else { 0 }
+            })
+            .collect();
+        // the encoder puts predictions where samples are interpolated
+        let mut want = |n: usize, line: usize, p: usize| samples[(12 * n + FILLED.iter().position(|&l| l == line).unwrap()) * width + p];
+        let made = encode_spoilt(bits as u32, xtrans, &[], lines, &mut want, None);
+        let header = Header::new(true, xtrans, bits, 768, lines as u16);
+        let set = read_set(&header, &made.bytes);
+        for old in [0, 0xff] {
+            let mut out = vec![old; length + 1];
+            assert_eq!(write_block(&header.bytes(), &set, &mut out), Ok(length));
+            assert_eq!((made.used, digits(&out[..length], 24).as_str(), out[length]), (used, digest, old));
+        }
+        let mut short = vec![0xa5; length - 1];
+        assert_eq!(write_block(&header.bytes(), &set, &mut short), refused(13, 0));
+        assert!(short.iter().all(|v| *v == 0xa5));
     }
 }
 

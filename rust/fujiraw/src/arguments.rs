@@ -15,8 +15,8 @@ usage: fujiraw info STREAM...
 
 info      the header of each stream, and where its blocks lie
 check     says of each block whether it is tight
-write     writes the tight block of a set of colour lines: HEADER is a stream or its first 16 bytes, SAMPLES has 16 bits each,
-          little-endian, for each line red 2 to 4, green 7 to 12, blue 15 to 17
+write     writes the tight block of a set of colour lines, filled with zero bits up to a multiple of 16 bytes: HEADER is a stream
+          or its first 16 bytes, SAMPLES has 16 bits each, little-endian, for each line red 2 to 4, green 7 to 12, blue 15 to 17
 codes     lists every bit string of at most LENGTH bits (1 to 16) that is one tight lossless code for a DEPTH of 12, 14 or 16 and
           a K of 0 to 15: its bits, how many they are, their value and the code, parted by tabs
 plan      writes the base bytes of a lossy header's lines: PLAN is text, one record a line, which is first line, last line and

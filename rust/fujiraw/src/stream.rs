@@ -1,5 +1,5 @@
 //! Streams read from files.
-use fuji_compressed::{ColorTile, FujiCompressed, FujiHeader, Rect, Scratch, plan_bases, write_block};
+use fuji_compressed::{ColorTile, FujiCompressed, FujiHeader, Rect, Refusal, Scratch, plan_bases, write_block};
 use std::fmt::Write;
 use std::path::Path;
 
@@ -55,10 +55,18 @@ pub fn check(file: &Path) -> Result<(String, usize), String> {
     for i in 0..stream.header.blocks as usize {
         let answer = stream.read_tight_with(&mut scratch, i);
         loose += answer.is_err() as usize;
-        let said = answer.map_or_else(|e| e.to_string(), |()| "tight".to_string());
+        let said = answer.map_or_else(|e| why_loose(e, stream.header.lines as usize), |()| "tight".to_string());
         let _ = writeln!(text, "{}: block {i}: {said}", file.display());
     }
     Ok((text, loose))
+}
+
+/// Why a block is not tight. Refusal 15 with the number of lines is about its end alone.
+fn why_loose(refusal: Refusal, lines: usize) -> String {
+    match (refusal.number, refusal.line == lines) {
+        (15, true) => format!("{refusal}: all its codes are, but after them there must be zero bits up to the next 16 bytes, and no more"),
+        _ => refusal.to_string(),
+    }
 }
 
 /// The tight block of the samples in a file.

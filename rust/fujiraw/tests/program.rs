@@ -238,12 +238,23 @@ fn write_makes_the_block_of_a_set() {
     let said = f.run("write header samples block");
     assert_eq!((said.status.code(), text(&said.stderr)), (Some(0), String::new()));
     assert!(!f.get("block").is_empty());
-    let mut whole = f.get("header");
-    whole.extend((f.get("block").len() as u32).to_be_bytes());
-    whole.resize(32, 0);
-    whole.extend(f.get("block"));
-    f.put("stream", &whole);
+    let block = f.get("block");
+    assert_eq!(block.len() % 16, 0);
+    let stream_of = |block: &[u8]| {
+        let mut whole = f.get("header");
+        whole.extend((block.len() as u32).to_be_bytes());
+        whole.resize(32, 0);
+        whole.extend(block);
+        whole
+    };
+    f.put("stream", &stream_of(&block));
     assert_eq!(text(&f.run("check stream").stdout), "stream: block 0: tight\n");
+    // all its codes, and a byte too many
+    f.put("longer", &stream_of(&[&block[..], &[0]].concat()));
+    let said = f.run("check longer");
+    assert_eq!(said.status.code(), Some(1));
+    let end = "all its codes are, but after them there must be zero bits up to the next 16 bytes, and no more";
+    assert_eq!(text(&said.stdout), format!("longer: block 0: refusal 15: line 1: the block is not tight: {end}\n"));
     f.put("few", &[0; 2 * 12 * 384 - 2]);
     f.put("half", &[0; 2 * 12 * 384 - 1]);
     f.fails("write header few out", "refusal 9: the number of samples is not the block's");

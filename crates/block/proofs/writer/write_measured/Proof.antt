@@ -3,7 +3,7 @@ mod derived
 use borrow.Author.Needs.{needs}
 use mathlib.Core.Bool.{false≢true}
 use native.Mathlib.Omega.{arith}
-use Rattle.block.proofs.AnswerLaws.{measured-wrong, Measured, measured-right, measured-short, measured-room, measured-stored}
+use Rattle.block.proofs.AnswerLaws.{measured-wrong, Measured, measured-right, measured-short, measured-room, measured-stored, filling-room}
 use Rattle.block.proofs.writer.write_measured.Statement.{statement}
 use Rattle.block.proofs.writer.write_measured.Proof.derived.Tie as tie
 
@@ -32,7 +32,7 @@ returns : tie.Need-returns
 returns c =
     let e = c .before in
     let k = measured e in (
-      (measured-short _ _ _ _ _ _ k _ (e .before .bytes-for .ensures) _ (e .is-short .ensures) (c .if1 .taken), k .kept),
+      (measured-short _ _ _ _ _ _ k _ (e .before .block-length .ensures) _ (e .is-short .ensures) (c .if1 .taken), k .kept),
       walked (right e) .write-walk .ensures .1,
     )
 
@@ -45,16 +45,29 @@ write-walk-requires-2 c κs =
       a .0,
       (
         (a .1 .0, (omega (arith, w .write-walk .kept, a .1 .1 .0), omega (arith, w .write-walk .kept, a .1 .1 .1))),
-        measured-room _ _ _ _ _ _ (measured e) _ (e .before .bytes-for .ensures) _ (e .is-short .ensures) (x .if1 .left),
+        measured-room _ _ _ _ _ _ (measured e) _ (e .before .block-length .ensures) _ (e .is-short .ensures) (x .if1 .left),
       ),
     )
 
+-- the walk that stores
+abbrev stored : tie.After-fill-tail-arg → tie.After-write-walk2
+stored f = f .before .before .before .before .before .before
+
+fill-tail-requires : tie.Need-fill-tail-requires
+fill-tail-requires c κs =
+    let v = stored c in
+    let x = v .before .before .before .before in
+    let e = x .before in
+    let room = filling-room _ _ _ _ _ _ (measured e) _ (e .before .block-length .ensures) _ (e .is-short .ensures) (x .if1 .left) in
+    omega (arith, v .write-walk2 .kept, room)
+
 returns-3 : tie.Need-returns-3
 returns-3 c =
-    let v = c .before .before .before .before .before in
+    let f = c .before .before in
+    let v = stored (f .before) in
     let x = v .before .before .before .before in
     let e = x .before in (
-      measured-stored _ _ _ _ _ _ (measured e) _ (e .before .bytes-for .ensures) _ (e .is-short .ensures) (x .if1 .left) _ _ (v .write-walk2 .ensures .0),
+      measured-stored _ _ _ _ _ _ (measured e) _ (e .before .block-length .ensures) _ (e .is-short .ensures) (x .if1 .left) _ _ (v .write-walk2 .ensures .0) _ (f .fill-tail .ensures),
       v .write-walk2 .ensures .1,
     )
 
@@ -77,6 +90,7 @@ write-measured-spec =
     (λ c. search needs)
     returns
     write-walk-requires-2
+    fill-tail-requires
     (λ c. search needs)
     (λ c. search needs)
     (λ c. search needs)

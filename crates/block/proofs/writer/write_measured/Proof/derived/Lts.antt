@@ -27,6 +27,7 @@ use borrow.Kind.Bool
 use borrow.Kind.MutSlice
 use borrow.Kind.Num
 use borrow.Kind.ShrSlice
+use borrow.Kind.Unit as Unit'
 use borrow.Kind.Value
 use borrow.Rule.Lifetime
 use borrow.Rule.Local
@@ -159,10 +160,11 @@ xs = List._∷_ (Syntax.tyEnum (List._∷_ 119 (List._∷_ 114 (List._∷_ 105 (
     (Syntax.ttcons (Syntax.tcons (Syntax.tyInt Syntax.w64) Syntax.tnil) (Syntax.ttcons Syntax.tnil Syntax.ttnil)))))))))))))))))))))) (List._∷_ (Syntax.tyEnum (List._∷_ 119 (List._∷_ 114 (List._∷_ 105
     (List._∷_ 116 (List._∷_ 105 (List._∷_ 110 (List._∷_ 103 (List._∷_ 58 (List._∷_ 58 (List._∷_ 80 (List._∷_ 117 (List._∷_ 116 List.[])))))))))))) (Syntax.ttcons (Syntax.tcons y3 Syntax.tnil)
     (Syntax.ttcons (Syntax.tcons (Syntax.tyInt Syntax.w64) Syntax.tnil) Syntax.ttnil))) (List._∷_ (Syntax.tyRef Syntax.erased Syntax.mut (Syntax.tyInt Syntax.w8)) (List._∷_ y1 (List._∷_ (Syntax.tyRef
-    Syntax.erased Syntax.mut (Syntax.tyInt Syntax.w16)) (List._∷_ y0 (List._∷_ (Syntax.tyRef Syntax.erased Syntax.mut Element.behind) (List._∷_ y2 List.[])))))))))))))))))))))
+    Syntax.erased Syntax.mut (Syntax.tyInt Syntax.w16)) (List._∷_ y0 (List._∷_ (Syntax.tyRef Syntax.erased Syntax.mut Element.behind) (List._∷_ y2 (List._∷_ Syntax.tyUnit (List._∷_ (Syntax.tyRef
+    Syntax.erased Syntax.mut (Syntax.tyInt Syntax.w8)) (List._∷_ y1 List.[]))))))))))))))))))))))))
 
 abbrev pub m : Nat.ℕ
-m = 6
+m = 7
 
 abbrev pub ps·0 : List.List (Kinds.PK 4)
 ps·0 = List._∷_ (ShrSlice.pShrS (Referent.rtF (Referent.fInt Syntax.w16)) 0 tt) (List._∷_ (MutSlice.pMutS (Referent.rtF (Referent.fInt Syntax.w8)) 1 tt) (List._∷_ Bool.pBool (List._∷_ (MutSlice.pMutS
@@ -233,12 +235,34 @@ ps·2 = List._∷_ (Num.pNum Syntax.w64) (List._∷_ (Num.pNum Syntax.w64) List.
 abbrev pub r·2 : Kinds.RK 0
 r·2 = Bool.rBool
 
+abbrev pub ps·3 : List.List (Kinds.PK 1)
+ps·3 = List._∷_ (MutSlice.pMutS (Referent.rtF (Referent.fInt Syntax.w8)) 0 tt) (List._∷_ (Value.pVal record {
+  ty = Declared'.row BitPosition.the-type;
+  one = Path'.refl;
+  val = Laws'6.val BitPosition.the-type Laws.the-laws;
+  tells = Laws'6.tells BitPosition.the-type Laws.the-laws;
+  still = Laws'6.still
+      BitPosition.the-type Laws.the-copy Exit.yes;
+  row = Rows.whole (Declared'.row BitPosition.the-type);
+  rd = λ x. x;
+  mk = λ x. x;
+} λ M 𝓤 H A W. record {
+  copies = Laws'6.copy BitPosition.the-type Laws.the-copy 𝓤 H A W;
+  lawful = Laws'6.lawful BitPosition.the-type Laws.the-laws 𝓤 H A W;
+  makes = Laws'6.makes BitPosition.the-type Laws.the-plain 𝓤 H A;
+  in-mem = Local.mem-whole 𝓤 H A W (Declared'.row BitPosition.the-type);
+  of-mem = Local.whole-mem 𝓤 H A W (Declared'.row BitPosition.the-type);
+}) List.[])
+
+abbrev pub r·3 : Kinds.RK 1
+r·3 = Unit'.rUnit
+
 abbrev pub hs : List.List Syntax.Home
 hs = List._∷_ Syntax.valueLocal (List._∷_ Syntax.valueLocal (List._∷_ Syntax.valueLocal (List._∷_ Syntax.valueLocal (List._∷_ Syntax.valueLocal (List._∷_ Syntax.valueLocal (List._∷_ Syntax.valueLocal
     (List._∷_ Syntax.valueLocal (List._∷_ Syntax.valueLocal (List._∷_ Syntax.valueLocal (List._∷_ Syntax.valueLocal (List._∷_ Syntax.valueLocal (List._∷_ Syntax.valueLocal (List._∷_ Syntax.valueLocal
     (List._∷_ Syntax.valueLocal (List._∷_ Syntax.valueLocal (List._∷_ Syntax.valueLocal (List._∷_ Syntax.valueLocal (List._∷_ Syntax.valueLocal (List._∷_ Syntax.valueLocal (List._∷_ Syntax.valueLocal
     (List._∷_ Syntax.valueLocal (List._∷_ Syntax.valueLocal (List._∷_ Syntax.valueLocal (List._∷_ Syntax.valueLocal (List._∷_ Syntax.valueLocal (List._∷_ Syntax.valueLocal (List._∷_ Syntax.valueLocal
-    (List._∷_ Syntax.valueLocal List.[]))))))))))))))))))))))))))))
+    (List._∷_ Syntax.valueLocal (List._∷_ Syntax.valueLocal (List._∷_ Syntax.valueLocal (List._∷_ Syntax.valueLocal List.[])))))))))))))))))))))))))))))))
 
 abbrev b0 : Syntax.Body
 b0 = Syntax.assign (Syntax.place 11 List.[]) (Syntax.addrOf (Syntax.place 2 (List._∷_ (Syntax.field 0) (List._∷_ (Syntax.deref (Syntax.tyInt Syntax.w8)) List.[]))))
@@ -282,7 +306,7 @@ abbrev b12 : Syntax.Body
 b12 = Syntax.assign (Syntax.place 9 List.[]) (Syntax.rvOpd (Syntax.copy (Syntax.place 7 (List._∷_ (Syntax.variant 0) (List._∷_ (Syntax.field 1) List.[])))))
 
 abbrev b13 : Syntax.Body
-b13 = Syntax.call "block::writer::bytes_for" (List._∷_ (Syntax.copy (Syntax.place 9 List.[])) List.[]) (Syntax.place 10 List.[])
+b13 = Syntax.call "block::writer::block_length" (List._∷_ (Syntax.copy (Syntax.place 9 List.[])) List.[]) (Syntax.place 10 List.[])
 
 abbrev b14 : Syntax.Body
 b14 = Syntax.assign (Syntax.place 20 List.[]) (Syntax.rvOpd (Syntax.copy (Syntax.place 2 (List._∷_ (Syntax.field 1) List.[]))))
@@ -338,86 +362,105 @@ b29 = Syntax.call "block::writer::write_walk" (List._∷_ (Syntax.copy (Syntax.p
     (Syntax.place 22 List.[])
 
 abbrev b30 : Syntax.Body
-b30 = Syntax.assign (Syntax.place 17 List.[]) (Syntax.aggregate (List._∷_ (Syntax.int Syntax.w8 0) (List._∷_ (Syntax.copy (Syntax.place 10 List.[])) List.[])))
+b30 = Syntax.assign (Syntax.place 30 List.[]) (Syntax.addrOf (Syntax.place 2 (List._∷_ (Syntax.field 0) (List._∷_ (Syntax.deref (Syntax.tyInt Syntax.w8)) List.[]))))
 
 abbrev b31 : Syntax.Body
-b31 = Syntax.seq b29 b30
+b31 = Syntax.assign (Syntax.place 31 List.[]) (Syntax.aggregate (List._∷_ (Syntax.copy (Syntax.place 30 List.[])) (List._∷_ (Syntax.copy (Syntax.place 2 (List._∷_ (Syntax.field 1) List.[])))
+    List.[])))
 
 abbrev b32 : Syntax.Body
-b32 = Syntax.seq b28 b31
+b32 = Syntax.call "bits::fill_tail" (List._∷_ (Syntax.copy (Syntax.place 31 List.[])) (List._∷_ (Syntax.copy (Syntax.place 9 List.[])) List.[])) (Syntax.place 29 List.[])
 
 abbrev b33 : Syntax.Body
-b33 = Syntax.seq b27 b32
+b33 = Syntax.assign (Syntax.place 17 List.[]) (Syntax.aggregate (List._∷_ (Syntax.int Syntax.w8 0) (List._∷_ (Syntax.copy (Syntax.place 10 List.[])) List.[])))
 
 abbrev b34 : Syntax.Body
-b34 = Syntax.seq b26 b33
+b34 = Syntax.seq b32 b33
 
 abbrev b35 : Syntax.Body
-b35 = Syntax.seq b25 b34
+b35 = Syntax.seq b31 b34
 
 abbrev b36 : Syntax.Body
-b36 = Syntax.seq b24 b35
+b36 = Syntax.seq b30 b35
 
 abbrev b37 : Syntax.Body
-b37 = Syntax.seq b23 b36
+b37 = Syntax.seq b29 b36
 
 abbrev b38 : Syntax.Body
-b38 = Syntax.seq b22 b37
+b38 = Syntax.seq b28 b37
 
 abbrev b39 : Syntax.Body
-b39 = Syntax.seq b15 b38
+b39 = Syntax.seq b27 b38
 
 abbrev b40 : Syntax.Body
-b40 = Syntax.seq b14 b39
+b40 = Syntax.seq b26 b39
 
 abbrev b41 : Syntax.Body
-b41 = Syntax.seq b13 b40
+b41 = Syntax.seq b25 b40
 
 abbrev b42 : Syntax.Body
-b42 = Syntax.seq b12 b41
+b42 = Syntax.seq b24 b41
 
 abbrev b43 : Syntax.Body
-b43 = Syntax.switch (Syntax.copy (Syntax.place 7 (List._∷_ (Syntax.variant 0) (List._∷_ (Syntax.field 0) List.[])))) (Syntax.arm (List._∷_ 1 List.[]) b11 (Syntax.arm (List._∷_ 0 List.[]) b42
-    Syntax.noDefault))
+b43 = Syntax.seq b23 b42
 
 abbrev b44 : Syntax.Body
-b44 = Syntax.assign (Syntax.place 0 List.[]) (Syntax.rvOpd (Syntax.copy (Syntax.place 17 List.[])))
+b44 = Syntax.seq b22 b43
 
 abbrev b45 : Syntax.Body
-b45 = Syntax.return
+b45 = Syntax.seq b15 b44
 
 abbrev b46 : Syntax.Body
-b46 = Syntax.seq b44 b45
+b46 = Syntax.seq b14 b45
 
 abbrev b47 : Syntax.Body
-b47 = Syntax.seq b43 b46
+b47 = Syntax.seq b13 b46
 
 abbrev b48 : Syntax.Body
-b48 = Syntax.seq b6 b47
+b48 = Syntax.seq b12 b47
 
 abbrev b49 : Syntax.Body
-b49 = Syntax.seq b5 b48
+b49 = Syntax.switch (Syntax.copy (Syntax.place 7 (List._∷_ (Syntax.variant 0) (List._∷_ (Syntax.field 0) List.[])))) (Syntax.arm (List._∷_ 1 List.[]) b11 (Syntax.arm (List._∷_ 0 List.[]) b48
+    Syntax.noDefault))
 
 abbrev b50 : Syntax.Body
-b50 = Syntax.seq b4 b49
+b50 = Syntax.assign (Syntax.place 0 List.[]) (Syntax.rvOpd (Syntax.copy (Syntax.place 17 List.[])))
 
 abbrev b51 : Syntax.Body
-b51 = Syntax.seq b3 b50
+b51 = Syntax.return
 
 abbrev b52 : Syntax.Body
-b52 = Syntax.seq b2 b51
+b52 = Syntax.seq b50 b51
 
 abbrev b53 : Syntax.Body
-b53 = Syntax.seq b1 b52
+b53 = Syntax.seq b49 b52
 
 abbrev b54 : Syntax.Body
-b54 = Syntax.seq b0 b53
+b54 = Syntax.seq b6 b53
+
+abbrev b55 : Syntax.Body
+b55 = Syntax.seq b5 b54
+
+abbrev b56 : Syntax.Body
+b56 = Syntax.seq b4 b55
+
+abbrev b57 : Syntax.Body
+b57 = Syntax.seq b3 b56
+
+abbrev b58 : Syntax.Body
+b58 = Syntax.seq b2 b57
+
+abbrev b59 : Syntax.Body
+b59 = Syntax.seq b1 b58
+
+abbrev b60 : Syntax.Body
+b60 = Syntax.seq b0 b59
 
 abbrev pub body : Syntax.Body
-body = b54
+body = b60
 
 abbrev pub Claims : Type 1
-Claims = Kinds.In 4 ps·0 × Kinds.Out 4 ps·0 r·0 × Kinds.In 0 ps·1 × Kinds.Out 0 ps·1 r·1 × Kinds.In 0 ps·2 × Kinds.Out 0 ps·2 r·2
+Claims = Kinds.In 4 ps·0 × Kinds.Out 4 ps·0 r·0 × Kinds.In 0 ps·1 × Kinds.Out 0 ps·1 r·1 × Kinds.In 0 ps·2 × Kinds.Out 0 ps·2 r·2 × Kinds.In 1 ps·3 × Kinds.Out 1 ps·3 r·3
 
 abbrev pub e0 : Row.Entry
 e0 = (
@@ -526,19 +569,22 @@ abbrev pub e24 : Row.Entry
 e24 = (2, Mut.mslice (Referent.rtF (Referent.fInt Syntax.w8)) (Syntax.tyRef (Syntax.named 1) Syntax.mut (Syntax.tyInt Syntax.w8)) 1)
 
 abbrev pub e25 : Row.Entry
-e25 = (2, Relend.mslice-owed (Referent.rtF (Referent.fInt Syntax.w8)) (Syntax.tyRef (Syntax.named 1) Syntax.mut (Syntax.tyInt Syntax.w8)) 1 4 Row.off)
+e25 = (2, Relend.mslice-owed (Referent.rtF (Referent.fInt Syntax.w8)) (Syntax.tyRef (Syntax.named 1) Syntax.mut (Syntax.tyInt Syntax.w8)) 1 10 Row.off)
 
 abbrev pub e26 : Row.Entry
-e26 = (2, Relend.mslice-owed (Referent.rtF (Referent.fInt Syntax.w8)) (Syntax.tyRef (Syntax.named 1) Syntax.mut (Syntax.tyInt Syntax.w8)) 1 7 Row.off)
+e26 = (2, Relend.mslice-owed (Referent.rtF (Referent.fInt Syntax.w8)) (Syntax.tyRef (Syntax.named 1) Syntax.mut (Syntax.tyInt Syntax.w8)) 1 4 Row.off)
 
 abbrev pub e27 : Row.Entry
-e27 = (20, Rows.any-gone (Syntax.tyInt Syntax.w64))
+e27 = (2, Relend.mslice-owed (Referent.rtF (Referent.fInt Syntax.w8)) (Syntax.tyRef (Syntax.named 1) Syntax.mut (Syntax.tyInt Syntax.w8)) 1 7 Row.off)
 
 abbrev pub e28 : Row.Entry
-e28 = (20, Rows.sc-here (Row.sInt Syntax.w64))
+e28 = (20, Rows.any-gone (Syntax.tyInt Syntax.w64))
 
 abbrev pub e29 : Row.Entry
-e29 = (
+e29 = (20, Rows.sc-here (Row.sInt Syntax.w64))
+
+abbrev pub e30 : Row.Entry
+e30 = (
   21,
   Rows.any-gone (Syntax.tyEnum (List._∷_ 115 (List._∷_ 116 (List._∷_ 114 (List._∷_ 101 (List._∷_ 97 (List._∷_ 109 (List._∷_ 58 (List._∷_ 58 (List._∷_ 82 (List._∷_ 101 (List._∷_ 102 (List._∷_ 117
       (List._∷_ 115 (List._∷_ 97 (List._∷_ 108 List.[]))))))))))))))) (Syntax.ttcons Syntax.tnil (Syntax.ttcons Syntax.tnil (Syntax.ttcons Syntax.tnil (Syntax.ttcons (Syntax.tcons (Syntax.tyInt Syntax.w64)
@@ -549,311 +595,348 @@ e29 = (
       Syntax.tnil) (Syntax.ttcons Syntax.tnil Syntax.ttnil)))))))))))))))))))))),
 )
 
-abbrev pub e30 : Row.Entry
-e30 = (
+abbrev pub e31 : Row.Entry
+e31 = (
   22,
   Rows.any-gone (Syntax.tyEnum (List._∷_ 119 (List._∷_ 114 (List._∷_ 105 (List._∷_ 116 (List._∷_ 105 (List._∷_ 110 (List._∷_ 103 (List._∷_ 58 (List._∷_ 58 (List._∷_ 80 (List._∷_ 117 (List._∷_ 116
       List.[])))))))))))) (Syntax.ttcons (Syntax.tcons y3 Syntax.tnil) (Syntax.ttcons (Syntax.tcons (Syntax.tyInt Syntax.w64) Syntax.tnil) Syntax.ttnil))),
 )
 
-abbrev pub e31 : Row.Entry
-e31 = (23, Rows.any-gone (Syntax.tyRef Syntax.erased Syntax.mut (Syntax.tyInt Syntax.w8)))
-
 abbrev pub e32 : Row.Entry
-e32 = (24, Mut.msleft (Referent.rtF (Referent.fInt Syntax.w8)) (Syntax.tyRef Syntax.erased Syntax.mut (Syntax.tyInt Syntax.w8)))
+e32 = (23, Rows.any-gone (Syntax.tyRef Syntax.erased Syntax.mut (Syntax.tyInt Syntax.w8)))
 
 abbrev pub e33 : Row.Entry
-e33 = (24, Mut.mslice (Referent.rtF (Referent.fInt Syntax.w8)) (Syntax.tyRef Syntax.erased Syntax.mut (Syntax.tyInt Syntax.w8)) 7)
+e33 = (24, Mut.msleft (Referent.rtF (Referent.fInt Syntax.w8)) (Syntax.tyRef Syntax.erased Syntax.mut (Syntax.tyInt Syntax.w8)))
 
 abbrev pub e34 : Row.Entry
-e34 = (24, Rows.any-gone y1)
+e34 = (24, Mut.mslice (Referent.rtF (Referent.fInt Syntax.w8)) (Syntax.tyRef Syntax.erased Syntax.mut (Syntax.tyInt Syntax.w8)) 7)
 
 abbrev pub e35 : Row.Entry
-e35 = (25, Rows.any-gone (Syntax.tyRef Syntax.erased Syntax.mut (Syntax.tyInt Syntax.w16)))
+e35 = (24, Rows.any-gone y1)
 
 abbrev pub e36 : Row.Entry
-e36 = (26, Mut.msleft (Referent.rtF (Referent.fInt Syntax.w16)) (Syntax.tyRef Syntax.erased Syntax.mut (Syntax.tyInt Syntax.w16)))
+e36 = (25, Rows.any-gone (Syntax.tyRef Syntax.erased Syntax.mut (Syntax.tyInt Syntax.w16)))
 
 abbrev pub e37 : Row.Entry
-e37 = (26, Mut.mslice (Referent.rtF (Referent.fInt Syntax.w16)) (Syntax.tyRef Syntax.erased Syntax.mut (Syntax.tyInt Syntax.w16)) 8)
+e37 = (26, Mut.msleft (Referent.rtF (Referent.fInt Syntax.w16)) (Syntax.tyRef Syntax.erased Syntax.mut (Syntax.tyInt Syntax.w16)))
 
 abbrev pub e38 : Row.Entry
-e38 = (26, Rows.any-gone y0)
+e38 = (26, Mut.mslice (Referent.rtF (Referent.fInt Syntax.w16)) (Syntax.tyRef Syntax.erased Syntax.mut (Syntax.tyInt Syntax.w16)) 8)
 
 abbrev pub e39 : Row.Entry
-e39 = (27, Rows.any-gone (Syntax.tyRef Syntax.erased Syntax.mut Element.behind))
+e39 = (26, Rows.any-gone y0)
 
 abbrev pub e40 : Row.Entry
-e40 = (28, Mut.msleft (Element.type) (Syntax.tyRef Syntax.erased Syntax.mut Element.behind))
+e40 = (27, Rows.any-gone (Syntax.tyRef Syntax.erased Syntax.mut Element.behind))
 
 abbrev pub e41 : Row.Entry
-e41 = (28, Rows.any-gone y2)
+e41 = (28, Mut.msleft (Element.type) (Syntax.tyRef Syntax.erased Syntax.mut Element.behind))
 
 abbrev pub e42 : Row.Entry
-e42 = (3, Mut.mslice (Referent.rtF (Referent.fInt Syntax.w16)) (Syntax.tyRef (Syntax.named 2) Syntax.mut (Syntax.tyInt Syntax.w16)) 2)
+e42 = (28, Rows.any-gone y2)
 
 abbrev pub e43 : Row.Entry
-e43 = (3, Relend.mslice-owed (Referent.rtF (Referent.fInt Syntax.w16)) (Syntax.tyRef (Syntax.named 2) Syntax.mut (Syntax.tyInt Syntax.w16)) 2 5 Row.off)
+e43 = (29, Rows.any-gone Syntax.tyUnit)
 
 abbrev pub e44 : Row.Entry
-e44 = (3, Relend.mslice-owed (Referent.rtF (Referent.fInt Syntax.w16)) (Syntax.tyRef (Syntax.named 2) Syntax.mut (Syntax.tyInt Syntax.w16)) 2 8 Row.off)
+e44 = (3, Mut.mslice (Referent.rtF (Referent.fInt Syntax.w16)) (Syntax.tyRef (Syntax.named 2) Syntax.mut (Syntax.tyInt Syntax.w16)) 2)
 
 abbrev pub e45 : Row.Entry
-e45 = (4, Mut.mslice (Element.type) (Syntax.tyRef (Syntax.named 3) Syntax.mut Element.behind) 3)
+e45 = (3, Relend.mslice-owed (Referent.rtF (Referent.fInt Syntax.w16)) (Syntax.tyRef (Syntax.named 2) Syntax.mut (Syntax.tyInt Syntax.w16)) 2 5 Row.off)
 
 abbrev pub e46 : Row.Entry
-e46 = (4, Relend.mslice-owed (Element.type) (Syntax.tyRef (Syntax.named 3) Syntax.mut Element.behind) 3 6 Row.off)
+e46 = (3, Relend.mslice-owed (Referent.rtF (Referent.fInt Syntax.w16)) (Syntax.tyRef (Syntax.named 2) Syntax.mut (Syntax.tyInt Syntax.w16)) 2 8 Row.off)
 
 abbrev pub e47 : Row.Entry
-e47 = (4, Relend.mslice-owed (Element.type) (Syntax.tyRef (Syntax.named 3) Syntax.mut Element.behind) 3 9 Row.off)
+e47 = (30, Rows.any-gone (Syntax.tyRef Syntax.erased Syntax.mut (Syntax.tyInt Syntax.w8)))
 
 abbrev pub e48 : Row.Entry
-e48 = (5, Rows.any-gone y4)
+e48 = (31, Mut.msleft (Referent.rtF (Referent.fInt Syntax.w8)) (Syntax.tyRef Syntax.erased Syntax.mut (Syntax.tyInt Syntax.w8)))
 
 abbrev pub e49 : Row.Entry
-e49 = (5, Rows.whole (Declared'.row Form.the-type))
+e49 = (31, Rows.any-gone y1)
 
 abbrev pub e50 : Row.Entry
-e50 = (6, Rows.any-gone (Syntax.tyInt Syntax.w64))
+e50 = (4, Mut.mslice (Element.type) (Syntax.tyRef (Syntax.named 3) Syntax.mut Element.behind) 3)
 
 abbrev pub e51 : Row.Entry
-e51 = (6, Rows.sc-here (Row.sInt Syntax.w64))
+e51 = (4, Relend.mslice-owed (Element.type) (Syntax.tyRef (Syntax.named 3) Syntax.mut Element.behind) 3 6 Row.off)
 
 abbrev pub e52 : Row.Entry
-e52 = (
+e52 = (4, Relend.mslice-owed (Element.type) (Syntax.tyRef (Syntax.named 3) Syntax.mut Element.behind) 3 9 Row.off)
+
+abbrev pub e53 : Row.Entry
+e53 = (5, Rows.any-gone y4)
+
+abbrev pub e54 : Row.Entry
+e54 = (5, Rows.whole (Declared'.row Form.the-type))
+
+abbrev pub e55 : Row.Entry
+e55 = (6, Rows.any-gone (Syntax.tyInt Syntax.w64))
+
+abbrev pub e56 : Row.Entry
+e56 = (6, Rows.sc-here (Row.sInt Syntax.w64))
+
+abbrev pub e57 : Row.Entry
+e57 = (
   7,
   Rows.any-gone (Syntax.tyEnum (List._∷_ 119 (List._∷_ 114 (List._∷_ 105 (List._∷_ 116 (List._∷_ 105 (List._∷_ 110 (List._∷_ 103 (List._∷_ 58 (List._∷_ 58 (List._∷_ 80 (List._∷_ 117 (List._∷_ 116
       List.[])))))))))))) (Syntax.ttcons (Syntax.tcons y3 Syntax.tnil) (Syntax.ttcons (Syntax.tcons (Syntax.tyInt Syntax.w64) Syntax.tnil) Syntax.ttnil))),
 )
 
-abbrev pub e53 : Row.Entry
-e53 = (7, Rows.whole (Declared.row Put.the-type))
-
-abbrev pub e54 : Row.Entry
-e54 = (7, Rows.whole (Known.Known Put.enum 0))
-
-abbrev pub e55 : Row.Entry
-e55 = (7, Rows.whole (Known.Known Put.enum 1))
-
-abbrev pub e56 : Row.Entry
-e56 = (8, Rows.any-gone (Syntax.tyInt Syntax.w64))
-
-abbrev pub e57 : Row.Entry
-e57 = (8, Rows.sc-here (Row.sInt Syntax.w64))
-
 abbrev pub e58 : Row.Entry
-e58 = (9, Rows.any-gone y3)
+e58 = (7, Rows.whole (Declared.row Put.the-type))
 
 abbrev pub e59 : Row.Entry
-e59 = (9, Rows.whole (Declared'.row BitPosition.the-type))
+e59 = (7, Rows.whole (Known.Known Put.enum 0))
+
+abbrev pub e60 : Row.Entry
+e60 = (7, Rows.whole (Known.Known Put.enum 1))
+
+abbrev pub e61 : Row.Entry
+e61 = (8, Rows.any-gone (Syntax.tyInt Syntax.w64))
+
+abbrev pub e62 : Row.Entry
+e62 = (8, Rows.sc-here (Row.sInt Syntax.w64))
+
+abbrev pub e63 : Row.Entry
+e63 = (9, Rows.any-gone y3)
+
+abbrev pub e64 : Row.Entry
+e64 = (9, Rows.whole (Declared'.row BitPosition.the-type))
 
 abbrev pub t0 : List.List Row.Entry
-t0 = List._∷_ e0 (List._∷_ e2 (List._∷_ e24 (List._∷_ e42 (List._∷_ e45 (List._∷_ e49 (List._∷_ e51 (List._∷_ e52 (List._∷_ e56 (List._∷_ e58 (List._∷_ e3 (List._∷_ e6 (List._∷_ e9 (List._∷_ e11
+t0 = List._∷_ e0 (List._∷_ e2 (List._∷_ e24 (List._∷_ e44 (List._∷_ e50 (List._∷_ e54 (List._∷_ e56 (List._∷_ e57 (List._∷_ e61 (List._∷_ e63 (List._∷_ e3 (List._∷_ e6 (List._∷_ e9 (List._∷_ e11
     (List._∷_ e14 (List._∷_ e16 List.[])))))))))))))))
 
 abbrev pub t1 : List.List Row.Entry
-t1 = List._∷_ e17 (List._∷_ e18 (List._∷_ e20 (List._∷_ e22 (List._∷_ e27 (List._∷_ e29 (List._∷_ e30 (List._∷_ e31 (List._∷_ e34 (List._∷_ e35 (List._∷_ e38 (List._∷_ e39 (List._∷_ e41
-    List.[]))))))))))))
+t1 = List._∷_ e17 (List._∷_ e18 (List._∷_ e20 (List._∷_ e22 (List._∷_ e28 (List._∷_ e30 (List._∷_ e31 (List._∷_ e32 (List._∷_ e35 (List._∷_ e36 (List._∷_ e39 (List._∷_ e40 (List._∷_ e42 (List._∷_ e43
+    (List._∷_ e47 (List._∷_ e49 List.[])))))))))))))))
 
 abbrev pub t2 : List.List Row.Entry
-t2 = List._∷_ e1 (List._∷_ e2 (List._∷_ e24 (List._∷_ e42 (List._∷_ e45 (List._∷_ e48 (List._∷_ e50 (List._∷_ e52 (List._∷_ e56 (List._∷_ e58 (List._∷_ e3 (List._∷_ e6 (List._∷_ e9 (List._∷_ e11
+t2 = List._∷_ e1 (List._∷_ e2 (List._∷_ e24 (List._∷_ e44 (List._∷_ e50 (List._∷_ e53 (List._∷_ e55 (List._∷_ e57 (List._∷_ e61 (List._∷_ e63 (List._∷_ e3 (List._∷_ e6 (List._∷_ e9 (List._∷_ e11
     (List._∷_ e14 (List._∷_ e16 List.[])))))))))))))))
 
 abbrev pub t3 : List.List Row.Entry
-t3 = List._∷_ e0 (List._∷_ e2 (List._∷_ e25 (List._∷_ e42 (List._∷_ e45 (List._∷_ e49 (List._∷_ e51 (List._∷_ e52 (List._∷_ e56 (List._∷_ e58 (List._∷_ e3 (List._∷_ e5 (List._∷_ e9 (List._∷_ e11
+t3 = List._∷_ e0 (List._∷_ e2 (List._∷_ e26 (List._∷_ e44 (List._∷_ e50 (List._∷_ e54 (List._∷_ e56 (List._∷_ e57 (List._∷_ e61 (List._∷_ e63 (List._∷_ e3 (List._∷_ e5 (List._∷_ e9 (List._∷_ e11
     (List._∷_ e14 (List._∷_ e16 List.[])))))))))))))))
 
 abbrev pub t4 : List.List Row.Entry
-t4 = List._∷_ e0 (List._∷_ e2 (List._∷_ e25 (List._∷_ e42 (List._∷_ e45 (List._∷_ e49 (List._∷_ e51 (List._∷_ e52 (List._∷_ e56 (List._∷_ e58 (List._∷_ e3 (List._∷_ e6 (List._∷_ e8 (List._∷_ e11
+t4 = List._∷_ e0 (List._∷_ e2 (List._∷_ e26 (List._∷_ e44 (List._∷_ e50 (List._∷_ e54 (List._∷_ e56 (List._∷_ e57 (List._∷_ e61 (List._∷_ e63 (List._∷_ e3 (List._∷_ e6 (List._∷_ e8 (List._∷_ e11
     (List._∷_ e14 (List._∷_ e16 List.[])))))))))))))))
 
 abbrev pub t5 : List.List Row.Entry
-t5 = List._∷_ e0 (List._∷_ e2 (List._∷_ e25 (List._∷_ e43 (List._∷_ e45 (List._∷_ e49 (List._∷_ e51 (List._∷_ e52 (List._∷_ e56 (List._∷_ e58 (List._∷_ e3 (List._∷_ e6 (List._∷_ e8 (List._∷_ e10
+t5 = List._∷_ e0 (List._∷_ e2 (List._∷_ e26 (List._∷_ e45 (List._∷_ e50 (List._∷_ e54 (List._∷_ e56 (List._∷_ e57 (List._∷_ e61 (List._∷_ e63 (List._∷_ e3 (List._∷_ e6 (List._∷_ e8 (List._∷_ e10
     (List._∷_ e14 (List._∷_ e16 List.[])))))))))))))))
 
 abbrev pub t6 : List.List Row.Entry
-t6 = List._∷_ e0 (List._∷_ e2 (List._∷_ e25 (List._∷_ e43 (List._∷_ e45 (List._∷_ e49 (List._∷_ e51 (List._∷_ e52 (List._∷_ e56 (List._∷_ e58 (List._∷_ e3 (List._∷_ e6 (List._∷_ e8 (List._∷_ e11
+t6 = List._∷_ e0 (List._∷_ e2 (List._∷_ e26 (List._∷_ e45 (List._∷_ e50 (List._∷_ e54 (List._∷_ e56 (List._∷_ e57 (List._∷_ e61 (List._∷_ e63 (List._∷_ e3 (List._∷_ e6 (List._∷_ e8 (List._∷_ e11
     (List._∷_ e13 (List._∷_ e16 List.[])))))))))))))))
 
 abbrev pub t7 : List.List Row.Entry
-t7 = List._∷_ e0 (List._∷_ e2 (List._∷_ e25 (List._∷_ e43 (List._∷_ e46 (List._∷_ e49 (List._∷_ e51 (List._∷_ e52 (List._∷_ e56 (List._∷_ e58 (List._∷_ e3 (List._∷_ e6 (List._∷_ e8 (List._∷_ e11
+t7 = List._∷_ e0 (List._∷_ e2 (List._∷_ e26 (List._∷_ e45 (List._∷_ e51 (List._∷_ e54 (List._∷_ e56 (List._∷_ e57 (List._∷_ e61 (List._∷_ e63 (List._∷_ e3 (List._∷_ e6 (List._∷_ e8 (List._∷_ e11
     (List._∷_ e13 (List._∷_ e15 List.[])))))))))))))))
 
 abbrev pub t8 : List.List Row.Entry
-t8 = List._∷_ e0 (List._∷_ e2 (List._∷_ e25 (List._∷_ e43 (List._∷_ e46 (List._∷_ e49 (List._∷_ e51 (List._∷_ e52 (List._∷_ e56 (List._∷_ e58 (List._∷_ e3 (List._∷_ e6 (List._∷_ e8 (List._∷_ e11
+t8 = List._∷_ e0 (List._∷_ e2 (List._∷_ e26 (List._∷_ e45 (List._∷_ e51 (List._∷_ e54 (List._∷_ e56 (List._∷_ e57 (List._∷_ e61 (List._∷_ e63 (List._∷_ e3 (List._∷_ e6 (List._∷_ e8 (List._∷_ e11
     (List._∷_ e13 (List._∷_ e16 List.[])))))))))))))))
 
 abbrev pub t9 : List.List Row.Entry
-t9 = List._∷_ (16, Mut.mslice (Element.type) (Syntax.tyRef Syntax.erased Syntax.mut Element.behind) 6) (List._∷_ e18 (List._∷_ e20 (List._∷_ e22 (List._∷_ e27 (List._∷_ e29 (List._∷_ e30 (List._∷_ e31
-    (List._∷_ e34 (List._∷_ e35 (List._∷_ e38 (List._∷_ e39 (List._∷_ e41 List.[]))))))))))))
+t9 = List._∷_ (16, Mut.mslice (Element.type) (Syntax.tyRef Syntax.erased Syntax.mut Element.behind) 6) (List._∷_ e18 (List._∷_ e20 (List._∷_ e22 (List._∷_ e28 (List._∷_ e30 (List._∷_ e31 (List._∷_ e32
+    (List._∷_ e35 (List._∷_ e36 (List._∷_ e39 (List._∷_ e40 (List._∷_ e42 (List._∷_ e43 (List._∷_ e47 (List._∷_ e49 List.[])))))))))))))))
 
 abbrev pub t10 : List.List Row.Entry
-t10 = List._∷_ e0 (List._∷_ e2 (List._∷_ e25 (List._∷_ e43 (List._∷_ e46 (List._∷_ e49 (List._∷_ e51 (List._∷_ e53 (List._∷_ e56 (List._∷_ e58 (List._∷_ e3 (List._∷_ e6 (List._∷_ e7 (List._∷_ e11
+t10 = List._∷_ e0 (List._∷_ e2 (List._∷_ e26 (List._∷_ e45 (List._∷_ e51 (List._∷_ e54 (List._∷_ e56 (List._∷_ e58 (List._∷_ e61 (List._∷_ e63 (List._∷_ e3 (List._∷_ e6 (List._∷_ e7 (List._∷_ e11
     (List._∷_ e12 (List._∷_ e16 List.[])))))))))))))))
 
 abbrev pub t11 : List.List Row.Entry
-t11 = List._∷_ (16, Mut.msleft (Element.type) (Syntax.tyRef Syntax.erased Syntax.mut Element.behind)) (List._∷_ e18 (List._∷_ e20 (List._∷_ e22 (List._∷_ e27 (List._∷_ e29 (List._∷_ e30 (List._∷_ e31
-    (List._∷_ e34 (List._∷_ e35 (List._∷_ e38 (List._∷_ e39 (List._∷_ e41 List.[]))))))))))))
+t11 = List._∷_ (16, Mut.msleft (Element.type) (Syntax.tyRef Syntax.erased Syntax.mut Element.behind)) (List._∷_ e18 (List._∷_ e20 (List._∷_ e22 (List._∷_ e28 (List._∷_ e30 (List._∷_ e31 (List._∷_ e32
+    (List._∷_ e35 (List._∷_ e36 (List._∷_ e39 (List._∷_ e40 (List._∷_ e42 (List._∷_ e43 (List._∷_ e47 (List._∷_ e49 List.[])))))))))))))))
 
 abbrev pub t12 : List.List Row.Entry
-t12 = List._∷_ e0 (List._∷_ e2 (List._∷_ e24 (List._∷_ e42 (List._∷_ e45 (List._∷_ e48 (List._∷_ e51 (List._∷_ e52 (List._∷_ e56 (List._∷_ e58 (List._∷_ e3 (List._∷_ e6 (List._∷_ e9 (List._∷_ e11
+t12 = List._∷_ e0 (List._∷_ e2 (List._∷_ e24 (List._∷_ e44 (List._∷_ e50 (List._∷_ e53 (List._∷_ e56 (List._∷_ e57 (List._∷_ e61 (List._∷_ e63 (List._∷_ e3 (List._∷_ e6 (List._∷_ e9 (List._∷_ e11
     (List._∷_ e14 (List._∷_ e16 List.[])))))))))))))))
 
 abbrev pub t13 : List.List Row.Entry
-t13 = List._∷_ e17 (List._∷_ e19 (List._∷_ e20 (List._∷_ e22 (List._∷_ e27 (List._∷_ e29 (List._∷_ e30 (List._∷_ e31 (List._∷_ e34 (List._∷_ e35 (List._∷_ e38 (List._∷_ e39 (List._∷_ e41
-    List.[]))))))))))))
+t13 = List._∷_ e17 (List._∷_ e19 (List._∷_ e20 (List._∷_ e22 (List._∷_ e28 (List._∷_ e30 (List._∷_ e31 (List._∷_ e32 (List._∷_ e35 (List._∷_ e36 (List._∷_ e39 (List._∷_ e40 (List._∷_ e42 (List._∷_ e43
+    (List._∷_ e47 (List._∷_ e49 List.[])))))))))))))))
 
 abbrev pub t14 : List.List Row.Entry
-t14 = List._∷_ e0 (List._∷_ e2 (List._∷_ e24 (List._∷_ e43 (List._∷_ e46 (List._∷_ e49 (List._∷_ e51 (List._∷_ e53 (List._∷_ e56 (List._∷_ e58 (List._∷_ e3 (List._∷_ e6 (List._∷_ e9 (List._∷_ e11
+t14 = List._∷_ e0 (List._∷_ e2 (List._∷_ e24 (List._∷_ e45 (List._∷_ e51 (List._∷_ e54 (List._∷_ e56 (List._∷_ e58 (List._∷_ e61 (List._∷_ e63 (List._∷_ e3 (List._∷_ e6 (List._∷_ e9 (List._∷_ e11
     (List._∷_ e12 (List._∷_ e16 List.[])))))))))))))))
 
 abbrev pub t15 : List.List Row.Entry
-t15 = List._∷_ e0 (List._∷_ e2 (List._∷_ e24 (List._∷_ e42 (List._∷_ e46 (List._∷_ e49 (List._∷_ e51 (List._∷_ e53 (List._∷_ e56 (List._∷_ e58 (List._∷_ e3 (List._∷_ e6 (List._∷_ e9 (List._∷_ e11
+t15 = List._∷_ e0 (List._∷_ e2 (List._∷_ e24 (List._∷_ e44 (List._∷_ e51 (List._∷_ e54 (List._∷_ e56 (List._∷_ e58 (List._∷_ e61 (List._∷_ e63 (List._∷_ e3 (List._∷_ e6 (List._∷_ e9 (List._∷_ e11
     (List._∷_ e14 (List._∷_ e16 List.[])))))))))))))))
 
 abbrev pub t16 : List.List Row.Entry
-t16 = List._∷_ e0 (List._∷_ e2 (List._∷_ e24 (List._∷_ e42 (List._∷_ e45 (List._∷_ e49 (List._∷_ e51 (List._∷_ e53 (List._∷_ e56 (List._∷_ e58 (List._∷_ e3 (List._∷_ e6 (List._∷_ e9 (List._∷_ e11
+t16 = List._∷_ e0 (List._∷_ e2 (List._∷_ e24 (List._∷_ e44 (List._∷_ e50 (List._∷_ e54 (List._∷_ e56 (List._∷_ e58 (List._∷_ e61 (List._∷_ e63 (List._∷_ e3 (List._∷_ e6 (List._∷_ e9 (List._∷_ e11
     (List._∷_ e14 (List._∷_ e16 List.[])))))))))))))))
 
 abbrev pub t17 : List.List Row.Entry
-t17 = List._∷_ e0 (List._∷_ e2 (List._∷_ e24 (List._∷_ e42 (List._∷_ e45 (List._∷_ e49 (List._∷_ e51 (List._∷_ e55 (List._∷_ e56 (List._∷_ e58 (List._∷_ e3 (List._∷_ e6 (List._∷_ e9 (List._∷_ e11
+t17 = List._∷_ e0 (List._∷_ e2 (List._∷_ e24 (List._∷_ e44 (List._∷_ e50 (List._∷_ e54 (List._∷_ e56 (List._∷_ e60 (List._∷_ e61 (List._∷_ e63 (List._∷_ e3 (List._∷_ e6 (List._∷_ e9 (List._∷_ e11
     (List._∷_ e14 (List._∷_ e16 List.[])))))))))))))))
 
 abbrev pub t18 : List.List Row.Entry
-t18 = List._∷_ e0 (List._∷_ e2 (List._∷_ e24 (List._∷_ e42 (List._∷_ e45 (List._∷_ e48 (List._∷_ e51 (List._∷_ e55 (List._∷_ e56 (List._∷_ e58 (List._∷_ e3 (List._∷_ e6 (List._∷_ e9 (List._∷_ e11
+t18 = List._∷_ e0 (List._∷_ e2 (List._∷_ e24 (List._∷_ e44 (List._∷_ e50 (List._∷_ e53 (List._∷_ e56 (List._∷_ e60 (List._∷_ e61 (List._∷_ e63 (List._∷_ e3 (List._∷_ e6 (List._∷_ e9 (List._∷_ e11
     (List._∷_ e14 (List._∷_ e16 List.[])))))))))))))))
 
 abbrev pub t19 : List.List Row.Entry
-t19 = List._∷_ e0 (List._∷_ e2 (List._∷_ e24 (List._∷_ e42 (List._∷_ e45 (List._∷_ e48 (List._∷_ e51 (List._∷_ e55 (List._∷_ e57 (List._∷_ e58 (List._∷_ e3 (List._∷_ e6 (List._∷_ e9 (List._∷_ e11
+t19 = List._∷_ e0 (List._∷_ e2 (List._∷_ e24 (List._∷_ e44 (List._∷_ e50 (List._∷_ e53 (List._∷_ e56 (List._∷_ e60 (List._∷_ e62 (List._∷_ e63 (List._∷_ e3 (List._∷_ e6 (List._∷_ e9 (List._∷_ e11
     (List._∷_ e14 (List._∷_ e16 List.[])))))))))))))))
 
 abbrev pub t20 : List.List Row.Entry
-t20 = List._∷_ e0 (List._∷_ e2 (List._∷_ e24 (List._∷_ e42 (List._∷_ e45 (List._∷_ e48 (List._∷_ e51 (List._∷_ e52 (List._∷_ e57 (List._∷_ e58 (List._∷_ e3 (List._∷_ e6 (List._∷_ e9 (List._∷_ e11
+t20 = List._∷_ e0 (List._∷_ e2 (List._∷_ e24 (List._∷_ e44 (List._∷_ e50 (List._∷_ e53 (List._∷_ e56 (List._∷_ e57 (List._∷_ e62 (List._∷_ e63 (List._∷_ e3 (List._∷_ e6 (List._∷_ e9 (List._∷_ e11
     (List._∷_ e14 (List._∷_ e16 List.[])))))))))))))))
 
 abbrev pub t21 : List.List Row.Entry
-t21 = List._∷_ e17 (List._∷_ e18 (List._∷_ e21 (List._∷_ e22 (List._∷_ e27 (List._∷_ e29 (List._∷_ e30 (List._∷_ e31 (List._∷_ e34 (List._∷_ e35 (List._∷_ e38 (List._∷_ e39 (List._∷_ e41
-    List.[]))))))))))))
+t21 = List._∷_ e17 (List._∷_ e18 (List._∷_ e21 (List._∷_ e22 (List._∷_ e28 (List._∷_ e30 (List._∷_ e31 (List._∷_ e32 (List._∷_ e35 (List._∷_ e36 (List._∷_ e39 (List._∷_ e40 (List._∷_ e42 (List._∷_ e43
+    (List._∷_ e47 (List._∷_ e49 List.[])))))))))))))))
 
 abbrev pub t22 : List.List Row.Entry
-t22 = List._∷_ e17 (List._∷_ e19 (List._∷_ e21 (List._∷_ e22 (List._∷_ e27 (List._∷_ e29 (List._∷_ e30 (List._∷_ e31 (List._∷_ e34 (List._∷_ e35 (List._∷_ e38 (List._∷_ e39 (List._∷_ e41
-    List.[]))))))))))))
+t22 = List._∷_ e17 (List._∷_ e19 (List._∷_ e21 (List._∷_ e22 (List._∷_ e28 (List._∷_ e30 (List._∷_ e31 (List._∷_ e32 (List._∷_ e35 (List._∷_ e36 (List._∷_ e39 (List._∷_ e40 (List._∷_ e42 (List._∷_ e43
+    (List._∷_ e47 (List._∷_ e49 List.[])))))))))))))))
 
 abbrev pub t23 : List.List Row.Entry
-t23 = List._∷_ e0 (List._∷_ e2 (List._∷_ e24 (List._∷_ e42 (List._∷_ e45 (List._∷_ e49 (List._∷_ e51 (List._∷_ e54 (List._∷_ e56 (List._∷_ e58 (List._∷_ e3 (List._∷_ e6 (List._∷_ e9 (List._∷_ e11
+t23 = List._∷_ e0 (List._∷_ e2 (List._∷_ e24 (List._∷_ e44 (List._∷_ e50 (List._∷_ e54 (List._∷_ e56 (List._∷_ e59 (List._∷_ e61 (List._∷_ e63 (List._∷_ e3 (List._∷_ e6 (List._∷_ e9 (List._∷_ e11
     (List._∷_ e14 (List._∷_ e16 List.[])))))))))))))))
 
 abbrev pub t24 : List.List Row.Entry
-t24 = List._∷_ e0 (List._∷_ e2 (List._∷_ e24 (List._∷_ e42 (List._∷_ e45 (List._∷_ e49 (List._∷_ e51 (List._∷_ e54 (List._∷_ e56 (List._∷_ e59 (List._∷_ e3 (List._∷_ e6 (List._∷_ e9 (List._∷_ e11
+t24 = List._∷_ e0 (List._∷_ e2 (List._∷_ e24 (List._∷_ e44 (List._∷_ e50 (List._∷_ e54 (List._∷_ e56 (List._∷_ e59 (List._∷_ e61 (List._∷_ e64 (List._∷_ e3 (List._∷_ e6 (List._∷_ e9 (List._∷_ e11
     (List._∷_ e14 (List._∷_ e16 List.[])))))))))))))))
 
 abbrev pub t25 : List.List Row.Entry
-t25 = List._∷_ e0 (List._∷_ e2 (List._∷_ e24 (List._∷_ e42 (List._∷_ e45 (List._∷_ e49 (List._∷_ e51 (List._∷_ e52 (List._∷_ e56 (List._∷_ e59 (List._∷_ e3 (List._∷_ e6 (List._∷_ e9 (List._∷_ e11
+t25 = List._∷_ e0 (List._∷_ e2 (List._∷_ e24 (List._∷_ e44 (List._∷_ e50 (List._∷_ e54 (List._∷_ e56 (List._∷_ e57 (List._∷_ e61 (List._∷_ e64 (List._∷_ e3 (List._∷_ e6 (List._∷_ e9 (List._∷_ e11
     (List._∷_ e14 (List._∷_ e16 List.[])))))))))))))))
 
 abbrev pub t26 : List.List Row.Entry
-t26 = List._∷_ e0 (List._∷_ e2 (List._∷_ e24 (List._∷_ e42 (List._∷_ e45 (List._∷_ e49 (List._∷_ e51 (List._∷_ e52 (List._∷_ e56 (List._∷_ e59 (List._∷_ e4 (List._∷_ e6 (List._∷_ e9 (List._∷_ e11
+t26 = List._∷_ e0 (List._∷_ e2 (List._∷_ e24 (List._∷_ e44 (List._∷_ e50 (List._∷_ e54 (List._∷_ e56 (List._∷_ e57 (List._∷_ e61 (List._∷_ e64 (List._∷_ e4 (List._∷_ e6 (List._∷_ e9 (List._∷_ e11
     (List._∷_ e14 (List._∷_ e16 List.[])))))))))))))))
 
 abbrev pub t27 : List.List Row.Entry
-t27 = List._∷_ e0 (List._∷_ e2 (List._∷_ e24 (List._∷_ e42 (List._∷_ e45 (List._∷_ e49 (List._∷_ e51 (List._∷_ e52 (List._∷_ e56 (List._∷_ e58 (List._∷_ e4 (List._∷_ e6 (List._∷_ e9 (List._∷_ e11
-    (List._∷_ e14 (List._∷_ e16 List.[])))))))))))))))
+t27 = List._∷_ e17 (List._∷_ e18 (List._∷_ e20 (List._∷_ e22 (List._∷_ e29 (List._∷_ e30 (List._∷_ e31 (List._∷_ e32 (List._∷_ e35 (List._∷_ e36 (List._∷_ e39 (List._∷_ e40 (List._∷_ e42 (List._∷_ e43
+    (List._∷_ e47 (List._∷_ e49 List.[])))))))))))))))
 
 abbrev pub t28 : List.List Row.Entry
-t28 = List._∷_ e17 (List._∷_ e18 (List._∷_ e20 (List._∷_ e22 (List._∷_ e28 (List._∷_ e29 (List._∷_ e30 (List._∷_ e31 (List._∷_ e34 (List._∷_ e35 (List._∷_ e38 (List._∷_ e39 (List._∷_ e41
-    List.[]))))))))))))
+t28 = List._∷_ e17 (List._∷_ e18 (List._∷_ e20 (List._∷_ e23 (List._∷_ e29 (List._∷_ e30 (List._∷_ e31 (List._∷_ e32 (List._∷_ e35 (List._∷_ e36 (List._∷_ e39 (List._∷_ e40 (List._∷_ e42 (List._∷_ e43
+    (List._∷_ e47 (List._∷_ e49 List.[])))))))))))))))
 
 abbrev pub t29 : List.List Row.Entry
-t29 = List._∷_ e17 (List._∷_ e18 (List._∷_ e20 (List._∷_ e23 (List._∷_ e28 (List._∷_ e29 (List._∷_ e30 (List._∷_ e31 (List._∷_ e34 (List._∷_ e35 (List._∷_ e38 (List._∷_ e39 (List._∷_ e41
-    List.[]))))))))))))
+t29 = List._∷_ e17 (List._∷_ e18 (List._∷_ e20 (List._∷_ e23 (List._∷_ e28 (List._∷_ e30 (List._∷_ e31 (List._∷_ e32 (List._∷_ e35 (List._∷_ e36 (List._∷_ e39 (List._∷_ e40 (List._∷_ e42 (List._∷_ e43
+    (List._∷_ e47 (List._∷_ e49 List.[])))))))))))))))
 
 abbrev pub t30 : List.List Row.Entry
-t30 = List._∷_ e17 (List._∷_ e18 (List._∷_ e20 (List._∷_ e23 (List._∷_ e27 (List._∷_ e29 (List._∷_ e30 (List._∷_ e31 (List._∷_ e34 (List._∷_ e35 (List._∷_ e38 (List._∷_ e39 (List._∷_ e41
-    List.[]))))))))))))
+t30 = List._∷_ e0 (List._∷_ e2 (List._∷_ e24 (List._∷_ e44 (List._∷_ e50 (List._∷_ e53 (List._∷_ e56 (List._∷_ e57 (List._∷_ e61 (List._∷_ e64 (List._∷_ e4 (List._∷_ e6 (List._∷_ e9 (List._∷_ e11
+    (List._∷_ e14 (List._∷_ e16 List.[])))))))))))))))
 
 abbrev pub t31 : List.List Row.Entry
-t31 = List._∷_ e0 (List._∷_ e2 (List._∷_ e24 (List._∷_ e42 (List._∷_ e45 (List._∷_ e48 (List._∷_ e51 (List._∷_ e52 (List._∷_ e56 (List._∷_ e58 (List._∷_ e4 (List._∷_ e6 (List._∷_ e9 (List._∷_ e11
+t31 = List._∷_ e0 (List._∷_ e2 (List._∷_ e24 (List._∷_ e44 (List._∷_ e50 (List._∷_ e53 (List._∷_ e56 (List._∷_ e57 (List._∷_ e61 (List._∷_ e63 (List._∷_ e4 (List._∷_ e6 (List._∷_ e9 (List._∷_ e11
     (List._∷_ e14 (List._∷_ e16 List.[])))))))))))))))
 
 abbrev pub t32 : List.List Row.Entry
-t32 = List._∷_ e17 (List._∷_ e18 (List._∷_ e20 (List._∷_ e22 (List._∷_ e27 (List._∷_ (21, Rows.whole (Declared.row Refusal.the-type)) (List._∷_ e30 (List._∷_ e31 (List._∷_ e34 (List._∷_ e35 (List._∷_
-    e38 (List._∷_ e39 (List._∷_ e41 List.[]))))))))))))
+t32 = List._∷_ e17 (List._∷_ e18 (List._∷_ e20 (List._∷_ e22 (List._∷_ e28 (List._∷_ (21, Rows.whole (Declared.row Refusal.the-type)) (List._∷_ e31 (List._∷_ e32 (List._∷_ e35 (List._∷_ e36 (List._∷_
+    e39 (List._∷_ e40 (List._∷_ e42 (List._∷_ e43 (List._∷_ e47 (List._∷_ e49 List.[])))))))))))))))
 
 abbrev pub t33 : List.List Row.Entry
-t33 = List._∷_ e1 (List._∷_ e2 (List._∷_ e24 (List._∷_ e42 (List._∷_ e45 (List._∷_ e48 (List._∷_ e51 (List._∷_ e52 (List._∷_ e56 (List._∷_ e58 (List._∷_ e4 (List._∷_ e6 (List._∷_ e9 (List._∷_ e11
+t33 = List._∷_ e1 (List._∷_ e2 (List._∷_ e24 (List._∷_ e44 (List._∷_ e50 (List._∷_ e53 (List._∷_ e56 (List._∷_ e57 (List._∷_ e61 (List._∷_ e63 (List._∷_ e4 (List._∷_ e6 (List._∷_ e9 (List._∷_ e11
     (List._∷_ e14 (List._∷_ e16 List.[])))))))))))))))
 
 abbrev pub t34 : List.List Row.Entry
-t34 = List._∷_ e1 (List._∷_ e2 (List._∷_ e24 (List._∷_ e42 (List._∷_ e45 (List._∷_ e48 (List._∷_ e50 (List._∷_ e52 (List._∷_ e56 (List._∷_ e58 (List._∷_ e4 (List._∷_ e6 (List._∷_ e9 (List._∷_ e11
+t34 = List._∷_ e1 (List._∷_ e2 (List._∷_ e24 (List._∷_ e44 (List._∷_ e50 (List._∷_ e53 (List._∷_ e55 (List._∷_ e57 (List._∷_ e61 (List._∷_ e63 (List._∷_ e4 (List._∷_ e6 (List._∷_ e9 (List._∷_ e11
     (List._∷_ e14 (List._∷_ e16 List.[])))))))))))))))
 
 abbrev pub t35 : List.List Row.Entry
-t35 = List._∷_ e0 (List._∷_ e2 (List._∷_ e26 (List._∷_ e42 (List._∷_ e45 (List._∷_ e49 (List._∷_ e51 (List._∷_ e52 (List._∷_ e56 (List._∷_ e58 (List._∷_ e4 (List._∷_ e6 (List._∷_ e9 (List._∷_ e11
+t35 = List._∷_ e0 (List._∷_ e2 (List._∷_ e27 (List._∷_ e44 (List._∷_ e50 (List._∷_ e54 (List._∷_ e56 (List._∷_ e57 (List._∷_ e61 (List._∷_ e64 (List._∷_ e4 (List._∷_ e6 (List._∷_ e9 (List._∷_ e11
     (List._∷_ e14 (List._∷_ e16 List.[])))))))))))))))
 
 abbrev pub t36 : List.List Row.Entry
-t36 = List._∷_ e17 (List._∷_ e18 (List._∷_ e20 (List._∷_ e22 (List._∷_ e27 (List._∷_ e29 (List._∷_ e30 (List._∷_
-    (23, Relend.msptr (Referent.rtF (Referent.fInt Syntax.w8)) (Syntax.tyRef Syntax.erased Syntax.mut (Syntax.tyInt Syntax.w8)) 7) (List._∷_ e34 (List._∷_ e35 (List._∷_ e38 (List._∷_ e39 (List._∷_ e41
-    List.[]))))))))))))
+t36 = List._∷_ e17 (List._∷_ e18 (List._∷_ e20 (List._∷_ e22 (List._∷_ e28 (List._∷_ e30 (List._∷_ e31 (List._∷_
+    (23, Relend.msptr (Referent.rtF (Referent.fInt Syntax.w8)) (Syntax.tyRef Syntax.erased Syntax.mut (Syntax.tyInt Syntax.w8)) 7) (List._∷_ e35 (List._∷_ e36 (List._∷_ e39 (List._∷_ e40 (List._∷_ e42
+    (List._∷_ e43 (List._∷_ e47 (List._∷_ e49 List.[])))))))))))))))
 
 abbrev pub t37 : List.List Row.Entry
-t37 = List._∷_ e17 (List._∷_ e18 (List._∷_ e20 (List._∷_ e22 (List._∷_ e27 (List._∷_ e29 (List._∷_ e30 (List._∷_ e31 (List._∷_ e33 (List._∷_ e35 (List._∷_ e38 (List._∷_ e39 (List._∷_ e41
-    List.[]))))))))))))
+t37 = List._∷_ e17 (List._∷_ e18 (List._∷_ e20 (List._∷_ e22 (List._∷_ e28 (List._∷_ e30 (List._∷_ e31 (List._∷_ e32 (List._∷_ e34 (List._∷_ e36 (List._∷_ e39 (List._∷_ e40 (List._∷_ e42 (List._∷_ e43
+    (List._∷_ e47 (List._∷_ e49 List.[])))))))))))))))
 
 abbrev pub t38 : List.List Row.Entry
-t38 = List._∷_ e0 (List._∷_ e2 (List._∷_ e26 (List._∷_ e44 (List._∷_ e45 (List._∷_ e49 (List._∷_ e51 (List._∷_ e52 (List._∷_ e56 (List._∷_ e58 (List._∷_ e4 (List._∷_ e6 (List._∷_ e9 (List._∷_ e11
+t38 = List._∷_ e0 (List._∷_ e2 (List._∷_ e27 (List._∷_ e46 (List._∷_ e50 (List._∷_ e54 (List._∷_ e56 (List._∷_ e57 (List._∷_ e61 (List._∷_ e64 (List._∷_ e4 (List._∷_ e6 (List._∷_ e9 (List._∷_ e11
     (List._∷_ e14 (List._∷_ e16 List.[])))))))))))))))
 
 abbrev pub t39 : List.List Row.Entry
-t39 = List._∷_ e17 (List._∷_ e18 (List._∷_ e20 (List._∷_ e22 (List._∷_ e27 (List._∷_ e29 (List._∷_ e30 (List._∷_ e31 (List._∷_ e33 (List._∷_
-    (25, Relend.msptr (Referent.rtF (Referent.fInt Syntax.w16)) (Syntax.tyRef Syntax.erased Syntax.mut (Syntax.tyInt Syntax.w16)) 8) (List._∷_ e38 (List._∷_ e39 (List._∷_ e41 List.[]))))))))))))
+t39 = List._∷_ e17 (List._∷_ e18 (List._∷_ e20 (List._∷_ e22 (List._∷_ e28 (List._∷_ e30 (List._∷_ e31 (List._∷_ e32 (List._∷_ e34 (List._∷_
+    (25, Relend.msptr (Referent.rtF (Referent.fInt Syntax.w16)) (Syntax.tyRef Syntax.erased Syntax.mut (Syntax.tyInt Syntax.w16)) 8) (List._∷_ e39 (List._∷_ e40 (List._∷_ e42 (List._∷_ e43 (List._∷_ e47
+    (List._∷_ e49 List.[])))))))))))))))
 
 abbrev pub t40 : List.List Row.Entry
-t40 = List._∷_ e17 (List._∷_ e18 (List._∷_ e20 (List._∷_ e22 (List._∷_ e27 (List._∷_ e29 (List._∷_ e30 (List._∷_ e31 (List._∷_ e33 (List._∷_ e35 (List._∷_ e37 (List._∷_ e39 (List._∷_ e41
-    List.[]))))))))))))
+t40 = List._∷_ e17 (List._∷_ e18 (List._∷_ e20 (List._∷_ e22 (List._∷_ e28 (List._∷_ e30 (List._∷_ e31 (List._∷_ e32 (List._∷_ e34 (List._∷_ e36 (List._∷_ e38 (List._∷_ e40 (List._∷_ e42 (List._∷_ e43
+    (List._∷_ e47 (List._∷_ e49 List.[])))))))))))))))
 
 abbrev pub t41 : List.List Row.Entry
-t41 = List._∷_ e0 (List._∷_ e2 (List._∷_ e26 (List._∷_ e44 (List._∷_ e47 (List._∷_ e49 (List._∷_ e51 (List._∷_ e52 (List._∷_ e56 (List._∷_ e58 (List._∷_ e4 (List._∷_ e6 (List._∷_ e9 (List._∷_ e11
+t41 = List._∷_ e0 (List._∷_ e2 (List._∷_ e27 (List._∷_ e46 (List._∷_ e52 (List._∷_ e54 (List._∷_ e56 (List._∷_ e57 (List._∷_ e61 (List._∷_ e64 (List._∷_ e4 (List._∷_ e6 (List._∷_ e9 (List._∷_ e11
     (List._∷_ e14 (List._∷_ e16 List.[])))))))))))))))
 
 abbrev pub t42 : List.List Row.Entry
-t42 = List._∷_ e17 (List._∷_ e18 (List._∷_ e20 (List._∷_ e22 (List._∷_ e27 (List._∷_ e29 (List._∷_ e30 (List._∷_ e31 (List._∷_ e33 (List._∷_ e35 (List._∷_ e37 (List._∷_
-    (27, Relend.msptr (Element.type) (Syntax.tyRef Syntax.erased Syntax.mut Element.behind) 9) (List._∷_ e41 List.[]))))))))))))
+t42 = List._∷_ e17 (List._∷_ e18 (List._∷_ e20 (List._∷_ e22 (List._∷_ e28 (List._∷_ e30 (List._∷_ e31 (List._∷_ e32 (List._∷_ e34 (List._∷_ e36 (List._∷_ e38 (List._∷_
+    (27, Relend.msptr (Element.type) (Syntax.tyRef Syntax.erased Syntax.mut Element.behind) 9) (List._∷_ e42 (List._∷_ e43 (List._∷_ e47 (List._∷_ e49 List.[])))))))))))))))
 
 abbrev pub t43 : List.List Row.Entry
-t43 = List._∷_ e17 (List._∷_ e18 (List._∷_ e20 (List._∷_ e22 (List._∷_ e27 (List._∷_ e29 (List._∷_ e30 (List._∷_ e31 (List._∷_ e33 (List._∷_ e35 (List._∷_ e37 (List._∷_ e39 (List._∷_
-    (28, Mut.mslice (Element.type) (Syntax.tyRef Syntax.erased Syntax.mut Element.behind) 9) List.[]))))))))))))
+t43 = List._∷_ e17 (List._∷_ e18 (List._∷_ e20 (List._∷_ e22 (List._∷_ e28 (List._∷_ e30 (List._∷_ e31 (List._∷_ e32 (List._∷_ e34 (List._∷_ e36 (List._∷_ e38 (List._∷_ e40 (List._∷_
+    (28, Mut.mslice (Element.type) (Syntax.tyRef Syntax.erased Syntax.mut Element.behind) 9) (List._∷_ e43 (List._∷_ e47 (List._∷_ e49 List.[])))))))))))))))
 
 abbrev pub t44 : List.List Row.Entry
-t44 = List._∷_ e17 (List._∷_ e18 (List._∷_ e20 (List._∷_ e22 (List._∷_ e27 (List._∷_ e29 (List._∷_ (22, Rows.whole (Declared.row Put.the-type)) (List._∷_ e31 (List._∷_ e32 (List._∷_ e35 (List._∷_ e36
-    (List._∷_ e39 (List._∷_ e40 List.[]))))))))))))
+t44 = List._∷_ e17 (List._∷_ e18 (List._∷_ e20 (List._∷_ e22 (List._∷_ e28 (List._∷_ e30 (List._∷_ (22, Rows.whole (Declared.row Put.the-type)) (List._∷_ e32 (List._∷_ e33 (List._∷_ e36 (List._∷_ e37
+    (List._∷_ e40 (List._∷_ e41 (List._∷_ e43 (List._∷_ e47 (List._∷_ e49 List.[])))))))))))))))
 
 abbrev pub t45 : List.List Row.Entry
-t45 = List._∷_ e0 (List._∷_ e2 (List._∷_ e26 (List._∷_ e44 (List._∷_ e47 (List._∷_ e48 (List._∷_ e51 (List._∷_ e52 (List._∷_ e56 (List._∷_ e58 (List._∷_ e4 (List._∷_ e6 (List._∷_ e9 (List._∷_ e11
+t45 = List._∷_ e0 (List._∷_ e2 (List._∷_ e27 (List._∷_ e46 (List._∷_ e52 (List._∷_ e53 (List._∷_ e56 (List._∷_ e57 (List._∷_ e61 (List._∷_ e64 (List._∷_ e4 (List._∷_ e6 (List._∷_ e9 (List._∷_ e11
     (List._∷_ e14 (List._∷_ e16 List.[])))))))))))))))
 
 abbrev pub t46 : List.List Row.Entry
-t46 = List._∷_ e17 (List._∷_ e18 (List._∷_ e20 (List._∷_ e22 (List._∷_ e27 (List._∷_ e29 (List._∷_ e30 (List._∷_ e31 (List._∷_ e32 (List._∷_ e35 (List._∷_ e36 (List._∷_ e39 (List._∷_ e40
-    List.[]))))))))))))
+t46 = List._∷_ e17 (List._∷_ e18 (List._∷_ e20 (List._∷_ e22 (List._∷_ e28 (List._∷_ e30 (List._∷_ e31 (List._∷_ e32 (List._∷_ e33 (List._∷_ e36 (List._∷_ e37 (List._∷_ e40 (List._∷_ e41 (List._∷_ e43
+    (List._∷_ e47 (List._∷_ e49 List.[])))))))))))))))
 
 abbrev pub t47 : List.List Row.Entry
-t47 = List._∷_ e0 (List._∷_ e2 (List._∷_ e24 (List._∷_ e44 (List._∷_ e47 (List._∷_ e48 (List._∷_ e51 (List._∷_ e52 (List._∷_ e56 (List._∷_ e58 (List._∷_ e4 (List._∷_ e6 (List._∷_ e9 (List._∷_ e11
+t47 = List._∷_ e0 (List._∷_ e2 (List._∷_ e24 (List._∷_ e46 (List._∷_ e52 (List._∷_ e53 (List._∷_ e56 (List._∷_ e57 (List._∷_ e61 (List._∷_ e64 (List._∷_ e4 (List._∷_ e6 (List._∷_ e9 (List._∷_ e11
     (List._∷_ e14 (List._∷_ e16 List.[])))))))))))))))
 
 abbrev pub t48 : List.List Row.Entry
-t48 = List._∷_ e17 (List._∷_ e18 (List._∷_ e20 (List._∷_ e22 (List._∷_ e27 (List._∷_ e29 (List._∷_ e30 (List._∷_ e31 (List._∷_ e34 (List._∷_ e35 (List._∷_ e36 (List._∷_ e39 (List._∷_ e40
-    List.[]))))))))))))
+t48 = List._∷_ e17 (List._∷_ e18 (List._∷_ e20 (List._∷_ e22 (List._∷_ e28 (List._∷_ e30 (List._∷_ e31 (List._∷_ e32 (List._∷_ e35 (List._∷_ e36 (List._∷_ e37 (List._∷_ e40 (List._∷_ e41 (List._∷_ e43
+    (List._∷_ e47 (List._∷_ e49 List.[])))))))))))))))
 
 abbrev pub t49 : List.List Row.Entry
-t49 = List._∷_ e0 (List._∷_ e2 (List._∷_ e24 (List._∷_ e42 (List._∷_ e47 (List._∷_ e48 (List._∷_ e51 (List._∷_ e52 (List._∷_ e56 (List._∷_ e58 (List._∷_ e4 (List._∷_ e6 (List._∷_ e9 (List._∷_ e11
+t49 = List._∷_ e0 (List._∷_ e2 (List._∷_ e24 (List._∷_ e44 (List._∷_ e52 (List._∷_ e53 (List._∷_ e56 (List._∷_ e57 (List._∷_ e61 (List._∷_ e64 (List._∷_ e4 (List._∷_ e6 (List._∷_ e9 (List._∷_ e11
     (List._∷_ e14 (List._∷_ e16 List.[])))))))))))))))
 
 abbrev pub t50 : List.List Row.Entry
-t50 = List._∷_ e17 (List._∷_ e18 (List._∷_ e20 (List._∷_ e22 (List._∷_ e27 (List._∷_ e29 (List._∷_ e30 (List._∷_ e31 (List._∷_ e34 (List._∷_ e35 (List._∷_ e38 (List._∷_ e39 (List._∷_ e40
-    List.[]))))))))))))
+t50 = List._∷_ e17 (List._∷_ e18 (List._∷_ e20 (List._∷_ e22 (List._∷_ e28 (List._∷_ e30 (List._∷_ e31 (List._∷_ e32 (List._∷_ e35 (List._∷_ e36 (List._∷_ e39 (List._∷_ e40 (List._∷_ e41 (List._∷_ e43
+    (List._∷_ e47 (List._∷_ e49 List.[])))))))))))))))
 
 abbrev pub t51 : List.List Row.Entry
-t51 = List._∷_ e1 (List._∷_ e2 (List._∷_ e24 (List._∷_ e42 (List._∷_ e45 (List._∷_ e48 (List._∷_ e51 (List._∷_ e52 (List._∷_ e56 (List._∷_ e58 (List._∷_ e3 (List._∷_ e6 (List._∷_ e9 (List._∷_ e11
+t51 = List._∷_ e0 (List._∷_ e2 (List._∷_ e25 (List._∷_ e44 (List._∷_ e50 (List._∷_ e53 (List._∷_ e56 (List._∷_ e57 (List._∷_ e61 (List._∷_ e64 (List._∷_ e4 (List._∷_ e6 (List._∷_ e9 (List._∷_ e11
+    (List._∷_ e14 (List._∷_ e16 List.[])))))))))))))))
+
+abbrev pub t52 : List.List Row.Entry
+t52 = List._∷_ e17 (List._∷_ e18 (List._∷_ e20 (List._∷_ e22 (List._∷_ e28 (List._∷_ e30 (List._∷_ e31 (List._∷_ e32 (List._∷_ e35 (List._∷_ e36 (List._∷_ e39 (List._∷_ e40 (List._∷_ e42 (List._∷_ e43
+    (List._∷_ (30, Relend.msptr (Referent.rtF (Referent.fInt Syntax.w8)) (Syntax.tyRef Syntax.erased Syntax.mut (Syntax.tyInt Syntax.w8)) 10) (List._∷_ e49 List.[])))))))))))))))
+
+abbrev pub t53 : List.List Row.Entry
+t53 = List._∷_ e17 (List._∷_ e18 (List._∷_ e20 (List._∷_ e22 (List._∷_ e28 (List._∷_ e30 (List._∷_ e31 (List._∷_ e32 (List._∷_ e35 (List._∷_ e36 (List._∷_ e39 (List._∷_ e40 (List._∷_ e42 (List._∷_ e43
+    (List._∷_ e47 (List._∷_ (31, Mut.mslice (Referent.rtF (Referent.fInt Syntax.w8)) (Syntax.tyRef Syntax.erased Syntax.mut (Syntax.tyInt Syntax.w8)) 10) List.[])))))))))))))))
+
+abbrev pub t54 : List.List Row.Entry
+t54 = List._∷_ e17 (List._∷_ e18 (List._∷_ e20 (List._∷_ e22 (List._∷_ e28 (List._∷_ e30 (List._∷_ e31 (List._∷_ e32 (List._∷_ e35 (List._∷_ e36 (List._∷_ e39 (List._∷_ e40 (List._∷_ e42 (List._∷_
+    (29, Rows.sc-here Row.sUnit) (List._∷_ e47 (List._∷_ e48 List.[])))))))))))))))
+
+abbrev pub t55 : List.List Row.Entry
+t55 = List._∷_ e0 (List._∷_ e2 (List._∷_ e25 (List._∷_ e44 (List._∷_ e50 (List._∷_ e53 (List._∷_ e56 (List._∷_ e57 (List._∷_ e61 (List._∷_ e63 (List._∷_ e4 (List._∷_ e6 (List._∷_ e9 (List._∷_ e11
+    (List._∷_ e14 (List._∷_ e16 List.[])))))))))))))))
+
+abbrev pub t56 : List.List Row.Entry
+t56 = List._∷_ e17 (List._∷_ e18 (List._∷_ e20 (List._∷_ e22 (List._∷_ e28 (List._∷_ e30 (List._∷_ e31 (List._∷_ e32 (List._∷_ e35 (List._∷_ e36 (List._∷_ e39 (List._∷_ e40 (List._∷_ e42 (List._∷_ e43
+    (List._∷_ e47 (List._∷_ e48 List.[])))))))))))))))
+
+abbrev pub t57 : List.List Row.Entry
+t57 = List._∷_ e1 (List._∷_ e2 (List._∷_ e24 (List._∷_ e44 (List._∷_ e50 (List._∷_ e53 (List._∷_ e56 (List._∷_ e57 (List._∷_ e61 (List._∷_ e63 (List._∷_ e3 (List._∷_ e6 (List._∷_ e9 (List._∷_ e11
     (List._∷_ e14 (List._∷_ e16 List.[])))))))))))))))
 
 abbrev pub T0 : Row.Cx
@@ -953,22 +1036,22 @@ abbrev pub T40 : Row.Cx
 T40 = record { locals = List._++_ t26 t1; slots = List.[] }
 
 abbrev pub T41 : Row.Cx
-T41 = record { locals = List._++_ t27 t1; slots = List.[] }
+T41 = record { locals = List._++_ t26 t27; slots = List.[] }
 
 abbrev pub T42 : Row.Cx
-T42 = record { locals = List._++_ t27 t28; slots = List.[] }
+T42 = record { locals = List._++_ t26 t28; slots = List.[] }
 
 abbrev pub T43 : Row.Cx
-T43 = record { locals = List._++_ t27 t29; slots = List.[] }
+T43 = record { locals = List._++_ t26 t1; slots = List.[] }
 
 abbrev pub T44 : Row.Cx
-T44 = record { locals = List._++_ t27 t1; slots = List.[] }
+T44 = record { locals = List._++_ t26 t29; slots = List.[] }
 
 abbrev pub T45 : Row.Cx
-T45 = record { locals = List._++_ t27 t30; slots = List.[] }
+T45 = record { locals = List._++_ t30 t29; slots = List.[] }
 
 abbrev pub T46 : Row.Cx
-T46 = record { locals = List._++_ t31 t30; slots = List.[] }
+T46 = record { locals = List._++_ t31 t29; slots = List.[] }
 
 abbrev pub T47 : Row.Cx
 T47 = record { locals = List._++_ t31 t1; slots = List.[] }
@@ -989,7 +1072,7 @@ abbrev pub T52 : Row.Cx
 T52 = record { locals = List._++_ t2 t1; slots = List.[] }
 
 abbrev pub T53 : Row.Cx
-T53 = record { locals = List._++_ t27 t1; slots = List.[] }
+T53 = record { locals = List._++_ t26 t1; slots = List.[] }
 
 abbrev pub T55 : Row.Cx
 T55 = record { locals = List._++_ t35 t36; slots = List.[] }
@@ -1031,22 +1114,43 @@ abbrev pub T72 : Row.Cx
 T72 = record { locals = List._++_ t49 t50; slots = List.[] }
 
 abbrev pub T75 : Row.Cx
-T75 = record { locals = List._++_ t31 t1; slots = List.[] }
-
-abbrev pub T77 : Row.Cx
-T77 = record { locals = List._++_ t31 t13; slots = List.[] }
+T75 = record { locals = List._++_ t30 t1; slots = List.[] }
 
 abbrev pub T78 : Row.Cx
-T78 = record { locals = List._++_ t12 t13; slots = List.[] }
+T78 = record { locals = List._++_ t51 t52; slots = List.[] }
 
 abbrev pub T79 : Row.Cx
-T79 = record { locals = List._++_ t51 t13; slots = List.[] }
+T79 = record { locals = List._++_ t51 t53; slots = List.[] }
 
 abbrev pub T80 : Row.Cx
-T80 = record { locals = List._++_ t51 t1; slots = List.[] }
+T80 = record { locals = List._++_ t51 t54; slots = List.[] }
 
 abbrev pub T81 : Row.Cx
-T81 = record { locals = List._++_ t2 t1; slots = List.[] }
+T81 = record { locals = List._++_ t55 t54; slots = List.[] }
+
+abbrev pub T82 : Row.Cx
+T82 = record { locals = List._++_ t55 t56; slots = List.[] }
+
+abbrev pub T84 : Row.Cx
+T84 = record { locals = List._++_ t31 t1; slots = List.[] }
+
+abbrev pub T85 : Row.Cx
+T85 = record { locals = List._++_ t31 t1; slots = List.[] }
+
+abbrev pub T87 : Row.Cx
+T87 = record { locals = List._++_ t31 t13; slots = List.[] }
+
+abbrev pub T88 : Row.Cx
+T88 = record { locals = List._++_ t12 t13; slots = List.[] }
+
+abbrev pub T89 : Row.Cx
+T89 = record { locals = List._++_ t57 t13; slots = List.[] }
+
+abbrev pub T90 : Row.Cx
+T90 = record { locals = List._++_ t57 t1; slots = List.[] }
+
+abbrev pub T91 : Row.Cx
+T91 = record { locals = List._++_ t2 t1; slots = List.[] }
 
 abbrev pub O0 : Typed.Outs
 O0 = record { next = Option.none; exits = List.[]; returns = Option.some T1 }
@@ -1055,7 +1159,7 @@ abbrev pub O1 : Typed.Outs
 O1 = Typed.withNext (Option.some T15) O0
 
 abbrev pub O2 : Typed.Outs
-O2 = Typed.withNext (Option.some T44) O1
+O2 = Typed.withNext (Option.some T43) O1
 
 module _ (claims· : Claims) where
   abbrev s0 : Typed.Gives T0 T2
@@ -1177,19 +1281,19 @@ module _ (claims· : Claims) where
   s37 = Call.callB ps·1 r·1 (claims· .2) (claims· .3) T39 (record { pos = 9; st = List.[]; d = 0; at = λ x. x }, tt) 10 List.[] (Syntax.tyInt Syntax.w64)
 
   abbrev s38 : Typed.Mo T40 → Typed.Mo T41
-  s38 = Scalar.n-room T40 9 y3
+  s38 = Scalar.n-use T40 (Scalar.oFld 2 (List._∷_ (Syntax.field 1) List.[]) (Syntax.tyInt Syntax.w64) 8 Shared.lenV) 20 (Rows.sc-here (Row.sInt Syntax.w64)) (Row.sInt Syntax.w64 .of)
 
-  abbrev s39 : Typed.Mo T41 → Typed.Mo T42
-  s39 = Scalar.n-use T41 (Scalar.oFld 2 (List._∷_ (Syntax.field 1) List.[]) (Syntax.tyInt Syntax.w64) 8 Shared.lenV) 20 (Rows.sc-here (Row.sInt Syntax.w64)) (Row.sInt Syntax.w64 .of)
+  abbrev s39 : Typed.Both T41 T42
+  s39 = Call.callB ps·2 r·2 (claims· .4) (claims· .5) T41 (Num.vAt 20 λ x. x, (Num.vAt 10 λ x. x, tt)) 19 List.[] Syntax.tyBool
 
-  abbrev s40 : Typed.Both T42 T43
-  s40 = Call.callB ps·2 r·2 (claims· .4) (claims· .5) T42 (Num.vAt 20 λ x. x, (Num.vAt 10 λ x. x, tt)) 19 List.[] Syntax.tyBool
+  abbrev s40 : Typed.Mo T42 → Typed.Mo T44
+  s40 = Scalar.n-room T42 20 (Syntax.tyInt Syntax.w64)
 
-  abbrev s41 : Typed.Mo T43 → Typed.Mo T45
-  s41 = Scalar.n-room T43 20 (Syntax.tyInt Syntax.w64)
+  abbrev s41 : Typed.Mo T44 → Typed.Mo T45
+  s41 = Scalar.n-room T44 5 y4
 
   abbrev s42 : Typed.Mo T45 → Typed.Mo T46
-  s42 = Scalar.n-room T45 5 y4
+  s42 = Scalar.n-room T45 9 y3
 
   abbrev s43 : Typed.Mo T46 → Typed.Mo T47
   s43 = Scalar.n-room T46 19 Syntax.tyBool
@@ -1216,11 +1320,11 @@ module _ (claims· : Claims) where
   abbrev s48 : Typed.Mo T51 → Typed.Mo T52
   s48 = Scalar.n-room T51 10 (Syntax.tyInt Syntax.w64)
 
-  abbrev s49 : Typed.Mo T45 → Typed.Mo T53
-  s49 = Scalar.n-room T45 19 Syntax.tyBool
+  abbrev s49 : Typed.Mo T44 → Typed.Mo T53
+  s49 = Scalar.n-room T44 19 Syntax.tyBool
 
-  abbrev s51 : Typed.Gives T44 T55
-  s51 = Relend.k-sl-relend (Referent.rtF (Referent.fInt Syntax.w8)) T44 2 23 1 7 (Syntax.tyRef (Syntax.named 1) Syntax.mut (Syntax.tyInt Syntax.w8)) (Syntax.tyRef Syntax.erased Syntax.mut
+  abbrev s51 : Typed.Gives T43 T55
+  s51 = Relend.k-sl-relend (Referent.rtF (Referent.fInt Syntax.w8)) T43 2 23 1 7 (Syntax.tyRef (Syntax.named 1) Syntax.mut (Syntax.tyInt Syntax.w8)) (Syntax.tyRef Syntax.erased Syntax.mut
       (Syntax.tyInt Syntax.w8)) Row.off λ x. x
 
   abbrev s52 : Typed.Asks T55 T56
@@ -1283,17 +1387,43 @@ module _ (claims· : Claims) where
   abbrev s71 : Typed.Both T72 T75
   s71 = Relend.k-back-sl (Element.type) T72 28 4 3 9 (Syntax.tyRef (Syntax.named 3) Syntax.mut Element.behind) (Syntax.tyRef Syntax.erased Syntax.mut Element.behind) Row.off (λ x. x) λ x. x
 
-  abbrev s73 : Typed.Mo T75 → Typed.Mo T77
-  s73 = Make.n-enum-make Written.the-type T75 17 λ m. Written.enum .make (Logic.inl (m .1 .1 .1 .1 .1 .1 .1 .1 .1 .1 .0, tt))
+  abbrev s74 : Typed.Gives T75 T78
+  s74 = Relend.k-sl-relend (Referent.rtF (Referent.fInt Syntax.w8)) T75 2 30 1 10 (Syntax.tyRef (Syntax.named 1) Syntax.mut (Syntax.tyInt Syntax.w8)) (Syntax.tyRef Syntax.erased Syntax.mut
+      (Syntax.tyInt Syntax.w8)) Row.off λ x. x
 
-  abbrev s74 : Typed.Mo T77 → Typed.Mo T78
-  s74 = Scalar.n-room T77 10 (Syntax.tyInt Syntax.w64)
+  abbrev s75 : Typed.Asks T78 T79
+  s75 = Relend.k-sl-aggregate (Referent.rtF (Referent.fInt Syntax.w8)) (Relend.asMut (Referent.rtF (Referent.fInt Syntax.w8))) T78 30 31 10 (Syntax.tyRef Syntax.erased Syntax.mut (Syntax.tyInt
+      Syntax.w8)) (Syntax.tyRef Syntax.erased Syntax.mut (Syntax.tyInt Syntax.w8)) (λ x. x) (Scalar.oFld 2 (List._∷_ (Syntax.field 1) List.[]) (Syntax.tyInt Syntax.w64) 8 λ v. Shared.lenV (v .0))
 
-  abbrev s75 : Typed.Mo T15 → Typed.Mo T79
-  s75 = LocalCopy.n-val-copy T15 17 0 (Declared.row Written.the-type) (Rows.whole (Declared.row Written.the-type)) (Rows.whole (Declared.row Written.the-type)) (λ x. x) (λ x. x) λ x. x
+  abbrev s76 : Typed.Both T79 T80
+  s76 = Call.callB ps·3 r·3 (claims· .6) (claims· .7) T79
+      (record { pos = 31; ty = Syntax.tyRef Syntax.erased Syntax.mut (Syntax.tyInt Syntax.w8); ref = λ x. x }, (record { pos = 9; st = List.[]; d = 0; at = λ x. x }, tt)) 29 (List._∷_ 10 List.[])
+      Syntax.tyUnit
 
-  abbrev s76 : Typed.Mo T79 → Typed.Mo T80
-  s76 = Scalar.n-room T79 17 (Syntax.tyEnum (List._∷_ 98 (List._∷_ 108 (List._∷_ 111 (List._∷_ 99 (List._∷_ 107 (List._∷_ 58 (List._∷_ 58 (List._∷_ 87 (List._∷_ 114 (List._∷_ 105 (List._∷_ 116
+  abbrev s77 : Typed.Mo T80 → Typed.Mo T81
+  s77 = Scalar.n-room T80 9 y3
+
+  abbrev s78 : Typed.Mo T81 → Typed.Mo T82
+  s78 = Scalar.n-room T81 29 Syntax.tyUnit
+
+  abbrev s80 : Typed.Both T82 T84
+  s80 = Relend.k-back-sl (Referent.rtF (Referent.fInt Syntax.w8)) T82 31 2 1 10 (Syntax.tyRef (Syntax.named 1) Syntax.mut (Syntax.tyInt Syntax.w8)) (Syntax.tyRef Syntax.erased Syntax.mut (Syntax.tyInt
+      Syntax.w8)) Row.off (λ x. x) λ x. x
+
+  abbrev s81 : Typed.Gives T84 T85
+  s81 = Know.k-sl-known (Referent.fInt Syntax.w8) T84 2 1 (Syntax.tyRef (Syntax.named 1) Syntax.mut (Syntax.tyInt Syntax.w8)) Row.off 0 λ x. x
+
+  abbrev s83 : Typed.Mo T85 → Typed.Mo T87
+  s83 = Make.n-enum-make Written.the-type T85 17 λ m. Written.enum .make (Logic.inl (m .1 .1 .1 .1 .1 .1 .1 .1 .1 .1 .0, tt))
+
+  abbrev s84 : Typed.Mo T87 → Typed.Mo T88
+  s84 = Scalar.n-room T87 10 (Syntax.tyInt Syntax.w64)
+
+  abbrev s85 : Typed.Mo T15 → Typed.Mo T89
+  s85 = LocalCopy.n-val-copy T15 17 0 (Declared.row Written.the-type) (Rows.whole (Declared.row Written.the-type)) (Rows.whole (Declared.row Written.the-type)) (λ x. x) (λ x. x) λ x. x
+
+  abbrev s86 : Typed.Mo T89 → Typed.Mo T90
+  s86 = Scalar.n-room T89 17 (Syntax.tyEnum (List._∷_ 98 (List._∷_ 108 (List._∷_ 111 (List._∷_ 99 (List._∷_ 107 (List._∷_ 58 (List._∷_ 58 (List._∷_ 87 (List._∷_ 114 (List._∷_ 105 (List._∷_ 116
       (List._∷_ 116 (List._∷_ 101 (List._∷_ 110 List.[])))))))))))))) (Syntax.ttcons (Syntax.tcons (Syntax.tyInt Syntax.w64) Syntax.tnil) (Syntax.ttcons (Syntax.tcons (Syntax.tyEnum (List._∷_ 115
       (List._∷_ 116 (List._∷_ 114 (List._∷_ 101 (List._∷_ 97 (List._∷_ 109 (List._∷_ 58 (List._∷_ 58 (List._∷_ 82 (List._∷_ 101 (List._∷_ 102 (List._∷_ 117 (List._∷_ 115 (List._∷_ 97 (List._∷_ 108
       List.[]))))))))))))))) (Syntax.ttcons Syntax.tnil (Syntax.ttcons Syntax.tnil (Syntax.ttcons Syntax.tnil (Syntax.ttcons (Syntax.tcons (Syntax.tyInt Syntax.w64) Syntax.tnil) (Syntax.ttcons Syntax.tnil
@@ -1303,15 +1433,16 @@ module _ (claims· : Claims) where
       Syntax.w64) Syntax.tnil) (Syntax.ttcons (Syntax.tcons (Syntax.tyInt Syntax.w64) Syntax.tnil) (Syntax.ttcons (Syntax.tcons (Syntax.tyInt Syntax.w64) Syntax.tnil) (Syntax.ttcons Syntax.tnil
       Syntax.ttnil)))))))))))))))))))))) Syntax.tnil) Syntax.ttnil)))
 
-  abbrev s77 : Typed.Mo T80 → Typed.Mo T81
-  s77 = Scalar.n-room T80 6 (Syntax.tyInt Syntax.w64)
+  abbrev s87 : Typed.Mo T90 → Typed.Mo T91
+  s87 = Scalar.n-room T90 6 (Syntax.tyInt Syntax.w64)
 
   module _ (Pre· : (κs : Lifetimes.Lfts 4) → Kinds.Dens κs ps → Type 0) (Post· : (κs : Lifetimes.Lfts 4) → (a : Kinds.Dens κs ps) → Kinds.Plain 4 ps r κs) where
     module _ (M : Type 1) where
       abbrev pub Closed : Type 2
       Closed = (𝓤 : URA.URA M) (H : Wp.Heap 𝓤) (A : Atoms.Atoms 𝓤) (W : Kit.Given 𝓤 H A) (𝓣 : Wp.Tables 𝓤 H) (known0 : Plain.Known 𝓤 H A W 𝓣 4 ps·0 r·0 (claims· .0) (claims· .1)
-          "block::writer::write_walk") (known1 : Plain.Known 𝓤 H A W 𝓣 0 ps·1 r·1 (claims· .2) (claims· .3) "block::writer::bytes_for") (known2 : Plain.Known 𝓤 H A W 𝓣 0 ps·2 r·2 (claims· .4) (claims· .5)
-          "begin::is_short") → Statement.Triple 𝓤 (Wp.WpFn 𝓤 H (𝓣 .C) (𝓣 .Λ) (Function.fnOf 4 ps r xs m hs body)) (Function.plainOf 𝓤 H A 4 ps r Pre· Post·)
+          "block::writer::write_walk") (known1 : Plain.Known 𝓤 H A W 𝓣 0 ps·1 r·1 (claims· .2) (claims· .3) "block::writer::block_length") (known2 : Plain.Known 𝓤 H A W 𝓣 0 ps·2 r·2 (claims· .4) (claims·
+          .5) "begin::is_short") (known3 : Plain.Known 𝓤 H A W 𝓣 1 ps·3 r·3 (claims· .6) (claims· .7) "bits::fill_tail") → Statement.Triple 𝓤 (Wp.WpFn 𝓤 H (𝓣 .C) (𝓣 .Λ) (Function.fnOf 4 ps r xs m hs
+          body)) (Function.plainOf 𝓤 H A 4 ps r Pre· Post·)
 
     module _ where
       abbrev at0 : Typed.TF T32 O1
@@ -1359,878 +1490,988 @@ module _ (claims· : Claims) where
       abbrev at14 : Typed.TF T45 O2
       at14 = λ Ψ. Typed.pass T45 T46 s42 (at13 Ψ)
 
-      abbrev at15 : Typed.TF T53 O2
-      at15 = Typed.atNext O2
+      abbrev at15 : Typed.TF T44 O2
+      at15 = λ Ψ. Typed.pass T44 T45 s41 (at14 Ψ)
 
-      abbrev at16 : Typed.TF T45 O2
-      at16 = λ Ψ. Typed.pass T45 T53 s49 (at15 Ψ)
+      abbrev at16 : Typed.TF T53 O2
+      at16 = Typed.atNext O2
 
-      abbrev at17 : Typed.TF T45 O2
-      at17 = Scalar.Φcond T45 O2 19 (λ x. x) at14 at16
+      abbrev at17 : Typed.TF T44 O2
+      at17 = λ Ψ. Typed.pass T44 T53 s49 (at16 Ψ)
 
-      abbrev at18 : Typed.TF T43 O2
-      at18 = λ Ψ. Typed.pass T43 T45 s41 (at17 Ψ)
+      abbrev at18 : Typed.TF T44 O2
+      at18 = Scalar.Φcond T44 O2 19 (λ x. x) at15 at17
 
-      abbrev at19 : Typed.TF T75 O1
-      at19 = λ Ψ. Typed.pass T75 T77 s73 (Typed.pass T77 T78 s74 (Typed.atNext O1 Ψ))
+      abbrev at19 : Typed.TF T42 O2
+      at19 = λ Ψ. Typed.pass T42 T44 s40 (at18 Ψ)
 
-      abbrev at20 : Typed.TF T75 O1
-      at20 = λ Ψ. at19 Ψ
+      abbrev at20 : Typed.TF T85 O1
+      at20 = λ Ψ. Typed.pass T85 T87 s83 (Typed.pass T87 T88 s84 (Typed.atNext O1 Ψ))
 
-      abbrev at21 : Typed.TF T72 O1
-      at21 = λ Ψ. Typed.both s71 (at20 Ψ)
+      abbrev at21 : Typed.TF T85 O1
+      at21 = λ Ψ. at20 Ψ
 
-      abbrev at22 : Typed.TF T72 O1
-      at22 = λ Ψ. at21 Ψ
+      abbrev at22 : Typed.TF T84 O1
+      at22 = λ Ψ. Typed.give s81 (at21 Ψ)
 
-      abbrev at23 : Typed.TF T72 O1
-      at23 = λ Ψ. at22 Ψ
+      abbrev at23 : Typed.TF T82 O1
+      at23 = λ Ψ. Typed.both s80 (at22 Ψ)
 
-      abbrev at24 : Typed.TF T71 O1
-      at24 = λ Ψ. Typed.give s68 (at23 Ψ)
+      abbrev at24 : Typed.TF T82 O1
+      at24 = λ Ψ. at23 Ψ
 
-      abbrev at25 : Typed.TF T68 O1
-      at25 = λ Ψ. Typed.both s67 (at24 Ψ)
+      abbrev at25 : Typed.TF T81 O1
+      at25 = λ Ψ. Typed.pass T81 T82 s78 (at24 Ψ)
 
-      abbrev at26 : Typed.TF T68 O1
-      at26 = λ Ψ. at25 Ψ
+      abbrev at26 : Typed.TF T80 O1
+      at26 = λ Ψ. Typed.pass T80 T81 s77 (at25 Ψ)
 
-      abbrev at27 : Typed.TF T68 O1
-      at27 = λ Ψ. at26 Ψ
+      abbrev at27 : Typed.TF T79 O1
+      at27 = λ Ψ. Typed.both s76 (at26 Ψ)
 
-      abbrev at28 : Typed.TF T67 O1
-      at28 = λ Ψ. Typed.give s64 (at27 Ψ)
+      abbrev at28 : Typed.TF T78 O1
+      at28 = λ Ψ. Typed.ask s75 (at27 Ψ)
 
-      abbrev at29 : Typed.TF T65 O1
-      at29 = λ Ψ. Typed.both s63 (at28 Ψ)
+      abbrev at29 : Typed.TF T75 O1
+      at29 = λ Ψ. Typed.give s74 (at28 Ψ)
 
-      abbrev at30 : Typed.TF T65 O1
+      abbrev at30 : Typed.TF T75 O1
       at30 = λ Ψ. at29 Ψ
 
-      abbrev at31 : Typed.TF T64 O1
-      at31 = λ Ψ. Typed.pass T64 T65 s61 (at30 Ψ)
+      abbrev at31 : Typed.TF T75 O1
+      at31 = λ Ψ. at30 Ψ
 
-      abbrev at32 : Typed.TF T63 O1
-      at32 = λ Ψ. Typed.pass T63 T64 s60 (at31 Ψ)
+      abbrev at32 : Typed.TF T72 O1
+      at32 = λ Ψ. Typed.both s71 (at31 Ψ)
 
-      abbrev at33 : Typed.TF T62 O1
-      at33 = λ Ψ. Typed.both s59 (at32 Ψ)
+      abbrev at33 : Typed.TF T72 O1
+      at33 = λ Ψ. at32 Ψ
 
-      abbrev at34 : Typed.TF T61 O1
-      at34 = λ Ψ. Typed.ask s58 (at33 Ψ)
+      abbrev at34 : Typed.TF T72 O1
+      at34 = λ Ψ. at33 Ψ
 
-      abbrev at35 : Typed.TF T59 O1
-      at35 = λ Ψ. Typed.give s57 (at34 Ψ)
+      abbrev at35 : Typed.TF T71 O1
+      at35 = λ Ψ. Typed.give s68 (at34 Ψ)
 
-      abbrev at36 : Typed.TF T59 O1
-      at36 = λ Ψ. at35 Ψ
+      abbrev at36 : Typed.TF T68 O1
+      at36 = λ Ψ. Typed.both s67 (at35 Ψ)
 
-      abbrev at37 : Typed.TF T58 O1
-      at37 = λ Ψ. Typed.ask s55 (at36 Ψ)
+      abbrev at37 : Typed.TF T68 O1
+      at37 = λ Ψ. at36 Ψ
 
-      abbrev at38 : Typed.TF T56 O1
-      at38 = λ Ψ. Typed.give s54 (at37 Ψ)
+      abbrev at38 : Typed.TF T68 O1
+      at38 = λ Ψ. at37 Ψ
 
-      abbrev at39 : Typed.TF T56 O1
-      at39 = λ Ψ. at38 Ψ
+      abbrev at39 : Typed.TF T67 O1
+      at39 = λ Ψ. Typed.give s64 (at38 Ψ)
 
-      abbrev at40 : Typed.TF T55 O1
-      at40 = λ Ψ. Typed.ask s52 (at39 Ψ)
+      abbrev at40 : Typed.TF T65 O1
+      at40 = λ Ψ. Typed.both s63 (at39 Ψ)
 
-      abbrev at41 : Typed.TF T44 O1
-      at41 = λ Ψ. Typed.give s51 (at40 Ψ)
+      abbrev at41 : Typed.TF T65 O1
+      at41 = λ Ψ. at40 Ψ
 
-      abbrev at42 : Typed.TF T44 O1
-      at42 = λ Ψ. at41 Ψ
+      abbrev at42 : Typed.TF T64 O1
+      at42 = λ Ψ. Typed.pass T64 T65 s61 (at41 Ψ)
 
-      abbrev at43 : Typed.TF T43 O1
-      at43 = λ Ψ. at18 (Typed.wantNext T44 O1 (at42 Ψ) Ψ)
+      abbrev at43 : Typed.TF T63 O1
+      at43 = λ Ψ. Typed.pass T63 T64 s60 (at42 Ψ)
 
-      abbrev at44 : Typed.TF T42 O1
-      at44 = λ Ψ. Typed.both s40 (at43 Ψ)
+      abbrev at44 : Typed.TF T62 O1
+      at44 = λ Ψ. Typed.both s59 (at43 Ψ)
 
-      abbrev at45 : Typed.TF T41 O1
-      at45 = λ Ψ. Typed.pass T41 T42 s39 (at44 Ψ)
+      abbrev at45 : Typed.TF T61 O1
+      at45 = λ Ψ. Typed.ask s58 (at44 Ψ)
 
-      abbrev at46 : Typed.TF T40 O1
-      at46 = λ Ψ. Typed.pass T40 T41 s38 (at45 Ψ)
+      abbrev at46 : Typed.TF T59 O1
+      at46 = λ Ψ. Typed.give s57 (at45 Ψ)
 
-      abbrev at47 : Typed.TF T39 O1
-      at47 = λ Ψ. Typed.both s37 (at46 Ψ)
+      abbrev at47 : Typed.TF T59 O1
+      at47 = λ Ψ. at46 Ψ
 
-      abbrev at48 : Typed.TF T38 O1
-      at48 = λ Ψ. Typed.pass T38 T39 s36 (at47 Ψ)
+      abbrev at48 : Typed.TF T58 O1
+      at48 = λ Ψ. Typed.ask s55 (at47 Ψ)
 
-      abbrev at49 : Typed.TF T37 O1
-      at49 = λ Ψ. Typed.pass T37 T38 s35 (at48 Ψ)
+      abbrev at49 : Typed.TF T56 O1
+      at49 = λ Ψ. Typed.give s54 (at48 Ψ)
 
-      abbrev at50 : Typed.TF T36 O1
-      at50 = λ Ψ. Typed.give s34 (at49 Ψ)
+      abbrev at50 : Typed.TF T56 O1
+      at50 = λ Ψ. at49 Ψ
 
-      abbrev at51 : Typed.TF T25 O1
-      at51 = λ Ψ. Typed.both s33 (at50 Ψ)
+      abbrev at51 : Typed.TF T55 O1
+      at51 = λ Ψ. Typed.ask s52 (at50 Ψ)
 
-      abbrev at52 : Typed.TF T25 O1
-      at52 = Switch.Φswitch T25 O1 7 (λ x. Declared.tagOf Put.the-type x) (Syntax.arm (List._∷_ 1 List.[]) b11 (Syntax.arm (List._∷_ 0 List.[]) b42 Syntax.noDefault)) (at6, (at51, tt))
+      abbrev at52 : Typed.TF T43 O1
+      at52 = λ Ψ. Typed.give s51 (at51 Ψ)
 
-      abbrev at53 : Typed.TF T25 O1
+      abbrev at53 : Typed.TF T43 O1
       at53 = λ Ψ. at52 Ψ
 
-      abbrev at54 : Typed.TF T22 O1
-      at54 = λ Ψ. Typed.both s22 (at53 Ψ)
+      abbrev at54 : Typed.TF T42 O1
+      at54 = λ Ψ. at19 (Typed.wantNext T43 O1 (at53 Ψ) Ψ)
 
-      abbrev at55 : Typed.TF T22 O1
-      at55 = λ Ψ. at54 Ψ
+      abbrev at55 : Typed.TF T41 O1
+      at55 = λ Ψ. Typed.both s39 (at54 Ψ)
 
-      abbrev at56 : Typed.TF T22 O1
-      at56 = λ Ψ. at55 Ψ
+      abbrev at56 : Typed.TF T40 O1
+      at56 = λ Ψ. Typed.pass T40 T41 s38 (at55 Ψ)
 
-      abbrev at57 : Typed.TF T21 O1
-      at57 = λ Ψ. Typed.give s19 (at56 Ψ)
+      abbrev at57 : Typed.TF T39 O1
+      at57 = λ Ψ. Typed.both s37 (at56 Ψ)
 
-      abbrev at58 : Typed.TF T18 O1
-      at58 = λ Ψ. Typed.both s18 (at57 Ψ)
+      abbrev at58 : Typed.TF T38 O1
+      at58 = λ Ψ. Typed.pass T38 T39 s36 (at57 Ψ)
 
-      abbrev at59 : Typed.TF T18 O1
-      at59 = λ Ψ. at58 Ψ
+      abbrev at59 : Typed.TF T37 O1
+      at59 = λ Ψ. Typed.pass T37 T38 s35 (at58 Ψ)
 
-      abbrev at60 : Typed.TF T18 O1
-      at60 = λ Ψ. at59 Ψ
+      abbrev at60 : Typed.TF T36 O1
+      at60 = λ Ψ. Typed.give s34 (at59 Ψ)
 
-      abbrev at61 : Typed.TF T17 O1
-      at61 = λ Ψ. Typed.give s15 (at60 Ψ)
+      abbrev at61 : Typed.TF T25 O1
+      at61 = λ Ψ. Typed.both s33 (at60 Ψ)
 
-      abbrev at62 : Typed.TF T14 O1
-      at62 = λ Ψ. Typed.both s14 (at61 Ψ)
+      abbrev at62 : Typed.TF T25 O1
+      at62 = Switch.Φswitch T25 O1 7 (λ x. Declared.tagOf Put.the-type x) (Syntax.arm (List._∷_ 1 List.[]) b11 (Syntax.arm (List._∷_ 0 List.[]) b48 Syntax.noDefault)) (at6, (at61, tt))
 
-      abbrev at63 : Typed.TF T14 O1
+      abbrev at63 : Typed.TF T25 O1
       at63 = λ Ψ. at62 Ψ
 
-      abbrev at64 : Typed.TF T81 O0
-      at64 = Typed.atRet O0
+      abbrev at64 : Typed.TF T22 O1
+      at64 = λ Ψ. Typed.both s22 (at63 Ψ)
 
-      abbrev at65 : Typed.TF T80 O0
-      at65 = λ Ψ. Typed.pass T80 T81 s77 (at64 Ψ)
+      abbrev at65 : Typed.TF T22 O1
+      at65 = λ Ψ. at64 Ψ
 
-      abbrev at66 : Typed.TF T79 O0
-      at66 = λ Ψ. Typed.pass T79 T80 s76 (at65 Ψ)
+      abbrev at66 : Typed.TF T22 O1
+      at66 = λ Ψ. at65 Ψ
 
-      abbrev at67 : Typed.TF T15 O0
-      at67 = λ Ψ. Typed.pass T15 T79 s75 (at66 Ψ)
+      abbrev at67 : Typed.TF T21 O1
+      at67 = λ Ψ. Typed.give s19 (at66 Ψ)
 
-      abbrev at68 : Typed.TF T14 O0
-      at68 = λ Ψ. at63 (Typed.wantNext T15 O0 (at67 Ψ) Ψ)
+      abbrev at68 : Typed.TF T18 O1
+      at68 = λ Ψ. Typed.both s18 (at67 Ψ)
 
-      abbrev at69 : Typed.TF T13 O0
-      at69 = λ Ψ. Typed.both s12 (at68 Ψ)
+      abbrev at69 : Typed.TF T18 O1
+      at69 = λ Ψ. at68 Ψ
 
-      abbrev at70 : Typed.TF T12 O0
-      at70 = λ Ψ. Typed.ask s11 (at69 Ψ)
+      abbrev at70 : Typed.TF T18 O1
+      at70 = λ Ψ. at69 Ψ
 
-      abbrev at71 : Typed.TF T10 O0
-      at71 = λ Ψ. Typed.give s10 (at70 Ψ)
+      abbrev at71 : Typed.TF T17 O1
+      at71 = λ Ψ. Typed.give s15 (at70 Ψ)
 
-      abbrev at72 : Typed.TF T10 O0
-      at72 = λ Ψ. at71 Ψ
+      abbrev at72 : Typed.TF T14 O1
+      at72 = λ Ψ. Typed.both s14 (at71 Ψ)
 
-      abbrev at73 : Typed.TF T9 O0
-      at73 = λ Ψ. Typed.ask s8 (at72 Ψ)
+      abbrev at73 : Typed.TF T14 O1
+      at73 = λ Ψ. at72 Ψ
 
-      abbrev at74 : Typed.TF T7 O0
-      at74 = λ Ψ. Typed.give s7 (at73 Ψ)
+      abbrev at74 : Typed.TF T91 O0
+      at74 = Typed.atRet O0
 
-      abbrev at75 : Typed.TF T7 O0
-      at75 = λ Ψ. at74 Ψ
+      abbrev at75 : Typed.TF T90 O0
+      at75 = λ Ψ. Typed.pass T90 T91 s87 (at74 Ψ)
 
-      abbrev at76 : Typed.TF T6 O0
-      at76 = λ Ψ. Typed.ask s5 (at75 Ψ)
+      abbrev at76 : Typed.TF T89 O0
+      at76 = λ Ψ. Typed.pass T89 T90 s86 (at75 Ψ)
 
-      abbrev at77 : Typed.TF T4 O0
-      at77 = λ Ψ. Typed.give s4 (at76 Ψ)
+      abbrev at77 : Typed.TF T15 O0
+      at77 = λ Ψ. Typed.pass T15 T89 s85 (at76 Ψ)
 
-      abbrev at78 : Typed.TF T4 O0
-      at78 = λ Ψ. at77 Ψ
+      abbrev at78 : Typed.TF T14 O0
+      at78 = λ Ψ. at73 (Typed.wantNext T15 O0 (at77 Ψ) Ψ)
 
-      abbrev at79 : Typed.TF T3 O0
-      at79 = λ Ψ. Typed.give s2 (at78 Ψ)
+      abbrev at79 : Typed.TF T13 O0
+      at79 = λ Ψ. Typed.both s12 (at78 Ψ)
 
-      abbrev at80 : Typed.TF T2 O0
-      at80 = λ Ψ. Typed.give s1 (at79 Ψ)
+      abbrev at80 : Typed.TF T12 O0
+      at80 = λ Ψ. Typed.ask s11 (at79 Ψ)
 
-      abbrev at81 : Typed.TF T0 O0
-      at81 = λ Ψ. Typed.give s0 (at80 Ψ)
+      abbrev at81 : Typed.TF T10 O0
+      at81 = λ Ψ. Typed.give s10 (at80 Ψ)
+
+      abbrev at82 : Typed.TF T10 O0
+      at82 = λ Ψ. at81 Ψ
+
+      abbrev at83 : Typed.TF T9 O0
+      at83 = λ Ψ. Typed.ask s8 (at82 Ψ)
+
+      abbrev at84 : Typed.TF T7 O0
+      at84 = λ Ψ. Typed.give s7 (at83 Ψ)
+
+      abbrev at85 : Typed.TF T7 O0
+      at85 = λ Ψ. at84 Ψ
+
+      abbrev at86 : Typed.TF T6 O0
+      at86 = λ Ψ. Typed.ask s5 (at85 Ψ)
+
+      abbrev at87 : Typed.TF T4 O0
+      at87 = λ Ψ. Typed.give s4 (at86 Ψ)
+
+      abbrev at88 : Typed.TF T4 O0
+      at88 = λ Ψ. at87 Ψ
+
+      abbrev at89 : Typed.TF T3 O0
+      at89 = λ Ψ. Typed.give s2 (at88 Ψ)
+
+      abbrev at90 : Typed.TF T2 O0
+      at90 = λ Ψ. Typed.give s1 (at89 Ψ)
+
+      abbrev at91 : Typed.TF T0 O0
+      at91 = λ Ψ. Typed.give s0 (at90 Ψ)
 
       abbrev pub Φ : Typed.TF T0 O0
-      Φ = at81
+      Φ = at91
 
       module _ {M : Type 1} (𝓤 : URA.URA M) (H : Wp.Heap 𝓤) (A : Atoms.Atoms 𝓤) (W : Kit.Given 𝓤 H A) (𝓣 : Wp.Tables 𝓤 H) where
         abbrev Knowns : Type 1
-        Knowns = Plain.Known 𝓤 H A W 𝓣 4 ps·0 r·0 (claims· .0) (claims· .1) "block::writer::write_walk" × Plain.Known 𝓤 H A W 𝓣 0 ps·1 r·1 (claims· .2) (claims· .3) "block::writer::bytes_for" ×
-            Plain.Known 𝓤 H A W 𝓣 0 ps·2 r·2 (claims· .4) (claims· .5) "begin::is_short"
+        Knowns = Plain.Known 𝓤 H A W 𝓣 4 ps·0 r·0 (claims· .0) (claims· .1) "block::writer::write_walk" × Plain.Known 𝓤 H A W 𝓣 0 ps·1 r·1 (claims· .2) (claims· .3) "block::writer::block_length" ×
+            Plain.Known 𝓤 H A W 𝓣 0 ps·2 r·2 (claims· .4) (claims· .5) "begin::is_short" × Plain.Known 𝓤 H A W 𝓣 1 ps·3 r·3 (claims· .6) (claims· .7) "bits::fill_tail"
 
       module _ (κs : Lifetimes.Lfts 4) (qs : Lifetimes.Shares 4) where
         abbrev g3 : List.List Row.Entry
         g3 = List._∷_ e0 (List._∷_ e2 (List._∷_
-            (2, Relend.mslice-owed (Referent.rtF (Referent.fInt Syntax.w8)) (Syntax.tyRef (Syntax.named 1) Syntax.mut (Syntax.tyInt Syntax.w8)) 1 4 (Row.lease (κs .1 .0) (qs .1 .0))) (List._∷_ e42
-            (List._∷_ e45 (List._∷_ e49 (List._∷_ e51 (List._∷_ e52 (List._∷_ e56 (List._∷_ e58 (List._∷_ e3 (List._∷_ e5 (List._∷_ e9 (List._∷_ e11 (List._∷_ e14 (List._∷_ e16 List.[])))))))))))))))
+            (2, Relend.mslice-owed (Referent.rtF (Referent.fInt Syntax.w8)) (Syntax.tyRef (Syntax.named 1) Syntax.mut (Syntax.tyInt Syntax.w8)) 1 4 (Row.lease (κs .1 .0) (qs .1 .0))) (List._∷_ e44
+            (List._∷_ e50 (List._∷_ e54 (List._∷_ e56 (List._∷_ e57 (List._∷_ e61 (List._∷_ e63 (List._∷_ e3 (List._∷_ e5 (List._∷_ e9 (List._∷_ e11 (List._∷_ e14 (List._∷_ e16 List.[])))))))))))))))
 
         abbrev g4 : List.List Row.Entry
         g4 = List._∷_ e0 (List._∷_ e2 (List._∷_
-            (2, Relend.mslice-owed (Referent.rtF (Referent.fInt Syntax.w8)) (Syntax.tyRef (Syntax.named 1) Syntax.mut (Syntax.tyInt Syntax.w8)) 1 4 (Row.lease (κs .1 .0) (qs .1 .0))) (List._∷_ e42
-            (List._∷_ e45 (List._∷_ e49 (List._∷_ e51 (List._∷_ e52 (List._∷_ e56 (List._∷_ e58 (List._∷_ e3 (List._∷_ e6 (List._∷_ e8 (List._∷_ e11 (List._∷_ e14 (List._∷_ e16 List.[])))))))))))))))
+            (2, Relend.mslice-owed (Referent.rtF (Referent.fInt Syntax.w8)) (Syntax.tyRef (Syntax.named 1) Syntax.mut (Syntax.tyInt Syntax.w8)) 1 4 (Row.lease (κs .1 .0) (qs .1 .0))) (List._∷_ e44
+            (List._∷_ e50 (List._∷_ e54 (List._∷_ e56 (List._∷_ e57 (List._∷_ e61 (List._∷_ e63 (List._∷_ e3 (List._∷_ e6 (List._∷_ e8 (List._∷_ e11 (List._∷_ e14 (List._∷_ e16 List.[])))))))))))))))
 
         abbrev g5 : List.List Row.Entry
         g5 = List._∷_ e0 (List._∷_ e2 (List._∷_
             (2, Relend.mslice-owed (Referent.rtF (Referent.fInt Syntax.w8)) (Syntax.tyRef (Syntax.named 1) Syntax.mut (Syntax.tyInt Syntax.w8)) 1 4 (Row.lease (κs .1 .0) (qs .1 .0))) (List._∷_
-            (3, Relend.mslice-owed (Referent.rtF (Referent.fInt Syntax.w16)) (Syntax.tyRef (Syntax.named 2) Syntax.mut (Syntax.tyInt Syntax.w16)) 2 5 (Row.lease (κs .1 .1 .0) (qs .1 .1 .0))) (List._∷_ e45
-            (List._∷_ e49 (List._∷_ e51 (List._∷_ e52 (List._∷_ e56 (List._∷_ e58 (List._∷_ e3 (List._∷_ e6 (List._∷_ e8 (List._∷_ e10 (List._∷_ e14 (List._∷_ e16 List.[])))))))))))))))
+            (3, Relend.mslice-owed (Referent.rtF (Referent.fInt Syntax.w16)) (Syntax.tyRef (Syntax.named 2) Syntax.mut (Syntax.tyInt Syntax.w16)) 2 5 (Row.lease (κs .1 .1 .0) (qs .1 .1 .0))) (List._∷_ e50
+            (List._∷_ e54 (List._∷_ e56 (List._∷_ e57 (List._∷_ e61 (List._∷_ e63 (List._∷_ e3 (List._∷_ e6 (List._∷_ e8 (List._∷_ e10 (List._∷_ e14 (List._∷_ e16 List.[])))))))))))))))
 
         abbrev g6 : List.List Row.Entry
         g6 = List._∷_ e0 (List._∷_ e2 (List._∷_
             (2, Relend.mslice-owed (Referent.rtF (Referent.fInt Syntax.w8)) (Syntax.tyRef (Syntax.named 1) Syntax.mut (Syntax.tyInt Syntax.w8)) 1 4 (Row.lease (κs .1 .0) (qs .1 .0))) (List._∷_
-            (3, Relend.mslice-owed (Referent.rtF (Referent.fInt Syntax.w16)) (Syntax.tyRef (Syntax.named 2) Syntax.mut (Syntax.tyInt Syntax.w16)) 2 5 (Row.lease (κs .1 .1 .0) (qs .1 .1 .0))) (List._∷_ e45
-            (List._∷_ e49 (List._∷_ e51 (List._∷_ e52 (List._∷_ e56 (List._∷_ e58 (List._∷_ e3 (List._∷_ e6 (List._∷_ e8 (List._∷_ e11 (List._∷_ e13 (List._∷_ e16 List.[])))))))))))))))
+            (3, Relend.mslice-owed (Referent.rtF (Referent.fInt Syntax.w16)) (Syntax.tyRef (Syntax.named 2) Syntax.mut (Syntax.tyInt Syntax.w16)) 2 5 (Row.lease (κs .1 .1 .0) (qs .1 .1 .0))) (List._∷_ e50
+            (List._∷_ e54 (List._∷_ e56 (List._∷_ e57 (List._∷_ e61 (List._∷_ e63 (List._∷_ e3 (List._∷_ e6 (List._∷_ e8 (List._∷_ e11 (List._∷_ e13 (List._∷_ e16 List.[])))))))))))))))
 
         abbrev g7 : List.List Row.Entry
         g7 = List._∷_ e0 (List._∷_ e2 (List._∷_
             (2, Relend.mslice-owed (Referent.rtF (Referent.fInt Syntax.w8)) (Syntax.tyRef (Syntax.named 1) Syntax.mut (Syntax.tyInt Syntax.w8)) 1 4 (Row.lease (κs .1 .0) (qs .1 .0))) (List._∷_
             (3, Relend.mslice-owed (Referent.rtF (Referent.fInt Syntax.w16)) (Syntax.tyRef (Syntax.named 2) Syntax.mut (Syntax.tyInt Syntax.w16)) 2 5 (Row.lease (κs .1 .1 .0) (qs .1 .1 .0))) (List._∷_
-            (4, Relend.mslice-owed (Element.type) (Syntax.tyRef (Syntax.named 3) Syntax.mut Element.behind) 3 6 (Row.lease (κs .1 .1 .1 .0) (qs .1 .1 .1 .0))) (List._∷_ e49 (List._∷_ e51 (List._∷_ e52
-            (List._∷_ e56 (List._∷_ e58 (List._∷_ e3 (List._∷_ e6 (List._∷_ e8 (List._∷_ e11 (List._∷_ e13 (List._∷_ e15 List.[])))))))))))))))
+            (4, Relend.mslice-owed (Element.type) (Syntax.tyRef (Syntax.named 3) Syntax.mut Element.behind) 3 6 (Row.lease (κs .1 .1 .1 .0) (qs .1 .1 .1 .0))) (List._∷_ e54 (List._∷_ e56 (List._∷_ e57
+            (List._∷_ e61 (List._∷_ e63 (List._∷_ e3 (List._∷_ e6 (List._∷_ e8 (List._∷_ e11 (List._∷_ e13 (List._∷_ e15 List.[])))))))))))))))
 
         abbrev g8 : List.List Row.Entry
         g8 = List._∷_ e0 (List._∷_ e2 (List._∷_
             (2, Relend.mslice-owed (Referent.rtF (Referent.fInt Syntax.w8)) (Syntax.tyRef (Syntax.named 1) Syntax.mut (Syntax.tyInt Syntax.w8)) 1 4 (Row.lease (κs .1 .0) (qs .1 .0))) (List._∷_
             (3, Relend.mslice-owed (Referent.rtF (Referent.fInt Syntax.w16)) (Syntax.tyRef (Syntax.named 2) Syntax.mut (Syntax.tyInt Syntax.w16)) 2 5 (Row.lease (κs .1 .1 .0) (qs .1 .1 .0))) (List._∷_
-            (4, Relend.mslice-owed (Element.type) (Syntax.tyRef (Syntax.named 3) Syntax.mut Element.behind) 3 6 (Row.lease (κs .1 .1 .1 .0) (qs .1 .1 .1 .0))) (List._∷_ e49 (List._∷_ e51 (List._∷_ e52
-            (List._∷_ e56 (List._∷_ e58 (List._∷_ e3 (List._∷_ e6 (List._∷_ e8 (List._∷_ e11 (List._∷_ e13 (List._∷_ e16 List.[])))))))))))))))
+            (4, Relend.mslice-owed (Element.type) (Syntax.tyRef (Syntax.named 3) Syntax.mut Element.behind) 3 6 (Row.lease (κs .1 .1 .1 .0) (qs .1 .1 .1 .0))) (List._∷_ e54 (List._∷_ e56 (List._∷_ e57
+            (List._∷_ e61 (List._∷_ e63 (List._∷_ e3 (List._∷_ e6 (List._∷_ e8 (List._∷_ e11 (List._∷_ e13 (List._∷_ e16 List.[])))))))))))))))
 
         abbrev g10 : List.List Row.Entry
         g10 = List._∷_ e0 (List._∷_ e2 (List._∷_
             (2, Relend.mslice-owed (Referent.rtF (Referent.fInt Syntax.w8)) (Syntax.tyRef (Syntax.named 1) Syntax.mut (Syntax.tyInt Syntax.w8)) 1 4 (Row.lease (κs .1 .0) (qs .1 .0))) (List._∷_
             (3, Relend.mslice-owed (Referent.rtF (Referent.fInt Syntax.w16)) (Syntax.tyRef (Syntax.named 2) Syntax.mut (Syntax.tyInt Syntax.w16)) 2 5 (Row.lease (κs .1 .1 .0) (qs .1 .1 .0))) (List._∷_
-            (4, Relend.mslice-owed (Element.type) (Syntax.tyRef (Syntax.named 3) Syntax.mut Element.behind) 3 6 (Row.lease (κs .1 .1 .1 .0) (qs .1 .1 .1 .0))) (List._∷_ e49 (List._∷_ e51 (List._∷_ e53
-            (List._∷_ e56 (List._∷_ e58 (List._∷_ e3 (List._∷_ e6 (List._∷_ e7 (List._∷_ e11 (List._∷_ e12 (List._∷_ e16 List.[])))))))))))))))
+            (4, Relend.mslice-owed (Element.type) (Syntax.tyRef (Syntax.named 3) Syntax.mut Element.behind) 3 6 (Row.lease (κs .1 .1 .1 .0) (qs .1 .1 .1 .0))) (List._∷_ e54 (List._∷_ e56 (List._∷_ e58
+            (List._∷_ e61 (List._∷_ e63 (List._∷_ e3 (List._∷_ e6 (List._∷_ e7 (List._∷_ e11 (List._∷_ e12 (List._∷_ e16 List.[])))))))))))))))
 
         abbrev g14 : List.List Row.Entry
         g14 = List._∷_ e0 (List._∷_ e2 (List._∷_ e24 (List._∷_
             (3, Relend.mslice-owed (Referent.rtF (Referent.fInt Syntax.w16)) (Syntax.tyRef (Syntax.named 2) Syntax.mut (Syntax.tyInt Syntax.w16)) 2 5 (Row.lease (κs .1 .1 .0) (qs .1 .1 .0))) (List._∷_
-            (4, Relend.mslice-owed (Element.type) (Syntax.tyRef (Syntax.named 3) Syntax.mut Element.behind) 3 6 (Row.lease (κs .1 .1 .1 .0) (qs .1 .1 .1 .0))) (List._∷_ e49 (List._∷_ e51 (List._∷_ e53
-            (List._∷_ e56 (List._∷_ e58 (List._∷_ e3 (List._∷_ e6 (List._∷_ e9 (List._∷_ e11 (List._∷_ e12 (List._∷_ e16 List.[])))))))))))))))
+            (4, Relend.mslice-owed (Element.type) (Syntax.tyRef (Syntax.named 3) Syntax.mut Element.behind) 3 6 (Row.lease (κs .1 .1 .1 .0) (qs .1 .1 .1 .0))) (List._∷_ e54 (List._∷_ e56 (List._∷_ e58
+            (List._∷_ e61 (List._∷_ e63 (List._∷_ e3 (List._∷_ e6 (List._∷_ e9 (List._∷_ e11 (List._∷_ e12 (List._∷_ e16 List.[])))))))))))))))
 
         abbrev g15 : List.List Row.Entry
-        g15 = List._∷_ e0 (List._∷_ e2 (List._∷_ e24 (List._∷_ e42 (List._∷_
-            (4, Relend.mslice-owed (Element.type) (Syntax.tyRef (Syntax.named 3) Syntax.mut Element.behind) 3 6 (Row.lease (κs .1 .1 .1 .0) (qs .1 .1 .1 .0))) (List._∷_ e49 (List._∷_ e51 (List._∷_ e53
-            (List._∷_ e56 (List._∷_ e58 (List._∷_ e3 (List._∷_ e6 (List._∷_ e9 (List._∷_ e11 (List._∷_ e14 (List._∷_ e16 List.[])))))))))))))))
+        g15 = List._∷_ e0 (List._∷_ e2 (List._∷_ e24 (List._∷_ e44 (List._∷_
+            (4, Relend.mslice-owed (Element.type) (Syntax.tyRef (Syntax.named 3) Syntax.mut Element.behind) 3 6 (Row.lease (κs .1 .1 .1 .0) (qs .1 .1 .1 .0))) (List._∷_ e54 (List._∷_ e56 (List._∷_ e58
+            (List._∷_ e61 (List._∷_ e63 (List._∷_ e3 (List._∷_ e6 (List._∷_ e9 (List._∷_ e11 (List._∷_ e14 (List._∷_ e16 List.[])))))))))))))))
 
         abbrev g35 : List.List Row.Entry
         g35 = List._∷_ e0 (List._∷_ e2 (List._∷_
-            (2, Relend.mslice-owed (Referent.rtF (Referent.fInt Syntax.w8)) (Syntax.tyRef (Syntax.named 1) Syntax.mut (Syntax.tyInt Syntax.w8)) 1 7 (Row.lease (κs .1 .0) (qs .1 .0))) (List._∷_ e42
-            (List._∷_ e45 (List._∷_ e49 (List._∷_ e51 (List._∷_ e52 (List._∷_ e56 (List._∷_ e58 (List._∷_ e4 (List._∷_ e6 (List._∷_ e9 (List._∷_ e11 (List._∷_ e14 (List._∷_ e16 List.[])))))))))))))))
+            (2, Relend.mslice-owed (Referent.rtF (Referent.fInt Syntax.w8)) (Syntax.tyRef (Syntax.named 1) Syntax.mut (Syntax.tyInt Syntax.w8)) 1 7 (Row.lease (κs .1 .0) (qs .1 .0))) (List._∷_ e44
+            (List._∷_ e50 (List._∷_ e54 (List._∷_ e56 (List._∷_ e57 (List._∷_ e61 (List._∷_ e64 (List._∷_ e4 (List._∷_ e6 (List._∷_ e9 (List._∷_ e11 (List._∷_ e14 (List._∷_ e16 List.[])))))))))))))))
 
         abbrev g38 : List.List Row.Entry
         g38 = List._∷_ e0 (List._∷_ e2 (List._∷_
             (2, Relend.mslice-owed (Referent.rtF (Referent.fInt Syntax.w8)) (Syntax.tyRef (Syntax.named 1) Syntax.mut (Syntax.tyInt Syntax.w8)) 1 7 (Row.lease (κs .1 .0) (qs .1 .0))) (List._∷_
-            (3, Relend.mslice-owed (Referent.rtF (Referent.fInt Syntax.w16)) (Syntax.tyRef (Syntax.named 2) Syntax.mut (Syntax.tyInt Syntax.w16)) 2 8 (Row.lease (κs .1 .1 .0) (qs .1 .1 .0))) (List._∷_ e45
-            (List._∷_ e49 (List._∷_ e51 (List._∷_ e52 (List._∷_ e56 (List._∷_ e58 (List._∷_ e4 (List._∷_ e6 (List._∷_ e9 (List._∷_ e11 (List._∷_ e14 (List._∷_ e16 List.[])))))))))))))))
+            (3, Relend.mslice-owed (Referent.rtF (Referent.fInt Syntax.w16)) (Syntax.tyRef (Syntax.named 2) Syntax.mut (Syntax.tyInt Syntax.w16)) 2 8 (Row.lease (κs .1 .1 .0) (qs .1 .1 .0))) (List._∷_ e50
+            (List._∷_ e54 (List._∷_ e56 (List._∷_ e57 (List._∷_ e61 (List._∷_ e64 (List._∷_ e4 (List._∷_ e6 (List._∷_ e9 (List._∷_ e11 (List._∷_ e14 (List._∷_ e16 List.[])))))))))))))))
 
         abbrev g41 : List.List Row.Entry
         g41 = List._∷_ e0 (List._∷_ e2 (List._∷_
             (2, Relend.mslice-owed (Referent.rtF (Referent.fInt Syntax.w8)) (Syntax.tyRef (Syntax.named 1) Syntax.mut (Syntax.tyInt Syntax.w8)) 1 7 (Row.lease (κs .1 .0) (qs .1 .0))) (List._∷_
             (3, Relend.mslice-owed (Referent.rtF (Referent.fInt Syntax.w16)) (Syntax.tyRef (Syntax.named 2) Syntax.mut (Syntax.tyInt Syntax.w16)) 2 8 (Row.lease (κs .1 .1 .0) (qs .1 .1 .0))) (List._∷_
-            (4, Relend.mslice-owed (Element.type) (Syntax.tyRef (Syntax.named 3) Syntax.mut Element.behind) 3 9 (Row.lease (κs .1 .1 .1 .0) (qs .1 .1 .1 .0))) (List._∷_ e49 (List._∷_ e51 (List._∷_ e52
-            (List._∷_ e56 (List._∷_ e58 (List._∷_ e4 (List._∷_ e6 (List._∷_ e9 (List._∷_ e11 (List._∷_ e14 (List._∷_ e16 List.[])))))))))))))))
+            (4, Relend.mslice-owed (Element.type) (Syntax.tyRef (Syntax.named 3) Syntax.mut Element.behind) 3 9 (Row.lease (κs .1 .1 .1 .0) (qs .1 .1 .1 .0))) (List._∷_ e54 (List._∷_ e56 (List._∷_ e57
+            (List._∷_ e61 (List._∷_ e64 (List._∷_ e4 (List._∷_ e6 (List._∷_ e9 (List._∷_ e11 (List._∷_ e14 (List._∷_ e16 List.[])))))))))))))))
 
         abbrev g45 : List.List Row.Entry
         g45 = List._∷_ e0 (List._∷_ e2 (List._∷_
             (2, Relend.mslice-owed (Referent.rtF (Referent.fInt Syntax.w8)) (Syntax.tyRef (Syntax.named 1) Syntax.mut (Syntax.tyInt Syntax.w8)) 1 7 (Row.lease (κs .1 .0) (qs .1 .0))) (List._∷_
             (3, Relend.mslice-owed (Referent.rtF (Referent.fInt Syntax.w16)) (Syntax.tyRef (Syntax.named 2) Syntax.mut (Syntax.tyInt Syntax.w16)) 2 8 (Row.lease (κs .1 .1 .0) (qs .1 .1 .0))) (List._∷_
-            (4, Relend.mslice-owed (Element.type) (Syntax.tyRef (Syntax.named 3) Syntax.mut Element.behind) 3 9 (Row.lease (κs .1 .1 .1 .0) (qs .1 .1 .1 .0))) (List._∷_ e48 (List._∷_ e51 (List._∷_ e52
-            (List._∷_ e56 (List._∷_ e58 (List._∷_ e4 (List._∷_ e6 (List._∷_ e9 (List._∷_ e11 (List._∷_ e14 (List._∷_ e16 List.[])))))))))))))))
+            (4, Relend.mslice-owed (Element.type) (Syntax.tyRef (Syntax.named 3) Syntax.mut Element.behind) 3 9 (Row.lease (κs .1 .1 .1 .0) (qs .1 .1 .1 .0))) (List._∷_ e53 (List._∷_ e56 (List._∷_ e57
+            (List._∷_ e61 (List._∷_ e64 (List._∷_ e4 (List._∷_ e6 (List._∷_ e9 (List._∷_ e11 (List._∷_ e14 (List._∷_ e16 List.[])))))))))))))))
 
         abbrev g47 : List.List Row.Entry
         g47 = List._∷_ e0 (List._∷_ e2 (List._∷_ e24 (List._∷_
             (3, Relend.mslice-owed (Referent.rtF (Referent.fInt Syntax.w16)) (Syntax.tyRef (Syntax.named 2) Syntax.mut (Syntax.tyInt Syntax.w16)) 2 8 (Row.lease (κs .1 .1 .0) (qs .1 .1 .0))) (List._∷_
-            (4, Relend.mslice-owed (Element.type) (Syntax.tyRef (Syntax.named 3) Syntax.mut Element.behind) 3 9 (Row.lease (κs .1 .1 .1 .0) (qs .1 .1 .1 .0))) (List._∷_ e48 (List._∷_ e51 (List._∷_ e52
-            (List._∷_ e56 (List._∷_ e58 (List._∷_ e4 (List._∷_ e6 (List._∷_ e9 (List._∷_ e11 (List._∷_ e14 (List._∷_ e16 List.[])))))))))))))))
+            (4, Relend.mslice-owed (Element.type) (Syntax.tyRef (Syntax.named 3) Syntax.mut Element.behind) 3 9 (Row.lease (κs .1 .1 .1 .0) (qs .1 .1 .1 .0))) (List._∷_ e53 (List._∷_ e56 (List._∷_ e57
+            (List._∷_ e61 (List._∷_ e64 (List._∷_ e4 (List._∷_ e6 (List._∷_ e9 (List._∷_ e11 (List._∷_ e14 (List._∷_ e16 List.[])))))))))))))))
 
         abbrev g49 : List.List Row.Entry
-        g49 = List._∷_ e0 (List._∷_ e2 (List._∷_ e24 (List._∷_ e42 (List._∷_
-            (4, Relend.mslice-owed (Element.type) (Syntax.tyRef (Syntax.named 3) Syntax.mut Element.behind) 3 9 (Row.lease (κs .1 .1 .1 .0) (qs .1 .1 .1 .0))) (List._∷_ e48 (List._∷_ e51 (List._∷_ e52
-            (List._∷_ e56 (List._∷_ e58 (List._∷_ e4 (List._∷_ e6 (List._∷_ e9 (List._∷_ e11 (List._∷_ e14 (List._∷_ e16 List.[])))))))))))))))
+        g49 = List._∷_ e0 (List._∷_ e2 (List._∷_ e24 (List._∷_ e44 (List._∷_
+            (4, Relend.mslice-owed (Element.type) (Syntax.tyRef (Syntax.named 3) Syntax.mut Element.behind) 3 9 (Row.lease (κs .1 .1 .1 .0) (qs .1 .1 .1 .0))) (List._∷_ e53 (List._∷_ e56 (List._∷_ e57
+            (List._∷_ e61 (List._∷_ e64 (List._∷_ e4 (List._∷_ e6 (List._∷_ e9 (List._∷_ e11 (List._∷_ e14 (List._∷_ e16 List.[])))))))))))))))
+
+        abbrev g51 : List.List Row.Entry
+        g51 = List._∷_ e0 (List._∷_ e2 (List._∷_
+            (2, Relend.mslice-owed (Referent.rtF (Referent.fInt Syntax.w8)) (Syntax.tyRef (Syntax.named 1) Syntax.mut (Syntax.tyInt Syntax.w8)) 1 10 (Row.lease (κs .1 .0) (qs .1 .0))) (List._∷_ e44
+            (List._∷_ e50 (List._∷_ e53 (List._∷_ e56 (List._∷_ e57 (List._∷_ e61 (List._∷_ e64 (List._∷_ e4 (List._∷_ e6 (List._∷_ e9 (List._∷_ e11 (List._∷_ e14 (List._∷_ e16 List.[])))))))))))))))
+
+        abbrev g55 : List.List Row.Entry
+        g55 = List._∷_ e0 (List._∷_ e2 (List._∷_
+            (2, Relend.mslice-owed (Referent.rtF (Referent.fInt Syntax.w8)) (Syntax.tyRef (Syntax.named 1) Syntax.mut (Syntax.tyInt Syntax.w8)) 1 10 (Row.lease (κs .1 .0) (qs .1 .0))) (List._∷_ e44
+            (List._∷_ e50 (List._∷_ e53 (List._∷_ e56 (List._∷_ e57 (List._∷_ e61 (List._∷_ e63 (List._∷_ e4 (List._∷_ e6 (List._∷_ e9 (List._∷_ e11 (List._∷_ e14 (List._∷_ e16 List.[])))))))))))))))
 
         abbrev G0 : Row.Cx
         G0 = record {
           locals = List._++_ t0 t1;
           slots = List._∷_ (Row.lease (κs .0) (qs .0)) (List._∷_ (Row.lease (κs .1 .0) (qs .1 .0)) (List._∷_ (Row.lease (κs .1 .1 .0) (qs .1 .1 .0)) (List._∷_ (Row.lease (κs
-              .1 .1 .1 .0) (qs .1 .1 .1 .0)) (List._∷_ Row.off (List._∷_ Row.off (List._∷_ Row.off (List._∷_ Row.off (List._∷_ Row.off (List._∷_ Row.off List.[])))))))));
+              .1 .1 .1 .0) (qs .1 .1 .1 .0)) (List._∷_ Row.off (List._∷_ Row.off (List._∷_ Row.off (List._∷_ Row.off (List._∷_ Row.off (List._∷_ Row.off (List._∷_ Row.off List.[]))))))))));
         }
 
         abbrev G1 : Row.Cx
         G1 = record {
           locals = List._++_ t2 t1;
           slots = List._∷_ (Row.lease (κs .0) (qs .0)) (List._∷_ (Row.lease (κs .1 .0) (qs .1 .0)) (List._∷_ (Row.lease (κs .1 .1 .0) (qs .1 .1 .0)) (List._∷_ (Row.lease (κs
-              .1 .1 .1 .0) (qs .1 .1 .1 .0)) (List._∷_ Row.off (List._∷_ Row.off (List._∷_ Row.off (List._∷_ Row.off (List._∷_ Row.off (List._∷_ Row.off List.[])))))))));
+              .1 .1 .1 .0) (qs .1 .1 .1 .0)) (List._∷_ Row.off (List._∷_ Row.off (List._∷_ Row.off (List._∷_ Row.off (List._∷_ Row.off (List._∷_ Row.off (List._∷_ Row.off List.[]))))))))));
         }
 
         abbrev G2 : Row.Cx
         G2 = record {
           locals = List._++_ t0 t1;
           slots = List._∷_ (Row.lease (κs .0) (qs .0)) (List._∷_ (Row.lease (κs .1 .0) (qs .1 .0)) (List._∷_ (Row.lease (κs .1 .1 .0) (qs .1 .1 .0)) (List._∷_ (Row.lease (κs
-              .1 .1 .1 .0) (qs .1 .1 .1 .0)) (List._∷_ Row.off (List._∷_ Row.off (List._∷_ Row.off (List._∷_ Row.off (List._∷_ Row.off (List._∷_ Row.off List.[])))))))));
+              .1 .1 .1 .0) (qs .1 .1 .1 .0)) (List._∷_ Row.off (List._∷_ Row.off (List._∷_ Row.off (List._∷_ Row.off (List._∷_ Row.off (List._∷_ Row.off (List._∷_ Row.off List.[]))))))))));
         }
 
         abbrev G3 : Row.Cx
         G3 = record {
           locals = List._++_ t0 t1;
           slots = List._∷_ (Row.lease (κs .0) (qs .0)) (List._∷_ (Row.lease (κs .1 .0) (qs .1 .0)) (List._∷_ (Row.lease (κs .1 .1 .0) (qs .1 .1 .0)) (List._∷_ (Row.lease (κs
-              .1 .1 .1 .0) (qs .1 .1 .1 .0)) (List._∷_ Row.off (List._∷_ Row.off (List._∷_ Row.off (List._∷_ Row.off (List._∷_ Row.off (List._∷_ Row.off List.[])))))))));
+              .1 .1 .1 .0) (qs .1 .1 .1 .0)) (List._∷_ Row.off (List._∷_ Row.off (List._∷_ Row.off (List._∷_ Row.off (List._∷_ Row.off (List._∷_ Row.off (List._∷_ Row.off List.[]))))))))));
         }
 
         abbrev G4 : Row.Cx
         G4 = record {
           locals = List._++_ t0 t1;
           slots = List._∷_ (Row.lease (κs .0) (qs .0)) (List._∷_ (Row.lease (κs .1 .0) (qs .1 .0)) (List._∷_ (Row.lease (κs .1 .1 .0) (qs .1 .1 .0)) (List._∷_ (Row.lease (κs
-              .1 .1 .1 .0) (qs .1 .1 .1 .0)) (List._∷_ Row.off (List._∷_ Row.off (List._∷_ Row.off (List._∷_ Row.off (List._∷_ Row.off (List._∷_ Row.off List.[])))))))));
+              .1 .1 .1 .0) (qs .1 .1 .1 .0)) (List._∷_ Row.off (List._∷_ Row.off (List._∷_ Row.off (List._∷_ Row.off (List._∷_ Row.off (List._∷_ Row.off (List._∷_ Row.off List.[]))))))))));
         }
 
         abbrev G5 : Row.Cx
         G5 = record {
           locals = List._++_ t0 t1;
           slots = List._∷_ (Row.lease (κs .0) (qs .0)) (List._∷_ (Row.lease (κs .1 .0) (qs .1 .0)) (List._∷_ (Row.lease (κs .1 .1 .0) (qs .1 .1 .0)) (List._∷_ (Row.lease (κs
-              .1 .1 .1 .0) (qs .1 .1 .1 .0)) (List._∷_ Row.alive (List._∷_ Row.off (List._∷_ Row.off (List._∷_ Row.off (List._∷_ Row.off (List._∷_ Row.off List.[])))))))));
+              .1 .1 .1 .0) (qs .1 .1 .1 .0)) (List._∷_ Row.alive (List._∷_ Row.off (List._∷_ Row.off (List._∷_ Row.off (List._∷_ Row.off (List._∷_ Row.off (List._∷_ Row.off List.[]))))))))));
         }
 
         abbrev G6 : Row.Cx
         G6 = record {
           locals = List._++_ g3 t1;
           slots = List._∷_ (Row.lease (κs .0) (qs .0)) (List._∷_ Row.off (List._∷_ (Row.lease (κs .1 .1 .0) (qs .1 .1 .0)) (List._∷_ (Row.lease (κs .1 .1 .1 .0) (qs .1 .1 .1
-              .0)) (List._∷_ Row.alive (List._∷_ Row.off (List._∷_ Row.off (List._∷_ Row.off (List._∷_ Row.off (List._∷_ Row.off List.[])))))))));
+              .0)) (List._∷_ Row.alive (List._∷_ Row.off (List._∷_ Row.off (List._∷_ Row.off (List._∷_ Row.off (List._∷_ Row.off (List._∷_ Row.off List.[]))))))))));
         }
 
         abbrev G7 : Row.Cx
         G7 = record {
           locals = List._++_ g4 t1;
           slots = List._∷_ (Row.lease (κs .0) (qs .0)) (List._∷_ Row.off (List._∷_ (Row.lease (κs .1 .1 .0) (qs .1 .1 .0)) (List._∷_ (Row.lease (κs .1 .1 .1 .0) (qs .1 .1 .1
-              .0)) (List._∷_ Row.alive (List._∷_ Row.off (List._∷_ Row.off (List._∷_ Row.off (List._∷_ Row.off (List._∷_ Row.off List.[])))))))));
+              .0)) (List._∷_ Row.alive (List._∷_ Row.off (List._∷_ Row.off (List._∷_ Row.off (List._∷_ Row.off (List._∷_ Row.off (List._∷_ Row.off List.[]))))))))));
         }
 
         abbrev G8 : Row.Cx
         G8 = record {
           locals = List._++_ g4 t1;
           slots = List._∷_ (Row.lease (κs .0) (qs .0)) (List._∷_ Row.off (List._∷_ (Row.lease (κs .1 .1 .0) (qs .1 .1 .0)) (List._∷_ (Row.lease (κs .1 .1 .1 .0) (qs .1 .1 .1
-              .0)) (List._∷_ Row.alive (List._∷_ Row.alive (List._∷_ Row.off (List._∷_ Row.off (List._∷_ Row.off (List._∷_ Row.off List.[])))))))));
+              .0)) (List._∷_ Row.alive (List._∷_ Row.alive (List._∷_ Row.off (List._∷_ Row.off (List._∷_ Row.off (List._∷_ Row.off (List._∷_ Row.off List.[]))))))))));
         }
 
         abbrev G9 : Row.Cx
         G9 = record {
           locals = List._++_ g5 t1;
           slots = List._∷_ (Row.lease (κs .0) (qs .0)) (List._∷_ Row.off (List._∷_ Row.off (List._∷_ (Row.lease (κs .1 .1 .1 .0) (qs .1 .1 .1 .0)) (List._∷_ Row.alive
-              (List._∷_ Row.alive (List._∷_ Row.off (List._∷_ Row.off (List._∷_ Row.off (List._∷_ Row.off List.[])))))))));
+              (List._∷_ Row.alive (List._∷_ Row.off (List._∷_ Row.off (List._∷_ Row.off (List._∷_ Row.off (List._∷_ Row.off List.[]))))))))));
         }
 
         abbrev G10 : Row.Cx
         G10 = record {
           locals = List._++_ g6 t1;
           slots = List._∷_ (Row.lease (κs .0) (qs .0)) (List._∷_ Row.off (List._∷_ Row.off (List._∷_ (Row.lease (κs .1 .1 .1 .0) (qs .1 .1 .1 .0)) (List._∷_ Row.alive
-              (List._∷_ Row.alive (List._∷_ Row.off (List._∷_ Row.off (List._∷_ Row.off (List._∷_ Row.off List.[])))))))));
+              (List._∷_ Row.alive (List._∷_ Row.off (List._∷_ Row.off (List._∷_ Row.off (List._∷_ Row.off (List._∷_ Row.off List.[]))))))))));
         }
 
         abbrev G11 : Row.Cx
         G11 = record {
           locals = List._++_ g6 t1;
           slots = List._∷_ (Row.lease (κs .0) (qs .0)) (List._∷_ Row.off (List._∷_ Row.off (List._∷_ (Row.lease (κs .1 .1 .1 .0) (qs .1 .1 .1 .0)) (List._∷_ Row.alive
-              (List._∷_ Row.alive (List._∷_ Row.alive (List._∷_ Row.off (List._∷_ Row.off (List._∷_ Row.off List.[])))))))));
+              (List._∷_ Row.alive (List._∷_ Row.alive (List._∷_ Row.off (List._∷_ Row.off (List._∷_ Row.off (List._∷_ Row.off List.[]))))))))));
         }
 
         abbrev G12 : Row.Cx
         G12 = record {
           locals = List._++_ g7 t1;
           slots = List._∷_ (Row.lease (κs .0) (qs .0)) (List._∷_ Row.off (List._∷_ Row.off (List._∷_ Row.off (List._∷_ Row.alive (List._∷_ Row.alive (List._∷_ Row.alive
-              (List._∷_ Row.off (List._∷_ Row.off (List._∷_ Row.off List.[])))))))));
+              (List._∷_ Row.off (List._∷_ Row.off (List._∷_ Row.off (List._∷_ Row.off List.[]))))))))));
         }
 
         abbrev G13 : Row.Cx
         G13 = record {
           locals = List._++_ g8 t9;
           slots = List._∷_ (Row.lease (κs .0) (qs .0)) (List._∷_ Row.off (List._∷_ Row.off (List._∷_ Row.off (List._∷_ Row.alive (List._∷_ Row.alive (List._∷_ Row.alive
-              (List._∷_ Row.off (List._∷_ Row.off (List._∷_ Row.off List.[])))))))));
+              (List._∷_ Row.off (List._∷_ Row.off (List._∷_ Row.off (List._∷_ Row.off List.[]))))))))));
         }
 
         abbrev G14 : Row.Cx
         G14 = record {
           locals = List._++_ g10 t11;
           slots = List._∷_ (Row.lease (κs .0) (qs .0)) (List._∷_ Row.off (List._∷_ Row.off (List._∷_ Row.off (List._∷_ Row.alive (List._∷_ Row.alive (List._∷_ Row.alive
-              (List._∷_ Row.off (List._∷_ Row.off (List._∷_ Row.off List.[])))))))));
+              (List._∷_ Row.off (List._∷_ Row.off (List._∷_ Row.off (List._∷_ Row.off List.[]))))))))));
         }
 
         abbrev G15 : Row.Cx
         G15 = record {
           locals = List._++_ t12 t13;
           slots = List._∷_ (Row.lease (κs .0) (qs .0)) (List._∷_ (Row.lease (κs .1 .0) (qs .1 .0)) (List._∷_ (Row.lease (κs .1 .1 .0) (qs .1 .1 .0)) (List._∷_ (Row.lease
-              (κs .1 .1 .1 .0) (qs .1 .1 .1 .0)) (List._∷_ Row.off (List._∷_ Row.off (List._∷_ Row.off (List._∷_ Row.off (List._∷_ Row.off (List._∷_ Row.off List.[])))))))));
+              (κs .1 .1 .1 .0) (qs .1 .1 .1 .0)) (List._∷_ Row.off (List._∷_ Row.off (List._∷_ Row.off (List._∷_ Row.off (List._∷_ Row.off (List._∷_ Row.off (List._∷_ Row.off List.[]))))))))));
         }
 
         abbrev G16 : Row.Cx
         G16 = record {
           locals = List._++_ g10 t11;
           slots = List._∷_ (Row.lease (κs .0) (qs .0)) (List._∷_ Row.off (List._∷_ Row.off (List._∷_ Row.off (List._∷_ Row.dead (List._∷_ Row.alive (List._∷_ Row.alive
-              (List._∷_ Row.off (List._∷_ Row.off (List._∷_ Row.off List.[])))))))));
+              (List._∷_ Row.off (List._∷_ Row.off (List._∷_ Row.off (List._∷_ Row.off List.[]))))))))));
         }
 
         abbrev G17 : Row.Cx
         G17 = record {
           locals = List._++_ g14 t11;
           slots = List._∷_ (Row.lease (κs .0) (qs .0)) (List._∷_ (Row.lease (κs .1 .0) (qs .1 .0)) (List._∷_ Row.off (List._∷_ Row.off (List._∷_ Row.dead (List._∷_
-              Row.alive (List._∷_ Row.alive (List._∷_ Row.off (List._∷_ Row.off (List._∷_ Row.off List.[])))))))));
+              Row.alive (List._∷_ Row.alive (List._∷_ Row.off (List._∷_ Row.off (List._∷_ Row.off (List._∷_ Row.off List.[]))))))))));
         }
 
         abbrev G18 : Row.Cx
         G18 = record {
           locals = List._++_ g14 t11;
           slots = List._∷_ (Row.lease (κs .0) (qs .0)) (List._∷_ (Row.lease (κs .1 .0) (qs .1 .0)) (List._∷_ Row.off (List._∷_ Row.off (List._∷_ Row.dead (List._∷_
-              Row.alive (List._∷_ Row.alive (List._∷_ Row.off (List._∷_ Row.off (List._∷_ Row.off List.[])))))))));
+              Row.alive (List._∷_ Row.alive (List._∷_ Row.off (List._∷_ Row.off (List._∷_ Row.off (List._∷_ Row.off List.[]))))))))));
         }
 
         abbrev G19 : Row.Cx
         G19 = record {
           locals = List._++_ g14 t11;
           slots = List._∷_ (Row.lease (κs .0) (qs .0)) (List._∷_ (Row.lease (κs .1 .0) (qs .1 .0)) (List._∷_ Row.off (List._∷_ Row.off (List._∷_ Row.off (List._∷_ Row.alive
-              (List._∷_ Row.alive (List._∷_ Row.off (List._∷_ Row.off (List._∷_ Row.off List.[])))))))));
+              (List._∷_ Row.alive (List._∷_ Row.off (List._∷_ Row.off (List._∷_ Row.off (List._∷_ Row.off List.[]))))))))));
         }
 
         abbrev G20 : Row.Cx
         G20 = record {
           locals = List._++_ g14 t11;
           slots = List._∷_ (Row.lease (κs .0) (qs .0)) (List._∷_ (Row.lease (κs .1 .0) (qs .1 .0)) (List._∷_ Row.off (List._∷_ Row.off (List._∷_ Row.off (List._∷_ Row.dead
-              (List._∷_ Row.alive (List._∷_ Row.off (List._∷_ Row.off (List._∷_ Row.off List.[])))))))));
+              (List._∷_ Row.alive (List._∷_ Row.off (List._∷_ Row.off (List._∷_ Row.off (List._∷_ Row.off List.[]))))))))));
         }
 
         abbrev G21 : Row.Cx
         G21 = record {
           locals = List._++_ g15 t11;
           slots = List._∷_ (Row.lease (κs .0) (qs .0)) (List._∷_ (Row.lease (κs .1 .0) (qs .1 .0)) (List._∷_ (Row.lease (κs .1 .1 .0) (qs .1 .1 .0)) (List._∷_ Row.off
-              (List._∷_ Row.off (List._∷_ Row.dead (List._∷_ Row.alive (List._∷_ Row.off (List._∷_ Row.off (List._∷_ Row.off List.[])))))))));
+              (List._∷_ Row.off (List._∷_ Row.dead (List._∷_ Row.alive (List._∷_ Row.off (List._∷_ Row.off (List._∷_ Row.off (List._∷_ Row.off List.[]))))))))));
         }
 
         abbrev G22 : Row.Cx
         G22 = record {
           locals = List._++_ g15 t11;
           slots = List._∷_ (Row.lease (κs .0) (qs .0)) (List._∷_ (Row.lease (κs .1 .0) (qs .1 .0)) (List._∷_ (Row.lease (κs .1 .1 .0) (qs .1 .1 .0)) (List._∷_ Row.off
-              (List._∷_ Row.off (List._∷_ Row.dead (List._∷_ Row.alive (List._∷_ Row.off (List._∷_ Row.off (List._∷_ Row.off List.[])))))))));
+              (List._∷_ Row.off (List._∷_ Row.dead (List._∷_ Row.alive (List._∷_ Row.off (List._∷_ Row.off (List._∷_ Row.off (List._∷_ Row.off List.[]))))))))));
         }
 
         abbrev G23 : Row.Cx
         G23 = record {
           locals = List._++_ g15 t11;
           slots = List._∷_ (Row.lease (κs .0) (qs .0)) (List._∷_ (Row.lease (κs .1 .0) (qs .1 .0)) (List._∷_ (Row.lease (κs .1 .1 .0) (qs .1 .1 .0)) (List._∷_ Row.off
-              (List._∷_ Row.off (List._∷_ Row.off (List._∷_ Row.alive (List._∷_ Row.off (List._∷_ Row.off (List._∷_ Row.off List.[])))))))));
+              (List._∷_ Row.off (List._∷_ Row.off (List._∷_ Row.alive (List._∷_ Row.off (List._∷_ Row.off (List._∷_ Row.off (List._∷_ Row.off List.[]))))))))));
         }
 
         abbrev G24 : Row.Cx
         G24 = record {
           locals = List._++_ g15 t11;
           slots = List._∷_ (Row.lease (κs .0) (qs .0)) (List._∷_ (Row.lease (κs .1 .0) (qs .1 .0)) (List._∷_ (Row.lease (κs .1 .1 .0) (qs .1 .1 .0)) (List._∷_ Row.off
-              (List._∷_ Row.off (List._∷_ Row.off (List._∷_ Row.dead (List._∷_ Row.off (List._∷_ Row.off (List._∷_ Row.off List.[])))))))));
+              (List._∷_ Row.off (List._∷_ Row.off (List._∷_ Row.dead (List._∷_ Row.off (List._∷_ Row.off (List._∷_ Row.off (List._∷_ Row.off List.[]))))))))));
         }
 
         abbrev G25 : Row.Cx
         G25 = record {
           locals = List._++_ t16 t1;
           slots = List._∷_ (Row.lease (κs .0) (qs .0)) (List._∷_ (Row.lease (κs .1 .0) (qs .1 .0)) (List._∷_ (Row.lease (κs .1 .1 .0) (qs .1 .1 .0)) (List._∷_ (Row.lease (κs
-              .1 .1 .1 .0) (qs .1 .1 .1 .0)) (List._∷_ Row.off (List._∷_ Row.off (List._∷_ Row.dead (List._∷_ Row.off (List._∷_ Row.off (List._∷_ Row.off List.[])))))))));
+              .1 .1 .1 .0) (qs .1 .1 .1 .0)) (List._∷_ Row.off (List._∷_ Row.off (List._∷_ Row.dead (List._∷_ Row.off (List._∷_ Row.off (List._∷_ Row.off (List._∷_ Row.off List.[]))))))))));
         }
 
         abbrev G26 : Row.Cx
         G26 = record {
           locals = List._++_ t16 t1;
           slots = List._∷_ (Row.lease (κs .0) (qs .0)) (List._∷_ (Row.lease (κs .1 .0) (qs .1 .0)) (List._∷_ (Row.lease (κs .1 .1 .0) (qs .1 .1 .0)) (List._∷_ (Row.lease (κs
-              .1 .1 .1 .0) (qs .1 .1 .1 .0)) (List._∷_ Row.off (List._∷_ Row.off (List._∷_ Row.off (List._∷_ Row.off (List._∷_ Row.off (List._∷_ Row.off List.[])))))))));
+              .1 .1 .1 .0) (qs .1 .1 .1 .0)) (List._∷_ Row.off (List._∷_ Row.off (List._∷_ Row.off (List._∷_ Row.off (List._∷_ Row.off (List._∷_ Row.off (List._∷_ Row.off List.[]))))))))));
         }
 
         abbrev G27 : Row.Cx
         G27 = record {
           locals = List._++_ t17 t1;
           slots = List._∷_ (Row.lease (κs .0) (qs .0)) (List._∷_ (Row.lease (κs .1 .0) (qs .1 .0)) (List._∷_ (Row.lease (κs .1 .1 .0) (qs .1 .1 .0)) (List._∷_ (Row.lease (κs
-              .1 .1 .1 .0) (qs .1 .1 .1 .0)) (List._∷_ Row.off (List._∷_ Row.off (List._∷_ Row.off (List._∷_ Row.off (List._∷_ Row.off (List._∷_ Row.off List.[])))))))));
+              .1 .1 .1 .0) (qs .1 .1 .1 .0)) (List._∷_ Row.off (List._∷_ Row.off (List._∷_ Row.off (List._∷_ Row.off (List._∷_ Row.off (List._∷_ Row.off (List._∷_ Row.off List.[]))))))))));
         }
 
         abbrev G28 : Row.Cx
         G28 = record {
           locals = List._++_ t17 t1;
           slots = List._∷_ (Row.lease (κs .0) (qs .0)) (List._∷_ (Row.lease (κs .1 .0) (qs .1 .0)) (List._∷_ (Row.lease (κs .1 .1 .0) (qs .1 .1 .0)) (List._∷_ (Row.lease (κs
-              .1 .1 .1 .0) (qs .1 .1 .1 .0)) (List._∷_ Row.off (List._∷_ Row.off (List._∷_ Row.off (List._∷_ Row.off (List._∷_ Row.off (List._∷_ Row.off List.[])))))))));
+              .1 .1 .1 .0) (qs .1 .1 .1 .0)) (List._∷_ Row.off (List._∷_ Row.off (List._∷_ Row.off (List._∷_ Row.off (List._∷_ Row.off (List._∷_ Row.off (List._∷_ Row.off List.[]))))))))));
         }
 
         abbrev G29 : Row.Cx
         G29 = record {
           locals = List._++_ t18 t1;
           slots = List._∷_ (Row.lease (κs .0) (qs .0)) (List._∷_ (Row.lease (κs .1 .0) (qs .1 .0)) (List._∷_ (Row.lease (κs .1 .1 .0) (qs .1 .1 .0)) (List._∷_ (Row.lease (κs
-              .1 .1 .1 .0) (qs .1 .1 .1 .0)) (List._∷_ Row.off (List._∷_ Row.off (List._∷_ Row.off (List._∷_ Row.off (List._∷_ Row.off (List._∷_ Row.off List.[])))))))));
+              .1 .1 .1 .0) (qs .1 .1 .1 .0)) (List._∷_ Row.off (List._∷_ Row.off (List._∷_ Row.off (List._∷_ Row.off (List._∷_ Row.off (List._∷_ Row.off (List._∷_ Row.off List.[]))))))))));
         }
 
         abbrev G30 : Row.Cx
         G30 = record {
           locals = List._++_ t19 t1;
           slots = List._∷_ (Row.lease (κs .0) (qs .0)) (List._∷_ (Row.lease (κs .1 .0) (qs .1 .0)) (List._∷_ (Row.lease (κs .1 .1 .0) (qs .1 .1 .0)) (List._∷_ (Row.lease (κs
-              .1 .1 .1 .0) (qs .1 .1 .1 .0)) (List._∷_ Row.off (List._∷_ Row.off (List._∷_ Row.off (List._∷_ Row.off (List._∷_ Row.off (List._∷_ Row.off List.[])))))))));
+              .1 .1 .1 .0) (qs .1 .1 .1 .0)) (List._∷_ Row.off (List._∷_ Row.off (List._∷_ Row.off (List._∷_ Row.off (List._∷_ Row.off (List._∷_ Row.off (List._∷_ Row.off List.[]))))))))));
         }
 
         abbrev G31 : Row.Cx
         G31 = record {
           locals = List._++_ t20 t1;
           slots = List._∷_ (Row.lease (κs .0) (qs .0)) (List._∷_ (Row.lease (κs .1 .0) (qs .1 .0)) (List._∷_ (Row.lease (κs .1 .1 .0) (qs .1 .1 .0)) (List._∷_ (Row.lease (κs
-              .1 .1 .1 .0) (qs .1 .1 .1 .0)) (List._∷_ Row.off (List._∷_ Row.off (List._∷_ Row.off (List._∷_ Row.off (List._∷_ Row.off (List._∷_ Row.off List.[])))))))));
+              .1 .1 .1 .0) (qs .1 .1 .1 .0)) (List._∷_ Row.off (List._∷_ Row.off (List._∷_ Row.off (List._∷_ Row.off (List._∷_ Row.off (List._∷_ Row.off (List._∷_ Row.off List.[]))))))))));
         }
 
         abbrev G32 : Row.Cx
         G32 = record {
           locals = List._++_ t20 t21;
           slots = List._∷_ (Row.lease (κs .0) (qs .0)) (List._∷_ (Row.lease (κs .1 .0) (qs .1 .0)) (List._∷_ (Row.lease (κs .1 .1 .0) (qs .1 .1 .0)) (List._∷_ (Row.lease
-              (κs .1 .1 .1 .0) (qs .1 .1 .1 .0)) (List._∷_ Row.off (List._∷_ Row.off (List._∷_ Row.off (List._∷_ Row.off (List._∷_ Row.off (List._∷_ Row.off List.[])))))))));
+              (κs .1 .1 .1 .0) (qs .1 .1 .1 .0)) (List._∷_ Row.off (List._∷_ Row.off (List._∷_ Row.off (List._∷_ Row.off (List._∷_ Row.off (List._∷_ Row.off (List._∷_ Row.off List.[]))))))))));
         }
 
         abbrev G33 : Row.Cx
         G33 = record {
           locals = List._++_ t20 t22;
           slots = List._∷_ (Row.lease (κs .0) (qs .0)) (List._∷_ (Row.lease (κs .1 .0) (qs .1 .0)) (List._∷_ (Row.lease (κs .1 .1 .0) (qs .1 .1 .0)) (List._∷_ (Row.lease
-              (κs .1 .1 .1 .0) (qs .1 .1 .1 .0)) (List._∷_ Row.off (List._∷_ Row.off (List._∷_ Row.off (List._∷_ Row.off (List._∷_ Row.off (List._∷_ Row.off List.[])))))))));
+              (κs .1 .1 .1 .0) (qs .1 .1 .1 .0)) (List._∷_ Row.off (List._∷_ Row.off (List._∷_ Row.off (List._∷_ Row.off (List._∷_ Row.off (List._∷_ Row.off (List._∷_ Row.off List.[]))))))))));
         }
 
         abbrev G34 : Row.Cx
         G34 = record {
           locals = List._++_ t12 t22;
           slots = List._∷_ (Row.lease (κs .0) (qs .0)) (List._∷_ (Row.lease (κs .1 .0) (qs .1 .0)) (List._∷_ (Row.lease (κs .1 .1 .0) (qs .1 .1 .0)) (List._∷_ (Row.lease
-              (κs .1 .1 .1 .0) (qs .1 .1 .1 .0)) (List._∷_ Row.off (List._∷_ Row.off (List._∷_ Row.off (List._∷_ Row.off (List._∷_ Row.off (List._∷_ Row.off List.[])))))))));
+              (κs .1 .1 .1 .0) (qs .1 .1 .1 .0)) (List._∷_ Row.off (List._∷_ Row.off (List._∷_ Row.off (List._∷_ Row.off (List._∷_ Row.off (List._∷_ Row.off (List._∷_ Row.off List.[]))))))))));
         }
 
         abbrev G35 : Row.Cx
         G35 = record {
           locals = List._++_ t12 t13;
           slots = List._∷_ (Row.lease (κs .0) (qs .0)) (List._∷_ (Row.lease (κs .1 .0) (qs .1 .0)) (List._∷_ (Row.lease (κs .1 .1 .0) (qs .1 .1 .0)) (List._∷_ (Row.lease
-              (κs .1 .1 .1 .0) (qs .1 .1 .1 .0)) (List._∷_ Row.off (List._∷_ Row.off (List._∷_ Row.off (List._∷_ Row.off (List._∷_ Row.off (List._∷_ Row.off List.[])))))))));
+              (κs .1 .1 .1 .0) (qs .1 .1 .1 .0)) (List._∷_ Row.off (List._∷_ Row.off (List._∷_ Row.off (List._∷_ Row.off (List._∷_ Row.off (List._∷_ Row.off (List._∷_ Row.off List.[]))))))))));
         }
 
         abbrev G36 : Row.Cx
         G36 = record {
           locals = List._++_ t23 t1;
           slots = List._∷_ (Row.lease (κs .0) (qs .0)) (List._∷_ (Row.lease (κs .1 .0) (qs .1 .0)) (List._∷_ (Row.lease (κs .1 .1 .0) (qs .1 .1 .0)) (List._∷_ (Row.lease (κs
-              .1 .1 .1 .0) (qs .1 .1 .1 .0)) (List._∷_ Row.off (List._∷_ Row.off (List._∷_ Row.off (List._∷_ Row.off (List._∷_ Row.off (List._∷_ Row.off List.[])))))))));
+              .1 .1 .1 .0) (qs .1 .1 .1 .0)) (List._∷_ Row.off (List._∷_ Row.off (List._∷_ Row.off (List._∷_ Row.off (List._∷_ Row.off (List._∷_ Row.off (List._∷_ Row.off List.[]))))))))));
         }
 
         abbrev G37 : Row.Cx
         G37 = record {
           locals = List._++_ t23 t1;
           slots = List._∷_ (Row.lease (κs .0) (qs .0)) (List._∷_ (Row.lease (κs .1 .0) (qs .1 .0)) (List._∷_ (Row.lease (κs .1 .1 .0) (qs .1 .1 .0)) (List._∷_ (Row.lease (κs
-              .1 .1 .1 .0) (qs .1 .1 .1 .0)) (List._∷_ Row.off (List._∷_ Row.off (List._∷_ Row.off (List._∷_ Row.off (List._∷_ Row.off (List._∷_ Row.off List.[])))))))));
+              .1 .1 .1 .0) (qs .1 .1 .1 .0)) (List._∷_ Row.off (List._∷_ Row.off (List._∷_ Row.off (List._∷_ Row.off (List._∷_ Row.off (List._∷_ Row.off (List._∷_ Row.off List.[]))))))))));
         }
 
         abbrev G38 : Row.Cx
         G38 = record {
           locals = List._++_ t24 t1;
           slots = List._∷_ (Row.lease (κs .0) (qs .0)) (List._∷_ (Row.lease (κs .1 .0) (qs .1 .0)) (List._∷_ (Row.lease (κs .1 .1 .0) (qs .1 .1 .0)) (List._∷_ (Row.lease (κs
-              .1 .1 .1 .0) (qs .1 .1 .1 .0)) (List._∷_ Row.off (List._∷_ Row.off (List._∷_ Row.off (List._∷_ Row.off (List._∷_ Row.off (List._∷_ Row.off List.[])))))))));
+              .1 .1 .1 .0) (qs .1 .1 .1 .0)) (List._∷_ Row.off (List._∷_ Row.off (List._∷_ Row.off (List._∷_ Row.off (List._∷_ Row.off (List._∷_ Row.off (List._∷_ Row.off List.[]))))))))));
         }
 
         abbrev G39 : Row.Cx
         G39 = record {
           locals = List._++_ t25 t1;
           slots = List._∷_ (Row.lease (κs .0) (qs .0)) (List._∷_ (Row.lease (κs .1 .0) (qs .1 .0)) (List._∷_ (Row.lease (κs .1 .1 .0) (qs .1 .1 .0)) (List._∷_ (Row.lease (κs
-              .1 .1 .1 .0) (qs .1 .1 .1 .0)) (List._∷_ Row.off (List._∷_ Row.off (List._∷_ Row.off (List._∷_ Row.off (List._∷_ Row.off (List._∷_ Row.off List.[])))))))));
+              .1 .1 .1 .0) (qs .1 .1 .1 .0)) (List._∷_ Row.off (List._∷_ Row.off (List._∷_ Row.off (List._∷_ Row.off (List._∷_ Row.off (List._∷_ Row.off (List._∷_ Row.off List.[]))))))))));
         }
 
         abbrev G40 : Row.Cx
         G40 = record {
           locals = List._++_ t26 t1;
           slots = List._∷_ (Row.lease (κs .0) (qs .0)) (List._∷_ (Row.lease (κs .1 .0) (qs .1 .0)) (List._∷_ (Row.lease (κs .1 .1 .0) (qs .1 .1 .0)) (List._∷_ (Row.lease (κs
-              .1 .1 .1 .0) (qs .1 .1 .1 .0)) (List._∷_ Row.off (List._∷_ Row.off (List._∷_ Row.off (List._∷_ Row.off (List._∷_ Row.off (List._∷_ Row.off List.[])))))))));
+              .1 .1 .1 .0) (qs .1 .1 .1 .0)) (List._∷_ Row.off (List._∷_ Row.off (List._∷_ Row.off (List._∷_ Row.off (List._∷_ Row.off (List._∷_ Row.off (List._∷_ Row.off List.[]))))))))));
         }
 
         abbrev G41 : Row.Cx
         G41 = record {
-          locals = List._++_ t27 t1;
-          slots = List._∷_ (Row.lease (κs .0) (qs .0)) (List._∷_ (Row.lease (κs .1 .0) (qs .1 .0)) (List._∷_ (Row.lease (κs .1 .1 .0) (qs .1 .1 .0)) (List._∷_ (Row.lease (κs
-              .1 .1 .1 .0) (qs .1 .1 .1 .0)) (List._∷_ Row.off (List._∷_ Row.off (List._∷_ Row.off (List._∷_ Row.off (List._∷_ Row.off (List._∷_ Row.off List.[])))))))));
+          locals = List._++_ t26 t27;
+          slots = List._∷_ (Row.lease (κs .0) (qs .0)) (List._∷_ (Row.lease (κs .1 .0) (qs .1 .0)) (List._∷_ (Row.lease (κs .1 .1 .0) (qs .1 .1 .0)) (List._∷_ (Row.lease
+              (κs .1 .1 .1 .0) (qs .1 .1 .1 .0)) (List._∷_ Row.off (List._∷_ Row.off (List._∷_ Row.off (List._∷_ Row.off (List._∷_ Row.off (List._∷_ Row.off (List._∷_ Row.off List.[]))))))))));
         }
 
         abbrev G42 : Row.Cx
         G42 = record {
-          locals = List._++_ t27 t28;
+          locals = List._++_ t26 t28;
           slots = List._∷_ (Row.lease (κs .0) (qs .0)) (List._∷_ (Row.lease (κs .1 .0) (qs .1 .0)) (List._∷_ (Row.lease (κs .1 .1 .0) (qs .1 .1 .0)) (List._∷_ (Row.lease
-              (κs .1 .1 .1 .0) (qs .1 .1 .1 .0)) (List._∷_ Row.off (List._∷_ Row.off (List._∷_ Row.off (List._∷_ Row.off (List._∷_ Row.off (List._∷_ Row.off List.[])))))))));
+              (κs .1 .1 .1 .0) (qs .1 .1 .1 .0)) (List._∷_ Row.off (List._∷_ Row.off (List._∷_ Row.off (List._∷_ Row.off (List._∷_ Row.off (List._∷_ Row.off (List._∷_ Row.off List.[]))))))))));
         }
 
         abbrev G43 : Row.Cx
         G43 = record {
-          locals = List._++_ t27 t29;
-          slots = List._∷_ (Row.lease (κs .0) (qs .0)) (List._∷_ (Row.lease (κs .1 .0) (qs .1 .0)) (List._∷_ (Row.lease (κs .1 .1 .0) (qs .1 .1 .0)) (List._∷_ (Row.lease
-              (κs .1 .1 .1 .0) (qs .1 .1 .1 .0)) (List._∷_ Row.off (List._∷_ Row.off (List._∷_ Row.off (List._∷_ Row.off (List._∷_ Row.off (List._∷_ Row.off List.[])))))))));
+          locals = List._++_ t26 t1;
+          slots = List._∷_ (Row.lease (κs .0) (qs .0)) (List._∷_ (Row.lease (κs .1 .0) (qs .1 .0)) (List._∷_ (Row.lease (κs .1 .1 .0) (qs .1 .1 .0)) (List._∷_ (Row.lease (κs
+              .1 .1 .1 .0) (qs .1 .1 .1 .0)) (List._∷_ Row.off (List._∷_ Row.off (List._∷_ Row.off (List._∷_ Row.off (List._∷_ Row.off (List._∷_ Row.off (List._∷_ Row.off List.[]))))))))));
         }
 
         abbrev G44 : Row.Cx
         G44 = record {
-          locals = List._++_ t27 t1;
-          slots = List._∷_ (Row.lease (κs .0) (qs .0)) (List._∷_ (Row.lease (κs .1 .0) (qs .1 .0)) (List._∷_ (Row.lease (κs .1 .1 .0) (qs .1 .1 .0)) (List._∷_ (Row.lease (κs
-              .1 .1 .1 .0) (qs .1 .1 .1 .0)) (List._∷_ Row.off (List._∷_ Row.off (List._∷_ Row.off (List._∷_ Row.off (List._∷_ Row.off (List._∷_ Row.off List.[])))))))));
+          locals = List._++_ t26 t29;
+          slots = List._∷_ (Row.lease (κs .0) (qs .0)) (List._∷_ (Row.lease (κs .1 .0) (qs .1 .0)) (List._∷_ (Row.lease (κs .1 .1 .0) (qs .1 .1 .0)) (List._∷_ (Row.lease
+              (κs .1 .1 .1 .0) (qs .1 .1 .1 .0)) (List._∷_ Row.off (List._∷_ Row.off (List._∷_ Row.off (List._∷_ Row.off (List._∷_ Row.off (List._∷_ Row.off (List._∷_ Row.off List.[]))))))))));
         }
 
         abbrev G45 : Row.Cx
         G45 = record {
-          locals = List._++_ t27 t30;
+          locals = List._++_ t30 t29;
           slots = List._∷_ (Row.lease (κs .0) (qs .0)) (List._∷_ (Row.lease (κs .1 .0) (qs .1 .0)) (List._∷_ (Row.lease (κs .1 .1 .0) (qs .1 .1 .0)) (List._∷_ (Row.lease
-              (κs .1 .1 .1 .0) (qs .1 .1 .1 .0)) (List._∷_ Row.off (List._∷_ Row.off (List._∷_ Row.off (List._∷_ Row.off (List._∷_ Row.off (List._∷_ Row.off List.[])))))))));
+              (κs .1 .1 .1 .0) (qs .1 .1 .1 .0)) (List._∷_ Row.off (List._∷_ Row.off (List._∷_ Row.off (List._∷_ Row.off (List._∷_ Row.off (List._∷_ Row.off (List._∷_ Row.off List.[]))))))))));
         }
 
         abbrev G46 : Row.Cx
         G46 = record {
-          locals = List._++_ t31 t30;
+          locals = List._++_ t31 t29;
           slots = List._∷_ (Row.lease (κs .0) (qs .0)) (List._∷_ (Row.lease (κs .1 .0) (qs .1 .0)) (List._∷_ (Row.lease (κs .1 .1 .0) (qs .1 .1 .0)) (List._∷_ (Row.lease
-              (κs .1 .1 .1 .0) (qs .1 .1 .1 .0)) (List._∷_ Row.off (List._∷_ Row.off (List._∷_ Row.off (List._∷_ Row.off (List._∷_ Row.off (List._∷_ Row.off List.[])))))))));
+              (κs .1 .1 .1 .0) (qs .1 .1 .1 .0)) (List._∷_ Row.off (List._∷_ Row.off (List._∷_ Row.off (List._∷_ Row.off (List._∷_ Row.off (List._∷_ Row.off (List._∷_ Row.off List.[]))))))))));
         }
 
         abbrev G47 : Row.Cx
         G47 = record {
           locals = List._++_ t31 t1;
           slots = List._∷_ (Row.lease (κs .0) (qs .0)) (List._∷_ (Row.lease (κs .1 .0) (qs .1 .0)) (List._∷_ (Row.lease (κs .1 .1 .0) (qs .1 .1 .0)) (List._∷_ (Row.lease (κs
-              .1 .1 .1 .0) (qs .1 .1 .1 .0)) (List._∷_ Row.off (List._∷_ Row.off (List._∷_ Row.off (List._∷_ Row.off (List._∷_ Row.off (List._∷_ Row.off List.[])))))))));
+              .1 .1 .1 .0) (qs .1 .1 .1 .0)) (List._∷_ Row.off (List._∷_ Row.off (List._∷_ Row.off (List._∷_ Row.off (List._∷_ Row.off (List._∷_ Row.off (List._∷_ Row.off List.[]))))))))));
         }
 
         abbrev G48 : Row.Cx
         G48 = record {
           locals = List._++_ t31 t32;
           slots = List._∷_ (Row.lease (κs .0) (qs .0)) (List._∷_ (Row.lease (κs .1 .0) (qs .1 .0)) (List._∷_ (Row.lease (κs .1 .1 .0) (qs .1 .1 .0)) (List._∷_ (Row.lease
-              (κs .1 .1 .1 .0) (qs .1 .1 .1 .0)) (List._∷_ Row.off (List._∷_ Row.off (List._∷_ Row.off (List._∷_ Row.off (List._∷_ Row.off (List._∷_ Row.off List.[])))))))));
+              (κs .1 .1 .1 .0) (qs .1 .1 .1 .0)) (List._∷_ Row.off (List._∷_ Row.off (List._∷_ Row.off (List._∷_ Row.off (List._∷_ Row.off (List._∷_ Row.off (List._∷_ Row.off List.[]))))))))));
         }
 
         abbrev G49 : Row.Cx
         G49 = record {
           locals = List._++_ t33 t32;
           slots = List._∷_ (Row.lease (κs .0) (qs .0)) (List._∷_ (Row.lease (κs .1 .0) (qs .1 .0)) (List._∷_ (Row.lease (κs .1 .1 .0) (qs .1 .1 .0)) (List._∷_ (Row.lease
-              (κs .1 .1 .1 .0) (qs .1 .1 .1 .0)) (List._∷_ Row.off (List._∷_ Row.off (List._∷_ Row.off (List._∷_ Row.off (List._∷_ Row.off (List._∷_ Row.off List.[])))))))));
+              (κs .1 .1 .1 .0) (qs .1 .1 .1 .0)) (List._∷_ Row.off (List._∷_ Row.off (List._∷_ Row.off (List._∷_ Row.off (List._∷_ Row.off (List._∷_ Row.off (List._∷_ Row.off List.[]))))))))));
         }
 
         abbrev G50 : Row.Cx
         G50 = record {
           locals = List._++_ t33 t1;
           slots = List._∷_ (Row.lease (κs .0) (qs .0)) (List._∷_ (Row.lease (κs .1 .0) (qs .1 .0)) (List._∷_ (Row.lease (κs .1 .1 .0) (qs .1 .1 .0)) (List._∷_ (Row.lease (κs
-              .1 .1 .1 .0) (qs .1 .1 .1 .0)) (List._∷_ Row.off (List._∷_ Row.off (List._∷_ Row.off (List._∷_ Row.off (List._∷_ Row.off (List._∷_ Row.off List.[])))))))));
+              .1 .1 .1 .0) (qs .1 .1 .1 .0)) (List._∷_ Row.off (List._∷_ Row.off (List._∷_ Row.off (List._∷_ Row.off (List._∷_ Row.off (List._∷_ Row.off (List._∷_ Row.off List.[]))))))))));
         }
 
         abbrev G51 : Row.Cx
         G51 = record {
           locals = List._++_ t34 t1;
           slots = List._∷_ (Row.lease (κs .0) (qs .0)) (List._∷_ (Row.lease (κs .1 .0) (qs .1 .0)) (List._∷_ (Row.lease (κs .1 .1 .0) (qs .1 .1 .0)) (List._∷_ (Row.lease (κs
-              .1 .1 .1 .0) (qs .1 .1 .1 .0)) (List._∷_ Row.off (List._∷_ Row.off (List._∷_ Row.off (List._∷_ Row.off (List._∷_ Row.off (List._∷_ Row.off List.[])))))))));
+              .1 .1 .1 .0) (qs .1 .1 .1 .0)) (List._∷_ Row.off (List._∷_ Row.off (List._∷_ Row.off (List._∷_ Row.off (List._∷_ Row.off (List._∷_ Row.off (List._∷_ Row.off List.[]))))))))));
         }
 
         abbrev G52 : Row.Cx
         G52 = record {
           locals = List._++_ t2 t1;
           slots = List._∷_ (Row.lease (κs .0) (qs .0)) (List._∷_ (Row.lease (κs .1 .0) (qs .1 .0)) (List._∷_ (Row.lease (κs .1 .1 .0) (qs .1 .1 .0)) (List._∷_ (Row.lease (κs
-              .1 .1 .1 .0) (qs .1 .1 .1 .0)) (List._∷_ Row.off (List._∷_ Row.off (List._∷_ Row.off (List._∷_ Row.off (List._∷_ Row.off (List._∷_ Row.off List.[])))))))));
+              .1 .1 .1 .0) (qs .1 .1 .1 .0)) (List._∷_ Row.off (List._∷_ Row.off (List._∷_ Row.off (List._∷_ Row.off (List._∷_ Row.off (List._∷_ Row.off (List._∷_ Row.off List.[]))))))))));
         }
 
         abbrev G53 : Row.Cx
         G53 = record {
-          locals = List._++_ t27 t1;
+          locals = List._++_ t26 t1;
           slots = List._∷_ (Row.lease (κs .0) (qs .0)) (List._∷_ (Row.lease (κs .1 .0) (qs .1 .0)) (List._∷_ (Row.lease (κs .1 .1 .0) (qs .1 .1 .0)) (List._∷_ (Row.lease (κs
-              .1 .1 .1 .0) (qs .1 .1 .1 .0)) (List._∷_ Row.off (List._∷_ Row.off (List._∷_ Row.off (List._∷_ Row.off (List._∷_ Row.off (List._∷_ Row.off List.[])))))))));
+              .1 .1 .1 .0) (qs .1 .1 .1 .0)) (List._∷_ Row.off (List._∷_ Row.off (List._∷_ Row.off (List._∷_ Row.off (List._∷_ Row.off (List._∷_ Row.off (List._∷_ Row.off List.[]))))))))));
         }
 
         abbrev G54 : Row.Cx
         G54 = record {
-          locals = List._++_ t27 t1;
+          locals = List._++_ t26 t1;
           slots = List._∷_ (Row.lease (κs .0) (qs .0)) (List._∷_ (Row.lease (κs .1 .0) (qs .1 .0)) (List._∷_ (Row.lease (κs .1 .1 .0) (qs .1 .1 .0)) (List._∷_ (Row.lease (κs
-              .1 .1 .1 .0) (qs .1 .1 .1 .0)) (List._∷_ Row.off (List._∷_ Row.off (List._∷_ Row.off (List._∷_ Row.alive (List._∷_ Row.off (List._∷_ Row.off List.[])))))))));
+              .1 .1 .1 .0) (qs .1 .1 .1 .0)) (List._∷_ Row.off (List._∷_ Row.off (List._∷_ Row.off (List._∷_ Row.alive (List._∷_ Row.off (List._∷_ Row.off (List._∷_ Row.off List.[]))))))))));
         }
 
         abbrev G55 : Row.Cx
         G55 = record {
           locals = List._++_ g35 t36;
           slots = List._∷_ (Row.lease (κs .0) (qs .0)) (List._∷_ Row.off (List._∷_ (Row.lease (κs .1 .1 .0) (qs .1 .1 .0)) (List._∷_ (Row.lease (κs .1 .1 .1 .0) (qs .1 .1
-              .1 .0)) (List._∷_ Row.off (List._∷_ Row.off (List._∷_ Row.off (List._∷_ Row.alive (List._∷_ Row.off (List._∷_ Row.off List.[])))))))));
+              .1 .0)) (List._∷_ Row.off (List._∷_ Row.off (List._∷_ Row.off (List._∷_ Row.alive (List._∷_ Row.off (List._∷_ Row.off (List._∷_ Row.off List.[]))))))))));
         }
 
         abbrev G56 : Row.Cx
         G56 = record {
           locals = List._++_ g35 t37;
           slots = List._∷_ (Row.lease (κs .0) (qs .0)) (List._∷_ Row.off (List._∷_ (Row.lease (κs .1 .1 .0) (qs .1 .1 .0)) (List._∷_ (Row.lease (κs .1 .1 .1 .0) (qs .1 .1
-              .1 .0)) (List._∷_ Row.off (List._∷_ Row.off (List._∷_ Row.off (List._∷_ Row.alive (List._∷_ Row.off (List._∷_ Row.off List.[])))))))));
+              .1 .0)) (List._∷_ Row.off (List._∷_ Row.off (List._∷_ Row.off (List._∷_ Row.alive (List._∷_ Row.off (List._∷_ Row.off (List._∷_ Row.off List.[]))))))))));
         }
 
         abbrev G57 : Row.Cx
         G57 = record {
           locals = List._++_ g35 t37;
           slots = List._∷_ (Row.lease (κs .0) (qs .0)) (List._∷_ Row.off (List._∷_ (Row.lease (κs .1 .1 .0) (qs .1 .1 .0)) (List._∷_ (Row.lease (κs .1 .1 .1 .0) (qs .1 .1
-              .1 .0)) (List._∷_ Row.off (List._∷_ Row.off (List._∷_ Row.off (List._∷_ Row.alive (List._∷_ Row.alive (List._∷_ Row.off List.[])))))))));
+              .1 .0)) (List._∷_ Row.off (List._∷_ Row.off (List._∷_ Row.off (List._∷_ Row.alive (List._∷_ Row.alive (List._∷_ Row.off (List._∷_ Row.off List.[]))))))))));
         }
 
         abbrev G58 : Row.Cx
         G58 = record {
           locals = List._++_ g38 t39;
           slots = List._∷_ (Row.lease (κs .0) (qs .0)) (List._∷_ Row.off (List._∷_ Row.off (List._∷_ (Row.lease (κs .1 .1 .1 .0) (qs .1 .1 .1 .0)) (List._∷_ Row.off
-              (List._∷_ Row.off (List._∷_ Row.off (List._∷_ Row.alive (List._∷_ Row.alive (List._∷_ Row.off List.[])))))))));
+              (List._∷_ Row.off (List._∷_ Row.off (List._∷_ Row.alive (List._∷_ Row.alive (List._∷_ Row.off (List._∷_ Row.off List.[]))))))))));
         }
 
         abbrev G59 : Row.Cx
         G59 = record {
           locals = List._++_ g38 t40;
           slots = List._∷_ (Row.lease (κs .0) (qs .0)) (List._∷_ Row.off (List._∷_ Row.off (List._∷_ (Row.lease (κs .1 .1 .1 .0) (qs .1 .1 .1 .0)) (List._∷_ Row.off
-              (List._∷_ Row.off (List._∷_ Row.off (List._∷_ Row.alive (List._∷_ Row.alive (List._∷_ Row.off List.[])))))))));
+              (List._∷_ Row.off (List._∷_ Row.off (List._∷_ Row.alive (List._∷_ Row.alive (List._∷_ Row.off (List._∷_ Row.off List.[]))))))))));
         }
 
         abbrev G60 : Row.Cx
         G60 = record {
           locals = List._++_ g38 t40;
           slots = List._∷_ (Row.lease (κs .0) (qs .0)) (List._∷_ Row.off (List._∷_ Row.off (List._∷_ (Row.lease (κs .1 .1 .1 .0) (qs .1 .1 .1 .0)) (List._∷_ Row.off
-              (List._∷_ Row.off (List._∷_ Row.off (List._∷_ Row.alive (List._∷_ Row.alive (List._∷_ Row.alive List.[])))))))));
+              (List._∷_ Row.off (List._∷_ Row.off (List._∷_ Row.alive (List._∷_ Row.alive (List._∷_ Row.alive (List._∷_ Row.off List.[]))))))))));
         }
 
         abbrev G61 : Row.Cx
         G61 = record {
           locals = List._++_ g41 t42;
           slots = List._∷_ (Row.lease (κs .0) (qs .0)) (List._∷_ Row.off (List._∷_ Row.off (List._∷_ Row.off (List._∷_ Row.off (List._∷_ Row.off (List._∷_ Row.off (List._∷_
-              Row.alive (List._∷_ Row.alive (List._∷_ Row.alive List.[])))))))));
+              Row.alive (List._∷_ Row.alive (List._∷_ Row.alive (List._∷_ Row.off List.[]))))))))));
         }
 
         abbrev G62 : Row.Cx
         G62 = record {
           locals = List._++_ g41 t43;
           slots = List._∷_ (Row.lease (κs .0) (qs .0)) (List._∷_ Row.off (List._∷_ Row.off (List._∷_ Row.off (List._∷_ Row.off (List._∷_ Row.off (List._∷_ Row.off (List._∷_
-              Row.alive (List._∷_ Row.alive (List._∷_ Row.alive List.[])))))))));
+              Row.alive (List._∷_ Row.alive (List._∷_ Row.alive (List._∷_ Row.off List.[]))))))))));
         }
 
         abbrev G63 : Row.Cx
         G63 = record {
           locals = List._++_ g41 t44;
           slots = List._∷_ (Row.lease (κs .0) (qs .0)) (List._∷_ Row.off (List._∷_ Row.off (List._∷_ Row.off (List._∷_ Row.off (List._∷_ Row.off (List._∷_ Row.off (List._∷_
-              Row.alive (List._∷_ Row.alive (List._∷_ Row.alive List.[])))))))));
+              Row.alive (List._∷_ Row.alive (List._∷_ Row.alive (List._∷_ Row.off List.[]))))))))));
         }
 
         abbrev G64 : Row.Cx
         G64 = record {
           locals = List._++_ g45 t44;
           slots = List._∷_ (Row.lease (κs .0) (qs .0)) (List._∷_ Row.off (List._∷_ Row.off (List._∷_ Row.off (List._∷_ Row.off (List._∷_ Row.off (List._∷_ Row.off (List._∷_
-              Row.alive (List._∷_ Row.alive (List._∷_ Row.alive List.[])))))))));
+              Row.alive (List._∷_ Row.alive (List._∷_ Row.alive (List._∷_ Row.off List.[]))))))))));
         }
 
         abbrev G65 : Row.Cx
         G65 = record {
           locals = List._++_ g45 t46;
           slots = List._∷_ (Row.lease (κs .0) (qs .0)) (List._∷_ Row.off (List._∷_ Row.off (List._∷_ Row.off (List._∷_ Row.off (List._∷_ Row.off (List._∷_ Row.off (List._∷_
-              Row.alive (List._∷_ Row.alive (List._∷_ Row.alive List.[])))))))));
+              Row.alive (List._∷_ Row.alive (List._∷_ Row.alive (List._∷_ Row.off List.[]))))))))));
         }
 
         abbrev G66 : Row.Cx
         G66 = record {
           locals = List._++_ g45 t46;
           slots = List._∷_ (Row.lease (κs .0) (qs .0)) (List._∷_ Row.off (List._∷_ Row.off (List._∷_ Row.off (List._∷_ Row.off (List._∷_ Row.off (List._∷_ Row.off (List._∷_
-              Row.dead (List._∷_ Row.alive (List._∷_ Row.alive List.[])))))))));
+              Row.dead (List._∷_ Row.alive (List._∷_ Row.alive (List._∷_ Row.off List.[]))))))))));
         }
 
         abbrev G67 : Row.Cx
         G67 = record {
           locals = List._++_ g47 t48;
           slots = List._∷_ (Row.lease (κs .0) (qs .0)) (List._∷_ (Row.lease (κs .1 .0) (qs .1 .0)) (List._∷_ Row.off (List._∷_ Row.off (List._∷_ Row.off (List._∷_ Row.off
-              (List._∷_ Row.off (List._∷_ Row.dead (List._∷_ Row.alive (List._∷_ Row.alive List.[])))))))));
+              (List._∷_ Row.off (List._∷_ Row.dead (List._∷_ Row.alive (List._∷_ Row.alive (List._∷_ Row.off List.[]))))))))));
         }
 
         abbrev G68 : Row.Cx
         G68 = record {
           locals = List._++_ g47 t48;
           slots = List._∷_ (Row.lease (κs .0) (qs .0)) (List._∷_ (Row.lease (κs .1 .0) (qs .1 .0)) (List._∷_ Row.off (List._∷_ Row.off (List._∷_ Row.off (List._∷_ Row.off
-              (List._∷_ Row.off (List._∷_ Row.dead (List._∷_ Row.alive (List._∷_ Row.alive List.[])))))))));
+              (List._∷_ Row.off (List._∷_ Row.dead (List._∷_ Row.alive (List._∷_ Row.alive (List._∷_ Row.off List.[]))))))))));
         }
 
         abbrev G69 : Row.Cx
         G69 = record {
           locals = List._++_ g47 t48;
           slots = List._∷_ (Row.lease (κs .0) (qs .0)) (List._∷_ (Row.lease (κs .1 .0) (qs .1 .0)) (List._∷_ Row.off (List._∷_ Row.off (List._∷_ Row.off (List._∷_ Row.off
-              (List._∷_ Row.off (List._∷_ Row.off (List._∷_ Row.alive (List._∷_ Row.alive List.[])))))))));
+              (List._∷_ Row.off (List._∷_ Row.off (List._∷_ Row.alive (List._∷_ Row.alive (List._∷_ Row.off List.[]))))))))));
         }
 
         abbrev G70 : Row.Cx
         G70 = record {
           locals = List._++_ g47 t48;
           slots = List._∷_ (Row.lease (κs .0) (qs .0)) (List._∷_ (Row.lease (κs .1 .0) (qs .1 .0)) (List._∷_ Row.off (List._∷_ Row.off (List._∷_ Row.off (List._∷_ Row.off
-              (List._∷_ Row.off (List._∷_ Row.off (List._∷_ Row.dead (List._∷_ Row.alive List.[])))))))));
+              (List._∷_ Row.off (List._∷_ Row.off (List._∷_ Row.dead (List._∷_ Row.alive (List._∷_ Row.off List.[]))))))))));
         }
 
         abbrev G71 : Row.Cx
         G71 = record {
           locals = List._++_ g49 t50;
           slots = List._∷_ (Row.lease (κs .0) (qs .0)) (List._∷_ (Row.lease (κs .1 .0) (qs .1 .0)) (List._∷_ (Row.lease (κs .1 .1 .0) (qs .1 .1 .0)) (List._∷_ Row.off
-              (List._∷_ Row.off (List._∷_ Row.off (List._∷_ Row.off (List._∷_ Row.off (List._∷_ Row.dead (List._∷_ Row.alive List.[])))))))));
+              (List._∷_ Row.off (List._∷_ Row.off (List._∷_ Row.off (List._∷_ Row.off (List._∷_ Row.dead (List._∷_ Row.alive (List._∷_ Row.off List.[]))))))))));
         }
 
         abbrev G72 : Row.Cx
         G72 = record {
           locals = List._++_ g49 t50;
           slots = List._∷_ (Row.lease (κs .0) (qs .0)) (List._∷_ (Row.lease (κs .1 .0) (qs .1 .0)) (List._∷_ (Row.lease (κs .1 .1 .0) (qs .1 .1 .0)) (List._∷_ Row.off
-              (List._∷_ Row.off (List._∷_ Row.off (List._∷_ Row.off (List._∷_ Row.off (List._∷_ Row.dead (List._∷_ Row.alive List.[])))))))));
+              (List._∷_ Row.off (List._∷_ Row.off (List._∷_ Row.off (List._∷_ Row.off (List._∷_ Row.dead (List._∷_ Row.alive (List._∷_ Row.off List.[]))))))))));
         }
 
         abbrev G73 : Row.Cx
         G73 = record {
           locals = List._++_ g49 t50;
           slots = List._∷_ (Row.lease (κs .0) (qs .0)) (List._∷_ (Row.lease (κs .1 .0) (qs .1 .0)) (List._∷_ (Row.lease (κs .1 .1 .0) (qs .1 .1 .0)) (List._∷_ Row.off
-              (List._∷_ Row.off (List._∷_ Row.off (List._∷_ Row.off (List._∷_ Row.off (List._∷_ Row.off (List._∷_ Row.alive List.[])))))))));
+              (List._∷_ Row.off (List._∷_ Row.off (List._∷_ Row.off (List._∷_ Row.off (List._∷_ Row.off (List._∷_ Row.alive (List._∷_ Row.off List.[]))))))))));
         }
 
         abbrev G74 : Row.Cx
         G74 = record {
           locals = List._++_ g49 t50;
           slots = List._∷_ (Row.lease (κs .0) (qs .0)) (List._∷_ (Row.lease (κs .1 .0) (qs .1 .0)) (List._∷_ (Row.lease (κs .1 .1 .0) (qs .1 .1 .0)) (List._∷_ Row.off
-              (List._∷_ Row.off (List._∷_ Row.off (List._∷_ Row.off (List._∷_ Row.off (List._∷_ Row.off (List._∷_ Row.dead List.[])))))))));
+              (List._∷_ Row.off (List._∷_ Row.off (List._∷_ Row.off (List._∷_ Row.off (List._∷_ Row.off (List._∷_ Row.dead (List._∷_ Row.off List.[]))))))))));
         }
 
         abbrev G75 : Row.Cx
         G75 = record {
-          locals = List._++_ t31 t1;
+          locals = List._++_ t30 t1;
           slots = List._∷_ (Row.lease (κs .0) (qs .0)) (List._∷_ (Row.lease (κs .1 .0) (qs .1 .0)) (List._∷_ (Row.lease (κs .1 .1 .0) (qs .1 .1 .0)) (List._∷_ (Row.lease (κs
-              .1 .1 .1 .0) (qs .1 .1 .1 .0)) (List._∷_ Row.off (List._∷_ Row.off (List._∷_ Row.off (List._∷_ Row.off (List._∷_ Row.off (List._∷_ Row.dead List.[])))))))));
+              .1 .1 .1 .0) (qs .1 .1 .1 .0)) (List._∷_ Row.off (List._∷_ Row.off (List._∷_ Row.off (List._∷_ Row.off (List._∷_ Row.off (List._∷_ Row.dead (List._∷_ Row.off List.[]))))))))));
         }
 
         abbrev G76 : Row.Cx
         G76 = record {
-          locals = List._++_ t31 t1;
+          locals = List._++_ t30 t1;
           slots = List._∷_ (Row.lease (κs .0) (qs .0)) (List._∷_ (Row.lease (κs .1 .0) (qs .1 .0)) (List._∷_ (Row.lease (κs .1 .1 .0) (qs .1 .1 .0)) (List._∷_ (Row.lease (κs
-              .1 .1 .1 .0) (qs .1 .1 .1 .0)) (List._∷_ Row.off (List._∷_ Row.off (List._∷_ Row.off (List._∷_ Row.off (List._∷_ Row.off (List._∷_ Row.off List.[])))))))));
+              .1 .1 .1 .0) (qs .1 .1 .1 .0)) (List._∷_ Row.off (List._∷_ Row.off (List._∷_ Row.off (List._∷_ Row.off (List._∷_ Row.off (List._∷_ Row.off (List._∷_ Row.off List.[]))))))))));
         }
 
         abbrev G77 : Row.Cx
         G77 = record {
-          locals = List._++_ t31 t13;
-          slots = List._∷_ (Row.lease (κs .0) (qs .0)) (List._∷_ (Row.lease (κs .1 .0) (qs .1 .0)) (List._∷_ (Row.lease (κs .1 .1 .0) (qs .1 .1 .0)) (List._∷_ (Row.lease
-              (κs .1 .1 .1 .0) (qs .1 .1 .1 .0)) (List._∷_ Row.off (List._∷_ Row.off (List._∷_ Row.off (List._∷_ Row.off (List._∷_ Row.off (List._∷_ Row.off List.[])))))))));
+          locals = List._++_ t30 t1;
+          slots = List._∷_ (Row.lease (κs .0) (qs .0)) (List._∷_ (Row.lease (κs .1 .0) (qs .1 .0)) (List._∷_ (Row.lease (κs .1 .1 .0) (qs .1 .1 .0)) (List._∷_ (Row.lease (κs
+              .1 .1 .1 .0) (qs .1 .1 .1 .0)) (List._∷_ Row.off (List._∷_ Row.off (List._∷_ Row.off (List._∷_ Row.off (List._∷_ Row.off (List._∷_ Row.off (List._∷_ Row.alive List.[]))))))))));
         }
 
         abbrev G78 : Row.Cx
         G78 = record {
-          locals = List._++_ t12 t13;
-          slots = List._∷_ (Row.lease (κs .0) (qs .0)) (List._∷_ (Row.lease (κs .1 .0) (qs .1 .0)) (List._∷_ (Row.lease (κs .1 .1 .0) (qs .1 .1 .0)) (List._∷_ (Row.lease
-              (κs .1 .1 .1 .0) (qs .1 .1 .1 .0)) (List._∷_ Row.off (List._∷_ Row.off (List._∷_ Row.off (List._∷_ Row.off (List._∷_ Row.off (List._∷_ Row.off List.[])))))))));
+          locals = List._++_ g51 t52;
+          slots = List._∷_ (Row.lease (κs .0) (qs .0)) (List._∷_ Row.off (List._∷_ (Row.lease (κs .1 .1 .0) (qs .1 .1 .0)) (List._∷_ (Row.lease (κs .1 .1 .1 .0) (qs .1 .1
+              .1 .0)) (List._∷_ Row.off (List._∷_ Row.off (List._∷_ Row.off (List._∷_ Row.off (List._∷_ Row.off (List._∷_ Row.off (List._∷_ Row.alive List.[]))))))))));
         }
 
         abbrev G79 : Row.Cx
         G79 = record {
-          locals = List._++_ t51 t13;
-          slots = List._∷_ (Row.lease (κs .0) (qs .0)) (List._∷_ (Row.lease (κs .1 .0) (qs .1 .0)) (List._∷_ (Row.lease (κs .1 .1 .0) (qs .1 .1 .0)) (List._∷_ (Row.lease
-              (κs .1 .1 .1 .0) (qs .1 .1 .1 .0)) (List._∷_ Row.off (List._∷_ Row.off (List._∷_ Row.off (List._∷_ Row.off (List._∷_ Row.off (List._∷_ Row.off List.[])))))))));
+          locals = List._++_ g51 t53;
+          slots = List._∷_ (Row.lease (κs .0) (qs .0)) (List._∷_ Row.off (List._∷_ (Row.lease (κs .1 .1 .0) (qs .1 .1 .0)) (List._∷_ (Row.lease (κs .1 .1 .1 .0) (qs .1 .1
+              .1 .0)) (List._∷_ Row.off (List._∷_ Row.off (List._∷_ Row.off (List._∷_ Row.off (List._∷_ Row.off (List._∷_ Row.off (List._∷_ Row.alive List.[]))))))))));
         }
 
         abbrev G80 : Row.Cx
         G80 = record {
-          locals = List._++_ t51 t1;
-          slots = List._∷_ (Row.lease (κs .0) (qs .0)) (List._∷_ (Row.lease (κs .1 .0) (qs .1 .0)) (List._∷_ (Row.lease (κs .1 .1 .0) (qs .1 .1 .0)) (List._∷_ (Row.lease (κs
-              .1 .1 .1 .0) (qs .1 .1 .1 .0)) (List._∷_ Row.off (List._∷_ Row.off (List._∷_ Row.off (List._∷_ Row.off (List._∷_ Row.off (List._∷_ Row.off List.[])))))))));
+          locals = List._++_ g51 t54;
+          slots = List._∷_ (Row.lease (κs .0) (qs .0)) (List._∷_ Row.off (List._∷_ (Row.lease (κs .1 .1 .0) (qs .1 .1 .0)) (List._∷_ (Row.lease (κs .1 .1 .1 .0) (qs .1 .1
+              .1 .0)) (List._∷_ Row.off (List._∷_ Row.off (List._∷_ Row.off (List._∷_ Row.off (List._∷_ Row.off (List._∷_ Row.off (List._∷_ Row.alive List.[]))))))))));
         }
 
         abbrev G81 : Row.Cx
         G81 = record {
+          locals = List._++_ g55 t54;
+          slots = List._∷_ (Row.lease (κs .0) (qs .0)) (List._∷_ Row.off (List._∷_ (Row.lease (κs .1 .1 .0) (qs .1 .1 .0)) (List._∷_ (Row.lease (κs .1 .1 .1 .0) (qs .1 .1
+              .1 .0)) (List._∷_ Row.off (List._∷_ Row.off (List._∷_ Row.off (List._∷_ Row.off (List._∷_ Row.off (List._∷_ Row.off (List._∷_ Row.alive List.[]))))))))));
+        }
+
+        abbrev G82 : Row.Cx
+        G82 = record {
+          locals = List._++_ g55 t56;
+          slots = List._∷_ (Row.lease (κs .0) (qs .0)) (List._∷_ Row.off (List._∷_ (Row.lease (κs .1 .1 .0) (qs .1 .1 .0)) (List._∷_ (Row.lease (κs .1 .1 .1 .0) (qs .1 .1
+              .1 .0)) (List._∷_ Row.off (List._∷_ Row.off (List._∷_ Row.off (List._∷_ Row.off (List._∷_ Row.off (List._∷_ Row.off (List._∷_ Row.alive List.[]))))))))));
+        }
+
+        abbrev G83 : Row.Cx
+        G83 = record {
+          locals = List._++_ g55 t56;
+          slots = List._∷_ (Row.lease (κs .0) (qs .0)) (List._∷_ Row.off (List._∷_ (Row.lease (κs .1 .1 .0) (qs .1 .1 .0)) (List._∷_ (Row.lease (κs .1 .1 .1 .0) (qs .1 .1
+              .1 .0)) (List._∷_ Row.off (List._∷_ Row.off (List._∷_ Row.off (List._∷_ Row.off (List._∷_ Row.off (List._∷_ Row.off (List._∷_ Row.dead List.[]))))))))));
+        }
+
+        abbrev G84 : Row.Cx
+        G84 = record {
+          locals = List._++_ t31 t1;
+          slots = List._∷_ (Row.lease (κs .0) (qs .0)) (List._∷_ (Row.lease (κs .1 .0) (qs .1 .0)) (List._∷_ (Row.lease (κs .1 .1 .0) (qs .1 .1 .0)) (List._∷_ (Row.lease (κs
+              .1 .1 .1 .0) (qs .1 .1 .1 .0)) (List._∷_ Row.off (List._∷_ Row.off (List._∷_ Row.off (List._∷_ Row.off (List._∷_ Row.off (List._∷_ Row.off (List._∷_ Row.dead List.[]))))))))));
+        }
+
+        abbrev G85 : Row.Cx
+        G85 = record {
+          locals = List._++_ t31 t1;
+          slots = List._∷_ (Row.lease (κs .0) (qs .0)) (List._∷_ (Row.lease (κs .1 .0) (qs .1 .0)) (List._∷_ (Row.lease (κs .1 .1 .0) (qs .1 .1 .0)) (List._∷_ (Row.lease (κs
+              .1 .1 .1 .0) (qs .1 .1 .1 .0)) (List._∷_ Row.off (List._∷_ Row.off (List._∷_ Row.off (List._∷_ Row.off (List._∷_ Row.off (List._∷_ Row.off (List._∷_ Row.dead List.[]))))))))));
+        }
+
+        abbrev G86 : Row.Cx
+        G86 = record {
+          locals = List._++_ t31 t1;
+          slots = List._∷_ (Row.lease (κs .0) (qs .0)) (List._∷_ (Row.lease (κs .1 .0) (qs .1 .0)) (List._∷_ (Row.lease (κs .1 .1 .0) (qs .1 .1 .0)) (List._∷_ (Row.lease (κs
+              .1 .1 .1 .0) (qs .1 .1 .1 .0)) (List._∷_ Row.off (List._∷_ Row.off (List._∷_ Row.off (List._∷_ Row.off (List._∷_ Row.off (List._∷_ Row.off (List._∷_ Row.off List.[]))))))))));
+        }
+
+        abbrev G87 : Row.Cx
+        G87 = record {
+          locals = List._++_ t31 t13;
+          slots = List._∷_ (Row.lease (κs .0) (qs .0)) (List._∷_ (Row.lease (κs .1 .0) (qs .1 .0)) (List._∷_ (Row.lease (κs .1 .1 .0) (qs .1 .1 .0)) (List._∷_ (Row.lease
+              (κs .1 .1 .1 .0) (qs .1 .1 .1 .0)) (List._∷_ Row.off (List._∷_ Row.off (List._∷_ Row.off (List._∷_ Row.off (List._∷_ Row.off (List._∷_ Row.off (List._∷_ Row.off List.[]))))))))));
+        }
+
+        abbrev G88 : Row.Cx
+        G88 = record {
+          locals = List._++_ t12 t13;
+          slots = List._∷_ (Row.lease (κs .0) (qs .0)) (List._∷_ (Row.lease (κs .1 .0) (qs .1 .0)) (List._∷_ (Row.lease (κs .1 .1 .0) (qs .1 .1 .0)) (List._∷_ (Row.lease
+              (κs .1 .1 .1 .0) (qs .1 .1 .1 .0)) (List._∷_ Row.off (List._∷_ Row.off (List._∷_ Row.off (List._∷_ Row.off (List._∷_ Row.off (List._∷_ Row.off (List._∷_ Row.off List.[]))))))))));
+        }
+
+        abbrev G89 : Row.Cx
+        G89 = record {
+          locals = List._++_ t57 t13;
+          slots = List._∷_ (Row.lease (κs .0) (qs .0)) (List._∷_ (Row.lease (κs .1 .0) (qs .1 .0)) (List._∷_ (Row.lease (κs .1 .1 .0) (qs .1 .1 .0)) (List._∷_ (Row.lease
+              (κs .1 .1 .1 .0) (qs .1 .1 .1 .0)) (List._∷_ Row.off (List._∷_ Row.off (List._∷_ Row.off (List._∷_ Row.off (List._∷_ Row.off (List._∷_ Row.off (List._∷_ Row.off List.[]))))))))));
+        }
+
+        abbrev G90 : Row.Cx
+        G90 = record {
+          locals = List._++_ t57 t1;
+          slots = List._∷_ (Row.lease (κs .0) (qs .0)) (List._∷_ (Row.lease (κs .1 .0) (qs .1 .0)) (List._∷_ (Row.lease (κs .1 .1 .0) (qs .1 .1 .0)) (List._∷_ (Row.lease (κs
+              .1 .1 .1 .0) (qs .1 .1 .1 .0)) (List._∷_ Row.off (List._∷_ Row.off (List._∷_ Row.off (List._∷_ Row.off (List._∷_ Row.off (List._∷_ Row.off (List._∷_ Row.off List.[]))))))))));
+        }
+
+        abbrev G91 : Row.Cx
+        G91 = record {
           locals = List._++_ t2 t1;
           slots = List._∷_ (Row.lease (κs .0) (qs .0)) (List._∷_ (Row.lease (κs .1 .0) (qs .1 .0)) (List._∷_ (Row.lease (κs .1 .1 .0) (qs .1 .1 .0)) (List._∷_ (Row.lease (κs
-              .1 .1 .1 .0) (qs .1 .1 .1 .0)) (List._∷_ Row.off (List._∷_ Row.off (List._∷_ Row.off (List._∷_ Row.off (List._∷_ Row.off (List._∷_ Row.off List.[])))))))));
+              .1 .1 .1 .0) (qs .1 .1 .1 .0)) (List._∷_ Row.off (List._∷_ Row.off (List._∷_ Row.off (List._∷_ Row.off (List._∷_ Row.off (List._∷_ Row.off (List._∷_ Row.off List.[]))))))))));
         }
 
         abbrev Δ0 : Typed.Outs
@@ -2240,7 +2481,7 @@ module _ (claims· : Claims) where
         Δ1 = Typed.withNext (Option.some G15) Δ0
 
         abbrev Δ2 : Typed.Outs
-        Δ2 = Typed.withNext (Option.some G44) Δ1
+        Δ2 = Typed.withNext (Option.some G43) Δ1
 
         module _ {M : Type 1} (𝓤 : URA.URA M) (H : Wp.Heap 𝓤) (A : Atoms.Atoms 𝓤) (W : Kit.Given 𝓤 H A) (𝓣 : Wp.Tables 𝓤 H) (known : Knowns 𝓤 H A W 𝓣) (bs : List.List Nat.ℕ) (bd : Lifetimes.AllOutlive
             4 (Kinds.osR r) κs) where
@@ -2546,23 +2787,27 @@ module _ (claims· : Claims) where
           d13 = Typed.g-pre 𝓤 H A W 𝓣 E G46 G47 b20 Δ2 (Typed.pass T46 T47 s43) at12 (Scalar.g-room 𝓤 H A W E G46 19 Syntax.tyBool (Scalar.room-sc 𝓤 H A W Row.sBool)) d12
 
           d14 : Typed.Typed 𝓤 H A 𝓣 E G45 b20 Δ2 at14
-          d14 = Typed.g-pre 𝓤 H A W 𝓣 E G45 G46 b20 Δ2 (Typed.pass T45 T46 s42) at13 (Scalar.g-room 𝓤 H A W E G45 5 y4 (Local.room-whole 𝓤 H A W (Declared'.row Form.the-type) y4 Path'.refl)) d13
+          d14 = Typed.g-pre 𝓤 H A W 𝓣 E G45 G46 b20 Δ2 (Typed.pass T45 T46 s42) at13 (Scalar.g-room 𝓤 H A W E G45 9 y3 (Local.room-whole 𝓤 H A W (Declared'.row BitPosition.the-type) y3 Path'.refl))
+              d13
 
-          d15 : Typed.Typed 𝓤 H A 𝓣 E G53 b21 Δ2 at15
-          d15 = Typed.t-skip 𝓤 H A W 𝓣 E Δ2 tt
+          d15 : Typed.Typed 𝓤 H A 𝓣 E G44 b20 Δ2 at15
+          d15 = Typed.g-pre 𝓤 H A W 𝓣 E G44 G45 b20 Δ2 (Typed.pass T44 T45 s41) at14 (Scalar.g-room 𝓤 H A W E G44 5 y4 (Local.room-whole 𝓤 H A W (Declared'.row Form.the-type) y4 Path'.refl)) d14
 
-          d16 : Typed.Typed 𝓤 H A 𝓣 E G45 b21 Δ2 at16
-          d16 = Typed.g-pre 𝓤 H A W 𝓣 E G45 G53 b21 Δ2 (Typed.pass T45 T53 s49) at15 (Scalar.g-room 𝓤 H A W E G45 19 Syntax.tyBool (Scalar.room-sc 𝓤 H A W Row.sBool)) d15
+          d16 : Typed.Typed 𝓤 H A 𝓣 E G53 b21 Δ2 at16
+          d16 = Typed.t-skip 𝓤 H A W 𝓣 E Δ2 tt
 
-          d17 : Typed.Typed 𝓤 H A 𝓣 E G45 b22 Δ2 at17
-          d17 = Scalar.t-cond 𝓤 H A W E 𝓣 G45 19 (λ x. x) b20 b21 Δ2 at14 at16 (Scalar.reads-sc 𝓤 H A W Row.sBool) Path'.refl d14 d16
+          d17 : Typed.Typed 𝓤 H A 𝓣 E G44 b21 Δ2 at17
+          d17 = Typed.g-pre 𝓤 H A W 𝓣 E G44 G53 b21 Δ2 (Typed.pass T44 T53 s49) at16 (Scalar.g-room 𝓤 H A W E G44 19 Syntax.tyBool (Scalar.room-sc 𝓤 H A W Row.sBool)) d16
 
-          d18 : Typed.Typed 𝓤 H A 𝓣 E G43 b22 Δ2 at18
-          d18 = Typed.g-pre 𝓤 H A W 𝓣 E G43 G45 b22 Δ2 (Typed.pass T43 T45 s41) at17 (Scalar.g-room 𝓤 H A W E G43 20 (Syntax.tyInt Syntax.w64) (Scalar.room-sc 𝓤 H A W (Row.sInt Syntax.w64))) d17
+          d18 : Typed.Typed 𝓤 H A 𝓣 E G44 b22 Δ2 at18
+          d18 = Scalar.t-cond 𝓤 H A W E 𝓣 G44 19 (λ x. x) b20 b21 Δ2 at15 at17 (Scalar.reads-sc 𝓤 H A W Row.sBool) Path'.refl d15 d17
 
-          d19 : Typed.Typed 𝓤 H A 𝓣 E G76 b30 Δ1 at19
-          d19 = Typed.s-typed 𝓤 H A W 𝓣 E G76 b30 Δ1 (λ Ψ. Typed.pass T75 T77 s73 (Typed.pass T77 T78 s74 Ψ)) tt (Typed.g-post 𝓤 H A W 𝓣 E G76 G77 G78 b30 (Typed.pass T75 T77 s73) (Typed.pass T77 T78
-              s74) (Make.t-enum-make-wt 𝓤 H A W E 𝓣 Written.the-type Laws''.the-laws Laws''.the-plain tt G76 17 (List._∷_ (Scalar.oInt Syntax.w8 0) (List._∷_ (Scalar.oAt 10 (Syntax.tyInt Syntax.w64)
+          d19 : Typed.Typed 𝓤 H A 𝓣 E G42 b22 Δ2 at19
+          d19 = Typed.g-pre 𝓤 H A W 𝓣 E G42 G44 b22 Δ2 (Typed.pass T42 T44 s40) at18 (Scalar.g-room 𝓤 H A W E G42 20 (Syntax.tyInt Syntax.w64) (Scalar.room-sc 𝓤 H A W (Row.sInt Syntax.w64))) d18
+
+          d20 : Typed.Typed 𝓤 H A 𝓣 E G86 b33 Δ1 at20
+          d20 = Typed.s-typed 𝓤 H A W 𝓣 E G86 b33 Δ1 (λ Ψ. Typed.pass T85 T87 s83 (Typed.pass T87 T88 s84 Ψ)) tt (Typed.g-post 𝓤 H A W 𝓣 E G86 G87 G88 b33 (Typed.pass T85 T87 s83) (Typed.pass T87 T88
+              s84) (Make.t-enum-make-wt 𝓤 H A W E 𝓣 Written.the-type Laws''.the-laws Laws''.the-plain tt G86 17 (List._∷_ (Scalar.oInt Syntax.w8 0) (List._∷_ (Scalar.oAt 10 (Syntax.tyInt Syntax.w64)
               (Row.valS (Row.sInt Syntax.w64))) List.[])) (λ m. Written.enum .make (Logic.inl (m .1 .1 .1 .1 .1 .1 .1 .1 .1 .1 .0, tt))) (Reads.room-gone 𝓤 H A (Syntax.tyEnum (List._∷_ 98 (List._∷_ 108
               (List._∷_ 111 (List._∷_ 99 (List._∷_ 107 (List._∷_ 58 (List._∷_ 58 (List._∷_ 87 (List._∷_ 114 (List._∷_ 105 (List._∷_ 116 (List._∷_ 116 (List._∷_ 101 (List._∷_ 110 List.[]))))))))))))))
               (Syntax.ttcons (Syntax.tcons (Syntax.tyInt Syntax.w64) Syntax.tnil) (Syntax.ttcons (Syntax.tcons (Syntax.tyEnum (List._∷_ 115 (List._∷_ 116 (List._∷_ 114 (List._∷_ 101 (List._∷_ 97 (List._∷_
@@ -2576,67 +2821,133 @@ module _ (claims· : Claims) where
               (Laws''.the-laws .0 .0 .val (m .1 .1 .1 .1 .1 .1 .1 .1 .1 .1 .0)) List.[]) (Written.enum .make (Logic.inl (m .1 .1 .1 .1 .1 .1 .1 .1 .1 .1 .0, tt)))
               (Signed.made-wt Field.u64-field (Laws''.the-laws .0 .0) Make'.u64-wt (m .1 .1 .1 .1 .1 .1 .1 .1 .1 .1 .0), tt) (wa .1)) λ m wa. Make.made-is Written.the-type Laws''.the-laws (List._∷_
               (Laws''.the-laws .0 .0 .val (m .1 .1 .1 .1 .1 .1 .1 .1 .1 .1 .0)) List.[]) (Written.enum .make (Logic.inl (m .1 .1 .1 .1 .1 .1 .1 .1 .1 .1 .0, tt)))
-              (Signed.made-wt Field.u64-field (Laws''.the-laws .0 .0) Make'.u64-wt (m .1 .1 .1 .1 .1 .1 .1 .1 .1 .1 .0), tt) (wa .1)) (Scalar.g-room 𝓤 H A W E G77 10 (Syntax.tyInt Syntax.w64)
+              (Signed.made-wt Field.u64-field (Laws''.the-laws .0 .0) Make'.u64-wt (m .1 .1 .1 .1 .1 .1 .1 .1 .1 .1 .0), tt) (wa .1)) (Scalar.g-room 𝓤 H A W E G87 10 (Syntax.tyInt Syntax.w64)
               (Scalar.room-sc 𝓤 H A W (Row.sInt Syntax.w64))))
 
-          d20 : Typed.Typed 𝓤 H A 𝓣 E G75 b30 Δ1 at20
-          d20 = Typed.g-pre 𝓤 H A W 𝓣 E G75 G76 b30 Δ1 (λ Ψ. Ψ) at19 (Lifetime.g-forget 𝓤 H A W E G75 9 Row.dead Path'.refl) d19
+          d21 : Typed.Typed 𝓤 H A 𝓣 E G85 b33 Δ1 at21
+          d21 = Typed.g-pre 𝓤 H A W 𝓣 E G85 G86 b33 Δ1 (λ Ψ. Ψ) at20 (Lifetime.g-forget 𝓤 H A W E G85 10 Row.dead Path'.refl) d20
 
-          d21 : Typed.Typed 𝓤 H A 𝓣 E G74 b30 Δ1 at21
-          d21 = Typed.g-pre 𝓤 H A W 𝓣 E G74 G75 b30 Δ1 (Typed.both s71) at20 (Relend.g-back-sl 𝓤 H A W E (Element.type) G74 28 4 3 9 (Syntax.tyRef (Syntax.named 3) Syntax.mut Element.behind)
+          d22 : Typed.Typed 𝓤 H A 𝓣 E G84 b33 Δ1 at22
+          d22 = Typed.g-pre 𝓤 H A W 𝓣 E G84 G85 b33 Δ1 (Typed.give s81) at21 (Know.g-sl-known 𝓤 H A W (Referent.fInt Syntax.w8) E G84 2 1 (Syntax.tyRef (Syntax.named 1) Syntax.mut (Syntax.tyInt
+              Syntax.w8)) (Row.lease (κs .1 .0) (qs .1 .0)) 0 (λ x. x) record { fits = Dec'.lit< tt } (Reads.as-is 𝓤 H A (Mut.mslice (Referent.rtF (Referent.fInt Syntax.w8)) (Syntax.tyRef (Syntax.named 1)
+              Syntax.mut (Syntax.tyInt Syntax.w8)) 1)) Path'.refl tt) d21
+
+          d23 : Typed.Typed 𝓤 H A 𝓣 E G83 b33 Δ1 at23
+          d23 = Typed.g-pre 𝓤 H A W 𝓣 E G83 G84 b33 Δ1 (Typed.both s80) at22 (Relend.g-back-sl 𝓤 H A W E (Referent.rtF (Referent.fInt Syntax.w8)) G83 31 2 1 10 (Syntax.tyRef (Syntax.named 1)
+              Syntax.mut (Syntax.tyInt Syntax.w8)) (Syntax.tyRef Syntax.erased Syntax.mut (Syntax.tyInt Syntax.w8)) (Row.lease (κs .1 .0) (qs .1 .0)) (λ x. x) (λ x. x) (Reads.as-is 𝓤 H A (Mut.msleft
+              (Referent.rtF (Referent.fInt Syntax.w8)) (Syntax.tyRef Syntax.erased Syntax.mut (Syntax.tyInt Syntax.w8)))) (Reads.as-is 𝓤 H A (Relend.mslice-owed (Referent.rtF (Referent.fInt Syntax.w8))
+              (Syntax.tyRef (Syntax.named 1) Syntax.mut (Syntax.tyInt Syntax.w8)) 1 10 (Row.lease (κs .1 .0) (qs .1 .0)))) Path'.refl Path'.refl) d22
+
+          d24 : Typed.Typed 𝓤 H A 𝓣 E G82 b33 Δ1 at24
+          d24 = Typed.g-pre 𝓤 H A W 𝓣 E G82 G83 b33 Δ1 (λ Ψ. Ψ) at23 (Lifetime.g-end 𝓤 H A W E G82 10 Path'.refl) d23
+
+          d25 : Typed.Typed 𝓤 H A 𝓣 E G81 b33 Δ1 at25
+          d25 = Typed.g-pre 𝓤 H A W 𝓣 E G81 G82 b33 Δ1 (Typed.pass T81 T82 s78) at24 (Scalar.g-room 𝓤 H A W E G81 29 Syntax.tyUnit (Scalar.room-sc 𝓤 H A W Row.sUnit)) d24
+
+          d26 : Typed.Typed 𝓤 H A 𝓣 E G80 b33 Δ1 at26
+          d26 = Typed.g-pre 𝓤 H A W 𝓣 E G80 G81 b33 Δ1 (Typed.pass T80 T81 s77) at25 (Scalar.g-room 𝓤 H A W E G80 9 y3 (Local.room-whole 𝓤 H A W (Declared'.row BitPosition.the-type) y3 Path'.refl))
+              d25
+
+          d27 : Typed.Typed 𝓤 H A 𝓣 E G79 b34 Δ1 at27
+          d27 = Typed.s-seq 𝓤 H A W 𝓣 E G79 G80 b32 b33 Δ1 (Typed.both s76) at26 (Plain.t-call-plain 𝓤 H A W 𝓣 1 ps·3 r·3 (claims· .6) (claims· .7) "bits::fill_tail" (known .3) E (λ pos β. β) G79
+              (record { pos = 31; ty = Syntax.tyRef Syntax.erased Syntax.mut (Syntax.tyInt Syntax.w8); ref = λ x. x }, (record { pos = 9; st = List.[]; d = 0; at = λ x. x }, tt)) 29 (List._∷_ 10 List.[])
+              (Call.sub-id 𝓤 H A W (G79 .slots)) (
+                Reads.as-is 𝓤 H A (Mut.mslice (Referent.rtF (Referent.fInt Syntax.w8)) (Syntax.tyRef Syntax.erased Syntax.mut (Syntax.tyInt Syntax.w8)) 10),
+                Mut.reads-mslice 𝓤 H A W (Referent.rtF
+                    (Referent.fInt Syntax.w8)) (Syntax.tyRef Syntax.erased Syntax.mut (Syntax.tyInt Syntax.w8)) 10,
+                Path'.refl,
+                (
+                  (
+                    Yields.yields-copy 𝓤 H A W (λ ρ. Unit) (Declared'.row BitPosition.the-type) Path'.refl (Copies.cStruct BitPosition.the-type Laws.the-laws Laws.the-copy .copy 𝓤 H A W) (Rows.whole
+                        (Declared'.row BitPosition.the-type)) (λ x. x) (λ x. x) (λ ρ told. Local.mem-whole 𝓤 H A W (Declared'.row BitPosition.the-type) ρ) λ ρ told. Local.whole-mem 𝓤 H A W (Declared'.row
+                        BitPosition.the-type) ρ,
+                    Path'.refl,
+                  ),
+                  tt,
+                ),
+              ) (Reads.room-gone 𝓤 H A Syntax.tyUnit) (tt, tt) Path'.refl) d26
+
+          d28 : Typed.Typed 𝓤 H A 𝓣 E G78 b35 Δ1 at28
+          d28 = Typed.s-seq 𝓤 H A W 𝓣 E G78 G79 b31 b34 Δ1 (Typed.ask s75) at27 (Relend.t-sl-aggregate 𝓤 H A W E (Referent.rtF (Referent.fInt Syntax.w8)) 𝓣 (Relend.asMut (Referent.rtF (Referent.fInt
+              Syntax.w8))) G78 30 31 10 (Syntax.tyRef Syntax.erased Syntax.mut (Syntax.tyInt Syntax.w8)) (Syntax.tyRef Syntax.erased Syntax.mut (Syntax.tyInt Syntax.w8)) (λ x. x) (Scalar.oFld 2 (List._∷_
+              (Syntax.field 1) List.[]) (Syntax.tyInt Syntax.w64) 8 λ v. Shared.lenV (v .0)) (Reads.as-is 𝓤 H A (Relend.msptr (Referent.rtF (Referent.fInt Syntax.w8)) (Syntax.tyRef Syntax.erased
+              Syntax.mut (Syntax.tyInt Syntax.w8)) 10)) (Reads.room-gone 𝓤 H A y1) (
+                Relend.reads-owed-len 𝓤 H A W (Referent.rtF (Referent.fInt Syntax.w8)) (Syntax.tyRef (Syntax.named 1) Syntax.mut (Syntax.tyInt Syntax.w8)) 1 10 (Row.lease (κs .1 .0) (qs .1 .0)) 8
+                    Path'.refl,
+                Path'.refl,
+              ) Path'.refl Path'.refl λ b o k. tt) d27
+
+          d29 : Typed.Typed 𝓤 H A 𝓣 E G77 b36 Δ1 at29
+          d29 = Typed.s-seq 𝓤 H A W 𝓣 E G77 G78 b30 b35 Δ1 (Typed.give s74) at28 (Relend.t-sl-relend 𝓤 H A W E (Referent.rtF (Referent.fInt Syntax.w8)) 𝓣 G77 2 30 1 10 (Syntax.tyRef (Syntax.named 1)
+              Syntax.mut (Syntax.tyInt Syntax.w8)) (Syntax.tyRef Syntax.erased Syntax.mut (Syntax.tyInt Syntax.w8)) (Row.lease (κs .1 .0) (qs .1 .0)) 0 (λ x. x) (Reads.as-is 𝓤 H A (Mut.mslice
+              (Referent.rtF (Referent.fInt Syntax.w8)) (Syntax.tyRef (Syntax.named 1) Syntax.mut (Syntax.tyInt Syntax.w8)) 1)) (Reads.room-gone 𝓤 H A (Syntax.tyRef Syntax.erased Syntax.mut (Syntax.tyInt
+              Syntax.w8))) Path'.refl tt Path'.refl Path'.refl Path'.refl λ b o. tt) d28
+
+          d30 : Typed.Typed 𝓤 H A 𝓣 E G76 b36 Δ1 at30
+          d30 = Typed.g-pre 𝓤 H A W 𝓣 E G76 G77 b36 Δ1 (λ Ψ. Ψ) at29 (Lifetime.g-begin 𝓤 H A W E G76 10 (
+            tt,
+            (tt, (tt, (tt, (tt, (tt, (tt, (tt, (tt, (tt, (tt, (tt, (tt, (tt, (tt, (tt, (tt, (tt, (tt, (tt, (tt, (tt, (tt, (tt, (tt, (tt, (tt, (tt, (tt, (tt, (tt, (tt, tt))))))))))))))))))))))))))))))),
+          ))
+              d29
+
+          d31 : Typed.Typed 𝓤 H A 𝓣 E G75 b36 Δ1 at31
+          d31 = Typed.g-pre 𝓤 H A W 𝓣 E G75 G76 b36 Δ1 (λ Ψ. Ψ) at30 (Lifetime.g-forget 𝓤 H A W E G75 9 Row.dead Path'.refl) d30
+
+          d32 : Typed.Typed 𝓤 H A 𝓣 E G74 b36 Δ1 at32
+          d32 = Typed.g-pre 𝓤 H A W 𝓣 E G74 G75 b36 Δ1 (Typed.both s71) at31 (Relend.g-back-sl 𝓤 H A W E (Element.type) G74 28 4 3 9 (Syntax.tyRef (Syntax.named 3) Syntax.mut Element.behind)
               (Syntax.tyRef Syntax.erased Syntax.mut Element.behind) (Row.lease (κs .1 .1 .1 .0) (qs .1 .1 .1 .0)) (λ x. x) (λ x. x) (Reads.as-is 𝓤 H A (Mut.msleft (Element.type) (Syntax.tyRef
               Syntax.erased Syntax.mut Element.behind))) (Reads.as-is 𝓤 H A (Relend.mslice-owed (Element.type) (Syntax.tyRef (Syntax.named 3) Syntax.mut Element.behind) 3 9 (Row.lease (κs .1 .1 .1 .0) (qs
-              .1 .1 .1 .0)))) Path'.refl Path'.refl) d20
+              .1 .1 .1 .0)))) Path'.refl Path'.refl) d31
 
-          d22 : Typed.Typed 𝓤 H A 𝓣 E G73 b30 Δ1 at22
-          d22 = Typed.g-pre 𝓤 H A W 𝓣 E G73 G74 b30 Δ1 (λ Ψ. Ψ) at21 (Lifetime.g-end 𝓤 H A W E G73 9 Path'.refl) d21
+          d33 : Typed.Typed 𝓤 H A 𝓣 E G73 b36 Δ1 at33
+          d33 = Typed.g-pre 𝓤 H A W 𝓣 E G73 G74 b36 Δ1 (λ Ψ. Ψ) at32 (Lifetime.g-end 𝓤 H A W E G73 9 Path'.refl) d32
 
-          d23 : Typed.Typed 𝓤 H A 𝓣 E G72 b30 Δ1 at23
-          d23 = Typed.g-pre 𝓤 H A W 𝓣 E G72 G73 b30 Δ1 (λ Ψ. Ψ) at22 (Lifetime.g-forget 𝓤 H A W E G72 8 Row.dead Path'.refl) d22
+          d34 : Typed.Typed 𝓤 H A 𝓣 E G72 b36 Δ1 at34
+          d34 = Typed.g-pre 𝓤 H A W 𝓣 E G72 G73 b36 Δ1 (λ Ψ. Ψ) at33 (Lifetime.g-forget 𝓤 H A W E G72 8 Row.dead Path'.refl) d33
 
-          d24 : Typed.Typed 𝓤 H A 𝓣 E G71 b30 Δ1 at24
-          d24 = Typed.g-pre 𝓤 H A W 𝓣 E G71 G72 b30 Δ1 (Typed.give s68) at23 (Know.g-sl-known 𝓤 H A W (Referent.fInt Syntax.w16) E G71 3 2 (Syntax.tyRef (Syntax.named 2) Syntax.mut (Syntax.tyInt
+          d35 : Typed.Typed 𝓤 H A 𝓣 E G71 b36 Δ1 at35
+          d35 = Typed.g-pre 𝓤 H A W 𝓣 E G71 G72 b36 Δ1 (Typed.give s68) at34 (Know.g-sl-known 𝓤 H A W (Referent.fInt Syntax.w16) E G71 3 2 (Syntax.tyRef (Syntax.named 2) Syntax.mut (Syntax.tyInt
               Syntax.w16)) (Row.lease (κs .1 .1 .0) (qs .1 .1 .0)) 0 (λ x. x) record { fits = Dec'.lit< tt } (Reads.as-is 𝓤 H A (Mut.mslice (Referent.rtF (Referent.fInt Syntax.w16)) (Syntax.tyRef
-              (Syntax.named 2) Syntax.mut (Syntax.tyInt Syntax.w16)) 2)) Path'.refl tt) d23
+              (Syntax.named 2) Syntax.mut (Syntax.tyInt Syntax.w16)) 2)) Path'.refl tt) d34
 
-          d25 : Typed.Typed 𝓤 H A 𝓣 E G70 b30 Δ1 at25
-          d25 = Typed.g-pre 𝓤 H A W 𝓣 E G70 G71 b30 Δ1 (Typed.both s67) at24 (Relend.g-back-sl 𝓤 H A W E (Referent.rtF (Referent.fInt Syntax.w16)) G70 26 3 2 8 (Syntax.tyRef (Syntax.named 2)
+          d36 : Typed.Typed 𝓤 H A 𝓣 E G70 b36 Δ1 at36
+          d36 = Typed.g-pre 𝓤 H A W 𝓣 E G70 G71 b36 Δ1 (Typed.both s67) at35 (Relend.g-back-sl 𝓤 H A W E (Referent.rtF (Referent.fInt Syntax.w16)) G70 26 3 2 8 (Syntax.tyRef (Syntax.named 2)
               Syntax.mut (Syntax.tyInt Syntax.w16)) (Syntax.tyRef Syntax.erased Syntax.mut (Syntax.tyInt Syntax.w16)) (Row.lease (κs .1 .1 .0) (qs .1 .1 .0)) (λ x. x) (λ x. x) (Reads.as-is 𝓤 H A
               (Mut.msleft (Referent.rtF (Referent.fInt Syntax.w16)) (Syntax.tyRef Syntax.erased Syntax.mut (Syntax.tyInt Syntax.w16)))) (Reads.as-is 𝓤 H A (Relend.mslice-owed (Referent.rtF (Referent.fInt
-              Syntax.w16)) (Syntax.tyRef (Syntax.named 2) Syntax.mut (Syntax.tyInt Syntax.w16)) 2 8 (Row.lease (κs .1 .1 .0) (qs .1 .1 .0)))) Path'.refl Path'.refl) d24
+              Syntax.w16)) (Syntax.tyRef (Syntax.named 2) Syntax.mut (Syntax.tyInt Syntax.w16)) 2 8 (Row.lease (κs .1 .1 .0) (qs .1 .1 .0)))) Path'.refl Path'.refl) d35
 
-          d26 : Typed.Typed 𝓤 H A 𝓣 E G69 b30 Δ1 at26
-          d26 = Typed.g-pre 𝓤 H A W 𝓣 E G69 G70 b30 Δ1 (λ Ψ. Ψ) at25 (Lifetime.g-end 𝓤 H A W E G69 8 Path'.refl) d25
+          d37 : Typed.Typed 𝓤 H A 𝓣 E G69 b36 Δ1 at37
+          d37 = Typed.g-pre 𝓤 H A W 𝓣 E G69 G70 b36 Δ1 (λ Ψ. Ψ) at36 (Lifetime.g-end 𝓤 H A W E G69 8 Path'.refl) d36
 
-          d27 : Typed.Typed 𝓤 H A 𝓣 E G68 b30 Δ1 at27
-          d27 = Typed.g-pre 𝓤 H A W 𝓣 E G68 G69 b30 Δ1 (λ Ψ. Ψ) at26 (Lifetime.g-forget 𝓤 H A W E G68 7 Row.dead Path'.refl) d26
+          d38 : Typed.Typed 𝓤 H A 𝓣 E G68 b36 Δ1 at38
+          d38 = Typed.g-pre 𝓤 H A W 𝓣 E G68 G69 b36 Δ1 (λ Ψ. Ψ) at37 (Lifetime.g-forget 𝓤 H A W E G68 7 Row.dead Path'.refl) d37
 
-          d28 : Typed.Typed 𝓤 H A 𝓣 E G67 b30 Δ1 at28
-          d28 = Typed.g-pre 𝓤 H A W 𝓣 E G67 G68 b30 Δ1 (Typed.give s64) at27 (Know.g-sl-known 𝓤 H A W (Referent.fInt Syntax.w8) E G67 2 1 (Syntax.tyRef (Syntax.named 1) Syntax.mut (Syntax.tyInt
+          d39 : Typed.Typed 𝓤 H A 𝓣 E G67 b36 Δ1 at39
+          d39 = Typed.g-pre 𝓤 H A W 𝓣 E G67 G68 b36 Δ1 (Typed.give s64) at38 (Know.g-sl-known 𝓤 H A W (Referent.fInt Syntax.w8) E G67 2 1 (Syntax.tyRef (Syntax.named 1) Syntax.mut (Syntax.tyInt
               Syntax.w8)) (Row.lease (κs .1 .0) (qs .1 .0)) 0 (λ x. x) record { fits = Dec'.lit< tt } (Reads.as-is 𝓤 H A (Mut.mslice (Referent.rtF (Referent.fInt Syntax.w8)) (Syntax.tyRef (Syntax.named 1)
-              Syntax.mut (Syntax.tyInt Syntax.w8)) 1)) Path'.refl tt) d27
+              Syntax.mut (Syntax.tyInt Syntax.w8)) 1)) Path'.refl tt) d38
 
-          d29 : Typed.Typed 𝓤 H A 𝓣 E G66 b30 Δ1 at29
-          d29 = Typed.g-pre 𝓤 H A W 𝓣 E G66 G67 b30 Δ1 (Typed.both s63) at28 (Relend.g-back-sl 𝓤 H A W E (Referent.rtF (Referent.fInt Syntax.w8)) G66 24 2 1 7 (Syntax.tyRef (Syntax.named 1) Syntax.mut
+          d40 : Typed.Typed 𝓤 H A 𝓣 E G66 b36 Δ1 at40
+          d40 = Typed.g-pre 𝓤 H A W 𝓣 E G66 G67 b36 Δ1 (Typed.both s63) at39 (Relend.g-back-sl 𝓤 H A W E (Referent.rtF (Referent.fInt Syntax.w8)) G66 24 2 1 7 (Syntax.tyRef (Syntax.named 1) Syntax.mut
               (Syntax.tyInt Syntax.w8)) (Syntax.tyRef Syntax.erased Syntax.mut (Syntax.tyInt Syntax.w8)) (Row.lease (κs .1 .0) (qs .1 .0)) (λ x. x) (λ x. x) (Reads.as-is 𝓤 H A (Mut.msleft (Referent.rtF
               (Referent.fInt Syntax.w8)) (Syntax.tyRef Syntax.erased Syntax.mut (Syntax.tyInt Syntax.w8)))) (Reads.as-is 𝓤 H A (Relend.mslice-owed (Referent.rtF (Referent.fInt Syntax.w8)) (Syntax.tyRef
-              (Syntax.named 1) Syntax.mut (Syntax.tyInt Syntax.w8)) 1 7 (Row.lease (κs .1 .0) (qs .1 .0)))) Path'.refl Path'.refl) d28
+              (Syntax.named 1) Syntax.mut (Syntax.tyInt Syntax.w8)) 1 7 (Row.lease (κs .1 .0) (qs .1 .0)))) Path'.refl Path'.refl) d39
 
-          d30 : Typed.Typed 𝓤 H A 𝓣 E G65 b30 Δ1 at30
-          d30 = Typed.g-pre 𝓤 H A W 𝓣 E G65 G66 b30 Δ1 (λ Ψ. Ψ) at29 (Lifetime.g-end 𝓤 H A W E G65 7 Path'.refl) d29
+          d41 : Typed.Typed 𝓤 H A 𝓣 E G65 b36 Δ1 at41
+          d41 = Typed.g-pre 𝓤 H A W 𝓣 E G65 G66 b36 Δ1 (λ Ψ. Ψ) at40 (Lifetime.g-end 𝓤 H A W E G65 7 Path'.refl) d40
 
-          d31 : Typed.Typed 𝓤 H A 𝓣 E G64 b30 Δ1 at31
-          d31 = Typed.g-pre 𝓤 H A W 𝓣 E G64 G65 b30 Δ1 (Typed.pass T64 T65 s61) at30 (Scalar.g-room 𝓤 H A W E G64 22 (Syntax.tyEnum (List._∷_ 119 (List._∷_ 114 (List._∷_ 105 (List._∷_ 116 (List._∷_
+          d42 : Typed.Typed 𝓤 H A 𝓣 E G64 b36 Δ1 at42
+          d42 = Typed.g-pre 𝓤 H A W 𝓣 E G64 G65 b36 Δ1 (Typed.pass T64 T65 s61) at41 (Scalar.g-room 𝓤 H A W E G64 22 (Syntax.tyEnum (List._∷_ 119 (List._∷_ 114 (List._∷_ 105 (List._∷_ 116 (List._∷_
               105 (List._∷_ 110 (List._∷_ 103 (List._∷_ 58 (List._∷_ 58 (List._∷_ 80 (List._∷_ 117 (List._∷_ 116 List.[])))))))))))) (Syntax.ttcons (Syntax.tcons y3 Syntax.tnil) (Syntax.ttcons
               (Syntax.tcons (Syntax.tyInt Syntax.w64) Syntax.tnil) Syntax.ttnil))) (Local.room-whole 𝓤 H A W (Declared.row Put.the-type) (Syntax.tyEnum (List._∷_ 119 (List._∷_ 114 (List._∷_ 105 (List._∷_
               116 (List._∷_ 105 (List._∷_ 110 (List._∷_ 103 (List._∷_ 58 (List._∷_ 58 (List._∷_ 80 (List._∷_ 117 (List._∷_ 116 List.[])))))))))))) (Syntax.ttcons (Syntax.tcons y3 Syntax.tnil)
-              (Syntax.ttcons (Syntax.tcons (Syntax.tyInt Syntax.w64) Syntax.tnil) Syntax.ttnil))) Path'.refl)) d30
+              (Syntax.ttcons (Syntax.tcons (Syntax.tyInt Syntax.w64) Syntax.tnil) Syntax.ttnil))) Path'.refl)) d41
 
-          d32 : Typed.Typed 𝓤 H A 𝓣 E G63 b30 Δ1 at32
-          d32 = Typed.g-pre 𝓤 H A W 𝓣 E G63 G64 b30 Δ1 (Typed.pass T63 T64 s60) at31 (Scalar.g-room 𝓤 H A W E G63 5 y4 (Local.room-whole 𝓤 H A W (Declared'.row Form.the-type) y4 Path'.refl)) d31
+          d43 : Typed.Typed 𝓤 H A 𝓣 E G63 b36 Δ1 at43
+          d43 = Typed.g-pre 𝓤 H A W 𝓣 E G63 G64 b36 Δ1 (Typed.pass T63 T64 s60) at42 (Scalar.g-room 𝓤 H A W E G63 5 y4 (Local.room-whole 𝓤 H A W (Declared'.row Form.the-type) y4 Path'.refl)) d42
 
-          d33 : Typed.Typed 𝓤 H A 𝓣 E G62 b31 Δ1 at33
-          d33 = Typed.s-seq 𝓤 H A W 𝓣 E G62 G63 b29 b30 Δ1 (Typed.both s59) at32 (Plain.t-call-plain 𝓤 H A W 𝓣 4 ps·0 r·0 (claims· .0) (claims· .1) "block::writer::write_walk" (known .0) E (λ pos β.
+          d44 : Typed.Typed 𝓤 H A 𝓣 E G62 b37 Δ1 at44
+          d44 = Typed.s-seq 𝓤 H A W 𝓣 E G62 G63 b29 b36 Δ1 (Typed.both s59) at43 (Plain.t-call-plain 𝓤 H A W 𝓣 4 ps·0 r·0 (claims· .0) (claims· .1) "block::writer::write_walk" (known .0) E (λ pos β.
               β) G62 (
                 record { pos = 1; ty = Syntax.tyRef (Syntax.named 0) Syntax.imm (Syntax.tyInt Syntax.w16); ref = λ x. x },
                 (
@@ -2686,86 +2997,100 @@ module _ (claims· : Claims) where
                 ),
               ) (Reads.room-gone 𝓤 H A (Syntax.tyEnum (List._∷_ 119 (List._∷_ 114 (List._∷_ 105 (List._∷_ 116 (List._∷_ 105 (List._∷_
               110 (List._∷_ 103 (List._∷_ 58 (List._∷_ 58 (List._∷_ 80 (List._∷_ 117 (List._∷_ 116 List.[])))))))))))) (Syntax.ttcons (Syntax.tcons y3 Syntax.tnil) (Syntax.ttcons (Syntax.tcons
-              (Syntax.tyInt Syntax.w64) Syntax.tnil) Syntax.ttnil)))) (tt, (tt, (tt, (tt, tt)))) Path'.refl) d32
+              (Syntax.tyInt Syntax.w64) Syntax.tnil) Syntax.ttnil)))) (tt, (tt, (tt, (tt, tt)))) Path'.refl) d43
 
-          d34 : Typed.Typed 𝓤 H A 𝓣 E G61 b32 Δ1 at34
-          d34 = Typed.s-seq 𝓤 H A W 𝓣 E G61 G62 b28 b31 Δ1 (Typed.ask s58) at33 (Relend.t-sl-aggregate 𝓤 H A W E (Element.type) 𝓣 (Relend.asMut (Element.type)) G61 27 28 9 (Syntax.tyRef Syntax.erased
+          d45 : Typed.Typed 𝓤 H A 𝓣 E G61 b38 Δ1 at45
+          d45 = Typed.s-seq 𝓤 H A W 𝓣 E G61 G62 b28 b37 Δ1 (Typed.ask s58) at44 (Relend.t-sl-aggregate 𝓤 H A W E (Element.type) 𝓣 (Relend.asMut (Element.type)) G61 27 28 9 (Syntax.tyRef Syntax.erased
               Syntax.mut Element.behind) (Syntax.tyRef Syntax.erased Syntax.mut Element.behind) (λ x. x) (Scalar.oFld 4 (List._∷_ (Syntax.field 1) List.[]) (Syntax.tyInt Syntax.w64) 8 λ v. Shared.lenV (v
               .0)) (Reads.as-is 𝓤 H A (Relend.msptr (Element.type) (Syntax.tyRef Syntax.erased Syntax.mut Element.behind) 9)) (Reads.room-gone 𝓤 H A y2)
               (Relend.reads-owed-len 𝓤 H A W (Element.type) (Syntax.tyRef (Syntax.named 3) Syntax.mut Element.behind) 3 9 (Row.lease (κs .1 .1 .1 .0) (qs .1 .1 .1 .0)) 8 Path'.refl, Path'.refl) Path'.refl
-              Path'.refl λ b o k. tt) d33
+              Path'.refl λ b o k. tt) d44
 
-          d35 : Typed.Typed 𝓤 H A 𝓣 E G60 b33 Δ1 at35
-          d35 = Typed.s-seq 𝓤 H A W 𝓣 E G60 G61 b27 b32 Δ1 (Typed.give s57) at34 (Relend.t-sl-relend 𝓤 H A W E (Element.type) 𝓣 G60 4 27 3 9 (Syntax.tyRef (Syntax.named 3) Syntax.mut Element.behind)
+          d46 : Typed.Typed 𝓤 H A 𝓣 E G60 b39 Δ1 at46
+          d46 = Typed.s-seq 𝓤 H A W 𝓣 E G60 G61 b27 b38 Δ1 (Typed.give s57) at45 (Relend.t-sl-relend 𝓤 H A W E (Element.type) 𝓣 G60 4 27 3 9 (Syntax.tyRef (Syntax.named 3) Syntax.mut Element.behind)
               (Syntax.tyRef Syntax.erased Syntax.mut Element.behind) (Row.lease (κs .1 .1 .1 .0) (qs .1 .1 .1 .0)) 0 (λ x. x) (Reads.as-is 𝓤 H A (Mut.mslice (Element.type) (Syntax.tyRef (Syntax.named 3)
-              Syntax.mut Element.behind) 3)) (Reads.room-gone 𝓤 H A (Syntax.tyRef Syntax.erased Syntax.mut Element.behind)) Path'.refl tt Path'.refl Path'.refl Path'.refl λ b o. tt) d34
+              Syntax.mut Element.behind) 3)) (Reads.room-gone 𝓤 H A (Syntax.tyRef Syntax.erased Syntax.mut Element.behind)) Path'.refl tt Path'.refl Path'.refl Path'.refl λ b o. tt) d45
 
-          d36 : Typed.Typed 𝓤 H A 𝓣 E G59 b33 Δ1 at36
-          d36 = Typed.g-pre 𝓤 H A W 𝓣 E G59 G60 b33 Δ1 (λ Ψ. Ψ) at35 (Lifetime.g-begin 𝓤 H A W E G59 9
-              (tt, (tt, ((tt, tt), ((tt, tt), (tt, (tt, (tt, (tt, (tt, (tt, (tt, (tt, (tt, (tt, (tt, (tt, (tt, (tt, (tt, (tt, (tt, (tt, (tt, (tt, (tt, (tt, (tt, (tt, (tt, tt))))))))))))))))))))))))))))))
-              d35
+          d47 : Typed.Typed 𝓤 H A 𝓣 E G59 b39 Δ1 at47
+          d47 = Typed.g-pre 𝓤 H A W 𝓣 E G59 G60 b39 Δ1 (λ Ψ. Ψ) at46 (Lifetime.g-begin 𝓤 H A W E G59 9 (
+            tt,
+            (
+              tt,
+              (
+                (tt, tt),
+                ((tt, tt), (tt, (tt, (tt, (tt, (tt, (tt, (tt, (tt, (tt, (tt, (tt, (tt, (tt, (tt, (tt, (tt, (tt, (tt, (tt, (tt, (tt, (tt, (tt, (tt, (tt, (tt, (tt, (tt, tt))))))))))))))))))))))))))))),
+              ),
+            ),
+          )) d46
 
-          d37 : Typed.Typed 𝓤 H A 𝓣 E G58 b34 Δ1 at37
-          d37 = Typed.s-seq 𝓤 H A W 𝓣 E G58 G59 b26 b33 Δ1 (Typed.ask s55) at36 (Relend.t-sl-aggregate 𝓤 H A W E (Referent.rtF (Referent.fInt Syntax.w16)) 𝓣 (Relend.asMut (Referent.rtF (Referent.fInt
+          d48 : Typed.Typed 𝓤 H A 𝓣 E G58 b40 Δ1 at48
+          d48 = Typed.s-seq 𝓤 H A W 𝓣 E G58 G59 b26 b39 Δ1 (Typed.ask s55) at47 (Relend.t-sl-aggregate 𝓤 H A W E (Referent.rtF (Referent.fInt Syntax.w16)) 𝓣 (Relend.asMut (Referent.rtF (Referent.fInt
               Syntax.w16))) G58 25 26 8 (Syntax.tyRef Syntax.erased Syntax.mut (Syntax.tyInt Syntax.w16)) (Syntax.tyRef Syntax.erased Syntax.mut (Syntax.tyInt Syntax.w16)) (λ x. x) (Scalar.oFld 3
               (List._∷_ (Syntax.field 1) List.[]) (Syntax.tyInt Syntax.w64) 8 λ v. Shared.lenV (v .0)) (Reads.as-is 𝓤 H A (Relend.msptr (Referent.rtF (Referent.fInt Syntax.w16)) (Syntax.tyRef
               Syntax.erased Syntax.mut (Syntax.tyInt Syntax.w16)) 8)) (Reads.room-gone 𝓤 H A y0) (
                 Relend.reads-owed-len 𝓤 H A W (Referent.rtF (Referent.fInt Syntax.w16)) (Syntax.tyRef (Syntax.named 2) Syntax.mut (Syntax.tyInt Syntax.w16)) 2 8 (Row.lease (κs .1 .1 .0) (qs .1 .1 .0)) 8
                     Path'.refl,
                 Path'.refl,
-              ) Path'.refl Path'.refl λ b o k. tt) d36
+              ) Path'.refl Path'.refl λ b o k. tt) d47
 
-          d38 : Typed.Typed 𝓤 H A 𝓣 E G57 b35 Δ1 at38
-          d38 = Typed.s-seq 𝓤 H A W 𝓣 E G57 G58 b25 b34 Δ1 (Typed.give s54) at37 (Relend.t-sl-relend 𝓤 H A W E (Referent.rtF (Referent.fInt Syntax.w16)) 𝓣 G57 3 25 2 8 (Syntax.tyRef (Syntax.named 2)
+          d49 : Typed.Typed 𝓤 H A 𝓣 E G57 b41 Δ1 at49
+          d49 = Typed.s-seq 𝓤 H A W 𝓣 E G57 G58 b25 b40 Δ1 (Typed.give s54) at48 (Relend.t-sl-relend 𝓤 H A W E (Referent.rtF (Referent.fInt Syntax.w16)) 𝓣 G57 3 25 2 8 (Syntax.tyRef (Syntax.named 2)
               Syntax.mut (Syntax.tyInt Syntax.w16)) (Syntax.tyRef Syntax.erased Syntax.mut (Syntax.tyInt Syntax.w16)) (Row.lease (κs .1 .1 .0) (qs .1 .1 .0)) 0 (λ x. x) (Reads.as-is 𝓤 H A (Mut.mslice
               (Referent.rtF (Referent.fInt Syntax.w16)) (Syntax.tyRef (Syntax.named 2) Syntax.mut (Syntax.tyInt Syntax.w16)) 2)) (Reads.room-gone 𝓤 H A (Syntax.tyRef Syntax.erased Syntax.mut (Syntax.tyInt
-              Syntax.w16))) Path'.refl tt Path'.refl Path'.refl Path'.refl λ b o. tt) d37
+              Syntax.w16))) Path'.refl tt Path'.refl Path'.refl Path'.refl λ b o. tt) d48
 
-          d39 : Typed.Typed 𝓤 H A 𝓣 E G56 b35 Δ1 at39
-          d39 = Typed.g-pre 𝓤 H A W 𝓣 E G56 G57 b35 Δ1 (λ Ψ. Ψ) at38 (Lifetime.g-begin 𝓤 H A W E G56 8
-              (tt, (tt, ((tt, tt), (tt, (tt, (tt, (tt, (tt, (tt, (tt, (tt, (tt, (tt, (tt, (tt, (tt, (tt, (tt, (tt, (tt, (tt, (tt, (tt, (tt, (tt, (tt, (tt, (tt, (tt, tt)))))))))))))))))))))))))))))) d38
+          d50 : Typed.Typed 𝓤 H A 𝓣 E G56 b41 Δ1 at50
+          d50 = Typed.g-pre 𝓤 H A W 𝓣 E G56 G57 b41 Δ1 (λ Ψ. Ψ) at49 (Lifetime.g-begin 𝓤 H A W E G56 8 (
+            tt,
+            (
+              tt,
+              (
+                (tt, tt),
+                (tt, (tt, (tt, (tt, (tt, (tt, (tt, (tt, (tt, (tt, (tt, (tt, (tt, (tt, (tt, (tt, (tt, (tt, (tt, (tt, (tt, (tt, (tt, (tt, (tt, (tt, (tt, (tt, (tt, tt))))))))))))))))))))))))))))),
+              ),
+            ),
+          )) d49
 
-          d40 : Typed.Typed 𝓤 H A 𝓣 E G55 b36 Δ1 at40
-          d40 = Typed.s-seq 𝓤 H A W 𝓣 E G55 G56 b24 b35 Δ1 (Typed.ask s52) at39 (Relend.t-sl-aggregate 𝓤 H A W E (Referent.rtF (Referent.fInt Syntax.w8)) 𝓣 (Relend.asMut (Referent.rtF (Referent.fInt
+          d51 : Typed.Typed 𝓤 H A 𝓣 E G55 b42 Δ1 at51
+          d51 = Typed.s-seq 𝓤 H A W 𝓣 E G55 G56 b24 b41 Δ1 (Typed.ask s52) at50 (Relend.t-sl-aggregate 𝓤 H A W E (Referent.rtF (Referent.fInt Syntax.w8)) 𝓣 (Relend.asMut (Referent.rtF (Referent.fInt
               Syntax.w8))) G55 23 24 7 (Syntax.tyRef Syntax.erased Syntax.mut (Syntax.tyInt Syntax.w8)) (Syntax.tyRef Syntax.erased Syntax.mut (Syntax.tyInt Syntax.w8)) (λ x. x) (Scalar.oFld 2 (List._∷_
               (Syntax.field 1) List.[]) (Syntax.tyInt Syntax.w64) 8 λ v. Shared.lenV (v .0)) (Reads.as-is 𝓤 H A (Relend.msptr (Referent.rtF (Referent.fInt Syntax.w8)) (Syntax.tyRef Syntax.erased
               Syntax.mut (Syntax.tyInt Syntax.w8)) 7)) (Reads.room-gone 𝓤 H A y1) (
                 Relend.reads-owed-len 𝓤 H A W (Referent.rtF (Referent.fInt Syntax.w8)) (Syntax.tyRef (Syntax.named 1) Syntax.mut (Syntax.tyInt Syntax.w8)) 1 7 (Row.lease (κs .1 .0) (qs .1 .0)) 8
                     Path'.refl,
                 Path'.refl,
-              ) Path'.refl Path'.refl λ b o k. tt) d39
+              ) Path'.refl Path'.refl λ b o k. tt) d50
 
-          d41 : Typed.Typed 𝓤 H A 𝓣 E G54 b37 Δ1 at41
-          d41 = Typed.s-seq 𝓤 H A W 𝓣 E G54 G55 b23 b36 Δ1 (Typed.give s51) at40 (Relend.t-sl-relend 𝓤 H A W E (Referent.rtF (Referent.fInt Syntax.w8)) 𝓣 G54 2 23 1 7 (Syntax.tyRef (Syntax.named 1)
+          d52 : Typed.Typed 𝓤 H A 𝓣 E G54 b43 Δ1 at52
+          d52 = Typed.s-seq 𝓤 H A W 𝓣 E G54 G55 b23 b42 Δ1 (Typed.give s51) at51 (Relend.t-sl-relend 𝓤 H A W E (Referent.rtF (Referent.fInt Syntax.w8)) 𝓣 G54 2 23 1 7 (Syntax.tyRef (Syntax.named 1)
               Syntax.mut (Syntax.tyInt Syntax.w8)) (Syntax.tyRef Syntax.erased Syntax.mut (Syntax.tyInt Syntax.w8)) (Row.lease (κs .1 .0) (qs .1 .0)) 0 (λ x. x) (Reads.as-is 𝓤 H A (Mut.mslice
               (Referent.rtF (Referent.fInt Syntax.w8)) (Syntax.tyRef (Syntax.named 1) Syntax.mut (Syntax.tyInt Syntax.w8)) 1)) (Reads.room-gone 𝓤 H A (Syntax.tyRef Syntax.erased Syntax.mut (Syntax.tyInt
-              Syntax.w8))) Path'.refl tt Path'.refl Path'.refl Path'.refl λ b o. tt) d40
+              Syntax.w8))) Path'.refl tt Path'.refl Path'.refl Path'.refl λ b o. tt) d51
 
-          d42 : Typed.Typed 𝓤 H A 𝓣 E G44 b37 Δ1 at42
-          d42 = Typed.g-pre 𝓤 H A W 𝓣 E G44 G54 b37 Δ1 (λ Ψ. Ψ) at41 (Lifetime.g-begin 𝓤 H A W E G44 7
-              (tt, (tt, (tt, (tt, (tt, (tt, (tt, (tt, (tt, (tt, (tt, (tt, (tt, (tt, (tt, (tt, (tt, (tt, (tt, (tt, (tt, (tt, (tt, (tt, (tt, (tt, (tt, (tt, (tt, tt)))))))))))))))))))))))))))))) d41
+          d53 : Typed.Typed 𝓤 H A 𝓣 E G43 b43 Δ1 at53
+          d53 = Typed.g-pre 𝓤 H A W 𝓣 E G43 G54 b43 Δ1 (λ Ψ. Ψ) at52 (Lifetime.g-begin 𝓤 H A W E G43 7 (
+            tt,
+            (tt, (tt, (tt, (tt, (tt, (tt, (tt, (tt, (tt, (tt, (tt, (tt, (tt, (tt, (tt, (tt, (tt, (tt, (tt, (tt, (tt, (tt, (tt, (tt, (tt, (tt, (tt, (tt, (tt, (tt, (tt, tt))))))))))))))))))))))))))))))),
+          ))
+              d52
 
-          d43 : Typed.Typed 𝓤 H A 𝓣 E G43 b38 Δ1 at43
-          d43 = Typed.t-seq 𝓤 H A W 𝓣 E G43 G44 b22 b37 Δ1 at18 at42 d18 d42
+          d54 : Typed.Typed 𝓤 H A 𝓣 E G42 b44 Δ1 at54
+          d54 = Typed.t-seq 𝓤 H A W 𝓣 E G42 G43 b22 b43 Δ1 at19 at53 d19 d53
 
-          d44 : Typed.Typed 𝓤 H A 𝓣 E G42 b39 Δ1 at44
-          d44 = Typed.s-seq 𝓤 H A W 𝓣 E G42 G43 b15 b38 Δ1 (Typed.both s40) at43 (Plain.t-call-plain 𝓤 H A W 𝓣 0 ps·2 r·2 (claims· .4) (claims· .5) "begin::is_short" (known .2) E (λ pos β. β) G42
-              (Num.vAt 20 λ x. x, (Num.vAt 10 λ x. x, tt)) 19 List.[] (Call.sub-id 𝓤 H A W (G42 .slots))
-              ((Scalar.reads-sc 𝓤 H A W (Row.sInt Syntax.w64), Path'.refl), ((Scalar.reads-sc 𝓤 H A W (Row.sInt Syntax.w64), Path'.refl), tt)) (Reads.room-gone 𝓤 H A Syntax.tyBool) tt Path'.refl) d43
+          d55 : Typed.Typed 𝓤 H A 𝓣 E G41 b45 Δ1 at55
+          d55 = Typed.s-seq 𝓤 H A W 𝓣 E G41 G42 b15 b44 Δ1 (Typed.both s39) at54 (Plain.t-call-plain 𝓤 H A W 𝓣 0 ps·2 r·2 (claims· .4) (claims· .5) "begin::is_short" (known .2) E (λ pos β. β) G41
+              (Num.vAt 20 λ x. x, (Num.vAt 10 λ x. x, tt)) 19 List.[] (Call.sub-id 𝓤 H A W (G41 .slots))
+              ((Scalar.reads-sc 𝓤 H A W (Row.sInt Syntax.w64), Path'.refl), ((Scalar.reads-sc 𝓤 H A W (Row.sInt Syntax.w64), Path'.refl), tt)) (Reads.room-gone 𝓤 H A Syntax.tyBool) tt Path'.refl) d54
 
-          d45 : Typed.Typed 𝓤 H A 𝓣 E G41 b40 Δ1 at45
-          d45 = Typed.s-seq 𝓤 H A W 𝓣 E G41 G42 b14 b39 Δ1 (Typed.pass T41 T42 s39) at44 (Scalar.t-use 𝓤 H A W E 𝓣 G41 (Scalar.oFld 2 (List._∷_ (Syntax.field 1) List.[]) (Syntax.tyInt Syntax.w64) 8
+          d56 : Typed.Typed 𝓤 H A 𝓣 E G40 b46 Δ1 at56
+          d56 = Typed.s-seq 𝓤 H A W 𝓣 E G40 G41 b14 b45 Δ1 (Typed.pass T40 T41 s38) at55 (Scalar.t-use 𝓤 H A W E 𝓣 G40 (Scalar.oFld 2 (List._∷_ (Syntax.field 1) List.[]) (Syntax.tyInt Syntax.w64) 8
               Shared.lenV) 20 (Rows.sc-here (Row.sInt Syntax.w64)) (Syntax.tyInt Syntax.w64) (Row.valS (Row.sInt Syntax.w64)) (Row.sInt Syntax.w64 .of)
               (Mut.reads-mslice-len 𝓤 H A W (Referent.rtF (Referent.fInt Syntax.w8)) (Syntax.tyRef (Syntax.named 1) Syntax.mut (Syntax.tyInt Syntax.w8)) 1 8 Path'.refl, Path'.refl) (Reads.room-gone 𝓤 H A
-              (Syntax.tyInt Syntax.w64)) (Scalar.holds-sc 𝓤 H A W (Row.sInt Syntax.w64)) Path'.refl (λ u. Path'.refl) λ u. tt) d44
+              (Syntax.tyInt Syntax.w64)) (Scalar.holds-sc 𝓤 H A W (Row.sInt Syntax.w64)) Path'.refl (λ u. Path'.refl) λ u. tt) d55
 
-          d46 : Typed.Typed 𝓤 H A 𝓣 E G40 b40 Δ1 at46
-          d46 = Typed.g-pre 𝓤 H A W 𝓣 E G40 G41 b40 Δ1 (Typed.pass T40 T41 s38) at45 (Scalar.g-room 𝓤 H A W E G40 9 y3 (Local.room-whole 𝓤 H A W (Declared'.row BitPosition.the-type) y3 Path'.refl))
-              d45
-
-          d47 : Typed.Typed 𝓤 H A 𝓣 E G39 b41 Δ1 at47
-          d47 = Typed.s-seq 𝓤 H A W 𝓣 E G39 G40 b13 b40 Δ1 (Typed.both s37) at46 (Plain.t-call-plain 𝓤 H A W 𝓣 0 ps·1 r·1 (claims· .2) (claims· .3) "block::writer::bytes_for" (known .1) E (λ pos β. β)
-              G39 (record { pos = 9; st = List.[]; d = 0; at = λ x. x }, tt) 10 List.[] (Call.sub-id 𝓤 H A W (G39 .slots)) (
+          d57 : Typed.Typed 𝓤 H A 𝓣 E G39 b47 Δ1 at57
+          d57 = Typed.s-seq 𝓤 H A W 𝓣 E G39 G40 b13 b46 Δ1 (Typed.both s37) at56 (Plain.t-call-plain 𝓤 H A W 𝓣 0 ps·1 r·1 (claims· .2) (claims· .3) "block::writer::block_length" (known .1) E (λ pos β.
+              β) G39 (record { pos = 9; st = List.[]; d = 0; at = λ x. x }, tt) 10 List.[] (Call.sub-id 𝓤 H A W (G39 .slots)) (
                 (
                   Yields.yields-copy 𝓤 H A W (λ ρ. Unit) (Declared'.row BitPosition.the-type) Path'.refl (Copies.cStruct BitPosition.the-type Laws.the-laws Laws.the-copy .copy 𝓤 H A W) (Rows.whole
                       (Declared'.row BitPosition.the-type)) (λ x. x) (λ x. x) (λ ρ told. Local.mem-whole 𝓤 H A W (Declared'.row BitPosition.the-type) ρ) λ ρ told. Local.whole-mem 𝓤 H A W (Declared'.row
@@ -2773,17 +3098,17 @@ module _ (claims· : Claims) where
                   Path'.refl,
                 ),
                 tt,
-              ) (Reads.room-gone 𝓤 H A (Syntax.tyInt Syntax.w64)) tt Path'.refl) d46
+              ) (Reads.room-gone 𝓤 H A (Syntax.tyInt Syntax.w64)) tt Path'.refl) d56
 
-          d48 : Typed.Typed 𝓤 H A 𝓣 E G38 b41 Δ1 at48
-          d48 = Typed.g-pre 𝓤 H A W 𝓣 E G38 G39 b41 Δ1 (Typed.pass T38 T39 s36) at47 (Scalar.g-room 𝓤 H A W E G38 7 (Syntax.tyEnum (List._∷_ 119 (List._∷_ 114 (List._∷_ 105 (List._∷_ 116 (List._∷_ 105
+          d58 : Typed.Typed 𝓤 H A 𝓣 E G38 b47 Δ1 at58
+          d58 = Typed.g-pre 𝓤 H A W 𝓣 E G38 G39 b47 Δ1 (Typed.pass T38 T39 s36) at57 (Scalar.g-room 𝓤 H A W E G38 7 (Syntax.tyEnum (List._∷_ 119 (List._∷_ 114 (List._∷_ 105 (List._∷_ 116 (List._∷_ 105
               (List._∷_ 110 (List._∷_ 103 (List._∷_ 58 (List._∷_ 58 (List._∷_ 80 (List._∷_ 117 (List._∷_ 116 List.[])))))))))))) (Syntax.ttcons (Syntax.tcons y3 Syntax.tnil) (Syntax.ttcons (Syntax.tcons
               (Syntax.tyInt Syntax.w64) Syntax.tnil) Syntax.ttnil))) (Local.room-whole 𝓤 H A W (Known.Known Put.enum 0) (Syntax.tyEnum (List._∷_ 119 (List._∷_ 114 (List._∷_ 105 (List._∷_ 116 (List._∷_ 105
               (List._∷_ 110 (List._∷_ 103 (List._∷_ 58 (List._∷_ 58 (List._∷_ 80 (List._∷_ 117 (List._∷_ 116 List.[])))))))))))) (Syntax.ttcons (Syntax.tcons y3 Syntax.tnil) (Syntax.ttcons (Syntax.tcons
-              (Syntax.tyInt Syntax.w64) Syntax.tnil) Syntax.ttnil))) Path'.refl)) d47
+              (Syntax.tyInt Syntax.w64) Syntax.tnil) Syntax.ttnil))) Path'.refl)) d57
 
-          d49 : Typed.Typed 𝓤 H A 𝓣 E G37 b42 Δ1 at49
-          d49 = Typed.s-seq 𝓤 H A W 𝓣 E G37 G38 b12 b41 Δ1 (Typed.pass T37 T38 s35) at48 (CopyOut.t-copy-told 𝓤 H A W E 𝓣 (Declared'.row BitPosition.the-type) Path'.refl (Laws'6.val
+          d59 : Typed.Typed 𝓤 H A 𝓣 E G37 b48 Δ1 at59
+          d59 = Typed.s-seq 𝓤 H A W 𝓣 E G37 G38 b12 b47 Δ1 (Typed.pass T37 T38 s35) at58 (CopyOut.t-copy-told 𝓤 H A W E 𝓣 (Declared'.row BitPosition.the-type) Path'.refl (Laws'6.val
               BitPosition.the-type Laws.the-laws) (Laws'6.lawful BitPosition.the-type Laws.the-laws 𝓤 H A W) (Laws'6.makes BitPosition.the-type Laws.the-plain 𝓤 H A) G37 9 (Scalar.oFld 7 (List._∷_
               (Syntax.variant 0) (List._∷_ (Syntax.field 1) List.[])) y3 8 λ v. Laws'6.val BitPosition.the-type Laws.the-laws (v .0)) (λ m. m .1 .1 .1 .1 .1 .1 .1 .0 .0) (λ m. Laws'5.Fields
               (Declared.variants Put.the-type) (Laws'5.spellss (Put.enum .parts) Laws'4.the-laws) (Put.the-type .to (Known.at Put.enum 0 (m .1 .1 .1 .1 .1 .1 .1 .0)))) (Reads.room-gone 𝓤 H A y3) (
@@ -2792,76 +3117,76 @@ module _ (claims· : Claims) where
                 Path'.refl,
               ) Path'.refl (λ ρ m. Make'.tells-row 𝓤 H A W E ρ (Row.out 9 (G37 .locals)) m 7 (Laws'5.Fields (Declared.variants Put.the-type) (Laws'5.spellss (Put.enum .parts)
               Laws'4.the-laws) (Put.the-type .to (Known.at Put.enum 0 (m .1 .1 .1 .1 .1 .1 .1 .0)))) (Known.known-is 𝓤 H A W E Put.enum 0 Laws'4.the-laws ρ 7 (m .1 .1 .1 .1 .1 .1 .1 .0))) (λ m k wa.
-              Path'.refl) λ m k wa. k .0) d48
+              Path'.refl) λ m k wa. k .0) d58
 
-          d50 : Typed.Typed 𝓤 H A 𝓣 E G36 b42 Δ1 at50
-          d50 = Typed.g-pre 𝓤 H A W 𝓣 E G36 G37 b42 Δ1 (Typed.give s34) at49 (Known.g-known-told 𝓤 H A W E Put.enum 0 G36 7 Laws'4.the-laws (λ x. x) (Reads.as-is 𝓤 H A (Rows.whole (Known.Known
-              Put.enum 0)))) d49
+          d60 : Typed.Typed 𝓤 H A 𝓣 E G36 b48 Δ1 at60
+          d60 = Typed.g-pre 𝓤 H A W 𝓣 E G36 G37 b48 Δ1 (Typed.give s34) at59 (Known.g-known-told 𝓤 H A W E Put.enum 0 G36 7 Laws'4.the-laws (λ x. x) (Reads.as-is 𝓤 H A (Rows.whole (Known.Known
+              Put.enum 0)))) d59
 
-          d51 : Typed.Typed 𝓤 H A 𝓣 E G26 b42 Δ1 at51
-          d51 = Typed.g-pre 𝓤 H A W 𝓣 E G26 G36 b42 Δ1 (Typed.both s33) at50 (Known.g-enum-known 𝓤 H A W E Put.enum 0 G26 7 (λ x. x) (Reads.as-is 𝓤 H A (Rows.whole (Declared.row Put.the-type)))) d50
+          d61 : Typed.Typed 𝓤 H A 𝓣 E G26 b48 Δ1 at61
+          d61 = Typed.g-pre 𝓤 H A W 𝓣 E G26 G36 b48 Δ1 (Typed.both s33) at60 (Known.g-enum-known 𝓤 H A W E Put.enum 0 G26 7 (λ x. x) (Reads.as-is 𝓤 H A (Rows.whole (Declared.row Put.the-type)))) d60
 
-          d52 : Typed.Typed 𝓤 H A 𝓣 E G26 b43 Δ1 at52
-          d52 = Switch.t-switch-on 𝓤 H A W E 𝓣 G26 (Scalar.oFld 7 (List._∷_ (Syntax.variant 0) (List._∷_ (Syntax.field 0) List.[])) (Syntax.tyInt Syntax.w8) 0 λ x. Val.vint Syntax.w8 (Declared.tagOf
-              Put.the-type x)) Syntax.w8 (λ u. Declared.tagOf Put.the-type (u .1 .1 .1 .1 .1 .1 .1 .0)) (Syntax.arm (List._∷_ 1 List.[]) b11 (Syntax.arm (List._∷_ 0 List.[]) b42 Syntax.noDefault)) Δ1
-              (at6, (at51, tt))
+          d62 : Typed.Typed 𝓤 H A 𝓣 E G26 b49 Δ1 at62
+          d62 = Switch.t-switch-on 𝓤 H A W E 𝓣 G26 (Scalar.oFld 7 (List._∷_ (Syntax.variant 0) (List._∷_ (Syntax.field 0) List.[])) (Syntax.tyInt Syntax.w8) 0 λ x. Val.vint Syntax.w8 (Declared.tagOf
+              Put.the-type x)) Syntax.w8 (λ u. Declared.tagOf Put.the-type (u .1 .1 .1 .1 .1 .1 .1 .0)) (Syntax.arm (List._∷_ 1 List.[]) b11 (Syntax.arm (List._∷_ 0 List.[]) b48 Syntax.noDefault)) Δ1
+              (at6, (at61, tt))
               (Match.reads-tag 𝓤 H A W Put.the-type Laws'4.the-laws (Rows.whole (Declared.row Put.the-type)) 0 (λ x. x) (Whole.reads-enum 𝓤 H A W Put.the-type Laws'4.the-laws), Path'.refl) (λ u.
-              Path'.refl) (d6, (d51, tt))
+              Path'.refl) (d6, (d61, tt))
 
-          d53 : Typed.Typed 𝓤 H A 𝓣 E G25 b43 Δ1 at53
-          d53 = Typed.g-pre 𝓤 H A W 𝓣 E G25 G26 b43 Δ1 (λ Ψ. Ψ) at52 (Lifetime.g-forget 𝓤 H A W E G25 6 Row.dead Path'.refl) d52
+          d63 : Typed.Typed 𝓤 H A 𝓣 E G25 b49 Δ1 at63
+          d63 = Typed.g-pre 𝓤 H A W 𝓣 E G25 G26 b49 Δ1 (λ Ψ. Ψ) at62 (Lifetime.g-forget 𝓤 H A W E G25 6 Row.dead Path'.refl) d62
 
-          d54 : Typed.Typed 𝓤 H A 𝓣 E G24 b43 Δ1 at54
-          d54 = Typed.g-pre 𝓤 H A W 𝓣 E G24 G25 b43 Δ1 (Typed.both s22) at53 (Relend.g-back-sl 𝓤 H A W E (Element.type) G24 16 4 3 6 (Syntax.tyRef (Syntax.named 3) Syntax.mut Element.behind)
+          d64 : Typed.Typed 𝓤 H A 𝓣 E G24 b49 Δ1 at64
+          d64 = Typed.g-pre 𝓤 H A W 𝓣 E G24 G25 b49 Δ1 (Typed.both s22) at63 (Relend.g-back-sl 𝓤 H A W E (Element.type) G24 16 4 3 6 (Syntax.tyRef (Syntax.named 3) Syntax.mut Element.behind)
               (Syntax.tyRef Syntax.erased Syntax.mut Element.behind) (Row.lease (κs .1 .1 .1 .0) (qs .1 .1 .1 .0)) (λ x. x) (λ x. x) (Reads.as-is 𝓤 H A (Mut.msleft (Element.type) (Syntax.tyRef
               Syntax.erased Syntax.mut Element.behind))) (Reads.as-is 𝓤 H A (Relend.mslice-owed (Element.type) (Syntax.tyRef (Syntax.named 3) Syntax.mut Element.behind) 3 6 (Row.lease (κs .1 .1 .1 .0) (qs
-              .1 .1 .1 .0)))) Path'.refl Path'.refl) d53
+              .1 .1 .1 .0)))) Path'.refl Path'.refl) d63
 
-          d55 : Typed.Typed 𝓤 H A 𝓣 E G23 b43 Δ1 at55
-          d55 = Typed.g-pre 𝓤 H A W 𝓣 E G23 G24 b43 Δ1 (λ Ψ. Ψ) at54 (Lifetime.g-end 𝓤 H A W E G23 6 Path'.refl) d54
+          d65 : Typed.Typed 𝓤 H A 𝓣 E G23 b49 Δ1 at65
+          d65 = Typed.g-pre 𝓤 H A W 𝓣 E G23 G24 b49 Δ1 (λ Ψ. Ψ) at64 (Lifetime.g-end 𝓤 H A W E G23 6 Path'.refl) d64
 
-          d56 : Typed.Typed 𝓤 H A 𝓣 E G22 b43 Δ1 at56
-          d56 = Typed.g-pre 𝓤 H A W 𝓣 E G22 G23 b43 Δ1 (λ Ψ. Ψ) at55 (Lifetime.g-forget 𝓤 H A W E G22 5 Row.dead Path'.refl) d55
+          d66 : Typed.Typed 𝓤 H A 𝓣 E G22 b49 Δ1 at66
+          d66 = Typed.g-pre 𝓤 H A W 𝓣 E G22 G23 b49 Δ1 (λ Ψ. Ψ) at65 (Lifetime.g-forget 𝓤 H A W E G22 5 Row.dead Path'.refl) d65
 
-          d57 : Typed.Typed 𝓤 H A 𝓣 E G21 b43 Δ1 at57
-          d57 = Typed.g-pre 𝓤 H A W 𝓣 E G21 G22 b43 Δ1 (Typed.give s19) at56 (Know.g-sl-known 𝓤 H A W (Referent.fInt Syntax.w16) E G21 3 2 (Syntax.tyRef (Syntax.named 2) Syntax.mut (Syntax.tyInt
+          d67 : Typed.Typed 𝓤 H A 𝓣 E G21 b49 Δ1 at67
+          d67 = Typed.g-pre 𝓤 H A W 𝓣 E G21 G22 b49 Δ1 (Typed.give s19) at66 (Know.g-sl-known 𝓤 H A W (Referent.fInt Syntax.w16) E G21 3 2 (Syntax.tyRef (Syntax.named 2) Syntax.mut (Syntax.tyInt
               Syntax.w16)) (Row.lease (κs .1 .1 .0) (qs .1 .1 .0)) 0 (λ x. x) record { fits = Dec'.lit< tt } (Reads.as-is 𝓤 H A (Mut.mslice (Referent.rtF (Referent.fInt Syntax.w16)) (Syntax.tyRef
-              (Syntax.named 2) Syntax.mut (Syntax.tyInt Syntax.w16)) 2)) Path'.refl tt) d56
+              (Syntax.named 2) Syntax.mut (Syntax.tyInt Syntax.w16)) 2)) Path'.refl tt) d66
 
-          d58 : Typed.Typed 𝓤 H A 𝓣 E G20 b43 Δ1 at58
-          d58 = Typed.g-pre 𝓤 H A W 𝓣 E G20 G21 b43 Δ1 (Typed.both s18) at57 (Relend.g-back-sl 𝓤 H A W E (Referent.rtF (Referent.fInt Syntax.w16)) G20 14 3 2 5 (Syntax.tyRef (Syntax.named 2)
+          d68 : Typed.Typed 𝓤 H A 𝓣 E G20 b49 Δ1 at68
+          d68 = Typed.g-pre 𝓤 H A W 𝓣 E G20 G21 b49 Δ1 (Typed.both s18) at67 (Relend.g-back-sl 𝓤 H A W E (Referent.rtF (Referent.fInt Syntax.w16)) G20 14 3 2 5 (Syntax.tyRef (Syntax.named 2)
               Syntax.mut (Syntax.tyInt Syntax.w16)) (Syntax.tyRef Syntax.erased Syntax.mut (Syntax.tyInt Syntax.w16)) (Row.lease (κs .1 .1 .0) (qs .1 .1 .0)) (λ x. x) (λ x. x) (Reads.as-is 𝓤 H A
               (Mut.msleft (Referent.rtF (Referent.fInt Syntax.w16)) (Syntax.tyRef Syntax.erased Syntax.mut (Syntax.tyInt Syntax.w16)))) (Reads.as-is 𝓤 H A (Relend.mslice-owed (Referent.rtF (Referent.fInt
-              Syntax.w16)) (Syntax.tyRef (Syntax.named 2) Syntax.mut (Syntax.tyInt Syntax.w16)) 2 5 (Row.lease (κs .1 .1 .0) (qs .1 .1 .0)))) Path'.refl Path'.refl) d57
+              Syntax.w16)) (Syntax.tyRef (Syntax.named 2) Syntax.mut (Syntax.tyInt Syntax.w16)) 2 5 (Row.lease (κs .1 .1 .0) (qs .1 .1 .0)))) Path'.refl Path'.refl) d67
 
-          d59 : Typed.Typed 𝓤 H A 𝓣 E G19 b43 Δ1 at59
-          d59 = Typed.g-pre 𝓤 H A W 𝓣 E G19 G20 b43 Δ1 (λ Ψ. Ψ) at58 (Lifetime.g-end 𝓤 H A W E G19 5 Path'.refl) d58
+          d69 : Typed.Typed 𝓤 H A 𝓣 E G19 b49 Δ1 at69
+          d69 = Typed.g-pre 𝓤 H A W 𝓣 E G19 G20 b49 Δ1 (λ Ψ. Ψ) at68 (Lifetime.g-end 𝓤 H A W E G19 5 Path'.refl) d68
 
-          d60 : Typed.Typed 𝓤 H A 𝓣 E G18 b43 Δ1 at60
-          d60 = Typed.g-pre 𝓤 H A W 𝓣 E G18 G19 b43 Δ1 (λ Ψ. Ψ) at59 (Lifetime.g-forget 𝓤 H A W E G18 4 Row.dead Path'.refl) d59
+          d70 : Typed.Typed 𝓤 H A 𝓣 E G18 b49 Δ1 at70
+          d70 = Typed.g-pre 𝓤 H A W 𝓣 E G18 G19 b49 Δ1 (λ Ψ. Ψ) at69 (Lifetime.g-forget 𝓤 H A W E G18 4 Row.dead Path'.refl) d69
 
-          d61 : Typed.Typed 𝓤 H A 𝓣 E G17 b43 Δ1 at61
-          d61 = Typed.g-pre 𝓤 H A W 𝓣 E G17 G18 b43 Δ1 (Typed.give s15) at60 (Know.g-sl-known 𝓤 H A W (Referent.fInt Syntax.w8) E G17 2 1 (Syntax.tyRef (Syntax.named 1) Syntax.mut (Syntax.tyInt
+          d71 : Typed.Typed 𝓤 H A 𝓣 E G17 b49 Δ1 at71
+          d71 = Typed.g-pre 𝓤 H A W 𝓣 E G17 G18 b49 Δ1 (Typed.give s15) at70 (Know.g-sl-known 𝓤 H A W (Referent.fInt Syntax.w8) E G17 2 1 (Syntax.tyRef (Syntax.named 1) Syntax.mut (Syntax.tyInt
               Syntax.w8)) (Row.lease (κs .1 .0) (qs .1 .0)) 0 (λ x. x) record { fits = Dec'.lit< tt } (Reads.as-is 𝓤 H A (Mut.mslice (Referent.rtF (Referent.fInt Syntax.w8)) (Syntax.tyRef (Syntax.named 1)
-              Syntax.mut (Syntax.tyInt Syntax.w8)) 1)) Path'.refl tt) d60
+              Syntax.mut (Syntax.tyInt Syntax.w8)) 1)) Path'.refl tt) d70
 
-          d62 : Typed.Typed 𝓤 H A 𝓣 E G16 b43 Δ1 at62
-          d62 = Typed.g-pre 𝓤 H A W 𝓣 E G16 G17 b43 Δ1 (Typed.both s14) at61 (Relend.g-back-sl 𝓤 H A W E (Referent.rtF (Referent.fInt Syntax.w8)) G16 12 2 1 4 (Syntax.tyRef (Syntax.named 1) Syntax.mut
+          d72 : Typed.Typed 𝓤 H A 𝓣 E G16 b49 Δ1 at72
+          d72 = Typed.g-pre 𝓤 H A W 𝓣 E G16 G17 b49 Δ1 (Typed.both s14) at71 (Relend.g-back-sl 𝓤 H A W E (Referent.rtF (Referent.fInt Syntax.w8)) G16 12 2 1 4 (Syntax.tyRef (Syntax.named 1) Syntax.mut
               (Syntax.tyInt Syntax.w8)) (Syntax.tyRef Syntax.erased Syntax.mut (Syntax.tyInt Syntax.w8)) (Row.lease (κs .1 .0) (qs .1 .0)) (λ x. x) (λ x. x) (Reads.as-is 𝓤 H A (Mut.msleft (Referent.rtF
               (Referent.fInt Syntax.w8)) (Syntax.tyRef Syntax.erased Syntax.mut (Syntax.tyInt Syntax.w8)))) (Reads.as-is 𝓤 H A (Relend.mslice-owed (Referent.rtF (Referent.fInt Syntax.w8)) (Syntax.tyRef
-              (Syntax.named 1) Syntax.mut (Syntax.tyInt Syntax.w8)) 1 4 (Row.lease (κs .1 .0) (qs .1 .0)))) Path'.refl Path'.refl) d61
+              (Syntax.named 1) Syntax.mut (Syntax.tyInt Syntax.w8)) 1 4 (Row.lease (κs .1 .0) (qs .1 .0)))) Path'.refl Path'.refl) d71
 
-          d63 : Typed.Typed 𝓤 H A 𝓣 E G14 b43 Δ1 at63
-          d63 = Typed.g-pre 𝓤 H A W 𝓣 E G14 G16 b43 Δ1 (λ Ψ. Ψ) at62 (Lifetime.g-end 𝓤 H A W E G14 4 Path'.refl) d62
+          d73 : Typed.Typed 𝓤 H A 𝓣 E G14 b49 Δ1 at73
+          d73 = Typed.g-pre 𝓤 H A W 𝓣 E G14 G16 b49 Δ1 (λ Ψ. Ψ) at72 (Lifetime.g-end 𝓤 H A W E G14 4 Path'.refl) d72
 
-          d64 : Typed.Typed 𝓤 H A 𝓣 E G81 b45 Δ0 at64
-          d64 = Typed.t-return 𝓤 H A W 𝓣 E Δ0 tt
+          d74 : Typed.Typed 𝓤 H A 𝓣 E G91 b51 Δ0 at74
+          d74 = Typed.t-return 𝓤 H A W 𝓣 E Δ0 tt
 
-          d65 : Typed.Typed 𝓤 H A 𝓣 E G80 b45 Δ0 at65
-          d65 = Typed.g-pre 𝓤 H A W 𝓣 E G80 G81 b45 Δ0 (Typed.pass T80 T81 s77) at64 (Scalar.g-room 𝓤 H A W E G80 6 (Syntax.tyInt Syntax.w64) (Scalar.room-sc 𝓤 H A W (Row.sInt Syntax.w64))) d64
+          d75 : Typed.Typed 𝓤 H A 𝓣 E G90 b51 Δ0 at75
+          d75 = Typed.g-pre 𝓤 H A W 𝓣 E G90 G91 b51 Δ0 (Typed.pass T90 T91 s87) at74 (Scalar.g-room 𝓤 H A W E G90 6 (Syntax.tyInt Syntax.w64) (Scalar.room-sc 𝓤 H A W (Row.sInt Syntax.w64))) d74
 
-          d66 : Typed.Typed 𝓤 H A 𝓣 E G79 b45 Δ0 at66
-          d66 = Typed.g-pre 𝓤 H A W 𝓣 E G79 G80 b45 Δ0 (Typed.pass T79 T80 s76) at65 (Scalar.g-room 𝓤 H A W E G79 17 (Syntax.tyEnum (List._∷_ 98 (List._∷_ 108 (List._∷_ 111 (List._∷_ 99 (List._∷_ 107
+          d76 : Typed.Typed 𝓤 H A 𝓣 E G89 b51 Δ0 at76
+          d76 = Typed.g-pre 𝓤 H A W 𝓣 E G89 G90 b51 Δ0 (Typed.pass T89 T90 s86) at75 (Scalar.g-room 𝓤 H A W E G89 17 (Syntax.tyEnum (List._∷_ 98 (List._∷_ 108 (List._∷_ 111 (List._∷_ 99 (List._∷_ 107
               (List._∷_ 58 (List._∷_ 58 (List._∷_ 87 (List._∷_ 114 (List._∷_ 105 (List._∷_ 116 (List._∷_ 116 (List._∷_ 101 (List._∷_ 110 List.[])))))))))))))) (Syntax.ttcons (Syntax.tcons (Syntax.tyInt
               Syntax.w64) Syntax.tnil) (Syntax.ttcons (Syntax.tcons (Syntax.tyEnum (List._∷_ 115 (List._∷_ 116 (List._∷_ 114 (List._∷_ 101 (List._∷_ 97 (List._∷_ 109 (List._∷_ 58 (List._∷_ 58 (List._∷_ 82
               (List._∷_ 101 (List._∷_ 102 (List._∷_ 117 (List._∷_ 115 (List._∷_ 97 (List._∷_ 108 List.[]))))))))))))))) (Syntax.ttcons Syntax.tnil (Syntax.ttcons Syntax.tnil (Syntax.ttcons Syntax.tnil
@@ -2878,10 +3203,10 @@ module _ (claims· : Claims) where
               (Syntax.tyInt Syntax.w64) Syntax.tnil) (Syntax.ttcons (Syntax.tcons (Syntax.tyInt Syntax.w64) Syntax.tnil) (Syntax.ttcons Syntax.tnil (Syntax.ttcons (Syntax.tcons (Syntax.tyInt Syntax.w64)
               (Syntax.tcons (Syntax.tyInt Syntax.w64) Syntax.tnil)) (Syntax.ttcons (Syntax.tcons (Syntax.tyInt Syntax.w64) Syntax.tnil) (Syntax.ttcons Syntax.tnil (Syntax.ttcons Syntax.tnil (Syntax.ttcons
               (Syntax.tcons (Syntax.tyInt Syntax.w64) Syntax.tnil) (Syntax.ttcons (Syntax.tcons (Syntax.tyInt Syntax.w64) Syntax.tnil) (Syntax.ttcons (Syntax.tcons (Syntax.tyInt Syntax.w64) Syntax.tnil)
-              (Syntax.ttcons Syntax.tnil Syntax.ttnil)))))))))))))))))))))) Syntax.tnil) Syntax.ttnil))) Path'.refl)) d65
+              (Syntax.ttcons Syntax.tnil Syntax.ttnil)))))))))))))))))))))) Syntax.tnil) Syntax.ttnil))) Path'.refl)) d75
 
-          d67 : Typed.Typed 𝓤 H A 𝓣 E G15 b46 Δ0 at67
-          d67 = Typed.s-seq 𝓤 H A W 𝓣 E G15 G79 b44 b45 Δ0 (Typed.pass T15 T79 s75) at66 (LocalCopy.t-val-copy 𝓤 H A W E 𝓣 (λ ρ. Unit) G15 17 0 (Declared.row Written.the-type) (Syntax.tyEnum (List._∷_
+          d77 : Typed.Typed 𝓤 H A 𝓣 E G15 b52 Δ0 at77
+          d77 = Typed.s-seq 𝓤 H A W 𝓣 E G15 G89 b50 b51 Δ0 (Typed.pass T15 T89 s85) at76 (LocalCopy.t-val-copy 𝓤 H A W E 𝓣 (λ ρ. Unit) G15 17 0 (Declared.row Written.the-type) (Syntax.tyEnum (List._∷_
               98 (List._∷_ 108 (List._∷_ 111 (List._∷_ 99 (List._∷_ 107 (List._∷_ 58 (List._∷_ 58 (List._∷_ 87 (List._∷_ 114 (List._∷_ 105 (List._∷_ 116 (List._∷_ 116 (List._∷_ 101 (List._∷_ 110
               List.[])))))))))))))) (Syntax.ttcons (Syntax.tcons (Syntax.tyInt Syntax.w64) Syntax.tnil) (Syntax.ttcons (Syntax.tcons (Syntax.tyEnum (List._∷_ 115 (List._∷_ 116 (List._∷_ 114 (List._∷_ 101
               (List._∷_ 97 (List._∷_ 109 (List._∷_ 58 (List._∷_ 58 (List._∷_ 82 (List._∷_ 101 (List._∷_ 102 (List._∷_ 117 (List._∷_ 115 (List._∷_ 97 (List._∷_ 108 List.[]))))))))))))))) (Syntax.ttcons
@@ -2911,13 +3236,13 @@ module _ (claims· : Claims) where
               (Syntax.tyInt Syntax.w64) Syntax.tnil) (Syntax.ttcons Syntax.tnil (Syntax.ttcons Syntax.tnil (Syntax.ttcons (Syntax.tcons (Syntax.tyInt Syntax.w64) Syntax.tnil) (Syntax.ttcons (Syntax.tcons
               (Syntax.tyInt Syntax.w64) Syntax.tnil) (Syntax.ttcons (Syntax.tcons (Syntax.tyInt Syntax.w64) Syntax.tnil) (Syntax.ttcons Syntax.tnil Syntax.ttnil)))))))))))))))))))))) Syntax.tnil)
               Syntax.ttnil)))) (Yields.makes-mem 𝓤 H A W (λ ρ. Unit) (Declared.row Written.the-type) Path'.refl (Rows.whole (Declared.row Written.the-type)) (λ x. x) λ ρ told. Local.whole-mem 𝓤 H A W
-              (Declared.row Written.the-type) ρ) Path'.refl Path'.refl) d66
+              (Declared.row Written.the-type) ρ) Path'.refl Path'.refl) d76
 
-          d68 : Typed.Typed 𝓤 H A 𝓣 E G14 b47 Δ0 at68
-          d68 = Typed.t-seq 𝓤 H A W 𝓣 E G14 G15 b43 b46 Δ0 at63 at67 d63 d67
+          d78 : Typed.Typed 𝓤 H A 𝓣 E G14 b53 Δ0 at78
+          d78 = Typed.t-seq 𝓤 H A W 𝓣 E G14 G15 b49 b52 Δ0 at73 at77 d73 d77
 
-          d69 : Typed.Typed 𝓤 H A 𝓣 E G13 b48 Δ0 at69
-          d69 = Typed.s-seq 𝓤 H A W 𝓣 E G13 G14 b6 b47 Δ0 (Typed.both s12) at68 (Plain.t-call-plain 𝓤 H A W 𝓣 4 ps·0 r·0 (claims· .0) (claims· .1) "block::writer::write_walk" (known .0) E (λ pos β. β)
+          d79 : Typed.Typed 𝓤 H A 𝓣 E G13 b54 Δ0 at79
+          d79 = Typed.s-seq 𝓤 H A W 𝓣 E G13 G14 b6 b53 Δ0 (Typed.both s12) at78 (Plain.t-call-plain 𝓤 H A W 𝓣 4 ps·0 r·0 (claims· .0) (claims· .1) "block::writer::write_walk" (known .0) E (λ pos β. β)
               G13 (
                 record { pos = 1; ty = Syntax.tyRef (Syntax.named 0) Syntax.imm (Syntax.tyInt Syntax.w16); ref = λ x. x },
                 (
@@ -2967,82 +3292,100 @@ module _ (claims· : Claims) where
                 ),
               ) (Reads.room-gone 𝓤 H A (Syntax.tyEnum (List._∷_ 119 (List._∷_ 114 (List._∷_ 105 (List._∷_ 116 (List._∷_ 105 (List._∷_
               110 (List._∷_ 103 (List._∷_ 58 (List._∷_ 58 (List._∷_ 80 (List._∷_ 117 (List._∷_ 116 List.[])))))))))))) (Syntax.ttcons (Syntax.tcons y3 Syntax.tnil) (Syntax.ttcons (Syntax.tcons
-              (Syntax.tyInt Syntax.w64) Syntax.tnil) Syntax.ttnil)))) (tt, (tt, (tt, (tt, tt)))) Path'.refl) d68
+              (Syntax.tyInt Syntax.w64) Syntax.tnil) Syntax.ttnil)))) (tt, (tt, (tt, (tt, tt)))) Path'.refl) d78
 
-          d70 : Typed.Typed 𝓤 H A 𝓣 E G12 b49 Δ0 at70
-          d70 = Typed.s-seq 𝓤 H A W 𝓣 E G12 G13 b5 b48 Δ0 (Typed.ask s11) at69 (Relend.t-sl-aggregate 𝓤 H A W E (Element.type) 𝓣 (Relend.asMut (Element.type)) G12 15 16 6 (Syntax.tyRef Syntax.erased
+          d80 : Typed.Typed 𝓤 H A 𝓣 E G12 b55 Δ0 at80
+          d80 = Typed.s-seq 𝓤 H A W 𝓣 E G12 G13 b5 b54 Δ0 (Typed.ask s11) at79 (Relend.t-sl-aggregate 𝓤 H A W E (Element.type) 𝓣 (Relend.asMut (Element.type)) G12 15 16 6 (Syntax.tyRef Syntax.erased
               Syntax.mut Element.behind) (Syntax.tyRef Syntax.erased Syntax.mut Element.behind) (λ x. x) (Scalar.oFld 4 (List._∷_ (Syntax.field 1) List.[]) (Syntax.tyInt Syntax.w64) 8 λ v. Shared.lenV (v
               .0)) (Reads.as-is 𝓤 H A (Relend.msptr (Element.type) (Syntax.tyRef Syntax.erased Syntax.mut Element.behind) 6)) (Reads.room-gone 𝓤 H A y2)
               (Relend.reads-owed-len 𝓤 H A W (Element.type) (Syntax.tyRef (Syntax.named 3) Syntax.mut Element.behind) 3 6 (Row.lease (κs .1 .1 .1 .0) (qs .1 .1 .1 .0)) 8 Path'.refl, Path'.refl) Path'.refl
-              Path'.refl λ b o k. tt) d69
+              Path'.refl λ b o k. tt) d79
 
-          d71 : Typed.Typed 𝓤 H A 𝓣 E G11 b50 Δ0 at71
-          d71 = Typed.s-seq 𝓤 H A W 𝓣 E G11 G12 b4 b49 Δ0 (Typed.give s10) at70 (Relend.t-sl-relend 𝓤 H A W E (Element.type) 𝓣 G11 4 15 3 6 (Syntax.tyRef (Syntax.named 3) Syntax.mut Element.behind)
+          d81 : Typed.Typed 𝓤 H A 𝓣 E G11 b56 Δ0 at81
+          d81 = Typed.s-seq 𝓤 H A W 𝓣 E G11 G12 b4 b55 Δ0 (Typed.give s10) at80 (Relend.t-sl-relend 𝓤 H A W E (Element.type) 𝓣 G11 4 15 3 6 (Syntax.tyRef (Syntax.named 3) Syntax.mut Element.behind)
               (Syntax.tyRef Syntax.erased Syntax.mut Element.behind) (Row.lease (κs .1 .1 .1 .0) (qs .1 .1 .1 .0)) 0 (λ x. x) (Reads.as-is 𝓤 H A (Mut.mslice (Element.type) (Syntax.tyRef (Syntax.named 3)
-              Syntax.mut Element.behind) 3)) (Reads.room-gone 𝓤 H A (Syntax.tyRef Syntax.erased Syntax.mut Element.behind)) Path'.refl tt Path'.refl Path'.refl Path'.refl λ b o. tt) d70
+              Syntax.mut Element.behind) 3)) (Reads.room-gone 𝓤 H A (Syntax.tyRef Syntax.erased Syntax.mut Element.behind)) Path'.refl tt Path'.refl Path'.refl Path'.refl λ b o. tt) d80
 
-          d72 : Typed.Typed 𝓤 H A 𝓣 E G10 b50 Δ0 at72
-          d72 = Typed.g-pre 𝓤 H A W 𝓣 E G10 G11 b50 Δ0 (λ Ψ. Ψ) at71 (Lifetime.g-begin 𝓤 H A W E G10 6
-              (tt, (tt, ((tt, tt), ((tt, tt), (tt, (tt, (tt, (tt, (tt, (tt, (tt, (tt, (tt, (tt, (tt, (tt, (tt, (tt, (tt, (tt, (tt, (tt, (tt, (tt, (tt, (tt, (tt, (tt, (tt, tt))))))))))))))))))))))))))))))
-              d71
+          d82 : Typed.Typed 𝓤 H A 𝓣 E G10 b56 Δ0 at82
+          d82 = Typed.g-pre 𝓤 H A W 𝓣 E G10 G11 b56 Δ0 (λ Ψ. Ψ) at81 (Lifetime.g-begin 𝓤 H A W E G10 6 (
+            tt,
+            (
+              tt,
+              (
+                (tt, tt),
+                ((tt, tt), (tt, (tt, (tt, (tt, (tt, (tt, (tt, (tt, (tt, (tt, (tt, (tt, (tt, (tt, (tt, (tt, (tt, (tt, (tt, (tt, (tt, (tt, (tt, (tt, (tt, (tt, (tt, (tt, tt))))))))))))))))))))))))))))),
+              ),
+            ),
+          )) d81
 
-          d73 : Typed.Typed 𝓤 H A 𝓣 E G9 b51 Δ0 at73
-          d73 = Typed.s-seq 𝓤 H A W 𝓣 E G9 G10 b3 b50 Δ0 (Typed.ask s8) at72 (Relend.t-sl-aggregate 𝓤 H A W E (Referent.rtF (Referent.fInt Syntax.w16)) 𝓣 (Relend.asMut (Referent.rtF (Referent.fInt
+          d83 : Typed.Typed 𝓤 H A 𝓣 E G9 b57 Δ0 at83
+          d83 = Typed.s-seq 𝓤 H A W 𝓣 E G9 G10 b3 b56 Δ0 (Typed.ask s8) at82 (Relend.t-sl-aggregate 𝓤 H A W E (Referent.rtF (Referent.fInt Syntax.w16)) 𝓣 (Relend.asMut (Referent.rtF (Referent.fInt
               Syntax.w16))) G9 13 14 5 (Syntax.tyRef Syntax.erased Syntax.mut (Syntax.tyInt Syntax.w16)) (Syntax.tyRef Syntax.erased Syntax.mut (Syntax.tyInt Syntax.w16)) (λ x. x) (Scalar.oFld 3 (List._∷_
               (Syntax.field 1) List.[]) (Syntax.tyInt Syntax.w64) 8 λ v. Shared.lenV (v .0)) (Reads.as-is 𝓤 H A (Relend.msptr (Referent.rtF (Referent.fInt Syntax.w16)) (Syntax.tyRef Syntax.erased
               Syntax.mut (Syntax.tyInt Syntax.w16)) 5)) (Reads.room-gone 𝓤 H A y0) (
                 Relend.reads-owed-len 𝓤 H A W (Referent.rtF (Referent.fInt Syntax.w16)) (Syntax.tyRef (Syntax.named 2) Syntax.mut (Syntax.tyInt Syntax.w16)) 2 5 (Row.lease (κs .1 .1 .0) (qs .1 .1 .0)) 8
                     Path'.refl,
                 Path'.refl,
-              ) Path'.refl Path'.refl λ b o k. tt) d72
+              ) Path'.refl Path'.refl λ b o k. tt) d82
 
-          d74 : Typed.Typed 𝓤 H A 𝓣 E G8 b52 Δ0 at74
-          d74 = Typed.s-seq 𝓤 H A W 𝓣 E G8 G9 b2 b51 Δ0 (Typed.give s7) at73 (Relend.t-sl-relend 𝓤 H A W E (Referent.rtF (Referent.fInt Syntax.w16)) 𝓣 G8 3 13 2 5 (Syntax.tyRef (Syntax.named 2)
+          d84 : Typed.Typed 𝓤 H A 𝓣 E G8 b58 Δ0 at84
+          d84 = Typed.s-seq 𝓤 H A W 𝓣 E G8 G9 b2 b57 Δ0 (Typed.give s7) at83 (Relend.t-sl-relend 𝓤 H A W E (Referent.rtF (Referent.fInt Syntax.w16)) 𝓣 G8 3 13 2 5 (Syntax.tyRef (Syntax.named 2)
               Syntax.mut (Syntax.tyInt Syntax.w16)) (Syntax.tyRef Syntax.erased Syntax.mut (Syntax.tyInt Syntax.w16)) (Row.lease (κs .1 .1 .0) (qs .1 .1 .0)) 0 (λ x. x) (Reads.as-is 𝓤 H A (Mut.mslice
               (Referent.rtF (Referent.fInt Syntax.w16)) (Syntax.tyRef (Syntax.named 2) Syntax.mut (Syntax.tyInt Syntax.w16)) 2)) (Reads.room-gone 𝓤 H A (Syntax.tyRef Syntax.erased Syntax.mut (Syntax.tyInt
-              Syntax.w16))) Path'.refl tt Path'.refl Path'.refl Path'.refl λ b o. tt) d73
+              Syntax.w16))) Path'.refl tt Path'.refl Path'.refl Path'.refl λ b o. tt) d83
 
-          d75 : Typed.Typed 𝓤 H A 𝓣 E G7 b52 Δ0 at75
-          d75 = Typed.g-pre 𝓤 H A W 𝓣 E G7 G8 b52 Δ0 (λ Ψ. Ψ) at74 (Lifetime.g-begin 𝓤 H A W E G7 5
-              (tt, (tt, ((tt, tt), (tt, (tt, (tt, (tt, (tt, (tt, (tt, (tt, (tt, (tt, (tt, (tt, (tt, (tt, (tt, (tt, (tt, (tt, (tt, (tt, (tt, (tt, (tt, (tt, (tt, (tt, tt)))))))))))))))))))))))))))))) d74
+          d85 : Typed.Typed 𝓤 H A 𝓣 E G7 b58 Δ0 at85
+          d85 = Typed.g-pre 𝓤 H A W 𝓣 E G7 G8 b58 Δ0 (λ Ψ. Ψ) at84 (Lifetime.g-begin 𝓤 H A W E G7 5 (
+            tt,
+            (
+              tt,
+              (
+                (tt, tt),
+                (tt, (tt, (tt, (tt, (tt, (tt, (tt, (tt, (tt, (tt, (tt, (tt, (tt, (tt, (tt, (tt, (tt, (tt, (tt, (tt, (tt, (tt, (tt, (tt, (tt, (tt, (tt, (tt, (tt, tt))))))))))))))))))))))))))))),
+              ),
+            ),
+          )) d84
 
-          d76 : Typed.Typed 𝓤 H A 𝓣 E G6 b53 Δ0 at76
-          d76 = Typed.s-seq 𝓤 H A W 𝓣 E G6 G7 b1 b52 Δ0 (Typed.ask s5) at75 (Relend.t-sl-aggregate 𝓤 H A W E (Referent.rtF (Referent.fInt Syntax.w8)) 𝓣 (Relend.asMut (Referent.rtF (Referent.fInt
+          d86 : Typed.Typed 𝓤 H A 𝓣 E G6 b59 Δ0 at86
+          d86 = Typed.s-seq 𝓤 H A W 𝓣 E G6 G7 b1 b58 Δ0 (Typed.ask s5) at85 (Relend.t-sl-aggregate 𝓤 H A W E (Referent.rtF (Referent.fInt Syntax.w8)) 𝓣 (Relend.asMut (Referent.rtF (Referent.fInt
               Syntax.w8))) G6 11 12 4 (Syntax.tyRef Syntax.erased Syntax.mut (Syntax.tyInt Syntax.w8)) (Syntax.tyRef Syntax.erased Syntax.mut (Syntax.tyInt Syntax.w8)) (λ x. x) (Scalar.oFld 2 (List._∷_
               (Syntax.field 1) List.[]) (Syntax.tyInt Syntax.w64) 8 λ v. Shared.lenV (v .0)) (Reads.as-is 𝓤 H A (Relend.msptr (Referent.rtF (Referent.fInt Syntax.w8)) (Syntax.tyRef Syntax.erased
               Syntax.mut (Syntax.tyInt Syntax.w8)) 4)) (Reads.room-gone 𝓤 H A y1) (
                 Relend.reads-owed-len 𝓤 H A W (Referent.rtF (Referent.fInt Syntax.w8)) (Syntax.tyRef (Syntax.named 1) Syntax.mut (Syntax.tyInt Syntax.w8)) 1 4 (Row.lease (κs .1 .0) (qs .1 .0)) 8
                     Path'.refl,
                 Path'.refl,
-              ) Path'.refl Path'.refl λ b o k. tt) d75
+              ) Path'.refl Path'.refl λ b o k. tt) d85
 
-          d77 : Typed.Typed 𝓤 H A 𝓣 E G5 b54 Δ0 at77
-          d77 = Typed.s-seq 𝓤 H A W 𝓣 E G5 G6 b0 b53 Δ0 (Typed.give s4) at76 (Relend.t-sl-relend 𝓤 H A W E (Referent.rtF (Referent.fInt Syntax.w8)) 𝓣 G5 2 11 1 4 (Syntax.tyRef (Syntax.named 1)
+          d87 : Typed.Typed 𝓤 H A 𝓣 E G5 b60 Δ0 at87
+          d87 = Typed.s-seq 𝓤 H A W 𝓣 E G5 G6 b0 b59 Δ0 (Typed.give s4) at86 (Relend.t-sl-relend 𝓤 H A W E (Referent.rtF (Referent.fInt Syntax.w8)) 𝓣 G5 2 11 1 4 (Syntax.tyRef (Syntax.named 1)
               Syntax.mut (Syntax.tyInt Syntax.w8)) (Syntax.tyRef Syntax.erased Syntax.mut (Syntax.tyInt Syntax.w8)) (Row.lease (κs .1 .0) (qs .1 .0)) 0 (λ x. x) (Reads.as-is 𝓤 H A (Mut.mslice
               (Referent.rtF (Referent.fInt Syntax.w8)) (Syntax.tyRef (Syntax.named 1) Syntax.mut (Syntax.tyInt Syntax.w8)) 1)) (Reads.room-gone 𝓤 H A (Syntax.tyRef Syntax.erased Syntax.mut (Syntax.tyInt
-              Syntax.w8))) Path'.refl tt Path'.refl Path'.refl Path'.refl λ b o. tt) d76
+              Syntax.w8))) Path'.refl tt Path'.refl Path'.refl Path'.refl λ b o. tt) d86
 
-          d78 : Typed.Typed 𝓤 H A 𝓣 E G4 b54 Δ0 at78
-          d78 = Typed.g-pre 𝓤 H A W 𝓣 E G4 G5 b54 Δ0 (λ Ψ. Ψ) at77 (Lifetime.g-begin 𝓤 H A W E G4 4
-              (tt, (tt, (tt, (tt, (tt, (tt, (tt, (tt, (tt, (tt, (tt, (tt, (tt, (tt, (tt, (tt, (tt, (tt, (tt, (tt, (tt, (tt, (tt, (tt, (tt, (tt, (tt, (tt, (tt, tt)))))))))))))))))))))))))))))) d77
+          d88 : Typed.Typed 𝓤 H A 𝓣 E G4 b60 Δ0 at88
+          d88 = Typed.g-pre 𝓤 H A W 𝓣 E G4 G5 b60 Δ0 (λ Ψ. Ψ) at87 (Lifetime.g-begin 𝓤 H A W E G4 4 (
+            tt,
+            (tt, (tt, (tt, (tt, (tt, (tt, (tt, (tt, (tt, (tt, (tt, (tt, (tt, (tt, (tt, (tt, (tt, (tt, (tt, (tt, (tt, (tt, (tt, (tt, (tt, (tt, (tt, (tt, (tt, (tt, (tt, tt))))))))))))))))))))))))))))))),
+          ))
+              d87
 
-          d79 : Typed.Typed 𝓤 H A 𝓣 E G3 b54 Δ0 at79
-          d79 = Typed.g-pre 𝓤 H A W 𝓣 E G3 G4 b54 Δ0 (Typed.give s2) at78 (Know.g-sl-known 𝓤 H A W (Referent.fInt Syntax.w16) E G3 3 2 (Syntax.tyRef (Syntax.named 2) Syntax.mut (Syntax.tyInt
+          d89 : Typed.Typed 𝓤 H A 𝓣 E G3 b60 Δ0 at89
+          d89 = Typed.g-pre 𝓤 H A W 𝓣 E G3 G4 b60 Δ0 (Typed.give s2) at88 (Know.g-sl-known 𝓤 H A W (Referent.fInt Syntax.w16) E G3 3 2 (Syntax.tyRef (Syntax.named 2) Syntax.mut (Syntax.tyInt
               Syntax.w16)) (Row.lease (κs .1 .1 .0) (qs .1 .1 .0)) 0 (λ x. x) record { fits = Dec'.lit< tt } (Reads.as-is 𝓤 H A (Mut.mslice (Referent.rtF (Referent.fInt Syntax.w16)) (Syntax.tyRef
-              (Syntax.named 2) Syntax.mut (Syntax.tyInt Syntax.w16)) 2)) Path'.refl tt) d78
+              (Syntax.named 2) Syntax.mut (Syntax.tyInt Syntax.w16)) 2)) Path'.refl tt) d88
 
-          d80 : Typed.Typed 𝓤 H A 𝓣 E G2 b54 Δ0 at80
-          d80 = Typed.g-pre 𝓤 H A W 𝓣 E G2 G3 b54 Δ0 (Typed.give s1) at79 (Know.g-sl-known 𝓤 H A W (Referent.fInt Syntax.w8) E G2 2 1 (Syntax.tyRef (Syntax.named 1) Syntax.mut (Syntax.tyInt
+          d90 : Typed.Typed 𝓤 H A 𝓣 E G2 b60 Δ0 at90
+          d90 = Typed.g-pre 𝓤 H A W 𝓣 E G2 G3 b60 Δ0 (Typed.give s1) at89 (Know.g-sl-known 𝓤 H A W (Referent.fInt Syntax.w8) E G2 2 1 (Syntax.tyRef (Syntax.named 1) Syntax.mut (Syntax.tyInt
               Syntax.w8)) (Row.lease (κs .1 .0) (qs .1 .0)) 0 (λ x. x) record { fits = Dec'.lit< tt } (Reads.as-is 𝓤 H A (Mut.mslice (Referent.rtF (Referent.fInt Syntax.w8)) (Syntax.tyRef (Syntax.named 1)
-              Syntax.mut (Syntax.tyInt Syntax.w8)) 1)) Path'.refl tt) d79
+              Syntax.mut (Syntax.tyInt Syntax.w8)) 1)) Path'.refl tt) d89
 
-          d81 : Typed.Typed 𝓤 H A 𝓣 E G0 b54 Δ0 at81
-          d81 = Typed.g-pre 𝓤 H A W 𝓣 E G0 G2 b54 Δ0 (Typed.give s0) at80 (Know.g-shs-known 𝓤 H A W (Referent.fInt Syntax.w16) E G0 1 0 (Syntax.tyRef (Syntax.named 0) Syntax.imm (Syntax.tyInt
+          d91 : Typed.Typed 𝓤 H A 𝓣 E G0 b60 Δ0 at91
+          d91 = Typed.g-pre 𝓤 H A W 𝓣 E G0 G2 b60 Δ0 (Typed.give s0) at90 (Know.g-shs-known 𝓤 H A W (Referent.fInt Syntax.w16) E G0 1 0 (Syntax.tyRef (Syntax.named 0) Syntax.imm (Syntax.tyInt
               Syntax.w16)) (Row.lease (κs .0) (qs .0)) 0 (λ x. x) record { fits = Dec'.lit< tt } (Reads.as-is 𝓤 H A (Rows.sslice (Referent.rtF (Referent.fInt Syntax.w16)) (Syntax.tyRef (Syntax.named 0)
-              Syntax.imm (Syntax.tyInt Syntax.w16)) 0)) Path'.refl tt) d80
+              Syntax.imm (Syntax.tyInt Syntax.w16)) 0)) Path'.refl tt) d90
 
-          pub typed : Typed.Typed 𝓤 H A 𝓣 E (Function.Γin 4 ps r xs m κs qs) b54 (Function.Δret 4 ps r xs m κs qs) Φ
-          typed = d81
+          pub typed : Typed.Typed 𝓤 H A 𝓣 E (Function.Γin 4 ps r xs m κs qs) b60 (Function.Δret 4 ps r xs m κs qs) Φ
+          typed = d91
 
       module _ (κs : Lifetimes.Lfts 4) where
         pub record Args : Type 0 where
@@ -3214,7 +3557,7 @@ module _ (claims· : Claims) where
           .before) (c .before .write-walk-arg3 .given)) (c .write-walk)
 
       abbrev W1 : (before : After-write-walk-arg3) → (given : s12 .gives (m9 (before .before) (before .write-walk-arg3 .given))) → Typed.Want O1
-      W1 = λ before given. Typed.wantNext T15 O0 (at67 (W0 (before .before .before .before .before .before .before .κs) (before .before .before .before .before .before .before .args))) (W0 (before
+      W1 = λ before given. Typed.wantNext T15 O0 (at77 (W0 (before .before .before .before .before .before .before .κs) (before .before .before .before .before .before .before .args))) (W0 (before
           .before .before .before .before .before .before .κs) (before .before .before .before .before .before .before .args))
 
       abbrev pub m11 : (before : After-write-walk) → (given : s14 .gives (m10 (before .before) (After-write-walk·gave before))) → Typed.Mo T17
@@ -3365,57 +3708,57 @@ module _ (claims· : Claims) where
         pub before : After-measured2
         pub known-told2 : After-known-told2·own before
 
-      abbrev pub Need-bytes-for-requires : Type 0
-      Need-bytes-for-requires = (c : After-known-told2) → s37 .asks (m28 (c .before) (c .known-told2 .given))
+      abbrev pub Need-block-length-requires : Type 0
+      Need-block-length-requires = (c : After-known-told2) → s37 .asks (m28 (c .before) (c .known-told2 .given))
 
       abbrev pub m29 : (before : After-known-told2) → (given : s37 .gives (m28 (before .before) (before .known-told2 .given))) → Typed.Mo T40
       m29 = λ before given. s37 .next (m28 (before .before) (before .known-told2 .given)) given
 
       module _ (before· : After-known-told2) where
-        abbrev pub After-bytes-for·own : Type 0
-        After-bytes-for·own = Called.Called ps·1 r·1 (claims· .3) T39 (record { pos = 9; st = List.[]; d = 0; at = λ x. x }, tt) (m28 (before· .before) (before· .known-told2 .given))
+        abbrev pub After-block-length·own : Type 0
+        After-block-length·own = Called.Called ps·1 r·1 (claims· .3) T39 (record { pos = 9; st = List.[]; d = 0; at = λ x. x }, tt) (m28 (before· .before) (before· .known-told2 .given))
 
-      pub record After-bytes-for : Type 0 where
+      pub record After-block-length : Type 0 where
         pub before : After-known-told2
-        pub bytes-for : After-bytes-for·own before
+        pub block-length : After-block-length·own before
 
-      abbrev pub After-bytes-for·gave : (c : After-bytes-for) → s37 .gives (m28 (c .before .before) (c .before .known-told2 .given))
-      After-bytes-for·gave = λ c. Called.given ps·1 r·1 (claims· .3) T39 (record { pos = 9; st = List.[]; d = 0; at = λ x. x }, tt) (m28 (c .before .before) (c .before .known-told2 .given)) (c
-          .bytes-for)
+      abbrev pub After-block-length·gave : (c : After-block-length) → s37 .gives (m28 (c .before .before) (c .before .known-told2 .given))
+      After-block-length·gave = λ c. Called.given ps·1 r·1 (claims· .3) T39 (record { pos = 9; st = List.[]; d = 0; at = λ x. x }, tt) (m28 (c .before .before) (c .before .known-told2 .given)) (c
+          .block-length)
 
       abbrev pub m30 : (before : After-known-told2) → (given : s37 .gives (m28 (before .before) (before .known-told2 .given))) → Typed.Mo T41
       m30 = λ before given. s38 (m29 before given)
 
-      abbrev pub m31 : (before : After-known-told2) → (given : s37 .gives (m28 (before .before) (before .known-told2 .given))) → Typed.Mo T42
-      m31 = λ before given. s39 (m30 before given)
-
       abbrev pub Need-is-short-requires : Type 0
-      Need-is-short-requires = (c : After-bytes-for) → s40 .asks (m31 (c .before) (After-bytes-for·gave c))
+      Need-is-short-requires = (c : After-block-length) → s39 .asks (m30 (c .before) (After-block-length·gave c))
 
-      abbrev pub m32 : (before : After-bytes-for) → (given : s40 .gives (m31 (before .before) (After-bytes-for·gave before))) → Typed.Mo T43
-      m32 = λ before given. s40 .next (m31 (before .before) (After-bytes-for·gave before)) given
+      abbrev pub m31 : (before : After-block-length) → (given : s39 .gives (m30 (before .before) (After-block-length·gave before))) → Typed.Mo T42
+      m31 = λ before given. s39 .next (m30 (before .before) (After-block-length·gave before)) given
 
-      module _ (before· : After-bytes-for) where
+      module _ (before· : After-block-length) where
         abbrev pub After-is-short·own : Type 0
-        After-is-short·own = Called.Called ps·2 r·2 (claims· .5) T42 (Num.vAt 20 λ x. x, (Num.vAt 10 λ x. x, tt)) (m31 (before· .before) (After-bytes-for·gave before·))
+        After-is-short·own = Called.Called ps·2 r·2 (claims· .5) T41 (Num.vAt 20 λ x. x, (Num.vAt 10 λ x. x, tt)) (m30 (before· .before) (After-block-length·gave before·))
 
       pub record After-is-short : Type 0 where
-        pub before : After-bytes-for
+        pub before : After-block-length
         pub is-short : After-is-short·own before
 
-      abbrev pub After-is-short·gave : (c : After-is-short) → s40 .gives (m31 (c .before .before) (After-bytes-for·gave (c .before)))
-      After-is-short·gave = λ c. Called.given ps·2 r·2 (claims· .5) T42 (Num.vAt 20 λ x. x, (Num.vAt 10 λ x. x, tt)) (m31 (c .before .before) (After-bytes-for·gave (c .before))) (c .is-short)
+      abbrev pub After-is-short·gave : (c : After-is-short) → s39 .gives (m30 (c .before .before) (After-block-length·gave (c .before)))
+      After-is-short·gave = λ c. Called.given ps·2 r·2 (claims· .5) T41 (Num.vAt 20 λ x. x, (Num.vAt 10 λ x. x, tt)) (m30 (c .before .before) (After-block-length·gave (c .before))) (c .is-short)
 
-      abbrev W2 : (before : After-bytes-for) → (given : s40 .gives (m31 (before .before) (After-bytes-for·gave before))) → Typed.Want O2
-      W2 = λ before given. Typed.wantNext T44 O1 (at42 (W1 (before .before .before .before .before .before .before .before .before .before .before) (After-write-walk·gave (before .before .before
+      abbrev W2 : (before : After-block-length) → (given : s39 .gives (m30 (before .before) (After-block-length·gave before))) → Typed.Want O2
+      W2 = λ before given. Typed.wantNext T43 O1 (at53 (W1 (before .before .before .before .before .before .before .before .before .before .before) (After-write-walk·gave (before .before .before
           .before .before .before .before .before .before .before)))) (W1 (before .before .before .before .before .before .before .before .before .before .before) (After-write-walk·gave (before .before
           .before .before .before .before .before .before .before .before)))
 
-      abbrev pub m33 : (before : After-bytes-for) → (given : s40 .gives (m31 (before .before) (After-bytes-for·gave before))) → Typed.Mo T45
-      m33 = λ before given. s41 (m32 before given)
+      abbrev pub m32 : (before : After-block-length) → (given : s39 .gives (m30 (before .before) (After-block-length·gave before))) → Typed.Mo T44
+      m32 = λ before given. s40 (m31 before given)
+
+      abbrev pub m33 : (before : After-is-short) → Typed.Mo T45
+      m33 = λ before. s41 (m32 (before .before) (After-is-short·gave before))
 
       abbrev pub m34 : (before : After-is-short) → Typed.Mo T46
-      m34 = λ before. s42 (m33 (before .before) (After-is-short·gave before))
+      m34 = λ before. s42 (m33 before)
 
       abbrev pub m35 : (before : After-is-short) → Typed.Mo T47
       m35 = λ before. s43 (m34 before)
@@ -3437,7 +3780,7 @@ module _ (claims· : Claims) where
 
       module _ (before· : After-is-short) where
         pub record Then1·own : Type 0 where
-          pub taken : Path'._≡_ (Row.get 19 (T45 .locals) (m33 (before· .before) (After-is-short·gave before·))) Bool'.true
+          pub taken : Path'._≡_ (Row.get 19 (T44 .locals) (m32 (before· .before) (After-is-short·gave before·))) Bool'.true
 
       pub record Then1 : Type 0 where
         pub before : After-is-short
@@ -3470,11 +3813,11 @@ module _ (claims· : Claims) where
           .before .before .before .before .before .before .before .before .before .before .before .before .before .before .before .before .before .before .args)) (m40 (c .before) .1)))
 
       abbrev pub m41 : (before : After-is-short) → Typed.Mo T53
-      m41 = λ before. s49 (m33 (before .before) (After-is-short·gave before))
+      m41 = λ before. s49 (m32 (before .before) (After-is-short·gave before))
 
       module _ (before· : After-is-short) where
         pub record Else1·own : Type 0 where
-          pub left : Path'._≡_ (Row.get 19 (T45 .locals) (m33 (before· .before) (After-is-short·gave before·))) Bool'.false
+          pub left : Path'._≡_ (Row.get 19 (T44 .locals) (m32 (before· .before) (After-is-short·gave before·))) Bool'.false
 
       pub record Else1 : Type 0 where
         pub before : After-is-short
@@ -3618,12 +3961,6 @@ module _ (claims· : Claims) where
       abbrev pub m55 : (before : After-slice-known6) → (given : s71 .gives (m54 (before .before) (before .slice-known6 .given))) → Typed.Mo T75
       m55 = λ before given. s71 .next (m54 (before .before) (before .slice-known6 .given)) given
 
-      abbrev pub m56 : (before : After-slice-known6) → (given : s71 .gives (m54 (before .before) (before .slice-known6 .given))) → Typed.Mo T77
-      m56 = λ before given. s73 (m55 before given)
-
-      abbrev pub m57 : (before : After-slice-known6) → (given : s71 .gives (m54 (before .before) (before .slice-known6 .given))) → Typed.Mo T78
-      m57 = λ before given. s74 (m56 before given)
-
       module _ (before· : After-slice-known6) where
         pub record After-rs2·own : Type 0 where
           pub given : s71 .gives (m54 (before· .before) (before· .slice-known6 .given))
@@ -3632,27 +3969,96 @@ module _ (claims· : Claims) where
         pub before : After-slice-known6
         pub rs2 : After-rs2·own before
 
-      abbrev pub m58 : (before : After-measured) → (given : s25 .gives (m16 (before .before) (before .measured .given))) → Typed.Mo T79
-      m58 = λ before given. s75 (m24 before given)
+      abbrev pub m56 : (before : After-rs2) → (given : s74 .gives (m55 (before .before) (before .rs2 .given))) → Typed.Mo T78
+      m56 = λ before given. s74 .next (m55 (before .before) (before .rs2 .given)) given
 
-      abbrev pub m59 : (before : After-measured) → (given : s25 .gives (m16 (before .before) (before .measured .given))) → Typed.Mo T80
-      m59 = λ before given. s76 (m58 before given)
+      abbrev pub m57 : (before : After-rs2) → (given : s74 .gives (m55 (before .before) (before .rs2 .given))) → Typed.Mo T79
+      m57 = λ before given. s75 .next (m56 before given)
 
-      abbrev pub m60 : (before : After-measured) → (given : s25 .gives (m16 (before .before) (before .measured .given))) → Typed.Mo T81
-      m60 = λ before given. s77 (m59 before given)
+      module _ (before· : After-rs2) where
+        pub record After-fill-tail-arg·own : Type 0 where
+          pub given : s74 .gives (m55 (before· .before) (before· .rs2 .given))
+
+      pub record After-fill-tail-arg : Type 0 where
+        pub before : After-rs2
+        pub fill-tail-arg : After-fill-tail-arg·own before
+
+      abbrev pub Need-fill-tail-requires : Type 0
+      Need-fill-tail-requires = (c : After-fill-tail-arg) → s76 .asks (m57 (c .before) (c .fill-tail-arg .given))
+
+      abbrev pub m58 : (before : After-fill-tail-arg) → (given : s76 .gives (m57 (before .before) (before .fill-tail-arg .given))) → Typed.Mo T80
+      m58 = λ before given. s76 .next (m57 (before .before) (before .fill-tail-arg .given)) given
+
+      module _ (before· : After-fill-tail-arg) where
+        abbrev pub After-fill-tail·own : Type 0
+        After-fill-tail·own = Called.Called ps·3 r·3 (claims· .7) T79
+            (record { pos = 31; ty = Syntax.tyRef Syntax.erased Syntax.mut (Syntax.tyInt Syntax.w8); ref = λ x. x }, (record { pos = 9; st = List.[]; d = 0; at = λ x. x }, tt)) (m57 (before· .before)
+            (before· .fill-tail-arg .given))
+
+      pub record After-fill-tail : Type 0 where
+        pub before : After-fill-tail-arg
+        pub fill-tail : After-fill-tail·own before
+
+      abbrev pub After-fill-tail·gave : (c : After-fill-tail) → s76 .gives (m57 (c .before .before) (c .before .fill-tail-arg .given))
+      After-fill-tail·gave = λ c. Called.given ps·3 r·3 (claims· .7) T79
+          (record { pos = 31; ty = Syntax.tyRef Syntax.erased Syntax.mut (Syntax.tyInt Syntax.w8); ref = λ x. x }, (record { pos = 9; st = List.[]; d = 0; at = λ x. x }, tt)) (m57 (c .before .before) (c
+          .before .fill-tail-arg .given)) (c .fill-tail)
+
+      abbrev pub m59 : (before : After-fill-tail-arg) → (given : s76 .gives (m57 (before .before) (before .fill-tail-arg .given))) → Typed.Mo T81
+      m59 = λ before given. s77 (m58 before given)
+
+      abbrev pub m60 : (before : After-fill-tail-arg) → (given : s76 .gives (m57 (before .before) (before .fill-tail-arg .given))) → Typed.Mo T82
+      m60 = λ before given. s78 (m59 before given)
+
+      abbrev pub m61 : (before : After-fill-tail) → (given : s80 .gives (m60 (before .before) (After-fill-tail·gave before))) → Typed.Mo T84
+      m61 = λ before given. s80 .next (m60 (before .before) (After-fill-tail·gave before)) given
+
+      module _ (before· : After-fill-tail) where
+        pub record After-out3·own : Type 0 where
+          pub given : s80 .gives (m60 (before· .before) (After-fill-tail·gave before·))
+
+      pub record After-out3 : Type 0 where
+        pub before : After-fill-tail
+        pub out3 : After-out3·own before
+
+      abbrev pub m62 : (before : After-out3) → (given : s81 .gives (m61 (before .before) (before .out3 .given))) → Typed.Mo T85
+      m62 = λ before given. s81 .next (m61 (before .before) (before .out3 .given)) given
+
+      abbrev pub m63 : (before : After-out3) → (given : s81 .gives (m61 (before .before) (before .out3 .given))) → Typed.Mo T87
+      m63 = λ before given. s83 (m62 before given)
+
+      abbrev pub m64 : (before : After-out3) → (given : s81 .gives (m61 (before .before) (before .out3 .given))) → Typed.Mo T88
+      m64 = λ before given. s84 (m63 before given)
+
+      module _ (before· : After-out3) where
+        pub record After-slice-known7·own : Type 0 where
+          pub given : s81 .gives (m61 (before· .before) (before· .out3 .given))
+
+      pub record After-slice-known7 : Type 0 where
+        pub before : After-out3
+        pub slice-known7 : After-slice-known7·own before
+
+      abbrev pub m65 : (before : After-measured) → (given : s25 .gives (m16 (before .before) (before .measured .given))) → Typed.Mo T89
+      m65 = λ before given. s85 (m24 before given)
+
+      abbrev pub m66 : (before : After-measured) → (given : s25 .gives (m16 (before .before) (before .measured .given))) → Typed.Mo T90
+      m66 = λ before given. s86 (m65 before given)
+
+      abbrev pub m67 : (before : After-measured) → (given : s25 .gives (m16 (before .before) (before .measured .given))) → Typed.Mo T91
+      m67 = λ before given. s87 (m66 before given)
 
       abbrev pub Need-same-length-4 : Type 0
-      Need-same-length-4 = (c : After-known-told) → MutSlice.SameLen (Row.get 2 (T81 .locals) (m60 (c .before) (c .known-told .given))) (dens (c .before .before .before .before .before .before .before
+      Need-same-length-4 = (c : After-known-told) → MutSlice.SameLen (Row.get 2 (T91 .locals) (m67 (c .before) (c .known-told .given))) (dens (c .before .before .before .before .before .before .before
           .before .before .before .before .before .before .before .before .κs) (c .before .before .before .before .before .before .before .before .before .before .before .before .before .before .before
           .args) .1 .0)
 
       abbrev pub Need-same-length-5 : Type 0
-      Need-same-length-5 = (c : After-known-told) → MutSlice.SameLen (Row.get 3 (T81 .locals) (m60 (c .before) (c .known-told .given))) (dens (c .before .before .before .before .before .before .before
+      Need-same-length-5 = (c : After-known-told) → MutSlice.SameLen (Row.get 3 (T91 .locals) (m67 (c .before) (c .known-told .given))) (dens (c .before .before .before .before .before .before .before
           .before .before .before .before .before .before .before .before .κs) (c .before .before .before .before .before .before .before .before .before .before .before .before .before .before .before
           .args) .1 .1 .0)
 
       abbrev pub Need-same-length-6 : Type 0
-      Need-same-length-6 = (c : After-known-told) → MutSlice.SameLen (Row.get 4 (T81 .locals) (m60 (c .before) (c .known-told .given))) (dens (c .before .before .before .before .before .before .before
+      Need-same-length-6 = (c : After-known-told) → MutSlice.SameLen (Row.get 4 (T91 .locals) (m67 (c .before) (c .known-told .given))) (dens (c .before .before .before .before .before .before .before
           .before .before .before .before .before .before .before .before .κs) (c .before .before .before .before .before .before .before .before .before .before .before .before .before .before .before
           .args) .1 .1 .1 .0)
 
@@ -3660,104 +4066,111 @@ module _ (claims· : Claims) where
       Need-returns-2 = (c : After-known-told) → Post· (c .before .before .before .before .before .before .before .before .before .before .before .before .before .before .before .κs) (dens (c .before
           .before .before .before .before .before .before .before .before .before .before .before .before .before .before .κs) (c .before .before .before .before .before .before .before .before .before
           .before .before .before .before .before .before .args)) (Function.resV r (c .before .before .before .before .before .before .before .before .before .before .before .before .before .before
-          .before .κs) (m60 (c .before) (c .known-told .given) .0)) (Clauses.atExit (Kinds.endedOf 4 ps r) (c .before .before .before .before .before .before .before .before .before .before .before
+          .before .κs) (m67 (c .before) (c .known-told .given) .0)) (Clauses.atExit (Kinds.endedOf 4 ps r) (c .before .before .before .before .before .before .before .before .before .before .before
           .before .before .before .before .κs) (dens (c .before .before .before .before .before .before .before .before .before .before .before .before .before .before .before .κs) (c .before .before
           .before .before .before .before .before .before .before .before .before .before .before .before .before .args)) (Enter.lastsP (c .before .before .before .before .before .before .before .before
           .before .before .before .before .before .before .before .κs) 1 ps xs (dens (c .before .before .before .before .before .before .before .before .before .before .before .before .before .before
-          .before .κs) (c .before .before .before .before .before .before .before .before .before .before .before .before .before .before .before .args)) (m60 (c .before) (c .known-told .given) .1)))
+          .before .κs) (c .before .before .before .before .before .before .before .before .before .before .before .before .before .before .before .args)) (m67 (c .before) (c .known-told .given) .1)))
 
-      abbrev pub m61 : (before : After-slice-known6) → (given : s71 .gives (m54 (before .before) (before .slice-known6 .given))) → Typed.Mo T79
-      m61 = λ before given. s75 (m57 before given)
+      abbrev pub m68 : (before : After-out3) → (given : s81 .gives (m61 (before .before) (before .out3 .given))) → Typed.Mo T89
+      m68 = λ before given. s85 (m64 before given)
 
-      abbrev pub m62 : (before : After-slice-known6) → (given : s71 .gives (m54 (before .before) (before .slice-known6 .given))) → Typed.Mo T80
-      m62 = λ before given. s76 (m61 before given)
+      abbrev pub m69 : (before : After-out3) → (given : s81 .gives (m61 (before .before) (before .out3 .given))) → Typed.Mo T90
+      m69 = λ before given. s86 (m68 before given)
 
-      abbrev pub m63 : (before : After-slice-known6) → (given : s71 .gives (m54 (before .before) (before .slice-known6 .given))) → Typed.Mo T81
-      m63 = λ before given. s77 (m62 before given)
+      abbrev pub m70 : (before : After-out3) → (given : s81 .gives (m61 (before .before) (before .out3 .given))) → Typed.Mo T91
+      m70 = λ before given. s87 (m69 before given)
 
       abbrev pub Need-same-length-7 : Type 0
-      Need-same-length-7 = (c : After-rs2) → MutSlice.SameLen (Row.get 2 (T81 .locals) (m63 (c .before) (c .rs2 .given))) (dens (c .before .before .before .before .before .before .before .before
-          .before .before .before .before .before .before .before .before .before .before .before .before .before .before .before .before .before .before .before .κs) (c .before .before .before .before
-          .before .before .before .before .before .before .before .before .before .before .before .before .before .before .before .before .before .before .before .before .before .before .before .args) .1
-          .0)
+      Need-same-length-7 = (c : After-slice-known7) → MutSlice.SameLen (Row.get 2 (T91 .locals) (m70 (c .before) (c .slice-known7 .given))) (dens (c .before .before .before .before .before .before
+          .before .before .before .before .before .before .before .before .before .before .before .before .before .before .before .before .before .before .before .before .before .before .before .before
+          .before .κs) (c .before .before .before .before .before .before .before .before .before .before .before .before .before .before .before .before .before .before .before .before .before .before
+          .before .before .before .before .before .before .before .before .before .args) .1 .0)
 
       abbrev pub Need-same-length-8 : Type 0
-      Need-same-length-8 = (c : After-rs2) → MutSlice.SameLen (Row.get 3 (T81 .locals) (m63 (c .before) (c .rs2 .given))) (dens (c .before .before .before .before .before .before .before .before
-          .before .before .before .before .before .before .before .before .before .before .before .before .before .before .before .before .before .before .before .κs) (c .before .before .before .before
-          .before .before .before .before .before .before .before .before .before .before .before .before .before .before .before .before .before .before .before .before .before .before .before .args) .1
-          .1 .0)
+      Need-same-length-8 = (c : After-slice-known7) → MutSlice.SameLen (Row.get 3 (T91 .locals) (m70 (c .before) (c .slice-known7 .given))) (dens (c .before .before .before .before .before .before
+          .before .before .before .before .before .before .before .before .before .before .before .before .before .before .before .before .before .before .before .before .before .before .before .before
+          .before .κs) (c .before .before .before .before .before .before .before .before .before .before .before .before .before .before .before .before .before .before .before .before .before .before
+          .before .before .before .before .before .before .before .before .before .args) .1 .1 .0)
 
       abbrev pub Need-same-length-9 : Type 0
-      Need-same-length-9 = (c : After-rs2) → MutSlice.SameLen (Row.get 4 (T81 .locals) (m63 (c .before) (c .rs2 .given))) (dens (c .before .before .before .before .before .before .before .before
-          .before .before .before .before .before .before .before .before .before .before .before .before .before .before .before .before .before .before .before .κs) (c .before .before .before .before
-          .before .before .before .before .before .before .before .before .before .before .before .before .before .before .before .before .before .before .before .before .before .before .before .args) .1
-          .1 .1 .0)
+      Need-same-length-9 = (c : After-slice-known7) → MutSlice.SameLen (Row.get 4 (T91 .locals) (m70 (c .before) (c .slice-known7 .given))) (dens (c .before .before .before .before .before .before
+          .before .before .before .before .before .before .before .before .before .before .before .before .before .before .before .before .before .before .before .before .before .before .before .before
+          .before .κs) (c .before .before .before .before .before .before .before .before .before .before .before .before .before .before .before .before .before .before .before .before .before .before
+          .before .before .before .before .before .before .before .before .before .args) .1 .1 .1 .0)
 
       abbrev pub Need-returns-3 : Type 0
-      Need-returns-3 = (c : After-rs2) → Post· (c .before .before .before .before .before .before .before .before .before .before .before .before .before .before .before .before .before .before
-          .before .before .before .before .before .before .before .before .before .κs) (dens (c .before .before .before .before .before .before .before .before .before .before .before .before .before
-          .before .before .before .before .before .before .before .before .before .before .before .before .before .before .κs) (c .before .before .before .before .before .before .before .before .before
-          .before .before .before .before .before .before .before .before .before .before .before .before .before .before .before .before .before .before .args)) (Function.resV r (c .before .before
+      Need-returns-3 = (c : After-slice-known7) → Post· (c .before .before .before .before .before .before .before .before .before .before .before .before .before .before .before .before .before
+          .before .before .before .before .before .before .before .before .before .before .before .before .before .before .κs) (dens (c .before .before .before .before .before .before .before .before
+          .before .before .before .before .before .before .before .before .before .before .before .before .before .before .before .before .before .before .before .before .before .before .before .κs) (c
           .before .before .before .before .before .before .before .before .before .before .before .before .before .before .before .before .before .before .before .before .before .before .before .before
-          .before .κs) (m63 (c .before) (c .rs2 .given) .0)) (Clauses.atExit (Kinds.endedOf 4 ps r) (c .before .before .before .before .before .before .before .before .before .before .before .before
-          .before .before .before .before .before .before .before .before .before .before .before .before .before .before .before .κs) (dens (c .before .before .before .before .before .before .before
-          .before .before .before .before .before .before .before .before .before .before .before .before .before .before .before .before .before .before .before .before .κs) (c .before .before .before
+          .before .before .before .before .before .before .before .args)) (Function.resV r (c .before .before .before .before .before .before .before .before .before .before .before .before .before
+          .before .before .before .before .before .before .before .before .before .before .before .before .before .before .before .before .before .before .κs) (m70 (c .before) (c .slice-known7 .given)
+          .0)) (Clauses.atExit (Kinds.endedOf 4 ps r) (c .before .before .before .before .before .before .before .before .before .before .before .before .before .before .before .before .before .before
+          .before .before .before .before .before .before .before .before .before .before .before .before .before .κs) (dens (c .before .before .before .before .before .before .before .before .before
+          .before .before .before .before .before .before .before .before .before .before .before .before .before .before .before .before .before .before .before .before .before .before .κs) (c .before
           .before .before .before .before .before .before .before .before .before .before .before .before .before .before .before .before .before .before .before .before .before .before .before .before
-          .args)) (Enter.lastsP (c .before .before .before .before .before .before .before .before .before .before .before .before .before .before .before .before .before .before .before .before .before
-          .before .before .before .before .before .before .κs) 1 ps xs (dens (c .before .before .before .before .before .before .before .before .before .before .before .before .before .before .before
-          .before .before .before .before .before .before .before .before .before .before .before .before .κs) (c .before .before .before .before .before .before .before .before .before .before .before
-          .before .before .before .before .before .before .before .before .before .before .before .before .before .before .before .before .args)) (m63 (c .before) (c .rs2 .given) .1)))
+          .before .before .before .before .before .before .args)) (Enter.lastsP (c .before .before .before .before .before .before .before .before .before .before .before .before .before .before .before
+          .before .before .before .before .before .before .before .before .before .before .before .before .before .before .before .before .κs) 1 ps xs (dens (c .before .before .before .before .before
+          .before .before .before .before .before .before .before .before .before .before .before .before .before .before .before .before .before .before .before .before .before .before .before .before
+          .before .before .κs) (c .before .before .before .before .before .before .before .before .before .before .before .before .before .before .before .before .before .before .before .before .before
+          .before .before .before .before .before .before .before .before .before .before .args)) (m70 (c .before) (c .slice-known7 .given) .1)))
 
-      module _ (write-walk-requires : Need-write-walk-requires) (enum-known-measured : Need-enum-known-measured) (enum-known-measured-2 : Need-enum-known-measured-2) (bytes-for-requires :
-          Need-bytes-for-requires) (is-short-requires : Need-is-short-requires) (same-length : Need-same-length) (same-length-2 : Need-same-length-2) (same-length-3 : Need-same-length-3) (returns :
-          Need-returns) (write-walk-requires-2 : Need-write-walk-requires-2) (same-length-4 : Need-same-length-4) (same-length-5 : Need-same-length-5) (same-length-6 : Need-same-length-6) (returns-2 :
-          Need-returns-2) (same-length-7 : Need-same-length-7) (same-length-8 : Need-same-length-8) (same-length-9 : Need-same-length-9) (returns-3 : Need-returns-3) where
-        lay7 : (c : After-rs2) → at67 (W0 (c .before .before .before .before .before .before .before .before .before .before .before .before .before .before .before .before .before .before .before
-            .before .before .before .before .before .before .before .before .κs) (c .before .before .before .before .before .before .before .before .before .before .before .before .before .before .before
-            .before .before .before .before .before .before .before .before .before .before .before .before .args)) (m57 (c .before) (c .rs2 .given))
-        lay7 = λ c. (
+      module _ (write-walk-requires : Need-write-walk-requires) (enum-known-measured : Need-enum-known-measured) (enum-known-measured-2 : Need-enum-known-measured-2) (block-length-requires :
+          Need-block-length-requires) (is-short-requires : Need-is-short-requires) (same-length : Need-same-length) (same-length-2 : Need-same-length-2) (same-length-3 : Need-same-length-3) (returns :
+          Need-returns) (write-walk-requires-2 : Need-write-walk-requires-2) (fill-tail-requires : Need-fill-tail-requires) (same-length-4 : Need-same-length-4) (same-length-5 : Need-same-length-5)
+          (same-length-6 : Need-same-length-6) (returns-2 : Need-returns-2) (same-length-7 : Need-same-length-7) (same-length-8 : Need-same-length-8) (same-length-9 : Need-same-length-9) (returns-3 :
+          Need-returns-3) where
+        lay8 : (c : After-slice-known7) → at77 (W0 (c .before .before .before .before .before .before .before .before .before .before .before .before .before .before .before .before .before .before
+            .before .before .before .before .before .before .before .before .before .before .before .before .before .κs) (c .before .before .before .before .before .before .before .before .before .before
+            .before .before .before .before .before .before .before .before .before .before .before .before .before .before .before .before .before .before .before .before .before .args)) (m64 (c .before)
+            (c .slice-known7 .given))
+        lay8 = λ c. (
           (
             Path'.refl,
             (
-              MutSlice.fix-len (Row.get 2 (T81 .locals) (m63 (c .before) (c .rs2 .given)) .ptr) (Row.get 2 (T81 .locals) (m63 (c .before) (c .rs2 .given)) .name) (Row.get 2 (T81 .locals) (m63 (c .before)
-                  (c .rs2 .given)) .now) (dens (c .before .before .before .before .before .before .before .before .before .before .before .before .before .before .before .before .before .before .before .before
-                  .before .before .before .before .before .before .before .κs) (c .before .before .before .before .before .before .before .before .before .before .before .before .before .before .before .before
-                  .before .before .before .before .before .before .before .before .before .before .before .args) .1 .0 .now) (same-length-7 record { before = c .before; rs2 = c .rs2 }),
+              MutSlice.fix-len (Row.get 2 (T91 .locals) (m70 (c .before) (c .slice-known7 .given)) .ptr) (Row.get 2 (T91 .locals) (m70 (c .before) (c .slice-known7 .given)) .name) (Row.get 2 (T91 .locals)
+                  (m70 (c .before) (c .slice-known7 .given)) .now) (dens (c .before .before .before .before .before .before .before .before .before .before .before .before .before .before .before .before
+                  .before .before .before .before .before .before .before .before .before .before .before .before .before .before .before .κs) (c .before .before .before .before .before .before .before .before
+                  .before .before .before .before .before .before .before .before .before .before .before .before .before .before .before .before .before .before .before .before .before .before .before .args)
+                  .1 .0 .now) (same-length-7 record { before = c .before; slice-known7 = c .slice-known7 }),
               (
-                MutSlice.fix-len (Row.get 3 (T81 .locals) (m63 (c .before) (c .rs2 .given)) .ptr) (Row.get 3 (T81 .locals) (m63 (c .before) (c .rs2 .given)) .name) (Row.get 3 (T81 .locals) (m63 (c .before)
-                    (c .rs2 .given)) .now) (dens (c .before .before .before .before .before .before .before .before .before .before .before .before .before .before .before .before .before .before .before .before
-                    .before .before .before .before .before .before .before .κs) (c .before .before .before .before .before .before .before .before .before .before .before .before .before .before .before .before
-                    .before .before .before .before .before .before .before .before .before .before .before .args) .1 .1 .0 .now) (same-length-8 record { before = c .before; rs2 = c .rs2 }),
+                MutSlice.fix-len (Row.get 3 (T91 .locals) (m70 (c .before) (c .slice-known7 .given)) .ptr) (Row.get 3 (T91 .locals) (m70 (c .before) (c .slice-known7 .given)) .name) (Row.get 3 (T91 .locals)
+                    (m70 (c .before) (c .slice-known7 .given)) .now) (dens (c .before .before .before .before .before .before .before .before .before .before .before .before .before .before .before .before
+                    .before .before .before .before .before .before .before .before .before .before .before .before .before .before .before .κs) (c .before .before .before .before .before .before .before .before
+                    .before .before .before .before .before .before .before .before .before .before .before .before .before .before .before .before .before .before .before .before .before .before .before .args)
+                    .1 .1 .0 .now) (same-length-8 record { before = c .before; slice-known7 = c .slice-known7 }),
                 (
-                  MutSlice.fix-len (Row.get 4 (T81 .locals) (m63 (c .before) (c .rs2 .given)) .ptr) (Row.get 4 (T81 .locals) (m63 (c .before) (c .rs2 .given)) .name) (Row.get 4 (T81 .locals) (m63 (c .before)
-                      (c .rs2 .given)) .now) (dens (c .before .before .before .before .before .before .before .before .before .before .before .before .before .before .before .before .before .before .before .before
-                      .before .before .before .before .before .before .before .κs) (c .before .before .before .before .before .before .before .before .before .before .before .before .before .before .before .before
-                      .before .before .before .before .before .before .before .before .before .before .before .args) .1 .1 .1 .0 .now) (same-length-9 record { before = c .before; rs2 = c .rs2 }),
+                  MutSlice.fix-len (Row.get 4 (T91 .locals) (m70 (c .before) (c .slice-known7 .given)) .ptr) (Row.get 4 (T91 .locals) (m70 (c .before) (c .slice-known7 .given)) .name) (Row.get 4 (T91 .locals)
+                      (m70 (c .before) (c .slice-known7 .given)) .now) (dens (c .before .before .before .before .before .before .before .before .before .before .before .before .before .before .before .before
+                      .before .before .before .before .before .before .before .before .before .before .before .before .before .before .before .κs) (c .before .before .before .before .before .before .before .before
+                      .before .before .before .before .before .before .before .before .before .before .before .before .before .before .before .before .before .before .before .before .before .before .before .args)
+                      .1 .1 .1 .0 .now) (same-length-9 record { before = c .before; slice-known7 = c .slice-known7 }),
                   (tt, (tt, tt)),
                 ),
               ),
             ),
           ),
-          returns-3 record { before = c .before; rs2 = c .rs2 },
+          returns-3 record { before = c .before; slice-known7 = c .slice-known7 },
         )
 
-        lay6 : (c : After-known-told) → at67 (W0 (c .before .before .before .before .before .before .before .before .before .before .before .before .before .before .before .κs) (c .before .before
+        lay7 : (c : After-known-told) → at77 (W0 (c .before .before .before .before .before .before .before .before .before .before .before .before .before .before .before .κs) (c .before .before
             .before .before .before .before .before .before .before .before .before .before .before .before .before .args)) (m24 (c .before) (c .known-told .given))
-        lay6 = λ c. (
+        lay7 = λ c. (
           (
             Path'.refl,
             (
-              MutSlice.fix-len (Row.get 2 (T81 .locals) (m60 (c .before) (c .known-told .given)) .ptr) (Row.get 2 (T81 .locals) (m60 (c .before) (c .known-told .given)) .name) (Row.get 2 (T81 .locals) (m60
+              MutSlice.fix-len (Row.get 2 (T91 .locals) (m67 (c .before) (c .known-told .given)) .ptr) (Row.get 2 (T91 .locals) (m67 (c .before) (c .known-told .given)) .name) (Row.get 2 (T91 .locals) (m67
                   (c .before) (c .known-told .given)) .now) (dens (c .before .before .before .before .before .before .before .before .before .before .before .before .before .before .before .κs) (c .before
                   .before .before .before .before .before .before .before .before .before .before .before .before .before .before .args) .1 .0 .now) (same-length-4 record
                   { before = c .before; known-told = c .known-told }),
               (
-                MutSlice.fix-len (Row.get 3 (T81 .locals) (m60 (c .before) (c .known-told .given)) .ptr) (Row.get 3 (T81 .locals) (m60 (c .before) (c .known-told .given)) .name) (Row.get 3 (T81 .locals) (m60
+                MutSlice.fix-len (Row.get 3 (T91 .locals) (m67 (c .before) (c .known-told .given)) .ptr) (Row.get 3 (T91 .locals) (m67 (c .before) (c .known-told .given)) .name) (Row.get 3 (T91 .locals) (m67
                     (c .before) (c .known-told .given)) .now) (dens (c .before .before .before .before .before .before .before .before .before .before .before .before .before .before .before .κs) (c .before
                     .before .before .before .before .before .before .before .before .before .before .before .before .before .before .args) .1 .1 .0 .now) (same-length-5 record
                     { before = c .before; known-told = c .known-told }),
                 (
-                  MutSlice.fix-len (Row.get 4 (T81 .locals) (m60 (c .before) (c .known-told .given)) .ptr) (Row.get 4 (T81 .locals) (m60 (c .before) (c .known-told .given)) .name) (Row.get 4 (T81 .locals) (m60
+                  MutSlice.fix-len (Row.get 4 (T91 .locals) (m67 (c .before) (c .known-told .given)) .ptr) (Row.get 4 (T91 .locals) (m67 (c .before) (c .known-told .given)) .name) (Row.get 4 (T91 .locals) (m67
                       (c .before) (c .known-told .given)) .now) (dens (c .before .before .before .before .before .before .before .before .before .before .before .before .before .before .before .κs) (c .before
                       .before .before .before .before .before .before .before .before .before .before .before .before .before .before .args) .1 .1 .1 .0 .now) (same-length-6 record
                       { before = c .before; known-told = c .known-told }),
@@ -3769,7 +4182,16 @@ module _ (claims· : Claims) where
           returns-2 record { before = c .before; known-told = c .known-told },
         )
 
-        lay5 : (c : After-write-walk2) → at32 (W1 (c .before .before .before .before .before .before .before .before .before .before .before .before .before .before .before .before)
+        lay6 : (c : After-fill-tail) → at26 (W1 (c .before .before .before .before .before .before .before .before .before .before .before .before .before .before .before .before .before .before
+            .before .before .before .before .before) (After-write-walk·gave (c .before .before .before .before .before .before .before .before .before .before .before .before .before .before .before
+            .before .before .before .before .before .before .before))) (m58 (c .before) (After-fill-tail·gave c))
+        lay6 = λ c. (
+          Path'.refl,
+          λ g. λ g'. lay8 record
+              { before = record { before = record { before = c .before; fill-tail = c .fill-tail }; out3 = record { given = g } }; slice-known7 = record { given = g' } },
+        )
+
+        lay5 : (c : After-write-walk2) → at43 (W1 (c .before .before .before .before .before .before .before .before .before .before .before .before .before .before .before .before)
             (After-write-walk·gave (c .before .before .before .before .before .before .before .before .before .before .before .before .before .before .before))) (m48 (c .before) (After-write-walk2·gave
             c))
         lay5 = λ c. (
@@ -3778,22 +4200,58 @@ module _ (claims· : Claims) where
             Path'.refl,
             λ g''. λ g'3. (
               Path'.refl,
-              λ g'4. lay7 record {
-                before = record {
-                  before = record {
-                    before = record { before = record { before = record { before = c .before; write-walk2 = c .write-walk2 }; out2 = record { given = g } }; slice-known5 = record { given = g' } };
-                    lines2 =
-                        record { given = g'' };
-                  };
-                  slice-known6 = record { given = g'3 };
-                };
-                rs2 = record { given = g'4 };
-              },
+              λ g'4. λ g'5. (
+                Path'.refl,
+                (
+                  fill-tail-requires record {
+                    before = record {
+                      before = record {
+                        before = record {
+                          before = record { before = record { before = record { before = c .before; write-walk2 = c .write-walk2 }; out2 = record { given = g } }; slice-known5 = record { given = g' } };
+                          lines2 =
+                              record { given = g'' };
+                        };
+                        slice-known6 = record { given = g'3 };
+                      };
+                      rs2 = record { given = g'4 };
+                    };
+                    fill-tail-arg = record { given = g'5 };
+                  },
+                  λ g'6. lay6 record {
+                    before = record {
+                      before = record {
+                        before = record {
+                          before = record {
+                            before = record { before = record { before = record { before = c .before; write-walk2 = c .write-walk2 }; out2 = record { given = g } }; slice-known5 = record { given = g' } };
+                            lines2 =
+                                record { given = g'' };
+                          };
+                          slice-known6 = record { given = g'3 };
+                        };
+                        rs2 = record { given = g'4 };
+                      };
+                      fill-tail-arg = record { given = g'5 };
+                    };
+                    fill-tail = Called.called ps·3 r·3 (claims· .7)
+                        T79 (record { pos = 31; ty = Syntax.tyRef Syntax.erased Syntax.mut (Syntax.tyInt Syntax.w8); ref = λ x. x }, (record { pos = 9; st = List.[]; d = 0; at = λ x. x }, tt)) (m57 record {
+                          before = record {
+                            before = record {
+                              before = record { before = record { before = record { before = c .before; write-walk2 = c .write-walk2 }; out2 = record { given = g } }; slice-known5 = record { given = g' } };
+                              lines2 =
+                                  record { given = g'' };
+                            };
+                            slice-known6 = record { given = g'3 };
+                          };
+                          rs2 = record { given = g'4 };
+                        } g'5) g'6;
+                  },
+                ),
+              ),
             ),
           ),
         )
 
-        lay4 : (c : Else1) → at42 (W1 (c .before .before .before .before .before .before .before .before .before .before .before .before) (After-write-walk·gave (c .before .before .before .before
+        lay4 : (c : Else1) → at53 (W1 (c .before .before .before .before .before .before .before .before .before .before .before .before) (After-write-walk·gave (c .before .before .before .before
             .before .before .before .before .before .before .before))) (m41 (c .before))
         lay4 = λ c. λ g. (
           Path'.refl,
@@ -3831,8 +4289,8 @@ module _ (claims· : Claims) where
           ),
         )
 
-        lay3 : (c : After-is-short) → at43 (W1 (c .before .before .before .before .before .before .before .before .before .before .before) (After-write-walk·gave (c .before .before .before .before
-            .before .before .before .before .before .before))) (m32 (c .before) (After-is-short·gave c))
+        lay3 : (c : After-is-short) → at54 (W1 (c .before .before .before .before .before .before .before .before .before .before .before) (After-write-walk·gave (c .before .before .before .before
+            .before .before .before .before .before .before))) (m31 (c .before) (After-is-short·gave c))
         lay3 = λ c. (
           λ taken. (
             (
@@ -3867,18 +4325,18 @@ module _ (claims· : Claims) where
               { before = record { before = c .before; is-short = c .is-short }; if1 = record { left = left } },
         )
 
-        lay2 : (c : After-bytes-for) → at46 (W1 (c .before .before .before .before .before .before .before .before .before .before) (After-write-walk·gave (c .before .before .before .before .before
-            .before .before .before .before))) (m29 (c .before) (After-bytes-for·gave c))
+        lay2 : (c : After-block-length) → at56 (W1 (c .before .before .before .before .before .before .before .before .before .before) (After-write-walk·gave (c .before .before .before .before .before
+            .before .before .before .before))) (m29 (c .before) (After-block-length·gave c))
         lay2 = λ c. (
-          is-short-requires record { before = c .before; bytes-for = c .bytes-for },
+          is-short-requires record { before = c .before; block-length = c .block-length },
           λ g. lay3 record {
-            before = record { before = c .before; bytes-for = c .bytes-for };
-            is-short = Called.called ps·2 r·2 (claims· .5) T42 (Num.vAt 20 λ x. x, (Num.vAt 10 λ x. x, tt)) (m31 (c .before)
-                (After-bytes-for·gave c)) g;
+            before = record { before = c .before; block-length = c .block-length };
+            is-short = Called.called ps·2 r·2 (claims· .5) T41 (Num.vAt 20 λ x. x, (Num.vAt 10 λ x. x, tt)) (m30 (c .before)
+                (After-block-length·gave c)) g;
           },
         )
 
-        lay1 : (c : After-write-walk) → at68 (W0 (c .before .before .before .before .before .before .before .κs) (c .before .before .before .before .before .before .before .args)) (m10 (c .before)
+        lay1 : (c : After-write-walk) → at78 (W0 (c .before .before .before .before .before .before .before .κs) (c .before .before .before .before .before .before .before .args)) (m10 (c .before)
             (After-write-walk·gave c))
         lay1 = λ c. (
           Path'.refl,
@@ -3902,7 +4360,7 @@ module _ (claims· : Claims) where
                     };
                     match = record { keys1 = k };
                   },
-                  λ g'5. λ g'6. lay6 record {
+                  λ g'5. λ g'6. lay7 record {
                     before = record {
                       before = record {
                         before = record {
@@ -3941,7 +4399,7 @@ module _ (claims· : Claims) where
                       match = record { keys2 = k };
                     },
                     λ g'7. λ g'8. (
-                      bytes-for-requires record {
+                      block-length-requires record {
                         before = record {
                           before = record {
                             before = record {
@@ -3984,7 +4442,7 @@ module _ (claims· : Claims) where
                           known-told2 =
                               record { given = g'8 };
                         };
-                        bytes-for = Called.called ps·1 r·1 (claims· .3) T39 (record { pos = 9; st = List.[]; d = 0; at = λ x. x }, tt) (m28 record {
+                        block-length = Called.called ps·1 r·1 (claims· .3) T39 (record { pos = 9; st = List.[]; d = 0; at = λ x. x }, tt) (m28 record {
                           before = record {
                             before = record {
                               before = record {
@@ -4026,7 +4484,7 @@ module _ (claims· : Claims) where
           ),
         )
 
-        pub laid : (c : Start) → at81 (W0 (c .κs) (c .args)) (m0 (c .κs) (c .args))
+        pub laid : (c : Start) → at91 (W0 (c .κs) (c .args)) (m0 (c .κs) (c .args))
         laid = λ c. λ g. λ g'. λ g''. λ g'3. (
           Path'.refl,
           λ g'4. (
@@ -4101,7 +4559,7 @@ module _ (claims· : Claims) where
           }
 
         module _ {M : Type 1} (𝓤 : URA.URA M) (H : Wp.Heap 𝓤) (A : Atoms.Atoms 𝓤) (W : Kit.Given 𝓤 H A) (𝓣 : Wp.Tables 𝓤 H) (known0 : Plain.Known 𝓤 H A W 𝓣 4 ps·0 r·0 (claims· .0) (claims· .1)
-            "block::writer::write_walk") (known1 : Plain.Known 𝓤 H A W 𝓣 0 ps·1 r·1 (claims· .2) (claims· .3) "block::writer::bytes_for") (known2 : Plain.Known 𝓤 H A W 𝓣 0 ps·2 r·2 (claims· .4) (claims·
-            .5) "begin::is_short") where
+            "block::writer::write_walk") (known1 : Plain.Known 𝓤 H A W 𝓣 0 ps·1 r·1 (claims· .2) (claims· .3) "block::writer::block_length") (known2 : Plain.Known 𝓤 H A W 𝓣 0 ps·2 r·2 (claims· .4)
+            (claims· .5) "begin::is_short") (known3 : Plain.Known 𝓤 H A W 𝓣 1 ps·3 r·3 (claims· .6) (claims· .7) "bits::fill_tail") where
           pub spec : Statement.Triple 𝓤 (Wp.WpFn 𝓤 H (𝓣 .C) (𝓣 .Λ) (Function.fnOf 4 ps r xs m hs body)) (Function.plainOf 𝓤 H A 4 ps r Pre· Post·)
-          spec = Plain.t-fn-plain 𝓤 H A W 𝓣 4 ps r xs m hs body (λ κs qs bs. Φ) (λ κs qs bs bd. typed κs qs 𝓤 H A W 𝓣 (known0, known1, known2) bs bd) Pre· Post· asked
+          spec = Plain.t-fn-plain 𝓤 H A W 𝓣 4 ps r xs m hs body (λ κs qs bs. Φ) (λ κs qs bs bd. typed κs qs 𝓤 H A W 𝓣 (known0, known1, known2, known3) bs bd) Pre· Post· asked
