@@ -26,7 +26,7 @@ use Rattle.pass.specs.Readings.{Reading, interpolate, takeCode, taken, readStep
 use Rattle.steps.specs.declared.Plan.{Plan}
 use Rattle.map.specs.Places.{widthOf}
 use Rattle.block.specs.Records.{baseOf}
-use Rattle.block.specs.Blocks.{State, runs, enter, leave, passAt, endLine, readLine, beforeLine, lineAt, startState, readLines, tightLines}
+use Rattle.block.specs.Blocks.{State, runs, enter, leave, passAt, endLine, readLine, beforeLine, readLineAt, startState, readLines, tightLines}
 use Rattle.block.specs.BadCodes.{Reason, too-large, too-many-zeros, short-fits, reasonOf, codedReason, stepReason, BadCode, badAt, badInSteps, firstFound, badInPass, badInLine, firstBad}
 use Rattle.block.specs.declared.Form.{Form}
 use Rattle.block.proofs.RunLaws.{then-both, runs-last}
@@ -301,8 +301,8 @@ module _ (F : Form) (bases s : List ℕ) where
       go true f = cc
       go false f = let no : _≡_ {A = ℕ} 0 1 = cc in absurd (omega arith)
 
-  line-stays : (n : ℕ) (r z : State) → lineAt F bases s n r ≡ some z → z .tight ≡ stays (badInLine F bases s n r) (r .tight)
-  unfolding lineAt readLine badInLine
+  line-stays : (n : ℕ) (r z : State) → readLineAt F bases s n r ≡ some z → z .tight ≡ stays (badInLine F bases s n r) (r .tight)
+  unfolding readLineAt readLine badInLine
   line-stays n r z e =
       let q : ℕ = baseOf bases n in
       let b = then-both (runs (passAt F q s) 6 (beforeLine F bases n r)) (endLine s) z e in
@@ -312,7 +312,7 @@ module _ (F : Form) (bases s : List ℕ) where
   -- where all lines are read, all codes are tight exactly if there is no bad one
   pub block-stays : (n : ℕ) (z : State) → readLines F bases s n ≡ some z → z .tight ≡ stays (firstBad F bases s n) true
   unfolding readLines firstBad startState
-  block-stays n z e = each-stays (lineAt F bases s) (badInLine F bases s) (startState F bases) (λ (y : State). y .tight) line-stays n z e
+  block-stays n z e = each-stays (readLineAt F bases s) (badInLine F bases s) (startState F bases) (λ (y : State). y .tight) line-stays n z e
 
   pub no-bad : (n : ℕ) (z : State) → readLines F bases s n ≡ some z → (z .tight ≡ true) ↔ (firstBad F bases s n ≡ none)
   no-bad n z e = (λ t. none-found (firstBad F bases s n) (sym (block-stays n z e) ∙ t), λ f. rw f at (block-stays n z e))
@@ -351,9 +351,9 @@ module _ (F : Form) (bases s : List ℕ) where
         (each-stays (passAt F (baseOf bases n) s) (badInPass F (baseOf bases n) s n) (beforeLine F bases n r) (λ (y : State). y .tight) (pass-stays (baseOf bases n) n)
         (p .index) (p .state) (p .run))
 
-  in-line : (lines : ℕ) (b : BadCode) → firstBad F bases s lines ≡ some b → FoundIn (lineAt F bases s) (badInLine F bases s) (startState F bases) lines b
+  in-line : (lines : ℕ) (b : BadCode) → firstBad F bases s lines ≡ some b → FoundIn (readLineAt F bases s) (badInLine F bases s) (startState F bases) lines b
   unfolding firstBad
-  in-line lines b e = found-in (lineAt F bases s) (badInLine F bases s) (startState F bases) lines b e
+  in-line lines b e = found-in (readLineAt F bases s) (badInLine F bases s) (startState F bases) lines b e
 
   pub bad-in : (lines : ℕ) (b : BadCode) → firstBad F bases s lines ≡ some b → BadIn lines (b .line) (b .pass) b
   unfolding readLines firstBad
@@ -376,9 +376,9 @@ module _ (F : Form) (bases s : List ℕ) where
 
   -- ---- how many lines are tight
 
-  lines-last : (n : ℕ) (z : State) → readLines F bases s (suc n) ≡ some z → (y : State) × (readLines F bases s n ≡ some y) × (lineAt F bases s n y ≡ some z)
+  lines-last : (n : ℕ) (z : State) → readLines F bases s (suc n) ≡ some z → (y : State) × (readLines F bases s n ≡ some y) × (readLineAt F bases s n y ≡ some z)
   unfolding readLines
-  lines-last n z e = runs-last (lineAt F bases s) (startState F bases) n z e
+  lines-last n z e = runs-last (readLineAt F bases s) (startState F bases) n z e
 
   bad-more : (n : ℕ) (y : State) → readLines F bases s n ≡ some y → firstBad F bases s (suc n) ≡ orElse (firstBad F bases s n) (badInLine F bases s n y)
   unfolding readLines firstBad firstFound andThen

@@ -13,7 +13,7 @@ use Rattle.lines.specs.ColourLines.{zeroLines, turned}
 use Rattle.map.specs.Places.{widthOf}
 use Rattle.steps.specs.Values.{quantisersOf}
 use Rattle.steps.specs.declared.Quantisers.{Quantisers}
-use Rattle.block.specs.Blocks.{State, readLine, lineAt, beforeLine, startState, readLines, tightLines, IsLined, LineRead, ReadAll, CutAt}
+use Rattle.block.specs.Blocks.{State, readLine, readLineAt, beforeLine, startState, readLines, tightLines, IsLined, LineRead, ReadAll, CutAt}
 use Rattle.block.specs.Records.{startRecords, restartedMain, baseOf, isRestarted}
 use Rattle.block.specs.declared.Form.{Form}
 use Rattle.block.specs.declared.Lined.{Lined}
@@ -48,7 +48,7 @@ lined-some (some z) lines records r at tight p e =
 pub block-starts : (F : Form) (bases s lines : List ℕ) (records : List Record) → lines ≡ zeroLines (widthOf (F .xtrans)) → records ≡ startRecords (F .bits) (baseOf bases 0)
     → readLines F bases s 0 ≡ some (record { lines = lines; records = records; at = record { 0 = 0 }; tight = true })
 unfolding readLines startState
-block-starts F bases s lines records el er = runs-none (lineAt F bases s) (startState F bases) ∙ rw (el, er)
+block-starts F bases s lines records el er = runs-none (readLineAt F bases s) (startState F bases) ∙ rw (el, er)
 
 -- line n, by what was done before it
 module _ (F : Form) (bases s : List ℕ) (n W q : ℕ) (b : Bool) (Q : Quantisers) (l₀ l₁ : List ℕ) (rs₀ rs₁ : List Record) (at : BitPosition) (tight : Bool)
@@ -57,11 +57,11 @@ module _ (F : Form) (bases s : List ℕ) (n W q : ℕ) (b : Bool) (Q : Quantiser
     (el : l₁ ≡ turned W l₀) (er : rs₁ ≡ cond b (restartedMain (F .bits) q rs₀) rs₀) (lines : List ℕ) (records : List Record) (d : Lined)
     (answer : LineRead F Q s at tight l₁ rs₁ lines records d) where
   line-is : (o : Option State) → readLine F (Q .base) s (record { lines = l₁; records = rs₁; at = at; tight = tight }) ≡ o → readLines F bases s (n + 1) ≡ o
-  unfolding readLines lineAt
+  unfolding readLines readLineAt
   line-is o e =
       let r : State = record { lines = l₀; records = rs₀; at = at; tight = tight } in
       let g : beforeLine F bases n r ≡ record { lines = l₁; records = rs₁; at = at; tight = tight } = rw (el, er, eb, eW, eq) in
-      runs-more (lineAt F bases s) (startState F bases) n _ so-far ∙ rw (g, ← eq, ← base-known (F .bits) q Q eQ .0) e
+      runs-more (readLineAt F bases s) (startState F bases) n _ so-far ∙ rw (g, ← eq, ← base-known (F .bits) q Q eQ .0) e
 
   pub line-more : (at' : BitPosition) (tight' : Bool) → d ≡ Read at' tight'
       → readLines F bases s (n + 1) ≡ some (record { lines = lines; records = records; at = at'; tight = tight' })

@@ -14,11 +14,11 @@ use Rattle.map.specs.declared.Part.{Part}
 use Rattle.map.proofs.PartLaws.{by-test, not-in}
 use Rattle.stream.specs.declared.FujiHeader.{FujiHeader}
 use Rattle.stream.specs.declared.Refusal.the-variants.{Truncated}
-use Rattle.region.specs.Regions.{blockOf, firstBlock, lastBlock, bottomOf, partIn, linesOf as lineCount, Accepted}
+use Rattle.region.specs.Regions.{blockOf, firstBlock, lastBlock, bottomOf, partIn, lineCount, Accepted}
 use Rattle.region.specs.declared.Rect.{Rect}
 use Rattle.region.proofs.RegionLaws.{InColumns, one-block, row-inside}
-use Rattle.block.specs.Blocks.{State, lineAt, startState, readLines, shownSample, Shown, shownLines, IsWalked}
-use Rattle.block.specs.Images.{formOf, bytesOf, basesOf, linesRead, readIn, lineOf, isDecoded, decodedSample, Pictured, orElse, walkedAnswer, answerOf}
+use Rattle.block.specs.Blocks.{State, readLineAt, startState, readLines, shownSample, Shown, shownLines, IsWalked}
+use Rattle.block.specs.Images.{formOf, bytesIn, basesIn, linesRead, readIn, lineOf, isDecoded, decodedSample, Pictured, orElse, walkedAnswer, answerOf}
 use Rattle.block.specs.declared.Form.{Form}
 use Rattle.block.specs.declared.Walked.{Walked}
 use Rattle.block.specs.declared.Walked.the-variants as Walk
@@ -32,7 +32,7 @@ module _ (F : Form) (bases s : List ℕ) where
   -- after a truncated line no count of lines is read
   stay-none : (t m : ℕ) → readLines F bases s t ≡ none → readLines F bases s (t + m) ≡ none
   unfolding readLines
-  stay-none t m e = runs-stay (lineAt F bases s) (startState F bases) t m e
+  stay-none t m e = runs-stay (readLineAt F bases s) (startState F bases) t m e
 
   read-none : linesRead F bases s 0 ≡ 0
   unfolding linesRead
@@ -94,11 +94,11 @@ unfolding answerOf
 answer-step d h r n b e = rw e
 
 pub answer-more : (d : List ℕ) (h : FujiHeader) (r : Rect) (b : ℕ) (w : Walked) (before after : Decoded) → firstBlock r ≤ b
-    → before ≡ answerOf d h r (b - firstBlock r) → IsWalked (formOf h) (basesOf d b) (bytesOf d b) (lineCount r) w
+    → before ≡ answerOf d h r (b - firstBlock r) → IsWalked (formOf h) (basesIn d b) (bytesIn d b) (lineCount r) w
     → after ≡ orElse before (walkedAnswer b w) → after ≡ answerOf d h r (b + 1 - firstBlock r)
 answer-more d h r b w before after l e p f =
     let n : b + 1 - firstBlock r ≡ suc (b - firstBlock r) = omega arith in
-    let j = judged-by (formOf h) (basesOf d b) (bytesOf d b) (lineCount r) b w p in
+    let j = judged-by (formOf h) (basesIn d b) (bytesIn d b) (lineCount r) b w p in
     f ∙ rw (n, answer-step d h r (b - firstBlock r) b (omega arith), j, e)
 
 -- ---- tests
@@ -193,14 +193,14 @@ module _ (d : List ℕ) (h : FujiHeader) (r : Rect) (n i : ℕ) (ok : Accepted h
 module _ (d : List ℕ) (h : FujiHeader) (r : Rect) (tile : List ℕ) (b : ℕ) where
   -- the sample that the part of block b shows
   abbrev sample : ℕ → ℕ
-  sample = shownSample (formOf h) (basesOf d b) (bytesOf d b) tile (partIn r b)
+  sample = shownSample (formOf h) (basesIn d b) (bytesIn d b) tile (partIn r b)
 
   same-sample : (i : ℕ) → blockOf r i ≡ b → sample i ≡ decodedSample d h r tile i
   unfolding decodedSample
   same-sample i e = rw (part-row r b i, e)
 
   module _ (n : ℕ) (x y z : List ℕ) (ok : Accepted h r n) (done : Pictured d h r tile b x y)
-      (shown : Shown (formOf h) (basesOf d b) (bytesOf d b) tile (partIn r b) (readIn d h r b) y z) where
+      (shown : Shown (formOf h) (basesIn d b) (bytesIn d b) tile (partIn r b) (readIn d h r b) y z) where
     entry : (i : ℕ) → getD z i 0 ≡ cond (isDecoded d h r (b + 1) i) (decodedSample d h r tile i) (getD x i 0)
     entry i =
         by-test (eqb (blockOf r i) b)
@@ -216,8 +216,8 @@ module _ (d : List ℕ) (h : FujiHeader) (r : Rect) (tile : List ℕ) (b : ℕ) 
 
 pub pictured-more : (d : List ℕ) (h : FujiHeader) (r : Rect) (tile : List ℕ) (n b : ℕ) (a : Part) (w : Walked) (x y z : List ℕ)
     → Accepted h r n → firstBlock r ≤ b → b ≤ lastBlock r → a ≡ partIn r b
-    → IsWalked (formOf h) (basesOf d b) (bytesOf d b) (lineCount r) w → Pictured d h r tile b x y
-    → Shown (formOf h) (basesOf d b) (bytesOf d b) tile a (shownLines w (lineCount r)) y z → Pictured d h r tile (b + 1) x z
+    → IsWalked (formOf h) (basesIn d b) (bytesIn d b) (lineCount r) w → Pictured d h r tile b x y
+    → Shown (formOf h) (basesIn d b) (bytesIn d b) tile a (shownLines w (lineCount r)) y z → Pictured d h r tile (b + 1) x z
 pictured-more d h r tile n b a w x y z ok l u e p done shown =
-    let m = walked-lines (formOf h) (basesOf d b) (bytesOf d b) (lineCount r) w p in
+    let m = walked-lines (formOf h) (basesIn d b) (bytesIn d b) (lineCount r) w p in
     one-more d h r tile b n x y z ok done (rw (e, m) at shown)

@@ -17,7 +17,7 @@ use Rattle.steps.specs.declared.Plan.{Plan}
 use Rattle.steps.proofs.ContextLaws.{AllLe}
 use Rattle.pass.proofs.RangeLaws.{pass-keeps}
 use Rattle.steps.proofs.ZipLaws.{set-keeps}
-use Rattle.block.specs.Blocks.{State, runs, enter, leave, passAt, endLine, readLine, beforeLine, lineAt, startState, readLines}
+use Rattle.block.specs.Blocks.{State, runs, enter, leave, passAt, endLine, readLine, beforeLine, readLineAt, startState, readLines}
 use Rattle.block.specs.Records.{baseOf}
 use Rattle.block.specs.declared.Form.{Form}
 use Rattle.block.proofs.RunLaws.{then-keeps, runs-keep}
@@ -113,8 +113,8 @@ module _ (F : Form) (depth : F .bits ≤ 16) where
       (λ y k f. end-within s y z k f) e
 
   -- line n of a block does too, with the turn before it
-  lineAt-within : (bases s : List ℕ) (n : ℕ) (r z : State) → Within F r → lineAt F bases s n r ≡ some z → Within F z
-  unfolding lineAt
+  lineAt-within : (bases s : List ℕ) (n : ℕ) (r z : State) → Within F r → readLineAt F bases s n r ≡ some z → Within F z
+  unfolding readLineAt
   lineAt-within bases s n r z h e =
       line-within (baseOf bases n) s (beforeLine F bases n r) z (turned-le (largest (F .bits)) (widthOf (F .xtrans)) (r .lines) h) e
 
@@ -128,4 +128,4 @@ pub samples-in-range : (F : Form) (bases s : List ℕ) (n : ℕ) (z : State) →
     → AllLe (largest (F .bits)) (z .lines)
 unfolding readLines
 samples-in-range F bases s n z depth e =
-    runs-keep (lineAt F bases s) (startState F bases) (Within F) (start-within F depth bases) (lineAt-within F depth bases s) n z e
+    runs-keep (readLineAt F bases s) (startState F bases) (Within F) (start-within F depth bases) (lineAt-within F depth bases s) n z e

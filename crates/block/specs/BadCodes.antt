@@ -16,7 +16,7 @@ use Rattle.steps.specs.Contexts.{usedQuantiser, noRecord, stepLook, stepSlot}
 use Rattle.pass.specs.Readings.{Reading, readStep, andThen, stepCode}
 use Rattle.map.specs.Places.{widthOf}
 use Rattle.block.specs.Records.{baseOf}
-use Rattle.block.specs.Blocks.{State, runs, enter, passAt, beforeLine, lineAt, startState}
+use Rattle.block.specs.Blocks.{State, runs, enter, passAt, beforeLine, readLineAt, startState}
 use Rattle.block.specs.declared.Form.{Form}
 
 -- ---- one code
@@ -85,4 +85,4 @@ badInLine F bases s n r = firstFound (passAt F (baseOf bases n) s) (badInPass F 
 
 -- the first bad code of the first n lines of the block with the bytes s
 unfoldable pub firstBad : Form → List ℕ → List ℕ → ℕ → Option BadCode
-firstBad F bases s n = firstFound (lineAt F bases s) (badInLine F bases s) n (startState F bases)
+firstBad F bases s n = firstFound (readLineAt F bases s) (badInLine F bases s) n (startState F bases)

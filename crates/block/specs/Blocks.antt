@@ -80,8 +80,8 @@ beforeLine F bases n r =
     }
 
 -- line n
-unfoldable pub lineAt : Form → List ℕ → List ℕ → ℕ → State → Option State
-lineAt F bases s n r = readLine F (baseOf bases n) s (beforeLine F bases n r)
+unfoldable pub readLineAt : Form → List ℕ → List ℕ → ℕ → State → Option State
+readLineAt F bases s n r = readLine F (baseOf bases n) s (beforeLine F bases n r)
 
 -- a block starts with lines of 0, start records, and its first bit
 unfoldable pub startState : Form → List ℕ → State
@@ -95,7 +95,7 @@ startState F bases =
 
 -- the state after n lines of the block with the bytes s; none if one of them is truncated
 unfoldable pub readLines : Form → List ℕ → List ℕ → ℕ → Option State
-readLines F bases s n = runs (lineAt F bases s) n (startState F bases)
+readLines F bases s n = runs (readLineAt F bases s) n (startState F bases)
 
 -- the colour lines after n lines: those of line n − 1
 abbrev pub linesOf : Option State → List ℕ

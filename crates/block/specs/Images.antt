@@ -9,7 +9,7 @@ use Rattle.map.specs.Places.{widthOf, emittedSample, Changed}
 use Rattle.stream.specs.Streams.{rangeOf, rowOf, partOf}
 use Rattle.stream.specs.declared.FujiHeader.{FujiHeader}
 use Rattle.stream.specs.declared.Refusal.the-variants.{Truncated}
-use Rattle.region.specs.Regions.{blockOf, firstBlock, lastBlock, partIn, linesOf as lineCount}
+use Rattle.region.specs.Regions.{blockOf, firstBlock, lastBlock, partIn, lineCount}
 use Rattle.region.specs.declared.Rect.{Rect}
 use Rattle.begin.specs.declared.Beginning.{Beginning}
 use Rattle.begin.specs.declared.Beginning.the-variants as Begin
@@ -27,11 +27,11 @@ abbrev pub formOf : FujiHeader → Form
 formOf h = record { bits = h .bits; xtrans = h .xtrans }
 
 -- the bytes and the bases of block b
-abbrev pub bytesOf : List ℕ → ℕ → List ℕ
-bytesOf d b = partOf d (rangeOf d b)
+abbrev pub bytesIn : List ℕ → ℕ → List ℕ
+bytesIn d b = partOf d (rangeOf d b)
 
-abbrev pub basesOf : List ℕ → ℕ → List ℕ
-basesOf d b = partOf d (rowOf d b)
+abbrev pub basesIn : List ℕ → ℕ → List ℕ
+basesIn d b = partOf d (rowOf d b)
 
 abbrev pub isRead : Option State → Bool
 isRead none = false
@@ -44,7 +44,7 @@ linesRead F bases s (suc n) = cond (isRead (readLines F bases s (suc n))) (suc n
 
 -- and of block b, from line 0 to the region's last line
 abbrev pub readIn : List ℕ → FujiHeader → Rect → ℕ → ℕ
-readIn d h r b = linesRead (formOf h) (basesOf d b) (bytesOf d b) (lineCount r)
+readIn d h r b = linesRead (formOf h) (basesIn d b) (bytesIn d b) (lineCount r)
 
 -- ---- the image, which holds the region alone
 
@@ -60,7 +60,7 @@ isDecoded d h r e i = ltb i (r .width * r .height) && ltb (blockOf r i) e && ltb
 unfoldable pub decodedSample : List ℕ → FujiHeader → Rect → List ℕ → ℕ → ℕ
 decodedSample d h r tile i =
     let b = blockOf r i in
-    let lines = linesOf (readLines (formOf h) (basesOf d b) (bytesOf d b) (suc (lineOf r i))) in
+    let lines = linesOf (readLines (formOf h) (basesIn d b) (bytesIn d b) (suc (lineOf r i))) in
     emittedSample (h .xtrans) (widthOf (h .xtrans)) tile lines (partIn r b) i
 
 -- the image after the blocks below e; all other entries are what they were

@@ -5,7 +5,7 @@ use Prim.Native.Nat.{ℕ}
 use Rattle.stream.specs.declared.FujiHeader.{FujiHeader}
 use Rattle.stream.specs.declared.Parsed.{Parsed}
 use Rattle.stream.specs.declared.Parsed.the-variants as Parsing
-use Rattle.block.specs.Images.{formOf, bytesOf}
+use Rattle.block.specs.Images.{formOf, bytesIn}
 use Rattle.block.specs.Lent.{Scratch, clearedLines, clearedRecords}
 use Rattle.block.specs.TightBlocks.{tightAnswer}
 use Rattle.block.specs.declared.Decoded.{Decoded}
@@ -13,7 +13,7 @@ use Rattle.block.specs.declared.Decoded.the-variants.{Refused}
 
 -- what a call leaves that reads block b of a stream with this header
 pub record TightReading (d : List ℕ) (b : ℕ) (h : FujiHeader) (before after : Scratch) (answer : Decoded) : Type 0 where
-  pub answered : answer ≡ tightAnswer (formOf h) b (h .lines) (bytesOf d b)
+  pub answered : answer ≡ tightAnswer (formOf h) b (h .lines) (bytesIn d b)
   pub lines : after .lines ≡ clearedLines (h .xtrans) (before .lines)
   pub records : after .records ≡ clearedRecords (before .records)
 

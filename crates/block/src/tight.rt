@@ -9,7 +9,7 @@ ghost use Rattle.map.specs.Places.{widthOf, Fits};
 ghost use Rattle.block.specs.Records.{clearRecords};
 ghost use Rattle.block.specs.Blocks.{IsWalked};
 ghost use Rattle.begin.specs.Beginnings.{tightBegins};
-ghost use Rattle.block.specs.Images.{formOf, bytesOf};
+ghost use Rattle.block.specs.Images.{formOf, bytesIn};
 ghost use Rattle.block.specs.Lent.{Scratch, ScratchOf};
 ghost use Rattle.block.specs.TightBlocks.{tightAnswer};
 ghost use Rattle.block.specs.TightReadings.{LeftTight};
@@ -75,7 +75,7 @@ fn read_tight_block(
 ) -> Decoded
     requires { ⌜ (openOf (now d) ≡ Header h) × (h .lossless ≡ true) ⌝ }
     requires { ⌜ ScratchOf (h .xtrans) (now lines) (now rs) ⌝ }
-    ensures { λ a. ⌜ a ≡ tightAnswer (formOf h) b (h .lines) (bytesOf (now (d .entry)) b) ⌝ }
+    ensures { λ a. ⌜ a ≡ tightAnswer (formOf h) b (h .lines) (bytesIn (now (d .entry)) b) ⌝ }
     ensures { λ _. ⌜ (now (lines .exit) ≡ zeroLines (widthOf (h .xtrans))) × (now (rs .exit) ≡ clearRecords) ⌝ }
 {
     let form = form_of(h);

@@ -17,7 +17,7 @@ use Rattle.code.specs.declared.Coded.the-variants.{Read}
 use Rattle.map.specs.Places.{xtransPlace}
 use Rattle.stream.specs.Headers.{parseOf}
 use Rattle.stream.specs.Streams.{openOf, rangeOf}
-use Rattle.stream.specs.Refusals.{numberOf}
+use Rattle.stream.specs.Refusals.{refusalNumber}
 use Rattle.stream.specs.declared.FujiHeader.{FujiHeader}
 use Rattle.stream.specs.declared.Parsed.the-variants as Parsing
 use Rattle.stream.specs.declared.Ranged.the-variants as Range
@@ -29,8 +29,8 @@ stat sum n = record { sum = sum; n = n }
 abbrev pub plus : ℕ → Signed
 plus n = record { negative = false; size = n }
 
-abbrev pub minus : ℕ → Signed
-minus n = record { negative = true; size = n }
+abbrev pub negated : ℕ → Signed
+negated n = record { negative = true; size = n }
 
 -- case h: a one bit and eight ones, then zeros
 abbrev pub bytes-h : List ℕ
@@ -75,7 +75,7 @@ pub record Cases : Type 0 where
   -- (c) levels, base 0
   pub c₁ : levelOf 0 (plus 17) ≡ plus 1
   pub c₂ : levelOf 0 (plus 18) ≡ plus 2
-  pub c₃ : levelOf 0 (minus 276) ≡ minus 4
+  pub c₃ : levelOf 0 (negated 276) ≡ negated 4
   -- (d) the flat quantisers at 14 bits
   pub d₁ : ((flatOf 14 1) .total ≡ 16384) × ((flatOf 14 1) .limit ≡ 41) × (startSum (flatOf 14 1) ≡ 256)
   pub d₂ : ((flatOf 14 2) .total ≡ 5462) × ((flatOf 14 2) .limit ≡ 42) × (startSum (flatOf 14 2) ≡ 85)
@@ -99,8 +99,8 @@ pub record Cases : Type 0 where
   pub j₂ : xtransPlace 767 ≡ 511
   -- (k) a header that parses; byte 4 as 0D is refusal 2
   pub k₁ : parseOf (bytes-k 0x0E) ≡ Parsing.Header header-k
-  pub k₂ : (parseOf (bytes-k 0x0D) ≡ Parsing.Refused BadHeader) × (numberOf BadHeader ≡ 2)
+  pub k₂ : (parseOf (bytes-k 0x0D) ≡ Parsing.Refused BadHeader) × (refusalNumber BadHeader ≡ 2)
   -- (l) that header with 4 zero bytes opens, and its block has no bytes, at the stream's end; with 3 bytes it is refusal 3
   pub l₁ : openOf (bytes-k 0x0E ++ 0 ∷ 0 ∷ 0 ∷ 0 ∷ []) ≡ Parsing.Header header-k
   pub l₂ : rangeOf (bytes-k 0x0E ++ 0 ∷ 0 ∷ 0 ∷ 0 ∷ []) 0 ≡ Range.At (record { 0 = 20 }) 0
-  pub l₃ : (openOf (bytes-k 0x0E ++ 0 ∷ 0 ∷ 0 ∷ []) ≡ Parsing.Refused ShortSizes) × (numberOf ShortSizes ≡ 3)
+  pub l₃ : (openOf (bytes-k 0x0E ++ 0 ∷ 0 ∷ 0 ∷ []) ≡ Parsing.Refused ShortSizes) × (refusalNumber ShortSizes ≡ 3)

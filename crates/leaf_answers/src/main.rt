@@ -3,8 +3,8 @@
 // out of a leaf's range differs.
 ghost use Prim.Native.Nat.{_*_, _^_, _≤_, _<_};
 ghost use lib.ListN.{length};
-ghost use Rattle.prediction.specs.Predictions.{Ranges as ContextRanges};
-ghost use Rattle.quantiser.specs.Quantisers.{Ranges as QuantiserRanges};
+ghost use Rattle.prediction.specs.Predictions.{ContextRanges};
+ghost use Rattle.quantiser.specs.Quantisers.{QuantiserRanges};
 use answers::Tally;
 use answers::word;
 use bits::BitPosition;

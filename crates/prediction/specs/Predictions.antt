@@ -42,7 +42,7 @@ abbrev pub flatnessOf : Context → ℕ
 flatnessOf x = x .first .size + x .second .size
 
 -- the ranges of a context's numbers, where the neighbours are samples of 16 bits
-pub record Ranges (x : Context) : Type 0 where
+pub record ContextRanges (x : Context) : Type 0 where
   pub prediction : x .prediction < 2 ^ 16
   pub first : x .first .size < 2 ^ 16
   pub second : x .second .size < 2 ^ 16

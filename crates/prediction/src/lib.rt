@@ -1,7 +1,7 @@
 // The prediction of a sample from its neighbours, with the two differences that pick its record.
 ghost use mathlib.Core.Path.{_≡_};
 ghost use Prim.Native.Nat.{_+_, _*_, _^_, _≤_, _<_};
-ghost use Rattle.prediction.specs.Predictions.{droppedOf, evenPrediction, extreme, oddPrediction, evenContext, oddContext, flatnessOf, Ranges};
+ghost use Rattle.prediction.specs.Predictions.{droppedOf, evenPrediction, extreme, oddPrediction, evenContext, oddContext, flatnessOf, ContextRanges};
 use numbers::Signed;
 
 // All that a sample's coding goes by.
@@ -32,7 +32,7 @@ fn even_prediction(rf: u32, rc: u32, rb: u32, rd: u32) -> u32
 // The context of a sample at an even position.
 pub fn even(rf: u32, rc: u32, rb: u32, rd: u32) -> Context
     requires { ⌜ (rf < 2 ^ 16) × ((rc < 2 ^ 16) × ((rb < 2 ^ 16) × (rd < 2 ^ 16))) ⌝ }
-    ensures { λ r. ⌜ (r ≡ evenContext rf rc rb rd) × Ranges r ⌝ }
+    ensures { λ r. ⌜ (r ≡ evenContext rf rc rb rd) × ContextRanges r ⌝ }
 {
     Context {
         prediction: even_prediction(rf, rc, rb, rd),
@@ -58,7 +58,7 @@ fn odd_prediction(ra: u32, rg: u32, rb: u32, rc: u32, rd: u32) -> u32
 // The context of a sample at an odd position.
 pub fn odd(ra: u32, rg: u32, rb: u32, rc: u32, rd: u32) -> Context
     requires { ⌜ (ra < 2 ^ 16) × ((rg < 2 ^ 16) × ((rb < 2 ^ 16) × (rc < 2 ^ 16))) ⌝ }
-    ensures { λ r. ⌜ (r ≡ oddContext ra rg rb rc rd) × Ranges r ⌝ }
+    ensures { λ r. ⌜ (r ≡ oddContext ra rg rb rc rd) × ContextRanges r ⌝ }
 {
     Context {
         prediction: odd_prediction(ra, rg, rb, rc, rd),
@@ -70,7 +70,7 @@ pub fn odd(ra: u32, rg: u32, rb: u32, rc: u32, rd: u32) -> Context
 impl Context {
     // How far the two differences reach together.
     pub fn flatness(self) -> u32
-        requires { ⌜ Ranges self ⌝ }
+        requires { ⌜ ContextRanges self ⌝ }
         ensures { λ r. ⌜ r ≡ flatnessOf self ⌝ }
     {
         self.first.size + self.second.size

@@ -40,7 +40,7 @@ abbrev pub flatOf : ℕ → ℕ → Quantiser
 flatOf bits i = quantiserOf bits (i - 1) 3
 
 -- the ranges of a quantiser's numbers
-pub record Ranges (Q : Quantiser) : Type 0 where
+pub record QuantiserRanges (Q : Quantiser) : Type 0 where
   pub base : Q .base < 256
   pub weight : Q .weight ≤ 9
   pub total : Q .total ≤ 2 ^ 16

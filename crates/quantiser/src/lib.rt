@@ -3,7 +3,7 @@ ghost use mathlib.Core.Path.{_≡_};
 ghost use Prim.Native.Nat.{_+_, _-_, _*_, _^_, _≤_, _<_};
 ghost use lib.Dec.{leb};
 ghost use Rattle.numbers.specs.Numbers.{up, down, flag, leastFrom};
-ghost use Rattle.quantiser.specs.Quantisers.{largest, quantiserOf, mainOf, flatOf, Ranges, startSum, thresholdsOf, Serves, levelSize, levelOf, gradientOf};
+ghost use Rattle.quantiser.specs.Quantisers.{largest, quantiserOf, mainOf, flatOf, QuantiserRanges, startSum, thresholdsOf, Serves, levelSize, levelOf, gradientOf};
 use numbers::Signed;
 
 pub struct Quantiser {
@@ -37,7 +37,7 @@ impl Quantiser {
     // One formula for the main quantisers and the flat ones.
     fn new(bits: u32, base: u32, weight: u32) -> Quantiser
         requires { ⌜ (12 ≤ bits) × ((bits ≤ 16) × ((base < 256) × (weight ≤ 9))) ⌝ }
-        ensures { λ r. ⌜ (r ≡ quantiserOf bits base weight) × Ranges r ⌝ }
+        ensures { λ r. ⌜ (r ≡ quantiserOf bits base weight) × QuantiserRanges r ⌝ }
     {
         let total = (largest(bits) + 2 * base) / (2 * base + 1) + 1;
         let raw = log2ceil(total);
@@ -53,7 +53,7 @@ impl Quantiser {
     // The main quantiser of a line; a lossless line has base 0.
     pub fn main(bits: u32, base: u32) -> Quantiser
         requires { ⌜ (12 ≤ bits) × ((bits ≤ 16) × (base < 256)) ⌝ }
-        ensures { λ r. ⌜ (r ≡ mainOf bits base) × Ranges r ⌝ }
+        ensures { λ r. ⌜ (r ≡ mainOf bits base) × QuantiserRanges r ⌝ }
     {
         Quantiser::new(bits, base, 9)
     }
@@ -61,7 +61,7 @@ impl Quantiser {
     // Flat quantiser 1, 2 or 3.
     pub fn flat(bits: u32, i: u32) -> Quantiser
         requires { ⌜ (12 ≤ bits) × ((bits ≤ 16) × ((1 ≤ i) × (i ≤ 3))) ⌝ }
-        ensures { λ r. ⌜ (r ≡ flatOf bits i) × Ranges r ⌝ }
+        ensures { λ r. ⌜ (r ≡ flatOf bits i) × QuantiserRanges r ⌝ }
     {
         Quantiser::new(bits, i - 1, 3)
     }

@@ -9,7 +9,7 @@ use borrow.Author.Tests.{le-ltb}
 use Rattle.map.specs.Places.{Fits}
 use Rattle.map.specs.declared.Part.{Part}
 use Rattle.stream.specs.declared.FujiHeader.{FujiHeader}
-use Rattle.region.specs.Regions.{blockOf, rightOf, bottomOf, firstBlock, lastBlock, linesOf, spanOf, checkedOf, partIn, Accepted}
+use Rattle.region.specs.Regions.{blockOf, rightOf, bottomOf, firstBlock, lastBlock, lineCount, spanOf, checkedOf, partIn, Accepted}
 use Rattle.region.specs.declared.Rect.{Rect}
 use Rattle.region.specs.declared.Checked.the-variants.{Touched}
 use Rattle.region.proofs.CheckLaws.{room-decides, has-samples, says-touched}
@@ -80,14 +80,14 @@ module _ (h : FujiHeader) (r : Rect) (n : ℕ) (a : Accepted h r n) where
 
   -- ---- lines
 
-  pub lines-inside : linesOf r ≤ h .lines
+  pub lines-inside : lineCount r ≤ h .lines
   lines-inside = omega (arith, bottom-is, a .bottom, a .high, a .ruled .height-is)
 
   -- each row before the bottom lies in one of the lines, and the last row in none before the last
-  pub lines-cover : (row : ℕ) → row < bottomOf r → row < 6 * linesOf r
+  pub lines-cover : (row : ℕ) → row < bottomOf r → row < 6 * lineCount r
   lines-cover row l = omega arith
 
-  pub lines-needed : 6 * (linesOf r - 1) ≤ bottomOf r - 1
+  pub lines-needed : 6 * (lineCount r - 1) ≤ bottomOf r - 1
   lines-needed = omega arith
 
   -- ---- entries: those below width·height are the ones that show a row of the region

@@ -48,11 +48,11 @@ abbrev pub lastBlock : Rect → ℕ
 lastBlock r = (rightOf r - 1) / 768
 
 -- line 0 to the region's last line, that of its last row
-abbrev pub linesOf : Rect → ℕ
-linesOf r = (bottomOf r - 1) / 6 + 1
+abbrev pub lineCount : Rect → ℕ
+lineCount r = (bottomOf r - 1) / 6 + 1
 
 unfoldable pub spanOf : Rect → Span
-spanOf r = record { first = firstBlock r; last = lastBlock r; lines = linesOf r }
+spanOf r = record { first = firstBlock r; last = lastBlock r; lines = lineCount r }
 
 unfoldable pub checkedOf : FujiHeader → Rect → ℕ → Checked
 checkedOf h r n = cond (isOutside h r n) (Refused OutsideImage) (cond (isEmpty r) Empty (Touched (spanOf r)))

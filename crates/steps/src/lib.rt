@@ -4,7 +4,7 @@ ghost use mathlib.Core.Bool.{not};
 ghost use Prim.Native.Nat.{_+_, _*_, _^_, _≤_, _<_};
 ghost use lib.ListN.{length, getD, set};
 ghost use Rattle.statistics.specs.Statistics.{updated, InRange};
-ghost use Rattle.prediction.specs.Predictions.{Ranges};
+ghost use Rattle.prediction.specs.Predictions.{ContextRanges};
 ghost use Rattle.code.specs.Samples.{residualOf};
 ghost use Rattle.steps.specs.Steps.{interpolated, planOf};
 ghost use Rattle.steps.specs.Contexts.{evenAt, oddAt, contextAt, usedBase, usedWeight, placeOf, lookOf, slotOf, noRecord};
@@ -147,7 +147,7 @@ pub fn has_code(rule: u32, p: usize) -> bool
 // The context of the sample after place i, at an even and at an odd position, in lines that are s apart.
 fn even_context(lines: &[u16], s: usize, i: usize) -> Context
     requires { ⌜ (s ≤ 514) × ((2 * s ≤ i) × (i + 2 < length (now lines))) ⌝ }
-    ensures { λ r. ⌜ (r ≡ evenAt (now (lines .entry)) s i) × Ranges r ⌝ }
+    ensures { λ r. ⌜ (r ≡ evenAt (now (lines .entry)) s i) × ContextRanges r ⌝ }
 {
     prediction::even(
         u16_to_u32(lines[i + 1 - 2 * s]),
@@ -159,7 +159,7 @@ fn even_context(lines: &[u16], s: usize, i: usize) -> Context
 
 fn odd_context(lines: &[u16], s: usize, i: usize) -> Context
     requires { ⌜ (s ≤ 514) × ((2 * s ≤ i) × (i + 2 < length (now lines))) ⌝ }
-    ensures { λ r. ⌜ (r ≡ oddAt (now (lines .entry)) s i) × Ranges r ⌝ }
+    ensures { λ r. ⌜ (r ≡ oddAt (now (lines .entry)) s i) × ContextRanges r ⌝ }
 {
     prediction::odd(
         u16_to_u32(lines[i]),
@@ -173,7 +173,7 @@ fn odd_context(lines: &[u16], s: usize, i: usize) -> Context
 // The same for position p. Once this is taken into the loop of a pass, where the parity of p is known, the test is gone.
 pub fn context_at(lines: &[u16], s: usize, i: usize, p: usize) -> Context
     requires { ⌜ (s ≤ 514) × ((2 * s ≤ i) × (i + 2 < length (now lines))) ⌝ }
-    ensures { λ r. ⌜ (r ≡ contextAt (now (lines .entry)) s i p) × Ranges r ⌝ }
+    ensures { λ r. ⌜ (r ≡ contextAt (now (lines .entry)) s i p) × ContextRanges r ⌝ }
 {
     if p % 2 == 0 {
         return even_context(lines, s, i);
@@ -207,7 +207,7 @@ fn place_of(choice: u32, size: u32) -> usize
 // What a sample's coding goes by. A lossless line, with base 0, comes first: its thresholds are constants there. In a lossy one the thresholds of the
 // line's base serve flat quantisers too, whose differences are small; so only the first threshold waits for the choice.
 pub fn look_of(base: u32, x: Context) -> Look
-    requires { ⌜ (base < 256) × Ranges x ⌝ }
+    requires { ⌜ (base < 256) × ContextRanges x ⌝ }
     ensures { λ r. ⌜ (r ≡ lookOf base x) × ((r .choice ≤ 3) × ((r .base < 256) × (r .place < 56))) ⌝ }
 {
     if base == 0 {

@@ -1,12 +1,12 @@
 -- Refusals and their numbers. Assumes nothing.
 use Prim.Native.Nat.{ℕ, _≤_}
 use lib.Dec.{lit≤}
-use Rattle.stream.specs.Refusals.{numberOf}
+use Rattle.stream.specs.Refusals.{refusalNumber}
 use Rattle.stream.specs.declared.Refusal.{Refusal}
 use Rattle.stream.specs.declared.Refusal.the-variants.{ShortHeader, BadHeader, ShortSizes, ShortBases, NoBlock, WrongSize, OutsideImage, Lossy, WrongCount, ShortScratch, AboveLargest, NotPredicted, ShortOutput, Truncated, NotTight, Lossless, WrongBases, BadRecord, HeldTwice, NotHeld, OutsideSheet}
 
 -- no refusal has the number 0
-pub number-low : (r : Refusal) → 1 ≤ numberOf r
+pub number-low : (r : Refusal) → 1 ≤ refusalNumber r
 number-low ShortHeader = lit≤ tt
 number-low BadHeader = lit≤ tt
 number-low ShortSizes = lit≤ tt

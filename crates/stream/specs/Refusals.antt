@@ -39,8 +39,8 @@ meaningOf (HeldTwice line) = naming 19 none (some line) none
 meaningOf (NotHeld line) = naming 20 none (some line) none
 meaningOf OutsideSheet = naming 24 none none none
 
-abbrev pub numberOf : Refusal → ℕ
-numberOf r = (meaningOf r) .number
+abbrev pub refusalNumber : Refusal → ℕ
+refusalNumber r = (meaningOf r) .number
 
 -- ---- for C
 

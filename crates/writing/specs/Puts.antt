@@ -106,10 +106,10 @@ wrongAt (Wrong j) = j
 -- ---- a pass
 
 -- what it starts with
-abbrev pub begun : List ℕ → Set → Writing
-begun lines s = record { lines = lines; set = recordsOf s; bits = []; wrong = none }
+abbrev pub begunWriting : List ℕ → Set → Writing
+begunWriting lines s = record { lines = lines; set = recordsOf s; bits = []; wrong = none }
 
-pub record PassAsks (bits W : ℕ) (P : Plan) (t : List ℕ) (n : ℕ) (store : Bool) (from : BitPosition) (lines : List ℕ) (s : Set) (out : List ℕ) : Type 0 where
+pub record WriteAsks (bits W : ℕ) (P : Plan) (t : List ℕ) (n : ℕ) (store : Bool) (from : BitPosition) (lines : List ℕ) (s : Set) (out : List ℕ) : Type 0 where
   pub low : 8 ≤ W
   pub high : W ≤ 512
   pub even : W % 2 ≡ 0
@@ -122,7 +122,7 @@ pub record PassAsks (bits W : ℕ) (P : Plan) (t : List ℕ) (n : ℕ) (store : 
   pub held : Within (largest bits) lines
   pub records : SetInRange (recordsOf s)
   pub position : from .0 < 2 ^ 59
-  pub room : Room store out (from .0) ((writePass bits W t n P (begun lines s)) .bits)
+  pub room : Room store out (from .0) ((writePass bits W t n P (begunWriting lines s)) .bits)
 
 -- where every interpolated sample is its prediction, by the writing z
 pub record IsWritten (z : Writing) (from : ℕ) (store : Bool) (out lines' out' : List ℕ) (r : PassPut) : Type 0 where
@@ -142,6 +142,6 @@ abbrev pub IsPassPut : Option ℕ → Writing → ℕ → Bool → (out lines' o
 IsPassPut none z from store out lines' out' r = IsWritten z from store out lines' out' r
 IsPassPut (some j) z from store out lines' out' r = IsWrong j store out out' r
 
-pub record PassGives (z : Writing) (store : Bool) (from : BitPosition) (out lines' out' : List ℕ) (r : PassPut) : Type 0 where
+pub record WriteGives (z : Writing) (store : Bool) (from : BitPosition) (out lines' out' : List ℕ) (r : PassPut) : Type 0 where
   pub answer : IsPassPut (z .wrong) z (from .0) store out lines' out' r
   pub records : SetInRange (recordsOf (r .set))

@@ -2,14 +2,14 @@
 ghost use mathlib.Core.Path.{_≡_};
 ghost use Prim.Native.Nat.{_+_, _*_, _^_, _≤_, _<_};
 ghost use lib.ListN.{length};
-ghost use Rattle.prediction.specs.Predictions.{Ranges};
+ghost use Rattle.prediction.specs.Predictions.{ContextRanges};
 ghost use Rattle.code.specs.Tight.{stepsUp, residualUp, codeOfResidual, codeFor, codeBits, codeLength};
 ghost use Rattle.steps.specs.Steps.{evenPart, oddPart};
 ghost use Rattle.steps.specs.Contexts.{lookOf, slotOf};
 ghost use Rattle.steps.specs.Values.{zipRecords, SetInRange};
 ghost use Rattle.writing.specs.Sets.{rankOf, indexIn, lineSize};
 ghost use Rattle.writing.specs.Writings.{writePass};
-ghost use Rattle.writing.specs.Puts.{codeNumber, putIf, Room, StepsAsk, StepsPut, wrongAt, begun, PassAsks, PassGives};
+ghost use Rattle.writing.specs.Puts.{codeNumber, putIf, Room, StepsAsk, StepsPut, wrongAt, begunWriting, WriteAsks, WriteGives};
 use bits::BitPosition;
 use numbers::u16_to_u32;
 use prediction::Context;
@@ -155,7 +155,7 @@ struct Coding {
 // This for a wanted sample v, at position p in the context x.
 fn coded_as(m: u32, p: usize, x: Context, v: u32) -> Coding
     requires { ⌜ (m < 2 ^ 16) × ((x .prediction ≤ m) × (v ≤ m)) ⌝ }
-    requires { ⌜ Ranges x ⌝ }
+    requires { ⌜ ContextRanges x ⌝ }
     ensures { λ r. ⌜ (r .slot ≡ slotOf p ((lookOf 0 x) .place)) × (r .slot < 112) ⌝ }
     ensures { λ r. ⌜ (r .code ≡ codeFor m ((lookOf 0 x) .negative) (x .prediction) v) × (r .code ≤ m) ⌝ }
 {
@@ -289,8 +289,8 @@ pub fn write_pass(
     plan: Plan,
     bits: u32,
 ) -> PassPut
-    requires { ⌜ PassAsks bits w plan (now samples) n store from (now lines) set (now out) ⌝ }
-    ensures { λ r. ⌜ PassGives (writePass bits w (now (samples .entry)) n plan (begun (now (lines .entry)) set)) store from
+    requires { ⌜ WriteAsks bits w plan (now samples) n store from (now lines) set (now out) ⌝ }
+    ensures { λ r. ⌜ WriteGives (writePass bits w (now (samples .entry)) n plan (begunWriting (now (lines .entry)) set)) store from
         (now (out .entry)) (now (lines .exit)) (now (out .exit)) r ⌝ }
 {
     let q = Quantiser::main(bits, 0);

@@ -5,7 +5,7 @@ use Prim.Native.Nat.{ℕ, _<_}
 use native.Mathlib.Omega.{arith}
 use Rattle.numbers.specs.Numbers.{minus}
 use Rattle.numbers.specs.declared.Signed.{Signed}
-use Rattle.prediction.specs.Predictions.{evenPrediction, evenContext, Ranges}
+use Rattle.prediction.specs.Predictions.{evenPrediction, evenContext, ContextRanges}
 use Rattle.prediction.specs.declared.Context.{Context}
 use Rattle.prediction.proofs.even.Statement.{statement}
 use Rattle.prediction.proofs.even.Tie as tie

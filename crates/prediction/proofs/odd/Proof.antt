@@ -5,7 +5,7 @@ use Prim.Native.Nat.{ℕ, _<_}
 use native.Mathlib.Omega.{arith}
 use Rattle.numbers.specs.Numbers.{minus}
 use Rattle.numbers.specs.declared.Signed.{Signed}
-use Rattle.prediction.specs.Predictions.{oddPrediction, oddContext, Ranges}
+use Rattle.prediction.specs.Predictions.{oddPrediction, oddContext, ContextRanges}
 use Rattle.prediction.specs.declared.Context.{Context}
 use Rattle.prediction.proofs.odd.Statement.{statement}
 use Rattle.prediction.proofs.odd.Tie as tie

@@ -11,12 +11,12 @@ use Rattle.lines.specs.ColourLines.{zeroLines}
 use Rattle.map.specs.Places.{widthOf, ArePlaces}
 use Rattle.map.specs.declared.Part.{Part}
 use Rattle.stream.specs.declared.FujiHeader.{FujiHeader}
-use Rattle.region.specs.Regions.{firstBlock, lastBlock, spanOf, partIn, Accepted, linesOf as lineCount}
+use Rattle.region.specs.Regions.{firstBlock, lastBlock, spanOf, partIn, Accepted, lineCount}
 use Rattle.region.specs.declared.Rect.{Rect}
 use Rattle.region.specs.declared.Span.{Span}
 use Rattle.region.proofs.RegionLaws.{block-order, block-inside, lines-inside, part-fits}
 use Rattle.block.specs.Blocks.{IsWalked, Shown, shownLines}
-use Rattle.block.specs.Images.{formOf, bytesOf, basesOf, Pictured, answerOf}
+use Rattle.block.specs.Images.{formOf, bytesIn, basesIn, Pictured, answerOf}
 use Rattle.block.specs.Records.{clearRecord, clearRecords}
 use Rattle.block.specs.declared.Decoded.{Decoded}
 use Rattle.block.specs.declared.Form.{Form}
@@ -84,8 +84,8 @@ part-requires c κs =
 
 -- one block more, from what the walk over it gives
 module _ (d tile : List ℕ) (h : FujiHeader) (r : Rect) (n b count : ℕ) (F : Form) (s bases : List ℕ) (a : Part) (w : Walked) (ef : F ≡ formOf h)
-    (es : s ≡ bytesOf d b) (eb : bases ≡ basesOf d b) (ec : count ≡ lineCount r) (walked : IsWalked F bases s count w) where
-  same : IsWalked (formOf h) (basesOf d b) (bytesOf d b) (lineCount r) w
+    (es : s ≡ bytesIn d b) (eb : bases ≡ basesIn d b) (ec : count ≡ lineCount r) (walked : IsWalked F bases s count w) where
+  same : IsWalked (formOf h) (basesIn d b) (bytesIn d b) (lineCount r) w
   same = rw (ef, es, eb, ec) at walked
 
   image-more : (x y z : List ℕ) → Accepted h r n → firstBlock r ≤ b → b ≤ lastBlock r → a ≡ partIn r b → Pictured d h r tile b x y

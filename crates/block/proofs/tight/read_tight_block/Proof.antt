@@ -11,7 +11,7 @@ use Rattle.stream.specs.declared.FujiHeader.{FujiHeader}
 use Rattle.stream.specs.declared.Parsed.the-variants.{Header}
 use Rattle.stream.proofs.StreamLaws.{opened, row-lossless}
 use Rattle.block.specs.Blocks.{IsWalked}
-use Rattle.block.specs.Images.{formOf, bytesOf, basesOf}
+use Rattle.block.specs.Images.{formOf, bytesIn, basesIn}
 use Rattle.block.specs.TightBlocks.{tightAnswer}
 use Rattle.block.specs.declared.Decoded.{Decoded}
 use Rattle.block.specs.declared.Form.{Form}
@@ -34,7 +34,7 @@ walk-requires c κs =
       ),
     )
 
-without-bases : (d : List ℕ) (h : FujiHeader) (b n : ℕ) (F : Form) (bases s : List ℕ) (w : Walked) → openOf d ≡ Header h → h .lossless ≡ true → bases ≡ basesOf d b
+without-bases : (d : List ℕ) (h : FujiHeader) (b n : ℕ) (F : Form) (bases s : List ℕ) (w : Walked) → openOf d ≡ Header h → h .lossless ≡ true → bases ≡ basesIn d b
     → IsWalked F bases s n w → IsWalked F [] s n w
 without-bases d h b n F bases s w e l eb p = rw (eb ∙ row-lossless d h b e l) at p
 
@@ -54,8 +54,8 @@ tight-answer-requires c κs =
           (o .0) (o .1) (q .base-row .ensures) (w .walk .ensures .0),
     )
 
-answered : (d : List ℕ) (h : FujiHeader) (b n : ℕ) (F : Form) (s : List ℕ) (a : Decoded) → F ≡ formOf h → s ≡ bytesOf d b → n ≡ h .lines
-    → a ≡ tightAnswer F b n s → a ≡ tightAnswer (formOf h) b (h .lines) (bytesOf d b)
+answered : (d : List ℕ) (h : FujiHeader) (b n : ℕ) (F : Form) (s : List ℕ) (a : Decoded) → F ≡ formOf h → s ≡ bytesIn d b → n ≡ h .lines
+    → a ≡ tightAnswer F b n s → a ≡ tightAnswer (formOf h) b (h .lines) (bytesIn d b)
 answered d h b n F s a ef es en e = rw (ef, es, en) at e
 
 returns : tie.Need-returns

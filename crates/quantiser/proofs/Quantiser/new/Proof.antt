@@ -6,7 +6,7 @@ use native.Mathlib.Omega.{arith}
 use lib.Dec.{leb}
 use lib.Pow.{pow-mono}
 use Rattle.numbers.specs.Numbers.{leastFrom}
-use Rattle.quantiser.specs.Quantisers.{largest, totalOf, rawOf, quantiserOf, Ranges}
+use Rattle.quantiser.specs.Quantisers.{largest, totalOf, rawOf, quantiserOf, QuantiserRanges}
 use Rattle.quantiser.specs.declared.Quantiser.{Quantiser}
 use Rattle.quantiser.proofs.QuantiserLaws.{total-le, total-pos}
 use Rattle.quantiser.proofs.Quantiser.new.Statement.{statement}

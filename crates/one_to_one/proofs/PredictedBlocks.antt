@@ -22,10 +22,10 @@ use Rattle.block.specs.WrittenBlocks.{WriteState, repeats, enterWriting, writeP
 use Rattle.block.specs.declared.Form.{Form}
 use Rattle.block.proofs.LineLaws.{width-in-range}
 use Rattle.block.proofs.SampleLaws.{zeros-le, turned-le}
-use Rattle.demand.specs.PredictedSets.{sampleAt, predictionIn, isInterpolated, PredictedSet}
-use Rattle.demand.proofs.PredictedSteps.{place, AllRight, writes-wrong}
-use Rattle.demand.proofs.PredictedPasses.{all-both, interpolated-even, steps-coded, ready, LineOf, lines-of, each-before, early-coded, Owner, before, first, second, owner, all-in-pass}
-use Rattle.demand.proofs.PredictedLines.{Found, entered, found-next, prediction-is}
+use Rattle.one_to_one.specs.PredictedSets.{sampleAt, predictionIn, isInterpolated, PredictedSet}
+use Rattle.one_to_one.proofs.PredictedSteps.{place, AllRight, writes-wrong}
+use Rattle.one_to_one.proofs.PredictedPasses.{all-both, interpolated-even, steps-coded, ready, LineOf, lines-of, each-before, early-coded, Owner, before, first, second, owner, all-in-pass}
+use Rattle.one_to_one.proofs.PredictedLines.{Found, entered, found-next, prediction-is}
 
 module _ (F : Form) (t : List ℕ) where
   abbrev W : ℕ

@@ -16,14 +16,14 @@ use Rattle.map.specs.Places.{widthOf}
 use Rattle.writing.specs.Sets.{lineOfRank}
 use Rattle.read_back.proofs.PassBack.{Holds}
 use Rattle.writing.proofs.LosslessLaws.{Lossless}
-use Rattle.block.specs.Blocks.{State, runs, passAt, endLine, readLine, beforeLine, lineAt}
+use Rattle.block.specs.Blocks.{State, runs, passAt, endLine, readLine, beforeLine, readLineAt}
 use Rattle.block.specs.WrittenBlocks.{writePassAt, writeLine}
 use Rattle.block.specs.declared.Form.{Form}
 use Rattle.block.proofs.SampleLaws.{turned-le}
 use Rattle.block.proofs.WrittenLaws.{passAt-adds, passAt-right}
-use Rattle.demand.proofs.PlanLaws.{NotOf, other-lines, passes-lines, lines-passes}
-use Rattle.demand.proofs.RunTwins.{writeStateOf, CleanState, StoredState, StateForward, StateBack, stored-before, Each, sound-after, runs-forward, runs-backward}
-use Rattle.demand.proofs.PassTwins.{SoundState, PassHolds, pass-sound, pass-keeps-others, passAt-forward, passAt-backward}
+use Rattle.one_to_one.proofs.PlanLaws.{NotOf, other-lines, passes-lines, lines-passes}
+use Rattle.one_to_one.proofs.RunTwins.{writeStateOf, CleanState, StoredState, StateForward, StateBack, stored-before, Each, sound-after, runs-forward, runs-backward}
+use Rattle.one_to_one.proofs.PassTwins.{SoundState, PassHolds, pass-sound, pass-keeps-others, passAt-forward, passAt-backward}
 
 -- the samples of all twelve colour lines in line n of the set t stand in the lines
 abbrev pub LineHolds : ℕ → List ℕ → ℕ → List ℕ → Type 0
@@ -83,25 +83,25 @@ module _ (F : Form) (Q : Lossless (F .bits)) (s t : List ℕ) (n : ℕ) where
       go true f = cc
       go false f = let no : _≡_ {A = ℕ} 0 1 = cc in absurd (omega arith)
 
-  line-is : (r z : State) → runs (passAt F 0 s) 6 (before r) ≡ some z → CleanState s z → lineAt F [] s n r ≡ some z
-  unfolding lineAt readLine andThen
+  line-is : (r z : State) → runs (passAt F 0 s) 6 (before r) ≡ some z → CleanState s z → readLineAt F [] s n r ≡ some z
+  unfolding readLineAt readLine andThen
   line-is r z e clean = rw e (end-is z clean)
 
-  line-was : (r z : State) → lineAt F [] s n r ≡ some z → runs (passAt F 0 s) 6 (before r) ≡ some z
-  unfolding lineAt readLine andThen
+  line-was : (r z : State) → readLineAt F [] s n r ≡ some z → runs (passAt F 0 s) 6 (before r) ≡ some z
+  unfolding readLineAt readLine andThen
   line-was r z e = go (runs (passAt F 0 s) 6 (before r)) e
     where
       go : (o : Option State) → andThen o (endLine s) ≡ some z → o ≡ some z
       go none f = f
       go (some y) f = ap some (end-was y z f)
 
-  pub line-sound : (r z : State) → SoundState F r → lineAt F [] s n r ≡ some z → SoundState F z
+  pub line-sound : (r z : State) → SoundState F r → readLineAt F [] s n r ≡ some z → SoundState F z
   line-sound r z ok e =
       sound-after s (passAt F 0 s) (writePassAt F t n) (before r) 6 (SoundState F) (PassHolds F t n) (passes (before r) (before-sound r ok)) 6 z (line-was r z e)
 
   -- where the bits of a line stand, the line is read
   pub line-forward : ((j : ℕ) → getD t j 0 ≤ largest (F .bits)) → (r : State) → SoundState F r → CleanState s r → StoredState s (writeLine F t n (writeStateOf s r))
-      → (z : State) × (StateForward s (lineAt F [] s n) (writeLine F t n) r z × LineHolds W t n (z .lines))
+      → (z : State) × (StateForward s (readLineAt F [] s n) (writeLine F t n) r z × LineHolds W t n (z .lines))
   unfolding writeLine
   line-forward range r ok clean stored =
       let all =
@@ -112,7 +112,7 @@ module _ (F : Form) (Q : Lossless (F .bits)) (s t : List ℕ) (n : ℕ) where
       (z, (record { read = line-is r z (T .read) (T .clean); clean = T .clean; same = T .same }, passes-lines (F .xtrans) (Holds W t n (z .lines)) (all .1 .1)))
 
   -- where a line was read, its bits stand
-  pub line-backward : (r z : State) → SoundState F r → lineAt F [] s n r ≡ some z → CleanState s z → LineHolds W t n (z .lines) → StateBack s (writeLine F t n) r z
+  pub line-backward : (r z : State) → SoundState F r → readLineAt F [] s n r ≡ some z → CleanState s z → LineHolds W t n (z .lines) → StateBack s (writeLine F t n) r z
   unfolding writeLine
   line-backward r z ok e clean holds =
       let all =

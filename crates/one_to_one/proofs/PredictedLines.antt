@@ -19,10 +19,10 @@ use Rattle.lines.proofs.MoveLaws.{place-is, samples-stay, guard-leaves, left-gu
 use Rattle.writing.specs.Sets.{indexIn}
 use Rattle.writing.specs.Writings.{Writing, writes}
 use Rattle.read_back.proofs.OrderLaws.{pass-all, all-pass, pass-apart}
-use Rattle.demand.specs.PredictedSets.{sampleAt, predictionIn}
-use Rattle.demand.proofs.PlanLaws.{two-lines}
-use Rattle.demand.proofs.PredictedSteps.{place, even-sees, writes-leave, writes-length, writes-stand}
-use Rattle.demand.proofs.PredictedPasses.{ready, LineOf, lines-of, Owner, before, first, second, owner, not-ready}
+use Rattle.one_to_one.specs.PredictedSets.{sampleAt, predictionIn}
+use Rattle.one_to_one.proofs.PlanLaws.{two-lines}
+use Rattle.one_to_one.proofs.PredictedSteps.{place, even-sees, writes-leave, writes-length, writes-stand}
+use Rattle.one_to_one.proofs.PredictedPasses.{ready, LineOf, lines-of, Owner, before, first, second, owner, not-ready}
 
 -- what the colour lines hold in line n, after i passes: the samples of the set in each line that is ready, and left of it the first sample of the
 -- line above

@@ -1,4 +1,4 @@
--- Calls of the writer, held against the demand. Assumes nothing.
+-- Calls of the writer, held against the correspondence. Assumes nothing.
 use mathlib.Core.Bool.{Bool, true, false, cond, _||_}
 use mathlib.Core.List.{List, [], _∷_}
 use mathlib.Core.Logic.{_↔_}
@@ -11,7 +11,7 @@ use borrow.Author.Tests.{eq-eqb, ltb-true, ltb-false}
 use Rattle.map.specs.Places.{widthOf}
 use Rattle.stream.specs.declared.FujiHeader.{FujiHeader}
 use Rattle.stream.specs.Headers.{parseOf}
-use Rattle.stream.specs.Refusals.{numberOf, noRefusal}
+use Rattle.stream.specs.Refusals.{refusalNumber, noRefusal}
 use Rattle.stream.specs.declared.Refusal.{Refusal}
 use Rattle.stream.specs.declared.Refusal.the-variants.{ShortScratch}
 use Rattle.stream.specs.declared.Parsed.the-variants as Parsing
@@ -26,10 +26,10 @@ use Rattle.block.specs.WrittenBlocks.{tightBlock}
 use Rattle.block.specs.declared.Written.{Written}
 use Rattle.block.specs.declared.Written.the-variants.{Length, Refused}
 use Rattle.block.proofs.AnswerLaws.{written-fits}
-use Rattle.demand.specs.Demand.{TightBlockOf}
-use Rattle.demand.specs.Calls.{LongEnough, Starts, DemandOfCalls, DemandOfCallsFromC}
-use Rattle.demand.proofs.DemandHolds.{demand-of-headers}
-use Rattle.demand.proofs.WriterHolds.{demand-of-writers}
+use Rattle.one_to_one.specs.Correspondence.{TightBlockOf}
+use Rattle.one_to_one.specs.Calls.{LongEnough, Starts, CorrespondenceOfCalls, CorrespondenceOfCallsFromC}
+use Rattle.one_to_one.proofs.CorrespondenceHolds.{correspondence-of-headers}
+use Rattle.one_to_one.proofs.WriterHolds.{correspondence-of-writers}
 
 clash : {X : Type 0} (r : Refusal) (n : ℕ) → Refused r ≡ Length n → X
 clash r n e = let no : _≡_ {A = ℕ} 0 1 = cc in absurd (omega arith)
@@ -49,7 +49,7 @@ module _ (d : List ℕ) (h : FujiHeader) (e : parseOf d ≡ Parsing.Header h) (l
   Put = (answer ≡ Length n) × Starts (b .block) before after
 
   size : length t ≡ setSize (widthOf (h .xtrans)) (h .lines)
-  size = demand-of-headers d h e lossless .sets t .1 b .size
+  size = correspondence-of-headers d h e lossless .sets t .1 b .size
 
   begins : writingBegins d (length t) samples records ≡ withScratch h samples records
   unfolding writingBegins
@@ -62,8 +62,8 @@ module _ (d : List ℕ) (h : FujiHeader) (e : parseOf d ≡ Parsing.Header h) (l
   done : SetWriting t h before after answer → samplesNeeded (h .xtrans) ≤ samples → recordsNeeded ≤ records → Put ↔ LongEnough h (b .block) before
   done L hl hr = (
     λ p. record { out = written-fits (formOf h) (h .lines) t (length (before .out)) n size (sym (L .answered) ∙ p .0) .2; lines = hl; records = hr },
-    λ l. let a = demand-of-writers d h e lossless .answered t (before .out) b (l .out) in
-        let w = demand-of-writers d h e lossless .whole t (before .out) n size a in
+    λ l. let a = correspondence-of-writers d h e lossless .answered t (before .out) b (l .out) in
+        let w = correspondence-of-writers d h e lossless .whole t (before .out) n size a in
         let is : answer ≡ Length n = L .answered ∙ a in
         (is, L .output ∙ ap (λ (x : Written). writtenOut x (tightBlock (formOf h) (h .lines) t) (before .out)) (L .answered) ∙ w .output ∙ rw (w .only b)),
   )
@@ -77,19 +77,19 @@ module _ (d : List ℕ) (h : FujiHeader) (e : parseOf d ≡ Parsing.Header h) (l
   call : LeftWritten t (writingBegins d (length t) samples records) before after answer → Put ↔ LongEnough h (b .block) before
   call L = go (ltb samples (samplesNeeded (h .xtrans))) (ltb records recordsNeeded) refl refl (rw begins at L)
 
-pub demand-of-calls : DemandOfCalls
-demand-of-calls d h e lossless t b before after answer L = call d h e lossless t b before after answer L
+pub correspondence-of-calls : CorrespondenceOfCalls
+correspondence-of-calls d h e lossless t b before after answer L = call d h e lossless t b before after answer L
 
 -- ---- from C
 
 -- a length is told by no refusal, and a refusal is not
 told-length : (a : Written) (n : ℕ) → n ∷ [] ≡ writtenWords a → noRefusal ≡ writtenRefusal a → a ≡ Length n
 told-length (Length m) n e f = let q : n ≡ m = cc in ap Length (sym q)
-told-length (Refused r) n e f = let q : 0 ≡ numberOf r = cc in absurd (omega (arith, number-low r))
+told-length (Refused r) n e f = let q : 0 ≡ refusalNumber r = cc in absurd (omega (arith, number-low r))
 
-pub demand-of-calls-from-c : DemandOfCallsFromC
-demand-of-calls-from-c d h e lossless t b before after size words T =
-    let c = demand-of-calls d h e lossless t b before after (T .answer) (T .left) in (
+pub correspondence-of-calls-from-c : CorrespondenceOfCallsFromC
+correspondence-of-calls-from-c d h e lossless t b before after size words T =
+    let c = correspondence-of-calls d h e lossless t b before after (T .answer) (T .left) in (
       λ p. c .0 (told-length (T .answer) (length (b .block)) (sym (p .0) ∙ T .told-size) (sym (p .1) ∙ T .told), p .2),
       λ l. let p = c .1 l in (T .told-size ∙ ap writtenWords (p .0), T .told ∙ ap writtenRefusal (p .0), p .1),
     )

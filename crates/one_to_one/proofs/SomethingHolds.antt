@@ -14,14 +14,14 @@ use Rattle.stream.specs.Streams.{openOf}
 use Rattle.stream.specs.declared.FujiHeader.{FujiHeader}
 use Rattle.stream.specs.declared.Parsed.the-variants.{Header}
 use Rattle.stream.proofs.HeaderLaws.{ruled}
-use Rattle.region.specs.Regions.{Accepted, firstBlock, lastBlock, linesOf as lineCount}
+use Rattle.region.specs.Regions.{Accepted, firstBlock, lastBlock, lineCount}
 use Rattle.region.specs.declared.Rect.{Rect}
 use Rattle.region.proofs.RegionLaws.{block-inside, block-order, lines-inside}
 use Rattle.writing.specs.Sets.{setSize}
-use Rattle.block.specs.Blocks.{State, lineAt, startState, readLines}
+use Rattle.block.specs.Blocks.{State, readLineAt, startState, readLines}
 use Rattle.begin.specs.declared.Beginning.the-variants.{Reading}
 use Rattle.begin.proofs.CallLaws.{region-reads}
-use Rattle.block.specs.Images.{formOf, bytesOf, linesRead, readIn, answerOf, Decoding, Left}
+use Rattle.block.specs.Images.{formOf, bytesIn, linesRead, readIn, answerOf, Decoding, Left}
 use Rattle.block.specs.Lent.{Buffers}
 use Rattle.block.specs.TightBlocks.{Tight}
 use Rattle.block.specs.WrittenBlocks.{writeLines, tightBlock}
@@ -31,12 +31,12 @@ use Rattle.block.specs.declared.Form.{Form}
 use Rattle.block.proofs.DecodeLaws.{all-read}
 use Rattle.block.proofs.RunLaws.{runs-stay}
 use Rattle.block.proofs.WalkLaws.{lines-short}
-use Rattle.demand.specs.Demand.{Bytes}
-use Rattle.demand.specs.AcceptedStreams.{regionOf, SomethingAccepted}
-use Rattle.demand.proofs.DemandHolds.{demand-of-headers, no-bases}
-use Rattle.demand.proofs.PredictedBlocks.{fits-is}
-use Rattle.demand.proofs.ZerosFit.{zeros-fit}
-use Rattle.demand.proofs.StreamOfBlocks.{streamOf, stream-bytes, opens, block-there}
+use Rattle.one_to_one.specs.Correspondence.{Bytes}
+use Rattle.one_to_one.specs.AcceptedStreams.{regionOf, SomethingAccepted}
+use Rattle.one_to_one.proofs.CorrespondenceHolds.{correspondence-of-headers, no-bases}
+use Rattle.one_to_one.proofs.PredictedBlocks.{fits-is}
+use Rattle.one_to_one.proofs.ZerosFit.{zeros-fit}
+use Rattle.one_to_one.proofs.StreamOfBlocks.{streamOf, stream-bytes, opens, block-there}
 
 -- where all lines are read, fewer are too
 fewer-read : (F : Form) (s : List ℕ) (n m : ℕ) (z : State) → readLines F [] s n ≡ some z → m ≤ n → linesRead F [] s m ≡ m
@@ -47,7 +47,7 @@ fewer-read F s n m z e h = go (readLines F [] s m) refl
     go (some y) f = all-read F [] s m y f
     go none f =
         let k : m + (n - m) ≡ n = omega arith in
-        let g : readLines F [] s n ≡ none = rw k at (runs-stay (lineAt F [] s) (startState F []) m (n - m) f) in
+        let g : readLines F [] s n ≡ none = rw k at (runs-stay (readLineAt F [] s) (startState F []) m (n - m) f) in
         let c : some z ≡ none = sym e ∙ g in
         let no : _≡_ {A = ℕ} 0 1 = cc in
         absurd (omega arith)
@@ -74,7 +74,7 @@ module _ (d : List ℕ) (h : FujiHeader) (bytes : Bytes d) (e : parseOf d ≡ He
 
   W : Bytes block × Tight F (h .lines) block
   unfolding block
-  W = let w = demand-of-headers d h e lossless .written zeros (fits-is F (h .lines) zeros .0 (zeros-fit F (h .lines))) in (w .0, w .1)
+  W = let w = correspondence-of-headers d h e lossless .written zeros (fits-is F (h .lines) zeros .0 (zeros-fit F (h .lines))) in (w .0, w .1)
 
   stream : List ℕ
   stream = streamOf d h e lossless block short
@@ -83,7 +83,7 @@ module _ (d : List ℕ) (h : FujiHeader) (bytes : Bytes d) (e : parseOf d ≡ He
   unfolding stream
   stream-opens = opens d h e lossless block short
 
-  there : (b : ℕ) → b < h .blocks → bytesOf stream b ≡ block
+  there : (b : ℕ) → b < h .blocks → bytesIn stream b ≡ block
   unfolding stream
   there = block-there d h e lossless block short
 

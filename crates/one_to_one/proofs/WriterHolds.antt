@@ -1,4 +1,4 @@
--- The writer, held against the demand. Assumes nothing.
+-- The writer, held against the correspondence. Assumes nothing.
 use mathlib.Core.List.{List}
 use mathlib.Core.Path.{_≡_, ap}
 use Prim.Native.Nat.{ℕ, _≤_}
@@ -12,11 +12,11 @@ use Rattle.block.specs.declared.Form.{Form}
 use Rattle.block.specs.declared.Written.{Written}
 use Rattle.block.specs.declared.Written.the-variants.{Length}
 use Rattle.block.proofs.AnswerLaws.{written-fits, fits-written}
-use Rattle.demand.specs.Demand.{Demand, TightBlockOf, WrittenWhole, DemandOfWriters}
-use Rattle.demand.proofs.DemandHolds.{demand-of-headers}
-use Rattle.demand.proofs.PredictedBlocks.{fits-is}
+use Rattle.one_to_one.specs.Correspondence.{Correspondence, TightBlockOf, WrittenWhole, CorrespondenceOfWriters}
+use Rattle.one_to_one.proofs.CorrespondenceHolds.{correspondence-of-headers}
+use Rattle.one_to_one.proofs.PredictedBlocks.{fits-is}
 
-module _ (F : Form) (lines : ℕ) (D : Demand F lines) where
+module _ (F : Form) (lines : ℕ) (D : Correspondence F lines) where
   -- the tight block of a set that fits, as one from which the set is read
   its-block : (t : List ℕ) → FitSet F lines t → TightBlockOf F lines t
   its-block t f =
@@ -43,7 +43,7 @@ module _ (F : Form) (lines : ℕ) (D : Demand F lines) where
       let e : b .block ≡ tightBlock F lines t = D .one t b (its-block t f) in
       rw e (fits-written F lines t (length out) f (rw e at room))
 
-pub demand-of-writers : DemandOfWriters
-demand-of-writers d h e lossless =
-    let D = demand-of-headers d h e lossless in
+pub correspondence-of-writers : CorrespondenceOfWriters
+correspondence-of-writers d h e lossless =
+    let D = correspondence-of-headers d h e lossless in
     record { whole = whole (formOf h) (h .lines) D; answered = answered (formOf h) (h .lines) D }

@@ -1,4 +1,4 @@
--- The proof of demand 3.
+-- Proofs that tight blocks and sets of colour lines correspond one to one.
 pub mod PlanLaws
 pub mod RunTwins
 pub mod PassTwins
@@ -6,7 +6,7 @@ pub mod LineTwins
 pub mod BlockTwins
 pub mod BlockLaws
 pub mod AnswerLaws
-pub mod DemandHolds
+pub mod CorrespondenceHolds
 pub mod WriterHolds
 pub mod CallsHold
 pub mod ZerosFit

@@ -1,4 +1,4 @@
--- Demand 3 for calls of the writer: from what `write_block` and its function for C promise (crates/block), whatever output and scratch held before.
+-- Calls of the writer: from what `write_block` and its function for C promise (crates/block), whatever output and scratch held before.
 -- For the set of a tight block they write that block, answer its length, and leave the rest of the output as it was, exactly if output and scratch
 -- are long enough. Assumes nothing.
 use mathlib.Core.Bool.{true}
@@ -18,7 +18,7 @@ use Rattle.block.specs.Words.{ToldWritten}
 use Rattle.block.specs.WrittenAnswers.{LeftWritten}
 use Rattle.block.specs.declared.Written.{Written}
 use Rattle.block.specs.declared.Written.the-variants.{Length}
-use Rattle.demand.specs.Demand.{TightBlockOf}
+use Rattle.one_to_one.specs.Correspondence.{TightBlockOf}
 
 -- the output has room for the block, and scratch is not refused by 10
 pub record LongEnough (h : FujiHeader) (block : List ℕ) (before : Outputs) : Type 0 where
@@ -30,16 +30,16 @@ pub record LongEnough (h : FujiHeader) (block : List ℕ) (before : Outputs) : T
 abbrev pub Starts : List ℕ → (before after : Outputs) → Type 0
 Starts block before after = after .out ≡ block ++ drop (length block) (before .out)
 
-abbrev pub DemandOfCalls : Type 0
-DemandOfCalls =
+abbrev pub CorrespondenceOfCalls : Type 0
+CorrespondenceOfCalls =
     (d : List ℕ) (h : FujiHeader) → parseOf d ≡ Header h → h .lossless ≡ true
     → (t : List ℕ) (b : TightBlockOf (formOf h) (h .lines) t) (before after : Outputs) (answer : Written)
     → LeftWritten t (writingBegins d (length t) (length (before .lines)) (length (before .records))) before after answer
     → ((answer ≡ Length (length (b .block))) × Starts (b .block) before after) ↔ LongEnough h (b .block) before
 
 -- the same from C: the length, no refusal, and the block
-abbrev pub DemandOfCallsFromC : Type 0
-DemandOfCallsFromC =
+abbrev pub CorrespondenceOfCallsFromC : Type 0
+CorrespondenceOfCallsFromC =
     (d : List ℕ) (h : FujiHeader) → parseOf d ≡ Header h → h .lossless ≡ true
     → (t : List ℕ) (b : TightBlockOf (formOf h) (h .lines) t) (before after : Outputs) (size words : List ℕ)
     → ToldWritten d t before after size words

@@ -1,4 +1,4 @@
--- Demand 3, under one lossless form and number of lines: tight blocks and sets of colour lines that fit correspond one to one, and the block that is
+-- Under one lossless form and number of lines: tight blocks and sets of colour lines that fit correspond one to one, and the block that is
 -- written for a set is the one that corresponds to it. Assumes nothing.
 use mathlib.Core.Bool.{true}
 use mathlib.Core.List.{List, [], _++_}
@@ -13,14 +13,14 @@ use Rattle.stream.specs.declared.FujiHeader.{FujiHeader}
 use Rattle.stream.specs.declared.Parsed.the-variants.{Header}
 use Rattle.writing.specs.Sets.{setSize, lineOfRank, indexIn}
 use Rattle.block.specs.Blocks.{readLines, linesOf}
-use Rattle.block.specs.Images.{formOf, basesOf}
+use Rattle.block.specs.Images.{formOf, basesIn}
 use Rattle.block.specs.TightBlocks.{Tight, setRead, tightAnswer}
 use Rattle.block.specs.WrittenBlocks.{tightBlock}
 use Rattle.block.specs.WrittenAnswers.{writtenAnswer, writtenOut}
 use Rattle.block.specs.declared.Decoded.the-variants.{Done}
 use Rattle.block.specs.declared.Form.{Form}
 use Rattle.block.specs.declared.Written.the-variants.{Length}
-use Rattle.demand.specs.PredictedSets.{PredictedSet}
+use Rattle.one_to_one.specs.PredictedSets.{PredictedSet}
 
 -- bytes are numbers below 256
 abbrev pub Bytes : List ℕ → Type 0
@@ -33,7 +33,7 @@ pub record TightBlockOf (F : Form) (lines : ℕ) (t : List ℕ) : Type 0 where
   pub tight : Tight F lines block
   pub reads : setRead F lines block ≡ t
 
-pub record Demand (F : Form) (lines : ℕ) : Type 0 where
+pub record Correspondence (F : Form) (lines : ℕ) : Type 0 where
   -- two tight blocks are equal exactly when their sets are
   pub same : (a b : List ℕ) → Bytes a → Bytes b → Tight F lines a → Tight F lines b → (a ≡ b) ↔ (setRead F lines a ≡ setRead F lines b)
   -- a set is read from a tight block exactly when its samples are in 0..M and each interpolated position has its prediction
@@ -51,15 +51,15 @@ pub record Demand (F : Form) (lines : ℕ) : Type 0 where
       → getD (setRead F lines s) (indexIn (widthOf (F .xtrans)) n (lineOfRank c) p) 0
       ≡ getD (linesOf (readLines F [] s (suc n))) (lineOfRank c * (widthOf (F .xtrans) + 2) + p + 1) 0
 
--- the demand, under every lossless header that breaks no rule
-abbrev pub DemandOfHeaders : Type 0
-DemandOfHeaders = (d : List ℕ) (h : FujiHeader) → parseOf d ≡ Header h → h .lossless ≡ true → Demand (formOf h) (h .lines)
+-- the correspondence, under every lossless header that breaks no rule
+abbrev pub CorrespondenceOfHeaders : Type 0
+CorrespondenceOfHeaders = (d : List ℕ) (h : FujiHeader) → parseOf d ≡ Header h → h .lossless ≡ true → Correspondence (formOf h) (h .lines)
 
--- in a lossless stream that opens no block has bases, so that decoding reads what the demand is about, `readLines F []`
+-- in a lossless stream that opens no block has bases, so that decoding reads what the correspondence is about, `readLines F []`
 abbrev pub NoBases : Type 0
-NoBases = (d : List ℕ) (h : FujiHeader) → openOf d ≡ Header h → h .lossless ≡ true → (b : ℕ) → basesOf d b ≡ []
+NoBases = (d : List ℕ) (h : FujiHeader) → openOf d ≡ Header h → h .lossless ≡ true → (b : ℕ) → basesIn d b ≡ []
 
--- ---- the writer: what `write_block` (crates/block) promises, and the demand, in one place
+-- ---- the writer: what `write_block` (crates/block) promises, and the correspondence, in one place
 
 -- what holds where it answers the length n for the set t, with so many bytes of output
 pub record WrittenWhole (F : Form) (lines : ℕ) (t out : List ℕ) (n : ℕ) : Type 0 where
@@ -71,11 +71,11 @@ pub record WrittenWhole (F : Form) (lines : ℕ) (t out : List ℕ) (n : ℕ) : 
   pub reads : setRead F lines (tightBlock F lines t) ≡ t
   pub only : (b : TightBlockOf F lines t) → b .block ≡ tightBlock F lines t
 
-pub record DemandOfWriter (F : Form) (lines : ℕ) : Type 0 where
+pub record CorrespondenceOfWriter (F : Form) (lines : ℕ) : Type 0 where
   -- a length is answered only where all of that holds
   pub whole : (t out : List ℕ) (n : ℕ) → length t ≡ setSize (widthOf (F .xtrans)) lines → writtenAnswer F lines t (length out) ≡ Length n → WrittenWhole F lines t out n
   -- and it is answered for every set that is read from a tight block, where the output is long enough for that block
   pub answered : (t out : List ℕ) (b : TightBlockOf F lines t) → length (b .block) ≤ length out → writtenAnswer F lines t (length out) ≡ Length (length (b .block))
 
-abbrev pub DemandOfWriters : Type 0
-DemandOfWriters = (d : List ℕ) (h : FujiHeader) → parseOf d ≡ Header h → h .lossless ≡ true → DemandOfWriter (formOf h) (h .lines)
+abbrev pub CorrespondenceOfWriters : Type 0
+CorrespondenceOfWriters = (d : List ℕ) (h : FujiHeader) → parseOf d ≡ Header h → h .lossless ≡ true → CorrespondenceOfWriter (formOf h) (h .lines)

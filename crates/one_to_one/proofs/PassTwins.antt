@@ -26,8 +26,8 @@ use Rattle.block.specs.WrittenBlocks.{leaveWriting, writePassAt}
 use Rattle.block.specs.declared.Form.{Form}
 use Rattle.block.proofs.LineLaws.{width-in-range}
 use Rattle.block.proofs.SampleLaws.{guarded-le}
-use Rattle.demand.proofs.PlanLaws.{two-lines, NotOf}
-use Rattle.demand.proofs.RunTwins.{writeStateOf, CleanState, StoredState, StateForward, StateBack}
+use Rattle.one_to_one.proofs.PlanLaws.{two-lines, NotOf}
+use Rattle.one_to_one.proofs.RunTwins.{writeStateOf, CleanState, StoredState, StateForward, StateBack}
 
 abbrev pub SoundState : Form → State → Type 0
 SoundState F r = Sound (F .bits) (widthOf (F .xtrans)) (r .lines)

@@ -16,7 +16,7 @@ use Rattle.stream.specs.declared.Parsed.the-variants.{Header}
 use Rattle.stream.proofs.HeaderLaws.{IsParsed, parsed, parse-good, ruled}
 use Rattle.stream.proofs.StreamLaws.{open-parsed, range-opened}
 use Rattle.block.proofs.SampleLaws.{zeros-le}
-use Rattle.demand.specs.Demand.{Bytes}
+use Rattle.one_to_one.specs.Correspondence.{Bytes}
 
 -- ---- copies of a list
 

@@ -1,4 +1,4 @@
--- Demand 3 holds. Assumes nothing.
+-- The correspondence holds. Assumes nothing.
 use mathlib.Core.Bool.{Bool, false}
 use mathlib.Core.List.{List, [], _++_}
 use mathlib.Core.Logic.{_↔_}
@@ -24,12 +24,12 @@ use Rattle.block.specs.TightBlocks.{Tight, setRead}
 use Rattle.block.specs.WrittenBlocks.{WriteState, writeLines, tightBlock, FitSet}
 use Rattle.block.specs.declared.Form.{Form}
 use Rattle.block.proofs.LineLaws.{width-in-range}
-use Rattle.demand.specs.Demand.{Bytes, TightBlockOf, Demand, DemandOfHeaders, NoBases}
-use Rattle.demand.proofs.AnswerLaws.{done-tight, tight-done}
-use Rattle.demand.proofs.PredictedBlocks.{fits-is}
-use Rattle.demand.proofs.BlockLaws.{set-size, set-at, set-shown, set-le, Tail, tail-was, tail-is}
-use Rattle.demand.proofs.BlockTwins.{Shows, lines-forward, lines-backward}
-use Rattle.demand.proofs.RunTwins.{writeStateOf, CleanState, StoredState}
+use Rattle.one_to_one.specs.Correspondence.{Bytes, TightBlockOf, Correspondence, CorrespondenceOfHeaders, NoBases}
+use Rattle.one_to_one.proofs.AnswerLaws.{done-tight, tight-done}
+use Rattle.one_to_one.proofs.PredictedBlocks.{fits-is}
+use Rattle.one_to_one.proofs.BlockLaws.{set-size, set-at, set-shown, set-le, Tail, tail-was, tail-is}
+use Rattle.one_to_one.proofs.BlockTwins.{Shows, lines-forward, lines-backward}
+use Rattle.one_to_one.proofs.RunTwins.{writeStateOf, CleanState, StoredState}
 
 module _ (F : Form) (Q : Lossless (F .bits)) (lines : ℕ) where
   abbrev W : ℕ
@@ -122,10 +122,10 @@ module _ (F : Form) (Q : Lossless (F .bits)) (lines : ℕ) where
         ∙ bytesOf-bits s l bytes (rw long (end .full))
         (sym (take-append-drop (z .at .0) (bitsOf s)) ∙ rw (long) (ap (λ (r : List Bool). l ++ r) (end .zeros)))
 
--- ---- the demand
+-- ---- the correspondence
 
-pub demand : (F : Form) (lines : ℕ) → Depth (F .bits) → Demand F lines
-demand F lines depth =
+pub correspondence : (F : Form) (lines : ℕ) → Depth (F .bits) → Correspondence F lines
+correspondence F lines depth =
     record {
       same = same;
       sets = λ t. (λ p. from-set t (fits-is F lines t .1 p), λ (a : TightBlockOf F lines t). fits-is F lines t .0 (subst (FitSet F lines) (a .reads) (fits F Q lines (a .block) (a .tight))));
@@ -152,10 +152,10 @@ demand F lines depth =
         }
 
 -- under every lossless header that breaks no rule
-pub demand-of-headers : DemandOfHeaders
-demand-of-headers d h e lossless =
+pub correspondence-of-headers : CorrespondenceOfHeaders
+correspondence-of-headers d h e lossless =
     let R = ruled d h e in
-    demand (formOf h) (h .lines) (R .bits-low, R .bits-high)
+    correspondence (formOf h) (h .lines) (R .bits-low, R .bits-high)
 
 pub no-bases : NoBases
 no-bases d h e lossless b = row-lossless d h b e lossless

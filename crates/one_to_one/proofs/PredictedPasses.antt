@@ -16,9 +16,9 @@ use Rattle.steps.specs.declared.Plan.{Plan}
 use Rattle.read_back.proofs.ListBack.{All}
 use Rattle.read_back.proofs.OrderLaws.{all-append, all-upto, pass-all}
 use Rattle.lines.proofs.MoveLaws.{place-is}
-use Rattle.demand.specs.PredictedSets.{isBefore, isInterpolated}
-use Rattle.demand.proofs.PlanLaws.{firstLine, secondLine, lines-are, each-pass}
-use Rattle.demand.proofs.PredictedSteps.{place, InPass}
+use Rattle.one_to_one.specs.PredictedSets.{isBefore, isInterpolated}
+use Rattle.one_to_one.proofs.PlanLaws.{firstLine, secondLine, lines-are, each-pass}
+use Rattle.one_to_one.proofs.PredictedSteps.{place, InPass}
 
 -- ---- lists of steps
 

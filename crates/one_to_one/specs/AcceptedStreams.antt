@@ -13,12 +13,12 @@ use Rattle.region.specs.declared.Rect.{Rect}
 use Rattle.begin.specs.Beginnings.{regionBegins}
 use Rattle.begin.specs.declared.Beginning.{Beginning}
 use Rattle.begin.specs.declared.Beginning.the-variants.{Reading}
-use Rattle.block.specs.Images.{formOf, bytesOf, Left}
+use Rattle.block.specs.Images.{formOf, bytesIn, Left}
 use Rattle.block.specs.Lent.{Buffers}
 use Rattle.block.specs.TightBlocks.{Tight}
 use Rattle.block.specs.declared.Decoded.{Decoded}
 use Rattle.block.specs.declared.Decoded.the-variants.{Done}
-use Rattle.demand.specs.Demand.{Bytes}
+use Rattle.one_to_one.specs.Correspondence.{Bytes}
 
 -- how a call of `decode_region` with these buffers begins
 abbrev pub regionOf : List ℕ → Rect → Buffers → Beginning
@@ -28,7 +28,7 @@ pub record AcceptedStream (h : FujiHeader) : Type 0 where
   pub stream : List ℕ
   pub bytes : Bytes stream
   pub opens : openOf stream ≡ Header h
-  pub tight : (b : ℕ) → b < h .blocks → Tight (formOf h) (h .lines) (bytesOf stream b)
+  pub tight : (b : ℕ) → b < h .blocks → Tight (formOf h) (h .lines) (bytesIn stream b)
   pub decoded : (r : Rect) (tile : List ℕ) (before after : Buffers) (answer : Decoded) → let b = regionOf stream r before in
       b ≡ Reading h → Left stream r tile b before after answer → answer ≡ Done
 

@@ -9,14 +9,14 @@ use Rattle.quantiser.specs.Quantisers.{largest}
 use Rattle.pass.specs.Readings.{andThen}
 use Rattle.map.specs.Places.{widthOf}
 use Rattle.writing.proofs.LosslessLaws.{Lossless}
-use Rattle.block.specs.Blocks.{State, runs, lineAt, startState, readLines, linesOf}
+use Rattle.block.specs.Blocks.{State, runs, readLineAt, startState, readLines, linesOf}
 use Rattle.block.specs.WrittenBlocks.{writeLine, startWriting, writeLines}
 use Rattle.block.specs.declared.Form.{Form}
 use Rattle.block.proofs.SampleLaws.{zeros-le}
 use Rattle.block.proofs.WrittenLaws.{line-adds, line-right}
-use Rattle.demand.proofs.RunTwins.{writeStateOf, CleanState, StoredState, StateForward, stored-before, Each, runs-forward, runs-backward}
-use Rattle.demand.proofs.PassTwins.{SoundState}
-use Rattle.demand.proofs.LineTwins.{LineHolds, line-sound, line-forward, line-backward}
+use Rattle.one_to_one.proofs.RunTwins.{writeStateOf, CleanState, StoredState, StateForward, stored-before, Each, runs-forward, runs-backward}
+use Rattle.one_to_one.proofs.PassTwins.{SoundState}
+use Rattle.one_to_one.proofs.LineTwins.{LineHolds, line-sound, line-forward, line-backward}
 
 module _ (F : Form) (Q : Lossless (F .bits)) (s t : List ℕ) where
   abbrev W : ℕ
@@ -45,7 +45,7 @@ module _ (F : Form) (Q : Lossless (F .bits)) (s t : List ℕ) where
   abbrev pub Shows : ℕ → Type 0
   Shows m = LineHolds W t m (linesOf (readLines F [] s (suc m)))
 
-  lines : (most : ℕ) → Each s (lineAt F [] s) (writeLine F t) start most (SoundState F) (λ m z. Shows m)
+  lines : (most : ℕ) → Each s (readLineAt F [] s) (writeLine F t) start most (SoundState F) (λ m z. Shows m)
   lines most =
       record {
         start = start-sound;
@@ -55,7 +55,7 @@ module _ (F : Form) (Q : Lossless (F .bits)) (s t : List ℕ) where
         was = λ i c y z h k q e x. x;
       }
 
-  next-read : (n : ℕ) (y z : State) → runs (lineAt F [] s) n start ≡ some y → lineAt F [] s n y ≡ some z → readLines F [] s (suc n) ≡ some z
+  next-read : (n : ℕ) (y z : State) → runs (readLineAt F [] s) n start ≡ some y → readLineAt F [] s n y ≡ some z → readLines F [] s (suc n) ≡ some z
   unfolding readLines runs andThen start
   next-read n y z e f = rw e f
 
@@ -65,12 +65,12 @@ module _ (F : Form) (Q : Lossless (F .bits)) (s t : List ℕ) where
   unfolding readLines writeLines start
   lines-forward range n stored =
       let all =
-      runs-forward s (lineAt F [] s) (writeLine F t) start n (SoundState F) (λ m z. Shows m) (lines n) start-clean one n (le-refl n) (rw start-same at stored) in
+      runs-forward s (readLineAt F [] s) (writeLine F t) start n (SoundState F) (λ m z. Shows m) (lines n) start-clean one n (le-refl n) (rw start-same at stored) in
       let T = all .1 .0 in
       (all .0, (T .read, T .clean, rw start-same (T .same), all .1 .1))
     where
-      one : (i : ℕ) (y : State) → i < n → runs (lineAt F [] s) i start ≡ some y → SoundState F y → CleanState s y → StoredState s (writeLine F t i (writeStateOf s y))
-          → (z : State) × (StateForward s (lineAt F [] s i) (writeLine F t i) y z × Shows i)
+      one : (i : ℕ) (y : State) → i < n → runs (readLineAt F [] s) i start ≡ some y → SoundState F y → CleanState s y → StoredState s (writeLine F t i (writeStateOf s y))
+          → (z : State) × (StateForward s (readLineAt F [] s i) (writeLine F t i) y z × Shows i)
       one i y h e ok clean st =
           let line = line-forward F Q s t i range y ok clean st in
           (line .0, (line .1 .0, rw (next-read i y (line .0) e (line .1 .0 .read)) (line .1 .1)))
@@ -80,6 +80,6 @@ module _ (F : Form) (Q : Lossless (F .bits)) (s t : List ℕ) where
   unfolding readLines writeLines start
   lines-backward n z e clean shows =
       let all =
-      runs-backward s (lineAt F [] s) (writeLine F t) start n (SoundState F) (λ m z. Shows m) (lines n)
+      runs-backward s (readLineAt F [] s) (writeLine F t) start n (SoundState F) (λ m z. Shows m) (lines n)
       (λ i y x h f ok g c k. line-backward F Q s t i y x ok g c (rw (next-read i y x f g) at k)) n z (le-refl n) e clean shows in
       rw start-same (all .same)

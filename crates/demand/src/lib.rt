@@ -1,1 +1,0 @@
-// Demand 3: tight blocks and sets of colour lines correspond one to one. The statement is in specs/Demand.antt, its proof in proofs/; there is no code.
