@@ -36,8 +36,11 @@ fn standard_input_and_output() {
     assert_eq!(says(&shell(&f, "fujiraw info - < /dev/null")), (Some(1), "refusal 1: fewer than 16 bytes of header\n".to_string()));
     // A set and a plan.
     f.put("header", &stream()[..16]);
-    let out = shell(&f, "head -c 18432 /dev/zero | fujiraw write header - - | wc -c");
-    assert_eq!((says(&out), text(&out.stdout).trim()), ((Some(0), String::new()), "1472"));
+    f.put("samples", &[0; 18_432]);
+    f.works("write header samples block");
+    let out = shell(&f, "fujiraw write header - - < samples");
+    assert_eq!(says(&out), (Some(0), String::new()));
+    assert_eq!(out.stdout, f.get("block"));
     let out = shell(&f, r"printf '0\t1\t7\n' | fujiraw plan header - -");
     assert_eq!(says(&out), (Some(1), "refusal 16: the header is lossless\n".to_string()));
 }
@@ -118,17 +121,17 @@ fn files_that_cannot_be_read_or_written() {
     fs::set_permissions(f.0.join("locked"), fs::Permissions::from_mode(0o400)).unwrap();
     fs::create_dir(f.0.join("folder")).unwrap();
     // One byte more than any stream has; the file takes no room.
-    File::create(f.0.join("large")).unwrap().set_len(68_719_520_065).unwrap();
+    File::create(f.0.join("large")).unwrap().set_len(68_719_520_577).unwrap();
     for command in ["info", "check"] {
         f.fails(&format!("{command} missing"), "cannot read missing: no such file or directory");
         f.fails(&format!("{command} folder"), "cannot read folder: is a directory");
         f.fails(&format!("{command} empty"), "refusal 1: fewer than 16 bytes of header");
-        f.fails(&format!("{command} large"), "cannot read large: it is too large, no stream has more than 68719520064 bytes");
+        f.fails(&format!("{command} large"), "cannot read large: it is too large, no stream has more than 68719520576 bytes");
         // A file that the system does not let be read, even by root.
         f.fails(&format!("{command} /proc/self/mem"), "cannot read /proc/self/mem: input/output error");
     }
     f.fails("decode /proc/self/mem out", "cannot read /proc/self/mem: input/output error");
-    f.fails("decode large out", "cannot read large: it is too large, no stream has more than 68719520064 bytes");
+    f.fails("decode large out", "cannot read large: it is too large, no stream has more than 68719520576 bytes");
     f.fails("decode a.fcs locked", "cannot write locked: it is read-only");
     f.fails("decode a.fcs a.fcs", "cannot write a.fcs: it is read for this");
     f.fails("decode a.fcs /proc/none", "cannot write /proc/none: no such file or directory");

@@ -34,8 +34,26 @@ fn usual_tile_shows_the_picture_that_the_encoder_had() {
         f.works(&format!("decode {stream} named --format=raw --tile={tile}"));
         assert_eq!(f.get("named"), f.get("usual"));
         f.works(&format!("decode {stream} other --format=raw --tile grbg"));
-        assert!(farthest(&f.get("other")) > 1000, "{stream}");
+        assert!(farthest(&f.get("other")) > most, "{stream}");
     }
+}
+
+#[test]
+fn xtrans_picture_without_a_tile_is_the_one_that_its_encoder_had() {
+    let f = Folder::new("xtrans");
+    // Neighbours have nothing to do with each other, so a shift shows.
+    let picture = |x: i64, y: i64| ((x * 7919 + y * 104_729) % 16_381) as u16;
+    let lines: Vec<_> = (0..2).map(|n| make_samples::wanted(true, &make_samples::XTRANS, n, picture)).collect();
+    let header = common::stream::Header::new(true, true, 14, 768, 2);
+    f.put("a.fcs", &common::stream::encoded(&header, &[], &mut |_, n, line, p| lines[n][line][p]));
+    let whole: Vec<u8> = (0..12).flat_map(|y| (0..768).flat_map(move |x| picture(x, y).to_le_bytes())).collect();
+    f.works("decode a.fcs usual --format raw");
+    assert!(f.get("usual") == whole);
+    f.works("decode a.fcs named --format raw --tile xtrans");
+    assert!(f.get("named") == whole);
+    // Shifted by a column, as it once was.
+    f.works("decode a.fcs shifted --format raw --tile 121101101121212010101121121101010212");
+    assert!(f.get("shifted") != whole);
 }
 
 #[test]

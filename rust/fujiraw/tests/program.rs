@@ -1,7 +1,7 @@
 //! The program as a user calls it: what it writes, what it says, and its status.
 mod folder;
 
-use common::stream::{Header, encoded};
+use common::stream::{Header, blocks, encoded};
 use folder::{Folder, sample, stream, text};
 use std::fs;
 use std::path::Path;
@@ -154,6 +154,25 @@ fn check_says_of_each_block_whether_it_is_tight() {
     let said = f.run("check cut.fcs");
     assert_eq!(said.status.code(), Some(1));
     assert!(text(&said.stdout).starts_with("cut.fcs: block 0: refusal 14: block 0, line 0: a line is truncated\n"));
+    assert_eq!(text(&said.stderr), "1 block is truncated\n");
+    // Two tight blocks: a byte more after the first, and the second cut.
+    let header = Header::new(true, false, 12, 1536, 1);
+    let blocks = blocks(&header, &[], &mut |_, _, line, p| (line + p) as u16);
+    let longer = [&blocks[0][..], &[0; 16]].concat();
+    let two = |a: &[u8], b: &[u8]| common::stream::stream(&header, &[], &[a.to_vec(), b.to_vec()]);
+    f.put("two.fcs", &two(&blocks[0], &blocks[1]));
+    assert_eq!(f.works("check two.fcs"), "two.fcs: block 0: tight\ntwo.fcs: block 1: tight\n");
+    for (name, first, second, says) in [
+        ("loose", &longer, &blocks[1][..], "1 block is not tight"),
+        ("both", &longer, &longer[..], "2 blocks are not tight"),
+        ("mixed", &longer, &[][..], "1 block is not tight, 1 block is truncated"),
+    ] {
+        f.put(name, &two(first, second));
+        let said = f.run(&format!("check {name}"));
+        assert_eq!((said.status.code(), text(&said.stderr)), (Some(1), format!("{says}\n")), "{name}");
+    }
+    f.put("lossy", &encoded(&Header::new(false, false, 12, 768, 1), &[vec![1]], &mut |_, _, _, _| 9));
+    f.fails("check lossy", "the stream is lossy: only blocks of lossless streams can be tight");
     f.is_wrong("check", "check needs a stream");
     f.is_wrong("check a.fcs --format raw", "check takes no --format");
 }

@@ -50,9 +50,9 @@ fn manual_page_is_the_help() {
     let made = Command::new(PROGRAM).arg("manual").output().unwrap().stdout;
     let kept = fs::read(root().join("docs/fujiraw.1")).unwrap();
     assert!(made == kept, "docs/fujiraw.1 is another text: ./fujiraw manual > docs/fujiraw.1");
-    // Every word of the help is there.
+    // Every line of the help is there, a heading as one of the page's.
     let page = text(&kept).replace("\\-", "-").replace("\\e", "\\");
-    for line in HELP.lines() {
+    for line in HELP.lines().filter(|l| *l != "Examples:") {
         assert!(page.contains(line.trim_end()), "{line}");
     }
 }
