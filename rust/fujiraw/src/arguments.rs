@@ -1,44 +1,28 @@
 //! What the program is asked to do.
-use crate::output::Format;
+use crate::picture::{Format, Look};
+use crate::tile;
 use fuji_compressed::{ColorTile, Rect};
 use std::ffi::OsString;
 use std::path::{Path, PathBuf};
 
-pub const USAGE: &str = "\
-usage: fujiraw info STREAM...
-       fujiraw check STREAM...
-       fujiraw write HEADER SAMPLES OUT
-       fujiraw codes DEPTH K LENGTH
-       fujiraw plan HEADER PLAN OUT
-       fujiraw decode STREAM OUT [OPTION...]
-       fujiraw decode STREAM... FOLDER [OPTION...]
-
-info      the header of each stream, and where its blocks lie
-check     says of each block whether it is tight
-write     writes the tight block of a set of colour lines, filled with zero bits up to a multiple of 16 bytes: HEADER is a stream
-          or its first 16 bytes, SAMPLES has 16 bits each, little-endian, for each line red 2 to 4, green 7 to 12, blue 15 to 17
-codes     lists every bit string of at most LENGTH bits (1 to 16) that is one tight lossless code for a DEPTH of 12, 14 or 16 and
-          a K of 0 to 15: its bits, how many they are, their value and the code, parted by tabs
-plan      writes the base bytes of a lossy header's lines: PLAN is text, one record a line, which is first line, last line and
-          base, parted by tabs; every line lies in exactly one record
-decode    writes a stream's picture to OUT, or those of several to a folder that is there
-
-  --region X,Y,W,H    only the W columns from X on, and the H rows from Y on
-  --tile DIGITS       the colours of the sensor, six rows of six: 0 red, 1 green, 2 blue (else RGGB or the usual X-Trans)
-  --format pgm|raw    a grey picture that any viewer opens (this is meant if nothing is said), or samples of 16 bits, little-endian
-
-Status: 0 all was done, 1 a stream was refused or a file cannot be used, 2 wrong usage.
-";
+/// The options of each command; one that ends in = takes a value. The script in the repository's root goes by the same list.
+const OPTIONS: &str = include_str!("../text/options.txt");
 
 pub enum Call {
     Help,
+    Version,
+    Manual,
     Info(Vec<PathBuf>),
-    Check(Vec<PathBuf>),
+    Check(Vec<PathBuf>, Quiet),
     Write([PathBuf; 3]),
     Codes([u32; 3]),
     Plan([PathBuf; 3]),
     Decode(Decode),
 }
+
+/// Nothing is said of how far the work is.
+#[derive(Clone, Copy)]
+pub struct Quiet(pub bool);
 
 pub struct Decode {
     pub streams: Vec<PathBuf>,
@@ -46,7 +30,8 @@ pub struct Decode {
     into_folder: bool,
     pub region: Option<Rect>,
     pub tile: Option<ColorTile>,
-    pub format: Format,
+    pub look: Look,
+    pub quiet: Quiet,
 }
 
 impl Decode {
@@ -55,41 +40,70 @@ impl Decode {
         if !self.into_folder {
             return self.out.clone();
         }
-        let name = Path::new(stream.file_name().unwrap_or_default()).with_extension(self.format.extension());
-        self.out.join(name)
+        let name = if stream == Path::new("-") { "stdin".as_ref() } else { stream.file_name().unwrap_or_default() };
+        self.out.join(Path::new(name).with_extension(self.look.format.extension()))
     }
 }
 
-/// The words of a command line: those that stand for themselves, and the options with what follows each.
+/// The words of a command line: those that stand for themselves, and the options with their values.
 struct Words {
     plain: Vec<OsString>,
     options: Vec<(String, String)>,
 }
 
-pub fn read(words: Vec<OsString>) -> Result<Call, String> {
-    if words.iter().any(|w| w == "--help" || w == "-h") {
-        return Ok(Call::Help);
+impl Words {
+    fn has(&self, name: &str) -> bool {
+        self.options.iter().any(|(n, _)| n == name)
     }
-    let mut words = split(words)?;
-    if words.plain.is_empty() {
-        return Err("what is to be done?".to_string());
+
+    fn value(&self, name: &str) -> Option<&str> {
+        self.options.iter().find(|(n, _)| n == name).map(|(_, value)| value.as_str())
     }
-    let command = words.plain.remove(0);
-    match command.to_str() {
-        Some("help") => Ok(Call::Help),
-        Some("info") => streams(words, "info").map(Call::Info),
-        Some("check") => streams(words, "check").map(Call::Check),
-        Some("write") => three(words, "write needs a header, samples and an output").map(Call::Write),
-        Some("plan") => three(words, "plan needs a header, a plan and an output").map(Call::Plan),
-        Some("codes") => numbers(words).map(Call::Codes),
-        Some("decode") => decode(words).map(Call::Decode),
-        _ => Err(format!("there is no command {}", command.to_string_lossy())),
+
+    fn files(self) -> Vec<PathBuf> {
+        self.plain.into_iter().map(PathBuf::from).collect()
     }
 }
 
-fn split(words: Vec<OsString>) -> Result<Words, String> {
-    let mut all = Words { plain: vec![], options: vec![] };
+pub fn read(words: Vec<OsString>) -> Result<Call, String> {
+    let before_files = words.iter().take_while(|w| *w != "--");
+    for word in before_files {
+        match word.to_str() {
+            Some("--help" | "-h") => return Ok(Call::Help),
+            Some("--version") => return Ok(Call::Version),
+            _ => {}
+        }
+    }
     let mut rest = words.into_iter();
+    let command = rest.next().ok_or("what is to be done?")?;
+    let command = command.to_str().unwrap_or_default().to_string();
+    if command == "help" {
+        return Ok(Call::Help);
+    }
+    let words = split(&command, rest)?;
+    match command.as_str() {
+        "info" => streams(words, "info").map(Call::Info),
+        "check" => {
+            let quiet = Quiet(words.has("--quiet"));
+            Ok(Call::Check(streams(words, "check")?, quiet))
+        }
+        "write" => three(words, "write needs a header, samples and an output").map(Call::Write),
+        "plan" => three(words, "plan needs a header, a plan and an output").map(Call::Plan),
+        "codes" => numbers(words).map(Call::Codes),
+        "manual" => Ok(Call::Manual),
+        _ => decode(words).map(Call::Decode),
+    }
+}
+
+/// The options of a command, each with whether it takes a value.
+fn options_of(command: &str) -> Option<Vec<(&'static str, bool)>> {
+    let (_, list) = OPTIONS.lines().filter_map(|l| l.split_once(':')).find(|(name, _)| *name == command)?;
+    Some(list.split_whitespace().map(|o| (o.trim_end_matches('='), o.ends_with('='))).collect())
+}
+
+fn split(command: &str, mut rest: impl Iterator<Item = OsString>) -> Result<Words, String> {
+    let known = options_of(command).ok_or_else(|| format!("there is no command {command}"))?;
+    let mut all = Words { plain: vec![], options: vec![] };
     while let Some(word) = rest.next() {
         let text = word.to_string_lossy().into_owned();
         if text == "--" {
@@ -100,61 +114,74 @@ fn split(words: Vec<OsString>) -> Result<Words, String> {
             all.plain.push(word);
             continue;
         }
-        if all.options.iter().any(|(name, _)| *name == text) {
-            return Err(format!("{text} is there twice"));
+        let (name, given) = text.split_once('=').map_or((text.as_str(), None), |(name, value)| (name, Some(value.to_string())));
+        let Some((_, takes)) = known.iter().find(|(option, _)| *option == name) else {
+            return Err(format!("{command} takes no {name}"));
+        };
+        if all.has(name) {
+            return Err(format!("{name} is there twice"));
         }
-        let value = rest.next().ok_or_else(|| format!("{text} needs a value"))?;
-        all.options.push((text, value.to_string_lossy().into_owned()));
+        let value = match (takes, given) {
+            (true, Some(value)) => value,
+            (true, None) => rest.next().ok_or_else(|| format!("{name} needs a value"))?.to_string_lossy().into_owned(),
+            (false, Some(_)) => return Err(format!("{name} takes no value")),
+            (false, None) => String::new(),
+        };
+        all.options.push((name.to_string(), value));
+    }
+    if all.plain.iter().filter(|w| *w == "-").count() > 1 && command != "decode" && command != "write" && command != "plan" {
+        return Err("standard input is there twice".to_string());
     }
     Ok(all)
 }
 
-/// The streams of a command that takes nothing else.
 fn streams(words: Words, command: &str) -> Result<Vec<PathBuf>, String> {
-    if let Some((name, _)) = words.options.first() {
-        return Err(format!("{command} takes no {name}"));
-    }
     if words.plain.is_empty() {
         return Err(format!("{command} needs a stream"));
     }
-    Ok(words.plain.into_iter().map(PathBuf::from).collect())
+    Ok(words.files())
 }
 
-/// The three files of a command that takes nothing else; its first word is its name.
+/// The three files of a command: two that are read and one that is written.
 fn three(words: Words, needs: &str) -> Result<[PathBuf; 3], String> {
-    if let Some((name, _)) = words.options.first() {
-        return Err(format!("{} takes no {name}", needs.split(' ').next().unwrap_or_default()));
+    let files: [PathBuf; 3] = words.files().try_into().map_err(|_| needs.to_string())?;
+    once(&files[..2])?;
+    Ok(files)
+}
+
+/// Standard input can be read only once.
+fn once(read: &[PathBuf]) -> Result<(), String> {
+    match read.iter().filter(|f| *f == Path::new("-")).count() {
+        0 | 1 => Ok(()),
+        _ => Err("standard input is there twice".to_string()),
     }
-    let files: Vec<PathBuf> = words.plain.into_iter().map(PathBuf::from).collect();
-    files.try_into().map_err(|_| needs.to_string())
 }
 
 /// The depth, k and length of a sheet; whether there is such a sheet is the library's to say.
 fn numbers(words: Words) -> Result<[u32; 3], String> {
-    if let Some((name, _)) = words.options.first() {
-        return Err(format!("codes takes no {name}"));
-    }
     let read: Vec<u32> = words.plain.iter().filter_map(|w| w.to_str()?.parse().ok()).collect();
     let three = read.try_into().ok().filter(|_| words.plain.len() == 3);
     three.ok_or("codes needs three numbers: a depth, a k and a length".to_string())
 }
 
 fn decode(words: Words) -> Result<Decode, String> {
-    let mut files: Vec<PathBuf> = words.plain.into_iter().map(PathBuf::from).collect();
+    let region = words.value("--region").map(region).transpose()?;
+    let tile = words.value("--tile").map(tile::of).transpose()?;
+    let format = words.value("--format").unwrap_or("pgm");
+    let format = Format::of(format).ok_or_else(|| format!("there is no format {format}"))?;
+    let look = Look { format, preview: words.has("--preview") };
+    if look.preview && look.format == Format::Raw {
+        return Err("a preview is pgm or png".to_string());
+    }
+    let quiet = Quiet(words.has("--quiet"));
+    let mut files = words.files();
     let out = files.pop().filter(|_| !files.is_empty()).ok_or("decode needs a stream and an output")?;
+    once(&files)?;
     let into_folder = out.is_dir();
     if files.len() > 1 && !into_folder {
         return Err(format!("{} is no folder, and there are {} streams", out.display(), files.len()));
     }
-    let mut call = Decode { streams: files, out, into_folder, region: None, tile: None, format: Format::Pgm };
-    for (name, value) in words.options {
-        match name.as_str() {
-            "--region" => call.region = Some(region(&value)?),
-            "--tile" => call.tile = Some(tile(&value)?),
-            "--format" => call.format = Format::of(&value).ok_or_else(|| format!("there is no format {value}"))?,
-            _ => return Err(format!("decode takes no {name}")),
-        }
-    }
+    let call = Decode { streams: files, out, into_folder, region, tile, look, quiet };
     apart(&call)?;
     Ok(call)
 }
@@ -176,12 +203,4 @@ fn region(text: &str) -> Result<Rect, String> {
         [x, y, width, height] if width > 0 && height > 0 => Ok(Rect::new(x, y, width, height)),
         _ => Err(wrong()),
     }
-}
-
-fn tile(text: &str) -> Result<ColorTile, String> {
-    let digits: Vec<u8> = text.bytes().filter(u8::is_ascii_digit).map(|b| b - b'0').collect();
-    let whole: [u8; 36] = digits.try_into().ok().filter(|_| text.len() == 36).ok_or("a tile is 36 digits")?;
-    let mut tile = ColorTile::default();
-    tile.as_flattened_mut().copy_from_slice(&whole);
-    Ok(tile)
 }

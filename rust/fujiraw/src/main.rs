@@ -1,89 +1,101 @@
 //! Shows, checks, writes and decodes Fuji compressed raw streams, lists short codes, and reads plans of bases. Status 0: all was done; 1: something was refused or failed; 2: wrong usage.
 mod arguments;
 mod codes;
-mod output;
+mod files;
+mod manual;
+mod picture;
+mod png;
+mod progress;
 mod stream;
+mod tile;
 
-use arguments::{Call, Decode, USAGE};
-use std::io::{IsTerminal, Write};
+use arguments::{Call, Decode};
+use std::io::Write;
 use std::path::{Path, PathBuf};
 use std::process::ExitCode;
+
+const HELP: &str = include_str!("../text/help.txt");
+const VERSION: &str = env!("CARGO_PKG_VERSION");
 
 fn main() -> ExitCode {
     let words = std::env::args_os().skip(1).collect();
     match arguments::read(words) {
-        Ok(Call::Help) => print(USAGE),
-        Ok(Call::Info(streams)) => run(&streams, show),
-        Ok(Call::Check(streams)) => run(&streams, check),
-        Ok(Call::Write([header, samples, out])) => {
-            run(&[samples], |samples| output::write(&[&header, samples], &out, &stream::write(&header, samples)?))
-        }
-        Ok(Call::Plan([header, plan, out])) => run(&[plan], |plan| output::write(&[&header, plan], &out, &stream::plan(&header, plan)?)),
-        Ok(Call::Codes([depth, k, length])) => match codes::sheet(depth, k, length) {
-            Ok(text) => print(&text),
-            Err(why) => {
-                eprintln!("{why}");
-                ExitCode::FAILURE
-            }
-        },
-        Ok(Call::Decode(call)) => decode(&call),
+        Ok(call) => answer(call),
         Err(wrong) => {
-            eprintln!("fujiraw: {wrong}\n{USAGE}");
+            let usage = HELP.split("\n\n").next().unwrap_or_default();
+            complain(&format!("fujiraw: {wrong}\n{usage}"));
             ExitCode::from(2)
         }
     }
 }
 
-/// Standard output may be closed early, as by `head`.
-fn print(text: &str) -> ExitCode {
-    match std::io::stdout().write_all(text.as_bytes()) {
+fn answer(call: Call) -> ExitCode {
+    match call {
+        Call::Help => status(files::print(HELP)),
+        Call::Version => status(files::print(&format!("fujiraw {VERSION}\n"))),
+        Call::Manual => status(files::print(&manual::page(HELP, VERSION))),
+        Call::Info(streams) => run(&streams, |file| files::print(&stream::info(file)?)),
+        Call::Check(streams, quiet) => run(&streams, |file| check(file, quiet.0)),
+        Call::Write([header, samples, out]) => run(&[samples], |samples| {
+            let block = stream::write(&header, samples)?;
+            files::write(&[&header, samples], &out, |o| o.write_all(&block))
+        }),
+        Call::Plan([header, plan, out]) => run(&[plan], |plan| {
+            let bases = stream::plan(&header, plan)?;
+            files::write(&[&header, plan], &out, |o| o.write_all(&bases))
+        }),
+        Call::Codes([depth, k, length]) => {
+            status(codes::sheet(depth, k, length).map_err(|e| e.to_string()).and_then(|text| files::print(&text)))
+        }
+        Call::Decode(call) => run(&call.streams, |file| decode(&call, file)),
+    }
+}
+
+/// A line on standard error; if that is closed too, nobody is there to be told.
+fn complain(text: &str) {
+    let _ = writeln!(std::io::stderr(), "{text}");
+}
+
+fn status(done: Result<(), String>) -> ExitCode {
+    match done {
         Ok(()) => ExitCode::SUCCESS,
-        Err(_) => ExitCode::FAILURE,
+        Err(why) => {
+            complain(&why);
+            ExitCode::FAILURE
+        }
     }
 }
 
-fn show(file: &Path) -> Result<(), String> {
-    let text = stream::info(file)?;
-    std::io::stdout().write_all(text.as_bytes()).map_err(|e| format!("cannot write: {e}"))
+/// A line for each block; what is wrong with some is an error of its own.
+fn check(file: &Path, quiet: bool) -> Result<(), String> {
+    let (text, wrong) = stream::check(file, quiet)?;
+    files::print(&text)?;
+    wrong.map_or(Ok(()), Err)
 }
 
-/// A line for each block; that some are not tight is an error of its own.
-fn check(file: &Path) -> Result<(), String> {
-    let (text, loose) = stream::check(file)?;
-    std::io::stdout().write_all(text.as_bytes()).map_err(|e| format!("cannot write: {e}"))?;
-    match loose {
-        0 => Ok(()),
-        n => Err(format!("{n} blocks are not tight")),
+fn decode(call: &Decode, file: &Path) -> Result<(), String> {
+    let out = call.output_of(file);
+    let (picture, tile) = stream::decode(file, call.region, call.tile.as_ref(), call.quiet.0)?;
+    files::write(&[file], &out, |o| call.look.write(&picture, o))?;
+    // The picture itself may be on standard output.
+    if call.quiet.0 || files::is_standard(&out) {
+        return Ok(());
     }
-}
-
-fn decode(call: &Decode) -> ExitCode {
-    run(&call.streams, |file| {
-        let out = call.output_of(file);
-        let picture = stream::decode(file, call.region, call.tile.as_ref())?;
-        output::write(&[file], &out, &call.format.bytes(&picture))
-    })
+    let (width, height) = (picture.width, picture.height);
+    files::print(&format!("{}: {width} x {height} samples, {} bits, tile {}\n", out.display(), picture.bits, tile::name(&tile)))
 }
 
 /// One stream after the other. What is wrong with one does not keep the others from their turn; with several, each line names its stream.
 fn run(streams: &[PathBuf], work: impl Fn(&Path) -> Result<(), String>) -> ExitCode {
-    let progress = streams.len() > 1 && std::io::stderr().is_terminal();
-    let mut failed = 0;
-    for (i, file) in streams.iter().enumerate() {
-        if progress {
-            eprint!("\r\x1b[K{} of {}: {}", i + 1, streams.len(), file.display());
-        }
-        let done = work(file);
-        if progress {
-            eprint!("\r\x1b[K");
-        }
-        if let Err(why) = done {
-            failed += 1;
+    let mut all = ExitCode::SUCCESS;
+    for file in streams {
+        if let Err(why) = work(file) {
+            all = ExitCode::FAILURE;
             match streams.len() {
-                1 => eprintln!("{why}"),
-                _ => eprintln!("{}: {why}", file.display()),
+                1 => complain(&why),
+                _ => complain(&format!("{}: {why}", files::name(file))),
             }
         }
     }
-    if failed == 0 { ExitCode::SUCCESS } else { ExitCode::FAILURE }
+    all
 }

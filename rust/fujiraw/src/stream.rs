@@ -1,64 +1,80 @@
-//! Streams read from files.
+//! What is done with streams and headers.
+use crate::files::{load, load_samples, name};
+use crate::picture::Picture;
+use crate::progress::Progress;
+use crate::tile;
 use fuji_compressed::{ColorTile, FujiCompressed, FujiHeader, Rect, Refusal, Scratch, plan_bases, write_block};
 use std::fmt::Write;
 use std::path::Path;
-
-/// The sensors' usual colours, from the first row on. No interpolated sample shows through this X-Trans tile.
-const BAYER: ColorTile =
-    [[0, 1, 0, 1, 0, 1], [1, 2, 1, 2, 1, 2], [0, 1, 0, 1, 0, 1], [1, 2, 1, 2, 1, 2], [0, 1, 0, 1, 0, 1], [1, 2, 1, 2, 1, 2]];
-const XTRANS: ColorTile =
-    [[1, 2, 1, 1, 0, 1], [1, 0, 1, 1, 2, 1], [2, 1, 2, 0, 1, 0], [1, 0, 1, 1, 2, 1], [1, 2, 1, 1, 0, 1], [0, 1, 0, 2, 1, 2]];
-
-pub struct Picture {
-    pub width: u32,
-    pub height: u32,
-    pub bits: u32,
-    pub samples: Vec<u16>,
-}
-
-fn load(file: &Path) -> Result<Vec<u8>, String> {
-    std::fs::read(file).map_err(|e| format!("cannot read {}: {}", file.display(), plain(&e)))
-}
-
-/// The error in words, without its number.
-pub fn plain(e: &std::io::Error) -> String {
-    let text = e.to_string();
-    text.split(" (os error").next().unwrap_or(&text).to_lowercase()
-}
 
 /// The header and the ranges, in lines.
 pub fn info(file: &Path) -> Result<String, String> {
     let bytes = load(file)?;
     let stream = FujiCompressed::new(&bytes).map_err(|e| e.to_string())?;
     let h = stream.header;
-    let mut text = format!("{}: {} bytes\n", file.display(), bytes.len());
+    let mut text = format!("{}: {}\n", name(file), count(bytes.len(), "byte"));
     let (kind, loss) = (if h.xtrans { "X-Trans" } else { "Bayer" }, if h.lossless { "lossless" } else { "lossy" });
     let _ = writeln!(text, "  {kind}, {loss}, {} bits, {} x {} samples", h.bits, h.width, h.height);
-    let _ = writeln!(text, "  {} blocks of {} columns (rounded width {}), {} lines", h.blocks, h.block_size, h.rounded_width, h.lines);
+    let (blocks, lines) = (count(h.blocks as usize, "block"), count(h.lines as usize, "line"));
+    let _ = writeln!(text, "  {blocks} of {} columns (rounded width {}), {lines}", h.block_size, h.rounded_width);
+    let _ = writeln!(text, "  tile {}, if none is named", tile::name(&tile::usual(h.xtrans)));
+    let mut end = 0;
     for (i, (offset, length)) in stream.block_ranges().into_iter().enumerate() {
         let columns = h.block_width(i as u32).map_err(|e| e.to_string())?;
-        let _ = write!(text, "  block {i}: {columns} columns, offset {offset}, {length} bytes");
+        let _ = write!(text, "  block {i}: {columns} columns, offset {offset}, {}", count(length, "byte"));
+        let size = size_of(&bytes, i);
+        if length < size {
+            let _ = write!(text, " of {size}: cut by the stream's end");
+        }
         let bases = stream.q_bases(i).map_err(|e| e.to_string())?;
         if let (Some(least), Some(most)) = (bases.iter().min(), bases.iter().max()) {
             let _ = write!(text, ", bases {least} to {most}");
         }
         text.push('\n');
+        end = offset + length;
     }
+    let follow = bytes.len() - end;
+    let _ = writeln!(text, "  {} after the last block", count(follow, "byte"));
     Ok(text)
 }
 
-/// What the tight reading says of each block, in lines, and how many it refuses.
-pub fn check(file: &Path) -> Result<(String, usize), String> {
+/// The size that a stream which opened names for a block.
+fn size_of(stream: &[u8], block: usize) -> usize {
+    let at = 16 + 4 * block;
+    u32::from_be_bytes([stream[at], stream[at + 1], stream[at + 2], stream[at + 3]]) as usize
+}
+
+/// A number of things, in words.
+fn count(n: usize, what: &str) -> String {
+    if n == 1 { format!("1 {what}") } else { format!("{n} {what}s") }
+}
+
+/// What the tight reading says of each block, in lines, and what is wrong with some, if anything is.
+pub fn check(file: &Path, quiet: bool) -> Result<(String, Option<String>), String> {
     let bytes = load(file)?;
     let stream = FujiCompressed::new(&bytes).map_err(|e| e.to_string())?;
-    let (mut text, mut loose, mut scratch) = (String::new(), 0, Scratch::new());
-    for i in 0..stream.header.blocks as usize {
-        let answer = stream.read_tight_with(&mut scratch, i);
-        loose += answer.is_err() as usize;
-        let said = answer.map_or_else(|e| why_loose(e, stream.header.lines as usize), |()| "tight".to_string());
-        let _ = writeln!(text, "{}: block {i}: {said}", file.display());
+    let h = stream.header;
+    if !h.lossless {
+        return Err("the stream is lossy: only blocks of lossless streams can be tight".to_string());
     }
-    Ok((text, loose))
+    let (mut text, mut loose, mut cut, mut scratch) = (String::new(), 0, 0, Scratch::new());
+    let progress = Progress::new(quiet, name(file));
+    for i in 0..h.blocks as usize {
+        let answer = stream.read_tight_with(&mut scratch, i);
+        let number = answer.as_ref().map_or_else(|e| e.number, |()| 0);
+        loose += (number == 15) as usize;
+        cut += (number == 14) as usize;
+        let said = answer.map_or_else(|e| why_loose(e, h.lines as usize), |()| "tight".to_string());
+        let _ = writeln!(text, "{}: block {i}: {said}", name(file));
+        progress.at(i + 1, h.blocks as usize, (i + 1) * 768 * h.height as usize);
+    }
+    let wrong = [(loose, "not tight"), (cut, "truncated")];
+    let wrong: Vec<String> = wrong.iter().filter(|(n, _)| *n > 0).map(|(n, what)| format!("{} {what}", are(*n))).collect();
+    Ok((text, (!wrong.is_empty()).then(|| wrong.join(", "))))
+}
+
+fn are(n: usize) -> String {
+    if n == 1 { "1 block is".to_string() } else { format!("{n} blocks are") }
 }
 
 /// Why a block is not tight. Refusal 15 with the number of lines is about its end alone.
@@ -72,12 +88,7 @@ fn why_loose(refusal: Refusal, lines: usize) -> String {
 /// The tight block of the samples in a file.
 pub fn write(header: &Path, samples: &Path) -> Result<Vec<u8>, String> {
     let header = load(header)?;
-    let bytes = load(samples)?;
-    let (pairs, rest) = bytes.as_chunks::<2>();
-    if !rest.is_empty() {
-        return Err(format!("{} has half a sample at its end", samples.display()));
-    }
-    let set: Vec<u16> = pairs.iter().map(|b| u16::from_le_bytes(*b)).collect();
+    let set = load_samples(samples)?;
     // No code has more than 64 bits.
     let mut block = vec![0; 8 * set.len()];
     let length = write_block(&header, &set, &mut block).map_err(|e| e.to_string())?;
@@ -95,22 +106,56 @@ pub fn plan(header: &Path, plan: &Path) -> Result<Vec<u8>, String> {
     Ok(bases)
 }
 
-pub fn decode(file: &Path, region: Option<Rect>, tile: Option<&ColorTile>) -> Result<Picture, String> {
+/// A picture, or a region of it, one block's columns after the other, and the tile that was used.
+pub fn decode(file: &Path, region: Option<Rect>, tile: Option<&ColorTile>, quiet: bool) -> Result<(Picture, ColorTile), String> {
     let bytes = load(file)?;
     let stream = FujiCompressed::new(&bytes).map_err(|e| e.to_string())?;
     let h = stream.header;
     let region = region.unwrap_or(Rect::new(0, 0, h.width, h.height));
-    let mut samples = vec![0; length(&h, region)];
-    let tile = tile.unwrap_or(if h.xtrans { &XTRANS } else { &BAYER });
-    stream.decode_region(&mut samples, region, tile).map_err(|e| e.to_string())?;
-    Ok(Picture { width: region.width, height: region.height, bits: h.bits, samples })
+    let tile = tile.copied().unwrap_or(tile::usual(h.xtrans));
+    if !is_inside(&h, region) {
+        // The library says what is wrong with it.
+        stream.decode_region(&mut [], region, &tile).map_err(|e| e.to_string())?;
+    }
+    let (first, last) = (region.x / 768, (region.x + region.width - 1) / 768);
+    if stream.block(first as usize).is_ok_and(<[u8]>::is_empty) {
+        // A block without bytes is truncated in its first line, so a small region of it says what the whole would.
+        stream.decode_region(&mut [0], Rect::new(region.x, 0, 1, 1), &tile).map_err(|e| e.to_string())?;
+    }
+    let mut samples = room(region.width, region.height)?;
+    let mut columns = room(region.width.min(768), region.height)?;
+    let (mut scratch, progress) = (Scratch::new(), Progress::new(quiet, name(file)));
+    for block in first..=last {
+        let part = part_in(region, block);
+        let columns = &mut columns[..part.width as usize * part.height as usize];
+        stream.decode_region_with(&mut scratch, columns, part, &tile).map_err(|e| e.to_string())?;
+        let at = (part.x - region.x) as usize;
+        for (row, from) in samples.chunks_mut(region.width as usize).zip(columns.chunks(part.width as usize)) {
+            row[at..at + part.width as usize].copy_from_slice(from);
+        }
+        let done = (block + 1 - first) as usize;
+        progress.at(done, (last + 1 - first) as usize, done * 768 * region.height as usize);
+    }
+    Ok((Picture { width: region.width, height: region.height, bits: h.bits, samples }, tile))
 }
 
-/// The samples of a region of the picture. One that passes the picture's edge, and is refused, gets none.
-fn length(h: &FujiHeader, region: Rect) -> usize {
+/// The part of a region that lies in a block's columns.
+fn part_in(region: Rect, block: u32) -> Rect {
+    let x = region.x.max(768 * block);
+    let end = (region.x + region.width).min(768 * block + 768);
+    Rect::new(x, region.y, end - x, region.height)
+}
+
+/// Samples for a picture, if there is memory for them.
+fn room(width: u32, height: u32) -> Result<Vec<u16>, String> {
+    let (mut samples, length) = (vec![], width as usize * height as usize);
+    let short = |_| format!("there is not enough memory for a picture of {width} x {height} samples");
+    samples.try_reserve_exact(length).map_err(short)?;
+    samples.resize(length, 0);
+    Ok(samples)
+}
+
+fn is_inside(h: &FujiHeader, region: Rect) -> bool {
     let inside = |from: u32, size: u32, all: u32| from.checked_add(size).is_some_and(|end| end <= all);
-    if !inside(region.x, region.width, h.width) || !inside(region.y, region.height, h.height) {
-        return 0;
-    }
-    region.width as usize * region.height as usize
+    inside(region.x, region.width, h.width) && inside(region.y, region.height, h.height)
 }

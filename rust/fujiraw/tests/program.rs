@@ -1,87 +1,10 @@
 //! The program as a user calls it: what it writes, what it says, and its status.
-use common::stream::{Header, encoded};
+mod folder;
+
+use common::stream::{Header, blocks, encoded};
+use folder::{Folder, sample, stream, text};
 use std::fs;
-use std::path::{Path, PathBuf};
-use std::process::{Command, Output};
-
-/// A folder of the test's own, removed at its end.
-struct Folder(PathBuf);
-
-impl Folder {
-    fn new(name: &str) -> Folder {
-        let path = std::env::temp_dir().join(format!("fujiraw-{name}-{}", std::process::id()));
-        fs::create_dir_all(&path).unwrap();
-        Folder(path)
-    }
-
-    fn put(&self, name: &str, bytes: &[u8]) {
-        fs::write(self.0.join(name), bytes).unwrap();
-    }
-
-    fn get(&self, name: &str) -> Vec<u8> {
-        fs::read(self.0.join(name)).unwrap()
-    }
-
-    fn names(&self) -> Vec<String> {
-        let mut all: Vec<String> = fs::read_dir(&self.0).unwrap().map(|e| e.unwrap().file_name().into_string().unwrap()).collect();
-        all.sort();
-        all
-    }
-
-    fn run(&self, line: &str) -> Output {
-        let words: Vec<&str> = line.split_whitespace().collect();
-        Command::new(env!("CARGO_BIN_EXE_fujiraw")).args(words).current_dir(&self.0).output().unwrap()
-    }
-
-    /// Refused or failed, with one line that says so, and no file more.
-    fn fails(&self, line: &str, says: &str) {
-        let before = self.names();
-        let out = self.run(line);
-        assert_eq!((out.status.code(), text(&out.stderr)), (Some(1), format!("{says}\n")), "{line}");
-        assert_eq!((text(&out.stdout), self.names()), (String::new(), before), "{line}");
-    }
-
-    fn works(&self, line: &str) -> String {
-        let out = self.run(line);
-        assert_eq!((out.status.code(), text(&out.stderr)), (Some(0), String::new()), "{line}");
-        text(&out.stdout)
-    }
-
-    fn is_wrong(&self, line: &str, says: &str) {
-        let before = self.names();
-        let out = self.run(line);
-        let said = text(&out.stderr);
-        assert_eq!((out.status.code(), said.lines().next()), (Some(2), Some(format!("fujiraw: {says}").as_str())), "{line}");
-        assert!(said.contains("usage: fujiraw info STREAM"), "{line}");
-        assert_eq!(self.names(), before, "{line}");
-    }
-}
-
-impl Drop for Folder {
-    fn drop(&mut self) {
-        let _ = fs::remove_dir_all(&self.0);
-    }
-}
-
-fn text(bytes: &[u8]) -> String {
-    String::from_utf8_lossy(bytes).into_owned()
-}
-
-/// One block and two lines, 12 bits; every sample of a row's colour line has the same value.
-fn stream() -> Vec<u8> {
-    encoded(&Header::new(true, false, 12, 768, 2), &[], &mut |_, n, line, _| 100 * n as u16 + line as u16)
-}
-
-/// The picture's samples by the default tile, RGGB.
-fn sample(x: usize, y: usize) -> u16 {
-    let (n, row) = (y / 6, y % 6);
-    let line = match (row % 2, x % 2) {
-        (0, 0) => 2 + row / 2,
-        (1, 1) => 15 + row / 2,
-        _ => 7 + row,
-    };
-    100 * n as u16 + line as u16
-}
+use std::path::Path;
 
 fn rectangle(x: usize, y: usize, width: usize, height: usize) -> Vec<u16> {
     (y..y + height).flat_map(|y| (x..x + width).map(move |x| sample(x, y))).collect()
@@ -95,9 +18,9 @@ fn big(samples: &[u16]) -> Vec<u8> {
 fn whole_picture() {
     let f = Folder::new("whole");
     f.put("a.fcs", &stream());
-    assert_eq!(f.works("decode a.fcs a.pgm"), "");
+    assert_eq!(f.works("decode a.fcs a.pgm"), "a.pgm: 768 x 12 samples, 12 bits, tile rggb\n");
     assert_eq!(f.get("a.pgm"), [&b"P5\n768 12\n4095\n"[..], &big(&rectangle(0, 0, 768, 12))].concat());
-    f.works("decode a.fcs a.raw --format raw");
+    assert_eq!(f.works("decode a.fcs a.raw --format raw --quiet"), "");
     let little: Vec<u8> = rectangle(0, 0, 768, 12).iter().flat_map(|v| v.to_le_bytes()).collect();
     assert_eq!(f.get("a.raw"), little);
     assert_eq!(f.names(), ["a.fcs", "a.pgm", "a.raw"]);
@@ -124,7 +47,7 @@ fn info_shows_header_and_ranges() {
     assert!(said.contains(&format!("a.fcs: {length} bytes\n  Bayer, lossless, 12 bits, 768 x 12 samples\n")), "{said}");
     assert!(said.contains(&format!("block 0: 768 columns, offset 32, {} bytes\n", length - 32)), "{said}");
     assert!(
-        said.contains("  X-Trans, lossy, 14 bits, 792 x 6 samples\n  2 blocks of 768 columns (rounded width 1536), 1 lines\n"),
+        said.contains("  X-Trans, lossy, 14 bits, 792 x 6 samples\n  2 blocks of 768 columns (rounded width 1536), 1 line\n  tile xtrans, if none is named\n"),
         "{said}"
     );
     assert!(said.contains("block 1: 24 columns, offset ") && said.contains(", bases 9 to 9\n"), "{said}");
@@ -201,8 +124,14 @@ fn wrong_usage() {
     f.is_wrong("decode a.fcs folder/../a.fcs folder", "two pictures would go to folder/a.pgm");
     f.is_wrong("decode a.fcs out --region 1,2,3", "a region is four numbers, X,Y,W,H, with a width and a height: not 1,2,3");
     f.is_wrong("decode a.fcs out --region 1,2,3,0", "a region is four numbers, X,Y,W,H, with a width and a height: not 1,2,3,0");
-    f.is_wrong("decode a.fcs out --tile 0123", "a tile is 36 digits");
-    f.is_wrong("decode a.fcs out --format png", "there is no format png");
+    f.is_wrong("decode a.fcs out --tile 0123", "a tile is rggb, bggr, grbg, gbrg, xtrans or 36 digits");
+    f.is_wrong("decode a.fcs out --tile=RGGB", "a tile is rggb, bggr, grbg, gbrg, xtrans or 36 digits");
+    f.is_wrong("decode a.fcs out --format gif", "there is no format gif");
+    f.is_wrong("decode a.fcs out --preview --format raw", "a preview is pgm or png");
+    f.is_wrong("decode a.fcs out --preview=small", "--preview takes no value");
+    f.is_wrong("decode - - folder", "standard input is there twice");
+    f.is_wrong("write - - out", "standard input is there twice");
+    f.is_wrong("info - -", "standard input is there twice");
     f.is_wrong("decode a.fcs out --format", "--format needs a value");
     f.is_wrong("decode a.fcs out --speed 3", "decode takes no --speed");
     f.is_wrong("decode a.fcs out --format raw --format pgm", "--format is there twice");
@@ -225,6 +154,25 @@ fn check_says_of_each_block_whether_it_is_tight() {
     let said = f.run("check cut.fcs");
     assert_eq!(said.status.code(), Some(1));
     assert!(text(&said.stdout).starts_with("cut.fcs: block 0: refusal 14: block 0, line 0: a line is truncated\n"));
+    assert_eq!(text(&said.stderr), "1 block is truncated\n");
+    // Two tight blocks: a byte more after the first, and the second cut.
+    let header = Header::new(true, false, 12, 1536, 1);
+    let blocks = blocks(&header, &[], &mut |_, _, line, p| (line + p) as u16);
+    let longer = [&blocks[0][..], &[0; 16]].concat();
+    let two = |a: &[u8], b: &[u8]| common::stream::stream(&header, &[], &[a.to_vec(), b.to_vec()]);
+    f.put("two.fcs", &two(&blocks[0], &blocks[1]));
+    assert_eq!(f.works("check two.fcs"), "two.fcs: block 0: tight\ntwo.fcs: block 1: tight\n");
+    for (name, first, second, says) in [
+        ("loose", &longer, &blocks[1][..], "1 block is not tight"),
+        ("both", &longer, &longer[..], "2 blocks are not tight"),
+        ("mixed", &longer, &[][..], "1 block is not tight, 1 block is truncated"),
+    ] {
+        f.put(name, &two(first, second));
+        let said = f.run(&format!("check {name}"));
+        assert_eq!((said.status.code(), text(&said.stderr)), (Some(1), format!("{says}\n")), "{name}");
+    }
+    f.put("lossy", &encoded(&Header::new(false, false, 12, 768, 1), &[vec![1]], &mut |_, _, _, _| 9));
+    f.fails("check lossy", "the stream is lossy: only blocks of lossless streams can be tight");
     f.is_wrong("check", "check needs a stream");
     f.is_wrong("check a.fcs --format raw", "check takes no --format");
 }

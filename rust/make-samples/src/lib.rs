@@ -9,7 +9,7 @@ pub type Tile = [[u8; 6]; 6];
 pub const BAYER: Tile =
     [[0, 1, 0, 1, 0, 1], [1, 2, 1, 2, 1, 2], [0, 1, 0, 1, 0, 1], [1, 2, 1, 2, 1, 2], [0, 1, 0, 1, 0, 1], [1, 2, 1, 2, 1, 2]];
 pub const XTRANS: Tile =
-    [[1, 2, 1, 1, 0, 1], [1, 0, 1, 1, 2, 1], [2, 1, 2, 0, 1, 0], [1, 0, 1, 1, 2, 1], [1, 2, 1, 1, 0, 1], [0, 1, 0, 2, 1, 2]];
+    [[1, 1, 0, 1, 1, 2], [1, 1, 2, 1, 1, 0], [2, 0, 1, 0, 2, 1], [1, 1, 2, 1, 1, 0], [1, 1, 0, 1, 1, 2], [0, 2, 1, 2, 0, 1]];
 
 /// Letters of five columns and seven rows; the highest of five bits is the left column.
 const LETTERS: [(char, [u8; 7]); 7] = [
@@ -56,11 +56,11 @@ fn colour_line(tile: &Tile, row: usize, column: usize) -> usize {
     }
 }
 
-/// What a line's colour lines are to hold. A place that no sample of the picture stands for takes the one before it, or the first.
-fn wanted(xtrans: bool, tile: &Tile, n: usize) -> Vec<Vec<u16>> {
+/// What line n's colour lines are to hold for a picture. A place that no sample of the picture stands for takes the one before it, or the first.
+pub fn wanted(xtrans: bool, tile: &Tile, n: usize, picture: impl Fn(i64, i64) -> u16) -> Vec<Vec<u16>> {
     let mut all = vec![vec![None; 512]; 18];
     for (row, column) in (0..6).flat_map(|r| (0..768).map(move |c| (r, c))) {
-        all[colour_line(tile, row, column)][place(xtrans, column)] = Some(light(column as i64, (6 * n + row) as i64));
+        all[colour_line(tile, row, column)][place(xtrans, column)] = Some(picture(column as i64, (6 * n + row) as i64));
     }
     let filled = |line: Vec<Option<u16>>| {
         let mut last = line.iter().find_map(|v| *v).unwrap_or(0);
@@ -78,7 +78,7 @@ fn wanted(xtrans: bool, tile: &Tile, n: usize) -> Vec<Vec<u16>> {
 fn sample(xtrans: bool, tile: &Tile, base: Option<u8>) -> Vec<u8> {
     let header = Header::new(base.is_none(), xtrans, 14, WIDTH, LINES);
     let rows: Vec<Vec<u8>> = base.map(|b| vec![b; LINES as usize]).into_iter().collect();
-    let lines: Vec<_> = (0..LINES as usize).map(|n| wanted(xtrans, tile, n)).collect();
+    let lines: Vec<_> = (0..LINES as usize).map(|n| wanted(xtrans, tile, n, light)).collect();
     encoded(&header, &rows, &mut |_, n, line, p| lines[n][line][p])
 }
 
