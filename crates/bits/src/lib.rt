@@ -1,6 +1,6 @@
 // The bits of a block: most significant first, zeros after the end. There is no cache: eight bytes are loaded where the position stands.
 ghost use mathlib.Core.Path.{_≡_};
-ghost use Prim.Native.Nat.{_+_, _*_, _/_, _^_, _≤_, _<_, min};
+ghost use Prim.Native.Nat.{_+_, _*_, _/_, _%_, _^_, _≤_, _<_, min};
 ghost use lib.Dec.{ltb};
 ghost use lib.ListN.{length, getD};
 ghost use Rattle.bits.specs.Bits.{bitsAt, wordAt, zeroRun, afterRun, be32};
@@ -11,7 +11,7 @@ use numbers::u8_to_u64;
 // A place in a block, counted in bits from its start.
 pub struct BitPosition(pub u64);
 
-// A place in a block, counted in bytes from its start: what a slice is indexed by.
+// A place in a block or a stream, counted in bytes from its start: what a slice is indexed by.
 pub struct ByteOffset(pub usize);
 
 // The zeros before the next one bit, or that no one bit is left.
@@ -26,6 +26,13 @@ impl BitPosition {
         ensures { λ r. ⌜ r .0 ≡ self .0 / 8 ⌝ }
     {
         ByteOffset((self.0 / 8) as usize)
+    }
+
+    // How many bits of that byte come before it.
+    pub fn in_byte(self) -> u32
+        ensures { λ r. ⌜ r ≡ self .0 % 8 ⌝ }
+    {
+        (self.0 % 8) as u32
     }
 
     // The bytes that the bits before it take, the last of them counted whole.
@@ -58,6 +65,16 @@ impl BitPosition {
         ensures { λ r. ⌜ r .0 ≡ aligned (self .0) ⌝ }
     {
         self.ahead(((8 - self.0 % 8) % 8) as u32)
+    }
+}
+
+impl ByteOffset {
+    // The position of the byte's first bit.
+    fn first_bit(self) -> BitPosition
+        requires { ⌜ self .0 < 2 ^ 61 ⌝ }
+        ensures { λ r. ⌜ r .0 ≡ 8 * self .0 ⌝ }
+    {
+        BitPosition(8 * (self.0 as u64))
     }
 }
 
@@ -191,14 +208,15 @@ fn zero_run(s: &[u8], at: BitPosition) -> ZeroRun
     requires { ⌜ length (now s) < 2 ^ 58 ⌝ }
     ensures { λ r. ⌜ r ≡ zeroRun (now (s .entry)) (at .0) ⌝ }
 {
-    let p = at.0;
-    let mut q = p;
-    while ((q / 8) as usize) < s.len() {
-        let w = window(s, ByteOffset((q / 8) as usize)) << (q % 8);
+    let mut here = at;
+    let mut from = here.byte();
+    while from.0 < s.len() {
+        let w = window(s, from) << (here.0 % 8);
         if w != 0 {
-            return ZeroRun::One(q - p + u64::leading_zeros(w) as u64);
+            return ZeroRun::One(here.0 - at.0 + u64::leading_zeros(w) as u64);
         }
-        q = (q / 8 + 8) * 8;
+        from = ByteOffset(from.0 + 8);
+        here = from.first_bit();
     }
     ZeroRun::None
 }

@@ -4,12 +4,12 @@ use mathlib.Core.Bool.{Bool, true, false, cond, _&&_, and-true, and-false}
 use mathlib.Core.List.{List}
 use mathlib.Core.Option.{none, some}
 use mathlib.Core.Path.{_≡_, refl, sym, _∙_}
-use Prim.Native.Nat.{ℕ, zero, suc, _+_, _-_, _*_, _/_, _≤_, _<_, zero-le}
+use Prim.Native.Nat.{ℕ, zero, suc, _+_, _-_, _*_, _/_, _%_, _≤_, _<_, zero-le}
 use native.Mathlib.Nat.{add-zero, add-suc}
 use native.Mathlib.Omega.{arith}
 use lib.Dec.{ltb, eqb}
 use lib.ListN.{getD}
-use Rattle.map.specs.Places.{pictureRow, inRows}
+use Rattle.map.specs.Places.{pictureRow, imageColumn, inRows, emittedSample}
 use Rattle.map.specs.declared.Part.{Part}
 use Rattle.map.proofs.PartLaws.{by-test, not-in}
 use Rattle.stream.specs.declared.FujiHeader.{FujiHeader}
@@ -18,7 +18,7 @@ use Rattle.region.specs.Regions.{blockOf, firstBlock, lastBlock, bottomOf, part
 use Rattle.region.specs.declared.Rect.{Rect}
 use Rattle.region.proofs.RegionLaws.{InColumns, one-block, row-inside}
 use Rattle.block.specs.Blocks.{State, readLineAt, startState, readLines, shownSample, Shown, shownLines, IsWalked}
-use Rattle.block.specs.Images.{formOf, bytesIn, basesIn, linesRead, readIn, lineOf, isDecoded, decodedSample, Pictured, orElse, walkedAnswer, answerOf}
+use Rattle.block.specs.Images.{formOf, bytesIn, basesIn, linesRead, readIn, lineOf, isDecoded, pictureSample, decodedSample, Pictured, orElse, walkedAnswer, answerOf}
 use Rattle.block.specs.declared.Form.{Form}
 use Rattle.block.specs.declared.Walked.{Walked}
 use Rattle.block.specs.declared.Walked.the-variants as Walk
@@ -195,9 +195,14 @@ module _ (d : List ℕ) (h : FujiHeader) (r : Rect) (tile : List ℕ) (b : ℕ) 
   abbrev sample : ℕ → ℕ
   sample = shownSample (formOf h) (basesIn d b) (bytesIn d b) tile (partIn r b)
 
+  -- the part's columns are those of the block
+  part-column : (i : ℕ) → blockOf r i ≡ b → partIn r b .left + (imageColumn (partIn r b) i - partIn r b .start) ≡ (r .x + i % r .width) % 768
+  unfolding partIn
+  part-column i e = omega arith
+
   same-sample : (i : ℕ) → blockOf r i ≡ b → sample i ≡ decodedSample d h r tile i
-  unfolding decodedSample
-  same-sample i e = rw (part-row r b i, e)
+  unfolding emittedSample pictureSample
+  same-sample i e = rw (part-column i e, part-row r b i, e)
 
   module _ (n : ℕ) (x y z : List ℕ) (ok : Accepted h r n) (done : Pictured d h r tile b x y)
       (shown : Shown (formOf h) (basesIn d b) (bytesIn d b) tile (partIn r b) (readIn d h r b) y z) where

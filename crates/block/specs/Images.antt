@@ -3,13 +3,14 @@ use mathlib.Core.Bool.{Bool, true, false, cond, _&&_}
 use mathlib.Core.List.{List}
 use mathlib.Core.Option.{Option, none, some}
 use mathlib.Core.Path.{_≡_}
-use Prim.Native.Nat.{ℕ, zero, suc, _+_, _-_, _*_, _/_}
+use Prim.Native.Nat.{ℕ, zero, suc, _+_, _-_, _*_, _/_, _%_}
 use lib.Dec.{ltb}
-use Rattle.map.specs.Places.{widthOf, emittedSample, Changed}
+use lib.ListN.{getD}
+use Rattle.map.specs.Places.{widthOf, sampleIndex, Changed}
 use Rattle.stream.specs.Streams.{rangeOf, rowOf, partOf}
 use Rattle.stream.specs.declared.FujiHeader.{FujiHeader}
 use Rattle.stream.specs.declared.Refusal.the-variants.{Truncated}
-use Rattle.region.specs.Regions.{blockOf, firstBlock, lastBlock, partIn, lineCount}
+use Rattle.region.specs.Regions.{blockOf, firstBlock, lastBlock, lineCount}
 use Rattle.region.specs.declared.Rect.{Rect}
 use Rattle.begin.specs.declared.Beginning.{Beginning}
 use Rattle.begin.specs.declared.Beginning.the-variants as Begin
@@ -56,12 +57,16 @@ lineOf r i = (r .y + i / r .width) / 6
 unfoldable pub isDecoded : List ℕ → FujiHeader → Rect → ℕ → ℕ → Bool
 isDecoded d h r e i = ltb i (r .width * r .height) && ltb (blockOf r i) e && ltb (lineOf r i) (readIn d h r (blockOf r i))
 
--- the sample that the map gives for it
-unfoldable pub decodedSample : List ℕ → FujiHeader → Rect → List ℕ → ℕ → ℕ
-decodedSample d h r tile i =
-    let b = blockOf r i in
-    let lines = linesOf (readLines (formOf h) (basesIn d b) (bytesIn d b) (suc (lineOf r i))) in
-    emittedSample (h .xtrans) (widthOf (h .xtrans)) tile lines (partIn r b) i
+-- the sample of the picture in a row and a column of it: column mod 768 of its block, row mod 6 of its line
+unfoldable pub pictureSample : List ℕ → FujiHeader → List ℕ → (row column : ℕ) → ℕ
+pictureSample d h tile row column =
+    let b = column / 768 in
+    let lines = linesOf (readLines (formOf h) (basesIn d b) (bytesIn d b) (suc (row / 6))) in
+    getD lines (sampleIndex (h .xtrans) (widthOf (h .xtrans)) tile (row % 6) (column % 768)) 0
+
+-- entry i of the image shows row y + ⌊i / width⌋ and column x + i mod width of the picture
+abbrev pub decodedSample : List ℕ → FujiHeader → Rect → List ℕ → ℕ → ℕ
+decodedSample d h r tile i = pictureSample d h tile (r .y + i / r .width) (r .x + i % r .width)
 
 -- the image after the blocks below e; all other entries are what they were
 abbrev pub Pictured : List ℕ → FujiHeader → Rect → List ℕ → ℕ → (before after : List ℕ) → Type 0

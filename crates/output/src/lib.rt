@@ -31,13 +31,14 @@ fn put_by_bytes(out: &mut [u8], at: BitPosition, n: u32, value: u64)
     ensures { λ _. ⌜ now (out .exit) ≡ putBits (now (out .entry)) (at .0) (binary n value) ⌝ }
 {
     let mut left = n;
-    let mut p = at.0;
+    let mut here = at;
     while left > 0 {
-        let used = (p % 8) as u32;
+        let used = here.in_byte();
         let t = numbers::smaller(8 - used, left);
-        let i = (p / 8) as usize;
+        let from = here.byte();
+        let i = from.0;
         out[i] = filled(out[i], used, t, next_bits(value, left, t));
-        p += t as u64;
+        here = here.ahead(t);
         left -= t;
     }
 }
@@ -72,8 +73,9 @@ pub fn put_bits(out: &mut [u8], at: BitPosition, n: u32, value: u64)
     requires { ⌜ (1 ≤ n) × ((n ≤ 64) × ((at .0 < 2 ^ 60) × (bytesFor (at .0 + n) ≤ length (now out)))) ⌝ }
     ensures { λ _. ⌜ now (out .exit) ≡ putBits (now (out .entry)) (at .0) (binary n value) ⌝ }
 {
-    let used = (at.0 % 8) as u32;
-    let i = (at.0 / 8) as usize;
+    let used = at.in_byte();
+    let from = at.byte();
+    let i = from.0;
     if (used + n <= 24) & (i + 4 <= out.len()) {
         store32(out, i, merged(bits::load32(out, i), used, n, value));
         return;

@@ -3,7 +3,7 @@ use borrow.Author.Needs.{needs}
 use borrow.Author.Tests.{leb-true}
 use mathlib.Core.Bool.{true, _&&_}
 use mathlib.Core.Path.{_≡_}
-use Prim.Native.Nat.{_+_, _/_, _%_, _≤_}
+use Prim.Native.Nat.{ℕ, _+_, _≤_}
 use lib.Dec.{leb}
 use lib.ListN.{length}
 use Rattle.numbers.proofs.BoolLaws.{both}
@@ -12,36 +12,61 @@ use Rattle.output.proofs.put_bits.Statement.{statement}
 use Rattle.output.proofs.put_bits.Tie as tie
 
 -- the test of the short way
-tests : (s : tie.Start) → let a = s .args in leb (a .at .0 % 8 + a .n) 24 && leb (a .at .0 / 8 + 4) (length (a .out .now)) ≡ true
-    → (a .at .0 % 8 + a .n ≤ 24) × (a .at .0 / 8 + 4 ≤ length (a .out .now))
-tests s e =
-    let a = s .args in
-    let t = both (leb (a .at .0 % 8 + a .n) 24) (leb (a .at .0 / 8 + 4) (length (a .out .now))) e in
-    (leb-true _ _ (t .0), leb-true _ _ (t .1))
+tests : (used n from k : ℕ) → leb (used + n) 24 && leb (from + 4) k ≡ true → (used + n ≤ 24) × (from + 4 ≤ k)
+tests used n from k e = let t = both (leb (used + n) 24) (leb (from + 4) k) e in (leb-true _ _ (t .0), leb-true _ _ (t .1))
 
 load32-requires : tie.Need-load32-requires
-load32-requires c κs = tests (c .before .before .before .before .before .before) (c .before .before .if1 .taken) .1
+load32-requires c κs =
+    let s = c .before .before .before .before .before .before in
+    tests (c .before .before .before .before .in-byte .result) (s .args .n) (c .before .before .before .byte .result .0) (length (s .args .out .now)) (c .before .before .if1 .taken) .1
 
 merged-requires : tie.Need-merged-requires
 merged-requires c κs =
     let s = c .before .before .before .before .before .before .before in
-    (c .load32 .ensures .1, (search needs, (s .pre .0, tests s (c .before .before .before .if1 .taken) .0)))
+    (c .load32 .ensures .1, (search needs, (s .pre .0, tests (c .before .before .before .before .before .in-byte .result) (s .args .n) (c .before .before .before .before .byte .result .0) (length (s .args .out .now)) (c .before .before .before .if1 .taken) .0)))
 
 store32-requires : tie.Need-store32-requires
 store32-requires c κs =
-    (tests (c .before .before .before .before .before .before .before .before) (c .before .before .before .before .if1 .taken) .1, c .merged .ensures .1)
+    let s = c .before .before .before .before .before .before .before .before in
+    (tests (c .before .before .before .before .before .before .in-byte .result) (s .args .n) (c .before .before .before .before .before .byte .result .0) (length (s .args .out .now)) (c .before .before .before .before .if1 .taken) .1, c .merged .ensures .1)
 
 returns : tie.Need-returns
 returns c =
     let s = c .before .before .before .before .before .before .before .before .before .before .before in
-    let t = tests s (c .before .before .before .before .before .before .before .if1 .taken) in
-    put-word (s .args .out .now) (s .args .at .0) (s .args .n) (s .args .value) (λ j. c .before .before .before .before .before .before .before .before .before .before .slice-known .given j .fits) (s .pre .0) (s .pre .1 .1 .1) _ _ _ (t .0) (t .1) (λ j. c .slice-known2 .given j .fits) (c .before .before .before .before .load32 .ensures .0) (c .before .before .before .merged .ensures .0) (c .before .before .store32 .ensures)
+    let used = c .before .before .before .before .before .before .before .before .before .in-byte .ensures in
+    let from = c .before .before .before .before .before .before .before .before .byte .ensures in
+    let t =
+    tests
+    (c .before .before .before .before .before .before .before .before .before .in-byte .result)
+    (s .args .n)
+    (c .before .before .before .before .before .before .before .before .byte .result .0)
+    (length (s .args .out .now))
+    (c .before .before .before .before .before .before .before .if1 .taken)
+    in
+    put-word
+    (s .args .out .now)
+    (s .args .at .0)
+    (s .args .n)
+    (s .args .value)
+    (λ j. c .before .before .before .before .before .before .before .before .before .before .slice-known .given j .fits)
+    (s .pre .0)
+    (s .pre .1 .1 .1)
+    _
+    _
+    _
+    (rw used at (t .0))
+    (rw from at (t .1))
+    (λ j. c .slice-known2 .given j .fits)
+    (rw from at (c .before .before .before .before .load32 .ensures .0))
+    (rw used at (c .before .before .before .merged .ensures .0))
+    (rw from at (c .before .before .store32 .ensures))
 
 pub put-bits-spec : {M : Type 1} → statement M
 put-bits-spec =
     tie.close
     (tie.spec
-    (λ c. search needs)
+    (λ c κs. search needs)
+    (λ c κs. search needs)
     (λ c. search needs)
     (λ c. search needs)
     load32-requires
