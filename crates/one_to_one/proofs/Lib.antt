@@ -16,3 +16,4 @@ pub mod PredictedLines
 pub mod PredictedBlocks
 pub mod StreamOfBlocks
 pub mod SomethingHolds
+pub mod BoundHolds
