@@ -1,9 +1,9 @@
 -- A tight code has at most 4·bits bits, and a line 4608 codes. Assumes nothing.
-use mathlib.Core.Bool.{Bool, true, false, cond, _&&_}
+use mathlib.Core.Bool.{Bool, true, false, cond}
 use mathlib.Core.List.{List, [], _∷_, _++_}
 use mathlib.Core.Option.{Option, none, some, Option·some-injective}
-use mathlib.Core.Path.{_≡_, refl, sym, ap, _∙_, subst}
-use Prim.Native.Nat.{ℕ, zero, suc, _+_, _-_, _*_, _^_, _≤_, _<_}
+use mathlib.Core.Path.{_≡_, refl, _∙_}
+use Prim.Native.Nat.{ℕ, zero, suc, _+_, _*_, _^_, _≤_, _<_}
 use native.Mathlib.Nat.{mul-le-mul-right, pow-suc}
 use native.Mathlib.Omega.{arith}
 use lib.Dec.{leb}
@@ -27,12 +27,11 @@ use Rattle.steps.specs.Contexts.{lookOf, usedQuantiser, noRecord, stepPlace, st
 use Rattle.steps.specs.declared.Plan.{Plan}
 use Rattle.steps.specs.Values.{Depth}
 use Rattle.steps.proofs.ScheduleLaws.{codes, lineSteps, bayer-codes, x-trans-codes}
-use Rattle.pass.specs.Readings.{Reading, interpolate, takeCode, taken, readStep, andThen, reads, readPass}
+use Rattle.pass.specs.Readings.{Reading, interpolate, takeCode, taken, readStep, reads, readPass}
 use Rattle.writing.proofs.LosslessLaws.{code-numbers}
 use Rattle.read_back.proofs.ListBack.{first-then}
 use Rattle.map.specs.Places.{widthOf}
 use Rattle.stream.proofs.HeaderLaws.{ruled}
-use Rattle.block.specs.Records.{baseOf}
 use Rattle.block.specs.Blocks.{State, runs, enter, leave, passAt, endLine, readLine, beforeLine, readLineAt, startState, readLines}
 use Rattle.block.specs.Images.{formOf}
 use Rattle.block.specs.declared.Form.{Form}

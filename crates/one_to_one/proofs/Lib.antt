@@ -17,3 +17,4 @@ pub mod PredictedBlocks
 pub mod StreamOfBlocks
 pub mod SomethingHolds
 pub mod BoundHolds
+pub mod LengthsAgree

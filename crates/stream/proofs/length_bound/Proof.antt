@@ -1,6 +1,6 @@
 -- `stream::length_bound` meets its contract, by the two ways in which parsing ends. Assumes nothing.
 use borrow.Author.Needs.{needs}
-use mathlib.Core.Path.{_≡_, sym, ap, _∙_}
+use mathlib.Core.Path.{sym, ap, _∙_}
 use Rattle.stream.specs.Lengths.{boundAnswer}
 use Rattle.stream.proofs.HeaderLaws.{ruled}
 use Rattle.stream.proofs.length_bound.Statement.{statement}
