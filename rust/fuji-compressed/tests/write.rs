@@ -4,7 +4,9 @@ use common::encoder::{encode, encode_spoilt};
 use common::random::Random;
 use common::sha256::digits;
 use common::stream::{Header, stream};
-use fuji_compressed::{ColorTile, FujiCompressed, Record, Refusal, Scratch, measure_block, measure_block_with, write_block, write_block_with};
+use fuji_compressed::{
+    ColorTile, FujiCompressed, Record, Refusal, Scratch, measure_block, measure_block_with, write_block, write_block_with,
+};
 
 /// The colour lines of a set, in its order.
 const FILLED: [usize; 12] = [2, 3, 4, 7, 8, 9, 10, 11, 12, 15, 16, 17];
