@@ -56,7 +56,8 @@ module _ (t : List ℕ) (before : Outputs) (begins : Parsed) where
   written-refused true x e = rw e ((refl, refl), refl)
   written-refused false x e = rw e (refl, refl)
 
-  pub written-set : (measure : Bool) (h : FujiHeader) → begins ≡ Parsing.Header h → (after : Outputs) (a : BlockLength) → let block = tightBlock (formOf h) (h .lines) t in
+  pub written-set : (measure : Bool) (h : FujiHeader) → begins ≡ Parsing.Header h → (after : Outputs) (a : BlockLength)
+      → let block = tightBlock (formOf h) (h .lines) t in
       a ≡ writtenAnswer (formOf h) (h .lines) t (roomFor measure block (before .out)) → after .out ≡ outputOf measure a block (before .out)
       → after .lines ≡ clearedLines (h .xtrans) (before .lines) → after .records ≡ clearedRecords (before .records) → LeftBy measure t begins before after a
   unfolding exactAnswer

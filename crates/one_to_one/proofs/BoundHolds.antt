@@ -14,6 +14,7 @@ use Rattle.numbers.proofs.OrderLaws.{split}
 use Rattle.statistics.specs.Statistics.{kOf}
 use Rattle.statistics.proofs.RecordLaws.{k-least}
 use Rattle.quantiser.specs.Quantisers.{largest, quantiserOf}
+use Rattle.prediction.specs.declared.Context.{Context}
 use Rattle.code.specs.Codes.{shortCode, longCode, codeAt}
 use Rattle.code.specs.Samples.{choiceOf}
 use Rattle.code.specs.Tight.{isTight}
@@ -24,6 +25,7 @@ use Rattle.code.proofs.CodeLaws.{code-cases}
 use Rattle.code.proofs.TightLaws.{tight-small, tight-long}
 use Rattle.steps.specs.Steps.{Step, planOf, passSteps, upto}
 use Rattle.steps.specs.Contexts.{lookOf, usedQuantiser, noRecord, stepPlace, stepContext, stepLook, stepSlot}
+use Rattle.steps.specs.declared.Look.{Look}
 use Rattle.steps.specs.declared.Plan.{Plan}
 use Rattle.steps.specs.Values.{Depth}
 use Rattle.steps.proofs.ScheduleLaws.{codes, lineSteps, bayer-codes, x-trans-codes}
@@ -79,15 +81,25 @@ module _ (bits W : ℕ) (s : List ℕ) (depth : Depth bits) where
   unfolding quantiserOf
   four = omega (arith, code-numbers bits (depth .0) (depth .1) .2, depth .0)
 
-  step-most : (x : Step) (r z : Reading) → readStep bits 0 W s x r ≡ some z → z .tight ≡ true → Went (r .at .0) (z .at .0) (r .tight) (cond (x .coded) 1 0 * (4 * bits))
+  step-most : (x : Step) (r z : Reading) → readStep bits 0 W s x r ≡ some z → z .tight ≡ true
+      → Went (r .at .0) (z .at .0) (r .tight) (cond (x .coded) 1 0 * (4 * bits))
   unfolding readStep lookOf choiceOf
   step-most x r z e t = go (x .coded) (codeAt s (r .at .0) k limit raw) refl e
     where
       i : ℕ
       i = stepPlace W x
 
+      c : Context
+      c = stepContext W x (r .lines)
+
+      h : Look
+      h = stepLook 0 W x (r .lines)
+
+      slot : ℕ
+      slot = stepSlot 0 W x (r .lines)
+
       k : ℕ
-      k = kOf (getD (r .set) (stepSlot 0 W x (r .lines)) noRecord)
+      k = kOf (getD (r .set) slot noRecord)
 
       limit : ℕ
       limit = (usedQuantiser bits 0 0) .limit
@@ -96,18 +108,19 @@ module _ (bits W : ℕ) (s : List ℕ) (depth : Depth bits) where
       raw = (usedQuantiser bits 0 0) .raw
 
       go : (b : Bool) (g : Coded) → codeAt s (r .at .0) k limit raw ≡ g
-          → cond b (taken bits 0 i (stepSlot 0 W x (r .lines)) (stepContext W x (r .lines)) (stepLook 0 W x (r .lines)) r g) (some (interpolate i (stepContext W x (r .lines)) r)) ≡ some z
+          → cond b (taken bits 0 i slot c h r g) (some (interpolate i c r)) ≡ some z
           → Went (r .at .0) (z .at .0) (r .tight) (cond b 1 0 * (4 * bits))
       go true Truncated eg f = let no : _≡_ {A = ℕ} 0 1 = cc in absurd (omega arith)
-      go true (Read c) eg f =
-          let y : Reading = takeCode bits 0 i (stepSlot 0 W x (r .lines)) (stepContext W x (r .lines)) (stepLook 0 W x (r .lines)) c r in
+      go true (Read d) eg f =
+          let y : Reading = takeCode bits 0 i slot c h d r in
           let is : y ≡ z = Option·some-injective y z f in
-          let ts = both (r .tight) (isTight (largest bits) c) (rw (← is) at t) in
+          let ts = both (r .tight) (isTight (largest bits) d) (rw (← is) at t) in
           let n = code-numbers bits (depth .0) (depth .1) in
-          let m = code-most (largest bits) s (r .at .0) k limit raw (n .3) (k-least (getD (r .set) (stepSlot 0 W x (r .lines)) noRecord) .capped) (omega (arith, four, depth .0)) c eg (ts .1) in
+          let low = k-least (getD (r .set) slot noRecord) .capped in
+          let m = code-most (largest bits) s (r .at .0) k limit raw (n .3) low (omega (arith, four, depth .0)) d eg (ts .1) in
           record { tight = ts .0; within = rw (← is) (omega (arith, m, four)) }
       go false g eg f =
-          let y : Reading = interpolate i (stepContext W x (r .lines)) r in
+          let y : Reading = interpolate i c r in
           let is : y ≡ z = Option·some-injective y z f in
           record { tight = rw (← is) at t; within = rw (← is) (omega arith) }
 
@@ -152,7 +165,8 @@ module _ (F : Form) (s : List ℕ) (depth : Depth (F .bits)) where
           let m = steps-most (F .bits) W s depth (passSteps W P) (enter F P r) y eo (tight-is ∙ t) in
           record { tight = m .tight; within = rw (← at-is) (m .within) }
 
-  passes-most : (n : ℕ) (r z : State) → runs (passAt F 0 s) n r ≡ some z → z .tight ≡ true → WentOn r z (codes (upto (λ i. passSteps W (planOf (F .xtrans) i)) n))
+  passes-most : (n : ℕ) (r z : State) → runs (passAt F 0 s) n r ≡ some z → z .tight ≡ true
+      → WentOn r z (codes (upto (λ i. passSteps W (planOf (F .xtrans) i)) n))
   unfolding runs upto codes
   passes-most zero r z e t = let is : r ≡ z = Option·some-injective r z e in record { tight = rw is t; within = rw is (omega arith) }
   passes-most (suc n) r z e t =

@@ -98,13 +98,15 @@ begins-below d n a b x = parsed (ltb (length d) 16) (allRules d)
     no h e = let z : _≡_ {A = ℕ} 0 1 = cc in absurd (omega arith)
 
     set : (h : FujiHeader) (l c s : Bool)
-        → cond l (cond c (cond s (Parsing.Refused ShortScratch) (Parsing.Header h)) (Parsing.Refused WrongCount)) (Parsing.Refused Lossy) ≡ Parsing.Refused x → refusalNumber x < 13
+        → cond l (cond c (cond s (Parsing.Refused ShortScratch) (Parsing.Header h)) (Parsing.Refused WrongCount)) (Parsing.Refused Lossy) ≡ Parsing.Refused x
+        → refusalNumber x < 13
     set h true true true e = is ShortScratch (lit< tt) e
     set h true true false e = no h e
     set h true false s e = is WrongCount (lit< tt) e
     set h false c s e = is Lossy (lit< tt) e
 
-    parsed : (p q : Bool) → withParsed (cond p (Parsing.Refused ShortHeader) (cond q (Parsing.Header (headerOf d)) (Parsing.Refused BadHeader))) n a b ≡ Parsing.Refused x
+    parsed : (p q : Bool)
+        → withParsed (cond p (Parsing.Refused ShortHeader) (cond q (Parsing.Header (headerOf d)) (Parsing.Refused BadHeader))) n a b ≡ Parsing.Refused x
         → refusalNumber x < 13
     parsed true q e = is ShortHeader (lit< tt) e
     parsed false false e = is BadHeader (lit< tt) e

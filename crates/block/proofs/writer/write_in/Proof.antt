@@ -76,9 +76,13 @@ returns-2 c =
     let m = u .before .before in
     let s = m .before .before .before .before .before .before .before in
     let h = m .begins2 .given .0 .0 in
-    let p = answered _ h _ (s .args .measure) (s .args .samples .now) (s .args .out .now) _ _ (f .form-of .ensures) (n .line-count .ensures) (x .write-set .ensures .0) in
-    written-set (s .args .samples .now) (lent s) _ (s .args .measure) h (sym (m .before .before .writing-begins .ensures) ∙ m .begins2 .given .1) _ _ (p .0) (p .1)
-    (lines-back (h .xtrans) (u .samples-needed .result) (s .args .lines .now) _ (u .samples-needed .ensures .0) (form-zero _ h (f .form-of .ensures) _ (x .write-set .ensures .1 .0)))
+    let p =
+    answered _ h _ (s .args .measure) (s .args .samples .now) (s .args .out .now) _ _ (f .form-of .ensures) (n .line-count .ensures) (x .write-set .ensures .0) in
+    let zeros = form-zero _ h (f .form-of .ensures) _ (x .write-set .ensures .1 .0) in
+    written-set (s .args .samples .now) (lent s) _ (s .args .measure) h (sym (m .before .before .writing-begins .ensures) ∙ m .begins2 .given .1) _ _
+    (p .0)
+    (p .1)
+    (lines-back (h .xtrans) (u .samples-needed .result) (s .args .lines .now) _ (u .samples-needed .ensures .0) zeros)
     (records-back (s .args .rs .now) _ (x .write-set .ensures .1 .1))
 
 pub write-in-spec : {M : Type 1} → statement M

@@ -17,7 +17,10 @@ returns c =
     let t = k .before .before in
     let f = t .before in
     let a = start f in (
-      (set-above (a .args .form) (a .args .count) (a .args .samples .now) _ _ _ (f .before .largest .ensures .0) (f .first-above .ensures) (t .if1 .taken), refused-out (a .args .measure) _ _ _),
+      (
+        set-above (a .args .form) (a .args .count) (a .args .samples .now) _ _ _ (f .before .largest .ensures .0) (f .first-above .ensures) (t .if1 .taken),
+        refused-out (a .args .measure) _ _ _,
+      ),
       (k .clear .ensures ∙ ap (λ (n : ℕ). replicate n 0) (a .pre .1 .1 .0), c .before .clear-records .ensures),
     )
 
